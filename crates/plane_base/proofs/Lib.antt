@@ -1,0 +1,6 @@
+pub mod Vec
+pub mod Wedge
+pub mod Near
+pub mod Entry
+pub mod Search
+pub mod Walk
