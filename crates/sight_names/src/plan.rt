@@ -1,7 +1,8 @@
 //! The map as the code holds it: sorted points, and lines between point numbers.
 
-ghost use Rattle.std.specs.Prelude.{◌≡◌};
+ghost use Rattle.std.specs.Prelude.{◌≡◌, ◌<◌, Some, IfSome, length, slice_get, option_and_then};
 ghost use Rattle.sight_names.specs.Map.{named, map_of};
+ghost use Rattle.sight_names.specs.Plan.{IsPlan, IsPlanLine};
 
 use crate::names::{Pt, Side};
 use std::marker::Model;
@@ -37,16 +38,35 @@ impl Model for Plan {
 impl Plan {
     /// The points, by x and then by y; a point's number is its place.
     pub fn points(&self) -> &[Pt]
-        ensures { result.now ≡ self.now.points }
+        ensures list { result.now ≡ self.now.points }
+        ensures plan { IsPlan self.now }
     {
         self.points.as_slice()
     }
 
     /// One entry per LINEDEFS record, None where the line has zero length.
     pub fn lines(&self) -> &[Option<Line>]
-        ensures { result.now ≡ self.now.lines }
+        ensures list { result.now ≡ self.now.lines }
+        ensures plan { IsPlan self.now }
     {
         self.lines.as_slice()
+    }
+
+    /// The point with this number.
+    pub fn point(&self, k: u16) -> Pt
+        requires { k < length self.now.points }
+        ensures { slice_get self.now.points k ≡ Some result }
+    {
+        self.points[k as usize]
+    }
+
+    /// The line with this record number, None where there is none or it is passed over.
+    pub fn line(&self, k: u16) -> Option<Line>
+        ensures entry { result ≡ option_and_then (λ l. l) (slice_get self.now.lines k) }
+        ensures fits { IfSome result (λ l. IsPlanLine self.now.sectors (length self.now.points) l) }
+    {
+        let entry = self.lines.as_slice().get(k as usize)?;
+        *entry
     }
 
     /// The sector that the side names, None where there is no such line or name.
