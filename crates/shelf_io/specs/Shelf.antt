@@ -23,11 +23,6 @@ bytes_under files name = unwrap_or (files name) []
 abbrev pub append_to : Files → List ℕ → List ℕ → Files
 append_to files name bytes = put files name (bytes_under files name ++ bytes)
 
--- where files are told, a fact of what stands under a name
-abbrev pub OnFile : Option Files → List ℕ → (Option (List ℕ) → Type 0) → Type 0
-OnFile None name P = ⊤
-OnFile (Some files) name P = P (files name)
-
 -- What a shelf shows: its files, where it tells them, and how often reads failed, creates and appends failed, and names were missing.
 pub record ShelfState : Type 0 where
   pub files : Option Files
@@ -45,10 +40,21 @@ pub record NoneFell (old new : ShelfState) : Type 0 where
   pub write_faults : old.write_faults ≤ new.write_faults
   pub absents : old.absents ≤ new.absents
 
+-- no count rose: a call that succeeds
+pub record SameCounts (old new : ShelfState) : Type 0 where
+  pub read_faults : new.read_faults ≡ old.read_faults
+  pub write_faults : new.write_faults ≡ old.write_faults
+  pub absents : new.absents ≡ old.absents
+
 -- the counts of faults are as before
 pub record NoFault (old new : ShelfState) : Type 0 where
   pub read_faults : new.read_faults ≡ old.read_faults
   pub write_faults : new.write_faults ≡ old.write_faults
+
+-- No count of faults rose. One at its last value passes for risen.
+pub record IsQuiet (old new : ShelfState) : Type 0 where
+  pub reads : Rose old.read_faults new.read_faults → ⊥
+  pub writes : Rose old.write_faults new.write_faults → ⊥
 
 -- the first k bytes of the buffer are the file's from that place on, none only where there is no room or nothing left
 pub record IsReadAt (file : List ℕ) (at : ℕ) (before after : List ℕ) (k : ℕ) : Type 0 where
@@ -67,7 +73,7 @@ ReadsFile None at before after (Err shelf.Failed) = ⊥
 
 -- each refusal of a read has its cause
 abbrev pub ReadCause : ShelfState → ShelfState → Result ℕ ShelfFault → Type 0
-ReadCause old new (Ok k) = NoFault old new × (new.absents ≡ old.absents)
+ReadCause old new (Ok k) = SameCounts old new
 ReadCause old new (Err shelf.Absent) = NoFault old new × Rose old.absents new.absents
 ReadCause old new (Err shelf.Failed) = Rose old.read_faults new.read_faults
 
@@ -86,10 +92,10 @@ Fetches view (Err fetch.Memory) content = ⊤
 
 -- each refusal of a fetch has its cause
 abbrev pub FetchCause : {V : Type 0} → ShelfState → ShelfState → Result V FetchFault → Type 0
-FetchCause old new (Ok v) = NoFault old new
+FetchCause old new (Ok v) = SameCounts old new
 FetchCause old new (Err fetch.Absent) = NoFault old new × Rose old.absents new.absents
 FetchCause old new (Err fetch.Failed) = Rose old.read_faults new.read_faults
-FetchCause old new (Err fetch.TooLong) = NoFault old new
+FetchCause old new (Err fetch.TooLong) = SameCounts old new
 FetchCause old new (Err fetch.Memory) = ⊤
 
 -- after a create that failed: as before, or empty

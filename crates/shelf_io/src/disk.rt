@@ -1,6 +1,8 @@
 //! Real files and the standard output. Both count what fails, and tell nothing of what they hold.
 
-ghost use Rattle.std.specs.Prelude.{◌≤◌, length, IfOk};
+ghost use Rattle.std.specs.Prelude.{◌≡◌, ◌≤◌, length, IfOk};
+ghost use Rattle.shelf_io.specs.Shelf.{ShelfState};
+ghost use Rattle.shelf_io.specs.Sink.{SinkState};
 
 use crate::shelf::{Shelf, Sink};
 use sight_names::{Failed, ShelfFault};
@@ -20,7 +22,9 @@ pub struct DiskShelf<R: Files> {
 
 impl<R: Files> DiskShelf<R> {
     /// The files of this runtime, with nothing counted.
-    pub fn new(rt: R) -> DiskShelf<R> {
+    pub fn new(rt: R) -> DiskShelf<R>
+        ensures { ⟦<DiskShelf<R> as Shelf>⟧.state result ≡ record { files = None; read_faults = 0; write_faults = 0; absents = 0 } }
+    {
         DiskShelf {
             rt,
             read_faults: 0,
@@ -92,7 +96,9 @@ pub struct StdSink<R: Print> {
 
 impl<R: Print> StdSink<R> {
     /// The standard output of this runtime, with nothing counted.
-    pub fn new(rt: R) -> StdSink<R> {
+    pub fn new(rt: R) -> StdSink<R>
+        ensures { ⟦<StdSink<R> as Sink>⟧.state result ≡ record { held = None; faults = 0 } }
+    {
         StdSink { rt, faults: 0 }
     }
 }

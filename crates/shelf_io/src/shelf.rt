@@ -2,7 +2,7 @@
 
 ghost use Rattle.std.specs.Prelude.{◌≡◌, ◌≤◌, ◌++◌, List, [], length, IfOk, OnOk, OnErr, Some};
 ghost use Rattle.std.specs.Option.{option_map};
-ghost use Rattle.shelf_io.specs.Shelf.{ShelfState, Files, Rose, NoneFell, NoFault, ReadsFile, ReadCause, MayBeEmpty, MayHaveFront, put, append_to};
+ghost use Rattle.shelf_io.specs.Shelf.{ShelfState, Files, Rose, NoneFell, SameCounts, ReadsFile, ReadCause, MayBeEmpty, MayHaveFront, put, append_to};
 ghost use Rattle.shelf_io.specs.Sink.{SinkState, HasFront};
 
 use sight_names::{Failed, ShelfFault};
@@ -25,7 +25,7 @@ pub trait Shelf {
         ensures made { OnOk result ((state self.new).files ≡ option_map (λ files. put files name.now []) (state self.old).files) }
         ensures failed { OnErr result (MayBeEmpty (state self.old).files (state self.new).files name.now) }
         ensures counts { NoneFell (state self.old) (state self.new) }
-        ensures quiet { OnOk result (NoFault (state self.old) (state self.new)) }
+        ensures quiet { OnOk result (SameCounts (state self.old) (state self.new)) }
         ensures cause { OnErr result (Rose (state self.old).write_faults (state self.new).write_faults) };
 
     /// Adds the bytes to the file, and makes it where it is missing. After `Failed` it has a front of
@@ -34,7 +34,7 @@ pub trait Shelf {
         ensures added { OnOk result ((state self.new).files ≡ option_map (λ files. append_to files name.now bytes.now) (state self.old).files) }
         ensures failed { OnErr result (MayHaveFront (state self.old).files (state self.new).files name.now bytes.now) }
         ensures counts { NoneFell (state self.old) (state self.new) }
-        ensures quiet { OnOk result (NoFault (state self.old) (state self.new)) }
+        ensures quiet { OnOk result (SameCounts (state self.old) (state self.new)) }
         ensures cause { OnErr result (Rose (state self.old).write_faults (state self.new).write_faults) };
 }
 

@@ -2,7 +2,7 @@
 
 ghost use Rattle.std.specs.Prelude.{◌≡◌, ◌≤◌, length, IfOk, OnOk, OnErr, Some};
 ghost use Rattle.std.specs.Option.{option_map};
-ghost use Rattle.shelf_io.specs.Shelf.{Files, Rose, NoneFell, NoFault, Fetches, FetchCause, content_of, MayHoldFront, put};
+ghost use Rattle.shelf_io.specs.Shelf.{Files, Rose, NoneFell, SameCounts, Fetches, FetchCause, content_of, MayHoldFront, put};
 
 use crate::PIECE;
 use crate::shelf::Shelf;
@@ -53,7 +53,7 @@ pub fn store<S: Shelf>(shelf: &mut S, name: &str, bytes: &[u8]) -> Result<(), Fa
     ensures stored { OnOk result ((S.state shelf.new).files ≡ option_map (λ files. put files name.now bytes.now) (S.state shelf.old).files) }
     ensures failed { OnErr result (MayHoldFront (S.state shelf.old).files (S.state shelf.new).files name.now bytes.now) }
     ensures counts { NoneFell (S.state shelf.old) (S.state shelf.new) }
-    ensures quiet { OnOk result (NoFault (S.state shelf.old) (S.state shelf.new)) }
+    ensures quiet { OnOk result (SameCounts (S.state shelf.old) (S.state shelf.new)) }
     ensures cause { OnErr result (Rose (S.state shelf.old).write_faults (S.state shelf.new).write_faults) }
 {
     shelf.create(name)?;

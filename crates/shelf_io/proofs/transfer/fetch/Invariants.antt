@@ -1,5 +1,5 @@
 use Rattle.std.proofs.Common.{◌≡◌, ◌-◌, ◌≤◌, length, vec_len, Some}
-use Rattle.shelf_io.specs.Shelf.{Files, NoneFell, NoFault}
+use Rattle.shelf_io.specs.Shelf.{Files, NoneFell, SameCounts}
 use Rattle.shelf_io.proofs.FetchLemmas.{ReadSoFar}
 use Rattle.shelf_io.proofs.transfer.fetch.Given as goal
 
@@ -12,7 +12,7 @@ invariant-loop-taken g l =
       room : length l.buf ≡ 65536;
       files : (state l.shelf).files ≡ (state l.fn.shelf).files;
       counts : NoneFell (state l.fn.shelf) (state l.shelf);
-      quiet : NoFault (state l.fn.shelf) (state l.shelf);
+      quiet : SameCounts (state l.fn.shelf) (state l.shelf);
     }
 
 abbrev pub decreases-loop-taken : goal.decreases-loop-taken
