@@ -1,6 +1,6 @@
 //! A shelf and a sink in memory, whose calls fail where a test says so.
 
-ghost use Rattle.std.specs.Prelude.{◌≡◌, ◌≤◌, ◌<◌, ◌-◌, ◌++◌, min, [], OnOk, OnErr, IfOk, IfSome, IfNone, length, string_bytes, slice_get, Some};
+ghost use Rattle.std.specs.Prelude.{◌≡◌, ◌≤◌, ◌<◌, ◌-◌, ◌++◌, ◌/◌, take, if◌then◌else◌, min, [], OnOk, OnErr, IfOk, IfSome, IfNone, length, string_bytes, slice_get, Some};
 ghost use Rattle.std.specs.Option.{option_map, option_copied};
 ghost use Rattle.shelf_io.specs.Shelf.{Files, ShelfState, IsReadAt, put, append_to, ReadsFile, ReadCause, Rose, NoneFell, SameCounts, MayBeEmpty, MayHaveFront};
 ghost use Rattle.shelf_io.specs.Sink.{HasFront};
@@ -109,6 +109,17 @@ fn extend(alloc: Global, files: &mut Vec<File>, name: &str, more: &[u8]) -> Resu
     Ok(())
 }
 
+// What a call takes of its piece: the first half where it is to fail.
+fn piece_taken(bytes: &[u8], fails: bool) -> &[u8]
+    ensures { result.now ≡ (if fails then take (length bytes.now / 2) bytes.now else bytes.now) }
+{
+    if fails {
+        &bytes[..bytes.len() / 2]
+    } else {
+        bytes
+    }
+}
+
 impl MemShelf {
     /// A shelf with these files, of whose calls the listed ones fail.
     pub fn new(alloc: Global, files: Vec<File>, fails: Fails) -> MemShelf
@@ -208,11 +219,7 @@ impl Shelf for MemShelf {
         let call = self.appends;
         self.appends = call.saturating_add(1);
         let fails = self.fails.appends.contains(&call);
-        let piece = if fails {
-            &bytes[..bytes.len() / 2]
-        } else {
-            bytes
-        };
+        let piece = piece_taken(bytes, fails);
         let starves = extend(self.alloc, &mut self.files, name, piece).is_err();
         if starves {
             self.starved = self.starved.saturating_add(1);
@@ -279,11 +286,7 @@ impl Sink for MemSink {
         let call = self.puts;
         self.puts = call.saturating_add(1);
         let fails = self.fails.contains(&call);
-        let piece = if fails {
-            &bytes[..bytes.len() / 2]
-        } else {
-            bytes
-        };
+        let piece = piece_taken(bytes, fails);
         let starves = self.held.extend_from_slice(piece).is_err();
         if starves {
             self.starved = self.starved.saturating_add(1);
