@@ -2,3 +2,4 @@ pub mod Bridge
 pub mod Paths
 pub mod Places
 pub mod Rays
+pub mod Plans

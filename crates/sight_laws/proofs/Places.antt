@@ -1,11 +1,11 @@
 -- Places along a line: the points at which a functional is 0, in the order of the direction (b, -a).
-use Rattle.std.proofs.Common.{◌≡◌, ℤ, pos, ◌+ℤ◌, ◌*ℤ◌, ◌-ℤ◌, ◌≤ℤ◌, ◌<ℤ◌, neg_ℤ, arith, refl, sym, ap, ◌∙◌, ◌⊎◌, inl, inr, [], ◌∷◌}
+use Rattle.std.proofs.Common.{◌≡◌, ℤ, pos, ◌+ℤ◌, ◌*ℤ◌, ◌-ℤ◌, ◌≤ℤ◌, ◌<ℤ◌, neg_ℤ, arith, sym, ap, ◌∙◌, inl, inr, [], ◌∷◌}
 use borrow.Author.Differences.{ints}
 use lib.IntN.{*ℤ-zero, zero-*ℤ, *ℤ_comm}
 use Rattle.exact_ring.proofs.IntLaws.{neg-*ℤ}
-use Rattle.exact_ring.proofs.Quoting.{quoting, by_ring, combine1, combine2}
-use Rattle.exact_ring.proofs.Signs.{mul-pos, mul-nonneg, pos-of-mul, nonneg-of-mul, zero-of-mul, same-of-mul, le_or_lt, sign_cases}
-use Rattle.plane_base.proofs.Vec.{V, Lin, at, edge, det, IsComb, On, value, mean}
+use Rattle.exact_ring.proofs.Quoting.{quoting, by_ring, combine2}
+use Rattle.exact_ring.proofs.Signs.{mul-pos, mul-nonneg, nonneg-of-mul, zero-of-mul, same-of-mul, le_or_lt}
+use Rattle.plane_base.proofs.Vec.{V, Lin, at, edge, det, On, value}
 
 -- the place along the line, times d
 abbrev pub ahead : Lin → Lin

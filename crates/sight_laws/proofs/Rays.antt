@@ -1,23 +1,21 @@
 -- A ray's line in the words of points: order along it, the point where it crosses a segment, what is between two of its points.
-use Rattle.std.proofs.Common.{◌≡◌, ℕ, ◌<◌, ℤ, pos, negsuc, ◌+ℤ◌, ◌*ℤ◌, ◌-ℤ◌, ◌≤ℤ◌, ◌<ℤ◌, neg_ℤ, nat_abs, arith, refl, sym, ap, ap₂, subst, ◌∙◌, ◌⊎◌, inl, inr, [], ◌∷◌, Bool, true, false}
+use Rattle.std.proofs.Common.{◌≡◌, ℤ, pos, ◌+ℤ◌, ◌*ℤ◌, ◌-ℤ◌, ◌≤ℤ◌, ◌<ℤ◌, neg_ℤ, arith, sym, ap, ap₂, subst, ◌∙◌, ◌⊎◌, inl, inr, [], ◌∷◌}
 use borrow.Author.Differences.{ints}
 use lib.IntN.{*ℤ-zero, zero-*ℤ, *ℤ_comm}
 use Rattle.exact_ring.proofs.IntLaws.{neg-*ℤ}
 use Rattle.exact_ring.proofs.Quoting.{quoting, by_ring, combine1, combine2}
-use Rattle.exact_ring.proofs.Signs.{mul-pos, mul-nonneg, pos-of-mul, nonneg-of-mul, zero-of-mul, same-of-mul, le_or_lt, sign_cases, square-nonneg}
-use Rattle.exact_ring.proofs.MoreSigns.{mul-neg, square-pos, neg-of-mul, nonpos-of-mul, sum-pos, sum-neg}
+use Rattle.exact_ring.proofs.Signs.{mul-pos, mul-nonneg, pos-of-mul, nonneg-of-mul, zero-of-mul, le_or_lt, sign_cases, square-nonneg, mul-le, le-of-mul}
+use Rattle.exact_ring.proofs.MoreSigns.{mul-neg, square-pos, neg-of-mul, nonpos-of-mul}
 use Rattle.sight_names.specs.declared.names.Pt.{Pt}
 use Rattle.sight_names.specs.declared.names.Ray.{Ray}
-use Rattle.sight_names.specs.Point.{Point, point_of, SamePoint, IsMean, OnSegment, InsideSegment, value_at, turn_at}
-use Rattle.sight_names.specs.Map.{MapLine}
-use Rattle.sight_names.specs.Path.{OnLine}
-use Rattle.sight_names.specs.Ray.{ray_value, along, NotBehind, IsCrossing, SplitsLine}
-use Rattle.sight_names.proofs.Affine.{value_pos, value_nonneg, value_nonpos}
-use Rattle.sight_names.proofs.Laws.{on_segment_sym, start_on}
-use Rattle.plane_base.proofs.Vec.{V, Lin, at, edge, det, IsComb, On, value, mean, det-swap}
+use Rattle.sight_names.specs.Point.{Point, point_of, SamePoint, OnSegment, value_at, turn_at}
+use Rattle.sight_names.specs.Ray.{ray_value, along, NotBehind}
+use Rattle.sight_names.proofs.Affine.{value_pos}
+use Rattle.sight_names.proofs.Laws.{on_segment_sym}
+use Rattle.plane_base.proofs.Vec.{V, Lin, at, On, value, mean}
 use Rattle.sight_laws.proofs.Bridge.{vec, value_at_is, turn_at_is, on_of_segment, segment_of_on}
-use Rattle.sight_laws.proofs.Paths.{point_at, above}
-use Rattle.sight_laws.proofs.Places.{ahead, place, norm, NotAfter, Before, SameV, num, den, between, on_line, not_before_start, not_after_stop, same_from_places, crossing_one, turn_at_crossing}
+use Rattle.sight_laws.proofs.Paths.{point_at, above, same_on}
+use Rattle.sight_laws.proofs.Places.{place, norm, NotAfter, den, between, on_line, not_before_start, not_after_stop, same_from_places, crossing_one, turn_at_crossing}
 
 -- the functional of a ray
 abbrev pub lin : Ray → Lin
@@ -306,3 +304,32 @@ only_end r p q z ep nq o ez = segment_of_on p p z (turned (lin r) (vec p) (vec q
       where
         alone : (l m x y z : ℤ) → m ≡ pos 0 → z ≡ l *ℤ x +ℤ m *ℤ y → z ≡ l *ℤ x +ℤ pos 0 *ℤ x
         alone l m x y z e f = let k : m *ℤ y ≡ pos 0 = ap (λ (t : ℤ). t *ℤ y) e ∙ zero-*ℤ y in let j : pos 0 *ℤ x ≡ pos 0 = zero-*ℤ x in omega (arith, ints)
+
+-- ---- the order of points under other names
+pub not_behind_same : (r : Ray) (p q s t : Point) → SamePoint p s → SamePoint q t → NotBehind r p q → NotBehind r s t
+not_behind_same r p q s t h k f =
+    le-of-mul (pos p.d *ℤ pos q.d) (along r s *ℤ pos t.d) (along r t *ℤ pos s.d) (mul-pos _ _ (above p) (above q))
+    (carried (along r p) (along r q) (along r s) (along r t) (pos p.d) (pos q.d) (pos s.d) (pos t.d) (mul-nonneg _ _ (weak _ (above s)) (weak _ (above t))) (along_same r p s h) (along_same r q t k) f)
+  where
+    weak : (x : ℤ) → pos 0 <ℤ x → pos 0 ≤ℤ x
+    weak x h = omega (arith, ints)
+
+    one : (ps ss qd td sd pd : ℤ) → ps *ℤ sd ≡ ss *ℤ pd → (pd *ℤ qd) *ℤ (ss *ℤ td) ≡ (sd *ℤ td) *ℤ (ps *ℤ qd)
+    one ps ss qd td sd pd e = combine1 (neg_ℤ (qd *ℤ td)) e (by_ring (ps ∷ ss ∷ qd ∷ td ∷ sd ∷ pd ∷ []) _ _ (search quoting depth 60 fits 200000) (search quoting depth 60 fits 200000) tt)
+
+    two : (qs ts pd sd td qd : ℤ) → qs *ℤ td ≡ ts *ℤ qd → (pd *ℤ qd) *ℤ (ts *ℤ sd) ≡ (sd *ℤ td) *ℤ (qs *ℤ pd)
+    two qs ts pd sd td qd e = combine1 (neg_ℤ (pd *ℤ sd)) e (by_ring (qs ∷ ts ∷ pd ∷ sd ∷ td ∷ qd ∷ []) _ _ (search quoting depth 60 fits 200000) (search quoting depth 60 fits 200000) tt)
+
+    carried : (hp hq hs ht pd qd sd td : ℤ) → pos 0 ≤ℤ (sd *ℤ td) → hp *ℤ sd ≡ hs *ℤ pd → hq *ℤ td ≡ ht *ℤ qd → (hp *ℤ qd) ≤ℤ (hq *ℤ pd) → ((pd *ℤ qd) *ℤ (hs *ℤ td)) ≤ℤ ((pd *ℤ qd) *ℤ (ht *ℤ sd))
+    carried hp hq hs ht pd qd sd td w e f h =
+        let a = one hp hs qd td sd pd e in
+        let b = two hq ht pd sd td qd f in
+        let c = mul-le (sd *ℤ td) (hp *ℤ qd) (hq *ℤ pd) w h in
+        omega (arith, ints)
+
+    along_same : (r : Ray) (p s : Point) → SamePoint p s → along r p *ℤ pos s.d ≡ along r s *ℤ pos p.d
+    along_same r p s h = combine2 r.b (neg_ℤ r.a) h.x h.y (by_ring (r.a ∷ r.b ∷ p.x ∷ p.y ∷ s.x ∷ s.y ∷ pos p.d ∷ pos s.d ∷ []) _ _ (search quoting depth 60 fits 200000) (search quoting depth 60 fits 200000) tt)
+
+-- a segment between points under other names
+pub segment_same : (p q s t z : Point) → SamePoint p s → SamePoint q t → OnSegment p q z → OnSegment s t z
+segment_same p q s t z h k o = on_segment_sym t s z (same_on q t s z k (on_segment_sym s q z (same_on p s q z h o)))
