@@ -2,7 +2,7 @@
 #![tactic(auto)]
 
 ghost use Rattle.std.specs.Prelude.{◌≡◌, ℕ, pos, neg_ℤ, IsTrue, MatchOption, MatchResult};
-ghost use Rattle.sight_names.specs.Map.{map_of, Names};
+ghost use Rattle.sight_names.specs.Map.{Map, map_of, Names};
 ghost use Rattle.sight_names.specs.Ray.{IsInRange, IsSightRay};
 ghost use Rattle.sight_ray.specs.Gate.{IsGateOf, IsForward};
 ghost use Rattle.sight_ray.specs.RayFault.{IsRayFault, IsSplit, HasNames, Leaves, Arrives};
@@ -26,10 +26,12 @@ pub fn ray_of(first: Side, last: Side, a: i32, b: i32, c: i64) -> Ray
     }
 }
 
-/// The same ray the other way: sides exchanged and a, b, c negated.
+/// The same ray the other way: sides exchanged and a, b, c negated. A sight ray becomes one from its last sector to its
+/// first.
 pub fn turn_round(ray: &Ray) -> Ray
     requires { IsInRange ray.now }
-    ensures { result ≡ record { first = ray.now.last; last = ray.now.first; a = neg_ℤ ray.now.a; b = neg_ℤ ray.now.b; c = neg_ℤ ray.now.c } }
+    ensures sight { (m : Map) (a b : ℕ) → IsSightRay m ray.now a b → IsSightRay m result b a }
+    ensures fields { result ≡ record { first = ray.now.last; last = ray.now.first; a = neg_ℤ ray.now.a; b = neg_ℤ ray.now.b; c = neg_ℤ ray.now.c } }
 {
     Ray {
         first: ray.last,
