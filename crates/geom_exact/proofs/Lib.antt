@@ -1,0 +1,5 @@
+pub mod SegmentLemmas
+pub mod RelationLemmas
+pub mod Uniqueness
+pub mod CrossingLemmas
+pub mod InsideLemmas
