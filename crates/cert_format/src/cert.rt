@@ -50,3 +50,39 @@ impl Model for Cert {
 
     ghost invariant = { λ c. IsInOrder (record { sizes = c.sizes; triangles = c.triangles; rays = c.rays; listed = c.listed; trees = c.trees }) };
 }
+
+impl Cert {
+    ghost use Rattle.cert_format.specs.Grammar.{IsInOrder};
+
+    /// The labelled triangles, in order.
+    pub fn triangles(&self) -> &[Labelled]
+        ensures list { result.now ≡ self.now.triangles }
+        ensures in_order { IsInOrder self.now }
+    {
+        self.triangles.as_slice()
+    }
+
+    /// The rays, by their pairs.
+    pub fn rays(&self) -> &[PairRay]
+        ensures list { result.now ≡ self.now.rays }
+        ensures in_order { IsInOrder self.now }
+    {
+        self.rays.as_slice()
+    }
+
+    /// The listed pairs, in order.
+    pub fn listed(&self) -> &[Pair]
+        ensures list { result.now ≡ self.now.listed }
+        ensures in_order { IsInOrder self.now }
+    {
+        self.listed.as_slice()
+    }
+
+    /// The trees, by their sources.
+    pub fn trees(&self) -> &[Tree]
+        ensures list { result.now ≡ self.now.trees }
+        ensures in_order { IsInOrder self.now }
+    {
+        self.trees.as_slice()
+    }
+}
