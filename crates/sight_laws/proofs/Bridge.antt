@@ -1,14 +1,11 @@
 -- From points and whole weights to vectors, and back.
-use Rattle.std.proofs.Common.{◌≡◌, ℕ, zero, suc, ◌+◌, ◌*◌, ◌<◌, ℤ, pos, negsuc, ◌+ℤ◌, ◌*ℤ◌, ◌-ℤ◌, ◌≤ℤ◌, ◌<ℤ◌, neg_ℤ, nat_abs, arith, refl, sym, ap, ap₂, ◌∙◌, subst, ◌⊎◌, inl, inr, List, [], ◌∷◌}
+use Rattle.std.proofs.Common.{◌≡◌, ℕ, ◌+◌, ◌*◌, ◌<◌, ℤ, pos, ◌+ℤ◌, ◌*ℤ◌, ◌-ℤ◌, ◌≤ℤ◌, ◌<ℤ◌, neg_ℤ, nat_abs, arith, refl, sym, ap, ◌∙◌, subst, [], ◌∷◌}
 use borrow.Author.Differences.{ints}
-use lib.IntN.{*ℤ-zero, zero-*ℤ, *ℤ_comm}
-use Rattle.exact_ring.proofs.IntLaws.{neg-*ℤ, *ℤ_assoc}
 use Rattle.exact_ring.proofs.Quoting.{quoting, by_ring, combine1, combine2}
-use Rattle.exact_ring.proofs.Signs.{mul-pos, mul-nonneg, pos-of-mul, nonneg-of-mul, zero-of-mul, same-of-mul, le_or_lt, sign_cases}
+use Rattle.exact_ring.proofs.Signs.{mul-pos, mul-nonneg}
 use Rattle.sight_names.specs.declared.names.Pt.{Pt}
-use Rattle.sight_names.specs.Point.{Point, point_of, SamePoint, IsMean, OnSegment, InsideSegment, value_at, turn_at}
-use Rattle.plane_base.proofs.Vec.{V, Lin, at, edge, det, IsComb, On, value, mean}
-use Rattle.plane_base.proofs.Wedge.{Inside}
+use Rattle.sight_names.specs.Point.{Point, point_of, IsMean, OnSegment, value_at, turn_at}
+use Rattle.plane_base.proofs.Vec.{V, at, edge, det, IsComb, On}
 
 abbrev pub vec : Point → V
 vec p = record { x = p.x; y = p.y; d = pos p.d }

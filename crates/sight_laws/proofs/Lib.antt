@@ -1,2 +1,5 @@
 pub mod Bridge
 pub mod Paths
+pub mod Places
+pub mod Rays
+pub mod Plans

@@ -1,21 +1,19 @@
 -- Paths, touches and segments of a map in the words of linked triangles.
-use Rattle.std.proofs.Common.{◌≡◌, ℕ, zero, suc, ◌+◌, ◌*◌, ◌<◌, ℤ, pos, ◌+ℤ◌, ◌*ℤ◌, ◌-ℤ◌, ◌≤ℤ◌, ◌<ℤ◌, neg_ℤ, nat_abs, arith, refl, sym, ap, ◌∙◌, subst, ◌⊎◌, inl, inr, List, [], ◌∷◌, Option, Some, None, Bool, true, false}
+use Rattle.std.proofs.Common.{◌≡◌, ℕ, ◌+◌, ◌*◌, ◌<◌, ℤ, pos, ◌+ℤ◌, ◌*ℤ◌, ◌-ℤ◌, ◌≤ℤ◌, ◌<ℤ◌, nat_abs, arith, refl, sym, ap, ◌∙◌, subst, ◌⊎◌, inl, inr, List, [], ◌∷◌, Some, Bool, true, false}
 use borrow.Author.Differences.{ints}
 use lib.IntN.{*ℤ-zero, zero-*ℤ, *ℤ_comm}
-use Rattle.exact_ring.proofs.IntLaws.{neg-*ℤ}
 use Rattle.exact_ring.proofs.Quoting.{quoting, by_ring, combine2}
-use Rattle.exact_ring.proofs.Signs.{mul-pos, mul-nonneg, pos-of-mul, nonneg-of-mul, zero-of-mul, le_or_lt, sign_cases}
-use Rattle.sight_names.specs.declared.names.Pt.{Pt}
+use Rattle.exact_ring.proofs.Signs.{mul-pos, mul-nonneg, pos-of-mul, nonneg-of-mul}
 use Rattle.sight_names.specs.declared.names.Side.{Side}
-use Rattle.sight_names.specs.Point.{Point, point_of, SamePoint, IsMean, OnSegment, InsideSegment, OnSide, turn_at}
+use Rattle.sight_names.specs.Point.{Point, point_of, SamePoint, OnSegment, InsideSegment, OnSide}
 use Rattle.sight_names.specs.Map.{Map, MapLine, line_at}
-use Rattle.sight_names.specs.Path.{OnLine, Misses, MissesAll, OnNoLine, IsPath, Leads, Touches}
-use Rattle.sight_names.proofs.Laws.{same_point_sym, on_segment_sym, misses_sym}
+use Rattle.sight_names.specs.Path.{MissesAll, OnNoLine, IsPath, Leads, Touches}
+use Rattle.sight_names.proofs.Laws.{same_point_sym, misses_sym}
 use Rattle.plane_base.proofs.Vec.{V, Lin, at, edge, det, IsComb, On, value, mean, det-swap, det-cycle, det-first, det-last}
 use Rattle.plane_base.proofs.Wedge.{Inside, on_within, inside_swap}
-use Rattle.plane_base.proofs.Near.{on_first, on_straight, on_inside, unit, height}
+use Rattle.plane_base.proofs.Near.{on_first, on_straight, on_inside}
 use Rattle.plane_base.proofs.Search.{In}
-use Rattle.plane_base.proofs.Walk.{Tri, turned, side, Closed, Region, Stays, segment_walk}
+use Rattle.plane_base.proofs.Walk.{Tri, Closed, Region, segment_walk}
 use Rattle.sight_laws.proofs.Bridge.{vec, mean_is_comb, on_of_segment, segment_of_on, turn_at_is}
 
 -- a vector on a line of the map
@@ -69,7 +67,7 @@ path_walk m cs Escape reg p (r ∷ rs) q h (t, i, c) =
     ]
 
 -- ---- a path back
-same_on : (p q a b : Point) → SamePoint p q → OnSegment p a b → OnSegment q a b
+pub same_on : (p q a b : Point) → SamePoint p q → OnSegment p a b → OnSegment q a b
 same_on p q a b h (u, v, k) = segment_of_on q a b (swap_first p q a b h (_, _, _, mean_is_comb u v p a b k))
   where
     scale_ring : (l m n rx px ax pd qd qx : ℤ) → n *ℤ qd *ℤ rx -ℤ (l *ℤ pd *ℤ qx +ℤ m *ℤ qd *ℤ ax) ≡ qd *ℤ (n *ℤ rx -ℤ (l *ℤ px +ℤ m *ℤ ax)) +ℤ l *ℤ (px *ℤ qd -ℤ qx *ℤ pd)

@@ -1,0 +1,3 @@
+pub mod GateLemmas
+pub mod HitLemmas
+pub mod FaultLemmas
