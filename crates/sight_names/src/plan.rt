@@ -3,6 +3,7 @@
 ghost use Rattle.std.specs.Prelude.{◌≡◌, ◌<◌, Some, IfSome, length, slice_get, option_and_then};
 ghost use Rattle.sight_names.specs.Map.{named, map_of};
 ghost use Rattle.sight_names.specs.Plan.{IsPlan, IsPlanLine};
+ghost use Rattle.sight_names.specs.Points.{place as place_of};
 
 use crate::names::{Pt, Side};
 use std::marker::Model;
@@ -56,6 +57,15 @@ impl Plan {
     pub fn point(&self, k: u16) -> Pt
         requires { k < length self.now.points }
         ensures { slice_get self.now.points k ≡ Some result }
+    {
+        self.points[k as usize]
+    }
+
+    /// The point with this number, as the map that the plan stands for has it.
+    pub fn place(&self, k: u16) -> Pt
+        requires { k < length self.now.points }
+        ensures place { result ≡ place_of (map_of self.now) k }
+        ensures number { slice_get self.now.points k ≡ Some result }
     {
         self.points[k as usize]
     }

@@ -1,0 +1,44 @@
+-- Strictly inside a triangle: the three turns are above 0 exactly where the point is a mean of the corners with three weights above 0.
+use Rattle.std.proofs.Common.{ℤ, pos, ◌+ℤ◌, ◌-ℤ◌, ◌*ℤ◌, ◌<ℤ◌, ◌≡◌, [], ◌∷◌, arith, sym, subst}
+use Rattle.std.proofs.lemmas.Int.{ints}
+use Rattle.exact_ring.proofs.Quoting.{quoting, by_ring, ring_at, combine2}
+use Rattle.exact_ring.proofs.Signs.{mul-pos, pos-of-mul}
+use Rattle.sight_names.specs.declared.names.Pt.{Pt}
+use Rattle.geom_exact.specs.Formulas.{turn_of}
+
+pub record IsInside (a b c p : Pt) : Type 0 where
+  pub l : ℤ
+  pub m : ℤ
+  pub n : ℤ
+  pub first : pos 0 <ℤ l
+  pub second : pos 0 <ℤ m
+  pub third : pos 0 <ℤ n
+  pub x : (l +ℤ m +ℤ n) *ℤ p.x ≡ l *ℤ a.x +ℤ m *ℤ b.x +ℤ n *ℤ c.x
+  pub y : (l +ℤ m +ℤ n) *ℤ p.y ≡ l *ℤ a.y +ℤ m *ℤ b.y +ℤ n *ℤ c.y
+
+pub inside_of_turns : (a b c p : Pt) → pos 0 <ℤ turn_of a b p → pos 0 <ℤ turn_of b c p → pos 0 <ℤ turn_of c a p → IsInside a b c p
+unfolding turn_of
+inside_of_turns a b c p h k g = record {
+  l = turn_of b c p;
+  m = turn_of c a p;
+  n = turn_of a b p;
+  first = k;
+  second = g;
+  third = h;
+  x = ring_at (a.x ∷ a.y ∷ b.x ∷ b.y ∷ c.x ∷ c.y ∷ p.x ∷ p.y ∷ []) (search quoting depth 60 fits 200000) tt;
+  y = ring_at (a.x ∷ a.y ∷ b.x ∷ b.y ∷ c.x ∷ c.y ∷ p.x ∷ p.y ∷ []) (search quoting depth 60 fits 200000) tt;
+}
+
+turn_of_weights : (a b c p : Pt) (l m n : ℤ) → (l +ℤ m +ℤ n) *ℤ p.x ≡ l *ℤ a.x +ℤ m *ℤ b.x +ℤ n *ℤ c.x → (l +ℤ m +ℤ n) *ℤ p.y ≡ l *ℤ a.y +ℤ m *ℤ b.y +ℤ n *ℤ c.y → (l +ℤ m +ℤ n) *ℤ turn_of a b p ≡ n *ℤ turn_of a b c
+unfolding turn_of
+turn_of_weights a b c p l m n h k =
+    combine2 (a.y -ℤ b.y) (b.x -ℤ a.x) h k
+    (by_ring (a.x ∷ a.y ∷ b.x ∷ b.y ∷ c.x ∷ c.y ∷ p.x ∷ p.y ∷ l ∷ m ∷ n ∷ []) _ _ (search quoting depth 60 fits 200000) (search quoting depth 60 fits 200000) tt)
+
+pub turn_of_inside : (a b c p : Pt) → pos 0 <ℤ turn_of a b c → IsInside a b c p → pos 0 <ℤ turn_of a b p
+turn_of_inside a b c p h g =
+    pos-of-mul (g.l +ℤ g.m +ℤ g.n) (turn_of a b p) (sum g.l g.m g.n g.first g.second g.third)
+    (subst (λ (t : ℤ). pos 0 <ℤ t) (sym (turn_of_weights a b c p g.l g.m g.n g.x g.y)) (mul-pos g.n (turn_of a b c) g.third h))
+  where
+    sum : (l m n : ℤ) → pos 0 <ℤ l → pos 0 <ℤ m → pos 0 <ℤ n → pos 0 <ℤ (l +ℤ m +ℤ n)
+    sum l m n a b c = omega (arith, ints)

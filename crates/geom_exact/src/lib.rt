@@ -1,0 +1,442 @@
+//! Exact plane geometry on whole coordinates. No call takes memory, and nothing is rounded: sums and products
+//! stay inside i64 and i128.
+#![tactic(auto)]
+
+ghost use Rattle.std.specs.Prelude.{◌≡◌, ◌≢◌, ◌≤◌, ◌<◌, ◌*◌, ◌^◌, ◌-ℤ◌, ◌*ℤ◌, ◌<ℤ◌, unsigned_abs, IsTrue, ◌↔◌, ◌⊎◌, pos};
+ghost use Rattle.sight_names.specs.Ray.{IsInRange};
+ghost use Rattle.geom_exact.specs.Formulas.{turn_of, reach_of, side_value, forward, AreOnOneSide, AreOnTwoSides};
+ghost use Rattle.geom_exact.specs.Common.{IsRelation, AreLaid, DoMeet};
+ghost use Rattle.geom_exact.specs.Crossings.{IsCrossed, IsCrossOrder, IsPlacedBy};
+
+use sight_names::{Pt, Ray};
+use std::cmp::Ordering;
+
+/// What two segments have in common.
+#[derive(Clone, Copy, Debug, PartialEq, Eq)]
+pub enum Relation {
+    /// No point.
+    Apart,
+    /// More than one point.
+    Overlap,
+    /// One point, an end of both.
+    Ends,
+    /// One point, an end of just one.
+    Touch,
+    /// One point, an end of neither.
+    Cross,
+}
+
+/// The way from `a` to `b`.
+fn difference(a: i16, b: i16) -> i64
+    ensures value { result ≡ b -ℤ a }
+    ensures bound { unsigned_abs result ≤ 65535 }
+{
+    b as i64 - a as i64
+}
+
+/// `a * b`, of two differences of coordinates.
+fn product(a: i64, b: i64) -> i64
+    requires left { unsigned_abs a ≤ 65535 }
+    requires right { unsigned_abs b ≤ 65535 }
+    ensures value { result ≡ a *ℤ b }
+    ensures bound { unsigned_abs result ≤ 4294836225 }
+{
+    a * b
+}
+
+/// `a - b`, of two such products.
+fn minus(a: i64, b: i64) -> i64
+    requires left { unsigned_abs a ≤ 4294836225 }
+    requires right { unsigned_abs b ≤ 4294836225 }
+    ensures value { result ≡ a -ℤ b }
+    ensures bound { unsigned_abs result < 2 ^ 33 }
+{
+    a - b
+}
+
+/// Twice the signed area of the triangle `a`, `b`, `c`: above 0 where they stand counterclockwise, 0 where they
+/// stand on one straight line.
+pub fn turn(a: Pt, b: Pt, c: Pt) -> i64
+    ensures value { result ≡ turn_of a b c }
+    ensures bound { unsigned_abs result < 2 ^ 33 }
+{
+    let along = difference(a.x, b.x);
+    let rise = difference(a.y, b.y);
+    let across = difference(a.x, c.x);
+    let up = difference(a.y, c.y);
+    minus(product(along, up), product(rise, across))
+}
+
+/// Whether both numbers are above 0 or both are below.
+fn same_side(a: i64, b: i64) -> bool
+    ensures { IsTrue result ↔ AreOnOneSide a b }
+{
+    (a > 0 && b > 0) || (a < 0 && b < 0)
+}
+
+/// How far `v` is along the direction from `p` to `q`, times its length.
+fn reach(p: Pt, q: Pt, v: Pt) -> i64
+    ensures { result ≡ reach_of p q v }
+{
+    let along = difference(p.x, q.x);
+    let rise = difference(p.y, q.y);
+    let across = difference(p.x, v.x);
+    let up = difference(p.y, v.y);
+    product(along, across) + product(rise, up)
+}
+
+/// The relation of two segments on one line, of which the second goes the way of the first.
+fn relation_on_line(p: Pt, q: Pt, r: Pt, s: Pt) -> Relation
+    requires { AreLaid p q r s }
+    ensures { IsRelation p q r s result }
+{
+    let whole = reach(p, q, q);
+    let near = reach(p, q, r);
+    let far = reach(p, q, s);
+    if far < 0 {
+        return Relation::Apart;
+    }
+    if whole < near {
+        return Relation::Apart;
+    }
+    if far == 0 {
+        return Relation::Ends;
+    }
+    if near == whole {
+        return Relation::Ends;
+    }
+    Relation::Overlap
+}
+
+/// What the segment from `p` to `q` and the segment from `r` to `s` have in common. A segment includes its ends.
+pub fn seg_relation(p: Pt, q: Pt, r: Pt, s: Pt) -> Relation
+    requires first { p ≢ q }
+    requires second { r ≢ s }
+    ensures { IsRelation p q r s result }
+{
+    let to_r = turn(p, q, r);
+    let to_s = turn(p, q, s);
+    if to_r == 0 && to_s == 0 {
+        return relation_of_straight(p, q, r, s);
+    }
+    let to_p = turn(r, s, p);
+    let to_q = turn(r, s, q);
+    if same_side(to_r, to_s) {
+        return Relation::Apart;
+    }
+    if same_side(to_p, to_q) {
+        return Relation::Apart;
+    }
+    relation_of_meeting(p, q, r, s, either_zero(to_p, to_q), either_zero(to_r, to_s))
+}
+
+/// Whether one of the two numbers is 0.
+fn either_zero(a: i64, b: i64) -> bool
+    ensures { IsTrue result ↔ ((a ≡ pos 0) ⊎ (b ≡ pos 0)) }
+{
+    a == 0 || b == 0
+}
+
+/// The relation of two segments on one line.
+fn relation_of_straight(p: Pt, q: Pt, r: Pt, s: Pt) -> Relation
+    requires first { p ≢ q }
+    requires second { r ≢ s }
+    requires near { turn_of p q r ≡ pos 0 }
+    requires far { turn_of p q s ≡ pos 0 }
+    ensures { IsRelation p q r s result }
+{
+    if reach(p, q, r) < reach(p, q, s) {
+        return relation_on_line(p, q, r, s);
+    }
+    relation_on_line(p, q, s, r)
+}
+
+/// The relation of two segments that have one common point, by whether it is an end of each.
+fn relation_of_meeting(p: Pt, q: Pt, r: Pt, s: Pt, first: bool, second: bool) -> Relation
+    requires meets { DoMeet p q r s }
+    requires first_end { IsTrue first ↔ ((turn_of r s p ≡ pos 0) ⊎ (turn_of r s q ≡ pos 0)) }
+    requires second_end { IsTrue second ↔ ((turn_of p q r ≡ pos 0) ⊎ (turn_of p q s ≡ pos 0)) }
+    ensures { IsRelation p q r s result }
+{
+    match (first, second) {
+        (true, true) => Relation::Ends,
+        (true, false) => Relation::Touch,
+        (false, true) => Relation::Touch,
+        (false, false) => Relation::Cross,
+    }
+}
+
+/// Whether `a` and `b` are at most 2^20 and `c` at most 2^37 in absolute value, so that all work with the ray is
+/// exact.
+pub fn in_range(ray: &Ray) -> bool
+    ensures { IsTrue result ↔ IsInRange ray.now }
+{
+    ray.a.unsigned_abs() <= 1 << 20
+        && ray.b.unsigned_abs() <= 1 << 20
+        && ray.c.unsigned_abs() <= 1 << 37
+}
+
+/// A ray's coefficient times a coordinate.
+fn scaled(a: i32, x: i16) -> i64
+    requires { unsigned_abs a ≤ 2 ^ 20 }
+    ensures value { result ≡ a *ℤ x }
+    ensures bound { unsigned_abs result ≤ 2 ^ 35 }
+{
+    a as i64 * x as i64
+}
+
+/// `a*x + b*y + c` at the point: above 0 on the left of the ray, below 0 on its right.
+pub fn side_of(ray: &Ray, p: Pt) -> i64
+    requires { IsInRange ray.now }
+    ensures value { result ≡ side_value ray.now p }
+    ensures bound { unsigned_abs result ≤ 2 ^ 38 }
+{
+    scaled(ray.a, p.x) + scaled(ray.b, p.y) + ray.c
+}
+
+/// `b*x - a*y`: how far along the ray's direction.
+fn forward_of(ray: &Ray, p: Pt) -> i64
+    requires { IsInRange ray.now }
+    ensures value { result ≡ forward ray.now p }
+    ensures bound { unsigned_abs result ≤ 2 ^ 36 }
+{
+    scaled(ray.b, p.x) - scaled(ray.a, p.y)
+}
+
+/// `a * b`, of two numbers of a ray.
+fn long_product(a: i64, b: i64) -> i128
+    requires left { unsigned_abs a ≤ 2 ^ 40 }
+    requires right { unsigned_abs b ≤ 2 ^ 40 }
+    ensures value { result ≡ a *ℤ b }
+    ensures bound { unsigned_abs result ≤ 2 ^ 80 }
+{
+    a as i128 * b as i128
+}
+
+/// `a * d - b * c`.
+fn determinant(a: i64, b: i64, c: i64, d: i64) -> i128
+    requires a { unsigned_abs a ≤ 2 ^ 40 }
+    requires b { unsigned_abs b ≤ 2 ^ 40 }
+    requires c { unsigned_abs c ≤ 2 ^ 40 }
+    requires d { unsigned_abs d ≤ 2 ^ 40 }
+    ensures value { result ≡ a *ℤ d -ℤ b *ℤ c }
+    ensures bound { unsigned_abs result ≤ 2 ^ 82 }
+{
+    long_product(a, d) - long_product(b, c)
+}
+
+/// `a - b`.
+fn gap(a: i64, b: i64) -> i128
+    requires a { unsigned_abs a ≤ 2 ^ 38 }
+    requires b { unsigned_abs b ≤ 2 ^ 38 }
+    ensures value { result ≡ a -ℤ b }
+    ensures bound { unsigned_abs result ≤ 2 ^ 40 }
+{
+    a as i128 - b as i128
+}
+
+/// `a * b`, of a place and a weight.
+fn wide_product(a: i128, b: i128) -> i128
+    requires left { unsigned_abs a ≤ 2 ^ 82 }
+    requires right { unsigned_abs b ≤ 2 ^ 40 }
+    ensures { result ≡ a *ℤ b }
+{
+    a * b
+}
+
+/// A crossing of a ray: `place / weight` along its direction.
+#[derive(Clone, Copy)]
+struct Crossing {
+    place: i128,
+    weight: i128,
+}
+
+/// Where the ray's line crosses the segment.
+fn crossing_of(ray: &Ray, p: Pt, q: Pt) -> Crossing
+    requires range { IsInRange ray.now }
+    requires sides { AreOnTwoSides (side_value ray.now p) (side_value ray.now q) }
+    ensures place { unsigned_abs result.place ≤ 2 ^ 82 }
+    ensures weight { unsigned_abs result.weight ≤ 2 ^ 40 }
+    ensures value { IsPlacedBy ray.now p q result.place result.weight }
+{
+    let from = side_of(ray, p);
+    let to = side_of(ray, q);
+    let start = forward_of(ray, p);
+    let end = forward_of(ray, q);
+    if from > 0 {
+        Crossing {
+            place: determinant(from, to, start, end),
+            weight: gap(from, to),
+        }
+    } else {
+        Crossing {
+            place: determinant(to, from, end, start),
+            weight: gap(to, from),
+        }
+    }
+}
+
+/// Which crossing comes first along the ray: `Less` where its line crosses the segment from `l1` to `l2` before it
+/// crosses the one from `m1` to `m2`, `Equal` where both are crossed at one point.
+pub fn cross_order(ray: &Ray, l1: Pt, l2: Pt, m1: Pt, m2: Pt) -> Ordering
+    requires range { IsInRange ray.now }
+    requires first { AreOnTwoSides (side_value ray.now l1) (side_value ray.now l2) }
+    requires second { AreOnTwoSides (side_value ray.now m1) (side_value ray.now m2) }
+    ensures first_there { IsCrossed ray.now l1 l2 }
+    ensures second_there { IsCrossed ray.now m1 m2 }
+    ensures order { IsCrossOrder ray.now l1 l2 m1 m2 result }
+{
+    let l = crossing_of(ray, l1, l2);
+    let m = crossing_of(ray, m1, m2);
+    wide_product(l.place, m.weight).cmp(&wide_product(m.place, l.weight))
+}
+
+/// Whether `p` is strictly inside the counterclockwise triangle `a`, `b`, `c`; a point of an edge is not.
+pub fn in_triangle(a: Pt, b: Pt, c: Pt, p: Pt) -> bool
+    requires { pos 0 <ℤ turn_of a b c }
+    ensures { IsTrue result ↔ ((pos 0 <ℤ turn_of a b p) × (pos 0 <ℤ turn_of b c p) × (pos 0 <ℤ turn_of c a p)) }
+{
+    is_left(a, b, p) && is_left(b, c, p) && is_left(c, a, p)
+}
+
+/// Whether `p` is strictly on the left of the line from `a` to `b`.
+fn is_left(a: Pt, b: Pt, p: Pt) -> bool
+    ensures { IsTrue result ↔ (pos 0 <ℤ turn_of a b p) }
+{
+    turn(a, b, p) > 0
+}
+
+#[cfg(test)]
+mod tests {
+    use super::*;
+    use sight_names::Side;
+
+    const LOW: i16 = -32768;
+
+    const HIGH: i16 = 32767;
+
+    fn at(x: i16, y: i16) -> Pt {
+        Pt { x, y }
+    }
+
+    fn ray(a: i32, b: i32, c: i64) -> Ray {
+        let side = Side {
+            line: 0,
+            left: false,
+        };
+        Ray {
+            first: side,
+            last: side,
+            a,
+            b,
+            c,
+        }
+    }
+
+    /// The relation of two segments by coordinates, None where one is a point.
+    fn relate(a: &[i16; 8]) -> Option<Relation> {
+        let p = at(a[0], a[1]);
+        let q = at(a[2], a[3]);
+        let r = at(a[4], a[5]);
+        let s = at(a[6], a[7]);
+        if p == q || r == s {
+            return None;
+        }
+        Some(seg_relation(p, q, r, s))
+    }
+
+    #[test]
+    fn segments_at_the_ends_of_the_range(rt: HostRuntime) {
+        let table = [
+            ([0, 0, 0, 64, 0, 32, 32, 32], Relation::Touch),
+            ([0, 0, 64, 0, 32, -32, 32, 32], Relation::Cross),
+            ([0, 0, 0, 64, 0, 0, 0, 64], Relation::Overlap),
+            (
+                [LOW, LOW, HIGH, HIGH, LOW, HIGH, HIGH, LOW],
+                Relation::Cross,
+            ),
+            (
+                [LOW, LOW, HIGH, HIGH, LOW, -32767, HIGH, HIGH],
+                Relation::Ends,
+            ),
+            (
+                [LOW, LOW, HIGH, HIGH, -32767, -32767, 0, 0],
+                Relation::Overlap,
+            ),
+            (
+                [LOW, LOW, HIGH, 32766, LOW, -32767, HIGH, HIGH],
+                Relation::Apart,
+            ),
+            ([LOW, 0, HIGH, 0, 0, HIGH, 0, 0], Relation::Touch),
+            ([LOW, LOW, 0, 0, 0, 0, HIGH, HIGH], Relation::Ends),
+            ([LOW, LOW, -1, -1, 0, 0, HIGH, HIGH], Relation::Apart),
+        ];
+        for (ends, relation) in table.iter() {
+            assert_eq!(rt; relate(ends), Some(*relation));
+        }
+        assert_eq!(rt;
+            turn(at(LOW, LOW), at(HIGH, LOW), at(HIGH, HIGH)),
+            4294836225
+        );
+        assert_eq!(rt;
+            turn(at(LOW, LOW), at(HIGH, HIGH), at(HIGH, LOW)),
+            -4294836225
+        );
+    }
+
+    #[test]
+    fn triangles_and_rays(rt: HostRuntime) {
+        let corner = [at(LOW, LOW), at(HIGH, LOW), at(LOW, HIGH)];
+        if turn(corner[0], corner[1], corner[2]) > 0 {
+            assert!(rt; in_triangle(corner[0], corner[1], corner[2], at(-1, -1)));
+            assert!(rt; !in_triangle(corner[0], corner[1], corner[2], at(-1, 0)));
+            assert!(rt; !in_triangle(corner[0], corner[1], corner[2], at(0, LOW)));
+        }
+        let steep = ray(1048576, -1048576, 137438953472);
+        assert!(rt; in_range(&steep));
+        assert!(rt; !in_range(&ray(1048577, 0, 0)));
+        assert!(rt; !in_range(&ray(0, -1048577, 0)));
+        assert!(rt; !in_range(&ray(0, 0, 137438953473)));
+        if in_range(&steep) {
+            assert_eq!(rt; side_of(&steep, at(HIGH, LOW)), 206157381632);
+        }
+        assert_eq!(rt;
+            order_of([0, 0, 0, 64, 8, -64, 8, 64]),
+            Some(Ordering::Less)
+        );
+        assert_eq!(rt;
+            order_of([8, -64, 8, 64, 0, 0, 0, 64]),
+            Some(Ordering::Greater)
+        );
+        assert_eq!(rt;
+            order_of([0, 0, 64, 64, 64, 0, 0, 64]),
+            Some(Ordering::Equal)
+        );
+    }
+
+    /// Whether the ends of the segment are strictly on different sides of the ray.
+    fn splits(ray: &Ray, p: Pt, q: Pt) -> bool
+        requires { IsInRange ray.now }
+        ensures { IsTrue result ↔ AreOnTwoSides (side_value ray.now p) (side_value ray.now q) }
+    {
+        let first = side_of(ray, p);
+        let second = side_of(ray, q);
+        (first > 0 && second < 0) || (first < 0 && second > 0)
+    }
+
+    /// The order in which the ray along y = 32 in direction (1, 0) crosses two segments, None where it splits not both.
+    fn order_of(a: [i16; 8]) -> Option<Ordering> {
+        let level = ray(0, 1, -32);
+        if !in_range(&level) {
+            return None;
+        }
+        let l1 = at(a[0], a[1]);
+        let l2 = at(a[2], a[3]);
+        let m1 = at(a[4], a[5]);
+        let m2 = at(a[6], a[7]);
+        if !splits(&level, l1, l2) || !splits(&level, m1, m2) {
+            return None;
+        }
+        Some(cross_order(&level, l1, l2, m1, m2))
+    }
+}

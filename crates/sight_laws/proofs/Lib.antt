@@ -1,0 +1,4 @@
+pub mod Bridge
+pub mod Paths
+pub mod Places
+pub mod Rays

@@ -1,0 +1,10 @@
+//! The directory of a WAD, and the place of a map in it.
+#![tactic(auto)]
+
+mod directory;
+mod map;
+mod parts;
+
+pub use directory::{lump, read_wad};
+pub use map::find_map;
+pub use parts::{Entry, Kind, MapSpot, Wad};
