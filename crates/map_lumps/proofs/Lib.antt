@@ -1,3 +1,4 @@
+pub mod InOrder
 pub mod Reading
 pub mod Checking
 pub mod Numbering
