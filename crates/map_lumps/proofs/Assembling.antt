@@ -6,9 +6,8 @@ use Rattle.sight_names.specs.declared.plan.Line.{Line}
 use Rattle.sight_names.specs.Plan.{PlanParts, IsPlan, IsPlanLine, IsBefore}
 use Rattle.sight_names.specs.Map.{MapLine, map_of, looked_up, origin, IsMap, IsMapLine}
 use Rattle.sight_names.proofs.Lists.{contains_head, contains_tail, contains_none, contains_cases}
-use Rattle.sight_names.proofs.PlanPoints.{before_irreflexive}
-use Rattle.map_lumps.proofs.Numbering.{get_at}
-use Rattle.map_lumps.proofs.InOrder.{the_ends, IsEnd, at, ends_from, get_in}
+use Rattle.sight_names.proofs.PlanPoints.{before_irreflexive, the_ends, IsEnd, at, ends_from, get_in}
+use Rattle.sight_names.proofs.PlanMap.{get_at}
 use Rattle.map_lumps.specs.declared.records.PlacedLine.{PlacedLine}
 use Rattle.map_lumps.specs.Records.{placed_ends, EndsBelow, IsInOrder}
 
@@ -63,8 +62,8 @@ same_place : (points : List Pt) → IsInOrder points → (i j : ℕ) → i < len
 same_place points h i j hi hj e = elim (order i j) [
   | inl same ↦ same
   | inr differ ↦ elim differ [
-    | inl lt ↦ absurd (before_irreflexive _ (subst (λ (z : Pt). IsBefore z (at points j)) e (h.ascend i j _ _ lt (get_at points i origin hi) (get_at points j origin hj))))
-    | inr lt ↦ absurd (before_irreflexive _ (subst (λ (z : Pt). IsBefore (at points j) z) e (h.ascend j i _ _ lt (get_at points j origin hj) (get_at points i origin hi))))
+    | inl lt ↦ absurd (before_irreflexive _ (subst (λ (z : Pt). IsBefore z (at points j)) e (h.ascend i j _ _ lt (get_at points i hi) (get_at points j hj))))
+    | inr lt ↦ absurd (before_irreflexive _ (subst (λ (z : Pt). IsBefore (at points j) z) e (h.ascend j i _ _ lt (get_at points j hj) (get_at points i hi))))
   ]
 ]
   where

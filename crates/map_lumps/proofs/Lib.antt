@@ -1,4 +1,3 @@
-pub mod InOrder
 pub mod Reading
 pub mod Checking
 pub mod Numbering

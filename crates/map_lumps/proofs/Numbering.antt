@@ -14,8 +14,7 @@ use Rattle.sight_names.specs.declared.names.Pt.{Pt}
 use Rattle.sight_names.specs.Plan.{IsBefore}
 use Rattle.sight_names.specs.Points.{in_order, pt_eq}
 use Rattle.sight_names.proofs.Lists.{same_ascending, get_of_contains, contains_none, contains_cases}
-use Rattle.sight_names.proofs.PlanPoints.{before_irreflexive}
-use Rattle.map_lumps.proofs.InOrder.{before_asymmetric, IsAscending, as_indices, in_order_ascends, in_order_from, in_order_has}
+use Rattle.sight_names.proofs.PlanPoints.{before_irreflexive, before_asymmetric, IsAscending, as_indices, in_order_ascends, in_order_from, in_order_has}
 use Rattle.map_lumps.specs.Records.{IsInOrder}
 
 -- by x, then by y

@@ -6,20 +6,7 @@ use Rattle.sight_names.specs.declared.names.Pt.{Pt}
 use Rattle.sight_names.specs.declared.faults.LumpFault.{LumpFault}
 use Rattle.sight_names.specs.Map.{MapLine}
 use Rattle.sight_names.specs.Points.{pt_eq}
-use Rattle.sight_names.specs.Lumps.{numbers_below, lines_fault, linedef, vertex, side_sector, u16_at}
-
--- n numbers from k on
-abbrev pub numbers_from : ℕ → ℕ → List ℕ
-numbers_from k zero = []
-numbers_from k (suc n) = k ∷ numbers_from (k + 1) n
-
-pub numbers_are : (n : ℕ) → numbers_below n ≡ numbers_from 0 n
-numbers_are n = refl
-
--- the one fault, or else the other
-abbrev first_of : Option LumpFault → Option LumpFault → Option LumpFault
-first_of (Some f) other = Some f
-first_of None other = other
+use Rattle.sight_names.specs.Lumps.{numbers_from, numbers_below, lines_fault, first_of, linedef, vertex, side_sector, u16_at}
 
 -- one number more
 numbers_from_push : (k n : ℕ) → numbers_from k (suc n) ≡ numbers_from k n ++ (k + n) ∷ []

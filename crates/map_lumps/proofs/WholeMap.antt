@@ -9,12 +9,11 @@ use Rattle.sight_names.specs.declared.faults.LumpFault.TheVariants.{BadVertex, B
 use Rattle.sight_names.specs.Plan.{PlanParts, IsPlan}
 use Rattle.sight_names.specs.Map.{MapLine, map_of, looked_up, IsMap, IsMapLine}
 use Rattle.sight_names.specs.Points.{points_of, in_order, ends_of, pt_eq}
-use Rattle.sight_names.specs.Lumps.{numbers_below, linedef, line_fault, lump_fault, fault_if, map_of_lumps, vertex, side_sector, u16_at, is_bad_sector}
-use Rattle.map_lumps.proofs.InOrder.{in_order_from, in_order_has}
+use Rattle.sight_names.specs.Lumps.{numbers_from, numbers_below, linedef, line_fault, lump_fault, fault_if, map_of_lumps, vertex, side_sector, u16_at, is_bad_sector}
+use Rattle.sight_names.proofs.PlanPoints.{in_order_from, in_order_has}
 use Rattle.map_lumps.specs.declared.records.PlacedLine.{PlacedLine}
 use Rattle.map_lumps.specs.Records.{as_map_line, placed_ends, EndsAmong, EndsBelow, IsInOrder}
 use Rattle.map_lumps.specs.Answers.{Passes}
-use Rattle.map_lumps.proofs.Reading.{numbers_from}
 use Rattle.map_lumps.proofs.Checking.{points_left}
 use Rattle.map_lumps.proofs.Numbering.{pt_eq_equiv, in_order_is}
 use Rattle.map_lumps.proofs.Assembling.{is_plan}
