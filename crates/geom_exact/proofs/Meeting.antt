@@ -32,3 +32,6 @@ meet_swapped p q r s m = record {
   one = λ u v hu hv. m.one u v (hu.1, hu.0) (hv.1, hv.0);
   ends = λ u hu. let e = m.ends u (hu.1, hu.0) in (e.1, e.0);
 }
+
+pub apart_swapped : (p q r s : Pt) → IsRelation p q r s Apart → IsRelation r s p q Apart
+apart_swapped p q r s h u c = h u (c.1, c.0)

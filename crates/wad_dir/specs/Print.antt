@@ -1,9 +1,9 @@
 -- How a WAD is written (the Unofficial Doom Specs on the WAD file), and which WAD is written.
-use Rattle.std.specs.Prelude.{ℕ, ◌+◌, ◌*◌, List, [], ◌∷◌, ◌++◌, length, Some, None, slice_set, slice_index_or, insert, sum_by, codes}
-use Rattle.std.specs.List.{flat_map}
+use Rattle.std.specs.Prelude.{◌≡◌, ◌≤◌, ◌<◌, ◌^◌, Ok, ℕ, ◌+◌, ◌*◌, List, [], ◌∷◌, ◌++◌, length, Some, None, slice_set, slice_index_or, insert, sum_by, codes}
+use Rattle.std.specs.List.{flat_map, AllByRecursion}
 use Rattle.std.specs.Int.{w32, to_le_bytes}
 use Rattle.wad_dir.specs.declared.parts.MapSpot.{MapSpot}
-use Rattle.wad_dir.specs.Wad.{WadFile, WadLump, magic}
+use Rattle.wad_dir.specs.Wad.{WadFile, WadLump, magic, wad_of}
 
 -- how many bytes all lumps have
 abbrev pub body_len : List WadLump → ℕ
@@ -48,3 +48,19 @@ lumps_with_reject lumps spot table = elim spot.reject [
 -- the WAD in which these bytes are the REJECT of the map at the spot
 abbrev pub with_reject : WadFile → MapSpot → List ℕ → WadFile
 with_reject w spot table = record { kind = w.kind; lumps = lumps_with_reject w.lumps spot table }
+
+-- ---- laws of the format
+
+-- each name has eight bytes, and the numbers fit
+pub record IsPrintable (w : WadFile) : Type 0 where
+  pub names : AllByRecursion (λ (l : WadLump). length l.name ≡ 8) w.lumps
+  pub few : length w.lumps ≤ 65536
+  pub short : printed_len w.lumps < 2 ^ 31
+
+-- what is printed has the length that the formula says
+abbrev pub PrintsItsLength : Type 0
+PrintsItsLength = (w : WadFile) → AllByRecursion (λ (l : WadLump). length l.name ≡ 8) w.lumps → length (print w) ≡ printed_len w.lumps
+
+-- what is printed is read as the same WAD
+abbrev pub ReadsWhatIsPrinted : Type 0
+ReadsWhatIsPrinted = (w : WadFile) → IsPrintable w → wad_of (print w) ≡ Ok w

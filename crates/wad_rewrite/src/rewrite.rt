@@ -23,6 +23,16 @@ const MAX_LEN: u64 = 1 << 31;
 
 const REJECT_NAME: [u8; 8] = *b"REJECT\0\0";
 
+fn lump_of<'a>(bytes: &'a [u8], entry: &Entry) -> Lump<'a>
+    requires { entry.now.at + entry.now.size ≤ length bytes.now }
+    ensures { view result ≡ lump_under bytes.now entry.now }
+{
+    Lump {
+        name: entry.name,
+        bytes: wad_dir::lump(bytes, entry),
+    }
+}
+
 fn lumps_of<'a>(
     alloc: Global,
     bytes: &'a [u8],
@@ -31,13 +41,9 @@ fn lumps_of<'a>(
     requires { All (λ entry. entry.at + entry.size ≤ length bytes.now) entries.now }
     ensures { IfOk result (λ lumps. views lumps.items ≡ map (lump_under bytes.now) entries.now) }
 {
-    let mut lumps = Vec::with_capacity(alloc, entries.len())?;
+    let mut lumps = Vec::with_capacity(alloc, entries.len() + 1)?;
     for entry in entries {
-        let bytes = wad_dir::lump(bytes, entry);
-        lumps.push(Lump {
-            name: entry.name,
-            bytes,
-        })?;
+        lumps.push(lump_of(bytes, entry))?;
     }
     Ok(lumps)
 }
@@ -51,15 +57,16 @@ fn replace_reject<'a>(
     requires reject { ForSome spot.now.reject (λ k. k < vec_len lumps.old) }
     ensures { OnOk result (views lumps.new.items ≡ lumps_with_reject (views lumps.old.items) spot.now table.now) }
 {
+    let behind = spot.sectors as usize + 1;
     match spot.reject {
         Some(place) => lumps[place as usize].bytes = table,
-        None => lumps.insert(
-            spot.sectors as usize + 1,
-            Lump {
+        None => {
+            let reject = Lump {
                 name: REJECT_NAME,
                 bytes: table,
-            },
-        )?,
+            };
+            lumps.insert(behind, reject)?;
+        }
     }
     Ok(())
 }
