@@ -1,7 +1,7 @@
 //! The walk along a given ray: the triangles that it passes from one side to another, or what it hits on its way.
 #![tactic(auto)]
 
-ghost use Rattle.std.specs.Prelude.{◌≡◌, ℕ, ◌<◌, ◌⊎◌, Some, IsSome, IsTrue, ◌↔◌, All, IfOk, MatchOption, MatchResult, length, option_map};
+ghost use Rattle.std.specs.Prelude.{◌≡◌, ℕ, ◌<◌, ◌⊎◌, Some, IsSome, IsTrue, ◌↔◌, All, IfOk, MatchOption, MatchResult, option_and_then, option_map, slice_get};
 ghost use Rattle.sight_names.specs.Map.{map_of};
 ghost use Rattle.sight_names.specs.Mesh.{label_of, triangle_at as triangle_of};
 ghost use Rattle.sight_names.specs.Plan.{IsPlan};
@@ -83,8 +83,7 @@ fn gate_out(plan: &Plan, side: Side) -> Option<Gate>
     ensures portal { root_portal (map_of plan.now) side ≡ option_map portal_of result }
     ensures plan { IsPlan plan.now }
 {
-    let _lines = plan.lines();
-    let line = plan.line(side.line)?;
+    let line = line_of(plan, side.line)?;
     if side.left {
         Some(Gate {
             left: line.b,
@@ -95,6 +94,17 @@ fn gate_out(plan: &Plan, side: Side) -> Option<Gate>
             left: line.a,
             right: line.b,
         })
+    }
+}
+
+/// The line with this record number, None where there is none or it is passed over.
+fn line_of(plan: &Plan, number: u16) -> Option<Line>
+    ensures entry { result ≡ option_and_then (λ l. l) (slice_get plan.now.lines number) }
+    ensures plan { IsPlan plan.now }
+{
+    match plan.lines().get(number as usize) {
+        Some(entry) => *entry,
+        None => None,
     }
 }
 
@@ -190,8 +200,7 @@ fn wall_at(plan: &Plan, gate: Gate) -> Option<u16>
 fn is_wall(plan: &Plan, number: u16, gate: Gate) -> bool
     ensures { IsTrue result ↔ IsWall (map_of plan.now) (portal_of gate) number }
 {
-    let _lines = plan.lines();
-    match plan.line(number) {
+    match line_of(plan, number) {
         Some(line) => line.solid && joins(line, gate),
         None => false,
     }
