@@ -1,4 +1,0 @@
-use Rattle.cert_checker.proofs.trees.back.Given as goal
-
-abbrev pub decreases-loop-depth : goal.decreases-loop-depth
-decreases-loop-depth l = l.depth
