@@ -1,1 +1,4 @@
 pub mod IndexLemmas
+pub mod MeetLemmas
+pub mod Separate
+pub mod RuleLemmas

@@ -1,2 +1,4 @@
 pub mod Shape
 pub mod Index
+pub mod Faults
+pub mod Search

@@ -2,7 +2,11 @@
 #![tactic(auto)]
 
 pub mod labels;
+pub mod meets;
 pub mod mesh;
+pub mod rules;
 
 pub use labels::Labels;
+pub use meets::meet_at_ends;
 pub use mesh::Mesh;
+pub use rules::mesh_fault;

@@ -66,6 +66,7 @@ impl Plan {
         requires { k < length self.now.points }
         ensures place { result ≡ place_of (map_of self.now) k }
         ensures number { slice_get self.now.points k ≡ Some result }
+        ensures plan { IsPlan self.now }
     {
         self.points[k as usize]
     }

@@ -1,0 +1,4 @@
+pub mod Values
+pub mod Widening
+pub mod Cutting
+pub mod Balance

@@ -1,0 +1,25 @@
+-- Two segments meet at ends alone exactly where they are apart or have an end of both in common.
+use Rattle.std.proofs.Common.{inl, inr}
+use Rattle.sight_names.specs.declared.names.Pt.{Pt}
+use Rattle.sight_names.specs.Sound.{MeetAtEnds}
+use Rattle.geom_exact.specs.declared.Relation.TheVariants.{Apart, Overlap, Ends, Touch, Cross}
+use Rattle.geom_exact.specs.Common.{IsRelation}
+use Rattle.geom_exact.proofs.Uniqueness.{same_sym, same_trans, end_same}
+
+pub apart_meet : (p q r s : Pt) → IsRelation p q r s Apart → MeetAtEnds p q r s
+apart_meet p q r s h = record { one = λ u v c d. absurd (h u c); ends = λ u c. absurd (h u c) }
+
+pub ends_meet : (p q r s : Pt) → IsRelation p q r s Ends → MeetAtEnds p q r s
+ends_meet p q r s (z, only, first, second) = record {
+  one = λ u v c d. same_trans u z v (only.only u c) (same_sym v z (only.only v d));
+  ends = λ u c. (end_same p q z u (same_sym u z (only.only u c)) first, end_same r s z u (same_sym u z (only.only u c)) second);
+}
+
+pub overlap_not : (p q r s : Pt) → IsRelation p q r s Overlap → MeetAtEnds p q r s → ⊥
+overlap_not p q r s (u, v, c, d, differ) h = differ (h.one u v c d)
+
+pub touch_not : (p q r s : Pt) → IsRelation p q r s Touch → MeetAtEnds p q r s → ⊥
+touch_not p q r s (z, only, one) h = let e = h.ends z only.common in elim one [ inl k ↦ k.1 e.1 | inr k ↦ k.0 e.0 ]
+
+pub cross_not : (p q r s : Pt) → IsRelation p q r s Cross → MeetAtEnds p q r s → ⊥
+cross_not p q r s (z, only, no_first, no_second) h = no_first (h.ends z only.common).0

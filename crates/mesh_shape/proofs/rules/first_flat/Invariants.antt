@@ -1,0 +1,7 @@
+use Rattle.std.proofs.Common.{ℕ, ◌<◌}
+use Rattle.sight_names.specs.Map.{map_of}
+use Rattle.mesh_shape.specs.Faults.{TurnsAt}
+use Rattle.mesh_shape.proofs.rules.first_flat.Given as goal
+
+abbrev pub invariant-loop-k : goal.invariant-loop-k
+invariant-loop-k l = (j : ℕ) → j < l.k → TurnsAt (map_of l.plan) l.mesh.triangles j

@@ -1,0 +1,408 @@
+//! The first rule of a good mesh that is broken: each rule is a search through triangles, sides, lines or points in
+//! order, and the rules are looked at in order. Nothing here takes memory.
+
+ghost use Rattle.std.specs.Prelude.{ℕ, ◌≤◌, ◌≡◌, ◌≢◌, ◌<◌, ◌↔◌, ◌⊎◌, IsTrue, Some, None, ◌<ℤ◌, length, slice_get};
+ghost use Rattle.std.specs.Bool.{OnTrue};
+ghost use Rattle.sight_names.specs.Map.{map_of, looked_up};
+ghost use Rattle.sight_names.specs.Plan.{IsPlan, IsPlanLine};
+ghost use Rattle.sight_names.specs.Points.{points_of};
+ghost use Rattle.sight_names.specs.Mesh.{AreTriangles, IsTriangle, IsCounterclockwise, IsLineEdge, MeetsFairly, triangle_at};
+ghost use Rattle.mesh_shape.specs.Faults.{TurnsAt, IsNewAt, HasMate, HasMatesAt, FitsAt, IsFairAt, IsEmptyAt, IsMeshVerdict};
+ghost use Rattle.mesh_shape.specs.Search.{IsSearch, IsSideSearch, IsPairSearch, IsFitting, IsEdgeOf, IsUnfitLine, IsUnfitSide, IsMetFairly, IsLineMetFairly, IsOutsideOf, AreBefore, AreBehind};
+
+use crate::labels::Labels;
+use crate::meets::meet_at_ends;
+use crate::mesh::Mesh;
+use geom_exact::{in_triangle, turn};
+use sight_names::{Line, MeshFault, Plan, Pt, Side, Triangle};
+
+/// The first rule of a good mesh that is broken, at its least numbers; None exactly where the mesh is good.
+pub fn mesh_fault(plan: &Plan, mesh: &Mesh, labels: &Labels) -> Option<MeshFault>
+    requires points { mesh.now.points ≡ length plan.now.points }
+    requires one_each { length labels.now ≡ length mesh.now.triangles }
+    ensures { IsMeshVerdict (map_of plan.now) mesh.now.triangles labels.now result }
+{
+    if let Some(triangle) = first_flat(plan, mesh) {
+        return Some(MeshFault::Flat { triangle });
+    }
+    if let Some(triangle) = first_twice(mesh) {
+        return Some(MeshFault::Twice { triangle });
+    }
+    if let Some(triangle) = first_without_mate(plan, mesh, labels) {
+        return Some(MeshFault::NoMate { triangle });
+    }
+    if let Some(side) = first_unfit_side(plan, mesh, labels) {
+        return Some(MeshFault::NoTriangle { side });
+    }
+    if let Some((triangle, line)) = first_meeting(plan, mesh) {
+        return Some(MeshFault::Meets { triangle, line });
+    }
+    if let Some((triangle, point)) = first_inside(plan, mesh) {
+        return Some(MeshFault::Inside { triangle, point });
+    }
+    None
+}
+
+/// Whether all three hold.
+fn all(first: bool, second: bool, third: bool) -> bool
+    ensures { IsTrue result ↔ (IsTrue first × IsTrue second × IsTrue third) }
+{
+    first && second && third
+}
+
+/// Whether the corners stand counterclockwise.
+fn is_counterclockwise(plan: &Plan, t: Triangle) -> bool
+    requires { IsTriangle (length plan.now.points) t }
+    ensures { IsTrue result ↔ IsCounterclockwise (map_of plan.now) t }
+{
+    turn(plan.place(t.p), plan.place(t.q), plan.place(t.r)) > 0
+}
+
+/// The triangles of a mesh over the points of the plan.
+fn triangles_of<'a>(plan: &Plan, mesh: &'a Mesh) -> &'a [Triangle]
+    requires { mesh.now.points ≡ length plan.now.points }
+    ensures list { result.now ≡ mesh.now.triangles }
+    ensures triangles { AreTriangles (length (points_of (map_of plan.now))) mesh.now.triangles }
+    ensures few { length mesh.now.triangles ≤ 8192 }
+    ensures numbers { AreTriangles (length plan.now.points) mesh.now.triangles }
+{
+    let _ = plan.points();
+    mesh.triangles()
+}
+
+/// The least triangle whose turn isn't positive.
+fn first_flat(plan: &Plan, mesh: &Mesh) -> Option<u16>
+    requires { mesh.now.points ≡ length plan.now.points }
+    ensures triangles { AreTriangles (length (points_of (map_of plan.now))) mesh.now.triangles }
+    ensures search { IsSearch (TurnsAt (map_of plan.now) mesh.now.triangles) result }
+{
+    for (k, t) in triangles_of(plan, mesh).iter().enumerate() {
+        if !is_counterclockwise(plan, *t) {
+            return Some(k as u16);
+        }
+    }
+    None
+}
+
+/// Whether the triangle at `k` is the first one with each of its directed edges.
+fn is_new(mesh: &Mesh, k: u16, t: Triangle) -> bool
+    requires { slice_get mesh.now.triangles k ≡ Some t }
+    ensures { IsTrue result ↔ IsNewAt mesh.now.triangles k }
+{
+    all(
+        is_first_with(mesh, k, t.p, t.q),
+        is_first_with(mesh, k, t.q, t.r),
+        is_first_with(mesh, k, t.r, t.p),
+    )
+}
+
+/// Whether `k` is the least triangle with this directed edge.
+fn is_first_with(mesh: &Mesh, k: u16, u: u16, v: u16) -> bool
+    ensures { IsTrue result ↔ (triangle_at mesh.now.triangles (record { from = u; to = v }) ≡ Some k) }
+{
+    mesh.triangle_at(u, v) == Some(k)
+}
+
+/// The least triangle that has a directed edge of an earlier one.
+fn first_twice(mesh: &Mesh) -> Option<u16>
+    ensures { IsSearch (IsNewAt mesh.now.triangles) result }
+{
+    for (k, t) in mesh.triangles().iter().enumerate() {
+        if !is_new(mesh, k as u16, *t) {
+            return Some(k as u16);
+        }
+    }
+    None
+}
+
+/// Whether the reverse of the edge is in a triangle with this label.
+fn has_mate(mesh: &Mesh, labels: &Labels, label: u16, u: u16, v: u16) -> bool
+    requires { length labels.now ≡ length mesh.now.triangles }
+    ensures { IsTrue result ↔ HasMate mesh.now.triangles labels.now (record { from = u; to = v }) label }
+{
+    match mesh.triangle_at(v, u) {
+        Some(k) => labels.get(k) == Some(label),
+        None => false,
+    }
+}
+
+/// Whether the line goes between the two points, in the one direction or the other.
+fn joins(line: Line, u: u16, v: u16) -> bool
+    ensures { IsTrue result ↔ (((line.a ≡ u) × (line.b ≡ v)) ⊎ ((line.a ≡ v) × (line.b ≡ u))) }
+{
+    (line.a == u && line.b == v) || (line.a == v && line.b == u)
+}
+
+/// Whether the edge is the line of this record, in the one direction or the other.
+fn is_line_at(plan: &Plan, i: usize, u: u16, v: u16) -> bool
+    requires { i < length plan.now.lines }
+    ensures { IsTrue result ↔ IsEdgeOf (map_of plan.now) (record { from = u; to = v }) i }
+{
+    match plan.lines()[i] {
+        Some(line) => joins(line, u, v),
+        None => false,
+    }
+}
+
+/// Whether the edge is a line of the plan, in the one direction or the other.
+fn is_line(plan: &Plan, u: u16, v: u16) -> bool
+    ensures { IsTrue result ↔ IsLineEdge (map_of plan.now) (record { from = u; to = v }) }
+{
+    for i in 0..plan.lines().len() {
+        if is_line_at(plan, i, u, v) {
+            return true;
+        }
+    }
+    false
+}
+
+/// Whether the edge of a triangle with this label has its mate or is a line.
+fn is_tied(plan: &Plan, mesh: &Mesh, labels: &Labels, label: u16, u: u16, v: u16) -> bool
+    requires { length labels.now ≡ length mesh.now.triangles }
+    ensures { IsTrue result ↔ (HasMate mesh.now.triangles labels.now (record { from = u; to = v }) label ⊎ IsLineEdge (map_of plan.now) (record { from = u; to = v })) }
+{
+    has_mate(mesh, labels, label, u, v) || is_line(plan, u, v)
+}
+
+/// Whether each edge of the triangle at `k` is tied, if it has a label.
+fn has_mates(plan: &Plan, mesh: &Mesh, labels: &Labels, k: u16, t: Triangle) -> bool
+    requires one_each { length labels.now ≡ length mesh.now.triangles }
+    requires here { slice_get mesh.now.triangles k ≡ Some t }
+    ensures { IsTrue result ↔ HasMatesAt (map_of plan.now) mesh.now.triangles labels.now k }
+{
+    match labels.get(k) {
+        Some(label) => {
+            all(
+                is_tied(plan, mesh, labels, label, t.p, t.q),
+                is_tied(plan, mesh, labels, label, t.q, t.r),
+                is_tied(plan, mesh, labels, label, t.r, t.p),
+            )
+        }
+        None => true,
+    }
+}
+
+/// The least labelled triangle with an edge that is no line and has no mate of the same label.
+fn first_without_mate(plan: &Plan, mesh: &Mesh, labels: &Labels) -> Option<u16>
+    requires { length labels.now ≡ length mesh.now.triangles }
+    ensures { IsSearch (HasMatesAt (map_of plan.now) mesh.now.triangles labels.now) result }
+{
+    for (k, t) in mesh.triangles().iter().enumerate() {
+        if !has_mates(plan, mesh, labels, k as u16, *t) {
+            return Some(k as u16);
+        }
+    }
+    None
+}
+
+/// Whether the triangle with this directed edge fits a side with this name: it is there with that label, or where
+/// there is no name it has no label.
+fn fits(mesh: &Mesh, labels: &Labels, sector: Option<u16>, u: u16, v: u16) -> bool
+    requires { length labels.now ≡ length mesh.now.triangles }
+    ensures { IsTrue result ↔ IsFitting mesh.now.triangles labels.now (record { from = u; to = v }) sector }
+{
+    match sector {
+        Some(sector) => has_mate(mesh, labels, sector, v, u),
+        None => has_no_label(mesh, labels, u, v),
+    }
+}
+
+/// Whether no triangle with this directed edge has a label.
+fn has_no_label(mesh: &Mesh, labels: &Labels, u: u16, v: u16) -> bool
+    requires { length labels.now ≡ length mesh.now.triangles }
+    ensures { IsTrue result ↔ IsFitting mesh.now.triangles labels.now (record { from = u; to = v }) None }
+{
+    match mesh.triangle_at(u, v) {
+        Some(k) => labels.get(k) == None,
+        None => true,
+    }
+}
+
+/// The first side of the line that its triangle doesn't fit, by whether it is the left one.
+fn unfit_side(mesh: &Mesh, labels: &Labels, line: Line) -> Option<bool>
+    requires { length labels.now ≡ length mesh.now.triangles }
+    ensures { IsUnfitLine mesh.now.triangles labels.now line result }
+{
+    if !fits(mesh, labels, line.right, line.b, line.a) {
+        return Some(false);
+    }
+    if !fits(mesh, labels, line.left, line.a, line.b) {
+        return Some(true);
+    }
+    None
+}
+
+/// The first side of this record that its triangle doesn't fit.
+fn unfit_side_at(plan: &Plan, mesh: &Mesh, labels: &Labels, i: usize) -> Option<bool>
+    requires record { i < length plan.now.lines }
+    requires one_each { length labels.now ≡ length mesh.now.triangles }
+    ensures { IsUnfitSide (map_of plan.now) mesh.now.triangles labels.now i result }
+{
+    match plan.lines()[i] {
+        Some(line) => unfit_side(mesh, labels, line),
+        None => None,
+    }
+}
+
+/// The least side that its triangle doesn't fit.
+fn first_unfit_side(plan: &Plan, mesh: &Mesh, labels: &Labels) -> Option<Side>
+    requires { length labels.now ≡ length mesh.now.triangles }
+    ensures { IsSideSearch (FitsAt (map_of plan.now) mesh.now.triangles labels.now) result }
+{
+    for i in 0..plan.lines().len() {
+        if let Some(left) = unfit_side_at(plan, mesh, labels, i) {
+            return Some(Side {
+                line: i as u16,
+                left,
+            });
+        }
+    }
+    None
+}
+
+/// Whether the edge meets the line at ends of both alone, or is the same segment.
+fn meets_fairly(plan: &Plan, line: Line, u: u16, v: u16) -> bool
+    requires plan { IsPlan plan.now }
+    requires first { u < length plan.now.points }
+    requires second { v < length plan.now.points }
+    requires differ { u ≢ v }
+    requires line { IsPlanLine plan.now.sectors (length plan.now.points) line }
+    ensures { IsTrue result ↔ MeetsFairly (map_of plan.now) (record { from = u; to = v }) (looked_up plan.now.points line) }
+{
+    joins(line, u, v)
+        || meet_at_ends(
+            plan.place(u),
+            plan.place(v),
+            plan.place(line.a),
+            plan.place(line.b),
+        )
+}
+
+/// Whether all numbers of the line's ends are before the triangle's, or all are behind them.
+fn is_numbered_apart(line: Line, t: Triangle) -> bool
+    ensures { IsTrue result ↔ (AreBefore line.a line.b t.p t.q t.r ⊎ AreBehind line.a line.b t.p t.q t.r) }
+{
+    (line.a < t.p && line.b < t.p)
+        || (t.p < line.a
+            && t.q < line.a
+            && t.r < line.a
+            && t.p < line.b
+            && t.q < line.b
+            && t.r < line.b)
+}
+
+/// Whether the point is below the other three.
+fn is_under(point: Pt, p: Pt, q: Pt, r: Pt) -> bool
+    ensures { IsTrue result ↔ ((point.y <ℤ p.y) × (point.y <ℤ q.y) × (point.y <ℤ r.y)) }
+{
+    all(point.y < p.y, point.y < q.y, point.y < r.y)
+}
+
+/// Whether the point is above the other three.
+fn is_over(point: Pt, p: Pt, q: Pt, r: Pt) -> bool
+    ensures { IsTrue result ↔ ((p.y <ℤ point.y) × (q.y <ℤ point.y) × (r.y <ℤ point.y)) }
+{
+    all(p.y < point.y, q.y < point.y, r.y < point.y)
+}
+
+/// Whether the line is wholly below the triangle, or wholly above it.
+fn is_below_or_above(plan: &Plan, line: Line, t: Triangle) -> bool
+    requires triangle { IsTriangle (length plan.now.points) t }
+    requires line { IsPlanLine plan.now.sectors (length plan.now.points) line }
+    ensures { OnTrue result (IsMetFairly (map_of plan.now) t (looked_up plan.now.points line)) }
+{
+    let (a, b) = (plan.place(line.a), plan.place(line.b));
+    let (p, q, r) = (plan.place(t.p), plan.place(t.q), plan.place(t.r));
+    if all(is_under(a, p, q, r), is_under(b, p, q, r), true) {
+        return true;
+    }
+    all(is_over(a, p, q, r), is_over(b, p, q, r), true)
+}
+
+/// Whether each edge of the triangle meets the line at ends of both alone, or is the same segment.
+fn edges_meet_fairly(plan: &Plan, line: Line, t: Triangle) -> bool
+    requires plan { IsPlan plan.now }
+    requires triangle { IsTriangle (length plan.now.points) t }
+    requires line { IsPlanLine plan.now.sectors (length plan.now.points) line }
+    ensures { IsTrue result ↔ IsMetFairly (map_of plan.now) t (looked_up plan.now.points line) }
+{
+    if is_numbered_apart(line, t) {
+        return true;
+    }
+    if is_below_or_above(plan, line, t) {
+        return true;
+    }
+    all(
+        meets_fairly(plan, line, t.p, t.q),
+        meets_fairly(plan, line, t.q, t.r),
+        meets_fairly(plan, line, t.r, t.p),
+    )
+}
+
+/// Whether this record is no line, or each edge of the triangle meets its line at ends of both alone or is the same segment.
+fn is_met_fairly(plan: &Plan, i: usize, t: Triangle) -> bool
+    requires record { i < length plan.now.lines }
+    requires triangle { IsTriangle (length plan.now.points) t }
+    ensures { IsTrue result ↔ IsLineMetFairly (map_of plan.now) t i }
+{
+    match plan.lines()[i] {
+        Some(line) => edges_meet_fairly(plan, line, t),
+        None => true,
+    }
+}
+
+/// The least line that an edge of the triangle meets otherwise than at ends of both or as the same segment.
+fn first_met(plan: &Plan, t: Triangle) -> Option<u16>
+    requires { IsTriangle (length plan.now.points) t }
+    ensures { IsSearch (IsLineMetFairly (map_of plan.now) t) result }
+{
+    for i in 0..plan.lines().len() {
+        if !is_met_fairly(plan, i, t) {
+            return Some(i as u16);
+        }
+    }
+    None
+}
+
+/// The least triangle with such an edge, and the least line that it meets.
+fn first_meeting(plan: &Plan, mesh: &Mesh) -> Option<(u16, u16)>
+    requires { mesh.now.points ≡ length plan.now.points }
+    ensures { IsPairSearch (IsFairAt (map_of plan.now) mesh.now.triangles) result }
+{
+    for (k, t) in mesh.triangles().iter().enumerate() {
+        if let Some(line) = first_met(plan, *t) {
+            return Some((k as u16, line));
+        }
+    }
+    None
+}
+
+/// The least point strictly inside the triangle: its number is between the least and the greatest of the corners'.
+fn first_point_inside(plan: &Plan, t: Triangle) -> Option<u16>
+    requires triangle { IsTriangle (length plan.now.points) t }
+    requires turn { IsCounterclockwise (map_of plan.now) t }
+    ensures { IsSearch (IsOutsideOf (map_of plan.now) t) result }
+{
+    let (a, b, c) = (plan.place(t.p), plan.place(t.q), plan.place(t.r));
+    let last = t.q.max(t.r);
+    for k in t.p..last {
+        if in_triangle(a, b, c, plan.place(k)) {
+            return Some(k);
+        }
+    }
+    None
+}
+
+/// The least triangle with a point strictly inside, and the least such point.
+fn first_inside(plan: &Plan, mesh: &Mesh) -> Option<(u16, u16)>
+    requires points { mesh.now.points ≡ length plan.now.points }
+    requires turn { (k : ℕ) → TurnsAt (map_of plan.now) mesh.now.triangles k }
+    ensures { IsPairSearch (IsEmptyAt (map_of plan.now) mesh.now.triangles) result }
+{
+    for (k, t) in mesh.triangles().iter().enumerate() {
+        if let Some(point) = first_point_inside(plan, *t) {
+            return Some((k as u16, point));
+        }
+    }
+    None
+}
