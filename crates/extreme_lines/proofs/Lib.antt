@@ -1,3 +1,4 @@
 pub mod Values
 pub mod Widening
 pub mod Cutting
+pub mod Balance

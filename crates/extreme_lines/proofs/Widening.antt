@@ -1,12 +1,13 @@
 -- A cone that is widened by a line has in it what it had; a line that can't be added meets the extreme ones.
-use Rattle.std.proofs.Common.{◌≡◌, ◌<◌, ℤ, pos, ◌+ℤ◌, ◌*ℤ◌, neg_ℤ, nat_abs, refl, sym, ap, ap₂, ◌∙◌, [], ◌∷◌, arith, ◌≤ℤ◌, ◌<ℤ◌, inl, inr, subst, subst₂, sum}
+use Rattle.std.proofs.Common.{◌-ℤ◌, ◌≡◌, ◌<◌, ℤ, pos, ◌+ℤ◌, ◌*ℤ◌, neg_ℤ, nat_abs, refl, sym, ap, ap₂, ◌∙◌, [], ◌∷◌, arith, ◌≤ℤ◌, ◌<ℤ◌, inl, inr, subst, subst₂, sum}
 use Rattle.std.proofs.lemmas.Int.{ints}
-use Rattle.exact_ring.proofs.Signs.{sign_cases}
+use Rattle.exact_ring.proofs.Signs.{sign_cases, le_or_lt}
+use Rattle.sight_names.specs.declared.names.Pt.{Pt}
 use Rattle.sight_names.specs.declared.names.EndAt.{EndAt}
 use Rattle.sight_names.specs.declared.names.EndPair.{EndPair}
 use Rattle.sight_names.specs.Splitting.{AreBalanced, across, up}
 use Rattle.splitting_base.specs.Arrows.{Arrow, cross, dot, IsOnRay, IsBetween}
-use Rattle.splitting_base.proofs.Turns.{turned, long_of_cross, long_of_dot, ray_to_left, ray_to_right, ray_to_nearer, ray_before, wider_first, wider_second, nearer_first, nearer_second, at_first, at_second, at_ray, around_x, around_y, opposite_x, opposite_y}
+use Rattle.splitting_base.proofs.Turns.{no_length, turned, long_of_cross, long_of_dot, ray_to_left, ray_to_right, ray_to_nearer, ray_before, wider_first, wider_second, nearer_first, nearer_second, at_first, at_second, at_ray, around_x, around_y, opposite_x, opposite_y}
 use Rattle.extreme_lines.specs.Differences.{difference}
 use Rattle.extreme_lines.specs.Spans.{arrow_of, pair_of, Spans, IsWidened, three_pairs}
 use Rattle.extreme_lines.specs.declared.extreme.Extreme.{Extreme}
@@ -174,3 +175,13 @@ made_before e f l r p q h = subst (λ (u : Arrow). pos 0 <ℤ cross u (arrow_of 
 
 pub made_after : (e f : Extreme) (l r : EndAt) → f.left ≡ l → f.right ≡ r → pos 0 <ℤ cross (arrow_of e) (difference l.at r.at) → pos 0 <ℤ cross (arrow_of e) (arrow_of f)
 made_after e f l r p q h = subst (λ (u : Arrow). pos 0 <ℤ cross (arrow_of e) u) (sym (made_arrow f l r p q)) h
+
+-- ---- two different points are apart
+sub_zero : (a b : ℤ) → a -ℤ b ≡ pos 0 → a ≡ b
+sub_zero a b h = omega (arith, ints)
+
+pub long_of_different : (l r : Pt) → ¬ (l ≡ r) → pos 0 <ℤ dot (difference l r) (difference l r)
+long_of_different l r n = elim (le_or_lt (dot (difference l r) (difference l r)) (pos 0)) as (λ _. pos 0 <ℤ dot (difference l r) (difference l r)) [
+  | inl h ↦ let z = no_length (difference l r) h in absurd (n (ap₂ (λ (x y : ℤ). let p : Pt = record { x = x; y = y } in p) (sub_zero l.x r.x z.0) (sub_zero l.y r.y z.1)))
+  | inr h ↦ h
+]

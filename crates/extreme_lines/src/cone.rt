@@ -10,7 +10,7 @@ ghost use Rattle.extreme_lines.specs.Spans.{arrow_of, Spans, first_of, second_of
 use crate::cut::{Cut, middle_cut, ray_cut};
 use crate::extreme::Extreme;
 use crate::wedge::Wedge;
-use sight_names::{EndAt, Pt};
+use sight_names::{EndAt, EndPair, Pt};
 
 /// The extreme ones of some lines from right ends to left ends, of equal directions the shortest.
 #[derive(Clone, Copy, Debug)]
@@ -54,6 +54,58 @@ impl Cone {
         }
     }
 
+    /// The most clockwise line.
+    pub fn first(&self) -> &Extreme
+        ensures { result.now ≡ first_of self.now }
+    {
+        match self {
+            Cone::Ray(ray) => ray,
+            Cone::Open(wedge) => &wedge.first,
+        }
+    }
+
+    /// The most counterclockwise line.
+    pub fn second(&self) -> &Extreme
+        ensures { result.now ≡ second_of self.now }
+    {
+        match self {
+            Cone::Ray(ray) => ray,
+            Cone::Open(wedge) => &wedge.second,
+        }
+    }
+
+    /// Whether this pair and those of two extreme lines are seen at once to have the origin in the convex hull of their
+    /// differences. `false` says nothing.
+    pub fn meets(&self, left: EndAt, right: EndAt) -> bool
+        ensures { IsTrue result → AreBalanced (three_pairs self.now left right) }
+    {
+        match self {
+            Cone::Ray(_) => false,
+            Cone::Open(wedge) => meets_wedge(wedge, left, right),
+        }
+    }
+
+    /// The pairs of the extreme lines, and this pair.
+    pub fn pairs(&self, left: EndAt, right: EndAt) -> [EndPair; 3]
+        ensures { result ≡ three_pairs self.now left right }
+    {
+        let (first, second) = match self {
+            Cone::Ray(ray) => (ray, ray),
+            Cone::Open(wedge) => (&wedge.first, &wedge.second),
+        };
+        [
+            EndPair {
+                left: first.left,
+                right: first.right,
+            },
+            EndPair {
+                left: second.left,
+                right: second.right,
+            },
+            EndPair { left, right },
+        ]
+    }
+
     /// A line that has the left ends strictly on its left and the right ends strictly on its right.
     pub fn cut(&self) -> Cut
         requires { Spans self.now (difference (second_of self.now).left.at (first_of self.now).right.at) }
@@ -75,6 +127,15 @@ impl Cone {
             Cone::Open(wedge) => wedge_with(wedge, left, right),
         }
     }
+}
+
+fn meets_wedge(wedge: &Wedge, left: EndAt, right: EndAt) -> bool
+    ensures { IsTrue result → AreBalanced (three_pairs (Cone.Open wedge.now) left right) }
+{
+    if wedge.first.turn(left.at, right.at) > 0 {
+        return false;
+    }
+    wedge.second.turn(left.at, right.at) >= 0
 }
 
 fn ray_with(ray: &Extreme, left: EndAt, right: EndAt) -> Option<Cone>

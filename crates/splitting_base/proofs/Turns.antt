@@ -47,7 +47,7 @@ root a e = elim (sign_cases a) as (λ _. a ≡ pos 0) [
   | inr k ↦ elim k as (λ _. a ≡ pos 0) [ inl z ↦ z | inr p ↦ zero-of-mul a a p e ]
 ]
 
-no_length : (d : Arrow) → dot d d ≤ℤ pos 0 → (d.x ≡ pos 0) × (d.y ≡ pos 0)
+pub no_length : (d : Arrow) → dot d d ≤ℤ pos 0 → (d.x ≡ pos 0) × (d.y ≡ pos 0)
 unfolding dot
 no_length d h = let a = square-nonneg d.x in let b = square-nonneg d.y in (root d.x (omega (arith, ints)), root d.y (omega (arith, ints)))
 

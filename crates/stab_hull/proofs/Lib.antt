@@ -1,0 +1,3 @@
+pub mod EndsLemmas
+pub mod WidenLemmas
+pub mod KeptLemmas

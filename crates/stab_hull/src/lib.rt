@@ -4,29 +4,37 @@
 ghost use Rattle.std.specs.Prelude.{◌≡◌, ◌≢◌, ◌++◌, ◌∷◌, [], ◌<◌, length, IfOk, OnErr, take, ◌-◌, OnOk};
 ghost use Rattle.stab_hull.specs.Answer.{IsSplitOf};
 
+mod frame;
+mod jam;
+mod keep;
+mod widen;
+
+use crate::frame::Frame;
+use crate::jam::Jam;
+use crate::keep::{after_portal, jam_within};
 use sight_names::{EndAt, EndPair, Memory, Pt};
 use std::alloc::Global;
 use std::marker::Model;
 
-#[derive(Clone, Copy, Debug)]
-struct Portal {
-    left: Pt,
-    right: Pt,
-}
-
 /// The ends of a list of portals.
 #[derive(Drop)]
 pub struct Ends {
-    portals: Vec<Portal>,
+    frames: Vec<Frame>,
+    jam: Option<Jam>,
 }
 
 impl Model for Ends {
-    ghost use Rattle.std.specs.Prelude.{List, map};
+    ghost use Rattle.std.specs.Prelude.{List};
     ghost use Rattle.sight_names.specs.Splitting.{EndPoints};
 
     ghost Value = { List EndPoints };
 
-    ghost view = { λ s. map (λ p. record { left = p.left; right = p.right }) s.portals.items };
+    ghost use Rattle.stab_hull.specs.Portals.{portals_of};
+    ghost use Rattle.stab_hull.specs.Kept.{IsKept};
+
+    ghost view = { λ s. portals_of s.frames.items };
+
+    ghost invariant = { λ s. IsKept s.frames.items s.jam };
 }
 
 /// Whether a line splits the ends.
@@ -45,7 +53,8 @@ impl Ends {
         ensures { result ≡ [] }
     {
         Ends {
-            portals: Vec::new(alloc),
+            frames: Vec::new(alloc),
+            jam: None,
         }
     }
 
@@ -56,7 +65,23 @@ impl Ends {
         ensures ok { OnOk result (self.new ≡ self.old ++ record { left = left; right = right } ∷ []) }
         ensures err { OnErr result (self.new ≡ self.old) }
     {
-        self.portals.push(Portal { left, right })?;
+        let place = self.frames.len() as u16;
+        let left_end = EndAt {
+            code: place,
+            at: left,
+        };
+        let right_end = EndAt {
+            code: place + 32768,
+            at: right,
+        };
+        let next = after_portal(self.frames.as_slice(), &self.jam, left_end, right_end);
+        let frame = Frame {
+            left,
+            right,
+            cone: next.cone,
+        };
+        self.frames.push(frame)?;
+        self.jam = next.jam;
         Ok(())
     }
 
@@ -65,6 +90,28 @@ impl Ends {
         requires { 0 < length self.old }
         ensures { self.new ≡ take (length self.old - 1) self.old }
     {
-        let _ = self.portals.pop();
+        let count = self.frames.len() - 1;
+        self.frames.truncate(count);
+        self.jam = jam_within(&self.jam, count);
+    }
+
+    /// A line that has all left ends strictly on its left and all right ends strictly on its right; or, exactly where
+    /// there is none, three pairs that show it.
+    pub fn split(&self) -> Split
+        requires { 0 < length self.now }
+        ensures { IsSplitOf self.now result }
+    {
+        match &self.jam {
+            Some(jam) => Split::Stuck(jam.pairs),
+            None => {
+                let top = &self.frames[self.frames.len() - 1];
+                let cut = top.cone.cut();
+                Split::Line {
+                    a: cut.a,
+                    b: cut.b,
+                    c: cut.c,
+                }
+            }
+        }
     }
 }
