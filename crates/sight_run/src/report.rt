@@ -114,7 +114,13 @@ pub fn push_last(alloc: Global, line: &mut String, text: &str, n: u64) -> Result
 }
 
 // A text, two numbers, and the end of the line.
-pub fn push_two(alloc: Global, line: &mut String, text: &str, i: u16, j: u16) -> Result<(), AllocError>
+pub fn push_two(
+    alloc: Global,
+    line: &mut String,
+    text: &str,
+    i: u16,
+    j: u16,
+) -> Result<(), AllocError>
     ensures { OnOk result (string_bytes line.new ≡ string_bytes line.old ++ (text.now ++ two i j ++ codes "\n")) }
 {
     line.push_str(text)?;
