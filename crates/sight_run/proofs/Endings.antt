@@ -7,12 +7,11 @@ use Rattle.shelf_io.specs.Sink.{SinkState}
 use Rattle.sight_run.specs.declared.status.Status.{Status}
 use Rattle.sight_run.specs.declared.status.Status.TheVariants as status
 use Rattle.sight_run.specs.declared.status.Role.TheVariants as role
-use Rattle.sight_run.specs.Answer.{Answer, status_of}
-use Rattle.sight_run.specs.Obeys.{AnswersAsked, IsAnswer, Obeys}
+use Rattle.sight_run.specs.Answer.{Answer, IsTheAnswer, status_of}
+use Rattle.sight_run.specs.Obeys.{IsAnswer}
 use Rattle.sight_run.specs.Report.{text_of}
-use Rattle.sight_run.specs.Run.{EndsBy, HasLine, IsDoneBy, IsQuiet, IsSaid, IsUnsaid, RefusalCause, RunEnds, ShelfCause, StatusCause, TextAfter}
+use Rattle.sight_run.specs.Run.{EndsBy, HasLine, IsDoneBy, NothingRose, IsSaid, IsUnsaid, RefusalCause, RunEnds, ShelfCause, StatusCause, TextAfter}
 use Rattle.sight_run.specs.Say.{Refused, Said, SaidIfMade, WasDropped}
-use Rattle.sight_run.specs.Words.{Asked, Zero, asked_of}
 
 -- ---- nothing was put
 
@@ -110,22 +109,18 @@ cause_done before after o n r line cause said = (shows_put before after o n stat
 
 -- ---- the answer called for is given
 
-one_answer : (asked : Result Asked Status) (files : Files) (a b : Result Answer Status) → AnswersAsked asked files a → AnswersAsked asked files b → a ≡ b
-one_answer (Err refusal) files a b p q = p ∙ sym q
-one_answer (Ok (Zero zero)) files a b p q = p ∙ sym q
+other_is : (words : List (List ℕ)) (files : Files) (answer : Result Answer Status) (s : Status) → IsAnswer words files answer → IsTheAnswer (IsAnswer words files) (Err s) → (s ≡ status_of answer) ⊎ (s ≡ status.Memory)
+other_is words files answer s called is = inl (ap status_of (sym (is.only answer called)))
 
-other_is : (words : List (List ℕ)) (files : Files) (answer : Result Answer Status) (s : Status) → IsAnswer words files answer → IsAnswer words files (Err s) → (s ≡ status_of answer) ⊎ (s ≡ status.Memory)
-other_is words files answer s is called = inl (ap status_of (one_answer (asked_of words) files (Err s) answer called is))
-
-pub completed : (words : List (List ℕ)) (files : Files) (answer : Result Answer Status) (before after : ShelfState) (o n : SinkState) (r : Status) → IsAnswer words files answer → IsQuiet before after o n
+pub completed : (words : List (List ℕ)) (files : Files) (answer : Result Answer Status) (before after : ShelfState) (o n : SinkState) (r : Status) → IsAnswer words files answer → NothingRose before after o n
     → RunEnds words files before after o n r → StatusCause before after o n r → (r ≡ status_of answer) ⊎ (r ≡ status.Memory)
-completed words files answer before after o n status.Done is quiet ends cause = inl (ap status_of (one_answer (asked_of words) files (Ok ends.ends.answer) answer ends.ends.called is))
+completed words files answer before after o n status.Done is quiet ends cause = inl (ap status_of (sym (ends.ends.called.only answer is)))
 completed words files answer before after o n status.Memory is quiet ends cause = inr refl
-completed words files answer before after o n (status.ReadFault k) is quiet ends cause = absurd (quiet.reads cause.0)
+completed words files answer before after o n (status.ReadFault k) is quiet ends cause = absurd (quiet.shelf.reads cause.0)
 completed words files answer before after o n (status.WriteFault role.Text) is quiet ends cause = absurd (quiet.puts cause)
-completed words files answer before after o n (status.WriteFault role.Wad) is quiet ends cause = absurd (quiet.writes cause.0)
-completed words files answer before after o n (status.WriteFault role.Cert) is quiet ends cause = absurd (quiet.writes cause.0)
-completed words files answer before after o n (status.WriteFault role.Report) is quiet ends cause = absurd (quiet.writes cause.0)
+completed words files answer before after o n (status.WriteFault role.Wad) is quiet ends cause = absurd (quiet.shelf.writes cause.0)
+completed words files answer before after o n (status.WriteFault role.Cert) is quiet ends cause = absurd (quiet.shelf.writes cause.0)
+completed words files answer before after o n (status.WriteFault role.Report) is quiet ends cause = absurd (quiet.shelf.writes cause.0)
 completed words files answer before after o n (status.No k) is quiet ends cause = other_is words files answer (status.No k) is ends.ends.0
 completed words files answer before after o n status.Usage is quiet ends cause = other_is words files answer status.Usage is ends.ends.0
 completed words files answer before after o n (status.NoFile k) is quiet ends cause = other_is words files answer (status.NoFile k) is ends.ends.0

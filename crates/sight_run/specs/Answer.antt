@@ -32,3 +32,14 @@ Makes view (Ok v) said = said ≡ Ok (view v)
 Makes view (Err status.Memory) said = ⊤
 Makes view (Err (status.ReadFault role)) said = ⊤
 Makes view (Err refusal) said = said ≡ Err refusal
+
+-- this is the answer called for, and the only one
+pub record IsTheAnswer (Called : Result Answer Status → Type 0) (given : Result Answer Status) : Type 0 where
+  pub called : Called given
+  pub only : (other : Result Answer Status) → Called other → other ≡ given
+
+-- What was given is the answer called for, unless memory ran out or a read failed.
+abbrev pub Gives : (Result Answer Status → Type 0) → Result Answer Status → Type 0
+Gives Called (Err status.Memory) = ⊤
+Gives Called (Err (status.ReadFault role)) = ⊤
+Gives Called given = IsTheAnswer Called given

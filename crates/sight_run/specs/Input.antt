@@ -1,5 +1,5 @@
 -- What an order reads: a file, the WAD in it, and the map of that name.
-use Rattle.std.specs.Prelude.{ℕ, List, [], Option, Some, None, Result, Ok, Err, slice_index_or}
+use Rattle.std.specs.Prelude.{◌≡◌, ℕ, List, [], Option, Some, None, Result, Ok, Err, slice_index_or}
 use Rattle.sight_names.specs.declared.faults.FetchFault.{FetchFault}
 use Rattle.sight_names.specs.declared.faults.FetchFault.TheVariants as fetch
 use Rattle.sight_names.specs.declared.faults.WadFault.{WadFault}
@@ -17,7 +17,7 @@ use Rattle.sight_run.specs.declared.status.Bound.TheVariants as bound
 use Rattle.sight_run.specs.declared.status.Role.TheVariants as role
 use Rattle.sight_run.specs.declared.status.Status.{Status}
 use Rattle.sight_run.specs.declared.status.Status.TheVariants as status
-use Rattle.sight_run.specs.Answer.{◌>>=◌}
+use Rattle.sight_run.specs.Answer.{Answer, ◌>>=◌}
 
 -- the WAD of a file, where the map's lumps stand in it, and the map
 pub record Found : Type 0 where
@@ -77,3 +77,8 @@ unfoldable pub found_of : List ℕ → List ℕ → Files → Result Found Statu
 found_of wad name files = do
   bytes ← of_fetch (content_of (files wad) 2147483647)
   found_in name bytes
+
+-- an answer to the map that was found, or the refusal where none was
+abbrev pub OnFound : Result Found Status → (Found → Result Answer Status → Type 0) → Result Answer Status → Type 0
+OnFound (Ok found) Called answer = Called found answer
+OnFound (Err refusal) Called answer = answer ≡ Err refusal

@@ -3,6 +3,7 @@ pub mod Words
 pub mod Answer
 pub mod Input
 pub mod Zero
+pub mod Judge
 pub mod Obeys
 pub mod Report
 pub mod Run

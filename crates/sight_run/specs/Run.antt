@@ -2,18 +2,20 @@
 use Rattle.std.specs.Prelude.{◌≡◌, ◌⊎◌, ℕ, List, [], ◌∷◌, ◌++◌, Option, Some, None, Result, Ok, Err, ⊤, string_bytes, String}
 use Rattle.std.specs.Option.{option_map}
 use Rattle.std.specs.declared.alloc.Global.{Global}
-use Rattle.shelf_io.specs.Shelf.{Files, ShelfState, put, Rose, NoFault, SameCounts, MayHoldFront}
+use Rattle.shelf_io.specs.Shelf.{Files, ShelfState, put, Rose, NoFault, SameCounts, IsQuiet, MayHoldFront}
 use Rattle.shelf_io.specs.Sink.{SinkState, HasFront}
+use Rattle.order_words.specs.declared.order.Order.{Order}
 use Rattle.sight_run.specs.declared.status.Role.{Role}
 use Rattle.sight_run.specs.declared.status.Role.TheVariants as role
 use Rattle.sight_run.specs.declared.status.Bound.TheVariants as bound
+use Rattle.sight_run.specs.declared.status.Flaw.TheVariants as flaw
+use Rattle.sight_run.specs.declared.status.Why.TheVariants as why
 use Rattle.sight_run.specs.declared.status.Status.{Status}
 use Rattle.sight_run.specs.declared.status.Status.TheVariants as status
-use Rattle.sight_run.specs.Answer.{Answer, Written}
-use Rattle.sight_run.specs.Obeys.{IsAnswer, Reads, Writes}
+use Rattle.sight_run.specs.Answer.{Answer, IsTheAnswer, Written}
+use Rattle.sight_run.specs.Obeys.{Audits, IsAnswer, Judges, Reads, Writes}
 use Rattle.sight_run.specs.Report.{text_of}
 use Rattle.sight_run.specs.Status.{IsOfBytes}
-use Rattle.sight_run.specs.Words.{Asked}
 
 -- ---- the files
 
@@ -30,14 +32,14 @@ StandsUpTo role files after (w ∷ ws) = ((w.role ≡ role) × MayHoldFront (Som
 -- the answer called for was given: its outputs stand, all other files are as before, and this is its line
 pub record IsDoneBy (Called : Result Answer Status → Type 0) (files : Files) (after : Option Files) (line : List ℕ) : Type 0 where
   pub answer : Answer
-  pub called : Called (Ok answer)
+  pub called : IsTheAnswer Called (Ok answer)
   pub stands : after ≡ Some (put_all files answer.writes)
   pub line_is : line ≡ answer.line
 
 -- an output of the answer called for couldn't be stored
 pub record IsBrokenBy (Called : Result Answer Status → Type 0) (role : Role) (files : Files) (after : Option Files) : Type 0 where
   pub answer : Answer
-  pub called : Called (Ok answer)
+  pub called : IsTheAnswer Called (Ok answer)
   pub stands : StandsUpTo role files after answer.writes
 
 -- a refusal: all files are as before, and this is its line
@@ -53,7 +55,7 @@ EndsBy Called files after (status.WriteFault role) line = IsBrokenBy Called role
 EndsBy Called files after (status.ReadFault role) line = IsRefusedBy files after (status.ReadFault role) line
 EndsBy Called files after status.Memory line = IsRefusedBy files after status.Memory line
 -- any other refusal is the answer called for
-EndsBy Called files after refusal line = Called (Err refusal) × IsRefusedBy files after refusal line
+EndsBy Called files after refusal line = IsTheAnswer Called (Err refusal) × IsRefusedBy files after refusal line
 
 -- ---- the counts
 
@@ -119,22 +121,22 @@ TextAfter old new other = new.held ≡ option_map (λ held. held ++ text_of othe
 -- ---- the words
 
 -- a refusal, or Done, that can come of this order: it reads, or writes, a file of that role
-abbrev pub IsOfOrder : Asked → Status → Type 0
-IsOfOrder asked status.Done = ⊤
-IsOfOrder asked (status.No why) = ⊥
-IsOfOrder asked status.Usage = ⊥
-IsOfOrder asked status.SameName = ⊥
-IsOfOrder asked (status.NoFile role) = Reads asked role
-IsOfOrder asked (status.ReadFault role) = Reads asked role
-IsOfOrder asked (status.WriteFault role) = Writes asked role
-IsOfOrder asked (status.NotWad fault) = Reads asked role.Wad
-IsOfOrder asked (status.NoMap fault) = Reads asked role.Wad
-IsOfOrder asked (status.BadLump fault) = Reads asked role.Wad
-IsOfOrder asked (status.Limit bound.CertBytes) = Reads asked role.Cert
-IsOfOrder asked (status.Limit bound.OutputBytes) = Writes asked role.Wad
-IsOfOrder asked (status.Limit bound) = Reads asked role.Wad
-IsOfOrder asked (status.BadMap flaw) = ⊥
-IsOfOrder asked status.Memory = ⊤
+abbrev pub IsOfOrder : Order → Status → Type 0
+IsOfOrder order status.Done = ⊤
+IsOfOrder order (status.No why) = Judges order why
+IsOfOrder order status.Usage = ⊥
+IsOfOrder order status.SameName = ⊥
+IsOfOrder order (status.NoFile role) = Reads order role
+IsOfOrder order (status.ReadFault role) = Reads order role
+IsOfOrder order (status.WriteFault role) = Writes order role
+IsOfOrder order (status.NotWad fault) = Reads order role.Wad
+IsOfOrder order (status.NoMap fault) = Reads order role.Wad
+IsOfOrder order (status.BadLump fault) = Reads order role.Wad
+IsOfOrder order (status.Limit bound.CertBytes) = Reads order role.Cert
+IsOfOrder order (status.Limit bound.OutputBytes) = Writes order role.Wad
+IsOfOrder order (status.Limit bound) = Reads order role.Wad
+IsOfOrder order (status.BadMap flaw) = Audits order flaw
+IsOfOrder order status.Memory = ⊤
 
 -- a refusal that reading a WAD and its map can end with
 abbrev pub IsOfReading : Status → Type 0
@@ -144,12 +146,27 @@ IsOfReading (status.ReadFault role.Wad) = ⊤
 IsOfReading (status.ReadFault role) = ⊥
 IsOfReading other = IsOfBytes other
 
+-- a refusal that comes before `zero` stores its output
+abbrev pub IsOfZero : Status → Type 0
+IsOfZero (status.Limit bound.OutputBytes) = ⊤
+IsOfZero other = IsOfReading other
+
+-- a refusal, or a no, that `ray` can end with
+abbrev pub IsOfRay : Status → Type 0
+IsOfRay (status.No (why.Ray fault)) = ⊤
+IsOfRay other = IsOfReading other
+
+-- a refusal that `audit` can end with
+abbrev pub IsOfAudit : Status → Type 0
+IsOfAudit (status.BadMap (flaw.Line fault)) = ⊤
+IsOfAudit other = IsOfReading other
+
 -- what the words alone say of a status
-abbrev pub WordsSay : Result Asked Status → Status → Type 0
-WordsSay asked (status.WriteFault role.Text) = ⊤
-WordsSay asked status.Memory = ⊤
+abbrev pub WordsSay : Result Order Status → Status → Type 0
+WordsSay said (status.WriteFault role.Text) = ⊤
+WordsSay said status.Memory = ⊤
 WordsSay (Err refusal) other = other ≡ refusal
-WordsSay (Ok asked) other = IsOfOrder asked other
+WordsSay (Ok order) other = IsOfOrder order other
 
 -- ---- views
 
@@ -164,7 +181,12 @@ line_seen (Err refusal) = text_of refusal
 -- ---- the premise that nothing failed
 
 -- no count of faults rose; a count at its last value passes for risen
-pub record IsQuiet (old new : ShelfState) (said_old said_new : SinkState) : Type 0 where
-  pub reads : ¬ Rose old.read_faults new.read_faults
-  pub writes : ¬ Rose old.write_faults new.write_faults
+pub record NothingRose (old new : ShelfState) (said_old said_new : SinkState) : Type 0 where
+  pub shelf : IsQuiet old new
   pub puts : ¬ Rose said_old.faults said_new.faults
+
+-- a refusal that comes before anything is stored
+abbrev pub IsUnstored : Status → Type 0
+IsUnstored status.Done = ⊥
+IsUnstored (status.WriteFault role) = ⊥
+IsUnstored other = ⊤

@@ -8,6 +8,7 @@ use Rattle.sight_names.specs.declared.faults.TraceFault.TheVariants as trace
 use Rattle.sight_names.specs.declared.faults.TableFault.TheVariants as table
 use Rattle.sight_names.specs.declared.faults.CertFault.TheVariants as cert
 use Rattle.sight_run.specs.declared.status.Bound.TheVariants as bound
+use Rattle.sight_run.specs.declared.status.Flaw.TheVariants as flaw
 use Rattle.sight_run.specs.declared.status.Why.{Why}
 use Rattle.sight_run.specs.declared.status.Why.TheVariants as why
 use Rattle.sight_run.specs.declared.status.Status.{Status}
@@ -57,12 +58,32 @@ IsProper (status.BadLump fault) = IsLumpFault fault
 IsProper (status.No reason) = IsReason reason
 IsProper other = ⊤
 
--- a refusal that bytes alone can call for
+-- a refusal that the bytes of a WAD and its map can call for
 abbrev pub IsOfBytes : Status → Type 0
 IsOfBytes (status.NotWad fault) = IsWadFault fault
 IsOfBytes (status.NoMap fault) = ⊤
 IsOfBytes (status.BadLump fault) = IsLumpFault fault
 IsOfBytes (status.Limit bound.CertBytes) = ⊥
+IsOfBytes (status.Limit bound.OutputBytes) = ⊥
 IsOfBytes (status.Limit bound) = ⊤
 IsOfBytes status.Memory = ⊤
 IsOfBytes other = ⊥
+
+-- a refusal that making an output can call for
+abbrev pub IsOfMaking : Status → Type 0
+IsOfMaking (status.Limit bound.Lumps) = ⊤
+IsOfMaking (status.Limit bound.OutputBytes) = ⊤
+IsOfMaking status.Memory = ⊤
+IsOfMaking other = ⊥
+
+-- what the test of a ray can end with
+abbrev pub IsOfRayTest : Status → Type 0
+IsOfRayTest (status.No (why.Ray fault)) = ⊤
+IsOfRayTest status.Memory = ⊤
+IsOfRayTest other = ⊥
+
+-- what the test of lines can end with
+abbrev pub IsOfLineTest : Status → Type 0
+IsOfLineTest (status.BadMap (flaw.Line fault)) = ⊤
+IsOfLineTest status.Memory = ⊤
+IsOfLineTest other = ⊥

@@ -2,6 +2,7 @@
 #![tactic(auto)]
 
 mod input;
+mod judge;
 mod report;
 mod status;
 mod top;

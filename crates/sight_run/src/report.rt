@@ -92,20 +92,20 @@ fn bound_name(bound: Bound) -> &'static str
 
 // Each `push` below adds the words of a fault to a line.
 
-fn push_text(line: &mut String, text: &str) -> Result<(), AllocError>
+pub fn push_text(line: &mut String, text: &str) -> Result<(), AllocError>
     ensures { OnOk result (string_bytes line.new ≡ string_bytes line.old ++ text.now) }
 {
     line.push_str(text)
 }
 
-fn push_number(alloc: Global, line: &mut String, n: u64) -> Result<(), AllocError>
+pub fn push_number(alloc: Global, line: &mut String, n: u64) -> Result<(), AllocError>
     ensures { OnOk result (string_bytes line.new ≡ string_bytes line.old ++ decimal n) }
 {
     line.push_str(&n.to_string(alloc)?)
 }
 
 // A text, a number, and the end of the line.
-fn push_last(alloc: Global, line: &mut String, text: &str, n: u64) -> Result<(), AllocError>
+pub fn push_last(alloc: Global, line: &mut String, text: &str, n: u64) -> Result<(), AllocError>
     ensures { OnOk result (string_bytes line.new ≡ string_bytes line.old ++ (text.now ++ decimal n ++ codes "\n")) }
 {
     line.push_str(text)?;
@@ -114,7 +114,13 @@ fn push_last(alloc: Global, line: &mut String, text: &str, n: u64) -> Result<(),
 }
 
 // A text, two numbers, and the end of the line.
-fn push_two(alloc: Global, line: &mut String, text: &str, i: u16, j: u16) -> Result<(), AllocError>
+pub fn push_two(
+    alloc: Global,
+    line: &mut String,
+    text: &str,
+    i: u16,
+    j: u16,
+) -> Result<(), AllocError>
     ensures { OnOk result (string_bytes line.new ≡ string_bytes line.old ++ (text.now ++ two i j ++ codes "\n")) }
 {
     line.push_str(text)?;

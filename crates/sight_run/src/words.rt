@@ -1,83 +1,57 @@
 //! Reading the words of an order.
 
-ghost use Rattle.std.specs.Prelude.{◌≡◌, string_bytes, map, IfErr};
-ghost use Rattle.std.specs.List.{list_all};
-ghost use Rattle.std.specs.Option.{option_map};
-ghost use Rattle.sight_run.specs.Words.{is_name, is_map, is_map_char, of_four, order_of, asked_of, has_twice, file_names};
-ghost use Rattle.sight_run.specs.Views.{asked, IsOfWords};
+ghost use Rattle.std.specs.Prelude.{◌≡◌, string_bytes, map, IfErr, IfOk, IsTrue};
 ghost use Rattle.sight_run.specs.Answer.{Makes};
+ghost use Rattle.sight_run.specs.Views.{IsOfWords};
+ghost use Rattle.sight_run.specs.Words.{asked_of, checked, file_names, has_twice, is_built};
 
 use crate::status::Status;
+use order_words::{Order, read_words};
+use sight_names::OrderFault;
+use std::alloc::Global;
 
-/// The words of the order `zero`.
-#[derive(Clone, Copy, Debug)]
-pub struct ZeroOrder<'a> {
-    pub wad: &'a str,
-    pub map: &'a str,
-    pub out: &'a str,
+fn has_built_verb(order: &Order) -> bool
+    ensures { result ≡ is_built order.now }
+{
+    matches!(
+        order,
+        Order::Zero { .. } | Order::Ray { .. } | Order::Audit { .. }
+    )
 }
 
-fn is_file_name(word: &str) -> bool
-    ensures { result ≡ is_name word.now }
+fn has_same_name(order: &Order) -> bool
+    ensures { result ≡ has_twice (file_names order.now) }
 {
-    match word.as_bytes() {
-        [] => false,
-        [c, ..] => *c != b'-',
+    match order {
+        Order::Zero { wad, out, .. } => wad.as_str() == out.as_str(),
+        _ => false,
     }
 }
 
-fn is_map_text(bytes: &[u8]) -> bool
-    ensures { result ≡ list_all is_map_char bytes.now }
-{
-    bytes.iter().all(|c| 33 <= *c && *c <= 126)
-}
-
-fn is_map_name(word: &str) -> bool
-    ensures { result ≡ is_map word.now }
-{
-    is_file_name(word) && word.len() <= 8 && is_map_text(word.as_bytes())
-}
-
-fn order_of_four<'a>(verb: &str, wad: &'a str, map: &'a str, last: &'a str) -> Option<ZeroOrder<'a>>
-    ensures { option_map asked result ≡ of_four verb.now wad.now map.now last.now }
-{
-    if verb == "zero" && is_file_name(wad) && is_map_name(map) && is_file_name(last) {
-        return Some(ZeroOrder {
-            wad,
-            map,
-            out: last,
-        });
-    }
-    None
-}
-
-fn order_of(words: &[String]) -> Option<ZeroOrder<'_>>
-    ensures { option_map asked result ≡ order_of (map string_bytes words.now) }
-{
-    match words {
-        [verb, wad, map, last] => {
-            order_of_four(verb.as_str(), wad.as_str(), map.as_str(), last.as_str())
-        }
-        _ => None,
-    }
-}
-
-fn has_same_name(order: &ZeroOrder) -> bool
-    ensures { result ≡ has_twice (file_names (asked order.now)) }
-{
-    order.wad == order.out
-}
-
-/// The order that the words are, `Usage` where they are none, or `SameName` where two of its files have one name.
-pub fn read_order(words: &[String]) -> Result<ZeroOrder<'_>, Status>
-    ensures order { Makes asked result (asked_of (map string_bytes words.now)) }
+fn check_names(order: Order) -> Result<Order, Status>
+    ensures order { result ≡ checked order }
+    ensures built { IfOk result (λ order. IsTrue (is_built order)) }
     ensures refusals { IfErr result IsOfWords }
 {
-    let Some(order) = order_of(words) else {
+    if !has_built_verb(&order) {
         return Err(Status::Usage);
-    };
+    }
     if has_same_name(&order) {
         return Err(Status::SameName);
     }
     Ok(order)
+}
+
+/// The order that the words are, `Usage` where they are none, or `SameName` where two of its files have one name.
+#[tactic(auto, unfolding(crate::specs::Words::asked_of))]
+pub fn read_order(alloc: Global, words: &[String]) -> Result<Order, Status>
+    ensures built { IfOk result (λ order. IsTrue (is_built order)) }
+    ensures order { Makes (λ order. order) result (asked_of (map string_bytes words.now)) }
+    ensures refusals { IfErr result IsOfWords }
+{
+    match read_words(alloc, words) {
+        Ok(order) => check_names(order),
+        Err(OrderFault::Usage) => Err(Status::Usage),
+        Err(OrderFault::Memory) => Err(Status::Memory),
+    }
 }
