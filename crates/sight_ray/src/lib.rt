@@ -1,11 +1,11 @@
 //! The exact test of a given ray: whether it is a sight ray, and if not, the first condition that fails.
 #![tactic(auto)]
 
-ghost use Rattle.std.specs.Prelude.{◌≡◌, ℕ, pos, neg_ℤ, IsTrue, MatchOption, MatchResult};
+ghost use Rattle.std.specs.Prelude.{◌≡◌, ℕ, neg_ℤ, MatchResult};
 ghost use Rattle.sight_names.specs.Map.{Map, map_of, Names};
 ghost use Rattle.sight_names.specs.Ray.{IsInRange, IsSightRay};
-ghost use Rattle.sight_ray.specs.Gate.{IsGateOf, IsForward};
-ghost use Rattle.sight_ray.specs.RayFault.{IsRayFault, IsSplit, HasNames, Leaves, Arrives};
+ghost use Rattle.sight_ray.specs.Gate.{IsGateOf};
+ghost use Rattle.sight_ray.specs.RayFault.{IsRayFault, HasNames, Leaves, Arrives};
 
 mod gate;
 
