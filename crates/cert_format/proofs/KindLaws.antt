@@ -1,21 +1,18 @@
 -- Each kind of record: what is read is spelled so and in range, and what is spelled so and in range is read.
-use Rattle.std.proofs.Common.{◌≡◌, ◌≢◌, ℕ, zero, suc, ◌+◌, ◌-◌, ◌^◌, ◌<◌, ◌≤◌, Bool, true, false, cond, ltb, ◌&&◌, ◌||◌, ◌==◌, List, [], ◌∷◌, ◌++◌, length, Option, Some, None, Result, Ok, Err, refl, sym, ap, subst, ◌∙◌, append_assoc, arith, inl, inr, ◌⊎◌, ℤ, pos, negsuc}
+use Rattle.std.proofs.Common.{◌≡◌, ◌≢◌, ℕ, ◌^◌, ◌<◌, true, ltb, ◌&&◌, List, ◌++◌, Option, Some, None, Ok, refl, sym, ap, subst, ◌∙◌, append_assoc, arith, inl, inr, ℤ, pos, negsuc}
 use Rattle.std.specs.Prelude.{FitsSigned}
-use Rattle.std.specs.Int.{w16, w32, w64, to_le_bytes, cast_signed, cast_unsigned}
+use Rattle.std.specs.Int.{w32, w64, to_le_bytes, cast_unsigned}
 use Rattle.std.proofs.lemmas.Bool.{ltb-true, lt-ltb, eqb-true, eq-eqb, and_parts, and_from, or_cases, or_left, or_right}
 use Rattle.std.proofs.lemmas.Int.{of_z-to_z}
 use Rattle.std.proofs.Math.Facts.{sfits_to_z}
-use Rattle.sight_names.specs.declared.faults.CertFault.{CertFault}
-use Rattle.sight_names.specs.declared.faults.CertFault.TheVariants as faults
 use Rattle.sight_names.specs.declared.names.Pair.{Pair}
 use Rattle.sight_names.specs.declared.names.PairRay.{PairRay}
 use Rattle.sight_names.specs.declared.names.Ray.{Ray}
-use Rattle.sight_names.specs.declared.names.Triangle.{Triangle}
 use Rattle.sight_names.specs.Mesh.{IsTriangle, IsAbove}
 use Rattle.cert_format.specs.declared.cert.Sizes.{Sizes}
 use Rattle.cert_format.specs.declared.cert.Labelled.{Labelled}
 use Rattle.cert_format.specs.Grammar.{u16, PairBefore, IsPairInRange, IsRayInRange, FitsRay, side_number, triangle_bytes, line_bytes, ray_bytes, pair_bytes}
-use Rattle.cert_format.specs.Reading.{◌>>=◌, passed, triangle_after, pair_after, pair_of, triangle_at, sight_line_at, ray_at, pair_at, signed_at}
+use Rattle.cert_format.specs.Reading.{triangle_after, pair_after, pair_of, triangle_at, sight_line_at, ray_at, pair_at, signed_at}
 use Rattle.cert_format.proofs.FieldLaws.{IsBytes, bind_ok, passed_ok, ok_is, Takes, Takes-then, wide32, wide64, below_takes, below_again, apart_takes, apart_again, side_takes, side_again, signed_takes, signed_again}
 
 -- ---- triangles

@@ -1,6 +1,6 @@
 -- Records one behind the other, whatever their kind: what is read is spelled so and in order, and what is spelled so
 -- and in order is read.
-use Rattle.std.proofs.Common.{◌≡◌, ℕ, zero, suc, ◌<◌, List, [], ◌∷◌, ◌++◌, length, slice_get, Some, Result, Ok, Err, refl, sym, ap, subst, ◌∙◌, append_assoc, arith, zero-lt-suc, suc-le-suc, le_of_suc-le-suc}
+use Rattle.std.proofs.Common.{◌≡◌, ℕ, zero, suc, List, [], ◌∷◌, ◌++◌, length, slice_get, Some, Result, Ok, refl, ap, subst, ◌∙◌, append_assoc, arith, zero-lt-suc, suc-le-suc, le_of_suc-le-suc}
 use Rattle.std.specs.List.{flat_map, AllByRecursion}
 use Rattle.std.proofs.lemmas.List.Concat.{flat_map-cons}
 use Rattle.sight_names.specs.declared.faults.CertFault.{CertFault}

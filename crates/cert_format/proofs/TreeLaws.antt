@@ -1,18 +1,16 @@
 -- Nodes and trees: what is read is spelled so and in order, and what is spelled so and in order is read.
-use Rattle.std.proofs.Common.{◌≡◌, ℕ, zero, suc, ◌^◌, ◌<◌, ◌≤◌, Bool, true, false, cond, ltb, eqb, ◌==◌, List, [], ◌∷◌, ◌++◌, length, take, drop, slice_get, Option, Some, None, Result, Ok, Err, refl, sym, ap, subst, ◌∙◌, append_assoc, arith, inl, inr, lit<, lit≤}
+use Rattle.std.proofs.Common.{◌≡◌, ℕ, zero, suc, ◌^◌, ◌<◌, Bool, true, false, cond, eqb, List, [], ◌∷◌, ◌++◌, length, Option, Some, None, Result, Ok, Err, refl, sym, ap, subst, ◌∙◌, append_assoc, arith, lit<, lit≤}
 use Rattle.std.specs.List.{flat_map, AllByRecursion}
-use Rattle.std.specs.Int.{w16, w64, to_le_bytes}
-use Rattle.std.proofs.lemmas.Bool.{ltb-true, lt-ltb, eqb-true, eq-eqb, cases_Bool}
+use Rattle.std.specs.Int.{w16, w64}
+use Rattle.std.proofs.lemmas.Bool.{ltb-true, lt-ltb, eqb-true}
 use Rattle.sight_names.specs.declared.faults.CertFault.{CertFault}
 use Rattle.sight_names.specs.declared.faults.CertFault.TheVariants as faults
-use Rattle.block_evidence.specs.declared.Evidence.{Evidence}
 use Rattle.block_evidence.specs.declared.Node.{Node}
 use Rattle.block_evidence.specs.declared.Node.TheVariants.{Open, Blocked}
 use Rattle.block_evidence.specs.declared.Tree.{Tree}
-use Rattle.block_evidence.specs.Stuck.{end_codes}
 use Rattle.cert_format.specs.declared.cert.Sizes.{Sizes}
-use Rattle.cert_format.specs.Grammar.{Ascends, u16, u64, IsEvidenceInOrder, IsNodeInOrder, IsTreeInRange, FitsNode, node_bytes, tree_bytes}
-use Rattle.cert_format.specs.Reading.{◌>>=◌, begins_at, passed, number_at, comes_after, end_at, two_ends_at, three_ends_at, four_ends_at, node_at, nodes_at, records_at, tree_at}
+use Rattle.cert_format.specs.Grammar.{Ascends, u16, u64, IsNodeInOrder, FitsNode, node_bytes, tree_bytes}
+use Rattle.cert_format.specs.Reading.{begins_at, comes_after, end_at, two_ends_at, three_ends_at, four_ends_at, node_at, nodes_at, tree_at}
 use Rattle.cert_format.proofs.FieldLaws.{IsBytes, bind_ok, passed_ok, ok_is, Takes, Takes-then, wide16, wide64, number_takes, number_again, below_takes, below_again}
 use Rattle.cert_format.proofs.RecordLaws.{AreTaken, records_take, records_again, IsChain, ascends_of_chain, chain_of_ascends}
 

@@ -1,8 +1,8 @@
 -- The two laws of the grammar: what is read is spelled so, and what is spelled so is read.
-use Rattle.std.proofs.Common.{◌≡◌, ℕ, zero, suc, ◌^◌, ◌<◌, ◌≤◌, ltb, eqb, not, List, [], ◌∷◌, ◌++◌, length, map, slice_get, Option, Some, None, Result, Ok, Err, refl, sym, ap, subst, ◌∙◌, append_assoc, arith, inl, inr, codes, ◌-◌}
+use Rattle.std.proofs.Common.{◌≡◌, ℕ, zero, suc, ◌^◌, ◌<◌, ◌≤◌, eqb, List, [], ◌∷◌, ◌++◌, length, map, slice_get, Option, Some, None, Result, Ok, refl, sym, ap, subst, ◌∙◌, append_assoc, arith, inl, inr, codes, ◌-◌}
 use Rattle.std.specs.List.{flat_map, AllByRecursion}
-use Rattle.std.specs.Int.{w16, w32, to_le_bytes}
-use Rattle.std.proofs.lemmas.Bool.{ltb-false, le-ltb, eqb-true, eq-eqb, not-true, not_from_false}
+use Rattle.std.specs.Int.{w16, w32}
+use Rattle.std.proofs.lemmas.Bool.{ltb-false, le-ltb, eqb-true, not-true}
 use Rattle.std.proofs.lemmas.List.{append-nil, nil_from_length}
 use Rattle.sight_names.specs.declared.faults.CertFault.{CertFault}
 use Rattle.sight_names.specs.declared.faults.CertFault.TheVariants as faults
@@ -16,11 +16,11 @@ use Rattle.cert_format.specs.declared.cert.Labelled.{Labelled}
 use Rattle.cert_format.specs.Parts.{CertParts}
 use Rattle.cert_format.specs.Grammar.{AreSmall, Ascends, PairBefore, IsPairInRange, IsRayInRange, IsTreeInRange, IsInOrder, FitsRay, FitsNode, FitsFields, Spells, u16, u32, triangle_bytes, ray_bytes, pair_bytes, tree_bytes, front_bytes, header_bytes, spelling}
 use Rattle.cert_format.specs.Grammar as fields
-use Rattle.cert_format.specs.Reading.{◌>>=◌, passed, magic, number_at, magic_at, version_at, front_at, triangle_count_at, Counts, counts_at, triangle_at, ray_at, pair_at, tree_at, triangles_at, rays_at, pairs_at, trees_at, reading}
+use Rattle.cert_format.specs.Reading.{◌>>=◌, passed, magic, magic_at, version_at, front_at, triangle_count_at, Counts, counts_at, triangle_at, ray_at, pair_at, tree_at, triangles_at, rays_at, pairs_at, trees_at, reading}
 use Rattle.cert_format.proofs.FieldLaws.{IsBytes, bind_ok, passed_ok, ok_is, Takes, Takes-then, wide16, wide32, number_takes, number_again, known_takes, known_again}
-use Rattle.cert_format.proofs.RecordLaws.{AreTaken, records_take, records_again, IsChain, ascends_of_chain, chain_of_ascends}
+use Rattle.cert_format.proofs.RecordLaws.{records_take, records_again, ascends_of_chain, chain_of_ascends}
 use Rattle.cert_format.proofs.KindLaws.{FitsLabelled, TriangleAfter, triangle_takes, triangle_again, PairAfter, pair_takes, pair_again, FitsPairRay, RayAfter, ray_takes, ray_again}
-use Rattle.cert_format.proofs.TreeLaws.{FitsTree, TreeAfter, tree_takes, tree_again, in_orders, all_fit, fit_in_order, FitsInOrder}
+use Rattle.cert_format.proofs.TreeLaws.{FitsTree, TreeAfter, tree_takes, tree_again, in_orders, all_fit, fit_in_order}
 use Rattle.cert_format.proofs.CountLaws.{few_pairs, few_rays, few_trees}
 
 -- ---- the header

@@ -1,4 +1,4 @@
-use Rattle.std.proofs.Common.{◌≡◌, ◌-◌, ℕ, Some, None}
+use Rattle.std.proofs.Common.{◌≡◌, ◌-◌, ℕ}
 use Rattle.cert_format.specs.Reading.{records_at, node_at, nodes_at}
 use Rattle.cert_format.proofs.Loop.{with_front}
 use Rattle.cert_format.proofs.records.nodes_of.Given as goal

@@ -1,4 +1,4 @@
-use Rattle.std.proofs.Common.{◌≡◌, ℕ, ◌^◌, ◌<◌, List, [], ◌∷◌, ◌++◌, length, ap, ◌∙◌, refl, subst}
+use Rattle.std.proofs.Common.{◌≡◌, ℕ, List, [], ◌∷◌, ◌++◌, length, ◌∙◌, refl, subst}
 use Rattle.std.specs.List.{flat_map, AllByRecursion}
 use Rattle.sight_names.specs.declared.names.Pair.{Pair}
 use Rattle.sight_names.specs.declared.names.PairRay.{PairRay}
@@ -6,7 +6,7 @@ use Rattle.block_evidence.specs.declared.Tree.{Tree}
 use Rattle.cert_format.specs.declared.cert.Sizes.{Sizes}
 use Rattle.cert_format.specs.declared.cert.Labelled.{Labelled}
 use Rattle.cert_format.specs.Parts.{CertParts}
-use Rattle.cert_format.specs.Grammar.{IsRayInRange, IsTreeInRange, IsNodeInOrder, HasShortSides, FitsPairRay, FitsTree, Spells, spelling, front_bytes, count_bytes, triangle_bytes, ray_bytes, pair_bytes, tree_bytes}
+use Rattle.cert_format.specs.Grammar.{IsRayInRange, IsTreeInRange, IsNodeInOrder, HasShortSides, FitsPairRay, FitsTree, spelling, front_bytes, count_bytes, triangle_bytes, ray_bytes, pair_bytes, tree_bytes}
 use Rattle.cert_format.proofs.CountLaws.{few_rays, few_pairs, few_trees}
 use Rattle.cert_format.proofs.Steps.{six_steps}
 use Rattle.cert_format.proofs.writing.print.Goals as goal
