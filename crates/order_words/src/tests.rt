@@ -15,59 +15,39 @@ fn words(alloc: Global, line: &str) -> Result<Vec<String>, AllocError> {
 }
 
 #[test]
-fn orders(rt: HostRuntime) -> Result<(), Fail> {
+fn a_table_of_zeros(rt: HostRuntime) -> Result<(), Fail> {
     let alloc = rt.alloc();
-    match read_words(alloc, &words(alloc, "zero a map01 b")?)? {
-        Order::Zero { wad, map, out } => {
-            assert_eq!(rt; wad.as_str(), "a");
-            assert_eq!(rt; map.as_str(), "MAP01");
-            assert_eq!(rt; out.as_str(), "b");
-        }
-        _ => return Err("no zero".into()),
-    }
-    match read_words(alloc, &words(alloc, "ray a MAP01 2R,05L,0,1,-32")?)? {
-        Order::Ray { ray, .. } => {
-            assert_eq!(rt;
-                ray.first,
-                Side {
-                    line: 2,
-                    left: false
-                }
-            );
-            assert_eq!(rt;
-                ray.last,
-                Side {
-                    line: 5,
-                    left: true
-                }
-            );
-            assert!(rt; ray.a == 0 && ray.b == 1 && ray.c == -32);
-        }
-        _ => return Err("no ray".into()),
-    }
-    match read_words(
-        alloc,
-        &words(alloc, "build a MAP01 --budget full b --cert=c")?,
-    )? {
-        Order::Build {
-            out,
-            cert,
-            budget,
-            ..
-        } => {
-            assert_eq!(rt; out.as_str(), "b");
-            assert!(rt; cert.is_some());
-            assert_eq!(rt; budget, Budget::Full);
-        }
-        _ => return Err("no build".into()),
-    }
-    match read_words(alloc, &words(alloc, "grid 02 --workers 64")?)? {
-        Order::Grid { n, workers, budget } => {
-            assert!(rt; n == 2 && workers == 64);
-            assert_eq!(rt; budget, Budget::Of(16_384));
-        }
-        _ => return Err("no grid".into()),
-    }
+    let Order::Zero { wad, map, out } = read_words(alloc, &words(alloc, "zero a map01 b")?)? else {
+        return Err("no zero".into());
+    };
+    assert!(rt; wad.as_str() == "a" && map.as_str() == "MAP01" && out.as_str() == "b");
+    Ok(())
+}
+
+#[test]
+fn a_ray(rt: HostRuntime) -> Result<(), Fail> {
+    let alloc = rt.alloc();
+    let Order::Ray { ray, .. } = read_words(alloc, &words(alloc, "ray a MAP01 2R,05L,0,1,-32")?)?
+    else {
+        return Err("no ray".into());
+    };
+    let last = Side {
+        line: 5,
+        left: true,
+    };
+    assert!(rt; ray.first.line == 2 && !ray.first.left && ray.last == last);
+    assert!(rt; ray.a == 0 && ray.b == 1 && ray.c == -32);
+    Ok(())
+}
+
+#[test]
+fn a_build(rt: HostRuntime) -> Result<(), Fail> {
+    let alloc = rt.alloc();
+    let line = "build a MAP01 --budget full b --cert=c";
+    let Order::Build { cert, budget, .. } = read_words(alloc, &words(alloc, line)?)? else {
+        return Err("no build".into());
+    };
+    assert!(rt; cert.is_some() && budget == Budget::Full);
     Ok(())
 }
 
