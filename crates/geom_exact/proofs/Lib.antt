@@ -3,3 +3,5 @@ pub mod RelationLemmas
 pub mod Uniqueness
 pub mod CrossingLemmas
 pub mod InsideLemmas
+pub mod Meeting
+pub mod Filters

@@ -305,3 +305,138 @@ fn is_left(a: Pt, b: Pt, p: Pt) -> bool
 {
     turn(a, b, p) > 0
 }
+
+#[cfg(test)]
+mod tests {
+    use super::*;
+    use sight_names::Side;
+
+    const LOW: i16 = -32768;
+
+    const HIGH: i16 = 32767;
+
+    fn at(x: i16, y: i16) -> Pt {
+        Pt { x, y }
+    }
+
+    fn ray(a: i32, b: i32, c: i64) -> Ray {
+        let side = Side {
+            line: 0,
+            left: false,
+        };
+        Ray {
+            first: side,
+            last: side,
+            a,
+            b,
+            c,
+        }
+    }
+
+    /// The relation of two segments by coordinates, None where one is a point.
+    fn relate(a: &[i16; 8]) -> Option<Relation> {
+        let p = at(a[0], a[1]);
+        let q = at(a[2], a[3]);
+        let r = at(a[4], a[5]);
+        let s = at(a[6], a[7]);
+        if p == q || r == s {
+            return None;
+        }
+        Some(seg_relation(p, q, r, s))
+    }
+
+    #[test]
+    fn segments_at_the_ends_of_the_range(rt: HostRuntime) {
+        let table = [
+            ([0, 0, 0, 64, 0, 32, 32, 32], Relation::Touch),
+            ([0, 0, 64, 0, 32, -32, 32, 32], Relation::Cross),
+            ([0, 0, 0, 64, 0, 0, 0, 64], Relation::Overlap),
+            (
+                [LOW, LOW, HIGH, HIGH, LOW, HIGH, HIGH, LOW],
+                Relation::Cross,
+            ),
+            (
+                [LOW, LOW, HIGH, HIGH, LOW, -32767, HIGH, HIGH],
+                Relation::Ends,
+            ),
+            (
+                [LOW, LOW, HIGH, HIGH, -32767, -32767, 0, 0],
+                Relation::Overlap,
+            ),
+            (
+                [LOW, LOW, HIGH, 32766, LOW, -32767, HIGH, HIGH],
+                Relation::Apart,
+            ),
+            ([LOW, 0, HIGH, 0, 0, HIGH, 0, 0], Relation::Touch),
+            ([LOW, LOW, 0, 0, 0, 0, HIGH, HIGH], Relation::Ends),
+            ([LOW, LOW, -1, -1, 0, 0, HIGH, HIGH], Relation::Apart),
+        ];
+        for (ends, relation) in table.iter() {
+            assert_eq!(rt; relate(ends), Some(*relation));
+        }
+        assert_eq!(rt;
+            turn(at(LOW, LOW), at(HIGH, LOW), at(HIGH, HIGH)),
+            4294836225
+        );
+        assert_eq!(rt;
+            turn(at(LOW, LOW), at(HIGH, HIGH), at(HIGH, LOW)),
+            -4294836225
+        );
+    }
+
+    #[test]
+    fn triangles_and_rays(rt: HostRuntime) {
+        let corner = [at(LOW, LOW), at(HIGH, LOW), at(LOW, HIGH)];
+        if turn(corner[0], corner[1], corner[2]) > 0 {
+            assert!(rt; in_triangle(corner[0], corner[1], corner[2], at(-1, -1)));
+            assert!(rt; !in_triangle(corner[0], corner[1], corner[2], at(-1, 0)));
+            assert!(rt; !in_triangle(corner[0], corner[1], corner[2], at(0, LOW)));
+        }
+        let steep = ray(1048576, -1048576, 137438953472);
+        assert!(rt; in_range(&steep));
+        assert!(rt; !in_range(&ray(1048577, 0, 0)));
+        assert!(rt; !in_range(&ray(0, -1048577, 0)));
+        assert!(rt; !in_range(&ray(0, 0, 137438953473)));
+        if in_range(&steep) {
+            assert_eq!(rt; side_of(&steep, at(HIGH, LOW)), 206157381632);
+        }
+        assert_eq!(rt;
+            order_of([0, 0, 0, 64, 8, -64, 8, 64]),
+            Some(Ordering::Less)
+        );
+        assert_eq!(rt;
+            order_of([8, -64, 8, 64, 0, 0, 0, 64]),
+            Some(Ordering::Greater)
+        );
+        assert_eq!(rt;
+            order_of([0, 0, 64, 64, 64, 0, 0, 64]),
+            Some(Ordering::Equal)
+        );
+    }
+
+    /// Whether the ends of the segment are strictly on different sides of the ray.
+    fn splits(ray: &Ray, p: Pt, q: Pt) -> bool
+        requires { IsInRange ray.now }
+        ensures { IsTrue result ↔ AreOnTwoSides (side_value ray.now p) (side_value ray.now q) }
+    {
+        let first = side_of(ray, p);
+        let second = side_of(ray, q);
+        (first > 0 && second < 0) || (first < 0 && second > 0)
+    }
+
+    /// The order in which the ray along y = 32 in direction (1, 0) crosses two segments, None where it splits not both.
+    fn order_of(a: [i16; 8]) -> Option<Ordering> {
+        let level = ray(0, 1, -32);
+        if !in_range(&level) {
+            return None;
+        }
+        let l1 = at(a[0], a[1]);
+        let l2 = at(a[2], a[3]);
+        let m1 = at(a[4], a[5]);
+        let m2 = at(a[6], a[7]);
+        if !splits(&level, l1, l2) || !splits(&level, m1, m2) {
+            return None;
+        }
+        Some(cross_order(&level, l1, l2, m1, m2))
+    }
+}

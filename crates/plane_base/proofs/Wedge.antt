@@ -77,3 +77,13 @@ base_blocks a p q r s y z U ea up uq oy oz ey ez uy uz my mz =
       on_within r s y z w oy oz (_, _, _, c.1),
       record { l = det q a w; m = det a p w; n = det p q a; comb = comb_of_bary p q a w ea e0 (omega (arith, ints)) (omega (arith, ints)); left = m0; right = lw },
     )
+
+pub inside_swap : (p q y : V) → Inside p q y → Inside q p y
+inside_swap p q y h = record {
+  l = h.m;
+  m = h.l;
+  n = h.n;
+  left = h.right;
+  right = h.left;
+  comb = record { left = h.comb.right; right = h.comb.left; scale = h.comb.scale; x = let e = h.comb.x in omega (arith, ints); y = let e = h.comb.y in omega (arith, ints); d = let e = h.comb.d in omega (arith, ints) };
+}

@@ -1,0 +1,9 @@
+pub mod UCert
+pub mod Loop
+pub mod FieldLaws
+pub mod RecordLaws
+pub mod KindLaws
+pub mod TreeLaws
+pub mod CountLaws
+pub mod WholeLaws
+pub mod Steps

@@ -1,0 +1,4 @@
+pub mod Parts
+pub mod Grammar
+pub mod Reading
+pub mod Accepted

@@ -1,0 +1,12 @@
+//! The laws of the grammar.
+
+ghost use Rattle.std.specs.Prelude.{◌≡◌, ℕ, List};
+ghost use Rattle.cert_format.specs.declared.cert.Sizes.{Sizes};
+ghost use Rattle.cert_format.specs.Parts.{CertParts};
+ghost use Rattle.cert_format.specs.Grammar.{Spells};
+
+/// No bytes spell two certificates, and no certificate has two spellings.
+pub fn one_spelling()
+    ensures certificate { (sizes : Sizes) (bytes : List ℕ) (c d : CertParts) → Spells sizes bytes c → Spells sizes bytes d → c ≡ d }
+    ensures bytes { (sizes other : Sizes) (bytes more : List ℕ) (c : CertParts) → Spells sizes bytes c → Spells other more c → bytes ≡ more }
+{}

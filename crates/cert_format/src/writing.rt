@@ -1,0 +1,199 @@
+//! The one spelling of a certificate.
+
+ghost use Rattle.std.specs.Prelude.{◌≡◌, ◌<◌, ◌^◌, ◌++◌, ◌∷◌, [], length, flat_map, OnOk, IfOk};
+ghost use Rattle.std.specs.List.{AllByRecursion};
+ghost use Rattle.block_evidence.specs.declared.Tree.{Tree};
+ghost use Rattle.sight_names.specs.declared.names.PairRay.{PairRay};
+ghost use Rattle.block_evidence.specs.declared.Node.TheVariants.{Blocked};
+ghost use Rattle.cert_format.specs.Grammar.{AreSmall, Spells, IsEvidenceInOrder, IsNodeInOrder, HasShortSides, FitsRay, FitsPairRay, FitsNode, u16, line_bytes, FitsTree, side_number, triangle_bytes, ray_bytes, pair_bytes, node_bytes, tree_bytes, front_bytes, count_bytes};
+
+use crate::cert::{Cert, Counts, Labelled, Sizes};
+use block_evidence::{Evidence, Node, Tree};
+use sight_names::{Memory, Pair, PairRay, Ray, Side};
+use std::alloc::Global;
+
+fn number_of(side: Side) -> u16
+    requires { side.line < 2 ^ 15 }
+    ensures { result ≡ side_number side }
+{
+    if side.left {
+        side.line + 32_768
+    } else {
+        side.line
+    }
+}
+
+fn put_triangle(out: &mut Vec<u8>, labelled: &Labelled) -> Result<(), Memory>
+    ensures { OnOk result (out.new.items ≡ out.old.items ++ triangle_bytes labelled.now) }
+{
+    out.extend_from_slice(&labelled.triangle.p.to_le_bytes())?;
+    out.extend_from_slice(&labelled.triangle.q.to_le_bytes())?;
+    out.extend_from_slice(&labelled.triangle.r.to_le_bytes())?;
+    out.extend_from_slice(&labelled.sector.to_le_bytes())?;
+    Ok(())
+}
+
+fn put_pair(out: &mut Vec<u8>, pair: &Pair) -> Result<(), Memory>
+    ensures { OnOk result (out.new.items ≡ out.old.items ++ pair_bytes pair.now) }
+{
+    out.extend_from_slice(&pair.a.to_le_bytes())?;
+    out.extend_from_slice(&pair.b.to_le_bytes())?;
+    Ok(())
+}
+
+fn put_numbers(out: &mut Vec<u8>, numbers: &[u16]) -> Result<(), Memory>
+    ensures { OnOk result (out.new.items ≡ out.old.items ++ flat_map u16 numbers.now) }
+{
+    for number in numbers {
+        out.extend_from_slice(&number.to_le_bytes())?;
+    }
+    Ok(())
+}
+
+fn put_sight_line(out: &mut Vec<u8>, ray: &Ray) -> Result<(), Memory>
+    requires { HasShortSides ray.now }
+    ensures spelled { OnOk result (out.new.items ≡ out.old.items ++ line_bytes ray.now) }
+    ensures fits { OnOk result (FitsRay ray.now) }
+{
+    put_numbers(out, &[number_of(ray.first), number_of(ray.last)])?;
+    out.extend_from_slice(&ray.a.to_le_bytes())?;
+    out.extend_from_slice(&ray.b.to_le_bytes())?;
+    out.extend_from_slice(&ray.c.to_le_bytes())?;
+    Ok(())
+}
+
+fn put_ray(out: &mut Vec<u8>, ray: &PairRay) -> Result<(), Memory>
+    requires { HasShortSides ray.now.ray }
+    ensures spelled { OnOk result (out.new.items ≡ out.old.items ++ ray_bytes ray.now) }
+    ensures fits { OnOk result (FitsPairRay ray.now) }
+{
+    put_pair(out, &ray.pair)?;
+    put_sight_line(out, &ray.ray)
+}
+
+fn put_ends(out: &mut Vec<u8>, evidence: &Evidence) -> Result<(), Memory>
+    requires { IsEvidenceInOrder evidence.now }
+    ensures spelled { OnOk result (out.new.items ≡ out.old.items ++ node_bytes (Blocked evidence.now)) }
+    ensures fits { OnOk result (FitsNode (Blocked evidence.now)) }
+{
+    let [a, b, c, d] = evidence.ends;
+    let ends = [a, b, c, d];
+    out.push(evidence.count)?;
+    put_numbers(out, &ends[..evidence.count as usize])
+}
+
+fn put_node(out: &mut Vec<u8>, node: &Node) -> Result<(), Memory>
+    requires { IsNodeInOrder node.now }
+    ensures spelled { OnOk result (out.new.items ≡ out.old.items ++ node_bytes node.now) }
+    ensures fits { OnOk result (FitsNode node.now) }
+{
+    match node {
+        Node::Open => {
+            out.push(0)?;
+            Ok(())
+        }
+        Node::Blocked(evidence) => put_ends(out, evidence),
+    }
+}
+
+fn put_nodes(out: &mut Vec<u8>, nodes: &[Node]) -> Result<(), Memory>
+    requires { AllByRecursion IsNodeInOrder nodes.now }
+    ensures spelled { OnOk result (out.new.items ≡ out.old.items ++ flat_map node_bytes nodes.now) }
+    ensures fits { OnOk result (AllByRecursion FitsNode nodes.now) }
+{
+    for node in nodes {
+        put_node(out, node)?;
+    }
+    Ok(())
+}
+
+fn put_tree(out: &mut Vec<u8>, tree: &Tree) -> Result<(), Memory>
+    requires { AllByRecursion IsNodeInOrder tree.now.nodes }
+    ensures spelled { OnOk result (out.new.items ≡ out.old.items ++ tree_bytes tree.now) }
+    ensures fits { OnOk result (FitsTree tree.now) }
+{
+    let nodes = tree.nodes.as_slice();
+    out.extend_from_slice(&tree.source.to_le_bytes())?;
+    out.extend_from_slice(&(nodes.len() as u64).to_le_bytes())?;
+    put_nodes(out, nodes)
+}
+
+fn put_triangles(out: &mut Vec<u8>, triangles: &[Labelled]) -> Result<(), Memory>
+    ensures { OnOk result (out.new.items ≡ out.old.items ++ flat_map triangle_bytes triangles.now) }
+{
+    for labelled in triangles {
+        put_triangle(out, labelled)?;
+    }
+    Ok(())
+}
+
+fn put_rays(out: &mut Vec<u8>, rays: &[PairRay]) -> Result<(), Memory>
+    requires { AllByRecursion (λ (r : PairRay). HasShortSides r.ray) rays.now }
+    ensures spelled { OnOk result (out.new.items ≡ out.old.items ++ flat_map ray_bytes rays.now) }
+    ensures fits { OnOk result (AllByRecursion FitsPairRay rays.now) }
+{
+    for ray in rays {
+        put_ray(out, ray)?;
+    }
+    Ok(())
+}
+
+fn put_pairs(out: &mut Vec<u8>, pairs: &[Pair]) -> Result<(), Memory>
+    ensures { OnOk result (out.new.items ≡ out.old.items ++ flat_map pair_bytes pairs.now) }
+{
+    for pair in pairs {
+        put_pair(out, pair)?;
+    }
+    Ok(())
+}
+
+fn put_trees(out: &mut Vec<u8>, trees: &[Tree]) -> Result<(), Memory>
+    requires { AllByRecursion (λ (t : Tree). AllByRecursion IsNodeInOrder t.nodes) trees.now }
+    ensures spelled { OnOk result (out.new.items ≡ out.old.items ++ flat_map tree_bytes trees.now) }
+    ensures fits { OnOk result (AllByRecursion FitsTree trees.now) }
+{
+    for tree in trees {
+        put_tree(out, tree)?;
+    }
+    Ok(())
+}
+
+fn put_counts(out: &mut Vec<u8>, counts: Counts) -> Result<(), Memory>
+    ensures { OnOk result (out.new.items ≡ out.old.items ++ count_bytes counts.triangles counts.rays counts.listed counts.trees) }
+{
+    out.extend_from_slice(&counts.triangles.to_le_bytes())?;
+    out.extend_from_slice(&counts.rays.to_le_bytes())?;
+    out.extend_from_slice(&counts.listed.to_le_bytes())?;
+    out.extend_from_slice(&counts.trees.to_le_bytes())?;
+    Ok(())
+}
+
+fn put_front(out: &mut Vec<u8>, sizes: Sizes) -> Result<(), Memory>
+    ensures spelled { OnOk result (out.new.items ≡ out.old.items ++ front_bytes sizes) }
+    ensures small { AreSmall sizes }
+{
+    out.extend_from_slice(b"DSCT")?;
+    put_numbers(out, &[1, sizes.sectors, sizes.points, sizes.lines])
+}
+
+/// The one spelling of the certificate.
+pub fn print(alloc: Global, cert: &Cert) -> Result<Vec<u8>, Memory>
+    ensures { IfOk result (λ v. Spells cert.now.sizes v.items cert.now) }
+{
+    let (triangles, rays) = (cert.triangles.as_slice(), cert.rays.as_slice());
+    let (listed, trees) = (cert.listed.as_slice(), cert.trees.as_slice());
+    let mut out = Vec::new(alloc);
+    put_front(&mut out, cert.sizes)?;
+    let counts = Counts {
+        triangles: triangles.len() as u32,
+        rays: rays.len() as u32,
+        listed: listed.len() as u32,
+        trees: trees.len() as u32,
+    };
+    put_counts(&mut out, counts)?;
+    put_triangles(&mut out, triangles)?;
+    put_rays(&mut out, rays)?;
+    put_pairs(&mut out, listed)?;
+    put_trees(&mut out, trees)?;
+    Ok(out)
+}

@@ -1,0 +1,95 @@
+-- Ends of a list of portals, and of a longer one.
+use Rattle.std.proofs.Common.{◌≡◌, ℕ, zero, suc, ◌+◌, ◌-◌, ◌<◌, ◌≤◌, List, [], ◌∷◌, ◌++◌, length, Option, Some, None, Bool, true, false, refl, sym, ap, ◌∙◌, arith, ◌⊎◌, inl, inr, subst}
+use Rattle.std.specs.Prelude.{slice_get, option_map, nat_lt, if◌then◌else◌}
+use Rattle.std.proofs.lemmas.Bool.{lt-ltb, le-ltb}
+use Rattle.sight_names.specs.declared.names.Pt.{Pt}
+use Rattle.sight_names.specs.declared.names.EndAt.{EndAt}
+use Rattle.sight_names.specs.declared.names.EndPair.{EndPair}
+use Rattle.sight_names.specs.Splitting.{EndPoints, IsPairOf, end_of}
+
+pub get_append : {X : Type 0} (xs ys : List X) (k : ℕ) (x : X) → slice_get xs k ≡ Some x → slice_get (xs ++ ys) k ≡ Some x
+get_append [] ys k x h = absurd (none_some x h)
+  where
+    none_some : {X : Type 0} (x : X) → ◌≡◌ {A = Option X} None (Some x) → ⊥
+    none_some x h = cc
+get_append (z ∷ xs) ys zero x h = h
+get_append (z ∷ xs) ys (suc k) x h = get_append xs ys k x h
+
+pub get_last : {X : Type 0} (xs : List X) (x : X) → slice_get (xs ++ x ∷ []) (length xs) ≡ Some x
+get_last [] x = refl
+get_last (z ∷ xs) x = get_last xs x
+
+-- an element of a longer list is one of the shorter or the last
+pub get_cases : {X : Type 0} (xs : List X) (y : X) (k : ℕ) (x : X) → slice_get (xs ++ y ∷ []) k ≡ Some x → (slice_get xs k ≡ Some x) ⊎ (y ≡ x)
+get_cases [] y zero x h = inr (some_is y x h)
+  where
+    some_is : {X : Type 0} (y x : X) → Some y ≡ Some x → y ≡ x
+    some_is y x h = cc
+get_cases [] y (suc k) x h = absurd (none_some x h)
+  where
+    none_some : {X : Type 0} (x : X) → ◌≡◌ {A = Option X} None (Some x) → ⊥
+    none_some x h = cc
+get_cases (z ∷ xs) y zero x h = inl h
+get_cases (z ∷ xs) y (suc k) x h = get_cases xs y k x h
+
+end_by : ℕ → Bool → List EndPoints → Option EndAt
+end_by code b es = option_map (λ (p : Pt). record { code = code; at = p }) (if b then option_map (λ (e : EndPoints). e.left) (slice_get es code) else option_map (λ (e : EndPoints). e.right) (slice_get es (code - 32768)))
+
+mapped : (code : ℕ) (f : EndPoints → Pt) (o o' : Option EndPoints) (e : EndAt) → ((q : EndPoints) → o ≡ Some q → o' ≡ Some q) → ◌≡◌ {A = Option EndAt} (option_map (λ (p : Pt). record { code = code; at = p }) (option_map f o)) (Some e) → ◌≡◌ {A = Option EndAt} (option_map (λ (p : Pt). record { code = code; at = p }) (option_map f o')) (Some e)
+mapped code f None o' e h k = absurd (none_some k)
+  where
+    none_some : ◌≡◌ {A = Option EndAt} None (Some e) → ⊥
+    none_some h = cc
+mapped code f (Some q) o' e h k = subst (λ (o : Option EndPoints). ◌≡◌ {A = Option EndAt} (option_map (λ (p : Pt). record { code = code; at = p }) (option_map f o)) (Some e)) (sym (h q refl)) k
+
+end_longer : (es fs : List EndPoints) (code : ℕ) (b : Bool) (e : EndAt)
+    → ◌≡◌ {A = Option EndAt} (option_map (λ (p : Pt). record { code = code; at = p }) (if b then option_map (λ (e : EndPoints). e.left) (slice_get es code) else option_map (λ (e : EndPoints). e.right) (slice_get es (code - 32768)))) (Some e)
+    → ◌≡◌ {A = Option EndAt} (option_map (λ (p : Pt). record { code = code; at = p }) (if b then option_map (λ (e : EndPoints). e.left) (slice_get (es ++ fs) code) else option_map (λ (e : EndPoints). e.right) (slice_get (es ++ fs) (code - 32768)))) (Some e)
+end_longer es fs code true e h = mapped code (λ (e : EndPoints). e.left) (slice_get es code) (slice_get (es ++ fs) code) e (λ q k. get_append es fs code q k) h
+end_longer es fs code false e h = mapped code (λ (e : EndPoints). e.right) (slice_get es (code - 32768)) (slice_get (es ++ fs) (code - 32768)) e (λ q k. get_append es fs (code - 32768) q k) h
+
+-- an end of portals is an end of more portals
+pub end_of_more : (es fs : List EndPoints) (code : ℕ) (e : EndAt) → end_of es code ≡ Some e → end_of (es ++ fs) code ≡ Some e
+end_of_more es fs code e h = end_longer es fs code (nat_lt code 32768) e h
+
+pub pair_of_more : (es fs : List EndPoints) (p : EndPair) → IsPairOf es p → IsPairOf (es ++ fs) p
+pair_of_more es fs p h = record { left_code = h.left_code; right_code = h.right_code; left = end_of_more es fs p.left.code p.left h.left; right = end_of_more es fs p.right.code p.right h.right }
+
+-- ---- ends by their places
+below : (k : ℕ) → k < 32768 → nat_lt k 32768 ≡ true
+below k h = lt-ltb k 32768 h
+
+not_below : (k : ℕ) → 32768 ≤ k → nat_lt k 32768 ≡ false
+not_below k h = le-ltb k 32768 h
+
+pub left_end : (es : List EndPoints) (k : ℕ) (q : EndPoints) → k < 32768 → slice_get es k ≡ Some q → ◌≡◌ {A = Option EndAt} (end_of es k) (Some (record { code = k; at = q.left }))
+left_end es k q h e = ap (λ (b : Bool). option_map (λ (p : Pt). let v : EndAt = record { code = k; at = p } in v) (if b then option_map (λ (e : EndPoints). e.left) (slice_get es k) else option_map (λ (e : EndPoints). e.right) (slice_get es (k - 32768)))) (below k h)
+    ∙ ap (λ (o : Option EndPoints). option_map (λ (p : Pt). let v : EndAt = record { code = k; at = p } in v) (option_map (λ (e : EndPoints). e.left) o)) e
+
+pub right_end : (es : List EndPoints) (k : ℕ) (q : EndPoints) → slice_get es k ≡ Some q → ◌≡◌ {A = Option EndAt} (end_of es (32768 + k)) (Some (record { code = 32768 + k; at = q.right }))
+right_end es k q e = ap (λ (b : Bool). option_map (λ (p : Pt). let v : EndAt = record { code = 32768 + k; at = p } in v) (if b then option_map (λ (e : EndPoints). e.left) (slice_get es (32768 + k)) else option_map (λ (e : EndPoints). e.right) (slice_get es (32768 + k - 32768)))) (not_below (32768 + k) (omega arith))
+    ∙ ap (λ (n : ℕ). option_map (λ (p : Pt). let v : EndAt = record { code = 32768 + k; at = p } in v) (option_map (λ (e : EndPoints). e.right) (slice_get es n))) (omega arith)
+    ∙ ap (λ (o : Option EndPoints). option_map (λ (p : Pt). let v : EndAt = record { code = 32768 + k; at = p } in v) (option_map (λ (e : EndPoints). e.right) o)) e
+
+-- ---- places by their ends
+found : (code : ℕ) (f : EndPoints → Pt) (o : Option EndPoints) (e : EndAt) → ◌≡◌ {A = Option EndAt} (option_map (λ (p : Pt). record { code = code; at = p }) (option_map f o)) (Some e) → (q : EndPoints) × (o ≡ Some q) × (f q ≡ e.at)
+found code f None e h = absurd (none_some h)
+  where
+    none_some : ◌≡◌ {A = Option EndAt} None (Some e) → ⊥
+    none_some h = cc
+found code f (Some q) e h = (q, refl, ap (λ (v : EndAt). v.at) (some_is (record { code = code; at = f q }) e h))
+  where
+    some_is : (u v : EndAt) → Some u ≡ Some v → u ≡ v
+    some_is u v h = cc
+
+pub left_place : (es : List EndPoints) (e : EndAt) → e.code < 32768 → end_of es e.code ≡ Some e → (i : ℕ) × (p : EndPoints) × (slice_get es i ≡ Some p) × (p.left ≡ e.at)
+left_place es e h k =
+    let t = found e.code (λ (q : EndPoints). q.left) (slice_get es e.code) e
+    (ap (λ (b : Bool). option_map (λ (p : Pt). let v : EndAt = record { code = e.code; at = p } in v) (if b then option_map (λ (e : EndPoints). e.left) (slice_get es e.code) else option_map (λ (e : EndPoints). e.right) (slice_get es (e.code - 32768)))) (sym (below e.code h)) ∙ k) in
+    (e.code, t.0, t.1, t.2)
+
+pub right_place : (es : List EndPoints) (e : EndAt) → 32768 ≤ e.code → end_of es e.code ≡ Some e → (j : ℕ) × (q : EndPoints) × (slice_get es j ≡ Some q) × (q.right ≡ e.at)
+right_place es e h k =
+    let t = found e.code (λ (q : EndPoints). q.right) (slice_get es (e.code - 32768)) e
+    (ap (λ (b : Bool). option_map (λ (p : Pt). let v : EndAt = record { code = e.code; at = p } in v) (if b then option_map (λ (e : EndPoints). e.left) (slice_get es e.code) else option_map (λ (e : EndPoints). e.right) (slice_get es (e.code - 32768)))) (sym (not_below e.code h)) ∙ k) in
+    (e.code - 32768, t.0, t.1, t.2)

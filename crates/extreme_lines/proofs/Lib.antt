@@ -1,0 +1,5 @@
+pub mod Values
+pub mod Widening
+pub mod Cutting
+pub mod Balance
+pub mod EndsLemmas

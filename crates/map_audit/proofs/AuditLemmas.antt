@@ -1,0 +1,184 @@
+-- Steps of the search for the first fault, and that there is one at most.
+use Rattle.std.proofs.Common.{◌≡◌, ◌≢◌, ℕ, ◌<◌, ◌≤◌, ◌⊎◌, inl, inr, List, length, slice_get, slice_index_or, Option, Some, None, refl, sym, ◌∙◌, ap, subst, subst₂, arith, option_and_then, ◌<ℤ◌, MatchOption, Result, Ok, Err, ◌↔◌}
+use Rattle.std.proofs.lemmas.Option.{slice_get-get_or, none-some}
+use Rattle.sight_names.specs.declared.names.Pt.{Pt}
+use Rattle.sight_names.specs.declared.plan.Line.{Line}
+use Rattle.sight_names.specs.declared.faults.LineFault.{LineFault}
+use Rattle.sight_names.specs.declared.faults.LineFault.TheVariants.{Cross, Touch, Overlap}
+use Rattle.sight_names.specs.Plan.{PlanParts, IsPlan, IsPlanLine, IsBefore}
+use Rattle.sight_names.specs.Map.{Map, MapLine, map_of, line_at, looked_up, origin}
+use Rattle.sight_names.specs.Sound.{LinesMeetAtEnds}
+use Rattle.sight_names.proofs.PlanMap.{points_differ}
+use Rattle.geom_exact.specs.declared.Relation.{Relation}
+use Rattle.geom_exact.specs.declared.Relation.TheVariants.{Apart, Ends, Cross as Crossing, Touch as Touching, Overlap as Overlapping}
+use Rattle.sight_laws.proofs.Plans.{line_there, no_line_there, line_below}
+use Rattle.geom_exact.proofs.Uniqueness.{one_relation}
+use Rattle.geom_exact.proofs.Meeting.{apart_meet, ends_meet, no_meet_overlap, no_meet_touch, no_meet_cross, meet_swapped, apart_swapped}
+use Rattle.geom_exact.proofs.Filters.{apart_below, apart_before_all}
+use Rattle.map_audit.specs.Audit.{AreFine, FineAt, FineBelow, FineBefore, AreRelated, IsPair, IsFirstPair, IsLineFault, IsFaultOf, fault_by}
+
+-- ---- the two filters, and the ends of a line
+pub lines_before : (p : PlanParts) → IsPlan p → (one other : Line) → IsPlanLine p.sectors (length p.points) one → IsPlanLine p.sectors (length p.points) other
+    → (one.a < other.a) × (one.a < other.b) × (one.b < other.a) × (one.b < other.b) → AreRelated (looked_up p.points one) (looked_up p.points other) Apart
+lines_before p h one other f g lt = apart_before_all _ _ _ _ (before one.a other.a lt.0 g.first, before one.a other.b lt.1 g.second, before one.b other.a lt.2 g.first, before one.b other.b lt.3 g.second)
+  where
+    before : (i j : ℕ) → i < j → j < length p.points → IsBefore (slice_index_or p.points i origin) (slice_index_or p.points j origin)
+    before i j lt hj = h.ascend i j _ _ lt (slice_get-get_or p.points i origin (omega arith)) (slice_get-get_or p.points j origin hj)
+
+pub lines_after : (p : PlanParts) → IsPlan p → (one other : Line) → IsPlanLine p.sectors (length p.points) one → IsPlanLine p.sectors (length p.points) other
+    → (other.a < one.a) × (other.a < one.b) × (other.b < one.a) × (other.b < one.b) → AreRelated (looked_up p.points one) (looked_up p.points other) Apart
+lines_after p h one other f g lt = apart_swapped _ _ _ _ (lines_before p h other one g f lt)
+
+pub lines_below : (read points : List Pt) → read ≡ points → (one other : Line)
+    → (let p = slice_index_or read one.a origin in let q = slice_index_or read one.b origin in let r = slice_index_or read other.a origin in let s = slice_index_or read other.b origin in (p.y <ℤ r.y) × (p.y <ℤ s.y) × (q.y <ℤ r.y) × (q.y <ℤ s.y))
+    → AreRelated (looked_up points one) (looked_up points other) Apart
+lines_below read points e one other h = subst (λ (xs : List Pt). AreRelated (looked_up xs one) (looked_up xs other) Apart) e (apart_below _ _ _ _ h)
+
+pub lines_above : (read points : List Pt) → read ≡ points → (one other : Line)
+    → (let p = slice_index_or read one.a origin in let q = slice_index_or read one.b origin in let r = slice_index_or read other.a origin in let s = slice_index_or read other.b origin in (r.y <ℤ p.y) × (r.y <ℤ q.y) × (s.y <ℤ p.y) × (s.y <ℤ q.y))
+    → AreRelated (looked_up points one) (looked_up points other) Apart
+lines_above read points e one other h = apart_swapped _ _ _ _ (lines_below read points e other one h)
+
+pub ends_differ : (p : PlanParts) → IsPlan p → (read : List Pt) → read ≡ p.points → (l : Line) → IsPlanLine p.sectors (length p.points) l → slice_index_or read l.a origin ≢ slice_index_or read l.b origin
+ends_differ p h read e l f = subst (λ (xs : List Pt). slice_index_or xs l.a origin ≢ slice_index_or xs l.b origin) (sym e) (points_differ p h l.a l.b f.first f.second f.differ)
+
+-- ---- lines of the plan and of its map
+pub record_below : (p : PlanParts) (i : ℕ) (l : Line) → option_and_then (λ k. k) (slice_get p.lines i) ≡ Some l → i < length p.lines
+record_below p i l e = line_below p i (looked_up p.points l) (line_there p i l (sym e))
+
+one_line : (o : Option MapLine) (k l : MapLine) → o ≡ Some k → o ≡ Some l → k ≡ l
+one_line o k l e f = injective (sym e ∙ f)
+  where
+    injective : Some k ≡ Some l → k ≡ l
+    injective g = cc
+
+-- ---- fine pairs
+fine_of : (m : Map) (i j : ℕ) (a b : MapLine) → line_at m i ≡ Some a → line_at m j ≡ Some b → AreFine a b → FineAt m i j
+fine_of m i j a b ea eb h k l ek el = subst₂ (λ (x y : MapLine). AreFine x y) (one_line (line_at m i) a k ea ek) (one_line (line_at m j) b l eb el) h
+
+pub fine_without_second : (p : PlanParts) (i j : ℕ) → option_and_then (λ l. l) (slice_get p.lines j) ≡ None → FineAt (map_of p) i j
+fine_without_second p i j e k l ek el = absurd (none-some l (sym (no_line_there p j (sym e)) ∙ el))
+
+pub fine_without_first : (p : PlanParts) (i j : ℕ) → option_and_then (λ l. l) (slice_get p.lines i) ≡ None → FineAt (map_of p) i j
+fine_without_first p i j e k l ek el = absurd (none-some k (sym (no_line_there p i (sym e)) ∙ ek))
+
+fair : (i j : ℕ) (k l : MapLine) (relation : Relation) → fault_by i j relation ≡ None → AreRelated k l relation → AreFine k l
+fair i j k l Apart e h = apart_meet _ _ _ _ h
+fair i j k l Ends e h = ends_meet _ _ _ _ h
+fair i j k l Touching e h = absurd (none-some _ (sym e))
+fair i j k l Crossing e h = absurd (none-some _ (sym e))
+fair i j k l Overlapping e h = absurd (none-some _ (sym e))
+
+unfair : (i j : ℕ) (k l : MapLine) (relation : Relation) (f : LineFault) → fault_by i j relation ≡ Some f → AreRelated k l relation → ¬ AreFine k l
+unfair i j k l Apart f e h = absurd (none-some f e)
+unfair i j k l Ends f e h = absurd (none-some f e)
+unfair i j k l Touching f e h = no_meet_touch _ _ _ _ h
+unfair i j k l Crossing f e h = no_meet_cross _ _ _ _ h
+unfair i j k l Overlapping f e h = no_meet_overlap _ _ _ _ h
+
+pair_of : (p : PlanParts) (i j : ℕ) (one other : Line) (relation : Relation) → option_and_then (λ l. l) (slice_get p.lines i) ≡ Some one → option_and_then (λ l. l) (slice_get p.lines j) ≡ Some other
+    → AreRelated (looked_up p.points one) (looked_up p.points other) relation → IsPair (map_of p) i j relation
+pair_of p i j one other relation e f h = record {
+  one = looked_up p.points one;
+  is_one = line_there p i one (sym e);
+  other = looked_up p.points other;
+  is_other = line_there p j other (sym f);
+  related = h;
+}
+
+-- what a call on two lines answers
+pub answered : (p : PlanParts) (i j : ℕ) (one other : Line) (relation : Relation) (answer : Option LineFault) → option_and_then (λ l. l) (slice_get p.lines i) ≡ Some one → option_and_then (λ l. l) (slice_get p.lines j) ≡ Some other
+    → AreRelated (looked_up p.points one) (looked_up p.points other) relation → answer ≡ fault_by i j relation → MatchOption answer (FineAt (map_of p) i j) (λ f. IsFaultOf (map_of p) i j f)
+answered p i j one other relation None e f h g = fine_of (map_of p) i j (looked_up p.points one) (looked_up p.points other) (line_there p i one (sym e)) (line_there p j other (sym f)) (fair i j (looked_up p.points one) (looked_up p.points other) relation (sym g) h)
+answered p i j one other relation (Some fault) e f h g = record { relation = relation; pair = pair_of p i j one other relation e f h; named = sym g }
+
+-- nothing is left behind the last record
+pub all_later : (p : PlanParts) (i n : ℕ) → FineBelow (map_of p) i n → length p.lines ≤ n → (j : ℕ) → i < j → FineAt (map_of p) i j
+all_later p i n h le j lt k l ek el = h j (let w = line_below p j l el in omega arith) lt k l ek el
+
+-- ---- the first pair
+first_named : (m : Map) (i j : ℕ) (relation : Relation) (f : LineFault) → IsFirstPair m i j relation → fault_by i j relation ≡ Some f → IsLineFault m f
+first_named m i j Apart f h e = absurd (none-some f e)
+first_named m i j Ends f h e = absurd (none-some f e)
+first_named m i j Touching f h e = subst (IsLineFault m) (let g : Touch i j ≡ f = cc in g) h
+first_named m i j Crossing f h e = subst (IsLineFault m) (let g : Cross i j ≡ f = cc in g) h
+first_named m i j Overlapping f h e = subst (IsLineFault m) (let g : Overlap i j ≡ f = cc in g) h
+
+pub first_of : (m : Map) (i j : ℕ) (f : LineFault) → i < j → FineBefore m i → FineBelow m i j → IsFaultOf m i j f → IsLineFault m f
+first_of m i j f lt before below h = first_named m i j h.relation f (record { ordered = lt; pair = h.pair; earlier = before; between = below }) h.named
+
+-- the first pair of a fault
+pub record Found (m : Map) (f : LineFault) : Type 0 where
+  pub i : ℕ
+  pub j : ℕ
+  pub relation : Relation
+  pub first : IsFirstPair m i j relation
+  pub named : fault_by i j relation ≡ Some f
+
+found : (m : Map) (f : LineFault) → IsLineFault m f → Found m f
+found m (Cross i j) h = record { i = i; j = j; relation = Crossing; first = h; named = refl }
+found m (Touch i j) h = record { i = i; j = j; relation = Touching; first = h; named = refl }
+found m (Overlap i j) h = record { i = i; j = j; relation = Overlapping; first = h; named = refl }
+
+not_fine : (m : Map) (f : LineFault) (h : Found m f) → ¬ FineAt m h.i h.j
+not_fine m f h fine =
+    let q = h.first.pair in
+    unfair h.i h.j q.one q.other h.relation f h.named q.related (fine q.one q.other q.is_one q.is_other)
+
+not_earlier : (m : Map) (f g : LineFault) (h : Found m f) (k : Found m g) → ¬ (h.i < k.i)
+not_earlier m f g h k lt = not_fine m f h (k.first.earlier h.i lt h.j h.first.ordered)
+
+not_between : (m : Map) (f g : LineFault) (h : Found m f) (k : Found m g) → h.i ≡ k.i → ¬ (h.j < k.j)
+not_between m f g h k e lt = not_fine m f h (subst (λ (i : ℕ). FineAt m i h.j) (sym e) (k.first.between h.j lt (subst (λ (i : ℕ). i < h.j) e h.first.ordered)))
+
+same_number : (a b : ℕ) → ¬ (a < b) → ¬ (b < a) → a ≡ b
+same_number a b h k = grind arith
+
+same_relation : (m : Map) (i j i' j' : ℕ) (r r' : Relation) → i ≡ i' → j ≡ j' → IsPair m i j r → IsPair m i' j' r' → r ≡ r'
+same_relation m i j i' j' r r' ei ej p q =
+    let a = one_line (line_at m i') p.one q.one (subst (λ (n : ℕ). line_at m n ≡ Some p.one) ei p.is_one) q.is_one in
+    let b = one_line (line_at m j') p.other q.other (subst (λ (n : ℕ). line_at m n ≡ Some p.other) ej p.is_other) q.is_other in
+    one_relation q.one.first q.one.second q.other.first q.other.second r r' (subst₂ (λ (x y : MapLine). AreRelated x y r) a b p.related) q.related
+
+pub one_fault : (m : Map) (f g : LineFault) → IsLineFault m f → IsLineFault m g → f ≡ g
+one_fault m f g hf hg =
+    let h = found m f hf in
+    let k = found m g hg in
+    let ei = same_number h.i k.i (not_earlier m f g h k) (not_earlier m g f k h) in
+    let ej = same_number h.j k.j (not_between m f g h k ei) (not_between m g f k h (sym ei)) in
+    let er = same_relation m h.i h.j k.i k.j h.relation k.relation ei ej h.first.pair k.first.pair in
+    joined (sym h.named ∙ ap (λ (i : ℕ). fault_by i h.j h.relation) ei ∙ ap (λ (j : ℕ). fault_by k.i j h.relation) ej ∙ ap (fault_by k.i k.j) er ∙ k.named)
+  where
+    joined : Some f ≡ Some g → f ≡ g
+    joined e = cc
+
+-- ---- a sound map
+pub sound_of : (p : PlanParts) → FineBefore (map_of p) (length p.lines) → LinesMeetAtEnds (map_of p)
+sound_of p h i j k l n ek el = elim (order i j n) as (λ _. AreFine k l) [
+  | inl lt ↦ h i (line_below p i k ek) j lt k l ek el
+  | inr lt ↦ meet_swapped l.first l.second k.first k.second (h j (line_below p j l el) i lt l k el ek)
+]
+  where
+    order : (i j : ℕ) → i ≢ j → (i < j) ⊎ (j < i)
+    order i j n = grind arith
+
+pub not_sound : (m : Map) (f : LineFault) → IsLineFault m f → ¬ LinesMeetAtEnds m
+not_sound m f hf s =
+    let h = found m f hf in
+    not_fine m f h (λ k l ek el. s h.i h.j k l (differ h.i h.j h.first.ordered) ek el)
+  where
+    differ : (i j : ℕ) → i < j → i ≢ j
+    differ i j lt e = omega arith
+
+-- the clauses of the audit
+pub refused_fault : (m : Map) (fault f : LineFault) → IsLineFault m fault → (◌≡◌ {A = Result (Unit {0}) LineFault} (Err fault) (Err f)) ↔ IsLineFault m f
+refused_fault m fault f h = ((λ e. subst (IsLineFault m) (injective e) h), (λ k. ap (λ (x : LineFault). let r : Result (Unit {0}) LineFault = Err x in r) (one_fault m fault f h k)))
+  where
+    injective : ◌≡◌ {A = Result (Unit {0}) LineFault} (Err fault) (Err f) → fault ≡ f
+    injective e = cc
+
+pub accepted_fault : (p : PlanParts) (f : LineFault) → FineBefore (map_of p) (length p.lines) → (◌≡◌ {A = Result (Unit {0}) LineFault} (Ok tt) (Err f)) ↔ IsLineFault (map_of p) f
+accepted_fault p f h = ((λ e. absurd (no e)), (λ k. absurd (not_sound (map_of p) f k (sound_of p h))))
+  where
+    no : ◌≡◌ {A = Result (Unit {0}) LineFault} (Ok tt) (Err f) → ⊥
+    no g = cc

@@ -1,0 +1,64 @@
+-- The first two lines of a map that share more than an end of both.
+use Rattle.std.specs.Prelude.{◌≡◌, ℕ, ◌<◌, Option, Some, None}
+use Rattle.sight_names.specs.declared.faults.LineFault.{LineFault}
+use Rattle.sight_names.specs.declared.faults.LineFault.TheVariants.{Cross, Touch, Overlap}
+use Rattle.sight_names.specs.Map.{Map, MapLine, line_at}
+use Rattle.sight_names.specs.Sound.{MeetAtEnds}
+use Rattle.geom_exact.specs.declared.Relation.{Relation}
+use Rattle.geom_exact.specs.declared.Relation.TheVariants.{Apart, Ends, Cross as Crossing, Touch as Touching, Overlap as Overlapping}
+use Rattle.geom_exact.specs.Common.{IsRelation}
+
+-- two lines share at most an end of both
+abbrev pub AreFine : MapLine → MapLine → Type 0
+AreFine k l = MeetAtEnds k.first k.second l.first l.second
+
+-- so do the lines with these two record numbers, where there are two such lines
+abbrev pub FineAt : Map → ℕ → ℕ → Type 0
+FineAt m i j = (k l : MapLine) → line_at m i ≡ Some k → line_at m j ≡ Some l → AreFine k l
+
+-- so do record i and each later one before record n
+abbrev pub FineBelow : Map → ℕ → ℕ → Type 0
+FineBelow m i n = (j : ℕ) → j < n → i < j → FineAt m i j
+
+-- so do each record before i and all later ones
+abbrev pub FineBefore : Map → ℕ → Type 0
+FineBefore m i = (h : ℕ) → h < i → (j : ℕ) → h < j → FineAt m h j
+
+-- two lines have this in common
+abbrev pub AreRelated : MapLine → MapLine → Relation → Type 0
+AreRelated k l relation = IsRelation k.first k.second l.first l.second relation
+
+-- the lines with these two record numbers have this in common
+pub record IsPair (m : Map) (i j : ℕ) (relation : Relation) : Type 0 where
+  pub one : MapLine
+  pub is_one : line_at m i ≡ Some one
+  pub other : MapLine
+  pub is_other : line_at m j ≡ Some other
+  pub related : AreRelated one other relation
+
+-- and all pairs before this one, by the first number and then the second, are fine
+pub record IsFirstPair (m : Map) (i j : ℕ) (relation : Relation) : Type 0 where
+  pub ordered : i < j
+  pub pair : IsPair m i j relation
+  pub earlier : FineBefore m i
+  pub between : FineBelow m i j
+
+-- the fault names the first pair of lines that share more than an end of both, and says what they share
+abbrev pub IsLineFault : Map → LineFault → Type 0
+IsLineFault m (Cross i j) = IsFirstPair m i j Crossing
+IsLineFault m (Touch i j) = IsFirstPair m i j Touching
+IsLineFault m (Overlap i j) = IsFirstPair m i j Overlapping
+
+-- the fault of a pair of records by what their lines have in common: none where they are apart or share just an end of both
+abbrev pub fault_by : ℕ → ℕ → Relation → Option LineFault
+fault_by i j Apart = None
+fault_by i j Ends = None
+fault_by i j Touching = Some (Touch i j)
+fault_by i j Crossing = Some (Cross i j)
+fault_by i j Overlapping = Some (Overlap i j)
+
+-- the fault of this pair of records
+pub record IsFaultOf (m : Map) (i j : ℕ) (fault : LineFault) : Type 0 where
+  pub relation : Relation
+  pub pair : IsPair m i j relation
+  pub named : fault_by i j relation ≡ Some fault

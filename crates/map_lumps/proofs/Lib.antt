@@ -1,0 +1,5 @@
+pub mod Reading
+pub mod Checking
+pub mod Numbering
+pub mod Assembling
+pub mod WholeMap

@@ -1,0 +1,98 @@
+-- Lists by record number, and the line of a record.
+use Rattle.std.proofs.Common.{◌≡◌, ℕ, zero, suc, ◌+◌, ◌*◌, ◌<◌, List, [], ◌∷◌, ◌++◌, map, Option, Some, None, Bool, true, false, ◌==◌, ◌||◌, not, cond, is_none, is_some, bit_and, refl, sym, ap, ap₂, ◌∙◌, subst, arith}
+use Rattle.std.specs.Int.{bit_at}
+use Rattle.std.proofs.lemmas.Nat.Bits.{and_pow, bit_at-lt}
+use Rattle.sight_names.specs.declared.names.Pt.{Pt}
+use Rattle.sight_names.specs.declared.faults.LumpFault.{LumpFault}
+use Rattle.sight_names.specs.Map.{MapLine}
+use Rattle.sight_names.specs.Points.{pt_eq}
+use Rattle.sight_names.specs.Lumps.{numbers_from, numbers_below, lines_fault, first_of, linedef, vertex, side_sector, u16_at}
+
+-- one number more
+numbers_from_push : (k n : ℕ) → numbers_from k (suc n) ≡ numbers_from k n ++ (k + n) ∷ []
+numbers_from_push k zero = ap (λ (x : ℕ). x ∷ []) (omega arith)
+numbers_from_push k (suc n) = ap (λ (xs : List ℕ). k ∷ xs) (numbers_from_push (k + 1) n ∙ ap (λ (x : ℕ). numbers_from (k + 1) n ++ x ∷ []) (omega arith))
+
+pub numbers_push : (n : ℕ) → numbers_below (n + 1) ≡ numbers_below n ++ n ∷ []
+numbers_push n = let e : n + 1 ≡ suc n = omega arith in rw e (numbers_from_push 0 n ∙ ap (λ (x : ℕ). numbers_below n ++ x ∷ []) (omega arith))
+
+map_push : {X Y : Type 0} (f : X → Y) (xs : List X) (x : X) → map f (xs ++ x ∷ []) ≡ map f xs ++ f x ∷ []
+map_push f [] x = refl
+map_push f (y ∷ ys) x = ap (λ zs. f y ∷ zs) (map_push f ys x)
+
+-- a list that is made number by number, one further
+pub mapped_more : {X Y : Type 0} (f : X → Y) (g : ℕ → Y) (xs : List X) (x : X) (n : ℕ) → map f xs ≡ map g (numbers_below n) → f x ≡ g n → map f (xs ++ x ∷ []) ≡ map g (numbers_below (n + 1))
+mapped_more f g xs x n h e = map_push f xs x ∙ ap₂ (λ ys y. ys ++ y ∷ []) h e ∙ sym (map_push g (numbers_below n) n) ∙ ap (map g) (sym (numbers_push n))
+
+-- the first line with a fault, none before it having one
+first_from : (fault : ℕ → Option LumpFault) (k n m : ℕ) (rest : Option LumpFault) (f : LumpFault) → m < n → ((j : ℕ) → j < m → fault (k + j) ≡ None) → fault (k + m) ≡ Some f → lines_fault fault (numbers_from k n) rest ≡ Some f
+first_from fault k zero m rest f h none e = absurd (omega arith)
+first_from fault k (suc n) zero rest f h none e = let q : fault k ≡ Some f = subst (λ (j : ℕ). fault j ≡ Some f) (omega arith) e in ap (λ o. first_of o (lines_fault fault (numbers_from (k + 1) n) rest)) q
+first_from fault k (suc n) (suc m) rest f h none e =
+    let q : fault k ≡ None = subst (λ (j : ℕ). fault j ≡ None) (omega arith) (none 0 (omega arith)) in
+    ap (λ o. first_of o (lines_fault fault (numbers_from (k + 1) n) rest)) q ∙ first_from fault (k + 1) n m rest f (omega arith) (λ j l. subst (λ (i : ℕ). fault i ≡ None) (omega arith) (none (suc j) (omega arith))) (subst (λ (i : ℕ). fault i ≡ Some f) (omega arith) e)
+
+pub first_found : (fault : ℕ → Option LumpFault) (n m : ℕ) (rest : Option LumpFault) (f : LumpFault) → m < n → ((j : ℕ) → j < m → fault j ≡ None) → fault m ≡ Some f → lines_fault fault (numbers_below n) rest ≡ Some f
+first_found fault n m rest f h none e = first_from fault 0 n m rest f h (λ j l. subst (λ (i : ℕ). fault i ≡ None) (omega arith) (none j l)) (subst (λ (i : ℕ). fault i ≡ Some f) (omega arith) e)
+
+-- the fault that a loop stops at
+pub first_some : (fault : ℕ → Option LumpFault) (n m : ℕ) (o : Option LumpFault) → m < n → ((j : ℕ) → j < m → fault j ≡ None) → o ≡ fault m → true ≡ is_some o → o ≡ lines_fault fault (numbers_below n) None
+first_some fault n m None h none e s = absurd (no s)
+  where
+    no : true ≡ false → ⊥
+    no e = cc
+first_some fault n m (Some f) h none e s = sym (first_found fault n m None f h none (sym e))
+
+pub is_none_of : (o : Option LumpFault) → false ≡ is_some o → o ≡ None
+is_none_of None s = refl
+is_none_of (Some f) s = absurd (no s)
+  where
+    no : false ≡ true → ⊥
+    no e = cc
+
+-- a fault of a line stands, whatever comes after all lines
+pub stands : (fault : ℕ → Option LumpFault) (ks : List ℕ) (rest : Option LumpFault) (f : LumpFault) → lines_fault fault ks None ≡ Some f → lines_fault fault ks rest ≡ Some f
+stands fault [] rest f e = absurd (no e)
+  where
+    no : ◌≡◌ {A = Option LumpFault} None (Some f) → ⊥
+    no e = cc
+stands fault (k ∷ ks) rest f e = go (stands fault ks rest f) (fault k) e
+  where
+    go : (lines_fault fault ks None ≡ Some f → lines_fault fault ks rest ≡ Some f) → (o : Option LumpFault) → first_of o (lines_fault fault ks None) ≡ Some f → first_of o (lines_fault fault ks rest) ≡ Some f
+    go rec None e = rec e
+    go rec (Some g) e = e
+
+none_from : (fault : ℕ → Option LumpFault) (k n : ℕ) (rest : Option LumpFault) → ((j : ℕ) → j < n → fault (k + j) ≡ None) → lines_fault fault (numbers_from k n) rest ≡ rest
+none_from fault k zero rest none = refl
+none_from fault k (suc n) rest none =
+    let q : fault k ≡ None = subst (λ (j : ℕ). fault j ≡ None) (omega arith) (none 0 (omega arith)) in
+    ap (λ o. first_of o (lines_fault fault (numbers_from (k + 1) n) rest)) q ∙ none_from fault (k + 1) n rest (λ j l. subst (λ (i : ℕ). fault i ≡ None) (omega arith) (none (suc j) (omega arith)))
+
+pub none_found : (fault : ℕ → Option LumpFault) (n : ℕ) (rest : Option LumpFault) → ((j : ℕ) → j < n → fault j ≡ None) → lines_fault fault (numbers_below n) rest ≡ rest
+none_found fault n rest none = none_from fault 0 n rest (λ j l. subst (λ (i : ℕ). fault i ≡ None) (omega arith) (none j l))
+
+-- the parts of a record that is no line of zero length are those of its line
+pub line_placed : (linedefs sidedefs vertexes : List ℕ) (k : ℕ) (first second : Pt) (solid : Bool) (right left : Option ℕ) →
+    first ≡ vertex vertexes (u16_at linedefs (14 * k)) → second ≡ vertex vertexes (u16_at linedefs (14 * k + 2)) → pt_eq first second ≡ false →
+    right ≡ side_sector sidedefs (u16_at linedefs (14 * k + 10)) → left ≡ side_sector sidedefs (u16_at linedefs (14 * k + 12)) →
+    solid ≡ (not (bit_at (u16_at linedefs (14 * k + 4)) 2 == 1) || is_none right || is_none left) →
+    Some (record { first = first; second = second; solid = solid; right = right; left = left }) ≡ linedef linedefs sidedefs vertexes k
+line_placed linedefs sidedefs vertexes k first second solid right left e1 e2 differ e3 e4 e5 =
+    let d : pt_eq (vertex vertexes (u16_at linedefs (14 * k))) (vertex vertexes (u16_at linedefs (14 * k + 2))) ≡ false = subst (λ (p : Pt). pt_eq p (vertex vertexes (u16_at linedefs (14 * k + 2))) ≡ false) e1 (subst (λ (q : Pt). pt_eq first q ≡ false) e2 differ) in
+    made first (vertex vertexes (u16_at linedefs (14 * k))) second (vertex vertexes (u16_at linedefs (14 * k + 2))) solid _ right _ left _ e1 e2 (e5 ∙ ap₂ (λ (r l : Option ℕ). not (bit_at (u16_at linedefs (14 * k + 4)) 2 == 1) || is_none r || is_none l) e3 e4) e3 e4
+    ∙ sym (taken (pt_eq (vertex vertexes (u16_at linedefs (14 * k))) (vertex vertexes (u16_at linedefs (14 * k + 2)))) _ d)
+  where
+    made : (f f' s s' : Pt) (b b' : Bool) (r r' l l' : Option ℕ) → f ≡ f' → s ≡ s' → b ≡ b' → r ≡ r' → l ≡ l' → ◌≡◌ {A = Option MapLine} (Some (record { first = f; second = s; solid = b; right = r; left = l })) (Some (record { first = f'; second = s'; solid = b'; right = r'; left = l' }))
+    made f f' s s' b b' r r' l l' e1 e2 e3 e4 e5 = cc
+
+    taken : (b : Bool) (x : Option MapLine) → b ≡ false → cond b None x ≡ x
+    taken b x e = ap (λ (c : Bool). cond c None x) e
+
+-- the two-sided flag is the third bit
+third_bit : (x : ℕ) → x < 2 → not (x * 4 == 0) ≡ (x == 1)
+third_bit zero h = refl
+third_bit (suc zero) h = refl
+third_bit (suc (suc x)) h = absurd (omega arith)
+
+pub is_flag_set : (n : ℕ) → not (bit_and n 4 == 0) ≡ (bit_at n 2 == 1)
+is_flag_set n = ap (λ x. not (x == 0)) (and_pow n 2) ∙ third_bit (bit_at n 2) (bit_at-lt n 2)

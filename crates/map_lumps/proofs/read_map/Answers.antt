@@ -1,0 +1,62 @@
+use Rattle.std.proofs.Common.{◌≡◌, ◌∙◌, ◌<◌, ◌≤◌, ℕ, List, length, Option, Some, None, Bool, true, false, nat_lt, sym, ap, subst, arith}
+use Rattle.sight_names.specs.declared.faults.LumpFault.{LumpFault}
+use Rattle.sight_names.specs.declared.faults.LumpFault.TheVariants.{TooManyPoints}
+use Rattle.sight_names.specs.Points.{in_order}
+use Rattle.sight_names.specs.Lumps.{fault_if}
+use Rattle.map_lumps.specs.declared.records.PlacedLine.{PlacedLine}
+use Rattle.map_lumps.specs.Records.{placed_ends, IsInOrder}
+use Rattle.map_lumps.proofs.WholeMap.{ends_among, points_in_order, fault_left, map_is, plan_is}
+use Rattle.map_lumps.proofs.read_map.Goals as goal
+
+too_many : (n : ℕ) (f : LumpFault) → 4096 < n → fault_if (nat_lt 4096 n) f None ≡ Some f
+too_many n f h = ap (λ (b : Bool). fault_if b f None) (above n h)
+  where
+    above : (n : ℕ) → 4096 < n → nat_lt 4096 n ≡ true
+    above n h = grind arith
+
+few_enough : (n : ℕ) (f : LumpFault) → n ≤ 4096 → fault_if (nat_lt 4096 n) f None ≡ None
+few_enough n f h = ap (λ (b : Bool). fault_if b f None) (within n h)
+  where
+    within : (n : ℕ) → n ≤ 4096 → nat_lt 4096 n ≡ false
+    within n h = grind arith
+
+pub returns-then-count-gt-MAX_POINTS-clause-fault :
+    goal.returns-then-count-gt-MAX_POINTS-clause-fault
+returns-then-count-gt-MAX_POINTS-clause-fault c =
+    let are = c.in_ok-points.ensures ∙ ap (λ (ls : List (Option PlacedLine)). in_order (placed_ends ls)) c.as_slice.ensures.value in
+    let many : c.len-count.result ≡ length c.in_ok-points.points.items = omega (arith, c.in_ok-points.points.ok, c.len-count.ensures) in
+    let e = (fault_left c.args.linedefs.now c.args.sidedefs.now c.args.vertexes.now c.args.sectors.now c.in_ok-placed.placed.items c.in_ok-points.points.items c.in_ok-placed.ensures are c.in_default.ensures.passed ∙ too_many _ (TooManyPoints (length c.in_ok-points.points.items)) (omega (arith, many, c.if-count-gt-MAX_POINTS.true))) in
+    e ∙ ap (λ (n : ℕ). Some (TooManyPoints n)) (sym many)
+
+pub plan_lines-requires-clause-order : goal.plan_lines-requires-clause-order
+plan_lines-requires-clause-order c =
+    let are = c.in_ok-points.ensures ∙ ap (λ (ls : List (Option PlacedLine)). in_order (placed_ends ls)) c.as_slice.ensures.value in
+    subst IsInOrder (sym c.as_slice-2.ensures.value) (points_in_order c.args.linedefs.now c.args.sidedefs.now c.args.vertexes.now c.args.sectors.now c.in_ok-placed.placed.items c.in_ok-points.points.items c.in_ok-placed.ensures are)
+
+pub plan_lines-requires-clause-ends : goal.plan_lines-requires-clause-ends
+plan_lines-requires-clause-ends c =
+    let are = c.in_ok-points.ensures ∙ ap (λ (ls : List (Option PlacedLine)). in_order (placed_ends ls)) c.as_slice.ensures.value in
+    rw (c.as_slice-2.ensures.value, c.as_slice-3.ensures.value) (ends_among c.args.linedefs.now c.args.sidedefs.now c.args.vertexes.now c.args.sectors.now c.in_ok-placed.placed.items c.in_ok-points.points.items c.in_ok-placed.ensures are)
+
+pub invariant_of-result : goal.invariant_of-result
+invariant_of-result c =
+    let are = c.in_ok-points.ensures ∙ ap (λ (ls : List (Option PlacedLine)). in_order (placed_ends ls)) c.as_slice.ensures.value in
+    plan_is c.args.linedefs.now c.args.sidedefs.now c.args.vertexes.now c.args.sectors.now c.in_ok-placed.placed.items c.in_ok-points.points.items c.in_ok-placed.ensures are c.in_ok-lines.lines.items
+    (rw (c.as_slice-2.ensures.value, c.as_slice-3.ensures.value) at c.in_ok-lines.ensures.same) c.in_default.ensures.passed (omega (arith, c.in_ok-points.points.ok, c.len-count.ensures, c.if-count-gt-MAX_POINTS.false)) (rw c.as_slice-2.ensures.value at c.in_ok-lines.ensures.within)
+
+pub returns-clause-plan : goal.returns-clause-plan
+returns-clause-plan c =
+    let are = c.in_ok-points.ensures ∙ ap (λ (ls : List (Option PlacedLine)). in_order (placed_ends ls)) c.as_slice.ensures.value in
+    plan_is c.args.linedefs.now c.args.sidedefs.now c.args.vertexes.now c.args.sectors.now c.in_ok-placed.placed.items c.in_ok-points.points.items c.in_ok-placed.ensures are c.in_ok-lines.lines.items
+    (rw (c.as_slice-2.ensures.value, c.as_slice-3.ensures.value) at c.in_ok-lines.ensures.same) c.in_default.ensures.passed (omega (arith, c.in_ok-points.points.ok, c.len-count.ensures, c.if-count-gt-MAX_POINTS.false)) (rw c.as_slice-2.ensures.value at c.in_ok-lines.ensures.within)
+
+pub returns-clause-map : goal.returns-clause-map
+returns-clause-map c =
+    let are = c.in_ok-points.ensures ∙ ap (λ (ls : List (Option PlacedLine)). in_order (placed_ends ls)) c.as_slice.ensures.value in
+    map_is c.args.linedefs.now c.args.sidedefs.now c.args.vertexes.now c.args.sectors.now c.in_ok-placed.placed.items c.in_ok-points.points.items c.in_ok-placed.ensures are c.in_ok-lines.lines.items
+    (rw (c.as_slice-2.ensures.value, c.as_slice-3.ensures.value) at c.in_ok-lines.ensures.same)
+
+pub returns-clause-fault : goal.returns-clause-fault
+returns-clause-fault c =
+    let are = c.in_ok-points.ensures ∙ ap (λ (ls : List (Option PlacedLine)). in_order (placed_ends ls)) c.as_slice.ensures.value in
+    fault_left c.args.linedefs.now c.args.sidedefs.now c.args.vertexes.now c.args.sectors.now c.in_ok-placed.placed.items c.in_ok-points.points.items c.in_ok-placed.ensures are c.in_default.ensures.passed ∙ few_enough _ _ (omega (arith, c.in_ok-points.points.ok, c.len-count.ensures, c.if-count-gt-MAX_POINTS.false))

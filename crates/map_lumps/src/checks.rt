@@ -1,0 +1,128 @@
+//! The checks of the four lumps, in their order, up to the number of points.
+
+ghost use Rattle.std.specs.Prelude.{◌≡◌, ◌/◌, ◌<◌, ◌≤◌, false, None, Some, IfSome, IfNone, length};
+ghost use Rattle.sight_names.specs.Lumps.{is_bad_side as is_bad_side_lem, is_bad_sector as is_bad_sector_lem, line_fault as line_fault_lem, lines_fault, lump_fault, numbers_below};
+ghost use Rattle.map_lumps.specs.Records.{AllSound};
+ghost use Rattle.map_lumps.specs.Answers.{Passes, cut_lump as cut_lump_lem};
+
+use crate::records::{
+    LINEDEF_LEN, NO_SIDE, SECTOR_LEN, SIDEDEF_LEN, VERTEX_LEN, number, read_linedef,
+};
+use sight_names::{Lump, LumpFault};
+
+/// The most sectors and lines that a map may have.
+const MAX_SECTORS: usize = 4096;
+
+const MAX_LINES: usize = 16384;
+
+/// The first of the checks before that of the number of points that fails.
+#[tactic(auto, unfolding(sight_names::specs::Lumps::lump_fault))]
+pub fn early_fault(
+    linedefs: &[u8],
+    sidedefs: &[u8],
+    vertexes: &[u8],
+    sectors: &[u8],
+) -> Option<LumpFault>
+    ensures fault { IfSome result (λ fault. lump_fault linedefs.now sidedefs.now vertexes.now sectors.now ≡ Some fault) }
+    ensures passed { IfNone result (Passes linedefs.now sidedefs.now vertexes.now sectors.now) }
+{
+    if let Some(lump) = cut_lump(linedefs, sidedefs, vertexes, sectors) {
+        return Some(LumpFault::BadSize { lump });
+    }
+    let count = sectors.len() / SECTOR_LEN;
+    if count > MAX_SECTORS {
+        return Some(LumpFault::TooManySectors {
+            count: count as u64,
+        });
+    }
+    let count = linedefs.len() / LINEDEF_LEN;
+    if count > MAX_LINES {
+        return Some(LumpFault::TooManyLines {
+            count: count as u64,
+        });
+    }
+    first_line_fault(linedefs, sidedefs, vertexes, sectors)
+}
+
+/// The first lump whose size is no multiple of its record.
+fn cut_lump(linedefs: &[u8], sidedefs: &[u8], vertexes: &[u8], sectors: &[u8]) -> Option<Lump>
+    ensures { result ≡ cut_lump_lem linedefs.now sidedefs.now vertexes.now sectors.now }
+{
+    if linedefs.len() % LINEDEF_LEN != 0 {
+        return Some(Lump::Linedefs);
+    }
+    if sidedefs.len() % SIDEDEF_LEN != 0 {
+        return Some(Lump::Sidedefs);
+    }
+    if vertexes.len() % VERTEX_LEN != 0 {
+        return Some(Lump::Vertexes);
+    }
+    if sectors.len() % SECTOR_LEN != 0 {
+        return Some(Lump::Sectors);
+    }
+    None
+}
+
+/// The first check of a line that fails, the lines in order.
+fn first_line_fault(
+    linedefs: &[u8],
+    sidedefs: &[u8],
+    vertexes: &[u8],
+    sectors: &[u8],
+) -> Option<LumpFault>
+    requires { length linedefs.now / 14 ≤ 16384 }
+    ensures first { result ≡ lines_fault (line_fault_lem linedefs.now sidedefs.now vertexes.now sectors.now) (numbers_below (length linedefs.now / 14)) None }
+    ensures sound { IfNone result (AllSound linedefs.now sidedefs.now vertexes.now sectors.now) }
+{
+    for k in 0..linedefs.len() / LINEDEF_LEN {
+        let fault = line_fault(linedefs, sidedefs, vertexes, sectors, k as u16);
+        if fault.is_some() {
+            return fault;
+        }
+    }
+    None
+}
+
+/// The first check of a line that fails.
+fn line_fault(
+    linedefs: &[u8],
+    sidedefs: &[u8],
+    vertexes: &[u8],
+    sectors: &[u8],
+    k: u16,
+) -> Option<LumpFault>
+    requires { k < length linedefs.now / 14 }
+    ensures { result ≡ line_fault_lem linedefs.now sidedefs.now vertexes.now sectors.now k }
+{
+    let record = read_linedef(linedefs, k);
+    let vertices = vertexes.len() / VERTEX_LEN;
+    if vertices <= record.first as usize || vertices <= record.second as usize {
+        return Some(LumpFault::BadVertex { line: k });
+    }
+    if is_bad_side(sidedefs, record.right) || is_bad_side(sidedefs, record.left) {
+        return Some(LumpFault::BadSide { line: k });
+    }
+    if is_bad_sector(sidedefs, sectors, record.right) {
+        return Some(LumpFault::BadSector { side: record.right });
+    }
+    if is_bad_sector(sidedefs, sectors, record.left) {
+        return Some(LumpFault::BadSector { side: record.left });
+    }
+    None
+}
+
+/// Whether the number of a side is out of range.
+fn is_bad_side(sidedefs: &[u8], side: u16) -> bool
+    ensures { result ≡ is_bad_side_lem sidedefs.now side }
+{
+    side != NO_SIDE && sidedefs.len() / SIDEDEF_LEN <= side as usize
+}
+
+/// Whether the sector of a side is out of range.
+fn is_bad_sector(sidedefs: &[u8], sectors: &[u8], side: u16) -> bool
+    requires { is_bad_side_lem sidedefs.now side ≡ false }
+    ensures { result ≡ is_bad_sector_lem sidedefs.now sectors.now side }
+{
+    side != NO_SIDE
+        && sectors.len() / SECTOR_LEN <= number(sidedefs, SIDEDEF_LEN * side as usize + 28) as usize
+}

@@ -1,0 +1,3 @@
+pub mod FilesLemmas
+pub mod FetchLemmas
+pub mod FakesLemmas

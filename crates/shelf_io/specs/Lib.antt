@@ -1,0 +1,3 @@
+pub mod Shelf
+pub mod Sink
+pub mod Fakes

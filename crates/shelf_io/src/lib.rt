@@ -1,0 +1,19 @@
+//! Files and text as the program sees them: the traits `Shelf` and `Sink`, fakes in memory, and
+//! thin adapters over std.
+#![tactic(auto)]
+
+mod disk;
+mod memory;
+mod shelf;
+mod transfer;
+
+pub use disk::{DiskShelf, StdSink};
+pub use memory::{Fails, File, MemShelf, MemSink};
+pub use shelf::{Shelf, Sink};
+pub use transfer::{fetch, store};
+
+/// The most bytes that one read or one append moves.
+pub const PIECE: usize = 65_536;
+
+#[cfg(test)]
+mod tests;

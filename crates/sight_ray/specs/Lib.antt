@@ -1,0 +1,2 @@
+pub mod RayFault
+pub mod Gate

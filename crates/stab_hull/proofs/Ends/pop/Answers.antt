@@ -1,0 +1,22 @@
+use Rattle.std.proofs.Common.{arith, ◌≡◌, ◌-◌, ℕ, List, length, take, sym, ap, ap₂, ◌∙◌, subst}
+use Rattle.std.proofs.lemmas.Grind.{common_steps}
+use Rattle.std.proofs.lemmas.List.{take-map}
+use Rattle.sight_names.specs.Splitting.{EndPoints}
+use Rattle.stab_hull.specs.declared.frame.Frame.{Frame}
+use Rattle.stab_hull.specs.Portals.{portal_of, portals_of}
+use Rattle.stab_hull.specs.Kept.{IsKept}
+use Rattle.stab_hull.proofs.WidenLemmas.{as_many}
+use Rattle.stab_hull.proofs.KeptLemmas.{pop_kept}
+use Rattle.stab_hull.proofs.Ends.pop.Goals as goal
+
+pub invariant_of-self : goal.invariant_of-self
+invariant_of-self c =
+    let k : c.len-count.result ≡ length c.self.inside.frames.items = (let e = c.len-count.ensures in grind (arith, common_steps)) in
+    subst (λ (fs : List Frame). IsKept fs c.jam_within-self-inside.result) (sym c.truncate.ensures.items)
+    (pop_kept c.self.inside.frames.items (c.len-count.result - 1) c.self.inside.jam c.jam_within-self-inside.result (omega (arith, k)) c.self.invariant c.jam_within-self-inside.ensures.free c.jam_within-self-inside.ensures.same)
+
+pub returns : goal.returns
+returns c =
+    let k : c.len-count.result ≡ length c.self.inside.frames.items = (let e = c.len-count.ensures in grind (arith, common_steps)) in
+    let n : c.len-count.result - 1 ≡ length c.args.self.now - 1 = (let m = as_many c.self.inside.frames.items in let l : length (portals_of c.self.inside.frames.items) ≡ length c.args.self.now = ap (λ (es : List EndPoints). length es) c.self.view_is in omega (arith, k, m, l)) in
+    ap portals_of c.truncate.ensures.items ∙ sym (take-map portal_of (c.len-count.result - 1) c.self.inside.frames.items) ∙ ap₂ (λ (n : ℕ) (es : List EndPoints). take n es) n c.self.view_is

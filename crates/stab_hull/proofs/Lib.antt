@@ -1,0 +1,2 @@
+pub mod WidenLemmas
+pub mod KeptLemmas

@@ -1,0 +1,16 @@
+-- What a split of portals is.
+use Rattle.std.specs.Prelude.{◌≤◌, ◌^◌, List, All, ℤ, nat_abs}
+use Rattle.sight_names.specs.Splitting.{EndPoints, SplitsEnds, IsSplittable, IsPairOf, AreBalanced}
+use Rattle.stab_hull.specs.declared.Split.{Split}
+use Rattle.stab_hull.specs.declared.Split.TheVariants.{Line, Stuck}
+
+-- the line has the range of rays
+pub record IsLineInRange (a b c : ℤ) : Type 0 where
+  pub a_in : nat_abs a ≤ 2 ^ 20
+  pub b_in : nat_abs b ≤ 2 ^ 20
+  pub c_in : nat_abs c ≤ 2 ^ 37
+
+-- a line in range that splits the ends strictly; or no line does, and three pairs of ends show it
+abbrev pub IsSplitOf : List EndPoints → Split → Type 0
+IsSplitOf es (Line a b c) = SplitsEnds es a b c × IsLineInRange a b c
+IsSplitOf es (Stuck pairs) = (¬ IsSplittable es) × All (IsPairOf es) pairs × AreBalanced pairs

@@ -1,0 +1,4 @@
+pub mod Outside
+pub mod Under
+pub mod Names
+pub mod Printed

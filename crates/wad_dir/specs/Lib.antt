@@ -1,0 +1,3 @@
+pub mod Wad
+pub mod Map
+pub mod Print

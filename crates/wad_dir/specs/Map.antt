@@ -1,0 +1,92 @@
+-- Where a map lies in a directory (the Unofficial Doom Specs on the lumps of a map).
+use Rattle.std.specs.Prelude.{ℕ, ◌+◌, ◌==◌, Bool, false, not, ◌&&◌, List, [], ◌∷◌, ◌++◌, length, drop, Option, Some, None, Result, Ok, Err, if◌then◌else◌, position, codes, map}
+use Rattle.std.specs.List.{list_any}
+use Rattle.std.specs.Char.{to_ascii_uppercase}
+use Rattle.std.specs.Str.{bytes_eq}
+use Rattle.sight_names.specs.declared.faults.Lump.{Lump}
+use Rattle.sight_names.specs.declared.faults.Lump.TheVariants.{Linedefs, Sidedefs, Vertexes, Sectors}
+use Rattle.sight_names.specs.declared.faults.MapFault.{MapFault}
+use Rattle.sight_names.specs.declared.faults.MapFault.TheVariants as fault
+use Rattle.wad_dir.specs.declared.parts.Entry.{Entry}
+use Rattle.wad_dir.specs.declared.parts.MapSpot.{MapSpot}
+
+-- a name as it is compared: up to its first NUL, in upper case
+abbrev pub key_of : List ℕ → List ℕ
+key_of [] = []
+key_of (c ∷ cs) = if c == 0 then [] else to_ascii_uppercase c ∷ key_of cs
+
+abbrev pub same_name : List ℕ → List ℕ → Bool
+same_name a b = bytes_eq (key_of a) (key_of b)
+
+-- the names of entries, in order
+abbrev pub entry_names : List Entry → List (List ℕ)
+entry_names entries = map (λ (e : Entry). e.name) entries
+
+-- the place of the last of these names that is the map's, behind k names of which found is the last
+abbrev pub last_from : List (List ℕ) → List ℕ → ℕ → Option ℕ → Option ℕ
+last_from [] name k found = found
+last_from (n ∷ ns) name k found = last_from ns name (k + 1) (if same_name n name then Some k else found)
+
+-- the names that a map's lumps have
+abbrev pub run_names : List (List ℕ)
+run_names = codes "THINGS" ∷ codes "LINEDEFS" ∷ codes "SIDEDEFS" ∷ codes "VERTEXES" ∷ codes "SEGS" ∷ codes "SSECTORS" ∷ codes "NODES" ∷ codes "SECTORS" ∷ codes "REJECT" ∷ codes "BLOCKMAP" ∷ []
+
+abbrev pub is_run_name : List ℕ → Bool
+is_run_name name = list_any (λ n. same_name name n) run_names
+
+-- one of the names is this one
+abbrev pub has_name : List ℕ → List (List ℕ) → Bool
+has_name name names = list_any (λ n. same_name n name) names
+
+-- the longest stretch of such names, none twice, behind those before it
+abbrev pub run_from : List (List ℕ) → List (List ℕ) → List (List ℕ)
+run_from before [] = before
+run_from before (n ∷ ns) = if is_run_name n && not (has_name n before) then run_from (before ++ n ∷ []) ns else before
+
+-- the place of a lump in the run
+abbrev pub place_in : List ℕ → List (List ℕ) → Option ℕ
+place_in name run = position (λ n. same_name n name) run
+
+abbrev pub name_of : Lump → List ℕ
+name_of Linedefs = codes "LINEDEFS"
+name_of Sidedefs = codes "SIDEDEFS"
+name_of Vertexes = codes "VERTEXES"
+name_of Sectors = codes "SECTORS"
+
+infixl 10 ◌>>=◌
+abbrev pub ◌>>=◌ : {A B : Type 0} → Result A MapFault → (A → Result B MapFault) → Result B MapFault
+(Ok x) >>= f = f x
+(Err e) >>= f = Err e
+
+abbrev pub needed_in : List (List ℕ) → Lump → Result ℕ MapFault
+needed_in run lump = elim (place_in (name_of lump) run) [ Some k ↦ Ok k | None ↦ Err (fault.Missing lump) ]
+
+abbrev pub shifted : ℕ → Option ℕ → Option ℕ
+shifted by None = None
+shifted by (Some k) = Some (by + k)
+
+-- the spot of a map whose run stands right behind its marker
+unfoldable pub spot_in : ℕ → List (List ℕ) → Result MapSpot MapFault
+spot_in marker run = do
+  linedefs ← needed_in run Linedefs
+  sidedefs ← needed_in run Sidedefs
+  vertexes ← needed_in run Vertexes
+  sectors ← needed_in run Sectors
+  Ok (record { marker = marker; linedefs = marker + 1 + linedefs; sidedefs = marker + 1 + sidedefs; vertexes = marker + 1 + vertexes; sectors = marker + 1 + sectors; reject = shifted (marker + 1) (place_in (codes "REJECT") run) })
+
+abbrev pub begins_with_behavior : List (List ℕ) → Bool
+begins_with_behavior [] = false
+begins_with_behavior (n ∷ ns) = same_name n (codes "BEHAVIOR")
+
+-- the spot of a map behind whose marker these names follow
+unfoldable pub spot_behind : ℕ → List (List ℕ) → Result MapSpot MapFault
+spot_behind marker after =
+    let run : List (List ℕ) = run_from [] after in
+    if begins_with_behavior (drop (length run) after) then Err fault.Hexen else spot_in marker run
+
+-- the spot, among these names, of the map whose marker is the last of that name, or the first check that fails
+unfoldable pub spot_of : List (List ℕ) → List ℕ → Result MapSpot MapFault
+spot_of names name = elim (last_from names name 0 None) [
+  | None ↦ Err fault.NoMarker
+  | Some marker ↦ spot_behind marker (drop (marker + 1) names)
+]

@@ -1,0 +1,12 @@
+//! The directory of a WAD, and the place of a map in it.
+#![tactic(auto)]
+
+mod directory;
+mod laws;
+mod map;
+mod parts;
+
+pub use directory::{lump, read_wad};
+pub use laws::{prints_its_length, reads_what_is_printed};
+pub use map::find_map;
+pub use parts::{Entry, Kind, MapSpot, Wad};

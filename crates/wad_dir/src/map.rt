@@ -1,0 +1,192 @@
+//! The place of a map in a directory.
+
+ghost use Rattle.std.specs.Prelude.{◌≡◌, ◌+◌, ◌≤◌, ◌<◌, List, [], length, take, drop, IfOk, IfSome, None};
+ghost use Rattle.wad_dir.specs.Map.{same_name, last_from, run_from, is_run_name, has_name, place_in, needed_in, begins_with_behavior, spot_in, spot_behind, spot_of, name_of, entry_names};
+
+use crate::parts::{Entry, MapSpot, Wad};
+use sight_names::{Lump, MapFault};
+
+fn is_same_name(a: &[u8], b: &[u8]) -> bool
+    ensures { result ≡ same_name a.now b.now }
+{
+    let mut rest = b;
+    for x in a {
+        if *x == 0 {
+            return ends(rest);
+        }
+        match rest {
+            [y, more @ ..] if *y != 0 && y.to_ascii_uppercase() == x.to_ascii_uppercase() => {
+                rest = more;
+            }
+            _ => return false,
+        }
+    }
+    ends(rest)
+}
+
+fn ends(name: &[u8]) -> bool
+    ensures { result ≡ same_name [] name.now }
+{
+    match name {
+        [] => true,
+        [c, ..] => *c == 0,
+    }
+}
+
+fn last_named(entries: &[Entry], name: &[u8]) -> Option<usize>
+    ensures place { result ≡ last_from (entry_names entries.now) name.now 0 None }
+    ensures within { IfSome result (λ k. k < length entries.now) }
+{
+    let mut found = None;
+    for (k, entry) in entries.iter().enumerate() {
+        if is_same_name(&entry.name, name) {
+            found = Some(k);
+        }
+    }
+    found
+}
+
+fn is_map_lump(name: &[u8]) -> bool
+    ensures { result ≡ is_run_name name.now }
+{
+    is_same_name(name, b"THINGS")
+        || is_same_name(name, b"LINEDEFS")
+        || is_same_name(name, b"SIDEDEFS")
+        || is_same_name(name, b"VERTEXES")
+        || is_same_name(name, b"SEGS")
+        || is_same_name(name, b"SSECTORS")
+        || is_same_name(name, b"NODES")
+        || is_same_name(name, b"SECTORS")
+        || is_same_name(name, b"REJECT")
+        || is_same_name(name, b"BLOCKMAP")
+}
+
+fn has_named(entries: &[Entry], name: &[u8]) -> bool
+    ensures { result ≡ has_name name.now (entry_names entries.now) }
+{
+    for entry in entries {
+        if is_same_name(&entry.name, name) {
+            return true;
+        }
+    }
+    false
+}
+
+#[tactic(auto, using(crate::proofs::Names::names))]
+fn run_at_front(entries: &[Entry]) -> usize
+    ensures run { entry_names (take result entries.now) ≡ run_from [] (entry_names entries.now) }
+    ensures len { result ≡ length (run_from [] (entry_names entries.now)) }
+    ensures within { result ≤ length entries.now }
+{
+    for (k, entry) in entries.iter().enumerate() {
+        if !is_map_lump(&entry.name) || has_named(&entries[..k], &entry.name) {
+            return k;
+        }
+    }
+    entries.len()
+}
+
+fn place_of(run: &[Entry], name: &[u8]) -> Option<usize>
+    ensures place { result ≡ place_in name.now (entry_names run.now) }
+    ensures within { IfSome result (λ k. k < length run.now) }
+{
+    for (k, entry) in run.iter().enumerate() {
+        if is_same_name(&entry.name, name) {
+            return Some(k);
+        }
+    }
+    None
+}
+
+fn bytes_of_name(lump: Lump) -> &'static [u8]
+    ensures { result.now ≡ name_of lump }
+{
+    match lump {
+        Lump::Linedefs => b"LINEDEFS",
+        Lump::Sidedefs => b"SIDEDEFS",
+        Lump::Vertexes => b"VERTEXES",
+        Lump::Sectors => b"SECTORS",
+    }
+}
+
+fn needed(run: &[Entry], lump: Lump) -> Result<usize, MapFault>
+    ensures place { result ≡ needed_in (entry_names run.now) lump }
+    ensures within { IfOk result (λ k. k < length run.now) }
+{
+    match place_of(run, bytes_of_name(lump)) {
+        Some(place) => Ok(place),
+        None => Err(MapFault::Missing { lump }),
+    }
+}
+
+fn is_behavior_next(rest: &[Entry]) -> bool
+    ensures { result ≡ begins_with_behavior (entry_names rest.now) }
+{
+    match rest {
+        [] => false,
+        [entry, ..] => is_same_name(&entry.name, b"BEHAVIOR"),
+    }
+}
+
+#[tactic(auto, unfolding(crate::specs::Map::spot_in))]
+fn spot(marker: usize, run: &[Entry]) -> Result<MapSpot, MapFault>
+    requires { marker + 1 + length run.now ≤ 65536 }
+    ensures spot { result ≡ spot_in marker (entry_names run.now) }
+    ensures linedefs { IfOk result (λ spot. spot.linedefs ≤ marker + length run.now) }
+    ensures sidedefs { IfOk result (λ spot. spot.sidedefs ≤ marker + length run.now) }
+    ensures vertexes { IfOk result (λ spot. spot.vertexes ≤ marker + length run.now) }
+    ensures sectors { IfOk result (λ spot. spot.sectors ≤ marker + length run.now) }
+    ensures reject { IfOk result (λ spot. IfSome spot.reject (λ k. k ≤ marker + length run.now)) }
+{
+    let linedefs = needed(run, Lump::Linedefs)?;
+    let sidedefs = needed(run, Lump::Sidedefs)?;
+    let vertexes = needed(run, Lump::Vertexes)?;
+    let sectors = needed(run, Lump::Sectors)?;
+    let first = marker + 1;
+    let reject = match place_of(run, b"REJECT") {
+        Some(place) => Some((first + place) as u32),
+        None => None,
+    };
+    Ok(MapSpot {
+        marker: marker as u32,
+        linedefs: (first + linedefs) as u32,
+        sidedefs: (first + sidedefs) as u32,
+        vertexes: (first + vertexes) as u32,
+        sectors: (first + sectors) as u32,
+        reject,
+    })
+}
+
+fn spot_after(marker: usize, after: &[Entry]) -> Result<MapSpot, MapFault>
+    requires { marker + 1 + length after.now ≤ 65536 }
+    ensures spot { result ≡ spot_behind marker (entry_names after.now) }
+    ensures linedefs { IfOk result (λ spot. spot.linedefs ≤ marker + length after.now) }
+    ensures sidedefs { IfOk result (λ spot. spot.sidedefs ≤ marker + length after.now) }
+    ensures vertexes { IfOk result (λ spot. spot.vertexes ≤ marker + length after.now) }
+    ensures sectors { IfOk result (λ spot. spot.sectors ≤ marker + length after.now) }
+    ensures reject { IfOk result (λ spot. IfSome spot.reject (λ k. k ≤ marker + length after.now)) }
+{
+    let (run, rest) = after.split_at(run_at_front(after));
+    if is_behavior_next(rest) {
+        return Err(MapFault::Hexen);
+    }
+    spot(marker, run)
+}
+
+/// Where the lumps of the last map of that name stand, or the first check that fails.
+#[tactic(auto, unfolding(crate::specs::Map::spot_of))]
+pub fn find_map(wad: &Wad, name: &str) -> Result<MapSpot, MapFault>
+    ensures spot { result ≡ spot_of (entry_names wad.now.entries) name.now }
+    ensures linedefs { IfOk result (λ spot. spot.linedefs < length wad.now.entries) }
+    ensures sidedefs { IfOk result (λ spot. spot.sidedefs < length wad.now.entries) }
+    ensures vertexes { IfOk result (λ spot. spot.vertexes < length wad.now.entries) }
+    ensures sectors { IfOk result (λ spot. spot.sectors < length wad.now.entries) }
+    ensures reject { IfOk result (λ spot. IfSome spot.reject (λ k. k < length wad.now.entries)) }
+{
+    let entries = wad.entries.as_slice();
+    let Some(marker) = last_named(entries, name.as_bytes()) else {
+        return Err(MapFault::NoMarker);
+    };
+    let (_, after) = entries.split_at(marker + 1);
+    spot_after(marker, after)
+}

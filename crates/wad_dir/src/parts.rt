@@ -1,0 +1,39 @@
+//! What a WAD's directory holds, and where a map lies in it.
+
+ghost use Rattle.std.specs.Prelude.{◌≤◌, length};
+
+use sight_names::Items;
+
+/// Whether a WAD is a game's own or an addition to one.
+#[derive(Clone, Copy, Debug, PartialEq, Eq)]
+pub enum Kind {
+    Iwad,
+    Pwad,
+}
+
+/// The name of a lump, padded with NUL, and where its bytes lie. One of no bytes stands at 0.
+#[derive(Clone, Copy, Debug, PartialEq, Eq)]
+pub struct Entry {
+    pub name: [u8; 8],
+    pub at: u32,
+    pub size: u32,
+}
+
+/// The directory of a WAD, of at most 65,536 entries.
+#[derive(Drop)]
+pub struct Wad {
+    pub kind: Kind,
+    pub entries: Items<Entry>,
+    pub ghost few: { length entries ≤ 65536 },
+}
+
+/// Where the lumps of a map stand in the directory.
+#[derive(Clone, Copy, Debug, PartialEq, Eq)]
+pub struct MapSpot {
+    pub marker: u32,
+    pub linedefs: u32,
+    pub sidedefs: u32,
+    pub vertexes: u32,
+    pub sectors: u32,
+    pub reject: Option<u32>,
+}

@@ -1,0 +1,12 @@
+use Rattle.std.proofs.Common.{rules, refl, ◌<◌, ◌+◌, length}
+use Rattle.wad_dir.specs.Print.{reject_lump}
+use Rattle.wad_rewrite.proofs.LumpsLemmas.{views-set, views-insert}
+use Rattle.wad_rewrite.proofs.rewrite.replace_reject.Goals as goal
+
+pub returns-in-Some : goal.returns-in-Some
+returns-in-Some c =
+    let lt : c.in-Some.place < length c.args.lumps.now.items = search rules in
+    rw c.in-Some.is (views-set c.args.lumps.now.items c.in-Some.place c.index_mut.result.now _ (reject_lump c.args.table.now) c.args.table.now lt c.index_mut.ensures.value refl)
+
+pub returns-in_ok-insert-in-None : goal.returns-in_ok-insert-in-None
+returns-in_ok-insert-in-None c = rw (c.in-None.is, c.in_ok-insert-in-None.ensures.items) (views-insert c.args.lumps.now.items (c.args.spot.now.sectors + 1) _)
