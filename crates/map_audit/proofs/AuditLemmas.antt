@@ -1,6 +1,6 @@
 -- Steps of the search for the first fault, and that there is one at most.
-use Rattle.std.proofs.Common.{◌≡◌, ◌≢◌, ℕ, zero, suc, ◌<◌, ◌≤◌, ◌⊎◌, inl, inr, List, [], ◌∷◌, length, slice_get, slice_index_or, Option, Some, None, refl, sym, ◌∙◌, ap, subst, subst₂, arith, map, option_map, option_and_then, ◌<ℤ◌, MatchOption, Result, Ok, Err, ◌↔◌}
-use Rattle.std.proofs.lemmas.Option.{slice_get-get_or, slice_get_within, none-some}
+use Rattle.std.proofs.Common.{◌≡◌, ◌≢◌, ℕ, ◌<◌, ◌≤◌, ◌⊎◌, inl, inr, List, length, slice_get, slice_index_or, Option, Some, None, refl, sym, ◌∙◌, ap, subst, subst₂, arith, option_and_then, ◌<ℤ◌, MatchOption, Result, Ok, Err, ◌↔◌}
+use Rattle.std.proofs.lemmas.Option.{slice_get-get_or, none-some}
 use Rattle.sight_names.specs.declared.names.Pt.{Pt}
 use Rattle.sight_names.specs.declared.plan.Line.{Line}
 use Rattle.sight_names.specs.declared.faults.LineFault.{LineFault}
@@ -8,9 +8,10 @@ use Rattle.sight_names.specs.declared.faults.LineFault.TheVariants.{Cross, Touch
 use Rattle.sight_names.specs.Plan.{PlanParts, IsPlan, IsPlanLine, IsBefore}
 use Rattle.sight_names.specs.Map.{Map, MapLine, map_of, line_at, looked_up, origin}
 use Rattle.sight_names.specs.Sound.{LinesMeetAtEnds}
-use Rattle.sight_names.proofs.PlanMap.{line_of_plan, points_differ}
+use Rattle.sight_names.proofs.PlanMap.{points_differ}
 use Rattle.geom_exact.specs.declared.Relation.{Relation}
 use Rattle.geom_exact.specs.declared.Relation.TheVariants.{Apart, Ends, Cross as Crossing, Touch as Touching, Overlap as Overlapping}
+use Rattle.sight_laws.proofs.Plans.{line_there, no_line_there, line_below}
 use Rattle.geom_exact.proofs.Uniqueness.{one_relation}
 use Rattle.geom_exact.proofs.Meeting.{apart_meet, ends_meet, no_meet_overlap, no_meet_touch, no_meet_cross, meet_swapped, apart_swapped}
 use Rattle.geom_exact.proofs.Filters.{apart_below, apart_before_all}
@@ -42,25 +43,8 @@ pub ends_differ : (p : PlanParts) → IsPlan p → (read : List Pt) → read ≡
 ends_differ p h read e l f = subst (λ (xs : List Pt). slice_index_or xs l.a origin ≢ slice_index_or xs l.b origin) (sym e) (points_differ p h l.a l.b f.first f.second f.differ)
 
 -- ---- lines of the plan and of its map
-pub line_in_map : (points : List Pt) (ls : List (Option Line)) (i : ℕ) (l : Line) → option_and_then (λ k. k) (slice_get ls i) ≡ Some l → option_and_then (λ k. k) (slice_get (map (option_map (looked_up points)) ls) i) ≡ Some (looked_up points l)
-line_in_map points [] i l e = absurd (none-some l e)
-line_in_map points (None ∷ ls) zero l e = absurd (none-some l e)
-line_in_map points (Some k ∷ ls) zero l e = ap (option_map (looked_up points)) e
-line_in_map points (None ∷ ls) (suc i) l e = line_in_map points ls i l e
-line_in_map points (Some k ∷ ls) (suc i) l e = line_in_map points ls i l e
-
-no_line : (points : List Pt) (ls : List (Option Line)) (i : ℕ) → option_and_then (λ k. k) (slice_get ls i) ≡ None → option_and_then (λ k. k) (slice_get (map (option_map (looked_up points)) ls) i) ≡ None
-no_line points [] i e = refl
-no_line points (None ∷ ls) zero e = refl
-no_line points (Some k ∷ ls) zero e = absurd (none-some k (sym e))
-no_line points (None ∷ ls) (suc i) e = no_line points ls i e
-no_line points (Some k ∷ ls) (suc i) e = no_line points ls i e
-
-pub line_within : (p : PlanParts) (i : ℕ) (l : MapLine) → line_at (map_of p) i ≡ Some l → i < length p.lines
-line_within p i l e = let k = line_of_plan p.points p.lines i l e in slice_get_within p.lines i (Some k.0) k.1
-
-pub line_below : (p : PlanParts) (i : ℕ) (l : Line) → option_and_then (λ k. k) (slice_get p.lines i) ≡ Some l → i < length p.lines
-line_below p i l e = line_within p i (looked_up p.points l) (line_in_map p.points p.lines i l e)
+pub record_below : (p : PlanParts) (i : ℕ) (l : Line) → option_and_then (λ k. k) (slice_get p.lines i) ≡ Some l → i < length p.lines
+record_below p i l e = line_below p i (looked_up p.points l) (line_there p i l (sym e))
 
 one_line : (o : Option MapLine) (k l : MapLine) → o ≡ Some k → o ≡ Some l → k ≡ l
 one_line o k l e f = injective (sym e ∙ f)
@@ -73,10 +57,10 @@ fine_of : (m : Map) (i j : ℕ) (a b : MapLine) → line_at m i ≡ Some a → l
 fine_of m i j a b ea eb h k l ek el = subst₂ (λ (x y : MapLine). AreFine x y) (one_line (line_at m i) a k ea ek) (one_line (line_at m j) b l eb el) h
 
 pub fine_without_second : (p : PlanParts) (i j : ℕ) → option_and_then (λ l. l) (slice_get p.lines j) ≡ None → FineAt (map_of p) i j
-fine_without_second p i j e k l ek el = absurd (none-some l (sym (no_line p.points p.lines j e) ∙ el))
+fine_without_second p i j e k l ek el = absurd (none-some l (sym (no_line_there p j (sym e)) ∙ el))
 
 pub fine_without_first : (p : PlanParts) (i j : ℕ) → option_and_then (λ l. l) (slice_get p.lines i) ≡ None → FineAt (map_of p) i j
-fine_without_first p i j e k l ek el = absurd (none-some k (sym (no_line p.points p.lines i e) ∙ ek))
+fine_without_first p i j e k l ek el = absurd (none-some k (sym (no_line_there p i (sym e)) ∙ ek))
 
 fair : (i j : ℕ) (k l : MapLine) (relation : Relation) → fault_by i j relation ≡ None → AreRelated k l relation → AreFine k l
 fair i j k l Apart e h = apart_meet _ _ _ _ h
@@ -96,21 +80,21 @@ pair_of : (p : PlanParts) (i j : ℕ) (one other : Line) (relation : Relation) �
     → AreRelated (looked_up p.points one) (looked_up p.points other) relation → IsPair (map_of p) i j relation
 pair_of p i j one other relation e f h = record {
   one = looked_up p.points one;
-  is_one = line_in_map p.points p.lines i one e;
+  is_one = line_there p i one (sym e);
   other = looked_up p.points other;
-  is_other = line_in_map p.points p.lines j other f;
+  is_other = line_there p j other (sym f);
   related = h;
 }
 
 -- what a call on two lines answers
 pub answered : (p : PlanParts) (i j : ℕ) (one other : Line) (relation : Relation) (answer : Option LineFault) → option_and_then (λ l. l) (slice_get p.lines i) ≡ Some one → option_and_then (λ l. l) (slice_get p.lines j) ≡ Some other
     → AreRelated (looked_up p.points one) (looked_up p.points other) relation → answer ≡ fault_by i j relation → MatchOption answer (FineAt (map_of p) i j) (λ f. IsFaultOf (map_of p) i j f)
-answered p i j one other relation None e f h g = fine_of (map_of p) i j (looked_up p.points one) (looked_up p.points other) (line_in_map p.points p.lines i one e) (line_in_map p.points p.lines j other f) (fair i j (looked_up p.points one) (looked_up p.points other) relation (sym g) h)
+answered p i j one other relation None e f h g = fine_of (map_of p) i j (looked_up p.points one) (looked_up p.points other) (line_there p i one (sym e)) (line_there p j other (sym f)) (fair i j (looked_up p.points one) (looked_up p.points other) relation (sym g) h)
 answered p i j one other relation (Some fault) e f h g = record { relation = relation; pair = pair_of p i j one other relation e f h; named = sym g }
 
 -- nothing is left behind the last record
 pub all_later : (p : PlanParts) (i n : ℕ) → FineBelow (map_of p) i n → length p.lines ≤ n → (j : ℕ) → i < j → FineAt (map_of p) i j
-all_later p i n h le j lt k l ek el = h j (let w = line_within p j l el in omega arith) lt k l ek el
+all_later p i n h le j lt k l ek el = h j (let w = line_below p j l el in omega arith) lt k l ek el
 
 -- ---- the first pair
 first_named : (m : Map) (i j : ℕ) (relation : Relation) (f : LineFault) → IsFirstPair m i j relation → fault_by i j relation ≡ Some f → IsLineFault m f
@@ -171,8 +155,8 @@ one_fault m f g hf hg =
 -- ---- a sound map
 pub sound_of : (p : PlanParts) → FineBefore (map_of p) (length p.lines) → LinesMeetAtEnds (map_of p)
 sound_of p h i j k l n ek el = elim (order i j n) as (λ _. AreFine k l) [
-  | inl lt ↦ h i (line_within p i k ek) j lt k l ek el
-  | inr lt ↦ meet_swapped l.first l.second k.first k.second (h j (line_within p j l el) i lt l k el ek)
+  | inl lt ↦ h i (line_below p i k ek) j lt k l ek el
+  | inr lt ↦ meet_swapped l.first l.second k.first k.second (h j (line_below p j l el) i lt l k el ek)
 ]
   where
     order : (i j : ℕ) → i ≢ j → (i < j) ⊎ (j < i)

@@ -43,10 +43,8 @@ fn fault_from(plan: &Plan, i: u16) -> Option<LineFault>
     requires { FineBefore (map_of plan.now) i }
     ensures { MatchOption result (FineBefore (map_of plan.now) (i + 1)) (λ f. IsLineFault (map_of plan.now) f) }
 {
-    match plan.line(i) {
-        Some(line) => fault_of_line(plan, i, line),
-        None => None,
-    }
+    let line = plan.line(i)?;
+    fault_of_line(plan, i, line)
 }
 
 /// The same for a record that is a line.
@@ -70,10 +68,8 @@ fn fault_with(plan: &Plan, i: u16, line: Line, j: u16) -> Option<LineFault>
     requires fits { IsPlanLine plan.now.sectors (length plan.now.points) line }
     ensures { MatchOption result (FineAt (map_of plan.now) i j) (λ f. IsFaultOf (map_of plan.now) i j f) }
 {
-    match plan.line(j) {
-        Some(other) => fault_of_pair(i, j, relation(plan, line, other)),
-        None => None,
-    }
+    let other = plan.line(j)?;
+    fault_of_pair(i, j, relation(plan, line, other))
 }
 
 /// The fault of records `i` and `j`, None where their lines are apart or have an end in common.

@@ -1,16 +1,15 @@
 -- The plan of points in order and of lines between their numbers is a plan of the map.
-use Rattle.std.proofs.Common.{◌≡◌, ◌≢◌, ℕ, zero, suc, ◌+◌, ◌/◌, ◌<◌, ◌≤◌, ◌⊎◌, inl, inr, List, [], ◌∷◌, ◌++◌, length, take, get_or, slice_get, slice_index_or, Contains, Option, Some, None, IfSome, Bool, true, false, refl, sym, ap, ap₂, ◌∙◌, subst, arith, map, option_map, option_and_then, filter_map, IsTrue}
+use Rattle.std.proofs.Common.{◌≡◌, ℕ, zero, suc, ◌+◌, ◌<◌, ◌≤◌, ◌⊎◌, inl, inr, List, [], ◌∷◌, ◌++◌, length, take, slice_get, slice_index_or, Contains, Option, Some, None, IfSome, refl, sym, ap, ap₂, ◌∙◌, subst, arith, map, option_map, option_and_then}
 use Rattle.std.proofs.lemmas.List.{take_more}
 use Rattle.sight_names.specs.declared.names.Pt.{Pt}
 use Rattle.sight_names.specs.declared.plan.Line.{Line}
 use Rattle.sight_names.specs.Plan.{PlanParts, IsPlan, IsPlanLine, IsBefore}
-use Rattle.sight_names.specs.Map.{Map, MapLine, map_of, looked_up, origin, IsMap, IsMapLine, line_at}
-use Rattle.sight_names.specs.Points.{points_of, in_order, ends_of}
-use Rattle.sight_names.proofs.Lists.{get_of_contains, contains_of_get, contains_head, contains_tail, contains_none, contains_cases}
-use Rattle.sight_names.proofs.PlanPoints.{before_irreflexive, as_indices, in_order_ascends, in_order_from, in_order_has, the_ends, IsEnd, at, ends_from, get_in}
+use Rattle.sight_names.specs.Map.{MapLine, map_of, looked_up, origin, IsMap, IsMapLine}
+use Rattle.sight_names.proofs.Lists.{contains_head, contains_tail, contains_none, contains_cases}
+use Rattle.sight_names.proofs.PlanPoints.{before_irreflexive, the_ends, IsEnd, at, ends_from, get_in}
 use Rattle.sight_names.proofs.PlanMap.{get_at}
 use Rattle.map_lumps.specs.declared.records.PlacedLine.{PlacedLine}
-use Rattle.map_lumps.specs.Records.{as_map_line, placed_ends, EndsBelow, IsInOrder}
+use Rattle.map_lumps.specs.Records.{placed_ends, EndsBelow, IsInOrder}
 
 -- ---- one line more
 

@@ -1,5 +1,5 @@
 -- The checks before that of the number of points, in their order.
-use Rattle.std.proofs.Common.{◌≡◌, ℕ, ◌/◌, ◌%◌, ◌≤◌, List, length, Option, Some, None, Bool, true, false, ◌==◌, not, cond, IfSome, nat_lt, refl, sym, ap, ◌∙◌, arith}
+use Rattle.std.proofs.Common.{◌≡◌, ℕ, ◌/◌, ◌%◌, ◌≤◌, List, length, Option, Some, None, Bool, true, false, ◌==◌, not, cond, IfSome, nat_lt, refl, sym, ◌∙◌, arith}
 use Rattle.sight_names.specs.declared.faults.Lump.{Lump}
 use Rattle.sight_names.specs.declared.faults.LumpFault.{LumpFault}
 use Rattle.sight_names.specs.declared.faults.LumpFault.TheVariants.{BadSize, TooManySectors, TooManyLines, TooManyPoints}

@@ -1,6 +1,6 @@
 -- Points in order: what sorting leaves, and what a search finds.
-use Rattle.std.proofs.Common.{◌≡◌, ◌≢◌, ℕ, zero, suc, ◌+◌, ◌<◌, ◌≤◌, ◌⊎◌, inl, inr, List, [], ◌∷◌, ◌++◌, length, take, get_or, slice_get, slice_index_or, Contains, Option, Some, None, Result, Ok, Err, Bool, true, false, ◌&&◌, ℤ, ◌<ℤ◌, refl, sym, ap, ap₂, ◌∙◌, subst, arith, map, option_map, filter_map, IsPermutation, Ordering, Less, Equal, Greater}
-use Rattle.std.specs.Ordering.{int_cmp, int_eq, ordering_then, ordering_index, is_lt, is_eq, eq_by_cmp}
+use Rattle.std.proofs.Common.{◌≡◌, ℕ, zero, suc, ◌+◌, ◌<◌, ◌≤◌, ◌⊎◌, inl, inr, List, [], ◌∷◌, length, slice_get, slice_index_or, Contains, Some, Err, true, false, ◌&&◌, ℤ, ◌<ℤ◌, refl, sym, ap₂, ◌∙◌, subst, arith, IsPermutation, Ordering, Less, Equal, Greater}
+use Rattle.std.specs.Ordering.{int_cmp, int_eq, ordering_then, is_lt, is_eq}
 use Rattle.std.specs.Cmp.{IsTotalOrder, IsEquivalence}
 use Rattle.std.specs.List.{AllByRecursion, HoldsAt, dedup}
 use Rattle.std.specs.List.Retain.{IsFiltered, DiffersFromLast}
@@ -13,7 +13,7 @@ use borrow.Author.Differences.{ints}
 use Rattle.sight_names.specs.declared.names.Pt.{Pt}
 use Rattle.sight_names.specs.Plan.{IsBefore}
 use Rattle.sight_names.specs.Points.{in_order, pt_eq}
-use Rattle.sight_names.proofs.Lists.{same_ascending, get_of_contains, contains_head, contains_none, contains_cases}
+use Rattle.sight_names.proofs.Lists.{same_ascending, get_of_contains, contains_none, contains_cases}
 use Rattle.sight_names.proofs.PlanPoints.{before_irreflexive, before_asymmetric, IsAscending, as_indices, in_order_ascends, in_order_from, in_order_has}
 use Rattle.map_lumps.specs.Records.{IsInOrder}
 

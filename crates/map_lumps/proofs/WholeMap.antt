@@ -1,5 +1,5 @@
 -- The lines that sound records spell are a map, and the plan that is made of them stands for it.
-use Rattle.std.proofs.Common.{◌≡◌, ◌≢◌, ℕ, zero, suc, ◌+◌, ◌*◌, ◌/◌, ◌<◌, ◌≤◌, List, [], ◌∷◌, ◌++◌, length, slice_get, slice_index_or, Contains, Option, Some, None, IfSome, Bool, true, false, ◌==◌, ◌&&◌, ◌||◌, not, cond, is_none, nat_lt, nat_le, IsTrue, refl, sym, ap, ap₂, ◌∙◌, subst, arith, map, option_map, option_and_then, filter_map, zero-add}
+use Rattle.std.proofs.Common.{◌≡◌, ◌≢◌, ℕ, zero, suc, ◌+◌, ◌*◌, ◌/◌, ◌<◌, ◌≤◌, List, length, slice_get, Contains, Option, Some, None, IfSome, Bool, true, false, ◌==◌, ◌&&◌, ◌||◌, not, cond, is_none, nat_lt, nat_le, IsTrue, refl, sym, ap, ◌∙◌, subst, arith, map, option_map, option_and_then, filter_map, zero-add}
 use Rattle.std.specs.Int.{bit_at}
 use Rattle.std.proofs.lemmas.List.{length-map}
 use Rattle.sight_names.specs.declared.names.Pt.{Pt}
@@ -7,10 +7,10 @@ use Rattle.sight_names.specs.declared.plan.Line.{Line}
 use Rattle.sight_names.specs.declared.faults.LumpFault.{LumpFault}
 use Rattle.sight_names.specs.declared.faults.LumpFault.TheVariants.{BadVertex, BadSide, BadSector, TooManyPoints}
 use Rattle.sight_names.specs.Plan.{PlanParts, IsPlan}
-use Rattle.sight_names.specs.Map.{Map, MapLine, map_of, looked_up, IsMap, IsMapLine, line_at}
+use Rattle.sight_names.specs.Map.{MapLine, map_of, looked_up, IsMap, IsMapLine}
 use Rattle.sight_names.specs.Points.{points_of, in_order, ends_of, pt_eq}
-use Rattle.sight_names.specs.Lumps.{numbers_from, numbers_below, linedef, line_fault, lump_fault, fault_if, map_of_lumps, vertex, side_sector, u16_at, is_bad_side, is_bad_sector}
-use Rattle.sight_names.proofs.PlanPoints.{in_order_from, in_order_has, the_ends}
+use Rattle.sight_names.specs.Lumps.{numbers_from, numbers_below, linedef, line_fault, lump_fault, fault_if, map_of_lumps, vertex, side_sector, u16_at, is_bad_sector}
+use Rattle.sight_names.proofs.PlanPoints.{in_order_from, in_order_has}
 use Rattle.map_lumps.specs.declared.records.PlacedLine.{PlacedLine}
 use Rattle.map_lumps.specs.Records.{as_map_line, placed_ends, EndsAmong, EndsBelow, IsInOrder}
 use Rattle.map_lumps.specs.Answers.{Passes}

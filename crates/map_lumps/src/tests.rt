@@ -1,5 +1,7 @@
 //! Small maps, and each fault of their lumps.
 
+ghost use Rattle.std.specs.Prelude.{◌<◌};
+
 use crate::read_map;
 use sight_names::{Line, Lump, LumpFault, Plan, Pt};
 use std::alloc::{AllocError, Global};

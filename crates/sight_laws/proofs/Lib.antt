@@ -3,3 +3,5 @@ pub mod Paths
 pub mod Places
 pub mod Rays
 pub mod Plans
+pub mod StepOff
+pub mod SightLaws

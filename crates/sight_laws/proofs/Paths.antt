@@ -119,7 +119,7 @@ on_same a b p q h (l, m, n, c) = (
   },
 )
 
-free_same : (m : Map) (p q : Point) → SamePoint p q → OnNoLine m p → OnNoLine m q
+pub free_same : (m : Map) (p q : Point) → SamePoint p q → OnNoLine m p → OnNoLine m q
 free_same m p q h k i l is on =
     k i l is (segment_of_on (point_of l.first) (point_of l.second) p (on_same (vec (point_of l.first)) (vec (point_of l.second)) p q h (on_of_segment (point_of l.first) (point_of l.second) q on)))
 

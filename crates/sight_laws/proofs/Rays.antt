@@ -1,5 +1,5 @@
 -- A ray's line in the words of points: order along it, the point where it crosses a segment, what is between two of its points.
-use Rattle.std.proofs.Common.{◌≡◌, ℤ, pos, ◌+ℤ◌, ◌*ℤ◌, ◌-ℤ◌, ◌≤ℤ◌, ◌<ℤ◌, neg_ℤ, arith, sym, ap, ap₂, subst, ◌∙◌, ◌⊎◌, inl, inr, [], ◌∷◌}
+use Rattle.std.proofs.Common.{◌≡◌, zero, suc, not, true, false, ◌+◌, ◌<◌, subst₂, Bool, ℕ, ℤ, pos, ◌+ℤ◌, ◌*ℤ◌, ◌-ℤ◌, ◌≤ℤ◌, ◌<ℤ◌, neg_ℤ, arith, sym, ap, ap₂, subst, ◌∙◌, ◌⊎◌, inl, inr, [], ◌∷◌}
 use borrow.Author.Differences.{ints}
 use lib.IntN.{*ℤ-zero, zero-*ℤ, *ℤ_comm}
 use Rattle.exact_ring.proofs.IntLaws.{neg-*ℤ}
@@ -8,13 +8,14 @@ use Rattle.exact_ring.proofs.Signs.{mul-pos, mul-nonneg, pos-of-mul, nonneg-of-m
 use Rattle.exact_ring.proofs.MoreSigns.{mul-neg, square-pos, neg-of-mul, nonpos-of-mul}
 use Rattle.sight_names.specs.declared.names.Pt.{Pt}
 use Rattle.sight_names.specs.declared.names.Ray.{Ray}
-use Rattle.sight_names.specs.Point.{Point, point_of, SamePoint, OnSegment, value_at, turn_at}
-use Rattle.sight_names.specs.Ray.{ray_value, along, NotBehind}
-use Rattle.sight_names.proofs.Affine.{value_pos}
+use Rattle.sight_names.specs.Point.{Point, point_of, SamePoint, IsMean, OnSegment, InsideSegment, value_at, turn_at}
+use Rattle.sight_names.specs.Map.{MapLine}
+use Rattle.sight_names.specs.Ray.{ray_value, along, NotBehind, SplitsLine, IsCrossing}
+use Rattle.sight_names.proofs.Affine.{value_pos, neg_value, value_mean}
 use Rattle.sight_names.proofs.Laws.{on_segment_sym}
-use Rattle.plane_base.proofs.Vec.{V, Lin, at, On, value, mean}
+use Rattle.plane_base.proofs.Vec.{V, Lin, at, On, value, mean, det-swap}
 use Rattle.sight_laws.proofs.Bridge.{vec, value_at_is, turn_at_is, on_of_segment, segment_of_on}
-use Rattle.sight_laws.proofs.Paths.{point_at, above, same_on}
+use Rattle.sight_laws.proofs.Paths.{point_at, above, same_on, same_value}
 use Rattle.sight_laws.proofs.Places.{place, norm, NotAfter, den, between, on_line, not_before_start, not_after_stop, same_from_places, crossing_one, turn_at_crossing}
 
 -- the functional of a ray
@@ -305,6 +306,10 @@ only_end r p q z ep nq o ez = segment_of_on p p z (turned (lin r) (vec p) (vec q
         alone : (l m x y z : ℤ) → m ≡ pos 0 → z ≡ l *ℤ x +ℤ m *ℤ y → z ≡ l *ℤ x +ℤ pos 0 *ℤ x
         alone l m x y z e f = let k : m *ℤ y ≡ pos 0 = ap (λ (t : ℤ). t *ℤ y) e ∙ zero-*ℤ y in let j : pos 0 *ℤ x ≡ pos 0 = zero-*ℤ x in omega (arith, ints)
 
+-- a point has one place under each of its names
+pub along_same : (r : Ray) (p s : Point) → SamePoint p s → along r p *ℤ pos s.d ≡ along r s *ℤ pos p.d
+along_same r p s h = combine2 r.b (neg_ℤ r.a) h.x h.y (by_ring (r.a ∷ r.b ∷ p.x ∷ p.y ∷ s.x ∷ s.y ∷ pos p.d ∷ pos s.d ∷ []) _ _ (search quoting depth 60 fits 200000) (search quoting depth 60 fits 200000) tt)
+
 -- ---- the order of points under other names
 pub not_behind_same : (r : Ray) (p q s t : Point) → SamePoint p s → SamePoint q t → NotBehind r p q → NotBehind r s t
 not_behind_same r p q s t h k f =
@@ -327,9 +332,140 @@ not_behind_same r p q s t h k f =
         let c = mul-le (sd *ℤ td) (hp *ℤ qd) (hq *ℤ pd) w h in
         omega (arith, ints)
 
-    along_same : (r : Ray) (p s : Point) → SamePoint p s → along r p *ℤ pos s.d ≡ along r s *ℤ pos p.d
-    along_same r p s h = combine2 r.b (neg_ℤ r.a) h.x h.y (by_ring (r.a ∷ r.b ∷ p.x ∷ p.y ∷ s.x ∷ s.y ∷ pos p.d ∷ pos s.d ∷ []) _ _ (search quoting depth 60 fits 200000) (search quoting depth 60 fits 200000) tt)
-
 -- a segment between points under other names
 pub segment_same : (p q s t z : Point) → SamePoint p s → SamePoint q t → OnSegment p q z → OnSegment s t z
 segment_same p q s t z h k o = on_segment_sym t s z (same_on q t s z k (on_segment_sym s q z (same_on p s q z h o)))
+
+-- ---- the turn of a point before the crossing
+pub before_turn : (r : Ray) (u v : Pt) (x z : Point) → Parts r u v → OnSegment (point_of u) (point_of v) x → ray_value r x ≡ pos 0 → ray_value r z ≡ pos 0 → Behind r x z → turn_at u v z <ℤ pos 0
+before_turn r u v x z h o ex ez b =
+    let e = turn_order r u v x z h o ex ez in
+    let p : (den (lin r) (vec (point_of u)) (vec (point_of v)) *ℤ (along r z *ℤ pos x.d -ℤ along r x *ℤ pos z.d)) <ℤ pos 0 = mul-neg _ _ (parts_den r u v h) (down _ _ b) in
+    neg-of-mul (norm (lin r) *ℤ pos x.d) (turn_at u v z) (scale r u v x h) (subst (λ (y : ℤ). y <ℤ pos 0) (sym e) p)
+  where
+    down : (x y : ℤ) → x <ℤ y → (x -ℤ y) <ℤ pos 0
+    down x y h = omega (arith, ints)
+
+pub turn_swap : (u v : Pt) (z : Point) → turn_at v u z ≡ neg_ℤ (turn_at u v z)
+turn_swap u v z = turn_at_is v u z ∙ det-swap (vec (point_of u)) (vec (point_of v)) (vec z) ∙ ap neg_ℤ (sym (turn_at_is u v z))
+
+-- ---- the ray the other way
+abbrev pub turned : Ray → Ray
+turned r = record { first = r.last; last = r.first; a = neg_ℤ r.a; b = neg_ℤ r.b; c = neg_ℤ r.c }
+
+pub turned_value : (r : Ray) (p : Point) → ray_value (turned r) p ≡ neg_ℤ (ray_value r p)
+turned_value r p = neg_value r.a r.b r.c p
+
+pub turned_zero : (r : Ray) (p : Point) → ray_value r p ≡ pos 0 → ray_value (turned r) p ≡ pos 0
+turned_zero r p e = turned_value r p ∙ ap neg_ℤ e
+
+pub turned_along : (r : Ray) (p : Point) → along (turned r) p ≡ neg_ℤ (along r p)
+turned_along r p = ring r.a r.b p.x p.y
+  where
+    ring : (a b x y : ℤ) → neg_ℤ b *ℤ x -ℤ neg_ℤ a *ℤ y ≡ neg_ℤ (b *ℤ x -ℤ a *ℤ y)
+    ring a b x y = by_ring (a ∷ b ∷ x ∷ y ∷ []) _ _ (search quoting depth 60 fits 200000) (search quoting depth 60 fits 200000) tt
+
+pub turned_not_behind : (r : Ray) (p q : Point) → NotBehind r p q → NotBehind (turned r) q p
+turned_not_behind r p q h = subst₂ (λ (x y : ℤ). (x *ℤ pos p.d) ≤ℤ (y *ℤ pos q.d)) (sym (turned_along r q)) (sym (turned_along r p)) (flip (along r p) (along r q) (pos p.d) (pos q.d) h)
+  where
+    flip : (x y d e : ℤ) → (x *ℤ e) ≤ℤ (y *ℤ d) → (neg_ℤ y *ℤ d) ≤ℤ (neg_ℤ x *ℤ e)
+    flip x y d e h = omega (arith, ints, neg-*ℤ y d, neg-*ℤ x e)
+
+pub turned_behind : (r : Ray) (p q : Point) → Behind (turned r) p q → Behind r q p
+turned_behind r p q h = flip (along r p) (along r q) (pos p.d) (pos q.d) (subst₂ (λ (x y : ℤ). (x *ℤ pos p.d) <ℤ (y *ℤ pos q.d)) (turned_along r q) (turned_along r p) h)
+  where
+    flip : (x y d e : ℤ) → (neg_ℤ y *ℤ d) <ℤ (neg_ℤ x *ℤ e) → (x *ℤ e) <ℤ (y *ℤ d)
+    flip x y d e h = omega (arith, ints, neg-*ℤ y d, neg-*ℤ x e)
+
+pub turned_splits : (r : Ray) (l : MapLine) (b : Bool) → SplitsLine r l (not b) → SplitsLine (turned r) l b
+turned_splits r l true h = (above_of _ _ (turned_value r (point_of l.first)) h.0, below_of _ _ (turned_value r (point_of l.second)) h.1)
+  where
+    above_of : (x y : ℤ) → x ≡ neg_ℤ y → y <ℤ pos 0 → pos 0 <ℤ x
+    above_of x y e h = omega (arith, ints)
+
+    below_of : (x y : ℤ) → x ≡ neg_ℤ y → pos 0 <ℤ y → x <ℤ pos 0
+    below_of x y e h = omega (arith, ints)
+turned_splits r l false h = (below_of _ _ (turned_value r (point_of l.first)) h.0, above_of _ _ (turned_value r (point_of l.second)) h.1)
+  where
+    above_of : (x y : ℤ) → x ≡ neg_ℤ y → y <ℤ pos 0 → pos 0 <ℤ x
+    above_of x y e h = omega (arith, ints)
+
+    below_of : (x y : ℤ) → x ≡ neg_ℤ y → pos 0 <ℤ y → x <ℤ pos 0
+    below_of x y e h = omega (arith, ints)
+
+pub turned_crossing : (r : Ray) (l : MapLine) (p : Point) → IsCrossing r l p → IsCrossing (turned r) l p
+turned_crossing r l p h = (h.0, turned_zero r p h.1)
+
+-- ---- a line that the ray splits is crossed once, strictly inside
+pub split_crossing : (r : Ray) (l : MapLine) (b : Bool) → SplitsLine r l b → (z : Point) × IsCrossing r l z
+split_crossing r l true h = let x = crossing_there r l.first l.second (record { left = h.0; right = h.1 }) in (x.0, (x.1, x.2))
+split_crossing r l false h = let x = crossing_there r l.second l.first (record { left = h.1; right = h.0 }) in (x.0, (on_segment_sym (point_of l.second) (point_of l.first) x.0 x.1, x.2))
+
+pub split_once : (r : Ray) (l : MapLine) (b : Bool) (z w : Point) → SplitsLine r l b → IsCrossing r l z → IsCrossing r l w → SamePoint z w
+split_once r l true z w h c d = crossing_only r l.first l.second z w (record { left = h.0; right = h.1 }) c.0 c.1 d.0 d.1
+split_once r l false z w h c d =
+    crossing_only r l.second l.first z w (record { left = h.1; right = h.0 }) (on_segment_sym (point_of l.first) (point_of l.second) z c.0) c.1 (on_segment_sym (point_of l.first) (point_of l.second) w d.0) d.1
+
+pub split_direction : (r : Ray) (l : MapLine) (b : Bool) → SplitsLine r l b → HasDirection r
+split_direction r l true h = has_direction r l.first l.second h.0 h.1
+split_direction r l false h = has_direction r l.second l.first h.1 h.0
+
+-- a crossing isn't a point off the ray's line
+pub not_at : (r : Ray) (z : Point) (p : Pt) → ray_value r z ≡ pos 0 → ¬ (ray_value r (point_of p) ≡ pos 0) → ¬ SamePoint z (point_of p)
+not_at r z p e n h =
+    let f = same_value (lin r) z (point_of p) h in
+    n (value_is r (point_of p) ∙ gone (at (lin r) (vec z)) (at (lin r) (vec (point_of p))) (pos z.d) (above z) (sym (value_is r z) ∙ e) f)
+  where
+    gone : (x y d : ℤ) → pos 0 <ℤ d → x ≡ pos 0 → x *ℤ pos 1 ≡ y *ℤ d → y ≡ pos 0
+    gone x y d h e f = zero-of-mul d y h (let g = *ℤ_comm y d in omega (arith, ints))
+
+-- the crossing is strictly inside the line
+pub split_inside : (r : Ray) (l : MapLine) (b : Bool) (z : Point) → SplitsLine r l b → IsCrossing r l z → InsideSegment (point_of l.first) (point_of l.second) z
+split_inside r l b z h ((u, v, k), e) =
+    let n = off_ends r l b h in
+    let w : pos u *ℤ ray_value r (point_of l.first) +ℤ pos v *ℤ ray_value r (point_of l.second) ≡ pos 0 = weights r l z u v k e in (
+      u,
+      v,
+      some u v (ray_value r (point_of l.first)) (ray_value r (point_of l.second)) k.weighed n.1 w,
+      some v u (ray_value r (point_of l.second)) (ray_value r (point_of l.first)) (swap u v k.weighed) n.0 (turn (pos u) (pos v) _ _ w),
+      k,
+      not_at r z l.first e n.0,
+      not_at r z l.second e n.1,
+    )
+  where
+    off_ends : (r : Ray) (l : MapLine) (b : Bool) → SplitsLine r l b → (¬ (ray_value r (point_of l.first) ≡ pos 0)) × (¬ (ray_value r (point_of l.second) ≡ pos 0))
+    off_ends r l true h = let a = h.0 in let b = h.1 in ((λ e. up _ a e), (λ e. low _ b e))
+      where
+        up : (x : ℤ) → pos 0 <ℤ x → x ≡ pos 0 → ⊥
+        up x h e = omega (arith, ints)
+
+        low : (x : ℤ) → x <ℤ pos 0 → x ≡ pos 0 → ⊥
+        low x h e = omega (arith, ints)
+    off_ends r l false h = let a = h.0 in let b = h.1 in ((λ e. low _ a e), (λ e. up _ b e))
+      where
+        up : (x : ℤ) → pos 0 <ℤ x → x ≡ pos 0 → ⊥
+        up x h e = omega (arith, ints)
+
+        low : (x : ℤ) → x <ℤ pos 0 → x ≡ pos 0 → ⊥
+        low x h e = omega (arith, ints)
+
+    swap : (u v : ℕ) → 0 < u + v → 0 < v + u
+    swap u v h = omega arith
+
+    turn : (u v x y : ℤ) → u *ℤ x +ℤ v *ℤ y ≡ pos 0 → v *ℤ y +ℤ u *ℤ x ≡ pos 0
+    turn u v x y e = omega (arith, ints)
+
+    some : (u v : ℕ) (x y : ℤ) → 0 < u + v → ¬ (y ≡ pos 0) → pos u *ℤ x +ℤ pos v *ℤ y ≡ pos 0 → 0 < u
+    some zero v x y h n e = absurd (n (zero-of-mul (pos v) y (omega (arith, ints)) (let z : pos zero *ℤ x ≡ pos 0 = zero-*ℤ x in omega (arith, ints))))
+    some (suc u) v x y h n e = omega arith
+
+    cleared : (u v x y z d k : ℤ) → pos 0 <ℤ d → z ≡ pos 0 → z *ℤ k ≡ (u *ℤ pos 1 *ℤ x +ℤ v *ℤ pos 1 *ℤ y) *ℤ d → u *ℤ x +ℤ v *ℤ y ≡ pos 0
+    cleared u v x y z d k h e f =
+        let g : z *ℤ k ≡ pos 0 = ap (λ (t : ℤ). t *ℤ k) e ∙ zero-*ℤ k in
+        let j : d *ℤ (u *ℤ x +ℤ v *ℤ y) ≡ (u *ℤ pos 1 *ℤ x +ℤ v *ℤ pos 1 *ℤ y) *ℤ d = by_ring (u ∷ v ∷ x ∷ y ∷ d ∷ []) _ _ (search quoting depth 60 fits 200000) (search quoting depth 60 fits 200000) tt in
+        zero-of-mul d _ h (j ∙ sym f ∙ g)
+
+    weights : (r : Ray) (l : MapLine) (z : Point) (u v : ℕ) → IsMean u v (point_of l.first) (point_of l.second) z → ray_value r z ≡ pos 0 → pos u *ℤ ray_value r (point_of l.first) +ℤ pos v *ℤ ray_value r (point_of l.second) ≡ pos 0
+    weights r l z u v k e =
+        let f = value_mean r.a r.b r.c u v (point_of l.first) (point_of l.second) z k in
+        cleared (pos u) (pos v) (ray_value r (point_of l.first)) (ray_value r (point_of l.second)) (ray_value r z) (pos z.d) ((pos u +ℤ pos v) *ℤ (pos 1 *ℤ pos 1)) (above z) e f

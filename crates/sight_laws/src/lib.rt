@@ -1,2 +1,8 @@
-//! Lemmas on points, segments, paths and sight over the definitions of sight_names, and the laws that they obey.
+//! Lemmas on points, segments, paths and sight over the definitions of sight_names, and the laws that the definitions obey.
+//!
+//! A law is the contract of a function with an empty body: whoever wants it in a proof calls nothing, and cites the
+//! lemma that proves it.
 #![tactic(auto)]
+
+pub mod laws;
+pub mod worked;

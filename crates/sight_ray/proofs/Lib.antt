@@ -1,3 +1,4 @@
 pub mod GateLemmas
 pub mod HitLemmas
 pub mod FaultLemmas
+pub mod OneLine

@@ -1,10 +1,9 @@
 //! The lines that a ray crosses, and the first solid line with a point between two crossings.
 
-ghost use Rattle.std.specs.Prelude.{◌≡◌, ◌<◌, ◌⊎◌, pos, ◌<ℤ◌, IsTrue, IsSome, MatchBool, MatchOption, length, slice_get};
+ghost use Rattle.std.specs.Prelude.{◌≡◌, ◌<◌, MatchBool, MatchOption, length};
 ghost use Rattle.sight_names.specs.Map.{map_of, looked_up};
 ghost use Rattle.sight_names.specs.Plan.{IsPlanLine};
-ghost use Rattle.sight_names.specs.Point.{point_of};
-ghost use Rattle.sight_names.specs.Ray.{IsInRange, ray_value};
+ghost use Rattle.sight_names.specs.Ray.{IsInRange};
 ghost use Rattle.geom_exact.specs.Formulas.{AreOnOneSide, AreOnTwoSides, side_value};
 ghost use Rattle.sight_ray.specs.Gate.{IsGate, IsGateBetween, IsGateOf, AreParted, IsForward, IsHit, IsClear, IsHitAt, IsFirstHit, AreClearBelow, IsClearAt, AreBefore, ReachesStart, AreAfter, ReachesStop, IsMet, IsPassed, AllBehind, AllInOrder};
 ghost use Rattle.sight_ray.specs.RayFault.{IsSplit};

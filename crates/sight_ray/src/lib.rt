@@ -1,11 +1,11 @@
 //! The exact test of a given ray: whether it is a sight ray, and if not, the first condition that fails.
 #![tactic(auto)]
 
-ghost use Rattle.std.specs.Prelude.{◌≡◌, ℕ, pos, neg_ℤ, IsTrue, MatchOption, MatchResult};
-ghost use Rattle.sight_names.specs.Map.{map_of, Names};
+ghost use Rattle.std.specs.Prelude.{◌≡◌, ℕ, neg_ℤ, MatchResult};
+ghost use Rattle.sight_names.specs.Map.{Map, map_of, Names};
 ghost use Rattle.sight_names.specs.Ray.{IsInRange, IsSightRay};
-ghost use Rattle.sight_ray.specs.Gate.{IsGateOf, IsForward};
-ghost use Rattle.sight_ray.specs.RayFault.{IsRayFault, IsSplit, HasNames, Leaves, Arrives};
+ghost use Rattle.sight_ray.specs.Gate.{IsGateOf};
+ghost use Rattle.sight_ray.specs.RayFault.{IsRayFault, HasNames, Leaves, Arrives};
 
 mod gate;
 
@@ -26,8 +26,17 @@ pub fn ray_of(first: Side, last: Side, a: i32, b: i32, c: i64) -> Ray
     }
 }
 
-/// The same ray the other way: sides exchanged and a, b, c negated.
+/// The same ray the other way: sides exchanged and a, b, c negated. A sight ray becomes one from its last sector to its
+/// first.
 pub fn turn_round(ray: &Ray) -> Ray
+    requires { IsInRange ray.now }
+    ensures sight { (m : Map) (a b : ℕ) → IsSightRay m ray.now a b → IsSightRay m result b a }
+    ensures fields { result ≡ record { first = ray.now.last; last = ray.now.first; a = neg_ℤ ray.now.a; b = neg_ℤ ray.now.b; c = neg_ℤ ray.now.c } }
+{
+    reversed(ray)
+}
+
+fn reversed(ray: &Ray) -> Ray
     requires { IsInRange ray.now }
     ensures { result ≡ record { first = ray.now.last; last = ray.now.first; a = neg_ℤ ray.now.a; b = neg_ℤ ray.now.b; c = neg_ℤ ray.now.c } }
 {
@@ -108,4 +117,74 @@ fn gates_of(plan: &Plan, ray: &Ray) -> Result<(Gate, Gate), RayFault>
         });
     }
     Ok((start, stop))
+}
+
+#[cfg(test)]
+mod tests {
+    use super::*;
+    use sight_names::{Line, Pt};
+    use std::alloc::{AllocError, Global};
+    use std::test::Fail;
+
+    /// A map of one open line from (0, 0) to (0, 64), with sector 0 east of it and sector 1 west.
+    fn one_line(alloc: Global) -> Result<Plan, AllocError> {
+        let points = Vec::from_slice(alloc, &[Pt { x: 0, y: 0 }, Pt { x: 0, y: 64 }])?;
+        let line = Line {
+            a: 0,
+            b: 1,
+            solid: false,
+            right: Some(0),
+            left: Some(1),
+        };
+        let lines = Vec::from_slice(alloc, &[Some(line)])?;
+        Ok(Plan {
+            sectors: 2,
+            points,
+            lines,
+        })
+    }
+
+    #[test]
+    fn rays_across_one_line(rt: HostRuntime) -> Result<(), Fail> {
+        let plan = one_line(rt.alloc())?;
+        let right = Side {
+            line: 0,
+            left: false,
+        };
+        let left = Side {
+            line: 0,
+            left: true,
+        };
+        let none = Side {
+            line: 9,
+            left: true,
+        };
+        let cases = [
+            (ray_of(right, left, 0, -1, 32), Ok((0, 1))),
+            (ray_of(left, right, 0, 1, -32), Ok((1, 0))),
+            (
+                ray_of(left, right, 0, -1, 32),
+                Err(RayFault::WrongWay { line: 0 }),
+            ),
+            (
+                ray_of(right, left, 0, -1, 0),
+                Err(RayFault::NotSplit { line: 0 }),
+            ),
+            (
+                ray_of(right, none, 0, -1, 32),
+                Err(RayFault::BadSide { side: none }),
+            ),
+            (ray_of(right, left, 0, -1048576, 1048576), Ok((0, 1))),
+            (
+                ray_of(right, left, 0, -1048577, 1048576),
+                Err(RayFault::Range),
+            ),
+        ];
+        for (ray, answer) in &cases {
+            assert_eq!(rt; check_ray(&plan, ray), *answer);
+        }
+        let back = turn_round(&cases[0].0);
+        assert_eq!(rt; check_ray(&plan, &back), Ok((1, 0)));
+        Ok(())
+    }
 }

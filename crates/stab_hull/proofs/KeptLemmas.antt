@@ -19,7 +19,7 @@ use Rattle.stab_hull.specs.declared.jam.Jam.{Jam}
 use Rattle.stab_hull.specs.Portals.{portal_of, portals_of, IsConeOf, ShowsNoLine}
 use Rattle.stab_hull.specs.Answer.{IsLineInRange}
 use Rattle.stab_hull.specs.Kept.{IsFree, IsJam, IsKept}
-use Rattle.stab_hull.proofs.EndsLemmas.{pair_of_more, left_place, right_place}
+use Rattle.extreme_lines.proofs.EndsLemmas.{pair_of_more, left_place, right_place}
 
 -- ---- lines and jams
 each_parted : (a b c : ℤ) (es : List EndPoints) → ((k : ℕ) (p : EndPoints) → slice_get es k ≡ Some p → IsParted a b c p) → SplitsEnds es a b c

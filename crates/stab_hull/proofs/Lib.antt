@@ -1,3 +1,2 @@
-pub mod EndsLemmas
 pub mod WidenLemmas
 pub mod KeptLemmas

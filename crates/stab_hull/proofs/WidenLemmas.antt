@@ -18,7 +18,7 @@ use Rattle.extreme_lines.specs.Differences.{difference}
 use Rattle.extreme_lines.specs.Spans.{arrow_of, Spans, first_of, second_of, pair_of, IsWidened, three_pairs}
 use Rattle.stab_hull.specs.declared.frame.Frame.{Frame}
 use Rattle.stab_hull.specs.Portals.{portal_of, portals_of, with_ends, SpansAll, HasPairsOf, IsConeOf, ShowsNoLine, IsRightOf, IsLeftCone, Keeps, HasLeftAt, HasRightAt, HasLeft, HasRight, IsRightCone}
-use Rattle.stab_hull.proofs.EndsLemmas.{get_last, get_cases, end_of_more, pair_of_more, left_end, right_end, left_place, right_place}
+use Rattle.extreme_lines.proofs.EndsLemmas.{get_last, get_cases, end_of_more, pair_of_more, left_end, right_end, left_place, right_place}
 
 keep_all : (es : List EndPoints) (c d : Cone) → Keeps c d → SpansAll es c → SpansAll es d
 keep_all es c d k s i j p q hi hj = k (difference p.left q.right) (s i j p q hi hj)

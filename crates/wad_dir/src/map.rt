@@ -132,6 +132,9 @@ fn is_behavior_next(rest: &[Entry]) -> bool
 fn spot(marker: usize, run: &[Entry]) -> Result<MapSpot, MapFault>
     requires { marker + 1 + length run.now ≤ 65536 }
     ensures spot { result ≡ spot_in marker (entry_names run.now) }
+    ensures linedefs { IfOk result (λ spot. spot.linedefs ≤ marker + length run.now) }
+    ensures sidedefs { IfOk result (λ spot. spot.sidedefs ≤ marker + length run.now) }
+    ensures vertexes { IfOk result (λ spot. spot.vertexes ≤ marker + length run.now) }
     ensures sectors { IfOk result (λ spot. spot.sectors ≤ marker + length run.now) }
     ensures reject { IfOk result (λ spot. IfSome spot.reject (λ k. k ≤ marker + length run.now)) }
 {
@@ -157,6 +160,9 @@ fn spot(marker: usize, run: &[Entry]) -> Result<MapSpot, MapFault>
 fn spot_after(marker: usize, after: &[Entry]) -> Result<MapSpot, MapFault>
     requires { marker + 1 + length after.now ≤ 65536 }
     ensures spot { result ≡ spot_behind marker (entry_names after.now) }
+    ensures linedefs { IfOk result (λ spot. spot.linedefs ≤ marker + length after.now) }
+    ensures sidedefs { IfOk result (λ spot. spot.sidedefs ≤ marker + length after.now) }
+    ensures vertexes { IfOk result (λ spot. spot.vertexes ≤ marker + length after.now) }
     ensures sectors { IfOk result (λ spot. spot.sectors ≤ marker + length after.now) }
     ensures reject { IfOk result (λ spot. IfSome spot.reject (λ k. k ≤ marker + length after.now)) }
 {
@@ -171,6 +177,9 @@ fn spot_after(marker: usize, after: &[Entry]) -> Result<MapSpot, MapFault>
 #[tactic(auto, unfolding(crate::specs::Map::spot_of))]
 pub fn find_map(wad: &Wad, name: &str) -> Result<MapSpot, MapFault>
     ensures spot { result ≡ spot_of (entry_names wad.now.entries) name.now }
+    ensures linedefs { IfOk result (λ spot. spot.linedefs < length wad.now.entries) }
+    ensures sidedefs { IfOk result (λ spot. spot.sidedefs < length wad.now.entries) }
+    ensures vertexes { IfOk result (λ spot. spot.vertexes < length wad.now.entries) }
     ensures sectors { IfOk result (λ spot. spot.sectors < length wad.now.entries) }
     ensures reject { IfOk result (λ spot. IfSome spot.reject (λ k. k < length wad.now.entries)) }
 {

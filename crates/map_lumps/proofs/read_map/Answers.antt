@@ -1,11 +1,10 @@
-use Rattle.std.proofs.Common.{◌≡◌, ◌∙◌, ◌<◌, ◌≤◌, ℕ, List, length, map, option_map, Option, Some, None, Bool, true, false, nat_lt, sym, ap, subst, arith}
-use Rattle.sight_names.specs.declared.names.Pt.{Pt}
+use Rattle.std.proofs.Common.{◌≡◌, ◌∙◌, ◌<◌, ◌≤◌, ℕ, List, length, Option, Some, None, Bool, true, false, nat_lt, sym, ap, subst, arith}
 use Rattle.sight_names.specs.declared.faults.LumpFault.{LumpFault}
 use Rattle.sight_names.specs.declared.faults.LumpFault.TheVariants.{TooManyPoints}
 use Rattle.sight_names.specs.Points.{in_order}
 use Rattle.sight_names.specs.Lumps.{fault_if}
 use Rattle.map_lumps.specs.declared.records.PlacedLine.{PlacedLine}
-use Rattle.map_lumps.specs.Records.{placed_ends, EndsAmong, IsInOrder}
+use Rattle.map_lumps.specs.Records.{placed_ends, IsInOrder}
 use Rattle.map_lumps.proofs.WholeMap.{ends_among, points_in_order, fault_left, map_is, plan_is}
 use Rattle.map_lumps.proofs.read_map.Goals as goal
 

@@ -1,4 +1,4 @@
-use Rattle.std.proofs.Common.{arith, ◌∙◌, sym}
+use Rattle.std.proofs.Common.{◌∙◌, sym}
 use Rattle.map_lumps.proofs.Checking.{line_fault_first}
 use Rattle.map_lumps.proofs.checks.early_fault.Goals as goal
 

@@ -1,4 +1,4 @@
-use Rattle.std.proofs.Common.{◌≡◌, ◌∙◌, Some, None, Contains, length, option_map, slice_get, arith}
+use Rattle.std.proofs.Common.{None, length, option_map}
 use Rattle.sight_names.specs.Map.{looked_up}
 use Rattle.map_lumps.specs.Records.{as_map_line}
 use Rattle.map_lumps.proofs.Assembling.{ends_of_entry, mapped_take_more, ends_below_push}

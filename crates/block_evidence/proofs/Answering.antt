@@ -1,0 +1,75 @@
+-- What an answer on ends tells.
+use Rattle.std.proofs.Common.{◌≡◌, ℕ, zero, suc, ◌-◌, List, [], ◌∷◌, Option, Some, None, Bool, true, false, refl, sym, ap, ◌∙◌, subst, ℤ, pos, ◌<ℤ◌, IsTrue, ◌↔◌}
+use Rattle.std.specs.Prelude.{slice_get, MatchOption, filter_map, is_some, not, option_map, nat_lt, if◌then◌else◌}
+use Rattle.std.specs.List.{cons_option}
+use Rattle.sight_names.specs.declared.names.Pt.{Pt}
+use Rattle.sight_names.specs.declared.names.EndAt.{EndAt}
+use Rattle.sight_names.specs.Point.{point_of, value_at}
+use Rattle.sight_names.specs.Splitting.{EndPoints, IsParted, SplitsEnds, IsSplittable, end_of}
+use Rattle.extreme_lines.specs.declared.cut.Cut.{Cut}
+use Rattle.extreme_lines.proofs.EndsLemmas.{left_place, right_place}
+use Rattle.block_evidence.specs.declared.Evidence.{Evidence}
+use Rattle.block_evidence.specs.Stuck.{AreStuck, Blocks, end_codes}
+use Rattle.block_evidence.specs.Parted.{PartsEnd, PartsEnds}
+use Rattle.block_evidence.proofs.Means.{parted_not_stuck}
+
+is_true : (b : Bool) → false ≡ not b → b ≡ true
+is_true true h = refl
+is_true false h = absurd (wrong h)
+  where
+    wrong : false ≡ true → ⊥
+    wrong h = cc
+
+both : (b : Bool) → true ≡ not b → b ≡ true → ⊥
+both true h k = wrong h
+  where
+    wrong : true ≡ false → ⊥
+    wrong h = cc
+both false h k = wrong k
+  where
+    wrong : false ≡ true → ⊥
+    wrong h = cc
+
+pub stuck_answer : (ends : List EndAt) (o : Option Cut) (b : Bool) → is_some o ≡ not b → MatchOption o (AreStuck ends) (λ cut. PartsEnds ends cut.a cut.b cut.c) → IsTrue b ↔ AreStuck ends
+stuck_answer ends None b e h = (λ _. h, λ _. is_true b e)
+stuck_answer ends (Some cut) b e h = (λ t. absurd (both b e t), λ s. absurd (parted_not_stuck ends (cut.a, cut.b, cut.c, h) s))
+
+-- ---- a line that splits portals parts their ends
+none_some : {X : Type 0} (x : X) → ◌≡◌ {A = Option X} None (Some x) → ⊥
+none_some x h = cc
+
+parted_at : (a b c : ℤ) (es : List EndPoints) (k : ℕ) (p : EndPoints) → SplitsEnds es a b c → slice_get es k ≡ Some p → IsParted a b c p
+parted_at a b c [] k p h e = absurd (none_some p e)
+parted_at a b c (q ∷ es) zero p h e = subst (IsParted a b c) (some_is q p e) h.0
+  where
+    some_is : (q p : EndPoints) → Some q ≡ Some p → q ≡ p
+    some_is q p h = cc
+parted_at a b c (q ∷ es) (suc k) p h e = parted_at a b c es k p h.1 e
+
+pub end_parted : (a b c : ℤ) (es : List EndPoints) (e : EndAt) → SplitsEnds es a b c → end_of es e.code ≡ Some e → PartsEnd a b c e
+end_parted a b c es e h k = record {
+  left = λ n. let t = left_place es e n k in subst (λ (q : Pt). pos 0 <ℤ value_at a b c (point_of q)) t.3 (parted_at a b c es t.0 t.1 h t.2).0;
+  right = λ n. let t = right_place es e n k in subst (λ (q : Pt). value_at a b c (point_of q) <ℤ pos 0) t.3 (parted_at a b c es t.0 t.1 h t.2).1;
+}
+
+code_by : (code : ℕ) (o : Option Pt) (e : EndAt) → ◌≡◌ {A = Option EndAt} (option_map (λ (p : Pt). record { code = code; at = p }) o) (Some e) → e.code ≡ code
+code_by code None e h = absurd (none_some e h)
+code_by code (Some p) e h = sym (ap (λ (v : EndAt). v.code) (some_is (record { code = code; at = p }) e h))
+  where
+    some_is : (u v : EndAt) → Some u ≡ Some v → u ≡ v
+    some_is u v h = cc
+
+code_is : (es : List EndPoints) (code : ℕ) (e : EndAt) → end_of es code ≡ Some e → e.code ≡ code
+code_is es code e h = code_by code (if nat_lt code 32768 then option_map (λ (q : EndPoints). q.left) (slice_get es code) else option_map (λ (q : EndPoints). q.right) (slice_get es (code - 32768))) e h
+
+parted_by : (a b c : ℤ) (es : List EndPoints) (code : ℕ) (ds : List EndAt) (o : Option EndAt) → SplitsEnds es a b c → end_of es code ≡ o → PartsEnds ds a b c → PartsEnds (cons_option o ds) a b c
+parted_by a b c es code ds None h e k = k
+parted_by a b c es code ds (Some d) h e k = (end_parted a b c es d h (ap (end_of es) (code_is es code d e) ∙ e), k)
+
+pub ends_parted : (a b c : ℤ) (es : List EndPoints) (codes : List ℕ) → SplitsEnds es a b c → PartsEnds (filter_map (end_of es) codes) a b c
+ends_parted a b c es [] h = tt
+ends_parted a b c es (code ∷ codes) h = parted_by a b c es code (filter_map (end_of es) codes) (end_of es code) h refl (ends_parted a b c es codes h)
+
+-- stuck ends of portals show that no line splits the portals
+pub blocked_no_line : (es : List EndPoints) (e : Evidence) → Blocks es e → ¬ IsSplittable es
+blocked_no_line es e b (x, y, z, h) = parted_not_stuck (filter_map (end_of es) (end_codes e)) (x, y, z, ends_parted x y z es (end_codes e) h) b.stuck

@@ -1,0 +1,89 @@
+-- The lumps of a made map (the Unofficial Doom Specs on LINEDEFS, SIDEDEFS, VERTEXES and SECTORS).
+use Rattle.std.specs.Prelude.{ℕ, ◌+◌, ◌*◌, ◌==◌, ◌&&◌, Bool, List, [], ◌∷◌, ◌++◌, Option, Some, None, if◌then◌else◌, replicate, codes}
+use Rattle.std.specs.List.{list_any, flat_map}
+use Rattle.std.specs.Int.{w16, to_le_bytes}
+use Rattle.wad_dir.specs.declared.parts.Kind.TheVariants.{Pwad}
+use Rattle.wad_dir.specs.Wad.{WadFile, WadLump}
+use Rattle.map_maker.specs.declared.lines.Spot.{Spot}
+use Rattle.map_maker.specs.declared.lines.Line.{Line}
+use Rattle.map_maker.specs.Lines.{lines_of, sector_count}
+
+-- a little-endian number of two bytes
+abbrev pub short : ℕ → List ℕ
+short n = to_le_bytes w16 n
+
+abbrev pub same_spot : Spot → Spot → Bool
+same_spot p q = p.x == q.x && p.y == q.y
+
+-- the points with one more where it is new
+abbrev pub with_point : List Spot → Spot → List Spot
+with_point points p = if list_any (same_spot p) points then points else points ++ p ∷ []
+
+-- the points with those that lines use, in the order of their first use
+abbrev pub points_after : List Spot → List Line → List Spot
+points_after points [] = points
+points_after points (l ∷ ls) = points_after (with_point (with_point points l.from) l.to) ls
+
+-- the place of a point
+abbrev pub place_of : Spot → List Spot → ℕ
+place_of p [] = 0
+place_of p (q ∷ qs) = if same_spot p q then 0 else 1 + place_of p qs
+
+-- how many sides a line has, its flags (4 is the two-sided flag, 1 blocks), and its left side, where 65,535 is none
+abbrev pub side_count : Option ℕ → ℕ
+side_count None = 1
+side_count (Some sector) = 2
+
+abbrev pub flags_of : Option ℕ → ℕ
+flags_of None = 1
+flags_of (Some sector) = 4
+
+abbrev pub left_side : ℕ → Option ℕ → ℕ
+left_side side None = 65535
+left_side side (Some sector) = side + 1
+
+-- a record of LINEDEFS: the two points, the flags, no special, no tag, the two sides
+unfoldable pub linedef : List Spot → ℕ → Line → List ℕ
+linedef points side l = short (place_of l.from points) ++ short (place_of l.to points) ++ short (flags_of l.left) ++ short 0 ++ short 0 ++ short side ++ short (left_side side l.left)
+
+-- the lines' records, whose sides are numbered from one on
+abbrev pub linedefs_from : List Spot → ℕ → List Line → List ℕ
+linedefs_from points side [] = []
+linedefs_from points side (l ∷ ls) = linedef points side l ++ linedefs_from points (side + side_count l.left) ls
+
+-- a record of SIDEDEFS: no offsets, three textures named `-`, the sector
+abbrev pub texture : List ℕ
+texture = 45 ∷ 0 ∷ 0 ∷ 0 ∷ 0 ∷ 0 ∷ 0 ∷ 0 ∷ []
+
+unfoldable pub sidedef : ℕ → List ℕ
+sidedef sector = short 0 ++ short 0 ++ texture ++ texture ++ texture ++ short sector
+
+abbrev pub left_sidedef : Option ℕ → List ℕ
+left_sidedef None = []
+left_sidedef (Some sector) = sidedef sector
+
+-- the records of the sides: the right one first
+abbrev pub sidedefs_of : List Line → List ℕ
+sidedefs_of [] = []
+sidedefs_of (l ∷ ls) = (sidedef l.right ++ left_sidedef l.left) ++ sidedefs_of ls
+
+-- the records of the points
+abbrev pub vertexes_of : List Spot → List ℕ
+vertexes_of [] = []
+vertexes_of (p ∷ ps) = (short p.x ++ short p.y) ++ vertexes_of ps
+
+abbrev pub named : List ℕ → List ℕ → WadLump
+named name bytes = record { name = name; bytes = bytes }
+
+-- the map as lumps: those that aren't read, and the table, are empty
+abbrev pub lumps_with : List ℕ → List ℕ → List ℕ → List ℕ → List WadLump
+lumps_with linedefs sidedefs vertexes sectors =
+    named (codes "MAP01" ++ 0 ∷ 0 ∷ 0 ∷ []) [] ∷ named (codes "THINGS" ++ 0 ∷ 0 ∷ []) [] ∷ named (codes "LINEDEFS") linedefs ∷ named (codes "SIDEDEFS") sidedefs ∷ named (codes "VERTEXES") vertexes
+    ∷ named (codes "SEGS" ++ 0 ∷ 0 ∷ 0 ∷ 0 ∷ []) [] ∷ named (codes "SSECTORS") [] ∷ named (codes "NODES" ++ 0 ∷ 0 ∷ 0 ∷ []) [] ∷ named (codes "SECTORS" ++ 0 ∷ []) sectors
+    ∷ named (codes "REJECT" ++ 0 ∷ 0 ∷ []) [] ∷ named (codes "BLOCKMAP") [] ∷ []
+
+-- the WAD of the map of n times n rooms
+unfoldable pub grid_file : ℕ → WadFile
+grid_file n =
+    let points : List Spot = points_after [] (lines_of n) in
+    record { kind = Pwad; lumps = lumps_with (linedefs_from points 0 (lines_of n)) (sidedefs_of (lines_of n)) (vertexes_of points) (replicate (26 * sector_count n) 0) }

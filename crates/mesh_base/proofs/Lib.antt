@@ -1,0 +1,9 @@
+pub mod Net
+pub mod FirstSpoke
+pub mod MeshRules
+pub mod Face
+pub mod Clash
+pub mod MakeNet
+pub mod FaceClass
+pub mod Joined
+pub mod GoodMesh

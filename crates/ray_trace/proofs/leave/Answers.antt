@@ -1,0 +1,21 @@
+use Rattle.std.proofs.Common.{◌≡◌, pos, ◌<ℤ◌, sym, ◌∙◌, arith}
+use Rattle.std.proofs.lemmas.Int.{ints}
+use Rattle.sight_names.specs.Map.{map_of}
+use Rattle.ray_trace.specs.Gates.{portal_of}
+use Rattle.ray_trace.proofs.WalkLemmas.{tip_value, out_left, out_right}
+use Rattle.ray_trace.proofs.leave.Goals as goal
+
+pub returns-then-side-eq0 : goal.returns-then-side-eq0
+returns-then-side-eq0 c =
+    let z : c.side_of-side.result ≡ pos 0 = omega (arith, ints) in
+    (sym c.in-Some.ensures, (sym (tip_value (map_of c.args.plan.now) c.args.ray.now c.in-Some.tip c.place.result c.side_of-side.result c.side_of-side.ensures.value c.place.ensures.place) ∙ z))
+
+pub returns-then-side-gt0 : goal.returns-then-side-gt0
+returns-then-side-gt0 c =
+    let h : pos 0 <ℤ c.side_of-side.result = omega (arith, ints) in
+    out_right (map_of c.args.plan.now) c.args.mesh.now.triangles c.args.ray.now (portal_of c.args.gate) c.in-Some.tip c.side_of-side.result (sym c.in-Some.ensures) (tip_value (map_of c.args.plan.now) c.args.ray.now c.in-Some.tip c.place.result c.side_of-side.result c.side_of-side.ensures.value c.place.ensures.place) h c.requires.crossed
+
+pub returns : goal.returns
+returns c =
+    let h : c.side_of-side.result <ℤ pos 0 = omega (arith, ints) in
+    out_left (map_of c.args.plan.now) c.args.mesh.now.triangles c.args.ray.now (portal_of c.args.gate) c.in-Some.tip c.side_of-side.result (sym c.in-Some.ensures) (tip_value (map_of c.args.plan.now) c.args.ray.now c.in-Some.tip c.place.result c.side_of-side.result c.side_of-side.ensures.value c.place.ensures.place) h c.requires.crossed

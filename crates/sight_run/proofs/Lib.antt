@@ -1,0 +1,5 @@
+pub mod Lines
+pub mod Stores
+pub mod Gives
+pub mod Judging
+pub mod Endings

@@ -1,0 +1,11 @@
+pub mod Status
+pub mod Words
+pub mod Answer
+pub mod Input
+pub mod Zero
+pub mod Judge
+pub mod Obeys
+pub mod Report
+pub mod Run
+pub mod Say
+pub mod Views

@@ -1,0 +1,54 @@
+-- The answer that an order, and that words call for.
+use Rattle.std.specs.Prelude.{◌≡◌, ℕ, List, Result, Ok, Err, ⊤}
+use Rattle.shelf_io.specs.Shelf.{Files}
+use Rattle.order_words.specs.declared.order.Order.{Order}
+use Rattle.order_words.specs.declared.order.Order.TheVariants as order
+use Rattle.sight_run.specs.declared.status.Flaw.{Flaw}
+use Rattle.sight_run.specs.declared.status.Flaw.TheVariants as flaw
+use Rattle.sight_run.specs.declared.status.Role.{Role}
+use Rattle.sight_run.specs.declared.status.Role.TheVariants as role
+use Rattle.sight_run.specs.declared.status.Status.{Status}
+use Rattle.sight_run.specs.declared.status.Why.{Why}
+use Rattle.sight_run.specs.declared.status.Why.TheVariants as why
+use Rattle.sight_run.specs.Answer.{Answer}
+use Rattle.sight_run.specs.Input.{OnFound, found_of}
+use Rattle.sight_run.specs.Judge.{AuditCalls, RayCalls}
+use Rattle.sight_run.specs.Words.{asked_of}
+use Rattle.sight_run.specs.Zero.{ZeroCalls}
+
+-- what an order calls for, by the files: outputs and a line, or a refusal
+abbrev pub Obeys : Order → Files → Result Answer Status → Type 0
+Obeys (order.Zero wad name out) files answer = OnFound (found_of wad name files) (ZeroCalls name out) answer
+Obeys (order.Ray wad name ray) files answer = OnFound (found_of wad name files) (λ found. RayCalls ray found.map) answer
+Obeys (order.Audit wad name) files answer = OnFound (found_of wad name files) (λ found. AuditCalls found.map) answer
+Obeys other files answer = ⊥
+
+abbrev pub AnswersAsked : Result Order Status → Files → Result Answer Status → Type 0
+AnswersAsked (Err refusal) files answer = answer ≡ Err refusal
+AnswersAsked (Ok asked) files answer = Obeys asked files answer
+
+-- what words call for, by the files
+abbrev pub IsAnswer : List (List ℕ) → Files → Result Answer Status → Type 0
+IsAnswer words files answer = AnswersAsked (asked_of words) files answer
+
+-- the order reads a file of that role
+abbrev pub Reads : Order → Role → Type 0
+Reads (order.Zero wad name out) role.Wad = ⊤
+Reads (order.Ray wad name ray) role.Wad = ⊤
+Reads (order.Audit wad name) role.Wad = ⊤
+Reads asked other = ⊥
+
+-- the order writes a file of that role
+abbrev pub Writes : Order → Role → Type 0
+Writes (order.Zero wad name out) role.Wad = ⊤
+Writes asked other = ⊥
+
+-- the order judges what such a no is said of
+abbrev pub Judges : Order → Why → Type 0
+Judges (order.Ray wad name ray) (why.Ray fault) = ⊤
+Judges asked other = ⊥
+
+-- the order audits what has such a flaw
+abbrev pub Audits : Order → Flaw → Type 0
+Audits (order.Audit wad name) (flaw.Line fault) = ⊤
+Audits asked other = ⊥

@@ -1,0 +1,89 @@
+-- The numbers of the statuses, and what never stands in one.
+use Rattle.std.specs.Prelude.{ℕ, ⊤}
+use Rattle.sight_names.specs.declared.faults.WadFault.{WadFault}
+use Rattle.sight_names.specs.declared.faults.WadFault.TheVariants as wad
+use Rattle.sight_names.specs.declared.faults.LumpFault.{LumpFault}
+use Rattle.sight_names.specs.declared.faults.LumpFault.TheVariants as lump
+use Rattle.sight_names.specs.declared.faults.TraceFault.TheVariants as trace
+use Rattle.sight_names.specs.declared.faults.TableFault.TheVariants as table
+use Rattle.sight_names.specs.declared.faults.CertFault.TheVariants as cert
+use Rattle.sight_run.specs.declared.status.Bound.TheVariants as bound
+use Rattle.sight_run.specs.declared.status.Flaw.TheVariants as flaw
+use Rattle.sight_run.specs.declared.status.Why.{Why}
+use Rattle.sight_run.specs.declared.status.Why.TheVariants as why
+use Rattle.sight_run.specs.declared.status.Status.{Status}
+use Rattle.sight_run.specs.declared.status.Status.TheVariants as status
+
+-- the exit status of the program
+abbrev pub number_of : Status → ℕ
+number_of status.Done = 0
+number_of (status.No why) = 1
+number_of status.Usage = 2
+number_of (status.NoFile role) = 3
+number_of (status.ReadFault role) = 4
+number_of (status.WriteFault role) = 5
+number_of (status.NotWad fault) = 6
+number_of (status.NoMap fault) = 7
+number_of (status.BadLump fault) = 8
+number_of (status.Limit bound) = 9
+number_of (status.BadMap flaw) = 10
+number_of status.SameName = 11
+number_of status.Memory = 12
+
+-- too many lumps are a limit, and want of memory is a status of its own
+abbrev pub IsWadFault : WadFault → Type 0
+IsWadFault wad.TooManyLumps = ⊥
+IsWadFault wad.Memory = ⊥
+IsWadFault fault = ⊤
+
+-- too many lines, points or sectors are limits
+abbrev pub IsLumpFault : LumpFault → Type 0
+IsLumpFault (lump.TooManySectors count) = ⊥
+IsLumpFault (lump.TooManyLines count) = ⊥
+IsLumpFault (lump.TooManyPoints count) = ⊥
+IsLumpFault lump.Memory = ⊥
+IsLumpFault fault = ⊤
+
+-- want of memory is no reason for a no
+abbrev pub IsReason : Why → Type 0
+IsReason (why.Trace trace.Memory) = ⊥
+IsReason (why.Table table.Memory) = ⊥
+IsReason (why.Cert cert.Memory) = ⊥
+IsReason reason = ⊤
+
+-- no fault stands in a status where there is another status for it
+abbrev pub IsProper : Status → Type 0
+IsProper (status.NotWad fault) = IsWadFault fault
+IsProper (status.BadLump fault) = IsLumpFault fault
+IsProper (status.No reason) = IsReason reason
+IsProper other = ⊤
+
+-- a refusal that the bytes of a WAD and its map can call for
+abbrev pub IsOfBytes : Status → Type 0
+IsOfBytes (status.NotWad fault) = IsWadFault fault
+IsOfBytes (status.NoMap fault) = ⊤
+IsOfBytes (status.BadLump fault) = IsLumpFault fault
+IsOfBytes (status.Limit bound.CertBytes) = ⊥
+IsOfBytes (status.Limit bound.OutputBytes) = ⊥
+IsOfBytes (status.Limit bound) = ⊤
+IsOfBytes status.Memory = ⊤
+IsOfBytes other = ⊥
+
+-- a refusal that making an output can call for
+abbrev pub IsOfMaking : Status → Type 0
+IsOfMaking (status.Limit bound.Lumps) = ⊤
+IsOfMaking (status.Limit bound.OutputBytes) = ⊤
+IsOfMaking status.Memory = ⊤
+IsOfMaking other = ⊥
+
+-- what the test of a ray can end with
+abbrev pub IsOfRayTest : Status → Type 0
+IsOfRayTest (status.No (why.Ray fault)) = ⊤
+IsOfRayTest status.Memory = ⊤
+IsOfRayTest other = ⊥
+
+-- what the test of lines can end with
+abbrev pub IsOfLineTest : Status → Type 0
+IsOfLineTest (status.BadMap (flaw.Line fault)) = ⊤
+IsOfLineTest status.Memory = ⊤
+IsOfLineTest other = ⊥

@@ -1,0 +1,13 @@
+//! The top call of doomsight: it reads the words, does what they ask, and puts one line.
+#![tactic(auto)]
+
+mod input;
+mod judge;
+mod report;
+mod status;
+mod top;
+mod words;
+mod zero;
+
+pub use status::{Bound, Flaw, Role, Status, Why, code};
+pub use top::run;

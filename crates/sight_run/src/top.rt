@@ -1,0 +1,75 @@
+//! The top call: an order, what it does, and its line.
+
+ghost use Rattle.std.specs.Prelude.{◌≡◌, ◌⊎◌, List, ℕ, string_bytes, map, Result, Some, IfErr, IsTrue};
+ghost use Rattle.shelf_io.specs.Shelf.{Files, NoneFell};
+ghost use Rattle.sight_run.specs.Answer.{Answer, status_of};
+ghost use Rattle.sight_run.specs.Obeys.{IsAnswer, Obeys};
+ghost use Rattle.sight_run.specs.Run.{Cause, EndsBy, IsOfOrder, NothingRose, RunEnds, StatusCause, TextAfter, WordsSay, line_seen, status_seen};
+ghost use Rattle.sight_run.specs.Status.{IsProper};
+ghost use Rattle.sight_run.specs.Words.{asked_of, is_built};
+ghost use Rattle.sight_run.specs.declared.status.Status.TheVariants.{Memory};
+
+use crate::judge::{do_audit, do_ray};
+use crate::report::{refuse, say};
+use crate::status::Status;
+use crate::words::read_order;
+use crate::zero::do_zero;
+use order_words::Order;
+use shelf_io::{Shelf, Sink};
+use std::alloc::Global;
+
+/// Does what an order of a verb that is built asks, and gives the line.
+fn obey<S: Shelf>(alloc: Global, shelf: &mut S, order: &Order) -> Result<String, Status>
+    requires { IsTrue (is_built order.now) }
+    ensures told { (files : Files) → (S.state shelf.old).files ≡ Some files → EndsBy (Obeys order.now files) files (S.state shelf.new).files (status_seen result) (line_seen result) }
+    ensures counts { NoneFell (S.state shelf.old) (S.state shelf.new) }
+    ensures cause { Cause (S.state shelf.old) (S.state shelf.new) result }
+    ensures refusals { IfErr result (IsOfOrder order.now) }
+    ensures proper { IfErr result IsProper }
+{
+    match order {
+        Order::Zero { wad, map, out } => {
+            do_zero(alloc, shelf, wad.as_str(), map.as_str(), out.as_str())
+        }
+        Order::Ray { wad, map, ray } => do_ray(alloc, shelf, wad.as_str(), map.as_str(), ray),
+        Order::Audit { wad, map } => do_audit(alloc, shelf, wad.as_str(), map.as_str()),
+        _ => unreachable!(),
+    }
+}
+
+/// Does what words ask, and gives the line.
+fn act<S: Shelf>(alloc: Global, words: &[String], shelf: &mut S) -> Result<String, Status>
+    ensures told { (files : Files) → (S.state shelf.old).files ≡ Some files →
+        EndsBy (IsAnswer (map string_bytes words.now) files) files (S.state shelf.new).files (status_seen result) (line_seen result) }
+    ensures counts { NoneFell (S.state shelf.old) (S.state shelf.new) }
+    ensures cause { Cause (S.state shelf.old) (S.state shelf.new) result }
+    ensures words { WordsSay (asked_of (map string_bytes words.now)) (status_seen result) }
+    ensures proper { IfErr result IsProper }
+{
+    let order = read_order(alloc, words)?;
+    obey(alloc, shelf, &order)
+}
+
+/// Does all that the program does: reads the words behind its name, does what they ask, and puts one line.
+pub fn run<S: Shelf, O: Sink>(alloc: Global, words: &[String], shelf: &mut S, out: &mut O) -> Status
+    // What the files and the text are after it, by the status and by the answer that the words call for.
+    ensures ends { (files : Files) → (S.state shelf.old).files ≡ Some files →
+        RunEnds (map string_bytes words.now) files (S.state shelf.old) (S.state shelf.new) (O.state out.old) (O.state out.new) result }
+    // The answer that the words call for is given, unless a count of faults rose or memory ran out.
+    ensures complete { (files : Files) (answer : Result Answer Status) → (S.state shelf.old).files ≡ Some files → IsAnswer (map string_bytes words.now) files answer →
+        NothingRose (S.state shelf.old) (S.state shelf.new) (O.state out.old) (O.state out.new) → (result ≡ status_of answer) ⊎ (result ≡ Memory) }
+    // What the text is after it, also where the files aren't told.
+    ensures text { TextAfter (O.state out.old) (O.state out.new) result }
+    // What the words alone say of the status.
+    ensures words { WordsSay (asked_of (map string_bytes words.now)) result }
+    // What the counts of faults say of the status.
+    ensures cause { StatusCause (S.state shelf.old) (S.state shelf.new) (O.state out.old) (O.state out.new) result }
+    ensures counts { NoneFell (S.state shelf.old) (S.state shelf.new) }
+    // A fault for which there is another status stands in none.
+    ensures proper { IsProper result }
+{
+    match act(alloc, words, shelf) {
+        Ok(line) => say(out, line.as_bytes(), Status::Done),
+        Err(status) => refuse(alloc, out, status),
+    }
+}

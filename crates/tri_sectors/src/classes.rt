@@ -1,0 +1,47 @@
+//! Numbers sorted into classes, each by its least member.
+
+ghost use Rattle.std.specs.Prelude.{◌≡◌, ◌<◌, ◌≤◌, IfOk, All, length, vec_len};
+ghost use Rattle.tri_sectors.specs.Classes.{IsBelow};
+
+use sight_names::Memory;
+use std::alloc::Global;
+
+/// Each of so many numbers alone.
+pub fn singles(alloc: Global, count: u16) -> Result<Vec<u16>, Memory>
+    ensures len { IfOk result (λ v. length v.items ≡ count) }
+    ensures range { IfOk result (λ v. All (IsBelow count) v.items) }
+{
+    let mut classes = Vec::new(alloc);
+    for k in 0..count {
+        classes.push(k)?;
+    }
+    Ok(classes)
+}
+
+/// Puts the classes of `a` and `b` together.
+pub fn merge(classes: &mut [u16], a: u16, b: u16)
+    requires first { a < length classes.old }
+    requires second { b < length classes.old }
+    requires range { All (IsBelow (length classes.old)) classes.old }
+    ensures { All (IsBelow (length classes.old)) classes.new }
+{
+    let (x, y) = (classes[a as usize], classes[b as usize]);
+    if x < y {
+        rename(classes, y, x);
+    } else if y < x {
+        rename(classes, x, y);
+    }
+}
+
+/// Puts `to` for each `from`.
+fn rename(classes: &mut [u16], from: u16, to: u16)
+    requires to { to < length classes.old }
+    requires range { All (IsBelow (length classes.old)) classes.old }
+    ensures { All (IsBelow (length classes.old)) classes.new }
+{
+    for class in classes.iter_mut() {
+        if *class == from {
+            *class = to;
+        }
+    }
+}

@@ -1,0 +1,5 @@
+pub mod WebLemmas
+pub mod WalkLemmas
+pub mod Ascending
+pub mod KeptLemmas
+pub mod PairLemmas

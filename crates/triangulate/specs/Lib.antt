@@ -1,0 +1,4 @@
+pub mod Kept
+pub mod Web
+pub mod Pairs
+pub mod Spokes

@@ -1,0 +1,14 @@
+//! The greedy triangulation of a map: its lines, then all pairs of points by length whose segments meet no kept segment
+//! but at an end of both, and the empty triangles between kept segments.
+#![tactic(auto)]
+
+mod closed;
+mod rounds;
+pub mod segments;
+mod spokes;
+mod triangles;
+mod web;
+
+pub use rounds::greedy;
+pub use segments::{Segment, Segments};
+pub use triangles::mesh_of;

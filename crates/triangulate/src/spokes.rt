@@ -1,0 +1,177 @@
+//! The segments at a point: its spokes.
+
+ghost use Rattle.std.specs.Prelude.{ℕ, ◌≡◌, ◌<◌, ◌≢◌, ◌↔◌, IsTrue, IfSome, length};
+ghost use Rattle.sight_names.specs.Map.{map_of};
+ghost use Rattle.sight_names.specs.Points.{place};
+ghost use Rattle.sight_names.specs.Sound.{MeetAtEnds};
+ghost use Rattle.triangulate.specs.Spokes.{IsSpoke};
+
+use crate::web::Web;
+use geom_exact::turn;
+use mesh_shape::meet_at_ends;
+use sight_names::{Plan, Pt};
+
+/// Whether a segment joins the two points.
+pub fn has_spoke(web: &Web, u: u16, v: u16) -> bool
+    requires { u < web.now.points }
+    ensures { IsTrue result ↔ IsSpoke web.now.segments u v }
+{
+    let mut at = web.last(u);
+    while at > 0 {
+        if web.other(at - 1, u) == v {
+            return true;
+        }
+        at = web.earlier(at - 1, u);
+    }
+    false
+}
+
+/// Of a spoke's end `c` and the best one so far, the one that comes first counterclockwise from the direction of `b`,
+/// among those strictly on the left of the way from `a` to `b`.
+fn first_left(plan: &Plan, a: Pt, b: Pt, best: Option<u16>, c: u16) -> Option<u16>
+    requires best { IfSome best (λ d. d < length plan.now.points) }
+    requires next { c < length plan.now.points }
+    ensures { IfSome result (λ d. d < length plan.now.points) }
+{
+    let end = plan.place(c);
+    if turn(a, b, end) <= 0 {
+        return best;
+    }
+    match best {
+        Some(d) => {
+            if turn(a, plan.place(d), end) < 0 {
+                Some(c)
+            } else {
+                best
+            }
+        }
+        None => Some(c),
+    }
+}
+
+/// The same clockwise, among those strictly on the right.
+fn first_right(plan: &Plan, a: Pt, b: Pt, best: Option<u16>, c: u16) -> Option<u16>
+    requires best { IfSome best (λ d. d < length plan.now.points) }
+    requires next { c < length plan.now.points }
+    ensures { IfSome result (λ d. d < length plan.now.points) }
+{
+    let end = plan.place(c);
+    if turn(a, b, end) >= 0 {
+        return best;
+    }
+    match best {
+        Some(d) => {
+            if turn(a, plan.place(d), end) > 0 {
+                Some(c)
+            } else {
+                best
+            }
+        }
+        None => Some(c),
+    }
+}
+
+/// The first spoke of `a` counterclockwise from the direction of `b`, among those strictly on the left.
+pub fn next_left(plan: &Plan, web: &Web, a: u16, b: u16) -> Option<u16>
+    requires points { web.now.points ≡ length plan.now.points }
+    requires first { a < web.now.points }
+    requires second { b < web.now.points }
+    ensures { IfSome result (λ d. d < length plan.now.points) }
+{
+    let (from, to) = (plan.place(a), plan.place(b));
+    let mut best = None;
+    let mut at = web.last(a);
+    while at > 0 {
+        best = first_left(plan, from, to, best, web.other(at - 1, a));
+        at = web.earlier(at - 1, a);
+    }
+    best
+}
+
+/// The first spoke of `a` clockwise from the direction of `b`, among those strictly on the right.
+pub fn next_right(plan: &Plan, web: &Web, a: u16, b: u16) -> Option<u16>
+    requires points { web.now.points ≡ length plan.now.points }
+    requires first { a < web.now.points }
+    requires second { b < web.now.points }
+    ensures { IfSome result (λ d. d < length plan.now.points) }
+{
+    let (from, to) = (plan.place(a), plan.place(b));
+    let mut best = None;
+    let mut at = web.last(a);
+    while at > 0 {
+        best = first_right(plan, from, to, best, web.other(at - 1, a));
+        at = web.earlier(at - 1, a);
+    }
+    best
+}
+
+/// Whether each spoke of `u` meets the segment from `i` to `j` at ends of both alone.
+pub fn spokes_meet(plan: &Plan, web: &Web, u: u16, i: u16, j: u16) -> bool
+    requires points { web.now.points ≡ length plan.now.points }
+    requires at { u < web.now.points }
+    requires first { i < web.now.points }
+    requires second { j < web.now.points }
+    requires differ { i ≢ j }
+{
+    let (hub, from, to) = (plan.place(u), plan.place(i), plan.place(j));
+    let mut at = web.last(u);
+    while at > 0 {
+        let end = plan.place(web.other(at - 1, u));
+        if !meet_at_ends(hub, end, from, to) {
+            return false;
+        }
+        at = web.earlier(at - 1, u);
+    }
+    true
+}
+
+/// Whether each kept segment meets the segment from `i` to `j` at ends of both alone. Segments whose point numbers are
+/// all before `i` or all behind `j` are apart from it.
+pub fn is_free(plan: &Plan, web: &Web, i: u16, j: u16) -> bool
+    requires points { web.now.points ≡ length plan.now.points }
+    requires order { i < j }
+    requires second { j < web.now.points }
+{
+    for u in 0..j {
+        if (u >= i || web.far(u) > j) && !spokes_meet(plan, web, u, i, j) {
+            return false;
+        }
+    }
+    spokes_meet(plan, web, j, i, j)
+}
+
+/// Whether a segment joins `u` and `v` and meets the segment from `i` to `j` otherwise than at ends of both.
+fn is_fence(plan: &Plan, web: &Web, u: u16, v: u16, i: u16, j: u16) -> bool
+    requires points { web.now.points ≡ length plan.now.points }
+    requires left { u < web.now.points }
+    requires right { v < web.now.points }
+    requires first { i < web.now.points }
+    requires second { j < web.now.points }
+    requires differ { i ≢ j }
+{
+    if u == v {
+        return false;
+    }
+    if !has_spoke(web, u, v) {
+        return false;
+    }
+    let (left, right, from, to) = (plan.place(u), plan.place(v), plan.place(i), plan.place(j));
+    !meet_at_ends(left, right, from, to)
+}
+
+/// Whether the spokes of `i` on both sides of the direction of `j`, or the segment between their ends, show that the
+/// segment from `i` to `j` meets a kept one otherwise than at ends of both.
+pub fn is_fenced(plan: &Plan, web: &Web, i: u16, j: u16) -> bool
+    requires points { web.now.points ≡ length plan.now.points }
+    requires first { i < web.now.points }
+    requires second { j < web.now.points }
+    requires differ { i ≢ j }
+{
+    if !spokes_meet(plan, web, i, i, j) {
+        return true;
+    }
+    match (next_left(plan, web, i, j), next_right(plan, web, i, j)) {
+        (Some(u), Some(v)) => is_fence(plan, web, u, v, i, j),
+        _ => false,
+    }
+}
