@@ -1,0 +1,6 @@
+//! The build: a map's table, the pairs whose budgets ran out, and the certificate of both.
+#![tactic(auto)]
+
+mod certificate;
+
+pub use certificate::{cert_of, labelled, labelled_triangles_ascend};
