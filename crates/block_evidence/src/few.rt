@@ -1,0 +1,58 @@
+//! Up to six ends.
+
+ghost use Rattle.std.specs.Prelude.{◌≡◌, ◌<◌, ◌≤◌, ◌++◌, ◌∷◌, [], length};
+
+use sight_names::{EndAt, Pt};
+use std::marker::Model;
+
+const NO_END: EndAt = EndAt {
+    code: 0,
+    at: Pt { x: 0, y: 0 },
+};
+
+/// At most six ends, in order.
+#[derive(Drop)]
+pub struct Few {
+    ends: [EndAt; 6],
+    count: usize,
+}
+
+impl Model for Few {
+    ghost use Rattle.std.specs.Prelude.{List, take, ◌≤◌};
+    ghost use Rattle.sight_names.specs.declared.names.EndAt.{EndAt as End};
+
+    ghost Value = { List End };
+
+    ghost view = { λ s. take s.count s.ends };
+
+    ghost invariant = { λ s. s.count ≤ 6 };
+}
+
+impl Few {
+    /// No end.
+    pub fn new() -> Few
+        ensures { result ≡ [] }
+    {
+        Few {
+            ends: [NO_END; 6],
+            count: 0,
+        }
+    }
+
+    /// The ends in order.
+    pub fn as_slice(&self) -> &[EndAt]
+        ensures value { result.now ≡ self.now }
+        ensures few { length result.now ≤ 6 }
+    {
+        &self.ends[..self.count]
+    }
+
+    /// Adds an end behind the others.
+    pub fn push(&mut self, end: EndAt)
+        requires { length self.old < 6 }
+        ensures { self.new ≡ self.old ++ end ∷ [] }
+    {
+        self.ends[self.count] = end;
+        self.count += 1;
+    }
+}
