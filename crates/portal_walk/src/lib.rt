@@ -1,0 +1,12 @@
+//! The portal sequences of a source that a line passes through, one by one in order: by root, then depth first, the
+//! left way first.
+#![tactic(auto)]
+
+mod edges;
+mod path;
+mod roots;
+mod step;
+mod walk;
+
+pub use step::Step;
+pub use walk::Walker;

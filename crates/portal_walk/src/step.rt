@@ -1,0 +1,22 @@
+//! What a walk comes to.
+
+use block_evidence::Evidence;
+use sight_names::Side;
+
+/// The next sequence of a walk, or what stands in its way.
+#[derive(Clone, Copy, Debug, PartialEq, Eq)]
+pub enum Step {
+    /// A sequence that the line `a * x + b * y + c = 0` passes through, into this triangle; `entered` is the side where
+    /// it arrives, if its last portal is a line.
+    Open {
+        triangle: u16,
+        entered: Option<Side>,
+        a: i32,
+        b: i32,
+        c: i64,
+    },
+    /// A sequence that no line passes through: these of its ends show it.
+    Blocked(Evidence),
+    /// There is no further sequence.
+    End,
+}
