@@ -58,6 +58,13 @@ impl Ends {
         }
     }
 
+    /// The number of portals.
+    pub fn len(&self) -> usize
+        ensures { result ≡ length self.now }
+    {
+        self.frames.len()
+    }
+
     /// Adds a portal at the end of the list, with the room that its `pop` needs.
     pub fn push(&mut self, left: Pt, right: Pt) -> Result<(), Memory>
         requires proper { left ≢ right }
@@ -113,5 +120,206 @@ impl Ends {
                 }
             }
         }
+    }
+}
+
+#[cfg(test)]
+mod tests {
+    use super::*;
+    use std::test::Fail;
+
+    fn pt(x: i16, y: i16) -> Pt {
+        Pt { x, y }
+    }
+
+    /// A difference of two points.
+    #[derive(Clone, Copy)]
+    struct Arrow {
+        x: i64,
+        y: i64,
+    }
+
+    fn difference(left: Pt, right: Pt) -> Arrow {
+        Arrow {
+            x: (left.x as i64).wrapping_sub(right.x as i64),
+            y: (left.y as i64).wrapping_sub(right.y as i64),
+        }
+    }
+
+    fn cross(a: Arrow, b: Arrow) -> i64 {
+        a.x.wrapping_mul(b.y).wrapping_sub(a.y.wrapping_mul(b.x))
+    }
+
+    fn dot(a: Arrow, b: Arrow) -> i64 {
+        a.x.wrapping_mul(b.x).wrapping_add(a.y.wrapping_mul(b.y))
+    }
+
+    #[derive(Clone, Copy)]
+    enum Angle {
+        Empty,
+        One(Arrow),
+        Two(Arrow, Arrow),
+        Full,
+    }
+
+    /// The angle of all differences so far, with one more.
+    fn plain_step(angle: Angle, d: Arrow) -> Angle {
+        match angle {
+            Angle::Full => Angle::Full,
+            Angle::Empty => {
+                if dot(d, d) == 0 {
+                    Angle::Full
+                } else {
+                    Angle::One(d)
+                }
+            }
+            Angle::One(e) => {
+                if cross(e, d) > 0 {
+                    Angle::Two(e, d)
+                } else if cross(e, d) < 0 {
+                    Angle::Two(d, e)
+                } else if dot(e, d) > 0 {
+                    Angle::One(e)
+                } else {
+                    Angle::Full
+                }
+            }
+            Angle::Two(e, f) => {
+                if cross(e, d) <= 0 && cross(d, f) <= 0 {
+                    Angle::Full
+                } else if cross(e, d) < 0 {
+                    Angle::Two(d, f)
+                } else if cross(d, f) < 0 {
+                    Angle::Two(e, d)
+                } else {
+                    Angle::Two(e, f)
+                }
+            }
+        }
+    }
+
+    /// Whether a line splits the portals, by all differences of a left and a right end.
+    fn plain_splits(portals: &[(Pt, Pt)]) -> bool {
+        let mut angle = Angle::Empty;
+        for p in portals {
+            for q in portals {
+                angle = plain_step(angle, difference(p.0, q.1));
+            }
+        }
+        !matches!(angle, Angle::Full)
+    }
+
+    /// Whether a split is of the right kind, and a line strict at all ends.
+    fn is_right(split: Split, portals: &[(Pt, Pt)]) -> bool {
+        match split {
+            Split::Stuck(_) => !plain_splits(portals),
+            Split::Line { a, b, c } => {
+                let mut strict = plain_splits(portals);
+                for p in portals {
+                    strict = strict && side(a, b, c, p.0) > 0 && side(a, b, c, p.1) < 0;
+                }
+                strict
+            }
+        }
+    }
+
+    fn side(a: i32, b: i32, c: i64, p: Pt) -> i64 {
+        let across = (a as i64).wrapping_mul(p.x as i64);
+        let up = (b as i64).wrapping_mul(p.y as i64);
+        across.wrapping_add(up).wrapping_add(c)
+    }
+
+    /// The next number of a fixed sequence.
+    fn next_number(seed: u32) -> u32 {
+        seed.wrapping_mul(1_664_525).wrapping_add(1_013_904_223)
+    }
+
+    /// A coordinate: small ones, so that many points are collinear or equal, or the extreme ones.
+    fn coordinate(number: u32) -> i16 {
+        match (number >> 16) % 12 {
+            0 => -32768,
+            1 => 32767,
+            2 => -32767,
+            3 => 0,
+            4 => 1,
+            5 => 2,
+            6 => 3,
+            7 => -1,
+            8 => -2,
+            9 => 64,
+            10 => 128,
+            _ => 192,
+        }
+    }
+
+    /// Pushes a portal whose ends differ.
+    fn pushed(ends: &mut Ends, left: Pt, right: Pt) -> Result<(), Memory> {
+        if left != right && ends.len() < 32768 {
+            ends.push(left, right)?;
+        }
+        Ok(())
+    }
+
+    fn popped(ends: &mut Ends) {
+        if ends.len() > 0 {
+            ends.pop();
+        }
+    }
+
+    /// Whether there are as many portals, and the split is right.
+    fn agrees(ends: &Ends, portals: &[(Pt, Pt)]) -> bool {
+        ends.len() == portals.len() && (ends.len() == 0 || is_right(ends.split(), portals))
+    }
+
+    /// Whether some line splits the ends.
+    fn is_line(ends: &Ends) -> bool {
+        ends.len() > 0 && matches!(ends.split(), Split::Line { .. })
+    }
+
+    #[test]
+    fn worked_cases(rt: HostRuntime) -> Result<(), Fail> {
+        let mut one = Ends::new(rt.alloc());
+        pushed(&mut one, pt(0, 64), pt(64, 64))?;
+        assert!(rt; agrees(&one, [(pt(0, 64), pt(64, 64))].as_slice()));
+        assert!(rt; is_line(&one));
+
+        let mut shared = Ends::new(rt.alloc());
+        pushed(&mut shared, pt(0, 1), pt(1, 1))?;
+        assert!(rt; is_line(&shared));
+        pushed(&mut shared, pt(2, 1), pt(1, 1))?;
+        assert_eq!(rt; shared.len(), 2);
+        assert!(rt; !is_line(&shared));
+
+        // the first and the last left end and the middle right end lie on one line: touching is not splitting
+        let mut grazing = Ends::new(rt.alloc());
+        pushed(&mut grazing, pt(0, 32), pt(0, 0))?;
+        pushed(&mut grazing, pt(64, 64), pt(64, 32))?;
+        assert!(rt; is_line(&grazing));
+        pushed(&mut grazing, pt(128, 32), pt(128, 0))?;
+        assert!(rt; !is_line(&grazing));
+        Ok(())
+    }
+
+    #[test]
+    fn random_portals(rt: HostRuntime) -> Result<(), Fail> {
+        let mut ends = Ends::new(rt.alloc());
+        let mut portals = Vec::new(rt.alloc());
+        let mut seed = 1;
+        for _round in 0..40_000u32 {
+            seed = next_number(seed);
+            let left = pt(coordinate(seed), coordinate(next_number(seed)));
+            seed = next_number(next_number(seed));
+            let right = pt(coordinate(seed), coordinate(next_number(seed)));
+            seed = next_number(next_number(seed));
+            if (seed >> 20) % 5 < 3 && left != right && portals.len() < 9 {
+                pushed(&mut ends, left, right)?;
+                portals.push((left, right))?;
+            } else {
+                popped(&mut ends);
+                let _ = portals.pop();
+            }
+            assert!(rt; agrees(&ends, portals.as_slice()));
+        }
+        Ok(())
     }
 }
