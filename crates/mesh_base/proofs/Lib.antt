@@ -7,3 +7,4 @@ pub mod MakeNet
 pub mod FaceClass
 pub mod Joined
 pub mod GoodMesh
+pub mod PlanFacts
