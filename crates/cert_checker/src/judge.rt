@@ -1,0 +1,223 @@
+//! The check, in the order of its faults: mesh, rays, trees, pairs.
+
+ghost use Rattle.std.specs.Prelude.{◌≡◌, length, map, IfOk, IfSome, Some};
+ghost use Rattle.sight_names.specs.Map.{map_of};
+ghost use Rattle.sight_names.specs.Sound.{LinesMeetAtEnds};
+ghost use Rattle.cert_format.specs.declared.cert.Labelled.{Labelled as AtSector};
+ghost use Rattle.cert_checker.specs.Judged.{JudgesMesh, JudgesRays, HasRayFault, IsLaterFault, IsLaterVerdict};
+ghost use Rattle.cert_format.specs.Accepted.{triangles_of, labels_of};
+
+use crate::pairs::{Cursor, Known, judge_pairs};
+use crate::rays::joined;
+use crate::roots::Roots;
+use crate::trees::{Frame, Ground, first_wrong, path_of};
+use crate::verdict::Verdict;
+use crate::web::Web;
+use block_evidence::Tree;
+use cert_format::{Cert, Labelled};
+use mesh_shape::{Labels, Mesh, mesh_fault};
+use reject_bits::Table;
+use sight_names::{CheckFault, Memory, PairRay, Plan, Triangle};
+use std::alloc::Global;
+use tri_sectors::components;
+
+/// The triangles without their sectors.
+fn plain_of(alloc: Global, labelled: &[Labelled]) -> Result<Vec<Triangle>, Memory>
+    ensures { IfOk result (λ v. v.items ≡ map (λ (l : AtSector). l.triangle) labelled.now) }
+{
+    let mut triangles = Vec::new(alloc);
+    for one in labelled {
+        triangles.push(one.triangle)?;
+    }
+    Ok(triangles)
+}
+
+/// The sectors of the triangles.
+fn sectors_of(alloc: Global, labelled: &[Labelled]) -> Result<Vec<Option<u16>>, Memory>
+    ensures { IfOk result (λ v. v.items ≡ map (λ (l : AtSector). Some l.sector) labelled.now) }
+{
+    let mut labels = Vec::new(alloc);
+    for one in labelled {
+        labels.push(Some(one.sector))?;
+    }
+    Ok(labels)
+}
+
+/// Whether some side of a line names the sector, for each sector.
+fn named_of(alloc: Global, plan: &Plan) -> Result<Vec<bool>, Memory> {
+    let mut named = vec![in alloc; false; plan.sectors as usize]?;
+    for entry in plan.lines() {
+        if let Some(line) = entry {
+            mark(named.as_mut_slice(), line.right);
+            mark(named.as_mut_slice(), line.left);
+        }
+    }
+    Ok(named)
+}
+
+/// Marks the sector, if there is one.
+fn mark(flags: &mut [bool], sector: Option<u16>) {
+    if let Some(sector) = sector {
+        if let Some(flag) = flags.get_mut(sector as usize) {
+            *flag = true;
+        }
+    }
+}
+
+/// The first ray that is no sight ray between its sectors.
+fn ray_fault(plan: &Plan, mesh: &Mesh, web: &Web, rays: &[PairRay]) -> Option<CheckFault>
+    ensures { IfSome result (HasRayFault (map_of plan.now) rays.now) }
+{
+    for one in rays {
+        let (a, b) = (one.pair.a, one.pair.b);
+        match joined(plan, mesh, web, &one.ray) {
+            Ok(sectors) => {
+                if sectors != (a, b) {
+                    return Some(CheckFault::Ray { a, b, why: None });
+                }
+            }
+            Err(why) => {
+                return Some(CheckFault::Ray {
+                    a,
+                    b,
+                    why: Some(why),
+                });
+            }
+        }
+    }
+    None
+}
+
+/// The first tree that isn't whole, at its least wrong node. Sources with a tree are marked, and what they reach.
+fn tree_fault(
+    ground: Ground<'_>,
+    path: &mut [Frame],
+    walked: &mut [bool],
+    reached: &mut Table,
+    trees: &[Tree],
+) -> Option<CheckFault>
+    ensures { IfSome result IsLaterFault }
+{
+    for tree in trees {
+        if let Some(node) = first_wrong(ground, path, reached, tree) {
+            return Some(CheckFault::Tree {
+                source: tree.source,
+                node,
+            });
+        }
+        mark(walked, Some(tree.source));
+    }
+    None
+}
+
+/// The mesh of the certificate, and the sectors of its triangles.
+fn mesh_of(alloc: Global, plan: &Plan, cert: &Cert) -> Result<(Mesh, Labels), Memory>
+    requires { cert.now.sizes.points ≡ length plan.now.points }
+    ensures triangles { IfOk result (λ r. r.0 ≡ record { points = length plan.now.points; triangles = triangles_of cert.now }) }
+    ensures labels { IfOk result (λ r. r.1 ≡ labels_of cert.now) }
+{
+    let labelled = cert.triangles();
+    let points = plan.points().len() as u16;
+    let mesh = Mesh::of(alloc, points, plain_of(alloc, labelled)?)?;
+    let labels = Labels::of(sectors_of(alloc, labelled)?);
+    Ok((mesh, labels))
+}
+
+/// All that the check writes on, and the tables that it reads.
+#[derive(Drop)]
+struct Store {
+    path: Vec<Frame>,
+    walked: Vec<bool>,
+    reached: Table,
+    components: Vec<u16>,
+    named: Vec<bool>,
+    web: Web,
+    roots: Roots,
+}
+
+/// Takes all memory of the check but that of the mesh.
+fn store_of(alloc: Global, plan: &Plan, cert: &Cert, mesh: &Mesh) -> Result<Store, Memory> {
+    let path = path_of(alloc, cert.trees())?;
+    let walked = vec![in alloc; false; plan.sectors as usize]?;
+    let reached = Table::clear(alloc, plan.sectors)?;
+    let components = components(alloc, plan)?;
+    let named = named_of(alloc, plan)?;
+    let web = Web::of(alloc, plan, mesh, cert.triangles())?;
+    let roots = Roots::of(alloc, plan, mesh, &web)?;
+    Ok(Store {
+        path,
+        walked,
+        reached,
+        components,
+        named,
+        web,
+        roots,
+    })
+}
+
+/// Judges rays, trees and pairs, on a good mesh.
+fn judge_rest(plan: &Plan, table: &Table, cert: &Cert, mesh: &Mesh, store: Store) -> Verdict
+    ensures later { IsLaterVerdict result }
+    ensures rays { JudgesRays (map_of plan.now) cert.now result }
+{
+    let Store {
+        mut path,
+        mut walked,
+        mut reached,
+        components,
+        named,
+        web,
+        roots,
+    } = store;
+    if let Some(fault) = ray_fault(plan, mesh, &web, cert.rays()) {
+        return Verdict::No(fault);
+    }
+    let ground = Ground {
+        plan,
+        web: &web,
+        roots: &roots,
+    };
+    let path = path.as_mut_slice();
+    if let Some(fault) = tree_fault(
+        ground,
+        path,
+        walked.as_mut_slice(),
+        &mut reached,
+        cert.trees(),
+    ) {
+        return Verdict::No(fault);
+    }
+    let known = Known {
+        table,
+        named: named.as_slice(),
+        components: components.as_slice(),
+        walked: walked.as_slice(),
+        reached: &reached,
+    };
+    let mut cursor = Cursor {
+        listed: cert.listed(),
+        rays: cert.rays(),
+    };
+    match judge_pairs(plan, known, &mut cursor) {
+        Ok(totals) => Verdict::Yes(totals),
+        Err(fault) => Verdict::No(fault),
+    }
+}
+
+/// Judges the table by the certificate: yes with the totals, or the first fault in order.
+pub fn check(alloc: Global, plan: &Plan, table: &Table, cert: &Cert) -> Result<Verdict, Memory>
+    requires audited { LinesMeetAtEnds (map_of plan.now) }
+    requires table { table.now.n ≡ plan.now.sectors }
+    requires sectors { cert.now.sizes.sectors ≡ plan.now.sectors }
+    requires points { cert.now.sizes.points ≡ length plan.now.points }
+    requires lines { cert.now.sizes.lines ≡ length plan.now.lines }
+    ensures mesh { IfOk result (JudgesMesh (map_of plan.now) cert.now) }
+    ensures rays { IfOk result (JudgesRays (map_of plan.now) cert.now) }
+{
+    let (mesh, labels) = mesh_of(alloc, plan, cert)?;
+    let store = store_of(alloc, plan, cert, &mesh)?;
+    match mesh_fault(plan, &mesh, &labels) {
+        Some(fault) => Ok(Verdict::No(CheckFault::Mesh(fault))),
+        None => Ok(judge_rest(plan, table, cert, &mesh, store)),
+    }
+}

@@ -1,0 +1,133 @@
+//! The triangles of a good mesh as one who walks through them sees them: for each directed edge the third point and
+//! the two ways out.
+
+ghost use Rattle.std.specs.Prelude.{◌≡◌, ◌≤◌, ◌<◌, ◌*◌, length, IfOk, IfSome};
+
+use cert_format::Labelled;
+use mesh_shape::Mesh;
+use sight_names::{Line, Memory, Plan};
+use std::alloc::Global;
+
+/// A directed edge of a triangle, entered from outside: its left and its right end, the triangle's third point and
+/// sector, and the entries behind the two ways out. A way that is a solid line has none.
+#[derive(Clone, Copy)]
+pub struct Entry {
+    pub left: u16,
+    pub right: u16,
+    pub apex: u16,
+    pub sector: u16,
+    pub left_way: Option<u16>,
+    pub right_way: Option<u16>,
+}
+
+/// The entries of all triangles, three for each in the order of its edges.
+#[derive(Drop)]
+pub struct Web {
+    pub entries: Vec<Entry>,
+    /// Whether the entry leads through a solid line.
+    walls: Vec<bool>,
+}
+
+/// The place of the entry through the directed edge.
+fn place_of(mesh: &Mesh, left: u16, right: u16) -> Option<u16> {
+    let number = mesh.triangle_at(left, right)?;
+    let triangles = mesh.triangles();
+    let triangle = triangles.get(number as usize)?;
+    let corner = if triangle.p == left {
+        0
+    } else if triangle.q == left {
+        1
+    } else {
+        2
+    };
+    Some(number * 3 + corner)
+}
+
+/// Marks the entries that lead through the line.
+fn close(mesh: &Mesh, walls: &mut [bool], line: Line) {
+    if let Some(place) = place_of(mesh, line.a, line.b) {
+        if let Some(wall) = walls.get_mut(place as usize) {
+            *wall = true;
+        }
+    }
+    if let Some(place) = place_of(mesh, line.b, line.a) {
+        if let Some(wall) = walls.get_mut(place as usize) {
+            *wall = true;
+        }
+    }
+}
+
+/// For each entry, whether it leads through a solid line.
+fn walls_of(alloc: Global, plan: &Plan, mesh: &Mesh) -> Result<Vec<bool>, Memory> {
+    let mut walls = vec![in alloc; false; mesh.triangles().len() * 3]?;
+    for entry in plan.lines() {
+        if let Some(line) = entry {
+            if line.solid {
+                close(mesh, walls.as_mut_slice(), *line);
+            }
+        }
+    }
+    Ok(walls)
+}
+
+/// The entry through the directed edge, unless it is a solid line.
+fn way(mesh: &Mesh, walls: &[bool], left: u16, right: u16) -> Option<u16> {
+    let place = place_of(mesh, left, right)?;
+    match walls.get(place as usize) {
+        Some(false) => Some(place),
+        _ => None,
+    }
+}
+
+/// The entry of a triangle from the edge with these ends, its third point and its sector.
+fn entry_of(mesh: &Mesh, walls: &[bool], left: u16, right: u16, apex: u16, sector: u16) -> Entry {
+    Entry {
+        left,
+        right,
+        apex,
+        sector,
+        left_way: way(mesh, walls, left, apex),
+        right_way: way(mesh, walls, apex, right),
+    }
+}
+
+impl Web {
+    /// The entries of the labelled triangles, which are those of the mesh in order.
+    pub fn of(
+        alloc: Global,
+        plan: &Plan,
+        mesh: &Mesh,
+        labelled: &[Labelled],
+    ) -> Result<Web, Memory> {
+        let walls = walls_of(alloc, plan, mesh)?;
+        let mut entries = Vec::new(alloc);
+        for one in labelled {
+            let (t, sector) = (one.triangle, one.sector);
+            entries.push(entry_of(mesh, walls.as_slice(), t.p, t.q, t.r, sector))?;
+            entries.push(entry_of(mesh, walls.as_slice(), t.q, t.r, t.p, sector))?;
+            entries.push(entry_of(mesh, walls.as_slice(), t.r, t.p, t.q, sector))?;
+        }
+        Ok(Web { entries, walls })
+    }
+
+    /// The entry at this place.
+    pub fn entry(&self, place: u16) -> Option<Entry> {
+        self.entries.get(place as usize).copied()
+    }
+
+    /// The place of the entry through the directed edge, unless it leads through a solid line.
+    pub fn way_through(&self, mesh: &Mesh, left: u16, right: u16) -> Option<u16> {
+        way(mesh, self.walls.as_slice(), left, right)
+    }
+
+    /// This way, unless it leads to a triangle of the source.
+    pub fn outside(&self, way: Option<u16>, source: u16) -> Option<u16> {
+        let place = way?;
+        let entry = self.entry(place)?;
+        if entry.sector == source {
+            None
+        } else {
+            Some(place)
+        }
+    }
+}
