@@ -6,6 +6,8 @@ mod judge;
 #[cfg(test)]
 mod maps;
 #[cfg(test)]
+mod mesh;
+#[cfg(test)]
 mod rows;
 #[cfg(test)]
 mod wads;

@@ -128,3 +128,25 @@ pub const DOORS33: [RowLine; 16] = [
     (192, 64, 192, 0, 1, 3, NONE),
     (192, 0, 128, 0, 1, 3, NONE),
 ];
+
+/// SQUARE without its last line.
+pub const OPEN: [RowLine; 3] = [
+    (0, 0, 0, 64, 1, 0, NONE),
+    (0, 64, 64, 64, 1, 0, NONE),
+    (64, 64, 64, 0, 1, 0, NONE),
+];
+
+/// A room with a pillar inside that has a sector of its own.
+pub const ISLAND: [RowLine; 8] = [
+    (0, 0, 0, 192, 1, 0, NONE),
+    (0, 192, 192, 192, 1, 0, NONE),
+    (192, 192, 192, 0, 1, 0, NONE),
+    (192, 0, 0, 0, 1, 0, NONE),
+    (64, 64, 128, 64, 1, 1, NONE),
+    (128, 64, 128, 128, 1, 1, NONE),
+    (128, 128, 64, 128, 1, 1, NONE),
+    (64, 128, 64, 64, 1, 1, NONE),
+];
+
+/// All points on one line.
+pub const ROD: [RowLine; 2] = [(0, 0, 64, 0, 4, 0, 0), (64, 0, 128, 0, 4, 0, 0)];

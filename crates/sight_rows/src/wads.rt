@@ -1,6 +1,8 @@
 //! Files of worked maps, byte for byte.
 
 use crate::maps::SQUARE;
+use map_lumps::read_map;
+use sight_names::{LumpFault, Plan};
 use std::alloc::{AllocError, Global};
 
 /// No side, or no sector.
@@ -85,6 +87,20 @@ fn map_lumps(alloc: Global, lines: &[RowLine], sectors: u16) -> Result<Vec<RowLu
     lumps.push(lump(*b"SECTORS\0", records))?;
     lumps.push(lump(*b"REJECT\0\0", Vec::new(alloc)))?;
     Ok(lumps)
+}
+
+/// The plan of a worked map.
+pub fn plan_of(alloc: Global, lines: &[RowLine], sectors: u16) -> Result<Plan, LumpFault> {
+    match map_lumps(alloc, lines, sectors)?.as_slice() {
+        [_, linedefs, sidedefs, vertexes, sectors, ..] => read_map(
+            alloc,
+            &linedefs.bytes,
+            &sidedefs.bytes,
+            &vertexes.bytes,
+            &sectors.bytes,
+        ),
+        _ => Err(LumpFault::Memory),
+    }
 }
 
 // A file with these lumps in order from byte 12 on, and its directory behind them.
