@@ -1,6 +1,6 @@
 //! Up to six ends.
 
-ghost use Rattle.std.specs.Prelude.{◌≡◌, ◌<◌, ◌≤◌, ◌++◌, ◌∷◌, [], length};
+ghost use Rattle.std.specs.Prelude.{◌≡◌, ◌+◌, ◌<◌, ◌≤◌, ◌++◌, ◌∷◌, [], length};
 
 use sight_names::{EndAt, Pt};
 use std::marker::Model;
@@ -47,6 +47,13 @@ impl Few {
         &self.ends[..self.count]
     }
 
+    /// How many there are.
+    pub fn len(&self) -> usize
+        ensures { result ≡ length self.now }
+    {
+        self.as_slice().len()
+    }
+
     /// Adds an end behind the others.
     pub fn push(&mut self, end: EndAt)
         requires { length self.old < 6 }
@@ -54,5 +61,15 @@ impl Few {
     {
         self.ends[self.count] = end;
         self.count += 1;
+    }
+
+    /// Adds these ends behind the others.
+    pub fn extend(&mut self, ends: &[EndAt])
+        requires { length self.old + length ends.now ≤ 6 }
+        ensures { self.new ≡ self.old ++ ends.now }
+    {
+        for end in ends {
+            self.push(*end);
+        }
     }
 }
