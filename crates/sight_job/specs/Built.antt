@@ -1,0 +1,8 @@
+-- What a build gives.
+use Rattle.std.specs.Prelude.{length}
+use Rattle.sight_names.specs.Plan.{PlanParts}
+use Rattle.cert_format.specs.declared.cert.Sizes.{Sizes}
+
+-- the sizes of a certificate of this plan
+abbrev pub sizes_of : PlanParts → Sizes
+sizes_of p = record { sectors = p.sectors; points = length p.points; lines = length p.lines }
