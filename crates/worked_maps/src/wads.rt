@@ -1,6 +1,6 @@
 //! Files of worked maps, byte for byte.
 
-use crate::maps::SQUARE;
+use crate::maps::{PAIR, SQUARE};
 use map_lumps::read_map;
 use sight_names::{LumpFault, Plan};
 use std::alloc::{AllocError, Global};
@@ -146,8 +146,8 @@ pub enum Made {
     Raw(&'static [u8]),
     /// The worked map of these lines, with so many sectors and this REJECT.
     Map(&'static [RowLine], u16, &'static [u8]),
-    /// The same with an empty REJECT, and some bytes written over from a place on.
-    Patched(&'static [RowLine], u16, usize, &'static [u8]),
+    /// The same, and some bytes written over from a place on.
+    Patched(&'static [RowLine], u16, &'static [u8], usize, &'static [u8]),
     /// The first lumps of SQUARE, so many.
     Lumps(usize),
     /// SQUARE with so many bytes of LINEDEFS.
@@ -160,6 +160,13 @@ pub enum Made {
     Own(&'static [u8]),
     /// SQUARE and one more lump COPY, whose bytes are those of LINEDEFS; they lie there twice or once.
     Copy(&'static [u8], bool),
+    /// The worked map of these lines, with so many sectors and without an entry REJECT.
+    NoReject(&'static [RowLine], u16),
+    /// PAIR with two more points that no line uses, and one more line, of zero length.
+    Spare,
+    /// PAIR with this REJECT as a node builder leaves it: ten map lumps in the usual order, a split point, and a music
+    /// lump behind.
+    Full(&'static [u8]),
     /// So many lines without a common point.
     Apart(i16),
     /// SQUARE with LINEDEFS of 16,385 records.
@@ -238,6 +245,60 @@ fn copy(alloc: Global, reject: &[u8], apart: bool) -> Result<Vec<u8>, AllocError
     Ok(patched(file, 326, b"\x0c\0\0\0\x38\0\0\0"))
 }
 
+fn without_reject(
+    alloc: Global,
+    lines: &[RowLine],
+    sectors: u16,
+) -> Result<Vec<RowLump>, AllocError> {
+    let mut lumps = map_lumps(alloc, lines, sectors)?;
+    lumps.truncate(5);
+    Ok(lumps)
+}
+
+fn extend(lumps: &mut Vec<RowLump>, at: usize, bytes: &[u8]) -> Result<(), AllocError> {
+    if let Some(lump) = lumps.get_mut(at) {
+        lump.bytes.extend_from_slice(bytes)?;
+    }
+    Ok(())
+}
+
+// The line goes from point 0 to point 0 and has side 0 on its right; the points are (64, 32) and (1, 1).
+fn spare(alloc: Global) -> Result<Vec<RowLump>, AllocError> {
+    let mut lumps = map_lumps(alloc, &PAIR, 2)?;
+    extend(&mut lumps, 1, b"\0\0\0\0\x01\0\0\0\0\0\0\0\xff\xff")?;
+    extend(&mut lumps, 3, b"\x40\0\x20\0\x01\0\x01\0")?;
+    Ok(lumps)
+}
+
+fn filled(alloc: Global, name: [u8; 8], count: usize) -> Result<RowLump, AllocError> {
+    let mut bytes = Vec::new(alloc);
+    for _ in 0..count {
+        bytes.push(0x5a)?;
+    }
+    Ok(lump(name, bytes))
+}
+
+// PAIR's lumps among those that a node builder makes.
+fn full(alloc: Global, reject: &[u8]) -> Result<Vec<RowLump>, AllocError> {
+    let mut lumps = Vec::new(alloc);
+    let mut plain = with_reject(alloc, &PAIR, 2, reject)?;
+    extend(&mut plain, 3, b"\x40\0\x20\0")?;
+    for (k, one) in plain.into_iter().enumerate() {
+        lumps.push(one)?;
+        if k == 0 {
+            lumps.push(filled(alloc, *b"THINGS\0\0", 20)?)?;
+        }
+        if k == 3 {
+            lumps.push(filled(alloc, *b"SEGS\0\0\0\0", 96)?)?;
+            lumps.push(filled(alloc, *b"SSECTORS", 8)?)?;
+            lumps.push(filled(alloc, *b"NODES\0\0\0", 28)?)?;
+        }
+    }
+    lumps.push(filled(alloc, *b"BLOCKMAP", 40)?)?;
+    lumps.push(filled(alloc, *b"D_RUNNIN", 100)?)?;
+    Ok(lumps)
+}
+
 fn apart(alloc: Global, count: i16) -> Result<Vec<u8>, AllocError> {
     let mut lines: Vec<RowLine> = Vec::new(alloc);
     for k in 0..count {
@@ -276,8 +337,8 @@ pub fn bytes_of(alloc: Global, how: &Made) -> Result<Vec<u8>, AllocError> {
         Made::Map(lines, sectors, reject) => {
             file_of(alloc, &with_reject(alloc, lines, *sectors, reject)?)
         }
-        Made::Patched(lines, sectors, at, patch) => {
-            let file = file_of(alloc, &map_lumps(alloc, lines, *sectors)?)?;
+        Made::Patched(lines, sectors, reject, at, patch) => {
+            let file = file_of(alloc, &with_reject(alloc, lines, *sectors, reject)?)?;
             Ok(patched(file, *at, patch))
         }
         Made::Lumps(count) => first_lumps(alloc, *count),
@@ -289,6 +350,11 @@ pub fn bytes_of(alloc: Global, how: &Made) -> Result<Vec<u8>, AllocError> {
             Ok(patched(file, 0, b"I"))
         }
         Made::Copy(reject, apart) => copy(alloc, reject, *apart),
+        Made::NoReject(lines, sectors) => {
+            file_of(alloc, &without_reject(alloc, lines, *sectors)?)
+        }
+        Made::Spare => file_of(alloc, &spare(alloc)?),
+        Made::Full(reject) => file_of(alloc, &full(alloc, reject)?),
         Made::Apart(count) => apart(alloc, *count),
         Made::ManyLines => file_of(alloc, &with_linedefs(alloc, zeros(alloc, 229_390)?)?),
         Made::Crowded(len) => crowded(alloc, *len),

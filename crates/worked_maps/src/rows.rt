@@ -1,5 +1,6 @@
 //! Cases of the top call: a file, words, what fails, and what has to come of it.
 
+use crate::certs::{Edit, edited};
 use crate::wads::{Made, bytes_of};
 use shelf_io::{Fails, File, MemShelf, MemSink};
 use sight_names::WadFault;
@@ -32,10 +33,19 @@ pub enum Output {
     Front(Made, usize),
 }
 
-/// A run of these words over a shelf in which the file `a` is the one that was made.
+/// A certificate with edits.
+#[derive(Clone, Copy)]
+pub struct Certified {
+    pub cert: &'static [u8],
+    pub edits: &'static [Edit],
+}
+
+/// A run of these words over a shelf in which the file `a` is the one that was made, and the file `c` the certificate,
+/// where there is one.
 #[derive(Clone, Copy)]
 pub struct Case {
     pub file: Made,
+    pub cert: Option<Certified>,
     pub words: &'static str,
     pub failing: Failing,
     pub status: Status,
@@ -43,7 +53,7 @@ pub struct Case {
     pub output: Output,
 }
 
-// What a run left: its status, the text, the bytes under the name `b`, and whether the file `a` is as before.
+// What a run left: its status, the text, the bytes under the name `b`, and whether the files that were there are as before.
 #[derive(Drop)]
 struct Left {
     status: Status,
@@ -60,12 +70,31 @@ fn words_of(alloc: Global, line: &str) -> Result<Vec<String>, AllocError> {
     Ok(words)
 }
 
-fn shelf_of(alloc: Global, file: &[u8], failing: Failing) -> Result<MemShelf, AllocError> {
+fn add_file(
+    alloc: Global,
+    files: &mut Vec<File>,
+    name: &str,
+    bytes: Option<&[u8]>,
+) -> Result<(), AllocError> {
+    if let Some(bytes) = bytes {
+        files.push(File {
+            name: String::from_str(alloc, name)?,
+            bytes: bytes.to_vec(alloc)?,
+        })?;
+    }
+    Ok(())
+}
+
+/// A shelf with the file `a`, and the file `c` where there is one.
+pub fn shelf_of(
+    alloc: Global,
+    file: &[u8],
+    cert: Option<&[u8]>,
+    failing: Failing,
+) -> Result<MemShelf, AllocError> {
     let mut files = Vec::new(alloc);
-    files.push(File {
-        name: String::from_str(alloc, "a")?,
-        bytes: file.to_vec(alloc)?,
-    })?;
+    add_file(alloc, &mut files, "a", Some(file))?;
+    add_file(alloc, &mut files, "c", cert)?;
     let fails = Fails {
         reads: failing.reads.to_vec(alloc)?,
         creates: failing.creates.to_vec(alloc)?,
@@ -74,20 +103,37 @@ fn shelf_of(alloc: Global, file: &[u8], failing: Failing) -> Result<MemShelf, Al
     Ok(MemShelf::new(alloc, files, fails))
 }
 
-fn left_by(alloc: Global, file: &[u8], words: &str, failing: Failing) -> Result<Left, AllocError> {
+/// The status and the text of one run over a shelf.
+pub fn said_by(
+    alloc: Global,
+    shelf: &mut MemShelf,
+    words: &str,
+    puts: &[u64],
+) -> Result<(Status, Vec<u8>), AllocError> {
     let words = words_of(alloc, words)?;
-    let mut shelf = shelf_of(alloc, file, failing)?;
-    let mut out = MemSink::new(alloc, failing.puts.to_vec(alloc)?);
-    let status = run(alloc, &words, &mut shelf, &mut out);
+    let mut out = MemSink::new(alloc, puts.to_vec(alloc)?);
+    let status = run(alloc, &words, shelf, &mut out);
+    Ok((status, out.held().to_vec(alloc)?))
+}
+
+fn left_by(
+    alloc: Global,
+    file: &[u8],
+    cert: Option<&[u8]>,
+    words: &str,
+    failing: Failing,
+) -> Result<Left, AllocError> {
+    let mut shelf = shelf_of(alloc, file, cert, failing)?;
+    let (status, text) = said_by(alloc, &mut shelf, words, failing.puts)?;
     let output = match shelf.bytes("b") {
         Some(bytes) => Some(bytes.to_vec(alloc)?),
         None => None,
     };
     Ok(Left {
         status,
-        text: out.held().to_vec(alloc)?,
+        text,
         output,
-        kept: shelf.bytes("a") == Some(file),
+        kept: shelf.bytes("a") == Some(file) && shelf.bytes("c") == cert,
     })
 }
 
@@ -110,9 +156,21 @@ fn has_output(alloc: Global, found: &Option<Vec<u8>>, want: &Output) -> Result<b
     }
 }
 
+fn cert_of(alloc: Global, cert: Option<Certified>) -> Result<Option<Vec<u8>>, AllocError> {
+    match cert {
+        Some(cert) => Ok(Some(edited(alloc, cert.cert, cert.edits)?)),
+        None => Ok(None),
+    }
+}
+
 fn is_right(alloc: Global, case: &Case) -> Result<bool, AllocError> {
     let file = bytes_of(alloc, &case.file)?;
-    let left = left_by(alloc, &file, case.words, case.failing)?;
+    let cert = cert_of(alloc, case.cert)?;
+    let held = match &cert {
+        Some(bytes) => Some(bytes.as_slice()),
+        None => None,
+    };
+    let left = left_by(alloc, &file, held, case.words, case.failing)?;
     let output = has_output(alloc, &left.output, &case.output)?;
     Ok(
         left.status == case.status
@@ -144,7 +202,7 @@ fn refusal_of_prefix(len: usize) -> Status {
 /// The length of the first proper prefix of the file that `zero` doesn't refuse as it should.
 pub fn first_accepted_prefix(alloc: Global, file: &[u8]) -> Result<Option<usize>, AllocError> {
     for len in 0..file.len() {
-        let left = left_by(alloc, &file[..len], "zero a MAP01 b", SOUND)?;
+        let left = left_by(alloc, &file[..len], None, "zero a MAP01 b", SOUND)?;
         if left.status != refusal_of_prefix(len) {
             return Ok(Some(len));
         }

@@ -148,5 +148,69 @@ pub const ISLAND: [RowLine; 8] = [
     (64, 128, 64, 64, 1, 1, NONE),
 ];
 
+/// Two rooms apart.
+pub const APART: [RowLine; 8] = [
+    (0, 0, 0, 64, 1, 0, NONE),
+    (0, 64, 64, 64, 1, 0, NONE),
+    (64, 64, 64, 0, 1, 0, NONE),
+    (64, 0, 0, 0, 1, 0, NONE),
+    (128, 0, 128, 64, 1, 1, NONE),
+    (128, 64, 192, 64, 1, 1, NONE),
+    (192, 64, 192, 0, 1, 1, NONE),
+    (192, 0, 128, 0, 1, 1, NONE),
+];
+
+/// Four rooms round a point, each open to its neighbours.
+pub const CROSSROADS: [RowLine; 12] = [
+    (-64, -64, -64, 0, 1, 0, NONE),
+    (-64, 0, -64, 64, 1, 2, NONE),
+    (-64, 64, 0, 64, 1, 2, NONE),
+    (0, 64, 64, 64, 1, 3, NONE),
+    (64, 64, 64, 0, 1, 3, NONE),
+    (64, 0, 64, -64, 1, 1, NONE),
+    (64, -64, 0, -64, 1, 1, NONE),
+    (0, -64, -64, -64, 1, 0, NONE),
+    (0, 0, 0, -64, 4, 0, 1),
+    (0, 0, -64, 0, 4, 2, 0),
+    (0, 0, 0, 64, 4, 3, 2),
+    (0, 0, 64, 0, 4, 1, 3),
+];
+
+/// Four rooms in a row, whose doors are halves of their walls: only the line y = 32 would join the first and the last,
+/// and it grazes the doors' ends.
+pub const DOORS: [RowLine; 16] = [
+    (-64, 0, -64, 64, 1, 0, NONE),
+    (-64, 64, 0, 64, 1, 0, NONE),
+    (0, 64, 0, 32, 1, 0, 1),
+    (0, 32, 0, 0, 4, 0, 1),
+    (0, 0, -64, 0, 1, 0, NONE),
+    (0, 64, 64, 64, 1, 1, NONE),
+    (64, 64, 64, 32, 4, 1, 2),
+    (64, 32, 64, 0, 1, 1, 2),
+    (64, 0, 0, 0, 1, 1, NONE),
+    (64, 64, 128, 64, 1, 2, NONE),
+    (128, 64, 128, 32, 1, 2, 3),
+    (128, 32, 128, 0, 4, 2, 3),
+    (128, 0, 64, 0, 1, 2, NONE),
+    (128, 64, 192, 64, 1, 3, NONE),
+    (192, 64, 192, 0, 1, 3, NONE),
+    (192, 0, 128, 0, 1, 3, NONE),
+];
+
+/// No line at all.
+pub const NO_LINES: [RowLine; 0] = [];
+
+/// An island with a name of its own room: a pillar inside a room whose sides name the room too.
+pub const PILLAR: [RowLine; 8] = [
+    (0, 0, 0, 192, 1, 0, NONE),
+    (0, 192, 192, 192, 1, 0, NONE),
+    (192, 192, 192, 0, 1, 0, NONE),
+    (192, 0, 0, 0, 1, 0, NONE),
+    (64, 64, 128, 64, 1, 0, NONE),
+    (128, 64, 128, 128, 1, 0, NONE),
+    (128, 128, 64, 128, 1, 0, NONE),
+    (64, 128, 64, 64, 1, 0, NONE),
+];
+
 /// All points on one line.
 pub const ROD: [RowLine; 2] = [(0, 0, 64, 0, 4, 0, 0), (64, 0, 128, 0, 4, 0, 0)];

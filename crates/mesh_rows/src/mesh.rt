@@ -1,7 +1,5 @@
 //! The mesh of worked maps: which segments are kept, which sectors the triangles have, and what a ray through them meets.
 
-use crate::maps::{DOORS33, ISLAND, OPEN, PAIR, ROD, SQUARE, U};
-use crate::wads::{RowLine, plan_of};
 use mesh_shape::{Labels, Mesh};
 use ray_trace::trace;
 use sight_names::{LabelFault, Plan, Ray, Side, TraceFault, Triangle};
@@ -9,6 +7,8 @@ use std::alloc::Global;
 use std::test::Fail;
 use tri_sectors::{components, label};
 use triangulate::{Segment, greedy, mesh_of};
+use worked_maps::maps::{DOORS33, ISLAND, OPEN, PAIR, ROD, SQUARE, U};
+use worked_maps::wads::{RowLine, plan_of};
 
 #[derive(Drop)]
 struct Meshed {
