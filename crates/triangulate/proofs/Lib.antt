@@ -7,3 +7,4 @@ pub mod FairPoints
 pub mod GreedyNet
 pub mod MeshLaws
 pub mod MeshBound
+pub mod NextLemmas

@@ -3,3 +3,4 @@ pub mod Web
 pub mod Pairs
 pub mod Spokes
 pub mod Fills
+pub mod Next
