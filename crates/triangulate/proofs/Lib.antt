@@ -3,3 +3,8 @@ pub mod WalkLemmas
 pub mod Ascending
 pub mod KeptLemmas
 pub mod PairLemmas
+pub mod FairPoints
+pub mod GreedyNet
+pub mod MeshLaws
+pub mod MeshBound
+pub mod NextLemmas
