@@ -1,2 +1,4 @@
 pub mod Classes
+pub mod Components
+pub mod Faces
 pub mod Sides
