@@ -1,0 +1,4 @@
+pub mod FindLaws
+pub mod RayLaws
+pub mod RowLaws
+pub mod NamedLaws
