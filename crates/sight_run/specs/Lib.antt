@@ -7,5 +7,6 @@ pub mod Judge
 pub mod Obeys
 pub mod Report
 pub mod Run
+pub mod Reply
 pub mod Say
 pub mod Views

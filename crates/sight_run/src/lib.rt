@@ -3,6 +3,7 @@
 
 mod input;
 mod judge;
+mod reply;
 mod report;
 mod status;
 mod top;
