@@ -9,3 +9,5 @@ pub mod Report
 pub mod Run
 pub mod Say
 pub mod Views
+pub mod Counts
+pub mod Build
