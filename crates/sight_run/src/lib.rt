@@ -5,6 +5,7 @@ mod build;
 mod counts;
 mod input;
 mod judge;
+mod reply;
 mod report;
 mod status;
 mod top;
