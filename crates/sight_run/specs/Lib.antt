@@ -10,3 +10,5 @@ pub mod Run
 pub mod Reply
 pub mod Say
 pub mod Views
+pub mod Counts
+pub mod Build

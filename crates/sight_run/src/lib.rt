@@ -1,6 +1,8 @@
 //! The top call of doomsight: it reads the words, does what they ask, and puts one line.
 #![tactic(auto)]
 
+mod build;
+mod counts;
 mod input;
 mod judge;
 mod reply;
