@@ -1,2 +1,4 @@
 pub mod ComponentLemmas
 pub mod FaceLemmas
+pub mod SideLemmas
+pub mod GoodLabels

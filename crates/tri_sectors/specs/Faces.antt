@@ -124,3 +124,10 @@ pub record AreOpen (ts : List Triangle) (ws : List Walls) (fs : List ℕ) (os : 
   pub one_each : length os ≡ length ts
   pub gap : (k : ℕ) → k < length ts → HasGap ts ws k → slice_index_or os (class_of fs k) false ≡ true
   pub only : (f : ℕ) → slice_index_or os f false ≡ true → (k : ℕ) × (k < length ts) × (class_of fs k ≡ f) × HasGap ts ws k
+
+-- the faces of a mesh of the map, with the open ones marked
+pub record AreMarkedFaces (m : Map) (ts : List Triangle) (fs : List ℕ) (os : List Bool) : Type 0 where
+  pub walls : List Walls
+  pub are_walls : AreWalls m ts walls
+  pub are_faces : AreFaces ts walls fs
+  pub are_open : AreOpen ts walls fs os
