@@ -4,3 +4,4 @@ pub mod Pairs
 pub mod Spokes
 pub mod Fills
 pub mod Next
+pub mod Left
