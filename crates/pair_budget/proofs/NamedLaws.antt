@@ -127,6 +127,10 @@ trees_cons_at source found (outcome.Complete t) rs = refl
 trees_cons_at source found outcome.Spent rs = refl
 trees_cons_at source found outcome.All rs = refl
 
+-- a tree, where the first source has one, and the trees of the others
+pub trees_cons : (r : SourceResult) (rs : List SourceResult) → trees_of (r ∷ rs) ≡ tree_of r.outcome ++ trees_of rs
+trees_cons r rs = trees_cons_at r.source r.found r.outcome rs
+
 trees_push : (rs : List SourceResult) (r : SourceResult) → trees_of (rs ++ r ∷ []) ≡ trees_of rs ++ tree_of r.outcome
 trees_push [] r = trees_cons_at r.source r.found r.outcome [] ∙ nil_right (tree_of r.outcome)
   where
