@@ -2,6 +2,7 @@
 
 ghost use Rattle.std.specs.Prelude.{◌≢◌, ◌<◌};
 
+#[derive(Drop)]
 pub struct Dice {
     state: u64,
 }

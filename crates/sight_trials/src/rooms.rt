@@ -77,7 +77,8 @@ fn add_line(
     right: u16,
     left: u16,
 ) -> Result<(), AllocError> {
-    lines.push((from.0, from.1, to.0, to.1, flags, right, left))
+    lines.push((from.0, from.1, to.0, to.1, flags, right, left))?;
+    Ok(())
 }
 
 /// The wall between two rooms, walked with the one on the right: none between rocks, solid against rock, and between
@@ -138,7 +139,7 @@ fn add_walls_at(
 }
 
 /// A made map of this seed.
-pub fn rooms(alloc: Global, seed: u64) -> Result<Rooms, AllocError> {
+pub fn made_rooms(alloc: Global, seed: u64) -> Result<Rooms, AllocError> {
     let mut dice = Dice::new(seed);
     let sectors = dice.roll(12) as u16 + 4;
     let points = lattice(alloc, &mut dice)?;

@@ -1,7 +1,7 @@
 //! What has to hold of each made map.
 
 use crate::dice::Dice;
-use crate::rooms::{Rooms, inside, is_clear, rooms};
+use crate::rooms::{Rooms, inside, is_clear, made_rooms};
 use cert_checker::{Verdict, check};
 use cert_format::{Sizes, print, read};
 use map_audit::audit_lines;
@@ -100,8 +100,8 @@ fn changed(alloc: Global, bytes: &[u8], dice: &mut Dice) -> Result<Vec<u8>, Allo
 }
 
 /// Tries one made map: whole, under each budget, and with changes to its certificate.
-fn trial(alloc: Global, seed: u64) -> Result<Trial, BuildFault> {
-    let Ok(made) = rooms(alloc, seed) else {
+fn tried(alloc: Global, seed: u64) -> Result<Trial, BuildFault> {
+    let Ok(made) = made_rooms(alloc, seed) else {
         return Err(BuildFault::Memory);
     };
     let Ok(plan) = plan_of(alloc, &made.lines, made.sectors) else {
@@ -154,7 +154,7 @@ fn trial(alloc: Global, seed: u64) -> Result<Trial, BuildFault> {
 /// The first seed whose trial doesn't hold, and how it ended.
 fn first_failure(alloc: Global, seeds: u64) -> Result<Option<(u64, Trial)>, BuildFault> {
     for seed in 0..seeds {
-        let ended = trial(alloc, seed)?;
+        let ended = tried(alloc, seed)?;
         if ended != Trial::Held {
             return Ok(Some((seed, ended)));
         }
