@@ -1,5 +1,5 @@
 pub mod Notes
 pub mod Walked
 pub mod Decide
-pub mod Finds
+pub mod Gathered
 pub mod Rows

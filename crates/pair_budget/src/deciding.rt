@@ -5,10 +5,10 @@ ghost use Rattle.std.specs.List.Sorted.{IsPermutation, IsSortedByKey};
 ghost use Rattle.sight_names.specs.declared.names.PairRay.{PairRay as RayOfPair};
 ghost use Rattle.sight_names.specs.Ray.{IsInRange};
 ghost use Rattle.pair_budget.specs.Decide.{AreResults, IsSettled, DecidesTable, DecidesList, DecidesRays, IsListedPair, IsSpentSource, trees_of as trees_in};
-ghost use Rattle.pair_budget.specs.Finds.{Gathers, all_rays, pair_cmp, toward as ray_toward};
+ghost use Rattle.pair_budget.specs.Gathered.{Gathers, all_rays, pair_cmp, toward as ray_toward};
 ghost use Rattle.pair_budget.specs.Rows.{KnowsFound, ListsBefore, IsBlindPair, IsBlindBy, BlindBefore, IsMarked, AreNamed, tree_of};
 
-use crate::finds::Finds;
+use crate::gathered::Gathered;
 use crate::results::{Outcome, Reached, SourceResult, Verdicts};
 use block_evidence::Tree;
 use reject_bits::Table;
@@ -70,7 +70,7 @@ fn toward(source: u16, reached: &Reached) -> PairRay
 }
 
 /// Notes all that one source found.
-fn note_found(finds: &mut Finds, walked: &SourceResult) -> Result<(), Memory>
+fn note_found(finds: &mut Gathered, walked: &SourceResult) -> Result<(), Memory>
     requires source { walked.now.source < finds.old.sectors }
     requires within { All (λ r. r.to < finds.old.sectors) walked.now.found }
     requires range { All (λ r. IsInRange r.ray) walked.now.found }
@@ -85,12 +85,12 @@ fn note_found(finds: &mut Finds, walked: &SourceResult) -> Result<(), Memory>
 }
 
 /// All pairs of which one found the other.
-fn finds_of(alloc: Global, plan: &Plan, results: &[SourceResult]) -> Result<Finds, Memory>
+fn finds_of(alloc: Global, plan: &Plan, results: &[SourceResult]) -> Result<Gathered, Memory>
     requires { AreResults plan.now results.now }
     ensures sectors { IfOk result (λ f. f.sectors ≡ plan.now.sectors) }
     ensures rays { IfOk result (λ f. Gathers (all_rays results.now) f.rays) }
 {
-    let mut finds = Finds::new(alloc, plan.sectors)?;
+    let mut finds = Gathered::new(alloc, plan.sectors)?;
     for walked in results {
         note_found(&mut finds, walked)?;
     }
@@ -158,7 +158,7 @@ fn is_spent(results: &[SourceResult], source: u16) -> bool
 }
 
 /// Whether the pair, its smaller sector first, is listed.
-fn is_listed(components: &[u16], results: &[SourceResult], finds: &Finds, a: u16, b: u16) -> bool
+fn is_listed(components: &[u16], results: &[SourceResult], finds: &Gathered, a: u16, b: u16) -> bool
     requires known { KnowsFound (length components.now) results.now finds.now }
     requires order { a < b }
     requires within { b < length components.now }
@@ -177,7 +177,7 @@ fn is_listed(components: &[u16], results: &[SourceResult], finds: &Finds, a: u16
 fn is_blind_pair(
     components: &[u16],
     results: &[SourceResult],
-    finds: &Finds,
+    finds: &Gathered,
     a: u16,
     b: u16,
 ) -> bool
@@ -194,7 +194,7 @@ fn is_blind(
     named: &[bool],
     components: &[u16],
     results: &[SourceResult],
-    finds: &Finds,
+    finds: &Gathered,
     a: u16,
     b: u16,
 ) -> bool
@@ -219,7 +219,7 @@ fn fill_row(
     named: &[bool],
     components: &[u16],
     results: &[SourceResult],
-    finds: &Finds,
+    finds: &Gathered,
     a: u16,
 )
     requires known { KnowsFound (length components.now) results.now finds.now }
@@ -242,7 +242,7 @@ fn table_of(
     plan: &Plan,
     components: &[u16],
     results: &[SourceResult],
-    finds: &Finds,
+    finds: &Gathered,
 ) -> Result<Table, Memory>
     requires components { length components.now ≡ plan.now.sectors }
     requires known { KnowsFound (length components.now) results.now finds.now }
@@ -261,7 +261,7 @@ fn list_row(
     listed: &mut Vec<Pair>,
     components: &[u16],
     results: &[SourceResult],
-    finds: &Finds,
+    finds: &Gathered,
     a: u16,
     sectors: u16,
 ) -> Result<(), Memory>
@@ -284,7 +284,7 @@ fn listed_of(
     alloc: Global,
     components: &[u16],
     results: &[SourceResult],
-    finds: &Finds,
+    finds: &Gathered,
     sectors: u16,
 ) -> Result<Vec<Pair>, Memory>
     requires components { length components.now ≡ sectors }

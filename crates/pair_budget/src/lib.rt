@@ -2,7 +2,7 @@
 #![tactic(auto)]
 
 mod deciding;
-mod finds;
+mod gathered;
 mod notice;
 mod results;
 mod walk;
