@@ -1,3 +1,4 @@
 pub mod Notes
 pub mod Walked
+pub mod Finds
 pub mod Decide

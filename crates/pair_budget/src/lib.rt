@@ -2,6 +2,7 @@
 #![tactic(auto)]
 
 mod deciding;
+mod finds;
 mod notice;
 mod results;
 mod walk;
