@@ -164,7 +164,7 @@ fn first_failure(alloc: Global, seeds: u64) -> Result<Option<(u64, Trial)>, Buil
 
 #[test]
 fn made_maps(rt: HostRuntime) -> Result<(), Fail> {
-    let found = first_failure(rt.alloc(), 60);
+    let found = first_failure(rt.alloc(), 24);
     assert_eq!(rt; found, Ok(None));
     Ok(())
 }
