@@ -1,5 +1,5 @@
 -- The answer that an order, and that words call for.
-use Rattle.std.specs.Prelude.{◌≡◌, ℕ, List, Result, Ok, Err, ⊤}
+use Rattle.std.specs.Prelude.{◌≡◌, ℕ, List, [], ◌∷◌, Result, Ok, Err, ⊤}
 use Rattle.shelf_io.specs.Shelf.{Files}
 use Rattle.order_words.specs.declared.order.Order.{Order}
 use Rattle.order_words.specs.declared.order.Order.TheVariants as order
@@ -31,6 +31,21 @@ AnswersAsked (Ok asked) files answer = Obeys asked files answer
 abbrev pub IsAnswer : List (List ℕ) → Files → Result Answer Status → Type 0
 IsAnswer words files answer = AnswersAsked (asked_of words) files answer
 
+-- the order and the files leave just one answer
+abbrev pub IsDetermined : Order → Files → Type 0
+IsDetermined (order.Zero wad name out) files = ⊤
+IsDetermined (order.Ray wad name ray) files = ⊤
+IsDetermined (order.Audit wad name) files = ⊤
+IsDetermined other files = ⊥
+
+abbrev pub AskedIsDetermined : Result Order Status → Files → Type 0
+AskedIsDetermined (Err refusal) files = ⊤
+AskedIsDetermined (Ok asked) files = IsDetermined asked files
+
+-- words and files leave just one answer
+abbrev pub HasOneAnswer : List (List ℕ) → Files → Type 0
+HasOneAnswer words files = AskedIsDetermined (asked_of words) files
+
 -- the order reads a file of that role
 abbrev pub Reads : Order → Role → Type 0
 Reads (order.Zero wad name out) role.Wad = ⊤
@@ -42,6 +57,11 @@ Reads asked other = ⊥
 abbrev pub Writes : Order → Role → Type 0
 Writes (order.Zero wad name out) role.Wad = ⊤
 Writes asked other = ⊥
+
+-- the order writes files of these roles alone
+abbrev pub WritesEach : Order → List Role → Type 0
+WritesEach asked [] = ⊤
+WritesEach asked (role ∷ roles) = Writes asked role × WritesEach asked roles
 
 -- the order judges what such a no is said of
 abbrev pub Judges : Order → Why → Type 0
