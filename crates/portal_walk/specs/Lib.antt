@@ -1,3 +1,4 @@
 pub mod Frames
 pub mod Nodes
+pub mod Sides
 pub mod Walk

@@ -1,1 +1,2 @@
 pub mod LabelledLaws
+pub mod BuildLaws

@@ -1,5 +1,13 @@
 pub mod WebLemmas
 pub mod WalkLemmas
-pub mod Ascending
 pub mod KeptLemmas
 pub mod PairLemmas
+pub mod FairPoints
+pub mod GreedyNet
+pub mod MeshLaws
+pub mod MeshBound
+pub mod NextLemmas
+pub mod LeftLemmas
+pub mod MeshOf
+pub mod SortedMesh
+pub mod PlanMesh

@@ -5,6 +5,7 @@ ghost use Rattle.sight_names.specs.Map.{map_of};
 ghost use Rattle.sight_names.specs.Points.{place};
 ghost use Rattle.sight_names.specs.Sound.{MeetAtEnds};
 ghost use Rattle.triangulate.specs.Spokes.{IsSpoke};
+ghost use Rattle.triangulate.specs.Next.{IsNextLeft, IsNextRight, IsBestLeft, IsBestRight};
 
 use crate::web::Web;
 use geom_exact::turn;
@@ -31,7 +32,8 @@ pub fn has_spoke(web: &Web, u: u16, v: u16) -> bool
 fn first_left(plan: &Plan, a: Pt, b: Pt, best: Option<u16>, c: u16) -> Option<u16>
     requires best { IfSome best (λ d. d < length plan.now.points) }
     requires next { c < length plan.now.points }
-    ensures { IfSome result (λ d. d < length plan.now.points) }
+    ensures within { IfSome result (λ d. d < length plan.now.points) }
+    ensures best { IsBestLeft (map_of plan.now) a b best c result }
 {
     let end = plan.place(c);
     if turn(a, b, end) <= 0 {
@@ -53,7 +55,8 @@ fn first_left(plan: &Plan, a: Pt, b: Pt, best: Option<u16>, c: u16) -> Option<u1
 fn first_right(plan: &Plan, a: Pt, b: Pt, best: Option<u16>, c: u16) -> Option<u16>
     requires best { IfSome best (λ d. d < length plan.now.points) }
     requires next { c < length plan.now.points }
-    ensures { IfSome result (λ d. d < length plan.now.points) }
+    ensures within { IfSome result (λ d. d < length plan.now.points) }
+    ensures best { IsBestRight (map_of plan.now) a b best c result }
 {
     let end = plan.place(c);
     if turn(a, b, end) >= 0 {
@@ -76,7 +79,8 @@ pub fn next_left(plan: &Plan, web: &Web, a: u16, b: u16) -> Option<u16>
     requires points { web.now.points ≡ length plan.now.points }
     requires first { a < web.now.points }
     requires second { b < web.now.points }
-    ensures { IfSome result (λ d. d < length plan.now.points) }
+    ensures within { IfSome result (λ d. d < length plan.now.points) }
+    ensures first { IsNextLeft (map_of plan.now) web.now.segments a b result }
 {
     let (from, to) = (plan.place(a), plan.place(b));
     let mut best = None;
@@ -93,7 +97,8 @@ pub fn next_right(plan: &Plan, web: &Web, a: u16, b: u16) -> Option<u16>
     requires points { web.now.points ≡ length plan.now.points }
     requires first { a < web.now.points }
     requires second { b < web.now.points }
-    ensures { IfSome result (λ d. d < length plan.now.points) }
+    ensures within { IfSome result (λ d. d < length plan.now.points) }
+    ensures first { IsNextRight (map_of plan.now) web.now.segments a b result }
 {
     let (from, to) = (plan.place(a), plan.place(b));
     let mut best = None;
