@@ -5,3 +5,5 @@ pub mod Judging
 pub mod Endings
 pub mod Counting
 pub mod Building
+pub mod Gridding
+pub mod Asking

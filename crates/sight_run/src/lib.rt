@@ -3,6 +3,7 @@
 
 mod build;
 mod counts;
+mod grid;
 mod input;
 mod judge;
 mod reply;
