@@ -5,7 +5,7 @@ ghost use Rattle.sight_names.specs.declared.names.Budget.TheVariants.{Full};
 ghost use Rattle.sight_names.specs.Map.{map_of};
 ghost use Rattle.sight_names.specs.Mesh.{label_of, IsGoodMesh};
 ghost use Rattle.sight_names.specs.Sound.{LinesMeetAtEnds};
-ghost use Rattle.sight_job.specs.Built.{sizes_of, IsLabelledMesh, AreWalks, AreVerdicts, HasRaysOfClear, ListsClear, IsSymmetric, HasDiagonal, IsWhole};
+ghost use Rattle.sight_job.specs.Built.{sizes_of, IsLabelledMesh, AreWalks, AreVerdicts, HasRaysOfClear, ListsClear, IsSymmetric, HasDiagonal, HasTreesOfSet, IsWhole};
 
 use crate::certificate::{cert_of, labelled};
 use block_evidence::Tree;
@@ -48,6 +48,7 @@ pub fn build_table(alloc: Global, plan: &Plan, budget: Budget) -> Result<Built, 
     ensures clear { IfOk result ListsClear }
     ensures symmetric { IfOk result IsSymmetric }
     ensures diagonal { IfOk result (HasDiagonal plan.now) }
+    ensures set { IfOk result (HasTreesOfSet plan.now) }
     ensures whole { budget ≡ Full → IfOk result (IsWhole plan.now) }
 {
     let shape = labelled_mesh(alloc, plan)?;
@@ -89,27 +90,12 @@ fn labelled_mesh(alloc: Global, plan: &Plan) -> Result<LabelledMesh, BuildFault>
         }
         Err(LabelFault::Memory) => return Err(BuildFault::Memory),
     };
-    // That such a mesh is good, and that its labels are sectors of the map, isn't proved of the labelling yet, so it is
-    // tested here. No map is known on which the test fails.
-    if mesh_fault(plan, &mesh, &labels).is_some() || !are_sectors(&labels, plan.sectors) {
+    // That the greedy segments are those of the definition isn't proved yet, and with it that their triangles are a plain
+    // mesh, so the mesh is tested here. No map is known on which the test fails.
+    if mesh_fault(plan, &mesh, &labels).is_some() {
         return Err(BuildFault::Memory);
     }
     Ok(LabelledMesh { mesh, labels })
-}
-
-/// Whether each label is below the number of sectors.
-fn are_sectors(labels: &Labels, sectors: u16) -> bool
-    ensures { IsTrue result → (k a : ℕ) → label_of labels.now k ≡ Some a → a < sectors }
-{
-    let list = labels.as_slice();
-    for label in list {
-        if let Some(sector) = label {
-            if *sector >= sectors {
-                return false;
-            }
-        }
-    }
-    true
 }
 
 /// The walks of all sectors, in order, each by itself.

@@ -7,7 +7,7 @@ use Rattle.cert_format.specs.Parts.{CertParts}
 use Rattle.cert_format.specs.Grammar.{IsInOrder}
 use Rattle.sight_job.proofs.BuildLaws.{cert_in_order, cert_is}
 use Rattle.sight_job.proofs.LabelledLaws.{below}
-use Rattle.sight_job.proofs.VerdictLaws.{cert_rays, cert_trees, listed_are_clear, both_bits_of, nothing_listed}
+use Rattle.sight_job.proofs.VerdictLaws.{cert_rays, cert_trees, cert_set, listed_are_clear, both_bits_of, nothing_listed}
 use Rattle.sight_job.proofs.build.build_table.Goals as goal
 
 pub cert_of-cert-requires : goal.cert_of-cert-requires
@@ -32,3 +32,6 @@ returns-clause-whole c = λ full. record {
   no_list = nothing_listed c.args.plan.now c.args.budget c.in_ok-verdicts.verdicts c.in_ok-verdicts.ensures full;
   trees = cert_trees c.args.plan.now c.args.budget c.in_ok-verdicts.verdicts c.in_ok-verdicts.ensures c.cert_of-cert.result (ap (λ (d : CertParts). d.rays) c.cert_of-cert.ensures ∙ c.into_vec.ensures) (ap (λ (d : CertParts). d.listed) c.cert_of-cert.ensures ∙ (c.in_ok-listed.ensures.items ∙ c.as_slice.ensures)) (ap (λ (d : CertParts). d.trees) c.cert_of-cert.ensures ∙ c.into_vec-2.ensures) full;
 }
+
+pub returns-clause-set : goal.returns-clause-set
+returns-clause-set c = cert_set c.args.plan.now c.args.budget c.in_ok-verdicts.verdicts c.in_ok-verdicts.ensures c.cert_of-cert.result (ap (λ (d : CertParts). d.rays) c.cert_of-cert.ensures ∙ c.into_vec.ensures) (ap (λ (d : CertParts). d.listed) c.cert_of-cert.ensures ∙ (c.in_ok-listed.ensures.items ∙ c.as_slice.ensures)) (ap (λ (d : CertParts). d.trees) c.cert_of-cert.ensures ∙ c.into_vec-2.ensures)
