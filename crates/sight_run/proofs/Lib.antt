@@ -3,3 +3,7 @@ pub mod Stores
 pub mod Gives
 pub mod Judging
 pub mod Endings
+pub mod Counting
+pub mod Building
+pub mod Gridding
+pub mod Asking

@@ -1,5 +1,5 @@
 -- How a run ends: the status, the files, and the line that was put.
-use Rattle.std.specs.Prelude.{◌≡◌, ◌⊎◌, ℕ, List, [], ◌∷◌, ◌++◌, Option, Some, None, Result, Ok, Err, ⊤, string_bytes, String}
+use Rattle.std.specs.Prelude.{◌≡◌, ◌⊎◌, ℕ, List, [], ◌∷◌, ◌++◌, Option, Some, Result, Ok, Err, ⊤, string_bytes, String}
 use Rattle.std.specs.Option.{option_map}
 use Rattle.std.specs.declared.alloc.Global.{Global}
 use Rattle.shelf_io.specs.Shelf.{Files, ShelfState, put, Rose, NoFault, SameCounts, IsQuiet, MayHoldFront}
@@ -13,7 +13,7 @@ use Rattle.sight_run.specs.declared.status.Why.TheVariants as why
 use Rattle.sight_run.specs.declared.status.Status.{Status}
 use Rattle.sight_run.specs.declared.status.Status.TheVariants as status
 use Rattle.sight_run.specs.Answer.{Answer, IsTheAnswer, Written}
-use Rattle.sight_run.specs.Obeys.{Audits, IsAnswer, Judges, Reads, Writes}
+use Rattle.sight_run.specs.Obeys.{Audits, FindsMap, HasOneAnswer, IsAnswer, Judges, Reads, Writes}
 use Rattle.sight_run.specs.Report.{text_of}
 use Rattle.sight_run.specs.Status.{IsOfBytes}
 
@@ -30,16 +30,16 @@ StandsUpTo role files after [] = ⊥
 StandsUpTo role files after (w ∷ ws) = ((w.role ≡ role) × MayHoldFront (Some files) after w.name w.bytes) ⊎ StandsUpTo role (put files w.name w.bytes) after ws
 
 -- the answer called for was given: its outputs stand, all other files are as before, and this is its line
-pub record IsDoneBy (Called : Result Answer Status → Type 0) (files : Files) (after : Option Files) (line : List ℕ) : Type 0 where
+pub record IsDoneBy (Sole : Type 0) (Called : Result Answer Status → Type 0) (files : Files) (after : Option Files) (line : List ℕ) : Type 0 where
   pub answer : Answer
-  pub called : IsTheAnswer Called (Ok answer)
+  pub called : IsTheAnswer Sole Called (Ok answer)
   pub stands : after ≡ Some (put_all files answer.writes)
   pub line_is : line ≡ answer.line
 
 -- an output of the answer called for couldn't be stored
-pub record IsBrokenBy (Called : Result Answer Status → Type 0) (role : Role) (files : Files) (after : Option Files) : Type 0 where
+pub record IsBrokenBy (Sole : Type 0) (Called : Result Answer Status → Type 0) (role : Role) (files : Files) (after : Option Files) : Type 0 where
   pub answer : Answer
-  pub called : IsTheAnswer Called (Ok answer)
+  pub called : IsTheAnswer Sole Called (Ok answer)
   pub stands : StandsUpTo role files after answer.writes
 
 -- a refusal: all files are as before, and this is its line
@@ -48,14 +48,14 @@ pub record IsRefusedBy (files : Files) (after : Option Files) (refusal : Status)
   pub line_is : line ≡ text_of refusal
 
 -- what a status says of told files, and the line that goes with it
-abbrev pub EndsBy : (Result Answer Status → Type 0) → Files → Option Files → Status → List ℕ → Type 0
-EndsBy Called files after status.Done line = IsDoneBy Called files after line
-EndsBy Called files after (status.WriteFault role) line = IsBrokenBy Called role files after × (line ≡ text_of (status.WriteFault role))
+abbrev pub EndsBy : Type 0 → (Result Answer Status → Type 0) → Files → Option Files → Status → List ℕ → Type 0
+EndsBy Sole Called files after status.Done line = IsDoneBy Sole Called files after line
+EndsBy Sole Called files after (status.WriteFault role) line = IsBrokenBy Sole Called role files after × (line ≡ text_of (status.WriteFault role))
 -- a read failed, or memory ran out
-EndsBy Called files after (status.ReadFault role) line = IsRefusedBy files after (status.ReadFault role) line
-EndsBy Called files after status.Memory line = IsRefusedBy files after status.Memory line
+EndsBy Sole Called files after (status.ReadFault role) line = IsRefusedBy files after (status.ReadFault role) line
+EndsBy Sole Called files after status.Memory line = IsRefusedBy files after status.Memory line
 -- any other refusal is the answer called for
-EndsBy Called files after refusal line = IsTheAnswer Called (Err refusal) × IsRefusedBy files after refusal line
+EndsBy Sole Called files after refusal line = IsTheAnswer Sole Called (Err refusal) × IsRefusedBy files after refusal line
 
 -- ---- the counts
 
@@ -92,24 +92,24 @@ HasLine (status.WriteFault role.Text) = ⊥
 HasLine other = ⊤
 
 -- the line of the status was put, which for want of memory is nothing
-pub record IsSaid (Called : Result Answer Status → Type 0) (files : Files) (after : Option Files) (old new : SinkState) (s : Status) : Type 0 where
+pub record IsSaid (Sole : Type 0) (Called : Result Answer Status → Type 0) (files : Files) (after : Option Files) (old new : SinkState) (s : Status) : Type 0 where
   pub line : List ℕ
-  pub ends : EndsBy Called files after s line
+  pub ends : EndsBy Sole Called files after s line
   pub said : new.held ≡ option_map (λ held. held ++ line) old.held
 
 -- the line of some status couldn't be put, and a front of it was; all else is as that status says
-pub record IsUnsaid (Called : Result Answer Status → Type 0) (files : Files) (before after : ShelfState) (old new : SinkState) : Type 0 where
+pub record IsUnsaid (Sole : Type 0) (Called : Result Answer Status → Type 0) (files : Files) (before after : ShelfState) (old new : SinkState) : Type 0 where
   pub status : Status
   pub has_line : HasLine status
   pub line : List ℕ
-  pub ends : EndsBy Called files after.files status line
+  pub ends : EndsBy Sole Called files after.files status line
   pub cause : ShelfCause before after status
   pub said : HasFront old.held new.held line
 
 -- how a run ends where the files are told
 abbrev pub RunEnds : List (List ℕ) → Files → ShelfState → ShelfState → SinkState → SinkState → Status → Type 0
-RunEnds words files before after old new (status.WriteFault role.Text) = IsUnsaid (IsAnswer words files) files before after old new
-RunEnds words files before after old new other = IsSaid (IsAnswer words files) files after.files old new other
+RunEnds words files before after old new (status.WriteFault role.Text) = IsUnsaid (HasOneAnswer words files) (IsAnswer words files) files before after old new
+RunEnds words files before after old new other = IsSaid (HasOneAnswer words files) (IsAnswer words files) files after.files old new other
 
 -- what the sink got, also where files aren't told: the one line of a refusal, and for want of memory nothing
 abbrev pub TextAfter : SinkState → SinkState → Status → Type 0
@@ -129,12 +129,13 @@ IsOfOrder order status.SameName = ⊥
 IsOfOrder order (status.NoFile role) = Reads order role
 IsOfOrder order (status.ReadFault role) = Reads order role
 IsOfOrder order (status.WriteFault role) = Writes order role
-IsOfOrder order (status.NotWad fault) = Reads order role.Wad
-IsOfOrder order (status.NoMap fault) = Reads order role.Wad
-IsOfOrder order (status.BadLump fault) = Reads order role.Wad
+IsOfOrder order (status.NotWad fault) = FindsMap order
+IsOfOrder order (status.NoMap fault) = FindsMap order
+IsOfOrder order (status.BadLump fault) = FindsMap order
+IsOfOrder order (status.Limit bound.WadBytes) = Reads order role.Wad
 IsOfOrder order (status.Limit bound.CertBytes) = Reads order role.Cert
 IsOfOrder order (status.Limit bound.OutputBytes) = Writes order role.Wad
-IsOfOrder order (status.Limit bound) = Reads order role.Wad
+IsOfOrder order (status.Limit bound) = FindsMap order
 IsOfOrder order (status.BadMap flaw) = Audits order flaw
 IsOfOrder order status.Memory = ⊤
 
@@ -144,6 +145,7 @@ IsOfReading (status.NoFile role.Wad) = ⊤
 IsOfReading (status.NoFile role) = ⊥
 IsOfReading (status.ReadFault role.Wad) = ⊤
 IsOfReading (status.ReadFault role) = ⊥
+IsOfReading (status.Limit bound.WadBytes) = ⊤
 IsOfReading other = IsOfBytes other
 
 -- a refusal that comes before `zero` stores its output
@@ -160,6 +162,12 @@ IsOfRay other = IsOfReading other
 abbrev pub IsOfAudit : Status → Type 0
 IsOfAudit (status.BadMap (flaw.Line fault)) = ⊤
 IsOfAudit other = IsOfReading other
+
+-- a refusal that `build` can end with before its outputs are stored
+abbrev pub IsOfBuild : Status → Type 0
+IsOfBuild (status.BadMap flaw) = ⊤
+IsOfBuild (status.Limit bound.OutputBytes) = ⊤
+IsOfBuild other = IsOfReading other
 
 -- what the words alone say of a status
 abbrev pub WordsSay : Result Order Status → Status → Type 0

@@ -124,7 +124,7 @@ fn plan_at(alloc: Global, bytes: &[u8], wad: &Wad, spot: &MapSpot) -> Result<Pla
 
 /// The map of this name in the bytes of a file, or the first check that fails.
 #[tactic(auto, unfolding(crate::specs::Input::found_in))]
-fn find(alloc: Global, bytes: Vec<u8>, name: &str) -> Result<Input, Status>
+pub fn find(alloc: Global, bytes: Vec<u8>, name: &str) -> Result<Input, Status>
     ensures found { Makes found result (found_in name.now bytes.items) }
     ensures refusals { IfErr result IsOfBytes }
     ensures whole { IfOk result IsWhole }

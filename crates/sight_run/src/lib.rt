@@ -1,8 +1,12 @@
 //! The top call of doomsight: it reads the words, does what they ask, and puts one line.
 #![tactic(auto)]
 
+mod build;
+mod counts;
+mod grid;
 mod input;
 mod judge;
+mod reply;
 mod report;
 mod status;
 mod top;
