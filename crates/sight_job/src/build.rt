@@ -1,10 +1,11 @@
 //! The build of one map.
 
-ghost use Rattle.std.specs.Prelude.{◌≡◌, ◌<◌, ℕ, Some, IfOk, IsTrue, length};
+ghost use Rattle.std.specs.Prelude.{◌≡◌, IfOk};
 ghost use Rattle.sight_names.specs.declared.names.Budget.TheVariants.{Full};
 ghost use Rattle.sight_names.specs.Map.{map_of};
-ghost use Rattle.sight_names.specs.Mesh.{label_of, IsGoodMesh};
+ghost use Rattle.sight_names.specs.Mesh.{IsGoodMesh};
 ghost use Rattle.sight_names.specs.Sound.{LinesMeetAtEnds};
+ghost use Rattle.cert_format.specs.Accepted.{triangles_of, labels_of};
 ghost use Rattle.sight_job.specs.Built.{sizes_of, IsLabelledMesh, AreWalks, AreVerdicts, HasRaysOfClear, ListsClear, IsSymmetric, HasDiagonal, HasTreesOfSet, IsWhole};
 
 use crate::certificate::{cert_of, labelled};
@@ -44,6 +45,7 @@ pub fn build_table(alloc: Global, plan: &Plan, budget: Budget) -> Result<Built, 
     ensures sectors { IfOk result (λ b. b.table.n ≡ plan.now.sectors) }
     ensures sizes { IfOk result (λ b. b.cert.sizes ≡ sizes_of plan.now) }
     ensures listed { IfOk result (λ b. b.listed ≡ b.cert.listed) }
+    ensures mesh { IfOk result (λ b. IsGoodMesh (map_of plan.now) (triangles_of b.cert) (labels_of b.cert)) }
     ensures rays { IfOk result HasRaysOfClear }
     ensures clear { IfOk result ListsClear }
     ensures symmetric { IfOk result IsSymmetric }
