@@ -1,5 +1,7 @@
 pub mod Lines
 pub mod Stores
 pub mod Gives
-pub mod Judging
+pub mod Rays
+pub mod Sounds
+pub mod Checks
 pub mod Endings

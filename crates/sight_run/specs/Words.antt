@@ -13,11 +13,14 @@ abbrev pub is_built : Order → Bool
 is_built (order.Zero wad name out) = true
 is_built (order.Ray wad name ray) = true
 is_built (order.Audit wad name) = true
+is_built (order.Trace wad name ray) = true
+is_built (order.Check wad name cert) = true
 is_built other = false
 
 -- the files that an order names
 abbrev pub file_names : Order → List (List ℕ)
 file_names (order.Zero wad name out) = wad ∷ out ∷ []
+file_names (order.Check wad name cert) = wad ∷ cert ∷ []
 file_names other = []
 
 -- some name stands in the list twice

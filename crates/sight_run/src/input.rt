@@ -96,7 +96,8 @@ fn plan_of(
     }
 }
 
-fn lump_of<'a>(bytes: &'a [u8], wad: &Wad, k: u32) -> &'a [u8]
+/// The bytes of this lump.
+pub fn lump_of<'a>(bytes: &'a [u8], wad: &Wad, k: u32) -> &'a [u8]
     requires inside { All (λ entry. entry.at + entry.size ≤ length bytes.now) wad.now.entries }
     requires place { k < length wad.now.entries }
     ensures { result.now ≡ lump_at (file_of bytes.now wad.now) k }

@@ -15,7 +15,11 @@ fn has_built_verb(order: &Order) -> bool
 {
     matches!(
         order,
-        Order::Zero { .. } | Order::Ray { .. } | Order::Audit { .. }
+        Order::Zero { .. }
+            | Order::Ray { .. }
+            | Order::Audit { .. }
+            | Order::Trace { .. }
+            | Order::Check { .. }
     )
 }
 
@@ -24,6 +28,7 @@ fn has_same_name(order: &Order) -> bool
 {
     match order {
         Order::Zero { wad, out, .. } => wad.as_str() == out.as_str(),
+        Order::Check { wad, cert, .. } => wad.as_str() == cert.as_str(),
         _ => false,
     }
 }
