@@ -1,1 +1,3 @@
 pub mod Judged
+pub mod Pairs
+pub mod Named

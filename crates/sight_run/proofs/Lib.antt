@@ -5,3 +5,7 @@ pub mod Rays
 pub mod Sounds
 pub mod Checks
 pub mod Endings
+pub mod Counting
+pub mod Building
+pub mod Gridding
+pub mod Asking

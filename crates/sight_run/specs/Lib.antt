@@ -14,3 +14,6 @@ pub mod Run
 pub mod Reply
 pub mod Say
 pub mod Views
+pub mod Counts
+pub mod Build
+pub mod Grid

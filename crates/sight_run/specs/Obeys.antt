@@ -1,5 +1,5 @@
 -- The answer that an order, and that words call for.
-use Rattle.std.specs.Prelude.{◌≡◌, ℕ, List, [], ◌∷◌, Result, Ok, Err, ⊤}
+use Rattle.std.specs.Prelude.{◌≡◌, ℕ, List, [], ◌∷◌, Some, Result, Ok, Err, ⊤}
 use Rattle.sight_names.specs.Sound.{LinesMeetAtEnds}
 use Rattle.shelf_io.specs.Shelf.{Files}
 use Rattle.order_words.specs.declared.order.Order.{Order}
@@ -17,6 +17,8 @@ use Rattle.sight_run.specs.Check.{CheckCalls, IsUnjudged}
 use Rattle.sight_run.specs.Input.{Found, IfFound, OnFound, found_of}
 use Rattle.sight_run.specs.Ray.{RayCalls}
 use Rattle.sight_run.specs.Trace.{TraceCalls}
+use Rattle.sight_run.specs.Build.{BuildCalls, IsUnbuildable}
+use Rattle.sight_run.specs.Grid.{GridCalls}
 use Rattle.sight_run.specs.Words.{asked_of}
 use Rattle.sight_run.specs.Zero.{ZeroCalls}
 
@@ -27,6 +29,8 @@ Obeys (order.Ray wad name ray) files answer = OnFound (found_of wad name files) 
 Obeys (order.Audit wad name) files answer = OnFound (found_of wad name files) (λ found. AuditCalls found.map) answer
 Obeys (order.Trace wad name ray) files answer = OnFound (found_of wad name files) (λ found. TraceCalls ray found.map) answer
 Obeys (order.Check wad name cert) files answer = OnFound (found_of wad name files) (CheckCalls cert files) answer
+Obeys (order.Build wad name out cert report workers budget) files answer = OnFound (found_of wad name files) (BuildCalls name out cert) answer
+Obeys (order.Grid n workers budget) files answer = GridCalls n answer
 Obeys other files answer = ⊥
 
 abbrev pub AnswersAsked : Result Order Status → Files → Result Answer Status → Type 0
@@ -47,6 +51,7 @@ IsDetermined (order.Ray wad name ray) files = ⊤
 IsDetermined (order.Audit wad name) files = IfFound (found_of wad name files) HasClash
 IsDetermined (order.Trace wad name ray) files = IfFound (found_of wad name files) HasClash
 IsDetermined (order.Check wad name cert) files = IfFound (found_of wad name files) (IsUnjudged cert files)
+IsDetermined (order.Build wad name out cert report workers budget) files = IsUnbuildable (found_of wad name files)
 IsDetermined other files = ⊥
 
 abbrev pub AskedIsDetermined : Result Order Status → Files → Type 0
@@ -65,11 +70,19 @@ Reads (order.Audit wad name) role.Wad = ⊤
 Reads (order.Trace wad name ray) role.Wad = ⊤
 Reads (order.Check wad name cert) role.Wad = ⊤
 Reads (order.Check wad name cert) role.Cert = ⊤
+Reads (order.Build wad name out cert report workers budget) role.Wad = ⊤
 Reads asked other = ⊥
+
+-- the order finds a map, in a file or in a WAD that it makes
+abbrev pub FindsMap : Order → Type 0
+FindsMap (order.Grid n workers budget) = ⊤
+FindsMap asked = Reads asked role.Wad
 
 -- the order writes a file of that role
 abbrev pub Writes : Order → Role → Type 0
 Writes (order.Zero wad name out) role.Wad = ⊤
+Writes (order.Build wad name out cert report workers budget) role.Wad = ⊤
+Writes (order.Build wad name out (Some cert) report workers budget) role.Cert = ⊤
 Writes asked other = ⊥
 
 -- the order writes files of these roles alone
@@ -84,6 +97,7 @@ Judges (order.Trace wad name ray) (why.Trace fault) = ⊤
 Judges (order.Check wad name cert) (why.Table fault) = ⊤
 Judges (order.Check wad name cert) (why.Cert fault) = ⊤
 Judges (order.Check wad name cert) (why.Check fault) = ⊤
+Judges (order.Grid n workers budget) (why.Check fault) = ⊤
 Judges asked other = ⊥
 
 -- the order audits what has such a flaw
@@ -91,4 +105,6 @@ abbrev pub Audits : Order → Flaw → Type 0
 Audits (order.Audit wad name) which = ⊤
 Audits (order.Trace wad name ray) which = ⊤
 Audits (order.Check wad name cert) (flaw.Line fault) = ⊤
+Audits (order.Build wad name out cert report workers budget) which = ⊤
+Audits (order.Grid n workers budget) which = ⊤
 Audits asked other = ⊥

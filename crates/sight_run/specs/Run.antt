@@ -14,7 +14,7 @@ use Rattle.sight_run.specs.declared.status.Why.TheVariants as why
 use Rattle.sight_run.specs.declared.status.Status.{Status}
 use Rattle.sight_run.specs.declared.status.Status.TheVariants as status
 use Rattle.sight_run.specs.Answer.{Answer, IsTheAnswer, Written}
-use Rattle.sight_run.specs.Obeys.{Audits, HasOneAnswer, IsAnswer, Judges, Reads, Writes}
+use Rattle.sight_run.specs.Obeys.{Audits, FindsMap, HasOneAnswer, IsAnswer, Judges, Reads, Writes}
 use Rattle.sight_run.specs.Report.{text_of}
 use Rattle.sight_run.specs.Status.{IsOfBringing, IsOfBytes}
 
@@ -130,12 +130,13 @@ IsOfOrder order status.SameName = ⊥
 IsOfOrder order (status.NoFile role) = Reads order role
 IsOfOrder order (status.ReadFault role) = Reads order role
 IsOfOrder order (status.WriteFault role) = Writes order role
-IsOfOrder order (status.NotWad fault) = Reads order role.Wad
-IsOfOrder order (status.NoMap fault) = Reads order role.Wad
-IsOfOrder order (status.BadLump fault) = Reads order role.Wad
+IsOfOrder order (status.NotWad fault) = FindsMap order
+IsOfOrder order (status.NoMap fault) = FindsMap order
+IsOfOrder order (status.BadLump fault) = FindsMap order
+IsOfOrder order (status.Limit bound.WadBytes) = Reads order role.Wad
 IsOfOrder order (status.Limit bound.CertBytes) = Reads order role.Cert
 IsOfOrder order (status.Limit bound.OutputBytes) = Writes order role.Wad
-IsOfOrder order (status.Limit bound) = Reads order role.Wad
+IsOfOrder order (status.Limit bound) = FindsMap order
 IsOfOrder order (status.BadMap flaw) = Audits order flaw
 IsOfOrder order status.Memory = ⊤
 
@@ -145,6 +146,7 @@ IsOfReading (status.NoFile role.Wad) = ⊤
 IsOfReading (status.NoFile role) = ⊥
 IsOfReading (status.ReadFault role.Wad) = ⊤
 IsOfReading (status.ReadFault role) = ⊥
+IsOfReading (status.Limit bound.WadBytes) = ⊤
 IsOfReading other = IsOfBytes other
 
 -- a refusal that comes before `zero` stores its output
@@ -177,6 +179,12 @@ IsOfCheck (status.ReadFault role.Cert) = ⊤
 IsOfCheck (status.Limit bound.CertBytes) = ⊤
 IsOfCheck (status.BadMap (flaw.Line fault)) = ⊤
 IsOfCheck other = IsOfReading other
+
+-- a refusal that `build` can end with before its outputs are stored
+abbrev pub IsOfBuild : Status → Type 0
+IsOfBuild (status.BadMap flaw) = ⊤
+IsOfBuild (status.Limit bound.OutputBytes) = ⊤
+IsOfBuild other = IsOfReading other
 
 -- what the words alone say of a status
 abbrev pub WordsSay : Result Order Status → Status → Type 0

@@ -11,7 +11,9 @@ ghost use Rattle.sight_run.specs.Words.{asked_of, is_built};
 ghost use Rattle.sight_run.specs.declared.status.Status.TheVariants.{Memory};
 
 use crate::audit::do_audit;
+use crate::build::do_build;
 use crate::check::do_check;
+use crate::grid::do_grid;
 use crate::ray::do_ray;
 use crate::reply::{Reply, store_all};
 use crate::report::{refuse, say};
@@ -45,6 +47,23 @@ fn reply_to<S: Shelf>(alloc: Global, shelf: &mut S, order: &Order) -> Result<Rep
         Order::Check { wad, map, cert } => {
             do_check(alloc, shelf, wad.as_str(), map.as_str(), cert.as_str())
         }
+        Order::Build {
+            wad,
+            map,
+            out,
+            cert,
+            budget,
+            ..
+        } => do_build(
+            alloc,
+            shelf,
+            wad.as_str(),
+            map.as_str(),
+            out.as_str(),
+            cert,
+            *budget,
+        ),
+        Order::Grid { n, budget, .. } => do_grid(alloc, *n, *budget),
         _ => unreachable!(),
     }
 }

@@ -3,12 +3,14 @@
 #![tactic(auto)]
 
 mod closed;
+pub mod laws;
 mod rounds;
 pub mod segments;
 mod spokes;
 mod triangles;
 mod web;
 
+pub use laws::mesh_laws;
 pub use rounds::greedy;
 pub use segments::{Segment, Segments};
 pub use triangles::mesh_of;

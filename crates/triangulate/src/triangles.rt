@@ -1,9 +1,14 @@
 //! The empty triangles of kept segments.
 
-ghost use Rattle.std.specs.Prelude.{◌≡◌, ◌<◌, ◌↔◌, [], ◌∷◌, ◌++◌, IsTrue, IfOk, length};
-ghost use Rattle.std.specs.Bool.{OnTrue};
-ghost use Rattle.sight_names.specs.Mesh.{AreTriangles, IsAbove};
-ghost use Rattle.triangulate.specs.Kept.{AreEdges};
+ghost use Rattle.std.specs.Prelude.{◌≡◌, ◌<◌, IfOk, OnOk, Contains, length, map};
+ghost use Rattle.sight_names.specs.declared.names.Triangle.{Triangle};
+ghost use Rattle.sight_names.specs.Map.{map_of};
+ghost use Rattle.sight_names.specs.Sound.{LinesMeetAtEnds};
+ghost use Rattle.sight_names.specs.Greedy.{IsGreedy};
+ghost use Rattle.sight_names.specs.Mesh.{IsMeshOf, IsPlainMesh, IsTriangle};
+ghost use Rattle.triangulate.specs.Kept.{AreEdges, edge_of};
+ghost use Rattle.triangulate.specs.Left.{AreLeftTriangles, IsInOrder, IsLeftAdded};
+ghost use Rattle.triangulate.specs.Fills.{FillsHull};
 
 use crate::segments::Segments;
 use crate::spokes::next_left;
@@ -18,57 +23,36 @@ const MOST_TRIANGLES: usize = 8192;
 /// All empty triangles of the segments, in order: on the left of each segment the one to the first spoke.
 pub fn mesh_of(alloc: Global, plan: &Plan, segments: &Segments) -> Result<Mesh, Memory>
     requires { AreEdges (length plan.now.points) segments.now }
-    ensures { IfOk result (λ m. m.points ≡ length plan.now.points) }
+    ensures points { IfOk result (λ mesh. mesh.points ≡ length plan.now.points) }
+    ensures mesh { LinesMeetAtEnds (map_of plan.now) → IsGreedy (map_of plan.now) segments.now → IfOk result (λ mesh. IsMeshOf (map_of plan.now) mesh.triangles) }
+    ensures plain { LinesMeetAtEnds (map_of plan.now) → IsGreedy (map_of plan.now) segments.now → IfOk result (λ mesh. IsPlainMesh (map_of plan.now) mesh.triangles) }
+    ensures fills { LinesMeetAtEnds (map_of plan.now) → IsGreedy (map_of plan.now) segments.now → IfOk result (λ mesh. FillsHull (map_of plan.now) segments.now mesh.triangles) }
 {
     let count = plan.points().len() as u16;
     let web = web_of(alloc, count, segments)?;
-    let mut found = triangles_of(alloc, plan, &web)?;
-    found.sort()?;
-    let triangles = ascending(alloc, count, found.as_slice())?;
+    let found = triangles_of(alloc, plan, &web)?;
+    let triangles = in_order(found);
     if triangles.len() > MOST_TRIANGLES {
         return Err(Memory);
     }
     Mesh::of(alloc, count, triangles)
 }
 
-/// Those of the triangles that are behind all before them.
-fn ascending(alloc: Global, points: u16, found: &[Triangle]) -> Result<Vec<Triangle>, Memory>
-    ensures { IfOk result (λ v. AreTriangles points v.items) }
+/// The triangles in ascending order, each once.
+fn in_order(found: Vec<Triangle>) -> Vec<Triangle>
+    ensures { IsInOrder found.items result.items }
 {
-    let mut triangles = Vec::new(alloc);
-    for t in found {
-        if is_next(points, triangles.as_slice(), *t) {
-            triangles.push(*t)?;
-        }
-    }
-    Ok(triangles)
-}
-
-/// Whether the triangle is one between so many points, and behind the last one.
-fn is_next(points: u16, triangles: &[Triangle], t: Triangle) -> bool
-    requires { AreTriangles points triangles.now }
-    ensures { OnTrue result (AreTriangles points (triangles.now ++ t ∷ [])) }
-{
-    if !(t.p < t.q && t.p < t.r && t.q != t.r && t.q < points && t.r < points) {
-        return false;
-    }
-    match triangles.last() {
-        Some(last) => is_above(*last, t),
-        None => true,
-    }
-}
-
-/// Whether `t` comes before `u`.
-fn is_above(t: Triangle, u: Triangle) -> bool
-    ensures { IsTrue result ↔ IsAbove t u }
-{
-    t.p < u.p || (t.p == u.p && (t.q < u.q || (t.q == u.q && t.r < u.r)))
+    let mut triangles = found;
+    triangles.sort_unstable();
+    triangles.dedup();
+    triangles
 }
 
 /// The segments as a web.
 fn web_of(alloc: Global, points: u16, segments: &Segments) -> Result<Web, Memory>
     requires { AreEdges points segments.now }
-    ensures { IfOk result (λ w. w.points ≡ points) }
+    ensures points { IfOk result (λ w. w.points ≡ points) }
+    ensures segments { IfOk result (λ w. map edge_of w.segments ≡ segments.now) }
 {
     let mut web = Web::new(alloc, points)?;
     for segment in segments.as_slice() {
@@ -77,9 +61,11 @@ fn web_of(alloc: Global, points: u16, segments: &Segments) -> Result<Web, Memory
     Ok(web)
 }
 
-/// The triangles on the left of the segments, in both directions, with their least point first.
+/// The triangles on the left of the segments, in both directions, each at its least point.
 fn triangles_of(alloc: Global, plan: &Plan, web: &Web) -> Result<Vec<Triangle>, Memory>
     requires { web.now.points ≡ length plan.now.points }
+    ensures left { IfOk result (λ v. AreLeftTriangles (map_of plan.now) web.now.segments v.items) }
+    ensures numbers { IfOk result (λ v. (t : Triangle) → Contains v.items t → IsTriangle web.now.points t) }
 {
     let mut triangles = Vec::new(alloc);
     for segment in web.segments() {
@@ -89,7 +75,7 @@ fn triangles_of(alloc: Global, plan: &Plan, web: &Web) -> Result<Vec<Triangle>, 
     Ok(triangles)
 }
 
-/// Adds the triangle on the left of the segment from `a` to `b`, if there is one and `a` is its least point.
+/// Adds the triangle on the left of the way from `a` to `b`, if there is one and `a` is its least point.
 fn add_left(
     plan: &Plan,
     web: &Web,
@@ -100,12 +86,13 @@ fn add_left(
     requires points { web.now.points ≡ length plan.now.points }
     requires first { a < web.now.points }
     requires second { b < web.now.points }
+    ensures { OnOk result (IsLeftAdded (map_of plan.now) web.now.segments a b triangles.old.items triangles.new.items) }
 {
-    match next_left(plan, web, a, b) {
-        Some(c) if a < b && a < c => {
-            triangles.push(Triangle { p: a, q: b, r: c })?;
-            Ok(())
-        }
-        _ => Ok(()),
+    let Some(c) = next_left(plan, web, a, b) else {
+        return Ok(());
+    };
+    if a < b && a < c {
+        triangles.push(Triangle { p: a, q: b, r: c })?;
     }
+    Ok(())
 }

@@ -1,9 +1,16 @@
 use Rattle.std.proofs.Common.{◌<◌, length, IfSome}
+use Rattle.sight_names.specs.Map.{map_of}
+use Rattle.triangulate.specs.Next.{IsBehindRight}
 use Rattle.triangulate.proofs.WalkLemmas.{IsWalk}
+use Rattle.triangulate.proofs.NextLemmas.{IsHeldRight}
 use Rattle.triangulate.proofs.spokes.next_right.Given as goal
 
 abbrev pub invariant-loop-at : goal.invariant-loop-at
-invariant-loop-at l = record { walk : IsWalk l.web.segments l.a (λ w. Unit {0}) l.at; best : IfSome l.best (λ d. d < length l.plan.points) }
+invariant-loop-at l = record {
+  walk : IsWalk l.web.segments l.a (λ w. IsBehindRight (map_of l.plan) l.from l.to l.best w) l.at;
+  within : IfSome l.best (λ d. d < length l.plan.points);
+  held : IsHeldRight (map_of l.plan) l.web.segments l.a l.from l.to l.best;
+}
 
 abbrev pub decreases-loop-at : goal.decreases-loop-at
 decreases-loop-at l = l.at
