@@ -1,7 +1,9 @@
 pub mod Lines
 pub mod Stores
 pub mod Gives
-pub mod Judging
+pub mod Rays
+pub mod Sounds
+pub mod Checks
 pub mod Endings
 pub mod Counting
 pub mod Building
