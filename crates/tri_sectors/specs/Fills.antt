@@ -16,6 +16,6 @@ HasTriangle ts e = (k : ℕ) × (t : Triangle) × (slice_get ts k ≡ Some t) ×
 
 -- each line, in each of its two directions, and the reverse of each edge of a triangle has a triangle, where a point of
 -- the map is strictly on its left
-pub record FillsHull (m : Map) (ts : List Triangle) : Type 0 where
+pub record FillsSides (m : Map) (ts : List Triangle) : Type 0 where
   pub lines : (e : Edge) → IsLineEdge m e → HasLeft m e → HasTriangle ts e
   pub beyond : (k : ℕ) (t : Triangle) (e : Edge) → slice_get ts k ≡ Some t → HasEdge t e → HasLeft m (reverse_of e) → HasTriangle ts (reverse_of e)
