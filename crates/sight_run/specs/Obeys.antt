@@ -31,7 +31,6 @@ Obeys (order.Trace wad name ray) files answer = OnFound (found_of wad name files
 Obeys (order.Check wad name cert) files answer = OnFound (found_of wad name files) (CheckCalls cert files) answer
 Obeys (order.Build wad name out cert report workers budget) files answer = OnFound (found_of wad name files) (BuildCalls name out cert) answer
 Obeys (order.Grid n workers budget) files answer = GridCalls n answer
-Obeys other files answer = ⊥
 
 abbrev pub AnswersAsked : Result Order Status → Files → Result Answer Status → Type 0
 AnswersAsked (Err refusal) files answer = answer ≡ Err refusal
