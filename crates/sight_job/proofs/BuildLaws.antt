@@ -29,7 +29,7 @@ use Rattle.pair_budget.specs.Decide.{HasItsTree, IsResultOf, AreResults, IsFound
 use Rattle.pair_budget.specs.Rows.{tree_of}
 use Rattle.pair_budget.proofs.FindLaws.{get_pushed, reached_by}
 use Rattle.pair_budget.proofs.NamedLaws.{trees_cons}
-use Rattle.sight_job.specs.Built.{sizes_of, HasNoAll, AreVerdicts}
+use Rattle.sight_job.specs.Built.{sizes_of, AreWalks, AreVerdicts}
 
 -- ---- labels
 
@@ -44,13 +44,13 @@ label_is ls k l lt e = ap (λ (o : Option (Option ℕ)). option_and_then (λ l. 
 
 -- ---- the walks
 
-pub record WalkedUpTo (p : PlanParts) (n : ℕ) (rs : List SourceResult) : Type 0 where
+pub record WalkedUpTo (p : PlanParts) (budget : Budget) (n : ℕ) (rs : List SourceResult) : Type 0 where
   pub count : length rs ≡ n
   pub each : (k : ℕ) (r : SourceResult) → slice_get rs k ≡ Some r → IsResultOf p k r
-  pub no_all : HasNoAll rs
+  pub outcomes : (k : ℕ) (r : SourceResult) → slice_get rs k ≡ Some r → IsOutcome k budget false r.outcome
 
-pub walked_none : (p : PlanParts) → WalkedUpTo p 0 []
-walked_none p = record { count = refl; each = λ k r h. absurd cc; no_all = λ k r h. absurd cc }
+pub walked_none : (p : PlanParts) (budget : Budget) → WalkedUpTo p budget 0 []
+walked_none p budget = record { count = refl; each = λ k r h. absurd cc; outcomes = λ k r h. absurd cc }
 
 pub has_its_tree : (source : ℕ) (budget : Budget) (o : Outcome) → IsOutcome source budget false o → HasItsTree source o
 has_its_tree source budget (outcome.Complete t) h = h
@@ -62,11 +62,11 @@ is_not_all source budget (outcome.Complete t) h = λ e. absurd cc
 is_not_all source budget outcome.Spent h = λ e. absurd cc
 is_not_all source budget outcome.All h = absurd cc
 
-pub walked_more : (p : PlanParts) (n : ℕ) (rs : List SourceResult) (budget : Budget) (r : SourceResult) → WalkedUpTo p n rs → r.source ≡ n → AreReached p n r.found → IsOutcome n budget false r.outcome → WalkedUpTo p (n + 1) (rs ++ r ∷ [])
-walked_more p n rs budget r before source found how = record {
+pub walked_more : (p : PlanParts) (budget : Budget) (n : ℕ) (rs : List SourceResult) (r : SourceResult) → WalkedUpTo p budget n rs → r.source ≡ n → AreReached p n r.found → IsOutcome n budget false r.outcome → WalkedUpTo p budget (n + 1) (rs ++ r ∷ [])
+walked_more p budget n rs r before source found how = record {
   count = longer rs n before.count;
   each = λ k s h. at k s (get_pushed rs r s k h);
-  no_all = λ k s h. none k s (get_pushed rs r s k h);
+  outcomes = λ k s h. ended k s (get_pushed rs r s k h);
 }
   where
     longer : (rs : List SourceResult) (n : ℕ) → length rs ≡ n → length (rs ++ r ∷ []) ≡ n + 1
@@ -80,15 +80,16 @@ walked_more p n rs budget r before source found how = record {
     at k s (inl h) = before.each k s h
     at k s (inr h) = subst (λ (j : ℕ). IsResultOf p j s) (sym (h.0 ∙ before.count)) (subst (λ (q : SourceResult). IsResultOf p n q) h.1 here)
 
-    none : (k : ℕ) (s : SourceResult) → (slice_get rs k ≡ Some s) ⊎ ((k ≡ length rs) × (r ≡ s)) → s.outcome ≢ outcome.All
-    none k s (inl h) = before.no_all k s h
-    none k s (inr h) = subst (λ (q : SourceResult). q.outcome ≢ outcome.All) h.1 (is_not_all n budget r.outcome how)
+    ended : (k : ℕ) (s : SourceResult) → (slice_get rs k ≡ Some s) ⊎ ((k ≡ length rs) × (r ≡ s)) → IsOutcome k budget false s.outcome
+    ended k s (inl h) = before.outcomes k s h
+    ended k s (inr h) = subst (λ (j : ℕ). IsOutcome j budget false s.outcome) (sym (h.0 ∙ before.count)) (subst (λ (q : SourceResult). IsOutcome n budget false q.outcome) h.1 how)
 
-pub walked_all : (p : PlanParts) (n : ℕ) (rs : List SourceResult) → n ≡ p.sectors → WalkedUpTo p n rs → AreResults p rs
-walked_all p n rs e w = record { count = w.count ∙ e; each = w.each }
+pub walked_all : (p : PlanParts) (budget : Budget) (n : ℕ) (rs : List SourceResult) → n ≡ p.sectors → WalkedUpTo p budget n rs → AreWalks p budget rs
+walked_all p budget n rs e w = record { results = record { count = w.count ∙ e; each = w.each }; outcomes = w.outcomes }
 
-pub settled_without_all : (rs : List SourceResult) (components : List ℕ) → HasNoAll rs → IsSettled rs components
-settled_without_all rs components none a b r h all lt differ same = absurd (none a r h all)
+-- no walk by itself ends because others found what it could find
+pub settled_alone : (p : PlanParts) (budget : Budget) (rs : List SourceResult) (components : List ℕ) → AreWalks p budget rs → IsSettled rs components
+settled_alone p budget rs components w a b r h all lt differ same = absurd (is_not_all a budget r.outcome (w.outcomes a r h) all)
 
 -- ---- rays
 
@@ -167,7 +168,7 @@ each_tree P (r ∷ rs) h = subst (λ (ts : List Tree). AllByRecursion P ts) (sym
     first outcome.Spent e rest = rest
     first outcome.All e rest = rest
 
-tree_of_source : (p : PlanParts) (rs : List SourceResult) → AreResults p rs → (k : ℕ) (r : SourceResult) → slice_get rs k ≡ Some r → (t : Tree) → r.outcome ≡ outcome.Complete t → IsTreeFrom k t
+pub tree_of_source : (p : PlanParts) (rs : List SourceResult) → AreResults p rs → (k : ℕ) (r : SourceResult) → slice_get rs k ≡ Some r → (t : Tree) → r.outcome ≡ outcome.Complete t → IsTreeFrom k t
 tree_of_source p rs are k r h t e = subst (λ (o : Outcome). HasItsTree k o) e (are.each k r h).tree
 
 module _ (p : PlanParts) (rs : List SourceResult) (are : AreResults p rs) where
@@ -215,18 +216,18 @@ trees_ascend p rs are = trees_rise rs
 
 -- ---- the certificate
 
-pub cert_in_order : (p : PlanParts) → IsPlan p → (v : Verdicts) → AreVerdicts p v → (triangles : List Labelled) → length triangles ≤ 8192 → AreTriangles (length p.points) (map (λ (l : Labelled). l.triangle) triangles) → AllByRecursion (λ (l : Labelled). l.sector < p.sectors) triangles
+pub cert_in_order : (p : PlanParts) → IsPlan p → (budget : Budget) (v : Verdicts) → AreVerdicts p budget v → (triangles : List Labelled) → length triangles ≤ 8192 → AreTriangles (length p.points) (map (λ (l : Labelled). l.triangle) triangles) → AllByRecursion (λ (l : Labelled). l.sector < p.sectors) triangles
     → IsInOrder (record { sizes = sizes_of p; triangles = triangles; rays = v.rays; listed = v.listed; trees = v.trees })
-cert_in_order p plan v are triangles few ascend below = record {
+cert_in_order p plan budget v are triangles few ascend below = record {
   few = few;
   triangles = ascend;
   sectors = below;
-  rays = rays_in_range p plan are.results are.walks v.rays are.rays;
+  rays = rays_in_range p plan are.results are.walks.results v.rays are.rays;
   rays_ascend = are.rays.ascend;
   listed = pairs_in_range p are.results are.components v.listed are.each_sector are.listed;
   listed_ascend = are.listed.ascend;
-  trees = subst (λ (ts : List Tree). AllByRecursion (IsTreeInRange (sizes_of p)) ts) (sym are.trees) (trees_in_range p are.results are.walks);
-  trees_ascend = subst (λ (ts : List Tree). Ascends (λ (t u : Tree). t.source < u.source) ts) (sym are.trees) (trees_ascend p are.results are.walks);
+  trees = subst (λ (ts : List Tree). AllByRecursion (IsTreeInRange (sizes_of p)) ts) (sym are.trees) (trees_in_range p are.results are.walks.results);
+  trees_ascend = subst (λ (ts : List Tree). Ascends (λ (t u : Tree). t.source < u.source) ts) (sym are.trees) (trees_ascend p are.results are.walks.results);
 }
 
 pub cert_is : (p : PlanParts) (v : Verdicts) (triangles : List Labelled) (sectors points lines : ℕ) (rays : List PairRay) (listed : List Pair) (trees : List Tree) → sectors ≡ p.sectors → points ≡ length p.points → lines ≡ length p.lines → rays ≡ v.rays → listed ≡ v.listed → trees ≡ v.trees

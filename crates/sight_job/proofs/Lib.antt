@@ -1,2 +1,3 @@
 pub mod LabelledLaws
 pub mod BuildLaws
+pub mod VerdictLaws

@@ -1,11 +1,11 @@
 //! The build of one map.
 
 ghost use Rattle.std.specs.Prelude.{◌≡◌, ◌<◌, ℕ, Some, IfOk, IsTrue, length};
+ghost use Rattle.sight_names.specs.declared.names.Budget.TheVariants.{Full};
 ghost use Rattle.sight_names.specs.Map.{map_of};
 ghost use Rattle.sight_names.specs.Mesh.{label_of, IsGoodMesh};
 ghost use Rattle.sight_names.specs.Sound.{LinesMeetAtEnds};
-ghost use Rattle.pair_budget.specs.Decide.{AreResults};
-ghost use Rattle.sight_job.specs.Built.{sizes_of, IsLabelledMesh, AreVerdicts, HasNoAll};
+ghost use Rattle.sight_job.specs.Built.{sizes_of, IsLabelledMesh, AreWalks, AreVerdicts, HasRaysOfClear, ListsClear, IsSymmetric, HasDiagonal, IsWhole};
 
 use crate::certificate::{cert_of, labelled};
 use block_evidence::Tree;
@@ -44,6 +44,11 @@ pub fn build_table(alloc: Global, plan: &Plan, budget: Budget) -> Result<Built, 
     ensures sectors { IfOk result (λ b. b.table.n ≡ plan.now.sectors) }
     ensures sizes { IfOk result (λ b. b.cert.sizes ≡ sizes_of plan.now) }
     ensures listed { IfOk result (λ b. b.listed ≡ b.cert.listed) }
+    ensures rays { IfOk result HasRaysOfClear }
+    ensures clear { IfOk result ListsClear }
+    ensures symmetric { IfOk result IsSymmetric }
+    ensures diagonal { IfOk result (HasDiagonal plan.now) }
+    ensures whole { budget ≡ Full → IfOk result (IsWhole plan.now) }
 {
     let shape = labelled_mesh(alloc, plan)?;
     let verdicts = verdicts_of(alloc, plan, &shape, budget)?;
@@ -116,8 +121,7 @@ fn walks_of(
 ) -> Result<Vec<SourceResult>, Memory>
     requires audited { LinesMeetAtEnds (map_of plan.now) }
     requires shape { IsLabelledMesh plan.now shape.now.mesh shape.now.labels }
-    ensures results { IfOk result (λ v. AreResults plan.now v.items) }
-    ensures no_all { IfOk result (λ v. HasNoAll v.items) }
+    ensures { IfOk result (λ v. AreWalks plan.now budget v.items) }
 {
     let mut results = Vec::new(alloc);
     for source in 0..plan.sectors {
@@ -143,7 +147,7 @@ fn verdicts_of(
 ) -> Result<Verdicts, Memory>
     requires audited { LinesMeetAtEnds (map_of plan.now) }
     requires shape { IsLabelledMesh plan.now shape.now.mesh shape.now.labels }
-    ensures { IfOk result (AreVerdicts plan.now) }
+    ensures { IfOk result (AreVerdicts plan.now budget) }
 {
     let classes = components(alloc, plan)?;
     let results = walks_of(alloc, plan, shape, budget)?;
