@@ -1,3 +1,4 @@
 pub mod LabelledLaws
 pub mod BuildLaws
 pub mod VerdictLaws
+pub mod GoodLabelled

@@ -1,13 +1,17 @@
 -- What a build promises of its table, its list and its certificate, from what the walks decide.
-use Rattle.std.proofs.Common.{◌≡◌, ◌≢◌, ℕ, zero, suc, ◌<◌, ◌⊎◌, ◌↔◌, inl, inr, List, [], ◌∷◌, length, slice_get, Contains, Some, refl, sym, ap, ◌∙◌, subst, arith, false}
+use Rattle.std.proofs.Common.{◌≡◌, ◌≢◌, ℕ, zero, suc, ◌<◌, ◌⊎◌, ◌↔◌, inl, inr, List, [], ◌∷◌, length, get_or, slice_get, Contains, Some, refl, sym, ap, ◌∙◌, subst, arith, Bool, true, false}
+use Rattle.std.specs.Prelude.{not}
 use Rattle.std.proofs.lemmas.List.Elements.{Contains-append_left, Contains-append_right}
-use Rattle.std.proofs.lemmas.Option.{same_Some}
+use Rattle.std.proofs.lemmas.Option.{slice_get-get_or, same_Some}
 use Rattle.sight_names.proofs.Lists.{contains_none, contains_cases, contains_head, contains_tail}
 use Rattle.sight_names.specs.declared.names.Budget.{Budget}
 use Rattle.sight_names.specs.declared.names.Budget.TheVariants.{Full}
 use Rattle.sight_names.specs.declared.names.Pair.{Pair}
 use Rattle.sight_names.specs.declared.names.PairRay.{PairRay}
-use Rattle.sight_names.specs.Map.{map_of}
+use Rattle.sight_names.specs.Map.{Map, map_of, sector_on}
+use Rattle.sight_names.specs.Found.{AreNeighbours, IsChain, AreConnected}
+use Rattle.tri_sectors.specs.Components.{AreComponents}
+use Rattle.tri_sectors.proofs.ComponentLemmas.{connected_joined}
 use Rattle.sight_names.specs.Plan.{PlanParts}
 use Rattle.block_evidence.specs.declared.Tree.{Tree}
 use Rattle.reject_bits.specs.Parts.{Rejects}
@@ -49,6 +53,43 @@ result_at : (rs : List SourceResult) (k : ℕ) → k < length rs → (r : Source
 result_at [] k h = absurd (omega arith)
 result_at (r ∷ rs) zero h = (r, refl)
 result_at (r ∷ rs) (suc k) h = result_at rs k (omega arith)
+
+two_ways : (a b : ℕ) → a ≢ b → (a < b) ⊎ (b < a)
+two_ways a b h = grind arith
+
+same_or_apart : (cs : List ℕ) (a b : ℕ) → a < length cs → b < length cs → (slice_get cs a ≡ slice_get cs b) ⊎ (slice_get cs a ≢ slice_get cs b)
+same_or_apart cs a b la lb = at (numbers (get_or cs a 0) (get_or cs b 0))
+  where
+    numbers : (x y : ℕ) → (x ≡ y) ⊎ (x ≢ y)
+    numbers x y = grind arith
+
+    at : (get_or cs a 0 ≡ get_or cs b 0) ⊎ (get_or cs a 0 ≢ get_or cs b 0) → (slice_get cs a ≡ slice_get cs b) ⊎ (slice_get cs a ≢ slice_get cs b)
+    at (inl e) = inl (slice_get-get_or cs a 0 la ∙ (ap (λ (x : ℕ). Some x) e ∙ sym (slice_get-get_or cs b 0 lb)))
+    at (inr n) = inr (λ q. n (same_Some (get_or cs a 0) (get_or cs b 0) (sym (slice_get-get_or cs a 0 la) ∙ (q ∙ slice_get-get_or cs b 0 lb))))
+
+-- ---- components
+
+neighbours_back : (m : Map) (a b : ℕ) → AreNeighbours m a b → AreNeighbours m b a
+neighbours_back m a b (i, l, left, at, passable, from, to) = (i, l, not left, at, passable, to, twice left from)
+  where
+    twice : (left : Bool) → sector_on l left ≡ Some a → sector_on l (not (not left)) ≡ Some a
+    twice true h = h
+    twice false h = h
+
+connected_back : (m : Map) (a : ℕ) (cs : List ℕ) (b : ℕ) → IsChain m a cs b → AreConnected m b a
+connected_back m a [] b h = ([], sym h)
+connected_back m a (c ∷ cs) b h = connected_joined m b c a (connected_back m c cs b h.1) (a ∷ [], (neighbours_back m a c h.0, refl))
+
+component_same : (m : Map) (cs : List ℕ) → AreComponents m cs → (a b : ℕ) → a < length cs → b < length cs → AreConnected m a b → slice_get cs a ≡ slice_get cs b
+component_same m cs are a b la lb path =
+    let x = get_or cs a 0 in
+    let y = get_or cs b 0 in
+    let ax = slice_get-get_or cs a 0 la in
+    let by' = slice_get-get_or cs b 0 lb in
+    let down = are.least a x y ax (connected_joined m a b y path (are.connected b y by')) in
+    let up = are.least b y x by' (connected_joined m b a x (connected_back m a path.0 b path.1) (are.connected a x ax)) in
+    let e : x ≡ y = omega arith in
+    ax ∙ (ap (λ (n : ℕ). Some n) e ∙ sym by')
 
 module _ (p : PlanParts) (budget : Budget) (v : Verdicts) (are : AreVerdicts p budget v) where
   found_of_has : (a b : ℕ) → HasPair v.rays a b → AreFound are.results a b
@@ -123,16 +164,51 @@ module _ (p : PlanParts) (budget : Budget) (v : Verdicts) (are : AreVerdicts p b
       empty [] none = refl
       empty (x ∷ xs) none = absurd (none x (contains_head x xs))
 
-  pub each_has_tree : budget ≡ Full → (a : ℕ) → a < p.sectors → (t : Tree) × Contains v.trees t × (t.source ≡ a)
-  each_has_tree full a la = by_result (result_at are.results a (subst (λ (n : ℕ). a < n) (sym are.walks.results.count) la))
+  -- the tree of a source is there, or its budget ran out
+  pub tree_or_spent : (a : ℕ) → a < p.sectors → ((t : Tree) × Contains v.trees t × (t.source ≡ a)) ⊎ IsSpentSource are.results a
+  tree_or_spent a la = by_result (result_at are.results a (subst (λ (n : ℕ). a < n) (sym are.walks.results.count) la))
     where
-      by_outcome : (r : SourceResult) → slice_get are.results a ≡ Some r → (o : Outcome) → r.outcome ≡ o → (t : Tree) × Contains v.trees t × (t.source ≡ a)
-      by_outcome r h (outcome.Complete t) e = (t, subst (λ (ts : List Tree). Contains ts t) (sym are.trees) (has_tree are.results a r t h e), (tree_of_source p are.results are.walks.results a r h t e).source_is)
-      by_outcome r h outcome.Spent e = absurd (not_spent full a (r, h, e))
+      by_outcome : (r : SourceResult) → slice_get are.results a ≡ Some r → (o : Outcome) → r.outcome ≡ o → ((t : Tree) × Contains v.trees t × (t.source ≡ a)) ⊎ IsSpentSource are.results a
+      by_outcome r h (outcome.Complete t) e = inl (t, subst (λ (ts : List Tree). Contains ts t) (sym are.trees) (has_tree are.results a r t h e), (tree_of_source p are.results are.walks.results a r h t e).source_is)
+      by_outcome r h outcome.Spent e = inr (r, h, e)
       by_outcome r h outcome.All e = absurd (is_not_all a budget r.outcome (are.walks.outcomes a r h) e)
 
-      by_result : (r : SourceResult) × (slice_get are.results a ≡ Some r) → (t : Tree) × Contains v.trees t × (t.source ≡ a)
+      by_result : (r : SourceResult) × (slice_get are.results a ≡ Some r) → ((t : Tree) × Contains v.trees t × (t.source ≡ a)) ⊎ IsSpentSource are.results a
       by_result (r, h) = by_outcome r h r.outcome refl
+
+  pub each_has_tree : budget ≡ Full → (a : ℕ) → a < p.sectors → (t : Tree) × Contains v.trees t × (t.source ≡ a)
+  each_has_tree full a la = elim (tree_or_spent a la) [ inl t ↦ t | inr s ↦ absurd (not_spent full a s) ]
+
+  -- ---- set bits
+
+  not_connected : (a b : ℕ) → a < p.sectors → b < p.sectors → slice_get are.components a ≢ slice_get are.components b → ¬ AreConnected (map_of p) a b
+  not_connected a b la lb differ path = differ (component_same (map_of p) are.components are.connected a b (subst (λ (n : ℕ). a < n) (sym are.each_sector) la) (subst (λ (n : ℕ). b < n) (sym are.each_sector) lb) path)
+
+  unlisted_tree : (a b : ℕ) → a < p.sectors → b < p.sectors → a < b → slice_get are.components a ≡ slice_get are.components b → ¬ AreFound are.results a b → ¬ IsListedPair are.results are.components a b → (t : Tree) × Contains v.trees t × ((t.source ≡ a) ⊎ (t.source ≡ b))
+  unlisted_tree a b la lb lt same none not_listed = elim (tree_or_spent a la) [
+    | inl t ↦ (t.0, t.1, inl t.2)
+    | inr spent ↦ elim (tree_or_spent b lb) [
+      | inl t ↦ (t.0, t.1, inr t.2)
+      | inr spent_too ↦ absurd (not_listed (record { order = lt; within = subst (λ (n : ℕ). b < n) (sym are.each_sector) lb; connected = same; not_found = none; spent = spent; spent_too = spent_too }))
+    ]
+  ]
+
+  pub set_has_tree : (a b : ℕ) → a < p.sectors → b < p.sectors → a ≢ b → Rejects v.table a b → ¬ AreConnected (map_of p) a b ⊎ ((t : Tree) × Contains v.trees t × ((t.source ≡ a) ⊎ (t.source ≡ b)))
+  set_has_tree a b la lb differ bit = by_blind ((are.table.bits a b la lb).0 bit)
+    where
+      by_order : slice_get are.components a ≡ slice_get are.components b → ¬ AreFound are.results a b → ¬ (IsListedPair are.results are.components a b ⊎ IsListedPair are.results are.components b a) → (a < b) ⊎ (b < a) → (t : Tree) × Contains v.trees t × ((t.source ≡ a) ⊎ (t.source ≡ b))
+      by_order same none not_listed (inl lt) = unlisted_tree a b la lb lt same none (λ l. not_listed (inl l))
+      by_order same none not_listed (inr lt) =
+          let h = unlisted_tree b a lb la lt (sym same) (λ f. none (elim f [ inl k ↦ inr k | inr k ↦ inl k ])) (λ l. not_listed (inr l)) in
+          (h.0, h.1, elim h.2 [ inl k ↦ inr k | inr k ↦ inl k ])
+
+      by_component : ¬ AreFound are.results a b → ¬ (IsListedPair are.results are.components a b ⊎ IsListedPair are.results are.components b a) → (slice_get are.components a ≡ slice_get are.components b) ⊎ (slice_get are.components a ≢ slice_get are.components b) → ¬ AreConnected (map_of p) a b ⊎ ((t : Tree) × Contains v.trees t × ((t.source ≡ a) ⊎ (t.source ≡ b)))
+      by_component none not_listed (inl same) = inr (by_order same none not_listed (two_ways a b differ))
+      by_component none not_listed (inr apart) = inl (not_connected a b la lb apart)
+
+      by_blind : IsBlind p are.results are.components a b → ¬ AreConnected (map_of p) a b ⊎ ((t : Tree) × Contains v.trees t × ((t.source ≡ a) ⊎ (t.source ≡ b)))
+      by_blind (inl h) = absurd (differ h.0)
+      by_blind (inr h) = by_component h.1 h.2 (same_or_apart are.components a b (subst (λ (n : ℕ). a < n) (sym are.each_sector) la) (subst (λ (n : ℕ). b < n) (sym are.each_sector) lb))
 
   -- ---- the same of the certificate, whose parts these are
 
@@ -143,6 +219,9 @@ module _ (p : PlanParts) (budget : Budget) (v : Verdicts) (are : AreVerdicts p b
           (λ k. let r = h.0 (subst (λ (rs : List PairRay). HasPair rs a b) rays k) in (r.0, λ c. r.1 (subst (λ (ps : List Pair). Contains ps (record { a = a; b = b })) listed c))),
           (λ k. subst (λ (rs : List PairRay). HasPair rs a b) (sym rays) (h.1 (k.0, λ c. k.1 (subst (λ (ps : List Pair). Contains ps (record { a = a; b = b })) (sym listed) c)))),
         )
+
+    pub cert_set : (a b : ℕ) → a < p.sectors → b < p.sectors → a ≢ b → Rejects v.table a b → ¬ AreConnected (map_of p) a b ⊎ ((t : Tree) × Contains cert.trees t × ((t.source ≡ a) ⊎ (t.source ≡ b)))
+    cert_set a b la lb differ bit = subst (λ (ts : List Tree). ¬ AreConnected (map_of p) a b ⊎ ((t : Tree) × Contains ts t × ((t.source ≡ a) ⊎ (t.source ≡ b)))) (sym trees) (set_has_tree a b la lb differ bit)
 
     pub cert_trees : budget ≡ Full → (a : ℕ) → a < p.sectors → (t : Tree) × Contains cert.trees t × (t.source ≡ a)
     cert_trees full a la = let h = each_has_tree full a la in (h.0, subst (λ (ts : List Tree). Contains ts h.0) (sym trees) h.1, h.2)

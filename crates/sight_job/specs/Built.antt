@@ -1,11 +1,13 @@
 -- What a build gives.
-use Rattle.std.specs.Prelude.{◌≡◌, ℕ, ◌<◌, ◌↔◌, List, [], Option, Some, length, slice_get, Contains, false}
+use Rattle.std.specs.Prelude.{◌≡◌, ◌≢◌, ℕ, ◌<◌, ◌⊎◌, ◌↔◌, List, [], Option, Some, length, slice_get, Contains, false}
 use Rattle.sight_names.specs.declared.names.Budget.{Budget}
 use Rattle.sight_names.specs.declared.names.Pair.{Pair}
 use Rattle.sight_names.specs.Map.{map_of}
 use Rattle.sight_names.specs.Mesh.{label_of, IsGoodMesh}
 use Rattle.sight_names.specs.Plan.{PlanParts}
+use Rattle.sight_names.specs.Found.{AreConnected}
 use Rattle.mesh_shape.specs.Shape.{MeshParts}
+use Rattle.tri_sectors.specs.Components.{AreComponents}
 use Rattle.block_evidence.specs.declared.Tree.{Tree}
 use Rattle.reject_bits.specs.Parts.{Rejects}
 use Rattle.cert_format.specs.declared.cert.Sizes.{Sizes}
@@ -37,6 +39,7 @@ pub record AreVerdicts (p : PlanParts) (budget : Budget) (v : Verdicts) : Type 0
   pub components : List ℕ
   pub walks : AreWalks p budget results
   pub each_sector : length components ≡ p.sectors
+  pub connected : AreComponents (map_of p) components
   pub table : DecidesTable p results components v.table
   pub listed : DecidesList results components v.listed
   pub rays : DecidesRays p results v.rays
@@ -59,6 +62,11 @@ IsSymmetric b = (x y : ℕ) → x < b.table.n → y < b.table.n → Rejects b.ta
 -- a sector doesn't see itself exactly where no side names it
 abbrev pub HasDiagonal : PlanParts → Built → Type 0
 HasDiagonal p b = (x : ℕ) → x < p.sectors → Rejects b.table x x ↔ ¬ IsNamed (map_of p) x
+
+-- where a bit of two sectors is set, no passable lines connect them, or the certificate has the tree of one of them
+abbrev pub HasTreesOfSet : PlanParts → Built → Type 0
+HasTreesOfSet p b = (x y : ℕ) → x < p.sectors → y < p.sectors → x ≢ y → Rejects b.table x y
+    → ¬ AreConnected (map_of p) x y ⊎ ((t : Tree) × Contains b.cert.trees t × ((t.source ≡ x) ⊎ (t.source ≡ y)))
 
 -- no pair is listed, and each sector has its tree
 pub record IsWhole (p : PlanParts) (b : Built) : Type 0 where

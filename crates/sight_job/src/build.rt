@@ -1,11 +1,12 @@
 //! The build of one map.
 
-ghost use Rattle.std.specs.Prelude.{◌≡◌, ◌<◌, ℕ, Some, IfOk, IsTrue, length};
+ghost use Rattle.std.specs.Prelude.{◌≡◌, IfOk};
 ghost use Rattle.sight_names.specs.declared.names.Budget.TheVariants.{Full};
 ghost use Rattle.sight_names.specs.Map.{map_of};
-ghost use Rattle.sight_names.specs.Mesh.{label_of, IsGoodMesh};
+ghost use Rattle.sight_names.specs.Mesh.{IsGoodMesh};
 ghost use Rattle.sight_names.specs.Sound.{LinesMeetAtEnds};
-ghost use Rattle.sight_job.specs.Built.{sizes_of, IsLabelledMesh, AreWalks, AreVerdicts, HasRaysOfClear, ListsClear, IsSymmetric, HasDiagonal, IsWhole};
+ghost use Rattle.cert_format.specs.Accepted.{triangles_of, labels_of};
+ghost use Rattle.sight_job.specs.Built.{sizes_of, IsLabelledMesh, AreWalks, AreVerdicts, HasRaysOfClear, ListsClear, IsSymmetric, HasDiagonal, HasTreesOfSet, IsWhole};
 
 use crate::certificate::{cert_of, labelled};
 use block_evidence::Tree;
@@ -44,10 +45,12 @@ pub fn build_table(alloc: Global, plan: &Plan, budget: Budget) -> Result<Built, 
     ensures sectors { IfOk result (λ b. b.table.n ≡ plan.now.sectors) }
     ensures sizes { IfOk result (λ b. b.cert.sizes ≡ sizes_of plan.now) }
     ensures listed { IfOk result (λ b. b.listed ≡ b.cert.listed) }
+    ensures mesh { IfOk result (λ b. IsGoodMesh (map_of plan.now) (triangles_of b.cert) (labels_of b.cert)) }
     ensures rays { IfOk result HasRaysOfClear }
     ensures clear { IfOk result ListsClear }
     ensures symmetric { IfOk result IsSymmetric }
     ensures diagonal { IfOk result (HasDiagonal plan.now) }
+    ensures set { IfOk result (HasTreesOfSet plan.now) }
     ensures whole { budget ≡ Full → IfOk result (IsWhole plan.now) }
 {
     let shape = labelled_mesh(alloc, plan)?;
@@ -89,27 +92,12 @@ fn labelled_mesh(alloc: Global, plan: &Plan) -> Result<LabelledMesh, BuildFault>
         }
         Err(LabelFault::Memory) => return Err(BuildFault::Memory),
     };
-    // That such a mesh is good, and that its labels are sectors of the map, isn't proved of the labelling yet, so it is
-    // tested here. No map is known on which the test fails.
-    if mesh_fault(plan, &mesh, &labels).is_some() || !are_sectors(&labels, plan.sectors) {
+    // That the greedy segments are those of the definition isn't proved yet, and with it that their triangles are a plain
+    // mesh, so the mesh is tested here. No map is known on which the test fails.
+    if mesh_fault(plan, &mesh, &labels).is_some() {
         return Err(BuildFault::Memory);
     }
     Ok(LabelledMesh { mesh, labels })
-}
-
-/// Whether each label is below the number of sectors.
-fn are_sectors(labels: &Labels, sectors: u16) -> bool
-    ensures { IsTrue result → (k a : ℕ) → label_of labels.now k ≡ Some a → a < sectors }
-{
-    let list = labels.as_slice();
-    for label in list {
-        if let Some(sector) = label {
-            if *sector >= sectors {
-                return false;
-            }
-        }
-    }
-    true
 }
 
 /// The walks of all sectors, in order, each by itself.

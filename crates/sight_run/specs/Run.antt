@@ -4,6 +4,7 @@ use Rattle.std.specs.Option.{option_map}
 use Rattle.std.specs.declared.alloc.Global.{Global}
 use Rattle.shelf_io.specs.Shelf.{Files, ShelfState, put, Rose, NoFault, SameCounts, IsQuiet, MayHoldFront}
 use Rattle.shelf_io.specs.Sink.{SinkState, HasFront}
+use Rattle.sight_names.specs.declared.faults.TraceFault.TheVariants as trace
 use Rattle.order_words.specs.declared.order.Order.{Order}
 use Rattle.sight_run.specs.declared.status.Role.{Role}
 use Rattle.sight_run.specs.declared.status.Role.TheVariants as role
@@ -15,7 +16,7 @@ use Rattle.sight_run.specs.declared.status.Status.TheVariants as status
 use Rattle.sight_run.specs.Answer.{Answer, IsTheAnswer, Written}
 use Rattle.sight_run.specs.Obeys.{Audits, FindsMap, HasOneAnswer, IsAnswer, Judges, Reads, Writes}
 use Rattle.sight_run.specs.Report.{text_of}
-use Rattle.sight_run.specs.Status.{IsOfBytes}
+use Rattle.sight_run.specs.Status.{IsOfBringing, IsOfBytes}
 
 -- ---- the files
 
@@ -160,8 +161,24 @@ IsOfRay other = IsOfReading other
 
 -- a refusal that `audit` can end with
 abbrev pub IsOfAudit : Status → Type 0
-IsOfAudit (status.BadMap (flaw.Line fault)) = ⊤
+IsOfAudit (status.BadMap flaw) = ⊤
 IsOfAudit other = IsOfReading other
+
+-- a refusal, or a no, that `trace` can end with
+abbrev pub IsOfTrace : Status → Type 0
+IsOfTrace (status.No (why.Trace trace.Memory)) = ⊥
+IsOfTrace (status.No (why.Trace fault)) = ⊤
+IsOfTrace other = IsOfAudit other
+
+-- a refusal, or a no, that `check` can end with
+abbrev pub IsOfCheck : Status → Type 0
+IsOfCheck (status.No (why.Check fault)) = ⊤
+IsOfCheck (status.No reason) = IsOfBringing (status.No reason)
+IsOfCheck (status.NoFile role.Cert) = ⊤
+IsOfCheck (status.ReadFault role.Cert) = ⊤
+IsOfCheck (status.Limit bound.CertBytes) = ⊤
+IsOfCheck (status.BadMap (flaw.Line fault)) = ⊤
+IsOfCheck other = IsOfReading other
 
 -- a refusal that `build` can end with before its outputs are stored
 abbrev pub IsOfBuild : Status → Type 0
