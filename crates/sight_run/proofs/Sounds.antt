@@ -8,10 +8,9 @@ use Rattle.map_audit.specs.Audit.{IsLineFault}
 use Rattle.sight_run.specs.declared.status.Flaw.TheVariants as flaw
 use Rattle.sight_run.specs.declared.status.Status.{Status}
 use Rattle.sight_run.specs.declared.status.Status.TheVariants as status
-use Rattle.sight_run.specs.declared.sound.Faces.{Faces}
 use Rattle.sight_run.specs.Answer.{Answer, Gives, IsTheAnswer}
 use Rattle.sight_run.specs.Input.{Found, IfFound, OnFound}
-use Rattle.sight_run.specs.Sound.{AreFaces, HasFaces, HasLineFault, HasSoundLines, IsAuditRefusal, OnFaces, OnSound, OnSoundLines}
+use Rattle.sight_run.specs.Sound.{HasLineFault, HasSoundLines, OnSoundLines}
 
 -- ---- the exact audit of lines
 
@@ -55,32 +54,10 @@ only_line_fault m Called f h (Err s) q = absurd (h.clash q.0)
 pub gives_line_fault : (m : Map) (Sole : Type 0) (Called : Result Answer Status → Type 0) (f : LineFault) → HasLineFault m f → Gives Sole (OnSoundLines m Called) (Err (status.BadMap (flaw.Line f)))
 gives_line_fault m Sole Called f h = record { called = h.is; only = λ sole. only_line_fault m Called f h }
 
--- the refusal of an audit is an answer
-pub gives_refused : (m : Map) (Called : Faces → Result Answer Status → Type 0) (s : Status) → IsAuditRefusal m s → Gives (¬ LinesMeetAtEnds m) (OnSound m Called) (Err s)
-gives_refused m Called (status.BadMap (flaw.Line f)) h = gives_line_fault m _ (OnFaces m Called) f h
-gives_refused m Called (status.BadMap (flaw.Open side)) h = record { called = (h.meet, tt); only = λ clash. absurd (clash h.meet) }
-gives_refused m Called (status.BadMap (flaw.Mixed first second)) h = record { called = (h.meet, tt); only = λ clash. absurd (clash h.meet) }
-gives_refused m Called status.Memory h = tt
-gives_refused m Called s h = absurd h
-
 -- the answer on a sound map is no refusal of its audit
 abbrev pub IsPastAudit : Result Answer Status → Type 0
 IsPastAudit (Err (status.BadMap fault)) = ⊥
 IsPastAudit answer = Unit {0}
-
-on_sound : (m : Map) (Called : Faces → Result Answer Status → Type 0) (r : Result Answer Status) → LinesMeetAtEnds m → HasFaces m Called r → IsPastAudit r → OnSound m Called r
-on_sound m Called (Ok answer) meet h past = (meet, h)
-on_sound m Called (Err (status.BadMap f)) meet h past = absurd past
-on_sound m Called (Err s) meet h past = (meet, h)
-
--- an answer on a sound map, where other faces may call for another
-pub gives_sound : (m : Map) (Called : Faces → Result Answer Status → Type 0) (faces : Faces) (r : Result Answer Status) → HasSoundLines m → AreFaces m faces → Called faces r → IsPastAudit r → Gives (¬ LinesMeetAtEnds m) (OnSound m Called) r
-gives_sound m Called faces (Err status.Memory) lines are h past = tt
-gives_sound m Called faces (Err (status.ReadFault k)) lines are h past = tt
-gives_sound m Called faces r lines are h past = record {
-  called = on_sound m Called r lines.meet (record { faces = faces; are = are; called = h }) past;
-  only = λ clash. absurd (clash lines.meet);
-}
 
 -- an answer to the map that was found
 pub gives_found_where : (SoleOf : Found → Type 0) (Called : Found → Result Answer Status → Type 0) (found : Found) (said : Result Found Status) (r : Result Answer Status) → said ≡ Ok found → Gives (SoleOf found) (Called found) r

@@ -1,6 +1,6 @@
 -- The answer that an order, and that words call for.
 use Rattle.std.specs.Prelude.{◌≡◌, ℕ, List, [], ◌∷◌, Some, Result, Ok, Err, ⊤}
-use Rattle.sight_names.specs.Sound.{LinesMeetAtEnds}
+use Rattle.sight_names.specs.Sound.{IsSound}
 use Rattle.shelf_io.specs.Shelf.{Files}
 use Rattle.order_words.specs.declared.order.Order.{Order}
 use Rattle.order_words.specs.declared.order.Order.TheVariants as order
@@ -31,7 +31,6 @@ Obeys (order.Trace wad name ray) files answer = OnFound (found_of wad name files
 Obeys (order.Check wad name cert) files answer = OnFound (found_of wad name files) (CheckCalls cert files) answer
 Obeys (order.Build wad name out cert report workers budget) files answer = OnFound (found_of wad name files) (BuildCalls name out cert) answer
 Obeys (order.Grid n workers budget) files answer = GridCalls n answer
-Obeys other files answer = ⊥
 
 abbrev pub AnswersAsked : Result Order Status → Files → Result Answer Status → Type 0
 AnswersAsked (Err refusal) files answer = answer ≡ Err refusal
@@ -41,15 +40,15 @@ AnswersAsked (Ok asked) files answer = Obeys asked files answer
 abbrev pub IsAnswer : List (List ℕ) → Files → Result Answer Status → Type 0
 IsAnswer words files answer = AnswersAsked (asked_of words) files answer
 
-abbrev pub HasClash : Found → Type 0
-HasClash found = ¬ LinesMeetAtEnds found.map
+abbrev pub IsFlawed : Found → Type 0
+IsFlawed found = ¬ IsSound found.map
 
--- The order and the files leave just one answer. An order that audits the faces of a map has one as far as the lines decide; `check`, as far as its verdict isn't asked.
+-- The order and the files leave just one answer. An order that audits a map wholly has one where the map isn't sound; `check`, as far as its verdict isn't asked.
 abbrev pub IsDetermined : Order → Files → Type 0
 IsDetermined (order.Zero wad name out) files = ⊤
 IsDetermined (order.Ray wad name ray) files = ⊤
-IsDetermined (order.Audit wad name) files = IfFound (found_of wad name files) HasClash
-IsDetermined (order.Trace wad name ray) files = IfFound (found_of wad name files) HasClash
+IsDetermined (order.Audit wad name) files = IfFound (found_of wad name files) IsFlawed
+IsDetermined (order.Trace wad name ray) files = IfFound (found_of wad name files) IsFlawed
 IsDetermined (order.Check wad name cert) files = IfFound (found_of wad name files) (IsUnjudged cert files)
 IsDetermined (order.Build wad name out cert report workers budget) files = IsUnbuildable (found_of wad name files)
 IsDetermined other files = ⊥

@@ -18,7 +18,6 @@ is_built (order.Check wad name cert) = true
 -- a build with no report
 is_built (order.Build wad name out cert report workers budget) = is_none report
 is_built (order.Grid n workers budget) = nat_le 1 n && nat_le n 18
-is_built other = false
 
 abbrev pub given : Option (List ℕ) → List (List ℕ)
 given None = []

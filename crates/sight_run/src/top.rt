@@ -64,7 +64,6 @@ fn reply_to<S: Shelf>(alloc: Global, shelf: &mut S, order: &Order) -> Result<Rep
             *budget,
         ),
         Order::Grid { n, budget, .. } => do_grid(alloc, *n, *budget),
-        _ => unreachable!(),
     }
 }
 

@@ -4,7 +4,7 @@ ghost use Rattle.std.specs.Prelude.{◌≡◌, ◌++◌, List, ℕ, All, IfErr, 
 ghost use Rattle.std.specs.List.{flat_map};
 ghost use Rattle.sight_names.specs.Map.{map_of};
 ghost use Rattle.sight_names.specs.Mesh.{label_of};
-ghost use Rattle.sight_names.specs.Sound.{LinesMeetAtEnds};
+ghost use Rattle.sight_names.specs.Sound.{IsSound};
 ghost use Rattle.ray_trace.specs.Trace.{IsTrace};
 ghost use Rattle.shelf_io.specs.Shelf.{Files, NoneFell};
 ghost use Rattle.order_words.specs.declared.order.Order.TheVariants.{Trace};
@@ -88,7 +88,7 @@ fn trace_ray(alloc: Global, plan: &Plan, faces: &Faces, ray: &Ray) -> Result<Vec
 
 /// The sectors that the ray passes, where the map is sound.
 fn judge_trace(alloc: Global, plan: &Plan, ray: &Ray) -> Result<String, Status>
-    ensures judged { Gives (¬ LinesMeetAtEnds (map_of plan.now)) (TraceCalls ray.now (map_of plan.now)) (line_answer result) }
+    ensures judged { Gives (¬ IsSound (map_of plan.now)) (TraceCalls ray.now (map_of plan.now)) (line_answer result) }
     ensures refusals { IfErr result IsOfTraceTest }
 {
     let faces = test_map(alloc, plan)?;

@@ -21,7 +21,6 @@ fn has_built_verb(order: &Order) -> bool
         | Order::Check { .. } => true,
         Order::Build { report, .. } => report.is_none(),
         Order::Grid { n, .. } => 1 <= *n && *n <= 18,
-        _ => false,
     }
 }
 
