@@ -5,8 +5,7 @@ use Rattle.sight_names.specs.Map.{Map}
 use Rattle.sight_names.specs.Mesh.{IsMeshOf}
 use Rattle.mesh_shape.specs.Shape.{MeshParts}
 use Rattle.triangulate.specs.Fills.{FillsSides}
-use Rattle.tri_sectors.specs.Fills.{FillsHull}
 
-pub fills_of : {E : Type 0} (m : Map) (r : Result MeshParts E) → ((ts : List Triangle) → IsMeshOf m ts → FillsSides m ts) → IfOk r (λ mesh. IsMeshOf m mesh.triangles) → IfOk r (λ mesh. FillsHull m mesh.triangles)
-fills_of m (Ok mesh) laws h = let s = laws mesh.triangles h in record { lines = s.lines; beyond = s.beyond }
+pub fills_of : {E : Type 0} (m : Map) (r : Result MeshParts E) → ((ts : List Triangle) → IsMeshOf m ts → FillsSides m ts) → IfOk r (λ mesh. IsMeshOf m mesh.triangles) → IfOk r (λ mesh. FillsSides m mesh.triangles)
+fills_of m (Ok mesh) laws h = laws mesh.triangles h
 fills_of m (Err e) laws h = tt

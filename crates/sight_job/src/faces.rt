@@ -4,7 +4,7 @@ ghost use Rattle.std.specs.Prelude.{◌≡◌, IfOk, IfErr, length};
 ghost use Rattle.sight_names.specs.Map.{map_of};
 ghost use Rattle.sight_names.specs.Mesh.{IsMeshOf, IsPlainMesh};
 ghost use Rattle.sight_names.specs.Sound.{LinesMeetAtEnds};
-ghost use Rattle.tri_sectors.specs.Fills.{FillsHull};
+ghost use Rattle.triangulate.specs.Fills.{FillsSides};
 ghost use Rattle.sight_job.specs.Faces.{AreFacesOf, IsFaceFault};
 
 use mesh_shape::{Labels, Mesh};
@@ -26,7 +26,7 @@ fn triangles_of(alloc: Global, plan: &Plan) -> Result<Mesh, Memory>
     ensures points { IfOk result (λ mesh. mesh.points ≡ length plan.now.points) }
     ensures mesh { IfOk result (λ mesh. IsMeshOf (map_of plan.now) mesh.triangles) }
     ensures plain { IfOk result (λ mesh. IsPlainMesh (map_of plan.now) mesh.triangles) }
-    ensures fills { IfOk result (λ mesh. FillsHull (map_of plan.now) mesh.triangles) }
+    ensures fills { IfOk result (λ mesh. FillsSides (map_of plan.now) mesh.triangles) }
 {
     mesh_laws(plan);
     let segments = greedy(alloc, plan)?;

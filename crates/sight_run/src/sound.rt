@@ -4,7 +4,7 @@ ghost use Rattle.std.specs.Prelude.{IfErr, IfOk, OnOk};
 ghost use Rattle.sight_names.specs.Map.{map_of};
 ghost use Rattle.sight_names.specs.Mesh.{IsMeshOf, IsPlainMesh};
 ghost use Rattle.sight_names.specs.Sound.{LinesMeetAtEnds};
-ghost use Rattle.tri_sectors.specs.Fills.{FillsHull};
+ghost use Rattle.triangulate.specs.Fills.{FillsSides};
 ghost use Rattle.tri_sectors.specs.Verdict.{AreFoundLabels};
 ghost use Rattle.sight_run.specs.Sound.{AreFaces, HasSoundLines, IsAuditRefusal, IsFaceRefusal, IsLineRefusal};
 
@@ -48,7 +48,7 @@ fn triangles_of(alloc: Global, plan: &Plan) -> Result<Mesh, Memory>
 fn fills(plan: &Plan, mesh: &Mesh)
     requires meet { LinesMeetAtEnds (map_of plan.now) }
     requires mesh { IsMeshOf (map_of plan.now) mesh.now.triangles }
-    ensures { FillsHull (map_of plan.now) mesh.now.triangles }
+    ensures { FillsSides (map_of plan.now) mesh.now.triangles }
 {
     mesh_laws(plan);
     let _count = mesh.points();
@@ -57,7 +57,7 @@ fn fills(plan: &Plan, mesh: &Mesh)
 /// The sectors of the triangles.
 fn labels_of(alloc: Global, plan: &Plan, mesh: &Mesh) -> Result<Labels, Status>
     requires plain { IsPlainMesh (map_of plan.now) mesh.now.triangles }
-    requires fills { FillsHull (map_of plan.now) mesh.now.triangles }
+    requires fills { FillsSides (map_of plan.now) mesh.now.triangles }
     ensures found { IfOk result (AreFoundLabels (map_of plan.now) mesh.now.triangles) }
     ensures refusals { IfErr result (IsFaceRefusal (map_of plan.now)) }
 {
