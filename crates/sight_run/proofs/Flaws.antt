@@ -10,7 +10,7 @@ use Rattle.tri_sectors.specs.Verdict.{AgreeAt, IsFirstSidePairAgainst}
 use Rattle.sight_run.specs.declared.status.Flaw.TheVariants as flaw
 use Rattle.sight_run.specs.declared.status.Status.{Status}
 use Rattle.sight_run.specs.declared.status.Status.TheVariants as status
-use Rattle.sight_run.specs.declared.sound.Faces.{Faces}
+use Rattle.sight_job.specs.declared.faces.Faces.{Faces}
 use Rattle.sight_run.specs.Answer.{Answer, Gives, IsTheAnswer}
 use Rattle.sight_run.specs.Sound.{AreFaces, HasFaces, HasMixedPair, HasOpenSide, HasSoundLines, IsAuditRefusal, OnFaces, OnSound}
 use Rattle.sight_run.proofs.Sounds.{IsPastAudit, gives_line_fault}

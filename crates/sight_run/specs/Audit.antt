@@ -4,7 +4,7 @@ use Rattle.std.specs.Fmt.{decimal}
 use Rattle.sight_names.specs.Map.{Map}
 use Rattle.sight_names.specs.Points.{lines_of, points_of}
 use Rattle.sight_run.specs.declared.status.Status.{Status}
-use Rattle.sight_run.specs.declared.sound.Faces.{Faces}
+use Rattle.sight_job.specs.declared.faces.Faces.{Faces}
 use Rattle.sight_run.specs.Answer.{Answer, only_line}
 use Rattle.sight_run.specs.Sound.{OnSound}
 

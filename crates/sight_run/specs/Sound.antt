@@ -11,7 +11,7 @@ use Rattle.tri_sectors.specs.Verdict.{AgreeAt, AreFoundLabels, IsClosedSide, IsF
 use Rattle.sight_run.specs.declared.status.Flaw.TheVariants as flaw
 use Rattle.sight_run.specs.declared.status.Status.{Status}
 use Rattle.sight_run.specs.declared.status.Status.TheVariants as status
-use Rattle.sight_run.specs.declared.sound.Faces.{Faces}
+use Rattle.sight_job.specs.declared.faces.Faces.{Faces}
 use Rattle.sight_run.specs.Answer.{Answer}
 
 -- the first pair of lines that share more than an end of both refuses the map; where there is none, the answer is another
