@@ -18,7 +18,8 @@ use Rattle.cert_checker.specs.declared.verdict.Verdict.{Verdict}
 use Rattle.cert_checker.specs.declared.verdict.Verdict.TheVariants.{Yes, No}
 use Rattle.cert_checker.specs.Pairs.{KnownParts, pairs_of, pair, IsWithin, IsMarked, IsSet, HasRay, IsShownBlind, IsShownSeen, IsFine, IsFaultAt, IsRowFine, IsFirstInRow, IsFirstPairFault, ArePairsFine, IsKnown, AreTotals}
 use Rattle.cert_checker.specs.Named.{MarksNamed}
-use Rattle.cert_checker.specs.Judged.{IsAbout, IsPairRight, IsReached, JudgesPairs, IsPairVerdict}
+use Rattle.cert_checker.specs.Judged.{IsAbout, IsPairRight, IsReached, JudgesPairs, JudgesRays, IsPairVerdict, IsTreeFault}
+use Rattle.cert_checker.specs.Rays.{AreAimedBelow}
 
 -- ---- lists of a certificate in order
 
@@ -144,3 +145,25 @@ first_wrong m c k n f about size e first = at f first.row.fault
     at (Mesh x) h = absurd h
     at (Ray x y z) h = absurd h
     at (Tree x y) h = absurd h
+
+-- ---- rays, where a tree or a pair is told
+
+all_aimed : (m : Map) (rays more : List PairRay) → rays ≡ more → AreAimedBelow m rays (length rays) → AreAimedBelow m more (length more)
+all_aimed m rays more e all = subst (λ (rs : List PairRay). AreAimedBelow m rs (length rs)) e all
+
+pub rays_at_tree : (m : Map) (c : CertParts) (rays : List PairRay) (f : CheckFault) → rays ≡ c.rays → AreAimedBelow m rays (length rays) → IsTreeFault f → JudgesRays m c (No f)
+rays_at_tree m c rays (Tree x y) e all kind = all_aimed m rays c.rays e all
+rays_at_tree m c rays (Mesh x) e all kind = absurd kind
+rays_at_tree m c rays (Ray x y z) e all kind = absurd kind
+rays_at_tree m c rays (ListedSet x y) e all kind = absurd kind
+rays_at_tree m c rays (Unproved x y) e all kind = absurd kind
+rays_at_tree m c rays (Uncovered x y) e all kind = absurd kind
+
+pub rays_at_pairs : (m : Map) (c : CertParts) (rays : List PairRay) (v : Verdict) → rays ≡ c.rays → AreAimedBelow m rays (length rays) → IsPairVerdict v → JudgesRays m c v
+rays_at_pairs m c rays (Yes t) e all kind = all_aimed m rays c.rays e all
+rays_at_pairs m c rays (No (ListedSet x y)) e all kind = all_aimed m rays c.rays e all
+rays_at_pairs m c rays (No (Unproved x y)) e all kind = all_aimed m rays c.rays e all
+rays_at_pairs m c rays (No (Uncovered x y)) e all kind = all_aimed m rays c.rays e all
+rays_at_pairs m c rays (No (Mesh x)) e all kind = absurd kind
+rays_at_pairs m c rays (No (Ray x y z)) e all kind = absurd kind
+rays_at_pairs m c rays (No (Tree x y)) e all kind = absurd kind

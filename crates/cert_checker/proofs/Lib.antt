@@ -4,3 +4,4 @@ pub mod Counts
 pub mod Rows
 pub mod Sides
 pub mod Judging
+pub mod Aimed

@@ -1,17 +1,16 @@
 -- What the checker's answer says of the mesh, of the rays and of the pairs.
-use Rattle.std.specs.Prelude.{◌≡◌, ◌<◌, ◌≤◌, ◌⊎◌, ℕ, List, Option, Some, None, Contains}
+use Rattle.std.specs.Prelude.{◌≡◌, ◌<◌, ◌≤◌, ◌⊎◌, ℕ, List, Option, Some, length}
 use Rattle.sight_names.specs.declared.faults.CheckFault.{CheckFault}
 use Rattle.sight_names.specs.declared.faults.CheckFault.TheVariants.{Mesh, Ray, Tree, ListedSet, Unproved, Uncovered}
-use Rattle.sight_names.specs.declared.names.PairRay.{PairRay}
 use Rattle.sight_names.specs.Map.{Map}
 use Rattle.sight_names.specs.Mesh.{IsGoodMesh}
 use Rattle.mesh_shape.specs.Faults.{IsFirstFault}
-use Rattle.sight_ray.specs.RayFault.{IsRayFault}
 use Rattle.cert_format.specs.Parts.{CertParts}
 use Rattle.reject_bits.specs.Parts.{TableParts}
 use Rattle.cert_format.specs.Accepted.{triangles_of, labels_of, EitherSet, EitherClear, IsNamed, IsPairListed, IsProvedSeen}
 use Rattle.cert_checker.specs.Pairs.{KnownParts, AreTotals, pairs_of}
 use Rattle.cert_checker.specs.Named.{MarksNamed}
+use Rattle.cert_checker.specs.Rays.{AreAimedBelow, IsFirstRayFault}
 use Rattle.cert_checker.specs.declared.verdict.Verdict.{Verdict}
 use Rattle.cert_checker.specs.declared.verdict.Verdict.TheVariants.{Yes, No}
 
@@ -20,16 +19,16 @@ abbrev pub JudgesMesh : Map → CertParts → Verdict → Type 0
 JudgesMesh m c (No (Mesh f)) = IsFirstFault m (triangles_of c) (labels_of c) f
 JudgesMesh m c _ = IsGoodMesh m (triangles_of c) (labels_of c)
 
--- some ray of the list is for this pair, and has this fault
-abbrev pub HasRayFault : Map → List PairRay → CheckFault → Type 0
-HasRayFault m rays (Ray a b (Some f)) = (r : PairRay) × Contains rays r × (r.pair ≡ record { a = a; b = b }) × IsRayFault m r.ray f
-HasRayFault m rays (Ray a b None) = (r : PairRay) × Contains rays r × (r.pair ≡ record { a = a; b = b })
-HasRayFault m rays _ = ⊥
-
--- a fault of a ray is told only of a ray of the certificate
+-- a fault of a ray is that of the first one that isn't aimed from sector to sector; with every later answer each ray is
 abbrev pub JudgesRays : Map → CertParts → Verdict → Type 0
-JudgesRays m c (No (Ray a b f)) = HasRayFault m c.rays (Ray a b f)
-JudgesRays m c _ = Unit {0}
+JudgesRays m c (No (Mesh f)) = Unit {0}
+JudgesRays m c (No (Ray a b f)) = IsFirstRayFault m c.rays (Ray a b f)
+JudgesRays m c _ = AreAimedBelow m c.rays (length c.rays)
+
+-- a fault of a ray
+abbrev pub IsRayFaultOf : CheckFault → Type 0
+IsRayFaultOf (Ray a b f) = Unit {0}
+IsRayFaultOf _ = ⊥
 
 -- the answer tells no fault of the mesh
 abbrev pub IsLaterVerdict : Verdict → Type 0

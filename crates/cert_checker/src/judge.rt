@@ -1,12 +1,13 @@
 //! The check, in the order of its faults: mesh, rays, trees, pairs.
 
-ghost use Rattle.std.specs.Prelude.{◌≡◌, length, map, IfOk, IfSome, Some};
+ghost use Rattle.std.specs.Prelude.{◌≡◌, length, map, IfOk, IfSome, MatchOption, Some};
 ghost use Rattle.sight_names.specs.Map.{map_of};
 ghost use Rattle.sight_names.specs.Sound.{LinesMeetAtEnds};
 ghost use Rattle.cert_format.specs.declared.cert.Labelled.{Labelled as AtSector};
 ghost use Rattle.cert_checker.specs.Named.{MarksNamed, MarksLine, Marks};
-ghost use Rattle.cert_checker.specs.Judged.{JudgesMesh, JudgesRays, JudgesPairs, HasRayFault, IsTreeFault, IsPairVerdict, IsLaterVerdict, IsAbout};
+ghost use Rattle.cert_checker.specs.Judged.{JudgesMesh, JudgesRays, JudgesPairs, IsRayFaultOf, IsTreeFault, IsPairVerdict, IsLaterVerdict, IsAbout};
 ghost use Rattle.cert_checker.specs.Pairs.{known_of, IsKnown};
+ghost use Rattle.cert_checker.specs.Rays.{IsAimed, AreAimedBelow, IsFaultOf, IsFirstRayFault};
 ghost use Rattle.cert_format.specs.Accepted.{triangles_of, labels_of};
 
 use crate::pairs::{Known, judge_pairs};
@@ -77,25 +78,36 @@ fn mark(flags: &mut [bool], sector: Option<u16>)
     }
 }
 
+/// Why a ray is no sight ray between the sectors of its pair.
+fn fault_of_ray(plan: &Plan, mesh: &Mesh, web: &Web, one: &PairRay) -> Option<CheckFault>
+    ensures kind { IfSome result IsRayFaultOf }
+    ensures fault { MatchOption result (IsAimed (map_of plan.now) one.now.ray one.now.pair.a one.now.pair.b) (IsFaultOf (map_of plan.now) one.now) }
+{
+    let (a, b) = (one.pair.a, one.pair.b);
+    match joined(plan, mesh, web, &one.ray) {
+        Ok((from, to)) => {
+            if from == a && to == b {
+                None
+            } else {
+                Some(CheckFault::Ray { a, b, why: None })
+            }
+        }
+        Err(why) => Some(CheckFault::Ray {
+            a,
+            b,
+            why: Some(why),
+        }),
+    }
+}
+
 /// The first ray that is no sight ray between its sectors.
 fn ray_fault(plan: &Plan, mesh: &Mesh, web: &Web, rays: &[PairRay]) -> Option<CheckFault>
-    ensures { IfSome result (HasRayFault (map_of plan.now) rays.now) }
+    ensures kind { IfSome result IsRayFaultOf }
+    ensures fault { MatchOption result (AreAimedBelow (map_of plan.now) rays.now (length rays.now)) (IsFirstRayFault (map_of plan.now) rays.now) }
 {
     for one in rays {
-        let (a, b) = (one.pair.a, one.pair.b);
-        match joined(plan, mesh, web, &one.ray) {
-            Ok(sectors) => {
-                if sectors != (a, b) {
-                    return Some(CheckFault::Ray { a, b, why: None });
-                }
-            }
-            Err(why) => {
-                return Some(CheckFault::Ray {
-                    a,
-                    b,
-                    why: Some(why),
-                });
-            }
+        if let Some(fault) = fault_of_ray(plan, mesh, web, one) {
+            return Some(fault);
         }
     }
     None

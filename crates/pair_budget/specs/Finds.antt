@@ -1,5 +1,5 @@
 -- The sectors that the walk of a source has found so far, and how it goes on.
-use Rattle.std.specs.Prelude.{◌≡◌, ◌≢◌, ℕ, ◌-◌, ◌⊎◌, List, ◌∷◌, [], ◌++◌, Option, Some, None, Contains, slice_get, length, Bool, true, if◌then◌else◌, nat_eq}
+use Rattle.std.specs.Prelude.{◌≡◌, ℕ, ◌-◌, List, Option, Some, None, Contains, slice_get, length, Bool, true, if◌then◌else◌, nat_eq}
 use Rattle.sight_names.specs.declared.names.Budget.{Budget}
 use Rattle.sight_names.specs.declared.names.Budget.TheVariants.{Of, Full}
 use Rattle.sight_names.specs.Plan.{PlanParts}

@@ -12,7 +12,9 @@ use Rattle.cert_format.specs.Parts.{CertParts}
 use Rattle.sight_job.specs.declared.build.Built.{Built}
 use Rattle.sight_run.specs.declared.counts.Counts.{Counts}
 use Rattle.sight_run.specs.declared.status.Bound.{Bound}
+use Rattle.sight_run.specs.declared.status.Bound.TheVariants as bound
 use Rattle.sight_run.specs.declared.status.Flaw.TheVariants as flaw
+use Rattle.sight_run.specs.declared.status.Role.{Role}
 use Rattle.sight_run.specs.declared.status.Role.TheVariants as role
 use Rattle.sight_run.specs.declared.status.Status.{Status}
 use Rattle.sight_run.specs.declared.status.Status.TheVariants as status
@@ -71,6 +73,11 @@ abbrev pub build_writes : List ℕ → List ℕ → Option (List ℕ) → Option
 build_writes out bytes (Some name) (Some spelled) = wad_output out bytes ∷ cert_output name spelled ∷ []
 build_writes out bytes asked spelled = wad_output out bytes ∷ []
 
+-- the roles of these outputs
+abbrev pub build_roles : Option (List ℕ) → List Role
+build_roles None = role.Wad ∷ []
+build_roles (Some name) = role.Wad ∷ role.Cert ∷ []
+
 abbrev pub build_line : List ℕ → Counts → List ℕ
 build_line name counts = codes "built " ++ name ++ counts_words counts ++ codes "\n"
 
@@ -95,6 +102,19 @@ pub record ShowsLimit (found : Found) (bound : Bound) : Type 0 where
   pub built : IsBuiltOf found.map table certificate
   pub whole : IsWhole table
   pub limit : with_table found table.bytes ≡ Err (status.Limit bound)
+
+-- a refusal that comes once a map is found
+abbrev pub IsOfBuildReply : Status → Type 0
+IsOfBuildReply (status.BadMap flaw) = ⊤
+IsOfBuildReply (status.Limit bound.Lumps) = ⊤
+IsOfBuildReply (status.Limit bound.OutputBytes) = ⊤
+IsOfBuildReply status.Memory = ⊤
+IsOfBuildReply other = ⊥
+
+-- no map is found, or its lines share more than ends: a build ends before anything is built
+abbrev pub IsUnbuildable : Result Found Status → Type 0
+IsUnbuildable (Err refusal) = ⊤
+IsUnbuildable (Ok found) = ¬ LinesMeetAtEnds found.map
 
 -- The answer that `build` calls for. Where the lines of the map share more than ends it is the first pair that does.
 abbrev pub BuildCalls : List ℕ → List ℕ → Option (List ℕ) → Found → Result Answer Status → Type 0

@@ -12,3 +12,4 @@ pub mod Say
 pub mod Views
 pub mod Counts
 pub mod Build
+pub mod Grid

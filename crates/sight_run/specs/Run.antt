@@ -13,7 +13,7 @@ use Rattle.sight_run.specs.declared.status.Why.TheVariants as why
 use Rattle.sight_run.specs.declared.status.Status.{Status}
 use Rattle.sight_run.specs.declared.status.Status.TheVariants as status
 use Rattle.sight_run.specs.Answer.{Answer, IsTheAnswer, Written}
-use Rattle.sight_run.specs.Obeys.{Audits, HasOneAnswer, IsAnswer, Judges, Reads, Writes}
+use Rattle.sight_run.specs.Obeys.{Audits, FindsMap, HasOneAnswer, IsAnswer, Judges, Reads, Writes}
 use Rattle.sight_run.specs.Report.{text_of}
 use Rattle.sight_run.specs.Status.{IsOfBytes}
 
@@ -129,12 +129,13 @@ IsOfOrder order status.SameName = ⊥
 IsOfOrder order (status.NoFile role) = Reads order role
 IsOfOrder order (status.ReadFault role) = Reads order role
 IsOfOrder order (status.WriteFault role) = Writes order role
-IsOfOrder order (status.NotWad fault) = Reads order role.Wad
-IsOfOrder order (status.NoMap fault) = Reads order role.Wad
-IsOfOrder order (status.BadLump fault) = Reads order role.Wad
+IsOfOrder order (status.NotWad fault) = FindsMap order
+IsOfOrder order (status.NoMap fault) = FindsMap order
+IsOfOrder order (status.BadLump fault) = FindsMap order
+IsOfOrder order (status.Limit bound.WadBytes) = Reads order role.Wad
 IsOfOrder order (status.Limit bound.CertBytes) = Reads order role.Cert
 IsOfOrder order (status.Limit bound.OutputBytes) = Writes order role.Wad
-IsOfOrder order (status.Limit bound) = Reads order role.Wad
+IsOfOrder order (status.Limit bound) = FindsMap order
 IsOfOrder order (status.BadMap flaw) = Audits order flaw
 IsOfOrder order status.Memory = ⊤
 
@@ -144,6 +145,7 @@ IsOfReading (status.NoFile role.Wad) = ⊤
 IsOfReading (status.NoFile role) = ⊥
 IsOfReading (status.ReadFault role.Wad) = ⊤
 IsOfReading (status.ReadFault role) = ⊥
+IsOfReading (status.Limit bound.WadBytes) = ⊤
 IsOfReading other = IsOfBytes other
 
 -- a refusal that comes before `zero` stores its output
@@ -160,6 +162,12 @@ IsOfRay other = IsOfReading other
 abbrev pub IsOfAudit : Status → Type 0
 IsOfAudit (status.BadMap (flaw.Line fault)) = ⊤
 IsOfAudit other = IsOfReading other
+
+-- a refusal that `build` can end with before its outputs are stored
+abbrev pub IsOfBuild : Status → Type 0
+IsOfBuild (status.BadMap flaw) = ⊤
+IsOfBuild (status.Limit bound.OutputBytes) = ⊤
+IsOfBuild other = IsOfReading other
 
 -- what the words alone say of a status
 abbrev pub WordsSay : Result Order Status → Status → Type 0

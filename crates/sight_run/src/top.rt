@@ -10,6 +10,8 @@ ghost use Rattle.sight_run.specs.Status.{IsProper};
 ghost use Rattle.sight_run.specs.Words.{asked_of, is_built};
 ghost use Rattle.sight_run.specs.declared.status.Status.TheVariants.{Memory};
 
+use crate::build::do_build;
+use crate::grid::do_grid;
 use crate::judge::{do_audit, do_ray};
 use crate::reply::{Reply, store_all};
 use crate::report::{refuse, say};
@@ -38,6 +40,23 @@ fn reply_to<S: Shelf>(alloc: Global, shelf: &mut S, order: &Order) -> Result<Rep
         }
         Order::Ray { wad, map, ray } => do_ray(alloc, shelf, wad.as_str(), map.as_str(), ray),
         Order::Audit { wad, map } => do_audit(alloc, shelf, wad.as_str(), map.as_str()),
+        Order::Build {
+            wad,
+            map,
+            out,
+            cert,
+            budget,
+            ..
+        } => do_build(
+            alloc,
+            shelf,
+            wad.as_str(),
+            map.as_str(),
+            out.as_str(),
+            cert,
+            *budget,
+        ),
+        Order::Grid { n, budget, .. } => do_grid(alloc, *n, *budget),
         _ => unreachable!(),
     }
 }
