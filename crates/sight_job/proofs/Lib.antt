@@ -2,3 +2,4 @@ pub mod LabelledLaws
 pub mod BuildLaws
 pub mod VerdictLaws
 pub mod GoodLabelled
+pub mod MeshFlaws

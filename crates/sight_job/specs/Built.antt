@@ -2,8 +2,18 @@
 use Rattle.std.specs.Prelude.{◌≡◌, ◌≢◌, ℕ, ◌<◌, ◌⊎◌, ◌↔◌, List, [], Option, Some, length, slice_get, Contains, false}
 use Rattle.sight_names.specs.declared.names.Budget.{Budget}
 use Rattle.sight_names.specs.declared.names.Pair.{Pair}
-use Rattle.sight_names.specs.Map.{map_of}
-use Rattle.sight_names.specs.Mesh.{label_of, IsGoodMesh}
+use Rattle.sight_names.specs.declared.names.Triangle.{Triangle}
+use Rattle.sight_names.specs.declared.faults.BuildFault.{BuildFault}
+use Rattle.sight_names.specs.declared.faults.BuildFault.TheVariants as flaw
+use Rattle.sight_names.specs.declared.faults.LabelFault.{LabelFault}
+use Rattle.sight_names.specs.declared.faults.LabelFault.TheVariants.{Open, Mixed, Memory}
+use Rattle.sight_names.specs.Map.{Map, map_of}
+use Rattle.sight_names.specs.Sound.{IsClosed}
+use Rattle.sight_names.specs.Mesh.{label_of, IsGoodMesh, IsMeshOf, AreLabelsOf}
+use Rattle.mesh_shape.specs.Faults.{IsFirstSideAgainst}
+use Rattle.tri_sectors.specs.Verdict.{IsClosedSide, AgreeAt, IsFirstSidePairAgainst, AreFoundLabels}
+use Rattle.cert_format.specs.Parts.{CertParts}
+use Rattle.sight_job.specs.Labelled.{labelled_of}
 use Rattle.sight_names.specs.Plan.{PlanParts}
 use Rattle.sight_names.specs.Found.{AreConnected}
 use Rattle.mesh_shape.specs.Shape.{MeshParts}
@@ -22,11 +32,33 @@ use Rattle.pair_budget.specs.Decide.{AreResults, DecidesTable, DecidesList, Deci
 abbrev pub sizes_of : PlanParts → Sizes
 sizes_of p = record { sectors = p.sectors; points = length p.points; lines = length p.lines }
 
--- a good mesh of the map, whose labels are sectors of it
+-- what stops a build: the least side that isn't closed, or else the least pair of sides that don't agree
+abbrev pub IsFlaw : Map → BuildFault → Type 0
+IsFlaw m (flaw.Open s) = IsFirstSideAgainst (IsClosedSide m) s
+IsFlaw m (flaw.Mixed s t) = IsClosed m × IsFirstSidePairAgainst (AgreeAt m) s t
+IsFlaw m flaw.Memory = Unit {0}
+
+-- the fault of a build whose faces have no labels
+abbrev pub flaw_from : LabelFault → BuildFault
+flaw_from (Open s) = flaw.Open s
+flaw_from (Mixed s t) = flaw.Mixed s t
+flaw_from Memory = flaw.Memory
+
+-- the mesh of the map with its labels, which are sectors of the map
 pub record IsLabelledMesh (p : PlanParts) (mesh : MeshParts) (labels : List (Option ℕ)) : Type 0 where
   pub points : mesh.points ≡ length p.points
+  pub is_mesh : IsMeshOf (map_of p) mesh.triangles
+  pub found : AreFoundLabels (map_of p) mesh.triangles labels
   pub good : IsGoodMesh (map_of p) mesh.triangles labels
   pub sectors : (k a : ℕ) → label_of labels k ≡ Some a → a < p.sectors
+
+-- the certificate has the labelled triangles of the map's mesh
+pub record HasTrianglesOf (m : Map) (c : CertParts) : Type 0 where
+  pub triangles : List Triangle
+  pub labels : List (Option ℕ)
+  pub mesh : IsMeshOf m triangles
+  pub labelled : AreLabelsOf m triangles labels
+  pub kept : c.triangles ≡ labelled_of triangles labels
 
 -- the walks of all sectors by themselves: each went to its end or, where there is one, to the end of its budget
 pub record AreWalks (p : PlanParts) (budget : Budget) (rs : List SourceResult) : Type 0 where

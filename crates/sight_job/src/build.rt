@@ -1,23 +1,23 @@
 //! The build of one map.
 
-ghost use Rattle.std.specs.Prelude.{◌≡◌, IfOk};
+ghost use Rattle.std.specs.Prelude.{◌≡◌, IfOk, IfErr, OnOk, length};
 ghost use Rattle.sight_names.specs.declared.names.Budget.TheVariants.{Full};
 ghost use Rattle.sight_names.specs.Map.{map_of};
-ghost use Rattle.sight_names.specs.Mesh.{IsGoodMesh};
-ghost use Rattle.sight_names.specs.Sound.{LinesMeetAtEnds};
+ghost use Rattle.sight_names.specs.Mesh.{IsGoodMesh, IsMeshOf};
+ghost use Rattle.sight_names.specs.Sound.{LinesMeetAtEnds, IsClosed, NamesAgree};
 ghost use Rattle.cert_format.specs.Accepted.{triangles_of, labels_of};
-ghost use Rattle.sight_job.specs.Built.{sizes_of, IsLabelledMesh, AreWalks, AreVerdicts, HasRaysOfClear, ListsClear, IsSymmetric, HasDiagonal, HasTreesOfSet, IsWhole};
+ghost use Rattle.sight_job.specs.Built.{sizes_of, flaw_from, IsFlaw, HasTrianglesOf, IsLabelledMesh, AreWalks, AreVerdicts, HasRaysOfClear, ListsClear, IsSymmetric, HasDiagonal, HasTreesOfSet, IsWhole};
 
 use crate::certificate::{cert_of, labelled};
 use block_evidence::Tree;
 use cert_format::{Cert, Sizes};
-use mesh_shape::{Labels, Mesh, mesh_fault};
+use mesh_shape::{Labels, Mesh};
 use pair_budget::{Alone, SourceResult, Verdicts, decide, walk_source};
 use reject_bits::Table;
 use sight_names::{Budget, BuildFault, Items, LabelFault, Memory, Pair, Plan};
 use std::alloc::Global;
 use tri_sectors::{components, label};
-use triangulate::{greedy, mesh_of};
+use triangulate::{greedy, mesh_laws, mesh_of};
 
 /// A map's table, the pairs whose budgets ran out, and the certificate of both.
 #[derive(Drop)]
@@ -45,6 +45,10 @@ pub fn build_table(alloc: Global, plan: &Plan, budget: Budget) -> Result<Built, 
     ensures sectors { IfOk result (λ b. b.table.n ≡ plan.now.sectors) }
     ensures sizes { IfOk result (λ b. b.cert.sizes ≡ sizes_of plan.now) }
     ensures listed { IfOk result (λ b. b.listed ≡ b.cert.listed) }
+    ensures flaw { IfErr result (IsFlaw (map_of plan.now)) }
+    ensures closed { OnOk result (IsClosed (map_of plan.now)) }
+    ensures agree { OnOk result (NamesAgree (map_of plan.now)) }
+    ensures triangles { IfOk result (λ b. HasTrianglesOf (map_of plan.now) b.cert) }
     ensures mesh { IfOk result (λ b. IsGoodMesh (map_of plan.now) (triangles_of b.cert) (labels_of b.cert)) }
     ensures rays { IfOk result HasRaysOfClear }
     ensures clear { IfOk result ListsClear }
@@ -76,28 +80,39 @@ pub fn build_table(alloc: Global, plan: &Plan, budget: Budget) -> Result<Built, 
     })
 }
 
+/// The mesh of the map.
+fn greedy_mesh(alloc: Global, plan: &Plan) -> Result<Mesh, Memory>
+    requires audited { LinesMeetAtEnds (map_of plan.now) }
+    ensures points { IfOk result (λ m. m.points ≡ length plan.now.points) }
+    ensures mesh { IfOk result (λ m. IsMeshOf (map_of plan.now) m.triangles) }
+{
+    let segments = greedy(alloc, plan)?;
+    mesh_of(alloc, plan, &segments)
+}
+
+/// The fault of a build whose faces have no labels.
+fn flaw_of(fault: LabelFault) -> BuildFault
+    ensures { result ≡ flaw_from fault }
+{
+    match fault {
+        LabelFault::Open { side } => BuildFault::Open { side },
+        LabelFault::Mixed { first, second } => BuildFault::Mixed { first, second },
+        LabelFault::Memory => BuildFault::Memory,
+    }
+}
+
 /// The mesh of the map and the labels of its triangles.
 fn labelled_mesh(alloc: Global, plan: &Plan) -> Result<LabelledMesh, BuildFault>
-    ensures { IfOk result (λ s. IsLabelledMesh plan.now s.mesh s.labels) }
+    requires audited { LinesMeetAtEnds (map_of plan.now) }
+    ensures shape { IfOk result (λ s. IsLabelledMesh plan.now s.mesh s.labels) }
+    ensures flaw { IfErr result (IsFlaw (map_of plan.now)) }
 {
-    let mesh = {
-        let segments = greedy(alloc, plan)?;
-        mesh_of(alloc, plan, &segments)?
-    };
-    let labels = match label(alloc, plan, &mesh) {
-        Ok(labels) => labels,
-        Err(LabelFault::Open { side }) => return Err(BuildFault::Open { side }),
-        Err(LabelFault::Mixed { first, second }) => {
-            return Err(BuildFault::Mixed { first, second });
-        }
-        Err(LabelFault::Memory) => return Err(BuildFault::Memory),
-    };
-    // That the greedy segments are those of the definition isn't proved yet, and with it that their triangles are a plain
-    // mesh, so the mesh is tested here. No map is known on which the test fails.
-    if mesh_fault(plan, &mesh, &labels).is_some() {
-        return Err(BuildFault::Memory);
+    let mesh = greedy_mesh(alloc, plan)?;
+    mesh_laws(plan);
+    match label(alloc, plan, &mesh) {
+        Ok(labels) => Ok(LabelledMesh { mesh, labels }),
+        Err(fault) => Err(flaw_of(fault)),
     }
-    Ok(LabelledMesh { mesh, labels })
 }
 
 /// The walks of all sectors, in order, each by itself.
