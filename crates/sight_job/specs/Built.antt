@@ -5,7 +5,11 @@ use Rattle.sight_names.specs.declared.names.Pair.{Pair}
 use Rattle.sight_names.specs.declared.faults.BuildFault.{BuildFault}
 use Rattle.sight_names.specs.declared.faults.BuildFault.TheVariants as build
 use Rattle.sight_names.specs.declared.faults.LabelFault.TheVariants as label
+use Rattle.sight_names.specs.declared.names.Triangle.{Triangle}
 use Rattle.sight_names.specs.Map.{Map, map_of}
+use Rattle.sight_names.specs.Mesh.{AreLabelsOf, IsMeshOf}
+use Rattle.cert_format.specs.Parts.{CertParts}
+use Rattle.sight_job.specs.Labelled.{labelled_of}
 use Rattle.sight_names.specs.Plan.{PlanParts}
 use Rattle.sight_names.specs.Found.{AreConnected}
 use Rattle.tri_sectors.specs.Components.{AreComponents}
@@ -29,6 +33,14 @@ abbrev pub IsBuildFault : Map → BuildFault → Type 0
 IsBuildFault m (build.Open s) = IsFaceFault m (label.Open s)
 IsBuildFault m (build.Mixed s t) = IsFaceFault m (label.Mixed s t)
 IsBuildFault m build.Memory = ⊤
+
+-- the certificate has the labelled triangles of the map's mesh
+pub record HasTrianglesOf (m : Map) (c : CertParts) : Type 0 where
+  pub triangles : List Triangle
+  pub labels : List (Option ℕ)
+  pub mesh : IsMeshOf m triangles
+  pub labelled : AreLabelsOf m triangles labels
+  pub kept : c.triangles ≡ labelled_of triangles labels
 
 -- the walks of all sectors by themselves: each went to its end or, where there is one, to the end of its budget
 pub record AreWalks (p : PlanParts) (budget : Budget) (rs : List SourceResult) : Type 0 where

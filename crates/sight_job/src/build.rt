@@ -7,7 +7,7 @@ ghost use Rattle.sight_names.specs.Mesh.{IsGoodMesh};
 ghost use Rattle.sight_names.specs.Sound.{IsSound, LinesMeetAtEnds};
 ghost use Rattle.cert_format.specs.Accepted.{triangles_of, labels_of};
 ghost use Rattle.sight_job.specs.Faces.{AreFacesOf};
-ghost use Rattle.sight_job.specs.Built.{sizes_of, AreWalks, IsBuildFault, AreVerdicts, HasRaysOfClear, ListsClear, IsSymmetric, HasDiagonal, HasTreesOfSet, IsWhole};
+ghost use Rattle.sight_job.specs.Built.{sizes_of, AreWalks, IsBuildFault, AreVerdicts, HasRaysOfClear, ListsClear, IsSymmetric, HasDiagonal, HasTreesOfSet, HasTrianglesOf, IsWhole};
 
 use crate::certificate::{cert_of, labelled};
 use crate::faces::{Faces, faces_of};
@@ -40,6 +40,7 @@ pub fn build_table(alloc: Global, plan: &Plan, budget: Budget) -> Result<Built, 
     ensures sectors { IfOk result (λ b. b.table.n ≡ plan.now.sectors) }
     ensures sizes { IfOk result (λ b. b.cert.sizes ≡ sizes_of plan.now) }
     ensures listed { IfOk result (λ b. b.listed ≡ b.cert.listed) }
+    ensures triangles { IfOk result (λ b. HasTrianglesOf (map_of plan.now) b.cert) }
     ensures mesh { IfOk result (λ b. IsGoodMesh (map_of plan.now) (triangles_of b.cert) (labels_of b.cert)) }
     ensures rays { IfOk result HasRaysOfClear }
     ensures clear { IfOk result ListsClear }

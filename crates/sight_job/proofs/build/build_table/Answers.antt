@@ -40,3 +40,12 @@ returns-clause-set c = cert_set c.args.plan.now c.args.budget c.in_ok-verdicts.v
 
 pub returns-clause-mesh : goal.returns-clause-mesh
 returns-clause-mesh c = subst (λ (xs : List Labelled). IsGoodMesh (map_of c.args.plan.now) (map (λ (l : Labelled). l.triangle) xs) (map (λ (l : Labelled). Some l.sector) xs)) (sym (ap (λ (d : CertParts). d.triangles) c.cert_of-cert.ensures ∙ c.in_ok-triangles.ensures.list)) (labelled_are_good (map_of c.args.plan.now) c.in_ok-shape.shape.mesh.triangles c.in_ok-shape.shape.labels c.in_ok-shape.ensures.faces.good)
+
+pub returns-clause-triangles : goal.returns-clause-triangles
+returns-clause-triangles c = record {
+  triangles = c.in_ok-shape.shape.mesh.triangles;
+  labels = c.in_ok-shape.shape.labels;
+  mesh = c.in_ok-shape.ensures.faces.mesh;
+  labelled = c.in_ok-shape.ensures.faces.labels;
+  kept = ap (λ (d : CertParts). d.triangles) c.cert_of-cert.ensures ∙ c.in_ok-triangles.ensures.list;
+}
