@@ -34,9 +34,6 @@ module _ (p : PlanParts) (is : IsPlan p) (ends : LinesMeetAtEnds (map_of p)) (se
   in_order : AreTriangles (length (points_of (map_of p))) left
   in_order = triangles_in_order (length (points_of (map_of p))) found left order (λ t c. (left_is_mesh (map_of p) (plan_facts p is) ends segs greedy_here t (are.each t c)).numbers)
 
-  pub mesh_triangles : (count : ℕ) → count ≡ length p.points → AreTriangles count left
-  mesh_triangles count e = let c = count_of_plan p is in subst (λ (n : ℕ). AreTriangles n left) (let x : length (points_of (map_of p)) ≡ count = omega (arith, c, e) in x) in_order
-
   pub is_mesh_with : IsMeshOf (map_of p) left
   is_mesh_with = record {
     kept = kept;
