@@ -1,7 +1,13 @@
 pub mod WebLemmas
 pub mod WalkLemmas
 pub mod KeptLemmas
-pub mod PairLemmas
+pub mod Bars
+pub mod Ordering
+pub mod SoFar
+pub mod Measured
+pub mod Listed
+pub mod Starting
+pub mod Reach
 pub mod FairPoints
 pub mod GreedyNet
 pub mod MeshLaws
@@ -11,3 +17,5 @@ pub mod LeftLemmas
 pub mod MeshOf
 pub mod SortedMesh
 pub mod PlanMesh
+pub mod Clearing
+pub mod Filling

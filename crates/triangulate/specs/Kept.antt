@@ -1,6 +1,8 @@
 -- A kept segment as an edge between point numbers.
-use Rattle.std.specs.Prelude.{◌≡◌, ◌≢◌, ℕ, ◌<◌, List, Some, slice_get}
+use Rattle.std.specs.Prelude.{◌≡◌, ◌≢◌, ℕ, ◌<◌, List, Some, slice_get, Contains, map}
+use Rattle.sight_names.specs.Map.{Map}
 use Rattle.sight_names.specs.Points.{Edge}
+use Rattle.sight_names.specs.Greedy.{EdgesMeetAtEnds}
 use Rattle.triangulate.specs.declared.segments.Segment.{Segment}
 
 abbrev pub edge_of : Segment → Edge
@@ -14,3 +16,14 @@ pub record IsEdgeBetween (points : ℕ) (e : Edge) : Type 0 where
 
 abbrev pub AreEdges : ℕ → List Edge → Type 0
 AreEdges points es = (k : ℕ) (e : Edge) → slice_get es k ≡ Some e → IsEdgeBetween points e
+
+abbrev pub edges_of : List Segment → List Edge
+edges_of segments = map edge_of segments
+
+-- each of the edges shares with e nothing but an end of both
+abbrev pub MeetsEach : Map → List Edge → Edge → Type 0
+MeetsEach m kept e = (f : Edge) → Contains kept f → EdgesMeetAtEnds m e f
+
+-- one of the edges shares more with e
+abbrev pub IsBarred : Map → List Edge → Edge → Type 0
+IsBarred m kept e = (f : Edge) × Contains kept f × ¬ EdgesMeetAtEnds m e f

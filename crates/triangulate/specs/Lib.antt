@@ -2,6 +2,8 @@ pub mod Kept
 pub mod Web
 pub mod Pairs
 pub mod Spokes
+pub mod Rounds
+pub mod Closed
 pub mod Fills
 pub mod Next
 pub mod Left

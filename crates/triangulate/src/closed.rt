@@ -1,6 +1,13 @@
 //! Points whose spokes leave no room for a further segment.
 
-ghost use Rattle.std.specs.Prelude.{◌≡◌, ◌<◌, length};
+ghost use Rattle.std.specs.Prelude.{ℕ, ◌≡◌, ◌<◌, ◌⊎◌, length};
+ghost use Rattle.std.specs.Bool.{OnTrue, OnFalse};
+ghost use Rattle.sight_names.specs.Map.{map_of};
+ghost use Rattle.sight_names.specs.Plan.{IsPlan};
+ghost use Rattle.triangulate.specs.Closed.{HasNoneLeft, HasTriangleLeft, HasTriangleRight, IsEmptyTriangle, IsShut};
+ghost use Rattle.triangulate.specs.Kept.{edges_of};
+ghost use Rattle.triangulate.specs.Rounds.{IsShutOff};
+ghost use Rattle.triangulate.specs.Spokes.{IsSpoke};
 
 use crate::spokes::{has_spoke, next_left, next_right};
 use crate::web::Web;
@@ -11,6 +18,7 @@ use sight_names::Plan;
 fn has_left(plan: &Plan, a: u16, b: u16) -> bool
     requires first { a < length plan.now.points }
     requires second { b < length plan.now.points }
+    ensures { OnFalse result (HasNoneLeft (map_of plan.now) a b) }
 {
     let (from, to) = (plan.place(a), plan.place(b));
     for point in plan.points() {
@@ -26,6 +34,8 @@ fn is_filled(plan: &Plan, a: u16, b: u16, c: u16) -> bool
     requires first { a < length plan.now.points }
     requires second { b < length plan.now.points }
     requires third { c < length plan.now.points }
+    ensures empty { OnFalse result (IsEmptyTriangle (map_of plan.now) a b c) }
+    ensures plan { IsPlan plan.now }
 {
     let (p, q, r) = (plan.place(a), plan.place(b), plan.place(c));
     if turn(p, q, r) <= 0 {
@@ -44,6 +54,8 @@ fn has_triangle_left(plan: &Plan, web: &Web, a: u16, b: u16) -> bool
     requires points { web.now.points ≡ length plan.now.points }
     requires first { a < web.now.points }
     requires second { b < web.now.points }
+    ensures triangle { OnTrue result (HasTriangleLeft (map_of plan.now) web.now.segments a b) }
+    ensures plan { OnTrue result (IsPlan plan.now) }
 {
     match next_left(plan, web, a, b) {
         Some(c) => has_spoke(web, b, c) && !is_filled(plan, a, b, c),
@@ -56,6 +68,7 @@ fn has_triangle_right(plan: &Plan, web: &Web, a: u16, b: u16) -> bool
     requires points { web.now.points ≡ length plan.now.points }
     requires first { a < web.now.points }
     requires second { b < web.now.points }
+    ensures { OnTrue result (HasTriangleRight (map_of plan.now) web.now.segments a b) }
 {
     match next_right(plan, web, a, b) {
         Some(c) => has_spoke(web, c, b) && !is_filled(plan, a, c, b),
@@ -63,30 +76,72 @@ fn has_triangle_right(plan: &Plan, web: &Web, a: u16, b: u16) -> bool
     }
 }
 
-/// Whether there is no room on either side of the spoke from `a` to `b`: an empty triangle lies there, or no point.
-fn is_shut(plan: &Plan, web: &Web, a: u16, b: u16) -> bool
+/// Whether there is no room on the left of the spoke from `a` to `b`: an empty triangle lies there, or no point.
+fn is_shut_left(plan: &Plan, web: &Web, a: u16, b: u16) -> bool
     requires points { web.now.points ≡ length plan.now.points }
     requires first { a < web.now.points }
     requires second { b < web.now.points }
+    ensures { OnTrue result (HasTriangleLeft (map_of plan.now) web.now.segments a b ⊎ HasNoneLeft (map_of plan.now) a b) }
 {
-    (has_triangle_left(plan, web, a, b) || !has_left(plan, a, b))
-        && (has_triangle_right(plan, web, a, b) || !has_left(plan, b, a))
+    has_triangle_left(plan, web, a, b) || !has_left(plan, a, b)
+}
+
+/// The same on its right.
+fn is_shut_right(plan: &Plan, web: &Web, a: u16, b: u16) -> bool
+    requires points { web.now.points ≡ length plan.now.points }
+    requires first { a < web.now.points }
+    requires second { b < web.now.points }
+    ensures { OnTrue result (HasTriangleRight (map_of plan.now) web.now.segments a b ⊎ HasNoneLeft (map_of plan.now) b a) }
+{
+    has_triangle_right(plan, web, a, b) || !has_left(plan, b, a)
+}
+
+/// Whether each spoke of the point has no room on either side.
+fn are_spokes_shut(plan: &Plan, web: &Web, a: u16) -> bool
+    requires points { web.now.points ≡ length plan.now.points }
+    requires at { a < web.now.points }
+    ensures { OnTrue result ((v : ℕ) → IsSpoke web.now.segments a v → IsShut (map_of plan.now) web.now.segments a v) }
+{
+    let mut at = web.last(a);
+    while at > 0 {
+        let b = web.other(at - 1, a);
+        if !is_shut_left(plan, web, a, b) {
+            return false;
+        }
+        if !is_shut_right(plan, web, a, b) {
+            return false;
+        }
+        at = web.earlier(at - 1, a);
+    }
+    true
+}
+
+/// Whether some spoke of the point has an empty triangle on its left.
+fn has_triangle_at(plan: &Plan, web: &Web, a: u16) -> bool
+    requires points { web.now.points ≡ length plan.now.points }
+    requires at { a < web.now.points }
+    ensures plan { OnTrue result (IsPlan plan.now) }
+    ensures triangle { OnTrue result ((v : ℕ) × IsSpoke web.now.segments a v × HasTriangleLeft (map_of plan.now) web.now.segments a v) }
+{
+    let mut at = web.last(a);
+    while at > 0 {
+        let b = web.other(at - 1, a);
+        if has_triangle_left(plan, web, a, b) {
+            return true;
+        }
+        at = web.earlier(at - 1, a);
+    }
+    false
 }
 
 /// Whether each spoke of the point is shut, and some spoke has a triangle on its left.
 pub fn is_closed(plan: &Plan, web: &Web, a: u16) -> bool
     requires points { web.now.points ≡ length plan.now.points }
     requires at { a < web.now.points }
+    ensures { OnTrue result (IsShutOff (map_of plan.now) (edges_of web.now.segments) a) }
 {
-    let mut has_triangle = false;
-    let mut at = web.last(a);
-    while at > 0 {
-        let b = web.other(at - 1, a);
-        if !is_shut(plan, web, a, b) {
-            return false;
-        }
-        has_triangle = has_triangle || has_triangle_left(plan, web, a, b);
-        at = web.earlier(at - 1, a);
+    if !are_spokes_shut(plan, web, a) {
+        return false;
     }
-    has_triangle
+    has_triangle_at(plan, web, a)
 }

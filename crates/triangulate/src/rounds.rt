@@ -1,19 +1,22 @@
 //! The greedy segments, in rounds of rising length. A point whose spokes leave no room is in no further segment, so its
 //! pairs aren't made.
 
-ghost use Rattle.std.specs.Prelude.{◌≡◌, ◌≢◌, ◌<◌, ◌≤◌, ◌*◌, ◌^◌, All, IfOk, OnOk, length, ◌-ℤ◌, ◌≤ℤ◌};
-ghost use Rattle.triangulate.specs.Kept.{AreEdges};
-ghost use Rattle.triangulate.specs.Pairs.{IsNumbered, IsPairOfPoints, MayAdd};
+ghost use Rattle.std.specs.Prelude.{ℕ, ◌≡◌, ◌≢◌, ◌<◌, ◌≤◌, ◌⊎◌, ◌↔◌, ◌++◌, ◌*◌, ◌^◌, ◌-ℤ◌, nat_abs, IsTrue, IfSome, IfOk, OnOk, Contains, length};
+ghost use Rattle.std.specs.List.Sorted.{IsPermutation};
+ghost use Rattle.sight_names.specs.Map.{map_of};
+ghost use Rattle.sight_names.specs.Plan.{IsPlan, IsPlanLine};
+ghost use Rattle.sight_names.specs.Greedy.{square_length, line_edges, IsGreedy, IsPointPair};
+ghost use Rattle.triangulate.specs.declared.rounds.PointPair.{PointPair};
+ghost use Rattle.triangulate.specs.Kept.{AreEdges, edges_of};
+ghost use Rattle.triangulate.specs.Pairs.{AreNumbers, AreInOrder, ArePairsBetween, AddsIfBetween, AddsPairs, IsReach, IsSquareBetween, IsWithin, pair_edge};
+ghost use Rattle.triangulate.specs.Rounds.{AddsIfOpen, IsShutOff, KeepsFree, KeepsIfFree, edges_of_line};
 
 use crate::closed::is_closed;
 use crate::segments::Segments;
 use crate::spokes::{is_fenced, is_free};
 use crate::web::Web;
-use sight_names::{Memory, Plan, Pt};
+use sight_names::{Line, Memory, Plan, Pt};
 use std::alloc::Global;
-
-/// The greatest length of a segment is below this.
-const ALL_LENGTHS: u32 = 92_682;
 
 /// A pair of points by the square of its length.
 #[derive(Clone, Copy, PartialEq, Eq, PartialOrd, Ord)]
@@ -26,16 +29,18 @@ struct PointPair {
 /// The lines in record order, and then all pairs of points by squared length, first number and second number that share
 /// with each segment kept so far nothing but an end of both.
 pub fn greedy(alloc: Global, plan: &Plan) -> Result<Segments, Memory>
-    ensures { IfOk result (AreEdges (length plan.now.points)) }
+    ensures edges { IfOk result (AreEdges (length plan.now.points)) }
+    ensures greedy { IfOk result (λ kept. IsGreedy (map_of plan.now) kept) }
 {
     let mut web = lines_of(alloc, plan)?;
     let mut live = all_points(alloc, plan)?;
+    let longest = 3 * reach_of(plan) + 1;
     let mut low = 0u32;
     let mut high = 64u32;
-    while low < ALL_LENGTHS {
+    while low < longest {
         live = open_points(alloc, plan, &web, live.as_slice())?;
         let mut pairs = pairs_between(alloc, plan, live.as_slice(), low, high)?;
-        pairs.sort()?;
+        sort_pairs(&mut pairs)?;
         keep_free_pairs(plan, &mut web, pairs.as_slice())?;
         low = high;
         high = 2 * high;
@@ -45,21 +50,57 @@ pub fn greedy(alloc: Global, plan: &Plan) -> Result<Segments, Memory>
 
 /// The lines of the plan, in record order.
 fn lines_of(alloc: Global, plan: &Plan) -> Result<Web, Memory>
-    ensures { IfOk result (λ w. w.points ≡ length plan.now.points) }
+    ensures points { IfOk result (λ w. w.points ≡ length plan.now.points) }
+    ensures lines { IfOk result (λ w. edges_of w.segments ≡ line_edges (map_of plan.now)) }
+    ensures plan { IfOk result (λ w. IsPlan plan.now) }
 {
     let lines = plan.lines();
     let mut web = Web::new(alloc, plan.points().len() as u16)?;
     for line in lines {
-        if let Some(line) = line {
-            web.push(line.a, line.b)?;
-        }
+        push_line(plan, &mut web, *line)?;
     }
     Ok(web)
 }
 
+/// Keeps the line, where there is one.
+fn push_line(plan: &Plan, web: &mut Web, line: Option<Line>) -> Result<(), Memory>
+    requires points { web.old.points ≡ length plan.now.points }
+    requires fits { IfSome line (IsPlanLine plan.now.sectors (length plan.now.points)) }
+    ensures points { OnOk result (web.new.points ≡ length plan.now.points) }
+    ensures line { OnOk result (edges_of web.new.segments ≡ edges_of web.old.segments ++ edges_of_line line) }
+{
+    if let Some(line) = line {
+        web.push(line.a, line.b)?;
+    }
+    Ok(())
+}
+
+/// The greatest absolute value of a coordinate. No segment is three times as long.
+fn reach_of(plan: &Plan) -> u32
+    ensures bound { result ≤ 32768 }
+    ensures all { IsReach (map_of plan.now) result }
+{
+    let mut most = 0u32;
+    for point in plan.points() {
+        most = most.max(reach_of_point(*point));
+    }
+    most
+}
+
+/// The greater absolute value of the two coordinates.
+fn reach_of_point(p: Pt) -> u32
+    ensures bound { result ≤ 32768 }
+    ensures all { IsWithin result p }
+{
+    let across = p.x.unsigned_abs();
+    let up = p.y.unsigned_abs();
+    across.max(up) as u32
+}
+
 /// All point numbers.
 fn all_points(alloc: Global, plan: &Plan) -> Result<Vec<u16>, Memory>
-    ensures { IfOk result (λ v. All (IsNumbered (length plan.now.points)) v.items) }
+    ensures numbers { IfOk result (λ v. AreNumbers (length plan.now.points) v.items) }
+    ensures all { IfOk result (λ v. (k : ℕ) → k < length plan.now.points → Contains v.items k) }
 {
     let mut numbers = Vec::new(alloc);
     for k in 0..plan.points().len() as u16 {
@@ -71,25 +112,46 @@ fn all_points(alloc: Global, plan: &Plan) -> Result<Vec<u16>, Memory>
 /// The points that aren't closed.
 fn open_points(alloc: Global, plan: &Plan, web: &Web, live: &[u16]) -> Result<Vec<u16>, Memory>
     requires points { web.now.points ≡ length plan.now.points }
-    requires live { All (IsNumbered (length plan.now.points)) live.now }
-    ensures { IfOk result (λ v. All (IsNumbered (length plan.now.points)) v.items) }
+    requires live { AreNumbers (length plan.now.points) live.now }
+    ensures numbers { IfOk result (λ v. AreNumbers (length plan.now.points) v.items) }
+    ensures closed { IfOk result (λ v. (k : ℕ) → Contains live.now k → Contains v.items k ⊎ IsShutOff (map_of plan.now) (edges_of web.now.segments) k) }
 {
-    let mut open = Vec::new(alloc);
+    let mut others = Vec::new(alloc);
     for k in live {
-        if !is_closed(plan, web, *k) {
-            open.push(*k)?;
-        }
+        push_if_open(plan, web, &mut others, *k)?;
     }
-    Ok(open)
+    Ok(others)
+}
+
+/// Adds the point, unless it is closed.
+fn push_if_open(plan: &Plan, web: &Web, others: &mut Vec<u16>, k: u16) -> Result<(), Memory>
+    requires points { web.now.points ≡ length plan.now.points }
+    requires within { k < web.now.points }
+    ensures { OnOk result (AddsIfOpen (map_of plan.now) (edges_of web.now.segments) k others.old.items others.new.items) }
+{
+    if is_closed(plan, web, k) {
+        return Ok(());
+    }
+    others.push(k)?;
+    Ok(())
 }
 
 /// The square of the distance between two points.
 fn square_of(p: Pt, q: Pt) -> u64
-    ensures { result < 2 ^ 34 }
+    ensures value { result ≡ square_length p q }
+    ensures bound { result < 2 ^ 34 }
 {
-    let across = p.x.abs_diff(q.x) as u64;
-    let up = p.y.abs_diff(q.y) as u64;
+    let across = difference(p.x, q.x);
+    let up = difference(p.y, q.y);
     across * across + up * up
+}
+
+/// How far `b` is from `a`.
+fn difference(a: i16, b: i16) -> u64
+    ensures value { result ≡ nat_abs (b -ℤ a) }
+    ensures bound { result ≤ 65535 }
+{
+    b.abs_diff(a) as u64
 }
 
 /// The pairs of live points at least `low` and less than `high` apart.
@@ -100,10 +162,10 @@ fn pairs_between(
     low: u32,
     high: u32,
 ) -> Result<Vec<PointPair>, Memory>
-    requires live { All (IsNumbered (length plan.now.points)) live.now }
+    requires live { AreNumbers (length plan.now.points) live.now }
     requires low { low ≤ 2 ^ 17 }
     requires high { high ≤ 2 ^ 18 }
-    ensures { IfOk result (λ v. All (IsPairOfPoints (length plan.now.points)) v.items) }
+    ensures { IfOk result (λ v. ArePairsBetween (map_of plan.now) live.now low high v.items) }
 {
     let mut pairs = Vec::new(alloc);
     for (at, from) in live.iter().enumerate() {
@@ -112,7 +174,7 @@ fn pairs_between(
     Ok(pairs)
 }
 
-/// Adds the pairs of `from` with those later points.
+/// Adds the pairs of `from` with those later points, which ascend by x.
 fn add_pairs(
     plan: &Plan,
     pairs: &mut Vec<PointPair>,
@@ -122,17 +184,17 @@ fn add_pairs(
     high: u32,
 ) -> Result<(), Memory>
     requires from { from < length plan.now.points }
-    requires later { All (IsNumbered (length plan.now.points)) later.now }
+    requires later { AreNumbers (length plan.now.points) later.now }
+    requires behind { (k : ℕ) → Contains later.now k → from < k }
     requires low { low ≤ 2 ^ 17 }
     requires high { high ≤ 2 ^ 18 }
-    requires pairs { All (IsPairOfPoints (length plan.now.points)) pairs.old.items }
-    ensures { OnOk result (All (IsPairOfPoints (length plan.now.points)) pairs.new.items) }
+    ensures { OnOk result (AddsPairs (map_of plan.now) from later.now low high pairs.old.items pairs.new.items) }
 {
     let start = plan.place(from);
     for to in later {
         let end = plan.place(*to);
-        if end.x as i64 - start.x as i64 >= high as i64 {
-            break;
+        if difference(start.x, end.x) >= high as u64 {
+            return Ok(());
         }
         let pair = PointPair {
             square: square_of(start, end),
@@ -144,15 +206,12 @@ fn add_pairs(
     Ok(())
 }
 
-/// Adds the pair, unless its numbers aren't in order or its length isn't in the range.
+/// Adds the pair, unless its length isn't in the range.
 fn add_pair(pairs: &mut Vec<PointPair>, pair: PointPair, low: u32, high: u32) -> Result<(), Memory>
     requires low { low ≤ 2 ^ 17 }
     requires high { high ≤ 2 ^ 18 }
-    ensures { OnOk result (MayAdd pair pairs.old.items pairs.new.items) }
+    ensures { OnOk result (AddsIfBetween low high pair pairs.old.items pairs.new.items) }
 {
-    if pair.from >= pair.to {
-        return Ok(());
-    }
     if !is_between(pair.square, low, high) {
         return Ok(());
     }
@@ -164,23 +223,52 @@ fn add_pair(pairs: &mut Vec<PointPair>, pair: PointPair, low: u32, high: u32) ->
 fn is_between(square: u64, low: u32, high: u32) -> bool
     requires low { low ≤ 2 ^ 17 }
     requires high { high ≤ 2 ^ 18 }
+    ensures { IsTrue result ↔ IsSquareBetween low high square }
 {
     low as u64 * low as u64 <= square && square < high as u64 * high as u64
 }
 
+/// Sorts the pairs by length, then by the first number, then by the second.
+fn sort_pairs(pairs: &mut Vec<PointPair>) -> Result<(), Memory>
+    ensures same { OnOk result (IsPermutation pairs.old.items pairs.new.items) }
+    ensures order { OnOk result (AreInOrder pairs.new.items) }
+{
+    pairs.sort()?;
+    Ok(())
+}
+
 /// Keeps each pair, in order, that meets all kept segments at ends of both alone.
 fn keep_free_pairs(plan: &Plan, web: &mut Web, pairs: &[PointPair]) -> Result<(), Memory>
+    requires plan { IsPlan plan.now }
     requires points { web.old.points ≡ length plan.now.points }
-    requires pairs { All (IsPairOfPoints (length plan.now.points)) pairs.now }
-    ensures { OnOk result (web.new.points ≡ length plan.now.points) }
+    requires order { AreInOrder pairs.now }
+    requires pairs { (p : PointPair) → Contains pairs.now p → IsPointPair (map_of plan.now) (pair_edge p) }
+    ensures points { OnOk result (web.new.points ≡ length plan.now.points) }
+    ensures keeps { OnOk result (KeepsFree (map_of plan.now) pairs.now (edges_of web.old.segments) (edges_of web.new.segments)) }
 {
     for pair in pairs {
-        if !is_fenced(plan, web, pair.from, pair.to)
-            && !is_fenced(plan, web, pair.to, pair.from)
-            && is_free(plan, web, pair.from, pair.to)
-        {
-            web.push(pair.from, pair.to)?;
-        }
+        keep_if_free(plan, web, *pair)?;
     }
+    Ok(())
+}
+
+/// Keeps the pair, if it meets all kept segments at ends of both alone.
+fn keep_if_free(plan: &Plan, web: &mut Web, pair: PointPair) -> Result<(), Memory>
+    requires points { web.old.points ≡ length plan.now.points }
+    requires order { pair.from < pair.to }
+    requires within { pair.to < length plan.now.points }
+    ensures points { OnOk result (web.new.points ≡ length plan.now.points) }
+    ensures keeps { OnOk result (KeepsIfFree (map_of plan.now) (pair_edge pair) (edges_of web.old.segments) (edges_of web.new.segments)) }
+{
+    if is_fenced(plan, web, pair.from, pair.to) {
+        return Ok(());
+    }
+    if is_fenced(plan, web, pair.to, pair.from) {
+        return Ok(());
+    }
+    if !is_free(plan, web, pair.from, pair.to) {
+        return Ok(());
+    }
+    web.push(pair.from, pair.to)?;
     Ok(())
 }

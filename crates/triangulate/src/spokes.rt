@@ -1,10 +1,11 @@
 //! The segments at a point: its spokes.
 
 ghost use Rattle.std.specs.Prelude.{ℕ, ◌≡◌, ◌<◌, ◌≢◌, ◌↔◌, IsTrue, IfSome, length};
+ghost use Rattle.std.specs.Bool.{OnTrue, OnFalse};
 ghost use Rattle.sight_names.specs.Map.{map_of};
-ghost use Rattle.sight_names.specs.Points.{place};
-ghost use Rattle.sight_names.specs.Sound.{MeetAtEnds};
-ghost use Rattle.triangulate.specs.Spokes.{IsSpoke};
+ghost use Rattle.sight_names.specs.Plan.{IsPlan};
+ghost use Rattle.triangulate.specs.Kept.{edges_of, MeetsEach, IsBarred};
+ghost use Rattle.triangulate.specs.Spokes.{IsSpoke, SpokesMeet, HasBarAt, MayReach};
 ghost use Rattle.triangulate.specs.Next.{IsNextLeft, IsNextRight, IsBestLeft, IsBestRight};
 
 use crate::web::Web;
@@ -117,12 +118,15 @@ pub fn spokes_meet(plan: &Plan, web: &Web, u: u16, i: u16, j: u16) -> bool
     requires first { i < web.now.points }
     requires second { j < web.now.points }
     requires differ { i ≢ j }
+    ensures meet { OnTrue result (SpokesMeet (map_of plan.now) web.now.segments u (record { from = i; to = j })) }
+    ensures barred { OnFalse result (HasBarAt (map_of plan.now) web.now.segments u (record { from = i; to = j })) }
+    ensures plan { IsPlan plan.now }
 {
     let (hub, from, to) = (plan.place(u), plan.place(i), plan.place(j));
     let mut at = web.last(u);
     while at > 0 {
         let end = plan.place(web.other(at - 1, u));
-        if !meet_at_ends(hub, end, from, to) {
+        if !meet_at_ends(from, to, hub, end) {
             return false;
         }
         at = web.earlier(at - 1, u);
@@ -136,13 +140,35 @@ pub fn is_free(plan: &Plan, web: &Web, i: u16, j: u16) -> bool
     requires points { web.now.points ≡ length plan.now.points }
     requires order { i < j }
     requires second { j < web.now.points }
+    ensures free { OnTrue result (MeetsEach (map_of plan.now) (edges_of web.now.segments) (record { from = i; to = j })) }
+    ensures barred { OnFalse result (IsBarred (map_of plan.now) (edges_of web.now.segments) (record { from = i; to = j })) }
 {
+    let kept = web.segments();
+    if kept.is_empty() {
+        return true;
+    }
     for u in 0..j {
-        if (u >= i || web.far(u) > j) && !spokes_meet(plan, web, u, i, j) {
+        if !reached_meet(plan, web, u, i, j) {
             return false;
         }
     }
     spokes_meet(plan, web, j, i, j)
+}
+
+/// Whether each spoke of `u` meets the segment from `i` to `j` at ends of both alone, unless none can reach it from before
+/// `i`.
+fn reached_meet(plan: &Plan, web: &Web, u: u16, i: u16, j: u16) -> bool
+    requires points { web.now.points ≡ length plan.now.points }
+    requires order { i < j }
+    requires before { u < j }
+    requires second { j < web.now.points }
+    ensures meet { OnTrue result (MayReach web.now.segments i j u → SpokesMeet (map_of plan.now) web.now.segments u (record { from = i; to = j })) }
+    ensures barred { OnFalse result (HasBarAt (map_of plan.now) web.now.segments u (record { from = i; to = j })) }
+{
+    if u < i && web.far(u) <= j {
+        return true;
+    }
+    spokes_meet(plan, web, u, i, j)
 }
 
 /// Whether a segment joins `u` and `v` and meets the segment from `i` to `j` otherwise than at ends of both.
@@ -153,6 +179,7 @@ fn is_fence(plan: &Plan, web: &Web, u: u16, v: u16, i: u16, j: u16) -> bool
     requires first { i < web.now.points }
     requires second { j < web.now.points }
     requires differ { i ≢ j }
+    ensures { OnTrue result (IsBarred (map_of plan.now) (edges_of web.now.segments) (record { from = i; to = j })) }
 {
     if u == v {
         return false;
@@ -161,7 +188,7 @@ fn is_fence(plan: &Plan, web: &Web, u: u16, v: u16, i: u16, j: u16) -> bool
         return false;
     }
     let (left, right, from, to) = (plan.place(u), plan.place(v), plan.place(i), plan.place(j));
-    !meet_at_ends(left, right, from, to)
+    !meet_at_ends(from, to, left, right)
 }
 
 /// Whether the spokes of `i` on both sides of the direction of `j`, or the segment between their ends, show that the
@@ -171,6 +198,7 @@ pub fn is_fenced(plan: &Plan, web: &Web, i: u16, j: u16) -> bool
     requires first { i < web.now.points }
     requires second { j < web.now.points }
     requires differ { i ≢ j }
+    ensures { OnTrue result (IsBarred (map_of plan.now) (edges_of web.now.segments) (record { from = i; to = j })) }
 {
     if !spokes_meet(plan, web, i, i, j) {
         return true;

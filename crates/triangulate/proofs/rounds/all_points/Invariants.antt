@@ -1,6 +1,5 @@
-use Rattle.std.proofs.Common.{length, All}
-use Rattle.triangulate.specs.Pairs.{IsNumbered}
+use Rattle.triangulate.proofs.Starting.{IsCount}
 use Rattle.triangulate.proofs.rounds.all_points.Given as goal
 
 abbrev pub invariant-loop-k : goal.invariant-loop-k
-invariant-loop-k l = All (IsNumbered (length l.plan.points)) l.numbers.items
+invariant-loop-k l = IsCount l.k l.numbers.items

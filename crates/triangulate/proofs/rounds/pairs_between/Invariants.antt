@@ -1,6 +1,6 @@
-use Rattle.std.proofs.Common.{length, All}
-use Rattle.triangulate.specs.Pairs.{IsPairOfPoints}
+use Rattle.sight_names.specs.Map.{map_of}
+use Rattle.triangulate.proofs.Listed.{BetweenUpTo}
 use Rattle.triangulate.proofs.rounds.pairs_between.Given as goal
 
 abbrev pub invariant-loop-at : goal.invariant-loop-at
-invariant-loop-at l = All (IsPairOfPoints (length l.plan.points)) l.pairs.items
+invariant-loop-at l = BetweenUpTo (map_of l.plan) l.live l.low l.high l.at l.pairs.items

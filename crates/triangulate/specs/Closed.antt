@@ -1,0 +1,32 @@
+-- Spokes that leave no room for a further segment beside them.
+use Rattle.std.specs.Prelude.{ℕ, ◌<◌, ◌⊎◌, List, length, ℤ, pos, ◌<ℤ◌, ◌≤ℤ◌}
+use Rattle.sight_names.specs.Map.{Map}
+use Rattle.sight_names.specs.Points.{points_of, place}
+use Rattle.geom_exact.specs.Formulas.{turn_of}
+use Rattle.triangulate.specs.declared.segments.Segment.{Segment}
+use Rattle.triangulate.specs.Spokes.{IsSpoke}
+
+abbrev pub turn_between : Map → ℕ → ℕ → ℕ → ℤ
+turn_between m a b c = turn_of (place m a) (place m b) (place m c)
+
+-- the corners stand counterclockwise, and no point of the map is strictly inside
+pub record IsEmptyTriangle (m : Map) (a b c : ℕ) : Type 0 where
+  pub turn : pos 0 <ℤ turn_between m a b c
+  pub empty : (k : ℕ) → k < length (points_of m) → ¬ ((pos 0 <ℤ turn_between m a b k) × (pos 0 <ℤ turn_between m b c k) × (pos 0 <ℤ turn_between m c a k))
+
+-- segments make an empty triangle on the left of the spoke from a to b
+abbrev pub HasTriangleLeft : Map → List Segment → ℕ → ℕ → Type 0
+HasTriangleLeft m segs a b = (c : ℕ) × IsSpoke segs a c × IsSpoke segs b c × IsEmptyTriangle m a b c
+
+-- and on its right
+abbrev pub HasTriangleRight : Map → List Segment → ℕ → ℕ → Type 0
+HasTriangleRight m segs a b = (c : ℕ) × IsSpoke segs a c × IsSpoke segs c b × IsEmptyTriangle m a c b
+
+-- no point of the map is strictly on the left of the way from a to b
+abbrev pub HasNoneLeft : Map → ℕ → ℕ → Type 0
+HasNoneLeft m a b = (k : ℕ) → k < length (points_of m) → turn_between m a b k ≤ℤ pos 0
+
+-- on each side of the spoke from a to b is an empty triangle, or no point at all
+pub record IsShut (m : Map) (segs : List Segment) (a b : ℕ) : Type 0 where
+  pub left : HasTriangleLeft m segs a b ⊎ HasNoneLeft m a b
+  pub right : HasTriangleRight m segs a b ⊎ HasNoneLeft m b a
