@@ -2,6 +2,7 @@
 
 use crate::maps::{DOORS33, ISLAND, OPEN, PAIR, ROD, SQUARE, U};
 use crate::wads::{RowLine, plan_of};
+use map_audit::audit_lines;
 use mesh_shape::{Labels, Mesh};
 use ray_trace::trace;
 use sight_names::{LabelFault, Plan, Ray, Side, TraceFault, Triangle};
@@ -20,6 +21,9 @@ struct Meshed {
 
 fn mesh_parts(alloc: Global, lines: &[RowLine], sectors: u16) -> Result<Meshed, LabelFault> {
     let Ok(plan) = plan_of(alloc, lines, sectors) else {
+        return Err(LabelFault::Memory);
+    };
+    let Ok(()) = audit_lines(&plan) else {
         return Err(LabelFault::Memory);
     };
     let segments = greedy(alloc, &plan)?;

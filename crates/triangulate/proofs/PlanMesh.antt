@@ -13,9 +13,9 @@ use Rattle.mesh_base.proofs.PlanFacts.{plan_facts}
 use Rattle.triangulate.specs.declared.segments.Segment.{Segment}
 use Rattle.triangulate.specs.Kept.{edge_of, IsEdgeBetween, AreEdges}
 use Rattle.triangulate.specs.Left.{AreLeftTriangles, IsInOrder}
-use Rattle.triangulate.specs.Fills.{FillsHull}
+use Rattle.triangulate.specs.Fills.{FillsHull, FillsSides}
 use Rattle.triangulate.proofs.GreedyNet.{kept_between}
-use Rattle.triangulate.proofs.MeshLaws.{mesh_plain, mesh_fills}
+use Rattle.triangulate.proofs.MeshLaws.{mesh_plain, mesh_fills, mesh_fills_sides}
 use Rattle.triangulate.proofs.MeshBound.{few_in_plan}
 use Rattle.triangulate.proofs.MeshOf.{left_is_mesh, left_exactly}
 use Rattle.triangulate.proofs.SortedMesh.{triangles_in_order}
@@ -53,3 +53,6 @@ module _ (p : PlanParts) (is : IsPlan p) (ends : LinesMeetAtEnds (map_of p)) (se
   pub mesh_fills_hull : FillsHull (map_of p) kept left
   unfolding is_mesh_with
   mesh_fills_hull = mesh_fills (map_of p) (plan_facts p is) ends left is_mesh_with
+
+  pub mesh_fills_each_side : FillsSides (map_of p) left
+  mesh_fills_each_side = mesh_fills_sides (map_of p) (plan_facts p is) ends left is_mesh_with

@@ -8,7 +8,7 @@ ghost use Rattle.sight_names.specs.Greedy.{IsGreedy};
 ghost use Rattle.sight_names.specs.Mesh.{IsMeshOf, IsPlainMesh, IsTriangle};
 ghost use Rattle.triangulate.specs.Kept.{AreEdges, edge_of};
 ghost use Rattle.triangulate.specs.Left.{AreLeftTriangles, IsInOrder, IsLeftAdded};
-ghost use Rattle.triangulate.specs.Fills.{FillsHull};
+ghost use Rattle.triangulate.specs.Fills.{FillsHull, FillsSides};
 
 use crate::segments::Segments;
 use crate::spokes::next_left;
@@ -26,6 +26,7 @@ pub fn mesh_of(alloc: Global, plan: &Plan, segments: &Segments) -> Result<Mesh, 
     ensures mesh { IfOk result (λ mesh. IsMeshOf (map_of plan.now) mesh.triangles) }
     ensures plain { IfOk result (λ mesh. IsPlainMesh (map_of plan.now) mesh.triangles) }
     ensures fills { IfOk result (λ mesh. FillsHull (map_of plan.now) segments.now mesh.triangles) }
+    ensures sides { IfOk result (λ mesh. FillsSides (map_of plan.now) mesh.triangles) }
     ensures few { IfOk result (λ mesh. length mesh.triangles ≤ 2 * length plan.now.points) }
 {
     let count = plan.points().len() as u16;

@@ -5,8 +5,8 @@ use Rattle.sight_names.specs.declared.names.Pt.{Pt}
 use Rattle.sight_names.specs.Map.{map_of}
 use Rattle.sight_names.specs.Mesh.{IsTriangle, IsMeshOf, IsPlainMesh}
 use Rattle.mesh_shape.specs.Shape.{MeshParts}
-use Rattle.triangulate.specs.Fills.{FillsHull}
-use Rattle.triangulate.proofs.PlanMesh.{greedy_edges, is_mesh_with, few_left, mesh_is_plain, mesh_fills_hull}
+use Rattle.triangulate.specs.Fills.{FillsHull, FillsSides}
+use Rattle.triangulate.proofs.PlanMesh.{greedy_edges, is_mesh_with, few_left, mesh_is_plain, mesh_fills_hull, mesh_fills_each_side}
 use Rattle.triangulate.proofs.SortedMesh.{triangles_in_order}
 use Rattle.triangulate.proofs.triangles.mesh_of.Goals as goal
 
@@ -30,6 +30,9 @@ returns-clause-plain c = IfOk-weaker c.of.result _ _ (λ (mesh : MeshParts) e. s
 
 pub returns-clause-fills : goal.returns-clause-fills
 returns-clause-fills c = IfOk-weaker c.of.result _ _ (λ (mesh : MeshParts) e. subst (λ (x : MeshParts). FillsHull (map_of c.args.plan.now) c.args.segments.now x.triangles) (sym e) (mesh_fills_hull c.args.plan.now c.points.ensures.plan c.requires.audited c.in_ok-web.web.segments c.args.segments.now c.in_ok-web.ensures.segments c.requires.greedy c.in_ok-found.found.items c.in_order.result.items c.in_ok-found.ensures.left c.in_order.ensures)) c.of.ensures
+
+pub returns-clause-sides : goal.returns-clause-sides
+returns-clause-sides c = IfOk-weaker c.of.result _ _ (λ (mesh : MeshParts) e. subst (λ (x : MeshParts). FillsSides (map_of c.args.plan.now) x.triangles) (sym e) (mesh_fills_each_side c.args.plan.now c.points.ensures.plan c.requires.audited c.in_ok-web.web.segments c.args.segments.now c.in_ok-web.ensures.segments c.requires.greedy c.in_ok-found.found.items c.in_order.result.items c.in_ok-found.ensures.left c.in_order.ensures)) c.of.ensures
 
 pub returns-clause-few : goal.returns-clause-few
 returns-clause-few c = IfOk-weaker c.of.result _ _ (λ (mesh : MeshParts) e. subst (λ (x : MeshParts). length x.triangles ≤ 2 * length c.args.plan.now.points) (sym e) (few_left c.args.plan.now c.points.ensures.plan c.requires.audited c.in_ok-web.web.segments c.args.segments.now c.in_ok-web.ensures.segments c.requires.greedy c.in_ok-found.found.items c.in_order.result.items c.in_ok-found.ensures.left c.in_order.ensures)) c.of.ensures
