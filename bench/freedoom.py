@@ -1,60 +1,19 @@
 #!/usr/bin/env python3
-"""Runs the program over every map of Debian's packages freedoom and freedm, and prints what it says and costs.
+"""Builds and checks every map of Debian's packages freedoom and freedm, and writes a table.
 
-    bench/freedoom.py [--program PATH] [--wads FOLDER] > table
+    bench/freedoom.py [--program PATH] [--wads FOLDER] [--only MAP01,E1M7] > docs/FREEDOOM.md
 
-`zero` is measured on the whole WADs, and its output is compared lump by lump with its input. For `audit` each map is
-first cut out into a WAD of its own, so that a run measures the map and not the 28 MB around it. Where the WADs are
-missing the script says so and ends with 0.
+Each map is cut out into a WAD of its own first, so that a run measures the map and not the 28 MB around it. `zero` is
+measured on the whole WADs, and its output is compared lump by lump with its input. For each pair that the shipped
+REJECT rejects and ours clears, `ray` must accept the ray of our certificate. Where the WADs are missing the script says
+so and ends with 0.
 """
 import argparse
 import os
-import struct
 import sys
 import tempfile
 
-LUMPS = [b"THINGS", b"LINEDEFS", b"SIDEDEFS", b"VERTEXES", b"SEGS", b"SSECTORS", b"NODES", b"SECTORS", b"REJECT", b"BLOCKMAP"]
-NEEDED = [b"LINEDEFS", b"SIDEDEFS", b"VERTEXES", b"SECTORS"]
-
-
-def directory(held):
-    count, at = struct.unpack_from("<II", held, 4)
-    for k in range(count):
-        start, size, name = struct.unpack_from("<II8s", held, at + 16 * k)
-        yield name.split(b"\0")[0].upper(), held[start:start + size]
-
-
-def maps(held):
-    """The name and the lumps of each map, in order."""
-    entries = list(directory(held))
-    for k, (name, _) in enumerate(entries):
-        run = []
-        for entry in entries[k + 1:]:
-            if entry[0] not in LUMPS or entry[0] in [e[0] for e in run]:
-                break
-            run.append(entry)
-        if name not in LUMPS and all(n in [e[0] for e in run] for n in NEEDED):
-            yield name.decode(), run
-
-
-def wad(name, run):
-    """A WAD with this one map."""
-    body, entries, at = b"", b"", 12
-    for lump, content in [(name.encode(), b"")] + run:
-        entries += struct.pack("<II8s", at, len(content), lump)
-        body += content
-        at += len(content)
-    return struct.pack("<4sII", b"PWAD", len(run) + 1, at) + body + entries
-
-
-def run(words):
-    """Status, line and seconds of processor time of one run."""
-    with tempfile.NamedTemporaryFile() as out:
-        child = os.posix_spawn(words[0], words, os.environ, file_actions=[(os.POSIX_SPAWN_DUP2, out.fileno(), 1)])
-        _, status, usage = os.wait4(child, 0)
-        out.seek(0)
-        line = out.read().decode().strip()
-    return os.waitstatus_to_exitcode(status), line, usage.ru_utime + usage.ru_stime
+from wads import FREEDOOM, Run, directory, header, maps, rays, rejects, wad
 
 
 def zeroed(program, folder, path):
@@ -62,44 +21,115 @@ def zeroed(program, folder, path):
     held = open(path, "rb").read()
     name = next(maps(held))[0]
     output = os.path.join(folder, "out.wad")
-    _, line, seconds = run([program, "zero", path, name, output])
+    run = Run([program, "zero", path, name, output])
     before, after = list(directory(held)), list(directory(open(output, "rb").read()))
     changed = [k for k, (old, new) in enumerate(zip(before, after)) if old != new]
     first = [k for k, e in enumerate(before) if e[0] == name.encode()][-1]
     reject = next(k for k in range(first, len(before)) if before[k][0] == b"REJECT")
     kept = len(before) == len(after) and changed in ([], [reject]) and not any(after[reject][1])
-    return [os.path.basename(path), "%.1f" % (len(held) / 1e6), line, "%.2f" % seconds, "yes" if kept else "NO"]
+    return [os.path.basename(path), "%.1f" % (len(held) / 1e6), run.line, "%.2f" % run.seconds, "yes" if kept else "NO"]
+
+
+def refuted(program, source, name, sectors, shipped, cert):
+    """Pairs that the shipped table rejects and ours clears with a ray: how many, and how many rays are accepted."""
+    pairs = accepted = 0
+    for (a, b), ray in rays(cert).items():
+        if rejects(shipped, sectors, a, b) or rejects(shipped, sectors, b, a):
+            pairs += 1
+            accepted += Run([program, "ray", source, name, ray]).status == 0
+    return pairs, accepted
+
+
+def seen_by_shipped(sectors, shipped, table):
+    """Pairs a < b that ours rejects and the shipped table doesn't: sight tests saved."""
+    return sum(
+        1
+        for a in range(sectors)
+        for b in range(a + 1, sectors)
+        if rejects(table, sectors, a, b) and not rejects(shipped, sectors, a, b)
+    )
+
+
+class Row:
+    """What one map shows: built and checked, or refused by the audit."""
+
+    def __init__(self, program, folder, label, name, lumps):
+        source, output, cert = (os.path.join(folder, n) for n in ("in.wad", "out.wad", "cert"))
+        open(source, "wb").write(wad(name, lumps))
+        lumps = dict(lumps)
+        self.label, self.lines, self.sectors = label, len(lumps[b"LINEDEFS"]) // 14, len(lumps[b"SECTORS"]) // 26
+        self.audit = Run([program, "audit", source, name])
+        self.sound = self.audit.status == 0
+        if not self.sound:
+            return
+        self.read = Run([program, "zero", source, name, output])
+        self.build = Run([program, "build", source, name, output, "--cert", cert])
+        self.check = Run([program, "check", output, name, cert])
+        held = open(cert, "rb").read()
+        self.cert = len(held)
+        self.spent = self.sectors - header(held)[3]
+        self.files = len(held) + os.path.getsize(source)
+        table = dict(next(maps(open(output, "rb").read()))[1])[b"REJECT"]
+        shipped = lumps.get(b"REJECT", b"")
+        self.refuted = refuted(program, source, name, self.sectors, shipped, held)
+        self.saved = seen_by_shipped(self.sectors, shipped, table)
+
+    def peak(self):
+        return max(self.build.megabytes, self.check.megabytes)
+
+    def cells(self):
+        said = self.audit.line.split()
+        counts = self.build.line.split()
+        count = lambda word: counts[counts.index(word) + 1]
+        return [
+            self.label, self.lines, said[said.index("points") + 1], self.sectors,
+            "%.2f" % self.read.seconds, "%.2f" % (self.audit.seconds - self.read.seconds),
+            "%.2f" % (self.build.seconds - self.audit.seconds), "%.2f" % self.build.seconds, "%.2f" % self.check.seconds,
+            "%.1f" % (self.cert / 1e6), "%.0f" % self.peak(), "%.1f" % (self.peak() * 1e6 / self.files),
+            count("set"), count("clear"), count("listed"), self.spent,
+            self.check.line.split()[0], "%d of %d" % (self.refuted[1], self.refuted[0]), self.saved,
+        ]
+
+
+HEAD = (
+    "map | lines | points | sectors | read s | audit s | walk s | build s | check s | cert MB | peak MB | peak to files"
+    " | set | clear | listed | spent | check | shipped bits refuted | pairs saved"
+)
+
+
+def print_table(head, rows):
+    print("| " + head + " |\n" + "|---" * (head.count("|") + 1) + "|")
+    for row in rows:
+        print("| " + " | ".join(map(str, row)) + " |")
 
 
 def main():
     words = argparse.ArgumentParser()
     words.add_argument("--program", default="crates/doomsight/out/doomsight")
     words.add_argument("--wads", default="/usr/share/games/doom")
+    words.add_argument("--only", default="")
     words = words.parse_args()
-    wads = [n for n in ("freedoom1.wad", "freedoom2.wad", "freedm.wad") if os.path.exists(os.path.join(words.wads, n))]
+    wads = [n for n in FREEDOOM if os.path.exists(os.path.join(words.wads, n))]
     if not wads:
         print("skipped: the WADs of freedoom and freedm are not there")
         return
-    program = os.path.abspath(words.program)
-    sound, refused, seconds = 0, [], 0.0
+    program, rows = os.path.abspath(words.program), []
     with tempfile.TemporaryDirectory() as folder:
-        print("| WAD | MB | line of zero | seconds | only REJECT changed |\n" + "|---" * 5 + "|")
-        for file in wads:
-            print("| " + " | ".join(zeroed(program, folder, os.path.join(words.wads, file))) + " |")
-        source = os.path.join(folder, "map.wad")
+        print_table("WAD | MB | line of zero | seconds | only REJECT changed",
+                    [zeroed(program, folder, os.path.join(words.wads, file)) for file in wads])
         for file in wads:
             for name, lumps in maps(open(os.path.join(words.wads, file), "rb").read()):
-                open(source, "wb").write(wad(name, lumps))
-                status, line, took = run([program, "audit", source, name])
-                seconds += took
-                if status == 0:
-                    sound += 1
-                else:
-                    refused.append((file[:-4] + " " + name, line))
-    print("\nThe lines of %d maps are sound; %d are refused; %.2f s of processor time in all.\n" % (sound, len(refused), seconds))
-    print("| refused map | why |\n|---|---|")
-    for row in refused:
-        print("| " + " | ".join(row) + " |")
+                if words.only and name not in words.only.split(","):
+                    continue
+                rows.append(Row(program, folder, "%s %s" % (file[:-4], name), name, lumps))
+                print(rows[-1].label, rows[-1].audit.line, file=sys.stderr)
+    sound = [row for row in rows if row.sound]
+    print()
+    print_table(HEAD, [row.cells() for row in sound])
+    seconds = [sum(run.seconds for run in runs) for runs in zip(*[(r.audit, r.build, r.check) for r in sound])]
+    if sound:
+        print("\nSeconds of processor time in all: audit %.1f, build %.1f, check %.1f; %d maps accepted.\n" % (*seconds, len(sound)))
+    print_table("refused map | lines | sectors | why", [[r.label, r.lines, r.sectors, r.audit.line] for r in rows if not r.sound])
 
 
 if __name__ == "__main__":

@@ -1,14 +1,16 @@
--- What the checker's answer says of the mesh and of the rays.
-use Rattle.std.specs.Prelude.{◌≡◌, ◌⊎◌, ℕ, List, Option, Some, None, Contains}
+-- What the checker's answer says of the mesh, of the rays and of the pairs.
+use Rattle.std.specs.Prelude.{◌≡◌, ◌<◌, ◌≤◌, ◌⊎◌, ℕ, List, Option, Some, length}
 use Rattle.sight_names.specs.declared.faults.CheckFault.{CheckFault}
-use Rattle.sight_names.specs.declared.faults.CheckFault.TheVariants.{Mesh, Ray}
-use Rattle.sight_names.specs.declared.names.PairRay.{PairRay}
+use Rattle.sight_names.specs.declared.faults.CheckFault.TheVariants.{Mesh, Ray, Tree, ListedSet, Unproved, Uncovered}
 use Rattle.sight_names.specs.Map.{Map}
 use Rattle.sight_names.specs.Mesh.{IsGoodMesh}
 use Rattle.mesh_shape.specs.Faults.{IsFirstFault}
-use Rattle.sight_ray.specs.RayFault.{IsRayFault}
 use Rattle.cert_format.specs.Parts.{CertParts}
-use Rattle.cert_format.specs.Accepted.{triangles_of, labels_of}
+use Rattle.reject_bits.specs.Parts.{TableParts}
+use Rattle.cert_format.specs.Accepted.{triangles_of, labels_of, EitherSet, EitherClear, IsNamed, IsPairListed, IsProvedSeen}
+use Rattle.cert_checker.specs.Pairs.{KnownParts, AreTotals, pairs_of}
+use Rattle.cert_checker.specs.Named.{MarksNamed}
+use Rattle.cert_checker.specs.Rays.{AreAimedBelow, IsFirstRayFault}
 use Rattle.cert_checker.specs.declared.verdict.Verdict.{Verdict}
 use Rattle.cert_checker.specs.declared.verdict.Verdict.TheVariants.{Yes, No}
 
@@ -17,24 +19,58 @@ abbrev pub JudgesMesh : Map → CertParts → Verdict → Type 0
 JudgesMesh m c (No (Mesh f)) = IsFirstFault m (triangles_of c) (labels_of c) f
 JudgesMesh m c _ = IsGoodMesh m (triangles_of c) (labels_of c)
 
--- some ray of the list is for this pair, and has this fault
-abbrev pub HasRayFault : Map → List PairRay → CheckFault → Type 0
-HasRayFault m rays (Ray a b (Some f)) = (r : PairRay) × Contains rays r × (r.pair ≡ record { a = a; b = b }) × IsRayFault m r.ray f
-HasRayFault m rays (Ray a b None) = (r : PairRay) × Contains rays r × (r.pair ≡ record { a = a; b = b })
-HasRayFault m rays _ = ⊥
-
--- a fault of a ray is told only of a ray of the certificate
+-- a fault of a ray is that of the first one that isn't aimed from sector to sector; with every later answer each ray is
 abbrev pub JudgesRays : Map → CertParts → Verdict → Type 0
-JudgesRays m c (No (Ray a b f)) = HasRayFault m c.rays (Ray a b f)
-JudgesRays m c _ = Unit {0}
+JudgesRays m c (No (Mesh f)) = Unit {0}
+JudgesRays m c (No (Ray a b f)) = IsFirstRayFault m c.rays (Ray a b f)
+JudgesRays m c _ = AreAimedBelow m c.rays (length c.rays)
 
--- a fault of a tree or of a pair
-abbrev pub IsLaterFault : CheckFault → Type 0
-IsLaterFault (Mesh f) = ⊥
-IsLaterFault (Ray a b f) = ⊥
-IsLaterFault _ = Unit {0}
+-- a fault of a ray
+abbrev pub IsRayFaultOf : CheckFault → Type 0
+IsRayFaultOf (Ray a b f) = Unit {0}
+IsRayFaultOf _ = ⊥
 
 -- the answer tells no fault of the mesh
 abbrev pub IsLaterVerdict : Verdict → Type 0
 IsLaterVerdict (No (Mesh f)) = ⊥
 IsLaterVerdict _ = Unit {0}
+
+-- a fault of a tree
+abbrev pub IsTreeFault : CheckFault → Type 0
+IsTreeFault (Tree s n) = Unit {0}
+IsTreeFault _ = ⊥
+
+-- yes, or a fault of a pair
+abbrev pub IsPairVerdict : Verdict → Type 0
+IsPairVerdict (Yes t) = Unit {0}
+IsPairVerdict (No (ListedSet a b)) = Unit {0}
+IsPairVerdict (No (Unproved a b)) = Unit {0}
+IsPairVerdict (No (Uncovered a b)) = Unit {0}
+IsPairVerdict _ = ⊥
+
+-- the judge of pairs goes by the sides of this map, and by the list and the rays of this certificate
+pub record IsAbout (m : Map) (c : CertParts) (k : KnownParts) : Type 0 where
+  pub named : MarksNamed m k.named
+  pub listed : k.listed ≡ c.listed
+  pub rays : k.rays ≡ pairs_of c.rays
+
+-- a listed pair is clear, and a clear one that isn't listed is proved to see; a set bit of a sector with itself is right
+pub record IsPairRight (m : Map) (t : TableParts) (c : CertParts) (a b : ℕ) : Type 0 where
+  pub listed : IsPairListed c a b → ¬ EitherSet t.n t.bytes a b
+  pub named : EitherSet t.n t.bytes a b → a ≡ b → ¬ IsNamed m a
+  pub clear : EitherClear t.n t.bytes a b → ¬ IsPairListed c a b → IsProvedSeen m c a b
+
+-- it is a pair of the map, and all pairs before it are right
+pub record IsReached (m : Map) (t : TableParts) (c : CertParts) (a b : ℕ) : Type 0 where
+  pub order : a ≤ b
+  pub within : b < m.sectors
+  pub row : (e : ℕ) → a ≤ e → e < b → IsPairRight m t c a e
+  pub rows : (d e : ℕ) → d < a → d ≤ e → e < m.sectors → IsPairRight m t c d e
+
+-- with yes each pair is right, and the totals are those of the table and the list; a fault of a pair is one, and the first of its kind
+abbrev pub JudgesPairs : Map → TableParts → CertParts → Verdict → Type 0
+JudgesPairs m t c (Yes totals) = ((a b : ℕ) → a ≤ b → b < m.sectors → IsPairRight m t c a b) × AreTotals t c.listed m.sectors totals
+JudgesPairs m t c (No (ListedSet a b)) = IsReached m t c a b × IsPairListed c a b × EitherSet t.n t.bytes a b
+JudgesPairs m t c (No (Unproved a b)) = IsReached m t c a b × ¬ IsPairListed c a b × EitherSet t.n t.bytes a b × (a ≡ b → IsNamed m a)
+JudgesPairs m t c (No (Uncovered a b)) = IsReached m t c a b × ¬ IsPairListed c a b × EitherClear t.n t.bytes a b × ¬ IsProvedSeen m c a b
+JudgesPairs m t c _ = Unit {0}

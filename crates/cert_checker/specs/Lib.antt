@@ -1,1 +1,4 @@
 pub mod Judged
+pub mod Pairs
+pub mod Named
+pub mod Rays

@@ -1,13 +1,16 @@
 //! The check, in the order of its faults: mesh, rays, trees, pairs.
 
-ghost use Rattle.std.specs.Prelude.{◌≡◌, length, map, IfOk, IfSome, Some};
+ghost use Rattle.std.specs.Prelude.{◌≡◌, length, map, IfOk, IfSome, MatchOption, Some};
 ghost use Rattle.sight_names.specs.Map.{map_of};
 ghost use Rattle.sight_names.specs.Sound.{LinesMeetAtEnds};
 ghost use Rattle.cert_format.specs.declared.cert.Labelled.{Labelled as AtSector};
-ghost use Rattle.cert_checker.specs.Judged.{JudgesMesh, JudgesRays, HasRayFault, IsLaterFault, IsLaterVerdict};
+ghost use Rattle.cert_checker.specs.Named.{MarksNamed, MarksLine, Marks};
+ghost use Rattle.cert_checker.specs.Judged.{JudgesMesh, JudgesRays, JudgesPairs, IsRayFaultOf, IsTreeFault, IsPairVerdict, IsLaterVerdict, IsAbout};
+ghost use Rattle.cert_checker.specs.Pairs.{known_of, IsKnown};
+ghost use Rattle.cert_checker.specs.Rays.{IsAimed, AreAimedBelow, IsFaultOf, IsFirstRayFault};
 ghost use Rattle.cert_format.specs.Accepted.{triangles_of, labels_of};
 
-use crate::pairs::{Cursor, Known, judge_pairs};
+use crate::pairs::{Known, judge_pairs};
 use crate::rays::joined;
 use crate::roots::Roots;
 use crate::trees::{Frame, Ground, first_wrong, path_of};
@@ -17,7 +20,7 @@ use block_evidence::Tree;
 use cert_format::{Cert, Labelled};
 use mesh_shape::{Labels, Mesh, mesh_fault};
 use reject_bits::Table;
-use sight_names::{CheckFault, Memory, PairRay, Plan, Triangle};
+use sight_names::{CheckFault, Line, Memory, PairRay, Plan, Triangle};
 use std::alloc::Global;
 use tri_sectors::components;
 
@@ -44,45 +47,67 @@ fn sectors_of(alloc: Global, labelled: &[Labelled]) -> Result<Vec<Option<u16>>, 
 }
 
 /// Whether some side of a line names the sector, for each sector.
-fn named_of(alloc: Global, plan: &Plan) -> Result<Vec<bool>, Memory> {
+fn named_of(alloc: Global, plan: &Plan) -> Result<Vec<bool>, Memory>
+    ensures { IfOk result (λ v. MarksNamed (map_of plan.now) v.items) }
+{
     let mut named = vec![in alloc; false; plan.sectors as usize]?;
     for entry in plan.lines() {
-        if let Some(line) = entry {
-            mark(named.as_mut_slice(), line.right);
-            mark(named.as_mut_slice(), line.left);
-        }
+        mark_sides(&mut named, *entry);
     }
     Ok(named)
 }
 
+/// Marks the sectors that the line's sides name.
+fn mark_sides(flags: &mut [bool], entry: Option<Line>)
+    ensures { MarksLine entry flags.old flags.new }
+{
+    if let Some(line) = entry {
+        mark(flags, line.right);
+        mark(flags, line.left);
+    }
+}
+
 /// Marks the sector, if there is one.
-fn mark(flags: &mut [bool], sector: Option<u16>) {
+fn mark(flags: &mut [bool], sector: Option<u16>)
+    ensures { Marks sector flags.old flags.new }
+{
     if let Some(sector) = sector {
-        if let Some(flag) = flags.get_mut(sector as usize) {
-            *flag = true;
+        if (sector as usize) < flags.len() {
+            flags[sector as usize] = true;
         }
+    }
+}
+
+/// Why a ray is no sight ray between the sectors of its pair.
+fn fault_of_ray(plan: &Plan, mesh: &Mesh, web: &Web, one: &PairRay) -> Option<CheckFault>
+    ensures kind { IfSome result IsRayFaultOf }
+    ensures fault { MatchOption result (IsAimed (map_of plan.now) one.now.ray one.now.pair.a one.now.pair.b) (IsFaultOf (map_of plan.now) one.now) }
+{
+    let (a, b) = (one.pair.a, one.pair.b);
+    match joined(plan, mesh, web, &one.ray) {
+        Ok((from, to)) => {
+            if from == a && to == b {
+                None
+            } else {
+                Some(CheckFault::Ray { a, b, why: None })
+            }
+        }
+        Err(why) => Some(CheckFault::Ray {
+            a,
+            b,
+            why: Some(why),
+        }),
     }
 }
 
 /// The first ray that is no sight ray between its sectors.
 fn ray_fault(plan: &Plan, mesh: &Mesh, web: &Web, rays: &[PairRay]) -> Option<CheckFault>
-    ensures { IfSome result (HasRayFault (map_of plan.now) rays.now) }
+    ensures kind { IfSome result IsRayFaultOf }
+    ensures fault { MatchOption result (AreAimedBelow (map_of plan.now) rays.now (length rays.now)) (IsFirstRayFault (map_of plan.now) rays.now) }
 {
     for one in rays {
-        let (a, b) = (one.pair.a, one.pair.b);
-        match joined(plan, mesh, web, &one.ray) {
-            Ok(sectors) => {
-                if sectors != (a, b) {
-                    return Some(CheckFault::Ray { a, b, why: None });
-                }
-            }
-            Err(why) => {
-                return Some(CheckFault::Ray {
-                    a,
-                    b,
-                    why: Some(why),
-                });
-            }
+        if let Some(fault) = fault_of_ray(plan, mesh, web, one) {
+            return Some(fault);
         }
     }
     None
@@ -96,7 +121,8 @@ fn tree_fault(
     reached: &mut Table,
     trees: &[Tree],
 ) -> Option<CheckFault>
-    ensures { IfSome result IsLaterFault }
+    ensures tree { IfSome result IsTreeFault }
+    ensures sectors { reached.new.n ≡ reached.old.n }
 {
     for tree in trees {
         if let Some(node) = first_wrong(ground, path, reached, tree) {
@@ -136,7 +162,10 @@ struct Store {
 }
 
 /// Takes all memory of the check but that of the mesh.
-fn store_of(alloc: Global, plan: &Plan, cert: &Cert, mesh: &Mesh) -> Result<Store, Memory> {
+fn store_of(alloc: Global, plan: &Plan, cert: &Cert, mesh: &Mesh) -> Result<Store, Memory>
+    ensures reached { IfOk result (λ s. s.reached.n ≡ plan.now.sectors) }
+    ensures named { IfOk result (λ s. MarksNamed (map_of plan.now) s.named.items) }
+{
     let path = path_of(alloc, cert.trees())?;
     let walked = vec![in alloc; false; plan.sectors as usize]?;
     let reached = Table::clear(alloc, plan.sectors)?;
@@ -155,10 +184,29 @@ fn store_of(alloc: Global, plan: &Plan, cert: &Cert, mesh: &Mesh) -> Result<Stor
     })
 }
 
+/// Judges the pairs, by what is known.
+fn judge_each_pair(plan: &Plan, cert: &Cert, known: Known<'_>) -> Verdict
+    requires table { known.table.now.n ≡ plan.now.sectors }
+    requires known { IsKnown (known_of known) plan.now.sectors }
+    requires about { IsAbout (map_of plan.now) cert.now (known_of known) }
+    ensures kind { IsPairVerdict result }
+    ensures pairs { JudgesPairs (map_of plan.now) known.entry.table.now cert.now result }
+{
+    match judge_pairs(known, plan.sectors) {
+        Ok(totals) => Verdict::Yes(totals),
+        Err(fault) => Verdict::No(fault),
+    }
+}
+
 /// Judges rays, trees and pairs, on a good mesh.
 fn judge_rest(plan: &Plan, table: &Table, cert: &Cert, mesh: &Mesh, store: Store) -> Verdict
+    requires table { table.now.n ≡ plan.now.sectors }
+    requires reached { store.reached.n ≡ plan.now.sectors }
+    requires named { MarksNamed (map_of plan.now) store.named.items }
+    requires sectors { cert.now.sizes.sectors ≡ plan.now.sectors }
     ensures later { IsLaterVerdict result }
     ensures rays { JudgesRays (map_of plan.now) cert.now result }
+    ensures pairs { JudgesPairs (map_of plan.now) table.now cert.now result }
 {
     let Store {
         mut path,
@@ -193,15 +241,10 @@ fn judge_rest(plan: &Plan, table: &Table, cert: &Cert, mesh: &Mesh, store: Store
         components: components.as_slice(),
         walked: walked.as_slice(),
         reached: &reached,
-    };
-    let mut cursor = Cursor {
         listed: cert.listed(),
         rays: cert.rays(),
     };
-    match judge_pairs(plan, known, &mut cursor) {
-        Ok(totals) => Verdict::Yes(totals),
-        Err(fault) => Verdict::No(fault),
-    }
+    judge_each_pair(plan, cert, known)
 }
 
 /// Judges the table by the certificate: yes with the totals, or the first fault in order.
@@ -213,6 +256,7 @@ pub fn check(alloc: Global, plan: &Plan, table: &Table, cert: &Cert) -> Result<V
     requires lines { cert.now.sizes.lines ≡ length plan.now.lines }
     ensures mesh { IfOk result (JudgesMesh (map_of plan.now) cert.now) }
     ensures rays { IfOk result (JudgesRays (map_of plan.now) cert.now) }
+    ensures pairs { IfOk result (JudgesPairs (map_of plan.now) table.now cert.now) }
 {
     let (mesh, labels) = mesh_of(alloc, plan, cert)?;
     let store = store_of(alloc, plan, cert, &mesh)?;

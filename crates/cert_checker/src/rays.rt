@@ -1,27 +1,42 @@
 //! Rays judged by a walk along them through the mesh, and where that gives up by the plain test.
 
-ghost use Rattle.std.specs.Prelude.{IfErr};
+ghost use Rattle.std.specs.Prelude.{◌≡◌, Some, true, false, IsTrue, IfSome, MatchResult, if◌then◌else◌};
 ghost use Rattle.sight_names.specs.Map.{map_of};
 ghost use Rattle.sight_names.specs.Ray.{IsInRange};
-ghost use Rattle.sight_ray.specs.RayFault.{IsRayFault};
+ghost use Rattle.sight_ray.specs.RayFault.{Splits, IsRayFault};
+ghost use Rattle.cert_checker.specs.Rays.{IsOnLeft, IsOnRight, IsThrough, IsAimed};
 
 use crate::web::Web;
 use geom_exact::{in_range, side_of};
 use mesh_shape::Mesh;
-use sight_names::{Line, Plan, Pt, Ray, RayFault};
+use sight_names::{Line, Plan, Ray, RayFault, Side};
 use sight_ray::check_ray;
 
 /// Whether the point with this number is strictly on the ray's left, or strictly on its right; None on the ray itself.
+#[tactic(auto, unfolding(geom_exact::specs::Formulas::side_value))]
 fn is_left(plan: &Plan, ray: &Ray, number: u16) -> Option<bool>
     requires { IsInRange ray.now }
+    ensures left { result ≡ Some true → IsOnLeft plan.now.points ray.now number }
+    ensures right { result ≡ Some false → IsOnRight plan.now.points ray.now number }
 {
-    let at: Pt = *plan.points().get(number as usize)?;
-    let value = side_of(ray, at);
-    if value == 0 { None } else { Some(value > 0) }
+    if (number as usize) >= plan.points().len() {
+        return None;
+    }
+    let value = side_of(ray, plan.point(number));
+    if value > 0 {
+        Some(true)
+    } else if value < 0 {
+        Some(false)
+    } else {
+        None
+    }
 }
 
 /// The ends of the portal that the ray goes through at the line: the left one and the right one.
-fn portal_of(line: Line, forward: bool) -> (u16, u16) {
+fn portal_of(line: Line, forward: bool) -> (u16, u16)
+    ensures left { result.0 ≡ (if forward then line.a else line.b) }
+    ensures right { result.1 ≡ (if forward then line.b else line.a) }
+{
     if forward {
         (line.a, line.b)
     } else {
@@ -32,8 +47,24 @@ fn portal_of(line: Line, forward: bool) -> (u16, u16) {
 /// Whether the ray parts the ends, the first of which is to be on its left.
 fn parts(plan: &Plan, ray: &Ray, left: u16, right: u16) -> bool
     requires { IsInRange ray.now }
+    ensures { IsTrue result → IsOnLeft plan.now.points ray.now left × IsOnRight plan.now.points ray.now right }
 {
     is_left(plan, ray, left) == Some(true) && is_left(plan, ray, right) == Some(false)
+}
+
+/// The left and the right end of the side's line, if the ray parts them so: with `forward` the first end is on its
+/// left.
+fn gate(plan: &Plan, ray: &Ray, side: Side, forward: bool) -> Option<(u16, u16)>
+    requires { IsInRange ray.now }
+    ensures { IfSome result (λ g. Splits (map_of plan.now) ray.now side forward) }
+{
+    let line = plan.line(side.line)?;
+    let (left, right) = portal_of(line, forward);
+    if parts(plan, ray, left, right) {
+        Some((left, right))
+    } else {
+        None
+    }
 }
 
 /// Follows the ray from the entry on until it goes through the edge with these ends.
@@ -62,18 +93,18 @@ fn follow(plan: &Plan, web: &Web, ray: &Ray, start: u16, left: u16, right: u16) 
 }
 
 /// Whether the ray goes from the first side to the last one through triangles and passable edges alone.
-fn passes(plan: &Plan, mesh: &Mesh, web: &Web, ray: &Ray) -> bool {
+fn passes(plan: &Plan, mesh: &Mesh, web: &Web, ray: &Ray) -> bool
+    ensures { IsTrue result → IsThrough (map_of plan.now) ray.now }
+{
     if !in_range(ray) {
         return false;
     }
-    let (Some(first), Some(last)) = (plan.line(ray.first.line), plan.line(ray.last.line)) else {
+    let Some((left, right)) = gate(plan, ray, ray.first, !ray.first.left) else {
         return false;
     };
-    let (left, right) = portal_of(first, !ray.first.left);
-    let (end_left, end_right) = portal_of(last, ray.last.left);
-    if !parts(plan, ray, left, right) || !parts(plan, ray, end_left, end_right) {
+    let Some((end_left, end_right)) = gate(plan, ray, ray.last, ray.last.left) else {
         return false;
-    }
+    };
     match web.way_through(mesh, left, right) {
         Some(start) => follow(plan, web, ray, start, end_left, end_right),
         None => false,
@@ -82,7 +113,7 @@ fn passes(plan: &Plan, mesh: &Mesh, web: &Web, ray: &Ray) -> bool {
 
 /// The sectors that the ray joins, or why it is no sight ray.
 pub fn joined(plan: &Plan, mesh: &Mesh, web: &Web, ray: &Ray) -> Result<(u16, u16), RayFault>
-    ensures { IfErr result (IsRayFault (map_of plan.now) ray.now) }
+    ensures { MatchResult result (λ s. IsAimed (map_of plan.now) ray.now s.0 s.1) (IsRayFault (map_of plan.now) ray.now) }
 {
     let sectors = (plan.sector_at(ray.first), plan.sector_at(ray.last));
     if let (Some(from), Some(to)) = sectors {

@@ -153,7 +153,9 @@ fn enter(
 }
 
 /// Notes that the source reaches the sector behind the entry.
-fn note(web: &Web, reached: &mut Table, source: u16, place: u16) {
+fn note(web: &Web, reached: &mut Table, source: u16, place: u16)
+    ensures { reached.new.n ≡ reached.old.n }
+{
     if let Some(entry) = web.entry(place) {
         let count = reached.sectors();
         if source < count && entry.sector < count {
@@ -169,7 +171,9 @@ pub fn first_wrong(
     path: &mut [Frame],
     reached: &mut Table,
     tree: &Tree,
-) -> Option<u64> {
+) -> Option<u64>
+    ensures { reached.new.n ≡ reached.old.n }
+{
     let nodes = tree.nodes.as_slice();
     let mut follow = Follow {
         depth: 0,

@@ -1,3 +1,4 @@
 pub mod Weights
 pub mod Steps
 pub mod EdgeEnds
+pub mod SideLines

@@ -3,6 +3,7 @@ use Rattle.std.proofs.Common.{◌≡◌, ℕ, ◌+◌, ◌-◌, ◌*◌, ◌^◌
 use Rattle.std.proofs.lemmas.Nat.{mul-lt}
 use Rattle.sight_names.specs.declared.names.Side.{Side}
 use Rattle.sight_names.specs.Mesh.{label_of}
+use Rattle.sight_names.specs.Plan.{PlanParts}
 use Rattle.block_evidence.specs.declared.Node.{Node}
 use Rattle.block_evidence.specs.declared.Node.TheVariants.{Open as OpenNode, Blocked as BlockedNode}
 use Rattle.mesh_shape.specs.Shape.{MeshParts}
@@ -11,6 +12,7 @@ use Rattle.portal_walk.specs.declared.roots.Root.{Root}
 use Rattle.portal_walk.specs.declared.step.Step.{Step}
 use Rattle.portal_walk.specs.declared.step.Step.TheVariants.{Open, Blocked, End}
 use Rattle.portal_walk.specs.Frames.{frames_weight, ways_left, top_ways}
+use Rattle.portal_walk.specs.Sides.{ArrivesAt}
 use Rattle.portal_walk.specs.Walk.{WalkParts, SameWalk, SamePlace, EntersPortal, Grows, Rests, Answers, Takes, Tries, IsOutside, depth, remaining, tries_left}
 use Rattle.portal_walk.proofs.Weights.{three_pos, way_skips, way_enters, root_enters, done_leaves, top_of, top_set, top_most, there}
 
@@ -74,6 +76,7 @@ module _ (old mid new : WalkParts) (f g : Frame) (first : SameWalk old mid) (the
     },
     h.4,
     h.5,
+    h.6,
   )
 
 -- ---- by a root
@@ -120,6 +123,7 @@ module _ (old mid new : WalkParts) (from : Side) (first : SameWalk old mid) (the
     },
     h.4,
     h.5,
+    h.6,
   )
 
 -- ---- back from a portal whose ways are done
@@ -152,10 +156,13 @@ after old mid new n h k = record { nodes = k.nodes ∙ ap (λ (ns : List Node). 
 outside_same : (old mid : WalkParts) (t : ℕ) → SameWalk old mid → IsOutside mid t → IsOutside old t
 outside_same old mid t w h = (subst (λ (m : MeshParts). t < length m.triangles) w.mesh h.0, λ e. h.1 (ap (λ (ls : List (Option ℕ)). label_of ls t) w.labels ∙ e ∙ ap Some (sym w.source)))
 
+arrives_same : (old mid : WalkParts) (t : ℕ) (entered : Option Side) → SameWalk old mid → ArrivesAt mid.plan mid.labels t entered → ArrivesAt old.plan old.labels t entered
+arrives_same old mid t entered w h = subst (λ (p : PlanParts). ArrivesAt p old.labels t entered) w.plan (subst (λ (ls : List (Option ℕ)). ArrivesAt mid.plan ls t entered) w.labels h)
+
 pub takes_after : (old mid new : WalkParts) (s : Step) → SameWalk old mid → Rests old mid → Takes mid new s → Takes old new s
 takes_after old mid new End w h k = record { nodes = k.nodes ∙ h.nodes; root = k.root; none = k.none }
 takes_after old mid new (Blocked e) w h k = after old mid new (BlockedNode e) h k
-takes_after old mid new (Open t entered a b c) w h k = (after old mid new OpenNode h k.0, outside_same old mid t w k.1, k.2)
+takes_after old mid new (Open t entered a b c) w h k = (after old mid new OpenNode h k.0, outside_same old mid t w k.1, k.2, arrives_same old mid t entered w k.3)
 
 pub no_way : (old mid new : WalkParts) (s : Step) → remaining old ≡ 0 → Rests old mid → Takes mid new s → s ≡ End
 no_way old mid new End e h k = refl

@@ -1,2 +1,4 @@
 pub mod Frames
+pub mod Nodes
+pub mod Sides
 pub mod Walk

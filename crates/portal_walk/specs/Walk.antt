@@ -1,9 +1,11 @@
 -- A walk through the sequences of a source, and its steps.
-use Rattle.std.specs.Prelude.{◌≡◌, ◌≢◌, ℕ, ◌+◌, ◌*◌, ◌^◌, ◌<◌, ◌≤◌, List, [], ◌∷◌, ◌++◌, Option, Some, None, Result, Ok, Err, length, IsSome}
+use Rattle.std.specs.Prelude.{◌≡◌, ◌≢◌, ℕ, ◌+◌, ◌*◌, ◌^◌, ◌<◌, ◌≤◌, List, [], ◌∷◌, ◌++◌, Option, Some, None, Result, Ok, Err, length, IsSome, IfSome, All}
 use Rattle.sight_names.specs.declared.names.Memory.{Memory}
 use Rattle.sight_names.specs.declared.names.Side.{Side}
 use Rattle.sight_names.specs.Plan.{PlanParts}
-use Rattle.sight_names.specs.Mesh.{label_of}
+use Rattle.sight_names.specs.Map.{map_of}
+use Rattle.sight_names.specs.Mesh.{label_of, IsGoodMesh}
+use Rattle.sight_names.specs.Sound.{LinesMeetAtEnds}
 use Rattle.mesh_shape.specs.Shape.{MeshParts}
 use Rattle.block_evidence.specs.declared.Node.{Node}
 use Rattle.block_evidence.specs.declared.Node.TheVariants.{Open as OpenNode, Blocked as BlockedNode}
@@ -13,6 +15,8 @@ use Rattle.portal_walk.specs.declared.roots.Root.{Root}
 use Rattle.portal_walk.specs.declared.step.Step.{Step}
 use Rattle.portal_walk.specs.declared.step.Step.TheVariants.{Open, Blocked, End}
 use Rattle.portal_walk.specs.Frames.{frames_weight, top_ways, ways_left}
+use Rattle.portal_walk.specs.Nodes.{IsAnswered}
+use Rattle.portal_walk.specs.Sides.{IsExit, IsRootOf, ArrivesAt}
 
 -- A walk over a plan, a mesh and its labels: the roots that are left, the last one first; the present root; the path;
 -- and the nodes that were answered.
@@ -31,11 +35,17 @@ abbrev pub depth : WalkParts → ℕ
 depth w = 3 * length w.mesh.triangles + 1
 
 pub record IsWalk (w : WalkParts) : Type 0 where
+  pub audited : LinesMeetAtEnds (map_of w.plan)
   pub points : w.mesh.points ≡ length w.plan.points
+  pub good : IsGoodMesh (map_of w.plan) w.mesh.triangles w.labels
+  pub in_plan : w.source < w.plan.sectors
   pub one_each : length w.labels ≡ length w.mesh.triangles
   pub short : length w.frames ≤ depth w
   -- whoever is under way came in by a root
   pub rooted : 0 < length w.frames → IsSome w.root
+  pub exits : All (IsRootOf w.plan w.source) w.roots
+  pub exit : IfSome w.root (IsExit w.plan w.source)
+  pub answered : All IsAnswered w.nodes
 
 -- A bound on the sequences that may still come. It is 0 at the end.
 abbrev pub remaining : WalkParts → ℕ
@@ -74,7 +84,7 @@ EntersPortal old new root (Err e) = SamePlace old new × (new.nodes ≡ old.node
 EntersPortal old new root (Ok None) = SamePlace old new × (new.nodes ≡ old.nodes)
 EntersPortal old new root (Ok (Some End)) = ⊥
 EntersPortal old new root (Ok (Some (Blocked e))) = (new.frames ≡ old.frames) × (new.roots ≡ old.roots) × (new.root ≡ root) × (new.nodes ≡ old.nodes ++ BlockedNode e ∷ [])
-EntersPortal old new root (Ok (Some (Open k entered a b c))) = Grows old new × (new.roots ≡ old.roots) × (new.root ≡ root) × (new.nodes ≡ old.nodes ++ OpenNode ∷ []) × IsOutside old k × IsLineInRange a b c
+EntersPortal old new root (Ok (Some (Open k entered a b c))) = Grows old new × (new.roots ≡ old.roots) × (new.root ≡ root) × (new.nodes ≡ old.nodes ++ OpenNode ∷ []) × IsOutside old k × IsLineInRange a b c × ArrivesAt old.plan old.labels k entered
 
 -- ---- steps
 
@@ -99,7 +109,7 @@ pub record Ends (old new : WalkParts) : Type 0 where
 abbrev pub Takes : WalkParts → WalkParts → Step → Type 0
 Takes old new End = Ends old new
 Takes old new (Blocked e) = Answers old new (BlockedNode e)
-Takes old new (Open k entered a b c) = Answers old new OpenNode × IsOutside old k × IsLineInRange a b c
+Takes old new (Open k entered a b c) = Answers old new OpenNode × IsOutside old k × IsLineInRange a b c × ArrivesAt old.plan old.labels k entered
 
 -- one try: a step, or a way or a root that leads nowhere
 abbrev pub Tries : WalkParts → WalkParts → Result (Option Step) Memory → Type 0

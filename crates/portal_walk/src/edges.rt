@@ -1,6 +1,7 @@
 //! The lines of a map by their ends.
 
-ghost use Rattle.std.specs.Prelude.{◌≡◌, ℕ, ◌+◌, ◌≤◌, ◌<◌, slice_index, vec_len, OnOk};
+ghost use Rattle.std.specs.Prelude.{◌≡◌, ℕ, ◌+◌, ◌≤◌, ◌<◌, slice_index, vec_len, OnOk, IfNone, IfSome, ◌≢◌, Bool};
+ghost use Rattle.portal_walk.specs.Sides.{IsEdgeKind, edge_at};
 
 use sight_names::{Line, Memory, Plan, Side};
 use std::alloc::Global;
@@ -29,6 +30,28 @@ pub struct LineIndex {
 fn least_end(line: Option<Line>) -> Option<u16> {
     let line = line?;
     Some(line.a.min(line.b))
+}
+
+/// The side of the line with this record number at which a triangle with the directed edge from `from` to `to` lies,
+/// where the line is this edge.
+fn side_at(k: u16, line: Line, from: u16, to: u16) -> Option<Side>
+    ensures line { IfSome result (λ side. side.line ≡ k) }
+    ensures edge { IfSome result (λ side. edge_at line side.left ≡ record { from = from; to = to }) }
+    ensures none { IfNone result ((left : Bool) → edge_at line left ≢ record { from = from; to = to }) }
+{
+    if line.a == from && line.b == to {
+        Some(Side {
+            line: k,
+            left: true,
+        })
+    } else if line.a == to && line.b == from {
+        Some(Side {
+            line: k,
+            left: false,
+        })
+    } else {
+        None
+    }
 }
 
 impl LineIndex {
@@ -61,17 +84,18 @@ impl LineIndex {
     }
 
     /// The line that the edge from `from` to `to` is.
-    pub fn edge(&self, plan: &Plan, from: u16, to: u16) -> Edge {
+    pub fn edge(&self, plan: &Plan, from: u16, to: u16) -> Edge
+        ensures { IsEdgeKind plan.now (record { from = from; to = to }) result }
+    {
+        let lines = plan.lines();
         let mut at = match self.first.get(from.min(to) as usize) {
             Some(at) => *at,
             None => 0,
         };
         while at != 0 {
             let k = at - 1;
-            if let Some(line) = plan.line(k) {
-                let left = line.a == from && line.b == to;
-                if left || line.a == to && line.b == from {
-                    let side = Side { line: k, left };
+            if let Some(Some(line)) = lines.get(k as usize) {
+                if let Some(side) = side_at(k, *line, from, to) {
                     return if line.solid {
                         Edge::Solid
                     } else {

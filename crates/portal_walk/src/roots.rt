@@ -1,6 +1,10 @@
 //! Where a walk leaves its source.
 
-use sight_names::{Line, Memory, Plan, Side};
+ghost use Rattle.std.specs.Prelude.{◌<◌, length, All, IfOk, IfSome};
+ghost use Rattle.sight_names.specs.Plan.{IsPlan};
+ghost use Rattle.portal_walk.specs.Sides.{IsRootOf};
+
+use sight_names::{Memory, Plan, Side};
 use std::alloc::Global;
 
 /// A side that names the source, of a passable line whose other side doesn't, and the line's portal, walked out of the
@@ -13,10 +17,12 @@ pub struct Root {
 }
 
 /// The roots of a source, the last one first.
-pub fn roots_of(alloc: Global, plan: &Plan, source: u16) -> Result<Vec<Root>, Memory> {
+pub fn roots_of(alloc: Global, plan: &Plan, source: u16) -> Result<Vec<Root>, Memory>
+    ensures { IfOk result (λ roots. All (IsRootOf plan.now source) roots.items) }
+{
     let mut roots = Vec::new(alloc);
-    for (k, line) in plan.lines().iter().enumerate() {
-        if let Some(root) = root_at(k as u16, *line, source) {
+    for k in 0..plan.lines().len() {
+        if let Some(root) = root_at(plan, k as u16, source) {
             roots.push(root)?;
         }
     }
@@ -25,8 +31,11 @@ pub fn roots_of(alloc: Global, plan: &Plan, source: u16) -> Result<Vec<Root>, Me
 }
 
 /// The root at a line, where one of its sides names the source and the other doesn't.
-fn root_at(k: u16, line: Option<Line>, source: u16) -> Option<Root> {
-    let line = line?;
+fn root_at(plan: &Plan, k: u16, source: u16) -> Option<Root>
+    requires plan { IsPlan plan.now }
+    ensures { IfSome result (λ root. IsRootOf plan.now source root) }
+{
+    let line = plan.line(k)?;
     let right = line.right == Some(source);
     let left = line.left == Some(source);
     if line.solid || right == left {

@@ -1,6 +1,6 @@
 //! The walk through the sequences of a source.
 
-ghost use Rattle.std.specs.Prelude.{◌≡◌, ◌+◌, ◌-◌, ◌<◌, None, Some, Ok, slice_get, ◌↔◌, IsTrue, IsSome, IfOk, OnErr, length, []};
+ghost use Rattle.std.specs.Prelude.{◌≡◌, ◌+◌, ◌-◌, ◌<◌, None, Some, Ok, slice_get, ◌↔◌, IsTrue, IsSome, IfOk, OnErr, length, [], All, IfSome};
 ghost use Rattle.sight_names.specs.Map.{map_of};
 ghost use Rattle.sight_names.specs.Mesh.{IsGoodMesh, label_of};
 ghost use Rattle.sight_names.specs.Sound.{LinesMeetAtEnds};
@@ -64,6 +64,8 @@ fn is_labelled(labels: &Labels, triangle: u16, sector: u16) -> bool
 
 impl<'a> Walker<'a> {
     ghost use Rattle.portal_walk.specs.Frames.{ways_left};
+    ghost use Rattle.portal_walk.specs.Nodes.{IsAnswered};
+    ghost use Rattle.portal_walk.specs.Sides.{IsExit};
     ghost use Rattle.portal_walk.specs.Walk.{EntersPortal, Tries, Takes, Rests, SameWalk, remaining};
 
     /// A walk at its beginning.
@@ -119,7 +121,8 @@ impl<'a> Walker<'a> {
 
     /// The side of the present root that names the source; None before the first step and after the end.
     pub fn root(&self) -> Option<Side>
-        ensures { result ≡ self.now.root }
+        ensures root { result ≡ self.now.root }
+        ensures exit { IfSome result (λ side. IsExit self.now.plan self.now.source side) }
     {
         self.root
     }
@@ -129,6 +132,7 @@ impl<'a> Walker<'a> {
         requires { remaining self ≡ 0 }
         ensures source { result.source ≡ self.entry.source }
         ensures nodes { result.nodes ≡ self.entry.nodes }
+        ensures answered { All IsAnswered result.nodes }
     {
         Tree {
             source: self.source,
@@ -198,7 +202,8 @@ impl<'a> Walker<'a> {
 
     /// Enters by one portal, having left the source by this root, unless it is a wall or leads to the source.
     fn enter(&mut self, root: Option<Side>, left: u16, right: u16) -> Result<Option<Step>, Memory>
-        requires { IsSome root }
+        requires there { IsSome root }
+        requires exit { IfSome root (λ side. IsExit self.old.plan self.old.source side) }
         ensures walk { SameWalk self.old self.new }
         ensures enters { EntersPortal self.old self.new root result }
     {

@@ -1,1 +1,3 @@
 pub mod LabelledLaws
+pub mod BuildLaws
+pub mod VerdictLaws

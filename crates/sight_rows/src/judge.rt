@@ -1,11 +1,13 @@
 //! The orders `ray` and `audit`.
 
-use crate::maps::{CROSSED, DOORS33, LINE3, OVERLAPPED, PAIR, SHUT_PAIR, SQUARE, TOUCHED, U, WIDE};
-use crate::rows::{Case, Output, SOUND, first_wrong};
-use crate::wads::{Made, RowLine};
 use sight_names::{LineFault, RayFault, Side};
 use sight_run::{Flaw, Status, Why};
 use std::test::Fail;
+use worked_maps::maps::{
+    CROSSED, DOORS33, LINE3, OVERLAPPED, PAIR, SHUT_PAIR, SQUARE, TOUCHED, U, WIDE,
+};
+use worked_maps::rows::{Case, Output, SOUND, first_wrong};
+use worked_maps::wads::{Made, RowLine};
 
 fn judged(
     words: &'static str,
@@ -16,6 +18,7 @@ fn judged(
 ) -> Case {
     Case {
         file: Made::Map(lines, sectors, &[]),
+        cert: None,
         words,
         failing: SOUND,
         status,

@@ -1,11 +1,11 @@
 //! The order `zero`: what it writes, what it refuses, and what stands where something fails.
 
-use crate::maps::{FLAT, SQUARE};
-use crate::rows::{Case, Failing, Output, SOUND, first_accepted_prefix, first_wrong};
-use crate::wads::{Made, bytes_of};
 use sight_names::{Lump, LumpFault, MapFault, WadFault};
 use sight_run::{Bound, Role, Status, code};
 use std::test::Fail;
+use worked_maps::maps::{FLAT, SQUARE};
+use worked_maps::rows::{Case, Failing, Output, SOUND, first_accepted_prefix, first_wrong};
+use worked_maps::wads::{Made, bytes_of};
 
 const ZERO: &str = "zero a MAP01 b";
 
@@ -18,6 +18,7 @@ const CLEAR: Made = Made::Map(&SQUARE, 1, &[0]);
 fn written(words: &'static str, file: Made, output: Made) -> Case {
     Case {
         file,
+        cert: None,
         words,
         failing: SOUND,
         status: Status::Done,
@@ -29,6 +30,7 @@ fn written(words: &'static str, file: Made, output: Made) -> Case {
 fn refused(words: &'static str, file: Made, status: Status, text: &'static str) -> Case {
     Case {
         file,
+        cert: None,
         words,
         failing: SOUND,
         status,
@@ -40,6 +42,7 @@ fn refused(words: &'static str, file: Made, status: Status, text: &'static str) 
 fn failed(failing: Failing, status: Status, text: &'static str, output: Output) -> Case {
     Case {
         file: EMPTY,
+        cert: None,
         words: ZERO,
         failing,
         status,
@@ -111,13 +114,13 @@ fn no_wad_cases() -> [Case; 7] {
         ),
         refused(
             ZERO,
-            Made::Patched(&SQUARE, 1, 298, b"\xe8\x03"),
+            Made::Patched(&SQUARE, 1, &[], 298, b"\xe8\x03"),
             Status::NotWad(WadFault::LumpOutside { entry: 4 }),
             "refused: not a wad: lump outside 4\n",
         ),
         refused(
             "zero a MAP02 b",
-            Made::Patched(&SQUARE, 1, 298, b"\xe8\x03"),
+            Made::Patched(&SQUARE, 1, &[], 298, b"\xe8\x03"),
             Status::NotWad(WadFault::LumpOutside { entry: 4 }),
             "refused: not a wad: lump outside 4\n",
         ),
@@ -169,19 +172,19 @@ fn no_map_cases() -> [Case; 12] {
         ),
         refused(
             ZERO,
-            Made::Patched(&SQUARE, 1, 14, b"\x09"),
+            Made::Patched(&SQUARE, 1, &[], 14, b"\x09"),
             Status::BadLump(LumpFault::BadVertex { line: 0 }),
             "refused: bad lump: vertex of line 0\n",
         ),
         refused(
             ZERO,
-            Made::Patched(&SQUARE, 1, 64, b"\x04"),
+            Made::Patched(&SQUARE, 1, &[], 64, b"\x04"),
             Status::BadLump(LumpFault::BadSide { line: 3 }),
             "refused: bad lump: side of line 3\n",
         ),
         refused(
             ZERO,
-            Made::Patched(&SQUARE, 1, 156, b"\x01"),
+            Made::Patched(&SQUARE, 1, &[], 156, b"\x01"),
             Status::BadLump(LumpFault::BadSector { side: 2 }),
             "refused: bad lump: sector of side 2\n",
         ),

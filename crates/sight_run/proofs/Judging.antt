@@ -3,7 +3,7 @@ use Rattle.std.proofs.Common.{◌≡◌, ◌↔◌, ℕ, List, [], ◌∷◌, Re
 use Rattle.std.specs.Fmt.{decimal}
 use Rattle.std.specs.Prelude.{IfOk}
 use Rattle.sight_names.specs.Points.{lines_of, points_of}
-use Rattle.std.specs.Prelude.{IsOk}
+use Rattle.std.specs.Prelude.{IsOk, ⊤}
 use Rattle.sight_names.specs.declared.names.Ray.{Ray}
 use Rattle.sight_names.specs.declared.faults.RayFault.{RayFault}
 use Rattle.sight_names.specs.declared.faults.LineFault.{LineFault}
@@ -16,8 +16,8 @@ use Rattle.sight_run.specs.declared.status.Flaw.TheVariants as flaw
 use Rattle.sight_run.specs.declared.status.Why.TheVariants as why
 use Rattle.sight_run.specs.declared.status.Status.{Status}
 use Rattle.sight_run.specs.declared.status.Status.TheVariants as status
-use Rattle.sight_run.specs.Answer.{Answer, IsTheAnswer}
-use Rattle.sight_run.specs.Judge.{AuditCalls, RayCalls, ShowsSight, ShowsSound, audit_line, only_line, sight_line}
+use Rattle.sight_run.specs.Answer.{Answer, IsTheAnswer, only_line}
+use Rattle.sight_run.specs.Judge.{AuditCalls, RayCalls, audit_line, sight_line}
 
 -- an Ok is no Err
 abbrev IsAnOk : {A B : Type 0} → Result A B → Type 0
@@ -50,10 +50,10 @@ other_sight m ray r a b line exact is said (Ok answer) q = ap Ok (q.is ∙ ap on
 other_sight m ray r a b line exact is said (Err (status.No (why.Ray f))) q = absurd (clash r (a, b) f is (exact.fault f q))
 other_sight m ray r a b line exact is said (Err s) q = absurd q
 
-pub sight_is_the_answer : (m : Map) (ray : Ray) (r : Judged) (a b : ℕ) (line : List ℕ) → IsExact m ray r → IsSightRay m ray a b → line ≡ sight_line a b → IsTheAnswer (RayCalls ray m) (Ok (only_line line))
+pub sight_is_the_answer : (m : Map) (ray : Ray) (r : Judged) (a b : ℕ) (line : List ℕ) → IsExact m ray r → IsSightRay m ray a b → line ≡ sight_line a b → IsTheAnswer ⊤ (RayCalls ray m) (Ok (only_line line))
 sight_is_the_answer m ray r a b line exact sight said = record {
   called = record { from = a; to = b; sight = sight; is = ap only_line said };
-  only = other_sight m ray r a b line exact (exact.sight a b sight) said;
+  only = λ sole. other_sight m ray r a b line exact (exact.sight a b sight) said;
 }
 
 other_fault : (m : Map) (ray : Ray) (r : Judged) (f : RayFault) → IsExact m ray r → r ≡ Err f → (other : Result Answer Status) → RayCalls ray m other → other ≡ Err (status.No (why.Ray f))
@@ -61,8 +61,8 @@ other_fault m ray r f exact is (Ok answer) q = absurd (clash r (q.from, q.to) f 
 other_fault m ray r f exact is (Err (status.No (why.Ray g))) q = ap as_no (sym (exact.fault g q) ∙ is)
 other_fault m ray r f exact is (Err s) q = absurd q
 
-pub fault_is_the_answer : (m : Map) (ray : Ray) (r : Judged) (f : RayFault) → IsExact m ray r → IsRayFault m ray f → IsTheAnswer (RayCalls ray m) (Err (status.No (why.Ray f)))
-fault_is_the_answer m ray r f exact fault = record { called = fault; only = other_fault m ray r f exact (exact.fault f fault) }
+pub fault_is_the_answer : (m : Map) (ray : Ray) (r : Judged) (f : RayFault) → IsExact m ray r → IsRayFault m ray f → IsTheAnswer ⊤ (RayCalls ray m) (Err (status.No (why.Ray f)))
+fault_is_the_answer m ray r f exact fault = record { called = fault; only = λ sole. other_fault m ray r f exact (exact.fault f fault) }
 
 -- ---- lines
 
@@ -90,16 +90,16 @@ other_sound m r line exact ok said (Ok answer) q = ap Ok (q.is ∙ ap only_line 
 other_sound m r line exact ok said (Err (status.BadMap (flaw.Line f))) q = absurd (not_ok r f ((exact.fault f).1 q) ok)
 other_sound m r line exact ok said (Err s) q = absurd q
 
-pub sound_is_the_answer : (m : Map) (r : Audited) (line : List ℕ) → IsExactAudit m r → IsOk r → line ≡ audit_line m → IsTheAnswer (AuditCalls m) (Ok (only_line line))
-sound_is_the_answer m r line exact ok said = record { called = record { sound = exact.sound.0 ok; is = ap only_line said }; only = other_sound m r line exact ok said }
+pub sound_is_the_answer : (m : Map) (r : Audited) (line : List ℕ) → IsExactAudit m r → IsOk r → line ≡ audit_line m → IsTheAnswer ⊤ (AuditCalls m) (Ok (only_line line))
+sound_is_the_answer m r line exact ok said = record { called = record { sound = exact.sound.0 ok; is = ap only_line said }; only = λ sole. other_sound m r line exact ok said }
 
 other_flaw : (m : Map) (r : Audited) (f : LineFault) → IsExactAudit m r → r ≡ Err f → (other : Result Answer Status) → AuditCalls m other → other ≡ Err (status.BadMap (flaw.Line f))
 other_flaw m r f exact is (Ok answer) q = absurd (not_ok r f is (exact.sound.1 q.sound))
 other_flaw m r f exact is (Err (status.BadMap (flaw.Line g))) q = ap as_flaw (sym ((exact.fault g).1 q) ∙ is)
 other_flaw m r f exact is (Err s) q = absurd q
 
-pub flaw_is_the_answer : (m : Map) (r : Audited) (f : LineFault) → IsExactAudit m r → r ≡ Err f → IsTheAnswer (AuditCalls m) (Err (status.BadMap (flaw.Line f)))
-flaw_is_the_answer m r f exact is = record { called = (exact.fault f).0 is; only = other_flaw m r f exact is }
+pub flaw_is_the_answer : (m : Map) (r : Audited) (f : LineFault) → IsExactAudit m r → r ≡ Err f → IsTheAnswer ⊤ (AuditCalls m) (Err (status.BadMap (flaw.Line f)))
+flaw_is_the_answer m r f exact is = record { called = (exact.fault f).0 is; only = λ sole. other_flaw m r f exact is }
 
 -- ---- the number of lines
 

@@ -1,5 +1,5 @@
 -- What the orders that judge say of a map that was found. They write nothing.
-use Rattle.std.specs.Prelude.{◌≡◌, ℕ, List, [], ◌++◌, length, Result, Ok, Err, codes}
+use Rattle.std.specs.Prelude.{◌≡◌, ℕ, List, ◌++◌, length, Result, Ok, Err, codes}
 use Rattle.std.specs.Fmt.{decimal}
 use Rattle.sight_names.specs.declared.names.Ray.{Ray}
 use Rattle.sight_names.specs.Map.{Map}
@@ -12,12 +12,8 @@ use Rattle.sight_run.specs.declared.status.Flaw.TheVariants as flaw
 use Rattle.sight_run.specs.declared.status.Why.TheVariants as why
 use Rattle.sight_run.specs.declared.status.Status.{Status}
 use Rattle.sight_run.specs.declared.status.Status.TheVariants as status
-use Rattle.sight_run.specs.Answer.{Answer}
+use Rattle.sight_run.specs.Answer.{Answer, only_line}
 use Rattle.sight_run.specs.Report.{two}
-
--- an answer that is a line alone
-abbrev pub only_line : List ℕ → Answer
-only_line line = record { writes = []; line = line }
 
 abbrev pub sight_line : ℕ → ℕ → List ℕ
 sight_line a b = codes "sight " ++ two a b ++ codes "\n"

@@ -7,5 +7,9 @@ pub mod Judge
 pub mod Obeys
 pub mod Report
 pub mod Run
+pub mod Reply
 pub mod Say
 pub mod Views
+pub mod Counts
+pub mod Build
+pub mod Grid

@@ -1,5 +1,5 @@
 -- The answer that an order, and that words call for.
-use Rattle.std.specs.Prelude.{◌≡◌, ℕ, List, Result, Ok, Err, ⊤}
+use Rattle.std.specs.Prelude.{◌≡◌, ℕ, List, [], ◌∷◌, Some, Result, Ok, Err, ⊤}
 use Rattle.shelf_io.specs.Shelf.{Files}
 use Rattle.order_words.specs.declared.order.Order.{Order}
 use Rattle.order_words.specs.declared.order.Order.TheVariants as order
@@ -11,6 +11,8 @@ use Rattle.sight_run.specs.declared.status.Status.{Status}
 use Rattle.sight_run.specs.declared.status.Why.{Why}
 use Rattle.sight_run.specs.declared.status.Why.TheVariants as why
 use Rattle.sight_run.specs.Answer.{Answer}
+use Rattle.sight_run.specs.Build.{BuildCalls, IsUnbuildable}
+use Rattle.sight_run.specs.Grid.{GridCalls}
 use Rattle.sight_run.specs.Input.{OnFound, found_of}
 use Rattle.sight_run.specs.Judge.{AuditCalls, RayCalls}
 use Rattle.sight_run.specs.Words.{asked_of}
@@ -21,6 +23,8 @@ abbrev pub Obeys : Order → Files → Result Answer Status → Type 0
 Obeys (order.Zero wad name out) files answer = OnFound (found_of wad name files) (ZeroCalls name out) answer
 Obeys (order.Ray wad name ray) files answer = OnFound (found_of wad name files) (λ found. RayCalls ray found.map) answer
 Obeys (order.Audit wad name) files answer = OnFound (found_of wad name files) (λ found. AuditCalls found.map) answer
+Obeys (order.Build wad name out cert report workers budget) files answer = OnFound (found_of wad name files) (BuildCalls name out cert) answer
+Obeys (order.Grid n workers budget) files answer = GridCalls n answer
 Obeys other files answer = ⊥
 
 abbrev pub AnswersAsked : Result Order Status → Files → Result Answer Status → Type 0
@@ -31,24 +35,56 @@ AnswersAsked (Ok asked) files answer = Obeys asked files answer
 abbrev pub IsAnswer : List (List ℕ) → Files → Result Answer Status → Type 0
 IsAnswer words files answer = AnswersAsked (asked_of words) files answer
 
+-- the order and the files leave just one answer
+abbrev pub IsDetermined : Order → Files → Type 0
+IsDetermined (order.Zero wad name out) files = ⊤
+IsDetermined (order.Ray wad name ray) files = ⊤
+IsDetermined (order.Audit wad name) files = ⊤
+IsDetermined (order.Build wad name out cert report workers budget) files = IsUnbuildable (found_of wad name files)
+IsDetermined other files = ⊥
+
+abbrev pub AskedIsDetermined : Result Order Status → Files → Type 0
+AskedIsDetermined (Err refusal) files = ⊤
+AskedIsDetermined (Ok asked) files = IsDetermined asked files
+
+-- words and files leave just one answer
+abbrev pub HasOneAnswer : List (List ℕ) → Files → Type 0
+HasOneAnswer words files = AskedIsDetermined (asked_of words) files
+
 -- the order reads a file of that role
 abbrev pub Reads : Order → Role → Type 0
 Reads (order.Zero wad name out) role.Wad = ⊤
 Reads (order.Ray wad name ray) role.Wad = ⊤
 Reads (order.Audit wad name) role.Wad = ⊤
+Reads (order.Build wad name out cert report workers budget) role.Wad = ⊤
 Reads asked other = ⊥
+
+-- the order finds a map, in a file or in a WAD that it makes
+abbrev pub FindsMap : Order → Type 0
+FindsMap (order.Grid n workers budget) = ⊤
+FindsMap asked = Reads asked role.Wad
 
 -- the order writes a file of that role
 abbrev pub Writes : Order → Role → Type 0
 Writes (order.Zero wad name out) role.Wad = ⊤
+Writes (order.Build wad name out cert report workers budget) role.Wad = ⊤
+Writes (order.Build wad name out (Some cert) report workers budget) role.Cert = ⊤
 Writes asked other = ⊥
+
+-- the order writes files of these roles alone
+abbrev pub WritesEach : Order → List Role → Type 0
+WritesEach asked [] = ⊤
+WritesEach asked (role ∷ roles) = Writes asked role × WritesEach asked roles
 
 -- the order judges what such a no is said of
 abbrev pub Judges : Order → Why → Type 0
 Judges (order.Ray wad name ray) (why.Ray fault) = ⊤
+Judges (order.Grid n workers budget) (why.Check fault) = ⊤
 Judges asked other = ⊥
 
 -- the order audits what has such a flaw
 abbrev pub Audits : Order → Flaw → Type 0
 Audits (order.Audit wad name) (flaw.Line fault) = ⊤
+Audits (order.Build wad name out cert report workers budget) flaw = ⊤
+Audits (order.Grid n workers budget) flaw = ⊤
 Audits asked other = ⊥

@@ -63,6 +63,7 @@ abbrev pub IsOfBytes : Status → Type 0
 IsOfBytes (status.NotWad fault) = IsWadFault fault
 IsOfBytes (status.NoMap fault) = ⊤
 IsOfBytes (status.BadLump fault) = IsLumpFault fault
+IsOfBytes (status.Limit bound.WadBytes) = ⊥
 IsOfBytes (status.Limit bound.CertBytes) = ⊥
 IsOfBytes (status.Limit bound.OutputBytes) = ⊥
 IsOfBytes (status.Limit bound) = ⊤

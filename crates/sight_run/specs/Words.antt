@@ -1,5 +1,5 @@
 -- The order that words are, or why they are refused by themselves.
-use Rattle.std.specs.Prelude.{ℕ, Bool, true, false, ◌||◌, List, [], ◌∷◌, Option, Some, None, Result, Ok, Err, if◌then◌else◌, not}
+use Rattle.std.specs.Prelude.{ℕ, Bool, true, false, ◌&&◌, ◌||◌, nat_le, is_none, List, [], ◌∷◌, Option, Some, None, Result, Ok, Err, if◌then◌else◌, not}
 use Rattle.std.specs.List.{list_any}
 use Rattle.std.specs.Str.{bytes_eq}
 use Rattle.order_words.specs.declared.order.Order.{Order}
@@ -13,11 +13,19 @@ abbrev pub is_built : Order → Bool
 is_built (order.Zero wad name out) = true
 is_built (order.Ray wad name ray) = true
 is_built (order.Audit wad name) = true
+-- a build with no report
+is_built (order.Build wad name out cert report workers budget) = is_none report
+is_built (order.Grid n workers budget) = nat_le 1 n && nat_le n 18
 is_built other = false
+
+abbrev pub given : Option (List ℕ) → List (List ℕ)
+given None = []
+given (Some name) = name ∷ []
 
 -- the files that an order names
 abbrev pub file_names : Order → List (List ℕ)
 file_names (order.Zero wad name out) = wad ∷ out ∷ []
+file_names (order.Build wad name out cert report workers budget) = wad ∷ out ∷ given cert
 file_names other = []
 
 -- some name stands in the list twice

@@ -1,6 +1,6 @@
 //! The orders that judge what a WAD holds, and write nothing.
 
-ghost use Rattle.std.specs.Prelude.{◌≡◌, ◌≤◌, ◌++◌, List, ℕ, IfErr, IfOk, Ok, Some, codes, filter_map, length, string_bytes};
+ghost use Rattle.std.specs.Prelude.{◌≡◌, ◌≤◌, ◌++◌, List, ℕ, IfErr, IfOk, Ok, Some, codes, filter_map, length, string_bytes, ⊤};
 ghost use Rattle.std.specs.Fmt.{decimal};
 ghost use Rattle.sight_names.specs.Map.{map_of};
 ghost use Rattle.sight_names.specs.Points.{lines_of, points_of};
@@ -8,12 +8,14 @@ ghost use Rattle.shelf_io.specs.Shelf.{Files, NoneFell};
 ghost use Rattle.order_words.specs.declared.order.Order.TheVariants.{Audit, Ray as OfRay};
 ghost use Rattle.sight_run.specs.Answer.{Gives};
 ghost use Rattle.sight_run.specs.Judge.{AuditCalls, RayCalls, audit_line, sight_line};
-ghost use Rattle.sight_run.specs.Obeys.{Obeys};
+ghost use Rattle.sight_run.specs.Obeys.{IsDetermined, Obeys, WritesEach};
+ghost use Rattle.sight_run.specs.Reply.{reply_seen, roles_of, writes};
 ghost use Rattle.sight_run.specs.Run.{Cause, IsOfAudit, IsOfRay};
 ghost use Rattle.sight_run.specs.Status.{IsOfLineTest, IsOfRayTest};
 ghost use Rattle.sight_run.specs.Views.{line_answer};
 
 use crate::input::read_input;
+use crate::reply::{Reply, line_alone};
 use crate::report::{push_last, push_number, push_text, push_two};
 use crate::status::{Flaw, Status, Why};
 use map_audit::audit_lines;
@@ -32,7 +34,7 @@ fn make_sight_line(alloc: Global, from: u16, to: u16) -> Result<String, AllocErr
 
 /// Whether the ray is a sight ray of the map, and between which sectors.
 fn judge_ray(alloc: Global, plan: &Plan, ray: &Ray) -> Result<String, Status>
-    ensures judged { Gives (RayCalls ray.now (map_of plan.now)) (line_answer result) }
+    ensures judged { Gives ⊤ (RayCalls ray.now (map_of plan.now)) (line_answer result) }
     ensures refusals { IfErr result IsOfRayTest }
 {
     match check_ray(plan, ray) {
@@ -44,22 +46,24 @@ fn judge_ray(alloc: Global, plan: &Plan, ray: &Ray) -> Result<String, Status>
     }
 }
 
-/// Does the order `ray`, and gives its line. All files stay.
+/// What the order `ray` calls for. All files stay.
 pub fn do_ray<S: Shelf>(
     alloc: Global,
     shelf: &mut S,
     wad: &str,
     name: &str,
     ray: &Ray,
-) -> Result<String, Status>
-    ensures told { (files : Files) → (S.state shelf.old).files ≡ Some files → Gives (Obeys (OfRay wad.now name.now ray.now) files) (line_answer result) }
+) -> Result<Reply, Status>
+    ensures told { (files : Files) → (S.state shelf.old).files ≡ Some files → Gives (IsDetermined (OfRay wad.now name.now ray.now) files) (Obeys (OfRay wad.now name.now ray.now) files) (reply_seen result) }
     ensures files { (S.state shelf.new).files ≡ (S.state shelf.old).files }
     ensures counts { NoneFell (S.state shelf.old) (S.state shelf.new) }
     ensures cause { Cause (S.state shelf.old) (S.state shelf.new) result }
     ensures refusals { IfErr result IsOfRay }
+    ensures roles { IfOk result (λ reply. WritesEach (OfRay wad.now name.now ray.now) (roles_of (writes reply))) }
 {
     let input = read_input(alloc, shelf, wad, name)?;
-    judge_ray(alloc, &input.plan, ray)
+    let line = judge_ray(alloc, &input.plan, ray)?;
+    Ok(line_alone(alloc, line))
 }
 
 /// How many of the records are lines.
@@ -95,7 +99,7 @@ fn audit_line_of(alloc: Global, plan: &Plan) -> Result<String, AllocError>
 
 /// Whether the lines of the map meet at ends alone.
 fn judge_lines(alloc: Global, plan: &Plan) -> Result<String, Status>
-    ensures judged { Gives (AuditCalls (map_of plan.now)) (line_answer result) }
+    ensures judged { Gives ⊤ (AuditCalls (map_of plan.now)) (line_answer result) }
     ensures refusals { IfErr result IsOfLineTest }
 {
     match audit_lines(plan) {
@@ -107,19 +111,21 @@ fn judge_lines(alloc: Global, plan: &Plan) -> Result<String, Status>
     }
 }
 
-/// Does the order `audit`, and gives its line. All files stay.
+/// What the order `audit` calls for. All files stay.
 pub fn do_audit<S: Shelf>(
     alloc: Global,
     shelf: &mut S,
     wad: &str,
     name: &str,
-) -> Result<String, Status>
-    ensures told { (files : Files) → (S.state shelf.old).files ≡ Some files → Gives (Obeys (Audit wad.now name.now) files) (line_answer result) }
+) -> Result<Reply, Status>
+    ensures told { (files : Files) → (S.state shelf.old).files ≡ Some files → Gives (IsDetermined (Audit wad.now name.now) files) (Obeys (Audit wad.now name.now) files) (reply_seen result) }
     ensures files { (S.state shelf.new).files ≡ (S.state shelf.old).files }
     ensures counts { NoneFell (S.state shelf.old) (S.state shelf.new) }
     ensures cause { Cause (S.state shelf.old) (S.state shelf.new) result }
     ensures refusals { IfErr result IsOfAudit }
+    ensures roles { IfOk result (λ reply. WritesEach (Audit wad.now name.now) (roles_of (writes reply))) }
 {
     let input = read_input(alloc, shelf, wad, name)?;
-    judge_lines(alloc, &input.plan)
+    let line = judge_lines(alloc, &input.plan)?;
+    Ok(line_alone(alloc, line))
 }

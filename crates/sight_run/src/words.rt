@@ -1,22 +1,33 @@
 //! Reading the words of an order.
 
-ghost use Rattle.std.specs.Prelude.{◌≡◌, string_bytes, map, IfErr, IfOk, IsTrue};
+ghost use Rattle.std.specs.Prelude.{◌≡◌, ◌∷◌, string_bytes, map, IfErr, IfOk, IsTrue};
 ghost use Rattle.sight_run.specs.Answer.{Makes};
 ghost use Rattle.sight_run.specs.Views.{IsOfWords};
-ghost use Rattle.sight_run.specs.Words.{asked_of, checked, file_names, has_twice, is_built};
+ghost use Rattle.sight_run.specs.Words.{asked_of, checked, file_names, given, has_twice, is_built};
 
 use crate::status::Status;
-use order_words::{Order, read_words};
+use order_words::{Order, Text, read_words};
 use sight_names::OrderFault;
 use std::alloc::Global;
 
 fn has_built_verb(order: &Order) -> bool
     ensures { result ≡ is_built order.now }
 {
-    matches!(
-        order,
-        Order::Zero { .. } | Order::Ray { .. } | Order::Audit { .. }
-    )
+    match order {
+        Order::Zero { .. } | Order::Ray { .. } | Order::Audit { .. } => true,
+        Order::Build { report, .. } => report.is_none(),
+        Order::Grid { n, .. } => 1 <= *n && *n <= 18,
+        _ => false,
+    }
+}
+
+fn has_same_output(wad: &str, out: &str, cert: &Option<Text>) -> bool
+    ensures { result ≡ has_twice (wad.now ∷ out.now ∷ given cert.now) }
+{
+    match cert {
+        Some(cert) => wad == out || wad == cert.as_str() || out == cert.as_str(),
+        None => wad == out,
+    }
 }
 
 fn has_same_name(order: &Order) -> bool
@@ -24,6 +35,7 @@ fn has_same_name(order: &Order) -> bool
 {
     match order {
         Order::Zero { wad, out, .. } => wad.as_str() == out.as_str(),
+        Order::Build { wad, out, cert, .. } => has_same_output(wad.as_str(), out.as_str(), cert),
         _ => false,
     }
 }

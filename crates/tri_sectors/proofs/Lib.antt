@@ -1,0 +1,9 @@
+pub mod ComponentLemmas
+pub mod FaceLemmas
+pub mod LabelVerdict
+pub mod PlainFaces
+pub mod SideLemmas
+pub mod FacePaths
+pub mod FaceRegion
+pub mod FaceTouches
+pub mod GoodLabels

@@ -1,15 +1,15 @@
-//! Numbers sorted into classes, each by its least member.
+//! Numbers sorted into classes, each named by its least member.
 
-ghost use Rattle.std.specs.Prelude.{◌≡◌, ◌<◌, ◌≤◌, IfOk, All, length, vec_len};
-ghost use Rattle.tri_sectors.specs.Classes.{IsBelow};
+ghost use Rattle.std.specs.Prelude.{◌≡◌, ◌<◌, IfOk, length};
+ghost use Rattle.tri_sectors.specs.Classes.{AreLeast, AreMerged, AreRenamed, AreSingles};
 
 use sight_names::Memory;
 use std::alloc::Global;
 
 /// Each of so many numbers alone.
 pub fn singles(alloc: Global, count: u16) -> Result<Vec<u16>, Memory>
-    ensures len { IfOk result (λ v. length v.items ≡ count) }
-    ensures range { IfOk result (λ v. All (IsBelow count) v.items) }
+    ensures singles { IfOk result (λ v. AreSingles count v.items) }
+    ensures named { IfOk result (λ v. AreLeast v.items) }
 {
     let mut classes = Vec::new(alloc);
     for k in 0..count {
@@ -22,8 +22,8 @@ pub fn singles(alloc: Global, count: u16) -> Result<Vec<u16>, Memory>
 pub fn merge(classes: &mut [u16], a: u16, b: u16)
     requires first { a < length classes.old }
     requires second { b < length classes.old }
-    requires range { All (IsBelow (length classes.old)) classes.old }
-    ensures { All (IsBelow (length classes.old)) classes.new }
+    requires named { AreLeast classes.old }
+    ensures { AreMerged a b classes.old classes.new }
 {
     let (x, y) = (classes[a as usize], classes[b as usize]);
     if x < y {
@@ -35,9 +35,7 @@ pub fn merge(classes: &mut [u16], a: u16, b: u16)
 
 /// Puts `to` for each `from`.
 fn rename(classes: &mut [u16], from: u16, to: u16)
-    requires to { to < length classes.old }
-    requires range { All (IsBelow (length classes.old)) classes.old }
-    ensures { All (IsBelow (length classes.old)) classes.new }
+    ensures { AreRenamed from to classes.old classes.new }
 {
     for class in classes.iter_mut() {
         if *class == from {

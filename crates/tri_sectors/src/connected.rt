@@ -1,7 +1,9 @@
 //! The components of sectors under passable lines.
 
-ghost use Rattle.std.specs.Prelude.{◌≡◌, IfOk, length, All};
-ghost use Rattle.tri_sectors.specs.Classes.{IsBelow};
+ghost use Rattle.std.specs.Prelude.{◌≡◌, ◌<◌, IfOk, IfSome, length};
+ghost use Rattle.sight_names.specs.Map.{map_of};
+ghost use Rattle.tri_sectors.specs.Classes.{AreLeast};
+ghost use Rattle.tri_sectors.specs.Components.{AreComponents, Connects};
 
 use crate::classes::{merge, singles};
 use sight_names::{Line, Memory, Plan};
@@ -10,6 +12,7 @@ use std::alloc::Global;
 /// For each sector the least sector that passable lines connect with it.
 pub fn components(alloc: Global, plan: &Plan) -> Result<Vec<u16>, Memory>
     ensures len { IfOk result (λ v. length v.items ≡ plan.now.sectors) }
+    ensures components { IfOk result (λ v. AreComponents (map_of plan.now) v.items) }
 {
     let mut classes = singles(alloc, plan.sectors)?;
     for line in plan.lines() {
@@ -22,12 +25,19 @@ pub fn components(alloc: Global, plan: &Plan) -> Result<Vec<u16>, Memory>
 
 /// Puts the sectors of a passable line's two sides together.
 fn connect(classes: &mut [u16], line: Line)
-    requires range { All (IsBelow (length classes.old)) classes.old }
-    ensures { All (IsBelow (length classes.old)) classes.new }
+    requires named { AreLeast classes.old }
+    requires right { IfSome line.right (λ a. a < length classes.old) }
+    requires left { IfSome line.left (λ a. a < length classes.old) }
+    ensures { Connects line classes.old classes.new }
 {
-    if let (Some(right), Some(left)) = (line.right, line.left) {
-        if !line.solid && (right as usize) < classes.len() && (left as usize) < classes.len() {
-            merge(classes, right, left);
-        }
+    if line.solid {
+        return;
     }
+    let Some(right) = line.right else {
+        return;
+    };
+    let Some(left) = line.left else {
+        return;
+    };
+    merge(classes, right, left);
 }

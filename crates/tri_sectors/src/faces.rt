@@ -1,7 +1,10 @@
 //! Faces: triangles that are linked across edges that are no lines.
 
-ghost use Rattle.std.specs.Prelude.{◌≡◌, ◌<◌, ◌≤◌, IfOk, All, length};
-ghost use Rattle.tri_sectors.specs.Classes.{IsBelow};
+ghost use Rattle.std.specs.Prelude.{◌≡◌, ◌<◌, ◌↔◌, ℕ, false, IfOk, All, None, IsTrue, IsFalse, length, slice_index_or};
+ghost use Rattle.sight_names.specs.Map.{map_of};
+ghost use Rattle.sight_names.specs.Mesh.{triangle_at};
+ghost use Rattle.tri_sectors.specs.Classes.{AreLeast, AreSingles, IsBelow};
+ghost use Rattle.tri_sectors.specs.Faces.{AreMarked, AreWalls, IsPut, IsMarkedMore, AreFaces, AreCrossed, IsCrossed, AreOpen, HasGapHere};
 
 use crate::classes::{merge, singles};
 use mesh_shape::Mesh;
@@ -18,7 +21,7 @@ pub struct Walls {
 
 /// For each triangle, which of its edges are lines.
 pub fn walls_of(alloc: Global, plan: &Plan, mesh: &Mesh) -> Result<Vec<Walls>, Memory>
-    ensures { IfOk result (λ v. length v.items ≡ length mesh.now.triangles) }
+    ensures { IfOk result (λ v. AreWalls (map_of plan.now) mesh.now.triangles v.items) }
 {
     let none = Walls {
         pq: false,
@@ -26,71 +29,95 @@ pub fn walls_of(alloc: Global, plan: &Plan, mesh: &Mesh) -> Result<Vec<Walls>, M
         rp: false,
     };
     let mut walls = vec![in alloc; none; mesh.triangles().len()]?;
-    for line in plan.lines() {
-        if let Some(line) = line {
-            put_wall(mesh, &mut walls, line.a, line.b);
-            put_wall(mesh, &mut walls, line.b, line.a);
-        }
-    }
+    mark_lines(plan, mesh, walls.as_mut_slice());
     Ok(walls)
 }
 
-/// Marks the edge in the triangle that has it.
+/// Marks all lines.
+fn mark_lines(plan: &Plan, mesh: &Mesh, walls: &mut [Walls])
+    requires len { length walls.old ≡ length mesh.now.triangles }
+    requires none { AreMarked (λ k e. ⊥) mesh.now.triangles walls.old }
+    ensures { AreWalls (map_of plan.now) mesh.now.triangles walls.new }
+{
+    for line in plan.lines() {
+        if let Some(line) = line {
+            put_wall(mesh, walls, line.a, line.b);
+            put_wall(mesh, walls, line.b, line.a);
+        }
+    }
+}
+
+/// Marks the edge in the first triangle that has it.
 fn put_wall(mesh: &Mesh, walls: &mut [Walls], u: u16, v: u16)
     requires { length walls.old ≡ length mesh.now.triangles }
+    ensures { IsPut mesh.now.triangles (record { from = u; to = v }) walls.old walls.new }
 {
-    if let Some(k) = mesh.triangle_at(u, v) {
-        let t = mesh.triangles()[k as usize];
-        let wall = &mut walls[k as usize];
-        if t.p == u {
-            wall.pq = true;
-        } else if t.q == u {
-            wall.qr = true;
-        } else {
-            wall.rp = true;
-        }
+    let Some(k) = mesh.triangle_at(u, v) else {
+        return;
+    };
+    let t = mesh.triangles()[k as usize];
+    walls[k as usize] = marked(walls[k as usize], t, u);
+}
+
+/// With the edge from `u` on marked too.
+fn marked(walls: Walls, t: Triangle, u: u16) -> Walls
+    ensures { IsMarkedMore t u walls result }
+{
+    Walls {
+        pq: walls.pq || t.p == u,
+        qr: walls.qr || t.q == u,
+        rp: walls.rp || t.r == u,
     }
 }
 
 /// The class of each triangle's face: the least triangle of the face.
 pub fn faces_of(alloc: Global, mesh: &Mesh, walls: &[Walls]) -> Result<Vec<u16>, Memory>
     requires { length walls.now ≡ length mesh.now.triangles }
-    ensures len { IfOk result (λ v. length v.items ≡ length mesh.now.triangles) }
+    ensures faces { IfOk result (λ v. AreFaces mesh.now.triangles walls.now v.items) }
     ensures range { IfOk result (λ v. All (IsBelow (length mesh.now.triangles)) v.items) }
 {
     let triangles = mesh.triangles();
     let mut faces = singles(alloc, triangles.len() as u16)?;
-    for (k, t) in triangles.iter().enumerate() {
-        link(mesh, &mut faces, walls[k], k as u16, *t);
-    }
+    link_all(mesh, walls, faces.as_mut_slice());
     Ok(faces)
+}
+
+/// Puts all triangles together with their neighbours across edges that are no lines.
+fn link_all(mesh: &Mesh, walls: &[Walls], faces: &mut [u16])
+    requires walls { length walls.now ≡ length mesh.now.triangles }
+    requires alone { AreSingles (length mesh.now.triangles) faces.old }
+    ensures { AreFaces mesh.now.triangles walls.now faces.new }
+{
+    for (k, t) in mesh.triangles().iter().enumerate() {
+        link(mesh, faces, walls[k], k as u16, *t);
+    }
 }
 
 /// Puts the triangle together with its neighbours across edges that are no lines.
 fn link(mesh: &Mesh, faces: &mut [u16], walls: Walls, k: u16, t: Triangle)
     requires len { length faces.old ≡ length mesh.now.triangles }
     requires at { k < length faces.old }
-    requires range { All (IsBelow (length faces.old)) faces.old }
-    ensures { All (IsBelow (length faces.old)) faces.new }
+    requires named { AreLeast faces.old }
+    ensures named { AreLeast faces.new }
+    ensures crossed { AreCrossed mesh.now.triangles walls k t faces.old faces.new }
 {
-    if !walls.pq {
-        link_across(mesh, faces, k, t.p, t.q);
-    }
-    if !walls.qr {
-        link_across(mesh, faces, k, t.q, t.r);
-    }
-    if !walls.rp {
-        link_across(mesh, faces, k, t.r, t.p);
-    }
+    link_across(mesh, faces, walls.pq, k, t.p, t.q);
+    link_across(mesh, faces, walls.qr, k, t.q, t.r);
+    link_across(mesh, faces, walls.rp, k, t.r, t.p);
 }
 
-/// Puts the triangle together with the one that has the reverse of this edge.
-fn link_across(mesh: &Mesh, faces: &mut [u16], k: u16, u: u16, v: u16)
+/// Puts the triangle together with the one that has the reverse of this edge, if the edge isn't a line.
+fn link_across(mesh: &Mesh, faces: &mut [u16], is_line: bool, k: u16, u: u16, v: u16)
     requires len { length faces.old ≡ length mesh.now.triangles }
     requires at { k < length faces.old }
-    requires range { All (IsBelow (length faces.old)) faces.old }
-    ensures { All (IsBelow (length faces.old)) faces.new }
+    requires named { AreLeast faces.old }
+    ensures len { length faces.new ≡ length faces.old }
+    ensures named { AreLeast faces.new }
+    ensures crossed { IsCrossed mesh.now.triangles is_line k (record { from = u; to = v }) faces.old faces.new }
 {
+    if is_line {
+        return;
+    }
     if let Some(j) = mesh.triangle_at(v, u) {
         merge(faces, k, j);
     }
@@ -106,21 +133,41 @@ pub fn open_faces(
     requires walls { length walls.now ≡ length mesh.now.triangles }
     requires faces { length faces.now ≡ length mesh.now.triangles }
     requires range { All (IsBelow (length mesh.now.triangles)) faces.now }
-    ensures { IfOk result (λ v. length v.items ≡ length mesh.now.triangles) }
+    ensures { IfOk result (λ v. AreOpen mesh.now.triangles walls.now faces.now v.items) }
 {
-    let triangles = mesh.triangles();
-    let mut open = vec![in alloc; false; triangles.len()]?;
-    for (k, t) in triangles.iter().enumerate() {
-        if has_gap(mesh, walls[k], *t) {
-            open[faces[k] as usize] = true;
-        }
-    }
+    let mut open = vec![in alloc; false; mesh.triangles().len()]?;
+    open_all(mesh, walls, faces, open.as_mut_slice());
     Ok(open)
 }
 
+/// Marks the faces of all triangles that have such an edge.
+fn open_all(mesh: &Mesh, walls: &[Walls], faces: &[u16], marks: &mut [bool])
+    requires walls { length walls.now ≡ length mesh.now.triangles }
+    requires faces { length faces.now ≡ length mesh.now.triangles }
+    requires range { All (IsBelow (length mesh.now.triangles)) faces.now }
+    requires len { length marks.old ≡ length mesh.now.triangles }
+    requires none { (f : ℕ) → slice_index_or marks.old f false ≡ false }
+    ensures { AreOpen mesh.now.triangles walls.now faces.now marks.new }
+{
+    for (k, t) in mesh.triangles().iter().enumerate() {
+        if has_gap(mesh, walls[k], *t) {
+            marks[faces[k] as usize] = true;
+        }
+    }
+}
+
 /// Whether an edge of the triangle is no line and has no triangle behind it.
-fn has_gap(mesh: &Mesh, walls: Walls, t: Triangle) -> bool {
-    (!walls.pq && mesh.triangle_at(t.q, t.p).is_none())
-        || (!walls.qr && mesh.triangle_at(t.r, t.q).is_none())
-        || (!walls.rp && mesh.triangle_at(t.p, t.r).is_none())
+fn has_gap(mesh: &Mesh, walls: Walls, t: Triangle) -> bool
+    ensures { IsTrue result ↔ HasGapHere mesh.now.triangles walls t }
+{
+    is_gap(mesh, walls.pq, t.p, t.q)
+        || is_gap(mesh, walls.qr, t.q, t.r)
+        || is_gap(mesh, walls.rp, t.r, t.p)
+}
+
+/// Whether the edge is no line and has no triangle behind it.
+fn is_gap(mesh: &Mesh, is_line: bool, u: u16, v: u16) -> bool
+    ensures { IsTrue result ↔ (IsFalse is_line × (triangle_at mesh.now.triangles (record { from = v; to = u }) ≡ None)) }
+{
+    !is_line && mesh.triangle_at(v, u).is_none()
 }

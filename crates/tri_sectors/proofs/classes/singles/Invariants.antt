@@ -1,6 +1,6 @@
-use Rattle.std.proofs.Common.{◌≡◌, length, All}
-use Rattle.tri_sectors.specs.Classes.{IsBelow}
+use Rattle.std.proofs.Common.{◌≡◌, ◌<◌, ℕ, length}
+use Rattle.tri_sectors.specs.Classes.{class_of}
 use Rattle.tri_sectors.proofs.classes.singles.Given as goal
 
 abbrev pub invariant-loop-k : goal.invariant-loop-k
-invariant-loop-k l = record { len : length l.classes.items ≡ l.k; range : All (IsBelow l.count) l.classes.items }
+invariant-loop-k l = record { len : length l.classes.items ≡ l.k; alone : (k : ℕ) → k < l.k → class_of l.classes.items k ≡ k }

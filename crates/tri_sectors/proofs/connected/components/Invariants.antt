@@ -1,6 +1,5 @@
-use Rattle.std.proofs.Common.{◌≡◌, length, All}
-use Rattle.tri_sectors.specs.Classes.{IsBelow}
+use Rattle.tri_sectors.proofs.ComponentLemmas.{IsPassed}
 use Rattle.tri_sectors.proofs.connected.components.Given as goal
 
 abbrev pub invariant-loop-line : goal.invariant-loop-line
-invariant-loop-line l = record { len : length l.classes.items ≡ l.plan.sectors; range : All (IsBelow (length l.classes.items)) l.classes.items }
+invariant-loop-line l = IsPassed l.plan l.line-index l.classes.items

@@ -1,8 +1,36 @@
-use Rattle.std.proofs.Common.{◌<◌, sym, ap, ◌∙◌, arith, length}
+use Rattle.std.proofs.Common.{◌<◌, List, All, sym, ap, ◌∙◌, subst, arith, length}
+use Rattle.std.proofs.lemmas.List.Elements.{All-take}
 use Rattle.std.proofs.lemmas.Option.{slice_get_within}
+use Rattle.portal_walk.specs.declared.roots.Root.{Root}
+use Rattle.portal_walk.specs.Sides.{IsExit, IsRootOf}
 use Rattle.portal_walk.specs.Walk.{WalkParts}
+use Rattle.portal_walk.proofs.SideLines.{all_at}
 use Rattle.portal_walk.proofs.Steps.{root_tried, root_ahead, rests_of, enters_roots, one_gone}
 use Rattle.portal_walk.proofs.walk.Walker.try_root.Goals as goal
+
+pub enter-requires-clause-exit : goal.enter-requires-clause-exit
+enter-requires-clause-exit c =
+    let last = sym c.last.ensures.value ∙ sym c.in-Some.ensures in
+    let s = c.self.inside in
+    let there = all_at (IsRootOf s.plan.now s.source) c.as_slice.result.now _ c.in-Some.root (subst (λ (rs : List Root). All (IsRootOf s.plan.now s.source) rs) (sym c.as_slice.ensures.value) c.self.invariant.exits) last in
+    subst (λ (w : WalkParts). IsExit w.plan w.source c.in-Some.root.side) c.self.view_is there.exit
+
+pub invariant_of-self-in-Ok : goal.invariant_of-self-in-Ok
+invariant_of-self-in-Ok c =
+    let s = c.self-2.inside in
+    let i = c.self-2.invariant in
+    record {
+      audited = i.audited;
+      points = i.points;
+      good = i.good;
+      in_plan = i.in_plan;
+      one_each = i.one_each;
+      short = i.short;
+      rooted = i.rooted;
+      exits = subst (λ (rs : List Root). All (IsRootOf s.plan.now s.source) rs) (sym c.pop.ensures.rest) (All-take (IsRootOf s.plan.now s.source) _ s.roots.items i.exits);
+      exit = i.exit;
+      answered = i.answered;
+    }
 
 pub returns-in-Err-clause-tries : goal.returns-in-Err-clause-tries
 returns-in-Err-clause-tries c =

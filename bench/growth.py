@@ -1,0 +1,74 @@
+#!/usr/bin/env python3
+"""How the work grows: `grid` from 2 to 18, and rows of rooms whose walks are deep.
+
+    bench/growth.py [--program PATH] [--rooms 16,64,256]
+
+A row of k rooms with a passable line between neighbours has one long sequence from each room to each other, so a walk
+from its end is k portals deep: nanoseconds a node against depth show whether a step's cost depends on the depth.
+"""
+import argparse
+import os
+import struct
+import sys
+import tempfile
+
+from wads import Run, nodes, wad
+
+ROOM = 64
+
+
+def row_of_rooms(count):
+    """The lumps of a map of `count` square rooms in a row, each open to the next."""
+    points, numbers, lines, sides = [], {}, b"", b""
+
+    def number(point):
+        if point not in numbers:
+            numbers[point] = len(points)
+            points.append(point)
+        return numbers[point]
+
+    def line(first, second, *sectors):
+        nonlocal lines, sides
+        side = len(sides) // 30
+        sides += b"".join(struct.pack("<hh8s8s8sH", 0, 0, b"-", b"-", b"-", sector) for sector in sectors)
+        left = side + 1 if len(sectors) == 2 else 0xFFFF
+        lines += struct.pack("<7H", number(first), number(second), 4 if len(sectors) == 2 else 1, 0, 0, side, left)
+
+    for k in range(count):
+        x = -32000 + ROOM * k
+        line((x, ROOM), (x + ROOM, ROOM), k)
+        line((x + ROOM, 0), (x, 0), k)
+        if k + 1 < count:
+            line((x + ROOM, ROOM), (x + ROOM, 0), k, k + 1)
+    line((-32000, 0), (-32000, ROOM), 0)
+    end = -32000 + ROOM * count
+    line((end, ROOM), (end, 0), count - 1)
+    places = b"".join(struct.pack("<hh", *point) for point in points)
+    return [(b"LINEDEFS", lines), (b"SIDEDEFS", sides), (b"VERTEXES", places), (b"SECTORS", bytes(26 * count))]
+
+
+def main():
+    words = argparse.ArgumentParser()
+    words.add_argument("--program", default="crates/doomsight/out/doomsight")
+    words.add_argument("--rooms", default="16,64,128,256,384")
+    words = words.parse_args()
+    program = os.path.abspath(words.program)
+    print("| grid | seconds | line |\n|---|---|---|")
+    for n in range(2, 19, 2):
+        run = Run([program, "grid", str(n)])
+        print("| %d | %.2f | %s |" % (n, run.seconds, run.line))
+    print("\n| rooms in a row | nodes | build s | check s | ns a node of build | ns a node of check |\n|---|---|---|---|---|---|")
+    with tempfile.TemporaryDirectory() as folder:
+        source, output, cert = (os.path.join(folder, n) for n in ("in.wad", "out.wad", "cert"))
+        for count in map(int, words.rooms.split(",")):
+            open(source, "wb").write(wad("MAP01", row_of_rooms(count)))
+            audit = Run([program, "audit", source, "MAP01"])
+            build = Run([program, "build", source, "MAP01", output, "--cert", cert, "--budget", "full"])
+            check = Run([program, "check", output, "MAP01", cert])
+            total = nodes(open(cert, "rb").read())
+            walk = (build.seconds - audit.seconds) * 1e9 / total
+            print("| %d | %d | %.2f | %.2f | %.0f | %.0f |" % (count, total, build.seconds, check.seconds, walk, check.seconds * 1e9 / total))
+
+
+if __name__ == "__main__":
+    sys.exit(main())

@@ -1,0 +1,88 @@
+"""WAD files as the benches need them: their lumps, the maps in them, a map cut out, and one measured run."""
+import os
+import struct
+import tempfile
+
+LUMPS = [b"THINGS", b"LINEDEFS", b"SIDEDEFS", b"VERTEXES", b"SEGS", b"SSECTORS", b"NODES", b"SECTORS", b"REJECT", b"BLOCKMAP"]
+NEEDED = [b"LINEDEFS", b"SIDEDEFS", b"VERTEXES", b"SECTORS"]
+FREEDOOM = ("freedoom1.wad", "freedoom2.wad", "freedm.wad")
+
+
+def directory(held):
+    """The name and the bytes of each lump, in order."""
+    count, at = struct.unpack_from("<II", held, 4)
+    for k in range(count):
+        start, size, name = struct.unpack_from("<II8s", held, at + 16 * k)
+        yield name.split(b"\0")[0].upper(), held[start:start + size]
+
+
+def maps(held):
+    """The name and the lumps of each map, in order."""
+    entries = list(directory(held))
+    for k, (name, _) in enumerate(entries):
+        run = []
+        for entry in entries[k + 1:]:
+            if entry[0] not in LUMPS or entry[0] in [e[0] for e in run]:
+                break
+            run.append(entry)
+        if name not in LUMPS and all(n in [e[0] for e in run] for n in NEEDED):
+            yield name.decode(), run
+
+
+def wad(name, run):
+    """A WAD with this one map."""
+    body, entries, at = b"", b"", 12
+    for lump, content in [(name.encode(), b"")] + run:
+        entries += struct.pack("<II8s", at, len(content), lump)
+        body += content
+        at += len(content)
+    return struct.pack("<4sII", b"PWAD", len(run) + 1, at) + body + entries
+
+
+class Run:
+    """One run of a program: its status, its line, seconds of processor time, peak memory in MB."""
+
+    def __init__(self, words):
+        with tempfile.NamedTemporaryFile() as out:
+            actions = [(os.POSIX_SPAWN_DUP2, out.fileno(), 1)]
+            child = os.posix_spawn(words[0], words, os.environ, file_actions=actions)
+            _, status, usage = os.wait4(child, 0)
+            out.seek(0)
+            self.line = out.read().decode().strip()
+        self.status = os.waitstatus_to_exitcode(status)
+        self.seconds = usage.ru_utime + usage.ru_stime
+        self.megabytes = usage.ru_maxrss / 1e3
+
+
+def header(cert):
+    """How many triangles, rays, listed pairs and trees a certificate has."""
+    return struct.unpack_from("<IIII", cert, 12)
+
+
+def rays(cert):
+    """The rays of a certificate by their pair, as words of the command line."""
+    triangles, count, _, _ = header(cert)
+    found = {}
+    for k in range(count):
+        a, b, first, last, x, y, c = struct.unpack_from("<HHHHiiq", cert, 28 + 8 * triangles + 24 * k)
+        sides = ["%d%s" % (s & 32767, "L" if s & 32768 else "R") for s in (first, last)]
+        found[a, b] = ",".join(sides + [str(x), str(y), str(c)])
+    return found
+
+
+def nodes(cert):
+    """How many nodes the trees of a certificate have."""
+    triangles, ray_count, listed, trees = header(cert)
+    at, total = 28 + 8 * triangles + 24 * ray_count + 4 * listed, 0
+    for _ in range(trees):
+        count = struct.unpack_from("<HQ", cert, at)[1]
+        at, total = at + 10, total + count
+        for _ in range(count):
+            at += 1 + 2 * cert[at]
+    return total
+
+
+def rejects(table, n, a, b):
+    """Whether the bit of the pair is set; a table that is too short has no further bit."""
+    place = a * n + b
+    return place // 8 < len(table) and table[place // 8] >> place % 8 & 1

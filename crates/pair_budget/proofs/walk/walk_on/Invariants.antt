@@ -1,0 +1,24 @@
+use Rattle.std.proofs.Common.{◌≡◌, ℕ, ◌<◌}
+use Rattle.sight_names.specs.declared.names.Budget.TheVariants.{Full}
+use Rattle.portal_walk.specs.Walk.{SameWalk, remaining}
+use Rattle.pair_budget.specs.Finds.{Extends}
+use Rattle.pair_budget.specs.Notes.{ordered, Grows}
+use Rattle.pair_budget.specs.Walked.{MarksFound}
+use Rattle.pair_budget.proofs.walk.walk_on.Given as goal
+
+abbrev pub invariant-loop-walker : goal.invariant-loop-walker
+invariant-loop-walker g l = record {
+  walk : SameWalk l.fn.walker l.walker;
+  finds : Extends l.fn.finds l.finds;
+  full : l.fn.budget ≡ Full → l.left ≡ Full;
+  hears : (b : ℕ) → b < l.finds.plan.sectors → g.N.Notice.may_hear l.notice (ordered l.source b);
+  marks : MarksFound l.source l.finds.found (g.N.Notice.marks l.fn.notice) (g.N.Notice.marks l.notice);
+  claims : g.N.Notice.claims l.notice ≡ g.N.Notice.claims l.fn.notice;
+  settles : g.N.Notice.may_settle l.notice ≡ g.N.Notice.may_settle l.fn.notice;
+  mates : (x y : ℕ) → g.N.Notice.mates l.fn.notice x y → g.N.Notice.mates l.notice x y;
+  seen : Grows (g.N.Notice.seen l.fn.notice) (g.N.Notice.seen l.notice);
+  looks : Grows (g.N.Notice.looks l.fn.notice) (g.N.Notice.looks l.notice);
+}
+
+abbrev pub decreases-loop-walker : goal.decreases-loop-walker
+decreases-loop-walker g l = remaining l.walker

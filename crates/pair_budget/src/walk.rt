@@ -1,0 +1,188 @@
+//! The walk of one source within its budget.
+
+ghost use Rattle.std.specs.Prelude.{◌≡◌, ◌≢◌, ℕ, ◌<◌, Some as Given, length, true, IfOk, IfSome};
+ghost use Rattle.std.specs.List.{Contains};
+ghost use Rattle.sight_names.specs.Map.{map_of};
+ghost use Rattle.sight_names.specs.Mesh.{IsGoodMesh, label_of};
+ghost use Rattle.sight_names.specs.Sound.{LinesMeetAtEnds};
+ghost use Rattle.stab_hull.specs.Answer.{IsLineInRange};
+ghost use Rattle.portal_walk.specs.Sides.{ArrivesAt};
+ghost use Rattle.pair_budget.specs.declared.results.Outcome.TheVariants as outcome;
+ghost use Rattle.pair_budget.specs.Finds.{Extends, one_less};
+ghost use Rattle.pair_budget.specs.Notes.{ordered, Grows};
+ghost use Rattle.pair_budget.specs.Walked.{AreReached, IsOutcome, IsReachedFrom, MarksFound};
+
+use crate::finds::Finds;
+use crate::notice::Notice;
+use crate::results::{Outcome, Reached, SourceResult};
+use mesh_shape::{Labels, Mesh};
+use portal_walk::{Step, Walker};
+use sight_names::{Budget, Memory, Plan, Side};
+use sight_ray::ray_of;
+use std::alloc::Global;
+
+/// What a source finds within its budget: sectors that its first stabbable sequences reach, each with a sight ray, and
+/// how its walk ended.
+///
+/// # Errors
+///
+/// After `Memory` the notice may have heard of sectors that were found.
+pub fn walk_source<N: Notice>(
+    alloc: Global,
+    plan: &Plan,
+    mesh: &Mesh,
+    labels: &Labels,
+    source: u16,
+    budget: Budget,
+    notice: &mut N,
+) -> Result<SourceResult, Memory>
+    requires points { mesh.now.points ≡ length plan.now.points }
+    requires audited { LinesMeetAtEnds (map_of plan.now) }
+    requires good { IsGoodMesh (map_of plan.now) mesh.now.triangles labels.now }
+    requires source { source < plan.now.sectors }
+    requires hears { (b : ℕ) → b < plan.now.sectors → N.may_hear notice.old (ordered source b) }
+    ensures source { IfOk result (λ r. r.source ≡ source) }
+    ensures found { IfOk result (λ r. AreReached plan.now source r.found) }
+    ensures outcome { IfOk result (λ r. IsOutcome source budget (N.may_settle notice.old) r.outcome) }
+    ensures mates { IfOk result (λ r. r.outcome ≡ outcome.All → (b : ℕ) → N.mates notice.old source b → Contains (N.seen notice.new) (ordered source b)) }
+    ensures marks { IfOk result (λ r. MarksFound source r.found (N.marks notice.old) (N.marks notice.new)) }
+    ensures claims { N.claims notice.new ≡ N.claims notice.old }
+    ensures settles { N.may_settle notice.new ≡ N.may_settle notice.old }
+    ensures seen { Grows (N.seen notice.old) (N.seen notice.new) }
+    ensures looks { Grows (N.looks notice.old) (N.looks notice.new) }
+{
+    let mut finds = Finds::new(alloc, plan, source)?;
+    if notice.settled(source) {
+        return Ok(SourceResult {
+            source,
+            found: finds.into_items(),
+            outcome: Outcome::All,
+        });
+    }
+    let walker = Walker::new(alloc, plan, mesh, labels, source)?;
+    let outcome = walk_on(walker, labels, source, budget, &mut finds, notice)?;
+    Ok(SourceResult {
+        source,
+        found: finds.into_items(),
+        outcome,
+    })
+}
+
+/// Goes on with a walk until it ends, the budget is spent, or nothing that it could still find matters.
+fn walk_on<N: Notice>(
+    mut walker: Walker,
+    labels: &Labels,
+    source: u16,
+    budget: Budget,
+    finds: &mut Finds,
+    notice: &mut N,
+) -> Result<Outcome, Memory>
+    requires labels { walker.labels ≡ labels.now }
+    requires one_each { length walker.labels ≡ length walker.mesh.triangles }
+    requires plan { walker.plan ≡ finds.old.plan }
+    requires source { walker.source ≡ source }
+    requires source_too { finds.old.source ≡ source }
+    requires hears { (b : ℕ) → b < finds.old.plan.sectors → N.may_hear notice.old (ordered source b) }
+    ensures finds { Extends finds.old finds.new }
+    ensures outcome { IfOk result (λ o. IsOutcome source budget (N.may_settle notice.old) o) }
+    ensures mates { IfOk result (λ o. o ≡ outcome.All → (b : ℕ) → N.mates notice.old source b → Contains (N.seen notice.new) (ordered source b)) }
+    ensures marks { MarksFound source finds.new.found (N.marks notice.old) (N.marks notice.new) }
+    ensures claims { N.claims notice.new ≡ N.claims notice.old }
+    ensures settles { N.may_settle notice.new ≡ N.may_settle notice.old }
+    ensures seen { Grows (N.seen notice.old) (N.seen notice.new) }
+    ensures looks { Grows (N.looks notice.old) (N.looks notice.new) }
+{
+    let mut left = budget;
+    loop {
+        match walker.next()? {
+            Step::End => return Ok(Outcome::Complete(walker.tree())),
+            Step::Blocked(_) => {}
+            Step::Open {
+                triangle,
+                entered,
+                a,
+                b,
+                c,
+            } => {
+                let Some(less) = with_one_less(left) else {
+                    return Ok(Outcome::Spent);
+                };
+                left = less;
+                let reached = reached_by(&walker, labels, triangle, entered, a, b, c);
+                if note(finds, source, reached, notice)? {
+                    return Ok(Outcome::All);
+                }
+            }
+        }
+    }
+}
+
+/// The budget that is left after one more sequence, None where that is one too many.
+fn with_one_less(budget: Budget) -> Option<Budget>
+    ensures { result ≡ one_less budget }
+{
+    match budget {
+        Budget::Full => Some(Budget::Full),
+        Budget::Of(0) => None,
+        Budget::Of(n) => Some(Budget::Of(n - 1)),
+    }
+}
+
+/// The sector of the triangle that a walk came to, with the ray from the source that the splitting line is; None where
+/// the last portal is no line.
+fn reached_by(
+    walker: &Walker,
+    labels: &Labels,
+    triangle: u16,
+    entered: Option<Side>,
+    a: i32,
+    b: i32,
+    c: i64,
+) -> Option<Reached>
+    requires labels { walker.now.labels ≡ labels.now }
+    requires triangle { triangle < length labels.now }
+    requires outside { label_of labels.now triangle ≢ Given walker.now.source }
+    requires arrives { ArrivesAt walker.now.plan labels.now triangle entered }
+    requires range { IsLineInRange a b c }
+    ensures { IfSome result (λ reached. IsReachedFrom walker.now.plan walker.now.source reached) }
+{
+    let to = labels.get(triangle)?;
+    let first = walker.root()?;
+    let last = entered?;
+    Some(Reached {
+        to,
+        ray: ray_of(first, last, a, b, c),
+    })
+}
+
+/// Adds a sector to what was found and tells of it, unless it was found before. Whether the notice then says that nothing
+/// else matters; it isn't asked where nothing is new.
+fn note<N: Notice>(
+    finds: &mut Finds,
+    source: u16,
+    reached: Option<Reached>,
+    notice: &mut N,
+) -> Result<bool, Memory>
+    requires reached { IfSome reached (λ r. IsReachedFrom finds.old.plan source r) }
+    requires source { finds.old.source ≡ source }
+    requires hears { (b : ℕ) → b < finds.old.plan.sectors → N.may_hear notice.old (ordered source b) }
+    ensures finds { Extends finds.old finds.new }
+    ensures marks { MarksFound source finds.new.found (N.marks notice.old) (N.marks notice.new) }
+    ensures hears { (p : ℕ × ℕ) → N.may_hear notice.old p → N.may_hear notice.new p }
+    ensures claims { N.claims notice.new ≡ N.claims notice.old }
+    ensures settles { N.may_settle notice.new ≡ N.may_settle notice.old }
+    ensures settled { IfOk result (λ done. done ≡ true → N.may_settle notice.old ≡ true) }
+    ensures done { IfOk result (λ done. done ≡ true → (b : ℕ) → N.mates notice.old source b → Contains (N.seen notice.new) (ordered source b)) }
+    ensures mates { (x y : ℕ) → N.mates notice.old x y → N.mates notice.new x y }
+    ensures seen { Grows (N.seen notice.old) (N.seen notice.new) }
+    ensures looks { Grows (N.looks notice.old) (N.looks notice.new) }
+{
+    let Some(reached) = reached else {
+        return Ok(false);
+    };
+    if !finds.add(reached)? {
+        return Ok(false);
+    }
+    notice.found(source, reached.to);
+    Ok(notice.settled(source))
+}

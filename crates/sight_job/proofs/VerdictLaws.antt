@@ -1,0 +1,230 @@
+-- What a build promises of its table, its list and its certificate, from what the walks decide.
+use Rattle.std.proofs.Common.{◌≡◌, ◌≢◌, ℕ, zero, suc, ◌<◌, ◌⊎◌, ◌↔◌, inl, inr, List, [], ◌∷◌, length, get_or, slice_get, Contains, Some, refl, sym, ap, ◌∙◌, subst, arith, Bool, true, false}
+use Rattle.std.specs.Prelude.{not}
+use Rattle.std.proofs.lemmas.List.Elements.{Contains-append_left, Contains-append_right}
+use Rattle.std.proofs.lemmas.Option.{slice_get-get_or, same_Some}
+use Rattle.sight_names.proofs.Lists.{contains_none, contains_cases, contains_head, contains_tail}
+use Rattle.sight_names.specs.declared.names.Budget.{Budget}
+use Rattle.sight_names.specs.declared.names.Budget.TheVariants.{Full}
+use Rattle.sight_names.specs.declared.names.Pair.{Pair}
+use Rattle.sight_names.specs.declared.names.PairRay.{PairRay}
+use Rattle.sight_names.specs.Map.{Map, map_of, sector_on}
+use Rattle.sight_names.specs.Found.{AreNeighbours, IsChain, AreConnected}
+use Rattle.tri_sectors.specs.Components.{AreComponents}
+use Rattle.tri_sectors.proofs.ComponentLemmas.{connected_joined}
+use Rattle.sight_names.specs.Plan.{PlanParts}
+use Rattle.block_evidence.specs.declared.Tree.{Tree}
+use Rattle.reject_bits.specs.Parts.{Rejects}
+use Rattle.cert_format.specs.Parts.{CertParts}
+use Rattle.cert_format.specs.Accepted.{HasRay, IsPairListed, IsNamed}
+use Rattle.pair_budget.specs.declared.results.Outcome.{Outcome}
+use Rattle.pair_budget.specs.declared.results.Outcome.TheVariants as outcome
+use Rattle.pair_budget.specs.declared.results.SourceResult.{SourceResult}
+use Rattle.pair_budget.specs.declared.results.Verdicts.{Verdicts}
+use Rattle.pair_budget.specs.Decide.{AreFound, IsListedPair, IsBlind, IsSpentSource, trees_of}
+use Rattle.pair_budget.specs.Gathered.{HasPair}
+use Rattle.pair_budget.specs.Rows.{tree_of}
+use Rattle.pair_budget.specs.Walked.{IsOutcome}
+use Rattle.pair_budget.proofs.FindLaws.{found_of_ray, same_or_other, pair_is}
+use Rattle.pair_budget.proofs.NamedLaws.{trees_cons}
+use Rattle.sight_job.specs.Built.{AreVerdicts}
+use Rattle.sight_job.proofs.BuildLaws.{is_not_all, tree_of_source}
+
+-- a list of rays has one for the pair, or none
+has_or_not : (rays : List PairRay) (a b : ℕ) → HasPair rays a b ⊎ ¬ HasPair rays a b
+has_or_not [] a b = inr (λ h. contains_none h.0 h.1)
+has_or_not (r ∷ rs) a b = at (same_or_other r.pair.a r.pair.b a b) (has_or_not rs a b)
+  where
+    at : ((r.pair.a ≡ a) × (r.pair.b ≡ b)) ⊎ ((r.pair.a ≢ a) ⊎ (r.pair.b ≢ b)) → HasPair rs a b ⊎ ¬ HasPair rs a b → HasPair (r ∷ rs) a b ⊎ ¬ HasPair (r ∷ rs) a b
+    at (inl same) rest = inl (r, contains_head r rs, pair_is r.pair a b same.0 same.1)
+    at (inr other) (inl h) = inl (h.0, contains_tail r h.0 rs h.1, h.2)
+    at (inr other) (inr none) = inr (λ h. elim (contains_cases r h.0 rs h.1) [
+      | inl e ↦ let q = ap (λ (x : PairRay). x.pair) e ∙ h.2 in elim other [ inl n ↦ n (ap (λ (p : Pair). p.a) q) | inr n ↦ n (ap (λ (p : Pair). p.b) q) ]
+      | inr k ↦ none (h.0, k, h.2)
+    ])
+
+-- the tree of a source that was walked wholly is one of the trees
+has_tree : (rs : List SourceResult) (k : ℕ) (r : SourceResult) (t : Tree) → slice_get rs k ≡ Some r → r.outcome ≡ outcome.Complete t → Contains (trees_of rs) t
+has_tree [] k r t h e = absurd cc
+has_tree (q ∷ rs) zero r t h e = subst (λ (ts : List Tree). Contains ts t) (sym (trees_cons q rs)) (Contains-append_left (tree_of q.outcome) (trees_of rs) t (subst (λ (o : Outcome). Contains (tree_of o) t) (sym (ap (λ (s : SourceResult). s.outcome) (same_Some q r h) ∙ e)) (contains_head t [])))
+has_tree (q ∷ rs) (suc k) r t h e = subst (λ (ts : List Tree). Contains ts t) (sym (trees_cons q rs)) (Contains-append_right (tree_of q.outcome) (trees_of rs) t (has_tree rs k r t h e))
+
+result_at : (rs : List SourceResult) (k : ℕ) → k < length rs → (r : SourceResult) × (slice_get rs k ≡ Some r)
+result_at [] k h = absurd (omega arith)
+result_at (r ∷ rs) zero h = (r, refl)
+result_at (r ∷ rs) (suc k) h = result_at rs k (omega arith)
+
+two_ways : (a b : ℕ) → a ≢ b → (a < b) ⊎ (b < a)
+two_ways a b h = grind arith
+
+same_or_apart : (cs : List ℕ) (a b : ℕ) → a < length cs → b < length cs → (slice_get cs a ≡ slice_get cs b) ⊎ (slice_get cs a ≢ slice_get cs b)
+same_or_apart cs a b la lb = at (numbers (get_or cs a 0) (get_or cs b 0))
+  where
+    numbers : (x y : ℕ) → (x ≡ y) ⊎ (x ≢ y)
+    numbers x y = grind arith
+
+    at : (get_or cs a 0 ≡ get_or cs b 0) ⊎ (get_or cs a 0 ≢ get_or cs b 0) → (slice_get cs a ≡ slice_get cs b) ⊎ (slice_get cs a ≢ slice_get cs b)
+    at (inl e) = inl (slice_get-get_or cs a 0 la ∙ (ap (λ (x : ℕ). Some x) e ∙ sym (slice_get-get_or cs b 0 lb)))
+    at (inr n) = inr (λ q. n (same_Some (get_or cs a 0) (get_or cs b 0) (sym (slice_get-get_or cs a 0 la) ∙ (q ∙ slice_get-get_or cs b 0 lb))))
+
+-- ---- components
+
+neighbours_back : (m : Map) (a b : ℕ) → AreNeighbours m a b → AreNeighbours m b a
+neighbours_back m a b (i, l, left, at, passable, from, to) = (i, l, not left, at, passable, to, twice left from)
+  where
+    twice : (left : Bool) → sector_on l left ≡ Some a → sector_on l (not (not left)) ≡ Some a
+    twice true h = h
+    twice false h = h
+
+connected_back : (m : Map) (a : ℕ) (cs : List ℕ) (b : ℕ) → IsChain m a cs b → AreConnected m b a
+connected_back m a [] b h = ([], sym h)
+connected_back m a (c ∷ cs) b h = connected_joined m b c a (connected_back m c cs b h.1) (a ∷ [], (neighbours_back m a c h.0, refl))
+
+component_same : (m : Map) (cs : List ℕ) → AreComponents m cs → (a b : ℕ) → a < length cs → b < length cs → AreConnected m a b → slice_get cs a ≡ slice_get cs b
+component_same m cs are a b la lb path =
+    let x = get_or cs a 0 in
+    let y = get_or cs b 0 in
+    let ax = slice_get-get_or cs a 0 la in
+    let by' = slice_get-get_or cs b 0 lb in
+    let down = are.least a x y ax (connected_joined m a b y path (are.connected b y by')) in
+    let up = are.least b y x by' (connected_joined m b a x (connected_back m a path.0 b path.1) (are.connected a x ax)) in
+    let e : x ≡ y = omega arith in
+    ax ∙ (ap (λ (n : ℕ). Some n) e ∙ sym by')
+
+module _ (p : PlanParts) (budget : Budget) (v : Verdicts) (are : AreVerdicts p budget v) where
+  found_of_has : (a b : ℕ) → HasPair v.rays a b → AreFound are.results a b
+  found_of_has a b (r, c, e) = subst (λ (q : Pair). AreFound are.results q.a q.b) e (found_of_ray are.results r (are.rays.each r c).2)
+
+  not_down : (a b : ℕ) → a < b → ¬ IsListedPair are.results are.components b a
+  not_down a b lt l = let k = l.order in omega arith
+
+  pub rays_of_clear : (a b : ℕ) → a < b → b < p.sectors → HasPair v.rays a b ↔ (¬ Rejects v.table a b × ¬ Contains v.listed (record { a = a; b = b }))
+  rays_of_clear a b lt in' = (
+    (λ h. let f = found_of_has a b h in (
+      (λ bit. not_blind f ((are.table.bits a b (omega arith) in').0 bit)),
+      (λ c. ((are.listed.exactly (record { a = a; b = b })).0 c).not_found f),
+    )),
+    (λ h. elim (has_or_not v.rays a b) [
+      | inl k ↦ k
+      | inr none ↦ absurd (h.0 ((are.table.bits a b (omega arith) in').1 (inr (
+        (λ e. differ e),
+        (λ f. none (are.rays.all a b lt in' f)),
+        (λ l. elim l [ inl k ↦ h.1 ((are.listed.exactly (record { a = a; b = b })).1 k) | inr k ↦ not_down a b lt k ]),
+      ))))
+    ]),
+  )
+    where
+      differ : a ≢ b
+      differ e = omega arith
+
+      not_blind : AreFound are.results a b → ¬ IsBlind p are.results are.components a b
+      not_blind f (inl h) = differ h.0
+      not_blind f (inr h) = h.1 f
+
+  pub listed_are_clear : (q : Pair) → Contains v.listed q → ¬ Rejects v.table q.a q.b × ¬ Rejects v.table q.b q.a
+  listed_are_clear q c =
+      let l = (are.listed.exactly q).0 c in
+      let within = subst (λ (n : ℕ). q.b < n) are.each_sector l.within in
+      let order = l.order in (
+        (λ bit. up l ((are.table.bits q.a q.b (omega arith) within).0 bit)),
+        (λ bit. down l ((are.table.bits q.b q.a within (omega arith)).0 bit)),
+      )
+    where
+      up : IsListedPair are.results are.components q.a q.b → ¬ IsBlind p are.results are.components q.a q.b
+      up l (inl h) = let o = l.order in let e = h.0 in omega arith
+      up l (inr h) = h.2 (inl l)
+
+      down : IsListedPair are.results are.components q.a q.b → ¬ IsBlind p are.results are.components q.b q.a
+      down l (inl h) = let o = l.order in let e = h.0 in omega arith
+      down l (inr h) = h.2 (inr l)
+
+  blind_back : (a b : ℕ) → IsBlind p are.results are.components a b → IsBlind p are.results are.components b a
+  blind_back a b (inl h) = inl (sym h.0, subst (λ (c : ℕ). ¬ IsNamed (map_of p) c) h.0 h.1)
+  blind_back a b (inr h) = inr ((λ e. h.0 (sym e)), (λ f. h.1 (elim f [ inl k ↦ inr k | inr k ↦ inl k ])), (λ l. h.2 (elim l [ inl k ↦ inr k | inr k ↦ inl k ])))
+
+  pub both_bits : (a b : ℕ) → a < p.sectors → b < p.sectors → Rejects v.table a b → Rejects v.table b a
+  both_bits a b la lb bit = (are.table.bits b a lb la).1 (blind_back a b ((are.table.bits a b la lb).0 bit))
+
+  pub own_bit : (a : ℕ) → a < p.sectors → Rejects v.table a a ↔ ¬ IsNamed (map_of p) a
+  own_bit a la = ((λ bit. unnamed ((are.table.bits a a la la).0 bit)), (λ h. (are.table.bits a a la la).1 (inl (refl, h))))
+    where
+      unnamed : IsBlind p are.results are.components a a → ¬ IsNamed (map_of p) a
+      unnamed (inl h) = h.1
+      unnamed (inr h) = absurd (h.0 refl)
+
+  -- ---- with no bound
+
+  not_spent : budget ≡ Full → (a : ℕ) → ¬ IsSpentSource are.results a
+  not_spent full a (r, h, e) = subst (λ (o : Outcome). IsOutcome a budget false o) e (are.walks.outcomes a r h) full
+
+  pub nothing_listed : budget ≡ Full → v.listed ≡ []
+  nothing_listed full = empty v.listed (λ q c. not_spent full q.a ((are.listed.exactly q).0 c).spent)
+    where
+      empty : (xs : List Pair) → ((q : Pair) → ¬ Contains xs q) → xs ≡ []
+      empty [] none = refl
+      empty (x ∷ xs) none = absurd (none x (contains_head x xs))
+
+  -- the tree of a source is there, or its budget ran out
+  pub tree_or_spent : (a : ℕ) → a < p.sectors → ((t : Tree) × Contains v.trees t × (t.source ≡ a)) ⊎ IsSpentSource are.results a
+  tree_or_spent a la = by_result (result_at are.results a (subst (λ (n : ℕ). a < n) (sym are.walks.results.count) la))
+    where
+      by_outcome : (r : SourceResult) → slice_get are.results a ≡ Some r → (o : Outcome) → r.outcome ≡ o → ((t : Tree) × Contains v.trees t × (t.source ≡ a)) ⊎ IsSpentSource are.results a
+      by_outcome r h (outcome.Complete t) e = inl (t, subst (λ (ts : List Tree). Contains ts t) (sym are.trees) (has_tree are.results a r t h e), (tree_of_source p are.results are.walks.results a r h t e).source_is)
+      by_outcome r h outcome.Spent e = inr (r, h, e)
+      by_outcome r h outcome.All e = absurd (is_not_all a budget r.outcome (are.walks.outcomes a r h) e)
+
+      by_result : (r : SourceResult) × (slice_get are.results a ≡ Some r) → ((t : Tree) × Contains v.trees t × (t.source ≡ a)) ⊎ IsSpentSource are.results a
+      by_result (r, h) = by_outcome r h r.outcome refl
+
+  pub each_has_tree : budget ≡ Full → (a : ℕ) → a < p.sectors → (t : Tree) × Contains v.trees t × (t.source ≡ a)
+  each_has_tree full a la = elim (tree_or_spent a la) [ inl t ↦ t | inr s ↦ absurd (not_spent full a s) ]
+
+  -- ---- set bits
+
+  not_connected : (a b : ℕ) → a < p.sectors → b < p.sectors → slice_get are.components a ≢ slice_get are.components b → ¬ AreConnected (map_of p) a b
+  not_connected a b la lb differ path = differ (component_same (map_of p) are.components are.connected a b (subst (λ (n : ℕ). a < n) (sym are.each_sector) la) (subst (λ (n : ℕ). b < n) (sym are.each_sector) lb) path)
+
+  unlisted_tree : (a b : ℕ) → a < p.sectors → b < p.sectors → a < b → slice_get are.components a ≡ slice_get are.components b → ¬ AreFound are.results a b → ¬ IsListedPair are.results are.components a b → (t : Tree) × Contains v.trees t × ((t.source ≡ a) ⊎ (t.source ≡ b))
+  unlisted_tree a b la lb lt same none not_listed = elim (tree_or_spent a la) [
+    | inl t ↦ (t.0, t.1, inl t.2)
+    | inr spent ↦ elim (tree_or_spent b lb) [
+      | inl t ↦ (t.0, t.1, inr t.2)
+      | inr spent_too ↦ absurd (not_listed (record { order = lt; within = subst (λ (n : ℕ). b < n) (sym are.each_sector) lb; connected = same; not_found = none; spent = spent; spent_too = spent_too }))
+    ]
+  ]
+
+  pub set_has_tree : (a b : ℕ) → a < p.sectors → b < p.sectors → a ≢ b → Rejects v.table a b → ¬ AreConnected (map_of p) a b ⊎ ((t : Tree) × Contains v.trees t × ((t.source ≡ a) ⊎ (t.source ≡ b)))
+  set_has_tree a b la lb differ bit = by_blind ((are.table.bits a b la lb).0 bit)
+    where
+      by_order : slice_get are.components a ≡ slice_get are.components b → ¬ AreFound are.results a b → ¬ (IsListedPair are.results are.components a b ⊎ IsListedPair are.results are.components b a) → (a < b) ⊎ (b < a) → (t : Tree) × Contains v.trees t × ((t.source ≡ a) ⊎ (t.source ≡ b))
+      by_order same none not_listed (inl lt) = unlisted_tree a b la lb lt same none (λ l. not_listed (inl l))
+      by_order same none not_listed (inr lt) =
+          let h = unlisted_tree b a lb la lt (sym same) (λ f. none (elim f [ inl k ↦ inr k | inr k ↦ inl k ])) (λ l. not_listed (inr l)) in
+          (h.0, h.1, elim h.2 [ inl k ↦ inr k | inr k ↦ inl k ])
+
+      by_component : ¬ AreFound are.results a b → ¬ (IsListedPair are.results are.components a b ⊎ IsListedPair are.results are.components b a) → (slice_get are.components a ≡ slice_get are.components b) ⊎ (slice_get are.components a ≢ slice_get are.components b) → ¬ AreConnected (map_of p) a b ⊎ ((t : Tree) × Contains v.trees t × ((t.source ≡ a) ⊎ (t.source ≡ b)))
+      by_component none not_listed (inl same) = inr (by_order same none not_listed (two_ways a b differ))
+      by_component none not_listed (inr apart) = inl (not_connected a b la lb apart)
+
+      by_blind : IsBlind p are.results are.components a b → ¬ AreConnected (map_of p) a b ⊎ ((t : Tree) × Contains v.trees t × ((t.source ≡ a) ⊎ (t.source ≡ b)))
+      by_blind (inl h) = absurd (differ h.0)
+      by_blind (inr h) = by_component h.1 h.2 (same_or_apart are.components a b (subst (λ (n : ℕ). a < n) (sym are.each_sector) la) (subst (λ (n : ℕ). b < n) (sym are.each_sector) lb))
+
+  -- ---- the same of the certificate, whose parts these are
+
+  module _ (cert : CertParts) (rays : cert.rays ≡ v.rays) (listed : cert.listed ≡ v.listed) (trees : cert.trees ≡ v.trees) where
+    pub cert_rays : (a b : ℕ) → a < b → b < v.table.n → HasRay cert a b ↔ (¬ Rejects v.table a b × ¬ IsPairListed cert a b)
+    cert_rays a b lt in' =
+        let h = rays_of_clear a b lt (subst (λ (n : ℕ). b < n) are.table.sectors in') in (
+          (λ k. let r = h.0 (subst (λ (rs : List PairRay). HasPair rs a b) rays k) in (r.0, λ c. r.1 (subst (λ (ps : List Pair). Contains ps (record { a = a; b = b })) listed c))),
+          (λ k. subst (λ (rs : List PairRay). HasPair rs a b) (sym rays) (h.1 (k.0, λ c. k.1 (subst (λ (ps : List Pair). Contains ps (record { a = a; b = b })) (sym listed) c)))),
+        )
+
+    pub cert_set : (a b : ℕ) → a < p.sectors → b < p.sectors → a ≢ b → Rejects v.table a b → ¬ AreConnected (map_of p) a b ⊎ ((t : Tree) × Contains cert.trees t × ((t.source ≡ a) ⊎ (t.source ≡ b)))
+    cert_set a b la lb differ bit = subst (λ (ts : List Tree). ¬ AreConnected (map_of p) a b ⊎ ((t : Tree) × Contains ts t × ((t.source ≡ a) ⊎ (t.source ≡ b)))) (sym trees) (set_has_tree a b la lb differ bit)
+
+    pub cert_trees : budget ≡ Full → (a : ℕ) → a < p.sectors → (t : Tree) × Contains cert.trees t × (t.source ≡ a)
+    cert_trees full a la = let h = each_has_tree full a la in (h.0, subst (λ (ts : List Tree). Contains ts h.0) (sym trees) h.1, h.2)
+
+  pub both_bits_of : (a b : ℕ) → a < v.table.n → b < v.table.n → Rejects v.table a b → Rejects v.table b a
+  both_bits_of a b la lb bit = both_bits a b (subst (λ (n : ℕ). a < n) are.table.sectors la) (subst (λ (n : ℕ). b < n) are.table.sectors lb) bit

@@ -1,0 +1,37 @@
+use Rattle.std.proofs.Common.{◌<◌, ◌∙◌, ℕ, List, length, map, ap, sym, subst}
+use Rattle.std.specs.List.{AllByRecursion}
+use Rattle.sight_names.specs.Mesh.{AreTriangles}
+use Rattle.sight_names.specs.Plan.{PlanParts}
+use Rattle.cert_format.specs.declared.cert.Labelled.{Labelled}
+use Rattle.cert_format.specs.Parts.{CertParts}
+use Rattle.cert_format.specs.Grammar.{IsInOrder}
+use Rattle.sight_job.proofs.BuildLaws.{cert_in_order, cert_is}
+use Rattle.sight_job.proofs.LabelledLaws.{below}
+use Rattle.sight_job.proofs.VerdictLaws.{cert_rays, cert_trees, cert_set, listed_are_clear, both_bits_of, nothing_listed}
+use Rattle.sight_job.proofs.build.build_table.Goals as goal
+
+pub cert_of-cert-requires : goal.cert_of-cert-requires
+cert_of-cert-requires c =
+    let shape = c.in_ok-shape.ensures in
+    let ascend = subst (λ (n : ℕ). AreTriangles n (map (λ (l : Labelled). l.triangle) c.in_ok-triangles.triangles.items)) shape.points c.in_ok-triangles.ensures.ascend in
+    let sectors = subst (λ (ls : List Labelled). AllByRecursion (λ (l : Labelled). l.sector < c.args.plan.now.sectors) ls) (sym c.in_ok-triangles.ensures.list) (below c.args.plan.now.sectors c.in_ok-shape.shape.mesh.triangles c.in_ok-shape.shape.labels shape.sectors) in
+    let good = cert_in_order c.args.plan.now c.points.ensures.plan c.args.budget c.in_ok-verdicts.verdicts c.in_ok-verdicts.ensures c.in_ok-triangles.triangles.items c.in_ok-triangles.ensures.few ascend sectors in
+    subst IsInOrder (sym (cert_is c.args.plan.now c.in_ok-verdicts.verdicts c.in_ok-triangles.triangles.items _ _ _ _ _ _ (ap (λ (p : PlanParts). p.sectors) c.plan.view_is) (ap length c.points.ensures.list) (ap length c.lines.ensures.list) c.into_vec.ensures (c.in_ok-listed.ensures.items ∙ c.as_slice.ensures) c.into_vec-2.ensures)) good
+
+pub returns-clause-rays : goal.returns-clause-rays
+returns-clause-rays c = cert_rays c.args.plan.now c.args.budget c.in_ok-verdicts.verdicts c.in_ok-verdicts.ensures c.cert_of-cert.result (ap (λ (d : CertParts). d.rays) c.cert_of-cert.ensures ∙ c.into_vec.ensures) (ap (λ (d : CertParts). d.listed) c.cert_of-cert.ensures ∙ (c.in_ok-listed.ensures.items ∙ c.as_slice.ensures)) (ap (λ (d : CertParts). d.trees) c.cert_of-cert.ensures ∙ c.into_vec-2.ensures)
+
+pub returns-clause-clear : goal.returns-clause-clear
+returns-clause-clear c = listed_are_clear c.args.plan.now c.args.budget c.in_ok-verdicts.verdicts c.in_ok-verdicts.ensures
+
+pub returns-clause-symmetric : goal.returns-clause-symmetric
+returns-clause-symmetric c = both_bits_of c.args.plan.now c.args.budget c.in_ok-verdicts.verdicts c.in_ok-verdicts.ensures
+
+pub returns-clause-whole : goal.returns-clause-whole
+returns-clause-whole c = λ full. record {
+  no_list = nothing_listed c.args.plan.now c.args.budget c.in_ok-verdicts.verdicts c.in_ok-verdicts.ensures full;
+  trees = cert_trees c.args.plan.now c.args.budget c.in_ok-verdicts.verdicts c.in_ok-verdicts.ensures c.cert_of-cert.result (ap (λ (d : CertParts). d.rays) c.cert_of-cert.ensures ∙ c.into_vec.ensures) (ap (λ (d : CertParts). d.listed) c.cert_of-cert.ensures ∙ (c.in_ok-listed.ensures.items ∙ c.as_slice.ensures)) (ap (λ (d : CertParts). d.trees) c.cert_of-cert.ensures ∙ c.into_vec-2.ensures) full;
+}
+
+pub returns-clause-set : goal.returns-clause-set
+returns-clause-set c = cert_set c.args.plan.now c.args.budget c.in_ok-verdicts.verdicts c.in_ok-verdicts.ensures c.cert_of-cert.result (ap (λ (d : CertParts). d.rays) c.cert_of-cert.ensures ∙ c.into_vec.ensures) (ap (λ (d : CertParts). d.listed) c.cert_of-cert.ensures ∙ (c.in_ok-listed.ensures.items ∙ c.as_slice.ensures)) (ap (λ (d : CertParts). d.trees) c.cert_of-cert.ensures ∙ c.into_vec-2.ensures)

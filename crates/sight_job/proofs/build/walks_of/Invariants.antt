@@ -1,0 +1,5 @@
+use Rattle.sight_job.proofs.BuildLaws.{WalkedUpTo}
+use Rattle.sight_job.proofs.build.walks_of.Given as goal
+
+abbrev pub invariant-loop-source : goal.invariant-loop-source
+invariant-loop-source l = WalkedUpTo l.plan l.budget l.source l.results.items

@@ -1,0 +1,74 @@
+-- What a build gives.
+use Rattle.std.specs.Prelude.{◌≡◌, ◌≢◌, ℕ, ◌<◌, ◌⊎◌, ◌↔◌, List, [], Option, Some, length, slice_get, Contains, false}
+use Rattle.sight_names.specs.declared.names.Budget.{Budget}
+use Rattle.sight_names.specs.declared.names.Pair.{Pair}
+use Rattle.sight_names.specs.Map.{map_of}
+use Rattle.sight_names.specs.Mesh.{label_of, IsGoodMesh}
+use Rattle.sight_names.specs.Plan.{PlanParts}
+use Rattle.sight_names.specs.Found.{AreConnected}
+use Rattle.mesh_shape.specs.Shape.{MeshParts}
+use Rattle.tri_sectors.specs.Components.{AreComponents}
+use Rattle.block_evidence.specs.declared.Tree.{Tree}
+use Rattle.reject_bits.specs.Parts.{Rejects}
+use Rattle.cert_format.specs.declared.cert.Sizes.{Sizes}
+use Rattle.cert_format.specs.Accepted.{HasRay, IsPairListed, IsNamed}
+use Rattle.pair_budget.specs.declared.results.SourceResult.{SourceResult}
+use Rattle.pair_budget.specs.declared.results.Verdicts.{Verdicts}
+use Rattle.pair_budget.specs.Walked.{IsOutcome}
+use Rattle.sight_job.specs.declared.build.Built.{Built}
+use Rattle.pair_budget.specs.Decide.{AreResults, DecidesTable, DecidesList, DecidesRays, trees_of}
+
+-- the sizes of a certificate of this plan
+abbrev pub sizes_of : PlanParts → Sizes
+sizes_of p = record { sectors = p.sectors; points = length p.points; lines = length p.lines }
+
+-- a good mesh of the map, whose labels are sectors of it
+pub record IsLabelledMesh (p : PlanParts) (mesh : MeshParts) (labels : List (Option ℕ)) : Type 0 where
+  pub points : mesh.points ≡ length p.points
+  pub good : IsGoodMesh (map_of p) mesh.triangles labels
+  pub sectors : (k a : ℕ) → label_of labels k ≡ Some a → a < p.sectors
+
+-- the walks of all sectors by themselves: each went to its end or, where there is one, to the end of its budget
+pub record AreWalks (p : PlanParts) (budget : Budget) (rs : List SourceResult) : Type 0 where
+  pub results : AreResults p rs
+  pub outcomes : (k : ℕ) (r : SourceResult) → slice_get rs k ≡ Some r → IsOutcome k budget false r.outcome
+
+-- what the walks of all sectors decide
+pub record AreVerdicts (p : PlanParts) (budget : Budget) (v : Verdicts) : Type 0 where
+  pub results : List SourceResult
+  pub components : List ℕ
+  pub walks : AreWalks p budget results
+  pub each_sector : length components ≡ p.sectors
+  pub connected : AreComponents (map_of p) components
+  pub table : DecidesTable p results components v.table
+  pub listed : DecidesList results components v.listed
+  pub rays : DecidesRays p results v.rays
+  pub trees : v.trees ≡ trees_of results
+
+-- ---- what a build promises of its table, its list and its certificate
+
+-- the certificate has a ray for a pair, the smaller sector first, exactly where its bit is clear and it isn't listed
+abbrev pub HasRaysOfClear : Built → Type 0
+HasRaysOfClear b = (x y : ℕ) → x < y → y < b.table.n → HasRay b.cert x y ↔ (¬ Rejects b.table x y × ¬ IsPairListed b.cert x y)
+
+-- both bits of a listed pair are clear
+abbrev pub ListsClear : Built → Type 0
+ListsClear b = (q : Pair) → Contains b.listed q → ¬ Rejects b.table q.a q.b × ¬ Rejects b.table q.b q.a
+
+-- the two bits of a pair are one
+abbrev pub IsSymmetric : Built → Type 0
+IsSymmetric b = (x y : ℕ) → x < b.table.n → y < b.table.n → Rejects b.table x y → Rejects b.table y x
+
+-- a sector doesn't see itself exactly where no side names it
+abbrev pub HasDiagonal : PlanParts → Built → Type 0
+HasDiagonal p b = (x : ℕ) → x < p.sectors → Rejects b.table x x ↔ ¬ IsNamed (map_of p) x
+
+-- where a bit of two sectors is set, no passable lines connect them, or the certificate has the tree of one of them
+abbrev pub HasTreesOfSet : PlanParts → Built → Type 0
+HasTreesOfSet p b = (x y : ℕ) → x < p.sectors → y < p.sectors → x ≢ y → Rejects b.table x y
+    → ¬ AreConnected (map_of p) x y ⊎ ((t : Tree) × Contains b.cert.trees t × ((t.source ≡ x) ⊎ (t.source ≡ y)))
+
+-- no pair is listed, and each sector has its tree
+pub record IsWhole (p : PlanParts) (b : Built) : Type 0 where
+  pub no_list : b.listed ≡ []
+  pub trees : (x : ℕ) → x < p.sectors → (t : Tree) × Contains b.cert.trees t × (t.source ≡ x)

@@ -1,0 +1,292 @@
+-- Open sides, sides that have triangles, and the names of faces.
+use Rattle.std.proofs.Common.{◌≡◌, ℕ, ◌+◌, ◌<◌, ◌≤◌, ◌⊎◌, inl, inr, List, [], ◌∷◌, ◌++◌, length, slice_get, slice_index_or, get_or, set, Bool, true, false, Option, Some, None, MatchOption, option_and_then, All, refl, sym, ap, ◌∙◌, subst, arith}
+use Rattle.std.proofs.lemmas.Bool.{cases_eq, false≢true}
+use Rattle.std.proofs.lemmas.Option.{slice_get_within, slice_get-get_or, get_or_from_slice_get, same_Some, none-some}
+use Rattle.std.proofs.lemmas.List.{get_or-set_same, get_or-set_other, get_or_append_left, get_or_at}
+use Rattle.sight_names.specs.declared.names.Side.{Side}
+use Rattle.sight_names.specs.declared.names.Triangle.{Triangle}
+use Rattle.sight_names.specs.declared.plan.Line.{Line}
+use Rattle.sight_names.specs.Plan.{PlanParts, IsPlan}
+use Rattle.sight_names.specs.Map.{Map, MapLine, map_of, looked_up, line_at, named, sector_on}
+use Rattle.sight_names.specs.Points.{Edge, reverse_of}
+use Rattle.sight_names.specs.Mesh.{side_edge, triangle_at}
+use Rattle.sight_names.proofs.PlanNumbers.{line_edge_of_plan}
+use Rattle.sight_laws.proofs.Plans.{line_below}
+use Rattle.mesh_shape.specs.Faults.{IsSideBefore}
+use Rattle.mesh_shape.proofs.RuleLemmas.{plan_line_at, no_line_there}
+use Rattle.tri_sectors.specs.declared.sides.FacedSide.{FacedSide}
+use Rattle.tri_sectors.specs.Classes.{IsBelow, class_of}
+use Rattle.tri_sectors.specs.Sides.{IsSealedEdge, IsSealedSide, IsSealedAt, IsFirstOfLine, IsOpenLine, IsFaced, AreFacedOf, AreFaced, AreAdded, IsAdded, AreAlike, IsOtherFrom, IsFirstMixed, AreNames, IsFacedBelow}
+use Rattle.tri_sectors.proofs.FaceLemmas.{triangle_below}
+
+-- ---- a plan's sides
+
+abbrev pub edge_of_side : Line → Bool → Edge
+edge_of_side l true = record { from = l.a; to = l.b }
+edge_of_side l false = record { from = l.b; to = l.a }
+
+abbrev pub name_of_side : Line → Bool → Option ℕ
+name_of_side l true = l.left
+name_of_side l false = l.right
+
+pub side_is : (p : PlanParts) → IsPlan p → (i : ℕ) (l : Line) (left : Bool) → slice_get p.lines i ≡ Some (Some l) → side_edge (map_of p) (looked_up p.points l) left ≡ edge_of_side l left
+side_is p is i l true e = line_edge_of_plan p is i l e
+side_is p is i l false e = ap reverse_of (line_edge_of_plan p is i l e)
+
+pub name_is : (p : PlanParts) (i : ℕ) (l : Line) (left : Bool) → slice_get p.lines i ≡ Some (Some l) → named (map_of p) (record { line = i; left = left }) ≡ name_of_side l left
+name_is p i l true e = ap (option_and_then (λ (k : MapLine). sector_on k true)) (plan_line_at p i l e)
+name_is p i l false e = ap (option_and_then (λ (k : MapLine). sector_on k false)) (plan_line_at p i l e)
+
+-- ---- open sides
+
+sealed_side : (p : PlanParts) → IsPlan p → (ts : List Triangle) (fs : List ℕ) (os : List Bool) (i : ℕ) (l : Line) (left : Bool) → slice_get p.lines i ≡ Some (Some l) → IsSealedSide ts fs os (edge_of_side l left) (name_of_side l left)
+    → IsSealedAt (map_of p) ts fs os (record { line = i; left = left })
+sealed_side p is ts fs os i l left e h k a at names =
+    let same : looked_up p.points l ≡ k = same_Some (looked_up p.points l) k (sym (plan_line_at p i l e) ∙ at) in
+    subst (IsSealedEdge ts fs os) (sym (side_is p is i l left e) ∙ ap (λ (x : MapLine). side_edge (map_of p) x left) same)
+    (subst (IsSealedSide ts fs os (edge_of_side l left)) (sym (name_is p i l left e) ∙ names) h)
+
+side_sealed : (p : PlanParts) → IsPlan p → (ts : List Triangle) (fs : List ℕ) (os : List Bool) (i : ℕ) (l : Line) (left : Bool) → slice_get p.lines i ≡ Some (Some l) → IsSealedAt (map_of p) ts fs os (record { line = i; left = left })
+    → IsSealedSide ts fs os (edge_of_side l left) (name_of_side l left)
+side_sealed p is ts fs os i l left e h = go (name_of_side l left) (name_is p i l left e)
+  where
+    go : (o : Option ℕ) → named (map_of p) (record { line = i; left = left }) ≡ o → IsSealedSide ts fs os (edge_of_side l left) o
+    go None names = tt
+    go (Some a) names = subst (IsSealedEdge ts fs os) (side_is p is i l left e) (h (looked_up p.points l) a (plan_line_at p i l e) names)
+
+pub open_of_line : (p : PlanParts) → IsPlan p → (ts : List Triangle) (fs : List ℕ) (os : List Bool) (i : ℕ) (l : Line) (o : Option Bool) → slice_get p.lines i ≡ Some (Some l) → IsOpenLine ts fs os l o → IsFirstOfLine (IsSealedAt (map_of p) ts fs os) i o
+open_of_line p is ts fs os i l None e h = both
+  where
+    both : (left : Bool) → IsSealedAt (map_of p) ts fs os (record { line = i; left = left })
+    both true = sealed_side p is ts fs os i l true e h.1
+    both false = sealed_side p is ts fs os i l false e h.0
+open_of_line p is ts fs os i l (Some true) e h = (λ f. h.0 (side_sealed p is ts fs os i l true e f), λ w. sealed_side p is ts fs os i l false e h.1)
+open_of_line p is ts fs os i l (Some false) e h = (λ f. h (side_sealed p is ts fs os i l false e f), λ w. absurd (false≢true w))
+
+pub no_side_open : (p : PlanParts) (ts : List Triangle) (fs : List ℕ) (os : List Bool) (i : ℕ) (left : Bool) → line_at (map_of p) i ≡ None → IsSealedAt (map_of p) ts fs os (record { line = i; left = left })
+no_side_open p ts fs os i left h k a at names = absurd (none-some k (sym h ∙ at))
+
+-- ---- one more at the end of a list
+
+one_more : {X : Type 0} (xs : List X) (x : X) → length (xs ++ x ∷ []) ≡ length xs + 1
+one_more [] x = refl
+one_more (y ∷ xs) x = let e = one_more xs x in omega (arith, e)
+
+below_next : (i n : ℕ) → i < n + 1 → (i < n) ⊎ (i ≡ n)
+below_next i n h = grind arith
+
+more_cases : {X : Type 0} (xs : List X) (x y : X) (k : ℕ) → slice_get (xs ++ x ∷ []) k ≡ Some y → (slice_get xs k ≡ Some y) ⊎ ((k ≡ length xs) × (x ≡ y))
+more_cases {X} xs x y k e = elim (below_next k (length xs) (let l = slice_get_within (xs ++ x ∷ []) k y e in let m = one_more xs x in omega (arith, l, m))) as (λ _. (slice_get xs k ≡ Some y) ⊎ ((k ≡ length xs) × (x ≡ y))) [
+  | inl lt ↦ inl (slice_get-get_or xs k y lt ∙ ap (λ (v : X). Some v) (sym (get_or_append_left xs (x ∷ []) y k lt) ∙ get_or_from_slice_get (xs ++ x ∷ []) k y y e))
+  | inr same ↦ inr (same, sym (get_or_at xs x [] y k (sym same)) ∙ get_or_from_slice_get (xs ++ x ∷ []) k y y e)
+]
+
+more_old : {X : Type 0} (xs : List X) (x y : X) (k : ℕ) → slice_get xs k ≡ Some y → slice_get (xs ++ x ∷ []) k ≡ Some y
+more_old {X} xs x y k e =
+    let lt = slice_get_within xs k y e in
+    slice_get-get_or (xs ++ x ∷ []) k y (let m = one_more xs x in omega (arith, lt, m)) ∙ ap (λ (v : X). Some v) (get_or_append_left xs (x ∷ []) y k lt ∙ get_or_from_slice_get xs k y y e)
+
+more_last : {X : Type 0} (xs : List X) (x : X) → slice_get (xs ++ x ∷ []) (length xs) ≡ Some x
+more_last {X} xs x = slice_get-get_or (xs ++ x ∷ []) (length xs) x (let m = one_more xs x in omega (arith, m)) ∙ ap (λ (v : X). Some v) (get_or_at xs x [] x (length xs) refl)
+
+-- ---- sides that have triangles
+
+pub faced_none : (m : Map) (ts : List Triangle) (fs : List ℕ) → AreFacedOf (λ s. s.line < 0) m ts fs []
+faced_none m ts fs = record { each = λ i s e. absurd (none-some s e); all = λ s l k lt. absurd (omega arith); ascend = λ i j s t lt e. absurd (none-some s e) }
+
+pub changed_faced : (D E : Side → Type 0) (m : Map) (ts : List Triangle) (fs : List ℕ) (ss : List FacedSide) → ((s : Side) → D s → E s) → ((s : Side) (l : MapLine) → line_at m s.line ≡ Some l → E s → D s) → AreFacedOf D m ts fs ss → AreFacedOf E m ts fs ss
+changed_faced D E m ts fs ss f g h = record {
+  each = λ i s e. let w = h.each i s e in (w.0, f s.side w.1);
+  all = λ s l k d at there. h.all s l k (g s l at d) at there;
+  ascend = h.ascend;
+}
+
+-- a side without a triangle changes nothing
+added_none : (D E : Side → Type 0) (m : Map) (ts : List Triangle) (fs : List ℕ) (ss : List FacedSide) (s0 : Side) (l0 : MapLine) → line_at m s0.line ≡ Some l0 → triangle_at ts (side_edge m l0 s0.left) ≡ None
+    → ((s : Side) → D s → E s) → ((s : Side) → E s → D s ⊎ (s ≡ s0)) → AreFacedOf D m ts fs ss → AreFacedOf E m ts fs ss
+added_none D E m ts fs ss s0 l0 at0 none f g h = record {
+  each = λ i s e. let w = h.each i s e in (w.0, f s.side w.1);
+  all = λ s l k d at there. elim (g s d) as (λ _. (i : ℕ) × (x : FacedSide) × (slice_get ss i ≡ Some x) × (x.side ≡ s)) [
+    | inl old ↦ h.all s l k old at there
+    | inr same ↦ absurd (none-some k (sym none ∙ ap (λ (x : MapLine). triangle_at ts (side_edge m x s0.left)) (same_Some l0 l (sym at0 ∙ ap (λ (x : Side). line_at m x.line) (sym same) ∙ at))
+        ∙ ap (λ (x : Side). triangle_at ts (side_edge m l x.left)) (sym same) ∙ there))
+  ];
+  ascend = h.ascend;
+}
+
+added_some : (D E : Side → Type 0) (m : Map) (ts : List Triangle) (fs : List ℕ) (ss : List FacedSide) (f0 : FacedSide) → IsFaced m ts fs f0 → E f0.side
+    → ((s : Side) → D s → E s) → ((s : Side) → E s → D s ⊎ (s ≡ f0.side)) → ((s : Side) → D s → IsSideBefore s f0.side) → AreFacedOf D m ts fs ss → AreFacedOf E m ts fs (ss ++ f0 ∷ [])
+added_some D E m ts fs ss f0 is d0 f g order h = record {
+  each = λ i s e. elim (more_cases ss f0 s i e) as (λ _. IsFaced m ts fs s × E s.side) [
+    | inl old ↦ let w = h.each i s old in (w.0, f s.side w.1)
+    | inr new ↦ subst (λ (x : FacedSide). IsFaced m ts fs x × E x.side) new.1 (is, d0)
+  ];
+  all = λ s l k d at there. elim (g s d) as (λ _. (i : ℕ) × (x : FacedSide) × (slice_get (ss ++ f0 ∷ []) i ≡ Some x) × (x.side ≡ s)) [
+    | inl old ↦ let w = h.all s l k old at there in (w.0, w.1, more_old ss f0 w.1 w.0 w.2, w.3)
+    | inr same ↦ (length ss, f0, more_last ss f0, sym same)
+  ];
+  ascend = λ i j s t lt e e2. elim (more_cases ss f0 t j e2) as (λ _. IsSideBefore s.side t.side) [
+    | inl old2 ↦ elim (more_cases ss f0 s i e) as (λ _. IsSideBefore s.side t.side) [
+      | inl old ↦ h.ascend i j s t lt old old2
+      | inr new ↦ absurd (let w = slice_get_within ss j t old2 in let x = new.0 in omega (arith, lt, w, x))
+    ]
+    | inr new2 ↦ elim (more_cases ss f0 s i e) as (λ _. IsSideBefore s.side t.side) [
+      | inl old ↦ subst (λ (x : FacedSide). IsSideBefore s.side x.side) new2.1 (order s.side (h.each i s old).1)
+      | inr new ↦ absurd (let x = new.0 in let y = new2.0 in omega (arith, lt, x, y))
+    ]
+  ];
+}
+
+-- one side of a plan's line
+one_added : (D E : Side → Type 0) (p : PlanParts) → IsPlan p → (ts : List Triangle) (fs : List ℕ) (old new : List FacedSide) (n : ℕ) (l : Line) (left : Bool) → slice_get p.lines n ≡ Some (Some l) → E (record { line = n; left = left })
+    → ((s : Side) → D s → E s) → ((s : Side) → E s → D s ⊎ (s ≡ record { line = n; left = left })) → ((s : Side) → D s → IsSideBefore s (record { line = n; left = left }))
+    → IsAdded ts fs (edge_of_side l left) (record { line = n; left = left }) (name_of_side l left) old new → AreFacedOf D (map_of p) ts fs old → AreFacedOf E (map_of p) ts fs new
+one_added D E p is ts fs old new n l left e d0 f g order added h = go (triangle_at ts (edge_of_side l left)) refl added
+  where
+    go : (o : Option ℕ) → triangle_at ts (edge_of_side l left) ≡ o → MatchOption o (new ≡ old) (λ k. new ≡ old ++ record { side = record { line = n; left = left }; face = class_of fs k; sector = name_of_side l left } ∷ []) → AreFacedOf E (map_of p) ts fs new
+    go None there same = subst (λ (xs : List FacedSide). AreFacedOf E (map_of p) ts fs xs) (sym same)
+        (added_none D E (map_of p) ts fs old (record { line = n; left = left }) (looked_up p.points l) (plan_line_at p n l e) (ap (triangle_at ts) (side_is p is n l left e) ∙ there) f g h)
+    go (Some k) there same = subst (λ (xs : List FacedSide). AreFacedOf E (map_of p) ts fs xs) (sym same)
+        (added_some D E (map_of p) ts fs old (record { side = record { line = n; left = left }; face = class_of fs k; sector = name_of_side l left })
+        (record { line = looked_up p.points l; is = plan_line_at p n l e; k = k; at = ap (triangle_at ts) (side_is p is n l left e) ∙ there; face = refl; sector = sym (name_is p n l left e) }) d0 f g order h)
+
+same_side : (s : Side) (n : ℕ) (left : Bool) → s.line ≡ n → s.left ≡ left → s ≡ record { line = n; left = left }
+same_side s n left e f = go s.line s.left e f
+  where
+    go : (a : ℕ) (b : Bool) → a ≡ n → b ≡ left → ◌≡◌ {A = Side} (record { line = a; left = b }) (record { line = n; left = left })
+    go a b e f = cc
+
+left_or_right : (b : Bool) → (b ≡ false) ⊎ (b ≡ true)
+left_or_right false = inl refl
+left_or_right true = inr refl
+
+pub line_added : (p : PlanParts) → IsPlan p → (ts : List Triangle) (fs : List ℕ) (old new : List FacedSide) (n : ℕ) (l : Line) → slice_get p.lines n ≡ Some (Some l) → AreAdded ts fs n l old new
+    → AreFacedOf (λ s. s.line < n) (map_of p) ts fs old → AreFacedOf (λ s. s.line < n + 1) (map_of p) ts fs new
+line_added p is ts fs old new n l e added h =
+    one_added (λ s. (s.line < n) ⊎ ((s.line ≡ n) × (s.left ≡ false))) (λ s. s.line < n + 1) p is ts fs added.middle new n l true e (omega arith)
+    (λ s d. elim d as (λ _. s.line < n + 1) [ inl lt ↦ omega (arith, lt) | inr w ↦ let x = w.0 in omega (arith, x) ])
+    (λ s lt. elim (below_next s.line n lt) as (λ _. ((s.line < n) ⊎ ((s.line ≡ n) × (s.left ≡ false))) ⊎ (s ≡ record { line = n; left = true })) [
+      | inl less ↦ inl (inl less)
+      | inr same ↦ elim (left_or_right s.left) as (λ _. ((s.line < n) ⊎ ((s.line ≡ n) × (s.left ≡ false))) ⊎ (s ≡ record { line = n; left = true })) [ inl b ↦ inl (inr (same, b)) | inr b ↦ inr (same_side s n true same b) ]
+    ])
+    (λ s d. elim d as (λ _. IsSideBefore s (record { line = n; left = true })) [ inl lt ↦ inl lt | inr w ↦ inr (w.0, w.1, refl) ])
+    added.left
+    (one_added (λ s. s.line < n) (λ s. (s.line < n) ⊎ ((s.line ≡ n) × (s.left ≡ false))) p is ts fs old added.middle n l false e (inr (refl, refl))
+    (λ s lt. inl lt)
+    (λ s d. elim d as (λ _. (s.line < n) ⊎ (s ≡ record { line = n; left = false })) [ inl lt ↦ inl lt | inr w ↦ inr (same_side s n false w.0 w.1) ])
+    (λ s lt. inl lt)
+    added.right h)
+
+pub no_line_added : (p : PlanParts) (ts : List Triangle) (fs : List ℕ) (ss : List FacedSide) (n : ℕ) → slice_get p.lines n ≡ Some None → AreFacedOf (λ s. s.line < n) (map_of p) ts fs ss → AreFacedOf (λ s. s.line < n + 1) (map_of p) ts fs ss
+no_line_added p ts fs ss n e h = changed_faced _ _ (map_of p) ts fs ss (λ s lt. omega (arith, lt)) (λ s l at lt. elim (below_next s.line n lt) as (λ _. s.line < n) [
+  | inl less ↦ less
+  | inr same ↦ absurd (none-some l (sym (no_line_there p n e) ∙ ap (line_at (map_of p)) (sym same) ∙ at))
+]) h
+
+pub all_added : (p : PlanParts) (ts : List Triangle) (fs : List ℕ) (ss : List FacedSide) (n : ℕ) → length p.lines ≤ n → AreFacedOf (λ s. s.line < n) (map_of p) ts fs ss → AreFaced (map_of p) ts fs ss
+all_added p ts fs ss n past h = changed_faced _ _ (map_of p) ts fs ss (λ s lt. tt) (λ s l at u. let lt = line_below p s.line l at in omega (arith, lt, past)) h
+
+pub faced_below : (m : Map) (ts : List Triangle) (fs : List ℕ) (ss : List FacedSide) → length fs ≡ length ts → All (IsBelow (length ts)) fs → AreFaced m ts fs ss → All (IsFacedBelow (length ts)) ss
+faced_below m ts fs ss len range h i d lt =
+    let w = (h.each i (get_or ss i d) (slice_get-get_or ss i d lt)).0 in
+    let k = triangle_below ts (side_edge m w.line (get_or ss i d).side.left) w.k w.at in
+    let r = range w.k 0 (omega (arith, len, k)) in let f = w.face in omega (arith, f, r)
+
+-- ---- sides on one face
+
+pub record AreAlikeBefore (ss : List FacedSide) (n : ℕ) (seen : List Bool) : Type 0 where
+  pub alike : (i j : ℕ) → i < n → i < j → AreAlike ss i j
+  pub noted : (f : ℕ) → slice_index_or seen f false ≡ true → (i : ℕ) × (s : FacedSide) × (i < n) × (slice_get ss i ≡ Some s) × (s.face ≡ f)
+
+pub alike_none : (ss : List FacedSide) (seen : List Bool) → ((f : ℕ) → slice_index_or seen f false ≡ false) → AreAlikeBefore ss 0 seen
+alike_none ss seen none = record { alike = λ i j lt. absurd (omega arith); noted = λ f h. absurd (false≢true (sym (none f) ∙ h)) }
+
+-- a later side of a face that was seen
+pub alike_seen : (ss : List FacedSide) (n : ℕ) (seen : List Bool) (s : FacedSide) → slice_get ss n ≡ Some s → slice_index_or seen s.face false ≡ true → AreAlikeBefore ss n seen → AreAlikeBefore ss (n + 1) seen
+alike_seen ss n seen s at mark h = record {
+  alike = λ i j lt order. elim (below_next i n lt) as (λ _. AreAlike ss i j) [
+    | inl less ↦ h.alike i j less order
+    | inr same ↦ here i j same order
+  ];
+  noted = λ f mk. let w = h.noted f mk in let lt = w.2 in (w.0, w.1, omega (arith, lt), w.3, w.4);
+}
+  where
+    here : (i j : ℕ) → i ≡ n → i < j → AreAlike ss i j
+    here i j same order x y ex ey face =
+        let xs : s ≡ x = same_Some s x (sym at ∙ ap (slice_get ss) (sym same) ∙ ex) in
+        let w = h.noted s.face mark in
+        let fs : x.face ≡ w.1.face = ap (λ (v : FacedSide). v.face) (sym xs) ∙ sym w.4 in
+        let lt = w.2 in
+        h.alike w.0 j w.2 (omega (arith, lt, same, order)) w.1 y w.3 ey (face ∙ fs) ∙ sym (h.alike w.0 n w.2 w.2 w.1 s w.3 at (sym w.4)) ∙ ap (λ (v : FacedSide). v.sector) xs
+
+-- the first side of a face, of which no later one differs
+pub alike_first : (ss : List FacedSide) (n : ℕ) (seen : List Bool) (s : FacedSide) → slice_get ss n ≡ Some s → s.face < length seen → IsOtherFrom ss n s None → AreAlikeBefore ss n seen → AreAlikeBefore ss (n + 1) (set seen s.face true)
+alike_first ss n seen s at lf none h = record {
+  alike = λ i j lt order. elim (below_next i n lt) as (λ _. AreAlike ss i j) [
+    | inl less ↦ h.alike i j less order
+    | inr same ↦ here i j same order
+  ];
+  noted = λ f mk. elim (cases_eq f s.face) as (λ _. (i : ℕ) × (x : FacedSide) × (i < n + 1) × (slice_get ss i ≡ Some x) × (x.face ≡ f)) [
+    | inl same ↦ (n, s, omega arith, at, sym same)
+    | inr other ↦ let w = h.noted f (sym (get_or-set_other seen s.face f true false other) ∙ mk) in let lt = w.2 in (w.0, w.1, omega (arith, lt), w.3, w.4)
+  ];
+}
+  where
+    here : (i j : ℕ) → i ≡ n → i < j → AreAlike ss i j
+    here i j same order x y ex ey face =
+        let xs : s ≡ x = same_Some s x (sym at ∙ ap (slice_get ss) (sym same) ∙ ex) in
+        none j y (omega (arith, same, order)) ey (face ∙ ap (λ (v : FacedSide). v.face) (sym xs)) ∙ ap (λ (v : FacedSide). v.sector) xs
+
+pub mixed_found : (ss : List FacedSide) (n j : ℕ) (seen : List Bool) (s : FacedSide) → slice_get ss n ≡ Some s → IsOtherFrom ss n s (Some j) → AreAlikeBefore ss n seen → IsFirstMixed ss n j
+mixed_found ss n j seen s at found h = record {
+  first = s;
+  second = found.1.0;
+  order = found.0;
+  at = at;
+  at_too = found.1.1;
+  mixed = found.1.2;
+  before = λ g i lt order. h.alike g i lt order;
+  before_here = λ i order lt x y ex ey face.
+      let xs : s ≡ x = same_Some s x (sym at ∙ ex) in
+      found.2 i y order lt ey (face ∙ ap (λ (v : FacedSide). v.face) (sym xs)) ∙ ap (λ (v : FacedSide). v.sector) xs;
+}
+
+pub all_alike : (ss : List FacedSide) (n : ℕ) (seen : List Bool) → length ss ≤ n → AreAlikeBefore ss n seen → (i j : ℕ) → i < j → AreAlike ss i j
+all_alike ss n seen past h i j order x y ex ey face = h.alike i j (let lt = slice_get_within ss i x ex in omega (arith, lt, past)) order x y ex ey face
+
+-- ---- the names of faces
+
+pub record AreNamesBefore (ss : List FacedSide) (n : ℕ) (ns : List (Option ℕ)) : Type 0 where
+  pub given : (f a : ℕ) → slice_index_or ns f None ≡ Some a → (i : ℕ) × (s : FacedSide) × (slice_get ss i ≡ Some s) × (s.face ≡ f) × (s.sector ≡ Some a)
+  pub none : (i : ℕ) (s : FacedSide) → i < n → slice_get ss i ≡ Some s → slice_index_or ns s.face None ≡ None → s.sector ≡ None
+
+pub names_none : (ss : List FacedSide) (ns : List (Option ℕ)) → ((f : ℕ) → slice_index_or ns f None ≡ None) → AreNamesBefore ss 0 ns
+names_none ss ns none = record { given = λ f a h. absurd (none-some a (sym (none f) ∙ h)); none = λ i s lt. absurd (omega arith) }
+
+pub name_given : (ss : List FacedSide) (n : ℕ) (ns : List (Option ℕ)) (s : FacedSide) → slice_get ss n ≡ Some s → s.face < length ns → slice_index_or ns s.face None ≡ None → AreNamesBefore ss n ns → AreNamesBefore ss (n + 1) (set ns s.face s.sector)
+name_given ss n ns s at lf empty h = record {
+  given = λ f a g. elim (cases_eq f s.face) as (λ _. (i : ℕ) × (x : FacedSide) × (slice_get ss i ≡ Some x) × (x.face ≡ f) × (x.sector ≡ Some a)) [
+    | inl same ↦ (n, s, at, sym same, sym (get_or-set_same ns s.face s.sector None lf) ∙ ap (λ (k : ℕ). slice_index_or (set ns s.face s.sector) k None) (sym same) ∙ g)
+    | inr other ↦ h.given f a (sym (get_or-set_other ns s.face f s.sector None other) ∙ g)
+  ];
+  none = λ i x lt e g. elim (below_next i n lt) as (λ _. x.sector ≡ None) [
+    | inl less ↦ elim (cases_eq x.face s.face) as (λ _. x.sector ≡ None) [
+      | inl same ↦ h.none i x less e (ap (λ (k : ℕ). slice_index_or ns k None) same ∙ empty)
+      | inr other ↦ h.none i x less e (sym (get_or-set_other ns s.face x.face s.sector None other) ∙ g)
+    ]
+    | inr same ↦ let xs : s ≡ x = same_Some s x (sym at ∙ ap (slice_get ss) (sym same) ∙ e) in
+        ap (λ (v : FacedSide). v.sector) (sym xs) ∙ sym (get_or-set_same ns s.face s.sector None lf) ∙ ap (λ (v : FacedSide). slice_index_or (set ns s.face s.sector) v.face None) xs ∙ g
+  ];
+}
+
+pub name_kept : (ss : List FacedSide) (n : ℕ) (ns : List (Option ℕ)) (s : FacedSide) → slice_get ss n ≡ Some s → ¬ (slice_index_or ns s.face None ≡ None) → AreNamesBefore ss n ns → AreNamesBefore ss (n + 1) ns
+name_kept ss n ns s at some h = record {
+  given = h.given;
+  none = λ i x lt e g. elim (below_next i n lt) as (λ _. x.sector ≡ None) [
+    | inl less ↦ h.none i x less e g
+    | inr same ↦ let xs : s ≡ x = same_Some s x (sym at ∙ ap (slice_get ss) (sym same) ∙ e) in absurd (some (ap (λ (v : FacedSide). slice_index_or ns v.face None) xs ∙ g))
+  ];
+}
+
+pub all_named : (ss : List FacedSide) (n : ℕ) (ns : List (Option ℕ)) → length ss ≤ n → AreNamesBefore ss n ns → AreNames ss ns
+all_named ss n ns past h = record { given = h.given; none = λ i s e g. h.none i s (let lt = slice_get_within ss i s e in omega (arith, lt, past)) e g }

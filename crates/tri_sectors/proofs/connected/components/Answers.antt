@@ -1,0 +1,33 @@
+use Rattle.std.proofs.Common.{ℕ, ◌+◌, List, length, Some, None, Option, sym, ap, ◌∙◌, subst, arith, Vec, Global}
+use Rattle.sight_names.specs.declared.plan.Line.{Line}
+use Rattle.std.proofs.lemmas.List.{with_items_is}
+use Rattle.sight_names.specs.Plan.{PlanParts}
+use Rattle.tri_sectors.specs.Classes.{AreSingles}
+use Rattle.mesh_shape.proofs.RuleLemmas.{item_there}
+use Rattle.tri_sectors.proofs.ComponentLemmas.{IsPassed, begun, line_passed, none_passed, sector_below, components_of}
+use Rattle.tri_sectors.proofs.connected.components.Goals as goal
+use Rattle.tri_sectors.proofs.connected.components.Goals.{in-Some, in_default}
+
+pub loop-line-init : goal.loop-line-init
+loop-line-init c = begun c.args.plan.now _ (subst (λ (p : PlanParts). AreSingles p.sectors c.in_ok-classes.classes.items) c.plan.view_is c.in_ok-classes.ensures.singles) c.in_ok-classes.ensures.named
+
+pub connect-requires-clause-right : goal.connect-requires-clause-right
+connect-requires-clause-right c = let there = item_there c.lines-line-items.result.now c.args.plan.now.lines c.loop-line.line-index None c.lines-line-items.ensures.list c.loop-line-test.true ∙ ap (λ (o : Option Line). Some o) c.in-Some.is in
+    (sector_below c.args.plan.now c.lines-line-items.ensures.plan c.loop-line.line-index c.in-Some.line c.loop-line.classes.items _ there c.deref_mut.ensures.value c.loop-line.invariant.len).0
+
+pub connect-requires-clause-left : goal.connect-requires-clause-left
+connect-requires-clause-left c = let there = item_there c.lines-line-items.result.now c.args.plan.now.lines c.loop-line.line-index None c.lines-line-items.ensures.list c.loop-line-test.true ∙ ap (λ (o : Option Line). Some o) c.in-Some.is in
+    (sector_below c.args.plan.now c.lines-line-items.ensures.plan c.loop-line.line-index c.in-Some.line c.loop-line.classes.items _ there c.deref_mut.ensures.value c.loop-line.invariant.len).1
+
+pub loop-line-preserved : goal.loop-line-preserved
+loop-line-preserved c =
+    let item = item_there c.lines-line-items.result.now c.args.plan.now.lines c.loop-line.line-index None c.lines-line-items.ensures.list c.loop-line-test.true in
+    elim c.match-line.branch [
+      | in-Some w ↦ subst (λ (xs : List ℕ). IsPassed c.args.plan.now (c.loop-line.line-index + 1) xs) (sym (ap (λ (v : Vec ℕ Global). v.items) w.classes-is ∙ with_items_is c.loop-line.classes w.connect.new.classes (w.connect.ensures.len ∙ w.deref_mut.ensures.len)))
+          (line_passed c.args.plan.now c.lines-line-items.ensures.plan c.loop-line.line-index w.in-Some.line c.loop-line.classes.items w.deref_mut.result.now w.connect.new.classes (item ∙ ap (λ (o : Option Line). Some o) w.in-Some.is) w.deref_mut.ensures.value w.connect.ensures c.loop-line.invariant)
+      | in_default w ↦ subst (λ (v : Vec ℕ Global). IsPassed c.args.plan.now (c.loop-line.line-index + 1) v.items) (sym w.classes-is)
+          (none_passed c.args.plan.now c.loop-line.line-index c.loop-line.classes.items (item ∙ ap (λ (o : Option Line). Some o) w.in_default.is) c.loop-line.invariant)
+    ]
+
+pub returns-clause-components : goal.returns-clause-components
+returns-clause-components c = components_of c.args.plan.now c.lines-line-items.ensures.plan c.loop-line.line-index _ (let e = ap length c.lines-line-items.ensures.list in let f = c.loop-line-test.false in omega (arith, e, f)) c.loop-line.invariant
