@@ -10,7 +10,7 @@ ghost use Rattle.sight_job.specs.Built.{sizes_of, IsLabelledMesh, AreWalks, AreV
 use crate::certificate::{cert_of, labelled};
 use block_evidence::Tree;
 use cert_format::{Cert, Sizes};
-use mesh_shape::{Labels, Mesh, mesh_fault};
+use mesh_shape::{Labels, Mesh};
 use pair_budget::{Alone, SourceResult, Verdicts, decide, walk_source};
 use reject_bits::Table;
 use sight_names::{Budget, BuildFault, Items, LabelFault, Memory, Pair, Plan};
@@ -91,11 +91,6 @@ fn labelled_mesh(alloc: Global, plan: &Plan) -> Result<LabelledMesh, BuildFault>
         }
         Err(LabelFault::Memory) => return Err(BuildFault::Memory),
     };
-    // That the greedy segments are those of the definition isn't proved yet, and with it that their triangles are a plain
-    // mesh, so the mesh is tested here. No map is known on which the test fails.
-    if mesh_fault(plan, &mesh, &labels).is_some() {
-        return Err(BuildFault::Memory);
-    }
     Ok(LabelledMesh { mesh, labels })
 }
 
