@@ -4,10 +4,13 @@ use Rattle.std.specs.List.{slice_get, AllByRecursion}
 use Rattle.std.specs.Prelude.{IfOk}
 use Rattle.std.proofs.lemmas.Option.{slice_get_within, slice_get-get_or, get_or_from_slice_get}
 use Rattle.sight_names.specs.declared.faults.CheckFault.{CheckFault}
-use Rattle.sight_names.specs.declared.faults.CheckFault.TheVariants.{Mesh, Ray, Tree, ListedSet, Unproved, Uncovered}
+use Rattle.sight_names.specs.declared.faults.CheckFault.TheVariants.{Mesh, Ray, Tree as OfTree, ListedSet, Unproved, Uncovered}
 use Rattle.sight_names.specs.declared.names.Pair.{Pair}
 use Rattle.sight_names.specs.declared.names.PairRay.{PairRay}
+use Rattle.std.proofs.lemmas.Bool.{cases_lt}
 use Rattle.sight_names.specs.Map.{Map}
+use Rattle.sight_names.specs.Found.{AreConnected}
+use Rattle.cert_checker.proofs.Components.{one_component, one_number, same_or}
 use Rattle.reject_bits.specs.Parts.{TableParts}
 use Rattle.cert_format.specs.declared.cert.Sizes.{Sizes}
 use Rattle.cert_format.specs.Parts.{CertParts}
@@ -16,9 +19,11 @@ use Rattle.cert_format.specs.Accepted.{EitherSet, EitherClear, IsNamed, IsPairLi
 use Rattle.cert_checker.specs.declared.verdict.Totals.{Totals}
 use Rattle.cert_checker.specs.declared.verdict.Verdict.{Verdict}
 use Rattle.cert_checker.specs.declared.verdict.Verdict.TheVariants.{Yes, No}
-use Rattle.cert_checker.specs.Pairs.{KnownParts, pairs_of, pair, IsWithin, IsMarked, IsSet, HasRay, IsShownBlind, IsShownSeen, IsFine, IsFaultAt, IsRowFine, IsFirstInRow, IsFirstPairFault, ArePairsFine, IsKnown, AreTotals}
-use Rattle.cert_checker.specs.Named.{MarksNamed}
-use Rattle.cert_checker.specs.Judged.{IsAbout, IsPairRight, IsReached, JudgesPairs, JudgesRays, IsPairVerdict, IsTreeFault}
+use Rattle.cert_checker.specs.Pairs.{KnownParts, pairs_of, pair, IsWithin, IsMarked, HaveSameNumber, IsSet, HasRay, KeepsAway, IsShownBlind, IsShownSeen, IsFine, IsFaultAt, IsRowFine, IsFirstInRow, IsFirstPairFault, ArePairsFine, IsKnown, AreTotals}
+use Rattle.block_evidence.specs.declared.Tree.{Tree}
+use Rattle.tri_sectors.specs.Components.{AreComponents}
+use Rattle.cert_checker.specs.Named.{HasNoMark, MarksNamed, MarksSources}
+use Rattle.cert_checker.specs.Judged.{IsAbout, HasTreeOf, MayBeBlind, MayBeSeen, IsPairRight, IsReached, JudgesPairs, JudgesRays, IsPairVerdict, IsTreeFault}
 use Rattle.cert_checker.specs.Rays.{AreAimedBelow}
 
 -- ---- lists of a certificate in order
@@ -86,16 +91,21 @@ marked_or (x ∷ marks) (suc a) = marked_or marks a
 right_of : (m : Map) (c : CertParts) (k : KnownParts) (a b : ℕ) → IsAbout m c k → k.table.n ≡ m.sectors → a ≤ b → b < m.sectors → IsFine k a b → IsPairRight m k.table c a b
 right_of m c k a b about size l h fine = record {
   listed = λ n. fine.listed (subst (λ (ps : List Pair). Contains ps (pair a b)) (sym about.listed) n);
-  named = λ s e n. blind s (fine.set s) e n;
+  set = λ s. blind (fine.set s);
   clear = λ n f. seen (fine.clear n (λ g. f (subst (λ (ps : List Pair). Contains ps (pair a b)) about.listed g)));
 }
   where
     marks : (IsMarked k.named a → IsNamed m a) × (IsNamed m a → IsMarked k.named a)
     marks = about.named.flags a (omega arith)
 
-    blind : IsSet k a b → IsShownBlind k a b → a ≡ b → IsNamed m a → ⊥
-    blind s (inl n) e g = n.1 (marks.1 g)
-    blind s (inr n) e g = n.0 e
+    apart : (¬ HaveSameNumber k.components a b) ⊎ KeepsAway k a b ⊎ KeepsAway k b a → (¬ AreConnected m a b) ⊎ HasTreeOf c a ⊎ HasTreeOf c b
+    apart (inl n) = inl (λ g. n (one_number m k.components a b about.components (omega arith) h g))
+    apart (inr (inl n)) = inr (inl (about.walked a (omega arith) n.0))
+    apart (inr (inr n)) = inr (inr (about.walked b h n.0))
+
+    blind : IsShownBlind k a b → MayBeBlind m c a b
+    blind (inl n) = inl (n.0, λ g. n.1 (marks.1 g))
+    blind (inr n) = inr (n.0, apart n.1)
 
     seen : IsShownSeen k a b → IsProvedSeen m c a b
     seen (inl n) = inl (n.0, marks.0 n.1)
@@ -124,11 +134,20 @@ first_wrong m c k n f about size e first = at f first.row.fault
     listed : (a b : ℕ) → IsPairListed c a b → Contains k.listed (pair a b)
     listed a b l = subst (λ (ps : List Pair). Contains ps (pair a b)) (sym about.listed) l
 
-    named : (a b : ℕ) → a ≤ b → b < m.sectors → ¬ IsShownBlind k a b → a ≡ b → IsNamed m a
-    named a b l h none q = elim (marked_or k.named a) as (λ _. IsNamed m a) [
-      | inl n ↦ (about.named.flags a (omega arith)).0 n
-      | inr n ↦ absurd (none (inl (q, n)))
+    seen : (a b : ℕ) → a ≤ b → b < m.sectors → ¬ IsShownBlind k a b → MayBeSeen m a b
+    seen a b l h none = elim (cases_lt a b) as (λ _. MayBeSeen m a b) [
+      | inl n ↦ elim (same_or m k.components a b about.components (omega arith) h) as (λ _. MayBeSeen m a b) [
+        | inl s ↦ inr (differ n, one_component m k.components a b about.components s)
+        | inr s ↦ absurd (none (inr (differ n, inl s)))
+      ]
+      | inr n ↦ elim (marked_or k.named a) as (λ _. MayBeSeen m a b) [
+        | inl s ↦ inl (omega arith, (about.named.flags a (omega arith)).0 s)
+        | inr s ↦ absurd (none (inl (omega arith, s)))
+      ]
     ]
+      where
+        differ : a < b → a ≡ b → ⊥
+        differ n e = omega arith
 
     move : (P : ℕ → ℕ → Type 0) (x y : ℕ) → x ≡ first.a → y ≡ first.row.b → P first.a first.row.b → P x y
     move P x y q r h = subst (λ (z : ℕ). P z y) (sym q) (subst (λ (z : ℕ). P first.a z) (sym r) h)
@@ -138,13 +157,13 @@ first_wrong m c k n f about size e first = at f first.row.fault
 
     at : (g : CheckFault) → IsFaultAt k first.a first.row.b g → JudgesPairs m k.table c (No g)
     at (ListedSet x y) h = move (λ a b. IsReached m k.table c a b × IsPairListed c a b × EitherSet k.table.n k.table.bytes a b) x y h.0 h.1 (reached, subst (λ (ps : List Pair). Contains ps (pair first.a first.row.b)) about.listed h.2, h.3)
-    at (Unproved x y) h = move (λ a b. IsReached m k.table c a b × ¬ IsPairListed c a b × EitherSet k.table.n k.table.bytes a b × (a ≡ b → IsNamed m a)) x y h.0 h.1
-        (reached, (λ n. h.2 (listed first.a first.row.b n) h.3), h.3, named first.a first.row.b first.row.order within h.4)
+    at (Unproved x y) h = move (λ a b. IsReached m k.table c a b × ¬ IsPairListed c a b × EitherSet k.table.n k.table.bytes a b × MayBeSeen m a b) x y h.0 h.1
+        (reached, (λ n. h.2 (listed first.a first.row.b n) h.3), h.3, seen first.a first.row.b first.row.order within h.4)
     at (Uncovered x y) h = move (λ a b. IsReached m k.table c a b × ¬ IsPairListed c a b × EitherClear k.table.n k.table.bytes a b × ¬ IsProvedSeen m c a b) x y h.0 h.1
         (reached, (λ n. h.5 (listed first.a first.row.b n)), h.4, not_seen m c k first.a first.row.b about first.row.order within h.6)
     at (Mesh x) h = absurd h
     at (Ray x y z) h = absurd h
-    at (Tree x y) h = absurd h
+    at (OfTree x y) h = absurd h
 
 -- ---- rays, where a tree or a pair is told
 
@@ -152,7 +171,7 @@ all_aimed : (m : Map) (rays more : List PairRay) → rays ≡ more → AreAimedB
 all_aimed m rays more e all = subst (λ (rs : List PairRay). AreAimedBelow m rs (length rs)) e all
 
 pub rays_at_tree : (m : Map) (c : CertParts) (rays : List PairRay) (f : CheckFault) → rays ≡ c.rays → AreAimedBelow m rays (length rays) → IsTreeFault f → JudgesRays m c (No f)
-rays_at_tree m c rays (Tree x y) e all kind = all_aimed m rays c.rays e all
+rays_at_tree m c rays (OfTree x y) e all kind = all_aimed m rays c.rays e all
 rays_at_tree m c rays (Mesh x) e all kind = absurd kind
 rays_at_tree m c rays (Ray x y z) e all kind = absurd kind
 rays_at_tree m c rays (ListedSet x y) e all kind = absurd kind
@@ -166,4 +185,21 @@ rays_at_pairs m c rays (No (Unproved x y)) e all kind = all_aimed m rays c.rays 
 rays_at_pairs m c rays (No (Uncovered x y)) e all kind = all_aimed m rays c.rays e all
 rays_at_pairs m c rays (No (Mesh x)) e all kind = absurd kind
 rays_at_pairs m c rays (No (Ray x y z)) e all kind = absurd kind
-rays_at_pairs m c rays (No (Tree x y)) e all kind = absurd kind
+rays_at_pairs m c rays (No (OfTree x y)) e all kind = absurd kind
+
+-- ---- what the judge of pairs is given
+
+pub is_about : (m : Map) (c : CertParts) (k : KnownParts) (named : List Bool) (components : List ℕ) (trees : List Tree) (none old new : List Bool)
+    → k.named ≡ named → MarksNamed m named → k.components ≡ components → AreComponents m components → trees ≡ c.trees → HasNoMark m.sectors none → old ≡ none → MarksSources trees old new → k.walked ≡ new
+    → k.listed ≡ c.listed → k.rays ≡ pairs_of c.rays → IsAbout m c k
+is_about m c k named components trees none old new e marks f are g unmarked h sources w listed rays = record {
+  named = subst (MarksNamed m) (sym e) marks;
+  components = subst (AreComponents m) (sym f) are;
+  walked = λ a l n. walked a l (sources a (subst (λ (bs : List Bool). IsMarked bs a) w n));
+  listed = listed;
+  rays = rays;
+}
+  where
+    walked : (a : ℕ) → a < m.sectors → IsMarked old a ⊎ ((t : Tree) × Contains trees t × (t.source ≡ a)) → HasTreeOf c a
+    walked a l (inl n) = absurd (unmarked.none a l (subst (λ (bs : List Bool). IsMarked bs a) h n))
+    walked a l (inr (t, n, q)) = (t, subst (λ (ts : List Tree). Contains ts t) g n, q)

@@ -5,3 +5,5 @@ pub mod Rows
 pub mod Sides
 pub mod Judging
 pub mod Aimed
+pub mod Components
+pub mod Sources

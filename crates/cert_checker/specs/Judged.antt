@@ -1,14 +1,17 @@
 -- What the checker's answer says of the mesh, of the rays and of the pairs.
-use Rattle.std.specs.Prelude.{◌≡◌, ◌<◌, ◌≤◌, ◌⊎◌, ℕ, List, Option, Some, length}
+use Rattle.std.specs.Prelude.{◌≡◌, ◌≢◌, ◌<◌, ◌≤◌, ◌⊎◌, ℕ, List, Option, Some, length, Contains}
 use Rattle.sight_names.specs.declared.faults.CheckFault.{CheckFault}
-use Rattle.sight_names.specs.declared.faults.CheckFault.TheVariants.{Mesh, Ray, Tree, ListedSet, Unproved, Uncovered}
+use Rattle.sight_names.specs.declared.faults.CheckFault.TheVariants.{Mesh, Ray, Tree as OfTree, ListedSet, Unproved, Uncovered}
 use Rattle.sight_names.specs.Map.{Map}
+use Rattle.sight_names.specs.Found.{AreConnected}
 use Rattle.sight_names.specs.Mesh.{IsGoodMesh}
+use Rattle.tri_sectors.specs.Components.{AreComponents}
 use Rattle.mesh_shape.specs.Faults.{IsFirstFault}
+use Rattle.block_evidence.specs.declared.Tree.{Tree}
 use Rattle.cert_format.specs.Parts.{CertParts}
 use Rattle.reject_bits.specs.Parts.{TableParts}
 use Rattle.cert_format.specs.Accepted.{triangles_of, labels_of, EitherSet, EitherClear, IsNamed, IsPairListed, IsProvedSeen}
-use Rattle.cert_checker.specs.Pairs.{KnownParts, AreTotals, pairs_of}
+use Rattle.cert_checker.specs.Pairs.{KnownParts, AreTotals, IsMarked, pairs_of}
 use Rattle.cert_checker.specs.Named.{MarksNamed}
 use Rattle.cert_checker.specs.Rays.{AreAimedBelow, IsFirstRayFault}
 use Rattle.cert_checker.specs.declared.verdict.Verdict.{Verdict}
@@ -37,7 +40,7 @@ IsLaterVerdict _ = Unit {0}
 
 -- a fault of a tree
 abbrev pub IsTreeFault : CheckFault → Type 0
-IsTreeFault (Tree s n) = Unit {0}
+IsTreeFault (OfTree s n) = Unit {0}
 IsTreeFault _ = ⊥
 
 -- yes, or a fault of a pair
@@ -48,16 +51,30 @@ IsPairVerdict (No (Unproved a b)) = Unit {0}
 IsPairVerdict (No (Uncovered a b)) = Unit {0}
 IsPairVerdict _ = ⊥
 
--- the judge of pairs goes by the sides of this map, and by the list and the rays of this certificate
+-- some tree of the certificate has this source
+abbrev pub HasTreeOf : CertParts → ℕ → Type 0
+HasTreeOf c a = (t : Tree) × Contains c.trees t × (t.source ≡ a)
+
+-- the judge of pairs goes by the lines of this map, and by the trees, the list and the rays of this certificate
 pub record IsAbout (m : Map) (c : CertParts) (k : KnownParts) : Type 0 where
   pub named : MarksNamed m k.named
+  pub components : AreComponents m k.components
+  pub walked : (a : ℕ) → a < m.sectors → IsMarked k.walked a → HasTreeOf c a
   pub listed : k.listed ≡ c.listed
   pub rays : k.rays ≡ pairs_of c.rays
 
--- a listed pair is clear, and a clear one that isn't listed is proved to see; a set bit of a sector with itself is right
+-- the sector has no side; or the two aren't connected, or one of them has a tree
+abbrev pub MayBeBlind : Map → CertParts → ℕ → ℕ → Type 0
+MayBeBlind m c a b = ((a ≡ b) × ¬ IsNamed m a) ⊎ ((a ≢ b) × (¬ AreConnected m a b ⊎ HasTreeOf c a ⊎ HasTreeOf c b))
+
+-- the sector has a side; or the two are connected
+abbrev pub MayBeSeen : Map → ℕ → ℕ → Type 0
+MayBeSeen m a b = ((a ≡ b) × IsNamed m a) ⊎ ((a ≢ b) × AreConnected m a b)
+
+-- a listed pair is clear, a clear one that isn't listed is proved to see, and a set one may be blind
 pub record IsPairRight (m : Map) (t : TableParts) (c : CertParts) (a b : ℕ) : Type 0 where
   pub listed : IsPairListed c a b → ¬ EitherSet t.n t.bytes a b
-  pub named : EitherSet t.n t.bytes a b → a ≡ b → ¬ IsNamed m a
+  pub set : EitherSet t.n t.bytes a b → MayBeBlind m c a b
   pub clear : EitherClear t.n t.bytes a b → ¬ IsPairListed c a b → IsProvedSeen m c a b
 
 -- it is a pair of the map, and all pairs before it are right
@@ -71,6 +88,6 @@ pub record IsReached (m : Map) (t : TableParts) (c : CertParts) (a b : ℕ) : Ty
 abbrev pub JudgesPairs : Map → TableParts → CertParts → Verdict → Type 0
 JudgesPairs m t c (Yes totals) = ((a b : ℕ) → a ≤ b → b < m.sectors → IsPairRight m t c a b) × AreTotals t c.listed m.sectors totals
 JudgesPairs m t c (No (ListedSet a b)) = IsReached m t c a b × IsPairListed c a b × EitherSet t.n t.bytes a b
-JudgesPairs m t c (No (Unproved a b)) = IsReached m t c a b × ¬ IsPairListed c a b × EitherSet t.n t.bytes a b × (a ≡ b → IsNamed m a)
+JudgesPairs m t c (No (Unproved a b)) = IsReached m t c a b × ¬ IsPairListed c a b × EitherSet t.n t.bytes a b × MayBeSeen m a b
 JudgesPairs m t c (No (Uncovered a b)) = IsReached m t c a b × ¬ IsPairListed c a b × EitherClear t.n t.bytes a b × ¬ IsProvedSeen m c a b
 JudgesPairs m t c _ = Unit {0}

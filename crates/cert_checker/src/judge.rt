@@ -4,9 +4,10 @@ ghost use Rattle.std.specs.Prelude.{◌≡◌, length, map, IfOk, IfSome, MatchO
 ghost use Rattle.sight_names.specs.Map.{map_of};
 ghost use Rattle.sight_names.specs.Sound.{LinesMeetAtEnds};
 ghost use Rattle.cert_format.specs.declared.cert.Labelled.{Labelled as AtSector};
-ghost use Rattle.cert_checker.specs.Named.{MarksNamed, MarksLine, Marks};
+ghost use Rattle.cert_checker.specs.Named.{HasNoMark, MarksNamed, MarksLine, MarksSources, Marks};
 ghost use Rattle.cert_checker.specs.Judged.{JudgesMesh, JudgesRays, JudgesPairs, IsRayFaultOf, IsTreeFault, IsPairVerdict, IsLaterVerdict, IsAbout};
 ghost use Rattle.cert_checker.specs.Pairs.{known_of, IsKnown};
+ghost use Rattle.tri_sectors.specs.Components.{AreComponents};
 ghost use Rattle.cert_checker.specs.Rays.{IsAimed, AreAimedBelow, IsFaultOf, IsFirstRayFault};
 ghost use Rattle.cert_format.specs.Accepted.{triangles_of, labels_of};
 
@@ -55,6 +56,13 @@ fn named_of(alloc: Global, plan: &Plan) -> Result<Vec<bool>, Memory>
         mark_sides(&mut named, *entry);
     }
     Ok(named)
+}
+
+/// So many flags, none of them set.
+fn unmarked(alloc: Global, count: u16) -> Result<Vec<bool>, Memory>
+    ensures { IfOk result (λ v. HasNoMark count v.items) }
+{
+    Ok(vec![in alloc; false; count as usize]?)
 }
 
 /// Marks the sectors that the line's sides name.
@@ -122,6 +130,7 @@ fn tree_fault(
     trees: &[Tree],
 ) -> Option<CheckFault>
     ensures tree { IfSome result IsTreeFault }
+    ensures walked { MarksSources trees.now walked.old walked.new }
     ensures sectors { reached.new.n ≡ reached.old.n }
 {
     for tree in trees {
@@ -164,10 +173,12 @@ struct Store {
 /// Takes all memory of the check but that of the mesh.
 fn store_of(alloc: Global, plan: &Plan, cert: &Cert, mesh: &Mesh) -> Result<Store, Memory>
     ensures reached { IfOk result (λ s. s.reached.n ≡ plan.now.sectors) }
+    ensures walked { IfOk result (λ s. HasNoMark plan.now.sectors s.walked.items) }
     ensures named { IfOk result (λ s. MarksNamed (map_of plan.now) s.named.items) }
+    ensures components { IfOk result (λ s. AreComponents (map_of plan.now) s.components.items) }
 {
     let path = path_of(alloc, cert.trees())?;
-    let walked = vec![in alloc; false; plan.sectors as usize]?;
+    let walked = unmarked(alloc, plan.sectors)?;
     let reached = Table::clear(alloc, plan.sectors)?;
     let components = components(alloc, plan)?;
     let named = named_of(alloc, plan)?;
@@ -202,7 +213,9 @@ fn judge_each_pair(plan: &Plan, cert: &Cert, known: Known<'_>) -> Verdict
 fn judge_rest(plan: &Plan, table: &Table, cert: &Cert, mesh: &Mesh, store: Store) -> Verdict
     requires table { table.now.n ≡ plan.now.sectors }
     requires reached { store.reached.n ≡ plan.now.sectors }
+    requires walked { HasNoMark plan.now.sectors store.walked.items }
     requires named { MarksNamed (map_of plan.now) store.named.items }
+    requires components { AreComponents (map_of plan.now) store.components.items }
     requires sectors { cert.now.sizes.sectors ≡ plan.now.sectors }
     ensures later { IsLaterVerdict result }
     ensures rays { JudgesRays (map_of plan.now) cert.now result }

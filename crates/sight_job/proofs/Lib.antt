@@ -1,3 +1,5 @@
 pub mod LabelledLaws
 pub mod BuildLaws
 pub mod VerdictLaws
+pub mod GoodLabelled
+pub mod FaceLaws

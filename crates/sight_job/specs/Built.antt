@@ -1,12 +1,13 @@
 -- What a build gives.
-use Rattle.std.specs.Prelude.{◌≡◌, ◌≢◌, ℕ, ◌<◌, ◌⊎◌, ◌↔◌, List, [], Option, Some, length, slice_get, Contains, false}
+use Rattle.std.specs.Prelude.{◌≡◌, ◌≢◌, ℕ, ◌<◌, ◌⊎◌, ◌↔◌, List, [], Option, Some, length, slice_get, Contains, false, ⊤}
 use Rattle.sight_names.specs.declared.names.Budget.{Budget}
 use Rattle.sight_names.specs.declared.names.Pair.{Pair}
-use Rattle.sight_names.specs.Map.{map_of}
-use Rattle.sight_names.specs.Mesh.{label_of, IsGoodMesh}
+use Rattle.sight_names.specs.declared.faults.BuildFault.{BuildFault}
+use Rattle.sight_names.specs.declared.faults.BuildFault.TheVariants as build
+use Rattle.sight_names.specs.declared.faults.LabelFault.TheVariants as label
+use Rattle.sight_names.specs.Map.{Map, map_of}
 use Rattle.sight_names.specs.Plan.{PlanParts}
 use Rattle.sight_names.specs.Found.{AreConnected}
-use Rattle.mesh_shape.specs.Shape.{MeshParts}
 use Rattle.tri_sectors.specs.Components.{AreComponents}
 use Rattle.block_evidence.specs.declared.Tree.{Tree}
 use Rattle.reject_bits.specs.Parts.{Rejects}
@@ -16,17 +17,18 @@ use Rattle.pair_budget.specs.declared.results.SourceResult.{SourceResult}
 use Rattle.pair_budget.specs.declared.results.Verdicts.{Verdicts}
 use Rattle.pair_budget.specs.Walked.{IsOutcome}
 use Rattle.sight_job.specs.declared.build.Built.{Built}
+use Rattle.sight_job.specs.Faces.{IsFaceFault}
 use Rattle.pair_budget.specs.Decide.{AreResults, DecidesTable, DecidesList, DecidesRays, trees_of}
 
 -- the sizes of a certificate of this plan
 abbrev pub sizes_of : PlanParts → Sizes
 sizes_of p = record { sectors = p.sectors; points = length p.points; lines = length p.lines }
 
--- a good mesh of the map, whose labels are sectors of it
-pub record IsLabelledMesh (p : PlanParts) (mesh : MeshParts) (labels : List (Option ℕ)) : Type 0 where
-  pub points : mesh.points ≡ length p.points
-  pub good : IsGoodMesh (map_of p) mesh.triangles labels
-  pub sectors : (k a : ℕ) → label_of labels k ≡ Some a → a < p.sectors
+-- why a map gets no table: its faces, as their audit tells
+abbrev pub IsBuildFault : Map → BuildFault → Type 0
+IsBuildFault m (build.Open s) = IsFaceFault m (label.Open s)
+IsBuildFault m (build.Mixed s t) = IsFaceFault m (label.Mixed s t)
+IsBuildFault m build.Memory = ⊤
 
 -- the walks of all sectors by themselves: each went to its end or, where there is one, to the end of its budget
 pub record AreWalks (p : PlanParts) (budget : Budget) (rs : List SourceResult) : Type 0 where

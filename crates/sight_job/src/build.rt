@@ -1,22 +1,23 @@
 //! The build of one map.
 
-ghost use Rattle.std.specs.Prelude.{◌≡◌, ◌<◌, ℕ, Some, IfOk, IsTrue, length};
+ghost use Rattle.std.specs.Prelude.{◌≡◌, IfErr, IfOk};
 ghost use Rattle.sight_names.specs.declared.names.Budget.TheVariants.{Full};
 ghost use Rattle.sight_names.specs.Map.{map_of};
-ghost use Rattle.sight_names.specs.Mesh.{label_of, IsGoodMesh};
-ghost use Rattle.sight_names.specs.Sound.{LinesMeetAtEnds};
-ghost use Rattle.sight_job.specs.Built.{sizes_of, IsLabelledMesh, AreWalks, AreVerdicts, HasRaysOfClear, ListsClear, IsSymmetric, HasDiagonal, HasTreesOfSet, IsWhole};
+ghost use Rattle.sight_names.specs.Mesh.{IsGoodMesh};
+ghost use Rattle.sight_names.specs.Sound.{IsSound, LinesMeetAtEnds};
+ghost use Rattle.cert_format.specs.Accepted.{triangles_of, labels_of};
+ghost use Rattle.sight_job.specs.Faces.{AreFacesOf};
+ghost use Rattle.sight_job.specs.Built.{sizes_of, AreWalks, IsBuildFault, AreVerdicts, HasRaysOfClear, ListsClear, IsSymmetric, HasDiagonal, HasTreesOfSet, IsWhole};
 
 use crate::certificate::{cert_of, labelled};
+use crate::faces::{Faces, faces_of};
 use block_evidence::Tree;
 use cert_format::{Cert, Sizes};
-use mesh_shape::{Labels, Mesh};
 use pair_budget::{Alone, SourceResult, Verdicts, decide, walk_source};
 use reject_bits::Table;
 use sight_names::{Budget, BuildFault, Items, LabelFault, Memory, Pair, Plan};
 use std::alloc::Global;
-use tri_sectors::{components, label};
-use triangulate::{greedy, mesh_of};
+use tri_sectors::components;
 
 /// A map's table, the pairs whose budgets ran out, and the certificate of both.
 #[derive(Drop)]
@@ -24,13 +25,6 @@ pub struct Built {
     pub table: Table,
     pub listed: Items<Pair>,
     pub cert: Cert,
-}
-
-/// The mesh of a map, and the sector of each of its triangles.
-#[derive(Drop)]
-struct LabelledMesh {
-    mesh: Mesh,
-    labels: Labels,
 }
 
 /// The table of a map whose lines meet at ends, by the walks of all its sectors within the budget.
@@ -41,9 +35,12 @@ struct LabelledMesh {
 /// least pair of sides on one face that don't name the same sector.
 pub fn build_table(alloc: Global, plan: &Plan, budget: Budget) -> Result<Built, BuildFault>
     requires audited { LinesMeetAtEnds (map_of plan.now) }
+    ensures sound { IfOk result (λ _. IsSound (map_of plan.now)) }
+    ensures fault { IfErr result (IsBuildFault (map_of plan.now)) }
     ensures sectors { IfOk result (λ b. b.table.n ≡ plan.now.sectors) }
     ensures sizes { IfOk result (λ b. b.cert.sizes ≡ sizes_of plan.now) }
     ensures listed { IfOk result (λ b. b.listed ≡ b.cert.listed) }
+    ensures mesh { IfOk result (λ b. IsGoodMesh (map_of plan.now) (triangles_of b.cert) (labels_of b.cert)) }
     ensures rays { IfOk result HasRaysOfClear }
     ensures clear { IfOk result ListsClear }
     ensures symmetric { IfOk result IsSymmetric }
@@ -51,7 +48,7 @@ pub fn build_table(alloc: Global, plan: &Plan, budget: Budget) -> Result<Built, 
     ensures set { IfOk result (HasTreesOfSet plan.now) }
     ensures whole { budget ≡ Full → IfOk result (IsWhole plan.now) }
 {
-    let shape = labelled_mesh(alloc, plan)?;
+    let shape = sound_faces(alloc, plan)?;
     let verdicts = verdicts_of(alloc, plan, &shape, budget)?;
     let triangles = labelled(alloc, &shape.mesh, &shape.labels)?;
     let listed = Vec::from_slice(alloc, verdicts.listed.as_slice())?;
@@ -74,35 +71,29 @@ pub fn build_table(alloc: Global, plan: &Plan, budget: Budget) -> Result<Built, 
     })
 }
 
-/// The mesh of the map and the labels of its triangles.
-fn labelled_mesh(alloc: Global, plan: &Plan) -> Result<LabelledMesh, BuildFault>
+/// The faces of the map, or why it isn't sound.
+fn sound_faces(alloc: Global, plan: &Plan) -> Result<Faces, BuildFault>
     requires audited { LinesMeetAtEnds (map_of plan.now) }
-    ensures { IfOk result (λ s. IsLabelledMesh plan.now s.mesh s.labels) }
+    ensures faces { IfOk result (AreFacesOf plan.now) }
+    ensures fault { IfErr result (IsBuildFault (map_of plan.now)) }
 {
-    let mesh = {
-        let segments = greedy(alloc, plan)?;
-        mesh_of(alloc, plan, &segments)?
-    };
-    let labels = match label(alloc, plan, &mesh) {
-        Ok(labels) => labels,
-        Err(LabelFault::Open { side }) => return Err(BuildFault::Open { side }),
-        Err(LabelFault::Mixed { first, second }) => {
-            return Err(BuildFault::Mixed { first, second });
-        }
-        Err(LabelFault::Memory) => return Err(BuildFault::Memory),
-    };
-    Ok(LabelledMesh { mesh, labels })
+    match faces_of(alloc, plan) {
+        Ok(faces) => Ok(faces),
+        Err(LabelFault::Open { side }) => Err(BuildFault::Open { side }),
+        Err(LabelFault::Mixed { first, second }) => Err(BuildFault::Mixed { first, second }),
+        Err(LabelFault::Memory) => Err(BuildFault::Memory),
+    }
 }
 
 /// The walks of all sectors, in order, each by itself.
 fn walks_of(
     alloc: Global,
     plan: &Plan,
-    shape: &LabelledMesh,
+    shape: &Faces,
     budget: Budget,
 ) -> Result<Vec<SourceResult>, Memory>
     requires audited { LinesMeetAtEnds (map_of plan.now) }
-    requires shape { IsLabelledMesh plan.now shape.now.mesh shape.now.labels }
+    requires shape { AreFacesOf plan.now shape.now }
     ensures { IfOk result (λ v. AreWalks plan.now budget v.items) }
 {
     let mut results = Vec::new(alloc);
@@ -124,11 +115,11 @@ fn walks_of(
 fn verdicts_of(
     alloc: Global,
     plan: &Plan,
-    shape: &LabelledMesh,
+    shape: &Faces,
     budget: Budget,
 ) -> Result<Verdicts, Memory>
     requires audited { LinesMeetAtEnds (map_of plan.now) }
-    requires shape { IsLabelledMesh plan.now shape.now.mesh shape.now.labels }
+    requires shape { AreFacesOf plan.now shape.now }
     ensures { IfOk result (AreVerdicts plan.now budget) }
 {
     let classes = components(alloc, plan)?;

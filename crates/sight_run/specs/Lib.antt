@@ -3,7 +3,11 @@ pub mod Words
 pub mod Answer
 pub mod Input
 pub mod Zero
-pub mod Judge
+pub mod Ray
+pub mod Sound
+pub mod Audit
+pub mod Trace
+pub mod Check
 pub mod Obeys
 pub mod Report
 pub mod Run

@@ -8,6 +8,7 @@ use Rattle.sight_names.specs.declared.faults.TraceFault.TheVariants as trace
 use Rattle.sight_names.specs.declared.faults.TableFault.TheVariants as table
 use Rattle.sight_names.specs.declared.faults.CertFault.TheVariants as cert
 use Rattle.sight_run.specs.declared.status.Bound.TheVariants as bound
+use Rattle.sight_run.specs.declared.status.Role.TheVariants as role
 use Rattle.sight_run.specs.declared.status.Flaw.TheVariants as flaw
 use Rattle.sight_run.specs.declared.status.Why.{Why}
 use Rattle.sight_run.specs.declared.status.Why.TheVariants as why
@@ -83,8 +84,50 @@ IsOfRayTest (status.No (why.Ray fault)) = ⊤
 IsOfRayTest status.Memory = ⊤
 IsOfRayTest other = ⊥
 
--- what the test of lines can end with
-abbrev pub IsOfLineTest : Status → Type 0
-IsOfLineTest (status.BadMap (flaw.Line fault)) = ⊤
-IsOfLineTest status.Memory = ⊤
-IsOfLineTest other = ⊥
+-- what taking bytes as a table can end with
+abbrev pub IsOfTableTest : Status → Type 0
+IsOfTableTest (status.No (why.Table table.Memory)) = ⊥
+IsOfTableTest (status.No (why.Table fault)) = ⊤
+IsOfTableTest status.Memory = ⊤
+IsOfTableTest other = ⊥
+
+-- what the fetch of a certificate can end with
+abbrev pub IsOfCertFetch : Status → Type 0
+IsOfCertFetch (status.NoFile role.Cert) = ⊤
+IsOfCertFetch (status.ReadFault role.Cert) = ⊤
+IsOfCertFetch (status.Limit bound.CertBytes) = ⊤
+IsOfCertFetch status.Memory = ⊤
+IsOfCertFetch other = ⊥
+
+-- what the reading of a certificate can end with
+abbrev pub IsOfCertTest : Status → Type 0
+IsOfCertTest (status.No (why.Cert cert.Memory)) = ⊥
+IsOfCertTest (status.No (why.Cert fault)) = ⊤
+IsOfCertTest status.Memory = ⊤
+IsOfCertTest other = ⊥
+
+-- what bringing a table and a certificate can end with
+abbrev pub IsOfBringing : Status → Type 0
+IsOfBringing (status.No (why.Table table.Memory)) = ⊥
+IsOfBringing (status.No (why.Table fault)) = ⊤
+IsOfBringing (status.No (why.Cert cert.Memory)) = ⊥
+IsOfBringing (status.No (why.Cert fault)) = ⊤
+IsOfBringing other = IsOfCertFetch other
+
+-- what a verdict can end with
+abbrev pub IsOfVerdict : Status → Type 0
+IsOfVerdict (status.No (why.Check fault)) = ⊤
+IsOfVerdict status.Memory = ⊤
+IsOfVerdict other = ⊥
+
+-- what the audit of a map can end with
+abbrev pub IsOfMapTest : Status → Type 0
+IsOfMapTest (status.BadMap flaw) = ⊤
+IsOfMapTest status.Memory = ⊤
+IsOfMapTest other = ⊥
+
+-- what the audit and the walk along a ray can end with
+abbrev pub IsOfTraceTest : Status → Type 0
+IsOfTraceTest (status.No (why.Trace trace.Memory)) = ⊥
+IsOfTraceTest (status.No (why.Trace fault)) = ⊤
+IsOfTraceTest other = IsOfMapTest other

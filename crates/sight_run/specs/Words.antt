@@ -13,10 +13,11 @@ abbrev pub is_built : Order → Bool
 is_built (order.Zero wad name out) = true
 is_built (order.Ray wad name ray) = true
 is_built (order.Audit wad name) = true
+is_built (order.Trace wad name ray) = true
+is_built (order.Check wad name cert) = true
 -- a build with no report
 is_built (order.Build wad name out cert report workers budget) = is_none report
 is_built (order.Grid n workers budget) = nat_le 1 n && nat_le n 18
-is_built other = false
 
 abbrev pub given : Option (List ℕ) → List (List ℕ)
 given None = []
@@ -25,6 +26,7 @@ given (Some name) = name ∷ []
 -- the files that an order names
 abbrev pub file_names : Order → List (List ℕ)
 file_names (order.Zero wad name out) = wad ∷ out ∷ []
+file_names (order.Check wad name cert) = wad ∷ cert ∷ []
 file_names (order.Build wad name out cert report workers budget) = wad ∷ out ∷ given cert
 file_names other = []
 

@@ -104,6 +104,14 @@ pub fn push_number(alloc: Global, line: &mut String, n: u64) -> Result<(), Alloc
     line.push_str(&n.to_string(alloc)?)
 }
 
+// A text and a number.
+pub fn push_part(alloc: Global, line: &mut String, text: &str, n: u64) -> Result<(), AllocError>
+    ensures { OnOk result (string_bytes line.new ≡ string_bytes line.old ++ (text.now ++ decimal n)) }
+{
+    line.push_str(text)?;
+    push_number(alloc, line, n)
+}
+
 // A text, a number, and the end of the line.
 pub fn push_last(alloc: Global, line: &mut String, text: &str, n: u64) -> Result<(), AllocError>
     ensures { OnOk result (string_bytes line.new ≡ string_bytes line.old ++ (text.now ++ decimal n ++ codes "\n")) }

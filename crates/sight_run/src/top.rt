@@ -10,12 +10,15 @@ ghost use Rattle.sight_run.specs.Status.{IsProper};
 ghost use Rattle.sight_run.specs.Words.{asked_of, is_built};
 ghost use Rattle.sight_run.specs.declared.status.Status.TheVariants.{Memory};
 
+use crate::audit::do_audit;
 use crate::build::do_build;
+use crate::check::do_check;
 use crate::grid::do_grid;
-use crate::judge::{do_audit, do_ray};
+use crate::ray::do_ray;
 use crate::reply::{Reply, store_all};
 use crate::report::{refuse, say};
 use crate::status::Status;
+use crate::trace::do_trace;
 use crate::words::read_order;
 use crate::zero::do_zero;
 use order_words::Order;
@@ -40,6 +43,10 @@ fn reply_to<S: Shelf>(alloc: Global, shelf: &mut S, order: &Order) -> Result<Rep
         }
         Order::Ray { wad, map, ray } => do_ray(alloc, shelf, wad.as_str(), map.as_str(), ray),
         Order::Audit { wad, map } => do_audit(alloc, shelf, wad.as_str(), map.as_str()),
+        Order::Trace { wad, map, ray } => do_trace(alloc, shelf, wad.as_str(), map.as_str(), ray),
+        Order::Check { wad, map, cert } => {
+            do_check(alloc, shelf, wad.as_str(), map.as_str(), cert.as_str())
+        }
         Order::Build {
             wad,
             map,
@@ -57,7 +64,6 @@ fn reply_to<S: Shelf>(alloc: Global, shelf: &mut S, order: &Order) -> Result<Rep
             *budget,
         ),
         Order::Grid { n, budget, .. } => do_grid(alloc, *n, *budget),
-        _ => unreachable!(),
     }
 }
 

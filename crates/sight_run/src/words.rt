@@ -14,10 +14,13 @@ fn has_built_verb(order: &Order) -> bool
     ensures { result ≡ is_built order.now }
 {
     match order {
-        Order::Zero { .. } | Order::Ray { .. } | Order::Audit { .. } => true,
+        Order::Zero { .. }
+        | Order::Ray { .. }
+        | Order::Audit { .. }
+        | Order::Trace { .. }
+        | Order::Check { .. } => true,
         Order::Build { report, .. } => report.is_none(),
         Order::Grid { n, .. } => 1 <= *n && *n <= 18,
-        _ => false,
     }
 }
 
@@ -35,6 +38,7 @@ fn has_same_name(order: &Order) -> bool
 {
     match order {
         Order::Zero { wad, out, .. } => wad.as_str() == out.as_str(),
+        Order::Check { wad, cert, .. } => wad.as_str() == cert.as_str(),
         Order::Build { wad, out, cert, .. } => has_same_output(wad.as_str(), out.as_str(), cert),
         _ => false,
     }

@@ -59,9 +59,12 @@ fn left_against_all(
 {
     let mut wide = *cone;
     for j in 0..old.len() {
-        match left_against(&wide, old, j, left, right) {
-            Ok(wider) => wide = wider,
-            Err(pairs) => return Err(pairs),
+        // nearly all are covered, and a cone is long to copy
+        if !wide.covers(left.at, old[j].right) {
+            match left_against(&wide, old, j, left, right) {
+                Ok(wider) => wide = wider,
+                Err(pairs) => return Err(pairs),
+            }
         }
     }
     Ok(wide)
@@ -107,9 +110,11 @@ fn right_against_all(
 {
     let mut wide = *cone;
     for i in 0..old.len() {
-        match right_against(&wide, old, i, left, right) {
-            Ok(wider) => wide = wider,
-            Err(pairs) => return Err(pairs),
+        if !wide.covers(old[i].left, right.at) {
+            match right_against(&wide, old, i, left, right) {
+                Ok(wider) => wide = wider,
+                Err(pairs) => return Err(pairs),
+            }
         }
     }
     Ok(wide)

@@ -19,7 +19,7 @@ use Rattle.tri_sectors.specs.Classes.{class_of}
 use Rattle.tri_sectors.specs.Faces.{AreMarkedFaces}
 use Rattle.tri_sectors.specs.Sides.{IsSealedAt, IsFirstMixed}
 use Rattle.tri_sectors.specs.Labels.{AreFaceLabels, AreSealed, IsMixedPair, IsFacesVerdict}
-use Rattle.tri_sectors.specs.Fills.{FillsHull}
+use Rattle.triangulate.specs.Fills.{FillsSides}
 use Rattle.tri_sectors.specs.Verdict.{IsClosedSide, AgreeAt, IsFirstSidePairAgainst, AreFoundLabels, IsLabelVerdict}
 use Rattle.tri_sectors.proofs.GoodLabels.{good_mesh, named_side, side_label, label_name}
 use Rattle.tri_sectors.proofs.FaceRegion.{Ground, GapOn, face_list, numbers, on_face, region_of, not_above, touched, reaches}
@@ -27,7 +27,7 @@ use Rattle.tri_sectors.proofs.PlainFaces.{in_all}
 use Rattle.tri_sectors.proofs.FacePaths.{leads_join}
 use Rattle.tri_sectors.proofs.FaceTouches.{centre_of, stays, linked_leads, strictly, closed_of_strict, inside_is_free, to_centre, touches, LeadsOut, out_of_side, out_of_gap, out_of_face, gap_edge}
 
-module _ (m : Map) (ts : List Triangle) (fs : List ℕ) (os : List Bool) (facts : PointFacts m) (plain : IsPlainMesh m ts) (filled : FillsHull m ts) (g : AreMarkedFaces m ts fs os) where
+module _ (m : Map) (ts : List Triangle) (fs : List ℕ) (os : List Bool) (facts : PointFacts m) (plain : IsPlainMesh m ts) (filled : FillsSides m ts) (g : AreMarkedFaces m ts fs os) where
   ground : Ground m ts g.walls fs
   ground = record { facts = facts; plain = plain; walls = g.are_walls; faces = g.are_faces }
 

@@ -1,7 +1,6 @@
 pub mod Classes
 pub mod Components
 pub mod Faces
-pub mod Fills
 pub mod Labels
 pub mod Sides
 pub mod Verdict

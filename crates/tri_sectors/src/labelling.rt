@@ -7,7 +7,7 @@ ghost use Rattle.sight_names.specs.Mesh.{IsPlainMesh, IsGoodMesh, label_of};
 ghost use Rattle.tri_sectors.specs.Classes.{IsBelow};
 ghost use Rattle.tri_sectors.specs.Faces.{AreMarkedFaces};
 ghost use Rattle.tri_sectors.specs.Sides.{AreLabelled, IsFacedBelow};
-ghost use Rattle.tri_sectors.specs.Fills.{FillsHull};
+ghost use Rattle.triangulate.specs.Fills.{FillsSides};
 ghost use Rattle.tri_sectors.specs.Verdict.{IsLabelVerdict};
 ghost use Rattle.tri_sectors.specs.Labels.{IsSidesVerdict, IsFacesVerdict};
 
@@ -23,7 +23,7 @@ pub fn label(alloc: Global, plan: &Plan, mesh: &Mesh) -> Result<Labels, LabelFau
     ensures len { IfOk result (λ l. length l ≡ length mesh.now.triangles) }
     ensures range { IfOk result (λ l. (k a : ℕ) → label_of l k ≡ Some a → a < plan.now.sectors) }
     ensures good { IsPlainMesh (map_of plan.now) mesh.now.triangles → IfOk result (IsGoodMesh (map_of plan.now) mesh.now.triangles) }
-    ensures verdict { IsPlainMesh (map_of plan.now) mesh.now.triangles → FillsHull (map_of plan.now) mesh.now.triangles → IsLabelVerdict (map_of plan.now) mesh.now.triangles result }
+    ensures verdict { IsPlainMesh (map_of plan.now) mesh.now.triangles → FillsSides (map_of plan.now) mesh.now.triangles → IsLabelVerdict (map_of plan.now) mesh.now.triangles result }
 {
     let walls = walls_of(alloc, plan, mesh)?;
     let faces = faces_of(alloc, mesh, walls.as_slice())?;

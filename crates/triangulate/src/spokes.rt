@@ -4,6 +4,7 @@ ghost use Rattle.std.specs.Prelude.{ℕ, ◌≡◌, ◌<◌, ◌≢◌, ◌↔�
 ghost use Rattle.std.specs.Bool.{OnTrue, OnFalse};
 ghost use Rattle.sight_names.specs.Map.{map_of};
 ghost use Rattle.sight_names.specs.Plan.{IsPlan};
+ghost use Rattle.sight_names.specs.Sound.{MeetAtEnds};
 ghost use Rattle.triangulate.specs.Kept.{edges_of, MeetsEach, IsBarred};
 ghost use Rattle.triangulate.specs.Spokes.{IsSpoke, SpokesMeet, HasBarAt, MayReach};
 ghost use Rattle.triangulate.specs.Next.{IsNextLeft, IsNextRight, IsBestLeft, IsBestRight};
@@ -126,12 +127,28 @@ pub fn spokes_meet(plan: &Plan, web: &Web, u: u16, i: u16, j: u16) -> bool
     let mut at = web.last(u);
     while at > 0 {
         let end = plan.place(web.other(at - 1, u));
-        if !meet_at_ends(from, to, hub, end) {
+        if !is_met(from, to, hub, end) {
             return false;
         }
         at = web.earlier(at - 1, u);
     }
     true
+}
+
+/// Whether the segments from `p` to `q` and from `r` to `s` meet at ends of both alone. Most lie one above the other, which
+/// is seen without a product.
+fn is_met(p: Pt, q: Pt, r: Pt, s: Pt) -> bool
+    requires first { p ≢ q }
+    requires second { r ≢ s }
+    ensures { IsTrue result ↔ MeetAtEnds p q r s }
+{
+    if p.y < r.y && p.y < s.y && q.y < r.y && q.y < s.y {
+        return true;
+    }
+    if r.y < p.y && r.y < q.y && s.y < p.y && s.y < q.y {
+        return true;
+    }
+    meet_at_ends(p, q, r, s)
 }
 
 /// Whether each kept segment meets the segment from `i` to `j` at ends of both alone. Segments whose point numbers are

@@ -1,18 +1,20 @@
-use Rattle.std.proofs.Common.{◌<◌, ◌∙◌, ℕ, List, length, map, ap, sym, subst}
+use Rattle.std.proofs.Common.{◌<◌, ◌∙◌, ℕ, List, Some, length, map, ap, sym, subst}
 use Rattle.std.specs.List.{AllByRecursion}
-use Rattle.sight_names.specs.Mesh.{AreTriangles}
+use Rattle.sight_names.specs.Map.{map_of}
+use Rattle.sight_names.specs.Mesh.{AreTriangles, IsGoodMesh}
 use Rattle.sight_names.specs.Plan.{PlanParts}
 use Rattle.cert_format.specs.declared.cert.Labelled.{Labelled}
 use Rattle.cert_format.specs.Parts.{CertParts}
 use Rattle.cert_format.specs.Grammar.{IsInOrder}
 use Rattle.sight_job.proofs.BuildLaws.{cert_in_order, cert_is}
+use Rattle.sight_job.proofs.GoodLabelled.{labelled_are_good}
 use Rattle.sight_job.proofs.LabelledLaws.{below}
 use Rattle.sight_job.proofs.VerdictLaws.{cert_rays, cert_trees, cert_set, listed_are_clear, both_bits_of, nothing_listed}
 use Rattle.sight_job.proofs.build.build_table.Goals as goal
 
 pub cert_of-cert-requires : goal.cert_of-cert-requires
 cert_of-cert-requires c =
-    let shape = c.in_ok-shape.ensures in
+    let shape = c.in_ok-shape.ensures.faces in
     let ascend = subst (λ (n : ℕ). AreTriangles n (map (λ (l : Labelled). l.triangle) c.in_ok-triangles.triangles.items)) shape.points c.in_ok-triangles.ensures.ascend in
     let sectors = subst (λ (ls : List Labelled). AllByRecursion (λ (l : Labelled). l.sector < c.args.plan.now.sectors) ls) (sym c.in_ok-triangles.ensures.list) (below c.args.plan.now.sectors c.in_ok-shape.shape.mesh.triangles c.in_ok-shape.shape.labels shape.sectors) in
     let good = cert_in_order c.args.plan.now c.points.ensures.plan c.args.budget c.in_ok-verdicts.verdicts c.in_ok-verdicts.ensures c.in_ok-triangles.triangles.items c.in_ok-triangles.ensures.few ascend sectors in
@@ -35,3 +37,6 @@ returns-clause-whole c = λ full. record {
 
 pub returns-clause-set : goal.returns-clause-set
 returns-clause-set c = cert_set c.args.plan.now c.args.budget c.in_ok-verdicts.verdicts c.in_ok-verdicts.ensures c.cert_of-cert.result (ap (λ (d : CertParts). d.rays) c.cert_of-cert.ensures ∙ c.into_vec.ensures) (ap (λ (d : CertParts). d.listed) c.cert_of-cert.ensures ∙ (c.in_ok-listed.ensures.items ∙ c.as_slice.ensures)) (ap (λ (d : CertParts). d.trees) c.cert_of-cert.ensures ∙ c.into_vec-2.ensures)
+
+pub returns-clause-mesh : goal.returns-clause-mesh
+returns-clause-mesh c = subst (λ (xs : List Labelled). IsGoodMesh (map_of c.args.plan.now) (map (λ (l : Labelled). l.triangle) xs) (map (λ (l : Labelled). Some l.sector) xs)) (sym (ap (λ (d : CertParts). d.triangles) c.cert_of-cert.ensures ∙ c.in_ok-triangles.ensures.list)) (labelled_are_good (map_of c.args.plan.now) c.in_ok-shape.shape.mesh.triangles c.in_ok-shape.shape.labels c.in_ok-shape.ensures.faces.good)

@@ -1,7 +1,0 @@
-use Rattle.std.proofs.Common.{Err}
-use Rattle.sight_run.proofs.Judging.{fault_is_the_answer}
-use Rattle.sight_run.proofs.judge.judge_ray.Goals as goal
-
-pub returns-in-Err-clause-judged : goal.returns-in-Err-clause-judged
-returns-in-Err-clause-judged c =
-    fault_is_the_answer _ _ (Err c.in-Err.fault) c.in-Err.fault (record { sight = c.in-Err.ensures.sight; fault = c.in-Err.ensures.fault }) c.in-Err.ensures.answer
