@@ -1,5 +1,6 @@
 //! The mesh of worked maps: which segments are kept, which sectors the triangles have, and what a ray through them meets.
 
+use map_audit::audit_lines;
 use mesh_shape::{Labels, Mesh};
 use ray_trace::trace;
 use sight_names::{LabelFault, Plan, Ray, Side, TraceFault, Triangle};
@@ -18,16 +19,25 @@ struct Meshed {
     labels: Labels,
 }
 
+// The greedy segments of an audited map, and the triangles between them.
+fn segments_and_mesh(alloc: Global, plan: &Plan) -> Result<(Vec<Segment>, Mesh), LabelFault> {
+    let Ok(()) = audit_lines(plan) else {
+        return Err(LabelFault::Memory);
+    };
+    let segments = greedy(alloc, plan)?;
+    let mesh = mesh_of(alloc, plan, &segments)?;
+    Ok((Vec::from_slice(alloc, segments.as_slice())?, mesh))
+}
+
 fn mesh_parts(alloc: Global, lines: &[RowLine], sectors: u16) -> Result<Meshed, LabelFault> {
     let Ok(plan) = plan_of(alloc, lines, sectors) else {
         return Err(LabelFault::Memory);
     };
-    let segments = greedy(alloc, &plan)?;
-    let mesh = mesh_of(alloc, &plan, &segments)?;
+    let (kept, mesh) = segments_and_mesh(alloc, &plan)?;
     let labels = label(alloc, &plan, &mesh)?;
     Ok(Meshed {
         plan,
-        kept: Vec::from_slice(alloc, segments.as_slice())?,
+        kept,
         mesh,
         labels,
     })

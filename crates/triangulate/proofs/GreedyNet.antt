@@ -13,6 +13,7 @@ use Rattle.sight_names.specs.Greedy.{edge_length, ComesBefore, EdgesMeetAtEnds, 
 use Rattle.sight_names.specs.Mesh.{IsKept}
 use Rattle.sight_names.proofs.Lists.{contains_cases, contains_head, contains_tail, contains_none}
 use Rattle.sight_names.proofs.Meets.{flip_first, flip_second}
+use Rattle.sight_laws.proofs.Bridge.{vec}
 use Rattle.sight_laws.proofs.Plans.{none_is_not_some}
 use Rattle.plane_base.proofs.Vec.{at}
 use Rattle.plane_base.proofs.Search.{In}
@@ -154,7 +155,7 @@ module _ (m : Map) (f : PointFacts m) (ends : LinesMeetAtEnds m) (kept : List Ed
         let a = (f.apart i l is).0 in
         let p : l.first ≡ l.second = sym (f.first i l is).0 ∙ ap (place m) e ∙ (f.second i l is).0 in
         let z = a.zero in let u = a.above in
-        let k : at a.f (Rattle.sight_laws.proofs.Bridge.vec (point_of l.first)) ≡ at a.f (Rattle.sight_laws.proofs.Bridge.vec (point_of l.second)) = ap (λ (x : Pt). at a.f (Rattle.sight_laws.proofs.Bridge.vec (point_of x))) p in
+        let k : at a.f (vec (point_of l.first)) ≡ at a.f (vec (point_of l.second)) = ap (λ (x : Pt). at a.f (vec (point_of x))) p in
         omega (arith, ints);
   }
 

@@ -17,6 +17,7 @@ use Rattle.sight_names.specs.Points.{Edge, points_of, place}
 use Rattle.sight_names.specs.Sound.{LinesMeetAtEnds}
 use Rattle.sight_names.specs.Greedy.{IsGreedy}
 use Rattle.sight_names.specs.Mesh.{AreTriangles, IsMeshTriangle, IsMeshOf}
+use Rattle.sight_names.proofs.Lists.{contains_of_get}
 use Rattle.sight_names.proofs.PlanMap.{get_at}
 use Rattle.sight_names.proofs.PlanNumbers.{place_of_plan, count_of_plan}
 use Rattle.plane_base.proofs.Vec.{Lin, at}
@@ -258,5 +259,5 @@ plan_ascending p is i j lt hj =
 pub few_in_plan : (p : PlanParts) → IsPlan p → LinesMeetAtEnds (map_of p) → (ts : List Triangle) → IsMeshOf (map_of p) ts → length ts ≤ 2 * length p.points
 few_in_plan p is ends ts h =
     let c = count_of_plan p is in
-    let b = few_triangles (map_of p) (plan_facts p is) ends (plan_ascending p is) h.kept h.greedy ts (λ k t e. (h.exactly t).0 (Rattle.sight_names.proofs.Lists.contains_of_get ts t k e)) h.triangles in
+    let b = few_triangles (map_of p) (plan_facts p is) ends (plan_ascending p is) h.kept h.greedy ts (λ k t e. (h.exactly t).0 (contains_of_get ts t k e)) h.triangles in
     omega arith

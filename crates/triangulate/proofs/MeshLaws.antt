@@ -1,5 +1,5 @@
 -- The mesh of a map is plain and fills the hull: what a net says of its triangles, said of the definition.
-use Rattle.std.proofs.Common.{◌≡◌, ◌≢◌, ℕ, ◌<◌, ℤ, pos, ◌<ℤ◌, arith, refl, sym, ap, ◌∙◌, subst, ◌⊎◌, inl, inr, List, length, slice_get, Contains, Some, true, false}
+use Rattle.std.proofs.Common.{◌≡◌, ℕ, ◌<◌, pos, ◌<ℤ◌, arith, refl, sym, ap, ◌∙◌, subst, ◌⊎◌, inl, inr, List, length, slice_get, Contains, Some, true, false, Bool}
 use borrow.Author.Differences.{ints}
 use Rattle.sight_names.specs.declared.names.Triangle.{Triangle}
 use Rattle.sight_names.specs.Point.{point_of, turn_at}
@@ -7,11 +7,11 @@ use Rattle.sight_names.specs.Map.{Map, MapLine, line_at}
 use Rattle.sight_names.specs.Points.{Edge, points_of, place, number_of, reverse_of}
 use Rattle.sight_names.specs.Sound.{LinesMeetAtEnds}
 use Rattle.sight_names.specs.Greedy.{IsGreedy}
-use Rattle.sight_names.specs.Mesh.{IsTriangle, AreTriangles, HasEdge, IsKept, IsCounterclockwise, IsMeshTriangle, IsMeshOf, IsPlainMesh, MeetsFairly, IsLineEdge, side_edge}
+use Rattle.sight_names.specs.Mesh.{IsAbove, IsTriangle, AreTriangles, HasEdge, IsKept, IsMeshTriangle, IsMeshOf, IsPlainMesh, MeetsFairly, IsLineEdge, side_edge}
 use Rattle.sight_names.proofs.Lists.{get_of_contains, contains_of_get}
 use Rattle.plane_base.proofs.Vec.{V, det, det-cycle}
 use Rattle.sight_laws.proofs.Bridge.{turn_at_is}
-use Rattle.mesh_base.proofs.Net.{pair, SamePair, Net}
+use Rattle.mesh_base.proofs.Net.{Pair, Net}
 use Rattle.mesh_base.proofs.MeshRules.{MeshTri, one_each_edge}
 use Rattle.mesh_base.proofs.FirstSpoke.{fills}
 use Rattle.mesh_base.proofs.GoodMesh.{PointFacts, pv}
@@ -21,7 +21,7 @@ use Rattle.triangulate.proofs.GreedyNet.{numbers, in_numbers, number_below, both
 
 -- ---- turning a triangle
 
-pub turned_tri : (place : ℕ → V) (pts : List ℕ) (kept : List Rattle.mesh_base.proofs.Net.Pair) → Net place pts kept → (a b c : ℕ) → MeshTri place pts kept a b c → MeshTri place pts kept b c a
+pub turned_tri : (place : ℕ → V) (pts : List ℕ) (kept : List Pair) → Net place pts kept → (a b c : ℕ) → MeshTri place pts kept a b c → MeshTri place pts kept b c a
 turned_tri place pts kept net a b c t = record {
   ab = t.bc;
   bc = net.swap a c t.ac;
@@ -65,7 +65,7 @@ same_place n ts i j t are hi hj = elim (three i j) as (λ _. i ≡ j) [
     three : (x y : ℕ) → (x < y) ⊎ ((x ≡ y) ⊎ (y < x))
     three x y = grind arith
 
-    not_above : (t : Triangle) → Rattle.sight_names.specs.Mesh.IsAbove t t → ⊥
+    not_above : (t : Triangle) → IsAbove t t → ⊥
     not_above t h = elim h [ inl k ↦ omega arith | inr k ↦ elim k.1 [ inl j ↦ omega arith | inr j ↦ (let q = j.1 in omega arith) ] ]
 
 -- ---- the triangles of the definition and those of the net
@@ -123,7 +123,7 @@ module _ (m : Map) (f : PointFacts m) (ends : LinesMeetAtEnds m) (kept : List Ed
   -- an edge of a triangle meets a line at ends alone, or is the same segment
   edge_fair : (u v i : ℕ) (l : MapLine) → IsKept kept u v → line_at m i ≡ Some l → MeetsFairly m (record { from = u; to = v }) l
   edge_fair u v i l k is = elim (kept_meet m f ends kept g u v (number_of m l.first) (number_of m l.second) k (inl (each_line_kept m f ends kept g i l is))) as (λ _. MeetsFairly m (record { from = u; to = v }) l) [
-    | inl s ↦ inr (elim s as (λ _. (left : Rattle.std.proofs.Common.Bool) × (◌≡◌ {A = Edge} (record { from = u; to = v }) (side_edge m l left))) [
+    | inl s ↦ inr (elim s as (λ _. (left : Bool) × (◌≡◌ {A = Edge} (record { from = u; to = v }) (side_edge m l left))) [
       | inl e ↦ (true, λ j. record { from = e.0 j; to = e.1 j })
       | inr e ↦ (false, λ j. record { from = e.0 j; to = e.1 j })
     ])

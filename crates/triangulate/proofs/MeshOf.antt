@@ -1,8 +1,8 @@
 -- The triangles on the left of the greedy segments are those of the mesh.
-use Rattle.std.proofs.Common.{◌≡◌, ◌≢◌, ℕ, zero, suc, ◌<◌, ℤ, pos, ◌<ℤ◌, arith, refl, sym, ap, ◌∙◌, subst, ◌⊎◌, inl, inr, ◌↔◌, List, [], ◌∷◌, length, slice_get, get_or, Contains, Some, map, true}
+use Rattle.std.proofs.Common.{◌≡◌, ◌≢◌, ℕ, zero, suc, ◌<◌, pos, ◌≤ℤ◌, ◌<ℤ◌, arith, refl, sym, ap, ◌∙◌, subst, ◌⊎◌, inl, inr, ◌↔◌, List, [], ◌∷◌, length, slice_get, get_or, Contains, Some, map}
 use borrow.Author.Differences.{ints}
-use Rattle.exact_ring.proofs.Signs.{sign_cases}
-use Rattle.std.proofs.lemmas.Option.{slice_get-get_or, get_or_from_slice_get}
+use Rattle.exact_ring.proofs.Signs.{le_or_lt}
+use Rattle.std.proofs.lemmas.Option.{same_Some, slice_get-get_or}
 use Rattle.sight_names.specs.declared.names.Triangle.{Triangle}
 use Rattle.sight_names.specs.Point.{point_of, turn_at}
 use Rattle.sight_names.specs.Map.{Map}
@@ -10,11 +10,12 @@ use Rattle.sight_names.specs.Points.{Edge, points_of, place}
 use Rattle.sight_names.specs.Sound.{LinesMeetAtEnds}
 use Rattle.sight_names.specs.Greedy.{IsGreedy}
 use Rattle.sight_names.specs.Mesh.{IsKept, IsMeshTriangle}
-use Rattle.sight_names.proofs.Lists.{contains_cases, contains_none, contains_of_get, get_of_contains}
+use Rattle.sight_names.proofs.Lists.{contains_cases, contains_head, contains_tail, contains_none, contains_of_get}
 use Rattle.plane_base.proofs.Vec.{det, edge, det-cycle, det-first}
 use Rattle.plane_base.proofs.Near.{det-flip}
 use Rattle.sight_laws.proofs.Bridge.{turn_at_is}
-use Rattle.mesh_base.proofs.Net.{Net, Neighbours, closing, wedge_empty}
+use Rattle.plane_base.proofs.Search.{In}
+use Rattle.mesh_base.proofs.Net.{Pair, pair, Net, Neighbours, closing, wedge_empty}
 use Rattle.mesh_base.proofs.MeshRules.{no_spoke_inside, same_ray}
 use Rattle.mesh_base.proofs.GoodMesh.{PointFacts, pv}
 use Rattle.triangulate.specs.declared.segments.Segment.{Segment}
@@ -32,8 +33,8 @@ use Rattle.triangulate.proofs.MeshLaws.{NetTri, net_tri, mesh_tri}
 
 contains_edge : (segs : List Segment) (k : ℕ) (s : Segment) → slice_get segs k ≡ Some s → Contains (map edge_of segs) (edge_of s)
 contains_edge [] k s e = absurd (contains_none s (contains_of_get [] s k e))
-contains_edge (x ∷ segs) zero s e = subst (λ (y : Segment). Contains (map edge_of (x ∷ segs)) (edge_of y)) (Rattle.std.proofs.lemmas.Option.same_Some x s e) (Rattle.sight_names.proofs.Lists.contains_head (edge_of x) (map edge_of segs))
-contains_edge (x ∷ segs) (suc k) s e = Rattle.sight_names.proofs.Lists.contains_tail (edge_of x) (edge_of s) (map edge_of segs) (contains_edge segs k s e)
+contains_edge (x ∷ segs) zero s e = subst (λ (y : Segment). Contains (map edge_of (x ∷ segs)) (edge_of y)) (same_Some x s e) (contains_head (edge_of x) (map edge_of segs))
+contains_edge (x ∷ segs) (suc k) s e = contains_tail (edge_of x) (edge_of s) (map edge_of segs) (contains_edge segs k s e)
 
 pub spoke_kept : (segs : List Segment) (u v : ℕ) → ((k : ℕ) (s : Segment) → slice_get segs k ≡ Some s → s.from ≢ s.to) → IsSpoke segs u v → IsKept (map edge_of segs) u v
 spoke_kept segs u v differ (k, lt, end, other) =
@@ -70,7 +71,7 @@ kept_spoke segs u v differ h =
 -- ---- the first spoke on the left closes a triangle of the mesh
 
 module _ (m : Map) (f : PointFacts m) (ends : LinesMeetAtEnds m) (segs : List Segment) (g : IsGreedy m (map edge_of segs)) where
-  abbrev pairs : List Rattle.mesh_base.proofs.Net.Pair
+  abbrev pairs : List Pair
   pairs = both (map edge_of segs)
 
   net : Net (pv m) (numbers (length (points_of m))) pairs
@@ -79,10 +80,10 @@ module _ (m : Map) (f : PointFacts m) (ends : LinesMeetAtEnds m) (segs : List Se
   differ : (k : ℕ) (s : Segment) → slice_get segs k ≡ Some s → s.from ≢ s.to
   differ k s e = (kept_ends m f ends (map edge_of segs) g s.from s.to (inl (contains_edge segs k s e))).2
 
-  kept_in : (u v : ℕ) → IsSpoke segs u v → Rattle.plane_base.proofs.Search.In (Rattle.mesh_base.proofs.Net.pair u v) pairs
+  kept_in : (u v : ℕ) → IsSpoke segs u v → In (pair u v) pairs
   kept_in u v s = in_kept (map edge_of segs) u v (spoke_kept segs u v differ s)
 
-  in_spoke : (u v : ℕ) → Rattle.plane_base.proofs.Search.In (Rattle.mesh_base.proofs.Net.pair u v) pairs → IsSpoke segs u v
+  in_spoke : (u v : ℕ) → In (pair u v) pairs → IsSpoke segs u v
   in_spoke u v h = kept_spoke segs u v differ (kept_of (map edge_of segs) u v h)
 
   left_of : (a b c : ℕ) → IsLeftOf m (place m a) (place m b) c → pos 0 <ℤ det (pv m a) (pv m b) (pv m c)
@@ -123,7 +124,7 @@ module _ (m : Map) (f : PointFacts m) (ends : LinesMeetAtEnds m) (segs : List Se
         let e = turn_at_is (place m a) (place m c) (point_of (place m x)) in
         let c1 = det-cycle (pv m c) (pv m a) (pv m x) in
         let c2 = det-flip (pv m a) (pv m c) (pv m x) in
-        elim (Rattle.exact_ring.proofs.Signs.le_or_lt (pos 0) (det (pv m a) (pv m c) (pv m x))) as (λ _. Rattle.std.proofs.Common.◌≤ℤ◌ (pos 0) (turn_at (place m a) (place m c) (point_of (place m x)))) [
+        elim (le_or_lt (pos 0) (det (pv m a) (pv m c) (pv m x))) as (λ _. pos 0 ≤ℤ turn_at (place m a) (place m c) (point_of (place m x))) [
           | inl le ↦ omega (arith, ints)
           | inr lt ↦ absurd (no_spoke_inside (pv m) (numbers (length (points_of m))) pairs net a b c x t (kept_in a x s) (left_of a b x h) (omega (arith, ints)))
         ];

@@ -13,9 +13,9 @@ use Rattle.mesh_base.proofs.PlanFacts.{plan_facts}
 use Rattle.triangulate.specs.declared.segments.Segment.{Segment}
 use Rattle.triangulate.specs.Kept.{edge_of, IsEdgeBetween, AreEdges}
 use Rattle.triangulate.specs.Left.{AreLeftTriangles, IsInOrder}
-use Rattle.triangulate.specs.Fills.{FillsHull}
+use Rattle.triangulate.specs.Fills.{FillsHull, FillsSides}
 use Rattle.triangulate.proofs.GreedyNet.{kept_between}
-use Rattle.triangulate.proofs.MeshLaws.{mesh_plain, mesh_fills}
+use Rattle.triangulate.proofs.MeshLaws.{mesh_plain, mesh_fills, mesh_fills_sides}
 use Rattle.triangulate.proofs.MeshBound.{few_in_plan}
 use Rattle.triangulate.proofs.MeshOf.{left_is_mesh, left_exactly}
 use Rattle.triangulate.proofs.SortedMesh.{triangles_in_order}
@@ -33,9 +33,6 @@ module _ (p : PlanParts) (is : IsPlan p) (ends : LinesMeetAtEnds (map_of p)) (se
 
   in_order : AreTriangles (length (points_of (map_of p))) left
   in_order = triangles_in_order (length (points_of (map_of p))) found left order (λ t c. (left_is_mesh (map_of p) (plan_facts p is) ends segs greedy_here t (are.each t c)).numbers)
-
-  pub mesh_triangles : (count : ℕ) → count ≡ length p.points → AreTriangles count left
-  mesh_triangles count e = let c = count_of_plan p is in subst (λ (n : ℕ). AreTriangles n left) (let x : length (points_of (map_of p)) ≡ count = omega (arith, c, e) in x) in_order
 
   pub is_mesh_with : IsMeshOf (map_of p) left
   is_mesh_with = record {
@@ -56,3 +53,6 @@ module _ (p : PlanParts) (is : IsPlan p) (ends : LinesMeetAtEnds (map_of p)) (se
   pub mesh_fills_hull : FillsHull (map_of p) kept left
   unfolding is_mesh_with
   mesh_fills_hull = mesh_fills (map_of p) (plan_facts p is) ends left is_mesh_with
+
+  pub mesh_fills_each_side : FillsSides (map_of p) left
+  mesh_fills_each_side = mesh_fills_sides (map_of p) (plan_facts p is) ends left is_mesh_with

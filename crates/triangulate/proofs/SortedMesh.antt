@@ -7,6 +7,7 @@ use Rattle.std.specs.List.Retain.{IsFiltered, DiffersFromLast}
 use Rattle.std.specs.List.Sorted.{IsSorted, IsStrictlySortedBy}
 use Rattle.std.proofs.lemmas.Cmp.{then_total, on_total, nat_cmp_total, nat_eq_equiv, and_equiv, on_equiv}
 use Rattle.std.proofs.lemmas.List.Filters.{dedup_is}
+use Rattle.std.proofs.lemmas.Option.{same_Some}
 use Rattle.std.proofs.lemmas.List.Kept.{Contains-dedup, Contains-from_dedup, IsStrictlySortedBy-dedup}
 use Rattle.std.proofs.lemmas.List.Sorted.{Contains-permutation, IsPermutation-sym}
 use Rattle.sight_names.specs.declared.names.Triangle.{Triangle}
@@ -62,7 +63,7 @@ unfolding IsStrictlySortedBy
 above_later [] h i j t u lt p q = absurd (contains_none t (contains_of_get [] t i p))
 above_later (x ∷ xs) h zero zero t u lt p q = absurd (omega arith)
 above_later (x ∷ xs) h zero (suc j) t u lt p q =
-    let same : x ≡ t = Rattle.std.proofs.lemmas.Option.same_Some x t p in
+    let same : x ≡ t = same_Some x t p in
     subst (λ (y : Triangle). IsAbove y u) same (let o = all_later (λ y. tri_cmp x y ≡ Less) xs h.0 u (contains_of_get xs u j q) in less_lex x.p u.p x.q u.q x.r u.r o)
 above_later (x ∷ xs) h (suc i) zero t u lt p q = absurd (omega arith)
 above_later (x ∷ xs) h (suc i) (suc j) t u lt p q = above_later xs h.1 i j t u (omega arith) p q

@@ -1,6 +1,6 @@
 //! The empty triangles of kept segments.
 
-ghost use Rattle.std.specs.Prelude.{◌≡◌, ◌<◌, IfOk, OnOk, Contains, length, map};
+ghost use Rattle.std.specs.Prelude.{◌≡◌, ◌<◌, ◌≤◌, ◌*◌, IfOk, OnOk, Contains, length, map};
 ghost use Rattle.sight_names.specs.declared.names.Triangle.{Triangle};
 ghost use Rattle.sight_names.specs.Map.{map_of};
 ghost use Rattle.sight_names.specs.Sound.{LinesMeetAtEnds};
@@ -8,7 +8,7 @@ ghost use Rattle.sight_names.specs.Greedy.{IsGreedy};
 ghost use Rattle.sight_names.specs.Mesh.{IsMeshOf, IsPlainMesh, IsTriangle};
 ghost use Rattle.triangulate.specs.Kept.{AreEdges, edge_of};
 ghost use Rattle.triangulate.specs.Left.{AreLeftTriangles, IsInOrder, IsLeftAdded};
-ghost use Rattle.triangulate.specs.Fills.{FillsHull};
+ghost use Rattle.triangulate.specs.Fills.{FillsHull, FillsSides};
 
 use crate::segments::Segments;
 use crate::spokes::next_left;
@@ -17,25 +17,22 @@ use mesh_shape::Mesh;
 use sight_names::{Memory, Plan, Triangle};
 use std::alloc::Global;
 
-/// A mesh has at most this many triangles; there are never more than twice as many as points.
-const MOST_TRIANGLES: usize = 8192;
-
-/// All empty triangles of the segments, in order: on the left of each segment the one to the first spoke.
+/// All empty triangles of the greedy segments, in order: on the left of each segment the one to the first spoke. There
+/// are at most twice as many as points.
 pub fn mesh_of(alloc: Global, plan: &Plan, segments: &Segments) -> Result<Mesh, Memory>
-    requires { AreEdges (length plan.now.points) segments.now }
+    requires audited { LinesMeetAtEnds (map_of plan.now) }
+    requires greedy { IsGreedy (map_of plan.now) segments.now }
     ensures points { IfOk result (λ mesh. mesh.points ≡ length plan.now.points) }
-    ensures mesh { LinesMeetAtEnds (map_of plan.now) → IsGreedy (map_of plan.now) segments.now → IfOk result (λ mesh. IsMeshOf (map_of plan.now) mesh.triangles) }
-    ensures plain { LinesMeetAtEnds (map_of plan.now) → IsGreedy (map_of plan.now) segments.now → IfOk result (λ mesh. IsPlainMesh (map_of plan.now) mesh.triangles) }
-    ensures fills { LinesMeetAtEnds (map_of plan.now) → IsGreedy (map_of plan.now) segments.now → IfOk result (λ mesh. FillsHull (map_of plan.now) segments.now mesh.triangles) }
+    ensures mesh { IfOk result (λ mesh. IsMeshOf (map_of plan.now) mesh.triangles) }
+    ensures plain { IfOk result (λ mesh. IsPlainMesh (map_of plan.now) mesh.triangles) }
+    ensures fills { IfOk result (λ mesh. FillsHull (map_of plan.now) segments.now mesh.triangles) }
+    ensures sides { IfOk result (λ mesh. FillsSides (map_of plan.now) mesh.triangles) }
+    ensures few { IfOk result (λ mesh. length mesh.triangles ≤ 2 * length plan.now.points) }
 {
     let count = plan.points().len() as u16;
     let web = web_of(alloc, count, segments)?;
     let found = triangles_of(alloc, plan, &web)?;
-    let triangles = in_order(found);
-    if triangles.len() > MOST_TRIANGLES {
-        return Err(Memory);
-    }
-    Mesh::of(alloc, count, triangles)
+    Mesh::of(alloc, count, in_order(found))
 }
 
 /// The triangles in ascending order, each once.

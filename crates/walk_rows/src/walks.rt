@@ -2,15 +2,24 @@
 
 use block_evidence::Node;
 use map_audit::audit_lines;
-use mesh_shape::mesh_fault;
+use mesh_shape::{Mesh, mesh_fault};
 use pair_budget::{Alone, Outcome, SourceResult, walk_source};
-use sight_names::{Budget, Memory, Side};
+use sight_names::{Budget, Memory, Plan, Side};
 use std::alloc::Global;
 use std::test::Fail;
 use tri_sectors::label;
 use triangulate::{greedy, mesh_of};
 use worked_maps::maps::{LINE3, U};
 use worked_maps::wads::{RowLine, plan_of};
+
+// The mesh of a map, None where its lines don't meet at ends.
+fn audited_mesh(alloc: Global, plan: &Plan) -> Result<Option<Mesh>, Memory> {
+    let Ok(()) = audit_lines(plan) else {
+        return Ok(None);
+    };
+    let segments = greedy(alloc, plan)?;
+    Ok(Some(mesh_of(alloc, plan, &segments)?))
+}
 
 // What a source of a map finds, None where the map isn't sound.
 fn walked(
@@ -23,8 +32,9 @@ fn walked(
     let Ok(plan) = plan_of(alloc, lines, sectors) else {
         return Ok(None);
     };
-    let segments = greedy(alloc, &plan)?;
-    let mesh = mesh_of(alloc, &plan, &segments)?;
+    let Some(mesh) = audited_mesh(alloc, &plan)? else {
+        return Ok(None);
+    };
     let Ok(labels) = label(alloc, &plan, &mesh) else {
         return Ok(None);
     };
