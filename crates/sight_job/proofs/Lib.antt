@@ -2,4 +2,3 @@ pub mod LabelledLaws
 pub mod BuildLaws
 pub mod VerdictLaws
 pub mod GoodLabelled
-pub mod FaceLaws
