@@ -3,12 +3,13 @@ use Rattle.std.proofs.Common.{◌≡◌, ◌⊎◌, inl, inr, ℕ, Result, Ok, E
 use Rattle.std.specs.Prelude.{IsErr}
 use Rattle.sight_names.specs.Map.{Map}
 use Rattle.sight_names.specs.Sound.{LinesMeetAtEnds}
+use Rattle.reject_bits.specs.Parts.{TableParts}
 use Rattle.cert_format.specs.declared.cert.Sizes.{Sizes}
 use Rattle.sight_run.specs.declared.status.Flaw.TheVariants as flaw
 use Rattle.sight_run.specs.declared.status.Status.{Status}
 use Rattle.sight_run.specs.declared.status.Status.TheVariants as status
 use Rattle.sight_run.specs.Answer.{Answer, Gives, IsTheAnswer, Makes}
-use Rattle.sight_run.specs.Check.{Brought, OnBrought, VerdictCalls}
+use Rattle.sight_run.specs.Check.{Brought, IsTableOf, OnBrought, VerdictCalls}
 use Rattle.sight_run.specs.Sound.{HasSoundLines, IsLineRefusal, OnSoundLines}
 use Rattle.sight_run.specs.Status.{IsOfBringing, IsOfVerdict}
 use Rattle.sight_run.proofs.Sounds.{IsPastAudit, gives_line_fault}
@@ -51,12 +52,12 @@ past_verdict (status.BadMap f) of = absurd of
 past_verdict s of = tt
 
 -- a verdict, where others may be called for
-pub gives_verdict : (m : Map) (said : Result Brought Status) (brought : Brought) (r : Result Answer Status) → said ≡ Ok brought → HasSoundLines m → IsPastAudit r → Gives ⊥ (VerdictCalls m brought.cert) r
-    → Gives ((¬ LinesMeetAtEnds m) ⊎ IsErr said) (OnSoundLines m (OnBrought m said)) r
-gives_verdict m said brought (Err status.Memory) e lines past h = tt
-gives_verdict m said brought (Err (status.ReadFault k)) e lines past h = tt
-gives_verdict m said brought r e lines past h = rw e (record {
-  called = on_lines m (OnBrought m (Ok brought)) r lines.meet h.called past;
+pub gives_verdict : (m : Map) (said : Result Brought Status) (brought : Brought) (table : TableParts) (r : Result Answer Status) → said ≡ Ok brought → IsTableOf m.sectors brought.table table → HasSoundLines m → IsPastAudit r
+    → Gives ⊥ (VerdictCalls m table brought.cert) r → Gives ((¬ LinesMeetAtEnds m) ⊎ IsErr said) (OnSoundLines m (OnBrought m said)) r
+gives_verdict m said brought table (Err status.Memory) e spelled lines past h = tt
+gives_verdict m said brought table (Err (status.ReadFault k)) e spelled lines past h = tt
+gives_verdict m said brought table r e spelled lines past h = rw e (record {
+  called = on_lines m (OnBrought m (Ok brought)) r lines.meet (record { table = table; spelled = spelled; called = h.called }) past;
   only = λ sole. absurd (not_both m brought lines sole);
 })
 

@@ -20,8 +20,11 @@ use Rattle.sight_run.proofs.Sounds.{IsPastAudit, gives_line_fault}
 cases : (i j : ℕ) → (i < j) ⊎ ((j < i) ⊎ (i ≡ j))
 cases i j = grind arith
 
+abbrev side_of : ℕ → Bool → Side
+side_of line left = record { line = line; left = left }
+
 same_side : (s t : Side) → s.line ≡ t.line → s.left ≡ t.left → s ≡ t
-same_side s t line left = cc
+same_side s t line left = ap (λ (n : ℕ). side_of n s.left) line ∙ ap (λ (b : Bool). side_of t.line b) left
 
 by_hand : (s t : Side) (a b : Bool) → s.line ≡ t.line → s.left ≡ a → t.left ≡ b → IsSideBefore s t ⊎ (IsSideBefore t s ⊎ (s ≡ t))
 by_hand s t false false line p q = inr (inr (same_side s t line (p ∙ sym q)))

@@ -12,13 +12,14 @@ use Rattle.sight_names.specs.Points.{points_of}
 use Rattle.sight_names.specs.Sound.{LinesMeetAtEnds}
 use Rattle.shelf_io.specs.Shelf.{Files, content_of}
 use Rattle.wad_dir.specs.Wad.{WadFile}
+use Rattle.reject_bits.specs.Parts.{HasSameBits, IsWhole, TableParts}
 use Rattle.cert_format.specs.declared.cert.Sizes.{Sizes}
 use Rattle.cert_format.specs.Parts.{CertParts}
 use Rattle.cert_format.specs.Reading.{reading}
 use Rattle.cert_checker.specs.declared.verdict.Totals.{Totals}
 use Rattle.cert_checker.specs.declared.verdict.Verdict.{Verdict}
 use Rattle.cert_checker.specs.declared.verdict.Verdict.TheVariants as verdict
-use Rattle.cert_checker.specs.Judged.{JudgesMesh, JudgesRays}
+use Rattle.cert_checker.specs.Judged.{JudgesMesh, JudgesPairs, JudgesRays}
 use Rattle.sight_run.specs.declared.status.Bound.TheVariants as bound
 use Rattle.sight_run.specs.declared.status.Role.TheVariants as role
 use Rattle.sight_run.specs.declared.status.Why.TheVariants as why
@@ -81,29 +82,42 @@ brought name found files = do
 
 -- ---- the verdict
 
+-- the table of n sectors that the bytes spell: their bits, with the spare ones clear
+pub record IsTableOf (n : ℕ) (bytes : List ℕ) (table : TableParts) : Type 0 where
+  pub sectors : table.n ≡ n
+  pub bits : HasSameBits n bytes table.bytes
+  pub whole : IsWhole table
+
 -- what the checker promises of its verdict
-pub record IsJudged (m : Map) (cert : CertParts) (verdict : Verdict) : Type 0 where
+pub record IsJudged (m : Map) (table : TableParts) (cert : CertParts) (verdict : Verdict) : Type 0 where
   pub mesh : JudgesMesh m cert verdict
   pub rays : JudgesRays m cert verdict
+  pub pairs : JudgesPairs m table cert verdict
 
 abbrev pub yes_line : ℕ → Totals → List ℕ
 yes_line n totals = codes "yes sectors " ++ decimal n ++ codes " set " ++ decimal totals.set ++ codes " clear " ++ decimal totals.clear ++ codes " listed " ++ decimal totals.listed ++ codes "\n"
 
 -- the verdict is yes, and the line has its totals
-pub record ShowsYes (m : Map) (cert : CertParts) (answer : Answer) : Type 0 where
+pub record ShowsYes (m : Map) (table : TableParts) (cert : CertParts) (answer : Answer) : Type 0 where
   pub totals : Totals
-  pub judged : IsJudged m cert (verdict.Yes totals)
+  pub judged : IsJudged m table cert (verdict.Yes totals)
   pub is : answer ≡ only_line (yes_line m.sectors totals)
 
--- the answers that a certificate calls for
-abbrev pub VerdictCalls : Map → CertParts → Result Answer Status → Type 0
-VerdictCalls m cert (Ok answer) = ShowsYes m cert answer
-VerdictCalls m cert (Err (status.No (why.Check fault))) = IsJudged m cert (verdict.No fault)
-VerdictCalls m cert (Err other) = ⊥
+-- the answers that a table and a certificate call for
+abbrev pub VerdictCalls : Map → TableParts → CertParts → Result Answer Status → Type 0
+VerdictCalls m table cert (Ok answer) = ShowsYes m table cert answer
+VerdictCalls m table cert (Err (status.No (why.Check fault))) = IsJudged m table cert (verdict.No fault)
+VerdictCalls m table cert (Err other) = ⊥
+
+-- the answer is one that the table of these bytes and the certificate call for
+pub record IsVerdictOn (m : Map) (brought : Brought) (answer : Result Answer Status) : Type 0 where
+  pub table : TableParts
+  pub spelled : IsTableOf m.sectors brought.table table
+  pub called : VerdictCalls m table brought.cert answer
 
 -- the answers to what was brought, or the refusal where it couldn't be
 abbrev pub OnBrought : Map → Result Brought Status → Result Answer Status → Type 0
-OnBrought m (Ok brought) answer = VerdictCalls m brought.cert answer
+OnBrought m (Ok brought) answer = IsVerdictOn m brought answer
 OnBrought m (Err refusal) answer = answer ≡ Err refusal
 
 -- the answers that `check` calls for

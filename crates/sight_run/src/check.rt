@@ -7,7 +7,7 @@ ghost use Rattle.sight_names.specs.Sound.{LinesMeetAtEnds};
 ghost use Rattle.shelf_io.specs.Shelf.{Files, NoneFell, content_of};
 ghost use Rattle.order_words.specs.declared.order.Order.TheVariants.{Check};
 ghost use Rattle.sight_run.specs.Answer.{Gives, Makes};
-ghost use Rattle.sight_run.specs.Check.{TakesTable, VerdictCalls, brought, cert_in, of_cert_fetch, plan_sizes, reject_of, sizes_of, yes_line};
+ghost use Rattle.sight_run.specs.Check.{IsTableOf, TakesTable, VerdictCalls, brought, cert_in, of_cert_fetch, plan_sizes, reject_of, sizes_of, yes_line};
 ghost use Rattle.sight_run.specs.Obeys.{IsDetermined, Obeys, WritesEach};
 ghost use Rattle.sight_run.specs.Reply.{reply_seen, roles_of, writes};
 ghost use Rattle.sight_run.specs.Run.{Cause, IsOfCheck};
@@ -43,7 +43,7 @@ fn reject(input: &Input) -> &[u8]
 /// The table that the bytes spell.
 fn table_of(alloc: Global, n: u16, bytes: &[u8]) -> Result<Table, Status>
     ensures taken { TakesTable n bytes.now result }
-    ensures sectors { IfOk result (λ table. table.n ≡ n) }
+    ensures table { IfOk result (IsTableOf n bytes.now) }
     ensures refusals { IfErr result IsOfTableTest }
 {
     match Table::of_bytes(alloc, n, bytes) {
@@ -108,7 +108,7 @@ fn bring<S: Shelf>(
     ensures files { (S.state shelf.new).files ≡ (S.state shelf.old).files }
     ensures counts { NoneFell (S.state shelf.old) (S.state shelf.new) }
     ensures cause { Cause (S.state shelf.old) (S.state shelf.new) result }
-    ensures sectors { IfOk result (λ both. both.0.n ≡ input.now.plan.sectors) }
+    ensures table { IfOk result (λ both. IsTableOf input.now.plan.sectors (reject_of (found input.now)) both.0) }
     ensures sizes { IfOk result (λ both. both.1.sizes ≡ plan_sizes input.now.plan) }
     ensures refusals { IfErr result IsOfBringing }
 {
@@ -134,7 +134,7 @@ fn judge(alloc: Global, plan: &Plan, table: &Table, cert: &Cert) -> Result<Strin
     requires audited { LinesMeetAtEnds (map_of plan.now) }
     requires table { table.now.n ≡ plan.now.sectors }
     requires sizes { cert.now.sizes ≡ plan_sizes plan.now }
-    ensures judged { Gives ⊥ (VerdictCalls (map_of plan.now) cert.now) (line_answer result) }
+    ensures judged { Gives ⊥ (VerdictCalls (map_of plan.now) table.now cert.now) (line_answer result) }
     ensures refusals { IfErr result IsOfVerdict }
 {
     match check(alloc, plan, table, cert) {
