@@ -163,14 +163,17 @@ fn cert_of(alloc: Global, cert: Option<Certified>) -> Result<Option<Vec<u8>>, Al
     }
 }
 
-fn is_right(alloc: Global, case: &Case) -> Result<bool, AllocError> {
+// What a case left, with its certificate under the name `c` where it has one.
+fn left_by_case(alloc: Global, case: &Case) -> Result<Left, AllocError> {
     let file = bytes_of(alloc, &case.file)?;
-    let cert = cert_of(alloc, case.cert)?;
-    let held = match &cert {
-        Some(bytes) => Some(bytes.as_slice()),
-        None => None,
-    };
-    let left = left_by(alloc, &file, held, case.words, case.failing)?;
+    match cert_of(alloc, case.cert)? {
+        Some(cert) => left_by(alloc, &file, Some(&cert), case.words, case.failing),
+        None => left_by(alloc, &file, None, case.words, case.failing),
+    }
+}
+
+fn is_right(alloc: Global, case: &Case) -> Result<bool, AllocError> {
+    let left = left_by_case(alloc, case)?;
     let output = has_output(alloc, &left.output, &case.output)?;
     Ok(
         left.status == case.status
