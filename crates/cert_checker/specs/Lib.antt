@@ -2,3 +2,4 @@ pub mod Judged
 pub mod Pairs
 pub mod Named
 pub mod Rays
+pub mod Web

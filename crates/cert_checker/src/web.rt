@@ -1,7 +1,9 @@
 //! The triangles of a good mesh as one who walks through them sees them: for each directed edge the third point and
 //! the two ways out.
 
-ghost use Rattle.std.specs.Prelude.{◌≡◌, ◌≤◌, ◌<◌, ◌*◌, length, IfOk, IfSome};
+ghost use Rattle.std.specs.Prelude.{◌≡◌, ◌≤◌, ◌<◌, ◌*◌, ◌⊎◌, None, Some, length, slice_get, true, IfOk, IfSome, MatchOption};
+ghost use Rattle.sight_names.specs.Mesh.{triangle_at};
+ghost use Rattle.cert_checker.specs.Web.{edge, IsPlace, IsWay, IsEntry};
 
 use cert_format::Labelled;
 use mesh_shape::Mesh;
@@ -29,7 +31,9 @@ pub struct Web {
 }
 
 /// The place of the entry through the directed edge.
-fn place_of(mesh: &Mesh, left: u16, right: u16) -> Option<u16> {
+fn place_of(mesh: &Mesh, left: u16, right: u16) -> Option<u16>
+    ensures { MatchOption result (triangle_at mesh.now.triangles (edge left right) ≡ None) (IsPlace mesh.now.triangles (edge left right)) }
+{
     let number = mesh.triangle_at(left, right)?;
     let triangles = mesh.triangles();
     let triangle = triangles.get(number as usize)?;
@@ -71,7 +75,9 @@ fn walls_of(alloc: Global, plan: &Plan, mesh: &Mesh) -> Result<Vec<bool>, Memory
 }
 
 /// The entry through the directed edge, unless it is a solid line.
-fn way(mesh: &Mesh, walls: &[bool], left: u16, right: u16) -> Option<u16> {
+fn way(mesh: &Mesh, walls: &[bool], left: u16, right: u16) -> Option<u16>
+    ensures { IsWay mesh.now.triangles walls.now (edge left right) result }
+{
     let place = place_of(mesh, left, right)?;
     match walls.get(place as usize) {
         Some(false) => Some(place),
@@ -80,7 +86,9 @@ fn way(mesh: &Mesh, walls: &[bool], left: u16, right: u16) -> Option<u16> {
 }
 
 /// The entry of a triangle from the edge with these ends, its third point and its sector.
-fn entry_of(mesh: &Mesh, walls: &[bool], left: u16, right: u16, apex: u16, sector: u16) -> Entry {
+fn entry_of(mesh: &Mesh, walls: &[bool], left: u16, right: u16, apex: u16, sector: u16) -> Entry
+    ensures { IsEntry mesh.now.triangles walls.now left right apex sector result }
+{
     Entry {
         left,
         right,
@@ -103,20 +111,24 @@ impl Web {
         let mut entries = Vec::new(alloc);
         for one in labelled {
             let (t, sector) = (one.triangle, one.sector);
-            entries.push(entry_of(mesh, walls.as_slice(), t.p, t.q, t.r, sector))?;
-            entries.push(entry_of(mesh, walls.as_slice(), t.q, t.r, t.p, sector))?;
-            entries.push(entry_of(mesh, walls.as_slice(), t.r, t.p, t.q, sector))?;
+            entries.push(entry_of(mesh, &walls, t.p, t.q, t.r, sector))?;
+            entries.push(entry_of(mesh, &walls, t.q, t.r, t.p, sector))?;
+            entries.push(entry_of(mesh, &walls, t.r, t.p, t.q, sector))?;
         }
         Ok(Web { entries, walls })
     }
 
     /// The entry at this place.
-    pub fn entry(&self, place: u16) -> Option<Entry> {
+    pub fn entry(&self, place: u16) -> Option<Entry>
+        ensures { result ≡ slice_get self.now.entries.items place }
+    {
         self.entries.get(place as usize).copied()
     }
 
     /// The place of the entry through the directed edge, unless it leads through a solid line.
-    pub fn way_through(&self, mesh: &Mesh, left: u16, right: u16) -> Option<u16> {
+    pub fn way_through(&self, mesh: &Mesh, left: u16, right: u16) -> Option<u16>
+        ensures { IsWay mesh.now.triangles self.now.walls.items (edge left right) result }
+    {
         way(mesh, self.walls.as_slice(), left, right)
     }
 
