@@ -3,7 +3,8 @@
 use crate::made::{Row, first_wrong};
 use std::test::Fail;
 use worked_maps::maps::{
-    APART, CROSSROADS, DOORS, DOORS33, LINE3, NO_LINES, PAIR, PILLAR, SHUT_PAIR, SQUARE, U, WIDE,
+    APART, CROSSROADS, DOORS, DOORS33, LINE3, NO_LINES, PAIR, PILLAR, RINGS, SHUT_PAIR, SQUARE, U,
+    WIDE,
 };
 use worked_maps::rows::{SOUND, said_by, shelf_of};
 use worked_maps::wads::{Made, RowLine, bytes_of};
@@ -67,7 +68,7 @@ fn small_maps(rt: HostRuntime) -> Result<(), Fail> {
     Ok(())
 }
 
-fn rooms() -> [Row; 5] {
+fn rooms() -> [Row; 6] {
     [
         built(
             &CROSSROADS,
@@ -91,6 +92,12 @@ fn rooms() -> [Row; 5] {
         // a line with two sides and a clear flag is solid
         built(
             &SHUT_PAIR,
+            2,
+            &[6],
+            "built MAP01 sectors 2 set 1 clear 2 listed 0\n",
+        ),
+        built(
+            &RINGS,
             2,
             &[6],
             "built MAP01 sectors 2 set 1 clear 2 listed 0\n",

@@ -1,10 +1,11 @@
-//! The orders `ray` and `audit`.
+//! The orders `ray`, `audit` and `trace`.
 
-use sight_names::{LineFault, RayFault, Side};
+use sight_names::{LineFault, RayFault, Side, TraceFault};
 use sight_run::{Flaw, Status, Why};
 use std::test::Fail;
 use worked_maps::maps::{
-    CROSSED, DOORS33, LINE3, OVERLAPPED, PAIR, SHUT_PAIR, SQUARE, TOUCHED, U, WIDE,
+    CROSSED, DOORS33, ISLAND, LINE3, NO_LINES, OPEN, OVERLAPPED, PAIR, ROD, SHUT_PAIR, SQUARE,
+    TOUCHED, U, WIDE,
 };
 use worked_maps::rows::{Case, Output, SOUND, first_wrong};
 use worked_maps::wads::{Made, RowLine};
@@ -163,53 +164,161 @@ fn words_of_rays(rt: HostRuntime) -> Result<(), Fail> {
     Ok(())
 }
 
-fn flawed(lines: &'static [RowLine], fault: LineFault, text: &'static str) -> Case {
-    judged(
-        "audit a MAP01",
-        lines,
-        1,
-        Status::BadMap(Flaw::Line(fault)),
+fn sound(file: Made, text: &'static str) -> Case {
+    Case {
+        file,
+        cert: None,
+        words: "audit a MAP01",
+        failing: SOUND,
+        status: Status::Done,
         text,
-    )
+        output: Output::Missing,
+    }
 }
 
-fn audits_cases() -> [Case; 5] {
+fn sound_cases() -> [Case; 5] {
     [
-        judged(
-            "audit a MAP01",
-            &U,
-            3,
-            Status::Done,
-            "lines sound 12 points 10\n",
+        sound(
+            Made::Map(&U, 3, &[]),
+            "sound lines 12 points 10 sectors 3 triangles 8\n",
         ),
-        judged(
-            "audit a MAP01",
-            &SQUARE,
-            1,
-            Status::Done,
-            "lines sound 4 points 4\n",
+        sound(
+            Made::Map(&SQUARE, 1, &[]),
+            "sound lines 4 points 4 sectors 1 triangles 2\n",
         ),
-        flawed(
-            &TOUCHED,
-            LineFault::Touch { i: 0, j: 4 },
-            "refused: bad map: touch 0 4\n",
+        // two points that no line uses, and a line of zero length
+        sound(
+            Made::Spare,
+            "sound lines 7 points 6 sectors 2 triangles 4\n",
         ),
-        flawed(
-            &CROSSED,
-            LineFault::Cross { i: 3, j: 4 },
-            "refused: bad map: cross 3 4\n",
+        sound(
+            Made::Map(&NO_LINES, 2, &[]),
+            "sound lines 0 points 0 sectors 2 triangles 0\n",
         ),
-        flawed(
-            &OVERLAPPED,
-            LineFault::Overlap { i: 0, j: 4 },
-            "refused: bad map: overlap 0 4\n",
+        // as many points as a map may have
+        sound(
+            Made::Squares(32),
+            "sound lines 4096 points 4096 sectors 1 triangles 2048\n",
         ),
     ]
 }
 
 #[test]
-fn audits(rt: HostRuntime) -> Result<(), Fail> {
+fn audits_sound_maps(rt: HostRuntime) -> Result<(), Fail> {
     let alloc = rt.alloc();
-    assert_eq!(rt; first_wrong(alloc, &audits_cases())?, None);
+    assert_eq!(rt; first_wrong(alloc, &sound_cases())?, None);
+    Ok(())
+}
+
+fn flawed(lines: &'static [RowLine], sectors: u16, flaw: Flaw, text: &'static str) -> Case {
+    judged("audit a MAP01", lines, sectors, Status::BadMap(flaw), text)
+}
+
+fn right_side(line: u16) -> Side {
+    Side { line, left: false }
+}
+
+fn flawed_cases() -> [Case; 6] {
+    [
+        flawed(
+            &TOUCHED,
+            1,
+            Flaw::Line(LineFault::Touch { i: 0, j: 4 }),
+            "refused: bad map: touch 0 4\n",
+        ),
+        flawed(
+            &CROSSED,
+            1,
+            Flaw::Line(LineFault::Cross { i: 3, j: 4 }),
+            "refused: bad map: cross 3 4\n",
+        ),
+        flawed(
+            &OVERLAPPED,
+            1,
+            Flaw::Line(LineFault::Overlap { i: 0, j: 4 }),
+            "refused: bad map: overlap 0 4\n",
+        ),
+        flawed(
+            &OPEN,
+            1,
+            Flaw::Open(right_side(0)),
+            "refused: bad map: open 0R\n",
+        ),
+        flawed(
+            &ROD,
+            1,
+            Flaw::Open(right_side(0)),
+            "refused: bad map: open 0R\n",
+        ),
+        flawed(
+            &ISLAND,
+            2,
+            Flaw::Mixed(right_side(0), right_side(4)),
+            "refused: bad map: mixed 0R 4R\n",
+        ),
+    ]
+}
+
+#[test]
+fn audits_flawed_maps(rt: HostRuntime) -> Result<(), Fail> {
+    let alloc = rt.alloc();
+    assert_eq!(rt; first_wrong(alloc, &flawed_cases())?, None);
+    Ok(())
+}
+
+fn untraced(
+    words: &'static str,
+    lines: &'static [RowLine],
+    sectors: u16,
+    fault: TraceFault,
+    text: &'static str,
+) -> Case {
+    judged(words, lines, sectors, Status::No(Why::Trace(fault)), text)
+}
+
+fn trace_cases() -> [Case; 5] {
+    [
+        judged(
+            "trace a MAP01 5L,5R,-1,0,32",
+            &U,
+            3,
+            Status::Done,
+            "trace 0 1\n",
+        ),
+        untraced(
+            "trace a MAP01 3R,11L,-1,128,-4032",
+            &DOORS33,
+            4,
+            TraceFault::HitsPoint { point: 6 },
+            "no trace: point 6\n",
+        ),
+        untraced(
+            "trace a MAP01 3R,11L,-1,128,-3968",
+            &DOORS33,
+            4,
+            TraceFault::HitsSolid { line: 7 },
+            "no trace: solid 7\n",
+        ),
+        untraced(
+            "trace a MAP01 2L,2R,0,1,-32",
+            &PAIR,
+            2,
+            TraceFault::BadRay(RayFault::WrongWay { line: 2 }),
+            "no ray: wrong way 2\n",
+        ),
+        judged(
+            "trace a MAP01 0R,1R,0,1,-32",
+            &OPEN,
+            1,
+            Status::BadMap(Flaw::Open(right_side(0))),
+            "refused: bad map: open 0R\n",
+        ),
+    ]
+}
+
+#[test]
+fn traces(rt: HostRuntime) -> Result<(), Fail> {
+    let alloc = rt.alloc();
+    assert_eq!(rt; first_wrong(alloc, &trace_cases())?, None);
     Ok(())
 }

@@ -200,7 +200,7 @@ pub const DOORS: [RowLine; 16] = [
 /// No line at all.
 pub const NO_LINES: [RowLine; 0] = [];
 
-/// An island with a name of its own room: a pillar inside a room whose sides name the room too.
+/// A room with a pillar of rock inside.
 pub const PILLAR: [RowLine; 8] = [
     (0, 0, 0, 192, 1, 0, NONE),
     (0, 192, 192, 192, 1, 0, NONE),
@@ -210,6 +210,26 @@ pub const PILLAR: [RowLine; 8] = [
     (128, 64, 128, 128, 1, 0, NONE),
     (128, 128, 64, 128, 1, 0, NONE),
     (64, 128, 64, 64, 1, 0, NONE),
+];
+
+/// Two rooms like rings, the one round the other, with rock between them and inside.
+pub const RINGS: [RowLine; 16] = [
+    (0, 0, 0, 512, 1, 0, NONE),
+    (0, 512, 512, 512, 1, 0, NONE),
+    (512, 512, 512, 0, 1, 0, NONE),
+    (512, 0, 0, 0, 1, 0, NONE),
+    (64, 64, 448, 64, 1, 0, NONE),
+    (448, 64, 448, 448, 1, 0, NONE),
+    (448, 448, 64, 448, 1, 0, NONE),
+    (64, 448, 64, 64, 1, 0, NONE),
+    (128, 128, 128, 384, 1, 1, NONE),
+    (128, 384, 384, 384, 1, 1, NONE),
+    (384, 384, 384, 128, 1, 1, NONE),
+    (384, 128, 128, 128, 1, 1, NONE),
+    (192, 192, 320, 192, 1, 1, NONE),
+    (320, 192, 320, 320, 1, 1, NONE),
+    (320, 320, 192, 320, 1, 1, NONE),
+    (192, 320, 192, 192, 1, 1, NONE),
 ];
 
 /// All points on one line.

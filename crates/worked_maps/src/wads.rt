@@ -167,6 +167,8 @@ pub enum Made {
     /// PAIR with this REJECT as a node builder leaves it: ten map lumps in the usual order, a split point, and a music
     /// lump behind.
     Full(&'static [u8]),
+    /// So many square rooms by as many, all of one sector and none joined to another.
+    Squares(i16),
     /// So many lines without a common point.
     Apart(i16),
     /// SQUARE with LINEDEFS of 16,385 records.
@@ -307,6 +309,25 @@ fn apart(alloc: Global, count: i16) -> Result<Vec<u8>, AllocError> {
     file_of(alloc, &map_lumps(alloc, &lines, 1)?)
 }
 
+fn add_square(lines: &mut Vec<RowLine>, x: i16, y: i16) -> Result<(), AllocError> {
+    let (u, v) = (x.wrapping_add(16), y.wrapping_add(16));
+    lines.push((x, y, x, v, 1, 0, NONE))?;
+    lines.push((x, v, u, v, 1, 0, NONE))?;
+    lines.push((u, v, u, y, 1, 0, NONE))?;
+    lines.push((u, y, x, y, 1, 0, NONE))?;
+    Ok(())
+}
+
+fn squares(alloc: Global, count: i16) -> Result<Vec<u8>, AllocError> {
+    let mut lines: Vec<RowLine> = Vec::new(alloc);
+    for i in 0..count {
+        for j in 0..count {
+            add_square(&mut lines, i.wrapping_mul(32), j.wrapping_mul(32))?;
+        }
+    }
+    file_of(alloc, &map_lumps(alloc, &lines, 1)?)
+}
+
 fn zeros(alloc: Global, count: usize) -> Result<Vec<u8>, AllocError> {
     let mut bytes = Vec::new(alloc);
     for _ in 0..count {
@@ -355,6 +376,7 @@ pub fn bytes_of(alloc: Global, how: &Made) -> Result<Vec<u8>, AllocError> {
         }
         Made::Spare => file_of(alloc, &spare(alloc)?),
         Made::Full(reject) => file_of(alloc, &full(alloc, reject)?),
+        Made::Squares(count) => squares(alloc, *count),
         Made::Apart(count) => apart(alloc, *count),
         Made::ManyLines => file_of(alloc, &with_linedefs(alloc, zeros(alloc, 229_390)?)?),
         Made::Crowded(len) => crowded(alloc, *len),
