@@ -1,15 +1,22 @@
 -- What the order `build` makes of a map that was found.
-use Rattle.std.specs.Prelude.{◌≡◌, ℕ, List, [], ◌∷◌, ◌++◌, Option, Some, None, Result, Ok, Err, codes, length, ⊤}
+use Rattle.std.specs.Prelude.{◌≡◌, ◌≢◌, ◌↔◌, ◌⊎◌, ℕ, ◌<◌, List, [], ◌∷◌, ◌++◌, Option, Some, None, Result, Ok, Err, Contains, codes, length, ⊤}
+use Rattle.sight_names.specs.declared.names.Budget.{Budget}
+use Rattle.sight_names.specs.declared.names.Budget.TheVariants.{Full}
 use Rattle.sight_names.specs.declared.faults.LineFault.{LineFault}
+use Rattle.sight_names.specs.Found.{AreConnected}
 use Rattle.sight_names.specs.Map.{Map}
+use Rattle.sight_names.specs.Mesh.{IsGoodMesh}
 use Rattle.sight_names.specs.Points.{points_of}
 use Rattle.sight_names.specs.Sound.{LinesMeetAtEnds}
 use Rattle.map_audit.specs.Audit.{IsLineFault}
-use Rattle.reject_bits.specs.Parts.{IsWhole, TableParts}
+use Rattle.reject_bits.specs.Parts.{IsWhole, Rejects}
+use Rattle.block_evidence.specs.declared.Tree.{Tree}
 use Rattle.cert_format.specs.declared.cert.Sizes.{Sizes}
+use Rattle.cert_format.specs.Accepted.{IsNamed, labels_of, triangles_of}
 use Rattle.cert_format.specs.Grammar.{IsInOrder, Spells}
 use Rattle.cert_format.specs.Parts.{CertParts}
 use Rattle.sight_job.specs.declared.build.Built.{Built}
+use Rattle.sight_job.specs.Built.{HasRaysOfClear, IsSymmetric, ListsClear}
 use Rattle.sight_run.specs.declared.counts.Counts.{Counts}
 use Rattle.sight_run.specs.declared.status.Bound.{Bound}
 use Rattle.sight_run.specs.declared.status.Bound.TheVariants as bound
@@ -29,11 +36,28 @@ use Rattle.sight_run.specs.Zero.{with_table}
 abbrev pub sizes_of_map : Map → Sizes
 sizes_of_map m = record { sectors = m.sectors; points = length (points_of m); lines = length m.lines }
 
--- a table of the map's sectors, and a certificate of its sizes
-pub record IsBuiltOf (m : Map) (table : TableParts) (certificate : CertParts) : Type 0 where
+-- no pair is listed, and each sector has its tree
+pub record IsExhausted (m : Map) (built : Built) : Type 0 where
+  pub no_list : built.listed ≡ []
+  pub trees : (a : ℕ) → a < m.sectors → (t : Tree) × Contains built.cert.trees t × (t.source ≡ a)
+
+-- what a build of the map within this budget gives
+pub record IsBuiltOf (m : Map) (budget : Budget) (built : Built) : Type 0 where
   pub sound : LinesMeetAtEnds m
-  pub sectors : table.n ≡ m.sectors
-  pub sizes : certificate.sizes ≡ sizes_of_map m
+  pub sectors : built.table.n ≡ m.sectors
+  pub sizes : built.cert.sizes ≡ sizes_of_map m
+  pub listed : built.listed ≡ built.cert.listed
+  pub mesh : IsGoodMesh m (triangles_of built.cert) (labels_of built.cert)
+  -- the certificate has a ray for just the clear pairs that aren't listed
+  pub rays : HasRaysOfClear built
+  -- both bits of a listed pair are clear
+  pub clear : ListsClear built
+  pub symmetric : IsSymmetric built
+  -- a sector's own bit is set exactly where no side names it
+  pub diagonal : (a : ℕ) → a < m.sectors → Rejects built.table a a ↔ ¬ IsNamed m a
+  -- where a bit of two sectors is set, no passable lines connect them, or the certificate has the tree of one of them
+  pub set : (a b : ℕ) → a < m.sectors → b < m.sectors → a ≢ b → Rejects built.table a b → ¬ AreConnected m a b ⊎ ((t : Tree) × Contains built.cert.trees t × ((t.source ≡ a) ⊎ (t.source ≡ b)))
+  pub exhausted : budget ≡ Full → IsExhausted m built
 
 -- the fault of the lines, and no other is
 pub record IsSoleFault (m : Map) (fault : LineFault) : Type 0 where
@@ -41,12 +65,12 @@ pub record IsSoleFault (m : Map) (fault : LineFault) : Type 0 where
   pub only : (other : LineFault) → IsLineFault m other → other ≡ fault
 
 -- What was built of the map, or why nothing was. A sector that isn't closed, or sides that disagree, are told only where the lines meet at ends.
-abbrev pub Builds : Map → Result Built Status → Type 0
-Builds m (Ok built) = IsBuiltOf m built.table built.cert
-Builds m (Err status.Memory) = ⊤
-Builds m (Err (status.BadMap (flaw.Line fault))) = IsSoleFault m fault
-Builds m (Err (status.BadMap other)) = LinesMeetAtEnds m
-Builds m (Err other) = ⊥
+abbrev pub Builds : Map → Budget → Result Built Status → Type 0
+Builds m budget (Ok built) = IsBuiltOf m budget built
+Builds m budget (Err status.Memory) = ⊤
+Builds m budget (Err (status.BadMap (flaw.Line fault))) = IsSoleFault m fault
+Builds m budget (Err (status.BadMap other)) = LinesMeetAtEnds m
+Builds m budget (Err other) = ⊥
 
 -- a refusal that building a table can end with
 abbrev pub IsOfBuilding : Status → Type 0
@@ -81,27 +105,24 @@ build_roles (Some name) = role.Wad ∷ role.Cert ∷ []
 abbrev pub build_line : List ℕ → Counts → List ℕ
 build_line name counts = codes "built " ++ name ++ counts_words counts ++ codes "\n"
 
--- The file's WAD with a table of the map's sectors, a certificate of its sizes where it is asked for, and a line with the counts of the
--- table and of the certificate's list.
-pub record ShowsBuild (name out : List ℕ) (asked : Option (List ℕ)) (found : Found) (answer : Answer) : Type 0 where
-  pub table : TableParts
-  pub certificate : CertParts
-  pub built : IsBuiltOf found.map table certificate
-  pub whole : IsWhole table
-  pub in_order : IsInOrder certificate
+-- The file's WAD with the table that was built, the certificate where it is asked for, and a line with the counts of the table and of the list.
+pub record ShowsBuild (name out : List ℕ) (asked : Option (List ℕ)) (budget : Budget) (found : Found) (answer : Answer) : Type 0 where
+  pub built : Built
+  pub is_built : IsBuiltOf found.map budget built
+  pub whole : IsWhole built.table
+  pub in_order : IsInOrder built.cert
   pub bytes : List ℕ
-  pub made : with_table found table.bytes ≡ Ok bytes
+  pub made : with_table found built.table.bytes ≡ Ok bytes
   pub spelled : Option (List ℕ)
-  pub are_asked : AreAsked asked certificate spelled
-  pub is : answer ≡ record { writes = build_writes out bytes asked spelled; line = build_line name (counts_with table (length certificate.listed)) }
+  pub are_asked : AreAsked asked built.cert spelled
+  pub is : answer ≡ record { writes = build_writes out bytes asked spelled; line = build_line name (counts_with built.table (length built.cert.listed)) }
 
--- the WAD with a table of the map's sectors is above a limit
-pub record ShowsLimit (found : Found) (bound : Bound) : Type 0 where
-  pub table : TableParts
-  pub certificate : CertParts
-  pub built : IsBuiltOf found.map table certificate
-  pub whole : IsWhole table
-  pub limit : with_table found table.bytes ≡ Err (status.Limit bound)
+-- the WAD with the table that was built is above a limit
+pub record ShowsLimit (budget : Budget) (found : Found) (bound : Bound) : Type 0 where
+  pub built : Built
+  pub is_built : IsBuiltOf found.map budget built
+  pub whole : IsWhole built.table
+  pub limit : with_table found built.table.bytes ≡ Err (status.Limit bound)
 
 -- a refusal that comes once a map is found
 abbrev pub IsOfBuildReply : Status → Type 0
@@ -117,9 +138,9 @@ IsUnbuildable (Err refusal) = ⊤
 IsUnbuildable (Ok found) = ¬ LinesMeetAtEnds found.map
 
 -- The answer that `build` calls for. Where the lines of the map share more than ends it is the first pair that does.
-abbrev pub BuildCalls : List ℕ → List ℕ → Option (List ℕ) → Found → Result Answer Status → Type 0
-BuildCalls name out asked found (Ok answer) = ShowsBuild name out asked found answer
-BuildCalls name out asked found (Err (status.BadMap (flaw.Line fault))) = IsLineFault found.map fault
-BuildCalls name out asked found (Err (status.BadMap other)) = LinesMeetAtEnds found.map
-BuildCalls name out asked found (Err (status.Limit bound)) = ShowsLimit found bound
-BuildCalls name out asked found (Err other) = ⊥
+abbrev pub BuildCalls : List ℕ → List ℕ → Option (List ℕ) → Budget → Found → Result Answer Status → Type 0
+BuildCalls name out asked budget found (Ok answer) = ShowsBuild name out asked budget found answer
+BuildCalls name out asked budget found (Err (status.BadMap (flaw.Line fault))) = IsLineFault found.map fault
+BuildCalls name out asked budget found (Err (status.BadMap other)) = LinesMeetAtEnds found.map
+BuildCalls name out asked budget found (Err (status.Limit bound)) = ShowsLimit budget found bound
+BuildCalls name out asked budget found (Err other) = ⊥

@@ -1,19 +1,20 @@
 -- What the order `grid` says of a made map: it is built and checked in memory.
 use Rattle.std.specs.Prelude.{◌≡◌, ℕ, List, ◌++◌, Result, Ok, Err, codes, length, ⊤}
 use Rattle.std.specs.Fmt.{decimal}
+use Rattle.sight_names.specs.declared.names.Budget.{Budget}
 use Rattle.sight_names.specs.declared.faults.CheckFault.{CheckFault}
 use Rattle.sight_names.specs.Map.{Map}
-use Rattle.sight_names.specs.Mesh.{IsGoodMesh}
 use Rattle.sight_names.specs.Sound.{LinesMeetAtEnds}
 use Rattle.map_audit.specs.Audit.{IsLineFault}
 use Rattle.wad_dir.specs.Print.{print}
 use Rattle.map_maker.specs.Lumps.{grid_file}
-use Rattle.reject_bits.specs.Parts.{IsWhole, TableParts}
-use Rattle.cert_format.specs.Accepted.{labels_of, triangles_of}
+use Rattle.reject_bits.specs.Parts.{IsWhole}
 use Rattle.cert_format.specs.Grammar.{IsInOrder}
-use Rattle.cert_format.specs.Parts.{CertParts}
+use Rattle.cert_checker.specs.declared.verdict.Totals.{Totals}
+use Rattle.cert_checker.specs.declared.verdict.Verdict.{Verdict}
 use Rattle.cert_checker.specs.declared.verdict.Verdict.TheVariants as verdict
-use Rattle.cert_checker.specs.Judged.{JudgesMesh, JudgesRays}
+use Rattle.cert_checker.specs.Judged.{JudgesMesh, JudgesPairs, JudgesRays}
+use Rattle.sight_job.specs.declared.build.Built.{Built}
 use Rattle.sight_run.specs.declared.counts.Counts.{Counts}
 use Rattle.sight_run.specs.declared.status.Flaw.TheVariants as flaw
 use Rattle.sight_run.specs.declared.status.Why.TheVariants as why
@@ -25,42 +26,46 @@ use Rattle.sight_run.specs.Counts.{counts_with, counts_words}
 use Rattle.sight_run.specs.Input.{Found, OnFound, found_in}
 use Rattle.sight_run.specs.Status.{IsOfBytes}
 
+-- what the checker promises of its verdict on what was built
+pub record JudgesBuilt (m : Map) (built : Built) (verdict : Verdict) : Type 0 where
+  pub mesh : JudgesMesh m built.cert verdict
+  pub rays : JudgesRays m built.cert verdict
+  pub pairs : JudgesPairs m built.table built.cert verdict
+
 abbrev pub grid_line : ℕ → Counts → List ℕ
 grid_line n counts = codes "grid " ++ decimal n ++ counts_words counts ++ codes " check yes\n"
 
--- The line has the counts of a table of the map's sectors and of the list of a certificate whose triangles are a good mesh of the map.
-pub record ShowsGrid (n : ℕ) (m : Map) (answer : Answer) : Type 0 where
-  pub table : TableParts
-  pub certificate : CertParts
-  pub built : IsBuiltOf m table certificate
-  pub whole : IsWhole table
-  pub in_order : IsInOrder certificate
-  pub mesh : IsGoodMesh m (triangles_of certificate) (labels_of certificate)
-  pub is : answer ≡ only_line (grid_line n (counts_with table (length certificate.listed)))
+-- the line has the counts of what was built, and the checker's answer to it is yes
+pub record ShowsGrid (n : ℕ) (budget : Budget) (m : Map) (answer : Answer) : Type 0 where
+  pub built : Built
+  pub is_built : IsBuiltOf m budget built
+  pub whole : IsWhole built.table
+  pub in_order : IsInOrder built.cert
+  pub totals : Totals
+  pub judged : JudgesBuilt m built (verdict.Yes totals)
+  pub is : answer ≡ only_line (grid_line n (counts_with built.table (length built.cert.listed)))
 
--- what was built is refused by the checker for this
-pub record ShowsRefused (m : Map) (fault : CheckFault) : Type 0 where
-  pub table : TableParts
-  pub certificate : CertParts
-  pub built : IsBuiltOf m table certificate
-  pub mesh : JudgesMesh m certificate (verdict.No fault)
-  pub rays : JudgesRays m certificate (verdict.No fault)
+-- the checker refuses what was built for this
+pub record ShowsRefused (budget : Budget) (m : Map) (fault : CheckFault) : Type 0 where
+  pub built : Built
+  pub is_built : IsBuiltOf m budget built
+  pub judged : JudgesBuilt m built (verdict.No fault)
 
 -- the answer that a made map calls for
-abbrev pub MadeMapCalls : ℕ → Map → Result Answer Status → Type 0
-MadeMapCalls n m (Ok answer) = ShowsGrid n m answer
-MadeMapCalls n m (Err (status.BadMap (flaw.Line fault))) = IsLineFault m fault
-MadeMapCalls n m (Err (status.BadMap other)) = LinesMeetAtEnds m
-MadeMapCalls n m (Err (status.No (why.Check fault))) = ShowsRefused m fault
-MadeMapCalls n m (Err other) = ⊥
+abbrev pub MadeMapCalls : ℕ → Budget → Map → Result Answer Status → Type 0
+MadeMapCalls n budget m (Ok answer) = ShowsGrid n budget m answer
+MadeMapCalls n budget m (Err (status.BadMap (flaw.Line fault))) = IsLineFault m fault
+MadeMapCalls n budget m (Err (status.BadMap other)) = LinesMeetAtEnds m
+MadeMapCalls n budget m (Err (status.No (why.Check fault))) = ShowsRefused budget m fault
+MadeMapCalls n budget m (Err other) = ⊥
 
 -- the map in the WAD of n times n rooms, or the first check that fails
 abbrev pub made_map : ℕ → Result Found Status
 made_map n = found_in (codes "MAP01") (print (grid_file n))
 
 -- the answer that `grid` calls for
-abbrev pub GridCalls : ℕ → Result Answer Status → Type 0
-GridCalls n answer = OnFound (made_map n) (λ found. MadeMapCalls n found.map) answer
+abbrev pub GridCalls : ℕ → Budget → Result Answer Status → Type 0
+GridCalls n budget answer = OnFound (made_map n) (λ found. MadeMapCalls n budget found.map) answer
 
 -- a refusal that a made map can end with
 abbrev pub IsOfGridTest : Status → Type 0

@@ -2,6 +2,7 @@
 
 ghost use Rattle.std.specs.Prelude.{◌≡◌, IfErr, IfOk, Ok, Some, map, string_bytes};
 ghost use Rattle.std.specs.Option.{option_map};
+ghost use Rattle.sight_names.specs.declared.names.Budget.{Budget as Allowed};
 ghost use Rattle.sight_names.specs.Map.{map_of};
 ghost use Rattle.sight_names.specs.Sound.{LinesMeetAtEnds};
 ghost use Rattle.shelf_io.specs.Shelf.{Files, NoneFell};
@@ -37,7 +38,7 @@ pub fn has_sizes_of_map(plan: &Plan)
 
 fn build_sound(alloc: Global, plan: &Plan, budget: Budget) -> Result<Built, Status>
     requires { LinesMeetAtEnds (map_of plan.now) }
-    ensures built { Builds (map_of plan.now) result }
+    ensures built { Builds (map_of plan.now) budget result }
     ensures refusals { IfErr result IsOfBuilding }
 {
     has_sizes_of_map(plan);
@@ -51,7 +52,7 @@ fn build_sound(alloc: Global, plan: &Plan, budget: Budget) -> Result<Built, Stat
 
 /// The table and the certificate of a map, audited wholly.
 pub fn build(alloc: Global, plan: &Plan, budget: Budget) -> Result<Built, Status>
-    ensures built { Builds (map_of plan.now) result }
+    ensures built { Builds (map_of plan.now) budget result }
     ensures refusals { IfErr result IsOfBuilding }
 {
     match audit_lines(plan) {
@@ -124,9 +125,8 @@ fn make_reply(
     asked: &Option<Text>,
     built: Built,
 ) -> Result<Reply, Status>
-    requires whole { IsWhole input.now }
-    requires built { IsBuiltOf (found input.now).map built.table built.cert }
-    ensures called { Gives ⊥ (BuildCalls name.now out.now asked.now (found input.now)) (reply_seen result) }
+    requires { IsWhole input.now }
+    ensures called { (budget : Allowed) → IsBuiltOf (found input.now).map budget built → Gives ⊥ (BuildCalls name.now out.now asked.now budget (found input.now)) (reply_seen result) }
     ensures refusals { IfErr result IsOfMaking }
     ensures roles { IfOk result (λ reply. roles_of (writes reply) ≡ build_roles asked.now) }
 {
@@ -153,7 +153,7 @@ fn reply_for(
     budget: Budget,
 ) -> Result<Reply, Status>
     requires { IsWhole input.now }
-    ensures called { Gives (IsUnbuildable (Ok (found input.now))) (BuildCalls name.now out.now asked.now (found input.now)) (reply_seen result) }
+    ensures called { Gives (IsUnbuildable (Ok (found input.now))) (BuildCalls name.now out.now asked.now budget (found input.now)) (reply_seen result) }
     ensures refusals { IfErr result IsOfBuildReply }
     ensures roles { IfOk result (λ reply. roles_of (writes reply) ≡ build_roles asked.now) }
 {
@@ -172,7 +172,7 @@ pub fn do_build<S: Shelf>(
     budget: Budget,
 ) -> Result<Reply, Status>
     ensures told { (files : Files) → (S.state shelf.old).files ≡ Some files →
-        Gives (IsUnbuildable (found_of wad.now name.now files)) (OnFound (found_of wad.now name.now files) (BuildCalls name.now out.now asked.now)) (reply_seen result) }
+        Gives (IsUnbuildable (found_of wad.now name.now files)) (OnFound (found_of wad.now name.now files) (BuildCalls name.now out.now asked.now budget)) (reply_seen result) }
     ensures files { (S.state shelf.new).files ≡ (S.state shelf.old).files }
     ensures counts { NoneFell (S.state shelf.old) (S.state shelf.new) }
     ensures cause { Cause (S.state shelf.old) (S.state shelf.new) result }

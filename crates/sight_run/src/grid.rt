@@ -5,7 +5,6 @@ ghost use Rattle.sight_names.specs.Map.{map_of};
 ghost use Rattle.reject_bits.specs.Parts.{IsWhole};
 ghost use Rattle.cert_format.specs.Grammar.{IsInOrder};
 ghost use Rattle.sight_run.specs.Answer.{Gives, Makes};
-ghost use Rattle.sight_run.specs.Build.{IsBuiltOf};
 ghost use Rattle.sight_run.specs.Counts.{counts_with};
 ghost use Rattle.sight_run.specs.Grid.{GridCalls, IsOfGrid, IsOfGridTest, MadeMapCalls, grid_line, made_map};
 ghost use Rattle.sight_run.specs.Reply.{reply_seen, writes};
@@ -62,34 +61,25 @@ fn counted_line(alloc: Global, n: u16, built: &Built) -> Result<String, Status>
     }
 }
 
-/// Whether the checker accepts what was built.
-fn judge_built(alloc: Global, n: u16, plan: &Plan, built: &Built) -> Result<String, Status>
-    requires { IsBuiltOf (map_of plan.now) built.now.table built.now.cert }
-    ensures called { Gives ⊥ (MadeMapCalls n (map_of plan.now)) (line_answer result) }
-    ensures refusals { IfErr result IsOfGridTest }
-{
-    has_sizes_of_map(plan);
-    match check(alloc, plan, &built.table, &built.cert) {
-        Ok(Verdict::Yes(_)) => counted_line(alloc, n, built),
-        Ok(Verdict::No(fault)) => Err(Status::No(Why::Check(fault))),
-        Err(_) => Err(Status::Memory),
-    }
-}
-
-/// The map audited, built and checked.
+/// Whether the checker accepts what is built of the map.
 fn judge_map(alloc: Global, n: u16, plan: &Plan, budget: Budget) -> Result<String, Status>
-    ensures called { Gives ⊥ (MadeMapCalls n (map_of plan.now)) (line_answer result) }
+    ensures called { Gives ⊥ (MadeMapCalls n budget (map_of plan.now)) (line_answer result) }
     ensures refusals { IfErr result IsOfGridTest }
 {
     let built = build(alloc, plan, budget)?;
-    judge_built(alloc, n, plan, &built)
+    has_sizes_of_map(plan);
+    match check(alloc, plan, &built.table, &built.cert) {
+        Ok(Verdict::Yes(_)) => counted_line(alloc, n, &built),
+        Ok(Verdict::No(fault)) => Err(Status::No(Why::Check(fault))),
+        Err(_) => Err(Status::Memory),
+    }
 }
 
 /// What the order `grid` calls for. A refusal of the made map, or a no of the checker, is told as it would be of a map in a file.
 pub fn do_grid(alloc: Global, n: u16, budget: Budget) -> Result<Reply, Status>
     requires some { 1 ≤ n }
     requires side { n ≤ 18 }
-    ensures called { Gives ⊥ (GridCalls n) (reply_seen result) }
+    ensures called { Gives ⊥ (GridCalls n budget) (reply_seen result) }
     ensures refusals { IfErr result IsOfGrid }
     ensures roles { IfOk result (λ reply. writes reply ≡ []) }
 {

@@ -8,4 +8,4 @@ use Rattle.sight_run.proofs.build.do_build.Goals as goal
 
 pub returns-clause-told : goal.returns-clause-told
 returns-clause-told g c = λ files e.
-    gives_built (BuildCalls c.args.name.now c.args.out.now c.args.asked.now) (found c.in_ok-input.input) (found_of c.args.wad.now c.args.name.now files) (reply_seen c.reply_for.result) (c.in_ok-input.ensures.told files e) c.reply_for.ensures.called
+    gives_built (BuildCalls c.args.name.now c.args.out.now c.args.asked.now c.args.budget) (found c.in_ok-input.input) (found_of c.args.wad.now c.args.name.now files) (reply_seen c.reply_for.result) (c.in_ok-input.ensures.told files e) c.reply_for.ensures.called
