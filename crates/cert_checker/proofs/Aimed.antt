@@ -1,10 +1,9 @@
 -- Rays that leave a side and arrive on a side.
-use Rattle.std.proofs.Common.{◌≡◌, ◌≢◌, ℕ, ◌+◌, ◌<◌, ◌≤◌, ◌⊎◌, inl, inr, List, Option, Some, None, Bool, true, false, get_or, refl, sym, ◌∙◌, ap, subst, arith, if◌then◌else◌, pos, ◌<ℤ◌}
+use Rattle.std.proofs.Common.{◌≡◌, ℕ, ◌+◌, ◌≤◌, inl, inr, List, Option, Some, None, Bool, true, false, get_or, sym, ◌∙◌, ap, subst, arith, if◌then◌else◌, pos, ◌<ℤ◌}
 use Rattle.std.specs.List.{slice_get}
 use Rattle.std.specs.Prelude.{option_and_then}
 use Rattle.std.proofs.lemmas.Option.{get_or_from_slice_get}
 use Rattle.std.proofs.lemmas.Bool.{cases_lt}
-use Rattle.sight_names.specs.declared.faults.CheckFault.{CheckFault}
 use Rattle.sight_names.specs.declared.names.Pt.{Pt}
 use Rattle.sight_names.specs.declared.names.Side.{Side}
 use Rattle.sight_names.specs.declared.names.Ray.{Ray}
@@ -12,7 +11,7 @@ use Rattle.sight_names.specs.declared.names.PairRay.{PairRay}
 use Rattle.sight_names.specs.declared.plan.Line.{Line}
 use Rattle.sight_names.specs.Plan.{PlanParts}
 use Rattle.sight_names.specs.Point.{point_of}
-use Rattle.sight_names.specs.Map.{Map, map_of, looked_up, origin, Names}
+use Rattle.sight_names.specs.Map.{Map, map_of, looked_up, origin}
 use Rattle.sight_names.specs.Ray.{ray_value, SplitsLine}
 use Rattle.sight_ray.specs.RayFault.{Splits}
 use Rattle.mesh_shape.proofs.RuleLemmas.{plan_line_at}

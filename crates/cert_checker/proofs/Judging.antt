@@ -1,7 +1,6 @@
 -- From what the judge of pairs goes by to the map and the certificate.
-use Rattle.std.proofs.Common.{◌≡◌, ◌≢◌, ℕ, zero, suc, ◌+◌, ◌<◌, ◌≤◌, ◌⊎◌, inl, inr, ◌↔◌, List, [], ◌∷◌, Option, Some, None, Ok, Err, Result, MatchResult, length, map, Contains, get_or, Bool, true, false, refl, sym, ◌∙◌, ap, subst, arith}
+use Rattle.std.proofs.Common.{◌≡◌, ℕ, zero, suc, ◌<◌, ◌≤◌, ◌⊎◌, inl, inr, List, [], ◌∷◌, Option, Some, length, Contains, Bool, true, false, refl, sym, subst, arith}
 use Rattle.std.specs.List.{slice_get, AllByRecursion}
-use Rattle.std.specs.Prelude.{IfOk}
 use Rattle.std.proofs.lemmas.Option.{slice_get_within, slice_get-get_or, get_or_from_slice_get}
 use Rattle.sight_names.specs.declared.faults.CheckFault.{CheckFault}
 use Rattle.sight_names.specs.declared.faults.CheckFault.TheVariants.{Mesh, Ray, Tree as OfTree, ListedSet, Unproved, Uncovered}
@@ -11,15 +10,13 @@ use Rattle.std.proofs.lemmas.Bool.{cases_lt}
 use Rattle.sight_names.specs.Map.{Map}
 use Rattle.sight_names.specs.Found.{AreConnected}
 use Rattle.cert_checker.proofs.Components.{one_component, one_number, same_or}
-use Rattle.reject_bits.specs.Parts.{TableParts}
-use Rattle.cert_format.specs.declared.cert.Sizes.{Sizes}
 use Rattle.cert_format.specs.Parts.{CertParts}
 use Rattle.cert_format.specs.Grammar.{Ascends, PairBefore, IsPairInRange, IsRayInRange, IsInOrder}
 use Rattle.cert_format.specs.Accepted.{EitherSet, EitherClear, IsNamed, IsPairListed, IsProvedSeen}
 use Rattle.cert_checker.specs.declared.verdict.Totals.{Totals}
 use Rattle.cert_checker.specs.declared.verdict.Verdict.{Verdict}
 use Rattle.cert_checker.specs.declared.verdict.Verdict.TheVariants.{Yes, No}
-use Rattle.cert_checker.specs.Pairs.{KnownParts, pairs_of, pair, IsWithin, IsMarked, HaveSameNumber, IsSet, HasRay, KeepsAway, IsShownBlind, IsShownSeen, IsFine, IsFaultAt, IsRowFine, IsFirstInRow, IsFirstPairFault, ArePairsFine, IsKnown, AreTotals}
+use Rattle.cert_checker.specs.Pairs.{KnownParts, pairs_of, pair, IsWithin, IsMarked, HaveSameNumber, KeepsAway, IsShownBlind, IsShownSeen, IsFine, IsFaultAt, IsFirstPairFault, ArePairsFine, IsKnown, AreTotals}
 use Rattle.block_evidence.specs.declared.Tree.{Tree}
 use Rattle.tri_sectors.specs.Components.{AreComponents}
 use Rattle.cert_checker.specs.Named.{HasNoMark, MarksNamed, MarksSources}

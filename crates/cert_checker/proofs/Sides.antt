@@ -1,5 +1,5 @@
 -- The sectors that sides of lines name, a line at a time.
-use Rattle.std.proofs.Common.{◌≡◌, ◌≢◌, ℕ, zero, suc, ◌+◌, ◌<◌, ◌≤◌, ◌⊎◌, inl, inr, ◌↔◌, List, [], ◌∷◌, Option, Some, None, ◌++◌, length, get_or, take, map, Bool, true, false, refl, sym, ◌∙◌, ap, subst, arith}
+use Rattle.std.proofs.Common.{◌≡◌, ℕ, zero, suc, ◌+◌, ◌<◌, ◌≤◌, ◌⊎◌, inl, inr, ◌↔◌, List, [], ◌∷◌, Option, Some, None, ◌++◌, length, get_or, take, map, Bool, true, false, refl, sym, ◌∙◌, ap, subst, arith}
 use Rattle.std.proofs.Math.Seq.{take-append_seam}
 use Rattle.std.specs.List.{slice_get}
 use Rattle.std.specs.Prelude.{option_map, option_and_then}
@@ -8,7 +8,7 @@ use Rattle.std.proofs.lemmas.Option.{slice_get_past}
 use Rattle.sight_names.specs.declared.names.Side.{Side}
 use Rattle.sight_names.specs.declared.plan.Line.{Line}
 use Rattle.sight_names.specs.Plan.{PlanParts}
-use Rattle.sight_names.specs.Map.{Map, MapLine, line_at, named, Names, map_of, looked_up, sector_on}
+use Rattle.sight_names.specs.Map.{Map, MapLine, named, Names, map_of, looked_up, sector_on}
 use Rattle.cert_format.specs.Accepted.{IsNamed}
 use Rattle.cert_checker.specs.Pairs.{IsMarked}
 use Rattle.cert_checker.specs.Named.{IsOnLine, MarksLine, IsNamedBelow, MarksNamed}

@@ -1,5 +1,5 @@
 -- What the checker's answer says of the mesh, of the rays and of the pairs.
-use Rattle.std.specs.Prelude.{◌≡◌, ◌≢◌, ◌<◌, ◌≤◌, ◌⊎◌, ℕ, List, Option, Some, length, Contains}
+use Rattle.std.specs.Prelude.{◌≡◌, ◌≢◌, ◌<◌, ◌≤◌, ◌⊎◌, ℕ, length, Contains}
 use Rattle.sight_names.specs.declared.faults.CheckFault.{CheckFault}
 use Rattle.sight_names.specs.declared.faults.CheckFault.TheVariants.{Mesh, Ray, Tree as OfTree, ListedSet, Unproved, Uncovered}
 use Rattle.sight_names.specs.Map.{Map}

@@ -1,4 +1,4 @@
-use Rattle.std.proofs.Common.{◌≡◌, Result, Ok, Err, refl, sym}
+use Rattle.std.proofs.Common.{◌≡◌, Result, Err, refl}
 use Rattle.sight_names.specs.declared.faults.LineFault.{LineFault}
 use Rattle.sight_run.proofs.build.build.Goals as goal
 
