@@ -1,7 +1,9 @@
 """WAD files as the benches need them: their lumps, the maps in them, a map cut out, and one measured run."""
+import json
 import os
 import struct
-import tempfile
+import subprocess
+import sys
 
 LUMPS = [b"THINGS", b"LINEDEFS", b"SIDEDEFS", b"VERTEXES", b"SEGS", b"SSECTORS", b"NODES", b"SECTORS", b"REJECT", b"BLOCKMAP"]
 NEEDED = [b"LINEDEFS", b"SIDEDEFS", b"VERTEXES", b"SECTORS"]
@@ -39,19 +41,30 @@ def wad(name, run):
     return struct.pack("<4sII", b"PWAD", len(run) + 1, at) + body + entries
 
 
+# A process counts the memory of the one that started it as its own peak until it has more, so runs are started by a
+# small process that holds no WAD.
+STARTER = """
+import json, os, sys, tempfile
+for words in sys.stdin:
+    words = json.loads(words)
+    with tempfile.NamedTemporaryFile() as out:
+        child = os.posix_spawn(words[0], words, os.environ, file_actions=[(os.POSIX_SPAWN_DUP2, out.fileno(), 1)])
+        _, status, usage = os.wait4(child, 0)
+        out.seek(0)
+        line = out.read().decode().strip()
+    print(json.dumps([os.waitstatus_to_exitcode(status), line, usage.ru_utime + usage.ru_stime, usage.ru_maxrss / 1e3]))
+    sys.stdout.flush()
+"""
+starter = subprocess.Popen([sys.executable, "-c", STARTER], stdin=subprocess.PIPE, stdout=subprocess.PIPE, text=True)
+
+
 class Run:
-    """One run of a program: its status, its line, seconds of processor time, peak memory in MB."""
+    """One run of a program: its status, its line, seconds of processor time, peak memory in MB (12 at least)."""
 
     def __init__(self, words):
-        with tempfile.NamedTemporaryFile() as out:
-            actions = [(os.POSIX_SPAWN_DUP2, out.fileno(), 1)]
-            child = os.posix_spawn(words[0], words, os.environ, file_actions=actions)
-            _, status, usage = os.wait4(child, 0)
-            out.seek(0)
-            self.line = out.read().decode().strip()
-        self.status = os.waitstatus_to_exitcode(status)
-        self.seconds = usage.ru_utime + usage.ru_stime
-        self.megabytes = usage.ru_maxrss / 1e3
+        starter.stdin.write(json.dumps(words) + "\n")
+        starter.stdin.flush()
+        self.status, self.line, self.seconds, self.megabytes = json.loads(starter.stdout.readline())
 
 
 def header(cert):
