@@ -1,7 +1,7 @@
 #!/usr/bin/env python3
-"""Builds and checks every map of Debian's packages freedoom and freedm, and writes a table.
+"""Builds and checks every map of Debian's packages freedoom and freedm, and prints the tables of docs/FREEDOOM.md.
 
-    bench/freedoom.py [--program PATH] [--wads FOLDER] [--only MAP01,E1M7] > docs/FREEDOOM.md
+    bench/freedoom.py [--program PATH] [--wads FOLDER] [--only MAP01,E1M7]
 
 Each map is cut out into a WAD of its own first, so that a run measures the map and not the 28 MB around it. `zero` is
 measured on the whole WADs, and its output is compared lump by lump with its input. For each pair that the shipped
