@@ -1,27 +1,59 @@
 //! The walks of worked maps: what a source finds, and the tree of its walk.
 
+ghost use Rattle.sight_names.specs.Map.{map_of};
+ghost use Rattle.sight_names.specs.Sound.{LinesMeetAtEnds};
+
 use block_evidence::Node;
 use map_audit::audit_lines;
-use mesh_shape::{Mesh, mesh_fault};
 use pair_budget::{Alone, Outcome, SourceResult, walk_source};
+use sight_job::faces_of;
 use sight_names::{Budget, Memory, Plan, Side};
 use std::alloc::Global;
 use std::test::Fail;
-use tri_sectors::label;
-use triangulate::{greedy, mesh_of};
 use worked_maps::maps::{LINE3, U};
 use worked_maps::wads::{RowLine, plan_of};
 
-// The mesh of a map, None where its lines don't meet at ends.
-fn audited_mesh(alloc: Global, plan: &Plan) -> Result<Option<Mesh>, Memory> {
+// What a source of a map whose lines meet at ends finds, None where the map isn't sound.
+fn walk_of(
+    alloc: Global,
+    plan: &Plan,
+    source: u16,
+    budget: Budget,
+) -> Result<Option<SourceResult>, Memory>
+    requires { LinesMeetAtEnds (map_of plan.now) }
+{
+    let Ok(faces) = faces_of(alloc, plan) else {
+        return Ok(None);
+    };
+    if source >= plan.sectors {
+        return Ok(None);
+    }
+    let result = walk_source(
+        alloc,
+        plan,
+        &faces.mesh,
+        &faces.labels,
+        source,
+        budget,
+        &mut Alone,
+    )?;
+    Ok(Some(result))
+}
+
+// The same of any map.
+fn audited_walk(
+    alloc: Global,
+    plan: &Plan,
+    source: u16,
+    budget: Budget,
+) -> Result<Option<SourceResult>, Memory> {
     let Ok(()) = audit_lines(plan) else {
         return Ok(None);
     };
-    let segments = greedy(alloc, plan)?;
-    Ok(Some(mesh_of(alloc, plan, &segments)?))
+    walk_of(alloc, plan, source, budget)
 }
 
-// What a source of a map finds, None where the map isn't sound.
+// What a source of a worked map finds.
 fn walked(
     alloc: Global,
     lines: &[RowLine],
@@ -32,20 +64,7 @@ fn walked(
     let Ok(plan) = plan_of(alloc, lines, sectors) else {
         return Ok(None);
     };
-    let Some(mesh) = audited_mesh(alloc, &plan)? else {
-        return Ok(None);
-    };
-    let Ok(labels) = label(alloc, &plan, &mesh) else {
-        return Ok(None);
-    };
-    if source >= plan.sectors || audit_lines(&plan).is_err() {
-        return Ok(None);
-    }
-    if mesh_fault(&plan, &mesh, &labels).is_some() {
-        return Ok(None);
-    }
-    let result = walk_source(alloc, &plan, &mesh, &labels, source, budget, &mut Alone)?;
-    Ok(Some(result))
+    audited_walk(alloc, &plan, source, budget)
 }
 
 // The nodes are as many open ones as this, and behind them as many blocked ones.
