@@ -21,7 +21,10 @@ pub struct Rooms {
 
 /// A place on the lattice, before it is moved.
 fn at(k: usize) -> i16 {
-    (k as i16).wrapping_mul(STEP)
+    match i16::try_from(k) {
+        Ok(k) => k.wrapping_mul(STEP),
+        Err(_) => 0,
+    }
 }
 
 /// The place (i, j) of a list by rows of this width.
@@ -179,8 +182,14 @@ pub fn inside(made: &Rooms, dice: &mut Dice) -> Option<((i16, i16), u16)> {
 /// Twice the area of the triangle, positive where it is counterclockwise.
 fn area(a: (i16, i16), b: (i16, i16), c: (i16, i16)) -> i64 {
     let wide = |n: i16| n as i64;
-    let (x, y) = (wide(b.0) - wide(a.0), wide(b.1) - wide(a.1));
-    let (u, v) = (wide(c.0) - wide(a.0), wide(c.1) - wide(a.1));
+    let (x, y) = (
+        wide(b.0).wrapping_sub(wide(a.0)),
+        wide(b.1).wrapping_sub(wide(a.1)),
+    );
+    let (u, v) = (
+        wide(c.0).wrapping_sub(wide(a.0)),
+        wide(c.1).wrapping_sub(wide(a.1)),
+    );
     x.wrapping_mul(v).wrapping_sub(y.wrapping_mul(u))
 }
 

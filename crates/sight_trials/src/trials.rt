@@ -1,13 +1,18 @@
 //! What has to hold of each made map.
 
+ghost use Rattle.std.specs.Prelude.{◌≡◌};
+ghost use Rattle.sight_names.specs.Map.{map_of};
+ghost use Rattle.sight_names.specs.Sound.{LinesMeetAtEnds};
+ghost use Rattle.sight_job.specs.Built.{sizes_of};
+
 use crate::dice::Dice;
 use crate::rooms::{Rooms, inside, is_clear, made_rooms};
 use cert_checker::{Verdict, check};
-use cert_format::{Sizes, print, read};
+use cert_format::{Cert, Sizes, print, read};
 use map_audit::audit_lines;
 use reject_bits::Table;
 use sight_job::build_table;
-use sight_names::{Budget, BuildFault, Pair};
+use sight_names::{Budget, BuildFault, Pair, Plan};
 use std::alloc::{AllocError, Global};
 use std::test::Fail;
 use worked_maps::wads::plan_of;
@@ -99,56 +104,130 @@ fn changed(alloc: Global, bytes: &[u8], dice: &mut Dice) -> Result<Vec<u8>, Allo
     Ok(made)
 }
 
-/// Tries one made map: whole, under each budget, and with changes to its certificate.
-fn tried(alloc: Global, seed: u64) -> Result<Trial, BuildFault> {
-    let Ok(made) = made_rooms(alloc, seed) else {
-        return Err(BuildFault::Memory);
-    };
-    let Ok(plan) = plan_of(alloc, &made.lines, made.sectors) else {
-        return Ok(Trial::Unsound);
-    };
-    if audit_lines(&plan).is_err() {
-        return Ok(Trial::Unsound);
+/// Whether the checker accepts what was built.
+fn is_accepted(alloc: Global, plan: &Plan, table: &Table, cert: &Cert) -> Result<bool, BuildFault>
+    requires audited { LinesMeetAtEnds (map_of plan.now) }
+    requires table { table.now.n ≡ plan.now.sectors }
+    requires cert { cert.now.sizes ≡ sizes_of plan.now }
+{
+    match check(alloc, plan, table, cert)? {
+        Verdict::Yes(_) => Ok(true),
+        Verdict::No(_) => Ok(false),
     }
-    let mut dice = Dice::new(seed);
-    let full = build_table(alloc, &plan, Budget::Full)?;
-    match check(alloc, &plan, &full.table, &full.cert)? {
-        Verdict::Yes(_) => {}
-        Verdict::No(_) => return Ok(Trial::Refused),
+}
+
+/// Tries one budget: the checker accepts, and the table is the full one but for listed pairs.
+fn tried_budget(
+    alloc: Global,
+    plan: &Plan,
+    budget: Budget,
+    full: &Table,
+) -> Result<Trial, BuildFault>
+    requires audited { LinesMeetAtEnds (map_of plan.now) }
+{
+    let built = build_table(alloc, plan, budget)?;
+    if !is_accepted(alloc, plan, &built.table, &built.cert)? {
+        return Ok(Trial::Refused);
     }
-    if !spares_sight(&made, &full.table, &mut dice) {
-        return Ok(Trial::Blind);
+    if !agrees(&built.table, built.listed.as_slice(), full) {
+        return Ok(Trial::Apart);
     }
+    Ok(Trial::Held)
+}
+
+/// Tries some budgets.
+fn tried_budgets(alloc: Global, plan: &Plan, full: &Table) -> Result<Trial, BuildFault>
+    requires audited { LinesMeetAtEnds (map_of plan.now) }
+{
     for budget in &BUDGETS {
-        let built = build_table(alloc, &plan, *budget)?;
-        match check(alloc, &plan, &built.table, &built.cert)? {
-            Verdict::Yes(_) => {}
-            Verdict::No(_) => return Ok(Trial::Refused),
-        }
-        if !agrees(&built.table, built.listed.as_slice(), &full.table) {
-            return Ok(Trial::Apart);
+        let ended = tried_budget(alloc, plan, *budget, full)?;
+        if ended != Trial::Held {
+            return Ok(ended);
         }
     }
-    let Some(wrong) = overset(alloc, &full.table)? else {
-        return Ok(Trial::Held);
-    };
-    let bytes = print(alloc, &full.cert)?;
+    Ok(Trial::Held)
+}
+
+/// Whether a certificate of these bytes makes the table pass.
+fn passes(alloc: Global, plan: &Plan, table: &Table, bytes: &[u8]) -> Result<bool, BuildFault>
+    requires audited { LinesMeetAtEnds (map_of plan.now) }
+{
     let sizes = Sizes {
         sectors: plan.sectors,
         points: plan.points().len() as u16,
         lines: plan.lines().len() as u16,
     };
+    let Ok(cert) = read(alloc, &sizes, bytes) else {
+        return Ok(false);
+    };
+    if table.sectors() != plan.sectors {
+        return Ok(false);
+    }
+    is_accepted(alloc, plan, table, &cert)
+}
+
+/// Tries a table with a bit too many, by certificates with a changed byte.
+fn tried_changes(
+    alloc: Global,
+    plan: &Plan,
+    wrong: &Table,
+    cert: &Cert,
+    dice: &mut Dice,
+) -> Result<Trial, BuildFault>
+    requires audited { LinesMeetAtEnds (map_of plan.now) }
+{
+    let bytes = print(alloc, cert)?;
     for _ in 0..40 {
-        let other = changed(alloc, &bytes, &mut dice)?;
-        if let Ok(cert) = read(alloc, &sizes, &other) {
-            if wrong.sectors() == plan.sectors {
-                if let Verdict::Yes(_) = check(alloc, &plan, &wrong, &cert)? {
-                    return Ok(Trial::Fooled);
-                }
-            }
+        let other = changed(alloc, &bytes, dice)?;
+        if passes(alloc, plan, wrong, &other)? {
+            return Ok(Trial::Fooled);
         }
     }
     Ok(Trial::Held)
+}
+
+/// Tries a map whose lines meet at ends: whole, under each budget, and with changes to its certificate.
+fn tried_map(alloc: Global, plan: &Plan, made: &Rooms, dice: &mut Dice) -> Result<Trial, BuildFault>
+    requires audited { LinesMeetAtEnds (map_of plan.now) }
+{
+    let full = build_table(alloc, plan, Budget::Full)?;
+    if !is_accepted(alloc, plan, &full.table, &full.cert)? {
+        return Ok(Trial::Refused);
+    }
+    if !spares_sight(made, &full.table, dice) {
+        return Ok(Trial::Blind);
+    }
+    let ended = tried_budgets(alloc, plan, &full.table)?;
+    if ended != Trial::Held {
+        return Ok(ended);
+    }
+    match overset(alloc, &full.table)? {
+        Some(wrong) => tried_changes(alloc, plan, &wrong, &full.cert, dice),
+        None => Ok(Trial::Held),
+    }
+}
+
+/// Tries a plan.
+fn tried_plan(
+    alloc: Global,
+    plan: &Plan,
+    made: &Rooms,
+    dice: &mut Dice,
+) -> Result<Trial, BuildFault> {
+    let Ok(()) = audit_lines(plan) else {
+        return Ok(Trial::Unsound);
+    };
+    tried_map(alloc, plan, made, dice)
+}
+
+/// Tries the made map of one seed.
+fn tried(alloc: Global, seed: u64) -> Result<Trial, BuildFault> {
+    let made = made_rooms(alloc, seed)?;
+    let mut dice = Dice::new(seed);
+    match plan_of(alloc, &made.lines, made.sectors) {
+        Ok(plan) => tried_plan(alloc, &plan, &made, &mut dice),
+        Err(_) => Ok(Trial::Unsound),
+    }
 }
 
 /// The first seed whose trial doesn't hold, and how it ended.
