@@ -22,7 +22,7 @@ fn is_left(plan: &Plan, ray: &Ray, number: u16) -> Option<bool>
     if (number as usize) >= plan.points().len() {
         return None;
     }
-    let value = side_of(ray, plan.point(number));
+    let value = side_of(ray, plan.place(number));
     if value > 0 {
         Some(true)
     } else if value < 0 {

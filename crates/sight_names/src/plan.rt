@@ -53,14 +53,6 @@ impl Plan {
         self.lines.as_slice()
     }
 
-    /// The point with this number.
-    pub fn point(&self, k: u16) -> Pt
-        requires { k < length self.now.points }
-        ensures { slice_get self.now.points k ≡ Some result }
-    {
-        self.points[k as usize]
-    }
-
     /// The point with this number, as the map that the plan stands for has it.
     pub fn place(&self, k: u16) -> Pt
         requires { k < length self.now.points }

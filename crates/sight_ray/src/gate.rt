@@ -26,7 +26,7 @@ fn ends_of(plan: &Plan, line: Line) -> (Pt, Pt)
     ensures first { result.0 ≡ (looked_up plan.now.points line).first }
     ensures second { result.1 ≡ (looked_up plan.now.points line).second }
 {
-    (plan.point(line.a), plan.point(line.b))
+    (plan.place(line.a), plan.place(line.b))
 }
 
 /// The side's line, if its ends are strictly on different sides of the ray.
