@@ -242,6 +242,10 @@ mean_of_all xs s x y h m = record {
   y = ap (λ (n : ℕ). y *ℤ pos n) m.weight ∙ ap (λ (t : ℤ). t *ℤ pos s) (sym m.y_is);
 }
 
+-- a mean of the ones and of the others with the same weight
+pub means_meet : (ls rs : List Pt) (s : ℕ) (x y : ℤ) → 0 < s → AsMean ls s x y → AsMean rs s x y → HullsMeet ls rs
+means_meet ls rs s x y h m n = (record { x = x; y = y; d = s; positive = h }, mean_of_all ls s x y h m, mean_of_all rs s x y h n)
+
 abbrev pub lefts : List EndPair → List Pt
 lefts ps = map (λ (p : EndPair). p.left.at) ps
 
@@ -276,9 +280,6 @@ rights_many (p ∷ ps) = let h = rights_many ps in omega (arith, h)
 
 -- balanced pairs of ends show that the hulls meet
 pub balanced_meet : (ls rs : List Pt) (ps : List EndPair) → AreBalanced ps → AllByRecursion (λ p. In p ls) (lefts ps) → AllByRecursion (λ p. In p rs) (rights ps) → HullsMeet ls rs
-balanced_meet ls rs ps b i j = (
-  record { x = weighed_x b.weights (lefts ps); y = weighed_y b.weights (lefts ps); d = sum b.weights; positive = b.weighty },
-  mean_of_all ls (sum b.weights) (weighed_x b.weights (lefts ps)) (weighed_y b.weights (lefts ps)) b.weighty (as_mean ls (lefts ps) b.weights (b.one_each ∙ sym (lefts_many ps)) i),
-  mean_of_all rs (sum b.weights) (weighed_x b.weights (lefts ps)) (weighed_y b.weights (lefts ps)) b.weighty
-      (subst₂ (λ (x y : ℤ). AsMean rs (sum b.weights) x y) (sym (same_of_apart _ _ _ (across_apart b.weights ps) b.x)) (sym (same_of_apart _ _ _ (up_apart b.weights ps) b.y)) (as_mean rs (rights ps) b.weights (b.one_each ∙ sym (rights_many ps)) j)),
-)
+balanced_meet ls rs ps b i j = means_meet ls rs (sum b.weights) (weighed_x b.weights (lefts ps)) (weighed_y b.weights (lefts ps)) b.weighty
+    (as_mean ls (lefts ps) b.weights (b.one_each ∙ sym (lefts_many ps)) i)
+    (subst₂ (λ (x y : ℤ). AsMean rs (sum b.weights) x y) (sym (same_of_apart _ _ _ (across_apart b.weights ps) b.x)) (sym (same_of_apart _ _ _ (up_apart b.weights ps) b.y)) (as_mean rs (rights ps) b.weights (b.one_each ∙ sym (rights_many ps)) j))

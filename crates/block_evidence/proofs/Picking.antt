@@ -1,0 +1,106 @@
+-- Evidence that names some of given ends.
+use Rattle.std.proofs.Common.{◌≡◌, ℕ, ◌<◌, ◌≤◌, List, [], ◌∷◌, length, get_or, pos, refl, arith, ◌⊎◌, inl, inr, All, Contains, Option, Some, None}
+use Rattle.std.specs.Prelude.{IfSome}
+use Rattle.std.specs.List.{AllByRecursion}
+use Rattle.std.proofs.lemmas.List.Elements.{All-contains_itself, recursion_from_All}
+use Rattle.sight_names.specs.declared.names.EndAt.{EndAt}
+use Rattle.sight_names.specs.declared.names.EndPair.{EndPair}
+use Rattle.sight_names.specs.Splitting.{EndPoints, IsPairOf}
+use Rattle.block_evidence.specs.declared.Evidence.{Evidence}
+use Rattle.block_evidence.specs.Stuck.{AreStuck, IsEndOf, IsEvidenceOf, Blocks}
+use Rattle.block_evidence.specs.Picked.{IsIn, IsChoice, Names, AreAmong, Picks, both_ends}
+use Rattle.block_evidence.proofs.Ordered.{all_at, all_of}
+use Rattle.block_evidence.proofs.Choices.{choice_evidence, choice_blocks}
+
+pub among_more : (xs ys ends : List EndAt) → AreAmong ys xs → AreAmong xs ends → AreAmong ys ends
+among_more xs ys ends h k = all_of (λ (d : EndAt). IsIn d ys) ends (λ e i. all_at (λ (d : EndAt). IsIn d ys) e xs h (all_at (λ (d : EndAt). IsIn d xs) e ends k i))
+
+picks_more : (xs ys : List EndAt) (e : Evidence) → AreAmong ys xs → Picks xs e → Picks ys e
+picks_more xs ys e h p = record { ends = p.ends; ascends = p.ascends; among = among_more xs ys p.ends h p.among; few = p.few; stuck = p.stuck; names = p.names }
+
+pub some_more : (xs ys : List EndAt) (o : Option Evidence) → AreAmong ys xs → IfSome o (λ e. Picks xs e) → IfSome o (λ e. Picks ys e)
+some_more xs ys None h p = tt
+some_more xs ys (Some e) h p = picks_more xs ys e h p
+
+-- four ends by ascending codes
+pub picks_four : (a b c d : EndAt) → (a.code < b.code) × (b.code < c.code) × (c.code < d.code) → AreStuck (a ∷ b ∷ c ∷ d ∷ []) → Picks (a ∷ b ∷ c ∷ d ∷ []) (record { count = 4; ends = a.code ∷ b.code ∷ c.code ∷ d.code ∷ [] })
+picks_four a b c d h s = record {
+  ends = a ∷ b ∷ c ∷ d ∷ [];
+  ascends = ((h.0, (below h.0 h.1, (below h.0 (below h.1 h.2), tt))), ((h.1, (below h.1 h.2, tt)), ((h.2, tt), (tt, tt))));
+  among = (inl refl, (inr (inl refl), (inr (inr (inl refl)), (inr (inr (inr (inl refl))), tt))));
+  few = omega arith;
+  stuck = s;
+  names = record { count = refl; codes = refl; unused = refl };
+}
+  where
+    below : {k m n : ℕ} → k < m → m < n → k < n
+    below h k = omega (arith, h, k)
+
+-- ---- the ends of pairs
+ends_of : (all pairs : List EndPair) → AllByRecursion (Contains all) pairs → AllByRecursion (IsEndOf all) (both_ends pairs)
+ends_of all [] h = tt
+ends_of all (p ∷ ps) h = ((p, h.0, inl refl), ((p, h.0, inr refl), ends_of all ps h.1))
+
+choice_of : (pairs : List EndPair) (e : Evidence) (p : Picks (both_ends pairs) e) → IsChoice pairs p.ends
+choice_of pairs e p = record {
+  ascends = p.ascends;
+  from_pairs = all_of (IsEndOf pairs) p.ends (λ d i. all_at (IsEndOf pairs) d (both_ends pairs) (ends_of pairs pairs (recursion_from_All (Contains pairs) pairs (All-contains_itself pairs))) (all_at (λ (d : EndAt). IsIn d (both_ends pairs)) d p.ends p.among i));
+  stuck = p.stuck;
+}
+
+pub picks_evidence : (pairs : List EndPair) (e : Evidence) → Picks (both_ends pairs) e → IsEvidenceOf pairs e
+picks_evidence pairs e p = choice_evidence pairs p.ends e (choice_of pairs e p) p.few p.names
+
+pub picks_block : (pairs : List EndPair) (e : Evidence) → Picks (both_ends pairs) e → (es : List EndPoints) → All (IsPairOf es) pairs → Blocks es e
+picks_block pairs e p es h = choice_blocks pairs p.ends e (choice_of pairs e p) p.names es h
+
+-- ---- the sets that are tried
+pub two_twos : (p q r s a b c d : EndAt) → AreAmong (p ∷ q ∷ []) (a ∷ b ∷ []) → AreAmong (r ∷ s ∷ []) (c ∷ d ∷ []) → AreAmong (p ∷ q ∷ r ∷ s ∷ []) (a ∷ b ∷ c ∷ d ∷ [])
+two_twos p q r s a b c d h k = (front a h.0, (front b h.1.0, (inr (inr k.0), (inr (inr k.1.0), tt))))
+  where
+    front : (e : EndAt) → IsIn e (p ∷ q ∷ []) → IsIn e (p ∷ q ∷ r ∷ s ∷ [])
+    front e (inl h) = inl h
+    front e (inr (inl h)) = inr (inl h)
+    front e (inr (inr h)) = absurd h
+
+pub three_one : (p q r s a b c : EndAt) → AreAmong (p ∷ q ∷ r ∷ []) (a ∷ b ∷ c ∷ []) → AreAmong (p ∷ q ∷ r ∷ s ∷ []) (a ∷ b ∷ c ∷ s ∷ [])
+three_one p q r s a b c h = (front a h.0, (front b h.1.0, (front c h.1.1.0, (inr (inr (inr (inl refl))), tt))))
+  where
+    front : (e : EndAt) → IsIn e (p ∷ q ∷ r ∷ []) → IsIn e (p ∷ q ∷ r ∷ s ∷ [])
+    front e (inl h) = inl h
+    front e (inr (inl h)) = inr (inl h)
+    front e (inr (inr (inl h))) = inr (inr (inl h))
+    front e (inr (inr (inr h))) = absurd h
+
+abbrev pub five : EndPair → EndPair → EndAt → List EndAt
+five p q t = p.left ∷ p.right ∷ q.left ∷ q.right ∷ t ∷ []
+
+pub of_five : (p q : EndPair) (t a b c d : EndAt) (e : Evidence) → IsIn a (five p q t) → IsIn b (five p q t) → IsIn c (five p q t) → IsIn d (five p q t) → Picks (a ∷ b ∷ c ∷ d ∷ []) e → Picks (five p q t) e
+of_five p q t a b c d e i j k m h = picks_more (a ∷ b ∷ c ∷ d ∷ []) (five p q t) e (i, (j, (k, (m, tt)))) h
+
+pub some_of_five : (p q : EndPair) (t a b c d : EndAt) (o : Option Evidence) → IsIn a (five p q t) → IsIn b (five p q t) → IsIn c (five p q t) → IsIn d (five p q t) → IfSome o (λ e. Picks (a ∷ b ∷ c ∷ d ∷ []) e) → IfSome o (λ e. Picks (five p q t) e)
+some_of_five p q t a b c d o i j k m h = some_more (a ∷ b ∷ c ∷ d ∷ []) (five p q t) o (i, (j, (k, (m, tt)))) h
+
+-- the ends of the first two of three pairs, and one of the third
+pub five_among : (pairs : List EndPair) (d : EndPair) (t : EndAt) → length pairs ≡ 3 → ((get_or pairs 2 d).left ≡ t) ⊎ ((get_or pairs 2 d).right ≡ t) → AreAmong (both_ends pairs) (five (get_or pairs 0 d) (get_or pairs 1 d) t)
+five_among [] d t h i = absurd (omega (arith, h))
+five_among (p ∷ []) d t h i = absurd (omega (arith, h))
+five_among (p ∷ q ∷ []) d t h i = absurd (omega (arith, h))
+five_among (p ∷ q ∷ r ∷ []) d t h (inl e) = (inl refl, (inr (inl refl), (inr (inr (inl refl)), (inr (inr (inr (inl refl))), (inr (inr (inr (inr (inl e)))), tt)))))
+five_among (p ∷ q ∷ r ∷ []) d t h (inr e) = (inl refl, (inr (inl refl), (inr (inr (inl refl)), (inr (inr (inr (inl refl))), (inr (inr (inr (inr (inr (inl e))))), tt)))))
+five_among (p ∷ q ∷ r ∷ s ∷ ps) d t h i = absurd (omega (arith, h))
+
+pub four_are : (ends : List EndAt) (d : EndAt) → 4 ≤ length ends → length ends < 5 → get_or ends 0 d ∷ get_or ends 1 d ∷ get_or ends 2 d ∷ get_or ends 3 d ∷ [] ≡ ends
+four_are [] d h k = absurd (omega (arith, h))
+four_are (a ∷ []) d h k = absurd (omega (arith, h))
+four_are (a ∷ b ∷ []) d h k = absurd (omega (arith, h))
+four_are (a ∷ b ∷ c ∷ []) d h k = absurd (omega (arith, h))
+four_are (a ∷ b ∷ c ∷ e ∷ []) d h k = refl
+four_are (a ∷ b ∷ c ∷ e ∷ f ∷ es) d h k = absurd (omega (arith, k))
+
+-- what is read past the end of a list
+abbrev pub no_end : EndAt
+no_end = record { code = 0; at = record { x = pos 0; y = pos 0 } }
+
+abbrev pub no_pair : EndPair
+no_pair = record { left = no_end; right = no_end }
