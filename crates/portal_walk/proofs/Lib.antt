@@ -2,3 +2,4 @@ pub mod Weights
 pub mod Steps
 pub mod EdgeEnds
 pub mod SideLines
+pub mod Lookups

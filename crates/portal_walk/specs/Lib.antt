@@ -1,4 +1,5 @@
 pub mod Frames
 pub mod Nodes
+pub mod Passages
 pub mod Sides
 pub mod Walk

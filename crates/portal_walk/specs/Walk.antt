@@ -18,13 +18,14 @@ use Rattle.portal_walk.specs.Frames.{frames_weight, top_ways, ways_left}
 use Rattle.portal_walk.specs.Nodes.{IsAnswered}
 use Rattle.portal_walk.specs.Sides.{IsExit, IsRootOf, ArrivesAt}
 
--- A walk over a plan, a mesh and its labels: the roots that are left, the last one first; the present root; the path;
--- and the nodes that were answered.
+-- A walk over a plan, a mesh and its labels: how many passages were looked up; the roots that are left, the last one
+-- first; the present root; the path; and the nodes that were answered.
 pub record WalkParts : Type 0 where
   pub plan : PlanParts
   pub mesh : MeshParts
   pub labels : List (Option ℕ)
   pub source : ℕ
+  pub known : ℕ
   pub roots : List Root
   pub root : Option Side
   pub frames : List Frame
@@ -41,6 +42,7 @@ pub record IsWalk (w : WalkParts) : Type 0 where
   pub in_plan : w.source < w.plan.sectors
   pub one_each : length w.labels ≡ length w.mesh.triangles
   pub short : length w.frames ≤ depth w
+  pub looked_up : All (λ f. f.passage < w.known) w.frames
   -- whoever is under way came in by a root
   pub rooted : 0 < length w.frames → IsSome w.root
   pub exits : All (IsRootOf w.plan w.source) w.roots

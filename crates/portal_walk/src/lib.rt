@@ -3,6 +3,7 @@
 #![tactic(auto)]
 
 mod edges;
+mod passages;
 mod path;
 mod roots;
 mod step;

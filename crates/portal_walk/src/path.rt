@@ -16,12 +16,10 @@ pub enum Ways {
     Done,
 }
 
-/// A portal that was entered, by point numbers, and the third point of the triangle behind it.
+/// A portal that was entered, by the number of its passage.
 #[derive(Clone, Copy, Debug)]
 pub struct Frame {
-    pub left: u16,
-    pub right: u16,
-    pub apex: u16,
+    pub passage: u16,
     pub ways: Ways,
 }
 

@@ -1,18 +1,17 @@
 //! The walk through the sequences of a source.
 
-ghost use Rattle.std.specs.Prelude.{◌≡◌, ◌+◌, ◌-◌, ◌<◌, None, Some, Ok, slice_get, ◌↔◌, IsTrue, IsSome, IfOk, OnErr, length, [], All, IfSome};
+ghost use Rattle.std.specs.Prelude.{◌≡◌, ◌+◌, ◌-◌, ◌<◌, ◌≤◌, None, Some, Ok, slice_get, IsSome, IfOk, OnErr, length, [], All, IfSome};
 ghost use Rattle.sight_names.specs.Map.{map_of};
-ghost use Rattle.sight_names.specs.Mesh.{IsGoodMesh, label_of};
+ghost use Rattle.sight_names.specs.Mesh.{IsGoodMesh};
 ghost use Rattle.sight_names.specs.Sound.{LinesMeetAtEnds};
-ghost use Rattle.sight_names.specs.Sequence.{third_point as third_of};
 
-use crate::edges::{Edge, LineIndex};
+use crate::passages::{Passages, Turn};
 use crate::path::{Frame, Path, Ways};
 use crate::roots::{Root, roots_of};
 use crate::step::Step;
 use block_evidence::{Node, Tree, four};
 use mesh_shape::{Labels, Mesh};
-use sight_names::{Items, Memory, Plan, Side, Triangle};
+use sight_names::{Items, Memory, Plan, Side};
 use stab_hull::Split;
 use std::alloc::Global;
 use std::marker::Model;
@@ -20,11 +19,7 @@ use std::marker::Model;
 /// A walk through the sequences of one source.
 #[derive(Drop)]
 pub struct Walker<'a> {
-    plan: &'a Plan,
-    mesh: &'a Mesh,
-    labels: &'a Labels,
-    source: u16,
-    lines: LineIndex,
+    passages: Passages<'a>,
     roots: Vec<Root>,
     root: Option<Side>,
     path: Path,
@@ -36,30 +31,9 @@ impl<'a> Model for Walker<'a> {
 
     ghost Value = { WalkParts };
 
-    ghost view = { λ w. record { plan = w.plan.now; mesh = w.mesh.now; labels = w.labels.now; source = w.source; roots = w.roots.items; root = w.root; frames = w.path; nodes = w.nodes.items } };
+    ghost view = { λ w. record { plan = w.passages.plan; mesh = w.passages.mesh; labels = w.passages.labels; source = w.passages.source; known = w.passages.count; roots = w.roots.items; root = w.root; frames = w.path; nodes = w.nodes.items } };
 
-    ghost invariant = { λ w. IsWalk (record { plan = w.plan.now; mesh = w.mesh.now; labels = w.labels.now; source = w.source; roots = w.roots.items; root = w.root; frames = w.path; nodes = w.nodes.items }) };
-}
-
-/// The third point of a triangle that has the directed edge from `from` to `to`.
-fn third_point(t: Triangle, from: u16, to: u16) -> u16
-    ensures { result ≡ third_of (record { from = from; to = to }) t }
-{
-    if t.p == from && t.q == to {
-        t.r
-    } else if t.q == from && t.r == to {
-        t.p
-    } else {
-        t.q
-    }
-}
-
-/// Whether the triangle has this label.
-fn is_labelled(labels: &Labels, triangle: u16, sector: u16) -> bool
-    requires { triangle < length labels.now }
-    ensures { IsTrue result ↔ (label_of labels.now triangle ≡ Some sector) }
-{
-    labels.get(triangle) == Some(sector)
+    ghost invariant = { λ w. IsWalk (record { plan = w.passages.plan; mesh = w.passages.mesh; labels = w.passages.labels; source = w.passages.source; known = w.passages.count; roots = w.roots.items; root = w.root; frames = w.path; nodes = w.nodes.items }) };
 }
 
 impl<'a> Walker<'a> {
@@ -88,11 +62,7 @@ impl<'a> Walker<'a> {
         ensures nodes { IfOk result (λ w. w.nodes ≡ []) }
     {
         Ok(Walker {
-            plan,
-            mesh,
-            labels,
-            source,
-            lines: LineIndex::of(alloc, plan)?,
+            passages: Passages::new(alloc, plan, mesh, labels, source)?,
             roots: roots_of(alloc, plan, source)?,
             root: None,
             path: Path::new(alloc),
@@ -135,7 +105,7 @@ impl<'a> Walker<'a> {
         ensures answered { All IsAnswered result.nodes }
     {
         Tree {
-            source: self.source,
+            source: self.passages.source(),
             nodes: Items::of(self.nodes),
         }
     }
@@ -148,8 +118,8 @@ impl<'a> Walker<'a> {
         match self.path.top() {
             None => self.try_root(),
             Some(frame) => match frame.ways {
-                Ways::Both => self.try_way(frame, frame.left, frame.apex, Ways::RightOnly),
-                Ways::RightOnly => self.try_way(frame, frame.apex, frame.right, Ways::Done),
+                Ways::Both => self.try_way(frame, Turn::Left, Ways::RightOnly),
+                Ways::RightOnly => self.try_way(frame, Turn::Right, Ways::Done),
                 Ways::Done => {
                     self.path.leave();
                     Ok(None)
@@ -168,7 +138,7 @@ impl<'a> Walker<'a> {
             self.root = None;
             return Ok(Some(Step::End));
         };
-        match self.enter(Some(root.side), root.left, root.right) {
+        match self.enter_root(root) {
             Ok(step) => {
                 let _ = self.roots.pop();
                 Ok(step)
@@ -178,20 +148,14 @@ impl<'a> Walker<'a> {
     }
 
     /// Enters by a way out of the last triangle, which then has these ways left.
-    fn try_way(
-        &mut self,
-        frame: Frame,
-        left: u16,
-        right: u16,
-        ways: Ways,
-    ) -> Result<Option<Step>, Memory>
+    fn try_way(&mut self, frame: Frame, turn: Turn, ways: Ways) -> Result<Option<Step>, Memory>
         requires top { slice_get self.old.frames (length self.old.frames - 1) ≡ Some frame }
         requires fewer { ways_left frame.ways ≡ ways_left ways + 1 }
         ensures walk { SameWalk self.old self.new }
         ensures tries { Tries self.old self.new result }
     {
         let at = self.path.len() - 1;
-        match self.enter(self.root, left, right) {
+        match self.enter_way(frame.passage, turn) {
             Ok(step) => {
                 self.path.set(at, Frame { ways, ..frame });
                 Ok(step)
@@ -200,46 +164,57 @@ impl<'a> Walker<'a> {
         }
     }
 
-    /// Enters by one portal, having left the source by this root, unless it is a wall or leads to the source.
-    fn enter(&mut self, root: Option<Side>, left: u16, right: u16) -> Result<Option<Step>, Memory>
+    /// Enters by the portal of a root.
+    fn enter_root(&mut self, root: Root) -> Result<Option<Step>, Memory>
+        requires exit { IsExit self.old.plan self.old.source root.side }
+        ensures walk { SameWalk self.old self.new }
+        ensures enters { EntersPortal self.old self.new (Some root.side) result }
+        ensures known { self.old.known ≤ self.new.known }
+    {
+        let passage = self.passages.at(root.left, root.right)?;
+        self.enter(Some(root.side), passage)
+    }
+
+    /// Enters by a way out of the triangle of this passage.
+    fn enter_way(&mut self, from: u16, turn: Turn) -> Result<Option<Step>, Memory>
+        requires from { from < self.old.known }
+        requires there { IsSome self.old.root }
+        ensures walk { SameWalk self.old self.new }
+        ensures enters { EntersPortal self.old self.new self.old.root result }
+        ensures known { self.old.known ≤ self.new.known }
+    {
+        let passage = self.passages.way(from, turn)?;
+        self.enter(self.root, passage)
+    }
+
+    /// Enters by one passage, having left the source by this root, where there is one.
+    fn enter(&mut self, root: Option<Side>, passage: Option<u16>) -> Result<Option<Step>, Memory>
         requires there { IsSome root }
         requires exit { IfSome root (λ side. IsExit self.old.plan self.old.source side) }
+        requires passage { IfSome passage (λ number. number < self.old.known) }
         ensures walk { SameWalk self.old self.new }
         ensures enters { EntersPortal self.old self.new root result }
+        ensures known { self.old.known ≤ self.new.known }
     {
-        let Some(triangle) = self.mesh.triangle_at(left, right) else {
+        let Some(number) = passage else {
             return Ok(None);
         };
-        if is_labelled(self.labels, triangle, self.source) {
-            return Ok(None);
-        }
-        let entered = match self.lines.edge(self.plan, left, right) {
-            Edge::Solid => return Ok(None),
-            Edge::Passable(side) => Some(side),
-            Edge::Free => None,
-        };
-        if self.path.len() > 3 * self.mesh.triangles().len() {
+        if self.path.len() > self.passages.edges() {
             return Err(Memory);
         }
-        let apex = third_point(self.mesh.triangles()[triangle as usize], left, right);
+        let portal = self.passages.get(number);
         let frame = Frame {
-            left,
-            right,
-            apex,
+            passage: number,
             ways: Ways::Both,
         };
-        let points = self.plan.points();
-        match self
-            .path
-            .enter(frame, points[left as usize], points[right as usize])?
-        {
+        match self.path.enter(frame, portal.left, portal.right)? {
             Split::Line { a, b, c } => {
                 match self.nodes.push(Node::Open) {
                     Ok(()) => {
                         self.root = root;
                         Ok(Some(Step::Open {
-                            triangle,
-                            entered,
+                            triangle: portal.triangle,
+                            entered: portal.entered,
                             a,
                             b,
                             c,

@@ -8,12 +8,12 @@ use Rattle.portal_walk.proofs.SideLines.{all_at}
 use Rattle.portal_walk.proofs.Steps.{root_tried, root_ahead, rests_of, enters_roots, one_gone}
 use Rattle.portal_walk.proofs.walk.Walker.try_root.Goals as goal
 
-pub enter-requires-clause-exit : goal.enter-requires-clause-exit
-enter-requires-clause-exit c =
+pub enter_root-requires : goal.enter_root-requires
+enter_root-requires c =
     let last = sym c.last.ensures.value ∙ sym c.in-Some.ensures in
     let s = c.self.inside in
-    let there = all_at (IsRootOf s.plan.now s.source) c.as_slice.result.now _ c.in-Some.root (subst (λ (rs : List Root). All (IsRootOf s.plan.now s.source) rs) (sym c.as_slice.ensures.value) c.self.invariant.exits) last in
-    subst (λ (w : WalkParts). IsExit w.plan w.source c.in-Some.root.side) c.self.view_is there.exit
+    let there = all_at (IsRootOf s.passages.plan s.passages.source) c.as_slice.result.now _ c.in-Some.root (subst (λ (rs : List Root). All (IsRootOf s.passages.plan s.passages.source) rs) (sym c.as_slice.ensures.value) c.self.invariant.exits) last in
+    record { exit = subst (λ (w : WalkParts). IsExit w.plan w.source c.in-Some.root.side) c.self.view_is there.exit }
 
 pub invariant_of-self-in-Ok : goal.invariant_of-self-in-Ok
 invariant_of-self-in-Ok c =
@@ -26,8 +26,9 @@ invariant_of-self-in-Ok c =
       in_plan = i.in_plan;
       one_each = i.one_each;
       short = i.short;
+      looked_up = i.looked_up;
       rooted = i.rooted;
-      exits = subst (λ (rs : List Root). All (IsRootOf s.plan.now s.source) rs) (sym c.pop.ensures.rest) (All-take (IsRootOf s.plan.now s.source) _ s.roots.items i.exits);
+      exits = subst (λ (rs : List Root). All (IsRootOf s.passages.plan s.passages.source) rs) (sym c.pop.ensures.rest) (All-take (IsRootOf s.passages.plan s.passages.source) _ s.roots.items i.exits);
       exit = i.exit;
       answered = i.answered;
     }
@@ -44,9 +45,9 @@ returns-in-Ok-clause-tries c =
     let v = c.self-2.view_is in
     let last = sym c.last.ensures.value ∙ sym c.in-Some.ensures in
     let some = slice_get_within c.as_slice.result.now _ c.in-Some.root last in
-    let new : WalkParts = record { plan = s.plan.now; mesh = s.mesh.now; labels = s.labels.now; source = s.source; roots = c.pop.new.self.items; root = s.root; frames = s.path; nodes = s.nodes.items } in
-    let there : 0 < length s.roots.items = omega (arith, some, ap length c.as_slice.ensures.value, ap (λ (w : WalkParts). length w.roots) c.self.view_is, ap (λ (w : WalkParts). length w.roots) v, ap length (enters_roots c.args.self.now c.enter.new.self _ c.in-Ok.step c.in-Ok.ensures.enters)) in
-    root_tried c.args.self.now c.enter.new.self new c.in-Some.root.side c.in-Ok.ensures.walk
+    let new : WalkParts = record { plan = s.passages.plan; mesh = s.passages.mesh; labels = s.passages.labels; source = s.passages.source; known = s.passages.count; roots = c.pop.new.self.items; root = s.root; frames = s.path; nodes = s.nodes.items } in
+    let there : 0 < length s.roots.items = omega (arith, some, ap length c.as_slice.ensures.value, ap (λ (w : WalkParts). length w.roots) c.self.view_is, ap (λ (w : WalkParts). length w.roots) v, ap length (enters_roots c.args.self.now c.enter_root.new.self _ c.in-Ok.step c.in-Ok.ensures.enters)) in
+    root_tried c.args.self.now c.enter_root.new.self new c.in-Some.root.side c.in-Ok.ensures.walk
     (record { plan = ap (λ (w : WalkParts). w.plan) v; mesh = ap (λ (w : WalkParts). w.mesh) v; labels = ap (λ (w : WalkParts). w.labels) v; source = ap (λ (w : WalkParts). w.source) v })
     c.requires (ap (λ (w : WalkParts). w.frames) v)
     (one_gone s.roots.items c.pop.new.self.items _ c.pop.ensures.rest (omega (arith, s.roots.ok)) there ∙ ap (λ (w : WalkParts). length w.roots) v)
