@@ -10,9 +10,9 @@ use crate::edges::{Edge, LineIndex};
 use crate::path::{Frame, Path, Ways};
 use crate::roots::{Root, roots_of};
 use crate::step::Step;
-use block_evidence::{Node, Tree, four};
+use block_evidence::{Node, Nodes, Tree, four};
 use mesh_shape::{Labels, Mesh};
-use sight_names::{Items, Memory, Plan, Side, Triangle};
+use sight_names::{Memory, Plan, Side, Triangle};
 use stab_hull::Split;
 use std::alloc::Global;
 use std::marker::Model;
@@ -28,7 +28,7 @@ pub struct Walker<'a> {
     roots: Vec<Root>,
     root: Option<Side>,
     path: Path,
-    nodes: Vec<Node>,
+    nodes: Nodes,
 }
 
 impl<'a> Model for Walker<'a> {
@@ -36,9 +36,9 @@ impl<'a> Model for Walker<'a> {
 
     ghost Value = { WalkParts };
 
-    ghost view = { λ w. record { plan = w.plan.now; mesh = w.mesh.now; labels = w.labels.now; source = w.source; roots = w.roots.items; root = w.root; frames = w.path; nodes = w.nodes.items } };
+    ghost view = { λ w. record { plan = w.plan.now; mesh = w.mesh.now; labels = w.labels.now; source = w.source; roots = w.roots.items; root = w.root; frames = w.path; nodes = w.nodes } };
 
-    ghost invariant = { λ w. IsWalk (record { plan = w.plan.now; mesh = w.mesh.now; labels = w.labels.now; source = w.source; roots = w.roots.items; root = w.root; frames = w.path; nodes = w.nodes.items }) };
+    ghost invariant = { λ w. IsWalk (record { plan = w.plan.now; mesh = w.mesh.now; labels = w.labels.now; source = w.source; roots = w.roots.items; root = w.root; frames = w.path; nodes = w.nodes }) };
 }
 
 /// The third point of a triangle that has the directed edge from `from` to `to`.
@@ -96,7 +96,7 @@ impl<'a> Walker<'a> {
             roots: roots_of(alloc, plan, source)?,
             root: None,
             path: Path::new(alloc),
-            nodes: Vec::new(alloc),
+            nodes: Nodes::new(alloc),
         })
     }
 
@@ -136,7 +136,7 @@ impl<'a> Walker<'a> {
     {
         Tree {
             source: self.source,
-            nodes: Items::of(self.nodes),
+            nodes: self.nodes,
         }
     }
 

@@ -59,7 +59,7 @@ returns-in-Ok-clause-enters c =
       grows_of now new c.self.inside.path frame (ap (λ (w : WalkParts). w.frames) v) e.0 refl (omega (arith, c.if-len-triangles.false, c.len.ensures, ap length c.triangles.ensures.list, ap (λ (w : WalkParts). length w.mesh.triangles) v)),
       ap (λ (w : WalkParts). w.roots) v,
       refl,
-      c.in-Ok.ensures.items ∙ ap (λ (ns : List Node). ns ++ Open ∷ []) (ap (λ (w : WalkParts). w.nodes) v),
+      c.in-Ok.ensures.ok ∙ ap (λ (ns : List Node). ns ++ Open ∷ []) (ap (λ (w : WalkParts). w.nodes) v),
       (subst (λ (w : WalkParts). k < length w.mesh.triangles) v (triangle_within c.self.inside.mesh.now.triangles _ k (sym c.in-Some.ensures)), λ h. clash c.is_labelled.result (c.is_labelled.ensures.1 (subst (λ (w : WalkParts). label_of w.labels k ≡ Some w.source) (sym v) h)) c.if-is_labelled.false),
       kept c.in-Line.a c.in-Line.b c.in-Line.c (search rules) (search rules) (search rules) e.1,
       subst (λ (w : WalkParts). ArrivesAt w.plan w.labels k c.match-edge.entered) v arrived,
