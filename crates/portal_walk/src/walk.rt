@@ -9,9 +9,9 @@ use crate::passages::{Passages, Turn};
 use crate::path::{Frame, Path, Ways};
 use crate::roots::{Root, roots_of};
 use crate::step::Step;
-use block_evidence::{Node, Tree, four};
+use block_evidence::{Node, Nodes, Tree, four};
 use mesh_shape::{Labels, Mesh};
-use sight_names::{Items, Memory, Plan, Side};
+use sight_names::{Memory, Plan, Side};
 use stab_hull::Split;
 use std::alloc::Global;
 use std::marker::Model;
@@ -23,7 +23,7 @@ pub struct Walker<'a> {
     roots: Vec<Root>,
     root: Option<Side>,
     path: Path,
-    nodes: Vec<Node>,
+    nodes: Nodes,
 }
 
 impl<'a> Model for Walker<'a> {
@@ -31,9 +31,9 @@ impl<'a> Model for Walker<'a> {
 
     ghost Value = { WalkParts };
 
-    ghost view = { λ w. record { plan = w.passages.plan; mesh = w.passages.mesh; labels = w.passages.labels; source = w.passages.source; known = w.passages.count; roots = w.roots.items; root = w.root; frames = w.path; nodes = w.nodes.items } };
+    ghost view = { λ w. record { plan = w.passages.plan; mesh = w.passages.mesh; labels = w.passages.labels; source = w.passages.source; known = w.passages.count; roots = w.roots.items; root = w.root; frames = w.path; nodes = w.nodes } };
 
-    ghost invariant = { λ w. IsWalk (record { plan = w.passages.plan; mesh = w.passages.mesh; labels = w.passages.labels; source = w.passages.source; known = w.passages.count; roots = w.roots.items; root = w.root; frames = w.path; nodes = w.nodes.items }) };
+    ghost invariant = { λ w. IsWalk (record { plan = w.passages.plan; mesh = w.passages.mesh; labels = w.passages.labels; source = w.passages.source; known = w.passages.count; roots = w.roots.items; root = w.root; frames = w.path; nodes = w.nodes }) };
 }
 
 impl<'a> Walker<'a> {
@@ -66,7 +66,7 @@ impl<'a> Walker<'a> {
             roots: roots_of(alloc, plan, source)?,
             root: None,
             path: Path::new(alloc),
-            nodes: Vec::new(alloc),
+            nodes: Nodes::new(alloc),
         })
     }
 
@@ -106,7 +106,7 @@ impl<'a> Walker<'a> {
     {
         Tree {
             source: self.passages.source(),
-            nodes: Items::of(self.nodes),
+            nodes: self.nodes,
         }
     }
 

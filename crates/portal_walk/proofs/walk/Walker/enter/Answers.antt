@@ -23,7 +23,7 @@ returns-in-Ok-clause-enters c =
       grows_of now new c.self.inside.path frame (ap (λ (w : WalkParts). w.frames) v) e.0 refl (omega (arith, c.if-len-edges.false, c.len.ensures, c.edges.ensures.count, ap (λ (w : WalkParts). length w.mesh.triangles) v)),
       ap (λ (w : WalkParts). w.roots) v,
       refl,
-      c.in-Ok.ensures.items ∙ ap (λ (ns : List Node). ns ++ Open ∷ []) (ap (λ (w : WalkParts). w.nodes) v),
+      c.in-Ok.ensures.ok ∙ ap (λ (ns : List Node). ns ++ Open ∷ []) (ap (λ (w : WalkParts). w.nodes) v),
       subst (λ (w : WalkParts). IsOutside w portal.triangle) v (c.get-portal.ensures.within, c.get-portal.ensures.outside),
       kept c.in-Line.a c.in-Line.b c.in-Line.c (search rules) (search rules) (search rules) e.1,
       subst (λ (w : WalkParts). ArrivesAt w.plan w.labels portal.triangle portal.entered) v c.get-portal.ensures.arrives,
