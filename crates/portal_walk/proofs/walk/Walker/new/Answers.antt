@@ -8,5 +8,5 @@ pub invariant_of-result : goal.invariant_of-result
 invariant_of-result c =
     let p : PassagesParts = record { plan = c.args.plan.now; mesh = c.args.mesh.now; labels = c.args.labels.now; source = c.args.source; count = 0 } in
     let roots = c.in_ok-roots_of.field-0.items in
-    subst (λ (q : PassagesParts). IsWalk (walk_over q roots None c.new-2.result c.new-3.result.items)) (sym c.in_ok-new.ensures)
-    (walk_begins p roots c.new-2.result c.new-3.result.items c.requires.audited c.requires.points c.requires.good c.requires.source c.in_ok-roots_of.ensures c.new-2.ensures c.new-3.ensures.items)
+    subst (λ (q : PassagesParts). IsWalk (walk_over q roots None c.new-2.result c.new-3.result)) (sym c.in_ok-new.ensures)
+    (walk_begins p roots c.new-2.result c.new-3.result c.requires.audited c.requires.points c.requires.good c.requires.source c.in_ok-roots_of.ensures c.new-2.ensures c.new-3.ensures)
