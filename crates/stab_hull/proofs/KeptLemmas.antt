@@ -1,13 +1,15 @@
 -- What is kept at a push and at a pop, and what it tells.
-use Rattle.std.proofs.Common.{◌≡◌, ℕ, zero, suc, ◌+◌, ◌-◌, ◌<◌, ◌≤◌, List, [], ◌∷◌, ◌++◌, length, take, drop, Option, Some, None, get_or, refl, sym, ap, ◌∙◌, arith, ◌⊎◌, inl, inr, subst, All, ℤ, pos, ◌<ℤ◌, ◌^◌, nat_abs, FitsSigned, w64}
+use Rattle.std.proofs.Common.{◌≡◌, ℕ, zero, suc, ◌+◌, ◌-◌, ◌<◌, ◌≤◌, List, [], ◌∷◌, ◌++◌, length, take, drop, Option, Some, None, Result, Ok, Err, get_or, refl, sym, ap, ◌∙◌, arith, ◌⊎◌, inl, inr, subst, All, ℤ, pos, ◌<ℤ◌, ◌^◌, nat_abs, FitsSigned, w64}
 use mir.Syntax.{w32}
 use Rattle.std.proofs.lemmas.Int.{ints}
-use Rattle.std.specs.Prelude.{slice_get, MatchOption}
+use Rattle.std.specs.Prelude.{slice_get, MatchOption, IfOk}
 use Rattle.std.specs.List.{AllByRecursion}
-use Rattle.std.proofs.lemmas.Option.{slice_get-get_or}
+use Rattle.std.proofs.lemmas.Option.{slice_get-get_or, slice_get_within}
 use Rattle.std.proofs.lemmas.List.{length-map, map-append, take-map}
 use Rattle.sight_names.specs.declared.names.Pt.{Pt}
+use Rattle.sight_names.specs.declared.names.EndAt.{EndAt}
 use Rattle.sight_names.specs.declared.names.EndPair.{EndPair}
+use Rattle.sight_names.specs.declared.names.Memory.{Memory}
 use Rattle.sight_names.specs.Point.{point_of, value_at}
 use Rattle.sight_names.specs.Splitting.{EndPoints, IsParted, SplitsEnds, IsSplittable, IsPairOf}
 use Rattle.extreme_lines.specs.declared.cone.Cone.{Cone}
@@ -16,9 +18,11 @@ use Rattle.extreme_lines.specs.Spans.{Spans, first_of, second_of, pair_of, IsCut
 use Rattle.extreme_lines.proofs.Balance.{PartsPair, no_line_parts}
 use Rattle.stab_hull.specs.declared.frame.Frame.{Frame}
 use Rattle.stab_hull.specs.declared.jam.Jam.{Jam}
-use Rattle.stab_hull.specs.Portals.{portal_of, portals_of, IsConeOf, ShowsNoLine}
+use Rattle.stab_hull.specs.Portals.{portal_of, portals_of, with_ends, IsConeOf, ShowsNoLine}
 use Rattle.stab_hull.specs.Answer.{IsLineInRange}
-use Rattle.stab_hull.specs.Kept.{IsFree, IsJam, IsKept}
+use Rattle.stab_hull.specs.Stacks.{KeepsFirst, AreStuckAmong, IsTopCone, IsAdded, IsHullOf}
+use Rattle.stab_hull.specs.Kept.{IsFree, IsJam, IsKept, IsFrameOf, IsWithin}
+use Rattle.stab_hull.proofs.HullLemmas.{cone_of, hull_more, hull_stuck, hull_first}
 use Rattle.extreme_lines.proofs.EndsLemmas.{pair_of_more, left_place, right_place}
 
 -- ---- lines and jams
@@ -126,47 +130,108 @@ start_next fs f n h = ap (λ (es : List EndPoints). take n es) (portals_next fs 
 whole_next : (fs : List Frame) (f : Frame) → take (length fs + 1) (portals_of (fs ++ f ∷ [])) ≡ portals_of fs ++ portal_of f ∷ []
 whole_next fs f = ap (λ (es : List EndPoints). take (length fs + 1) es) (portals_next fs f) ∙ take_all (length fs + 1) (portals_of fs ++ portal_of f ∷ []) (let e = length_next (portals_of fs) (portal_of f) in let m = length-map fs portal_of in omega (arith, e, m))
 
-jam_longer : (fs : List Frame) (f : Frame) (jam : Option Jam) → IsJam fs jam → IsJam (fs ++ f ∷ []) jam
+pub jam_longer : (fs : List Frame) (f : Frame) (jam : Option Jam) → IsJam fs jam → IsJam (fs ++ f ∷ []) jam
 jam_longer fs f None h = tt
 jam_longer fs f (Some j) h = (let e = length_next fs f in let l = h.0 in omega (arith, e, l), subst (λ (es : List EndPoints). ShowsNoLine es j.pairs) (sym (start_next fs f j.portals h.0)) h.1)
 
-pub push_kept : (fs : List Frame) (f : Frame) (jam new : Option Jam) → IsKept fs jam → ((k : ℕ) → k ≤ length fs → IsFree new k → IsFree jam k)
-    → (IsFree new (length fs + 1) → IsConeOf (portals_of fs ++ portal_of f ∷ []) f.cone) → IsJam (fs ++ f ∷ []) new → IsKept (fs ++ f ∷ []) new
-push_kept fs f jam new h free cone j = record {
-  cones = λ k g e l. by k g (get_at fs f k g e) l;
+-- ---- stacks that change above what the frames say
+keeps_less : {X : Type 0} (m n : ℕ) (xs ys : List X) → m ≤ n → KeepsFirst n xs ys → KeepsFirst m xs ys
+keeps_less m n xs ys l h = (sym (take_take m n ys l) ∙ ap (λ zs. take m zs) h.0 ∙ take_take m n xs l, let k = h.1 in omega (arith, k, l))
+
+hull_same : (es : List EndPoints) (a b a' b' : List EndAt) (c c' : List Cone) → a' ≡ a → b' ≡ b → c' ≡ c → IsHullOf es a b c → IsHullOf es a' b' c'
+hull_same es a b a' b' c c' ea eb ec h = subst (λ (x : List EndAt). IsHullOf es x b' c') (sym ea) (subst (λ (x : List EndAt). IsHullOf es a x c') (sym eb) (subst (λ (x : List Cone). IsHullOf es a b x) (sym ec) h))
+
+frame_moved : (es : List EndPoints) (f : Frame) (ls rs ls' rs' : List EndAt) (cs cs' : List Cone) → KeepsFirst f.lefts ls ls' → KeepsFirst f.rights rs rs' → KeepsFirst f.cones cs cs' → IsFrameOf es ls rs cs f → IsFrameOf es ls' rs' cs' f
+frame_moved es f ls rs ls' rs' cs cs' kl kr kc h = record {
+  lefts_in = kl.1;
+  rights_in = kr.1;
+  cones_in = kc.1;
+  hull = hull_same es (take f.lefts ls) (take f.rights rs) (take f.lefts ls') (take f.rights rs') (take f.cones cs) (take f.cones cs') kl.0 kr.0 kc.0 h.hull;
+}
+
+pub stacks_moved : (fs : List Frame) (top : Frame) (ls rs ls' rs' : List EndAt) (cs cs' : List Cone) → slice_get fs (length fs - 1) ≡ Some top → KeepsFirst top.lefts ls ls' → KeepsFirst top.rights rs rs' → KeepsFirst top.cones cs cs'
+    → IsKept fs ls rs cs None → IsKept fs ls' rs' cs' None
+stacks_moved fs top ls rs ls' rs' cs cs' t kl kr kc h = record {
+  frames = λ k f e g.
+      let b = slice_get_within fs k f e in
+      let w = h.order k (length fs - 1) f top (omega (arith, b)) e t tt in
+      frame_moved (take (k + 1) (portals_of fs)) f ls rs ls' rs' cs cs' (keeps_less f.lefts top.lefts ls ls' w.lefts kl) (keeps_less f.rights top.rights rs rs' w.rights kr) (keeps_less f.cones top.cones cs cs' w.cones kc) (h.frames k f e g);
+  order = h.order;
+  jam = tt;
+}
+
+pub no_frames : (fs : List Frame) (ls rs : List EndAt) (cs : List Cone) → length fs ≡ 0 → IsKept fs ls rs cs None
+no_frames fs ls rs cs z = record {
+  frames = λ k f e g. let b = slice_get_within fs k f e in absurd (omega (arith, b, z));
+  order = λ k m f g l e t u. let b = slice_get_within fs k f e in absurd (omega (arith, b, z));
+  jam = tt;
+}
+
+-- ---- one more frame
+less_free : (jam : Option Jam) (m n : ℕ) → m ≤ n → IsFree jam n → IsFree jam m
+less_free None m n l h = tt
+less_free (Some j) m n l h = omega (arith, l, h)
+
+push_kept : (fs : List Frame) (f : Frame) (ls rs : List EndAt) (cs : List Cone) (jam new : Option Jam) → IsKept fs ls rs cs jam → ((k : ℕ) → k ≤ length fs → IsFree new k → IsFree jam k)
+    → (IsFree new (length fs + 1) → IsFrameOf (portals_of fs ++ portal_of f ∷ []) ls rs cs f)
+    → (IsFree new (length fs + 1) → (k : ℕ) (g : Frame) → slice_get fs k ≡ Some g → IsWithin g f)
+    → IsJam (fs ++ f ∷ []) new → IsKept (fs ++ f ∷ []) ls rs cs new
+push_kept fs f ls rs cs jam new h free has within j = record {
+  frames = λ k g e l. by k g (get_at fs f k g e) l;
+  order = λ k m g i l e t u. ordered k m g i l (get_at fs f k g e) (get_at fs f m i t) u;
   jam = j;
 }
   where
-    by : (k : ℕ) (g : Frame) → ((k < length fs) × (slice_get fs k ≡ Some g)) ⊎ ((k ≡ length fs) × (f ≡ g)) → IsFree new (k + 1) → IsConeOf (take (k + 1) (portals_of (fs ++ f ∷ []))) g.cone
-    by k g (inl t) l = let b = t.0 in subst (λ (es : List EndPoints). IsConeOf es g.cone) (sym (start_next fs f (k + 1) (omega (arith, b)))) (h.cones k g t.1 (free (k + 1) (omega (arith, b)) l))
+    by : (k : ℕ) (g : Frame) → ((k < length fs) × (slice_get fs k ≡ Some g)) ⊎ ((k ≡ length fs) × (f ≡ g)) → IsFree new (k + 1) → IsFrameOf (take (k + 1) (portals_of (fs ++ f ∷ []))) ls rs cs g
+    by k g (inl t) l = let b = t.0 in subst (λ (es : List EndPoints). IsFrameOf es ls rs cs g) (sym (start_next fs f (k + 1) (omega (arith, b)))) (h.frames k g t.1 (free (k + 1) (omega (arith, b)) l))
     by k g (inr t) l =
-        subst (λ (g : Frame). IsConeOf (take (k + 1) (portals_of (fs ++ f ∷ []))) g.cone) t.1
-        (subst (λ (n : ℕ). IsConeOf (take (n + 1) (portals_of (fs ++ f ∷ []))) f.cone) (sym t.0)
-        (subst (λ (es : List EndPoints). IsConeOf es f.cone) (sym (whole_next fs f)) (cone (subst (λ (n : ℕ). IsFree new (n + 1)) t.0 l))))
+        subst (λ (g : Frame). IsFrameOf (take (k + 1) (portals_of (fs ++ f ∷ []))) ls rs cs g) t.1
+        (subst (λ (n : ℕ). IsFrameOf (take (n + 1) (portals_of (fs ++ f ∷ []))) ls rs cs f) (sym t.0)
+        (subst (λ (es : List EndPoints). IsFrameOf es ls rs cs f) (sym (whole_next fs f)) (has (subst (λ (n : ℕ). IsFree new (n + 1)) t.0 l))))
+
+    within_self : IsWithin f f
+    within_self = record { lefts = omega arith; rights = omega arith; cones = omega arith }
+
+    ordered : (k m : ℕ) (g i : Frame) → k ≤ m → ((k < length fs) × (slice_get fs k ≡ Some g)) ⊎ ((k ≡ length fs) × (f ≡ g)) → ((m < length fs) × (slice_get fs m ≡ Some i)) ⊎ ((m ≡ length fs) × (f ≡ i)) → IsFree new (m + 1) → IsWithin g i
+    ordered k m g i l (inl s) (inl t) u = let b = t.0 in h.order k m g i l s.1 t.1 (free (m + 1) (omega (arith, b)) u)
+    ordered k m g i l (inl s) (inr t) u = subst (λ (i : Frame). IsWithin g i) t.1 (within (subst (λ (n : ℕ). IsFree new (n + 1)) t.0 u) k g s.1)
+    ordered k m g i l (inr s) (inl t) u = let a = s.0 in let b = t.0 in absurd (omega (arith, a, b, l))
+    ordered k m g i l (inr s) (inr t) u = subst (λ (i : Frame). IsWithin g i) t.1 (subst (λ (g : Frame). IsWithin g f) s.1 within_self)
 
 -- the list stays jammed
-pub push_jammed : (fs : List Frame) (f : Frame) (j : Jam) → IsKept fs (Some j) → IsKept (fs ++ f ∷ []) (Some j)
-push_jammed fs f j h = push_kept fs f (Some j) (Some j) h (λ k l e. e) (λ e. let l = h.jam.0 in absurd (omega (arith, l, e))) (jam_longer fs f (Some j) h.jam)
+pub push_jammed : (fs : List Frame) (f : Frame) (ls rs : List EndAt) (cs : List Cone) (j : Jam) → IsKept fs ls rs cs (Some j) → IsKept (fs ++ f ∷ []) ls rs cs (Some j)
+push_jammed fs f ls rs cs j h = push_kept fs f ls rs cs (Some j) (Some j) h (λ k l e. e) (λ e. let l = h.jam.0 in absurd (omega (arith, l, e))) (λ e. let l = h.jam.0 in absurd (omega (arith, l, e))) (jam_longer fs f (Some j) h.jam)
 
--- it gets a cone
-pub push_cone : (fs : List Frame) (f : Frame) → IsKept fs None → IsConeOf (portals_of fs ++ portal_of f ∷ []) f.cone → IsKept (fs ++ f ∷ []) None
-push_cone fs f h k = push_kept fs f None None h (λ k l e. e) (λ e. k) tt
+-- it can be split
+pub push_free : (fs : List Frame) (f : Frame) (ls rs : List EndAt) (cs : List Cone) → IsKept fs ls rs cs None → f.lefts ≡ length ls → f.rights ≡ length rs → f.cones ≡ length cs → IsHullOf (portals_of fs ++ portal_of f ∷ []) ls rs cs → IsKept (fs ++ f ∷ []) ls rs cs None
+push_free fs f ls rs cs h el er ec s = push_kept fs f ls rs cs None None h (λ k l e. e)
+    (λ u. record {
+      lefts_in = omega (arith, el);
+      rights_in = omega (arith, er);
+      cones_in = omega (arith, ec);
+      hull = hull_same (portals_of fs ++ portal_of f ∷ []) ls rs (take f.lefts ls) (take f.rights rs) cs (take f.cones cs) (take_all f.lefts ls (omega (arith, el))) (take_all f.rights rs (omega (arith, er))) (take_all f.cones cs (omega (arith, ec))) s;
+    })
+    (λ u k g e. let w = h.frames k g e tt in let a = w.lefts_in in let b = w.rights_in in let c = w.cones_in in record { lefts = omega (arith, el, a); rights = omega (arith, er, b); cones = omega (arith, ec, c) })
+    tt
 
 -- it gets jammed
-pub push_jam : (fs : List Frame) (f : Frame) (j : Jam) → IsKept fs None → j.portals ≡ length fs + 1 → ShowsNoLine (portals_of fs ++ portal_of f ∷ []) j.pairs → IsKept (fs ++ f ∷ []) (Some j)
-push_jam fs f j h n s = push_kept fs f None (Some j) h (λ k l e. tt) (λ e. absurd (omega (arith, e, n)))
+pub push_jam : (fs : List Frame) (f : Frame) (ls rs : List EndAt) (cs : List Cone) (j : Jam) → IsKept fs ls rs cs None → j.portals ≡ length fs + 1 → ShowsNoLine (portals_of fs ++ portal_of f ∷ []) j.pairs → IsKept (fs ++ f ∷ []) ls rs cs (Some j)
+push_jam fs f ls rs cs j h n s = push_kept fs f ls rs cs None (Some j) h (λ k l e. tt) (λ e. absurd (omega (arith, e, n))) (λ e. absurd (omega (arith, e, n)))
     (let e = length_next fs f in omega (arith, e, n), subst (λ (es : List EndPoints). ShowsNoLine es j.pairs) (sym (whole_next fs f) ∙ ap (λ (k : ℕ). take k (portals_of (fs ++ f ∷ []))) (sym n)) s)
 
--- the first portal
-pub push_first : (fs : List Frame) (f : Frame) (jam : Option Jam) → IsKept fs jam → fs ≡ [] → IsConeOf (portal_of f ∷ []) f.cone → IsKept (fs ++ f ∷ []) jam
-push_first fs f jam h e k = push_kept fs f jam jam h (λ k l e. e) (λ l. subst (λ (gs : List Frame). IsConeOf (portals_of gs ++ portal_of f ∷ []) f.cone) (sym e) k) (jam_longer fs f jam h.jam)
-
+-- ---- fewer frames
 start_take : (fs : List Frame) (m n : ℕ) → m ≤ n → take m (portals_of (take n fs)) ≡ take m (portals_of fs)
 start_take fs m n h = ap (λ (es : List EndPoints). take m es) (sym (take-map portal_of n fs)) ∙ take_take m n (portals_of fs) h
 
-pub pop_kept : (fs : List Frame) (n : ℕ) (jam left : Option Jam) → n ≤ length fs → IsKept fs jam → ((k : ℕ) → k ≤ n → IsFree left k → IsFree jam k) → MatchOption left (Unit {0}) (λ j. (jam ≡ Some j) × (j.portals ≤ n)) → IsKept (take n fs) left
-pop_kept fs n jam left l h free stays = record {
-  cones = λ k f e g. let t = get_take n fs k f e in let b = t.0 in subst (λ (es : List EndPoints). IsConeOf es f.cone) (sym (start_take fs (k + 1) n (omega (arith, b)))) (h.cones k f t.1 (free (k + 1) (omega (arith, b)) g));
+length_take : {X : Type 0} (n : ℕ) (xs : List X) → n ≤ length xs → length (take n xs) ≡ n
+length_take zero xs h = refl
+length_take (suc n) [] h = absurd (omega (arith, h))
+length_take (suc n) (x ∷ xs) h = let e = length_take n xs (omega (arith, h)) in omega (arith, e)
+
+pub pop_kept : (fs : List Frame) (n : ℕ) (ls rs : List EndAt) (cs : List Cone) (jam left : Option Jam) → n ≤ length fs → IsKept fs ls rs cs jam → ((k : ℕ) → k ≤ n → IsFree left k → IsFree jam k) → MatchOption left (Unit {0}) (λ j. (jam ≡ Some j) × (j.portals ≤ n)) → IsKept (take n fs) ls rs cs left
+pop_kept fs n ls rs cs jam left l h free stays = record {
+  frames = λ k f e g. let t = get_take n fs k f e in let b = t.0 in subst (λ (es : List EndPoints). IsFrameOf es ls rs cs f) (sym (start_take fs (k + 1) n (omega (arith, b)))) (h.frames k f t.1 (free (k + 1) (omega (arith, b)) g));
+  order = λ k m f g i e t u. let s = get_take n fs k f e in let v = get_take n fs m g t in let b = v.0 in h.order k m f g i s.1 v.1 (free (m + 1) (omega (arith, b)) u);
   jam = by left stays;
 }
   where
@@ -177,11 +242,6 @@ pop_kept fs n jam left l h free stays = record {
         let b = s.1 in
         let e = length_take n fs l in
         (omega (arith, b, e), subst (λ (es : List EndPoints). ShowsNoLine es j.pairs) (sym (start_take fs j.portals n s.1)) m.1)
-      where
-        length_take : (n : ℕ) (fs : List Frame) → n ≤ length fs → length (take n fs) ≡ n
-        length_take zero fs h = refl
-        length_take (suc n) [] h = absurd (omega (arith, h))
-        length_take (suc n) (f ∷ fs) h = let e = length_take n fs (omega (arith, h)) in omega (arith, e)
 
 -- ---- what a split tells
 more_pairs : (es fs : List EndPoints) (ps : List EndPair) → All (IsPairOf es) ps → All (IsPairOf (es ++ fs)) ps
@@ -192,17 +252,47 @@ take_drop zero xs = refl
 take_drop (suc n) [] = refl
 take_drop (suc n) (x ∷ xs) = ap (λ zs. x ∷ zs) (take_drop n xs)
 
-pub jam_shows : (fs : List Frame) (j : Jam) → IsKept fs (Some j) → ShowsNoLine (portals_of fs) j.pairs
-jam_shows fs j h = let s = h.jam.1 in subst (λ (es : List EndPoints). ShowsNoLine es j.pairs) (take_drop j.portals (portals_of fs)) (record { ends = more_pairs (take j.portals (portals_of fs)) (drop j.portals (portals_of fs)) j.pairs s.ends; balanced = s.balanced })
+pub jam_shows : (fs : List Frame) (ls rs : List EndAt) (cs : List Cone) (j : Jam) → IsKept fs ls rs cs (Some j) → ShowsNoLine (portals_of fs) j.pairs
+jam_shows fs ls rs cs j h = let s = h.jam.1 in subst (λ (es : List EndPoints). ShowsNoLine es j.pairs) (take_drop j.portals (portals_of fs)) (record { ends = more_pairs (take j.portals (portals_of fs)) (drop j.portals (portals_of fs)) j.pairs s.ends; balanced = s.balanced })
 
--- the last frame has the cone of all portals
-pub top_cone : (fs : List Frame) (k : ℕ) (d : Frame) → IsKept fs None → k + 1 ≡ length fs → IsConeOf (portals_of fs) (get_or fs k d).cone
-top_cone fs k d h e = subst (λ (es : List EndPoints). IsConeOf es (get_or fs k d).cone) (take_all (k + 1) (portals_of fs) (let m = length-map fs portal_of in omega (arith, m, e))) (h.cones k (get_or fs k d) (slice_get-get_or fs k d (omega (arith, e))) tt)
+-- the last frame is that of all portals
+pub top_frame : (fs : List Frame) (k : ℕ) (f : Frame) (ls rs : List EndAt) (cs : List Cone) → IsKept fs ls rs cs None → k + 1 ≡ length fs → slice_get fs k ≡ Some f → IsFrameOf (portals_of fs) ls rs cs f
+top_frame fs k f ls rs cs h e t = subst (λ (es : List EndPoints). IsFrameOf es ls rs cs f) (take_all (k + 1) (portals_of fs) (let m = length-map fs portal_of in omega (arith, m, e))) (h.frames k f t tt)
 
--- ---- counts and numbers
-pub some_frames : (fs : List Frame) (es : List EndPoints) (n : ℕ) → portals_of fs ≡ es → 0 < length es → n ≡ length fs → n - 1 + 1 ≡ length fs
+some_cone : (c d : Cone) → Some c ≡ Some d → c ≡ d
+some_cone c d h = cc
+
+-- the cone that a frame names
+pub frame_cone : (es : List EndPoints) (ls rs : List EndAt) (cs : List Cone) (f : Frame) → IsFrameOf es ls rs cs f → (f.cones - 1 < length cs) × (0 < f.cones) × ((d : Cone) → IsConeOf es (get_or cs (f.cones - 1) d))
+frame_cone es ls rs cs f h = (within, above, λ d. subst (λ (c : Cone). IsConeOf es c) (some_cone c.0 (get_or cs (f.cones - 1) d) (sym t.1 ∙ slice_get-get_or cs (f.cones - 1) d within)) (cone_of es (take f.lefts ls) (take f.rights rs) (take f.cones cs) c.0 h.hull c.1))
+  where
+    c : IsTopCone (take f.lefts ls) (take f.rights rs) (take f.cones cs)
+    c = h.hull.cone
+
+    n : length (take f.cones cs) ≡ f.cones
+    n = length_take f.cones cs h.cones_in
+
+    t : (f.cones - 1 < f.cones) × (slice_get cs (f.cones - 1) ≡ Some c.0)
+    t = get_take f.cones cs (f.cones - 1) c.0 (subst (λ (k : ℕ). slice_get (take f.cones cs) (k - 1) ≡ Some c.0) n c.1)
+
+    above : 0 < f.cones
+    above = let a = t.0 in omega (arith, a)
+
+    within : f.cones - 1 < length cs
+    within = slice_get_within cs (f.cones - 1) c.0 t.1
+
+some_frames : (fs : List Frame) (es : List EndPoints) (n : ℕ) → portals_of fs ≡ es → 0 < length es → n ≡ length fs → n - 1 + 1 ≡ length fs
 some_frames fs es n e h k = let m = length-map fs portal_of in let l : length (portals_of fs) ≡ length es = ap (λ (es : List EndPoints). length es) e in omega (arith, m, l, h, k)
 
+-- the last frame, and the cone that it names
+pub split_frame : (fs : List Frame) (es : List EndPoints) (n : ℕ) (top : Frame) (ls rs : List EndAt) (cs : List Cone) → IsKept fs ls rs cs None → portals_of fs ≡ es → 0 < length es → n ≡ length fs → top ≡ get_or fs (n - 1) top → IsFrameOf (portals_of fs) ls rs cs top
+split_frame fs es n top ls rs cs h e k m g = top_frame fs (n - 1) top ls rs cs h (some_frames fs es n e k m)
+    (slice_get-get_or fs (n - 1) top (let b = some_frames fs es n e k m in omega (arith, b)) ∙ ap (λ (f : Frame). Some f) (sym g))
+
+pub split_cone : (fs : List Frame) (es : List EndPoints) (n : ℕ) (top : Frame) (d : Cone) (ls rs : List EndAt) (cs : List Cone) → IsKept fs ls rs cs None → portals_of fs ≡ es → 0 < length es → n ≡ length fs → top ≡ get_or fs (n - 1) top → d ≡ get_or cs (top.cones - 1) d → IsConeOf (portals_of fs) d
+split_cone fs es n top d ls rs cs h e k m g i = subst (λ (c : Cone). IsConeOf (portals_of fs) c) (sym i) ((frame_cone (portals_of fs) ls rs cs top (split_frame fs es n top ls rs cs h e k m g)).2 d)
+
+-- ---- numbers
 pub fits_a : (a : ℤ) → nat_abs a ≤ 2 ^ 20 → FitsSigned w32 a
 fits_a a h = omega (arith, ints)
 
@@ -214,3 +304,58 @@ line_is es a b c a' b' c' ea eb ec h =
     subst (λ (z : ℤ). SplitsEnds es a' b' z × IsLineInRange a' b' z) ec
     (subst (λ (y : ℤ). SplitsEnds es a' y c × IsLineInRange a' y c) eb
     (subst (λ (x : ℤ). SplitsEnds es x b c × IsLineInRange x b c) ea h))
+
+pub as_many : (fs : List Frame) → length (portals_of fs) ≡ length fs
+as_many fs = length-map fs portal_of
+
+-- ---- stacks with one more portal
+pub last_frame : (fs : List Frame) (f : Frame) (ls rs : List EndAt) (cs : List Cone) → IsKept fs ls rs cs None → slice_get fs (length fs - 1) ≡ Some f → IsFrameOf (portals_of fs) ls rs cs f
+last_frame fs f ls rs cs h t = let b = slice_get_within fs (length fs - 1) f t in top_frame fs (length fs - 1) f ls rs cs h (omega (arith, b)) t
+
+pub no_last : (fs : List Frame) → slice_get fs (length fs - 1) ≡ None → length fs ≡ 0
+no_last [] h = refl
+no_last (f ∷ fs) h = absurd (some_none _ (sym (slice_get-get_or (f ∷ fs) (length (f ∷ fs) - 1) f (omega arith)) ∙ h))
+  where
+    some_none : (f : Frame) → ◌≡◌ {A = Option Frame} (Some f) None → ⊥
+    some_none f h = cc
+
+pub more_stacked : (fs : List Frame) (left right : EndAt) (ls rs ls' rs' : List EndAt) (cs cs' : List Cone) (r : Result (Option (List EndPair)) Memory) → left.code ≡ length fs → length fs < 32768 → right.code ≡ length fs + 32768
+    → IsHullOf (portals_of fs) ls rs cs
+    → IfOk r (λ stuck. MatchOption stuck (IsTopCone ls' rs' cs' × IsAdded ls left ls' × IsAdded rs right rs') (λ pairs. AreStuckAmong (ls ++ left ∷ []) (rs ++ right ∷ []) pairs))
+    → IfOk r (λ stuck. MatchOption stuck (IsHullOf (with_ends (portals_of fs) left right) ls' rs' cs') (λ pairs. ShowsNoLine (with_ends (portals_of fs) left right) pairs))
+more_stacked fs left right ls rs ls' rs' cs cs' (Ok None) lc few rc h k = let m = as_many fs in hull_more (portals_of fs) left right ls rs ls' rs' cs cs' (omega (arith, lc, m)) (omega (arith, few, m)) (omega (arith, rc, m)) h k.0 k.1 k.2
+more_stacked fs left right ls rs ls' rs' cs cs' (Ok (Some pairs)) lc few rc h k = let m = as_many fs in hull_stuck (portals_of fs) left right ls rs pairs (omega (arith, lc, m)) (omega (arith, few, m)) (omega (arith, rc, m)) h.left_ends h.right_ends k
+more_stacked fs left right ls rs ls' rs' cs cs' (Err e) lc few rc h k = tt
+
+pub first_stacked : (fs : List Frame) (left right : EndAt) (ls rs : List EndAt) (cs : List Cone) → length fs ≡ 0 → left.code ≡ length fs → right.code ≡ length fs + 32768 → ls ≡ left ∷ [] → rs ≡ right ∷ [] → IsTopCone (left ∷ []) (right ∷ []) cs → IsHullOf (with_ends (portals_of fs) left right) ls rs cs
+first_stacked [] left right ls rs cs z lc rc el er t = hull_same (with_ends [] left right) (left ∷ []) (right ∷ []) ls rs cs cs el er refl (hull_first left right cs lc (omega (arith, rc)) t)
+first_stacked (f ∷ fs) left right ls rs cs z lc rc el er t = absurd (omega (arith, z))
+
+-- ---- a push
+-- what is known before the frame is pushed
+abbrev pub IsReady : List Frame → EndPoints → List EndAt → List EndAt → List Cone → Option Jam → Option (List EndPair) → Type 0
+IsReady fs p ls rs cs (Some j) None = IsKept fs ls rs cs (Some j)
+IsReady fs p ls rs cs (Some j) (Some pairs) = ⊥
+IsReady fs p ls rs cs None stuck = IsKept fs ls rs cs None × MatchOption stuck (IsHullOf (portals_of fs ++ p ∷ []) ls rs cs) (λ pairs. ShowsNoLine (portals_of fs ++ p ∷ []) pairs)
+
+pub ready_jammed : (fs : List Frame) (p : EndPoints) (ls rs : List EndAt) (cs : List Cone) (jam : Option Jam) (j : Jam) → jam ≡ Some j → IsKept fs ls rs cs jam → IsReady fs p ls rs cs jam None
+ready_jammed fs p ls rs cs jam j e h = subst (λ (o : Option Jam). IsReady fs p ls rs cs o None) (sym e) (subst (λ (o : Option Jam). IsKept fs ls rs cs o) e h)
+
+pub ready_free : (old fs : List Frame) (p : EndPoints) (ls rs : List EndAt) (cs : List Cone) (jam : Option Jam) (stuck : Option (List EndPair)) → old ≡ fs → jam ≡ None → IsKept old ls rs cs None
+    → MatchOption stuck (IsHullOf (portals_of old ++ p ∷ []) ls rs cs) (λ pairs. ShowsNoLine (portals_of old ++ p ∷ []) pairs) → IsReady fs p ls rs cs jam stuck
+ready_free old fs p ls rs cs jam stuck e n h k = subst (λ (o : Option Jam). IsReady fs p ls rs cs o stuck) (sym n) (subst (λ (gs : List Frame). IsReady gs p ls rs cs None stuck) e (h, k))
+
+pub push_ready : (fs : List Frame) (f : Frame) (ls rs : List EndAt) (cs : List Cone) (jam : Option Jam) (stuck : Option (List EndPair)) → IsReady fs (portal_of f) ls rs cs jam stuck → stuck ≡ None → f.lefts ≡ length ls → f.rights ≡ length rs → f.cones ≡ length cs → IsKept (fs ++ f ∷ []) ls rs cs jam
+push_ready fs f ls rs cs (Some j) None h e el er ec = push_jammed fs f ls rs cs j h
+push_ready fs f ls rs cs (Some j) (Some pairs) h e el er ec = absurd h
+push_ready fs f ls rs cs None None h e el er ec = push_free fs f ls rs cs h.0 el er ec h.1
+push_ready fs f ls rs cs None (Some pairs) h e el er ec = absurd (none_some pairs (sym e))
+
+pub push_stuck : (fs : List Frame) (f : Frame) (ls rs : List EndAt) (cs : List Cone) (jam : Option Jam) (stuck : Option (List EndPair)) (pairs : List EndPair) (n : ℕ) → IsReady fs (portal_of f) ls rs cs jam stuck → stuck ≡ Some pairs → n ≡ length (fs ++ f ∷ []) → IsKept (fs ++ f ∷ []) ls rs cs (Some (record { portals = n; pairs = pairs }))
+push_stuck fs f ls rs cs (Some j) None pairs n h e m = absurd (none_some pairs e)
+push_stuck fs f ls rs cs (Some j) (Some qs) pairs n h e m = absurd h
+push_stuck fs f ls rs cs None None pairs n h e m = absurd (none_some pairs e)
+push_stuck fs f ls rs cs None (Some qs) pairs n h e m = push_jam fs f ls rs cs (record { portals = n; pairs = pairs }) h.0 (m ∙ length_next fs f) (subst (λ (ps : List EndPair). ShowsNoLine (portals_of fs ++ portal_of f ∷ []) ps) (inner qs pairs e) h.1)
+  where
+    inner : (qs ps : List EndPair) → Some qs ≡ Some ps → qs ≡ ps
+    inner qs ps h = cc

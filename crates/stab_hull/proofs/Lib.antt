@@ -1,2 +1,3 @@
-pub mod WidenLemmas
+pub mod StepLemmas
+pub mod HullLemmas
 pub mod KeptLemmas

@@ -1,3 +1,4 @@
 pub mod Answer
 pub mod Portals
+pub mod Stacks
 pub mod Kept

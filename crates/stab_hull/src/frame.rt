@@ -1,12 +1,13 @@
-//! A portal, with the cone of all portals up to it.
+//! A portal, and how much of the stacks is of the portals up to it.
 
-use extreme_lines::Cone;
 use sight_names::Pt;
 
-/// The ends of a portal, and the extreme lines of the portals up to this one.
+/// The ends of a portal, and how many left ends, right ends and cones are stacked of the portals up to this one.
 #[derive(Clone, Copy, Debug)]
 pub struct Frame {
     pub left: Pt,
     pub right: Pt,
-    pub cone: Cone,
+    pub lefts: usize,
+    pub rights: usize,
+    pub cones: usize,
 }

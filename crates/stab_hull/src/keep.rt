@@ -1,53 +1,36 @@
-//! What a push and a pop do to frames and jam.
+//! What a push and a pop do to the stacks and the jam.
 
-ghost use Rattle.std.specs.Prelude.{◌≡◌, ◌≢◌, ◌+◌, ◌<◌, ◌≤◌, ◌++◌, ◌∷◌, [], ℕ, length, MatchOption};
+ghost use Rattle.std.specs.Prelude.{◌≡◌, ◌≢◌, ◌+◌, ◌<◌, ◌≤◌, None, ℕ, length, IfOk, MatchOption};
+ghost use Rattle.stab_hull.specs.Portals.{portals_of, with_ends, ShowsNoLine};
+ghost use Rattle.stab_hull.specs.Stacks.{IsHullOf};
 ghost use Rattle.stab_hull.specs.Kept.{IsFree, IsKept};
 
 use crate::frame::Frame;
+use crate::hull::Hull;
 use crate::jam::Jam;
-use crate::widen::widened;
-use extreme_lines::{Cone, Extreme};
-use sight_names::EndAt;
+use sight_names::{EndAt, EndPair, Memory};
 
-/// The cone of a new frame, and the jam with it.
-#[derive(Clone, Copy, Debug)]
-pub struct Next {
-    pub cone: Cone,
-    pub jam: Option<Jam>,
-}
-
-/// What comes with a portal with these ends.
-pub fn after_portal(old: &[Frame], jam: &Option<Jam>, left: EndAt, right: EndAt) -> Next
+/// Stacks the ends of one more portal, or gives the pairs that show that no line splits all ends.
+pub fn widened(
+    hull: &mut Hull,
+    old: &[Frame],
+    left: EndAt,
+    right: EndAt,
+) -> Result<Option<[EndPair; 3]>, Memory>
     requires few { length old.now < 32768 }
     requires left_code { left.code ≡ length old.now }
     requires right_code { right.code ≡ length old.now + 32768 }
     requires proper { left.at ≢ right.at }
-    requires kept { IsKept old.now jam.now }
-    ensures { IsKept (old.now ++ record { left = left.at; right = right.at; cone = result.cone } ∷ []) result.jam }
+    requires kept { IsKept old.now hull.old.lefts.items hull.old.rights.items hull.old.cones.items None }
+    ensures kept { IsKept old.now hull.new.lefts.items hull.new.rights.items hull.new.cones.items None }
+    ensures free { IfOk result (λ stuck. MatchOption stuck (IsHullOf (with_ends (portals_of old.now) left right) hull.new.lefts.items hull.new.rights.items hull.new.cones.items) (λ pairs. ShowsNoLine (with_ends (portals_of old.now) left right) pairs)) }
 {
-    if old.is_empty() {
-        let ray = Extreme::through(left, right);
-        return Next {
-            cone: Cone::Ray(ray),
-            jam: *jam,
-        };
-    }
-    let top = old[old.len() - 1].cone;
-    match jam {
-        Some(jam) => Next {
-            cone: top,
-            jam: Some(*jam),
-        },
-        None => match widened(&top, old, left, right) {
-            Ok(cone) => Next { cone, jam: None },
-            Err(pairs) => Next {
-                cone: top,
-                jam: Some(Jam {
-                    portals: old.len() + 1,
-                    pairs,
-                }),
-            },
-        },
+    match old.last() {
+        Some(top) => hull.add(top, left, right),
+        None => {
+            hull.begin(left, right)?;
+            Ok(None)
+        }
     }
 }
 

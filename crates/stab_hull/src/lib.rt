@@ -5,13 +5,15 @@ ghost use Rattle.std.specs.Prelude.{◌≡◌, ◌≢◌, ◌++◌, ◌∷◌, [
 ghost use Rattle.stab_hull.specs.Answer.{IsSplitOf};
 
 mod frame;
+mod hull;
 mod jam;
 mod keep;
-mod widen;
+mod step;
 
 use crate::frame::Frame;
+use crate::hull::Hull;
 use crate::jam::Jam;
-use crate::keep::{after_portal, jam_within};
+use crate::keep::{jam_within, widened};
 use sight_names::{EndAt, EndPair, Memory, Pt};
 use std::alloc::Global;
 use std::marker::Model;
@@ -20,6 +22,7 @@ use std::marker::Model;
 #[derive(Drop)]
 pub struct Ends {
     frames: Vec<Frame>,
+    hull: Hull,
     jam: Option<Jam>,
 }
 
@@ -34,7 +37,7 @@ impl Model for Ends {
 
     ghost view = { λ s. portals_of s.frames.items };
 
-    ghost invariant = { λ s. IsKept s.frames.items s.jam };
+    ghost invariant = { λ s. IsKept s.frames.items s.hull.lefts.items s.hull.rights.items s.hull.cones.items s.jam };
 }
 
 /// Whether a line splits the ends.
@@ -54,6 +57,11 @@ impl Ends {
     {
         Ends {
             frames: Vec::new(alloc),
+            hull: Hull {
+                lefts: Vec::new(alloc),
+                rights: Vec::new(alloc),
+                cones: Vec::new(alloc),
+            },
             jam: None,
         }
     }
@@ -81,14 +89,22 @@ impl Ends {
             code: place + 32768,
             at: right,
         };
-        let next = after_portal(self.frames.as_slice(), &self.jam, left_end, right_end);
+        let stuck = match &self.jam {
+            Some(_) => None,
+            None => widened(&mut self.hull, self.frames.as_slice(), left_end, right_end)?,
+        };
         let frame = Frame {
             left,
             right,
-            cone: next.cone,
+            lefts: self.hull.lefts.len(),
+            rights: self.hull.rights.len(),
+            cones: self.hull.cones.len(),
         };
         self.frames.push(frame)?;
-        self.jam = next.jam;
+        if let Some(pairs) = stuck {
+            let portals = self.frames.len();
+            self.jam = Some(Jam { portals, pairs });
+        }
         Ok(())
     }
 
@@ -112,7 +128,7 @@ impl Ends {
             Some(jam) => Split::Stuck(jam.pairs),
             None => {
                 let top = &self.frames[self.frames.len() - 1];
-                let cut = top.cone.cut();
+                let cut = self.hull.cones[top.cones - 1].cut();
                 Split::Line {
                     a: cut.a,
                     b: cut.b,

@@ -5,15 +5,14 @@ use Rattle.sight_names.specs.Splitting.{EndPoints}
 use Rattle.stab_hull.specs.declared.frame.Frame.{Frame}
 use Rattle.stab_hull.specs.Portals.{portal_of, portals_of}
 use Rattle.stab_hull.specs.Kept.{IsKept}
-use Rattle.stab_hull.proofs.WidenLemmas.{as_many}
-use Rattle.stab_hull.proofs.KeptLemmas.{pop_kept}
+use Rattle.stab_hull.proofs.KeptLemmas.{as_many, pop_kept}
 use Rattle.stab_hull.proofs.Ends.pop.Goals as goal
 
 pub invariant_of-self : goal.invariant_of-self
 invariant_of-self c =
     let k : c.len-count.result ≡ length c.self.inside.frames.items = (let e = c.len-count.ensures in grind (arith, common_steps)) in
-    subst (λ (fs : List Frame). IsKept fs c.jam_within-self-inside.result) (sym c.truncate.ensures.items)
-    (pop_kept c.self.inside.frames.items (c.len-count.result - 1) c.self.inside.jam c.jam_within-self-inside.result (omega (arith, k)) c.self.invariant c.jam_within-self-inside.ensures.free c.jam_within-self-inside.ensures.same)
+    subst (λ (fs : List Frame). IsKept fs c.self.inside.hull.lefts.items c.self.inside.hull.rights.items c.self.inside.hull.cones.items c.jam_within-self-inside.result) (sym c.truncate.ensures.items)
+    (pop_kept c.self.inside.frames.items (c.len-count.result - 1) c.self.inside.hull.lefts.items c.self.inside.hull.rights.items c.self.inside.hull.cones.items c.self.inside.jam c.jam_within-self-inside.result (omega (arith, k)) c.self.invariant c.jam_within-self-inside.ensures.free c.jam_within-self-inside.ensures.same)
 
 pub returns : goal.returns
 returns c =

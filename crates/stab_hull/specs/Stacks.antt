@@ -1,0 +1,77 @@
+-- What a cone says of lists of left and of right ends.
+use Rattle.std.specs.Prelude.{◌≡◌, ◌⊎◌, ℕ, ◌-◌, ◌<◌, ◌≤◌, List, [], ◌∷◌, ◌++◌, Some, All, length, take, slice_get}
+use Rattle.sight_names.specs.declared.names.Pt.{Pt}
+use Rattle.sight_names.specs.declared.names.EndAt.{EndAt}
+use Rattle.sight_names.specs.declared.names.EndPair.{EndPair}
+use Rattle.sight_names.specs.Splitting.{EndPoints, AreBalanced, end_of}
+use Rattle.extreme_lines.specs.declared.cone.Cone.{Cone}
+use Rattle.extreme_lines.specs.Differences.{difference}
+use Rattle.extreme_lines.specs.Spans.{Spans, first_of, second_of, pair_of}
+use Rattle.stab_hull.specs.declared.step.Step.{Step}
+use Rattle.stab_hull.specs.declared.step.Step.TheVariants.{Same, Wider, Stuck}
+
+abbrev pub IsAmong : List EndAt → EndAt → Type 0
+IsAmong ends e = (m : ℕ) × (slice_get ends m ≡ Some e)
+
+-- one of the ends is at this point
+abbrev pub HasPoint : List EndAt → Pt → Type 0
+HasPoint ends p = (m : ℕ) × (e : EndAt) × (slice_get ends m ≡ Some e) × (e.at ≡ p)
+
+-- a pair of one of the left ends and one of the right ends
+abbrev pub IsPairAmong : List EndAt → List EndAt → EndPair → Type 0
+IsPairAmong lefts rights p = IsAmong lefts p.left × IsAmong rights p.right
+
+-- the cone has the difference of each left end and each right end
+abbrev pub SpansEnds : List EndAt → List EndAt → Cone → Type 0
+SpansEnds lefts rights c = (l r : EndAt) → IsAmong lefts l → IsAmong rights r → Spans c (difference l.at r.at)
+
+-- the extreme lines of a cone are lines from right ends to left ends
+pub record IsOfEnds (lefts rights : List EndAt) (c : Cone) : Type 0 where
+  pub first : IsPairAmong lefts rights (pair_of (first_of c))
+  pub second : IsPairAmong lefts rights (pair_of (second_of c))
+
+-- the cone of these ends
+pub record IsConeOfEnds (lefts rights : List EndAt) (c : Cone) : Type 0 where
+  pub spans : SpansEnds lefts rights c
+  pub ends : IsOfEnds lefts rights c
+
+-- pairs of these ends whose differences have the origin in their convex hull
+pub record AreStuckAmong (lefts rights : List EndAt) (pairs : List EndPair) : Type 0 where
+  pub ends : All (IsPairAmong lefts rights) pairs
+  pub balanced : AreBalanced pairs
+
+-- what a step from this cone to that of these ends gives
+abbrev pub IsStepTo : List EndAt → List EndAt → Cone → Step → Type 0
+IsStepTo lefts rights c Same = IsConeOfEnds lefts rights c
+IsStepTo lefts rights c (Wider d) = IsConeOfEnds lefts rights d
+IsStepTo lefts rights c (Stuck pairs) = AreStuckAmong lefts rights pairs
+
+-- the last of the cones is that of the ends
+abbrev pub IsTopCone : List EndAt → List EndAt → List Cone → Type 0
+IsTopCone lefts rights cones = (c : Cone) × (slice_get cones (length cones - 1) ≡ Some c) × IsConeOfEnds lefts rights c
+
+-- an end has come to the list, but where the list has its point
+abbrev pub IsAdded : List EndAt → EndAt → List EndAt → Type 0
+IsAdded old e new = (new ≡ old ++ e ∷ []) ⊎ ((new ≡ old) × HasPoint old e.at)
+
+-- the new list begins with the first n of the old one
+abbrev pub KeepsFirst : {X : Type 0} → ℕ → List X → List X → Type 0
+KeepsFirst n old new = (take n new ≡ take n old) × (n ≤ length new)
+
+-- a left end of these portals, with its code
+pub record IsLeftEnd (es : List EndPoints) (e : EndAt) : Type 0 where
+  pub code : e.code < 32768
+  pub end : end_of es e.code ≡ Some e
+
+-- a right end of these portals, with its code
+pub record IsRightEnd (es : List EndPoints) (e : EndAt) : Type 0 where
+  pub code : 32768 ≤ e.code
+  pub end : end_of es e.code ≡ Some e
+
+-- the ends of these portals, each point at least once, and their cone
+pub record IsHullOf (es : List EndPoints) (lefts rights : List EndAt) (cones : List Cone) : Type 0 where
+  pub left_ends : (m : ℕ) (e : EndAt) → slice_get lefts m ≡ Some e → IsLeftEnd es e
+  pub right_ends : (m : ℕ) (e : EndAt) → slice_get rights m ≡ Some e → IsRightEnd es e
+  pub lefts_all : (i : ℕ) (p : EndPoints) → slice_get es i ≡ Some p → HasPoint lefts p.left
+  pub rights_all : (i : ℕ) (p : EndPoints) → slice_get es i ≡ Some p → HasPoint rights p.right
+  pub cone : IsTopCone lefts rights cones
