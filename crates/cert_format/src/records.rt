@@ -1,13 +1,14 @@
 //! One record of a certificate: a triangle, a ray, a listed pair, a node, a tree. Records are told out of order once
 //! their own fields have passed their ranges, a tree once its source has.
 
-ghost use Rattle.std.specs.Prelude.{◌≡◌, Some, None};
+ghost use Rattle.std.specs.Prelude.{◌≡◌, Some, None, IfOk};
+ghost use Rattle.block_evidence.specs.Packed.{IsPackable};
 ghost use Rattle.cert_format.specs.Reading.{Gives, comes_after, pair_after, pair_of, triangle_after, triangle_at, sight_line_at, ray_at, pair_at, two_ends_at, three_ends_at, four_ends_at, node_at, nodes_at, tree_at};
 
 use crate::cert::{Labelled, Sizes};
 use crate::fields::{end_of, i32_at, i64_at, place, point_at, side_of, u16_at, u16_below, u64_at};
-use block_evidence::{Evidence, Node, Tree};
-use sight_names::{CertFault, Items, Pair, PairRay, Ray, Triangle};
+use block_evidence::{Evidence, Node, Nodes, Tree};
+use sight_names::{CertFault, Pair, PairRay, Ray, Triangle};
 use std::alloc::Global;
 
 fn is_triangle_behind(last: Option<Labelled>, t: Triangle) -> bool
@@ -130,7 +131,8 @@ pub fn listed_of(
 
 #[tactic(auto, unfolding(crate::specs::Reading::two_ends_at))]
 fn two_ends(total: usize, bytes: &[u8]) -> Result<(Node, &[u8]), CertFault>
-    ensures { Gives (λ x. (x.0, x.1.now)) result (two_ends_at total bytes.now) }
+    ensures value { Gives (λ x. (x.0, x.1.now)) result (two_ends_at total bytes.now) }
+    ensures packable { IfOk result (λ x. IsPackable x.0) }
 {
     let (a, rest) = end_of(total, None, bytes)?;
     let (b, rest) = end_of(total, Some(a), rest)?;
@@ -140,7 +142,8 @@ fn two_ends(total: usize, bytes: &[u8]) -> Result<(Node, &[u8]), CertFault>
 
 #[tactic(auto, unfolding(crate::specs::Reading::three_ends_at))]
 fn three_ends(total: usize, bytes: &[u8]) -> Result<(Node, &[u8]), CertFault>
-    ensures { Gives (λ x. (x.0, x.1.now)) result (three_ends_at total bytes.now) }
+    ensures value { Gives (λ x. (x.0, x.1.now)) result (three_ends_at total bytes.now) }
+    ensures packable { IfOk result (λ x. IsPackable x.0) }
 {
     let (a, rest) = end_of(total, None, bytes)?;
     let (b, rest) = end_of(total, Some(a), rest)?;
@@ -151,7 +154,8 @@ fn three_ends(total: usize, bytes: &[u8]) -> Result<(Node, &[u8]), CertFault>
 
 #[tactic(auto, unfolding(crate::specs::Reading::four_ends_at))]
 fn four_ends(total: usize, bytes: &[u8]) -> Result<(Node, &[u8]), CertFault>
-    ensures { Gives (λ x. (x.0, x.1.now)) result (four_ends_at total bytes.now) }
+    ensures value { Gives (λ x. (x.0, x.1.now)) result (four_ends_at total bytes.now) }
+    ensures packable { IfOk result (λ x. IsPackable x.0) }
 {
     let (a, rest) = end_of(total, None, bytes)?;
     let (b, rest) = end_of(total, Some(a), rest)?;
@@ -163,7 +167,8 @@ fn four_ends(total: usize, bytes: &[u8]) -> Result<(Node, &[u8]), CertFault>
 
 #[tactic(auto, unfolding(crate::specs::Reading::node_at))]
 fn node_of(total: usize, bytes: &[u8]) -> Result<(Node, &[u8]), CertFault>
-    ensures { Gives (λ x. (x.0, x.1.now)) result (node_at total bytes.now) }
+    ensures value { Gives (λ x. (x.0, x.1.now)) result (node_at total bytes.now) }
+    ensures packable { IfOk result (λ x. IsPackable x.0) }
 {
     match bytes {
         [] => Err(CertFault::Short {
@@ -184,10 +189,10 @@ fn nodes_of(
     total: usize,
     count: u64,
     bytes: &[u8],
-) -> Result<(Vec<Node>, &[u8]), CertFault>
-    ensures { Gives (λ x. (x.0.items, x.1.now)) result (nodes_at total count bytes.now) }
+) -> Result<(Nodes, &[u8]), CertFault>
+    ensures { Gives (λ x. (x.0, x.1.now)) result (nodes_at total count bytes.now) }
 {
-    let mut nodes = Vec::new(alloc);
+    let mut nodes = Nodes::new(alloc);
     let mut rest = bytes;
     for _ in 0..count {
         let (node, after) = node_of(total, rest)?;
@@ -219,6 +224,5 @@ pub fn tree_of(
     }
     let (count, rest) = u64_at(total, rest)?;
     let (nodes, rest) = nodes_of(alloc, total, count, rest)?;
-    let nodes = Items::of(nodes);
     Ok((Tree { source, nodes }, rest))
 }

@@ -8,7 +8,7 @@ ghost use Rattle.block_evidence.specs.declared.Node.TheVariants.{Blocked};
 ghost use Rattle.cert_format.specs.Grammar.{AreSmall, Spells, IsEvidenceInOrder, IsNodeInOrder, HasShortSides, FitsRay, FitsPairRay, FitsNode, u16, line_bytes, FitsTree, side_number, triangle_bytes, ray_bytes, pair_bytes, node_bytes, tree_bytes, front_bytes, count_bytes};
 
 use crate::cert::{Cert, Counts, Labelled, Sizes};
-use block_evidence::{Evidence, Node, Tree};
+use block_evidence::{Evidence, Node, Nodes, Tree};
 use sight_names::{Memory, Pair, PairRay, Ray, Side};
 use std::alloc::Global;
 
@@ -96,13 +96,13 @@ fn put_node(out: &mut Vec<u8>, node: &Node) -> Result<(), Memory>
     }
 }
 
-fn put_nodes(out: &mut Vec<u8>, nodes: &[Node]) -> Result<(), Memory>
+fn put_nodes(out: &mut Vec<u8>, nodes: &Nodes) -> Result<(), Memory>
     requires { AllByRecursion IsNodeInOrder nodes.now }
     ensures spelled { OnOk result (out.new.items ≡ out.old.items ++ flat_map node_bytes nodes.now) }
     ensures fits { OnOk result (AllByRecursion FitsNode nodes.now) }
 {
-    for node in nodes {
-        put_node(out, node)?;
+    for node in nodes.iter() {
+        put_node(out, &node)?;
     }
     Ok(())
 }
@@ -112,10 +112,9 @@ fn put_tree(out: &mut Vec<u8>, tree: &Tree) -> Result<(), Memory>
     ensures spelled { OnOk result (out.new.items ≡ out.old.items ++ tree_bytes tree.now) }
     ensures fits { OnOk result (FitsTree tree.now) }
 {
-    let nodes = tree.nodes.as_slice();
     out.extend_from_slice(&tree.source.to_le_bytes())?;
-    out.extend_from_slice(&(nodes.len() as u64).to_le_bytes())?;
-    put_nodes(out, nodes)
+    out.extend_from_slice(&(tree.nodes.len() as u64).to_le_bytes())?;
+    put_nodes(out, &tree.nodes)
 }
 
 fn put_triangles(out: &mut Vec<u8>, triangles: &[Labelled]) -> Result<(), Memory>
