@@ -7,3 +7,4 @@ pub mod Judging
 pub mod Aimed
 pub mod Components
 pub mod Sources
+pub mod Ends

@@ -3,3 +3,4 @@ pub mod Pairs
 pub mod Named
 pub mod Rays
 pub mod Web
+pub mod Path

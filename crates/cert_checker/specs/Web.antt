@@ -1,5 +1,5 @@
 -- The triangles as one who walks through them sees them: three entries for each, in the order of its directed edges.
-use Rattle.std.specs.Prelude.{◌≡◌, ℕ, ◌+◌, ◌*◌, ◌⊎◌, ◌==◌, List, Option, Some, None, slice_get, Bool, false, if◌then◌else◌}
+use Rattle.std.specs.Prelude.{◌≡◌, ℕ, ◌+◌, ◌*◌, ◌⊎◌, ◌==◌, List, Option, Some, None, option_and_then, slice_get, Bool, false, if◌then◌else◌}
 use Rattle.sight_names.specs.declared.names.Triangle.{Triangle}
 use Rattle.sight_names.specs.Points.{Edge}
 use Rattle.sight_names.specs.Mesh.{triangle_at}
@@ -33,3 +33,7 @@ pub record IsEntry (ts : List Triangle) (walls : List Bool) (left right apex sec
   pub label : x.sector ≡ sector
   pub left_way : IsWay ts walls (edge left apex) x.left_way
   pub right_way : IsWay ts walls (edge apex right) x.right_way
+
+-- the way, where it leads to an entry whose triangle isn't one of the source
+abbrev pub way_outside : List Entry → ℕ → Option ℕ → Option ℕ
+way_outside xs source way = option_and_then (λ i. option_and_then (λ (x : Entry). if x.sector == source then None else Some i) (slice_get xs i)) way

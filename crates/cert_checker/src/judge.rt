@@ -123,7 +123,7 @@ fn ray_fault(plan: &Plan, mesh: &Mesh, web: &Web, rays: &[PairRay]) -> Option<Ch
 
 /// The first tree that isn't whole, at its least wrong node. Sources with a tree are marked, and what they reach.
 fn tree_fault(
-    ground: Ground<'_>,
+    ground: &Ground<'_>,
     path: &mut [Frame],
     walked: &mut [bool],
     reached: &mut Table,
@@ -240,7 +240,7 @@ fn judge_rest(plan: &Plan, table: &Table, cert: &Cert, mesh: &Mesh, store: Store
     };
     let path = path.as_mut_slice();
     if let Some(fault) = tree_fault(
-        ground,
+        &ground,
         path,
         walked.as_mut_slice(),
         &mut reached,

@@ -1,20 +1,27 @@
 //! Trees judged in one pass: each node is asked of the walk at its place.
 
-ghost use Rattle.std.specs.Prelude.{◌≡◌, ◌≤◌, ◌<◌, length};
+ghost use Rattle.std.specs.Prelude.{◌≡◌, ◌≤◌, ◌<◌, ◌↔◌, None, IsTrue, length, take, slice_set, slice_index_or};
+ghost use Rattle.sight_names.specs.Map.{map_of, origin};
+ghost use Rattle.sight_names.specs.Splitting.{end_of as end_at};
+ghost use Rattle.block_evidence.specs.Stuck.{Blocks};
+ghost use Rattle.cert_checker.specs.Web.{way_outside};
+ghost use Rattle.cert_checker.specs.Path.{path_ends, frame_at, IsClosedBy};
 
 use crate::roots::Roots;
-use crate::web::Web;
+use crate::web::{Entry, Web};
 use block_evidence::{Evidence, Node, Tree, stuck};
 use reject_bits::Table;
 use sight_names::{EndAt, Memory, Plan, Pt};
 use std::alloc::Global;
 
-/// An open node on the way to the present one: the entry that it leads through, and whether its right way is still to
-/// come.
+const ORIGIN: Pt = Pt { x: 0, y: 0 };
+
+/// A portal on the way to the present node: its ends, and the right way behind it as long as that is still to come.
 #[derive(Clone, Copy)]
 pub struct Frame {
-    entry: u16,
-    right_to_come: bool,
+    left: Pt,
+    right: Pt,
+    right_way: Option<u16>,
 }
 
 /// The mesh as a walk needs it.
@@ -32,72 +39,119 @@ pub fn path_of(alloc: Global, trees: &[Tree]) -> Result<Vec<Frame>, Memory> {
         longest = longest.max(tree.nodes.as_slice().len());
     }
     let none = Frame {
-        entry: 0,
-        right_to_come: false,
+        left: ORIGIN,
+        right: ORIGIN,
+        right_way: None,
     };
     Ok(vec![in alloc; none; longest]?)
 }
 
-/// The right way of the frame, the first time that it is asked.
-fn take_right(web: &Web, source: u16, frame: &mut Frame) -> Option<u16> {
-    if !frame.right_to_come {
-        return None;
+/// The point with this number.
+fn point_at(points: &[Pt], number: u16) -> Pt
+    ensures { result ≡ slice_index_or points.now number origin }
+{
+    match points.get(number as usize) {
+        Some(at) => *at,
+        None => ORIGIN,
     }
-    frame.right_to_come = false;
-    let entry = web.entry(frame.entry)?;
-    web.outside(entry.right_way, source)
+}
+
+/// The portal of the entry, its right way still to come.
+fn frame_of(plan: &Plan, entry: &Entry) -> Frame
+    ensures { result ≡ frame_at (map_of plan.now) entry.now }
+{
+    let points = plan.points();
+    Frame {
+        left: point_at(points, entry.left),
+        right: point_at(points, entry.right),
+        right_way: entry.right_way,
+    }
+}
+
+/// The right way of the frame, the first time that it is asked.
+fn take_right(web: &Web, source: u16, frame: &mut Frame) -> Option<u16>
+    ensures way { result ≡ way_outside web.now.entries.items source frame.old.right_way }
+    ensures taken { frame.new ≡ record frame.old { right_way = None } }
+{
+    let way = frame.right_way;
+    frame.right_way = None;
+    web.outside(way, source)
 }
 
 /// The next right way on the way back, and how long the path is then.
 fn back(web: &Web, source: u16, path: &mut [Frame], length: usize) -> (Option<u16>, usize) {
-    let mut depth = length;
+    let mut depth = length.min(path.len());
     while depth > 0 {
-        if let Some(frame) = path.get_mut(depth - 1) {
-            let way = take_right(web, source, frame);
-            if way.is_some() {
-                return (way, depth);
-            }
+        let way = take_right(web, source, &mut path[depth - 1]);
+        if way.is_some() {
+            return (way, depth);
         }
         depth -= 1;
     }
     (None, 0)
 }
 
-/// The end of the present sequence with this code: of a portal on the path, or of the portal that is asked.
-fn end_of(ground: Ground<'_>, path: &[Frame], asked: u16, code: u16) -> Option<EndAt> {
-    let place = (code % 32_768) as usize;
-    let entry = if place < path.len() {
-        path[place].entry
-    } else if place == path.len() {
-        asked
+/// The end with this code: of the portal at its place.
+fn end_of(path: &[Frame], code: u16) -> Option<EndAt>
+    ensures { result ≡ end_at (path_ends path.now) code }
+{
+    let frame = path.get((code % 32_768) as usize)?;
+    let at = if code < 32_768 {
+        frame.left
     } else {
-        return None;
+        frame.right
     };
-    let portal = ground.web.entry(entry)?;
-    let point = if code < 32_768 {
-        portal.left
-    } else {
-        portal.right
-    };
-    let at = *ground.plan.points().get(point as usize)?;
     Some(EndAt { code, at })
 }
 
-/// Whether the ends are ends of the present sequence, and stuck.
-fn is_blocked(ground: Ground<'_>, path: &[Frame], asked: u16, evidence: Evidence) -> bool {
-    let nowhere = EndAt {
+/// Whether the ends are ends of these portals, and stuck.
+fn is_blocked(path: &[Frame], evidence: Evidence) -> bool
+    ensures { IsTrue result ↔ Blocks (path_ends path.now) evidence }
+{
+    let mut ends = [EndAt {
         code: 0,
-        at: Pt { x: 0, y: 0 },
-    };
-    let mut ends = [nowhere; 4];
+        at: ORIGIN,
+    }; 4];
     let count = (evidence.count as usize).min(4);
     for i in 0..count {
-        match end_of(ground, path, asked, evidence.ends[i]) {
+        match end_of(path, evidence.ends[i]) {
             Some(end) => ends[i] = end,
             None => return false,
         }
     }
     stuck(&ends[..count])
+}
+
+/// Puts the portal of this entry behind the open ones, and says whether there was room.
+fn put(plan: &Plan, path: &mut [Frame], depth: usize, entry: &Entry) -> bool
+    ensures room { IsTrue result ↔ (depth < length path.old) }
+    ensures put { path.new ≡ slice_set path.old depth (frame_at (map_of plan.now) entry.now) }
+{
+    if depth >= path.len() {
+        return false;
+    }
+    path[depth] = frame_of(plan, entry);
+    true
+}
+
+/// Whether the ends are ends of the sequence that is asked, and stuck.
+fn is_closed(
+    ground: &Ground<'_>,
+    path: &mut [Frame],
+    depth: usize,
+    place: u16,
+    evidence: Evidence,
+) -> bool
+    ensures closed { IsTrue result ↔ IsClosedBy (map_of ground.now.plan.now) ground.now.web.now.entries.items path.old depth place evidence }
+    ensures kept { take depth path.new ≡ take depth path.old }
+{
+    let Some(entry) = ground.web.entry(place) else {
+        return false;
+    };
+    if !put(ground.plan, path, depth, entry) {
+        return false;
+    }
+    is_blocked(&path[..=depth], evidence)
 }
 
 /// A walk that follows a tree.
@@ -111,7 +165,7 @@ struct Follow {
 
 /// The entry that is asked next: the next right way, or else the next root.
 fn next_asked(
-    ground: Ground<'_>,
+    ground: &Ground<'_>,
     source: u16,
     path: &mut [Frame],
     follow: &mut Follow,
@@ -128,23 +182,16 @@ fn next_asked(
 
 /// Goes through the entry, and gives what is asked next.
 fn enter(
-    ground: Ground<'_>,
+    ground: &Ground<'_>,
     source: u16,
     path: &mut [Frame],
     follow: &mut Follow,
-    place: u16,
+    entry: &Entry,
 ) -> Option<u16> {
-    if let Some(frame) = path.get_mut(follow.depth) {
-        *frame = Frame {
-            entry: place,
-            right_to_come: true,
-        };
+    if put(ground.plan, path, follow.depth, entry) {
         follow.depth += 1;
     }
-    let left_way = match ground.web.entry(place) {
-        Some(entry) => ground.web.outside(entry.left_way, source),
-        None => None,
-    };
+    let left_way = ground.web.outside(entry.left_way, source);
     if left_way.is_some() {
         left_way
     } else {
@@ -152,22 +199,36 @@ fn enter(
     }
 }
 
-/// Notes that the source reaches the sector behind the entry.
-fn note(web: &Web, reached: &mut Table, source: u16, place: u16)
+/// Notes that the source reaches the sector.
+fn note(reached: &mut Table, source: u16, sector: u16)
     ensures { reached.new.n ≡ reached.old.n }
 {
-    if let Some(entry) = web.entry(place) {
-        let count = reached.sectors();
-        if source < count && entry.sector < count {
-            reached.set(source, entry.sector);
-        }
+    let count = reached.sectors();
+    if source < count && sector < count {
+        reached.set(source, sector);
     }
+}
+
+/// Goes through the entry at the place: the source reaches the sector behind it. Gives what is asked next.
+fn open(
+    ground: &Ground<'_>,
+    reached: &mut Table,
+    source: u16,
+    path: &mut [Frame],
+    follow: &mut Follow,
+    place: u16,
+) -> Option<u16>
+    ensures { reached.new.n ≡ reached.old.n }
+{
+    let entry = ground.web.entry(place)?;
+    note(reached, source, entry.sector);
+    enter(ground, source, path, follow, entry)
 }
 
 /// The least node of the tree that is missing, superfluous, or blocked by ends that aren't ends of its sequence or
 /// aren't stuck. The sectors that its open nodes reach are noted.
 pub fn first_wrong(
-    ground: Ground<'_>,
+    ground: &Ground<'_>,
     path: &mut [Frame],
     reached: &mut Table,
     tree: &Tree,
@@ -186,12 +247,10 @@ pub fn first_wrong(
         };
         match *node {
             Node::Open => {
-                note(ground.web, reached, tree.source, place);
-                asked = enter(ground, tree.source, path, &mut follow, place);
+                asked = open(ground, reached, tree.source, path, &mut follow, place);
             }
             Node::Blocked(evidence) => {
-                let depth = follow.depth.min(path.len());
-                if !is_blocked(ground, &path[..depth], place, evidence) {
+                if !is_closed(ground, path, follow.depth, place, evidence) {
                     return Some(number as u64);
                 }
                 asked = next_asked(ground, tree.source, path, &mut follow);

@@ -1,9 +1,9 @@
 //! The triangles of a good mesh as one who walks through them sees them: for each directed edge the third point and
 //! the two ways out.
 
-ghost use Rattle.std.specs.Prelude.{◌≡◌, ◌≤◌, ◌<◌, ◌*◌, ◌⊎◌, None, Some, length, slice_get, true, IfOk, IfSome, MatchOption};
+ghost use Rattle.std.specs.Prelude.{◌≡◌, ◌≤◌, ◌<◌, ◌*◌, ◌⊎◌, None, Some, length, slice_get, true, IfOk, IfSome, MatchOption, option_copied};
 ghost use Rattle.sight_names.specs.Mesh.{triangle_at};
-ghost use Rattle.cert_checker.specs.Web.{edge, IsPlace, IsWay, IsEntry};
+ghost use Rattle.cert_checker.specs.Web.{edge, way_outside, IsPlace, IsWay, IsEntry};
 
 use cert_format::Labelled;
 use mesh_shape::Mesh;
@@ -119,10 +119,10 @@ impl Web {
     }
 
     /// The entry at this place.
-    pub fn entry(&self, place: u16) -> Option<Entry>
-        ensures { result ≡ slice_get self.now.entries.items place }
+    pub fn entry(&self, place: u16) -> Option<&Entry>
+        ensures { option_copied result ≡ slice_get self.now.entries.items place }
     {
-        self.entries.get(place as usize).copied()
+        self.entries.as_slice().get(place as usize)
     }
 
     /// The place of the entry through the directed edge, unless it leads through a solid line.
@@ -133,7 +133,9 @@ impl Web {
     }
 
     /// This way, unless it leads to a triangle of the source.
-    pub fn outside(&self, way: Option<u16>, source: u16) -> Option<u16> {
+    pub fn outside(&self, way: Option<u16>, source: u16) -> Option<u16>
+        ensures { result ≡ way_outside self.now.entries.items source way }
+    {
         let place = way?;
         let entry = self.entry(place)?;
         if entry.sector == source {
