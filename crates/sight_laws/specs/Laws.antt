@@ -4,7 +4,8 @@ use Rattle.sight_names.specs.declared.names.Side.{Side}
 use Rattle.sight_names.specs.declared.names.Ray.{Ray}
 use Rattle.sight_names.specs.declared.names.Triangle.{Triangle}
 use Rattle.sight_names.specs.Point.{Point}
-use Rattle.sight_names.specs.Map.{Map, MapLine, line_at, IsMap, Names}
+use Rattle.sight_names.specs.Plan.{PlanParts, IsPlan}
+use Rattle.sight_names.specs.Map.{Map, MapLine, line_at, IsMap, Names, map_of}
 use Rattle.sight_names.specs.Path.{Touches, MissesSolid}
 use Rattle.sight_names.specs.Sound.{LinesMeetAtEnds}
 use Rattle.sight_names.specs.Sees.{Sees}
@@ -36,6 +37,10 @@ pub record AreInSight (m : Map) (s t : Side) : Type 0 where
   pub from : Touches m p s
   pub to : Touches m q t
   pub clear : MissesSolid m p q
+
+-- what a plan stands for is a map
+abbrev pub PlanIsMap : Type 0
+PlanIsMap = (p : PlanParts) → IsPlan p → IsMap (map_of p)
 
 abbrev pub SightIsSymmetric : Type 0
 SightIsSymmetric = (m : Map) (a b : ℕ) → Sees m a b → Sees m b a

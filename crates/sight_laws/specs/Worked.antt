@@ -1,5 +1,5 @@
 -- Small maps on which a reader can check what the definitions say. Each statement is the contract of a function.
-use Rattle.std.specs.Prelude.{◌≡◌, ℕ, List, [], ◌∷◌, Option, Some, None, pos, true, is_none, false, ◌||◌, negsuc}
+use Rattle.std.specs.Prelude.{◌≡◌, ℕ, List, [], ◌∷◌, Option, Some, None, map, pos, true, is_none, false, ◌||◌, negsuc}
 use Rattle.sight_names.specs.declared.names.Pt.{Pt}
 use Rattle.sight_names.specs.declared.names.Side.{Side}
 use Rattle.sight_names.specs.declared.names.Triangle.{Triangle}
@@ -8,6 +8,7 @@ use Rattle.sight_names.specs.Sound.{IsClosed, NamesAgree}
 use Rattle.sight_names.specs.Sees.{Sees}
 use Rattle.sight_names.specs.Ray.{IsSightRay}
 use Rattle.sight_names.specs.Table.{Rejected, table_bit, IsTable}
+use Rattle.sight_names.specs.Lumps.{numbers_below}
 use Rattle.sight_names.specs.Points.{Edge, points_of}
 use Rattle.sight_names.specs.Greedy.{IsGreedy}
 use Rattle.sight_names.specs.Sequence.{roots, Portal, Way, Left, Right, Sequence, portals, IsStabbable, reached}
@@ -119,12 +120,20 @@ UPortals = (roots u_map 0 ≡ left_side 5 ∷ []) × (portals u_map u_mesh (u_se
 abbrev pub UFourAreSplit : Type 0
 UFourAreSplit = IsStabbable u_map u_portals
 
--- and one way further on into sector 2 no line splits all five: its ends (0,64), (64,64), (192,64) are on one line
-abbrev pub UFiveAreStuck : Type 0
-UFiveAreStuck = (portals u_map u_mesh (u_sequence (Right ∷ Left ∷ Right ∷ Right ∷ [])) ≡ Some (portal 1 4 ∷ portal 2 4 ∷ portal 2 6 ∷ portal 9 6 ∷ portal 8 6 ∷ []))
-    × ¬ IsStabbable u_map (portal 1 4 ∷ portal 2 4 ∷ portal 2 6 ∷ portal 9 6 ∷ portal 8 6 ∷ [])
+-- and one way further on, into sector 2
+abbrev pub u_five_portals : List Portal
+u_five_portals = portal 1 4 ∷ portal 2 4 ∷ portal 2 6 ∷ portal 9 6 ∷ portal 8 6 ∷ []
 
--- the table of the bytes 44 00 for 3 sectors sets just the bits of (0, 2) and (2, 0)
+-- no line splits all five: their ends (0,64), (64,64), (192,64) are on one line
+abbrev pub UFiveAreStuck : Type 0
+UFiveAreStuck = (portals u_map u_mesh (u_sequence (Right ∷ Left ∷ Right ∷ Right ∷ [])) ≡ Some u_five_portals) × (reached u_mesh u_labels u_five_portals ≡ Some 2)
+    × ¬ IsStabbable u_map u_five_portals
+
+-- the bytes 44 00
+abbrev pub u_table : List ℕ
+u_table = 68 ∷ 0 ∷ []
+
+-- they are a table of 3 sectors, which of its nine bits sets just those of (0, 2) and (2, 0)
 abbrev pub UTableBits : Type 0
-UTableBits = IsTable 3 (68 ∷ 0 ∷ []) × Rejected 3 (68 ∷ 0 ∷ []) 0 2 × Rejected 3 (68 ∷ 0 ∷ []) 2 0
-    × (table_bit (68 ∷ 0 ∷ []) 0 ≡ 0) × (table_bit (68 ∷ 0 ∷ []) 1 ≡ 0) × (table_bit (68 ∷ 0 ∷ []) 8 ≡ 0)
+UTableBits = IsTable 3 u_table × Rejected 3 u_table 0 2 × Rejected 3 u_table 2 0
+    × (map (table_bit u_table) (numbers_below 9) ≡ 0 ∷ 0 ∷ 1 ∷ 0 ∷ 0 ∷ 0 ∷ 1 ∷ 0 ∷ 0 ∷ [])

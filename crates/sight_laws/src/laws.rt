@@ -1,6 +1,11 @@
 //! Laws of the definitions, whatever the map.
 
-ghost use Rattle.sight_laws.specs.Laws.{SightIsSymmetric, NamedSeesItself, SideIsTouched, OpenRayJoinsSides, OpenRaySees, SightRayJoinsSides, SightRaySees, OneGreedyList, OneMesh};
+ghost use Rattle.sight_laws.specs.Laws.{PlanIsMap, SightIsSymmetric, NamedSeesItself, SideIsTouched, OpenRayJoinsSides, OpenRaySees, SightRayJoinsSides, SightRaySees, OneGreedyList, OneMesh};
+
+/// What a plan stands for is a map.
+pub fn plan_is_map()
+    ensures { PlanIsMap }
+{}
 
 /// If a sector sees another, that one sees it.
 pub fn sight_is_symmetric()

@@ -1,5 +1,5 @@
-use Rattle.sight_names.proofs.URows.{table_bits}
+use Rattle.std.proofs.Common.{refl}
 use Rattle.sight_laws.proofs.worked.u_table_bits.Goals as goal
 
 pub returns : goal.returns
-returns c = table_bits
+returns c = (refl, refl, refl, refl)
