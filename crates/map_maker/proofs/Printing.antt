@@ -1,5 +1,5 @@
 -- What was written is the print.
-use Rattle.std.proofs.Common.{◌≡◌, ℕ, List, Bool, true, false, ◌^◌, nat_lt, nat_le, length, Result, Ok, Err, if◌then◌else◌, refl, sym}
+use Rattle.std.proofs.Common.{◌≡◌, ℕ, List, Bool, true, false, ◌^◌, nat_lt, nat_le, length, Ok, Err, if◌then◌else◌}
 use Rattle.sight_names.specs.declared.faults.RewriteFault.{RewriteFault}
 use Rattle.sight_names.specs.declared.faults.RewriteFault.TheVariants as fault
 use Rattle.wad_dir.specs.Wad.{WadFile}

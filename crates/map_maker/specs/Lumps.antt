@@ -1,6 +1,6 @@
 -- The lumps of a made map (the Unofficial Doom Specs on LINEDEFS, SIDEDEFS, VERTEXES and SECTORS).
 use Rattle.std.specs.Prelude.{ℕ, ◌+◌, ◌*◌, ◌==◌, ◌&&◌, Bool, List, [], ◌∷◌, ◌++◌, Option, Some, None, if◌then◌else◌, replicate, codes}
-use Rattle.std.specs.List.{list_any, flat_map}
+use Rattle.std.specs.List.{list_any}
 use Rattle.std.specs.Int.{w16, to_le_bytes}
 use Rattle.wad_dir.specs.declared.parts.Kind.TheVariants.{Pwad}
 use Rattle.wad_dir.specs.Wad.{WadFile, WadLump}

@@ -5,6 +5,7 @@ ghost use Rattle.map_maker.specs.Lumps.{short, linedef, linedefs_from, sidedef, 
 
 use crate::lines::{Line, Spot};
 use crate::points::place;
+use byteorder::{ByteOrder, LittleEndian};
 use std::alloc::{AllocError, Global};
 
 const TEXTURE: [u8; 8] = *b"-\0\0\0\0\0\0\0";
@@ -12,7 +13,9 @@ const TEXTURE: [u8; 8] = *b"-\0\0\0\0\0\0\0";
 fn push_short(out: &mut Vec<u8>, n: usize) -> Result<(), AllocError>
     ensures { OnOk result (out.new.items ≡ out.old.items ++ short n) }
 {
-    out.extend_from_slice(&[(n % 256) as u8, (n / 256 % 256) as u8])
+    let mut bytes = [0; 2];
+    LittleEndian::write_u16(&mut bytes, (n % 65_536) as u16);
+    out.extend_from_slice(&bytes)
 }
 
 fn flags(left: Option<usize>) -> usize

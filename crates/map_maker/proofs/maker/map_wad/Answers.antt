@@ -1,4 +1,3 @@
-use Rattle.std.proofs.Common.{rules}
 use Rattle.map_maker.proofs.Printing.{printed_is}
 use Rattle.map_maker.proofs.maker.map_wad.Goals as goal
 
