@@ -50,9 +50,7 @@ fn stuck_ends(rt: HostRuntime) {
         (TWO_TWO, [0, 0, 4, 0, 0, 1, 4, 1], false),
         (
             TWO_TWO,
-            [
-                -32768, -32768, 32767, 32767, -32768, 32767, 32767, -32768,
-            ],
+            [-32768, -32768, 32767, 32767, -32768, 32767, 32767, -32768],
             true,
         ),
         // on one line, and segments that are points
@@ -291,11 +289,7 @@ fn stuck_pairs(cone: &Cone, left: EndAt, right: EndAt) -> Option<[EndPair; 3]>
         return None;
     }
     let pairs = cone.pairs(left, right);
-    if are_coded(&pairs) {
-        Some(pairs)
-    } else {
-        None
-    }
+    if are_coded(&pairs) { Some(pairs) } else { None }
 }
 
 fn end_of(pairs: &[EndPair; 3], code: u16) -> Option<EndAt> {
@@ -368,7 +362,16 @@ fn all_counted(tally: Tally, seed: u32) -> Tally {
     let ray = Cone::Ray(Extreme::through(l, r));
     let cone = ray.with(m, s).unwrap_or(ray);
     let mut sum = tally;
-    for (left, right) in [(l, u), (m, u), (t, r), (t, s), (m, r), (l, s), (t, u), (m, s)] {
+    for (left, right) in [
+        (l, u),
+        (m, u),
+        (t, r),
+        (t, s),
+        (m, r),
+        (l, s),
+        (t, u),
+        (m, s),
+    ] {
         sum = counted(sum, &cone, left, right);
     }
     sum
