@@ -8,7 +8,7 @@ use Rattle.sight_names.specs.declared.names.EndPair.{EndPair}
 use Rattle.sight_names.specs.Splitting.{EndPoints, IsPairOf}
 use Rattle.block_evidence.specs.declared.Evidence.{Evidence}
 use Rattle.block_evidence.specs.Stuck.{AreStuck, IsEndOf, IsEvidenceOf, Blocks}
-use Rattle.block_evidence.specs.Picked.{IsIn, IsChoice, Names, AreAmong, Picks, both_ends}
+use Rattle.block_evidence.specs.Picked.{IsIn, IsChoice, AreAmong, Picks, both_ends}
 use Rattle.block_evidence.proofs.Ordered.{all_at, all_of}
 use Rattle.block_evidence.proofs.Choices.{choice_evidence, choice_blocks}
 

@@ -1,4 +1,4 @@
-use Rattle.std.proofs.Common.{rules, ◌∷◌, [], IsTrue, ◌≡◌, ◌<◌, ◌≤◌, Bool, true, false}
+use Rattle.std.proofs.Common.{rules}
 use Rattle.block_evidence.proofs.Crossing.{stuck_by_one, stuck_by_two, stuck_by_three}
 use Rattle.block_evidence.proofs.quick.are_stuck.Goals as goal
 

@@ -1,7 +1,5 @@
-use Rattle.std.proofs.Common.{rules, ◌∷◌, [], IsTrue, ◌≡◌, ◌∙◌, ℤ, pos, FitsSigned, to_z, of_z, to_z-of_z, w64}
+use Rattle.std.proofs.Common.{rules}
 use Rattle.geom_exact.specs.Formulas.{turn_of}
-use Rattle.block_evidence.specs.Stuck.{AreStuck, HullsMeet}
-use Rattle.block_evidence.specs.Quick.{AreWeights, AreOpposite, IsBetween}
 use Rattle.block_evidence.proofs.Crossing.{covered_left, covered_right, weights_at, opposite_at}
 use Rattle.block_evidence.proofs.quick.is_covered.Goals as goal
 
