@@ -36,7 +36,7 @@ pub struct Ground<'a> {
 pub fn path_of(alloc: Global, trees: &[Tree]) -> Result<Vec<Frame>, Memory> {
     let mut longest = 0;
     for tree in trees {
-        longest = longest.max(tree.nodes.as_slice().len());
+        longest = longest.max(tree.nodes.len());
     }
     let none = Frame {
         left: ORIGIN,
@@ -235,17 +235,17 @@ pub fn first_wrong(
 ) -> Option<u64>
     ensures { reached.new.n ≡ reached.old.n }
 {
-    let nodes = tree.nodes.as_slice();
     let mut follow = Follow {
         depth: 0,
         root: ground.roots.first_of(tree.source),
     };
     let mut asked = next_asked(ground, tree.source, path, &mut follow);
-    for (number, node) in nodes.iter().enumerate() {
+    let count = tree.nodes.len();
+    for (number, node) in tree.nodes.iter().enumerate() {
         let Some(place) = asked else {
             return Some(number as u64);
         };
-        match *node {
+        match node {
             Node::Open => {
                 asked = open(ground, reached, tree.source, path, &mut follow, place);
             }
@@ -258,7 +258,7 @@ pub fn first_wrong(
         }
     }
     if asked.is_some() {
-        return Some(nodes.len() as u64);
+        return Some(count as u64);
     }
     None
 }

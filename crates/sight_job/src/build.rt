@@ -125,5 +125,5 @@ fn verdicts_of(
 {
     let classes = components(alloc, plan)?;
     let results = walks_of(alloc, plan, shape, budget)?;
-    decide(alloc, plan, &classes, results.as_slice())
+    decide(alloc, plan, &classes, results)
 }
