@@ -8,3 +8,6 @@ pub mod Aimed
 pub mod Components
 pub mod Sources
 pub mod Ends
+pub mod Walls
+pub mod Entries
+pub mod Ways

@@ -4,3 +4,4 @@ pub mod Named
 pub mod Rays
 pub mod Web
 pub mod Path
+pub mod Roots

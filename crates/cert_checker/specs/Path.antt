@@ -1,9 +1,10 @@
 -- The path of a walk that follows a tree: its portals, and the ways that are still to come.
-use Rattle.std.specs.Prelude.{◌≡◌, ℕ, ◌<◌, List, [], ◌∷◌, ◌++◌, Option, Some, None, map, take, length, slice_get}
+use Rattle.std.specs.Prelude.{◌≡◌, ℕ, max, ◌<◌, List, [], ◌∷◌, ◌++◌, Option, Some, None, map, take, length, slice_get}
 use Rattle.sight_names.specs.Map.{Map}
 use Rattle.sight_names.specs.Points.{place}
 use Rattle.sight_names.specs.Splitting.{EndPoints}
 use Rattle.block_evidence.specs.declared.Evidence.{Evidence}
+use Rattle.block_evidence.specs.declared.Tree.{Tree}
 use Rattle.block_evidence.specs.Stuck.{Blocks}
 use Rattle.cert_checker.specs.declared.web.Entry.{Entry}
 use Rattle.cert_checker.specs.declared.trees.Frame.{Frame}
@@ -45,3 +46,8 @@ pending_way path (Some i) = record { path = path; entry = i } ∷ []
 abbrev pub to_come : List Entry → ℕ → List EndPoints → List Frame → List Pending
 to_come xs source path [] = []
 to_come xs source path (f ∷ fs) = to_come xs source (path ++ portal_ends f ∷ []) fs ++ pending_way (path ++ portal_ends f ∷ []) (way_outside xs source f.right_way)
+
+-- how many nodes the longest of the trees has
+abbrev pub longest_of : List Tree → ℕ
+longest_of [] = 0
+longest_of (t ∷ ts) = max (length t.nodes) (longest_of ts)

@@ -1,7 +1,12 @@
 -- The triangles as one who walks through them sees them: three entries for each, in the order of its directed edges.
-use Rattle.std.specs.Prelude.{◌≡◌, ℕ, ◌+◌, ◌*◌, ◌⊎◌, ◌==◌, List, Option, Some, None, option_and_then, slice_get, Bool, false, if◌then◌else◌}
+use Rattle.std.specs.Prelude.{◌≡◌, ℕ, zero, suc, ◌+◌, ◌++◌, ◌∷◌, [], ◌*◌, ◌<◌, ◌⊎◌, ◌↔◌, ◌==◌, length, IsTrue, List, Option, Some, None, option_and_then, slice_get, Bool, false, if◌then◌else◌}
 use Rattle.sight_names.specs.declared.names.Triangle.{Triangle}
 use Rattle.sight_names.specs.Points.{Edge}
+use Rattle.sight_names.specs.Map.{Map}
+use Rattle.sight_names.specs.Sequence.{IsSolidLine}
+use Rattle.sight_names.specs.declared.plan.Line.{Line}
+use Rattle.cert_format.specs.declared.cert.Labelled.{Labelled}
+use Rattle.cert_checker.specs.Pairs.{IsMarked}
 use Rattle.sight_names.specs.Mesh.{triangle_at}
 use Rattle.cert_checker.specs.declared.web.Entry.{Entry}
 
@@ -37,3 +42,50 @@ pub record IsEntry (ts : List Triangle) (walls : List Bool) (left right apex sec
 -- the way, where it leads to an entry whose triangle isn't one of the source
 abbrev pub way_outside : List Entry → ℕ → Option ℕ → Option ℕ
 way_outside xs source way = option_and_then (λ i. option_and_then (λ (x : Entry). if x.sector == source then None else Some i) (slice_get xs i)) way
+
+-- one who enters the triangle through its edge number c
+abbrev pub IsEntryOf : List Triangle → List Bool → Labelled → ℕ → Entry → Type 0
+IsEntryOf ts walls t zero x = IsEntry ts walls t.triangle.p t.triangle.q t.triangle.r t.sector x
+IsEntryOf ts walls t (suc zero) x = IsEntry ts walls t.triangle.q t.triangle.r t.triangle.p t.sector x
+IsEntryOf ts walls t (suc (suc c)) x = IsEntry ts walls t.triangle.r t.triangle.p t.triangle.q t.sector x
+
+-- three entries for each triangle, in the order of its edges
+pub record AreEntries (ts : List Triangle) (walls : List Bool) (labelled : List Labelled) (xs : List Entry) : Type 0 where
+  pub len : length xs ≡ length labelled * 3
+  pub at : (k c : ℕ) (t : Labelled) (x : Entry) → c < 3 → slice_get labelled k ≡ Some t → slice_get xs (k * 3 + c) ≡ Some x → IsEntryOf ts walls t c x
+
+-- the three entries of a triangle stand behind the others
+pub record Enters (ts : List Triangle) (walls : List Bool) (t : Labelled) (old new : List Entry) : Type 0 where
+  pub first : Entry
+  pub second : Entry
+  pub third : Entry
+  pub list : new ≡ old ++ first ∷ second ∷ third ∷ []
+  pub is_first : IsEntryOf ts walls t 0 first
+  pub is_second : IsEntryOf ts walls t 1 second
+  pub is_third : IsEntryOf ts walls t 2 third
+
+-- ---- walls: the flags of the entries that lead through solid lines
+
+-- the edge is a solid line
+abbrev pub IsSolidEdge : Map → Edge → Type 0
+IsSolidEdge m e = IsSolidLine m (record { left = e.from; right = e.to })
+
+-- a flag for each entry, set exactly where its edge is a solid line
+pub record AreWalls (m : Map) (ts : List Triangle) (walls : List Bool) : Type 0 where
+  pub len : length walls ≡ length ts * 3
+  pub flags : (e : Edge) (i : ℕ) → IsPlace ts e i → IsMarked walls i ↔ IsSolidEdge m e
+
+-- the line is solid, and its edge in the one direction or the other has this place
+abbrev pub LeadsThrough : List Triangle → Option Line → ℕ → Type 0
+LeadsThrough ts None i = ⊥
+LeadsThrough ts (Some l) i = IsTrue l.solid × (IsPlace ts (edge l.a l.b) i ⊎ IsPlace ts (edge l.b l.a) i)
+
+-- the flag of the edge's place is set too
+pub record Closes (ts : List Triangle) (e : Edge) (old new : List Bool) : Type 0 where
+  pub len : length new ≡ length old
+  pub flags : (i : ℕ) → i < length old → IsMarked new i ↔ (IsMarked old i ⊎ IsPlace ts e i)
+
+-- the flags of the places that the line leads through are set too, if it is solid
+pub record ClosesLine (ts : List Triangle) (entry : Option Line) (old new : List Bool) : Type 0 where
+  pub len : length new ≡ length old
+  pub flags : (i : ℕ) → i < length old → IsMarked new i ↔ (IsMarked old i ⊎ LeadsThrough ts entry i)

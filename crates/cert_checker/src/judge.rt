@@ -4,13 +4,14 @@ ghost use Rattle.std.specs.Prelude.{◌≡◌, length, map, IfOk, IfSome, MatchO
 ghost use Rattle.sight_names.specs.Map.{map_of};
 ghost use Rattle.sight_names.specs.Sound.{LinesMeetAtEnds};
 ghost use Rattle.cert_format.specs.declared.cert.Labelled.{Labelled as AtSector};
-ghost use Rattle.cert_checker.specs.Named.{HasNoMark, MarksNamed, MarksLine, MarksSources, Marks};
+ghost use Rattle.cert_checker.specs.Named.{HasNoMark, MarksNamed, MarksLine, MarksSources};
 ghost use Rattle.cert_checker.specs.Judged.{JudgesMesh, JudgesRays, JudgesPairs, IsRayFaultOf, IsTreeFault, IsPairVerdict, IsLaterVerdict, IsAbout};
 ghost use Rattle.cert_checker.specs.Pairs.{known_of, IsKnown};
 ghost use Rattle.tri_sectors.specs.Components.{AreComponents};
 ghost use Rattle.cert_checker.specs.Rays.{IsAimed, AreAimedBelow, IsFaultOf, IsFirstRayFault};
 ghost use Rattle.cert_format.specs.Accepted.{triangles_of, labels_of};
 
+use crate::marks::mark;
 use crate::pairs::{Known, judge_pairs};
 use crate::rays::joined;
 use crate::roots::Roots;
@@ -72,17 +73,6 @@ fn mark_sides(flags: &mut [bool], entry: Option<Line>)
     if let Some(line) = entry {
         mark(flags, line.right);
         mark(flags, line.left);
-    }
-}
-
-/// Marks the sector, if there is one.
-fn mark(flags: &mut [bool], sector: Option<u16>)
-    ensures { Marks sector flags.old flags.new }
-{
-    if let Some(sector) = sector {
-        if (sector as usize) < flags.len() {
-            flags[sector as usize] = true;
-        }
     }
 }
 

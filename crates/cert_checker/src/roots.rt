@@ -1,5 +1,8 @@
 //! The roots of all sources: passable lines that lead out of the source, by the side that names it.
 
+ghost use Rattle.std.specs.Prelude.{◌≡◌, option_and_then, slice_get, IfOk};
+ghost use Rattle.cert_checker.specs.Roots.{PutsFirst};
+
 use crate::web::Web;
 use mesh_shape::Mesh;
 use sight_names::{Line, Memory, Plan};
@@ -25,12 +28,14 @@ fn put(
     first: &mut [Option<usize>],
     source: u16,
     entry: u16,
-) -> Result<(), Memory> {
-    let place = roots.len();
-    if let Some(slot) = first.get_mut(source as usize) {
-        let next = *slot;
+) -> Result<(), Memory>
+    ensures { IfOk result (λ _. PutsFirst source entry roots.old.items first.old roots.new.items first.new) }
+{
+    if (source as usize) < first.len() {
+        let place = roots.len();
+        let next = first[source as usize];
         roots.push(Root { entry, next })?;
-        *slot = Some(place);
+        first[source as usize] = Some(place);
     }
     Ok(())
 }
@@ -75,7 +80,9 @@ impl Roots {
     }
 
     /// The place of the source's first root.
-    pub fn first_of(&self, source: u16) -> Option<usize> {
+    pub fn first_of(&self, source: u16) -> Option<usize>
+        ensures { result ≡ option_and_then (λ o. o) (slice_get self.now.first.items source) }
+    {
         match self.first.get(source as usize) {
             Some(place) => *place,
             None => None,
@@ -83,7 +90,9 @@ impl Roots {
     }
 
     /// The root at this place.
-    pub fn root(&self, place: Option<usize>) -> Option<Root> {
+    pub fn root(&self, place: Option<usize>) -> Option<Root>
+        ensures { result ≡ option_and_then (slice_get self.now.roots.items) place }
+    {
         self.roots.get(place?).copied()
     }
 }

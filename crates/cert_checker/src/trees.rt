@@ -1,11 +1,12 @@
 //! Trees judged in one pass: each node is asked of the walk at its place.
 
-ghost use Rattle.std.specs.Prelude.{◌≡◌, ◌≤◌, ◌<◌, ◌↔◌, None, IsTrue, length, take, slice_set, slice_index_or};
+ghost use Rattle.std.specs.Prelude.{◌≡◌, ◌≤◌, ◌<◌, ◌↔◌, ◌++◌, [], None, IsTrue, IfOk, length, take, slice_set, slice_index_or};
 ghost use Rattle.sight_names.specs.Map.{map_of, origin};
 ghost use Rattle.sight_names.specs.Splitting.{end_of as end_at};
 ghost use Rattle.block_evidence.specs.Stuck.{Blocks};
+ghost use Rattle.reject_bits.specs.Parts.{SetsPair, KeepsOtherPairs};
 ghost use Rattle.cert_checker.specs.Web.{way_outside};
-ghost use Rattle.cert_checker.specs.Path.{path_ends, frame_at, IsClosedBy};
+ghost use Rattle.cert_checker.specs.Path.{path_ends, frame_at, pending_way, to_come, longest_of, IsClosedBy};
 
 use crate::roots::Roots;
 use crate::web::{Entry, Web};
@@ -33,8 +34,10 @@ pub struct Ground<'a> {
 }
 
 /// The path buffer, for trees of at most so many nodes.
-pub fn path_of(alloc: Global, trees: &[Tree]) -> Result<Vec<Frame>, Memory> {
-    let mut longest = 0;
+pub fn path_of(alloc: Global, trees: &[Tree]) -> Result<Vec<Frame>, Memory>
+    ensures { IfOk result (λ v. length v.items ≡ longest_of trees.now) }
+{
+    let mut longest: usize = 0;
     for tree in trees {
         longest = longest.max(tree.nodes.len());
     }
@@ -68,25 +71,32 @@ fn frame_of(plan: &Plan, entry: &Entry) -> Frame
     }
 }
 
-/// The right way of the frame, the first time that it is asked.
-fn take_right(web: &Web, source: u16, frame: &mut Frame) -> Option<u16>
-    ensures way { result ≡ way_outside web.now.entries.items source frame.old.right_way }
-    ensures taken { frame.new ≡ record frame.old { right_way = None } }
+/// The frame with its right way taken.
+fn taken(frame: Frame) -> Frame
+    ensures { result ≡ record frame { right_way = None } }
 {
-    let way = frame.right_way;
-    frame.right_way = None;
-    web.outside(way, source)
+    Frame {
+        left: frame.left,
+        right: frame.right,
+        right_way: None,
+    }
 }
 
-/// The next right way on the way back, and how long the path is then.
-fn back(web: &Web, source: u16, path: &mut [Frame], length: usize) -> (Option<u16>, usize) {
-    let mut depth = length.min(path.len());
+/// The next right way on the way back along the first portals of the path, and how many it stands behind.
+fn back(web: &Web, source: u16, path: &mut [Frame], count: usize) -> (Option<u16>, usize)
+    ensures within { result.1 ≤ length path.old }
+    ensures ends { path_ends path.new ≡ path_ends path.old }
+    ensures ways { to_come web.now.entries.items source [] (take count path.old) ≡ pending_way (path_ends (take result.1 path.old)) result.0 ++ to_come web.now.entries.items source [] (take result.1 path.new) }
+{
+    let mut depth = count.min(path.len());
     while depth > 0 {
-        let way = take_right(web, source, &mut path[depth - 1]);
-        if way.is_some() {
-            return (way, depth);
+        let last = depth - 1;
+        let frame = path[last];
+        path[last] = taken(frame);
+        if let Some(way) = web.outside(frame.right_way, source) {
+            return (Some(way), depth);
         }
-        depth -= 1;
+        depth = last;
     }
     (None, 0)
 }
@@ -201,7 +211,8 @@ fn enter(
 
 /// Notes that the source reaches the sector.
 fn note(reached: &mut Table, source: u16, sector: u16)
-    ensures { reached.new.n ≡ reached.old.n }
+    ensures sectors { reached.new.n ≡ reached.old.n }
+    ensures noted { source < reached.old.n → sector < reached.old.n → SetsPair reached.old reached.new source sector × KeepsOtherPairs reached.old reached.new source sector }
 {
     let count = reached.sectors();
     if source < count && sector < count {

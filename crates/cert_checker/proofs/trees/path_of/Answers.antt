@@ -1,0 +1,11 @@
+use Rattle.std.proofs.Common.{◌≡◌, ◌+◌, length, max, take, ap, arith}
+use Rattle.cert_checker.specs.Path.{longest_of}
+use Rattle.cert_checker.proofs.Ways.{longest_step}
+use Rattle.cert_checker.proofs.trees.path_of.Goals as goal
+
+pub loop-tree-preserved : goal.loop-tree-preserved
+loop-tree-preserved c =
+    let ts = c.args.trees.now in
+    let h : longest_of (take (c.loop-tree.tree-index + 1) ts) ≡ max (longest_of (take c.loop-tree.tree-index ts)) (length c.tree-item.result.nodes) = longest_step ts c.loop-tree.tree-index c.tree-item.result c.loop-tree-test.true c.tree-item.is in
+    let n : length c.as_slice.result.now ≡ length c.tree-item.result.nodes = ap length c.as_slice.ensures in
+    omega (arith, h, n, c.max-longest.ensures, c.loop-tree.invariant)
