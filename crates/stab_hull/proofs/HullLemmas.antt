@@ -1,5 +1,5 @@
 -- The ends of portals on the stacks, and one more portal's.
-use Rattle.std.proofs.Common.{◌≡◌, ℕ, ◌+◌, ◌-◌, ◌<◌, ◌≤◌, List, [], ◌∷◌, ◌++◌, length, Option, Some, None, refl, sym, ap, ◌∙◌, arith, ◌⊎◌, inl, inr, subst, All}
+use Rattle.std.proofs.Common.{◌≡◌, ℕ, ◌+◌, ◌-◌, ◌<◌, List, [], ◌∷◌, ◌++◌, length, Some, refl, sym, ap, ◌∙◌, arith, ◌⊎◌, inl, inr, subst}
 use Rattle.std.specs.Prelude.{slice_get}
 use Rattle.std.proofs.lemmas.Option.{slice_get_within}
 use Rattle.sight_names.specs.declared.names.Pt.{Pt}
@@ -11,7 +11,7 @@ use Rattle.extreme_lines.specs.Differences.{difference}
 use Rattle.extreme_lines.specs.Spans.{Spans, first_of, second_of, pair_of}
 use Rattle.extreme_lines.proofs.EndsLemmas.{get_append, get_last, get_cases, end_of_more, left_end, right_end}
 use Rattle.stab_hull.specs.Portals.{with_ends, IsConeOf, ShowsNoLine}
-use Rattle.stab_hull.specs.Stacks.{IsAmong, HasPoint, IsPairAmong, AreStuckAmong, IsConeOfEnds, IsTopCone, IsAdded, IsLeftEnd, IsRightEnd, IsHullOf}
+use Rattle.stab_hull.specs.Stacks.{HasPoint, IsPairAmong, AreStuckAmong, IsConeOfEnds, IsTopCone, IsAdded, IsLeftEnd, IsRightEnd, IsHullOf}
 
 abbrev pub AreLeftEnds : List EndPoints → List EndAt → Type 0
 AreLeftEnds es ends = (m : ℕ) (e : EndAt) → slice_get ends m ≡ Some e → IsLeftEnd es e

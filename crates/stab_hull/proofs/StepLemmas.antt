@@ -83,8 +83,8 @@ module _ (L R : List EndAt) (left : EndAt) where
   }
 
   -- the cone has the line already
-  pub left_covered : (n : ℕ) (d : EndAt) (c : Cone) → n < length R → Spans c (difference left.at (get_or R n d).at) → IsLeftPart L R left n c → IsLeftPart L R left (n + 1) c
-  left_covered n d c l s h = left_more n (get_or R n d) c c (slice_get-get_or R n d l) (stays c left (get_or R n d) s) h
+  pub left_covered : (n : ℕ) (r : EndAt) (c : Cone) → slice_get R n ≡ Some r → Spans c (difference left.at r.at) → IsLeftPart L R left n c → IsLeftPart L R left (n + 1) c
+  left_covered n r c e s h = left_more n r c c e (stays c left r s) h
 
   pub left_stuck : (n : ℕ) (r : EndAt) (c : Cone) (pairs : List EndPair) → slice_get R n ≡ Some r → IsLeftPart L R left n c → pairs ≡ three_pairs c left r → AreBalanced (three_pairs c left r) → AreStuckAmong (L ++ left ∷ []) R pairs
   left_stuck n r c pairs e h t b = stuck_among (L ++ left ∷ []) R c left r pairs h.ends (among_last L left) (n, e) t b
@@ -129,8 +129,8 @@ module _ (L R : List EndAt) (right : EndAt) where
     has = below_more (λ k. (l : EndAt) → slice_get L k ≡ Some l → Spans d (difference l.at right.at)) n (λ k b l g. w.keeps (difference l.at right.at) (h.has k b l g)) (λ s g. subst (λ (u : EndAt). Spans d (difference u.at right.at)) (some_same l s (sym e ∙ g)) w.has);
   }
 
-  pub right_covered : (n : ℕ) (d : EndAt) (c : Cone) → n < length L → Spans c (difference (get_or L n d).at right.at) → IsRightPart L R right n c → IsRightPart L R right (n + 1) c
-  right_covered n d c l s h = right_more n (get_or L n d) c c (slice_get-get_or L n d l) (stays c (get_or L n d) right s) h
+  pub right_covered : (n : ℕ) (l : EndAt) (c : Cone) → slice_get L n ≡ Some l → Spans c (difference l.at right.at) → IsRightPart L R right n c → IsRightPart L R right (n + 1) c
+  right_covered n l c e s h = right_more n l c c e (stays c l right s) h
 
   pub right_stuck : (n : ℕ) (l : EndAt) (c : Cone) (pairs : List EndPair) → slice_get L n ≡ Some l → IsRightPart L R right n c → pairs ≡ three_pairs c l right → AreBalanced (three_pairs c l right) → AreStuckAmong L (R ++ right ∷ []) pairs
   right_stuck n l c pairs e h t b = stuck_among L (R ++ right ∷ []) c l right pairs h.ends (n, e) (among_last R right) t b

@@ -8,6 +8,7 @@ mod frame;
 mod hull;
 mod jam;
 mod keep;
+mod stacked;
 mod step;
 
 use crate::frame::Frame;
@@ -15,6 +16,7 @@ use crate::hull::Hull;
 use crate::jam::Jam;
 use crate::keep::{jam_within, widened};
 use sight_names::{EndAt, EndPair, Memory, Pt};
+use smallvec::SmallVec;
 use std::alloc::Global;
 use std::marker::Model;
 
@@ -58,8 +60,8 @@ impl Ends {
         Ends {
             frames: Vec::new(alloc),
             hull: Hull {
-                lefts: Vec::new(alloc),
-                rights: Vec::new(alloc),
+                lefts: SmallVec::new(alloc),
+                rights: SmallVec::new(alloc),
                 cones: Vec::new(alloc),
             },
             jam: None,

@@ -23,7 +23,7 @@ invariant_of-self-in_default c =
       | in-None+in_ok-stuck-in-None w ↦ rw w.stuck-is (rw w.self-inside-is (ready_free w.as_slice.result.now c.self.inside.frames.items (record { left = c.args.left; right = c.args.right }) w.widened.new.hull.lefts.items w.widened.new.hull.rights.items w.widened.new.hull.cones.items c.self.inside.jam w.in_ok-stuck-in-None.stuck w.as_slice.ensures.value w.in-None.is w.widened.ensures.kept w.in_ok-stuck-in-None.ensures.free))
     ] in
     subst (λ (fs : List Frame). IsKept fs c.match-self.self-inside.hull.lefts.items c.match-self.self-inside.hull.rights.items c.match-self.self-inside.hull.cones.items c.match-self.self-inside.jam) (sym c.in_ok-push.ensures.items)
-    (let l1 : c.len.result ≡ length c.match-self.self-inside.hull.lefts.items = (let e = c.len.ensures in grind (arith, common_steps)) in
-    let l2 : c.len-2.result ≡ length c.match-self.self-inside.hull.rights.items = (let e = c.len-2.ensures in grind (arith, common_steps)) in
+    (let l1 : c.len.result ≡ length c.match-self.self-inside.hull.lefts.items = c.len.ensures.value in
+    let l2 : c.len-2.result ≡ length c.match-self.self-inside.hull.rights.items = c.len-2.ensures.value in
     let l3 : c.len-3.result ≡ length c.match-self.self-inside.hull.cones.items = (let e = c.len-3.ensures in grind (arith, common_steps)) in
     push_ready c.match-self.self-inside.frames.items (record { left = c.args.left; right = c.args.right; lefts = c.len.result; rights = c.len-2.result; cones = c.len-3.result }) c.match-self.self-inside.hull.lefts.items c.match-self.self-inside.hull.rights.items c.match-self.self-inside.hull.cones.items c.match-self.self-inside.jam c.match-self.stuck ready c.in_default.is l1 l2 l3)

@@ -1,4 +1,4 @@
-use Rattle.std.proofs.Common.{arith, ◌≡◌, ◌-◌, ◌<◌, ℕ, List, length, get_or, Option, sym, subst, w64, to_z, of_z, to_z-of_z}
+use Rattle.std.proofs.Common.{arith, ◌≡◌, ◌<◌, ℕ, List, length, get_or, Option, sym, subst, w64, to_z, of_z, to_z-of_z}
 use Rattle.std.proofs.lemmas.Grind.{common_steps}
 use mir.Syntax.{w32}
 use Rattle.sight_names.specs.declared.names.EndPair.{EndPair}
