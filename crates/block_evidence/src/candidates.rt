@@ -1,4 +1,5 @@
-//! Sets of four ends that show at once that three pairs are stuck, where the third pair has one new end.
+//! Four of the ends of three pairs that are seen at once to be stuck. The third pair mostly has one end that is new, and
+//! one of the first or of the second pair: so there are five ends, and four sets of four of them with the new one are tried.
 
 ghost use Rattle.std.specs.Prelude.{◌∷◌, [], ◌<◌, IsTrue, IfSome};
 ghost use Rattle.block_evidence.specs.Picked.{AreAmong, Picks, both_ends};

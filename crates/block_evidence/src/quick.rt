@@ -1,4 +1,5 @@
-//! A quick test of whether four ends are stuck, by the sides on which points lie of lines through others.
+//! A quick test that shows four ends stuck: two segments share a point where the ends of each aren't on one side of the
+//! other, and a triangle has a point that is on one side of all three edges. The turns are the weights of that point.
 
 ghost use Rattle.std.specs.Prelude.{◌∷◌, [], IsTrue};
 ghost use Rattle.block_evidence.specs.Stuck.{AreStuck, HullsMeet};
@@ -55,8 +56,8 @@ fn is_covered(p: Pt, a: Pt, b: Pt, c: Pt) -> bool
     are_weights(of_a, of_b, of_c) || are_opposite(of_a, of_b, of_c)
 }
 
-/// Whether four ends, the left ones first, are stuck. False also where all of them are on one line, or where another
-/// order of the ends would have to be known.
+/// Whether four ends are seen at once to be stuck. `false` says nothing: it comes also where all of them are on one line,
+/// and where a right end comes before a left one.
 pub fn are_stuck(a: EndAt, b: EndAt, c: EndAt, d: EndAt) -> bool
     ensures { IsTrue result → AreStuck (a ∷ b ∷ c ∷ d ∷ []) }
 {
@@ -71,7 +72,7 @@ pub fn are_stuck(a: EndAt, b: EndAt, c: EndAt, d: EndAt) -> bool
     }
 }
 
-/// Whether these are four ends that the quick test shows stuck.
+/// Whether these are four ends that are seen at once to be stuck. `false` says nothing.
 pub fn shows_stuck(ends: &[EndAt]) -> bool
     ensures { IsTrue result → AreStuck ends.now }
 {
