@@ -3,3 +3,4 @@ pub mod Steps
 pub mod EdgeEnds
 pub mod SideLines
 pub mod Lookups
+pub mod Exits

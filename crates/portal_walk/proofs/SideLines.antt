@@ -11,7 +11,7 @@ use Rattle.sight_names.specs.Plan.{PlanParts, IsPlan}
 use Rattle.sight_names.specs.Map.{Map, MapLine, map_of, looked_up, line_at, named, sector_on, IsMapLine}
 use Rattle.sight_names.specs.Points.{Edge, line_edge, reverse_of}
 use Rattle.sight_names.specs.Mesh.{IsGoodMesh, triangle_at, label_of, side_edge}
-use Rattle.sight_names.specs.Sequence.{Portal, is_root, names_it}
+use Rattle.sight_names.specs.Sequence.{Portal, is_root, names_it, IsSolidLine}
 use Rattle.sight_names.proofs.PlanMap.{plan_is_map}
 use Rattle.sight_names.proofs.PlanNumbers.{line_edge_of_plan}
 use Rattle.mesh_shape.proofs.RuleLemmas.{plan_line_at}
@@ -90,6 +90,9 @@ passable_at p is k l d s e solid same edge = record {
   passable = solid;
   edge = line_side p is k l s.left e ∙ edge;
 }
+
+pub solid_at : (p : PlanParts) → IsPlan p → (k : ℕ) (l : Line) (d : Edge) (s : Side) → slice_get p.lines k ≡ Some (Some l) → l.solid ≡ true → edge_at l s.left ≡ d → IsSolidLine (map_of p) (record { left = d.from; right = d.to })
+solid_at p is k l d s e solid edge = (k, looked_up p.points l, s.left, plan_line_at p k l e, solid, line_side p is k l s.left e ∙ edge)
 
 -- ---- arrivals
 

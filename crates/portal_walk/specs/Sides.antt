@@ -6,7 +6,7 @@ use Rattle.sight_names.specs.Map.{MapLine, line_at, map_of, Names}
 use Rattle.sight_names.specs.Mesh.{label_of, side_edge}
 use Rattle.sight_names.specs.Plan.{PlanParts}
 use Rattle.sight_names.specs.Points.{Edge}
-use Rattle.sight_names.specs.Sequence.{is_root, root_portal}
+use Rattle.sight_names.specs.Sequence.{is_root, root_portal, IsSolidLine}
 use Rattle.portal_walk.specs.declared.edges.Edge.{Edge as EdgeKind}
 use Rattle.portal_walk.specs.declared.edges.Edge.TheVariants.{Free, Passable, Solid}
 use Rattle.portal_walk.specs.declared.roots.Root.{Root}
@@ -37,7 +37,7 @@ pub record IsPassableAt (p : PlanParts) (e : Edge) (s : Side) : Type 0 where
 
 abbrev pub IsEdgeKind : PlanParts → Edge → EdgeKind → Type 0
 IsEdgeKind p e Free = Unit {0}
-IsEdgeKind p e Solid = Unit {0}
+IsEdgeKind p e Solid = IsSolidLine (map_of p) (record { left = e.from; right = e.to })
 IsEdgeKind p e (Passable s) = IsPassableAt p e s
 
 -- a side of a passable line, which names a sector of the plan, the label of this triangle

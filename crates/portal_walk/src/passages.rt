@@ -1,7 +1,7 @@
 //! The portals by which a walk comes into triangles, each looked up once.
 
-ghost use Rattle.std.specs.Prelude.{◌≡◌, ◌≢◌, ◌*◌, ◌<◌, ◌≤◌, ◌↔◌, IsTrue, IfOk, IfSome, OnOk, Some, length};
-ghost use Rattle.portal_walk.specs.Passages.{IsEntry, IsPassage, Keeps, LeadsWithin};
+ghost use Rattle.std.specs.Prelude.{◌≡◌, ◌*◌, ◌<◌, ◌≤◌, ◌↔◌, IsTrue, IfOk, IfSome, Some, [], length, slice_get};
+ghost use Rattle.portal_walk.specs.Passages.{Finds, FindsWay, IsAt, IsPassage, Keeps, exit_of as exit_from, known_at, leads_to, noted, portal_of};
 ghost use Rattle.sight_names.specs.Map.{map_of};
 ghost use Rattle.sight_names.specs.Mesh.{IsGoodMesh, label_of};
 ghost use Rattle.sight_names.specs.Sequence.{third_point as third_of};
@@ -19,13 +19,16 @@ pub enum Turn {
     Right,
 }
 
-/// A portal by which one comes into a triangle that isn't one of the source.
+/// A portal by which one comes into a triangle that isn't one of the source: the numbers of its ends and of the third
+/// point of the triangle, its ends, the triangle, and the side where one arrives, if the portal is a line.
 #[derive(Clone, Copy, Debug)]
 pub struct Passage {
-    pub left: Pt,
-    pub right: Pt,
+    pub left: u16,
+    pub right: u16,
+    pub apex: u16,
+    pub left_at: Pt,
+    pub right_at: Pt,
     pub triangle: u16,
-    /// The side where one arrives, if the portal is a line.
     pub entered: Option<Side>,
 }
 
@@ -40,19 +43,15 @@ pub enum Way {
     Open(u16),
 }
 
-/// A passage, the point numbers of its portal, the third point of its triangle, and the ways out.
+/// What is known of the two ways out of a triangle that was entered.
 #[derive(Clone, Copy, Debug)]
-pub struct Entry {
-    pub passage: Passage,
-    pub left: u16,
-    pub right: u16,
-    pub apex: u16,
-    pub left_way: Way,
-    pub right_way: Way,
+pub struct Exits {
+    pub left: Way,
+    pub right: Way,
 }
 
-/// The passages of a source that were looked up; a contract sees how many there are. `slots` has an entry for each
-/// corner of a triangle, the start of a directed edge: the number of the edge's passage and one more, or 0.
+/// The passages of a source that were looked up; a contract sees the list of them. `slots` has an entry for each corner
+/// of a triangle, where a directed edge starts: the number of that edge's passage and one more, or 0.
 #[derive(Drop)]
 pub struct Passages<'a> {
     plan: &'a Plan,
@@ -60,19 +59,19 @@ pub struct Passages<'a> {
     labels: &'a Labels,
     source: u16,
     lines: LineIndex,
-    entries: Vec<Entry>,
+    passages: Vec<Passage>,
+    exits: Vec<Exits>,
     slots: Vec<u16>,
 }
 
 impl<'a> Model for Passages<'a> {
     ghost use Rattle.portal_walk.specs.Passages.{PassagesParts, ArePassages};
-    ghost use Rattle.std.specs.Prelude.{length};
 
     ghost Value = { PassagesParts };
 
-    ghost view = { λ p. record { plan = p.plan.now; mesh = p.mesh.now; labels = p.labels.now; source = p.source; count = length p.entries.items } };
+    ghost view = { λ p. record { plan = p.plan.now; mesh = p.mesh.now; labels = p.labels.now; source = p.source; passages = p.passages.items } };
 
-    ghost invariant = { λ p. ArePassages (record { plan = p.plan.now; mesh = p.mesh.now; labels = p.labels.now; source = p.source; count = length p.entries.items }) p.entries.items p.slots.items };
+    ghost invariant = { λ p. ArePassages (record { plan = p.plan.now; mesh = p.mesh.now; labels = p.labels.now; source = p.source; passages = p.passages.items }) p.exits.items p.slots.items };
 }
 
 /// The third point of a triangle that has the directed edge from `from` to `to`.
@@ -109,6 +108,49 @@ fn is_labelled(labels: &Labels, triangle: u16, sector: u16) -> bool
     labels.get(triangle) == Some(sector)
 }
 
+/// The ends of the portal of a way out of the triangle.
+fn exit_of(passage: Passage, turn: Turn) -> (u16, u16)
+    ensures { exit_from passage turn ≡ record { left = result.0; right = result.1 } }
+{
+    match turn {
+        Turn::Left => (passage.left, passage.apex),
+        Turn::Right => (passage.apex, passage.right),
+    }
+}
+
+/// What is known of a way out.
+fn way_at(exits: Exits, turn: Turn) -> Way
+    ensures { result ≡ known_at exits turn }
+{
+    match turn {
+        Turn::Left => exits.left,
+        Turn::Right => exits.right,
+    }
+}
+
+/// What is known of a way out, once it was looked up.
+fn way_to(found: Option<u16>) -> Way
+    ensures { result ≡ leads_to found }
+{
+    match found {
+        Some(number) => Way::Open(number),
+        None => Way::Closed,
+    }
+}
+
+/// The exits with this known of a way out.
+fn with_way(exits: Exits, turn: Turn, way: Way) -> Exits
+    ensures { result ≡ noted exits turn way }
+{
+    match turn {
+        Turn::Left => Exits { left: way, ..exits },
+        Turn::Right => Exits {
+            right: way,
+            ..exits
+        },
+    }
+}
+
 impl<'a> Passages<'a> {
     /// No passage yet.
     pub fn new(
@@ -120,7 +162,7 @@ impl<'a> Passages<'a> {
     ) -> Result<Passages<'a>, Memory>
         requires points { mesh.now.points ≡ length plan.now.points }
         requires good { IsGoodMesh (map_of plan.now) mesh.now.triangles labels.now }
-        ensures { IfOk result (λ p. p ≡ record { plan = plan.now; mesh = mesh.now; labels = labels.now; source = source; count = 0 }) }
+        ensures { IfOk result (λ p. p ≡ record { plan = plan.now; mesh = mesh.now; labels = labels.now; source = source; passages = [] }) }
     {
         Ok(Passages {
             plan,
@@ -128,7 +170,8 @@ impl<'a> Passages<'a> {
             labels,
             source,
             lines: LineIndex::of(alloc, plan)?,
-            entries: Vec::new(alloc),
+            passages: Vec::new(alloc),
+            exits: Vec::new(alloc),
             slots: vec![in alloc; 0; 3 * mesh.triangles().len()]?,
         })
     }
@@ -150,24 +193,21 @@ impl<'a> Passages<'a> {
 
     /// The passage with this number.
     pub fn get(&self, number: u16) -> Passage
-        requires { number < self.now.count }
-        ensures { IsPassage self.now.plan self.now.mesh.triangles self.now.labels self.now.source result }
+        requires { number < length self.now.passages }
+        ensures number { slice_get self.now.passages number ≡ Some result }
+        ensures passage { IsPassage self.now.plan self.now.mesh.triangles self.now.labels self.now.source result }
     {
-        self.entries[number as usize].passage
+        self.passages[number as usize]
     }
 
     /// The number of the passage out of the triangle of this one; None where one can't leave by this way.
     pub fn way(&mut self, from: u16, turn: Turn) -> Result<Option<u16>, Memory>
-        requires { from < self.old.count }
+        requires { from < length self.old.passages }
         ensures keeps { Keeps self.old self.new }
-        ensures within { IfOk result (λ way. IfSome way (λ number. number < self.new.count)) }
+        ensures found { IfOk result (FindsWay self.old self.new from turn) }
+        ensures within { IfOk result (λ way. IfSome way (λ number. number < length self.new.passages)) }
     {
-        let entry = self.entries[from as usize];
-        let way = match turn {
-            Turn::Left => entry.left_way,
-            Turn::Right => entry.right_way,
-        };
-        match way {
+        match way_at(self.exits[from as usize], turn) {
             Way::Closed => Ok(None),
             Way::Open(number) => Ok(Some(number)),
             Way::Unknown => self.find_way(from, turn),
@@ -176,46 +216,32 @@ impl<'a> Passages<'a> {
 
     /// The same, looked up and noted.
     fn find_way(&mut self, from: u16, turn: Turn) -> Result<Option<u16>, Memory>
-        requires { from < self.old.count }
+        requires { from < length self.old.passages }
         ensures keeps { Keeps self.old self.new }
-        ensures within { IfOk result (λ way. IfSome way (λ number. number < self.new.count)) }
+        ensures found { IfOk result (FindsWay self.old self.new from turn) }
+        ensures within { IfOk result (λ way. IfSome way (λ number. number < length self.new.passages)) }
     {
-        let entry = self.entries[from as usize];
-        let found = match turn {
-            Turn::Left => self.at(entry.left, entry.apex)?,
-            Turn::Right => self.at(entry.apex, entry.right)?,
-        };
-        let way = match found {
-            Some(number) => Way::Open(number),
-            None => Way::Closed,
-        };
-        self.note(from, turn, way);
+        let (left, right) = exit_of(self.passages[from as usize], turn);
+        let found = self.at(left, right)?;
+        self.note(from, turn, found);
         Ok(found)
     }
 
-    /// Notes what a way out is.
-    fn note(&mut self, from: u16, turn: Turn, way: Way)
-        requires from { from < self.old.count }
-        requires way { LeadsWithin self.old.count way }
+    /// Notes what was found of a way out.
+    fn note(&mut self, from: u16, turn: Turn, found: Option<u16>)
+        requires from { from < length self.old.passages }
+        requires found { FindsWay self.old self.old from turn found }
         ensures { self.new ≡ self.old }
     {
-        let entry = self.entries[from as usize];
-        self.entries[from as usize] = match turn {
-            Turn::Left => Entry {
-                left_way: way,
-                ..entry
-            },
-            Turn::Right => Entry {
-                right_way: way,
-                ..entry
-            },
-        };
+        let exits = self.exits[from as usize];
+        self.exits[from as usize] = with_way(exits, turn, way_to(found));
     }
 
     /// The number of the passage by the portal with these ends; None where one can't enter by it.
     pub fn at(&mut self, left: u16, right: u16) -> Result<Option<u16>, Memory>
         ensures keeps { Keeps self.old self.new }
-        ensures within { IfOk result (λ way. IfSome way (λ number. number < self.new.count)) }
+        ensures found { IfOk result (Finds self.new (record { left = left; right = right })) }
+        ensures within { IfOk result (λ way. IfSome way (λ number. number < length self.new.passages)) }
     {
         let Some(triangle) = self.mesh.triangle_at(left, right) else {
             return Ok(None);
@@ -225,9 +251,8 @@ impl<'a> Passages<'a> {
         }
         let t = self.mesh.triangles()[triangle as usize];
         let slot = 3 * triangle as usize + corner_of(t, left);
-        let known = self.slots[slot];
-        if known > 0 {
-            return Ok(Some(known - 1));
+        if let Some(number) = self.known(slot, left, right) {
+            return Ok(Some(number));
         }
         let entered = match self.lines.edge(self.plan, left, right) {
             Edge::Solid => return Ok(None),
@@ -236,39 +261,61 @@ impl<'a> Passages<'a> {
         };
         let points = self.plan.points();
         let passage = Passage {
-            left: points[left as usize],
-            right: points[right as usize],
+            left,
+            right,
+            apex: third_point(t, left, right),
+            left_at: points[left as usize],
+            right_at: points[right as usize],
             triangle,
             entered,
         };
-        let number = self.add(
-            slot,
-            Entry {
-                passage,
-                left,
-                right,
-                apex: third_point(t, left, right),
-                left_way: Way::Unknown,
-                right_way: Way::Unknown,
-            },
-        )?;
+        let number = self.add(slot, passage)?;
         Ok(Some(number))
     }
 
-    /// Adds an entry for the directed edge of this slot, and answers its number.
-    fn add(&mut self, slot: usize, entry: Entry) -> Result<u16, Memory>
+    /// The number of the passage by the portal with these ends, which is the directed edge of this slot, where there is
+    /// one.
+    fn known(&self, slot: usize, left: u16, right: u16) -> Option<u16>
+        requires { slot < 3 * length self.now.mesh.triangles }
+        ensures { IfSome result (IsAt self.now.passages (record { left = left; right = right })) }
+    {
+        let number = self.slots[slot];
+        if number == 0 {
+            return None;
+        }
+        let passage = self.passages.as_slice().get(number as usize - 1).copied()?;
+        if passage.left == left && passage.right == right {
+            Some(number - 1)
+        } else {
+            None
+        }
+    }
+
+    /// Adds the passage by the directed edge of this slot, and answers its number.
+    fn add(&mut self, slot: usize, passage: Passage) -> Result<u16, Memory>
         requires slot { slot < 3 * length self.old.mesh.triangles }
-        requires entry { IsEntry self.old.plan self.old.mesh.triangles self.old.labels self.old.source self.old.count entry }
+        requires passage { IsPassage self.old.plan self.old.mesh.triangles self.old.labels self.old.source passage }
         ensures keeps { Keeps self.old self.new }
-        ensures within { IfOk result (λ number. number < self.new.count) }
+        ensures found { IfOk result (IsAt self.new.passages (portal_of passage)) }
     {
         // each directed edge is added once, so there is always room
-        if self.entries.len() > 3 * self.mesh.triangles().len() {
+        if self.passages.len() > 3 * self.mesh.triangles().len() {
             return Err(Memory);
         }
-        let number = self.entries.len() as u16;
-        self.entries.push(entry)?;
-        self.slots[slot] = number + 1;
-        Ok(number)
+        let number = self.passages.len() as u16;
+        self.exits.push(Exits {
+            left: Way::Unknown,
+            right: Way::Unknown,
+        })?;
+        match self.passages.push(passage) {
+            Ok(()) => {
+                self.slots[slot] = number + 1;
+                Ok(number)
+            }
+            Err(_) => {
+                let _ = self.exits.pop();
+                Err(Memory)
+            }
+        }
     }
 }

@@ -27,13 +27,14 @@ pub struct Walker<'a> {
 }
 
 impl<'a> Model for Walker<'a> {
+    ghost use Rattle.std.specs.Prelude.{length};
     ghost use Rattle.portal_walk.specs.Walk.{WalkParts, IsWalk};
 
     ghost Value = { WalkParts };
 
-    ghost view = { λ w. record { plan = w.passages.plan; mesh = w.passages.mesh; labels = w.passages.labels; source = w.passages.source; known = w.passages.count; roots = w.roots.items; root = w.root; frames = w.path; nodes = w.nodes } };
+    ghost view = { λ w. record { plan = w.passages.plan; mesh = w.passages.mesh; labels = w.passages.labels; source = w.passages.source; known = length w.passages.passages; roots = w.roots.items; root = w.root; frames = w.path; nodes = w.nodes } };
 
-    ghost invariant = { λ w. IsWalk (record { plan = w.passages.plan; mesh = w.passages.mesh; labels = w.passages.labels; source = w.passages.source; known = w.passages.count; roots = w.roots.items; root = w.root; frames = w.path; nodes = w.nodes }) };
+    ghost invariant = { λ w. IsWalk (record { plan = w.passages.plan; mesh = w.passages.mesh; labels = w.passages.labels; source = w.passages.source; known = length w.passages.passages; roots = w.roots.items; root = w.root; frames = w.path; nodes = w.nodes }) };
 }
 
 impl<'a> Walker<'a> {
@@ -207,7 +208,7 @@ impl<'a> Walker<'a> {
             passage: number,
             ways: Ways::Both,
         };
-        match self.path.enter(frame, portal.left, portal.right)? {
+        match self.path.enter(frame, portal.left_at, portal.right_at)? {
             Split::Line { a, b, c } => {
                 match self.nodes.push(Node::Open) {
                     Ok(()) => {

@@ -1,11 +1,14 @@
-use Rattle.std.proofs.Common.{◌≡◌, ◌<◌, List, sym, ap, subst, arith, length, slice_index_or, Bool, false, IsTrue}
+use Rattle.std.proofs.Common.{◌≡◌, ◌<◌, inr, List, sym, ap, subst, arith, length, slice_index_or, slice_get, Bool, false, IsTrue, ℕ, Option, Some, ◌∙◌, option_map, option_and_then}
+use Rattle.std.proofs.lemmas.Option.{slice_get-get_or, slice_get_within}
 use Rattle.sight_names.specs.declared.names.Pt.{Pt}
+use Rattle.sight_names.specs.declared.names.Triangle.{Triangle}
+use Rattle.sight_names.specs.Mesh.{triangle_at}
+use Rattle.sight_names.specs.Points.{Edge}
+use Rattle.sight_names.specs.Sequence.{apex, third_point}
 use Rattle.sight_names.specs.Map.{origin}
 use Rattle.sight_names.proofs.PlanMap.{points_differ}
-use Rattle.portal_walk.specs.declared.passages.Entry.{Entry}
 use Rattle.portal_walk.specs.declared.passages.Passage.{Passage}
-use Rattle.portal_walk.specs.declared.passages.Way.TheVariants.{Unknown}
-use Rattle.portal_walk.specs.Passages.{PassagesParts, IsEntry}
+use Rattle.portal_walk.specs.Passages.{PassagesParts, IsPassage, IsClosed}
 use Rattle.portal_walk.specs.Sides.{ArrivesAt}
 use Rattle.portal_walk.proofs.EdgeEnds.{edge_ends, triangle_within}
 use Rattle.portal_walk.proofs.SideLines.{arrival, arrives, arrives_nowhere}
@@ -27,31 +30,43 @@ bounds-points-right c =
 clash : (b : Bool) → IsTrue b → b ≡ false → ⊥
 clash b h k = cc
 
-pub add-requires-clause-entry : goal.add-requires-clause-entry
-add-requires-clause-entry c =
+pub returns-in-Solid-clause-found : goal.returns-in-Solid-clause-found
+returns-in-Solid-clause-found c = subst (λ (p : PassagesParts). IsClosed p (record { left = c.args.left; right = c.args.right })) c.self.view_is (inr (inr c.in-Solid.ensures))
+
+pub returns-clause-within : goal.returns-clause-within
+returns-clause-within c = slice_get_within c.add.new.self.passages c.in_ok-number.number c.in_ok-number.ensures.found.0 c.in_ok-number.ensures.found.1
+
+pub add-requires-clause-passage : goal.add-requires-clause-passage
+add-requires-clause-passage c =
     let inside = c.self.inside in
     let plan = inside.plan.now in
+    let ts = inside.mesh.now.triangles in
     let k = c.in-Some.triangle in
-    let ends = edge_ends inside.mesh.now.points inside.mesh.now.triangles c.args.left c.args.right k c.triangles.ensures.triangles (sym c.in-Some.ensures) in
+    let edge : Edge = record { from = c.args.left; to = c.args.right } in
+    let at : triangle_at ts edge ≡ Some k = sym c.in-Some.ensures in
+    let within : k < length ts = triangle_within ts edge k at in
+    let ends = edge_ends inside.mesh.now.points ts c.args.left c.args.right k c.triangles.ensures.triangles at in
     let l : c.args.left < length plan.points = omega (arith, ends.0, c.self.invariant.points) in
     let r : c.args.right < length plan.points = omega (arith, ends.1, c.self.invariant.points) in
     let arrived : ArrivesAt plan inside.labels.now k c.match-edge.entered =
     elim c.match-edge.branch [
       | in-Passable w ↦ arrives plan inside.labels.now k c.match-edge.entered w.in-Passable.side w.entered-is
-          (arrival plan c.points-points.ensures.plan inside.mesh.now.triangles inside.labels.now c.self.invariant.good (record { from = c.args.left; to = c.args.right }) k w.in-Passable.side w.in-Passable.ensures (sym c.in-Some.ensures))
+          (arrival plan c.points-points.ensures.plan ts inside.labels.now c.self.invariant.good edge k w.in-Passable.side w.in-Passable.ensures at)
       | in-Free w ↦ arrives_nowhere plan inside.labels.now k c.match-edge.entered w.entered-is
     ] in
     let points = c.points-points.result.now in
-    let passage : Passage = record { left = slice_index_or points c.args.left origin; right = slice_index_or points c.args.right origin; triangle = k; entered = c.match-edge.entered } in
-    let entry : Entry = record { passage = passage; left = c.args.left; right = c.args.right; apex = c.third_point.result; left_way = Unknown; right_way = Unknown } in
-    subst (λ (p : PassagesParts). IsEntry p.plan p.mesh.triangles p.labels p.source p.count entry) c.self.view_is
+    let passage : Passage = record { left = c.args.left; right = c.args.right; apex = c.third_point.result; left_at = slice_index_or points c.args.left origin; right_at = slice_index_or points c.args.right origin; triangle = k; entered = c.match-edge.entered } in
+    subst (λ (p : PassagesParts). IsPassage p.plan p.mesh.triangles p.labels p.source passage) c.self.view_is
     (record {
-      passage = record {
-        proper = λ same. points_differ plan c.points-points.ensures.plan c.args.left c.args.right l r ends.2 (subst (λ (ps : List Pt). slice_index_or ps c.args.left origin ≡ slice_index_or ps c.args.right origin) c.points-points.ensures.list same);
-        within = triangle_within inside.mesh.now.triangles _ k (sym c.in-Some.ensures);
-        outside = λ h. clash c.is_labelled.result (c.is_labelled.ensures.1 h) c.if-is_labelled.false;
-        arrives = arrived;
-      };
-      left = tt;
-      right = tt;
+      triangle = at;
+      within = within;
+      outside = λ h. clash c.is_labelled.result (c.is_labelled.ensures.1 h) c.if-is_labelled.false;
+      third = third_of_edge ts edge k _ c.third_point.result at (slice_get-get_or ts k _ within) (c.third_point.ensures ∙ ap (λ (us : List Triangle). third_point edge (slice_index_or us k _)) c.triangles.ensures.list);
+      left_at = ap (λ (ps : List Pt). slice_index_or ps c.args.left origin) c.points-points.ensures.list;
+      right_at = ap (λ (ps : List Pt). slice_index_or ps c.args.right origin) c.points-points.ensures.list;
+      proper = λ same. points_differ plan c.points-points.ensures.plan c.args.left c.args.right l r ends.2 (subst (λ (ps : List Pt). slice_index_or ps c.args.left origin ≡ slice_index_or ps c.args.right origin) c.points-points.ensures.list same);
+      arrives = arrived;
     })
+  where
+    third_of_edge : (ts : List Triangle) (e : Edge) (k : ℕ) (t : Triangle) (r : ℕ) → triangle_at ts e ≡ Some k → slice_get ts k ≡ Some t → r ≡ third_point e t → apex ts (record { left = e.from; right = e.to }) ≡ Some r
+    third_of_edge ts e k t r h g f = ap (λ (o : Option ℕ). option_map (third_point e) (option_and_then (slice_get ts) o)) h ∙ ap (option_map (third_point e)) g ∙ ap Some (sym f)

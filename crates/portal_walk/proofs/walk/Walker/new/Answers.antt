@@ -1,4 +1,4 @@
-use Rattle.std.proofs.Common.{None, sym, subst}
+use Rattle.std.proofs.Common.{None, [], sym, subst}
 use Rattle.portal_walk.specs.Passages.{PassagesParts}
 use Rattle.portal_walk.specs.Walk.{IsWalk}
 use Rattle.portal_walk.proofs.Lookups.{walk_over, walk_begins}
@@ -6,7 +6,7 @@ use Rattle.portal_walk.proofs.walk.Walker.new.Goals as goal
 
 pub invariant_of-result : goal.invariant_of-result
 invariant_of-result c =
-    let p : PassagesParts = record { plan = c.args.plan.now; mesh = c.args.mesh.now; labels = c.args.labels.now; source = c.args.source; count = 0 } in
+    let p : PassagesParts = record { plan = c.args.plan.now; mesh = c.args.mesh.now; labels = c.args.labels.now; source = c.args.source; passages = [] } in
     let roots = c.in_ok-roots_of.field-0.items in
     subst (λ (q : PassagesParts). IsWalk (walk_over q roots None c.new-2.result c.new-3.result)) (sym c.in_ok-new.ensures)
     (walk_begins p roots c.new-2.result c.new-3.result c.requires.audited c.requires.points c.requires.good c.requires.source c.in_ok-roots_of.ensures c.new-2.ensures c.new-3.ensures)

@@ -45,7 +45,7 @@ returns-in-Ok-clause-tries c =
     let v = c.self-2.view_is in
     let last = sym c.last.ensures.value ∙ sym c.in-Some.ensures in
     let some = slice_get_within c.as_slice.result.now _ c.in-Some.root last in
-    let new : WalkParts = record { plan = s.passages.plan; mesh = s.passages.mesh; labels = s.passages.labels; source = s.passages.source; known = s.passages.count; roots = c.pop.new.self.items; root = s.root; frames = s.path; nodes = s.nodes } in
+    let new : WalkParts = record { plan = s.passages.plan; mesh = s.passages.mesh; labels = s.passages.labels; source = s.passages.source; known = length s.passages.passages; roots = c.pop.new.self.items; root = s.root; frames = s.path; nodes = s.nodes } in
     let there : 0 < length s.roots.items = omega (arith, some, ap length c.as_slice.ensures.value, ap (λ (w : WalkParts). length w.roots) c.self.view_is, ap (λ (w : WalkParts). length w.roots) v, ap length (enters_roots c.args.self.now c.enter_root.new.self _ c.in-Ok.step c.in-Ok.ensures.enters)) in
     root_tried c.args.self.now c.enter_root.new.self new c.in-Some.root.side c.in-Ok.ensures.walk
     (record { plan = ap (λ (w : WalkParts). w.plan) v; mesh = ap (λ (w : WalkParts). w.mesh) v; labels = ap (λ (w : WalkParts). w.labels) v; source = ap (λ (w : WalkParts). w.source) v })

@@ -17,7 +17,7 @@ returns-in-Ok-clause-tries c =
     let s = c.self-2.inside in
     let v = c.self-2.view_is in
     let g : Frame = record { passage = c.args.frame.passage; ways = c.args.ways } in
-    let new : WalkParts = record { plan = s.passages.plan; mesh = s.passages.mesh; labels = s.passages.labels; source = s.passages.source; known = s.passages.count; roots = s.roots.items; root = s.root; frames = c.set.new.self; nodes = s.nodes } in
+    let new : WalkParts = record { plan = s.passages.plan; mesh = s.passages.mesh; labels = s.passages.labels; source = s.passages.source; known = length s.passages.passages; roots = s.roots.items; root = s.root; frames = c.set.new.self; nodes = s.nodes } in
     let at : c.len-at.result - 1 ≡ length c.args.self.now.frames - 1 = ap (λ (n : ℕ). n - 1) (c.len-at.ensures ∙ ap (λ (w : WalkParts). length w.frames) c.self.view_is) in
     let below : 0 < length c.self.inside.path = omega (arith, ap (λ (w : WalkParts). length w.frames) c.self.view_is, there c.args.self.now.frames _ c.args.frame c.requires.top) in
     way_tried c.args.self.now c.enter_way.new.self new c.args.frame g c.in-Ok.ensures.walk
