@@ -3,7 +3,7 @@
 ghost use Rattle.sight_names.specs.Map.{map_of};
 ghost use Rattle.sight_names.specs.Sound.{LinesMeetAtEnds};
 
-use block_evidence::Node;
+use block_evidence::{Node, Nodes};
 use map_audit::audit_lines;
 use pair_budget::{Alone, Outcome, SourceResult, walk_source};
 use sight_job::faces_of;
@@ -68,7 +68,7 @@ fn walked(
 }
 
 // The nodes are as many open ones as this, and behind them as many blocked ones.
-fn has_nodes(nodes: &[Node], open: usize, blocked: usize) -> bool {
+fn has_nodes(nodes: &Nodes, open: usize, blocked: usize) -> bool {
     nodes.len() == open.wrapping_add(blocked)
         && nodes
             .iter()
@@ -80,7 +80,7 @@ fn has_nodes(nodes: &[Node], open: usize, blocked: usize) -> bool {
             .all(|node| matches!(node, Node::Blocked(_)))
 }
 
-fn count_open(nodes: &[Node]) -> usize {
+fn count_open(nodes: &Nodes) -> usize {
     nodes
         .iter()
         .filter(|node| matches!(node, Node::Open))
@@ -106,7 +106,7 @@ fn is_walk_of_u(alloc: Global) -> Result<bool, Memory> {
         reached.to == 1
             && reached.ray.first == side(5, true)
             && reached.ray.last == side(5, false)
-            && has_nodes(tree.nodes.as_slice(), 4, 1),
+            && has_nodes(&tree.nodes, 4, 1),
     )
 }
 
@@ -119,7 +119,7 @@ fn has_four(alloc: Global, source: u16) -> Result<bool, Memory> {
         return Ok(false);
     };
     let counted = match &full.outcome {
-        Outcome::Complete(tree) => count_open(tree.nodes.as_slice()) == 4,
+        Outcome::Complete(tree) => count_open(&tree.nodes) == 4,
         _ => false,
     };
     Ok(
