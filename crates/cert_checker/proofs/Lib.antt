@@ -11,3 +11,5 @@ pub mod Ends
 pub mod Walls
 pub mod Entries
 pub mod Ways
+pub mod Nexts
+pub mod Entering

@@ -23,7 +23,7 @@ last_first xs source path (g ∷ fs) f =
     ∙ ap (λ (es : List EndPoints). pending_way es (way_outside xs source f.right_way) ++ to_come xs source path (g ∷ fs)) (append_assoc path (portal_ends g ∷ []) (path_ends (fs ++ f ∷ [])))
 
 -- the first so many frames, the last of them apart
-back_one : (xs : List Entry) (source : ℕ) (path : List Frame) (d : ℕ) (f : Frame) → d < length path → f ≡ get_or path d f → to_come xs source [] (take (d + 1) path) ≡ pending_way (path_ends (take (d + 1) path)) (way_outside xs source f.right_way) ++ to_come xs source [] (take d path)
+pub back_one : (xs : List Entry) (source : ℕ) (path : List Frame) (d : ℕ) (f : Frame) → d < length path → f ≡ get_or path d f → to_come xs source [] (take (d + 1) path) ≡ pending_way (path_ends (take (d + 1) path)) (way_outside xs source f.right_way) ++ to_come xs source [] (take d path)
 back_one xs source path d f l e = subst (λ (fs : List Frame). to_come xs source [] fs ≡ pending_way (path_ends fs) (way_outside xs source f.right_way) ++ to_come xs source [] (take d path)) (sym (take_more path d f l ∙ ap (λ (g : Frame). take d path ++ g ∷ []) (sym e))) (last_first xs source [] (take d path) f)
 
 abbrev pub taken : Frame → Frame
@@ -53,7 +53,7 @@ back_start xs source old all d e = record { within = omega arith; ends = refl; w
       | inr h ↦ ap (λ (n : ℕ). take n old) (omega arith)
     ]
 
-ends_take : (path old : List Frame) (d : ℕ) → path_ends path ≡ path_ends old → path_ends (take d path) ≡ path_ends (take d old)
+pub ends_take : (path old : List Frame) (d : ℕ) → path_ends path ≡ path_ends old → path_ends (take d path) ≡ path_ends (take d old)
 ends_take path old d e = sym (take-map portal_ends d path) ∙ ap (take d) e ∙ take-map portal_ends d old
 
 pub back_step : (xs : List Entry) (source : ℕ) (old path : List Frame) (all d k : ℕ) (f : Frame) → d ≡ k + 1 → slice_get path k ≡ Some f → IsBackTo xs source old path all d → None ≡ way_outside xs source f.right_way → IsBackTo xs source old (set path k (taken f)) all k

@@ -1,12 +1,12 @@
 //! Trees judged in one pass: each node is asked of the walk at its place.
 
-ghost use Rattle.std.specs.Prelude.{◌≡◌, ◌≤◌, ◌<◌, ◌↔◌, ◌++◌, [], None, IsTrue, IfOk, length, take, slice_set, slice_index_or};
+ghost use Rattle.std.specs.Prelude.{◌≡◌, ◌≤◌, ◌<◌, ◌↔◌, ◌++◌, [], None, IsTrue, IfNone, IfOk, length, take, slice_set, slice_index_or};
 ghost use Rattle.sight_names.specs.Map.{map_of, origin};
 ghost use Rattle.sight_names.specs.Splitting.{end_of as end_at};
 ghost use Rattle.block_evidence.specs.Stuck.{Blocks};
 ghost use Rattle.reject_bits.specs.Parts.{SetsPair, KeepsOtherPairs};
 ghost use Rattle.cert_checker.specs.Web.{way_outside};
-ghost use Rattle.cert_checker.specs.Path.{path_ends, frame_at, pending_way, to_come, longest_of, IsClosedBy};
+ghost use Rattle.cert_checker.specs.Path.{path_ends, frame_at, pending_way, to_come, longest_of, AsksRoot, EntersThrough, IsClosedBy, TakesNext};
 
 use crate::roots::Roots;
 use crate::web::{Entry, Web};
@@ -85,6 +85,7 @@ fn taken(frame: Frame) -> Frame
 /// The next right way on the way back along the first portals of the path, and how many it stands behind.
 fn back(web: &Web, source: u16, path: &mut [Frame], count: usize) -> (Option<u16>, usize)
     ensures within { result.1 ≤ length path.old }
+    ensures none { IfNone result.0 (result.1 ≡ 0) }
     ensures ends { path_ends path.new ≡ path_ends path.old }
     ensures ways { to_come web.now.entries.items source [] (take count path.old) ≡ pending_way (path_ends (take result.1 path.old)) result.0 ++ to_come web.now.entries.items source [] (take result.1 path.new) }
 {
@@ -173,21 +174,37 @@ struct Follow {
     root: Option<usize>,
 }
 
+/// The entry of the root at this place, and the place of the next one.
+fn next_root(roots: &Roots, root: Option<usize>) -> (Option<u16>, Option<usize>)
+    ensures { AsksRoot roots.now.roots.items root result.0 result.1 }
+{
+    match roots.root(root) {
+        Some(found) => (Some(found.entry), found.next),
+        None => (None, root),
+    }
+}
+
 /// The entry that is asked next: the next right way, or else the next root.
 fn next_asked(
     ground: &Ground<'_>,
     source: u16,
     path: &mut [Frame],
     follow: &mut Follow,
-) -> Option<u16> {
+) -> Option<u16>
+    ensures ends { path_ends path.new ≡ path_ends path.old }
+    ensures depth { follow.new.depth ≤ length path.old }
+    ensures next { TakesNext ground.now.web.now.entries.items ground.now.roots.now.roots.items source path.old follow.old.depth follow.old.root path.new follow.new.depth follow.new.root result }
+{
     let (way, depth) = back(ground.web, source, path, follow.depth);
     follow.depth = depth;
-    if way.is_some() {
-        return way;
+    match way {
+        Some(way) => Some(way),
+        None => {
+            let (asked, next) = next_root(ground.roots, follow.root);
+            follow.root = next;
+            asked
+        }
     }
-    let root = ground.roots.root(follow.root)?;
-    follow.root = root.next;
-    Some(root.entry)
 }
 
 /// Goes through the entry, and gives what is asked next.
@@ -197,15 +214,16 @@ fn enter(
     path: &mut [Frame],
     follow: &mut Follow,
     entry: &Entry,
-) -> Option<u16> {
-    if put(ground.plan, path, follow.depth, entry) {
-        follow.depth += 1;
+) -> Option<u16>
+    ensures { follow.old.depth < length path.old → EntersThrough (map_of ground.now.plan.now) ground.now.web.now.entries.items ground.now.roots.now.roots.items source path.old follow.old.depth follow.old.root entry.now path.new follow.new.depth follow.new.root result }
+{
+    if !put(ground.plan, path, follow.depth, entry) {
+        return None;
     }
-    let left_way = ground.web.outside(entry.left_way, source);
-    if left_way.is_some() {
-        left_way
-    } else {
-        next_asked(ground, source, path, follow)
+    follow.depth += 1;
+    match ground.web.outside(entry.left_way, source) {
+        Some(way) => Some(way),
+        None => next_asked(ground, source, path, follow),
     }
 }
 
