@@ -7,5 +7,5 @@ pub loop-tree-preserved : goal.loop-tree-preserved
 loop-tree-preserved c =
     let ts = c.args.trees.now in
     let h : longest_of (take (c.loop-tree.tree-index + 1) ts) ≡ max (longest_of (take c.loop-tree.tree-index ts)) (length c.tree-item.result.nodes) = longest_step ts c.loop-tree.tree-index c.tree-item.result c.loop-tree-test.true c.tree-item.is in
-    let n : length c.as_slice.result.now ≡ length c.tree-item.result.nodes = ap length c.as_slice.ensures in
+    let n : c.len.result ≡ length c.tree-item.result.nodes = c.len.ensures in
     omega (arith, h, n, c.max-longest.ensures, c.loop-tree.invariant)

@@ -39,4 +39,4 @@ invariant_of-self-in-Stuck c =
     let s = c.self.inside in
     let e = rw c.in-Stuck.is at c.in_ok-a.ensures in
     let exit = subst (λ (w : WalkParts). IfSome c.args.root (λ (side : Side). IsExit w.plan w.source side)) (sym c.self.view_is) c.requires.exit in
-    walk_blocked s.passages s.roots.items s.root c.args.root s.path c.enter.new.self s.nodes.items c.push-in-Stuck.new.self.items _ c.self.invariant e.0 c.in_ok-push-in-Stuck.ensures.items (_, c.four-evidence.ensures.evidence) c.requires.there exit
+    walk_blocked s.passages s.roots.items s.root c.args.root s.path c.enter.new.self s.nodes c.push-in-Stuck.new.self _ c.self.invariant e.0 c.in_ok-push-in-Stuck.ensures.ok (_, c.four-evidence.ensures.evidence) c.requires.there exit
