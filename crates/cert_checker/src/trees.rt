@@ -1,6 +1,6 @@
 //! Trees judged in one pass: each node is asked of the walk at its place.
 
-ghost use Rattle.std.specs.Prelude.{◌≡◌, ◌≤◌, ◌<◌, ◌↔◌, ◌++◌, [], None, IsTrue, IfNone, IfOk, length, take, slice_set, slice_index_or};
+ghost use Rattle.std.specs.Prelude.{◌≡◌, ◌≤◌, ◌<◌, ◌↔◌, ◌++◌, [], None, IsTrue, IfNone, IfSome, IfOk, slice_get, length, take, slice_set, slice_index_or};
 ghost use Rattle.sight_names.specs.Map.{map_of, origin};
 ghost use Rattle.sight_names.specs.Splitting.{end_of as end_at};
 ghost use Rattle.block_evidence.specs.Stuck.{Blocks};
@@ -247,9 +247,13 @@ fn open(
     follow: &mut Follow,
     place: u16,
 ) -> Option<u16>
-    ensures { reached.new.n ≡ reached.old.n }
+    ensures sectors { reached.new.n ≡ reached.old.n }
+    ensures enters { IfSome (slice_get ground.now.web.now.entries.items place) (λ x. follow.old.depth < length path.old → EntersThrough (map_of ground.now.plan.now) ground.now.web.now.entries.items ground.now.roots.now.roots.items source path.old follow.old.depth follow.old.root x path.new follow.new.depth follow.new.root result) }
+    ensures noted { IfSome (slice_get ground.now.web.now.entries.items place) (λ x. source < reached.old.n → x.sector < reached.old.n → SetsPair reached.old reached.new source x.sector × KeepsOtherPairs reached.old reached.new source x.sector) }
 {
-    let entry = ground.web.entry(place)?;
+    let Some(entry) = ground.web.entry(place) else {
+        return None;
+    };
     note(reached, source, entry.sector);
     enter(ground, source, path, follow, entry)
 }
