@@ -318,6 +318,32 @@ mod tests {
         Ok(())
     }
 
+    /// More ends than fit into the value itself, then a stuck portal, then other ends in the place of the last ones.
+    #[test]
+    fn many_distinct_ends(rt: HostRuntime) -> Result<(), Fail> {
+        let mut ends = Ends::new(rt.alloc());
+        let mut portals = Vec::new(rt.alloc());
+        for k in 0..48i16 {
+            let left = pt(k, k.wrapping_add(100));
+            let right = pt(k, k.wrapping_add(-200));
+            pushed(&mut ends, left, right)?;
+            portals.push((left, right))?;
+            assert!(rt; is_line(&ends) && agrees(&ends, portals.as_slice()));
+        }
+        pushed(&mut ends, pt(50, -200), pt(50, 200))?;
+        assert!(rt; !is_line(&ends));
+        popped(&mut ends);
+        assert!(rt; is_line(&ends));
+        for _time in 0..30u8 {
+            popped(&mut ends);
+            let _ = portals.pop();
+        }
+        pushed(&mut ends, pt(60, 7), pt(60, -7))?;
+        portals.push((pt(60, 7), pt(60, -7)))?;
+        assert!(rt; is_line(&ends) && agrees(&ends, portals.as_slice()));
+        Ok(())
+    }
+
     #[test]
     fn random_portals(rt: HostRuntime) -> Result<(), Fail> {
         let mut ends = Ends::new(rt.alloc());
