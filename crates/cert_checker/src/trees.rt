@@ -5,7 +5,6 @@ ghost use Rattle.sight_names.specs.Map.{map_of, origin};
 ghost use Rattle.sight_names.specs.Splitting.{end_of as end_at};
 ghost use Rattle.block_evidence.specs.Stuck.{Blocks};
 ghost use Rattle.reject_bits.specs.Parts.{SetsPair, KeepsOtherPairs};
-ghost use Rattle.cert_checker.specs.Web.{way_outside};
 ghost use Rattle.cert_checker.specs.Path.{path_ends, frame_at, pending_way, to_come, longest_of, AsksRoot, EntersThrough, IsClosedBy, TakesNext};
 
 use crate::roots::Roots;
