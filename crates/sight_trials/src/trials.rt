@@ -5,8 +5,6 @@ ghost use Rattle.sight_names.specs.Map.{map_of};
 ghost use Rattle.sight_names.specs.Sound.{LinesMeetAtEnds};
 ghost use Rattle.sight_job.specs.Built.{sizes_of};
 
-use crate::dice::Dice;
-use crate::rooms::{Rooms, inside, is_clear, made_rooms};
 use cert_checker::{Verdict, check};
 use cert_format::{Cert, Sizes, print, read};
 use map_audit::audit_lines;
@@ -15,6 +13,8 @@ use sight_job::build_table;
 use sight_names::{Budget, BuildFault, Pair, Plan};
 use std::alloc::{AllocError, Global};
 use std::test::Fail;
+use worked_maps::dice::Dice;
+use worked_maps::rooms::{Rooms, inside, is_clear, made_rooms};
 use worked_maps::wads::plan_of;
 
 const BUDGETS: [Budget; 5] = [

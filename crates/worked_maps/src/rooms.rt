@@ -2,8 +2,8 @@
 //! solid rock.
 
 use crate::dice::Dice;
+use crate::wads::{NONE, RowLine};
 use std::alloc::{AllocError, Global};
-use worked_maps::wads::{NONE, RowLine};
 
 /// So many rooms lie side by side.
 pub const ACROSS: usize = 4;

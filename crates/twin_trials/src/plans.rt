@@ -1,0 +1,49 @@
+//! The maps that the twins are run on: worked ones, and made-up ones by their seeds.
+
+use sight_names::{LumpFault, Plan, Pt};
+use std::alloc::Global;
+use worked_maps::maps::{
+    APART, CROSSROADS, DOORS, DOORS33, ISLAND, LINE3, NO_LINES, OPEN, PAIR, PILLAR, RINGS, ROD,
+    SHUT_PAIR, SQUARE, U, WIDE,
+};
+use worked_maps::rooms::made_rooms;
+use worked_maps::wads::{RowLine, plan_of};
+
+/// Worked maps that are sound, each with its number of sectors.
+const SOUND: [(&'static [RowLine], u16); 13] = [
+    (&SQUARE, 1),
+    (&PAIR, 2),
+    (&SHUT_PAIR, 2),
+    (&WIDE, 2),
+    (&LINE3, 3),
+    (&U, 3),
+    (&DOORS, 4),
+    (&DOORS33, 4),
+    (&APART, 2),
+    (&CROSSROADS, 4),
+    (&NO_LINES, 2),
+    (&PILLAR, 1),
+    (&RINGS, 2),
+];
+
+/// Worked maps whose lines meet at ends, and that aren't sound.
+pub const UNSOUND: [(&'static [RowLine], u16); 3] = [(&OPEN, 1), (&ISLAND, 2), (&ROD, 1)];
+
+/// The worked sound map of this number, and behind these the made map of each seed.
+pub fn plan_at(alloc: Global, number: usize) -> Result<Plan, LumpFault> {
+    match SOUND.get(number) {
+        Some((lines, sectors)) => plan_of(alloc, lines, *sectors),
+        None => {
+            let made = made_rooms(alloc, number as u64)?;
+            plan_of(alloc, &made.lines, made.sectors)
+        }
+    }
+}
+
+/// Where the point with this number is.
+pub fn place_of(plan: &Plan, number: u16) -> Pt {
+    match plan.points().get(number as usize) {
+        Some(point) => *point,
+        None => Pt { x: 0, y: 0 },
+    }
+}
