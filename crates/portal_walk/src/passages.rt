@@ -1,4 +1,4 @@
-//! The portals by which a walk comes into triangles, each looked up once.
+//! The portals by which a walk comes into triangles, kept once they were looked up.
 
 ghost use Rattle.std.specs.Prelude.{◌≡◌, ◌*◌, ◌<◌, ◌≤◌, ◌↔◌, IsTrue, IfOk, IfSome, Some, [], length, slice_get};
 ghost use Rattle.portal_walk.specs.Passages.{Finds, FindsWay, IsAt, IsPassage, Keeps, exit_of as exit_from, known_at, leads_to, noted, portal_of};

@@ -33,6 +33,9 @@ clash b h k = cc
 pub returns-in-Solid-clause-found : goal.returns-in-Solid-clause-found
 returns-in-Solid-clause-found c = subst (λ (p : PassagesParts). IsClosed p (record { left = c.args.left; right = c.args.right })) c.self.view_is (inr (inr c.in-Solid.ensures))
 
+pub returns-in-Some-known-clause-within : goal.returns-in-Some-known-clause-within
+returns-in-Some-known-clause-within c = slice_get_within c.args.self.now.passages c.in-Some-known.number c.in-Some-known.ensures.0 c.in-Some-known.ensures.1
+
 pub returns-clause-within : goal.returns-clause-within
 returns-clause-within c = slice_get_within c.add.new.self.passages c.in_ok-number.number c.in_ok-number.ensures.found.0 c.in_ok-number.ensures.found.1
 
