@@ -23,9 +23,6 @@ const PAIR: usize = 4;
 
 const RAY: usize = 24;
 
-/// At most so many rays of a map are changed.
-const RAYS: usize = 8;
-
 /// A change of a ray.
 #[derive(Clone, Copy, Debug, PartialEq, Eq)]
 enum Change {
@@ -236,8 +233,7 @@ fn map_apart(alloc: Global, plan: &Plan, tally: &mut Tally) -> Result<Option<Apa
         return Ok(Some(Apart::Unsound));
     };
     let bytes = print(alloc, &built.cert)?;
-    let rays = built.cert.rays().len();
-    for number in (0..rays).step_by(rays / RAYS + 1) {
+    for number in 0..built.cert.rays().len() {
         let apart = ray_apart(alloc, plan, &built, &bytes, number, tally)?;
         if apart.is_some() {
             return Ok(apart);
