@@ -151,7 +151,7 @@ fn are_found(plan: &Plan, source: u16, found: &[Reached], sectors: &[u16]) -> bo
 
 /// Whether the tree has these sequences.
 fn is_tree(tree: &Tree, source: u16, sequences: &[Sequence]) -> bool {
-    let nodes = tree.nodes.as_slice();
+    let nodes = &tree.nodes;
     tree.source == source
         && nodes.len() == sequences.len()
         && nodes.iter().zip(sequences.iter()).all(|(node, sequence)| matches!(node, Node::Open)
