@@ -81,10 +81,13 @@ fn has_nodes(nodes: &Nodes, open: usize, blocked: usize) -> bool {
 }
 
 fn count_open(nodes: &Nodes) -> usize {
-    nodes
-        .iter()
-        .filter(|node| matches!(node, Node::Open))
-        .count()
+    let mut open = 0usize;
+    for node in nodes.iter() {
+        if matches!(node, Node::Open) {
+            open = open.wrapping_add(1);
+        }
+    }
+    open
 }
 
 fn side(line: u16, left: bool) -> Side {
