@@ -1,12 +1,12 @@
 //! The segments at a point: its spokes.
 
-ghost use Rattle.std.specs.Prelude.{ℕ, ◌≡◌, ◌<◌, ◌≢◌, ◌↔◌, IsTrue, IfSome, length};
+ghost use Rattle.std.specs.Prelude.{ℕ, ◌≡◌, ◌<◌, ◌≤◌, ◌≢◌, ◌↔◌, IsTrue, IfSome, length};
 ghost use Rattle.std.specs.Bool.{OnTrue, OnFalse};
 ghost use Rattle.sight_names.specs.Map.{map_of};
 ghost use Rattle.sight_names.specs.Plan.{IsPlan};
 ghost use Rattle.sight_names.specs.Sound.{MeetAtEnds};
 ghost use Rattle.triangulate.specs.Kept.{edges_of, MeetsEach, IsBarred};
-ghost use Rattle.triangulate.specs.Spokes.{IsSpoke, SpokesMeet, HasBarAt, MayReach};
+ghost use Rattle.triangulate.specs.Spokes.{IsSpoke, SpokesMeet, HasBarAt, MayReach, StaysBefore};
 ghost use Rattle.triangulate.specs.Next.{IsNextLeft, IsNextRight, IsBestLeft, IsBestRight};
 
 use crate::web::Web;
@@ -164,28 +164,46 @@ pub fn is_free(plan: &Plan, web: &Web, i: u16, j: u16) -> bool
     if kept.is_empty() {
         return true;
     }
-    for u in 0..j {
-        if !reached_meet(plan, web, u, i, j) {
+    let mut u = next_reaching(web, 0, i, j);
+    while u < j {
+        if !spokes_meet(plan, web, u, i, j) {
             return false;
         }
+        u = next_tried(web, u, i, j);
     }
     spokes_meet(plan, web, j, i, j)
 }
 
-/// Whether each spoke of `u` meets the segment from `i` to `j` at ends of both alone, unless none can reach it from before
-/// `i`.
-fn reached_meet(plan: &Plan, web: &Web, u: u16, i: u16, j: u16) -> bool
-    requires points { web.now.points ≡ length plan.now.points }
-    requires order { i < j }
-    requires before { u < j }
-    requires second { j < web.now.points }
-    ensures meet { OnTrue result (MayReach web.now.segments i j u → SpokesMeet (map_of plan.now) web.now.segments u (record { from = i; to = j })) }
-    ensures barred { OnFalse result (HasBarAt (map_of plan.now) web.now.segments u (record { from = i; to = j })) }
+/// The first point from `start` on whose spokes may go behind `j`; `end` where none before it does.
+fn next_reaching(web: &Web, start: u16, end: u16, j: u16) -> u16
+    requires order { start ≤ end }
+    requires within { end ≤ web.now.points }
+    ensures from { start ≤ result }
+    ensures to { result ≤ end }
+    ensures passed { (w : ℕ) → start ≤ w → w < result → StaysBefore web.now.segments j w }
 {
-    if u < i && web.far(u) <= j {
-        return true;
+    let mut u = start;
+    while u < end {
+        if web.far(u) > j {
+            return u;
+        }
+        u += 1;
     }
-    spokes_meet(plan, web, u, i, j)
+    end
+}
+
+/// The next point behind `u` whose spokes may reach the points from `i` to `j`: before `i` most are passed over.
+fn next_tried(web: &Web, u: u16, i: u16, j: u16) -> u16
+    requires points { i ≤ web.now.points }
+    requires small { u < 65535 }
+    ensures behind { u < result }
+    ensures passed { (w : ℕ) → u < w → w < result → ¬ MayReach web.now.segments i j w }
+{
+    if u + 1 < i {
+        next_reaching(web, u + 1, i, j)
+    } else {
+        u + 1
+    }
 }
 
 /// Whether a segment joins `u` and `v` and meets the segment from `i` to `j` otherwise than at ends of both.
