@@ -175,13 +175,33 @@ fn put_front(out: &mut Vec<u8>, sizes: Sizes) -> Result<(), Memory>
     put_numbers(out, &[1, sizes.sectors, sizes.points, sizes.lines])
 }
 
+/// At least as many bytes as the trees are spelled in, as far as numbers go: a node takes nine at most.
+fn most_bytes(trees: &[Tree]) -> usize {
+    let mut bytes = 0usize;
+    for tree in trees {
+        bytes = bytes.saturating_add(tree.nodes.len().saturating_mul(9).saturating_add(10));
+    }
+    bytes
+}
+
+/// An empty list with room for the spelling. A list that grows would leave holes of its former sizes behind, and pages
+/// that are never written cost nothing.
+fn with_room(alloc: Global, cert: &Cert) -> Result<Vec<u8>, Memory>
+    ensures { IfOk result (λ v. v.items ≡ []) }
+{
+    let records = cert.triangles().len() + cert.rays().len() + cert.listed().len();
+    let bytes = records.saturating_mul(24).saturating_add(28);
+    let room = bytes.saturating_add(most_bytes(cert.trees()));
+    Ok(Vec::with_capacity(alloc, room)?)
+}
+
 /// The one spelling of the certificate.
 pub fn print(alloc: Global, cert: &Cert) -> Result<Vec<u8>, Memory>
     ensures { IfOk result (λ v. Spells cert.now.sizes v.items cert.now) }
 {
     let (triangles, rays) = (cert.triangles.as_slice(), cert.rays.as_slice());
     let (listed, trees) = (cert.listed.as_slice(), cert.trees.as_slice());
-    let mut out = Vec::new(alloc);
+    let mut out = with_room(alloc, cert)?;
     put_front(&mut out, cert.sizes)?;
     let counts = Counts {
         triangles: triangles.len() as u32,

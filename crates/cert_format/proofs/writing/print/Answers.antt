@@ -42,8 +42,8 @@ put_trees-requires c = rw c.as_slice-trees.ensures (nodes_of c.cert.inside.sizes
 pub returns : goal.returns
 returns c =
     let made : CertParts = record { sizes = c.cert.inside.sizes; triangles = c.cert.inside.triangles; rays = c.cert.inside.rays; listed = c.cert.inside.listed; trees = c.cert.inside.trees } in
-    let out = six_steps c.new-out.result.items c.put_front.new.out.items c.put_counts.new.out.items c.put_triangles.new.out.items c.put_rays.new.out.items c.put_pairs.new.out.items c.put_trees.new.out.items
-    _ _ _ _ _ _ c.in_ok-put_front.ensures.spelled c.in_ok-put_counts.ensures c.in_ok-put_triangles.ensures c.in_ok-put_rays.ensures.spelled c.in_ok-put_pairs.ensures c.in_ok-put_trees.ensures.spelled c.new-out.ensures.items in
+    let out = six_steps c.in_ok-out.out.items c.put_front.new.out.items c.put_counts.new.out.items c.put_triangles.new.out.items c.put_rays.new.out.items c.put_pairs.new.out.items c.put_trees.new.out.items
+    _ _ _ _ _ _ c.in_ok-put_front.ensures.spelled c.in_ok-put_counts.ensures c.in_ok-put_triangles.ensures c.in_ok-put_rays.ensures.spelled c.in_ok-put_pairs.ensures c.in_ok-put_trees.ensures.spelled c.in_ok-out.ensures in
     let whole : c.put_trees.new.out.items ≡ spelling made = is_spelled made c.put_trees.new.out.items c.as_slice-triangles.result.now c.as_slice-rays.result.now c.as_slice-listed.result.now c.as_slice-trees.result.now
     c.as_slice-triangles.ensures c.as_slice-rays.ensures c.as_slice-listed.ensures c.as_slice-trees.ensures out in
     let rays : AllByRecursion FitsPairRay made.rays = subst (λ (rs : List PairRay). AllByRecursion FitsPairRay rs) c.as_slice-rays.ensures c.in_ok-put_rays.ensures.fits in
