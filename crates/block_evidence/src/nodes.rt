@@ -77,6 +77,14 @@ impl Nodes {
         Ok(())
     }
 
+    /// Gives back the memory that no node takes.
+    pub fn shrink_to_fit(&mut self)
+        ensures { self.new ≡ self.old }
+    {
+        self.kinds.shrink_to_fit();
+        self.ends.shrink_to_fit();
+    }
+
     /// The nodes in order.
     pub fn iter(&self) -> NodesIter<'_>
         ensures { result ≡ self.now }

@@ -105,10 +105,10 @@ impl<'a> Walker<'a> {
         ensures nodes { result.nodes ≡ self.entry.nodes }
         ensures answered { All IsAnswered result.nodes }
     {
-        Tree {
-            source: self.passages.source(),
-            nodes: self.nodes,
-        }
+        let source = self.passages.source();
+        let mut nodes = self.nodes;
+        nodes.shrink_to_fit();
+        Tree { source, nodes }
     }
 
     /// One try of the way or the root that is next.
