@@ -42,24 +42,31 @@ def wad(name, run):
 
 
 # A process counts the memory of the one that started it as its own peak until it has more, so runs are started by a
-# small process that holds no WAD.
+# small process that holds no WAD, and by GNU time where it is there, which is smaller still.
 STARTER = """
 import json, os, sys, tempfile
+TIME = "/usr/bin/time"
 for words in sys.stdin:
     words = json.loads(words)
-    with tempfile.NamedTemporaryFile() as out:
+    with tempfile.NamedTemporaryFile() as out, tempfile.NamedTemporaryFile() as peak:
+        if os.path.exists(TIME):
+            words = [TIME, "-o", peak.name, "-f", "%M"] + words
         child = os.posix_spawn(words[0], words, os.environ, file_actions=[(os.POSIX_SPAWN_DUP2, out.fileno(), 1)])
         _, status, usage = os.wait4(child, 0)
         out.seek(0)
         line = out.read().decode().strip()
-    print(json.dumps([os.waitstatus_to_exitcode(status), line, usage.ru_utime + usage.ru_stime, usage.ru_maxrss / 1e3]))
+        said = peak.read().split()
+    kilobytes = int(said[-1]) if said else usage.ru_maxrss
+    seconds = usage.ru_utime + usage.ru_stime
+    print(json.dumps([os.waitstatus_to_exitcode(status), line, seconds, kilobytes * 1024 / 1e6]))
     sys.stdout.flush()
 """
 starter = subprocess.Popen([sys.executable, "-c", STARTER], stdin=subprocess.PIPE, stdout=subprocess.PIPE, text=True)
 
 
 class Run:
-    """One run of a program: its status, its line, seconds of processor time, peak memory in MB (12 at least)."""
+    """One run of a program: its status, its line, seconds of processor time, peak memory in MB (at least that of the
+    process that starts it: 2 with GNU time, 12 without)."""
 
     def __init__(self, words):
         starter.stdin.write(json.dumps(words) + "\n")
