@@ -150,20 +150,5 @@ pub OnFalse_not : (b : Bool) (P : Type 0) → OnFalse b P → b ≡ false → P
 OnFalse_not true P f e = absurd (true≢false e)
 OnFalse_not false P f e = f
 
--- nothing is kept
-pub none_kept : (m : Map) (segs : List Segment) (e : Edge) → length segs ≡ 0 → MeetsEach m (edges_of segs) e
-none_kept m segs e none f c = absurd (let h = kept_segment segs f c in let lt = h.1 in omega arith)
-
--- from a point before i whose spokes end at j or before, none may
-pub no_reach : (segs : List Segment) (i j w far : ℕ) → w < i → far ≤ j → ((k : ℕ) (d : Segment) → k < length segs → has_end w (get_or segs k d) ≡ true → other_end w (get_or segs k d) ≤ far) → ¬ MayReach segs i j w
-no_reach segs i j w far before near reached (inl h) = omega arith
-no_reach segs i j w far before near reached (inr (x, (k, lt, end, other), beyond)) = let h = reached k any_segment lt (end any_segment) in let e = other any_segment in omega arith
-
-pub upto_more : (P : ℕ → Type 0) (n : ℕ) → ((w : ℕ) → w < n → P w) → P n → (w : ℕ) → w < n + 1 → P w
-upto_more P n before here w lt = elim (cases w n lt) [ inl h ↦ before w h | inr e ↦ subst P (sym e) here ]
-  where
-    cases : (w n : ℕ) → w < n + 1 → (w < n) ⊎ (w ≡ n)
-    cases w n h = grind arith
-
 pub bar_turned : (m : Map) (kept : List Edge) (u v : ℕ) → IsBarred m kept (edge v u) → IsBarred m kept (edge u v)
 bar_turned m kept u v bar = (bar.0, bar.1, λ h. bar.2 (flip_first (place m u) (place m v) (place m bar.0.from) (place m bar.0.to) h))

@@ -1,8 +1,10 @@
 -- Points of a map on the left of a way, and strictly inside a triangle.
-use Rattle.std.proofs.Common.{max, ◌≡◌, ℕ, ◌+◌, ◌<◌, ◌≤◌, ◌⊎◌, inl, inr, List, [], ◌∷◌, length, get_or, slice_get, Some, ℤ, pos, ◌≤ℤ◌, ◌<ℤ◌, sym, ap, ◌∙◌, subst, arith}
+use Rattle.std.proofs.Common.{max, ◌≡◌, ℕ, ◌+◌, ◌<◌, ◌≤◌, ◌⊎◌, inl, inr, List, [], ◌∷◌, length, get_or, slice_get, Some, ℤ, pos, ◌+ℤ◌, ◌-ℤ◌, ◌*ℤ◌, ◌≤ℤ◌, ◌<ℤ◌, sym, ap, ◌∙◌, subst, arith}
 use Rattle.std.proofs.lemmas.Int.{ints}
 use Rattle.std.proofs.lemmas.Option.{same_Some, slice_get-get_or}
 use Rattle.exact_ring.proofs.Quoting.{quoting, by_ring}
+use Rattle.exact_ring.proofs.Signs.{mul-pos}
+use Rattle.exact_ring.proofs.MoreSigns.{mul-neg}
 use Rattle.sight_names.specs.declared.names.Pt.{Pt}
 use Rattle.sight_names.specs.Map.{Map, map_of, origin}
 use Rattle.sight_names.specs.Plan.{PlanParts, IsPlan}
@@ -38,6 +40,32 @@ none_left p is a b i from to e f le before k lt =
 
 abbrev pub IsInsideOf : Map → ℕ → ℕ → ℕ → ℕ → Type 0
 IsInsideOf m a b c k = (pos 0 <ℤ turn_between m a b k) × (pos 0 <ℤ turn_between m b c k) × (pos 0 <ℤ turn_between m c a k)
+
+-- the corners as seen from a point, by the triangles that it makes with the other two
+balanced : (a b c p : Pt) → turn_of b c p *ℤ (a.y -ℤ p.y) +ℤ turn_of c a p *ℤ (b.y -ℤ p.y) +ℤ turn_of a b p *ℤ (c.y -ℤ p.y) ≡ pos 0
+unfolding turn_of
+balanced a b c p = by_ring (a.x ∷ a.y ∷ b.x ∷ b.y ∷ c.x ∷ c.y ∷ p.x ∷ p.y ∷ []) _ _ (search quoting depth 60 fits 400000) (search quoting depth 60 fits 400000) tt
+
+-- no point below all corners or above them is inside
+pub below_outside : (a b c p : Pt) → p.y <ℤ a.y → p.y <ℤ b.y → p.y <ℤ c.y → ¬ ((pos 0 <ℤ turn_of a b p) × (pos 0 <ℤ turn_of b c p) × (pos 0 <ℤ turn_of c a p))
+below_outside a b c p ha hb hc h =
+    let x = mul-pos (turn_of b c p) (a.y -ℤ p.y) h.1 (omega (arith, ints)) in
+    let y = mul-pos (turn_of c a p) (b.y -ℤ p.y) h.2 (omega (arith, ints)) in
+    let z = mul-pos (turn_of a b p) (c.y -ℤ p.y) h.0 (omega (arith, ints)) in
+    three (turn_of b c p *ℤ (a.y -ℤ p.y)) (turn_of c a p *ℤ (b.y -ℤ p.y)) (turn_of a b p *ℤ (c.y -ℤ p.y)) x y z (balanced a b c p)
+  where
+    three : (x y z : ℤ) → pos 0 <ℤ x → pos 0 <ℤ y → pos 0 <ℤ z → x +ℤ y +ℤ z ≡ pos 0 → ⊥
+    three x y z f g h e = omega (arith, ints)
+
+pub above_outside : (a b c p : Pt) → a.y <ℤ p.y → b.y <ℤ p.y → c.y <ℤ p.y → ¬ ((pos 0 <ℤ turn_of a b p) × (pos 0 <ℤ turn_of b c p) × (pos 0 <ℤ turn_of c a p))
+above_outside a b c p ha hb hc h =
+    let x = mul-neg (turn_of b c p) (a.y -ℤ p.y) h.1 (omega (arith, ints)) in
+    let y = mul-neg (turn_of c a p) (b.y -ℤ p.y) h.2 (omega (arith, ints)) in
+    let z = mul-neg (turn_of a b p) (c.y -ℤ p.y) h.0 (omega (arith, ints)) in
+    three (turn_of b c p *ℤ (a.y -ℤ p.y)) (turn_of c a p *ℤ (b.y -ℤ p.y)) (turn_of a b p *ℤ (c.y -ℤ p.y)) x y z (balanced a b c p)
+  where
+    three : (x y z : ℤ) → x <ℤ pos 0 → y <ℤ pos 0 → z <ℤ pos 0 → x +ℤ y +ℤ z ≡ pos 0 → ⊥
+    three x y z f g h e = omega (arith, ints)
 
 turn_first : (a c : Pt) → turn_of a a c ≡ pos 0
 unfolding turn_of

@@ -19,3 +19,4 @@ pub mod SortedMesh
 pub mod PlanMesh
 pub mod Clearing
 pub mod Filling
+pub mod StarLemmas

@@ -14,16 +14,16 @@ bool_cases false f g = g refl
 lt_cases : (k n : ℕ) → k < n + 1 → (k < n) ⊎ (k ≡ n)
 lt_cases k n h = grind arith
 
-one_more : {X : Type 0} (xs : List X) (x : X) → length (xs ++ x ∷ []) ≡ length xs + 1
+pub one_more : {X : Type 0} (xs : List X) (x : X) → length (xs ++ x ∷ []) ≡ length xs + 1
 one_more [] x = refl
 one_more (y ∷ xs) x = let e = one_more xs x in omega (arith, e)
 
 -- ---- one more segment
 
-old_at : (segs : List Segment) (s : Segment) (k : ℕ) (d : Segment) → k < length segs → get_or (segs ++ s ∷ []) k d ≡ get_or segs k d
+pub old_at : (segs : List Segment) (s : Segment) (k : ℕ) (d : Segment) → k < length segs → get_or (segs ++ s ∷ []) k d ≡ get_or segs k d
 old_at segs s k d h = get_or_append_left segs (s ∷ []) d k h
 
-new_at : (segs : List Segment) (s : Segment) (d : Segment) (k : ℕ) → k ≡ length segs → get_or (segs ++ s ∷ []) k d ≡ s
+pub new_at : (segs : List Segment) (s : Segment) (d : Segment) (k : ℕ) → k ≡ length segs → get_or (segs ++ s ∷ []) k d ≡ s
 new_at segs s d k e = get_or_at segs s [] d k (sym e)
 
 -- what the chains say of the first segments stays
@@ -115,16 +115,15 @@ two_set xs a b x y la lb u d lu P at_b at_a other = elim (cases_eq b u) [
 
 -- ---- a push
 
-pub push_web : (points : ℕ) (segs : List Segment) (last far : List ℕ) (links : List Links) (s : Segment) → IsWeb points segs last far links → IsSegment points s
-    → (n x y : ℕ) → n ≡ length segs + 1 → get_or far s.from 0 ≤ x → s.to ≤ x → get_or far s.to 0 ≤ y → s.from ≤ y
-    → IsWeb points (segs ++ s ∷ []) (set (set last s.from n) s.to n) (set (set far s.from x) s.to y) (links ++ record { from = get_or last s.from 0; to = get_or last s.to 0 } ∷ [])
-push_web points segs last far links s web seg n x y e fx tx fy ty = record {
+pub push_web : (points : ℕ) (segs : List Segment) (last : List ℕ) (links : List Links) (s : Segment) → IsWeb points segs last links → IsSegment points s
+    → (n : ℕ) → n ≡ length segs + 1
+    → IsWeb points (segs ++ s ∷ []) (set (set last s.from n) s.to n) (links ++ record { from = get_or last s.from 0; to = get_or last s.to 0 } ∷ [])
+push_web points segs last links s web seg n e = record {
   each = λ k lt d. elim (lt_cases k (length segs) (let m = one_more segs s in omega arith)) [
     | inl less ↦ subst (IsSegment points) (sym (old_at segs s k d less)) (web.each k less d)
     | inr same ↦ subst (IsSegment points) (sym (new_at segs s d k same)) seg
   ];
   each_point = let l1 = length-set (set last s.from n) s.to n in let l2 = length-set last s.from n in let l3 = web.each_point in omega arith;
-  each_far = let l1 = length-set (set far s.from x) s.to y in let l2 = length-set far s.from x in let l3 = web.each_far in omega arith;
   each_segment = let m = one_more segs s in let o = one_more links (record { from = get_or last s.from 0; to = get_or last s.to 0 }) in let l = web.each_segment in omega arith;
   last_at = λ u lu d. subst (λ (m : ℕ). IsLastAt (segs ++ s ∷ []) u m (get_or (set (set last s.from n) s.to n) u d)) (e ∙ sym (one_more segs s))
       (two_set last s.from s.to n n from_in to_in u d (let l = web.each_point in omega arith) (λ j. IsLastAt (segs ++ s ∷ []) u n j)
@@ -135,19 +134,6 @@ push_web points segs last far links s web seg n x y e fx tx fy ty = record {
     | inl less ↦ old_link k less d l
     | inr same ↦ new_link k same d l
   ];
-  reached = λ k lt d u m lu end. two_set far s.from s.to x y far_from far_to u m (let l = web.each_far in omega arith) (λ v. other_end u (get_or (segs ++ s ∷ []) k d) ≤ v)
-      (λ f. elim (lt_cases k (length segs) (let o = one_more segs s in omega arith)) [
-        | inl less ↦ let old = web.reached k less d u 0 lu (ap (has_end u) (sym (old_at segs s k d less)) ∙ end) in let g : get_or far u 0 ≤ y = subst (λ (v : ℕ). get_or far v 0 ≤ y) f fy in let h = ap (other_end u) (old_at segs s k d less) in omega arith
-        | inr same ↦ let h = ap (other_end u) (new_at segs s d k same) ∙ other_to u s seg.differ f in omega arith
-      ])
-      (λ f g. elim (lt_cases k (length segs) (let o = one_more segs s in omega arith)) [
-        | inl less ↦ let old = web.reached k less d u 0 lu (ap (has_end u) (sym (old_at segs s k d less)) ∙ end) in let g : get_or far u 0 ≤ x = subst (λ (v : ℕ). get_or far v 0 ≤ x) f fx in let h = ap (other_end u) (old_at segs s k d less) in omega arith
-        | inr same ↦ let h = ap (other_end u) (new_at segs s d k same) ∙ other_from u s f in omega arith
-      ])
-      (λ f g. elim (lt_cases k (length segs) (let o = one_more segs s in omega arith)) [
-        | inl less ↦ let old = web.reached k less d u m lu (ap (has_end u) (sym (old_at segs s k d less)) ∙ end) in let h = ap (other_end u) (old_at segs s k d less) in omega arith
-        | inr same ↦ absurd (true≢false (sym end ∙ ap (has_end u) (new_at segs s d k same) ∙ no_end u f g))
-      ]);
 }
   where
     from_in : s.from < length last
@@ -155,12 +141,6 @@ push_web points segs last far links s web seg n x y e fx tx fy ty = record {
 
     to_in : s.to < length last
     to_in = let l = web.each_point in let f = seg.to in omega arith
-
-    far_from : s.from < length far
-    far_from = let l = web.each_far in let f = seg.from in omega arith
-
-    far_to : s.to < length far
-    far_to = let l = web.each_far in let f = seg.to in omega arith
 
     no_end : (u : ℕ) → ¬ (s.from ≡ u) → ¬ (s.to ≡ u) → has_end u s ≡ false
     no_end u f g = bool_cases (has_end u s) (λ h. elim (end_cases u s h) [ inl e ↦ absurd (f e) | inr e ↦ absurd (g e) ]) (λ h. h)
@@ -183,26 +163,15 @@ push_web points segs last far links s web seg n x y e fx tx fy ty = record {
 
 -- ---- the methods' own forms
 
-pub push_made : (points : ℕ) (segs : List Segment) (last far : List ℕ) (links : List Links) (from to n a b x y fx fy : ℕ) (segs' : List Segment) (links' : List Links) → IsWeb points segs last far links → from < points → to < points → from ≢ to
+pub push_made : (points : ℕ) (segs : List Segment) (last : List ℕ) (links : List Links) (from to n a b : ℕ) (segs' : List Segment) (links' : List Links) → IsWeb points segs last links → from < points → to < points → from ≢ to
     → segs' ≡ segs ++ (record { from = from; to = to }) ∷ [] → n ≡ length segs' → a ≡ get_or last from a → b ≡ get_or last to b → links' ≡ links ++ (record { from = a; to = b }) ∷ []
-    → fx ≡ get_or far from fx → x ≡ max fx to → fy ≡ get_or (set far from x) to fy → y ≡ max fy from
-    → IsWeb points segs' (set (set last from n) to n) (set (set far from x) to y) links'
-push_made points segs last far links from to n a b x y fx fy segs' links' web lf lt differ es en ea eb el efx ex efy ey =
-    subst (λ (v : List Segment). IsWeb points v (set (set last from n) to n) (set (set far from x) to y) links') (sym es)
-    (subst (λ (v : List Links). IsWeb points (segs ++ (record { from = from; to = to }) ∷ []) (set (set last from n) to n) (set (set far from x) to y) v) (sym (el ∙ joined))
-    (push_web points segs last far links (record { from = from; to = to }) web (record { from = lf; to = lt; differ = differ }) n x y
-    (en ∙ ap length es ∙ one_more segs (record { from = from; to = to }))
-    (let e = get_or_default far from fx 0 in_from in let m = le-max_left fx to in omega arith)
-    (let m = le-max_right fx to in omega arith)
-    (let e = get_or_default (set far from x) to fy 0 in_set in let o = get_or-set_other far from to x 0 (λ e. differ (sym e)) in let m = le-max_left fy from in omega arith)
-    (let m = le-max_right fy from in omega arith)))
+    → IsWeb points segs' (set (set last from n) to n) links'
+push_made points segs last links from to n a b segs' links' web lf lt differ es en ea eb el =
+    subst (λ (v : List Segment). IsWeb points v (set (set last from n) to n) links') (sym es)
+    (subst (λ (v : List Links). IsWeb points (segs ++ (record { from = from; to = to }) ∷ []) (set (set last from n) to n) v) (sym (el ∙ joined))
+    (push_web points segs last links (record { from = from; to = to }) web (record { from = lf; to = lt; differ = differ }) n
+    (en ∙ ap length es ∙ one_more segs (record { from = from; to = to }))))
   where
-    in_from : from < length far
-    in_from = let l = web.each_far in omega arith
-
-    in_set : to < length (set far from x)
-    in_set = let l = web.each_far in let m = length-set far from x in omega arith
-
     in_last : from < length last
     in_last = let l = web.each_point in omega arith
 
@@ -215,27 +184,27 @@ push_made points segs last far links from to n a b x y fx fy segs' links' web lf
     joined : links ++ (record { from = a; to = b }) ∷ [] ≡ links ++ (record { from = get_or last from 0; to = get_or last to 0 }) ∷ []
     joined = ap (λ (l : Links). links ++ l ∷ []) (pair (ea ∙ get_or_default last from a 0 in_last) (eb ∙ get_or_default last to b 0 to_last))
 
-pub earlier_from : (points : ℕ) (segs : List Segment) (last far : List ℕ) (links : List Links) (k u : ℕ) (s : Segment) (l : Links) → IsWeb points segs last far links → k < length segs → s ≡ get_or segs k s → l ≡ get_or links k l → s.from ≡ u → IsLastAt segs u k l.from
-earlier_from points segs last far links k u s l web lt es el e =
+pub earlier_from : (points : ℕ) (segs : List Segment) (last : List ℕ) (links : List Links) (k u : ℕ) (s : Segment) (l : Links) → IsWeb points segs last links → k < length segs → s ≡ get_or segs k s → l ≡ get_or links k l → s.from ≡ u → IsLastAt segs u k l.from
+earlier_from points segs last links k u s l web lt es el e =
     let w = web.linked k lt s l in
     subst (λ (v : ℕ). IsLastAt segs v k l.from) e (subst (λ (v : Segment). IsLastAt segs v.from k l.from) (sym es) (subst (λ (v : Links). IsLastAt segs (get_or segs k s).from k v.from) (sym el) w.from))
 
-pub earlier_to : (points : ℕ) (segs : List Segment) (last far : List ℕ) (links : List Links) (k u : ℕ) (s : Segment) (l : Links) → IsWeb points segs last far links → k < length segs → s ≡ get_or segs k s → l ≡ get_or links k l → ¬ (s.from ≡ u) → has_end u (get_or segs k s) ≡ true → IsLastAt segs u k l.to
-earlier_to points segs last far links k u s l web lt es el not_from end =
+pub earlier_to : (points : ℕ) (segs : List Segment) (last : List ℕ) (links : List Links) (k u : ℕ) (s : Segment) (l : Links) → IsWeb points segs last links → k < length segs → s ≡ get_or segs k s → l ≡ get_or links k l → ¬ (s.from ≡ u) → has_end u (get_or segs k s) ≡ true → IsLastAt segs u k l.to
+earlier_to points segs last links k u s l web lt es el not_from end =
     let w = web.linked k lt s l in
     elim (end_cases u s (ap (has_end u) es ∙ end)) [
       | inl e ↦ absurd (not_from e)
       | inr e ↦ subst (λ (v : ℕ). IsLastAt segs v k l.to) e (subst (λ (v : Segment). IsLastAt segs v.to k l.to) (sym es) (subst (λ (v : Links). IsLastAt segs (get_or segs k s).to k v.to) (sym el) w.to))
     ]
 
-pub seen_from : (points : ℕ) (segs : List Segment) (last far : List ℕ) (links : List Links) (seen : WebParts) (k u : ℕ) (s : Segment) (l : Links) → record { points = points; segments = segs } ≡ seen → IsWeb points segs last far links → k < length seen.segments → s ≡ get_or segs k s → l ≡ get_or links k l → s.from ≡ u
+pub seen_from : (points : ℕ) (segs : List Segment) (last : List ℕ) (links : List Links) (seen : WebParts) (k u : ℕ) (s : Segment) (l : Links) → record { points = points; segments = segs } ≡ seen → IsWeb points segs last links → k < length seen.segments → s ≡ get_or segs k s → l ≡ get_or links k l → s.from ≡ u
     → IsLastAt seen.segments u k l.from
-seen_from points segs last far links seen k u s l e web lt es el at =
+seen_from points segs last links seen k u s l e web lt es el at =
     let f : segs ≡ seen.segments = ap (λ (w : WebParts). w.segments) e in
-    subst (λ (v : List Segment). IsLastAt v u k l.from) f (earlier_from points segs last far links k u s l web (subst (λ (v : List Segment). k < length v) (sym f) lt) es el at)
+    subst (λ (v : List Segment). IsLastAt v u k l.from) f (earlier_from points segs last links k u s l web (subst (λ (v : List Segment). k < length v) (sym f) lt) es el at)
 
-pub seen_to : (points : ℕ) (segs : List Segment) (last far : List ℕ) (links : List Links) (seen : WebParts) (k u : ℕ) (s : Segment) (l : Links) → record { points = points; segments = segs } ≡ seen → IsWeb points segs last far links → k < length seen.segments → s ≡ get_or segs k s → l ≡ get_or links k l → ¬ (s.from ≡ u)
+pub seen_to : (points : ℕ) (segs : List Segment) (last : List ℕ) (links : List Links) (seen : WebParts) (k u : ℕ) (s : Segment) (l : Links) → record { points = points; segments = segs } ≡ seen → IsWeb points segs last links → k < length seen.segments → s ≡ get_or segs k s → l ≡ get_or links k l → ¬ (s.from ≡ u)
     → ((d : Segment) → has_end u (get_or seen.segments k d) ≡ true) → IsLastAt seen.segments u k l.to
-seen_to points segs last far links seen k u s l e web lt es el not_from end =
+seen_to points segs last links seen k u s l e web lt es el not_from end =
     let f : segs ≡ seen.segments = ap (λ (w : WebParts). w.segments) e in
-    subst (λ (v : List Segment). IsLastAt v u k l.to) f (earlier_to points segs last far links k u s l web (subst (λ (v : List Segment). k < length v) (sym f) lt) es el not_from (subst (λ (v : List Segment). has_end u (get_or v k s) ≡ true) (sym f) (end s)))
+    subst (λ (v : List Segment). IsLastAt v u k l.to) f (earlier_to points segs last links k u s l web (subst (λ (v : List Segment). k < length v) (sym f) lt) es el not_from (subst (λ (v : List Segment). has_end u (get_or v k s) ≡ true) (sym f) (end s)))

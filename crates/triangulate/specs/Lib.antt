@@ -7,3 +7,4 @@ pub mod Closed
 pub mod Fills
 pub mod Next
 pub mod Left
+pub mod Stars

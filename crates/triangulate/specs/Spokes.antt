@@ -21,7 +21,3 @@ HasBarAt m segs u e = (v : ℕ) × IsSpoke segs u v × ¬ EdgesMeetAtEnds m e (r
 -- a segment at w may reach the points from i to j: w is none before i, or a spoke goes behind j
 abbrev pub MayReach : List Segment → ℕ → ℕ → ℕ → Type 0
 MayReach segs i j w = (i ≤ w) ⊎ ((x : ℕ) × IsSpoke segs w x × (j < x))
-
--- no segment at w goes behind j
-abbrev pub StaysBefore : List Segment → ℕ → ℕ → Type 0
-StaysBefore segs j w = (k : ℕ) (d : Segment) → k < length segs → has_end w (slice_index_or segs k d) ≡ true → other_end w (slice_index_or segs k d) ≤ j

@@ -36,12 +36,9 @@ pub record IsSegment (points : ℕ) (s : Segment) : Type 0 where
 abbrev pub AreSegments : ℕ → List Segment → Type 0
 AreSegments points segments = (k : ℕ) → k < length segments → (d : Segment) → IsSegment points (slice_index_or segments k d)
 
-pub record IsWeb (points : ℕ) (segments : List Segment) (last far : List ℕ) (links : List Links) : Type 0 where
+pub record IsWeb (points : ℕ) (segments : List Segment) (last : List ℕ) (links : List Links) : Type 0 where
   pub each : AreSegments points segments
   pub each_point : length last ≡ points
-  pub each_far : length far ≡ points
   pub each_segment : length links ≡ length segments
   pub last_at : (u : ℕ) → u < points → (d : ℕ) → IsLastAt segments u (length segments) (slice_index_or last u d)
   pub linked : (k : ℕ) → k < length segments → (d : Segment) (e : Links) → IsLinked segments k (slice_index_or segments k d) (slice_index_or links k e)
-  -- no segment at u reaches a greater number than this
-  pub reached : (k : ℕ) → k < length segments → (d : Segment) (u e : ℕ) → u < points → has_end u (slice_index_or segments k d) ≡ true → other_end u (slice_index_or segments k d) ≤ slice_index_or far u e

@@ -1,7 +1,8 @@
 //! Points whose spokes leave no room for a further segment.
 
-ghost use Rattle.std.specs.Prelude.{ℕ, ◌≡◌, ◌<◌, ◌⊎◌, length};
+ghost use Rattle.std.specs.Prelude.{ℕ, ◌≡◌, ◌<◌, ◌⊎◌, ◌↔◌, pos, ◌<ℤ◌, IsTrue, length};
 ghost use Rattle.std.specs.Bool.{OnTrue, OnFalse};
+ghost use Rattle.geom_exact.specs.Formulas.{turn_of};
 ghost use Rattle.sight_names.specs.Map.{map_of};
 ghost use Rattle.sight_names.specs.Plan.{IsPlan};
 ghost use Rattle.triangulate.specs.Closed.{HasNoneLeft, HasTriangleLeft, HasTriangleRight, IsEmptyTriangle, IsShut};
@@ -12,7 +13,7 @@ ghost use Rattle.triangulate.specs.Spokes.{IsSpoke};
 use crate::spokes::{has_spoke, next_left, next_right};
 use crate::web::Web;
 use geom_exact::{in_triangle, turn};
-use sight_names::Plan;
+use sight_names::{Plan, Pt};
 
 /// Whether a point of the map is strictly on the left of the way from `a` to `b`.
 fn has_left(plan: &Plan, a: u16, b: u16) -> bool
@@ -29,6 +30,21 @@ fn has_left(plan: &Plan, a: u16, b: u16) -> bool
     false
 }
 
+/// Whether the point is strictly inside the triangle, whose corners stand counterclockwise. Most points lie above or below
+/// it, which is seen without a product.
+fn is_inside(a: Pt, b: Pt, c: Pt, p: Pt) -> bool
+    requires { pos 0 <ℤ turn_of a b c }
+    ensures { IsTrue result ↔ ((pos 0 <ℤ turn_of a b p) × (pos 0 <ℤ turn_of b c p) × (pos 0 <ℤ turn_of c a p)) }
+{
+    if p.y < a.y && p.y < b.y && p.y < c.y {
+        return false;
+    }
+    if a.y < p.y && b.y < p.y && c.y < p.y {
+        return false;
+    }
+    in_triangle(a, b, c, p)
+}
+
 /// Whether a point of the map is strictly inside the triangle, or its corners don't stand counterclockwise.
 fn is_filled(plan: &Plan, a: u16, b: u16, c: u16) -> bool
     requires first { a < length plan.now.points }
@@ -42,7 +58,7 @@ fn is_filled(plan: &Plan, a: u16, b: u16, c: u16) -> bool
         return true;
     }
     for k in a.min(b).min(c)..a.max(b).max(c) {
-        if in_triangle(p, q, r, plan.place(k)) {
+        if is_inside(p, q, r, plan.place(k)) {
             return true;
         }
     }

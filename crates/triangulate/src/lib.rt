@@ -7,6 +7,7 @@ pub mod laws;
 mod rounds;
 pub mod segments;
 mod spokes;
+mod stars;
 mod triangles;
 mod web;
 

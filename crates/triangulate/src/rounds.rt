@@ -9,11 +9,13 @@ ghost use Rattle.sight_names.specs.Greedy.{square_length, line_edges, IsGreedy, 
 ghost use Rattle.triangulate.specs.declared.rounds.PointPair.{PointPair};
 ghost use Rattle.triangulate.specs.Kept.{AreEdges, edges_of};
 ghost use Rattle.triangulate.specs.Pairs.{AreNumbers, AreInOrder, ArePairsBetween, AddsIfBetween, AddsPairs, IsReach, IsSquareBetween, IsWithin, pair_edge};
+ghost use Rattle.triangulate.specs.Stars.{AreStars};
 ghost use Rattle.triangulate.specs.Rounds.{AddsIfOpen, IsShutOff, KeepsFree, KeepsIfFree, edges_of_line};
 
 use crate::closed::is_closed;
 use crate::segments::Segments;
 use crate::spokes::{is_fenced, is_free};
+use crate::stars::Stars;
 use crate::web::Web;
 use sight_names::{Line, Memory, Plan, Pt};
 use std::alloc::Global;
@@ -33,6 +35,7 @@ pub fn greedy(alloc: Global, plan: &Plan) -> Result<Segments, Memory>
     ensures greedy { IfOk result (λ kept. IsGreedy (map_of plan.now) kept) }
 {
     let mut web = lines_of(alloc, plan)?;
+    let mut stars = stars_of(alloc, plan, &web)?;
     let mut live = all_points(alloc, plan)?;
     let longest = 3 * reach_of(plan) + 1;
     let mut low = 0u32;
@@ -41,7 +44,7 @@ pub fn greedy(alloc: Global, plan: &Plan) -> Result<Segments, Memory>
         live = open_points(alloc, plan, &web, live.as_slice())?;
         let mut pairs = pairs_between(alloc, plan, live.as_slice(), low, high)?;
         sort_pairs(&mut pairs)?;
-        keep_free_pairs(plan, &mut web, pairs.as_slice())?;
+        keep_free_pairs(plan, &mut web, &mut stars, pairs.as_slice())?;
         low = high;
         high = 2 * high;
     }
@@ -73,6 +76,18 @@ fn push_line(plan: &Plan, web: &mut Web, line: Option<Line>) -> Result<(), Memor
         web.push(line.a, line.b)?;
     }
     Ok(())
+}
+
+/// The stars of all points in the web.
+fn stars_of(alloc: Global, plan: &Plan, web: &Web) -> Result<Stars, Memory>
+    requires points { web.now.points ≡ length plan.now.points }
+    ensures { IfOk result (λ s. AreStars (map_of plan.now) web.now.segments s.stars.items) }
+{
+    let mut stars = Stars::of(alloc, plan)?;
+    for segment in web.segments() {
+        stars.add(plan, segment.from, segment.to);
+    }
+    Ok(stars)
 }
 
 /// The greatest absolute value of a coordinate. No segment is three times as long.
@@ -238,26 +253,40 @@ fn sort_pairs(pairs: &mut Vec<PointPair>) -> Result<(), Memory>
 }
 
 /// Keeps each pair, in order, that meets all kept segments at ends of both alone.
-fn keep_free_pairs(plan: &Plan, web: &mut Web, pairs: &[PointPair]) -> Result<(), Memory>
+fn keep_free_pairs(
+    plan: &Plan,
+    web: &mut Web,
+    stars: &mut Stars,
+    pairs: &[PointPair],
+) -> Result<(), Memory>
     requires plan { IsPlan plan.now }
     requires points { web.old.points ≡ length plan.now.points }
+    requires stars { AreStars (map_of plan.now) web.old.segments stars.old.stars.items }
     requires order { AreInOrder pairs.now }
     requires pairs { (p : PointPair) → Contains pairs.now p → IsPointPair (map_of plan.now) (pair_edge p) }
     ensures points { OnOk result (web.new.points ≡ length plan.now.points) }
+    ensures stars { OnOk result (AreStars (map_of plan.now) web.new.segments stars.new.stars.items) }
     ensures keeps { OnOk result (KeepsFree (map_of plan.now) pairs.now (edges_of web.old.segments) (edges_of web.new.segments)) }
 {
     for pair in pairs {
-        keep_if_free(plan, web, *pair)?;
+        keep_if_free(plan, web, stars, *pair)?;
     }
     Ok(())
 }
 
 /// Keeps the pair, if it meets all kept segments at ends of both alone.
-fn keep_if_free(plan: &Plan, web: &mut Web, pair: PointPair) -> Result<(), Memory>
+fn keep_if_free(
+    plan: &Plan,
+    web: &mut Web,
+    stars: &mut Stars,
+    pair: PointPair,
+) -> Result<(), Memory>
     requires points { web.old.points ≡ length plan.now.points }
+    requires stars { AreStars (map_of plan.now) web.old.segments stars.old.stars.items }
     requires order { pair.from < pair.to }
     requires within { pair.to < length plan.now.points }
     ensures points { OnOk result (web.new.points ≡ length plan.now.points) }
+    ensures stars { OnOk result (AreStars (map_of plan.now) web.new.segments stars.new.stars.items) }
     ensures keeps { OnOk result (KeepsIfFree (map_of plan.now) (pair_edge pair) (edges_of web.old.segments) (edges_of web.new.segments)) }
 {
     if is_fenced(plan, web, pair.from, pair.to) {
@@ -266,9 +295,10 @@ fn keep_if_free(plan: &Plan, web: &mut Web, pair: PointPair) -> Result<(), Memor
     if is_fenced(plan, web, pair.to, pair.from) {
         return Ok(());
     }
-    if !is_free(plan, web, pair.from, pair.to) {
+    if !is_free(plan, web, stars, pair.from, pair.to) {
         return Ok(());
     }
     web.push(pair.from, pair.to)?;
+    stars.add(plan, pair.from, pair.to);
     Ok(())
 }

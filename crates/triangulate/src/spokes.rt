@@ -1,14 +1,16 @@
 //! The segments at a point: its spokes.
 
-ghost use Rattle.std.specs.Prelude.{ℕ, ◌≡◌, ◌<◌, ◌≤◌, ◌≢◌, ◌↔◌, IsTrue, IfSome, length};
+ghost use Rattle.std.specs.Prelude.{◌≡◌, ◌<◌, ◌≢◌, ◌↔◌, IsTrue, IfSome, length};
 ghost use Rattle.std.specs.Bool.{OnTrue, OnFalse};
 ghost use Rattle.sight_names.specs.Map.{map_of};
 ghost use Rattle.sight_names.specs.Plan.{IsPlan};
 ghost use Rattle.sight_names.specs.Sound.{MeetAtEnds};
 ghost use Rattle.triangulate.specs.Kept.{edges_of, MeetsEach, IsBarred};
-ghost use Rattle.triangulate.specs.Spokes.{IsSpoke, SpokesMeet, HasBarAt, MayReach, StaysBefore};
+ghost use Rattle.triangulate.specs.Spokes.{IsSpoke, SpokesMeet, HasBarAt};
+ghost use Rattle.triangulate.specs.Stars.{AreStars};
 ghost use Rattle.triangulate.specs.Next.{IsNextLeft, IsNextRight, IsBestLeft, IsBestRight};
 
+use crate::stars::{Stars, strip_of};
 use crate::web::Web;
 use geom_exact::turn;
 use mesh_shape::meet_at_ends;
@@ -152,9 +154,10 @@ fn is_met(p: Pt, q: Pt, r: Pt, s: Pt) -> bool
 }
 
 /// Whether each kept segment meets the segment from `i` to `j` at ends of both alone. Segments whose point numbers are
-/// all before `i` or all behind `j` are apart from it.
-pub fn is_free(plan: &Plan, web: &Web, i: u16, j: u16) -> bool
+/// all before `i` or all behind `j` are apart from it, and so are those of points whose stars lie above or below both.
+pub fn is_free(plan: &Plan, web: &Web, stars: &Stars, i: u16, j: u16) -> bool
     requires points { web.now.points ≡ length plan.now.points }
+    requires stars { AreStars (map_of plan.now) web.now.segments stars.now.stars.items }
     requires order { i < j }
     requires second { j < web.now.points }
     ensures free { OnTrue result (MeetsEach (map_of plan.now) (edges_of web.now.segments) (record { from = i; to = j })) }
@@ -164,46 +167,15 @@ pub fn is_free(plan: &Plan, web: &Web, i: u16, j: u16) -> bool
     if kept.is_empty() {
         return true;
     }
-    let mut u = next_reaching(web, 0, i, j);
+    let strip = strip_of(plan, i, j);
+    let mut u = stars.next(0, strip);
     while u < j {
         if !spokes_meet(plan, web, u, i, j) {
             return false;
         }
-        u = next_tried(web, u, i, j);
+        u = stars.next(u + 1, strip);
     }
     spokes_meet(plan, web, j, i, j)
-}
-
-/// The first point from `start` on whose spokes may go behind `j`; `end` where none before it does.
-fn next_reaching(web: &Web, start: u16, end: u16, j: u16) -> u16
-    requires order { start ≤ end }
-    requires within { end ≤ web.now.points }
-    ensures from { start ≤ result }
-    ensures to { result ≤ end }
-    ensures passed { (w : ℕ) → start ≤ w → w < result → StaysBefore web.now.segments j w }
-{
-    let mut u = start;
-    while u < end {
-        if web.far(u) > j {
-            return u;
-        }
-        u += 1;
-    }
-    end
-}
-
-/// The next point behind `u` whose spokes may reach the points from `i` to `j`: before `i` most are passed over.
-fn next_tried(web: &Web, u: u16, i: u16, j: u16) -> u16
-    requires points { i ≤ web.now.points }
-    requires small { u < 65535 }
-    ensures behind { u < result }
-    ensures passed { (w : ℕ) → u < w → w < result → ¬ MayReach web.now.segments i j w }
-{
-    if u + 1 < i {
-        next_reaching(web, u + 1, i, j)
-    } else {
-        u + 1
-    }
 }
 
 /// Whether a segment joins `u` and `v` and meets the segment from `i` to `j` otherwise than at ends of both.

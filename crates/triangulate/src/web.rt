@@ -22,7 +22,6 @@ pub struct Web {
     points: u16,
     segments: Vec<Segment>,
     last: Vec<usize>,
-    far: Vec<u16>,
     links: Vec<Links>,
 }
 
@@ -33,7 +32,7 @@ impl Model for Web {
 
     ghost view = { λ w. record { points = w.points; segments = w.segments.items } };
 
-    ghost invariant = { λ w. IsWeb w.points w.segments.items w.last.items w.far.items w.links.items };
+    ghost invariant = { λ w. IsWeb w.points w.segments.items w.last.items w.links.items };
 }
 
 impl Web {
@@ -45,7 +44,6 @@ impl Web {
             points,
             segments: Vec::new(alloc),
             last: vec![in alloc; 0usize; points as usize]?,
-            far: vec![in alloc; 0u16; points as usize]?,
             links: Vec::new(alloc),
         })
     }
@@ -69,8 +67,6 @@ impl Web {
         let count = self.segments.len();
         self.last[from as usize] = count;
         self.last[to as usize] = count;
-        self.far[from as usize] = self.far[from as usize].max(to);
-        self.far[to as usize] = self.far[to as usize].max(from);
         Ok(())
     }
 
@@ -98,7 +94,6 @@ impl Web {
             points: _,
             segments,
             last: _,
-            far: _,
             links: _,
         } = self;
         segments
@@ -134,13 +129,5 @@ impl Web {
     {
         let s = self.segments[k];
         if s.from == u { s.to } else { s.from }
-    }
-
-    /// At least the greatest number that a segment at the point reaches.
-    pub fn far(&self, u: u16) -> u16
-        requires { u < self.now.points }
-        ensures { (k : ℕ) (d : Segment) → k < length self.now.segments → has_end u (slice_index_or self.now.segments k d) ≡ true → other_end u (slice_index_or self.now.segments k d) ≤ result }
-    {
-        self.far[u as usize]
     }
 }

@@ -12,7 +12,7 @@ use Rattle.triangulate.proofs.closed.is_filled.Goals as goal
 pub loop-k-preserved : goal.loop-k-preserved
 loop-k-preserved c =
     let m = map_of c.args.plan.now in
-    inside_more m c.args.a c.args.b c.args.c c.min-k.result c.loop-k.k c.loop-k.invariant (λ inside. false≢true (sym c.if-in_triangle.false ∙ c.in_triangle.ensures.1 (
+    inside_more m c.args.a c.args.b c.args.c c.min-k.result c.loop-k.k c.loop-k.invariant (λ inside. false≢true (sym c.if-is_inside.false ∙ c.is_inside.ensures.1 (
       subst (λ (t : ℤ). pos 0 <ℤ t) (sym (moved_turn _ _ _ (place m c.args.a) (place m c.args.b) (place m c.loop-k.k) c.place-p.ensures.place c.place-q.ensures.place c.place.ensures.place)) inside.0,
       subst (λ (t : ℤ). pos 0 <ℤ t) (sym (moved_turn _ _ _ (place m c.args.b) (place m c.args.c) (place m c.loop-k.k) c.place-q.ensures.place c.place-r.ensures.place c.place.ensures.place)) inside.1,
       subst (λ (t : ℤ). pos 0 <ℤ t) (sym (moved_turn _ _ _ (place m c.args.c) (place m c.args.a) (place m c.loop-k.k) c.place-r.ensures.place c.place-p.ensures.place c.place.ensures.place)) inside.2,

@@ -19,6 +19,7 @@ loop-low-init c =
     let m = map_of c.args.plan.now in
     record {
       points = c.in_ok-web.ensures.points;
+      stars = c.in_ok-stars.ensures;
       numbers = c.in_ok-live.ensures.numbers;
       bounds = inl (omega arith, omega arith);
       so_far = subst (IsGreedySoFar m (IsShorter m 0)) (sym c.in_ok-web.ensures.lines) (greedy_at_first m (IsShorter m 0) (λ e h. omega arith));
@@ -48,6 +49,7 @@ loop-low-preserved c =
     ] in
     record {
       points = c.in_ok-keep_free_pairs.ensures.points;
+      stars = c.in_ok-keep_free_pairs.ensures.stars;
       numbers = c.in_ok-live-2.ensures.numbers;
       bounds = inr (omega arith, omega arith, omega arith);
       so_far = round_done m c.loop-low.low c.loop-low.high c.in_ok-live-2.live.items c.in_ok-pairs.pairs.items c.sort_pairs.new.pairs.items old _ (rises c.loop-low.low c.loop-low.high c.loop-low.invariant.bounds) c.loop-low.invariant.so_far

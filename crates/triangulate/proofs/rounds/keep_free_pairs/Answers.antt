@@ -12,6 +12,7 @@ use Rattle.triangulate.proofs.rounds.keep_free_pairs.Goals as goal
 pub loop-pair-init : goal.loop-pair-init
 loop-pair-init c = record {
   points = c.requires.points;
+  stars = c.requires.stars;
   kept = λ f k. k;
   tried = try_none (map_of c.args.plan.now) c.args.pairs.now (edges_of c.args.web.now.segments);
 }
@@ -34,6 +35,7 @@ loop-pair-preserved c =
     let keeps = c.in_ok-keep_if_free.ensures.keeps in
     record {
       points = c.in_ok-keep_if_free.ensures.points;
+      stars = c.in_ok-keep_if_free.ensures.stars;
       kept = λ f k. grown (map_of c.args.plan.now) (pair_edge p) (edges_of c.loop-pair.web.segments) _ keeps f (c.loop-pair.invariant.kept f k);
       tried = try_next (map_of c.args.plan.now) c.args.pairs.now c.loop-pair.pair-index p (edges_of c.args.web.now.segments) (edges_of c.loop-pair.web.segments) _ at c.requires.order pair (pair_bar c.args.plan.now c.requires.plan (pair_edge p) pair) keeps c.loop-pair.invariant.tried;
     }

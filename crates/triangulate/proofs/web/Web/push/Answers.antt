@@ -10,5 +10,5 @@ invariant_of-self-2 c =
     let el : c.push-2.new.self.items ≡ c.self.inside.links.items ++ (record { from = c.index.result.now; to = c.index-2.result.now }) ∷ [] = grind (arith, common_steps) in
     let en : c.len-count.result ≡ length c.push.new.self.items = grind (arith, common_steps) in
     let f : c.self.inside.points ≡ c.args.self.now.points = ap (λ (w : WebParts). w.points) c.self.view_is in
-    push_made c.self.inside.points c.self.inside.segments.items c.self.inside.last.items c.self.inside.far.items c.self.inside.links.items c.args.from c.args.to c.len-count.result c.index.result.now c.index-2.result.now c.max.result c.max-2.result c.index-3.result.now c.index-4.result.now _ _
-    c.self.invariant (let h = c.requires.from in omega arith) (let h = c.requires.to in omega arith) c.requires.differ es en c.index.ensures c.index-2.ensures el c.index-3.ensures c.max.ensures c.index-4.ensures c.max-2.ensures
+    push_made c.self.inside.points c.self.inside.segments.items c.self.inside.last.items c.self.inside.links.items c.args.from c.args.to c.len-count.result c.index.result.now c.index-2.result.now _ _
+    c.self.invariant (let h = c.requires.from in omega arith) (let h = c.requires.to in omega arith) c.requires.differ es en c.index.ensures c.index-2.ensures el
