@@ -207,10 +207,20 @@ pub fn is_fenced(plan: &Plan, web: &Web, i: u16, j: u16) -> bool
     requires differ { i ≢ j }
     ensures { OnTrue result (IsBarred (map_of plan.now) (edges_of web.now.segments) (record { from = i; to = j })) }
 {
-    if !spokes_meet(plan, web, i, i, j) {
-        return true;
+    let (from, to) = (plan.place(i), plan.place(j));
+    let (mut left, mut right) = (None, None);
+    let mut at = web.last(i);
+    while at > 0 {
+        let c = web.other(at - 1, i);
+        let end = plan.place(c);
+        if turn(from, to, end) == 0 && !meet_at_ends(from, to, from, end) {
+            return true;
+        }
+        left = first_left(plan, from, to, left, c);
+        right = first_right(plan, from, to, right, c);
+        at = web.earlier(at - 1, i);
     }
-    match (next_left(plan, web, i, j), next_right(plan, web, i, j)) {
+    match (left, right) {
         (Some(u), Some(v)) => is_fence(plan, web, u, v, i, j),
         _ => false,
     }
