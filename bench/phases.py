@@ -39,7 +39,7 @@ def phases(words, folder):
     record = os.path.join(folder, "perf.data")
     profile = ["perf", "record", "-q", "-e", "cpu-clock", "-F", str(SAMPLES), "-o", record]
     subprocess.run(profile + words, stdout=subprocess.DEVNULL, check=True)
-    listed = subprocess.run(["perf", "script", "-i", record, "-F", "sym"], capture_output=True, text=True, check=True)
+    listed = subprocess.run(["perf", "script", "-i", record, "-F", "ip,sym"], capture_output=True, text=True, check=True)
     counts, at = [0] * (len(STARTS) + 1), 0
     for symbol in filter(str.strip, listed.stdout.split("\n")):
         at = next((k + 1 for k in range(at, len(STARTS)) if STARTS[k][1] in symbol), at)

@@ -1,7 +1,7 @@
 //! Numbers sorted into classes, each named by its least member.
 
 ghost use Rattle.std.specs.Prelude.{◌≡◌, ◌<◌, IfOk, length};
-ghost use Rattle.tri_sectors.specs.Classes.{AreLeast, AreMerged, AreRenamed, AreSingles};
+ghost use Rattle.tri_sectors.specs.Classes.{renamed, AreLeast, AreMerged, AreRenamed, AreSingles};
 
 use sight_names::Memory;
 use std::alloc::Global;
@@ -33,13 +33,18 @@ pub fn merge(classes: &mut [u16], a: u16, b: u16)
     }
 }
 
-/// Puts `to` for each `from`.
+/// The number, but `to` for `from`.
+fn put_for(class: u16, from: u16, to: u16) -> u16
+    ensures { result ≡ renamed from to class }
+{
+    if class == from { to } else { class }
+}
+
+/// Puts `to` for each `from`. Each number is written, so that many are looked at in one step of the machine.
 fn rename(classes: &mut [u16], from: u16, to: u16)
     ensures { AreRenamed from to classes.old classes.new }
 {
     for class in classes.iter_mut() {
-        if *class == from {
-            *class = to;
-        }
+        *class = put_for(*class, from, to);
     }
 }

@@ -3,7 +3,7 @@ use Rattle.std.proofs.Common.{max, ◌≡◌, ℕ, ◌+◌, ◌<◌, ◌≤◌, 
 use Rattle.std.proofs.lemmas.Int.{ints}
 use Rattle.std.proofs.lemmas.Option.{same_Some, slice_get-get_or}
 use Rattle.exact_ring.proofs.Quoting.{quoting, by_ring}
-use Rattle.exact_ring.proofs.Signs.{mul-pos}
+use Rattle.exact_ring.proofs.Signs.{mul-pos, le_or_lt}
 use Rattle.exact_ring.proofs.MoreSigns.{mul-neg}
 use Rattle.sight_names.specs.declared.names.Pt.{Pt}
 use Rattle.sight_names.specs.Map.{Map, map_of, origin}
@@ -13,7 +13,8 @@ use Rattle.sight_names.proofs.PlanNumbers.{place_of_plan, count_of_plan}
 use Rattle.geom_exact.specs.Formulas.{turn_of}
 use Rattle.geom_exact.proofs.InsideLemmas.{inside_of_turns}
 use Rattle.mesh_shape.proofs.Separate.{inside_numbers}
-use Rattle.triangulate.specs.Closed.{turn_between, IsEmptyTriangle, HasNoneLeft}
+use Rattle.triangulate.specs.declared.closed.Heights.{Heights}
+use Rattle.triangulate.specs.Closed.{turn_between, IsBetween, IsEmptyTriangle, HasNoneLeft}
 
 -- ---- on the left
 
@@ -47,7 +48,7 @@ unfolding turn_of
 balanced a b c p = by_ring (a.x ∷ a.y ∷ b.x ∷ b.y ∷ c.x ∷ c.y ∷ p.x ∷ p.y ∷ []) _ _ (search quoting depth 60 fits 400000) (search quoting depth 60 fits 400000) tt
 
 -- no point below all corners or above them is inside
-pub below_outside : (a b c p : Pt) → p.y <ℤ a.y → p.y <ℤ b.y → p.y <ℤ c.y → ¬ ((pos 0 <ℤ turn_of a b p) × (pos 0 <ℤ turn_of b c p) × (pos 0 <ℤ turn_of c a p))
+below_outside : (a b c p : Pt) → p.y <ℤ a.y → p.y <ℤ b.y → p.y <ℤ c.y → ¬ ((pos 0 <ℤ turn_of a b p) × (pos 0 <ℤ turn_of b c p) × (pos 0 <ℤ turn_of c a p))
 below_outside a b c p ha hb hc h =
     let x = mul-pos (turn_of b c p) (a.y -ℤ p.y) h.1 (omega (arith, ints)) in
     let y = mul-pos (turn_of c a p) (b.y -ℤ p.y) h.2 (omega (arith, ints)) in
@@ -57,7 +58,7 @@ below_outside a b c p ha hb hc h =
     three : (x y z : ℤ) → pos 0 <ℤ x → pos 0 <ℤ y → pos 0 <ℤ z → x +ℤ y +ℤ z ≡ pos 0 → ⊥
     three x y z f g h e = omega (arith, ints)
 
-pub above_outside : (a b c p : Pt) → a.y <ℤ p.y → b.y <ℤ p.y → c.y <ℤ p.y → ¬ ((pos 0 <ℤ turn_of a b p) × (pos 0 <ℤ turn_of b c p) × (pos 0 <ℤ turn_of c a p))
+above_outside : (a b c p : Pt) → a.y <ℤ p.y → b.y <ℤ p.y → c.y <ℤ p.y → ¬ ((pos 0 <ℤ turn_of a b p) × (pos 0 <ℤ turn_of b c p) × (pos 0 <ℤ turn_of c a p))
 above_outside a b c p ha hb hc h =
     let x = mul-neg (turn_of b c p) (a.y -ℤ p.y) h.1 (omega (arith, ints)) in
     let y = mul-neg (turn_of c a p) (b.y -ℤ p.y) h.2 (omega (arith, ints)) in
@@ -66,6 +67,19 @@ above_outside a b c p ha hb hc h =
   where
     three : (x y z : ℤ) → x <ℤ pos 0 → y <ℤ pos 0 → z <ℤ pos 0 → x +ℤ y +ℤ z ≡ pos 0 → ⊥
     three x y z f g h e = omega (arith, ints)
+
+under : (x y z : ℤ) → x <ℤ y → y ≤ℤ z → x <ℤ z
+under x y z h k = omega (arith, ints)
+
+over : (x y z : ℤ) → x ≤ℤ y → y <ℤ z → x <ℤ z
+over x y z h k = omega (arith, ints)
+
+-- a point inside has a y that the corners span
+pub inside_within : (a b c p : Pt) (h : Heights) → IsBetween a h → IsBetween b h → IsBetween c h → (pos 0 <ℤ turn_of a b p) × (pos 0 <ℤ turn_of b c p) × (pos 0 <ℤ turn_of c a p) → IsBetween p h
+inside_within a b c p h ha hb hc inside = (
+  elim (le_or_lt h.low p.y) [ inl le ↦ le | inr lt ↦ absurd (below_outside a b c p (under p.y h.low a.y lt ha.0) (under p.y h.low b.y lt hb.0) (under p.y h.low c.y lt hc.0) inside) ],
+  elim (le_or_lt p.y h.high) [ inl le ↦ le | inr lt ↦ absurd (above_outside a b c p (over a.y h.high p.y ha.1 lt) (over b.y h.high p.y hb.1 lt) (over c.y h.high p.y hc.1 lt) inside) ],
+)
 
 turn_first : (a c : Pt) → turn_of a a c ≡ pos 0
 unfolding turn_of

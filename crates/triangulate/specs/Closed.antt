@@ -1,10 +1,17 @@
 -- Spokes that leave no room for a further segment beside them.
 use Rattle.std.specs.Prelude.{ℕ, ◌<◌, ◌⊎◌, List, length, ℤ, pos, ◌<ℤ◌, ◌≤ℤ◌}
+use Rattle.sight_names.specs.declared.names.Pt.{Pt}
 use Rattle.sight_names.specs.Map.{Map}
 use Rattle.sight_names.specs.Points.{points_of, place}
 use Rattle.geom_exact.specs.Formulas.{turn_of}
 use Rattle.triangulate.specs.declared.segments.Segment.{Segment}
+use Rattle.triangulate.specs.declared.closed.Heights.{Heights}
 use Rattle.triangulate.specs.Spokes.{IsSpoke}
+use Rattle.triangulate.specs.Next.{IsFirstLeft}
+
+-- the point's y is in the range
+abbrev pub IsBetween : Pt → Heights → Type 0
+IsBetween p h = (h.low ≤ℤ p.y) × (p.y ≤ℤ h.high)
 
 abbrev pub turn_between : Map → ℕ → ℕ → ℕ → ℤ
 turn_between m a b c = turn_of (place m a) (place m b) (place m c)
@@ -21,6 +28,14 @@ HasTriangleLeft m segs a b = (c : ℕ) × IsSpoke segs a c × IsSpoke segs b c �
 -- and on its right
 abbrev pub HasTriangleRight : Map → List Segment → ℕ → ℕ → Type 0
 HasTriangleRight m segs a b = (c : ℕ) × IsSpoke segs a c × IsSpoke segs c b × IsEmptyTriangle m a c b
+
+-- the first spoke on the left of the spoke from a to b isn't joined with it
+abbrev pub HasGapLeft : Map → List Segment → ℕ → ℕ → Type 0
+HasGapLeft m segs a b = (c : ℕ) × IsFirstLeft m segs a b c × ¬ IsSpoke segs b c
+
+-- a spoke of a isn't joined with the first one on its left
+abbrev pub HasGapAt : Map → List Segment → ℕ → Type 0
+HasGapAt m segs a = (b : ℕ) × IsSpoke segs a b × HasGapLeft m segs a b
 
 -- no point of the map is strictly on the left of the way from a to b
 abbrev pub HasNoneLeft : Map → ℕ → ℕ → Type 0

@@ -5,7 +5,7 @@ ghost use Rattle.std.specs.Bool.{OnTrue, OnFalse};
 ghost use Rattle.geom_exact.specs.Formulas.{turn_of};
 ghost use Rattle.sight_names.specs.Map.{map_of};
 ghost use Rattle.sight_names.specs.Plan.{IsPlan};
-ghost use Rattle.triangulate.specs.Closed.{HasNoneLeft, HasTriangleLeft, HasTriangleRight, IsEmptyTriangle, IsShut};
+ghost use Rattle.triangulate.specs.Closed.{HasNoneLeft, HasTriangleLeft, HasTriangleRight, HasGapLeft, HasGapAt, IsBetween, IsEmptyTriangle, IsShut};
 ghost use Rattle.triangulate.specs.Kept.{edges_of};
 ghost use Rattle.triangulate.specs.Rounds.{IsShutOff};
 ghost use Rattle.triangulate.specs.Spokes.{IsSpoke};
@@ -30,19 +30,41 @@ fn has_left(plan: &Plan, a: u16, b: u16) -> bool
     false
 }
 
-/// Whether the point is strictly inside the triangle, whose corners stand counterclockwise. Most points lie above or below
-/// it, which is seen without a product.
-fn is_inside(a: Pt, b: Pt, c: Pt, p: Pt) -> bool
-    requires { pos 0 <ℤ turn_of a b c }
+/// A range of y.
+#[derive(Clone, Copy)]
+struct Heights {
+    low: i16,
+    high: i16,
+}
+
+/// The range of y that the corners span.
+fn heights_of(a: Pt, b: Pt, c: Pt) -> Heights
+    ensures first { IsBetween a result }
+    ensures second { IsBetween b result }
+    ensures third { IsBetween c result }
+{
+    Heights {
+        low: a.y.min(b.y).min(c.y),
+        high: a.y.max(b.y).max(c.y),
+    }
+}
+
+/// Whether the point's y is in the range. Both sides are looked at: mostly one of them says no, and which one is a toss.
+fn is_between(p: Pt, heights: Heights) -> bool
+    ensures { IsTrue result ↔ IsBetween p heights }
+{
+    (heights.low <= p.y) & (p.y <= heights.high)
+}
+
+/// Whether the point is strictly inside the triangle, whose corners stand counterclockwise and span this range of y.
+fn is_inside(a: Pt, b: Pt, c: Pt, heights: Heights, p: Pt) -> bool
+    requires turn { pos 0 <ℤ turn_of a b c }
+    requires first { IsBetween a heights }
+    requires second { IsBetween b heights }
+    requires third { IsBetween c heights }
     ensures { IsTrue result ↔ ((pos 0 <ℤ turn_of a b p) × (pos 0 <ℤ turn_of b c p) × (pos 0 <ℤ turn_of c a p)) }
 {
-    if p.y < a.y && p.y < b.y && p.y < c.y {
-        return false;
-    }
-    if a.y < p.y && b.y < p.y && c.y < p.y {
-        return false;
-    }
-    in_triangle(a, b, c, p)
+    is_between(p, heights) && in_triangle(a, b, c, p)
 }
 
 /// Whether a point of the map is strictly inside the triangle, or its corners don't stand counterclockwise.
@@ -57,8 +79,9 @@ fn is_filled(plan: &Plan, a: u16, b: u16, c: u16) -> bool
     if turn(p, q, r) <= 0 {
         return true;
     }
+    let heights = heights_of(p, q, r);
     for k in a.min(b).min(c)..a.max(b).max(c) {
-        if is_inside(p, q, r, plan.place(k)) {
+        if is_inside(p, q, r, heights, plan.place(k)) {
             return true;
         }
     }
@@ -150,12 +173,45 @@ fn has_triangle_at(plan: &Plan, web: &Web, a: u16) -> bool
     false
 }
 
+/// Whether the first spoke on the left of the spoke from `a` to `b` isn't joined with it.
+fn has_gap_left(plan: &Plan, web: &Web, a: u16, b: u16) -> bool
+    requires points { web.now.points ≡ length plan.now.points }
+    requires first { a < web.now.points }
+    requires second { b < web.now.points }
+    ensures { OnTrue result (HasGapLeft (map_of plan.now) web.now.segments a b) }
+{
+    match next_left(plan, web, a, b) {
+        Some(c) => !has_spoke(web, b, c),
+        None => false,
+    }
+}
+
+/// Whether a spoke of the point isn't joined with the first one on its left. Most points that aren't closed show it here,
+/// before any triangle is searched.
+fn has_gap(plan: &Plan, web: &Web, a: u16) -> bool
+    requires points { web.now.points ≡ length plan.now.points }
+    requires at { a < web.now.points }
+    ensures { OnTrue result (HasGapAt (map_of plan.now) web.now.segments a) }
+{
+    let mut at = web.last(a);
+    while at > 0 {
+        if has_gap_left(plan, web, a, web.other(at - 1, a)) {
+            return true;
+        }
+        at = web.earlier(at - 1, a);
+    }
+    false
+}
+
 /// Whether each spoke of the point is shut, and some spoke has a triangle on its left.
 pub fn is_closed(plan: &Plan, web: &Web, a: u16) -> bool
     requires points { web.now.points ≡ length plan.now.points }
     requires at { a < web.now.points }
     ensures { OnTrue result (IsShutOff (map_of plan.now) (edges_of web.now.segments) a) }
 {
+    if has_gap(plan, web, a) {
+        return false;
+    }
     if !are_spokes_shut(plan, web, a) {
         return false;
     }

@@ -1,11 +1,10 @@
-use Rattle.std.proofs.Common.{arith}
-use Rattle.std.proofs.lemmas.Int.{ints}
+use Rattle.std.proofs.Common.{sym, ◌∙◌}
 use Rattle.std.proofs.lemmas.Bool.{false≢true}
-use Rattle.triangulate.proofs.Filling.{below_outside, above_outside}
+use Rattle.triangulate.proofs.Filling.{inside_within}
 use Rattle.triangulate.proofs.closed.is_inside.Goals as goal
 
-pub returns-then-p-c : goal.returns-then-p-c
-returns-then-p-c c = (λ h. absurd (false≢true h), λ h. absurd (below_outside c.args.a c.args.b c.args.c c.args.p (omega (arith, ints)) (omega (arith, ints)) (omega (arith, ints)) h))
-
-pub returns-then-c-p : goal.returns-then-c-p
-returns-then-c-p c = (λ h. absurd (false≢true h), λ h. absurd (above_outside c.args.a c.args.b c.args.c c.args.p (omega (arith, ints)) (omega (arith, ints)) (omega (arith, ints)) h))
+pub returns-else-is_between : goal.returns-else-is_between
+returns-else-is_between c = (
+  λ h. absurd (false≢true (sym c.if-is_between.false ∙ h)),
+  λ h. absurd (false≢true (sym c.if-is_between.false ∙ c.is_between.ensures.1 (inside_within c.args.a c.args.b c.args.c c.args.p c.args.heights c.requires.first c.requires.second c.requires.third h))),
+)
