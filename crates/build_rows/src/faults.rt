@@ -1,10 +1,10 @@
 //! Maps that `build` refuses, and stores that fail.
 
+use run_cases::{Failing, SOUND, said_by, shelf_of};
 use sight_run::code;
 use std::alloc::{AllocError, Global};
 use std::test::Fail;
 use worked_maps::maps::{CROSSED, ISLAND, OPEN, U};
-use worked_maps::rows::{Failing, SOUND, said_by, shelf_of};
 use worked_maps::wads::{Made, bytes_of};
 
 const BUILD: &str = "build a MAP01 b --cert c";

@@ -1,9 +1,9 @@
 //! Made maps of rooms and corridors: built and checked in memory.
 
+use run_cases::{SOUND, said_by, shelf_of};
 use sight_run::code;
 use std::alloc::{AllocError, Global};
 use std::test::Fail;
-use worked_maps::rows::{SOUND, said_by, shelf_of};
 
 fn line_of(alloc: Global, words: &str) -> Result<(u8, Vec<u8>), AllocError> {
     let mut shelf = shelf_of(alloc, &[], None, SOUND)?;

@@ -1,12 +1,12 @@
 //! The tables of worked maps.
 
-use crate::made::{Row, first_wrong};
+use crate::made::Row;
+use run_cases::{SOUND, first_wrong, said_by, shelf_of};
 use std::test::Fail;
 use worked_maps::maps::{
     APART, CROSSROADS, DOORS, DOORS33, LINE3, NO_LINES, PAIR, PILLAR, RINGS, SHUT_PAIR, SQUARE, U,
     WIDE,
 };
-use worked_maps::rows::{SOUND, said_by, shelf_of};
 use worked_maps::wads::{Made, RowLine, bytes_of};
 
 const BUILD: &str = "build a MAP01 b --cert c";

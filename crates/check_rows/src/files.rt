@@ -1,12 +1,12 @@
 //! Files that `check` reads: cut, missing, failing, and another map's.
 
 use crate::judged::says;
+use run_cases::{Failing, SOUND, said_by, shelf_of};
 use sight_run::code;
 use std::alloc::{AllocError, Global};
 use std::test::Fail;
 use worked_maps::certs::{SQUARE_CERT, U_CERT};
 use worked_maps::maps::{SQUARE, U};
-use worked_maps::rows::{Failing, SOUND, said_by, shelf_of};
 use worked_maps::wads::{Made, bytes_of};
 
 const TABLED: Made = Made::Map(&U, 3, &[0x44, 0]);

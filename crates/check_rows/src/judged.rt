@@ -1,10 +1,10 @@
 //! Runs of the order `check`.
 
+use run_cases::{Expected, SOUND, said_by, shelf_of};
 use sight_run::code;
 use std::alloc::{AllocError, Global};
 use worked_maps::certs::{Edit, U_CERT, edited};
 use worked_maps::maps::U;
-use worked_maps::rows::{SOUND, said_by, shelf_of};
 use worked_maps::wads::{Made, bytes_of};
 
 /// The map U with this REJECT, its certificate with these edits, and the line and code that `check` has to give.
@@ -34,18 +34,10 @@ pub fn says(
     )
 }
 
-fn is_right(alloc: Global, row: &Row) -> Result<bool, AllocError> {
-    let file = bytes_of(alloc, &Made::Map(&U, 3, row.reject))?;
-    let cert = edited(alloc, &U_CERT, row.edits)?;
-    says(alloc, &file, &cert, row.text, row.code)
-}
-
-/// The place of the first row that doesn't come out right.
-pub fn first_wrong(alloc: Global, rows: &[Row]) -> Result<Option<usize>, AllocError> {
-    for (k, row) in rows.iter().enumerate() {
-        if !is_right(alloc, row)? {
-            return Ok(Some(k));
-        }
+impl Expected for Row {
+    fn is_right(&self, alloc: Global) -> Result<bool, AllocError> {
+        let file = bytes_of(alloc, &Made::Map(&U, 3, self.reject))?;
+        let cert = edited(alloc, &U_CERT, self.edits)?;
+        says(alloc, &file, &cert, self.text, self.code)
     }
-    Ok(None)
 }

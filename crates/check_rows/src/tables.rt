@@ -1,6 +1,7 @@
 //! Tables of the map U judged by certificates, right and wrong.
 
-use crate::judged::{Row, first_wrong};
+use crate::judged::Row;
+use run_cases::first_wrong;
 use std::test::Fail;
 use worked_maps::certs::Edit;
 

@@ -1,5 +1,6 @@
 //! The orders `ray`, `audit` and `trace`.
 
+use run_cases::{Case, Output, SOUND, first_wrong};
 use sight_names::{LineFault, RayFault, Side, TraceFault};
 use sight_run::{Flaw, Status, Why};
 use std::test::Fail;
@@ -7,7 +8,6 @@ use worked_maps::maps::{
     CROSSED, DOORS33, ISLAND, LINE3, NO_LINES, OPEN, OVERLAPPED, PAIR, ROD, SHUT_PAIR, SQUARE,
     TOUCHED, U, WIDE,
 };
-use worked_maps::rows::{Case, Output, SOUND, first_wrong};
 use worked_maps::wads::{Made, RowLine};
 
 fn judged(

@@ -1,10 +1,10 @@
 //! The order `zero`: what it writes, what it refuses, and what stands where something fails.
 
+use run_cases::{Case, Failing, Output, SOUND, first_accepted_prefix, first_wrong};
 use sight_names::{Lump, LumpFault, MapFault, WadFault};
 use sight_run::{Bound, Role, Status, code};
 use std::test::Fail;
 use worked_maps::maps::{FLAT, SQUARE};
-use worked_maps::rows::{Case, Failing, Output, SOUND, first_accepted_prefix, first_wrong};
 use worked_maps::wads::{Made, bytes_of};
 
 const ZERO: &str = "zero a MAP01 b";

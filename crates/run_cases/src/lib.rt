@@ -1,11 +1,12 @@
-//! Cases of the top call: a file, words, what fails, and what has to come of it.
+//! Cases of the top call: a file, words, what fails, and what has to come of it. For the tests of the crates beside it.
+#![tactic(auto)]
 
-use crate::certs::{Edit, edited};
-use crate::wads::{Made, bytes_of};
 use shelf_io::{Fails, File, MemShelf, MemSink};
 use sight_names::WadFault;
 use sight_run::{Status, run};
 use std::alloc::{AllocError, Global};
+use worked_maps::certs::{Edit, edited};
+use worked_maps::wads::{Made, bytes_of};
 
 /// Which calls are to fail: reads, creates, appends and puts, each kind numbered from 0.
 #[derive(Clone, Copy)]
@@ -172,21 +173,29 @@ fn left_by_case(alloc: Global, case: &Case) -> Result<Left, AllocError> {
     }
 }
 
-fn is_right(alloc: Global, case: &Case) -> Result<bool, AllocError> {
-    let left = left_by_case(alloc, case)?;
-    let output = has_output(alloc, &left.output, &case.output)?;
-    Ok(
-        left.status == case.status
-            && left.text.as_slice() == case.text.as_bytes()
-            && left.kept
-            && output,
-    )
+/// What is expected of a run.
+pub trait Expected {
+    /// Whether it comes out so.
+    fn is_right(&self, alloc: Global) -> Result<bool, AllocError>;
 }
 
-/// The place of the first case that doesn't come out right.
-pub fn first_wrong(alloc: Global, cases: &[Case]) -> Result<Option<usize>, AllocError> {
-    for (k, case) in cases.iter().enumerate() {
-        if !is_right(alloc, case)? {
+impl Expected for Case {
+    fn is_right(&self, alloc: Global) -> Result<bool, AllocError> {
+        let left = left_by_case(alloc, self)?;
+        let output = has_output(alloc, &left.output, &self.output)?;
+        Ok(
+            left.status == self.status
+                && left.text.as_slice() == self.text.as_bytes()
+                && left.kept
+                && output,
+        )
+    }
+}
+
+/// The place of the first run that doesn't come out right.
+pub fn first_wrong<E: Expected>(alloc: Global, runs: &[E]) -> Result<Option<usize>, AllocError> {
+    for (k, run) in runs.iter().enumerate() {
+        if !run.is_right(alloc)? {
             return Ok(Some(k));
         }
     }
