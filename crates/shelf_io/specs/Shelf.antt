@@ -90,13 +90,13 @@ Fetches view (Err fetch.TooLong) content = content ≡ Err fetch.TooLong
 Fetches view (Err fetch.Failed) content = ⊤
 Fetches view (Err fetch.Memory) content = ⊤
 
--- each refusal of a fetch has its cause
+-- each refusal of a fetch has its cause, and no read failed where memory ran out
 abbrev pub FetchCause : {V : Type 0} → ShelfState → ShelfState → Result V FetchFault → Type 0
 FetchCause old new (Ok v) = SameCounts old new
 FetchCause old new (Err fetch.Absent) = NoFault old new × Rose old.absents new.absents
 FetchCause old new (Err fetch.Failed) = Rose old.read_faults new.read_faults
 FetchCause old new (Err fetch.TooLong) = SameCounts old new
-FetchCause old new (Err fetch.Memory) = ⊤
+FetchCause old new (Err fetch.Memory) = SameCounts old new
 
 -- after a create that failed: as before, or empty
 abbrev pub MayBeEmpty : Option Files → Option Files → List ℕ → Type 0

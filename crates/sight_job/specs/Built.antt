@@ -2,11 +2,13 @@
 use Rattle.std.specs.Prelude.{◌≡◌, ◌≢◌, ℕ, ◌<◌, ◌⊎◌, ◌↔◌, List, [], Option, Some, length, slice_get, Contains, false, ⊤}
 use Rattle.sight_names.specs.declared.names.Budget.{Budget}
 use Rattle.sight_names.specs.declared.names.Pair.{Pair}
+use Rattle.sight_names.specs.declared.names.PairRay.{PairRay}
 use Rattle.sight_names.specs.declared.faults.BuildFault.{BuildFault}
 use Rattle.sight_names.specs.declared.faults.BuildFault.TheVariants as build
 use Rattle.sight_names.specs.declared.faults.LabelFault.TheVariants as label
 use Rattle.sight_names.specs.declared.names.Triangle.{Triangle}
-use Rattle.sight_names.specs.Map.{Map, map_of}
+use Rattle.sight_names.specs.Map.{Map, Names, map_of}
+use Rattle.sight_names.specs.Ray.{IsInRange}
 use Rattle.sight_names.specs.Mesh.{AreLabelsOf, IsMeshOf}
 use Rattle.cert_format.specs.Parts.{CertParts}
 use Rattle.sight_job.specs.Labelled.{labelled_of}
@@ -64,6 +66,15 @@ pub record AreVerdicts (p : PlanParts) (budget : Budget) (v : Verdicts) : Type 0
 -- the certificate has a ray for a pair, the smaller sector first, exactly where its bit is clear and it isn't listed
 abbrev pub HasRaysOfClear : Built → Type 0
 HasRaysOfClear b = (x y : ℕ) → x < y → y < b.table.n → HasRay b.cert x y ↔ (¬ Rejects b.table x y × ¬ IsPairListed b.cert x y)
+
+-- the ray is in range, and goes from a side that names the first sector of its pair to a side that names the second
+pub record JoinsItsPair (m : Map) (r : PairRay) : Type 0 where
+  pub range : IsInRange r.ray
+  pub from : Names m r.ray.first r.pair.a
+  pub to : Names m r.ray.last r.pair.b
+
+abbrev pub RaysJoinPairs : Map → CertParts → Type 0
+RaysJoinPairs m c = (r : PairRay) → Contains c.rays r → JoinsItsPair m r
 
 -- both bits of a listed pair are clear
 abbrev pub ListsClear : Built → Type 0

@@ -7,7 +7,7 @@ ghost use Rattle.sight_names.specs.Mesh.{IsGoodMesh};
 ghost use Rattle.sight_names.specs.Sound.{IsSound, LinesMeetAtEnds};
 ghost use Rattle.cert_format.specs.Accepted.{triangles_of, labels_of};
 ghost use Rattle.sight_job.specs.Faces.{AreFacesOf};
-ghost use Rattle.sight_job.specs.Built.{sizes_of, AreWalks, IsBuildFault, AreVerdicts, HasRaysOfClear, ListsClear, IsSymmetric, HasDiagonal, HasTreesOfSet, HasTrianglesOf, IsWhole};
+ghost use Rattle.sight_job.specs.Built.{sizes_of, AreWalks, IsBuildFault, AreVerdicts, HasRaysOfClear, RaysJoinPairs, ListsClear, IsSymmetric, HasDiagonal, HasTreesOfSet, HasTrianglesOf, IsWhole};
 
 use crate::certificate::{cert_of, labelled};
 use crate::faces::{Faces, faces_of};
@@ -43,6 +43,7 @@ pub fn build_table(alloc: Global, plan: &Plan, budget: Budget) -> Result<Built, 
     ensures triangles { IfOk result (λ b. HasTrianglesOf (map_of plan.now) b.cert) }
     ensures mesh { IfOk result (λ b. IsGoodMesh (map_of plan.now) (triangles_of b.cert) (labels_of b.cert)) }
     ensures rays { IfOk result HasRaysOfClear }
+    ensures joined { IfOk result (λ b. RaysJoinPairs (map_of plan.now) b.cert) }
     ensures clear { IfOk result ListsClear }
     ensures symmetric { IfOk result IsSymmetric }
     ensures diagonal { IfOk result (HasDiagonal plan.now) }

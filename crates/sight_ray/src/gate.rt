@@ -71,7 +71,7 @@ fn are_parted(left: i64, right: i64) -> bool
 }
 
 /// Whether the crossing with the first segment comes strictly behind that with the second.
-pub fn is_behind(ray: &Ray, l1: Pt, l2: Pt, m1: Pt, m2: Pt) -> bool
+fn is_behind(ray: &Ray, l1: Pt, l2: Pt, m1: Pt, m2: Pt) -> bool
     requires range { IsInRange ray.now }
     requires first { AreOnTwoSides (side_value ray.now l1) (side_value ray.now l2) }
     requires second { AreOnTwoSides (side_value ray.now m1) (side_value ray.now m2) }
@@ -81,6 +81,16 @@ pub fn is_behind(ray: &Ray, l1: Pt, l2: Pt, m1: Pt, m2: Pt) -> bool
         Ordering::Greater => true,
         _ => false,
     }
+}
+
+/// Whether the crossing with the first gate comes strictly behind that with the second.
+pub fn is_backwards(ray: &Ray, start: Gate, stop: Gate) -> bool
+    requires range { IsInRange ray.now }
+    requires start_split { IsGate ray.now start }
+    requires stop_split { IsGate ray.now stop }
+    ensures { MatchBool result (AllBehind ray.now start.left start.right stop.left stop.right) (IsForward ray.now start stop) }
+{
+    is_behind(ray, start.left, start.right, stop.left, stop.right)
 }
 
 /// The least record number of a solid line that has a point of the stretch between the gates.

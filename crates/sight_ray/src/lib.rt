@@ -9,7 +9,7 @@ ghost use Rattle.sight_ray.specs.RayFault.{IsRayFault, HasNames, Leaves, Arrives
 
 mod gate;
 
-use gate::{Gate, first_hit, gate_of, is_behind};
+use gate::{Gate, first_hit, gate_of, is_backwards};
 use geom_exact::in_range;
 use sight_names::{Plan, Ray, RayFault, Side};
 
@@ -68,7 +68,7 @@ fn judge(plan: &Plan, ray: &Ray) -> Result<(u16, u16), RayFault>
     }
     let sectors = sectors_of(plan, ray)?;
     let (start, stop) = gates_of(plan, ray)?;
-    if is_behind(ray, start.left, start.right, stop.left, stop.right) {
+    if is_backwards(ray, start, stop) {
         return Err(RayFault::Backwards);
     }
     match first_hit(plan, ray, start, stop) {

@@ -9,6 +9,7 @@ use Rattle.cert_format.specs.Grammar.{IsInOrder}
 use Rattle.sight_job.proofs.BuildLaws.{cert_in_order, cert_is}
 use Rattle.sight_job.proofs.GoodLabelled.{labelled_are_good}
 use Rattle.sight_job.proofs.LabelledLaws.{below}
+use Rattle.sight_job.proofs.RayLaws.{rays_join}
 use Rattle.sight_job.proofs.VerdictLaws.{cert_rays, cert_trees, cert_set, listed_are_clear, both_bits_of, nothing_listed}
 use Rattle.sight_job.proofs.build.build_table.Goals as goal
 
@@ -22,6 +23,9 @@ cert_of-cert-requires c =
 
 pub returns-clause-rays : goal.returns-clause-rays
 returns-clause-rays c = cert_rays c.args.plan.now c.args.budget c.in_ok-verdicts.verdicts c.in_ok-verdicts.ensures c.cert_of-cert.result (ap (λ (d : CertParts). d.rays) c.cert_of-cert.ensures ∙ c.into_vec.ensures) (ap (λ (d : CertParts). d.listed) c.cert_of-cert.ensures ∙ (c.in_ok-listed.ensures.items ∙ c.as_slice.ensures)) (ap (λ (d : CertParts). d.trees) c.cert_of-cert.ensures ∙ c.into_vec-2.ensures)
+
+pub returns-clause-joined : goal.returns-clause-joined
+returns-clause-joined c = rays_join c.args.plan.now c.args.budget c.in_ok-verdicts.verdicts c.in_ok-verdicts.ensures c.cert_of-cert.result.rays (ap (λ (d : CertParts). d.rays) c.cert_of-cert.ensures ∙ c.into_vec.ensures)
 
 pub returns-clause-clear : goal.returns-clause-clear
 returns-clause-clear c = listed_are_clear c.args.plan.now c.args.budget c.in_ok-verdicts.verdicts c.in_ok-verdicts.ensures
