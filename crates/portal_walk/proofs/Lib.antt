@@ -1,4 +1,7 @@
 pub mod Weights
+pub mod Lists
+pub mod Chains
+pub mod Tried
 pub mod Steps
 pub mod EdgeEnds
 pub mod SideLines

@@ -1,3 +1,4 @@
+pub mod Chains
 pub mod Frames
 pub mod Nodes
 pub mod Passages

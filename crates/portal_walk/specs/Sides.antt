@@ -3,10 +3,10 @@ use Rattle.std.specs.Prelude.{◌≡◌, ℕ, ◌<◌, List, Option, Some, None,
 use Rattle.sight_names.specs.declared.names.Side.{Side}
 use Rattle.sight_names.specs.declared.plan.Line.{Line}
 use Rattle.sight_names.specs.Map.{MapLine, line_at, map_of, Names}
-use Rattle.sight_names.specs.Mesh.{label_of, side_edge}
+use Rattle.sight_names.specs.Mesh.{label_of, side_edge, IsLineEdge}
 use Rattle.sight_names.specs.Plan.{PlanParts}
 use Rattle.sight_names.specs.Points.{Edge}
-use Rattle.sight_names.specs.Sequence.{is_root, root_portal, IsSolidLine}
+use Rattle.sight_names.specs.Sequence.{Portal, is_root, root_portal, entry_edge, IsSolidLine}
 use Rattle.portal_walk.specs.declared.edges.Edge.{Edge as EdgeKind}
 use Rattle.portal_walk.specs.declared.edges.Edge.TheVariants.{Free, Passable, Solid}
 use Rattle.portal_walk.specs.declared.roots.Root.{Root}
@@ -35,8 +35,9 @@ pub record IsPassableAt (p : PlanParts) (e : Edge) (s : Side) : Type 0 where
   pub passable : line.solid ≡ false
   pub edge : side_edge (map_of p) line s.left ≡ e
 
+-- no line is the edge, either way round; or a solid one is; or a passable one
 abbrev pub IsEdgeKind : PlanParts → Edge → EdgeKind → Type 0
-IsEdgeKind p e Free = Unit {0}
+IsEdgeKind p e Free = ¬ IsLineEdge (map_of p) e
 IsEdgeKind p e Solid = IsSolidLine (map_of p) (record { left = e.from; right = e.to })
 IsEdgeKind p e (Passable s) = IsPassableAt p e s
 
@@ -50,6 +51,11 @@ pub record IsArrival (p : PlanParts) (labels : List (Option ℕ)) (k : ℕ) (s :
   pub names : Names (map_of p) s sector
   pub label : label_of labels k ≡ Some sector
   pub exists : sector < p.sectors
+
+-- no line is the portal; or a passable one is, and one comes in at this side
+abbrev pub IsEnteredAt : PlanParts → Portal → Option Side → Type 0
+IsEnteredAt p d None = ¬ IsLineEdge (map_of p) (entry_edge d)
+IsEnteredAt p d (Some s) = IsPassableAt p (entry_edge d) s
 
 -- where one comes in by a line, the side is its arrival
 abbrev pub ArrivesAt : PlanParts → List (Option ℕ) → ℕ → Option Side → Type 0
