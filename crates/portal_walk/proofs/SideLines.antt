@@ -25,10 +25,10 @@ some_some (Some (Some j)) l e = cc
 
 -- ---- roots
 
-root_test : (m : Map) (a : ℕ) (s : Side) (l : MapLine) → line_at m s.line ≡ Some l → is_root m a s ≡ (not l.solid && names_it (sector_on l s.left) a && not (names_it (sector_on l (not s.left)) a))
+pub root_test : (m : Map) (a : ℕ) (s : Side) (l : MapLine) → line_at m s.line ≡ Some l → is_root m a s ≡ (not l.solid && names_it (sector_on l s.left) a && not (names_it (sector_on l (not s.left)) a))
 root_test m a s l e = rw e refl
 
-names_test : (o : Option ℕ) (a : ℕ) → names_it o a ≡ option_eq eqb o (Some a)
+pub names_test : (o : Option ℕ) (a : ℕ) → names_it o a ≡ option_eq eqb o (Some a)
 names_test None a = refl
 names_test (Some b) a = refl
 

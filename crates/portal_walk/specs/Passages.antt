@@ -1,8 +1,9 @@
 -- The passages that a walk has looked up: the portals by which it comes into triangles.
-use Rattle.std.specs.Prelude.{◌≡◌, ◌≢◌, ℕ, ◌*◌, ◌<◌, ◌≤◌, ◌⊎◌, List, Option, Some, None, length, slice_get, slice_index_or, All}
+use Rattle.std.specs.Prelude.{◌≡◌, ◌≢◌, ℕ, ◌*◌, ◌<◌, ◌≤◌, ◌⊎◌, List, Option, Some, None, length, slice_get, All}
 use Rattle.sight_names.specs.Plan.{PlanParts}
-use Rattle.sight_names.specs.Map.{map_of, origin}
+use Rattle.sight_names.specs.Map.{map_of}
 use Rattle.sight_names.specs.Mesh.{label_of, triangle_at, IsGoodMesh}
+use Rattle.sight_names.specs.Points.{place}
 use Rattle.sight_names.specs.Sequence.{Portal, apex, entry_edge, IsSolidLine}
 use Rattle.sight_names.specs.declared.names.Triangle.{Triangle}
 use Rattle.mesh_shape.specs.Shape.{MeshParts}
@@ -46,8 +47,8 @@ pub record IsPassage (p : PlanParts) (ts : List Triangle) (labels : List (Option
   pub within : a.triangle < length ts
   pub outside : label_of labels a.triangle ≢ Some source
   pub third : apex ts (portal_of a) ≡ Some a.apex
-  pub left_at : a.left_at ≡ slice_index_or p.points a.left origin
-  pub right_at : a.right_at ≡ slice_index_or p.points a.right origin
+  pub left_at : a.left_at ≡ place (map_of p) a.left
+  pub right_at : a.right_at ≡ place (map_of p) a.right
   pub proper : a.left_at ≢ a.right_at
   pub entered : IsEnteredAt p (portal_of a) a.entered
   pub arrives : ArrivesAt p labels a.triangle a.entered

@@ -1,12 +1,12 @@
 -- The sides by which a walk leaves its source and comes into triangles.
-use Rattle.std.specs.Prelude.{◌≡◌, ℕ, ◌<◌, List, Option, Some, None, Bool, true, false, IsTrue, length}
+use Rattle.std.specs.Prelude.{◌≡◌, ℕ, ◌<◌, List, Option, Some, None, Bool, true, false, IsTrue, filter, length}
 use Rattle.sight_names.specs.declared.names.Side.{Side}
 use Rattle.sight_names.specs.declared.plan.Line.{Line}
-use Rattle.sight_names.specs.Map.{MapLine, line_at, map_of, Names}
+use Rattle.sight_names.specs.Map.{Map, MapLine, line_at, map_of, Names}
 use Rattle.sight_names.specs.Mesh.{label_of, side_edge, IsLineEdge}
 use Rattle.sight_names.specs.Plan.{PlanParts}
 use Rattle.sight_names.specs.Points.{Edge}
-use Rattle.sight_names.specs.Sequence.{Portal, is_root, root_portal, entry_edge, IsSolidLine}
+use Rattle.sight_names.specs.Sequence.{Portal, is_root, both_sides, root_portal, entry_edge, IsSolidLine}
 use Rattle.portal_walk.specs.declared.edges.Edge.{Edge as EdgeKind}
 use Rattle.portal_walk.specs.declared.edges.Edge.TheVariants.{Free, Passable, Solid}
 use Rattle.portal_walk.specs.declared.roots.Root.{Root}
@@ -21,6 +21,10 @@ pub record IsExit (p : PlanParts) (source : ℕ) (s : Side) : Type 0 where
 pub record IsRootOf (p : PlanParts) (source : ℕ) (r : Root) : Type 0 where
   pub exit : IsExit p source r.side
   pub portal : root_portal (map_of p) r.side ≡ Some (record { left = r.left; right = r.right })
+
+-- the sides of one record's line that are roots, the right side first
+abbrev pub roots_at : Map → ℕ → ℕ → List Side
+roots_at m source k = filter (is_root m source) (both_sides (k, line_at m k))
 
 -- the directed edge of the triangle at a side of a line, by point numbers
 abbrev pub edge_at : Line → Bool → Edge

@@ -8,6 +8,7 @@ use Rattle.sight_names.specs.Points.{Edge}
 use Rattle.sight_names.specs.Sequence.{apex, third_point, IsSolidLine}
 use Rattle.sight_names.specs.Map.{origin, map_of}
 use Rattle.sight_names.proofs.PlanMap.{points_differ}
+use Rattle.sight_names.proofs.PlanNumbers.{place_of_plan}
 use Rattle.portal_walk.specs.declared.passages.Passage.{Passage}
 use Rattle.portal_walk.specs.Passages.{PassagesParts, IsPassage, IsClosed}
 use Rattle.portal_walk.specs.Sides.{ArrivesAt, IsEnteredAt, IsPassableAt}
@@ -68,8 +69,8 @@ add-requires-clause-passage c =
       within = within;
       outside = λ h. clash c.is_labelled.result (c.is_labelled.ensures.1 h) c.if-is_labelled.false;
       third = third_of_edge ts edge k _ c.third_point.result at (slice_get-get_or ts k _ within) (c.third_point.ensures ∙ ap (λ (us : List Triangle). third_point edge (slice_index_or us k _)) c.triangles.ensures.list);
-      left_at = ap (λ (ps : List Pt). slice_index_or ps c.args.left origin) c.points-points.ensures.list;
-      right_at = ap (λ (ps : List Pt). slice_index_or ps c.args.right origin) c.points-points.ensures.list;
+      left_at = ap (λ (ps : List Pt). slice_index_or ps c.args.left origin) c.points-points.ensures.list ∙ sym (place_of_plan plan c.points-points.ensures.plan c.args.left);
+      right_at = ap (λ (ps : List Pt). slice_index_or ps c.args.right origin) c.points-points.ensures.list ∙ sym (place_of_plan plan c.points-points.ensures.plan c.args.right);
       proper = λ same. points_differ plan c.points-points.ensures.plan c.args.left c.args.right l r ends.2 (subst (λ (ps : List Pt). slice_index_or ps c.args.left origin ≡ slice_index_or ps c.args.right origin) c.points-points.ensures.list same);
       entered = arrived.0;
       arrives = arrived.1;
