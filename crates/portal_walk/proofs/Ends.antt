@@ -1,7 +1,7 @@
 -- The ends of a path that no line splits.
-use Rattle.std.proofs.Common.{◌≡◌, ℕ, ◌-◌, List, [], ◌∷◌, ◌++◌, length, take, Ok, Some, All, Contains, sym, ap, ◌∙◌, subst, arith}
+use Rattle.std.proofs.Common.{◌≡◌, ◌-◌, List, [], ◌∷◌, ◌++◌, length, take, Ok, Some, All, sym, ap, ◌∙◌, subst, arith}
 use Rattle.std.proofs.lemmas.List.{length_push, take_at}
-use Rattle.std.proofs.lemmas.List.Elements.{All-contains, All-weaker}
+use Rattle.std.proofs.lemmas.List.Elements.{All-contains}
 use Rattle.std.proofs.lemmas.Option.{same_Some}
 use Rattle.sight_names.specs.declared.names.EndAt.{EndAt}
 use Rattle.sight_names.specs.declared.names.EndPair.{EndPair}

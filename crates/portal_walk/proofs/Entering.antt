@@ -1,10 +1,10 @@
 -- The sequence that comes by a portal that was looked up; and that there is none by a closed one.
-use Rattle.std.proofs.Common.{◌≡◌, ℕ, ◌+◌, ◌-◌, ◌<◌, List, [], ◌∷◌, ◌++◌, length, take, slice_get, Option, Some, None, IfSome, ℤ, refl, sym, ap, ◌∙◌, subst, arith}
+use Rattle.std.proofs.Common.{◌≡◌, ℕ, ◌+◌, ◌-◌, ◌<◌, List, [], ◌∷◌, ◌++◌, length, take, slice_get, Option, Some, None, IfSome, ℤ, sym, ap, ◌∙◌, subst, arith}
 use Rattle.std.proofs.lemmas.List.{take_all, nil_from_length}
 use Rattle.std.proofs.lemmas.Option.{same_Some}
 use Rattle.sight_names.specs.declared.names.Side.{Side}
 use Rattle.sight_names.specs.Map.{map_of}
-use Rattle.sight_names.specs.Sequence.{Portal, Sequence, Way, IsSequence, IsSolidLine}
+use Rattle.sight_names.specs.Sequence.{Portal, Sequence, IsSequence}
 use Rattle.sight_names.specs.Splitting.{EndPoints, SplitsEnds, IsSplittable}
 use Rattle.stab_hull.specs.Answer.{IsLineInRange}
 use Rattle.block_evidence.specs.declared.Evidence.{Evidence}
@@ -15,7 +15,7 @@ use Rattle.portal_walk.specs.declared.passages.Turn.{Turn}
 use Rattle.portal_walk.specs.declared.path.Frame.{Frame}
 use Rattle.portal_walk.specs.declared.roots.Root.{Root}
 use Rattle.portal_walk.specs.Due.{along, root_alone, one_way_on, way_of, way_taken}
-use Rattle.portal_walk.specs.Passages.{PassagesParts, Keeps, IsPassage, IsClosed, IsAt, Finds, FindsWay, exit_of, portal_of}
+use Rattle.portal_walk.specs.Passages.{PassagesParts, Keeps, IsPassage, IsAt, Finds, FindsWay, exit_of, portal_of}
 use Rattle.portal_walk.specs.Sides.{IsRootOf}
 use Rattle.portal_walk.specs.Walk.{WalkParts, IsWalk, ComesBy, IsBlocked, IsOpen, ends_of, tried_by}
 use Rattle.portal_walk.proofs.Alone.{not_solid}

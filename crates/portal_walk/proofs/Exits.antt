@@ -1,7 +1,7 @@
 -- What is known of ways out stays so when more passages are looked up and more is noted.
-use Rattle.std.proofs.Common.{◌≡◌, ℕ, zero, suc, ◌<◌, ◌⊎◌, inl, inr, List, [], ◌∷◌, ◌++◌, length, slice_get, slice_set, Option, Some, None, All, length-append, length-set, refl, sym, ap, ◌∙◌, subst, arith}
+use Rattle.std.proofs.Common.{◌≡◌, ℕ, zero, suc, ◌<◌, inl, inr, List, [], ◌∷◌, ◌++◌, length, slice_get, slice_set, Option, Some, None, All, length-append, length-set, refl, sym, ◌∙◌, subst, arith}
 use Rattle.std.proofs.lemmas.List.Elements.{All-append}
-use Rattle.std.proofs.lemmas.Option.{none-some, same_Some, slice_get_within}
+use Rattle.std.proofs.lemmas.Option.{same_Some, slice_get_within}
 use Rattle.sight_names.specs.Plan.{PlanParts}
 use Rattle.sight_names.specs.Sequence.{Portal}
 use Rattle.portal_walk.specs.declared.passages.Exits.{Exits}

@@ -1,14 +1,13 @@
 -- A walk before and after it looks up passages, and one portal further on.
 use Rattle.std.proofs.Common.{◌≡◌, ℕ, ◌+◌, ◌-◌, ◌*◌, ◌<◌, ◌≤◌, inl, inr, List, [], ◌∷◌, ◌++◌, length, take, slice_get, slice_set, Option, Some, None, IsSome, IfSome, All, length-set, refl, sym, ap, ◌∙◌, subst, arith}
-use Rattle.std.proofs.lemmas.List.{length_push, length-append, length-take-le, take-append-le, take-set-le, take-take, take_all}
+use Rattle.std.proofs.lemmas.List.{length_push, length-take-le, take-append-le, take-set-le, take-take, take_all}
 use Rattle.std.proofs.lemmas.List.Elements.{All-nil, All-push, All-take, All-set}
-use Rattle.std.proofs.lemmas.Option.{none-some, same_Some, slice_get_within}
+use Rattle.std.proofs.lemmas.Option.{none-some, slice_get_within}
 use Rattle.sight_names.specs.declared.names.Side.{Side}
 use Rattle.sight_names.specs.declared.names.Triangle.{Triangle}
 use Rattle.sight_names.specs.Map.{map_of}
 use Rattle.sight_names.specs.Mesh.{IsGoodMesh}
 use Rattle.sight_names.specs.Plan.{PlanParts, IsPlan}
-use Rattle.sight_names.specs.Sequence.{Sequence}
 use Rattle.sight_names.specs.Sound.{LinesMeetAtEnds}
 use Rattle.sight_names.specs.Splitting.{EndPoints}
 use Rattle.block_evidence.specs.declared.Node.{Node}

@@ -1,5 +1,5 @@
 -- The roots of a source, line by line.
-use Rattle.std.proofs.Common.{◌≡◌, ℕ, ◌+◌, ◌<◌, ◌≤◌, List, [], ◌∷◌, ◌++◌, length, take, drop, get_or, map, reverse, slice_get, Option, Some, None, option_map, option_and_then, option_to_list, filter, refl, sym, ap, ap₂, ◌∙◌, arith}
+use Rattle.std.proofs.Common.{◌≡◌, ℕ, ◌+◌, ◌<◌, List, [], ◌∷◌, ◌++◌, length, take, drop, get_or, map, reverse, slice_get, Option, Some, None, option_map, option_and_then, option_to_list, filter, refl, sym, ap, ap₂, ◌∙◌, arith}
 use Rattle.std.specs.List.{flat_map, enumerate_from}
 use Rattle.std.proofs.lemmas.List.{take_more, take_all, take_at, flat_map_more, map-append, length-map, length-reverse, reverse-reverse}
 use Rattle.std.proofs.lemmas.List.Elements.{filter-append}

@@ -1,15 +1,14 @@
 -- Sequences of one portal, and of one portal more.
-use Rattle.std.proofs.Common.{◌≡◌, ◌≢◌, ℕ, ◌<◌, ◌⊎◌, inl, inr, List, [], ◌∷◌, ◌++◌, length, map, slice_get, Option, Some, None, option_map, refl, sym, ap, ap₂, ◌∙◌, subst}
+use Rattle.std.proofs.Common.{◌≡◌, ℕ, inl, inr, List, [], ◌∷◌, ◌++◌, Option, Some, None, option_map, refl, sym, ap, ap₂, ◌∙◌, subst}
 use Rattle.std.specs.List.{AllByRecursion}
 use Rattle.std.proofs.lemmas.List.{map-append, same_from_push}
 use Rattle.std.proofs.lemmas.Option.{none-some, same_Some}
 use Rattle.sight_names.specs.declared.names.Pt.{Pt}
-use Rattle.sight_names.specs.declared.names.Side.{Side}
 use Rattle.sight_names.specs.declared.names.Triangle.{Triangle}
 use Rattle.sight_names.specs.Map.{map_of}
-use Rattle.sight_names.specs.Mesh.{label_of, triangle_at}
+use Rattle.sight_names.specs.Mesh.{label_of}
 use Rattle.sight_names.specs.Plan.{PlanParts}
-use Rattle.sight_names.specs.Sequence.{Portal, Sequence, Way, IsSequence, IsSolidLine, LeadsOutside, apex, way_out, entry_edge, portals, portals_from, root_portal, end_points}
+use Rattle.sight_names.specs.Sequence.{Portal, Sequence, Way, IsSequence, IsSolidLine, LeadsOutside, apex, way_out, portals, portals_from, root_portal, end_points}
 use Rattle.sight_names.specs.Splitting.{EndPoints}
 use Rattle.portal_walk.specs.declared.passages.Passage.{Passage}
 use Rattle.portal_walk.specs.declared.passages.Turn.{Turn}

@@ -1,5 +1,5 @@
 -- What one try leaves of a walk, from what entering a portal leaves of it.
-use Rattle.std.proofs.Common.{◌≡◌, ◌≢◌, ℕ, ◌+◌, ◌-◌, ◌*◌, ◌^◌, ◌<◌, ◌≤◌, List, [], ◌∷◌, ◌++◌, length, take, slice_get, slice_set, Option, Some, None, Result, Ok, Err, OnErr, IsSome, All, ℤ, length-set, length-take-le, length-append, refl, sym, ap, ap₂, ◌∙◌, subst, arith}
+use Rattle.std.proofs.Common.{◌≡◌, ◌≢◌, ℕ, ◌+◌, ◌-◌, ◌*◌, ◌^◌, ◌<◌, ◌≤◌, List, [], ◌∷◌, ◌++◌, length, take, slice_get, slice_set, Option, Some, None, Result, Ok, Err, OnErr, All, ℤ, length-set, length-take-le, refl, sym, ap, ap₂, ◌∙◌, subst, arith}
 use Rattle.std.proofs.lemmas.List.{append_assoc, set-append_left}
 use Rattle.std.proofs.lemmas.List.Elements.{All-nil, All-cons, All-append, All-weaker}
 use Rattle.std.proofs.lemmas.Nat.{mul-lt}
@@ -23,7 +23,7 @@ use Rattle.portal_walk.specs.declared.step.Step.TheVariants.{Open, Blocked, End}
 use Rattle.portal_walk.specs.Due.{root_alone, both_ways_on, along, due_of}
 use Rattle.portal_walk.specs.Frames.{frames_weight, ways_left, top_ways}
 use Rattle.portal_walk.specs.Sides.{IsEnteredAt, ArrivesAt}
-use Rattle.portal_walk.specs.Walk.{WalkParts, SameWalk, SamePlace, IsPlaced, EntersPortal, Grows, IsNoSequence, IsBlocked, IsOpen, Skips, Rests, Answers, Ends, Blocks, Opens, Takes, Tries, depth, due, remaining, tries_left, tried_by}
+use Rattle.portal_walk.specs.Walk.{WalkParts, SameWalk, SamePlace, EntersPortal, IsNoSequence, IsBlocked, IsOpen, Rests, Answers, Ends, Takes, Tries, depth, due, remaining, tries_left, tried_by}
 use Rattle.portal_walk.proofs.Upcoming.{way_due, none_due, both_due, root_due, along_root}
 use Rattle.portal_walk.proofs.Weights.{three_pos, way_skips, way_enters, root_enters, done_leaves, top_of, top_set, top_most, there}
 

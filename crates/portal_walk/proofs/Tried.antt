@@ -1,5 +1,5 @@
 -- The lines that an edge can't be, while one goes back along a chain.
-use Rattle.std.proofs.Common.{◌≡◌, ◌≢◌, ℕ, ◌+◌, ◌<◌, ◌≤◌, ◌⊎◌, inl, inr, min, List, length, map, slice_get, Option, Some, None, Bool, true, false, option_map, refl, sym, ap, ap₂, ◌∙◌, subst, arith}
+use Rattle.std.proofs.Common.{◌≡◌, ◌≢◌, ℕ, ◌+◌, ◌<◌, ◌≤◌, ◌⊎◌, inl, inr, min, List, length, slice_get, Option, Some, Bool, true, false, option_map, sym, ap, ap₂, ◌∙◌, subst, arith}
 use Rattle.std.proofs.lemmas.Option.{slice_get-map, slice_get_within}
 use Rattle.sight_names.specs.declared.plan.Line.{Line}
 use Rattle.sight_names.specs.Map.{map_of}
@@ -7,7 +7,7 @@ use Rattle.sight_names.specs.Mesh.{IsLineEdge}
 use Rattle.sight_names.specs.Plan.{PlanParts, IsPlan}
 use Rattle.sight_names.specs.Points.{Edge}
 use Rattle.mesh_shape.proofs.RuleLemmas.{line_is_joined}
-use Rattle.portal_walk.specs.Chains.{lesser_end, lesser_ends, IsLastAt, AreChains}
+use Rattle.portal_walk.specs.Chains.{lesser_end, lesser_ends, AreChains}
 use Rattle.portal_walk.specs.Sides.{edge_at}
 
 abbrev pub lesser_of : Edge → ℕ

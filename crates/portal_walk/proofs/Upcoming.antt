@@ -1,5 +1,5 @@
 -- What is due after a way, a root or a portal was tried.
-use Rattle.std.proofs.Common.{◌≡◌, ℕ, ◌+◌, ◌-◌, List, [], ◌∷◌, ◌++◌, length, take, map, reverse, slice_get, slice_set, Option, Some, None, refl, sym, ap, ap₂, ◌∙◌, subst, arith}
+use Rattle.std.proofs.Common.{◌≡◌, ◌+◌, ◌-◌, List, [], ◌∷◌, ◌++◌, length, take, map, reverse, slice_get, slice_set, Option, Some, None, refl, sym, ap, ap₂, ◌∙◌, arith}
 use Rattle.std.proofs.lemmas.List.{append_assoc, append-nil, reverse-append}
 use Rattle.sight_names.specs.declared.names.Side.{Side}
 use Rattle.sight_names.specs.Sequence.{Sequence}
@@ -7,7 +7,7 @@ use Rattle.portal_walk.specs.declared.path.Frame.{Frame}
 use Rattle.portal_walk.specs.declared.path.Ways.{Ways}
 use Rattle.portal_walk.specs.declared.path.Ways.TheVariants.{Both, RightOnly, Done}
 use Rattle.portal_walk.specs.declared.roots.Root.{Root}
-use Rattle.portal_walk.specs.Due.{root_alone, one_way_on, both_ways_on, way_taken, along, ways_due, path_due, due_from, due_of}
+use Rattle.portal_walk.specs.Due.{root_alone, one_way_on, both_ways_on, way_taken, along, ways_due, path_due, due_of}
 use Rattle.portal_walk.specs.Frames.{ways_left}
 use Rattle.portal_walk.proofs.Lists.{front_back, set_back}
 

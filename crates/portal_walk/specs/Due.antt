@@ -1,5 +1,5 @@
 -- The sequences that a walk has still to come to, in their order: depth first, the left way before the right.
-use Rattle.std.specs.Prelude.{◌≡◌, List, [], ◌∷◌, ◌++◌, Option, Some, None, map, reverse}
+use Rattle.std.specs.Prelude.{List, [], ◌∷◌, ◌++◌, Option, Some, None, map, reverse}
 use Rattle.sight_names.specs.declared.names.Side.{Side}
 use Rattle.sight_names.specs.Sequence.{Sequence, Way}
 use Rattle.sight_names.specs.Sequence.Way.{Left, Right}

@@ -1,4 +1,4 @@
-use Rattle.std.proofs.Common.{◌≡◌, ◌<◌, ◌+◌, Some, sym, ◌∙◌, ap, subst, arith, slice_get, length}
+use Rattle.std.proofs.Common.{◌+◌, arith}
 use Rattle.std.proofs.lemmas.Option.{slice_get-get_or}
 use Rattle.portal_walk.proofs.Chains.{chains_more, chains_over}
 use Rattle.portal_walk.proofs.edges.link.Goals as goal

@@ -1,7 +1,6 @@
-use Rattle.std.proofs.Common.{◌≡◌, ◌<◌, ◌++◌, Some, None, List, length, map, reverse, sym, ap, ◌∙◌, subst, arith}
+use Rattle.std.proofs.Common.{◌≡◌, ◌<◌, Some, None, length, map, reverse, sym, ap, ◌∙◌, arith}
 use Rattle.std.proofs.lemmas.List.{append-nil}
 use Rattle.std.proofs.lemmas.List.Elements.{All-push, All-same}
-use Rattle.portal_walk.specs.declared.roots.Root.{Root}
 use Rattle.portal_walk.specs.Sides.{IsRootOf}
 use Rattle.portal_walk.proofs.RootOrder.{order_more, roots_all, roots_below, turned, side_of}
 use Rattle.portal_walk.proofs.roots.roots_of.Goals.{in-Some+in_ok-push, in_default}

@@ -1,4 +1,4 @@
-use Rattle.std.proofs.Common.{◌≡◌, ◌<◌, sym, ap, ◌∙◌, refl, subst, arith, length, None, Ok}
+use Rattle.std.proofs.Common.{sym, ap, ◌∙◌, refl, subst, arith, None, Ok}
 use Rattle.std.proofs.lemmas.Option.{slice_get_within}
 use Rattle.portal_walk.specs.Frames.{PathParts, ways_left}
 use Rattle.portal_walk.specs.Walk.{WalkParts, Tries}

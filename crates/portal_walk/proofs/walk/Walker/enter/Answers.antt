@@ -1,21 +1,18 @@
-use Rattle.std.proofs.Common.{◌≡◌, ℕ, ◌+◌, ◌*◌, ◌<◌, ◌≤◌, List, Option, Some, None, Ok, IfSome, All, ap, sym, ◌∙◌, refl, subst, arith, length, slice_get, [], ◌∷◌, ◌++◌, ℤ, w32, w64, rules}
+use Rattle.std.proofs.Common.{◌≡◌, ℕ, ◌<◌, Some, Ok, IfSome, ap, sym, refl, subst, arith, length, slice_get, [], ◌∷◌, ◌++◌, ℤ, w32, w64, rules}
 use mir.Val.{SFits, to_z, of_z}
 use Rattle.std.proofs.lemmas.Int.{to_z-of_z}
 use Rattle.sight_names.specs.declared.names.Side.{Side}
-use Rattle.sight_names.specs.Splitting.{IsPairOf, SplitsEnds}
-use Rattle.block_evidence.specs.declared.Node.{Node}
 use Rattle.block_evidence.specs.declared.Node.TheVariants.{Open, Blocked}
 use Rattle.portal_walk.specs.declared.passages.Passage.{Passage}
 use Rattle.portal_walk.specs.declared.path.Frame.{Frame}
 use Rattle.portal_walk.specs.declared.path.Ways.TheVariants.{Both}
 use Rattle.portal_walk.specs.declared.step.Step.TheVariants.{Open as OpenStep, Blocked as BlockedStep}
-use Rattle.portal_walk.specs.Frames.{PathParts, with_portal}
+use Rattle.portal_walk.specs.Frames.{PathParts}
 use Rattle.portal_walk.specs.Passages.{IsPassage}
 use Rattle.portal_walk.specs.Sides.{IsExit}
 use Rattle.portal_walk.specs.Walk.{WalkParts, ComesBy, EntersPortal, IsOpen, ends_of, tried_by}
 use Rattle.portal_walk.proofs.Entering.{open_at, blocked_at}
 use Rattle.portal_walk.proofs.Lookups.{walk_over, walk_blocked, walk_opened}
-use Rattle.stab_hull.specs.Answer.{IsLineInRange}
 use Rattle.portal_walk.proofs.walk.Walker.enter.Goals as goal
 
 kept : (P : ℤ → ℤ → ℤ → Type 0) (x y z : ℤ) → SFits w32 x → SFits w32 y → SFits w64 z → P x y z → P (to_z w32 (of_z w32 x)) (to_z w32 (of_z w32 y)) (to_z w64 (of_z w64 z))

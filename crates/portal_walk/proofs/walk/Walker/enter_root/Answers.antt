@@ -1,14 +1,12 @@
-use Rattle.std.proofs.Common.{◌≡◌, ℕ, [], ◌∷◌, ◌++◌, List, Some, ap, sym, ◌∙◌, refl, subst}
+use Rattle.std.proofs.Common.{ℕ, [], ◌∷◌, ◌++◌, List, ap, sym, ◌∙◌, refl, subst}
 use Rattle.std.proofs.lemmas.Option.{same_Some}
 use Rattle.sight_names.specs.declared.names.Side.{Side}
 use Rattle.sight_names.specs.Map.{map_of}
 use Rattle.sight_names.specs.Plan.{PlanParts}
 use Rattle.sight_names.specs.Sequence.{Portal, IsSequence}
-use Rattle.portal_walk.specs.declared.path.Frame.{Frame}
-use Rattle.portal_walk.specs.Passages.{PassagesParts}
 use Rattle.portal_walk.specs.Due.{along, root_alone}
 use Rattle.portal_walk.specs.Sides.{IsRootOf}
-use Rattle.portal_walk.specs.Walk.{WalkParts, IsWalk, ComesBy, ends_of}
+use Rattle.portal_walk.specs.Walk.{WalkParts, ComesBy, ends_of}
 use Rattle.portal_walk.proofs.Entering.{root_comes, root_closed}
 use Rattle.portal_walk.proofs.Lookups.{walk_over, more_known}
 use Rattle.portal_walk.proofs.Steps.{enters_after}

@@ -1,12 +1,11 @@
-use Rattle.std.proofs.Common.{◌≡◌, ◌-◌, ◌<◌, ℕ, List, Some, ap, sym, ◌∙◌, refl, subst, arith, length, slice_get, slice_set, IfSome, length-set}
+use Rattle.std.proofs.Common.{◌≡◌, ◌-◌, ℕ, List, Some, ap, sym, ◌∙◌, refl, subst, arith, length, slice_get, slice_set, length-set}
 use Rattle.std.proofs.lemmas.Option.{slice_get_within}
 use Rattle.portal_walk.specs.declared.path.Frame.{Frame}
-use Rattle.portal_walk.specs.Due.{way_of, way_taken}
 use Rattle.portal_walk.specs.Frames.{PathParts}
 use Rattle.portal_walk.specs.Walk.{WalkParts}
 use Rattle.portal_walk.proofs.Lists.{last_set, set_again, some_of}
 use Rattle.portal_walk.proofs.Lookups.{walk_over, walk_set}
-use Rattle.portal_walk.proofs.Steps.{way_tried, way_ahead, rests_of, same_walk_both}
+use Rattle.portal_walk.proofs.Steps.{way_tried, way_ahead, rests_of}
 use Rattle.portal_walk.proofs.walk.Walker.try_way.Goals as goal
 
 abbrev written : PathParts → ℕ → Frame → PathParts
