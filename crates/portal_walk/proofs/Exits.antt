@@ -1,7 +1,8 @@
 -- What is known of ways out stays so when more passages are looked up and more is noted.
-use Rattle.std.proofs.Common.{◌≡◌, ℕ, zero, suc, ◌<◌, ◌⊎◌, inl, inr, List, [], ◌∷◌, ◌++◌, length, slice_get, slice_set, Option, Some, None, All, length-append, length-set, refl, sym, ap, ◌∙◌, subst, arith}
+use Rattle.std.proofs.Common.{◌≡◌, ℕ, zero, suc, ◌<◌, inl, inr, List, [], ◌∷◌, ◌++◌, length, slice_get, slice_set, Option, Some, None, All, length-append, length-set, refl, sym, ◌∙◌, subst, arith}
 use Rattle.std.proofs.lemmas.List.Elements.{All-append}
-use Rattle.std.proofs.lemmas.Option.{none-some, same_Some, slice_get_within}
+use Rattle.std.proofs.lemmas.Option.{same_Some, slice_get_within}
+use Rattle.sight_names.specs.Plan.{PlanParts}
 use Rattle.sight_names.specs.Sequence.{Portal}
 use Rattle.portal_walk.specs.declared.passages.Exits.{Exits}
 use Rattle.portal_walk.specs.declared.passages.Passage.{Passage}
@@ -9,45 +10,8 @@ use Rattle.portal_walk.specs.declared.passages.Turn.{Turn}
 use Rattle.portal_walk.specs.declared.passages.Turn.TheVariants.{Left, Right}
 use Rattle.portal_walk.specs.declared.passages.Way.{Way}
 use Rattle.portal_walk.specs.declared.passages.Way.TheVariants.{Unknown, Closed, Open}
+use Rattle.portal_walk.proofs.Lists.{get_front, get_more, get_set}
 use Rattle.portal_walk.specs.Passages.{PassagesParts, Keeps, IsPassage, ArePassages, AreExits, IsClosed, IsKnown, Finds, FindsWay, exit_of, known_at, leads_to, noted}
-
--- ---- lists
-
--- the element stays where it is when one more comes
-pub get_front : {X : Type 0} (xs : List X) (y : X) (k : ℕ) (x : X) → slice_get xs k ≡ Some x → slice_get (xs ++ y ∷ []) k ≡ Some x
-get_front [] y k x e = absurd (none-some x e)
-get_front (z ∷ xs) y zero x e = e
-get_front (z ∷ xs) y (suc k) x e = get_front xs y k x e
-
-pub get_end : {X : Type 0} (xs : List X) (y : X) → slice_get (xs ++ y ∷ []) (length xs) ≡ Some y
-get_end [] y = refl
-get_end (z ∷ xs) y = get_end xs y
-
--- what stands in a list with one more is the new one at the end, or was there
-pub get_more : {X : Type 0} (xs : List X) (y : X) (k : ℕ) (x : X) → slice_get (xs ++ y ∷ []) k ≡ Some x → ((k ≡ length xs) × (x ≡ y)) ⊎ (slice_get xs k ≡ Some x)
-get_more [] y zero x e = inl (refl, sym (same_Some y x e))
-get_more [] y (suc k) x e = absurd (none-some x e)
-get_more (z ∷ xs) y zero x e = inr e
-get_more (z ∷ xs) y (suc k) x e = elim (get_more xs y k x e) [
-  | inl h ↦ inl (ap suc h.0, h.1)
-  | inr h ↦ inr h
-]
-
--- what stands in a list where one was written is that one, or was there
-pub get_set : {X : Type 0} (xs : List X) (i : ℕ) (y : X) (k : ℕ) (x : X) → slice_get (slice_set xs i y) k ≡ Some x → ((k ≡ i) × (x ≡ y)) ⊎ (slice_get xs k ≡ Some x)
-get_set [] i y k x e = absurd (none-some x e)
-get_set (z ∷ xs) zero y zero x e = inl (refl, sym (same_Some y x e))
-get_set (z ∷ xs) zero y (suc k) x e = inr e
-get_set (z ∷ xs) (suc i) y zero x e = inr e
-get_set (z ∷ xs) (suc i) y (suc k) x e = elim (get_set xs i y k x e) [
-  | inl h ↦ inl (ap suc h.0, h.1)
-  | inr h ↦ inr h
-]
-
-pub get_there : {X : Type 0} (xs : List X) (k : ℕ) → k < length xs → (x : X) × (slice_get xs k ≡ Some x)
-get_there [] k l = absurd (omega arith)
-get_there (x ∷ xs) zero l = (x, refl)
-get_there (x ∷ xs) (suc k) l = get_there xs k (omega arith)
 
 -- ---- what is known
 
@@ -82,8 +46,9 @@ grown p x = record { plan = p.plan; mesh = p.mesh; labels = p.labels; source = p
 pub keeps_grown : (p : PassagesParts) (x : Passage) → Keeps p (grown p x)
 keeps_grown p x = record { plan = refl; mesh = refl; labels = refl; source = refl; count = let l = length-append p.passages (x ∷ []) in omega (arith, l); passages = get_front p.passages x }
 
-pub passages_grown : (p : PassagesParts) (es : List Exits) (ks js : List ℕ) (x : Passage) → ArePassages p es ks → IsPassage p.plan p.mesh.triangles p.labels p.source x → length js ≡ length ks → ArePassages (grown p x) (es ++ record { left = Unknown; right = Unknown } ∷ []) js
-passages_grown p es ks js x i h same = record {
+pub passages_grown : (p : PassagesParts) (n : PlanParts) (es : List Exits) (ks js : List ℕ) (x : Passage) → ArePassages p n es ks → IsPassage p.plan p.mesh.triangles p.labels p.source x → length js ≡ length ks → ArePassages (grown p x) n (es ++ record { left = Unknown; right = Unknown } ∷ []) js
+passages_grown p n es ks js x i h same = record {
+  index = i.index;
   points = i.points;
   good = i.good;
   one_each = i.one_each;
@@ -111,8 +76,9 @@ passages_grown p es ks js x i h same = record {
 
 -- ---- a way out looked up
 
-pub passages_noted : (p : PassagesParts) (es : List Exits) (ks : List ℕ) (from : ℕ) (e : Exits) (turn : Turn) (found : Option ℕ) → ArePassages p es ks → slice_get es from ≡ Some e → FindsWay p p from turn found → ArePassages p (slice_set es from (noted e turn (leads_to found))) ks
-passages_noted p es ks from e turn found i there h = record {
+pub passages_noted : (p : PassagesParts) (n : PlanParts) (es : List Exits) (ks : List ℕ) (from : ℕ) (e : Exits) (turn : Turn) (found : Option ℕ) → ArePassages p n es ks → slice_get es from ≡ Some e → FindsWay p p from turn found → ArePassages p n (slice_set es from (noted e turn (leads_to found))) ks
+passages_noted p n es ks from e turn found i there h = record {
+  index = i.index;
   points = i.points;
   good = i.good;
   one_each = i.one_each;
@@ -135,5 +101,5 @@ way_found old new from x turn found d k there q h = λ a at.
 pub way_found_before : (old new : PassagesParts) (from : ℕ) (turn : Turn) (found : Option ℕ) → Keeps old new → FindsWay new new from turn found → FindsWay old new from turn found
 way_found_before old new from turn found k h = λ a at. h a (k.passages from a at)
 
-pub way_known : (p : PassagesParts) (es : List Exits) (ks : List ℕ) (from : ℕ) (e : Exits) (turn : Turn) (w : Way) → ArePassages p es ks → slice_get es from ≡ Some e → w ≡ known_at e turn → (a : Passage) → slice_get p.passages from ≡ Some a → IsKnown p (exit_of a turn) w
-way_known p es ks from e turn w i there q a at = subst (λ (v : Way). IsKnown p (exit_of a turn) v) (sym q) (exit_known p a e turn (i.exits from a e at there))
+pub way_known : (p : PassagesParts) (n : PlanParts) (es : List Exits) (ks : List ℕ) (from : ℕ) (e : Exits) (turn : Turn) (w : Way) → ArePassages p n es ks → slice_get es from ≡ Some e → w ≡ known_at e turn → (a : Passage) → slice_get p.passages from ≡ Some a → IsKnown p (exit_of a turn) w
+way_known p n es ks from e turn w i there q a at = subst (λ (v : Way). IsKnown p (exit_of a turn) v) (sym q) (exit_known p a e turn (i.exits from a e at there))

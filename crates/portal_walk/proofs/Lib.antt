@@ -1,6 +1,16 @@
 pub mod Weights
+pub mod Lists
+pub mod Ends
+pub mod Chains
+pub mod Tried
+pub mod Upcoming
 pub mod Steps
 pub mod EdgeEnds
 pub mod SideLines
+pub mod RootOrder
+pub mod Listed
+pub mod Alone
+pub mod Sequences
 pub mod Lookups
+pub mod Entering
 pub mod Exits

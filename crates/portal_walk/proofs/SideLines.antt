@@ -10,12 +10,12 @@ use Rattle.sight_names.specs.declared.plan.Line.{Line}
 use Rattle.sight_names.specs.Plan.{PlanParts, IsPlan}
 use Rattle.sight_names.specs.Map.{Map, MapLine, map_of, looked_up, line_at, named, sector_on, IsMapLine}
 use Rattle.sight_names.specs.Points.{Edge, line_edge, reverse_of}
-use Rattle.sight_names.specs.Mesh.{IsGoodMesh, triangle_at, label_of, side_edge}
+use Rattle.sight_names.specs.Mesh.{IsGoodMesh, triangle_at, label_of, side_edge, IsLineEdge}
 use Rattle.sight_names.specs.Sequence.{Portal, is_root, names_it, IsSolidLine}
 use Rattle.sight_names.proofs.PlanMap.{plan_is_map}
 use Rattle.sight_names.proofs.PlanNumbers.{line_edge_of_plan}
 use Rattle.mesh_shape.proofs.RuleLemmas.{plan_line_at}
-use Rattle.portal_walk.specs.Sides.{IsRootOf, IsPassableAt, IsArrival, ArrivesAt, edge_at}
+use Rattle.portal_walk.specs.Sides.{IsRootOf, IsPassableAt, IsEnteredAt, IsArrival, ArrivesAt, edge_at}
 
 -- the line of a record
 pub some_some : (o : Option (Option Line)) (l : Line) → option_and_then (λ k. k) o ≡ Some l → o ≡ Some (Some l)
@@ -25,10 +25,10 @@ some_some (Some (Some j)) l e = cc
 
 -- ---- roots
 
-root_test : (m : Map) (a : ℕ) (s : Side) (l : MapLine) → line_at m s.line ≡ Some l → is_root m a s ≡ (not l.solid && names_it (sector_on l s.left) a && not (names_it (sector_on l (not s.left)) a))
+pub root_test : (m : Map) (a : ℕ) (s : Side) (l : MapLine) → line_at m s.line ≡ Some l → is_root m a s ≡ (not l.solid && names_it (sector_on l s.left) a && not (names_it (sector_on l (not s.left)) a))
 root_test m a s l e = rw e refl
 
-names_test : (o : Option ℕ) (a : ℕ) → names_it o a ≡ option_eq eqb o (Some a)
+pub names_test : (o : Option ℕ) (a : ℕ) → names_it o a ≡ option_eq eqb o (Some a)
 names_test None a = refl
 names_test (Some b) a = refl
 
@@ -93,6 +93,12 @@ passable_at p is k l d s e solid same edge = record {
 
 pub solid_at : (p : PlanParts) → IsPlan p → (k : ℕ) (l : Line) (d : Edge) (s : Side) → slice_get p.lines k ≡ Some (Some l) → l.solid ≡ true → edge_at l s.left ≡ d → IsSolidLine (map_of p) (record { left = d.from; right = d.to })
 solid_at p is k l d s e solid edge = (k, looked_up p.points l, s.left, plan_line_at p k l e, solid, line_side p is k l s.left e ∙ edge)
+
+pub entered_by : (p : PlanParts) (d : Edge) (o : Option Side) (s : Side) → o ≡ Some s → IsPassableAt p d s → IsEnteredAt p (record { left = d.from; right = d.to }) o
+entered_by p d o s e h = subst (IsEnteredAt p (record { left = d.from; right = d.to })) (sym e) h
+
+pub entered_freely : (p : PlanParts) (d : Edge) (o : Option Side) → o ≡ None → ¬ IsLineEdge (map_of p) d → IsEnteredAt p (record { left = d.from; right = d.to }) o
+entered_freely p d o e h = subst (IsEnteredAt p (record { left = d.from; right = d.to })) (sym e) h
 
 -- ---- arrivals
 

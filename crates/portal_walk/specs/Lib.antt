@@ -1,3 +1,5 @@
+pub mod Chains
+pub mod Due
 pub mod Frames
 pub mod Nodes
 pub mod Passages

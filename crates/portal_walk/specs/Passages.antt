@@ -1,8 +1,9 @@
 -- The passages that a walk has looked up: the portals by which it comes into triangles.
-use Rattle.std.specs.Prelude.{◌≡◌, ◌≢◌, ℕ, ◌*◌, ◌<◌, ◌≤◌, ◌⊎◌, List, Option, Some, None, length, slice_get, slice_index_or, All}
+use Rattle.std.specs.Prelude.{◌≡◌, ◌≢◌, ℕ, ◌*◌, ◌<◌, ◌≤◌, ◌⊎◌, List, Option, Some, None, length, slice_get, All}
 use Rattle.sight_names.specs.Plan.{PlanParts}
-use Rattle.sight_names.specs.Map.{map_of, origin}
+use Rattle.sight_names.specs.Map.{map_of}
 use Rattle.sight_names.specs.Mesh.{label_of, triangle_at, IsGoodMesh}
+use Rattle.sight_names.specs.Points.{place}
 use Rattle.sight_names.specs.Sequence.{Portal, apex, entry_edge, IsSolidLine}
 use Rattle.sight_names.specs.declared.names.Triangle.{Triangle}
 use Rattle.mesh_shape.specs.Shape.{MeshParts}
@@ -12,7 +13,7 @@ use Rattle.portal_walk.specs.declared.passages.Turn.{Turn}
 use Rattle.portal_walk.specs.declared.passages.Turn.TheVariants.{Left, Right}
 use Rattle.portal_walk.specs.declared.passages.Way.{Way}
 use Rattle.portal_walk.specs.declared.passages.Way.TheVariants.{Unknown, Closed, Open}
-use Rattle.portal_walk.specs.Sides.{ArrivesAt}
+use Rattle.portal_walk.specs.Sides.{ArrivesAt, IsEnteredAt}
 
 -- The passages of a source over a plan, a mesh and its labels.
 pub record PassagesParts : Type 0 where
@@ -39,15 +40,17 @@ abbrev pub exit_of : Passage → Turn → Portal
 exit_of a Left = record { left = a.left; right = a.apex }
 exit_of a Right = record { left = a.apex; right = a.right }
 
--- a portal into a triangle that isn't one of the source, with its third point; where it is a line, its side is an arrival
+-- a portal into a triangle that isn't one of the source, with its third point; where it is a line, that is passable, and its
+-- side is an arrival
 pub record IsPassage (p : PlanParts) (ts : List Triangle) (labels : List (Option ℕ)) (source : ℕ) (a : Passage) : Type 0 where
   pub triangle : triangle_at ts (entry_edge (portal_of a)) ≡ Some a.triangle
   pub within : a.triangle < length ts
   pub outside : label_of labels a.triangle ≢ Some source
   pub third : apex ts (portal_of a) ≡ Some a.apex
-  pub left_at : a.left_at ≡ slice_index_or p.points a.left origin
-  pub right_at : a.right_at ≡ slice_index_or p.points a.right origin
+  pub left_at : a.left_at ≡ place (map_of p) a.left
+  pub right_at : a.right_at ≡ place (map_of p) a.right
   pub proper : a.left_at ≢ a.right_at
+  pub entered : IsEnteredAt p (portal_of a) a.entered
   pub arrives : ArrivesAt p labels a.triangle a.entered
 
 -- one can't come in by the portal: no triangle is behind it, or one of the source, or it is a solid line
@@ -91,8 +94,9 @@ pub record AreExits (p : PassagesParts) (a : Passage) (e : Exits) : Type 0 where
   pub left : IsKnown p (exit_of a Left) e.left
   pub right : IsKnown p (exit_of a Right) e.right
 
--- what is known of the ways out of each passage, and a number for each directed edge
-pub record ArePassages (p : PassagesParts) (es : List Exits) (ks : List ℕ) : Type 0 where
+-- an index of the plan's lines, what is known of the ways out of each passage, and a number for each directed edge
+pub record ArePassages (p : PassagesParts) (indexed : PlanParts) (es : List Exits) (ks : List ℕ) : Type 0 where
+  pub index : indexed ≡ p.plan
   pub points : p.mesh.points ≡ length p.plan.points
   pub good : IsGoodMesh (map_of p.plan) p.mesh.triangles p.labels
   pub one_each : length p.labels ≡ length p.mesh.triangles

@@ -58,7 +58,7 @@ pub struct Passages<'a> {
     mesh: &'a Mesh,
     labels: &'a Labels,
     source: u16,
-    lines: LineIndex,
+    lines: LineIndex<'a>,
     passages: Vec<Passage>,
     exits: Vec<Exits>,
     slots: Vec<u16>,
@@ -71,7 +71,7 @@ impl<'a> Model for Passages<'a> {
 
     ghost view = { λ p. record { plan = p.plan.now; mesh = p.mesh.now; labels = p.labels.now; source = p.source; passages = p.passages.items } };
 
-    ghost invariant = { λ p. ArePassages (record { plan = p.plan.now; mesh = p.mesh.now; labels = p.labels.now; source = p.source; passages = p.passages.items }) p.exits.items p.slots.items };
+    ghost invariant = { λ p. ArePassages (record { plan = p.plan.now; mesh = p.mesh.now; labels = p.labels.now; source = p.source; passages = p.passages.items }) p.lines p.exits.items p.slots.items };
 }
 
 /// The third point of a triangle that has the directed edge from `from` to `to`.
@@ -254,7 +254,7 @@ impl<'a> Passages<'a> {
         if let Some(number) = self.known(slot, left, right) {
             return Ok(Some(number));
         }
-        let entered = match self.lines.edge(self.plan, left, right) {
+        let entered = match self.lines.edge(left, right) {
             Edge::Solid => return Ok(None),
             Edge::Passable(side) => Some(side),
             Edge::Free => None,

@@ -23,7 +23,7 @@ pub struct Frame {
     pub ways: Ways,
 }
 
-/// The portals that were entered, in order; a contract sees the list of them.
+/// The portals that were entered, in order, with their ends.
 #[derive(Drop)]
 pub struct Path {
     frames: Vec<Frame>,
@@ -31,12 +31,12 @@ pub struct Path {
 }
 
 impl Model for Path {
-    ghost use Rattle.std.specs.Prelude.{◌≡◌, List, length};
-    ghost use Rattle.portal_walk.specs.declared.path.Frame.{Frame};
+    ghost use Rattle.std.specs.Prelude.{◌≡◌, length};
+    ghost use Rattle.portal_walk.specs.Frames.{PathParts};
 
-    ghost Value = { List Frame };
+    ghost Value = { PathParts };
 
-    ghost view = { λ p. p.frames.items };
+    ghost view = { λ p. record { frames = p.frames.items; ends = p.ends } };
 
     ghost invariant = { λ p. length p.ends ≡ length p.frames.items };
 }
@@ -44,7 +44,7 @@ impl Model for Path {
 impl Path {
     /// The path of no portal.
     pub fn new(alloc: Global) -> Path
-        ensures { result ≡ [] }
+        ensures { result ≡ record { frames = []; ends = [] } }
     {
         Path {
             frames: Vec::new(alloc),
@@ -54,30 +54,30 @@ impl Path {
 
     /// How many portals were entered.
     pub fn len(&self) -> usize
-        ensures { result ≡ length self.now }
+        ensures { result ≡ length self.now.frames }
     {
         self.frames.len()
     }
 
     /// The last portal.
     pub fn top(&self) -> Option<Frame>
-        ensures { result ≡ slice_get self.now (length self.now - 1) }
+        ensures { result ≡ slice_get self.now.frames (length self.now.frames - 1) }
     {
         self.frames.as_slice().last().copied()
     }
 
     /// Writes the ways that a portal has left.
     pub fn set(&mut self, at: usize, frame: Frame)
-        requires { at < length self.old }
-        ensures { self.new ≡ slice_set self.old at frame }
+        requires { at < length self.old.frames }
+        ensures { self.new ≡ record { frames = slice_set self.old.frames at frame; ends = self.old.ends } }
     {
         self.frames[at] = frame;
     }
 
     /// Takes the last portal away.
     pub fn leave(&mut self)
-        requires { 0 < length self.old }
-        ensures { self.new ≡ take (length self.old - 1) self.old }
+        requires { 0 < length self.old.frames }
+        ensures { self.new ≡ record { frames = take (length self.old.frames - 1) self.old.frames; ends = take (length self.old.frames - 1) self.old.ends } }
     {
         let _ = self.frames.pop();
         self.ends.pop();
@@ -86,8 +86,9 @@ impl Path {
     /// Enters a portal with these ends, where a line splits the ends of the whole path.
     pub fn enter(&mut self, frame: Frame, left: Pt, right: Pt) -> Result<Split, Memory>
         requires proper { left ≢ right }
-        requires room { length self.old < 32768 }
-        ensures { Enters self.old self.new frame result }
+        requires room { length self.old.frames < 32768 }
+        ensures each { length self.old.ends ≡ length self.old.frames }
+        ensures enters { Enters self.old self.new frame (record { left = left; right = right }) result }
     {
         self.ends.push(left, right)?;
         let split = self.ends.split();

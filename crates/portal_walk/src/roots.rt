@@ -1,8 +1,10 @@
 //! Where a walk leaves its source.
 
-ghost use Rattle.std.specs.Prelude.{◌<◌, length, All, IfOk, IfSome};
+ghost use Rattle.std.specs.Prelude.{◌≡◌, map, reverse, option_map, option_to_list, All, IfOk, IfSome};
+ghost use Rattle.sight_names.specs.Map.{map_of};
 ghost use Rattle.sight_names.specs.Plan.{IsPlan};
-ghost use Rattle.portal_walk.specs.Sides.{IsRootOf};
+ghost use Rattle.sight_names.specs.Sequence.{roots as roots_in};
+ghost use Rattle.portal_walk.specs.Sides.{IsRootOf, roots_at};
 
 use sight_names::{Memory, Plan, Side};
 use std::alloc::Global;
@@ -18,7 +20,9 @@ pub struct Root {
 
 /// The roots of a source, the last one first.
 pub fn roots_of(alloc: Global, plan: &Plan, source: u16) -> Result<Vec<Root>, Memory>
-    ensures { IfOk result (λ roots. All (IsRootOf plan.now source) roots.items) }
+    ensures roots { IfOk result (λ found. All (IsRootOf plan.now source) found.items) }
+    ensures order { IfOk result (λ found. map (λ r. r.side) (reverse found.items) ≡ roots_in (map_of plan.now) source) }
+    ensures plan { IfOk result (λ _. IsPlan plan.now) }
 {
     let mut roots = Vec::new(alloc);
     for k in 0..plan.lines().len() {
@@ -33,7 +37,8 @@ pub fn roots_of(alloc: Global, plan: &Plan, source: u16) -> Result<Vec<Root>, Me
 /// The root at a line, where one of its sides names the source and the other doesn't.
 fn root_at(plan: &Plan, k: u16, source: u16) -> Option<Root>
     requires plan { IsPlan plan.now }
-    ensures { IfSome result (λ root. IsRootOf plan.now source root) }
+    ensures root { IfSome result (λ root. IsRootOf plan.now source root) }
+    ensures side { roots_at (map_of plan.now) source k ≡ option_to_list (option_map (λ root. root.side) result) }
 {
     let line = plan.line(k)?;
     let right = line.right == Some(source);

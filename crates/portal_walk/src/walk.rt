@@ -1,9 +1,12 @@
 //! The walk through the sequences of a source.
 
-ghost use Rattle.std.specs.Prelude.{◌≡◌, ◌+◌, ◌-◌, ◌<◌, ◌≤◌, None, Some, Ok, slice_get, IsSome, IfOk, OnErr, length, [], All, IfSome};
+ghost use Rattle.std.specs.Prelude.{◌≡◌, ◌+◌, ◌-◌, ◌<◌, ◌++◌, ◌∷◌, ℕ, None, Some, Ok, slice_get, IsSome, IfOk, OnErr, length, map, [], All, IfSome};
 ghost use Rattle.sight_names.specs.Map.{map_of};
 ghost use Rattle.sight_names.specs.Mesh.{IsGoodMesh};
+ghost use Rattle.sight_names.specs.Sequence.{roots};
 ghost use Rattle.sight_names.specs.Sound.{LinesMeetAtEnds};
+ghost use Rattle.sight_names.specs.declared.names.Side.{Side as Sided};
+ghost use Rattle.portal_walk.specs.declared.passages.Passage.{Passage as PassageOf};
 
 use crate::passages::{Passages, Turn};
 use crate::path::{Frame, Path, Ways};
@@ -27,21 +30,22 @@ pub struct Walker<'a> {
 }
 
 impl<'a> Model for Walker<'a> {
-    ghost use Rattle.std.specs.Prelude.{length};
     ghost use Rattle.portal_walk.specs.Walk.{WalkParts, IsWalk};
 
     ghost Value = { WalkParts };
 
-    ghost view = { λ w. record { plan = w.passages.plan; mesh = w.passages.mesh; labels = w.passages.labels; source = w.passages.source; known = length w.passages.passages; roots = w.roots.items; root = w.root; frames = w.path; nodes = w.nodes } };
+    ghost view = { λ w. record { plan = w.passages.plan; mesh = w.passages.mesh; labels = w.passages.labels; source = w.passages.source; passages = w.passages.passages; roots = w.roots.items; root = w.root; frames = w.path.frames; ends = w.path.ends; nodes = w.nodes } };
 
-    ghost invariant = { λ w. IsWalk (record { plan = w.passages.plan; mesh = w.passages.mesh; labels = w.passages.labels; source = w.passages.source; known = length w.passages.passages; roots = w.roots.items; root = w.root; frames = w.path; nodes = w.nodes }) };
+    ghost invariant = { λ w. IsWalk (record { plan = w.passages.plan; mesh = w.passages.mesh; labels = w.passages.labels; source = w.passages.source; passages = w.passages.passages; roots = w.roots.items; root = w.root; frames = w.path.frames; ends = w.path.ends; nodes = w.nodes }) };
 }
 
 impl<'a> Walker<'a> {
+    ghost use Rattle.portal_walk.specs.Due.{along, root_alone, way_of, way_taken};
     ghost use Rattle.portal_walk.specs.Frames.{ways_left};
     ghost use Rattle.portal_walk.specs.Nodes.{IsAnswered};
-    ghost use Rattle.portal_walk.specs.Sides.{IsExit};
-    ghost use Rattle.portal_walk.specs.Walk.{EntersPortal, Tries, Takes, Rests, SameWalk, remaining};
+    ghost use Rattle.portal_walk.specs.Passages.{IsPassage};
+    ghost use Rattle.portal_walk.specs.Sides.{IsExit, IsRootOf};
+    ghost use Rattle.portal_walk.specs.Walk.{ComesBy, EntersPortal, IsNoSequence, Tries, Takes, Rests, SameWalk, due, ends_of, remaining, tried_by};
 
     /// A walk at its beginning.
     pub fn new(
@@ -60,6 +64,7 @@ impl<'a> Walker<'a> {
         ensures labels { IfOk result (λ w. w.labels ≡ labels.now) }
         ensures source { IfOk result (λ w. w.source ≡ source) }
         ensures root { IfOk result (λ w. w.root ≡ None) }
+        ensures due { IfOk result (λ w. due w ≡ map root_alone (roots (map_of plan.now) source)) }
         ensures nodes { IfOk result (λ w. w.nodes ≡ []) }
     {
         Ok(Walker {
@@ -152,37 +157,38 @@ impl<'a> Walker<'a> {
     fn try_way(&mut self, frame: Frame, turn: Turn, ways: Ways) -> Result<Option<Step>, Memory>
         requires top { slice_get self.old.frames (length self.old.frames - 1) ≡ Some frame }
         requires fewer { ways_left frame.ways ≡ ways_left ways + 1 }
+        requires turn { way_taken ways ≡ way_of turn }
         ensures walk { SameWalk self.old self.new }
         ensures tries { Tries self.old self.new result }
     {
         let at = self.path.len() - 1;
+        self.path.set(at, Frame { ways, ..frame });
         match self.enter_way(frame.passage, turn) {
-            Ok(step) => {
-                self.path.set(at, Frame { ways, ..frame });
-                Ok(step)
+            Ok(step) => Ok(step),
+            Err(memory) => {
+                self.path.set(at, frame);
+                Err(memory)
             }
-            Err(memory) => Err(memory),
         }
     }
 
     /// Enters by the portal of a root.
     fn enter_root(&mut self, root: Root) -> Result<Option<Step>, Memory>
-        requires exit { IsExit self.old.plan self.old.source root.side }
+        requires root { IsRootOf self.old.plan self.old.source root }
+        requires begins { self.old.frames ≡ [] }
         ensures walk { SameWalk self.old self.new }
-        ensures enters { EntersPortal self.old self.new (Some root.side) result }
-        ensures known { self.old.known ≤ self.new.known }
+        ensures enters { EntersPortal self.old self.new root.side result }
     {
         let passage = self.passages.at(root.left, root.right)?;
         self.enter(Some(root.side), passage)
     }
 
-    /// Enters by a way out of the triangle of this passage.
+    /// Enters by a way out of the triangle of the path's last passage.
     fn enter_way(&mut self, from: u16, turn: Turn) -> Result<Option<Step>, Memory>
-        requires from { from < self.old.known }
-        requires there { IsSome self.old.root }
+        requires from { IfSome (slice_get self.old.frames (length self.old.frames - 1)) (λ frame. (frame.passage ≡ from) × (way_taken frame.ways ≡ way_of turn)) }
+        requires there { 0 < length self.old.frames }
         ensures walk { SameWalk self.old self.new }
-        ensures enters { EntersPortal self.old self.new self.old.root result }
-        ensures known { self.old.known ≤ self.new.known }
+        ensures enters { (side : Sided) → self.old.root ≡ Some side → EntersPortal self.old self.new side result }
     {
         let passage = self.passages.way(from, turn)?;
         self.enter(self.root, passage)
@@ -191,11 +197,13 @@ impl<'a> Walker<'a> {
     /// Enters by one passage, having left the source by this root, where there is one.
     fn enter(&mut self, root: Option<Side>, passage: Option<u16>) -> Result<Option<Step>, Memory>
         requires there { IsSome root }
+        requires same { 0 < length self.old.frames → root ≡ self.old.root }
         requires exit { IfSome root (λ side. IsExit self.old.plan self.old.source side) }
-        requires passage { IfSome passage (λ number. number < self.old.known) }
+        requires passage { IfSome passage (λ number. number < length self.old.passages) }
+        requires comes { (number : ℕ) (x : PassageOf) (side : Sided) → passage ≡ Some number → slice_get self.old.passages number ≡ Some x → root ≡ Some side → IsPassage self.old.plan self.old.mesh.triangles self.old.labels self.old.source x → ComesBy self.old.plan self.old.mesh.triangles self.old.labels self.old.source (tried_by self.old side) x (self.old.ends ++ ends_of x ∷ []) }
+        requires closed { (side : Sided) → passage ≡ None → root ≡ Some side → IsNoSequence self.old (tried_by self.old side) }
         ensures walk { SameWalk self.old self.new }
-        ensures enters { EntersPortal self.old self.new root result }
-        ensures known { self.old.known ≤ self.new.known }
+        ensures enters { (side : Sided) → root ≡ Some side → EntersPortal self.old self.new side result }
     {
         let Some(number) = passage else {
             return Ok(None);

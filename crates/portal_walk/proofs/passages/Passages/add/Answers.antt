@@ -1,7 +1,8 @@
 use Rattle.std.proofs.Common.{◌≡◌, ℕ, List, Some, ◌∷◌, [], ◌++◌, sym, refl, subst, arith, length, length-set, slice_get}
 use Rattle.portal_walk.specs.declared.passages.Passage.{Passage}
 use Rattle.portal_walk.specs.Passages.{PassagesParts, IsPassage, Keeps}
-use Rattle.portal_walk.proofs.Exits.{grown, passages_grown, keeps_grown, get_end}
+use Rattle.portal_walk.proofs.Lists.{get_end}
+use Rattle.portal_walk.proofs.Exits.{grown, passages_grown, keeps_grown}
 use Rattle.portal_walk.proofs.passages.Passages.add.Goals as goal
 
 pub invariant_of-self-in-Ok : goal.invariant_of-self-in-Ok
@@ -9,7 +10,7 @@ invariant_of-self-in-Ok c =
     let s = c.self.inside in
     let p : PassagesParts = record { plan = s.plan.now; mesh = s.mesh.now; labels = s.labels.now; source = s.source; passages = s.passages.items } in
     let passage = subst (λ (q : PassagesParts). IsPassage q.plan q.mesh.triangles q.labels q.source c.args.passage) (sym c.self.view_is) c.requires.passage in
-    rw (c.in-Ok.ensures.items, c.in_ok-push.ensures.items) (passages_grown p s.exits.items s.slots.items _ c.args.passage c.self.invariant passage (length-set s.slots.items c.args.slot _))
+    rw (c.in-Ok.ensures.items, c.in_ok-push.ensures.items) (passages_grown p s.lines s.exits.items s.slots.items _ c.args.passage c.self.invariant passage (length-set s.slots.items c.args.slot _))
 
 pub returns-in-Ok-clause-keeps : goal.returns-in-Ok-clause-keeps
 returns-in-Ok-clause-keeps c =

@@ -12,4 +12,4 @@ invariant_of-self c =
     let within : c.args.from < length s.exits.items = omega (arith, c.requires.from, c.self.invariant.each, ap (λ (q : PassagesParts). length q.passages) c.self.view_is) in
     let there : slice_get s.exits.items c.args.from ≡ Some exits = slice_get-get_or s.exits.items c.args.from exits within ∙ ap Some (sym c.index-exits.ensures) in
     let found : FindsWay p p c.args.from c.args.turn c.args.found = subst (λ (q : PassagesParts). FindsWay q q c.args.from c.args.turn c.args.found) (sym c.self.view_is) c.requires.found in
-    rw (c.with_way.ensures, c.way_to.ensures) (passages_noted p s.exits.items s.slots.items c.args.from exits c.args.turn c.args.found c.self.invariant there found)
+    rw (c.with_way.ensures, c.way_to.ensures) (passages_noted p s.lines s.exits.items s.slots.items c.args.from exits c.args.turn c.args.found c.self.invariant there found)

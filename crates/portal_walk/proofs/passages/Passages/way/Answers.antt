@@ -2,7 +2,8 @@ use Rattle.std.proofs.Common.{◌≡◌, ◌<◌, ap, sym, ◌∙◌, subst, ari
 use Rattle.std.proofs.lemmas.Option.{slice_get-get_or, slice_get_within}
 use Rattle.portal_walk.specs.declared.passages.Way.TheVariants.{Closed, Open}
 use Rattle.portal_walk.specs.Passages.{PassagesParts, FindsWay}
-use Rattle.portal_walk.proofs.Exits.{get_there, way_known}
+use Rattle.portal_walk.proofs.Lists.{get_there}
+use Rattle.portal_walk.proofs.Exits.{way_known}
 use Rattle.portal_walk.proofs.passages.Passages.way.Goals as goal
 
 pub returns-in-Closed-clause-found : goal.returns-in-Closed-clause-found
@@ -13,7 +14,7 @@ returns-in-Closed-clause-found c =
     let within : c.args.from < length s.exits.items = omega (arith, c.requires, c.self.invariant.each, ap (λ (q : PassagesParts). length q.passages) c.self.view_is) in
     let there : slice_get s.exits.items c.args.from ≡ Some exits = slice_get-get_or s.exits.items c.args.from exits within ∙ ap Some (sym c.index.ensures) in
     subst (λ (q : PassagesParts). FindsWay q q c.args.from c.args.turn None) c.self.view_is
-    (way_known p s.exits.items s.slots.items c.args.from exits c.args.turn Closed c.self.invariant there (sym c.in-Closed.is ∙ c.way_at.ensures))
+    (way_known p s.lines s.exits.items s.slots.items c.args.from exits c.args.turn Closed c.self.invariant there (sym c.in-Closed.is ∙ c.way_at.ensures))
 
 pub returns-in-Open-clause-found : goal.returns-in-Open-clause-found
 returns-in-Open-clause-found c =
@@ -23,7 +24,7 @@ returns-in-Open-clause-found c =
     let within : c.args.from < length s.exits.items = omega (arith, c.requires, c.self.invariant.each, ap (λ (q : PassagesParts). length q.passages) c.self.view_is) in
     let there : slice_get s.exits.items c.args.from ≡ Some exits = slice_get-get_or s.exits.items c.args.from exits within ∙ ap Some (sym c.index.ensures) in
     subst (λ (q : PassagesParts). FindsWay q q c.args.from c.args.turn (Some c.in-Open.number)) c.self.view_is
-    (way_known p s.exits.items s.slots.items c.args.from exits c.args.turn (Open c.in-Open.number) c.self.invariant there (sym c.in-Open.is ∙ c.way_at.ensures))
+    (way_known p s.lines s.exits.items s.slots.items c.args.from exits c.args.turn (Open c.in-Open.number) c.self.invariant there (sym c.in-Open.is ∙ c.way_at.ensures))
 
 pub returns-in-Open-clause-within : goal.returns-in-Open-clause-within
 returns-in-Open-clause-within c =
