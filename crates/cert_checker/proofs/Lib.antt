@@ -13,3 +13,7 @@ pub mod Entries
 pub mod Ways
 pub mod Nexts
 pub mod Entering
+pub mod Noting
+pub mod Following
+pub mod Answering
+pub mod Chains
