@@ -17,3 +17,6 @@ pub mod Noting
 pub mod Following
 pub mod Answering
 pub mod Chains
+pub mod Meshed
+pub mod WholeTrees
+pub mod AllTrees

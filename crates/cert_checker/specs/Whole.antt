@@ -1,5 +1,5 @@
 -- Trees as answers to a walk: each node answers the first of the entries that are still to be asked.
-use Rattle.std.specs.Prelude.{◌≡◌, ◌≢◌, ℕ, ◌<◌, ◌≤◌, ◌⊎◌, ◌↔◌, List, [], ◌∷◌, ◌++◌, Option, Some, None, map, take, length, slice_get, Contains}
+use Rattle.std.specs.Prelude.{◌≡◌, ◌≢◌, ℕ, ◌<◌, ◌≤◌, ◌⊎◌, ◌↔◌, List, [], ◌∷◌, ◌++◌, Option, Some, None, map, take, length, slice_get, Contains, Bool}
 use Rattle.sight_names.specs.Map.{Map}
 use Rattle.sight_names.specs.Splitting.{EndPoints}
 use Rattle.block_evidence.specs.declared.Node.{Node}
@@ -7,11 +7,14 @@ use Rattle.block_evidence.specs.declared.Node.TheVariants.{Open, Blocked}
 use Rattle.block_evidence.specs.declared.Tree.{Tree}
 use Rattle.block_evidence.specs.Stuck.{Blocks}
 use Rattle.reject_bits.specs.Parts.{TableParts, Rejects}
+use Rattle.sight_names.specs.declared.names.Triangle.{Triangle}
 use Rattle.cert_checker.specs.declared.web.Entry.{Entry}
 use Rattle.cert_checker.specs.declared.roots.Root.{Root}
 use Rattle.cert_checker.specs.declared.trees.Frame.{Frame}
 use Rattle.cert_checker.specs.declared.trees.Follow.{Follow}
 use Rattle.cert_checker.specs.Web.{way_outside}
+use Rattle.cert_checker.specs.Roots.{root_entries}
+use Rattle.cert_checker.specs.Pairs.{IsMarked}
 use Rattle.cert_checker.specs.Path.{portal_ends, path_ends, frame_at, Pending, pending_way, IsChain, root_pending, still_asked}
 
 -- the ends of the portals that lead up to the entry and through it
@@ -55,6 +58,24 @@ pub record IsWholeFrom (m : Map) (xs : List Entry) (roots : List Root) (first : 
 -- node k is the first that doesn't answer, or that is missing
 pub record IsFirstWrongFrom (m : Map) (xs : List Entry) (roots : List Root) (first : Option ℕ) (t : Tree) (k : ℕ) : Type 0 where
   pub wrong : (es : List ℕ) → IsChain roots first es → IsFirstWrong m xs t.source (map root_pending es) t.nodes k
+
+-- ---- all trees
+
+-- the nodes answer for the roots of the map and all that follows them, and enter these sectors
+abbrev pub IsWholeOver : Map → List Triangle → List Bool → List Entry → Tree → List ℕ → Type 0
+IsWholeOver m ts walls xs t sectors = AreAnswered m xs t.source (map root_pending (root_entries ts walls xs m t.source)) t.nodes [] sectors
+
+-- a tree of the one sector that doesn't enter the other
+abbrev pub HasTreeAway : Map → List Triangle → List Bool → List Entry → List Tree → ℕ → ℕ → Type 0
+HasTreeAway m ts walls xs trees a b = (t : Tree) × (sectors : List ℕ) × Contains trees t × (t.source ≡ a) × IsWholeOver m ts walls xs t sectors × ¬ Contains sectors b
+
+-- each of the trees is whole; and a sector whose flag was set here has a tree that enters only sectors whose bit is set
+pub record AreWholeOver (m : Map) (ts : List Triangle) (walls : List Bool) (xs : List Entry) (trees : List Tree) (walked walked_new : List Bool) (reached reached_new : TableParts) : Type 0 where
+  pub each : (t : Tree) → Contains trees t → (sectors : List ℕ) × IsWholeOver m ts walls xs t sectors
+  pub away : (a b : ℕ) → a < reached.n → b < reached.n → IsMarked walked_new a → ¬ Rejects reached_new a b → IsMarked walked a ⊎ HasTreeAway m ts walls xs trees a b
+
+abbrev pub HaveSourcesBelow : ℕ → List Tree → Type 0
+HaveSourcesBelow n trees = (t : Tree) → Contains trees t → t.source < n
 
 -- ---- the walk that follows a tree
 
