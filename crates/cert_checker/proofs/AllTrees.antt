@@ -21,13 +21,14 @@ use Rattle.cert_checker.specs.Pairs.{IsMarked}
 use Rattle.cert_checker.specs.Named.{Marks, HasNoMark}
 use Rattle.cert_checker.specs.declared.verdict.Verdict.{Verdict}
 use Rattle.cert_checker.specs.declared.verdict.Verdict.TheVariants.{Yes, No}
-use Rattle.cert_checker.specs.Judged.{JudgesTrees, IsRayFaultOf, IsTreeFault, IsPairVerdict}
+use Rattle.cert_checker.specs.Judged.{JudgesTrees, IsFirstTreeNotWhole, IsRayFaultOf, IsPairVerdict}
 use Rattle.cert_checker.specs.Web.{AreWalls, AreEntries}
-use Rattle.cert_checker.specs.Path.{root_pending}
+use Rattle.cert_checker.specs.Path.{root_pending, longest_of}
 use Rattle.cert_checker.specs.Roots.{first_at, root_entries, AreRoots}
-use Rattle.cert_checker.specs.Whole.{AreAnswered, Notes, IsWholeFrom, IsWholeOver, HasTreeAway, AreWholeOver, HaveSourcesBelow}
+use Rattle.cert_checker.specs.Whole.{AreAnswered, IsFirstWrong, Notes, IsFirstWrongFrom, IsFirstWrongTree, IsTreeFaultOver, IsWholeFrom, IsWholeOver, HasTreeAway, AreWholeOver, HaveSourcesBelow}
 use Rattle.cert_checker.proofs.Meshed.{IsMeshed}
-use Rattle.cert_checker.proofs.WholeTrees.{whole_tree, none_reached}
+use Rattle.cert_checker.proofs.WholeTrees.{whole_tree, whole_answers, none_reached}
+use Rattle.cert_checker.proofs.Refuting.{not_whole}
 
 module _ (m : Map) (ts : List Triangle) (walls : List Bool) (xs : List Entry) (trees : List Tree) (walked : List Bool) (reached : TableParts) where
   -- the trees below k
@@ -77,6 +78,11 @@ module _ (m : Map) (ts : List Triangle) (walls : List Bool) (xs : List Entry) (t
               by (inl h) = f.away a b la lb h (λ s. clear (bits.1 (inl s)))
               by (inr e) = inr (t, sectors, there, same_Some t.source a e, answered, λ c. clear (bits.1 (inr (sym (same_Some t.source a e), c))))
 
+  -- the next tree has a wrong node
+  pub wrong_tree : (k n : ℕ) (t : Tree) (roots : List Root) (firsts : List (Option ℕ)) (w : List Bool) (r : TableParts) → AreRoots m ts walls xs roots firsts → t.source < m.sectors → slice_get trees k ≡ Some t
+      → AreWholeBelow k w r → IsFirstWrongFrom m xs roots (first_at firsts t.source) t n → IsFirstWrongTree m ts walls xs trees t.source n
+  wrong_tree k n t roots firsts w r are low is f g = record { place = k; tree = t; is = is; of = refl; wrong = g.wrong (root_entries ts walls xs m t.source) (are.chains t.source low); before = f.each }
+
   pub all_whole : (k : ℕ) (walked_new : List Bool) (reached_new : TableParts) → length trees ≤ k → AreWholeBelow k walked_new reached_new → AreWholeOver m ts walls xs trees walked walked_new reached reached_new
   all_whole k walked_new reached_new l f = record { each = λ t c. f.each c.0 t (omega (arith, l, c.1)) (slice_get-get_or trees c.0 t c.1 ∙ ap Some c.2); away = f.away }
 
@@ -90,18 +96,26 @@ module _ (p : PlanParts) (c : CertParts) (walls : List Bool) (xs : List Entry) (
   tree_away a b (t, sectors, there, e, whole, none) = let f = whole_tree p c.triangles (triangles_of c) (labels_of c) walls xs w t.source t.nodes sectors whole in
       (t, there, e, (f.0, f.1, none_reached (labels_of c) b f.0 sectors f.2 none))
 
+-- no tree is longer than the longest
+pub longest_has : (us : List Tree) (k : ℕ) (t : Tree) → slice_get us k ≡ Some t → length t.nodes ≤ longest_of us
+longest_has [] k t e = absurd (cc)
+longest_has (u ∷ us) zero t e = let h : u ≡ t = same u t e in let l : length u.nodes ≡ length t.nodes = ap (λ (v : Tree). length v.nodes) h in omega (arith, l)
+  where
+    same : (x y : Tree) → ◌≡◌ {A = Option Tree} (Some x) (Some y) → x ≡ y
+    same x y q = cc
+longest_has (u ∷ us) (suc k) t e = let l : length t.nodes ≤ longest_of us = longest_has us k t e in omega (arith, l)
+
 -- what the judge of trees shows, of the plan's map and of the certificate
 module _ (p : PlanParts) (c : CertParts) (ts : List Triangle) (walls : List Bool) (xs : List Entry) (trees : List Tree) (old new : List Bool) (reached reached_new : TableParts) where
-  pub record IsJudged : Type 0 where
+  pub record AreTreesJudged : Type 0 where
     pub plan : IsPlan p
     pub triangles : ts ≡ triangles_of c
     pub good : IsGoodMesh (map_of p) ts (labels_of c)
     pub are_walls : AreWalls (map_of p) ts walls
     pub are_entries : AreEntries ts walls c.triangles xs
     pub list : trees ≡ c.trees
-    pub over : AreWholeOver (map_of p) ts walls xs trees old new reached reached_new
 
-  meshed : IsJudged → IsMeshed p c.triangles (triangles_of c) (labels_of c) walls xs
+  meshed : AreTreesJudged → IsMeshed p c.triangles (triangles_of c) (labels_of c) walls xs
   meshed j = record {
     plan = j.plan;
     triangles = refl;
@@ -111,18 +125,45 @@ module _ (p : PlanParts) (c : CertParts) (ts : List Triangle) (walls : List Bool
     are_entries = subst (λ (us : List Triangle). AreEntries us walls c.triangles xs) j.triangles j.are_entries;
   }
 
-  over_mesh : IsJudged → AreWholeOver (map_of p) (triangles_of c) walls xs c.trees old new reached reached_new
-  over_mesh j = subst (λ (us : List Triangle). AreWholeOver (map_of p) us walls xs c.trees old new reached reached_new) j.triangles (subst (λ (us : List Tree). AreWholeOver (map_of p) ts walls xs us old new reached reached_new) j.list j.over)
+  over_mesh : AreTreesJudged → AreWholeOver (map_of p) ts walls xs trees old new reached reached_new → AreWholeOver (map_of p) (triangles_of c) walls xs c.trees old new reached reached_new
+  over_mesh j over = subst (λ (us : List Triangle). AreWholeOver (map_of p) us walls xs c.trees old new reached reached_new) j.triangles (subst (λ (us : List Tree). AreWholeOver (map_of p) ts walls xs us old new reached reached_new) j.list over)
 
-  pub trees_whole : IsJudged → (t : Tree) → Contains c.trees t → (opened : List ℕ) × IsWholeTree (map_of p) (triangles_of c) (labels_of c) t opened
-  trees_whole j t there = let f = (over_mesh j).each t there in tree_over_mesh p c walls xs (meshed j) t f.0 f.1
+  pub trees_whole : AreTreesJudged → AreWholeOver (map_of p) ts walls xs trees old new reached reached_new → (t : Tree) → Contains c.trees t → (opened : List ℕ) × IsWholeTree (map_of p) (triangles_of c) (labels_of c) t opened
+  trees_whole j over t there = let f = (over_mesh j over).each t there in tree_over_mesh p c walls xs (meshed j) t f.0 f.1
 
-  pub keeps_away : (none now : List Bool) → IsJudged → HasNoMark p.sectors none → old ≡ none → now ≡ new → reached.n ≡ p.sectors → (a b : ℕ) → a < p.sectors → b < p.sectors → IsMarked now a → ¬ Rejects reached_new a b → HasTreeWithout (map_of p) c a b
-  keeps_away none now j unmarked e f g a b la lb n clear = by ((over_mesh j).away a b (omega (arith, la, g)) (omega (arith, lb, g)) (subst (λ (bs : List Bool). IsMarked bs a) f n) clear)
+  pub keeps_away : (none now : List Bool) → AreTreesJudged → AreWholeOver (map_of p) ts walls xs trees old new reached reached_new → HasNoMark p.sectors none → old ≡ none → now ≡ new → reached.n ≡ p.sectors → (a b : ℕ) → a < p.sectors → b < p.sectors → IsMarked now a → ¬ Rejects reached_new a b → HasTreeWithout (map_of p) c a b
+  keeps_away none now j over unmarked e f g a b la lb n clear = by ((over_mesh j over).away a b (omega (arith, la, g)) (omega (arith, lb, g)) (subst (λ (bs : List Bool). IsMarked bs a) f n) clear)
     where
       by : IsMarked old a ⊎ HasTreeAway (map_of p) (triangles_of c) walls xs c.trees a b → HasTreeWithout (map_of p) c a b
       by (inl m) = absurd (unmarked.none a la (subst (λ (bs : List Bool). IsMarked bs a) e m))
       by (inr t) = tree_away p c walls xs (meshed j) a b t
+
+  not_whole_over : AreTreesJudged → (t : Tree) (k : ℕ) → IsFirstWrong (map_of p) xs t.source (map root_pending (root_entries (triangles_of c) walls xs (map_of p) t.source)) t.nodes k → (opened : List ℕ) → ¬ IsWholeTree (map_of p) (triangles_of c) (labels_of c) t opened
+  not_whole_over j t k wrong opened whole = let f = whole_answers p c.triangles (triangles_of c) (labels_of c) walls xs (meshed j) t.source t.nodes opened whole in
+      not_whole (map_of p) xs t.source (map root_pending (root_entries (triangles_of c) walls xs (map_of p) t.source)) t.nodes k f.0 wrong f.1
+
+  first_not_whole : AreTreesJudged → (s k : ℕ) → IsFirstWrongTree (map_of p) (triangles_of c) walls xs c.trees s k → IsFirstTreeNotWhole (map_of p) c s k
+  first_not_whole j s k f = record {
+    place = f.place;
+    tree = f.tree;
+    is = f.is;
+    of = f.of;
+    not_whole = not_whole_over j f.tree k f.wrong;
+    before = λ i t l e. let g = f.before i t l e in tree_over_mesh p c walls xs (meshed j) t g.0 g.1;
+    walls = walls;
+    entries = xs;
+    are_walls = (meshed j).are_walls;
+    are_entries = (meshed j).are_entries;
+    node = f.wrong;
+  }
+
+  pub trees_at_tree : AreTreesJudged → (f : CheckFault) → IsTreeFaultOver (map_of p) ts walls xs trees f → JudgesTrees (map_of p) c (No f)
+  trees_at_tree j (OfTree x y) wrong = first_not_whole j x y (subst (λ (us : List Triangle). IsFirstWrongTree (map_of p) us walls xs c.trees x y) j.triangles (subst (λ (us : List Tree). IsFirstWrongTree (map_of p) ts walls xs us x y) j.list wrong))
+  trees_at_tree j (Mesh x) wrong = absurd wrong
+  trees_at_tree j (Ray x y z) wrong = absurd wrong
+  trees_at_tree j (ListedSet x y) wrong = absurd wrong
+  trees_at_tree j (Unproved x y) wrong = absurd wrong
+  trees_at_tree j (Uncovered x y) wrong = absurd wrong
 
 -- ---- the answer
 
@@ -141,14 +182,6 @@ trees_at_ray m c (OfTree x y) kind = absurd kind
 trees_at_ray m c (ListedSet x y) kind = absurd kind
 trees_at_ray m c (Unproved x y) kind = absurd kind
 trees_at_ray m c (Uncovered x y) kind = absurd kind
-
-pub trees_at_tree : (m : Map) (c : CertParts) (f : CheckFault) → IsTreeFault f → JudgesTrees m c (No f)
-trees_at_tree m c (OfTree x y) kind = tt
-trees_at_tree m c (Mesh x) kind = absurd kind
-trees_at_tree m c (Ray x y z) kind = absurd kind
-trees_at_tree m c (ListedSet x y) kind = absurd kind
-trees_at_tree m c (Unproved x y) kind = absurd kind
-trees_at_tree m c (Uncovered x y) kind = absurd kind
 
 pub trees_at_pairs : (m : Map) (c : CertParts) (v : Verdict) → ((t : Tree) → Contains c.trees t → (opened : List ℕ) × IsWholeTree m (triangles_of c) (labels_of c) t opened) → IsPairVerdict v → JudgesTrees m c v
 trees_at_pairs m c (Yes t) all kind = all

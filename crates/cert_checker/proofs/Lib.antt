@@ -20,3 +20,4 @@ pub mod Chains
 pub mod Meshed
 pub mod WholeTrees
 pub mod AllTrees
+pub mod Refuting

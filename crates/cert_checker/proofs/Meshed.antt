@@ -1,5 +1,5 @@
 -- Entries over a good mesh: what is behind the portal of a sequence, and behind its two ways out.
-use Rattle.std.proofs.Common.{◌≡◌, ℕ, zero, suc, ◌+◌, ◌*◌, ◌<◌, ◌⊎◌, inl, inr, List, [], ◌∷◌, Option, Some, None, length, map, Bool, true, false, not, IsTrue, ◌&&◌, ◌==◌, refl, sym, ◌∙◌, ap, subst, arith, if◌then◌else◌, eqb-true, eq-eqb}
+use Rattle.std.proofs.Common.{◌≡◌, ◌≢◌, ℕ, zero, suc, ◌+◌, ◌*◌, ◌<◌, ◌⊎◌, inl, inr, List, [], ◌∷◌, Option, Some, None, length, map, Bool, true, false, not, IsTrue, ◌&&◌, ◌==◌, refl, sym, ◌∙◌, ap, subst, arith, if◌then◌else◌, eqb-true, eq-eqb}
 use Rattle.std.specs.List.{slice_get}
 use Rattle.std.specs.Prelude.{option_and_then, option_map}
 use Rattle.std.proofs.lemmas.Option.{slice_get-map}
@@ -324,3 +324,55 @@ module _ (p : PlanParts) (labelled : List Labelled) (ts : List Triangle) (ls : L
       of_triangle : (o : Option ℕ) → triangle_at ts e_at ≡ o → IsAsked a q i
       of_triangle None h = absurd (unset 0 (ap (option_and_then (λ k. option_and_then (λ (t : Triangle). without_wall walls (k * 3 + corner_of e_at t)) (slice_get ts k))) h))
       of_triangle (Some k) h = let f = found_here ts e_at k h in of_place (k * 3 + corner_of e_at f.0) (place_at e_at k f.0 h f.1)
+
+  -- a portal that has no node isn't asked
+  pub no_node_unasked : (a : ℕ) (q : Portal) → HasNoNode (map_of p) ts ls a q → way_out_of ts walls xs a (entry_edge q) ≡ None
+  no_node_unasked a q none = of_triangle (triangle_at ts e_at) refl
+    where
+      e_at : Edge
+      e_at = entry_edge q
+
+      walled_up : (j : ℕ) → IsPlace ts e_at j → slice_get walls j ≡ Some true → way_out_of ts walls xs a e_at ≡ None
+      walled_up j at b = ap (way_outside xs a) (at_place ts walls e_at j at ∙ ap (option_and_then (λ (wall : Bool). let o : Option ℕ = if wall then None else Some j in o)) b)
+
+      of_place : (k j : ℕ) → triangle_at ts e_at ≡ Some k → IsPlace ts e_at j → way_out_of ts walls xs a e_at ≡ None
+      of_place k j h at = elim (flag_there walls j (omega (arith, w.are_walls.len, place_within ts (length (points_of (map_of p))) e_at j all_triangles at))) as (λ _. way_out_of ts walls xs a e_at ≡ None) [
+        | inl b ↦ walled_up j at b
+        | inr b ↦ by b (entry_there e_at j at) none
+      ]
+        where
+          clash : ◌≡◌ {A = Option Bool} (Some true) (Some false) → ⊥
+          clash g = cc
+
+          by : slice_get walls j ≡ Some false → (x : Entry) × (slice_get xs j ≡ Some x) → HasNoNode (map_of p) ts ls a q → way_out_of ts walls xs a e_at ≡ None
+          by b (x, is) (inl s) = absurd (clash (sym ((w.are_walls.flags e_at j at).1 s) ∙ b))
+          by b (x, is) (inr (l, found, label)) = ap (way_outside xs a) (at_place ts walls e_at j at ∙ open_way j b) ∙ outside_if a j x is ∙ ap (λ (c : Bool). let o : Option ℕ = if c then None else Some j in o) (number_same x.sector a sector)
+            where
+              n : Enters p ts ls walls xs q j
+              n = entered q j x at is
+
+              sector : x.sector ≡ a
+              sector = ap (λ (y : Entry). y.sector) (same_some x n.x (sym is ∙ n.is)) ∙ same_some n.x.sector a (sym n.label ∙ ap (label_of ls) (same_some n.k l (sym n.found ∙ found)) ∙ label)
+
+      of_triangle : (o : Option ℕ) → triangle_at ts e_at ≡ o → way_out_of ts walls xs a e_at ≡ None
+      of_triangle None h = ap (way_outside xs a) (ap (option_and_then (λ k. option_and_then (λ (t : Triangle). without_wall walls (k * 3 + corner_of e_at t)) (slice_get ts k))) h)
+      of_triangle (Some k) h = let f = found_here ts e_at k h in of_place k (k * 3 + corner_of e_at f.0) h (place_at e_at k f.0 h f.1)
+
+  -- a portal that has one is
+  pub node_asked : (a : ℕ) (q : Portal) (k : ℕ) → ¬ IsSolidLine (map_of p) q → triangle_at ts (entry_edge q) ≡ Some k → label_of ls k ≢ Some a → (i : ℕ) × (way_out_of ts walls xs a (entry_edge q) ≡ Some i)
+  node_asked a q k open_ found outside = let f = found_here ts (entry_edge q) k found in of_place (k * 3 + corner_of (entry_edge q) f.0) (place_at (entry_edge q) k f.0 found f.1)
+    where
+      of_place : (j : ℕ) → IsPlace ts (entry_edge q) j → (i : ℕ) × (way_out_of ts walls xs a (entry_edge q) ≡ Some i)
+      of_place j at = elim (flag_there walls j (omega (arith, w.are_walls.len, place_within ts (length (points_of (map_of p))) (entry_edge q) j all_triangles at))) as (λ _. (i : ℕ) × (way_out_of ts walls xs a (entry_edge q) ≡ Some i)) [
+        | inl b ↦ absurd (open_ ((w.are_walls.flags (entry_edge q) j at).0 b))
+        | inr b ↦ by b (entry_there (entry_edge q) j at)
+      ]
+        where
+          by : slice_get walls j ≡ Some false → (x : Entry) × (slice_get xs j ≡ Some x) → (i : ℕ) × (way_out_of ts walls xs a (entry_edge q) ≡ Some i)
+          by b (x, is) = (j, ap (way_outside xs a) (at_place ts walls (entry_edge q) j at ∙ open_way j b) ∙ outside_if a j x is ∙ ap (λ (c : Bool). let o : Option ℕ = if c then None else Some j in o) (number_other x.sector a other))
+            where
+              n : Enters p ts ls walls xs q j
+              n = entered q j x at is
+
+              other : x.sector ≡ a → ⊥
+              other e = outside (ap (label_of ls) (same_some k n.k (sym found ∙ n.found)) ∙ n.label ∙ ap Some (ap (λ (y : Entry). y.sector) (same_some n.x x (sym n.is ∙ is)) ∙ e))

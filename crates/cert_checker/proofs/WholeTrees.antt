@@ -15,14 +15,14 @@ use Rattle.block_evidence.specs.declared.Evidence.{Evidence}
 use Rattle.block_evidence.specs.declared.Node.{Node}
 use Rattle.block_evidence.specs.declared.Node.TheVariants.{Open, Blocked}
 use Rattle.block_evidence.specs.Stuck.{Blocks}
-use Rattle.block_evidence.specs.WholeTree.{HasNode, Answers as AnswersFor, no_node, blocked, open_node, AnswersRoots}
+use Rattle.block_evidence.specs.WholeTree.{HasNode, HasNoNode, Answers as AnswersFor, no_node, blocked, open_node, AnswersRoots}
 use Rattle.cert_format.specs.declared.cert.Labelled.{Labelled}
 use Rattle.cert_checker.specs.declared.web.Entry.{Entry}
 use Rattle.cert_checker.specs.Web.{way_outside}
 use Rattle.cert_checker.specs.Roots.{way_out_of, root_entry}
 use Rattle.cert_checker.specs.Path.{Pending, pending_way, root_pending}
 use Rattle.cert_checker.specs.Whole.{ends_through, ways_through, Answers, AreAnswered}
-use Rattle.cert_checker.proofs.Meshed.{IsMeshed, Enters, IsInner, IsAsked, asked, not_asked, left_inner, right_inner, passable}
+use Rattle.cert_checker.proofs.Meshed.{IsMeshed, Enters, IsInner, IsAsked, asked, not_asked, no_node_unasked, node_asked, left_inner, right_inner, passable}
 use Rattle.cert_checker.proofs.Chains.{root_test}
 
 last_is : (q : Portal) (ps : List Portal) (o : Option Portal) → last_or o (ps ++ q ∷ []) ≡ Some q
@@ -269,6 +269,88 @@ module _ (p : PlanParts) (labelled : List Labelled) (ts : List Triangle) (ls : L
   -- nodes that answer for the roots of the source and all that follows are a whole tree
   pub whole_tree : (ns : List Node) (sectors : List ℕ) → AreAnswered (map_of p) xs a (map root_pending (filter_map the_entry (roots (map_of p) a))) ns [] sectors → AreRooted (roots (map_of p) a) ns sectors
   whole_tree ns sectors answered = from_roots (roots (map_of p) a) (all_kept (is_root (map_of p) a) (sides_of (map_of p))) ns sectors answered
+
+  -- ---- a whole tree answers for all that is asked
+
+  abbrev IsAnswered : List Pending → List Node → Type 0
+  IsAnswered ps ns = (sectors : List ℕ) × AreAnswered (map_of p) xs a ps ns [] sectors
+
+  abbrev asked_at : List Portal → ℕ → Pending
+  asked_at front i = record { path = end_points (map_of p) front; entry = i }
+
+  last_same : (ps front : List Portal) (r q : Portal) → ps ≡ front ++ q ∷ [] → last_or None ps ≡ Some r → r ≡ q
+  last_same ps front r q e f = same (sym f ∙ ap (last_or None) e ∙ last_is q front None)
+    where
+      same : ◌≡◌ {A = Option Portal} (Some r) (Some q) → r ≡ q
+      same h = cc
+
+  moved_to : (front : List Portal) (q : Portal) (o : Option ℕ) (rest : List Pending) (ns ms : List Node) → the_way q ≡ o → ns ≡ ms → IsAnswered (pending_way (end_points (map_of p) front) o ++ rest) ms → IsAnswered (asks front q ++ rest) ns
+  moved_to front q o rest ns ms e f answered = subst (λ (ks : List Node). IsAnswered (asks front q ++ rest) ks) (sym f) (subst (λ (u : Option ℕ). IsAnswered (pending_way (end_points (map_of p) front) u ++ rest) ms) (sym e) answered)
+
+  at_none : (front : List Portal) (q : Portal) (rest : List Pending) (here back : List Node) → HasNoNode (map_of p) ts ls a q → here ≡ [] → IsAnswered rest back → IsAnswered (asks front q ++ rest) (here ++ back)
+  at_none front q rest here back none e answered = moved_to front q None rest (here ++ back) back (no_node_unasked p labelled ts ls walls xs w a q none) (ap (λ (ns : List Node). ns ++ back) e) answered
+
+  at_blocked : (front : List Portal) (q : Portal) (k : ℕ) (d : Evidence) (rest : List Pending) (here back : List Node) → HasNode (map_of p) ts ls a (front ++ q ∷ []) q k → Blocks (end_points (map_of p) (front ++ q ∷ [])) d → here ≡ Blocked d ∷ [] → IsAnswered rest back
+      → IsAnswered (asks front q ++ rest) (here ++ back)
+  at_blocked front q k d rest here back has blocks e (others, answered) = go (node_asked p labelled ts ls walls xs w a q k has.no_wall has.entered has.outside)
+    where
+      go : (i : ℕ) × (the_way q ≡ Some i) → IsAnswered (asks front q ++ rest) (here ++ back)
+      go (i, way) = moved_to front q (Some i) rest (here ++ back) (Blocked d ∷ back) way (ap (λ (ns : List Node). ns ++ back) e)
+          (others, (rest, [], others, (asked_at front i, rest, n.x, refl, n.is, subst (λ (es : List EndPoints). Blocks es d) (sym (through front q i n.x n.left n.right)) blocks, refl, refl), answered, refl))
+        where
+          n : Enters p ts ls walls xs q i
+          n = (asked p labelled ts ls walls xs w a q i way).enters
+
+  at_open : (front : List Portal) (q : Portal) (k t : ℕ) (rest : List Pending) (here back left right : List Node) → HasNode (map_of p) ts ls a (front ++ q ∷ []) q k → apex ts q ≡ Some t → here ≡ Open ∷ (left ++ right)
+      → IsAnswered (asks (front ++ q ∷ []) (way_out q Left t) ++ (asks (front ++ q ∷ []) (way_out q Right t) ++ rest)) (left ++ (right ++ back)) → IsAnswered (asks front q ++ rest) (here ++ back)
+  at_open front q k t rest here back left right has third e (sectors, answered) = go (node_asked p labelled ts ls walls xs w a q k has.no_wall has.entered has.outside)
+    where
+      go : (i : ℕ) × (the_way q ≡ Some i) → IsAnswered (asks front q ++ rest) (here ++ back)
+      go (i, way) = moved_to front q (Some i) rest (here ++ back) (Open ∷ (left ++ (right ++ back))) way (ap (λ (ns : List Node). ns ++ back) e ∙ ap (λ (ns : List Node). Open ∷ ns) (append_assoc left right back)) (
+        n.x.sector ∷ sectors,
+        (
+          ways_through (map_of p) xs a (asked_at front i) n.x ++ rest,
+          n.x.sector ∷ [],
+          sectors,
+          (asked_at front i, rest, n.x, refl, n.is, refl, refl),
+          subst (λ (ps : List Pending). AreAnswered (map_of p) xs a ps (left ++ (right ++ back)) [] sectors) (sym ways) answered,
+          refl,
+        ),
+      )
+        where
+          n : Enters p ts ls walls xs q i
+          n = (asked p labelled ts ls walls xs w a q i way).enters
+
+          same : ◌≡◌ {A = Option ℕ} (Some n.x.apex) (Some t) → n.x.apex ≡ t
+          same h = cc
+
+          ways : ways_through (map_of p) xs a (asked_at front i) n.x ++ rest ≡ asks (front ++ q ∷ []) (way_out q Left t) ++ (asks (front ++ q ∷ []) (way_out q Right t) ++ rest)
+          ways = ap (λ (ps : List Pending). ps ++ rest) (ways_are front q i n) ∙ append_assoc (asks (front ++ q ∷ []) (way_out q Left n.x.apex)) (asks (front ++ q ∷ []) (way_out q Right n.x.apex)) rest
+              ∙ ap (λ (z : ℕ). asks (front ++ q ∷ []) (way_out q Left z) ++ (asks (front ++ q ∷ []) (way_out q Right z) ++ rest)) (same (sym (apex_is q i n) ∙ third))
+
+  complete : {ps : List Portal} {here : List Node} {opened : List ℕ} → AnswersFor (map_of p) ts ls a ps here opened → (front : List Portal) (q : Portal) → ps ≡ front ++ q ∷ [] → (rest : List Pending) (back : List Node) → IsAnswered rest back → IsAnswered (asks front q ++ rest) (here ++ back)
+  complete {ps = ps} {here = here} (no_node r last none e o) front q same rest back answered = at_none front q rest here back (subst (HasNoNode (map_of p) ts ls a) (last_same ps front r q same last) none) e answered
+  complete {ps = ps} {here = here} (blocked r k d has blocks e o) front q same rest back answered =
+      at_blocked front q k d rest here back (subst (λ (us : List Portal). HasNode (map_of p) ts ls a us q k) same (subst (λ (s : Portal). HasNode (map_of p) ts ls a ps s k) (last_same ps front r q same has.last) has)) (subst (λ (us : List Portal). Blocks (end_points (map_of p) us) d) same blocks) e answered
+  complete {ps = ps} {here = here} (open_node r k t left right via_left via_right has third one other e o) front q same rest back answered =
+      let is : r ≡ q = last_same ps front r q same has.last in
+      let behind_right : IsAnswered (asks (front ++ q ∷ []) (way_out r Right t) ++ rest) (right ++ back) = complete other (front ++ q ∷ []) (way_out r Right t) (ap (λ (us : List Portal). us ++ way_out r Right t ∷ []) same) rest back answered in
+      let behind_left : IsAnswered (asks (front ++ q ∷ []) (way_out r Left t) ++ (asks (front ++ q ∷ []) (way_out r Right t) ++ rest)) (left ++ (right ++ back)) = complete one (front ++ q ∷ []) (way_out r Left t) (ap (λ (us : List Portal). us ++ way_out r Left t ∷ []) same) (asks (front ++ q ∷ []) (way_out r Right t) ++ rest) (right ++ back) behind_right in
+      at_open front q k t rest here back left right (subst (λ (us : List Portal). HasNode (map_of p) ts ls a us q k) same (subst (λ (s : Portal). HasNode (map_of p) ts ls a ps s k) is has)) (ap (apex ts) (sym is) ∙ third) e
+      (subst (λ (s : Portal). IsAnswered (asks (front ++ q ∷ []) (way_out s Left t) ++ (asks (front ++ q ∷ []) (way_out s Right t) ++ rest)) (left ++ (right ++ back))) is behind_left)
+
+  same_portal : (o : Option Portal) (r q : Portal) → o ≡ Some r → o ≡ Some q → r ≡ q
+  same_portal o r q e f = cc
+
+  all_roots : (ss : List Side) → AllByRecursion (λ s. IsTrue (is_root (map_of p) a s)) ss → (ns : List Node) (opened : List ℕ) → AnswersRoots (map_of p) ts ls a ss ns opened → IsAnswered (map root_pending (filter_map the_entry ss)) ns
+  all_roots [] all ns opened (e, f) = subst (λ (ms : List Node). IsAnswered [] ms) (sym e) ([], (refl, refl))
+  all_roots (s ∷ ss) all ns opened (q, front, back, one, more, is, split, parts, answers, others) =
+      subst (λ (ms : List Node). IsAnswered (map root_pending (cons_option (the_entry s) (filter_map the_entry ss))) ms) (sym split)
+      (subst (λ (ps : List Pending). IsAnswered ps (front ++ back)) (sym (pending_more (the_entry s) (filter_map the_entry ss) ∙ ap (λ (o : Option ℕ). pending_way [] o ++ map root_pending (filter_map the_entry ss)) (ap (option_and_then (λ (r : Portal). the_way r)) is)))
+      (complete answers [] q refl (map root_pending (filter_map the_entry ss)) back (all_roots ss all.1 back more others)))
+
+  pub whole_answers : (ns : List Node) (opened : List ℕ) → AnswersRoots (map_of p) ts ls a (roots (map_of p) a) ns opened → (sectors : List ℕ) × AreAnswered (map_of p) xs a (map root_pending (filter_map the_entry (roots (map_of p) a))) ns [] sectors
+  whole_answers ns opened answers = all_roots (roots (map_of p) a) (all_kept (is_root (map_of p) a) (sides_of (map_of p))) ns opened answers
 
 -- no open node enters a triangle of the sector
 pub none_reached : (ls : List (Option ℕ)) (b : ℕ) (opened sectors : List ℕ) → map (label_of ls) opened ≡ map Some sectors → (Contains sectors b → ⊥) → AllByRecursion (λ k. label_of ls k ≢ Some b) opened

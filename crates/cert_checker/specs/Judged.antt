@@ -1,5 +1,5 @@
 -- What the checker's answer says of the mesh, of the rays and of the pairs.
-use Rattle.std.specs.Prelude.{◌≡◌, ◌≢◌, ◌<◌, ◌≤◌, ◌⊎◌, ℕ, List, length, Contains}
+use Rattle.std.specs.Prelude.{◌≡◌, ◌≢◌, ◌<◌, ◌≤◌, ◌⊎◌, ℕ, List, length, map, slice_get, Some, Bool, Contains}
 use Rattle.sight_names.specs.declared.faults.CheckFault.{CheckFault}
 use Rattle.sight_names.specs.declared.faults.CheckFault.TheVariants.{Mesh, Ray, Tree as OfTree, ListedSet, Unproved, Uncovered}
 use Rattle.sight_names.specs.Map.{Map}
@@ -14,6 +14,11 @@ use Rattle.reject_bits.specs.Parts.{TableParts}
 use Rattle.cert_format.specs.Accepted.{triangles_of, labels_of, EitherSet, EitherClear, IsNamed, IsPairListed, IsProvedBlind, IsProvedSeen, HasTreeWithout}
 use Rattle.cert_checker.specs.Pairs.{KnownParts, AreTotals, KeepsAway, pairs_of}
 use Rattle.cert_checker.specs.Named.{MarksNamed}
+use Rattle.cert_checker.specs.declared.web.Entry.{Entry}
+use Rattle.cert_checker.specs.Web.{AreWalls, AreEntries}
+use Rattle.cert_checker.specs.Path.{root_pending}
+use Rattle.cert_checker.specs.Roots.{root_entries}
+use Rattle.cert_checker.specs.Whole.{IsFirstWrong}
 use Rattle.cert_checker.specs.Rays.{AreAimedBelow, IsFirstRayFault}
 use Rattle.cert_checker.specs.declared.verdict.Verdict.{Verdict}
 use Rattle.cert_checker.specs.declared.verdict.Verdict.TheVariants.{Yes, No}
@@ -29,11 +34,26 @@ JudgesRays m c (No (Mesh f)) = Unit {0}
 JudgesRays m c (No (Ray a b f)) = IsFirstRayFault m c.rays (Ray a b f)
 JudgesRays m c _ = AreAimedBelow m c.rays (length c.rays)
 
--- with yes, and with a fault of a pair, each tree is whole
+-- the first tree of the certificate that isn't whole, and the first of its nodes that doesn't answer for what is asked
+pub record IsFirstTreeNotWhole (m : Map) (c : CertParts) (source k : ℕ) : Type 0 where
+  pub place : ℕ
+  pub tree : Tree
+  pub is : slice_get c.trees place ≡ Some tree
+  pub of : tree.source ≡ source
+  pub not_whole : (opened : List ℕ) → ¬ IsWholeTree m (triangles_of c) (labels_of c) tree opened
+  pub before : (i : ℕ) (t : Tree) → i < place → slice_get c.trees i ≡ Some t → (opened : List ℕ) × IsWholeTree m (triangles_of c) (labels_of c) t opened
+  -- the number, by the entries of the mesh
+  pub walls : List Bool
+  pub entries : List Entry
+  pub are_walls : AreWalls m (triangles_of c) walls
+  pub are_entries : AreEntries (triangles_of c) walls c.triangles entries
+  pub node : IsFirstWrong m entries tree.source (map root_pending (root_entries (triangles_of c) walls entries m tree.source)) tree.nodes k
+
+-- a fault of a tree is that of the first one that isn't whole; with yes, and with a fault of a pair, each is
 abbrev pub JudgesTrees : Map → CertParts → Verdict → Type 0
 JudgesTrees m c (No (Mesh f)) = Unit {0}
 JudgesTrees m c (No (Ray a b f)) = Unit {0}
-JudgesTrees m c (No (OfTree s n)) = Unit {0}
+JudgesTrees m c (No (OfTree s n)) = IsFirstTreeNotWhole m c s n
 JudgesTrees m c _ = (t : Tree) → Contains c.trees t → (opened : List ℕ) × IsWholeTree m (triangles_of c) (labels_of c) t opened
 
 -- a fault of a ray

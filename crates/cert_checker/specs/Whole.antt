@@ -1,5 +1,7 @@
 -- Trees as answers to a walk: each node answers the first of the entries that are still to be asked.
 use Rattle.std.specs.Prelude.{◌≡◌, ◌≢◌, ℕ, ◌<◌, ◌≤◌, ◌⊎◌, ◌↔◌, List, [], ◌∷◌, ◌++◌, Option, Some, None, map, take, length, slice_get, Contains, Bool}
+use Rattle.sight_names.specs.declared.faults.CheckFault.{CheckFault}
+use Rattle.sight_names.specs.declared.faults.CheckFault.TheVariants.{Tree as OfTree}
 use Rattle.sight_names.specs.Map.{Map}
 use Rattle.sight_names.specs.Splitting.{EndPoints}
 use Rattle.block_evidence.specs.declared.Node.{Node}
@@ -73,6 +75,19 @@ HasTreeAway m ts walls xs trees a b = (t : Tree) × (sectors : List ℕ) × Cont
 pub record AreWholeOver (m : Map) (ts : List Triangle) (walls : List Bool) (xs : List Entry) (trees : List Tree) (walked walked_new : List Bool) (reached reached_new : TableParts) : Type 0 where
   pub each : (t : Tree) → Contains trees t → (sectors : List ℕ) × IsWholeOver m ts walls xs t sectors
   pub away : (a b : ℕ) → a < reached.n → b < reached.n → IsMarked walked_new a → ¬ Rejects reached_new a b → IsMarked walked a ⊎ HasTreeAway m ts walls xs trees a b
+
+-- the trees before this one are whole; node k is the first of its nodes that doesn't answer, or one past the last where one is missing
+pub record IsFirstWrongTree (m : Map) (ts : List Triangle) (walls : List Bool) (xs : List Entry) (trees : List Tree) (source k : ℕ) : Type 0 where
+  pub place : ℕ
+  pub tree : Tree
+  pub is : slice_get trees place ≡ Some tree
+  pub of : tree.source ≡ source
+  pub wrong : IsFirstWrong m xs tree.source (map root_pending (root_entries ts walls xs m tree.source)) tree.nodes k
+  pub before : (i : ℕ) (t : Tree) → i < place → slice_get trees i ≡ Some t → (sectors : List ℕ) × IsWholeOver m ts walls xs t sectors
+
+abbrev pub IsTreeFaultOver : Map → List Triangle → List Bool → List Entry → List Tree → CheckFault → Type 0
+IsTreeFaultOver m ts walls xs trees (OfTree s k) = IsFirstWrongTree m ts walls xs trees s k
+IsTreeFaultOver m ts walls xs trees _ = ⊥
 
 abbrev pub HaveSourcesBelow : ℕ → List Tree → Type 0
 HaveSourcesBelow n trees = (t : Tree) → Contains trees t → t.source < n
