@@ -12,15 +12,14 @@ use Rattle.sight_names.specs.Found.{AreConnected}
 use Rattle.cert_checker.proofs.Components.{one_component, one_number, same_or}
 use Rattle.cert_format.specs.Parts.{CertParts}
 use Rattle.cert_format.specs.Grammar.{Ascends, PairBefore, IsPairInRange, IsRayInRange, IsInOrder}
-use Rattle.cert_format.specs.Accepted.{EitherSet, EitherClear, IsNamed, IsPairListed, IsProvedSeen}
+use Rattle.cert_format.specs.Accepted.{EitherSet, EitherClear, IsNamed, IsPairListed, IsProvedBlind, IsProvedSeen, HasTreeWithout}
 use Rattle.cert_checker.specs.declared.verdict.Totals.{Totals}
 use Rattle.cert_checker.specs.declared.verdict.Verdict.{Verdict}
 use Rattle.cert_checker.specs.declared.verdict.Verdict.TheVariants.{Yes, No}
 use Rattle.cert_checker.specs.Pairs.{KnownParts, pairs_of, pair, IsWithin, IsMarked, HaveSameNumber, KeepsAway, IsShownBlind, IsShownSeen, IsFine, IsFaultAt, IsFirstPairFault, ArePairsFine, IsKnown, AreTotals}
-use Rattle.block_evidence.specs.declared.Tree.{Tree}
 use Rattle.tri_sectors.specs.Components.{AreComponents}
-use Rattle.cert_checker.specs.Named.{HasNoMark, MarksNamed, MarksSources}
-use Rattle.cert_checker.specs.Judged.{IsAbout, HasTreeOf, MayBeBlind, MayBeSeen, IsPairRight, IsReached, JudgesPairs, JudgesRays, IsPairVerdict, IsTreeFault}
+use Rattle.cert_checker.specs.Named.{MarksNamed}
+use Rattle.cert_checker.specs.Judged.{IsAbout, MayBeSeen, IsPairRight, IsReached, JudgesPairs, JudgesRays, IsPairVerdict, IsTreeFault}
 use Rattle.cert_checker.specs.Rays.{AreAimedBelow}
 
 -- ---- lists of a certificate in order
@@ -95,12 +94,12 @@ right_of m c k a b about size l h fine = record {
     marks : (IsMarked k.named a → IsNamed m a) × (IsNamed m a → IsMarked k.named a)
     marks = about.named.flags a (omega arith)
 
-    apart : (¬ HaveSameNumber k.components a b) ⊎ KeepsAway k a b ⊎ KeepsAway k b a → (¬ AreConnected m a b) ⊎ HasTreeOf c a ⊎ HasTreeOf c b
+    apart : (¬ HaveSameNumber k.components a b) ⊎ KeepsAway k a b ⊎ KeepsAway k b a → (¬ AreConnected m a b) ⊎ HasTreeWithout m c a b ⊎ HasTreeWithout m c b a
     apart (inl n) = inl (λ g. n (one_number m k.components a b about.components (omega arith) h g))
-    apart (inr (inl n)) = inr (inl (about.walked a (omega arith) n.0))
-    apart (inr (inr n)) = inr (inr (about.walked b h n.0))
+    apart (inr (inl n)) = inr (inl (about.walked a b (omega arith) h n))
+    apart (inr (inr n)) = inr (inr (about.walked b a h (omega arith) n))
 
-    blind : IsShownBlind k a b → MayBeBlind m c a b
+    blind : IsShownBlind k a b → IsProvedBlind m c a b
     blind (inl n) = inl (n.0, λ g. n.1 (marks.1 g))
     blind (inr n) = inr (n.0, apart n.1)
 
@@ -186,17 +185,12 @@ rays_at_pairs m c rays (No (OfTree x y)) e all kind = absurd kind
 
 -- ---- what the judge of pairs is given
 
-pub is_about : (m : Map) (c : CertParts) (k : KnownParts) (named : List Bool) (components : List ℕ) (trees : List Tree) (none old new : List Bool)
-    → k.named ≡ named → MarksNamed m named → k.components ≡ components → AreComponents m components → trees ≡ c.trees → HasNoMark m.sectors none → old ≡ none → MarksSources trees old new → k.walked ≡ new
-    → k.listed ≡ c.listed → k.rays ≡ pairs_of c.rays → IsAbout m c k
-is_about m c k named components trees none old new e marks f are g unmarked h sources w listed rays = record {
+pub is_about : (m : Map) (c : CertParts) (k : KnownParts) (named : List Bool) (components : List ℕ) → k.named ≡ named → MarksNamed m named → k.components ≡ components → AreComponents m components
+    → ((a b : ℕ) → a < m.sectors → b < m.sectors → KeepsAway k a b → HasTreeWithout m c a b) → k.listed ≡ c.listed → k.rays ≡ pairs_of c.rays → IsAbout m c k
+is_about m c k named components e marks f are away listed rays = record {
   named = subst (MarksNamed m) (sym e) marks;
   components = subst (AreComponents m) (sym f) are;
-  walked = λ a l n. walked a l (sources a (subst (λ (bs : List Bool). IsMarked bs a) w n));
+  walked = away;
   listed = listed;
   rays = rays;
 }
-  where
-    walked : (a : ℕ) → a < m.sectors → IsMarked old a ⊎ ((t : Tree) × Contains trees t × (t.source ≡ a)) → HasTreeOf c a
-    walked a l (inl n) = absurd (unmarked.none a l (subst (λ (bs : List Bool). IsMarked bs a) h n))
-    walked a l (inr (t, n, q)) = (t, subst (λ (ts : List Tree). Contains ts t) g n, q)

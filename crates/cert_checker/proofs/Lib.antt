@@ -13,3 +13,11 @@ pub mod Entries
 pub mod Ways
 pub mod Nexts
 pub mod Entering
+pub mod Noting
+pub mod Following
+pub mod Answering
+pub mod Chains
+pub mod Meshed
+pub mod WholeTrees
+pub mod AllTrees
+pub mod Refuting

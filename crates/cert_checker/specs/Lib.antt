@@ -5,3 +5,4 @@ pub mod Rays
 pub mod Web
 pub mod Path
 pub mod Roots
+pub mod Whole

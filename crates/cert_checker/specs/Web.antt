@@ -30,6 +30,14 @@ abbrev pub IsWay : List Triangle → List Bool → Edge → Option ℕ → Type 
 IsWay ts walls e None = (triangle_at ts e ≡ None) ⊎ ((i : ℕ) × IsPlace ts e i × ¬ (slice_get walls i ≡ Some false))
 IsWay ts walls e (Some i) = IsPlace ts e i × (slice_get walls i ≡ Some false)
 
+-- the place, unless a wall stands in it
+abbrev pub without_wall : List Bool → ℕ → Option ℕ
+without_wall walls i = option_and_then (λ (wall : Bool). if wall then None else Some i) (slice_get walls i)
+
+-- the same place: the only one that is a way through the edge
+abbrev pub way_at : List Triangle → List Bool → Edge → Option ℕ
+way_at ts walls e = option_and_then (λ k. option_and_then (λ (t : Triangle). without_wall walls (k * 3 + corner_of e t)) (slice_get ts k)) (triangle_at ts e)
+
 -- one who enters through the directed edge from left to right
 pub record IsEntry (ts : List Triangle) (walls : List Bool) (left right apex sector : ℕ) (x : Entry) : Type 0 where
   pub left_end : x.left ≡ left

@@ -1,11 +1,18 @@
 //! The check, in the order of its faults: mesh, rays, trees, pairs.
 
-ghost use Rattle.std.specs.Prelude.{◌≡◌, length, map, IfOk, IfSome, MatchOption, Some};
+ghost use Rattle.std.specs.Prelude.{◌≡◌, ◌≤◌, List, Bool, length, map, IfOk, IfNone, IfSome, MatchOption, Some};
 ghost use Rattle.sight_names.specs.Map.{map_of};
 ghost use Rattle.sight_names.specs.Sound.{LinesMeetAtEnds};
+ghost use Rattle.sight_names.specs.Mesh.{IsGoodMesh};
+ghost use Rattle.sight_names.specs.Plan.{IsPlan};
+ghost use Rattle.sight_names.specs.declared.names.Triangle.{Triangle};
+ghost use Rattle.cert_checker.specs.Web.{AreWalls, AreEntries};
+ghost use Rattle.cert_checker.specs.Roots.{AreRoots};
+ghost use Rattle.cert_checker.specs.Whole.{AreWholeOver, IsTreeFaultOver, HaveSourcesBelow};
+ghost use Rattle.cert_checker.specs.Path.{longest_of};
 ghost use Rattle.cert_format.specs.declared.cert.Labelled.{Labelled as AtSector};
 ghost use Rattle.cert_checker.specs.Named.{HasNoMark, MarksNamed, MarksLine, MarksSources};
-ghost use Rattle.cert_checker.specs.Judged.{JudgesMesh, JudgesRays, JudgesPairs, IsRayFaultOf, IsTreeFault, IsPairVerdict, IsLaterVerdict, IsAbout};
+ghost use Rattle.cert_checker.specs.Judged.{JudgesMesh, JudgesRays, JudgesTrees, JudgesPairs, IsRayFaultOf, IsTreeFault, IsPairVerdict, IsLaterVerdict, IsAbout};
 ghost use Rattle.cert_checker.specs.Pairs.{known_of, IsKnown};
 ghost use Rattle.tri_sectors.specs.Components.{AreComponents};
 ghost use Rattle.cert_checker.specs.Rays.{IsAimed, AreAimedBelow, IsFaultOf, IsFirstRayFault};
@@ -122,6 +129,8 @@ fn tree_fault(
     ensures tree { IfSome result IsTreeFault }
     ensures walked { MarksSources trees.now walked.old walked.new }
     ensures sectors { reached.new.n ≡ reached.old.n }
+    ensures whole { (ts : List Triangle) (walls : List Bool) → AreRoots (map_of ground.now.plan.now) ts walls ground.now.web.now.entries.items ground.now.roots.now.roots.items ground.now.roots.now.first.items → HaveSourcesBelow ground.now.plan.now.sectors trees.now → IfNone result (AreWholeOver (map_of ground.now.plan.now) ts walls ground.now.web.now.entries.items trees.now walked.old walked.new reached.old reached.new) }
+    ensures wrong { longest_of trees.now ≤ length path.old → (ts : List Triangle) (walls : List Bool) → AreRoots (map_of ground.now.plan.now) ts walls ground.now.web.now.entries.items ground.now.roots.now.roots.items ground.now.roots.now.first.items → HaveSourcesBelow ground.now.plan.now.sectors trees.now → IfSome result (IsTreeFaultOver (map_of ground.now.plan.now) ts walls ground.now.web.now.entries.items trees.now) }
 {
     for tree in trees {
         if let Some(node) = first_wrong(ground, path, reached, tree) {
@@ -166,6 +175,11 @@ fn store_of(alloc: Global, plan: &Plan, cert: &Cert, mesh: &Mesh) -> Result<Stor
     ensures walked { IfOk result (λ s. HasNoMark plan.now.sectors s.walked.items) }
     ensures named { IfOk result (λ s. MarksNamed (map_of plan.now) s.named.items) }
     ensures components { IfOk result (λ s. AreComponents (map_of plan.now) s.components.items) }
+    ensures plan { IfOk result (λ s. IsPlan plan.now) }
+    ensures path { IfOk result (λ s. length s.path.items ≡ longest_of cert.now.trees) }
+    ensures walls { IfOk result (λ s. AreWalls (map_of plan.now) mesh.now.triangles s.web.walls.items) }
+    ensures entries { IfOk result (λ s. AreEntries mesh.now.triangles s.web.walls.items cert.now.triangles s.web.entries.items) }
+    ensures roots { IfOk result (λ s. AreRoots (map_of plan.now) mesh.now.triangles s.web.walls.items s.web.entries.items s.roots.roots.items s.roots.first.items) }
 {
     let path = path_of(alloc, cert.trees())?;
     let walked = unmarked(alloc, plan.sectors)?;
@@ -207,8 +221,16 @@ fn judge_rest(plan: &Plan, table: &Table, cert: &Cert, mesh: &Mesh, store: Store
     requires named { MarksNamed (map_of plan.now) store.named.items }
     requires components { AreComponents (map_of plan.now) store.components.items }
     requires sectors { cert.now.sizes.sectors ≡ plan.now.sectors }
+    requires plan { IsPlan plan.now }
+    requires path { length store.path.items ≡ longest_of cert.now.trees }
+    requires triangles { mesh.now.triangles ≡ triangles_of cert.now }
+    requires good { IsGoodMesh (map_of plan.now) mesh.now.triangles (labels_of cert.now) }
+    requires walls { AreWalls (map_of plan.now) mesh.now.triangles store.web.walls.items }
+    requires entries { AreEntries mesh.now.triangles store.web.walls.items cert.now.triangles store.web.entries.items }
+    requires roots { AreRoots (map_of plan.now) mesh.now.triangles store.web.walls.items store.web.entries.items store.roots.roots.items store.roots.first.items }
     ensures later { IsLaterVerdict result }
     ensures rays { JudgesRays (map_of plan.now) cert.now result }
+    ensures trees { JudgesTrees (map_of plan.now) cert.now result }
     ensures pairs { JudgesPairs (map_of plan.now) table.now cert.now result }
 {
     let Store {
@@ -259,6 +281,7 @@ pub fn check(alloc: Global, plan: &Plan, table: &Table, cert: &Cert) -> Result<V
     requires lines { cert.now.sizes.lines ≡ length plan.now.lines }
     ensures mesh { IfOk result (JudgesMesh (map_of plan.now) cert.now) }
     ensures rays { IfOk result (JudgesRays (map_of plan.now) cert.now) }
+    ensures trees { IfOk result (JudgesTrees (map_of plan.now) cert.now) }
     ensures pairs { IfOk result (JudgesPairs (map_of plan.now) table.now cert.now) }
 {
     let (mesh, labels) = mesh_of(alloc, plan, cert)?;
