@@ -1,13 +1,18 @@
 #!/usr/bin/env python3
-"""How the work grows: `grid` from 2 to 18, and rows of rooms whose walks are deep.
+"""How the work grows: `grid` from 2 to 18, rows of rooms whose walks are deep, and maps that are hard to triangulate.
 
     bench/growth.py [--program PATH] [--rooms 16,64,256]
 
 A row of k rooms with a passable line between neighbours has one long sequence from each room to each other, so a walk
 from its end is k portals deep: nanoseconds a node against depth show whether a step's cost depends on the depth.
+
+The hard maps have 4,080 points: a round polygon, two far rows of short lines, needles from one row to the other, and
+short lines strewn about. Their sectors aren't closed, which `audit` says after segments and mesh are made.
 """
 import argparse
+import math
 import os
+import random
 import struct
 import sys
 import tempfile
@@ -47,6 +52,28 @@ def row_of_rooms(count):
     return [(b"LINEDEFS", lines), (b"SIDEDEFS", sides), (b"VERTEXES", places), (b"SECTORS", bytes(26 * count))]
 
 
+def hard_maps(count=4080):
+    """The lines of each hard map, by its name."""
+    turns = [2 * math.pi * k / count for k in range(count)]
+    circle = [(round(32000 * math.cos(a)), round(32000 * math.sin(a))) for a in turns]
+    yield "polygon", list(zip(circle, circle[1:] + circle[:1]))
+    yield "rows", [((-32000 + 62 * k, y), (-31969 + 62 * k, y)) for k in range(count // 4) for y in (-32000, 32000)]
+    yield "needles", [((-32000 + 31 * k, -32000), (-32000 + 31 * k + k % 7, 32000)) for k in range(count // 2)]
+    strewn = random.Random(1)
+    places = strewn.sample([(x, y) for x in range(-32000, 32000, 64) for y in range(-32000, 32000, 64)], count // 2)
+    yield "strewn", [((x, y), (x + strewn.randrange(1, 60), y + strewn.randrange(1, 60))) for x, y in places]
+
+
+def lumps_of(lines):
+    """The lumps of a map with these passable lines in one sector."""
+    points = sorted({point for line in lines for point in line})
+    numbers = {point: k for k, point in enumerate(points)}
+    records = b"".join(struct.pack("<7H", numbers[p], numbers[q], 4, 0, 0, 2 * k, 2 * k + 1) for k, (p, q) in enumerate(lines))
+    sides = struct.pack("<hh8s8s8sH", 0, 0, b"-", b"-", b"-", 0) * (2 * len(lines))
+    places = b"".join(struct.pack("<hh", *point) for point in points)
+    return [(b"LINEDEFS", records), (b"SIDEDEFS", sides), (b"VERTEXES", places), (b"SECTORS", bytes(26))]
+
+
 def main():
     words = argparse.ArgumentParser()
     words.add_argument("--program", default="crates/doomsight/out/doomsight")
@@ -68,6 +95,11 @@ def main():
             total = nodes(open(cert, "rb").read())
             walk = (build.seconds - audit.seconds) * 1e9 / total
             print("| %d | %d | %.2f | %.2f | %.0f | %.0f |" % (count, total, build.seconds, check.seconds, walk, check.seconds * 1e9 / total))
+        print("\n| hard map | points | audit s | peak MB | line |\n|---|---|---|---|---|")
+        for name, lines in hard_maps():
+            open(source, "wb").write(wad("MAP01", lumps_of(lines)))
+            run = Run([program, "audit", source, "MAP01"])
+            print("| %s | %d | %.2f | %.0f | %s |" % (name, len({p for line in lines for p in line}), run.seconds, run.megabytes, run.line))
 
 
 if __name__ == "__main__":
