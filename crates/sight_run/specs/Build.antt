@@ -6,12 +6,10 @@ use Rattle.sight_names.specs.declared.faults.LineFault.{LineFault}
 use Rattle.sight_names.specs.Found.{AreConnected}
 use Rattle.sight_names.specs.Map.{Map}
 use Rattle.sight_names.specs.Mesh.{IsGoodMesh}
-use Rattle.sight_names.specs.Points.{points_of}
 use Rattle.sight_names.specs.Sound.{LinesMeetAtEnds}
 use Rattle.map_audit.specs.Audit.{IsLineFault}
 use Rattle.reject_bits.specs.Parts.{IsWhole, Rejects}
 use Rattle.block_evidence.specs.declared.Tree.{Tree}
-use Rattle.cert_format.specs.declared.cert.Sizes.{Sizes}
 use Rattle.cert_format.specs.Accepted.{IsNamed, labels_of, triangles_of}
 use Rattle.cert_format.specs.Grammar.{IsInOrder, Spells}
 use Rattle.cert_format.specs.Parts.{CertParts}
@@ -28,13 +26,10 @@ use Rattle.sight_run.specs.declared.status.Status.TheVariants as status
 use Rattle.sight_run.specs.Answer.{Answer, Written}
 use Rattle.sight_run.specs.Counts.{counts_with, counts_words}
 use Rattle.sight_run.specs.Input.{Found}
+use Rattle.sight_run.specs.Sizes.{sizes_of_map}
 use Rattle.sight_run.specs.Zero.{with_table}
 
 -- ---- what is built of a map
-
--- the sizes that a certificate of the map has
-abbrev pub sizes_of_map : Map → Sizes
-sizes_of_map m = record { sectors = m.sectors; points = length (points_of m); lines = length m.lines }
 
 -- no pair is listed, and each sector has its tree
 pub record IsExhausted (m : Map) (built : Built) : Type 0 where

@@ -7,13 +7,10 @@ use Rattle.sight_names.specs.declared.faults.TableFault.TheVariants as table
 use Rattle.sight_names.specs.declared.faults.CertFault.{CertFault}
 use Rattle.sight_names.specs.declared.faults.CertFault.TheVariants as cert
 use Rattle.sight_names.specs.Map.{Map}
-use Rattle.sight_names.specs.Plan.{PlanParts}
-use Rattle.sight_names.specs.Points.{points_of}
 use Rattle.sight_names.specs.Sound.{LinesMeetAtEnds}
 use Rattle.shelf_io.specs.Shelf.{Files, content_of}
 use Rattle.wad_dir.specs.Wad.{WadFile}
 use Rattle.reject_bits.specs.Parts.{HasSameBits, IsWhole, TableParts}
-use Rattle.cert_format.specs.declared.cert.Sizes.{Sizes}
 use Rattle.cert_format.specs.Parts.{CertParts}
 use Rattle.cert_format.specs.Reading.{reading}
 use Rattle.cert_checker.specs.declared.verdict.Totals.{Totals}
@@ -27,6 +24,7 @@ use Rattle.sight_run.specs.declared.status.Status.{Status}
 use Rattle.sight_run.specs.declared.status.Status.TheVariants as status
 use Rattle.sight_run.specs.Answer.{Answer, only_line, ◌>>=◌}
 use Rattle.sight_run.specs.Input.{Found, lump_at}
+use Rattle.sight_run.specs.Sizes.{sizes_of_map}
 use Rattle.sight_run.specs.Sound.{OnSoundLines}
 use Rattle.sight_run.specs.Zero.{table_len}
 
@@ -51,13 +49,6 @@ of_cert_fetch (Err fetch.Failed) = Err (status.ReadFault role.Cert)
 of_cert_fetch (Err fetch.TooLong) = Err (status.Limit bound.CertBytes)
 of_cert_fetch (Err fetch.Memory) = Err status.Memory
 
-abbrev pub sizes_of : Map → Sizes
-sizes_of m = record { sectors = m.sectors; points = length (points_of m); lines = length m.lines }
-
--- the same, by the map's plan
-abbrev pub plan_sizes : PlanParts → Sizes
-plan_sizes p = record { sectors = p.sectors; points = length p.points; lines = length p.lines }
-
 abbrev pub of_reading : Result CertParts CertFault → Result CertParts Status
 of_reading (Ok c) = Ok c
 of_reading (Err cert.Memory) = Err status.Memory
@@ -65,7 +56,7 @@ of_reading (Err fault) = Err (status.No (why.Cert fault))
 
 -- the certificate that the bytes spell for the map
 abbrev pub cert_in : Map → List ℕ → Result CertParts Status
-cert_in m bytes = of_reading (reading (sizes_of m) bytes)
+cert_in m bytes = of_reading (reading (sizes_of_map m) bytes)
 
 -- the table and the certificate
 pub record Brought : Type 0 where

@@ -4,10 +4,9 @@
 ghost use Rattle.sight_names.specs.Map.{map_of};
 ghost use Rattle.sight_names.specs.Sound.{LinesMeetAtEnds};
 
-use crate::plans::{UNSOUND, place_of, plan_at};
+use crate::plans::{Failed, Twins, UNSOUND, failure, first_failure, place_of};
 use geom_exact::{Relation, seg_relation, turn};
-use map_audit::audit_lines;
-use sight_names::{Memory, Plan, Pt, Triangle};
+use sight_names::{BuildFault, Memory, Plan, Pt, Triangle};
 use std::alloc::Global;
 use std::test::Fail;
 use triangulate::{Segment, greedy, mesh_of};
@@ -16,8 +15,6 @@ use worked_maps::wads::plan_of;
 /// Where a map and its twin are apart.
 #[derive(Clone, Copy, Debug, PartialEq, Eq)]
 enum Apart {
-    /// Two lines of the map meet elsewhere than at their ends.
-    Unaudited,
     Segments,
     Triangles,
 }
@@ -173,35 +170,27 @@ fn map_apart(alloc: Global, plan: &Plan) -> Result<Option<Apart>, Memory>
     Ok(None)
 }
 
-/// The same of any map.
-fn plan_apart(alloc: Global, plan: &Plan) -> Result<Option<Apart>, Memory> {
-    let Ok(()) = audit_lines(plan) else {
-        return Ok(Some(Apart::Unaudited));
-    };
-    map_apart(alloc, plan)
-}
+/// The bodies that make segments and triangles.
+#[derive(Clone, Copy)]
+struct MeshTwins;
 
-/// The first of so many maps where they are apart.
-fn first_apart(alloc: Global, maps: usize) -> Result<Option<(usize, Apart)>, Memory> {
-    for number in 0..maps {
-        let Ok(plan) = plan_at(alloc, number) else {
-            return Ok(Some((number, Apart::Unaudited)));
-        };
-        if let Some(apart) = plan_apart(alloc, &plan)? {
-            return Ok(Some((number, apart)));
-        }
+impl Twins for MeshTwins {
+    type Place = Apart;
+
+    fn apart(&mut self, alloc: Global, plan: &Plan) -> Result<Option<Apart>, BuildFault> {
+        Ok(map_apart(alloc, plan)?)
     }
-    Ok(None)
 }
 
-/// The same of the maps that aren't sound.
-fn unsound_apart(alloc: Global) -> Result<Option<Apart>, Memory> {
+/// The first of the maps that aren't sound that isn't passed.
+fn unsound_failure(alloc: Global) -> Result<Option<Failed<Apart>>, BuildFault> {
     for (lines, sectors) in &UNSOUND {
         let Ok(plan) = plan_of(alloc, lines, *sectors) else {
-            return Ok(Some(Apart::Unaudited));
+            return Ok(Some(Failed::Unaudited));
         };
-        if let Some(apart) = plan_apart(alloc, &plan)? {
-            return Ok(Some(apart));
+        let why = failure(alloc, &plan, &mut MeshTwins)?;
+        if why.is_some() {
+            return Ok(why);
         }
     }
     Ok(None)
@@ -209,7 +198,7 @@ fn unsound_apart(alloc: Global) -> Result<Option<Apart>, Memory> {
 
 #[test]
 fn meshes(rt: HostRuntime) -> Result<(), Fail> {
-    assert_eq!(rt; first_apart(rt.alloc(), 37), Ok(None));
-    assert_eq!(rt; unsound_apart(rt.alloc()), Ok(None));
+    assert_eq!(rt; first_failure(rt.alloc(), 37, &mut MeshTwins), Ok(None));
+    assert_eq!(rt; unsound_failure(rt.alloc()), Ok(None));
     Ok(())
 }

@@ -1,6 +1,10 @@
-//! The maps that the twins are run on: worked ones, and made-up ones by their seeds.
+//! The maps that the twins are run on: worked ones, and made-up ones by their seeds; and the run over them.
 
-use sight_names::{LumpFault, Plan, Pt};
+ghost use Rattle.sight_names.specs.Map.{map_of};
+ghost use Rattle.sight_names.specs.Sound.{LinesMeetAtEnds};
+
+use map_audit::audit_lines;
+use sight_names::{BuildFault, LumpFault, Plan, Pt};
 use std::alloc::Global;
 use worked_maps::maps::{
     APART, CROSSROADS, DOORS, DOORS33, ISLAND, LINE3, NO_LINES, OPEN, PAIR, PILLAR, RINGS, ROD,
@@ -38,6 +42,57 @@ pub fn plan_at(alloc: Global, number: usize) -> Result<Plan, LumpFault> {
             plan_of(alloc, &made.lines, made.sectors)
         }
     }
+}
+
+/// Fast bodies and their twins, to be run on maps.
+pub trait Twins {
+    /// Where they are apart.
+    type Place: Copy;
+
+    /// Where they are apart on a map, None where they agree.
+    fn apart(&mut self, alloc: Global, plan: &Plan) -> Result<Option<Self::Place>, BuildFault>
+        requires { LinesMeetAtEnds (map_of plan.now) };
+}
+
+/// Why a map isn't passed.
+#[derive(Clone, Copy, Debug, PartialEq, Eq)]
+pub enum Failed<P> {
+    /// It isn't read, or two of its lines meet elsewhere than at their ends.
+    Unaudited,
+    /// The twins are apart.
+    Apart(P),
+}
+
+/// Why the map isn't passed, None where it is.
+pub fn failure<T: Twins>(
+    alloc: Global,
+    plan: &Plan,
+    twins: &mut T,
+) -> Result<Option<Failed<T::Place>>, BuildFault> {
+    let Ok(()) = audit_lines(plan) else {
+        return Ok(Some(Failed::Unaudited));
+    };
+    match twins.apart(alloc, plan)? {
+        Some(place) => Ok(Some(Failed::Apart(place))),
+        None => Ok(None),
+    }
+}
+
+/// The first of so many maps that isn't passed, and why.
+pub fn first_failure<T: Twins>(
+    alloc: Global,
+    maps: usize,
+    twins: &mut T,
+) -> Result<Option<(usize, Failed<T::Place>)>, BuildFault> {
+    for number in 0..maps {
+        let Ok(plan) = plan_at(alloc, number) else {
+            return Ok(Some((number, Failed::Unaudited)));
+        };
+        if let Some(why) = failure(alloc, &plan, twins)? {
+            return Ok(Some((number, why)));
+        }
+    }
+    Ok(None)
 }
 
 /// Where the point with this number is.

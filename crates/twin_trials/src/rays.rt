@@ -3,13 +3,12 @@
 ghost use Rattle.sight_names.specs.Map.{map_of};
 ghost use Rattle.sight_names.specs.Sound.{LinesMeetAtEnds};
 
-use crate::plans::plan_at;
+use crate::plans::{Twins, first_failure};
 use cert_checker::{Verdict, check};
 use cert_format::{Cert, Sizes, print, read};
-use map_audit::audit_lines;
 use reject_bits::Table;
 use sight_job::{Built, build_table};
-use sight_names::{Budget, BuildFault, CheckFault, PairRay, Plan, Ray, Side};
+use sight_names::{Budget, BuildFault, CheckFault, PairRay, Plan, Ray, RayFault, Side};
 use sight_ray::check_ray;
 use std::alloc::{AllocError, Global};
 use std::test::Fail;
@@ -30,22 +29,43 @@ enum Change {
     Shift(i64),
     /// a and b are exchanged.
     Exchange,
+    /// The sides are exchanged, and a, b and c negated.
+    Back,
+    /// The first side is the other side of its line.
+    TurnFirst,
     /// The last side is the other side of its line.
     TurnLast,
+    /// The first side is on the next line.
+    NextFirst,
+    /// The last side is on the next line.
+    NextLast,
+    /// The first side is that of the ray so many places further on.
+    FirstOf(usize),
     /// The last side is that of the ray so many places further on.
     LastOf(usize),
+    /// The whole ray is the one so many places further on.
+    Other(usize),
 }
 
-const CHANGES: [Change; 9] = [
+const CHANGES: [Change; 17] = [
     Change::Shift(0),
     Change::Shift(1),
     Change::Shift(-1),
     Change::Shift(64),
     Change::Shift(-64),
+    // beyond the range of c
+    Change::Shift(1 << 38),
     Change::Exchange,
+    Change::Back,
+    Change::TurnFirst,
     Change::TurnLast,
+    Change::NextFirst,
+    Change::NextLast,
+    Change::FirstOf(1),
+    Change::FirstOf(2),
     Change::LastOf(1),
     Change::LastOf(2),
+    Change::Other(1),
 ];
 
 /// Where a map and its twin are apart.
@@ -61,42 +81,66 @@ enum Apart {
     Judged(usize, Change),
 }
 
-/// How many changed rays were accepted, were refused, and joined other sectors.
+/// How many changed rays were accepted, joined other sectors, and had each of the faults.
 #[derive(Clone, Copy)]
 struct Tally {
     accepted: usize,
-    refused: usize,
     elsewhere: usize,
+    range: usize,
+    side: usize,
+    split: usize,
+    way: usize,
+    backwards: usize,
+    blocked: usize,
 }
 
-/// The ray with a change.
-fn changed(rays: &[PairRay], number: usize, change: Change) -> Option<PairRay> {
+fn turned(side: Side) -> Side {
+    Side {
+        left: !side.left,
+        ..side
+    }
+}
+
+/// The same side of the next line of so many.
+fn next(side: Side, lines: u16) -> Side {
+    Side {
+        line: side.line.wrapping_add(1) % lines.max(1),
+        ..side
+    }
+}
+
+fn back(ray: Ray) -> Ray {
+    Ray {
+        first: ray.last,
+        last: ray.first,
+        a: ray.a.wrapping_neg(),
+        b: ray.b.wrapping_neg(),
+        c: ray.c.wrapping_neg(),
+    }
+}
+
+/// The ray so many places behind this number, round the list.
+fn ray_behind(rays: &[PairRay], number: usize, places: usize) -> Option<Ray> {
+    let place = number.wrapping_add(places) % rays.len().max(1);
+    Some(rays.get(place)?.ray)
+}
+
+/// The ray of a map of so many lines with a change.
+fn changed(rays: &[PairRay], lines: u16, number: usize, change: Change) -> Option<PairRay> {
     let one = *rays.get(number)?;
-    let ray = match change {
-        Change::Shift(by) => Ray {
-            c: one.ray.c.wrapping_add(by),
-            ..one.ray
-        },
-        Change::Exchange => Ray {
-            a: one.ray.b,
-            b: one.ray.a,
-            ..one.ray
-        },
-        Change::TurnLast => Ray {
-            last: Side {
-                left: !one.ray.last.left,
-                ..one.ray.last
-            },
-            ..one.ray
-        },
-        Change::LastOf(places) => {
-            let place = number.wrapping_add(places) % rays.len().max(1);
-            Ray {
-                last: rays.get(place)?.ray.last,
-                ..one.ray
-            }
-        }
-    };
+    let mut ray = one.ray;
+    match change {
+        Change::Shift(by) => ray.c = ray.c.wrapping_add(by),
+        Change::Exchange => (ray.a, ray.b) = (ray.b, ray.a),
+        Change::Back => ray = back(ray),
+        Change::TurnFirst => ray.first = turned(ray.first),
+        Change::TurnLast => ray.last = turned(ray.last),
+        Change::NextFirst => ray.first = next(ray.first, lines),
+        Change::NextLast => ray.last = next(ray.last, lines),
+        Change::FirstOf(places) => ray.first = ray_behind(rays, number, places)?.first,
+        Change::LastOf(places) => ray.last = ray_behind(rays, number, places)?.last,
+        Change::Other(places) => ray = ray_behind(rays, number, places)?,
+    }
     Some(PairRay { ray, ..one })
 }
 
@@ -181,13 +225,22 @@ fn judged(
     }
 }
 
+fn count_fault(tally: &mut Tally, fault: RayFault) {
+    match fault {
+        RayFault::Range => tally.range = tally.range.wrapping_add(1),
+        RayFault::BadSide { .. } => tally.side = tally.side.wrapping_add(1),
+        RayFault::NotSplit { .. } => tally.split = tally.split.wrapping_add(1),
+        RayFault::WrongWay { .. } => tally.way = tally.way.wrapping_add(1),
+        RayFault::Backwards => tally.backwards = tally.backwards.wrapping_add(1),
+        RayFault::Blocked { .. } => tally.blocked = tally.blocked.wrapping_add(1),
+    }
+}
+
 fn count(tally: &mut Tally, fault: Option<CheckFault>) {
     match fault {
         None => tally.accepted = tally.accepted.wrapping_add(1),
-        Some(CheckFault::Ray { why: None, .. }) => {
-            tally.elsewhere = tally.elsewhere.wrapping_add(1)
-        }
-        Some(_) => tally.refused = tally.refused.wrapping_add(1),
+        Some(CheckFault::Ray { why: Some(why), .. }) => count_fault(tally, why),
+        Some(_) => tally.elsewhere = tally.elsewhere.wrapping_add(1),
     }
 }
 
@@ -203,8 +256,9 @@ fn ray_apart(
     requires { LinesMeetAtEnds (map_of plan.now) }
 {
     let triangles = built.cert.triangles().len();
+    let lines = plan.lines().len() as u16;
     for change in &CHANGES {
-        let Some(one) = changed(built.cert.rays(), number, *change) else {
+        let Some(one) = changed(built.cert.rays(), lines, number, *change) else {
             return Ok(Some(Apart::Built(number)));
         };
         let fault = plain_fault(plan, &one);
@@ -242,39 +296,29 @@ fn map_apart(alloc: Global, plan: &Plan, tally: &mut Tally) -> Result<Option<Apa
     Ok(None)
 }
 
-/// The same of any map.
-fn plan_apart(alloc: Global, plan: &Plan, tally: &mut Tally) -> Result<Option<Apart>, BuildFault> {
-    let Ok(()) = audit_lines(plan) else {
-        return Ok(Some(Apart::Unsound));
-    };
-    map_apart(alloc, plan, tally)
-}
+impl Twins for Tally {
+    type Place = Apart;
 
-/// The first of so many maps where they are apart.
-fn first_apart(
-    alloc: Global,
-    maps: usize,
-    tally: &mut Tally,
-) -> Result<Option<(usize, Apart)>, BuildFault> {
-    for number in 0..maps {
-        let Ok(plan) = plan_at(alloc, number) else {
-            return Ok(Some((number, Apart::Unsound)));
-        };
-        if let Some(apart) = plan_apart(alloc, &plan, tally)? {
-            return Ok(Some((number, apart)));
-        }
+    fn apart(&mut self, alloc: Global, plan: &Plan) -> Result<Option<Apart>, BuildFault> {
+        map_apart(alloc, plan, self)
     }
-    Ok(None)
 }
 
 #[test]
 fn rays(rt: HostRuntime) -> Result<(), Fail> {
     let mut tally = Tally {
         accepted: 0,
-        refused: 0,
         elsewhere: 0,
+        range: 0,
+        side: 0,
+        split: 0,
+        way: 0,
+        backwards: 0,
+        blocked: 0,
     };
-    assert_eq!(rt; first_apart(rt.alloc(), 37, &mut tally), Ok(None));
-    assert!(rt; tally.accepted > 100 && tally.refused > 100 && tally.elsewhere > 0);
+    assert_eq!(rt; first_failure(rt.alloc(), 37, &mut tally), Ok(None));
+    assert!(rt; tally.accepted > 100 && tally.elsewhere > 100 && tally.range > 100);
+    assert!(rt; tally.side > 50 && tally.split > 100 && tally.way > 100);
+    assert!(rt; tally.backwards > 10 && tally.blocked > 50);
     Ok(())
 }

@@ -5,26 +5,31 @@ ghost use Rattle.sight_names.specs.Map.{map_of};
 ghost use Rattle.sight_names.specs.Sound.{LinesMeetAtEnds};
 ghost use Rattle.sight_job.specs.Faces.{AreFacesOf};
 
-use crate::plans::plan_at;
+use crate::plans::{Twins, first_failure};
 use crate::sequences::{Ground, Sequence, label_of, sequences_of};
 use crate::splitting::{is_splitting, splits};
 use block_evidence::{Evidence, Node, Tree};
-use map_audit::audit_lines;
 use pair_budget::{Alone, Outcome, Reached, SourceResult, walk_source};
 use portal_walk::{Step, Walker};
 use sight_job::{Faces, faces_of};
-use sight_names::{Budget, Memory, Plan, Side};
+use sight_names::{Budget, BuildFault, Memory, Plan, Side};
 use sight_ray::check_ray;
 use std::alloc::Global;
 use std::test::Fail;
 
-/// Budgets, each with the number of sequences that it has.
-const BUDGETS: [(Budget, usize); 4] = [
-    (Budget::Of(1), 1),
-    (Budget::Of(2), 2),
-    (Budget::Of(3), 3),
-    (Budget::Full, usize::MAX),
-];
+/// Budgets of a source with so many open sequences, each with the number of sequences that it has: small ones, the
+/// greatest that is spent, the least that isn't, and the full one.
+fn budgets(open: usize) -> [(Budget, usize); 6] {
+    let of = |count: usize| (Budget::Of(count as u64), count);
+    [
+        of(1),
+        of(2),
+        of(3),
+        of(open.saturating_sub(1).max(1)),
+        of(open.max(1)),
+        (Budget::Full, usize::MAX),
+    ]
+}
 
 /// Where a map and its twin are apart.
 #[derive(Clone, Copy, Debug, PartialEq, Eq)]
@@ -194,11 +199,11 @@ fn budget_apart(
     requires faces { AreFacesOf plan.now faces.now }
     requires source { source < plan.now.sectors }
 {
-    for (budget, count) in &BUDGETS {
+    for (budget, count) in budgets(open_count(sequences)) {
         let (mesh, labels) = (&faces.mesh, &faces.labels);
-        let found = walk_source(alloc, plan, mesh, labels, source, *budget, &mut Alone)?;
-        if !is_result(alloc, plan, faces, &found, sequences, *count)? {
-            return Ok(Some(*count));
+        let found = walk_source(alloc, plan, mesh, labels, source, budget, &mut Alone)?;
+        if !is_result(alloc, plan, faces, &found, sequences, count)? {
+            return Ok(Some(count));
         }
     }
     Ok(None)
@@ -252,29 +257,12 @@ fn map_apart(alloc: Global, plan: &Plan, tally: &mut Tally) -> Result<Option<Apa
     Ok(None)
 }
 
-/// The same of any map.
-fn plan_apart(alloc: Global, plan: &Plan, tally: &mut Tally) -> Result<Option<Apart>, Memory> {
-    let Ok(()) = audit_lines(plan) else {
-        return Ok(Some(Apart::Unsound));
-    };
-    map_apart(alloc, plan, tally)
-}
+impl Twins for Tally {
+    type Place = Apart;
 
-/// The first of so many maps where walks and twins are apart.
-fn first_apart(
-    alloc: Global,
-    maps: usize,
-    tally: &mut Tally,
-) -> Result<Option<(usize, Apart)>, Memory> {
-    for number in 0..maps {
-        let Ok(plan) = plan_at(alloc, number) else {
-            return Ok(Some((number, Apart::Unsound)));
-        };
-        if let Some(apart) = plan_apart(alloc, &plan, tally)? {
-            return Ok(Some((number, apart)));
-        }
+    fn apart(&mut self, alloc: Global, plan: &Plan) -> Result<Option<Apart>, BuildFault> {
+        Ok(map_apart(alloc, plan, self)?)
     }
-    Ok(None)
 }
 
 #[test]
@@ -283,7 +271,7 @@ fn walks(rt: HostRuntime) -> Result<(), Fail> {
         open: 0,
         blocked: 0,
     };
-    assert_eq!(rt; first_apart(rt.alloc(), 37, &mut tally), Ok(None));
+    assert_eq!(rt; first_failure(rt.alloc(), 37, &mut tally), Ok(None));
     assert!(rt; tally.open > 1_000 && tally.blocked > 1_000);
     Ok(())
 }
