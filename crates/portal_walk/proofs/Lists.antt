@@ -52,7 +52,7 @@ get_take (suc n) [] k x e = absurd (none-some x e)
 get_take (suc n) (y ∷ ys) zero x e = (omega arith, e)
 get_take (suc n) (y ∷ ys) (suc k) x e = let h = get_take n ys k x e in (omega arith, h.1)
 
-last_down : {X : Type 0} (y z : X) (xs : List X) (o : Option X) → slice_get (y ∷ z ∷ xs) (length (y ∷ z ∷ xs) - 1) ≡ o → slice_get (z ∷ xs) (length (z ∷ xs) - 1) ≡ o
+pub last_down : {X : Type 0} (y z : X) (xs : List X) (o : Option X) → slice_get (y ∷ z ∷ xs) (length (y ∷ z ∷ xs) - 1) ≡ o → slice_get (z ∷ xs) (length (z ∷ xs) - 1) ≡ o
 last_down {X} y z xs o e =
     let one : suc (suc (length xs)) - 1 ≡ suc (length xs) = omega arith in
     let two : length xs ≡ suc (length xs) - 1 = omega arith in

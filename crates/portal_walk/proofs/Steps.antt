@@ -23,7 +23,7 @@ use Rattle.portal_walk.specs.declared.step.Step.TheVariants.{Open, Blocked, End}
 use Rattle.portal_walk.specs.Due.{root_alone, both_ways_on, along, due_of}
 use Rattle.portal_walk.specs.Frames.{frames_weight, ways_left, top_ways}
 use Rattle.portal_walk.specs.Sides.{IsEnteredAt, ArrivesAt}
-use Rattle.portal_walk.specs.Walk.{WalkParts, SameWalk, SamePlace, EntersPortal, IsNoSequence, IsBlocked, IsOpen, Rests, Answers, Ends, Takes, Tries, depth, due, remaining, tries_left, tried_by}
+use Rattle.portal_walk.specs.Walk.{WalkParts, SameWalk, SamePlace, EntersPortal, IsNoSequence, IsBlocked, IsOpen, Rests, Answers, Takes, Tries, depth, due, remaining, tries_left, tried_by}
 use Rattle.portal_walk.proofs.Upcoming.{way_due, none_due, both_due, root_due, along_root}
 use Rattle.portal_walk.proofs.Weights.{three_pos, way_skips, way_enters, root_enters, done_leaves, top_of, top_set, top_most, there}
 
@@ -304,28 +304,6 @@ left_done old new f h top done frames roots root nodes = (
 
     below : (n m t u r q : ℕ) → n ≡ m - 1 → m - 1 < m → t ≤ 2 → r ≡ q → 3 * n + t + r < 3 * m + u + q
     below n m t u r q a b c d = omega arith
-
--- ---- the end
-
--- nothing is due where there is neither a portal nor a root
-pub ended : (old new : WalkParts) → SameWalk old new → old.frames ≡ [] → old.roots ≡ [] → new.frames ≡ [] → new.roots ≡ [] → new.root ≡ None → new.nodes ≡ old.nodes → Ends old new
-ended old new h e f g k root nodes = record {
-  nodes = nodes;
-  root = root;
-  none = bound_is old new h ∙ ap₂ (λ (rs : List Root) (fs : List Frame). length rs * 3 ^ depth old + frames_weight (depth old) fs) k g ∙ zero_is (3 ^ depth old);
-  past = subst (All (IsNoSequence old)) (sym (nothing old e f)) (All-nil (IsNoSequence old));
-  over = nothing new g k;
-}
-  where
-    zero_is : (n : ℕ) → 0 * n + 0 ≡ 0
-    zero_is n = omega arith
-
-    empty : (o : Option Side) → due_of o [] [] ≡ []
-    empty None = refl
-    empty (Some side) = refl
-
-    nothing : (w : WalkParts) → w.frames ≡ [] → w.roots ≡ [] → due w ≡ []
-    nothing w e f = ap₂ (λ (fs : List Frame) (rs : List Root). due_of w.root fs rs) e f ∙ empty w.root
 
 -- ---- one try after another
 

@@ -5,6 +5,7 @@ use Rattle.portal_walk.specs.declared.path.Frame.{Frame}
 use Rattle.portal_walk.specs.declared.path.Ways.{Ways}
 use Rattle.portal_walk.specs.declared.path.Ways.TheVariants.{Both, RightOnly, Done}
 use Rattle.portal_walk.specs.Frames.{ways_left, frames_weight, ways_of, top_ways}
+use Rattle.portal_walk.proofs.Lists.{get_front, get_set_same, last_down, front_back}
 
 pub three_pos : (k : ℕ) → 0 < 3 ^ k
 three_pos zero = omega arith
@@ -61,11 +62,6 @@ way_skips d fs f g e w = below _ _ _ (fewer _ _ _ _ _ (weight_set d fs (length f
     below : (a b p : ℕ) → a + p ≡ b → 0 < p → a < b
     below a b p h k = omega arith
 
-get_front : (fs : List Frame) (i : ℕ) (f h : Frame) → slice_get fs i ≡ Some f → slice_get (fs ++ h ∷ []) i ≡ Some f
-get_front [] i f h e = absurd (no_frame f e)
-get_front (g ∷ fs) zero f h e = e
-get_front (g ∷ fs) (suc i) f h e = get_front fs i f h e
-
 pub there : (fs : List Frame) (i : ℕ) (f : Frame) → slice_get fs i ≡ Some f → i < length fs
 there [] i f e = absurd (no_frame f e)
 there (g ∷ fs) zero f e = omega arith
@@ -74,7 +70,7 @@ there (g ∷ fs) (suc i) f e = let h = there fs i f e in omega arith
 pub way_enters : (d : ℕ) (fs : List Frame) (f g h : Frame) → slice_get fs (length fs - 1) ≡ Some f → ways_left f.ways ≡ ways_left g.ways + 1 → ways_left h.ways ≡ 2 → length fs + 1 ≤ d → frames_weight d (slice_set (fs ++ h ∷ []) (length fs - 1) g) < frames_weight d fs
 way_enters d fs f g h e w two room =
     let at = there fs (length fs - 1) f e in
-    let set = fewer _ _ _ _ _ (weight_set d (fs ++ h ∷ []) (length fs - 1) f g (get_front fs (length fs - 1) f h e)) w in
+    let set = fewer _ _ _ _ _ (weight_set d (fs ++ h ∷ []) (length fs - 1) f g (get_front fs h (length fs - 1) f e)) w in
     below _ _ _ _ (3 ^ (d - 1 - length fs)) _ set (weight_push d fs h) two (pow_is (d - 1 - (length fs - 1)) (d - 1 - length fs) (omega (arith, at, room))) (three_pos (d - 1 - length fs))
   where
     below : (a b c p q w : ℕ) → a + p ≡ b → b ≡ c + w * q → w ≡ 2 → p ≡ 3 * q → 0 < q → a < c
@@ -85,20 +81,6 @@ root_enters d h two room = below _ (3 ^ (d - 1)) _ two (pow_is d (d - 1) (omega 
   where
     below : (w q p : ℕ) → w ≡ 2 → p ≡ 3 * q → 0 < q → w * q + 0 < p
     below w q p e h k = let m : 2 * q + 0 < p = omega arith in subst (λ (x : ℕ). x * q + 0 < p) (sym e) m
-
-last_down : (g h : Frame) (fs : List Frame) (o : Option Frame) → slice_get (g ∷ h ∷ fs) (length (g ∷ h ∷ fs) - 1) ≡ o → slice_get (h ∷ fs) (length (h ∷ fs) - 1) ≡ o
-last_down g h fs o e =
-    let one : suc (suc (length fs)) - 1 ≡ suc (length fs) = omega arith in
-    let two : length fs ≡ suc (length fs) - 1 = omega arith in
-    subst (λ (i : ℕ). slice_get (h ∷ fs) i ≡ o) two (subst (λ (i : ℕ). slice_get (g ∷ h ∷ fs) i ≡ o) one e)
-
-front_back : (fs : List Frame) (f : Frame) → slice_get fs (length fs - 1) ≡ Some f → take (length fs - 1) fs ++ f ∷ [] ≡ fs
-front_back [] f e = absurd (no_frame f e)
-front_back (g ∷ []) f e = let q : g ≡ f = cc in ap (λ (x : Frame). x ∷ []) (sym q)
-front_back (g ∷ h ∷ fs) f e =
-    let one : suc (suc (length fs)) - 1 ≡ suc (length fs) = omega arith in
-    let two : suc (length fs) - 1 ≡ length fs = omega arith in
-    ap (λ (i : ℕ). take i (g ∷ h ∷ fs) ++ f ∷ []) one ∙ ap (λ (xs : List Frame). g ∷ xs) (ap (λ (i : ℕ). take i (h ∷ fs) ++ f ∷ []) (sym two) ∙ front_back (h ∷ fs) f (last_down g h fs (Some f) e))
 
 pub done_leaves : (d : ℕ) (fs : List Frame) (f : Frame) → slice_get fs (length fs - 1) ≡ Some f → ways_left f.ways ≡ 0 → frames_weight d (take (length fs - 1) fs) ≡ frames_weight d fs
 done_leaves d fs f e none = same _ _ _ _ (ap (frames_weight d) (sym (front_back fs f e)) ∙ weight_push d (take (length fs - 1) fs) f) none
@@ -125,13 +107,8 @@ no_top (g ∷ h ∷ fs) e = absurd (not_empty h fs (no_top (h ∷ fs) (last_down
     not_empty : (h : Frame) (fs : List Frame) → h ∷ fs ≡ [] → ⊥
     not_empty h fs e = cc
 
-set_at : (fs : List Frame) (i : ℕ) (g : Frame) → i < length fs → slice_get (slice_set fs i g) i ≡ Some g
-set_at [] i g l = absurd (omega arith)
-set_at (h ∷ fs) zero g l = refl
-set_at (h ∷ fs) (suc i) g l = set_at fs i g (omega arith)
-
 pub top_set : (fs : List Frame) (f g : Frame) → slice_get fs (length fs - 1) ≡ Some f → top_ways (slice_set fs (length fs - 1) g) ≡ ways_left g.ways
-top_set fs f g e = ap ways_of (subst (λ (n : ℕ). slice_get (slice_set fs (length fs - 1) g) (n - 1) ≡ Some g) (sym (length-set fs (length fs - 1) g)) (set_at fs (length fs - 1) g (there fs (length fs - 1) f e)))
+top_set fs f g e = ap ways_of (subst (λ (n : ℕ). slice_get (slice_set fs (length fs - 1) g) (n - 1) ≡ Some g) (sym (length-set fs (length fs - 1) g)) (get_set_same fs (length fs - 1) g (there fs (length fs - 1) f e)))
 
 pub top_most : (fs : List Frame) → top_ways fs ≤ 2
 top_most fs = go (slice_get fs (length fs - 1))

@@ -1,10 +1,19 @@
-use Rattle.std.proofs.Common.{◌≡◌, ◌-◌, List, Some, sym, ap, ◌∙◌, subst, arith, length, slice_get}
+use Rattle.std.proofs.Common.{◌≡◌, ◌-◌, List, Some, All, sym, ap, ◌∙◌, subst, arith, length, slice_get}
 use Rattle.std.proofs.lemmas.Option.{slice_get_within}
 use Rattle.portal_walk.specs.declared.roots.Root.{Root}
+use Rattle.portal_walk.specs.Sides.{IsRootOf}
 use Rattle.portal_walk.specs.Walk.{WalkParts}
+use Rattle.portal_walk.proofs.SideLines.{all_at}
 use Rattle.portal_walk.proofs.Lookups.{walk_over}
 use Rattle.portal_walk.proofs.Steps.{root_tried, root_ahead, rests_of, popped}
 use Rattle.portal_walk.proofs.walk.Walker.try_root.Goals as goal
+
+pub enter_root-requires-clause-root : goal.enter_root-requires-clause-root
+enter_root-requires-clause-root c =
+    let s = c.self.inside in
+    let last = sym c.last.ensures.value ∙ sym c.in-Some.ensures in
+    let there = all_at (IsRootOf s.passages.plan s.passages.source) c.as_slice.result.now _ c.in-Some.root (subst (λ (rs : List Root). All (IsRootOf s.passages.plan s.passages.source) rs) (sym c.as_slice.ensures.value) c.self.invariant.exits) last in
+    subst (λ (w : WalkParts). IsRootOf w.plan w.source c.in-Some.root) c.self.view_is there
 
 pub returns-in-Err-clause-tries : goal.returns-in-Err-clause-tries
 returns-in-Err-clause-tries c =
