@@ -19,7 +19,7 @@ use Rattle.cert_format.specs.Reading.{reading}
 use Rattle.cert_checker.specs.declared.verdict.Totals.{Totals}
 use Rattle.cert_checker.specs.declared.verdict.Verdict.{Verdict}
 use Rattle.cert_checker.specs.declared.verdict.Verdict.TheVariants as verdict
-use Rattle.cert_checker.specs.Judged.{JudgesMesh, JudgesPairs, JudgesRays}
+use Rattle.cert_checker.specs.Judged.{JudgesMesh, JudgesPairs, JudgesRays, JudgesTrees}
 use Rattle.sight_run.specs.declared.status.Bound.TheVariants as bound
 use Rattle.sight_run.specs.declared.status.Role.TheVariants as role
 use Rattle.sight_run.specs.declared.status.Why.TheVariants as why
@@ -92,6 +92,7 @@ pub record IsTableOf (n : ℕ) (bytes : List ℕ) (table : TableParts) : Type 0 
 pub record IsJudged (m : Map) (table : TableParts) (cert : CertParts) (verdict : Verdict) : Type 0 where
   pub mesh : JudgesMesh m cert verdict
   pub rays : JudgesRays m cert verdict
+  pub trees : JudgesTrees m cert verdict
   pub pairs : JudgesPairs m table cert verdict
 
 abbrev pub yes_line : ℕ → Totals → List ℕ
