@@ -42,6 +42,14 @@ enum Trial {
     Fooled,
 }
 
+/// What was tried: clear segments between two sectors, listed pairs, and changed certificates that could be read.
+#[derive(Clone, Copy)]
+struct Tally {
+    sights: usize,
+    listed: usize,
+    read: usize,
+}
+
 fn is_set(table: &Table, a: u16, b: u16) -> bool {
     a < table.sectors() && b < table.sectors() && table.rejects(a, b)
 }
@@ -65,13 +73,25 @@ fn agrees(table: &Table, listed: &[Pair], full: &Table) -> bool {
     true
 }
 
+/// The sectors of two points in rooms that see each other, None where they aren't seen to.
+fn some_sight(made: &Rooms, dice: &mut Dice) -> Option<(u16, u16)> {
+    let (p, a) = inside(made, dice)?;
+    let (q, b) = inside(made, dice)?;
+    if is_clear(&made.lines, p, q) {
+        Some((a, b))
+    } else {
+        None
+    }
+}
+
 /// Whether no segment of some that are clear of solid lines joins two sectors whose pair is set.
-fn spares_sight(made: &Rooms, table: &Table, dice: &mut Dice) -> bool {
+fn spares_sight(made: &Rooms, table: &Table, dice: &mut Dice, tally: &mut Tally) -> bool {
     for _ in 0..400 {
-        if let (Some((p, a)), Some((q, b))) = (inside(made, dice), inside(made, dice)) {
-            if is_set(table, a, b) && is_clear(&made.lines, p, q) {
+        if let Some((a, b)) = some_sight(made, dice) {
+            if is_set(table, a, b) {
                 return false;
             }
+            tally.sights = tally.sights.wrapping_add((a != b) as usize);
         }
     }
     true
@@ -122,10 +142,12 @@ fn tried_budget(
     plan: &Plan,
     budget: Budget,
     full: &Table,
+    tally: &mut Tally,
 ) -> Result<Trial, BuildFault>
     requires audited { LinesMeetAtEnds (map_of plan.now) }
 {
     let built = build_table(alloc, plan, budget)?;
+    tally.listed = tally.listed.wrapping_add(built.listed.as_slice().len());
     if !is_accepted(alloc, plan, &built.table, &built.cert)? {
         return Ok(Trial::Refused);
     }
@@ -136,11 +158,16 @@ fn tried_budget(
 }
 
 /// Tries some budgets.
-fn tried_budgets(alloc: Global, plan: &Plan, full: &Table) -> Result<Trial, BuildFault>
+fn tried_budgets(
+    alloc: Global,
+    plan: &Plan,
+    full: &Table,
+    tally: &mut Tally,
+) -> Result<Trial, BuildFault>
     requires audited { LinesMeetAtEnds (map_of plan.now) }
 {
     for budget in &BUDGETS {
-        let ended = tried_budget(alloc, plan, *budget, full)?;
+        let ended = tried_budget(alloc, plan, *budget, full, tally)?;
         if ended != Trial::Held {
             return Ok(ended);
         }
@@ -149,7 +176,13 @@ fn tried_budgets(alloc: Global, plan: &Plan, full: &Table) -> Result<Trial, Buil
 }
 
 /// Whether a certificate of these bytes makes the table pass.
-fn passes(alloc: Global, plan: &Plan, table: &Table, bytes: &[u8]) -> Result<bool, BuildFault>
+fn passes(
+    alloc: Global,
+    plan: &Plan,
+    table: &Table,
+    bytes: &[u8],
+    tally: &mut Tally,
+) -> Result<bool, BuildFault>
     requires audited { LinesMeetAtEnds (map_of plan.now) }
 {
     let sizes = Sizes {
@@ -163,6 +196,7 @@ fn passes(alloc: Global, plan: &Plan, table: &Table, bytes: &[u8]) -> Result<boo
     if table.sectors() != plan.sectors {
         return Ok(false);
     }
+    tally.read = tally.read.wrapping_add(1);
     is_accepted(alloc, plan, table, &cert)
 }
 
@@ -173,13 +207,14 @@ fn tried_changes(
     wrong: &Table,
     cert: &Cert,
     dice: &mut Dice,
+    tally: &mut Tally,
 ) -> Result<Trial, BuildFault>
     requires audited { LinesMeetAtEnds (map_of plan.now) }
 {
     let bytes = print(alloc, cert)?;
     for _ in 0..40 {
         let other = changed(alloc, &bytes, dice)?;
-        if passes(alloc, plan, wrong, &other)? {
+        if passes(alloc, plan, wrong, &other, tally)? {
             return Ok(Trial::Fooled);
         }
     }
@@ -187,22 +222,28 @@ fn tried_changes(
 }
 
 /// Tries a map whose lines meet at ends: whole, under each budget, and with changes to its certificate.
-fn tried_map(alloc: Global, plan: &Plan, made: &Rooms, dice: &mut Dice) -> Result<Trial, BuildFault>
+fn tried_map(
+    alloc: Global,
+    plan: &Plan,
+    made: &Rooms,
+    dice: &mut Dice,
+    tally: &mut Tally,
+) -> Result<Trial, BuildFault>
     requires audited { LinesMeetAtEnds (map_of plan.now) }
 {
     let full = build_table(alloc, plan, Budget::Full)?;
     if !is_accepted(alloc, plan, &full.table, &full.cert)? {
         return Ok(Trial::Refused);
     }
-    if !spares_sight(made, &full.table, dice) {
+    if !spares_sight(made, &full.table, dice, tally) {
         return Ok(Trial::Blind);
     }
-    let ended = tried_budgets(alloc, plan, &full.table)?;
+    let ended = tried_budgets(alloc, plan, &full.table, tally)?;
     if ended != Trial::Held {
         return Ok(ended);
     }
     match overset(alloc, &full.table)? {
-        Some(wrong) => tried_changes(alloc, plan, &wrong, &full.cert, dice),
+        Some(wrong) => tried_changes(alloc, plan, &wrong, &full.cert, dice, tally),
         None => Ok(Trial::Held),
     }
 }
@@ -213,27 +254,32 @@ fn tried_plan(
     plan: &Plan,
     made: &Rooms,
     dice: &mut Dice,
+    tally: &mut Tally,
 ) -> Result<Trial, BuildFault> {
     let Ok(()) = audit_lines(plan) else {
         return Ok(Trial::Unsound);
     };
-    tried_map(alloc, plan, made, dice)
+    tried_map(alloc, plan, made, dice, tally)
 }
 
 /// Tries the made map of one seed.
-fn tried(alloc: Global, seed: u64) -> Result<Trial, BuildFault> {
+fn tried(alloc: Global, seed: u64, tally: &mut Tally) -> Result<Trial, BuildFault> {
     let made = made_rooms(alloc, seed)?;
     let mut dice = Dice::new(seed);
     match plan_of(alloc, &made.lines, made.sectors) {
-        Ok(plan) => tried_plan(alloc, &plan, &made, &mut dice),
+        Ok(plan) => tried_plan(alloc, &plan, &made, &mut dice, tally),
         Err(_) => Ok(Trial::Unsound),
     }
 }
 
 /// The first seed whose trial doesn't hold, and how it ended.
-fn first_failure(alloc: Global, seeds: u64) -> Result<Option<(u64, Trial)>, BuildFault> {
+fn first_failure(
+    alloc: Global,
+    seeds: u64,
+    tally: &mut Tally,
+) -> Result<Option<(u64, Trial)>, BuildFault> {
     for seed in 0..seeds {
-        let ended = tried(alloc, seed)?;
+        let ended = tried(alloc, seed, tally)?;
         if ended != Trial::Held {
             return Ok(Some((seed, ended)));
         }
@@ -243,7 +289,13 @@ fn first_failure(alloc: Global, seeds: u64) -> Result<Option<(u64, Trial)>, Buil
 
 #[test]
 fn made_maps(rt: HostRuntime) -> Result<(), Fail> {
-    let found = first_failure(rt.alloc(), 24);
+    let mut tally = Tally {
+        sights: 0,
+        listed: 0,
+        read: 0,
+    };
+    let found = first_failure(rt.alloc(), 24, &mut tally);
     assert_eq!(rt; found, Ok(None));
+    assert!(rt; tally.sights > 200 && tally.listed > 200 && tally.read > 200);
     Ok(())
 }
