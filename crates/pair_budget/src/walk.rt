@@ -1,16 +1,22 @@
 //! The walk of one source within its budget.
 
-ghost use Rattle.std.specs.Prelude.{◌≡◌, ◌≢◌, ℕ, ◌<◌, Some as Given, length, true, IfOk, IfSome};
+ghost use Rattle.std.specs.Prelude.{◌≡◌, ◌≢◌, ◌⊎◌, ℕ, ◌<◌, [], Some as Given, length, map, true, IfOk, IfSome, IsSome};
 ghost use Rattle.std.specs.List.{Contains};
 ghost use Rattle.sight_names.specs.Map.{map_of};
 ghost use Rattle.sight_names.specs.Mesh.{IsGoodMesh, label_of};
+ghost use Rattle.sight_names.specs.Plan.{IsPlan};
+ghost use Rattle.sight_names.specs.Sequence.{roots};
 ghost use Rattle.sight_names.specs.Sound.{LinesMeetAtEnds};
 ghost use Rattle.stab_hull.specs.Answer.{IsLineInRange};
+ghost use Rattle.portal_walk.specs.Due.{root_alone};
 ghost use Rattle.portal_walk.specs.Sides.{ArrivesAt};
+ghost use Rattle.portal_walk.specs.Walk.{due};
 ghost use Rattle.pair_budget.specs.declared.results.Outcome.TheVariants as outcome;
+ghost use Rattle.pair_budget.specs.declared.results.Reached.{Reached as ReachedSector};
 ghost use Rattle.pair_budget.specs.Finds.{Extends, one_less};
 ghost use Rattle.pair_budget.specs.Notes.{ordered, Grows};
 ghost use Rattle.pair_budget.specs.Walked.{AreReached, IsOutcome, IsReachedFrom, MarksFound};
+ghost use Rattle.pair_budget.specs.Whole.{IsFound, IsShown};
 
 use crate::finds::Finds;
 use crate::notice::Notice;
@@ -44,6 +50,7 @@ pub fn walk_source<N: Notice>(
     ensures source { IfOk result (λ r. r.source ≡ source) }
     ensures found { IfOk result (λ r. AreReached plan.now source r.found) }
     ensures outcome { IfOk result (λ r. IsOutcome source budget (N.may_settle notice.old) r.outcome) }
+    ensures shown { IfOk result (λ r. IsShown plan.now mesh.now.triangles labels.now r.found r.outcome) }
     ensures mates { IfOk result (λ r. r.outcome ≡ outcome.All → (b : ℕ) → N.mates notice.old source b → Contains (N.seen notice.new) (ordered source b)) }
     ensures marks { IfOk result (λ r. MarksFound source r.found (N.marks notice.old) (N.marks notice.new)) }
     ensures claims { N.claims notice.new ≡ N.claims notice.old }
@@ -82,9 +89,16 @@ fn walk_on<N: Notice>(
     requires plan { walker.plan ≡ finds.old.plan }
     requires source { walker.source ≡ source }
     requires source_too { finds.old.source ≡ source }
+    requires rules { IsPlan walker.plan }
+    requires audited { LinesMeetAtEnds (map_of walker.plan) }
+    requires good { IsGoodMesh (map_of walker.plan) walker.mesh.triangles walker.labels }
+    requires due { due walker ≡ map root_alone (roots (map_of walker.plan) walker.source) }
+    requires no_nodes { walker.nodes ≡ [] }
+    requires nothing { finds.old.found ≡ [] }
     requires hears { (b : ℕ) → b < finds.old.plan.sectors → N.may_hear notice.old (ordered source b) }
     ensures finds { Extends finds.old finds.new }
     ensures outcome { IfOk result (λ o. IsOutcome source budget (N.may_settle notice.old) o) }
+    ensures shown { IfOk result (λ o. IsShown walker.entry.plan walker.entry.mesh.triangles walker.entry.labels finds.new.found o) }
     ensures mates { IfOk result (λ o. o ≡ outcome.All → (b : ℕ) → N.mates notice.old source b → Contains (N.seen notice.new) (ordered source b)) }
     ensures marks { MarksFound source finds.new.found (N.marks notice.old) (N.marks notice.new) }
     ensures claims { N.claims notice.new ≡ N.claims notice.old }
@@ -144,7 +158,9 @@ fn reached_by(
     requires outside { label_of labels.now triangle ≢ Given walker.now.source }
     requires arrives { ArrivesAt walker.now.plan labels.now triangle entered }
     requires range { IsLineInRange a b c }
-    ensures { IfSome result (λ reached. IsReachedFrom walker.now.plan walker.now.source reached) }
+    ensures reached { IfSome result (λ reached. IsReachedFrom walker.now.plan walker.now.source reached) }
+    ensures label { IfSome result (λ reached. label_of labels.now triangle ≡ Given reached.to) }
+    ensures given { (sector : ℕ) → label_of labels.now triangle ≡ Given sector → IsSome walker.now.root → IsSome entered → IsSome result }
 {
     let to = labels.get(triangle)?;
     let first = walker.root()?;
@@ -172,6 +188,8 @@ fn note<N: Notice>(
     ensures claims { N.claims notice.new ≡ N.claims notice.old }
     ensures settles { N.may_settle notice.new ≡ N.may_settle notice.old }
     ensures settled { IfOk result (λ done. done ≡ true → N.may_settle notice.old ≡ true) }
+    ensures reached { IfOk result (λ _. IfSome reached (λ r. IsFound finds.new.found r.to)) }
+    ensures only { IfOk result (λ _. (r : ReachedSector) → Contains finds.new.found r → Contains finds.old.found r ⊎ (reached ≡ Given r)) }
     ensures done { IfOk result (λ done. done ≡ true → (b : ℕ) → N.mates notice.old source b → Contains (N.seen notice.new) (ordered source b)) }
     ensures mates { (x y : ℕ) → N.mates notice.old x y → N.mates notice.new x y }
     ensures seen { Grows (N.seen notice.old) (N.seen notice.new) }

@@ -24,7 +24,7 @@ all_push : {X : Type 0} (P : X → Type 0) (xs : List X) (x : X) → AllByRecurs
 all_push P [] x h p = (p, h)
 all_push P (y ∷ ys) x h p = (h.0, all_push P ys x h.1 p)
 
-all_last : {X : Type 0} (P : X → Type 0) (xs : List X) (x : X) → AllByRecursion P (xs ++ x ∷ []) → P x
+pub all_last : {X : Type 0} (P : X → Type 0) (xs : List X) (x : X) → AllByRecursion P (xs ++ x ∷ []) → P x
 all_last P [] x h = h.0
 all_last P (y ∷ ys) x h = all_last P ys x h.1
 
@@ -56,7 +56,8 @@ step ts p next vs w ps (q ∷ qs) d t e f rest =
     let tail : ps ≡ qs ++ d ∷ [] = cc in
     ap (option_map (λ (xs : List Portal). p ∷ xs)) (rest qs tail) ∙ ap (λ (x : Portal). Some (x ∷ ((qs ++ d ∷ []) ++ way_out d w t ∷ []))) head
 
-portals_more : (ts : List Triangle) (o : Option Portal) (ws : List Way) (w : Way) (ds : List Portal) (d : Portal) (t : ℕ) → portals_from ts o ws ≡ Some (ds ++ d ∷ []) → apex ts d ≡ Some t → portals_from ts o (ws ++ w ∷ []) ≡ Some ((ds ++ d ∷ []) ++ way_out d w t ∷ [])
+-- one way further there is one portal more
+pub portals_more : (ts : List Triangle) (o : Option Portal) (ws : List Way) (w : Way) (ds : List Portal) (d : Portal) (t : ℕ) → portals_from ts o ws ≡ Some (ds ++ d ∷ []) → apex ts d ≡ Some t → portals_from ts o (ws ++ w ∷ []) ≡ Some ((ds ++ d ∷ []) ++ way_out d w t ∷ [])
 portals_more ts None ws w ds d t h a = absurd (none-some _ h)
 portals_more ts (Some p) [] w ds d t h a =
     let q = same_from_push [] ds p d (same_Some (p ∷ []) (ds ++ d ∷ []) h) in

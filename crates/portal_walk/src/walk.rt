@@ -3,6 +3,7 @@
 ghost use Rattle.std.specs.Prelude.{◌≡◌, ◌+◌, ◌-◌, ◌<◌, ◌++◌, ◌∷◌, ℕ, None, Some, Ok, slice_get, IsSome, IfOk, OnErr, length, map, [], All, IfSome};
 ghost use Rattle.sight_names.specs.Map.{map_of};
 ghost use Rattle.sight_names.specs.Mesh.{IsGoodMesh};
+ghost use Rattle.sight_names.specs.Plan.{IsPlan};
 ghost use Rattle.sight_names.specs.Sequence.{roots};
 ghost use Rattle.sight_names.specs.Sound.{LinesMeetAtEnds};
 ghost use Rattle.sight_names.specs.declared.names.Side.{Side as Sided};
@@ -60,6 +61,7 @@ impl<'a> Walker<'a> {
         requires good { IsGoodMesh (map_of plan.now) mesh.now.triangles labels.now }
         requires source { source < plan.now.sectors }
         ensures plan { IfOk result (λ w. w.plan ≡ plan.now) }
+        ensures rules { IfOk result (λ w. IsPlan w.plan) }
         ensures mesh { IfOk result (λ w. w.mesh ≡ mesh.now) }
         ensures labels { IfOk result (λ w. w.labels ≡ labels.now) }
         ensures source { IfOk result (λ w. w.source ≡ source) }

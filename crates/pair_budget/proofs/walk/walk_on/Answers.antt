@@ -1,8 +1,79 @@
-use Rattle.std.proofs.Common.{◌<◌, ◌∙◌, subst}
+use Rattle.std.proofs.Common.{◌≡◌, ℕ, ◌<◌, inl, List, Option, Some, IsSome, refl, sym, ap, ◌∙◌, subst}
+use Rattle.sight_names.specs.Mesh.{label_of}
 use Rattle.sight_names.specs.Plan.{PlanParts}
+use Rattle.portal_walk.specs.Walk.{WalkParts, Takes, Opens, due}
 use Rattle.portal_walk.proofs.Steps.{same_walk_both}
+use Rattle.pair_budget.specs.Whole.{IsFound}
 use Rattle.pair_budget.proofs.Marks.{told_more, extends_both, still_full}
+use Rattle.pair_budget.proofs.Walking.{IsOver, ComesTo, over_moved, begins, comes_blocked, comes_open, comes_end, noted_label, only_label}
 use Rattle.pair_budget.proofs.walk.walk_on.Goals as goal
+
+pub loop-walker-init : goal.loop-walker-init
+loop-walker-init g c =
+    let over : IsOver c.args.walker = record { rules = c.requires.rules; audited = c.requires.audited; good = c.requires.good } in
+    record {
+      walk = record { plan = refl; mesh = refl; labels = refl; source = refl };
+      finds = record { plan = refl; source = refl; keeps = λ r h. h };
+      over = over;
+      come = begins c.args.walker over c.requires.due c.requires.no_nodes c.args.finds.now.found c.requires.nothing;
+      full = λ f. f;
+      hears = c.requires.hears;
+      marks = λ p h. inl h;
+      claims = refl;
+      settles = refl;
+      mates = λ x y h. h;
+      seen = λ p h. h;
+      looks = λ p h. h;
+    }
+
+pub returns-in-End-clause-shown : goal.returns-in-End-clause-shown
+returns-in-End-clause-shown g c =
+    let i = c.loop-walker.invariant in
+    comes_end c.args.walker c.loop-walker.walker c.next.new.self c.loop-walker.finds.found i.walk i.come c.next.ensures.walk c.requires.due
+    (subst (Takes c.loop-walker.walker c.next.new.self) c.in-End.is c.in_ok-next.ensures.step) c.tree.result c.tree.ensures.source c.tree.ensures.nodes
+
+pub loop-walker-preserved-in-Blocked : goal.loop-walker-preserved-in-Blocked
+loop-walker-preserved-in-Blocked g c =
+    let i = c.loop-walker.invariant in
+    record {
+      walk = same_walk_both c.args.walker c.loop-walker.walker c.next.new.self i.walk c.next.ensures.walk;
+      finds = i.finds;
+      over = over_moved c.loop-walker.walker c.next.new.self c.next.ensures.walk i.over;
+      come = comes_blocked (due c.args.walker) c.loop-walker.walker c.next.new.self c.loop-walker.finds.found i.come c.next.ensures.walk c.in-Blocked.field-0
+          (subst (Takes c.loop-walker.walker c.next.new.self) c.in-Blocked.is c.in_ok-next.ensures.step);
+      full = i.full;
+      hears = i.hears;
+      marks = i.marks;
+      claims = i.claims;
+      settles = i.settles;
+      mates = i.mates;
+      seen = i.seen;
+      looks = i.looks;
+    }
+
+pub returns-in_err-note-in-Open-clause-finds : goal.returns-in_err-note-in-Open-clause-finds
+returns-in_err-note-in-Open-clause-finds g c = extends_both c.args.finds.now c.loop-walker.finds c.note.new.finds c.loop-walker.invariant.finds c.note.ensures.finds
+
+pub returns-in_err-note-in-Open-clause-seen : goal.returns-in_err-note-in-Open-clause-seen
+returns-in_err-note-in-Open-clause-seen g c = λ p h. c.note.ensures.seen p (c.loop-walker.invariant.seen p h)
+
+pub returns-in_err-note-in-Open-clause-looks : goal.returns-in_err-note-in-Open-clause-looks
+returns-in_err-note-in-Open-clause-looks g c = λ p h. c.note.ensures.looks p (c.loop-walker.invariant.looks p h)
+
+pub returns-then-branch-clause-finds : goal.returns-then-branch-clause-finds
+returns-then-branch-clause-finds g c = extends_both c.args.finds.now c.loop-walker.finds c.note.new.finds c.loop-walker.invariant.finds c.note.ensures.finds
+
+pub returns-then-branch-clause-outcome : goal.returns-then-branch-clause-outcome
+returns-then-branch-clause-outcome g c = sym c.loop-walker.invariant.settles ∙ c.in_ok-note-in-Open.ensures.settled c.if-branch.true
+
+pub returns-then-branch-clause-mates : goal.returns-then-branch-clause-mates
+returns-then-branch-clause-mates g c = λ _ b h. c.in_ok-note-in-Open.ensures.done c.if-branch.true b (c.loop-walker.invariant.mates c.args.source b h)
+
+pub returns-then-branch-clause-seen : goal.returns-then-branch-clause-seen
+returns-then-branch-clause-seen g c = λ p h. c.note.ensures.seen p (c.loop-walker.invariant.seen p h)
+
+pub returns-then-branch-clause-looks : goal.returns-then-branch-clause-looks
+returns-then-branch-clause-looks g c = λ p h. c.note.ensures.looks p (c.loop-walker.invariant.looks p h)
 
 pub returns-in_err-note-in-Open-clause-marks : goal.returns-in_err-note-in-Open-clause-marks
 returns-in_err-note-in-Open-clause-marks g c = told_more c.args.source c.loop-walker.finds c.note.new.finds _ _ _ c.note.ensures.finds c.loop-walker.invariant.marks c.note.ensures.marks
@@ -14,9 +85,22 @@ pub loop-walker-preserved : goal.loop-walker-preserved
 loop-walker-preserved g c =
     let i = c.loop-walker.invariant in
     let e = c.note.ensures in
+    let old = c.loop-walker.walker in
+    let new = c.next.new.self in
+    let later = c.note.new.finds.found in
+    let k = c.in-Open.triangle in
+    let labels : old.labels ≡ c.args.labels.now = i.walk.labels ∙ c.requires.labels in
+    let opens : Opens old new k c.in-Open.entered c.in-Open.a c.in-Open.b c.in-Open.c = subst (Takes old new) c.in-Open.is c.in_ok-next.ensures.step in
+    let reached = c.reached_by-reached in
+    let noted : (sector : ℕ) → label_of old.labels k ≡ Some sector → IsSome c.in-Open.entered → IsFound later sector =
+    λ sector h some. noted_label old.labels c.args.labels.now k later reached.result labels c.in_ok-note-in-Open.ensures.reached reached.ensures.label sector h
+    (reached.ensures.given sector (subst (λ (ls : List (Option ℕ)). label_of ls k ≡ Some sector) labels h) (subst IsSome (sym opens.answers.root) refl) some) in
     record {
       walk = same_walk_both c.args.walker c.loop-walker.walker c.next.new.self i.walk c.next.ensures.walk;
       finds = extends_both c.args.finds.now c.loop-walker.finds c.note.new.finds i.finds e.finds;
+      over = over_moved old new c.next.ensures.walk i.over;
+      come = comes_open (due c.args.walker) old new c.loop-walker.finds.found i.come k c.in-Open.entered c.in-Open.a c.in-Open.b c.in-Open.c opens later e.finds.keeps c.next.ensures.walk i.over noted
+          (λ r there. only_label old.labels c.args.labels.now k c.loop-walker.finds.found reached.result r labels reached.ensures.label (c.in_ok-note-in-Open.ensures.only r there));
       full = λ f. still_full c.loop-walker.left c.in-Some.less (i.full f) c.in-Some.ensures;
       hears = λ b lt. e.hears _ (i.hears b (subst (λ (p : PlanParts). b < p.sectors) e.finds.plan lt));
       marks = told_more c.args.source c.loop-walker.finds c.note.new.finds _ _ _ e.finds i.marks e.marks;

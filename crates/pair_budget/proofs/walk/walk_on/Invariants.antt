@@ -1,15 +1,18 @@
 use Rattle.std.proofs.Common.{◌≡◌, ℕ, ◌<◌}
 use Rattle.sight_names.specs.declared.names.Budget.TheVariants.{Full}
-use Rattle.portal_walk.specs.Walk.{SameWalk, remaining}
+use Rattle.portal_walk.specs.Walk.{SameWalk, due, remaining}
 use Rattle.pair_budget.specs.Finds.{Extends}
 use Rattle.pair_budget.specs.Notes.{ordered, Grows}
 use Rattle.pair_budget.specs.Walked.{MarksFound}
+use Rattle.pair_budget.proofs.Walking.{IsOver, ComesTo}
 use Rattle.pair_budget.proofs.walk.walk_on.Given as goal
 
 abbrev pub invariant-loop-walker : goal.invariant-loop-walker
 invariant-loop-walker g l = record {
   walk : SameWalk l.fn.walker l.walker;
   finds : Extends l.fn.finds l.finds;
+  over : IsOver l.walker;
+  come : ComesTo (due l.fn.walker) l.walker l.finds.found;
   full : l.fn.budget ≡ Full → l.left ≡ Full;
   hears : (b : ℕ) → b < l.finds.plan.sectors → g.N.Notice.may_hear l.notice (ordered l.source b);
   marks : MarksFound l.source l.finds.found (g.N.Notice.marks l.fn.notice) (g.N.Notice.marks l.notice);
