@@ -1,5 +1,5 @@
 -- From what the judge of pairs goes by to the map and the certificate.
-use Rattle.std.proofs.Common.{◌≡◌, ℕ, zero, suc, ◌<◌, ◌≤◌, ◌⊎◌, inl, inr, List, [], ◌∷◌, Option, Some, length, Contains, Bool, true, false, refl, sym, subst, arith}
+use Rattle.std.proofs.Common.{◌≡◌, ℕ, zero, suc, ◌<◌, ◌≤◌, ◌⊎◌, ◌↔◌, inl, inr, List, [], ◌∷◌, Option, Some, length, Contains, Bool, true, false, refl, sym, subst, arith}
 use Rattle.std.specs.List.{slice_get, AllByRecursion}
 use Rattle.std.proofs.lemmas.Option.{slice_get_within, slice_get-get_or, get_or_from_slice_get}
 use Rattle.sight_names.specs.declared.faults.CheckFault.{CheckFault}
@@ -96,8 +96,8 @@ right_of m c k a b about size l h fine = record {
 
     apart : (¬ HaveSameNumber k.components a b) ⊎ KeepsAway k a b ⊎ KeepsAway k b a → (¬ AreConnected m a b) ⊎ HasTreeWithout m c a b ⊎ HasTreeWithout m c b a
     apart (inl n) = inl (λ g. n (one_number m k.components a b about.components (omega arith) h g))
-    apart (inr (inl n)) = inr (inl (about.walked a b (omega arith) h n))
-    apart (inr (inr n)) = inr (inr (about.walked b a h (omega arith) n))
+    apart (inr (inl n)) = inr (inl ((about.walked a b (omega arith) h).0 n))
+    apart (inr (inr n)) = inr (inr ((about.walked b a h (omega arith)).0 n))
 
     blind : IsShownBlind k a b → IsProvedBlind m c a b
     blind (inl n) = inl (n.0, λ g. n.1 (marks.1 g))
@@ -106,6 +106,15 @@ right_of m c k a b about size l h fine = record {
     seen : IsShownSeen k a b → IsProvedSeen m c a b
     seen (inl n) = inl (n.0, marks.0 n.1)
     seen (inr n) = inr (has_ray c.rays (pair a b) (subst (λ (ps : List Pair). Contains ps (pair a b)) about.rays n))
+
+not_blind : (m : Map) (c : CertParts) (k : KnownParts) (a b : ℕ) → IsAbout m c k → a ≤ b → b < m.sectors → ¬ IsShownBlind k a b → ¬ IsProvedBlind m c a b
+not_blind m c k a b about l h none (inl n) = none (inl (n.0, λ g. n.1 ((about.named.flags a (omega arith)).0 g)))
+not_blind m c k a b about l h none (inr n) = none (inr (n.0, apart n.1))
+  where
+    apart : (¬ AreConnected m a b) ⊎ HasTreeWithout m c a b ⊎ HasTreeWithout m c b a → (¬ HaveSameNumber k.components a b) ⊎ KeepsAway k a b ⊎ KeepsAway k b a
+    apart (inl g) = inl (λ s. g (one_component m k.components a b about.components s))
+    apart (inr (inl t)) = inr (inl ((about.walked a b (omega arith) h).1 t))
+    apart (inr (inr t)) = inr (inr ((about.walked b a h (omega arith)).1 t))
 
 not_seen : (m : Map) (c : CertParts) (k : KnownParts) (a b : ℕ) → IsAbout m c k → a ≤ b → b < m.sectors → ¬ IsShownSeen k a b → ¬ IsProvedSeen m c a b
 not_seen m c k a b about l h none seen = elim seen as (λ _. ⊥) [
@@ -153,8 +162,8 @@ first_wrong m c k n f about size e first = at f first.row.fault
 
     at : (g : CheckFault) → IsFaultAt k first.a first.row.b g → JudgesPairs m k.table c (No g)
     at (ListedSet x y) h = move (λ a b. IsReached m k.table c a b × IsPairListed c a b × EitherSet k.table.n k.table.bytes a b) x y h.0 h.1 (reached, subst (λ (ps : List Pair). Contains ps (pair first.a first.row.b)) about.listed h.2, h.3)
-    at (Unproved x y) h = move (λ a b. IsReached m k.table c a b × ¬ IsPairListed c a b × EitherSet k.table.n k.table.bytes a b × MayBeSeen m a b) x y h.0 h.1
-        (reached, (λ n. h.2 (listed first.a first.row.b n) h.3), h.3, seen first.a first.row.b first.row.order within h.4)
+    at (Unproved x y) h = move (λ a b. IsReached m k.table c a b × ¬ IsPairListed c a b × EitherSet k.table.n k.table.bytes a b × MayBeSeen m a b × ¬ IsProvedBlind m c a b) x y h.0 h.1
+        (reached, (λ n. h.2 (listed first.a first.row.b n) h.3), h.3, seen first.a first.row.b first.row.order within h.4, not_blind m c k first.a first.row.b about first.row.order within h.4)
     at (Uncovered x y) h = move (λ a b. IsReached m k.table c a b × ¬ IsPairListed c a b × EitherClear k.table.n k.table.bytes a b × ¬ IsProvedSeen m c a b) x y h.0 h.1
         (reached, (λ n. h.5 (listed first.a first.row.b n)), h.4, not_seen m c k first.a first.row.b about first.row.order within h.6)
     at (Mesh x) h = absurd h
@@ -186,7 +195,7 @@ rays_at_pairs m c rays (No (OfTree x y)) e all kind = absurd kind
 -- ---- what the judge of pairs is given
 
 pub is_about : (m : Map) (c : CertParts) (k : KnownParts) (named : List Bool) (components : List ℕ) → k.named ≡ named → MarksNamed m named → k.components ≡ components → AreComponents m components
-    → ((a b : ℕ) → a < m.sectors → b < m.sectors → KeepsAway k a b → HasTreeWithout m c a b) → k.listed ≡ c.listed → k.rays ≡ pairs_of c.rays → IsAbout m c k
+    → ((a b : ℕ) → a < m.sectors → b < m.sectors → KeepsAway k a b ↔ HasTreeWithout m c a b) → k.listed ≡ c.listed → k.rays ≡ pairs_of c.rays → IsAbout m c k
 is_about m c k named components e marks f are away listed rays = record {
   named = subst (MarksNamed m) (sym e) marks;
   components = subst (AreComponents m) (sym f) are;

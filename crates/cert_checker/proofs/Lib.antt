@@ -20,4 +20,5 @@ pub mod Chains
 pub mod Meshed
 pub mod WholeTrees
 pub mod AllTrees
+pub mod OneAnswer
 pub mod Refuting

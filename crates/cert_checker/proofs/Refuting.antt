@@ -6,36 +6,17 @@ use Rattle.block_evidence.specs.declared.Node.{Node}
 use Rattle.block_evidence.specs.declared.Node.TheVariants.{Open, Blocked}
 use Rattle.cert_checker.specs.declared.web.Entry.{Entry}
 use Rattle.cert_checker.specs.Path.{Pending}
-use Rattle.cert_checker.specs.Whole.{ways_through, Answers, AreAnswered, IsFirstWrong}
+use Rattle.cert_checker.specs.Whole.{Answers, AreAnswered, IsFirstWrong}
+use Rattle.cert_checker.proofs.OneAnswer.{one_answer}
 
 module _ (m : Map) (xs : List Entry) (source : ℕ) where
-  first_same : (p q : Pending) (ps qs us : List Pending) → us ≡ p ∷ ps → us ≡ q ∷ qs → p ≡ q
-  first_same p q ps qs us e f = cc
-
-  rest_same : (p q : Pending) (ps qs us : List Pending) → us ≡ p ∷ ps → us ≡ q ∷ qs → ps ≡ qs
-  rest_same p q ps qs us e f = cc
-
-  one_same : (x y : Entry) (o : Option Entry) → o ≡ Some x → o ≡ Some y → x ≡ y
-  one_same x y o e f = cc
-
-  -- a node answers in one way only
-  one_answer : (n : Node) (ps qs us : List Pending) (here there : List ℕ) → Answers m xs source ps n qs here → Answers m xs source ps n us there → qs ≡ us
-  one_answer Open ps qs us here there (p, rest, x, first, is, e, f) (q, more, y, also, this, g, h) = e ∙ (λ i. ways_through m xs source (same i) (found i) ++ rest_same p q rest more ps first also i) ∙ sym g
-    where
-      same : p ≡ q
-      same = first_same p q rest more ps first also
-
-      found : x ≡ y
-      found = one_same x y (slice_get xs p.entry) is (ap (λ (r : Pending). slice_get xs r.entry) same ∙ this)
-  one_answer (Blocked d) ps qs us here there (p, rest, x, first, is, blocks, e, f) (q, more, y, also, this, stuck, g, h) = e ∙ rest_same p q rest more ps first also ∙ sym g
-
   pub refuted : (ns : List Node) (k : ℕ) (ps left : List Pending) (some all : List ℕ) → k ≤ length ns → AreAnswered m xs source ps (take k ns) left some → AreAnswered m xs source ps ns [] all
       → ((n : Node) → slice_get ns k ≡ Some n → (qs : List Pending) (here : List ℕ) → ¬ Answers m xs source left n qs here) → (k ≡ length ns → left ≢ []) → ⊥
   refuted [] zero ps left some all l before whole wrong missing = missing refl (before.0 ∙ sym whole.0)
   refuted [] (suc k) ps left some all l before whole wrong missing = omega (arith, l)
   refuted (n ∷ ns) zero ps left some all l before (rs, here, more, answer, behind, e) wrong missing = wrong n refl rs here (subst (λ (us : List Pending). Answers m xs source us n rs here) (sym before.0) answer)
   refuted (n ∷ ns) (suc k) ps left some all l (us, there, others, first, before, f) (rs, here, more, answer, behind, e) wrong missing =
-      refuted ns k us left others more (omega (arith, l)) before (subst (λ (qs : List Pending). AreAnswered m xs source qs ns [] more) (one_answer n ps rs us here there answer first) behind) wrong (λ h. missing (ap suc h))
+      refuted ns k us left others more (omega (arith, l)) before (subst (λ (qs : List Pending). AreAnswered m xs source qs ns [] more) (one_answer m xs source n ps rs us here there answer first).0 behind) wrong (λ h. missing (ap suc h))
 
 pub not_whole : (m : Map) (xs : List Entry) (source : ℕ) (ps : List Pending) (ns : List Node) (k : ℕ) (sectors : List ℕ) → IsFirstWrong m xs source ps ns k → AreAnswered m xs source ps ns [] sectors → ⊥
 not_whole m xs source ps ns k sectors w all = refuted m xs source ns k ps w.left w.sectors sectors w.within w.before all w.wrong w.missing

@@ -1,5 +1,5 @@
 -- What the checker's answer says of the mesh, of the rays and of the pairs.
-use Rattle.std.specs.Prelude.{◌≡◌, ◌≢◌, ◌<◌, ◌≤◌, ◌⊎◌, ℕ, List, length, map, slice_get, Some, Bool, Contains}
+use Rattle.std.specs.Prelude.{◌≡◌, ◌≢◌, ◌<◌, ◌≤◌, ◌⊎◌, ◌↔◌, ℕ, List, length, map, slice_get, Some, Bool, Contains}
 use Rattle.sight_names.specs.declared.faults.CheckFault.{CheckFault}
 use Rattle.sight_names.specs.declared.faults.CheckFault.TheVariants.{Mesh, Ray, Tree as OfTree, ListedSet, Unproved, Uncovered}
 use Rattle.sight_names.specs.Map.{Map}
@@ -83,7 +83,7 @@ IsPairVerdict _ = ⊥
 pub record IsAbout (m : Map) (c : CertParts) (k : KnownParts) : Type 0 where
   pub named : MarksNamed m k.named
   pub components : AreComponents m k.components
-  pub walked : (a b : ℕ) → a < m.sectors → b < m.sectors → KeepsAway k a b → HasTreeWithout m c a b
+  pub walked : (a b : ℕ) → a < m.sectors → b < m.sectors → KeepsAway k a b ↔ HasTreeWithout m c a b
   pub listed : k.listed ≡ c.listed
   pub rays : k.rays ≡ pairs_of c.rays
 
@@ -108,6 +108,6 @@ pub record IsReached (m : Map) (t : TableParts) (c : CertParts) (a b : ℕ) : Ty
 abbrev pub JudgesPairs : Map → TableParts → CertParts → Verdict → Type 0
 JudgesPairs m t c (Yes totals) = ((a b : ℕ) → a ≤ b → b < m.sectors → IsPairRight m t c a b) × AreTotals t c.listed m.sectors totals
 JudgesPairs m t c (No (ListedSet a b)) = IsReached m t c a b × IsPairListed c a b × EitherSet t.n t.bytes a b
-JudgesPairs m t c (No (Unproved a b)) = IsReached m t c a b × ¬ IsPairListed c a b × EitherSet t.n t.bytes a b × MayBeSeen m a b
+JudgesPairs m t c (No (Unproved a b)) = IsReached m t c a b × ¬ IsPairListed c a b × EitherSet t.n t.bytes a b × MayBeSeen m a b × ¬ IsProvedBlind m c a b
 JudgesPairs m t c (No (Uncovered a b)) = IsReached m t c a b × ¬ IsPairListed c a b × EitherClear t.n t.bytes a b × ¬ IsProvedSeen m c a b
 JudgesPairs m t c _ = Unit {0}

@@ -8,7 +8,7 @@ ghost use Rattle.sight_names.specs.Plan.{IsPlan};
 ghost use Rattle.sight_names.specs.declared.names.Triangle.{Triangle};
 ghost use Rattle.cert_checker.specs.Web.{AreWalls, AreEntries};
 ghost use Rattle.cert_checker.specs.Roots.{AreRoots};
-ghost use Rattle.cert_checker.specs.Whole.{AreWholeOver, IsTreeFaultOver, HaveSourcesBelow};
+ghost use Rattle.cert_checker.specs.Whole.{AreWholeOver, IsTreeFaultOver, HaveSourcesBelow, HasNoBit};
 ghost use Rattle.cert_checker.specs.Path.{longest_of};
 ghost use Rattle.cert_format.specs.declared.cert.Labelled.{Labelled as AtSector};
 ghost use Rattle.cert_checker.specs.Named.{HasNoMark, MarksNamed, MarksLine, MarksSources};
@@ -172,6 +172,7 @@ struct Store {
 /// Takes all memory of the check but that of the mesh.
 fn store_of(alloc: Global, plan: &Plan, cert: &Cert, mesh: &Mesh) -> Result<Store, Memory>
     ensures reached { IfOk result (λ s. s.reached.n ≡ plan.now.sectors) }
+    ensures clear { IfOk result (λ s. HasNoBit s.reached) }
     ensures walked { IfOk result (λ s. HasNoMark plan.now.sectors s.walked.items) }
     ensures named { IfOk result (λ s. MarksNamed (map_of plan.now) s.named.items) }
     ensures components { IfOk result (λ s. AreComponents (map_of plan.now) s.components.items) }
@@ -217,6 +218,7 @@ fn judge_each_pair(plan: &Plan, cert: &Cert, known: Known<'_>) -> Verdict
 fn judge_rest(plan: &Plan, table: &Table, cert: &Cert, mesh: &Mesh, store: Store) -> Verdict
     requires table { table.now.n ≡ plan.now.sectors }
     requires reached { store.reached.n ≡ plan.now.sectors }
+    requires clear { HasNoBit store.reached }
     requires walked { HasNoMark plan.now.sectors store.walked.items }
     requires named { MarksNamed (map_of plan.now) store.named.items }
     requires components { AreComponents (map_of plan.now) store.components.items }
