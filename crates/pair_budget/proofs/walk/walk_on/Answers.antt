@@ -1,11 +1,11 @@
-use Rattle.std.proofs.Common.{◌≡◌, ℕ, ◌<◌, inl, List, Option, Some, IsSome, refl, sym, ap, ◌∙◌, subst}
+use Rattle.std.proofs.Common.{◌≡◌, ℕ, ◌<◌, inl, List, Option, Some, IsSome, refl, sym, ◌∙◌, subst}
 use Rattle.sight_names.specs.Mesh.{label_of}
 use Rattle.sight_names.specs.Plan.{PlanParts}
-use Rattle.portal_walk.specs.Walk.{WalkParts, Takes, Opens, due}
+use Rattle.portal_walk.specs.Walk.{Takes, Opens, due}
 use Rattle.portal_walk.proofs.Steps.{same_walk_both}
 use Rattle.pair_budget.specs.Whole.{IsFound}
 use Rattle.pair_budget.proofs.Marks.{told_more, extends_both, still_full}
-use Rattle.pair_budget.proofs.Walking.{IsOver, ComesTo, over_moved, begins, comes_blocked, comes_open, comes_end, noted_label, only_label}
+use Rattle.pair_budget.proofs.Walking.{IsOver, over_moved, begins, comes_blocked, comes_open, comes_end, noted_label, only_label}
 use Rattle.pair_budget.proofs.walk.walk_on.Goals as goal
 
 pub loop-walker-init : goal.loop-walker-init
