@@ -1,12 +1,13 @@
 -- The walks of all sectors, and what they decide as parts of a certificate in range and order.
 use Rattle.std.proofs.Common.{◌≡◌, ◌≢◌, ℕ, zero, suc, ◌+◌, ◌-◌, ◌^◌, ◌<◌, ◌≤◌, ◌⊎◌, inl, inr, List, [], ◌∷◌, ◌++◌, length, map, get_or, slice_get, Contains, Option, Some, None, refl, sym, ap, ◌∙◌, subst, arith, add-one, false}
-use Rattle.std.specs.Prelude.{slice_index, replicate, option_and_then}
+use Rattle.std.specs.Prelude.{Result, Ok, Err, IfOk, slice_index, replicate, option_and_then}
 use Rattle.std.specs.List.{AllByRecursion}
 use Rattle.std.specs.List.Sorted.{IsStrictlyIncreasing}
 use Rattle.std.proofs.lemmas.List.Elements.{recursion_from_All, Contains-get_or}
 use Rattle.std.proofs.lemmas.Option.{slice_get-get_or, slice_get_within, get_or_from_slice_get, same_Some}
 use Rattle.sight_names.proofs.Lists.{Ascends}
 use Rattle.sight_names.specs.declared.names.Budget.{Budget}
+use Rattle.sight_names.specs.declared.names.Memory.{Memory}
 use Rattle.sight_names.specs.declared.names.Pair.{Pair}
 use Rattle.sight_names.specs.declared.names.PairRay.{PairRay}
 use Rattle.sight_names.specs.declared.names.Ray.{Ray}
@@ -29,7 +30,12 @@ use Rattle.pair_budget.specs.Decide.{HasItsTree, IsResultOf, AreResults, IsFound
 use Rattle.pair_budget.specs.Rows.{tree_of}
 use Rattle.pair_budget.proofs.FindLaws.{get_pushed, reached_by}
 use Rattle.pair_budget.proofs.NamedLaws.{trees_cons}
-use Rattle.sight_job.specs.Built.{sizes_of, AreWalks, AreVerdicts}
+use Rattle.sight_names.specs.declared.names.Triangle.{Triangle}
+use Rattle.sight_names.specs.Map.{map_of}
+use Rattle.block_evidence.specs.WholeTree.{IsWholeTree}
+use Rattle.pair_budget.specs.Whole.{IsShown}
+use Rattle.pair_budget.proofs.Coming.{all_join}
+use Rattle.sight_job.specs.Built.{sizes_of, AreWalks, AreVerdicts, AreShown, AreWholeTrees}
 
 -- ---- labels
 
@@ -233,3 +239,19 @@ cert_in_order p plan budget v are triangles few ascend below = record {
 pub cert_is : (p : PlanParts) (v : Verdicts) (triangles : List Labelled) (sectors points lines : ℕ) (rays : List PairRay) (listed : List Pair) (trees : List Tree) → sectors ≡ p.sectors → points ≡ length p.points → lines ≡ length p.lines → rays ≡ v.rays → listed ≡ v.listed → trees ≡ v.trees
     → ◌≡◌ {A = CertParts} (record { sizes = record { sectors = sectors; points = points; lines = lines }; triangles = triangles; rays = rays; listed = listed; trees = trees }) (record { sizes = sizes_of p; triangles = triangles; rays = v.rays; listed = v.listed; trees = v.trees })
 cert_is p v triangles sectors points lines rays listed trees a b d e f g = cc
+
+-- ---- the trees
+
+-- the trees of walks that went to their ends are whole
+pub whole_trees : (p : PlanParts) (ts : List Triangle) (ls : List (Option ℕ)) (rs : List SourceResult) → AreShown p ts ls rs → AreWholeTrees p ts ls (trees_of rs)
+whole_trees p ts ls [] h = tt
+whole_trees p ts ls (r ∷ rs) h = subst (AreWholeTrees p ts ls) (sym (trees_cons r rs)) (all_join (λ (t : Tree). (opened : List ℕ) × IsWholeTree (map_of p) ts ls t opened) (tree_of r.outcome) (trees_of rs) (of r.outcome h.0) (whole_trees p ts ls rs h.1))
+  where
+    of : (o : Outcome) → IsShown p ts ls r.found o → AreWholeTrees p ts ls (tree_of o)
+    of (outcome.Complete t) s = ((s.opened, s.whole), tt)
+    of outcome.Spent s = tt
+    of outcome.All s = tt
+
+pub whole_in : (p : PlanParts) (ts : List Triangle) (ls : List (Option ℕ)) (rs : List SourceResult) (result : Result Verdicts Memory) → IfOk result (λ (v : Verdicts). v.trees ≡ trees_of rs) → AreShown p ts ls rs → IfOk result (λ (v : Verdicts). AreWholeTrees p ts ls v.trees)
+whole_in p ts ls rs (Ok v) e h = subst (AreWholeTrees p ts ls) (sym e) (whole_trees p ts ls rs h)
+whole_in p ts ls rs (Err m) e h = tt

@@ -1,5 +1,6 @@
 -- What a build gives.
 use Rattle.std.specs.Prelude.{◌≡◌, ◌≢◌, ℕ, ◌<◌, ◌⊎◌, ◌↔◌, List, [], Option, Some, length, slice_get, Contains, false, ⊤}
+use Rattle.std.specs.List.{AllByRecursion}
 use Rattle.sight_names.specs.declared.names.Budget.{Budget}
 use Rattle.sight_names.specs.declared.names.Pair.{Pair}
 use Rattle.sight_names.specs.declared.names.PairRay.{PairRay}
@@ -16,12 +17,14 @@ use Rattle.sight_names.specs.Plan.{PlanParts}
 use Rattle.sight_names.specs.Found.{AreConnected}
 use Rattle.tri_sectors.specs.Components.{AreComponents}
 use Rattle.block_evidence.specs.declared.Tree.{Tree}
+use Rattle.block_evidence.specs.WholeTree.{IsWholeTree}
 use Rattle.reject_bits.specs.Parts.{Rejects}
 use Rattle.cert_format.specs.declared.cert.Sizes.{Sizes}
 use Rattle.cert_format.specs.Accepted.{HasRay, IsPairListed, IsNamed}
 use Rattle.pair_budget.specs.declared.results.SourceResult.{SourceResult}
 use Rattle.pair_budget.specs.declared.results.Verdicts.{Verdicts}
 use Rattle.pair_budget.specs.Walked.{IsOutcome}
+use Rattle.pair_budget.specs.Whole.{IsShown}
 use Rattle.sight_job.specs.declared.build.Built.{Built}
 use Rattle.sight_job.specs.Faces.{IsFaceFault}
 use Rattle.pair_budget.specs.Decide.{AreResults, DecidesTable, DecidesList, DecidesRays, trees_of}
@@ -48,6 +51,19 @@ pub record HasTrianglesOf (m : Map) (c : CertParts) : Type 0 where
 pub record AreWalks (p : PlanParts) (budget : Budget) (rs : List SourceResult) : Type 0 where
   pub results : AreResults p rs
   pub outcomes : (k : ℕ) (r : SourceResult) → slice_get rs k ≡ Some r → IsOutcome k budget false r.outcome
+
+-- the tree of each walk that went to its end shows what that walk found
+abbrev pub AreShown : PlanParts → List Triangle → List (Option ℕ) → List SourceResult → Type 0
+AreShown p ts ls rs = AllByRecursion (λ (r : SourceResult). IsShown p ts ls r.found r.outcome) rs
+
+-- each of the trees is whole over the mesh
+abbrev pub AreWholeTrees : PlanParts → List Triangle → List (Option ℕ) → List Tree → Type 0
+AreWholeTrees p ts ls trees = AllByRecursion (λ (t : Tree). (opened : List ℕ) × IsWholeTree (map_of p) ts ls t opened) trees
+
+-- each tree of the certificate is whole over the map's mesh, whose labelled triangles the certificate has
+pub record HasWholeTrees (p : PlanParts) (c : CertParts) : Type 0 where
+  pub over : HasTrianglesOf (map_of p) c
+  pub trees : AreWholeTrees p over.triangles over.labels c.trees
 
 -- what the walks of all sectors decide
 pub record AreVerdicts (p : PlanParts) (budget : Budget) (v : Verdicts) : Type 0 where

@@ -7,7 +7,7 @@ ghost use Rattle.sight_names.specs.Mesh.{IsGoodMesh};
 ghost use Rattle.sight_names.specs.Sound.{IsSound, LinesMeetAtEnds};
 ghost use Rattle.cert_format.specs.Accepted.{triangles_of, labels_of};
 ghost use Rattle.sight_job.specs.Faces.{AreFacesOf};
-ghost use Rattle.sight_job.specs.Built.{sizes_of, AreWalks, IsBuildFault, AreVerdicts, HasRaysOfClear, RaysJoinPairs, ListsClear, IsSymmetric, HasDiagonal, HasTreesOfSet, HasTrianglesOf, IsWhole};
+ghost use Rattle.sight_job.specs.Built.{sizes_of, AreWalks, IsBuildFault, AreVerdicts, HasRaysOfClear, RaysJoinPairs, ListsClear, IsSymmetric, HasDiagonal, HasTreesOfSet, HasTrianglesOf, HasWholeTrees, AreShown, AreWholeTrees, IsWhole};
 
 use crate::certificate::{cert_of, labelled};
 use crate::faces::{Faces, faces_of};
@@ -48,6 +48,7 @@ pub fn build_table(alloc: Global, plan: &Plan, budget: Budget) -> Result<Built, 
     ensures symmetric { IfOk result IsSymmetric }
     ensures diagonal { IfOk result (HasDiagonal plan.now) }
     ensures set { IfOk result (HasTreesOfSet plan.now) }
+    ensures trees { IfOk result (λ b. HasWholeTrees plan.now b.cert) }
     ensures whole { budget ≡ Full → IfOk result (IsWhole plan.now) }
 {
     let shape = sound_faces(alloc, plan)?;
@@ -96,7 +97,8 @@ fn walks_of(
 ) -> Result<Vec<SourceResult>, Memory>
     requires audited { LinesMeetAtEnds (map_of plan.now) }
     requires shape { AreFacesOf plan.now shape.now }
-    ensures { IfOk result (λ v. AreWalks plan.now budget v.items) }
+    ensures walks { IfOk result (λ v. AreWalks plan.now budget v.items) }
+    ensures shown { IfOk result (λ v. AreShown plan.now shape.now.mesh.triangles shape.now.labels v.items) }
 {
     let mut results = Vec::new(alloc);
     for source in 0..plan.sectors {
@@ -122,7 +124,8 @@ fn verdicts_of(
 ) -> Result<Verdicts, Memory>
     requires audited { LinesMeetAtEnds (map_of plan.now) }
     requires shape { AreFacesOf plan.now shape.now }
-    ensures { IfOk result (AreVerdicts plan.now budget) }
+    ensures verdicts { IfOk result (AreVerdicts plan.now budget) }
+    ensures trees { IfOk result (λ v. AreWholeTrees plan.now shape.now.mesh.triangles shape.now.labels v.trees) }
 {
     let classes = components(alloc, plan)?;
     let results = walks_of(alloc, plan, shape, budget)?;

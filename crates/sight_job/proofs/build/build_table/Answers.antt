@@ -6,6 +6,7 @@ use Rattle.sight_names.specs.Plan.{PlanParts}
 use Rattle.cert_format.specs.declared.cert.Labelled.{Labelled}
 use Rattle.cert_format.specs.Parts.{CertParts}
 use Rattle.cert_format.specs.Grammar.{IsInOrder}
+use Rattle.sight_job.specs.Built.{AreWholeTrees}
 use Rattle.sight_job.proofs.BuildLaws.{cert_in_order, cert_is}
 use Rattle.sight_job.proofs.GoodLabelled.{labelled_are_good}
 use Rattle.sight_job.proofs.LabelledLaws.{below}
@@ -18,29 +19,29 @@ cert_of-cert-requires c =
     let shape = c.in_ok-shape.ensures.faces in
     let ascend = subst (λ (n : ℕ). AreTriangles n (map (λ (l : Labelled). l.triangle) c.in_ok-triangles.triangles.items)) shape.points c.in_ok-triangles.ensures.ascend in
     let sectors = subst (λ (ls : List Labelled). AllByRecursion (λ (l : Labelled). l.sector < c.args.plan.now.sectors) ls) (sym c.in_ok-triangles.ensures.list) (below c.args.plan.now.sectors c.in_ok-shape.shape.mesh.triangles c.in_ok-shape.shape.labels shape.sectors) in
-    let good = cert_in_order c.args.plan.now c.points.ensures.plan c.args.budget c.in_ok-verdicts.verdicts c.in_ok-verdicts.ensures c.in_ok-triangles.triangles.items c.in_ok-triangles.ensures.few ascend sectors in
+    let good = cert_in_order c.args.plan.now c.points.ensures.plan c.args.budget c.in_ok-verdicts.verdicts c.in_ok-verdicts.ensures.verdicts c.in_ok-triangles.triangles.items c.in_ok-triangles.ensures.few ascend sectors in
     subst IsInOrder (sym (cert_is c.args.plan.now c.in_ok-verdicts.verdicts c.in_ok-triangles.triangles.items _ _ _ _ _ _ (ap (λ (p : PlanParts). p.sectors) c.plan.view_is) (ap length c.points.ensures.list) (ap length c.lines.ensures.list) c.into_vec.ensures (c.in_ok-listed.ensures.items ∙ c.as_slice.ensures) c.into_vec-2.ensures)) good
 
 pub returns-clause-rays : goal.returns-clause-rays
-returns-clause-rays c = cert_rays c.args.plan.now c.args.budget c.in_ok-verdicts.verdicts c.in_ok-verdicts.ensures c.cert_of-cert.result (ap (λ (d : CertParts). d.rays) c.cert_of-cert.ensures ∙ c.into_vec.ensures) (ap (λ (d : CertParts). d.listed) c.cert_of-cert.ensures ∙ (c.in_ok-listed.ensures.items ∙ c.as_slice.ensures)) (ap (λ (d : CertParts). d.trees) c.cert_of-cert.ensures ∙ c.into_vec-2.ensures)
+returns-clause-rays c = cert_rays c.args.plan.now c.args.budget c.in_ok-verdicts.verdicts c.in_ok-verdicts.ensures.verdicts c.cert_of-cert.result (ap (λ (d : CertParts). d.rays) c.cert_of-cert.ensures ∙ c.into_vec.ensures) (ap (λ (d : CertParts). d.listed) c.cert_of-cert.ensures ∙ (c.in_ok-listed.ensures.items ∙ c.as_slice.ensures)) (ap (λ (d : CertParts). d.trees) c.cert_of-cert.ensures ∙ c.into_vec-2.ensures)
 
 pub returns-clause-joined : goal.returns-clause-joined
-returns-clause-joined c = rays_join c.args.plan.now c.args.budget c.in_ok-verdicts.verdicts c.in_ok-verdicts.ensures c.cert_of-cert.result.rays (ap (λ (d : CertParts). d.rays) c.cert_of-cert.ensures ∙ c.into_vec.ensures)
+returns-clause-joined c = rays_join c.args.plan.now c.args.budget c.in_ok-verdicts.verdicts c.in_ok-verdicts.ensures.verdicts c.cert_of-cert.result.rays (ap (λ (d : CertParts). d.rays) c.cert_of-cert.ensures ∙ c.into_vec.ensures)
 
 pub returns-clause-clear : goal.returns-clause-clear
-returns-clause-clear c = listed_are_clear c.args.plan.now c.args.budget c.in_ok-verdicts.verdicts c.in_ok-verdicts.ensures
+returns-clause-clear c = listed_are_clear c.args.plan.now c.args.budget c.in_ok-verdicts.verdicts c.in_ok-verdicts.ensures.verdicts
 
 pub returns-clause-symmetric : goal.returns-clause-symmetric
-returns-clause-symmetric c = both_bits_of c.args.plan.now c.args.budget c.in_ok-verdicts.verdicts c.in_ok-verdicts.ensures
+returns-clause-symmetric c = both_bits_of c.args.plan.now c.args.budget c.in_ok-verdicts.verdicts c.in_ok-verdicts.ensures.verdicts
 
 pub returns-clause-whole : goal.returns-clause-whole
 returns-clause-whole c = λ full. record {
-  no_list = nothing_listed c.args.plan.now c.args.budget c.in_ok-verdicts.verdicts c.in_ok-verdicts.ensures full;
-  trees = cert_trees c.args.plan.now c.args.budget c.in_ok-verdicts.verdicts c.in_ok-verdicts.ensures c.cert_of-cert.result (ap (λ (d : CertParts). d.rays) c.cert_of-cert.ensures ∙ c.into_vec.ensures) (ap (λ (d : CertParts). d.listed) c.cert_of-cert.ensures ∙ (c.in_ok-listed.ensures.items ∙ c.as_slice.ensures)) (ap (λ (d : CertParts). d.trees) c.cert_of-cert.ensures ∙ c.into_vec-2.ensures) full;
+  no_list = nothing_listed c.args.plan.now c.args.budget c.in_ok-verdicts.verdicts c.in_ok-verdicts.ensures.verdicts full;
+  trees = cert_trees c.args.plan.now c.args.budget c.in_ok-verdicts.verdicts c.in_ok-verdicts.ensures.verdicts c.cert_of-cert.result (ap (λ (d : CertParts). d.rays) c.cert_of-cert.ensures ∙ c.into_vec.ensures) (ap (λ (d : CertParts). d.listed) c.cert_of-cert.ensures ∙ (c.in_ok-listed.ensures.items ∙ c.as_slice.ensures)) (ap (λ (d : CertParts). d.trees) c.cert_of-cert.ensures ∙ c.into_vec-2.ensures) full;
 }
 
 pub returns-clause-set : goal.returns-clause-set
-returns-clause-set c = cert_set c.args.plan.now c.args.budget c.in_ok-verdicts.verdicts c.in_ok-verdicts.ensures c.cert_of-cert.result (ap (λ (d : CertParts). d.rays) c.cert_of-cert.ensures ∙ c.into_vec.ensures) (ap (λ (d : CertParts). d.listed) c.cert_of-cert.ensures ∙ (c.in_ok-listed.ensures.items ∙ c.as_slice.ensures)) (ap (λ (d : CertParts). d.trees) c.cert_of-cert.ensures ∙ c.into_vec-2.ensures)
+returns-clause-set c = cert_set c.args.plan.now c.args.budget c.in_ok-verdicts.verdicts c.in_ok-verdicts.ensures.verdicts c.cert_of-cert.result (ap (λ (d : CertParts). d.rays) c.cert_of-cert.ensures ∙ c.into_vec.ensures) (ap (λ (d : CertParts). d.listed) c.cert_of-cert.ensures ∙ (c.in_ok-listed.ensures.items ∙ c.as_slice.ensures)) (ap (λ (d : CertParts). d.trees) c.cert_of-cert.ensures ∙ c.into_vec-2.ensures)
 
 pub returns-clause-mesh : goal.returns-clause-mesh
 returns-clause-mesh c = subst (λ (xs : List Labelled). IsGoodMesh (map_of c.args.plan.now) (map (λ (l : Labelled). l.triangle) xs) (map (λ (l : Labelled). Some l.sector) xs)) (sym (ap (λ (d : CertParts). d.triangles) c.cert_of-cert.ensures ∙ c.in_ok-triangles.ensures.list)) (labelled_are_good (map_of c.args.plan.now) c.in_ok-shape.shape.mesh.triangles c.in_ok-shape.shape.labels c.in_ok-shape.ensures.faces.good)
@@ -52,4 +53,16 @@ returns-clause-triangles c = record {
   mesh = c.in_ok-shape.ensures.faces.mesh;
   labelled = c.in_ok-shape.ensures.faces.labels;
   kept = ap (λ (d : CertParts). d.triangles) c.cert_of-cert.ensures ∙ c.in_ok-triangles.ensures.list;
+}
+
+pub returns-clause-trees : goal.returns-clause-trees
+returns-clause-trees c = record {
+  over = record {
+    triangles = c.in_ok-shape.shape.mesh.triangles;
+    labels = c.in_ok-shape.shape.labels;
+    mesh = c.in_ok-shape.ensures.faces.mesh;
+    labelled = c.in_ok-shape.ensures.faces.labels;
+    kept = ap (λ (d : CertParts). d.triangles) c.cert_of-cert.ensures ∙ c.in_ok-triangles.ensures.list;
+  };
+  trees = subst (AreWholeTrees c.args.plan.now c.in_ok-shape.shape.mesh.triangles c.in_ok-shape.shape.labels) (sym (ap (λ (d : CertParts). d.trees) c.cert_of-cert.ensures ∙ c.into_vec-2.ensures)) c.in_ok-verdicts.ensures.trees;
 }
