@@ -1,7 +1,7 @@
 //! The walk along a given ray: the triangles that it passes from one side to another, or what it hits on its way.
 #![tactic(auto)]
 
-ghost use Rattle.std.specs.Prelude.{◌≡◌, ℕ, ◌<◌, ◌⊎◌, Some, IsSome, IsTrue, ◌↔◌, All, IfOk, MatchOption, MatchResult, option_and_then, option_map, slice_get};
+ghost use Rattle.std.specs.Prelude.{◌≡◌, ℕ, ◌<◌, ◌⊎◌, Some, IsSome, IsTrue, ◌↔◌, All, IfOk, MatchOption, MatchResult, OnErr, option_and_then, option_map, slice_get};
 ghost use Rattle.sight_names.specs.Map.{map_of};
 ghost use Rattle.sight_names.specs.Mesh.{label_of, triangle_at as triangle_of};
 ghost use Rattle.sight_names.specs.Plan.{IsPlan};
@@ -167,6 +167,7 @@ fn enter(plan: &Plan, mesh: &Mesh, labels: &Labels, gate: Gate) -> Result<u16, T
 fn behind(mesh: &Mesh, labels: &Labels, gate: Gate) -> Result<u16, TraceFault>
     ensures answer { MatchResult result (λ k. triangle_of mesh.now.triangles (entry_edge (portal_of gate)) ≡ Some k) (λ f. f ≡ TraceFault.Memory) }
     ensures labelled { IfOk result (λ k. IsSome (label_of labels.now k)) }
+    ensures missing { OnErr result ((k : ℕ) → triangle_of mesh.now.triangles (entry_edge (portal_of gate)) ≡ Some k → ¬ IsSome (label_of labels.now k)) }
 {
     match mesh.triangle_at(gate.left, gate.right) {
         Some(k) if is_labelled(labels, k) => Ok(k),
