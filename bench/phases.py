@@ -56,8 +56,12 @@ def least(words):
     return min(Run(words).seconds for _ in range(5)) * 1000
 
 
+def short(time):
+    return "%.0f" % time if time >= 100 else "%.3g" % time
+
+
 def beside(ours, plain):
-    return "%.3g / %.3g (%.1f)" % (ours, plain, ours / plain)
+    return "%s / %s (%.1f)" % (short(ours), short(plain), ours / plain)
 
 
 def points_of(lumps):
@@ -77,7 +81,7 @@ def map_row(program, folder, label, name, lumps, runs):
     parts = median_phases([program, "audit", source, name], folder, runs)
     build = least([program, "build", source, name, output, "--cert", cert])
     ours = parts + [build - sum(parts), build, least([program, "check", output, name, cert])]
-    cells = ["%.3g" % one for one in ours]
+    cells = [short(one) for one in ours]
     if label in PLAIN:
         plain = PLAIN[label]
         cells = [beside(*both) for both in zip(ours, plain[:3] + (plain[3] - sum(plain[:3]),) + plain[3:])]
