@@ -2,3 +2,4 @@ pub mod Shape
 pub mod Index
 pub mod Faults
 pub mod Search
+pub mod Fills

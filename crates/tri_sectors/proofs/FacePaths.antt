@@ -19,7 +19,7 @@ use Rattle.sight_laws.proofs.Paths.{same_on, on_same, same_value, above, misses_
 use Rattle.sight_laws.proofs.StepOff.{distance, distance_pos}
 use Rattle.mesh_base.proofs.Face.{SameSegment}
 use Rattle.mesh_base.proofs.GoodMesh.{PointFacts}
-use Rattle.triangulate.specs.Fills.{HasLeft}
+use Rattle.mesh_shape.specs.Fills.{HasLeft}
 use Rattle.mesh_base.proofs.Joined.{Strict, CleanAll, whole, tri, free_inside, free_side, inside_free, joined}
 
 -- ---- one point under two names

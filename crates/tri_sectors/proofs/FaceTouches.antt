@@ -24,7 +24,7 @@ use Rattle.mesh_shape.proofs.RuleLemmas.{edge_cases, no_first, first_edge, secon
 use Rattle.tri_sectors.specs.declared.faces.Walls.{Walls}
 use Rattle.tri_sectors.specs.Classes.{class_of}
 use Rattle.tri_sectors.specs.Faces.{edge_pq, edge_qr, edge_rp, IsFreeEdge, IsLink, HasGap, IsRow, AreLinked}
-use Rattle.triangulate.specs.Fills.{HasLeft, HasTriangle}
+use Rattle.mesh_shape.specs.Fills.{HasLeft, HasTriangle}
 use Rattle.tri_sectors.proofs.PlainFaces.{plain_turn, clean_of, from_is, to_is, pt_of_vec}
 use Rattle.tri_sectors.proofs.FaceRegion.{Ground, GapOn, numbers, on_face, only_one}
 use Rattle.tri_sectors.proofs.FacePaths.{IsNoLine, middle, middle_turned, middle_closed, middle_flat, middle_inside, centre, centre_turned, centre_strict, leads_join, one_leg, across, out_through, inside_clear, beyond_clear, free_beyond, outside_beyond, none_left, places_differ, far, far_left}

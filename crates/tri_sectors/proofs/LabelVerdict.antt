@@ -19,7 +19,7 @@ use Rattle.tri_sectors.specs.Classes.{class_of}
 use Rattle.tri_sectors.specs.Faces.{AreMarkedFaces}
 use Rattle.tri_sectors.specs.Sides.{IsSealedAt, IsFirstMixed}
 use Rattle.tri_sectors.specs.Labels.{AreFaceLabels, AreSealed, IsMixedPair, IsFacesVerdict}
-use Rattle.triangulate.specs.Fills.{FillsSides}
+use Rattle.mesh_shape.specs.Fills.{FillsSides}
 use Rattle.tri_sectors.specs.Verdict.{IsClosedSide, AgreeAt, IsFirstSidePairAgainst, AreFoundLabels, IsLabelVerdict}
 use Rattle.tri_sectors.proofs.GoodLabels.{good_mesh, named_side, side_label, label_name}
 use Rattle.tri_sectors.proofs.FaceRegion.{Ground, GapOn, face_list, numbers, on_face, region_of, not_above, touched, reaches}

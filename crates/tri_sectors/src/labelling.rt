@@ -7,7 +7,7 @@ ghost use Rattle.sight_names.specs.Mesh.{IsPlainMesh, IsGoodMesh, label_of};
 ghost use Rattle.tri_sectors.specs.Classes.{IsBelow};
 ghost use Rattle.tri_sectors.specs.Faces.{AreMarkedFaces};
 ghost use Rattle.tri_sectors.specs.Sides.{AreLabelled, IsFacedBelow};
-ghost use Rattle.triangulate.specs.Fills.{FillsSides};
+ghost use Rattle.mesh_shape.specs.Fills.{FillsSides};
 ghost use Rattle.tri_sectors.specs.Verdict.{IsLabelVerdict};
 ghost use Rattle.tri_sectors.specs.Labels.{IsSidesVerdict, IsFacesVerdict};
 

@@ -16,7 +16,7 @@ use Rattle.mesh_base.proofs.MeshRules.{MeshTri, one_each_edge}
 use Rattle.mesh_base.proofs.FirstSpoke.{fills}
 use Rattle.mesh_base.proofs.GoodMesh.{PointFacts, pv}
 use Rattle.mesh_shape.proofs.RuleLemmas.{edge_cases, first_edge, second_edge, third_edge, moved_ends}
-use Rattle.triangulate.specs.Fills.{FillsHull, FillsSides}
+use Rattle.mesh_shape.specs.Fills.{FillsHull, FillsSides}
 use Rattle.triangulate.proofs.GreedyNet.{numbers, in_numbers, number_below, both, kept_of, in_kept, kept_back, kept_meet, each_line_kept, greedy_maximal, greedy_net}
 
 -- ---- turning a triangle

@@ -13,7 +13,7 @@ use Rattle.mesh_base.proofs.PlanFacts.{plan_facts}
 use Rattle.triangulate.specs.declared.segments.Segment.{Segment}
 use Rattle.triangulate.specs.Kept.{edge_of, IsEdgeBetween, AreEdges}
 use Rattle.triangulate.specs.Left.{AreLeftTriangles, IsInOrder}
-use Rattle.triangulate.specs.Fills.{FillsHull, FillsSides}
+use Rattle.mesh_shape.specs.Fills.{FillsHull, FillsSides}
 use Rattle.triangulate.proofs.GreedyNet.{kept_between}
 use Rattle.triangulate.proofs.MeshLaws.{mesh_plain, mesh_fills, mesh_fills_sides}
 use Rattle.triangulate.proofs.MeshBound.{few_in_plan}

@@ -4,7 +4,6 @@ pub mod Pairs
 pub mod Spokes
 pub mod Rounds
 pub mod Closed
-pub mod Fills
 pub mod Next
 pub mod Left
 pub mod Stars

@@ -5,7 +5,7 @@ ghost use Rattle.sight_names.specs.declared.names.Triangle.{Triangle};
 ghost use Rattle.sight_names.specs.Map.{map_of};
 ghost use Rattle.sight_names.specs.Sound.{LinesMeetAtEnds};
 ghost use Rattle.sight_names.specs.Mesh.{IsMeshOf, IsPlainMesh};
-ghost use Rattle.triangulate.specs.Fills.{FillsHull, FillsSides};
+ghost use Rattle.mesh_shape.specs.Fills.{FillsHull, FillsSides};
 
 use sight_names::Plan;
 

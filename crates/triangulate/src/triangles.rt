@@ -8,7 +8,7 @@ ghost use Rattle.sight_names.specs.Greedy.{IsGreedy};
 ghost use Rattle.sight_names.specs.Mesh.{IsMeshOf, IsPlainMesh, IsTriangle};
 ghost use Rattle.triangulate.specs.Kept.{AreEdges, edge_of};
 ghost use Rattle.triangulate.specs.Left.{AreLeftTriangles, IsInOrder, IsLeftAdded};
-ghost use Rattle.triangulate.specs.Fills.{FillsHull, FillsSides};
+ghost use Rattle.mesh_shape.specs.Fills.{FillsHull, FillsSides};
 
 use crate::segments::Segments;
 use crate::spokes::next_left;

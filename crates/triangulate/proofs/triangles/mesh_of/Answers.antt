@@ -5,7 +5,7 @@ use Rattle.sight_names.specs.declared.names.Pt.{Pt}
 use Rattle.sight_names.specs.Map.{map_of}
 use Rattle.sight_names.specs.Mesh.{IsTriangle, IsMeshOf, IsPlainMesh}
 use Rattle.mesh_shape.specs.Shape.{MeshParts}
-use Rattle.triangulate.specs.Fills.{FillsHull, FillsSides}
+use Rattle.mesh_shape.specs.Fills.{FillsHull, FillsSides}
 use Rattle.triangulate.proofs.PlanMesh.{greedy_edges, is_mesh_with, few_left, mesh_is_plain, mesh_fills_hull, mesh_fills_each_side}
 use Rattle.triangulate.proofs.SortedMesh.{triangles_in_order}
 use Rattle.triangulate.proofs.triangles.mesh_of.Goals as goal
