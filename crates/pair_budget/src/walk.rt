@@ -1,6 +1,6 @@
 //! The walk of one source within its budget.
 
-ghost use Rattle.std.specs.Prelude.{◌≡◌, ◌≢◌, ◌⊎◌, ℕ, ◌<◌, [], Some as Given, length, map, true, IfOk, IfSome, IsSome};
+ghost use Rattle.std.specs.Prelude.{◌≡◌, ◌≢◌, ◌⊎◌, ℕ, ◌<◌, [], Some as Given, length, map, true, false, IfOk, IfSome, IsSome};
 ghost use Rattle.std.specs.List.{Contains};
 ghost use Rattle.sight_names.specs.Map.{map_of};
 ghost use Rattle.sight_names.specs.Mesh.{IsGoodMesh, label_of};
@@ -8,13 +8,15 @@ ghost use Rattle.sight_names.specs.Plan.{IsPlan};
 ghost use Rattle.sight_names.specs.Sequence.{roots};
 ghost use Rattle.sight_names.specs.Sound.{LinesMeetAtEnds};
 ghost use Rattle.stab_hull.specs.Answer.{IsLineInRange};
-ghost use Rattle.portal_walk.specs.Due.{root_alone};
+ghost use Rattle.sequence_laws.specs.Ways.{root_alone};
 ghost use Rattle.portal_walk.specs.Sides.{ArrivesAt};
 ghost use Rattle.portal_walk.specs.Walk.{due};
 ghost use Rattle.pair_budget.specs.declared.results.Outcome.TheVariants as outcome;
 ghost use Rattle.pair_budget.specs.declared.results.Reached.{Reached as ReachedSector};
+ghost use Rattle.pair_budget.specs.Exact.{IsExact, IsWholly};
 ghost use Rattle.pair_budget.specs.Finds.{Extends, one_less};
 ghost use Rattle.pair_budget.specs.Notes.{ordered, Grows};
+ghost use Rattle.pair_budget.specs.Through.{AreThrough, IsRayOfStep};
 ghost use Rattle.pair_budget.specs.Walked.{AreReached, IsOutcome, IsReachedFrom, MarksFound};
 ghost use Rattle.pair_budget.specs.Whole.{IsFound, IsShown};
 
@@ -46,13 +48,18 @@ pub fn walk_source<N: Notice>(
     requires audited { LinesMeetAtEnds (map_of plan.now) }
     requires good { IsGoodMesh (map_of plan.now) mesh.now.triangles labels.now }
     requires source { source < plan.now.sectors }
-    requires hears { (b : ℕ) → b < plan.now.sectors → N.may_hear notice.old (ordered source b) }
+    requires hears { (r : ReachedSector) → IsReachedFrom plan.now source r → N.may_hear notice.old (ordered source r.to) }
     ensures source { IfOk result (λ r. r.source ≡ source) }
     ensures found { IfOk result (λ r. AreReached plan.now source r.found) }
     ensures outcome { IfOk result (λ r. IsOutcome source budget (N.may_settle notice.old) r.outcome) }
+    ensures exact { IfOk result (λ r. IsExact (map_of plan.now) mesh.now.triangles labels.now source budget r.found r.outcome) }
+    ensures alone { N.may_settle notice.old ≡ false → IfOk result (λ r. IsWholly (map_of plan.now) mesh.now.triangles labels.now source budget r.found r.outcome) }
+    ensures rays { IfOk result (λ r. AreThrough plan.now mesh.now.triangles labels.now source r.found) }
     ensures shown { IfOk result (λ r. IsShown plan.now mesh.now.triangles labels.now r.found r.outcome) }
     ensures mates { IfOk result (λ r. r.outcome ≡ outcome.All → (b : ℕ) → N.mates notice.old source b → Contains (N.seen notice.new) (ordered source b)) }
+    ensures tag { N.tag notice.new ≡ N.tag notice.old }
     ensures marks { IfOk result (λ r. MarksFound source r.found (N.marks notice.old) (N.marks notice.new)) }
+    ensures kept { Grows (N.marks notice.old) (N.marks notice.new) }
     ensures claims { N.claims notice.new ≡ N.claims notice.old }
     ensures settles { N.may_settle notice.new ≡ N.may_settle notice.old }
     ensures seen { Grows (N.seen notice.old) (N.seen notice.new) }
@@ -95,12 +102,16 @@ fn walk_on<N: Notice>(
     requires due { due walker ≡ map root_alone (roots (map_of walker.plan) walker.source) }
     requires no_nodes { walker.nodes ≡ [] }
     requires nothing { finds.old.found ≡ [] }
-    requires hears { (b : ℕ) → b < finds.old.plan.sectors → N.may_hear notice.old (ordered source b) }
+    requires hears { (r : ReachedSector) → IsReachedFrom finds.old.plan source r → N.may_hear notice.old (ordered source r.to) }
     ensures finds { Extends finds.old finds.new }
     ensures outcome { IfOk result (λ o. IsOutcome source budget (N.may_settle notice.old) o) }
+    ensures exact { IfOk result (λ o. IsExact (map_of walker.entry.plan) walker.entry.mesh.triangles walker.entry.labels walker.entry.source budget finds.new.found o) }
+    ensures rays { IfOk result (λ _. AreThrough walker.entry.plan walker.entry.mesh.triangles walker.entry.labels walker.entry.source finds.new.found) }
     ensures shown { IfOk result (λ o. IsShown walker.entry.plan walker.entry.mesh.triangles walker.entry.labels finds.new.found o) }
     ensures mates { IfOk result (λ o. o ≡ outcome.All → (b : ℕ) → N.mates notice.old source b → Contains (N.seen notice.new) (ordered source b)) }
+    ensures tag { N.tag notice.new ≡ N.tag notice.old }
     ensures marks { MarksFound source finds.new.found (N.marks notice.old) (N.marks notice.new) }
+    ensures kept { Grows (N.marks notice.old) (N.marks notice.new) }
     ensures claims { N.claims notice.new ≡ N.claims notice.old }
     ensures settles { N.may_settle notice.new ≡ N.may_settle notice.old }
     ensures seen { Grows (N.seen notice.old) (N.seen notice.new) }
@@ -160,6 +171,7 @@ fn reached_by(
     requires range { IsLineInRange a b c }
     ensures reached { IfSome result (λ reached. IsReachedFrom walker.now.plan walker.now.source reached) }
     ensures label { IfSome result (λ reached. label_of labels.now triangle ≡ Given reached.to) }
+    ensures ray { IfSome result (IsRayOfStep walker.now.root entered a b c) }
     ensures given { (sector : ℕ) → label_of labels.now triangle ≡ Given sector → IsSome walker.now.root → IsSome entered → IsSome result }
 {
     let to = labels.get(triangle)?;
@@ -181,9 +193,11 @@ fn note<N: Notice>(
 ) -> Result<bool, Memory>
     requires reached { IfSome reached (λ r. IsReachedFrom finds.old.plan source r) }
     requires source { finds.old.source ≡ source }
-    requires hears { (b : ℕ) → b < finds.old.plan.sectors → N.may_hear notice.old (ordered source b) }
+    requires hears { (r : ReachedSector) → IsReachedFrom finds.old.plan source r → N.may_hear notice.old (ordered source r.to) }
     ensures finds { Extends finds.old finds.new }
+    ensures tag { N.tag notice.new ≡ N.tag notice.old }
     ensures marks { MarksFound source finds.new.found (N.marks notice.old) (N.marks notice.new) }
+    ensures kept { Grows (N.marks notice.old) (N.marks notice.new) }
     ensures hears { (p : ℕ × ℕ) → N.may_hear notice.old p → N.may_hear notice.new p }
     ensures claims { N.claims notice.new ≡ N.claims notice.old }
     ensures settles { N.may_settle notice.new ≡ N.may_settle notice.old }

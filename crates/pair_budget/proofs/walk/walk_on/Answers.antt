@@ -1,12 +1,27 @@
-use Rattle.std.proofs.Common.{◌≡◌, ℕ, ◌<◌, inl, List, Option, Some, IsSome, refl, sym, ◌∙◌, subst}
+use Rattle.std.proofs.Common.{◌≡◌, ℕ, ◌<◌, inl, List, Option, Some, IsSome, refl, sym, ◌∙◌, subst, IfSome, ℤ, w32, w64, rules}
+use mir.Val.{SFits, to_z, of_z}
+use Rattle.std.proofs.lemmas.Int.{to_z-of_z}
+use Rattle.sight_names.specs.declared.names.Side.{Side}
+use Rattle.pair_budget.specs.declared.results.Reached.{Reached}
+use Rattle.pair_budget.specs.Through.{IsRayOfStep}
 use Rattle.sight_names.specs.Mesh.{label_of}
 use Rattle.sight_names.specs.Plan.{PlanParts}
 use Rattle.portal_walk.specs.Walk.{Takes, Opens, due}
 use Rattle.portal_walk.proofs.Steps.{same_walk_both}
+use Rattle.pair_budget.specs.Walked.{IsReachedFrom}
 use Rattle.pair_budget.specs.Whole.{IsFound}
 use Rattle.pair_budget.proofs.Marks.{told_more, extends_both, still_full}
+use Rattle.pair_budget.proofs.Exactly.{finds_begin, finds_blocked, finds_noted, finds_end, finds_spent, finds_early}
+use Rattle.pair_budget.proofs.Through.{through_none, through_moved, through_back, through_open}
 use Rattle.pair_budget.proofs.Walking.{IsOver, over_moved, begins, comes_blocked, comes_open, comes_end, noted_label, only_label}
 use Rattle.pair_budget.proofs.walk.walk_on.Goals as goal
+
+-- the numbers of the line are as they were when they come as arguments
+ray_kept : (root entered : Option Side) (a b c : ℤ) (o : Option Reached) → SFits w32 a → SFits w32 b → SFits w64 c → IfSome o (IsRayOfStep root entered (to_z w32 (of_z w32 a)) (to_z w32 (of_z w32 b)) (to_z w64 (of_z w64 c))) → IfSome o (IsRayOfStep root entered a b c)
+ray_kept root entered a b c o fa fb fc h =
+    subst (λ (x : ℤ). IfSome o (IsRayOfStep root entered x b c)) (to_z-of_z w32 a fa)
+    (subst (λ (y : ℤ). IfSome o (IsRayOfStep root entered (to_z w32 (of_z w32 a)) y c)) (to_z-of_z w32 b fb)
+    (subst (λ (z : ℤ). IfSome o (IsRayOfStep root entered (to_z w32 (of_z w32 a)) (to_z w32 (of_z w32 b)) z)) (to_z-of_z w64 c fc) h))
 
 pub loop-walker-init : goal.loop-walker-init
 loop-walker-init g c =
@@ -16,8 +31,12 @@ loop-walker-init g c =
       finds = record { plan = refl; source = refl; keeps = λ r h. h };
       over = over;
       come = begins c.args.walker over c.requires.due c.requires.no_nodes c.args.finds.now.found c.requires.nothing;
+      exact = finds_begin c.args.walker c.args.budget c.args.finds.now.found c.requires.due c.requires.nothing;
+      through = through_none c.args.walker c.args.finds.now.found c.requires.nothing;
       full = λ f. f;
       hears = c.requires.hears;
+      tag = refl;
+      kept = λ p h. h;
       marks = λ p h. inl h;
       claims = refl;
       settles = refl;
@@ -41,8 +60,13 @@ loop-walker-preserved-in-Blocked g c =
       over = over_moved c.loop-walker.walker c.next.new.self c.next.ensures.walk i.over;
       come = comes_blocked (due c.args.walker) c.loop-walker.walker c.next.new.self c.loop-walker.finds.found i.come c.next.ensures.walk c.in-Blocked.field-0
           (subst (Takes c.loop-walker.walker c.next.new.self) c.in-Blocked.is c.in_ok-next.ensures.step);
+      exact = finds_blocked c.loop-walker.walker c.next.new.self c.args.budget c.loop-walker.left c.loop-walker.finds.found i.exact c.next.ensures.walk c.in-Blocked.field-0
+          (subst (Takes c.loop-walker.walker c.next.new.self) c.in-Blocked.is c.in_ok-next.ensures.step);
+      through = through_moved c.loop-walker.walker c.next.new.self c.loop-walker.finds.found c.next.ensures.walk i.through;
       full = i.full;
       hears = i.hears;
+      tag = i.tag;
+      kept = i.kept;
       marks = i.marks;
       claims = i.claims;
       settles = i.settles;
@@ -56,6 +80,9 @@ returns-in_err-note-in-Open-clause-finds g c = extends_both c.args.finds.now c.l
 
 pub returns-in_err-note-in-Open-clause-seen : goal.returns-in_err-note-in-Open-clause-seen
 returns-in_err-note-in-Open-clause-seen g c = λ p h. c.note.ensures.seen p (c.loop-walker.invariant.seen p h)
+
+pub returns-in_err-note-in-Open-clause-kept : goal.returns-in_err-note-in-Open-clause-kept
+returns-in_err-note-in-Open-clause-kept g c = λ p h. c.note.ensures.kept p (c.loop-walker.invariant.kept p h)
 
 pub returns-in_err-note-in-Open-clause-looks : goal.returns-in_err-note-in-Open-clause-looks
 returns-in_err-note-in-Open-clause-looks g c = λ p h. c.note.ensures.looks p (c.loop-walker.invariant.looks p h)
@@ -71,6 +98,9 @@ returns-then-branch-clause-mates g c = λ _ b h. c.in_ok-note-in-Open.ensures.do
 
 pub returns-then-branch-clause-seen : goal.returns-then-branch-clause-seen
 returns-then-branch-clause-seen g c = λ p h. c.note.ensures.seen p (c.loop-walker.invariant.seen p h)
+
+pub returns-then-branch-clause-kept : goal.returns-then-branch-clause-kept
+returns-then-branch-clause-kept g c = λ p h. c.note.ensures.kept p (c.loop-walker.invariant.kept p h)
 
 pub returns-then-branch-clause-looks : goal.returns-then-branch-clause-looks
 returns-then-branch-clause-looks g c = λ p h. c.note.ensures.looks p (c.loop-walker.invariant.looks p h)
@@ -101,8 +131,13 @@ loop-walker-preserved g c =
       over = over_moved old new c.next.ensures.walk i.over;
       come = comes_open (due c.args.walker) old new c.loop-walker.finds.found i.come k c.in-Open.entered c.in-Open.a c.in-Open.b c.in-Open.c opens later e.finds.keeps c.next.ensures.walk i.over noted
           (λ r there. only_label old.labels c.args.labels.now k c.loop-walker.finds.found reached.result r labels reached.ensures.label (c.in_ok-note-in-Open.ensures.only r there));
+      exact = finds_noted c.args.walker old new c.args.budget c.loop-walker.left c.loop-walker.finds.found i.come i.exact c.next.ensures.walk k c.in-Open.entered c.in-Open.a c.in-Open.b c.in-Open.c opens c.in-Some.less c.in-Some.ensures later e.finds.keeps noted
+          (λ r there. only_label old.labels c.args.labels.now k c.loop-walker.finds.found reached.result r labels reached.ensures.label (c.in_ok-note-in-Open.ensures.only r there));
+      through = through_open old new c.loop-walker.finds.found later i.through k c.in-Open.entered c.in-Open.a c.in-Open.b c.in-Open.c opens c.next.ensures.walk c.args.labels.now labels reached.result reached.ensures.label (ray_kept new.root c.in-Open.entered c.in-Open.a c.in-Open.b c.in-Open.c reached.result (search rules) (search rules) (search rules) reached.ensures.ray) c.in_ok-note-in-Open.ensures.only;
       full = λ f. still_full c.loop-walker.left c.in-Some.less (i.full f) c.in-Some.ensures;
-      hears = λ b lt. e.hears _ (i.hears b (subst (λ (p : PlanParts). b < p.sectors) e.finds.plan lt));
+      hears = λ r far. e.hears _ (i.hears r (subst (λ (p : PlanParts). IsReachedFrom p c.args.source r) e.finds.plan far));
+      tag = e.tag ∙ i.tag;
+      kept = λ p h. e.kept p (i.kept p h);
       marks = told_more c.args.source c.loop-walker.finds c.note.new.finds _ _ _ e.finds i.marks e.marks;
       claims = e.claims ∙ i.claims;
       settles = e.settles ∙ i.settles;
@@ -110,3 +145,50 @@ loop-walker-preserved g c =
       seen = λ p h. e.seen p (i.seen p h);
       looks = λ p h. e.looks p (i.looks p h);
     }
+
+pub returns-in-End-clause-exact : goal.returns-in-End-clause-exact
+returns-in-End-clause-exact g c =
+    let i = c.loop-walker.invariant in
+    finds_end c.loop-walker.walker c.next.new.self c.args.budget c.loop-walker.left c.loop-walker.finds.found i.exact c.args.walker i.walk (subst (Takes c.loop-walker.walker c.next.new.self) c.in-End.is c.in_ok-next.ensures.step) c.tree.result
+
+pub returns-in_default-clause-exact : goal.returns-in_default-clause-exact
+returns-in_default-clause-exact g c =
+    let i = c.loop-walker.invariant in
+    finds_spent c.loop-walker.walker c.next.new.self c.args.budget c.loop-walker.left c.loop-walker.finds.found i.exact c.in-Open.triangle c.in-Open.entered c.in-Open.a c.in-Open.b c.in-Open.c
+    (subst (Takes c.loop-walker.walker c.next.new.self) c.in-Open.is c.in_ok-next.ensures.step) c.args.walker i.walk c.in_default.ensures
+
+pub returns-then-branch-clause-exact : goal.returns-then-branch-clause-exact
+returns-then-branch-clause-exact g c =
+    let i = c.loop-walker.invariant in
+    let e = c.note.ensures in
+    let old = c.loop-walker.walker in
+    let new = c.next.new.self in
+    let k = c.in-Open.triangle in
+    let labels : old.labels ≡ c.args.labels.now = i.walk.labels ∙ c.requires.labels in
+    let opens : Opens old new k c.in-Open.entered c.in-Open.a c.in-Open.b c.in-Open.c = subst (Takes old new) c.in-Open.is c.in_ok-next.ensures.step in
+    let reached = c.reached_by-reached in
+    let later = c.note.new.finds.found in
+    finds_early c.args.walker new c.args.budget c.in-Some.less later (same_walk_both c.args.walker old new i.walk c.next.ensures.walk)
+    (finds_noted c.args.walker old new c.args.budget c.loop-walker.left c.loop-walker.finds.found i.come i.exact c.next.ensures.walk k c.in-Open.entered c.in-Open.a c.in-Open.b c.in-Open.c opens c.in-Some.less c.in-Some.ensures later e.finds.keeps
+        (λ sector h some. noted_label old.labels c.args.labels.now k later reached.result labels c.in_ok-note-in-Open.ensures.reached reached.ensures.label sector h
+        (reached.ensures.given sector (subst (λ (ls : List (Option ℕ)). label_of ls k ≡ Some sector) labels h) (subst IsSome (sym opens.answers.root) refl) some))
+        (λ r there. only_label old.labels c.args.labels.now k c.loop-walker.finds.found reached.result r labels reached.ensures.label (c.in_ok-note-in-Open.ensures.only r there)))
+
+pub returns-in-End-clause-rays : goal.returns-in-End-clause-rays
+returns-in-End-clause-rays g c = through_back c.args.walker c.loop-walker.walker c.loop-walker.finds.found c.loop-walker.invariant.walk c.loop-walker.invariant.through
+
+pub returns-in_default-clause-rays : goal.returns-in_default-clause-rays
+returns-in_default-clause-rays g c = through_back c.args.walker c.loop-walker.walker c.loop-walker.finds.found c.loop-walker.invariant.walk c.loop-walker.invariant.through
+
+pub returns-then-branch-clause-rays : goal.returns-then-branch-clause-rays
+returns-then-branch-clause-rays g c =
+    let i = c.loop-walker.invariant in
+    let old = c.loop-walker.walker in
+    let new = c.next.new.self in
+    let k = c.in-Open.triangle in
+    let labels : old.labels ≡ c.args.labels.now = i.walk.labels ∙ c.requires.labels in
+    let opens : Opens old new k c.in-Open.entered c.in-Open.a c.in-Open.b c.in-Open.c = subst (Takes old new) c.in-Open.is c.in_ok-next.ensures.step in
+    let reached = c.reached_by-reached in
+    let later = c.note.new.finds.found in
+    through_back c.args.walker new later (same_walk_both c.args.walker old new i.walk c.next.ensures.walk)
+    (through_open old new c.loop-walker.finds.found later i.through k c.in-Open.entered c.in-Open.a c.in-Open.b c.in-Open.c opens c.next.ensures.walk c.args.labels.now labels reached.result reached.ensures.label (ray_kept new.root c.in-Open.entered c.in-Open.a c.in-Open.b c.in-Open.c reached.result (search rules) (search rules) (search rules) reached.ensures.ray) c.in_ok-note-in-Open.ensures.only)

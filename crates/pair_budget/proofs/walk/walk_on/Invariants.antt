@@ -3,7 +3,10 @@ use Rattle.sight_names.specs.declared.names.Budget.TheVariants.{Full}
 use Rattle.portal_walk.specs.Walk.{SameWalk, due, remaining}
 use Rattle.pair_budget.specs.Finds.{Extends}
 use Rattle.pair_budget.specs.Notes.{ordered, Grows}
-use Rattle.pair_budget.specs.Walked.{MarksFound}
+use Rattle.pair_budget.specs.declared.results.Reached.{Reached}
+use Rattle.pair_budget.specs.Walked.{IsReachedFrom, MarksFound}
+use Rattle.pair_budget.proofs.Exactly.{FindsOver}
+use Rattle.pair_budget.proofs.Through.{ThroughOver}
 use Rattle.pair_budget.proofs.Walking.{IsOver, ComesTo}
 use Rattle.pair_budget.proofs.walk.walk_on.Given as goal
 
@@ -13,8 +16,12 @@ invariant-loop-walker g l = record {
   finds : Extends l.fn.finds l.finds;
   over : IsOver l.walker;
   come : ComesTo (due l.fn.walker) l.walker l.finds.found;
+  exact : FindsOver l.walker l.fn.budget l.left l.finds.found;
+  through : ThroughOver l.walker l.finds.found;
   full : l.fn.budget ≡ Full → l.left ≡ Full;
-  hears : (b : ℕ) → b < l.finds.plan.sectors → g.N.Notice.may_hear l.notice (ordered l.source b);
+  hears : (r : Reached) → IsReachedFrom l.finds.plan l.source r → g.N.Notice.may_hear l.notice (ordered l.source r.to);
+  tag : g.N.Notice.tag l.notice ≡ g.N.Notice.tag l.fn.notice;
+  kept : Grows (g.N.Notice.marks l.fn.notice) (g.N.Notice.marks l.notice);
   marks : MarksFound l.source l.finds.found (g.N.Notice.marks l.fn.notice) (g.N.Notice.marks l.notice);
   claims : g.N.Notice.claims l.notice ≡ g.N.Notice.claims l.fn.notice;
   settles : g.N.Notice.may_settle l.notice ≡ g.N.Notice.may_settle l.fn.notice;
