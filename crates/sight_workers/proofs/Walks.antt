@@ -1,0 +1,67 @@
+-- What a walk finds and marks.
+use Rattle.std.proofs.Common.{◌≡◌, ◌≢◌, ◌⊎◌, inl, inr, ⊎_elim, ℕ, zero, suc, ◌<◌, List, [], ◌∷◌, ◌++◌, Contains, Bool, cond, ltb, false, true, length, get_or, map, refl, sym, ap, ◌∙◌, subst, arith, pos, Result, Ok, Err, IfOk}
+use Rattle.std.proofs.lemmas.Bool.Decides.{nat_tests}
+use Rattle.pair_budget.specs.declared.results.Outcome.{Outcome}
+use Rattle.pair_budget.specs.declared.results.Reached.{Reached}
+use Rattle.pair_budget.specs.declared.results.SourceResult.{SourceResult}
+use Rattle.pair_budget.specs.Notes.{ordered}
+use Rattle.sight_names.specs.Map.{map_of}
+use Rattle.pair_budget.specs.Exact.{IsExact}
+use Rattle.pair_budget.specs.Through.{AreThrough}
+use Rattle.pair_budget.specs.Walked.{AreReached, IsOutcome, IsReachedFrom, MarksFound}
+use Rattle.pair_budget.specs.Whole.{IsShown}
+use Rattle.sight_workers.specs.declared.view.Task.{Task}
+use Rattle.sight_workers.specs.Board.{IsPair, IsFindable, IsReachable}
+use Rattle.sight_workers.specs.Walks.{IsMarkedBy, IsWalked}
+use Rattle.sight_workers.proofs.Lists.{by_bool, contains_left, contains_append, contains_one}
+use Rattle.sight_workers.proofs.Watches.{ordered_pair}
+
+-- the pair of the source and what it reached may be marked
+pub reached_pair : (t : Task) (a : ℕ) (r : Reached) → a < t.plan.sectors → IsReachedFrom t.plan a r → IsPair t.plan.sectors (ordered a r.to) × IsFindable t (ordered a r.to)
+reached_pair t a r within far = (ordered_pair t.plan.sectors a r.to (λ e. far.other (sym e)) within far.within, findable (ltb a r.to))
+  where
+    findable : (b : Bool) → IsFindable t (cond b (a, r.to) (r.to, a))
+    findable true = inl record { by = r; from = far; to_it = refl }
+    findable false = inr record { by = r; from = far; to_it = refl }
+
+pub marked_none : (source : ℕ) (found : List Reached) (xs : List (ℕ × ℕ)) → IsMarkedBy source found xs xs
+marked_none source found xs = ((λ p h. h), (λ p h. inl h))
+
+pub marked_then : (source : ℕ) (found : List Reached) (xs ys zs : List (ℕ × ℕ)) → IsMarkedBy source found xs ys → IsMarkedBy source found ys zs → IsMarkedBy source found xs zs
+marked_then source found xs ys zs a b = ((λ p h. b.0 p (a.0 p h)), (λ p h. ⊎_elim (a.1 p) (λ k. inr k) (b.1 p h)))
+
+map_at : {X Y : Type 0} (h : X → Y) (xs : List X) (x : X) (k : ℕ) → k < length xs → get_or xs k x ≡ x → Contains (map h xs) (h x)
+map_at h [] x k lt e = absurd (omega arith)
+map_at h (y ∷ xs) x zero lt e = (0, omega arith, ap h e)
+map_at h (y ∷ xs) x (suc k) lt e = let q = map_at h xs x k (omega arith) e in (suc q.0, (let w = q.1 in omega arith), q.2)
+
+pub has_map : {X Y : Type 0} (h : X → Y) (xs : List X) (x : X) → Contains xs x → Contains (map h xs) (h x)
+has_map h xs x c = map_at h xs x c.0 c.1 c.2
+
+from_map_at : {X Y : Type 0} (h : X → Y) (xs : List X) (y : Y) (k : ℕ) → k < length (map h xs) → get_or (map h xs) k y ≡ y → (x : X) × Contains xs x × (h x ≡ y)
+from_map_at h [] y k lt e = absurd (omega arith)
+from_map_at h (x ∷ xs) y zero lt e = (x, (0, omega arith, refl), e)
+from_map_at h (x ∷ xs) y (suc k) lt e = let q = from_map_at h xs y k (omega arith) e in (q.0, (suc q.1.0, (let w = q.1.1 in omega arith), q.1.2), q.2)
+
+pub from_map : {X Y : Type 0} (h : X → Y) (xs : List X) (y : Y) → Contains (map h xs) y → (x : X) × Contains xs x × (h x ≡ y)
+from_map h xs y c = from_map_at h xs y c.0 c.1 c.2
+
+pub marked_one : (source : ℕ) (r : Reached) (found : List Reached) (xs : List (ℕ × ℕ)) → Contains found r → IsMarkedBy source found xs (xs ++ ordered source r.to ∷ [])
+marked_one source r found xs h = (
+  (λ p k. contains_left p xs (ordered source r.to ∷ []) k),
+  (λ p k. ⊎_elim (λ a. inl a) (λ b. inr (subst (λ (q : ℕ × ℕ). Contains (map (λ (s : Reached). ordered source s.to) found) q) (contains_one p (ordered source r.to) b) (has_map (λ (s : Reached). ordered source s.to) found r h))) (contains_append p xs (ordered source r.to ∷ []) k)),
+)
+
+abbrev pub spare : Reached
+spare = record { to = 0; ray = record { first = record { line = 0; left = false }; last = record { line = 0; left = false }; a = pos 0; b = pos 0; c = pos 0 } }
+
+pub ok_weaker : {A E : Type 0} (r : Result A E) (P Q : A → Type 0) → ((x : A) → P x → Q x) → IfOk r P → IfOk r Q
+ok_weaker (Ok x) P Q f h = f x h
+ok_weaker (Err e) P Q f h = tt
+
+-- all that the walk of a source promises of its result
+pub ok_walked : {E : Type 0} (t : Task) (source : ℕ) (result : Result SourceResult E) → IfOk result (λ (r : SourceResult). r.source ≡ source) → IfOk result (λ (r : SourceResult). AreReached t.plan source r.found) → IfOk result (λ (r : SourceResult). IsOutcome source t.budget true r.outcome)
+    → IfOk result (λ (r : SourceResult). IsShown t.plan t.mesh.triangles t.labels r.found r.outcome) → IfOk result (λ (r : SourceResult). IsExact (map_of t.plan) t.mesh.triangles t.labels source t.budget r.found r.outcome) → IfOk result (λ (r : SourceResult). AreThrough t.plan t.mesh.triangles t.labels source r.found)
+    → IfOk result (IsWalked t source)
+ok_walked t source (Ok r) is found outcome shown exact through = record { source_is = is; found = found; outcome = outcome; shown = shown; exact = exact; through = through }
+ok_walked t source (Err e) is found outcome shown exact through = tt
