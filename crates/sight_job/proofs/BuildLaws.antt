@@ -11,7 +11,7 @@ use Rattle.sight_names.specs.declared.names.Memory.{Memory}
 use Rattle.sight_names.specs.declared.names.Pair.{Pair}
 use Rattle.sight_names.specs.declared.names.PairRay.{PairRay}
 use Rattle.sight_names.specs.declared.names.Ray.{Ray}
-use Rattle.sight_names.specs.Mesh.{label_of, AreTriangles}
+use Rattle.sight_names.specs.Mesh.{label_of, AreTriangles, IsGoodMesh}
 use Rattle.sight_names.specs.Plan.{PlanParts, IsPlan}
 use Rattle.block_evidence.specs.declared.Node.{Node}
 use Rattle.block_evidence.specs.declared.Node.TheVariants.{Open, Blocked}
@@ -26,15 +26,20 @@ use Rattle.pair_budget.specs.declared.results.Outcome.TheVariants as outcome
 use Rattle.pair_budget.specs.declared.results.SourceResult.{SourceResult}
 use Rattle.pair_budget.specs.declared.results.Verdicts.{Verdicts}
 use Rattle.pair_budget.specs.Walked.{AreReached, IsTreeFrom, IsOutcome}
-use Rattle.pair_budget.specs.Decide.{HasItsTree, IsResultOf, AreResults, IsFoundBy, IsRayOf, IsSettled, DecidesList, DecidesRays, trees_of}
+use Rattle.pair_budget.specs.Decide.{HasItsTree, IsResultOf, AreResults, IsFoundBy, IsRayOf, IsSettled, DecidesTable, DecidesList, DecidesRays, trees_of}
 use Rattle.pair_budget.specs.Rows.{tree_of}
 use Rattle.pair_budget.proofs.FindLaws.{get_pushed, reached_by}
 use Rattle.pair_budget.proofs.NamedLaws.{trees_cons}
 use Rattle.sight_names.specs.declared.names.Triangle.{Triangle}
-use Rattle.sight_names.specs.Map.{map_of}
+use Rattle.sight_names.specs.Map.{Map, map_of}
 use Rattle.block_evidence.specs.WholeTree.{IsWholeTree}
+use Rattle.pair_budget.specs.Decided.{AreExact, DecidesOver, TellsConnected}
+use Rattle.pair_budget.specs.Exact.{IsExact}
 use Rattle.pair_budget.specs.Whole.{IsShown}
 use Rattle.pair_budget.proofs.Coming.{all_join}
+use Rattle.tri_sectors.specs.Components.{AreComponents}
+use Rattle.sight_workers.specs.declared.view.Task.{Task}
+use Rattle.sight_workers.specs.Teams.{AreWalked}
 use Rattle.sight_job.specs.Built.{sizes_of, AreWalks, AreVerdicts, AreShown, AreWholeTrees}
 
 -- ---- labels
@@ -50,52 +55,23 @@ label_is ls k l lt e = ap (λ (o : Option (Option ℕ)). option_and_then (λ l. 
 
 -- ---- the walks
 
-pub record WalkedUpTo (p : PlanParts) (budget : Budget) (n : ℕ) (rs : List SourceResult) : Type 0 where
-  pub count : length rs ≡ n
-  pub each : (k : ℕ) (r : SourceResult) → slice_get rs k ≡ Some r → IsResultOf p k r
-  pub outcomes : (k : ℕ) (r : SourceResult) → slice_get rs k ≡ Some r → IsOutcome k budget false r.outcome
+-- each walk went as far as is told
+pub walks_are : (t : Task) (rs : List SourceResult) → AreResults t.plan rs → AreWalked t rs → AreWalks t.plan t.budget rs
+walks_are t rs are walked = record { results = are; outcomes = λ k r h. (walked k r h).outcome }
 
-pub walked_none : (p : PlanParts) (budget : Budget) → WalkedUpTo p budget 0 []
-walked_none p budget = record { count = refl; each = λ k r h. absurd cc; outcomes = λ k r h. absurd cc }
+-- the trees of walks that went to their ends show what these found
+pub walks_shown : (t : Task) (rs : List SourceResult) → AreWalked t rs → AreShown t.plan t.mesh.triangles t.labels rs
+walks_shown t rs walked = recursion_from_All (λ (r : SourceResult). IsShown t.plan t.mesh.triangles t.labels r.found r.outcome) rs (λ k d lt. (walked k (get_or rs k d) (slice_get-get_or rs k d lt)).shown)
 
-pub has_its_tree : (source : ℕ) (budget : Budget) (o : Outcome) → IsOutcome source budget false o → HasItsTree source o
-has_its_tree source budget (outcome.Complete t) h = h
-has_its_tree source budget outcome.Spent h = tt
-has_its_tree source budget outcome.All h = tt
+-- each walk found what it should
+pub walks_exact : (t : Task) (rs : List SourceResult) → AreWalked t rs → AreExact (map_of t.plan) t.mesh.triangles t.labels t.budget rs
+walks_exact t rs walked k r h = (walked k r h).exact
 
-pub is_not_all : (source : ℕ) (budget : Budget) (o : Outcome) → IsOutcome source budget false o → o ≢ outcome.All
-is_not_all source budget (outcome.Complete t) h = λ e. absurd cc
-is_not_all source budget outcome.Spent h = λ e. absurd cc
-is_not_all source budget outcome.All h = absurd cc
-
-pub walked_more : (p : PlanParts) (budget : Budget) (n : ℕ) (rs : List SourceResult) (r : SourceResult) → WalkedUpTo p budget n rs → r.source ≡ n → AreReached p n r.found → IsOutcome n budget false r.outcome → WalkedUpTo p budget (n + 1) (rs ++ r ∷ [])
-walked_more p budget n rs r before source found how = record {
-  count = longer rs n before.count;
-  each = λ k s h. at k s (get_pushed rs r s k h);
-  outcomes = λ k s h. ended k s (get_pushed rs r s k h);
-}
-  where
-    longer : (rs : List SourceResult) (n : ℕ) → length rs ≡ n → length (rs ++ r ∷ []) ≡ n + 1
-    longer [] n h = omega arith
-    longer (q ∷ rs) n h = let e = longer rs (length rs) refl in omega arith
-
-    here : IsResultOf p n r
-    here = record { source_is = source; found = found; tree = has_its_tree n budget r.outcome how }
-
-    at : (k : ℕ) (s : SourceResult) → (slice_get rs k ≡ Some s) ⊎ ((k ≡ length rs) × (r ≡ s)) → IsResultOf p k s
-    at k s (inl h) = before.each k s h
-    at k s (inr h) = subst (λ (j : ℕ). IsResultOf p j s) (sym (h.0 ∙ before.count)) (subst (λ (q : SourceResult). IsResultOf p n q) h.1 here)
-
-    ended : (k : ℕ) (s : SourceResult) → (slice_get rs k ≡ Some s) ⊎ ((k ≡ length rs) × (r ≡ s)) → IsOutcome k budget false s.outcome
-    ended k s (inl h) = before.outcomes k s h
-    ended k s (inr h) = subst (λ (j : ℕ). IsOutcome j budget false s.outcome) (sym (h.0 ∙ before.count)) (subst (λ (q : SourceResult). IsOutcome n budget false q.outcome) h.1 how)
-
-pub walked_all : (p : PlanParts) (budget : Budget) (n : ℕ) (rs : List SourceResult) → n ≡ p.sectors → WalkedUpTo p budget n rs → AreWalks p budget rs
-walked_all p budget n rs e w = record { results = record { count = w.count ∙ e; each = w.each }; outcomes = w.outcomes }
-
--- no walk by itself ends because others found what it could find
-pub settled_alone : (p : PlanParts) (budget : Budget) (rs : List SourceResult) (components : List ℕ) → AreWalks p budget rs → IsSettled rs components
-settled_alone p budget rs components w a b r h all lt differ same = absurd (is_not_all a budget r.outcome (w.outcomes a r h) all)
+-- what is decided of these walks
+pub verdicts_in : (p : PlanParts) (budget : Budget) (rs : List SourceResult) (components : List ℕ) → AreWalks p budget rs → length components ≡ p.sectors → AreComponents (map_of p) components → IsSettled rs components → (result : Result Verdicts Memory)
+    → IfOk result (λ (v : Verdicts). DecidesTable p rs components v.table) → IfOk result (λ (v : Verdicts). DecidesList rs components v.listed) → IfOk result (λ (v : Verdicts). DecidesRays p rs v.rays) → IfOk result (λ (v : Verdicts). v.trees ≡ trees_of rs) → IfOk result (AreVerdicts p budget)
+verdicts_in p budget rs components walks each_sector connected settled (Ok v) table listed rays trees = record { results = rs; components = components; walks = walks; each_sector = each_sector; connected = connected; settled = settled; table = table; listed = listed; rays = rays; trees = trees }
+verdicts_in p budget rs components walks each_sector connected settled (Err e) table listed rays trees = tt
 
 -- ---- rays
 
@@ -255,3 +231,10 @@ whole_trees p ts ls (r ∷ rs) h = subst (AreWholeTrees p ts ls) (sym (trees_con
 pub whole_in : (p : PlanParts) (ts : List Triangle) (ls : List (Option ℕ)) (rs : List SourceResult) (result : Result Verdicts Memory) → IfOk result (λ (v : Verdicts). v.trees ≡ trees_of rs) → AreShown p ts ls rs → IfOk result (λ (v : Verdicts). AreWholeTrees p ts ls v.trees)
 whole_in p ts ls rs (Ok v) e h = subst (AreWholeTrees p ts ls) (sym e) (whole_trees p ts ls rs h)
 whole_in p ts ls rs (Err m) e h = tt
+
+-- what a decision says over any good mesh it says over this one
+pub over_in : (p : PlanParts) (ts : List Triangle) (ls : List (Option ℕ)) (budget : Budget) (rs : List SourceResult) (cs : List ℕ) → IsGoodMesh (map_of p) ts ls → AreExact (map_of p) ts ls budget rs → TellsConnected (map_of p) cs → (r : Result Verdicts Memory)
+    → IfOk r (λ (v : Verdicts). (us : List Triangle) (ms : List (Option ℕ)) (bound : Budget) → IsGoodMesh (map_of p) us ms → AreExact (map_of p) us ms bound rs → TellsConnected (map_of p) cs → DecidesOver (map_of p) us ms bound p.sectors v.table v.listed)
+    → IfOk r (λ (v : Verdicts). DecidesOver (map_of p) ts ls budget p.sectors v.table v.listed)
+over_in p ts ls budget rs cs good exact tells (Ok v) h = h ts ls budget good exact tells
+over_in p ts ls budget rs cs good exact tells (Err e) h = tt

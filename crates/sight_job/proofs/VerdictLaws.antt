@@ -1,5 +1,5 @@
 -- What a build promises of its table, its list and its certificate, from what the walks decide.
-use Rattle.std.proofs.Common.{◌≡◌, ◌≢◌, ℕ, zero, suc, ◌<◌, ◌⊎◌, ◌↔◌, inl, inr, List, [], ◌∷◌, length, get_or, slice_get, Contains, Some, refl, sym, ap, ◌∙◌, subst, arith, Bool, true, false}
+use Rattle.std.proofs.Common.{◌≡◌, ◌≢◌, ℕ, zero, suc, ◌<◌, ◌⊎◌, ◌↔◌, inl, inr, List, [], ◌∷◌, length, get_or, slice_get, Contains, Option, Some, refl, sym, ap, ◌∙◌, subst, arith, Bool, true, false}
 use Rattle.std.specs.Prelude.{not}
 use Rattle.std.proofs.lemmas.List.Elements.{Contains-append_left, Contains-append_right}
 use Rattle.std.proofs.lemmas.Option.{slice_get-get_or, same_Some}
@@ -9,7 +9,11 @@ use Rattle.sight_names.specs.declared.names.Budget.TheVariants.{Full}
 use Rattle.sight_names.specs.declared.names.Pair.{Pair}
 use Rattle.sight_names.specs.declared.names.PairRay.{PairRay}
 use Rattle.sight_names.specs.Map.{Map, map_of, sector_on}
-use Rattle.sight_names.specs.Found.{AreNeighbours, IsChain, AreConnected}
+use Rattle.sight_names.specs.declared.names.Triangle.{Triangle}
+use Rattle.sight_names.specs.Found.{AreNeighbours, IsChain, AreConnected, IsListedOver, IsListed}
+use Rattle.sight_names.specs.Mesh.{IsMeshOf, AreLabelsOf}
+use Rattle.sight_names.specs.Sound.{NamesAgree}
+use Rattle.sight_names.proofs.OneMesh.{one_mesh, one_labels}
 use Rattle.tri_sectors.specs.Components.{AreComponents}
 use Rattle.tri_sectors.proofs.ComponentLemmas.{connected_joined}
 use Rattle.sight_names.specs.Plan.{PlanParts}
@@ -22,13 +26,14 @@ use Rattle.pair_budget.specs.declared.results.Outcome.TheVariants as outcome
 use Rattle.pair_budget.specs.declared.results.SourceResult.{SourceResult}
 use Rattle.pair_budget.specs.declared.results.Verdicts.{Verdicts}
 use Rattle.pair_budget.specs.Decide.{AreFound, IsListedPair, IsBlind, IsSpentSource, trees_of}
+use Rattle.pair_budget.specs.Decided.{TellsConnected}
 use Rattle.pair_budget.specs.Gathered.{HasPair}
 use Rattle.pair_budget.specs.Rows.{tree_of}
 use Rattle.pair_budget.specs.Walked.{IsOutcome}
 use Rattle.pair_budget.proofs.FindLaws.{found_of_ray, same_or_other, pair_is}
 use Rattle.pair_budget.proofs.NamedLaws.{trees_cons}
 use Rattle.sight_job.specs.Built.{AreVerdicts}
-use Rattle.sight_job.proofs.BuildLaws.{is_not_all, tree_of_source}
+use Rattle.sight_job.proofs.BuildLaws.{tree_of_source}
 
 -- a list of rays has one for the pair, or none
 has_or_not : (rays : List PairRay) (a b : ℕ) → HasPair rays a b ⊎ ¬ HasPair rays a b
@@ -90,6 +95,24 @@ component_same m cs are a b la lb path =
     let up = are.least b y x by' (connected_joined m b a x (connected_back m a path.0 b path.1) (are.connected a x ax)) in
     let e : x ≡ y = omega arith in
     ax ∙ (ap (λ (n : ℕ). Some n) e ∙ sym by')
+
+-- a listed pair is listed over this mesh, since the map has one mesh and one list of labels
+pub listed_over : (m : Map) (budget : Budget) (ts : List Triangle) (ls : List (Option ℕ)) → NamesAgree m → IsMeshOf m ts → AreLabelsOf m ts ls → (a b : ℕ) → IsListed m budget a b → IsListedOver m ts ls budget a b
+listed_over m budget ts ls agree mesh labelled a b l =
+    let same = one_mesh m l.triangles ts l.mesh mesh in
+    let theirs : AreLabelsOf m ts l.labels = subst (λ (us : List Triangle). AreLabelsOf m us l.labels) same l.labelled in
+    subst (λ (ks : List (Option ℕ)). IsListedOver m ts ks budget a b) (one_labels m ts l.labels ls agree mesh theirs labelled) (subst (λ (us : List Triangle). IsListedOver m us l.labels budget a b) same l.listed)
+
+pub tells_connected : (m : Map) (cs : List ℕ) → AreComponents m cs → TellsConnected m cs
+tells_connected m cs are a b la lb = (
+  (λ e. by (slice_get-get_or cs a 0 la) (slice_get-get_or cs b 0 lb) e),
+  component_same m cs are a b la lb,
+)
+  where
+    by : slice_get cs a ≡ Some (get_or cs a 0) → slice_get cs b ≡ Some (get_or cs b 0) → slice_get cs a ≡ slice_get cs b → AreConnected m a b
+    by ea eb e =
+        let back = are.connected b (get_or cs a 0) (sym e ∙ ea) in
+        connected_joined m a (get_or cs a 0) b (are.connected a (get_or cs a 0) ea) (connected_back m b back.0 (get_or cs a 0) back.1)
 
 module _ (p : PlanParts) (budget : Budget) (v : Verdicts) (are : AreVerdicts p budget v) where
   found_of_has : (a b : ℕ) → HasPair v.rays a b → AreFound are.results a b
@@ -155,7 +178,7 @@ module _ (p : PlanParts) (budget : Budget) (v : Verdicts) (are : AreVerdicts p b
   -- ---- with no bound
 
   not_spent : budget ≡ Full → (a : ℕ) → ¬ IsSpentSource are.results a
-  not_spent full a (r, h, e) = subst (λ (o : Outcome). IsOutcome a budget false o) e (are.walks.outcomes a r h) full
+  not_spent full a (r, h, e) = subst (λ (o : Outcome). IsOutcome a budget true o) e (are.walks.outcomes a r h) full
 
   pub nothing_listed : budget ≡ Full → v.listed ≡ []
   nothing_listed full = empty v.listed (λ q c. not_spent full q.a ((are.listed.exactly q).0 c).spent)
@@ -164,20 +187,45 @@ module _ (p : PlanParts) (budget : Budget) (v : Verdicts) (are : AreVerdicts p b
       empty [] none = refl
       empty (x ∷ xs) none = absurd (none x (contains_head x xs))
 
-  -- the tree of a source is there, or its budget ran out
-  pub tree_or_spent : (a : ℕ) → a < p.sectors → ((t : Tree) × Contains v.trees t × (t.source ≡ a)) ⊎ IsSpentSource are.results a
+  abbrev pub TreeOf : ℕ → Type 0
+  TreeOf a = (t : Tree) × Contains v.trees t × (t.source ≡ a)
+
+  -- nothing was left that the source could find
+  abbrev pub IsSettledSource : ℕ → Type 0
+  IsSettledSource a = (r : SourceResult) × (slice_get are.results a ≡ Some r) × (r.outcome ≡ outcome.All)
+
+  -- the tree of a source is there, or its budget ran out, or nothing was left that it could find
+  pub tree_or_spent : (a : ℕ) → a < p.sectors → TreeOf a ⊎ (IsSpentSource are.results a ⊎ IsSettledSource a)
   tree_or_spent a la = by_result (result_at are.results a (subst (λ (n : ℕ). a < n) (sym are.walks.results.count) la))
     where
-      by_outcome : (r : SourceResult) → slice_get are.results a ≡ Some r → (o : Outcome) → r.outcome ≡ o → ((t : Tree) × Contains v.trees t × (t.source ≡ a)) ⊎ IsSpentSource are.results a
+      by_outcome : (r : SourceResult) → slice_get are.results a ≡ Some r → (o : Outcome) → r.outcome ≡ o → TreeOf a ⊎ (IsSpentSource are.results a ⊎ IsSettledSource a)
       by_outcome r h (outcome.Complete t) e = inl (t, subst (λ (ts : List Tree). Contains ts t) (sym are.trees) (has_tree are.results a r t h e), (tree_of_source p are.results are.walks.results a r h t e).source_is)
-      by_outcome r h outcome.Spent e = inr (r, h, e)
-      by_outcome r h outcome.All e = absurd (is_not_all a budget r.outcome (are.walks.outcomes a r h) e)
+      by_outcome r h outcome.Spent e = inr (inl (r, h, e))
+      by_outcome r h outcome.All e = inr (inr (r, h, e))
 
-      by_result : (r : SourceResult) × (slice_get are.results a ≡ Some r) → ((t : Tree) × Contains v.trees t × (t.source ≡ a)) ⊎ IsSpentSource are.results a
+      by_result : (r : SourceResult) × (slice_get are.results a ≡ Some r) → TreeOf a ⊎ (IsSpentSource are.results a ⊎ IsSettledSource a)
       by_result (r, h) = by_outcome r h r.outcome refl
 
-  pub each_has_tree : budget ≡ Full → (a : ℕ) → a < p.sectors → (t : Tree) × Contains v.trees t × (t.source ≡ a)
-  each_has_tree full a la = elim (tree_or_spent a la) [ inl t ↦ t | inr s ↦ absurd (not_spent full a s) ]
+  -- one of the two found the other, where nothing was left that the first could find
+  settled_found : (a b : ℕ) → IsSettledSource a → b < p.sectors → a ≢ b → slice_get are.components a ≡ slice_get are.components b → AreFound are.results a b
+  settled_found a b (r, h, e) lb differ same = are.settled a b r h e (subst (λ (n : ℕ). b < n) (sym are.each_sector) lb) differ same
+
+  sees_connected : (a : ℕ) → a < p.sectors → IsSettledSource a → (b : ℕ) → b < p.sectors → a ≢ b → AreConnected (map_of p) a b → ¬ Rejects v.table a b
+  sees_connected a la settled b lb differ path bit = blind ((are.table.bits a b la lb).0 bit)
+    where
+      same : slice_get are.components a ≡ slice_get are.components b
+      same = component_same (map_of p) are.components are.connected a b (subst (λ (n : ℕ). a < n) (sym are.each_sector) la) (subst (λ (n : ℕ). b < n) (sym are.each_sector) lb) path
+
+      blind : ¬ IsBlind p are.results are.components a b
+      blind (inl h) = differ h.0
+      blind (inr h) = h.1 (settled_found a b settled lb differ same)
+
+  pub each_has_tree : budget ≡ Full → (a : ℕ) → a < p.sectors → TreeOf a ⊎ ((b : ℕ) → b < p.sectors → a ≢ b → AreConnected (map_of p) a b → ¬ Rejects v.table a b)
+  each_has_tree full a la = elim (tree_or_spent a la) [
+    | inl t ↦ inl t
+    | inr (inl s) ↦ absurd (not_spent full a s)
+    | inr (inr s) ↦ inr (sees_connected a la s)
+  ]
 
   -- ---- set bits
 
@@ -185,13 +233,20 @@ module _ (p : PlanParts) (budget : Budget) (v : Verdicts) (are : AreVerdicts p b
   not_connected a b la lb differ path = differ (component_same (map_of p) are.components are.connected a b (subst (λ (n : ℕ). a < n) (sym are.each_sector) la) (subst (λ (n : ℕ). b < n) (sym are.each_sector) lb) path)
 
   unlisted_tree : (a b : ℕ) → a < p.sectors → b < p.sectors → a < b → slice_get are.components a ≡ slice_get are.components b → ¬ AreFound are.results a b → ¬ IsListedPair are.results are.components a b → (t : Tree) × Contains v.trees t × ((t.source ≡ a) ⊎ (t.source ≡ b))
-  unlisted_tree a b la lb lt same none not_listed = elim (tree_or_spent a la) [
-    | inl t ↦ (t.0, t.1, inl t.2)
-    | inr spent ↦ elim (tree_or_spent b lb) [
-      | inl t ↦ (t.0, t.1, inr t.2)
-      | inr spent_too ↦ absurd (not_listed (record { order = lt; within = subst (λ (n : ℕ). b < n) (sym are.each_sector) lb; connected = same; not_found = none; spent = spent; spent_too = spent_too }))
-    ]
-  ]
+  unlisted_tree a b la lb lt same none not_listed = by_first (tree_or_spent a la)
+    where
+      differ : a ≢ b
+      differ e = omega arith
+
+      by_second : IsSpentSource are.results a → TreeOf b ⊎ (IsSpentSource are.results b ⊎ IsSettledSource b) → (t : Tree) × Contains v.trees t × ((t.source ≡ a) ⊎ (t.source ≡ b))
+      by_second spent (inl t) = (t.0, t.1, inr t.2)
+      by_second spent (inr (inl spent_too)) = absurd (not_listed (record { order = lt; within = subst (λ (n : ℕ). b < n) (sym are.each_sector) lb; connected = same; not_found = none; spent = spent; spent_too = spent_too }))
+      by_second spent (inr (inr s)) = absurd (none (elim (settled_found b a s la (λ e. differ (sym e)) (sym same)) [ inl k ↦ inr k | inr k ↦ inl k ]))
+
+      by_first : TreeOf a ⊎ (IsSpentSource are.results a ⊎ IsSettledSource a) → (t : Tree) × Contains v.trees t × ((t.source ≡ a) ⊎ (t.source ≡ b))
+      by_first (inl t) = (t.0, t.1, inl t.2)
+      by_first (inr (inl spent)) = by_second spent (tree_or_spent b lb)
+      by_first (inr (inr s)) = absurd (none (settled_found a b s lb differ same))
 
   pub set_has_tree : (a b : ℕ) → a < p.sectors → b < p.sectors → a ≢ b → Rejects v.table a b → ¬ AreConnected (map_of p) a b ⊎ ((t : Tree) × Contains v.trees t × ((t.source ≡ a) ⊎ (t.source ≡ b)))
   set_has_tree a b la lb differ bit = by_blind ((are.table.bits a b la lb).0 bit)
@@ -223,8 +278,8 @@ module _ (p : PlanParts) (budget : Budget) (v : Verdicts) (are : AreVerdicts p b
     pub cert_set : (a b : ℕ) → a < p.sectors → b < p.sectors → a ≢ b → Rejects v.table a b → ¬ AreConnected (map_of p) a b ⊎ ((t : Tree) × Contains cert.trees t × ((t.source ≡ a) ⊎ (t.source ≡ b)))
     cert_set a b la lb differ bit = subst (λ (ts : List Tree). ¬ AreConnected (map_of p) a b ⊎ ((t : Tree) × Contains ts t × ((t.source ≡ a) ⊎ (t.source ≡ b)))) (sym trees) (set_has_tree a b la lb differ bit)
 
-    pub cert_trees : budget ≡ Full → (a : ℕ) → a < p.sectors → (t : Tree) × Contains cert.trees t × (t.source ≡ a)
-    cert_trees full a la = let h = each_has_tree full a la in (h.0, subst (λ (ts : List Tree). Contains ts h.0) (sym trees) h.1, h.2)
+    pub cert_trees : budget ≡ Full → (a : ℕ) → a < p.sectors → ((t : Tree) × Contains cert.trees t × (t.source ≡ a)) ⊎ ((b : ℕ) → b < p.sectors → a ≢ b → AreConnected (map_of p) a b → ¬ Rejects v.table a b)
+    cert_trees full a la = elim (each_has_tree full a la) [ inl h ↦ inl (h.0, subst (λ (ts : List Tree). Contains ts h.0) (sym trees) h.1, h.2) | inr h ↦ inr h ]
 
   pub both_bits_of : (a b : ℕ) → a < v.table.n → b < v.table.n → Rejects v.table a b → Rejects v.table b a
   both_bits_of a b la lb bit = both_bits a b (subst (λ (n : ℕ). a < n) are.table.sectors la) (subst (λ (n : ℕ). b < n) are.table.sectors lb) bit

@@ -1,5 +1,5 @@
 -- What a build gives.
-use Rattle.std.specs.Prelude.{◌≡◌, ◌≢◌, ℕ, ◌<◌, ◌⊎◌, ◌↔◌, List, [], Option, Some, length, slice_get, Contains, false, ⊤}
+use Rattle.std.specs.Prelude.{◌≡◌, ◌≢◌, ℕ, ◌<◌, ◌⊎◌, ◌↔◌, List, [], Option, Some, length, slice_get, Contains, true, ⊤}
 use Rattle.std.specs.List.{AllByRecursion}
 use Rattle.sight_names.specs.declared.names.Budget.{Budget}
 use Rattle.sight_names.specs.declared.names.Pair.{Pair}
@@ -14,7 +14,7 @@ use Rattle.sight_names.specs.Mesh.{AreLabelsOf, IsMeshOf}
 use Rattle.cert_format.specs.Parts.{CertParts}
 use Rattle.sight_job.specs.Labelled.{labelled_of}
 use Rattle.sight_names.specs.Plan.{PlanParts}
-use Rattle.sight_names.specs.Found.{AreConnected}
+use Rattle.sight_names.specs.Found.{AreConnected, IsListed}
 use Rattle.tri_sectors.specs.Components.{AreComponents}
 use Rattle.block_evidence.specs.declared.Tree.{Tree}
 use Rattle.block_evidence.specs.WholeTree.{IsWholeTree}
@@ -23,11 +23,12 @@ use Rattle.cert_format.specs.declared.cert.Sizes.{Sizes}
 use Rattle.cert_format.specs.Accepted.{HasRay, IsPairListed, IsNamed}
 use Rattle.pair_budget.specs.declared.results.SourceResult.{SourceResult}
 use Rattle.pair_budget.specs.declared.results.Verdicts.{Verdicts}
+use Rattle.pair_budget.specs.Decided.{DecidesOver}
 use Rattle.pair_budget.specs.Walked.{IsOutcome}
 use Rattle.pair_budget.specs.Whole.{IsShown}
 use Rattle.sight_job.specs.declared.build.Built.{Built}
 use Rattle.sight_job.specs.Faces.{IsFaceFault}
-use Rattle.pair_budget.specs.Decide.{AreResults, DecidesTable, DecidesList, DecidesRays, trees_of}
+use Rattle.pair_budget.specs.Decide.{AreResults, IsSettled, DecidesTable, DecidesList, DecidesRays, trees_of}
 
 -- the sizes of a certificate of this plan
 abbrev pub sizes_of : PlanParts → Sizes
@@ -47,10 +48,11 @@ pub record HasTrianglesOf (m : Map) (c : CertParts) : Type 0 where
   pub labelled : AreLabelsOf m triangles labels
   pub kept : c.triangles ≡ labelled_of triangles labels
 
--- the walks of all sectors by themselves: each went to its end or, where there is one, to the end of its budget
+-- the walks of all sectors: each went to its end or, where there is one, to the end of its budget, or nothing was left
+-- that it could find
 pub record AreWalks (p : PlanParts) (budget : Budget) (rs : List SourceResult) : Type 0 where
   pub results : AreResults p rs
-  pub outcomes : (k : ℕ) (r : SourceResult) → slice_get rs k ≡ Some r → IsOutcome k budget false r.outcome
+  pub outcomes : (k : ℕ) (r : SourceResult) → slice_get rs k ≡ Some r → IsOutcome k budget true r.outcome
 
 -- the tree of each walk that went to its end shows what that walk found
 abbrev pub AreShown : PlanParts → List Triangle → List (Option ℕ) → List SourceResult → Type 0
@@ -72,6 +74,7 @@ pub record AreVerdicts (p : PlanParts) (budget : Budget) (v : Verdicts) : Type 0
   pub walks : AreWalks p budget results
   pub each_sector : length components ≡ p.sectors
   pub connected : AreComponents (map_of p) components
+  pub settled : IsSettled results components
   pub table : DecidesTable p results components v.table
   pub listed : DecidesList results components v.listed
   pub rays : DecidesRays p results v.rays
@@ -109,7 +112,28 @@ abbrev pub HasTreesOfSet : PlanParts → Built → Type 0
 HasTreesOfSet p b = (x y : ℕ) → x < p.sectors → y < p.sectors → x ≢ y → Rejects b.table x y
     → ¬ AreConnected (map_of p) x y ⊎ ((t : Tree) × Contains b.cert.trees t × ((t.source ≡ x) ⊎ (t.source ≡ y)))
 
--- no pair is listed, and each sector has its tree
+-- the certificate has the tree of the sector
+abbrev pub HasTree : Built → ℕ → Type 0
+HasTree b x = (t : Tree) × Contains b.cert.trees t × (t.source ≡ x)
+
+-- no bit is set of the sector with another one that passable lines connect with it
+abbrev pub SeesConnected : PlanParts → Built → ℕ → Type 0
+SeesConnected p b x = (y : ℕ) → y < p.sectors → x ≢ y → AreConnected (map_of p) x y → ¬ Rejects b.table x y
+
+-- no pair is listed, and each sector has its tree, but for those that see all that are connected with them
 pub record IsWhole (p : PlanParts) (b : Built) : Type 0 where
   pub no_list : b.listed ≡ []
-  pub trees : (x : ℕ) → x < p.sectors → (t : Tree) × Contains b.cert.trees t × (t.source ≡ x)
+  pub trees : (x : ℕ) → x < p.sectors → HasTree b x ⊎ SeesConnected p b x
+
+-- the bits and the listed pairs are those that the sequences of the sources over the map's mesh decide, within the budget
+pub record DecidesByMesh (p : PlanParts) (budget : Budget) (b : Built) : Type 0 where
+  pub triangles : List Triangle
+  pub labels : List (Option ℕ)
+  pub mesh : IsMeshOf (map_of p) triangles
+  pub labelled : AreLabelsOf (map_of p) triangles labels
+  pub decides : DecidesOver (map_of p) triangles labels budget p.sectors b.table b.listed
+
+-- the listed pairs are just those of two connected sectors of which neither is found from the other within the budget, and
+-- both budgets ran out; the smaller sector first
+abbrev pub ListsSpent : PlanParts → Budget → Built → Type 0
+ListsSpent p budget b = (q : Pair) → Contains b.listed q ↔ ((q.a < q.b) × IsListed (map_of p) budget q.a q.b)

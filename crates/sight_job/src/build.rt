@@ -1,22 +1,26 @@
 //! The build of one map.
 
-ghost use Rattle.std.specs.Prelude.{◌≡◌, IfErr, IfOk};
+ghost use Rattle.std.specs.Prelude.{◌≡◌, ◌≤◌, IfErr, IfOk};
 ghost use Rattle.sight_names.specs.declared.names.Budget.TheVariants.{Full};
 ghost use Rattle.sight_names.specs.Map.{map_of};
 ghost use Rattle.sight_names.specs.Mesh.{IsGoodMesh};
 ghost use Rattle.sight_names.specs.Sound.{IsSound, LinesMeetAtEnds};
 ghost use Rattle.cert_format.specs.Accepted.{triangles_of, labels_of};
 ghost use Rattle.sight_job.specs.Faces.{AreFacesOf};
-ghost use Rattle.sight_job.specs.Built.{sizes_of, AreWalks, IsBuildFault, AreVerdicts, HasRaysOfClear, RaysJoinPairs, ListsClear, IsSymmetric, HasDiagonal, HasTreesOfSet, HasTrianglesOf, HasWholeTrees, AreShown, AreWholeTrees, IsWhole};
+ghost use Rattle.sight_job.specs.Built.{sizes_of, IsBuildFault, AreVerdicts, HasRaysOfClear, RaysJoinPairs, ListsClear, IsSymmetric, HasDiagonal, HasTreesOfSet, HasTrianglesOf, HasWholeTrees, AreWholeTrees, IsWhole, DecidesByMesh, ListsSpent};
+ghost use Rattle.sight_job.specs.Sight.{AreRaysAlong, HasSightRays, TellsWhoSees};
+ghost use Rattle.pair_budget.specs.Decided.{DecidesOver};
 
 use crate::certificate::{cert_of, labelled};
 use crate::faces::{Faces, faces_of};
 use block_evidence::Tree;
 use cert_format::{Cert, Sizes};
-use pair_budget::{Alone, SourceResult, Verdicts, decide, walk_source};
+use pair_budget::{Verdicts, decide};
 use reject_bits::Table;
 use sight_names::{Budget, BuildFault, Items, LabelFault, Memory, Pair, Plan};
+use sight_workers::{Gate, Job, walk_all};
 use std::alloc::Global;
+use std::thread::Threads;
 use tri_sectors::components;
 
 /// A map's table, the pairs whose budgets ran out, and the certificate of both.
@@ -27,14 +31,23 @@ pub struct Built {
     pub cert: Cert,
 }
 
-/// The table of a map whose lines meet at ends, by the walks of all its sectors within the budget.
+/// The table of a map whose lines meet at ends, by the walks of all its sectors within the budget, which 1 to 64 workers
+/// share. The table and the list are those of one worker.
 ///
 /// # Errors
 ///
 /// `Open` at the least side that names a sector and whose face reaches outside the hull of the points; else `Mixed` at the
 /// least pair of sides on one face that don't name the same sector.
-pub fn build_table(alloc: Global, plan: &Plan, budget: Budget) -> Result<Built, BuildFault>
+pub fn build_table<R: Threads + Sync, G: Gate + Sync>(
+    rt: &R,
+    alloc: Global,
+    plan: &Plan,
+    workers: u16,
+    budget: Budget,
+    gate: &G,
+) -> Result<Built, BuildFault>
     requires audited { LinesMeetAtEnds (map_of plan.now) }
+    requires workers { (1 ≤ workers) × (workers ≤ 64) }
     ensures sound { IfOk result (λ _. IsSound (map_of plan.now)) }
     ensures fault { IfErr result (IsBuildFault (map_of plan.now)) }
     ensures sectors { IfOk result (λ b. b.table.n ≡ plan.now.sectors) }
@@ -50,9 +63,13 @@ pub fn build_table(alloc: Global, plan: &Plan, budget: Budget) -> Result<Built, 
     ensures set { IfOk result (HasTreesOfSet plan.now) }
     ensures trees { IfOk result (λ b. HasWholeTrees plan.now b.cert) }
     ensures whole { budget ≡ Full → IfOk result (IsWhole plan.now) }
+    ensures decided { IfOk result (DecidesByMesh plan.now budget) }
+    ensures spent { IfOk result (ListsSpent plan.now budget) }
+    ensures sight_rays { IfOk result (λ b. HasSightRays (map_of plan.now) b.cert) }
+    ensures sight { IfOk result (λ b. TellsWhoSees (map_of plan.now) b.table b.cert) }
 {
     let shape = sound_faces(alloc, plan)?;
-    let verdicts = verdicts_of(alloc, plan, &shape, budget)?;
+    let verdicts = verdicts_of(rt, alloc, plan, &shape, workers, budget, gate)?;
     let triangles = labelled(alloc, &shape.mesh, &shape.labels)?;
     let listed = Vec::from_slice(alloc, verdicts.listed.as_slice())?;
     let sizes = Sizes {
@@ -88,46 +105,32 @@ fn sound_faces(alloc: Global, plan: &Plan) -> Result<Faces, BuildFault>
     }
 }
 
-/// The walks of all sectors, in order, each by itself.
-fn walks_of(
+/// What the walks of all sectors by so many workers decide.
+fn verdicts_of<R: Threads + Sync, G: Gate + Sync>(
+    rt: &R,
     alloc: Global,
     plan: &Plan,
     shape: &Faces,
+    workers: u16,
     budget: Budget,
-) -> Result<Vec<SourceResult>, Memory>
-    requires audited { LinesMeetAtEnds (map_of plan.now) }
-    requires shape { AreFacesOf plan.now shape.now }
-    ensures walks { IfOk result (λ v. AreWalks plan.now budget v.items) }
-    ensures shown { IfOk result (λ v. AreShown plan.now shape.now.mesh.triangles shape.now.labels v.items) }
-{
-    let mut results = Vec::new(alloc);
-    for source in 0..plan.sectors {
-        results.push(walk_source(
-            alloc,
-            plan,
-            &shape.mesh,
-            &shape.labels,
-            source,
-            budget,
-            &mut Alone,
-        )?)?;
-    }
-    Ok(results)
-}
-
-/// What the walks of all sectors decide.
-fn verdicts_of(
-    alloc: Global,
-    plan: &Plan,
-    shape: &Faces,
-    budget: Budget,
+    gate: &G,
 ) -> Result<Verdicts, Memory>
     requires audited { LinesMeetAtEnds (map_of plan.now) }
     requires shape { AreFacesOf plan.now shape.now }
+    requires workers { (1 ≤ workers) × (workers ≤ 64) }
     ensures verdicts { IfOk result (AreVerdicts plan.now budget) }
     ensures trees { IfOk result (λ v. AreWholeTrees plan.now shape.now.mesh.triangles shape.now.labels v.trees) }
+    ensures over { IfOk result (λ v. DecidesOver (map_of plan.now) shape.now.mesh.triangles shape.now.labels budget plan.now.sectors v.table v.listed) }
+    ensures along { IfOk result (λ v. AreRaysAlong plan.now shape.now.mesh.triangles shape.now.labels v.rays) }
 {
     let classes = components(alloc, plan)?;
-    let results = walks_of(alloc, plan, shape, budget)?;
-    decide(alloc, plan, &classes, results)
+    let job = Job {
+        plan,
+        mesh: &shape.mesh,
+        labels: &shape.labels,
+        components: classes.as_slice(),
+        budget,
+    };
+    let gathered = walk_all(rt, alloc, job, workers, gate)?;
+    decide(alloc, plan, &classes, gathered.results.into_vec())
 }

@@ -11,11 +11,12 @@ use Rattle.sight_job.proofs.BuildLaws.{cert_in_order, cert_is}
 use Rattle.sight_job.proofs.GoodLabelled.{labelled_are_good}
 use Rattle.sight_job.proofs.LabelledLaws.{below}
 use Rattle.sight_job.proofs.RayLaws.{rays_join}
-use Rattle.sight_job.proofs.VerdictLaws.{cert_rays, cert_trees, cert_set, listed_are_clear, both_bits_of, nothing_listed}
+use Rattle.sight_job.proofs.Seeing.{has_sight_rays, tells_who_sees}
+use Rattle.sight_job.proofs.VerdictLaws.{cert_rays, cert_trees, cert_set, listed_are_clear, listed_over, both_bits_of, nothing_listed}
 use Rattle.sight_job.proofs.build.build_table.Goals as goal
 
 pub cert_of-cert-requires : goal.cert_of-cert-requires
-cert_of-cert-requires c =
+cert_of-cert-requires g c =
     let shape = c.in_ok-shape.ensures.faces in
     let ascend = subst (λ (n : ℕ). AreTriangles n (map (λ (l : Labelled). l.triangle) c.in_ok-triangles.triangles.items)) shape.points c.in_ok-triangles.ensures.ascend in
     let sectors = subst (λ (ls : List Labelled). AllByRecursion (λ (l : Labelled). l.sector < c.args.plan.now.sectors) ls) (sym c.in_ok-triangles.ensures.list) (below c.args.plan.now.sectors c.in_ok-shape.shape.mesh.triangles c.in_ok-shape.shape.labels shape.sectors) in
@@ -23,31 +24,31 @@ cert_of-cert-requires c =
     subst IsInOrder (sym (cert_is c.args.plan.now c.in_ok-verdicts.verdicts c.in_ok-triangles.triangles.items _ _ _ _ _ _ (ap (λ (p : PlanParts). p.sectors) c.plan.view_is) (ap length c.points.ensures.list) (ap length c.lines.ensures.list) c.into_vec.ensures (c.in_ok-listed.ensures.items ∙ c.as_slice.ensures) c.into_vec-2.ensures)) good
 
 pub returns-clause-rays : goal.returns-clause-rays
-returns-clause-rays c = cert_rays c.args.plan.now c.args.budget c.in_ok-verdicts.verdicts c.in_ok-verdicts.ensures.verdicts c.cert_of-cert.result (ap (λ (d : CertParts). d.rays) c.cert_of-cert.ensures ∙ c.into_vec.ensures) (ap (λ (d : CertParts). d.listed) c.cert_of-cert.ensures ∙ (c.in_ok-listed.ensures.items ∙ c.as_slice.ensures)) (ap (λ (d : CertParts). d.trees) c.cert_of-cert.ensures ∙ c.into_vec-2.ensures)
+returns-clause-rays g c = cert_rays c.args.plan.now c.args.budget c.in_ok-verdicts.verdicts c.in_ok-verdicts.ensures.verdicts c.cert_of-cert.result (ap (λ (d : CertParts). d.rays) c.cert_of-cert.ensures ∙ c.into_vec.ensures) (ap (λ (d : CertParts). d.listed) c.cert_of-cert.ensures ∙ (c.in_ok-listed.ensures.items ∙ c.as_slice.ensures)) (ap (λ (d : CertParts). d.trees) c.cert_of-cert.ensures ∙ c.into_vec-2.ensures)
 
 pub returns-clause-joined : goal.returns-clause-joined
-returns-clause-joined c = rays_join c.args.plan.now c.args.budget c.in_ok-verdicts.verdicts c.in_ok-verdicts.ensures.verdicts c.cert_of-cert.result.rays (ap (λ (d : CertParts). d.rays) c.cert_of-cert.ensures ∙ c.into_vec.ensures)
+returns-clause-joined g c = rays_join c.args.plan.now c.args.budget c.in_ok-verdicts.verdicts c.in_ok-verdicts.ensures.verdicts c.cert_of-cert.result.rays (ap (λ (d : CertParts). d.rays) c.cert_of-cert.ensures ∙ c.into_vec.ensures)
 
 pub returns-clause-clear : goal.returns-clause-clear
-returns-clause-clear c = listed_are_clear c.args.plan.now c.args.budget c.in_ok-verdicts.verdicts c.in_ok-verdicts.ensures.verdicts
+returns-clause-clear g c = listed_are_clear c.args.plan.now c.args.budget c.in_ok-verdicts.verdicts c.in_ok-verdicts.ensures.verdicts
 
 pub returns-clause-symmetric : goal.returns-clause-symmetric
-returns-clause-symmetric c = both_bits_of c.args.plan.now c.args.budget c.in_ok-verdicts.verdicts c.in_ok-verdicts.ensures.verdicts
+returns-clause-symmetric g c = both_bits_of c.args.plan.now c.args.budget c.in_ok-verdicts.verdicts c.in_ok-verdicts.ensures.verdicts
 
 pub returns-clause-whole : goal.returns-clause-whole
-returns-clause-whole c = λ full. record {
+returns-clause-whole g c = λ full. record {
   no_list = nothing_listed c.args.plan.now c.args.budget c.in_ok-verdicts.verdicts c.in_ok-verdicts.ensures.verdicts full;
   trees = cert_trees c.args.plan.now c.args.budget c.in_ok-verdicts.verdicts c.in_ok-verdicts.ensures.verdicts c.cert_of-cert.result (ap (λ (d : CertParts). d.rays) c.cert_of-cert.ensures ∙ c.into_vec.ensures) (ap (λ (d : CertParts). d.listed) c.cert_of-cert.ensures ∙ (c.in_ok-listed.ensures.items ∙ c.as_slice.ensures)) (ap (λ (d : CertParts). d.trees) c.cert_of-cert.ensures ∙ c.into_vec-2.ensures) full;
 }
 
 pub returns-clause-set : goal.returns-clause-set
-returns-clause-set c = cert_set c.args.plan.now c.args.budget c.in_ok-verdicts.verdicts c.in_ok-verdicts.ensures.verdicts c.cert_of-cert.result (ap (λ (d : CertParts). d.rays) c.cert_of-cert.ensures ∙ c.into_vec.ensures) (ap (λ (d : CertParts). d.listed) c.cert_of-cert.ensures ∙ (c.in_ok-listed.ensures.items ∙ c.as_slice.ensures)) (ap (λ (d : CertParts). d.trees) c.cert_of-cert.ensures ∙ c.into_vec-2.ensures)
+returns-clause-set g c = cert_set c.args.plan.now c.args.budget c.in_ok-verdicts.verdicts c.in_ok-verdicts.ensures.verdicts c.cert_of-cert.result (ap (λ (d : CertParts). d.rays) c.cert_of-cert.ensures ∙ c.into_vec.ensures) (ap (λ (d : CertParts). d.listed) c.cert_of-cert.ensures ∙ (c.in_ok-listed.ensures.items ∙ c.as_slice.ensures)) (ap (λ (d : CertParts). d.trees) c.cert_of-cert.ensures ∙ c.into_vec-2.ensures)
 
 pub returns-clause-mesh : goal.returns-clause-mesh
-returns-clause-mesh c = subst (λ (xs : List Labelled). IsGoodMesh (map_of c.args.plan.now) (map (λ (l : Labelled). l.triangle) xs) (map (λ (l : Labelled). Some l.sector) xs)) (sym (ap (λ (d : CertParts). d.triangles) c.cert_of-cert.ensures ∙ c.in_ok-triangles.ensures.list)) (labelled_are_good (map_of c.args.plan.now) c.in_ok-shape.shape.mesh.triangles c.in_ok-shape.shape.labels c.in_ok-shape.ensures.faces.good)
+returns-clause-mesh g c = subst (λ (xs : List Labelled). IsGoodMesh (map_of c.args.plan.now) (map (λ (l : Labelled). l.triangle) xs) (map (λ (l : Labelled). Some l.sector) xs)) (sym (ap (λ (d : CertParts). d.triangles) c.cert_of-cert.ensures ∙ c.in_ok-triangles.ensures.list)) (labelled_are_good (map_of c.args.plan.now) c.in_ok-shape.shape.mesh.triangles c.in_ok-shape.shape.labels c.in_ok-shape.ensures.faces.good)
 
 pub returns-clause-triangles : goal.returns-clause-triangles
-returns-clause-triangles c = record {
+returns-clause-triangles g c = record {
   triangles = c.in_ok-shape.shape.mesh.triangles;
   labels = c.in_ok-shape.shape.labels;
   mesh = c.in_ok-shape.ensures.faces.mesh;
@@ -56,7 +57,7 @@ returns-clause-triangles c = record {
 }
 
 pub returns-clause-trees : goal.returns-clause-trees
-returns-clause-trees c = record {
+returns-clause-trees g c = record {
   over = record {
     triangles = c.in_ok-shape.shape.mesh.triangles;
     labels = c.in_ok-shape.shape.labels;
@@ -66,3 +67,35 @@ returns-clause-trees c = record {
   };
   trees = subst (AreWholeTrees c.args.plan.now c.in_ok-shape.shape.mesh.triangles c.in_ok-shape.shape.labels) (sym (ap (λ (d : CertParts). d.trees) c.cert_of-cert.ensures ∙ c.into_vec-2.ensures)) c.in_ok-verdicts.ensures.trees;
 }
+
+pub returns-clause-decided : goal.returns-clause-decided
+returns-clause-decided g c = record {
+  triangles = c.in_ok-shape.shape.mesh.triangles;
+  labels = c.in_ok-shape.shape.labels;
+  mesh = c.in_ok-shape.ensures.faces.mesh;
+  labelled = c.in_ok-shape.ensures.faces.labels;
+  decides = c.in_ok-verdicts.ensures.over;
+}
+
+pub returns-clause-spent : goal.returns-clause-spent
+returns-clause-spent g c = λ q.
+    let faces = c.in_ok-shape.ensures.faces in
+    let lists = c.in_ok-verdicts.ensures.over.listed q in (
+      λ there. let l = lists.0 there in (
+        l.0,
+        record {
+          triangles = c.in_ok-shape.shape.mesh.triangles;
+          labels = c.in_ok-shape.shape.labels;
+          mesh = faces.mesh;
+          labelled = faces.labels;
+          listed = l.1;
+        },
+      ),
+      λ h. lists.1 (h.0, listed_over (map_of c.args.plan.now) c.args.budget c.in_ok-shape.shape.mesh.triangles c.in_ok-shape.shape.labels faces.sound.agree faces.mesh faces.labels q.a q.b h.1),
+    )
+
+pub returns-clause-sight_rays : goal.returns-clause-sight_rays
+returns-clause-sight_rays g c = has_sight_rays c.args.plan.now c.points.ensures.plan c.requires.audited c.in_ok-shape.shape.mesh.triangles c.in_ok-shape.shape.labels c.in_ok-shape.ensures.faces.good c.args.budget c.in_ok-verdicts.verdicts c.in_ok-verdicts.ensures.verdicts c.in_ok-verdicts.ensures.over c.in_ok-verdicts.ensures.along c.cert_of-cert.result (ap (λ (d : CertParts). d.rays) c.cert_of-cert.ensures ∙ c.into_vec.ensures) (ap (λ (d : CertParts). d.listed) c.cert_of-cert.ensures ∙ (c.in_ok-listed.ensures.items ∙ c.as_slice.ensures)) (ap (λ (d : CertParts). d.trees) c.cert_of-cert.ensures ∙ c.into_vec-2.ensures)
+
+pub returns-clause-sight : goal.returns-clause-sight
+returns-clause-sight g c = tells_who_sees c.args.plan.now c.points.ensures.plan c.requires.audited c.in_ok-shape.shape.mesh.triangles c.in_ok-shape.shape.labels c.in_ok-shape.ensures.faces.good c.args.budget c.in_ok-verdicts.verdicts c.in_ok-verdicts.ensures.verdicts c.in_ok-verdicts.ensures.over c.in_ok-verdicts.ensures.along c.cert_of-cert.result (ap (λ (d : CertParts). d.rays) c.cert_of-cert.ensures ∙ c.into_vec.ensures) (ap (λ (d : CertParts). d.listed) c.cert_of-cert.ensures ∙ (c.in_ok-listed.ensures.items ∙ c.as_slice.ensures)) (ap (λ (d : CertParts). d.trees) c.cert_of-cert.ensures ∙ c.into_vec-2.ensures)
