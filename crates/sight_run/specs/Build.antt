@@ -3,10 +3,11 @@ use Rattle.std.specs.Prelude.{◌≡◌, ◌≢◌, ◌↔◌, ◌⊎◌, ℕ, �
 use Rattle.sight_names.specs.declared.names.Budget.{Budget}
 use Rattle.sight_names.specs.declared.names.Budget.TheVariants.{Full}
 use Rattle.sight_names.specs.declared.faults.LineFault.{LineFault}
-use Rattle.sight_names.specs.Found.{AreConnected}
+use Rattle.sight_names.specs.declared.names.Pair.{Pair}
+use Rattle.sight_names.specs.Found.{AreConnected, IsListed}
 use Rattle.sight_names.specs.Map.{Map}
 use Rattle.sight_names.specs.Mesh.{IsGoodMesh}
-use Rattle.sight_names.specs.Sound.{LinesMeetAtEnds}
+use Rattle.sight_names.specs.Sound.{IsSound, LinesMeetAtEnds}
 use Rattle.map_audit.specs.Audit.{IsLineFault}
 use Rattle.reject_bits.specs.Parts.{IsWhole, Rejects}
 use Rattle.block_evidence.specs.declared.Tree.{Tree}
@@ -14,7 +15,8 @@ use Rattle.cert_format.specs.Accepted.{IsNamed, labels_of, triangles_of}
 use Rattle.cert_format.specs.Grammar.{IsInOrder, Spells}
 use Rattle.cert_format.specs.Parts.{CertParts}
 use Rattle.sight_job.specs.declared.build.Built.{Built}
-use Rattle.sight_job.specs.Built.{HasRaysOfClear, IsSymmetric, ListsClear}
+use Rattle.sight_job.specs.Built.{HasRaysOfClear, HasTrianglesOf, IsSymmetric, ListsClear, RaysJoinPairs}
+use Rattle.sight_job.specs.Sight.{HasSightRays, TellsWhoSees}
 use Rattle.sight_run.specs.declared.counts.Counts.{Counts}
 use Rattle.sight_run.specs.declared.status.Bound.{Bound}
 use Rattle.sight_run.specs.declared.status.Bound.TheVariants as bound
@@ -27,24 +29,30 @@ use Rattle.sight_run.specs.Answer.{Answer, Written}
 use Rattle.sight_run.specs.Counts.{counts_with, counts_words}
 use Rattle.sight_run.specs.Input.{Found}
 use Rattle.sight_run.specs.Sizes.{sizes_of_map}
+use Rattle.sight_run.specs.Sound.{HasMixedPair, HasOpenSide}
 use Rattle.sight_run.specs.Zero.{with_table}
 
 -- ---- what is built of a map
 
--- no pair is listed, and each sector has its tree
+-- no pair is listed, and each sector has its tree, but for those that see all that passable lines connect with them
 pub record IsExhausted (m : Map) (built : Built) : Type 0 where
   pub no_list : built.listed ≡ []
-  pub trees : (a : ℕ) → a < m.sectors → (t : Tree) × Contains built.cert.trees t × (t.source ≡ a)
+  pub trees : (a : ℕ) → a < m.sectors → ((t : Tree) × Contains built.cert.trees t × (t.source ≡ a)) ⊎ ((b : ℕ) → b < m.sectors → a ≢ b → AreConnected m a b → ¬ Rejects built.table a b)
 
 -- what a build of the map within this budget gives
 pub record IsBuiltOf (m : Map) (budget : Budget) (built : Built) : Type 0 where
   pub sound : LinesMeetAtEnds m
+  -- the map is sound as a whole, and the certificate has the labelled triangles of its mesh
+  pub fit : IsSound m
+  pub triangles : HasTrianglesOf m built.cert
   pub sectors : built.table.n ≡ m.sectors
   pub sizes : built.cert.sizes ≡ sizes_of_map m
   pub listed : built.listed ≡ built.cert.listed
   pub mesh : IsGoodMesh m (triangles_of built.cert) (labels_of built.cert)
   -- the certificate has a ray for just the clear pairs that aren't listed
   pub rays : HasRaysOfClear built
+  -- each in range, from a side that names the first sector of its pair to one that names the second
+  pub joined : RaysJoinPairs m built.cert
   -- both bits of a listed pair are clear
   pub clear : ListsClear built
   pub symmetric : IsSymmetric built
@@ -53,6 +61,12 @@ pub record IsBuiltOf (m : Map) (budget : Budget) (built : Built) : Type 0 where
   -- where a bit of two sectors is set, no passable lines connect them, or the certificate has the tree of one of them
   pub set : (a b : ℕ) → a < m.sectors → b < m.sectors → a ≢ b → Rejects built.table a b → ¬ AreConnected m a b ⊎ ((t : Tree) × Contains built.cert.trees t × ((t.source ≡ a) ⊎ (t.source ≡ b)))
   pub exhausted : budget ≡ Full → IsExhausted m built
+  -- the listed pairs are just those of two connected sectors of which neither is found from the other, and both budgets ran out
+  pub spent : (q : Pair) → Contains built.listed q ↔ ((q.a < q.b) × IsListed m budget q.a q.b)
+  -- each ray of the certificate is a sight ray of its pair
+  pub sight_rays : HasSightRays m built.cert
+  -- sectors whose bit is set don't see each other; those whose bit is clear do, unless their pair is listed
+  pub sight : TellsWhoSees m built.table built.cert
 
 -- the fault of the lines, and no other is
 pub record IsSoleFault (m : Map) (fault : LineFault) : Type 0 where
@@ -64,7 +78,8 @@ abbrev pub Builds : Map → Budget → Result Built Status → Type 0
 Builds m budget (Ok built) = IsBuiltOf m budget built
 Builds m budget (Err status.Memory) = ⊤
 Builds m budget (Err (status.BadMap (flaw.Line fault))) = IsSoleFault m fault
-Builds m budget (Err (status.BadMap other)) = LinesMeetAtEnds m
+Builds m budget (Err (status.BadMap (flaw.Open side))) = LinesMeetAtEnds m × HasOpenSide m side
+Builds m budget (Err (status.BadMap (flaw.Mixed first second))) = LinesMeetAtEnds m × HasMixedPair m first second
 Builds m budget (Err other) = ⊥
 
 -- a refusal that building a table can end with
@@ -136,6 +151,7 @@ IsUnbuildable (Ok found) = ¬ LinesMeetAtEnds found.map
 abbrev pub BuildCalls : List ℕ → List ℕ → Option (List ℕ) → Budget → Found → Result Answer Status → Type 0
 BuildCalls name out asked budget found (Ok answer) = ShowsBuild name out asked budget found answer
 BuildCalls name out asked budget found (Err (status.BadMap (flaw.Line fault))) = IsLineFault found.map fault
-BuildCalls name out asked budget found (Err (status.BadMap other)) = LinesMeetAtEnds found.map
+BuildCalls name out asked budget found (Err (status.BadMap (flaw.Open side))) = LinesMeetAtEnds found.map × HasOpenSide found.map side
+BuildCalls name out asked budget found (Err (status.BadMap (flaw.Mixed first second))) = LinesMeetAtEnds found.map × HasMixedPair found.map first second
 BuildCalls name out asked budget found (Err (status.Limit bound)) = ShowsLimit budget found bound
 BuildCalls name out asked budget found (Err other) = ⊥
