@@ -6,6 +6,7 @@ use Rattle.sight_names.specs.declared.names.Side.{Side}
 use Rattle.sight_names.specs.Map.{Map, MapLine, line_at, sector_on}
 use Rattle.sight_names.specs.Sequence.{roots, sides_of, is_root, names_it}
 use Rattle.sight_names.proofs.Lists.{contains_cases, contains_none}
+use Rattle.mesh_base.proofs.MapFacts.{there_of}
 use Rattle.sight_names.specs.Enough.{is_passable, passable_lines}
 
 module _ {X : Type 0} (test : X → Bool) where
@@ -105,10 +106,6 @@ one_side l a false false e f g h = refl
 one_side l a true true e f g h = refl
 one_side l a false true e f g h = absurd (true≢false (sym f ∙ ap not g))
 one_side l a true false e f g h = absurd (true≢false (sym f ∙ ap not g))
-
-there_of : (o : Option (Option MapLine)) (l : MapLine) → option_and_then (λ (x : Option MapLine). x) o ≡ Some l → o ≡ Some (Some l)
-there_of None l h = absurd (none-some l h)
-there_of (Some o) l h = ap Some h
 
 pub listed : (m : Map) (i : ℕ) (l : MapLine) → line_at m i ≡ Some l → slice_get m.lines i ≡ Some (Some l)
 listed m i l e = there_of (slice_get m.lines i) l e
