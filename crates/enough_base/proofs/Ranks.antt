@@ -1,5 +1,5 @@
 -- How many members with a property stand before a place, and what the lines of roots are.
-use Rattle.std.proofs.Common.{◌≡◌, ℕ, zero, suc, ◌+◌, ◌<◌, ◌≤◌, arith, refl, sym, ap, ◌∙◌, inl, inr, List, [], ◌∷◌, length, filter, Bool, true, false, not, ◌&&◌, cond, Option, Some, None, slice_get, Contains, option_and_then}
+use Rattle.std.proofs.Common.{◌≡◌, ℕ, zero, suc, ◌+◌, ◌<◌, ◌≤◌, arith, refl, sym, ap, ◌∙◌, inl, inr, List, [], ◌∷◌, length, filter, Bool, true, false, not, ◌&&◌, cond, Option, Some, None, slice_get, Contains}
 use Rattle.std.proofs.lemmas.Bool.{true≢false}
 use Rattle.std.proofs.lemmas.Option.{none-some, same_Some}
 use Rattle.sight_names.specs.declared.names.Side.{Side}
