@@ -6,6 +6,3 @@ mod rewrite;
 
 pub use lumps::Lump;
 pub use rewrite::{with_reject, write_wad};
-
-#[cfg(test)]
-mod tests;
