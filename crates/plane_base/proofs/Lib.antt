@@ -1,3 +1,4 @@
+pub mod Linear
 pub mod Vec
 pub mod Wedge
 pub mod Near

@@ -1,11 +1,10 @@
 -- Finite search in lists.
-use Rattle.std.proofs.Common.{◌≡◌, ℤ, pos, ◌+ℤ◌, ◌*ℤ◌, ◌-ℤ◌, ◌≤ℤ◌, ◌<ℤ◌, neg_ℤ, arith, refl, sym, ap, ◌∙◌, subst, ◌⊎◌, inl, inr, List, [], ◌∷◌}
+use Rattle.std.proofs.Common.{◌≡◌, ℤ, pos, ◌+ℤ◌, ◌*ℤ◌, ◌-ℤ◌, ◌≤ℤ◌, ◌<ℤ◌, neg_ℤ, arith, refl, sym, subst, ◌⊎◌, inl, inr, List, [], ◌∷◌}
 use borrow.Author.Differences.{ints}
-use lib.IntN.{*ℤ-zero, zero-*ℤ, *ℤ_comm}
+use lib.IntN.{*ℤ_comm}
 use Rattle.exact_ring.proofs.IntLaws.{neg-*ℤ}
 use Rattle.exact_ring.proofs.Quoting.{quoting, by_ring}
-use Rattle.exact_ring.proofs.Signs.{mul-pos, mul-nonneg, pos-of-mul, nonneg-of-mul, le_or_lt}
-use Rattle.plane_base.proofs.Wedge.{mul_np, mul_neg_pos, pos_neg, mul_pn}
+use Rattle.exact_ring.proofs.Signs.{mul-nonneg, nonneg-of-mul, le_or_lt}
 
 abbrev pub In : {A : Type 0} → A → List A → Type 0
 In x [] = ⊥
