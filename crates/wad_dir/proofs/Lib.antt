@@ -2,3 +2,4 @@ pub mod Outside
 pub mod Under
 pub mod Names
 pub mod Printed
+pub mod Inserted
