@@ -3,3 +3,4 @@ pub mod Under
 pub mod Names
 pub mod Printed
 pub mod Inserted
+pub mod Spots
