@@ -4,3 +4,4 @@ pub mod Names
 pub mod Printed
 pub mod Inserted
 pub mod Spots
+pub mod Rewritten
