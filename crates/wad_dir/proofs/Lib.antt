@@ -5,3 +5,4 @@ pub mod Printed
 pub mod Inserted
 pub mod Spots
 pub mod Rewritten
+pub mod Eight

@@ -163,3 +163,96 @@ module _ (ns : List (List ℕ)) (name : List ℕ) (spot : MapSpot) (p : IsSpot n
 
     pub spot_put : spot_of put name ≡ Ok (spot_then spot)
     spot_put = spot_from put name _ parts_put ∙ ap (λ (x : MapSpot). Ok x) (is_then ∙ ap spot_then (ap (spot_at p.marker p.l p.s p.v p.c) (sym none) ∙ sym p.is))
+
+-- ---- one is there, or none
+
+-- the spot with another REJECT
+abbrev with_place : MapSpot → Option ℕ → MapSpot
+with_place spot o = record { marker = spot.marker; linedefs = spot.linedefs; sidedefs = spot.sidedefs; vertexes = spot.vertexes; sectors = spot.sectors; reject = o }
+
+abbrev rewritten : WadFile → MapSpot → Option ℕ → List ℕ → WadFile
+rewritten w spot o table = with_reject w (with_place spot o) table
+
+none_of : (by : ℕ) (r : Option ℕ) → None ≡ shifted by r → r ≡ None
+none_of by None e = refl
+none_of by (Some k) e = absurd cc
+
+record IsShifted (by : ℕ) (r : Option ℕ) (place : ℕ) : Type 0 where
+  k : ℕ
+  is : r ≡ Some k
+  at : place ≡ by + k
+
+some_of : (by : ℕ) (r : Option ℕ) (at : ℕ) → Some at ≡ shifted by r → IsShifted by r at
+some_of by None at e = absurd cc
+some_of by (Some k) at e = record { k = k; is = refl; at = cc }
+
+get_moved : {X : Type 0} (xs : List X) (s k : ℕ) (x : X) → s < length xs → slice_get (insert xs (s + 1) x) (moved s k) ≡ slice_get xs k
+get_moved {X} xs s k x lt = by (nat_lt s k) refl
+  where
+    by : (b : Bool) → nat_lt s k ≡ b → slice_get (insert xs (s + 1) x) (if b then k + 1 else k) ≡ slice_get xs k
+    by true e =
+        let same : k + 1 ≡ suc k = omega arith in
+        let l : s < k = (Decides-ltb s k).0 e in
+        ap (λ (i : ℕ). slice_get (insert xs (s + 1) x) i) same ∙ get_behind xs (s + 1) k x (omega (arith, lt)) (omega (arith, l))
+    by false e =
+        let not : ¬ (s < k) = not_from_Decides (nat_lt s k) (Decides-ltb s k) e in
+        get_before xs (s + 1) k x (omega (arith, lt)) (omega (arith, not))
+
+names_put : (w : WadFile) (spot : MapSpot) (table : List ℕ) → names_of (rewritten w spot None table) ≡ insert (names_of w) (spot.sectors + 1) padded
+names_put w spot table = map_insert (λ (l : WadLump). l.name) w.lumps (spot.sectors + 1) (reject_lump table)
+
+names_stay : (w : WadFile) (spot : MapSpot) (r : ℕ) (table : List ℕ) → names_of (rewritten w spot (Some r) table) ≡ names_of w
+names_stay w spot r table = map-set_same (λ (l : WadLump). l.name) w.lumps r (with_bytes (get_or w.lumps r (reject_lump table)) table) (reject_lump table) refl
+
+kept_none : (w : WadFile) (name : List ℕ) (spot : MapSpot) (table : List ℕ) → spot_of (names_of w) name ≡ Ok (with_place spot None) → same_name word name ≡ false → IsKept name (with_place spot None) table w (rewritten w spot None table)
+kept_none w name spot table found other =
+    let p = spot_parts (names_of w) name (with_place spot None) found in
+    let none : p.r ≡ None = none_of (p.marker + 1) p.r (ap (λ (x : MapSpot). x.reject) p.is) in
+    let within : spot.sectors < length w.lumps = (let a = sectors_within (names_of w) name (with_place spot None) p in let b = length-map w.lumps (λ (l : WadLump). l.name) in omega (arith, a, b)) in
+    let moves : (k : ℕ) → slice_get (insert w.lumps (spot.sectors + 1) (reject_lump table)) (moved spot.sectors k) ≡ slice_get w.lumps k = (λ k. get_moved w.lumps spot.sectors k (reject_lump table) within) in
+    record {
+      found = ap (λ (ns : List (List ℕ)). spot_of ns name) (names_put w spot table) ∙ spot_put (names_of w) name (with_place spot None) p other none;
+      linedefs = moves spot.linedefs;
+      sidedefs = moves spot.sidedefs;
+      vertexes = moves spot.vertexes;
+      sectors = moves spot.sectors;
+      reject = (reject_lump table, get_at w.lumps (spot.sectors + 1) (reject_lump table) (omega (arith, within)), refl);
+      others = λ k not. moves k;
+      count = length-insert w.lumps (spot.sectors + 1) (reject_lump table) (omega (arith, within));
+    }
+
+kept_some : (w : WadFile) (name : List ℕ) (spot : MapSpot) (r : ℕ) (table : List ℕ) → spot_of (names_of w) name ≡ Ok (with_place spot (Some r)) → IsKept name (with_place spot (Some r)) table w (rewritten w spot (Some r) table)
+kept_some w name spot r table found =
+    let p = spot_parts (names_of w) name (with_place spot (Some r)) found in
+    let run : List (List ℕ) = more [] (drop (p.marker + 1) (names_of w)) in
+    let at = some_of (p.marker + 1) p.r r (ap (λ (x : MapSpot). x.reject) p.is) in
+    let there : place word run ≡ Some at.k = p.reject ∙ at.is in
+    let within : r < length w.lumps = (
+        let a = place_bound (λ n. same_name n word) run 0 at.k there in
+        let b = more_short [] (drop (p.marker + 1) (names_of w)) in
+        let d = after_length (names_of w) name (with_place spot (Some r)) p in
+        let e = length-map w.lumps (λ (l : WadLump). l.name) in
+        let f = at.at in
+        omega (arith, a.1, b, d, e, f)) in
+    let lump : WadLump = with_bytes (get_or w.lumps r (reject_lump table)) table in
+    let stays : (k : ℕ) → k ≢ r → slice_get (set w.lumps r lump) k ≡ slice_get w.lumps k = (λ k not. get_other w.lumps r k lump not) in
+    let clash : (x : List ℕ) (k j : ℕ) → j ≡ p.marker + 1 + k → place x run ≡ Some k → ((n : ℕ) → place x run ≡ Some n → place word run ≡ Some n → ⊥) → j ≢ r =
+        (λ x k j is here never same. let e : at.k ≡ k = (let f = at.at in omega (arith, is, same, f)) in never k here (there ∙ ap (λ (n : ℕ). Some n) e)) in
+    record {
+      found = ap (λ (ns : List (List ℕ)). spot_of ns name) (names_stay w spot r table) ∙ found;
+      linedefs = stays spot.linedefs (clash (codes "LINEDEFS") p.l spot.linedefs (ap (λ (x : MapSpot). x.linedefs) p.is) p.linedefs (λ n. apart (codes "LINEDEFS") word run 0 n refl));
+      sidedefs = stays spot.sidedefs (clash (codes "SIDEDEFS") p.s spot.sidedefs (ap (λ (x : MapSpot). x.sidedefs) p.is) p.sidedefs (λ n. apart (codes "SIDEDEFS") word run 0 n refl));
+      vertexes = stays spot.vertexes (clash (codes "VERTEXES") p.v spot.vertexes (ap (λ (x : MapSpot). x.vertexes) p.is) p.vertexes (λ n. apart (codes "VERTEXES") word run 0 n refl));
+      sectors = stays spot.sectors (clash (codes "SECTORS") p.c spot.sectors (ap (λ (x : MapSpot). x.sectors) p.is) p.sectors (λ n. apart (codes "SECTORS") word run 0 n refl));
+      reject = (lump, get_set w.lumps r lump within, refl);
+      others = λ k not. stays k (λ e. not (ap (λ (n : ℕ). Some n) (sym e)));
+      count = length-set w.lumps r lump;
+    }
+
+-- a map that isn't called REJECT is found again, and all is kept
+pub kept : (w : WadFile) (name : List ℕ) (spot : MapSpot) (table : List ℕ) → spot_of (names_of w) name ≡ Ok spot → same_name word name ≡ false → IsKept name spot table w (with_reject w spot table)
+kept w name spot table found other = by spot.reject found
+  where
+    by : (o : Option ℕ) → spot_of (names_of w) name ≡ Ok (with_place spot o) → IsKept name (with_place spot o) table w (rewritten w spot o table)
+    by None h = kept_none w name spot table h other
+    by (Some r) h = kept_some w name spot r table h
