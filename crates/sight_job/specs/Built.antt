@@ -1,6 +1,7 @@
 -- What a build gives.
 use Rattle.std.specs.Prelude.{◌≡◌, ◌≢◌, ℕ, ◌<◌, ◌⊎◌, ◌↔◌, List, [], Option, Some, length, slice_get, Contains, true, ⊤}
 use Rattle.std.specs.List.{AllByRecursion}
+use Rattle.sight_names.specs.declared.names.Ask.{Ask}
 use Rattle.sight_names.specs.declared.names.Budget.{Budget}
 use Rattle.sight_names.specs.declared.names.Pair.{Pair}
 use Rattle.sight_names.specs.declared.names.PairRay.{PairRay}
@@ -14,6 +15,7 @@ use Rattle.sight_names.specs.Mesh.{AreLabelsOf, IsMeshOf}
 use Rattle.cert_format.specs.Parts.{CertParts}
 use Rattle.sight_job.specs.Labelled.{labelled_of}
 use Rattle.sight_names.specs.Plan.{PlanParts}
+use Rattle.sight_names.specs.Enough.{IsBudgetOf}
 use Rattle.sight_names.specs.Found.{AreConnected, IsListed}
 use Rattle.tri_sectors.specs.Components.{AreComponents}
 use Rattle.block_evidence.specs.declared.Tree.{Tree}
@@ -134,15 +136,20 @@ pub record IsWhole (p : PlanParts) (b : Built) : Type 0 where
   pub no_list : b.listed ≡ []
   pub trees : (x : ℕ) → x < p.sectors → HasTree b x ⊎ SeesConnected p b x
 
--- the bits and the listed pairs are those that the sequences of the sources over the map's mesh decide, within the budget
-pub record DecidesByMesh (p : PlanParts) (budget : Budget) (b : Built) : Type 0 where
+-- the bits and the listed pairs are those that the sequences of the sources over the map's mesh decide, within the budget that
+-- was asked for
+pub record DecidesByMesh (p : PlanParts) (ask : Ask) (b : Built) : Type 0 where
+  pub budget : Budget
+  pub is_budget : IsBudgetOf (map_of p) ask budget
   pub triangles : List Triangle
   pub labels : List (Option ℕ)
   pub mesh : IsMeshOf (map_of p) triangles
   pub labelled : AreLabelsOf (map_of p) triangles labels
   pub decides : DecidesOver (map_of p) triangles labels budget p.sectors b.table b.listed
 
--- the listed pairs are just those of two connected sectors of which neither is found from the other within the budget, and
--- both budgets ran out; the smaller sector first
-abbrev pub ListsSpent : PlanParts → Budget → Built → Type 0
-ListsSpent p budget b = (q : Pair) → Contains b.listed q ↔ ((q.a < q.b) × IsListed (map_of p) budget q.a q.b)
+-- the listed pairs are just those of two connected sectors of which neither is found from the other within the budget that was
+-- asked for, and both budgets ran out; the smaller sector first
+pub record ListsSpent (p : PlanParts) (ask : Ask) (b : Built) : Type 0 where
+  pub budget : Budget
+  pub is_budget : IsBudgetOf (map_of p) ask budget
+  pub exactly : (q : Pair) → Contains b.listed q ↔ ((q.a < q.b) × IsListed (map_of p) budget q.a q.b)
