@@ -24,10 +24,10 @@ use Rattle.tree_judge.specs.Trees.{IsFirstTreeNotWhole}
 use Rattle.tree_judge.proofs.Chains.{way_is}
 use Rattle.tree_judge.proofs.OneAnswer.{one_answer}
 
-three : (i j : ℕ) → (i < j) ⊎ (i ≡ j) ⊎ (j < i)
+pub three : (i j : ℕ) → (i < j) ⊎ (i ≡ j) ⊎ (j < i)
 three i j = grind arith
 
-same_some : {X : Type 0} (x y : X) (o : Option X) → o ≡ Some x → o ≡ Some y → x ≡ y
+pub same_some : {X : Type 0} (x y : X) (o : Option X) → o ≡ Some x → o ≡ Some y → x ≡ y
 same_some x y o e f = cc
 
 -- ---- the entries of a mesh are one list
