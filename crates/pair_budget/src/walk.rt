@@ -49,7 +49,7 @@ pub fn walk_source<N: Notice>(
     requires audited { LinesMeetAtEnds (map_of plan.now) }
     requires good { IsGoodMesh (map_of plan.now) mesh.now.triangles labels.now }
     requires source { source < plan.now.sectors }
-    requires hears { (b : ℕ) → Found (map_of plan.now) mesh.now.triangles labels.now source b budget → N.may_hear notice.old (ordered source b) }
+    requires hears { (b : ℕ) → b ≢ source → b < plan.now.sectors → Found (map_of plan.now) mesh.now.triangles labels.now source b budget → N.may_hear notice.old (ordered source b) }
     ensures source { IfOk result (λ r. r.source ≡ source) }
     ensures found { IfOk result (λ r. AreReached plan.now source r.found) }
     ensures outcome { IfOk result (λ r. IsOutcome source budget (N.may_settle notice.old) r.outcome) }
@@ -103,7 +103,7 @@ fn walk_on<N: Notice>(
     requires due { due walker ≡ map root_alone (roots (map_of walker.plan) walker.source) }
     requires no_nodes { walker.nodes ≡ [] }
     requires nothing { finds.old.found ≡ [] }
-    requires hears { (b : ℕ) → Found (map_of walker.plan) walker.mesh.triangles walker.labels walker.source b budget → N.may_hear notice.old (ordered source b) }
+    requires hears { (b : ℕ) → b ≢ walker.source → b < walker.plan.sectors → Found (map_of walker.plan) walker.mesh.triangles walker.labels walker.source b budget → N.may_hear notice.old (ordered source b) }
     ensures finds { Extends finds.old finds.new }
     ensures outcome { IfOk result (λ o. IsOutcome source budget (N.may_settle notice.old) o) }
     ensures exact { IfOk result (λ o. IsExact (map_of walker.entry.plan) walker.entry.mesh.triangles walker.entry.labels walker.entry.source budget finds.new.found o) }

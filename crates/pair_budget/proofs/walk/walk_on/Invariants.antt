@@ -1,4 +1,4 @@
-use Rattle.std.proofs.Common.{◌≡◌, ℕ, ◌<◌}
+use Rattle.std.proofs.Common.{◌≡◌, ◌≢◌, ℕ, ◌<◌}
 use Rattle.sight_names.specs.declared.names.Budget.TheVariants.{Full}
 use Rattle.sight_names.specs.Found.{Found}
 use Rattle.sight_names.specs.Map.{map_of}
@@ -20,7 +20,7 @@ invariant-loop-walker g l = record {
   exact : FindsOver l.walker l.fn.budget l.left l.finds.found;
   through : ThroughOver l.walker l.finds.found;
   full : l.fn.budget ≡ Full → l.left ≡ Full;
-  hears : (b : ℕ) → Found (map_of l.fn.walker.plan) l.fn.walker.mesh.triangles l.fn.walker.labels l.fn.walker.source b l.fn.budget → g.N.Notice.may_hear l.notice (ordered l.source b);
+  hears : (b : ℕ) → b ≢ l.fn.walker.source → b < l.fn.walker.plan.sectors → Found (map_of l.fn.walker.plan) l.fn.walker.mesh.triangles l.fn.walker.labels l.fn.walker.source b l.fn.budget → g.N.Notice.may_hear l.notice (ordered l.source b);
   tag : g.N.Notice.tag l.notice ≡ g.N.Notice.tag l.fn.notice;
   kept : Grows (g.N.Notice.marks l.fn.notice) (g.N.Notice.marks l.notice);
   marks : MarksFound l.source l.finds.found (g.N.Notice.marks l.fn.notice) (g.N.Notice.marks l.notice);
