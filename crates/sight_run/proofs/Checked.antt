@@ -22,7 +22,13 @@ use Rattle.cert_format.specs.Grammar.{Spells}
 use Rattle.cert_format.specs.Parts.{CertParts}
 use Rattle.cert_format.specs.Reading.{reading}
 use Rattle.cert_format.proofs.WholeLaws.{spells_again}
+use Rattle.reject_bits.specs.Parts.{TableParts}
 use Rattle.cert_checker.specs.declared.verdict.Totals.{Totals}
+use Rattle.cert_checker.specs.declared.verdict.Verdict.TheVariants as verdict
+use Rattle.cert_checker.specs.Pairs.{AreTotals}
+use Rattle.cert_checker.proofs.SameBits.{HaveOneBits, promised_same}
+use Rattle.sight_run.specs.declared.counts.Counts.{Counts}
+use Rattle.sight_run.specs.Counts.{counts_with}
 use Rattle.sight_job.specs.declared.build.Built.{Built}
 use Rattle.sight_run.specs.declared.status.Flaw.TheVariants as flaw
 use Rattle.sight_run.specs.declared.status.Status.{Status}
@@ -38,8 +44,9 @@ use Rattle.sight_run.specs.Sizes.{sizes_of_map}
 use Rattle.sight_run.specs.Sound.{OnSoundLines}
 use Rattle.sight_run.specs.Words.{asked_of, file_names, has_twice, is_built, of_order}
 use Rattle.sight_run.specs.Zero.{table_len}
-use Rattle.sight_run.specs.Laws.{AcceptsBuilt, AskBoth, BuiltIsChecked, HaveBoth, IsShort, SaysYes}
+use Rattle.sight_run.specs.Laws.{AcceptsBuilt, AskBoth, BuiltIsChecked, HaveBoth, IsShort, SaysYes, totals_of}
 use Rattle.sight_run.proofs.Round.{IsFoundAgain, found_again, found_then, passes, same_ok}
+use Rattle.sight_run.proofs.Totals.{same_counts}
 
 -- ---- the words
 
@@ -158,16 +165,21 @@ spelled_reads m c bytes e h = ap of_reading (ap (λ s. reading s bytes) (sym e) 
 
 -- ---- the verdict
 
-record IsYesFor (m : Map) (given : Result Answer Status) : Type 0 where
+record IsYesFor (m : Map) (t : TableParts) (c : CertParts) (given : Result Answer Status) : Type 0 where
   totals : Totals
+  are : AreTotals t c.listed m.sectors totals
   is : given ≡ Ok (only_line (yes_line m.sectors totals))
 
-verdict_yes : (m : Map) (b : Brought) (given : Result Answer Status) → IsAccepted m b.table b.cert → IsVerdictOn m b given → IsYesFor m given
-verdict_yes m b given h v = by given v.called
+-- the bytes are those of a table whose certificate is accepted
+verdict_yes : (m : Map) (t : TableParts) (c : CertParts) (given : Result Answer Status) → t.n ≡ m.sectors → IsAccepted m t.bytes c → IsVerdictOn m (brought_as t.bytes c) given → IsYesFor m t c given
+verdict_yes m t c given n h v = by given v.called
   where
-    by : (r : Result Answer Status) → VerdictCalls m v.table b.cert r → IsYesFor m r
-    by (Ok answer) k = record { totals = k.totals; is = ap (λ (x : Answer). Ok x) k.is }
-    by (Err (status.No (why.Check f))) k = absurd (k.accepted.1 (accepted_same m b.table v.table.bytes b.cert v.spelled.bits h))
+    same : HaveOneBits m v.table t
+    same = record { first = v.spelled.sectors; second = n; bits = v.spelled.bits }
+
+    by : (r : Result Answer Status) → VerdictCalls m v.table c r → IsYesFor m t c r
+    by (Ok answer) k = record { totals = k.totals; are = (promised_same m c v.table t same (verdict.Yes k.totals) k.judged.pairs).1; is = ap (λ (x : Answer). Ok x) k.is }
+    by (Err (status.No (why.Check f))) k = absurd (k.accepted.1 (accepted_same m t.bytes v.table.bytes c v.spelled.bits h))
     by (Err s) k = absurd k
 
 past_lines : (m : Map) (b : Brought) (given : Result Answer Status) → LinesMeetAtEnds m → OnSoundLines m (OnBrought m (Ok b)) given → IsVerdictOn m b given
@@ -199,7 +211,7 @@ module _ (accepts : AcceptsBuilt) (name out cert : List ℕ) (budget : Budget) (
   checked : (old spelled : List ℕ) → found_in name old ≡ Ok found → same_name (codes "REJECT") name ≡ false → bytes_eq out cert ≡ false
       → (shows : ShowsBuild name out (Some cert) budget found answer) → shows.spelled ≡ Some spelled → Spells shows.built.cert.sizes spelled shows.built.cert
       → HaveBoth (put_all files answer.writes) others out cert → IsShort others cert
-      → OnFound (found_of out name others) (CheckCalls cert others) given → IsYesFor found.map given
+      → OnFound (found_of out name others) (CheckCalls cert others) given → IsYesFor found.map shows.built.table shows.built.cert given
   unfolding found_of
   checked old spelled h other apart shows is spells have short q =
       let table : List ℕ = shows.built.table.bytes in
@@ -214,7 +226,7 @@ module _ (accepts : AcceptsBuilt) (name out cert : List ℕ) (budget : Budget) (
       let brings : brought cert (found_then found table) others ≡ Ok (brought_as table c) =
           is_brought cert (found_then found table) others table spelled c (right_length found.map.sectors (reject_of (found_then found table)) table again.reject len)
               (cert_fetched (others cert) spelled at_cert (short spelled at_cert)) (spelled_reads found.map c spelled shows.is_built.sizes spells) in
-      verdict_yes found.map (brought_as table c) given (accepts found.map budget shows.built shows.is_built)
+      verdict_yes found.map shows.built.table c given shows.is_built.sectors (accepts found.map budget shows.built shows.is_built)
           (past_lines found.map (brought_as table c) given shows.is_built.sound (subst (λ (r : Result Brought Status). OnSoundLines found.map (OnBrought found.map r) given) brings asked))
 
 pub built_is_checked : AcceptsBuilt → BuiltIsChecked
@@ -233,4 +245,6 @@ built_is_checked accepts build check name out cert files others answer given ask
         by (Some spelled) f a =
             let old = bytes_of ask.wad name files found e in
             let yes = checked accepts name out cert ask.budget files others found answer given old.bytes spelled old.are ask.other apart shows f a have short asked in
-            record { sectors = found.map.sectors; totals = yes.totals; is = yes.is }
+            let counts = counts_with shows.built.table (length shows.built.cert.listed) in
+            let same = same_counts shows.built.table shows.built.cert.listed found.map.sectors yes.totals shows.is_built.symmetric shows.is_built.sectors yes.are in
+            record { counts = counts; built = ap (λ (x : Answer). x.line) shows.is; is = yes.is ∙ ap (λ (k : Counts). Ok (only_line (yes_line k.sectors (totals_of k)))) same }

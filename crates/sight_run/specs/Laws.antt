@@ -40,17 +40,21 @@ pub record HaveBoth (files others : Files) (out cert : List ℕ) : Type 0 where
 abbrev pub IsShort : Files → List ℕ → Type 0
 IsShort files name = (bytes : List ℕ) → files name ≡ Some bytes → length bytes ≤ 9223372036854775807
 
--- the answer to the check is yes, with the totals of its line
+-- the totals that these counts are
+abbrev pub totals_of : Counts → Totals
+totals_of counts = record { set = counts.set; clear = counts.clear; listed = counts.listed }
+
+-- the answer to the check is yes, with the counts of the build's line
 pub record SaysYes (name : List ℕ) (answer : Answer) (given : Result Answer Status) : Type 0 where
-  pub sectors : ℕ
-  pub totals : Totals
-  pub is : given ≡ Ok (only_line (yes_line sectors totals))
+  pub counts : Counts
+  pub built : answer.line ≡ build_line name counts
+  pub is : given ≡ Ok (only_line (yes_line counts.sectors (totals_of counts)))
 
 -- whatever is built is accepted
 abbrev pub AcceptsBuilt : Type 0
 AcceptsBuilt = (m : Map) (budget : Budget) (built : Built) → IsBuiltOf m budget built → IsAccepted m built.table.bytes built.cert
 
--- Where a build is answered, the one answer to the check of what it wrote is yes.
+-- Where a build is answered, the one answer to the check of what it wrote is yes, with the same counts.
 abbrev pub BuiltIsChecked : Type 0
 BuiltIsChecked = (build check : List (List ℕ)) (name out cert : List ℕ) (files others : Files) (answer : Answer) (given : Result Answer Status)
     → AskBoth build check name out cert → IsAnswer build files (Ok answer)
