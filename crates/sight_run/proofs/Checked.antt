@@ -1,6 +1,7 @@
 -- The check of what a build wrote has one answer, and it is yes.
-use Rattle.std.proofs.Common.{◌≡◌, ℕ, zero, suc, ◌+◌, ◌*◌, ◌^◌, ◌<◌, ◌≤◌, ◌⊎◌, inl, inr, List, [], ◌∷◌, length, Bool, true, false, not, ◌||◌, ◌==◌, if◌then◌else◌, nat_lt, Option, Some, None, Result, Ok, Err, refl, sym, ap, ◌∙◌, subst, arith}
+use Rattle.std.proofs.Common.{◌≡◌, ℕ, zero, suc, ◌+◌, ◌*◌, ◌^◌, ◌<◌, ◌≤◌, ◌⊎◌, inl, inr, List, [], ◌∷◌, ◌++◌, length, Bool, true, false, not, ◌||◌, ◌==◌, if◌then◌else◌, nat_lt, Option, Some, None, Result, Ok, Err, refl, sym, ap, ◌∙◌, subst, arith}
 use Rattle.std.specs.Prelude.{bytes_eq, codes, ⊤}
+use Rattle.std.specs.Option.{option_map}
 use Rattle.std.proofs.lemmas.Bool.{le-ltb}
 use Rattle.std.proofs.lemmas.Bool.Decides.{Decides-eqb}
 use Rattle.std.proofs.lemmas.Slice.Eq.{bytes_eq-Decides}
@@ -12,7 +13,8 @@ use Rattle.sight_names.specs.Map.{Map}
 use Rattle.sight_names.specs.Sound.{LinesMeetAtEnds}
 use Rattle.sight_names.specs.Table.{table_bit}
 use Rattle.map_audit.proofs.AuditLemmas.{not_sound}
-use Rattle.shelf_io.specs.Shelf.{Files, content_of, put}
+use Rattle.shelf_io.specs.Shelf.{Files, ShelfState, content_of, put}
+use Rattle.shelf_io.specs.Sink.{SinkState}
 use Rattle.wad_dir.specs.Map.{same_name}
 use Rattle.order_words.specs.declared.order.Order.{Order}
 use Rattle.order_words.specs.declared.order.Order.TheVariants as order
@@ -31,20 +33,22 @@ use Rattle.sight_run.specs.declared.counts.Counts.{Counts}
 use Rattle.sight_run.specs.Counts.{counts_with}
 use Rattle.sight_job.specs.declared.build.Built.{Built}
 use Rattle.sight_run.specs.declared.status.Flaw.TheVariants as flaw
+use Rattle.sight_run.specs.declared.status.Role.{Role}
+use Rattle.sight_run.specs.declared.status.Role.TheVariants as role
 use Rattle.sight_run.specs.declared.status.Status.{Status}
 use Rattle.sight_run.specs.declared.status.Status.TheVariants as status
 use Rattle.sight_run.specs.declared.status.Why.TheVariants as why
-use Rattle.sight_run.specs.Answer.{Answer, ◌>>=◌, only_line}
+use Rattle.sight_run.specs.Answer.{Answer, ◌>>=◌, IsTheAnswer, only_line}
 use Rattle.sight_run.specs.Build.{AreAsked, BuildCalls, IsBuiltOf, ShowsBuild, build_writes}
 use Rattle.sight_run.specs.Check.{Brought, CheckCalls, IsVerdictOn, OnBrought, VerdictCalls, brought, cert_in, of_cert_fetch, of_length, of_reading, reject_of, yes_line}
 use Rattle.sight_run.specs.Input.{Found, OnFound, found_in, found_of, of_fetch}
 use Rattle.sight_run.specs.Obeys.{AnswersAsked, IsAnswer, Obeys}
-use Rattle.sight_run.specs.Run.{put_all}
+use Rattle.sight_run.specs.Run.{IsBrokenBy, RunEnds, StandsUpTo, put_all}
 use Rattle.sight_run.specs.Sizes.{sizes_of_map}
 use Rattle.sight_run.specs.Sound.{OnSoundLines}
 use Rattle.sight_run.specs.Words.{asked_of, file_names, has_twice, is_built, of_order}
 use Rattle.sight_run.specs.Zero.{table_len}
-use Rattle.sight_run.specs.Laws.{AcceptsBuilt, AskBoth, BuiltIsChecked, HaveBoth, IsShort, SaysYes, totals_of}
+use Rattle.sight_run.specs.Laws.{AcceptsBuilt, AskBoth, BuiltIsChecked, BuiltRunIsChecked, ChecksYes, EndWithYes, HaveBoth, IsShort, SaysYes, Sinks, totals_of}
 use Rattle.sight_run.proofs.Round.{IsFoundAgain, found_again, found_then, passes, same_ok}
 use Rattle.sight_run.proofs.Totals.{same_counts}
 
@@ -230,21 +234,76 @@ module _ (accepts : AcceptsBuilt) (name out cert : List ℕ) (budget : Budget) (
           (past_lines found.map (brought_as table c) given shows.is_built.sound (subst (λ (r : Result Brought Status). OnSoundLines found.map (OnBrought found.map r) given) brings asked))
 
 pub built_is_checked : AcceptsBuilt → BuiltIsChecked
-built_is_checked accepts build check name out cert files others answer given ask h have short q =
-    on (found_of ask.wad name files) refl (subst (λ r. AnswersAsked r files (Ok answer)) ask.built h) (subst (λ r. AnswersAsked r others given) ask.checked q)
+built_is_checked accepts build check name out cert files others answer ask h have short =
+    on (found_of ask.wad name files) refl (subst (λ r. AnswersAsked r files (Ok answer)) ask.built h)
   where
     apart : bytes_eq out cert ≡ false
     apart = differ ask.wad out cert (of_words build _ ask.built)
 
-    on : (r : Result Found Status) → found_of ask.wad name files ≡ r → OnFound r (BuildCalls name out (Some cert) ask.budget) (Ok answer) → OnFound (found_of out name others) (CheckCalls cert others) given → SaysYes name answer given
-    on (Err s) e shows asked = absurd cc
-    on (Ok found) e shows asked = by shows.spelled refl shows.are_asked
+    on : (r : Result Found Status) → found_of ask.wad name files ≡ r → OnFound r (BuildCalls name out (Some cert) ask.budget) (Ok answer) → SaysYes check name others answer
+    on (Err s) e shows = absurd cc
+    on (Ok found) e shows = by shows.spelled refl shows.are_asked
       where
-        by : (o : Option (List ℕ)) → shows.spelled ≡ o → AreAsked (Some cert) shows.built.cert o → SaysYes name answer given
+        by : (o : Option (List ℕ)) → shows.spelled ≡ o → AreAsked (Some cert) shows.built.cert o → SaysYes check name others answer
         by None f a = absurd a
         by (Some spelled) f a =
             let old = bytes_of ask.wad name files found e in
-            let yes = checked accepts name out cert ask.budget files others found answer given old.bytes spelled old.are ask.other apart shows f a have short asked in
             let counts = counts_with shows.built.table (length shows.built.cert.listed) in
-            let same = same_counts shows.built.table shows.built.cert.listed found.map.sectors yes.totals shows.is_built.symmetric shows.is_built.sectors yes.are in
-            record { counts = counts; built = ap (λ (x : Answer). x.line) shows.is; is = yes.is ∙ ap (λ (k : Counts). Ok (only_line (yes_line k.sectors (totals_of k)))) same }
+            record {
+              counts = counts;
+              built = ap (λ (x : Answer). x.line) shows.is;
+              only = λ given q.
+                  let asked = subst (λ r. AnswersAsked r others given) ask.checked q in
+                  let yes = checked accepts name out cert ask.budget files others found answer given old.bytes spelled old.are ask.other apart shows f a have short asked in
+                  let same = same_counts shows.built.table shows.built.cert.listed found.map.sectors yes.totals shows.is_built.symmetric shows.is_built.sectors yes.are in
+                  yes.is ∙ ap (λ (k : Counts). Ok (only_line (yes_line k.sectors (totals_of k)))) same;
+            }
+
+-- ---- the runs
+
+record EndsDone (build : List (List ℕ)) (files stand : Files) (sinks : Sinks) : Type 0 where
+  answer : Answer
+  called : IsAnswer build files (Ok answer)
+  stands : stand ≡ put_all files answer.writes
+  said : sinks.new.held ≡ option_map (λ held. held ++ answer.line) sinks.old.held
+
+ends_done : (build : List (List ℕ)) (files stand : Files) (before after : ShelfState) (sinks : Sinks) → RunEnds build files before after sinks.old sinks.new status.Done → after.files ≡ Some stand → EndsDone build files stand sinks
+ends_done build files stand before after sinks h e = record {
+  answer = h.ends.answer;
+  called = h.ends.called.called;
+  stands = same stand (put_all files h.ends.answer.writes) (sym e ∙ h.ends.stands);
+  said = h.said ∙ ap (λ (l : List ℕ). option_map (λ held. held ++ l) sinks.old.held) h.ends.line_is;
+}
+  where
+    same : (f g : Files) → ◌≡◌ {A = Option Files} (Some f) (Some g) → f ≡ g
+    same f g q = cc
+
+-- an answer that is a line alone has no output that could be broken
+never_broken : (called : Result Answer Status → Type 0) (Sole : Type 0) (which : Role) (files : Files) (after : Option Files) (line : List ℕ) → ((given : Result Answer Status) → called given → given ≡ Ok (only_line line)) → IsBrokenBy Sole called which files after → ⊥
+never_broken called Sole which files after line one h =
+    subst (λ (a : Answer). StandsUpTo which files after a.writes) (same_ok h.answer (only_line line) (one (Ok h.answer) h.called.called)) h.stands
+
+never_refused : (called : Result Answer Status → Type 0) (Sole : Type 0) (line : List ℕ) (s : Status) → ((given : Result Answer Status) → called given → given ≡ Ok (only_line line)) → IsTheAnswer Sole called (Err s) → ⊥
+never_refused called Sole line s one h = let e = one (Err s) h.called in absurd cc
+
+ends_yes : (check : List (List ℕ)) (others : Files) (first last : ShelfState) (old new : SinkState) (counts : Counts) (s : Status)
+    → ((given : Result Answer Status) → IsAnswer check others given → given ≡ Ok (only_line (yes_line counts.sectors (totals_of counts))))
+    → RunEnds check others first last old new s → ChecksYes counts old new s
+ends_yes check others first last old new counts status.Done one h =
+    h.said ∙ ap (λ (l : List ℕ). option_map (λ held. held ++ l) old.held) (h.ends.line_is ∙ ap (λ (a : Answer). a.line) (same_ok h.ends.answer (only_line (yes_line counts.sectors (totals_of counts))) (one (Ok h.ends.answer) h.ends.called.called)))
+ends_yes check others first last old new counts status.Memory one h = tt
+ends_yes check others first last old new counts (status.ReadFault k) one h = tt
+ends_yes check others first last old new counts (status.WriteFault role.Text) one h = tt
+ends_yes check others first last old new counts (status.WriteFault k) one h = never_broken (IsAnswer check others) _ k others last.files _ one h.ends.0
+ends_yes check others first last old new counts s one h = never_refused (IsAnswer check others) _ _ s one h.ends.0
+
+pub built_run_is_checked : AcceptsBuilt → BuiltRunIsChecked
+built_run_is_checked accepts build check name out cert files stand others before after first last building checking s ask ran e have short h =
+    let done = ends_done build files stand before after building ran e in
+    let both : HaveBoth (put_all files done.answer.writes) others out cert = record { at_out = have.at_out ∙ ap (λ (f : Files). f out) done.stands; at_cert = have.at_cert ∙ ap (λ (f : Files). f cert) done.stands } in
+    let yes = built_is_checked accepts build check name out cert files others done.answer ask done.called both short in
+    record {
+      counts = yes.counts;
+      built = done.said ∙ ap (λ (l : List ℕ). option_map (λ held. held ++ l) building.old.held) yes.built;
+      checked = ends_yes check others first last checking.old checking.new yes.counts s yes.only h;
+    }
