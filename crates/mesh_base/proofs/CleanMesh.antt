@@ -10,7 +10,7 @@ use Rattle.sight_names.specs.Point.{Point, point_of, SamePoint}
 use Rattle.sight_names.specs.Map.{Map, MapLine, line_at}
 use Rattle.sight_names.specs.Points.{Edge, points_of, place, number_of}
 use Rattle.sight_names.specs.Sound.{MeetAtEnds}
-use Rattle.sight_names.specs.Mesh.{IsTriangle, HasEdge, IsLineEdge, side_edge, InsideTriangle, IsPlainMesh}
+use Rattle.sight_names.specs.Mesh.{IsTriangle, HasEdge, IsLineEdge, side_edge, InsideTriangle, IsCounterclockwise, IsPlainMesh}
 use Rattle.sight_names.specs.Sequence.{third_point}
 use Rattle.plane_base.proofs.Vec.{V, Lin, at, det, On, value, det-cycle}
 use Rattle.plane_base.proofs.Search.{In}
@@ -74,6 +74,14 @@ turned_edge t u v w (inl (e, f, g)) = subst (λ (x : ℕ). HasEdge t (record { f
 turned_edge t u v w (inr (inl (e, f, g))) = subst (λ (x : ℕ). HasEdge t (record { from = x; to = v })) e (subst (λ (x : ℕ). HasEdge t (record { from = t.q; to = x })) f (edge_qr t))
 turned_edge t u v w (inr (inr (e, f, g))) = subst (λ (x : ℕ). HasEdge t (record { from = x; to = v })) e (subst (λ (x : ℕ). HasEdge t (record { from = t.r; to = x })) f (edge_rp t))
 
+pub turned_turn : (m : Map) (t : Triangle) → IsCounterclockwise m t → (u v w : ℕ) → IsTurnedTo t u v w → pos 0 <ℤ det (pv m u) (pv m v) (pv m w)
+turned_turn m t turn u v w h = by (subst (λ (x : ℤ). pos 0 <ℤ x) (turn_at_is (place m t.p) (place m t.q) (point_of (place m t.r))) turn) h
+  where
+    by : pos 0 <ℤ det (pv m t.p) (pv m t.q) (pv m t.r) → IsTurnedTo t u v w → pos 0 <ℤ det (pv m u) (pv m v) (pv m w)
+    by k (inl (e, f, g)) = subst (λ (x : ℤ). pos 0 <ℤ x) (λ i. det (pv m (e i)) (pv m (f i)) (pv m (g i))) k
+    by k (inr (inl (e, f, g))) = subst (λ (x : ℤ). pos 0 <ℤ x) (sym (det-cycle (pv m t.p) (pv m t.q) (pv m t.r)) ∙ (λ i. det (pv m (e i)) (pv m (f i)) (pv m (g i)))) k
+    by k (inr (inr (e, f, g))) = subst (λ (x : ℤ). pos 0 <ℤ x) (det-cycle (pv m t.r) (pv m t.p) (pv m t.q) ∙ (λ i. det (pv m (e i)) (pv m (f i)) (pv m (g i)))) k
+
 -- ---- meeting at ends, said of vectors
 
 at_of_same : (p : Pt) (r : Point) → SamePoint r (point_of p) → IsAt (whole p) (vec r)
@@ -130,11 +138,6 @@ pub record PointFacts (m : Map) : Type 0 where
 -- ---- triangles of a plain mesh
 
 module _ (m : Map) (ts : List Triangle) (plain : IsPlainMesh m ts) (k : ℕ) (t : Triangle) (is : slice_get ts k ≡ Some t) where
-  pub turned_turn : (u v w : ℕ) → IsTurnedTo t u v w → pos 0 <ℤ det (pv m u) (pv m v) (pv m w)
-  turned_turn u v w (inl (e, f, g)) = subst (λ (x : ℤ). pos 0 <ℤ x) (turn_at_is (place m t.p) (place m t.q) (point_of (place m t.r)) ∙ (λ i. det (pv m (e i)) (pv m (f i)) (pv m (g i)))) (plain.turn k t is)
-  turned_turn u v w (inr (inl (e, f, g))) = subst (λ (x : ℤ). pos 0 <ℤ x) (turn_at_is (place m t.p) (place m t.q) (point_of (place m t.r)) ∙ sym (det-cycle (pv m t.p) (pv m t.q) (pv m t.r)) ∙ (λ i. det (pv m (e i)) (pv m (f i)) (pv m (g i)))) (plain.turn k t is)
-  turned_turn u v w (inr (inr (e, f, g))) = subst (λ (x : ℤ). pos 0 <ℤ x) (turn_at_is (place m t.p) (place m t.q) (point_of (place m t.r)) ∙ sym (det-cycle (pv m t.p) (pv m t.q) (pv m t.r)) ∙ sym (det-cycle (pv m t.q) (pv m t.r) (pv m t.p)) ∙ (λ i. det (pv m (e i)) (pv m (f i)) (pv m (g i)))) (plain.turn k t is)
-
   turned_empty : (u v w : ℕ) → IsTurnedTo t u v w → (n : ℕ) → n < length (points_of m) → (x : V) → pv m n ≡ x → pos 0 <ℤ det (pv m u) (pv m v) x → pos 0 <ℤ det (pv m v) (pv m w) x → pos 0 <ℤ det (pv m w) (pv m u) x → ⊥
   turned_empty u v w h n low x e a b c = plain.empty k t is n low (at h)
     where
@@ -167,7 +170,7 @@ module _ (m : Map) (ts : List Triangle) (plain : IsPlainMesh m ts) (k : ℕ) (t 
 
     pub turned_clean : (u v w : ℕ) → IsTurnedTo t u v w → (i : ℕ) (l : MapLine) → line_at m i ≡ Some l → Clean (tri (pv m u) (pv m v) (pv m w)) (whole l.first) (whole l.second)
     turned_clean u v w h i l there = record {
-      turn = turned_turn u v w h;
+      turn = turned_turn m t (plain.turn k t is) u v w h;
       ab = turned_fair u v w h i l there;
       bc = turned_fair v w u (turn_on t u v w h) i l there;
       ca = turned_fair w u v (turn_on t v w u (turn_on t u v w h)) i l there;

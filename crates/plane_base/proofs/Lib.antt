@@ -4,4 +4,5 @@ pub mod Wedge
 pub mod Near
 pub mod Entry
 pub mod Search
+pub mod Every
 pub mod Walk
