@@ -13,6 +13,3 @@ pub use cert::{Cert, Labelled, Sizes};
 pub use laws::one_spelling;
 pub use reading::read;
 pub use writing::print;
-
-#[cfg(test)]
-mod tests;

@@ -11,8 +11,6 @@ ghost use Rattle.map_lumps.specs.Answers.{AnswersFirstFault};
 mod checks;
 mod points;
 mod records;
-#[cfg(test)]
-mod tests;
 
 use checks::early_fault;
 use points::{plan_lines, points_of};

@@ -7,6 +7,3 @@ mod maker;
 mod points;
 
 pub use maker::grid;
-
-#[cfg(test)]
-mod tests;

@@ -140,30 +140,3 @@ fn clear_spare(n: u16, bytes: &mut [u8])
     let last = bytes.len() - 1;
     bytes[last] &= (1 << used) - 1;
 }
-
-#[cfg(test)]
-mod tests {
-    use super::*;
-    use std::test::Fail;
-
-    #[test]
-    fn bits(rt: HostRuntime) -> Result<(), Fail> {
-        let mut table = Table::clear(rt.alloc(), 3)?;
-        table.set(0, 2);
-        table.set(2, 0);
-        assert_eq!(rt; table.as_bytes(), [0x44, 0x00].as_slice());
-        assert!(rt; table.rejects(0, 2) && table.rejects(2, 0) && !table.rejects(0, 1));
-        let read = Table::of_bytes(rt.alloc(), 3, &[0x44, 0xfe])?;
-        assert_eq!(rt; read.as_bytes(), [0x44, 0x00].as_slice());
-        assert_eq!(rt; Table::clear(rt.alloc(), 0)?.as_bytes().len(), 0);
-        let short = Table::of_bytes(rt.alloc(), 3, &[]).err();
-        assert_eq!(rt;
-            short,
-            Some(TableFault::WrongLength {
-                found: 0,
-                expected: 2
-            })
-        );
-        Ok(())
-    }
-}

@@ -14,6 +14,3 @@ pub use transfer::{fetch, store};
 
 /// The most bytes that one read or one append moves.
 pub const PIECE: usize = 65_536;
-
-#[cfg(test)]
-mod tests;

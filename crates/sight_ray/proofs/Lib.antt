@@ -1,4 +1,3 @@
 pub mod GateLemmas
 pub mod HitLemmas
 pub mod FaultLemmas
-pub mod OneLine
