@@ -18,7 +18,10 @@ returns-in-Ok-clause-built g c =
       diagonal = e.diagonal;
       set = e.set;
       exhausted = λ full. let w = e.whole full in record { no_list = w.no_list; trees = w.trees };
-      spent = e.spent;
+      allowed = e.spent.budget;
+      is_allowed = e.spent.is_budget;
+      spent = e.spent.exactly;
+      none_listed = e.enough;
       sight_rays = e.sight_rays;
       sight = e.sight;
     }
