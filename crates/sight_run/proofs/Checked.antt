@@ -8,7 +8,7 @@ use Rattle.std.proofs.lemmas.Slice.Eq.{bytes_eq-Decides}
 use Rattle.sight_names.specs.declared.faults.CertFault.{CertFault}
 use Rattle.sight_names.specs.declared.faults.FetchFault.TheVariants as fetch
 use Rattle.sight_names.specs.declared.faults.TableFault.TheVariants as table
-use Rattle.sight_names.specs.declared.names.Budget.{Budget}
+use Rattle.sight_names.specs.declared.names.Ask.{Ask}
 use Rattle.sight_names.specs.Map.{Map}
 use Rattle.sight_names.specs.Sound.{LinesMeetAtEnds}
 use Rattle.sight_names.specs.Table.{table_bit}
@@ -211,7 +211,7 @@ unfolding found_of
 bytes_of wad name files found h = let p = passes (of_fetch (content_of (files wad) 2147483647)) (λ bs. found_in name bs) found h in record { bytes = p.x; are = p.rest }
 
 -- the map was found in these bytes, and what was built of it is in these files
-module _ (accepts : AcceptsBuilt) (name out cert : List ℕ) (budget : Budget) (files others : Files) (found : Found) (answer : Answer) (given : Result Answer Status) where
+module _ (accepts : AcceptsBuilt) (name out cert : List ℕ) (budget : Ask) (files others : Files) (found : Found) (answer : Answer) (given : Result Answer Status) where
   checked : (old spelled : List ℕ) → found_in name old ≡ Ok found → same_name (codes "REJECT") name ≡ false → bytes_eq out cert ≡ false
       → (shows : ShowsBuild name out (Some cert) budget found answer) → shows.spelled ≡ Some spelled → Spells shows.built.cert.sizes spelled shows.built.cert
       → HaveBoth (put_all files answer.writes) others out cert → IsShort others cert

@@ -6,11 +6,18 @@ use Rattle.std.proofs.Math.Nat.{div-lt_iff_lt-mul, mod-lt}
 use Rattle.std.proofs.lemmas.List.{get_or_past}
 use Rattle.std.proofs.lemmas.Nat.{div-add-mod'}
 use Rattle.std.proofs.lemmas.Nat.Bits.{bit_at-lt, bit_at-zero}
+use Rattle.sight_names.specs.declared.names.Ask.{Ask}
+use Rattle.sight_names.specs.declared.names.Ask.TheVariants.{Of as AskOf, Full as AskFull, Enough}
 use Rattle.sight_names.specs.declared.names.Budget.{Budget}
+use Rattle.sight_names.specs.declared.names.Budget.TheVariants.{Of}
 use Rattle.sight_names.specs.declared.names.Pair.{Pair}
+use Rattle.sight_names.specs.declared.names.Triangle.{Triangle}
+use Rattle.sight_names.specs.Enough.{IsBudgetOf, enough_of}
+use Rattle.sight_names.specs.Found.{IsListed}
 use Rattle.sight_names.specs.Map.{Map}
 use Rattle.sight_names.specs.Table.{table_bit}
 use Rattle.sight_names.proofs.Lists.{same_ascending}
+use Rattle.sight_names.proofs.OneMesh.{one_mesh}
 use Rattle.reject_bits.specs.Parts.{IsWhole, Rejects, TableParts}
 use Rattle.cert_format.specs.Accepted.{IsPairListed}
 use Rattle.cert_format.specs.Grammar.{IsInOrder, PairBefore}
@@ -64,15 +71,26 @@ spare_clear n t sectors whole k h = elim (below_or_not k (8 * length t.bytes)) a
   | inr past ↦ ap (λ (x : ℕ). bit_at x (k % 8)) (get_or_past t.bytes (k / 8) 0 (past_bytes (length t.bytes) k past)) ∙ bit_at-zero (k % 8)
 ]
 
+-- ---- the budget that is asked for is one, since the mesh is
+
+one_budget : (m : Map) (ask : Ask) (b c : Budget) → IsBudgetOf m ask b → IsBudgetOf m ask c → b ≡ c
+one_budget m (AskOf n) b c h k = h ∙ sym k
+one_budget m AskFull b c h k = h ∙ sym k
+one_budget m Enough b c h k = h.2 ∙ ap (λ (ts : List Triangle). Of (enough_of m ts)) (one_mesh m h.0 k.0 h.1 k.1) ∙ sym k.2
+
 -- ---- two builds
 
-module _ (m : Map) (budget : Budget) (one other : Built) (is_one : IsBuiltOf m budget one) (is_other : IsBuiltOf m budget other) where
+module _ (m : Map) (budget : Ask) (one other : Built) (is_one : IsBuiltOf m budget one) (is_other : IsBuiltOf m budget other) where
   listed_too : (q : Pair) → Contains one.listed q → Contains other.listed q
-  listed_too q c = (is_other.spent q).1 ((is_one.spent q).0 c)
+  listed_too q c =
+      let same = one_budget m budget is_one.allowed is_other.allowed is_one.is_allowed is_other.is_allowed in
+      let h = (is_one.spent q).0 c in
+      (is_other.spent q).1 (h.0, subst (λ (b : Budget). IsListed m b q.a q.b) same h.1)
 
+module _ (m : Map) (budget : Ask) (one other : Built) (is_one : IsBuiltOf m budget one) (is_other : IsBuiltOf m budget other) where
   -- a pair that the other certificate lists is listed by the one build
   listed_back : (a b : ℕ) → IsPairListed other.cert a b → Contains one.listed (record { a = a; b = b })
-  listed_back a b c = let q : Pair = record { a = a; b = b } in (is_one.spent q).1 ((is_other.spent q).0 (subst (λ (ps : List Pair). Contains ps q) (sym is_other.listed) c))
+  listed_back a b c = let q : Pair = record { a = a; b = b } in listed_too m budget other one is_other is_one q (subst (λ (ps : List Pair). Contains ps q) (sym is_other.listed) c)
 
   set_too : (a b : ℕ) → a < m.sectors → b < m.sectors → Rejects one.table a b → Rejects other.table a b
   set_too a b la lb bit = elim (one_or_not (table_bit other.table.bytes (a * other.table.n + b))) as (λ _. Rejects other.table a b) [
@@ -82,7 +100,7 @@ module _ (m : Map) (budget : Budget) (one other : Built) (is_one : IsBuiltOf m b
         (λ c. (is_one.clear (record { a = b; b = a }) (listed_back b a c)).1 bit)))
   ]
 
-module _ (m : Map) (budget : Budget) (one other : Built) (is_one : IsBuiltOf m budget one) (is_other : IsBuiltOf m budget other) where
+module _ (m : Map) (budget : Ask) (one other : Built) (is_one : IsBuiltOf m budget one) (is_other : IsBuiltOf m budget other) where
   -- the bit of a pair, by its place
   place_is : (t : TableParts) → t.n ≡ m.sectors → (a b k : ℕ) → a * m.sectors + b ≡ k → table_bit t.bytes (a * t.n + b) ≡ table_bit t.bytes k
   place_is t sectors a b k e = ap (λ (n : ℕ). table_bit t.bytes (a * n + b)) sectors ∙ ap (table_bit t.bytes) e
@@ -138,7 +156,7 @@ same_counts one other same lists =
 
 -- ---- what is said of them
 
-module _ (m : Map) (budget : Budget) (one other : Built) (is_one : IsBuiltOf m budget one) (whole : IsWhole one.table) (in_order : IsInOrder one.cert) (is_other : IsBuiltOf m budget other) (other_whole : IsWhole other.table) (other_in_order : IsInOrder other.cert) where
+module _ (m : Map) (budget : Ask) (one other : Built) (is_one : IsBuiltOf m budget one) (whole : IsWhole one.table) (in_order : IsInOrder one.cert) (is_other : IsBuiltOf m budget other) (other_whole : IsWhole other.table) (other_in_order : IsInOrder other.cert) where
   pub one_count : counts_with one.table (length one.cert.listed) ≡ counts_with other.table (length other.cert.listed)
   one_count = let same = one_table m budget one other is_one is_other whole in_order other_whole other_in_order in same_counts one other same (sym is_one.listed ∙ same.listed ∙ is_other.listed)
 
@@ -146,5 +164,5 @@ pub one_line : BuildsSayOneLine
 one_line name out asked budget found one other p q =
     ap (λ (a : Answer). a.line) p.is ∙ ap (build_line name) (one_count found.map budget p.built q.built p.is_built p.whole p.in_order q.is_built q.whole q.in_order) ∙ sym (ap (λ (a : Answer). a.line) q.is)
 
-pub one_grid : (n : ℕ) (budget : Budget) (m : Map) (one other : Answer) → ShowsGrid n budget m one → ShowsGrid n budget m other → other ≡ one
+pub one_grid : (n : ℕ) (budget : Ask) (m : Map) (one other : Answer) → ShowsGrid n budget m one → ShowsGrid n budget m other → other ≡ one
 one_grid n budget m one other p q = q.is ∙ ap (λ (c : Counts). only_line (grid_line n c)) (one_count m budget q.built p.built q.is_built q.whole q.in_order p.is_built p.whole p.in_order) ∙ sym p.is

@@ -1,8 +1,10 @@
 -- What the order `build` makes of a map that was found.
 use Rattle.std.specs.Prelude.{◌≡◌, ◌≢◌, ◌↔◌, ◌⊎◌, ℕ, ◌<◌, List, [], ◌∷◌, ◌++◌, Option, Some, None, Result, Ok, Err, Contains, codes, length, ⊤}
+use Rattle.sight_names.specs.declared.names.Ask.{Ask}
+use Rattle.sight_names.specs.declared.names.Ask.TheVariants.{Enough, Full}
 use Rattle.sight_names.specs.declared.names.Budget.{Budget}
-use Rattle.sight_names.specs.declared.names.Budget.TheVariants.{Full}
 use Rattle.sight_names.specs.declared.names.Pair.{Pair}
+use Rattle.sight_names.specs.Enough.{IsBudgetOf}
 use Rattle.sight_names.specs.Found.{AreConnected, IsListed}
 use Rattle.sight_names.specs.Map.{Map}
 use Rattle.sight_names.specs.Sound.{IsSound, LinesMeetAtEnds}
@@ -38,8 +40,8 @@ pub record IsExhausted (m : Map) (built : Built) : Type 0 where
   pub no_list : built.listed ≡ []
   pub trees : (a : ℕ) → a < m.sectors → ((t : Tree) × Contains built.cert.trees t × (t.source ≡ a)) ⊎ ((b : ℕ) → b < m.sectors → a ≢ b → AreConnected m a b → ¬ Rejects built.table a b)
 
--- what a build of the map within this budget gives
-pub record IsBuiltOf (m : Map) (budget : Budget) (built : Built) : Type 0 where
+-- what a build of the map gives that is asked for with this budget
+pub record IsBuiltOf (m : Map) (budget : Ask) (built : Built) : Type 0 where
   -- the map is sound as a whole, and the certificate has the labelled triangles of its mesh
   pub fit : IsSound m
   pub triangles : HasTrianglesOf m built.cert
@@ -57,13 +59,18 @@ pub record IsBuiltOf (m : Map) (budget : Budget) (built : Built) : Type 0 where
   -- a sector's own bit is set exactly where no side names it
   pub diagonal : (a : ℕ) → a < m.sectors → Rejects built.table a a ↔ ¬ IsNamed m a
   pub exhausted : budget ≡ Full → IsExhausted m built
-  -- the listed pairs are just those of two connected sectors of which neither is found from the other, and both budgets ran out
-  pub spent : (q : Pair) → Contains built.listed q ↔ ((q.a < q.b) × IsListed m budget q.a q.b)
+  -- the listed pairs are just those of two connected sectors of which neither is found from the other within the budget that
+  -- is asked for, and both budgets ran out
+  pub allowed : Budget
+  pub is_allowed : IsBudgetOf m budget allowed
+  pub spent : (q : Pair) → Contains built.listed q ↔ ((q.a < q.b) × IsListed m allowed q.a q.b)
+  -- with a budget that is enough no pair is listed
+  pub none_listed : budget ≡ Enough → built.listed ≡ []
   -- sectors whose bit is set don't see each other; those whose bit is clear do, unless their pair is listed
   pub sight : TellsWhoSees m built.table built.cert
 
 -- what was built of the map, or the refusal of its audit
-abbrev pub Builds : Map → Budget → Result Built Status → Type 0
+abbrev pub Builds : Map → Ask → Result Built Status → Type 0
 Builds m budget (Ok built) = IsBuiltOf m budget built
 Builds m budget (Err refusal) = IsAuditRefusal m refusal
 
@@ -101,7 +108,7 @@ abbrev pub build_line : List ℕ → Counts → List ℕ
 build_line name counts = codes "built " ++ name ++ counts_words counts ++ codes "\n"
 
 -- The file's WAD with the table that was built, the certificate where it is asked for, and a line with the counts of the table and of the list.
-pub record ShowsBuild (name out : List ℕ) (asked : Option (List ℕ)) (budget : Budget) (found : Found) (answer : Answer) : Type 0 where
+pub record ShowsBuild (name out : List ℕ) (asked : Option (List ℕ)) (budget : Ask) (found : Found) (answer : Answer) : Type 0 where
   pub built : Built
   pub is_built : IsBuiltOf found.map budget built
   pub whole : IsWhole built.table
@@ -113,7 +120,7 @@ pub record ShowsBuild (name out : List ℕ) (asked : Option (List ℕ)) (budget 
   pub is : answer ≡ record { writes = build_writes out bytes asked spelled; line = build_line name (counts_with built.table (length built.cert.listed)) }
 
 -- the WAD with the table that was built is above a limit
-pub record ShowsLimit (budget : Budget) (found : Found) (bound : Bound) : Type 0 where
+pub record ShowsLimit (budget : Ask) (found : Found) (bound : Bound) : Type 0 where
   pub built : Built
   pub is_built : IsBuiltOf found.map budget built
   pub whole : IsWhole built.table
@@ -133,7 +140,7 @@ IsUnbuildable (Err refusal) = ⊤
 IsUnbuildable (Ok found) = ¬ IsSound found.map
 
 -- The answer that `build` calls for. Where the map isn't sound it is the refusal of its audit.
-abbrev pub BuildCalls : List ℕ → List ℕ → Option (List ℕ) → Budget → Found → Result Answer Status → Type 0
+abbrev pub BuildCalls : List ℕ → List ℕ → Option (List ℕ) → Ask → Found → Result Answer Status → Type 0
 BuildCalls name out asked budget found (Ok answer) = ShowsBuild name out asked budget found answer
 BuildCalls name out asked budget found (Err (status.BadMap (flaw.Line fault))) = IsLineFault found.map fault
 BuildCalls name out asked budget found (Err (status.BadMap (flaw.Open side))) = LinesMeetAtEnds found.map × HasOpenSide found.map side
@@ -153,8 +160,8 @@ pub record HaveOneTable (one other : Built) : Type 0 where
 -- What is built of a map within a budget has one table and one list, by how many workers ever; so two builds can differ in the rays
 -- and the trees of their certificates alone.
 abbrev pub BuildsHaveOneTable : Type 0
-BuildsHaveOneTable = (m : Map) (budget : Budget) (one other : Built) → IsBuiltOf m budget one → IsWhole one.table → IsInOrder one.cert → IsBuiltOf m budget other → IsWhole other.table → IsInOrder other.cert → HaveOneTable one other
+BuildsHaveOneTable = (m : Map) (budget : Ask) (one other : Built) → IsBuiltOf m budget one → IsWhole one.table → IsInOrder one.cert → IsBuiltOf m budget other → IsWhole other.table → IsInOrder other.cert → HaveOneTable one other
 
 -- .. and all that `build` answers of it says one line
 abbrev pub BuildsSayOneLine : Type 0
-BuildsSayOneLine = (name out : List ℕ) (asked : Option (List ℕ)) (budget : Budget) (found : Found) (one other : Answer) → BuildCalls name out asked budget found (Ok one) → BuildCalls name out asked budget found (Ok other) → one.line ≡ other.line
+BuildsSayOneLine = (name out : List ℕ) (asked : Option (List ℕ)) (budget : Ask) (found : Found) (one other : Answer) → BuildCalls name out asked budget found (Ok one) → BuildCalls name out asked budget found (Ok other) → one.line ≡ other.line

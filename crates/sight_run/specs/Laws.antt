@@ -1,7 +1,7 @@
 -- What is built is checked: the answer of `check` to what `build` wrote.
 use Rattle.std.specs.Prelude.{◌≡◌, ◌≤◌, ℕ, false, List, ◌++◌, length, Option, Some, Result, Ok, codes, ⊤}
 use Rattle.std.specs.Option.{option_map}
-use Rattle.sight_names.specs.declared.names.Budget.{Budget}
+use Rattle.sight_names.specs.declared.names.Ask.{Ask}
 use Rattle.sight_names.specs.Map.{Map}
 use Rattle.cert_format.specs.Accepted.{IsAccepted}
 use Rattle.sight_job.specs.declared.build.Built.{Built}
@@ -30,7 +30,7 @@ pub record AskBoth (build check : List (List ℕ)) (name out cert : List ℕ) : 
   pub wad : List ℕ
   pub report : Option (List ℕ)
   pub workers : ℕ
-  pub budget : Budget
+  pub budget : Ask
   pub built : asked_of build ≡ Ok (order.Build wad name out (Some cert) report workers budget)
   pub checked : asked_of check ≡ Ok (order.Check out name cert)
   -- the map isn't called REJECT
@@ -57,7 +57,7 @@ pub record SaysYes (check : List (List ℕ)) (name : List ℕ) (others : Files) 
 
 -- whatever is built is accepted
 abbrev pub AcceptsBuilt : Type 0
-AcceptsBuilt = (m : Map) (budget : Budget) (built : Built) → IsBuiltOf m budget built → IsAccepted m built.table.bytes built.cert
+AcceptsBuilt = (m : Map) (budget : Ask) (built : Built) → IsBuiltOf m budget built → IsAccepted m built.table.bytes built.cert
 
 -- Where a build is answered, the one answer to the check of what it wrote is yes, with the same counts.
 abbrev pub BuiltIsChecked : Type 0
@@ -109,6 +109,6 @@ ZeroKeepsLumps = (words : List (List ℕ)) (wad name out : List ℕ) (files : Fi
     → (n : ℕ) × KeepsLumps wad name out (clear_table n) files (put_all files answer.writes)
 
 abbrev pub BuildKeepsLumps : Type 0
-BuildKeepsLumps = (words : List (List ℕ)) (wad name out : List ℕ) (asked report : Option (List ℕ)) (workers : ℕ) (budget : Budget) (files : Files) (answer : Answer)
+BuildKeepsLumps = (words : List (List ℕ)) (wad name out : List ℕ) (asked report : Option (List ℕ)) (workers : ℕ) (budget : Ask) (files : Files) (answer : Answer)
     → asked_of words ≡ Ok (order.Build wad name out asked report workers budget) → same_name (codes "REJECT") name ≡ false → IsAnswer words files (Ok answer)
     → (table : TableParts) × IsWhole table × KeepsLumps wad name out table.bytes files (put_all files answer.writes)

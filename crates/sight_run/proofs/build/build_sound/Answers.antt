@@ -15,6 +15,9 @@ returns-in-Ok-clause-built g c =
       symmetric = e.symmetric;
       diagonal = e.diagonal;
       exhausted = λ full. let w = e.whole full in record { no_list = w.no_list; trees = w.trees };
-      spent = e.spent;
+      allowed = e.spent.budget;
+      is_allowed = e.spent.is_budget;
+      spent = e.spent.exactly;
+      none_listed = e.enough;
       sight = e.sight;
     }
