@@ -49,51 +49,9 @@ use Rattle.sight_run.specs.Sound.{OnSoundLines}
 use Rattle.sight_run.specs.Words.{asked_of, file_names, has_twice, is_built, of_order}
 use Rattle.sight_run.specs.Zero.{table_len}
 use Rattle.sight_run.specs.Laws.{AcceptsBuilt, AskBoth, BuiltIsChecked, BuiltRunIsChecked, ChecksYes, EndWithYes, HaveBoth, IsShort, SaysYes, Sinks, totals_of}
-use Rattle.sight_run.proofs.Round.{IsFoundAgain, found_again, found_then, passes, same_ok}
+use Rattle.sight_run.proofs.Round.{IsFoundAgain, found_again, found_then, same_ok}
+use Rattle.sight_run.proofs.Stood.{bytes_of, differ, of_words, under_cert, under_out}
 use Rattle.sight_run.proofs.Totals.{same_counts}
-
--- ---- the words
-
-of_words : (words : List (List ℕ)) (o : Order) → asked_of words ≡ Ok o → has_twice (file_names o) ≡ false
-unfolding asked_of
-of_words words o h = by (order_of words) h
-  where
-    on : (a b : Bool) (x : Order) → has_twice (file_names x) ≡ b → (if not a then Err status.Usage else (if b then Err status.SameName else Ok x)) ≡ Ok o → has_twice (file_names o) ≡ false
-    on false b x e q = absurd cc
-    on true true x e q = absurd cc
-    on true false x e q = subst (λ (y : Order). has_twice (file_names y) ≡ false) (same_ok x o q) e
-
-    by : (r : Option Order) → of_order r ≡ Ok o → has_twice (file_names o) ≡ false
-    by None q = absurd cc
-    by (Some x) q = on (is_built x) (has_twice (file_names x)) x refl q
-
-differ : (wad out cert : List ℕ) → has_twice (wad ∷ out ∷ cert ∷ []) ≡ false → bytes_eq out cert ≡ false
-differ wad out cert h = by (bytes_eq wad out) (bytes_eq wad cert) (bytes_eq out cert) h
-  where
-    by : (a b c : Bool) → ((a || (b || false)) || ((c || false) || (false || false))) ≡ false → c ≡ false
-    by a b false e = refl
-    by true b true e = absurd cc
-    by false true true e = absurd cc
-    by false false true e = absurd cc
-
--- ---- the files
-
-not_back : (a b : List ℕ) → bytes_eq a b ≡ false → bytes_eq b a ≡ false
-not_back a b h = by (bytes_eq b a) refl
-  where
-    by : (c : Bool) → bytes_eq b a ≡ c → c ≡ false
-    by true e = let same : bytes_eq a b ≡ true = (bytes_eq-Decides a b).1 (sym ((bytes_eq-Decides b a).0 e)) in absurd cc
-    by false e = refl
-
-itself : (a : List ℕ) → bytes_eq a a ≡ true
-itself a = (bytes_eq-Decides a a).1 refl
-
-under_out : (files : Files) (out cert bytes spelled : List ℕ) → bytes_eq out cert ≡ false → put (put files out bytes) cert spelled out ≡ Some bytes
-under_out files out cert bytes spelled h =
-    ap (λ (b : Bool). if b then Some spelled else put files out bytes out) (not_back out cert h) ∙ ap (λ (b : Bool). if b then Some bytes else files out) (itself out)
-
-under_cert : (files : Files) (out cert bytes spelled : List ℕ) → put (put files out bytes) cert spelled cert ≡ Some spelled
-under_cert files out cert bytes spelled = ap (λ (b : Bool). if b then Some spelled else put files out bytes cert) (itself cert)
 
 -- ---- the table's bits
 
@@ -201,15 +159,6 @@ wad_fetched o name bytes found e lt h =
     by true q = absurd cc
     by false q = refl
 
--- the bytes in which a map was found
-record HasBytes (name : List ℕ) (found : Found) : Type 0 where
-  bytes : List ℕ
-  are : found_in name bytes ≡ Ok found
-
-bytes_of : (wad name : List ℕ) (files : Files) (found : Found) → found_of wad name files ≡ Ok found → HasBytes name found
-unfolding found_of
-bytes_of wad name files found h = let p = passes (of_fetch (content_of (files wad) 2147483647)) (λ bs. found_in name bs) found h in record { bytes = p.x; are = p.rest }
-
 -- the map was found in these bytes, and what was built of it is in these files
 module _ (accepts : AcceptsBuilt) (name out cert : List ℕ) (budget : Budget) (files others : Files) (found : Found) (answer : Answer) (given : Result Answer Status) where
   checked : (old spelled : List ℕ) → found_in name old ≡ Ok found → same_name (codes "REJECT") name ≡ false → bytes_eq out cert ≡ false
@@ -228,10 +177,10 @@ module _ (accepts : AcceptsBuilt) (name out cert : List ℕ) (budget : Budget) (
       let asked : CheckCalls cert others (found_then found table) given = subst (λ (r : Result Found Status). OnFound r (CheckCalls cert others) given) there q in
       let len : length table ≡ table_len found.map.sectors = shows.whole.len ∙ ap table_len shows.is_built.sectors in
       let brings : brought cert (found_then found table) others ≡ Ok (brought_as table c) =
-          is_brought cert (found_then found table) others table spelled c (right_length found.map.sectors (reject_of (found_then found table)) table again.reject len)
-              (cert_fetched (others cert) spelled at_cert (short spelled at_cert)) (spelled_reads found.map c spelled shows.is_built.sizes spells) in
+      is_brought cert (found_then found table) others table spelled c (right_length found.map.sectors (reject_of (found_then found table)) table again.reject len)
+      (cert_fetched (others cert) spelled at_cert (short spelled at_cert)) (spelled_reads found.map c spelled shows.is_built.sizes spells) in
       verdict_yes found.map shows.built.table c given shows.is_built.sectors (accepts found.map budget shows.built shows.is_built)
-          (past_lines found.map (brought_as table c) given shows.is_built.sound (subst (λ (r : Result Brought Status). OnSoundLines found.map (OnBrought found.map r) given) brings asked))
+      (past_lines found.map (brought_as table c) given shows.is_built.sound (subst (λ (r : Result Brought Status). OnSoundLines found.map (OnBrought found.map r) given) brings asked))
 
 pub built_is_checked : AcceptsBuilt → BuiltIsChecked
 built_is_checked accepts build check name out cert files others answer ask h have short =

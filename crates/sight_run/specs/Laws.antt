@@ -3,13 +3,13 @@ use Rattle.std.specs.Prelude.{◌≡◌, ◌≤◌, ℕ, false, List, ◌++◌, 
 use Rattle.std.specs.Option.{option_map}
 use Rattle.sight_names.specs.declared.names.Budget.{Budget}
 use Rattle.sight_names.specs.Map.{Map}
+use Rattle.sight_names.specs.Table.{IsTable}
 use Rattle.cert_format.specs.Accepted.{IsAccepted}
 use Rattle.sight_job.specs.declared.build.Built.{Built}
 use Rattle.shelf_io.specs.Shelf.{Files, ShelfState}
 use Rattle.shelf_io.specs.Sink.{SinkState}
 use Rattle.wad_dir.specs.Map.{same_name}
 use Rattle.wad_rewrite.specs.Again.{IsReadAgain}
-use Rattle.reject_bits.specs.Parts.{IsWhole, TableParts}
 use Rattle.order_words.specs.declared.order.Order.TheVariants as order
 use Rattle.cert_checker.specs.declared.verdict.Totals.{Totals}
 use Rattle.sight_run.specs.declared.counts.Counts.{Counts}
@@ -94,21 +94,30 @@ BuiltRunIsChecked = (build check : List (List ℕ)) (name out cert : List ℕ) (
 
 -- ---- what a written WAD keeps
 
--- under this name stands a WAD which is read as the one in which the map was found, with this REJECT for it, and with all other lumps
-pub record KeepsLumps (wad name out table : List ℕ) (files stand : Files) : Type 0 where
+-- under OUT stands a WAD which is read as the one in which the map was found, with such a REJECT for it, and with all other lumps
+pub record KeepsLumps (wad name out : List ℕ) (files stand : Files) (IsRight : Map → List ℕ → Type 0) : Type 0 where
   pub found : Found
   pub was : found_of wad name files ≡ Ok found
+  pub table : List ℕ
+  pub is_right : IsRight found.map table
   pub bytes : List ℕ
   pub stands : stand out ≡ Some bytes
   pub again : IsReadAgain found.wad name found.spot table bytes
 
--- Where `zero` or `build` is answered, OUT holds the WAD with another REJECT and all other lumps as they were. The map isn't called REJECT.
+abbrev pub IsClearTable : Map → List ℕ → Type 0
+IsClearTable m table = table ≡ clear_table m.sectors
+
+abbrev pub HasTableLength : Map → List ℕ → Type 0
+HasTableLength m table = IsTable m.sectors table
+
+-- Where `zero` is answered, OUT holds the WAD with a clear REJECT and all other lumps as they were. The map isn't called REJECT.
 abbrev pub ZeroKeepsLumps : Type 0
 ZeroKeepsLumps = (words : List (List ℕ)) (wad name out : List ℕ) (files : Files) (answer : Answer)
     → asked_of words ≡ Ok (order.Zero wad name out) → same_name (codes "REJECT") name ≡ false → IsAnswer words files (Ok answer)
-    → (n : ℕ) × KeepsLumps wad name out (clear_table n) files (put_all files answer.writes)
+    → KeepsLumps wad name out files (put_all files answer.writes) IsClearTable
 
+-- where `build` is answered, it holds the WAD with a table of the map's sectors and all other lumps as they were
 abbrev pub BuildKeepsLumps : Type 0
 BuildKeepsLumps = (words : List (List ℕ)) (wad name out : List ℕ) (asked report : Option (List ℕ)) (workers : ℕ) (budget : Budget) (files : Files) (answer : Answer)
     → asked_of words ≡ Ok (order.Build wad name out asked report workers budget) → same_name (codes "REJECT") name ≡ false → IsAnswer words files (Ok answer)
-    → (table : TableParts) × IsWhole table × KeepsLumps wad name out table.bytes files (put_all files answer.writes)
+    → KeepsLumps wad name out files (put_all files answer.writes) HasTableLength

@@ -228,16 +228,16 @@ kept_some w name spot r table found =
     let at = some_of (p.marker + 1) p.r r (ap (λ (x : MapSpot). x.reject) p.is) in
     let there : place word run ≡ Some at.k = p.reject ∙ at.is in
     let within : r < length w.lumps = (
-        let a = place_bound (λ n. same_name n word) run 0 at.k there in
-        let b = more_short [] (drop (p.marker + 1) (names_of w)) in
-        let d = after_length (names_of w) name (with_place spot (Some r)) p in
-        let e = length-map w.lumps (λ (l : WadLump). l.name) in
-        let f = at.at in
-        omega (arith, a.1, b, d, e, f)) in
+    let a = place_bound (λ n. same_name n word) run 0 at.k there in
+    let b = more_short [] (drop (p.marker + 1) (names_of w)) in
+    let d = after_length (names_of w) name (with_place spot (Some r)) p in
+    let e = length-map w.lumps (λ (l : WadLump). l.name) in
+    let f = at.at in
+    omega (arith, a.1, b, d, e, f)) in
     let lump : WadLump = with_bytes (get_or w.lumps r (reject_lump table)) table in
     let stays : (k : ℕ) → k ≢ r → slice_get (set w.lumps r lump) k ≡ slice_get w.lumps k = (λ k not. get_other w.lumps r k lump not) in
     let clash : (x : List ℕ) (k j : ℕ) → j ≡ p.marker + 1 + k → place x run ≡ Some k → ((n : ℕ) → place x run ≡ Some n → place word run ≡ Some n → ⊥) → j ≢ r =
-        (λ x k j is here never same. let e : at.k ≡ k = (let f = at.at in omega (arith, is, same, f)) in never k here (there ∙ ap (λ (n : ℕ). Some n) e)) in
+    (λ x k j is here never same. let e : at.k ≡ k = (let f = at.at in omega (arith, is, same, f)) in never k here (there ∙ ap (λ (n : ℕ). Some n) e)) in
     record {
       found = ap (λ (ns : List (List ℕ)). spot_of ns name) (names_stay w spot r table) ∙ found;
       linedefs = stays spot.linedefs (clash (codes "LINEDEFS") p.l spot.linedefs (ap (λ (x : MapSpot). x.linedefs) p.is) p.linedefs (λ n. apart (codes "LINEDEFS") word run 0 n refl));
