@@ -17,10 +17,10 @@ use Rattle.sight_names.specs.Plan.{PlanParts}
 use Rattle.sight_names.specs.Found.{AreConnected, IsListed}
 use Rattle.tri_sectors.specs.Components.{AreComponents}
 use Rattle.block_evidence.specs.declared.Tree.{Tree}
-use Rattle.block_evidence.specs.WholeTree.{IsWholeTree}
+use Rattle.block_evidence.specs.WholeTree.{IsWholeTree, KeepsFrom}
 use Rattle.reject_bits.specs.Parts.{Rejects}
 use Rattle.cert_format.specs.declared.cert.Sizes.{Sizes}
-use Rattle.cert_format.specs.Accepted.{HasRay, IsPairListed, IsNamed}
+use Rattle.cert_format.specs.Accepted.{HasRay, HasTreeWithout, IsPairListed, IsNamed, triangles_of, labels_of}
 use Rattle.pair_budget.specs.declared.results.SourceResult.{SourceResult}
 use Rattle.pair_budget.specs.declared.results.Verdicts.{Verdicts}
 use Rattle.pair_budget.specs.Decided.{DecidesOver}
@@ -62,10 +62,18 @@ AreShown p ts ls rs = AllByRecursion (λ (r : SourceResult). IsShown p ts ls r.f
 abbrev pub AreWholeTrees : PlanParts → List Triangle → List (Option ℕ) → List Tree → Type 0
 AreWholeTrees p ts ls trees = AllByRecursion (λ (t : Tree). (opened : List ℕ) × IsWholeTree (map_of p) ts ls t opened) trees
 
--- each tree of the certificate is whole over the map's mesh, whose labelled triangles the certificate has
-pub record HasWholeTrees (p : PlanParts) (c : CertParts) : Type 0 where
-  pub over : HasTrianglesOf (map_of p) c
-  pub trees : AreWholeTrees p over.triangles over.labels c.trees
+-- each tree of the certificate is whole over its triangles
+abbrev pub HasWholeTrees : Map → CertParts → Type 0
+HasWholeTrees m c = (t : Tree) → Contains c.trees t → (opened : List ℕ) × IsWholeTree m (triangles_of c) (labels_of c) t opened
+
+-- one of these trees is of a, and keeps from b
+abbrev pub HasTreeAway : Map → List Triangle → List (Option ℕ) → List Tree → ℕ → ℕ → Type 0
+HasTreeAway m ts ls trees a b = (t : Tree) × Contains trees t × (t.source ≡ a) × KeepsFrom m ts ls t b
+
+-- where a bit of two sectors is set, no passable lines connect them, or the tree of one of them keeps from the other
+abbrev pub AreSetApart : PlanParts → List Triangle → List (Option ℕ) → Verdicts → Type 0
+AreSetApart p ts ls v = (a b : ℕ) → a < p.sectors → b < p.sectors → a ≢ b → Rejects v.table a b
+    → ¬ AreConnected (map_of p) a b ⊎ (HasTreeAway (map_of p) ts ls v.trees a b ⊎ HasTreeAway (map_of p) ts ls v.trees b a)
 
 -- what the walks of all sectors decide
 pub record AreVerdicts (p : PlanParts) (budget : Budget) (v : Verdicts) : Type 0 where
@@ -107,10 +115,11 @@ IsSymmetric b = (x y : ℕ) → x < b.table.n → y < b.table.n → Rejects b.ta
 abbrev pub HasDiagonal : PlanParts → Built → Type 0
 HasDiagonal p b = (x : ℕ) → x < p.sectors → Rejects b.table x x ↔ ¬ IsNamed (map_of p) x
 
--- where a bit of two sectors is set, no passable lines connect them, or the certificate has the tree of one of them
+-- where a bit of two sectors is set, no passable lines connect them, or the certificate has a tree of one of them that keeps
+-- from the other
 abbrev pub HasTreesOfSet : PlanParts → Built → Type 0
 HasTreesOfSet p b = (x y : ℕ) → x < p.sectors → y < p.sectors → x ≢ y → Rejects b.table x y
-    → ¬ AreConnected (map_of p) x y ⊎ ((t : Tree) × Contains b.cert.trees t × ((t.source ≡ x) ⊎ (t.source ≡ y)))
+    → ¬ AreConnected (map_of p) x y ⊎ (HasTreeWithout (map_of p) b.cert x y ⊎ HasTreeWithout (map_of p) b.cert y x)
 
 -- the certificate has the tree of the sector
 abbrev pub HasTree : Built → ℕ → Type 0

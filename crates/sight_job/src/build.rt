@@ -5,9 +5,9 @@ ghost use Rattle.sight_names.specs.declared.names.Budget.TheVariants.{Full};
 ghost use Rattle.sight_names.specs.Map.{map_of};
 ghost use Rattle.sight_names.specs.Mesh.{IsGoodMesh};
 ghost use Rattle.sight_names.specs.Sound.{IsSound, LinesMeetAtEnds};
-ghost use Rattle.cert_format.specs.Accepted.{triangles_of, labels_of};
+ghost use Rattle.cert_format.specs.Accepted.{IsAccepted, triangles_of, labels_of};
 ghost use Rattle.sight_job.specs.Faces.{AreFacesOf};
-ghost use Rattle.sight_job.specs.Built.{sizes_of, IsBuildFault, AreVerdicts, HasRaysOfClear, RaysJoinPairs, ListsClear, IsSymmetric, HasDiagonal, HasTreesOfSet, HasTrianglesOf, HasWholeTrees, AreWholeTrees, IsWhole, DecidesByMesh, ListsSpent};
+ghost use Rattle.sight_job.specs.Built.{sizes_of, IsBuildFault, AreVerdicts, HasRaysOfClear, RaysJoinPairs, ListsClear, IsSymmetric, HasDiagonal, HasTreesOfSet, HasTrianglesOf, HasWholeTrees, AreSetApart, AreWholeTrees, IsWhole, DecidesByMesh, ListsSpent};
 ghost use Rattle.sight_job.specs.Sight.{AreRaysAlong, HasSightRays, TellsWhoSees};
 ghost use Rattle.pair_budget.specs.Decided.{DecidesOver};
 
@@ -61,12 +61,13 @@ pub fn build_table<R: Threads + Sync, G: Gate + Sync>(
     ensures symmetric { IfOk result IsSymmetric }
     ensures diagonal { IfOk result (HasDiagonal plan.now) }
     ensures set { IfOk result (HasTreesOfSet plan.now) }
-    ensures trees { IfOk result (λ b. HasWholeTrees plan.now b.cert) }
+    ensures trees { IfOk result (λ b. HasWholeTrees (map_of plan.now) b.cert) }
     ensures whole { budget ≡ Full → IfOk result (IsWhole plan.now) }
     ensures decided { IfOk result (DecidesByMesh plan.now budget) }
     ensures spent { IfOk result (ListsSpent plan.now budget) }
     ensures sight_rays { IfOk result (λ b. HasSightRays (map_of plan.now) b.cert) }
     ensures sight { IfOk result (λ b. TellsWhoSees (map_of plan.now) b.table b.cert) }
+    ensures accepted { IfOk result (λ b. IsAccepted (map_of plan.now) b.table.bytes b.cert) }
 {
     let shape = sound_faces(alloc, plan)?;
     let verdicts = verdicts_of(rt, alloc, plan, &shape, workers, budget, gate)?;
@@ -120,6 +121,7 @@ fn verdicts_of<R: Threads + Sync, G: Gate + Sync>(
     requires workers { (1 ≤ workers) × (workers ≤ 64) }
     ensures verdicts { IfOk result (AreVerdicts plan.now budget) }
     ensures trees { IfOk result (λ v. AreWholeTrees plan.now shape.now.mesh.triangles shape.now.labels v.trees) }
+    ensures apart { IfOk result (AreSetApart plan.now shape.now.mesh.triangles shape.now.labels) }
     ensures over { IfOk result (λ v. DecidesOver (map_of plan.now) shape.now.mesh.triangles shape.now.labels budget plan.now.sectors v.table v.listed) }
     ensures along { IfOk result (λ v. AreRaysAlong plan.now shape.now.mesh.triangles shape.now.labels v.rays) }
 {

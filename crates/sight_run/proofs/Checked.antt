@@ -180,7 +180,7 @@ module _ (accepts : AcceptsBuilt) (name out cert : List ℕ) (budget : Budget) (
       is_brought cert (found_then found table) others table spelled c (right_length found.map.sectors (reject_of (found_then found table)) table again.reject len)
       (cert_fetched (others cert) spelled at_cert (short spelled at_cert)) (spelled_reads found.map c spelled shows.is_built.sizes spells) in
       verdict_yes found.map shows.built.table c given shows.is_built.sectors (accepts found.map budget shows.built shows.is_built)
-      (past_lines found.map (brought_as table c) given shows.is_built.sound (subst (λ (r : Result Brought Status). OnSoundLines found.map (OnBrought found.map r) given) brings asked))
+      (past_lines found.map (brought_as table c) given shows.is_built.fit.ends (subst (λ (r : Result Brought Status). OnSoundLines found.map (OnBrought found.map r) given) brings asked))
 
 pub built_is_checked : AcceptsBuilt → BuiltIsChecked
 built_is_checked accepts build check name out cert files others answer ask h have short =

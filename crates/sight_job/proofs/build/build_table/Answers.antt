@@ -6,13 +6,13 @@ use Rattle.sight_names.specs.Plan.{PlanParts}
 use Rattle.cert_format.specs.declared.cert.Labelled.{Labelled}
 use Rattle.cert_format.specs.Parts.{CertParts}
 use Rattle.cert_format.specs.Grammar.{IsInOrder}
-use Rattle.sight_job.specs.Built.{AreWholeTrees}
+use Rattle.sight_job.proofs.Accepting.{is_accepted, trees_of_set, whole_trees_of}
 use Rattle.sight_job.proofs.BuildLaws.{cert_in_order, cert_is}
 use Rattle.sight_job.proofs.GoodLabelled.{labelled_are_good}
 use Rattle.sight_job.proofs.LabelledLaws.{below}
 use Rattle.sight_job.proofs.RayLaws.{rays_join}
 use Rattle.sight_job.proofs.Seeing.{has_sight_rays, tells_who_sees}
-use Rattle.sight_job.proofs.VerdictLaws.{cert_rays, cert_trees, cert_set, listed_are_clear, listed_over, both_bits_of, nothing_listed}
+use Rattle.sight_job.proofs.VerdictLaws.{cert_rays, cert_trees, listed_are_clear, listed_over, both_bits_of, nothing_listed, own_bit}
 use Rattle.sight_job.proofs.build.build_table.Goals as goal
 
 pub cert_of-cert-requires : goal.cert_of-cert-requires
@@ -42,7 +42,7 @@ returns-clause-whole g c = λ full. record {
 }
 
 pub returns-clause-set : goal.returns-clause-set
-returns-clause-set g c = cert_set c.args.plan.now c.args.budget c.in_ok-verdicts.verdicts c.in_ok-verdicts.ensures.verdicts c.cert_of-cert.result (ap (λ (d : CertParts). d.rays) c.cert_of-cert.ensures ∙ c.into_vec.ensures) (ap (λ (d : CertParts). d.listed) c.cert_of-cert.ensures ∙ (c.in_ok-listed.ensures.items ∙ c.as_slice.ensures)) (ap (λ (d : CertParts). d.trees) c.cert_of-cert.ensures ∙ c.into_vec-2.ensures)
+returns-clause-set g c = trees_of_set c.args.plan.now c.points.ensures.plan c.in_ok-shape.shape.mesh.triangles c.in_ok-shape.shape.labels c.in_ok-shape.ensures.faces.good c.in_ok-verdicts.verdicts c.cert_of-cert.result (ap (λ (d : CertParts). d.triangles) c.cert_of-cert.ensures ∙ c.in_ok-triangles.ensures.list) (ap (λ (d : CertParts). d.trees) c.cert_of-cert.ensures ∙ c.into_vec-2.ensures) c.in_ok-verdicts.ensures.apart
 
 pub returns-clause-mesh : goal.returns-clause-mesh
 returns-clause-mesh g c = subst (λ (xs : List Labelled). IsGoodMesh (map_of c.args.plan.now) (map (λ (l : Labelled). l.triangle) xs) (map (λ (l : Labelled). Some l.sector) xs)) (sym (ap (λ (d : CertParts). d.triangles) c.cert_of-cert.ensures ∙ c.in_ok-triangles.ensures.list)) (labelled_are_good (map_of c.args.plan.now) c.in_ok-shape.shape.mesh.triangles c.in_ok-shape.shape.labels c.in_ok-shape.ensures.faces.good)
@@ -57,16 +57,7 @@ returns-clause-triangles g c = record {
 }
 
 pub returns-clause-trees : goal.returns-clause-trees
-returns-clause-trees g c = record {
-  over = record {
-    triangles = c.in_ok-shape.shape.mesh.triangles;
-    labels = c.in_ok-shape.shape.labels;
-    mesh = c.in_ok-shape.ensures.faces.mesh;
-    labelled = c.in_ok-shape.ensures.faces.labels;
-    kept = ap (λ (d : CertParts). d.triangles) c.cert_of-cert.ensures ∙ c.in_ok-triangles.ensures.list;
-  };
-  trees = subst (AreWholeTrees c.args.plan.now c.in_ok-shape.shape.mesh.triangles c.in_ok-shape.shape.labels) (sym (ap (λ (d : CertParts). d.trees) c.cert_of-cert.ensures ∙ c.into_vec-2.ensures)) c.in_ok-verdicts.ensures.trees;
-}
+returns-clause-trees g c = whole_trees_of c.args.plan.now c.points.ensures.plan c.in_ok-shape.shape.mesh.triangles c.in_ok-shape.shape.labels c.in_ok-shape.ensures.faces.good c.in_ok-verdicts.verdicts c.cert_of-cert.result (ap (λ (d : CertParts). d.triangles) c.cert_of-cert.ensures ∙ c.in_ok-triangles.ensures.list) (ap (λ (d : CertParts). d.trees) c.cert_of-cert.ensures ∙ c.into_vec-2.ensures) c.in_ok-verdicts.ensures.trees
 
 pub returns-clause-decided : goal.returns-clause-decided
 returns-clause-decided g c = record {
@@ -99,3 +90,11 @@ returns-clause-sight_rays g c = has_sight_rays c.args.plan.now c.points.ensures.
 
 pub returns-clause-sight : goal.returns-clause-sight
 returns-clause-sight g c = tells_who_sees c.args.plan.now c.points.ensures.plan c.requires.audited c.in_ok-shape.shape.mesh.triangles c.in_ok-shape.shape.labels c.in_ok-shape.ensures.faces.good c.args.budget c.in_ok-verdicts.verdicts c.in_ok-verdicts.ensures.verdicts c.in_ok-verdicts.ensures.over c.in_ok-verdicts.ensures.along c.cert_of-cert.result (ap (λ (d : CertParts). d.rays) c.cert_of-cert.ensures ∙ c.into_vec.ensures) (ap (λ (d : CertParts). d.listed) c.cert_of-cert.ensures ∙ (c.in_ok-listed.ensures.items ∙ c.as_slice.ensures)) (ap (λ (d : CertParts). d.trees) c.cert_of-cert.ensures ∙ c.into_vec-2.ensures)
+
+pub returns-clause-accepted : goal.returns-clause-accepted
+returns-clause-accepted g c =
+    let p = c.args.plan.now in
+    let v = c.in_ok-verdicts.verdicts in
+    let are = c.in_ok-verdicts.ensures.verdicts in
+    is_accepted p (record { table = v.table; listed = v.listed; cert = c.cert_of-cert.result }) are.table.sectors (returns-clause-symmetric g c) (own_bit p c.args.budget v are)
+    (sym (ap (λ (d : CertParts). d.listed) c.cert_of-cert.ensures ∙ (c.in_ok-listed.ensures.items ∙ c.as_slice.ensures))) (returns-clause-mesh g c) (returns-clause-sight_rays g c) (returns-clause-trees g c) (returns-clause-clear g c) (returns-clause-set g c) (returns-clause-rays g c)
