@@ -31,7 +31,6 @@ use Rattle.cert_checker.specs.Pairs.{AreTotals}
 use Rattle.cert_checker.proofs.SameBits.{HaveOneBits, promised_same}
 use Rattle.sight_run.specs.declared.counts.Counts.{Counts}
 use Rattle.sight_run.specs.Counts.{counts_with}
-use Rattle.sight_job.specs.declared.build.Built.{Built}
 use Rattle.sight_run.specs.declared.status.Flaw.TheVariants as flaw
 use Rattle.sight_run.specs.declared.status.Role.{Role}
 use Rattle.sight_run.specs.declared.status.Role.TheVariants as role
@@ -39,7 +38,7 @@ use Rattle.sight_run.specs.declared.status.Status.{Status}
 use Rattle.sight_run.specs.declared.status.Status.TheVariants as status
 use Rattle.sight_run.specs.declared.status.Why.TheVariants as why
 use Rattle.sight_run.specs.Answer.{Answer, ◌>>=◌, IsTheAnswer, only_line}
-use Rattle.sight_run.specs.Build.{AreAsked, BuildCalls, IsBuiltOf, ShowsBuild, build_writes}
+use Rattle.sight_run.specs.Build.{AreAsked, BuildCalls, ShowsBuild, build_writes}
 use Rattle.sight_run.specs.Check.{Brought, CheckCalls, IsVerdictOn, OnBrought, VerdictCalls, brought, cert_in, of_cert_fetch, of_length, of_reading, reject_of, yes_line}
 use Rattle.sight_run.specs.Input.{Found, OnFound, found_in, found_of, of_fetch}
 use Rattle.sight_run.specs.Obeys.{AnswersAsked, IsAnswer, Obeys}
@@ -48,7 +47,7 @@ use Rattle.sight_run.specs.Sizes.{sizes_of_map}
 use Rattle.sight_run.specs.Sound.{OnSoundLines}
 use Rattle.sight_run.specs.Words.{asked_of, file_names, has_twice, is_built, of_order}
 use Rattle.sight_run.specs.Zero.{table_len}
-use Rattle.sight_run.specs.Laws.{AcceptsBuilt, AskBoth, BuiltIsChecked, BuiltRunIsChecked, ChecksYes, EndWithYes, HaveBoth, IsShort, SaysYes, Sinks, totals_of}
+use Rattle.sight_run.specs.Laws.{AskBoth, BuiltIsChecked, BuiltRunIsChecked, ChecksYes, EndWithYes, HaveBoth, IsShort, SaysYes, Sinks, totals_of}
 use Rattle.sight_run.proofs.Round.{IsFoundAgain, found_again, found_then, same_ok}
 use Rattle.sight_run.proofs.Stood.{bytes_of, differ, of_words, under_cert, under_out}
 use Rattle.sight_run.proofs.Totals.{same_counts}
@@ -160,7 +159,7 @@ wad_fetched o name bytes found e lt h =
     by false q = refl
 
 -- the map was found in these bytes, and what was built of it is in these files
-module _ (accepts : AcceptsBuilt) (name out cert : List ℕ) (budget : Budget) (files others : Files) (found : Found) (answer : Answer) (given : Result Answer Status) where
+module _ (name out cert : List ℕ) (budget : Budget) (files others : Files) (found : Found) (answer : Answer) (given : Result Answer Status) where
   checked : (old spelled : List ℕ) → found_in name old ≡ Ok found → same_name (codes "REJECT") name ≡ false → bytes_eq out cert ≡ false
       → (shows : ShowsBuild name out (Some cert) budget found answer) → shows.spelled ≡ Some spelled → Spells shows.built.cert.sizes spelled shows.built.cert
       → HaveBoth (put_all files answer.writes) others out cert → IsShort others cert
@@ -179,11 +178,11 @@ module _ (accepts : AcceptsBuilt) (name out cert : List ℕ) (budget : Budget) (
       let brings : brought cert (found_then found table) others ≡ Ok (brought_as table c) =
       is_brought cert (found_then found table) others table spelled c (right_length found.map.sectors (reject_of (found_then found table)) table again.reject len)
       (cert_fetched (others cert) spelled at_cert (short spelled at_cert)) (spelled_reads found.map c spelled shows.is_built.sizes spells) in
-      verdict_yes found.map shows.built.table c given shows.is_built.sectors (accepts found.map budget shows.built shows.is_built)
+      verdict_yes found.map shows.built.table c given shows.is_built.sectors shows.is_built.accepted
       (past_lines found.map (brought_as table c) given shows.is_built.fit.ends (subst (λ (r : Result Brought Status). OnSoundLines found.map (OnBrought found.map r) given) brings asked))
 
-pub built_is_checked : AcceptsBuilt → BuiltIsChecked
-built_is_checked accepts build check name out cert files others answer ask h have short =
+pub built_is_checked : BuiltIsChecked
+built_is_checked build check name out cert files others answer ask h have short =
     on (found_of ask.wad name files) refl (subst (λ r. AnswersAsked r files (Ok answer)) ask.built h)
   where
     apart : bytes_eq out cert ≡ false
@@ -203,7 +202,7 @@ built_is_checked accepts build check name out cert files others answer ask h hav
               built = ap (λ (x : Answer). x.line) shows.is;
               only = λ given q.
                   let asked = subst (λ r. AnswersAsked r others given) ask.checked q in
-                  let yes = checked accepts name out cert ask.budget files others found answer given old.bytes spelled old.are ask.other apart shows f a have short asked in
+                  let yes = checked name out cert ask.budget files others found answer given old.bytes spelled old.are ask.other apart shows f a have short asked in
                   let same = same_counts shows.built.table shows.built.cert.listed found.map.sectors yes.totals shows.is_built.symmetric shows.is_built.sectors yes.are in
                   yes.is ∙ ap (λ (k : Counts). Ok (only_line (yes_line k.sectors (totals_of k)))) same;
             }
@@ -246,11 +245,11 @@ ends_yes check others first last old new counts (status.WriteFault role.Text) on
 ends_yes check others first last old new counts (status.WriteFault k) one h = never_broken (IsAnswer check others) _ k others last.files _ one h.ends.0
 ends_yes check others first last old new counts s one h = never_refused (IsAnswer check others) _ _ s one h.ends.0
 
-pub built_run_is_checked : AcceptsBuilt → BuiltRunIsChecked
-built_run_is_checked accepts build check name out cert files stand others before after first last building checking s ask ran e have short h =
+pub built_run_is_checked : BuiltRunIsChecked
+built_run_is_checked build check name out cert files stand others before after first last building checking s ask ran e have short h =
     let done = ends_done build files stand before after building ran e in
     let both : HaveBoth (put_all files done.answer.writes) others out cert = record { at_out = have.at_out ∙ ap (λ (f : Files). f out) done.stands; at_cert = have.at_cert ∙ ap (λ (f : Files). f cert) done.stands } in
-    let yes = built_is_checked accepts build check name out cert files others done.answer ask done.called both short in
+    let yes = built_is_checked build check name out cert files others done.answer ask done.called both short in
     record {
       counts = yes.counts;
       built = done.said ∙ ap (λ (l : List ℕ). option_map (λ held. held ++ l) building.old.held) yes.built;

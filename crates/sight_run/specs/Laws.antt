@@ -4,8 +4,6 @@ use Rattle.std.specs.Option.{option_map}
 use Rattle.sight_names.specs.declared.names.Budget.{Budget}
 use Rattle.sight_names.specs.Map.{Map}
 use Rattle.sight_names.specs.Table.{IsTable}
-use Rattle.cert_format.specs.Accepted.{IsAccepted}
-use Rattle.sight_job.specs.declared.build.Built.{Built}
 use Rattle.shelf_io.specs.Shelf.{Files, ShelfState}
 use Rattle.shelf_io.specs.Sink.{SinkState}
 use Rattle.wad_dir.specs.Map.{same_name}
@@ -17,7 +15,7 @@ use Rattle.sight_run.specs.declared.status.Role.TheVariants as role
 use Rattle.sight_run.specs.declared.status.Status.{Status}
 use Rattle.sight_run.specs.declared.status.Status.TheVariants as status
 use Rattle.sight_run.specs.Answer.{Answer, only_line}
-use Rattle.sight_run.specs.Build.{IsBuiltOf, build_line}
+use Rattle.sight_run.specs.Build.{build_line}
 use Rattle.sight_run.specs.Check.{yes_line}
 use Rattle.sight_run.specs.Input.{Found, found_of}
 use Rattle.sight_run.specs.Obeys.{IsAnswer}
@@ -54,10 +52,6 @@ pub record SaysYes (check : List (List ℕ)) (name : List ℕ) (others : Files) 
   pub counts : Counts
   pub built : answer.line ≡ build_line name counts
   pub only : (given : Result Answer Status) → IsAnswer check others given → given ≡ Ok (only_line (yes_line counts.sectors (totals_of counts)))
-
--- whatever is built is accepted
-abbrev pub AcceptsBuilt : Type 0
-AcceptsBuilt = (m : Map) (budget : Budget) (built : Built) → IsBuiltOf m budget built → IsAccepted m built.table.bytes built.cert
 
 -- Where a build is answered, the one answer to the check of what it wrote is yes, with the same counts.
 abbrev pub BuiltIsChecked : Type 0

@@ -1,16 +1,16 @@
 //! What holds of the orders together, and of what they write.
 
-ghost use Rattle.sight_run.specs.Laws.{AcceptsBuilt, BuildKeepsLumps, BuiltIsChecked, BuiltRunIsChecked, ZeroKeepsLumps};
+ghost use Rattle.sight_run.specs.Laws.{BuildKeepsLumps, BuiltIsChecked, BuiltRunIsChecked, ZeroKeepsLumps};
 
 /// Where `build` is answered, the one answer that `check` of OUT and FILE calls for is yes, with the same counts.
 pub fn built_is_checked()
-    ensures { AcceptsBuilt → BuiltIsChecked }
+    ensures { BuiltIsChecked }
 {}
 
 /// Where a run of `build` ends with Done, a run of `check` on what then stands in OUT and FILE ends with Done, but for
 /// want of memory and faults of reading or of the text.
 pub fn built_run_is_checked()
-    ensures { AcceptsBuilt → BuiltRunIsChecked }
+    ensures { BuiltRunIsChecked }
 {}
 
 /// Where `zero` is answered, OUT is read as the WAD with a clear REJECT for the map. The map's name finds it there with
