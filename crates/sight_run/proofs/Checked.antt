@@ -31,7 +31,6 @@ use Rattle.cert_checker.specs.Pairs.{AreTotals}
 use Rattle.cert_checker.proofs.SameBits.{HaveOneBits, promised_same}
 use Rattle.sight_run.specs.declared.counts.Counts.{Counts}
 use Rattle.sight_run.specs.Counts.{counts_with}
-use Rattle.sight_job.specs.declared.build.Built.{Built}
 use Rattle.sight_run.specs.declared.status.Flaw.TheVariants as flaw
 use Rattle.sight_run.specs.declared.status.Role.{Role}
 use Rattle.sight_run.specs.declared.status.Role.TheVariants as role
@@ -39,7 +38,7 @@ use Rattle.sight_run.specs.declared.status.Status.{Status}
 use Rattle.sight_run.specs.declared.status.Status.TheVariants as status
 use Rattle.sight_run.specs.declared.status.Why.TheVariants as why
 use Rattle.sight_run.specs.Answer.{Answer, ◌>>=◌, IsTheAnswer, only_line}
-use Rattle.sight_run.specs.Build.{AreAsked, BuildCalls, IsBuiltOf, ShowsBuild, build_writes}
+use Rattle.sight_run.specs.Build.{AreAsked, BuildCalls, ShowsBuild, build_writes}
 use Rattle.sight_run.specs.Check.{Brought, CheckCalls, IsVerdictOn, OnBrought, VerdictCalls, brought, cert_in, of_cert_fetch, of_length, of_reading, reject_of, yes_line}
 use Rattle.sight_run.specs.Input.{Found, OnFound, found_in, found_of, of_fetch}
 use Rattle.sight_run.specs.Obeys.{AnswersAsked, IsAnswer, Obeys}
@@ -48,52 +47,10 @@ use Rattle.sight_run.specs.Sizes.{sizes_of_map}
 use Rattle.sight_run.specs.Sound.{OnSoundLines}
 use Rattle.sight_run.specs.Words.{asked_of, file_names, has_twice, is_built, of_order}
 use Rattle.sight_run.specs.Zero.{table_len}
-use Rattle.sight_run.specs.Laws.{AcceptsBuilt, AskBoth, BuiltIsChecked, BuiltRunIsChecked, ChecksYes, EndWithYes, HaveBoth, IsShort, SaysYes, Sinks, totals_of}
-use Rattle.sight_run.proofs.Round.{IsFoundAgain, found_again, found_then, passes, same_ok}
+use Rattle.sight_run.specs.Laws.{AskBoth, BuiltIsChecked, BuiltRunIsChecked, ChecksYes, EndWithYes, HaveBoth, IsShort, SaysYes, Sinks, totals_of}
+use Rattle.sight_run.proofs.Round.{IsFoundAgain, found_again, found_then, same_ok}
+use Rattle.sight_run.proofs.Stood.{bytes_of, differ, of_words, under_cert, under_out}
 use Rattle.sight_run.proofs.Totals.{same_counts}
-
--- ---- the words
-
-of_words : (words : List (List ℕ)) (o : Order) → asked_of words ≡ Ok o → has_twice (file_names o) ≡ false
-unfolding asked_of
-of_words words o h = by (order_of words) h
-  where
-    on : (a b : Bool) (x : Order) → has_twice (file_names x) ≡ b → (if not a then Err status.Usage else (if b then Err status.SameName else Ok x)) ≡ Ok o → has_twice (file_names o) ≡ false
-    on false b x e q = absurd cc
-    on true true x e q = absurd cc
-    on true false x e q = subst (λ (y : Order). has_twice (file_names y) ≡ false) (same_ok x o q) e
-
-    by : (r : Option Order) → of_order r ≡ Ok o → has_twice (file_names o) ≡ false
-    by None q = absurd cc
-    by (Some x) q = on (is_built x) (has_twice (file_names x)) x refl q
-
-differ : (wad out cert : List ℕ) → has_twice (wad ∷ out ∷ cert ∷ []) ≡ false → bytes_eq out cert ≡ false
-differ wad out cert h = by (bytes_eq wad out) (bytes_eq wad cert) (bytes_eq out cert) h
-  where
-    by : (a b c : Bool) → ((a || (b || false)) || ((c || false) || (false || false))) ≡ false → c ≡ false
-    by a b false e = refl
-    by true b true e = absurd cc
-    by false true true e = absurd cc
-    by false false true e = absurd cc
-
--- ---- the files
-
-not_back : (a b : List ℕ) → bytes_eq a b ≡ false → bytes_eq b a ≡ false
-not_back a b h = by (bytes_eq b a) refl
-  where
-    by : (c : Bool) → bytes_eq b a ≡ c → c ≡ false
-    by true e = let same : bytes_eq a b ≡ true = (bytes_eq-Decides a b).1 (sym ((bytes_eq-Decides b a).0 e)) in absurd cc
-    by false e = refl
-
-itself : (a : List ℕ) → bytes_eq a a ≡ true
-itself a = (bytes_eq-Decides a a).1 refl
-
-under_out : (files : Files) (out cert bytes spelled : List ℕ) → bytes_eq out cert ≡ false → put (put files out bytes) cert spelled out ≡ Some bytes
-under_out files out cert bytes spelled h =
-    ap (λ (b : Bool). if b then Some spelled else put files out bytes out) (not_back out cert h) ∙ ap (λ (b : Bool). if b then Some bytes else files out) (itself out)
-
-under_cert : (files : Files) (out cert bytes spelled : List ℕ) → put (put files out bytes) cert spelled cert ≡ Some spelled
-under_cert files out cert bytes spelled = ap (λ (b : Bool). if b then Some spelled else put files out bytes cert) (itself cert)
 
 -- ---- the table's bits
 
@@ -201,17 +158,8 @@ wad_fetched o name bytes found e lt h =
     by true q = absurd cc
     by false q = refl
 
--- the bytes in which a map was found
-record HasBytes (name : List ℕ) (found : Found) : Type 0 where
-  bytes : List ℕ
-  are : found_in name bytes ≡ Ok found
-
-bytes_of : (wad name : List ℕ) (files : Files) (found : Found) → found_of wad name files ≡ Ok found → HasBytes name found
-unfolding found_of
-bytes_of wad name files found h = let p = passes (of_fetch (content_of (files wad) 2147483647)) (λ bs. found_in name bs) found h in record { bytes = p.x; are = p.rest }
-
 -- the map was found in these bytes, and what was built of it is in these files
-module _ (accepts : AcceptsBuilt) (name out cert : List ℕ) (budget : Ask) (files others : Files) (found : Found) (answer : Answer) (given : Result Answer Status) where
+module _ (name out cert : List ℕ) (budget : Ask) (files others : Files) (found : Found) (answer : Answer) (given : Result Answer Status) where
   checked : (old spelled : List ℕ) → found_in name old ≡ Ok found → same_name (codes "REJECT") name ≡ false → bytes_eq out cert ≡ false
       → (shows : ShowsBuild name out (Some cert) budget found answer) → shows.spelled ≡ Some spelled → Spells shows.built.cert.sizes spelled shows.built.cert
       → HaveBoth (put_all files answer.writes) others out cert → IsShort others cert
@@ -228,13 +176,13 @@ module _ (accepts : AcceptsBuilt) (name out cert : List ℕ) (budget : Ask) (fil
       let asked : CheckCalls cert others (found_then found table) given = subst (λ (r : Result Found Status). OnFound r (CheckCalls cert others) given) there q in
       let len : length table ≡ table_len found.map.sectors = shows.whole.len ∙ ap table_len shows.is_built.sectors in
       let brings : brought cert (found_then found table) others ≡ Ok (brought_as table c) =
-          is_brought cert (found_then found table) others table spelled c (right_length found.map.sectors (reject_of (found_then found table)) table again.reject len)
-              (cert_fetched (others cert) spelled at_cert (short spelled at_cert)) (spelled_reads found.map c spelled shows.is_built.sizes spells) in
-      verdict_yes found.map shows.built.table c given shows.is_built.sectors (accepts found.map budget shows.built shows.is_built)
-          (past_lines found.map (brought_as table c) given shows.is_built.sound (subst (λ (r : Result Brought Status). OnSoundLines found.map (OnBrought found.map r) given) brings asked))
+      is_brought cert (found_then found table) others table spelled c (right_length found.map.sectors (reject_of (found_then found table)) table again.reject len)
+      (cert_fetched (others cert) spelled at_cert (short spelled at_cert)) (spelled_reads found.map c spelled shows.is_built.sizes spells) in
+      verdict_yes found.map shows.built.table c given shows.is_built.sectors shows.is_built.accepted
+      (past_lines found.map (brought_as table c) given shows.is_built.fit.ends (subst (λ (r : Result Brought Status). OnSoundLines found.map (OnBrought found.map r) given) brings asked))
 
-pub built_is_checked : AcceptsBuilt → BuiltIsChecked
-built_is_checked accepts build check name out cert files others answer ask h have short =
+pub built_is_checked : BuiltIsChecked
+built_is_checked build check name out cert files others answer ask h have short =
     on (found_of ask.wad name files) refl (subst (λ r. AnswersAsked r files (Ok answer)) ask.built h)
   where
     apart : bytes_eq out cert ≡ false
@@ -254,7 +202,7 @@ built_is_checked accepts build check name out cert files others answer ask h hav
               built = ap (λ (x : Answer). x.line) shows.is;
               only = λ given q.
                   let asked = subst (λ r. AnswersAsked r others given) ask.checked q in
-                  let yes = checked accepts name out cert ask.budget files others found answer given old.bytes spelled old.are ask.other apart shows f a have short asked in
+                  let yes = checked name out cert ask.budget files others found answer given old.bytes spelled old.are ask.other apart shows f a have short asked in
                   let same = same_counts shows.built.table shows.built.cert.listed found.map.sectors yes.totals shows.is_built.symmetric shows.is_built.sectors yes.are in
                   yes.is ∙ ap (λ (k : Counts). Ok (only_line (yes_line k.sectors (totals_of k)))) same;
             }
@@ -297,11 +245,11 @@ ends_yes check others first last old new counts (status.WriteFault role.Text) on
 ends_yes check others first last old new counts (status.WriteFault k) one h = never_broken (IsAnswer check others) _ k others last.files _ one h.ends.0
 ends_yes check others first last old new counts s one h = never_refused (IsAnswer check others) _ _ s one h.ends.0
 
-pub built_run_is_checked : AcceptsBuilt → BuiltRunIsChecked
-built_run_is_checked accepts build check name out cert files stand others before after first last building checking s ask ran e have short h =
+pub built_run_is_checked : BuiltRunIsChecked
+built_run_is_checked build check name out cert files stand others before after first last building checking s ask ran e have short h =
     let done = ends_done build files stand before after building ran e in
     let both : HaveBoth (put_all files done.answer.writes) others out cert = record { at_out = have.at_out ∙ ap (λ (f : Files). f out) done.stands; at_cert = have.at_cert ∙ ap (λ (f : Files). f cert) done.stands } in
-    let yes = built_is_checked accepts build check name out cert files others done.answer ask done.called both short in
+    let yes = built_is_checked build check name out cert files others done.answer ask done.called both short in
     record {
       counts = yes.counts;
       built = done.said ∙ ap (λ (l : List ℕ). option_map (λ held. held ++ l) building.old.held) yes.built;

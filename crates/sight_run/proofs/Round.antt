@@ -121,6 +121,12 @@ lump_same v w i j e = ap (λ (l : WadLump). l.bytes) (get_same v.lumps w.lumps i
 abbrev pub found_then : Found → List ℕ → Found
 found_then found table = found_with (with_reject found.wad found.spot table) (spot_then found.spot) found.map
 
+-- what was written is read again
+pub written_again : (name old table bytes : List ℕ) (found : Found) → found_in name old ≡ Ok found → same_name (codes "REJECT") name ≡ false → with_table found table ≡ Ok bytes → IsReadAgain found.wad name found.spot table bytes
+written_again name old table bytes found h other made =
+    let was = was_found name old found h in
+    rewritten_is_read old found.wad name found.spot table bytes was.read was.spot other (was_printed (printed (with_reject found.wad found.spot table)) bytes made)
+
 -- the map is found in the bytes that were printed, and the REJECT is the table
 pub record IsFoundAgain (name : List ℕ) (found : Found) (table bytes : List ℕ) : Type 0 where
   pub again : found_in name bytes ≡ Ok (found_then found table)
@@ -131,7 +137,7 @@ pub found_again : (name old table bytes : List ℕ) (found : Found) → found_in
 found_again name old table bytes found h other made =
     let was = was_found name old found h in
     let new : WadFile = with_reject found.wad found.spot table in
-    let again = rewritten_is_read old found.wad name found.spot table bytes was.read was.spot other (was_printed (printed new) bytes made) in
+    let again = written_again name old table bytes found h other made in
     let k = again.kept in
     let here = (λ (e : (l : WadLump) × (slice_get new.lumps (reject_then found.spot) ≡ Some l) × (l.bytes ≡ table)). ap (λ (l : WadLump). l.bytes) (sym (unwrap_or-slice_get new.lumps (reject_then found.spot) nothing) ∙ ap (λ (o : Option WadLump). unwrap_or o nothing) e.1) ∙ e.2) in
     record {

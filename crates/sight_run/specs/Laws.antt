@@ -3,13 +3,11 @@ use Rattle.std.specs.Prelude.{◌≡◌, ◌≤◌, ℕ, false, List, ◌++◌, 
 use Rattle.std.specs.Option.{option_map}
 use Rattle.sight_names.specs.declared.names.Ask.{Ask}
 use Rattle.sight_names.specs.Map.{Map}
-use Rattle.cert_format.specs.Accepted.{IsAccepted}
-use Rattle.sight_job.specs.declared.build.Built.{Built}
+use Rattle.sight_names.specs.Table.{IsTable}
 use Rattle.shelf_io.specs.Shelf.{Files, ShelfState}
 use Rattle.shelf_io.specs.Sink.{SinkState}
 use Rattle.wad_dir.specs.Map.{same_name}
 use Rattle.wad_rewrite.specs.Again.{IsReadAgain}
-use Rattle.reject_bits.specs.Parts.{IsWhole, TableParts}
 use Rattle.order_words.specs.declared.order.Order.TheVariants as order
 use Rattle.cert_checker.specs.declared.verdict.Totals.{Totals}
 use Rattle.sight_run.specs.declared.counts.Counts.{Counts}
@@ -17,7 +15,7 @@ use Rattle.sight_run.specs.declared.status.Role.TheVariants as role
 use Rattle.sight_run.specs.declared.status.Status.{Status}
 use Rattle.sight_run.specs.declared.status.Status.TheVariants as status
 use Rattle.sight_run.specs.Answer.{Answer, only_line}
-use Rattle.sight_run.specs.Build.{IsBuiltOf, build_line}
+use Rattle.sight_run.specs.Build.{build_line}
 use Rattle.sight_run.specs.Check.{yes_line}
 use Rattle.sight_run.specs.Input.{Found, found_of}
 use Rattle.sight_run.specs.Obeys.{IsAnswer}
@@ -55,10 +53,6 @@ pub record SaysYes (check : List (List ℕ)) (name : List ℕ) (others : Files) 
   pub built : answer.line ≡ build_line name counts
   pub only : (given : Result Answer Status) → IsAnswer check others given → given ≡ Ok (only_line (yes_line counts.sectors (totals_of counts)))
 
--- whatever is built is accepted
-abbrev pub AcceptsBuilt : Type 0
-AcceptsBuilt = (m : Map) (budget : Ask) (built : Built) → IsBuiltOf m budget built → IsAccepted m built.table.bytes built.cert
-
 -- Where a build is answered, the one answer to the check of what it wrote is yes, with the same counts.
 abbrev pub BuiltIsChecked : Type 0
 BuiltIsChecked = (build check : List (List ℕ)) (name out cert : List ℕ) (files others : Files) (answer : Answer)
@@ -94,21 +88,30 @@ BuiltRunIsChecked = (build check : List (List ℕ)) (name out cert : List ℕ) (
 
 -- ---- what a written WAD keeps
 
--- under this name stands a WAD which is read as the one in which the map was found, with this REJECT for it, and with all other lumps
-pub record KeepsLumps (wad name out table : List ℕ) (files stand : Files) : Type 0 where
+-- under OUT stands a WAD which is read as the one in which the map was found, with such a REJECT for it, and with all other lumps
+pub record KeepsLumps (wad name out : List ℕ) (files stand : Files) (IsRight : Map → List ℕ → Type 0) : Type 0 where
   pub found : Found
   pub was : found_of wad name files ≡ Ok found
+  pub table : List ℕ
+  pub is_right : IsRight found.map table
   pub bytes : List ℕ
   pub stands : stand out ≡ Some bytes
   pub again : IsReadAgain found.wad name found.spot table bytes
 
--- Where `zero` or `build` is answered, OUT holds the WAD with another REJECT and all other lumps as they were. The map isn't called REJECT.
+abbrev pub IsClearTable : Map → List ℕ → Type 0
+IsClearTable m table = table ≡ clear_table m.sectors
+
+abbrev pub HasTableLength : Map → List ℕ → Type 0
+HasTableLength m table = IsTable m.sectors table
+
+-- Where `zero` is answered, OUT holds the WAD with a clear REJECT and all other lumps as they were. The map isn't called REJECT.
 abbrev pub ZeroKeepsLumps : Type 0
 ZeroKeepsLumps = (words : List (List ℕ)) (wad name out : List ℕ) (files : Files) (answer : Answer)
     → asked_of words ≡ Ok (order.Zero wad name out) → same_name (codes "REJECT") name ≡ false → IsAnswer words files (Ok answer)
-    → (n : ℕ) × KeepsLumps wad name out (clear_table n) files (put_all files answer.writes)
+    → KeepsLumps wad name out files (put_all files answer.writes) IsClearTable
 
+-- where `build` is answered, it holds the WAD with a table of the map's sectors and all other lumps as they were
 abbrev pub BuildKeepsLumps : Type 0
 BuildKeepsLumps = (words : List (List ℕ)) (wad name out : List ℕ) (asked report : Option (List ℕ)) (workers : ℕ) (budget : Ask) (files : Files) (answer : Answer)
     → asked_of words ≡ Ok (order.Build wad name out asked report workers budget) → same_name (codes "REJECT") name ≡ false → IsAnswer words files (Ok answer)
-    → (table : TableParts) × IsWhole table × KeepsLumps wad name out table.bytes files (put_all files answer.writes)
+    → KeepsLumps wad name out files (put_all files answer.writes) HasTableLength

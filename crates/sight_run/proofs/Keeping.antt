@@ -1,0 +1,72 @@
+-- What a WAD that was written keeps of the one that was read.
+use Rattle.std.proofs.Common.{◌≡◌, ℕ, ◌*◌, List, [], ◌∷◌, Bool, true, false, if◌then◌else◌, Option, Some, None, Result, Ok, Err, refl, sym, ap, ◌∙◌, subst}
+use Rattle.std.specs.Prelude.{bytes_eq, codes, ⊤}
+use Rattle.std.specs.Int.{div_ceil}
+use Rattle.sight_names.specs.declared.names.Ask.{Ask}
+use Rattle.sight_names.specs.Table.{IsTable}
+use Rattle.shelf_io.specs.Shelf.{Files, put}
+use Rattle.wad_dir.specs.Map.{same_name}
+use Rattle.order_words.specs.declared.order.Order.TheVariants as order
+use Rattle.cert_format.specs.Parts.{CertParts}
+use Rattle.sight_run.specs.declared.status.Status.{Status}
+use Rattle.sight_run.specs.Answer.{Answer, ◌>>=◌}
+use Rattle.sight_run.specs.Build.{AreAsked, BuildCalls, build_writes}
+use Rattle.sight_run.specs.Input.{Found, OnFound, found_of}
+use Rattle.sight_run.specs.Laws.{BuildKeepsLumps, HasTableLength, IsClearTable, KeepsLumps, ZeroKeepsLumps}
+use Rattle.sight_run.specs.Obeys.{AnswersAsked}
+use Rattle.sight_run.specs.Run.{put_all}
+use Rattle.sight_run.specs.Words.{file_names, given, has_twice}
+use Rattle.sight_run.specs.Zero.{ZeroCalls, clear_table, one_wad, with_table, zero_line, zeroed}
+use Rattle.sight_run.proofs.Round.{passes, same_ok, written_again}
+use Rattle.sight_run.proofs.Stood.{bytes_of, differ, itself, of_words, under_out}
+
+stored : (files : Files) (out bytes : List ℕ) → put files out bytes out ≡ Some bytes
+stored files out bytes = ap (λ (b : Bool). if b then Some bytes else files out) (itself out)
+
+pub zero_keeps_lumps : ZeroKeepsLumps
+unfolding zeroed
+zero_keeps_lumps words wad name out files answer asked other h = on (found_of wad name files) refl (subst (λ r. AnswersAsked r files (Ok answer)) asked h)
+  where
+    made : (found : Found) → Ok answer ≡ zeroed name out found → found_of wad name files ≡ Ok found → KeepsLumps wad name out files (put_all files answer.writes) IsClearTable
+    made found e q =
+        let table : List ℕ = clear_table found.map.sectors in
+        let p = passes (with_table found table) (λ bytes. Ok (one_wad out bytes (zero_line name found.map.sectors))) answer (sym e) in
+        let is : one_wad out p.x (zero_line name found.map.sectors) ≡ answer = same_ok (one_wad out p.x (zero_line name found.map.sectors)) answer p.rest in
+        let old = bytes_of wad name files found q in
+        record {
+          found = found;
+          was = q;
+          table = table;
+          is_right = refl;
+          bytes = p.x;
+          stands = ap (λ (a : Answer). put_all files a.writes out) (sym is) ∙ stored files out p.x;
+          again = written_again name old.bytes table p.x found old.are other p.step;
+        }
+
+    on : (r : Result Found Status) → found_of wad name files ≡ r → OnFound r (ZeroCalls name out) (Ok answer) → KeepsLumps wad name out files (put_all files answer.writes) IsClearTable
+    on (Err s) e q = absurd cc
+    on (Ok found) e q = made found q e
+
+-- the WAD stands, with the certificate beside it or without
+built_stands : (files : Files) (wad out bytes : List ℕ) (asked spelled : Option (List ℕ)) (c : CertParts) → has_twice (wad ∷ out ∷ given asked) ≡ false → AreAsked asked c spelled → put_all files (build_writes out bytes asked spelled) out ≡ Some bytes
+built_stands files wad out bytes None None c apart h = stored files out bytes
+built_stands files wad out bytes None (Some spelled) c apart h = stored files out bytes
+built_stands files wad out bytes (Some cert) None c apart h = absurd h
+built_stands files wad out bytes (Some cert) (Some spelled) c apart h = under_out files out cert bytes spelled (differ wad out cert apart)
+
+pub build_keeps_lumps : BuildKeepsLumps
+build_keeps_lumps words wad name out asked report workers budget files answer is_asked other h = on (found_of wad name files) refl (subst (λ r. AnswersAsked r files (Ok answer)) is_asked h)
+  where
+    on : (r : Result Found Status) → found_of wad name files ≡ r → OnFound r (BuildCalls name out asked budget) (Ok answer) → KeepsLumps wad name out files (put_all files answer.writes) HasTableLength
+    on (Err s) e q = absurd cc
+    on (Ok found) e q =
+        let old = bytes_of wad name files found e in
+        record {
+          found = found;
+          was = e;
+          table = q.built.table.bytes;
+          is_right = q.whole.len ∙ ap (λ n. div_ceil (n * n) 8) q.is_built.sectors;
+          bytes = q.bytes;
+          stands = ap (λ (a : Answer). put_all files a.writes out) q.is ∙ built_stands files wad out q.bytes asked q.spelled q.built.cert (of_words words (order.Build wad name out asked report workers budget) is_asked) q.are_asked;
+          again = written_again name old.bytes q.built.table.bytes q.bytes found old.are other q.made;
+        }
