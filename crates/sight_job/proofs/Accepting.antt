@@ -1,6 +1,5 @@
 -- The certificate of a build is accepted: what the walks show over the whole mesh they show over the certificate's triangles too, and each pair has its reason.
 use Rattle.std.proofs.Common.{◌≡◌, ◌≢◌, ℕ, ◌<◌, ◌≤◌, ◌⊎◌, inl, inr, List, map, Contains, Option, Some, sym, subst, arith}
-use Rattle.std.specs.List.{AllByRecursion}
 use Rattle.std.proofs.lemmas.List.Elements.{All-contains, All-from_recursion}
 use Rattle.sight_names.specs.declared.names.Pair.{Pair}
 use Rattle.sight_names.specs.declared.names.Triangle.{Triangle}

@@ -1,5 +1,5 @@
 -- The walks of all sectors, and what they decide as parts of a certificate in range and order.
-use Rattle.std.proofs.Common.{◌≡◌, ◌≢◌, ℕ, zero, suc, ◌+◌, ◌-◌, ◌^◌, ◌<◌, ◌≤◌, ◌⊎◌, inl, inr, List, [], ◌∷◌, ◌++◌, length, map, get_or, slice_get, Contains, Option, Some, None, refl, sym, ap, ◌∙◌, subst, arith, add-one, false}
+use Rattle.std.proofs.Common.{◌≡◌, ℕ, zero, suc, ◌-◌, ◌^◌, ◌<◌, ◌≤◌, ◌⊎◌, inl, inr, List, [], ◌∷◌, ◌++◌, length, map, get_or, slice_get, Contains, Option, Some, None, refl, sym, ap, ◌∙◌, subst, arith, add-one}
 use Rattle.std.specs.Prelude.{Result, Ok, Err, IfOk, slice_index, replicate, option_and_then}
 use Rattle.std.specs.List.{AllByRecursion}
 use Rattle.std.specs.List.Sorted.{IsStrictlyIncreasing}
@@ -25,16 +25,15 @@ use Rattle.pair_budget.specs.declared.results.Outcome.{Outcome}
 use Rattle.pair_budget.specs.declared.results.Outcome.TheVariants as outcome
 use Rattle.pair_budget.specs.declared.results.SourceResult.{SourceResult}
 use Rattle.pair_budget.specs.declared.results.Verdicts.{Verdicts}
-use Rattle.pair_budget.specs.Walked.{AreReached, IsTreeFrom, IsOutcome}
-use Rattle.pair_budget.specs.Decide.{HasItsTree, IsResultOf, AreResults, IsFoundBy, IsRayOf, IsSettled, DecidesTable, DecidesList, DecidesRays, trees_of}
+use Rattle.pair_budget.specs.Walked.{IsTreeFrom}
+use Rattle.pair_budget.specs.Decide.{HasItsTree, AreResults, IsFoundBy, IsRayOf, IsSettled, DecidesTable, DecidesList, DecidesRays, trees_of}
 use Rattle.pair_budget.specs.Rows.{tree_of}
-use Rattle.pair_budget.proofs.FindLaws.{get_pushed, reached_by}
+use Rattle.pair_budget.proofs.FindLaws.{reached_by}
 use Rattle.pair_budget.proofs.NamedLaws.{trees_cons}
 use Rattle.sight_names.specs.declared.names.Triangle.{Triangle}
-use Rattle.sight_names.specs.Map.{Map, map_of}
+use Rattle.sight_names.specs.Map.{map_of}
 use Rattle.block_evidence.specs.WholeTree.{IsWholeTree}
 use Rattle.pair_budget.specs.Decided.{AreExact, DecidesOver, TellsConnected}
-use Rattle.pair_budget.specs.Exact.{IsExact}
 use Rattle.pair_budget.specs.Whole.{IsShown}
 use Rattle.pair_budget.proofs.Coming.{all_join}
 use Rattle.tri_sectors.specs.Components.{AreComponents}

@@ -6,8 +6,7 @@ use Rattle.std.proofs.lemmas.Option.{same_Some}
 use Rattle.sight_names.proofs.Lists.{contains_head, contains_tail}
 use Rattle.sight_names.specs.declared.names.Side.{Side}
 use Rattle.sight_names.specs.declared.names.Triangle.{Triangle}
-use Rattle.sight_names.specs.Map.{Map, MapLine, IsMap, sector_on}
-use Rattle.sight_names.specs.Points.{Edge}
+use Rattle.sight_names.specs.Map.{Map, MapLine, IsMap}
 use Rattle.sight_names.specs.Mesh.{IsGoodMesh, triangle_at, label_of, side_edge}
 use Rattle.sight_names.specs.Sequence.{Portal, Left, Right, entry_edge, way_out, apex, third_point, root_portal, roots, IsSolidLine}
 use Rattle.mesh_base.proofs.GoodMesh.{PointFacts}

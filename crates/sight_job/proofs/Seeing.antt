@@ -1,5 +1,5 @@
 -- What the sequences that a build goes by tell of sight.
-use Rattle.std.proofs.Common.{◌≡◌, ◌≢◌, ℕ, zero, suc, ◌<◌, ◌≤◌, ◌⊎◌, inl, inr, List, [], ◌∷◌, ◌++◌, length, slice_get, Contains, Option, Some, None, refl, sym, ap, ◌∙◌, subst, arith, Bool, true, false}
+use Rattle.std.proofs.Common.{◌≡◌, ◌≢◌, ℕ, zero, suc, ◌<◌, ◌≤◌, ◌⊎◌, inl, inr, List, [], ◌∷◌, ◌++◌, slice_get, Contains, Option, Some, None, refl, sym, ap, ◌∙◌, subst, arith, Bool, true, false}
 use Rattle.std.specs.Prelude.{Result, Ok, Err, IfOk, option_and_then}
 use Rattle.std.specs.List.{last_or}
 use Rattle.std.proofs.lemmas.Option.{slice_get_within, same_Some}
@@ -29,18 +29,16 @@ use Rattle.sequence_laws.proofs.All.{stand_in_order}
 use Rattle.reject_bits.specs.Parts.{Rejects}
 use Rattle.cert_format.specs.Parts.{CertParts}
 use Rattle.cert_format.specs.Accepted.{HasRay, IsNamed, IsPairListed}
-use Rattle.block_evidence.specs.declared.Tree.{Tree}
 use Rattle.pair_budget.specs.declared.results.Reached.{Reached}
 use Rattle.pair_budget.specs.declared.results.SourceResult.{SourceResult}
 use Rattle.pair_budget.specs.declared.results.Verdicts.{Verdicts}
 use Rattle.pair_budget.specs.Decide.{AreResults, DecidesRays, IsFoundBy, IsRayOf, turned}
 use Rattle.pair_budget.specs.Decided.{DecidesOver, IsUnseen}
-use Rattle.pair_budget.specs.Through.{AreThrough, IsRayThrough}
-use Rattle.pair_budget.specs.Walked.{IsReachedFrom}
+use Rattle.pair_budget.specs.Through.{IsRayThrough}
 use Rattle.pair_budget.proofs.FindLaws.{reached_by}
 use Rattle.sight_workers.specs.declared.view.Task.{Task}
 use Rattle.sight_workers.specs.Teams.{AreWalked}
-use Rattle.sight_job.specs.Built.{AreVerdicts, HasRaysOfClear}
+use Rattle.sight_job.specs.Built.{AreVerdicts}
 use Rattle.sight_job.specs.Sight.{AreAllThrough, IsFoundAlong, IsRayAlong, AreRaysAlong, HasSightRays, TellsWhoSees}
 use Rattle.sight_job.proofs.VerdictLaws.{cert_rays, both_bits_of}
 
