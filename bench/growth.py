@@ -82,7 +82,7 @@ def main():
     program = os.path.abspath(words.program)
     print("| grid | seconds | line |\n|---|---|---|")
     for n in range(2, 19, 2):
-        run = Run([program, "grid", str(n)])
+        run = Run([program, "grid", str(n), "--workers", "1"])
         print("| %d | %.2f | %s |" % (n, run.seconds, run.line))
     print("\n| rooms in a row | nodes | build s | check s | ns a node of build | ns a node of check |\n|---|---|---|---|---|---|")
     with tempfile.TemporaryDirectory() as folder:
@@ -90,7 +90,7 @@ def main():
         for count in map(int, words.rooms.split(",")):
             open(source, "wb").write(wad("MAP01", row_of_rooms(count)))
             audit = Run([program, "audit", source, "MAP01"])
-            build = Run([program, "build", source, "MAP01", output, "--cert", cert, "--budget", "full"])
+            build = Run([program, "build", source, "MAP01", output, "--cert", cert, "--budget", "full", "--workers", "1"])
             check = Run([program, "check", output, "MAP01", cert])
             total = nodes(open(cert, "rb").read())
             walk = (build.seconds - audit.seconds) * 1e9 / total

@@ -6,7 +6,7 @@
 The maps are those of Debian's packages freedoom and freedm that the audit accepts, and `grid 12` and `grid 18`, which
 build and check in one run. Lines, segments and mesh are shares of a sampled profile (Debian's package linux-perf), cut
 where the first sample of the next phase comes; each is the median of the runs. Build and check are the least of five
-runs. Where the plain program's figures are known (the same algorithms in plain Rust, without proofs and without checks
+runs, a build with one worker. Where the plain program's figures are known (the same algorithms in plain Rust, without proofs and without checks
 of overflow), each column says how many times they are.
 """
 import argparse
@@ -79,7 +79,7 @@ def map_row(program, folder, label, name, lumps, runs):
         return None
     lines, points = len(dict(lumps)[b"LINEDEFS"]) // 14, points_of(lumps)
     parts = median_phases([program, "audit", source, name], folder, runs)
-    build = least([program, "build", source, name, output, "--cert", cert])
+    build = least([program, "build", source, name, output, "--cert", cert, "--workers", "1"])
     ours = parts + [build - sum(parts), build, least([program, "check", output, name, cert])]
     cells = [short(one) for one in ours]
     if label in PLAIN:
@@ -89,7 +89,7 @@ def map_row(program, folder, label, name, lumps, runs):
 
 
 def grid_row(program, folder, count, runs):
-    words, plain = [program, "grid", str(count)], PLAIN["grid %d" % count]
+    words, plain = [program, "grid", str(count), "--workers", "1"], PLAIN["grid %d" % count]
     ours = median_phases(words, folder, runs) + [least(words)]
     return ["grid %d" % count] + [beside(*both) for both in zip(ours, plain[:3] + (plain[3] + plain[4],))]
 

@@ -44,21 +44,23 @@ def wad(name, run):
 # A process counts the memory of the one that started it as its own peak until it has more, so runs are started by a
 # small process that holds no WAD, and by GNU time where it is there, which is smaller still.
 STARTER = """
-import json, os, sys, tempfile
+import json, os, sys, tempfile, time
 TIME = "/usr/bin/time"
 for words in sys.stdin:
     words = json.loads(words)
     with tempfile.NamedTemporaryFile() as out, tempfile.NamedTemporaryFile() as peak:
         if os.path.exists(TIME):
             words = [TIME, "-o", peak.name, "-f", "%M"] + words
+        begun = time.monotonic()
         child = os.posix_spawn(words[0], words, os.environ, file_actions=[(os.POSIX_SPAWN_DUP2, out.fileno(), 1)])
         _, status, usage = os.wait4(child, 0)
+        wall = time.monotonic() - begun
         out.seek(0)
         line = out.read().decode().strip()
         said = peak.read().split()
     kilobytes = int(said[-1]) if said else usage.ru_maxrss
     seconds = usage.ru_utime + usage.ru_stime
-    print(json.dumps([os.waitstatus_to_exitcode(status), line, seconds, kilobytes * 1024 / 1e6]))
+    print(json.dumps([os.waitstatus_to_exitcode(status), line, seconds, kilobytes * 1024 / 1e6, wall]))
     sys.stdout.flush()
 """
 starter = subprocess.Popen([sys.executable, "-c", STARTER], stdin=subprocess.PIPE, stdout=subprocess.PIPE, text=True)
@@ -66,12 +68,12 @@ starter = subprocess.Popen([sys.executable, "-c", STARTER], stdin=subprocess.PIP
 
 class Run:
     """One run of a program: its status, its line, seconds of processor time, peak memory in MB (at least that of the
-    process that starts it: 2 with GNU time, 12 without)."""
+    process that starts it: 2 with GNU time, 12 without), and seconds from start to end."""
 
     def __init__(self, words):
         starter.stdin.write(json.dumps(words) + "\n")
         starter.stdin.flush()
-        self.status, self.line, self.seconds, self.megabytes = json.loads(starter.stdout.readline())
+        self.status, self.line, self.seconds, self.megabytes, self.wall = json.loads(starter.stdout.readline())
 
 
 def header(cert):

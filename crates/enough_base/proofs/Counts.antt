@@ -13,12 +13,14 @@ use Rattle.sight_names.specs.Found.{SequenceBefore, IsStabbableSequence, HasPlac
 use Rattle.sight_names.proofs.Lists.{contains_of_get}
 use Rattle.sight_names.proofs.OneMesh.{one_mesh}
 use Rattle.sight_names.specs.Enough.{passable_lines, enough_of}
+use Rattle.sight_names.proofs.OnePlace.{before_irreflexive}
+use Rattle.plane_base.proofs.Every.{all_weaker}
 use Rattle.enough_base.proofs.Few.{Differ, few}
 use Rattle.enough_base.proofs.Numbers.{digit_below, same_digits}
 use Rattle.enough_base.proofs.Ranks.{RootLine, root_line, root_rank, root_rank_below, one_root}
-use Rattle.enough_base.proofs.Orders.{before_irreflexive, all_of_contains, ascending_differ}
+use Rattle.enough_base.proofs.Orders.{all_of_contains, ascending_differ}
 use Rattle.enough_base.proofs.Depth.{AllTurn}
-use Rattle.enough_base.proofs.Sources.{stabbed, IsCode, code_of, code_tells, all_weaker}
+use Rattle.enough_base.proofs.Sources.{stabbed, IsCode, code_of, code_tells}
 
 module _ (m : Map) (ts : List Triangle) (ls : List (Option ℕ)) (are : AreTriangles (length (points_of m)) ts) (turns : AllTurn m ts) where
   -- at most so many start at one root

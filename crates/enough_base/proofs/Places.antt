@@ -10,9 +10,9 @@ use Rattle.sight_names.specs.Mesh.{AreTriangles}
 use Rattle.sight_names.specs.Sequence.{Sequence}
 use Rattle.sight_names.specs.Found.{SequenceBefore, IsStabbableSequence, Reaches, HasPlace, Found, Spent}
 use Rattle.sight_names.proofs.Lists.{get_of_contains, contains_of_get}
-use Rattle.sight_names.proofs.OnePlace.{one_place}
+use Rattle.sight_names.proofs.OnePlace.{one_place, before_irreflexive, before_asymmetric}
 use Rattle.enough_base.proofs.Numbers.{order_of}
-use Rattle.enough_base.proofs.Orders.{before_irreflexive, before_asymmetric, all_of_contains, ascending_differ}
+use Rattle.enough_base.proofs.Orders.{all_of_contains, ascending_differ}
 use Rattle.enough_base.proofs.Depth.{AllTurn}
 use Rattle.enough_base.proofs.Counts.{few_of_source}
 use Rattle.sight_names.specs.Enough.{passable_lines}

@@ -1,11 +1,12 @@
 -- How many members with a property stand before a place, and what the lines of roots are.
-use Rattle.std.proofs.Common.{◌≡◌, ℕ, zero, suc, ◌+◌, ◌<◌, ◌≤◌, arith, refl, sym, ap, ◌∙◌, inl, inr, List, [], ◌∷◌, length, filter, Bool, true, false, not, ◌&&◌, cond, Option, Some, None, slice_get, Contains, option_and_then}
+use Rattle.std.proofs.Common.{◌≡◌, ℕ, zero, suc, ◌+◌, ◌<◌, ◌≤◌, arith, refl, sym, ap, ◌∙◌, inl, inr, List, [], ◌∷◌, length, filter, Bool, true, false, not, ◌&&◌, cond, Option, Some, None, slice_get, Contains}
 use Rattle.std.proofs.lemmas.Bool.{true≢false}
 use Rattle.std.proofs.lemmas.Option.{none-some, same_Some}
 use Rattle.sight_names.specs.declared.names.Side.{Side}
 use Rattle.sight_names.specs.Map.{Map, MapLine, line_at, sector_on}
 use Rattle.sight_names.specs.Sequence.{roots, sides_of, is_root, names_it}
 use Rattle.sight_names.proofs.Lists.{contains_cases, contains_none}
+use Rattle.mesh_base.proofs.MapFacts.{there_of}
 use Rattle.sight_names.specs.Enough.{is_passable, passable_lines}
 
 module _ {X : Type 0} (test : X → Bool) where
@@ -105,10 +106,6 @@ one_side l a false false e f g h = refl
 one_side l a true true e f g h = refl
 one_side l a false true e f g h = absurd (true≢false (sym f ∙ ap not g))
 one_side l a true false e f g h = absurd (true≢false (sym f ∙ ap not g))
-
-there_of : (o : Option (Option MapLine)) (l : MapLine) → option_and_then (λ (x : Option MapLine). x) o ≡ Some l → o ≡ Some (Some l)
-there_of None l h = absurd (none-some l h)
-there_of (Some o) l h = ap Some h
 
 pub listed : (m : Map) (i : ℕ) (l : MapLine) → line_at m i ≡ Some l → slice_get m.lines i ≡ Some (Some l)
 listed m i l e = there_of (slice_get m.lines i) l e

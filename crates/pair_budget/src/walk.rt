@@ -2,6 +2,7 @@
 
 ghost use Rattle.std.specs.Prelude.{◌≡◌, ◌≢◌, ◌⊎◌, ℕ, ◌<◌, [], Some as Given, length, map, true, false, IfOk, IfSome, IsSome};
 ghost use Rattle.std.specs.List.{Contains};
+ghost use Rattle.sight_names.specs.Found.{Found};
 ghost use Rattle.sight_names.specs.Map.{map_of};
 ghost use Rattle.sight_names.specs.Mesh.{IsGoodMesh, label_of};
 ghost use Rattle.sight_names.specs.Plan.{IsPlan};
@@ -48,7 +49,7 @@ pub fn walk_source<N: Notice>(
     requires audited { LinesMeetAtEnds (map_of plan.now) }
     requires good { IsGoodMesh (map_of plan.now) mesh.now.triangles labels.now }
     requires source { source < plan.now.sectors }
-    requires hears { (r : ReachedSector) → IsReachedFrom plan.now source r → N.may_hear notice.old (ordered source r.to) }
+    requires hears { (b : ℕ) → b ≢ source → b < plan.now.sectors → Found (map_of plan.now) mesh.now.triangles labels.now source b budget → N.may_hear notice.old (ordered source b) }
     ensures source { IfOk result (λ r. r.source ≡ source) }
     ensures found { IfOk result (λ r. AreReached plan.now source r.found) }
     ensures outcome { IfOk result (λ r. IsOutcome source budget (N.may_settle notice.old) r.outcome) }
@@ -102,7 +103,7 @@ fn walk_on<N: Notice>(
     requires due { due walker ≡ map root_alone (roots (map_of walker.plan) walker.source) }
     requires no_nodes { walker.nodes ≡ [] }
     requires nothing { finds.old.found ≡ [] }
-    requires hears { (r : ReachedSector) → IsReachedFrom finds.old.plan source r → N.may_hear notice.old (ordered source r.to) }
+    requires hears { (b : ℕ) → b ≢ walker.source → b < walker.plan.sectors → Found (map_of walker.plan) walker.mesh.triangles walker.labels walker.source b budget → N.may_hear notice.old (ordered source b) }
     ensures finds { Extends finds.old finds.new }
     ensures outcome { IfOk result (λ o. IsOutcome source budget (N.may_settle notice.old) o) }
     ensures exact { IfOk result (λ o. IsExact (map_of walker.entry.plan) walker.entry.mesh.triangles walker.entry.labels walker.entry.source budget finds.new.found o) }
@@ -193,7 +194,7 @@ fn note<N: Notice>(
 ) -> Result<bool, Memory>
     requires reached { IfSome reached (λ r. IsReachedFrom finds.old.plan source r) }
     requires source { finds.old.source ≡ source }
-    requires hears { (r : ReachedSector) → IsReachedFrom finds.old.plan source r → N.may_hear notice.old (ordered source r.to) }
+    requires hears { IfSome reached (λ r. N.may_hear notice.old (ordered source r.to)) }
     ensures finds { Extends finds.old finds.new }
     ensures tag { N.tag notice.new ≡ N.tag notice.old }
     ensures marks { MarksFound source finds.new.found (N.marks notice.old) (N.marks notice.new) }

@@ -1,12 +1,12 @@
 -- A segment that leaves a wedge's triangle goes through one of the two sides at the apex.
-use Rattle.std.proofs.Common.{◌≡◌, ℤ, pos, negsuc, ◌+ℤ◌, ◌*ℤ◌, ◌-ℤ◌, ◌≤ℤ◌, ◌<ℤ◌, neg_ℤ, arith, refl, sym, ap, ◌∙◌, ◌⊎◌, inl, inr, [], ◌∷◌, List}
+use Rattle.std.proofs.Common.{◌≡◌, ℤ, pos, ◌+ℤ◌, ◌*ℤ◌, ◌-ℤ◌, ◌≤ℤ◌, ◌<ℤ◌, neg_ℤ, arith, ap, ◌⊎◌, inl, inr, [], ◌∷◌}
 use borrow.Author.Differences.{ints}
-use lib.IntN.{*ℤ-zero, zero-*ℤ, *ℤ_comm}
+use lib.IntN.{*ℤ_comm}
 use Rattle.exact_ring.proofs.IntLaws.{neg-*ℤ}
-use Rattle.exact_ring.proofs.Quoting.{Quoted, quoting, by_ring, combine2}
-use Rattle.exact_ring.proofs.Signs.{mul-pos, mul-nonneg, pos-of-mul, nonneg-of-mul, zero-of-mul, sign_cases, le_or_lt, mul-le}
-use Rattle.plane_base.proofs.Vec.{V, Lin, at, edge, det, IsComb, On, value, mean, bary, bary_d, det-swap, det-cycle, det-first, det-last, comb_of_bary}
-use Rattle.plane_base.proofs.Wedge.{mul_np, mul_neg_pos, pos_neg, mul_pn, Inside}
+use Rattle.exact_ring.proofs.Quoting.{quoting, by_ring, combine2}
+use Rattle.exact_ring.proofs.Signs.{mul-pos, mul-nonneg, pos-of-mul, le_or_lt}
+use Rattle.plane_base.proofs.Vec.{V, Lin, at, edge, det, On, value, mean, det-cycle, comb_of_bary}
+use Rattle.plane_base.proofs.Wedge.{mul_np, mul_pn, Inside}
 
 -- where the segment from y to p leaves: a point with H > 0 on a b or on a c
 pub record Leaves (a b c y p : V) : Type 0 where

@@ -1,13 +1,12 @@
 -- The sign argument of the first spoke: what a kept segment r s that crosses a d' would have to be.
-use Rattle.std.proofs.Common.{◌≡◌, ℕ, zero, suc, ◌+◌, ◌*◌, ◌<◌, ℤ, pos, negsuc, ◌+ℤ◌, ◌*ℤ◌, ◌-ℤ◌, ◌≤ℤ◌, ◌<ℤ◌, neg_ℤ, arith, refl, sym, ap, ap₂, ◌∙◌, subst, [], ◌∷◌, List, nat_abs, ◌⊎◌, inl, inr}
+use Rattle.std.proofs.Common.{◌≡◌, ℤ, pos, ◌+ℤ◌, ◌*ℤ◌, ◌-ℤ◌, ◌≤ℤ◌, ◌<ℤ◌, neg_ℤ, arith, sym, ap, ◌∙◌, [], ◌∷◌, inl, inr}
 use borrow.Author.Differences.{ints}
 use lib.IntN.{*ℤ-zero, zero-*ℤ, *ℤ_comm}
-use Rattle.exact_ring.proofs.Ring.{same_of_difference}
-use Rattle.exact_ring.proofs.Quoting.{Quoted, quoting, by_ring, combine1, combine2}
+use Rattle.exact_ring.proofs.Quoting.{quoting, by_ring}
 use Rattle.exact_ring.proofs.IntLaws.{neg-*ℤ, *ℤ_assoc}
 use Rattle.exact_ring.proofs.Signs.{mul-pos, mul-nonneg, pos-of-mul, nonneg-of-mul, zero-of-mul, sign_cases, le_or_lt}
-use Rattle.plane_base.proofs.Vec.{V, Lin, at, edge, det, IsComb, On, sum3, value, mean, bary, det-swap, det-cycle, det-first, det-last, comb_of_bary, fan}
-use Rattle.plane_base.proofs.Wedge.{mul_np, mul_neg_pos, pos_neg, mul_pn, within, on_within, Inside, base_blocks}
+use Rattle.plane_base.proofs.Vec.{V, Lin, at, edge, det, On, value, mean, bary, det-swap, det-cycle, det-first, det-last, comb_of_bary, fan}
+use Rattle.plane_base.proofs.Wedge.{mul_np, pos_neg, mul_pn, on_within, Inside, base_blocks}
 
 pub det-flip : (a x y : V) → det a y x ≡ neg_ℤ (det a x y)
 det-flip a x y = let p = det-cycle a x y in let q = det-swap x y a in let r = det-cycle a y x in omega (arith, ints)

@@ -1,17 +1,29 @@
 -- Finite search in lists.
-use Rattle.std.proofs.Common.{◌≡◌, ℤ, pos, ◌+ℤ◌, ◌*ℤ◌, ◌-ℤ◌, ◌≤ℤ◌, ◌<ℤ◌, neg_ℤ, arith, refl, sym, ap, ◌∙◌, subst, ◌⊎◌, inl, inr, List, [], ◌∷◌}
+use Rattle.std.proofs.Common.{◌≡◌, ℤ, pos, ◌+ℤ◌, ◌*ℤ◌, ◌-ℤ◌, ◌≤ℤ◌, ◌<ℤ◌, neg_ℤ, arith, refl, sym, subst, ◌⊎◌, inl, inr, List, [], ◌∷◌, ◌++◌}
 use borrow.Author.Differences.{ints}
-use lib.IntN.{*ℤ-zero, zero-*ℤ, *ℤ_comm}
+use lib.IntN.{*ℤ_comm}
 use Rattle.exact_ring.proofs.IntLaws.{neg-*ℤ}
 use Rattle.exact_ring.proofs.Quoting.{quoting, by_ring}
-use Rattle.exact_ring.proofs.Signs.{mul-pos, mul-nonneg, pos-of-mul, nonneg-of-mul, le_or_lt}
-use Rattle.plane_base.proofs.Wedge.{mul_np, mul_neg_pos, pos_neg, mul_pn}
+use Rattle.exact_ring.proofs.Signs.{mul-nonneg, nonneg-of-mul, le_or_lt}
 
 abbrev pub In : {A : Type 0} → A → List A → Type 0
 In x [] = ⊥
 In x (y ∷ ys) = (y ≡ x) ⊎ In x ys
 
 -- a member with the property, or none
+-- ---- members of joined lists
+pub in_left : {A : Type 0} (x : A) (xs ys : List A) → In x xs → In x (xs ++ ys)
+in_left x [] ys i = absurd i
+in_left x (a ∷ xs) ys i = elim i as (λ _. In x ((a ∷ xs) ++ ys)) [ inl e ↦ inl e | inr j ↦ inr (in_left x xs ys j) ]
+
+pub in_right : {A : Type 0} (x : A) (xs ys : List A) → In x ys → In x (xs ++ ys)
+in_right x [] ys i = i
+in_right x (a ∷ xs) ys i = inr (in_right x xs ys i)
+
+pub in_cases : {A : Type 0} (x : A) (xs ys : List A) → In x (xs ++ ys) → In x xs ⊎ In x ys
+in_cases x [] ys i = inr i
+in_cases x (a ∷ xs) ys i = elim i as (λ _. In x (a ∷ xs) ⊎ In x ys) [ inl e ↦ inl (inl e) | inr j ↦ elim (in_cases x xs ys j) as (λ _. In x (a ∷ xs) ⊎ In x ys) [ inl k ↦ inl (inr k) | inr k ↦ inr k ] ]
+
 pub find_or_none : {A : Type 0} (P : A → Type 0) → ((a : A) → P a ⊎ ¬ P a) → (xs : List A) → ((a : A) × In a xs × P a) ⊎ ((a : A) → In a xs → ¬ P a)
 find_or_none P dec [] = inr (λ a i p. i)
 find_or_none {A} P dec (x ∷ xs) = elim (dec x) as (λ _. ((a : A) × In a (x ∷ xs) × P a) ⊎ ((a : A) → In a (x ∷ xs) → ¬ P a)) [

@@ -1,11 +1,8 @@
 -- Vectors of three whole numbers, functionals, weighted means. A point (x, y, d) is the vector; a whole point has d = 1.
-use Rattle.std.proofs.Common.{◌≡◌, ℕ, zero, suc, ◌+◌, ◌*◌, ◌<◌, ℤ, pos, negsuc, ◌+ℤ◌, ◌*ℤ◌, ◌-ℤ◌, ◌≤ℤ◌, ◌<ℤ◌, neg_ℤ, arith, refl, sym, ap, ap₂, ◌∙◌, subst, [], ◌∷◌, List, nat_abs, ◌⊎◌, inl, inr}
+use Rattle.std.proofs.Common.{◌≡◌, ℤ, pos, ◌+ℤ◌, ◌*ℤ◌, ◌-ℤ◌, ◌≤ℤ◌, ◌<ℤ◌, neg_ℤ, arith, sym, ap, ◌∙◌, [], ◌∷◌}
 use borrow.Author.Differences.{ints}
-use lib.IntN.{*ℤ-zero, zero-*ℤ, *ℤ_comm}
-use Rattle.exact_ring.proofs.Ring.{same_of_difference}
-use Rattle.exact_ring.proofs.Quoting.{Quoted, quoting, by_ring, combine1, combine2}
-use Rattle.exact_ring.proofs.IntLaws.{neg-*ℤ}
-use Rattle.exact_ring.proofs.Signs.{mul-pos, mul-nonneg, pos-of-mul, nonneg-of-mul, zero-of-mul, sign_cases, le_or_lt}
+use lib.IntN.{*ℤ-zero, zero-*ℤ}
+use Rattle.exact_ring.proofs.Quoting.{quoting, by_ring}
 
 pub record V : Type 0 where
   pub x : ℤ
@@ -145,3 +142,38 @@ fan f a x y z e =
     let t : det x z y *ℤ at f a ≡ pos 0 = ap (λ (s : ℤ). det x z y *ℤ s) e ∙ *ℤ-zero (det x z y) in
     let c : det z a y *ℤ at f x ≡ det a y z *ℤ at f x = ap (λ (s : ℤ). s *ℤ at f x) (sym (det-cycle z a y)) in
     omega (arith, ints)
+
+-- ---- sums and multiples
+abbrev pub plus : V → V → V
+plus p q = record { x = p.x +ℤ q.x; y = p.y +ℤ q.y; d = p.d +ℤ q.d }
+
+abbrev pub times : ℤ → V → V
+times k p = record { x = k *ℤ p.x; y = k *ℤ p.y; d = k *ℤ p.d }
+
+plus_ring : (a b c x y d u v e : ℤ) → a *ℤ (x +ℤ u) +ℤ b *ℤ (y +ℤ v) +ℤ c *ℤ (d +ℤ e) ≡ (a *ℤ x +ℤ b *ℤ y +ℤ c *ℤ d) +ℤ (a *ℤ u +ℤ b *ℤ v +ℤ c *ℤ e)
+plus_ring a b c x y d u v e = by_ring (a ∷ b ∷ c ∷ x ∷ y ∷ d ∷ u ∷ v ∷ e ∷ []) _ _ (search quoting depth 60 fits 400000) (search quoting depth 60 fits 400000) tt
+
+pub at_plus : (f : Lin) (p q : V) → at f (plus p q) ≡ at f p +ℤ at f q
+unfolding at
+at_plus f p q = plus_ring f.a f.b f.c p.x p.y p.d q.x q.y q.d
+
+scale_ring : (a b c k x y d : ℤ) → a *ℤ (k *ℤ x) +ℤ b *ℤ (k *ℤ y) +ℤ c *ℤ (k *ℤ d) ≡ k *ℤ (a *ℤ x +ℤ b *ℤ y +ℤ c *ℤ d)
+scale_ring a b c k x y d = by_ring (a ∷ b ∷ c ∷ k ∷ x ∷ y ∷ d ∷ []) _ _ (search quoting depth 60 fits 400000) (search quoting depth 60 fits 400000) tt
+
+pub at_times : (f : Lin) (k : ℤ) (p : V) → at f (times k p) ≡ k *ℤ at f p
+unfolding at
+at_times f k p = scale_ring f.a f.b f.c k p.x p.y p.d
+
+-- ---- a mean the other way round
+pub comb_back : (l m n : ℤ) (p q r : V) → IsComb l m n p q r → IsComb m l n q p r
+comb_back l m n p q r h = record { left = h.right; right = h.left; scale = h.scale; x = let e = h.x in omega (arith, ints); y = let e = h.y in omega (arith, ints); d = let e = h.d in omega (arith, ints) }
+
+pub on_back : (p q r : V) → On p q r → On q p r
+on_back p q r (l, m, n, h) = (m, l, n, comb_back l m n p q r h)
+
+-- ---- products
+pub times_neg : (m t : ℤ) → m *ℤ neg_ℤ t ≡ neg_ℤ (m *ℤ t)
+times_neg m t = by_ring (m ∷ t ∷ []) _ _ (search quoting depth 40 fits 100000) (search quoting depth 40 fits 100000) tt
+
+pub zero_right : (k z : ℤ) → z ≡ pos 0 → k *ℤ z ≡ pos 0
+zero_right k z e = ap (λ (s : ℤ). k *ℤ s) e ∙ *ℤ-zero k

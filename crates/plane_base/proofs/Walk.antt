@@ -1,13 +1,13 @@
 -- A segment that misses all lines stays in linked triangles, or comes to an edge that is no line and has no mate.
-use Rattle.std.proofs.Common.{◌≡◌, ℤ, pos, ◌+ℤ◌, ◌*ℤ◌, ◌-ℤ◌, ◌≤ℤ◌, ◌<ℤ◌, neg_ℤ, arith, refl, sym, ap, ◌∙◌, subst, ◌⊎◌, inl, inr, List, [], ◌∷◌}
+use Rattle.std.proofs.Common.{◌≡◌, ℤ, pos, ◌+ℤ◌, ◌*ℤ◌, ◌≤ℤ◌, ◌<ℤ◌, neg_ℤ, arith, refl, sym, ap, ◌∙◌, subst, ◌⊎◌, inl, inr, List, [], ◌∷◌}
 use borrow.Author.Differences.{ints}
 use lib.IntN.{*ℤ-zero, zero-*ℤ, *ℤ_comm}
 use Rattle.exact_ring.proofs.IntLaws.{neg-*ℤ}
 use Rattle.exact_ring.proofs.Quoting.{quoting, by_ring}
-use Rattle.exact_ring.proofs.Signs.{mul-pos, mul-nonneg, pos-of-mul, nonneg-of-mul, le-of-mul, mul-le, le_or_lt, sign_cases}
-use Rattle.plane_base.proofs.Vec.{V, Lin, at, edge, det, IsComb, On, value, mean, bary, det-swap, det-cycle, det-first, det-last, comb_of_bary}
-use Rattle.plane_base.proofs.Wedge.{mul_np, mul_neg_pos, pos_neg, mul_pn}
-use Rattle.plane_base.proofs.Search.{In, find_or_none, Least, least_by, First, leave_first}
+use Rattle.exact_ring.proofs.Signs.{mul-pos, pos-of-mul, nonneg-of-mul, le-of-mul, mul-le, le_or_lt}
+use Rattle.plane_base.proofs.Vec.{V, edge, det, IsComb, On, value, mean, det-swap, det-cycle, det-first, det-last, comb_of_bary}
+use Rattle.plane_base.proofs.Wedge.{mul_pn}
+use Rattle.plane_base.proofs.Search.{In, find_or_none, Least, least_by, leave_first}
 
 pub record Tri : Type 0 where
   pub a : V

@@ -1,12 +1,11 @@
 -- Sign arguments about segments that enter a wedge.
-use Rattle.std.proofs.Common.{◌≡◌, ℕ, zero, suc, ◌+◌, ◌*◌, ◌<◌, ℤ, pos, negsuc, ◌+ℤ◌, ◌*ℤ◌, ◌-ℤ◌, ◌≤ℤ◌, ◌<ℤ◌, neg_ℤ, arith, refl, sym, ap, ap₂, ◌∙◌, subst, [], ◌∷◌, List, nat_abs, ◌⊎◌, inl, inr}
+use Rattle.std.proofs.Common.{◌≡◌, ℤ, pos, ◌+ℤ◌, ◌*ℤ◌, ◌-ℤ◌, ◌≤ℤ◌, ◌<ℤ◌, neg_ℤ, arith, ap, ◌∙◌, [], ◌∷◌}
 use borrow.Author.Differences.{ints}
-use lib.IntN.{*ℤ-zero, zero-*ℤ, *ℤ_comm}
-use Rattle.exact_ring.proofs.Ring.{same_of_difference}
-use Rattle.exact_ring.proofs.Quoting.{Quoted, quoting, by_ring, combine1, combine2}
+use lib.IntN.{zero-*ℤ, *ℤ_comm}
+use Rattle.exact_ring.proofs.Quoting.{quoting, by_ring}
 use Rattle.exact_ring.proofs.IntLaws.{neg-*ℤ}
-use Rattle.exact_ring.proofs.Signs.{mul-pos, mul-nonneg, pos-of-mul, nonneg-of-mul, zero-of-mul, sign_cases, le_or_lt}
-use Rattle.plane_base.proofs.Vec.{V, Lin, at, edge, det, IsComb, On, sum3, value, mean, bary, det-swap, det-cycle, det-first, det-last, comb_of_bary, fan}
+use Rattle.exact_ring.proofs.Signs.{mul-pos, mul-nonneg, pos-of-mul}
+use Rattle.plane_base.proofs.Vec.{V, Lin, at, edge, det, IsComb, On, sum3, value, mean, bary, det-cycle, comb_of_bary}
 
 -- ---- products with a factor that isn't positive
 pub mul_np : (a b : ℤ) → a ≤ℤ pos 0 → pos 0 ≤ℤ b → (a *ℤ b) ≤ℤ pos 0

@@ -236,18 +236,21 @@ a=U, creates=0 | build a MAP01 b --cert c --workers 1 | 5 | refused: write fault
 a=U, puts=0 | build a MAP01 b --cert c --workers 1 | 5 | built MAP01 sectors 3 ~ | b=U =4400, c=#U-CERT
 ";
 
-/// The order `need`, and budgets that are enough, for a program that knows them.
-pub const NEED: &str = "\
+/// The order `need`, and a build with a budget that is enough.
+const NEED: &str = "\
 a=LINE3 | need a MAP01 | 0 | need MAP01 most 4 enough 768 | a=LINE3
 a=SQUARE | need a MAP01 | 0 | need MAP01 most 0 enough 1
 a=U | need a MAP01 | 0 | need MAP01 most 4 enough 2000
+# no sector, and so no source
+a=NO-LINES .4 = | need a MAP01 | 0 | need MAP01 most 0 enough 1
+a=LINE3 | need a MAP01 --budget enough | 2 | refused: usage
 a=LINE3 | build a MAP01 b --cert c --budget enough | 0 | built MAP01 sectors 3 set 0 clear 6 listed 0 | b=LINE3 =0000
 | check b MAP01 c | 0 | yes sectors 3 set 0 clear 6 listed 0
 ";
 
 #[test]
 fn each_row_comes_out_as_it_says(rt: HostRuntime) -> Result<(), Fail> {
-    for rows in [ZERO, JUDGED, CHECK, BUILD] {
+    for rows in [ZERO, JUDGED, CHECK, BUILD, NEED] {
         assert_eq!(rt; first_wrong(&rt, rt.alloc(), rows)?.as_str(), "");
     }
     Ok(())

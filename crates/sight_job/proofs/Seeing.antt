@@ -46,7 +46,7 @@ use Rattle.sight_job.proofs.VerdictLaws.{cert_rays, both_bits_of}
 
 -- ---- the rays
 
-last_is : {X : Type 0} (x : X) (xs : List X) (o : Option X) → last_or o (xs ++ x ∷ []) ≡ Some x
+pub last_is : {X : Type 0} (x : X) (xs : List X) (o : Option X) → last_or o (xs ++ x ∷ []) ≡ Some x
 last_is x [] o = refl
 last_is x (y ∷ xs) o = last_is x xs (Some y)
 
@@ -160,7 +160,7 @@ named_or_not (l ∷ lines) a = at (is_or_not (option_and_then (λ (k : MapLine).
         all_not zero true = y
         all_not (suc i) left = none i left
 
-is_named_or_not : (m : Map) (a : ℕ) → IsNamed m a ⊎ ¬ IsNamed m a
+pub is_named_or_not : (m : Map) (a : ℕ) → IsNamed m a ⊎ ¬ IsNamed m a
 is_named_or_not m a = at (named_or_not m.lines a)
   where
     at : ((i : ℕ) × (left : Bool) × NamesIt m.lines a i left) ⊎ ((i : ℕ) (left : Bool) → ¬ NamesIt m.lines a i left) → IsNamed m a ⊎ ¬ IsNamed m a

@@ -1,17 +1,19 @@
 -- What a build promises of its table, its list and its certificate, from what the walks decide.
 use Rattle.std.proofs.Common.{◌≡◌, ◌≢◌, ℕ, zero, suc, ◌<◌, ◌⊎◌, ◌↔◌, inl, inr, List, [], ◌∷◌, length, get_or, slice_get, Contains, Option, Some, refl, sym, ap, ◌∙◌, subst, arith, Bool, true, false}
-use Rattle.std.specs.Prelude.{not}
+use Rattle.std.specs.Prelude.{Result, Ok, Err, IfOk, not}
+use Rattle.std.specs.List.{AllByRecursion}
 use Rattle.std.proofs.lemmas.List.Elements.{Contains-append_left, Contains-append_right}
 use Rattle.std.proofs.lemmas.Option.{slice_get-get_or, same_Some}
 use Rattle.sight_names.proofs.Lists.{contains_none, contains_cases, contains_head, contains_tail}
 use Rattle.sight_names.specs.declared.names.Budget.{Budget}
 use Rattle.sight_names.specs.declared.names.Budget.TheVariants.{Full}
+use Rattle.sight_names.specs.declared.names.Memory.{Memory}
 use Rattle.sight_names.specs.declared.names.Pair.{Pair}
 use Rattle.sight_names.specs.declared.names.PairRay.{PairRay}
 use Rattle.sight_names.specs.Map.{Map, map_of, sector_on}
 use Rattle.sight_names.specs.declared.names.Triangle.{Triangle}
 use Rattle.sight_names.specs.Found.{AreNeighbours, IsChain, AreConnected, IsListedOver, IsListed}
-use Rattle.sight_names.specs.Mesh.{IsMeshOf, AreLabelsOf}
+use Rattle.sight_names.specs.Mesh.{IsMeshOf, AreLabelsOf, label_of}
 use Rattle.sight_names.specs.Sound.{NamesAgree}
 use Rattle.sight_names.proofs.OneMesh.{one_mesh, one_labels}
 use Rattle.tri_sectors.specs.Components.{AreComponents}
@@ -25,14 +27,15 @@ use Rattle.pair_budget.specs.declared.results.Outcome.{Outcome}
 use Rattle.pair_budget.specs.declared.results.Outcome.TheVariants as outcome
 use Rattle.pair_budget.specs.declared.results.SourceResult.{SourceResult}
 use Rattle.pair_budget.specs.declared.results.Verdicts.{Verdicts}
-use Rattle.pair_budget.specs.Decide.{AreFound, IsListedPair, IsBlind, IsSpentSource, trees_of}
+use Rattle.pair_budget.specs.Decide.{AreFound, DecidesList, DecidesRays, DecidesTable, IsListedPair, IsBlind, IsSettled, IsSpentSource, trees_of}
 use Rattle.pair_budget.specs.Decided.{TellsConnected}
 use Rattle.pair_budget.specs.Gathered.{HasPair}
 use Rattle.pair_budget.specs.Rows.{tree_of}
 use Rattle.pair_budget.specs.Walked.{IsOutcome}
+use Rattle.pair_budget.specs.Whole.{IsOfFound, IsShown}
 use Rattle.pair_budget.proofs.FindLaws.{found_of_ray, same_or_other, pair_is}
 use Rattle.pair_budget.proofs.NamedLaws.{trees_cons}
-use Rattle.sight_job.specs.Built.{AreVerdicts}
+use Rattle.sight_job.specs.Built.{AreShown, AreSetApart, AreVerdicts, AreWalks, HasTreeAway}
 use Rattle.sight_job.proofs.BuildLaws.{tree_of_source}
 
 -- a list of rays has one for the pair, or none
@@ -71,6 +74,16 @@ same_or_apart cs a b la lb = at (numbers (get_or cs a 0) (get_or cs b 0))
     at : (get_or cs a 0 ≡ get_or cs b 0) ⊎ (get_or cs a 0 ≢ get_or cs b 0) → (slice_get cs a ≡ slice_get cs b) ⊎ (slice_get cs a ≢ slice_get cs b)
     at (inl e) = inl (slice_get-get_or cs a 0 la ∙ (ap (λ (x : ℕ). Some x) e ∙ sym (slice_get-get_or cs b 0 lb)))
     at (inr n) = inr (λ q. n (same_Some (get_or cs a 0) (get_or cs b 0) (sym (slice_get-get_or cs a 0 la) ∙ (q ∙ slice_get-get_or cs b 0 lb))))
+
+-- a fact of each item is one of this one
+all_get : {X : Type 0} (P : X → Type 0) (xs : List X) → AllByRecursion P xs → (k : ℕ) (x : X) → slice_get xs k ≡ Some x → P x
+all_get P [] all k x h = absurd cc
+all_get P (y ∷ ys) all zero x h = subst P (same_Some y x h) all.0
+all_get P (y ∷ ys) all (suc k) x h = all_get P ys all.1 k x h
+
+all_with : {X : Type 0} (P Q : X → Type 0) (xs : List X) → ((x : X) → P x → Q x) → AllByRecursion P xs → AllByRecursion Q xs
+all_with P Q [] f all = tt
+all_with P Q (x ∷ xs) f all = (f x all.0, all_with P Q xs f all.1)
 
 -- ---- components
 
@@ -187,8 +200,9 @@ module _ (p : PlanParts) (budget : Budget) (v : Verdicts) (are : AreVerdicts p b
       empty [] none = refl
       empty (x ∷ xs) none = absurd (none x (contains_head x xs))
 
+  -- one of the trees is that of the source, whose walk went to its end
   abbrev pub TreeOf : ℕ → Type 0
-  TreeOf a = (t : Tree) × Contains v.trees t × (t.source ≡ a)
+  TreeOf a = (t : Tree) × Contains v.trees t × (t.source ≡ a) × ((r : SourceResult) × (slice_get are.results a ≡ Some r) × (r.outcome ≡ outcome.Complete t))
 
   -- nothing was left that the source could find
   abbrev pub IsSettledSource : ℕ → Type 0
@@ -199,7 +213,7 @@ module _ (p : PlanParts) (budget : Budget) (v : Verdicts) (are : AreVerdicts p b
   tree_or_spent a la = by_result (result_at are.results a (subst (λ (n : ℕ). a < n) (sym are.walks.results.count) la))
     where
       by_outcome : (r : SourceResult) → slice_get are.results a ≡ Some r → (o : Outcome) → r.outcome ≡ o → TreeOf a ⊎ (IsSpentSource are.results a ⊎ IsSettledSource a)
-      by_outcome r h (outcome.Complete t) e = inl (t, subst (λ (ts : List Tree). Contains ts t) (sym are.trees) (has_tree are.results a r t h e), (tree_of_source p are.results are.walks.results a r h t e).source_is)
+      by_outcome r h (outcome.Complete t) e = inl (t, subst (λ (ts : List Tree). Contains ts t) (sym are.trees) (has_tree are.results a r t h e), (tree_of_source p are.results are.walks.results a r h t e).source_is, (r, h, e))
       by_outcome r h outcome.Spent e = inr (inl (r, h, e))
       by_outcome r h outcome.All e = inr (inr (r, h, e))
 
@@ -232,38 +246,54 @@ module _ (p : PlanParts) (budget : Budget) (v : Verdicts) (are : AreVerdicts p b
   not_connected : (a b : ℕ) → a < p.sectors → b < p.sectors → slice_get are.components a ≢ slice_get are.components b → ¬ AreConnected (map_of p) a b
   not_connected a b la lb differ path = differ (component_same (map_of p) are.components are.connected a b (subst (λ (n : ℕ). a < n) (sym are.each_sector) la) (subst (λ (n : ℕ). b < n) (sym are.each_sector) lb) path)
 
-  unlisted_tree : (a b : ℕ) → a < p.sectors → b < p.sectors → a < b → slice_get are.components a ≡ slice_get are.components b → ¬ AreFound are.results a b → ¬ IsListedPair are.results are.components a b → (t : Tree) × Contains v.trees t × ((t.source ≡ a) ⊎ (t.source ≡ b))
-  unlisted_tree a b la lb lt same none not_listed = by_first (tree_or_spent a la)
-    where
-      differ : a ≢ b
-      differ e = omega arith
+  -- what one of the two found, one of the two found
+  found_back : (a b : ℕ) → AreFound are.results a b → AreFound are.results b a
+  found_back a b (inl k) = inr k
+  found_back a b (inr k) = inl k
 
-      by_second : IsSpentSource are.results a → TreeOf b ⊎ (IsSpentSource are.results b ⊎ IsSettledSource b) → (t : Tree) × Contains v.trees t × ((t.source ≡ a) ⊎ (t.source ≡ b))
-      by_second spent (inl t) = (t.0, t.1, inr t.2)
-      by_second spent (inr (inl spent_too)) = absurd (not_listed (record { order = lt; within = subst (λ (n : ℕ). b < n) (sym are.each_sector) lb; connected = same; not_found = none; spent = spent; spent_too = spent_too }))
-      by_second spent (inr (inr s)) = absurd (none (elim (settled_found b a s la (λ e. differ (sym e)) (sym same)) [ inl k ↦ inr k | inr k ↦ inl k ]))
+  module _ (ts : List Triangle) (ls : List (Option ℕ)) (shown : AreShown p ts ls are.results) where
+    -- a tree enters what its walk found, and so no other sector
+    keeps : (a b : ℕ) → ¬ AreFound are.results a b → TreeOf a → HasTreeAway (map_of p) ts ls v.trees a b
+    keeps a b none (t, there, source, (r, h, e)) =
+        let s = subst (λ (o : Outcome). IsShown p ts ls r.found o) e (all_get (λ (q : SourceResult). IsShown p ts ls q.found q.outcome) are.results shown a r h) in
+        (t, there, source, (s.opened, s.whole, all_with (IsOfFound ls r.found) (λ (k : ℕ). label_of ls k ≢ Some b) s.opened other s.entered))
+      where
+        other : (k : ℕ) → IsOfFound ls r.found k → label_of ls k ≢ Some b
+        other k (c, label, (x, found, to)) is = none (inl (x.ray, (r, x, h, found, to ∙ same_Some c b (sym label ∙ is), refl)))
 
-      by_first : TreeOf a ⊎ (IsSpentSource are.results a ⊎ IsSettledSource a) → (t : Tree) × Contains v.trees t × ((t.source ≡ a) ⊎ (t.source ≡ b))
-      by_first (inl t) = (t.0, t.1, inl t.2)
-      by_first (inr (inl spent)) = by_second spent (tree_or_spent b lb)
-      by_first (inr (inr s)) = absurd (none (settled_found a b s lb differ same))
+    away_of_unlisted : (a b : ℕ) → a < p.sectors → b < p.sectors → a < b → slice_get are.components a ≡ slice_get are.components b → ¬ AreFound are.results a b → ¬ IsListedPair are.results are.components a b
+        → HasTreeAway (map_of p) ts ls v.trees a b ⊎ HasTreeAway (map_of p) ts ls v.trees b a
+    away_of_unlisted a b la lb lt same none not_listed = by_first (tree_or_spent a la)
+      where
+        differ : a ≢ b
+        differ e = omega arith
 
-  pub set_has_tree : (a b : ℕ) → a < p.sectors → b < p.sectors → a ≢ b → Rejects v.table a b → ¬ AreConnected (map_of p) a b ⊎ ((t : Tree) × Contains v.trees t × ((t.source ≡ a) ⊎ (t.source ≡ b)))
-  set_has_tree a b la lb differ bit = by_blind ((are.table.bits a b la lb).0 bit)
-    where
-      by_order : slice_get are.components a ≡ slice_get are.components b → ¬ AreFound are.results a b → ¬ (IsListedPair are.results are.components a b ⊎ IsListedPair are.results are.components b a) → (a < b) ⊎ (b < a) → (t : Tree) × Contains v.trees t × ((t.source ≡ a) ⊎ (t.source ≡ b))
-      by_order same none not_listed (inl lt) = unlisted_tree a b la lb lt same none (λ l. not_listed (inl l))
-      by_order same none not_listed (inr lt) =
-          let h = unlisted_tree b a lb la lt (sym same) (λ f. none (elim f [ inl k ↦ inr k | inr k ↦ inl k ])) (λ l. not_listed (inr l)) in
-          (h.0, h.1, elim h.2 [ inl k ↦ inr k | inr k ↦ inl k ])
+        by_second : IsSpentSource are.results a → TreeOf b ⊎ (IsSpentSource are.results b ⊎ IsSettledSource b) → HasTreeAway (map_of p) ts ls v.trees a b ⊎ HasTreeAway (map_of p) ts ls v.trees b a
+        by_second spent (inl t) = inr (keeps b a (λ f. none (found_back b a f)) t)
+        by_second spent (inr (inl spent_too)) = absurd (not_listed (record { order = lt; within = subst (λ (n : ℕ). b < n) (sym are.each_sector) lb; connected = same; not_found = none; spent = spent; spent_too = spent_too }))
+        by_second spent (inr (inr s)) = absurd (none (found_back b a (settled_found b a s la (λ e. differ (sym e)) (sym same))))
 
-      by_component : ¬ AreFound are.results a b → ¬ (IsListedPair are.results are.components a b ⊎ IsListedPair are.results are.components b a) → (slice_get are.components a ≡ slice_get are.components b) ⊎ (slice_get are.components a ≢ slice_get are.components b) → ¬ AreConnected (map_of p) a b ⊎ ((t : Tree) × Contains v.trees t × ((t.source ≡ a) ⊎ (t.source ≡ b)))
-      by_component none not_listed (inl same) = inr (by_order same none not_listed (two_ways a b differ))
-      by_component none not_listed (inr apart) = inl (not_connected a b la lb apart)
+        by_first : TreeOf a ⊎ (IsSpentSource are.results a ⊎ IsSettledSource a) → HasTreeAway (map_of p) ts ls v.trees a b ⊎ HasTreeAway (map_of p) ts ls v.trees b a
+        by_first (inl t) = inl (keeps a b none t)
+        by_first (inr (inl spent)) = by_second spent (tree_or_spent b lb)
+        by_first (inr (inr s)) = absurd (none (settled_found a b s lb differ same))
 
-      by_blind : IsBlind p are.results are.components a b → ¬ AreConnected (map_of p) a b ⊎ ((t : Tree) × Contains v.trees t × ((t.source ≡ a) ⊎ (t.source ≡ b)))
-      by_blind (inl h) = absurd (differ h.0)
-      by_blind (inr h) = by_component h.1 h.2 (same_or_apart are.components a b (subst (λ (n : ℕ). a < n) (sym are.each_sector) la) (subst (λ (n : ℕ). b < n) (sym are.each_sector) lb))
+    pub set_apart : AreSetApart p ts ls v
+    set_apart a b la lb differ bit = by_blind ((are.table.bits a b la lb).0 bit)
+      where
+        by_order : slice_get are.components a ≡ slice_get are.components b → ¬ AreFound are.results a b → ¬ (IsListedPair are.results are.components a b ⊎ IsListedPair are.results are.components b a) → (a < b) ⊎ (b < a)
+            → HasTreeAway (map_of p) ts ls v.trees a b ⊎ HasTreeAway (map_of p) ts ls v.trees b a
+        by_order same none not_listed (inl lt) = away_of_unlisted a b la lb lt same none (λ l. not_listed (inl l))
+        by_order same none not_listed (inr lt) = elim (away_of_unlisted b a lb la lt (sym same) (λ f. none (found_back b a f)) (λ l. not_listed (inr l))) [ inl k ↦ inr k | inr k ↦ inl k ]
+
+        by_component : ¬ AreFound are.results a b → ¬ (IsListedPair are.results are.components a b ⊎ IsListedPair are.results are.components b a) → (slice_get are.components a ≡ slice_get are.components b) ⊎ (slice_get are.components a ≢ slice_get are.components b)
+            → ¬ AreConnected (map_of p) a b ⊎ (HasTreeAway (map_of p) ts ls v.trees a b ⊎ HasTreeAway (map_of p) ts ls v.trees b a)
+        by_component none not_listed (inl same) = inr (by_order same none not_listed (two_ways a b differ))
+        by_component none not_listed (inr apart) = inl (not_connected a b la lb apart)
+
+        by_blind : IsBlind p are.results are.components a b → ¬ AreConnected (map_of p) a b ⊎ (HasTreeAway (map_of p) ts ls v.trees a b ⊎ HasTreeAway (map_of p) ts ls v.trees b a)
+        by_blind (inl h) = absurd (differ h.0)
+        by_blind (inr h) = by_component h.1 h.2 (same_or_apart are.components a b (subst (λ (n : ℕ). a < n) (sym are.each_sector) la) (subst (λ (n : ℕ). b < n) (sym are.each_sector) lb))
 
   -- ---- the same of the certificate, whose parts these are
 
@@ -275,11 +305,15 @@ module _ (p : PlanParts) (budget : Budget) (v : Verdicts) (are : AreVerdicts p b
           (λ k. subst (λ (rs : List PairRay). HasPair rs a b) (sym rays) (h.1 (k.0, λ c. k.1 (subst (λ (ps : List Pair). Contains ps (record { a = a; b = b })) (sym listed) c)))),
         )
 
-    pub cert_set : (a b : ℕ) → a < p.sectors → b < p.sectors → a ≢ b → Rejects v.table a b → ¬ AreConnected (map_of p) a b ⊎ ((t : Tree) × Contains cert.trees t × ((t.source ≡ a) ⊎ (t.source ≡ b)))
-    cert_set a b la lb differ bit = subst (λ (ts : List Tree). ¬ AreConnected (map_of p) a b ⊎ ((t : Tree) × Contains ts t × ((t.source ≡ a) ⊎ (t.source ≡ b)))) (sym trees) (set_has_tree a b la lb differ bit)
-
     pub cert_trees : budget ≡ Full → (a : ℕ) → a < p.sectors → ((t : Tree) × Contains cert.trees t × (t.source ≡ a)) ⊎ ((b : ℕ) → b < p.sectors → a ≢ b → AreConnected (map_of p) a b → ¬ Rejects v.table a b)
     cert_trees full a la = elim (each_has_tree full a la) [ inl h ↦ inl (h.0, subst (λ (ts : List Tree). Contains ts h.0) (sym trees) h.1, h.2) | inr h ↦ inr h ]
 
   pub both_bits_of : (a b : ℕ) → a < v.table.n → b < v.table.n → Rejects v.table a b → Rejects v.table b a
   both_bits_of a b la lb bit = both_bits a b (subst (λ (n : ℕ). a < n) are.table.sectors la) (subst (λ (n : ℕ). b < n) are.table.sectors lb) bit
+
+-- what is decided of these walks, with what their trees show
+pub apart_in : (p : PlanParts) (budget : Budget) (ts : List Triangle) (ls : List (Option ℕ)) (rs : List SourceResult) (components : List ℕ) → AreWalks p budget rs → length components ≡ p.sectors → AreComponents (map_of p) components → IsSettled rs components → AreShown p ts ls rs → (result : Result Verdicts Memory)
+    → IfOk result (λ (v : Verdicts). DecidesTable p rs components v.table) → IfOk result (λ (v : Verdicts). DecidesList rs components v.listed) → IfOk result (λ (v : Verdicts). DecidesRays p rs v.rays) → IfOk result (λ (v : Verdicts). v.trees ≡ trees_of rs) → IfOk result (AreSetApart p ts ls)
+apart_in p budget ts ls rs components walks each_sector connected settled shown (Ok v) table listed rays trees =
+    set_apart p budget v (record { results = rs; components = components; walks = walks; each_sector = each_sector; connected = connected; settled = settled; table = table; listed = listed; rays = rays; trees = trees }) ts ls shown
+apart_in p budget ts ls rs components walks each_sector connected settled shown (Err e) table listed rays trees = tt

@@ -1,6 +1,7 @@
 -- What a build gives.
 use Rattle.std.specs.Prelude.{◌≡◌, ◌≢◌, ℕ, ◌<◌, ◌⊎◌, ◌↔◌, List, [], Option, Some, length, slice_get, Contains, true, ⊤}
 use Rattle.std.specs.List.{AllByRecursion}
+use Rattle.sight_names.specs.declared.names.Ask.{Ask}
 use Rattle.sight_names.specs.declared.names.Budget.{Budget}
 use Rattle.sight_names.specs.declared.names.Pair.{Pair}
 use Rattle.sight_names.specs.declared.names.PairRay.{PairRay}
@@ -14,13 +15,14 @@ use Rattle.sight_names.specs.Mesh.{AreLabelsOf, IsMeshOf}
 use Rattle.cert_format.specs.Parts.{CertParts}
 use Rattle.sight_job.specs.Labelled.{labelled_of}
 use Rattle.sight_names.specs.Plan.{PlanParts}
+use Rattle.sight_names.specs.Enough.{IsBudgetOf}
 use Rattle.sight_names.specs.Found.{AreConnected, IsListed}
 use Rattle.tri_sectors.specs.Components.{AreComponents}
 use Rattle.block_evidence.specs.declared.Tree.{Tree}
-use Rattle.block_evidence.specs.WholeTree.{IsWholeTree}
+use Rattle.block_evidence.specs.WholeTree.{IsWholeTree, KeepsFrom}
 use Rattle.reject_bits.specs.Parts.{Rejects}
 use Rattle.cert_format.specs.declared.cert.Sizes.{Sizes}
-use Rattle.cert_format.specs.Accepted.{HasRay, IsPairListed, IsNamed}
+use Rattle.cert_format.specs.Accepted.{HasRay, HasTreeWithout, IsPairListed, IsNamed, triangles_of, labels_of}
 use Rattle.pair_budget.specs.declared.results.SourceResult.{SourceResult}
 use Rattle.pair_budget.specs.declared.results.Verdicts.{Verdicts}
 use Rattle.pair_budget.specs.Decided.{DecidesOver}
@@ -62,10 +64,18 @@ AreShown p ts ls rs = AllByRecursion (λ (r : SourceResult). IsShown p ts ls r.f
 abbrev pub AreWholeTrees : PlanParts → List Triangle → List (Option ℕ) → List Tree → Type 0
 AreWholeTrees p ts ls trees = AllByRecursion (λ (t : Tree). (opened : List ℕ) × IsWholeTree (map_of p) ts ls t opened) trees
 
--- each tree of the certificate is whole over the map's mesh, whose labelled triangles the certificate has
-pub record HasWholeTrees (p : PlanParts) (c : CertParts) : Type 0 where
-  pub over : HasTrianglesOf (map_of p) c
-  pub trees : AreWholeTrees p over.triangles over.labels c.trees
+-- each tree of the certificate is whole over its triangles
+abbrev pub HasWholeTrees : Map → CertParts → Type 0
+HasWholeTrees m c = (t : Tree) → Contains c.trees t → (opened : List ℕ) × IsWholeTree m (triangles_of c) (labels_of c) t opened
+
+-- one of these trees is of a, and keeps from b
+abbrev pub HasTreeAway : Map → List Triangle → List (Option ℕ) → List Tree → ℕ → ℕ → Type 0
+HasTreeAway m ts ls trees a b = (t : Tree) × Contains trees t × (t.source ≡ a) × KeepsFrom m ts ls t b
+
+-- where a bit of two sectors is set, no passable lines connect them, or the tree of one of them keeps from the other
+abbrev pub AreSetApart : PlanParts → List Triangle → List (Option ℕ) → Verdicts → Type 0
+AreSetApart p ts ls v = (a b : ℕ) → a < p.sectors → b < p.sectors → a ≢ b → Rejects v.table a b
+    → ¬ AreConnected (map_of p) a b ⊎ (HasTreeAway (map_of p) ts ls v.trees a b ⊎ HasTreeAway (map_of p) ts ls v.trees b a)
 
 -- what the walks of all sectors decide
 pub record AreVerdicts (p : PlanParts) (budget : Budget) (v : Verdicts) : Type 0 where
@@ -107,10 +117,11 @@ IsSymmetric b = (x y : ℕ) → x < b.table.n → y < b.table.n → Rejects b.ta
 abbrev pub HasDiagonal : PlanParts → Built → Type 0
 HasDiagonal p b = (x : ℕ) → x < p.sectors → Rejects b.table x x ↔ ¬ IsNamed (map_of p) x
 
--- where a bit of two sectors is set, no passable lines connect them, or the certificate has the tree of one of them
+-- where a bit of two sectors is set, no passable lines connect them, or the certificate has a tree of one of them that keeps
+-- from the other
 abbrev pub HasTreesOfSet : PlanParts → Built → Type 0
 HasTreesOfSet p b = (x y : ℕ) → x < p.sectors → y < p.sectors → x ≢ y → Rejects b.table x y
-    → ¬ AreConnected (map_of p) x y ⊎ ((t : Tree) × Contains b.cert.trees t × ((t.source ≡ x) ⊎ (t.source ≡ y)))
+    → ¬ AreConnected (map_of p) x y ⊎ (HasTreeWithout (map_of p) b.cert x y ⊎ HasTreeWithout (map_of p) b.cert y x)
 
 -- the certificate has the tree of the sector
 abbrev pub HasTree : Built → ℕ → Type 0
@@ -125,15 +136,20 @@ pub record IsWhole (p : PlanParts) (b : Built) : Type 0 where
   pub no_list : b.listed ≡ []
   pub trees : (x : ℕ) → x < p.sectors → HasTree b x ⊎ SeesConnected p b x
 
--- the bits and the listed pairs are those that the sequences of the sources over the map's mesh decide, within the budget
-pub record DecidesByMesh (p : PlanParts) (budget : Budget) (b : Built) : Type 0 where
+-- the bits and the listed pairs are those that the sequences of the sources over the map's mesh decide, within the budget that
+-- was asked for
+pub record DecidesByMesh (p : PlanParts) (ask : Ask) (b : Built) : Type 0 where
+  pub budget : Budget
+  pub is_budget : IsBudgetOf (map_of p) ask budget
   pub triangles : List Triangle
   pub labels : List (Option ℕ)
   pub mesh : IsMeshOf (map_of p) triangles
   pub labelled : AreLabelsOf (map_of p) triangles labels
   pub decides : DecidesOver (map_of p) triangles labels budget p.sectors b.table b.listed
 
--- the listed pairs are just those of two connected sectors of which neither is found from the other within the budget, and
--- both budgets ran out; the smaller sector first
-abbrev pub ListsSpent : PlanParts → Budget → Built → Type 0
-ListsSpent p budget b = (q : Pair) → Contains b.listed q ↔ ((q.a < q.b) × IsListed (map_of p) budget q.a q.b)
+-- the listed pairs are just those of two connected sectors of which neither is found from the other within the budget that was
+-- asked for, and both budgets ran out; the smaller sector first
+pub record ListsSpent (p : PlanParts) (ask : Ask) (b : Built) : Type 0 where
+  pub budget : Budget
+  pub is_budget : IsBudgetOf (map_of p) ask budget
+  pub exactly : (q : Pair) → Contains b.listed q ↔ ((q.a < q.b) × IsListed (map_of p) budget q.a q.b)

@@ -1,13 +1,14 @@
 //! The build of one map.
 
-ghost use Rattle.std.specs.Prelude.{◌≡◌, ◌≤◌, IfErr, IfOk};
-ghost use Rattle.sight_names.specs.declared.names.Budget.TheVariants.{Full};
+ghost use Rattle.std.specs.Prelude.{◌≡◌, ◌≤◌, [], IfErr, IfOk};
+ghost use Rattle.sight_names.specs.declared.names.Ask.TheVariants.{Enough, Full};
+ghost use Rattle.sight_names.specs.Enough.{IsBudgetOf};
 ghost use Rattle.sight_names.specs.Map.{map_of};
-ghost use Rattle.sight_names.specs.Mesh.{IsGoodMesh};
+ghost use Rattle.sight_names.specs.Mesh.{IsGoodMesh, IsMeshOf};
 ghost use Rattle.sight_names.specs.Sound.{IsSound, LinesMeetAtEnds};
-ghost use Rattle.cert_format.specs.Accepted.{triangles_of, labels_of};
+ghost use Rattle.cert_format.specs.Accepted.{IsAccepted, triangles_of, labels_of};
 ghost use Rattle.sight_job.specs.Faces.{AreFacesOf};
-ghost use Rattle.sight_job.specs.Built.{sizes_of, IsBuildFault, AreVerdicts, HasRaysOfClear, RaysJoinPairs, ListsClear, IsSymmetric, HasDiagonal, HasTreesOfSet, HasTrianglesOf, HasWholeTrees, AreWholeTrees, IsWhole, DecidesByMesh, ListsSpent};
+ghost use Rattle.sight_job.specs.Built.{sizes_of, IsBuildFault, AreVerdicts, HasRaysOfClear, RaysJoinPairs, ListsClear, IsSymmetric, HasDiagonal, HasTreesOfSet, HasTrianglesOf, HasWholeTrees, AreSetApart, AreWholeTrees, IsWhole, DecidesByMesh, ListsSpent};
 ghost use Rattle.sight_job.specs.Sight.{AreRaysAlong, HasSightRays, TellsWhoSees};
 ghost use Rattle.pair_budget.specs.Decided.{DecidesOver};
 
@@ -15,9 +16,11 @@ use crate::certificate::{cert_of, labelled};
 use crate::faces::{Faces, faces_of};
 use block_evidence::Tree;
 use cert_format::{Cert, Sizes};
+use enough_budget::enough;
+use mesh_shape::Mesh;
 use pair_budget::{Verdicts, decide};
 use reject_bits::Table;
-use sight_names::{Budget, BuildFault, Items, LabelFault, Memory, Pair, Plan};
+use sight_names::{Ask, Budget, BuildFault, Items, LabelFault, Memory, Pair, Plan};
 use sight_workers::{Gate, Job, walk_all};
 use std::alloc::Global;
 use std::thread::Threads;
@@ -31,8 +34,8 @@ pub struct Built {
     pub cert: Cert,
 }
 
-/// The table of a map whose lines meet at ends, by the walks of all its sectors within the budget, which 1 to 64 workers
-/// share. The table and the list are those of one worker.
+/// The table of a map whose lines meet at ends, by the walks of all its sectors within the budget that is asked for, which
+/// 1 to 64 workers share. The table and the list are those of one worker.
 ///
 /// # Errors
 ///
@@ -43,7 +46,7 @@ pub fn build_table<R: Threads + Sync, G: Gate + Sync>(
     alloc: Global,
     plan: &Plan,
     workers: u16,
-    budget: Budget,
+    ask: Ask,
     gate: &G,
 ) -> Result<Built, BuildFault>
     requires audited { LinesMeetAtEnds (map_of plan.now) }
@@ -61,14 +64,17 @@ pub fn build_table<R: Threads + Sync, G: Gate + Sync>(
     ensures symmetric { IfOk result IsSymmetric }
     ensures diagonal { IfOk result (HasDiagonal plan.now) }
     ensures set { IfOk result (HasTreesOfSet plan.now) }
-    ensures trees { IfOk result (λ b. HasWholeTrees plan.now b.cert) }
-    ensures whole { budget ≡ Full → IfOk result (IsWhole plan.now) }
-    ensures decided { IfOk result (DecidesByMesh plan.now budget) }
-    ensures spent { IfOk result (ListsSpent plan.now budget) }
+    ensures trees { IfOk result (λ b. HasWholeTrees (map_of plan.now) b.cert) }
+    ensures whole { ask ≡ Full → IfOk result (IsWhole plan.now) }
+    ensures enough { ask ≡ Enough → IfOk result (λ b. b.listed ≡ []) }
+    ensures decided { IfOk result (DecidesByMesh plan.now ask) }
+    ensures spent { IfOk result (ListsSpent plan.now ask) }
     ensures sight_rays { IfOk result (λ b. HasSightRays (map_of plan.now) b.cert) }
     ensures sight { IfOk result (λ b. TellsWhoSees (map_of plan.now) b.table b.cert) }
+    ensures accepted { IfOk result (λ b. IsAccepted (map_of plan.now) b.table.bytes b.cert) }
 {
     let shape = sound_faces(alloc, plan)?;
+    let budget = budget_for(ask, plan, &shape.mesh);
     let verdicts = verdicts_of(rt, alloc, plan, &shape, workers, budget, gate)?;
     let triangles = labelled(alloc, &shape.mesh, &shape.labels)?;
     let listed = Vec::from_slice(alloc, verdicts.listed.as_slice())?;
@@ -105,6 +111,18 @@ fn sound_faces(alloc: Global, plan: &Plan) -> Result<Faces, BuildFault>
     }
 }
 
+/// The budget that is asked for.
+fn budget_for(ask: Ask, plan: &Plan, mesh: &Mesh) -> Budget
+    requires { IsMeshOf (map_of plan.now) mesh.now.triangles }
+    ensures { IsBudgetOf (map_of plan.now) ask result }
+{
+    match ask {
+        Ask::Of(n) => Budget::Of(n),
+        Ask::Full => Budget::Full,
+        Ask::Enough => Budget::Of(enough(plan, mesh)),
+    }
+}
+
 /// What the walks of all sectors by so many workers decide.
 fn verdicts_of<R: Threads + Sync, G: Gate + Sync>(
     rt: &R,
@@ -120,6 +138,7 @@ fn verdicts_of<R: Threads + Sync, G: Gate + Sync>(
     requires workers { (1 ≤ workers) × (workers ≤ 64) }
     ensures verdicts { IfOk result (AreVerdicts plan.now budget) }
     ensures trees { IfOk result (λ v. AreWholeTrees plan.now shape.now.mesh.triangles shape.now.labels v.trees) }
+    ensures apart { IfOk result (AreSetApart plan.now shape.now.mesh.triangles shape.now.labels) }
     ensures over { IfOk result (λ v. DecidesOver (map_of plan.now) shape.now.mesh.triangles shape.now.labels budget plan.now.sectors v.table v.listed) }
     ensures along { IfOk result (λ v. AreRaysAlong plan.now shape.now.mesh.triangles shape.now.labels v.rays) }
 {

@@ -157,7 +157,7 @@ split_last : (m : Map) (r : Ray) (s t : Point) → HasCrossings m r s t → IsSp
 split_last m r s t h = (r.last.left, h.arrives)
 
 -- the order of the crossings is one
-one_order : (m : Map) (r : Ray) (s t u v : Point) → HasCrossings m r s t → HasCrossings m r u v → NotBehind r s t → IsBehind r u v → ⊥
+pub one_order : (m : Map) (r : Ray) (s t u v : Point) → HasCrossings m r s t → HasCrossings m r u v → NotBehind r s t → IsBehind r u v → ⊥
 one_order m r s t u v h k f b = not_both r u v (not_behind_same r s t u v (one_crossing m r r.first _ s u h.leaves h.starts k.starts) (one_crossing m r r.last _ t v h.arrives h.stops k.stops) f) b
 
 -- ---- a sight ray has no fault

@@ -1,22 +1,23 @@
 -- What the order `build` makes of a map that was found.
 use Rattle.std.specs.Prelude.{◌≡◌, ◌≢◌, ◌↔◌, ◌⊎◌, ℕ, ◌<◌, List, [], ◌∷◌, ◌++◌, Option, Some, None, Result, Ok, Err, Contains, codes, length, ⊤}
+use Rattle.sight_names.specs.declared.names.Ask.{Ask}
+use Rattle.sight_names.specs.declared.names.Ask.TheVariants.{Enough, Full}
 use Rattle.sight_names.specs.declared.names.Budget.{Budget}
-use Rattle.sight_names.specs.declared.names.Budget.TheVariants.{Full}
-use Rattle.sight_names.specs.declared.faults.LineFault.{LineFault}
 use Rattle.sight_names.specs.declared.names.Pair.{Pair}
+use Rattle.sight_names.specs.Enough.{IsBudgetOf}
 use Rattle.sight_names.specs.Found.{AreConnected, IsListed}
 use Rattle.sight_names.specs.Map.{Map}
-use Rattle.sight_names.specs.Mesh.{IsGoodMesh}
 use Rattle.sight_names.specs.Sound.{IsSound, LinesMeetAtEnds}
+use Rattle.sight_names.specs.Table.{table_bit}
 use Rattle.map_audit.specs.Audit.{IsLineFault}
 use Rattle.reject_bits.specs.Parts.{IsWhole, Rejects}
 use Rattle.block_evidence.specs.declared.Tree.{Tree}
-use Rattle.cert_format.specs.Accepted.{IsNamed, labels_of, triangles_of}
+use Rattle.cert_format.specs.Accepted.{IsAccepted, IsNamed}
 use Rattle.cert_format.specs.Grammar.{IsInOrder, Spells}
 use Rattle.cert_format.specs.Parts.{CertParts}
 use Rattle.sight_job.specs.declared.build.Built.{Built}
-use Rattle.sight_job.specs.Built.{HasRaysOfClear, HasTrianglesOf, IsSymmetric, ListsClear, RaysJoinPairs}
-use Rattle.sight_job.specs.Sight.{HasSightRays, TellsWhoSees}
+use Rattle.sight_job.specs.Built.{HasRaysOfClear, HasTrianglesOf, IsSymmetric, ListsClear}
+use Rattle.sight_job.specs.Sight.{TellsWhoSees}
 use Rattle.sight_run.specs.declared.counts.Counts.{Counts}
 use Rattle.sight_run.specs.declared.status.Bound.{Bound}
 use Rattle.sight_run.specs.declared.status.Bound.TheVariants as bound
@@ -29,7 +30,7 @@ use Rattle.sight_run.specs.Answer.{Answer, Written}
 use Rattle.sight_run.specs.Counts.{counts_with, counts_words}
 use Rattle.sight_run.specs.Input.{Found}
 use Rattle.sight_run.specs.Sizes.{sizes_of_map}
-use Rattle.sight_run.specs.Sound.{HasMixedPair, HasOpenSide}
+use Rattle.sight_run.specs.Sound.{HasMixedPair, HasOpenSide, IsAuditRefusal}
 use Rattle.sight_run.specs.Zero.{with_table}
 
 -- ---- what is built of a map
@@ -39,48 +40,39 @@ pub record IsExhausted (m : Map) (built : Built) : Type 0 where
   pub no_list : built.listed ≡ []
   pub trees : (a : ℕ) → a < m.sectors → ((t : Tree) × Contains built.cert.trees t × (t.source ≡ a)) ⊎ ((b : ℕ) → b < m.sectors → a ≢ b → AreConnected m a b → ¬ Rejects built.table a b)
 
--- what a build of the map within this budget gives
-pub record IsBuiltOf (m : Map) (budget : Budget) (built : Built) : Type 0 where
-  pub sound : LinesMeetAtEnds m
+-- what a build of the map gives that is asked for with this budget
+pub record IsBuiltOf (m : Map) (budget : Ask) (built : Built) : Type 0 where
   -- the map is sound as a whole, and the certificate has the labelled triangles of its mesh
   pub fit : IsSound m
   pub triangles : HasTrianglesOf m built.cert
   pub sectors : built.table.n ≡ m.sectors
   pub sizes : built.cert.sizes ≡ sizes_of_map m
   pub listed : built.listed ≡ built.cert.listed
-  pub mesh : IsGoodMesh m (triangles_of built.cert) (labels_of built.cert)
+  -- The certificate is accepted for the table: its triangles are a good mesh, its rays sight rays, its trees whole, and each pair
+  -- has its reason. So `check` says yes to it.
+  pub accepted : IsAccepted m built.table.bytes built.cert
   -- the certificate has a ray for just the clear pairs that aren't listed
   pub rays : HasRaysOfClear built
-  -- each in range, from a side that names the first sector of its pair to one that names the second
-  pub joined : RaysJoinPairs m built.cert
   -- both bits of a listed pair are clear
   pub clear : ListsClear built
   pub symmetric : IsSymmetric built
   -- a sector's own bit is set exactly where no side names it
   pub diagonal : (a : ℕ) → a < m.sectors → Rejects built.table a a ↔ ¬ IsNamed m a
-  -- where a bit of two sectors is set, no passable lines connect them, or the certificate has the tree of one of them
-  pub set : (a b : ℕ) → a < m.sectors → b < m.sectors → a ≢ b → Rejects built.table a b → ¬ AreConnected m a b ⊎ ((t : Tree) × Contains built.cert.trees t × ((t.source ≡ a) ⊎ (t.source ≡ b)))
   pub exhausted : budget ≡ Full → IsExhausted m built
-  -- the listed pairs are just those of two connected sectors of which neither is found from the other, and both budgets ran out
-  pub spent : (q : Pair) → Contains built.listed q ↔ ((q.a < q.b) × IsListed m budget q.a q.b)
-  -- each ray of the certificate is a sight ray of its pair
-  pub sight_rays : HasSightRays m built.cert
+  -- the listed pairs are just those of two connected sectors of which neither is found from the other within the budget that
+  -- is asked for, and both budgets ran out
+  pub allowed : Budget
+  pub is_allowed : IsBudgetOf m budget allowed
+  pub spent : (q : Pair) → Contains built.listed q ↔ ((q.a < q.b) × IsListed m allowed q.a q.b)
+  -- with a budget that is enough no pair is listed
+  pub none_listed : budget ≡ Enough → built.listed ≡ []
   -- sectors whose bit is set don't see each other; those whose bit is clear do, unless their pair is listed
   pub sight : TellsWhoSees m built.table built.cert
 
--- the fault of the lines, and no other is
-pub record IsSoleFault (m : Map) (fault : LineFault) : Type 0 where
-  pub is : IsLineFault m fault
-  pub only : (other : LineFault) → IsLineFault m other → other ≡ fault
-
--- What was built of the map, or why nothing was. A sector that isn't closed, or sides that disagree, are told only where the lines meet at ends.
-abbrev pub Builds : Map → Budget → Result Built Status → Type 0
+-- what was built of the map, or the refusal of its audit
+abbrev pub Builds : Map → Ask → Result Built Status → Type 0
 Builds m budget (Ok built) = IsBuiltOf m budget built
-Builds m budget (Err status.Memory) = ⊤
-Builds m budget (Err (status.BadMap (flaw.Line fault))) = IsSoleFault m fault
-Builds m budget (Err (status.BadMap (flaw.Open side))) = LinesMeetAtEnds m × HasOpenSide m side
-Builds m budget (Err (status.BadMap (flaw.Mixed first second))) = LinesMeetAtEnds m × HasMixedPair m first second
-Builds m budget (Err other) = ⊥
+Builds m budget (Err refusal) = IsAuditRefusal m refusal
 
 -- a refusal that building a table can end with
 abbrev pub IsOfBuilding : Status → Type 0
@@ -116,7 +108,7 @@ abbrev pub build_line : List ℕ → Counts → List ℕ
 build_line name counts = codes "built " ++ name ++ counts_words counts ++ codes "\n"
 
 -- The file's WAD with the table that was built, the certificate where it is asked for, and a line with the counts of the table and of the list.
-pub record ShowsBuild (name out : List ℕ) (asked : Option (List ℕ)) (budget : Budget) (found : Found) (answer : Answer) : Type 0 where
+pub record ShowsBuild (name out : List ℕ) (asked : Option (List ℕ)) (budget : Ask) (found : Found) (answer : Answer) : Type 0 where
   pub built : Built
   pub is_built : IsBuiltOf found.map budget built
   pub whole : IsWhole built.table
@@ -128,7 +120,7 @@ pub record ShowsBuild (name out : List ℕ) (asked : Option (List ℕ)) (budget 
   pub is : answer ≡ record { writes = build_writes out bytes asked spelled; line = build_line name (counts_with built.table (length built.cert.listed)) }
 
 -- the WAD with the table that was built is above a limit
-pub record ShowsLimit (budget : Budget) (found : Found) (bound : Bound) : Type 0 where
+pub record ShowsLimit (budget : Ask) (found : Found) (bound : Bound) : Type 0 where
   pub built : Built
   pub is_built : IsBuiltOf found.map budget built
   pub whole : IsWhole built.table
@@ -142,16 +134,34 @@ IsOfBuildReply (status.Limit bound.OutputBytes) = ⊤
 IsOfBuildReply status.Memory = ⊤
 IsOfBuildReply other = ⊥
 
--- no map is found, or its lines share more than ends: a build ends before anything is built
+-- no map is found, or it isn't sound: a build ends before anything is built
 abbrev pub IsUnbuildable : Result Found Status → Type 0
 IsUnbuildable (Err refusal) = ⊤
-IsUnbuildable (Ok found) = ¬ LinesMeetAtEnds found.map
+IsUnbuildable (Ok found) = ¬ IsSound found.map
 
--- The answer that `build` calls for. Where the lines of the map share more than ends it is the first pair that does.
-abbrev pub BuildCalls : List ℕ → List ℕ → Option (List ℕ) → Budget → Found → Result Answer Status → Type 0
+-- The answer that `build` calls for. Where the map isn't sound it is the refusal of its audit.
+abbrev pub BuildCalls : List ℕ → List ℕ → Option (List ℕ) → Ask → Found → Result Answer Status → Type 0
 BuildCalls name out asked budget found (Ok answer) = ShowsBuild name out asked budget found answer
 BuildCalls name out asked budget found (Err (status.BadMap (flaw.Line fault))) = IsLineFault found.map fault
 BuildCalls name out asked budget found (Err (status.BadMap (flaw.Open side))) = LinesMeetAtEnds found.map × HasOpenSide found.map side
 BuildCalls name out asked budget found (Err (status.BadMap (flaw.Mixed first second))) = LinesMeetAtEnds found.map × HasMixedPair found.map first second
 BuildCalls name out asked budget found (Err (status.Limit bound)) = ShowsLimit budget found bound
 BuildCalls name out asked budget found (Err other) = ⊥
+
+-- ---- what all builds of a map have in common
+
+-- The two have one table and one list.
+pub record HaveOneTable (one other : Built) : Type 0 where
+  pub sectors : one.table.n ≡ other.table.n
+  pub len : length one.table.bytes ≡ length other.table.bytes
+  pub bits : (k : ℕ) → table_bit one.table.bytes k ≡ table_bit other.table.bytes k
+  pub listed : one.listed ≡ other.listed
+
+-- What is built of a map within a budget has one table and one list, by how many workers ever; so two builds can differ in the rays
+-- and the trees of their certificates alone.
+abbrev pub BuildsHaveOneTable : Type 0
+BuildsHaveOneTable = (m : Map) (budget : Ask) (one other : Built) → IsBuiltOf m budget one → IsWhole one.table → IsInOrder one.cert → IsBuiltOf m budget other → IsWhole other.table → IsInOrder other.cert → HaveOneTable one other
+
+-- .. and all that `build` answers of it says one line
+abbrev pub BuildsSayOneLine : Type 0
+BuildsSayOneLine = (name out : List ℕ) (asked : Option (List ℕ)) (budget : Ask) (found : Found) (one other : Answer) → BuildCalls name out asked budget found (Ok one) → BuildCalls name out asked budget found (Ok other) → one.line ≡ other.line

@@ -5,24 +5,32 @@ use Rattle.pair_budget.specs.declared.results.Outcome.{Outcome}
 use Rattle.pair_budget.specs.declared.results.Reached.{Reached}
 use Rattle.pair_budget.specs.declared.results.SourceResult.{SourceResult}
 use Rattle.pair_budget.specs.Notes.{ordered}
+use Rattle.sight_names.specs.Found.{Found}
 use Rattle.sight_names.specs.Map.{map_of}
 use Rattle.pair_budget.specs.Exact.{IsExact}
 use Rattle.pair_budget.specs.Through.{AreThrough}
-use Rattle.pair_budget.specs.Walked.{AreReached, IsOutcome, IsReachedFrom, MarksFound}
+use Rattle.pair_budget.specs.Walked.{AreReached, IsOutcome, MarksFound}
 use Rattle.pair_budget.specs.Whole.{IsShown}
 use Rattle.sight_workers.specs.declared.view.Task.{Task}
-use Rattle.sight_workers.specs.Board.{IsPair, IsFindable, IsReachable}
+use Rattle.sight_workers.specs.declared.job.Job.{Job}
+use Rattle.sight_workers.specs.Board.{IsPair, IsFindable, IsFoundWithin, task_for}
 use Rattle.sight_workers.specs.Walks.{IsMarkedBy, IsWalked}
 use Rattle.sight_workers.proofs.Lists.{by_bool, contains_left, contains_append, contains_one}
 use Rattle.sight_workers.proofs.Watches.{ordered_pair}
 
--- the pair of the source and what it reached may be marked
-pub reached_pair : (t : Task) (a : ℕ) (r : Reached) → a < t.plan.sectors → IsReachedFrom t.plan a r → IsPair t.plan.sectors (ordered a r.to) × IsFindable t (ordered a r.to)
-reached_pair t a r within far = (ordered_pair t.plan.sectors a r.to (λ e. far.other (sym e)) within far.within, findable (ltb a r.to))
+-- the pair of a source and another sector that is found from it may be marked
+pub found_pair : (t : Task) (a b : ℕ) → a < t.plan.sectors → b ≢ a → b < t.plan.sectors → IsFoundWithin t a b → IsPair t.plan.sectors (ordered a b) × IsFindable t (ordered a b)
+found_pair t a b within other below found = (ordered_pair t.plan.sectors a b (λ e. other (sym e)) within below, findable (ltb a b))
   where
-    findable : (b : Bool) → IsFindable t (cond b (a, r.to) (r.to, a))
-    findable true = inl record { by = r; from = far; to_it = refl }
-    findable false = inr record { by = r; from = far; to_it = refl }
+    findable : (q : Bool) → IsFindable t (cond q (a, b) (b, a))
+    findable true = inl found
+    findable false = inr found
+
+-- so all that a walk of the job may tell may be marked on its board
+pub told_pair : (j : Job) (workers : ℕ) (t : Task) → t ≡ task_for j workers → (a b : ℕ) → a < j.plan.now.sectors → b ≢ a → b < j.plan.now.sectors → Found (map_of j.plan.now) j.mesh.now.triangles j.labels.now a b j.budget
+    → IsPair t.plan.sectors (ordered a b) × IsFindable t (ordered a b)
+told_pair j workers t same a b within other below found =
+    subst (λ (u : Task). IsPair u.plan.sectors (ordered a b) × IsFindable u (ordered a b)) (sym same) (found_pair (task_for j workers) a b within other below (record { found = found }))
 
 pub marked_none : (source : ℕ) (found : List Reached) (xs : List (ℕ × ℕ)) → IsMarkedBy source found xs xs
 marked_none source found xs = ((λ p h. h), (λ p h. inl h))

@@ -74,10 +74,10 @@ long_of_dot d g n = elim (le_or_lt (dot g g) (pos 0)) as (λ _. pos 0 <ℤ dot g
 ]
 
 -- ---- products with a factor 0
-zero_first : (a b : ℤ) → a ≡ pos 0 → a *ℤ b ≡ pos 0
+pub zero_first : (a b : ℤ) → a ≡ pos 0 → a *ℤ b ≡ pos 0
 zero_first a b e = ap (λ (t : ℤ). t *ℤ b) e ∙ zero-*ℤ b
 
-zero_last : (a b : ℤ) → b ≡ pos 0 → a *ℤ b ≡ pos 0
+pub zero_last : (a b : ℤ) → b ≡ pos 0 → a *ℤ b ≡ pos 0
 zero_last a b e = ap (λ (t : ℤ). a *ℤ t) e ∙ *ℤ-zero a
 
 above : (a b : ℤ) → pos 0 <ℤ a → a ≤ℤ b → pos 0 <ℤ b

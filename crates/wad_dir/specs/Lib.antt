@@ -1,3 +1,4 @@
 pub mod Wad
 pub mod Map
 pub mod Print
+pub mod Kept

@@ -1,1 +1,2 @@
 pub mod LumpsLemmas
+pub mod Reading

@@ -1,2 +1,3 @@
 pub mod Rewrite
 pub mod Lumps
+pub mod Again

@@ -1,8 +1,10 @@
 //! A WAD written anew with another REJECT.
 #![tactic(auto)]
 
+mod laws;
 mod lumps;
 mod rewrite;
 
+pub use laws::rewritten_is_read;
 pub use lumps::Lump;
 pub use rewrite::{with_reject, write_wad};

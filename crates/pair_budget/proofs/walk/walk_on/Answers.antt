@@ -1,4 +1,4 @@
-use Rattle.std.proofs.Common.{◌≡◌, ℕ, ◌<◌, inl, List, Option, Some, IsSome, refl, sym, ◌∙◌, subst, IfSome, ℤ, w32, w64, rules}
+use Rattle.std.proofs.Common.{◌≡◌, ◌≢◌, ℕ, ◌<◌, inl, List, Option, Some, None, IsSome, refl, sym, ap, ◌∙◌, subst, IfSome, ℤ, w32, w64, rules}
 use mir.Val.{SFits, to_z, of_z}
 use Rattle.std.proofs.lemmas.Int.{to_z-of_z}
 use Rattle.sight_names.specs.declared.names.Side.{Side}
@@ -8,10 +8,9 @@ use Rattle.sight_names.specs.Mesh.{label_of}
 use Rattle.sight_names.specs.Plan.{PlanParts}
 use Rattle.portal_walk.specs.Walk.{Takes, Opens, due}
 use Rattle.portal_walk.proofs.Steps.{same_walk_both}
-use Rattle.pair_budget.specs.Walked.{IsReachedFrom}
 use Rattle.pair_budget.specs.Whole.{IsFound}
 use Rattle.pair_budget.proofs.Marks.{told_more, extends_both, still_full}
-use Rattle.pair_budget.proofs.Exactly.{finds_begin, finds_blocked, finds_noted, finds_end, finds_spent, finds_early}
+use Rattle.pair_budget.proofs.Exactly.{finds_begin, finds_blocked, finds_next, finds_noted, finds_end, finds_spent, finds_early}
 use Rattle.pair_budget.proofs.Through.{through_none, through_moved, through_back, through_open}
 use Rattle.pair_budget.proofs.Walking.{IsOver, over_moved, begins, comes_blocked, comes_open, comes_end, noted_label, only_label}
 use Rattle.pair_budget.proofs.walk.walk_on.Goals as goal
@@ -44,6 +43,27 @@ loop-walker-init g c =
       seen = λ p h. h;
       looks = λ p h. h;
     }
+
+-- what follows from two facts of what there is
+some_both : {X : Type 0} (o : Option X) {P Q R : X → Type 0} → IfSome o P → IfSome o Q → ((x : X) → P x → Q x → R x) → IfSome o R
+some_both None p q f = tt
+some_both (Some x) p q f = f x p q
+
+-- the sector that is noted is found within the budget
+pub note-requires-clause-hears : goal.note-requires-clause-hears
+note-requires-clause-hears g c =
+    let i = c.loop-walker.invariant in
+    let old = c.loop-walker.walker in
+    let new = c.next.new.self in
+    let k = c.in-Open.triangle in
+    let labels : old.labels ≡ c.args.labels.now = i.walk.labels ∙ c.requires.labels in
+    let opens : Opens old new k c.in-Open.entered c.in-Open.a c.in-Open.b c.in-Open.c = subst (Takes old new) c.in-Open.is c.in_ok-next.ensures.step in
+    let reached = c.reached_by-reached in
+    let walk = same_walk_both c.args.walker old new i.walk c.next.ensures.walk in
+    some_both reached.result reached.ensures.reached reached.ensures.label
+        (λ (r : Reached) far labelled. i.hears r.to (subst (λ (a : ℕ). r.to ≢ a) walk.source far.other) (subst (λ (p : PlanParts). r.to < p.sectors) walk.plan far.within)
+        (finds_next old new c.args.budget c.loop-walker.left c.loop-walker.finds.found i.exact k c.in-Open.entered c.in-Open.a c.in-Open.b c.in-Open.c opens c.args.walker i.walk c.in-Some.less c.in-Some.ensures r.to
+            (ap (λ (ls : List (Option ℕ)). label_of ls k) labels ∙ labelled)))
 
 pub returns-in-End-clause-shown : goal.returns-in-End-clause-shown
 returns-in-End-clause-shown g c =
@@ -135,7 +155,7 @@ loop-walker-preserved g c =
           (λ r there. only_label old.labels c.args.labels.now k c.loop-walker.finds.found reached.result r labels reached.ensures.label (c.in_ok-note-in-Open.ensures.only r there));
       through = through_open old new c.loop-walker.finds.found later i.through k c.in-Open.entered c.in-Open.a c.in-Open.b c.in-Open.c opens c.next.ensures.walk c.args.labels.now labels reached.result reached.ensures.label (ray_kept new.root c.in-Open.entered c.in-Open.a c.in-Open.b c.in-Open.c reached.result (search rules) (search rules) (search rules) reached.ensures.ray) c.in_ok-note-in-Open.ensures.only;
       full = λ f. still_full c.loop-walker.left c.in-Some.less (i.full f) c.in-Some.ensures;
-      hears = λ r far. e.hears _ (i.hears r (subst (λ (p : PlanParts). IsReachedFrom p c.args.source r) e.finds.plan far));
+      hears = λ b other below f. e.hears _ (i.hears b other below f);
       tag = e.tag ∙ i.tag;
       kept = λ p h. e.kept p (i.kept p h);
       marks = told_more c.args.source c.loop-walker.finds c.note.new.finds _ _ _ e.finds i.marks e.marks;

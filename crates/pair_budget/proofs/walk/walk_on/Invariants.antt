@@ -1,10 +1,11 @@
-use Rattle.std.proofs.Common.{◌≡◌, ℕ, ◌<◌}
+use Rattle.std.proofs.Common.{◌≡◌, ◌≢◌, ℕ, ◌<◌}
 use Rattle.sight_names.specs.declared.names.Budget.TheVariants.{Full}
+use Rattle.sight_names.specs.Found.{Found}
+use Rattle.sight_names.specs.Map.{map_of}
 use Rattle.portal_walk.specs.Walk.{SameWalk, due, remaining}
 use Rattle.pair_budget.specs.Finds.{Extends}
 use Rattle.pair_budget.specs.Notes.{ordered, Grows}
-use Rattle.pair_budget.specs.declared.results.Reached.{Reached}
-use Rattle.pair_budget.specs.Walked.{IsReachedFrom, MarksFound}
+use Rattle.pair_budget.specs.Walked.{MarksFound}
 use Rattle.pair_budget.proofs.Exactly.{FindsOver}
 use Rattle.pair_budget.proofs.Through.{ThroughOver}
 use Rattle.pair_budget.proofs.Walking.{IsOver, ComesTo}
@@ -19,7 +20,7 @@ invariant-loop-walker g l = record {
   exact : FindsOver l.walker l.fn.budget l.left l.finds.found;
   through : ThroughOver l.walker l.finds.found;
   full : l.fn.budget ≡ Full → l.left ≡ Full;
-  hears : (r : Reached) → IsReachedFrom l.finds.plan l.source r → g.N.Notice.may_hear l.notice (ordered l.source r.to);
+  hears : (b : ℕ) → b ≢ l.fn.walker.source → b < l.fn.walker.plan.sectors → Found (map_of l.fn.walker.plan) l.fn.walker.mesh.triangles l.fn.walker.labels l.fn.walker.source b l.fn.budget → g.N.Notice.may_hear l.notice (ordered l.source b);
   tag : g.N.Notice.tag l.notice ≡ g.N.Notice.tag l.fn.notice;
   kept : Grows (g.N.Notice.marks l.fn.notice) (g.N.Notice.marks l.notice);
   marks : MarksFound l.source l.finds.found (g.N.Notice.marks l.fn.notice) (g.N.Notice.marks l.notice);

@@ -1,7 +1,8 @@
 use Rattle.std.proofs.Common.{◌≡◌, ℕ, Result, Ok, Err, sym, subst}
+use Rattle.std.specs.Prelude.{⊤}
 use Rattle.std.specs.Result.{IsErr, IsErrAnd}
 use Rattle.sight_names.specs.Map.{Map}
-use Rattle.sight_names.specs.declared.names.Budget.{Budget}
+use Rattle.sight_names.specs.declared.names.Ask.{Ask}
 use Rattle.sight_run.specs.Answer.{Answer, Gives}
 use Rattle.sight_run.specs.declared.status.Status.{Status}
 use Rattle.sight_run.specs.Grid.{GridCalls, MadeMapCalls, made_map}
@@ -12,13 +13,13 @@ use Rattle.sight_run.specs.Views.{found}
 use Rattle.sight_run.proofs.grid.do_grid.Goals as goal
 
 -- what the made map calls for is what the order calls for
-given_found : (n : ℕ) (budget : Budget) (f : Found) (r : Result Answer Status) → made_map n ≡ Ok f → Gives ⊥ (MadeMapCalls n budget f.map) r → Gives ⊥ (GridCalls n budget) r
-given_found n budget f r e h = subst (λ (o : Result Found Status). Gives ⊥ (λ (a : Result Answer Status). OnFound o (λ (k : Found). MadeMapCalls n budget k.map) a) r) (sym e) h
+given_found : (n : ℕ) (budget : Ask) (f : Found) (r : Result Answer Status) → made_map n ≡ Ok f → Gives ⊤ (MadeMapCalls n budget f.map) r → Gives ⊤ (GridCalls n budget) r
+given_found n budget f r e h = subst (λ (o : Result Found Status). Gives ⊤ (λ (a : Result Answer Status). OnFound o (λ (k : Found). MadeMapCalls n budget k.map) a) r) (sym e) h
 
 -- a refusal that is passed on is the same refusal
-carried : (n : ℕ) (budget : Budget) (m : Map) (e : Status) (r : Result Reply Status) → IsErr r × IsErrAnd r (λ (s : Status). s ≡ e) → Gives ⊥ (MadeMapCalls n budget m) (Err e) → Gives ⊥ (MadeMapCalls n budget m) (reply_seen r)
+carried : (n : ℕ) (budget : Ask) (m : Map) (e : Status) (r : Result Reply Status) → IsErr r × IsErrAnd r (λ (s : Status). s ≡ e) → Gives ⊤ (MadeMapCalls n budget m) (Err e) → Gives ⊤ (MadeMapCalls n budget m) (reply_seen r)
 carried n budget m e (Ok v) h g = absurd h.1
-carried n budget m e (Err s) h g = subst (λ (t : Status). Gives ⊥ (MadeMapCalls n budget m) (Err t)) (sym h.1) g
+carried n budget m e (Err s) h g = subst (λ (t : Status). Gives ⊤ (MadeMapCalls n budget m) (Err t)) (sym h.1) g
 
 pub returns-in_err-line-clause-called : goal.returns-in_err-line-clause-called
 returns-in_err-line-clause-called g c = given_found c.args.n c.args.budget (found c.in_ok-input.input) (reply_seen c.from_residual-in_err-line.result) c.in_ok-input.ensures.found

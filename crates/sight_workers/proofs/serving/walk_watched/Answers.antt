@@ -4,7 +4,6 @@ use Rattle.std.specs.List.{Contains}
 use Rattle.pair_budget.specs.declared.results.Outcome.TheVariants as outcome
 use Rattle.pair_budget.specs.declared.results.SourceResult.{SourceResult}
 use Rattle.pair_budget.specs.Notes.{ordered, Grows}
-use Rattle.pair_budget.specs.Walked.{IsReachedFrom}
 use Rattle.sight_workers.specs.declared.desk.BoardSeat.{BoardSeat}
 use Rattle.sight_workers.specs.declared.job.Job.{Job}
 use Rattle.sight_workers.specs.declared.watch.Place.{Place}
@@ -12,13 +11,19 @@ use Rattle.sight_workers.specs.declared.view.Task.{Task}
 use Rattle.sight_workers.specs.Board.{task_of, task_for, IsPair, IsFindable}
 use Rattle.sight_workers.specs.Mates.{IsMate}
 use Rattle.sight_workers.specs.Walks.{IsMarkedBy, IsWalked}
-use Rattle.sight_workers.proofs.Walks.{reached_pair, ok_weaker, ok_walked}
+use Rattle.sight_workers.proofs.Walks.{told_pair, ok_weaker, ok_walked}
 use Rattle.sight_workers.proofs.serving.walk_watched.Goals as goal
 use Rattle.sight_workers.proofs.serving.walk_watched.Goals.{After-seat-1}
 
 -- what the watch left behind its reference is what the seat is after it
 same : (c : After-seat-1) → c.seat-1.given.0 ≡ c.walk_source-result.new.notice.seat.now
 same c = c.seat-1.given.1 (sym (ap (λ (p : Place). p.name) c.walk_source-result.ensures.tag))
+
+pub walk_source-result-requires-clause-hears : goal.walk_source-result-requires-clause-hears
+walk_source-result-requires-clause-hears c = λ b other below f.
+    let desk = c.args.desk.now in
+    told_pair c.args.job.now desk.table.shared.key.workers c.args.seat.now.seat.me.0.task (c.requires.seat.1 ∙ ap (λ (j : Job). task_for j desk.table.shared.key.workers) (sym c.requires.job))
+    c.args.source b (subst (λ (n : ℕ). c.args.source < n) (sym desk.terms.0 ∙ ap (λ (j : Job). j.plan.now.sectors) (sym c.requires.job)) c.requires.components.1) other below f
 
 pub returns-clause-seen : goal.returns-clause-seen
 returns-clause-seen c = subst (λ (s : BoardSeat). Grows c.args.seat.now.seat.me.0.seen s.seat.me.0.seen) (sym (same c)) c.walk_source-result.ensures.seen

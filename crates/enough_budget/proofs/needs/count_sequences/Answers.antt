@@ -1,0 +1,50 @@
+use Rattle.std.proofs.Common.{◌∙◌, ap, subst, arith}
+use Rattle.mesh_shape.specs.Shape.{MeshParts}
+use Rattle.portal_walk.specs.Walk.{Takes}
+use Rattle.enough_budget.proofs.Counting.{begin, blocked, count_few, ended, first_due, opened_one, sequences_at}
+use Rattle.enough_budget.proofs.needs.count_sequences.Goals as goal
+
+pub loop-walker-init : goal.loop-walker-init
+loop-walker-init c =
+    let e = c.in_ok-walker.ensures in
+    record { plan = e.plan; mesh = e.mesh; labels = e.labels; source = e.source; counted = begin c.in_ok-walker.walker (first_due c.in_ok-walker.walker c.args.plan.now c.args.source e.plan e.source e.due) }
+
+pub returns-in-End : goal.returns-in-End
+returns-in-End c =
+    let i = c.loop-walker.invariant in
+    record {
+      number = sequences_at c.loop-walker.walker c.args.plan.now c.args.mesh.now.triangles c.args.labels.now c.args.source c.loop-walker.count i.plan (ap (λ (m : MeshParts). m.triangles) i.mesh) i.labels i.source
+          (ended c.loop-walker.walker c.next.new.self c.loop-walker.count i.counted (subst (Takes c.loop-walker.walker c.next.new.self) c.in-End.is c.in_ok-next.ensures.step));
+    }
+
+pub loop-walker-preserved-in-Blocked : goal.loop-walker-preserved-in-Blocked
+loop-walker-preserved-in-Blocked c =
+    let i = c.loop-walker.invariant in
+    let k = c.next.ensures.walk in
+    record {
+      plan = k.plan ∙ i.plan;
+      mesh = k.mesh ∙ i.mesh;
+      labels = k.labels ∙ i.labels;
+      source = k.source ∙ i.source;
+      counted = blocked c.loop-walker.walker c.next.new.self c.loop-walker.count i.counted k c.in-Blocked.field-0 (subst (Takes c.loop-walker.walker c.next.new.self) c.in-Blocked.is c.in_ok-next.ensures.step);
+    }
+
+pub overflow_add-count : goal.overflow_add-count
+overflow_add-count c =
+    let i = c.loop-walker.invariant in
+    let few = count_few c.loop-walker.walker c.args.plan.now c.args.mesh.now.triangles c.args.labels.now c.args.source c.loop-walker.count i.plan (ap (λ (m : MeshParts). m.triangles) i.mesh) i.labels i.source i.counted c.requires.good in
+    let fits = c.enough_fits.ensures in
+    omega (arith, few, fits)
+
+pub loop-walker-preserved : goal.loop-walker-preserved
+loop-walker-preserved c =
+    let i = c.loop-walker.invariant in
+    let k = c.next.ensures.walk in
+    record {
+      plan = k.plan ∙ i.plan;
+      mesh = k.mesh ∙ i.mesh;
+      labels = k.labels ∙ i.labels;
+      source = k.source ∙ i.source;
+      counted = opened_one c.loop-walker.walker c.next.new.self c.loop-walker.count i.counted k c.in-Open.triangle c.in-Open.entered c.in-Open.a c.in-Open.b c.in-Open.c
+          (subst (Takes c.loop-walker.walker c.next.new.self) c.in-Open.is c.in_ok-next.ensures.step);
+    }

@@ -1,0 +1,309 @@
+-- The check of what a build wrote has one answer, and it is yes.
+use Rattle.std.proofs.Common.{◌≡◌, ℕ, zero, suc, ◌+◌, ◌*◌, ◌^◌, ◌<◌, ◌≤◌, ◌⊎◌, inl, inr, List, [], ◌∷◌, ◌++◌, length, Bool, true, false, not, ◌||◌, ◌==◌, if◌then◌else◌, nat_lt, Option, Some, None, Result, Ok, Err, refl, sym, ap, ◌∙◌, subst, arith}
+use Rattle.std.specs.Prelude.{bytes_eq, codes, ⊤}
+use Rattle.std.specs.Option.{option_map}
+use Rattle.std.proofs.lemmas.Bool.{le-ltb}
+use Rattle.std.proofs.lemmas.Bool.Decides.{Decides-eqb}
+use Rattle.std.proofs.lemmas.Slice.Eq.{bytes_eq-Decides}
+use Rattle.sight_names.specs.declared.faults.CertFault.{CertFault}
+use Rattle.sight_names.specs.declared.faults.FetchFault.TheVariants as fetch
+use Rattle.sight_names.specs.declared.faults.TableFault.TheVariants as table
+use Rattle.sight_names.specs.declared.names.Ask.{Ask}
+use Rattle.sight_names.specs.Map.{Map}
+use Rattle.sight_names.specs.Sound.{LinesMeetAtEnds}
+use Rattle.sight_names.specs.Table.{table_bit}
+use Rattle.map_audit.proofs.AuditLemmas.{not_sound}
+use Rattle.shelf_io.specs.Shelf.{Files, ShelfState, content_of, put}
+use Rattle.shelf_io.specs.Sink.{SinkState}
+use Rattle.wad_dir.specs.Map.{same_name}
+use Rattle.order_words.specs.declared.order.Order.{Order}
+use Rattle.order_words.specs.declared.order.Order.TheVariants as order
+use Rattle.order_words.specs.Words.{order_of}
+use Rattle.cert_format.specs.Accepted.{EitherClear, EitherSet, IsAccepted}
+use Rattle.cert_format.specs.Grammar.{Spells}
+use Rattle.cert_format.specs.Parts.{CertParts}
+use Rattle.cert_format.specs.Reading.{reading}
+use Rattle.cert_format.proofs.WholeLaws.{spells_again}
+use Rattle.reject_bits.specs.Parts.{TableParts}
+use Rattle.cert_checker.specs.declared.verdict.Totals.{Totals}
+use Rattle.cert_checker.specs.declared.verdict.Verdict.TheVariants as verdict
+use Rattle.cert_checker.specs.Pairs.{AreTotals}
+use Rattle.cert_checker.proofs.SameBits.{HaveOneBits, promised_same}
+use Rattle.sight_run.specs.declared.counts.Counts.{Counts}
+use Rattle.sight_run.specs.Counts.{counts_with}
+use Rattle.sight_job.specs.declared.build.Built.{Built}
+use Rattle.sight_run.specs.declared.status.Flaw.TheVariants as flaw
+use Rattle.sight_run.specs.declared.status.Role.{Role}
+use Rattle.sight_run.specs.declared.status.Role.TheVariants as role
+use Rattle.sight_run.specs.declared.status.Status.{Status}
+use Rattle.sight_run.specs.declared.status.Status.TheVariants as status
+use Rattle.sight_run.specs.declared.status.Why.TheVariants as why
+use Rattle.sight_run.specs.Answer.{Answer, ◌>>=◌, IsTheAnswer, only_line}
+use Rattle.sight_run.specs.Build.{AreAsked, BuildCalls, IsBuiltOf, ShowsBuild, build_writes}
+use Rattle.sight_run.specs.Check.{Brought, CheckCalls, IsVerdictOn, OnBrought, VerdictCalls, brought, cert_in, of_cert_fetch, of_length, of_reading, reject_of, yes_line}
+use Rattle.sight_run.specs.Input.{Found, OnFound, found_in, found_of, of_fetch}
+use Rattle.sight_run.specs.Obeys.{AnswersAsked, IsAnswer, Obeys}
+use Rattle.sight_run.specs.Run.{IsBrokenBy, RunEnds, StandsUpTo, put_all}
+use Rattle.sight_run.specs.Sizes.{sizes_of_map}
+use Rattle.sight_run.specs.Sound.{OnSoundLines}
+use Rattle.sight_run.specs.Words.{asked_of, file_names, has_twice, is_built, of_order}
+use Rattle.sight_run.specs.Zero.{table_len}
+use Rattle.sight_run.specs.Laws.{AcceptsBuilt, AskBoth, BuiltIsChecked, BuiltRunIsChecked, ChecksYes, EndWithYes, HaveBoth, IsShort, SaysYes, Sinks, totals_of}
+use Rattle.sight_run.proofs.Round.{IsFoundAgain, found_again, found_then, passes, same_ok}
+use Rattle.sight_run.proofs.Totals.{same_counts}
+
+-- ---- the words
+
+of_words : (words : List (List ℕ)) (o : Order) → asked_of words ≡ Ok o → has_twice (file_names o) ≡ false
+unfolding asked_of
+of_words words o h = by (order_of words) h
+  where
+    on : (a b : Bool) (x : Order) → has_twice (file_names x) ≡ b → (if not a then Err status.Usage else (if b then Err status.SameName else Ok x)) ≡ Ok o → has_twice (file_names o) ≡ false
+    on false b x e q = absurd cc
+    on true true x e q = absurd cc
+    on true false x e q = subst (λ (y : Order). has_twice (file_names y) ≡ false) (same_ok x o q) e
+
+    by : (r : Option Order) → of_order r ≡ Ok o → has_twice (file_names o) ≡ false
+    by None q = absurd cc
+    by (Some x) q = on (is_built x) (has_twice (file_names x)) x refl q
+
+differ : (wad out cert : List ℕ) → has_twice (wad ∷ out ∷ cert ∷ []) ≡ false → bytes_eq out cert ≡ false
+differ wad out cert h = by (bytes_eq wad out) (bytes_eq wad cert) (bytes_eq out cert) h
+  where
+    by : (a b c : Bool) → ((a || (b || false)) || ((c || false) || (false || false))) ≡ false → c ≡ false
+    by a b false e = refl
+    by true b true e = absurd cc
+    by false true true e = absurd cc
+    by false false true e = absurd cc
+
+-- ---- the files
+
+not_back : (a b : List ℕ) → bytes_eq a b ≡ false → bytes_eq b a ≡ false
+not_back a b h = by (bytes_eq b a) refl
+  where
+    by : (c : Bool) → bytes_eq b a ≡ c → c ≡ false
+    by true e = let same : bytes_eq a b ≡ true = (bytes_eq-Decides a b).1 (sym ((bytes_eq-Decides b a).0 e)) in absurd cc
+    by false e = refl
+
+itself : (a : List ℕ) → bytes_eq a a ≡ true
+itself a = (bytes_eq-Decides a a).1 refl
+
+under_out : (files : Files) (out cert bytes spelled : List ℕ) → bytes_eq out cert ≡ false → put (put files out bytes) cert spelled out ≡ Some bytes
+under_out files out cert bytes spelled h =
+    ap (λ (b : Bool). if b then Some spelled else put files out bytes out) (not_back out cert h) ∙ ap (λ (b : Bool). if b then Some bytes else files out) (itself out)
+
+under_cert : (files : Files) (out cert bytes spelled : List ℕ) → put (put files out bytes) cert spelled cert ≡ Some spelled
+under_cert files out cert bytes spelled = ap (λ (b : Bool). if b then Some spelled else put files out bytes cert) (itself cert)
+
+-- ---- the table's bits
+
+row_below : (a n k : ℕ) → a < k → a * n + n ≤ k * n
+row_below a n zero h = absurd (omega (arith, h))
+row_below zero n (suc k) h = omega arith
+row_below (suc a) n (suc k) h = let r = row_below a n k (omega (arith, h)) in omega (arith, r)
+
+in_square : (a b n : ℕ) → a < n → b < n → a * n + b < n * n
+in_square a b n h k = let r = row_below a n n h in omega (arith, r, k)
+
+-- what is accepted for a table is accepted for one of the same bits
+accepted_same : (m : Map) (t u : List ℕ) (c : CertParts) → ((k : ℕ) → k < m.sectors * m.sectors → table_bit u k ≡ table_bit t k) → IsAccepted m t c → IsAccepted m u c
+accepted_same m t u c bits h = record {
+  mesh = h.mesh;
+  rays = h.rays;
+  trees = h.trees;
+  listed = λ a b l w n s. h.listed a b l w n (set_in_first a b (low a b l w) w s);
+  set = λ a b l w s. h.set a b l w (set_in_first a b (low a b l w) w s);
+  clear = λ a b l w s n. h.clear a b l w (clear_in_first a b (low a b l w) w s) n;
+}
+  where
+    low : (a b : ℕ) → a ≤ b → b < m.sectors → a < m.sectors
+    low a b l w = omega (arith, l, w)
+
+    set_in_first : (a b : ℕ) → a < m.sectors → b < m.sectors → EitherSet m.sectors u a b → EitherSet m.sectors t a b
+    set_in_first a b p q (inl e) = inl (sym (bits (a * m.sectors + b) (in_square a b m.sectors p q)) ∙ e)
+    set_in_first a b p q (inr e) = inr (sym (bits (b * m.sectors + a) (in_square b a m.sectors q p)) ∙ e)
+
+    clear_in_first : (a b : ℕ) → a < m.sectors → b < m.sectors → EitherClear m.sectors u a b → EitherClear m.sectors t a b
+    clear_in_first a b p q (inl n) = inl (λ e. n (bits (a * m.sectors + b) (in_square a b m.sectors p q) ∙ e))
+    clear_in_first a b p q (inr n) = inr (λ e. n (bits (b * m.sectors + a) (in_square b a m.sectors q p) ∙ e))
+
+-- ---- what is brought
+
+abbrev brought_as : List ℕ → CertParts → Brought
+brought_as t c = record { table = t; cert = c }
+
+with_parts : List ℕ → Result CertParts Status → Result Brought Status
+with_parts t r = r >>= (λ parts. Ok (brought_as t parts))
+
+with_cert : Map → List ℕ → Result (List ℕ) Status → Result Brought Status
+with_cert m t r = r >>= (λ bytes. with_parts t (cert_in m bytes))
+
+with_bytes : List ℕ → Found → Files → Result (List ℕ) Status → Result Brought Status
+with_bytes name found files r = r >>= (λ t. with_cert found.map t (of_cert_fetch (content_of (files name) 9223372036854775807)))
+
+brought_by : (name : List ℕ) (found : Found) (files : Files) → brought name found files ≡ with_bytes name found files (of_length found.map.sectors (reject_of found))
+unfolding brought with_parts with_cert with_bytes
+brought_by name found files = refl
+
+is_brought : (name : List ℕ) (found : Found) (files : Files) (t spelled : List ℕ) (c : CertParts) → of_length found.map.sectors (reject_of found) ≡ Ok t → of_cert_fetch (content_of (files name) 9223372036854775807) ≡ Ok spelled → cert_in found.map spelled ≡ Ok c
+    → brought name found files ≡ Ok (brought_as t c)
+unfolding with_parts with_cert with_bytes
+is_brought name found files t spelled c p q r = brought_by name found files ∙ ap (with_bytes name found files) p ∙ ap (with_cert found.map t) q ∙ ap (with_parts t) r
+
+-- bytes of a table's length are taken
+right_length : (n : ℕ) (bytes t : List ℕ) → bytes ≡ t → length t ≡ table_len n → of_length n bytes ≡ Ok t
+right_length n bytes t e len =
+    ap (of_length n) e ∙ ap (λ (b : Bool). if b then Ok t else Err (status.No (why.Table (table.WrongLength (length t) (table_len n))))) ((Decides-eqb (length t) (table_len n)).1 len)
+
+-- a file within the limit is fetched whole
+cert_fetched : (o : Option (List ℕ)) (bytes : List ℕ) → o ≡ Some bytes → length bytes ≤ 9223372036854775807 → of_cert_fetch (content_of o 9223372036854775807) ≡ Ok bytes
+cert_fetched o bytes e le =
+    ap (λ (x : Option (List ℕ)). of_cert_fetch (content_of x 9223372036854775807)) e ∙ by (nat_lt 9223372036854775807 (length bytes)) (le-ltb 9223372036854775807 (length bytes) le)
+  where
+    by : (b : Bool) → b ≡ false → of_cert_fetch (if b then Err fetch.TooLong else Ok bytes) ≡ Ok bytes
+    by true q = absurd cc
+    by false q = refl
+
+spelled_reads : (m : Map) (c : CertParts) (bytes : List ℕ) → c.sizes ≡ sizes_of_map m → Spells c.sizes bytes c → cert_in m bytes ≡ Ok c
+spelled_reads m c bytes e h = ap of_reading (ap (λ s. reading s bytes) (sym e) ∙ spells_again c.sizes bytes c h)
+
+-- ---- the verdict
+
+record IsYesFor (m : Map) (t : TableParts) (c : CertParts) (given : Result Answer Status) : Type 0 where
+  totals : Totals
+  are : AreTotals t c.listed m.sectors totals
+  is : given ≡ Ok (only_line (yes_line m.sectors totals))
+
+-- the bytes are those of a table whose certificate is accepted
+verdict_yes : (m : Map) (t : TableParts) (c : CertParts) (given : Result Answer Status) → t.n ≡ m.sectors → IsAccepted m t.bytes c → IsVerdictOn m (brought_as t.bytes c) given → IsYesFor m t c given
+verdict_yes m t c given n h v = by given v.called
+  where
+    same : HaveOneBits m v.table t
+    same = record { first = v.spelled.sectors; second = n; bits = v.spelled.bits }
+
+    by : (r : Result Answer Status) → VerdictCalls m v.table c r → IsYesFor m t c r
+    by (Ok answer) k = record { totals = k.totals; are = (promised_same m c v.table t same (verdict.Yes k.totals) k.judged.pairs).1; is = ap (λ (x : Answer). Ok x) k.is }
+    by (Err (status.No (why.Check f))) k = absurd (k.accepted.1 (accepted_same m t.bytes v.table.bytes c v.spelled.bits h))
+    by (Err s) k = absurd k
+
+past_lines : (m : Map) (b : Brought) (given : Result Answer Status) → LinesMeetAtEnds m → OnSoundLines m (OnBrought m (Ok b)) given → IsVerdictOn m b given
+past_lines m b (Ok answer) meet q = q.1
+past_lines m b (Err (status.BadMap (flaw.Line f))) meet q = absurd (not_sound m f q meet)
+past_lines m b (Err s) meet q = q.1
+
+-- ---- the build, then the check
+
+wad_fetched : (o : Option (List ℕ)) (name bytes : List ℕ) (found : Found) → o ≡ Some bytes → length bytes < 2 ^ 31 → found_in name bytes ≡ Ok found → (of_fetch (content_of o 2147483647) >>= (λ bs. found_in name bs)) ≡ Ok found
+wad_fetched o name bytes found e lt h =
+    ap (λ (x : Option (List ℕ)). of_fetch (content_of x 2147483647) >>= (λ bs. found_in name bs)) e ∙ by (nat_lt 2147483647 (length bytes)) (le-ltb 2147483647 (length bytes) (omega (arith, lt))) ∙ h
+  where
+    by : (b : Bool) → b ≡ false → (of_fetch (if b then Err fetch.TooLong else Ok bytes) >>= (λ bs. found_in name bs)) ≡ found_in name bytes
+    by true q = absurd cc
+    by false q = refl
+
+-- the bytes in which a map was found
+record HasBytes (name : List ℕ) (found : Found) : Type 0 where
+  bytes : List ℕ
+  are : found_in name bytes ≡ Ok found
+
+bytes_of : (wad name : List ℕ) (files : Files) (found : Found) → found_of wad name files ≡ Ok found → HasBytes name found
+unfolding found_of
+bytes_of wad name files found h = let p = passes (of_fetch (content_of (files wad) 2147483647)) (λ bs. found_in name bs) found h in record { bytes = p.x; are = p.rest }
+
+-- the map was found in these bytes, and what was built of it is in these files
+module _ (accepts : AcceptsBuilt) (name out cert : List ℕ) (budget : Ask) (files others : Files) (found : Found) (answer : Answer) (given : Result Answer Status) where
+  checked : (old spelled : List ℕ) → found_in name old ≡ Ok found → same_name (codes "REJECT") name ≡ false → bytes_eq out cert ≡ false
+      → (shows : ShowsBuild name out (Some cert) budget found answer) → shows.spelled ≡ Some spelled → Spells shows.built.cert.sizes spelled shows.built.cert
+      → HaveBoth (put_all files answer.writes) others out cert → IsShort others cert
+      → OnFound (found_of out name others) (CheckCalls cert others) given → IsYesFor found.map shows.built.table shows.built.cert given
+  unfolding found_of
+  checked old spelled h other apart shows is spells have short q =
+      let table : List ℕ = shows.built.table.bytes in
+      let c : CertParts = shows.built.cert in
+      let again : IsFoundAgain name found table shows.bytes = found_again name old table shows.bytes found h other shows.made in
+      let all : put_all files answer.writes ≡ put (put files out shows.bytes) cert spelled = ap (λ (x : Answer). put_all files x.writes) shows.is ∙ ap (λ (o : Option (List ℕ)). put_all files (build_writes out shows.bytes (Some cert) o)) is in
+      let at_out : others out ≡ Some shows.bytes = have.at_out ∙ ap (λ (f : Files). f out) all ∙ under_out files out cert shows.bytes spelled apart in
+      let at_cert : others cert ≡ Some spelled = have.at_cert ∙ ap (λ (f : Files). f cert) all ∙ under_cert files out cert shows.bytes spelled in
+      let there : found_of out name others ≡ Ok (found_then found table) = wad_fetched (others out) name shows.bytes (found_then found table) at_out again.short again.again in
+      let asked : CheckCalls cert others (found_then found table) given = subst (λ (r : Result Found Status). OnFound r (CheckCalls cert others) given) there q in
+      let len : length table ≡ table_len found.map.sectors = shows.whole.len ∙ ap table_len shows.is_built.sectors in
+      let brings : brought cert (found_then found table) others ≡ Ok (brought_as table c) =
+          is_brought cert (found_then found table) others table spelled c (right_length found.map.sectors (reject_of (found_then found table)) table again.reject len)
+              (cert_fetched (others cert) spelled at_cert (short spelled at_cert)) (spelled_reads found.map c spelled shows.is_built.sizes spells) in
+      verdict_yes found.map shows.built.table c given shows.is_built.sectors (accepts found.map budget shows.built shows.is_built)
+          (past_lines found.map (brought_as table c) given shows.is_built.sound (subst (λ (r : Result Brought Status). OnSoundLines found.map (OnBrought found.map r) given) brings asked))
+
+pub built_is_checked : AcceptsBuilt → BuiltIsChecked
+built_is_checked accepts build check name out cert files others answer ask h have short =
+    on (found_of ask.wad name files) refl (subst (λ r. AnswersAsked r files (Ok answer)) ask.built h)
+  where
+    apart : bytes_eq out cert ≡ false
+    apart = differ ask.wad out cert (of_words build _ ask.built)
+
+    on : (r : Result Found Status) → found_of ask.wad name files ≡ r → OnFound r (BuildCalls name out (Some cert) ask.budget) (Ok answer) → SaysYes check name others answer
+    on (Err s) e shows = absurd cc
+    on (Ok found) e shows = by shows.spelled refl shows.are_asked
+      where
+        by : (o : Option (List ℕ)) → shows.spelled ≡ o → AreAsked (Some cert) shows.built.cert o → SaysYes check name others answer
+        by None f a = absurd a
+        by (Some spelled) f a =
+            let old = bytes_of ask.wad name files found e in
+            let counts = counts_with shows.built.table (length shows.built.cert.listed) in
+            record {
+              counts = counts;
+              built = ap (λ (x : Answer). x.line) shows.is;
+              only = λ given q.
+                  let asked = subst (λ r. AnswersAsked r others given) ask.checked q in
+                  let yes = checked accepts name out cert ask.budget files others found answer given old.bytes spelled old.are ask.other apart shows f a have short asked in
+                  let same = same_counts shows.built.table shows.built.cert.listed found.map.sectors yes.totals shows.is_built.symmetric shows.is_built.sectors yes.are in
+                  yes.is ∙ ap (λ (k : Counts). Ok (only_line (yes_line k.sectors (totals_of k)))) same;
+            }
+
+-- ---- the runs
+
+record EndsDone (build : List (List ℕ)) (files stand : Files) (sinks : Sinks) : Type 0 where
+  answer : Answer
+  called : IsAnswer build files (Ok answer)
+  stands : stand ≡ put_all files answer.writes
+  said : sinks.new.held ≡ option_map (λ held. held ++ answer.line) sinks.old.held
+
+ends_done : (build : List (List ℕ)) (files stand : Files) (before after : ShelfState) (sinks : Sinks) → RunEnds build files before after sinks.old sinks.new status.Done → after.files ≡ Some stand → EndsDone build files stand sinks
+ends_done build files stand before after sinks h e = record {
+  answer = h.ends.answer;
+  called = h.ends.called.called;
+  stands = same stand (put_all files h.ends.answer.writes) (sym e ∙ h.ends.stands);
+  said = h.said ∙ ap (λ (l : List ℕ). option_map (λ held. held ++ l) sinks.old.held) h.ends.line_is;
+}
+  where
+    same : (f g : Files) → ◌≡◌ {A = Option Files} (Some f) (Some g) → f ≡ g
+    same f g q = cc
+
+-- an answer that is a line alone has no output that could be broken
+never_broken : (called : Result Answer Status → Type 0) (Sole : Type 0) (which : Role) (files : Files) (after : Option Files) (line : List ℕ) → ((given : Result Answer Status) → called given → given ≡ Ok (only_line line)) → IsBrokenBy Sole called which files after → ⊥
+never_broken called Sole which files after line one h =
+    subst (λ (a : Answer). StandsUpTo which files after a.writes) (same_ok h.answer (only_line line) (one (Ok h.answer) h.called.called)) h.stands
+
+never_refused : (called : Result Answer Status → Type 0) (Sole : Type 0) (line : List ℕ) (s : Status) → ((given : Result Answer Status) → called given → given ≡ Ok (only_line line)) → IsTheAnswer Sole called (Err s) → ⊥
+never_refused called Sole line s one h = let e = one (Err s) h.called in absurd cc
+
+ends_yes : (check : List (List ℕ)) (others : Files) (first last : ShelfState) (old new : SinkState) (counts : Counts) (s : Status)
+    → ((given : Result Answer Status) → IsAnswer check others given → given ≡ Ok (only_line (yes_line counts.sectors (totals_of counts))))
+    → RunEnds check others first last old new s → ChecksYes counts old new s
+ends_yes check others first last old new counts status.Done one h =
+    h.said ∙ ap (λ (l : List ℕ). option_map (λ held. held ++ l) old.held) (h.ends.line_is ∙ ap (λ (a : Answer). a.line) (same_ok h.ends.answer (only_line (yes_line counts.sectors (totals_of counts))) (one (Ok h.ends.answer) h.ends.called.called)))
+ends_yes check others first last old new counts status.Memory one h = tt
+ends_yes check others first last old new counts (status.ReadFault k) one h = tt
+ends_yes check others first last old new counts (status.WriteFault role.Text) one h = tt
+ends_yes check others first last old new counts (status.WriteFault k) one h = never_broken (IsAnswer check others) _ k others last.files _ one h.ends.0
+ends_yes check others first last old new counts s one h = never_refused (IsAnswer check others) _ _ s one h.ends.0
+
+pub built_run_is_checked : AcceptsBuilt → BuiltRunIsChecked
+built_run_is_checked accepts build check name out cert files stand others before after first last building checking s ask ran e have short h =
+    let done = ends_done build files stand before after building ran e in
+    let both : HaveBoth (put_all files done.answer.writes) others out cert = record { at_out = have.at_out ∙ ap (λ (f : Files). f out) done.stands; at_cert = have.at_cert ∙ ap (λ (f : Files). f cert) done.stands } in
+    let yes = built_is_checked accepts build check name out cert files others done.answer ask done.called both short in
+    record {
+      counts = yes.counts;
+      built = done.said ∙ ap (λ (l : List ℕ). option_map (λ held. held ++ l) building.old.held) yes.built;
+      checked = ends_yes check others first last checking.old checking.new yes.counts s yes.only h;
+    }

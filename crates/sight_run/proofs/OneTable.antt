@@ -1,0 +1,168 @@
+-- All builds of a map within one budget have one table and one list, and so they say one line: the sequences of the sources fix what is listed, and sight fixes each bit of a pair that isn't.
+use Rattle.std.proofs.Common.{◌≡◌, ◌≢◌, ℕ, zero, suc, ◌+◌, ◌-◌, ◌*◌, ◌/◌, ◌%◌, ◌<◌, ◌≤◌, ◌==◌, ◌⊎◌, inl, inr, List, length, Contains, sym, ap, ◌∙◌, subst, arith, zero-lt-suc}
+use Rattle.std.specs.Int.{bit_at, div_ceil}
+use Rattle.std.specs.List.{count_by, range_with_len, sum_by}
+use Rattle.std.proofs.Math.Nat.{div-lt_iff_lt-mul, mod-lt}
+use Rattle.std.proofs.lemmas.List.{get_or_past}
+use Rattle.std.proofs.lemmas.Nat.{div-add-mod'}
+use Rattle.std.proofs.lemmas.Nat.Bits.{bit_at-lt, bit_at-zero}
+use Rattle.sight_names.specs.declared.names.Ask.{Ask}
+use Rattle.sight_names.specs.declared.names.Ask.TheVariants.{Of as AskOf, Full as AskFull, Enough}
+use Rattle.sight_names.specs.declared.names.Budget.{Budget}
+use Rattle.sight_names.specs.declared.names.Budget.TheVariants.{Of}
+use Rattle.sight_names.specs.declared.names.Pair.{Pair}
+use Rattle.sight_names.specs.declared.names.Triangle.{Triangle}
+use Rattle.sight_names.specs.Enough.{IsBudgetOf, enough_of}
+use Rattle.sight_names.specs.Found.{IsListed}
+use Rattle.sight_names.specs.Map.{Map}
+use Rattle.sight_names.specs.Table.{table_bit}
+use Rattle.sight_names.proofs.Lists.{same_ascending}
+use Rattle.sight_names.proofs.OneMesh.{one_mesh}
+use Rattle.reject_bits.specs.Parts.{IsWhole, Rejects, TableParts}
+use Rattle.cert_format.specs.Accepted.{IsPairListed}
+use Rattle.cert_format.specs.Grammar.{IsInOrder, PairBefore}
+use Rattle.sight_job.specs.declared.build.Built.{Built}
+use Rattle.sight_run.specs.declared.counts.Counts.{Counts}
+use Rattle.sight_run.specs.Answer.{Answer, only_line}
+use Rattle.sight_run.specs.Build.{BuildsSayOneLine, HaveOneTable, IsBuiltOf, build_line}
+use Rattle.sight_run.specs.Counts.{counts_with, pair_count, set_from, set_pairs}
+use Rattle.sight_run.specs.Grid.{ShowsGrid, grid_line}
+
+-- ---- numbers
+
+one_or_not : (x : ℕ) → (x ≡ 1) ⊎ (x ≢ 1)
+one_or_not x = grind arith
+
+below_or_not : (k n : ℕ) → (k < n) ⊎ (n ≤ k)
+below_or_not k n = grind arith
+
+same_bit : (x y : ℕ) → x < 2 → y < 2 → (x ≡ 1 → y ≡ 1) → (y ≡ 1 → x ≡ 1) → x ≡ y
+same_bit x y hx hy f g = elim (one_or_not x) as (λ _. x ≡ y) [
+  | inl e ↦ e ∙ sym (f e)
+  | inr n ↦ elim (one_or_not y) as (λ _. x ≡ y) [ inl e ↦ g e ∙ sym e | inr k ↦ zeros x y hx hy n k ]
+]
+  where
+    zeros : (x y : ℕ) → x < 2 → y < 2 → x ≢ 1 → y ≢ 1 → x ≡ y
+    zeros x y hx hy n k = grind arith
+
+some_sector : (k n : ℕ) → k < n * n → 0 < n
+some_sector k zero h = absurd (omega arith)
+some_sector k (suc n) h = zero-lt-suc n
+
+past_bytes : (l k : ℕ) → 8 * l ≤ k → l ≤ k / 8
+past_bytes l k h = omega arith
+
+-- ---- pairs in order
+
+not_before_itself : (p : Pair) → PairBefore p p → ⊥
+not_before_itself p (inl h) = omega (arith, h)
+not_before_itself p (inr h) = let k = h.1 in omega arith
+
+not_both_before : (p q : Pair) → PairBefore p q → PairBefore q p → ⊥
+not_both_before p q (inl h) (inl k) = omega (arith, h, k)
+not_both_before p q (inl h) (inr k) = let e = k.0 in omega (arith, h)
+not_both_before p q (inr h) (inl k) = let e = h.0 in omega (arith, k)
+not_both_before p q (inr h) (inr k) = let e = h.1 in let f = k.1 in omega arith
+
+-- a bit past those of the pairs is clear
+spare_clear : (n : ℕ) (t : TableParts) → t.n ≡ n → IsWhole t → (k : ℕ) → n * n ≤ k → table_bit t.bytes k ≡ 0
+spare_clear n t sectors whole k h = elim (below_or_not k (8 * length t.bytes)) as (λ _. table_bit t.bytes k ≡ 0) [
+  | inl lt ↦ whole.no_spare k (subst (λ (x : ℕ). x * x ≤ k) (sym sectors) h) lt
+  | inr past ↦ ap (λ (x : ℕ). bit_at x (k % 8)) (get_or_past t.bytes (k / 8) 0 (past_bytes (length t.bytes) k past)) ∙ bit_at-zero (k % 8)
+]
+
+-- ---- the budget that is asked for is one, since the mesh is
+
+one_budget : (m : Map) (ask : Ask) (b c : Budget) → IsBudgetOf m ask b → IsBudgetOf m ask c → b ≡ c
+one_budget m (AskOf n) b c h k = h ∙ sym k
+one_budget m AskFull b c h k = h ∙ sym k
+one_budget m Enough b c h k = h.2 ∙ ap (λ (ts : List Triangle). Of (enough_of m ts)) (one_mesh m h.0 k.0 h.1 k.1) ∙ sym k.2
+
+-- ---- two builds
+
+module _ (m : Map) (budget : Ask) (one other : Built) (is_one : IsBuiltOf m budget one) (is_other : IsBuiltOf m budget other) where
+  listed_too : (q : Pair) → Contains one.listed q → Contains other.listed q
+  listed_too q c =
+      let same = one_budget m budget is_one.allowed is_other.allowed is_one.is_allowed is_other.is_allowed in
+      let h = (is_one.spent q).0 c in
+      (is_other.spent q).1 (h.0, subst (λ (b : Budget). IsListed m b q.a q.b) same h.1)
+
+module _ (m : Map) (budget : Ask) (one other : Built) (is_one : IsBuiltOf m budget one) (is_other : IsBuiltOf m budget other) where
+  -- a pair that the other certificate lists is listed by the one build
+  listed_back : (a b : ℕ) → IsPairListed other.cert a b → Contains one.listed (record { a = a; b = b })
+  listed_back a b c = let q : Pair = record { a = a; b = b } in listed_too m budget other one is_other is_one q (subst (λ (ps : List Pair). Contains ps q) (sym is_other.listed) c)
+
+  set_too : (a b : ℕ) → a < m.sectors → b < m.sectors → Rejects one.table a b → Rejects other.table a b
+  set_too a b la lb bit = elim (one_or_not (table_bit other.table.bytes (a * other.table.n + b))) as (λ _. Rejects other.table a b) [
+    | inl h ↦ h
+    | inr clear ↦ absurd (is_one.sight.blind a b la lb bit (is_other.sight.seen a b la lb clear
+        (λ c. (is_one.clear (record { a = a; b = b }) (listed_back a b c)).0 bit)
+        (λ c. (is_one.clear (record { a = b; b = a }) (listed_back b a c)).1 bit)))
+  ]
+
+module _ (m : Map) (budget : Ask) (one other : Built) (is_one : IsBuiltOf m budget one) (is_other : IsBuiltOf m budget other) where
+  -- the bit of a pair, by its place
+  place_is : (t : TableParts) → t.n ≡ m.sectors → (a b k : ℕ) → a * m.sectors + b ≡ k → table_bit t.bytes (a * t.n + b) ≡ table_bit t.bytes k
+  place_is t sectors a b k e = ap (λ (n : ℕ). table_bit t.bytes (a * n + b)) sectors ∙ ap (table_bit t.bytes) e
+
+  pair_bit : (k : ℕ) → k < m.sectors * m.sectors → table_bit one.table.bytes k ≡ table_bit other.table.bytes k
+  pair_bit k h =
+      let some = some_sector k m.sectors h in
+      let a = k / m.sectors in
+      let b = k % m.sectors in
+      let la : a < m.sectors = (div-lt_iff_lt-mul some).1 h in
+      let lb : b < m.sectors = mod-lt k some in
+      let e : a * m.sectors + b ≡ k = div-add-mod' k m.sectors in
+      let here = place_is one.table is_one.sectors a b k e in
+      let there = place_is other.table is_other.sectors a b k e in
+      same_bit _ _ (bit_at-lt _ _) (bit_at-lt _ _)
+      (λ bit. sym there ∙ set_too m budget one other is_one is_other a b la lb (here ∙ bit))
+      (λ bit. sym here ∙ set_too m budget other one is_other is_one a b la lb (there ∙ bit))
+
+  pub one_table : IsWhole one.table → IsInOrder one.cert → IsWhole other.table → IsInOrder other.cert → HaveOneTable one other
+  one_table whole in_order other_whole other_in_order = record {
+    sectors = sectors;
+    len = whole.len ∙ ap (λ (n : ℕ). div_ceil (n * n) 8) sectors ∙ sym other_whole.len;
+    bits = λ k. elim (below_or_not k (m.sectors * m.sectors)) as (λ _. table_bit one.table.bytes k ≡ table_bit other.table.bytes k) [
+      | inl lt ↦ pair_bit k lt
+      | inr past ↦ spare_clear m.sectors one.table is_one.sectors whole k past ∙ sym (spare_clear m.sectors other.table is_other.sectors other_whole k past)
+    ];
+    listed = is_one.listed ∙ lists ∙ sym is_other.listed;
+  }
+    where
+      sectors : one.table.n ≡ other.table.n
+      sectors = is_one.sectors ∙ sym is_other.sectors
+
+      lists : one.cert.listed ≡ other.cert.listed
+      lists = same_ascending PairBefore not_before_itself not_both_before one.cert.listed other.cert.listed in_order.listed_ascend other_in_order.listed_ascend
+          (λ q c. subst (λ (ps : List Pair). Contains ps q) is_other.listed (listed_too m budget one other is_one is_other q (subst (λ (ps : List Pair). Contains ps q) (sym is_one.listed) c)))
+          (λ q c. subst (λ (ps : List Pair). Contains ps q) is_one.listed (listed_too m budget other one is_other is_one q (subst (λ (ps : List Pair). Contains ps q) (sym is_other.listed) c)))
+
+-- ---- what is counted of them
+
+same_set : (t u : TableParts) → t.n ≡ u.n → ((k : ℕ) → table_bit t.bytes k ≡ table_bit u.bytes k) → set_pairs t ≡ set_pairs u
+unfolding set_pairs set_from
+same_set t u e bits = λ i. sum_by (λ a. count_by (λ b. bit a b i == 1) (range_with_len a (e i - a))) (range_with_len 0 (e i))
+  where
+    bit : (a b : ℕ) → table_bit t.bytes (a * t.n + b) ≡ table_bit u.bytes (a * u.n + b)
+    bit a b = bits (a * t.n + b) ∙ ap (λ (n : ℕ). table_bit u.bytes (a * n + b)) e
+
+pub same_counts : (one other : Built) → HaveOneTable one other → one.cert.listed ≡ other.cert.listed → counts_with one.table (length one.cert.listed) ≡ counts_with other.table (length other.cert.listed)
+same_counts one other same lists =
+    let n = same.sectors in
+    let s = same_set one.table other.table same.sectors same.bits in
+    let l = ap length lists in
+    λ i. record { sectors = n i; set = s i; clear = pair_count (n i) - s i - l i; listed = l i }
+
+-- ---- what is said of them
+
+module _ (m : Map) (budget : Ask) (one other : Built) (is_one : IsBuiltOf m budget one) (whole : IsWhole one.table) (in_order : IsInOrder one.cert) (is_other : IsBuiltOf m budget other) (other_whole : IsWhole other.table) (other_in_order : IsInOrder other.cert) where
+  pub one_count : counts_with one.table (length one.cert.listed) ≡ counts_with other.table (length other.cert.listed)
+  one_count = let same = one_table m budget one other is_one is_other whole in_order other_whole other_in_order in same_counts one other same (sym is_one.listed ∙ same.listed ∙ is_other.listed)
+
+pub one_line : BuildsSayOneLine
+one_line name out asked budget found one other p q =
+    ap (λ (a : Answer). a.line) p.is ∙ ap (build_line name) (one_count found.map budget p.built q.built p.is_built p.whole p.in_order q.is_built q.whole q.in_order) ∙ sym (ap (λ (a : Answer). a.line) q.is)
+
+pub one_grid : (n : ℕ) (budget : Ask) (m : Map) (one other : Answer) → ShowsGrid n budget m one → ShowsGrid n budget m other → other ≡ one
+one_grid n budget m one other p q = q.is ∙ ap (λ (c : Counts). only_line (grid_line n c)) (one_count m budget q.built p.built q.is_built q.whole q.in_order p.is_built p.whole p.in_order) ∙ sym p.is

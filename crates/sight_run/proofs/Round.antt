@@ -1,0 +1,155 @@
+-- The check of what a build wrote.
+use Rattle.std.proofs.Common.{◌≡◌, ℕ, zero, suc, ◌+◌, ◌*◌, ◌^◌, ◌<◌, ◌≤◌, ◌⊎◌, inl, inr, List, [], ◌∷◌, ◌++◌, length, get_or, Bool, true, false, not, ◌&&◌, ◌||◌, ◌==◌, if◌then◌else◌, nat_lt, Option, Some, None, Result, Ok, Err, refl, sym, ap, ◌∙◌, subst, arith}
+use Rattle.std.specs.Prelude.{bytes_eq, codes, slice_get, unwrap_or, ⊤}
+use Rattle.std.specs.Int.{div_ceil}
+use Rattle.std.specs.List.{list_any}
+use Rattle.std.proofs.lemmas.Bool.{le-ltb}
+use Rattle.std.proofs.lemmas.Bool.Decides.{Decides-eqb, not_from_Decides}
+use Rattle.std.proofs.lemmas.Option.{unwrap_or-slice_get}
+use Rattle.std.proofs.lemmas.Slice.Eq.{bytes_eq-Decides}
+use Rattle.sight_names.specs.declared.faults.CertFault.{CertFault}
+use Rattle.sight_names.specs.declared.faults.CheckFault.{CheckFault}
+use Rattle.sight_names.specs.declared.faults.FetchFault.{FetchFault}
+use Rattle.sight_names.specs.declared.faults.FetchFault.TheVariants as fetch
+use Rattle.sight_names.specs.declared.faults.MapFault.{MapFault}
+use Rattle.sight_names.specs.declared.faults.RewriteFault.{RewriteFault}
+use Rattle.sight_names.specs.declared.faults.RewriteFault.TheVariants as rewrite
+use Rattle.sight_names.specs.declared.faults.WadFault.{WadFault}
+use Rattle.sight_names.specs.declared.faults.WadFault.TheVariants as wad
+use Rattle.sight_names.specs.declared.names.Ask.{Ask}
+use Rattle.sight_names.specs.Map.{Map}
+use Rattle.sight_names.specs.Sound.{LinesMeetAtEnds}
+use Rattle.sight_names.specs.Table.{table_bit}
+use Rattle.map_audit.proofs.AuditLemmas.{not_sound}
+use Rattle.shelf_io.specs.Shelf.{Files, content_of, put}
+use Rattle.wad_dir.specs.declared.parts.MapSpot.{MapSpot}
+use Rattle.wad_dir.specs.Kept.{IsKept, reject_then, spot_then}
+use Rattle.wad_dir.specs.Map.{same_name, spot_of}
+use Rattle.wad_dir.specs.Print.{with_reject}
+use Rattle.wad_dir.specs.Wad.{WadFile, WadLump, names_of, wad_of}
+use Rattle.wad_rewrite.specs.Again.{IsReadAgain}
+use Rattle.wad_rewrite.specs.Rewrite.{printed}
+use Rattle.wad_rewrite.proofs.Reading.{rewritten_is_read}
+use Rattle.sight_run.specs.declared.status.Status.{Status}
+use Rattle.sight_run.specs.declared.status.Status.TheVariants as status
+use Rattle.sight_run.specs.Answer.{Answer, ◌>>=◌}
+use Rattle.sight_run.specs.Input.{Found, found_in, found_of, lump_at, map_at, of_fetch, of_four_lumps, of_spot, of_wad}
+use Rattle.sight_run.specs.Zero.{of_rewrite, with_table}
+
+-- ---- steps that pass
+
+pub same_ok : {A E : Type 0} (x y : A) → ◌≡◌ {A = Result A E} (Ok x) (Ok y) → x ≡ y
+same_ok x y e = cc
+
+-- what a step was given, where all that follows passes
+pub record Passes {A B : Type 0} (r : Result A Status) (f : A → Result B Status) (y : B) : Type 0 where
+  pub x : A
+  pub step : r ≡ Ok x
+  pub rest : f x ≡ Ok y
+
+pub passes : {A B : Type 0} (r : Result A Status) (f : A → Result B Status) (y : B) → (r >>= f) ≡ Ok y → Passes r f y
+passes (Ok x) f y h = record { x = x; step = refl; rest = h }
+passes (Err s) f y h = absurd cc
+
+was_wad : (r : Result WadFile WadFault) (w : WadFile) → of_wad r ≡ Ok w → r ≡ Ok w
+was_wad (Ok v) w h = ap (λ (x : WadFile). Ok x) (same_ok v w h)
+was_wad (Err wad.TooManyLumps) w h = absurd cc
+was_wad (Err wad.Memory) w h = absurd cc
+was_wad (Err fault) w h = absurd cc
+
+was_spot : (r : Result MapSpot MapFault) (s : MapSpot) → of_spot r ≡ Ok s → r ≡ Ok s
+was_spot (Ok t) s h = ap (λ (x : MapSpot). Ok x) (same_ok t s h)
+was_spot (Err fault) s h = absurd cc
+
+was_printed : (r : Result (List ℕ) RewriteFault) (bytes : List ℕ) → of_rewrite r ≡ Ok bytes → r ≡ Ok bytes
+was_printed (Ok b) bytes h = ap (λ (x : List ℕ). Ok x) (same_ok b bytes h)
+was_printed (Err rewrite.TooManyLumps) bytes h = absurd cc
+was_printed (Err rewrite.TooLong) bytes h = absurd cc
+was_printed (Err rewrite.Memory) bytes h = absurd cc
+
+-- ---- a map that was found
+
+abbrev pub found_with : WadFile → MapSpot → Map → Found
+found_with w s m = record { wad = w; spot = s; map = m }
+
+with_map : WadFile → MapSpot → Result Map Status → Result Found Status
+with_map w s r = r >>= (λ m. Ok (found_with w s m))
+
+with_spot : WadFile → Result MapSpot MapFault → Result Found Status
+with_spot w r = of_spot r >>= (λ s. with_map w s (map_at w s))
+
+with_wad : List ℕ → Result WadFile WadFault → Result Found Status
+with_wad name r = of_wad r >>= (λ w. with_spot w (spot_of (names_of w) name))
+
+found_by : (name bytes : List ℕ) → found_in name bytes ≡ with_wad name (wad_of bytes)
+unfolding found_in with_map with_spot with_wad
+found_by name bytes = refl
+
+record WasFound (name bytes : List ℕ) (found : Found) : Type 0 where
+  read : wad_of bytes ≡ Ok found.wad
+  spot : spot_of (names_of found.wad) name ≡ Ok found.spot
+  map : map_at found.wad found.spot ≡ Ok found.map
+
+was_found : (name bytes : List ℕ) (found : Found) → found_in name bytes ≡ Ok found → WasFound name bytes found
+unfolding with_map with_spot with_wad
+was_found name bytes found h =
+    let a = passes (of_wad (wad_of bytes)) (λ w. with_spot w (spot_of (names_of w) name)) found (sym (found_by name bytes) ∙ h) in
+    let b = passes (of_spot (spot_of (names_of a.x) name)) (λ s. with_map a.x s (map_at a.x s)) found a.rest in
+    let c = passes (map_at a.x b.x) (λ m. Ok (found_with a.x b.x m)) found b.rest in
+    let is : found_with a.x b.x c.x ≡ found = same_ok (found_with a.x b.x c.x) found c.rest in
+    subst (λ (x : Found). WasFound name bytes x) {x = found_with a.x b.x c.x} is (record { read = was_wad (wad_of bytes) a.x a.step; spot = was_spot (spot_of (names_of a.x) name) b.x b.step; map = c.step })
+
+is_found : (name bytes : List ℕ) (found : Found) → WasFound name bytes found → found_in name bytes ≡ Ok found
+unfolding with_map with_spot with_wad
+is_found name bytes found h =
+    found_by name bytes
+    ∙ ap (with_wad name) h.read
+    ∙ ap (with_spot found.wad) h.spot
+    ∙ ap (with_map found.wad found.spot) h.map
+
+-- ---- the map is found again
+
+get_same : (xs ys : List WadLump) (i j : ℕ) (d : WadLump) → slice_get xs i ≡ slice_get ys j → get_or xs i d ≡ get_or ys j d
+get_same xs ys i j d e = sym (unwrap_or-slice_get xs i d) ∙ ap (λ (o : Option WadLump). unwrap_or o d) e ∙ unwrap_or-slice_get ys j d
+
+abbrev nothing : WadLump
+nothing = record { name = []; bytes = [] }
+
+lump_same : (v w : WadFile) (i j : ℕ) → slice_get v.lumps i ≡ slice_get w.lumps j → lump_at v i ≡ lump_at w j
+lump_same v w i j e = ap (λ (l : WadLump). l.bytes) (get_same v.lumps w.lumps i j nothing e)
+
+abbrev pub found_then : Found → List ℕ → Found
+found_then found table = found_with (with_reject found.wad found.spot table) (spot_then found.spot) found.map
+
+-- the map is found in the bytes that were printed, and the REJECT is the table
+pub record IsFoundAgain (name : List ℕ) (found : Found) (table bytes : List ℕ) : Type 0 where
+  pub again : found_in name bytes ≡ Ok (found_then found table)
+  pub short : length bytes < 2 ^ 31
+  pub reject : lump_at (with_reject found.wad found.spot table) (reject_then found.spot) ≡ table
+
+pub found_again : (name old table bytes : List ℕ) (found : Found) → found_in name old ≡ Ok found → same_name (codes "REJECT") name ≡ false → with_table found table ≡ Ok bytes → IsFoundAgain name found table bytes
+found_again name old table bytes found h other made =
+    let was = was_found name old found h in
+    let new : WadFile = with_reject found.wad found.spot table in
+    let again = rewritten_is_read old found.wad name found.spot table bytes was.read was.spot other (was_printed (printed new) bytes made) in
+    let k = again.kept in
+    let here = (λ (e : (l : WadLump) × (slice_get new.lumps (reject_then found.spot) ≡ Some l) × (l.bytes ≡ table)). ap (λ (l : WadLump). l.bytes) (sym (unwrap_or-slice_get new.lumps (reject_then found.spot) nothing) ∙ ap (λ (o : Option WadLump). unwrap_or o nothing) e.1) ∙ e.2) in
+    record {
+      again = is_found name bytes (found_then found table) (record {
+        read = again.read;
+        spot = k.found;
+        map = four (lump_same new found.wad (spot_then found.spot).linedefs found.spot.linedefs k.linedefs)
+            (lump_same new found.wad (spot_then found.spot).sidedefs found.spot.sidedefs k.sidedefs)
+            (lump_same new found.wad (spot_then found.spot).vertexes found.spot.vertexes k.vertexes)
+            (lump_same new found.wad (spot_then found.spot).sectors found.spot.sectors k.sectors) ∙ was.map;
+      });
+      short = again.short;
+      reject = here k.reject;
+    }
+  where
+    four : lump_at (with_reject found.wad found.spot table) (spot_then found.spot).linedefs ≡ lump_at found.wad found.spot.linedefs
+        → lump_at (with_reject found.wad found.spot table) (spot_then found.spot).sidedefs ≡ lump_at found.wad found.spot.sidedefs
+        → lump_at (with_reject found.wad found.spot table) (spot_then found.spot).vertexes ≡ lump_at found.wad found.spot.vertexes
+        → lump_at (with_reject found.wad found.spot table) (spot_then found.spot).sectors ≡ lump_at found.wad found.spot.sectors
+        → map_at (with_reject found.wad found.spot table) (spot_then found.spot) ≡ map_at found.wad found.spot
+    four a b c d = λ i. of_four_lumps (a i) (b i) (c i) (d i)

@@ -1,0 +1,111 @@
+-- Ends of the portals on a path, one code after another.
+use Rattle.std.proofs.Common.{◌≡◌, ℕ, zero, suc, ◌+◌, ◌<◌, ◌≤◌, ◌↔◌, List, [], ◌∷◌, ◌++◌, Option, Some, None, length, get_or, map, take, IsTrue, Bool, refl, sym, ◌∙◌, ap, subst, arith}
+use Rattle.std.specs.List.{AllByRecursion, filter_map, slice_get}
+use Rattle.std.specs.Prelude.{IsSome}
+use Rattle.std.proofs.Common.{set}
+use Rattle.std.proofs.lemmas.List.{take_more, take_more_set, map-append}
+use Rattle.sight_names.specs.declared.names.EndAt.{EndAt}
+use Rattle.std.proofs.lemmas.Option.{slice_get-map, slice_get-get_or}
+use Rattle.std.proofs.Common.{◌%◌, min, inl, inr}
+use Rattle.std.proofs.lemmas.Bool.{cases_lt}
+use Rattle.std.proofs.lemmas.List.{take_all}
+use Rattle.std.specs.Prelude.{option_map}
+use Rattle.sight_names.specs.Splitting.{EndPoints, end_of}
+use Rattle.extreme_lines.proofs.EndsLemmas.{left_end, right_end}
+use Rattle.sight_names.specs.declared.names.Pt.{Pt}
+use Rattle.sight_names.specs.Map.{Map}
+use Rattle.sight_names.specs.Points.{place}
+use Rattle.tree_judge.specs.declared.web.Entry.{Entry}
+use Rattle.tree_judge.specs.declared.trees.Frame.{Frame}
+use Rattle.tree_judge.specs.Path.{portal_ends, path_ends, frame_at, asked_ends, IsClosedBy}
+use Rattle.block_evidence.specs.declared.Evidence.{Evidence}
+use Rattle.block_evidence.specs.Stuck.{AreStuck, Blocks, end_codes}
+
+-- what is found where each code has its end
+pub found_each : (es : List EndPoints) (codes : List ℕ) (xs : List EndAt) → map Some xs ≡ map (end_of es) codes → (filter_map (end_of es) codes ≡ xs) × AllByRecursion (λ code. IsSome (end_of es code)) codes
+found_each es [] [] e = (refl, tt)
+found_each es [] (x ∷ xs) e = absurd (cc)
+found_each es (k ∷ codes) [] e = absurd (cc)
+found_each es (k ∷ codes) (x ∷ xs) e = at (end_of es k) head (found_each es codes xs rest)
+  where
+    head : Some x ≡ end_of es k
+    head = cc
+
+    rest : map Some xs ≡ map (end_of es) codes
+    rest = cc
+
+    at : (o : Option EndAt) → Some x ≡ o → (filter_map (end_of es) codes ≡ xs) × AllByRecursion (λ code. IsSome (end_of es code)) codes → (filter_map (end_of es) (k ∷ codes) ≡ x ∷ xs) × AllByRecursion (λ code. IsSome (end_of es code)) (k ∷ codes)
+    at o h (f, a) = (rw (sym head) (ap (λ (ys : List EndAt). x ∷ ys) f), (rw (sym head) refl, a))
+
+-- a code that is no end's
+pub none_missing : (es : List EndPoints) (codes : List ℕ) (i : ℕ) → i < length codes → AllByRecursion (λ code. IsSome (end_of es code)) codes → end_of es (get_or codes i 0) ≡ None → ⊥
+none_missing es [] i l a e = absurd (omega arith)
+none_missing es (k ∷ codes) zero l a e = none (end_of es k) a.0 e
+  where
+    none : (o : Option EndAt) → IsSome o → o ≡ None → ⊥
+    none (Some x) h q = cc
+    none None h q = cc
+none_missing es (k ∷ codes) (suc i) l a e = none_missing es codes i (omega arith) a.1 e
+
+-- one more code and its end
+pub found_more : (es : List EndPoints) (codes : List ℕ) (ends : List EndAt) (i : ℕ) (x : EndAt) → i < length codes → i < length ends → map Some (take i ends) ≡ map (end_of es) (take i codes) → end_of es (get_or codes i 0) ≡ Some x → map Some (take (i + 1) (set ends i x)) ≡ map (end_of es) (take (i + 1) codes)
+found_more es codes ends i x l h e f = ap (map Some) (take_more_set ends i x h) ∙ map-append Some (take i ends) (x ∷ []) ∙ ap (λ (ys : List (Option EndAt)). ys ++ Some x ∷ []) e ∙ ap (λ (o : Option EndAt). map (end_of es) (take i codes) ++ o ∷ []) (sym f) ∙ sym (map-append (end_of es) (take i codes) (get_or codes i 0 ∷ [])) ∙ ap (map (end_of es)) (sym (take_more codes i 0 l))
+
+-- ---- ends by their codes
+
+at_code : (path : List Frame) (k : ℕ) (f : Frame) → k < length path → f ≡ get_or path k f → slice_get (path_ends path) k ≡ Some (portal_ends f)
+at_code path k f l e = slice_get-map portal_ends path k ∙ ap (λ (o : Option Frame). option_map portal_ends o) (slice_get-get_or path k f l ∙ ap Some (sym e))
+
+pub left_of : (path : List Frame) (code : ℕ) (f : Frame) → code < 32768 → code % 32768 < length path → f ≡ get_or path (code % 32768) f → ◌≡◌ {A = Option EndAt} (Some (record { code = code; at = f.left })) (end_of (path_ends path) code)
+left_of path code f few l e = sym (left_end (path_ends path) code (portal_ends f) few (subst (λ (k : ℕ). slice_get (path_ends path) k ≡ Some (portal_ends f)) same (at_code path (code % 32768) f l e)))
+  where
+    same : code % 32768 ≡ code
+    same = omega arith
+
+pub right_of : (path : List Frame) (code : ℕ) (f : Frame) → 32768 ≤ code → code < 65536 → code % 32768 < length path → f ≡ get_or path (code % 32768) f → ◌≡◌ {A = Option EndAt} (Some (record { code = code; at = f.right })) (end_of (path_ends path) code)
+right_of path code f many few l e = subst (λ (n : ℕ). ◌≡◌ {A = Option EndAt} (Some (record { code = n; at = f.right })) (end_of (path_ends path) n)) same (sym (right_end (path_ends path) (code % 32768) (portal_ends f) (at_code path (code % 32768) f l e)))
+  where
+    same : 32768 + code % 32768 ≡ code
+    same = omega arith
+
+-- ---- the portal of an entry
+
+pub same_frame : (m : Map) (x : Entry) (l r : Pt) → l ≡ place m x.left → r ≡ place m x.right → record { left = l; right = r; right_way = x.right_way } ≡ frame_at m x
+same_frame m x l r e f = λ i. record { left = e i; right = f i; right_way = x.right_way }
+
+-- ---- all codes
+
+same_take : (xs : List ℕ) (n i : ℕ) → length xs ≡ 4 → i ≡ min n 4 → take i xs ≡ take n xs
+same_take xs n i l e = elim (cases_lt 4 n) as (λ _. take i xs ≡ take n xs) [
+  | inl h ↦ take_all i xs (omega arith) ∙ sym (take_all n xs (omega arith))
+  | inr h ↦ ap (λ (k : ℕ). take k xs) (omega arith)
+]
+
+pub blocks_if : (es : List EndPoints) (e : Evidence) (ends some : List EndAt) (i : ℕ) (b : Bool) → map Some (take i ends) ≡ map (end_of es) (take i e.ends) → length e.ends ≡ 4 → i ≡ min e.count 4 → some ≡ take i ends → (IsTrue b ↔ AreStuck some) → IsTrue b ↔ Blocks es e
+blocks_if es e ends some i b h l m t s = (λ n. record { ends = subst (AllByRecursion (λ code. IsSome (end_of es code))) q f.1; stuck = subst AreStuck (sym same) (s.0 n) }, λ k. s.1 (subst AreStuck same k.stuck))
+  where
+    f : (filter_map (end_of es) (take i e.ends) ≡ take i ends) × AllByRecursion (λ code. IsSome (end_of es code)) (take i e.ends)
+    f = found_each es (take i e.ends) (take i ends) h
+
+    q : take i e.ends ≡ end_codes e
+    q = same_take e.ends e.count i l m
+
+    same : filter_map (end_of es) (end_codes e) ≡ some
+    same = ap (filter_map (end_of es)) (sym q) ∙ f.0 ∙ sym t
+
+-- ---- the sequence that is asked
+
+pub asked_is : (m : Map) (path part : List Frame) (depth : ℕ) (x : Entry) → depth < length path → part ≡ take (depth + 1) (set path depth (frame_at m x)) → path_ends part ≡ asked_ends m path depth x
+asked_is m path part depth x l e = ap path_ends (e ∙ take_more_set path depth (frame_at m x) l) ∙ map-append portal_ends (take depth path) (frame_at m x ∷ [])
+
+pub closed_if : (m : Map) (xs : List Entry) (path part : List Frame) (depth place : ℕ) (x : Entry) (e : Evidence) (b : Bool) → slice_get xs place ≡ Some x → depth < length path → part ≡ take (depth + 1) (set path depth (frame_at m x)) → (IsTrue b ↔ Blocks (path_ends part) e) → IsTrue b ↔ IsClosedBy m xs path depth place e
+closed_if m xs path part depth place x e b at l p s = (λ t. record { entry = x; is = at; room = l; blocks = subst (λ (es : List EndPoints). Blocks es e) (asked_is m path part depth x l p) (s.0 t) }, λ k. s.1 (back k))
+  where
+    same : (y : Entry) → slice_get xs place ≡ Some y → ◌≡◌ {A = Option Entry} (Some x) (Some y)
+    same y h = sym at ∙ h
+
+    one : (y : Entry) → ◌≡◌ {A = Option Entry} (Some x) (Some y) → y ≡ x
+    one y h = cc
+
+    back : IsClosedBy m xs path depth place e → Blocks (path_ends part) e
+    back k = subst (λ (es : List EndPoints). Blocks es e) (sym (asked_is m path part depth x l p)) (subst (λ (y : Entry). Blocks (asked_ends m path depth y) e) (one k.entry (same k.entry k.is)) k.blocks)

@@ -1,0 +1,16 @@
+pub mod Noting
+pub mod Walls
+pub mod Entries
+pub mod Chains
+pub mod Ends
+pub mod Ways
+pub mod Nexts
+pub mod Entering
+pub mod Following
+pub mod Answering
+pub mod Meshed
+pub mod WholeTrees
+pub mod OneAnswer
+pub mod Refuting
+pub mod AllTrees
+pub mod OneTree

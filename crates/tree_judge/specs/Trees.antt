@@ -1,0 +1,44 @@
+-- What a judge of trees tells of a certificate.
+use Rattle.std.specs.Prelude.{◌≡◌, ◌<◌, ◌↔◌, ℕ, List, map, slice_get, Some, Bool, Contains}
+use Rattle.sight_names.specs.Map.{Map}
+use Rattle.block_evidence.specs.declared.Tree.{Tree}
+use Rattle.block_evidence.specs.WholeTree.{IsWholeTree}
+use Rattle.reject_bits.specs.Parts.{TableParts, Rejects}
+use Rattle.cert_format.specs.Parts.{CertParts}
+use Rattle.cert_format.specs.Accepted.{triangles_of, labels_of, HasTreeWithout}
+use Rattle.tree_judge.specs.declared.web.Entry.{Entry}
+use Rattle.tree_judge.specs.declared.judge.TreeVerdict.{TreeVerdict}
+use Rattle.tree_judge.specs.declared.judge.TreeVerdict.TheVariants.{Whole, Wrong}
+use Rattle.tree_judge.specs.Marks.{IsMarked}
+use Rattle.tree_judge.specs.Web.{AreWalls, AreEntries}
+use Rattle.tree_judge.specs.Path.{root_pending}
+use Rattle.tree_judge.specs.Roots.{root_entries}
+use Rattle.tree_judge.specs.Whole.{IsFirstWrong}
+
+-- each tree of the certificate is whole
+abbrev pub AreTreesWhole : Map → CertParts → Type 0
+AreTreesWhole m c = (t : Tree) → Contains c.trees t → (opened : List ℕ) × IsWholeTree m (triangles_of c) (labels_of c) t opened
+
+-- the first tree of the certificate that isn't whole, and the first of its nodes that doesn't answer for what is asked
+pub record IsFirstTreeNotWhole (m : Map) (c : CertParts) (source k : ℕ) : Type 0 where
+  pub place : ℕ
+  pub tree : Tree
+  pub is : slice_get c.trees place ≡ Some tree
+  pub of : tree.source ≡ source
+  pub not_whole : (opened : List ℕ) → ¬ IsWholeTree m (triangles_of c) (labels_of c) tree opened
+  pub before : (i : ℕ) (t : Tree) → i < place → slice_get c.trees i ≡ Some t → (opened : List ℕ) × IsWholeTree m (triangles_of c) (labels_of c) t opened
+  -- the number, by the entries of the mesh
+  pub walls : List Bool
+  pub entries : List Entry
+  pub are_walls : AreWalls m (triangles_of c) walls
+  pub are_entries : AreEntries (triangles_of c) walls c.triangles entries
+  pub node : IsFirstWrong m entries tree.source (map root_pending (root_entries (triangles_of c) walls entries m tree.source)) tree.nodes k
+
+-- a sector is marked, and its bit of another one isn't set, exactly where a tree of the one keeps from the other
+abbrev pub TellsReach : Map → CertParts → List Bool → TableParts → Type 0
+TellsReach m c walked reached = (a b : ℕ) → a < m.sectors → b < m.sectors → (IsMarked walked a × ¬ Rejects reached a b) ↔ HasTreeWithout m c a b
+
+-- all trees are whole, and it is told what they keep from; or the first one that isn't is told, with its first wrong node
+abbrev pub TellsTrees : Map → CertParts → TreeVerdict → Type 0
+TellsTrees m c (Whole reach) = AreTreesWhole m c × (reach.reached.n ≡ m.sectors) × TellsReach m c reach.walked.items reach.reached
+TellsTrees m c (Wrong source node) = IsFirstTreeNotWhole m c source node

@@ -1,0 +1,258 @@
+-- A WAD with another REJECT for a map has the map at its place, and all its other lumps.
+use Rattle.std.proofs.Common.{◌≡◌, ◌≢◌, ℕ, zero, suc, ◌+◌, ◌<◌, ◌≤◌, List, [], ◌∷◌, length, drop, map, Bool, true, false, if◌then◌else◌, nat_lt, Option, Some, None, Ok, refl, sym, ap, ◌∙◌, subst, arith}
+use Rattle.std.specs.Prelude.{codes, slice_get, slice_set}
+use Rattle.std.specs.List.{insert, position_from}
+use Rattle.std.proofs.Math.ListN.{get_or, set}
+use Rattle.std.proofs.Math.Seq.{map-set_same}
+use Rattle.std.proofs.lemmas.Bool.Decides.{Decides-ltb, not_from_Decides}
+use Rattle.std.proofs.lemmas.List.{length-drop, length-map, length-set}
+use Rattle.std.proofs.lemmas.List.Edits.{length-insert}
+use Rattle.wad_dir.specs.declared.parts.MapSpot.{MapSpot}
+use Rattle.wad_dir.specs.Map.{begins_with_behavior, last_from, same_name, shifted, spot_of}
+use Rattle.wad_dir.specs.Print.{lumps_with_reject, reject_lump, with_bytes, with_reject}
+use Rattle.wad_dir.specs.Wad.{WadFile, WadLump, names_of}
+use Rattle.wad_dir.specs.Kept.{IsKept, count_then, place_then, reject_then, spot_then}
+use Rattle.wad_dir.proofs.Inserted.{apart, drop_behind, drop_insert, last_kept, last_within, more, more_insert, more_short, none_there, padded, place_before, place_behind, place_bound, place_new, word}
+use Rattle.wad_dir.proofs.Spots.{IsSpot, place, spot_at, spot_from, spot_parts}
+
+-- ---- lists
+
+map_insert : {X Y : Type 0} (f : X → Y) (xs : List X) (i : ℕ) (x : X) → map f (insert xs i x) ≡ insert (map f xs) i (f x)
+map_insert f xs zero x = refl
+map_insert f [] (suc i) x = refl
+map_insert {X} {Y} f (y ∷ xs) (suc i) x = ap (λ (ys : List Y). f y ∷ ys) (map_insert f xs i x)
+
+get_at : {X : Type 0} (xs : List X) (i : ℕ) (x : X) → i ≤ length xs → slice_get (insert xs i x) i ≡ Some x
+get_at xs zero x le = refl
+get_at [] (suc i) x le = absurd (omega (arith, le))
+get_at (y ∷ xs) (suc i) x le = get_at xs i x (omega (arith, le))
+
+get_before : {X : Type 0} (xs : List X) (i k : ℕ) (x : X) → i ≤ length xs → k < i → slice_get (insert xs i x) k ≡ slice_get xs k
+get_before xs zero k x le lt = absurd (omega (arith, lt))
+get_before [] (suc i) k x le lt = absurd (omega (arith, le))
+get_before (y ∷ xs) (suc i) zero x le lt = refl
+get_before (y ∷ xs) (suc i) (suc k) x le lt = get_before xs i k x (omega (arith, le)) (omega (arith, lt))
+
+get_behind : {X : Type 0} (xs : List X) (i k : ℕ) (x : X) → i ≤ length xs → i ≤ k → slice_get (insert xs i x) (suc k) ≡ slice_get xs k
+get_behind xs zero k x le lt = refl
+get_behind [] (suc i) k x le lt = absurd (omega (arith, le))
+get_behind (y ∷ xs) (suc i) zero x le lt = absurd (omega (arith, lt))
+get_behind (y ∷ xs) (suc i) (suc k) x le lt = get_behind xs i k x (omega (arith, le)) (omega (arith, lt))
+
+get_set : {X : Type 0} (xs : List X) (i : ℕ) (x : X) → i < length xs → slice_get (set xs i x) i ≡ Some x
+get_set [] i x lt = absurd (omega (arith, lt))
+get_set (y ∷ xs) zero x lt = refl
+get_set (y ∷ xs) (suc i) x lt = get_set xs i x (omega (arith, lt))
+
+get_other : {X : Type 0} (xs : List X) (i k : ℕ) (x : X) → k ≢ i → slice_get (set xs i x) k ≡ slice_get xs k
+get_other [] i k x other = refl
+get_other (y ∷ xs) zero zero x other = absurd (other refl)
+get_other (y ∷ xs) zero (suc k) x other = refl
+get_other (y ∷ xs) (suc i) zero x other = refl
+get_other (y ∷ xs) (suc i) (suc k) x other = get_other xs i k x (λ e. other (ap suc e))
+
+-- ---- numbers that move
+
+-- a place behind c moves by one
+abbrev moved : ℕ → ℕ → ℕ
+moved c k = if nat_lt c k then k + 1 else k
+
+moved_by : (a c k : ℕ) → a + moved c k ≡ moved (a + c) (a + k)
+moved_by a c k = by (nat_lt c k) (nat_lt (a + c) (a + k)) refl refl
+  where
+    by : (b d : Bool) → nat_lt c k ≡ b → nat_lt (a + c) (a + k) ≡ d → a + (if b then k + 1 else k) ≡ (if d then a + k + 1 else a + k)
+    by true true e f = omega arith
+    by false false e f = refl
+    by true false e f = absurd (let lt : c < k = (Decides-ltb c k).0 e in not_from_Decides (nat_lt (a + c) (a + k)) (Decides-ltb (a + c) (a + k)) f (omega (arith, lt)))
+    by false true e f = absurd (let lt : a + c < a + k = (Decides-ltb (a + c) (a + k)).0 f in not_from_Decides (nat_lt c k) (Decides-ltb c k) e (omega (arith, lt)))
+
+place_moved : {X : Type 0} (test : X → Bool) (xs : List X) (c k : ℕ) (x : X) → position_from test 0 xs ≡ Some k → test x ≡ false → position_from test 0 (insert xs (c + 1) x) ≡ Some (moved c k)
+place_moved test xs c k x h other = by (nat_lt c k) refl
+  where
+    by : (b : Bool) → nat_lt c k ≡ b → position_from test 0 (insert xs (c + 1) x) ≡ Some (if b then k + 1 else k)
+    by true e = place_behind test xs (c + 1) 0 k x h (let lt : c < k = (Decides-ltb c k).0 e in omega (arith, lt)) other
+    by false e = place_before test xs (c + 1) 0 k x h (let not : ¬ (c < k) = not_from_Decides (nat_lt c k) (Decides-ltb c k) e in omega (arith, not))
+
+-- ---- the REJECT is put in
+
+-- what a spot is where there is no REJECT, or one in the run
+record HasSpot (ns : List (List ℕ)) (name : List ℕ) (spot : MapSpot) : Type 0 where
+  spot_there : MapSpot
+  found : spot_of ns name ≡ Ok spot_there
+  is : spot_there ≡ spot_then spot
+
+module _ (ns : List (List ℕ)) (name : List ℕ) (spot : MapSpot) (p : IsSpot ns name spot) where
+  abbrev after : List (List ℕ)
+  after = drop (p.marker + 1) ns
+
+  abbrev run : List (List ℕ)
+  run = more [] after
+
+  marker_within : p.marker < length ns
+  marker_within = let h = last_within ns name 0 p.marker p.is_last in omega (arith, h)
+
+  after_length : p.marker + 1 + length after ≡ length ns
+  after_length = let h = length-drop (p.marker + 1) ns in let w = marker_within in omega (arith, h, w)
+
+  sectors_in_run : p.c < length run
+  sectors_in_run = let h = place_bound (λ n. same_name n (codes "SECTORS")) run 0 p.c p.sectors in omega (arith, h.1)
+
+  pub sectors_within : spot.sectors < length ns
+  sectors_within =
+      let is : spot.sectors ≡ p.marker + 1 + p.c = ap (λ (x : MapSpot). x.sectors) p.is in
+      let a = sectors_in_run in
+      let b = more_short [] after in
+      let d = after_length in
+      omega (arith, is, a, b, d)
+
+  -- ---- none is there
+
+  module _ (other : same_name word name ≡ false) (none : p.r ≡ None) where
+    abbrev put : List (List ℕ)
+    put = insert ns (spot.sectors + 1) padded
+
+    place_put : spot.sectors + 1 ≡ p.marker + 1 + (p.c + 1)
+    place_put = let is : spot.sectors ≡ p.marker + 1 + p.c = ap (λ (x : MapSpot). x.sectors) p.is in omega (arith, is)
+
+    last_put : last_from put name 0 None ≡ Some p.marker
+    last_put = last_kept ns (spot.sectors + 1) name padded 0 None p.marker other (let e = place_put in omega (arith, e)) p.is_last
+
+    after_put : drop (p.marker + 1) put ≡ insert after (p.c + 1) padded
+    after_put = ap (λ (k : ℕ). drop (p.marker + 1) (insert ns k padded)) place_put ∙ drop_insert ns (p.marker + 1) (p.c + 1) padded (let w = marker_within in omega (arith, w))
+
+    run_put : more [] (insert after (p.c + 1) padded) ≡ insert run (p.c + 1) padded
+    run_put = more_insert (p.c + 1) [] after (let a = sectors_in_run in omega (arith, a)) refl (none_there (λ n. same_name n word) run 0 (p.reject ∙ none))
+
+    end_put : drop (length (insert run (p.c + 1) padded)) (insert after (p.c + 1) padded) ≡ drop (length run) after
+    end_put =
+        let a = sectors_in_run in
+        let b = more_short [] after in
+        let long : length (insert run (p.c + 1) padded) ≡ suc (length run) = (let h = length-insert run (p.c + 1) padded (omega (arith, a)) in omega (arith, h)) in
+        ap (λ (k : ℕ). drop k (insert after (p.c + 1) padded)) long ∙ drop_behind after (p.c + 1) (length run) padded (omega (arith, a)) (omega (arith, a, b))
+
+    -- a place in the new run
+    at_put : (x : List ℕ) (k : ℕ) → place x (insert run (p.c + 1) padded) ≡ Some k → place x (more [] (drop (p.marker + 1) put)) ≡ Some k
+    at_put x k h = ap (λ (ys : List (List ℕ)). place x (more [] ys)) after_put ∙ ap (place x) run_put ∙ h
+
+    parts_put : IsSpot put name (spot_at p.marker (moved p.c p.l) (moved p.c p.s) (moved p.c p.v) (moved p.c p.c) (Some (p.c + 1)))
+    parts_put = record {
+      marker = p.marker;
+      is_last = last_put;
+      no_behavior = ap (λ (ys : List (List ℕ)). begins_with_behavior (drop (length (more [] ys)) ys)) after_put ∙ ap (λ (ys : List (List ℕ)). begins_with_behavior (drop (length ys) (insert after (p.c + 1) padded))) run_put ∙ ap begins_with_behavior end_put ∙ p.no_behavior;
+      l = moved p.c p.l;
+      s = moved p.c p.s;
+      v = moved p.c p.v;
+      c = moved p.c p.c;
+      r = Some (p.c + 1);
+      linedefs = at_put (codes "LINEDEFS") (moved p.c p.l) (place_moved (λ n. same_name n (codes "LINEDEFS")) run p.c p.l padded p.linedefs refl);
+      sidedefs = at_put (codes "SIDEDEFS") (moved p.c p.s) (place_moved (λ n. same_name n (codes "SIDEDEFS")) run p.c p.s padded p.sidedefs refl);
+      vertexes = at_put (codes "VERTEXES") (moved p.c p.v) (place_moved (λ n. same_name n (codes "VERTEXES")) run p.c p.v padded p.vertexes refl);
+      sectors = at_put (codes "SECTORS") (moved p.c p.c) (place_moved (λ n. same_name n (codes "SECTORS")) run p.c p.c padded p.sectors refl);
+      reject = at_put word (p.c + 1) (place_new (λ n. same_name n word) run (p.c + 1) 0 padded (p.reject ∙ none) refl (let a = sectors_in_run in omega (arith, a)) ∙ (let same : 0 + (p.c + 1) ≡ p.c + 1 = omega arith in ap (λ (k : ℕ). Some k) same));
+      is = refl;
+    }
+
+    -- which is the old spot, moved
+    abbrev spot_of_five : ℕ → ℕ → ℕ → ℕ → ℕ → MapSpot
+    spot_of_five l s v c r = record { marker = p.marker; linedefs = l; sidedefs = s; vertexes = v; sectors = c; reject = Some r }
+
+    is_then : spot_at p.marker (moved p.c p.l) (moved p.c p.s) (moved p.c p.v) (moved p.c p.c) (Some (p.c + 1)) ≡ spot_then (spot_at p.marker p.l p.s p.v p.c None)
+    is_then =
+        let r : p.marker + 1 + (p.c + 1) ≡ p.marker + 1 + p.c + 1 = omega arith in
+        (λ i. spot_of_five (moved_by (p.marker + 1) p.c p.l i) (moved_by (p.marker + 1) p.c p.s i) (moved_by (p.marker + 1) p.c p.v i) (moved_by (p.marker + 1) p.c p.c i) (r i))
+
+    pub spot_put : spot_of put name ≡ Ok (spot_then spot)
+    spot_put = spot_from put name _ parts_put ∙ ap (λ (x : MapSpot). Ok x) (is_then ∙ ap spot_then (ap (spot_at p.marker p.l p.s p.v p.c) (sym none) ∙ sym p.is))
+
+-- ---- one is there, or none
+
+-- the spot with another REJECT
+abbrev with_place : MapSpot → Option ℕ → MapSpot
+with_place spot o = record { marker = spot.marker; linedefs = spot.linedefs; sidedefs = spot.sidedefs; vertexes = spot.vertexes; sectors = spot.sectors; reject = o }
+
+abbrev rewritten : WadFile → MapSpot → Option ℕ → List ℕ → WadFile
+rewritten w spot o table = with_reject w (with_place spot o) table
+
+none_of : (by : ℕ) (r : Option ℕ) → None ≡ shifted by r → r ≡ None
+none_of by None e = refl
+none_of by (Some k) e = absurd cc
+
+record IsShifted (by : ℕ) (r : Option ℕ) (place : ℕ) : Type 0 where
+  k : ℕ
+  is : r ≡ Some k
+  at : place ≡ by + k
+
+some_of : (by : ℕ) (r : Option ℕ) (at : ℕ) → Some at ≡ shifted by r → IsShifted by r at
+some_of by None at e = absurd cc
+some_of by (Some k) at e = record { k = k; is = refl; at = cc }
+
+get_moved : {X : Type 0} (xs : List X) (s k : ℕ) (x : X) → s < length xs → slice_get (insert xs (s + 1) x) (moved s k) ≡ slice_get xs k
+get_moved {X} xs s k x lt = by (nat_lt s k) refl
+  where
+    by : (b : Bool) → nat_lt s k ≡ b → slice_get (insert xs (s + 1) x) (if b then k + 1 else k) ≡ slice_get xs k
+    by true e =
+        let same : k + 1 ≡ suc k = omega arith in
+        let l : s < k = (Decides-ltb s k).0 e in
+        ap (λ (i : ℕ). slice_get (insert xs (s + 1) x) i) same ∙ get_behind xs (s + 1) k x (omega (arith, lt)) (omega (arith, l))
+    by false e =
+        let not : ¬ (s < k) = not_from_Decides (nat_lt s k) (Decides-ltb s k) e in
+        get_before xs (s + 1) k x (omega (arith, lt)) (omega (arith, not))
+
+names_put : (w : WadFile) (spot : MapSpot) (table : List ℕ) → names_of (rewritten w spot None table) ≡ insert (names_of w) (spot.sectors + 1) padded
+names_put w spot table = map_insert (λ (l : WadLump). l.name) w.lumps (spot.sectors + 1) (reject_lump table)
+
+names_stay : (w : WadFile) (spot : MapSpot) (r : ℕ) (table : List ℕ) → names_of (rewritten w spot (Some r) table) ≡ names_of w
+names_stay w spot r table = map-set_same (λ (l : WadLump). l.name) w.lumps r (with_bytes (get_or w.lumps r (reject_lump table)) table) (reject_lump table) refl
+
+kept_none : (w : WadFile) (name : List ℕ) (spot : MapSpot) (table : List ℕ) → spot_of (names_of w) name ≡ Ok (with_place spot None) → same_name word name ≡ false → IsKept name (with_place spot None) table w (rewritten w spot None table)
+kept_none w name spot table found other =
+    let p = spot_parts (names_of w) name (with_place spot None) found in
+    let none : p.r ≡ None = none_of (p.marker + 1) p.r (ap (λ (x : MapSpot). x.reject) p.is) in
+    let within : spot.sectors < length w.lumps = (let a = sectors_within (names_of w) name (with_place spot None) p in let b = length-map w.lumps (λ (l : WadLump). l.name) in omega (arith, a, b)) in
+    let moves : (k : ℕ) → slice_get (insert w.lumps (spot.sectors + 1) (reject_lump table)) (moved spot.sectors k) ≡ slice_get w.lumps k = (λ k. get_moved w.lumps spot.sectors k (reject_lump table) within) in
+    record {
+      found = ap (λ (ns : List (List ℕ)). spot_of ns name) (names_put w spot table) ∙ spot_put (names_of w) name (with_place spot None) p other none;
+      linedefs = moves spot.linedefs;
+      sidedefs = moves spot.sidedefs;
+      vertexes = moves spot.vertexes;
+      sectors = moves spot.sectors;
+      reject = (reject_lump table, get_at w.lumps (spot.sectors + 1) (reject_lump table) (omega (arith, within)), refl);
+      others = λ k not. moves k;
+      count = length-insert w.lumps (spot.sectors + 1) (reject_lump table) (omega (arith, within));
+    }
+
+kept_some : (w : WadFile) (name : List ℕ) (spot : MapSpot) (r : ℕ) (table : List ℕ) → spot_of (names_of w) name ≡ Ok (with_place spot (Some r)) → IsKept name (with_place spot (Some r)) table w (rewritten w spot (Some r) table)
+kept_some w name spot r table found =
+    let p = spot_parts (names_of w) name (with_place spot (Some r)) found in
+    let run : List (List ℕ) = more [] (drop (p.marker + 1) (names_of w)) in
+    let at = some_of (p.marker + 1) p.r r (ap (λ (x : MapSpot). x.reject) p.is) in
+    let there : place word run ≡ Some at.k = p.reject ∙ at.is in
+    let within : r < length w.lumps = (
+    let a = place_bound (λ n. same_name n word) run 0 at.k there in
+    let b = more_short [] (drop (p.marker + 1) (names_of w)) in
+    let d = after_length (names_of w) name (with_place spot (Some r)) p in
+    let e = length-map w.lumps (λ (l : WadLump). l.name) in
+    let f = at.at in
+    omega (arith, a.1, b, d, e, f)) in
+    let lump : WadLump = with_bytes (get_or w.lumps r (reject_lump table)) table in
+    let stays : (k : ℕ) → k ≢ r → slice_get (set w.lumps r lump) k ≡ slice_get w.lumps k = (λ k not. get_other w.lumps r k lump not) in
+    let clash : (x : List ℕ) (k j : ℕ) → j ≡ p.marker + 1 + k → place x run ≡ Some k → ((n : ℕ) → place x run ≡ Some n → place word run ≡ Some n → ⊥) → j ≢ r =
+    (λ x k j is here never same. let e : at.k ≡ k = (let f = at.at in omega (arith, is, same, f)) in never k here (there ∙ ap (λ (n : ℕ). Some n) e)) in
+    record {
+      found = ap (λ (ns : List (List ℕ)). spot_of ns name) (names_stay w spot r table) ∙ found;
+      linedefs = stays spot.linedefs (clash (codes "LINEDEFS") p.l spot.linedefs (ap (λ (x : MapSpot). x.linedefs) p.is) p.linedefs (λ n. apart (codes "LINEDEFS") word run 0 n refl));
+      sidedefs = stays spot.sidedefs (clash (codes "SIDEDEFS") p.s spot.sidedefs (ap (λ (x : MapSpot). x.sidedefs) p.is) p.sidedefs (λ n. apart (codes "SIDEDEFS") word run 0 n refl));
+      vertexes = stays spot.vertexes (clash (codes "VERTEXES") p.v spot.vertexes (ap (λ (x : MapSpot). x.vertexes) p.is) p.vertexes (λ n. apart (codes "VERTEXES") word run 0 n refl));
+      sectors = stays spot.sectors (clash (codes "SECTORS") p.c spot.sectors (ap (λ (x : MapSpot). x.sectors) p.is) p.sectors (λ n. apart (codes "SECTORS") word run 0 n refl));
+      reject = (lump, get_set w.lumps r lump within, refl);
+      others = λ k not. stays k (λ e. not (ap (λ (n : ℕ). Some n) (sym e)));
+      count = length-set w.lumps r lump;
+    }
+
+-- a map that isn't called REJECT is found again, and all is kept
+pub kept : (w : WadFile) (name : List ℕ) (spot : MapSpot) (table : List ℕ) → spot_of (names_of w) name ≡ Ok spot → same_name word name ≡ false → IsKept name spot table w (with_reject w spot table)
+kept w name spot table found other = by spot.reject found
+  where
+    by : (o : Option ℕ) → spot_of (names_of w) name ≡ Ok (with_place spot o) → IsKept name (with_place spot o) table w (rewritten w spot o table)
+    by None h = kept_none w name spot table h other
+    by (Some r) h = kept_some w name spot r table h
