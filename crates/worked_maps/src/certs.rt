@@ -1,37 +1,57 @@
-//! Certificates, byte for byte.
+//! Whole files as text: certificates, and a WAD.
 
-use std::alloc::{AllocError, Global};
-
-/// The certificate of the map U and its table `4400`: eight triangles, two rays, no listed pair, the tree of sector 0.
-pub const U_CERT: [u8; 161] = *b"\
-DSCT\x01\0\x03\0\x0a\0\x0c\0\x08\0\0\0\x02\0\0\0\0\0\0\0\x01\0\0\0\
-\0\0\x03\0\x04\0\0\0\0\0\x04\0\x01\0\0\0\x01\0\x04\0\x02\0\x01\0\x02\0\x04\0\x06\0\x01\0\
-\x02\0\x06\0\x09\0\x01\0\x05\0\x07\0\x08\0\x02\0\x05\0\x08\0\x06\0\x02\0\x06\0\x08\0\x09\0\x01\0\
-\0\0\x01\0\x05\x80\x05\0\xff\xff\xff\xff\0\0\0\0\x20\0\0\0\0\0\0\0\
-\x01\0\x02\0\x03\0\x03\x80\x01\0\0\0\0\0\0\0\x60\xff\xff\xff\xff\xff\xff\xff\
-\0\0\x05\0\0\0\0\0\0\0\0\0\0\0\x03\0\0\x04\0\0\x80";
+/// The certificate of the map U and its table 4400: a header, eight triangles, two rays, no listed pair, and the tree of
+/// sector 0.
+const U_CERT: &str = "\
+44534354 0100 0300 0a00 0c00 08000000 02000000 00000000 01000000
+0000 0300 0400 0000
+0000 0400 0100 0000
+0100 0400 0200 0100
+0200 0400 0600 0100
+0200 0600 0900 0100
+0500 0700 0800 0200
+0500 0800 0600 0200
+0600 0800 0900 0100
+0000 0100 0580 0500 ffffffff 00000000 2000000000000000
+0100 0200 0300 0380 01000000 00000000 60ffffffffffffff
+0000 0500000000000000 00 00 00 00 03 0000 0400 0080
+";
 
 /// SQUARE's two triangles with sector 0, and nothing else.
-pub const SQUARE_CERT: [u8; 44] = *b"\
-DSCT\x01\0\x01\0\x04\0\x04\0\x02\0\0\0\0\0\0\0\0\0\0\0\0\0\0\0\
-\0\0\x02\0\x03\0\0\0\0\0\x03\0\x01\0\0\0";
+const SQUARE_CERT: &str = "\
+44534354 0100 0100 0400 0400 02000000 00000000 00000000 00000000
+0000 0200 0300 0000
+0000 0300 0100 0000
+";
 
-/// From a place on, so many bytes are taken out and these are put there.
-pub type Edit = (usize, usize, &'static [u8]);
+/// The map SQUARE with the table 00: a header, the lumps, and the directory.
+const SQUARE_WAD: &str = "\
+5057414406000000e7000000
+000001000100000000000000ffff
+010002000100000000000100ffff
+020003000100000000000200ffff
+030000000100000000000300ffff
+000000002d000000000000002d000000000000002d000000000000000000
+000000002d000000000000002d000000000000002d000000000000000000
+000000002d000000000000002d000000000000002d000000000000000000
+000000002d000000000000002d000000000000002d000000000000000000
+00000000000040004000400040000000
+0000000000000000000000000000000000000000000000000000
+00
+0c000000000000004d41503031000000
+0c000000380000004c494e4544454653
+44000000780000005349444544454653
+bc000000100000005645525445584553
+cc0000001a000000534543544f525300
+e60000000100000052454a4543540000
+";
 
-/// The bytes after edits whose places rise.
-pub fn edited(alloc: Global, bytes: &[u8], edits: &[Edit]) -> Result<Vec<u8>, AllocError> {
-    let mut made = Vec::new(alloc);
-    let mut from = 0usize;
-    for (at, out, put) in edits {
-        if let Some(kept) = bytes.get(from..*at) {
-            made.extend_from_slice(kept)?;
-        }
-        made.extend_from_slice(put)?;
-        from = at.wrapping_add(*out);
+/// The hexadecimal digits of a file of this name.
+pub fn digits_named(name: &str) -> &'static str {
+    match name {
+        "U-CERT" => U_CERT,
+        "SQUARE-CERT" => SQUARE_CERT,
+        "SQUARE-WAD" => SQUARE_WAD,
+        _ => "",
     }
-    if let Some(rest) = bytes.get(from..) {
-        made.extend_from_slice(rest)?;
-    }
-    Ok(made)
 }

@@ -1,8 +1,8 @@
 //! Worked maps and certificates as whole files, and made-up maps. For the tests of the crates beside it.
 #![tactic(auto)]
 
-pub mod certs;
+mod certs;
 pub mod dice;
+pub mod files;
 pub mod maps;
 pub mod rooms;
-pub mod wads;

@@ -2,7 +2,7 @@
 //! solid rock.
 
 use crate::dice::Dice;
-use crate::wads::{NONE, RowLine};
+use crate::maps::{NONE, RowLine};
 use std::alloc::{AllocError, Global};
 
 /// So many rooms lie side by side.

@@ -1,0 +1,137 @@
+//! Calls of the crates below that no row reaches, and what real files and the standard output do.
+
+use block_evidence::{Evidence, four};
+use board_core::{Core, Event, Reply};
+use run_cases::stage_of;
+use shelf_io::{DiskShelf, Shelf, Sink, StdSink, fetch, store};
+use sight_names::{
+    BuildFault, FetchFault, LabelFault, Memory, Pair, Pt, RewriteFault, ShelfFault, Side, WadFault,
+};
+use stab_hull::{Ends, Split};
+use std::alloc::Global;
+use std::fs;
+use std::test::Fail;
+
+#[test]
+fn two_workers_draw_two_sources_and_one_sees_what_the_other_marked(
+    rt: HostRuntime,
+) -> Result<(), Fail> {
+    let findable = Vec::from_slice(rt.alloc(), &[Pair { a: 0, b: 1 }])?;
+    let Ok(mut core) = Core::new(rt.alloc(), 2, 2, findable) else {
+        return Err("no memory".into());
+    };
+    let mark = Event::Mark {
+        worker: 1,
+        a: 0,
+        b: 1,
+    };
+    let events = [
+        (Event::Claim { worker: 0 }, Reply::Source(0)),
+        (Event::Claim { worker: 1 }, Reply::Source(1)),
+        (mark, Reply::Done),
+        (Event::Look { worker: 0, word: 0 }, Reply::Bits(2)),
+        (Event::Claim { worker: 0 }, Reply::NoSource),
+        (Event::End { worker: 0 }, Reply::Done),
+    ];
+    for k in 0..6 {
+        assert_eq!(rt; core.step(events[k].0), Ok(events[k].1));
+    }
+    Ok(())
+}
+
+#[test]
+fn a_file_longer_than_the_limit_is_not_fetched(rt: HostRuntime) -> Result<(), Fail> {
+    let alloc = rt.alloc();
+    let mut shelf = stage_of(alloc, "a=#0102030405060708090a0b")?.shelf;
+    assert!(rt; matches!(fetch(alloc, &mut shelf, "a", 10), Err(FetchFault::TooLong)));
+    assert_eq!(rt; fetch(alloc, &mut shelf, "a", 11)?.len(), 11);
+    Ok(())
+}
+
+#[test]
+fn real_files_hold_what_was_stored(rt: HostRuntime) -> Result<(), Fail> {
+    let alloc = rt.alloc();
+    let mut shelf = DiskShelf::new(&rt);
+    let name = "row_tests.tmp";
+    let long = vec![in alloc; 9; 70_000]?;
+    assert!(rt; store(&mut shelf, name, &long).is_ok());
+    assert_eq!(rt; fetch(alloc, &mut shelf, name, 70_000)?, long);
+    assert!(rt; shelf.append(name, b"!").is_ok());
+    assert!(rt;
+        matches!(
+            fetch(alloc, &mut shelf, name, 70_000),
+            Err(FetchFault::TooLong)
+        )
+    );
+    assert!(rt; shelf.create(name).is_ok());
+    assert_eq!(rt; fetch(alloc, &mut shelf, name, 0)?.len(), 0);
+    fs::remove_file(&rt, name)?;
+    assert!(rt; matches!(fetch(alloc, &mut shelf, name, 0), Err(FetchFault::Absent)));
+    assert!(rt; matches!(fetch(alloc, &mut shelf, ".", 0), Err(FetchFault::Failed)));
+    assert!(rt; store(&mut shelf, "no_such_folder/file", b"x").is_err());
+    assert_eq!(rt; StdSink::new(&rt).put(b"a line of the test\n"), Ok(()));
+    Ok(())
+}
+
+#[test]
+fn faults_of_one_meaning_have_the_same_words(rt: HostRuntime) -> Result<(), Fail> {
+    let alloc = rt.alloc();
+    let (first, second) = (
+        Side {
+            line: 3,
+            left: true,
+        },
+        Side {
+            line: 7,
+            left: false,
+        },
+    );
+    let pairs = [
+        (
+            ShelfFault::Absent.to_string(alloc)?,
+            FetchFault::Absent.to_string(alloc)?,
+        ),
+        (
+            ShelfFault::Failed.to_string(alloc)?,
+            FetchFault::Failed.to_string(alloc)?,
+        ),
+        (
+            WadFault::TooManyLumps.to_string(alloc)?,
+            RewriteFault::TooManyLumps.to_string(alloc)?,
+        ),
+        (
+            LabelFault::Open { side: first }.to_string(alloc)?,
+            BuildFault::Open { side: first }.to_string(alloc)?,
+        ),
+        (
+            LabelFault::Mixed { first, second }.to_string(alloc)?,
+            BuildFault::Mixed { first, second }.to_string(alloc)?,
+        ),
+    ];
+    for (one, other) in &pairs {
+        assert_eq!(rt; one.as_str(), other.as_str());
+    }
+    Ok(())
+}
+
+// The evidence of the portals from (0, 1) and from (2, 1) to (1, 1), None where a line splits their ends.
+fn evidence_of_one_right_end(alloc: Global) -> Result<Option<Evidence>, Memory> {
+    let mut ends = Ends::new(alloc);
+    ends.push(Pt { x: 0, y: 1 }, Pt { x: 1, y: 1 })?;
+    ends.push(Pt { x: 2, y: 1 }, Pt { x: 1, y: 1 })?;
+    match ends.split() {
+        Split::Line { .. } => Ok(None),
+        Split::Stuck(pairs) => Ok(Some(four(&pairs))),
+    }
+}
+
+#[test]
+fn a_right_end_between_two_left_ends_is_stuck(rt: HostRuntime) -> Result<(), Fail> {
+    let mut one = Ends::new(rt.alloc());
+    one.push(Pt { x: 0, y: 64 }, Pt { x: 64, y: 64 })?;
+    assert!(rt; matches!(one.split(), Split::Line { .. }));
+    let evidence = evidence_of_one_right_end(rt.alloc())?.ok_or("a line")?;
+    assert!(rt; evidence.count >= 3);
+    assert!(rt; evidence.ends[0] == 0 && evidence.ends[1] == 1 && evidence.ends[2] >= 32_768);
+    Ok(())
+}

@@ -1,0 +1,280 @@
+//! Rows of all verbs over small maps.
+
+use crate::table::first_wrong;
+use std::test::Fail;
+
+/// The order `zero`: what it writes, what it refuses, and what stands where something fails.
+const ZERO: &str = "\
+# what it writes
+a=SQUARE | zero a MAP01 b | 0 | zero MAP01 sectors 1 bytes 1 | b=SQUARE =00, a=SQUARE
+a=#SQUARE-WAD | zero a MAP01 b | 0 | zero MAP01 sectors 1 bytes 1 | b=#SQUARE-WAD, a=SQUARE =00
+a=SQUARE SQUARE | zero a map01 b | 0 | zero MAP01 sectors 1 bytes 1 | b=SQUARE SQUARE =00
+a=SQUARE - | zero a MAP01 b | 0 | zero MAP01 sectors 1 bytes 1 | b=SQUARE =00
+a=SQUARE @0:1:49 | zero a Map01 b | 0 | zero MAP01 sectors 1 bytes 1 | b=SQUARE =00 @0:1:49
+a=FLAT | zero a MAP01 b | 0 | zero MAP01 sectors 1 bytes 1 | b=FLAT =00
+# the first four bytes of LINEDEFS are those of another lump too
+a=SQUARE +6:COPY @326:8:0c00000004000000 | zero a MAP01 b | 0 | zero MAP01 sectors 1 bytes 1 | b=SQUARE =00 +6:COPY =00000100
+# as many points as a map may have
+a=apart:2048 | zero a MAP01 b | 0 | zero MAP01 sectors 1 bytes 1
+# no WAD
+a=#50574144000000000c0000 | zero a MAP01 b | 6 | refused: not a wad: short header | b=
+a=#50574158000000000c000000 | zero a MAP01 b | 6 | refused: not a wad: bad magic | b=
+a=#50574144ffffffff0c000000 | zero a MAP01 b | 6 | refused: not a wad: bad count | b=
+a=#50574144010001000c000000 | zero a MAP01 b | 9 | refused: limit: lumps | b=
+a=#50574144010000000c000000 | zero a MAP01 b | 6 | refused: not a wad: directory outside | b=
+a=SQUARE @325:1: | zero a MAP01 b | 6 | refused: not a wad: directory outside | b=
+a=SQUARE @298:2:e803 | zero a MAP01 b | 6 | refused: not a wad: lump outside 4 | b=
+a=SQUARE @298:2:e803 | zero a MAP02 b | 6 | refused: not a wad: lump outside 4 | b=
+# no map
+a=#50574144000000000c000000 | zero a MAP01 b | 7 | refused: no map: no marker | b=
+a=SQUARE @250:1:37 | zero a MAP02 b | 7 | refused: no map: no marker | b=
+a=SQUARE +6:BEHAVIOR | zero a MAP01 b | 7 | refused: no map: hexen format | b=
+a=SQUARE - - | zero a MAP01 b | 7 | refused: no map: missing SECTORS | b=
+a=SQUARE @250:1:37 | zero a MAP01 b | 8 | refused: bad lump: size LINEDEFS | b=
+a=SQUARE @14:1:09 | zero a MAP01 b | 8 | refused: bad lump: vertex of line 0 | b=
+a=SQUARE @64:1:04 | zero a MAP01 b | 8 | refused: bad lump: side of line 3 | b=
+a=SQUARE @156:1:01 | zero a MAP01 b | 8 | refused: bad lump: sector of side 2 | b=
+a=apart:2049 | zero a MAP01 b | 9 | refused: limit: points | b=
+a=SQUARE .1 *229390 | zero a MAP01 b | 9 | refused: limit: lines | b=
+a=SQUARE .4 *106522 | zero a MAP01 b | 9 | refused: limit: sectors | b=
+# 65,001 entries that have the same 40,000 bytes; and 65,536 entries, none of which is REJECT
+a=SQUARE +6:BULK *40000 &64999 @4:4:eefd0000 | zero a MAP01 b | 9 | refused: limit: output bytes | b=
+a=SQUARE +6:BULK *40000 &64999 @4:4:eefd0000 @40250:1:37 | zero a MAP01 b | 8 | refused: bad lump: size LINEDEFS | b=
+a=SQUARE - +5:BULK &65530 @4:4:00000100 | zero a MAP01 b | 9 | refused: limit: lumps | b=
+# words and names
+a=SQUARE | | 2 | refused: usage
+a=SQUARE | zero a MAP01 | 2 | refused: usage
+a=SQUARE | paint a MAP01 b | 2 | refused: usage | b=
+a=SQUARE | zero a MAP000001 b | 2 | refused: usage | b=
+a=SQUARE | zero a MAP01 b --cert c | 2 | refused: usage | b=, c=
+a=SQUARE | zero a MAP01 b -h | 2 | refused: usage | b=
+a=SQUARE | zero a MAP01 a | 11 | refused: same name | a=SQUARE
+a=SQUARE | zero c MAP01 b | 3 | refused: no file wad | b=
+# faults
+a=SQUARE, reads=0 | zero a MAP01 b | 4 | refused: read fault wad | b=
+a=SQUARE, reads=1 | zero a MAP01 b | 4 | refused: read fault wad | b=
+a=SQUARE, creates=0 | zero a MAP01 b | 5 | refused: write fault wad | b=
+a=SQUARE, appends=0 | zero a MAP01 b | 5 | refused: write fault wad | b=SQUARE =00 @163:164:
+a=SQUARE, puts=0 | zero a MAP01 b | 5 | zero MAP01 sec~ | b=SQUARE =00
+";
+
+/// The orders `ray`, `audit` and `trace`.
+const JUDGED: &str = "\
+# given rays
+a=PAIR | ray a MAP01 2R,2L,0,1,-32 | 0 | sight 0 1 | a=PAIR
+a=PAIR | ray a MAP01 2L,2R,0,1,-32 | 1 | no ray: wrong way 2
+a=PAIR | ray a MAP01 2R,2L,0,1,-64 | 1 | no ray: not split 2
+a=PAIR | ray a MAP01 2R,9L,0,1,-32 | 1 | no ray: side 9L
+a=LINE3 | ray a MAP01 2R,5L,0,1,-32 | 0 | sight 0 2
+a=LINE3 | ray a MAP01 2R,05L,0,1,-32 | 0 | sight 0 2
+a=LINE3 | ray a MAP01 5R,2L,0,1,-32 | 1 | no ray: backwards
+a=WIDE | ray a MAP01 2R,2L,0,1048576,0 | 0 | sight 0 1
+a=WIDE | ray a MAP01 2R,2L,0,1048577,0 | 1 | no ray: range
+a=DOORS33 | ray a MAP01 3R,11L,-1,128,-4064 | 0 | sight 0 3
+a=DOORS33 | ray a MAP01 3R,11L,-1,128,-4032 | 1 | no ray: blocked 7
+a=SHUT-PAIR | ray a MAP01 2R,2L,0,1,-32 | 1 | no ray: blocked 2
+a=PAIR | ray a MAP01 00002R,2L,-2147483648,2147483647,-9223372036854775808 | 1 | no ray: range
+# words that are no ray
+a=PAIR | ray a MAP01 | 2 | refused: usage
+a=PAIR | ray a MAP01 2R,2L,0,1 | 2 | refused: usage
+a=PAIR | ray a MAP01 2R,2L,0,1,-32,0 | 2 | refused: usage
+a=PAIR | ray a MAP01 2,2L,0,1,-32 | 2 | refused: usage
+a=PAIR | ray a MAP01 65536R,2L,0,1,-32 | 2 | refused: usage
+a=PAIR | ray a MAP01 2R,2L,+0,1,-32 | 2 | refused: usage
+a=PAIR | ray a MAP01 2R,2L,2147483648,1,-32 | 2 | refused: usage
+a=PAIR | ray a MAP01 2R,2L,0,1,9223372036854775808 | 2 | refused: usage
+a=PAIR | audit a | 2 | refused: usage
+a=PAIR | trace a MAP01 2R,5L,0,1 | 2 | refused: usage
+a=PAIR | trace a MAP01 2R,5L,0,2147483648,0 | 2 | refused: usage
+a=PAIR | trace a MAP01 65536R,5L,0,1,0 | 2 | refused: usage
+# sound maps; two points that no line uses, and a line of zero length
+a=U | audit a MAP01 | 0 | sound lines 12 points 10 sectors 3 triangles 8 | a=U
+a=SQUARE | audit a MAP01 | 0 | sound lines 4 points 4 sectors 1 triangles 2
+a=PAIR .1 <000000000100000000000000ffff .3 <4000200001000100 | audit a MAP01 | 0 | sound lines 7 points 6 sectors 2 triangles 4
+a=NO-LINES | audit a MAP01 | 0 | sound lines 0 points 0 sectors 2 triangles 0
+# unsound ones
+a=TOUCHED | audit a MAP01 | 10 | refused: bad map: touch 0 4
+a=CROSSED | audit a MAP01 | 10 | refused: bad map: cross 3 4
+a=OVERLAPPED | audit a MAP01 | 10 | refused: bad map: overlap 0 4
+a=OPEN | audit a MAP01 | 10 | refused: bad map: open 0R
+a=ROD | audit a MAP01 | 10 | refused: bad map: open 0R
+a=ISLAND | audit a MAP01 | 10 | refused: bad map: mixed 0R 4R
+# lines over the whole range
+a=FAR-CROSS | audit a MAP01 | 10 | refused: bad map: cross 0 1
+a=FAR-ENDS | audit a MAP01 | 0 | sound lines 2 points 3 sectors 1 triangles 0
+a=FAR-OVERLAP | audit a MAP01 | 10 | refused: bad map: overlap 0 1
+a=FAR-APART | audit a MAP01 | 0 | sound lines 2 points 4 sectors 1 triangles 0
+a=FAR-TOUCH | audit a MAP01 | 10 | refused: bad map: touch 0 1
+a=FAR-JOINED | audit a MAP01 | 0 | sound lines 2 points 3 sectors 1 triangles 0
+a=FAR-PARTED | audit a MAP01 | 0 | sound lines 2 points 4 sectors 1 triangles 0
+# traced rays
+a=U | trace a MAP01 5L,5R,-1,0,32 | 0 | trace 0 1 | a=U
+a=DOORS33 | trace a MAP01 3R,11L,-1,128,-4032 | 1 | no trace: point 6
+a=DOORS33 | trace a MAP01 3R,11L,-1,128,-3968 | 1 | no trace: solid 7
+a=PAIR | trace a MAP01 2L,2R,0,1,-32 | 1 | no ray: wrong way 2
+a=OPEN | trace a MAP01 0R,1R,0,1,-32 | 10 | refused: bad map: open 0R
+";
+
+/// The order `check`.
+const CHECK: &str = "\
+# tables
+a=U =4400, c=#U-CERT | check a MAP01 c | 0 | yes sectors 3 set 1 clear 5 listed 0 | a=U =4400, c=#U-CERT
+a=U =44fe, c=#U-CERT | check a MAP01 c | 0 | yes sectors 3 set 1 clear 5 listed 0
+a=U =4600, c=#U-CERT | check a MAP01 c | 1 | no unproved 0 1
+a=U =0000, c=#U-CERT | check a MAP01 c | 1 | no uncovered 0 2
+a=U =0400, c=#U-CERT | check a MAP01 c | 1 | no uncovered 0 2
+a=U, c=#U-CERT | check a MAP01 c | 1 | no table: 0 bytes, 2 expected
+a=U -, c=#U-CERT | check a MAP01 c | 1 | no table: 0 bytes, 2 expected
+# a stuck end that isn't one, an end of a portal that is still to come, a node too few, one too many
+a=U =4400, c=#U-CERT @157:1:03 | check a MAP01 c | 1 | no tree 0 node 4
+a=U =4400, c=#U-CERT @157:1:05 | check a MAP01 c | 1 | no tree 0 node 4
+a=U =4400, c=#U-CERT @142:1:04 @154:7: | check a MAP01 c | 1 | no tree 0 node 4
+a=U =4400, c=#U-CERT @142:1:06 @161:0:0200000080 | check a MAP01 c | 1 | no tree 0 node 5
+# a ray that misses its line, one of other sectors, a ray too few, a pair that is set and listed
+a=U =4400, c=#U-CERT @132:8:38ffffffffffffff | check a MAP01 c | 1 | no ray 1 2: not split 3
+a=U =4400, c=#U-CERT @96:20:03000380010000000000000060ffffffffffffff | check a MAP01 c | 1 | no ray 0 1: other sectors
+a=U =4400, c=#U-CERT @16:1:01 @92:24: | check a MAP01 c | 1 | no uncovered 0 1
+a=U =4400, c=#U-CERT @20:1:01 @140:0:00000200 | check a MAP01 c | 1 | no listed 0 2
+# a triangle too few, one folded over another, one the wrong way round
+a=U =4400, c=#U-CERT @12:1:07 @84:8: | check a MAP01 c | 1 | no mesh: mate 4
+a=U =4400, c=#U-CERT @12:1:09 @28:0:0000030001000000 | check a MAP01 c | 1 | no mesh: twice 1
+a=SQUARE =00, c=#SQUARE-CERT @30:1:01 | check a MAP01 c | 1 | no mesh: flat 0
+# a side that names nothing before a triangle with a sector, a line through an edge, a line inside a triangle
+a=SQUARE =00 @64:2:ffff, c=#SQUARE-CERT | check a MAP01 c | 1 | no mesh: side 3R
+a=DIAGONAL =00, c=#SQUARE-CERT @10:1:05 | check a MAP01 c | 1 | no mesh: meets 0 4
+a=SPLINTER =00, c=#SQUARE-CERT @8:1:06 @10:1:05 @30:3:040005 @38:1:05 | check a MAP01 c | 1 | no mesh: inside 0 2
+# bytes that spell no certificate, at each field
+a=U =4400, c=#U-CERT @0:1:45 | check a MAP01 c | 1 | no cert: magic
+a=U =4400, c=#U-CERT @4:1:09 | check a MAP01 c | 1 | no cert: version
+a=U =4400, c=#U-CERT @6:1:04 | check a MAP01 c | 1 | no cert: range 6
+a=U =4400, c=#U-CERT @10:1:0d | check a MAP01 c | 1 | no cert: range 10
+a=U =4400, c=#U-CERT @13:1:20 | check a MAP01 c | 1 | no cert: range 12
+a=U =4400, c=#U-CERT @28:1:0a | check a MAP01 c | 1 | no cert: range 28
+a=U =4400, c=#U-CERT @30:1:00 | check a MAP01 c | 1 | no cert: range 30
+a=U =4400, c=#U-CERT @34:1:03 | check a MAP01 c | 1 | no cert: range 34
+a=U =4400, c=#U-CERT @28:16:00000400010000000000030004000000 | check a MAP01 c | 1 | no cert: order 36
+a=U =4400, c=#U-CERT @92:1:01 | check a MAP01 c | 1 | no cert: order 92
+a=U =4400, c=#U-CERT @96:1:0c | check a MAP01 c | 1 | no cert: range 96
+a=U =4400, c=#U-CERT @118:1:00 | check a MAP01 c | 1 | no cert: order 116
+a=U =4400, c=#U-CERT @140:1:03 | check a MAP01 c | 1 | no cert: range 140
+a=U =4400, c=#U-CERT @154:1:05 | check a MAP01 c | 1 | no cert: range 154
+a=U =4400, c=#U-CERT @157:1:00 | check a MAP01 c | 1 | no cert: order 157
+a=U =4400, c=#U-CERT @142:8:ffffffffffffffff | check a MAP01 c | 1 | no cert: short 161
+a=U =4400, c=#U-CERT @161:0:00 | check a MAP01 c | 1 | no cert: trailing 161
+a=U =4400, c=#U-CERT @0:161: | check a MAP01 c | 1 | no cert: short 0
+a=U =4400, c=#U-CERT @3:158: | check a MAP01 c | 1 | no cert: short 0
+a=U =4400, c=#U-CERT @4:157: | check a MAP01 c | 1 | no cert: short 4
+a=U =4400, c=#U-CERT @139:22: | check a MAP01 c | 1 | no cert: short 132
+a=U =4400, c=#U-CERT @160:1: | check a MAP01 c | 1 | no cert: short 159
+# faults
+a=U =4400 | check a MAP01 c | 3 | refused: no file cert
+a=U =4400, c=#U-CERT, reads=2 | check a MAP01 c | 4 | refused: read fault cert
+a=U =4400, c=#U-CERT, reads=3 | check a MAP01 c | 4 | refused: read fault cert
+";
+
+/// The order `build`, and `check` of what it wrote.
+const BUILD: &str = "\
+# the certificate begins with the triangles of U and ends with the tree of its first sector
+a=U | build a MAP01 b --cert c --workers 1 | 0 | built MAP01 sectors 3 set 1 clear 5 listed 0 | b=U =4400, a=U, c=#U-CERT
+| check b MAP01 c | 0 | yes sectors 3 set 1 clear 5 listed 0
+a=U | build a MAP01 b --cert c --workers 3 | 0 | built MAP01 sectors 3 set 1 clear 5 listed 0 | b=U =4400
+| check b MAP01 c | 0 | yes sectors 3 set 1 clear 5 listed 0
+a=U | build a MAP01 b --cert c --workers 64 | 0 | built MAP01 sectors 3 set 1 clear 5 listed 0 | b=U =4400
+| check b MAP01 c | 0 | yes sectors 3 set 1 clear 5 listed 0
+a=U | build a MAP01 b --workers 02 | 0 | built MAP01 sectors 3 set 1 clear 5 listed 0 | b=U =4400, c=
+a=U | build a MAP01 b | 0 | built MAP01 sectors 3 set 1 clear 5 listed 0 | b=U =4400, c=
+a=SQUARE | build a MAP01 b --cert c | 0 | built MAP01 sectors 1 set 0 clear 1 listed 0 | b=SQUARE =00, c=#SQUARE-CERT
+| check b MAP01 c | 0 | yes sectors 1 set 0 clear 1 listed 0
+a=PAIR | build a MAP01 b --cert c | 0 | built MAP01 sectors 2 set 0 clear 3 listed 0 | b=PAIR =00
+| check b MAP01 c | 0 | yes sectors 2 set 0 clear 3 listed 0
+a=APART | build a MAP01 b --cert c | 0 | built MAP01 sectors 2 set 1 clear 2 listed 0 | b=APART =06
+| check b MAP01 c | 0 | yes sectors 2 set 1 clear 2 listed 0
+a=LONE | build a MAP01 b --cert c | 0 | built MAP01 sectors 2 set 2 clear 1 listed 0 | b=LONE =0e
+| check b MAP01 c | 0 | yes sectors 2 set 2 clear 1 listed 0
+a=NO-LINES | build a MAP01 b --cert c | 0 | built MAP01 sectors 2 set 3 clear 0 listed 0 | b=NO-LINES =0f
+| check b MAP01 c | 0 | yes sectors 2 set 3 clear 0 listed 0
+a=WIDE | build a MAP01 b --cert c | 0 | built MAP01 sectors 2 set 0 clear 3 listed 0 | b=WIDE =00
+| check b MAP01 c | 0 | yes sectors 2 set 0 clear 3 listed 0
+a=CROSSROADS | build a MAP01 b --cert c | 0 | built MAP01 sectors 4 set 0 clear 10 listed 0 | b=CROSSROADS =0000
+| check b MAP01 c | 0 | yes sectors 4 set 0 clear 10 listed 0
+a=DOORS | build a MAP01 b --cert c | 0 | built MAP01 sectors 4 set 1 clear 9 listed 0 | b=DOORS =0810
+| check b MAP01 c | 0 | yes sectors 4 set 1 clear 9 listed 0
+a=DOORS33 | build a MAP01 b --cert c | 0 | built MAP01 sectors 4 set 0 clear 10 listed 0 | b=DOORS33 =0000
+| check b MAP01 c | 0 | yes sectors 4 set 0 clear 10 listed 0
+a=SHUT-PAIR | build a MAP01 b --cert c | 0 | built MAP01 sectors 2 set 1 clear 2 listed 0 | b=SHUT-PAIR =06
+| check b MAP01 c | 0 | yes sectors 2 set 1 clear 2 listed 0
+a=RINGS | build a MAP01 b --cert c | 0 | built MAP01 sectors 2 set 1 clear 2 listed 0 | b=RINGS =06
+| check b MAP01 c | 0 | yes sectors 2 set 1 clear 2 listed 0
+a=PILLAR | build a MAP01 b --cert c | 0 | built MAP01 sectors 1 set 0 clear 1 listed 0 | b=PILLAR =00
+| check b MAP01 c | 0 | yes sectors 1 set 0 clear 1 listed 0
+# budgets: each of the three sources has four sequences; the certificate ends with the one listed pair
+a=LINE3 | build a MAP01 b --cert c --budget 1 | 0 | built MAP01 sectors 3 set 0 clear 5 listed 1 | b=LINE3 =0000, c>=#00000200
+| check b MAP01 c | 0 | yes sectors 3 set 0 clear 5 listed 1
+a=LINE3 | build a MAP01 --budget full b --cert=c | 0 | built MAP01 sectors 3 set 0 clear 6 listed 0 | b=LINE3 =0000
+| check b MAP01 c | 0 | yes sectors 3 set 0 clear 6 listed 0
+# a WAD as a node builder leaves it, and one without REJECT
+a=PAIR =06 .3 <40002000 +1:THINGS *20 +5:SEGS *96 +6:SSECTORS *8 +7:NODES *28 +10:BLOCKMAP *40 +11:D_RUNNIN *100 | build a MAP01 b --cert c | 0 | built MAP01 sectors 2 set 0 clear 3 listed 0 | b=PAIR =00 .3 <40002000 +1:THINGS *20 +5:SEGS *96 +6:SSECTORS *8 +7:NODES *28 +10:BLOCKMAP *40 +11:D_RUNNIN *100
+| check b MAP01 c | 0 | yes sectors 2 set 0 clear 3 listed 0
+a=PAIR - | build a map01 b --cert c | 0 | built MAP01 sectors 2 set 0 clear 3 listed 0 | b=PAIR =00
+| check b MAP01 c | 0 | yes sectors 2 set 0 clear 3 listed 0
+# unsound maps
+a=OPEN | build a MAP01 b --cert c | 10 | refused: bad map: open 0R | b=, c=
+a=ISLAND | build a MAP01 b --cert c | 10 | refused: bad map: mixed 0R 4R | b=, c=
+a=CROSSED | build a MAP01 b --cert c | 10 | refused: bad map: cross 3 4 | b=, c=
+# words and names
+a=U | build a MAP01 b --workers 65 | 2 | refused: usage | b=
+a=U | build a MAP01 b --workers 0 | 2 | refused: usage | b=
+a=U | build a MAP01 b --budget 0 | 2 | refused: usage | b=
+a=U | build a MAP01 b --budget 4294967297 | 2 | refused: usage | b=
+a=U | grid 19 | 2 | refused: usage
+a=U | grid +2 | 2 | refused: usage
+a=U | build a MAP01 b --cert b | 11 | refused: same name | b=
+a=U | build a MAP01 b --cert a | 11 | refused: same name | a=U, b=
+# faults: the file is stored by one append, the certificate by the next
+a=U, appends=1 | build a MAP01 b --cert c --workers 1 | 5 | refused: write fault cert | b=U =4400, c=#U-CERT @80:81:
+a=U, creates=0 | build a MAP01 b --cert c --workers 1 | 5 | refused: write fault wad | b=, c=
+a=U, puts=0 | build a MAP01 b --cert c --workers 1 | 5 | built MAP01 sectors 3 ~ | b=U =4400, c=#U-CERT
+";
+
+/// The order `need`, and a build with a budget that is enough.
+const NEED: &str = "\
+a=LINE3 | need a MAP01 | 0 | need MAP01 most 4 enough 768 | a=LINE3
+a=SQUARE | need a MAP01 | 0 | need MAP01 most 0 enough 1
+a=U | need a MAP01 | 0 | need MAP01 most 4 enough 2000
+# no sector, and so no source
+a=NO-LINES .4 = | need a MAP01 | 0 | need MAP01 most 0 enough 1
+a=LINE3 | need a MAP01 --budget enough | 2 | refused: usage
+a=LINE3 | build a MAP01 b --cert c --budget enough | 0 | built MAP01 sectors 3 set 0 clear 6 listed 0 | b=LINE3 =0000
+| check b MAP01 c | 0 | yes sectors 3 set 0 clear 6 listed 0
+";
+
+#[test]
+fn each_row_comes_out_as_it_says(rt: HostRuntime) -> Result<(), Fail> {
+    for rows in [ZERO, JUDGED, CHECK, BUILD, NEED] {
+        assert_eq!(rt; first_wrong(&rt, rt.alloc(), rows)?.as_str(), "");
+    }
+    Ok(())
+}
+
+#[test]
+fn each_proper_prefix_is_refused(rt: HostRuntime) -> Result<(), Fail> {
+    let alloc = rt.alloc();
+    for len in 0..326u32 {
+        let fault = if len < 12 {
+            "short header"
+        } else {
+            "directory outside"
+        };
+        let row = format!(in alloc;
+            "a=SQUARE @{len}:326: | zero a MAP01 b | 6 | refused: not a wad: {fault} | b="
+        )?;
+        assert_eq!(rt; first_wrong(&rt, alloc, &row)?.as_str(), "");
+    }
+    for len in 0..161u32 {
+        let row = format!(in alloc;
+            "a=U =4400, c=#U-CERT @{len}:161: | check a MAP01 c | 1 | no cert: short .."
+        )?;
+        assert_eq!(rt; first_wrong(&rt, alloc, &row)?.as_str(), "");
+    }
+    Ok(())
+}

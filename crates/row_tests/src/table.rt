@@ -1,0 +1,172 @@
+//! How a row is run. A row has up to five parts between bars: what there is, the words, the exit code, the line, and what
+//! stands under some names after it. Where the first part is empty, the run goes on with what the row before left.
+
+use run_cases::{Stage, run_on, stage_of};
+use sight_names::{
+    BuildFault, CheckFault, FetchFault, LabelFault, LumpFault, OrderFault, RewriteFault, WadFault,
+};
+use sight_run::{Bound, Flaw, Status, Why, code};
+use sight_workers::OpenGate;
+use std::alloc::{AllocError, Global};
+use std::thread::Threads;
+use worked_maps::files::bytes_of;
+
+fn part(row: &str, k: usize) -> &str {
+    row.split('|').nth(k).unwrap_or("").trim()
+}
+
+// Whether a line was put. `=` is the line that was put before; two dots stand for anything; a line that ends in `~` isn't
+// ended.
+fn is_line(text: &[u8], before: &[u8], line: &str) -> bool {
+    if line == "=" {
+        return text == before;
+    }
+    if let Some(front) = line.strip_suffix('~') {
+        return text == front.as_bytes();
+    }
+    let Some(said) = text.strip_suffix(b"\n") else {
+        return false;
+    };
+    match line.split_once("..") {
+        Some((front, back)) => {
+            said.starts_with(front.as_bytes()) && said.ends_with(back.as_bytes())
+        }
+        None => said == line.as_bytes(),
+    }
+}
+
+// The words of a limit's fault, empty where no fault says what is above the limit.
+fn words_of_bound(alloc: Global, bound: Bound) -> Result<String, AllocError> {
+    match bound {
+        Bound::Lumps => WadFault::TooManyLumps.to_string(alloc),
+        Bound::Lines => LumpFault::TooManyLines { count: 0 }.to_string(alloc),
+        Bound::Points => LumpFault::TooManyPoints { count: 0 }.to_string(alloc),
+        Bound::Sectors => LumpFault::TooManySectors { count: 0 }.to_string(alloc),
+        Bound::OutputBytes => RewriteFault::TooLong.to_string(alloc),
+        Bound::WadBytes | Bound::CertBytes => Ok(String::new(alloc)),
+    }
+}
+
+fn words_of_flaw(alloc: Global, flaw: Flaw) -> Result<String, AllocError> {
+    match flaw {
+        Flaw::Line(fault) => fault.to_string(alloc),
+        Flaw::Open(side) => LabelFault::Open { side }.to_string(alloc),
+        Flaw::Mixed(first, second) => BuildFault::Mixed { first, second }.to_string(alloc),
+    }
+}
+
+// The words of the fault of a status, as the fault itself prints them; empty where it has none.
+fn words_of(alloc: Global, status: &Status) -> Result<String, AllocError> {
+    match *status {
+        Status::Usage => OrderFault::Usage.to_string(alloc),
+        Status::NoFile(_) => FetchFault::Absent.to_string(alloc),
+        Status::ReadFault(_) => FetchFault::Failed.to_string(alloc),
+        Status::NotWad(fault) => fault.to_string(alloc),
+        Status::NoMap(fault) => fault.to_string(alloc),
+        Status::BadLump(fault) => fault.to_string(alloc),
+        Status::Limit(bound) => words_of_bound(alloc, bound),
+        Status::BadMap(flaw) => words_of_flaw(alloc, flaw),
+        Status::No(Why::Ray(fault)) => fault.to_string(alloc),
+        Status::No(Why::Trace(fault)) => fault.to_string(alloc),
+        Status::No(Why::Table(fault)) => fault.to_string(alloc),
+        Status::No(Why::Cert(fault)) => fault.to_string(alloc),
+        Status::No(Why::Check(fault)) => words_of_check(alloc, fault),
+        _ => Ok(String::new(alloc)),
+    }
+}
+
+fn words_of_check(alloc: Global, fault: CheckFault) -> Result<String, AllocError> {
+    match fault {
+        CheckFault::Mesh(fault) => fault.to_string(alloc),
+        CheckFault::Ray {
+            why: Some(fault),
+            ..
+        } => fault.to_string(alloc),
+        _ => Ok(String::new(alloc)),
+    }
+}
+
+// Whether a line tells the fault by its own words: they stand at its end, or behind `refused: `.
+fn tells(text: &[u8], words: &str) -> bool {
+    let said = text.strip_suffix(b"\n").unwrap_or(text);
+    let told = said.strip_prefix(b"refused: ").unwrap_or(said);
+    said.ends_with(words.as_bytes()) || told.starts_with(words.as_bytes())
+}
+
+// Whether what stands under the names is what a row says. `b=` and words is the file of these words, and without words
+// there is none; `b<=` and words is how the file begins, `b>=` and words how it ends.
+fn has_files(alloc: Global, stage: &Stage, wanted: &str) -> Result<bool, AllocError> {
+    for part in wanted.split(',') {
+        let Some((name, words)) = part.trim().split_once('=') else {
+            continue;
+        };
+        let file = bytes_of(alloc, words)?;
+        let is_right = if let Some(name) = name.strip_suffix('<') {
+            stage
+                .shelf
+                .bytes(name)
+                .is_some_and(|bytes| bytes.starts_with(&file))
+        } else if let Some(name) = name.strip_suffix('>') {
+            stage
+                .shelf
+                .bytes(name)
+                .is_some_and(|bytes| bytes.ends_with(&file))
+        } else if words.is_empty() {
+            stage.shelf.bytes(name).is_none()
+        } else {
+            stage.shelf.bytes(name) == Some(file.as_slice())
+        };
+        if !is_right {
+            return Ok(false);
+        }
+    }
+    Ok(true)
+}
+
+// Runs a row on the stage, and says what isn't as it has to be; nothing where all is.
+fn wrong_part<R: Threads + Sync>(
+    rt: &R,
+    alloc: Global,
+    stage: &mut Stage,
+    row: &str,
+) -> Result<&'static str, AllocError> {
+    if !part(row, 0).is_empty() {
+        *stage = stage_of(alloc, part(row, 0))?;
+    }
+    let before = stage.text.clone()?;
+    let status = run_on(rt, alloc, stage, part(row, 1), &OpenGate)?;
+    if part(row, 2).parse::<u8>() != Ok(code(&status)) {
+        return Ok("code");
+    }
+    if !is_line(&stage.text, &before, part(row, 3)) {
+        return Ok("line");
+    }
+    if !tells(&stage.text, &words_of(alloc, &status)?) {
+        return Ok("words of the fault");
+    }
+    if !has_files(alloc, stage, part(row, 4))? {
+        return Ok("files");
+    }
+    Ok("")
+}
+
+/// What is wrong with the first row that doesn't come out as it says, empty where all do. Lines that begin with `#` and
+/// empty ones are no rows.
+pub fn first_wrong<R: Threads + Sync>(
+    rt: &R,
+    alloc: Global,
+    rows: &str,
+) -> Result<String, AllocError> {
+    let mut stage = stage_of(alloc, "")?;
+    for row in rows.lines() {
+        if row.is_empty() || row.starts_with('#') {
+            continue;
+        }
+        let wrong = wrong_part(rt, alloc, &mut stage, row)?;
+        if !wrong.is_empty() {
+            let text = str::from_utf8(&stage.text).unwrap_or("no text");
+            return format!(in alloc; "{wrong} of: {row}: {text}");
+        }
+    }
+    Ok(String::new(alloc))
+}

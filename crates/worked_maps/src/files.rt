@@ -1,0 +1,290 @@
+//! Files as text: the lumps of worked maps, changed, as a WAD, and its bytes, changed.
+
+use crate::certs::digits_named;
+use crate::maps::{Lines, NONE, RowLine, map_named};
+use crate::rooms::made_rooms;
+use map_lumps::read_map;
+use map_maker::grid;
+use sight_names::{LumpFault, Plan};
+use std::alloc::{AllocError, Global};
+
+// A lump: its name, padded with NUL, and its bytes.
+#[derive(Drop)]
+struct RowLump {
+    name: [u8; 8],
+    bytes: Vec<u8>,
+}
+
+/// A number in decimal digits; 0 where it is none.
+pub fn number(text: &str) -> usize {
+    text.parse().unwrap_or(0)
+}
+
+fn digit_of(byte: u8) -> Option<u8> {
+    match byte {
+        b'0'..=b'9' => Some(byte - b'0'),
+        b'a'..=b'f' => Some(byte - b'a' + 10),
+        _ => None,
+    }
+}
+
+/// The bytes that hexadecimal digits spell; other characters are passed over.
+pub fn bytes_of_digits(alloc: Global, text: &str) -> Result<Vec<u8>, AllocError> {
+    let mut bytes = Vec::new(alloc);
+    let mut high = None;
+    for byte in text.as_bytes() {
+        if let Some(digit) = digit_of(*byte) {
+            high = match high {
+                None => Some(digit),
+                Some(first) => {
+                    bytes.push(u8::wrapping_mul(first, 16).wrapping_add(digit))?;
+                    None
+                }
+            };
+        }
+    }
+    Ok(bytes)
+}
+
+fn lump(alloc: Global, name: &str) -> RowLump {
+    let mut padded = [0; 8];
+    for (slot, byte) in padded.iter_mut().zip(name.as_bytes()) {
+        *slot = *byte;
+    }
+    RowLump {
+        name: padded,
+        bytes: Vec::new(alloc),
+    }
+}
+
+// The number of a point, which is new where no line has used it.
+fn number_of(points: &mut Vec<(i16, i16)>, x: i16, y: i16) -> Result<u16, AllocError> {
+    let mut k = 0u16;
+    for point in points.iter() {
+        if *point == (x, y) {
+            return Ok(k);
+        }
+        k = k.wrapping_add(1);
+    }
+    points.push((x, y))?;
+    Ok(k)
+}
+
+// A record of SIDEDEFS, where the line has that side, and its number.
+fn push_side(sidedefs: &mut Vec<u8>, count: &mut u16, sector: u16) -> Result<u16, AllocError> {
+    if sector == NONE {
+        return Ok(NONE);
+    }
+    sidedefs.extend_from_slice(b"\0\0\0\0-\0\0\0\0\0\0\0-\0\0\0\0\0\0\0-\0\0\0\0\0\0\0")?;
+    sidedefs.extend_from_slice(&sector.to_le_bytes())?;
+    let number = *count;
+    *count = number.wrapping_add(1);
+    Ok(number)
+}
+
+// Adds the six lumps of a map: its points in the order in which the lines first use them, a record for each side, no
+// REJECT.
+fn push_map(alloc: Global, lumps: &mut Vec<RowLump>, map: &Lines) -> Result<(), AllocError> {
+    let mut points = Vec::new(alloc);
+    let mut linedefs = lump(alloc, "LINEDEFS");
+    let mut sidedefs = lump(alloc, "SIDEDEFS");
+    let mut sides = 0u16;
+    for (x, y, u, v, flags, right, left) in &map.lines {
+        let (first, second) = (
+            number_of(&mut points, *x, *y)?,
+            number_of(&mut points, *u, *v)?,
+        );
+        let right = push_side(&mut sidedefs.bytes, &mut sides, *right)?;
+        let left = push_side(&mut sidedefs.bytes, &mut sides, *left)?;
+        for field in [first, second, *flags, 0, 0, right, left] {
+            linedefs.bytes.extend_from_slice(&field.to_le_bytes())?;
+        }
+    }
+    let mut vertexes = lump(alloc, "VERTEXES");
+    for (x, y) in &points {
+        vertexes.bytes.extend_from_slice(&x.to_le_bytes())?;
+        vertexes.bytes.extend_from_slice(&y.to_le_bytes())?;
+    }
+    let mut sectors = lump(alloc, "SECTORS");
+    for _ in 0..map.sectors {
+        sectors.bytes.extend_from_slice(&[0; 26])?;
+    }
+    lumps.push(lump(alloc, "MAP01"))?;
+    lumps.push(linedefs)?;
+    lumps.push(sidedefs)?;
+    lumps.push(vertexes)?;
+    lumps.push(sectors)?;
+    lumps.push(lump(alloc, "REJECT"))?;
+    Ok(())
+}
+
+/// The plan of a worked map.
+pub fn plan_named(alloc: Global, name: &str) -> Result<Plan, LumpFault> {
+    let mut lumps = Vec::new(alloc);
+    if let Some(map) = map_named(alloc, name)? {
+        push_map(alloc, &mut lumps, &map)?;
+    }
+    match lumps.as_slice() {
+        [_, linedefs, sidedefs, vertexes, sectors, _] => read_map(
+            alloc,
+            &linedefs.bytes,
+            &sidedefs.bytes,
+            &vertexes.bytes,
+            &sectors.bytes,
+        ),
+        _ => Err(LumpFault::Memory),
+    }
+}
+
+// So many lines without a common point.
+fn apart(alloc: Global, count: usize) -> Result<Lines, AllocError> {
+    let mut lines: Vec<RowLine> = Vec::new(alloc);
+    let mut x = 0i16;
+    for _ in 0..count {
+        lines.push((x, 0, x, 1, 1, 0, NONE))?;
+        x = x.wrapping_add(1);
+    }
+    Ok(Lines { lines, sectors: 1 })
+}
+
+// The lines of the map of this name, or of one that is made of a number.
+fn lines_of(alloc: Global, word: &str) -> Result<Option<Lines>, AllocError> {
+    if let Some(count) = word.strip_prefix("apart:") {
+        return Ok(Some(apart(alloc, number(count))?));
+    }
+    if let Some(seed) = word.strip_prefix("rooms:") {
+        let made = made_rooms(alloc, number(seed) as u64)?;
+        let (lines, sectors) = (made.lines, made.sectors);
+        return Ok(Some(Lines { lines, sectors }));
+    }
+    map_named(alloc, word)
+}
+
+// What a word makes of a lump's bytes: `=` and digits are its bytes, `<` and digits stand behind them, `*` and a number
+// are so many bytes 5a.
+fn change(alloc: Global, lump: &mut RowLump, word: &str) -> Result<(), AllocError> {
+    if let Some(digits) = word.strip_prefix('=') {
+        lump.bytes = bytes_of_digits(alloc, digits)?;
+    } else if let Some(digits) = word.strip_prefix('<') {
+        lump.bytes
+            .extend_from_slice(&bytes_of_digits(alloc, digits)?)?;
+    } else if let Some(count) = word.strip_prefix('*') {
+        lump.bytes = vec![in alloc; 0x5a; number(count)]?;
+    }
+    Ok(())
+}
+
+// What a word makes of the lumps, of which one is the present one: a map's six stand behind the others, and the last is
+// the present one; `.` and a number choose another; `+`, a number, a colon and a name put a lump without bytes at that
+// place; `-` takes the present one away.
+fn shape(
+    alloc: Global,
+    lumps: &mut Vec<RowLump>,
+    present: &mut usize,
+    word: &str,
+) -> Result<(), AllocError> {
+    if let Some(place) = word.strip_prefix('.') {
+        *present = number(place);
+    } else if let Some((place, name)) = word
+        .strip_prefix('+')
+        .and_then(|rest| rest.split_once(':'))
+    {
+        *present = number(place).min(lumps.len());
+        lumps.insert(*present, lump(alloc, name))?;
+    } else if word == "-" {
+        if *present < lumps.len() {
+            lumps.remove(*present);
+        }
+        *present = present.saturating_sub(1);
+    } else if let Some(map) = lines_of(alloc, word)? {
+        push_map(alloc, lumps, &map)?;
+        *present = lumps.len().saturating_sub(1);
+    } else if let Some(lump) = lumps.get_mut(*present) {
+        change(alloc, lump, word)?;
+    }
+    Ok(())
+}
+
+// A file with these lumps in order from byte 12 on, and its directory behind them.
+fn file_of(alloc: Global, lumps: &[RowLump]) -> Result<Vec<u8>, AllocError> {
+    let mut bodies = Vec::new(alloc);
+    let mut directory = Vec::new(alloc);
+    let mut at = 12u32;
+    let mut count = 0u32;
+    for lump in lumps {
+        let size = u32::try_from(lump.bytes.len()).unwrap_or(0);
+        bodies.extend_from_slice(&lump.bytes)?;
+        directory.extend_from_slice(&at.to_le_bytes())?;
+        directory.extend_from_slice(&size.to_le_bytes())?;
+        directory.extend_from_slice(&lump.name)?;
+        at = at.wrapping_add(size);
+        count = count.wrapping_add(1);
+    }
+    let mut file = b"PWAD".to_vec(alloc)?;
+    file.extend_from_slice(&count.to_le_bytes())?;
+    file.extend_from_slice(&at.to_le_bytes())?;
+    file.extend_from_slice(&bodies)?;
+    file.extend_from_slice(&directory)?;
+    Ok(file)
+}
+
+// From a place on, so many bytes are taken out and these are put there.
+fn spliced(
+    alloc: Global,
+    bytes: &[u8],
+    at: usize,
+    out: usize,
+    put: &[u8],
+) -> Result<Vec<u8>, AllocError> {
+    let mut made = bytes.get(..at).unwrap_or(bytes).to_vec(alloc)?;
+    made.extend_from_slice(put)?;
+    if let Some(rest) = bytes.get(at.saturating_add(out)..) {
+        made.extend_from_slice(rest)?;
+    }
+    Ok(made)
+}
+
+// What a word makes of a file's bytes: `#` and digits are the bytes, or `#` and the name of a file; `grid:` and a number
+// make a map; `@`, a place, a colon, how many bytes are taken out there, a colon and digits change them; `&` and a number
+// repeat the last sixteen.
+fn edited(alloc: Global, file: Vec<u8>, word: &str) -> Result<Vec<u8>, AllocError> {
+    if let Some(digits) = word.strip_prefix('#') {
+        return match digits_named(digits) {
+            "" => bytes_of_digits(alloc, digits),
+            named => bytes_of_digits(alloc, named),
+        };
+    }
+    if let Some(size) = word.strip_prefix("grid:") {
+        return match number(size) {
+            n @ 1..=18 => grid(alloc, n as u16).map_err(|_| AllocError),
+            _ => Ok(file),
+        };
+    }
+    if let Some((at, rest)) = word.strip_prefix('@').and_then(|rest| rest.split_once(':')) {
+        let (out, digits) = rest.split_once(':').unwrap_or((rest, ""));
+        let put = bytes_of_digits(alloc, digits)?;
+        return spliced(alloc, &file, number(at), number(out), &put);
+    }
+    let mut file = file;
+    if let (Some(count), Some(last)) = (word.strip_prefix('&'), file.last_chunk::<16>()) {
+        let last = *last;
+        for _ in 0..number(count) {
+            file.extend_from_slice(&last)?;
+        }
+    }
+    Ok(file)
+}
+
+/// The file that a line of words makes: the lumps that they say as a WAD, and then what they say of its bytes.
+pub fn bytes_of(alloc: Global, text: &str) -> Result<Vec<u8>, AllocError> {
+    let mut lumps = Vec::new(alloc);
+    let mut present = 0;
+    for word in text.split_whitespace() {
+        shape(alloc, &mut lumps, &mut present, word)?;
+    }
+    let mut file = file_of(alloc, &lumps)?;
+    for word in text.split_whitespace() {
+        file = edited(alloc, file, word)?;
+    }
+    Ok(file)
+}
