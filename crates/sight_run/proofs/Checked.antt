@@ -1,11 +1,9 @@
 -- The check of what a build wrote has one answer, and it is yes.
-use Rattle.std.proofs.Common.{◌≡◌, ℕ, zero, suc, ◌+◌, ◌*◌, ◌^◌, ◌<◌, ◌≤◌, ◌⊎◌, inl, inr, List, [], ◌∷◌, ◌++◌, length, Bool, true, false, not, ◌||◌, ◌==◌, if◌then◌else◌, nat_lt, Option, Some, None, Result, Ok, Err, refl, sym, ap, ◌∙◌, subst, arith}
-use Rattle.std.specs.Prelude.{bytes_eq, codes, ⊤}
+use Rattle.std.proofs.Common.{◌≡◌, ℕ, zero, suc, ◌+◌, ◌*◌, ◌^◌, ◌<◌, ◌≤◌, inl, inr, List, ◌++◌, length, Bool, true, false, if◌then◌else◌, nat_lt, Option, Some, None, Result, Ok, Err, refl, sym, ap, ◌∙◌, subst, arith}
+use Rattle.std.specs.Prelude.{bytes_eq, codes}
 use Rattle.std.specs.Option.{option_map}
 use Rattle.std.proofs.lemmas.Bool.{le-ltb}
 use Rattle.std.proofs.lemmas.Bool.Decides.{Decides-eqb}
-use Rattle.std.proofs.lemmas.Slice.Eq.{bytes_eq-Decides}
-use Rattle.sight_names.specs.declared.faults.CertFault.{CertFault}
 use Rattle.sight_names.specs.declared.faults.FetchFault.TheVariants as fetch
 use Rattle.sight_names.specs.declared.faults.TableFault.TheVariants as table
 use Rattle.sight_names.specs.declared.names.Ask.{Ask}
@@ -16,9 +14,6 @@ use Rattle.map_audit.proofs.AuditLemmas.{not_sound}
 use Rattle.shelf_io.specs.Shelf.{Files, ShelfState, content_of, put}
 use Rattle.shelf_io.specs.Sink.{SinkState}
 use Rattle.wad_dir.specs.Map.{same_name}
-use Rattle.order_words.specs.declared.order.Order.{Order}
-use Rattle.order_words.specs.declared.order.Order.TheVariants as order
-use Rattle.order_words.specs.Words.{order_of}
 use Rattle.cert_format.specs.Accepted.{EitherClear, EitherSet, IsAccepted}
 use Rattle.cert_format.specs.Grammar.{Spells}
 use Rattle.cert_format.specs.Parts.{CertParts}
@@ -41,13 +36,12 @@ use Rattle.sight_run.specs.Answer.{Answer, ◌>>=◌, IsTheAnswer, only_line}
 use Rattle.sight_run.specs.Build.{AreAsked, BuildCalls, ShowsBuild, build_writes}
 use Rattle.sight_run.specs.Check.{Brought, CheckCalls, IsVerdictOn, OnBrought, VerdictCalls, brought, cert_in, of_cert_fetch, of_length, of_reading, reject_of, yes_line}
 use Rattle.sight_run.specs.Input.{Found, OnFound, found_in, found_of, of_fetch}
-use Rattle.sight_run.specs.Obeys.{AnswersAsked, IsAnswer, Obeys}
+use Rattle.sight_run.specs.Obeys.{AnswersAsked, IsAnswer}
 use Rattle.sight_run.specs.Run.{IsBrokenBy, RunEnds, StandsUpTo, put_all}
 use Rattle.sight_run.specs.Sizes.{sizes_of_map}
 use Rattle.sight_run.specs.Sound.{OnSoundLines}
-use Rattle.sight_run.specs.Words.{asked_of, file_names, has_twice, is_built, of_order}
 use Rattle.sight_run.specs.Zero.{table_len}
-use Rattle.sight_run.specs.Laws.{AskBoth, BuiltIsChecked, BuiltRunIsChecked, ChecksYes, EndWithYes, HaveBoth, IsShort, SaysYes, Sinks, totals_of}
+use Rattle.sight_run.specs.Laws.{BuiltIsChecked, BuiltRunIsChecked, ChecksYes, HaveBoth, IsShort, SaysYes, Sinks, totals_of}
 use Rattle.sight_run.proofs.Round.{IsFoundAgain, found_again, found_then, same_ok}
 use Rattle.sight_run.proofs.Stood.{bytes_of, differ, of_words, under_cert, under_out}
 use Rattle.sight_run.proofs.Totals.{same_counts}

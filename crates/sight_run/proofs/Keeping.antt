@@ -1,21 +1,17 @@
 -- What a WAD that was written keeps of the one that was read.
-use Rattle.std.proofs.Common.{◌≡◌, ℕ, ◌*◌, List, [], ◌∷◌, Bool, true, false, if◌then◌else◌, Option, Some, None, Result, Ok, Err, refl, sym, ap, ◌∙◌, subst}
-use Rattle.std.specs.Prelude.{bytes_eq, codes, ⊤}
+use Rattle.std.proofs.Common.{◌≡◌, ℕ, ◌*◌, List, ◌∷◌, Bool, false, if◌then◌else◌, Option, Some, None, Result, Ok, Err, refl, sym, ap, ◌∙◌, subst}
 use Rattle.std.specs.Int.{div_ceil}
-use Rattle.sight_names.specs.declared.names.Ask.{Ask}
-use Rattle.sight_names.specs.Table.{IsTable}
 use Rattle.shelf_io.specs.Shelf.{Files, put}
-use Rattle.wad_dir.specs.Map.{same_name}
 use Rattle.order_words.specs.declared.order.Order.TheVariants as order
 use Rattle.cert_format.specs.Parts.{CertParts}
 use Rattle.sight_run.specs.declared.status.Status.{Status}
-use Rattle.sight_run.specs.Answer.{Answer, ◌>>=◌}
+use Rattle.sight_run.specs.Answer.{Answer}
 use Rattle.sight_run.specs.Build.{AreAsked, BuildCalls, build_writes}
 use Rattle.sight_run.specs.Input.{Found, OnFound, found_of}
 use Rattle.sight_run.specs.Laws.{BuildKeepsLumps, HasTableLength, IsClearTable, KeepsLumps, ZeroKeepsLumps}
 use Rattle.sight_run.specs.Obeys.{AnswersAsked}
 use Rattle.sight_run.specs.Run.{put_all}
-use Rattle.sight_run.specs.Words.{file_names, given, has_twice}
+use Rattle.sight_run.specs.Words.{given, has_twice}
 use Rattle.sight_run.specs.Zero.{ZeroCalls, clear_table, one_wad, with_table, zero_line, zeroed}
 use Rattle.sight_run.proofs.Round.{passes, same_ok, written_again}
 use Rattle.sight_run.proofs.Stood.{bytes_of, differ, itself, of_words, under_out}

@@ -1,29 +1,15 @@
 -- The check of what a build wrote.
-use Rattle.std.proofs.Common.{◌≡◌, ℕ, zero, suc, ◌+◌, ◌*◌, ◌^◌, ◌<◌, ◌≤◌, ◌⊎◌, inl, inr, List, [], ◌∷◌, ◌++◌, length, get_or, Bool, true, false, not, ◌&&◌, ◌||◌, ◌==◌, if◌then◌else◌, nat_lt, Option, Some, None, Result, Ok, Err, refl, sym, ap, ◌∙◌, subst, arith}
-use Rattle.std.specs.Prelude.{bytes_eq, codes, slice_get, unwrap_or, ⊤}
-use Rattle.std.specs.Int.{div_ceil}
-use Rattle.std.specs.List.{list_any}
-use Rattle.std.proofs.lemmas.Bool.{le-ltb}
-use Rattle.std.proofs.lemmas.Bool.Decides.{Decides-eqb, not_from_Decides}
+use Rattle.std.proofs.Common.{◌≡◌, ℕ, ◌^◌, ◌<◌, List, [], length, get_or, false, Option, Some, Result, Ok, Err, refl, sym, ap, ◌∙◌, subst}
+use Rattle.std.specs.Prelude.{codes, slice_get, unwrap_or}
 use Rattle.std.proofs.lemmas.Option.{unwrap_or-slice_get}
-use Rattle.std.proofs.lemmas.Slice.Eq.{bytes_eq-Decides}
-use Rattle.sight_names.specs.declared.faults.CertFault.{CertFault}
-use Rattle.sight_names.specs.declared.faults.CheckFault.{CheckFault}
-use Rattle.sight_names.specs.declared.faults.FetchFault.{FetchFault}
-use Rattle.sight_names.specs.declared.faults.FetchFault.TheVariants as fetch
 use Rattle.sight_names.specs.declared.faults.MapFault.{MapFault}
 use Rattle.sight_names.specs.declared.faults.RewriteFault.{RewriteFault}
 use Rattle.sight_names.specs.declared.faults.RewriteFault.TheVariants as rewrite
 use Rattle.sight_names.specs.declared.faults.WadFault.{WadFault}
 use Rattle.sight_names.specs.declared.faults.WadFault.TheVariants as wad
-use Rattle.sight_names.specs.declared.names.Ask.{Ask}
 use Rattle.sight_names.specs.Map.{Map}
-use Rattle.sight_names.specs.Sound.{LinesMeetAtEnds}
-use Rattle.sight_names.specs.Table.{table_bit}
-use Rattle.map_audit.proofs.AuditLemmas.{not_sound}
-use Rattle.shelf_io.specs.Shelf.{Files, content_of, put}
 use Rattle.wad_dir.specs.declared.parts.MapSpot.{MapSpot}
-use Rattle.wad_dir.specs.Kept.{IsKept, reject_then, spot_then}
+use Rattle.wad_dir.specs.Kept.{reject_then, spot_then}
 use Rattle.wad_dir.specs.Map.{same_name, spot_of}
 use Rattle.wad_dir.specs.Print.{with_reject}
 use Rattle.wad_dir.specs.Wad.{WadFile, WadLump, names_of, wad_of}
@@ -31,9 +17,8 @@ use Rattle.wad_rewrite.specs.Again.{IsReadAgain}
 use Rattle.wad_rewrite.specs.Rewrite.{printed}
 use Rattle.wad_rewrite.proofs.Reading.{rewritten_is_read}
 use Rattle.sight_run.specs.declared.status.Status.{Status}
-use Rattle.sight_run.specs.declared.status.Status.TheVariants as status
-use Rattle.sight_run.specs.Answer.{Answer, ◌>>=◌}
-use Rattle.sight_run.specs.Input.{Found, found_in, found_of, lump_at, map_at, of_fetch, of_four_lumps, of_spot, of_wad}
+use Rattle.sight_run.specs.Answer.{◌>>=◌}
+use Rattle.sight_run.specs.Input.{Found, found_in, lump_at, map_at, of_four_lumps, of_spot, of_wad}
 use Rattle.sight_run.specs.Zero.{of_rewrite, with_table}
 
 -- ---- steps that pass

@@ -1,16 +1,14 @@
 -- The names of a WAD that was read have eight bytes, and so have those of the WAD with another REJECT.
-use Rattle.std.proofs.Common.{◌≡◌, ℕ, zero, suc, ◌+◌, ◌*◌, ◌^◌, ◌<◌, ◌≤◌, ◌==◌, List, [], ◌∷◌, ◌++◌, length, drop, take, map, Bool, true, false, not, ◌&&◌, ◌||◌, if◌then◌else◌, nat_lt, nat_le, Option, Some, None, Ok, Err, Result, refl, sym, ap, ◌∙◌, subst, arith}
+use Rattle.std.proofs.Common.{◌≡◌, ℕ, zero, suc, ◌+◌, ◌*◌, ◌^◌, ◌<◌, ◌≤◌, ◌==◌, List, [], ◌∷◌, ◌++◌, length, drop, take, map, Bool, true, false, not, ◌&&◌, ◌||◌, if◌then◌else◌, nat_lt, nat_le, Option, Some, None, Ok, Result, refl, subst, arith}
 use Rattle.std.specs.Prelude.{is_none, slice_set}
-use Rattle.std.specs.List.{AllByRecursion, insert, position_from}
-use Rattle.std.specs.Option.{option_map}
+use Rattle.std.specs.List.{AllByRecursion, insert}
 use Rattle.std.proofs.Math.ListN.{get_or, set}
 use Rattle.std.proofs.lemmas.Bool.Decides.{Decides-eqb, Decides-ltb, not_from_Decides}
 use Rattle.std.proofs.lemmas.List.{length-drop, length-take}
 use Rattle.sight_names.specs.declared.faults.WadFault.{WadFault}
-use Rattle.sight_names.specs.declared.faults.WadFault.TheVariants as fault
 use Rattle.wad_dir.specs.declared.parts.MapSpot.{MapSpot}
-use Rattle.wad_dir.specs.Print.{lumps_with_reject, reject_lump, with_bytes, with_reject}
-use Rattle.wad_dir.specs.Wad.{Slot, WadFile, WadLump, count_of, directory_place, is_directory_outside, is_outside, kind_of, kind_said, lump_of, slot_at, slots_at, slots_of, unless, wad_fault, wad_of}
+use Rattle.wad_dir.specs.Print.{reject_lump, with_bytes, with_reject}
+use Rattle.wad_dir.specs.Wad.{Slot, WadFile, WadLump, count_of, directory_place, is_directory_outside, kind_of, kind_said, lump_of, slot_at, slots_at, slots_of, unless, wad_fault, wad_of}
 
 -- each name has eight bytes
 abbrev pub HasNames : List WadLump → Type 0

@@ -1,6 +1,6 @@
 -- A WAD with another REJECT for a map has the map at its place, and all its other lumps.
-use Rattle.std.proofs.Common.{◌≡◌, ◌≢◌, ℕ, zero, suc, ◌+◌, ◌<◌, ◌≤◌, List, [], ◌∷◌, length, drop, map, Bool, true, false, if◌then◌else◌, nat_lt, Option, Some, None, Ok, refl, sym, ap, ◌∙◌, subst, arith}
-use Rattle.std.specs.Prelude.{codes, slice_get, slice_set}
+use Rattle.std.proofs.Common.{◌≡◌, ◌≢◌, ℕ, zero, suc, ◌+◌, ◌<◌, ◌≤◌, List, [], ◌∷◌, length, drop, map, Bool, true, false, if◌then◌else◌, nat_lt, Option, Some, None, Ok, refl, sym, ap, ◌∙◌, arith}
+use Rattle.std.specs.Prelude.{codes, slice_get}
 use Rattle.std.specs.List.{insert, position_from}
 use Rattle.std.proofs.Math.ListN.{get_or, set}
 use Rattle.std.proofs.Math.Seq.{map-set_same}
@@ -9,9 +9,9 @@ use Rattle.std.proofs.lemmas.List.{length-drop, length-map, length-set}
 use Rattle.std.proofs.lemmas.List.Edits.{length-insert}
 use Rattle.wad_dir.specs.declared.parts.MapSpot.{MapSpot}
 use Rattle.wad_dir.specs.Map.{begins_with_behavior, last_from, same_name, shifted, spot_of}
-use Rattle.wad_dir.specs.Print.{lumps_with_reject, reject_lump, with_bytes, with_reject}
+use Rattle.wad_dir.specs.Print.{reject_lump, with_bytes, with_reject}
 use Rattle.wad_dir.specs.Wad.{WadFile, WadLump, names_of}
-use Rattle.wad_dir.specs.Kept.{IsKept, count_then, place_then, reject_then, spot_then}
+use Rattle.wad_dir.specs.Kept.{IsKept, spot_then}
 use Rattle.wad_dir.proofs.Inserted.{apart, drop_behind, drop_insert, last_kept, last_within, more, more_insert, more_short, none_there, padded, place_before, place_behind, place_bound, place_new, word}
 use Rattle.wad_dir.proofs.Spots.{IsSpot, place, spot_at, spot_from, spot_parts}
 

@@ -1,16 +1,15 @@
 -- Where a map is, in its parts: the marker, the run behind it, and the places in the run.
-use Rattle.std.proofs.Common.{◌≡◌, ℕ, ◌+◌, ◌<◌, ◌≤◌, List, [], length, drop, Bool, true, false, if◌then◌else◌, Option, Some, None, Result, Ok, Err, refl, sym, ap, ◌∙◌, subst, arith}
+use Rattle.std.proofs.Common.{◌≡◌, ℕ, ◌+◌, List, [], length, drop, Bool, true, false, if◌then◌else◌, Option, Some, None, Result, Ok, Err, refl, sym, ap, ◌∙◌}
 use Rattle.std.specs.Prelude.{codes}
 use Rattle.std.specs.List.{position_from}
 use Rattle.std.proofs.lemmas.Iterator.Adapters.{position_from-zero}
-use Rattle.std.proofs.lemmas.List.{length-drop}
 use Rattle.sight_names.specs.declared.faults.Lump.{Lump}
 use Rattle.sight_names.specs.declared.faults.Lump.TheVariants.{Linedefs, Sidedefs, Vertexes, Sectors}
 use Rattle.sight_names.specs.declared.faults.MapFault.{MapFault}
 use Rattle.sight_names.specs.declared.faults.MapFault.TheVariants as fault
 use Rattle.wad_dir.specs.declared.parts.MapSpot.{MapSpot}
-use Rattle.wad_dir.specs.Map.{◌>>=◌, begins_with_behavior, last_from, place_in, run_from, same_name, shifted, spot_behind, spot_in, spot_of}
-use Rattle.wad_dir.proofs.Inserted.{last_within, more, more_short, place_bound, run_is}
+use Rattle.wad_dir.specs.Map.{◌>>=◌, begins_with_behavior, last_from, place_in, same_name, shifted, spot_behind, spot_in, spot_of}
+use Rattle.wad_dir.proofs.Inserted.{more, run_is}
 
 -- the first of the names that is this one
 abbrev pub place : List ℕ → List (List ℕ) → Option ℕ

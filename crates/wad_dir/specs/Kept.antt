@@ -1,8 +1,7 @@
 -- What stands where in a WAD in which the REJECT of a map was replaced, or put right behind its SECTORS.
-use Rattle.std.specs.Prelude.{◌≡◌, ◌≢◌, ℕ, ◌+◌, nat_lt, List, length, slice_get, Option, Some, None, Ok, if◌then◌else◌}
+use Rattle.std.specs.Prelude.{◌≡◌, ◌≢◌, ℕ, ◌+◌, nat_lt, List, length, slice_get, Some, None, Ok, if◌then◌else◌}
 use Rattle.wad_dir.specs.declared.parts.MapSpot.{MapSpot}
 use Rattle.wad_dir.specs.Map.{spot_of}
-use Rattle.wad_dir.specs.Print.{with_reject}
 use Rattle.wad_dir.specs.Wad.{WadFile, WadLump, names_of}
 
 -- where the lump of place k stands then

@@ -3,7 +3,7 @@ use Rattle.std.proofs.Common.{◌≡◌, ℕ, ◌^◌, ◌<◌, List, Bool, true
 use Rattle.std.proofs.lemmas.Bool.{leb-false, ltb-false}
 use Rattle.sight_names.specs.declared.faults.RewriteFault.{RewriteFault}
 use Rattle.sight_names.specs.declared.faults.RewriteFault.TheVariants as fault
-use Rattle.wad_dir.specs.Print.{IsPrintable, print, printed_len, with_reject}
+use Rattle.wad_dir.specs.Print.{print, printed_len, with_reject}
 use Rattle.wad_dir.specs.Wad.{WadFile, wad_of}
 use Rattle.wad_dir.proofs.Eight.{HasNames, names_read, names_rewritten}
 use Rattle.wad_dir.proofs.Printed.{prints_its_length, reads_what_is_printed}
