@@ -31,6 +31,9 @@ returns-clause-seen c = subst (λ (s : BoardSeat). Grows c.args.seat.now.seat.me
 pub returns-clause-looks : goal.returns-clause-looks
 returns-clause-looks c = subst (λ (s : BoardSeat). Grows c.args.seat.now.seat.me.0.looks s.seat.me.0.looks) (sym (same c)) c.walk_source-result.ensures.looks
 
+pub returns-clause-kept : goal.returns-clause-kept
+returns-clause-kept c = subst (λ (s : BoardSeat). Grows c.args.seat.now.seat.me.0.marks s.seat.me.0.marks) (sym (same c)) c.walk_source-result.ensures.kept
+
 pub returns-clause-marks : goal.returns-clause-marks
 returns-clause-marks c =
     ok_weaker c.walk_source-result.result _ _ (λ (r : SourceResult) m. subst (λ (s : BoardSeat). IsMarkedBy c.args.source r.found c.args.seat.now.seat.me.0.marks s.seat.me.0.marks) (sym (same c)) (c.walk_source-result.ensures.kept, m)) c.walk_source-result.ensures.marks
