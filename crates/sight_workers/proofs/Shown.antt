@@ -1,16 +1,14 @@
 -- The words show which numbers were claimed and which pairs were marked.
-use Rattle.std.proofs.Common.{◌≡◌, ◌≢◌, ℕ, zero, suc, ◌+◌, ◌<◌, ◌≤◌, Bool, true, cond, eqb, List, [], ◌∷◌, get_or, refl, sym, ap, ◌∙◌, subst, arith}
+use Rattle.std.proofs.Common.{◌≡◌, ◌≢◌, ℕ, suc, ◌<◌, ◌≤◌, Bool, true, cond, eqb, List, [], ◌∷◌, get_or, refl, sym, ap, ◌∙◌, subst, arith}
 use Rattle.std.specs.List.{Contains}
 use Rattle.std.proofs.lemmas.Bool.Decides.{nat_tests}
 use mathlib.Core.Logic.{dite}
 use mathlib.Core.Option.{some}
 use native.Mathlib.Decide.{ℕ_discrete}
 use lib.ListN.{get_elem?}
-use Rattle.atomic_table.specs.Table.{State}
-use Rattle.sight_workers.specs.declared.view.Task.{Task}
 use Rattle.sight_workers.specs.declared.view.View.{View}
-use Rattle.sight_workers.specs.Board.{Holds, IsFindable, IsMarked, IsPair, IsSet, bit_of, claims_of, once_below, weigh, word_of}
-use Rattle.sight_workers.specs.Shown.{IsClaimed, AreShown, WordsShowViews}
+use Rattle.sight_workers.specs.Board.{IsFindable, IsMarked, IsPair, IsSet, bit_of, claims_of, once_below, weigh, word_of}
+use Rattle.sight_workers.specs.Shown.{IsClaimed, WordsShowViews}
 use Rattle.sight_workers.proofs.Lists.{by_bool, claim_below, contains_here, contains_there}
 use Rattle.sight_workers.proofs.Places.{same_pair, word_inside}
 

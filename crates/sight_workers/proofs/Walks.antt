@@ -1,7 +1,5 @@
 -- What a walk finds and marks.
-use Rattle.std.proofs.Common.{◌≡◌, ◌≢◌, ◌⊎◌, inl, inr, ⊎_elim, ℕ, zero, suc, ◌<◌, List, [], ◌∷◌, ◌++◌, Contains, Bool, cond, ltb, false, true, length, get_or, map, refl, sym, ap, ◌∙◌, subst, arith, pos, Result, Ok, Err, IfOk}
-use Rattle.std.proofs.lemmas.Bool.Decides.{nat_tests}
-use Rattle.pair_budget.specs.declared.results.Outcome.{Outcome}
+use Rattle.std.proofs.Common.{◌≡◌, ◌≢◌, inl, inr, ⊎_elim, ℕ, zero, suc, ◌<◌, List, [], ◌∷◌, ◌++◌, Contains, Bool, cond, ltb, false, true, length, get_or, map, refl, sym, ap, subst, arith, pos, Result, Ok, Err, IfOk}
 use Rattle.pair_budget.specs.declared.results.Reached.{Reached}
 use Rattle.pair_budget.specs.declared.results.SourceResult.{SourceResult}
 use Rattle.pair_budget.specs.Notes.{ordered}
@@ -9,7 +7,7 @@ use Rattle.sight_names.specs.Found.{Found}
 use Rattle.sight_names.specs.Map.{map_of}
 use Rattle.pair_budget.specs.Exact.{IsExact}
 use Rattle.pair_budget.specs.Through.{AreThrough}
-use Rattle.pair_budget.specs.Walked.{AreReached, IsOutcome, MarksFound}
+use Rattle.pair_budget.specs.Walked.{AreReached, IsOutcome}
 use Rattle.pair_budget.specs.Whole.{IsShown}
 use Rattle.sight_workers.specs.declared.view.Task.{Task}
 use Rattle.sight_workers.specs.declared.view.View.{View}
@@ -18,7 +16,7 @@ use Rattle.sight_workers.specs.Watches.{IsLookOnly}
 use Rattle.sight_workers.specs.declared.job.Job.{Job}
 use Rattle.sight_workers.specs.Board.{IsPair, IsFindable, IsFoundWithin, task_for}
 use Rattle.sight_workers.specs.Walks.{IsMarkedBy, IsWalked}
-use Rattle.sight_workers.proofs.Lists.{by_bool, contains_left, contains_append, contains_one}
+use Rattle.sight_workers.proofs.Lists.{contains_left, contains_append, contains_one}
 use Rattle.sight_workers.proofs.Watches.{ordered_pair}
 
 -- the pair of a source and another sector that is found from it may be marked
