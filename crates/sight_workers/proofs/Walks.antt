@@ -1,7 +1,5 @@
 -- What a walk finds and marks.
-use Rattle.std.proofs.Common.{◌≡◌, ◌≢◌, ◌⊎◌, inl, inr, ⊎_elim, ℕ, zero, suc, ◌<◌, List, [], ◌∷◌, ◌++◌, Contains, Bool, cond, ltb, false, true, length, get_or, map, refl, sym, ap, ◌∙◌, subst, arith, pos, Result, Ok, Err, IfOk}
-use Rattle.std.proofs.lemmas.Bool.Decides.{nat_tests}
-use Rattle.pair_budget.specs.declared.results.Outcome.{Outcome}
+use Rattle.std.proofs.Common.{◌≡◌, ◌≢◌, inl, inr, ⊎_elim, ℕ, zero, suc, ◌<◌, List, [], ◌∷◌, ◌++◌, Contains, Bool, cond, ltb, false, true, length, get_or, map, refl, sym, ap, subst, arith, pos, Result, Ok, Err, IfOk}
 use Rattle.pair_budget.specs.declared.results.Reached.{Reached}
 use Rattle.pair_budget.specs.declared.results.SourceResult.{SourceResult}
 use Rattle.pair_budget.specs.Notes.{ordered}
@@ -9,13 +7,16 @@ use Rattle.sight_names.specs.Found.{Found}
 use Rattle.sight_names.specs.Map.{map_of}
 use Rattle.pair_budget.specs.Exact.{IsExact}
 use Rattle.pair_budget.specs.Through.{AreThrough}
-use Rattle.pair_budget.specs.Walked.{AreReached, IsOutcome, MarksFound}
+use Rattle.pair_budget.specs.Walked.{AreReached, IsOutcome}
 use Rattle.pair_budget.specs.Whole.{IsShown}
 use Rattle.sight_workers.specs.declared.view.Task.{Task}
+use Rattle.sight_workers.specs.declared.view.View.{View}
+use Rattle.sight_workers.specs.Serves.{IsLater}
+use Rattle.sight_workers.specs.Watches.{IsLookOnly}
 use Rattle.sight_workers.specs.declared.job.Job.{Job}
 use Rattle.sight_workers.specs.Board.{IsPair, IsFindable, IsFoundWithin, task_for}
 use Rattle.sight_workers.specs.Walks.{IsMarkedBy, IsWalked}
-use Rattle.sight_workers.proofs.Lists.{by_bool, contains_left, contains_append, contains_one}
+use Rattle.sight_workers.proofs.Lists.{contains_left, contains_append, contains_one}
 use Rattle.sight_workers.proofs.Watches.{ordered_pair}
 
 -- the pair of a source and another sector that is found from it may be marked
@@ -31,6 +32,12 @@ pub told_pair : (j : Job) (workers : ℕ) (t : Task) → t ≡ task_for j worker
     → IsPair t.plan.sectors (ordered a b) × IsFindable t (ordered a b)
 told_pair j workers t same a b within other below found =
     subst (λ (u : Task). IsPair u.plan.sectors (ordered a b) × IsFindable u (ordered a b)) (sym same) (found_pair (task_for j workers) a b within other below (record { found = found }))
+
+pub later_look : (v w : View) → IsLookOnly v w → IsLater v w
+later_look v w l = record { marks = λ p h. subst (λ (ms : List (ℕ × ℕ)). Contains ms p) (sym l.marks) h; seen = l.seen; looks = l.looks }
+
+pub later_then : (u v w : View) → IsLater u v → IsLater v w → IsLater u w
+later_then u v w a b = record { marks = λ p h. b.marks p (a.marks p h); seen = λ p h. b.seen p (a.seen p h); looks = λ p h. b.looks p (a.looks p h) }
 
 pub marked_none : (source : ℕ) (found : List Reached) (xs : List (ℕ × ℕ)) → IsMarkedBy source found xs xs
 marked_none source found xs = ((λ p h. h), (λ p h. inl h))

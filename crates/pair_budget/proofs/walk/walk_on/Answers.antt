@@ -61,9 +61,9 @@ note-requires-clause-hears g c =
     let reached = c.reached_by-reached in
     let walk = same_walk_both c.args.walker old new i.walk c.next.ensures.walk in
     some_both reached.result reached.ensures.reached reached.ensures.label
-        (λ (r : Reached) far labelled. i.hears r.to (subst (λ (a : ℕ). r.to ≢ a) walk.source far.other) (subst (λ (p : PlanParts). r.to < p.sectors) walk.plan far.within)
-        (finds_next old new c.args.budget c.loop-walker.left c.loop-walker.finds.found i.exact k c.in-Open.entered c.in-Open.a c.in-Open.b c.in-Open.c opens c.args.walker i.walk c.in-Some.less c.in-Some.ensures r.to
-            (ap (λ (ls : List (Option ℕ)). label_of ls k) labels ∙ labelled)))
+    (λ (r : Reached) far labelled. i.hears r.to (subst (λ (a : ℕ). r.to ≢ a) walk.source far.other) (subst (λ (p : PlanParts). r.to < p.sectors) walk.plan far.within)
+    (finds_next old new c.args.budget c.loop-walker.left c.loop-walker.finds.found i.exact k c.in-Open.entered c.in-Open.a c.in-Open.b c.in-Open.c opens c.args.walker i.walk c.in-Some.less c.in-Some.ensures r.to
+    (ap (λ (ls : List (Option ℕ)). label_of ls k) labels ∙ labelled)))
 
 pub returns-in-End-clause-shown : goal.returns-in-End-clause-shown
 returns-in-End-clause-shown g c =
@@ -190,9 +190,9 @@ returns-then-branch-clause-exact g c =
     let later = c.note.new.finds.found in
     finds_early c.args.walker new c.args.budget c.in-Some.less later (same_walk_both c.args.walker old new i.walk c.next.ensures.walk)
     (finds_noted c.args.walker old new c.args.budget c.loop-walker.left c.loop-walker.finds.found i.come i.exact c.next.ensures.walk k c.in-Open.entered c.in-Open.a c.in-Open.b c.in-Open.c opens c.in-Some.less c.in-Some.ensures later e.finds.keeps
-        (λ sector h some. noted_label old.labels c.args.labels.now k later reached.result labels c.in_ok-note-in-Open.ensures.reached reached.ensures.label sector h
-        (reached.ensures.given sector (subst (λ (ls : List (Option ℕ)). label_of ls k ≡ Some sector) labels h) (subst IsSome (sym opens.answers.root) refl) some))
-        (λ r there. only_label old.labels c.args.labels.now k c.loop-walker.finds.found reached.result r labels reached.ensures.label (c.in_ok-note-in-Open.ensures.only r there)))
+    (λ sector h some. noted_label old.labels c.args.labels.now k later reached.result labels c.in_ok-note-in-Open.ensures.reached reached.ensures.label sector h
+    (reached.ensures.given sector (subst (λ (ls : List (Option ℕ)). label_of ls k ≡ Some sector) labels h) (subst IsSome (sym opens.answers.root) refl) some))
+    (λ r there. only_label old.labels c.args.labels.now k c.loop-walker.finds.found reached.result r labels reached.ensures.label (c.in_ok-note-in-Open.ensures.only r there)))
 
 pub returns-in-End-clause-rays : goal.returns-in-End-clause-rays
 returns-in-End-clause-rays g c = through_back c.args.walker c.loop-walker.walker c.loop-walker.finds.found c.loop-walker.invariant.walk c.loop-walker.invariant.through

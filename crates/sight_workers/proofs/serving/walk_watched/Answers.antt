@@ -1,15 +1,12 @@
 use Rattle.std.proofs.Common.{◌≡◌, ℕ, ◌<◌, subst, sym, ap, ◌∙◌}
 use Rattle.std.specs.Prelude.{IfOk}
 use Rattle.std.specs.List.{Contains}
-use Rattle.pair_budget.specs.declared.results.Outcome.TheVariants as outcome
 use Rattle.pair_budget.specs.declared.results.SourceResult.{SourceResult}
 use Rattle.pair_budget.specs.Notes.{ordered, Grows}
 use Rattle.sight_workers.specs.declared.desk.BoardSeat.{BoardSeat}
 use Rattle.sight_workers.specs.declared.job.Job.{Job}
 use Rattle.sight_workers.specs.declared.watch.Place.{Place}
-use Rattle.sight_workers.specs.declared.view.Task.{Task}
-use Rattle.sight_workers.specs.Board.{task_of, task_for, IsPair, IsFindable}
-use Rattle.sight_workers.specs.Mates.{IsMate}
+use Rattle.sight_workers.specs.Board.{task_for}
 use Rattle.sight_workers.specs.Walks.{IsMarkedBy, IsWalked}
 use Rattle.sight_workers.proofs.Walks.{told_pair, ok_weaker, ok_walked}
 use Rattle.sight_workers.proofs.serving.walk_watched.Goals as goal
@@ -30,6 +27,9 @@ returns-clause-seen c = subst (λ (s : BoardSeat). Grows c.args.seat.now.seat.me
 
 pub returns-clause-looks : goal.returns-clause-looks
 returns-clause-looks c = subst (λ (s : BoardSeat). Grows c.args.seat.now.seat.me.0.looks s.seat.me.0.looks) (sym (same c)) c.walk_source-result.ensures.looks
+
+pub returns-clause-kept : goal.returns-clause-kept
+returns-clause-kept c = subst (λ (s : BoardSeat). Grows c.args.seat.now.seat.me.0.marks s.seat.me.0.marks) (sym (same c)) c.walk_source-result.ensures.kept
 
 pub returns-clause-marks : goal.returns-clause-marks
 returns-clause-marks c =
