@@ -1,5 +1,9 @@
 //! The mesh of worked maps: which segments are kept, which sectors the triangles have, and what a ray through them meets.
 
+ghost use Rattle.std.specs.Prelude.{IfOk};
+ghost use Rattle.sight_names.specs.Map.{map_of};
+ghost use Rattle.sight_names.specs.Mesh.{IsGoodMesh, IsPlainMesh};
+
 use map_audit::audit_lines;
 use mesh_shape::{Labels, Mesh};
 use ray_trace::trace;
@@ -20,7 +24,9 @@ struct Meshed {
 }
 
 // The greedy segments of an audited map, and the triangles between them.
-fn segments_and_mesh(alloc: Global, plan: &Plan) -> Result<(Vec<Segment>, Mesh), LabelFault> {
+fn segments_and_mesh(alloc: Global, plan: &Plan) -> Result<(Vec<Segment>, Mesh), LabelFault>
+    ensures { IfOk result (λ made. IsPlainMesh (map_of plan.now) made.1.triangles) }
+{
     let Ok(()) = audit_lines(plan) else {
         return Err(LabelFault::Memory);
     };
@@ -29,7 +35,9 @@ fn segments_and_mesh(alloc: Global, plan: &Plan) -> Result<(Vec<Segment>, Mesh),
     Ok((Vec::from_slice(alloc, segments.as_slice())?, mesh))
 }
 
-fn mesh_parts(alloc: Global, lines: &[RowLine], sectors: u16) -> Result<Meshed, LabelFault> {
+fn mesh_parts(alloc: Global, lines: &[RowLine], sectors: u16) -> Result<Meshed, LabelFault>
+    ensures { IfOk result (λ found. IsGoodMesh (map_of found.plan) found.mesh.triangles found.labels) }
+{
     let Ok(plan) = plan_of(alloc, lines, sectors) else {
         return Err(LabelFault::Memory);
     };
