@@ -174,8 +174,8 @@ a=U =4400, c=#U-CERT, reads=3 | check a MAP01 c | 4 | refused: read fault cert
 
 /// The order `build`, and `check` of what it wrote.
 const BUILD: &str = "\
-# the certificate begins with the triangles of U and ends with the tree of its first sector
-a=U | build a MAP01 b --cert c --workers 1 | 0 | built MAP01 sectors 3 set 1 clear 5 listed 0 | b=U =4400, a=U, c=#U-CERT
+# the certificate has the triangles of U and the trees of its three sectors
+a=U | build a MAP01 b --cert c --workers 1 | 0 | built MAP01 sectors 3 set 1 clear 5 listed 0 | b=U =4400, a=U, c<=#U-CERT @24:1:03 @92:69:
 | check b MAP01 c | 0 | yes sectors 3 set 1 clear 5 listed 0
 a=U | build a MAP01 b --cert c --workers 3 | 0 | built MAP01 sectors 3 set 1 clear 5 listed 0 | b=U =4400
 | check b MAP01 c | 0 | yes sectors 3 set 1 clear 5 listed 0
@@ -231,9 +231,9 @@ a=U | grid +2 | 2 | refused: usage
 a=U | build a MAP01 b --cert b | 11 | refused: same name | b=
 a=U | build a MAP01 b --cert a | 11 | refused: same name | a=U, b=
 # faults: the file is stored by one append, the certificate by the next
-a=U, appends=1 | build a MAP01 b --cert c --workers 1 | 5 | refused: write fault cert | b=U =4400, c=#U-CERT @80:81:
+a=U, appends=1 | build a MAP01 b --cert c --workers 1 | 5 | refused: write fault cert | b=U =4400, c<=#U-CERT @24:1:03 @80:81:
 a=U, creates=0 | build a MAP01 b --cert c --workers 1 | 5 | refused: write fault wad | b=, c=
-a=U, puts=0 | build a MAP01 b --cert c --workers 1 | 5 | built MAP01 sectors 3 ~ | b=U =4400, c=#U-CERT
+a=U, puts=0 | build a MAP01 b --cert c --workers 1 | 5 | built MAP01 sectors 3 ~ | b=U =4400, c<=#U-CERT @24:1:03 @92:69:
 ";
 
 /// The order `need`, and a build with a budget that is enough.

@@ -3,7 +3,7 @@
 ghost use Rattle.sight_names.specs.Map.{map_of};
 ghost use Rattle.sight_names.specs.Sound.{LinesMeetAtEnds};
 
-use block_evidence::Node;
+use block_evidence::{Node, Nodes};
 use map_audit::audit_lines;
 use pair_budget::{Alone, Outcome, walk_source};
 use sight_job::faces_of;
@@ -39,14 +39,24 @@ fn worked_maps_have_their_segments_and_components(rt: HostRuntime) -> Result<(),
     Ok(())
 }
 
-// How many sectors a source of a map finds within a budget, and how many sequences it has, None where the budget is spent.
-// Nothing where the map isn't sound.
+fn count_open(nodes: &Nodes) -> usize {
+    let mut open = 0usize;
+    for node in nodes.iter() {
+        if matches!(node, Node::Open) {
+            open = open.wrapping_add(1);
+        }
+    }
+    open
+}
+
+// How many sectors a source of a map finds within a budget, and how many open nodes and how many nodes its tree has, None
+// where the budget is spent. Nothing where the map isn't sound.
 fn walk_of(
     alloc: Global,
     plan: &Plan,
     source: u16,
     budget: Budget,
-) -> Result<Option<(usize, Option<usize>)>, Memory>
+) -> Result<Option<(usize, Option<(usize, usize)>)>, Memory>
     requires { LinesMeetAtEnds (map_of plan.now) }
 {
     let Ok(faces) = faces_of(alloc, plan) else {
@@ -57,16 +67,11 @@ fn walk_of(
     }
     let (mesh, labels) = (&faces.mesh, &faces.labels);
     let result = walk_source(alloc, plan, mesh, labels, source, budget, &mut Alone)?;
-    let open = match &result.outcome {
-        Outcome::Complete(tree) => Some(
-            tree.nodes
-                .iter()
-                .filter(|node| matches!(node, Node::Open))
-                .count(),
-        ),
+    let nodes = match &result.outcome {
+        Outcome::Complete(tree) => Some((count_open(&tree.nodes), tree.nodes.len())),
         _ => None,
     };
-    Ok(Some((result.found.as_slice().len(), open)))
+    Ok(Some((result.found.as_slice().len(), nodes)))
 }
 
 // The same of any map.
@@ -75,7 +80,7 @@ fn audited_walk(
     plan: &Plan,
     source: u16,
     budget: Budget,
-) -> Result<Option<(usize, Option<usize>)>, Memory> {
+) -> Result<Option<(usize, Option<(usize, usize)>)>, Memory> {
     let Ok(()) = audit_lines(plan) else {
         return Ok(None);
     };
@@ -88,7 +93,7 @@ fn each_of_three_rooms_in_a_row_has_four_sequences(rt: HostRuntime) -> Result<()
     let line3 = plan_named(alloc, "LINE3")?;
     for source in 0..3u16 {
         let full = audited_walk(alloc, &line3, source, Budget::Full)?;
-        assert_eq!(rt; full, Some((2, Some(4))));
+        assert!(rt; matches!(full, Some((2, Some((4, _))))));
         let enough = audited_walk(alloc, &line3, source, Budget::Of(4))?;
         assert_eq!(rt; enough, full);
         let less = audited_walk(alloc, &line3, source, Budget::Of(3))?;
@@ -97,6 +102,6 @@ fn each_of_three_rooms_in_a_row_has_four_sequences(rt: HostRuntime) -> Result<()
         assert_eq!(rt; one, Some((1, None)));
     }
     let u = audited_walk(alloc, &plan_named(alloc, "U")?, 0, Budget::Full)?;
-    assert_eq!(rt; u, Some((1, Some(4))));
+    assert_eq!(rt; u, Some((1, Some((4, 5)))));
     Ok(())
 }
