@@ -31,13 +31,12 @@ def zeroed(program, folder, path):
 
 
 def refuted(program, source, name, sectors, shipped, cert):
-    """Pairs that the shipped table rejects and ours clears with a ray: how many, and how many rays are accepted."""
-    pairs = accepted = 0
+    """Pairs that the shipped table rejects and ours clears with a ray: each with its ray, and whether `ray` accepts it."""
+    found = []
     for (a, b), ray in rays(cert).items():
         if rejects(shipped, sectors, a, b) or rejects(shipped, sectors, b, a):
-            pairs += 1
-            accepted += Run([program, "ray", source, name, ray]).status == 0
-    return pairs, accepted
+            found.append((a, b, ray, Run([program, "ray", source, name, ray]).status == 0))
+    return found
 
 
 def seen_by_shipped(sectors, shipped, table):
@@ -87,7 +86,7 @@ class Row:
             "%.2f" % (self.build.seconds - self.audit.seconds), "%.2f" % self.build.seconds, "%.2f" % self.check.seconds,
             "%.1f" % (self.cert / 1e6), "%.0f" % self.peak(), "%.1f" % (self.peak() * 1e6 / self.files),
             count("set"), count("clear"), count("listed"), self.treeless,
-            self.check.line.split()[0], "%d of %d" % (self.refuted[1], self.refuted[0]), self.saved,
+            self.check.line.split()[0], "%d of %d" % (sum(r[3] for r in self.refuted), len(self.refuted)), self.saved,
         ]
 
 
@@ -129,6 +128,9 @@ def main():
     seconds = [sum(run.seconds for run in runs) for runs in zip(*[(r.audit, r.build, r.check) for r in sound])]
     if sound:
         print("\nSeconds of processor time in all: audit %.1f, build %.1f, check %.1f; %d maps accepted.\n" % (*seconds, len(sound)))
+    print_table("map | sectors | ray that refutes the shipped bit",
+                [[r.label, "%d %d" % (a, b), "`%s`" % ray] for r in sound for a, b, ray, accepted in r.refuted if accepted])
+    print()
     print_table("refused map | lines | sectors | why", [[r.label, r.lines, r.sectors, r.audit.line] for r in rows if not r.sound])
 
 
