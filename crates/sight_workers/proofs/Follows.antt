@@ -1,5 +1,5 @@
 -- The claims of a worker's seat, its looks and its marks are steps of the machine.
-use Rattle.std.proofs.Common.{◌≡◌, ◌≢◌, ◌⊎◌, inl, inr, ⊎_elim, ℕ, suc, ◌+◌, ◌%◌, ◌^◌, ◌<◌, ◌≤◌, min, max, Bool, true, false, cond, eqb, ltb, not, List, [], ◌∷◌, ◌++◌, map, length, get_or, set, refl, sym, ap, ◌∙◌, subst, arith, get_or-set_other, get_or-set_same}
+use Rattle.std.proofs.Common.{◌≡◌, ◌≢◌, ◌⊎◌, inl, inr, ⊎_elim, ℕ, ◌+◌, ◌%◌, ◌^◌, ◌<◌, ◌≤◌, min, max, Bool, true, false, cond, eqb, ltb, not, List, [], ◌∷◌, ◌++◌, map, get_or, set, refl, sym, ap, ◌∙◌, subst, arith, get_or-set_other, get_or-set_same}
 use Rattle.std.specs.Prelude.{◌↔◌, bit_or}
 use Rattle.std.specs.List.{Contains}
 use Rattle.std.specs.Int.{bit_at}
@@ -7,9 +7,7 @@ use Rattle.std.proofs.lemmas.Bool.Decides.{nat_tests}
 use Rattle.std.proofs.lemmas.List.{append-nil, map-append}
 use Rattle.std.proofs.lemmas.Nat.Bits.{bit_at_or, bit_at-pow_same, bit_at-pow_other, bit_at-lt, bit_at_above, same_from_bits}
 use mathlib.Core.Logic.{dite}
-use mathlib.Core.Option.{some}
 use native.Mathlib.Decide.{ℕ_discrete, dec_le}
-use lib.ListN.{get_elem?}
 use lib.Seq.{set-get_or}
 use Rattle.atomic_table.specs.Table.{State, keeps, stepped}
 use Rattle.board_core.specs.Machine as machine
@@ -20,7 +18,6 @@ use Rattle.board_core.proofs.Every.{change_other, changed_at, length-change, loo
 use Rattle.sight_names.specs.declared.names.Pair.{Pair}
 use Rattle.sight_workers.specs.declared.view.Task.{Task}
 use Rattle.sight_workers.specs.declared.view.View.{View}
-use Rattle.sight_workers.specs.declared.view.Role.{Role}
 use Rattle.sight_workers.specs.declared.view.Role.TheVariants.{Worker, Spent}
 use Rattle.sight_workers.specs.Board.{Holds, IsFindable, IsPair, IsSet, bit_of, has_over, number_of, overs, word_count, word_of}
 use Rattle.sight_workers.specs.Plays.{with_claim, with_look, with_mark}
@@ -118,8 +115,8 @@ module _ (t : Task) (s : State (Unit {0}) View) (c : machine.State) (r : Holds t
                 (contains_append y w.claims (c.next ∷ []) m)),
             (λ m. ⊎_elim (λ (a : Contains w.claims y). contains_left y w.claims (c.next ∷ []) a)
                 (λ (b : (y < t.plan.sectors) × Contains drawn (j, y)).
-                    let f : c.next ≡ y = next_is ∙ ap (λ (q : ℕ × ℕ). q.1) (drawn_is (j, y) b.1) in
-                    contains_right y w.claims (c.next ∷ []) (subst (Contains (c.next ∷ [])) f (contains_here c.next []))) m),
+                let f : c.next ≡ y = next_is ∙ ap (λ (q : ℕ × ℕ). q.1) (drawn_is (j, y) b.1) in
+                contains_right y w.claims (c.next ∷ []) (subst (Contains (c.next ∷ [])) f (contains_here c.next []))) m),
           );
           marks = λ m. m;
           ended = refl;
@@ -268,9 +265,9 @@ module _ (t : Task) (s : State (Unit {0}) View) (c : machine.State) (r : Holds t
         before : (q : ℕ × ℕ) → IsPair t.plan.sectors q → IsSet t.plan.sectors ws q → (p ≡ q) ⊎ IsSet t.plan.sectors s.words q
         before q fit m = dite (ℕ_discrete (word_of t.plan.sectors q + 1) k)
             (λ e. dite (ℕ_discrete (bit_of t.plan.sectors q) (bit_of t.plan.sectors p))
-                (λ f. inl (same_pair t.plan.sectors p q pair fit (omega arith) (sym f)))
-                (λ n. let g = bit_now (bit_of t.plan.sectors q) ∙ max_none _ _ (bit_at-pow_other (bit_of t.plan.sectors p) (bit_of t.plan.sectors q) n) in
-                inr (subst (λ (y : ℕ). bit_at (get_or s.words y 0) (bit_of t.plan.sectors q) ≡ 1) (sym e) (sym g ∙ subst (λ (y : ℕ). bit_at (get_or ws y 0) (bit_of t.plan.sectors q) ≡ 1) e m))))
+            (λ f. inl (same_pair t.plan.sectors p q pair fit (omega arith) (sym f)))
+            (λ n. let g = bit_now (bit_of t.plan.sectors q) ∙ max_none _ _ (bit_at-pow_other (bit_of t.plan.sectors p) (bit_of t.plan.sectors q) n) in
+            inr (subst (λ (y : ℕ). bit_at (get_or s.words y 0) (bit_of t.plan.sectors q) ≡ 1) (sym e) (sym g ∙ subst (λ (y : ℕ). bit_at (get_or ws y 0) (bit_of t.plan.sectors q) ≡ 1) e m))))
             (λ n. inr (ap (λ (y : ℕ). bit_at y (bit_of t.plan.sectors q)) (sym (other_word (word_of t.plan.sectors q + 1) n)) ∙ m))
 
         marked : (q : ℕ × ℕ) → Contains (c.marked ++ pair_of p ∷ []) (pair_of q) ↔ (IsPair t.plan.sectors q × IsSet t.plan.sectors ws q)

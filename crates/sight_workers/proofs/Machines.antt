@@ -1,5 +1,5 @@
 -- A step of a worker's seat shows the machine's next state, whatever the step is.
-use Rattle.std.proofs.Common.{◌≡◌, ◌≢◌, ◌⊎◌, inl, inr, ⊎_elim, ℕ, zero, suc, ◌+◌, ◌<◌, ◌≤◌, min, Bool, true, false, List, [], ◌∷◌, ◌++◌, map, length, get_or, set, refl, sym, ap, ◌∙◌, subst, arith}
+use Rattle.std.proofs.Common.{◌≡◌, ◌≢◌, ◌⊎◌, inl, inr, ⊎_elim, ℕ, zero, suc, ◌<◌, min, List, [], ◌∷◌, ◌++◌, map, length, get_or, set, refl, sym, ap, ◌∙◌, subst, arith}
 use Rattle.std.specs.Prelude.{◌↔◌}
 use Rattle.std.specs.List.{Contains}
 use mathlib.Core.Logic.{dite}
@@ -80,7 +80,7 @@ module _ (t : Task) (s : State (Unit {0}) View) (c : machine.State) (r : Holds t
     claimed_now : (j x : ℕ) → IsClaimedBy (set s.views seat u) j x → IsClaimedBy s.views j x ⊎ Contains more (j, x)
     claimed_now j x m = ⊎_elim
         (λ (q : (m.0 ≡ seat) × (u ≡ m.1)). ⊎_elim (λ (a : Contains v.claims (j, x)). inl (seat, v, at, a)) (λ (b : Contains more (j, x)). inr b)
-            (contains_append (j, x) v.claims more (subst (λ (cs : List (ℕ × ℕ)). Contains cs (j, x)) (ap (λ (y : View). y.claims) (sym q.1) ∙ grown) m.3)))
+        (contains_append (j, x) v.claims more (subst (λ (cs : List (ℕ × ℕ)). Contains cs (j, x)) (ap (λ (y : View). y.claims) (sym q.1) ∙ grown) m.3)))
         (λ (q : (m.0 ≢ seat) × (get_elem? s.views m.0 ≡ some m.1)). inl (m.0, m.1, q.1, m.3))
         (at_set s.views seat m.0 u m.1 m.2)
 
@@ -105,8 +105,8 @@ module _ (t : Task) (s : State (Unit {0}) View) (c : machine.State) (r : Holds t
       );
       marks = λ i y found role. ⊎_elim
           (λ (q : (i ≡ seat) × (u ≡ y)).
-              let e : j ≡ worker = same_worker j worker u.role (ap (λ (z : View). z.role) q.1 ∙ role) (same ∙ is) in
-              mine e (k.marks seat v at (is ∙ ap Worker (sym e))) ∙ ap (λ (z : View). map pair_of z.marks) q.1)
+          let e : j ≡ worker = same_worker j worker u.role (ap (λ (z : View). z.role) q.1 ∙ role) (same ∙ is) in
+          mine e (k.marks seat v at (is ∙ ap Worker (sym e))) ∙ ap (λ (z : View). map pair_of z.marks) q.1)
           (λ (q : (i ≢ seat) × (get_elem? s.views i ≡ some y)). others (λ e. q.0 (plain.different i seat y v worker q.1 at (role ∙ ap Worker e) is)) ∙ k.marks i y q.1 role)
           (at_set s.views seat i u y found);
       unmade = λ y m l. let b = kept_back y m in let d = made_before seat worker v y at is b in others (λ e. omega arith) ∙ k.unmade y b l;
@@ -135,7 +135,7 @@ module _ (t : Task) (s : State (Unit {0}) View) (c : machine.State) (r : Holds t
       workers = λ j w' e. let b = back j w' e in dite (ℕ_discrete j worker)
           (λ q. let f = b.2 q in worker_shown j b.0 w' (h.workers j b.0 b.1) f.claims (λ _. f.marks) (λ n. absurd (n q)) f.ended)
           (λ n. subst (ShowsWorker t (set s.views seat u) j) (sym (b.3 n))
-              (worker_shown j b.0 b.0 (h.workers j b.0 b.1) (λ x. ((λ a. inl a), (λ a. ⊎_elim (λ (d : Contains b.0.claims x). d) (λ (d : (x < t.plan.sectors) × Contains more (j, x)). absurd (n (own (j, x) d.1))) a))) (λ q. absurd (n q)) (λ _. refl) refl));
+          (worker_shown j b.0 b.0 (h.workers j b.0 b.1) (λ x. ((λ a. inl a), (λ a. ⊎_elim (λ (d : Contains b.0.claims x). d) (λ (d : (x < t.plan.sectors) × Contains more (j, x)). absurd (n (own (j, x) d.1))) a))) (λ q. absurd (n q)) (λ _. refl) refl));
       joined = λ y m p. let k = kept_back y m in (
         (λ a. let d = (h.joined y k p).0 a in (d.0, d.1, d.2, on d.0 d.1 (λ e. not_joined seat worker v y at is k (subst (Contains y.joined) e d.2)) d.3, d.4)),
         (λ a.

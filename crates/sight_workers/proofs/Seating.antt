@@ -1,5 +1,5 @@
 -- A seat that is made leaves the machine as it is, a seat that is joined ends its worker, and a new board shows the machine's start.
-use Rattle.std.proofs.Common.{◌≡◌, ◌≢◌, ◌⊎◌, inl, inr, ⊎_elim, ℕ, zero, suc, ◌+◌, ◌<◌, ◌≤◌, Bool, true, false, List, [], ◌∷◌, ◌++◌, map, length, get_or, set, replicate, refl, sym, ap, ◌∙◌, subst, arith}
+use Rattle.std.proofs.Common.{◌≡◌, ◌≢◌, ◌⊎◌, inl, inr, ⊎_elim, ℕ, zero, suc, ◌+◌, ◌<◌, true, false, List, [], ◌∷◌, ◌++◌, map, length, get_or, set, replicate, refl, sym, ap, ◌∙◌, subst, arith}
 use Rattle.std.specs.Prelude.{◌↔◌}
 use Rattle.std.specs.List.{Contains}
 use Rattle.std.specs.Int.{bit_at}
@@ -19,7 +19,7 @@ use Rattle.sight_workers.specs.declared.view.Task.{Task}
 use Rattle.sight_workers.specs.declared.view.View.{View}
 use Rattle.sight_workers.specs.declared.view.Role.{Role}
 use Rattle.sight_workers.specs.declared.view.Role.TheVariants.{Keeper, Worker}
-use Rattle.sight_workers.specs.Board.{Holds, IsSet, bit_of, keeper_of, numbers_of, spent, word_count, word_of}
+use Rattle.sight_workers.specs.Board.{Holds, bit_of, keeper_of, numbers_of, spent, word_count, word_of}
 use Rattle.sight_workers.specs.Plays.{keeper_joined, keeper_with_more, new_worker}
 use Rattle.sight_workers.specs.Steps.{AreFindable, Follows, IsClaimedBy, IsJoinedMark, IsKept, IsSeatAt, Shows, ShowsWorker, pair_of}
 use Rattle.sight_workers.proofs.Lists.{at_length, at_snoc_at, contains_append, contains_here, contains_left, contains_none, contains_one, contains_right, some_at}
@@ -45,15 +45,15 @@ module _ (t : Task) (s : State (Unit {0}) View) (c : machine.State) (r : Holds t
     kept_more : (y : View) → IsKept made_views y → keeper_with_more v ≡ y
     kept_more y k = ⊎_elim (λ (a : (k.0 ≡ seat) × (keeper_with_more v ≡ y)). a.1)
         (λ (b : ((k.0 ≢ seat) × (get_elem? s.views k.0 ≡ some y)) ⊎ (new_worker v ≡ y)). ⊎_elim
-            (λ (q : (k.0 ≢ seat) × (get_elem? s.views k.0 ≡ some y)). absurd (one_seat seat k.0 v y at is q.1 k.2 q.0))
-            (λ (q : new_worker v ≡ y). absurd (clash y v.made k.2 (ap (λ (z : View). z.role) (sym q)))) b)
+        (λ (q : (k.0 ≢ seat) × (get_elem? s.views k.0 ≡ some y)). absurd (one_seat seat k.0 v y at is q.1 k.2 q.0))
+        (λ (q : new_worker v ≡ y). absurd (clash y v.made k.2 (ap (λ (z : View). z.role) (sym q)))) b)
         (after_split k.0 y k.1)
 
     claimed_back : (j x : ℕ) → IsClaimedBy made_views j x → IsClaimedBy s.views j x
     claimed_back j x m = ⊎_elim (λ (a : (m.0 ≡ seat) × (keeper_with_more v ≡ m.1)). (seat, v, at, subst (λ (z : View). Contains z.claims (j, x)) (sym a.1) m.3))
         (λ (b : ((m.0 ≢ seat) × (get_elem? s.views m.0 ≡ some m.1)) ⊎ (new_worker v ≡ m.1)). ⊎_elim
-            (λ (q : (m.0 ≢ seat) × (get_elem? s.views m.0 ≡ some m.1)). (m.0, m.1, q.1, m.3))
-            (λ (q : new_worker v ≡ m.1). absurd (contains_none (j, x) (subst (λ (z : View). Contains z.claims (j, x)) (sym q) m.3))) b)
+        (λ (q : (m.0 ≢ seat) × (get_elem? s.views m.0 ≡ some m.1)). (m.0, m.1, q.1, m.3))
+        (λ (q : new_worker v ≡ m.1). absurd (contains_none (j, x) (subst (λ (z : View). Contains z.claims (j, x)) (sym q) m.3))) b)
         (after_split m.0 m.1 m.2)
 
     claimed_still : (j x : ℕ) → IsClaimedBy s.views j x → IsClaimedBy made_views j x
@@ -67,9 +67,9 @@ module _ (t : Task) (s : State (Unit {0}) View) (c : machine.State) (r : Holds t
       claims = λ x. ((λ a. let b = (k.claims x).0 a in (b.0, claimed_still j x b.1)), (λ a. (k.claims x).1 (a.0, claimed_back j x a.1)));
       marks = λ i y there role. ⊎_elim (λ (a : (i ≡ seat) × (keeper_with_more v ≡ y)). absurd (clash y j (ap (λ (z : View). z.role) (sym a.1) ∙ is) role))
           (λ (b : ((i ≢ seat) × (get_elem? s.views i ≡ some y)) ⊎ (new_worker v ≡ y)). ⊎_elim
-              (λ (q : (i ≢ seat) × (get_elem? s.views i ≡ some y)). k.marks i y q.1 role)
-              (λ (q : new_worker v ≡ y). let e : j ≡ v.made = same_worker j v.made y.role role (ap (λ (z : View). z.role) (sym q)) in
-              k.unmade v (seat, at, is) (omega arith) ∙ ap (λ (z : View). map pair_of z.marks) q) b)
+          (λ (q : (i ≢ seat) × (get_elem? s.views i ≡ some y)). k.marks i y q.1 role)
+          (λ (q : new_worker v ≡ y). let e : j ≡ v.made = same_worker j v.made y.role role (ap (λ (z : View). z.role) (sym q)) in
+          k.unmade v (seat, at, is) (omega arith) ∙ ap (λ (z : View). map pair_of z.marks) q) b)
           (after_split i y there);
       unmade = λ y m l. let e : v.made + 1 ≡ y.made = ap (λ (z : View). z.made) (kept_more y m) in k.unmade v (seat, at, is) (omega arith);
       ended = λ y m. subst (λ (z : View). (w.ended ≡ true) ↔ Contains z.joined j) (kept_more y m) (k.ended v (seat, at, is));
@@ -117,16 +117,16 @@ module _ (t : Task) (s : State (Unit {0}) View) (c : machine.State) (r : Holds t
     kept_both : (y : View) → IsKept views y → both ≡ y
     kept_both y k = ⊎_elim (λ (a : spent ≡ y). absurd (not_spent y a k.2))
         (λ (b : ((k.0 ≡ seat) × (both ≡ y)) ⊎ ((k.0 ≢ other) × (k.0 ≢ seat) × (get_elem? s.views k.0 ≡ some y))). ⊎_elim
-            (λ (q : (k.0 ≡ seat) × (both ≡ y)). q.1)
-            (λ (q : (k.0 ≢ other) × (k.0 ≢ seat) × (get_elem? s.views k.0 ≡ some y)). absurd (one_seat seat k.0 v y at is q.2 k.2 q.1)) b)
+        (λ (q : (k.0 ≡ seat) × (both ≡ y)). q.1)
+        (λ (q : (k.0 ≢ other) × (k.0 ≢ seat) × (get_elem? s.views k.0 ≡ some y)). absurd (one_seat seat k.0 v y at is q.2 k.2 q.1)) b)
         (after_join k.0 y k.1)
 
     claims_back : (j x : ℕ) → IsClaimedBy views j x → IsClaimedBy s.views j x
     claims_back j x m = ⊎_elim (λ (a : spent ≡ m.1). absurd (contains_none (j, x) (subst (λ (z : View). Contains z.claims (j, x)) (sym a) m.3)))
         (λ (b : ((m.0 ≡ seat) × (both ≡ m.1)) ⊎ ((m.0 ≢ other) × (m.0 ≢ seat) × (get_elem? s.views m.0 ≡ some m.1))). ⊎_elim
-            (λ (q : (m.0 ≡ seat) × (both ≡ m.1)). ⊎_elim (λ (d : Contains v.claims (j, x)). (seat, v, at, d)) (λ (d : Contains u.claims (j, x)). (other, u, its.0, d))
-                (contains_append (j, x) v.claims u.claims (subst (λ (z : View). Contains z.claims (j, x)) (sym q.1) m.3)))
-            (λ (q : (m.0 ≢ other) × (m.0 ≢ seat) × (get_elem? s.views m.0 ≡ some m.1)). (m.0, m.1, q.2, m.3)) b)
+        (λ (q : (m.0 ≡ seat) × (both ≡ m.1)). ⊎_elim (λ (d : Contains v.claims (j, x)). (seat, v, at, d)) (λ (d : Contains u.claims (j, x)). (other, u, its.0, d))
+        (contains_append (j, x) v.claims u.claims (subst (λ (z : View). Contains z.claims (j, x)) (sym q.1) m.3)))
+        (λ (q : (m.0 ≢ other) × (m.0 ≢ seat) × (get_elem? s.views m.0 ≡ some m.1)). (m.0, m.1, q.2, m.3)) b)
         (after_join m.0 m.1 m.2)
 
     claims_still : (j x : ℕ) → IsClaimedBy s.views j x → IsClaimedBy views j x
@@ -134,9 +134,9 @@ module _ (t : Task) (s : State (Unit {0}) View) (c : machine.State) (r : Holds t
         (λ e. let f : m.1 ≡ v = some_at s.views seat m.1 v (subst (λ (i : ℕ). get_elem? s.views i ≡ some m.1) e m.2) at in
         (seat, both, here, contains_left (j, x) v.claims u.claims (subst (λ (z : View). Contains z.claims (j, x)) f m.3)))
         (λ n. dite (ℕ_discrete m.0 other)
-            (λ e. let f : m.1 ≡ u = some_at s.views other m.1 u (subst (λ (i : ℕ). get_elem? s.views i ≡ some m.1) e m.2) its.0 in
-            (seat, both, here, contains_right (j, x) v.claims u.claims (subst (λ (z : View). Contains z.claims (j, x)) f m.3)))
-            (λ o. (m.0, m.1, set_else (set s.views seat both) other m.0 spent o ∙ (set_else s.views seat m.0 both n ∙ m.2), m.3)))
+        (λ e. let f : m.1 ≡ u = some_at s.views other m.1 u (subst (λ (i : ℕ). get_elem? s.views i ≡ some m.1) e m.2) its.0 in
+        (seat, both, here, contains_right (j, x) v.claims u.claims (subst (λ (z : View). Contains z.claims (j, x)) f m.3)))
+        (λ o. (m.0, m.1, set_else (set s.views seat both) other m.0 spent o ∙ (set_else s.views seat m.0 both n ∙ m.2), m.3)))
 
     unjoined : Contains v.joined worker → ⊥
     unjoined m = not_joined t s c r h other worker u v its.0 its.1 (seat, at, is) m
@@ -149,8 +149,8 @@ module _ (t : Task) (s : State (Unit {0}) View) (c : machine.State) (r : Holds t
       );
       marks = λ i y there role. ⊎_elim (λ (a : spent ≡ y). absurd (spent_is_none y j a role))
           (λ (b : ((i ≡ seat) × (both ≡ y)) ⊎ ((i ≢ other) × (i ≢ seat) × (get_elem? s.views i ≡ some y))). ⊎_elim
-              (λ (q : (i ≡ seat) × (both ≡ y)). absurd (clash y j (ap (λ (z : View). z.role) (sym q.1) ∙ is) role))
-              (λ (q : (i ≢ other) × (i ≢ seat) × (get_elem? s.views i ≡ some y)). same_marks ∙ k.marks i y q.2 role) b)
+          (λ (q : (i ≡ seat) × (both ≡ y)). absurd (clash y j (ap (λ (z : View). z.role) (sym q.1) ∙ is) role))
+          (λ (q : (i ≢ other) × (i ≢ seat) × (get_elem? s.views i ≡ some y)). same_marks ∙ k.marks i y q.2 role) b)
           (after_join i y there);
       unmade = λ y m l. let e : v.made ≡ y.made = ap (λ (z : View). z.made) (kept_both y m) in same_marks ∙ k.unmade v (seat, at, is) (omega arith);
       ended = λ y m. subst (λ (z : View). (w'.ended ≡ true) ↔ Contains z.joined j) (kept_both y m) ended_now;
@@ -177,12 +177,20 @@ module _ (t : Task) (s : State (Unit {0}) View) (c : machine.State) (r : Holds t
     joined_marks : (p : ℕ × ℕ) → Contains (v.marks ++ u.marks) p ↔ IsJoinedMark (record c { workers = workers }) both p
     joined_marks p = (
       (λ m. ⊎_elim
-          (λ (a : Contains v.marks p). let d = (h.joined v (seat, at, is) p).0 a in (d.0, d.1, contains_left d.0 v.joined (numbers_of u.role) d.2,
-              change_other machine.at_end worker d.0 c.workers d.1 (λ e. unjoined (subst (Contains v.joined) e d.2)) d.3, d.4))
-          (λ (b : Contains u.marks p). let w = active t s c r h other worker u its.0 its.1 in (worker, machine.at_end w.0,
-              contains_right worker v.joined (numbers_of u.role) (subst (λ (q : Role). Contains (numbers_of q) worker) (sym its.1) (contains_here worker [])),
-              change_here machine.at_end worker c.workers w.0 w.1,
-              subst (λ (ps : List Pair). Contains ps (pair_of p)) (sym ((h.workers worker w.0 w.1).marks other u its.0 its.1)) (contains_map u.marks p b)))
+          (λ (a : Contains v.marks p). let d = (h.joined v (seat, at, is) p).0 a in (
+            d.0,
+            d.1,
+            contains_left d.0 v.joined (numbers_of u.role) d.2,
+            change_other machine.at_end worker d.0 c.workers d.1 (λ e. unjoined (subst (Contains v.joined) e d.2)) d.3,
+            d.4,
+          ))
+          (λ (b : Contains u.marks p). let w = active t s c r h other worker u its.0 its.1 in (
+            worker,
+            machine.at_end w.0,
+            contains_right worker v.joined (numbers_of u.role) (subst (λ (q : Role). Contains (numbers_of q) worker) (sym its.1) (contains_here worker [])),
+            change_here machine.at_end worker c.workers w.0 w.1,
+            subst (λ (ps : List Pair). Contains ps (pair_of p)) (sym ((h.workers worker w.0 w.1).marks other u its.0 its.1)) (contains_map u.marks p b),
+          ))
           (contains_append p v.marks u.marks m)),
       back,
     )
@@ -203,15 +211,19 @@ module _ (t : Task) (s : State (Unit {0}) View) (c : machine.State) (r : Holds t
             w = changed_at machine.at_end worker c.workers m.0 m.1 m.3
 
     pub joins : Follows t s c (End worker) Done record { words = s.words; homes = s.homes; views = set (set s.views seat (keeper_joined v u)) other spent }
-    joins = (active t s c r h other worker u its.0 its.1, refl, record {
-      sectors = h.sectors;
-      findable = h.findable;
-      next = h.next;
-      marked = h.marked;
-      many = length-change machine.at_end worker c.workers ∙ h.many;
-      workers = λ j w' e. let b = changed_at machine.at_end worker c.workers j w' e in join_worker j b.0 w' (h.workers j b.0 b.1) b.2 b.3;
-      joined = λ y k p. subst (λ (z : View). Contains z.marks p ↔ IsJoinedMark (record c { workers = workers }) z p) (kept_both y k) (joined_marks p);
-    })
+    joins = (
+      active t s c r h other worker u its.0 its.1,
+      refl,
+      record {
+        sectors = h.sectors;
+        findable = h.findable;
+        next = h.next;
+        marked = h.marked;
+        many = length-change machine.at_end worker c.workers ∙ h.many;
+        workers = λ j w' e. let b = changed_at machine.at_end worker c.workers j w' e in join_worker j b.0 w' (h.workers j b.0 b.1) b.2 b.3;
+        joined = λ y k p. subst (λ (z : View). Contains z.marks p ↔ IsJoinedMark (record c { workers = workers }) z p) (kept_both y k) (joined_marks p);
+      },
+    )
 
 -- a new board shows the machine before its first event
 pub opens : (t : Task) (words : List ℕ) (findable : List Pair)

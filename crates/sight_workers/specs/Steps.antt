@@ -45,12 +45,14 @@ pub record ShowsWorker (t : Task) (views : List View) (worker : ℕ) (w : machin
   -- it has ended once its seat was joined
   pub ended : (v : View) → IsKept views v → (w.ended ≡ true) ↔ Contains v.joined worker
 
--- the words and views show a state of the machine. Which sector's number a joined worker marked no view keeps: of the joined
--- workers the board's own seat shows the marks of all together
+-- the words and views show a state of the machine. Which of the joined workers has marked a pair no view keeps: the board's own
+-- seat has the marks of all of them together
 pub record Shows {S : Type 0} (t : Task) (s : State S View) (c : machine.State) : Type 0 where
   pub sectors : c.sectors ≡ t.plan.sectors
   pub findable : AreFindable t c.findable
+  -- the next source is the claim word's number, or the number of sectors once that is less
   pub next : c.next ≡ min (slice_index s.words 0) t.plan.sectors
+  -- the marked pairs are those whose bits are set
   pub marked : (p : ℕ × ℕ) → Contains c.marked (pair_of p) ↔ (IsPair t.plan.sectors p × IsSet t.plan.sectors s.words p)
   pub many : length c.workers ≡ t.workers
   pub workers : (worker : ℕ) (w : machine.Worker) → get_elem? c.workers worker ≡ some w → ShowsWorker t s.views worker w
@@ -67,7 +69,8 @@ module _ (t : Task) (s : State (Unit {0}) View) (c : machine.State) where
   abbrev pub word : ℕ → ℕ
   word i = slice_index s.words i
 
-  -- what each kind of step on words and views is to the machine. A step is the word found, what it becomes, and the seat's new view
+  -- what each kind of step on words and views is to the machine: the word that the step is on becomes another, and its seat has
+  -- a new view
   pub record StepsFollow : Type 0 where
     -- a claim whose number is a sector's gives it
     pub gives : (seat worker : ℕ) (v : View) → IsSeatAt seat worker v → word 0 < t.plan.sectors
@@ -85,7 +88,7 @@ module _ (t : Task) (s : State (Unit {0}) View) (c : machine.State) where
         → Follows (Mark worker p.0 p.1) Done
         (stepped s (word_of t.plan.sectors p + 1) (bit_or (word (word_of t.plan.sectors p + 1)) (2 ^ bit_of t.plan.sectors p)) seat [] (with_mark v p) keeps)
     -- the machine has its workers from the start: when a seat is made, it does nothing
-    pub splits : (seat : ℕ) (v : View) → get_elem? s.views seat ≡ some v → v.role ≡ Keeper → v.made < t.workers
+    pub splits : (seat : ℕ) (v : View) → get_elem? s.views seat ≡ some v → v.role ≡ Keeper
         → Shows t record { words = s.words; homes = s.homes; views = slice_set s.views seat (keeper_with_more v) ++ new_worker v ∷ [] } c
     -- when a seat is joined, its worker ends
     pub joins : (seat other worker : ℕ) (v u : View) → get_elem? s.views seat ≡ some v → v.role ≡ Keeper → IsSeatAt other worker u
@@ -95,6 +98,6 @@ module _ (t : Task) (s : State (Unit {0}) View) (c : machine.State) where
 abbrev pub StepsFollowTheMachine : Type 0
 StepsFollowTheMachine =
     ((t : Task) (words : List ℕ) (findable : List Pair)
-        → length words ≡ word_count t.plan.sectors + 1 → ((k : ℕ) → k < length words → slice_index words k ≡ 0) → AreFindable t findable
-        → Shows {S = Unit {0}} t (opening words [] (keeper_of t)) (machine.start t.plan.sectors t.workers findable))
+    → length words ≡ word_count t.plan.sectors + 1 → ((k : ℕ) → k < length words → slice_index words k ≡ 0) → AreFindable t findable
+    → Shows {S = Unit {0}} t (opening words [] (keeper_of t)) (machine.start t.plan.sectors t.workers findable))
     × ((t : Task) (s : State (Unit {0}) View) (c : machine.State) → Holds t s → Shows t s c → StepsFollow t s c)
