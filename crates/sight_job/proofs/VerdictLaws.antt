@@ -12,7 +12,7 @@ use Rattle.sight_names.specs.declared.names.Pair.{Pair}
 use Rattle.sight_names.specs.declared.names.PairRay.{PairRay}
 use Rattle.sight_names.specs.Map.{Map, map_of, sector_on}
 use Rattle.sight_names.specs.declared.names.Triangle.{Triangle}
-use Rattle.sight_names.specs.Found.{AreNeighbours, IsChain, AreConnected, IsListedOver, IsListed}
+use Rattle.sight_names.specs.Found.{AreNeighbours, IsChain, AreConnected, IsListedOver, IsListed, Spent}
 use Rattle.sight_names.specs.Mesh.{IsMeshOf, AreLabelsOf, label_of}
 use Rattle.sight_names.specs.Sound.{NamesAgree}
 use Rattle.sight_names.proofs.OneMesh.{one_mesh, one_labels}
@@ -28,14 +28,15 @@ use Rattle.pair_budget.specs.declared.results.Outcome.TheVariants as outcome
 use Rattle.pair_budget.specs.declared.results.SourceResult.{SourceResult}
 use Rattle.pair_budget.specs.declared.results.Verdicts.{Verdicts}
 use Rattle.pair_budget.specs.Decide.{AreFound, DecidesList, DecidesRays, DecidesTable, IsListedPair, IsBlind, IsSettled, IsSpentSource, trees_of}
-use Rattle.pair_budget.specs.Decided.{TellsConnected}
+use Rattle.pair_budget.specs.Decided.{AreExact, TellsConnected}
+use Rattle.pair_budget.specs.Exact.{EndsRightly}
 use Rattle.pair_budget.specs.Gathered.{HasPair}
 use Rattle.pair_budget.specs.Rows.{tree_of}
 use Rattle.pair_budget.specs.Walked.{IsOutcome}
 use Rattle.pair_budget.specs.Whole.{IsOfFound, IsShown}
 use Rattle.pair_budget.proofs.FindLaws.{found_of_ray, same_or_other, pair_is}
 use Rattle.pair_budget.proofs.NamedLaws.{trees_cons}
-use Rattle.sight_job.specs.Built.{AreShown, AreSetApart, AreVerdicts, AreWalks, HasTreeAway}
+use Rattle.sight_job.specs.Built.{AreShown, AreSetApart, AreTreesOfUnspent, AreVerdicts, AreWalks, HasTreeAway}
 use Rattle.sight_job.proofs.BuildLaws.{tree_of_source}
 
 -- a list of rays has one for the pair, or none
@@ -241,6 +242,17 @@ module _ (p : PlanParts) (budget : Budget) (v : Verdicts) (are : AreVerdicts p b
     | inr (inr s) ↦ inr (sees_connected a la s)
   ]
 
+  module _ (ts : List Triangle) (ls : List (Option ℕ)) (exact : AreExact (map_of p) ts ls budget are.results) where
+    truly_spent : (a : ℕ) → IsSpentSource are.results a → Spent (map_of p) ts ls a budget
+    truly_spent a (r, h, e) = (subst (λ (o : Outcome). EndsRightly (map_of p) ts ls a budget r.found o) e (exact a r h).ends).1
+
+    pub trees_of_unspent : AreTreesOfUnspent p ts ls budget v
+    trees_of_unspent a la unspent = elim (tree_or_spent a la) [
+      | inl t ↦ inl (t.0, t.1, t.2)
+      | inr (inl s) ↦ absurd (unspent (truly_spent a s))
+      | inr (inr s) ↦ inr (sees_connected a la s)
+    ]
+
   -- ---- set bits
 
   not_connected : (a b : ℕ) → a < p.sectors → b < p.sectors → slice_get are.components a ≢ slice_get are.components b → ¬ AreConnected (map_of p) a b
@@ -317,3 +329,10 @@ pub apart_in : (p : PlanParts) (budget : Budget) (ts : List Triangle) (ls : List
 apart_in p budget ts ls rs components walks each_sector connected settled shown (Ok v) table listed rays trees =
     set_apart p budget v (record { results = rs; components = components; walks = walks; each_sector = each_sector; connected = connected; settled = settled; table = table; listed = listed; rays = rays; trees = trees }) ts ls shown
 apart_in p budget ts ls rs components walks each_sector connected settled shown (Err e) table listed rays trees = tt
+
+-- the same of the trees
+pub unspent_in : (p : PlanParts) (budget : Budget) (ts : List Triangle) (ls : List (Option ℕ)) (rs : List SourceResult) (components : List ℕ) → AreWalks p budget rs → length components ≡ p.sectors → AreComponents (map_of p) components → IsSettled rs components → AreExact (map_of p) ts ls budget rs → (result : Result Verdicts Memory)
+    → IfOk result (λ (v : Verdicts). DecidesTable p rs components v.table) → IfOk result (λ (v : Verdicts). DecidesList rs components v.listed) → IfOk result (λ (v : Verdicts). DecidesRays p rs v.rays) → IfOk result (λ (v : Verdicts). v.trees ≡ trees_of rs) → IfOk result (AreTreesOfUnspent p ts ls budget)
+unspent_in p budget ts ls rs components walks each_sector connected settled exact (Ok v) table listed rays trees =
+    trees_of_unspent p budget v (record { results = rs; components = components; walks = walks; each_sector = each_sector; connected = connected; settled = settled; table = table; listed = listed; rays = rays; trees = trees }) ts ls exact
+unspent_in p budget ts ls rs components walks each_sector connected settled exact (Err e) table listed rays trees = tt

@@ -16,7 +16,7 @@ use Rattle.cert_format.specs.Parts.{CertParts}
 use Rattle.sight_job.specs.Labelled.{labelled_of}
 use Rattle.sight_names.specs.Plan.{PlanParts}
 use Rattle.sight_names.specs.Enough.{IsBudgetOf}
-use Rattle.sight_names.specs.Found.{AreConnected, IsListed}
+use Rattle.sight_names.specs.Found.{AreConnected, IsListed, Spent}
 use Rattle.tri_sectors.specs.Components.{AreComponents}
 use Rattle.block_evidence.specs.declared.Tree.{Tree}
 use Rattle.block_evidence.specs.WholeTree.{IsWholeTree, KeepsFrom}
@@ -77,6 +77,11 @@ abbrev pub AreSetApart : PlanParts → List Triangle → List (Option ℕ) → V
 AreSetApart p ts ls v = (a b : ℕ) → a < p.sectors → b < p.sectors → a ≢ b → Rejects v.table a b
     → ¬ AreConnected (map_of p) a b ⊎ (HasTreeAway (map_of p) ts ls v.trees a b ⊎ HasTreeAway (map_of p) ts ls v.trees b a)
 
+-- each sector whose budget isn't spent has its tree, but for those that see all that are connected with them
+abbrev pub AreTreesOfUnspent : PlanParts → List Triangle → List (Option ℕ) → Budget → Verdicts → Type 0
+AreTreesOfUnspent p ts ls budget v = (a : ℕ) → a < p.sectors → ¬ Spent (map_of p) ts ls a budget
+    → ((t : Tree) × Contains v.trees t × (t.source ≡ a)) ⊎ ((b : ℕ) → b < p.sectors → a ≢ b → AreConnected (map_of p) a b → ¬ Rejects v.table a b)
+
 -- what the walks of all sectors decide
 pub record AreVerdicts (p : PlanParts) (budget : Budget) (v : Verdicts) : Type 0 where
   pub results : List SourceResult
@@ -135,6 +140,17 @@ SeesConnected p b x = (y : ℕ) → y < p.sectors → x ≢ y → AreConnected (
 pub record IsWhole (p : PlanParts) (b : Built) : Type 0 where
   pub no_list : b.listed ≡ []
   pub trees : (x : ℕ) → x < p.sectors → HasTree b x ⊎ SeesConnected p b x
+
+-- Each sector has its tree, but for those whose budget is spent over the map's mesh and those that see all that are connected
+-- with them.
+pub record HasTreesOfUnspent (p : PlanParts) (ask : Ask) (b : Built) : Type 0 where
+  pub budget : Budget
+  pub is_budget : IsBudgetOf (map_of p) ask budget
+  pub triangles : List Triangle
+  pub labels : List (Option ℕ)
+  pub mesh : IsMeshOf (map_of p) triangles
+  pub labelled : AreLabelsOf (map_of p) triangles labels
+  pub trees : (x : ℕ) → x < p.sectors → ¬ Spent (map_of p) triangles labels x budget → HasTree b x ⊎ SeesConnected p b x
 
 -- the bits and the listed pairs are those that the sequences of the sources over the map's mesh decide, within the budget that
 -- was asked for

@@ -8,7 +8,7 @@ ghost use Rattle.sight_names.specs.Mesh.{IsGoodMesh, IsMeshOf};
 ghost use Rattle.sight_names.specs.Sound.{IsSound, LinesMeetAtEnds};
 ghost use Rattle.cert_format.specs.Accepted.{IsAccepted, triangles_of, labels_of};
 ghost use Rattle.sight_job.specs.Faces.{AreFacesOf};
-ghost use Rattle.sight_job.specs.Built.{sizes_of, IsBuildFault, AreVerdicts, HasRaysOfClear, RaysJoinPairs, ListsClear, IsSymmetric, HasDiagonal, HasTreesOfSet, HasTrianglesOf, HasWholeTrees, AreSetApart, AreWholeTrees, IsWhole, DecidesByMesh, ListsSpent};
+ghost use Rattle.sight_job.specs.Built.{sizes_of, IsBuildFault, AreVerdicts, HasRaysOfClear, RaysJoinPairs, ListsClear, IsSymmetric, HasDiagonal, HasTreesOfSet, HasTrianglesOf, HasWholeTrees, AreSetApart, AreTreesOfUnspent, AreWholeTrees, HasTreesOfUnspent, IsWhole, DecidesByMesh, ListsSpent};
 ghost use Rattle.sight_job.specs.Sight.{AreRaysAlong, HasSightRays, TellsWhoSees};
 ghost use Rattle.pair_budget.specs.Decided.{DecidesOver};
 
@@ -66,6 +66,7 @@ pub fn build_table<R: Threads + Sync, G: Gate + Sync>(
     ensures set { IfOk result (HasTreesOfSet plan.now) }
     ensures trees { IfOk result (λ b. HasWholeTrees (map_of plan.now) b.cert) }
     ensures whole { ask ≡ Full → IfOk result (IsWhole plan.now) }
+    ensures unspent { IfOk result (HasTreesOfUnspent plan.now ask) }
     ensures enough { ask ≡ Enough → IfOk result (λ b. b.listed ≡ []) }
     ensures decided { IfOk result (DecidesByMesh plan.now ask) }
     ensures spent { IfOk result (ListsSpent plan.now ask) }
@@ -139,6 +140,7 @@ fn verdicts_of<R: Threads + Sync, G: Gate + Sync>(
     ensures verdicts { IfOk result (AreVerdicts plan.now budget) }
     ensures trees { IfOk result (λ v. AreWholeTrees plan.now shape.now.mesh.triangles shape.now.labels v.trees) }
     ensures apart { IfOk result (AreSetApart plan.now shape.now.mesh.triangles shape.now.labels) }
+    ensures unspent { IfOk result (AreTreesOfUnspent plan.now shape.now.mesh.triangles shape.now.labels budget) }
     ensures over { IfOk result (λ v. DecidesOver (map_of plan.now) shape.now.mesh.triangles shape.now.labels budget plan.now.sectors v.table v.listed) }
     ensures along { IfOk result (λ v. AreRaysAlong plan.now shape.now.mesh.triangles shape.now.labels v.rays) }
 {

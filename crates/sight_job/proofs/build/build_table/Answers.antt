@@ -1,4 +1,4 @@
-use Rattle.std.proofs.Common.{◌<◌, ◌∙◌, ℕ, List, Some, length, map, ap, sym, subst}
+use Rattle.std.proofs.Common.{◌<◌, ◌∙◌, ℕ, List, Contains, Some, inl, inr, length, map, ap, sym, subst}
 use Rattle.std.specs.List.{AllByRecursion}
 use Rattle.sight_names.specs.Map.{map_of}
 use Rattle.sight_names.specs.Mesh.{AreTriangles, IsGoodMesh}
@@ -6,6 +6,7 @@ use Rattle.sight_names.specs.Plan.{PlanParts}
 use Rattle.cert_format.specs.declared.cert.Labelled.{Labelled}
 use Rattle.cert_format.specs.Parts.{CertParts}
 use Rattle.cert_format.specs.Grammar.{IsInOrder}
+use Rattle.block_evidence.specs.declared.Tree.{Tree}
 use Rattle.sight_job.proofs.Accepting.{is_accepted, trees_of_set, whole_trees_of}
 use Rattle.sight_job.proofs.BuildLaws.{cert_in_order, cert_is}
 use Rattle.sight_job.proofs.BudgetLaws.{full_is, enough_lists_nothing}
@@ -69,6 +70,20 @@ returns-clause-decided g c = record {
   mesh = c.in_ok-shape.ensures.faces.mesh;
   labelled = c.in_ok-shape.ensures.faces.labels;
   decides = c.in_ok-verdicts.ensures.over;
+}
+
+pub returns-clause-unspent : goal.returns-clause-unspent
+returns-clause-unspent g c = record {
+  budget = c.budget_for-budget.result;
+  is_budget = c.budget_for-budget.ensures;
+  triangles = c.in_ok-shape.shape.mesh.triangles;
+  labels = c.in_ok-shape.shape.labels;
+  mesh = c.in_ok-shape.ensures.faces.mesh;
+  labelled = c.in_ok-shape.ensures.faces.labels;
+  trees = λ x lx unspent. elim (c.in_ok-verdicts.ensures.unspent x lx unspent) [
+    | inl h ↦ inl (h.0, subst (λ (ts : List Tree). Contains ts h.0) (sym (ap (λ (d : CertParts). d.trees) c.cert_of-cert.ensures ∙ c.into_vec-2.ensures)) h.1, h.2)
+    | inr h ↦ inr h
+  ];
 }
 
 pub returns-clause-spent : goal.returns-clause-spent

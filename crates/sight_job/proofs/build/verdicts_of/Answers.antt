@@ -5,7 +5,7 @@ use Rattle.tri_sectors.specs.Components.{AreComponents}
 use Rattle.sight_workers.specs.declared.view.Task.{Task}
 use Rattle.pair_budget.specs.Decided.{TellsConnected}
 use Rattle.sight_job.proofs.BuildLaws.{over_in, whole_in, walks_are, walks_exact, walks_shown, verdicts_in}
-use Rattle.sight_job.proofs.VerdictLaws.{apart_in, tells_connected}
+use Rattle.sight_job.proofs.VerdictLaws.{apart_in, tells_connected, unspent_in}
 use Rattle.sight_job.proofs.Seeing.{along_in, walks_through}
 use Rattle.sight_job.proofs.build.verdicts_of.Goals as goal
 
@@ -38,6 +38,18 @@ returns-clause-apart g c =
     (subst (λ (ks : List ℕ). AreComponents (map_of c.args.plan.now) ks) e c.in_ok-classes.ensures.components)
     (subst (λ (ks : List ℕ). IsSettled rs ks) (c.as_slice.ensures.value ∙ e) c.in_ok-gathered.ensures.settled)
     (walks_shown t rs c.in_ok-gathered.ensures.walked)
+    c.decide.result (rw c.into_vec.ensures at c.decide.ensures.table) (rw c.into_vec.ensures at c.decide.ensures.listed) (rw c.into_vec.ensures at c.decide.ensures.rays) (rw c.into_vec.ensures at c.decide.ensures.trees)
+
+pub returns-clause-unspent : goal.returns-clause-unspent
+returns-clause-unspent g c =
+    let t : Task = record { plan = c.args.plan.now; mesh = c.args.shape.now.mesh; labels = c.args.shape.now.labels; budget = c.args.budget; workers = c.args.workers } in
+    let rs = c.in_ok-gathered.gathered.results in
+    let e = sym c.deref.ensures.value in
+    unspent_in c.args.plan.now c.args.budget c.args.shape.now.mesh.triangles c.args.shape.now.labels rs c.deref.result.now (walks_are t rs c.in_ok-gathered.ensures.results c.in_ok-gathered.ensures.walked)
+    (subst (λ (ks : List ℕ). length ks ≡ c.args.plan.now.sectors) e c.in_ok-classes.ensures.len)
+    (subst (λ (ks : List ℕ). AreComponents (map_of c.args.plan.now) ks) e c.in_ok-classes.ensures.components)
+    (subst (λ (ks : List ℕ). IsSettled rs ks) (c.as_slice.ensures.value ∙ e) c.in_ok-gathered.ensures.settled)
+    (walks_exact t rs c.in_ok-gathered.ensures.walked)
     c.decide.result (rw c.into_vec.ensures at c.decide.ensures.table) (rw c.into_vec.ensures at c.decide.ensures.listed) (rw c.into_vec.ensures at c.decide.ensures.rays) (rw c.into_vec.ensures at c.decide.ensures.trees)
 
 pub returns-clause-over : goal.returns-clause-over
