@@ -17,11 +17,10 @@ use Rattle.tree_judge.specs.declared.web.Entry.{Entry}
 use Rattle.tree_judge.specs.declared.roots.Root.{Root}
 use Rattle.tree_judge.specs.Marks.{IsMarked, Marks, HasNoMark}
 use Rattle.tree_judge.specs.Trees.{IsFirstTreeNotWhole, AreTreesWhole, TellsReach}
-use Rattle.tree_judge.specs.Web.{AreWalls, AreEntries}
+use Rattle.tree_judge.specs.Web.{AreWalls, AreEntries, IsGoodWeb}
 use Rattle.tree_judge.specs.Path.{Pending, root_pending, longest_of}
 use Rattle.tree_judge.specs.Roots.{first_at, root_entries, AreRoots}
 use Rattle.tree_judge.specs.Whole.{AreAnswered, IsFirstWrong, Notes, IsFirstWrongFrom, IsFirstWrongTree, IsWholeFrom, IsWholeOver, HasTreeAway, HasTreeInto, AreWholeOver, HasNoBit, HaveSourcesBelow}
-use Rattle.tree_judge.proofs.Meshed.{IsMeshed}
 use Rattle.tree_judge.proofs.WholeTrees.{whole_tree, whole_answers, none_reached, none_entered}
 use Rattle.tree_judge.proofs.OneAnswer.{same_sectors}
 use Rattle.tree_judge.proofs.Refuting.{not_whole}
@@ -104,20 +103,6 @@ module _ (m : Map) (ts : List Triangle) (walls : List Bool) (xs : List Entry) (t
       there : (t : Tree) (c : Contains trees t) → slice_get trees c.0 ≡ Some t
       there t c = slice_get-get_or trees c.0 t c.1 ∙ ap Some c.2
 
--- ---- over the mesh
-
-module _ (p : PlanParts) (c : CertParts) (walls : List Bool) (xs : List Entry) (w : IsMeshed p c.triangles (triangles_of c) (labels_of c) walls xs) where
-  pub tree_over_mesh : (t : Tree) (sectors : List ℕ) → IsWholeOver (map_of p) (triangles_of c) walls xs t sectors → (opened : List ℕ) × IsWholeTree (map_of p) (triangles_of c) (labels_of c) t opened
-  tree_over_mesh t sectors whole = let f = whole_tree p c.triangles (triangles_of c) (labels_of c) walls xs w t.source t.nodes sectors whole in (f.0, f.1)
-
-  pub tree_away : (a b : ℕ) → HasTreeAway (map_of p) (triangles_of c) walls xs c.trees a b → HasTreeWithout (map_of p) c a b
-  tree_away a b (t, sectors, there, e, whole, none) = let f = whole_tree p c.triangles (triangles_of c) (labels_of c) walls xs w t.source t.nodes sectors whole in
-      (t, there, e, (f.0, f.1, none_reached (labels_of c) b f.0 sectors f.2 none))
-
-  pub tree_without : (a b : ℕ) → HasTreeWithout (map_of p) c a b → HasTreeAway (map_of p) (triangles_of c) walls xs c.trees a b
-  tree_without a b (t, there, e, (opened, whole, none)) = let f = whole_answers p c.triangles (triangles_of c) (labels_of c) walls xs w t.source t.nodes opened whole in
-      (t, f.0, there, e, f.1, none_entered (labels_of c) b opened f.0 f.2 none)
-
 -- a source has one tree at most
 one_tree : (trees : List Tree) (t u : Tree) → Ascends (λ (t u : Tree). t.source < u.source) trees → Contains trees t → Contains trees u → t.source ≡ u.source → t ≡ u
 one_tree trees t u up (i, li, ei) (j, lj, ej) e = elim (cases_lt i j) as (λ _. t ≡ u) [
@@ -169,21 +154,32 @@ module _ (p : PlanParts) (c : CertParts) (ts : List Triangle) (walls : List Bool
     pub are_entries : AreEntries ts walls c.triangles xs
     pub list : trees ≡ c.trees
 
-  meshed : AreTreesJudged → IsMeshed p c.triangles (triangles_of c) (labels_of c) walls xs
-  meshed j = record {
+  abbrev web : AreTreesJudged → IsGoodWeb p (triangles_of c) walls xs
+  web j = record {
+    labelled = c.triangles;
     plan = j.plan;
     triangles = refl;
-    labels = refl;
     good = subst (λ (us : List Triangle). IsGoodMesh (map_of p) us (labels_of c)) j.triangles j.good;
     are_walls = subst (λ (us : List Triangle). AreWalls (map_of p) us walls) j.triangles j.are_walls;
     are_entries = subst (λ (us : List Triangle). AreEntries us walls c.triangles xs) j.triangles j.are_entries;
   }
 
+  tree_over_mesh : AreTreesJudged → (t : Tree) (sectors : List ℕ) → IsWholeOver (map_of p) (triangles_of c) walls xs t sectors → (opened : List ℕ) × IsWholeTree (map_of p) (triangles_of c) (labels_of c) t opened
+  tree_over_mesh j t sectors whole = let f = whole_tree p (triangles_of c) walls xs (web j) t.source t.nodes sectors whole in (f.0, f.1)
+
+  tree_away : AreTreesJudged → (a b : ℕ) → HasTreeAway (map_of p) (triangles_of c) walls xs c.trees a b → HasTreeWithout (map_of p) c a b
+  tree_away j a b (t, sectors, there, e, whole, none) = let f = whole_tree p (triangles_of c) walls xs (web j) t.source t.nodes sectors whole in
+      (t, there, e, (f.0, f.1, none_reached (labels_of c) b f.0 sectors f.2 none))
+
+  tree_without : AreTreesJudged → (a b : ℕ) → HasTreeWithout (map_of p) c a b → HasTreeAway (map_of p) (triangles_of c) walls xs c.trees a b
+  tree_without j a b (t, there, e, (opened, whole, none)) = let f = whole_answers p (triangles_of c) walls xs (web j) t.source t.nodes opened whole in
+      (t, f.0, there, e, f.1, none_entered (labels_of c) b opened f.0 f.2 none)
+
   over_mesh : AreTreesJudged → AreWholeOver (map_of p) ts walls xs trees old new reached reached_new → AreWholeOver (map_of p) (triangles_of c) walls xs c.trees old new reached reached_new
   over_mesh j over = subst (λ (us : List Triangle). AreWholeOver (map_of p) us walls xs c.trees old new reached reached_new) j.triangles (subst (λ (us : List Tree). AreWholeOver (map_of p) ts walls xs us old new reached reached_new) j.list over)
 
   pub trees_whole : AreTreesJudged → AreWholeOver (map_of p) ts walls xs trees old new reached reached_new → AreTreesWhole (map_of p) c
-  trees_whole j over t there = let f = (over_mesh j over).each t there in tree_over_mesh p c walls xs (meshed j) t f.0 f.1
+  trees_whole j over t there = let f = (over_mesh j over).each t there in tree_over_mesh j t f.0 f.1
 
   abbrev IsKept : List Bool → ℕ → ℕ → Type 0
   IsKept now a b = IsMarked now a × ¬ Rejects reached_new a b
@@ -191,14 +187,14 @@ module _ (p : PlanParts) (c : CertParts) (ts : List Triangle) (walls : List Bool
   -- flags and bits show exactly which pairs a tree keeps apart
   pub keeps_away : (none now : List Bool) → AreTreesJudged → AreWholeOver (map_of p) ts walls xs trees old new reached reached_new → IsInOrder c → HasNoMark p.sectors none → HasNoBit reached → old ≡ none → now ≡ new → reached.n ≡ p.sectors
       → TellsReach (map_of p) c now reached_new
-  keeps_away none now j over order unmarked clear e f g a b la lb = (λ kept. shown (whole.away a b (omega (arith, la, g)) (omega (arith, lb, g)) (subst (λ (bs : List Bool). IsMarked bs a) f kept.0) kept.1), λ has. kept (tree_without p c walls xs (meshed j) a b has))
+  keeps_away none now j over order unmarked clear e f g a b la lb = (λ kept. shown (whole.away a b (omega (arith, la, g)) (omega (arith, lb, g)) (subst (λ (bs : List Bool). IsMarked bs a) f kept.0) kept.1), λ has. kept (tree_without j a b has))
     where
       whole : AreWholeOver (map_of p) (triangles_of c) walls xs c.trees old new reached reached_new
       whole = over_mesh j over
 
       shown : IsMarked old a ⊎ HasTreeAway (map_of p) (triangles_of c) walls xs c.trees a b → HasTreeWithout (map_of p) c a b
       shown (inl m) = absurd (unmarked.none a la (subst (λ (bs : List Bool). IsMarked bs a) e m))
-      shown (inr t) = tree_away p c walls xs (meshed j) a b t
+      shown (inr t) = tree_away j a b t
 
       many : length old ≡ p.sectors
       many = ap length e ∙ unmarked.len
@@ -214,7 +210,7 @@ module _ (p : PlanParts) (c : CertParts) (ts : List Triangle) (walls : List Bool
       )
 
   not_whole_over : AreTreesJudged → (t : Tree) (k : ℕ) → IsFirstWrong (map_of p) xs t.source (map root_pending (root_entries (triangles_of c) walls xs (map_of p) t.source)) t.nodes k → (opened : List ℕ) → ¬ IsWholeTree (map_of p) (triangles_of c) (labels_of c) t opened
-  not_whole_over j t k wrong opened whole = let f = whole_answers p c.triangles (triangles_of c) (labels_of c) walls xs (meshed j) t.source t.nodes opened whole in
+  not_whole_over j t k wrong opened whole = let f = whole_answers p (triangles_of c) walls xs (web j) t.source t.nodes opened whole in
       not_whole (map_of p) xs t.source (map root_pending (root_entries (triangles_of c) walls xs (map_of p) t.source)) t.nodes k f.0 wrong f.1
 
   first_not_whole : AreTreesJudged → (s k : ℕ) → IsFirstWrongTree (map_of p) (triangles_of c) walls xs c.trees s k → IsFirstTreeNotWhole (map_of p) c s k
@@ -224,11 +220,11 @@ module _ (p : PlanParts) (c : CertParts) (ts : List Triangle) (walls : List Bool
     is = f.is;
     of = f.of;
     not_whole = not_whole_over j f.tree k f.wrong;
-    before = λ i t l e. let g = f.before i t l e in tree_over_mesh p c walls xs (meshed j) t g.0 g.1;
+    before = λ i t l e. let g = f.before i t l e in tree_over_mesh j t g.0 g.1;
     walls = walls;
     entries = xs;
-    are_walls = (meshed j).are_walls;
-    are_entries = (meshed j).are_entries;
+    are_walls = (web j).are_walls;
+    are_entries = (web j).are_entries;
     node = f.wrong;
   }
 

@@ -5,10 +5,10 @@ use Rattle.std.specs.Prelude.{option_and_then, option_map}
 use Rattle.std.proofs.lemmas.Option.{slice_get-map}
 use Rattle.std.proofs.lemmas.List.{length-map}
 use Rattle.sight_names.specs.declared.names.Triangle.{Triangle}
-use Rattle.sight_names.specs.Plan.{PlanParts, IsPlan}
+use Rattle.sight_names.specs.Plan.{PlanParts}
 use Rattle.sight_names.specs.Points.{Edge, reverse_of, points_of}
 use Rattle.sight_names.specs.Map.{MapLine, map_of, line_at, sector_on, IsMapLine}
-use Rattle.sight_names.specs.Mesh.{triangle_at, label_of, side_edge, HasEdge, IsTriangle, AreTriangles, IsLineEdge, IsGoodMesh}
+use Rattle.sight_names.specs.Mesh.{triangle_at, label_of, side_edge, HasEdge, IsTriangle, AreTriangles, IsLineEdge}
 use Rattle.sight_names.specs.Sequence.{Portal, Left, Right, entry_edge, way_out, third_point, IsSolidLine}
 use Rattle.sight_names.proofs.PlanMap.{plan_is_map}
 use Rattle.mesh_base.proofs.PlanFacts.{plan_facts}
@@ -16,22 +16,13 @@ use Rattle.mesh_shape.proofs.RuleLemmas.{found_here, first_edge, second_edge, th
 use Rattle.block_evidence.specs.WholeTree.{HasNoNode}
 use Rattle.cert_format.specs.declared.cert.Labelled.{Labelled}
 use Rattle.tree_judge.specs.declared.web.Entry.{Entry}
-use Rattle.tree_judge.specs.Web.{edge, corner_of, IsPlace, IsEntry, IsEntryOf, AreEntries, AreWalls, without_wall, way_at, way_outside}
+use Rattle.tree_judge.specs.Web.{edge, corner_of, IsPlace, IsEntry, IsEntryOf, IsGoodWeb, without_wall, way_at, way_outside}
 use Rattle.tree_judge.specs.Roots.{way_out_of}
 use Rattle.tree_judge.proofs.Walls.{IsCorner, corner_at, place_within}
 use Rattle.tree_judge.proofs.Chains.{at_place, way_is}
 
 same_some : {X : Type 0} (x y : X) → ◌≡◌ {A = Option X} (Some x) (Some y) → x ≡ y
 same_some x y e = cc
-
--- the triangles of a certificate, with their walls and entries, are a good mesh of the plan's map
-pub record IsMeshed (p : PlanParts) (labelled : List Labelled) (ts : List Triangle) (ls : List (Option ℕ)) (walls : List Bool) (xs : List Entry) : Type 0 where
-  pub plan : IsPlan p
-  pub triangles : ts ≡ map (λ (l : Labelled). l.triangle) labelled
-  pub labels : ls ≡ map (λ (l : Labelled). Some l.sector) labelled
-  pub good : IsGoodMesh (map_of p) ts ls
-  pub are_walls : AreWalls (map_of p) ts walls
-  pub are_entries : AreEntries ts walls labelled xs
 
 -- whoever goes through the portal enters triangle k by the entry at place i
 pub record Enters (p : PlanParts) (ts : List Triangle) (ls : List (Option ℕ)) (walls : List Bool) (xs : List Entry) (q : Portal) (i : ℕ) : Type 0 where
@@ -78,7 +69,14 @@ second_third t n = passed (t.p == t.q) (t.q == t.r) t.r (if t.q == t.q && t.r ==
 third_third : (t : Triangle) → (t.p ≡ t.r → ⊥) → (t.q ≡ t.r → ⊥) → third_point (edge t.r t.p) t ≡ t.q
 third_third t n k = passed (t.p == t.r) (t.q == t.p) t.r (if t.q == t.r && t.r == t.p then t.p else t.q) (number_other t.p t.r n) ∙ passed (t.q == t.r) (t.r == t.p) t.p t.q (number_other t.q t.r k)
 
-module _ (p : PlanParts) (labelled : List Labelled) (ts : List Triangle) (ls : List (Option ℕ)) (walls : List Bool) (xs : List Entry) (w : IsMeshed p labelled ts ls walls xs) where
+module _ (p : PlanParts) (ts : List Triangle) (walls : List Bool) (xs : List Entry) (w : IsGoodWeb p ts walls xs) where
+  abbrev labelled : List Labelled
+  labelled = w.labelled
+
+  -- the sectors of the triangles
+  abbrev ls : List (Option ℕ)
+  ls = map (λ (l : Labelled). let o : Option ℕ = Some l.sector in o) w.labelled
+
   all_triangles : AreTriangles (length (points_of (map_of p))) ts
   all_triangles = w.good.plain.triangles
 
@@ -96,7 +94,7 @@ module _ (p : PlanParts) (labelled : List Labelled) (ts : List Triangle) (ls : L
       at (Some u) h = (u, h, same_some u.triangle t (sym (ap (option_map (λ (l : Labelled). l.triangle)) h) ∙ sym (slice_get-map (λ (l : Labelled). l.triangle) labelled k) ∙ moved))
 
   label_at : (k : ℕ) (u : Labelled) → slice_get labelled k ≡ Some u → label_of ls k ≡ Some u.sector
-  label_at k u e = ap (λ (ms : List (Option ℕ)). label_of ms k) w.labels ∙ ap (option_and_then (λ (o : Option ℕ). o)) (slice_get-map (λ (l : Labelled). let o : Option ℕ = Some l.sector in o) labelled k ∙ ap (option_map (λ (l : Labelled). let o : Option ℕ = Some l.sector in o)) e)
+  label_at k u e = ap (option_and_then (λ (o : Option ℕ). o)) (slice_get-map (λ (l : Labelled). let o : Option ℕ = Some l.sector in o) labelled k ∙ ap (option_map (λ (l : Labelled). let o : Option ℕ = Some l.sector in o)) e)
 
   place_at : (e : Edge) (k : ℕ) (t : Triangle) → triangle_at ts e ≡ Some k → slice_get ts k ≡ Some t → IsPlace ts e (k * 3 + corner_of e t)
   place_at e k t f g = record { triangle = k; corners = t; found = f; is = g; place = refl }

@@ -19,11 +19,11 @@ use Rattle.block_evidence.specs.Stuck.{Blocks}
 use Rattle.block_evidence.specs.WholeTree.{HasNode, HasNoNode, Answers as AnswersFor, no_node, blocked, open_node, AnswersRoots}
 use Rattle.cert_format.specs.declared.cert.Labelled.{Labelled}
 use Rattle.tree_judge.specs.declared.web.Entry.{Entry}
-use Rattle.tree_judge.specs.Web.{way_outside}
+use Rattle.tree_judge.specs.Web.{IsGoodWeb, way_outside}
 use Rattle.tree_judge.specs.Roots.{way_out_of, root_entry}
 use Rattle.tree_judge.specs.Path.{Pending, pending_way, root_pending}
 use Rattle.tree_judge.specs.Whole.{ends_through, ways_through, Answers, AreAnswered}
-use Rattle.tree_judge.proofs.Meshed.{IsMeshed, Enters, IsInner, IsAsked, asked, not_asked, no_node_unasked, node_asked, left_inner, right_inner, passable}
+use Rattle.tree_judge.proofs.Meshed.{Enters, IsInner, IsAsked, asked, not_asked, no_node_unasked, node_asked, left_inner, right_inner, passable}
 use Rattle.tree_judge.proofs.Chains.{root_test}
 
 last_is : (q : Portal) (ps : List Portal) (o : Option Portal) → last_or o (ps ++ q ∷ []) ≡ Some q
@@ -42,7 +42,11 @@ rest_same p q ps qs e = cc
 one_same : (x y : Entry) → ◌≡◌ {A = Option Entry} (Some x) (Some y) → x ≡ y
 one_same x y e = cc
 
-module _ (p : PlanParts) (labelled : List Labelled) (ts : List Triangle) (ls : List (Option ℕ)) (walls : List Bool) (xs : List Entry) (w : IsMeshed p labelled ts ls walls xs) (a : ℕ) where
+module _ (p : PlanParts) (ts : List Triangle) (walls : List Bool) (xs : List Entry) (w : IsGoodWeb p ts walls xs) (a : ℕ) where
+  -- the sectors of the triangles
+  abbrev ls : List (Option ℕ)
+  ls = map (λ (l : Labelled). let o : Option ℕ = Some l.sector in o) w.labelled
+
   abbrev the_way : Portal → Option ℕ
   the_way q = way_out_of ts walls xs a (entry_edge q)
 
@@ -72,7 +76,7 @@ module _ (p : PlanParts) (labelled : List Labelled) (ts : List Triangle) (ls : L
   through : (front : List Portal) (q : Portal) (i : ℕ) (x : Entry) → x.left ≡ q.left → x.right ≡ q.right → ends_through (map_of p) (record { path = end_points (map_of p) front; entry = i }) x ≡ end_points (map_of p) (front ++ q ∷ [])
   through front q i x e f = (λ j. end_points (map_of p) front ++ record { left = place (map_of p) (e j); right = place (map_of p) (f j) } ∷ []) ∙ sym (sequence_ends front q)
 
-  has_node : (front : List Portal) (q : Portal) (i : ℕ) (n : IsAsked p labelled ts ls walls xs w a q i) → HasNode (map_of p) ts ls a (front ++ q ∷ []) q n.enters.k
+  has_node : (front : List Portal) (q : Portal) (i : ℕ) (n : IsAsked p ts walls xs w a q i) → HasNode (map_of p) ts ls a (front ++ q ∷ []) q n.enters.k
   has_node front q i n = record { last = last_is q front None; no_wall = n.no_wall; entered = n.enters.found; outside = λ e. n.outside (same n.enters.x.sector a (sym n.enters.label ∙ e)) }
     where
       same : (b c : ℕ) → ◌≡◌ {A = Option ℕ} (Some b) (Some c) → b ≡ c
@@ -93,9 +97,9 @@ module _ (p : PlanParts) (labelled : List Labelled) (ts : List Triangle) (ls : L
 
   -- for all that begins with what is asked of a portal, with at most so many nodes
   abbrev SplitsAll : ℕ → Type 0
-  SplitsAll n = (front : List Portal) (q : Portal) (rest : List Pending) (ns : List Node) (sectors : List ℕ) → IsInner p labelled ts ls walls xs w q → length ns ≤ n → AreAnswered (map_of p) xs a (asks front q ++ rest) ns [] sectors → Splits front q rest ns sectors
+  SplitsAll n = (front : List Portal) (q : Portal) (rest : List Pending) (ns : List Node) (sectors : List ℕ) → IsInner p ts walls xs w q → length ns ≤ n → AreAnswered (map_of p) xs a (asks front q ++ rest) ns [] sectors → Splits front q rest ns sectors
 
-  module _ (front : List Portal) (q : Portal) (i : ℕ) (rest : List Pending) (n : IsAsked p labelled ts ls walls xs w a q i) where
+  module _ (front : List Portal) (q : Portal) (i : ℕ) (rest : List Pending) (n : IsAsked p ts walls xs w a q i) where
     abbrev this : Pending
     this = record { path = end_points (map_of p) front; entry = i }
 
@@ -150,13 +154,13 @@ module _ (p : PlanParts) (labelled : List Labelled) (ts : List Triangle) (ls : L
         asked_next = g ∙ (λ j. ways_through (map_of p) xs a (same j) (found j) ++ (sym (rest_same this r rest others first)) j) ∙ ap (λ (ps : List Pending). ps ++ rest) (ways_are front q i through_it) ∙ append_assoc (asks onward ql) (asks onward qr) rest
 
         left : Splits onward ql (asks onward qr ++ rest) ns more
-        left = all onward ql (asks onward qr ++ rest) ns more (left_inner p labelled ts ls walls xs w q i through_it) few (subst (λ (ps : List Pending). AreAnswered (map_of p) xs a ps ns [] more) asked_next behind)
+        left = all onward ql (asks onward qr ++ rest) ns more (left_inner p ts walls xs w q i through_it) few (subst (λ (ps : List Pending). AreAnswered (map_of p) xs a ps ns [] more) asked_next behind)
 
         fewer : length left.back ≤ c
         fewer = let e : length ns ≡ length left.here + length left.back = ap length left.nodes ∙ length-append left.here left.back in omega (arith, e, few)
 
         right : Splits onward qr rest left.back left.others
-        right = all onward qr rest left.back left.others (right_inner p labelled ts ls walls xs w q i through_it) fewer left.behind
+        right = all onward qr rest left.back left.others (right_inner p ts walls xs w q i through_it) fewer left.behind
 
         join : (l : Splits onward ql (asks onward qr ++ rest) ns more) → Splits onward qr rest l.back l.others → Splits front q rest (Open ∷ ns) sectors
         join l k = record {
@@ -176,14 +180,14 @@ module _ (p : PlanParts) (labelled : List Labelled) (ts : List Triangle) (ls : L
   none_left front i rest [] sectors few answered = nothing_left (record { path = end_points (map_of p) front; entry = i }) rest answered.0
   none_left front i rest (n ∷ ns) sectors few answered = omega (arith, few)
 
-  at_node : (c : ℕ) → SplitsAll c → (front : List Portal) (q : Portal) (i : ℕ) (rest : List Pending) → IsAsked p labelled ts ls walls xs w a q i → (ns : List Node) (sectors : List ℕ) → length ns ≤ suc c
+  at_node : (c : ℕ) → SplitsAll c → (front : List Portal) (q : Portal) (i : ℕ) (rest : List Pending) → IsAsked p ts walls xs w a q i → (ns : List Node) (sectors : List ℕ) → length ns ≤ suc c
       → AreAnswered (map_of p) xs a (record { path = end_points (map_of p) front; entry = i } ∷ rest) ns [] sectors → Splits front q rest ns sectors
   at_node c all front q i rest n [] sectors few answered = absurd (nothing_left (record { path = end_points (map_of p) front; entry = i }) rest answered.0)
   at_node c all front q i rest n (Open ∷ ns) sectors few answered = opens front q i rest n c all ns sectors (omega (arith, few)) answered
   at_node c all front q i rest n (Blocked e ∷ ns) sectors few answered = closed front q i rest n e ns sectors answered
 
-  at_portal : (front : List Portal) (q : Portal) (rest : List Pending) (ns : List Node) (sectors : List ℕ) → IsInner p labelled ts ls walls xs w q
-      → ((i : ℕ) → IsAsked p labelled ts ls walls xs w a q i → AreAnswered (map_of p) xs a (record { path = end_points (map_of p) front; entry = i } ∷ rest) ns [] sectors → Splits front q rest ns sectors)
+  at_portal : (front : List Portal) (q : Portal) (rest : List Pending) (ns : List Node) (sectors : List ℕ) → IsInner p ts walls xs w q
+      → ((i : ℕ) → IsAsked p ts walls xs w a q i → AreAnswered (map_of p) xs a (record { path = end_points (map_of p) front; entry = i } ∷ rest) ns [] sectors → Splits front q rest ns sectors)
       → AreAnswered (map_of p) xs a (asks front q ++ rest) ns [] sectors → Splits front q rest ns sectors
   at_portal front q rest ns sectors inner f answered = by (the_way q) refl
     where
@@ -191,8 +195,8 @@ module _ (p : PlanParts) (labelled : List Labelled) (ts : List Triangle) (ls : L
       moved o e = subst (λ (u : Option ℕ). AreAnswered (map_of p) xs a (pending_way (end_points (map_of p) front) u ++ rest) ns [] sectors) e answered
 
       by : (o : Option ℕ) → the_way q ≡ o → Splits front q rest ns sectors
-      by None e = record { here = []; back = ns; opened = []; reached = []; others = sectors; nodes = refl; parts = refl; marked = refl; answers = no_node q (last_is q front None) (not_asked p labelled ts ls walls xs w a q inner e) refl refl; behind = moved None e }
-      by (Some i) e = f i (asked p labelled ts ls walls xs w a q i e) (moved (Some i) e)
+      by None e = record { here = []; back = ns; opened = []; reached = []; others = sectors; nodes = refl; parts = refl; marked = refl; answers = no_node q (last_is q front None) (not_asked p ts walls xs w a q inner e) refl refl; behind = moved None e }
+      by (Some i) e = f i (asked p ts walls xs w a q i e) (moved (Some i) e)
 
   subtree : (n : ℕ) → SplitsAll n
   subtree zero front q rest ns sectors inner few answered = at_portal front q rest ns sectors inner (λ i n more. absurd (none_left front i rest ns sectors few more)) answered
@@ -203,7 +207,7 @@ module _ (p : PlanParts) (labelled : List Labelled) (ts : List Triangle) (ls : L
   abbrev the_entry : Side → Option ℕ
   the_entry s = root_entry ts walls xs (map_of p) a s
 
-  root_portals : (s : Side) → IsTrue (is_root (map_of p) a s) → (q : Portal) × (root_portal (map_of p) s ≡ Some q) × IsInner p labelled ts ls walls xs w q
+  root_portals : (s : Side) → IsTrue (is_root (map_of p) a s) → (q : Portal) × (root_portal (map_of p) s ≡ Some q) × IsInner p ts walls xs w q
   root_portals s root = at (line_at (map_of p) s.line) refl
     where
       not_true : ◌≡◌ {A = Bool} false true → ⊥
@@ -216,12 +220,12 @@ module _ (p : PlanParts) (labelled : List Labelled) (ts : List Triangle) (ls : L
       solid true c d e = absurd (not_true e)
       solid false c d e = refl
 
-      at : (o : Option MapLine) → line_at (map_of p) s.line ≡ o → (q : Portal) × (root_portal (map_of p) s ≡ Some q) × IsInner p labelled ts ls walls xs w q
+      at : (o : Option MapLine) → line_at (map_of p) s.line ≡ o → (q : Portal) × (root_portal (map_of p) s ≡ Some q) × IsInner p ts walls xs w q
       at None e = absurd (not_true (sym (none e) ∙ root))
       at (Some l) e = (
         record { left = (side_edge (map_of p) l (not s.left)).from; right = (side_edge (map_of p) l (not s.left)).to },
         ap (option_map (λ (x : MapLine). let q : Portal = record { left = (side_edge (map_of p) x (not s.left)).from; right = (side_edge (map_of p) x (not s.left)).to } in q)) e,
-        inr (passable p labelled ts ls walls xs w s.line l (not s.left) e (solid l.solid (names_it (sector_on l s.left) a) (not (names_it (sector_on l (not s.left)) a)) (sym (root_test (map_of p) a s l e) ∙ root))),
+        inr (passable p ts walls xs w s.line l (not s.left) e (solid l.solid (names_it (sector_on l s.left) a) (not (names_it (sector_on l (not s.left)) a)) (sym (root_test (map_of p) a s l e) ∙ root))),
       )
 
   no_answer : (n : Node) (rs : List Pending) (here : List ℕ) → Answers (map_of p) xs a [] n rs here → ⊥
@@ -243,7 +247,7 @@ module _ (p : PlanParts) (labelled : List Labelled) (ts : List Triangle) (ls : L
       answer = answered
   from_roots (s ∷ ss) all ns sectors answered = go (root_portals s all.0) (from_roots ss all.1)
     where
-      go : (q : Portal) × (root_portal (map_of p) s ≡ Some q) × IsInner p labelled ts ls walls xs w q
+      go : (q : Portal) × (root_portal (map_of p) s ≡ Some q) × IsInner p ts walls xs w q
           → ((ms : List Node) (more : List ℕ) → AreAnswered (map_of p) xs a (map root_pending (filter_map the_entry ss)) ms [] more → AreRooted ss ms more) → AreRooted (s ∷ ss) ns sectors
       go (q, is, inner) later = join (subtree (length ns) [] q (map root_pending (filter_map the_entry ss)) ns sectors inner (omega arith) moved)
         where
@@ -290,22 +294,22 @@ module _ (p : PlanParts) (labelled : List Labelled) (ts : List Triangle) (ls : L
   moved_to front q o rest ns ms ks us e f g answered = subst (λ (vs : List ℕ). IsAnswered (asks front q ++ rest) ns vs) (sym g) (subst (λ (ks : List Node). IsAnswered (asks front q ++ rest) ks us) (sym f) (subst (λ (u : Option ℕ). IsAnswered (pending_way (end_points (map_of p) front) u ++ rest) ms us) (sym e) answered))
 
   at_none : (front : List Portal) (q : Portal) (rest : List Pending) (here back : List Node) (via others : List ℕ) → HasNoNode (map_of p) ts ls a q → here ≡ [] → via ≡ [] → IsAnswered rest back others → IsAnswered (asks front q ++ rest) (here ++ back) (via ++ others)
-  at_none front q rest here back via others none e o answered = moved_to front q None rest (here ++ back) back (via ++ others) others (no_node_unasked p labelled ts ls walls xs w a q none) (ap (λ (ns : List Node). ns ++ back) e) (ap (λ (ks : List ℕ). ks ++ others) o) answered
+  at_none front q rest here back via others none e o answered = moved_to front q None rest (here ++ back) back (via ++ others) others (no_node_unasked p ts walls xs w a q none) (ap (λ (ns : List Node). ns ++ back) e) (ap (λ (ks : List ℕ). ks ++ others) o) answered
 
   at_blocked : (front : List Portal) (q : Portal) (k : ℕ) (d : Evidence) (rest : List Pending) (here back : List Node) (via others : List ℕ) → HasNode (map_of p) ts ls a (front ++ q ∷ []) q k → Blocks (end_points (map_of p) (front ++ q ∷ [])) d → here ≡ Blocked d ∷ [] → via ≡ [] → IsAnswered rest back others
       → IsAnswered (asks front q ++ rest) (here ++ back) (via ++ others)
-  at_blocked front q k d rest here back via others has blocks e o (sectors, answered, marked) = go (node_asked p labelled ts ls walls xs w a q k has.no_wall has.entered has.outside)
+  at_blocked front q k d rest here back via others has blocks e o (sectors, answered, marked) = go (node_asked p ts walls xs w a q k has.no_wall has.entered has.outside)
     where
       go : (i : ℕ) × (the_way q ≡ Some i) → IsAnswered (asks front q ++ rest) (here ++ back) (via ++ others)
       go (i, way) = moved_to front q (Some i) rest (here ++ back) (Blocked d ∷ back) (via ++ others) others way (ap (λ (ns : List Node). ns ++ back) e) (ap (λ (ks : List ℕ). ks ++ others) o)
           (sectors, (rest, [], sectors, (asked_at front i, rest, n.x, refl, n.is, subst (λ (es : List EndPoints). Blocks es d) (sym (through front q i n.x n.left n.right)) blocks, refl, refl), answered, refl), marked)
         where
           n : Enters p ts ls walls xs q i
-          n = (asked p labelled ts ls walls xs w a q i way).enters
+          n = (asked p ts walls xs w a q i way).enters
 
   at_open : (front : List Portal) (q : Portal) (k t : ℕ) (rest : List Pending) (here back left right : List Node) (via others via_left via_right : List ℕ) → HasNode (map_of p) ts ls a (front ++ q ∷ []) q k → apex ts q ≡ Some t → here ≡ Open ∷ (left ++ right) → via ≡ k ∷ (via_left ++ via_right)
       → IsAnswered (asks (front ++ q ∷ []) (way_out q Left t) ++ (asks (front ++ q ∷ []) (way_out q Right t) ++ rest)) (left ++ (right ++ back)) (via_left ++ (via_right ++ others)) → IsAnswered (asks front q ++ rest) (here ++ back) (via ++ others)
-  at_open front q k t rest here back left right via others via_left via_right has third e o (sectors, answered, marked) = go (node_asked p labelled ts ls walls xs w a q k has.no_wall has.entered has.outside)
+  at_open front q k t rest here back left right via others via_left via_right has third e o (sectors, answered, marked) = go (node_asked p ts walls xs w a q k has.no_wall has.entered has.outside)
     where
       go : (i : ℕ) × (the_way q ≡ Some i) → IsAnswered (asks front q ++ rest) (here ++ back) (via ++ others)
       go (i, way) = moved_to front q (Some i) rest (here ++ back) (Open ∷ (left ++ (right ++ back))) (via ++ others) (k ∷ (via_left ++ (via_right ++ others))) way (ap (λ (ns : List Node). ns ++ back) e ∙ ap (λ (ns : List Node). Open ∷ ns) (append_assoc left right back))
@@ -323,7 +327,7 @@ module _ (p : PlanParts) (labelled : List Labelled) (ts : List Triangle) (ls : L
           )
         where
           n : Enters p ts ls walls xs q i
-          n = (asked p labelled ts ls walls xs w a q i way).enters
+          n = (asked p ts walls xs w a q i way).enters
 
           same : (b c : ℕ) → ◌≡◌ {A = Option ℕ} (Some b) (Some c) → b ≡ c
           same b c h = cc
