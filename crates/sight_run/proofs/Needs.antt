@@ -7,8 +7,7 @@ use Rattle.std.proofs.lemmas.Option.{slice_get-get_or}
 use Rattle.sight_names.specs.declared.names.Triangle.{Triangle}
 use Rattle.sight_names.specs.Enough.{enough_of}
 use Rattle.sight_names.specs.Map.{Map}
-use Rattle.sight_names.specs.Mesh.{AreLabelsOf, IsGoodMesh}
-use Rattle.sight_names.proofs.OneMesh.{one_labels, one_mesh}
+use Rattle.sight_names.specs.Mesh.{IsGoodMesh}
 use Rattle.sequence_laws.proofs.All.{stand_in_order}
 use Rattle.enough_budget.specs.Need.{HasSequences, greatest}
 use Rattle.sight_job.specs.declared.faces.Faces.{Faces}
@@ -20,6 +19,7 @@ use Rattle.sight_run.specs.Need.{AreNeeds, NeedCalls, NeedsOf, ShowsNeed, need_l
 use Rattle.sight_run.specs.Sound.{AreFaces, HasSoundLines, OnSound}
 use Rattle.sight_run.specs.Views.{line_answer}
 use Rattle.sight_run.proofs.Flaws.{agree_at}
+use Rattle.sight_run.proofs.OneFaces.{same_labels, same_triangles}
 
 -- ---- the numbers are the only ones
 
@@ -38,9 +38,8 @@ module _ (m : Map) (ts : List Triangle) (ls : List (Option ℕ)) (good : IsGoodM
 same_over : (m : Map) (name : List ℕ) (f g : Faces) (ns ks : List ℕ) → AreFaces m f → AreFaces m g → AreNeeds m f.mesh.triangles f.labels ns → AreNeeds m g.mesh.triangles g.labels ks
     → need_line name (greatest ks) (enough_of m g.mesh.triangles) ≡ need_line name (greatest ns) (enough_of m f.mesh.triangles)
 same_over m name f g ns ks of_f of_g h k =
-    let mesh : g.mesh.triangles ≡ f.mesh.triangles = one_mesh m g.mesh.triangles f.mesh.triangles of_g.mesh of_f.mesh in
-    let theirs : AreLabelsOf m f.mesh.triangles g.labels = subst (λ (us : List Triangle). AreLabelsOf m us g.labels) mesh of_g.found.labels in
-    let labels : g.labels ≡ f.labels = one_labels m f.mesh.triangles g.labels f.labels of_f.found.agree of_f.mesh theirs of_f.found.labels in
+    let mesh : g.mesh.triangles ≡ f.mesh.triangles = same_triangles m f g of_f of_g in
+    let labels : g.labels ≡ f.labels = same_labels m f g of_f of_g in
     let same : ks ≡ ns = same_numbers m f.mesh.triangles f.labels of_f.found.good ks ns (subst (λ (os : List (Option ℕ)). AreNeeds m f.mesh.triangles os ks) labels (subst (λ (us : List Triangle). AreNeeds m us g.labels ks) mesh k)) h in
     ap (λ (xs : List ℕ). need_line name (greatest xs) (enough_of m g.mesh.triangles)) same ∙ ap (λ (us : List Triangle). need_line name (greatest ns) (enough_of m us)) mesh
 

@@ -6,8 +6,6 @@ use Rattle.sight_names.specs.declared.names.Triangle.{Triangle}
 use Rattle.sight_names.specs.declared.faults.TraceFault.{TraceFault}
 use Rattle.sight_names.specs.declared.faults.TraceFault.TheVariants as trace
 use Rattle.sight_names.specs.Map.{Map}
-use Rattle.sight_names.specs.Mesh.{AreLabelsOf}
-use Rattle.sight_names.proofs.OneMesh.{one_mesh, one_labels}
 use Rattle.ray_trace.specs.Trace.{IsTrace}
 use Rattle.ray_trace.proofs.OneTrace.{IsTraced, one_answer}
 use Rattle.sight_job.specs.declared.faces.Faces.{Faces}
@@ -18,6 +16,7 @@ use Rattle.sight_run.specs.Answer.{Answer, Gives, only_line}
 use Rattle.sight_run.specs.Sound.{AreFaces, HasSoundLines}
 use Rattle.sight_run.specs.Trace.{IsTraceRefusal, RayCallsFor, TraceCalls, sectors_at, trace_line}
 use Rattle.sight_run.proofs.Flaws.{gives_one}
+use Rattle.sight_run.proofs.OneFaces.{same_labels, same_triangles}
 use Rattle.sight_run.proofs.Sounds.{IsPastAudit}
 
 -- what is said of the answer of a trace
@@ -41,8 +40,8 @@ traced_of m ray faces (Err s) h = absurd h
 -- all faces of a map call for one answer
 one_called : (m : Map) (ray : Ray) (faces : Faces) (r : Result Answer Status) → AreFaces m faces → RayCallsFor ray m faces r → (others : Faces) (s : Result Answer Status) → AreFaces m others → RayCallsFor ray m others s → s ≡ r
 one_called m ray faces r are h others s too k =
-    let mesh : others.mesh.triangles ≡ faces.mesh.triangles = one_mesh m others.mesh.triangles faces.mesh.triangles too.mesh are.mesh in
-    let labels : others.labels ≡ faces.labels = one_labels m faces.mesh.triangles others.labels faces.labels are.found.agree are.mesh (subst (λ (ts : List Triangle). AreLabelsOf m ts others.labels) mesh too.found.labels) are.found.labels in
+    let mesh : others.mesh.triangles ≡ faces.mesh.triangles = same_triangles m faces others are too in
+    let labels : others.labels ≡ faces.labels = same_labels m faces others are too in
     let x = traced_of m ray faces r h in
     let y = traced_of m ray others s k in
     let one : y.answer ≡ x.answer = one_answer m faces.mesh.triangles ray y.answer x.answer (subst (λ (ts : List Triangle). IsTraced m ts ray y.answer) mesh y.traced) x.traced in
