@@ -24,22 +24,23 @@ use Rattle.cert_checker.specs.declared.verdict.Totals.{Totals}
 use Rattle.cert_checker.specs.declared.verdict.Verdict.TheVariants as verdict
 use Rattle.cert_checker.specs.Pairs.{AreTotals}
 use Rattle.cert_checker.proofs.SameBits.{HaveOneBits, promised_same}
-use Rattle.sight_run.specs.declared.counts.Counts.{Counts}
-use Rattle.sight_run.specs.Counts.{counts_with}
-use Rattle.sight_run.specs.declared.status.Flaw.TheVariants as flaw
-use Rattle.sight_run.specs.declared.status.Role.{Role}
-use Rattle.sight_run.specs.declared.status.Role.TheVariants as role
-use Rattle.sight_run.specs.declared.status.Status.{Status}
-use Rattle.sight_run.specs.declared.status.Status.TheVariants as status
-use Rattle.sight_run.specs.declared.status.Why.TheVariants as why
-use Rattle.sight_run.specs.Answer.{Answer, ◌>>=◌, IsTheAnswer, only_line}
+use Rattle.map_answers.specs.declared.counts.Counts.{Counts}
+use Rattle.map_answers.specs.Counts.{counts_with}
+use Rattle.sight_status.specs.declared.status.Flaw.TheVariants as flaw
+use Rattle.sight_status.specs.declared.status.Role.{Role}
+use Rattle.sight_status.specs.declared.status.Role.TheVariants as role
+use Rattle.sight_status.specs.declared.status.Status.{Status}
+use Rattle.sight_status.specs.declared.status.Status.TheVariants as status
+use Rattle.sight_status.specs.declared.status.Why.TheVariants as why
+use Rattle.sight_status.specs.Answer.{Answer, ◌>>=◌, IsTheAnswer, only_line}
 use Rattle.sight_run.specs.Build.{AreAsked, BuildCalls, ShowsBuild, build_writes}
-use Rattle.sight_run.specs.Check.{Brought, CheckCalls, IsVerdictOn, OnBrought, VerdictCalls, brought, cert_in, of_cert_fetch, of_length, of_reading, reject_of, yes_line}
-use Rattle.sight_run.specs.Input.{Found, OnFound, found_in, found_of, of_fetch}
+use Rattle.sight_run.specs.Check.{CheckInput, CheckCalls, IsVerdictOn, OnCheckInput, VerdictCalls, check_input, cert_in, of_cert_fetch, of_length, of_reading, reject_of, yes_line}
+use Rattle.map_answers.specs.Input.{LocatedMap, OnFound, found_in}
+use Rattle.sight_run.specs.Reading.{found_of, of_fetch}
 use Rattle.sight_run.specs.Obeys.{AnswersAsked, IsAnswer}
 use Rattle.sight_run.specs.Run.{IsBrokenBy, RunEnds, StandsUpTo, put_all}
 use Rattle.sight_run.specs.Sizes.{sizes_of_map}
-use Rattle.sight_run.specs.Sound.{OnSoundLines}
+use Rattle.map_answers.specs.Sound.{OnSoundLines}
 use Rattle.sight_run.specs.Zero.{table_len}
 use Rattle.sight_run.specs.Laws.{BuiltIsChecked, BuiltRunIsChecked, ChecksYes, HaveBoth, IsShort, SaysYes, Sinks, totals_of}
 use Rattle.sight_run.proofs.Round.{IsFoundAgain, found_again, found_then, same_ok}
@@ -78,28 +79,28 @@ accepted_same m t u c bits h = record {
     clear_in_first a b p q (inl n) = inl (λ e. n (bits (a * m.sectors + b) (in_square a b m.sectors p q) ∙ e))
     clear_in_first a b p q (inr n) = inr (λ e. n (bits (b * m.sectors + a) (in_square b a m.sectors q p) ∙ e))
 
--- ---- what is brought
+-- ---- the table and the certificate
 
-abbrev brought_as : List ℕ → CertParts → Brought
-brought_as t c = record { table = t; cert = c }
+abbrev input_as : List ℕ → CertParts → CheckInput
+input_as t c = record { table = t; cert = c }
 
-with_parts : List ℕ → Result CertParts Status → Result Brought Status
-with_parts t r = r >>= (λ parts. Ok (brought_as t parts))
+with_parts : List ℕ → Result CertParts Status → Result CheckInput Status
+with_parts t r = r >>= (λ parts. Ok (input_as t parts))
 
-with_cert : Map → List ℕ → Result (List ℕ) Status → Result Brought Status
+with_cert : Map → List ℕ → Result (List ℕ) Status → Result CheckInput Status
 with_cert m t r = r >>= (λ bytes. with_parts t (cert_in m bytes))
 
-with_bytes : List ℕ → Found → Files → Result (List ℕ) Status → Result Brought Status
+with_bytes : List ℕ → LocatedMap → Files → Result (List ℕ) Status → Result CheckInput Status
 with_bytes name found files r = r >>= (λ t. with_cert found.map t (of_cert_fetch (content_of (files name) 9223372036854775807)))
 
-brought_by : (name : List ℕ) (found : Found) (files : Files) → brought name found files ≡ with_bytes name found files (of_length found.map.sectors (reject_of found))
-unfolding brought with_parts with_cert with_bytes
-brought_by name found files = refl
+input_by : (name : List ℕ) (found : LocatedMap) (files : Files) → check_input name found files ≡ with_bytes name found files (of_length found.map.sectors (reject_of found))
+unfolding check_input with_parts with_cert with_bytes
+input_by name found files = refl
 
-is_brought : (name : List ℕ) (found : Found) (files : Files) (t spelled : List ℕ) (c : CertParts) → of_length found.map.sectors (reject_of found) ≡ Ok t → of_cert_fetch (content_of (files name) 9223372036854775807) ≡ Ok spelled → cert_in found.map spelled ≡ Ok c
-    → brought name found files ≡ Ok (brought_as t c)
+is_input : (name : List ℕ) (found : LocatedMap) (files : Files) (t spelled : List ℕ) (c : CertParts) → of_length found.map.sectors (reject_of found) ≡ Ok t → of_cert_fetch (content_of (files name) 9223372036854775807) ≡ Ok spelled → cert_in found.map spelled ≡ Ok c
+    → check_input name found files ≡ Ok (input_as t c)
 unfolding with_parts with_cert with_bytes
-is_brought name found files t spelled c p q r = brought_by name found files ∙ ap (with_bytes name found files) p ∙ ap (with_cert found.map t) q ∙ ap (with_parts t) r
+is_input name found files t spelled c p q r = input_by name found files ∙ ap (with_bytes name found files) p ∙ ap (with_cert found.map t) q ∙ ap (with_parts t) r
 
 -- bytes of a table's length are taken
 right_length : (n : ℕ) (bytes t : List ℕ) → bytes ≡ t → length t ≡ table_len n → of_length n bytes ≡ Ok t
@@ -126,7 +127,7 @@ record IsYesFor (m : Map) (t : TableParts) (c : CertParts) (given : Result Answe
   is : given ≡ Ok (only_line (yes_line m.sectors totals))
 
 -- the bytes are those of a table whose certificate is accepted
-verdict_yes : (m : Map) (t : TableParts) (c : CertParts) (given : Result Answer Status) → t.n ≡ m.sectors → IsAccepted m t.bytes c → IsVerdictOn m (brought_as t.bytes c) given → IsYesFor m t c given
+verdict_yes : (m : Map) (t : TableParts) (c : CertParts) (given : Result Answer Status) → t.n ≡ m.sectors → IsAccepted m t.bytes c → IsVerdictOn m (input_as t.bytes c) given → IsYesFor m t c given
 verdict_yes m t c given n h v = by given v.called
   where
     same : HaveOneBits m v.table t
@@ -137,14 +138,14 @@ verdict_yes m t c given n h v = by given v.called
     by (Err (status.No (why.Check f))) k = absurd (k.accepted.1 (accepted_same m t.bytes v.table.bytes c v.spelled.bits h))
     by (Err s) k = absurd k
 
-past_lines : (m : Map) (b : Brought) (given : Result Answer Status) → LinesMeetAtEnds m → OnSoundLines m (OnBrought m (Ok b)) given → IsVerdictOn m b given
+past_lines : (m : Map) (b : CheckInput) (given : Result Answer Status) → LinesMeetAtEnds m → OnSoundLines m (OnCheckInput m (Ok b)) given → IsVerdictOn m b given
 past_lines m b (Ok answer) meet q = q.1
 past_lines m b (Err (status.BadMap (flaw.Line f))) meet q = absurd (not_sound m f q meet)
 past_lines m b (Err s) meet q = q.1
 
 -- ---- the build, then the check
 
-wad_fetched : (o : Option (List ℕ)) (name bytes : List ℕ) (found : Found) → o ≡ Some bytes → length bytes < 2 ^ 31 → found_in name bytes ≡ Ok found → (of_fetch (content_of o 2147483647) >>= (λ bs. found_in name bs)) ≡ Ok found
+wad_fetched : (o : Option (List ℕ)) (name bytes : List ℕ) (found : LocatedMap) → o ≡ Some bytes → length bytes < 2 ^ 31 → found_in name bytes ≡ Ok found → (of_fetch (content_of o 2147483647) >>= (λ bs. found_in name bs)) ≡ Ok found
 wad_fetched o name bytes found e lt h =
     ap (λ (x : Option (List ℕ)). of_fetch (content_of x 2147483647) >>= (λ bs. found_in name bs)) e ∙ by (nat_lt 2147483647 (length bytes)) (le-ltb 2147483647 (length bytes) (omega (arith, lt))) ∙ h
   where
@@ -153,7 +154,7 @@ wad_fetched o name bytes found e lt h =
     by false q = refl
 
 -- the map was found in these bytes, and what was built of it is in these files
-module _ (name out cert : List ℕ) (budget : Ask) (files others : Files) (found : Found) (answer : Answer) (given : Result Answer Status) where
+module _ (name out cert : List ℕ) (budget : Ask) (files others : Files) (found : LocatedMap) (answer : Answer) (given : Result Answer Status) where
   checked : (old spelled : List ℕ) → found_in name old ≡ Ok found → same_name (codes "REJECT") name ≡ false → bytes_eq out cert ≡ false
       → (shows : ShowsBuild name out (Some cert) budget found answer) → shows.spelled ≡ Some spelled → Spells shows.built.cert.sizes spelled shows.built.cert
       → HaveBoth (put_all files answer.writes) others out cert → IsShort others cert
@@ -167,13 +168,13 @@ module _ (name out cert : List ℕ) (budget : Ask) (files others : Files) (found
       let at_out : others out ≡ Some shows.bytes = have.at_out ∙ ap (λ (f : Files). f out) all ∙ under_out files out cert shows.bytes spelled apart in
       let at_cert : others cert ≡ Some spelled = have.at_cert ∙ ap (λ (f : Files). f cert) all ∙ under_cert files out cert shows.bytes spelled in
       let there : found_of out name others ≡ Ok (found_then found table) = wad_fetched (others out) name shows.bytes (found_then found table) at_out again.short again.again in
-      let asked : CheckCalls cert others (found_then found table) given = subst (λ (r : Result Found Status). OnFound r (CheckCalls cert others) given) there q in
+      let asked : CheckCalls cert others (found_then found table) given = subst (λ (r : Result LocatedMap Status). OnFound r (CheckCalls cert others) given) there q in
       let len : length table ≡ table_len found.map.sectors = shows.whole.len ∙ ap table_len shows.is_built.sectors in
-      let brings : brought cert (found_then found table) others ≡ Ok (brought_as table c) =
-      is_brought cert (found_then found table) others table spelled c (right_length found.map.sectors (reject_of (found_then found table)) table again.reject len)
+      let reads : check_input cert (found_then found table) others ≡ Ok (input_as table c) =
+      is_input cert (found_then found table) others table spelled c (right_length found.map.sectors (reject_of (found_then found table)) table again.reject len)
       (cert_fetched (others cert) spelled at_cert (short spelled at_cert)) (spelled_reads found.map c spelled shows.is_built.sizes spells) in
       verdict_yes found.map shows.built.table c given shows.is_built.sectors shows.is_built.accepted
-      (past_lines found.map (brought_as table c) given shows.is_built.fit.ends (subst (λ (r : Result Brought Status). OnSoundLines found.map (OnBrought found.map r) given) brings asked))
+      (past_lines found.map (input_as table c) given shows.is_built.fit.ends (subst (λ (r : Result CheckInput Status). OnSoundLines found.map (OnCheckInput found.map r) given) reads asked))
 
 pub built_is_checked : BuiltIsChecked
 built_is_checked build check name out cert files others answer ask h have short =
@@ -182,7 +183,7 @@ built_is_checked build check name out cert files others answer ask h have short 
     apart : bytes_eq out cert ≡ false
     apart = differ ask.wad out cert (of_words build _ ask.built)
 
-    on : (r : Result Found Status) → found_of ask.wad name files ≡ r → OnFound r (BuildCalls name out (Some cert) ask.budget) (Ok answer) → SaysYes check name others answer
+    on : (r : Result LocatedMap Status) → found_of ask.wad name files ≡ r → OnFound r (BuildCalls name out (Some cert) ask.budget) (Ok answer) → SaysYes check name others answer
     on (Err s) e shows = absurd cc
     on (Ok found) e shows = by shows.spelled refl shows.are_asked
       where

@@ -4,10 +4,11 @@ use Rattle.std.specs.Int.{div_ceil}
 use Rattle.shelf_io.specs.Shelf.{Files, put}
 use Rattle.order_words.specs.declared.order.Order.TheVariants as order
 use Rattle.cert_format.specs.Parts.{CertParts}
-use Rattle.sight_run.specs.declared.status.Status.{Status}
-use Rattle.sight_run.specs.Answer.{Answer}
+use Rattle.sight_status.specs.declared.status.Status.{Status}
+use Rattle.sight_status.specs.Answer.{Answer}
 use Rattle.sight_run.specs.Build.{AreAsked, BuildCalls, build_writes}
-use Rattle.sight_run.specs.Input.{Found, OnFound, found_of}
+use Rattle.map_answers.specs.Input.{LocatedMap, OnFound}
+use Rattle.sight_run.specs.Reading.{found_of}
 use Rattle.sight_run.specs.Laws.{BuildKeepsLumps, HasTableLength, IsClearTable, KeepsLumps, ZeroKeepsLumps}
 use Rattle.sight_run.specs.Obeys.{AnswersAsked}
 use Rattle.sight_run.specs.Run.{put_all}
@@ -23,7 +24,7 @@ pub zero_keeps_lumps : ZeroKeepsLumps
 unfolding zeroed
 zero_keeps_lumps words wad name out files answer asked other h = on (found_of wad name files) refl (subst (λ r. AnswersAsked r files (Ok answer)) asked h)
   where
-    made : (found : Found) → Ok answer ≡ zeroed name out found → found_of wad name files ≡ Ok found → KeepsLumps wad name out files (put_all files answer.writes) IsClearTable
+    made : (found : LocatedMap) → Ok answer ≡ zeroed name out found → found_of wad name files ≡ Ok found → KeepsLumps wad name out files (put_all files answer.writes) IsClearTable
     made found e q =
         let table : List ℕ = clear_table found.map.sectors in
         let p = passes (with_table found table) (λ bytes. Ok (one_wad out bytes (zero_line name found.map.sectors))) answer (sym e) in
@@ -39,7 +40,7 @@ zero_keeps_lumps words wad name out files answer asked other h = on (found_of wa
           again = written_again name old.bytes table p.x found old.are other p.step;
         }
 
-    on : (r : Result Found Status) → found_of wad name files ≡ r → OnFound r (ZeroCalls name out) (Ok answer) → KeepsLumps wad name out files (put_all files answer.writes) IsClearTable
+    on : (r : Result LocatedMap Status) → found_of wad name files ≡ r → OnFound r (ZeroCalls name out) (Ok answer) → KeepsLumps wad name out files (put_all files answer.writes) IsClearTable
     on (Err s) e q = absurd cc
     on (Ok found) e q = made found q e
 
@@ -53,7 +54,7 @@ built_stands files wad out bytes (Some cert) (Some spelled) c apart h = under_ou
 pub build_keeps_lumps : BuildKeepsLumps
 build_keeps_lumps words wad name out asked report workers budget files answer is_asked other h = on (found_of wad name files) refl (subst (λ r. AnswersAsked r files (Ok answer)) is_asked h)
   where
-    on : (r : Result Found Status) → found_of wad name files ≡ r → OnFound r (BuildCalls name out asked budget) (Ok answer) → KeepsLumps wad name out files (put_all files answer.writes) HasTableLength
+    on : (r : Result LocatedMap Status) → found_of wad name files ≡ r → OnFound r (BuildCalls name out asked budget) (Ok answer) → KeepsLumps wad name out files (put_all files answer.writes) HasTableLength
     on (Err s) e q = absurd cc
     on (Ok found) e q =
         let old = bytes_of wad name files found e in

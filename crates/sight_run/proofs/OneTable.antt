@@ -22,10 +22,10 @@ use Rattle.reject_bits.specs.Parts.{IsWhole, Rejects, TableParts}
 use Rattle.cert_format.specs.Accepted.{IsPairListed}
 use Rattle.cert_format.specs.Grammar.{IsInOrder, PairBefore}
 use Rattle.sight_job.specs.declared.build.Built.{Built}
-use Rattle.sight_run.specs.declared.counts.Counts.{Counts}
-use Rattle.sight_run.specs.Answer.{Answer, only_line}
+use Rattle.map_answers.specs.declared.counts.Counts.{Counts}
+use Rattle.sight_status.specs.Answer.{Answer, only_line}
 use Rattle.sight_run.specs.Build.{BuildsSayOneLine, HaveOneTable, IsBuiltOf, build_line}
-use Rattle.sight_run.specs.Counts.{counts_with, pair_count, set_from, set_pairs}
+use Rattle.map_answers.specs.Counts.{counts_with, pair_count, set_from, set_pairs}
 use Rattle.sight_run.specs.Grid.{ShowsGrid, grid_line}
 
 -- ---- numbers

@@ -16,9 +16,9 @@ use Rattle.wad_dir.specs.Wad.{WadFile, WadLump, names_of, wad_of}
 use Rattle.wad_rewrite.specs.Again.{IsReadAgain}
 use Rattle.wad_rewrite.specs.Rewrite.{printed}
 use Rattle.wad_rewrite.proofs.Reading.{rewritten_is_read}
-use Rattle.sight_run.specs.declared.status.Status.{Status}
-use Rattle.sight_run.specs.Answer.{◌>>=◌}
-use Rattle.sight_run.specs.Input.{Found, found_in, lump_at, map_at, of_four_lumps, of_spot, of_wad}
+use Rattle.sight_status.specs.declared.status.Status.{Status}
+use Rattle.sight_status.specs.Answer.{◌>>=◌}
+use Rattle.map_answers.specs.Input.{LocatedMap, found_in, lump_at, map_at, of_four_lumps, of_spot, of_wad}
 use Rattle.sight_run.specs.Zero.{of_rewrite, with_table}
 
 -- ---- steps that pass
@@ -54,37 +54,37 @@ was_printed (Err rewrite.Memory) bytes h = absurd cc
 
 -- ---- a map that was found
 
-abbrev pub found_with : WadFile → MapSpot → Map → Found
+abbrev pub found_with : WadFile → MapSpot → Map → LocatedMap
 found_with w s m = record { wad = w; spot = s; map = m }
 
-with_map : WadFile → MapSpot → Result Map Status → Result Found Status
+with_map : WadFile → MapSpot → Result Map Status → Result LocatedMap Status
 with_map w s r = r >>= (λ m. Ok (found_with w s m))
 
-with_spot : WadFile → Result MapSpot MapFault → Result Found Status
+with_spot : WadFile → Result MapSpot MapFault → Result LocatedMap Status
 with_spot w r = of_spot r >>= (λ s. with_map w s (map_at w s))
 
-with_wad : List ℕ → Result WadFile WadFault → Result Found Status
+with_wad : List ℕ → Result WadFile WadFault → Result LocatedMap Status
 with_wad name r = of_wad r >>= (λ w. with_spot w (spot_of (names_of w) name))
 
 found_by : (name bytes : List ℕ) → found_in name bytes ≡ with_wad name (wad_of bytes)
 unfolding found_in with_map with_spot with_wad
 found_by name bytes = refl
 
-record WasFound (name bytes : List ℕ) (found : Found) : Type 0 where
+record WasFound (name bytes : List ℕ) (found : LocatedMap) : Type 0 where
   read : wad_of bytes ≡ Ok found.wad
   spot : spot_of (names_of found.wad) name ≡ Ok found.spot
   map : map_at found.wad found.spot ≡ Ok found.map
 
-was_found : (name bytes : List ℕ) (found : Found) → found_in name bytes ≡ Ok found → WasFound name bytes found
+was_found : (name bytes : List ℕ) (found : LocatedMap) → found_in name bytes ≡ Ok found → WasFound name bytes found
 unfolding with_map with_spot with_wad
 was_found name bytes found h =
     let a = passes (of_wad (wad_of bytes)) (λ w. with_spot w (spot_of (names_of w) name)) found (sym (found_by name bytes) ∙ h) in
     let b = passes (of_spot (spot_of (names_of a.x) name)) (λ s. with_map a.x s (map_at a.x s)) found a.rest in
     let c = passes (map_at a.x b.x) (λ m. Ok (found_with a.x b.x m)) found b.rest in
     let is : found_with a.x b.x c.x ≡ found = same_ok (found_with a.x b.x c.x) found c.rest in
-    subst (λ (x : Found). WasFound name bytes x) {x = found_with a.x b.x c.x} is (record { read = was_wad (wad_of bytes) a.x a.step; spot = was_spot (spot_of (names_of a.x) name) b.x b.step; map = c.step })
+    subst (λ (x : LocatedMap). WasFound name bytes x) {x = found_with a.x b.x c.x} is (record { read = was_wad (wad_of bytes) a.x a.step; spot = was_spot (spot_of (names_of a.x) name) b.x b.step; map = c.step })
 
-is_found : (name bytes : List ℕ) (found : Found) → WasFound name bytes found → found_in name bytes ≡ Ok found
+is_found : (name bytes : List ℕ) (found : LocatedMap) → WasFound name bytes found → found_in name bytes ≡ Ok found
 unfolding with_map with_spot with_wad
 is_found name bytes found h =
     found_by name bytes
@@ -103,22 +103,22 @@ nothing = record { name = []; bytes = [] }
 lump_same : (v w : WadFile) (i j : ℕ) → slice_get v.lumps i ≡ slice_get w.lumps j → lump_at v i ≡ lump_at w j
 lump_same v w i j e = ap (λ (l : WadLump). l.bytes) (get_same v.lumps w.lumps i j nothing e)
 
-abbrev pub found_then : Found → List ℕ → Found
+abbrev pub found_then : LocatedMap → List ℕ → LocatedMap
 found_then found table = found_with (with_reject found.wad found.spot table) (spot_then found.spot) found.map
 
 -- what was written is read again
-pub written_again : (name old table bytes : List ℕ) (found : Found) → found_in name old ≡ Ok found → same_name (codes "REJECT") name ≡ false → with_table found table ≡ Ok bytes → IsReadAgain found.wad name found.spot table bytes
+pub written_again : (name old table bytes : List ℕ) (found : LocatedMap) → found_in name old ≡ Ok found → same_name (codes "REJECT") name ≡ false → with_table found table ≡ Ok bytes → IsReadAgain found.wad name found.spot table bytes
 written_again name old table bytes found h other made =
     let was = was_found name old found h in
     rewritten_is_read old found.wad name found.spot table bytes was.read was.spot other (was_printed (printed (with_reject found.wad found.spot table)) bytes made)
 
 -- the map is found in the bytes that were printed, and the REJECT is the table
-pub record IsFoundAgain (name : List ℕ) (found : Found) (table bytes : List ℕ) : Type 0 where
+pub record IsFoundAgain (name : List ℕ) (found : LocatedMap) (table bytes : List ℕ) : Type 0 where
   pub again : found_in name bytes ≡ Ok (found_then found table)
   pub short : length bytes < 2 ^ 31
   pub reject : lump_at (with_reject found.wad found.spot table) (reject_then found.spot) ≡ table
 
-pub found_again : (name old table bytes : List ℕ) (found : Found) → found_in name old ≡ Ok found → same_name (codes "REJECT") name ≡ false → with_table found table ≡ Ok bytes → IsFoundAgain name found table bytes
+pub found_again : (name old table bytes : List ℕ) (found : LocatedMap) → found_in name old ≡ Ok found → same_name (codes "REJECT") name ≡ false → with_table found table ≡ Ok bytes → IsFoundAgain name found table bytes
 found_again name old table bytes found h other made =
     let was = was_found name old found h in
     let new : WadFile = with_reject found.wad found.spot table in

@@ -5,8 +5,9 @@ use Rattle.std.proofs.lemmas.Slice.Eq.{bytes_eq-Decides}
 use Rattle.shelf_io.specs.Shelf.{Files, content_of, put}
 use Rattle.order_words.specs.declared.order.Order.{Order}
 use Rattle.order_words.specs.Words.{order_of}
-use Rattle.sight_run.specs.declared.status.Status.TheVariants as status
-use Rattle.sight_run.specs.Input.{Found, found_in, found_of, of_fetch}
+use Rattle.sight_status.specs.declared.status.Status.TheVariants as status
+use Rattle.map_answers.specs.Input.{LocatedMap, found_in}
+use Rattle.sight_run.specs.Reading.{found_of, of_fetch}
 use Rattle.sight_run.specs.Words.{asked_of, file_names, has_twice, is_built, of_order}
 use Rattle.sight_run.proofs.Round.{passes, same_ok}
 
@@ -56,10 +57,10 @@ under_cert files out cert bytes spelled = ap (λ (b : Bool). if b then Some spel
 -- ---- the bytes of a map
 
 -- the bytes in which a map was found
-pub record HasBytes (name : List ℕ) (found : Found) : Type 0 where
+pub record HasBytes (name : List ℕ) (found : LocatedMap) : Type 0 where
   pub bytes : List ℕ
   pub are : found_in name bytes ≡ Ok found
 
-pub bytes_of : (wad name : List ℕ) (files : Files) (found : Found) → found_of wad name files ≡ Ok found → HasBytes name found
+pub bytes_of : (wad name : List ℕ) (files : Files) (found : LocatedMap) → found_of wad name files ≡ Ok found → HasBytes name found
 unfolding found_of
 bytes_of wad name files found h = let p = passes (of_fetch (content_of (files wad) 2147483647)) (λ bs. found_in name bs) found h in record { bytes = p.x; are = p.rest }

@@ -8,8 +8,8 @@ use Rattle.sight_names.specs.Table.{table_bit}
 use Rattle.reject_bits.specs.Parts.{Rejects, TableParts}
 use Rattle.cert_checker.specs.declared.verdict.Totals.{Totals}
 use Rattle.cert_checker.specs.Pairs.{AreTotals, all_pairs, either_set, one_if, pairs_in_row, set_in_row, set_pairs as either_pairs}
-use Rattle.sight_run.specs.declared.counts.Counts.{Counts}
-use Rattle.sight_run.specs.Counts.{counts_with, is_set, pair_count, set_from, set_pairs}
+use Rattle.map_answers.specs.declared.counts.Counts.{Counts}
+use Rattle.map_answers.specs.Counts.{counts_with, is_set, pair_count, set_from, set_pairs}
 
 sum_same : (f g : ℕ → ℕ) (a n : ℕ) → ((i : ℕ) → a ≤ i → i < a + n → f i ≡ g i) → sum_by f (range_with_len a n) ≡ sum_by g (range_with_len a n)
 sum_same f g a zero h = refl

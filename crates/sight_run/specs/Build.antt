@@ -18,19 +18,19 @@ use Rattle.cert_format.specs.Parts.{CertParts}
 use Rattle.sight_job.specs.declared.build.Built.{Built}
 use Rattle.sight_job.specs.Built.{HasRaysOfClear, HasTrianglesOf, IsSymmetric, ListsClear}
 use Rattle.sight_job.specs.Sight.{TellsWhoSees}
-use Rattle.sight_run.specs.declared.counts.Counts.{Counts}
-use Rattle.sight_run.specs.declared.status.Bound.{Bound}
-use Rattle.sight_run.specs.declared.status.Bound.TheVariants as bound
-use Rattle.sight_run.specs.declared.status.Flaw.TheVariants as flaw
-use Rattle.sight_run.specs.declared.status.Role.{Role}
-use Rattle.sight_run.specs.declared.status.Role.TheVariants as role
-use Rattle.sight_run.specs.declared.status.Status.{Status}
-use Rattle.sight_run.specs.declared.status.Status.TheVariants as status
-use Rattle.sight_run.specs.Answer.{Answer, Written}
-use Rattle.sight_run.specs.Counts.{counts_with, counts_words}
-use Rattle.sight_run.specs.Input.{Found}
+use Rattle.map_answers.specs.declared.counts.Counts.{Counts}
+use Rattle.sight_status.specs.declared.status.Bound.{Bound}
+use Rattle.sight_status.specs.declared.status.Bound.TheVariants as bound
+use Rattle.sight_status.specs.declared.status.Flaw.TheVariants as flaw
+use Rattle.sight_status.specs.declared.status.Role.{Role}
+use Rattle.sight_status.specs.declared.status.Role.TheVariants as role
+use Rattle.sight_status.specs.declared.status.Status.{Status}
+use Rattle.sight_status.specs.declared.status.Status.TheVariants as status
+use Rattle.sight_status.specs.Answer.{Answer, Written}
+use Rattle.map_answers.specs.Counts.{counts_with, counts_words}
+use Rattle.map_answers.specs.Input.{LocatedMap}
 use Rattle.sight_run.specs.Sizes.{sizes_of_map}
-use Rattle.sight_run.specs.Sound.{HasMixedPair, HasOpenSide, IsAuditRefusal}
+use Rattle.map_answers.specs.Sound.{HasMixedPair, HasOpenSide, IsAuditRefusal}
 use Rattle.sight_run.specs.Zero.{with_table}
 
 -- ---- what is built of a map
@@ -108,7 +108,7 @@ abbrev pub build_line : List ℕ → Counts → List ℕ
 build_line name counts = codes "built " ++ name ++ counts_words counts ++ codes "\n"
 
 -- The file's WAD with the table that was built, the certificate where it is asked for, and a line with the counts of the table and of the list.
-pub record ShowsBuild (name out : List ℕ) (asked : Option (List ℕ)) (budget : Ask) (found : Found) (answer : Answer) : Type 0 where
+pub record ShowsBuild (name out : List ℕ) (asked : Option (List ℕ)) (budget : Ask) (found : LocatedMap) (answer : Answer) : Type 0 where
   pub built : Built
   pub is_built : IsBuiltOf found.map budget built
   pub whole : IsWhole built.table
@@ -120,7 +120,7 @@ pub record ShowsBuild (name out : List ℕ) (asked : Option (List ℕ)) (budget 
   pub is : answer ≡ record { writes = build_writes out bytes asked spelled; line = build_line name (counts_with built.table (length built.cert.listed)) }
 
 -- the WAD with the table that was built is above a limit
-pub record ShowsLimit (budget : Ask) (found : Found) (bound : Bound) : Type 0 where
+pub record ShowsLimit (budget : Ask) (found : LocatedMap) (bound : Bound) : Type 0 where
   pub built : Built
   pub is_built : IsBuiltOf found.map budget built
   pub whole : IsWhole built.table
@@ -135,12 +135,12 @@ IsOfBuildReply status.Memory = ⊤
 IsOfBuildReply other = ⊥
 
 -- no map is found, or it isn't sound: a build ends before anything is built
-abbrev pub IsUnbuildable : Result Found Status → Type 0
+abbrev pub IsUnbuildable : Result LocatedMap Status → Type 0
 IsUnbuildable (Err refusal) = ⊤
 IsUnbuildable (Ok found) = ¬ IsSound found.map
 
 -- The answer that `build` calls for. Where the map isn't sound it is the refusal of its audit.
-abbrev pub BuildCalls : List ℕ → List ℕ → Option (List ℕ) → Ask → Found → Result Answer Status → Type 0
+abbrev pub BuildCalls : List ℕ → List ℕ → Option (List ℕ) → Ask → LocatedMap → Result Answer Status → Type 0
 BuildCalls name out asked budget found (Ok answer) = ShowsBuild name out asked budget found answer
 BuildCalls name out asked budget found (Err (status.BadMap (flaw.Line fault))) = IsLineFault found.map fault
 BuildCalls name out asked budget found (Err (status.BadMap (flaw.Open side))) = LinesMeetAtEnds found.map × HasOpenSide found.map side
@@ -164,4 +164,4 @@ BuildsHaveOneTable = (m : Map) (budget : Ask) (one other : Built) → IsBuiltOf 
 
 -- .. and all that `build` answers of it says one line
 abbrev pub BuildsSayOneLine : Type 0
-BuildsSayOneLine = (name out : List ℕ) (asked : Option (List ℕ)) (budget : Ask) (found : Found) (one other : Answer) → BuildCalls name out asked budget found (Ok one) → BuildCalls name out asked budget found (Ok other) → one.line ≡ other.line
+BuildsSayOneLine = (name out : List ℕ) (asked : Option (List ℕ)) (budget : Ask) (found : LocatedMap) (one other : Answer) → BuildCalls name out asked budget found (Ok one) → BuildCalls name out asked budget found (Ok other) → one.line ≡ other.line

@@ -10,14 +10,15 @@ use Rattle.wad_dir.specs.Map.{same_name}
 use Rattle.wad_rewrite.specs.Again.{IsReadAgain}
 use Rattle.order_words.specs.declared.order.Order.TheVariants as order
 use Rattle.cert_checker.specs.declared.verdict.Totals.{Totals}
-use Rattle.sight_run.specs.declared.counts.Counts.{Counts}
-use Rattle.sight_run.specs.declared.status.Role.TheVariants as role
-use Rattle.sight_run.specs.declared.status.Status.{Status}
-use Rattle.sight_run.specs.declared.status.Status.TheVariants as status
-use Rattle.sight_run.specs.Answer.{Answer, only_line}
+use Rattle.map_answers.specs.declared.counts.Counts.{Counts}
+use Rattle.sight_status.specs.declared.status.Role.TheVariants as role
+use Rattle.sight_status.specs.declared.status.Status.{Status}
+use Rattle.sight_status.specs.declared.status.Status.TheVariants as status
+use Rattle.sight_status.specs.Answer.{Answer, only_line}
 use Rattle.sight_run.specs.Build.{build_line}
 use Rattle.sight_run.specs.Check.{yes_line}
-use Rattle.sight_run.specs.Input.{Found, found_of}
+use Rattle.map_answers.specs.Input.{LocatedMap}
+use Rattle.sight_run.specs.Reading.{found_of}
 use Rattle.sight_run.specs.Obeys.{IsAnswer}
 use Rattle.sight_run.specs.Run.{RunEnds, put_all}
 use Rattle.sight_run.specs.Words.{asked_of}
@@ -90,7 +91,7 @@ BuiltRunIsChecked = (build check : List (List ℕ)) (name out cert : List ℕ) (
 
 -- under OUT stands a WAD which is read as the one in which the map was found, with such a REJECT for it, and with all other lumps
 pub record KeepsLumps (wad name out : List ℕ) (files stand : Files) (IsRight : Map → List ℕ → Type 0) : Type 0 where
-  pub found : Found
+  pub found : LocatedMap
   pub was : found_of wad name files ≡ Ok found
   pub table : List ℕ
   pub is_right : IsRight found.map table

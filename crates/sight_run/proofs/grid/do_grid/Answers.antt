@@ -3,18 +3,18 @@ use Rattle.std.specs.Prelude.{⊤}
 use Rattle.std.specs.Result.{IsErr, IsErrAnd}
 use Rattle.sight_names.specs.Map.{Map}
 use Rattle.sight_names.specs.declared.names.Ask.{Ask}
-use Rattle.sight_run.specs.Answer.{Answer, Gives}
-use Rattle.sight_run.specs.declared.status.Status.{Status}
+use Rattle.sight_status.specs.Answer.{Answer, Gives}
+use Rattle.sight_status.specs.declared.status.Status.{Status}
 use Rattle.sight_run.specs.Grid.{GridCalls, MadeMapCalls, made_map}
-use Rattle.sight_run.specs.Input.{Found, OnFound}
+use Rattle.map_answers.specs.Input.{LocatedMap, OnFound}
 use Rattle.sight_run.specs.declared.reply.Reply.{Reply}
 use Rattle.sight_run.specs.Reply.{reply_seen}
-use Rattle.sight_run.specs.Views.{found}
+use Rattle.map_answers.specs.Views.{found}
 use Rattle.sight_run.proofs.grid.do_grid.Goals as goal
 
 -- what the made map calls for is what the order calls for
-given_found : (n : ℕ) (budget : Ask) (f : Found) (r : Result Answer Status) → made_map n ≡ Ok f → Gives ⊤ (MadeMapCalls n budget f.map) r → Gives ⊤ (GridCalls n budget) r
-given_found n budget f r e h = subst (λ (o : Result Found Status). Gives ⊤ (λ (a : Result Answer Status). OnFound o (λ (k : Found). MadeMapCalls n budget k.map) a) r) (sym e) h
+given_found : (n : ℕ) (budget : Ask) (f : LocatedMap) (r : Result Answer Status) → made_map n ≡ Ok f → Gives ⊤ (MadeMapCalls n budget f.map) r → Gives ⊤ (GridCalls n budget) r
+given_found n budget f r e h = subst (λ (o : Result LocatedMap Status). Gives ⊤ (λ (a : Result Answer Status). OnFound o (λ (k : LocatedMap). MadeMapCalls n budget k.map) a) r) (sym e) h
 
 -- a refusal that is passed on is the same refusal
 carried : (n : ℕ) (budget : Ask) (m : Map) (e : Status) (r : Result Reply Status) → IsErr r × IsErrAnd r (λ (s : Status). s ≡ e) → Gives ⊤ (MadeMapCalls n budget m) (Err e) → Gives ⊤ (MadeMapCalls n budget m) (reply_seen r)

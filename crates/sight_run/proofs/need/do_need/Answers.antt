@@ -2,11 +2,11 @@ use Rattle.std.proofs.Common.{Ok, Err, sym, subst, string_bytes}
 use Rattle.std.specs.Prelude.{⊤}
 use Rattle.std.proofs.lemmas.Result.{err_from_is_err_and}
 use Rattle.order_words.specs.declared.order.Order.TheVariants.{Need}
-use Rattle.sight_run.specs.Answer.{Answer, Gives, only_line}
-use Rattle.sight_run.specs.Need.{NeedCalls}
+use Rattle.sight_status.specs.Answer.{Answer, Gives, only_line}
+use Rattle.map_answers.specs.Need.{NeedCalls}
 use Rattle.sight_run.specs.Obeys.{Obeys}
-use Rattle.sight_run.specs.Views.{found}
-use Rattle.sight_run.proofs.Sounds.{gives_found}
+use Rattle.map_answers.specs.Views.{found}
+use Rattle.map_answers.proofs.Sounds.{gives_found}
 use Rattle.sight_run.proofs.need.do_need.Goals as goal
 
 pub returns-in_err-line-clause-told : goal.returns-in_err-line-clause-told

@@ -1,0 +1,67 @@
+-- The WAD in the bytes of a file, and the map of a name in it.
+use Rattle.std.specs.Prelude.{◌≡◌, ℕ, List, [], Option, Some, None, Result, Ok, Err, slice_index_or}
+use Rattle.sight_names.specs.declared.faults.WadFault.{WadFault}
+use Rattle.sight_names.specs.declared.faults.WadFault.TheVariants as wad
+use Rattle.sight_names.specs.declared.faults.MapFault.{MapFault}
+use Rattle.sight_names.specs.declared.faults.LumpFault.{LumpFault}
+use Rattle.sight_names.specs.declared.faults.LumpFault.TheVariants as lump
+use Rattle.sight_names.specs.Map.{Map}
+use Rattle.sight_names.specs.Lumps.{map_of_lumps, lump_fault}
+use Rattle.wad_dir.specs.declared.parts.MapSpot.{MapSpot}
+use Rattle.wad_dir.specs.Wad.{WadFile, names_of, wad_of}
+use Rattle.wad_dir.specs.Map.{spot_of}
+use Rattle.sight_status.specs.declared.status.Bound.TheVariants as bound
+use Rattle.sight_status.specs.declared.status.Status.{Status}
+use Rattle.sight_status.specs.declared.status.Status.TheVariants as status
+use Rattle.sight_status.specs.Answer.{Answer, ◌>>=◌}
+
+-- the WAD of a file, where the map's lumps stand in it, and the map
+pub record LocatedMap : Type 0 where
+  pub wad : WadFile
+  pub spot : MapSpot
+  pub map : Map
+
+-- the status of each fault
+
+abbrev pub of_wad : Result WadFile WadFault → Result WadFile Status
+of_wad (Ok file) = Ok file
+of_wad (Err wad.TooManyLumps) = Err (status.Limit bound.Lumps)
+of_wad (Err wad.Memory) = Err status.Memory
+of_wad (Err fault) = Err (status.NotWad fault)
+
+abbrev pub of_spot : Result MapSpot MapFault → Result MapSpot Status
+of_spot (Ok spot) = Ok spot
+of_spot (Err fault) = Err (status.NoMap fault)
+
+abbrev pub of_lumps : Option LumpFault → Map → Result Map Status
+of_lumps None map = Ok map
+of_lumps (Some (lump.TooManySectors count)) map = Err (status.Limit bound.Sectors)
+of_lumps (Some (lump.TooManyLines count)) map = Err (status.Limit bound.Lines)
+of_lumps (Some (lump.TooManyPoints count)) map = Err (status.Limit bound.Points)
+of_lumps (Some lump.Memory) map = Err status.Memory
+of_lumps (Some fault) map = Err (status.BadLump fault)
+
+-- the bytes of a lump, none where there is no such lump
+abbrev pub lump_at : WadFile → ℕ → List ℕ
+lump_at file k = (slice_index_or file.lumps k (record { name = []; bytes = [] })).bytes
+
+-- the map that four lumps spell, or the first check that fails
+abbrev pub of_four_lumps : List ℕ → List ℕ → List ℕ → List ℕ → Result Map Status
+of_four_lumps linedefs sidedefs vertexes sectors = of_lumps (lump_fault linedefs sidedefs vertexes sectors) (map_of_lumps linedefs sidedefs vertexes sectors)
+
+-- the map at this spot
+abbrev pub map_at : WadFile → MapSpot → Result Map Status
+map_at file spot = of_four_lumps (lump_at file spot.linedefs) (lump_at file spot.sidedefs) (lump_at file spot.vertexes) (lump_at file spot.sectors)
+
+-- the map of this name in the bytes of a file, or the first check that fails
+unfoldable pub found_in : List ℕ → List ℕ → Result LocatedMap Status
+found_in name bytes = do
+  file ← of_wad (wad_of bytes)
+  spot ← of_spot (spot_of (names_of file) name)
+  map ← map_at file spot
+  Ok (record { wad = file; spot = spot; map = map })
+
+-- an answer to the map that was found, or the refusal where none was
+abbrev pub OnFound : Result LocatedMap Status → (LocatedMap → Result Answer Status → Type 0) → Result Answer Status → Type 0
+OnFound (Ok found) Called answer = Called found answer
+OnFound (Err refusal) Called answer = answer ≡ Err refusal

@@ -1,0 +1,120 @@
+//! Reading the bytes of a file: the WAD, and the map of a name in it.
+
+ghost use Rattle.std.specs.Prelude.{◌≡◌, ◌+◌, ◌≤◌, ◌<◌, length, IfOk, IfErr, All};
+ghost use Rattle.std.specs.Option.{ForSome};
+ghost use Rattle.sight_names.specs.Map.{map_of};
+ghost use Rattle.wad_dir.specs.Map.{entry_names, spot_of};
+ghost use Rattle.wad_dir.specs.Wad.{file_of, names_of, wad_of};
+ghost use Rattle.sight_status.specs.Answer.{Makes};
+ghost use Rattle.map_answers.specs.Input.{of_wad, of_spot, of_four_lumps, lump_at, map_at, found_in};
+ghost use Rattle.sight_status.specs.Status.{IsOfBytes};
+ghost use Rattle.map_answers.specs.Views.{found, IsWhole};
+
+use map_lumps::read_map;
+use sight_names::{LumpFault, Plan, WadFault};
+use sight_status::{Bound, Status};
+use std::alloc::Global;
+use wad_dir::{MapSpot, Wad, find_map, lump, read_wad};
+
+/// What an order reads: the bytes of a file, its directory, where the map's lumps stand in it, and the map.
+#[derive(Drop)]
+pub struct Input {
+    pub bytes: Vec<u8>,
+    pub wad: Wad,
+    pub spot: MapSpot,
+    pub plan: Plan,
+}
+
+fn directory(alloc: Global, bytes: &[u8]) -> Result<Wad, Status>
+    ensures inside { IfOk result (λ wad. All (λ entry. entry.at + entry.size ≤ length bytes.now) wad.entries) }
+    ensures names { IfOk result (λ wad. names_of (file_of bytes.now wad) ≡ entry_names wad.entries) }
+    ensures refusals { IfErr result IsOfBytes }
+    ensures read { Makes (file_of bytes.now) result (of_wad (wad_of bytes.now)) }
+{
+    match read_wad(alloc, bytes) {
+        Ok(wad) => Ok(wad),
+        Err(WadFault::Memory) => Err(Status::Memory),
+        Err(WadFault::TooManyLumps) => Err(Status::Limit(Bound::Lumps)),
+        Err(fault) => Err(Status::NotWad(fault)),
+    }
+}
+
+fn spot(wad: &Wad, name: &str) -> Result<MapSpot, Status>
+    ensures refusals { IfErr result IsOfBytes }
+    ensures spot { result ≡ of_spot (spot_of (entry_names wad.now.entries) name.now) }
+    ensures linedefs { IfOk result (λ spot. spot.linedefs < length wad.now.entries) }
+    ensures sidedefs { IfOk result (λ spot. spot.sidedefs < length wad.now.entries) }
+    ensures vertexes { IfOk result (λ spot. spot.vertexes < length wad.now.entries) }
+    ensures sectors { IfOk result (λ spot. spot.sectors < length wad.now.entries) }
+    ensures reject { IfOk result (λ spot. ForSome spot.reject (λ k. k < length wad.now.entries)) }
+{
+    match find_map(wad, name) {
+        Ok(spot) => Ok(spot),
+        Err(fault) => Err(Status::NoMap(fault)),
+    }
+}
+
+fn plan_of(
+    alloc: Global,
+    linedefs: &[u8],
+    sidedefs: &[u8],
+    vertexes: &[u8],
+    sectors: &[u8],
+) -> Result<Plan, Status>
+    ensures refusals { IfErr result IsOfBytes }
+    ensures map { Makes map_of result (of_four_lumps linedefs.now sidedefs.now vertexes.now sectors.now) }
+{
+    match read_map(alloc, linedefs, sidedefs, vertexes, sectors) {
+        Ok(plan) => Ok(plan),
+        Err(LumpFault::Memory) => Err(Status::Memory),
+        Err(LumpFault::TooManySectors { .. }) => Err(Status::Limit(Bound::Sectors)),
+        Err(LumpFault::TooManyLines { .. }) => Err(Status::Limit(Bound::Lines)),
+        Err(LumpFault::TooManyPoints { .. }) => Err(Status::Limit(Bound::Points)),
+        Err(fault) => Err(Status::BadLump(fault)),
+    }
+}
+
+/// The bytes of this lump.
+pub fn lump_of<'a>(bytes: &'a [u8], wad: &Wad, k: u32) -> &'a [u8]
+    requires inside { All (λ entry. entry.at + entry.size ≤ length bytes.now) wad.now.entries }
+    requires place { k < length wad.now.entries }
+    ensures { result.now ≡ lump_at (file_of bytes.now wad.now) k }
+{
+    lump(bytes, &wad.entries.as_slice()[k as usize])
+}
+
+fn plan_at(alloc: Global, bytes: &[u8], wad: &Wad, spot: &MapSpot) -> Result<Plan, Status>
+    requires inside { All (λ entry. entry.at + entry.size ≤ length bytes.now) wad.now.entries }
+    requires linedefs { spot.now.linedefs < length wad.now.entries }
+    requires sidedefs { spot.now.sidedefs < length wad.now.entries }
+    requires vertexes { spot.now.vertexes < length wad.now.entries }
+    requires sectors { spot.now.sectors < length wad.now.entries }
+    ensures refusals { IfErr result IsOfBytes }
+    ensures map { Makes map_of result (map_at (file_of bytes.now wad.now) spot.now) }
+{
+    plan_of(
+        alloc,
+        lump_of(bytes, wad, spot.linedefs),
+        lump_of(bytes, wad, spot.sidedefs),
+        lump_of(bytes, wad, spot.vertexes),
+        lump_of(bytes, wad, spot.sectors),
+    )
+}
+
+/// The map of this name in the bytes of a file, or the first check that fails.
+#[tactic(auto, unfolding(crate::specs::Input::found_in))]
+pub fn find_in(alloc: Global, bytes: Vec<u8>, name: &str) -> Result<Input, Status>
+    ensures found { Makes found result (found_in name.now bytes.items) }
+    ensures refusals { IfErr result IsOfBytes }
+    ensures whole { IfOk result IsWhole }
+{
+    let wad = directory(alloc, &bytes)?;
+    let spot = spot(&wad, name)?;
+    let plan = plan_at(alloc, &bytes, &wad, &spot)?;
+    Ok(Input {
+        bytes,
+        wad,
+        spot,
+        plan,
+    })
+}

@@ -1,0 +1,18 @@
+//! The map of a name in the bytes of a file, and what each order that only puts a line says of it.
+#![tactic(auto)]
+
+mod audit;
+mod counts;
+mod input;
+mod need;
+mod ray;
+mod sound;
+mod trace;
+
+pub use audit::judge_audit;
+pub use counts::{Counts, counts_of, push_counts};
+pub use input::{Input, find_in, lump_of};
+pub use need::judge_need;
+pub use ray::judge_ray;
+pub use sound::{audit_faces, audit_lines_of, audit_map};
+pub use trace::judge_trace;

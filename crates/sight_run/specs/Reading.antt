@@ -1,0 +1,25 @@
+-- The map of a name in the file of a name.
+use Rattle.std.specs.Prelude.{ℕ, List, Result, Ok, Err}
+use Rattle.sight_names.specs.declared.faults.FetchFault.{FetchFault}
+use Rattle.sight_names.specs.declared.faults.FetchFault.TheVariants as fetch
+use Rattle.shelf_io.specs.Shelf.{Files, content_of}
+use Rattle.sight_status.specs.declared.status.Bound.TheVariants as bound
+use Rattle.sight_status.specs.declared.status.Role.TheVariants as role
+use Rattle.sight_status.specs.declared.status.Status.{Status}
+use Rattle.sight_status.specs.declared.status.Status.TheVariants as status
+use Rattle.sight_status.specs.Answer.{◌>>=◌}
+use Rattle.map_answers.specs.Input.{LocatedMap, found_in}
+
+-- the bytes of a WAD file, or the status of the fault of its fetch
+abbrev pub of_fetch : Result (List ℕ) FetchFault → Result (List ℕ) Status
+of_fetch (Ok bytes) = Ok bytes
+of_fetch (Err fetch.Absent) = Err (status.NoFile role.Wad)
+of_fetch (Err fetch.Failed) = Err (status.ReadFault role.Wad)
+of_fetch (Err fetch.TooLong) = Err (status.Limit bound.WadBytes)
+of_fetch (Err fetch.Memory) = Err status.Memory
+
+-- the map of this name in the file of that name
+unfoldable pub found_of : List ℕ → List ℕ → Files → Result LocatedMap Status
+found_of wad name files = do
+  bytes ← of_fetch (content_of (files wad) 2147483647)
+  found_in name bytes

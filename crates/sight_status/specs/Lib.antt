@@ -1,0 +1,4 @@
+pub mod Status
+pub mod Answer
+pub mod Texts
+pub mod Say

@@ -1,0 +1,104 @@
+//! How a run ends.
+
+ghost use Rattle.std.specs.Prelude.{◌≡◌};
+ghost use Rattle.sight_status.specs.Status.{number_of};
+
+use sight_names::{
+    CertFault, CheckFault, LineFault, LumpFault, MapFault, RayFault, Side, TableFault, TraceFault,
+    WadFault,
+};
+
+/// What a file is to an order, or the text that is put.
+#[derive(Clone, Copy, Debug, PartialEq, Eq)]
+pub enum Role {
+    Wad,
+    Cert,
+    Report,
+    Text,
+}
+
+/// What is above its limit.
+#[derive(Clone, Copy, Debug, PartialEq, Eq)]
+pub enum Bound {
+    WadBytes,
+    CertBytes,
+    Lumps,
+    Lines,
+    Points,
+    Sectors,
+    OutputBytes,
+}
+
+/// Why a map isn't sound.
+#[derive(Clone, Copy, Debug, PartialEq, Eq)]
+pub enum Flaw {
+    /// Two lines share more than an end of both.
+    Line(LineFault),
+    /// The sector of this side isn't closed.
+    Open(Side),
+    /// The sides of one face name different sectors, or one of them names none.
+    Mixed(Side, Side),
+}
+
+/// Why the answer of an order that judges is no.
+#[derive(Clone, Copy, Debug, PartialEq, Eq)]
+pub enum Why {
+    Ray(RayFault),
+    Trace(TraceFault),
+    Table(TableFault),
+    Cert(CertFault),
+    Check(CheckFault),
+}
+
+/// How a run ends. A fault for which there is another status, such as want of memory, never stands in `NotWad`,
+/// `BadLump` or `No`.
+#[derive(Clone, Copy, Debug, PartialEq, Eq)]
+pub enum Status {
+    /// What the words ask was done.
+    Done,
+    /// What was judged isn't so.
+    No(Why),
+    /// The words are no order.
+    Usage,
+    /// There is no file of that name.
+    NoFile(Role),
+    /// A read failed.
+    ReadFault(Role),
+    /// A create, an append or a put failed.
+    WriteFault(Role),
+    /// The bytes are no WAD.
+    NotWad(WadFault),
+    /// The WAD has no such map.
+    NoMap(MapFault),
+    /// The lumps are no map.
+    BadLump(LumpFault),
+    /// Something is above its limit.
+    Limit(Bound),
+    /// The map isn't sound.
+    BadMap(Flaw),
+    /// Two file names of the order are equal.
+    SameName,
+    /// A request for memory was refused.
+    Memory,
+}
+
+/// The exit status of the program.
+pub fn code(status: &Status) -> u8
+    ensures { result ≡ number_of status.now }
+{
+    match status {
+        Status::Done => 0,
+        Status::No(_) => 1,
+        Status::Usage => 2,
+        Status::NoFile(_) => 3,
+        Status::ReadFault(_) => 4,
+        Status::WriteFault(_) => 5,
+        Status::NotWad(_) => 6,
+        Status::NoMap(_) => 7,
+        Status::BadLump(_) => 8,
+        Status::Limit(_) => 9,
+        Status::BadMap(_) => 10,
+        Status::SameName => 11,
+        Status::Memory => 12,
+    }
+}
