@@ -1,5 +1,7 @@
 //! Calls of the crates below that no row reaches, and what real files and the standard output do.
 
+ghost use Rattle.board_core.specs.Machine.{State, Worker, CanStep, IsActive, idle, start, after};
+
 use board_core::{Core, Event, Reply};
 use run_cases::stage_of;
 use shelf_io::{DiskShelf, Shelf, Sink, StdSink, fetch, store};
@@ -15,25 +17,19 @@ fn two_workers_draw_two_sources_and_one_sees_what_the_other_marked(
     rt: HostRuntime,
 ) -> Result<(), Fail> {
     let findable = Vec::from_slice(rt.alloc(), &[Pair { a: 0, b: 1 }])?;
-    let Ok(mut core) = Core::new(rt.alloc(), 2, 2, findable) else {
-        return Err("no memory".into());
-    };
-    let mark = Event::Mark {
+    let mut core = Core::new(rt.alloc(), 2, 2, findable)?;
+    let first = core.step(Event::Claim { worker: 0 })?;
+    let second = core.step(Event::Claim { worker: 1 })?;
+    let marked = core.step(Event::Mark {
         worker: 1,
         a: 0,
         b: 1,
-    };
-    let events = [
-        (Event::Claim { worker: 0 }, Reply::Source(0)),
-        (Event::Claim { worker: 1 }, Reply::Source(1)),
-        (mark, Reply::Done),
-        (Event::Look { worker: 0, word: 0 }, Reply::Bits(2)),
-        (Event::Claim { worker: 0 }, Reply::NoSource),
-        (Event::End { worker: 0 }, Reply::Done),
-    ];
-    for k in 0..6 {
-        assert_eq!(rt; core.step(events[k].0), Ok(events[k].1));
-    }
+    })?;
+    let seen = core.step(Event::Look { worker: 0, word: 0 })?;
+    let none = core.step(Event::Claim { worker: 0 })?;
+    let ended = core.step(Event::End { worker: 0 })?;
+    assert!(rt; first == Reply::Source(0) && second == Reply::Source(1) && marked == Reply::Done);
+    assert!(rt; seen == Reply::Bits(2) && none == Reply::NoSource && ended == Reply::Done);
     Ok(())
 }
 
