@@ -1,14 +1,14 @@
 //! Calls of the crates below that no row reaches, and what real files and the standard output do.
 
-use block_evidence::{Evidence, four};
+ghost use Rattle.board_core.specs.Machine.{State, Worker, CanStep, IsActive, idle, start, after};
+
 use board_core::{Core, Event, Reply};
 use run_cases::stage_of;
 use shelf_io::{DiskShelf, Shelf, Sink, StdSink, fetch, store};
 use sight_names::{
-    BuildFault, FetchFault, LabelFault, Memory, Pair, Pt, RewriteFault, ShelfFault, Side, WadFault,
+    BuildFault, FetchFault, LabelFault, Pair, Pt, RewriteFault, ShelfFault, Side, WadFault,
 };
 use stab_hull::{Ends, Split};
-use std::alloc::Global;
 use std::fs;
 use std::test::Fail;
 
@@ -17,25 +17,19 @@ fn two_workers_draw_two_sources_and_one_sees_what_the_other_marked(
     rt: HostRuntime,
 ) -> Result<(), Fail> {
     let findable = Vec::from_slice(rt.alloc(), &[Pair { a: 0, b: 1 }])?;
-    let Ok(mut core) = Core::new(rt.alloc(), 2, 2, findable) else {
-        return Err("no memory".into());
-    };
-    let mark = Event::Mark {
+    let mut core = Core::new(rt.alloc(), 2, 2, findable)?;
+    let first = core.step(Event::Claim { worker: 0 })?;
+    let second = core.step(Event::Claim { worker: 1 })?;
+    let marked = core.step(Event::Mark {
         worker: 1,
         a: 0,
         b: 1,
-    };
-    let events = [
-        (Event::Claim { worker: 0 }, Reply::Source(0)),
-        (Event::Claim { worker: 1 }, Reply::Source(1)),
-        (mark, Reply::Done),
-        (Event::Look { worker: 0, word: 0 }, Reply::Bits(2)),
-        (Event::Claim { worker: 0 }, Reply::NoSource),
-        (Event::End { worker: 0 }, Reply::Done),
-    ];
-    for k in 0..6 {
-        assert_eq!(rt; core.step(events[k].0), Ok(events[k].1));
-    }
+    })?;
+    let seen = core.step(Event::Look { worker: 0, word: 0 })?;
+    let none = core.step(Event::Claim { worker: 0 })?;
+    let ended = core.step(Event::End { worker: 0 })?;
+    assert!(rt; first == Reply::Source(0) && second == Reply::Source(1) && marked == Reply::Done);
+    assert!(rt; seen == Reply::Bits(2) && none == Reply::NoSource && ended == Reply::Done);
     Ok(())
 }
 
@@ -114,24 +108,14 @@ fn faults_of_one_meaning_have_the_same_words(rt: HostRuntime) -> Result<(), Fail
     Ok(())
 }
 
-// The evidence of the portals from (0, 1) and from (2, 1) to (1, 1), None where a line splits their ends.
-fn evidence_of_one_right_end(alloc: Global) -> Result<Option<Evidence>, Memory> {
-    let mut ends = Ends::new(alloc);
-    ends.push(Pt { x: 0, y: 1 }, Pt { x: 1, y: 1 })?;
-    ends.push(Pt { x: 2, y: 1 }, Pt { x: 1, y: 1 })?;
-    match ends.split() {
-        Split::Line { .. } => Ok(None),
-        Split::Stuck(pairs) => Ok(Some(four(&pairs))),
-    }
-}
-
 #[test]
 fn a_right_end_between_two_left_ends_is_stuck(rt: HostRuntime) -> Result<(), Fail> {
     let mut one = Ends::new(rt.alloc());
     one.push(Pt { x: 0, y: 64 }, Pt { x: 64, y: 64 })?;
     assert!(rt; matches!(one.split(), Split::Line { .. }));
-    let evidence = evidence_of_one_right_end(rt.alloc())?.ok_or("a line")?;
-    assert!(rt; evidence.count >= 3);
-    assert!(rt; evidence.ends[0] == 0 && evidence.ends[1] == 1 && evidence.ends[2] >= 32_768);
+    let mut two = Ends::new(rt.alloc());
+    two.push(Pt { x: 0, y: 1 }, Pt { x: 1, y: 1 })?;
+    two.push(Pt { x: 2, y: 1 }, Pt { x: 1, y: 1 })?;
+    assert!(rt; matches!(two.split(), Split::Stuck(_)));
     Ok(())
 }

@@ -174,8 +174,8 @@ a=U =4400, c=#U-CERT, reads=3 | check a MAP01 c | 4 | refused: read fault cert
 
 /// The order `build`, and `check` of what it wrote.
 const BUILD: &str = "\
-# the certificate has the triangles of U and the trees of its three sectors
-a=U | build a MAP01 b --cert c --workers 1 | 0 | built MAP01 sectors 3 set 1 clear 5 listed 0 | b=U =4400, a=U, c<=#U-CERT @24:1:03 @92:69:
+# the certificate has as many triangles, rays and listed pairs as the worked one
+a=U | build a MAP01 b --cert c --workers 1 | 0 | built MAP01 sectors 3 set 1 clear 5 listed 0 | b=U =4400, a=U, c<=#U-CERT @24:137:
 | check b MAP01 c | 0 | yes sectors 3 set 1 clear 5 listed 0
 a=U | build a MAP01 b --cert c --workers 3 | 0 | built MAP01 sectors 3 set 1 clear 5 listed 0 | b=U =4400
 | check b MAP01 c | 0 | yes sectors 3 set 1 clear 5 listed 0
@@ -207,7 +207,9 @@ a=RINGS | build a MAP01 b --cert c | 0 | built MAP01 sectors 2 set 1 clear 2 lis
 | check b MAP01 c | 0 | yes sectors 2 set 1 clear 2 listed 0
 a=PILLAR | build a MAP01 b --cert c | 0 | built MAP01 sectors 1 set 0 clear 1 listed 0 | b=PILLAR =00
 | check b MAP01 c | 0 | yes sectors 1 set 0 clear 1 listed 0
-# budgets: each of the three sources has four sequences; the certificate ends with the one listed pair
+# budgets: each of the three sources has four sequences; the certificate has no tree and ends with the one listed pair
+a=U | build a MAP01 b --cert c --budget 1 | 0 | built MAP01 sectors 3 set 0 clear 5 listed 1 | b=U =0000, c<=#U-CERT @20:5:0100000000 @92:69:, c>=#00000200
+| check b MAP01 c | 0 | yes sectors 3 set 0 clear 5 listed 1
 a=LINE3 | build a MAP01 b --cert c --budget 1 | 0 | built MAP01 sectors 3 set 0 clear 5 listed 1 | b=LINE3 =0000, c>=#00000200
 | check b MAP01 c | 0 | yes sectors 3 set 0 clear 5 listed 1
 a=LINE3 | build a MAP01 --budget full b --cert=c | 0 | built MAP01 sectors 3 set 0 clear 6 listed 0 | b=LINE3 =0000
@@ -230,10 +232,11 @@ a=U | grid 19 | 2 | refused: usage
 a=U | grid +2 | 2 | refused: usage
 a=U | build a MAP01 b --cert b | 11 | refused: same name | b=
 a=U | build a MAP01 b --cert a | 11 | refused: same name | a=U, b=
-# faults: the file is stored by one append, the certificate by the next
-a=U, appends=1 | build a MAP01 b --cert c --workers 1 | 5 | refused: write fault cert | b=U =4400, c<=#U-CERT @24:1:03 @80:81:
-a=U, creates=0 | build a MAP01 b --cert c --workers 1 | 5 | refused: write fault wad | b=, c=
-a=U, puts=0 | build a MAP01 b --cert c --workers 1 | 5 | built MAP01 sectors 3 ~ | b=U =4400, c<=#U-CERT @24:1:03 @92:69:
+# faults: the file is stored by one append, the certificate of 144 bytes by the next
+a=U, appends=1 | build a MAP01 b --cert c --budget 1 | 5 | refused: write fault cert | b=U =0000, c=#U-CERT @20:5:0100000000 @72:89:
+a=U, creates=0 | build a MAP01 b --cert c --budget 1 | 5 | refused: write fault wad | b=, c=
+a=U, creates=1 | build a MAP01 b --cert c --budget 1 | 5 | refused: write fault cert | b=U =0000, c=
+a=U, puts=0 | build a MAP01 b --cert c --budget 1 | 5 | built MAP01 sectors 3 ~ | b=U =0000, c<=#U-CERT @20:5:0100000000 @92:69:, c>=#00000200
 ";
 
 /// The order `need`, and a build with a budget that is enough.
