@@ -1,4 +1,4 @@
-use Rattle.std.proofs.Common.{List, [], ◌∷◌, refl, sym, ap, ◌∙◌, subst, zero-lt-suc}
+use Rattle.std.proofs.Common.{List, refl, sym, ap, ◌∙◌, subst, zero-lt-suc}
 use Rattle.sight_names.specs.declared.names.Pair.{Pair}
 use Rattle.board_core.specs.declared.event.Event.TheVariants.{Claim, Look, Mark, End}
 use Rattle.board_core.specs.Machine.{State, CanStep, after, idle, start, with_claim}
