@@ -13,25 +13,25 @@ const TRIANGLE: usize = 8;
 
 const RAY: usize = 24;
 
-// Where the byte of a pair's bit stands in a made WAD of so many sectors, and the bit's place in it.
-fn place_of(file: &[u8], sectors: usize, a: usize, b: usize) -> (usize, usize) {
+// Where the byte of a pair's bit stands in a made WAD of so many sectors, and that bit alone.
+fn place_of(file: &[u8], sectors: usize, a: usize, b: usize) -> (usize, u8) {
     let bit = a.wrapping_mul(sectors).wrapping_add(b);
     let size = sectors.wrapping_mul(sectors).div_ceil(8);
     let start = file.len().wrapping_sub(DIRECTORY).wrapping_sub(size);
-    (start.wrapping_add(bit / 8), bit % 8)
+    (start.wrapping_add(bit / 8), 1 << (bit % 8))
 }
 
 /// Whether a pair is set in the table of a made WAD.
 pub fn is_set(file: &[u8], sectors: usize, a: usize, b: usize) -> bool {
     let (place, bit) = place_of(file, sectors, a, b);
-    file.get(place).is_some_and(|byte| (*byte >> bit) % 2 == 1)
+    file.get(place).is_some_and(|byte| *byte & bit != 0)
 }
 
 /// Sets a pair in the table of a made WAD.
 pub fn set(file: &mut [u8], sectors: usize, a: usize, b: usize) {
     let (place, bit) = place_of(file, sectors, a, b);
     if let Some(byte) = file.get_mut(place) {
-        *byte |= 1 << bit;
+        *byte |= bit;
     }
 }
 
