@@ -12,7 +12,7 @@ use crate::points::points;
 use sight_names::Memory;
 use std::alloc::Global;
 use wad_dir::Kind;
-use wad_rewrite::{Lump, write_wad};
+use wad_rewrite::{OutputLump, write_wad};
 
 fn map_wad<'a>(
     alloc: Global,
@@ -24,47 +24,47 @@ fn map_wad<'a>(
     ensures { IfOk result (λ v. v.items ≡ print (record { kind = Pwad; lumps = lumps_with linedefs.entry.now sidedefs.entry.now vertexes.entry.now sectors.entry.now })) }
 {
     let lumps = [
-        Lump {
+        OutputLump {
             name: *b"MAP01\0\0\0",
             bytes: &[],
         },
-        Lump {
+        OutputLump {
             name: *b"THINGS\0\0",
             bytes: &[],
         },
-        Lump {
+        OutputLump {
             name: *b"LINEDEFS",
             bytes: linedefs,
         },
-        Lump {
+        OutputLump {
             name: *b"SIDEDEFS",
             bytes: sidedefs,
         },
-        Lump {
+        OutputLump {
             name: *b"VERTEXES",
             bytes: vertexes,
         },
-        Lump {
+        OutputLump {
             name: *b"SEGS\0\0\0\0",
             bytes: &[],
         },
-        Lump {
+        OutputLump {
             name: *b"SSECTORS",
             bytes: &[],
         },
-        Lump {
+        OutputLump {
             name: *b"NODES\0\0\0",
             bytes: &[],
         },
-        Lump {
+        OutputLump {
             name: *b"SECTORS\0",
             bytes: sectors,
         },
-        Lump {
+        OutputLump {
             name: *b"REJECT\0\0",
             bytes: &[],
         },
-        Lump {
+        OutputLump {
             name: *b"BLOCKMAP",
             bytes: &[],
         },

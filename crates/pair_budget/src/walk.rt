@@ -15,13 +15,13 @@ ghost use Rattle.portal_walk.specs.Walk.{due};
 ghost use Rattle.pair_budget.specs.declared.results.Outcome.TheVariants as outcome;
 ghost use Rattle.pair_budget.specs.declared.results.Reached.{Reached as ReachedSector};
 ghost use Rattle.pair_budget.specs.Exact.{IsExact, IsWholly};
-ghost use Rattle.pair_budget.specs.Finds.{Extends, one_less};
+ghost use Rattle.pair_budget.specs.FoundSectors.{Extends, one_less};
 ghost use Rattle.pair_budget.specs.Notes.{ordered, Grows};
 ghost use Rattle.pair_budget.specs.Through.{AreThrough, IsRayOfStep};
 ghost use Rattle.pair_budget.specs.Walked.{AreReached, IsOutcome, IsReachedFrom, MarksFound};
 ghost use Rattle.pair_budget.specs.Whole.{IsFound, IsShown};
 
-use crate::finds::Finds;
+use crate::found_sectors::FoundSectors;
 use crate::notice::Notice;
 use crate::results::{Outcome, Reached, SourceResult};
 use mesh_shape::{Labels, Mesh};
@@ -66,19 +66,19 @@ pub fn walk_source<N: Notice>(
     ensures seen { Grows (N.seen notice.old) (N.seen notice.new) }
     ensures looks { Grows (N.looks notice.old) (N.looks notice.new) }
 {
-    let mut finds = Finds::new(alloc, plan, source)?;
+    let mut found_sectors = FoundSectors::new(alloc, plan, source)?;
     if notice.settled(source) {
         return Ok(SourceResult {
             source,
-            found: finds.into_items(),
+            found: found_sectors.into_items(),
             outcome: Outcome::All,
         });
     }
     let walker = Walker::new(alloc, plan, mesh, labels, source)?;
-    let outcome = walk_on(walker, labels, source, budget, &mut finds, notice)?;
+    let outcome = walk_on(walker, labels, source, budget, &mut found_sectors, notice)?;
     Ok(SourceResult {
         source,
-        found: finds.into_items(),
+        found: found_sectors.into_items(),
         outcome,
     })
 }
@@ -89,29 +89,29 @@ fn walk_on<N: Notice>(
     labels: &Labels,
     source: u16,
     budget: Budget,
-    finds: &mut Finds,
+    found_sectors: &mut FoundSectors,
     notice: &mut N,
 ) -> Result<Outcome, Memory>
     requires labels { walker.labels ≡ labels.now }
     requires one_each { length walker.labels ≡ length walker.mesh.triangles }
-    requires plan { walker.plan ≡ finds.old.plan }
+    requires plan { walker.plan ≡ found_sectors.old.plan }
     requires source { walker.source ≡ source }
-    requires source_too { finds.old.source ≡ source }
+    requires source_too { found_sectors.old.source ≡ source }
     requires rules { IsPlan walker.plan }
     requires audited { LinesMeetAtEnds (map_of walker.plan) }
     requires good { IsGoodMesh (map_of walker.plan) walker.mesh.triangles walker.labels }
     requires due { due walker ≡ map root_alone (roots (map_of walker.plan) walker.source) }
     requires no_nodes { walker.nodes ≡ [] }
-    requires nothing { finds.old.found ≡ [] }
+    requires nothing { found_sectors.old.found ≡ [] }
     requires hears { (b : ℕ) → b ≢ walker.source → b < walker.plan.sectors → Found (map_of walker.plan) walker.mesh.triangles walker.labels walker.source b budget → N.may_hear notice.old (ordered source b) }
-    ensures finds { Extends finds.old finds.new }
+    ensures found_sectors { Extends found_sectors.old found_sectors.new }
     ensures outcome { IfOk result (λ o. IsOutcome source budget (N.may_settle notice.old) o) }
-    ensures exact { IfOk result (λ o. IsExact (map_of walker.entry.plan) walker.entry.mesh.triangles walker.entry.labels walker.entry.source budget finds.new.found o) }
-    ensures rays { IfOk result (λ _. AreThrough walker.entry.plan walker.entry.mesh.triangles walker.entry.labels walker.entry.source finds.new.found) }
-    ensures shown { IfOk result (λ o. IsShown walker.entry.plan walker.entry.mesh.triangles walker.entry.labels finds.new.found o) }
+    ensures exact { IfOk result (λ o. IsExact (map_of walker.entry.plan) walker.entry.mesh.triangles walker.entry.labels walker.entry.source budget found_sectors.new.found o) }
+    ensures rays { IfOk result (λ _. AreThrough walker.entry.plan walker.entry.mesh.triangles walker.entry.labels walker.entry.source found_sectors.new.found) }
+    ensures shown { IfOk result (λ o. IsShown walker.entry.plan walker.entry.mesh.triangles walker.entry.labels found_sectors.new.found o) }
     ensures mates { IfOk result (λ o. o ≡ outcome.All → (b : ℕ) → N.mates notice.old source b → Contains (N.seen notice.new) (ordered source b)) }
     ensures tag { N.tag notice.new ≡ N.tag notice.old }
-    ensures marks { MarksFound source finds.new.found (N.marks notice.old) (N.marks notice.new) }
+    ensures marks { MarksFound source found_sectors.new.found (N.marks notice.old) (N.marks notice.new) }
     ensures kept { Grows (N.marks notice.old) (N.marks notice.new) }
     ensures claims { N.claims notice.new ≡ N.claims notice.old }
     ensures settles { N.may_settle notice.new ≡ N.may_settle notice.old }
@@ -135,7 +135,7 @@ fn walk_on<N: Notice>(
                 };
                 left = less;
                 let reached = reached_by(&walker, labels, triangle, entered, a, b, c);
-                if note(finds, source, reached, notice)? {
+                if note(found_sectors, source, reached, notice)? {
                     return Ok(Outcome::All);
                 }
             }
@@ -187,24 +187,24 @@ fn reached_by(
 /// Adds a sector to what was found and tells of it, unless it was found before. Whether the notice then says that nothing
 /// else matters; it isn't asked where nothing is new.
 fn note<N: Notice>(
-    finds: &mut Finds,
+    found_sectors: &mut FoundSectors,
     source: u16,
     reached: Option<Reached>,
     notice: &mut N,
 ) -> Result<bool, Memory>
-    requires reached { IfSome reached (λ r. IsReachedFrom finds.old.plan source r) }
-    requires source { finds.old.source ≡ source }
+    requires reached { IfSome reached (λ r. IsReachedFrom found_sectors.old.plan source r) }
+    requires source { found_sectors.old.source ≡ source }
     requires hears { IfSome reached (λ r. N.may_hear notice.old (ordered source r.to)) }
-    ensures finds { Extends finds.old finds.new }
+    ensures found_sectors { Extends found_sectors.old found_sectors.new }
     ensures tag { N.tag notice.new ≡ N.tag notice.old }
-    ensures marks { MarksFound source finds.new.found (N.marks notice.old) (N.marks notice.new) }
+    ensures marks { MarksFound source found_sectors.new.found (N.marks notice.old) (N.marks notice.new) }
     ensures kept { Grows (N.marks notice.old) (N.marks notice.new) }
     ensures hears { (p : ℕ × ℕ) → N.may_hear notice.old p → N.may_hear notice.new p }
     ensures claims { N.claims notice.new ≡ N.claims notice.old }
     ensures settles { N.may_settle notice.new ≡ N.may_settle notice.old }
     ensures settled { IfOk result (λ done. done ≡ true → N.may_settle notice.old ≡ true) }
-    ensures reached { IfOk result (λ _. IfSome reached (λ r. IsFound finds.new.found r.to)) }
-    ensures only { IfOk result (λ _. (r : ReachedSector) → Contains finds.new.found r → Contains finds.old.found r ⊎ (reached ≡ Given r)) }
+    ensures reached { IfOk result (λ _. IfSome reached (λ r. IsFound found_sectors.new.found r.to)) }
+    ensures only { IfOk result (λ _. (r : ReachedSector) → Contains found_sectors.new.found r → Contains found_sectors.old.found r ⊎ (reached ≡ Given r)) }
     ensures done { IfOk result (λ done. done ≡ true → (b : ℕ) → N.mates notice.old source b → Contains (N.seen notice.new) (ordered source b)) }
     ensures mates { (x y : ℕ) → N.mates notice.old x y → N.mates notice.new x y }
     ensures seen { Grows (N.seen notice.old) (N.seen notice.new) }
@@ -213,7 +213,7 @@ fn note<N: Notice>(
     let Some(reached) = reached else {
         return Ok(false);
     };
-    if !finds.add(reached)? {
+    if !found_sectors.add(reached)? {
         return Ok(false);
     }
     notice.found(source, reached.to);

@@ -28,14 +28,14 @@ use Rattle.pair_budget.specs.declared.results.Verdicts.{Verdicts}
 use Rattle.pair_budget.specs.Walked.{IsTreeFrom}
 use Rattle.pair_budget.specs.Decide.{HasItsTree, AreResults, IsFoundBy, IsRayOf, IsSettled, DecidesTable, DecidesList, DecidesRays, trees_of}
 use Rattle.pair_budget.specs.Rows.{tree_of}
-use Rattle.pair_budget.proofs.FindLaws.{reached_by}
+use Rattle.pair_budget.proofs.FoundSectorsLaws.{reached_by}
 use Rattle.pair_budget.proofs.NamedLaws.{trees_cons}
 use Rattle.sight_names.specs.declared.names.Triangle.{Triangle}
 use Rattle.sight_names.specs.Map.{map_of}
 use Rattle.block_evidence.specs.WholeTree.{IsWholeTree}
 use Rattle.pair_budget.specs.Decided.{AreExact, DecidesOver, TellsConnected}
 use Rattle.pair_budget.specs.Whole.{IsShown}
-use Rattle.pair_budget.proofs.Coming.{all_join}
+use Rattle.pair_budget.proofs.Pending.{all_join}
 use Rattle.tri_sectors.specs.Components.{AreComponents}
 use Rattle.sight_workers.specs.declared.view.Task.{Task}
 use Rattle.sight_workers.specs.Teams.{AreWalked}

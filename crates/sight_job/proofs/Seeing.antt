@@ -35,7 +35,7 @@ use Rattle.pair_budget.specs.declared.results.Verdicts.{Verdicts}
 use Rattle.pair_budget.specs.Decide.{AreResults, DecidesRays, IsFoundBy, IsRayOf, turned}
 use Rattle.pair_budget.specs.Decided.{DecidesOver, IsUnseen}
 use Rattle.pair_budget.specs.Through.{IsRayThrough}
-use Rattle.pair_budget.proofs.FindLaws.{reached_by}
+use Rattle.pair_budget.proofs.FoundSectorsLaws.{reached_by}
 use Rattle.sight_workers.specs.declared.view.Task.{Task}
 use Rattle.sight_workers.specs.Teams.{AreWalked}
 use Rattle.sight_job.specs.Built.{AreVerdicts}

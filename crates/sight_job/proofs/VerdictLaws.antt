@@ -30,21 +30,21 @@ use Rattle.pair_budget.specs.declared.results.Verdicts.{Verdicts}
 use Rattle.pair_budget.specs.Decide.{AreFound, DecidesList, DecidesRays, DecidesTable, IsListedPair, IsBlind, IsSettled, IsSpentSource, trees_of}
 use Rattle.pair_budget.specs.Decided.{AreExact, TellsConnected}
 use Rattle.pair_budget.specs.Exact.{EndsRightly}
-use Rattle.pair_budget.specs.Gathered.{HasPair}
+use Rattle.pair_budget.specs.PairRays.{HasRayFor}
 use Rattle.pair_budget.specs.Rows.{tree_of}
 use Rattle.pair_budget.specs.Walked.{IsOutcome}
 use Rattle.pair_budget.specs.Whole.{IsOfFound, IsShown}
-use Rattle.pair_budget.proofs.FindLaws.{found_of_ray, same_or_other, pair_is}
+use Rattle.pair_budget.proofs.FoundSectorsLaws.{found_of_ray, same_or_other, pair_is}
 use Rattle.pair_budget.proofs.NamedLaws.{trees_cons}
 use Rattle.sight_job.specs.Built.{AreShown, AreSetApart, AreTreesOfUnspent, AreVerdicts, AreWalks, HasTreeAway}
 use Rattle.sight_job.proofs.BuildLaws.{tree_of_source}
 
 -- a list of rays has one for the pair, or none
-has_or_not : (rays : List PairRay) (a b : ℕ) → HasPair rays a b ⊎ ¬ HasPair rays a b
+has_or_not : (rays : List PairRay) (a b : ℕ) → HasRayFor rays a b ⊎ ¬ HasRayFor rays a b
 has_or_not [] a b = inr (λ h. contains_none h.0 h.1)
 has_or_not (r ∷ rs) a b = at (same_or_other r.pair.a r.pair.b a b) (has_or_not rs a b)
   where
-    at : ((r.pair.a ≡ a) × (r.pair.b ≡ b)) ⊎ ((r.pair.a ≢ a) ⊎ (r.pair.b ≢ b)) → HasPair rs a b ⊎ ¬ HasPair rs a b → HasPair (r ∷ rs) a b ⊎ ¬ HasPair (r ∷ rs) a b
+    at : ((r.pair.a ≡ a) × (r.pair.b ≡ b)) ⊎ ((r.pair.a ≢ a) ⊎ (r.pair.b ≢ b)) → HasRayFor rs a b ⊎ ¬ HasRayFor rs a b → HasRayFor (r ∷ rs) a b ⊎ ¬ HasRayFor (r ∷ rs) a b
     at (inl same) rest = inl (r, contains_head r rs, pair_is r.pair a b same.0 same.1)
     at (inr other) (inl h) = inl (h.0, contains_tail r h.0 rs h.1, h.2)
     at (inr other) (inr none) = inr (λ h. elim (contains_cases r h.0 rs h.1) [
@@ -129,13 +129,13 @@ tells_connected m cs are a b la lb = (
         connected_joined m a (get_or cs a 0) b (are.connected a (get_or cs a 0) ea) (connected_back m b back.0 (get_or cs a 0) back.1)
 
 module _ (p : PlanParts) (budget : Budget) (v : Verdicts) (are : AreVerdicts p budget v) where
-  found_of_has : (a b : ℕ) → HasPair v.rays a b → AreFound are.results a b
+  found_of_has : (a b : ℕ) → HasRayFor v.rays a b → AreFound are.results a b
   found_of_has a b (r, c, e) = subst (λ (q : Pair). AreFound are.results q.a q.b) e (found_of_ray are.results r (are.rays.each r c).2)
 
   not_down : (a b : ℕ) → a < b → ¬ IsListedPair are.results are.components b a
   not_down a b lt l = let k = l.order in omega arith
 
-  pub rays_of_clear : (a b : ℕ) → a < b → b < p.sectors → HasPair v.rays a b ↔ (¬ Rejects v.table a b × ¬ Contains v.listed (record { a = a; b = b }))
+  pub rays_of_clear : (a b : ℕ) → a < b → b < p.sectors → HasRayFor v.rays a b ↔ (¬ Rejects v.table a b × ¬ Contains v.listed (record { a = a; b = b }))
   rays_of_clear a b lt in' = (
     (λ h. let f = found_of_has a b h in (
       (λ bit. not_blind f ((are.table.bits a b (omega arith) in').0 bit)),
@@ -313,8 +313,8 @@ module _ (p : PlanParts) (budget : Budget) (v : Verdicts) (are : AreVerdicts p b
     pub cert_rays : (a b : ℕ) → a < b → b < v.table.n → HasRay cert a b ↔ (¬ Rejects v.table a b × ¬ IsPairListed cert a b)
     cert_rays a b lt in' =
         let h = rays_of_clear a b lt (subst (λ (n : ℕ). b < n) are.table.sectors in') in (
-          (λ k. let r = h.0 (subst (λ (rs : List PairRay). HasPair rs a b) rays k) in (r.0, λ c. r.1 (subst (λ (ps : List Pair). Contains ps (record { a = a; b = b })) listed c))),
-          (λ k. subst (λ (rs : List PairRay). HasPair rs a b) (sym rays) (h.1 (k.0, λ c. k.1 (subst (λ (ps : List Pair). Contains ps (record { a = a; b = b })) (sym listed) c)))),
+          (λ k. let r = h.0 (subst (λ (rs : List PairRay). HasRayFor rs a b) rays k) in (r.0, λ c. r.1 (subst (λ (ps : List Pair). Contains ps (record { a = a; b = b })) listed c))),
+          (λ k. subst (λ (rs : List PairRay). HasRayFor rs a b) (sym rays) (h.1 (k.0, λ c. k.1 (subst (λ (ps : List Pair). Contains ps (record { a = a; b = b })) (sym listed) c)))),
         )
 
     pub cert_trees : budget ≡ Full → (a : ℕ) → a < p.sectors → ((t : Tree) × Contains cert.trees t × (t.source ≡ a)) ⊎ ((b : ℕ) → b < p.sectors → a ≢ b → AreConnected (map_of p) a b → ¬ Rejects v.table a b)

@@ -11,10 +11,10 @@ use Rattle.sight_names.specs.Ray.{IsInRange, SplitsLine, NotBehind, IsCrossing, 
 use Rattle.sight_names.proofs.Laws.{on_segment_sym}
 use Rattle.sight_laws.proofs.Plans.{line_below}
 use Rattle.sight_laws.proofs.Rays.{crossing_there, crossing_only, not_both, not_behind_same, segment_same}
-use Rattle.sight_ray.specs.declared.gate.Gate.{Gate}
-use Rattle.sight_ray.specs.Gate.{IsGateOf, GateCrossing, AllBehind, AllInOrder, IsFirstHit, AreClearBelow}
+use Rattle.sight_ray.specs.declared.crossed_line.CrossedLine.{CrossedLine}
+use Rattle.sight_ray.specs.CrossedLine.{IsCrossedLineOf, CrossingOfLine, AllBehind, AllInOrder, IsFirstHit, AreClearBelow}
 use Rattle.sight_ray.specs.RayFault.{Splits, IsSplit, Leaves, Arrives, Crosses, HasNames, HasSplits, HasCrossings, IsBehind, IsBlocked, IsRayFault}
-use Rattle.sight_ray.proofs.GateLemmas.{same_line, gate_splits, one_split, gate_crosses}
+use Rattle.sight_ray.proofs.CrossedLineLemmas.{same_line, crossed_line_splits, one_split, line_crosses}
 use Rattle.sight_ray.proofs.HitLemmas.{parts_of}
 
 pub is_some_of : (o : Option ℕ) (a : ℕ) → o ≡ Some a → IsSome o
@@ -32,48 +32,48 @@ none_not_some o e h = no (subst (λ (x : Option ℕ). IsSome x) e h)
 pub names_of : (m : Map) (r : Ray) (a b : ℕ) → IsInRange r → Names m r.first a → Names m r.last b → HasNames m r
 names_of m r a b h e f = record { range = h; from = is_some_of (named m r.first) a e; to = is_some_of (named m r.last) b f }
 
--- ---- from gates to ways
-pub leaves_by : (m : Map) (r : Ray) (g : Gate) → IsGateOf m r r.first g → g.first_left ≡ not r.first.left → Leaves m r
-leaves_by m r g h e = subst (λ (b : Bool). Splits m r r.first b) e (gate_splits m r r.first g h)
+-- ---- from crossed lines to ways
+pub leaves_by : (m : Map) (r : Ray) (g : CrossedLine) → IsCrossedLineOf m r r.first g → g.first_left ≡ not r.first.left → Leaves m r
+leaves_by m r g h e = subst (λ (b : Bool). Splits m r r.first b) e (crossed_line_splits m r r.first g h)
 
-pub arrives_by : (m : Map) (r : Ray) (g : Gate) → IsGateOf m r r.last g → g.first_left ≡ r.last.left → Arrives m r
-arrives_by m r g h e = subst (λ (b : Bool). Splits m r r.last b) e (gate_splits m r r.last g h)
+pub arrives_by : (m : Map) (r : Ray) (g : CrossedLine) → IsCrossedLineOf m r r.last g → g.first_left ≡ r.last.left → Arrives m r
+arrives_by m r g h e = subst (λ (b : Bool). Splits m r r.last b) e (crossed_line_splits m r r.last g h)
 
-splits_both : (m : Map) (r : Ray) (g h : Gate) → HasNames m r → IsGateOf m r r.first g → IsGateOf m r r.last h → HasSplits m r
-splits_both m r g h names gg gh = record { names = names; first = (g.first_left, gate_splits m r r.first g gg); last = (h.first_left, gate_splits m r r.last h gh) }
+splits_both : (m : Map) (r : Ray) (g h : CrossedLine) → HasNames m r → IsCrossedLineOf m r r.first g → IsCrossedLineOf m r r.last h → HasSplits m r
+splits_both m r g h names gg gh = record { names = names; first = (g.first_left, crossed_line_splits m r r.first g gg); last = (h.first_left, crossed_line_splits m r r.last h gh) }
 
-pub last_unsplit : (m : Map) (r : Ray) (g : Gate) → HasNames m r → IsGateOf m r r.first g → ¬ IsSplit m r r.last → IsRayFault m r (NotSplit r.last.line)
-last_unsplit m r g names gg n = (names, inr (refl, (g.first_left, gate_splits m r r.first g gg), n))
+pub last_unsplit : (m : Map) (r : Ray) (g : CrossedLine) → HasNames m r → IsCrossedLineOf m r r.first g → ¬ IsSplit m r r.last → IsRayFault m r (NotSplit r.last.line)
+last_unsplit m r g names gg n = (names, inr (refl, (g.first_left, crossed_line_splits m r r.first g gg), n))
 
-pub wrong_first : (m : Map) (r : Ray) (g h : Gate) → HasNames m r → IsGateOf m r r.first g → IsGateOf m r r.last h → g.first_left ≡ r.first.left → IsRayFault m r (WrongWay r.first.line)
-wrong_first m r g h names gg gh e = (splits_both m r g h names gg gh, inl (refl, (λ k. one_split m r r.first r.first.left (subst (λ (b : Bool). Splits m r r.first b) e (gate_splits m r r.first g gg)) k)))
+pub wrong_first : (m : Map) (r : Ray) (g h : CrossedLine) → HasNames m r → IsCrossedLineOf m r r.first g → IsCrossedLineOf m r r.last h → g.first_left ≡ r.first.left → IsRayFault m r (WrongWay r.first.line)
+wrong_first m r g h names gg gh e = (splits_both m r g h names gg gh, inl (refl, (λ k. one_split m r r.first r.first.left (subst (λ (b : Bool). Splits m r r.first b) e (crossed_line_splits m r r.first g gg)) k)))
 
-pub wrong_last : (m : Map) (r : Ray) (g h : Gate) → HasNames m r → IsGateOf m r r.first g → IsGateOf m r r.last h → g.first_left ≡ not r.first.left → h.first_left ≡ not r.last.left → IsRayFault m r (WrongWay r.last.line)
-wrong_last m r g h names gg gh e f = (splits_both m r g h names gg gh, inr (refl, leaves_by m r g gg e, (λ k. one_split m r r.last r.last.left k (subst (λ (b : Bool). Splits m r r.last b) f (gate_splits m r r.last h gh)))))
+pub wrong_last : (m : Map) (r : Ray) (g h : CrossedLine) → HasNames m r → IsCrossedLineOf m r r.first g → IsCrossedLineOf m r r.last h → g.first_left ≡ not r.first.left → h.first_left ≡ not r.last.left → IsRayFault m r (WrongWay r.last.line)
+wrong_last m r g h names gg gh e f = (splits_both m r g h names gg gh, inr (refl, leaves_by m r g gg e, (λ k. one_split m r r.last r.last.left k (subst (λ (b : Bool). Splits m r r.last b) f (crossed_line_splits m r r.last h gh)))))
 
--- ---- from gates to crossings
-pub crossings_of : (m : Map) (r : Ray) (g h : Gate) → HasNames m r → IsGateOf m r r.first g → IsGateOf m r r.last h → Leaves m r → Arrives m r → (s t : Point) → GateCrossing r g s → GateCrossing r h t → HasCrossings m r s t
+-- ---- from crossed lines to crossings
+pub crossings_of : (m : Map) (r : Ray) (g h : CrossedLine) → HasNames m r → IsCrossedLineOf m r r.first g → IsCrossedLineOf m r r.last h → Leaves m r → Arrives m r → (s t : Point) → CrossingOfLine r g s → CrossingOfLine r h t → HasCrossings m r s t
 crossings_of m r g h names gg gh leaves arrives s t cs ct = record {
   names = names;
   leaves = leaves;
   arrives = arrives;
-  starts = gate_crosses m r r.first g s gg cs;
-  stops = gate_crosses m r r.last h t gh ct;
+  starts = line_crosses m r r.first g s gg cs;
+  stops = line_crosses m r r.last h t gh ct;
 }
 
-gate_crossed : (m : Map) (r : Ray) (s : Side) (g : Gate) → IsGateOf m r s g → (z : Point) × GateCrossing r g z
-gate_crossed m r s g h = let x = crossing_there r g.left g.right (parts_of r g h.gate.parts) in (x.0, (x.1, x.2))
+line_crossed : (m : Map) (r : Ray) (s : Side) (g : CrossedLine) → IsCrossedLineOf m r s g → (z : Point) × CrossingOfLine r g z
+line_crossed m r s g h = let x = crossing_there r g.left g.right (parts_of r g h.crossed_line.parts) in (x.0, (x.1, x.2))
 
-pub backwards : (m : Map) (r : Ray) (g h : Gate) → HasNames m r → IsGateOf m r r.first g → IsGateOf m r r.last h → Leaves m r → Arrives m r → AllBehind r g.left g.right h.left h.right → IsRayFault m r Backwards
+pub backwards : (m : Map) (r : Ray) (g h : CrossedLine) → HasNames m r → IsCrossedLineOf m r r.first g → IsCrossedLineOf m r r.last h → Leaves m r → Arrives m r → AllBehind r g.left g.right h.left h.right → IsRayFault m r Backwards
 backwards m r g h names gg gh leaves arrives b =
-    let s = gate_crossed m r r.first g gg in
-    let t = gate_crossed m r r.last h gh in
+    let s = line_crossed m r r.first g gg in
+    let t = line_crossed m r r.last h gh in
     (s.0, t.0, crossings_of m r g h names gg gh leaves arrives s.0 t.0 s.1 t.1, b s.0 t.0 s.1 t.1)
 
-pub blocked : (m : Map) (r : Ray) (g h : Gate) (i : ℕ) → HasNames m r → IsGateOf m r r.first g → IsGateOf m r r.last h → Leaves m r → Arrives m r → AllInOrder r g.left g.right h.left h.right → IsFirstHit m r g h i → IsRayFault m r (Blocked i)
+pub blocked : (m : Map) (r : Ray) (g h : CrossedLine) (i : ℕ) → HasNames m r → IsCrossedLineOf m r r.first g → IsCrossedLineOf m r r.last h → Leaves m r → Arrives m r → AllInOrder r g.left g.right h.left h.right → IsFirstHit m r g h i → IsRayFault m r (Blocked i)
 blocked m r g h i names gg gh leaves arrives f hit =
-    let s = gate_crossed m r r.first g gg in
-    let t = gate_crossed m r r.last h gh in
+    let s = line_crossed m r r.first g gg in
+    let t = line_crossed m r r.last h gh in
     let z = hit.hit.hit s.0 t.0 s.1 t.1 in
     record {
       start = s.0;
@@ -89,14 +89,14 @@ blocked m r g h i names gg gh leaves arrives f hit =
       least = λ j k l is solid w on_stretch on_line. hit.least j k l is solid s.0 t.0 w s.1 t.1 on_stretch on_line;
     }
 
-pub sight : (p : PlanParts) (r : Ray) (g h : Gate) (a b : ℕ) → IsInRange r → Names (map_of p) r.first a → Names (map_of p) r.last b → IsGateOf (map_of p) r r.first g → IsGateOf (map_of p) r r.last h
+pub sight : (p : PlanParts) (r : Ray) (g h : CrossedLine) (a b : ℕ) → IsInRange r → Names (map_of p) r.first a → Names (map_of p) r.last b → IsCrossedLineOf (map_of p) r r.first g → IsCrossedLineOf (map_of p) r r.last h
     → Leaves (map_of p) r → Arrives (map_of p) r → AllInOrder r g.left g.right h.left h.right → AreClearBelow (map_of p) r g h (length p.lines) → IsSightRay (map_of p) r a b
 sight p r g h a b range from to gg gh leaves arrives f clear =
     let m = map_of p in
-    let s = gate_crossed m r r.first g gg in
-    let t = gate_crossed m r r.last h gh in
-    let starts = gate_crosses m r r.first g s.0 gg s.1 in
-    let stops = gate_crosses m r r.last h t.0 gh t.1 in
+    let s = line_crossed m r r.first g gg in
+    let t = line_crossed m r r.last h gh in
+    let starts = line_crosses m r r.first g s.0 gg s.1 in
+    let stops = line_crosses m r r.last h t.0 gh t.1 in
     record {
       range = range;
       from = from;

@@ -1,3 +1,3 @@
-pub mod GateLemmas
+pub mod CrossedLineLemmas
 pub mod HitLemmas
 pub mod FaultLemmas

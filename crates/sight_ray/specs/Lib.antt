@@ -1,2 +1,2 @@
 pub mod RayFault
-pub mod Gate
+pub mod CrossedLine

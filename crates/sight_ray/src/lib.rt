@@ -4,12 +4,12 @@
 ghost use Rattle.std.specs.Prelude.{◌≡◌, ℕ, neg_ℤ, MatchResult};
 ghost use Rattle.sight_names.specs.Map.{Map, map_of, Names};
 ghost use Rattle.sight_names.specs.Ray.{IsInRange, IsSightRay};
-ghost use Rattle.sight_ray.specs.Gate.{IsGateOf};
+ghost use Rattle.sight_ray.specs.CrossedLine.{IsCrossedLineOf};
 ghost use Rattle.sight_ray.specs.RayFault.{IsRayFault, HasNames, Leaves, Arrives};
 
-mod gate;
+mod crossed_line;
 
-use gate::{Gate, first_hit, gate_of, is_backwards};
+use crossed_line::{CrossedLine, first_hit, crossed_line_of, is_backwards};
 use geom_exact::in_range;
 use sight_names::{Plan, Ray, RayFault, Side};
 
@@ -67,7 +67,7 @@ fn judge(plan: &Plan, ray: &Ray) -> Result<(u16, u16), RayFault>
         return Err(RayFault::Range);
     }
     let sectors = sectors_of(plan, ray)?;
-    let (start, stop) = gates_of(plan, ray)?;
+    let (start, stop) = crossed_lines_of(plan, ray)?;
     if is_backwards(ray, start, stop) {
         return Err(RayFault::Backwards);
     }
@@ -92,16 +92,16 @@ fn sectors_of(plan: &Plan, ray: &Ray) -> Result<(u16, u16), RayFault>
 }
 
 /// The lines of the two sides, which the ray splits and crosses in the right way.
-fn gates_of(plan: &Plan, ray: &Ray) -> Result<(Gate, Gate), RayFault>
+fn crossed_lines_of(plan: &Plan, ray: &Ray) -> Result<(CrossedLine, CrossedLine), RayFault>
     requires { HasNames (map_of plan.now) ray.now }
-    ensures { MatchResult result (λ g. IsGateOf (map_of plan.now) ray.now ray.now.first g.0 × IsGateOf (map_of plan.now) ray.now ray.now.last g.1 × Leaves (map_of plan.now) ray.now × Arrives (map_of plan.now) ray.now) (λ f. IsRayFault (map_of plan.now) ray.now f) }
+    ensures { MatchResult result (λ g. IsCrossedLineOf (map_of plan.now) ray.now ray.now.first g.0 × IsCrossedLineOf (map_of plan.now) ray.now ray.now.last g.1 × Leaves (map_of plan.now) ray.now × Arrives (map_of plan.now) ray.now) (λ f. IsRayFault (map_of plan.now) ray.now f) }
 {
-    let Some(start) = gate_of(plan, ray, ray.first) else {
+    let Some(start) = crossed_line_of(plan, ray, ray.first) else {
         return Err(RayFault::NotSplit {
             line: ray.first.line,
         });
     };
-    let Some(stop) = gate_of(plan, ray, ray.last) else {
+    let Some(stop) = crossed_line_of(plan, ray, ray.last) else {
         return Err(RayFault::NotSplit {
             line: ray.last.line,
         });

@@ -18,7 +18,7 @@ use Rattle.board_core.proofs.Every.{change_other, changed_at, length-change, loo
 use Rattle.sight_names.specs.declared.names.Pair.{Pair}
 use Rattle.sight_workers.specs.declared.view.Task.{Task}
 use Rattle.sight_workers.specs.declared.view.View.{View}
-use Rattle.sight_workers.specs.declared.view.Role.TheVariants.{Worker, Spent}
+use Rattle.sight_workers.specs.declared.view.SeatRole.TheVariants.{Worker, Spent}
 use Rattle.sight_workers.specs.Board.{Holds, IsFindable, IsPair, IsSet, bit_of, has_over, number_of, overs, word_count, word_of}
 use Rattle.sight_workers.specs.Plays.{with_claim, with_look, with_mark}
 use Rattle.sight_workers.specs.Steps.{Follows, IsSeatAt, Shows, pair_of}

@@ -12,8 +12,8 @@ use Rattle.board_core.specs.Machine as machine
 use Rattle.sight_names.specs.declared.names.Pair.{Pair}
 use Rattle.sight_workers.specs.declared.view.Task.{Task}
 use Rattle.sight_workers.specs.declared.view.View.{View}
-use Rattle.sight_workers.specs.declared.view.Role.{Role}
-use Rattle.sight_workers.specs.declared.view.Role.TheVariants.{Keeper, Worker}
+use Rattle.sight_workers.specs.declared.view.SeatRole.{SeatRole}
+use Rattle.sight_workers.specs.declared.view.SeatRole.TheVariants.{Keeper, Worker}
 use Rattle.sight_workers.specs.Board.{Holds, IsPair, IsSet, number_of}
 use Rattle.sight_workers.specs.Plainly.{IsPlain}
 use Rattle.sight_workers.specs.Steps.{pair_of, IsClaimedBy, IsKept, ShowsWorker, Shows}
@@ -41,7 +41,7 @@ there (x ∷ xs) (suc k) l = there xs k (omega arith)
 pub clash : (x : View) (w : ℕ) → x.role ≡ Keeper → x.role ≡ Worker w → ⊥
 clash x w e f = let h : Keeper ≡ Worker w = sym e ∙ f in cc
 
-pub same_worker : (j k : ℕ) (q : Role) → q ≡ Worker j → q ≡ Worker k → j ≡ k
+pub same_worker : (j k : ℕ) (q : SeatRole) → q ≡ Worker j → q ≡ Worker k → j ≡ k
 same_worker j k q e f = sym (ap number_of e) ∙ ap number_of f
 
 module _ (t : Task) (s : State (Unit {0}) View) (c : machine.State) (r : Holds t s) (h : Shows t s c) where

@@ -17,8 +17,8 @@ use Rattle.board_core.proofs.Every.{change_here, change_other, changed_at, lengt
 use Rattle.sight_names.specs.declared.names.Pair.{Pair}
 use Rattle.sight_workers.specs.declared.view.Task.{Task}
 use Rattle.sight_workers.specs.declared.view.View.{View}
-use Rattle.sight_workers.specs.declared.view.Role.{Role}
-use Rattle.sight_workers.specs.declared.view.Role.TheVariants.{Keeper, Worker}
+use Rattle.sight_workers.specs.declared.view.SeatRole.{SeatRole}
+use Rattle.sight_workers.specs.declared.view.SeatRole.TheVariants.{Keeper, Worker}
 use Rattle.sight_workers.specs.Board.{Holds, bit_of, keeper_of, numbers_of, spent, word_count, word_of}
 use Rattle.sight_workers.specs.Plays.{keeper_joined, keeper_with_more, new_worker}
 use Rattle.sight_workers.specs.Steps.{AreFindable, Follows, IsClaimedBy, IsJoinedMark, IsKept, IsSeatAt, Shows, ShowsWorker, pair_of}
@@ -165,13 +165,13 @@ module _ (t : Task) (s : State (Unit {0}) View) (c : machine.State) (r : Holds t
         ended_now : (w'.ended ≡ true) ↔ Contains (v.joined ++ numbers_of u.role) j
         ended_now = dite (ℕ_discrete j worker)
             (λ e. (
-              (λ _. contains_right j v.joined (numbers_of u.role) (subst (λ (q : Role). Contains (numbers_of q) j) (sym its.1) (subst (Contains (worker ∷ [])) (sym e) (contains_here worker [])))),
+              (λ _. contains_right j v.joined (numbers_of u.role) (subst (λ (q : SeatRole). Contains (numbers_of q) j) (sym its.1) (subst (Contains (worker ∷ [])) (sym e) (contains_here worker [])))),
               (λ _. ap (λ (z : machine.Worker). z.ended) (ends e)),
             ))
             (λ n. (
               (λ a. contains_left j v.joined (numbers_of u.role) ((k.ended v (seat, at, is)).0 (sym (ap (λ (z : machine.Worker). z.ended) (stays n)) ∙ a))),
               (λ a. ap (λ (z : machine.Worker). z.ended) (stays n) ∙ (k.ended v (seat, at, is)).1 (⊎_elim (λ (d : Contains v.joined j). d)
-                  (λ (d : Contains (numbers_of u.role) j). absurd (n (sym (contains_one j worker (subst (λ (q : Role). Contains (numbers_of q) j) its.1 d))))) (contains_append j v.joined (numbers_of u.role) a))),
+                  (λ (d : Contains (numbers_of u.role) j). absurd (n (sym (contains_one j worker (subst (λ (q : SeatRole). Contains (numbers_of q) j) its.1 d))))) (contains_append j v.joined (numbers_of u.role) a))),
             ))
 
     joined_marks : (p : ℕ × ℕ) → Contains (v.marks ++ u.marks) p ↔ IsJoinedMark (record c { workers = workers }) both p
@@ -187,7 +187,7 @@ module _ (t : Task) (s : State (Unit {0}) View) (c : machine.State) (r : Holds t
           (λ (b : Contains u.marks p). let w = active t s c r h other worker u its.0 its.1 in (
             worker,
             machine.at_end w.0,
-            contains_right worker v.joined (numbers_of u.role) (subst (λ (q : Role). Contains (numbers_of q) worker) (sym its.1) (contains_here worker [])),
+            contains_right worker v.joined (numbers_of u.role) (subst (λ (q : SeatRole). Contains (numbers_of q) worker) (sym its.1) (contains_here worker [])),
             change_here machine.at_end worker c.workers w.0 w.1,
             subst (λ (ps : List Pair). Contains ps (pair_of p)) (sym ((h.workers worker w.0 w.1).marks other u its.0 its.1)) (contains_map u.marks p b),
           ))
@@ -202,7 +202,7 @@ module _ (t : Task) (s : State (Unit {0}) View) (c : machine.State) (r : Holds t
             (λ n. contains_left p v.marks u.marks ((h.joined v (seat, at, is) p).1 (
               m.0,
               w.0,
-              ⊎_elim (λ (d : Contains v.joined m.0). d) (λ (d : Contains (numbers_of u.role) m.0). absurd (n (sym (contains_one m.0 worker (subst (λ (q : Role). Contains (numbers_of q) m.0) its.1 d))))) (contains_append m.0 v.joined (numbers_of u.role) m.2),
+              ⊎_elim (λ (d : Contains v.joined m.0). d) (λ (d : Contains (numbers_of u.role) m.0). absurd (n (sym (contains_one m.0 worker (subst (λ (q : SeatRole). Contains (numbers_of q) m.0) its.1 d))))) (contains_append m.0 v.joined (numbers_of u.role) m.2),
               w.1,
               subst (λ (z : machine.Worker). Contains z.marks (pair_of p)) (w.3 n) m.4,
             )))

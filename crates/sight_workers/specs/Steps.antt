@@ -12,7 +12,7 @@ use Rattle.board_core.specs.declared.event.Reply.TheVariants.{Source, NoSource, 
 use Rattle.sight_names.specs.declared.names.Pair.{Pair}
 use Rattle.sight_workers.specs.declared.view.Task.{Task}
 use Rattle.sight_workers.specs.declared.view.View.{View}
-use Rattle.sight_workers.specs.declared.view.Role.TheVariants.{Keeper, Worker}
+use Rattle.sight_workers.specs.declared.view.SeatRole.TheVariants.{Keeper, Worker}
 use Rattle.sight_workers.specs.Board.{Holds, IsFindable, IsPair, IsSet, bit_of, has_over, keeper_of, spent, word_count, word_of}
 use Rattle.sight_workers.specs.Plays.{keeper_joined, keeper_with_more, new_worker, with_claim, with_look, with_mark}
 

@@ -6,5 +6,5 @@ mod lumps;
 mod rewrite;
 
 pub use laws::rewritten_is_read;
-pub use lumps::Lump;
+pub use lumps::OutputLump;
 pub use rewrite::{with_reject, write_wad};

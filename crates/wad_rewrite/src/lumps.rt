@@ -2,7 +2,7 @@
 
 /// A name, padded with NUL, and the bytes under it.
 #[derive(Clone, Copy, Debug)]
-pub struct Lump<'a> {
+pub struct OutputLump<'a> {
     pub name: [u8; 8],
     pub bytes: &'a [u8],
 }

@@ -8,7 +8,7 @@ ghost use Rattle.wad_dir.specs.Print.{body, directory_from, lumps_with_reject, p
 ghost use Rattle.wad_rewrite.specs.Rewrite.{Writes, printed};
 ghost use Rattle.wad_rewrite.specs.Lumps.{view, views};
 
-use crate::lumps::Lump;
+use crate::lumps::OutputLump;
 use sight_names::RewriteFault;
 use std::alloc::{AllocError, Global};
 use wad_dir::{Entry, Kind, MapSpot, Wad};
@@ -23,11 +23,11 @@ const MAX_LEN: u64 = 1 << 31;
 
 const REJECT_NAME: [u8; 8] = *b"REJECT\0\0";
 
-fn lump_of<'a>(bytes: &'a [u8], entry: &Entry) -> Lump<'a>
+fn lump_of<'a>(bytes: &'a [u8], entry: &Entry) -> OutputLump<'a>
     requires { entry.now.at + entry.now.size ≤ length bytes.now }
     ensures { view result ≡ lump_under bytes.now entry.now }
 {
-    Lump {
+    OutputLump {
         name: entry.name,
         bytes: wad_dir::lump(bytes, entry),
     }
@@ -37,7 +37,7 @@ fn lumps_of<'a>(
     alloc: Global,
     bytes: &'a [u8],
     entries: &[Entry],
-) -> Result<Vec<Lump<'a>>, AllocError>
+) -> Result<Vec<OutputLump<'a>>, AllocError>
     requires { All (λ entry. entry.at + entry.size ≤ length bytes.now) entries.now }
     ensures { IfOk result (λ lumps. views lumps.items ≡ map (lump_under bytes.now) entries.now) }
 {
@@ -49,7 +49,7 @@ fn lumps_of<'a>(
 }
 
 fn replace_reject<'a>(
-    lumps: &mut Vec<Lump<'a>>,
+    lumps: &mut Vec<OutputLump<'a>>,
     spot: &MapSpot,
     table: &'a [u8],
 ) -> Result<(), AllocError>
@@ -61,7 +61,7 @@ fn replace_reject<'a>(
     match spot.reject {
         Some(place) => lumps[place as usize].bytes = table,
         None => {
-            let reject = Lump {
+            let reject = OutputLump {
                 name: REJECT_NAME,
                 bytes: table,
             };
@@ -71,7 +71,7 @@ fn replace_reject<'a>(
     Ok(())
 }
 
-fn len_of(lumps: &[Lump]) -> u64
+fn len_of(lumps: &[OutputLump]) -> u64
     requires { length lumps.now ≤ 65536 }
     ensures within { nat_le (2 ^ 31) result ≡ nat_le (2 ^ 31) (printed_len (views lumps.now)) }
     ensures len { result < 2 ^ 31 → result ≡ printed_len (views lumps.now) }
@@ -92,7 +92,7 @@ fn push_word(out: &mut Vec<u8>, word: u32) -> Result<(), AllocError>
     out.extend_from_slice(&word.to_le_bytes())
 }
 
-fn push_directory(out: &mut Vec<u8>, lumps: &[Lump]) -> Result<(), AllocError>
+fn push_directory(out: &mut Vec<u8>, lumps: &[OutputLump]) -> Result<(), AllocError>
     requires { printed_len (views lumps.now) < 2 ^ 31 }
     ensures { OnOk result (out.new.items ≡ out.old.items ++ directory_from 12 (views lumps.now)) }
 {
@@ -107,7 +107,7 @@ fn push_directory(out: &mut Vec<u8>, lumps: &[Lump]) -> Result<(), AllocError>
     Ok(())
 }
 
-fn push_bodies(out: &mut Vec<u8>, lumps: &[Lump]) -> Result<(), AllocError>
+fn push_bodies(out: &mut Vec<u8>, lumps: &[OutputLump]) -> Result<(), AllocError>
     ensures { OnOk result (out.new.items ≡ out.old.items ++ body (views lumps.now)) }
 {
     for lump in lumps {
@@ -128,7 +128,7 @@ fn magic(kind: Kind) -> &'static [u8]
 /// These lumps as a WAD: the header, their bytes in order from byte 12 on, then the directory. Lumps that share
 /// bytes are written apart. `TooManyLumps` and `TooLong` are answered before any memory is taken.
 #[tactic(auto, unfolding(crate::specs::Rewrite::printed, wad_dir::specs::Print::print))]
-pub fn write_wad(alloc: Global, kind: Kind, lumps: &[Lump]) -> Result<Vec<u8>, RewriteFault>
+pub fn write_wad(alloc: Global, kind: Kind, lumps: &[OutputLump]) -> Result<Vec<u8>, RewriteFault>
     ensures { Writes (λ v. v.items) result (printed (record { kind = kind; lumps = views lumps.now })) }
 {
     if lumps.len() > MAX_LUMPS {

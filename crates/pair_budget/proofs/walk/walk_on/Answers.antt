@@ -12,7 +12,7 @@ use Rattle.pair_budget.specs.Whole.{IsFound}
 use Rattle.pair_budget.proofs.Marks.{told_more, extends_both, still_full}
 use Rattle.pair_budget.proofs.Exactly.{finds_begin, finds_blocked, finds_next, finds_noted, finds_end, finds_spent, finds_early}
 use Rattle.pair_budget.proofs.Through.{through_none, through_moved, through_back, through_open}
-use Rattle.pair_budget.proofs.Walking.{IsOver, over_moved, begins, comes_blocked, comes_open, comes_end, noted_label, only_label}
+use Rattle.pair_budget.proofs.Walking.{IsOver, over_moved, begins, covers_blocked, covers_open, covers_end, noted_label, only_label}
 use Rattle.pair_budget.proofs.walk.walk_on.Goals as goal
 
 -- the numbers of the line are as they were when they come as arguments
@@ -27,11 +27,11 @@ loop-walker-init g c =
     let over : IsOver c.args.walker = record { rules = c.requires.rules; audited = c.requires.audited; good = c.requires.good } in
     record {
       walk = record { plan = refl; mesh = refl; labels = refl; source = refl };
-      finds = record { plan = refl; source = refl; keeps = λ r h. h };
+      found_sectors = record { plan = refl; source = refl; keeps = λ r h. h };
       over = over;
-      come = begins c.args.walker over c.requires.due c.requires.no_nodes c.args.finds.now.found c.requires.nothing;
-      exact = finds_begin c.args.walker c.args.budget c.args.finds.now.found c.requires.due c.requires.nothing;
-      through = through_none c.args.walker c.args.finds.now.found c.requires.nothing;
+      covered = begins c.args.walker over c.requires.due c.requires.no_nodes c.args.found_sectors.now.found c.requires.nothing;
+      exact = finds_begin c.args.walker c.args.budget c.args.found_sectors.now.found c.requires.due c.requires.nothing;
+      through = through_none c.args.walker c.args.found_sectors.now.found c.requires.nothing;
       full = λ f. f;
       hears = c.requires.hears;
       tag = refl;
@@ -62,13 +62,13 @@ note-requires-clause-hears g c =
     let walk = same_walk_both c.args.walker old new i.walk c.next.ensures.walk in
     some_both reached.result reached.ensures.reached reached.ensures.label
     (λ (r : Reached) far labelled. i.hears r.to (subst (λ (a : ℕ). r.to ≢ a) walk.source far.other) (subst (λ (p : PlanParts). r.to < p.sectors) walk.plan far.within)
-    (finds_next old new c.args.budget c.loop-walker.left c.loop-walker.finds.found i.exact k c.in-Open.entered c.in-Open.a c.in-Open.b c.in-Open.c opens c.args.walker i.walk c.in-Some.less c.in-Some.ensures r.to
+    (finds_next old new c.args.budget c.loop-walker.left c.loop-walker.found_sectors.found i.exact k c.in-Open.entered c.in-Open.a c.in-Open.b c.in-Open.c opens c.args.walker i.walk c.in-Some.less c.in-Some.ensures r.to
     (ap (λ (ls : List (Option ℕ)). label_of ls k) labels ∙ labelled)))
 
 pub returns-in-End-clause-shown : goal.returns-in-End-clause-shown
 returns-in-End-clause-shown g c =
     let i = c.loop-walker.invariant in
-    comes_end c.args.walker c.loop-walker.walker c.next.new.self c.loop-walker.finds.found i.walk i.come c.next.ensures.walk c.requires.due
+    covers_end c.args.walker c.loop-walker.walker c.next.new.self c.loop-walker.found_sectors.found i.walk i.covered c.next.ensures.walk c.requires.due
     (subst (Takes c.loop-walker.walker c.next.new.self) c.in-End.is c.in_ok-next.ensures.step) c.tree.result c.tree.ensures.source c.tree.ensures.nodes
 
 pub loop-walker-preserved-in-Blocked : goal.loop-walker-preserved-in-Blocked
@@ -76,13 +76,13 @@ loop-walker-preserved-in-Blocked g c =
     let i = c.loop-walker.invariant in
     record {
       walk = same_walk_both c.args.walker c.loop-walker.walker c.next.new.self i.walk c.next.ensures.walk;
-      finds = i.finds;
+      found_sectors = i.found_sectors;
       over = over_moved c.loop-walker.walker c.next.new.self c.next.ensures.walk i.over;
-      come = comes_blocked (due c.args.walker) c.loop-walker.walker c.next.new.self c.loop-walker.finds.found i.come c.next.ensures.walk c.in-Blocked.field-0
+      covered = covers_blocked (due c.args.walker) c.loop-walker.walker c.next.new.self c.loop-walker.found_sectors.found i.covered c.next.ensures.walk c.in-Blocked.field-0
           (subst (Takes c.loop-walker.walker c.next.new.self) c.in-Blocked.is c.in_ok-next.ensures.step);
-      exact = finds_blocked c.loop-walker.walker c.next.new.self c.args.budget c.loop-walker.left c.loop-walker.finds.found i.exact c.next.ensures.walk c.in-Blocked.field-0
+      exact = finds_blocked c.loop-walker.walker c.next.new.self c.args.budget c.loop-walker.left c.loop-walker.found_sectors.found i.exact c.next.ensures.walk c.in-Blocked.field-0
           (subst (Takes c.loop-walker.walker c.next.new.self) c.in-Blocked.is c.in_ok-next.ensures.step);
-      through = through_moved c.loop-walker.walker c.next.new.self c.loop-walker.finds.found c.next.ensures.walk i.through;
+      through = through_moved c.loop-walker.walker c.next.new.self c.loop-walker.found_sectors.found c.next.ensures.walk i.through;
       full = i.full;
       hears = i.hears;
       tag = i.tag;
@@ -95,8 +95,8 @@ loop-walker-preserved-in-Blocked g c =
       looks = i.looks;
     }
 
-pub returns-in_err-note-in-Open-clause-finds : goal.returns-in_err-note-in-Open-clause-finds
-returns-in_err-note-in-Open-clause-finds g c = extends_both c.args.finds.now c.loop-walker.finds c.note.new.finds c.loop-walker.invariant.finds c.note.ensures.finds
+pub returns-in_err-note-in-Open-clause-found_sectors : goal.returns-in_err-note-in-Open-clause-found_sectors
+returns-in_err-note-in-Open-clause-found_sectors g c = extends_both c.args.found_sectors.now c.loop-walker.found_sectors c.note.new.found_sectors c.loop-walker.invariant.found_sectors c.note.ensures.found_sectors
 
 pub returns-in_err-note-in-Open-clause-seen : goal.returns-in_err-note-in-Open-clause-seen
 returns-in_err-note-in-Open-clause-seen g c = λ p h. c.note.ensures.seen p (c.loop-walker.invariant.seen p h)
@@ -107,8 +107,8 @@ returns-in_err-note-in-Open-clause-kept g c = λ p h. c.note.ensures.kept p (c.l
 pub returns-in_err-note-in-Open-clause-looks : goal.returns-in_err-note-in-Open-clause-looks
 returns-in_err-note-in-Open-clause-looks g c = λ p h. c.note.ensures.looks p (c.loop-walker.invariant.looks p h)
 
-pub returns-then-branch-clause-finds : goal.returns-then-branch-clause-finds
-returns-then-branch-clause-finds g c = extends_both c.args.finds.now c.loop-walker.finds c.note.new.finds c.loop-walker.invariant.finds c.note.ensures.finds
+pub returns-then-branch-clause-found_sectors : goal.returns-then-branch-clause-found_sectors
+returns-then-branch-clause-found_sectors g c = extends_both c.args.found_sectors.now c.loop-walker.found_sectors c.note.new.found_sectors c.loop-walker.invariant.found_sectors c.note.ensures.found_sectors
 
 pub returns-then-branch-clause-outcome : goal.returns-then-branch-clause-outcome
 returns-then-branch-clause-outcome g c = sym c.loop-walker.invariant.settles ∙ c.in_ok-note-in-Open.ensures.settled c.if-branch.true
@@ -126,10 +126,10 @@ pub returns-then-branch-clause-looks : goal.returns-then-branch-clause-looks
 returns-then-branch-clause-looks g c = λ p h. c.note.ensures.looks p (c.loop-walker.invariant.looks p h)
 
 pub returns-in_err-note-in-Open-clause-marks : goal.returns-in_err-note-in-Open-clause-marks
-returns-in_err-note-in-Open-clause-marks g c = told_more c.args.source c.loop-walker.finds c.note.new.finds _ _ _ c.note.ensures.finds c.loop-walker.invariant.marks c.note.ensures.marks
+returns-in_err-note-in-Open-clause-marks g c = told_more c.args.source c.loop-walker.found_sectors c.note.new.found_sectors _ _ _ c.note.ensures.found_sectors c.loop-walker.invariant.marks c.note.ensures.marks
 
 pub returns-then-branch-clause-marks : goal.returns-then-branch-clause-marks
-returns-then-branch-clause-marks g c = told_more c.args.source c.loop-walker.finds c.note.new.finds _ _ _ c.note.ensures.finds c.loop-walker.invariant.marks c.note.ensures.marks
+returns-then-branch-clause-marks g c = told_more c.args.source c.loop-walker.found_sectors c.note.new.found_sectors _ _ _ c.note.ensures.found_sectors c.loop-walker.invariant.marks c.note.ensures.marks
 
 pub loop-walker-preserved : goal.loop-walker-preserved
 loop-walker-preserved g c =
@@ -137,7 +137,7 @@ loop-walker-preserved g c =
     let e = c.note.ensures in
     let old = c.loop-walker.walker in
     let new = c.next.new.self in
-    let later = c.note.new.finds.found in
+    let later = c.note.new.found_sectors.found in
     let k = c.in-Open.triangle in
     let labels : old.labels ≡ c.args.labels.now = i.walk.labels ∙ c.requires.labels in
     let opens : Opens old new k c.in-Open.entered c.in-Open.a c.in-Open.b c.in-Open.c = subst (Takes old new) c.in-Open.is c.in_ok-next.ensures.step in
@@ -147,18 +147,18 @@ loop-walker-preserved g c =
     (reached.ensures.given sector (subst (λ (ls : List (Option ℕ)). label_of ls k ≡ Some sector) labels h) (subst IsSome (sym opens.answers.root) refl) some) in
     record {
       walk = same_walk_both c.args.walker c.loop-walker.walker c.next.new.self i.walk c.next.ensures.walk;
-      finds = extends_both c.args.finds.now c.loop-walker.finds c.note.new.finds i.finds e.finds;
+      found_sectors = extends_both c.args.found_sectors.now c.loop-walker.found_sectors c.note.new.found_sectors i.found_sectors e.found_sectors;
       over = over_moved old new c.next.ensures.walk i.over;
-      come = comes_open (due c.args.walker) old new c.loop-walker.finds.found i.come k c.in-Open.entered c.in-Open.a c.in-Open.b c.in-Open.c opens later e.finds.keeps c.next.ensures.walk i.over noted
-          (λ r there. only_label old.labels c.args.labels.now k c.loop-walker.finds.found reached.result r labels reached.ensures.label (c.in_ok-note-in-Open.ensures.only r there));
-      exact = finds_noted c.args.walker old new c.args.budget c.loop-walker.left c.loop-walker.finds.found i.come i.exact c.next.ensures.walk k c.in-Open.entered c.in-Open.a c.in-Open.b c.in-Open.c opens c.in-Some.less c.in-Some.ensures later e.finds.keeps noted
-          (λ r there. only_label old.labels c.args.labels.now k c.loop-walker.finds.found reached.result r labels reached.ensures.label (c.in_ok-note-in-Open.ensures.only r there));
-      through = through_open old new c.loop-walker.finds.found later i.through k c.in-Open.entered c.in-Open.a c.in-Open.b c.in-Open.c opens c.next.ensures.walk c.args.labels.now labels reached.result reached.ensures.label (ray_kept new.root c.in-Open.entered c.in-Open.a c.in-Open.b c.in-Open.c reached.result (search rules) (search rules) (search rules) reached.ensures.ray) c.in_ok-note-in-Open.ensures.only;
+      covered = covers_open (due c.args.walker) old new c.loop-walker.found_sectors.found i.covered k c.in-Open.entered c.in-Open.a c.in-Open.b c.in-Open.c opens later e.found_sectors.keeps c.next.ensures.walk i.over noted
+          (λ r there. only_label old.labels c.args.labels.now k c.loop-walker.found_sectors.found reached.result r labels reached.ensures.label (c.in_ok-note-in-Open.ensures.only r there));
+      exact = finds_noted c.args.walker old new c.args.budget c.loop-walker.left c.loop-walker.found_sectors.found i.covered i.exact c.next.ensures.walk k c.in-Open.entered c.in-Open.a c.in-Open.b c.in-Open.c opens c.in-Some.less c.in-Some.ensures later e.found_sectors.keeps noted
+          (λ r there. only_label old.labels c.args.labels.now k c.loop-walker.found_sectors.found reached.result r labels reached.ensures.label (c.in_ok-note-in-Open.ensures.only r there));
+      through = through_open old new c.loop-walker.found_sectors.found later i.through k c.in-Open.entered c.in-Open.a c.in-Open.b c.in-Open.c opens c.next.ensures.walk c.args.labels.now labels reached.result reached.ensures.label (ray_kept new.root c.in-Open.entered c.in-Open.a c.in-Open.b c.in-Open.c reached.result (search rules) (search rules) (search rules) reached.ensures.ray) c.in_ok-note-in-Open.ensures.only;
       full = λ f. still_full c.loop-walker.left c.in-Some.less (i.full f) c.in-Some.ensures;
       hears = λ b other below f. e.hears _ (i.hears b other below f);
       tag = e.tag ∙ i.tag;
       kept = λ p h. e.kept p (i.kept p h);
-      marks = told_more c.args.source c.loop-walker.finds c.note.new.finds _ _ _ e.finds i.marks e.marks;
+      marks = told_more c.args.source c.loop-walker.found_sectors c.note.new.found_sectors _ _ _ e.found_sectors i.marks e.marks;
       claims = e.claims ∙ i.claims;
       settles = e.settles ∙ i.settles;
       mates = λ x y h. e.mates x y (i.mates x y h);
@@ -169,12 +169,12 @@ loop-walker-preserved g c =
 pub returns-in-End-clause-exact : goal.returns-in-End-clause-exact
 returns-in-End-clause-exact g c =
     let i = c.loop-walker.invariant in
-    finds_end c.loop-walker.walker c.next.new.self c.args.budget c.loop-walker.left c.loop-walker.finds.found i.exact c.args.walker i.walk (subst (Takes c.loop-walker.walker c.next.new.self) c.in-End.is c.in_ok-next.ensures.step) c.tree.result
+    finds_end c.loop-walker.walker c.next.new.self c.args.budget c.loop-walker.left c.loop-walker.found_sectors.found i.exact c.args.walker i.walk (subst (Takes c.loop-walker.walker c.next.new.self) c.in-End.is c.in_ok-next.ensures.step) c.tree.result
 
 pub returns-in_default-clause-exact : goal.returns-in_default-clause-exact
 returns-in_default-clause-exact g c =
     let i = c.loop-walker.invariant in
-    finds_spent c.loop-walker.walker c.next.new.self c.args.budget c.loop-walker.left c.loop-walker.finds.found i.exact c.in-Open.triangle c.in-Open.entered c.in-Open.a c.in-Open.b c.in-Open.c
+    finds_spent c.loop-walker.walker c.next.new.self c.args.budget c.loop-walker.left c.loop-walker.found_sectors.found i.exact c.in-Open.triangle c.in-Open.entered c.in-Open.a c.in-Open.b c.in-Open.c
     (subst (Takes c.loop-walker.walker c.next.new.self) c.in-Open.is c.in_ok-next.ensures.step) c.args.walker i.walk c.in_default.ensures
 
 pub returns-then-branch-clause-exact : goal.returns-then-branch-clause-exact
@@ -187,18 +187,18 @@ returns-then-branch-clause-exact g c =
     let labels : old.labels ≡ c.args.labels.now = i.walk.labels ∙ c.requires.labels in
     let opens : Opens old new k c.in-Open.entered c.in-Open.a c.in-Open.b c.in-Open.c = subst (Takes old new) c.in-Open.is c.in_ok-next.ensures.step in
     let reached = c.reached_by-reached in
-    let later = c.note.new.finds.found in
+    let later = c.note.new.found_sectors.found in
     finds_early c.args.walker new c.args.budget c.in-Some.less later (same_walk_both c.args.walker old new i.walk c.next.ensures.walk)
-    (finds_noted c.args.walker old new c.args.budget c.loop-walker.left c.loop-walker.finds.found i.come i.exact c.next.ensures.walk k c.in-Open.entered c.in-Open.a c.in-Open.b c.in-Open.c opens c.in-Some.less c.in-Some.ensures later e.finds.keeps
+    (finds_noted c.args.walker old new c.args.budget c.loop-walker.left c.loop-walker.found_sectors.found i.covered i.exact c.next.ensures.walk k c.in-Open.entered c.in-Open.a c.in-Open.b c.in-Open.c opens c.in-Some.less c.in-Some.ensures later e.found_sectors.keeps
     (λ sector h some. noted_label old.labels c.args.labels.now k later reached.result labels c.in_ok-note-in-Open.ensures.reached reached.ensures.label sector h
     (reached.ensures.given sector (subst (λ (ls : List (Option ℕ)). label_of ls k ≡ Some sector) labels h) (subst IsSome (sym opens.answers.root) refl) some))
-    (λ r there. only_label old.labels c.args.labels.now k c.loop-walker.finds.found reached.result r labels reached.ensures.label (c.in_ok-note-in-Open.ensures.only r there)))
+    (λ r there. only_label old.labels c.args.labels.now k c.loop-walker.found_sectors.found reached.result r labels reached.ensures.label (c.in_ok-note-in-Open.ensures.only r there)))
 
 pub returns-in-End-clause-rays : goal.returns-in-End-clause-rays
-returns-in-End-clause-rays g c = through_back c.args.walker c.loop-walker.walker c.loop-walker.finds.found c.loop-walker.invariant.walk c.loop-walker.invariant.through
+returns-in-End-clause-rays g c = through_back c.args.walker c.loop-walker.walker c.loop-walker.found_sectors.found c.loop-walker.invariant.walk c.loop-walker.invariant.through
 
 pub returns-in_default-clause-rays : goal.returns-in_default-clause-rays
-returns-in_default-clause-rays g c = through_back c.args.walker c.loop-walker.walker c.loop-walker.finds.found c.loop-walker.invariant.walk c.loop-walker.invariant.through
+returns-in_default-clause-rays g c = through_back c.args.walker c.loop-walker.walker c.loop-walker.found_sectors.found c.loop-walker.invariant.walk c.loop-walker.invariant.through
 
 pub returns-then-branch-clause-rays : goal.returns-then-branch-clause-rays
 returns-then-branch-clause-rays g c =
@@ -209,6 +209,6 @@ returns-then-branch-clause-rays g c =
     let labels : old.labels ≡ c.args.labels.now = i.walk.labels ∙ c.requires.labels in
     let opens : Opens old new k c.in-Open.entered c.in-Open.a c.in-Open.b c.in-Open.c = subst (Takes old new) c.in-Open.is c.in_ok-next.ensures.step in
     let reached = c.reached_by-reached in
-    let later = c.note.new.finds.found in
+    let later = c.note.new.found_sectors.found in
     through_back c.args.walker new later (same_walk_both c.args.walker old new i.walk c.next.ensures.walk)
-    (through_open old new c.loop-walker.finds.found later i.through k c.in-Open.entered c.in-Open.a c.in-Open.b c.in-Open.c opens c.next.ensures.walk c.args.labels.now labels reached.result reached.ensures.label (ray_kept new.root c.in-Open.entered c.in-Open.a c.in-Open.b c.in-Open.c reached.result (search rules) (search rules) (search rules) reached.ensures.ray) c.in_ok-note-in-Open.ensures.only)
+    (through_open old new c.loop-walker.found_sectors.found later i.through k c.in-Open.entered c.in-Open.a c.in-Open.b c.in-Open.c opens c.next.ensures.walk c.args.labels.now labels reached.result reached.ensures.label (ray_kept new.root c.in-Open.entered c.in-Open.a c.in-Open.b c.in-Open.c reached.result (search rules) (search rules) (search rules) reached.ensures.ray) c.in_ok-note-in-Open.ensures.only)

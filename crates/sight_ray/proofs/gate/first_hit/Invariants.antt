@@ -1,6 +1,0 @@
-use Rattle.sight_names.specs.Map.{map_of}
-use Rattle.sight_ray.specs.Gate.{AreClearBelow}
-use Rattle.sight_ray.proofs.gate.first_hit.Given as goal
-
-abbrev pub invariant-loop-number : goal.invariant-loop-number
-invariant-loop-number l = AreClearBelow (map_of l.plan) l.ray l.start l.stop l.number
