@@ -4,3 +4,4 @@ pub mod Signs
 pub mod Quoting
 pub mod MoreSigns
 pub mod Choice
+pub mod Small
