@@ -18,9 +18,10 @@ use Rattle.plane_base.proofs.Every.{all_weaker}
 use Rattle.enough_base.proofs.Few.{Differ, few}
 use Rattle.enough_base.proofs.Numbers.{digit_below, same_digits}
 use Rattle.enough_base.proofs.Ranks.{RootLine, root_line, root_rank, root_rank_below, one_root}
-use Rattle.enough_base.proofs.Orders.{all_of_contains, ascending_differ}
+use Rattle.enough_base.proofs.Orders.{ascending_differ}
 use Rattle.enough_base.proofs.Depth.{AllTurn}
 use Rattle.enough_base.proofs.Sources.{stabbed, IsCode, code_of, code_tells}
+use Rattle.list_base.proofs.Lists.{all_of}
 
 module _ (m : Map) (ts : List Triangle) (ls : List (Option ℕ)) (are : AreTriangles (length (points_of m)) ts) (turns : AllTurn m ts) where
   -- at most so many start at one root
@@ -73,10 +74,10 @@ module _ (m : Map) (ts : List Triangle) (ls : List (Option ℕ)) (are : AreTrian
   pub place_below : (a : ℕ) (s : Sequence) (n : ℕ) → IsStabbableSequence m ts ls a s → HasPlace m ts ls a s n → n < at_source
   place_below a s n is p =
       let d : Differ (s ∷ p.before) = (
-        all_of_contains (λ t. ¬ (s ≡ t)) p.before (λ t c e. before_irreflexive s (subst (λ (x : Sequence). SequenceBefore x s) (sym e) ((p.exactly t).0 c).1)),
+        all_of (λ t. ¬ (s ≡ t)) p.before (λ t c e. before_irreflexive s (subst (λ (x : Sequence). SequenceBefore x s) (sym e) ((p.exactly t).0 c).1)),
         ascending_differ p.before p.ascend,
       ) in
-      let h : AllByRecursion (IsStabbableSequence m ts ls a) (s ∷ p.before) = (is, all_of_contains (IsStabbableSequence m ts ls a) p.before (λ t c. ((p.exactly t).0 c).0)) in
+      let h : AllByRecursion (IsStabbableSequence m ts ls a) (s ∷ p.before) = (is, all_of (IsStabbableSequence m ts ls a) p.before (λ t c. ((p.exactly t).0 c).0)) in
       let b = few_of_source a (s ∷ p.before) d h in
       let c = p.count in
       omega (arith, b, c)

@@ -17,7 +17,7 @@ few_passable p is =
     let k = is.few_lines in
     omega (arith, s, l)
 
-product : (l v t : ℕ) → l ≤ 16384 → v ≤ 4096 → t ≤ 8192 → l * v * v * t ≤ 2 ^ 51
+pub product : (l v t : ℕ) → l ≤ 16384 → v ≤ 4096 → t ≤ 8192 → l * v * v * t ≤ 2 ^ 51
 product l v t hl hv ht =
     let a = mul-le-mul hl hv in
     let b = mul-le-mul a hv in

@@ -5,9 +5,11 @@ use Rattle.std.proofs.lemmas.Option.{none-some, same_Some}
 use Rattle.sight_names.specs.declared.names.Side.{Side}
 use Rattle.sight_names.specs.Map.{Map, MapLine, line_at, sector_on}
 use Rattle.sight_names.specs.Sequence.{roots, sides_of, is_root, names_it}
-use Rattle.sight_names.proofs.Lists.{contains_cases, contains_none}
-use Rattle.mesh_base.proofs.MapFacts.{there_of}
+use Rattle.sight_names.proofs.Lists.{contains_cases}
 use Rattle.sight_names.specs.Enough.{is_passable, passable_lines}
+use Rattle.list_base.proofs.Bools.{second_true, first_true}
+use Rattle.list_base.proofs.Lists.{contains_none}
+use Rattle.sight_names.proofs.Roots.{there_of}
 
 module _ {X : Type 0} (test : X → Bool) where
   abbrev pub rank : List X → ℕ → ℕ
@@ -70,14 +72,6 @@ pub record RootLine (m : Map) (a : ℕ) (s : Side) : Type 0 where
   pub names : names_it (sector_on line s.left) a ≡ true
   pub not_beyond : not (names_it (sector_on line (not s.left)) a) ≡ true
 
-and_first : (b c : Bool) → (b && c) ≡ true → b ≡ true
-and_first true c e = refl
-and_first false c e = e
-
-and_second : (b c : Bool) → (b && c) ≡ true → c ≡ true
-and_second true c e = e
-and_second false c e = absurd (true≢false (sym e))
-
 root_line_of : (m : Map) (a : ℕ) (s : Side) → is_root m a s ≡ true → RootLine m a s
 root_line_of m a s h = go (line_at m s.line) refl
   where
@@ -89,9 +83,9 @@ root_line_of m a s h = go (line_at m s.line) refl
     go (Some l) e = let t = sym (yes e) ∙ h in record {
       line = l;
       there = e;
-      passable = and_first (not l.solid) (names_it (sector_on l s.left) a) (and_first (not l.solid && names_it (sector_on l s.left) a) (not (names_it (sector_on l (not s.left)) a)) t);
-      names = and_second (not l.solid) (names_it (sector_on l s.left) a) (and_first (not l.solid && names_it (sector_on l s.left) a) (not (names_it (sector_on l (not s.left)) a)) t);
-      not_beyond = and_second (not l.solid && names_it (sector_on l s.left) a) (not (names_it (sector_on l (not s.left)) a)) t;
+      passable = first_true (not l.solid) (names_it (sector_on l s.left) a) (first_true (not l.solid && names_it (sector_on l s.left) a) (not (names_it (sector_on l (not s.left)) a)) t);
+      names = second_true (not l.solid) (names_it (sector_on l s.left) a) (first_true (not l.solid && names_it (sector_on l s.left) a) (not (names_it (sector_on l (not s.left)) a)) t);
+      not_beyond = second_true (not l.solid && names_it (sector_on l s.left) a) (not (names_it (sector_on l (not s.left)) a)) t;
     }
       where
         yes : line_at m s.line ≡ Some l → is_root m a s ≡ (not l.solid && names_it (sector_on l s.left) a && not (names_it (sector_on l (not s.left)) a))

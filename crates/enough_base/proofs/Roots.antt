@@ -6,8 +6,8 @@ use Rattle.sight_names.specs.Map.{Map, MapLine}
 use Rattle.sight_names.specs.Sequence.{roots, sides_of, both_sides, is_root}
 use Rattle.sight_names.specs.Enough.{passable_lines}
 use Rattle.enough_base.proofs.Few.{Differ, few}
-use Rattle.enough_base.proofs.Orders.{all_of_contains}
 use Rattle.enough_base.proofs.Ranks.{RootLine, root_line, root_rank, root_rank_below, one_root}
+use Rattle.list_base.proofs.Lists.{all_of}
 
 -- ---- the sides of the map are all different
 
@@ -55,4 +55,4 @@ HasRank m a s c = RootLine m a s × (c ≡ root_rank m s)
 
 pub few_roots : (m : Map) (a : ℕ) → length (roots m a) ≤ passable_lines m
 few_roots m a = few (HasRank m a) (passable_lines m) (λ s t c g h. one_root m a s t g.0 h.0 (sym g.1 ∙ h.1)) (roots m a)
-    (all_of_contains (λ s. (c : ℕ) × (c < passable_lines m) × HasRank m a s c) (roots m a) (λ s c. let r = root_line m a s c in (root_rank m s, root_rank_below m a s r, (r, refl)))) (roots_differ m a)
+    (all_of (λ s. (c : ℕ) × (c < passable_lines m) × HasRank m a s c) (roots m a) (λ s c. let r = root_line m a s c in (root_rank m s, root_rank_below m a s r, (r, refl)))) (roots_differ m a)

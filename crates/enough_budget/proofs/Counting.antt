@@ -23,10 +23,10 @@ use Rattle.sequence_laws.proofs.UnderWay.{IsUnderWay, passes_all, passes_blocked
 use Rattle.portal_walk.proofs.Lists.{get_more}
 use Rattle.portal_walk.specs.Walk.{WalkParts, SameWalk, Answers, Blocks, Opens, Ends, due}
 use Rattle.enough_base.proofs.Counts.{few_of_source}
-use Rattle.enough_base.proofs.Orders.{all_of_contains, ascending_differ}
-use Rattle.enough_base.proofs.PlanBound.{few_passable}
+use Rattle.enough_base.proofs.Orders.{ascending_differ}
+use Rattle.enough_base.proofs.PlanBound.{few_passable, product}
 use Rattle.enough_budget.specs.Need.{HasSequences, greatest}
-use Rattle.enough_budget.proofs.Passing.{third_product}
+use Rattle.list_base.proofs.Lists.{all_of}
 
 -- ---- the numbers
 
@@ -35,7 +35,7 @@ pub enough_below : (p : PlanParts) → IsPlan p → (ts : List Triangle) → len
 enough_below p is ts few =
     let v = count_of_plan p is in
     let f = is.few_points in
-    let e = third_product (passable_lines (map_of p)) (length (points_of (map_of p))) (length ts) (few_passable p is) (omega (arith, v, f)) few in
+    let e = product (passable_lines (map_of p)) (length (points_of (map_of p))) (length ts) (few_passable p is) (omega (arith, v, f)) few in
     omega (arith, e)
 
 below_greater : (n p : ℕ) → n ≤ p → n ≤ max 1 p
@@ -51,7 +51,7 @@ module _ (m : Map) (ts : List Triangle) (ls : List (Option ℕ)) (a : ℕ) where
   -- no more than enough, at any time
   pub counted_few : IsGoodMesh m ts ls → (dues : List Sequence) (count : ℕ) → HasCounted dues count → count ≤ enough_of m ts
   counted_few good dues count h =
-      let few = few_of_source m ts ls good.plain.triangles good.plain.turn a h.opened (ascending_differ h.opened h.under_way.ascend) (all_of_contains (IsStabbableSequence m ts ls a) h.opened h.under_way.each) in
+      let few = few_of_source m ts ls good.plain.triangles good.plain.turn a h.opened (ascending_differ h.opened h.under_way.ascend) (all_of (IsStabbableSequence m ts ls a) h.opened h.under_way.each) in
       subst (λ (n : ℕ). n ≤ enough_of m ts) h.count_is (below_greater _ _ few)
 
   counted_begun : HasCounted (map root_alone (roots m a)) 0
@@ -64,7 +64,7 @@ module _ (m : Map) (ts : List Triangle) (ls : List (Option ℕ)) (a : ℕ) where
 
   pub sequences_few : IsGoodMesh m ts ls → (n : ℕ) → HasSequences m ts ls a n → n ≤ enough_of m ts
   sequences_few good n (all, are, count) =
-      let few = few_of_source m ts ls good.plain.triangles good.plain.turn a all (ascending_differ all are.ascend) (all_of_contains (IsStabbableSequence m ts ls a) all (λ s c. (are.exactly s).0 c)) in
+      let few = few_of_source m ts ls good.plain.triangles good.plain.turn a all (ascending_differ all are.ascend) (all_of (IsStabbableSequence m ts ls a) all (λ s c. (are.exactly s).0 c)) in
       subst (λ (k : ℕ). k ≤ enough_of m ts) count (below_greater _ _ few)
 
   pub spent_below : IsGoodMesh m ts ls → (n budget : ℕ) → HasSequences m ts ls a n → Spent m ts ls a (Of budget) ↔ (budget < n)

@@ -5,6 +5,7 @@ use Rattle.sight_names.specs.declared.plan.Line.{Line}
 use Rattle.sight_names.specs.Map.{looked_up}
 use Rattle.sight_names.specs.Enough.{is_passable}
 use Rattle.enough_budget.specs.Passable.{is_open}
+use Rattle.enough_base.proofs.PlanBound.{product}
 
 same_test : (points : List Pt) (o : Option Line) → is_passable (option_map (looked_up points) o) ≡ is_open o
 same_test points None = refl
@@ -27,9 +28,6 @@ first_product l v h k = mul-le-mul h k
 
 pub second_product : (l v : ℕ) → l ≤ 16384 → v ≤ 4096 → l * v * v ≤ 274877906944
 second_product l v h k = mul-le-mul (first_product l v h k) k
-
-pub third_product : (l v t : ℕ) → l ≤ 16384 → v ≤ 4096 → t ≤ 8192 → l * v * v * t ≤ 2 ^ 51
-third_product l v t h k i = mul-le-mul (second_product l v h k) i
 
 either_way : (a : ℕ) → max a 1 ≡ max 1 a
 either_way a = omega arith

@@ -4,13 +4,12 @@ use Rattle.std.proofs.lemmas.List.Elements.{All-nil, All-cons, All-weaker}
 use Rattle.std.proofs.lemmas.Int.{ints}
 use Rattle.exact_ring.proofs.Signs.{le_or_lt, mul-le, le-of-mul}
 use Rattle.exact_ring.proofs.Quoting.{quoting, by_ring}
+use Rattle.exact_ring.proofs.Small.{le_of_lt}
+use Rattle.list_base.proofs.Lists.{contains_here}
 
 -- a fact that is decided at each element
 abbrev pub IsDecided : {A : Type 0} → (A → Type 0) → Type 0
 IsDecided {A} P = (x : A) → P x ⊎ ¬ (P x)
-
-contains_here : {A : Type 0} (x : A) (xs : List A) → Contains (x ∷ xs) x
-contains_here x xs = (zero, omega arith, refl)
 
 contains_there : {A : Type 0} (y x : A) (xs : List A) → Contains xs x → Contains (y ∷ xs) x
 contains_there y x xs (k, l, e) = (suc k, omega arith, e)
@@ -97,13 +96,10 @@ IsAtMost f g = (f.n *ℤ g.k) ≤ℤ (g.n *ℤ f.k)
 
 pub fractions_ordered : (P : Fraction → Type 0) → IsPreorder P IsAtMost
 fractions_ordered P = record {
-  total = λ f g p q. elim (le_or_lt (f.n *ℤ g.k) (g.n *ℤ f.k)) as (λ _. IsAtMost f g ⊎ IsAtMost g f) [ inl h ↦ inl h | inr h ↦ inr (weak (g.n *ℤ f.k) (f.n *ℤ g.k) h) ];
+  total = λ f g p q. elim (le_or_lt (f.n *ℤ g.k) (g.n *ℤ f.k)) as (λ _. IsAtMost f g ⊎ IsAtMost g f) [ inl h ↦ inl h | inr h ↦ inr (le_of_lt (g.n *ℤ f.k) (f.n *ℤ g.k) h) ];
   trans = λ f g h p q r a b. through f.n f.k g.n g.k h.n h.k f.positive g.positive h.positive a b;
 }
   where
-    weak : (a b : ℤ) → a <ℤ b → a ≤ℤ b
-    weak a b h = omega (arith, ints)
-
     chain : (a b c d e f : ℤ) → a ≡ b → c ≡ d → e ≡ f → a ≤ℤ c → d ≤ℤ e → b ≤ℤ f
     chain a b c d e f u v w p q = omega (arith, ints)
 

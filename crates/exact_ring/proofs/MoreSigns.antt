@@ -5,7 +5,7 @@ use Rattle.exact_ring.proofs.Signs.{mul-nonneg, mul-pos, pos-of-mul, nonneg-of-m
 use Rattle.exact_ring.proofs.Quoting.{quoting, ring_at}
 
 -- a negated factor, to turn a sign
-mul-neg_ℤ : (a b : ℤ) → a *ℤ neg_ℤ b ≡ neg_ℤ (a *ℤ b)
+pub mul-neg_ℤ : (a b : ℤ) → a *ℤ neg_ℤ b ≡ neg_ℤ (a *ℤ b)
 mul-neg_ℤ a b = ring_at (a ∷ b ∷ []) (search quoting depth 40 fits 100000) tt
 
 pub mul-neg : (a b : ℤ) → pos 0 <ℤ a → b <ℤ pos 0 → (a *ℤ b) <ℤ pos 0

@@ -7,6 +7,7 @@ use Rattle.std.specs.List.{AllByRecursion}
 use Rattle.sight_names.specs.declared.names.EndPair.{EndPair}
 use Rattle.sight_names.specs.Point.{point_of, value_at}
 use Rattle.sight_names.specs.Splitting.{AreBalanced, across, up, weighed}
+use Rattle.exact_ring.proofs.Small.{weighed_pos, weighed_nonneg}
 
 -- the line has the pair's left end on its left and its right end on its right
 abbrev pub PartsPair : ℤ → ℤ → ℤ → EndPair → Type 0
@@ -34,17 +35,11 @@ weighed_gain a b [] (p ∷ ps) = zero_ring a b
 weighed_gain a b (w ∷ ws) [] = zero_ring a b
 weighed_gain a b (w ∷ ws) (p ∷ ps) = one_more_ring a b (pos w) (across p) (up p) (weighed across ws ps) (weighed up ws ps) ∙ ap (λ (t : ℤ). pos w *ℤ gain a b p +ℤ t) (weighed_gain a b ws ps)
 
-weigh : (w : ℕ) (x : ℤ) → pos 0 <ℤ x → pos 0 ≤ℤ (pos w *ℤ x)
-weigh w x h = mul-nonneg (pos w) x (omega (arith, ints)) (omega (arith, ints))
-
-weigh_more : (w : ℕ) (x : ℤ) → pos 0 <ℤ x → pos 0 <ℤ (pos (suc w) *ℤ x)
-weigh_more w x h = mul-pos (pos (suc w)) x (omega (arith, ints)) h
-
 weighed_nonneg : (f : EndPair → ℤ) (ws : List ℕ) (ps : List EndPair) → AllByRecursion (λ p. pos 0 <ℤ f p) ps → pos 0 ≤ℤ weighed f ws ps
 weighed_nonneg f [] ps h = omega (arith, ints)
 weighed_nonneg f (w ∷ ws) [] h = omega (arith, ints)
 weighed_nonneg f (w ∷ ws) (p ∷ ps) h =
-    let a = weigh w (f p) h.0 in
+    let a = weighed_nonneg w (f p) h.0 in
     let b = weighed_nonneg f ws ps h.1 in
     omega (arith, ints)
 
@@ -52,11 +47,11 @@ weighed_above : (f : EndPair → ℤ) (ws : List ℕ) (ps : List EndPair) → le
 weighed_above f [] ps e s h = absurd (omega (arith, s))
 weighed_above f (w ∷ ws) [] e s h = absurd (omega (arith, e))
 weighed_above f (zero ∷ ws) (p ∷ ps) e s h =
-    let a = weigh zero (f p) h.0 in
+    let a = weighed_nonneg zero (f p) h.0 in
     let b = weighed_above f ws ps (omega (arith, e)) (omega (arith, s)) h.1 in
     omega (arith, ints)
 weighed_above f (suc w ∷ ws) (p ∷ ps) e s h =
-    let a = weigh_more w (f p) h.0 in
+    let a = weighed_pos w (f p) h.0 in
     let b = weighed_nonneg f ws ps h.1 in
     omega (arith, ints)
 

@@ -6,29 +6,18 @@ use Rattle.sight_names.specs.declared.names.Pt.{Pt}
 use Rattle.sight_names.specs.declared.names.EndAt.{EndAt}
 use Rattle.sight_names.specs.declared.names.EndPair.{EndPair}
 use Rattle.sight_names.specs.Splitting.{EndPoints, IsPairOf, end_of}
+use Rattle.list_base.proofs.Options.{some_is_same, none_is_not_some}
+use Rattle.list_base.proofs.Lists.{get_pushed}
 
 pub get_append : {X : Type 0} (xs ys : List X) (k : ℕ) (x : X) → slice_get xs k ≡ Some x → slice_get (xs ++ ys) k ≡ Some x
-get_append [] ys k x h = absurd (none_some x h)
-  where
-    none_some : {X : Type 0} (x : X) → ◌≡◌ {A = Option X} None (Some x) → ⊥
-    none_some x h = cc
+get_append [] ys k x h = absurd (none_is_not_some x h)
 get_append (z ∷ xs) ys zero x h = h
 get_append (z ∷ xs) ys (suc k) x h = get_append xs ys k x h
 
-pub get_last : {X : Type 0} (xs : List X) (x : X) → slice_get (xs ++ x ∷ []) (length xs) ≡ Some x
-get_last [] x = refl
-get_last (z ∷ xs) x = get_last xs x
-
 -- an element of a longer list is one of the shorter or the last
 pub get_cases : {X : Type 0} (xs : List X) (y : X) (k : ℕ) (x : X) → slice_get (xs ++ y ∷ []) k ≡ Some x → (slice_get xs k ≡ Some x) ⊎ (y ≡ x)
-get_cases [] y zero x h = inr (some_is y x h)
-  where
-    some_is : {X : Type 0} (y x : X) → Some y ≡ Some x → y ≡ x
-    some_is y x h = cc
-get_cases [] y (suc k) x h = absurd (none_some x h)
-  where
-    none_some : {X : Type 0} (x : X) → ◌≡◌ {A = Option X} None (Some x) → ⊥
-    none_some x h = cc
+get_cases [] y zero x h = inr (some_is_same y x h)
+get_cases [] y (suc k) x h = absurd (none_is_not_some x h)
 get_cases (z ∷ xs) y zero x h = inl h
 get_cases (z ∷ xs) y (suc k) x h = get_cases xs y k x h
 
@@ -77,10 +66,7 @@ found code f None e h = absurd (none_some h)
   where
     none_some : ◌≡◌ {A = Option EndAt} None (Some e) → ⊥
     none_some h = cc
-found code f (Some q) e h = (q, refl, ap (λ (v : EndAt). v.at) (some_is (record { code = code; at = f q }) e h))
-  where
-    some_is : (u v : EndAt) → Some u ≡ Some v → u ≡ v
-    some_is u v h = cc
+found code f (Some q) e h = (q, refl, ap (λ (v : EndAt). v.at) (some_is_same (record { code = code; at = f q }) e h))
 
 pub left_place : (es : List EndPoints) (e : EndAt) → e.code < 32768 → end_of es e.code ≡ Some e → (i : ℕ) × (p : EndPoints) × (slice_get es i ≡ Some p) × (p.left ≡ e.at)
 left_place es e h k =

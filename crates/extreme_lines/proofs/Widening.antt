@@ -14,6 +14,8 @@ use Rattle.extreme_lines.specs.declared.extreme.Extreme.{Extreme}
 use Rattle.extreme_lines.specs.declared.wedge.Wedge.{Wedge}
 use Rattle.extreme_lines.specs.declared.cone.Cone.{Cone}
 use Rattle.extreme_lines.specs.declared.cone.Cone.TheVariants.{Ray, Open}
+use Rattle.exact_ring.proofs.Ring.{same_of_difference}
+use Rattle.exact_ring.proofs.Small.{abs_of_nonneg}
 
 -- ---- lengths
 pub long_of_turn : (d g : Arrow) → pos 0 <ℤ cross d g → pos 0 <ℤ dot g g
@@ -141,9 +143,6 @@ on_second w l r z h k = let b = second_level (difference l.at r.at) (arrow_of w.
 as_nat : (u v w : ℤ) → pos 0 ≤ℤ u → pos 0 ≤ℤ v → pos 0 ≤ℤ w → pos 0 <ℤ w → 0 < sum (nat_abs u ∷ nat_abs v ∷ nat_abs w ∷ [])
 as_nat u v w hu hv hw h = omega (arith, ints)
 
-nat_is : (u : ℤ) → pos 0 ≤ℤ u → pos (nat_abs u) ≡ u
-nat_is u h = omega (arith, ints)
-
 pub balanced : (p q r : EndPair) (u v w : ℤ) → pos 0 ≤ℤ u → pos 0 ≤ℤ v → pos 0 <ℤ w
     → u *ℤ across p +ℤ (v *ℤ across q +ℤ (w *ℤ across r +ℤ pos 0)) ≡ pos 0 → u *ℤ up p +ℤ (v *ℤ up q +ℤ (w *ℤ up r +ℤ pos 0)) ≡ pos 0 → AreBalanced (p ∷ q ∷ r ∷ [])
 balanced p q r u v w hu hv hw ex ey = record {
@@ -158,9 +157,9 @@ balanced p q r u v w hu hv hw ex ey = record {
     k = omega (arith, ints)
 
     same : (a b c : ℤ) → pos (nat_abs u) *ℤ a +ℤ (pos (nat_abs v) *ℤ b +ℤ (pos (nat_abs w) *ℤ c +ℤ pos 0)) ≡ u *ℤ a +ℤ (v *ℤ b +ℤ (w *ℤ c +ℤ pos 0))
-    same a b c = ap (λ (t : ℤ). t *ℤ a +ℤ (pos (nat_abs v) *ℤ b +ℤ (pos (nat_abs w) *ℤ c +ℤ pos 0))) (nat_is u hu)
-        ∙ ap (λ (t : ℤ). u *ℤ a +ℤ (t *ℤ b +ℤ (pos (nat_abs w) *ℤ c +ℤ pos 0))) (nat_is v hv)
-        ∙ ap (λ (t : ℤ). u *ℤ a +ℤ (v *ℤ b +ℤ (t *ℤ c +ℤ pos 0))) (nat_is w k)
+    same a b c = ap (λ (t : ℤ). t *ℤ a +ℤ (pos (nat_abs v) *ℤ b +ℤ (pos (nat_abs w) *ℤ c +ℤ pos 0))) (abs_of_nonneg u hu)
+        ∙ ap (λ (t : ℤ). u *ℤ a +ℤ (t *ℤ b +ℤ (pos (nat_abs w) *ℤ c +ℤ pos 0))) (abs_of_nonneg v hv)
+        ∙ ap (λ (t : ℤ). u *ℤ a +ℤ (v *ℤ b +ℤ (t *ℤ c +ℤ pos 0))) (abs_of_nonneg w k)
 
 pub ray_meets : (e : Extreme) (l r : EndAt) → cross (arrow_of e) (difference l.at r.at) ≡ pos 0 → dot (arrow_of e) (difference l.at r.at) ≤ℤ pos 0 → AreBalanced (three_pairs (Ray e) l r)
 ray_meets e l r z h = balanced (pair_of e) (pair_of e) (record { left = l; right = r }) (neg_ℤ (dot (arrow_of e) (difference l.at r.at))) (pos 0) (dot (arrow_of e) (arrow_of e)) (omega (arith, ints)) (omega (arith, ints)) e.long (opposite_x (arrow_of e) (difference l.at r.at) z) (opposite_y (arrow_of e) (difference l.at r.at) z)
@@ -177,11 +176,9 @@ pub made_after : (e f : Extreme) (l r : EndAt) → f.left ≡ l → f.right ≡ 
 made_after e f l r p q h = subst (λ (u : Arrow). pos 0 <ℤ cross (arrow_of e) u) (sym (made_arrow f l r p q)) h
 
 -- ---- two different points are apart
-sub_zero : (a b : ℤ) → a -ℤ b ≡ pos 0 → a ≡ b
-sub_zero a b h = omega (arith, ints)
 
 pub long_of_different : (l r : Pt) → ¬ (l ≡ r) → pos 0 <ℤ dot (difference l r) (difference l r)
 long_of_different l r n = elim (le_or_lt (dot (difference l r) (difference l r)) (pos 0)) as (λ _. pos 0 <ℤ dot (difference l r) (difference l r)) [
-  | inl h ↦ let z = no_length (difference l r) h in absurd (n (ap₂ (λ (x y : ℤ). let p : Pt = record { x = x; y = y } in p) (sub_zero l.x r.x z.0) (sub_zero l.y r.y z.1)))
+  | inl h ↦ let z = no_length (difference l r) h in absurd (n (ap₂ (λ (x y : ℤ). let p : Pt = record { x = x; y = y } in p) (same_of_difference l.x r.x z.0) (same_of_difference l.y r.y z.1)))
   | inr h ↦ h
 ]

@@ -10,6 +10,7 @@ use Rattle.sight_names.specs.Ray.{ray_value, along}
 use Rattle.geom_exact.specs.Formulas.{side_value, forward, AreOnTwoSides}
 use Rattle.geom_exact.specs.Crossings.{IsCrossingOf, IsPlacedBy, IsCrossOrder}
 use Rattle.geom_exact.proofs.SegmentLemmas.{above, on, segment, other_way, IsWeighted}
+use Rattle.exact_ring.proofs.Small.{nonneg_of_pos, nonneg_of_neg, cross_weights, zero_by_second}
 
 -- the side of a mean is the mean of the sides
 mean_side : (ray : Ray) (p q : Pt) (m n : ℤ) (z : Point) → IsWeighted p q m n z → (m +ℤ n) *ℤ ray_value ray z ≡ pos z.d *ℤ (m *ℤ side_value ray p +ℤ n *ℤ side_value ray q)
@@ -33,11 +34,8 @@ crossing_place ray p q z h =
     let g = on p q z h.0 in let m = g.0 in let n = g.1 in let k = g.2 in
     same-of-mul (m +ℤ n) _ _ k.weighted
     (placed m n (pos z.d) (along ray z) (side_value ray p) (side_value ray q) (forward ray p) (forward ray q)
-    (sym (mean_side ray p q m n z k) ∙ nothing (m +ℤ n) (ray_value ray z) h.1)
+    (sym (mean_side ray p q m n z k) ∙ zero_by_second (m +ℤ n) (ray_value ray z) h.1)
     (mean_advance ray p q m n z k))
-  where
-    nothing : (k a : ℤ) → a ≡ pos 0 → k *ℤ a ≡ pos 0
-    nothing k a e = combine1 k e (by_ring (k ∷ a ∷ []) _ _ (search quoting depth 60 fits 200000) (search quoting depth 60 fits 200000) tt)
 
 pub placed_left : (ray : Ray) (p q : Pt) (place weight : ℤ) → AreOnTwoSides (side_value ray p) (side_value ray q) → pos 0 <ℤ side_value ray p → place ≡ side_value ray p *ℤ forward ray q -ℤ side_value ray q *ℤ forward ray p → weight ≡ side_value ray p -ℤ side_value ray q → IsPlacedBy ray p q place weight
 placed_left ray p q place weight two h e f = record {
@@ -109,10 +107,6 @@ fraction_order v w d e u k t l hd he hk hl f g =
 pub crossings_in_order : (ray : Ray) (l1 l2 m1 m2 : Pt) (u k t l : ℤ) → IsPlacedBy ray l1 l2 u k → IsPlacedBy ray m1 m2 t l → IsCrossOrder ray l1 l2 m1 m2 (int_cmp (u *ℤ l) (t *ℤ k))
 crossings_in_order ray l1 l2 m1 m2 u k t l a b z w c d = fraction_order (along ray z) (along ray w) (pos z.d) (pos w.d) u k t l (above z) (above w) a.positive b.positive (a.value z c) (b.value w d)
 
--- a segment with its ends on different sides is crossed
-cross_weights : (a b u v : ℤ) → (a *ℤ v -ℤ b *ℤ u) *ℤ (neg_ℤ b +ℤ a) ≡ (a -ℤ b) *ℤ (neg_ℤ b *ℤ u +ℤ a *ℤ v)
-cross_weights a b u v = by_ring (a ∷ b ∷ u ∷ v ∷ []) _ _ (search quoting depth 60 fits 200000) (search quoting depth 60 fits 200000) tt
-
 cross_straight : (a b c px py qx qy s t d : ℤ) → s ≡ a *ℤ px +ℤ b *ℤ py +ℤ c *ℤ pos 1 → t ≡ a *ℤ qx +ℤ b *ℤ qy +ℤ c *ℤ pos 1 → d ≡ s -ℤ t → a *ℤ (s *ℤ qx -ℤ t *ℤ px) +ℤ b *ℤ (s *ℤ qy -ℤ t *ℤ py) +ℤ c *ℤ d ≡ pos 0
 cross_straight a b c px py qx qy s t d h k e =
     combine3 t (neg_ℤ s) c h k e
@@ -137,8 +131,8 @@ crossed ray p q h k =
           neg_ℤ t,
           s,
           record {
-            first = negated t k;
-            second = weak s h;
+            first = nonneg_of_neg t k;
+            second = nonneg_of_pos s h;
             weighted = turned s t h k;
             x = cross_weights s t p.x q.x ∙ ap (λ (d : ℤ). d *ℤ (neg_ℤ t *ℤ p.x +ℤ s *ℤ q.x)) (sym e);
             y = cross_weights s t p.y q.y ∙ ap (λ (d : ℤ). d *ℤ (neg_ℤ t *ℤ p.y +ℤ s *ℤ q.y)) (sym e);
@@ -156,12 +150,6 @@ crossed ray p q h k =
 
     turned : (a b : ℤ) → pos 0 <ℤ a → b <ℤ pos 0 → pos 0 <ℤ (neg_ℤ b +ℤ a)
     turned a b h k = omega (arith, ints)
-
-    negated : (b : ℤ) → b <ℤ pos 0 → pos 0 ≤ℤ neg_ℤ b
-    negated b h = omega (arith, ints)
-
-    weak : (a : ℤ) → pos 0 <ℤ a → pos 0 ≤ℤ a
-    weak a h = omega (arith, ints)
 
 pub crossing_exists : (ray : Ray) (p q : Pt) → AreOnTwoSides (side_value ray p) (side_value ray q) → (z : Point) × IsCrossingOf ray p q z
 crossing_exists ray p q (inl h) = crossed ray p q h.0 h.1

@@ -9,13 +9,11 @@ use Rattle.sight_names.specs.Plan.{IsBefore}
 use Rattle.sight_names.proofs.Affine.{value_pos, value_nonpos}
 use Rattle.geom_exact.specs.declared.Relation.TheVariants.{Apart}
 use Rattle.geom_exact.specs.Common.{IsRelation}
+use Rattle.exact_ring.proofs.Small.{le_of_lt, le_itself, pos_difference, nonpos_not_pos}
 
 -- a line a * x + b * y + c with the second segment strictly on the one side, and the first not on it
 pub parted : (a b c : ℤ) (p q r s : Pt) → value_at a b c (point_of p) ≤ℤ pos 0 → value_at a b c (point_of q) ≤ℤ pos 0 → pos 0 <ℤ value_at a b c (point_of r) → pos 0 <ℤ value_at a b c (point_of s) → IsRelation p q r s Apart
-parted a b c p q r s hp hq hr hs z g = clash (value_at a b c z) (value_nonpos a b c (point_of p) (point_of q) z hp hq g.0) (value_pos a b c (point_of r) (point_of s) z hr hs g.1)
-  where
-    clash : (v : ℤ) → v ≤ℤ pos 0 → pos 0 <ℤ v → ⊥
-    clash v h k = omega (arith, ints)
+parted a b c p q r s hp hq hr hs z g = nonpos_not_pos (value_at a b c z) (value_nonpos a b c (point_of p) (point_of q) z hp hq g.0) (value_pos a b c (point_of r) (point_of s) z hr hs g.1)
 
 -- k * x + y
 unfoldable pub slanted : ℤ → Pt → ℤ
@@ -29,14 +27,11 @@ parted_at : (k t : ℤ) (p q r s : Pt) → slanted k p ≤ℤ t → slanted k q 
 parted_at k t p q r s hp hq hr hs = parted k (pos 1) (neg_ℤ t) p q r s
     (subst (λ (v : ℤ). v ≤ℤ pos 0) (sym (slanted_is k t p)) (low (slanted k p) t hp))
     (subst (λ (v : ℤ). v ≤ℤ pos 0) (sym (slanted_is k t q)) (low (slanted k q) t hq))
-    (subst (λ (v : ℤ). pos 0 <ℤ v) (sym (slanted_is k t r)) (high (slanted k r) t hr))
-    (subst (λ (v : ℤ). pos 0 <ℤ v) (sym (slanted_is k t s)) (high (slanted k s) t hs))
+    (subst (λ (v : ℤ). pos 0 <ℤ v) (sym (slanted_is k t r)) (pos_difference (slanted k r) t hr))
+    (subst (λ (v : ℤ). pos 0 <ℤ v) (sym (slanted_is k t s)) (pos_difference (slanted k s) t hs))
   where
     low : (v t : ℤ) → v ≤ℤ t → (v -ℤ t) ≤ℤ pos 0
     low v t h = omega (arith, ints)
-
-    high : (v t : ℤ) → t <ℤ v → pos 0 <ℤ (v -ℤ t)
-    high v t h = omega (arith, ints)
 
 -- both ends of the first come before both ends of the second
 abbrev pub AreLower : (Pt → Pt → Type 0) → Pt → Pt → Pt → Pt → Type 0
@@ -44,15 +39,9 @@ AreLower lower p q r s = lower p r × lower p s × lower q r × lower q s
 
 pub apart_slanted : (k : ℤ) (p q r s : Pt) → AreLower (λ u v. slanted k u <ℤ slanted k v) p q r s → IsRelation p q r s Apart
 apart_slanted k p q r s h = elim (le_or_lt (slanted k p) (slanted k q)) as (λ _. IsRelation p q r s Apart) [
-  | inl g ↦ parted_at k (slanted k q) p q r s g (same (slanted k q)) h.2 h.3
-  | inr g ↦ parted_at k (slanted k p) p q r s (same (slanted k p)) (weak (slanted k q) (slanted k p) g) h.0 h.1
+  | inl g ↦ parted_at k (slanted k q) p q r s g (le_itself (slanted k q)) h.2 h.3
+  | inr g ↦ parted_at k (slanted k p) p q r s (le_itself (slanted k p)) (le_of_lt (slanted k q) (slanted k p) g) h.0 h.1
 ]
-  where
-    same : (a : ℤ) → a ≤ℤ a
-    same a = omega (arith, ints)
-
-    weak : (a b : ℤ) → a <ℤ b → a ≤ℤ b
-    weak a b h = omega (arith, ints)
 
 level : (u : Pt) → slanted (pos 0) u ≡ u.y
 unfolding slanted

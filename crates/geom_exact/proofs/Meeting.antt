@@ -4,15 +4,16 @@ use Rattle.sight_names.specs.declared.names.Pt.{Pt}
 use Rattle.sight_names.specs.Sound.{MeetAtEnds}
 use Rattle.geom_exact.specs.declared.Relation.TheVariants.{Apart, Overlap, Ends, Touch, Cross}
 use Rattle.geom_exact.specs.Common.{IsRelation}
-use Rattle.geom_exact.proofs.Uniqueness.{same_sym, same_trans, end_same}
+use Rattle.geom_exact.proofs.Uniqueness.{same_trans, end_same}
+use Rattle.sight_names.proofs.Laws.{same_point_sym}
 
 pub apart_meet : (p q r s : Pt) → IsRelation p q r s Apart → MeetAtEnds p q r s
 apart_meet p q r s h = record { one = λ u v hu hv. absurd (h u hu); ends = λ u hu. absurd (h u hu) }
 
 pub ends_meet : (p q r s : Pt) → IsRelation p q r s Ends → MeetAtEnds p q r s
 ends_meet p q r s h = record {
-  one = λ u v hu hv. same_trans u h.0 v (h.1.only u hu) (same_sym v h.0 (h.1.only v hv));
-  ends = λ u hu. let e = same_sym u h.0 (h.1.only u hu) in (end_same p q h.0 u e h.2, end_same r s h.0 u e h.3);
+  one = λ u v hu hv. same_trans u h.0 v (h.1.only u hu) (same_point_sym v h.0 (h.1.only v hv));
+  ends = λ u hu. let e = same_point_sym u h.0 (h.1.only u hu) in (end_same p q h.0 u e h.2, end_same r s h.0 u e h.3);
 }
 
 pub no_meet_overlap : (p q r s : Pt) → IsRelation p q r s Overlap → ¬ MeetAtEnds p q r s

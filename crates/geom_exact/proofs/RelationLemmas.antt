@@ -11,6 +11,10 @@ use Rattle.geom_exact.specs.declared.Relation.{Relation}
 use Rattle.geom_exact.specs.declared.Relation.TheVariants.{Apart, Overlap, Ends, Touch, Cross}
 use Rattle.geom_exact.specs.Formulas.{turn_of, reach_of, AreOnOneSide}
 use Rattle.geom_exact.specs.Common.{IsOnlyCommon, IsRelation, AreLaid, IsMeeting}
+use Rattle.exact_ring.proofs.Small.{same_without_one, lt_of_zero, le_of_zero, le_of_lt, pos_difference, le_of_difference, pos_not_zero, neg_not_zero}
+use Rattle.exact_ring.proofs.MoreSigns.{sum-pos}
+use Rattle.sight_names.proofs.Meets.{end_flip}
+use Rattle.sight_names.proofs.Laws.{same_point_refl}
 
 pub common_swapped : (p q r s : Pt) (z : Point) → IsCommon p q r s z → IsCommon p q s r z
 common_swapped p q r s z h = (h.0, other_way r s z h.1)
@@ -19,26 +23,10 @@ common_swapped p q r s z h = (h.0, other_way r s z h.1)
 straight : (p q : Pt) (z : Point) → OnSegment (point_of p) (point_of q) z → beside p q z ≡ pos 0
 straight p q z g = let h = on p q z g in (IsAlong-of-mean p q h.0 h.1 z h.2).straight
 
--- with both weights at least 0 and not both 0, a weighted sum of positive numbers is positive
-sum_pos : (m n a b : ℤ) → pos 0 ≤ℤ m → pos 0 ≤ℤ n → pos 0 <ℤ (m +ℤ n) → pos 0 <ℤ a → pos 0 <ℤ b → pos 0 <ℤ (m *ℤ a +ℤ n *ℤ b)
-sum_pos m n a b hm hn h ha hb = elim (sign_cases m) as (λ _. pos 0 <ℤ (m *ℤ a +ℤ n *ℤ b)) [
-  | inl neg ↦ absurd (omega (arith, ints))
-  | inr k ↦ elim k as (λ _. pos 0 <ℤ (m *ℤ a +ℤ n *ℤ b)) [
-    | inl e ↦
-        let p : pos 0 <ℤ (n *ℤ b) = mul-pos n b (omega (arith, ints, e)) hb in
-        let q : pos 0 ≤ℤ (m *ℤ a) = mul-nonneg m a hm (omega (arith, ints)) in
-        omega (arith, ints)
-    | inr g ↦
-        let p : pos 0 <ℤ (m *ℤ a) = mul-pos m a g ha in
-        let q : pos 0 ≤ℤ (n *ℤ b) = mul-nonneg n b hn (omega (arith, ints)) in
-        omega (arith, ints)
-  ]
-]
-
 sum_neg : (m n a b : ℤ) → pos 0 ≤ℤ m → pos 0 ≤ℤ n → pos 0 <ℤ (m +ℤ n) → a <ℤ pos 0 → b <ℤ pos 0 → pos 0 <ℤ neg_ℤ (m *ℤ a +ℤ n *ℤ b)
 sum_neg m n a b hm hn h ha hb =
     let e : m *ℤ neg_ℤ a +ℤ n *ℤ neg_ℤ b ≡ neg_ℤ (m *ℤ a +ℤ n *ℤ b) = by_ring (m ∷ n ∷ a ∷ b ∷ []) _ _ (search quoting depth 40 fits 100000) (search quoting depth 40 fits 100000) tt in
-    subst (λ (t : ℤ). pos 0 <ℤ t) e (sum_pos m n (neg_ℤ a) (neg_ℤ b) hm hn h (omega (arith, ints)) (omega (arith, ints)))
+    subst (λ (t : ℤ). pos 0 <ℤ t) e (sum-pos m n (neg_ℤ a) (neg_ℤ b) hm hn h (omega (arith, ints)) (omega (arith, ints)))
 
 no_zero_pos : (k b d w : ℤ) → b ≡ pos 0 → k *ℤ b ≡ d *ℤ w → pos 0 <ℤ d → pos 0 <ℤ w → ⊥
 no_zero_pos k b d w z e hd hw =
@@ -57,7 +45,7 @@ pub apart_on_side : (p q r s : Pt) → AreOnOneSide (turn_of p q r) (turn_of p q
 apart_on_side p q r s (inl h) z c =
     let g = on r s z c.1 in
     let k = g.2 in
-    no_zero_pos (g.0 +ℤ g.1) (beside p q z) (pos z.d) _ (straight p q z c.0) (beside-of_mean p q r s _ _ z k) (above z) (sum_pos _ _ _ _ k.first k.second k.weighted h.0 h.1)
+    no_zero_pos (g.0 +ℤ g.1) (beside p q z) (pos z.d) _ (straight p q z c.0) (beside-of_mean p q r s _ _ z k) (above z) (sum-pos _ _ _ _ k.first k.second k.weighted h.0 h.1)
 apart_on_side p q r s (inr h) z c =
     let g = on r s z c.1 in
     let k = g.2 in
@@ -108,23 +96,17 @@ pub meets : (p q r s : Pt) → ¬ ((turn_of p q r ≡ pos 0) × (turn_of p q s �
 meets p q r s k n m = elim (sign_cases (spread p q r s)) as (λ _. (z : Point) × IsMeeting p q r s z) [
   | inl h ↦
       let w = meets_from_left p q s r (other_way (turn_of p q r) (turn_of p q s) h) (turned_sides _ _ n) (negative_sides (turn_of r s p) (turn_of r s q) _ _ (turn_negative r s p) (turn_negative r s q) m) in
-      (w.0, record { crossing = below_zero (spread p q r s) h; common = common_swapped p q s r w.0 w.1 })
+      (w.0, record { crossing = neg_not_zero (spread p q r s) h; common = common_swapped p q s r w.0 w.1 })
   | inr c ↦ elim c as (λ _. (z : Point) × IsMeeting p q r s z) [
     | inl e ↦ absurd (parallel (turn_of p q r) (turn_of p q s) e k n)
     | inr h ↦
         let w = meets_from_left p q r s h n m in
-        (w.0, record { crossing = above_zero (spread p q r s) h; common = w.1 })
+        (w.0, record { crossing = pos_not_zero (spread p q r s) h; common = w.1 })
   ]
 ]
   where
     other_way : (a b : ℤ) → (a -ℤ b) <ℤ pos 0 → pos 0 <ℤ (b -ℤ a)
     other_way a b h = omega (arith, ints)
-
-    below_zero : (a : ℤ) → a <ℤ pos 0 → ¬ (a ≡ pos 0)
-    below_zero a h e = omega (arith, ints)
-
-    above_zero : (a : ℤ) → pos 0 <ℤ a → ¬ (a ≡ pos 0)
-    above_zero a h e = omega (arith, ints)
 
     parallel : (a b : ℤ) → a -ℤ b ≡ pos 0 → ¬ ((a ≡ pos 0) × (b ≡ pos 0)) → ¬ (AreOnOneSide a b) → ⊥
     parallel a b e k n = elim (sign_cases a) as (λ _. ⊥) [
@@ -197,14 +179,11 @@ point_on_second p q r s v l e f t = point_on_first r s v l.second_long
     (zero-of-mul (square_of p q) _ l.first_long (turn_on_line p q r s v (e ∙ sym l.near) (l.far ∙ sym l.near)))
     (nonneg-of-mul (square_of p q) _ l.first_long (subst (λ (a : ℤ). pos 0 ≤ℤ a) (sym (reach_on_line p q r s v (e ∙ sym l.near)))
     (product_of_differences (reach_of p q s) (reach_of p q r) (reach_of p q v) (reach_of p q r) l.rising f)))
-    (lower (square_of r s) (reach_of r s v) (nonneg-of-mul (square_of p q) _ l.first_long (subst (λ (a : ℤ). pos 0 ≤ℤ a) (sym (rest_on_line p q r s v (l.far ∙ sym l.near)))
+    (le_of_difference (square_of r s) (reach_of r s v) (nonneg-of-mul (square_of p q) _ l.first_long (subst (λ (a : ℤ). pos 0 ≤ℤ a) (sym (rest_on_line p q r s v (l.far ∙ sym l.near)))
     (product_of_differences (reach_of p q s) (reach_of p q r) (reach_of p q s) (reach_of p q v) l.rising t))))
   where
     product_of_differences : (a b c d : ℤ) → b <ℤ a → d ≤ℤ c → pos 0 ≤ℤ ((a -ℤ b) *ℤ (c -ℤ d))
     product_of_differences a b c d h k = mul-nonneg (a -ℤ b) (c -ℤ d) (omega (arith, ints)) (omega (arith, ints))
-
-    lower : (l a : ℤ) → pos 0 ≤ℤ (l -ℤ a) → a ≤ℤ l
-    lower l a h = omega (arith, ints)
 
 -- how far along the first a common point is, by its weights on the second, counted from a bound
 counted : (k a d m n u v t : ℤ) → k ≡ m +ℤ n → k *ℤ a ≡ d *ℤ (m *ℤ u +ℤ n *ℤ v) → k *ℤ (a -ℤ d *ℤ t) ≡ d *ℤ (m *ℤ (u -ℤ t) +ℤ n *ℤ (v -ℤ t))
@@ -216,11 +195,8 @@ along_common p q r s t z h = counted (h.0 +ℤ h.1) (along p q z) (pos z.d) h.0 
 
 pub late_common : (p q r s : Pt) (t : ℤ) (z : Point) → IsOn r s z → t ≤ℤ reach_of p q r → t ≤ℤ reach_of p q s → (pos z.d *ℤ t) ≤ℤ along p q z
 late_common p q r s t z h a b =
-    least (along p q z) (pos z.d *ℤ t) (nonneg-of-mul (h.0 +ℤ h.1) _ h.2.weighted (subst (λ (w : ℤ). pos 0 ≤ℤ w) (sym (along_common p q r s t z h)) (weighted h.0 h.1 (pos z.d) (reach_of p q r) (reach_of p q s) t h.2.first h.2.second (above z) a b)))
+    le_of_difference (along p q z) (pos z.d *ℤ t) (nonneg-of-mul (h.0 +ℤ h.1) _ h.2.weighted (subst (λ (w : ℤ). pos 0 ≤ℤ w) (sym (along_common p q r s t z h)) (weighted h.0 h.1 (pos z.d) (reach_of p q r) (reach_of p q s) t h.2.first h.2.second (above z) a b)))
   where
-    least : (a b : ℤ) → pos 0 ≤ℤ (a -ℤ b) → b ≤ℤ a
-    least a b h = omega (arith, ints)
-
     weighted : (m n d u v t : ℤ) → pos 0 ≤ℤ m → pos 0 ≤ℤ n → pos 0 <ℤ d → t ≤ℤ u → t ≤ℤ v → pos 0 ≤ℤ (d *ℤ (m *ℤ (u -ℤ t) +ℤ n *ℤ (v -ℤ t)))
     weighted m n d u v t hm hn hd hu hv =
         let a : pos 0 ≤ℤ (m *ℤ (u -ℤ t)) = mul-nonneg m (u -ℤ t) hm (omega (arith, ints)) in
@@ -277,11 +253,8 @@ apart_after p q r s l h z c =
     let g = along_common p q r s (square_of p q) z o in
     let a = (IsAlong-of-mean p q f.0 f.1 z f.2).to in
     clash (along p q z) (pos z.d *ℤ square_of p q) (pos z.d) (o.0 +ℤ o.1) (o.0 *ℤ (reach_of p q r -ℤ square_of p q) +ℤ o.1 *ℤ (reach_of p q s -ℤ square_of p q)) g a (above z) k.weighted
-    (sum_pos o.0 o.1 (reach_of p q r -ℤ square_of p q) (reach_of p q s -ℤ square_of p q) k.first k.second k.weighted (beyond (reach_of p q r) (square_of p q) h) (higher (reach_of p q r) (reach_of p q s) (square_of p q) l.rising h))
+    (sum-pos o.0 o.1 (reach_of p q r -ℤ square_of p q) (reach_of p q s -ℤ square_of p q) k.first k.second k.weighted (pos_difference (reach_of p q r) (square_of p q) h) (higher (reach_of p q r) (reach_of p q s) (square_of p q) l.rising h))
   where
-    beyond : (a t : ℤ) → t <ℤ a → pos 0 <ℤ (a -ℤ t)
-    beyond a t h = omega (arith, ints)
-
     higher : (a b t : ℤ) → a <ℤ b → t <ℤ a → pos 0 <ℤ (b -ℤ t)
     higher a b t h k = omega (arith, ints)
 
@@ -318,17 +291,11 @@ same_le a b e = omega (arith, ints)
 same_ge : (a b : ℤ) → a ≡ b → b ≤ℤ a
 same_ge a b e = omega (arith, ints)
 
-lt_le : (a b : ℤ) → a <ℤ b → a ≤ℤ b
-lt_le a b h = omega (arith, ints)
-
-same_refl : (z : Point) → SamePoint z z
-same_refl z = record { x = refl; y = refl }
-
 -- the second begins where the first ends
 pub ends_at_last : (p q r s : Pt) → AreLaid p q r s → reach_of p q r ≡ square_of p q → IsRelation p q r s Ends
 ends_at_last p q r s l e =
     let straight_q = turn_at_second p q in
-    let on_first = point_on_first p q q l.first_long straight_q (lt_le (pos 0) _ l.first_long) (same_le _ _ refl) in
+    let on_first = point_on_first p q q l.first_long straight_q (le_of_lt (pos 0) _ l.first_long) (same_le _ _ refl) in
     let on_second = point_on_second p q r s q l straight_q (same_le _ _ e) (past (reach_of p q r) (reach_of p q s) (square_of p q) e l.rising) in (
       point_of q,
       record {
@@ -337,7 +304,7 @@ ends_at_last p q r s l e =
             (along_first p q w c.0).to
             (late_common p q r s (square_of p q) w (on r s w c.1) (same_ge _ _ e) (past (reach_of p q r) (reach_of p q s) (square_of p q) e l.rising)));
       },
-      inr (same_refl (point_of q)),
+      inr (same_point_refl (point_of q)),
       inl (same_points p q q r l.first_long straight_q l.near (sym e)),
     )
   where
@@ -349,7 +316,7 @@ pub ends_at_first : (p q r s : Pt) → AreLaid p q r s → reach_of p q s ≡ po
 ends_at_first p q r s l e =
     let straight_p = turn_at_first p q in
     let zero = reach_first p q in
-    let on_first = point_on_first p q p l.first_long straight_p (same_ge _ _ zero) (zero_low (reach_of p q p) (square_of p q) zero l.first_long) in
+    let on_first = point_on_first p q p l.first_long straight_p (same_ge _ _ zero) (le_of_zero (reach_of p q p) (square_of p q) zero l.first_long) in
     let on_second = point_on_second p q r s p l straight_p (below (reach_of p q r) (reach_of p q s) (reach_of p q p) l.rising e zero) (same_le _ _ (zero ∙ sym e)) in (
       point_of p,
       record {
@@ -358,13 +325,10 @@ ends_at_first p q r s l e =
             (along_first p q w c.0).from
             (early_common p q r s (pos 0) w (on r s w c.1) (lower (reach_of p q r) (reach_of p q s) l.rising e) (same_le _ _ e)));
       },
-      inl (same_refl (point_of p)),
+      inl (same_point_refl (point_of p)),
       inr (same_points p q p s l.first_long straight_p l.far (zero ∙ sym e)),
     )
   where
-    zero_low : (a t : ℤ) → a ≡ pos 0 → pos 0 <ℤ t → a ≤ℤ t
-    zero_low a t e h = omega (arith, ints)
-
     below : (a b c : ℤ) → a <ℤ b → b ≡ pos 0 → c ≡ pos 0 → a ≤ℤ c
     below a b c h e f = omega (arith, ints)
 
@@ -410,48 +374,42 @@ overlap_inside p q r s l h k =
     let u_p : reach_of p q r ≤ℤ pos 0 → IsShared p q r s p = λ a. record {
       on_line = turn_at_first p q;
       after_p = same_ge _ _ zero;
-      before_q = zero_low (reach_of p q p) (square_of p q) zero l.first_long;
+      before_q = le_of_zero (reach_of p q p) (square_of p q) zero l.first_long;
       after_r = zero_high (reach_of p q r) (reach_of p q p) zero a;
-      before_s = zero_low (reach_of p q p) (reach_of p q s) zero h;
+      before_s = le_of_zero (reach_of p q p) (reach_of p q s) zero h;
     } in
     let u_r : pos 0 ≤ℤ reach_of p q r → IsShared p q r s r = λ a. record {
       on_line = l.near;
       after_p = a;
-      before_q = lt_le _ _ k;
+      before_q = le_of_lt _ _ k;
       after_r = same_le (reach_of p q r) _ refl;
-      before_s = lt_le _ _ l.rising;
+      before_s = le_of_lt _ _ l.rising;
     } in
     let v_q : square_of p q ≤ℤ reach_of p q s → IsShared p q r s q = λ a. record {
       on_line = turn_at_second p q;
-      after_p = lt_le _ _ l.first_long;
+      after_p = le_of_lt _ _ l.first_long;
       before_q = same_le (square_of p q) _ refl;
-      after_r = lt_le _ _ k;
+      after_r = le_of_lt _ _ k;
       before_s = a;
     } in
     let v_s : reach_of p q s ≤ℤ square_of p q → IsShared p q r s s = λ a. record {
       on_line = l.far;
-      after_p = lt_le _ _ h;
+      after_p = le_of_lt _ _ h;
       before_q = a;
-      after_r = lt_le _ _ l.rising;
+      after_r = le_of_lt _ _ l.rising;
       before_s = same_le (reach_of p q s) _ refl;
     } in
     elim (le_or_lt (reach_of p q r) (pos 0)) as (λ _. IsRelation p q r s Overlap) [
       | inl a ↦ elim (le_or_lt (square_of p q) (reach_of p q s)) as (λ _. IsRelation p q r s Overlap) [
-        | inl b ↦ shared_overlap p q r s p q l (u_p a) (v_q b) (zero_lt (reach_of p q p) (square_of p q) zero l.first_long)
-        | inr b ↦ shared_overlap p q r s p s l (u_p a) (v_s (lt_le _ _ b)) (zero_lt (reach_of p q p) (reach_of p q s) zero h)
+        | inl b ↦ shared_overlap p q r s p q l (u_p a) (v_q b) (lt_of_zero (reach_of p q p) (square_of p q) zero l.first_long)
+        | inr b ↦ shared_overlap p q r s p s l (u_p a) (v_s (le_of_lt _ _ b)) (lt_of_zero (reach_of p q p) (reach_of p q s) zero h)
       ]
       | inr a ↦ elim (le_or_lt (square_of p q) (reach_of p q s)) as (λ _. IsRelation p q r s Overlap) [
-        | inl b ↦ shared_overlap p q r s r q l (u_r (lt_le _ _ a)) (v_q b) k
-        | inr b ↦ shared_overlap p q r s r s l (u_r (lt_le _ _ a)) (v_s (lt_le _ _ b)) l.rising
+        | inl b ↦ shared_overlap p q r s r q l (u_r (le_of_lt _ _ a)) (v_q b) k
+        | inr b ↦ shared_overlap p q r s r s l (u_r (le_of_lt _ _ a)) (v_s (le_of_lt _ _ b)) l.rising
       ]
     ]
   where
-    zero_low : (a t : ℤ) → a ≡ pos 0 → pos 0 <ℤ t → a ≤ℤ t
-    zero_low a t e h = omega (arith, ints)
-
-    zero_lt : (a t : ℤ) → a ≡ pos 0 → pos 0 <ℤ t → a <ℤ t
-    zero_lt a t e h = omega (arith, ints)
-
     zero_high : (a t : ℤ) → t ≡ pos 0 → a ≤ℤ pos 0 → a ≤ℤ t
     zero_high a t e h = omega (arith, ints)
 
@@ -459,29 +417,22 @@ overlap_inside p q r s l h k =
 only_swapped : (p q r s : Pt) (z : Point) → IsOnlyCommon p q r s z → IsOnlyCommon p q s r z
 only_swapped p q r s z h = record { common = common_swapped p q r s z h.common; only = λ w c. h.only w (common_swapped p q s r w c) }
 
-end_swapped : (r s : Pt) (z : Point) → IsEndOf r s z → IsEndOf s r z
-end_swapped r s z (inl h) = inr h
-end_swapped r s z (inr h) = inl h
-
 pub relation_swapped : (p q r s : Pt) (k : Relation) → IsRelation p q r s k → IsRelation p q s r k
 relation_swapped p q r s Apart h = λ z c. h z (common_swapped p q s r z c)
 relation_swapped p q r s Overlap h = (h.0, h.1, common_swapped p q r s h.0 h.2, common_swapped p q r s h.1 h.3, h.4)
-relation_swapped p q r s Ends h = (h.0, only_swapped p q r s h.0 h.1, h.2, end_swapped r s h.0 h.3)
+relation_swapped p q r s Ends h = (h.0, only_swapped p q r s h.0 h.1, h.2, end_flip r s h.0 h.3)
 relation_swapped p q r s Touch h = (h.0, only_swapped p q r s h.0 h.1, touch_swapped h.0 h.2)
   where
     touch_swapped : (z : Point) → (IsEndOf p q z × ¬ (IsEndOf r s z)) ⊎ (¬ (IsEndOf p q z) × IsEndOf r s z) → (IsEndOf p q z × ¬ (IsEndOf s r z)) ⊎ (¬ (IsEndOf p q z) × IsEndOf s r z)
-    touch_swapped z (inl g) = inl (g.0, λ e. g.1 (end_swapped s r z e))
-    touch_swapped z (inr g) = inr (g.0, end_swapped r s z g.1)
-relation_swapped p q r s Cross h = (h.0, only_swapped p q r s h.0 h.1, h.2, λ e. h.3 (end_swapped s r h.0 e))
+    touch_swapped z (inl g) = inl (g.0, λ e. g.1 (end_flip s r z e))
+    touch_swapped z (inr g) = inr (g.0, end_flip r s z g.1)
+relation_swapped p q r s Cross h = (h.0, only_swapped p q r s h.0 h.1, h.2, λ e. h.3 (end_flip s r h.0 e))
 
 -- two different points of a line are not equally far along it
 pub reach_apart : (p q r s : Pt) → pos 0 <ℤ square_of p q → turn_of p q r ≡ pos 0 → turn_of p q s ≡ pos 0 → reach_of p q r ≡ reach_of p q s → r ≡ s
 reach_apart p q r s l e f g =
     let h = same_points p q r s l e f g in
-    ap₂ (λ (x y : ℤ). let v : Pt = record { x = x; y = y } in v) (without r.x s.x h.x) (without r.y s.y h.y)
-  where
-    without : (a b : ℤ) → a *ℤ pos 1 ≡ b *ℤ pos 1 → a ≡ b
-    without a b e = combine1 (pos 1) e (by_ring (a ∷ b ∷ []) _ _ (search quoting depth 40 fits 100000) (search quoting depth 40 fits 100000) tt)
+    ap₂ (λ (x y : ℤ). let v : Pt = record { x = x; y = y } in v) (same_without_one r.x s.x h.x) (same_without_one r.y s.y h.y)
 
 -- ---- for the answers of functions
 pub laid : (p q r s : Pt) → ¬ (p ≡ q) → ¬ (r ≡ s) → turn_of p q r ≡ pos 0 → turn_of p q s ≡ pos 0 → reach_of p q r <ℤ reach_of p q s → AreLaid p q r s

@@ -6,6 +6,9 @@ use Rattle.exact_ring.proofs.Signs.{mul-nonneg, mul-pos, square-nonneg, zero-of-
 use Rattle.sight_names.specs.declared.names.Pt.{Pt}
 use Rattle.sight_names.specs.Point.{Point, point_of, SamePoint, IsMean, OnSegment, turn_at}
 use Rattle.geom_exact.specs.Formulas.{turn_of, reach_of}
+use Rattle.exact_ring.proofs.Small.{zero_or_not, same_where_no_difference, nonneg_of_nonpos, cross_weights, abs_of_nonneg, some_of_sum, nat_nonneg}
+use Rattle.exact_ring.proofs.MoreSigns.{square-pos}
+use Rattle.sight_names.proofs.Records.{same_pt}
 
 -- ---- the weights of whole points as whole numbers that aren't below 0
 pub record IsWeighted (p q : Pt) (m n : ℤ) (z : Point) : Type 0 where
@@ -29,17 +32,14 @@ on p q z (u, v, h) = (
   pos u,
   pos v,
   record {
-    first = natural u;
-    second = natural v;
+    first = nat_nonneg u;
+    second = nat_nonneg v;
     weighted = some u v h.weighed;
     x = combine1 (pos 1) h.x (weighed_there z.x (pos u) (pos v) (pos z.d) p.x q.x);
     y = combine1 (pos 1) h.y (weighed_there z.y (pos u) (pos v) (pos z.d) p.y q.y);
   },
 )
   where
-    natural : (k : ℕ) → pos 0 ≤ℤ pos k
-    natural k = omega (arith, ints)
-
     some : (k l : ℕ) → 0 < k + l → pos 0 <ℤ (pos k +ℤ pos l)
     some k l h = omega (arith, ints)
 
@@ -48,23 +48,17 @@ weighed_back x u v d a b = by_ring (x ∷ u ∷ v ∷ d ∷ a ∷ b ∷ []) _ _ 
 
 weighted_is_mean : (p q : Pt) (u v : ℕ) (z : Point) → IsWeighted p q (pos u) (pos v) z → IsMean u v (point_of p) (point_of q) z
 weighted_is_mean p q u v z h = record {
-  weighed = some u v h.weighted;
+  weighed = some_of_sum u v h.weighted;
   x = combine1 (pos 1) h.x (weighed_back z.x (pos u) (pos v) (pos z.d) p.x q.x);
   y = combine1 (pos 1) h.y (weighed_back z.y (pos u) (pos v) (pos z.d) p.y q.y);
 }
-  where
-    some : (k l : ℕ) → pos 0 <ℤ (pos k +ℤ pos l) → 0 < k + l
-    some k l h = omega (arith, ints)
-
-abs_is : (a : ℤ) → pos 0 ≤ℤ a → pos (nat_abs a) ≡ a
-abs_is a h = omega (arith, ints)
 
 pub segment : (p q : Pt) (z : Point) → IsOn p q z → OnSegment (point_of p) (point_of q) z
 segment p q z (m, n, h) = (
   nat_abs m,
   nat_abs n,
   weighted_is_mean p q (nat_abs m) (nat_abs n) z
-      (subst (λ (k : ℤ). IsWeighted p q k (pos (nat_abs n)) z) (sym (abs_is m h.first)) (subst (λ (k : ℤ). IsWeighted p q m k z) (sym (abs_is n h.second)) h)),
+      (subst (λ (k : ℤ). IsWeighted p q k (pos (nat_abs n)) z) (sym (abs_of_nonneg m h.first)) (subst (λ (k : ℤ). IsWeighted p q m k z) (sym (abs_of_nonneg n h.second)) h)),
 )
 
 -- ---- the two ends of a segment exchanged
@@ -258,9 +252,6 @@ abs_above a h = omega (arith, ints)
 abbrev pub meeting : (p q r s : Pt) → pos 0 <ℤ spread p q r s → Point
 meeting p q r s h = record { x = turn_of p q r *ℤ s.x -ℤ turn_of p q s *ℤ r.x; y = turn_of p q r *ℤ s.y -ℤ turn_of p q s *ℤ r.y; d = nat_abs (spread p q r s); positive = some_abs (spread p q r s) h }
 
-weights_back : (a b x y : ℤ) → (a *ℤ y -ℤ b *ℤ x) *ℤ (neg_ℤ b +ℤ a) ≡ (a -ℤ b) *ℤ (neg_ℤ b *ℤ x +ℤ a *ℤ y)
-weights_back a b x y = by_ring (a ∷ b ∷ x ∷ y ∷ []) _ _ (search quoting depth 40 fits 100000) (search quoting depth 40 fits 100000) tt
-
 weights_across : (m d c e x y : ℤ) → m ≡ c *ℤ x -ℤ e *ℤ y → c -ℤ e ≡ d → m *ℤ (c +ℤ neg_ℤ e) ≡ d *ℤ (c *ℤ x +ℤ neg_ℤ e *ℤ y)
 weights_across m d c e x y h g = combine2 (c -ℤ e) (c *ℤ x -ℤ e *ℤ y) h g (by_ring (m ∷ d ∷ c ∷ e ∷ x ∷ y ∷ []) _ _ (search quoting depth 40 fits 100000) (search quoting depth 40 fits 100000) tt)
 
@@ -269,17 +260,14 @@ meeting_is_on_second p q r s h a b = (
   neg_ℤ (turn_of p q s),
   turn_of p q r,
   record {
-    first = negated (turn_of p q s) b;
+    first = nonneg_of_nonpos (turn_of p q s) b;
     second = a;
     weighted = turned (turn_of p q r) (turn_of p q s) h;
-    x = weights_back (turn_of p q r) (turn_of p q s) r.x s.x ∙ ap (λ (d : ℤ). d *ℤ (neg_ℤ (turn_of p q s) *ℤ r.x +ℤ turn_of p q r *ℤ s.x)) (abs_above (spread p q r s) h);
-    y = weights_back (turn_of p q r) (turn_of p q s) r.y s.y ∙ ap (λ (d : ℤ). d *ℤ (neg_ℤ (turn_of p q s) *ℤ r.y +ℤ turn_of p q r *ℤ s.y)) (abs_above (spread p q r s) h);
+    x = cross_weights (turn_of p q r) (turn_of p q s) r.x s.x ∙ ap (λ (d : ℤ). d *ℤ (neg_ℤ (turn_of p q s) *ℤ r.x +ℤ turn_of p q r *ℤ s.x)) (abs_above (spread p q r s) h);
+    y = cross_weights (turn_of p q r) (turn_of p q s) r.y s.y ∙ ap (λ (d : ℤ). d *ℤ (neg_ℤ (turn_of p q s) *ℤ r.y +ℤ turn_of p q r *ℤ s.y)) (abs_above (spread p q r s) h);
   },
 )
   where
-    negated : (t : ℤ) → t ≤ℤ pos 0 → pos 0 ≤ℤ neg_ℤ t
-    negated t h = omega (arith, ints)
-
     turned : (t u : ℤ) → pos 0 <ℤ (t -ℤ u) → pos 0 <ℤ (neg_ℤ u +ℤ t)
     turned t u h = omega (arith, ints)
 
@@ -289,16 +277,13 @@ meeting_is_on_first p q r s h a b = (
   neg_ℤ (turn_of r s p),
   record {
     first = a;
-    second = negated (turn_of r s p) b;
+    second = nonneg_of_nonpos (turn_of r s p) b;
     weighted = positive_too (turn_of r s q) (turn_of r s p) (spread p q r s) (four_turns p q r s) h;
     x = weights_across _ _ (turn_of r s q) (turn_of r s p) p.x q.x (same_meeting_x p q r s) (four_turns p q r s ∙ abs_above (spread p q r s) h);
     y = weights_across _ _ (turn_of r s q) (turn_of r s p) p.y q.y (same_meeting_y p q r s) (four_turns p q r s ∙ abs_above (spread p q r s) h);
   },
 )
   where
-    negated : (t : ℤ) → t ≤ℤ pos 0 → pos 0 ≤ℤ neg_ℤ t
-    negated t h = omega (arith, ints)
-
     positive_too : (t u d : ℤ) → t -ℤ u ≡ d → pos 0 <ℤ d → pos 0 <ℤ (t +ℤ neg_ℤ u)
     positive_too t u d e h = omega (arith, ints)
 
@@ -316,40 +301,19 @@ pub along-at : (p q v : Pt) → along p q (point_of v) ≡ reach_of p q v
 unfolding along reach_of
 along-at p q v = by_ring (p.x ∷ p.y ∷ q.x ∷ q.y ∷ v.x ∷ v.y ∷ []) _ _ (search quoting depth 40 fits 100000) (search quoting depth 40 fits 100000) tt
 
--- different points have a positive distance
-same_by_difference : (a b : ℤ) → b -ℤ a ≡ pos 0 → a ≡ b
-same_by_difference a b e = omega (arith, ints)
-
-no_square : (a : ℤ) → ¬ (a ≡ pos 0) → pos 0 <ℤ (a *ℤ a)
-no_square a n = elim (sign_cases a) as (λ _. pos 0 <ℤ (a *ℤ a)) [
-  | inl h ↦
-      let e : neg_ℤ a *ℤ neg_ℤ a ≡ a *ℤ a = by_ring (a ∷ []) _ _ (search quoting depth 40 fits 100000) (search quoting depth 40 fits 100000) tt in
-      subst (λ (t : ℤ). pos 0 <ℤ t) e (mul-pos (neg_ℤ a) (neg_ℤ a) (omega (arith, ints)) (omega (arith, ints)))
-  | inr k ↦ elim k as (λ _. pos 0 <ℤ (a *ℤ a)) [ inl e ↦ absurd (n e) | inr h ↦ mul-pos a a h h ]
-]
-
-point_same : (p q : Pt) → p.x ≡ q.x → p.y ≡ q.y → p ≡ q
-point_same p q e f = ap₂ (λ (x y : ℤ). let v : Pt = record { x = x; y = y } in v) e f
-
 pub square_of-pos : (p q : Pt) → ¬ (p ≡ q) → pos 0 <ℤ square_of p q
 unfolding reach_of
 square_of-pos p q n =
     let a = square-nonneg (q.x -ℤ p.x) in
     let b = square-nonneg (q.y -ℤ p.y) in
     elim (zero_or_not (q.x -ℤ p.x)) as (λ _. pos 0 <ℤ square_of p q) [
-      | inr h ↦ left_pos _ _ (no_square (q.x -ℤ p.x) h) b
+      | inr h ↦ left_pos _ _ (square-pos (q.x -ℤ p.x) h) b
       | inl e ↦ elim (zero_or_not (q.y -ℤ p.y)) as (λ _. pos 0 <ℤ square_of p q) [
-        | inr h ↦ right_pos _ _ a (no_square (q.y -ℤ p.y) h)
-        | inl f ↦ absurd (n (point_same p q (same_by_difference p.x q.x e) (same_by_difference p.y q.y f)))
+        | inr h ↦ right_pos _ _ a (square-pos (q.y -ℤ p.y) h)
+        | inl f ↦ absurd (n (same_pt p q (same_where_no_difference p.x q.x e) (same_where_no_difference p.y q.y f)))
       ]
     ]
   where
-    zero_or_not : (a : ℤ) → (a ≡ pos 0) ⊎ ¬ (a ≡ pos 0)
-    zero_or_not a = elim (sign_cases a) as (λ _. (a ≡ pos 0) ⊎ ¬ (a ≡ pos 0)) [
-      | inl h ↦ inr (λ e. omega (arith, ints))
-      | inr k ↦ elim k as (λ _. (a ≡ pos 0) ⊎ ¬ (a ≡ pos 0)) [ inl e ↦ inl e | inr h ↦ inr (λ e. omega (arith, ints)) ]
-    ]
-
     left_pos : (a b : ℤ) → pos 0 <ℤ a → pos 0 ≤ℤ b → pos 0 <ℤ (a +ℤ b)
     left_pos a b h k = omega (arith, ints)
 

@@ -9,9 +9,7 @@ use Rattle.geom_exact.specs.declared.Relation.{Relation}
 use Rattle.geom_exact.specs.declared.Relation.TheVariants.{Apart, Overlap, Ends, Touch, Cross}
 use Rattle.geom_exact.specs.Common.{IsOnlyCommon, IsRelation}
 use Rattle.geom_exact.proofs.SegmentLemmas.{above}
-
-pub same_sym : (z w : Point) → SamePoint z w → SamePoint w z
-same_sym z w h = record { x = sym h.x; y = sym h.y }
+use Rattle.sight_names.proofs.Laws.{same_point_sym}
 
 pub same_trans : (z w v : Point) → SamePoint z w → SamePoint w v → SamePoint z v
 same_trans z w v h k = record { x = through (pos w.d) z.x (pos z.d) w.x v.x (pos v.d) (above w) h.x k.x; y = through (pos w.d) z.y (pos z.d) w.y v.y (pos v.d) (above w) h.y k.y }
@@ -20,15 +18,15 @@ same_trans z w v h k = record { x = through (pos w.d) z.x (pos z.d) w.x v.x (pos
     through e x d y u f p h k = same-of-mul e (x *ℤ f) (u *ℤ d) p (combine2 f d h k (by_ring (e ∷ x ∷ d ∷ y ∷ u ∷ f ∷ []) _ _ (search quoting depth 60 fits 200000) (search quoting depth 60 fits 200000) tt))
 
 pub end_same : (p q : Pt) (z w : Point) → SamePoint z w → IsEndOf p q z → IsEndOf p q w
-end_same p q z w h (inl e) = inl (same_trans w z (point_of p) (same_sym z w h) e)
-end_same p q z w h (inr e) = inr (same_trans w z (point_of q) (same_sym z w h) e)
+end_same p q z w h (inl e) = inl (same_trans w z (point_of p) (same_point_sym z w h) e)
+end_same p q z w h (inr e) = inr (same_trans w z (point_of q) (same_point_sym z w h) e)
 
 -- two only points are the same
 only_same : (p q r s : Pt) (z w : Point) → IsOnlyCommon p q r s z → IsOnlyCommon p q r s w → SamePoint z w
 only_same p q r s z w h k = k.only z h.common
 
 no_overlap : (p q r s : Pt) (z : Point) → IsOnlyCommon p q r s z → IsRelation p q r s Overlap → ⊥
-no_overlap p q r s z h o = o.4 (same_trans o.0 z o.1 (h.only o.0 o.2) (same_sym o.1 z (h.only o.1 o.3)))
+no_overlap p q r s z h o = o.4 (same_trans o.0 z o.1 (h.only o.0 o.2) (same_point_sym o.1 z (h.only o.1 o.3)))
 
 ends_no_touch : (p q r s : Pt) → IsRelation p q r s Ends → IsRelation p q r s Touch → ⊥
 ends_no_touch p q r s h k = elim k.2 as (λ _. ⊥) [

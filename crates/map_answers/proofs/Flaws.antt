@@ -15,11 +15,9 @@ use Rattle.sight_job.specs.declared.faces.Faces.{Faces}
 use Rattle.sight_status.specs.Answer.{Answer, Gives}
 use Rattle.map_answers.specs.Sound.{AreFaces, HasFaces, HasMixedPair, HasOpenSide, HasSoundLines, IsAuditRefusal, OnFaces, OnSound}
 use Rattle.map_answers.proofs.Sounds.{IsPastAudit, gives_line_fault}
+use Rattle.list_base.proofs.Numbers.{below_above_or_same}
 
 -- ---- the least side and the least pair of sides are one
-
-cases : (i j : ℕ) → (i < j) ⊎ ((j < i) ⊎ (i ≡ j))
-cases i j = grind arith
 
 abbrev side_of : ℕ → Bool → Side
 side_of line left = record { line = line; left = left }
@@ -34,7 +32,7 @@ by_hand s t true false line p q = inr (inl (inr (sym line, q, p)))
 by_hand s t true true line p q = inr (inr (same_side s t line (p ∙ sym q)))
 
 pub side_cases : (s t : Side) → IsSideBefore s t ⊎ (IsSideBefore t s ⊎ (s ≡ t))
-side_cases s t = elim (cases s.line t.line) as (λ _. IsSideBefore s t ⊎ (IsSideBefore t s ⊎ (s ≡ t))) [
+side_cases s t = elim (below_above_or_same s.line t.line) as (λ _. IsSideBefore s t ⊎ (IsSideBefore t s ⊎ (s ≡ t))) [
   | inl lt ↦ inl (inl lt)
   | inr (inl gt) ↦ inr (inl (inl gt))
   | inr (inr same) ↦ by_hand s t s.left t.left same refl refl

@@ -5,22 +5,20 @@ use Rattle.sight_names.specs.declared.names.Pt.{Pt}
 use Rattle.sight_names.specs.declared.plan.Line.{Line}
 use Rattle.sight_names.specs.Plan.{PlanParts, IsPlan, IsPlanLine, IsBefore}
 use Rattle.sight_names.specs.Map.{MapLine, map_of, looked_up, origin, IsMap, IsMapLine}
-use Rattle.sight_names.proofs.Lists.{contains_head, contains_tail, contains_none, contains_cases}
+use Rattle.sight_names.proofs.Lists.{contains_tail, contains_cases}
 use Rattle.sight_names.proofs.PlanPoints.{before_irreflexive, the_ends, IsEnd, at, ends_from, get_in}
 use Rattle.sight_names.proofs.PlanMap.{get_at}
 use Rattle.map_lumps.specs.declared.records.PlacedLine.{PlacedLine}
 use Rattle.map_lumps.specs.Records.{placed_ends, EndsBelow, IsInOrder}
+use Rattle.list_base.proofs.Numbers.{same_below_or_above}
+use Rattle.list_base.proofs.Lists.{map_pushed, contains_none, contains_here}
 
 -- ---- one line more
-
-map_push : {X Y : Type 0} (f : X → Y) (xs : List X) (x : X) → map f (xs ++ x ∷ []) ≡ map f xs ++ f x ∷ []
-map_push f [] x = refl
-map_push f (y ∷ ys) x = ap (λ zs. f y ∷ zs) (map_push f ys x)
 
 -- a list that goes along another, one further
 pub mapped_take_more : {X Y Z : Type 0} (f : X → Z) (g : Y → Z) (xs : List X) (ys : List Y) (x : X) (d : Y) (i : ℕ) → i < length ys → map f xs ≡ map g (take i ys) → f x ≡ g (slice_index_or ys i d) → map f (xs ++ x ∷ []) ≡ map g (take (i + 1) ys)
 mapped_take_more f g xs ys x d i l h e =
-    map_push f xs x ∙ ap₂ (λ zs z. zs ++ z ∷ []) h e ∙ sym (map_push g (take i ys) (slice_index_or ys i d)) ∙ ap (map g) (sym (take_more ys i d l))
+    map_pushed f xs x ∙ ap₂ (λ zs z. zs ++ z ∷ []) h e ∙ sym (map_pushed g (take i ys) (slice_index_or ys i d)) ∙ ap (map g) (sym (take_more ys i d l))
 
 pub ends_below_push : (n : ℕ) (ls : List (Option Line)) (o : Option Line) → EndsBelow n ls → IfSome o (λ l. (l.a < n) × (l.b < n)) → EndsBelow n (ls ++ o ∷ [])
 ends_below_push n [] None h k zero l e = absurd (no e)
@@ -37,7 +35,7 @@ ends_below_push n (m ∷ ls) o h k (suc i) l e = ends_below_push n ls o (λ j x 
 
 contains_front : {X : Type 0} (xs ys : List X) (e : X) → Contains xs e → Contains (xs ++ ys) e
 contains_front [] ys e c = absurd (contains_none e c)
-contains_front (x ∷ xs) ys e c = elim (contains_cases x e xs c) [ inl q ↦ subst (λ z. Contains (x ∷ (xs ++ ys)) z) q (contains_head x (xs ++ ys)) | inr k ↦ contains_tail x e (xs ++ ys) (contains_front xs ys e k) ]
+contains_front (x ∷ xs) ys e c = elim (contains_cases x e xs c) [ inl q ↦ subst (λ z. Contains (x ∷ (xs ++ ys)) z) q (contains_here x (xs ++ ys)) | inr k ↦ contains_tail x e (xs ++ ys) (contains_front xs ys e k) ]
 
 -- the ends of one line are ends of the lines
 pub ends_of_entry : (lines : List (Option PlacedLine)) (i : ℕ) (p : Pt) → i < length lines → Contains (placed_ends (slice_index_or lines i None ∷ [])) p → Contains (placed_ends lines) p
@@ -59,16 +57,13 @@ line_at_plan points (o ∷ ls) (suc i) l e = line_at_plan points ls i l e
 
 -- points in order at two places that are one point are at one place
 same_place : (points : List Pt) → IsInOrder points → (i j : ℕ) → i < length points → j < length points → slice_index_or points i origin ≡ slice_index_or points j origin → i ≡ j
-same_place points h i j hi hj e = elim (order i j) [
+same_place points h i j hi hj e = elim (same_below_or_above i j) [
   | inl same ↦ same
   | inr differ ↦ elim differ [
     | inl lt ↦ absurd (before_irreflexive _ (subst (λ (z : Pt). IsBefore z (at points j)) e (h.ascend i j _ _ lt (get_at points i hi) (get_at points j hj))))
     | inr lt ↦ absurd (before_irreflexive _ (subst (λ (z : Pt). IsBefore (at points j) z) e (h.ascend j i _ _ lt (get_at points j hj) (get_at points i hi))))
   ]
 ]
-  where
-    order : (i j : ℕ) → (i ≡ j) ⊎ ((i < j) ⊎ (j < i))
-    order i j = grind arith
 
 -- the parts of a map's plan, its points in order, keep the invariant
 pub is_plan : (p : PlanParts) → IsMap (map_of p) → length p.points ≤ 4096 → length p.lines ≤ 16384 → IsInOrder p.points → ((e : Pt) → Contains p.points e → Contains (the_ends p.points p.lines) e) → EndsBelow (length p.points) p.lines → IsPlan p

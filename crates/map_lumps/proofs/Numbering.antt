@@ -13,9 +13,11 @@ use borrow.Author.Differences.{ints}
 use Rattle.sight_names.specs.declared.names.Pt.{Pt}
 use Rattle.sight_names.specs.Plan.{IsBefore}
 use Rattle.sight_names.specs.Points.{in_order, pt_eq}
-use Rattle.sight_names.proofs.Lists.{same_ascending, get_of_contains, contains_none, contains_cases}
+use Rattle.sight_names.proofs.Lists.{same_ascending, get_of_contains, contains_cases}
 use Rattle.sight_names.proofs.PlanPoints.{before_irreflexive, before_asymmetric, IsAscending, as_indices, in_order_ascends, in_order_from, in_order_has}
 use Rattle.map_lumps.specs.Records.{IsInOrder}
+use Rattle.list_base.proofs.Numbers.{below_or_not}
+use Rattle.list_base.proofs.Lists.{contains_none}
 
 -- by x, then by y
 abbrev pub pt_cmp : Pt → Pt → Ordering
@@ -93,14 +95,11 @@ pub search_finds : (points : List Pt) (p : Pt) (i : ℕ) → IsInOrder points �
 search_finds points p i order there h =
     let parts = h (searchable_from_sorted pt_cmp_total (λ (y : Pt). y) points p (sorted_of_order points order)) in
     let self : pt_cmp (slice_index_or points there.0 p) p ≡ Equal = subst (λ (y : Pt). pt_cmp y p ≡ Equal) (sym there.2) (tied_itself pt_cmp_total p) in
-    elim (side there.0 i) [
+    elim (below_or_not there.0 i) [
       | inl below ↦ less_equal _ (parts.0 there.0 p (omega arith) below) self
       | inr above ↦ greater_equal _ (parts.1 there.0 p above there.1) self
     ]
   where
-    side : (k i : ℕ) → (k < i) ⊎ (i ≤ k)
-    side k i = grind arith
-
     less_equal : (o : Ordering) → o ≡ Less → o ≡ Equal → ⊥
     less_equal o h k = cc
 

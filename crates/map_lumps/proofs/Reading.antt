@@ -7,6 +7,7 @@ use Rattle.sight_names.specs.declared.faults.LumpFault.{LumpFault}
 use Rattle.sight_names.specs.Map.{MapLine}
 use Rattle.sight_names.specs.Points.{pt_eq}
 use Rattle.sight_names.specs.Lumps.{numbers_from, numbers_below, lines_fault, first_of, linedef, vertex, side_sector, u16_at}
+use Rattle.list_base.proofs.Lists.{map_pushed}
 
 -- one number more
 numbers_from_push : (k n : ℕ) → numbers_from k (suc n) ≡ numbers_from k n ++ (k + n) ∷ []
@@ -16,13 +17,9 @@ numbers_from_push k (suc n) = ap (λ (xs : List ℕ). k ∷ xs) (numbers_from_pu
 pub numbers_push : (n : ℕ) → numbers_below (n + 1) ≡ numbers_below n ++ n ∷ []
 numbers_push n = let e : n + 1 ≡ suc n = omega arith in rw e (numbers_from_push 0 n ∙ ap (λ (x : ℕ). numbers_below n ++ x ∷ []) (omega arith))
 
-map_push : {X Y : Type 0} (f : X → Y) (xs : List X) (x : X) → map f (xs ++ x ∷ []) ≡ map f xs ++ f x ∷ []
-map_push f [] x = refl
-map_push f (y ∷ ys) x = ap (λ zs. f y ∷ zs) (map_push f ys x)
-
 -- a list that is made number by number, one further
 pub mapped_more : {X Y : Type 0} (f : X → Y) (g : ℕ → Y) (xs : List X) (x : X) (n : ℕ) → map f xs ≡ map g (numbers_below n) → f x ≡ g n → map f (xs ++ x ∷ []) ≡ map g (numbers_below (n + 1))
-mapped_more f g xs x n h e = map_push f xs x ∙ ap₂ (λ ys y. ys ++ y ∷ []) h e ∙ sym (map_push g (numbers_below n) n) ∙ ap (map g) (sym (numbers_push n))
+mapped_more f g xs x n h e = map_pushed f xs x ∙ ap₂ (λ ys y. ys ++ y ∷ []) h e ∙ sym (map_pushed g (numbers_below n) n) ∙ ap (map g) (sym (numbers_push n))
 
 -- the first line with a fault, none before it having one
 first_from : (fault : ℕ → Option LumpFault) (k n m : ℕ) (rest : Option LumpFault) (f : LumpFault) → m < n → ((j : ℕ) → j < m → fault (k + j) ≡ None) → fault (k + m) ≡ Some f → lines_fault fault (numbers_from k n) rest ≡ Some f

@@ -17,6 +17,7 @@ use Rattle.map_lumps.specs.Answers.{Passes}
 use Rattle.map_lumps.proofs.Checking.{points_left}
 use Rattle.map_lumps.proofs.Numbering.{pt_eq_equiv, in_order_is}
 use Rattle.map_lumps.proofs.Assembling.{is_plan}
+use Rattle.list_base.proofs.Bools.{not_both_values}
 
 -- ---- a sound record
 
@@ -64,10 +65,7 @@ solid_of_left false (Some x) (Some y) e = absurd (no e)
     no e = cc
 
 differ_of : (p q : Pt) → pt_eq p q ≡ false → p ≢ q
-differ_of p q h e = clash _ (pt_eq_equiv.refl p) (subst (λ (z : Pt). pt_eq p z ≡ false) (sym e) h)
-  where
-    clash : (b : Bool) → b ≡ true → b ≡ false → ⊥
-    clash b h k = cc
+differ_of p q h e = not_both_values _ (pt_eq_equiv.refl p) (subst (λ (z : Pt). pt_eq p z ≡ false) (sym e) h)
 
 module _ (linedefs sidedefs vertexes sectors : List ℕ) where
   sound_line : (k : ℕ) (l : MapLine) → line_fault linedefs sidedefs vertexes sectors k ≡ None → linedef linedefs sidedefs vertexes k ≡ Some l → IsMapLine (length sectors / 26) l

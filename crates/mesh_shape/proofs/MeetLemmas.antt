@@ -4,15 +4,16 @@ use Rattle.sight_names.specs.declared.names.Pt.{Pt}
 use Rattle.sight_names.specs.Sound.{MeetAtEnds}
 use Rattle.geom_exact.specs.declared.Relation.TheVariants.{Apart, Overlap, Ends, Touch, Cross}
 use Rattle.geom_exact.specs.Common.{IsRelation}
-use Rattle.geom_exact.proofs.Uniqueness.{same_sym, same_trans, end_same}
+use Rattle.geom_exact.proofs.Uniqueness.{same_trans, end_same}
+use Rattle.sight_names.proofs.Laws.{same_point_sym}
 
 pub apart_meet : (p q r s : Pt) → IsRelation p q r s Apart → MeetAtEnds p q r s
 apart_meet p q r s h = record { one = λ u v c d. absurd (h u c); ends = λ u c. absurd (h u c) }
 
 pub ends_meet : (p q r s : Pt) → IsRelation p q r s Ends → MeetAtEnds p q r s
 ends_meet p q r s (z, only, first, second) = record {
-  one = λ u v c d. same_trans u z v (only.only u c) (same_sym v z (only.only v d));
-  ends = λ u c. (end_same p q z u (same_sym u z (only.only u c)) first, end_same r s z u (same_sym u z (only.only u c)) second);
+  one = λ u v c d. same_trans u z v (only.only u c) (same_point_sym v z (only.only v d));
+  ends = λ u c. (end_same p q z u (same_point_sym u z (only.only u c)) first, end_same r s z u (same_point_sym u z (only.only u c)) second);
 }
 
 pub overlap_not : (p q r s : Pt) → IsRelation p q r s Overlap → MeetAtEnds p q r s → ⊥

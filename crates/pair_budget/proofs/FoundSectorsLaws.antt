@@ -5,7 +5,7 @@ use Rattle.std.proofs.lemmas.Bool.{ltb-true, ltb-false}
 use Rattle.std.proofs.lemmas.List.Elements.{Contains-append_left, Contains-append_right, Contains-append_cases, Contains-push, Contains-push_cases}
 use Rattle.std.proofs.lemmas.List.{append-nil, map_more, take_all, take_more, flat_map_more}
 use Rattle.std.proofs.lemmas.Option.{slice_get_within, same_Some}
-use Rattle.sight_names.proofs.Lists.{contains_none, contains_cases, contains_head, contains_tail, contains_of_get, get_of_contains}
+use Rattle.sight_names.proofs.Lists.{contains_cases, contains_tail, contains_of_get, get_of_contains}
 use Rattle.sight_names.specs.declared.names.Pair.{Pair}
 use Rattle.sight_names.specs.declared.names.PairRay.{PairRay}
 use Rattle.sight_names.specs.Plan.{PlanParts}
@@ -16,6 +16,9 @@ use Rattle.pair_budget.specs.Walked.{IsReachedFrom}
 use Rattle.pair_budget.specs.Decide.{AreResults, AreFound, IsRayOf, turned}
 use Rattle.pair_budget.specs.PairRays.{PairRaysParts, HasRayFor, AreMarked, IsNoted, toward, all_rays, KeepsOneEach}
 use Rattle.pair_budget.specs.Rows.{KnowsFound}
+use Rattle.list_base.proofs.Numbers.{below_or_above}
+use Rattle.list_base.proofs.Lists.{pushed_at, contains_none, contains_here}
+use Rattle.list_base.proofs.Bools.{not_both_values}
 
 -- ---- two numbers are two others, or not
 
@@ -25,17 +28,7 @@ same_or_other c d a b = grind arith
 pub pair_is : (p : Pair) (a b : ℕ) → p.a ≡ a → p.b ≡ b → p ≡ record { a = a; b = b }
 pair_is p a b h k = ap₂ (λ (x y : ℕ). record { a = x; b = y }) h k
 
--- a test doesn't both hold and fail
-pub not_both : (t : Bool) → t ≡ true → t ≡ false → ⊥
-not_both t h k = cc
-
 -- ---- one more at the end
-
-pub get_pushed : {X : Type 0} (xs : List X) (x y : X) (j : ℕ) → slice_get (xs ++ x ∷ []) j ≡ Some y → (slice_get xs j ≡ Some y) ⊎ ((j ≡ length xs) × (x ≡ y))
-get_pushed [] x y zero h = inr (refl, same_Some x y h)
-get_pushed [] x y (suc j) h = absurd cc
-get_pushed (z ∷ xs) x y zero h = inl h
-get_pushed (z ∷ xs) x y (suc j) h = elim (get_pushed xs x y j h) [ inl k ↦ inl k | inr k ↦ inr (ap suc k.0, k.1) ]
 
 -- ---- pairs
 
@@ -87,7 +80,7 @@ noted all r old new g is = elim is.rays [
   | inr more ↦ subst (λ (rays : List PairRay). KeepsOneEach (all ++ r ∷ []) rays) (sym more.1) (record {
     from = λ s c. elim (Contains-push_cases old.rays r s c) [ inl k ↦ Contains-append_left all (r ∷ []) s (g.from s k) | inr q ↦ subst (λ (s : PairRay). Contains (all ++ r ∷ []) s) q (Contains-push all r) ];
     pairs = λ s c. elim (Contains-push_cases all r s c) [ inl k ↦ has_more old.rays r s.pair.a s.pair.b (g.pairs s k) | inr q ↦ subst (λ (s : PairRay). HasRayFor (old.rays ++ r ∷ []) s.pair.a s.pair.b) q (has_last old.rays r) ];
-    once = λ i j s t lt h k. apart more.0 i j s t lt (get_pushed old.rays r s i h) (get_pushed old.rays r t j k);
+    once = λ i j s t lt h k. apart more.0 i j s t lt (pushed_at old.rays r s i h) (pushed_at old.rays r t j k);
   })
 ]
   where
@@ -132,9 +125,6 @@ toward_down source x lt = at (nat_lt source x.to) refl
     at true h = let k = ltb-true source x.to h in absurd (omega arith)
     at false h = by_test false source x h
 
-two_ways : (a b : ℕ) → a ≢ b → (a < b) ⊎ (b < a)
-two_ways a b h = grind arith
-
 -- ---- the rays of all sources
 
 -- a ray of the list is that of some sector that some source found
@@ -148,7 +138,7 @@ from_source (w ∷ rs) r c = elim (Contains-append_cases (map (toward w.source) 
     of_map : (f : Reached → PairRay) (xs : List Reached) (r : PairRay) → Contains (map f xs) r → (x : Reached) × Contains xs x × (f x ≡ r)
     of_map f [] r c = absurd (contains_none r c)
     of_map f (x ∷ xs) r c = elim (contains_cases (f x) r (map f xs) c) [
-      | inl e ↦ (x, contains_head x xs, e)
+      | inl e ↦ (x, contains_here x xs, e)
       | inr k ↦ let m = of_map f xs r k in (m.0, contains_tail x m.0 xs m.1, m.2)
     ]
 
@@ -160,7 +150,7 @@ has_source (v ∷ rs) zero w x h c = let e = same_Some v w h in
     in_map : (f : Reached → PairRay) (xs : List Reached) (x : Reached) → Contains xs x → Contains (map f xs) (f x)
     in_map f [] x c = absurd (contains_none x c)
     in_map f (y ∷ xs) x c = elim (contains_cases y x xs c) [
-      | inl e ↦ subst (λ (z : Reached). Contains (map f (y ∷ xs)) (f z)) e (contains_head (f y) (map f xs))
+      | inl e ↦ subst (λ (z : Reached). Contains (map f (y ∷ xs)) (f z)) e (contains_here (f y) (map f xs))
       | inr k ↦ contains_tail (f y) (f x) (map f xs) (in_map f xs x k)
     ]
 has_source (v ∷ rs) (suc k) w x h c = Contains-append_right (map (toward v.source) v.found) (all_rays rs) (toward w.source x) (has_source rs k w x h c)
@@ -180,7 +170,7 @@ find_ray p rs are k w x r h c e =
     let from : w.source ≡ k = (are.each k w h).source_is in
     let in' : k < p.sectors = subst (λ (n : ℕ). k < n) are.count (slice_get_within rs k w h) in
     let by : toward k x ≡ r = ap (λ (s : ℕ). toward s x) (sym from) ∙ e in
-    elim (two_ways k x.to (λ q. here.other (sym q))) [
+    elim (below_or_above k x.to (λ q. here.other (sym q))) [
       | inl up ↦ subst (λ (s : PairRay). IsFindRay p rs s) (sym (toward_up k x up) ∙ by) (record { order = up; within = here.within; ray = inl (w, x, h, c, refl, refl) })
       | inr down ↦ subst (λ (s : PairRay). IsFindRay p rs s) (sym (toward_down k x down) ∙ by) (record { order = down; within = in'; ray = inr (x.ray, (w, x, h, c, refl, refl), refl) })
     ]

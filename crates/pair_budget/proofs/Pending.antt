@@ -11,7 +11,7 @@ use Rattle.sight_names.specs.Plan.{PlanParts}
 use Rattle.sight_names.specs.Map.{map_of}
 use Rattle.sight_names.specs.Mesh.{triangle_at, label_of, HasEdge}
 use Rattle.sight_names.specs.Sequence.{Portal, Sequence, Way, Left, Right, IsSequence, IsSolidLine, LeadsOutside, entry_edge, way_out, apex, third_point, portals, portals_from, root_portal, roots, sides_of, is_root}
-use Rattle.sight_names.proofs.Lists.{contains_head, contains_tail}
+use Rattle.sight_names.proofs.Lists.{contains_tail}
 use Rattle.block_evidence.specs.declared.Evidence.{Evidence}
 use Rattle.block_evidence.specs.declared.Node.{Node}
 use Rattle.block_evidence.specs.declared.Node.TheVariants.{Open, Blocked}
@@ -23,28 +23,13 @@ use Rattle.portal_walk.proofs.Sequences.{portals_more, all_last}
 use Rattle.pair_budget.specs.declared.results.Reached.{Reached}
 use Rattle.pair_budget.specs.Whole.{IsOfFound, AnswersDue, IsGap, IsPending}
 use Rattle.pair_budget.proofs.Gaps.{IsGround, ways_end, root_gap}
+use Rattle.list_base.proofs.Lists.{all_so, all_front, all_join, last_pushed, contains_here}
 
 -- ---- lists
-
-last_is : (q : Portal) (ps : List Portal) (o : Option Portal) → last_or o (ps ++ q ∷ []) ≡ Some q
-last_is q [] o = refl
-last_is q (p ∷ ps) o = last_is q ps (Some p)
-
-pub all_join : {X : Type 0} (P : X → Type 0) (xs ys : List X) → AllByRecursion P xs → AllByRecursion P ys → AllByRecursion P (xs ++ ys)
-all_join P [] ys h k = k
-all_join P (x ∷ xs) ys h k = (h.0, all_join P xs ys h.1 k)
-
-pub all_first : {X : Type 0} (P : X → Type 0) (xs ys : List X) → AllByRecursion P (xs ++ ys) → AllByRecursion P xs
-all_first P [] ys h = tt
-all_first P (x ∷ xs) ys h = (h.0, all_first P xs ys h.1)
 
 pub all_rest : {X : Type 0} (P : X → Type 0) (xs ys : List X) → AllByRecursion P (xs ++ ys) → AllByRecursion P ys
 all_rest P [] ys h = h
 all_rest P (x ∷ xs) ys h = all_rest P xs ys h.1
-
-pub all_so : {X : Type 0} (P Q : X → Type 0) (xs : List X) → ((x : X) → P x → Q x) → AllByRecursion P xs → AllByRecursion Q xs
-all_so P Q [] f h = tt
-all_so P Q (x ∷ xs) f h = (f x h.0, all_so P Q xs f h.1)
 
 -- ---- more sectors that were found
 
@@ -95,7 +80,7 @@ module _ (p : PlanParts) (ts : List Triangle) (ls : List (Option ℕ)) (a : ℕ)
         ]
 
     pub skip_one : ((ds : List Portal) → ¬ IsSequence (map_of p) ts ls a s ds) → (rest : List Sequence) (ns : List Node) (opened : List ℕ) → AnswersDue p ts ls a rest ns opened → AnswersDue p ts ls a (s ∷ rest) ns opened
-    skip_one none rest ns opened h = (all_of, [], ns, [], opened, c.way, refl, refl, no_node c.last (last_is c.last c.before None) (has_none none) refl refl, h)
+    skip_one none rest ns opened h = (all_of, [], ns, [], opened, c.way, refl, refl, no_node c.last (last_pushed c.last c.before None) (has_none none) refl refl, h)
 
     module _ (ps : List Portal) (q : IsSequence (map_of p) ts ls a s ps) where
       pub same_portals : ps ≡ all_of
@@ -112,7 +97,7 @@ module _ (p : PlanParts) (ts : List Triangle) (ls : List (Option ℕ)) (a : ℕ)
 
       has_node : HasNode (map_of p) ts ls a all_of c.last last_outside.0
       has_node = record {
-        last = last_is c.last c.before None;
+        last = last_pushed c.last c.before None;
         no_wall = all_last (λ (d : Portal). ¬ IsSolidLine (map_of p) d) c.before c.last walls_free;
         entered = last_outside.1;
         outside = last_outside.2;
@@ -184,7 +169,7 @@ module _ (p : PlanParts) (ts : List Triangle) (ls : List (Option ℕ)) (a : ℕ)
   roots_in g found (s ∷ ss) within all = (first (root_gap p ts ls g a found s all.0), roots_in g found ss (λ t c. within t (contains_tail s t ss c)) all.1)
     where
       first : (d : Portal) × (root_portal (map_of p) s ≡ Some d) × IsGap p ts ls a found d → IsPending p ts ls a found (root_alone s)
-      first (d, is, gap) = record { before = []; last = d; root = within s (contains_head s ss); way = ap (λ (o : Option Portal). portals_from ts o []) is; no_wall = tt; outside = tt; end = inr gap }
+      first (d, is, gap) = record { before = []; last = d; root = within s (contains_here s ss); way = ap (λ (o : Option Portal). portals_from ts o []) is; no_wall = tt; outside = tt; end = inr gap }
 
   pub roots_pending : IsGround p ts ls → (found : List Reached) → AllByRecursion (IsPending p ts ls a found) (map root_alone (roots (map_of p) a))
   roots_pending g found = roots_in g found (roots (map_of p) a) (λ s c. c) (all_kept (is_root (map_of p) a) (sides_of (map_of p)))

@@ -6,7 +6,8 @@ use Rattle.exact_ring.proofs.IntLaws.{neg-*ℤ}
 use Rattle.exact_ring.proofs.Quoting.{quoting, by_ring, combine2}
 use Rattle.exact_ring.proofs.Signs.{mul-pos, mul-nonneg, pos-of-mul, le_or_lt}
 use Rattle.plane_base.proofs.Vec.{V, Lin, at, edge, det, On, value, mean, det-cycle, comb_of_bary}
-use Rattle.plane_base.proofs.Wedge.{mul_np, mul_pn, Inside}
+use Rattle.plane_base.proofs.Wedge.{mul_np, Inside}
+use Rattle.exact_ring.proofs.MoreSigns.{mul-nonpos}
 
 -- where the segment from y to p leaves: a point with H > 0 on a b or on a c
 pub record Leaves (a b c y p : V) : Type 0 where
@@ -62,7 +63,7 @@ entry a b c y p h fy gy hy hp =
             inr (right_out a b c y p h gy hy hp gp (omega (arith, ints)))
       ]
       | inr fp ↦ elim (le_or_lt (det c a p) (pos 0)) as (λ _. ((pos 0 <ℤ det a b p) × (pos 0 <ℤ det c a p)) ⊎ Leaves a b c y p) [
-        | inl gp ↦ inr (right_out a b c y p h gy hy hp gp (omega (arith, ints, mul_pn (det a b y) (det c a p) (omega (arith, ints)) gp, mul-pos (det a b p) (det c a y) fp gy)))
+        | inl gp ↦ inr (right_out a b c y p h gy hy hp gp (omega (arith, ints, mul-nonpos (det a b y) (det c a p) (omega (arith, ints)) gp, mul-pos (det a b p) (det c a y) fp gy)))
         | inr gp ↦ inl (fp, gp)
       ]
     ]
@@ -87,7 +88,7 @@ clash l m n g e k A D P Q Y d hl hg he hn hk hA hP hQ e1 e2 e3 e4 =
     let under : k *ℤ x ≡ g *ℤ (P -ℤ D) +ℤ e *ℤ (Q -ℤ D) = combine2 (pos 1) (neg_ℤ D) e2 e4 (under_ring g e k P Q D Y d) in
     let s : pos 0 <ℤ (l *ℤ (A -ℤ D)) = mul-pos l (A -ℤ D) hl (omega (arith, ints)) in
     let t : pos 0 <ℤ x = pos-of-mul n x hn (omega (arith, ints)) in
-    omega (arith, ints, mul_pn g (P -ℤ D) hg (omega (arith, ints)), mul_pn e (Q -ℤ D) he (omega (arith, ints)), mul-pos k x hk t)
+    omega (arith, ints, mul-nonpos g (P -ℤ D) hg (omega (arith, ints)), mul-nonpos e (Q -ℤ D) he (omega (arith, ints)), mul-pos k x hk t)
 
 -- the crossing of a d and p q is higher than d, so one of p, q is
 pub higher : (f : Lin) (a d p q y : V) → a.d ≡ pos 1 → d.d ≡ pos 1 → p.d ≡ pos 1 → q.d ≡ pos 1 → Inside a d y → Inside p q y → at f d <ℤ at f a

@@ -6,7 +6,8 @@ use Rattle.exact_ring.proofs.Quoting.{quoting, by_ring}
 use Rattle.exact_ring.proofs.IntLaws.{neg-*ℤ, *ℤ_assoc}
 use Rattle.exact_ring.proofs.Signs.{mul-pos, mul-nonneg, pos-of-mul, nonneg-of-mul, zero-of-mul, sign_cases, le_or_lt}
 use Rattle.plane_base.proofs.Vec.{V, Lin, at, edge, det, On, value, mean, bary, det-swap, det-cycle, det-first, det-last, comb_of_bary, fan}
-use Rattle.plane_base.proofs.Wedge.{mul_np, pos_neg, mul_pn, on_within, Inside, base_blocks}
+use Rattle.plane_base.proofs.Wedge.{mul_np, on_within, Inside, base_blocks}
+use Rattle.exact_ring.proofs.MoreSigns.{mul-nonpos, mul-neg}
 
 pub det-flip : (a x y : V) → det a y x ≡ neg_ℤ (det a x y)
 det-flip a x y = let p = det-cycle a x y in let q = det-swap x y a in let r = det-cycle a y x in omega (arith, ints)
@@ -88,7 +89,7 @@ pub opposite : (k o x y A D : ℤ) → pos 0 <ℤ k → pos 0 <ℤ o → pos 0 <
 opposite k o x y A D hk ho hx hy e h =
     let a : pos 0 <ℤ A = elim (le_or_lt A (pos 0)) as (λ _. pos 0 <ℤ A) [
       | inl q ↦
-          let p = mul_pn k A (omega (arith, ints)) q in
+          let p = mul-nonpos k A (omega (arith, ints)) q in
           let d : pos 0 ≤ℤ D = nonneg-of-mul o D ho (omega (arith, ints)) in
           absurd (omega (arith, ints, mul-nonneg D y d (omega (arith, ints)), mul_np A x q (omega (arith, ints))))
       | inr q ↦ q
@@ -126,7 +127,7 @@ case_b a d p q e r s y ad dd rd sd w c ur =
     let uv : det a d v ≡ pos 0 = omega (arith, ints, neg-*ℤ (det a d r) (det a d y), *ℤ_comm (det a d r) (det a d y)) in
     let vv0 = value (edge a e) _ _ _ y r v t.1 in
     let vz : neg_ℤ (det a d r) *ℤ det a e y ≡ pos 0 = ap (λ (k : ℤ). neg_ℤ (det a d r) *ℤ k) vy ∙ *ℤ-zero (neg_ℤ (det a d r)) in
-    let vv : det a e v <ℤ pos 0 = omega (arith, ints, pos_neg (det a d y) (det a e r) uy c.right) in
+    let vv : det a e v <ℤ pos 0 = omega (arith, ints, mul-neg (det a d y) (det a e r) uy c.right) in
     let so = det-swap a e v in
     let o : pos 0 <ℤ det e a v = omega (arith, ints) in
     let last : (f : Lin) → det a d v *ℤ at f e ≡ pos 0 = λ f. ap (λ (k : ℤ). k *ℤ at f e) uv ∙ zero-*ℤ (at f e) in
@@ -139,12 +140,12 @@ case_b a d p q e r s y ad dd rd sd w c ur =
       | inr h ↦
           let be = bary (edge p q) a d e v in
           let le = last (edge p q) in
-          let ke : pos 0 <ℤ (det p q a *ℤ det d e v) = omega (arith, ints, *ℤ_comm (det p q a) (det d e v), mul-pos (det a d e) (det p q v) w.Ue h, pos_neg (det e a v) (det p q d) o w.Ed) in
+          let ke : pos 0 <ℤ (det p q a *ℤ det d e v) = omega (arith, ints, *ℤ_comm (det p q a) (det d e v), mul-pos (det a d e) (det p q v) w.Ue h, mul-neg (det e a v) (det p q d) o w.Ed) in
           let k : pos 0 <ℤ det d e v = pos-of-mul (det p q a) (det d e v) w.Ea ke in
           elim (sign_cases (det a d r)) as (λ _. Why a d p q r s) [
             | inl rn ↦
                 let us0 = value (edge a d) c.second.l c.second.m c.second.n r s y c.second.comb in
-                let us : pos 0 <ℤ det a d s = pos-of-mul c.second.m (det a d s) c.second.right (omega (arith, ints, mul-pos c.second.n (det a d y) c.second.comb.scale uy, mul_pn c.second.l (det a d r) c.second.comb.left ur)) in
+                let us : pos 0 <ℤ det a d s = pos-of-mul c.second.m (det a d s) c.second.right (omega (arith, ints, mul-pos c.second.n (det a d y) c.second.comb.scale uy, mul-nonpos c.second.l (det a d r) c.second.comb.left ur)) in
                 let gv = on_straight r s v ov in
                 let bg = bary (edge r s) a d e v in
                 let lg = last (edge r s) in

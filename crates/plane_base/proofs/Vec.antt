@@ -3,6 +3,8 @@ use Rattle.std.proofs.Common.{◌≡◌, ℤ, pos, ◌+ℤ◌, ◌*ℤ◌, ◌-�
 use borrow.Author.Differences.{ints}
 use lib.IntN.{*ℤ-zero, zero-*ℤ}
 use Rattle.exact_ring.proofs.Quoting.{quoting, by_ring}
+use Rattle.exact_ring.proofs.Small.{zero_by_second}
+use Rattle.exact_ring.proofs.MoreSigns.{mul-neg_ℤ}
 
 pub record V : Type 0 where
   pub x : ℤ
@@ -172,8 +174,3 @@ pub on_back : (p q r : V) → On p q r → On q p r
 on_back p q r (l, m, n, h) = (m, l, n, comb_back l m n p q r h)
 
 -- ---- products
-pub times_neg : (m t : ℤ) → m *ℤ neg_ℤ t ≡ neg_ℤ (m *ℤ t)
-times_neg m t = by_ring (m ∷ t ∷ []) _ _ (search quoting depth 40 fits 100000) (search quoting depth 40 fits 100000) tt
-
-pub zero_right : (k z : ℤ) → z ≡ pos 0 → k *ℤ z ≡ pos 0
-zero_right k z e = ap (λ (s : ℤ). k *ℤ s) e ∙ *ℤ-zero k

@@ -6,8 +6,8 @@ use Rattle.exact_ring.proofs.IntLaws.{neg-*ℤ}
 use Rattle.exact_ring.proofs.Quoting.{quoting, by_ring}
 use Rattle.exact_ring.proofs.Signs.{mul-pos, pos-of-mul, nonneg-of-mul, le-of-mul, mul-le, le_or_lt}
 use Rattle.plane_base.proofs.Vec.{V, edge, det, IsComb, On, value, mean, det-swap, det-cycle, det-first, det-last, comb_of_bary}
-use Rattle.plane_base.proofs.Wedge.{mul_pn}
 use Rattle.plane_base.proofs.Search.{In, find_or_none, Least, least_by, leave_first}
+use Rattle.exact_ring.proofs.MoreSigns.{mul-nonpos}
 
 pub record Tri : Type 0 where
   pub a : V
@@ -169,7 +169,7 @@ near_exit : (cs : List Tri) (p q z : V) (h : Least (Good cs p q) Le (start ∷ c
     → ((u : Tri) → In u (sides t) → pos 0 ≤ℤ (neg_ℤ (side g q) *ℤ side u z +ℤ side g z *ℤ side u q)) → side g z ≡ pos 0
 near_exit cs p q z h at_z g t ig it gq gz first =
     let e = side_at p q z h.it at_z g in
-    let m = mul_pn h.it.m (side g q) at_z.right (omega (arith, ints)) in
+    let m = mul-nonpos h.it.m (side g q) at_z.right (omega (arith, ints)) in
     let gp : pos 0 ≤ℤ side g p = nonneg-of-mul h.it.l (side g p) at_z.left (omega (arith, ints)) in
     let good : Good cs p q (exit_weights p q g) = record {
       left = omega (arith, ints);

@@ -6,6 +6,7 @@ use Rattle.exact_ring.proofs.Quoting.{quoting, by_ring}
 use Rattle.exact_ring.proofs.IntLaws.{neg-*ℤ}
 use Rattle.exact_ring.proofs.Signs.{mul-pos, mul-nonneg, pos-of-mul}
 use Rattle.plane_base.proofs.Vec.{V, Lin, at, edge, det, IsComb, On, sum3, value, mean, bary, det-cycle, comb_of_bary}
+use Rattle.exact_ring.proofs.MoreSigns.{mul-nonpos, mul-neg}
 
 -- ---- products with a factor that isn't positive
 pub mul_np : (a b : ℤ) → a ≤ℤ pos 0 → pos 0 ≤ℤ b → (a *ℤ b) ≤ℤ pos 0
@@ -13,12 +14,6 @@ mul_np a b h k = omega (arith, ints, neg-*ℤ a b, mul-nonneg (neg_ℤ a) b (ome
 
 pub mul_neg_pos : (a b : ℤ) → a <ℤ pos 0 → pos 0 <ℤ b → (a *ℤ b) <ℤ pos 0
 mul_neg_pos a b h k = omega (arith, ints, neg-*ℤ a b, mul-pos (neg_ℤ a) b (omega (arith, ints)) k)
-
-pub pos_neg : (a b : ℤ) → pos 0 <ℤ a → b <ℤ pos 0 → (a *ℤ b) <ℤ pos 0
-pos_neg a b h k = omega (arith, ints, *ℤ_comm a b, mul_neg_pos b a k h)
-
-pub mul_pn : (a b : ℤ) → pos 0 ≤ℤ a → b ≤ℤ pos 0 → (a *ℤ b) ≤ℤ pos 0
-mul_pn a b h k = omega (arith, ints, *ℤ_comm a b, mul_np b a k h)
 
 -- ---- a segment contains the segments between its points
 within0 : (n n1 n2 l m l1 m1 l2 m2 w y z p q : ℤ) →
@@ -69,7 +64,7 @@ base_blocks a p q r s y z U ea up uq oy oz ey ez uy uz my mz =
     let cyc = det-cycle a p q in
     let t : det p q w *ℤ at U a ≡ pos 0 = ap (λ (k : ℤ). k *ℤ at U a) e0 ∙ zero-*ℤ (at U a) in
     let f : pos 0 ≤ℤ (det a p q *ℤ at U w) = mul-nonneg (det a p q) (at U w) (omega (arith, ints)) u0 in
-    let g : (det q a w *ℤ at U p) <ℤ pos 0 = pos_neg (det q a w) (at U p) m0 up in
+    let g : (det q a w *ℤ at U p) <ℤ pos 0 = mul-neg (det q a w) (at U p) m0 up in
     let k : pos 0 <ℤ (at U q *ℤ det a p w) = omega (arith, ints, *ℤ_comm (det a p w) (at U q)) in
     let lw : pos 0 <ℤ det a p w = pos-of-mul (at U q) (det a p w) uq k in (
       w,

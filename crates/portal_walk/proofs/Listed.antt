@@ -4,12 +4,13 @@ use Rattle.std.specs.List.{flat_map, enumerate_from}
 use Rattle.std.proofs.lemmas.Bool.{true≢false}
 use Rattle.std.proofs.lemmas.List.Elements.{Contains-append_right}
 use Rattle.std.proofs.lemmas.Option.{none-some}
-use Rattle.sight_names.proofs.Lists.{contains_cases, contains_tail, contains_none}
+use Rattle.sight_names.proofs.Lists.{contains_cases, contains_tail}
 use Rattle.sight_names.specs.declared.names.Side.{Side}
 use Rattle.sight_names.specs.Map.{MapLine, map_of, line_at}
 use Rattle.sight_names.specs.Plan.{PlanParts}
 use Rattle.sight_names.specs.Sequence.{roots, sides_of, both_sides, is_root}
 use Rattle.portal_walk.specs.Sides.{IsExit}
+use Rattle.list_base.proofs.Lists.{contains_none}
 
 contains_filter : {X : Type 0} (test : X → Bool) (xs : List X) (x : X) → Contains xs x → test x ≡ true → Contains (filter test xs) x
 contains_filter test [] x c t = absurd (contains_none x c)

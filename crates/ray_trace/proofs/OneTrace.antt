@@ -18,6 +18,8 @@ use Rattle.sight_ray.specs.RayFault.{IsRayFault}
 use Rattle.sight_ray.proofs.FaultLemmas.{one_fault, one_order}
 use Rattle.ray_trace.specs.Trace.{Crosses, IsBadRay, IsLastPortal, IsStep, IsTrace, IsTraceFault, IsTraceable, IsWall, MeetsPoint, MeetsWall, Walked}
 use Rattle.ray_trace.specs.Trace.Walked.{begun, stepped}
+use Rattle.list_base.proofs.Options.{is_not_there}
+use Rattle.list_base.proofs.Numbers.{below_above_or_same}
 
 -- what a trace can answer but for want of memory
 abbrev pub IsTraced : Map → List Triangle → Ray → Result (List ℕ) TraceFault → Type 0
@@ -26,9 +28,6 @@ IsTraced m ts r (Err Memory) = ⊥
 IsTraced m ts r (Err fault) = IsTraceFault m ts r fault
 
 -- ---- one way out
-
-cases : (i j : ℕ) → (i < j) ⊎ ((j < i) ⊎ (i ≡ j))
-cases i j = grind arith
 
 one_way : (m : Map) (r : Ray) (p : Portal) (t : ℕ) (v w : Way) → Crosses m r (way_out p v t) → Crosses m r (way_out p w t) → v ≡ w
 one_way m r p t Left Left c d = refl
@@ -96,7 +95,7 @@ record Part (m : Map) (ts : List Triangle) (r : Ray) (n : ℕ) : Type 0 where
 
 part_at : (m : Map) (ts : List Triangle) (r : Ray) (q : Portal) (ks : List ℕ) → Walked m ts r q ks → (n : ℕ) → 1 ≤ n → n < length ks → Part m ts r n
 part_at m ts r q ks (begun k t f e same) n some lt = absurd (let a : length ks ≡ 1 = ap (λ (xs : List ℕ). length xs) same in omega (arith, a, some, lt))
-part_at m ts r q ks (stepped p js k w l s same) n some lt = elim (cases n (length js)) as (λ _. Part m ts r n) [
+part_at m ts r q ks (stepped p js k w l s same) n some lt = elim (below_above_or_same n (length js)) as (λ _. Part m ts r n) [
   | inl less ↦ part_at m ts r p js w n some less
   | inr (inl more) ↦ absurd (let a = one_more js ks k same in omega (arith, a, more, lt))
   | inr (inr here) ↦ record { portal = p; passed = js; walked = w; count = sym here; goes_on = record { triangle = k; next = q; not_last = l; step = s } }
@@ -104,7 +103,7 @@ part_at m ts r q ks (stepped p js k w l s same) n some lt = elim (cases n (lengt
 
 -- two walks that don't go on are one
 one_end : (m : Map) (ts : List Triangle) (r : Ray) (p q : Portal) (ks js : List ℕ) → Walked m ts r p ks → ¬ GoesOn m ts r p → Walked m ts r q js → ¬ GoesOn m ts r q → (p ≡ q) × (ks ≡ js)
-one_end m ts r p q ks js w ends v stops = elim (cases (length ks) (length js)) as (λ _. (p ≡ q) × (ks ≡ js)) [
+one_end m ts r p q ks js w ends v stops = elim (below_above_or_same (length ks) (length js)) as (λ _. (p ≡ q) × (ks ≡ js)) [
   | inl less ↦ absurd (earlier p ks w ends (part_at m ts r q js v (length ks) (walked_some m ts r p ks w) less))
   | inr (inl more) ↦ absurd (earlier q js v stops (part_at m ts r p ks w (length js) (walked_some m ts r q js v) more))
   | inr (inr same) ↦ same_walk m ts r p q ks js w v same
@@ -145,7 +144,7 @@ trace_or_point m ts r ks k h g =
 one_wall : (m : Map) (ts : List Triangle) (r : Ray) (i j : ℕ) → MeetsWall m ts r i → MeetsWall m ts r j → i ≡ j
 one_wall m ts r i j h g =
     let e = one_end m ts r h.portal g.portal h.before g.before h.walked (wall_ends m ts r i h) g.walked (wall_ends m ts r j g) in
-    elim (cases i j) as (λ _. i ≡ j) [
+    elim (below_above_or_same i j) as (λ _. i ≡ j) [
       | inl less ↦ absurd (g.least i less (subst (λ (x : Portal). IsWall m x i) e.0 h.wall))
       | inr (inl more) ↦ absurd (h.least j more (subst (λ (x : Portal). IsWall m x j) (sym e.0) g.wall))
       | inr (inr same) ↦ same
@@ -171,18 +170,11 @@ ray_fault m r (NotSplit n) h = h
 ray_fault m r (WrongWay n) h = h
 ray_fault m r Backwards h = h
 
-none_or_some : (o : Option ℕ) → o ≡ None → IsSome o → ⊥
-none_or_some None e h = no h
-  where
-    no : (let n : Option ℕ = None in IsSome n) → ⊥
-    no h = cc
-none_or_some (Some a) e h = none-some a (sym e)
-
 bad_or_walked : (m : Map) (r : Ray) (f : RayFault) → IsBadRay m r f → IsTraceable m r → ⊥
 bad_or_walked m r (Blocked n) h t = h
 bad_or_walked m r Range h (start, stop, c, forward) = h c.names.range
-bad_or_walked m r (BadSide s) (range, inl h) (start, stop, c, forward) = none_or_some (named m r.first) h.1 c.names.from
-bad_or_walked m r (BadSide s) (range, inr h) (start, stop, c, forward) = none_or_some (named m r.last) h.2 c.names.to
+bad_or_walked m r (BadSide s) (range, inl h) (start, stop, c, forward) = is_not_there (named m r.first) h.1 c.names.from
+bad_or_walked m r (BadSide s) (range, inr h) (start, stop, c, forward) = is_not_there (named m r.last) h.2 c.names.to
 bad_or_walked m r (NotSplit n) (names, inl h) (start, stop, c, forward) = h.1 (not r.first.left, c.leaves)
 bad_or_walked m r (NotSplit n) (names, inr h) (start, stop, c, forward) = h.2 (r.last.left, c.arrives)
 bad_or_walked m r (WrongWay n) (splits, inl h) (start, stop, c, forward) = h.1 c.leaves

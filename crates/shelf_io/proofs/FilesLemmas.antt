@@ -10,7 +10,7 @@ use Rattle.std.specs.Option.{option_map, unwrap_or}
 use Rattle.std.specs.List.{slice_range}
 use Rattle.shelf_io.specs.Shelf.{Files, put, append_to, bytes_under, MayHoldFront, MayHaveFront}
 
-bytes_eq-refl : (n : List ℕ) → bytes_eq n n ≡ true
+pub bytes_eq-refl : (n : List ℕ) → bytes_eq n n ≡ true
 bytes_eq-refl n = (bytes_eq-Decides n n).1 refl
 
 pub bytes_under-put : (files : Files) (n a : List ℕ) → bytes_under (put files n a) n ≡ a

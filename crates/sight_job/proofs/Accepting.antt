@@ -23,6 +23,7 @@ use Rattle.sight_job.specs.Labelled.{labelled_of}
 use Rattle.sight_job.specs.Sight.{HasSightRays}
 use Rattle.sight_job.proofs.LabelledTrees.{keeps_too, whole_too}
 use Rattle.sight_job.proofs.Seeing.{is_named_or_not}
+use Rattle.list_base.proofs.Numbers.{same_or_below}
 
 -- ---- the trees, over the certificate's triangles
 
@@ -50,9 +51,6 @@ module _ (p : PlanParts) (plan : IsPlan p) (ts : List Triangle) (ls : List (Opti
   ]
 
 -- ---- each pair has its reason
-
-same_or_below : (a b : ℕ) → a ≤ b → (a ≡ b) ⊎ (a < b)
-same_or_below a b h = grind arith
 
 module _ (p : PlanParts) (b : Built) (sectors : b.table.n ≡ p.sectors) (symmetric : IsSymmetric b) (diagonal : HasDiagonal p b) where
   low : (k : ℕ) → k < p.sectors → k < b.table.n

@@ -9,10 +9,10 @@ use Rattle.sight_names.specs.Enough.{IsBudgetOf}
 use Rattle.sight_names.specs.Found.{IsListed}
 use Rattle.sight_names.specs.Map.{Map, map_of}
 use Rattle.sight_names.specs.Plan.{PlanParts}
-use Rattle.sight_names.proofs.Lists.{contains_head}
 use Rattle.enough_base.proofs.Counts.{own_lists_none}
 use Rattle.sight_job.specs.declared.build.Built.{Built}
 use Rattle.sight_job.specs.Built.{ListsSpent}
+use Rattle.list_base.proofs.Lists.{contains_here}
 
 -- who asks for no budget gets none
 pub full_is : (m : Map) (ask : Ask) (budget : Budget) → ask ≡ AskFull → IsBudgetOf m ask budget → budget ≡ Full
@@ -29,4 +29,4 @@ enough_lists_nothing p ask b spent e = none b.listed (λ q c. nobody_listed (map
   where
     none : (qs : List Pair) → ((q : Pair) → Contains qs q → ⊥) → qs ≡ []
     none [] h = refl
-    none (q ∷ qs) h = absurd (h q (contains_head q qs))
+    none (q ∷ qs) h = absurd (h q (contains_here q qs))

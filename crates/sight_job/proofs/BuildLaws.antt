@@ -35,19 +35,15 @@ use Rattle.sight_names.specs.Map.{map_of}
 use Rattle.block_evidence.specs.WholeTree.{IsWholeTree}
 use Rattle.pair_budget.specs.Decided.{AreExact, DecidesOver, TellsConnected}
 use Rattle.pair_budget.specs.Whole.{IsShown}
-use Rattle.pair_budget.proofs.Pending.{all_join}
 use Rattle.tri_sectors.specs.Components.{AreComponents}
 use Rattle.sight_workers.specs.declared.view.Task.{Task}
 use Rattle.sight_workers.specs.Teams.{AreWalked}
 use Rattle.sight_job.specs.Built.{sizes_of, AreWalks, AreVerdicts, AreShown, AreWholeTrees}
+use Rattle.list_base.proofs.Numbers.{below_or_at}
+use Rattle.list_base.proofs.Lists.{all_join}
+use Rattle.tri_sectors.proofs.GoodLabels.{label_within}
 
 -- ---- labels
-
--- a label past the end isn't there
-pub label_within : (ls : List (Option ℕ)) (k a : ℕ) → label_of ls k ≡ Some a → k < length ls
-label_within [] k a h = absurd cc
-label_within (l ∷ ls) zero a h = omega arith
-label_within (l ∷ ls) (suc k) a h = let w = label_within ls k a h in omega arith
 
 pub label_is : (ls : List (Option ℕ)) (k : ℕ) (l : Option ℕ) → k < length ls → get_or ls k None ≡ l → label_of ls k ≡ l
 label_is ls k l lt e = ap (λ (o : Option (Option ℕ)). option_and_then (λ l. l) o) (slice_get-get_or ls k None lt) ∙ e
@@ -100,11 +96,8 @@ pairs_in_range p rs components listed size d = all_of (IsPairInRange (sizes_of p
 
 increasing_far : (xs : List ℕ) → IsStrictlyIncreasing xs → (i j : ℕ) → i < j → j < length xs → slice_index xs i < slice_index xs j
 increasing_far xs up i zero lt in' = absurd (omega arith)
-increasing_far xs up i (suc j) lt in' = at (last i j lt) (λ h. increasing_far xs up i j h (omega arith))
+increasing_far xs up i (suc j) lt in' = at (below_or_at i j lt) (λ h. increasing_far xs up i j h (omega arith))
   where
-    last : (i j : ℕ) → i < suc j → (i < j) ⊎ (i ≡ j)
-    last i j h = grind arith
-
     next : slice_index xs j < slice_index xs (suc j)
     next = subst (λ (m : ℕ). slice_index xs j < slice_index xs m) (add-one j) (up j (omega arith))
 

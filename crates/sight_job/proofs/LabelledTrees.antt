@@ -3,7 +3,7 @@ use Rattle.std.proofs.Common.{◌≡◌, ◌≢◌, ℕ, inl, inr, List, [], ◌
 use Rattle.std.specs.List.{last_or, AllByRecursion}
 use Rattle.std.proofs.lemmas.List.{map-append}
 use Rattle.std.proofs.lemmas.Option.{same_Some}
-use Rattle.sight_names.proofs.Lists.{contains_head, contains_tail}
+use Rattle.sight_names.proofs.Lists.{contains_tail}
 use Rattle.sight_names.specs.declared.names.Side.{Side}
 use Rattle.sight_names.specs.declared.names.Triangle.{Triangle}
 use Rattle.sight_names.specs.Map.{Map, MapLine, IsMap}
@@ -18,7 +18,7 @@ use Rattle.block_evidence.specs.declared.Tree.{Tree}
 use Rattle.block_evidence.specs.WholeTree.{HasNoNode, HasNode, Answers, no_node, blocked, open_node, AnswersRoots, IsWholeTree, KeepsFrom}
 use Rattle.sight_job.specs.Labelled.{labelled_of}
 use Rattle.sight_job.proofs.GoodLabelled.{triangle_list, label_list, found_too}
-use Rattle.sight_job.proofs.Seeing.{last_is}
+use Rattle.list_base.proofs.Lists.{contains_here, last_pushed}
 
 -- ---- lists of labels
 
@@ -122,8 +122,8 @@ module _ (m : Map) (is_map : IsMap m) (facts : PointFacts m) (ts : List Triangle
         let n = node_too ps q k has (subst LeadsOn (same_Some p q (sym at ∙ has.last)) on) in
         let b = behind m ts ls good q k has.entered in
         let third : Third b.1.tri q.left q.right t = subst (λ (x : ℕ). Third b.1.tri q.left q.right x) (same_Some b.0 t (sym b.1.tip ∙ tip)) b.1.third in
-        let l = answers_too (ps ++ way_out q Left t ∷ []) left via_left on_left (way_out q Left t) (last_is (way_out q Left t) ps None) (left_leads_on k n.b t b.1.tri b.1.is n.named q third) in
-        let r = answers_too (ps ++ way_out q Right t ∷ []) right via_right on_right (way_out q Right t) (last_is (way_out q Right t) ps None) (right_leads_on k n.b t b.1.tri b.1.is n.named q third) in
+        let l = answers_too (ps ++ way_out q Left t ∷ []) left via_left on_left (way_out q Left t) (last_pushed (way_out q Left t) ps None) (left_leads_on k n.b t b.1.tri b.1.is n.named q third) in
+        let r = answers_too (ps ++ way_out q Right t ∷ []) right via_right on_right (way_out q Right t) (last_pushed (way_out q Right t) ps None) (right_leads_on k n.b t b.1.tri b.1.is n.named q third) in
         record {
           among = n.j ∷ (l.among ++ r.among);
           answers = open_node q n.j t left right l.among r.among n.node (n.triangle ∙ tip) l.answers r.answers e refl;
@@ -140,7 +140,7 @@ module _ (m : Map) (is_map : IsMap m) (facts : PointFacts m) (ts : List Triangle
     roots_too : (ss : List Side) → ((s : Side) → Contains ss s → IsRoot m a s) → (ns : List Node) (opened : List ℕ) → AnswersRoots m ts ls a ss ns opened → RootsToo ss ns opened
     roots_too [] are ns opened h = record { among = []; answers = (h.0, refl); labels = sym (ap (map (label_of ls)) h.1) }
     roots_too (s ∷ ss) are ns opened (p, front, back, via_front, via_back, root, e, o, first, rest) =
-        let f = answers_too (p ∷ []) front via_front first p refl (root_leads_on a s (are s (contains_head s ss)) p root) in
+        let f = answers_too (p ∷ []) front via_front first p refl (root_leads_on a s (are s (contains_here s ss)) p root) in
         let r = roots_too ss (λ x c. are x (contains_tail s x ss c)) back via_back rest in
         record {
           among = f.among ++ r.among;

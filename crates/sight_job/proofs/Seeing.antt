@@ -41,18 +41,16 @@ use Rattle.sight_workers.specs.Teams.{AreWalked}
 use Rattle.sight_job.specs.Built.{AreVerdicts}
 use Rattle.sight_job.specs.Sight.{AreAllThrough, IsFoundAlong, IsRayAlong, AreRaysAlong, HasSightRays, TellsWhoSees}
 use Rattle.sight_job.proofs.VerdictLaws.{cert_rays, both_bits_of}
+use Rattle.list_base.proofs.Numbers.{same_below_or_above, same_or_not, below_or_not}
+use Rattle.list_base.proofs.Lists.{last_pushed}
 
 -- ---- the rays
-
-pub last_is : {X : Type 0} (x : X) (xs : List X) (o : Option X) → last_or o (xs ++ x ∷ []) ≡ Some x
-last_is x [] o = refl
-last_is x (y ∷ xs) o = last_is x xs (Some y)
 
 module _ (p : PlanParts) (plan : IsPlan p) (ts : List Triangle) (ls : List (Option ℕ)) (good : IsGoodMesh (map_of p) ts ls) where
   open_ray : (source : ℕ) (r : Reached) → IsRayThrough p ts ls source r → IsOpenRay (map_of p) r.ray
   open_ray source r h =
       subst (λ (s : Side). IsOpenRay (map_of p) (record { first = s; last = r.ray.last; a = r.ray.a; b = r.ray.b; c = r.ray.c })) h.leaves
-      (ray_of_sequence (map_of p) (plan_is_map p plan) ts ls good source h.sequence (h.before ++ h.last ∷ []) h.is r.ray.a r.ray.b r.ray.c h.splits h.last (last_is h.last h.before None) r.ray.last h.arrives.line h.arrives.is_line (sym h.arrives.edge))
+      (ray_of_sequence (map_of p) (plan_is_map p plan) ts ls good source h.sequence (h.before ++ h.last ∷ []) h.is r.ray.a r.ray.b r.ray.c h.splits h.last (last_pushed h.last h.before None) r.ray.last h.arrives.line h.arrives.is_line (sym h.arrives.edge))
 
   found_sight : (source : ℕ) (r : Reached) → IsFoundAlong p ts ls source r → IsSightRay (map_of p) r.ray source r.to
   found_sight source r h = let o = open_ray source r h.is_through in record {
@@ -97,8 +95,6 @@ module _ (p : PlanParts) (ts : List Triangle) (ls : List (Option ℕ)) (rs : Lis
 -- ---- sectors that no walk found
 
 module _ (m : Map) (is_map : IsMap m) (ends : LinesMeetAtEnds m) (ts : List Triangle) (ls : List (Option ℕ)) (good : IsGoodMesh m ts ls) where
-  below_or_not : (k n : ℕ) → (k < n) ⊎ (n ≤ k)
-  below_or_not k n = grind arith
 
   place : (a b : ℕ) (s : Sequence) → Reaches m ts ls a s b → (i : ℕ) × (slice_get (stand_in_order m ts ls a good).all i ≡ Some s)
   place a b s r =
@@ -137,10 +133,7 @@ NamesIt lines a i left = option_and_then (λ (l : MapLine). sector_on l left) (o
 
 is_or_not : (o : Option ℕ) (a : ℕ) → (o ≡ Some a) ⊎ (o ≢ Some a)
 is_or_not None a = inr (λ e. absurd cc)
-is_or_not (Some k) a = elim (same k a) as (λ _. (Some k ≡ Some a) ⊎ (Some k ≢ Some a)) [ inl e ↦ inl (ap (λ (n : ℕ). Some n) e) | inr n ↦ inr (λ e. n (same_Some k a e)) ]
-  where
-    same : (i j : ℕ) → (i ≡ j) ⊎ (i ≢ j)
-    same i j = grind arith
+is_or_not (Some k) a = elim (same_or_not k a) as (λ _. (Some k ≡ Some a) ⊎ (Some k ≢ Some a)) [ inl e ↦ inl (ap (λ (n : ℕ). Some n) e) | inr n ↦ inr (λ e. n (same_Some k a e)) ]
 
 named_or_not : (lines : List (Option MapLine)) (a : ℕ) → ((i : ℕ) × (left : Bool) × NamesIt lines a i left) ⊎ ((i : ℕ) (left : Bool) → ¬ NamesIt lines a i left)
 named_or_not [] a = inr (λ i left e. absurd cc)
@@ -194,11 +187,8 @@ module _ (p : PlanParts) (plan : IsPlan p) (ends : LinesMeetAtEnds (map_of p)) (
       by (inl n) = (sees_itself (map_of p) a (plan_is_map p plan) ends).1 n
       by (inr none) = absurd (clear ((over.bits a a low low).1 (inl (refl, none))))
 
-  three_ways : (a b : ℕ) → (a ≡ b) ⊎ ((a < b) ⊎ (b < a))
-  three_ways a b = grind arith
-
   pub tells_who_sees : TellsWhoSees (map_of p) v.table cert
-  tells_who_sees = record { blind = blind; seen = λ a b low_a low_b clear up down. seen a b low_a low_b clear up down (three_ways a b) }
+  tells_who_sees = record { blind = blind; seen = λ a b low_a low_b clear up down. seen a b low_a low_b clear up down (same_below_or_above a b) }
     where
       back : (a b : ℕ) → a < p.sectors → b < p.sectors → ¬ Rejects v.table a b → ¬ Rejects v.table b a
       back a b low_a low_b clear bit = clear (both_bits_of p budget v are b a (subst (λ (n : ℕ). b < n) (sym are.table.sectors) low_b) (subst (λ (n : ℕ). a < n) (sym are.table.sectors) low_a) bit)

@@ -4,7 +4,7 @@ use Rattle.std.specs.Prelude.{Result, Ok, Err, IfOk, not}
 use Rattle.std.specs.List.{AllByRecursion}
 use Rattle.std.proofs.lemmas.List.Elements.{Contains-append_left, Contains-append_right}
 use Rattle.std.proofs.lemmas.Option.{slice_get-get_or, same_Some}
-use Rattle.sight_names.proofs.Lists.{contains_none, contains_cases, contains_head, contains_tail}
+use Rattle.sight_names.proofs.Lists.{contains_cases, contains_tail}
 use Rattle.sight_names.specs.declared.names.Budget.{Budget}
 use Rattle.sight_names.specs.declared.names.Budget.TheVariants.{Full}
 use Rattle.sight_names.specs.declared.names.Memory.{Memory}
@@ -38,6 +38,9 @@ use Rattle.pair_budget.proofs.FoundSectorsLaws.{found_of_ray, same_or_other, pai
 use Rattle.pair_budget.proofs.NamedLaws.{trees_cons}
 use Rattle.sight_job.specs.Built.{AreShown, AreSetApart, AreTreesOfUnspent, AreVerdicts, AreWalks, HasTreeAway}
 use Rattle.sight_job.proofs.BuildLaws.{tree_of_source}
+use Rattle.list_base.proofs.Lists.{all_so, all_at, contains_none, contains_here}
+use Rattle.list_base.proofs.Numbers.{same_or_not, below_or_above}
+use Rattle.sight_names.proofs.Neighbours.{neighbours_back}
 
 -- a list of rays has one for the pair, or none
 has_or_not : (rays : List PairRay) (a b : ℕ) → HasRayFor rays a b ⊎ ¬ HasRayFor rays a b
@@ -45,7 +48,7 @@ has_or_not [] a b = inr (λ h. contains_none h.0 h.1)
 has_or_not (r ∷ rs) a b = at (same_or_other r.pair.a r.pair.b a b) (has_or_not rs a b)
   where
     at : ((r.pair.a ≡ a) × (r.pair.b ≡ b)) ⊎ ((r.pair.a ≢ a) ⊎ (r.pair.b ≢ b)) → HasRayFor rs a b ⊎ ¬ HasRayFor rs a b → HasRayFor (r ∷ rs) a b ⊎ ¬ HasRayFor (r ∷ rs) a b
-    at (inl same) rest = inl (r, contains_head r rs, pair_is r.pair a b same.0 same.1)
+    at (inl same) rest = inl (r, contains_here r rs, pair_is r.pair a b same.0 same.1)
     at (inr other) (inl h) = inl (h.0, contains_tail r h.0 rs h.1, h.2)
     at (inr other) (inr none) = inr (λ h. elim (contains_cases r h.0 rs h.1) [
       | inl e ↦ let q = ap (λ (x : PairRay). x.pair) e ∙ h.2 in elim other [ inl n ↦ n (ap (λ (p : Pair). p.a) q) | inr n ↦ n (ap (λ (p : Pair). p.b) q) ]
@@ -55,7 +58,7 @@ has_or_not (r ∷ rs) a b = at (same_or_other r.pair.a r.pair.b a b) (has_or_not
 -- the tree of a source that was walked wholly is one of the trees
 has_tree : (rs : List SourceResult) (k : ℕ) (r : SourceResult) (t : Tree) → slice_get rs k ≡ Some r → r.outcome ≡ outcome.Complete t → Contains (trees_of rs) t
 has_tree [] k r t h e = absurd cc
-has_tree (q ∷ rs) zero r t h e = subst (λ (ts : List Tree). Contains ts t) (sym (trees_cons q rs)) (Contains-append_left (tree_of q.outcome) (trees_of rs) t (subst (λ (o : Outcome). Contains (tree_of o) t) (sym (ap (λ (s : SourceResult). s.outcome) (same_Some q r h) ∙ e)) (contains_head t [])))
+has_tree (q ∷ rs) zero r t h e = subst (λ (ts : List Tree). Contains ts t) (sym (trees_cons q rs)) (Contains-append_left (tree_of q.outcome) (trees_of rs) t (subst (λ (o : Outcome). Contains (tree_of o) t) (sym (ap (λ (s : SourceResult). s.outcome) (same_Some q r h) ∙ e)) (contains_here t [])))
 has_tree (q ∷ rs) (suc k) r t h e = subst (λ (ts : List Tree). Contains ts t) (sym (trees_cons q rs)) (Contains-append_right (tree_of q.outcome) (trees_of rs) t (has_tree rs k r t h e))
 
 result_at : (rs : List SourceResult) (k : ℕ) → k < length rs → (r : SourceResult) × (slice_get rs k ≡ Some r)
@@ -63,37 +66,14 @@ result_at [] k h = absurd (omega arith)
 result_at (r ∷ rs) zero h = (r, refl)
 result_at (r ∷ rs) (suc k) h = result_at rs k (omega arith)
 
-two_ways : (a b : ℕ) → a ≢ b → (a < b) ⊎ (b < a)
-two_ways a b h = grind arith
-
 same_or_apart : (cs : List ℕ) (a b : ℕ) → a < length cs → b < length cs → (slice_get cs a ≡ slice_get cs b) ⊎ (slice_get cs a ≢ slice_get cs b)
-same_or_apart cs a b la lb = at (numbers (get_or cs a 0) (get_or cs b 0))
+same_or_apart cs a b la lb = at (same_or_not (get_or cs a 0) (get_or cs b 0))
   where
-    numbers : (x y : ℕ) → (x ≡ y) ⊎ (x ≢ y)
-    numbers x y = grind arith
-
     at : (get_or cs a 0 ≡ get_or cs b 0) ⊎ (get_or cs a 0 ≢ get_or cs b 0) → (slice_get cs a ≡ slice_get cs b) ⊎ (slice_get cs a ≢ slice_get cs b)
     at (inl e) = inl (slice_get-get_or cs a 0 la ∙ (ap (λ (x : ℕ). Some x) e ∙ sym (slice_get-get_or cs b 0 lb)))
     at (inr n) = inr (λ q. n (same_Some (get_or cs a 0) (get_or cs b 0) (sym (slice_get-get_or cs a 0 la) ∙ (q ∙ slice_get-get_or cs b 0 lb))))
 
--- a fact of each item is one of this one
-all_get : {X : Type 0} (P : X → Type 0) (xs : List X) → AllByRecursion P xs → (k : ℕ) (x : X) → slice_get xs k ≡ Some x → P x
-all_get P [] all k x h = absurd cc
-all_get P (y ∷ ys) all zero x h = subst P (same_Some y x h) all.0
-all_get P (y ∷ ys) all (suc k) x h = all_get P ys all.1 k x h
-
-all_with : {X : Type 0} (P Q : X → Type 0) (xs : List X) → ((x : X) → P x → Q x) → AllByRecursion P xs → AllByRecursion Q xs
-all_with P Q [] f all = tt
-all_with P Q (x ∷ xs) f all = (f x all.0, all_with P Q xs f all.1)
-
 -- ---- components
-
-neighbours_back : (m : Map) (a b : ℕ) → AreNeighbours m a b → AreNeighbours m b a
-neighbours_back m a b (i, l, left, at, passable, from, to) = (i, l, not left, at, passable, to, twice left from)
-  where
-    twice : (left : Bool) → sector_on l left ≡ Some a → sector_on l (not (not left)) ≡ Some a
-    twice true h = h
-    twice false h = h
 
 connected_back : (m : Map) (a : ℕ) (cs : List ℕ) (b : ℕ) → IsChain m a cs b → AreConnected m b a
 connected_back m a [] b h = ([], sym h)
@@ -199,7 +179,7 @@ module _ (p : PlanParts) (budget : Budget) (v : Verdicts) (are : AreVerdicts p b
     where
       empty : (xs : List Pair) → ((q : Pair) → ¬ Contains xs q) → xs ≡ []
       empty [] none = refl
-      empty (x ∷ xs) none = absurd (none x (contains_head x xs))
+      empty (x ∷ xs) none = absurd (none x (contains_here x xs))
 
   -- one of the trees is that of the source, whose walk went to its end
   abbrev pub TreeOf : ℕ → Type 0
@@ -267,8 +247,8 @@ module _ (p : PlanParts) (budget : Budget) (v : Verdicts) (are : AreVerdicts p b
     -- a tree enters what its walk found, and so no other sector
     keeps : (a b : ℕ) → ¬ AreFound are.results a b → TreeOf a → HasTreeAway (map_of p) ts ls v.trees a b
     keeps a b none (t, there, source, (r, h, e)) =
-        let s = subst (λ (o : Outcome). IsShown p ts ls r.found o) e (all_get (λ (q : SourceResult). IsShown p ts ls q.found q.outcome) are.results shown a r h) in
-        (t, there, source, (s.opened, s.whole, all_with (IsOfFound ls r.found) (λ (k : ℕ). label_of ls k ≢ Some b) s.opened other s.entered))
+        let s = subst (λ (o : Outcome). IsShown p ts ls r.found o) e (all_at (λ (q : SourceResult). IsShown p ts ls q.found q.outcome) are.results shown a r h) in
+        (t, there, source, (s.opened, s.whole, all_so (IsOfFound ls r.found) (λ (k : ℕ). label_of ls k ≢ Some b) s.opened other s.entered))
       where
         other : (k : ℕ) → IsOfFound ls r.found k → label_of ls k ≢ Some b
         other k (c, label, (x, found, to)) is = none (inl (x.ray, (r, x, h, found, to ∙ same_Some c b (sym label ∙ is), refl)))
@@ -300,7 +280,7 @@ module _ (p : PlanParts) (budget : Budget) (v : Verdicts) (are : AreVerdicts p b
 
         by_component : ¬ AreFound are.results a b → ¬ (IsListedPair are.results are.components a b ⊎ IsListedPair are.results are.components b a) → (slice_get are.components a ≡ slice_get are.components b) ⊎ (slice_get are.components a ≢ slice_get are.components b)
             → ¬ AreConnected (map_of p) a b ⊎ (HasTreeAway (map_of p) ts ls v.trees a b ⊎ HasTreeAway (map_of p) ts ls v.trees b a)
-        by_component none not_listed (inl same) = inr (by_order same none not_listed (two_ways a b differ))
+        by_component none not_listed (inl same) = inr (by_order same none not_listed (below_or_above a b differ))
         by_component none not_listed (inr apart) = inl (not_connected a b la lb apart)
 
         by_blind : IsBlind p are.results are.components a b → ¬ AreConnected (map_of p) a b ⊎ (HasTreeAway (map_of p) ts ls v.trees a b ⊎ HasTreeAway (map_of p) ts ls v.trees b a)

@@ -6,6 +6,7 @@ use Rattle.exact_ring.proofs.Signs.{mul-pos, mul-nonneg}
 use Rattle.sight_names.specs.declared.names.Pt.{Pt}
 use Rattle.sight_names.specs.Point.{Point, point_of, IsMean, OnSegment, value_at, turn_at}
 use Rattle.plane_base.proofs.Vec.{V, at, edge, det, IsComb, On}
+use Rattle.exact_ring.proofs.Small.{abs_of_nonneg, nat_nonneg}
 
 abbrev pub vec : Point → V
 vec p = record { x = p.x; y = p.y; d = pos p.d }
@@ -32,9 +33,6 @@ mean_ring n a b r rx px qx = by_ring (n ∷ a ∷ b ∷ r ∷ rx ∷ px ∷ qx �
 last_ring : (a b r d e : ℤ) → (a *ℤ d +ℤ b *ℤ e) *ℤ r ≡ a *ℤ r *ℤ d +ℤ b *ℤ r *ℤ e
 last_ring a b r d e = by_ring (a ∷ b ∷ r ∷ d ∷ e ∷ []) _ _ (search quoting depth 60 fits 1000000) (search quoting depth 60 fits 1000000) tt
 
-pos_nonneg : (n : ℕ) → pos 0 ≤ℤ pos n
-pos_nonneg n = omega (arith, ints)
-
 pos_above : (n : ℕ) → 0 < n → pos 0 <ℤ pos n
 pos_above n h = omega (arith, ints)
 
@@ -43,8 +41,8 @@ weight_above u v d e h hd he = mul-pos (pos (u + v)) (pos (d * e)) (pos_above (u
 
 pub mean_is_comb : (u v : ℕ) (p q r : Point) → IsMean u v p q r → IsComb (pos (u * q.d) *ℤ pos r.d) (pos (v * p.d) *ℤ pos r.d) (pos ((u + v) * (p.d * q.d))) (vec p) (vec q) (vec r)
 mean_is_comb u v p q r h = record {
-  left = mul-nonneg (pos (u * q.d)) (pos r.d) (pos_nonneg (u * q.d)) (pos_nonneg r.d);
-  right = mul-nonneg (pos (v * p.d)) (pos r.d) (pos_nonneg (v * p.d)) (pos_nonneg r.d);
+  left = mul-nonneg (pos (u * q.d)) (pos r.d) (nat_nonneg (u * q.d)) (nat_nonneg r.d);
+  right = mul-nonneg (pos (v * p.d)) (pos r.d) (nat_nonneg (v * p.d)) (nat_nonneg r.d);
   scale = weight_above u v p.d q.d h.weighed p.positive q.positive;
   x = combine1 (pos 1) h.x (mean_ring (pos ((u + v) * (p.d * q.d))) (pos (u * q.d)) (pos (v * p.d)) (pos r.d) r.x p.x q.x);
   y = combine1 (pos 1) h.y (mean_ring (pos ((u + v) * (p.d * q.d))) (pos (u * q.d)) (pos (v * p.d)) (pos r.d) r.y p.y q.y);
@@ -53,9 +51,6 @@ mean_is_comb u v p q r h = record {
 
 pub on_of_segment : (p q r : Point) → OnSegment p q r → On (vec p) (vec q) (vec r)
 on_of_segment p q r (u, v, h) = (_, _, _, mean_is_comb u v p q r h)
-
-abs_is_self : (z : ℤ) → pos 0 ≤ℤ z → pos (nat_abs z) ≡ z
-abs_is_self z h = omega (arith, ints)
 
 back_ring : (l m n D E R rx px qx : ℤ) → rx *ℤ ((l *ℤ D +ℤ m *ℤ E) *ℤ (D *ℤ E)) -ℤ (l *ℤ D *ℤ E *ℤ px +ℤ m *ℤ E *ℤ D *ℤ qx) *ℤ R
     ≡ (D *ℤ E *ℤ R) *ℤ (n *ℤ rx -ℤ (l *ℤ px +ℤ m *ℤ qx)) +ℤ neg_ℤ (rx *ℤ (D *ℤ E)) *ℤ (n *ℤ R -ℤ (l *ℤ D +ℤ m *ℤ E))
@@ -74,7 +69,7 @@ comb_is_mean_nat l m n p q r h = record {
 
 pub comb_is_mean : (l m n : ℤ) (p q r : Point) → IsComb l m n (vec p) (vec q) (vec r) → IsMean (nat_abs l * p.d) (nat_abs m * q.d) p q r
 comb_is_mean l m n p q r h = comb_is_mean_nat (nat_abs l) (nat_abs m) n p q r
-    (subst (λ (k : ℤ). IsComb k (pos (nat_abs m)) n (vec p) (vec q) (vec r)) (sym (abs_is_self l h.left)) (subst (λ (k : ℤ). IsComb l k n (vec p) (vec q) (vec r)) (sym (abs_is_self m h.right)) h))
+    (subst (λ (k : ℤ). IsComb k (pos (nat_abs m)) n (vec p) (vec q) (vec r)) (sym (abs_of_nonneg l h.left)) (subst (λ (k : ℤ). IsComb l k n (vec p) (vec q) (vec r)) (sym (abs_of_nonneg m h.right)) h))
 
 pub segment_of_on : (p q r : Point) → On (vec p) (vec q) (vec r) → OnSegment p q r
 segment_of_on p q r (l, m, n, h) = (_, _, comb_is_mean l m n p q r h)

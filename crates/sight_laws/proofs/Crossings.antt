@@ -5,12 +5,13 @@ use lib.IntN.{zero-*ℤ, *ℤ_comm}
 use Rattle.exact_ring.proofs.IntLaws.{neg-*ℤ}
 use Rattle.exact_ring.proofs.Quoting.{quoting, by_ring, combine1}
 use Rattle.exact_ring.proofs.Signs.{mul-pos, mul-nonneg, pos-of-mul, nonneg-of-mul, zero-of-mul, le_or_lt, sign_cases, square-nonneg}
-use Rattle.exact_ring.proofs.MoreSigns.{square-pos}
+use Rattle.exact_ring.proofs.MoreSigns.{square-pos, mul-neg_ℤ}
 use Rattle.plane_base.proofs.Linear.{linear}
-use Rattle.plane_base.proofs.Vec.{V, Lin, at, edge, det, On, bary, det-swap, det-first, det-last, plus, times, at_plus, at_times, times_neg, zero_right}
+use Rattle.plane_base.proofs.Vec.{V, Lin, at, edge, det, On, bary, det-swap, det-first, det-last, plus, times, at_plus, at_times}
 use Rattle.plane_base.proofs.Wedge.{mul_np}
 use Rattle.plane_base.proofs.Near.{unit, height}
 use Rattle.sight_laws.proofs.Places.{ahead, place, norm, Before, NotAfter, turn_tells as turn_by_ends}
+use Rattle.exact_ring.proofs.Small.{times_one, one_times, zero_by_second}
 
 -- ---- the order on the line
 chain_le : (ha da hb db hc dc : ℤ) → pos 0 <ℤ da → pos 0 <ℤ db → pos 0 <ℤ dc → (ha *ℤ db) ≤ℤ (hb *ℤ da) → (hb *ℤ dc) ≤ℤ (hc *ℤ db) → (ha *ℤ dc) ≤ℤ (hc *ℤ da)
@@ -105,7 +106,7 @@ pub back_nonneg : (g : Lin) (u v r : V) → pos 0 <ℤ norm g → at g r ≡ pos
 back_nonneg g u v r hn e h =
     let i = turn_tells g u v r e in
     let s = det-swap u v r in
-    let n : norm g *ℤ neg_ℤ (det u v r) ≡ neg_ℤ (norm g *ℤ det u v r) = times_neg (norm g) (det u v r) in
+    let n : norm g *ℤ neg_ℤ (det u v r) ≡ neg_ℤ (norm g *ℤ det u v r) = mul-neg_ℤ (norm g) (det u v r) in
     let k : pos 0 ≤ℤ neg_ℤ (det u v r) = nonneg-of-mul (norm g) (neg_ℤ (det u v r)) hn (omega (arith, linear, i, h, n)) in
     omega (arith, linear, s, k)
 
@@ -131,14 +132,14 @@ at_crossing f g u v =
 pub later_left : (g : Lin) (u v t : V) → pos 0 <ℤ norm g → pos 0 <ℤ det u v t → pos 0 <ℤ at g u → Before g (crossing g u v) (crossing g u t)
 later_left g u v t hn turn hu =
     let i = at_crossing (edge u v) g u t in
-    let z = zero_right (neg_ℤ (at g t)) (det u v u) (det-first u v) in
+    let z = zero_by_second (neg_ℤ (at g t)) (det u v u) (det-first u v) in
     let m = mul-pos (at g u) (det u v t) hu turn in
     after g u v (crossing g u t) hn (crossing_on g u t) (omega (arith, linear, i, z, m))
 
 pub later_right : (g : Lin) (u v t : V) → pos 0 <ℤ norm g → pos 0 <ℤ det u v t → at g v <ℤ pos 0 → Before g (crossing g u v) (crossing g t v)
 later_right g u v t hn turn hv =
     let i = at_crossing (edge u v) g t v in
-    let z = zero_right (at g t) (det u v v) (det-last u v) in
+    let z = zero_by_second (at g t) (det u v v) (det-last u v) in
     let m = mul-pos (neg_ℤ (at g v)) (det u v t) (omega (arith, linear, hv)) turn in
     after g u v (crossing g t v) hn (crossing_on g t v) (omega (arith, linear, i, z, m))
 
@@ -146,16 +147,13 @@ later_right g u v t hn turn hv =
 pub third_left : (g : Lin) (u v t r : V) → pos 0 <ℤ det u v t → at g r ≡ pos 0 → pos 0 <ℤ at g u → at g v ≤ℤ pos 0 → at g t ≤ℤ pos 0 → pos 0 ≤ℤ det u v r → pos 0 ≤ℤ det t u r → pos 0 ≤ℤ det v t r
 third_left g u v t r turn e hu hv ht uv tu =
     let b = bary g u v t r in
-    let z = zero_right (det u v t) (at g r) e in
+    let z = zero_by_second (det u v t) (at g r) e in
     let m = mul-nonneg (det t u r) (neg_ℤ (at g v)) tu (omega (arith, linear, hv)) in
     let n = mul-nonneg (det u v r) (neg_ℤ (at g t)) uv (omega (arith, linear, ht)) in
-    let p = times_neg (det t u r) (at g v) in
-    let q = times_neg (det u v r) (at g t) in
+    let p = mul-neg_ℤ (det t u r) (at g v) in
+    let q = mul-neg_ℤ (det u v r) (at g t) in
     let c = *ℤ_comm (det v t r) (at g u) in
     nonneg-of-mul (at g u) (det v t r) hu (omega (arith, linear, b, z, m, n, p, q, c))
-
-one_times : (z : ℤ) → pos 1 *ℤ z ≡ z
-one_times z = omega (arith, ints)
 
 -- the crossing is on the segment that it crosses
 pub crossing_in : (g : Lin) (u v : V) → pos 0 <ℤ at g u → at g v <ℤ pos 0 → On u v (crossing g u v)
@@ -167,7 +165,7 @@ before_crossing g u v r hn e h =
     let i = turn_tells g u v r e in
     let s = det-swap v u r in
     let m = mul-pos (norm g) (det v u r) hn h in
-    let n : norm g *ℤ det u v r ≡ neg_ℤ (norm g *ℤ det v u r) = ap (λ (x : ℤ). norm g *ℤ x) s ∙ times_neg (norm g) (det v u r) in
+    let n : norm g *ℤ det u v r ≡ neg_ℤ (norm g *ℤ det v u r) = ap (λ (x : ℤ). norm g *ℤ x) s ∙ mul-neg_ℤ (norm g) (det v u r) in
     omega (arith, linear, i, m, n)
 
 pub not_after_crossing : (g : Lin) (u v r : V) → pos 0 <ℤ norm g → at g r ≡ pos 0 → pos 0 ≤ℤ det v u r → NotAfter g r (crossing g u v)
@@ -175,7 +173,7 @@ not_after_crossing g u v r hn e h =
     let i = turn_tells g u v r e in
     let s = det-swap v u r in
     let m = mul-nonneg (norm g) (det v u r) (omega (arith, linear, hn)) h in
-    let n : norm g *ℤ det u v r ≡ neg_ℤ (norm g *ℤ det v u r) = ap (λ (x : ℤ). norm g *ℤ x) s ∙ times_neg (norm g) (det v u r) in
+    let n : norm g *ℤ det u v r ≡ neg_ℤ (norm g *ℤ det v u r) = ap (λ (x : ℤ). norm g *ℤ x) s ∙ mul-neg_ℤ (norm g) (det v u r) in
     omega (arith, linear, i, m, n)
 
 -- before the crossing of an edge, a point of the line is on the edge's right
@@ -183,7 +181,7 @@ pub before_turn : (g : Lin) (u v r : V) → pos 0 <ℤ norm g → at g r ≡ pos
 before_turn g u v r hn e h =
     let i = turn_tells g u v r e in
     let s = det-swap u v r in
-    let n : norm g *ℤ neg_ℤ (det u v r) ≡ neg_ℤ (norm g *ℤ det u v r) = times_neg (norm g) (det u v r) in
+    let n : norm g *ℤ neg_ℤ (det u v r) ≡ neg_ℤ (norm g *ℤ det u v r) = mul-neg_ℤ (norm g) (det u v r) in
     let k : pos 0 <ℤ neg_ℤ (det u v r) = pos-of-mul (norm g) (neg_ℤ (det u v r)) hn (omega (arith, linear, i, h, n)) in
     omega (arith, linear, s, k)
 
@@ -195,7 +193,7 @@ at_turn g u v r hn e h k = let i = turn_tells g u v r e in zero-of-mul (norm g) 
 pub third_right : (g : Lin) (u v t r : V) → pos 0 <ℤ det u v t → at g r ≡ pos 0 → pos 0 ≤ℤ at g u → at g v <ℤ pos 0 → pos 0 ≤ℤ at g t → pos 0 ≤ℤ det u v r → pos 0 ≤ℤ det v t r → pos 0 ≤ℤ det t u r
 third_right g u v t r turn e hu hv ht uv vt =
     let b = bary g u v t r in
-    let z = zero_right (det u v t) (at g r) e in
+    let z = zero_by_second (det u v t) (at g r) e in
     let m = mul-nonneg (det v t r) (at g u) vt hu in
     let n = mul-nonneg (det u v r) (at g t) uv ht in
     let c = *ℤ_comm (det t u r) (at g v) in
@@ -208,19 +206,16 @@ pub record Deep (u v t r : V) : Type 0 where
   pub vt : pos 0 <ℤ det v t r
   pub tu : pos 0 <ℤ det t u r
 
-times_one : (k : ℤ) → k *ℤ pos 1 ≡ k
-times_one k = omega (arith, ints)
-
 pub deep_left : (g : Lin) (u v t r : V) → pos 0 <ℤ norm g → at g r ≡ pos 0 → pos 0 <ℤ at g u → at g v <ℤ pos 0 → at g t <ℤ pos 0 → NotAfter g (crossing g u v) r → Before g r (crossing g u t) → Deep u v t r
 deep_left g u v t r hn e hu hv ht h k =
     let uv = turn_nonneg g u v r hn e h in
     let tu = before_turn g u t r hn e k in
     let b = bary g u v t r in
-    let z = zero_right (det u v t) (at g r) e in
+    let z = zero_by_second (det u v t) (at g r) e in
     let m = mul-pos (det t u r) (neg_ℤ (at g v)) tu (omega (arith, linear, hv)) in
     let n = mul-nonneg (det u v r) (neg_ℤ (at g t)) uv (omega (arith, linear, ht)) in
-    let p = times_neg (det t u r) (at g v) in
-    let q = times_neg (det u v r) (at g t) in
+    let p = mul-neg_ℤ (det t u r) (at g v) in
+    let q = mul-neg_ℤ (det u v r) (at g t) in
     let c = *ℤ_comm (det v t r) (at g u) in
     record { uv = uv; vt = pos-of-mul (at g u) (det v t r) hu (omega (arith, linear, b, z, m, n, p, q, c)); tu = tu }
 
@@ -229,7 +224,7 @@ deep_right g u v t r hn e hu hv ht h k =
     let uv = turn_nonneg g u v r hn e h in
     let vt = before_turn g t v r hn e k in
     let b = bary g u v t r in
-    let z = zero_right (det u v t) (at g r) e in
+    let z = zero_by_second (det u v t) (at g r) e in
     let m = mul-pos (det v t r) (at g u) vt hu in
     let n = mul-nonneg (det u v r) (at g t) uv (omega (arith, linear, ht)) in
     let c = *ℤ_comm (det t u r) (at g v) in
@@ -247,7 +242,7 @@ pub deep_at : (g : Lin) (u v t r : V) → pos 0 <ℤ norm g → pos 0 <ℤ det u
 deep_at g u v t r hn turn rd ud vd e hu hv h k =
     let uv = at_turn g u v r hn e h k in
     let b = bary g u v t r in
-    let z = zero_right (det u v t) (at g r) e in
+    let z = zero_by_second (det u v t) (at g r) e in
     let y : det u v r *ℤ at g t ≡ pos 0 = ap (λ (s : ℤ). s *ℤ at g t) uv ∙ zero-*ℤ (at g t) in
     let w = bary unit u v t r in
     let x : det u v r *ℤ at unit t ≡ pos 0 = ap (λ (s : ℤ). s *ℤ at unit t) uv ∙ zero-*ℤ (at unit t) in
@@ -255,6 +250,6 @@ deep_at g u v t r hn turn rd ud vd e hu hv h k =
     let q1 : det v t r *ℤ at unit u ≡ det v t r = ap (λ (s : ℤ). det v t r *ℤ s) (hu1 ∙ ud) ∙ times_one (det v t r) in
     let q2 : det t u r *ℤ at unit v ≡ det t u r = ap (λ (s : ℤ). det t u r *ℤ s) (hv1 ∙ vd) ∙ times_one (det t u r) in
     let s = mul-pos (det u v t) (at unit r) turn (omega (arith, linear, hr, rd)) in
-    let p = times_neg (det t u r) (at g v) in
+    let p = mul-neg_ℤ (det t u r) (at g v) in
     let both : (pos 0 <ℤ det v t r) × (pos 0 <ℤ det t u r) = balanced (det v t r) (det t u r) (at g u) (neg_ℤ (at g v)) hu (omega (arith, linear, hv)) (omega (arith, linear, b, z, y, p)) (omega (arith, linear, w, x, q1, q2, s)) in
     record { uv = omega (arith, linear, uv); vt = both.0; tu = both.1 }

@@ -6,6 +6,8 @@ use Rattle.exact_ring.proofs.IntLaws.{neg-*ℤ}
 use Rattle.exact_ring.proofs.Quoting.{quoting, by_ring, combine2}
 use Rattle.exact_ring.proofs.Signs.{mul-pos, mul-nonneg, nonneg-of-mul, zero-of-mul, same-of-mul, le_or_lt}
 use Rattle.plane_base.proofs.Vec.{V, Lin, at, edge, det, On, value}
+use Rattle.exact_ring.proofs.Ring.{same_of_difference}
+use Rattle.exact_ring.proofs.Small.{zero_by_first, nonneg_of_same}
 
 -- the place along the line, times d
 abbrev pub ahead : Lin → Lin
@@ -30,9 +32,6 @@ pub record SameV (r s : V) : Type 0 where
   pub x : r.x *ℤ s.d ≡ s.x *ℤ r.d
   pub y : r.y *ℤ s.d ≡ s.y *ℤ r.d
 
-zero_of_norm : (n z : ℤ) → pos 0 <ℤ n → n *ℤ z ≡ pos 0 → z ≡ pos 0
-zero_of_norm n z h e = zero-of-mul n z h e
-
 same_x_ring : (a b c rx ry rd sx sy sd : ℤ) → (a *ℤ a +ℤ b *ℤ b) *ℤ (rx *ℤ sd -ℤ sx *ℤ rd)
     ≡ a *ℤ ((a *ℤ rx +ℤ b *ℤ ry +ℤ c *ℤ rd) *ℤ sd -ℤ (a *ℤ sx +ℤ b *ℤ sy +ℤ c *ℤ sd) *ℤ rd)
     +ℤ b *ℤ ((b *ℤ rx +ℤ neg_ℤ a *ℤ ry +ℤ pos 0 *ℤ rd) *ℤ sd -ℤ (b *ℤ sx +ℤ neg_ℤ a *ℤ sy +ℤ pos 0 *ℤ sd) *ℤ rd)
@@ -52,15 +51,12 @@ same_from_places g r s hn er es e =
     let v : at g r *ℤ s.d -ℤ at g s *ℤ r.d ≡ pos 0 = gap _ _ (zr ∙ sym zs) in
     let h : place g r *ℤ s.d -ℤ place g s *ℤ r.d ≡ pos 0 = gap _ _ e in
     record {
-      x = level _ _ (zero_of_norm (norm g) _ hn (same_x_ring g.a g.b g.c r.x r.y r.d s.x s.y s.d ∙ added g.a g.b _ _ v h));
-      y = level _ _ (zero_of_norm (norm g) _ hn (same_y_ring g.a g.b g.c r.x r.y r.d s.x s.y s.d ∙ taken g.b g.a _ _ v h));
+      x = same_of_difference _ _ (zero-of-mul (norm g) _ hn (same_x_ring g.a g.b g.c r.x r.y r.d s.x s.y s.d ∙ added g.a g.b _ _ v h));
+      y = same_of_difference _ _ (zero-of-mul (norm g) _ hn (same_y_ring g.a g.b g.c r.x r.y r.d s.x s.y s.d ∙ taken g.b g.a _ _ v h));
     }
   where
     gap : (x y : ℤ) → x ≡ y → x -ℤ y ≡ pos 0
     gap x y e = omega (arith, ints)
-
-    level : (x y : ℤ) → x -ℤ y ≡ pos 0 → x ≡ y
-    level x y e = omega (arith, ints)
 
     added : (k l x y : ℤ) → x ≡ pos 0 → y ≡ pos 0 → k *ℤ x +ℤ l *ℤ y ≡ pos 0
     added k l x y e f = let p : k *ℤ x ≡ pos 0 = ap (λ (z : ℤ). k *ℤ z) e ∙ *ℤ-zero k in let q : l *ℤ y ≡ pos 0 = ap (λ (z : ℤ). l *ℤ z) f ∙ *ℤ-zero l in omega (arith, ints)
@@ -92,14 +88,14 @@ flat_y_ring a b c x y d = by_ring (a ∷ b ∷ c ∷ x ∷ y ∷ d ∷ []) _ _ (
 -- a vector at which the functional, the place and the last number are 0 is 0
 flat_x : (g : Lin) (v : V) → pos 0 <ℤ norm g → at g v ≡ pos 0 → place g v ≡ pos 0 → v.d ≡ pos 0 → v.x ≡ pos 0
 unfolding at
-flat_x g v hn e f z = zero_of_norm (norm g) v.x hn (flat_x_ring g.a g.b g.c v.x v.y v.d ∙ nothing g.a g.b (g.a *ℤ g.c) _ _ v.d e f z)
+flat_x g v hn e f z = zero-of-mul (norm g) v.x hn (flat_x_ring g.a g.b g.c v.x v.y v.d ∙ nothing g.a g.b (g.a *ℤ g.c) _ _ v.d e f z)
   where
     nothing : (k l m x y d : ℤ) → x ≡ pos 0 → y ≡ pos 0 → d ≡ pos 0 → k *ℤ x +ℤ l *ℤ y -ℤ m *ℤ d ≡ pos 0
     nothing k l m x y d e f z = let p : k *ℤ x ≡ pos 0 = ap (λ (z : ℤ). k *ℤ z) e ∙ *ℤ-zero k in let q : l *ℤ y ≡ pos 0 = ap (λ (z : ℤ). l *ℤ z) f ∙ *ℤ-zero l in let s : m *ℤ d ≡ pos 0 = ap (λ (z : ℤ). m *ℤ z) z ∙ *ℤ-zero m in omega (arith, ints)
 
 flat_y : (g : Lin) (v : V) → pos 0 <ℤ norm g → at g v ≡ pos 0 → place g v ≡ pos 0 → v.d ≡ pos 0 → v.y ≡ pos 0
 unfolding at
-flat_y g v hn e f z = zero_of_norm (norm g) v.y hn (flat_y_ring g.a g.b g.c v.x v.y v.d ∙ nothing g.b g.a (g.b *ℤ g.c) _ _ v.d e f z)
+flat_y g v hn e f z = zero-of-mul (norm g) v.y hn (flat_y_ring g.a g.b g.c v.x v.y v.d ∙ nothing g.b g.a (g.b *ℤ g.c) _ _ v.d e f z)
   where
     nothing : (k l m x y d : ℤ) → x ≡ pos 0 → y ≡ pos 0 → d ≡ pos 0 → k *ℤ x -ℤ l *ℤ y -ℤ m *ℤ d ≡ pos 0
     nothing k l m x y d e f z = let p : k *ℤ x ≡ pos 0 = ap (λ (z : ℤ). k *ℤ z) e ∙ *ℤ-zero k in let q : l *ℤ y ≡ pos 0 = ap (λ (z : ℤ). l *ℤ z) f ∙ *ℤ-zero l in let s : m *ℤ d ≡ pos 0 = ap (λ (z : ℤ). m *ℤ z) z ∙ *ℤ-zero m in omega (arith, ints)
@@ -132,18 +128,15 @@ between g p q r hn pd qd rd ep eq er h k =
               left = hl;
               right = hm;
               scale = z;
-              x = level _ _ (flat_x g v hn zero still last);
-              y = level _ _ (flat_y g v hn zero still last);
-              d = level _ _ last;
+              x = same_of_difference _ _ (flat_x g v hn zero still last);
+              y = same_of_difference _ _ (flat_y g v hn zero still last);
+              d = same_of_difference _ _ last;
             },
           )
     ]
   where
     above : (x y : ℤ) → x ≤ℤ y → pos 0 ≤ℤ (y -ℤ x)
     above x y e = omega (arith, ints)
-
-    level : (x y : ℤ) → x -ℤ y ≡ pos 0 → x ≡ y
-    level x y e = omega (arith, ints)
 
     whole : (x y : ℤ) → x ≤ℤ y → (y -ℤ x) ≤ℤ pos 0 → x ≡ y
     whole x y e f = omega (arith, ints)
@@ -193,11 +186,8 @@ not_before_start g p q r h (l, m, n, c) =
     let e = value (ahead g) l m n p q r c in
     let k : pos 0 ≤ℤ (m *ℤ (place g q *ℤ p.d -ℤ place g p *ℤ q.d)) = mul-nonneg m _ c.right (omega (arith, ints)) in
     let i = scaled_gap n (place g r) p.d r.d _ e (place g p) _ c.d ∙ on_place_ring (place g p) p.d (place g q) q.d l m in
-    let w : pos 0 ≤ℤ (place g r *ℤ p.d -ℤ place g p *ℤ r.d) = nonneg-of-mul n _ c.scale (carried _ _ i k) in
+    let w : pos 0 ≤ℤ (place g r *ℤ p.d -ℤ place g p *ℤ r.d) = nonneg-of-mul n _ c.scale (nonneg_of_same _ _ i k) in
     omega (arith, ints)
-  where
-    carried : (x y : ℤ) → x ≡ y → pos 0 ≤ℤ y → pos 0 ≤ℤ x
-    carried x y e h = omega (arith, ints)
 
 -- nor after its second
 pub not_after_stop : (g : Lin) (p q r : V) → NotAfter g p q → On p q r → NotAfter g r q
@@ -205,11 +195,8 @@ not_after_stop g p q r h (l, m, n, c) =
     let e = value (ahead g) l m n p q r c in
     let k : pos 0 ≤ℤ (l *ℤ (place g q *ℤ p.d -ℤ place g p *ℤ q.d)) = mul-nonneg l _ c.left (omega (arith, ints)) in
     let i = scaled_gap_back n (place g r) q.d r.d _ e (place g q) _ c.d ∙ off_place_ring (place g p) p.d (place g q) q.d l m in
-    let w : pos 0 ≤ℤ (place g q *ℤ r.d -ℤ place g r *ℤ q.d) = nonneg-of-mul n _ c.scale (carried _ _ i k) in
+    let w : pos 0 ≤ℤ (place g q *ℤ r.d -ℤ place g r *ℤ q.d) = nonneg-of-mul n _ c.scale (nonneg_of_same _ _ i k) in
     omega (arith, ints)
-  where
-    carried : (x y : ℤ) → x ≡ y → pos 0 ≤ℤ y → pos 0 ≤ℤ x
-    carried x y e h = omega (arith, ints)
 
 -- ---- where the line crosses a segment whose ends are strictly on different sides
 -- the crossing's place is num / den
@@ -227,13 +214,7 @@ crossing_place g u v r (l, m, n, c) e =
     let f = value g l m n u v r c in
     let h = value (ahead g) l m n u v r c in
     let i = scaled_gap n (place g r) (den g u v) r.d _ h (num g u v) _ c.d ∙ crossing_ring (at g u) (at g v) (place g u) (place g v) u.d v.d l m in
-    level _ _ (zero_of_norm n _ c.scale (i ∙ vanish _ _ (sym f ∙ ap (λ (k : ℤ). n *ℤ k) e ∙ *ℤ-zero n)))
-  where
-    vanish : (x k : ℤ) → x ≡ pos 0 → x *ℤ k ≡ pos 0
-    vanish x k e = ap (λ (z : ℤ). z *ℤ k) e ∙ zero-*ℤ k
-
-    level : (x y : ℤ) → x -ℤ y ≡ pos 0 → x ≡ y
-    level x y e = omega (arith, ints)
+    same_of_difference _ _ (zero-of-mul n _ c.scale (i ∙ zero_by_first _ _ (sym f ∙ ap (λ (k : ℤ). n *ℤ k) e ∙ *ℤ-zero n)))
 
 -- it is one point
 pub crossing_one : (g : Lin) (u v r s : V) → pos 0 <ℤ den g u v → On u v r → at g r ≡ pos 0 → On u v s → at g s ≡ pos 0 → place g r *ℤ s.d ≡ place g s *ℤ r.d

@@ -4,6 +4,7 @@ use Rattle.sight_names.specs.declared.names.Pt.{Pt}
 use Rattle.sight_names.specs.declared.plan.Line.{Line}
 use Rattle.sight_names.specs.Plan.{PlanParts}
 use Rattle.sight_names.specs.Map.{MapLine, map_of, looked_up, line_at}
+use Rattle.list_base.proofs.Options.{none_is_not_some}
 
 line_of : (points : List Pt) (ls : List (Option Line)) (i : ℕ) → option_and_then (λ k. k) (slice_get (map (option_map (looked_up points)) ls) i) ≡ option_map (looked_up points) (option_and_then (λ k. k) (slice_get ls i))
 line_of points [] i = refl
@@ -20,9 +21,6 @@ line_there p i k e = line_at_is p i ∙ ap (option_map (looked_up p.points)) (sy
 
 pub no_line_there : (p : PlanParts) (i : ℕ) → ◌≡◌ {A = Option Line} None (option_and_then (λ k. k) (slice_get p.lines i)) → line_at (map_of p) i ≡ None
 no_line_there p i e = line_at_is p i ∙ ap (option_map (looked_up p.points)) (sym e)
-
-pub none_is_not_some : (l : MapLine) → ◌≡◌ {A = Option MapLine} None (Some l) → ⊥
-none_is_not_some l e = cc
 
 -- a line of the map is within the plan's list
 pub line_below : (p : PlanParts) (i : ℕ) (l : MapLine) → line_at (map_of p) i ≡ Some l → i < length p.lines

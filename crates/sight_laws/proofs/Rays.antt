@@ -17,6 +17,7 @@ use Rattle.plane_base.proofs.Vec.{V, Lin, at, On, value, mean, det-swap}
 use Rattle.sight_laws.proofs.Bridge.{vec, value_at_is, turn_at_is, on_of_segment, segment_of_on}
 use Rattle.sight_laws.proofs.Paths.{point_at, above, same_on, same_value}
 use Rattle.sight_laws.proofs.Places.{place, norm, NotAfter, den, between, on_line, not_before_start, not_after_stop, same_from_places, crossing_one, turn_at_crossing}
+use Rattle.exact_ring.proofs.Small.{neg_not_zero, pos_not_zero, neg_of_negated_pos, pos_of_negated_neg, nonneg_of_pos, lt_of_difference, pos_difference, le_of_difference, nonneg_of_neg}
 
 -- the functional of a ray
 abbrev pub lin : Ray → Lin
@@ -58,25 +59,19 @@ HasDirection r = pos 0 <ℤ norm (lin r)
 -- a ray with a point strictly on each side has a direction
 pub has_direction : (r : Ray) (u v : Pt) → pos 0 <ℤ ray_value r (point_of u) → ray_value r (point_of v) <ℤ pos 0 → HasDirection r
 has_direction r u v hu hv = elim (sign_cases r.a) as (λ _. HasDirection r) [
-  | inl n ↦ wide (r.a) (r.b) (square-pos r.a (λ e. clash r.a n e)) (square-nonneg r.b)
+  | inl n ↦ wide (r.a) (r.b) (square-pos r.a (λ e. neg_not_zero r.a n e)) (square-nonneg r.b)
   | inr k ↦ elim k as (λ _. HasDirection r) [
     | inl a0 ↦ elim (sign_cases r.b) as (λ _. HasDirection r) [
-      | inl n ↦ wide2 (r.a) (r.b) (square-nonneg r.a) (square-pos r.b (λ e. clash r.b n e))
+      | inl n ↦ wide2 (r.a) (r.b) (square-nonneg r.a) (square-pos r.b (λ e. neg_not_zero r.b n e))
       | inr j ↦ elim j as (λ _. HasDirection r) [
         | inl b0 ↦ absurd (flat r.a r.b r.c u.x u.y v.x v.y a0 b0 hu hv)
-        | inr p ↦ wide2 (r.a) (r.b) (square-nonneg r.a) (square-pos r.b (λ e. clash2 r.b p e))
+        | inr p ↦ wide2 (r.a) (r.b) (square-nonneg r.a) (square-pos r.b (λ e. pos_not_zero r.b p e))
       ]
     ]
-    | inr p ↦ wide (r.a) (r.b) (square-pos r.a (λ e. clash2 r.a p e)) (square-nonneg r.b)
+    | inr p ↦ wide (r.a) (r.b) (square-pos r.a (λ e. pos_not_zero r.a p e)) (square-nonneg r.b)
   ]
 ]
   where
-    clash : (x : ℤ) → x <ℤ pos 0 → x ≡ pos 0 → ⊥
-    clash x h e = omega (arith, ints)
-
-    clash2 : (x : ℤ) → pos 0 <ℤ x → x ≡ pos 0 → ⊥
-    clash2 x h e = omega (arith, ints)
-
     wide : (a b : ℤ) → pos 0 <ℤ (a *ℤ a) → pos 0 ≤ℤ (b *ℤ b) → pos 0 <ℤ (a *ℤ a +ℤ b *ℤ b)
     wide a b h k = omega (arith, ints)
 
@@ -135,19 +130,13 @@ crossing_there r u v h =
     let W = vec (point_of v) in
     let hu : pos 0 <ℤ at (lin r) U = subst (λ (x : ℤ). pos 0 <ℤ x) (value_is r (point_of u)) h.left in
     let hv : at (lin r) W <ℤ pos 0 = subst (λ (x : ℤ). x <ℤ pos 0) (value_is r (point_of v)) h.right in
-    let m = mean (neg_ℤ (at (lin r) W)) (at (lin r) U) U W (opposite _ hv) (weak _ hu) in
+    let m = mean (neg_ℤ (at (lin r) W)) (at (lin r) U) U W (nonneg_of_neg _ hv) (nonneg_of_pos _ hu) in
     let e = value (lin r) _ _ _ U W m.0 m.1 in
     let z : at (lin r) m.0 ≡ pos 0 = vanish (at (lin r) U) (at (lin r) W) (at (lin r) m.0) e in
     let p = point_at m.0 (wide (at (lin r) U) (at (lin r) W) m.0.d hu hv m.1.d) in
     let on : On U W (vec p.0) = subst (λ (x : V). On U W x) (sym p.1) (_, _, _, m.1) in
     (p.0, segment_of_on (point_of u) (point_of v) p.0 on, value_is r p.0 ∙ ap (λ (x : V). at (lin r) x) p.1 ∙ z)
   where
-    opposite : (x : ℤ) → x <ℤ pos 0 → pos 0 ≤ℤ neg_ℤ x
-    opposite x h = omega (arith, ints)
-
-    weak : (x : ℤ) → pos 0 <ℤ x → pos 0 ≤ℤ x
-    weak x h = omega (arith, ints)
-
     vanish : (x y z : ℤ) → pos 1 *ℤ z ≡ neg_ℤ y *ℤ x +ℤ x *ℤ y → z ≡ pos 0
     vanish x y z e = omega (arith, ints, neg-*ℤ y x, *ℤ_comm x y)
 
@@ -175,23 +164,14 @@ scale r u v x h = mul-pos _ _ (parts_direction r u v h) (above x)
 pub turn_not_before : (r : Ray) (u v : Pt) (x z : Point) → Parts r u v → OnSegment (point_of u) (point_of v) x → ray_value r x ≡ pos 0 → ray_value r z ≡ pos 0 → pos 0 ≤ℤ turn_at u v z → NotBehind r x z
 turn_not_before r u v x z h o ex ez t =
     let e = turn_order r u v x z h o ex ez in
-    let p : pos 0 ≤ℤ (norm (lin r) *ℤ pos x.d *ℤ turn_at u v z) = mul-nonneg _ _ (let s = scale r u v x h in weak _ s) t in
-    gap _ _ (nonneg-of-mul _ _ (parts_den r u v h) (subst (λ (y : ℤ). pos 0 ≤ℤ y) e p))
-  where
-    weak : (x : ℤ) → pos 0 <ℤ x → pos 0 ≤ℤ x
-    weak x h = omega (arith, ints)
-
-    gap : (x y : ℤ) → pos 0 ≤ℤ (x -ℤ y) → y ≤ℤ x
-    gap x y h = omega (arith, ints)
+    let p : pos 0 ≤ℤ (norm (lin r) *ℤ pos x.d *ℤ turn_at u v z) = mul-nonneg _ _ (let s = scale r u v x h in nonneg_of_pos _ s) t in
+    le_of_difference _ _ (nonneg-of-mul _ _ (parts_den r u v h) (subst (λ (y : ℤ). pos 0 ≤ℤ y) e p))
 
 pub turn_behind : (r : Ray) (u v : Pt) (x z : Point) → Parts r u v → OnSegment (point_of u) (point_of v) x → ray_value r x ≡ pos 0 → ray_value r z ≡ pos 0 → pos 0 <ℤ turn_at u v z → Behind r z x
 turn_behind r u v x z h o ex ez t =
     let e = turn_order r u v x z h o ex ez in
     let p : pos 0 <ℤ (norm (lin r) *ℤ pos x.d *ℤ turn_at u v z) = mul-pos _ _ (scale r u v x h) t in
-    gap _ _ (pos-of-mul _ _ (parts_den r u v h) (subst (λ (y : ℤ). pos 0 <ℤ y) e p))
-  where
-    gap : (x y : ℤ) → pos 0 <ℤ (x -ℤ y) → y <ℤ x
-    gap x y h = omega (arith, ints)
+    lt_of_difference _ _ (pos-of-mul _ _ (parts_den r u v h) (subst (λ (y : ℤ). pos 0 <ℤ y) e p))
 
 -- where it isn't above 0 the point isn't behind the crossing
 pub turn_not_behind : (r : Ray) (u v : Pt) (x z : Point) → Parts r u v → OnSegment (point_of u) (point_of v) x → ray_value r x ≡ pos 0 → ray_value r z ≡ pos 0 → turn_at u v z ≤ℤ pos 0 → NotBehind r z x
@@ -228,13 +208,7 @@ all_before r s p q z hp hq o =
     let a = neg_ℤ r.b *ℤ pos s.d in
     let b = r.a *ℤ pos s.d in
     let f : (w : Point) → value_at a b (along r s) w ≡ along r s *ℤ pos w.d -ℤ along r w *ℤ pos s.d = λ w. before_ring r.a r.b (along r s) (pos s.d) w.x w.y (pos w.d) in
-    down _ _ (subst (λ (y : ℤ). pos 0 <ℤ y) (f z) (value_pos a b (along r s) p q z (subst (λ (y : ℤ). pos 0 <ℤ y) (sym (f p)) (up _ _ hp)) (subst (λ (y : ℤ). pos 0 <ℤ y) (sym (f q)) (up _ _ hq)) o))
-  where
-    up : (x y : ℤ) → y <ℤ x → pos 0 <ℤ (x -ℤ y)
-    up x y h = omega (arith, ints)
-
-    down : (x y : ℤ) → pos 0 <ℤ (x -ℤ y) → y <ℤ x
-    down x y h = omega (arith, ints)
+    lt_of_difference _ _ (subst (λ (y : ℤ). pos 0 <ℤ y) (f z) (value_pos a b (along r s) p q z (subst (λ (y : ℤ). pos 0 <ℤ y) (sym (f p)) (pos_difference _ _ hp)) (subst (λ (y : ℤ). pos 0 <ℤ y) (sym (f q)) (pos_difference _ _ hq)) o))
 
 -- and one between points strictly behind t is strictly behind t
 pub all_behind : (r : Ray) (t p q z : Point) → Behind r p t → Behind r q t → OnSegment p q z → Behind r z t
@@ -243,13 +217,7 @@ all_behind r t p q z hp hq o =
     let b = neg_ℤ r.a *ℤ pos t.d in
     let c = neg_ℤ (along r t) in
     let f : (w : Point) → value_at a b c w ≡ along r w *ℤ pos t.d -ℤ along r t *ℤ pos w.d = λ w. behind_ring r.a r.b (along r t) (pos t.d) w.x w.y (pos w.d) in
-    down _ _ (subst (λ (y : ℤ). pos 0 <ℤ y) (f z) (value_pos a b c p q z (subst (λ (y : ℤ). pos 0 <ℤ y) (sym (f p)) (up _ _ hp)) (subst (λ (y : ℤ). pos 0 <ℤ y) (sym (f q)) (up _ _ hq)) o))
-  where
-    up : (x y : ℤ) → y <ℤ x → pos 0 <ℤ (x -ℤ y)
-    up x y h = omega (arith, ints)
-
-    down : (x y : ℤ) → pos 0 <ℤ (x -ℤ y) → y <ℤ x
-    down x y h = omega (arith, ints)
+    lt_of_difference _ _ (subst (λ (y : ℤ). pos 0 <ℤ y) (f z) (value_pos a b c p q z (subst (λ (y : ℤ). pos 0 <ℤ y) (sym (f p)) (pos_difference _ _ hp)) (subst (λ (y : ℤ). pos 0 <ℤ y) (sym (f q)) (pos_difference _ _ hq)) o))
 
 -- ---- a segment with one end on the ray's line
 -- a point of the segment from p to p is one of each segment from p
@@ -314,11 +282,8 @@ along_same r p s h = combine2 r.b (neg_ℤ r.a) h.x h.y (by_ring (r.a ∷ r.b �
 pub not_behind_same : (r : Ray) (p q s t : Point) → SamePoint p s → SamePoint q t → NotBehind r p q → NotBehind r s t
 not_behind_same r p q s t h k f =
     le-of-mul (pos p.d *ℤ pos q.d) (along r s *ℤ pos t.d) (along r t *ℤ pos s.d) (mul-pos _ _ (above p) (above q))
-    (carried (along r p) (along r q) (along r s) (along r t) (pos p.d) (pos q.d) (pos s.d) (pos t.d) (mul-nonneg _ _ (weak _ (above s)) (weak _ (above t))) (along_same r p s h) (along_same r q t k) f)
+    (carried (along r p) (along r q) (along r s) (along r t) (pos p.d) (pos q.d) (pos s.d) (pos t.d) (mul-nonneg _ _ (nonneg_of_pos _ (above s)) (nonneg_of_pos _ (above t))) (along_same r p s h) (along_same r q t k) f)
   where
-    weak : (x : ℤ) → pos 0 <ℤ x → pos 0 ≤ℤ x
-    weak x h = omega (arith, ints)
-
     one : (ps ss qd td sd pd : ℤ) → ps *ℤ sd ≡ ss *ℤ pd → (pd *ℤ qd) *ℤ (ss *ℤ td) ≡ (sd *ℤ td) *ℤ (ps *ℤ qd)
     one ps ss qd td sd pd e = combine1 (neg_ℤ (qd *ℤ td)) e (by_ring (ps ∷ ss ∷ qd ∷ td ∷ sd ∷ pd ∷ []) _ _ (search quoting depth 60 fits 200000) (search quoting depth 60 fits 200000) tt)
 
@@ -378,20 +343,9 @@ turned_behind r p q h = flip (along r p) (along r q) (pos p.d) (pos q.d) (subst�
     flip x y d e h = omega (arith, ints, neg-*ℤ y d, neg-*ℤ x e)
 
 pub turned_splits : (r : Ray) (l : MapLine) (b : Bool) → SplitsLine r l (not b) → SplitsLine (turned r) l b
-turned_splits r l true h = (above_of _ _ (turned_value r (point_of l.first)) h.0, below_of _ _ (turned_value r (point_of l.second)) h.1)
-  where
-    above_of : (x y : ℤ) → x ≡ neg_ℤ y → y <ℤ pos 0 → pos 0 <ℤ x
-    above_of x y e h = omega (arith, ints)
+turned_splits r l true h = (pos_of_negated_neg _ _ (turned_value r (point_of l.first)) h.0, neg_of_negated_pos _ _ (turned_value r (point_of l.second)) h.1)
 
-    below_of : (x y : ℤ) → x ≡ neg_ℤ y → pos 0 <ℤ y → x <ℤ pos 0
-    below_of x y e h = omega (arith, ints)
-turned_splits r l false h = (below_of _ _ (turned_value r (point_of l.first)) h.0, above_of _ _ (turned_value r (point_of l.second)) h.1)
-  where
-    above_of : (x y : ℤ) → x ≡ neg_ℤ y → y <ℤ pos 0 → pos 0 <ℤ x
-    above_of x y e h = omega (arith, ints)
-
-    below_of : (x y : ℤ) → x ≡ neg_ℤ y → pos 0 <ℤ y → x <ℤ pos 0
-    below_of x y e h = omega (arith, ints)
+turned_splits r l false h = (neg_of_negated_pos _ _ (turned_value r (point_of l.first)) h.0, pos_of_negated_neg _ _ (turned_value r (point_of l.second)) h.1)
 
 pub turned_crossing : (r : Ray) (l : MapLine) (p : Point) → IsCrossing r l p → IsCrossing (turned r) l p
 turned_crossing r l p h = (h.0, turned_zero r p h.1)
@@ -434,20 +388,9 @@ split_inside r l b z h ((u, v, k), e) =
     )
   where
     off_ends : (r : Ray) (l : MapLine) (b : Bool) → SplitsLine r l b → (¬ (ray_value r (point_of l.first) ≡ pos 0)) × (¬ (ray_value r (point_of l.second) ≡ pos 0))
-    off_ends r l true h = let a = h.0 in let b = h.1 in ((λ e. up _ a e), (λ e. low _ b e))
-      where
-        up : (x : ℤ) → pos 0 <ℤ x → x ≡ pos 0 → ⊥
-        up x h e = omega (arith, ints)
+    off_ends r l true h = let a = h.0 in let b = h.1 in ((λ e. pos_not_zero _ a e), (λ e. neg_not_zero _ b e))
 
-        low : (x : ℤ) → x <ℤ pos 0 → x ≡ pos 0 → ⊥
-        low x h e = omega (arith, ints)
-    off_ends r l false h = let a = h.0 in let b = h.1 in ((λ e. low _ a e), (λ e. up _ b e))
-      where
-        up : (x : ℤ) → pos 0 <ℤ x → x ≡ pos 0 → ⊥
-        up x h e = omega (arith, ints)
-
-        low : (x : ℤ) → x <ℤ pos 0 → x ≡ pos 0 → ⊥
-        low x h e = omega (arith, ints)
+    off_ends r l false h = let a = h.0 in let b = h.1 in ((λ e. neg_not_zero _ a e), (λ e. pos_not_zero _ b e))
 
     swap : (u v : ℕ) → 0 < u + v → 0 < v + u
     swap u v h = omega arith

@@ -19,17 +19,13 @@ use Rattle.sight_laws.proofs.Bridge.{vec, on_of_segment, segment_of_on}
 use Rattle.sight_laws.proofs.Paths.{free_first, above, on_same}
 use Rattle.sight_laws.proofs.Rays.{Behind, order, behind_not, on_stretch, stretch_on_ray, stretch_after, stretch_before, split_direction, split_crossing, along_same, turned, turned_not_behind, turned_behind, turned_splits, turned_crossing}
 use Rattle.sight_laws.proofs.StepOff.{StepOff, step_off, distance, distance_pos}
-
-not_not : (b : Bool) → not (not b) ≡ b
-not_not true = refl
-not_not false = refl
+use Rattle.list_base.proofs.Options.{none_is_not_some}
+use Rattle.exact_ring.proofs.Small.{neg_of_negated_pos, nonneg_of_pos, abs_negated}
+use Rattle.list_base.proofs.Bools.{not_not}
 
 -- ---- the ray the other way
 pub turned_range : (r : Ray) → IsInRange r → IsInRange (turned r)
-turned_range r h = record { a = same r.a _ h.a; b = same r.b _ h.b; c = same r.c _ h.c }
-  where
-    same : (x : ℤ) (n : ℕ) → nat_abs x ≤ n → nat_abs (neg_ℤ x) ≤ n
-    same x n h = omega (arith, ints)
+turned_range r h = record { a = abs_negated r.a _ h.a; b = abs_negated r.b _ h.b; c = abs_negated r.c _ h.c }
 
 turned_arrives : (r : Ray) (l : MapLine) (b : Bool) → SplitsLine r l b → SplitsLine (turned r) l (not b)
 turned_arrives r l b h = turned_splits r l (not b) (subst (λ (x : Bool). SplitsLine r l x) (sym (not_not b)) h)
@@ -61,11 +57,8 @@ not_strict : (r : Ray) (x z : Point) → SamePoint z x → Behind r x z → ⊥
 not_strict r x z s b = let e = along_same r z x s in omega (arith, ints)
 
 later : (r : Ray) (p q s : Point) → NotBehind r p q → NotBehind r q s → NotBehind r p s
-later r p q s h k = le-of-mul (pos q.d) (along r p *ℤ pos s.d) (along r s *ℤ pos p.d) (above q) (chain (along r p) (along r q) (along r s) (pos p.d) (pos q.d) (pos s.d) (weak _ (above p)) (weak _ (above s)) h k)
+later r p q s h k = le-of-mul (pos q.d) (along r p *ℤ pos s.d) (along r s *ℤ pos p.d) (above q) (chain (along r p) (along r q) (along r s) (pos p.d) (pos q.d) (pos s.d) (nonneg_of_pos _ (above p)) (nonneg_of_pos _ (above s)) h k)
   where
-    weak : (x : ℤ) → pos 0 <ℤ x → pos 0 ≤ℤ x
-    weak x h = omega (arith, ints)
-
     swap : (d x e : ℤ) → d *ℤ (x *ℤ e) ≡ e *ℤ (x *ℤ d)
     swap d x e = by_ring (d ∷ x ∷ e ∷ []) _ _ (search quoting depth 60 fits 200000) (search quoting depth 60 fits 200000) tt
 
@@ -156,15 +149,12 @@ side_touched m s l is_map ends e = by_side s.left (is_map s.line l e).differ
     up : (x y : ℤ) → x ≡ y → pos 0 <ℤ y → pos 0 <ℤ x
     up x y e h = omega (arith, ints)
 
-    down : (x y : ℤ) → x ≡ neg_ℤ y → pos 0 <ℤ y → x <ℤ pos 0
-    down x y e h = omega (arith, ints)
-
     touch : (r : Ray) (left : Bool) → SplitsLine r l (not left) → (p : Point) × Touches m p (record { line = s.line; left = left })
     touch r left sp = let c = split_crossing r l (not left) sp in let t = step_off m r s.line l left c.0 is_map ends e sp c.1 in (t.p, t.touches)
 
     by_side : (left : Bool) → (l.first ≡ l.second → ⊥) → (p : Point) × Touches m p (record { line = s.line; left = left })
-    by_side false n = let d = distance_pos l.first l.second n in touch (halfway s l.first l.second) false (up _ _ (halfway_first s l.first l.second) d, down _ _ (halfway_second s l.first l.second) d)
-    by_side true n = let d = distance_pos l.second l.first (λ x. n (sym x)) in touch (halfway s l.second l.first) true (down _ _ (halfway_second s l.second l.first) d, up _ _ (halfway_first s l.second l.first) d)
+    by_side false n = let d = distance_pos l.first l.second n in touch (halfway s l.first l.second) false (up _ _ (halfway_first s l.first l.second) d, neg_of_negated_pos _ _ (halfway_second s l.first l.second) d)
+    by_side true n = let d = distance_pos l.second l.first (λ x. n (sym x)) in touch (halfway s l.second l.first) true (neg_of_negated_pos _ _ (halfway_second s l.second l.first) d, up _ _ (halfway_first s l.second l.first) d)
 
 -- the segment from p to p has no point but p
 alone : (p z : Point) → OnSegment p p z → SamePoint z p
@@ -182,11 +172,8 @@ free_misses m p free i l e solid z o on_line = free i l e (segment_of_on (point_
 named_line : (m : Map) (s : Side) (a : ℕ) → Names m s a → (l : MapLine) × (line_at m s.line ≡ Some l)
 named_line m s a e = found (line_at m s.line) e
   where
-    no : (a : ℕ) → ◌≡◌ {A = Option ℕ} None (Some a) → ⊥
-    no a e = cc
-
     found : (o : Option MapLine) → option_and_then (λ l. sector_on l s.left) o ≡ Some a → (l : MapLine) × (o ≡ Some l)
-    found None e = absurd (no a e)
+    found None e = absurd (none_is_not_some a e)
     found (Some l) e = (l, refl)
 
 named_sees : (m : Map) (a : ℕ) → IsMap m → LinesMeetAtEnds m → (s : Side) → Names m s a → Sees m a a

@@ -16,6 +16,10 @@ use Rattle.sight_names.proofs.Affine.{parted_misses}
 use Rattle.sight_names.proofs.Laws.{start_on, on_segment_sym, same_point_refl}
 use Rattle.sight_laws.proofs.Paths.{above}
 use Rattle.sight_laws.proofs.Rays.{Behind, HasDirection, order, on_stretch, stretch_on_ray, split_direction, split_once, split_inside, along_same, before_turn, turn_swap}
+use Rattle.list_base.proofs.Numbers.{below_same_or_above, same_or_not}
+use Rattle.list_base.proofs.Options.{none_is_not_some}
+use Rattle.exact_ring.proofs.Small.{times_one, pos_of_negated_neg, nonpos_of_zero, negated_sum, pos_not_zero, neg_not_zero}
+use Rattle.exact_ring.proofs.Ring.{same_of_difference}
 
 -- ---- a point that isn't on a line is parted from it
 -- the value is above 0 at the point, and not at the line's ends
@@ -49,28 +53,19 @@ distance u v = (u.x -ℤ v.x) *ℤ (u.x -ℤ v.x) +ℤ (u.y -ℤ v.y) *ℤ (u.y 
 
 pub distance_pos : (u v : Pt) → u ≢ v → pos 0 <ℤ distance u v
 distance_pos u v n = elim (sign_cases (u.x -ℤ v.x)) as (λ _. pos 0 <ℤ distance u v) [
-  | inl h ↦ wide (u.x -ℤ v.x) (u.y -ℤ v.y) (λ e. clash _ h e)
+  | inl h ↦ wide (u.x -ℤ v.x) (u.y -ℤ v.y) (λ e. neg_not_zero _ h e)
   | inr k ↦ elim k as (λ _. pos 0 <ℤ distance u v) [
-    | inr h ↦ wide (u.x -ℤ v.x) (u.y -ℤ v.y) (λ e. clash2 _ h e)
+    | inr h ↦ wide (u.x -ℤ v.x) (u.y -ℤ v.y) (λ e. pos_not_zero _ h e)
     | inl ex ↦ elim (sign_cases (u.y -ℤ v.y)) as (λ _. pos 0 <ℤ distance u v) [
-      | inl h ↦ high (u.x -ℤ v.x) (u.y -ℤ v.y) (λ e. clash _ h e)
+      | inl h ↦ high (u.x -ℤ v.x) (u.y -ℤ v.y) (λ e. neg_not_zero _ h e)
       | inr j ↦ elim j as (λ _. pos 0 <ℤ distance u v) [
-        | inr h ↦ high (u.x -ℤ v.x) (u.y -ℤ v.y) (λ e. clash2 _ h e)
-        | inl ey ↦ absurd (n (ap₂ (λ (x y : ℤ). let p : Pt = record { x = x; y = y } in p) (level _ _ ex) (level _ _ ey)))
+        | inr h ↦ high (u.x -ℤ v.x) (u.y -ℤ v.y) (λ e. pos_not_zero _ h e)
+        | inl ey ↦ absurd (n (ap₂ (λ (x y : ℤ). let p : Pt = record { x = x; y = y } in p) (same_of_difference _ _ ex) (same_of_difference _ _ ey)))
       ]
     ]
   ]
 ]
   where
-    clash : (x : ℤ) → x <ℤ pos 0 → x ≡ pos 0 → ⊥
-    clash x h e = omega (arith, ints)
-
-    clash2 : (x : ℤ) → pos 0 <ℤ x → x ≡ pos 0 → ⊥
-    clash2 x h e = omega (arith, ints)
-
-    level : (x y : ℤ) → x -ℤ y ≡ pos 0 → x ≡ y
-    level x y e = omega (arith, ints)
-
     wide : (x y : ℤ) → ¬ (x ≡ pos 0) → pos 0 <ℤ (x *ℤ x +ℤ y *ℤ y)
     wide x y n = let h = square-pos x n in let k = square-nonneg y in omega (arith, ints)
 
@@ -96,13 +91,10 @@ place_ring a b h x y d = by_ring (a ∷ b ∷ h ∷ x ∷ y ∷ d ∷ []) _ _ (s
 back_ring : (a b h x y d : ℤ) → b *ℤ x +ℤ neg_ℤ a *ℤ y +ℤ neg_ℤ h *ℤ d ≡ (b *ℤ x -ℤ a *ℤ y) -ℤ h *ℤ d
 back_ring a b h x y d = by_ring (a ∷ b ∷ h ∷ x ∷ y ∷ d ∷ []) _ _ (search quoting depth 60 fits 200000) (search quoting depth 60 fits 200000) tt
 
-neg_ring : (a b c x y d : ℤ) → neg_ℤ a *ℤ x +ℤ neg_ℤ b *ℤ y +ℤ neg_ℤ c *ℤ d ≡ neg_ℤ (a *ℤ x +ℤ b *ℤ y +ℤ c *ℤ d)
-neg_ring a b c x y d = by_ring (a ∷ b ∷ c ∷ x ∷ y ∷ d ∷ []) _ _ (search quoting depth 60 fits 200000) (search quoting depth 60 fits 200000) tt
-
 pub parted : (u v : Pt) (x : Point) → u ≢ v → ¬ OnSegment (point_of u) (point_of v) x → IsParted u v x
 parted u v x n off = elim (sign_cases (ray_value r x)) as (λ _. IsParted u v x) [
   | inr k ↦ elim k as (λ _. IsParted u v x) [
-    | inr h ↦ record { a = r.a; b = r.b; c = r.c; beyond = h; first = zero_low _ e0; second = zero_low _ e1 }
+    | inr h ↦ record { a = r.a; b = r.b; c = r.c; beyond = h; first = nonpos_of_zero _ e0; second = nonpos_of_zero _ e1 }
     | inl e ↦ elim (order r (point_of u) x) as (λ _. IsParted u v x) [
       | inr b ↦ record {
         a = neg_ℤ r.b;
@@ -129,9 +121,9 @@ parted u v x n off = elim (sign_cases (ray_value r x)) as (λ _. IsParted u v x)
     a = neg_ℤ r.a;
     b = neg_ℤ r.b;
     c = neg_ℤ r.c;
-    beyond = up _ _ (neg_ring r.a r.b r.c x.x x.y (pos x.d)) h;
-    first = neg_zero _ _ (neg_ring r.a r.b r.c u.x u.y (pos 1)) e0;
-    second = neg_zero _ _ (neg_ring r.a r.b r.c v.x v.y (pos 1)) e1;
+    beyond = pos_of_negated_neg _ _ (negated_sum r.a r.b r.c x.x x.y (pos x.d)) h;
+    first = neg_zero _ _ (negated_sum r.a r.b r.c u.x u.y (pos 1)) e0;
+    second = neg_zero _ _ (negated_sum r.a r.b r.c v.x v.y (pos 1)) e1;
   }
 ]
   where
@@ -143,9 +135,6 @@ parted u v x n off = elim (sign_cases (ray_value r x)) as (λ _. IsParted u v x)
 
     e1 : ray_value (line_ray u v) (point_of v) ≡ pos 0
     e1 = at_second u v
-
-    zero_low : (t : ℤ) → t ≡ pos 0 → t ≤ℤ pos 0
-    zero_low t e = omega (arith, ints)
 
     gap : (t s : ℤ) → (t *ℤ pos 1) <ℤ s → pos 0 <ℤ (s -ℤ t)
     gap t s h = omega (arith, ints)
@@ -164,9 +153,6 @@ parted u v x n off = elim (sign_cases (ray_value r x)) as (λ _. IsParted u v x)
 
     near_low : (s h k : ℤ) → s ≡ h -ℤ k *ℤ pos 1 → h <ℤ k → s ≤ℤ pos 0
     near_low s h k e f = omega (arith, ints)
-
-    up : (t s : ℤ) → t ≡ neg_ℤ s → s <ℤ pos 0 → pos 0 <ℤ t
-    up t s e h = omega (arith, ints)
 
     neg_zero : (t s : ℤ) → t ≡ neg_ℤ s → s ≡ pos 0 → t ≤ℤ pos 0
     neg_zero t s e f = omega (arith, ints)
@@ -217,10 +203,7 @@ near_one : (r : Ray) (x : Point) (l : MapLine) → IsParted l.first l.second x �
 near_one r x l g = (nat_abs (g.a *ℤ r.b -ℤ g.b *ℤ r.a), λ n h. parted_misses g.a g.b g.c (back r x n) x l (far n h) g.beyond g.first g.second)
   where
     wide : (n : ℕ) (v w : ℤ) → pos 0 <ℤ v → nat_abs w ≤ n → pos 0 <ℤ (pos (suc n) *ℤ v -ℤ w)
-    wide n v w h k = let p = mul-le (pos (suc n)) (pos 1) v (omega (arith, ints)) (omega (arith, ints)) in let q : pos (suc n) *ℤ pos 1 ≡ pos (suc n) = one (pos (suc n)) in omega (arith, ints)
-      where
-        one : (z : ℤ) → z *ℤ pos 1 ≡ z
-        one z = omega (arith, ints)
+    wide n v w h k = let p = mul-le (pos (suc n)) (pos 1) v (omega (arith, ints)) (omega (arith, ints)) in let q : pos (suc n) *ℤ pos 1 ≡ pos (suc n) = times_one (pos (suc n)) in omega (arith, ints)
 
     far : (n : ℕ) → nat_abs (g.a *ℤ r.b -ℤ g.b *ℤ r.a) ≤ n → pos 0 <ℤ value_at g.a g.b g.c (back r x n)
     far n h = subst (λ (t : ℤ). pos 0 <ℤ t) (sym (back_value g.a g.b g.c r x n)) (wide n (value_at g.a g.b g.c x) (g.a *ℤ r.b -ℤ g.b *ℤ r.a) g.beyond h)
@@ -231,19 +214,13 @@ line_in ls i = option_and_then (λ l. l) (slice_get ls i)
 
 pub one_bound : (ls : List (Option MapLine)) (Good : ℕ → MapLine → ℕ → Type 0) → ((i : ℕ) (l : MapLine) → line_in ls i ≡ Some l → (k : ℕ) × ((n : ℕ) → k ≤ n → Good i l n))
     → (k : ℕ) × ((i : ℕ) (l : MapLine) → line_in ls i ≡ Some l → (n : ℕ) → k ≤ n → Good i l n)
-one_bound [] Good each = (0, λ i l e. absurd (no l e))
-  where
-    no : (l : MapLine) → ◌≡◌ {A = Option MapLine} None (Some l) → ⊥
-    no l e = cc
+one_bound [] Good each = (0, λ i l e. absurd (none_is_not_some l e))
 one_bound (None ∷ ls) Good each =
     let rest = one_bound ls (λ i. Good (suc i)) (λ i l e. each (suc i) l e) in
     (rest.0, found rest.1)
   where
-    no : (l : MapLine) → ◌≡◌ {A = Option MapLine} None (Some l) → ⊥
-    no l e = cc
-
     found : {k : ℕ} → ((i : ℕ) (l : MapLine) → line_in ls i ≡ Some l → (n : ℕ) → k ≤ n → Good (suc i) l n) → (i : ℕ) (l : MapLine) → line_in (None ∷ ls) i ≡ Some l → (n : ℕ) → k ≤ n → Good i l n
-    found h zero l e = absurd (no l e)
+    found h zero l e = absurd (none_is_not_some l e)
     found h (suc i) l e = h i l e
 one_bound (Some h ∷ ls) Good each =
     let here = each 0 h refl in
@@ -273,16 +250,6 @@ pub record StepOff (m : Map) (r : Ray) (i : ℕ) (left : Bool) (x : Point) : Typ
   pub touches : Touches m p (record { line = i; left = left })
   pub only : (j : ℕ) (k : MapLine) (z : Point) → line_at m j ≡ Some k → OnSegment p x z → OnLine k z → SamePoint z x
 
-decide : (i j : ℕ) → (i ≡ j) ⊎ (i ≢ j)
-decide i j = elim (three i j) as (λ _. (i ≡ j) ⊎ (i ≢ j)) [
-  | inl h ↦ inr (λ e. omega arith)
-  | inr k ↦ elim k as (λ _. (i ≡ j) ⊎ (i ≢ j)) [ inl e ↦ inl e | inr h ↦ inr (λ e. omega arith) ]
-]
-  where
-    three : (i j : ℕ) → (i < j) ⊎ (i ≡ j) ⊎ (j < i)
-    three i j = grind arith
-
--- the side from which the ray comes
 side_before : (r : Ray) (l : MapLine) (left : Bool) (x p : Point) → SplitsLine r l (not left) → IsCrossing r l x → ray_value r p ≡ pos 0 → Behind r x p → OnSide l.first l.second left p
 side_before r l false x p sp c e b = before_turn r l.first l.second x p (record { left = sp.0; right = sp.1 }) c.0 c.1 e b
 side_before r l true x p sp c e b =
@@ -297,7 +264,7 @@ pub step_off : (m : Map) (r : Ray) (i : ℕ) (l : MapLine) (left : Bool) (x : Po
 step_off m r i l left x is_map ends is sp c =
     let alone = crossing_alone m r i l (not left) x ends is sp c in
     let near = one_bound m.lines (λ j k n. j ≢ i → Misses (back r x n) x k)
-    (λ j k e. elim (decide j i) as (λ _. (b : ℕ) × ((n : ℕ) → b ≤ n → j ≢ i → Misses (back r x n) x k)) [
+    (λ j k e. elim (same_or_not j i) as (λ _. (b : ℕ) × ((n : ℕ) → b ≤ n → j ≢ i → Misses (back r x n) x k)) [
       | inl same ↦ (0, λ n h ne. absurd (ne same))
       | inr ne ↦ let g = near_one r x k (parted k.first k.second x (is_map j k e).differ (alone j k e ne)) in (g.0, λ n h _. g.1 n h)
     ]) in
@@ -307,11 +274,11 @@ step_off m r i l left x is_map ends is sp c =
     let others : (j : ℕ) (k : MapLine) → line_at m j ≡ Some k → j ≢ i → Misses p x k = λ j k e ne. near.1 j k e near.0 (omega arith) ne in
     let own : (k : MapLine) (z : Point) → line_at m i ≡ Some k → ray_value r z ≡ pos 0 → OnLine k z → SamePoint z x = λ k z e v o.
     split_once r l (not left) z x sp (subst (λ (t : MapLine). OnLine t z) (same k e) o, v) c in
-    let free : OnNoLine m p = λ j k e o. elim (decide j i) as (λ _. ⊥) [
+    let free : OnNoLine m p = λ j k e o. elim (same_or_not j i) as (λ _. ⊥) [
       | inl same_number ↦ before_not r x p before (own k p (subst (λ (t : ℕ). line_at m t ≡ Some k) same_number e) on_ray o)
       | inr ne ↦ others j k e ne p (start_on p x) o
     ] in
-    let only : (j : ℕ) (k : MapLine) (z : Point) → line_at m j ≡ Some k → OnSegment p x z → OnLine k z → SamePoint z x = λ j k z e s o. elim (decide j i) as (λ _. SamePoint z x) [
+    let only : (j : ℕ) (k : MapLine) (z : Point) → line_at m j ≡ Some k → OnSegment p x z → OnLine k z → SamePoint z x = λ j k z e s o. elim (same_or_not j i) as (λ _. SamePoint z x) [
       | inl same_number ↦ own k z (subst (λ (t : ℕ). line_at m t ≡ Some k) same_number e) (stretch_on_ray r p x z on_ray c.1 s) o
       | inr ne ↦ absurd (others j k e ne z s o)
     ] in

@@ -12,20 +12,18 @@ use Rattle.sight_names.specs.Map.{map_of, looked_up, origin}
 use Rattle.sight_names.specs.Points.{pt_eq, points_of, place, number_of, line_edge, Edge}
 use Rattle.sight_names.proofs.PlanPoints.{plan_points, index_any}
 use Rattle.sight_names.proofs.PlanMap.{points_differ}
+use Rattle.sight_names.proofs.Records.{same_edge, pt_of_numbers}
 
-eq_refl : (a b : ℤ) → (int_eq a a && int_eq b b) ≡ true
+pub eq_refl : (a b : ℤ) → (int_eq a a && int_eq b b) ≡ true
 eq_refl a b = grind (arith, ints)
 
 eq_true : (a b c d : ℤ) → (int_eq a c && int_eq b d) ≡ true → (a ≡ c) × (b ≡ d)
 eq_true a b c d h = grind (arith, ints)
 
 pub same_pt_true : (p q : Pt) → pt_eq p q ≡ true → p ≡ q
-same_pt_true p q h = let e = eq_true p.x p.y q.x q.y h in join p.x p.y q.x q.y e.0 e.1
-  where
-    join : (a b c d : ℤ) → a ≡ c → b ≡ d → ◌≡◌ {A = Pt} (record { x = a; y = b }) (record { x = c; y = d })
-    join a b c d e f = cc
+same_pt_true p q h = let e = eq_true p.x p.y q.x q.y h in pt_of_numbers p.x p.y q.x q.y e.0 e.1
 
-pt_false : (p q : Pt) → p ≢ q → pt_eq p q ≡ false
+pub pt_false : (p q : Pt) → p ≢ q → pt_eq p q ≡ false
 pt_false p q h = go (pt_eq p q) (same_pt_true p q)
   where
     go : (b : Bool) → (b ≡ true → p ≡ q) → b ≡ false
@@ -33,7 +31,7 @@ pt_false p q h = go (pt_eq p q) (same_pt_true p q)
     go false f = refl
 
 -- where no earlier point is the same, the number is the place
-number_at : (points : List Pt) (k : ℕ) → k < length points → ((j : ℕ) → j < k → get_or points j origin ≢ get_or points k origin)
+pub number_at : (points : List Pt) (k : ℕ) → k < length points → ((j : ℕ) → j < k → get_or points j origin ≢ get_or points k origin)
     → unwrap_or (position (pt_eq (get_or points k origin)) points) (length points) ≡ k
 number_at points k lt differ =
     let e : position_or_len (pt_eq (get_or points k origin)) points ≡ k =
@@ -48,10 +46,7 @@ number_of_plan p is k lt = subst (λ (ps : List Pt). unwrap_or (position (pt_eq 
 
 -- the edge of a plan's line goes between the line's own numbers
 pub line_edge_of_plan : (p : PlanParts) → IsPlan p → (i : ℕ) (l : Line) → slice_get p.lines i ≡ Some (Some l) → line_edge (map_of p) (looked_up p.points l) ≡ record { from = l.a; to = l.b }
-line_edge_of_plan p is i l e = let q = is.each i l e in join (number_of_plan p is l.a q.first) (number_of_plan p is l.b q.second)
-  where
-    join : {a b c d : ℕ} → a ≡ c → b ≡ d → ◌≡◌ {A = Edge} (record { from = a; to = b }) (record { from = c; to = d })
-    join e f = cc
+line_edge_of_plan p is i l e = let q = is.each i l e in same_edge (number_of_plan p is l.a q.first) (number_of_plan p is l.b q.second)
 
 -- the place of a number in a plan's map
 pub place_of_plan : (p : PlanParts) → IsPlan p → (k : ℕ) → place (map_of p) k ≡ slice_index_or p.points k origin

@@ -10,10 +10,12 @@ use Rattle.sight_names.specs.Map.{Map, MapLine, line_at}
 use Rattle.sight_names.specs.Ray.{ray_value, SplitsLine, IsCrossing}
 use Rattle.sight_names.proofs.Laws.{on_segment_sym}
 use Rattle.geom_exact.specs.Formulas.{side_value, AreOnTwoSides}
-use Rattle.sight_laws.proofs.Plans.{none_is_not_some}
 use Rattle.sight_ray.specs.declared.crossed_line.CrossedLine.{CrossedLine}
 use Rattle.sight_ray.specs.CrossedLine.{AreParted, IsCrossedLineBetween, IsCrossedLineOf, CrossingOfLine}
 use Rattle.sight_ray.specs.RayFault.{Splits, IsSplit, Crosses}
+use Rattle.list_base.proofs.Bools.{false_of_not}
+use Rattle.exact_ring.proofs.Small.{pos_not_neg}
+use Rattle.list_base.proofs.Options.{some_is_same, none_is_not_some}
 
 -- ---- a crossed line from the two values
 pub crossed_line_forward : (r : Ray) (p q : Pt) → AreParted (side_value r p) (side_value r q) → IsCrossedLineBetween r p q (record { left = p; right = q; first_left = true })
@@ -30,10 +32,7 @@ no_crossed_line a b n m (inr h) = m (h.1, h.0)
 
 -- ---- a crossed line of a side
 pub same_line : (m : Map) (i : ℕ) (k l : MapLine) → line_at m i ≡ Some k → line_at m i ≡ Some l → k ≡ l
-same_line m i k l e f = inner k l (sym e ∙ f)
-  where
-    inner : (k l : MapLine) → ◌≡◌ {A = Option MapLine} (Some k) (Some l) → k ≡ l
-    inner k l e = cc
+same_line m i k l e f = some_is_same k l (sym e ∙ f)
 
 splits_by : (r : Ray) (l : MapLine) (b : Bool) (left right : Pt) → pos 0 <ℤ ray_value r (point_of left) → ray_value r (point_of right) <ℤ pos 0
     → left ≡ (if b then l.first else l.second) → right ≡ (if b then l.second else l.first) → SplitsLine r l b
@@ -56,14 +55,8 @@ unsplit_none m r s e (b, h) = none_is_not_some h.line (sym e ∙ h.is)
 
 -- ---- the way
 one_way : (r : Ray) (l : MapLine) (b : Bool) → SplitsLine r l b → SplitsLine r l (not b) → ⊥
-one_way r l true h k = let a = h.0 in let b = k.0 in clash _ a b
-  where
-    clash : (x : ℤ) → pos 0 <ℤ x → x <ℤ pos 0 → ⊥
-    clash x a b = omega (arith, ints)
-one_way r l false h k = let a = h.0 in let b = k.0 in clash _ b a
-  where
-    clash : (x : ℤ) → pos 0 <ℤ x → x <ℤ pos 0 → ⊥
-    clash x a b = omega (arith, ints)
+one_way r l true h k = let a = h.0 in let b = k.0 in pos_not_neg _ a b
+one_way r l false h k = let a = h.0 in let b = k.0 in pos_not_neg _ b a
 
 pub one_split : (m : Map) (r : Ray) (s : Side) (b : Bool) → Splits m r s b → Splits m r s (not b) → ⊥
 one_split m r s b h k = one_way r h.line b h.ends (subst (λ (l : MapLine). SplitsLine r l (not b)) (same_line m s.line k.line h.line k.is h.is) k.ends)
@@ -79,10 +72,6 @@ beq_false true true e = cc
 beq_false true false e = refl
 beq_false false true e = refl
 beq_false false false e = cc
-
-pub not_true : (b : Bool) → not b ≡ true → b ≡ false
-not_true true e = cc
-not_true false e = refl
 
 pub not_false : (b : Bool) → not b ≡ false → b ≡ true
 not_false true e = refl

@@ -16,21 +16,11 @@ use Rattle.sight_ray.specs.CrossedLine.{IsCrossedLineOf, CrossingOfLine, AllBehi
 use Rattle.sight_ray.specs.RayFault.{Splits, IsSplit, Leaves, Arrives, Crosses, HasNames, HasSplits, HasCrossings, IsBehind, IsBlocked, IsRayFault}
 use Rattle.sight_ray.proofs.CrossedLineLemmas.{same_line, crossed_line_splits, one_split, line_crosses}
 use Rattle.sight_ray.proofs.HitLemmas.{parts_of}
-
-pub is_some_of : (o : Option ℕ) (a : ℕ) → o ≡ Some a → IsSome o
-is_some_of o a e = subst (λ (x : Option ℕ). IsSome x) (sym e) (some a)
-  where
-    some : (a : ℕ) → IsSome (Some a)
-    some a = search
-
-none_not_some : (o : Option ℕ) → o ≡ None → IsSome o → ⊥
-none_not_some o e h = no (subst (λ (x : Option ℕ). IsSome x) e h)
-  where
-    no : IsSome {T = ℕ} None → ⊥
-    no k = cc
+use Rattle.list_base.proofs.Options.{one_value, is_not_there, is_there}
+use Rattle.list_base.proofs.Numbers.{below_same_or_above}
 
 pub names_of : (m : Map) (r : Ray) (a b : ℕ) → IsInRange r → Names m r.first a → Names m r.last b → HasNames m r
-names_of m r a b h e f = record { range = h; from = is_some_of (named m r.first) a e; to = is_some_of (named m r.last) b f }
+names_of m r a b h e f = record { range = h; from = is_there (named m r.first) a e; to = is_there (named m r.last) b f }
 
 -- ---- from crossed lines to ways
 pub leaves_by : (m : Map) (r : Ray) (g : CrossedLine) → IsCrossedLineOf m r r.first g → g.first_left ≡ not r.first.left → Leaves m r
@@ -139,8 +129,8 @@ sight_crossings m r a b s = record {
 
 -- ---- what fails
 bad_side : (m : Map) (r : Ray) (side : Side) → IsRayFault m r (BadSide side) → HasNames m r → ⊥
-bad_side m r side (range, inl k) n = none_not_some _ k.1 n.from
-bad_side m r side (range, inr k) n = none_not_some _ k.2 n.to
+bad_side m r side (range, inl k) n = is_not_there _ k.1 n.from
+bad_side m r side (range, inr k) n = is_not_there _ k.2 n.to
 
 not_split : (m : Map) (r : Ray) (i : ℕ) → IsRayFault m r (NotSplit i) → IsSplit m r r.first → IsSplit m r r.last → ⊥
 not_split m r i (names, inl k) f l = k.1 f
@@ -211,8 +201,8 @@ earlier m r f g lt h k = absurd (let b = stage_below g in omega arith)
 
 one_side : (m : Map) (r : Ray) (s t : Side) → IsRayFault m r (BadSide s) → IsRayFault m r (BadSide t) → s ≡ t
 one_side m r s t (a, inl h) (b, inl k) = h.0 ∙ sym k.0
-one_side m r s t (a, inl h) (b, inr k) = absurd (none_not_some _ h.1 k.1)
-one_side m r s t (a, inr h) (b, inl k) = absurd (none_not_some _ k.1 h.1)
+one_side m r s t (a, inl h) (b, inr k) = absurd (is_not_there _ h.1 k.1)
+one_side m r s t (a, inr h) (b, inl k) = absurd (is_not_there _ k.1 h.1)
 one_side m r s t (a, inr h) (b, inr k) = h.0 ∙ sym k.0
 
 one_unsplit : (m : Map) (r : Ray) (i j : ℕ) → IsRayFault m r (NotSplit i) → IsRayFault m r (NotSplit j) → i ≡ j
@@ -235,11 +225,8 @@ not_below m r i j h k lt =
     (segment_same h.start h.stop k.start k.stop h.point (one_crossing m r r.first _ h.start k.start c.leaves c.starts d.starts) (one_crossing m r r.last _ h.stop k.stop c.arrives c.stops d.stops) h.on_stretch)
     h.on_line
 
-cases : (i j : ℕ) → (i < j) ⊎ (i ≡ j) ⊎ (j < i)
-cases i j = grind arith
-
 one_blocked : (m : Map) (r : Ray) (i j : ℕ) → IsBlocked m r i → IsBlocked m r j → i ≡ j
-one_blocked m r i j h k = elim (cases i j) as (λ _. i ≡ j) [
+one_blocked m r i j h k = elim (below_same_or_above i j) as (λ _. i ≡ j) [
   | inl lt ↦ absurd (not_below m r i j h k lt)
   | inr c ↦ elim c as (λ _. i ≡ j) [ inl e ↦ e | inr lt ↦ absurd (not_below m r j i k h lt) ]
 ]
@@ -254,20 +241,15 @@ together m r (Blocked i) (Blocked j) e h k = ap Blocked (one_blocked m r i j h k
 together m r f g e h k = absurd (omega arith)
 
 pub one_fault : (m : Map) (r : Ray) (f g : RayFault) → IsRayFault m r f → IsRayFault m r g → f ≡ g
-one_fault m r f g h k = elim (cases (stage f) (stage g)) as (λ _. f ≡ g) [
+one_fault m r f g h k = elim (below_same_or_above (stage f) (stage g)) as (λ _. f ≡ g) [
   | inl lt ↦ absurd (earlier m r f g lt h k)
   | inr c ↦ elim c as (λ _. f ≡ g) [ inl e ↦ together m r f g e h k | inr lt ↦ absurd (earlier m r g f lt k h) ]
 ]
 
 -- ---- the one answer
-some_same : (o : Option ℕ) (a b : ℕ) → o ≡ Some a → o ≡ Some b → a ≡ b
-some_same o a b e f = inner (sym e ∙ f)
-  where
-    inner : ◌≡◌ {A = Option ℕ} (Some a) (Some b) → a ≡ b
-    inner e = cc
 
 pub sight_answer : (m : Map) (r : Ray) (o : Result (ℕ × ℕ) RayFault) → MatchResult o (λ p. IsSightRay m r p.0 p.1) (λ f. IsRayFault m r f) → (a b : ℕ) → IsSightRay m r a b → o ≡ Ok (a, b)
-sight_answer m r (Ok p) h a b s = ap Ok (pairs (some_same _ p.0 a h.from s.from) (some_same _ p.1 b h.to s.to))
+sight_answer m r (Ok p) h a b s = ap Ok (pairs (one_value _ p.0 a h.from s.from) (one_value _ p.1 b h.to s.to))
   where
     pairs : p.0 ≡ a → p.1 ≡ b → p ≡ (a, b)
     pairs e f = ap₂ (λ (x y : ℕ). (x, y)) e f

@@ -15,8 +15,8 @@ use Rattle.geom_exact.proofs.CrossingLemmas.{crossing_exists}
 use Rattle.sight_laws.proofs.Rays.{Behind, Parts, HasDirection, order, not_both, behind_not, parts_direction, on_stretch, stretch_on_ray, stretch_after, stretch_before, turn_not_before, turn_before, turn_not_behind, turn_behind, all_before, all_behind, alone_on, only_end}
 use Rattle.sight_ray.specs.declared.crossed_line.CrossedLine.{CrossedLine}
 use Rattle.sight_ray.specs.CrossedLine.{IsCrossedLine, CrossingOfLine, IsForward, IsHit, IsClear, ReachesStart, ReachesStop, IsMet, IsPassed, AllBehind, AllInOrder, IsHitAt, IsClearAt}
-use Rattle.sight_laws.proofs.Plans.{none_is_not_some}
 use Rattle.sight_ray.proofs.CrossedLineLemmas.{same_line}
+use Rattle.list_base.proofs.Options.{none_is_not_some}
 
 pub parts_of : (r : Ray) (g : CrossedLine) → IsCrossedLine r g → Parts r g.left g.right
 parts_of r g h = record { left = h.left; right = h.right }

@@ -46,16 +46,10 @@ use Rattle.sight_run.specs.Laws.{BuiltIsChecked, BuiltRunIsChecked, ChecksYes, H
 use Rattle.sight_run.proofs.Round.{IsFoundAgain, found_again, found_then, same_ok}
 use Rattle.sight_run.proofs.Stood.{bytes_of, differ, of_words, under_cert, under_out}
 use Rattle.sight_run.proofs.Totals.{same_counts}
+use Rattle.list_base.proofs.Options.{some_is_same}
+use Rattle.list_base.proofs.Numbers.{place_within, row_within}
 
 -- ---- the table's bits
-
-row_below : (a n k : ℕ) → a < k → a * n + n ≤ k * n
-row_below a n zero h = absurd (omega (arith, h))
-row_below zero n (suc k) h = omega arith
-row_below (suc a) n (suc k) h = let r = row_below a n k (omega (arith, h)) in omega (arith, r)
-
-in_square : (a b n : ℕ) → a < n → b < n → a * n + b < n * n
-in_square a b n h k = let r = row_below a n n h in omega (arith, r, k)
 
 -- what is accepted for a table is accepted for one of the same bits
 accepted_same : (m : Map) (t u : List ℕ) (c : CertParts) → ((k : ℕ) → k < m.sectors * m.sectors → table_bit u k ≡ table_bit t k) → IsAccepted m t c → IsAccepted m u c
@@ -72,12 +66,12 @@ accepted_same m t u c bits h = record {
     low a b l w = omega (arith, l, w)
 
     set_in_first : (a b : ℕ) → a < m.sectors → b < m.sectors → EitherSet m.sectors u a b → EitherSet m.sectors t a b
-    set_in_first a b p q (inl e) = inl (sym (bits (a * m.sectors + b) (in_square a b m.sectors p q)) ∙ e)
-    set_in_first a b p q (inr e) = inr (sym (bits (b * m.sectors + a) (in_square b a m.sectors q p)) ∙ e)
+    set_in_first a b p q (inl e) = inl (sym (bits (a * m.sectors + b) (place_within a b m.sectors p q)) ∙ e)
+    set_in_first a b p q (inr e) = inr (sym (bits (b * m.sectors + a) (place_within b a m.sectors q p)) ∙ e)
 
     clear_in_first : (a b : ℕ) → a < m.sectors → b < m.sectors → EitherClear m.sectors u a b → EitherClear m.sectors t a b
-    clear_in_first a b p q (inl n) = inl (λ e. n (bits (a * m.sectors + b) (in_square a b m.sectors p q) ∙ e))
-    clear_in_first a b p q (inr n) = inr (λ e. n (bits (b * m.sectors + a) (in_square b a m.sectors q p) ∙ e))
+    clear_in_first a b p q (inl n) = inl (λ e. n (bits (a * m.sectors + b) (place_within a b m.sectors p q) ∙ e))
+    clear_in_first a b p q (inr n) = inr (λ e. n (bits (b * m.sectors + a) (place_within b a m.sectors q p) ∙ e))
 
 -- ---- the table and the certificate
 
@@ -214,12 +208,9 @@ ends_done : (build : List (List ℕ)) (files stand : Files) (before after : Shel
 ends_done build files stand before after sinks h e = record {
   answer = h.ends.answer;
   called = h.ends.called.called;
-  stands = same stand (put_all files h.ends.answer.writes) (sym e ∙ h.ends.stands);
+  stands = some_is_same stand (put_all files h.ends.answer.writes) (sym e ∙ h.ends.stands);
   said = h.said ∙ ap (λ (l : List ℕ). option_map (λ held. held ++ l) sinks.old.held) h.ends.line_is;
 }
-  where
-    same : (f g : Files) → ◌≡◌ {A = Option Files} (Some f) (Some g) → f ≡ g
-    same f g q = cc
 
 -- an answer that is a line alone has no output that could be broken
 never_broken : (called : Result Answer Status → Type 0) (Sole : Type 0) (which : Role) (files : Files) (after : Option Files) (line : List ℕ) → ((given : Result Answer Status) → called given → given ≡ Ok (only_line line)) → IsBrokenBy Sole called which files after → ⊥

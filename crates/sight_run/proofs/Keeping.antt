@@ -15,10 +15,11 @@ use Rattle.sight_run.specs.Run.{put_all}
 use Rattle.sight_run.specs.Words.{given, has_twice}
 use Rattle.sight_run.specs.Zero.{ZeroCalls, clear_table, one_wad, with_table, zero_line, zeroed}
 use Rattle.sight_run.proofs.Round.{passes, same_ok, written_again}
-use Rattle.sight_run.proofs.Stood.{bytes_of, differ, itself, of_words, under_out}
+use Rattle.sight_run.proofs.Stood.{bytes_of, differ, of_words, under_out}
+use Rattle.shelf_io.proofs.FilesLemmas.{bytes_eq-refl}
 
 stored : (files : Files) (out bytes : List ℕ) → put files out bytes out ≡ Some bytes
-stored files out bytes = ap (λ (b : Bool). if b then Some bytes else files out) (itself out)
+stored files out bytes = ap (λ (b : Bool). if b then Some bytes else files out) (bytes_eq-refl out)
 
 pub zero_keeps_lumps : ZeroKeepsLumps
 unfolding zeroed

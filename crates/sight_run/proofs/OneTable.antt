@@ -27,23 +27,12 @@ use Rattle.sight_status.specs.Answer.{Answer, only_line}
 use Rattle.sight_run.specs.Build.{BuildsSayOneLine, HaveOneTable, IsBuiltOf, build_line}
 use Rattle.map_answers.specs.Counts.{counts_with, pair_count, set_from, set_pairs}
 use Rattle.sight_run.specs.Grid.{ShowsGrid, grid_line}
+use Rattle.list_base.proofs.Numbers.{same_bit, below_or_not}
 
 -- ---- numbers
 
 one_or_not : (x : ℕ) → (x ≡ 1) ⊎ (x ≢ 1)
 one_or_not x = grind arith
-
-below_or_not : (k n : ℕ) → (k < n) ⊎ (n ≤ k)
-below_or_not k n = grind arith
-
-same_bit : (x y : ℕ) → x < 2 → y < 2 → (x ≡ 1 → y ≡ 1) → (y ≡ 1 → x ≡ 1) → x ≡ y
-same_bit x y hx hy f g = elim (one_or_not x) as (λ _. x ≡ y) [
-  | inl e ↦ e ∙ sym (f e)
-  | inr n ↦ elim (one_or_not y) as (λ _. x ≡ y) [ inl e ↦ g e ∙ sym e | inr k ↦ zeros x y hx hy n k ]
-]
-  where
-    zeros : (x y : ℕ) → x < 2 → y < 2 → x ≢ 1 → y ≢ 1 → x ≡ y
-    zeros x y hx hy n k = grind arith
 
 some_sector : (k n : ℕ) → k < n * n → 0 < n
 some_sector k zero h = absurd (omega arith)

@@ -10,6 +10,7 @@ use Rattle.map_answers.specs.Input.{LocatedMap, found_in}
 use Rattle.sight_run.specs.Reading.{found_of, of_fetch}
 use Rattle.sight_run.specs.Words.{asked_of, file_names, has_twice, is_built, of_order}
 use Rattle.sight_run.proofs.Round.{passes, same_ok}
+use Rattle.shelf_io.proofs.FilesLemmas.{bytes_eq-refl}
 
 -- ---- the words
 
@@ -44,15 +45,12 @@ not_back a b h = by (bytes_eq b a) refl
     by true e = let same : bytes_eq a b ≡ true = (bytes_eq-Decides a b).1 (sym ((bytes_eq-Decides b a).0 e)) in absurd cc
     by false e = refl
 
-pub itself : (a : List ℕ) → bytes_eq a a ≡ true
-itself a = (bytes_eq-Decides a a).1 refl
-
 pub under_out : (files : Files) (out cert bytes spelled : List ℕ) → bytes_eq out cert ≡ false → put (put files out bytes) cert spelled out ≡ Some bytes
 under_out files out cert bytes spelled h =
-    ap (λ (b : Bool). if b then Some spelled else put files out bytes out) (not_back out cert h) ∙ ap (λ (b : Bool). if b then Some bytes else files out) (itself out)
+    ap (λ (b : Bool). if b then Some spelled else put files out bytes out) (not_back out cert h) ∙ ap (λ (b : Bool). if b then Some bytes else files out) (bytes_eq-refl out)
 
 pub under_cert : (files : Files) (out cert bytes spelled : List ℕ) → put (put files out bytes) cert spelled cert ≡ Some spelled
-under_cert files out cert bytes spelled = ap (λ (b : Bool). if b then Some spelled else put files out bytes cert) (itself cert)
+under_cert files out cert bytes spelled = ap (λ (b : Bool). if b then Some spelled else put files out bytes cert) (bytes_eq-refl cert)
 
 -- ---- the bytes of a map
 

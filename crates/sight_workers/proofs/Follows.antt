@@ -23,39 +23,19 @@ use Rattle.sight_workers.specs.Board.{Holds, IsFindable, IsPair, IsSet, bit_of, 
 use Rattle.sight_workers.specs.Plays.{with_claim, with_look, with_mark}
 use Rattle.sight_workers.specs.Steps.{Follows, IsSeatAt, Shows, pair_of}
 use Rattle.sight_workers.proofs.Keeps.{word_small}
-use Rattle.sight_workers.proofs.Lists.{claim_below, contains_append, contains_here, contains_left, contains_none, contains_one, contains_right}
+use Rattle.sight_workers.proofs.Lists.{claim_below}
 use Rattle.sight_workers.proofs.Machines.{IsChanged, active, same_numbers, step_shown}
 use Rattle.sight_workers.proofs.Places.{same_pair, set_at, word_inside}
 use Rattle.sight_workers.proofs.Plainly.{plainly}
 use Rattle.sight_workers.proofs.Sights.{over_there}
-
-is_low : (a b : ℕ) → a < b → ltb a b ≡ true
-is_low a b l = grind (arith, nat_tests)
-
-is_high : (a b : ℕ) → b ≤ a → ltb a b ≡ false
-is_high a b l = grind (arith, nat_tests)
-
-some_over : (k : ℕ) → not (eqb k 0) ≡ true → k ≢ 0
-some_over k e = grind (arith, nat_tests)
+use Rattle.list_base.proofs.Numbers.{bit_of_none, bit_of_right, bit_of_left, same_bit, tells_some, tells_not_below, tells_below}
+use Rattle.list_base.proofs.Lists.{contains_append, contains_right, contains_left, contains_one, contains_none, contains_here}
 
 min_low : (a b : ℕ) → a ≤ b → min a b ≡ a
 min_low a b l = omega arith
 
 min_high : (a b : ℕ) → b ≤ a → min a b ≡ b
 min_high a b l = omega arith
-
--- two bits that are 1 together are the same
-same_bit : (a b : ℕ) → a < 2 → b < 2 → (a ≡ 1 → b ≡ 1) → (b ≡ 1 → a ≡ 1) → a ≡ b
-same_bit a b l m f g = dite (ℕ_discrete a 1) (λ e. e ∙ sym (f e)) (λ n. dite (ℕ_discrete b 1) (λ e. absurd (n (g e))) (λ k. omega arith))
-
-max_left : (a b : ℕ) → a < 2 → b < 2 → a ≡ 1 → max a b ≡ 1
-max_left a b c d e = omega arith
-
-max_right : (a b : ℕ) → a < 2 → b < 2 → b ≡ 1 → max a b ≡ 1
-max_right a b c d e = omega arith
-
-max_none : (a b : ℕ) → b ≡ 0 → max a b ≡ a
-max_none a b e = omega arith
 
 module _ (t : Task) (s : State (Unit {0}) View) (c : machine.State) (r : Holds t s) (h : Shows t s c) where
   abbrev pub claim_word : ℕ
@@ -102,7 +82,7 @@ module _ (t : Task) (s : State (Unit {0}) View) (c : machine.State) (r : Holds t
         next_is = h.next ∙ min_low claim_word t.plan.sectors (omega arith)
 
         below : ltb c.next c.sectors ≡ true
-        below = let a = next_is in let b = h.sectors in is_low c.next c.sectors (omega arith)
+        below = let a = next_is in let b = h.sectors in tells_below c.next c.sectors (omega arith)
 
         fit : (claim_word + 1) % 2 ^ 64 ≡ claim_word + 1
         fit = let a = word_small t s r in omega arith
@@ -132,7 +112,7 @@ module _ (t : Task) (s : State (Unit {0}) View) (c : machine.State) (r : Holds t
 
     -- no source is left
     none_left : t.plan.sectors ≤ claim_word → ltb c.next c.sectors ≡ false
-    none_left high = let a : c.next ≡ t.plan.sectors = h.next ∙ min_high claim_word t.plan.sectors high in let b = h.sectors in is_high c.next c.sectors (omega arith)
+    none_left high = let a : c.next ≡ t.plan.sectors = h.next ∙ min_high claim_word t.plan.sectors high in let b = h.sectors in tells_not_below c.next c.sectors (omega arith)
 
     refused : (s' : State (Unit {0}) View) → t.plan.sectors ≤ claim_word → Shows t s' c → Follows t s c (Claim worker) NoSource s'
     refused s' high shown = (
@@ -193,7 +173,7 @@ module _ (t : Task) (s : State (Unit {0}) View) (c : machine.State) (r : Holds t
 
         high : t.plan.sectors ≤ claim_word
         high =
-            let o = over_there v.task.plan.sectors v.claims (some_over (overs v.task.plan.sectors v.claims) over) in
+            let o = over_there v.task.plan.sectors v.claims (tells_some (overs v.task.plan.sectors v.claims) over) in
             let a = claim_below s.views seat v claim_word i.0 r.once o.0 o.1 in
             let b : v.task.plan.sectors ≡ t.plan.sectors = ap (λ (y : Task). y.plan.sectors) task in
             let d = o.2 in omega arith
@@ -254,19 +234,19 @@ module _ (t : Task) (s : State (Unit {0}) View) (c : machine.State) (r : Holds t
         bit_now j = ap (λ (y : ℕ). bit_at y j) new_word ∙ bit_at_or old (2 ^ bit_of t.plan.sectors p) j
 
         set_now : IsSet t.plan.sectors ws p
-        set_now = bit_now (bit_of t.plan.sectors p) ∙ max_right _ _ (bit_at-lt old (bit_of t.plan.sectors p)) (bit_at-lt (2 ^ bit_of t.plan.sectors p) (bit_of t.plan.sectors p)) (bit_at-pow_same (bit_of t.plan.sectors p))
+        set_now = bit_now (bit_of t.plan.sectors p) ∙ bit_of_right _ _ (bit_at-lt old (bit_of t.plan.sectors p)) (bit_at-lt (2 ^ bit_of t.plan.sectors p) (bit_of t.plan.sectors p)) (bit_at-pow_same (bit_of t.plan.sectors p))
 
         still : (q : ℕ × ℕ) → IsSet t.plan.sectors s.words q → IsSet t.plan.sectors ws q
         still q m = dite (ℕ_discrete (word_of t.plan.sectors q + 1) k)
             (λ e. let f : bit_at old (bit_of t.plan.sectors q) ≡ 1 = subst (λ (y : ℕ). bit_at (get_or s.words y 0) (bit_of t.plan.sectors q) ≡ 1) e m in
-            subst (λ (y : ℕ). bit_at (get_or ws y 0) (bit_of t.plan.sectors q) ≡ 1) (sym e) (bit_now (bit_of t.plan.sectors q) ∙ max_left _ _ (bit_at-lt old (bit_of t.plan.sectors q)) (bit_at-lt (2 ^ bit_of t.plan.sectors p) (bit_of t.plan.sectors q)) f))
+            subst (λ (y : ℕ). bit_at (get_or ws y 0) (bit_of t.plan.sectors q) ≡ 1) (sym e) (bit_now (bit_of t.plan.sectors q) ∙ bit_of_left _ _ (bit_at-lt old (bit_of t.plan.sectors q)) (bit_at-lt (2 ^ bit_of t.plan.sectors p) (bit_of t.plan.sectors q)) f))
             (λ e. ap (λ (y : ℕ). bit_at y (bit_of t.plan.sectors q)) (other_word (word_of t.plan.sectors q + 1) e) ∙ m)
 
         before : (q : ℕ × ℕ) → IsPair t.plan.sectors q → IsSet t.plan.sectors ws q → (p ≡ q) ⊎ IsSet t.plan.sectors s.words q
         before q fit m = dite (ℕ_discrete (word_of t.plan.sectors q + 1) k)
             (λ e. dite (ℕ_discrete (bit_of t.plan.sectors q) (bit_of t.plan.sectors p))
             (λ f. inl (same_pair t.plan.sectors p q pair fit (omega arith) (sym f)))
-            (λ n. let g = bit_now (bit_of t.plan.sectors q) ∙ max_none _ _ (bit_at-pow_other (bit_of t.plan.sectors p) (bit_of t.plan.sectors q) n) in
+            (λ n. let g = bit_now (bit_of t.plan.sectors q) ∙ bit_of_none _ _ (bit_at-pow_other (bit_of t.plan.sectors p) (bit_of t.plan.sectors q) n) in
             inr (subst (λ (y : ℕ). bit_at (get_or s.words y 0) (bit_of t.plan.sectors q) ≡ 1) (sym e) (sym g ∙ subst (λ (y : ℕ). bit_at (get_or ws y 0) (bit_of t.plan.sectors q) ≡ 1) e m))))
             (λ n. inr (ap (λ (y : ℕ). bit_at y (bit_of t.plan.sectors q)) (sym (other_word (word_of t.plan.sectors q + 1) n)) ∙ m))
 

@@ -17,8 +17,10 @@ use Rattle.sight_workers.specs.declared.view.SeatRole.TheVariants.{Keeper, Worke
 use Rattle.sight_workers.specs.Board.{Holds, IsPair, IsSet, number_of}
 use Rattle.sight_workers.specs.Plainly.{IsPlain}
 use Rattle.sight_workers.specs.Steps.{pair_of, IsClaimedBy, IsKept, ShowsWorker, Shows}
-use Rattle.sight_workers.proofs.Lists.{at_length, by_bool, contains_append, contains_cons, contains_here, contains_left, contains_none, contains_right, contains_there, some_at}
+use Rattle.sight_workers.proofs.Lists.{at_length, some_at}
 use Rattle.sight_workers.proofs.Plainly.{plainly}
+use Rattle.list_base.proofs.Lists.{contains_append, contains_right, contains_left, contains_cons, contains_none, contains_there, contains_here}
+use Rattle.list_base.proofs.Bools.{by_value}
 
 pub contains_map : (xs : List (ℕ × ℕ)) (p : ℕ × ℕ) → Contains xs p → Contains (map pair_of xs) (pair_of p)
 contains_map [] p h = absurd (contains_none p h)
@@ -68,7 +70,7 @@ module _ (t : Task) (s : State (Unit {0}) View) (c : machine.State) (r : Holds t
   active seat worker v at is =
       let a = plain.below seat v worker at is in let b = plain.made in let d = h.many in
       let w = there c.workers worker (omega arith) in
-      (w.0, w.1, by_bool w.0.ended (λ e. absurd (not_joined seat worker v plain.kept at is kept (((h.workers worker w.0 w.1).ended plain.kept kept).0 e))) (λ e. e))
+      (w.0, w.1, by_value w.0.ended (λ e. absurd (not_joined seat worker v plain.kept at is kept (((h.workers worker w.0 w.1).ended plain.kept kept).0 e))) (λ e. e))
 
   -- a step of the seat, after which its view is u and has some claims more
   module _ (seat worker : ℕ) (v u : View) (at : get_elem? s.views seat ≡ some v) (is : v.role ≡ Worker worker) (same : u.role ≡ v.role)

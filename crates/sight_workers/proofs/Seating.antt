@@ -22,9 +22,10 @@ use Rattle.sight_workers.specs.declared.view.SeatRole.TheVariants.{Keeper, Worke
 use Rattle.sight_workers.specs.Board.{Holds, bit_of, keeper_of, numbers_of, spent, word_count, word_of}
 use Rattle.sight_workers.specs.Plays.{keeper_joined, keeper_with_more, new_worker}
 use Rattle.sight_workers.specs.Steps.{AreFindable, Follows, IsClaimedBy, IsJoinedMark, IsKept, IsSeatAt, Shows, ShowsWorker, pair_of}
-use Rattle.sight_workers.proofs.Lists.{at_length, at_snoc_at, contains_append, contains_here, contains_left, contains_none, contains_one, contains_right, some_at}
+use Rattle.sight_workers.proofs.Lists.{at_length, at_snoc_at, some_at}
 use Rattle.sight_workers.proofs.Machines.{active, clash, contains_map, contains_unmap, not_joined, plain, same_worker}
 use Rattle.sight_workers.proofs.Places.{word_inside}
+use Rattle.list_base.proofs.Lists.{contains_append, contains_right, contains_left, contains_one, contains_none, contains_here}
 
 module _ (t : Task) (s : State (Unit {0}) View) (c : machine.State) (r : Holds t s) (h : Shows t s c) where
   -- the board's own seat is the only one of its kind

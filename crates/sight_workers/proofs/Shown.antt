@@ -9,8 +9,12 @@ use lib.ListN.{get_elem?}
 use Rattle.sight_workers.specs.declared.view.View.{View}
 use Rattle.sight_workers.specs.Board.{IsFindable, IsMarked, IsPair, IsSet, bit_of, claims_of, once_below, weigh, word_of}
 use Rattle.sight_workers.specs.Shown.{IsClaimed, WordsShowViews}
-use Rattle.sight_workers.proofs.Lists.{by_bool, claim_below, contains_here, contains_there}
+use Rattle.sight_workers.proofs.Lists.{claim_below}
 use Rattle.sight_workers.proofs.Places.{same_pair, word_inside}
+use Rattle.list_base.proofs.Numbers.{is_told_same}
+use Rattle.list_base.proofs.Lists.{contains_there, contains_here}
+use Rattle.list_base.proofs.Bools.{by_value}
+use Rattle.sight_workers.proofs.Ends.{one_below}
 
 -- where a sum is not 0, some summand is not
 weigh_some : {X : Type 0} (f : X → ℕ) (xs : List X) → weigh f xs ≢ 0 → (i : ℕ) × (x : X) × (get_elem? xs i ≡ some x) × (f x ≢ 0)
@@ -19,18 +23,12 @@ weigh_some f (x ∷ xs) h = dite (ℕ_discrete (f x) 0) (λ z. let r = weigh_som
 
 claim_some : (x : ℕ) (cs : List (ℕ × ℕ)) → claims_of x cs ≢ 0 → (w : ℕ) × Contains cs (w, x)
 claim_some x [] h = absurd (h refl)
-claim_some x (c ∷ cs) h = by_bool (eqb c.1 x)
-    (λ e. (c.0, subst (λ (y : ℕ). Contains (c ∷ cs) (c.0, y)) (same c.1 x e) (contains_here c cs)))
+claim_some x (c ∷ cs) h = by_value (eqb c.1 x)
+    (λ e. (c.0, subst (λ (y : ℕ). Contains (c ∷ cs) (c.0, y)) (is_told_same c.1 x e) (contains_here c cs)))
     (λ e. let f : cond {A = ℕ} (eqb c.1 x) 1 0 ≡ 0 = ap (λ (q : Bool). cond {A = ℕ} q 1 0) e in let r = claim_some x cs (λ z. h (omega arith)) in (r.0, contains_there (r.0, x) c cs r.1))
-  where
-    same : (a b : ℕ) → eqb a b ≡ true → a ≡ b
-    same a b e = grind (arith, nat_tests)
 
 one_below : (x n : ℕ) → x < n → once_below x n ≢ 0
-one_below x n h = let e : once_below x n ≡ 1 = is_one x n h in λ z. absurd (omega arith)
-  where
-    is_one : (x n : ℕ) → x < n → once_below x n ≡ 1
-    is_one x n h = grind (arith, nat_tests)
+one_below x n h = let e : once_below x n ≡ 1 = one_below x n h in λ z. absurd (omega arith)
 
 at_most_one : (x n : ℕ) → once_below x n ≤ 1
 at_most_one x n = grind (arith, nat_tests)

@@ -16,8 +16,8 @@ use Rattle.sight_workers.specs.Watches.{IsLookOnly}
 use Rattle.sight_workers.specs.declared.job.Job.{Job}
 use Rattle.sight_workers.specs.Board.{IsPair, IsFindable, IsFoundWithin, task_for}
 use Rattle.sight_workers.specs.Walks.{IsMarkedBy, IsWalked}
-use Rattle.sight_workers.proofs.Lists.{contains_left, contains_append, contains_one}
 use Rattle.sight_workers.proofs.Watches.{ordered_pair}
+use Rattle.list_base.proofs.Lists.{contains_map, contains_append, contains_left, contains_one}
 
 -- the pair of a source and another sector that is found from it may be marked
 pub found_pair : (t : Task) (a b : ℕ) → a < t.plan.sectors → b ≢ a → b < t.plan.sectors → IsFoundWithin t a b → IsPair t.plan.sectors (ordered a b) × IsFindable t (ordered a b)
@@ -50,9 +50,6 @@ map_at h [] x k lt e = absurd (omega arith)
 map_at h (y ∷ xs) x zero lt e = (0, omega arith, ap h e)
 map_at h (y ∷ xs) x (suc k) lt e = let q = map_at h xs x k (omega arith) e in (suc q.0, (let w = q.1 in omega arith), q.2)
 
-pub has_map : {X Y : Type 0} (h : X → Y) (xs : List X) (x : X) → Contains xs x → Contains (map h xs) (h x)
-has_map h xs x c = map_at h xs x c.0 c.1 c.2
-
 from_map_at : {X Y : Type 0} (h : X → Y) (xs : List X) (y : Y) (k : ℕ) → k < length (map h xs) → get_or (map h xs) k y ≡ y → (x : X) × Contains xs x × (h x ≡ y)
 from_map_at h [] y k lt e = absurd (omega arith)
 from_map_at h (x ∷ xs) y zero lt e = (x, (0, omega arith, refl), e)
@@ -64,7 +61,7 @@ from_map h xs y c = from_map_at h xs y c.0 c.1 c.2
 pub marked_one : (source : ℕ) (r : Reached) (found : List Reached) (xs : List (ℕ × ℕ)) → Contains found r → IsMarkedBy source found xs (xs ++ ordered source r.to ∷ [])
 marked_one source r found xs h = (
   (λ p k. contains_left p xs (ordered source r.to ∷ []) k),
-  (λ p k. ⊎_elim (λ a. inl a) (λ b. inr (subst (λ (q : ℕ × ℕ). Contains (map (λ (s : Reached). ordered source s.to) found) q) (contains_one p (ordered source r.to) b) (has_map (λ (s : Reached). ordered source s.to) found r h))) (contains_append p xs (ordered source r.to ∷ []) k)),
+  (λ p k. ⊎_elim (λ a. inl a) (λ b. inr (subst (λ (q : ℕ × ℕ). Contains (map (λ (s : Reached). ordered source s.to) found) q) (contains_one p (ordered source r.to) b) (contains_map (λ (s : Reached). ordered source s.to) found r h))) (contains_append p xs (ordered source r.to ∷ []) k)),
 )
 
 abbrev pub spare : Reached

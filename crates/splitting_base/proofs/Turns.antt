@@ -7,6 +7,7 @@ use Rattle.exact_ring.proofs.Quoting.{quoting, by_ring}
 use Rattle.exact_ring.proofs.Signs.{mul-pos, mul-nonneg, pos-of-mul, nonneg-of-mul, zero-of-mul, mul-le, le-of-mul, sign_cases, le_or_lt, square-nonneg}
 use Rattle.exact_ring.proofs.MoreSigns.{sum-pos}
 use Rattle.splitting_base.specs.Arrows.{Arrow, cross, dot, IsOnRay, IsBetween}
+use Rattle.exact_ring.proofs.Small.{zero_by_second, zero_by_first, zero_of_square}
 
 pub turned : (u v : Arrow) → cross v u ≡ neg_ℤ (cross u v)
 unfolding cross
@@ -38,18 +39,9 @@ pub dot_nonneg : (d : Arrow) → pos 0 ≤ℤ dot d d
 unfolding dot
 dot_nonneg d = let a = square-nonneg d.x in let b = square-nonneg d.y in omega (arith, ints)
 
--- a number whose square is 0
-root : (a : ℤ) → a *ℤ a ≡ pos 0 → a ≡ pos 0
-root a e = elim (sign_cases a) as (λ _. a ≡ pos 0) [
-  | inl n ↦ let m = mul-pos (neg_ℤ a) (neg_ℤ a) (omega (arith, ints, n)) (omega (arith, ints, n)) in
-      let i : neg_ℤ a *ℤ neg_ℤ a ≡ a *ℤ a = by_ring (a ∷ []) _ _ (search quoting depth 40 fits 100000) (search quoting depth 40 fits 100000) tt in
-      absurd (omega (arith, ints, m, i, e))
-  | inr k ↦ elim k as (λ _. a ≡ pos 0) [ inl z ↦ z | inr p ↦ zero-of-mul a a p e ]
-]
-
 pub no_length : (d : Arrow) → dot d d ≤ℤ pos 0 → (d.x ≡ pos 0) × (d.y ≡ pos 0)
 unfolding dot
-no_length d h = let a = square-nonneg d.x in let b = square-nonneg d.y in (root d.x (omega (arith, ints)), root d.y (omega (arith, ints)))
+no_length d h = let a = square-nonneg d.x in let b = square-nonneg d.y in (zero_of_square d.x (omega (arith, ints)), zero_of_square d.y (omega (arith, ints)))
 
 at_zero : (d g : Arrow) → g.x ≡ pos 0 → g.y ≡ pos 0 → (cross d g ≡ pos 0) × (dot d g ≡ pos 0)
 unfolding cross dot
@@ -74,11 +66,6 @@ long_of_dot d g n = elim (le_or_lt (dot g g) (pos 0)) as (λ _. pos 0 <ℤ dot g
 ]
 
 -- ---- products with a factor 0
-pub zero_first : (a b : ℤ) → a ≡ pos 0 → a *ℤ b ≡ pos 0
-zero_first a b e = ap (λ (t : ℤ). t *ℤ b) e ∙ zero-*ℤ b
-
-pub zero_last : (a b : ℤ) → b ≡ pos 0 → a *ℤ b ≡ pos 0
-zero_last a b e = ap (λ (t : ℤ). a *ℤ t) e ∙ *ℤ-zero a
 
 above : (a b : ℤ) → pos 0 <ℤ a → a ≤ℤ b → pos 0 <ℤ b
 above a b h k = omega (arith, ints)
@@ -88,7 +75,7 @@ pub ray_to_left : (d g e : Arrow) → pos 0 <ℤ dot d d → pos 0 <ℤ cross d 
 ray_to_left d g e hd h a =
     let ahead = above (dot d d) (dot d e) hd a.far in
     let s = split_along d e g in
-    let z = zero_first (cross d e) (dot d g) a.level in
+    let z = zero_by_first (cross d e) (dot d g) a.level in
     let m = mul-pos (dot d e) (cross d g) ahead h in
     let k : pos 0 <ℤ cross e g = pos-of-mul (dot d d) (cross e g) hd (omega (arith, ints)) in
     let l = a.level in
@@ -98,7 +85,7 @@ pub ray_to_right : (d g e : Arrow) → pos 0 <ℤ dot d d → cross d g <ℤ pos
 ray_to_right d g e hd h a =
     let ahead = above (dot d d) (dot d e) hd a.far in
     let s = split_along d g e in
-    let z = zero_last (dot d g) (cross d e) a.level in
+    let z = zero_by_second (dot d g) (cross d e) a.level in
     let n = neg-*ℤ (cross d g) (dot d e) in
     let m = mul-pos (neg_ℤ (cross d g)) (dot d e) (omega (arith, ints)) ahead in
     let k : pos 0 <ℤ cross g e = pos-of-mul (dot d d) (cross g e) hd (omega (arith, ints)) in
@@ -109,12 +96,12 @@ ray_to_right d g e hd h a =
 pub ray_to_nearer : (d g e : Arrow) → pos 0 <ℤ dot d d → cross d g ≡ pos 0 → pos 0 <ℤ dot d g → dot d g ≤ℤ dot d d → IsOnRay d e → IsOnRay g e
 ray_to_nearer d g e hd c h n a =
     let s = split_along d g e in
-    let z1 = zero_last (dot d g) (cross d e) a.level in
-    let z2 = zero_first (cross d g) (dot d e) c in
+    let z1 = zero_by_second (dot d g) (cross d e) a.level in
+    let z2 = zero_by_first (cross d g) (dot d e) c in
     let u = dot_along d g e in
     let v = dot_along d g g in
-    let z3 = zero_first (cross d g) (cross d e) c in
-    let z4 = zero_first (cross d g) (cross d g) c in
+    let z3 = zero_by_first (cross d g) (cross d e) c in
+    let z4 = zero_by_first (cross d g) (cross d g) c in
     let far = a.far in
     let m = mul-le (dot d g) (dot d g) (dot d e) (omega (arith, ints)) (omega (arith, ints)) in
     record { level = zero-of-mul (dot d d) (cross g e) hd (omega (arith, ints)); far = le-of-mul (dot d d) (dot g g) (dot g e) hd (omega (arith, ints)) }
@@ -131,8 +118,8 @@ proper d f e hd hD b = elim (le_or_lt (cross d e) (pos 0)) as (λ _. pos 0 <ℤ 
         let u : cross d e ≡ pos 0 = omega (arith, ints) in
         let v : cross e f ≡ pos 0 = omega (arith, ints) in
         let s = split_along d e f in
-        let z1 = zero_last (dot d d) (cross e f) v in
-        let z2 = zero_first (cross d e) (dot d f) u in
+        let z1 = zero_by_second (dot d d) (cross e f) v in
+        let z2 = zero_by_first (cross d e) (dot d f) u in
         let w : dot d e ≡ pos 0 = zero-of-mul (cross d f) (dot d e) hD (let c = *ℤ_comm (cross d f) (dot d e) in omega (arith, ints)) in
         let far = b.far_after u in
         absurd (omega (arith, ints))
@@ -153,11 +140,11 @@ nearer_second d f g e hf hD h1 c n b =
     let t = turned g f in
     let c' : cross f g ≡ pos 0 = omega (arith, ints) in
     let s = split_by d f e g in
-    let z1 = zero_last (cross d e) (cross f g) c' in
+    let z1 = zero_by_second (cross d e) (cross f g) c' in
     let m1 = mul-nonneg (cross e f) (cross d g) b.before (omega (arith, ints)) in
     -- g has the direction of f
     let r = split_along f d g in
-    let z2 = zero_last (dot f d) (cross f g) c' in
+    let z2 = zero_by_second (dot f d) (cross f g) c' in
     let td = turned d f in
     let nn = neg-*ℤ (cross d f) (dot f g) in
     let e0 : cross f d *ℤ dot f g ≡ neg_ℤ (cross d f *ℤ dot f g) = ap (λ (t : ℤ). t *ℤ dot f g) td ∙ nn in
@@ -169,12 +156,12 @@ nearer_second d f g e hf hD h1 c n b =
       before = k;
       far_after = b.far_after;
       far_before = λ w.
-          let z3 = zero_last (cross d f) (cross e g) w in
+          let z3 = zero_by_second (cross d f) (cross e g) w in
           let y : cross e f ≡ pos 0 = zero-of-mul (cross d g) (cross e f) h1 (let k = *ℤ_comm (cross d g) (cross e f) in omega (arith, ints)) in
           let far = b.far_before y in
           nearer (dot f f) (dot f g) (dot f e) (dot g g) (dot g e) hf ahead (omega (arith, ints))
-          (dot_along f g g ∙ drop (dot f g *ℤ dot f g) (cross f g *ℤ cross f g) (zero_first (cross f g) (cross f g) c'))
-          (dot_along f g e ∙ drop (dot f g *ℤ dot f e) (cross f g *ℤ cross f e) (zero_first (cross f g) (cross f e) c'));
+          (dot_along f g g ∙ drop (dot f g *ℤ dot f g) (cross f g *ℤ cross f g) (zero_by_first (cross f g) (cross f g) c'))
+          (dot_along f g e ∙ drop (dot f g *ℤ dot f e) (cross f g *ℤ cross f e) (zero_by_first (cross f g) (cross f e) c'));
     }
   where
     drop : (a z : ℤ) → z ≡ pos 0 → a +ℤ z ≡ a
@@ -250,7 +237,7 @@ unfolding cross dot
 opposite_ring_y d g = by_ring (d.x ∷ d.y ∷ g.x ∷ g.y ∷ []) _ _ (search quoting depth 40 fits 100000) (search quoting depth 40 fits 100000) tt
 
 pub opposite_x : (d g : Arrow) → cross d g ≡ pos 0 → neg_ℤ (dot d g) *ℤ d.x +ℤ (pos 0 *ℤ d.x +ℤ (dot d d *ℤ g.x +ℤ pos 0)) ≡ pos 0
-opposite_x d g c = opposite_ring_x d g ∙ zero_first (cross d g) (neg_ℤ d.y) c
+opposite_x d g c = opposite_ring_x d g ∙ zero_by_first (cross d g) (neg_ℤ d.y) c
 
 pub opposite_y : (d g : Arrow) → cross d g ≡ pos 0 → neg_ℤ (dot d g) *ℤ d.y +ℤ (pos 0 *ℤ d.y +ℤ (dot d d *ℤ g.y +ℤ pos 0)) ≡ pos 0
-opposite_y d g c = opposite_ring_y d g ∙ zero_first (cross d g) d.x c
+opposite_y d g c = opposite_ring_y d g ∙ zero_by_first (cross d g) d.x c

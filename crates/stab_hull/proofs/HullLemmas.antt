@@ -9,9 +9,10 @@ use Rattle.sight_names.specs.Splitting.{EndPoints, IsPairOf, end_of}
 use Rattle.extreme_lines.specs.declared.cone.Cone.{Cone}
 use Rattle.extreme_lines.specs.Differences.{difference}
 use Rattle.extreme_lines.specs.Spans.{Spans, first_of, second_of, pair_of}
-use Rattle.extreme_lines.proofs.EndsLemmas.{get_append, get_last, get_cases, end_of_more, left_end, right_end}
+use Rattle.extreme_lines.proofs.EndsLemmas.{get_append, get_cases, end_of_more, left_end, right_end}
 use Rattle.stab_hull.specs.Portals.{with_ends, IsConeOf, ShowsNoLine}
 use Rattle.stab_hull.specs.Stacks.{HasPoint, IsPairAmong, AreStuckAmong, IsConeOfEnds, IsTopCone, IsAdded, IsLeftEnd, IsRightEnd, IsHullOf}
+use Rattle.list_base.proofs.Lists.{get_pushed}
 
 abbrev pub AreLeftEnds : List EndPoints → List EndAt → Type 0
 AreLeftEnds es ends = (m : ℕ) (e : EndAt) → slice_get ends m ≡ Some e → IsLeftEnd es e
@@ -23,7 +24,7 @@ has_more : (xs ys : List EndAt) (p : Pt) → HasPoint xs p → HasPoint (xs ++ y
 has_more xs ys p h = (h.0, h.1, get_append xs ys h.0 h.1 h.2, h.3)
 
 has_last : (xs : List EndAt) (e : EndAt) → HasPoint (xs ++ e ∷ []) e.at
-has_last xs e = (length xs, e, get_last xs e, refl)
+has_last xs e = (length xs, e, get_pushed xs e, refl)
 
 added_old : (xs ys : List EndAt) (e : EndAt) (p : Pt) → IsAdded xs e ys → HasPoint xs p → HasPoint ys p
 added_old xs ys e p (inl a) h = subst (λ (zs : List EndAt). HasPoint zs p) (sym a) (has_more xs (e ∷ []) p h)
@@ -37,13 +38,13 @@ module _ (es : List EndPoints) (left right : EndAt) where
   new_left : left.code ≡ length es → length es < 32768 → IsLeftEnd (with_ends es left right) left
   new_left lc few = record {
     code = omega (arith, lc, few);
-    end = ap (λ (k : ℕ). end_of (with_ends es left right) k) lc ∙ left_end (with_ends es left right) (length es) (record { left = left.at; right = right.at }) few (get_last es (record { left = left.at; right = right.at })) ∙ ap (λ (k : ℕ). Some (let v : EndAt = record { code = k; at = left.at } in v)) (sym lc);
+    end = ap (λ (k : ℕ). end_of (with_ends es left right) k) lc ∙ left_end (with_ends es left right) (length es) (record { left = left.at; right = right.at }) few (get_pushed es (record { left = left.at; right = right.at })) ∙ ap (λ (k : ℕ). Some (let v : EndAt = record { code = k; at = left.at } in v)) (sym lc);
   }
 
   new_right : right.code ≡ length es + 32768 → IsRightEnd (with_ends es left right) right
   new_right rc = let rc' : right.code ≡ 32768 + length es = omega (arith, rc) in record {
     code = omega (arith, rc);
-    end = ap (λ (k : ℕ). end_of (with_ends es left right) k) rc' ∙ right_end (with_ends es left right) (length es) (record { left = left.at; right = right.at }) (get_last es (record { left = left.at; right = right.at })) ∙ ap (λ (k : ℕ). Some (let v : EndAt = record { code = k; at = right.at } in v)) (sym rc');
+    end = ap (λ (k : ℕ). end_of (with_ends es left right) k) rc' ∙ right_end (with_ends es left right) (length es) (record { left = left.at; right = right.at }) (get_pushed es (record { left = left.at; right = right.at })) ∙ ap (λ (k : ℕ). Some (let v : EndAt = record { code = k; at = right.at } in v)) (sym rc');
   }
 
   left_longer : (e : EndAt) → IsLeftEnd es e → IsLeftEnd (with_ends es left right) e

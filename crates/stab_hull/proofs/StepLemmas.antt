@@ -16,8 +16,9 @@ use Rattle.extreme_lines.specs.declared.cone.Cone.TheVariants.{Ray}
 use Rattle.extreme_lines.specs.Differences.{difference}
 use Rattle.extreme_lines.specs.Spans.{arrow_of, Spans, first_of, second_of, pair_of, IsWidened, three_pairs}
 use Rattle.extreme_lines.proofs.Widening.{made_arrow, stays}
-use Rattle.extreme_lines.proofs.EndsLemmas.{get_append, get_last, get_cases}
+use Rattle.extreme_lines.proofs.EndsLemmas.{get_append, get_cases}
 use Rattle.stab_hull.specs.Stacks.{IsAmong, IsPairAmong, SpansEnds, IsOfEnds, IsConeOfEnds, AreStuckAmong, IsTopCone, IsAdded}
+use Rattle.list_base.proofs.Lists.{get_pushed}
 
 -- the cone has the differences of this left end and the first right ends
 abbrev pub HasFirstRights : List EndAt → EndAt → ℕ → Cone → Type 0
@@ -43,7 +44,7 @@ pub among_more : (xs ys : List EndAt) (e : EndAt) → IsAmong xs e → IsAmong (
 among_more xs ys e h = (h.0, get_append xs ys h.0 e h.1)
 
 pub among_last : (xs : List EndAt) (e : EndAt) → IsAmong (xs ++ e ∷ []) e
-among_last xs e = (length xs, get_last xs e)
+among_last xs e = (length xs, get_pushed xs e)
 
 chosen : (L R : List EndAt) (old new made : EndPair) → (new ≡ old) ⊎ (new ≡ made) → IsPairAmong L R old → IsPairAmong L R made → IsPairAmong L R new
 chosen L R old new made (inl e) h k = subst (IsPairAmong L R) (sym e) h
@@ -184,7 +185,7 @@ top_next L R C C' d e k = subst (IsTopCone L R) (sym e) (d, last, k)
     one_more (x ∷ xs) = let h = one_more xs in omega (arith, h)
 
     last : slice_get (C ++ d ∷ []) (length (C ++ d ∷ []) - 1) ≡ Some d
-    last = ap (λ (m : ℕ). slice_get (C ++ d ∷ []) m) (let h = one_more C in omega (arith, h)) ∙ get_last C d
+    last = ap (λ (m : ℕ). slice_get (C ++ d ∷ []) m) (let h = one_more C in omega (arith, h)) ∙ get_pushed C d
 
 pub top_moved : (L R L' R' : List EndAt) (C C' : List Cone) → L' ≡ L → R' ≡ R → C' ≡ C → IsTopCone L R C → IsTopCone L' R' C'
 top_moved L R L' R' C C' a b c h = subst (λ (x : List EndAt). IsTopCone x R' C') (sym a) (subst (λ (x : List EndAt). IsTopCone L x C') (sym b) (subst (λ (x : List Cone). IsTopCone L R x) (sym c) h))

@@ -20,6 +20,7 @@ use Rattle.stretch_base.proofs.Passes.{IsEntered, Passage}
 use Rattle.stretch_base.proofs.Stretches.{Crosses, in_order, met_on_stretch}
 use Rattle.mesh_base.proofs.CleanMesh.{tri, IsTurnedTo, turned_to_third, turned_below, turned_turn, turned_clean}
 use Rattle.mesh_base.proofs.Joined.{whole}
+use Rattle.sight_names.proofs.Records.{same_edge}
 
 -- ---- crossed edges
 
@@ -76,12 +77,9 @@ module _ (m : Map) (facts : PointFacts m) (ts : List Triangle) (plain : IsPlainM
       number_is : (p : Pt) (k : ℕ) → k < length (points_of m) → pv m k ≡ whole p → number_of m p ≡ k
       number_is p k h e = ap (number_of m) (sym (pt_of_vec (place m k) p e)) ∙ facts.number k h
 
-      edges : {x y u v : ℕ} → x ≡ u → y ≡ v → ◌≡◌ {A = Edge} (record { from = x; to = y }) (record { from = u; to = v })
-      edges e f = λ i. record { from = e i; to = f i }
-
       by : SameSegment a b (whole l.first) (whole l.second) → IsSolidLine m g.q
-      by (inl (e, f)) = (i, l, true, is, solid, edges (number_is l.first g.q.left below.0 (sym g.first ∙ e)) (number_is l.second g.q.right below.1 (sym g.second ∙ f)))
-      by (inr (e, f)) = (i, l, false, is, solid, edges (number_is l.second g.q.left below.0 (sym g.first ∙ e)) (number_is l.first g.q.right below.1 (sym g.second ∙ f)))
+      by (inl (e, f)) = (i, l, true, is, solid, same_edge (number_is l.first g.q.left below.0 (sym g.first ∙ e)) (number_is l.second g.q.right below.1 (sym g.second ∙ f)))
+      by (inr (e, f)) = (i, l, false, is, solid, same_edge (number_is l.second g.q.left below.0 (sym g.first ∙ e)) (number_is l.first g.q.right below.1 (sym g.second ∙ f)))
 
   crosses : (l : MapLine) (b : Bool) (p : Point) → SplitsLine r l b → IsCrossing r l p → Crosses r (left_end l b) (right_end l b) p
   crosses l true p h c = record { parts = record { left = h.0; right = h.1 }; on = c.0; zero = c.1 }

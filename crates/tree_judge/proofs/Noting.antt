@@ -2,9 +2,9 @@
 use Rattle.std.proofs.Common.{◌≡◌, ℕ, ◌<◌, ◌⊎◌, inl, inr, List, [], ◌++◌, length, take, Contains, refl, sym, ◌∙◌, subst}
 use Rattle.std.proofs.Math.Seq.{take-append_seam}
 use Rattle.std.proofs.lemmas.List.Elements.{Contains-append_left, Contains-append_right, Contains-append_cases}
-use Rattle.sight_names.proofs.Lists.{contains_none}
 use Rattle.reject_bits.specs.Parts.{TableParts, Rejects}
 use Rattle.tree_judge.specs.Whole.{Notes}
+use Rattle.list_base.proofs.Lists.{contains_none}
 
 pub notes_none : (source : ℕ) (t : TableParts) → Notes source [] t t
 notes_none source t = record { size = refl; bits = λ a b h k. (λ s. inl s, λ s. only a b s) }

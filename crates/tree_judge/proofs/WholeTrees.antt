@@ -3,7 +3,6 @@ use Rattle.std.proofs.Common.{◌≡◌, ◌≢◌, ℕ, zero, suc, ◌+◌, ◌
 use Rattle.std.specs.List.{slice_get, last_or, filter, filter_map, cons_option, AllByRecursion}
 use Rattle.std.specs.Prelude.{option_and_then, option_map}
 use Rattle.std.proofs.lemmas.List.{append_assoc, length-append, map-append}
-use Rattle.sight_names.proofs.Lists.{contains_none}
 use Rattle.sight_names.specs.declared.names.Side.{Side}
 use Rattle.sight_names.specs.declared.names.Triangle.{Triangle}
 use Rattle.sight_names.specs.Plan.{PlanParts}
@@ -25,6 +24,7 @@ use Rattle.tree_judge.specs.Path.{Pending, pending_way, root_pending}
 use Rattle.tree_judge.specs.Whole.{ends_through, ways_through, Answers, AreAnswered}
 use Rattle.tree_judge.proofs.Meshed.{Enters, IsInner, IsAsked, asked, not_asked, no_node_unasked, node_asked, left_inner, right_inner, passable}
 use Rattle.tree_judge.proofs.Chains.{root_test}
+use Rattle.list_base.proofs.Lists.{contains_none}
 
 last_is : (q : Portal) (ps : List Portal) (o : Option Portal) → last_or o (ps ++ q ∷ []) ≡ Some q
 last_is q [] o = refl

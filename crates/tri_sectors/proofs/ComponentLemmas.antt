@@ -10,6 +10,8 @@ use Rattle.sight_names.proofs.PlanMap.{line_of_plan}
 use Rattle.mesh_shape.proofs.RuleLemmas.{plan_line_at}
 use Rattle.tri_sectors.specs.Classes.{AreLeast, AreMerged, AreSingles, class_of}
 use Rattle.tri_sectors.specs.Components.{AreComponents, IsDoor, Connects}
+use Rattle.list_base.proofs.Numbers.{below_or_last}
+use Rattle.sight_names.proofs.Records.{none_is_no_line}
 
 -- ---- one line
 
@@ -86,28 +88,19 @@ begun p cs s named = record {
 }
 
 joined_more : (p : PlanParts) → IsPlan p → (n : ℕ) (line : Line) (old new : List ℕ) → slice_get p.lines n ≡ Some (Some line) → length old ≡ p.sectors → AreJoined p n old → Connects line old new → AreJoined p (n + 1) new
-joined_more p is n line old new at len h c i a b l lt there door = elim (cases i n lt) as (λ _. class_of new a ≡ class_of new b) [
+joined_more p is n line old new at len h c i a b l lt there door = elim (below_or_last i n lt) as (λ _. class_of new a ≡ class_of new b) [
   | inl less ↦ let w = door_below p is i l a b there door in let w0 = w.0 in let w1 = w.1 in c.keeps a b (omega (arith, len, w0)) (omega (arith, len, w1)) (h i a b l less there door)
   | inr same ↦ c.joins a b (subst (λ (x : Line). IsDoor x a b) (some_line l line (sym there ∙ ap (slice_get p.lines) same ∙ at)) door)
 ]
   where
-    cases : (i n : ℕ) → i < n + 1 → (i < n) ⊎ (i ≡ n)
-    cases i n h = grind arith
-
     some_line : (l k : Line) → ◌≡◌ {A = Option (Option Line)} (Some (Some l)) (Some (Some k)) → l ≡ k
     some_line l k e = cc
 
 joined_past : (p : PlanParts) (n : ℕ) (cs : List ℕ) → slice_get p.lines n ≡ Some None → AreJoined p n cs → AreJoined p (n + 1) cs
-joined_past p n cs at h i a b l lt there door = elim (cases i n lt) as (λ _. class_of cs a ≡ class_of cs b) [
+joined_past p n cs at h i a b l lt there door = elim (below_or_last i n lt) as (λ _. class_of cs a ≡ class_of cs b) [
   | inl less ↦ h i a b l less there door
-  | inr same ↦ absurd (none l (sym at ∙ ap (slice_get p.lines) (sym same) ∙ there))
+  | inr same ↦ absurd (none_is_no_line l (sym at ∙ ap (slice_get p.lines) (sym same) ∙ there))
 ]
-  where
-    cases : (i n : ℕ) → i < n + 1 → (i < n) ⊎ (i ≡ n)
-    cases i n h = grind arith
-
-    none : (l : Line) → ◌≡◌ {A = Option (Option Line)} (Some None) (Some (Some l)) → ⊥
-    none l e = cc
 
 only_more : (p : PlanParts) → IsPlan p → (n : ℕ) (line : Line) (old new : List ℕ) → slice_get p.lines n ≡ Some (Some line) → length old ≡ p.sectors → OnlyConnected p old → Connects line old new → OnlyConnected p new
 only_more p is n line old new at len h c k j hk hj e = elim (c.only k j (omega (arith, len, hk)) (omega (arith, len, hj)) e) as (λ _. AreConnected (map_of p) k j) [

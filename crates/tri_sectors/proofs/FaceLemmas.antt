@@ -16,6 +16,8 @@ use Rattle.mesh_shape.proofs.RuleLemmas.{edge_cases, found_here, plan_line_at, n
 use Rattle.tri_sectors.specs.declared.faces.Walls.{Walls}
 use Rattle.tri_sectors.specs.Classes.{AreLeast, AreMerged, AreSingles, class_of}
 use Rattle.tri_sectors.specs.Faces.{edge_pq, edge_qr, edge_rp, HasMarks, AreMarked, AreWalls, IsWallBefore, IsMarkedMore, IsPutHere, IsPutAt, IsPut, IsFreeEdge, IsLink, HasGap, HasGapHere, IsRow, AreLinked, AreFaces, IsCrossed, AreCrossed, AreOpen}
+use Rattle.list_base.proofs.Numbers.{below_or_last}
+use Rattle.list_base.proofs.Options.{one_value}
 
 abbrev pub any_walls : Walls
 any_walls = record { pq = false; qr = false; rp = false }
@@ -24,9 +26,6 @@ any_walls = record { pq = false; qr = false; rp = false }
 
 pub triangle_below : (ts : List Triangle) (e : Edge) (j : ℕ) → triangle_at ts e ≡ Some j → j < length ts
 triangle_below ts e j h = let f = found_here ts e j h in slice_get_within ts j f.0 f.1
-
-same_number : (o : Option ℕ) (j k : ℕ) → o ≡ Some j → o ≡ Some k → j ≡ k
-same_number o j k e f = cc
 
 put_nothing : (b : Bool) (ts : List Triangle) (e f : Edge) (k : ℕ) → ¬ (triangle_at ts e ≡ Some k) → IsTrue b ↔ IsPutHere ts e k b f
 put_nothing b ts e f k n = (λ h. inl h, λ w. elim w as (λ _. IsTrue b) [ inl h ↦ h | inr h ↦ absurd (n h.1) ])
@@ -58,7 +57,7 @@ put_some n ts e k old t w d0 are at len there m = record {
   len = length-set old k w;
   each = λ j u d here. elim (cases_eq j k) as (λ _. IsPutAt ts e j u (slice_index_or old j d) (slice_index_or (set old k w) j d)) [
     | inl same ↦ this j u d same here
-    | inr other ↦ subst (λ (x : Walls). IsPutAt ts e j u (slice_index_or old j d) x) (sym (get_or-set_other old k j w d other)) (put_at_none ts e j u (slice_index_or old j d) (λ s. other (same_number (triangle_at ts e) j k s at)))
+    | inr other ↦ subst (λ (x : Walls). IsPutAt ts e j u (slice_index_or old j d) x) (sym (get_or-set_other old k j w d other)) (put_at_none ts e j u (slice_index_or old j d) (λ s. other (one_value (triangle_at ts e) j k s at)))
   ];
 }
   where
@@ -87,9 +86,6 @@ put_some n ts e k old t w d0 are at len there m = record {
         (here_put (slice_index_or old k d) (subst (λ (x : Walls). IsMarkedMore t e.from x w) (any d) m))))
 
 -- ---- the loop over the lines
-
-below_next : (i n : ℕ) → i < n + 1 → (i < n) ⊎ (i ≡ n)
-below_next i n h = grind arith
 
 wall_later : (m : Map) (ts : List Triangle) (n k : ℕ) (e : Edge) → IsWallBefore m ts n k e → IsWallBefore m ts (n + 1) k e
 wall_later m ts n k e ((i, lt, h), at) = ((i, omega (arith, lt), h), at)
@@ -122,7 +118,7 @@ one_edge_more p is ts n k l at e b0 b1 b2 m0 m1 m2 = (
 )
   where
     back : IsWallBefore (map_of p) ts (n + 1) k e → IsTrue b2
-    back ((i, lt, h), there) = elim (below_next i n lt) as (λ _. IsTrue b2) [
+    back ((i, lt, h), there) = elim (below_or_last i n lt) as (λ _. IsTrue b2) [
       | inl less ↦ m2.1 (inl (m1.1 (inl (m0.1 ((i, less, h), there)))))
       | inr same ↦ elim (which_edge p is n l at e (subst (λ (j : ℕ). IsEdgeOf (map_of p) e j) same h)) as (λ _. IsTrue b2) [
         | inl s ↦ m2.1 (inl (m1.1 (inr (s, ap (triangle_at ts) (sym s) ∙ there))))
@@ -160,7 +156,7 @@ no_line_marked p ts n ws at h = changed_all _ _ ts ws (λ k e. (wall_later (map_
     no_line l e = none-some l (sym (no_line_there p n at) ∙ e)
 
     back : (k : ℕ) (e : Edge) → IsWallBefore (map_of p) ts (n + 1) k e → IsWallBefore (map_of p) ts n k e
-    back k e ((i, lt, h), there) = elim (below_next i n lt) as (λ _. IsWallBefore (map_of p) ts n k e) [
+    back k e ((i, lt, h), there) = elim (below_or_last i n lt) as (λ _. IsWallBefore (map_of p) ts n k e) [
       | inl less ↦ ((i, less, h), there)
       | inr same ↦ absurd (no_line h.0 (subst (λ (j : ℕ). line_at (map_of p) j ≡ Some h.0) same h.2))
     ]
@@ -215,7 +211,7 @@ merged_stage ts ws n e j old new hn at link len only m =
     let lj = triangle_below ts (reverse_of e) j at in record {
       len = m.len ∙ len;
       keeps = λ k i hk hi h. (m.exactly k i (omega (arith, len, hk)) (omega (arith, len, hi))).1 (inl h);
-      joins = λ i f there. (m.exactly n j (omega (arith, len, hn)) (omega (arith, len, lj))).1 (inr (inl (refl, refl))) ∙ ap (class_of new) (same_number (triangle_at ts (reverse_of e)) j i at there);
+      joins = λ i f there. (m.exactly n j (omega (arith, len, hn)) (omega (arith, len, lj))).1 (inr (inl (refl, refl))) ∙ ap (class_of new) (one_value (triangle_at ts (reverse_of e)) j i at there);
       only = λ k i hk hi h. elim ((m.exactly k i (omega (arith, len, hk)) (omega (arith, len, hi))).0 h) as (λ _. AreLinked ts ws k i) [
         | inl same ↦ only k i hk hi same
         | inr (inl both) ↦ linked_joined ts ws k n i (only k n hk hn both.0) (linked_joined ts ws n j i (one_link ts ws n j link) (only j i lj hi (sym both.1)))
@@ -240,7 +236,7 @@ triangle_linked ts ws n t w old new at marks h c named =
     let hn = slice_get_within ts n t at in record {
       len = s3.len;
       named = named;
-      linked = λ k j lt link. elim (below_next k n lt) as (λ _. class_of new k ≡ class_of new j) [
+      linked = λ k j lt link. elim (below_or_last k n lt) as (λ _. class_of new k ≡ class_of new j) [
         | inl less ↦ let hk = slice_get_within ts k link.t link.at in let hj = triangle_below ts (reverse_of link.e) j link.behind in
             s3.keeps k j hk hj (s2.keeps k j hk hj (s1.keeps k j hk hj (h.linked k j less link)))
         | inr same ↦ let hj = triangle_below ts (reverse_of link.e) j link.behind in
@@ -307,7 +303,7 @@ gap_opened ts ws fs n f os lt e hf g h =
       one_each = length-set os f true ∙ len;
       gap = λ k less hk gk. elim (cases_eq (class_of fs k) f) as (λ _. slice_index_or (set os f true) (class_of fs k) false ≡ true) [
         | inl same ↦ ap (λ (i : ℕ). slice_index_or (set os f true) i false) same ∙ get_or-set_same os f true false (omega (arith, len, hf))
-        | inr other ↦ get_or-set_other os f (class_of fs k) true false other ∙ h.gap k (elim (below_next k n less) as (λ _. k < n) [ inl l ↦ l | inr same ↦ absurd (other (ap (class_of fs) same ∙ sym e)) ]) hk gk
+        | inr other ↦ get_or-set_other os f (class_of fs k) true false other ∙ h.gap k (elim (below_or_last k n less) as (λ _. k < n) [ inl l ↦ l | inr same ↦ absurd (other (ap (class_of fs) same ∙ sym e)) ]) hk gk
       ];
       only = λ i o. elim (cases_eq i f) as (λ _. (k : ℕ) × (k < length ts) × (class_of fs k ≡ i) × HasGap ts ws k) [
         | inl same ↦ (n, lt, sym e ∙ sym same, g)
@@ -318,7 +314,7 @@ gap_opened ts ws fs n f os lt e hf g h =
 pub gap_passed : (ts : List Triangle) (ws : List Walls) (fs : List ℕ) (n : ℕ) (os : List Bool) → ¬ HasGap ts ws n → AreOpenBefore ts ws fs n os → AreOpenBefore ts ws fs (n + 1) os
 gap_passed ts ws fs n os none h = record {
   one_each = h.one_each;
-  gap = λ k less hk gk. elim (below_next k n less) as (λ _. slice_index_or os (class_of fs k) false ≡ true) [ inl l ↦ h.gap k l hk gk | inr same ↦ absurd (none (subst (HasGap ts ws) same gk)) ];
+  gap = λ k less hk gk. elim (below_or_last k n less) as (λ _. slice_index_or os (class_of fs k) false ≡ true) [ inl l ↦ h.gap k l hk gk | inr same ↦ absurd (none (subst (HasGap ts ws) same gk)) ];
   only = h.only;
 }
 

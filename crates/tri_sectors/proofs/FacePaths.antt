@@ -12,7 +12,7 @@ use Rattle.sight_names.specs.Path.{MissesAll, OnNoLine, OnLine, IsPath, Leads}
 use Rattle.sight_names.specs.Points.{Edge, points_of, place, number_of}
 use Rattle.sight_names.specs.Sound.{IsOutside}
 use Rattle.sight_names.proofs.Laws.{same_point_refl, same_point_sym}
-use Rattle.plane_base.proofs.Vec.{V, Lin, at, edge, det, IsComb, On, value, det-first, det-last, det-cycle}
+use Rattle.plane_base.proofs.Vec.{V, Lin, at, edge, det, IsComb, On, value, det-first, det-last, det-cycle, comb_back}
 use Rattle.plane_base.proofs.Walk.{Tri, turned, side, Closed}
 use Rattle.sight_laws.proofs.Bridge.{vec, value_at_is, turn_at_is, on_of_segment, segment_of_on}
 use Rattle.sight_laws.proofs.Paths.{same_on, on_same, same_value, above, misses_all_sym, path_back}
@@ -20,18 +20,14 @@ use Rattle.sight_laws.proofs.StepOff.{distance, distance_pos}
 use Rattle.mesh_base.proofs.Face.{SameSegment}
 use Rattle.mesh_base.proofs.GoodMesh.{PointFacts}
 use Rattle.mesh_shape.specs.Fills.{HasLeft}
-use Rattle.mesh_base.proofs.Joined.{Strict, CleanAll, whole, tri, free_inside, free_side, inside_free, joined}
+use Rattle.mesh_base.proofs.Joined.{Strict, CleanAll, whole, tri, free_inside, free_side, inside_free, joined, strict_mean, middle_ring, centre_strict, centre_ring}
+use Rattle.exact_ring.proofs.Small.{zero_times}
+use Rattle.geom_exact.proofs.Uniqueness.{same_trans}
 
 -- ---- one point under two names
 
 trans_ring : (px pd qx qd rx rd : ℤ) → qd *ℤ (px *ℤ rd) -ℤ qd *ℤ (rx *ℤ pd) ≡ rd *ℤ (px *ℤ qd -ℤ qx *ℤ pd) +ℤ pd *ℤ (qx *ℤ rd -ℤ rx *ℤ qd)
 trans_ring px pd qx qd rx rd = by_ring (px ∷ pd ∷ qx ∷ qd ∷ rx ∷ rd ∷ []) _ _ (search quoting depth 80 fits 1000000) (search quoting depth 80 fits 1000000) tt
-
-pub same_point_trans : (p q r : Point) → SamePoint p q → SamePoint q r → SamePoint p r
-same_point_trans p q r h k = record {
-  x = same-of-mul (pos q.d) _ _ (above q) (combine2 (pos r.d) (pos p.d) h.x k.x (trans_ring p.x (pos p.d) q.x (pos q.d) r.x (pos r.d)));
-  y = same-of-mul (pos q.d) _ _ (above q) (combine2 (pos r.d) (pos p.d) h.y k.y (trans_ring p.y (pos p.d) q.y (pos q.d) r.y (pos r.d)));
-}
 
 zero_ring : (l m n px pd qx qd rx rd : ℤ) → n *ℤ (rx *ℤ pd) -ℤ n *ℤ (px *ℤ rd) ≡ (pd *ℤ (n *ℤ rx -ℤ (l *ℤ px +ℤ m *ℤ qx)) +ℤ neg_ℤ px *ℤ (n *ℤ rd -ℤ (l *ℤ pd +ℤ m *ℤ qd))) +ℤ (qx *ℤ pd -ℤ qd *ℤ px) *ℤ (m -ℤ pos 0)
 zero_ring l m n px pd qx qd rx rd = by_ring (l ∷ m ∷ n ∷ px ∷ pd ∷ qx ∷ qd ∷ rx ∷ rd ∷ []) _ _ (search quoting depth 80 fits 1000000) (search quoting depth 80 fits 1000000) tt
@@ -43,16 +39,13 @@ same_of_zero l m n p q r h z = record {
   y = same-of-mul n _ _ h.scale (combine3 (pos p.d) (neg_ℤ p.y) (q.y *ℤ pos p.d -ℤ pos q.d *ℤ p.y) h.y h.d z (zero_ring l m n p.y (pos p.d) q.y (pos q.d) r.y (pos r.d)));
 }
 
-comb_swap : (l m n : ℤ) (p q r : V) → IsComb l m n p q r → IsComb m l n q p r
-comb_swap l m n p q r h = record { left = h.right; right = h.left; scale = h.scale; x = let e = h.x in omega (arith, ints); y = let e = h.y in omega (arith, ints); d = let e = h.d in omega (arith, ints) }
-
 -- ---- one path behind another
 
 misses_from : (m : Map) (p q a : Point) → SamePoint p q → MissesAll m q a → MissesAll m p a
 misses_from m p q a h k i l is r on on_line = k i l is r (same_on p q a r h on) on_line
 
 pub path_join : (m : Map) (p : Point) (rs : List Point) (q : Point) (ss : List Point) (r : Point) → IsPath m p rs q → IsPath m q ss r → Leads m p r
-path_join m p [] q [] r h k = ([], (h.0, same_point_trans p q r h.1 k.1))
+path_join m p [] q [] r h k = ([], (h.0, same_trans p q r h.1 k.1))
 path_join m p [] q (a ∷ ss) r h k = (a ∷ ss, (h.0, misses_from m p q a h.1 k.1, k.2))
 path_join m p (a ∷ rs) q ss r h k = let t = path_join m a rs q ss r h.2 k in (a ∷ t.0, (h.0, h.1, t.1))
 
@@ -78,27 +71,9 @@ centre_turned a b c = same (b.x +ℤ c.x +ℤ a.x) (a.x +ℤ b.x +ℤ c.x) (b.y 
     same : (x z y w : ℤ) → x ≡ z → y ≡ w → ◌≡◌ {A = Point} (record { x = x; y = y; d = 3; positive = lit< tt }) (record { x = z; y = w; d = 3; positive = lit< tt })
     same x z y w e f = λ i. record { x = e i; y = f i; d = 3; positive = lit< tt }
 
-centre_ring : (fa fb fc ax ay bx by cx cy : ℤ) → fa *ℤ (ax +ℤ bx +ℤ cx) +ℤ fb *ℤ (ay +ℤ by +ℤ cy) +ℤ fc *ℤ (pos 1 +ℤ pos 1 +ℤ pos 1)
-    ≡ (fa *ℤ ax +ℤ fb *ℤ ay +ℤ fc *ℤ pos 1) +ℤ (fa *ℤ bx +ℤ fb *ℤ by +ℤ fc *ℤ pos 1) +ℤ (fa *ℤ cx +ℤ fb *ℤ cy +ℤ fc *ℤ pos 1)
-centre_ring fa fb fc ax ay bx by cx cy = by_ring (fa ∷ fb ∷ fc ∷ ax ∷ ay ∷ bx ∷ by ∷ cx ∷ cy ∷ []) _ _ (search quoting depth 80 fits 1000000) (search quoting depth 80 fits 1000000) tt
-
 centre_value : (f : Lin) (a b c : Pt) → at f (vec (centre a b c)) ≡ at f (whole a) +ℤ at f (whole b) +ℤ at f (whole c)
 unfolding at centre
 centre_value f a b c = centre_ring f.a f.b f.c a.x a.y b.x b.y c.x c.y
-
-pub centre_strict : (a b c : Pt) → pos 0 <ℤ det (whole a) (whole b) (whole c) → Strict (tri a b c) (vec (centre a b c))
-centre_strict a b c h =
-    let A = whole a in let B = whole b in let C = whole c in
-    let e1 = det-cycle A B C in let e2 = det-cycle B C A in
-    record {
-      ab = let v = centre_value (edge A B) a b c in let x = det-first A B in let y = det-last A B in omega (arith, ints);
-      bc = let v = centre_value (edge B C) a b c in let x = det-first B C in let y = det-last B C in omega (arith, ints);
-      ca = let v = centre_value (edge C A) a b c in let x = det-first C A in let y = det-last C A in omega (arith, ints);
-    }
-
-middle_ring : (fa fb fc ax ay bx by : ℤ) → fa *ℤ (ax +ℤ bx) +ℤ fb *ℤ (ay +ℤ by) +ℤ fc *ℤ (pos 1 +ℤ pos 1)
-    ≡ (fa *ℤ ax +ℤ fb *ℤ ay +ℤ fc *ℤ pos 1) +ℤ (fa *ℤ bx +ℤ fb *ℤ by +ℤ fc *ℤ pos 1)
-middle_ring fa fb fc ax ay bx by = by_ring (fa ∷ fb ∷ fc ∷ ax ∷ ay ∷ bx ∷ by ∷ []) _ _ (search quoting depth 80 fits 1000000) (search quoting depth 80 fits 1000000) tt
 
 pub middle_value : (f : Lin) (a b : Pt) → at f (vec (middle a b)) ≡ at f (whole a) +ℤ at f (whole b)
 unfolding at middle
@@ -130,10 +105,7 @@ middle_flat a b = let v = middle_value (edge (whole a) (whole b)) a b in let x =
 -- the middle of a line is strictly inside it
 off_end : (f : Lin) (a b : Pt) (z : Point) → at f (whole a) ≡ pos 0 → pos 0 <ℤ at f (vec z) → SamePoint z (point_of a) → ⊥
 off_end f a b z zero up same = let e = same_value f z (point_of a) same in
-    let w : at f (whole a) *ℤ pos z.d ≡ pos 0 = ap (λ (k : ℤ). k *ℤ pos z.d) zero ∙ zero-times (pos z.d) in omega (arith, ints, mul-pos (at f (vec z)) (pos 1) up (omega (arith, ints)))
-  where
-    zero-times : (k : ℤ) → pos 0 *ℤ k ≡ pos 0
-    zero-times k = by_ring (k ∷ []) _ _ (search quoting depth 80 fits 1000000) (search quoting depth 80 fits 1000000) tt
+    let w : at f (whole a) *ℤ pos z.d ≡ pos 0 = ap (λ (k : ℤ). k *ℤ pos z.d) zero ∙ zero_times (pos z.d) in omega (arith, ints, mul-pos (at f (vec z)) (pos 1) up (omega (arith, ints)))
 
 pub middle_inside : (m : Map) → PointFacts m → (i : ℕ) (l : MapLine) → line_at m i ≡ Some l → InsideSegment (point_of l.first) (point_of l.second) (middle l.first l.second)
 unfolding middle
@@ -178,7 +150,7 @@ beyond_clear m f low o z up zero i l r is on on_line =
     let c = on_of_segment o z r on in
     let h = c.3 in let hl = h.left in
     elim (le_or_lt c.0 (pos 0)) as (λ _. SamePoint r z) [
-      | inl le ↦ same_of_zero c.1 c.0 c.2 z o r (comb_swap c.0 c.1 c.2 (vec o) (vec z) (vec r) h) (omega (arith, ints))
+      | inl le ↦ same_of_zero c.1 c.0 c.2 z o r (comb_back c.0 c.1 c.2 (vec o) (vec z) (vec r) h) (omega (arith, ints))
       | inr lt ↦ absurd (
           let v = value f c.0 c.1 c.2 (vec o) (vec z) (vec r) h in
           let w : c.1 *ℤ at f (vec z) ≡ pos 0 = ap (λ (k : ℤ). c.1 *ℤ k) zero ∙ *ℤ-zero c.1 in
@@ -219,18 +191,11 @@ places_differ m facts i j hi hj differ e = differ (sym (facts.number i hi) ∙ a
 one_strict : (l m n : ℤ) (z c r : V) → IsComb l m n z c r → pos 0 <ℤ m → (f : Lin) → pos 0 ≤ℤ at f z → pos 0 <ℤ at f c → pos 0 <ℤ at f r
 one_strict l m n z c r h pm f fz fc = let v = value f l m n z c r h in pos-of-mul n (at f r) h.scale (omega (arith, ints, mul-nonneg l (at f z) h.left fz, mul-pos m (at f c) pm fc))
 
-pub strict_mean : (t : Tri) (z c r : V) (l m n : ℤ) → Closed t z → Strict t c → IsComb l m n z c r → pos 0 <ℤ m → Strict t r
-strict_mean t z c r l m n k s h pm = record {
-  ab = one_strict l m n z c r h pm (edge t.a t.b) k.ab s.ab;
-  bc = one_strict l m n z c r h pm (edge t.b t.c) k.bc s.bc;
-  ca = one_strict l m n z c r h pm (edge t.c t.a) k.ca s.ca;
-}
-
 -- from a point strictly inside to one of the closed triangle nothing but the latter is on a line
 pub inside_clear : (m : Map) (t : Tri) → CleanAll m t → (q z : Point) → Strict t (vec q) → Closed t (vec z) → (i : ℕ) (l : MapLine) (r : Point) → line_at m i ≡ Some l → OnSegment q z r → OnLine l r → SamePoint r z
 inside_clear m t clean q z s k i l r is on on_line =
     let c = on_of_segment q z r on in
-    let h = comb_swap c.0 c.1 c.2 (vec q) (vec z) (vec r) c.3 in let hl = h.right in
+    let h = comb_back c.0 c.1 c.2 (vec q) (vec z) (vec r) c.3 in let hl = h.right in
     elim (le_or_lt c.0 (pos 0)) as (λ _. SamePoint r z) [
       | inl le ↦ same_of_zero c.1 c.0 c.2 z q r h (omega (arith, ints))
       | inr lt ↦ absurd (free_inside t (whole l.first) (whole l.second) (vec r) (clean.each i l is) (strict_mean t (vec z) (vec q) (vec r) c.1 c.0 c.2 k s h lt) (on_of_segment (point_of l.first) (point_of l.second) r on_line))

@@ -12,19 +12,20 @@ use Rattle.sight_names.specs.Points.{Edge, reverse_of, points_of, place, number_
 use Rattle.sight_names.specs.Sound.{IsOutside}
 use Rattle.sight_names.specs.Mesh.{HasEdge, label_of, side_edge, triangle_at, IsPlainMesh}
 use Rattle.plane_base.proofs.Vec.{V, Lin, at, det, On, bary, det-swap}
-use Rattle.plane_base.proofs.Wedge.{mul_pn}
 use Rattle.plane_base.proofs.Search.{In}
 use Rattle.plane_base.proofs.Walk.{Tri, turned, side, sides, Region}
 use Rattle.sight_laws.proofs.Bridge.{vec, value_at_is}
 use Rattle.sight_laws.proofs.Paths.{OnLineV, Holds, side_from, side_to, IsSide, is_side, inside_of, touch_walk, to_foot}
 use Rattle.mesh_base.proofs.Face.{SameSegment, is_ab, is_bc, is_ca, line_is_edge}
-use Rattle.mesh_base.proofs.GoodMesh.{PointFacts, pv, tri_of, class, in_class, Member, corner_of, turned_to_edge, found_at, same_or_not}
+use Rattle.mesh_base.proofs.GoodMesh.{PointFacts, pv, tri_of, class, in_class, Member, corner_of, turned_to_edge, found_at, same_or_not, pt_of_vec, in_all, side_on, to_is, from_is}
 use Rattle.mesh_shape.proofs.RuleLemmas.{some_first}
 use Rattle.tri_sectors.specs.declared.faces.Walls.{Walls}
 use Rattle.tri_sectors.specs.Classes.{class_of}
 use Rattle.tri_sectors.specs.Faces.{AreWalls, HasGap, AreFaces}
 use Rattle.tri_sectors.proofs.GoodLabels.{step_or_gap}
-use Rattle.tri_sectors.proofs.PlainFaces.{plain_turn, vertex_on, corner_on, from_is, to_is, side_on, in_all, member_turned, clean_of, pt_of_vec}
+use Rattle.tri_sectors.proofs.PlainFaces.{plain_turn, vertex_on, corner_on, member_turned, clean_of}
+use Rattle.exact_ring.proofs.MoreSigns.{mul-nonpos}
+use Rattle.mesh_base.proofs.FaceClass.{directed}
 
 -- the faces as a list of labels
 abbrev pub numbers : List ℕ → List (Option ℕ)
@@ -123,9 +124,9 @@ not_above m ts ws fs d f q (t, i, c) o =
     omega (
       arith,
       ints,
-      mul_pn (det t.b t.c (vec q)) (at n t.a) cbc (low t i),
-      mul_pn (det t.c t.a (vec q)) (at n t.b) cca (low (turned t) (region.turns t i)),
-      mul_pn (det t.a t.b (vec q)) (at n t.c) cab (low (turned (turned t)) (region.turns (turned t) (region.turns t i))),
+      mul-nonpos (det t.b t.c (vec q)) (at n t.a) cbc (low t i),
+      mul-nonpos (det t.c t.a (vec q)) (at n t.b) cca (low (turned t) (region.turns t i)),
+      mul-nonpos (det t.a t.b (vec q)) (at n t.c) cab (low (turned (turned t)) (region.turns (turned t) (region.turns t i))),
       mul-pos (side t t.c) (at n (vec q)) turn (omega (arith, ints)),
     )
 
@@ -148,22 +149,6 @@ pub touched : (m : Map) (ts : List Triangle) (ws : List Walls) (fs : List ℕ) �
 touched m ts ws fs d s k p t there =
     let w = side_triangle m ts ws fs d s t.line k t.is there in
     touch_walk m (face_list m ts fs (class_of fs k)) (GapOn ts ws fs (class_of fs k)) (region_of m ts ws fs d (class_of fs k)) p s t (side_from t.line s.left) (side_to t.line s.left) w.0 (is_side t.line s.left) (in_all m (class_of fs k) ts (numbers fs) _ w.1)
-
--- the side from u to v has the point z strictly on its left, and the triangle's side is the same segment: it is the directed edge
-directed : (u v z : V) (l : MapLine) (left : Bool) (g : Tri) → IsSide l left u v → pos 0 <ℤ det u v z → pos 0 ≤ℤ side g z → SameSegment g.a g.b (vec (point_of l.first)) (vec (point_of l.second)) → (g.a ≡ u) × (g.b ≡ v)
-directed u v z l left g sd hz gz same =
-    let F = vec (point_of l.first) in let S = vec (point_of l.second) in
-    let sw = det-swap F S z in
-    elim same as (λ _. (g.a ≡ u) × (g.b ≡ v)) [
-      | inl e ↦ elim sd.place as (λ _. (g.a ≡ u) × (g.b ≡ v)) [
-        | inl d ↦ (e.0 ∙ sym d.0, e.1 ∙ sym d.1)
-        | inr d ↦ absurd (let x : det g.a g.b z ≡ det F S z = ap (λ k. det k g.b z) e.0 ∙ ap (λ k. det F k z) e.1 in let y : det u v z ≡ det S F z = ap (λ k. det k v z) d.0 ∙ ap (λ k. det S k z) d.1 in omega (arith, ints))
-      ]
-      | inr e ↦ elim sd.place as (λ _. (g.a ≡ u) × (g.b ≡ v)) [
-        | inl d ↦ absurd (let x : det g.a g.b z ≡ det S F z = ap (λ k. det k g.b z) e.0 ∙ ap (λ k. det S k z) e.1 in let y : det u v z ≡ det F S z = ap (λ k. det k v z) d.0 ∙ ap (λ k. det F k z) d.1 in omega (arith, ints))
-        | inr d ↦ (e.0 ∙ sym d.0, e.1 ∙ sym d.1)
-      ]
-    ]
 
 number_from : (m : Map) (f : PointFacts m) (i : ℕ) (l : MapLine) (left : Bool) → line_at m i ≡ Some l → (k : ℕ) → k < length (points_of m) → side_from l left ≡ pv m k → k ≡ (side_edge m l left).from
 number_from m f i l true is k h e = sym (f.number k h) ∙ ap (number_of m) (sym (pt_of_vec l.first (place m k) e))

@@ -18,16 +18,17 @@ use Rattle.plane_base.proofs.Search.{In}
 use Rattle.plane_base.proofs.Walk.{Tri, side, sides, Closed}
 use Rattle.sight_laws.proofs.Bridge.{vec, turn_at_is}
 use Rattle.sight_laws.proofs.Paths.{path_back, side_from, side_to}
-use Rattle.mesh_base.proofs.GoodMesh.{PointFacts, pv, tri_of, found_at}
-use Rattle.mesh_base.proofs.Joined.{Strict, CleanAll, whole, tri, inside_free, joined}
+use Rattle.mesh_base.proofs.GoodMesh.{PointFacts, pv, tri_of, found_at, pt_of_vec, to_is, from_is}
+use Rattle.mesh_base.proofs.Joined.{Strict, CleanAll, whole, tri, inside_free, joined, centre_strict}
 use Rattle.mesh_shape.proofs.RuleLemmas.{edge_cases, no_first, first_edge, second_edge, third_edge}
 use Rattle.tri_sectors.specs.declared.faces.Walls.{Walls}
 use Rattle.tri_sectors.specs.Classes.{class_of}
 use Rattle.tri_sectors.specs.Faces.{edge_pq, edge_qr, edge_rp, IsFreeEdge, IsLink, HasGap, IsRow, AreLinked}
 use Rattle.mesh_shape.specs.Fills.{HasLeft, HasTriangle}
-use Rattle.tri_sectors.proofs.PlainFaces.{plain_turn, clean_of, from_is, to_is, pt_of_vec}
+use Rattle.tri_sectors.proofs.PlainFaces.{plain_turn, clean_of}
 use Rattle.tri_sectors.proofs.FaceRegion.{Ground, GapOn, numbers, on_face, only_one}
-use Rattle.tri_sectors.proofs.FacePaths.{IsNoLine, middle, middle_turned, middle_closed, middle_flat, middle_inside, centre, centre_turned, centre_strict, leads_join, one_leg, across, out_through, inside_clear, beyond_clear, free_beyond, outside_beyond, none_left, places_differ, far, far_left}
+use Rattle.tri_sectors.proofs.FacePaths.{IsNoLine, middle, middle_turned, middle_closed, middle_flat, middle_inside, centre, centre_turned, leads_join, one_leg, across, out_through, inside_clear, beyond_clear, free_beyond, outside_beyond, none_left, places_differ, far, far_left}
+use Rattle.sight_names.proofs.Records.{edge_of_numbers}
 
 abbrev pub centre_of : Map → Triangle → Point
 centre_of m t = centre (place m t.p) (place m t.q) (place m t.r)
@@ -54,10 +55,7 @@ ends_in_range n t e is has =
     (d, omega arith, λ s. omega arith) has
 
 same_edge : (e f : Edge) → e.from ≡ f.from → e.to ≡ f.to → e ≡ f
-same_edge e f a b = go e.from e.to f.from f.to a b
-  where
-    go : (x y z w : ℕ) → x ≡ z → y ≡ w → ◌≡◌ {A = Edge} (record { from = x; to = y }) (record { from = z; to = w })
-    go x y z w a b = cc
+same_edge e f a b = edge_of_numbers e.from e.to f.from f.to a b
 
 no_line : (m : Map) → PointFacts m → (e : Edge) → e.from < length (points_of m) → e.to < length (points_of m) → ¬ IsLineEdge m e → IsNoLine m (place m e.from) (place m e.to)
 no_line m facts e hf ht none i l is s = elim s as (λ _. ⊥) [

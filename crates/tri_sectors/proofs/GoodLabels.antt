@@ -19,6 +19,7 @@ use Rattle.tri_sectors.specs.Faces.{IsWall, AreWalls, IsFreeEdge, IsLink, HasGap
 use Rattle.tri_sectors.specs.Sides.{IsSealedAt, IsFaced, AreFaced, AreAlike, AreLabelled, IsFirstMixed, IsMixedSearch}
 use Rattle.tri_sectors.specs.Labels.{AreFaceLabels, AreSealed, IsMixedPair, IsSidesVerdict, IsFacesVerdict}
 use Rattle.tri_sectors.proofs.FaceLemmas.{any_walls, triangle_below}
+use Rattle.list_base.proofs.Numbers.{below_or_not, below_above_or_same}
 
 -- ---- an edge that is no line isn't marked
 
@@ -49,23 +50,17 @@ step_or_gap m ts ws k t e are at has n = go (triangle_at ts (reverse_of e)) refl
 -- ---- names of faces
 
 one_name : (ss : List FacedSide) → ((i j : ℕ) → i < j → AreAlike ss i j) → (i j : ℕ) (s t : FacedSide) → slice_get ss i ≡ Some s → slice_get ss j ≡ Some t → t.face ≡ s.face → t.sector ≡ s.sector
-one_name ss alike i j s t es et f = elim (cases i j) as (λ _. t.sector ≡ s.sector) [
+one_name ss alike i j s t es et f = elim (below_above_or_same i j) as (λ _. t.sector ≡ s.sector) [
   | inl lt ↦ alike i j lt s t es et f
   | inr (inl lt) ↦ sym (alike j i lt t s et es (sym f))
   | inr (inr same) ↦ ap (λ (x : FacedSide). x.sector) (same_Some t s (sym et ∙ ap (slice_get ss) (sym same) ∙ es))
 ]
-  where
-    cases : (i j : ℕ) → (i < j) ⊎ ((j < i) ⊎ (i ≡ j))
-    cases i j = grind arith
 
 pub label_name : (fs : List ℕ) (ns ls : List (Option ℕ)) (k : ℕ) → AreLabelled fs ns ls → k < length fs → label_of ls k ≡ slice_index_or ns (class_of fs k) None
 label_name fs ns ls k l lt = ap (option_and_then (λ x. x)) (l.each k lt)
 
-label_within : (ls : List (Option ℕ)) (k a : ℕ) → label_of ls k ≡ Some a → k < length ls
-label_within ls k a h = elim (cases k (length ls)) as (λ _. k < length ls) [ inl lt ↦ lt | inr le ↦ absurd (none-some a (sym (ap (option_and_then (λ x. x)) (slice_get_past ls k le)) ∙ h)) ]
-  where
-    cases : (i j : ℕ) → (i < j) ⊎ (j ≤ i)
-    cases i j = grind arith
+pub label_within : (ls : List (Option ℕ)) (k a : ℕ) → label_of ls k ≡ Some a → k < length ls
+label_within ls k a h = elim (below_or_not k (length ls)) as (λ _. k < length ls) [ inl lt ↦ lt | inr le ↦ absurd (none-some a (sym (ap (option_and_then (λ x. x)) (slice_get_past ls k le)) ∙ h)) ]
 
 -- a side that names the label, on the triangle's face
 pub record HasNamedSide (m : Map) (ts : List Triangle) (fs : List ℕ) (k a : ℕ) : Type 0 where

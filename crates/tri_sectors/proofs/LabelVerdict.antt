@@ -12,7 +12,7 @@ use Rattle.sight_names.specs.Path.{Touches, InSector}
 use Rattle.sight_names.specs.Sound.{IsClosed}
 use Rattle.sight_names.specs.Mesh.{InsideTriangle, IsPlainMesh, label_of, side_edge, triangle_at}
 use Rattle.sight_laws.proofs.Paths.{Holds, path_walk}
-use Rattle.mesh_base.proofs.GoodMesh.{PointFacts, tri_of, found_at, good_mesh_closed, good_mesh_agree}
+use Rattle.mesh_base.proofs.GoodMesh.{PointFacts, tri_of, found_at, good_mesh_closed, good_mesh_agree, in_all}
 use Rattle.mesh_shape.specs.Faults.{IsSideBefore, IsFirstSideAgainst}
 use Rattle.tri_sectors.specs.declared.sides.FacedSide.{FacedSide}
 use Rattle.tri_sectors.specs.Classes.{class_of}
@@ -23,9 +23,9 @@ use Rattle.mesh_shape.specs.Fills.{FillsSides}
 use Rattle.tri_sectors.specs.Verdict.{IsClosedSide, AgreeAt, IsFirstSidePairAgainst, AreFoundLabels, IsLabelVerdict}
 use Rattle.tri_sectors.proofs.GoodLabels.{good_mesh, named_side, side_label, label_name}
 use Rattle.tri_sectors.proofs.FaceRegion.{Ground, GapOn, face_list, numbers, on_face, region_of, not_above, touched, reaches}
-use Rattle.tri_sectors.proofs.PlainFaces.{in_all}
 use Rattle.tri_sectors.proofs.FacePaths.{leads_join}
 use Rattle.tri_sectors.proofs.FaceTouches.{centre_of, stays, linked_leads, strictly, closed_of_strict, inside_is_free, to_centre, touches, LeadsOut, out_of_side, out_of_gap, out_of_face, gap_edge}
+use Rattle.list_base.proofs.Numbers.{below_above_or_same}
 
 module _ (m : Map) (ts : List Triangle) (fs : List ℕ) (os : List Bool) (facts : PointFacts m) (plain : IsPlainMesh m ts) (filled : FillsSides m ts) (g : AreMarkedFaces m ts fs os) where
   ground : Ground m ts g.walls fs
@@ -172,18 +172,15 @@ module _ (m : Map) (ts : List Triangle) (fs : List ℕ) (os : List Bool) (facts 
       | inr d ↦ elim k as (λ _. ⊥) [ inl gt ↦ (let x = d.0 in omega (arith, gt, x)) | inr e ↦ false≢true (sym d.1 ∙ e.2) ]
     ]
 
-    cases : (i j : ℕ) → (i < j) ⊎ ((j < i) ⊎ (i ≡ j))
-    cases i j = grind arith
-
     place_order : (i j : ℕ) (f h : FacedSide) → slice_get ss i ≡ Some f → slice_get ss j ≡ Some h → IsSideBefore f.side h.side → i < j
-    place_order i j f h ei ej before = elim (cases i j) as (λ _. i < j) [
+    place_order i j f h ei ej before = elim (below_above_or_same i j) as (λ _. i < j) [
       | inl lt ↦ lt
       | inr (inl gt) ↦ absurd (asymmetric f.side h.side before (sealed.faced.ascend j i h f gt ej ei))
       | inr (inr same) ↦ absurd (irreflexive f.side (subst (λ (x : FacedSide). IsSideBefore f.side x.side) (same_Some h f (sym ej ∙ ap (slice_get ss) (sym same) ∙ ei)) before))
     ]
 
     one_place : (i j : ℕ) (f h : FacedSide) → slice_get ss i ≡ Some f → slice_get ss j ≡ Some h → f.side ≡ h.side → i ≡ j
-    one_place i j f h ei ej same = elim (cases i j) as (λ _. i ≡ j) [
+    one_place i j f h ei ej same = elim (below_above_or_same i j) as (λ _. i ≡ j) [
       | inl lt ↦ absurd (irreflexive f.side (subst (λ (x : Side). IsSideBefore f.side x) (sym same) (sealed.faced.ascend i j f h lt ei ej)))
       | inr (inl gt) ↦ absurd (irreflexive h.side (subst (λ (x : Side). IsSideBefore h.side x) same (sealed.faced.ascend j i h f gt ej ei)))
       | inr (inr e) ↦ e

@@ -11,23 +11,14 @@ use Rattle.sight_names.specs.Map.{Map, MapLine, line_at}
 use Rattle.sight_names.specs.Points.{Edge, points_of, place, number_of}
 use Rattle.sight_names.specs.Sound.{MeetAtEnds}
 use Rattle.sight_names.specs.Mesh.{side_edge, IsPlainMesh}
-use Rattle.plane_base.proofs.Vec.{V, Lin, at, IsComb, On, value, det-cycle}
+use Rattle.plane_base.proofs.Vec.{V, Lin, at, IsComb, On, value, det-cycle, on_back}
 use Rattle.plane_base.proofs.Search.{In}
 use Rattle.plane_base.proofs.Walk.{Tri, turned, side, sides}
 use Rattle.sight_laws.proofs.Bridge.{vec, turn_at_is, segment_of_on}
 use Rattle.sight_laws.proofs.Paths.{OnLineV, side_from, side_to, point_at}
 use Rattle.mesh_base.proofs.Face.{Fair, SameSegment, Clean}
 use Rattle.mesh_base.proofs.Net.{IsAt}
-use Rattle.mesh_base.proofs.GoodMesh.{PointFacts, pv, tri_of, class, Member, Corner, corner_of, class_in}
-
-turned_in : (t g : Tri) → In g (sides t) → In (turned g) (sides t)
-turned_in t g i = elim i as (λ _. In (turned g) (sides t)) [
-  | inl e ↦ inr (inl (ap turned e))
-  | inr j ↦ elim j as (λ _. In (turned g) (sides t)) [
-    | inl e ↦ inr (inr (inl (ap turned e)))
-    | inr k ↦ elim k as (λ _. In (turned g) (sides t)) [ inl e ↦ inl (ap turned e) | inr n ↦ absurd n ]
-  ]
-]
+use Rattle.mesh_base.proofs.GoodMesh.{PointFacts, pv, tri_of, class, Member, Corner, corner_of, class_in, pt_of_vec, in_all, side_on, to_is, from_is, place_vec, comb_right, comb_left, turned_in}
 
 turn_of : (t g : Tri) → In g (sides t) → pos 0 <ℤ side t t.c → pos 0 <ℤ side g g.c
 turn_of t g i h =
@@ -47,18 +38,8 @@ plain_turn m ts ls plain a g x =
     let e = turn_at_is (place m x.t.p) (place m x.t.q) (point_of (place m x.t.r)) in
     turn_of (tri_of m x.t) g x.turn (omega (arith, ints))
 
--- a vertex is on a line
-comb_left : (l n : ℤ) (a b r c : V) → IsComb l (pos 0) n a b r → IsComb l (pos 0) n a c r
-comb_left l n a b r c h = record { left = h.left; right = h.right; scale = h.scale; x = let e = h.x in omega (arith, ints, zero-*ℤ b.x, zero-*ℤ c.x); y = let e = h.y in omega (arith, ints, zero-*ℤ b.y, zero-*ℤ c.y); d = let e = h.d in omega (arith, ints, zero-*ℤ b.d, zero-*ℤ c.d) }
-
-comb_right : (l n : ℤ) (a b r c : V) → IsComb l (pos 0) n a b r → IsComb (pos 0) l n c a r
-comb_right l n a b r c h = record { left = h.right; right = h.left; scale = h.scale; x = let e = h.x in omega (arith, ints, zero-*ℤ b.x, zero-*ℤ c.x); y = let e = h.y in omega (arith, ints, zero-*ℤ b.y, zero-*ℤ c.y); d = let e = h.d in omega (arith, ints, zero-*ℤ b.d, zero-*ℤ c.d) }
-
 below : (m : Map) (ts : List Triangle) (ls : List (Option ℕ)) → IsPlainMesh m ts → (a : ℕ) (g : Tri) (x : Member m a ts ls g) → (c : Corner m x.t g) → c.x < length (points_of m)
 below m ts ls plain a g x c = c.low (length (points_of m)) (plain.triangles.each x.k x.t x.is)
-
-pub place_vec : (p q : Pt) → p ≡ q → vec (point_of p) ≡ vec (point_of q)
-place_vec p q e = ap (λ (x : Pt). vec (point_of x)) e
 
 pub corner_on : (m : Map) (f : PointFacts m) (ts : List Triangle) (ls : List (Option ℕ)) → IsPlainMesh m ts → (a : ℕ) (g : Tri) → Member m a ts ls g
     → (i : ℕ) × (l : MapLine) × (line_at m i ≡ Some l) × ((g.a ≡ vec (point_of l.first)) ⊎ (g.a ≡ vec (point_of l.second)))
@@ -78,26 +59,6 @@ vertex_on m f ts ls plain a g x l n r h =
         | inr e ↦ (pos 0, l, n, comb_right l n (vec (point_of c.1.second)) g.b r (vec (point_of c.1.first)) (subst (λ (k : V). IsComb l (pos 0) n k g.b r) e h))
       ],
     )
-
--- the ends of a side's edge
-pub from_is : (m : Map) (f : PointFacts m) (i : ℕ) (l : MapLine) (left : Bool) → line_at m i ≡ Some l → pv m (side_edge m l left).from ≡ side_from l left
-from_is m f i l true is = place_vec _ _ (f.first i l is).0
-from_is m f i l false is = place_vec _ _ (f.second i l is).0
-
-pub to_is : (m : Map) (f : PointFacts m) (i : ℕ) (l : MapLine) (left : Bool) → line_at m i ≡ Some l → pv m (side_edge m l left).to ≡ side_to l left
-to_is m f i l true is = place_vec _ _ (f.second i l is).0
-to_is m f i l false is = place_vec _ _ (f.first i l is).0
-
-pub swap_on : (p q r : V) → On p q r → On q p r
-swap_on p q r (l, m, n, h) = (m, l, n, record { left = h.right; right = h.left; scale = h.scale; x = let e = h.x in omega (arith, ints); y = let e = h.y in omega (arith, ints); d = let e = h.d in omega (arith, ints) })
-
--- a side's edge lies on the line
-pub side_on : (l : MapLine) (left : Bool) (r : V) → On (side_from l left) (side_to l left) r → On (vec (point_of l.first)) (vec (point_of l.second)) r
-side_on l true r o = o
-side_on l false r o = swap_on _ _ r o
-
-pub in_all : (m : Map) (a : ℕ) (ts : List Triangle) (ls : List (Option ℕ)) (g : Tri) → Member m a ts ls g → In g (class m a ts ls (length ts))
-in_all m a ts ls g x = class_in m a ts ls (length ts) g x (slice_get_within ts x.k x.t x.is)
 
 at_of_same : (p : Pt) (r : Point) → SamePoint r (point_of p) → IsAt (vec (point_of p)) (vec r)
 at_of_same p r h = record {
@@ -196,6 +157,3 @@ clean_of m f ts ls plain a g x i l is =
       uv = ap0.0;
       vu = ap0.1;
     }
-
-pub pt_of_vec : (p q : Pt) → vec (point_of p) ≡ vec (point_of q) → p ≡ q
-pt_of_vec p q e = λ i. record { x = (e i).x; y = (e i).y }

@@ -18,6 +18,8 @@ use Rattle.tri_sectors.specs.declared.sides.FacedSide.{FacedSide}
 use Rattle.tri_sectors.specs.Classes.{IsBelow, class_of}
 use Rattle.tri_sectors.specs.Sides.{IsSealedEdge, IsSealedSide, IsSealedAt, IsFirstOfLine, IsOpenLine, IsFaced, AreFacedOf, AreFaced, AreAdded, IsAdded, AreAlike, IsOtherFrom, IsFirstMixed, AreNames, IsFacedBelow}
 use Rattle.tri_sectors.proofs.FaceLemmas.{triangle_below}
+use Rattle.list_base.proofs.Lists.{get_pushed, get_before_pushed, pushed_at, length_pushed}
+use Rattle.list_base.proofs.Numbers.{below_or_last}
 
 -- ---- a plan's sides
 
@@ -68,27 +70,6 @@ no_side_open p ts fs os i left h k a at names = absurd (none-some k (sym h ∙ a
 
 -- ---- one more at the end of a list
 
-one_more : {X : Type 0} (xs : List X) (x : X) → length (xs ++ x ∷ []) ≡ length xs + 1
-one_more [] x = refl
-one_more (y ∷ xs) x = let e = one_more xs x in omega (arith, e)
-
-below_next : (i n : ℕ) → i < n + 1 → (i < n) ⊎ (i ≡ n)
-below_next i n h = grind arith
-
-more_cases : {X : Type 0} (xs : List X) (x y : X) (k : ℕ) → slice_get (xs ++ x ∷ []) k ≡ Some y → (slice_get xs k ≡ Some y) ⊎ ((k ≡ length xs) × (x ≡ y))
-more_cases {X} xs x y k e = elim (below_next k (length xs) (let l = slice_get_within (xs ++ x ∷ []) k y e in let m = one_more xs x in omega (arith, l, m))) as (λ _. (slice_get xs k ≡ Some y) ⊎ ((k ≡ length xs) × (x ≡ y))) [
-  | inl lt ↦ inl (slice_get-get_or xs k y lt ∙ ap (λ (v : X). Some v) (sym (get_or_append_left xs (x ∷ []) y k lt) ∙ get_or_from_slice_get (xs ++ x ∷ []) k y y e))
-  | inr same ↦ inr (same, sym (get_or_at xs x [] y k (sym same)) ∙ get_or_from_slice_get (xs ++ x ∷ []) k y y e)
-]
-
-more_old : {X : Type 0} (xs : List X) (x y : X) (k : ℕ) → slice_get xs k ≡ Some y → slice_get (xs ++ x ∷ []) k ≡ Some y
-more_old {X} xs x y k e =
-    let lt = slice_get_within xs k y e in
-    slice_get-get_or (xs ++ x ∷ []) k y (let m = one_more xs x in omega (arith, lt, m)) ∙ ap (λ (v : X). Some v) (get_or_append_left xs (x ∷ []) y k lt ∙ get_or_from_slice_get xs k y y e)
-
-more_last : {X : Type 0} (xs : List X) (x : X) → slice_get (xs ++ x ∷ []) (length xs) ≡ Some x
-more_last {X} xs x = slice_get-get_or (xs ++ x ∷ []) (length xs) x (let m = one_more xs x in omega (arith, m)) ∙ ap (λ (v : X). Some v) (get_or_at xs x [] x (length xs) refl)
-
 -- ---- sides that have triangles
 
 pub faced_none : (m : Map) (ts : List Triangle) (fs : List ℕ) → AreFacedOf (λ s. s.line < 0) m ts fs []
@@ -117,20 +98,20 @@ added_none D E m ts fs ss s0 l0 at0 none f g h = record {
 added_some : (D E : Side → Type 0) (m : Map) (ts : List Triangle) (fs : List ℕ) (ss : List FacedSide) (f0 : FacedSide) → IsFaced m ts fs f0 → E f0.side
     → ((s : Side) → D s → E s) → ((s : Side) → E s → D s ⊎ (s ≡ f0.side)) → ((s : Side) → D s → IsSideBefore s f0.side) → AreFacedOf D m ts fs ss → AreFacedOf E m ts fs (ss ++ f0 ∷ [])
 added_some D E m ts fs ss f0 is d0 f g order h = record {
-  each = λ i s e. elim (more_cases ss f0 s i e) as (λ _. IsFaced m ts fs s × E s.side) [
+  each = λ i s e. elim (pushed_at ss f0 s i e) as (λ _. IsFaced m ts fs s × E s.side) [
     | inl old ↦ let w = h.each i s old in (w.0, f s.side w.1)
     | inr new ↦ subst (λ (x : FacedSide). IsFaced m ts fs x × E x.side) new.1 (is, d0)
   ];
   all = λ s l k d at there. elim (g s d) as (λ _. (i : ℕ) × (x : FacedSide) × (slice_get (ss ++ f0 ∷ []) i ≡ Some x) × (x.side ≡ s)) [
-    | inl old ↦ let w = h.all s l k old at there in (w.0, w.1, more_old ss f0 w.1 w.0 w.2, w.3)
-    | inr same ↦ (length ss, f0, more_last ss f0, sym same)
+    | inl old ↦ let w = h.all s l k old at there in (w.0, w.1, get_before_pushed ss f0 w.1 w.0 w.2, w.3)
+    | inr same ↦ (length ss, f0, get_pushed ss f0, sym same)
   ];
-  ascend = λ i j s t lt e e2. elim (more_cases ss f0 t j e2) as (λ _. IsSideBefore s.side t.side) [
-    | inl old2 ↦ elim (more_cases ss f0 s i e) as (λ _. IsSideBefore s.side t.side) [
+  ascend = λ i j s t lt e e2. elim (pushed_at ss f0 t j e2) as (λ _. IsSideBefore s.side t.side) [
+    | inl old2 ↦ elim (pushed_at ss f0 s i e) as (λ _. IsSideBefore s.side t.side) [
       | inl old ↦ h.ascend i j s t lt old old2
       | inr new ↦ absurd (let w = slice_get_within ss j t old2 in let x = new.0 in omega (arith, lt, w, x))
     ]
-    | inr new2 ↦ elim (more_cases ss f0 s i e) as (λ _. IsSideBefore s.side t.side) [
+    | inr new2 ↦ elim (pushed_at ss f0 s i e) as (λ _. IsSideBefore s.side t.side) [
       | inl old ↦ subst (λ (x : FacedSide). IsSideBefore s.side x.side) new2.1 (order s.side (h.each i s old).1)
       | inr new ↦ absurd (let x = new.0 in let y = new2.0 in omega (arith, lt, x, y))
     ]
@@ -165,7 +146,7 @@ pub line_added : (p : PlanParts) → IsPlan p → (ts : List Triangle) (fs : Lis
 line_added p is ts fs old new n l e added h =
     one_added (λ s. (s.line < n) ⊎ ((s.line ≡ n) × (s.left ≡ false))) (λ s. s.line < n + 1) p is ts fs added.middle new n l true e (omega arith)
     (λ s d. elim d as (λ _. s.line < n + 1) [ inl lt ↦ omega (arith, lt) | inr w ↦ let x = w.0 in omega (arith, x) ])
-    (λ s lt. elim (below_next s.line n lt) as (λ _. ((s.line < n) ⊎ ((s.line ≡ n) × (s.left ≡ false))) ⊎ (s ≡ record { line = n; left = true })) [
+    (λ s lt. elim (below_or_last s.line n lt) as (λ _. ((s.line < n) ⊎ ((s.line ≡ n) × (s.left ≡ false))) ⊎ (s ≡ record { line = n; left = true })) [
       | inl less ↦ inl (inl less)
       | inr same ↦ elim (left_or_right s.left) as (λ _. ((s.line < n) ⊎ ((s.line ≡ n) × (s.left ≡ false))) ⊎ (s ≡ record { line = n; left = true })) [ inl b ↦ inl (inr (same, b)) | inr b ↦ inr (same_side s n true same b) ]
     ])
@@ -178,7 +159,7 @@ line_added p is ts fs old new n l e added h =
     added.right h)
 
 pub no_line_added : (p : PlanParts) (ts : List Triangle) (fs : List ℕ) (ss : List FacedSide) (n : ℕ) → slice_get p.lines n ≡ Some None → AreFacedOf (λ s. s.line < n) (map_of p) ts fs ss → AreFacedOf (λ s. s.line < n + 1) (map_of p) ts fs ss
-no_line_added p ts fs ss n e h = changed_faced _ _ (map_of p) ts fs ss (λ s lt. omega (arith, lt)) (λ s l at lt. elim (below_next s.line n lt) as (λ _. s.line < n) [
+no_line_added p ts fs ss n e h = changed_faced _ _ (map_of p) ts fs ss (λ s lt. omega (arith, lt)) (λ s l at lt. elim (below_or_last s.line n lt) as (λ _. s.line < n) [
   | inl less ↦ less
   | inr same ↦ absurd (none-some l (sym (no_line_there p n e) ∙ ap (line_at (map_of p)) (sym same) ∙ at))
 ]) h
@@ -204,7 +185,7 @@ alike_none ss seen none = record { alike = λ i j lt. absurd (omega arith); note
 -- a later side of a face that was seen
 pub alike_seen : (ss : List FacedSide) (n : ℕ) (seen : List Bool) (s : FacedSide) → slice_get ss n ≡ Some s → slice_index_or seen s.face false ≡ true → AreAlikeBefore ss n seen → AreAlikeBefore ss (n + 1) seen
 alike_seen ss n seen s at mark h = record {
-  alike = λ i j lt order. elim (below_next i n lt) as (λ _. AreAlike ss i j) [
+  alike = λ i j lt order. elim (below_or_last i n lt) as (λ _. AreAlike ss i j) [
     | inl less ↦ h.alike i j less order
     | inr same ↦ here i j same order
   ];
@@ -222,7 +203,7 @@ alike_seen ss n seen s at mark h = record {
 -- the first side of a face, of which no later one differs
 pub alike_first : (ss : List FacedSide) (n : ℕ) (seen : List Bool) (s : FacedSide) → slice_get ss n ≡ Some s → s.face < length seen → IsOtherFrom ss n s None → AreAlikeBefore ss n seen → AreAlikeBefore ss (n + 1) (set seen s.face true)
 alike_first ss n seen s at lf none h = record {
-  alike = λ i j lt order. elim (below_next i n lt) as (λ _. AreAlike ss i j) [
+  alike = λ i j lt order. elim (below_or_last i n lt) as (λ _. AreAlike ss i j) [
     | inl less ↦ h.alike i j less order
     | inr same ↦ here i j same order
   ];
@@ -269,7 +250,7 @@ name_given ss n ns s at lf empty h = record {
     | inl same ↦ (n, s, at, sym same, sym (get_or-set_same ns s.face s.sector None lf) ∙ ap (λ (k : ℕ). slice_index_or (set ns s.face s.sector) k None) (sym same) ∙ g)
     | inr other ↦ h.given f a (sym (get_or-set_other ns s.face f s.sector None other) ∙ g)
   ];
-  none = λ i x lt e g. elim (below_next i n lt) as (λ _. x.sector ≡ None) [
+  none = λ i x lt e g. elim (below_or_last i n lt) as (λ _. x.sector ≡ None) [
     | inl less ↦ elim (cases_eq x.face s.face) as (λ _. x.sector ≡ None) [
       | inl same ↦ h.none i x less e (ap (λ (k : ℕ). slice_index_or ns k None) same ∙ empty)
       | inr other ↦ h.none i x less e (sym (get_or-set_other ns s.face x.face s.sector None other) ∙ g)
@@ -282,7 +263,7 @@ name_given ss n ns s at lf empty h = record {
 pub name_kept : (ss : List FacedSide) (n : ℕ) (ns : List (Option ℕ)) (s : FacedSide) → slice_get ss n ≡ Some s → ¬ (slice_index_or ns s.face None ≡ None) → AreNamesBefore ss n ns → AreNamesBefore ss (n + 1) ns
 name_kept ss n ns s at some h = record {
   given = h.given;
-  none = λ i x lt e g. elim (below_next i n lt) as (λ _. x.sector ≡ None) [
+  none = λ i x lt e g. elim (below_or_last i n lt) as (λ _. x.sector ≡ None) [
     | inl less ↦ h.none i x less e g
     | inr same ↦ let xs : s ≡ x = same_Some s x (sym at ∙ ap (slice_get ss) (sym same) ∙ e) in absurd (some (ap (λ (v : FacedSide). slice_index_or ns v.face None) xs ∙ g))
   ];

@@ -17,12 +17,13 @@ use Rattle.triangulate.specs.Web.{has_end, other_end, AreSegments}
 use Rattle.triangulate.specs.Kept.{edge_of, edges_of, MeetsEach, IsBarred}
 use Rattle.triangulate.specs.Spokes.{IsSpoke, SpokesMeet, HasBarAt, MayReach}
 use Rattle.triangulate.proofs.KeptLemmas.{any_segment}
-use Rattle.triangulate.proofs.WebLemmas.{end_cases, other_from}
+use Rattle.triangulate.proofs.WebLemmas.{end_cases, other_from, end_to, end_from}
+use Rattle.list_base.proofs.Bools.{true_by_second, true_by_first}
 
 abbrev pub edge : ℕ → ℕ → Edge
 edge u v = record { from = u; to = v }
 
-same_edge : {a b c d : ℕ} → a ≡ c → b ≡ d → edge a b ≡ edge c d
+pub same_edge : {a b c d : ℕ} → a ≡ c → b ≡ d → edge a b ≡ edge c d
 same_edge e f = cc
 
 pub other_not_from : (u : ℕ) (s : Segment) → ¬ (s.from ≡ u) → other_end u s ≡ s.from
@@ -49,21 +50,6 @@ spoke_edge segs u v (k, lt, end, other) = elim (cases_eq (get_or segs k any_segm
 
 -- ---- a kept segment is a spoke of both its ends
 
-end_first : (s : Segment) → has_end s.from s ≡ true
-end_first s = go (s.from == s.from) (s.to == s.from) (eq-eqb s.from s.from refl)
-  where
-    go : (a b : Bool) → a ≡ true → (a || b) ≡ true
-    go true b h = refl
-    go false b h = absurd (true≢false (sym h))
-
-end_second : (s : Segment) → has_end s.to s ≡ true
-end_second s = go (s.from == s.to) (s.to == s.to) (eq-eqb s.to s.to refl)
-  where
-    go : (a b : Bool) → b ≡ true → (a || b) ≡ true
-    go true b h = refl
-    go false true h = refl
-    go false false h = absurd (true≢false (sym h))
-
 other_second : (s : Segment) → s.from ≡ other_end s.to s
 other_second s = elim (cases_eq s.from s.to) [ inl e ↦ e ∙ sym (other_from s.to s e) | inr n ↦ sym (other_not_from s.to s n) ]
 
@@ -88,13 +74,13 @@ edge_spokes segs f c = go (kept_segment segs f c)
       (
         k,
         lt,
-        λ d. subst (λ (u : ℕ). has_end u (get_or segs k d) ≡ true) (ap (λ (e : Edge). e.from) (is d)) (end_first (get_or segs k d)),
+        λ d. subst (λ (u : ℕ). has_end u (get_or segs k d) ≡ true) (ap (λ (e : Edge). e.from) (is d)) (end_from (get_or segs k d)),
         λ d. sym (ap (λ (e : Edge). e.to) (is d)) ∙ sym (other_from f.from (get_or segs k d) (ap (λ (e : Edge). e.from) (is d))),
       ),
       (
         k,
         lt,
-        λ d. subst (λ (u : ℕ). has_end u (get_or segs k d) ≡ true) (ap (λ (e : Edge). e.to) (is d)) (end_second (get_or segs k d)),
+        λ d. subst (λ (u : ℕ). has_end u (get_or segs k d) ≡ true) (ap (λ (e : Edge). e.to) (is d)) (end_to (get_or segs k d)),
         λ d. sym (ap (λ (e : Edge). e.from) (is d)) ∙ other_second (get_or segs k d) ∙ ap (λ (u : ℕ). other_end u (get_or segs k d)) (ap (λ (e : Edge). e.to) (is d)),
       ),
     )

@@ -25,6 +25,7 @@ use Rattle.triangulate.specs.Rounds.{IsShutOff}
 use Rattle.triangulate.specs.Closed.{turn_between, HasTriangleLeft, IsShut}
 use Rattle.triangulate.proofs.KeptLemmas.{any_segment}
 use Rattle.triangulate.proofs.Bars.{edge, bar_of_spoke}
+use Rattle.exact_ring.proofs.Small.{pos_where_negated, zero_by_first, nonneg_of_pos, lt_of_zero, neg_of_negated_pos}
 
 -- ---- turns
 
@@ -61,13 +62,10 @@ neither_zero a b h k (inr e) = omega (arith, ints)
 not_zero : (a b : ℤ) → pos 0 <ℤ b → ¬ ((a ≡ pos 0) × (b ≡ pos 0))
 not_zero a b k e = let f = e.1 in omega (arith, ints)
 
-negative : (a b : ℤ) → a ≡ neg_ℤ b → pos 0 <ℤ b → a <ℤ pos 0
-negative a b e h = omega (arith, ints)
-
 -- j is seen from a between u and c, and not before the segment between them
 pub cross_bars : (a j u c : Pt) → pos 0 <ℤ turn_of a u c → pos 0 <ℤ turn_of a u j → pos 0 <ℤ turn_of a j c → turn_of u c j ≤ℤ pos 0 → ¬ MeetAtEnds a j u c
 cross_bars a j u c uc uj jc beyond h =
-    let right = negative (turn_of a j u) (turn_of a u j) (turn_back a u j) uj in
+    let right = neg_of_negated_pos (turn_of a j u) (turn_of a u j) (turn_back a u j) uj in
     let behind : pos 0 <ℤ turn_of u c a = subst (λ (t : ℤ). pos 0 <ℤ t) (sym (turn_round a u c)) uc in
     let z = meets a j u c (not_zero (turn_of a j u) (turn_of a j c) jc) (signs_across (turn_of a j u) (turn_of a j c) right jc) (signs_apart (turn_of u c a) (turn_of u c j) behind beyond) in
     no_end_of_second a j u c z.0 z.1 (neither_zero (turn_of a j u) (turn_of a j c) right jc) (h.ends z.0 z.1.common).1
@@ -96,11 +94,8 @@ ray_bars : (a j c : Pt) (p q : ℤ) → ¬ (a ≡ j) → ¬ (a ≡ c) → turn_o
 ray_bars a j c p q nj nc straight hp hq e =
     let long = square_of-pos a j nj in
     let forward : pos 0 <ℤ reach_of a j c = pos-of-mul q (reach_of a j c) hq (subst (λ (t : ℤ). pos 0 <ℤ t) e (mul-pos p (square_of a j) hp long)) in
-    let l = laid a j a c nj nc (turn_none a j) straight (below (reach_of a j a) (reach_of a j c) (reach_none a j) forward) in
-    overlap_not a j a c (overlap_inside a j a c l forward (below (reach_of a j a) (square_of a j) (reach_none a j) long))
-  where
-    below : (a b : ℤ) → a ≡ pos 0 → pos 0 <ℤ b → a <ℤ b
-    below a b e h = omega (arith, ints)
+    let l = laid a j a c nj nc (turn_none a j) straight (lt_of_zero (reach_of a j a) (reach_of a j c) (reach_none a j) forward) in
+    overlap_not a j a c (overlap_inside a j a c l forward (lt_of_zero (reach_of a j a) (square_of a j) (reach_none a j) long))
 
 no_product : (x y z w : ℤ) → x -ℤ y ≡ z *ℤ w → z ≡ pos 0 → x ≡ y
 no_product x y z w e f = let t : z *ℤ w ≡ pos 0 = ap (λ (k : ℤ). k *ℤ w) f ∙ by_ring (w ∷ []) _ _ (search quoting depth 40 fits 100000) (search quoting depth 40 fits 100000) tt in omega (arith, ints)
@@ -170,11 +165,8 @@ module _ (segs : List Segment) (a : ℕ) (S : ℕ → ℤ) (U : ℕ → ℕ → 
   unfolding NotAfter OnSide
   trans s t v hs ht hv p q =
       let x = other_end a s in let y = other_end a t in let z = other_end a v in
-      nonpos-of-mul (S y) (U x z) ht.1 (sum (S x *ℤ U y z) (S z *ℤ U x y) (S y *ℤ U x z) (fan x y z) (mul-nonpos (S x) (U y z) (weak (S x) hs.1) q) (mul-nonpos (S z) (U x y) (weak (S z) hv.1) p))
+      nonpos-of-mul (S y) (U x z) ht.1 (sum (S x *ℤ U y z) (S z *ℤ U x y) (S y *ℤ U x z) (fan x y z) (mul-nonpos (S x) (U y z) (nonneg_of_pos (S x) hs.1) q) (mul-nonpos (S z) (U x y) (nonneg_of_pos (S z) hv.1) p))
     where
-      weak : (k : ℤ) → pos 0 <ℤ k → pos 0 ≤ℤ k
-      weak k h = omega (arith, ints)
-
       sum : (p q r : ℤ) → r ≡ p +ℤ q → p ≤ℤ pos 0 → q ≤ℤ pos 0 → r ≤ℤ pos 0
       sum p q r e h k = omega (arith, ints)
 
@@ -207,7 +199,7 @@ bar_right m segs a j w jn shut spoke side =
           let c = t.0 in
           elim (sign_cases (turn_between m a c j)) [
             | inl before ↦
-                let forth : pos 0 <ℤ turn_between m a j c = flipped (turn_between m a c j) (turn_between m a j c) (turn_back (at a) (at c) (at j)) before in
+                let forth : pos 0 <ℤ turn_between m a j c = pos_where_negated (turn_between m a c j) (turn_between m a j c) (turn_back (at a) (at c) (at j)) before in
                 elim (le_or_lt (turn_between m u c j) (pos 0)) [
                   | inl beyond ↦ bar_of_spoke m segs u c (edge a j) t.2 (cross_bars (at a) (at j) (at u) (at c) t.3.turn near.2 forth beyond)
                   | inr inside ↦ absurd (t.3.empty j jn (near.2, inside, subst (λ (k : ℤ). pos 0 <ℤ k) (turn_round (at c) (at a) (at j)) forth))
@@ -216,9 +208,6 @@ bar_right m segs a j w jn shut spoke side =
             | inr (inr after) ↦ clash (turn_between m a u c) t.3.turn (near.3 c t.1 after)
           ]
     ]
-  where
-    flipped : (x y : ℤ) → y ≡ neg_ℤ x → x <ℤ pos 0 → pos 0 <ℤ y
-    flipped x y e h = omega (arith, ints)
 
 bar_left : (m : Map) (segs : List Segment) (a j w : ℕ) → j < length (points_of m) → ((v : ℕ) → IsSpoke segs a v → IsShut m segs a v) → IsSpoke segs a w → pos 0 <ℤ turn_between m a j w → IsBarred m (edges_of segs) (edge a j)
 bar_left m segs a j w jn shut spoke side =
@@ -231,7 +220,7 @@ bar_left m segs a j w jn shut spoke side =
           let c = t.0 in
           elim (sign_cases (turn_between m a j c)) [
             | inl before ↦
-                let forth : pos 0 <ℤ turn_between m a c j = flipped (turn_between m a j c) (turn_between m a c j) (turn_back (at a) (at j) (at c)) before in
+                let forth : pos 0 <ℤ turn_between m a c j = pos_where_negated (turn_between m a j c) (turn_between m a c j) (turn_back (at a) (at j) (at c)) before in
                 elim (le_or_lt (turn_between m c u j) (pos 0)) [
                   | inl beyond ↦ bar_of_spoke m segs c u (edge a j) t.2 (cross_bars (at a) (at j) (at c) (at u) t.3.turn forth near.2 beyond)
                   | inr inside ↦ absurd (t.3.empty j jn (forth, inside, subst (λ (k : ℤ). pos 0 <ℤ k) (turn_round (at u) (at a) (at j)) near.2))
@@ -240,35 +229,26 @@ bar_left m segs a j w jn shut spoke side =
             | inr (inr after) ↦ clash (turn_between m a c u) t.3.turn (near.3 c t.1 after)
           ]
     ]
-  where
-    flipped : (x y : ℤ) → y ≡ neg_ℤ x → x <ℤ pos 0 → pos 0 <ℤ y
-    flipped x y e h = omega (arith, ints)
 
 -- ---- a closed point
 
 both_straight : (a j u c : Pt) → ¬ (a ≡ j) → pos 0 <ℤ turn_of a u c → turn_of a u j ≡ pos 0 → turn_of a j c ≡ pos 0 → ⊥
 both_straight a j u c differ turn hu hc =
     let e = no_product (turn_of a u c *ℤ square_of a j) (turn_of a u j *ℤ reach_of a j c) (turn_of a j c) (reach_of a u j) (along_ray a j c u) hc in
-    let z : turn_of a u j *ℤ reach_of a j c ≡ pos 0 = no_factor (turn_of a u j) (reach_of a j c) hu in
+    let z : turn_of a u j *ℤ reach_of a j c ≡ pos 0 = zero_by_first (turn_of a u j) (reach_of a j c) hu in
     let p = mul-pos (turn_of a u c) (square_of a j) turn (square_of-pos a j differ) in
     omega (arith, ints)
-  where
-    no_factor : (x y : ℤ) → x ≡ pos 0 → x *ℤ y ≡ pos 0
-    no_factor x y e = ap (λ (k : ℤ). k *ℤ y) e ∙ by_ring (y ∷ []) _ _ (search quoting depth 40 fits 100000) (search quoting depth 40 fits 100000) tt
 
 pub shut_off : (p : PlanParts) → IsPlan p → (segs : List Segment) (a : ℕ) → a < length p.points → ((v : ℕ) → IsSpoke segs a v → IsShut (map_of p) segs a v) → ((v : ℕ) × IsSpoke segs a v × HasTriangleLeft (map_of p) segs a v) → IsShutOff (map_of p) (edges_of segs) a
 shut_off p is segs a an shut (v, spoke, t) j jn differ =
     let m = map_of p in let at = place m in
     let apart : ¬ (at a ≡ at j) = places_differ p is a j an (subst (λ (n : ℕ). j < n) (count_of_plan p is) jn) differ in
     elim (sign_cases (turn_between m a v j)) [
-      | inl h ↦ bar_left m segs a j v jn shut spoke (flipped (turn_between m a v j) (turn_between m a j v) (turn_back (at a) (at v) (at j)) h)
+      | inl h ↦ bar_left m segs a j v jn shut spoke (pos_where_negated (turn_between m a v j) (turn_between m a j v) (turn_back (at a) (at v) (at j)) h)
       | inr (inr h) ↦ bar_right m segs a j v jn shut spoke h
       | inr (inl z) ↦ elim (sign_cases (turn_between m a j t.0)) [
-        | inl h ↦ bar_right m segs a j t.0 jn shut t.1 (flipped (turn_between m a j t.0) (turn_between m a t.0 j) (turn_back (at a) (at j) (at t.0)) h)
+        | inl h ↦ bar_right m segs a j t.0 jn shut t.1 (pos_where_negated (turn_between m a j t.0) (turn_between m a t.0 j) (turn_back (at a) (at j) (at t.0)) h)
         | inr (inr h) ↦ bar_left m segs a j t.0 jn shut t.1 h
         | inr (inl y) ↦ absurd (both_straight (at a) (at j) (at v) (at t.0) apart t.3.turn z y)
       ]
     ]
-  where
-    flipped : (x y : ℤ) → y ≡ neg_ℤ x → x <ℤ pos 0 → pos 0 <ℤ y
-    flipped x y e h = omega (arith, ints)

@@ -9,7 +9,7 @@ use Rattle.exact_ring.proofs.MoreSigns.{square-pos}
 use Rattle.sight_names.specs.declared.names.Pt.{Pt}
 use Rattle.sight_names.specs.Point.{Point, point_of, SamePoint}
 use Rattle.sight_names.specs.Sound.{IsCommon, IsEndOf, MeetAtEnds}
-use Rattle.plane_base.proofs.Vec.{V, Lin, at, det, On, value, mean, bary_x, bary_y, bary_d, det-swap, det-cycle}
+use Rattle.plane_base.proofs.Vec.{V, Lin, at, det, On, value, mean, bary_x, bary_y, bary_d, det-swap, det-cycle, on_back}
 use Rattle.plane_base.proofs.Wedge.{Inside}
 use Rattle.plane_base.proofs.Near.{det-flip, on_first, on_inside, unit, height}
 use Rattle.sight_laws.proofs.Bridge.{vec, segment_of_on, on_of_segment}
@@ -17,7 +17,12 @@ use Rattle.sight_laws.proofs.Paths.{point_at}
 use Rattle.mesh_base.proofs.Net.{IsAt}
 use Rattle.mesh_base.proofs.Face.{Apart, not_at_end}
 use Rattle.mesh_base.proofs.Clash.{along, along_first, Differ, differ_back, MeetsFairly, fair, end_in_first, end_in_second, same_ends, cross_right, cross_left, meeting}
-use Rattle.geom_exact.proofs.Uniqueness.{same_sym, same_trans}
+use Rattle.geom_exact.proofs.Uniqueness.{same_trans}
+use Rattle.exact_ring.proofs.Small.{same_where_no_difference, some_square}
+use Rattle.mesh_base.proofs.MakeNet.{crossing, apart_of}
+use Rattle.sight_names.proofs.Meets.{same_whole}
+use Rattle.sight_names.proofs.Records.{pt_of_numbers}
+use Rattle.sight_names.proofs.Laws.{same_point_sym}
 
 abbrev pub at_pt : Pt → V
 at_pt p = vec (point_of p)
@@ -58,10 +63,7 @@ same_of_at p r h = record {
 
 -- two whole points that are one point are equal
 pub whole_same : (p q : Pt) → SamePoint (point_of p) (point_of q) → p ≡ q
-whole_same p q h = join p.x p.y q.x q.y (let e = h.x in omega (arith, ints)) (let e = h.y in omega (arith, ints))
-  where
-    join : (a b c d : ℤ) → a ≡ c → b ≡ d → ◌≡◌ {A = Pt} (record { x = a; y = b }) (record { x = c; y = d })
-    join a b c d e f = cc
+whole_same p q h = pt_of_numbers p.x p.y q.x q.y (let e = h.x in omega (arith, ints)) (let e = h.y in omega (arith, ints))
 
 -- ---- two whole points that differ
 
@@ -69,28 +71,12 @@ far_is : (px py qx qy : ℤ) → at (along (record { x = px; y = py; d = pos 1 }
 unfolding at along
 far_is px py qx qy = by_ring (px ∷ py ∷ qx ∷ qy ∷ []) _ _ (search quoting depth 80 fits 1000000) (search quoting depth 80 fits 1000000) tt
 
-some_square : (a b : ℤ) → ¬ ((a ≡ pos 0) × (b ≡ pos 0)) → pos 0 <ℤ (a *ℤ a +ℤ b *ℤ b)
-some_square a b h = elim (sign_cases a) [
-  | inl lt ↦ let s = square-pos a (λ e. omega (arith, ints)) in let t = square-nonneg b in omega (arith, ints, s, t)
-  | inr (inl e) ↦ let s = square-pos b (λ f. h (e, f)) in let t = square-nonneg a in omega (arith, ints, s, t)
-  | inr (inr lt) ↦ let s = square-pos a (λ e. omega (arith, ints)) in let t = square-nonneg b in omega (arith, ints, s, t)
-]
-
 pub differ_of : (p q : Pt) → p ≢ q → Differ (at_pt p) (at_pt q)
 differ_of p q n = record {
   first = refl;
   second = refl;
-  far = subst (λ (k : ℤ). pos 0 <ℤ k) (sym (far_is p.x p.y q.x q.y)) (some_square (q.x -ℤ p.x) (q.y -ℤ p.y) (λ h. n (join p.x p.y q.x q.y (zero_difference p.x q.x h.0) (zero_difference p.y q.y h.1))));
+  far = subst (λ (k : ℤ). pos 0 <ℤ k) (sym (far_is p.x p.y q.x q.y)) (some_square (q.x -ℤ p.x) (q.y -ℤ p.y) (λ h. n (pt_of_numbers p.x p.y q.x q.y (same_where_no_difference p.x q.x h.0) (same_where_no_difference p.y q.y h.1))));
 }
-  where
-    join : (a b c d : ℤ) → a ≡ c → b ≡ d → ◌≡◌ {A = Pt} (record { x = a; y = b }) (record { x = c; y = d })
-    join a b c d e f = cc
-
-    zero_difference : (a b : ℤ) → b -ℤ a ≡ pos 0 → a ≡ b
-    zero_difference a b e = omega (arith, ints)
-
-apart_of : (p q : V) → Differ p q → Apart p q
-apart_of p q h = record { f = along p q; zero = along_first p q h.first h.second; above = h.far }
 
 -- ---- from points to vectors
 
@@ -134,21 +120,18 @@ ends_of_fair p q s t h r c =
     )
 
 one_place : (p s : Pt) (r : Point) → SamePoint r (point_of p) → SamePoint r (point_of s) → p ≡ s
-one_place p s r a b = whole_same p s (same_trans (point_of p) r (point_of s) (same_sym r (point_of p) a) b)
-
-same_at : (p : Pt) (r u : Point) → SamePoint r (point_of p) → SamePoint u (point_of p) → SamePoint r u
-same_at p r u a b = same_trans r (point_of p) u a (same_sym u (point_of p) b)
+one_place p s r a b = whole_same p s (same_trans (point_of p) r (point_of s) (same_point_sym r (point_of p) a) b)
 
 -- r at p and u at q, both at ends of s t: they are one point, or the segments have the same ends
 two_ends : (p q s t : Pt) → ¬ SameEnds p q s t → (r u : Point) → SamePoint r (point_of p) → SamePoint u (point_of q) → IsEndOf s t r → IsEndOf s t u → SamePoint r u
 two_ends p q s t n r u rp uq rs us = elim rs as (λ _. SamePoint r u) [
   | inl a ↦ elim us as (λ _. SamePoint r u) [
-    | inl b ↦ same_at s r u a b
+    | inl b ↦ same_whole s r u a b
     | inr b ↦ absurd (n (inl (one_place p s r rp a, one_place q t u uq b)))
   ]
   | inr a ↦ elim us as (λ _. SamePoint r u) [
     | inl b ↦ absurd (n (inr (one_place p t r rp a, one_place q s u uq b)))
-    | inr b ↦ same_at t r u a b
+    | inr b ↦ same_whole t r u a b
   ]
 ]
 
@@ -158,44 +141,12 @@ meet_of_fair p q s t n h = record {
   one = λ r u cr cu.
       let er = ends_of_fair p q s t h r cr in let eu = ends_of_fair p q s t h u cu in
       elim er.0 as (λ _. SamePoint r u) [
-        | inl a ↦ elim eu.0 as (λ _. SamePoint r u) [ inl b ↦ same_at p r u a b | inr b ↦ two_ends p q s t n r u a b er.1 eu.1 ]
-        | inr a ↦ elim eu.0 as (λ _. SamePoint r u) [ inl b ↦ same_sym u r (two_ends p q s t n u r b a eu.1 er.1) | inr b ↦ same_at q r u a b ]
+        | inl a ↦ elim eu.0 as (λ _. SamePoint r u) [ inl b ↦ same_whole p r u a b | inr b ↦ two_ends p q s t n r u a b er.1 eu.1 ]
+        | inr a ↦ elim eu.0 as (λ _. SamePoint r u) [ inl b ↦ same_point_sym u r (two_ends p q s t n u r b a eu.1 er.1) | inr b ↦ same_whole q r u a b ]
       ];
 }
 
 -- ---- how two segments meet, decided
-
--- the crossing point
-crossing : (i j k l : V) → det i j k <ℤ pos 0 → pos 0 <ℤ det i j l → pos 0 <ℤ det k l i → det k l j <ℤ pos 0 → (y : V) × Inside i j y × Inside k l y
-crossing i j k l hk hl hi hj =
-    let m = mean (neg_ℤ (det k l j)) (det k l i) i j (omega (arith, ints)) (omega (arith, ints)) in
-    let y = m.0 in
-    let c1 = det-cycle l i j in
-    let c2 = det-flip i k j in
-    let coord : (yx ix jx kx lx : ℤ) → pos 1 *ℤ yx ≡ neg_ℤ (det k l j) *ℤ ix +ℤ det k l i *ℤ jx → det k l i *ℤ jx ≡ det l i j *ℤ kx +ℤ det i k j *ℤ lx +ℤ det k l j *ℤ ix
-    → pos 1 *ℤ yx ≡ det i j l *ℤ kx +ℤ neg_ℤ (det i j k) *ℤ lx = λ yx ix jx kx lx e b.
-    let n = neg-*ℤ (det k l j) ix in
-    let p : det l i j *ℤ kx ≡ det i j l *ℤ kx = ap (λ (t : ℤ). t *ℤ kx) (sym c1) in
-    let q : det i k j *ℤ lx ≡ neg_ℤ (det i j k) *ℤ lx = ap (λ (t : ℤ). t *ℤ lx) (let z : det i k j ≡ neg_ℤ (det i j k) = omega (arith, ints) in z) in
-    omega (arith, ints) in (
-      y,
-      record { l = neg_ℤ (det k l j); m = det k l i; n = pos 1; comb = m.1; left = omega (arith, ints); right = hi },
-      record {
-        l = det i j l;
-        m = neg_ℤ (det i j k);
-        n = pos 1;
-        left = hl;
-        right = omega (arith, ints);
-        comb = record {
-          left = omega (arith, ints);
-          right = omega (arith, ints);
-          scale = omega (arith, ints);
-          x = coord y.x i.x j.x k.x l.x m.1.x (bary_x k l i j);
-          y = coord y.y i.y j.y k.y l.y m.1.y (bary_y k l i j);
-          d = coord y.d i.d j.d k.d l.d m.1.d (bary_d k l i j);
-        };
-      },
-    )
 
 on_last : (r s : V) → On r s s
 on_last r s = (pos 0, pos 1, pos 1, record { left = omega (arith, ints); right = omega (arith, ints); scale = omega (arith, ints); x = omega (arith, ints); y = omega (arith, ints); d = omega (arith, ints) })
@@ -275,12 +226,9 @@ how_met p q s t np ns = elim (same_ends_or_not p q s t) as (λ _. HowMet p q s t
     | cross_left a b c d ↦
         let e1 = det-swap (at_pt s) (at_pt t) (at_pt p) in let e2 = det-swap (at_pt s) (at_pt t) (at_pt q) in
         let y = crossing (at_pt p) (at_pt q) (at_pt t) (at_pt s) b a (omega (arith, ints)) (omega (arith, ints)) in
-        met_within (inside_not p q s t y.0 unit np (inside_up p q y.0 y.1) y.1 (on_swapped (at_pt t) (at_pt s) y.0 (on_inside (at_pt t) (at_pt s) y.0 y.2)))
+        met_within (inside_not p q s t y.0 unit np (inside_up p q y.0 y.1) y.1 (on_back (at_pt t) (at_pt s) y.0 (on_inside (at_pt t) (at_pt s) y.0 y.2)))
   ]
 ]
   where
     one_at : (p s : Pt) → IsAt (at_pt p) (at_pt s) → p ≡ s
     one_at p s h = sym (whole_same s p (same_of_at p (point_of s) h))
-
-    on_swapped : (p q r : V) → On p q r → On q p r
-    on_swapped p q r (l, m, n, h) = (m, l, n, record { left = h.right; right = h.left; scale = h.scale; x = let e = h.x in omega (arith, ints); y = let e = h.y in omega (arith, ints); d = let e = h.d in omega (arith, ints) })

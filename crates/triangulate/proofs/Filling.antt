@@ -15,6 +15,8 @@ use Rattle.geom_exact.proofs.InsideLemmas.{inside_of_turns}
 use Rattle.mesh_shape.proofs.Separate.{inside_numbers}
 use Rattle.triangulate.specs.declared.closed.Heights.{Heights}
 use Rattle.triangulate.specs.Closed.{turn_between, IsBetween, IsEmptyTriangle, HasNoneLeft}
+use Rattle.list_base.proofs.Numbers.{below_or_last}
+use Rattle.exact_ring.proofs.Small.{pos_not_zero}
 
 -- ---- on the left
 
@@ -22,13 +24,10 @@ abbrev pub NoneBefore : Pt → Pt → List Pt → ℕ → Type 0
 NoneBefore a b points i = (k : ℕ) (p : Pt) → k < i → slice_get points k ≡ Some p → turn_of a b p ≤ℤ pos 0
 
 pub none_next : (a b : Pt) (points : List Pt) (i : ℕ) (p : Pt) → slice_get points i ≡ Some p → turn_of a b p ≤ℤ pos 0 → NoneBefore a b points i → NoneBefore a b points (i + 1)
-none_next a b points i p at here before k q lt at_k = elim (cases k i lt) [
+none_next a b points i p at here before k q lt at_k = elim (below_or_last k i lt) [
   | inl less ↦ before k q less at_k
   | inr same ↦ subst (λ (x : Pt). turn_of a b x ≤ℤ pos 0) (same_Some p q (sym at ∙ ap (slice_get points) (sym same) ∙ at_k)) here
 ]
-  where
-    cases : (k i : ℕ) → k < i + 1 → (k < i) ⊎ (k ≡ i)
-    cases k i h = grind arith
 
 pub none_left : (p : PlanParts) → IsPlan p → (a b i : ℕ) (from to : Pt) → from ≡ place (map_of p) a → to ≡ place (map_of p) b → length p.points ≤ i → NoneBefore from to p.points i → HasNoneLeft (map_of p) a b
 none_left p is a b i from to e f le before k lt =
@@ -96,13 +95,10 @@ turn_ends a c = by_ring (a.x ∷ a.y ∷ c.x ∷ c.y ∷ []) _ _ (search quoting
 -- the corners of a triangle have different numbers
 corners_differ : (m : Map) (a b c : ℕ) → pos 0 <ℤ turn_between m a b c → ¬ (a ≡ b) × ¬ (b ≡ c) × ¬ (a ≡ c)
 corners_differ m a b c h = (
-  λ e. zero (turn_between m a b c) h (ap (λ (x : ℕ). turn_between m a x c) (sym e) ∙ turn_first (place m a) (place m c)),
-  λ e. zero (turn_between m a b c) h (ap (λ (x : ℕ). turn_between m a x c) e ∙ turn_second (place m a) (place m c)),
-  λ e. zero (turn_between m a b c) h (ap (λ (x : ℕ). turn_between m a b x) (sym e) ∙ turn_ends (place m a) (place m b)),
+  λ e. pos_not_zero (turn_between m a b c) h (ap (λ (x : ℕ). turn_between m a x c) (sym e) ∙ turn_first (place m a) (place m c)),
+  λ e. pos_not_zero (turn_between m a b c) h (ap (λ (x : ℕ). turn_between m a x c) e ∙ turn_second (place m a) (place m c)),
+  λ e. pos_not_zero (turn_between m a b c) h (ap (λ (x : ℕ). turn_between m a b x) (sym e) ∙ turn_ends (place m a) (place m b)),
 )
-  where
-    zero : (t : ℤ) → pos 0 <ℤ t → t ≡ pos 0 → ⊥
-    zero t h e = omega (arith, ints)
 
 -- a point strictly inside has a number from the least of the corners on and below the greatest
 inside_between : (p : PlanParts) → IsPlan p → (a b c k low high : ℕ) → a < length p.points → b < length p.points → c < length p.points → k < length p.points → pos 0 <ℤ turn_between (map_of p) a b c
@@ -137,10 +133,7 @@ pub moved_turn : (a b c x y z : Pt) → a ≡ x → b ≡ y → c ≡ z → turn
 moved_turn a b c x y z e f g = ap (λ (k : Pt). turn_of k b c) e ∙ ap (λ (k : Pt). turn_of x k c) f ∙ ap (λ (k : Pt). turn_of x y k) g
 
 pub inside_more : (m : Map) (a b c low i : ℕ) → ((k : ℕ) → low ≤ k → k < i → ¬ IsInsideOf m a b c k) → ¬ IsInsideOf m a b c i → (k : ℕ) → low ≤ k → k < i + 1 → ¬ IsInsideOf m a b c k
-inside_more m a b c low i before here k le lt = elim (cases k i lt) [ inl less ↦ before k le less | inr same ↦ subst (λ (n : ℕ). ¬ IsInsideOf m a b c n) (sym same) here ]
-  where
-    cases : (k i : ℕ) → k < i + 1 → (k < i) ⊎ (k ≡ i)
-    cases k i h = grind arith
+inside_more m a b c low i before here k le lt = elim (below_or_last k i lt) [ inl less ↦ before k le less | inr same ↦ subst (λ (n : ℕ). ¬ IsInsideOf m a b c n) (sym same) here ]
 
 pub greatest_within : (a b n : ℕ) → a < n → b < n → max a b < n
 greatest_within a b n h k = grind arith

@@ -11,10 +11,9 @@ use Rattle.sight_names.specs.Points.{Edge, points_of, place, number_of, line_edg
 use Rattle.sight_names.specs.Sound.{MeetAtEnds, LinesMeetAtEnds}
 use Rattle.sight_names.specs.Greedy.{edge_length, ComesBefore, EdgesMeetAtEnds, IsGreedy, line_edges}
 use Rattle.sight_names.specs.Mesh.{IsKept}
-use Rattle.sight_names.proofs.Lists.{contains_cases, contains_head, contains_tail, contains_none}
+use Rattle.sight_names.proofs.Lists.{contains_cases, contains_tail}
 use Rattle.sight_names.proofs.Meets.{flip_first, flip_second}
 use Rattle.sight_laws.proofs.Bridge.{vec}
-use Rattle.sight_laws.proofs.Plans.{none_is_not_some}
 use Rattle.plane_base.proofs.Vec.{at}
 use Rattle.plane_base.proofs.Search.{In}
 use Rattle.geom_exact.proofs.Meeting.{meet_swapped}
@@ -25,6 +24,9 @@ use Rattle.mesh_base.proofs.Clash.{MeetsFairly}
 use Rattle.mesh_base.proofs.GoodMesh.{PointFacts, pv, same_or_not}
 use Rattle.triangulate.specs.Kept.{IsEdgeBetween}
 use Rattle.triangulate.proofs.FairPoints.{SameEnds, fair_of, differ_of, same_segment, met_at_ends, met_within, how_met}
+use Rattle.list_base.proofs.Numbers.{below_or_above, below_same_or_above}
+use Rattle.list_base.proofs.Lists.{contains_none, contains_here}
+use Rattle.list_base.proofs.Options.{none_is_not_some}
 
 -- ---- the numbers of the points
 
@@ -55,9 +57,9 @@ edge_is e i j p q = λ k. record { from = p k; to = q k }
 pub kept_of : (es : List Edge) (i j : ℕ) → In (pair i j) (both es) → IsKept es i j
 kept_of [] i j h = absurd h
 kept_of (e ∷ es) i j h = elim h as (λ _. IsKept (e ∷ es) i j) [
-  | inl s ↦ inl (subst (Contains (e ∷ es)) (edge_is e i j (ap (λ (x : Pair). x.from) s) (ap (λ (x : Pair). x.to) s)) (contains_head e es))
+  | inl s ↦ inl (subst (Contains (e ∷ es)) (edge_is e i j (ap (λ (x : Pair). x.from) s) (ap (λ (x : Pair). x.to) s)) (contains_here e es))
   | inr k ↦ elim k as (λ _. IsKept (e ∷ es) i j) [
-    | inl s ↦ inr (subst (Contains (e ∷ es)) (edge_is e j i (ap (λ (x : Pair). x.to) s) (ap (λ (x : Pair). x.from) s)) (contains_head e es))
+    | inl s ↦ inr (subst (Contains (e ∷ es)) (edge_is e j i (ap (λ (x : Pair). x.to) s) (ap (λ (x : Pair). x.from) s)) (contains_here e es))
     | inr r ↦ elim (kept_of es i j r) as (λ _. IsKept (e ∷ es) i j) [ inl c ↦ inl (contains_tail e (record { from = i; to = j }) es c) | inr c ↦ inr (contains_tail e (record { from = j; to = i }) es c) ]
   ]
 ]
@@ -109,28 +111,25 @@ in_lines : (m : Map) (ls : List (Option MapLine)) (i : ℕ) (l : MapLine) → op
 in_lines m [] i l e = absurd (none_is_not_some l e)
 in_lines m (None ∷ ls) zero l e = absurd (none_is_not_some l e)
 in_lines m (None ∷ ls) (suc i) l e = in_lines m ls i l e
-in_lines m (Some k ∷ ls) zero l e = subst (λ (x : MapLine). Contains (line_edge m k ∷ map (line_edge m) (filter_map (λ l. l) ls)) (line_edge m x)) (same_Some k l e) (contains_head (line_edge m k) (map (line_edge m) (filter_map (λ l. l) ls)))
+in_lines m (Some k ∷ ls) zero l e = subst (λ (x : MapLine). Contains (line_edge m k ∷ map (line_edge m) (filter_map (λ l. l) ls)) (line_edge m x)) (same_Some k l e) (contains_here (line_edge m k) (map (line_edge m) (filter_map (λ l. l) ls)))
 in_lines m (Some k ∷ ls) (suc i) l e = contains_tail (line_edge m k) (line_edge m l) (map (line_edge m) (filter_map (λ l. l) ls)) (in_lines m ls i l e)
 
 -- ---- the order of the pairs is total
 
 before_total : (m : Map) (e f : Edge) → ComesBefore m e f ⊎ ((e ≡ f) ⊎ ComesBefore m f e)
-before_total m e f = elim (three (edge_length m e) (edge_length m f)) as (λ _. ComesBefore m e f ⊎ ((e ≡ f) ⊎ ComesBefore m f e)) [
+before_total m e f = elim (below_same_or_above (edge_length m e) (edge_length m f)) as (λ _. ComesBefore m e f ⊎ ((e ≡ f) ⊎ ComesBefore m f e)) [
   | inl h ↦ inl (inl h)
   | inr (inr h) ↦ inr (inr (inl h))
-  | inr (inl a) ↦ elim (three e.from f.from) as (λ _. ComesBefore m e f ⊎ ((e ≡ f) ⊎ ComesBefore m f e)) [
+  | inr (inl a) ↦ elim (below_same_or_above e.from f.from) as (λ _. ComesBefore m e f ⊎ ((e ≡ f) ⊎ ComesBefore m f e)) [
     | inl h ↦ inl (inr (a, inl h))
     | inr (inr h) ↦ inr (inr (inr (sym a, inl h)))
-    | inr (inl b) ↦ elim (three e.to f.to) as (λ _. ComesBefore m e f ⊎ ((e ≡ f) ⊎ ComesBefore m f e)) [
+    | inr (inl b) ↦ elim (below_same_or_above e.to f.to) as (λ _. ComesBefore m e f ⊎ ((e ≡ f) ⊎ ComesBefore m f e)) [
       | inl h ↦ inl (inr (a, inr (b, h)))
       | inr (inr h) ↦ inr (inr (inr (sym a, inr (sym b, h))))
       | inr (inl c) ↦ inr (inl (λ k. record { from = b k; to = c k }))
     ]
   ]
 ]
-  where
-    three : (x y : ℕ) → (x < y) ⊎ ((x ≡ y) ⊎ (y < x))
-    three x y = grind arith
 
 -- ---- a greedy list
 
@@ -245,13 +244,13 @@ module _ (m : Map) (f : PointFacts m) (ends : LinesMeetAtEnds m) (kept : List Ed
   scan : (i j : ℕ) → i < length (points_of m) → j < length (points_of m) → ¬ (i ≡ j) → (xs : List Edge) → ((h : Edge) → Contains xs h → IsEdgeBetween (length (points_of m)) h) → Hindered xs i j ⊎ MeetsAll xs i j
   scan i j hi hj n [] each = inr (λ h c. absurd (contains_none h c))
   scan i j hi hj n (x ∷ xs) each =
-      let b = each x (contains_head x xs) in
+      let b = each x (contains_here x xs) in
       elim (scan i j hi hj n xs (λ h c. each h (contains_tail x h xs c))) as (λ _. Hindered (x ∷ xs) i j ⊎ MeetsAll (x ∷ xs) i j) [
         | inl r ↦ inl (r.0, contains_tail x r.0 xs r.1, r.2)
         | inr all ↦ elim (how_met (place m i) (place m j) (place m x.from) (place m x.to) (places_apart i j hi hj n) (places_apart x.from x.to b.from b.to b.differ)) as (λ _. Hindered (x ∷ xs) i j ⊎ MeetsAll (x ∷ xs) i j) [
-          | same_segment s ↦ inl (x, contains_head x xs, inl (same_numbers i j x.from x.to hi hj b.from b.to s))
+          | same_segment s ↦ inl (x, contains_here x xs, inl (same_numbers i j x.from x.to hi hj b.from b.to s))
           | met_at_ends a ↦ inr (meets_next i j x xs a all)
-          | met_within w ↦ inl (x, contains_head x xs, inr w)
+          | met_within w ↦ inl (x, contains_here x xs, inr w)
         ]
       ]
 
@@ -273,14 +272,11 @@ module _ (m : Map) (f : PointFacts m) (ends : LinesMeetAtEnds m) (kept : List Ed
       | inl s ↦ inl (pair_kept i j r.0 r.1 s)
       | inr w ↦ inr (r.0.from, r.0.to, in_forward kept r.0.from r.0.to r.1, w)
     ]
-    | inr all ↦ elim (order i j n) as (λ _. Barred i j) [
+    | inr all ↦ elim (below_or_above i j n) as (λ _. Barred i j) [
       | inl lt ↦ inl (in_forward kept i j (free_kept i j lt hj all))
       | inr lt ↦ inl (in_back kept i j (free_kept j i lt hi (λ h c. flip_first (place m i) (place m j) (place m h.from) (place m h.to) (all h c))))
     ]
   ]
-    where
-      order : (i j : ℕ) → ¬ (i ≡ j) → (i < j) ⊎ (j < i)
-      order i j n = grind arith
 
   spoke_of : (k : ℕ) → k < length (points_of m) → (l : ℕ) × In (pair k l) (both kept)
   spoke_of k h =

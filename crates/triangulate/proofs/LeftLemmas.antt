@@ -11,28 +11,24 @@ use Rattle.sight_names.specs.Points.{place}
 use Rattle.sight_names.specs.Mesh.{IsTriangle}
 use Rattle.plane_base.proofs.Vec.{det-last}
 use Rattle.sight_laws.proofs.Bridge.{vec, turn_at_is}
-use Rattle.sight_names.proofs.Lists.{contains_cases, contains_head, contains_none}
+use Rattle.sight_names.proofs.Lists.{contains_cases}
 use Rattle.triangulate.specs.declared.segments.Segment.{Segment}
 use Rattle.triangulate.specs.Web.{has_end, other_end, AreSegments}
 use Rattle.triangulate.specs.Spokes.{IsSpoke}
 use Rattle.triangulate.specs.Next.{IsLeftOf}
 use Rattle.triangulate.specs.Left.{IsLeftTriangle, HasLeftTriangle, HasBothSides, IsLeftAdded, AreLeftTriangles}
 use Rattle.triangulate.proofs.KeptLemmas.{any_segment}
-use Rattle.triangulate.proofs.WebLemmas.{end_cases, other_from, other_to}
+use Rattle.triangulate.proofs.WebLemmas.{end_cases, other_from, other_to, end_to, end_from}
+use Rattle.list_base.proofs.Numbers.{below_or_last}
+use Rattle.list_base.proofs.Lists.{contains_none, contains_here}
 
 -- ---- the ends of a segment are spokes of one another
-
-first_end : (s : Segment) → has_end s.from s ≡ true
-first_end s = grind (arith, nat_tests)
-
-second_end : (s : Segment) → has_end s.to s ≡ true
-second_end s = grind (arith, nat_tests)
 
 pub spoke_out : (segs : List Segment) (k : ℕ) (s : Segment) → slice_get segs k ≡ Some s → IsSpoke segs s.from s.to
 spoke_out segs k s e = (
   k,
   slice_get_within segs k s e,
-  λ d. ap (has_end s.from) (get_or_from_slice_get segs k s d e) ∙ first_end s,
+  λ d. ap (has_end s.from) (get_or_from_slice_get segs k s d e) ∙ end_from s,
   λ d. sym (ap (other_end s.from) (get_or_from_slice_get segs k s d e) ∙ other_from s.from s refl),
 )
 
@@ -40,7 +36,7 @@ pub spoke_in : (segs : List Segment) (k : ℕ) (s : Segment) → s.from ≢ s.to
 spoke_in segs k s n e = (
   k,
   slice_get_within segs k s e,
-  λ d. ap (has_end s.to) (get_or_from_slice_get segs k s d e) ∙ second_end s,
+  λ d. ap (has_end s.to) (get_or_from_slice_get segs k s d e) ∙ end_to s,
   λ d. sym (ap (other_end s.to) (get_or_from_slice_get segs k s d e) ∙ other_to s.to s n refl),
 )
 
@@ -65,7 +61,7 @@ added_keeps m segs a b old new (inr (x, first, inl h)) t c = subst (λ (xs : Lis
 pub added_has : (m : Map) (segs : List Segment) (a b : ℕ) (old new : List Triangle) → IsLeftAdded m segs a b old new → HasLeftTriangle m segs new a b
 added_has m segs a b old new (inl h) = inl h.1
 added_has m segs a b old new (inr (x, first, inr h)) = inr (x, first, λ ab ax. absurd (h.1 (ab, ax)))
-added_has m segs a b old new (inr (x, first, inl h)) = inr (x, first, λ ab ax. subst (λ (xs : List Triangle). Contains xs (record { p = a; q = b; r = x })) (sym h.2) (Contains-append_right old (record { p = a; q = b; r = x } ∷ []) (record { p = a; q = b; r = x }) (contains_head (record { p = a; q = b; r = x }) [])))
+added_has m segs a b old new (inr (x, first, inl h)) = inr (x, first, λ ab ax. subst (λ (xs : List Triangle). Contains xs (record { p = a; q = b; r = x })) (sym h.2) (Contains-append_right old (record { p = a; q = b; r = x } ∷ []) (record { p = a; q = b; r = x }) (contains_here (record { p = a; q = b; r = x }) [])))
 
 left_stays : (m : Map) (segs : List Segment) (a b : ℕ) (old new : List Triangle) → ((t : Triangle) → Contains old t → Contains new t) → HasLeftTriangle m segs old a b → HasLeftTriangle m segs new a b
 left_stays m segs a b old new keeps (inl h) = inl h
@@ -84,7 +80,7 @@ pub left_more : (m : Map) (segs : List Segment) (i n : ℕ) (s : Segment) (old m
     → IsLeftAdded m segs s.from s.to old mid → IsLeftAdded m segs s.to s.from mid new → LeftSoFar m segs (i + 1) new
 left_more m segs i n s old mid new are here so_far out back = record {
   each = added_each m segs s.to s.from mid new (spoke_in segs i s differ here) back (added_each m segs s.from s.to old mid (spoke_out segs i s here) out so_far.each);
-  all = λ k t lt e. elim (cases k i lt) as (λ _. HasBothSides m segs new t) [
+  all = λ k t lt e. elim (below_or_last k i lt) as (λ _. HasBothSides m segs new t) [
     | inl less ↦ let h = so_far.all k t less e in (left_stays m segs t.from t.to old new both_keep h.0, left_stays m segs t.to t.from old new both_keep h.1)
     | inr same ↦ subst (HasBothSides m segs new) (same_Some s t (sym here ∙ ap (slice_get segs) (sym same) ∙ e)) (
       left_stays m segs s.from s.to mid new (added_keeps m segs s.to s.from mid new back) (added_has m segs s.from s.to old mid out),
@@ -93,9 +89,6 @@ left_more m segs i n s old mid new are here so_far out back = record {
   ];
 }
   where
-    cases : (k i : ℕ) → k < i + 1 → (k < i) ⊎ (k ≡ i)
-    cases k i h = grind arith
-
     both_keep : (t : Triangle) → Contains old t → Contains new t
     both_keep t c = added_keeps m segs s.to s.from mid new back t (added_keeps m segs s.from s.to old mid out t c)
 

@@ -9,12 +9,14 @@ use Rattle.sight_names.specs.Map.{Map, map_of}
 use Rattle.sight_names.specs.Plan.{PlanParts, IsPlan, IsBefore}
 use Rattle.sight_names.specs.Points.{Edge, place}
 use Rattle.sight_names.specs.Greedy.{edge_length, square_length}
-use Rattle.sight_names.proofs.Lists.{contains_of_get, get_of_contains, contains_none}
+use Rattle.sight_names.proofs.Lists.{contains_of_get, get_of_contains}
 use Rattle.mesh_shape.proofs.Separate.{place_before}
 use Rattle.triangulate.specs.declared.rounds.PointPair.{PointPair}
 use Rattle.triangulate.specs.Pairs.{AreNumbers, HasPair, IsPairBetween, IsSquareBetween, AddsIfBetween, AddsPairs, ArePairsBetween}
 use Rattle.triangulate.proofs.Bars.{edge}
 use Rattle.triangulate.proofs.Measured.{pair_of}
+use Rattle.list_base.proofs.Numbers.{below_same_or_above, below_or_last, below_or_not}
+use Rattle.list_base.proofs.Lists.{contains_none}
 
 -- the pairs with the first i of the later points are there
 pub record AddsUpTo (m : Map) (from : ℕ) (later : List ℕ) (low high i : ℕ) (old new : List PointPair) : Type 0 where
@@ -34,7 +36,7 @@ pub adds_next : (p : PlanParts) → IsPlan p → (from to i low high square : �
 adds_next p is from to i low high square later old mid new order are at measured (inl h) before = record {
   kept = λ q c. more q (before.kept q c);
   each = λ q c. elim (Contains-push_cases mid this q (subst (λ (qs : List PointPair). Contains qs q) h.1 c)) [ inl k ↦ before.each q k | inr k ↦ inr (subst (IsPairBetween (map_of p) low high) k made) ];
-  all = λ k x lt at_k b. elim (cases k i lt) [
+  all = λ k x lt at_k b. elim (below_or_last k i lt) [
     | inl less ↦ still_there (edge from x) mid new more (before.all k x less at_k b)
     | inr same ↦ (this, subst (λ (qs : List PointPair). Contains qs this) (sym h.1) (Contains-push mid this), ap (edge from) (same_Some to x (sym at ∙ ap (slice_get later) (sym same) ∙ at_k)))
   ];
@@ -49,12 +51,10 @@ adds_next p is from to i low high square later old mid new order are at measured
     made : IsPairBetween (map_of p) low high this
     made = record { pair = pair_of p is (edge from to) order (are.within to (contains_of_get later to i at)); square = measured; between = h.0 }
 
-    cases : (k i : ℕ) → k < i + 1 → (k < i) ⊎ (k ≡ i)
-    cases k i h = grind arith
 adds_next p is from to i low high square later old mid new order are at measured (inr h) before = record {
   kept = λ q c. more q (before.kept q c);
   each = λ q c. before.each q (subst (λ (qs : List PointPair). Contains qs q) h.1 c);
-  all = λ k x lt at_k b. elim (cases k i lt) [
+  all = λ k x lt at_k b. elim (below_or_last k i lt) [
     | inl less ↦ still_there (edge from x) mid new more (before.all k x less at_k b)
     | inr same ↦ absurd (h.0 (subst (IsSquareBetween low high) (sym measured) (subst (λ (y : ℕ). IsSquareBetween low high (edge_length (map_of p) (edge from y))) (sym (same_Some to x (sym at ∙ ap (slice_get later) (sym same) ∙ at_k))) b)))
   ];
@@ -62,9 +62,6 @@ adds_next p is from to i low high square later old mid new order are at measured
   where
     more : (q : PointPair) → Contains mid q → Contains new q
     more q c = subst (λ (qs : List PointPair). Contains qs q) (sym h.1) c
-
-    cases : (k i : ℕ) → k < i + 1 → (k < i) ⊎ (k ≡ i)
-    cases k i h = grind arith
 
 pub adds_all : (m : Map) (from : ℕ) (later : List ℕ) (low high i : ℕ) (old new : List PointPair) → length later ≤ i → AddsUpTo m from later low high i old new → AddsPairs m from later low high old new
 adds_all m from later low high i old new le before = record {
@@ -100,7 +97,7 @@ pub adds_rest : (p : PlanParts) → IsPlan p → (from to i low high : ℕ) (lat
 adds_rest p is from to i low high later old new order are at far before = record {
   kept = before.kept;
   each = before.each;
-  all = λ x c b. elim (cases c.0 i) [
+  all = λ x c b. elim (below_or_not c.0 i) [
     | inl lt ↦ before.all c.0 x lt (get_of_contains later x c.0 c.1 c.2) b
     | inr le ↦ absurd (let h = far_apart (at_point from) (at_point x) high (further x (behind x c le)) in let s = b.1 in omega arith)
   ];
@@ -108,9 +105,6 @@ adds_rest p is from to i low high later old new order are at far before = record
   where
     at_point : ℕ → Pt
     at_point k = place (map_of p) k
-
-    cases : (k i : ℕ) → (k < i) ⊎ (i ≤ k)
-    cases k i = grind arith
 
     split : (k i : ℕ) → i ≤ k → (i ≡ k) ⊎ (i < k)
     split k i h = grind arith
@@ -161,22 +155,16 @@ pub between_next : (m : Map) (points i from low high : ℕ) (numbers : List ℕ)
     → BetweenUpTo m numbers low high i mid → BetweenUpTo m numbers low high (i + 1) new
 between_next m points i from low high numbers mid new are at adds before = record {
   each = λ p c. elim (adds.each p c) [ inl h ↦ before.each p h | inr h ↦ h ];
-  all = λ k x to lt at_k c order b. elim (cases k i lt) [
+  all = λ k x to lt at_k c order b. elim (below_or_last k i lt) [
     | inl less ↦ still_there (edge x to) mid new adds.kept (before.all k x to less at_k c order b)
     | inr same ↦ let e = same_Some from x (sym at ∙ ap (slice_get numbers) (sym same) ∙ at_k) in
         subst (λ (y : ℕ). HasPair new (edge y to)) e (adds.all to (later to c (subst (λ (y : ℕ). y < to) (sym e) order)) (subst (λ (y : ℕ). IsSquareBetween low high (edge_length m (edge y to))) (sym e) b))
   ];
 }
   where
-    cases : (k i : ℕ) → k < i + 1 → (k < i) ⊎ (k ≡ i)
-    cases k i h = grind arith
-
-    order_cases : (k i : ℕ) → (k < i) ⊎ (k ≡ i) ⊎ (i < k)
-    order_cases k i = grind arith
-
     -- a greater number stands behind
     later : (to : ℕ) → Contains numbers to → from < to → Contains (drop (i + 1) numbers) to
-    later to c order = elim (order_cases c.0 i) [
+    later to c order = elim (below_same_or_above c.0 i) [
       | inl lt ↦ absurd (let h = are.ascend c.0 i to from lt (get_of_contains numbers to c.0 c.1 c.2) at in omega arith)
       | inr (inl e) ↦ absurd (let h = same_Some from to (sym at ∙ ap (slice_get numbers) (sym e) ∙ get_of_contains numbers to c.0 c.1 c.2) in omega arith)
       | inr (inr lt) ↦ contains_of_get (drop (i + 1) numbers) to (c.0 - (i + 1)) (slice_get-drop (i + 1) numbers (c.0 - (i + 1)) ∙ ap (slice_get numbers) (omega arith) ∙ get_of_contains numbers to c.0 c.1 c.2)

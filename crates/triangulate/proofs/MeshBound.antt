@@ -27,6 +27,9 @@ use Rattle.mesh_base.proofs.GoodMesh.{PointFacts, pv}
 use Rattle.mesh_base.proofs.PlanFacts.{plan_facts}
 use Rattle.triangulate.proofs.GreedyNet.{numbers, both, greedy_net}
 use Rattle.triangulate.proofs.MeshLaws.{NetTri, net_tri, turned_tri, same_place}
+use Rattle.list_base.proofs.Bools.{one_true}
+use Rattle.list_base.proofs.Numbers.{tells_other}
+use Rattle.exact_ring.proofs.Small.{neg_of_negated_pos}
 
 -- ---- functionals that rise with the numbers of the points
 
@@ -101,14 +104,11 @@ module _ (m : Map) (up : Ascending m) where
   fall_before : (j i : ℕ) → i < j → j < length (points_of m) → pos 0 <ℤ at (falling steep (place m j)) (pv m i)
   fall_before j i lt hj = subst (λ (z : ℤ). pos 0 <ℤ z) (sym (fall_ring steep (place m j).x (place m j).y (place m i).x (place m i).y)) (above i j lt hj)
 
-  below_zero : (a b : ℤ) → a ≡ neg_ℤ b → pos 0 <ℤ b → a <ℤ pos 0
-  below_zero a b e h = omega (arith, ints)
-
   rise_before : (j i : ℕ) → i < j → j < length (points_of m) → at (rising steep (place m j)) (pv m i) <ℤ pos 0
-  rise_before j i lt hj = below_zero _ _ (rise_ring steep (place m j).x (place m j).y (place m i).x (place m i).y ∙ back_ring steep (place m i).x (place m j).x (place m i).y (place m j).y) (above i j lt hj)
+  rise_before j i lt hj = neg_of_negated_pos _ _ (rise_ring steep (place m j).x (place m j).y (place m i).x (place m i).y ∙ back_ring steep (place m i).x (place m j).x (place m i).y (place m j).y) (above i j lt hj)
 
   fall_behind : (j k : ℕ) → j < k → k < length (points_of m) → at (falling steep (place m j)) (pv m k) <ℤ pos 0
-  fall_behind j k lt hk = below_zero _ _ (fall_ring steep (place m j).x (place m j).y (place m k).x (place m k).y ∙ back_ring steep (place m j).x (place m k).x (place m j).y (place m k).y) (above j k lt hk)
+  fall_behind j k lt hk = neg_of_negated_pos _ _ (fall_ring steep (place m j).x (place m j).y (place m k).x (place m k).y ∙ back_ring steep (place m j).x (place m k).x (place m j).y (place m k).y) (above j k lt hk)
 
 -- ---- the middle point of a triangle, and the side on which it is
 
@@ -209,14 +209,7 @@ module _ (m : Map) (f : PointFacts m) (ends : LinesMeetAtEnds m) (up : Ascending
   all_differ t [] h each = tt
   all_differ t (u ∷ ts) h each =
       let a = each zero u refl in
-      (differs (code t) (code u) (λ e. a.1 (same_code t u h a.0 e)), all_differ t ts h (λ k v e. each (suc k) v e))
-    where
-      differs : (x y : ℕ) → ¬ (x ≡ y) → eqb x y ≡ false
-      differs x y n = go (eqb x y) (eqb-true x y)
-        where
-          go : (b : Bool) → (b ≡ true → x ≡ y) → b ≡ false
-          go true h = absurd (n (h refl))
-          go false h = refl
+      (tells_other (code t) (code u) (λ e. a.1 (same_code t u h a.0 e)), all_differ t ts h (λ k v e. each (suc k) v e))
 
   codes_differ : (ts : List Triangle) → ((k : ℕ) (t : Triangle) → slice_get ts k ≡ Some t → IsMeshTriangle m kept t) → ((i j : ℕ) (t u : Triangle) → i < j → slice_get ts i ≡ Some t → slice_get ts j ≡ Some u → ¬ (t ≡ u)) → IsDistinct eqb (map code ts)
   unfolding IsDistinct
@@ -228,14 +221,10 @@ module _ (m : Map) (f : PointFacts m) (ends : LinesMeetAtEnds m) (up : Ascending
 
   some_code : (q : ℕ) (ts : List Triangle) → ((k : ℕ) (t : Triangle) → slice_get ts k ≡ Some t → IsMeshTriangle m kept t) → list_any (eqb q) (map code ts) ≡ true → q < 2 * length (points_of m)
   some_code q [] each h = absurd (false≢true h)
-  some_code q (t ∷ ts) each h = elim (or_cases (eqb q (code t)) (list_any (eqb q) (map code ts)) h) as (λ _. q < 2 * length (points_of m)) [
+  some_code q (t ∷ ts) each h = elim (one_true (eqb q (code t)) (list_any (eqb q) (map code ts)) h) as (λ _. q < 2 * length (points_of m)) [
     | inl e ↦ let b = code_below t (each zero t refl) in let s = eqb-true q (code t) e in omega arith
     | inr r ↦ some_code q ts (λ k u e. each (suc k) u e) r
   ]
-    where
-      or_cases : (a b : Bool) → (a || b) ≡ true → (a ≡ true) ⊎ (b ≡ true)
-      or_cases true b h = inl refl
-      or_cases false b h = inr h
 
   pub few_triangles : (ts : List Triangle) → ((k : ℕ) (t : Triangle) → slice_get ts k ≡ Some t → IsMeshTriangle m kept t) → AreTriangles (length (points_of m)) ts → length ts ≤ 2 * length (points_of m)
   few_triangles ts each are =

@@ -18,6 +18,8 @@ use Rattle.mesh_base.proofs.GoodMesh.{PointFacts, pv}
 use Rattle.mesh_shape.proofs.RuleLemmas.{edge_cases, first_edge, second_edge, third_edge, moved_ends}
 use Rattle.mesh_shape.specs.Fills.{FillsHull, FillsSides}
 use Rattle.triangulate.proofs.GreedyNet.{numbers, in_numbers, number_below, both, kept_of, in_kept, kept_back, kept_meet, each_line_kept, greedy_maximal, greedy_net}
+use Rattle.list_base.proofs.Numbers.{below_same_or_above}
+use Rattle.sight_names.proofs.OneMesh.{above_irreflexive}
 
 -- ---- turning a triangle
 
@@ -56,17 +58,11 @@ same_turned n t u a b c it iu ht hu =
 -- ---- places in an ascending list
 
 pub same_place : (n : ℕ) (ts : List Triangle) (i j : ℕ) (t : Triangle) → AreTriangles n ts → slice_get ts i ≡ Some t → slice_get ts j ≡ Some t → i ≡ j
-same_place n ts i j t are hi hj = elim (three i j) as (λ _. i ≡ j) [
-  | inl lt ↦ absurd (not_above t (are.ascend i j t t lt hi hj))
+same_place n ts i j t are hi hj = elim (below_same_or_above i j) as (λ _. i ≡ j) [
+  | inl lt ↦ absurd (above_irreflexive t (are.ascend i j t t lt hi hj))
   | inr (inl e) ↦ e
-  | inr (inr lt) ↦ absurd (not_above t (are.ascend j i t t lt hj hi))
+  | inr (inr lt) ↦ absurd (above_irreflexive t (are.ascend j i t t lt hj hi))
 ]
-  where
-    three : (x y : ℕ) → (x < y) ⊎ ((x ≡ y) ⊎ (y < x))
-    three x y = grind arith
-
-    not_above : (t : Triangle) → IsAbove t t → ⊥
-    not_above t h = elim h [ inl k ↦ omega arith | inr k ↦ elim k.1 [ inl j ↦ omega arith | inr j ↦ (let q = j.1 in omega arith) ] ]
 
 -- ---- the triangles of the definition and those of the net
 
@@ -129,8 +125,6 @@ module _ (m : Map) (f : PointFacts m) (ends : LinesMeetAtEnds m) (kept : List Ed
     ])
     | inr h ↦ inl (moved_ends (place m u) (place m v) (place m (number_of m l.first)) (place m (number_of m l.second)) (place m u) (place m v) l.first l.second refl refl (f.first i l is).0 (f.second i l is).0 h)
   ]
-
-  -- a corner triple as a triangle with its least number first
 
   corner_tri : (a b c : ℕ) → NetTri a b c → (t : Triangle) × IsMeshTriangle m kept t × HasEdge t (record { from = a; to = b })
   corner_tri a b c t =

@@ -10,7 +10,7 @@ use Rattle.sight_names.specs.Points.{Edge, points_of, place}
 use Rattle.sight_names.specs.Sound.{LinesMeetAtEnds}
 use Rattle.sight_names.specs.Greedy.{IsGreedy}
 use Rattle.sight_names.specs.Mesh.{IsKept, IsMeshTriangle}
-use Rattle.sight_names.proofs.Lists.{contains_cases, contains_head, contains_tail, contains_none, contains_of_get}
+use Rattle.sight_names.proofs.Lists.{contains_cases, contains_tail, contains_of_get}
 use Rattle.plane_base.proofs.Vec.{det, edge, det-cycle, det-first}
 use Rattle.plane_base.proofs.Near.{det-flip}
 use Rattle.sight_laws.proofs.Bridge.{turn_at_is}
@@ -28,12 +28,13 @@ use Rattle.triangulate.proofs.WebLemmas.{end_cases, other_from, other_to}
 use Rattle.triangulate.proofs.LeftLemmas.{spoke_out, spoke_in}
 use Rattle.triangulate.proofs.GreedyNet.{numbers, number_below, both, kept_of, in_kept, kept_ends, greedy_net, greedy_maximal}
 use Rattle.triangulate.proofs.MeshLaws.{NetTri, net_tri, mesh_tri}
+use Rattle.list_base.proofs.Lists.{contains_none, contains_here}
 
 -- ---- spokes are kept segments
 
 contains_edge : (segs : List Segment) (k : ℕ) (s : Segment) → slice_get segs k ≡ Some s → Contains (map edge_of segs) (edge_of s)
 contains_edge [] k s e = absurd (contains_none s (contains_of_get [] s k e))
-contains_edge (x ∷ segs) zero s e = subst (λ (y : Segment). Contains (map edge_of (x ∷ segs)) (edge_of y)) (same_Some x s e) (contains_head (edge_of x) (map edge_of segs))
+contains_edge (x ∷ segs) zero s e = subst (λ (y : Segment). Contains (map edge_of (x ∷ segs)) (edge_of y)) (same_Some x s e) (contains_here (edge_of x) (map edge_of segs))
 contains_edge (x ∷ segs) (suc k) s e = contains_tail (edge_of x) (edge_of s) (map edge_of segs) (contains_edge segs k s e)
 
 pub spoke_kept : (segs : List Segment) (u v : ℕ) → ((k : ℕ) (s : Segment) → slice_get segs k ≡ Some s → s.from ≢ s.to) → IsSpoke segs u v → IsKept (map edge_of segs) u v

@@ -16,6 +16,7 @@ use Rattle.sight_laws.proofs.Bridge.{vec, turn_at_is}
 use Rattle.triangulate.specs.declared.segments.Segment.{Segment}
 use Rattle.triangulate.specs.Spokes.{IsSpoke}
 use Rattle.triangulate.specs.Next.{IsLeftOf, IsRightOf, IsNextLeft, IsNextRight, IsBehindLeft, IsBehindRight, IsBestLeft, IsBestRight}
+use Rattle.list_base.proofs.Options.{none_is_not_some, some_is_same}
 
 -- the best point so far is a spoke on the side
 pub record IsHeldLeft (m : Map) (segs : List Segment) (a : ℕ) (p q : Pt) (best : Option ℕ) : Type 0 where
@@ -74,10 +75,7 @@ best_left_here m p q best r c (inr s) = subst (λ (x : Option ℕ). IsBehindLeft
 
 pub best_left_held : (m : Map) (segs : List Segment) (a : ℕ) (p q : Pt) (best r : Option ℕ) (c : ℕ) → IsHeldLeft m segs a p q best → IsSpoke segs a c → IsBestLeft m p q best c r → IsHeldLeft m segs a p q r
 best_left_held m segs a p q best r c held spoke (inl s) = subst (IsHeldLeft m segs a p q) (sym s.0) held
-best_left_held m segs a p q best r c held spoke (inr s) = subst (IsHeldLeft m segs a p q) (sym s.0) (record { held = λ d e. (subst (IsSpoke segs a) (same c d e) spoke, subst (IsLeftOf m p q) (same c d e) s.1.left) })
-  where
-    same : (c d : ℕ) → Some c ≡ Some d → c ≡ d
-    same c d e = cc
+best_left_held m segs a p q best r c held spoke (inr s) = subst (IsHeldLeft m segs a p q) (sym s.0) (record { held = λ d e. (subst (IsSpoke segs a) (some_is_same c d e) spoke, subst (IsLeftOf m p q) (some_is_same c d e) s.1.left) })
 
 pub next_left_of : (m : Map) (segs : List Segment) (a b : ℕ) (p q : Pt) (best : Option ℕ) → p ≡ place m a → q ≡ place m b → IsHeldLeft m segs a p q best → ((x : ℕ) → IsSpoke segs a x → IsBehindLeft m p q best x) → IsNextLeft m segs a b best
 next_left_of m segs a b p q None e f held behind = λ x s h. behind x s (subst (λ (u : Pt). IsLeftOf m u q x) (sym e) (subst (λ (u : Pt). IsLeftOf m (place m a) u x) (sym f) h))
@@ -103,10 +101,7 @@ best_right_here m p q best r c (inr s) = subst (λ (x : Option ℕ). IsBehindRig
 
 pub best_right_held : (m : Map) (segs : List Segment) (a : ℕ) (p q : Pt) (best r : Option ℕ) (c : ℕ) → IsHeldRight m segs a p q best → IsSpoke segs a c → IsBestRight m p q best c r → IsHeldRight m segs a p q r
 best_right_held m segs a p q best r c held spoke (inl s) = subst (IsHeldRight m segs a p q) (sym s.0) held
-best_right_held m segs a p q best r c held spoke (inr s) = subst (IsHeldRight m segs a p q) (sym s.0) (record { held = λ d e. (subst (IsSpoke segs a) (same c d e) spoke, subst (IsRightOf m p q) (same c d e) s.1.right) })
-  where
-    same : (c d : ℕ) → Some c ≡ Some d → c ≡ d
-    same c d e = cc
+best_right_held m segs a p q best r c held spoke (inr s) = subst (IsHeldRight m segs a p q) (sym s.0) (record { held = λ d e. (subst (IsSpoke segs a) (some_is_same c d e) spoke, subst (IsRightOf m p q) (some_is_same c d e) s.1.right) })
 
 pub next_right_of : (m : Map) (segs : List Segment) (a b : ℕ) (p q : Pt) (best : Option ℕ) → p ≡ place m a → q ≡ place m b → IsHeldRight m segs a p q best → ((x : ℕ) → IsSpoke segs a x → IsBehindRight m p q best x) → IsNextRight m segs a b best
 next_right_of m segs a b p q None e f held behind = λ x s h. behind x s (subst (λ (u : Pt). IsRightOf m u q x) (sym e) (subst (λ (u : Pt). IsRightOf m (place m a) u x) (sym f) h))
@@ -119,16 +114,10 @@ next_right_of m segs a b p q (Some d) e f held behind = record {
 -- ---- nothing found yet
 
 pub none_held_left : (m : Map) (segs : List Segment) (a : ℕ) (p q : Pt) → IsHeldLeft m segs a p q None
-none_held_left m segs a p q = record { held = λ d e. absurd (none d e) }
-  where
-    none : (d : ℕ) → ◌≡◌ {A = Option ℕ} None (Some d) → ⊥
-    none d e = cc
+none_held_left m segs a p q = record { held = λ d e. absurd (none_is_not_some d e) }
 
 pub none_held_right : (m : Map) (segs : List Segment) (a : ℕ) (p q : Pt) → IsHeldRight m segs a p q None
-none_held_right m segs a p q = record { held = λ d e. absurd (none d e) }
-  where
-    none : (d : ℕ) → ◌≡◌ {A = Option ℕ} None (Some d) → ⊥
-    none d e = cc
+none_held_right m segs a p q = record { held = λ d e. absurd (none_is_not_some d e) }
 
 -- ---- one step, as the code takes it
 
@@ -149,10 +138,7 @@ pub kept_left : (m : Map) (p q : Pt) (best : Option ℕ) (c d : ℕ) (s : ℤ) �
 kept_left m p q best c d s is f k = inl (sym is, subst (λ (x : Option ℕ). IsBehindLeft m p q x c) (sym is) (λ h. omega (arith, ints)))
 
 pub first_taken_left : (m : Map) (p q : Pt) (best : Option ℕ) (c : ℕ) (t : ℤ) → best ≡ None → t ≡ turn_at p q (point_of (place m c)) → pos 0 <ℤ t → IsBestLeft m p q best c (Some c)
-first_taken_left m p q best c t is e h = inr (refl, record { left = omega (arith, ints); before = λ x g. absurd (none x (sym is ∙ g)) })
-  where
-    none : (d : ℕ) → ◌≡◌ {A = Option ℕ} None (Some d) → ⊥
-    none d e = cc
+first_taken_left m p q best c t is e h = inr (refl, record { left = omega (arith, ints); before = λ x g. absurd (none_is_not_some x (sym is ∙ g)) })
 
 pub passed_right : (m : Map) (p q : Pt) (best : Option ℕ) (c : ℕ) (t : ℤ) → t ≡ turn_at p q (point_of (place m c)) → pos 0 ≤ℤ t → IsBestRight m p q best c best
 passed_right m p q None c t e h = inl (refl, λ k. omega (arith, ints))
@@ -165,7 +151,4 @@ pub kept_right : (m : Map) (p q : Pt) (best : Option ℕ) (c d : ℕ) (s : ℤ) 
 kept_right m p q best c d s is f k = inl (sym is, subst (λ (x : Option ℕ). IsBehindRight m p q x c) (sym is) (λ h. omega (arith, ints)))
 
 pub first_taken_right : (m : Map) (p q : Pt) (best : Option ℕ) (c : ℕ) (t : ℤ) → best ≡ None → t ≡ turn_at p q (point_of (place m c)) → t <ℤ pos 0 → IsBestRight m p q best c (Some c)
-first_taken_right m p q best c t is e h = inr (refl, record { right = omega (arith, ints); before = λ x g. absurd (none x (sym is ∙ g)) })
-  where
-    none : (d : ℕ) → ◌≡◌ {A = Option ℕ} None (Some d) → ⊥
-    none d e = cc
+first_taken_right m p q best c t is e h = inr (refl, record { right = omega (arith, ints); before = λ x g. absurd (none_is_not_some x (sym is ∙ g)) })

@@ -11,6 +11,7 @@ use Rattle.sight_names.specs.Greedy.{IsPointPair, edge_length, square_length}
 use Rattle.sight_names.proofs.PlanNumbers.{place_of_plan, count_of_plan}
 use Rattle.triangulate.specs.Pairs.{IsWithin, IsReach}
 use Rattle.triangulate.specs.Rounds.{IsShorter}
+use Rattle.list_base.proofs.Numbers.{below_or_last, below_through}
 
 two_squares : (b a c : ℕ) → a ≤ 2 * b → c ≤ 2 * b → a * a + c * c < (3 * b + 1) * (3 * b + 1)
 two_squares b a c h k = let p : a * a ≤ (2 * b) * (2 * b) = mul-le-mul h h in let q : c * c ≤ (2 * b) * (2 * b) = mul-le-mul k k in omega arith
@@ -25,10 +26,7 @@ pub all_shorter : (m : Map) (b low : ℕ) → IsReach m b → 3 * b + 1 ≤ low 
 all_shorter m b low reach le e pair =
     let h = short_square b (place m e.from) (place m e.to) (reach e.from (let p = pair.0 in let q = pair.1 in omega arith)) (reach e.to pair.1) in
     let k : (3 * b + 1) * (3 * b + 1) ≤ low * low = mul-le-mul le le in
-    longer (edge_length m e) ((3 * b + 1) * (3 * b + 1)) (low * low) h k
-  where
-    longer : (a b c : ℕ) → a < b → b ≤ c → a < c
-    longer a b c h k = omega arith
+    below_through (edge_length m e) ((3 * b + 1) * (3 * b + 1)) (low * low) h k
 
 -- ---- the greatest coordinate, point by point
 
@@ -36,14 +34,11 @@ abbrev pub ReachBefore : List Pt → ℕ → ℕ → Type 0
 ReachBefore points i b = (k : ℕ) (p : Pt) → k < i → slice_get points k ≡ Some p → IsWithin b p
 
 pub reach_next : (points : List Pt) (i b c d : ℕ) (p : Pt) → slice_get points i ≡ Some p → b ≤ d → c ≤ d → IsWithin c p → ReachBefore points i b → ReachBefore points (i + 1) d
-reach_next points i b c d p at bd cd within before k q lt at_k = elim (cases k i lt) [
+reach_next points i b c d p at bd cd within before k q lt at_k = elim (below_or_last k i lt) [
   | inl less ↦ let h = before k q less at_k in (wider (nat_abs q.x) b d h.0 bd, wider (nat_abs q.y) b d h.1 bd)
   | inr same ↦ subst (IsWithin d) (same_Some p q (sym at ∙ ap (slice_get points) (sym same) ∙ at_k)) (wider (nat_abs p.x) c d within.0 cd, wider (nat_abs p.y) c d within.1 cd)
 ]
   where
-    cases : (k i : ℕ) → k < i + 1 → (k < i) ⊎ (k ≡ i)
-    cases k i h = grind arith
-
     wider : (a b c : ℕ) → a ≤ b → b ≤ c → a ≤ c
     wider a b c h k = omega arith
 

@@ -12,52 +12,32 @@ use Rattle.sight_names.specs.Point.{point_of}
 use Rattle.sight_names.specs.Points.{Edge, place, points_of}
 use Rattle.sight_names.specs.Greedy.{edge_length, ComesBefore, IsPointPair, EdgesMeetAtEnds, line_edges, IsGreedy}
 use Rattle.sight_names.proofs.Laws.{start_on, on_segment_sym}
-use Rattle.sight_names.proofs.Lists.{contains_of_get, get_of_contains, contains_none}
+use Rattle.sight_names.proofs.Lists.{contains_of_get, get_of_contains}
 use Rattle.sight_names.proofs.Meets.{flip_first}
 use Rattle.triangulate.specs.declared.rounds.PointPair.{PointPair}
 use Rattle.triangulate.specs.Kept.{MeetsEach, IsBarred}
 use Rattle.triangulate.specs.Pairs.{pair_edge, HasPair, IsPairBetween, ArePairsBetween, AreInOrder, IsNotAfter}
 use Rattle.triangulate.specs.Rounds.{IsEarlier, IsGreedySoFar, IsShorter, IsShutOff, KeepsIfFree, KeepsFree}
-use Rattle.triangulate.proofs.Bars.{edge}
+use Rattle.triangulate.proofs.Bars.{edge, same_edge}
+use Rattle.list_base.proofs.Numbers.{below_or_last, one_order_of_three}
+use Rattle.list_base.proofs.Lists.{pushed_at, contains_none}
+use Rattle.exact_ring.proofs.Small.{same_without_one}
+use Rattle.sight_names.proofs.OneGreedy.{before_asymmetric, before_irreflexive}
+use Rattle.sight_names.proofs.Records.{pt_of_numbers, same_pt}
 
 -- ---- a segment and itself
 
-same_pt : (p q : Pt) → p.x ≡ q.x → p.y ≡ q.y → p ≡ q
-same_pt p q e f = go p.x p.y q.x q.y e f
-  where
-    go : (a b c d : ℤ) → a ≡ c → b ≡ d → ◌≡◌ {A = Pt} (record { x = a; y = b }) (record { x = c; y = d })
-    go a b c d e f = cc
-
--- a segment of some length shares more with itself than ends
 pub bars_itself : (m : Map) (e : Edge) → place m e.from ≢ place m e.to → ¬ EdgesMeetAtEnds m e e
 bars_itself m e differ h =
     let p = place m e.from in let q = place m e.to in
     let a = start_on (point_of p) (point_of q) in
     let b = on_segment_sym (point_of q) (point_of p) (point_of q) (start_on (point_of q) (point_of p)) in
     let s = h.one (point_of p) (point_of q) (a, a) (b, b) in
-    differ (same_pt p q (single p.x q.x s.x) (single p.y q.y s.y))
-  where
-    single : (a b : ℤ) → a *ℤ pos 1 ≡ b *ℤ pos 1 → a ≡ b
-    single a b h = omega (arith, ints)
+    differ (same_pt p q (same_without_one p.x q.x s.x) (same_without_one p.y q.y s.y))
 
 -- ---- the order of pairs
 
-not_before_itself : (m : Map) (e : Edge) → ComesBefore m e e → ⊥
-not_before_itself m e h = elim h [ inl k ↦ omega arith | inr k ↦ elim k.1 [ inl j ↦ omega arith | inr j ↦ (let q = j.1 in omega arith) ] ]
-
-not_both_ways : (m : Map) (e f : Edge) → ComesBefore m e f → ComesBefore m f e → ⊥
-not_both_ways m e f h k = lex (edge_length m e) (edge_length m f) e.from f.from e.to f.to h k
-  where
-    lex : (a b c d x y : ℕ) → (a < b) ⊎ ((a ≡ b) × ((c < d) ⊎ ((c ≡ d) × (x < y)))) → (b < a) ⊎ ((b ≡ a) × ((d < c) ⊎ ((d ≡ c) × (y < x)))) → ⊥
-    lex a b c d x y h k = omega arith
-
 -- ---- lists
-
-pub push_cases : {X : Type 0} (xs : List X) (y x : X) (k : ℕ) → slice_get (xs ++ y ∷ []) k ≡ Some x → (slice_get xs k ≡ Some x) ⊎ ((k ≡ length xs) × (y ≡ x))
-push_cases [] y x zero e = inr (refl, same_Some y x e)
-push_cases [] y x (suc k) e = absurd (none-some x e)
-push_cases (z ∷ xs) y x zero e = inl e
-push_cases (z ∷ xs) y x (suc k) e = elim (push_cases xs y x k e) [ inl h ↦ inl h | inr h ↦ inr (ap suc h.0, h.1) ]
 
 -- ---- one more pair
 
@@ -79,18 +59,18 @@ module _ (m : Map) (T : Edge → Type 0) (kept : List Edge) (e : Edge) (s : IsGr
     lines_first = ap (λ (es : List Edge). es ++ e ∷ []) s.lines_first ∙ append_assoc (line_edges m) s.rest (e ∷ []);
     pairs = λ f c. elim (Contains-push_cases s.rest e f c) [ inl h ↦ s.pairs f h | inr h ↦ subst (IsPointPair m) h pair ];
     tried = λ f c. elim (Contains-push_cases s.rest e f c) [ inl h ↦ inl (s.tried f h) | inr h ↦ inr (sym h) ];
-    ascend = λ i j f g lt at_i at_j. elim (push_cases s.rest e g j at_j) [
-      | inl h ↦ elim (push_cases s.rest e f i at_i) [ inl k ↦ s.ascend i j f g lt k h | inr k ↦ absurd (let w = slice_get_within s.rest j g h in let q = k.0 in omega arith) ]
-      | inr h ↦ elim (push_cases s.rest e f i at_i) [ inl k ↦ subst (ComesBefore m f) h.1 (before_new f (contains_of_get s.rest f i k)) | inr k ↦ absurd (let p = h.0 in let q = k.0 in omega arith) ]
+    ascend = λ i j f g lt at_i at_j. elim (pushed_at s.rest e g j at_j) [
+      | inl h ↦ elim (pushed_at s.rest e f i at_i) [ inl k ↦ s.ascend i j f g lt k h | inr k ↦ absurd (let w = slice_get_within s.rest j g h in let q = k.0 in omega arith) ]
+      | inr h ↦ elim (pushed_at s.rest e f i at_i) [ inl k ↦ subst (ComesBefore m f) h.1 (before_new f (contains_of_get s.rest f i k)) | inr k ↦ absurd (let p = h.0 in let q = k.0 in omega arith) ]
     ];
     free = λ f c g early. elim (Contains-push_cases s.rest e f c) [
       | inl h ↦ elim early [
         | inl l ↦ s.free f h g (inl l)
-        | inr r ↦ elim (Contains-push_cases s.rest e g r.0) [ inl k ↦ s.free f h g (inr (k, r.1)) | inr k ↦ absurd (not_both_ways m e f (subst (λ (x : Edge). ComesBefore m x f) (sym k) r.1) (before_new f h)) ]
+        | inr r ↦ elim (Contains-push_cases s.rest e g r.0) [ inl k ↦ s.free f h g (inr (k, r.1)) | inr k ↦ absurd (before_asymmetric m e f (subst (λ (x : Edge). ComesBefore m x f) (sym k) r.1) (before_new f h)) ]
       ]
       | inr h ↦ subst (λ (x : Edge). EdgesMeetAtEnds m x g) h (elim early [
         | inl l ↦ meets g (in_kept g (inl l))
-        | inr r ↦ elim (Contains-push_cases s.rest e g r.0) [ inl k ↦ meets g (in_kept g (inr k)) | inr k ↦ absurd (not_before_itself m e (subst (λ (x : Edge). ComesBefore m x e) (sym k) (subst (ComesBefore m g) (sym h) r.1))) ]
+        | inr r ↦ elim (Contains-push_cases s.rest e g r.0) [ inl k ↦ meets g (in_kept g (inr k)) | inr k ↦ absurd (before_irreflexive m e (subst (λ (x : Edge). ComesBefore m x e) (sym k) (subst (ComesBefore m g) (sym h) r.1))) ]
       ])
     ];
     settled = λ f p t. elim t [
@@ -204,13 +184,10 @@ comes_last m low pairs i p at ordered all f (inr (k, lt, q, at_k, same)) =
     lex : (a b : ℕ) (q p : PointPair) → a ≡ q.square → b ≡ p.square → IsNotAfter q p → ((a < b) ⊎ ((a ≡ b) × ((q.from < p.from) ⊎ ((q.from ≡ p.from) × (q.to < p.to))))) ⊎ (pair_edge q ≡ pair_edge p)
     lex a b q p e f (inl h) = inl (inl (omega arith))
     lex a b q p e f (inr (s, inl h)) = inl (inr (e ∙ s ∙ sym f, inl h))
-    lex a b q p e f (inr (s, inr (h, k))) = elim (cases q.to p.to k) [ inl lt ↦ inl (inr (e ∙ s ∙ sym f, inr (h, lt))) | inr t ↦ inr (join h t) ]
+    lex a b q p e f (inr (s, inr (h, k))) = elim (cases q.to p.to k) [ inl lt ↦ inl (inr (e ∙ s ∙ sym f, inr (h, lt))) | inr t ↦ inr (same_edge h t) ]
       where
         cases : (x y : ℕ) → x ≤ y → (x < y) ⊎ (x ≡ y)
         cases x y h = grind arith
-
-        join : {a b c d : ℕ} → a ≡ c → b ≡ d → edge a b ≡ edge c d
-        join e f = cc
 
 abbrev pub TriesBefore : Map → List PointPair → ℕ → List Edge → List Edge → Type 0
 TriesBefore m pairs i old new = (low : ℕ) → IsGreedySoFar m (IsShorter m low) old → AreAllBetween m low pairs → IsGreedySoFar m (TriedBefore m low pairs i) new
@@ -229,11 +206,8 @@ try_next m pairs i p old mid new at ordered pair bar keeps before low s all =
     ])
     (λ e q t. inl (elim t [
       | inl h ↦ inl (inl h)
-      | inr h ↦ elim (cases h.0 i h.1) [ inl lt ↦ inl (inr (h.0, lt, h.2, h.3, h.4)) | inr same ↦ inr (sym h.4 ∙ ap pair_edge (same_Some h.2 p (sym h.3 ∙ ap (slice_get pairs) same ∙ at))) ]
+      | inr h ↦ elim (below_or_last h.0 i h.1) [ inl lt ↦ inl (inr (h.0, lt, h.2, h.3, h.4)) | inr same ↦ inr (sym h.4 ∙ ap pair_edge (same_Some h.2 p (sym h.3 ∙ ap (slice_get pairs) same ∙ at))) ]
     ]))
-  where
-    cases : (k i : ℕ) → k < i + 1 → (k < i) ⊎ (k ≡ i)
-    cases k i h = grind arith
 
 pub grown : (m : Map) (e : Edge) (mid new : List Edge) → KeepsIfFree m e mid new → (f : Edge) → Contains mid f → Contains new f
 grown m e mid new (inl h) f c = subst (λ (es : List Edge). Contains es f) (sym h.1) (Contains-append_left mid (e ∷ []) f c)

@@ -20,8 +20,10 @@ use Rattle.triangulate.specs.Web.{has_end, other_end}
 use Rattle.triangulate.specs.Spokes.{IsSpoke, SpokesMeet, MayReach}
 use Rattle.triangulate.specs.Stars.{IsInRange, IsInStar, IsWithinStar, HasNoEnds, AreStars, AreBlocks, Widens, IsStrip, IsBeside, IsPassed}
 use Rattle.triangulate.proofs.KeptLemmas.{any_segment}
-use Rattle.triangulate.proofs.WebLemmas.{end_cases, other_from, one_more, old_at, new_at}
+use Rattle.triangulate.proofs.WebLemmas.{end_cases, other_from, old_at, new_at}
 use Rattle.triangulate.proofs.Bars.{edge, other_not_from}
+use Rattle.list_base.proofs.Numbers.{below_or_last}
+use Rattle.list_base.proofs.Lists.{length_pushed}
 
 -- ---- no segment yet
 
@@ -39,15 +41,12 @@ pub record StarsUpTo (m : Map) (k : ℕ) (stars : List Star) : Type 0 where
 
 pub star_next : (m : Map) (k : ℕ) (stars : List Star) (s : Star) → StarsUpTo m k stars → HasNoEnds m k s → StarsUpTo m (k + 1) (stars ++ s ∷ [])
 star_next m k stars s h here = record {
-  count = let e = h.count in let f = one_more stars s in omega arith;
-  none = λ u d lt. elim (cases u k lt) [
+  count = let e = h.count in let f = length_pushed stars s in omega arith;
+  none = λ u d lt. elim (below_or_last u k lt) [
     | inl less ↦ subst (HasNoEnds m u) (sym (get_or_append_left stars (s ∷ []) d u (let e = h.count in omega arith))) (h.none u d less)
     | inr same ↦ subst (λ (n : ℕ). HasNoEnds m n (get_or (stars ++ s ∷ []) u d)) (sym same) (subst (HasNoEnds m k) (sym (get_or_at stars s [] d u (h.count ∙ sym same))) here)
   ];
 }
-  where
-    cases : (u k : ℕ) → u < k + 1 → (u < k) ⊎ (u ≡ k)
-    cases u k h = grind arith
 
 -- ---- one more segment
 
@@ -59,14 +58,11 @@ end_in_wider v y s t h r = (in_wider y s t h r.0, let a = h.far in let b = r.1 i
 
 -- a spoke of u in a longer list was one before, or it is the new segment from u
 spoke_grown : (segs : List Segment) (s : Segment) (u v : ℕ) → IsSpoke (segs ++ s ∷ []) u v → IsSpoke segs u v ⊎ ((s.from ≡ u) × (v ≡ s.to)) ⊎ ((s.to ≡ u) × (v ≡ s.from))
-spoke_grown segs s u v (k, lt, end, other) = elim (cases k (length segs) (let m = one_more segs s in omega arith)) [
+spoke_grown segs s u v (k, lt, end, other) = elim (below_or_last k (length segs) (let m = length_pushed segs s in omega arith)) [
   | inl less ↦ inl (k, less, λ d. ap (has_end u) (sym (old_at segs s k d less)) ∙ end d, λ d. other d ∙ ap (other_end u) (old_at segs s k d less))
   | inr same ↦ inr (new_end (cases_eq s.from u) (end_cases u s (ap (has_end u) (sym (new_at segs s any_segment k same)) ∙ end any_segment)) (other any_segment ∙ ap (other_end u) (new_at segs s any_segment k same)))
 ]
   where
-    cases : (k n : ℕ) → k < n + 1 → (k < n) ⊎ (k ≡ n)
-    cases k n h = grind arith
-
     new_end : (s.from ≡ u) ⊎ (¬ (s.from ≡ u)) → (s.from ≡ u) ⊎ (s.to ≡ u) → v ≡ other_end u s → ((s.from ≡ u) × (v ≡ s.to)) ⊎ ((s.to ≡ u) × (v ≡ s.from))
     new_end (inl e) h o = inl (e, o ∙ other_from u s e)
     new_end (inr n) (inl e) o = absurd (n e)

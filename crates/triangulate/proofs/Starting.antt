@@ -10,11 +10,12 @@ use Rattle.sight_names.specs.Plan.{PlanParts, IsPlan, IsPlanLine}
 use Rattle.sight_names.specs.Points.{Edge, line_edge}
 use Rattle.sight_names.specs.Greedy.{line_edges}
 use Rattle.sight_names.proofs.PlanNumbers.{number_of_plan}
-use Rattle.sight_names.proofs.Lists.{contains_of_get, get_of_contains, contains_none}
+use Rattle.sight_names.proofs.Lists.{contains_of_get, get_of_contains}
 use Rattle.triangulate.specs.Pairs.{AreNumbers}
 use Rattle.triangulate.specs.Rounds.{AddsIfOpen, IsShutOff, edges_of_line}
-use Rattle.triangulate.proofs.Bars.{edge}
-use Rattle.triangulate.proofs.SoFar.{push_cases}
+use Rattle.triangulate.proofs.Bars.{edge, same_edge}
+use Rattle.list_base.proofs.Numbers.{below_or_last}
+use Rattle.list_base.proofs.Lists.{length_pushed, get_pushed, get_before_pushed, pushed_at, contains_none}
 
 -- ---- lines
 
@@ -23,10 +24,7 @@ edges_of_lines [] = []
 edges_of_lines (o ∷ os) = edges_of_line o ++ edges_of_lines os
 
 edge_of_numbers : (p : PlanParts) → IsPlan p → (l : Line) → l.a < length p.points → l.b < length p.points → line_edge (map_of p) (looked_up p.points l) ≡ edge l.a l.b
-edge_of_numbers p is l a b = join (number_of_plan p is l.a a) (number_of_plan p is l.b b)
-  where
-    join : {a b c d : ℕ} → a ≡ c → b ≡ d → edge a b ≡ edge c d
-    join e f = cc
+edge_of_numbers p is l a b = same_edge (number_of_plan p is l.a a) (number_of_plan p is l.b b)
 
 pub edges_of_plan_lines : (p : PlanParts) → IsPlan p → (os : List (Option Line)) → ((i : ℕ) (l : Line) → slice_get os i ≡ Some (Some l) → IsPlanLine p.sectors (length p.points) l)
     → map (line_edge (map_of p)) (filter_map (λ (o : Option MapLine). o) (map (option_map (looked_up p.points)) os)) ≡ edges_of_lines os
@@ -63,33 +61,17 @@ pub record IsCount (k : ℕ) (numbers : List ℕ) : Type 0 where
   pub count : length numbers ≡ k
   pub at : (i : ℕ) → i < k → slice_get numbers i ≡ Some i
 
-before_push : {X : Type 0} (xs : List X) (y x : X) (i : ℕ) → slice_get xs i ≡ Some x → slice_get (xs ++ y ∷ []) i ≡ Some x
-before_push [] y x i e = absurd (none-some x e)
-before_push (z ∷ xs) y x zero e = e
-before_push (z ∷ xs) y x (suc i) e = before_push xs y x i e
-
-pushed_at : {X : Type 0} (xs : List X) (y : X) → slice_get (xs ++ y ∷ []) (length xs) ≡ Some y
-pushed_at [] y = refl
-pushed_at (z ∷ xs) y = pushed_at xs y
-
-one_more : {X : Type 0} (xs : List X) (x : X) → length (xs ++ x ∷ []) ≡ length xs + 1
-one_more [] x = refl
-one_more (y ∷ xs) x = let e = one_more xs x in omega (arith, e)
-
 pub count_none : IsCount 0 []
 count_none = record { count = refl; at = λ i lt. absurd (omega arith) }
 
 pub count_next : (k : ℕ) (numbers : List ℕ) → IsCount k numbers → IsCount (k + 1) (numbers ++ k ∷ [])
 count_next k numbers c = record {
-  count = let e = one_more numbers k in let f = c.count in omega arith;
-  at = λ i lt. elim (cases i k lt) [
-    | inl less ↦ before_push numbers k i i (c.at i less)
-    | inr same ↦ ap (slice_get (numbers ++ k ∷ [])) (same ∙ sym c.count) ∙ pushed_at numbers k ∙ ap (λ (n : ℕ). Some n) (sym same)
+  count = let e = length_pushed numbers k in let f = c.count in omega arith;
+  at = λ i lt. elim (below_or_last i k lt) [
+    | inl less ↦ get_before_pushed numbers k i i (c.at i less)
+    | inr same ↦ ap (slice_get (numbers ++ k ∷ [])) (same ∙ sym c.count) ∙ get_pushed numbers k ∙ ap (λ (n : ℕ). Some n) (sym same)
   ];
 }
-  where
-    cases : (i k : ℕ) → i < k + 1 → (i < k) ⊎ (i ≡ k)
-    cases i k h = grind arith
 
 at_is : (k : ℕ) (numbers : List ℕ) → IsCount k numbers → (i x : ℕ) → slice_get numbers i ≡ Some x → (i ≡ x) × (i < k)
 at_is k numbers c i x e = let lt : i < k = subst (λ (n : ℕ). i < n) c.count (slice_get_within numbers i x e) in (same_Some i x (sym (c.at i lt) ∙ e), lt)
@@ -121,38 +103,32 @@ pub open_next : (m : Map) (kept : List Edge) (points : ℕ) (live : List ℕ) (i
 open_next m kept points live i x mid new are at (inl e) o = subst (OpenUpTo m kept points live (i + 1)) (sym e) (record {
   numbers = record {
     within = λ k c. elim (Contains-push_cases mid x k c) [ inl h ↦ o.numbers.within k h | inr h ↦ subst (λ (n : ℕ). n < points) h (are.within x (contains_of_get live x i at)) ];
-    ascend = λ a b y z lt at_a at_b. elim (push_cases mid x z b at_b) [
-      | inl h ↦ elim (push_cases mid x y a at_a) [ inl k ↦ o.numbers.ascend a b y z lt k h | inr k ↦ absurd (let w = slice_get_within mid b z h in let q = k.0 in omega arith) ]
-      | inr h ↦ elim (push_cases mid x y a at_a) [
+    ascend = λ a b y z lt at_a at_b. elim (pushed_at mid x z b at_b) [
+      | inl h ↦ elim (pushed_at mid x y a at_a) [ inl k ↦ o.numbers.ascend a b y z lt k h | inr k ↦ absurd (let w = slice_get_within mid b z h in let q = k.0 in omega arith) ]
+      | inr h ↦ elim (pushed_at mid x y a at_a) [
         | inl k ↦ let f = o.before y (contains_of_get mid y a k) in subst (λ (n : ℕ). y < n) h.1 (are.ascend f.0 i y x f.1 f.2 at)
         | inr k ↦ absurd (let p = h.0 in let q = k.0 in omega arith)
       ]
     ];
   };
   before = λ y c. elim (Contains-push_cases mid x y c) [ inl h ↦ later (o.before y h) | inr h ↦ (i, omega arith, at ∙ ap (λ (n : ℕ). Some n) h) ];
-  closed = λ k y lt at_k. elim (cases k i lt) [
+  closed = λ k y lt at_k. elim (below_or_last k i lt) [
     | inl less ↦ elim (o.closed k y less at_k) [ inl h ↦ inl (Contains-append_left mid (x ∷ []) y h) | inr h ↦ inr h ]
     | inr same ↦ inl (subst (Contains (mid ++ x ∷ [])) (same_Some x y (sym at ∙ ap (slice_get live) (sym same) ∙ at_k)) (Contains-push mid x))
   ];
 })
   where
-    cases : (k i : ℕ) → k < i + 1 → (k < i) ⊎ (k ≡ i)
-    cases k i h = grind arith
-
     later : {y : ℕ} → ((k : ℕ) × (k < i) × (slice_get live k ≡ Some y)) → (k : ℕ) × (k < i + 1) × (slice_get live k ≡ Some y)
     later (k, lt, e) = (k, omega arith, e)
 open_next m kept points live i x mid new are at (inr e) o = subst (OpenUpTo m kept points live (i + 1)) (sym e.0) (record {
   numbers = o.numbers;
   before = λ y c. later (o.before y c);
-  closed = λ k y lt at_k. elim (cases k i lt) [
+  closed = λ k y lt at_k. elim (below_or_last k i lt) [
     | inl less ↦ o.closed k y less at_k
     | inr same ↦ inr (subst (IsShutOff m kept) (same_Some x y (sym at ∙ ap (slice_get live) (sym same) ∙ at_k)) e.1)
   ];
 })
   where
-    cases : (k i : ℕ) → k < i + 1 → (k < i) ⊎ (k ≡ i)
-    cases k i h = grind arith
-
     later : {y : ℕ} → ((k : ℕ) × (k < i) × (slice_get live k ≡ Some y)) → (k : ℕ) × (k < i + 1) × (slice_get live k ≡ Some y)
     later (k, lt, e) = (k, omega arith, e)
 

@@ -4,6 +4,7 @@ use Rattle.std.proofs.lemmas.Bool.{true≢false}
 use Rattle.triangulate.specs.declared.segments.Segment.{Segment}
 use Rattle.triangulate.specs.Web.{has_end, other_end, IsLastAt}
 use Rattle.triangulate.specs.Spokes.{IsSpoke}
+use Rattle.list_base.proofs.Numbers.{below_same_or_above}
 
 -- the walk stands behind segment at - 1, which is at u, and each spoke that it has passed has P
 pub record IsWalk (segs : List Segment) (u : ℕ) (P : ℕ → Type 0) (at : ℕ) : Type 0 where
@@ -23,15 +24,12 @@ pub walk_step : (segs : List Segment) (u : ℕ) (P Q : ℕ → Type 0) (at k j :
 walk_step segs u P Q at k j w e weaker here h = record {
   within = let a = h.within in let b = w.within in omega arith;
   here = λ i f d. h.here i f d;
-  passed = λ i lt le v end other. elim (cases i k) [
+  passed = λ i lt le v end other. elim (below_same_or_above i k) [
     | inl less ↦ absurd (let d : Segment = record { from = 0; to = 0 } in true≢false (sym (end d) ∙ h.none i less le d))
     | inr (inl same) ↦ here v (λ d. other d ∙ ap (λ (n : ℕ). other_end u (get_or segs n d)) same)
     | inr (inr more) ↦ weaker v (w.passed i lt (omega arith) v end other)
   ];
 }
-  where
-    cases : (i k : ℕ) → (i < k) ⊎ ((i ≡ k) ⊎ (k < i))
-    cases i k = grind arith
 
 -- at the end all spokes have been passed
 pub walk_end : (segs : List Segment) (u : ℕ) (P : ℕ → Type 0) (at : ℕ) → IsWalk segs u P at → at ≡ 0 → (v : ℕ) → IsSpoke segs u v → P v

@@ -6,17 +6,9 @@ use Rattle.std.proofs.lemmas.Bool.{false≢true, true≢false, cases_eq}
 use Rattle.triangulate.specs.declared.segments.Segment.{Segment}
 use Rattle.triangulate.specs.declared.web.Links.{Links}
 use Rattle.triangulate.specs.Web.{has_end, other_end, IsLastAt, IsLinked, IsSegment, WebParts, IsWeb}
-
-bool_cases : {P : Type 0} (b : Bool) → (b ≡ true → P) → (b ≡ false → P) → P
-bool_cases true f g = f refl
-bool_cases false f g = g refl
-
-lt_cases : (k n : ℕ) → k < n + 1 → (k < n) ⊎ (k ≡ n)
-lt_cases k n h = grind arith
-
-pub one_more : {X : Type 0} (xs : List X) (x : X) → length (xs ++ x ∷ []) ≡ length xs + 1
-one_more [] x = refl
-one_more (y ∷ xs) x = let e = one_more xs x in omega (arith, e)
+use Rattle.list_base.proofs.Bools.{true_by_second, true_by_first, by_value}
+use Rattle.list_base.proofs.Lists.{length_pushed}
+use Rattle.list_base.proofs.Numbers.{below_or_last}
 
 -- ---- one more segment
 
@@ -46,7 +38,7 @@ last_new segs s u n e h = record {
 last_over : (segs : List Segment) (s : Segment) (u j n : ℕ) → n ≡ length segs + 1 → has_end u s ≡ false → IsLastAt segs u (length segs) j → IsLastAt (segs ++ s ∷ []) u n j
 last_over segs s u j n e none h = record {
   within = let w = h.within in omega arith;
-  none = λ k a b d. elim (lt_cases k (length segs) (omega arith)) [
+  none = λ k a b d. elim (below_or_last k (length segs) (omega arith)) [
     | inl lt ↦ ap (has_end u) (old_at segs s k d lt) ∙ h.none k lt b d
     | inr same ↦ ap (has_end u) (new_at segs s d k same) ∙ none
   ];
@@ -55,20 +47,11 @@ last_over segs s u j n e none h = record {
 
 -- ---- ends
 
-end_from : (s : Segment) → has_end s.from s ≡ true
-end_from s = go (s.from == s.from) (s.to == s.from) (eq-eqb s.from s.from refl)
-  where
-    go : (a b : Bool) → a ≡ true → (a || b) ≡ true
-    go true b h = refl
-    go false b h = absurd (false≢true h)
+pub end_from : (s : Segment) → has_end s.from s ≡ true
+end_from s = true_by_first (s.from == s.from) (s.to == s.from) (eq-eqb s.from s.from refl)
 
-end_to : (s : Segment) → has_end s.to s ≡ true
-end_to s = go (s.from == s.to) (s.to == s.to) (eq-eqb s.to s.to refl)
-  where
-    go : (a b : Bool) → b ≡ true → (a || b) ≡ true
-    go true b h = refl
-    go false true h = refl
-    go false false h = absurd (false≢true h)
+pub end_to : (s : Segment) → has_end s.to s ≡ true
+end_to s = true_by_second (s.from == s.to) (s.to == s.to) (eq-eqb s.to s.to refl)
 
 pub end_cases : (u : ℕ) (s : Segment) → has_end u s ≡ true → (s.from ≡ u) ⊎ (s.to ≡ u)
 end_cases u s h = go (s.from == u) (s.to == u) (eqb-true s.from u) (eqb-true s.to u) h
@@ -119,18 +102,18 @@ pub push_web : (points : ℕ) (segs : List Segment) (last : List ℕ) (links : L
     → (n : ℕ) → n ≡ length segs + 1
     → IsWeb points (segs ++ s ∷ []) (set (set last s.from n) s.to n) (links ++ record { from = get_or last s.from 0; to = get_or last s.to 0 } ∷ [])
 push_web points segs last links s web seg n e = record {
-  each = λ k lt d. elim (lt_cases k (length segs) (let m = one_more segs s in omega arith)) [
+  each = λ k lt d. elim (below_or_last k (length segs) (let m = length_pushed segs s in omega arith)) [
     | inl less ↦ subst (IsSegment points) (sym (old_at segs s k d less)) (web.each k less d)
     | inr same ↦ subst (IsSegment points) (sym (new_at segs s d k same)) seg
   ];
   each_point = let l1 = length-set (set last s.from n) s.to n in let l2 = length-set last s.from n in let l3 = web.each_point in omega arith;
-  each_segment = let m = one_more segs s in let o = one_more links (record { from = get_or last s.from 0; to = get_or last s.to 0 }) in let l = web.each_segment in omega arith;
-  last_at = λ u lu d. subst (λ (m : ℕ). IsLastAt (segs ++ s ∷ []) u m (get_or (set (set last s.from n) s.to n) u d)) (e ∙ sym (one_more segs s))
+  each_segment = let m = length_pushed segs s in let o = length_pushed links (record { from = get_or last s.from 0; to = get_or last s.to 0 }) in let l = web.each_segment in omega arith;
+  last_at = λ u lu d. subst (λ (m : ℕ). IsLastAt (segs ++ s ∷ []) u m (get_or (set (set last s.from n) s.to n) u d)) (e ∙ sym (length_pushed segs s))
       (two_set last s.from s.to n n from_in to_in u d (let l = web.each_point in omega arith) (λ j. IsLastAt (segs ++ s ∷ []) u n j)
       (λ f. last_new segs s u n e (has_end_if_to u s f))
       (λ f g. last_new segs s u n e (has_end_if_from u s f))
       (λ f g. last_over segs s u (get_or last u d) n e (no_end u f g) (web.last_at u lu d)));
-  linked = λ k lt d l. elim (lt_cases k (length segs) (let m = one_more segs s in omega arith)) [
+  linked = λ k lt d l. elim (below_or_last k (length segs) (let m = length_pushed segs s in omega arith)) [
     | inl less ↦ old_link k less d l
     | inr same ↦ new_link k same d l
   ];
@@ -143,7 +126,7 @@ push_web points segs last links s web seg n e = record {
     to_in = let l = web.each_point in let f = seg.to in omega arith
 
     no_end : (u : ℕ) → ¬ (s.from ≡ u) → ¬ (s.to ≡ u) → has_end u s ≡ false
-    no_end u f g = bool_cases (has_end u s) (λ h. elim (end_cases u s h) [ inl e ↦ absurd (f e) | inr e ↦ absurd (g e) ]) (λ h. h)
+    no_end u f g = by_value (has_end u s) (λ h. elim (end_cases u s h) [ inl e ↦ absurd (f e) | inr e ↦ absurd (g e) ]) (λ h. h)
 
     old_link : (k : ℕ) → k < length segs → (d : Segment) (l : Links) → IsLinked (segs ++ s ∷ []) k (get_or (segs ++ s ∷ []) k d) (get_or (links ++ record { from = get_or last s.from 0; to = get_or last s.to 0 } ∷ []) k l)
     old_link k less d l =
@@ -170,7 +153,7 @@ push_made points segs last links from to n a b segs' links' web lf lt differ es 
     subst (λ (v : List Segment). IsWeb points v (set (set last from n) to n) links') (sym es)
     (subst (λ (v : List Links). IsWeb points (segs ++ (record { from = from; to = to }) ∷ []) (set (set last from n) to n) v) (sym (el ∙ joined))
     (push_web points segs last links (record { from = from; to = to }) web (record { from = lf; to = lt; differ = differ }) n
-    (en ∙ ap length es ∙ one_more segs (record { from = from; to = to }))))
+    (en ∙ ap length es ∙ length_pushed segs (record { from = from; to = to }))))
   where
     in_last : from < length last
     in_last = let l = web.each_point in omega arith

@@ -6,6 +6,7 @@ use Rattle.std.proofs.lemmas.List.{append-nil}
 use Rattle.std.proofs.lemmas.List.Folds.{list_any-append}
 use Rattle.std.proofs.lemmas.Slice.Eq.{bytes_eq-Decides}
 use Rattle.wad_dir.specs.Map.{has_name, is_run_name, key_of, last_from, run_from, same_name}
+use Rattle.list_base.proofs.Bools.{second_false, first_false}
 
 -- ---- an element put into a list
 
@@ -140,10 +141,6 @@ unfolding more
 more_same before after [] also none = refl
 more_same before after (n ∷ ns) also none = by (is_run_name n) (has_name n before) (same_name padded n) (has_name n after) refl (also n) none (λ q. more_same (before ++ n ∷ []) (after ++ n ∷ []) ns (also_pushed before after n also) q)
   where
-    both : (a b : Bool) → (a || b) ≡ false → b ≡ false
-    both true b e = absurd cc
-    both false b e = e
-
     named : same_name padded n ≡ true → has_name word (n ∷ more (before ++ n ∷ []) ns) ≡ false → ⊥
     named s e = by_name (same_name n word) (is_reject n s) e
       where
@@ -159,7 +156,7 @@ more_same before after (n ∷ ns) also none = by (is_run_name n) (has_name n bef
     by true true s false is e q rest = absurd cc
     by true false true a is e q rest = absurd (named is q)
     by true false false true is e q rest = absurd cc
-    by true false false false is e q rest = ap (λ (ms : List (List ℕ)). n ∷ ms) (rest (both (same_name n word) (has_name word (more (before ++ n ∷ []) ns)) q))
+    by true false false false is e q rest = ap (λ (ms : List (List ℕ)). n ∷ ms) (rest (second_false (same_name n word) (has_name word (more (before ++ n ∷ []) ns)) q))
 
 -- a REJECT that is put into what is added, where there is none yet, is added
 pub more_insert : (p : ℕ) (before ns : List (List ℕ)) → p ≤ length (more before ns) → has_name word before ≡ false → has_name word (more before ns) ≡ false → more before (insert ns p padded) ≡ insert (more before ns) p padded
@@ -179,21 +176,13 @@ more_insert zero before ns le none fresh = by (has_name word before) none
 more_insert (suc p) before [] le none fresh = absurd (omega (arith, le))
 more_insert (suc p) before (n ∷ ns) le none fresh = by (is_run_name n && not (has_name n before)) (λ l a b. more_insert p (before ++ n ∷ []) ns l a b) le fresh
   where
-    left : (a b : Bool) → (a || b) ≡ false → a ≡ false
-    left true b e = absurd cc
-    left false b e = refl
-
-    right : (a b : Bool) → (a || b) ≡ false → b ≡ false
-    right true b e = absurd cc
-    right false b e = e
-
     behind : same_name n word ≡ false → has_name word (before ++ n ∷ []) ≡ false
     behind e = list_any-append (λ y. same_name y word) before (n ∷ []) ∙ ap (λ (b : Bool). b || (same_name n word || false)) none ∙ ap (λ (b : Bool). b || false) e
 
     by : (c : Bool) → (p ≤ length (more (before ++ n ∷ []) ns) → has_name word (before ++ n ∷ []) ≡ false → has_name word (more (before ++ n ∷ []) ns) ≡ false → more (before ++ n ∷ []) (insert ns p padded) ≡ insert (more (before ++ n ∷ []) ns) p padded)
         → suc p ≤ length (if c then n ∷ more (before ++ n ∷ []) ns else []) → has_name word (if c then n ∷ more (before ++ n ∷ []) ns else []) ≡ false
         → (if c then n ∷ more (before ++ n ∷ []) (insert ns p padded) else []) ≡ insert (if c then n ∷ more (before ++ n ∷ []) ns else []) (suc p) padded
-    by true rest l q = ap (λ (ms : List (List ℕ)). n ∷ ms) (rest (omega (arith, l)) (behind (left (same_name n word) (has_name word (more (before ++ n ∷ []) ns)) q)) (right (same_name n word) (has_name word (more (before ++ n ∷ []) ns)) q))
+    by true rest l q = ap (λ (ms : List (List ℕ)). n ∷ ms) (rest (omega (arith, l)) (behind (first_false (same_name n word) (has_name word (more (before ++ n ∷ []) ns)) q)) (second_false (same_name n word) (has_name word (more (before ++ n ∷ []) ns)) q))
     by false rest l q = absurd (omega (arith, l))
 
 -- ---- places

@@ -1,0 +1,21 @@
+-- Points and edges are their numbers.
+use Rattle.std.proofs.Common.{◌≡◌, ℕ, ℤ, Option, Some, None, ap, ap₂}
+use Rattle.sight_names.specs.declared.names.Pt.{Pt}
+use Rattle.sight_names.specs.declared.plan.Line.{Line}
+use Rattle.sight_names.specs.Points.{Edge}
+
+pub same_pt : (p q : Pt) → p.x ≡ q.x → p.y ≡ q.y → p ≡ q
+same_pt p q e f = ap₂ (λ (x y : ℤ). let v : Pt = record { x = x; y = y } in v) e f
+
+pub pt_of_numbers : (a b c d : ℤ) → a ≡ c → b ≡ d → ◌≡◌ {A = Pt} (record { x = a; y = b }) (record { x = c; y = d })
+pt_of_numbers a b c d e f = cc
+
+pub edge_of_numbers : (a b c d : ℕ) → a ≡ c → b ≡ d → ◌≡◌ {A = Edge} (record { from = a; to = b }) (record { from = c; to = d })
+edge_of_numbers a b c d e f = cc
+
+pub same_edge : {a b c d : ℕ} → a ≡ c → b ≡ d → ◌≡◌ {A = Edge} (record { from = a; to = b }) (record { from = c; to = d })
+same_edge e f = cc
+
+-- a record that is passed over has no line
+pub none_is_no_line : (l : Line) → ◌≡◌ {A = Option (Option Line)} (Some None) (Some (Some l)) → ⊥
+none_is_no_line l h = cc
