@@ -35,12 +35,12 @@ weighed_gain a b [] (p ∷ ps) = zero_ring a b
 weighed_gain a b (w ∷ ws) [] = zero_ring a b
 weighed_gain a b (w ∷ ws) (p ∷ ps) = one_more_ring a b (pos w) (across p) (up p) (weighed across ws ps) (weighed up ws ps) ∙ ap (λ (t : ℤ). pos w *ℤ gain a b p +ℤ t) (weighed_gain a b ws ps)
 
-weighed_nonneg : (f : EndPair → ℤ) (ws : List ℕ) (ps : List EndPair) → AllByRecursion (λ p. pos 0 <ℤ f p) ps → pos 0 ≤ℤ weighed f ws ps
-weighed_nonneg f [] ps h = omega (arith, ints)
-weighed_nonneg f (w ∷ ws) [] h = omega (arith, ints)
-weighed_nonneg f (w ∷ ws) (p ∷ ps) h =
+sum_nonneg : (f : EndPair → ℤ) (ws : List ℕ) (ps : List EndPair) → AllByRecursion (λ p. pos 0 <ℤ f p) ps → pos 0 ≤ℤ weighed f ws ps
+sum_nonneg f [] ps h = omega (arith, ints)
+sum_nonneg f (w ∷ ws) [] h = omega (arith, ints)
+sum_nonneg f (w ∷ ws) (p ∷ ps) h =
     let a = weighed_nonneg w (f p) h.0 in
-    let b = weighed_nonneg f ws ps h.1 in
+    let b = sum_nonneg f ws ps h.1 in
     omega (arith, ints)
 
 weighed_above : (f : EndPair → ℤ) (ws : List ℕ) (ps : List EndPair) → length ws ≡ length ps → 0 < sum ws → AllByRecursion (λ p. pos 0 <ℤ f p) ps → pos 0 <ℤ weighed f ws ps
@@ -52,7 +52,7 @@ weighed_above f (zero ∷ ws) (p ∷ ps) e s h =
     omega (arith, ints)
 weighed_above f (suc w ∷ ws) (p ∷ ps) e s h =
     let a = weighed_pos w (f p) h.0 in
-    let b = weighed_nonneg f ws ps h.1 in
+    let b = sum_nonneg f ws ps h.1 in
     omega (arith, ints)
 
 all_gains : (a b c : ℤ) (ps : List EndPair) → AllByRecursion (PartsPair a b c) ps → AllByRecursion (λ p. pos 0 <ℤ gain a b p) ps

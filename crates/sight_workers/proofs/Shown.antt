@@ -27,8 +27,8 @@ claim_some x (c ∷ cs) h = by_value (eqb c.1 x)
     (λ e. (c.0, subst (λ (y : ℕ). Contains (c ∷ cs) (c.0, y)) (is_told_same c.1 x e) (contains_here c cs)))
     (λ e. let f : cond {A = ℕ} (eqb c.1 x) 1 0 ≡ 0 = ap (λ (q : Bool). cond {A = ℕ} q 1 0) e in let r = claim_some x cs (λ z. h (omega arith)) in (r.0, contains_there (r.0, x) c cs r.1))
 
-one_below : (x n : ℕ) → x < n → once_below x n ≢ 0
-one_below x n h = let e : once_below x n ≡ 1 = one_below x n h in λ z. absurd (omega arith)
+claimed_below : (x n : ℕ) → x < n → once_below x n ≢ 0
+claimed_below x n h = let e : once_below x n ≡ 1 = one_below x n h in λ z. absurd (omega arith)
 
 at_most_one : (x n : ℕ) → once_below x n ≤ 1
 at_most_one x n = grind (arith, nat_tests)
@@ -44,7 +44,7 @@ shown t s r = record {
   where
     is_claimed : (x : ℕ) → x < get_or s.words 0 0 → IsClaimed s.views x
     is_claimed x l =
-        let v = weigh_some (λ (y : View). claims_of x y.claims) s.views (λ z. one_below x (get_or s.words 0 0) l (sym (r.once x) ∙ z)) in
+        let v = weigh_some (λ (y : View). claims_of x y.claims) s.views (λ z. claimed_below x (get_or s.words 0 0) l (sym (r.once x) ∙ z)) in
         let c = claim_some x v.1.claims v.3 in
         (v.0, v.1, c.0, v.2, c.1)
 

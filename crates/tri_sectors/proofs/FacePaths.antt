@@ -20,7 +20,7 @@ use Rattle.sight_laws.proofs.StepOff.{distance, distance_pos}
 use Rattle.mesh_base.proofs.Face.{SameSegment}
 use Rattle.mesh_base.proofs.GoodMesh.{PointFacts}
 use Rattle.mesh_shape.specs.Fills.{HasLeft}
-use Rattle.mesh_base.proofs.Joined.{Strict, CleanAll, whole, tri, free_inside, free_side, inside_free, joined, strict_mean, middle_ring, centre_strict, centre_ring}
+use Rattle.mesh_base.proofs.Joined.{Strict, CleanAll, whole, tri, free_inside, free_side, inside_free, joined, strict_mean, centre_strict, centre, middle, centre_value, middle_value}
 use Rattle.exact_ring.proofs.Small.{zero_times}
 use Rattle.geom_exact.proofs.Uniqueness.{same_trans}
 
@@ -58,26 +58,12 @@ one_leg m p q f h g = (q ∷ [], (f, h, (g, same_point_refl q)))
 
 -- ---- the middle of an edge, and the centre of a triangle
 
-unfoldable pub middle : Pt → Pt → Point
-middle a b = record { x = a.x +ℤ b.x; y = a.y +ℤ b.y; d = 2; positive = lit< tt }
-
-unfoldable pub centre : Pt → Pt → Pt → Point
-centre a b c = record { x = a.x +ℤ b.x +ℤ c.x; y = a.y +ℤ b.y +ℤ c.y; d = 3; positive = lit< tt }
-
 pub centre_turned : (a b c : Pt) → centre b c a ≡ centre a b c
 unfolding centre
 centre_turned a b c = same (b.x +ℤ c.x +ℤ a.x) (a.x +ℤ b.x +ℤ c.x) (b.y +ℤ c.y +ℤ a.y) (a.y +ℤ b.y +ℤ c.y) (omega (arith, ints)) (omega (arith, ints))
   where
     same : (x z y w : ℤ) → x ≡ z → y ≡ w → ◌≡◌ {A = Point} (record { x = x; y = y; d = 3; positive = lit< tt }) (record { x = z; y = w; d = 3; positive = lit< tt })
     same x z y w e f = λ i. record { x = e i; y = f i; d = 3; positive = lit< tt }
-
-centre_value : (f : Lin) (a b c : Pt) → at f (vec (centre a b c)) ≡ at f (whole a) +ℤ at f (whole b) +ℤ at f (whole c)
-unfolding at centre
-centre_value f a b c = centre_ring f.a f.b f.c a.x a.y b.x b.y c.x c.y
-
-pub middle_value : (f : Lin) (a b : Pt) → at f (vec (middle a b)) ≡ at f (whole a) +ℤ at f (whole b)
-unfolding at middle
-middle_value f a b = middle_ring f.a f.b f.c a.x a.y b.x b.y
 
 pub middle_closed : (a b c : Pt) → pos 0 <ℤ det (whole a) (whole b) (whole c) → Closed (tri a b c) (vec (middle a b))
 middle_closed a b c h =

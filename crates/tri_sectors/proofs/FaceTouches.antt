@@ -19,7 +19,7 @@ use Rattle.plane_base.proofs.Walk.{Tri, side, sides, Closed}
 use Rattle.sight_laws.proofs.Bridge.{vec, turn_at_is}
 use Rattle.sight_laws.proofs.Paths.{path_back, side_from, side_to}
 use Rattle.mesh_base.proofs.GoodMesh.{PointFacts, pv, tri_of, found_at, pt_of_vec, to_is, from_is}
-use Rattle.mesh_base.proofs.Joined.{Strict, CleanAll, whole, tri, inside_free, joined, centre_strict}
+use Rattle.mesh_base.proofs.Joined.{Strict, CleanAll, whole, tri, inside_free, joined, centre_strict, middle}
 use Rattle.mesh_shape.proofs.RuleLemmas.{edge_cases, no_first, first_edge, second_edge, third_edge}
 use Rattle.tri_sectors.specs.declared.faces.Walls.{Walls}
 use Rattle.tri_sectors.specs.Classes.{class_of}
@@ -27,7 +27,7 @@ use Rattle.tri_sectors.specs.Faces.{edge_pq, edge_qr, edge_rp, IsFreeEdge, IsLin
 use Rattle.mesh_shape.specs.Fills.{HasLeft, HasTriangle}
 use Rattle.tri_sectors.proofs.PlainFaces.{plain_turn, clean_of}
 use Rattle.tri_sectors.proofs.FaceRegion.{Ground, GapOn, numbers, on_face, only_one}
-use Rattle.tri_sectors.proofs.FacePaths.{IsNoLine, middle, middle_turned, middle_closed, middle_flat, middle_inside, centre, centre_turned, leads_join, one_leg, across, out_through, inside_clear, beyond_clear, free_beyond, outside_beyond, none_left, places_differ, far, far_left}
+use Rattle.tri_sectors.proofs.FacePaths.{IsNoLine, middle_turned, middle_closed, middle_flat, middle_inside, centre_turned, leads_join, one_leg, across, out_through, inside_clear, beyond_clear, free_beyond, outside_beyond, none_left, places_differ, far, far_left}
 use Rattle.sight_names.proofs.Records.{edge_of_numbers}
 
 abbrev pub centre_of : Map → Triangle → Point

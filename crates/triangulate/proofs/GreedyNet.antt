@@ -22,7 +22,7 @@ use Rattle.mesh_base.proofs.Net.{Pair, pair, SamePair, Net}
 use Rattle.mesh_base.proofs.MakeNet.{Maximal, net_of}
 use Rattle.mesh_base.proofs.Clash.{MeetsFairly}
 use Rattle.mesh_base.proofs.GoodMesh.{PointFacts, pv, same_or_not}
-use Rattle.triangulate.specs.Kept.{IsEdgeBetween}
+use Rattle.incident_segments.specs.Kept.{IsEdgeBetween}
 use Rattle.triangulate.proofs.FairPoints.{SameEnds, fair_of, differ_of, same_segment, met_at_ends, met_within, how_met}
 use Rattle.list_base.proofs.Numbers.{below_or_above, below_same_or_above}
 use Rattle.list_base.proofs.Lists.{contains_none, contains_here}
@@ -278,8 +278,8 @@ module _ (m : Map) (f : PointFacts m) (ends : LinesMeetAtEnds m) (kept : List Ed
     ]
   ]
 
-  spoke_of : (k : ℕ) → k < length (points_of m) → (l : ℕ) × In (pair k l) (both kept)
-  spoke_of k h =
+  neighbour_of : (k : ℕ) → k < length (points_of m) → (l : ℕ) × In (pair k l) (both kept)
+  neighbour_of k h =
       let e = f.is_end k h in
       let c = each_line_kept e.0 e.1 e.2 in
       elim e.3 as (λ _. (l : ℕ) × In (pair k l) (both kept)) [
@@ -307,7 +307,7 @@ module _ (m : Map) (f : PointFacts m) (ends : LinesMeetAtEnds m) (kept : List Ed
       | inr h ↦ inr (fair_of (place m i) (place m j) (place m k) (place m l) h)
     ];
     maximal = λ i j hi hj n. barred i j (number_below (length (points_of m)) i hi) (number_below (length (points_of m)) j hj) n;
-    used = λ k h. spoke_of k (number_below (length (points_of m)) k h);
+    used = λ k h. neighbour_of k (number_below (length (points_of m)) k h);
   }
 
   pub greedy_net : Net (pv m) (numbers (length (points_of m))) (both kept)

@@ -16,29 +16,29 @@ use Rattle.plane_base.proofs.Near.{det-flip}
 use Rattle.sight_laws.proofs.Bridge.{turn_at_is}
 use Rattle.plane_base.proofs.Search.{In}
 use Rattle.mesh_base.proofs.Net.{Pair, pair, Net, Neighbours, closing, wedge_empty}
-use Rattle.mesh_base.proofs.MeshRules.{no_spoke_inside, same_ray}
+use Rattle.mesh_base.proofs.MeshRules.{no_neighbour_inside, same_ray}
 use Rattle.mesh_base.proofs.GoodMesh.{PointFacts, pv}
-use Rattle.triangulate.specs.declared.segments.Segment.{Segment}
-use Rattle.triangulate.specs.Kept.{edge_of}
-use Rattle.triangulate.specs.Spokes.{IsSpoke}
-use Rattle.triangulate.specs.Next.{IsLeftOf, IsFirstLeft}
+use Rattle.incident_segments.specs.declared.segments.Segment.{Segment}
+use Rattle.incident_segments.specs.Kept.{edge_of}
+use Rattle.incident_segments.specs.Neighbours.{IsNeighbour}
+use Rattle.incident_segments.specs.Next.{IsLeftOf, IsFirstLeft}
 use Rattle.triangulate.specs.Left.{IsLeftTriangle, HasLeftTriangle, AreLeftTriangles}
-use Rattle.triangulate.proofs.KeptLemmas.{any_segment}
-use Rattle.triangulate.proofs.WebLemmas.{end_cases, other_from, other_to}
-use Rattle.triangulate.proofs.LeftLemmas.{spoke_out, spoke_in}
+use Rattle.incident_segments.proofs.KeptEdges.{any_segment}
+use Rattle.incident_segments.proofs.Chains.{end_cases, other_from, other_to}
+use Rattle.triangulate.proofs.LeftTriangles.{neighbour_out, neighbour_in}
 use Rattle.triangulate.proofs.GreedyNet.{numbers, number_below, both, kept_of, in_kept, kept_ends, greedy_net, greedy_maximal}
 use Rattle.triangulate.proofs.MeshLaws.{NetTri, net_tri, mesh_tri}
 use Rattle.list_base.proofs.Lists.{contains_none, contains_here}
 
--- ---- spokes are kept segments
+-- ---- neighbours are kept segments
 
 contains_edge : (segs : List Segment) (k : ℕ) (s : Segment) → slice_get segs k ≡ Some s → Contains (map edge_of segs) (edge_of s)
 contains_edge [] k s e = absurd (contains_none s (contains_of_get [] s k e))
 contains_edge (x ∷ segs) zero s e = subst (λ (y : Segment). Contains (map edge_of (x ∷ segs)) (edge_of y)) (same_Some x s e) (contains_here (edge_of x) (map edge_of segs))
 contains_edge (x ∷ segs) (suc k) s e = contains_tail (edge_of x) (edge_of s) (map edge_of segs) (contains_edge segs k s e)
 
-pub spoke_kept : (segs : List Segment) (u v : ℕ) → ((k : ℕ) (s : Segment) → slice_get segs k ≡ Some s → s.from ≢ s.to) → IsSpoke segs u v → IsKept (map edge_of segs) u v
-spoke_kept segs u v differ (k, lt, end, other) =
+pub neighbour_kept : (segs : List Segment) (u v : ℕ) → ((k : ℕ) (s : Segment) → slice_get segs k ≡ Some s → s.from ≢ s.to) → IsNeighbour segs u v → IsKept (map edge_of segs) u v
+neighbour_kept segs u v differ (k, lt, end, other) =
     let s = get_or segs k any_segment in
     let at = slice_get-get_or segs k any_segment lt in
     let c = contains_edge segs k s at in
@@ -61,15 +61,15 @@ kept_segment segs u v h = elim h as (λ _. (k : ℕ) × (s : Segment) × (slice_
   | inr c ↦ let r = edge_there segs (record { from = v; to = u }) c in (r.0, r.1, r.2, inr (ap (λ (x : Edge). x.to) r.3, ap (λ (x : Edge). x.from) r.3))
 ]
 
-pub kept_spoke : (segs : List Segment) (u v : ℕ) → ((k : ℕ) (s : Segment) → slice_get segs k ≡ Some s → s.from ≢ s.to) → IsKept (map edge_of segs) u v → IsSpoke segs u v
-kept_spoke segs u v differ h =
+pub kept_neighbour : (segs : List Segment) (u v : ℕ) → ((k : ℕ) (s : Segment) → slice_get segs k ≡ Some s → s.from ≢ s.to) → IsKept (map edge_of segs) u v → IsNeighbour segs u v
+kept_neighbour segs u v differ h =
     let r = kept_segment segs u v h in
-    elim r.3 as (λ _. IsSpoke segs u v) [
-      | inl e ↦ subst (λ (x : ℕ). IsSpoke segs x v) e.0 (subst (λ (x : ℕ). IsSpoke segs r.1.from x) e.1 (spoke_out segs r.0 r.1 r.2))
-      | inr e ↦ subst (λ (x : ℕ). IsSpoke segs x v) e.0 (subst (λ (x : ℕ). IsSpoke segs r.1.to x) e.1 (spoke_in segs r.0 r.1 (differ r.0 r.1 r.2) r.2))
+    elim r.3 as (λ _. IsNeighbour segs u v) [
+      | inl e ↦ subst (λ (x : ℕ). IsNeighbour segs x v) e.0 (subst (λ (x : ℕ). IsNeighbour segs r.1.from x) e.1 (neighbour_out segs r.0 r.1 r.2))
+      | inr e ↦ subst (λ (x : ℕ). IsNeighbour segs x v) e.0 (subst (λ (x : ℕ). IsNeighbour segs r.1.to x) e.1 (neighbour_in segs r.0 r.1 (differ r.0 r.1 r.2) r.2))
     ]
 
--- ---- the first spoke on the left closes a triangle of the mesh
+-- ---- the first neighbour on the left closes a triangle of the mesh
 
 module _ (m : Map) (f : PointFacts m) (ends : LinesMeetAtEnds m) (segs : List Segment) (g : IsGreedy m (map edge_of segs)) where
   abbrev pairs : List Pair
@@ -81,11 +81,11 @@ module _ (m : Map) (f : PointFacts m) (ends : LinesMeetAtEnds m) (segs : List Se
   differ : (k : ℕ) (s : Segment) → slice_get segs k ≡ Some s → s.from ≢ s.to
   differ k s e = (kept_ends m f ends (map edge_of segs) g s.from s.to (inl (contains_edge segs k s e))).2
 
-  kept_in : (u v : ℕ) → IsSpoke segs u v → In (pair u v) pairs
-  kept_in u v s = in_kept (map edge_of segs) u v (spoke_kept segs u v differ s)
+  kept_in : (u v : ℕ) → IsNeighbour segs u v → In (pair u v) pairs
+  kept_in u v s = in_kept (map edge_of segs) u v (neighbour_kept segs u v differ s)
 
-  in_spoke : (u v : ℕ) → In (pair u v) pairs → IsSpoke segs u v
-  in_spoke u v h = kept_spoke segs u v differ (kept_of (map edge_of segs) u v h)
+  in_neighbour : (u v : ℕ) → In (pair u v) pairs → IsNeighbour segs u v
+  in_neighbour u v h = kept_neighbour segs u v differ (kept_of (map edge_of segs) u v h)
 
   left_of : (a b c : ℕ) → IsLeftOf m (place m a) (place m b) c → pos 0 <ℤ det (pv m a) (pv m b) (pv m c)
   left_of a b c h = let e = turn_at_is (place m a) (place m b) (point_of (place m c)) in omega (arith, ints)
@@ -93,20 +93,20 @@ module _ (m : Map) (f : PointFacts m) (ends : LinesMeetAtEnds m) (segs : List Se
   turn_of : (a b c : ℕ) → pos 0 <ℤ det (pv m a) (pv m b) (pv m c) → IsLeftOf m (place m a) (place m b) c
   turn_of a b c h = let e = turn_at_is (place m a) (place m b) (point_of (place m c)) in omega (arith, ints)
 
-  neighbours : (a b c : ℕ) → IsSpoke segs a b → IsFirstLeft m segs a b c → Neighbours (pv m) pairs a b c
+  neighbours : (a b c : ℕ) → IsNeighbour segs a b → IsFirstLeft m segs a b c → Neighbours (pv m) pairs a b c
   neighbours a b c s h = record {
     ab = kept_in a b s;
-    ac = kept_in a c h.spoke;
+    ac = kept_in a c h.neighbour;
     turn = left_of a b c h.left;
     none = λ x k fx gx.
         let e = turn_at_is (place m a) (place m c) (point_of (place m x)) in
-        let first = h.first x (in_spoke a x k) (turn_of a b x fx) in
+        let first = h.first x (in_neighbour a x k) (turn_of a b x fx) in
         let c1 = det-cycle (pv m c) (pv m a) (pv m x) in
         let c2 = det-flip (pv m a) (pv m c) (pv m x) in
         omega (arith, ints);
   }
 
-  first_tri : (a b c : ℕ) → IsSpoke segs a b → IsFirstLeft m segs a b c → NetTri m f ends (map edge_of segs) g a b c
+  first_tri : (a b c : ℕ) → IsNeighbour segs a b → IsFirstLeft m segs a b c → NetTri m f ends (map edge_of segs) g a b c
   first_tri a b c s h =
       let nb = neighbours a b c s h in
       record {
@@ -119,7 +119,7 @@ module _ (m : Map) (f : PointFacts m) (ends : LinesMeetAtEnds m) (segs : List Se
 
   tri_first : (a b c : ℕ) → NetTri m f ends (map edge_of segs) g a b c → IsFirstLeft m segs a b c
   tri_first a b c t = record {
-    spoke = in_spoke a c t.ac;
+    neighbour = in_neighbour a c t.ac;
     left = turn_of a b c t.turn;
     first = λ x s h.
         let e = turn_at_is (place m a) (place m c) (point_of (place m x)) in
@@ -127,20 +127,20 @@ module _ (m : Map) (f : PointFacts m) (ends : LinesMeetAtEnds m) (segs : List Se
         let c2 = det-flip (pv m a) (pv m c) (pv m x) in
         elim (le_or_lt (pos 0) (det (pv m a) (pv m c) (pv m x))) as (λ _. pos 0 ≤ℤ turn_at (place m a) (place m c) (point_of (place m x))) [
           | inl le ↦ omega (arith, ints)
-          | inr lt ↦ absurd (no_spoke_inside (pv m) (numbers (length (points_of m))) pairs net a b c x t (kept_in a x s) (left_of a b x h) (omega (arith, ints)))
+          | inr lt ↦ absurd (no_neighbour_inside (pv m) (numbers (length (points_of m))) pairs net a b c x t (kept_in a x s) (left_of a b x h) (omega (arith, ints)))
         ];
   }
 
   one_first : (a b c e : ℕ) → IsFirstLeft m segs a b c → IsFirstLeft m segs a b e → c ≡ e
   one_first a b c e h k =
-      let x1 = h.first e k.spoke k.left in let x2 = k.first c h.spoke h.left in
+      let x1 = h.first e k.neighbour k.left in let x2 = k.first c h.neighbour h.left in
       let e1 = turn_at_is (place m a) (place m c) (point_of (place m e)) in let e2 = turn_at_is (place m a) (place m e) (point_of (place m c)) in
       let fl = det-flip (pv m a) (pv m c) (pv m e) in
-      same_ray (pv m) (numbers (length (points_of m))) pairs net (edge (pv m a) (pv m b)) a c e (det-first (pv m a) (pv m b)) (left_of a b c h.left) (left_of a b e k.left) (omega (arith, ints)) (kept_in a c h.spoke) (kept_in a e k.spoke)
+      same_ray (pv m) (numbers (length (points_of m))) pairs net (edge (pv m a) (pv m b)) a c e (det-first (pv m a) (pv m b)) (left_of a b c h.left) (left_of a b e k.left) (omega (arith, ints)) (kept_in a c h.neighbour) (kept_in a e k.neighbour)
 
   pub left_is_mesh : (t : Triangle) → IsLeftTriangle m segs t → IsMeshTriangle m (map edge_of segs) t
   left_is_mesh t h =
-      let tri = first_tri t.p t.q t.r h.spoke h.first in
+      let tri = first_tri t.p t.q t.r h.neighbour h.first in
       let bc = net.ends t.q t.r tri.bc in
       mesh_tri m f ends (map edge_of segs) g t (record {
         least = h.least;
@@ -151,7 +151,7 @@ module _ (m : Map) (f : PointFacts m) (ends : LinesMeetAtEnds m) (segs : List Se
       }) tri
 
   has_left : (ts : List Triangle) (t : Triangle) → IsMeshTriangle m (map edge_of segs) t → HasLeftTriangle m segs ts t.p t.q → Contains ts t
-  has_left ts t h (inl none) = absurd (none t.r (in_spoke t.p t.r tri.ac) (turn_of t.p t.q t.r tri.turn))
+  has_left ts t h (inl none) = absurd (none t.r (in_neighbour t.p t.r tri.ac) (turn_of t.p t.q t.r tri.turn))
     where
       tri : NetTri m f ends (map edge_of segs) g t.p t.q t.r
       tri = net_tri m f ends (map edge_of segs) g t h

@@ -3,18 +3,18 @@ use Rattle.std.specs.Prelude.{◌≡◌, ℕ, ◌<◌, ◌⊎◌, List, [], ◌�
 use Rattle.sight_names.specs.declared.names.Triangle.{Triangle}
 use Rattle.sight_names.specs.Map.{Map}
 use Rattle.sight_names.specs.Mesh.{IsAbove}
-use Rattle.triangulate.specs.declared.segments.Segment.{Segment}
-use Rattle.triangulate.specs.Spokes.{IsSpoke}
-use Rattle.triangulate.specs.Next.{IsFirstLeft, IsNextLeft}
+use Rattle.incident_segments.specs.declared.segments.Segment.{Segment}
+use Rattle.incident_segments.specs.Neighbours.{IsNeighbour}
+use Rattle.incident_segments.specs.Next.{IsFirstLeft, IsNextLeft}
 
--- from its least point, a spoke to the second point, and the first spoke on the left of it to the third
+-- from its least point, a neighbour to the second point, and the first neighbour on the left of it to the third
 pub record IsLeftTriangle (m : Map) (segs : List Segment) (t : Triangle) : Type 0 where
   pub least : t.p < t.q
   pub least_too : t.p < t.r
-  pub spoke : IsSpoke segs t.p t.q
+  pub neighbour : IsNeighbour segs t.p t.q
   pub first : IsFirstLeft m segs t.p t.q t.r
 
--- the list has the triangle with some first spoke on the left of the way from a to b, if there is one and a is its least point
+-- the list has the triangle with some first neighbour on the left of the way from a to b, if there is one and a is its least point
 abbrev pub HasLeftTriangle : Map → List Segment → List Triangle → ℕ → ℕ → Type 0
 HasLeftTriangle m segs ts a b = IsNextLeft m segs a b None
     ⊎ ((c : ℕ) × IsFirstLeft m segs a b c × (a < b → a < c → Contains ts (record { p = a; q = b; r = c })))

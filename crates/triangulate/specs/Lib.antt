@@ -1,9 +1,1 @@
-pub mod Kept
-pub mod Web
-pub mod Pairs
-pub mod Spokes
-pub mod Rounds
-pub mod Closed
-pub mod Next
 pub mod Left
-pub mod Stars

@@ -1,17 +1,10 @@
-//! The greedy triangulation of a map: its lines, then all pairs of points by length whose segments meet no kept segment
-//! but at an end of both, and the empty triangles between kept segments.
+//! The greedy triangulation of a map: the empty triangles between its greedy segments.
 #![tactic(auto)]
 
-mod closed;
 pub mod laws;
-mod rounds;
-pub mod segments;
-mod spokes;
-mod stars;
 mod triangles;
-mod web;
 
+pub use greedy_segments::greedy;
+pub use incident_segments::{Segment, Segments};
 pub use laws::mesh_laws;
-pub use rounds::greedy;
-pub use segments::{Segment, Segments};
 pub use triangles::mesh_of;

@@ -6,18 +6,16 @@ ghost use Rattle.sight_names.specs.Map.{map_of};
 ghost use Rattle.sight_names.specs.Sound.{LinesMeetAtEnds};
 ghost use Rattle.sight_names.specs.Greedy.{IsGreedy};
 ghost use Rattle.sight_names.specs.Mesh.{IsMeshOf, IsPlainMesh, IsTriangle};
-ghost use Rattle.triangulate.specs.Kept.{AreEdges, edge_of};
+ghost use Rattle.incident_segments.specs.Kept.{AreEdges, edge_of};
 ghost use Rattle.triangulate.specs.Left.{AreLeftTriangles, IsInOrder, IsLeftAdded};
 ghost use Rattle.mesh_shape.specs.Fills.{FillsHull, FillsSides};
 
-use crate::segments::Segments;
-use crate::spokes::next_left;
-use crate::web::Web;
+use incident_segments::{IncidentSegments, Segments, next_left};
 use mesh_shape::Mesh;
 use sight_names::{Memory, Plan, Triangle};
 use std::alloc::Global;
 
-/// All empty triangles of the greedy segments, in order: on the left of each segment the one to the first spoke. There
+/// All empty triangles of the greedy segments, in order: on the left of each segment the one to the first neighbour. There
 /// are at most twice as many as points.
 pub fn mesh_of(alloc: Global, plan: &Plan, segments: &Segments) -> Result<Mesh, Memory>
     requires audited { LinesMeetAtEnds (map_of plan.now) }
@@ -30,8 +28,8 @@ pub fn mesh_of(alloc: Global, plan: &Plan, segments: &Segments) -> Result<Mesh, 
     ensures few { IfOk result (λ mesh. length mesh.triangles ≤ 2 * length plan.now.points) }
 {
     let count = plan.points().len() as u16;
-    let web = web_of(alloc, count, segments)?;
-    let found = triangles_of(alloc, plan, &web)?;
+    let incident = incident_of(alloc, count, segments)?;
+    let found = triangles_of(alloc, plan, &incident)?;
     Mesh::of(alloc, count, in_order(found))
 }
 
@@ -45,29 +43,29 @@ fn in_order(found: Vec<Triangle>) -> Vec<Triangle>
     triangles
 }
 
-/// The segments as a web.
-fn web_of(alloc: Global, points: u16, segments: &Segments) -> Result<Web, Memory>
+/// The segments as a incident.
+fn incident_of(alloc: Global, points: u16, segments: &Segments) -> Result<IncidentSegments, Memory>
     requires { AreEdges points segments.now }
     ensures points { IfOk result (λ w. w.points ≡ points) }
     ensures segments { IfOk result (λ w. map edge_of w.segments ≡ segments.now) }
 {
-    let mut web = Web::new(alloc, points)?;
+    let mut incident = IncidentSegments::new(alloc, points)?;
     for segment in segments.as_slice() {
-        web.push(segment.from, segment.to)?;
+        incident.push(segment.from, segment.to)?;
     }
-    Ok(web)
+    Ok(incident)
 }
 
 /// The triangles on the left of the segments, in both directions, each at its least point.
-fn triangles_of(alloc: Global, plan: &Plan, web: &Web) -> Result<Vec<Triangle>, Memory>
-    requires { web.now.points ≡ length plan.now.points }
-    ensures left { IfOk result (λ v. AreLeftTriangles (map_of plan.now) web.now.segments v.items) }
-    ensures numbers { IfOk result (λ v. (t : Triangle) → Contains v.items t → IsTriangle web.now.points t) }
+fn triangles_of(alloc: Global, plan: &Plan, incident: &IncidentSegments) -> Result<Vec<Triangle>, Memory>
+    requires { incident.now.points ≡ length plan.now.points }
+    ensures left { IfOk result (λ v. AreLeftTriangles (map_of plan.now) incident.now.segments v.items) }
+    ensures numbers { IfOk result (λ v. (t : Triangle) → Contains v.items t → IsTriangle incident.now.points t) }
 {
     let mut triangles = Vec::new(alloc);
-    for segment in web.segments() {
-        add_left(plan, web, &mut triangles, segment.from, segment.to)?;
-        add_left(plan, web, &mut triangles, segment.to, segment.from)?;
+    for segment in incident.segments() {
+        add_left(plan, incident, &mut triangles, segment.from, segment.to)?;
+        add_left(plan, incident, &mut triangles, segment.to, segment.from)?;
     }
     Ok(triangles)
 }
@@ -75,17 +73,17 @@ fn triangles_of(alloc: Global, plan: &Plan, web: &Web) -> Result<Vec<Triangle>, 
 /// Adds the triangle on the left of the way from `a` to `b`, if there is one and `a` is its least point.
 fn add_left(
     plan: &Plan,
-    web: &Web,
+    incident: &IncidentSegments,
     triangles: &mut Vec<Triangle>,
     a: u16,
     b: u16,
 ) -> Result<(), Memory>
-    requires points { web.now.points ≡ length plan.now.points }
-    requires first { a < web.now.points }
-    requires second { b < web.now.points }
-    ensures { OnOk result (IsLeftAdded (map_of plan.now) web.now.segments a b triangles.old.items triangles.new.items) }
+    requires points { incident.now.points ≡ length plan.now.points }
+    requires first { a < incident.now.points }
+    requires second { b < incident.now.points }
+    ensures { OnOk result (IsLeftAdded (map_of plan.now) incident.now.segments a b triangles.old.items triangles.new.items) }
 {
-    let Some(c) = next_left(plan, web, a, b) else {
+    let Some(c) = next_left(plan, incident, a, b) else {
         return Ok(());
     };
     if a < b && a < c {

@@ -1,0 +1,10 @@
+pub mod Crossed
+pub mod PointExtents
+pub mod Filling
+pub mod Listed
+pub mod Measured
+pub mod Ordering
+pub mod Reach
+pub mod Saturation
+pub mod SoFar
+pub mod Starting

@@ -1,0 +1,5 @@
+pub mod Crossed
+pub mod Extents
+pub mod Pairs
+pub mod Rounds
+pub mod Saturated

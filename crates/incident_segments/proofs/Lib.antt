@@ -1,0 +1,4 @@
+pub mod AroundPoint
+pub mod Chains
+pub mod FirstOnSide
+pub mod KeptEdges

@@ -1,0 +1,4 @@
+pub mod Incident
+pub mod Kept
+pub mod Neighbours
+pub mod Next

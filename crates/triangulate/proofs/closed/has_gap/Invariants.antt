@@ -1,9 +1,0 @@
-use Rattle.std.proofs.Common.{ℕ}
-use Rattle.triangulate.proofs.WalkLemmas.{IsWalk}
-use Rattle.triangulate.proofs.closed.has_gap.Given as goal
-
-abbrev pub invariant-loop-at : goal.invariant-loop-at
-invariant-loop-at l = IsWalk l.web.segments l.a (λ (v : ℕ). Unit {0}) l.at
-
-abbrev pub decreases-loop-at : goal.decreases-loop-at
-decreases-loop-at l = l.at

@@ -1,9 +1,0 @@
-use Rattle.std.proofs.Common.{◌≡◌}
-use Rattle.triangulate.proofs.WalkLemmas.{IsWalk}
-use Rattle.triangulate.proofs.spokes.has_spoke.Given as goal
-
-abbrev pub invariant-loop-at : goal.invariant-loop-at
-invariant-loop-at l = IsWalk l.web.segments l.u (λ w. ¬ (w ≡ l.v)) l.at
-
-abbrev pub decreases-loop-at : goal.decreases-loop-at
-decreases-loop-at l = l.at
