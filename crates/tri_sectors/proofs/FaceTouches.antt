@@ -19,7 +19,7 @@ use Rattle.plane_base.proofs.Walk.{Tri, side, sides, Closed}
 use Rattle.sight_laws.proofs.Bridge.{vec, turn_at_is}
 use Rattle.sight_laws.proofs.Paths.{path_back, side_from, side_to}
 use Rattle.mesh_base.proofs.GoodMesh.{PointFacts, pv, tri_of, found_at, pt_of_vec, to_is, from_is}
-use Rattle.mesh_base.proofs.Joined.{Strict, CleanAll, whole, tri, inside_free, joined, centre_strict, middle}
+use Rattle.mesh_base.proofs.Joined.{Strict, CleanAll, whole, tri, inside_free, joined, centre_strict, centre, middle}
 use Rattle.mesh_shape.proofs.RuleLemmas.{edge_cases, no_first, first_edge, second_edge, third_edge}
 use Rattle.tri_sectors.specs.declared.faces.Walls.{Walls}
 use Rattle.tri_sectors.specs.Classes.{class_of}
