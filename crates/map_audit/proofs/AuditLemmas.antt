@@ -177,8 +177,8 @@ refused_fault m fault f h = ((λ e. subst (IsLineFault m) (injective e) h), (λ 
     injective : ◌≡◌ {A = Result (Unit {0}) LineFault} (Err fault) (Err f) → fault ≡ f
     injective e = cc
 
-pub accepted_fault : (p : PlanParts) (f : LineFault) → FineBefore (map_of p) (length p.lines) → (◌≡◌ {A = Result (Unit {0}) LineFault} (Ok tt) (Err f)) ↔ IsLineFault (map_of p) f
-accepted_fault p f h = ((λ e. absurd (no e)), (λ k. absurd (not_sound (map_of p) f k (sound_of p h))))
+pub accepted_fault : (m : Map) (f : LineFault) → LinesMeetAtEnds m → (◌≡◌ {A = Result (Unit {0}) LineFault} (Ok tt) (Err f)) ↔ IsLineFault m f
+accepted_fault m f h = ((λ e. absurd (no e)), (λ k. absurd (not_sound m f k h)))
   where
     no : ◌≡◌ {A = Result (Unit {0}) LineFault} (Ok tt) (Err f) → ⊥
     no g = cc

@@ -1,9 +1,10 @@
 -- The first two lines of a map that share more than an end of both.
-use Rattle.std.specs.Prelude.{◌≡◌, ℕ, ◌<◌, Option, Some, None}
+use Rattle.std.specs.Prelude.{◌≡◌, ℕ, ◌<◌, ◌≤◌, List, Option, Some, None, length, slice_index_or}
 use Rattle.sight_names.specs.declared.faults.LineFault.{LineFault}
 use Rattle.sight_names.specs.declared.faults.LineFault.TheVariants.{Cross, Touch, Overlap}
 use Rattle.sight_names.specs.Map.{Map, MapLine, line_at}
 use Rattle.sight_names.specs.Sound.{MeetAtEnds}
+use Rattle.line_spans.specs.declared.Span.{Span}
 use Rattle.geom_exact.specs.declared.Relation.{Relation}
 use Rattle.geom_exact.specs.declared.Relation.TheVariants.{Apart, Ends, Cross as Crossing, Touch as Touching, Overlap as Overlapping}
 use Rattle.geom_exact.specs.Common.{IsRelation}
@@ -23,6 +24,10 @@ FineBelow m i n = (j : ℕ) → j < n → i < j → FineAt m i j
 -- so do each record before i and all later ones
 abbrev pub FineBefore : Map → ℕ → Type 0
 FineBefore m i = (h : ℕ) → h < i → (j : ℕ) → h < j → FineAt m h j
+
+-- so do record i and each record whose span stands at place n or later
+abbrev pub FineFrom : Map → ℕ → List Span → ℕ → Type 0
+FineFrom m i ss n = (k : ℕ) (d : Span) → n ≤ k → k < length ss → FineAt m i (slice_index_or ss k d).line
 
 -- two lines have this in common
 abbrev pub AreRelated : MapLine → MapLine → Relation → Type 0

@@ -3,11 +3,13 @@
 
 ghost use Rattle.std.specs.Prelude.{◌≡◌, ℕ, ◌+◌, ◌<◌, Some, length, slice_get, option_and_then, MatchOption, IsOk, IsTrue, ◌↔◌, ◌<ℤ◌};
 ghost use Rattle.sight_names.specs.Map.{map_of, looked_up};
-ghost use Rattle.sight_names.specs.Plan.{IsPlanLine};
+ghost use Rattle.sight_names.specs.Plan.{IsPlan, IsPlanLine};
 ghost use Rattle.sight_names.specs.Sound.{LinesMeetAtEnds};
-ghost use Rattle.map_audit.specs.Audit.{AreRelated, FineAt, FineBefore, IsFaultOf, IsLineFault, fault_by};
+ghost use Rattle.line_spans.specs.Spans.{AreSpans, IsSpanIn};
+ghost use Rattle.map_audit.specs.Audit.{AreRelated, FineAt, FineBefore, FineFrom, IsFaultOf, IsLineFault, fault_by};
 
 use geom_exact::{Relation, seg_relation};
+use line_spans::{Span, put_spans};
 use sight_names::{Line, LineFault, Plan, Pt};
 
 /// Whether each two lines of the map share nothing but an end of both. Takes no memory.
@@ -20,9 +22,69 @@ pub fn audit_lines(plan: &Plan) -> Result<(), LineFault>
     ensures sound { IsOk result ↔ LinesMeetAtEnds (map_of plan.now) }
     ensures fault { (f : LineFault) → (result ≡ Err f) ↔ IsLineFault (map_of plan.now) f }
 {
+    if is_swept_clean(plan) {
+        return Ok(());
+    }
     match first_fault(plan) {
         Some(fault) => Err(fault),
         None => Ok(()),
+    }
+}
+
+/// Whether a sweep over the lines finds no two that share more than an end of both.
+fn is_swept_clean(plan: &Plan) -> bool
+    ensures { IsTrue result → LinesMeetAtEnds (map_of plan.now) }
+{
+    let mut room = [Span {
+        least: 0,
+        greatest: 0,
+        line: 0,
+    }; 16384];
+    let spans = &mut room[..plan.lines().len()];
+    put_spans(plan, spans);
+    are_clean(plan, spans)
+}
+
+/// Whether each line shares nothing but an end of both with those that come later in the order of lesser ends.
+fn are_clean(plan: &Plan, spans: &[Span]) -> bool
+    requires plan { IsPlan plan.now }
+    requires spans { AreSpans plan.now.lines spans.now }
+    ensures { IsTrue result → LinesMeetAtEnds (map_of plan.now) }
+{
+    for (k, span) in spans.iter().enumerate() {
+        if !is_clean_from(plan, spans, *span, k + 1) {
+            return false;
+        }
+    }
+    true
+}
+
+/// Whether the line of this span shares nothing but an end of both with those from place `from` on. The first one whose
+/// lesser end lies behind the line's greater end ends the sweep.
+fn is_clean_from(plan: &Plan, spans: &[Span], one: Span, from: usize) -> bool
+    requires plan { IsPlan plan.now }
+    requires spans { AreSpans plan.now.lines spans.now }
+    requires span { IsSpanIn plan.now.lines one }
+    ensures { IsTrue result → FineFrom (map_of plan.now) one.line spans.now from }
+{
+    for k in from..spans.len() {
+        if one.greatest < spans[k].least {
+            return true;
+        }
+        if !is_clean_pair(plan, one.line, spans[k].line) {
+            return false;
+        }
+    }
+    true
+}
+
+/// Whether records `i` and `j` have no fault.
+fn is_clean_pair(plan: &Plan, i: u16, j: u16) -> bool
+    ensures { IsTrue result → FineAt (map_of plan.now) i j }
+{
+    match plan.line(i) {
+        Some(line) => fault_with(plan, i, line, j) == None,
+        None => true,
     }
 }
 

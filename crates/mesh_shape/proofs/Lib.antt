@@ -2,3 +2,4 @@ pub mod IndexLemmas
 pub mod MeetLemmas
 pub mod Separate
 pub mod RuleLemmas
+pub mod SweepRules

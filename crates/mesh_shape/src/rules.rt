@@ -7,13 +7,16 @@ ghost use Rattle.sight_names.specs.Map.{map_of, looked_up};
 ghost use Rattle.sight_names.specs.Plan.{IsPlan, IsPlanLine};
 ghost use Rattle.sight_names.specs.Points.{points_of};
 ghost use Rattle.sight_names.specs.Mesh.{AreTriangles, IsTriangle, IsCounterclockwise, IsLineEdge, MeetsFairly, triangle_at};
+ghost use Rattle.line_spans.specs.Spans.{IsSpanIn, AreSpans};
 ghost use Rattle.mesh_shape.specs.Faults.{TurnsAt, IsNewAt, HasMate, HasMatesAt, FitsAt, IsFairAt, IsEmptyAt, IsMeshVerdict};
 ghost use Rattle.mesh_shape.specs.Search.{IsSearch, IsSideSearch, IsPairSearch, IsFitting, IsEdgeOf, IsUnfitLine, IsUnfitSide, IsMetFairly, IsLineMetFairly, IsOutsideOf, AreBefore, AreBehind};
 
+use crate::chains::{Chains, chains_of};
 use crate::labels::Labels;
 use crate::meets::meet_at_ends;
 use crate::mesh::Mesh;
 use geom_exact::{in_triangle, turn};
+use line_spans::{Span, put_spans};
 use sight_names::{Line, MeshFault, Plan, Pt, Side, Triangle};
 
 /// The first rule of a good mesh that is broken, at its least numbers; None exactly where the mesh is good.
@@ -156,16 +159,56 @@ fn is_line(plan: &Plan, u: u16, v: u16) -> bool
     false
 }
 
+/// Whether the chains lead to a line that is this edge.
+fn is_chained_line(plan: &Plan, chains: &Chains, u: u16, v: u16) -> bool
+    ensures { IsTrue result → IsLineEdge (map_of plan.now) (record { from = u; to = v }) }
+{
+    let count = plan.lines().len();
+    let mut at = chains.start(u, v);
+    for _ in 0..count {
+        if at == 0 || at > count {
+            return false;
+        }
+        if is_line_at(plan, at - 1, u, v) {
+            return true;
+        }
+        at = chains.before(at - 1);
+    }
+    false
+}
+
+/// Whether the edge is a line of the plan: one of the chains, or else any.
+fn is_some_line(plan: &Plan, chains: &Chains, u: u16, v: u16) -> bool
+    ensures { IsTrue result ↔ IsLineEdge (map_of plan.now) (record { from = u; to = v }) }
+{
+    is_chained_line(plan, chains, u, v) || is_line(plan, u, v)
+}
+
 /// Whether the edge of a triangle with this label has its mate or is a line.
-fn is_tied(plan: &Plan, mesh: &Mesh, labels: &Labels, label: u16, u: u16, v: u16) -> bool
+fn is_tied(
+    plan: &Plan,
+    chains: &Chains,
+    mesh: &Mesh,
+    labels: &Labels,
+    label: u16,
+    u: u16,
+    v: u16,
+) -> bool
     requires { length labels.now ≡ length mesh.now.triangles }
     ensures { IsTrue result ↔ (HasMate mesh.now.triangles labels.now (record { from = u; to = v }) label ⊎ IsLineEdge (map_of plan.now) (record { from = u; to = v })) }
 {
-    has_mate(mesh, labels, label, u, v) || is_line(plan, u, v)
+    has_mate(mesh, labels, label, u, v) || is_some_line(plan, chains, u, v)
 }
 
 /// Whether each edge of the triangle at `k` is tied, if it has a label.
-fn has_mates(plan: &Plan, mesh: &Mesh, labels: &Labels, k: u16, t: Triangle) -> bool
+fn has_mates(
+    plan: &Plan,
+    chains: &Chains,
+    mesh: &Mesh,
+    labels: &Labels,
+    k: u16,
+    t: Triangle,
+) -> bool
     requires one_each { length labels.now ≡ length mesh.now.triangles }
     requires here { slice_get mesh.now.triangles k ≡ Some t }
     ensures { IsTrue result ↔ HasMatesAt (map_of plan.now) mesh.now.triangles labels.now k }
@@ -173,9 +216,9 @@ fn has_mates(plan: &Plan, mesh: &Mesh, labels: &Labels, k: u16, t: Triangle) -> 
     match labels.get(k) {
         Some(label) => {
             all(
-                is_tied(plan, mesh, labels, label, t.p, t.q),
-                is_tied(plan, mesh, labels, label, t.q, t.r),
-                is_tied(plan, mesh, labels, label, t.r, t.p),
+                is_tied(plan, chains, mesh, labels, label, t.p, t.q),
+                is_tied(plan, chains, mesh, labels, label, t.q, t.r),
+                is_tied(plan, chains, mesh, labels, label, t.r, t.p),
             )
         }
         None => true,
@@ -187,8 +230,9 @@ fn first_without_mate(plan: &Plan, mesh: &Mesh, labels: &Labels) -> Option<u16>
     requires { length labels.now ≡ length mesh.now.triangles }
     ensures { IsSearch (HasMatesAt (map_of plan.now) mesh.now.triangles labels.now) result }
 {
+    let chains = chains_of(plan);
     for (k, t) in mesh.triangles().iter().enumerate() {
-        if !has_mates(plan, mesh, labels, k as u16, *t) {
+        if !has_mates(plan, &chains, mesh, labels, k as u16, *t) {
             return Some(k as u16);
         }
     }
@@ -364,11 +408,76 @@ fn first_met(plan: &Plan, t: Triangle) -> Option<u16>
     None
 }
 
+/// The same for the line of this span, which may end before the triangle's least corner.
+fn is_span_fair(plan: &Plan, span: Span, t: Triangle) -> bool
+    requires plan { IsPlan plan.now }
+    requires span { IsSpanIn plan.now.lines span }
+    requires triangle { IsTriangle (length plan.now.points) t }
+    ensures { IsTrue result → IsLineMetFairly (map_of plan.now) t span.line }
+{
+    if span.greatest < t.p {
+        return true;
+    }
+    is_met_fairly(plan, span.line as usize, t)
+}
+
+/// Whether the same holds of all lines. The first one whose lesser end lies behind the triangle's corners ends the sweep.
+fn is_fair_to_all(plan: &Plan, spans: &[Span], t: Triangle) -> bool
+    requires plan { IsPlan plan.now }
+    requires spans { AreSpans plan.now.lines spans.now }
+    requires triangle { IsTriangle (length plan.now.points) t }
+    ensures { IsTrue result → (i : ℕ) → IsLineMetFairly (map_of plan.now) t i }
+{
+    let last = t.q.max(t.r);
+    for span in spans {
+        if last < span.least {
+            return true;
+        }
+        if !is_span_fair(plan, *span, t) {
+            return false;
+        }
+    }
+    true
+}
+
+/// Whether it holds of all triangles and lines.
+fn are_all_fair(plan: &Plan, spans: &[Span], mesh: &Mesh) -> bool
+    requires plan { IsPlan plan.now }
+    requires points { mesh.now.points ≡ length plan.now.points }
+    requires spans { AreSpans plan.now.lines spans.now }
+    ensures { IsTrue result → (k i : ℕ) → IsFairAt (map_of plan.now) mesh.now.triangles k i }
+{
+    for t in mesh.triangles() {
+        if !is_fair_to_all(plan, spans, *t) {
+            return false;
+        }
+    }
+    true
+}
+
+/// Whether a sweep over the lines finds for no triangle one that it meets otherwise.
+fn is_swept_fairly(plan: &Plan, mesh: &Mesh) -> bool
+    requires { mesh.now.points ≡ length plan.now.points }
+    ensures { IsTrue result → (k i : ℕ) → IsFairAt (map_of plan.now) mesh.now.triangles k i }
+{
+    let mut room = [Span {
+        least: 0,
+        greatest: 0,
+        line: 0,
+    }; 16384];
+    let spans = &mut room[..plan.lines().len()];
+    put_spans(plan, spans);
+    are_all_fair(plan, spans, mesh)
+}
+
 /// The least triangle with such an edge, and the least line that it meets.
 fn first_meeting(plan: &Plan, mesh: &Mesh) -> Option<(u16, u16)>
     requires { mesh.now.points ≡ length plan.now.points }
     ensures { IsPairSearch (IsFairAt (map_of plan.now) mesh.now.triangles) result }
 {
+    if is_swept_fairly(plan, mesh) {
+        return None;
+    }
     for (k, t) in mesh.triangles().iter().enumerate() {
         if let Some(line) = first_met(plan, *t) {
             return Some((k as u16, line));

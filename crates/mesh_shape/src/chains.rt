@@ -1,0 +1,56 @@
+//! The lines of a plan by their lesser ends, in arrays, so that no memory is taken. Nothing rests on what they hold: by
+//! them a line is found soon, and where they show none all lines are looked at.
+
+use sight_names::{Line, Plan};
+
+/// For each point the last line whose lesser end it is, and for each line the one before it. Numbers are greater by one,
+/// and 0 is none.
+#[derive(Drop)]
+pub struct Chains {
+    last: [u16; 4096],
+    earlier: [u16; 16384],
+}
+
+/// Puts the line with this record number before the others with its lesser end.
+fn link(last: &mut [u16], earlier: &mut [u16], line: Line, i: usize) {
+    let point = line.a.min(line.b) as usize;
+    if point < last.len() && i < earlier.len() && i < 65535 {
+        earlier[i] = last[point];
+        last[point] = i as u16 + 1;
+    }
+}
+
+/// Links the line of this record, where it is one.
+fn link_entry(last: &mut [u16], earlier: &mut [u16], entry: Option<Line>, i: usize) {
+    if let Some(line) = entry {
+        link(last, earlier, line, i);
+    }
+}
+
+/// The chains of a plan's lines.
+pub fn chains_of(plan: &Plan) -> Chains {
+    let mut last = [0u16; 4096];
+    let mut earlier = [0u16; 16384];
+    for (i, entry) in plan.lines().iter().enumerate() {
+        link_entry(last.as_mut_slice(), earlier.as_mut_slice(), *entry, i);
+    }
+    Chains { last, earlier }
+}
+
+impl Chains {
+    /// The number of the last line with this lesser end, and one more.
+    pub fn start(&self, u: u16, v: u16) -> usize {
+        match self.last.as_slice().get(u.min(v) as usize) {
+            Some(at) => *at as usize,
+            None => 0,
+        }
+    }
+
+    /// The number of the line before this one in its chain, and one more.
+    pub fn before(&self, i: usize) -> usize {
+        match self.earlier.as_slice().get(i) {
+            Some(at) => *at as usize,
+            None => 0,
+        }
+    }
+}
