@@ -4,7 +4,7 @@ use sight_names::EndPair;
 
 /// The number of portals of a list's start that no line splits, and three pairs of their ends that show it.
 #[derive(Clone, Copy, Debug)]
-pub struct Jam {
+pub struct Conflict {
     pub portals: usize,
     pub pairs: [EndPair; 3],
 }

@@ -1,5 +1,5 @@
--- What is kept at a push and at a pop, and what it tells.
-use Rattle.std.proofs.Common.{◌≡◌, ℕ, zero, suc, ◌+◌, ◌-◌, ◌<◌, ◌≤◌, List, [], ◌∷◌, ◌++◌, length, take, drop, Option, Some, None, Result, Ok, Err, get_or, refl, sym, ap, ◌∙◌, arith, ◌⊎◌, inl, inr, subst, All, ℤ, pos, ◌<ℤ◌, ◌^◌, nat_abs, FitsSigned, w64}
+-- What the stacks have after a push and a pop, and what it tells.
+use Rattle.std.proofs.Common.{◌≡◌, ℕ, zero, suc, ◌+◌, ◌-◌, ◌<◌, ◌≤◌, List, [], ◌∷◌, ◌++◌, length, take, drop, Option, Some, None, Result, Ok, Err, get_or, refl, sym, ap, ap₂, ◌∙◌, arith, ◌⊎◌, inl, inr, subst, All, ℤ, pos, ◌<ℤ◌, ◌^◌, nat_abs, FitsSigned, w64}
 use mir.Syntax.{w32}
 use Rattle.std.proofs.lemmas.Int.{ints}
 use Rattle.std.specs.Prelude.{slice_get, MatchOption, IfOk}
@@ -17,15 +17,18 @@ use Rattle.extreme_lines.specs.Differences.{difference}
 use Rattle.extreme_lines.specs.Spans.{Spans, first_of, second_of, pair_of, IsCutOf}
 use Rattle.extreme_lines.proofs.Balance.{PartsPair, no_line_parts}
 use Rattle.stab_hull.specs.declared.frame.Frame.{Frame}
-use Rattle.stab_hull.specs.declared.jam.Jam.{Jam}
+use Rattle.stab_hull.specs.declared.conflict.Conflict.{Conflict}
 use Rattle.stab_hull.specs.Portals.{portal_of, portals_of, with_ends, IsConeOf, ShowsNoLine}
-use Rattle.stab_hull.specs.Answer.{IsLineInRange}
+use Rattle.stab_hull.specs.declared.Split.{Split}
+use Rattle.stab_hull.specs.declared.Split.TheVariants.{Line, Stuck}
+use Rattle.stab_hull.specs.Answer.{IsLineInRange, IsEntered}
 use Rattle.stab_hull.specs.Stacks.{KeepsFirst, AreStuckAmong, IsTopCone, IsAdded, IsHullOf}
-use Rattle.stab_hull.specs.Kept.{IsFree, IsJam, IsKept, IsFrameOf, IsWithin}
+use Rattle.stab_hull.specs.History.{IsFree, IsConflict, IsHistory, IsFrameOf, IsWithin}
+use Rattle.stab_hull.proofs.StepLemmas.{top_is}
 use Rattle.stab_hull.proofs.HullLemmas.{cone_of, hull_more, hull_stuck, hull_first}
 use Rattle.extreme_lines.proofs.EndsLemmas.{pair_of_more, left_place, right_place}
 
--- ---- lines and jams
+-- ---- lines and conflicts
 each_parted : (a b c : ℤ) (es : List EndPoints) → ((k : ℕ) (p : EndPoints) → slice_get es k ≡ Some p → IsParted a b c p) → SplitsEnds es a b c
 each_parted a b c [] h = tt
 each_parted a b c (p ∷ es) h = (h 0 p refl, each_parted a b c es (λ k q e. h (suc k) q e))
@@ -130,9 +133,9 @@ start_next fs f n h = ap (λ (es : List EndPoints). take n es) (portals_next fs 
 whole_next : (fs : List Frame) (f : Frame) → take (length fs + 1) (portals_of (fs ++ f ∷ [])) ≡ portals_of fs ++ portal_of f ∷ []
 whole_next fs f = ap (λ (es : List EndPoints). take (length fs + 1) es) (portals_next fs f) ∙ take_all (length fs + 1) (portals_of fs ++ portal_of f ∷ []) (let e = length_next (portals_of fs) (portal_of f) in let m = length-map fs portal_of in omega (arith, e, m))
 
-pub jam_longer : (fs : List Frame) (f : Frame) (jam : Option Jam) → IsJam fs jam → IsJam (fs ++ f ∷ []) jam
-jam_longer fs f None h = tt
-jam_longer fs f (Some j) h = (let e = length_next fs f in let l = h.0 in omega (arith, e, l), subst (λ (es : List EndPoints). ShowsNoLine es j.pairs) (sym (start_next fs f j.portals h.0)) h.1)
+pub conflict_longer : (fs : List Frame) (f : Frame) (conflict : Option Conflict) → IsConflict fs conflict → IsConflict (fs ++ f ∷ []) conflict
+conflict_longer fs f None h = tt
+conflict_longer fs f (Some j) h = (let e = length_next fs f in let l = h.0 in omega (arith, e, l), subst (λ (es : List EndPoints). ShowsNoLine es j.pairs) (sym (start_next fs f j.portals h.0)) h.1)
 
 -- ---- stacks that change above what the frames say
 keeps_less : {X : Type 0} (m n : ℕ) (xs ys : List X) → m ≤ n → KeepsFirst n xs ys → KeepsFirst m xs ys
@@ -150,36 +153,36 @@ frame_moved es f ls rs ls' rs' cs cs' kl kr kc h = record {
 }
 
 pub stacks_moved : (fs : List Frame) (top : Frame) (ls rs ls' rs' : List EndAt) (cs cs' : List Cone) → slice_get fs (length fs - 1) ≡ Some top → KeepsFirst top.lefts ls ls' → KeepsFirst top.rights rs rs' → KeepsFirst top.cones cs cs'
-    → IsKept fs ls rs cs None → IsKept fs ls' rs' cs' None
+    → IsHistory fs ls rs cs None → IsHistory fs ls' rs' cs' None
 stacks_moved fs top ls rs ls' rs' cs cs' t kl kr kc h = record {
   frames = λ k f e g.
       let b = slice_get_within fs k f e in
       let w = h.order k (length fs - 1) f top (omega (arith, b)) e t tt in
       frame_moved (take (k + 1) (portals_of fs)) f ls rs ls' rs' cs cs' (keeps_less f.lefts top.lefts ls ls' w.lefts kl) (keeps_less f.rights top.rights rs rs' w.rights kr) (keeps_less f.cones top.cones cs cs' w.cones kc) (h.frames k f e g);
   order = h.order;
-  jam = tt;
+  conflict = tt;
 }
 
-pub no_frames : (fs : List Frame) (ls rs : List EndAt) (cs : List Cone) → length fs ≡ 0 → IsKept fs ls rs cs None
+pub no_frames : (fs : List Frame) (ls rs : List EndAt) (cs : List Cone) → length fs ≡ 0 → IsHistory fs ls rs cs None
 no_frames fs ls rs cs z = record {
   frames = λ k f e g. let b = slice_get_within fs k f e in absurd (omega (arith, b, z));
   order = λ k m f g l e t u. let b = slice_get_within fs k f e in absurd (omega (arith, b, z));
-  jam = tt;
+  conflict = tt;
 }
 
 -- ---- one more frame
-less_free : (jam : Option Jam) (m n : ℕ) → m ≤ n → IsFree jam n → IsFree jam m
+less_free : (conflict : Option Conflict) (m n : ℕ) → m ≤ n → IsFree conflict n → IsFree conflict m
 less_free None m n l h = tt
 less_free (Some j) m n l h = omega (arith, l, h)
 
-push_kept : (fs : List Frame) (f : Frame) (ls rs : List EndAt) (cs : List Cone) (jam new : Option Jam) → IsKept fs ls rs cs jam → ((k : ℕ) → k ≤ length fs → IsFree new k → IsFree jam k)
+push_history : (fs : List Frame) (f : Frame) (ls rs : List EndAt) (cs : List Cone) (conflict new : Option Conflict) → IsHistory fs ls rs cs conflict → ((k : ℕ) → k ≤ length fs → IsFree new k → IsFree conflict k)
     → (IsFree new (length fs + 1) → IsFrameOf (portals_of fs ++ portal_of f ∷ []) ls rs cs f)
     → (IsFree new (length fs + 1) → (k : ℕ) (g : Frame) → slice_get fs k ≡ Some g → IsWithin g f)
-    → IsJam (fs ++ f ∷ []) new → IsKept (fs ++ f ∷ []) ls rs cs new
-push_kept fs f ls rs cs jam new h free has within j = record {
+    → IsConflict (fs ++ f ∷ []) new → IsHistory (fs ++ f ∷ []) ls rs cs new
+push_history fs f ls rs cs conflict new h free has within j = record {
   frames = λ k g e l. by k g (get_at fs f k g e) l;
   order = λ k m g i l e t u. ordered k m g i l (get_at fs f k g e) (get_at fs f m i t) u;
-  jam = j;
+  conflict = j;
 }
   where
     by : (k : ℕ) (g : Frame) → ((k < length fs) × (slice_get fs k ≡ Some g)) ⊎ ((k ≡ length fs) × (f ≡ g)) → IsFree new (k + 1) → IsFrameOf (take (k + 1) (portals_of (fs ++ f ∷ []))) ls rs cs g
@@ -198,13 +201,13 @@ push_kept fs f ls rs cs jam new h free has within j = record {
     ordered k m g i l (inr s) (inl t) u = let a = s.0 in let b = t.0 in absurd (omega (arith, a, b, l))
     ordered k m g i l (inr s) (inr t) u = subst (λ (i : Frame). IsWithin g i) t.1 (subst (λ (g : Frame). IsWithin g f) s.1 within_self)
 
--- the list stays jammed
-pub push_jammed : (fs : List Frame) (f : Frame) (ls rs : List EndAt) (cs : List Cone) (j : Jam) → IsKept fs ls rs cs (Some j) → IsKept (fs ++ f ∷ []) ls rs cs (Some j)
-push_jammed fs f ls rs cs j h = push_kept fs f ls rs cs (Some j) (Some j) h (λ k l e. e) (λ e. let l = h.jam.0 in absurd (omega (arith, l, e))) (λ e. let l = h.jam.0 in absurd (omega (arith, l, e))) (jam_longer fs f (Some j) h.jam)
+-- the list stays conflict
+pub push_after_conflict : (fs : List Frame) (f : Frame) (ls rs : List EndAt) (cs : List Cone) (j : Conflict) → IsHistory fs ls rs cs (Some j) → IsHistory (fs ++ f ∷ []) ls rs cs (Some j)
+push_after_conflict fs f ls rs cs j h = push_history fs f ls rs cs (Some j) (Some j) h (λ k l e. e) (λ e. let l = h.conflict.0 in absurd (omega (arith, l, e))) (λ e. let l = h.conflict.0 in absurd (omega (arith, l, e))) (conflict_longer fs f (Some j) h.conflict)
 
 -- it can be split
-pub push_free : (fs : List Frame) (f : Frame) (ls rs : List EndAt) (cs : List Cone) → IsKept fs ls rs cs None → f.lefts ≡ length ls → f.rights ≡ length rs → f.cones ≡ length cs → IsHullOf (portals_of fs ++ portal_of f ∷ []) ls rs cs → IsKept (fs ++ f ∷ []) ls rs cs None
-push_free fs f ls rs cs h el er ec s = push_kept fs f ls rs cs None None h (λ k l e. e)
+pub push_free : (fs : List Frame) (f : Frame) (ls rs : List EndAt) (cs : List Cone) → IsHistory fs ls rs cs None → f.lefts ≡ length ls → f.rights ≡ length rs → f.cones ≡ length cs → IsHullOf (portals_of fs ++ portal_of f ∷ []) ls rs cs → IsHistory (fs ++ f ∷ []) ls rs cs None
+push_free fs f ls rs cs h el er ec s = push_history fs f ls rs cs None None h (λ k l e. e)
     (λ u. record {
       lefts_in = omega (arith, el);
       rights_in = omega (arith, er);
@@ -214,9 +217,9 @@ push_free fs f ls rs cs h el er ec s = push_kept fs f ls rs cs None None h (λ k
     (λ u k g e. let w = h.frames k g e tt in let a = w.lefts_in in let b = w.rights_in in let c = w.cones_in in record { lefts = omega (arith, el, a); rights = omega (arith, er, b); cones = omega (arith, ec, c) })
     tt
 
--- it gets jammed
-pub push_jam : (fs : List Frame) (f : Frame) (ls rs : List EndAt) (cs : List Cone) (j : Jam) → IsKept fs ls rs cs None → j.portals ≡ length fs + 1 → ShowsNoLine (portals_of fs ++ portal_of f ∷ []) j.pairs → IsKept (fs ++ f ∷ []) ls rs cs (Some j)
-push_jam fs f ls rs cs j h n s = push_kept fs f ls rs cs None (Some j) h (λ k l e. tt) (λ e. absurd (omega (arith, e, n))) (λ e. absurd (omega (arith, e, n)))
+-- it gets conflict
+pub push_conflict : (fs : List Frame) (f : Frame) (ls rs : List EndAt) (cs : List Cone) (j : Conflict) → IsHistory fs ls rs cs None → j.portals ≡ length fs + 1 → ShowsNoLine (portals_of fs ++ portal_of f ∷ []) j.pairs → IsHistory (fs ++ f ∷ []) ls rs cs (Some j)
+push_conflict fs f ls rs cs j h n s = push_history fs f ls rs cs None (Some j) h (λ k l e. tt) (λ e. absurd (omega (arith, e, n))) (λ e. absurd (omega (arith, e, n)))
     (let e = length_next fs f in omega (arith, e, n), subst (λ (es : List EndPoints). ShowsNoLine es j.pairs) (sym (whole_next fs f) ∙ ap (λ (k : ℕ). take k (portals_of (fs ++ f ∷ []))) (sym n)) s)
 
 -- ---- fewer frames
@@ -228,17 +231,17 @@ length_take zero xs h = refl
 length_take (suc n) [] h = absurd (omega (arith, h))
 length_take (suc n) (x ∷ xs) h = let e = length_take n xs (omega (arith, h)) in omega (arith, e)
 
-pub pop_kept : (fs : List Frame) (n : ℕ) (ls rs : List EndAt) (cs : List Cone) (jam left : Option Jam) → n ≤ length fs → IsKept fs ls rs cs jam → ((k : ℕ) → k ≤ n → IsFree left k → IsFree jam k) → MatchOption left (Unit {0}) (λ j. (jam ≡ Some j) × (j.portals ≤ n)) → IsKept (take n fs) ls rs cs left
-pop_kept fs n ls rs cs jam left l h free stays = record {
+pub pop_history : (fs : List Frame) (n : ℕ) (ls rs : List EndAt) (cs : List Cone) (conflict left : Option Conflict) → n ≤ length fs → IsHistory fs ls rs cs conflict → ((k : ℕ) → k ≤ n → IsFree left k → IsFree conflict k) → MatchOption left (Unit {0}) (λ j. (conflict ≡ Some j) × (j.portals ≤ n)) → IsHistory (take n fs) ls rs cs left
+pop_history fs n ls rs cs conflict left l h free stays = record {
   frames = λ k f e g. let t = get_take n fs k f e in let b = t.0 in subst (λ (es : List EndPoints). IsFrameOf es ls rs cs f) (sym (start_take fs (k + 1) n (omega (arith, b)))) (h.frames k f t.1 (free (k + 1) (omega (arith, b)) g));
   order = λ k m f g i e t u. let s = get_take n fs k f e in let v = get_take n fs m g t in let b = v.0 in h.order k m f g i s.1 v.1 (free (m + 1) (omega (arith, b)) u);
-  jam = by left stays;
+  conflict = by left stays;
 }
   where
-    by : (left : Option Jam) → MatchOption left (Unit {0}) (λ j. (jam ≡ Some j) × (j.portals ≤ n)) → IsJam (take n fs) left
+    by : (left : Option Conflict) → MatchOption left (Unit {0}) (λ j. (conflict ≡ Some j) × (j.portals ≤ n)) → IsConflict (take n fs) left
     by None s = tt
     by (Some j) s =
-        let m : IsJam fs (Some j) = subst (IsJam fs) s.0 h.jam in
+        let m : IsConflict fs (Some j) = subst (IsConflict fs) s.0 h.conflict in
         let b = s.1 in
         let e = length_take n fs l in
         (omega (arith, b, e), subst (λ (es : List EndPoints). ShowsNoLine es j.pairs) (sym (start_take fs j.portals n s.1)) m.1)
@@ -252,11 +255,11 @@ take_drop zero xs = refl
 take_drop (suc n) [] = refl
 take_drop (suc n) (x ∷ xs) = ap (λ zs. x ∷ zs) (take_drop n xs)
 
-pub jam_shows : (fs : List Frame) (ls rs : List EndAt) (cs : List Cone) (j : Jam) → IsKept fs ls rs cs (Some j) → ShowsNoLine (portals_of fs) j.pairs
-jam_shows fs ls rs cs j h = let s = h.jam.1 in subst (λ (es : List EndPoints). ShowsNoLine es j.pairs) (take_drop j.portals (portals_of fs)) (record { ends = more_pairs (take j.portals (portals_of fs)) (drop j.portals (portals_of fs)) j.pairs s.ends; balanced = s.balanced })
+pub conflict_shows : (fs : List Frame) (ls rs : List EndAt) (cs : List Cone) (j : Conflict) → IsHistory fs ls rs cs (Some j) → ShowsNoLine (portals_of fs) j.pairs
+conflict_shows fs ls rs cs j h = let s = h.conflict.1 in subst (λ (es : List EndPoints). ShowsNoLine es j.pairs) (take_drop j.portals (portals_of fs)) (record { ends = more_pairs (take j.portals (portals_of fs)) (drop j.portals (portals_of fs)) j.pairs s.ends; balanced = s.balanced })
 
 -- the last frame is that of all portals
-pub top_frame : (fs : List Frame) (k : ℕ) (f : Frame) (ls rs : List EndAt) (cs : List Cone) → IsKept fs ls rs cs None → k + 1 ≡ length fs → slice_get fs k ≡ Some f → IsFrameOf (portals_of fs) ls rs cs f
+pub top_frame : (fs : List Frame) (k : ℕ) (f : Frame) (ls rs : List EndAt) (cs : List Cone) → IsHistory fs ls rs cs None → k + 1 ≡ length fs → slice_get fs k ≡ Some f → IsFrameOf (portals_of fs) ls rs cs f
 top_frame fs k f ls rs cs h e t = subst (λ (es : List EndPoints). IsFrameOf es ls rs cs f) (take_all (k + 1) (portals_of fs) (let m = length-map fs portal_of in omega (arith, m, e))) (h.frames k f t tt)
 
 some_cone : (c d : Cone) → Some c ≡ Some d → c ≡ d
@@ -285,11 +288,11 @@ some_frames : (fs : List Frame) (es : List EndPoints) (n : ℕ) → portals_of f
 some_frames fs es n e h k = let m = length-map fs portal_of in let l : length (portals_of fs) ≡ length es = ap (λ (es : List EndPoints). length es) e in omega (arith, m, l, h, k)
 
 -- the last frame, and the cone that it names
-pub split_frame : (fs : List Frame) (es : List EndPoints) (n : ℕ) (top : Frame) (ls rs : List EndAt) (cs : List Cone) → IsKept fs ls rs cs None → portals_of fs ≡ es → 0 < length es → n ≡ length fs → top ≡ get_or fs (n - 1) top → IsFrameOf (portals_of fs) ls rs cs top
+pub split_frame : (fs : List Frame) (es : List EndPoints) (n : ℕ) (top : Frame) (ls rs : List EndAt) (cs : List Cone) → IsHistory fs ls rs cs None → portals_of fs ≡ es → 0 < length es → n ≡ length fs → top ≡ get_or fs (n - 1) top → IsFrameOf (portals_of fs) ls rs cs top
 split_frame fs es n top ls rs cs h e k m g = top_frame fs (n - 1) top ls rs cs h (some_frames fs es n e k m)
     (slice_get-get_or fs (n - 1) top (let b = some_frames fs es n e k m in omega (arith, b)) ∙ ap (λ (f : Frame). Some f) (sym g))
 
-pub split_cone : (fs : List Frame) (es : List EndPoints) (n : ℕ) (top : Frame) (d : Cone) (ls rs : List EndAt) (cs : List Cone) → IsKept fs ls rs cs None → portals_of fs ≡ es → 0 < length es → n ≡ length fs → top ≡ get_or fs (n - 1) top → d ≡ get_or cs (top.cones - 1) d → IsConeOf (portals_of fs) d
+pub split_cone : (fs : List Frame) (es : List EndPoints) (n : ℕ) (top : Frame) (d : Cone) (ls rs : List EndAt) (cs : List Cone) → IsHistory fs ls rs cs None → portals_of fs ≡ es → 0 < length es → n ≡ length fs → top ≡ get_or fs (n - 1) top → d ≡ get_or cs (top.cones - 1) d → IsConeOf (portals_of fs) d
 split_cone fs es n top d ls rs cs h e k m g i = subst (λ (c : Cone). IsConeOf (portals_of fs) c) (sym i) ((frame_cone (portals_of fs) ls rs cs top (split_frame fs es n top ls rs cs h e k m g)).2 d)
 
 -- ---- numbers
@@ -309,7 +312,7 @@ pub as_many : (fs : List Frame) → length (portals_of fs) ≡ length fs
 as_many fs = length-map fs portal_of
 
 -- ---- stacks with one more portal
-pub last_frame : (fs : List Frame) (f : Frame) (ls rs : List EndAt) (cs : List Cone) → IsKept fs ls rs cs None → slice_get fs (length fs - 1) ≡ Some f → IsFrameOf (portals_of fs) ls rs cs f
+pub last_frame : (fs : List Frame) (f : Frame) (ls rs : List EndAt) (cs : List Cone) → IsHistory fs ls rs cs None → slice_get fs (length fs - 1) ≡ Some f → IsFrameOf (portals_of fs) ls rs cs f
 last_frame fs f ls rs cs h t = let b = slice_get_within fs (length fs - 1) f t in top_frame fs (length fs - 1) f ls rs cs h (omega (arith, b)) t
 
 pub no_last : (fs : List Frame) → slice_get fs (length fs - 1) ≡ None → length fs ≡ 0
@@ -333,29 +336,52 @@ first_stacked (f ∷ fs) left right ls rs cs z lc rc el er t = absurd (omega (ar
 
 -- ---- a push
 -- what is known before the frame is pushed
-abbrev pub IsReady : List Frame → EndPoints → List EndAt → List EndAt → List Cone → Option Jam → Option (List EndPair) → Type 0
-IsReady fs p ls rs cs (Some j) None = IsKept fs ls rs cs (Some j)
+abbrev pub IsReady : List Frame → EndPoints → List EndAt → List EndAt → List Cone → Option Conflict → Option (List EndPair) → Type 0
+IsReady fs p ls rs cs (Some j) None = IsHistory fs ls rs cs (Some j)
 IsReady fs p ls rs cs (Some j) (Some pairs) = ⊥
-IsReady fs p ls rs cs None stuck = IsKept fs ls rs cs None × MatchOption stuck (IsHullOf (portals_of fs ++ p ∷ []) ls rs cs) (λ pairs. ShowsNoLine (portals_of fs ++ p ∷ []) pairs)
+IsReady fs p ls rs cs None stuck = IsHistory fs ls rs cs None × MatchOption stuck (IsHullOf (portals_of fs ++ p ∷ []) ls rs cs) (λ pairs. ShowsNoLine (portals_of fs ++ p ∷ []) pairs)
 
-pub ready_jammed : (fs : List Frame) (p : EndPoints) (ls rs : List EndAt) (cs : List Cone) (jam : Option Jam) (j : Jam) → jam ≡ Some j → IsKept fs ls rs cs jam → IsReady fs p ls rs cs jam None
-ready_jammed fs p ls rs cs jam j e h = subst (λ (o : Option Jam). IsReady fs p ls rs cs o None) (sym e) (subst (λ (o : Option Jam). IsKept fs ls rs cs o) e h)
+pub ready_conflict : (fs : List Frame) (p : EndPoints) (ls rs : List EndAt) (cs : List Cone) (conflict : Option Conflict) (j : Conflict) → conflict ≡ Some j → IsHistory fs ls rs cs conflict → IsReady fs p ls rs cs conflict None
+ready_conflict fs p ls rs cs conflict j e h = subst (λ (o : Option Conflict). IsReady fs p ls rs cs o None) (sym e) (subst (λ (o : Option Conflict). IsHistory fs ls rs cs o) e h)
 
-pub ready_free : (old fs : List Frame) (p : EndPoints) (ls rs : List EndAt) (cs : List Cone) (jam : Option Jam) (stuck : Option (List EndPair)) → old ≡ fs → jam ≡ None → IsKept old ls rs cs None
-    → MatchOption stuck (IsHullOf (portals_of old ++ p ∷ []) ls rs cs) (λ pairs. ShowsNoLine (portals_of old ++ p ∷ []) pairs) → IsReady fs p ls rs cs jam stuck
-ready_free old fs p ls rs cs jam stuck e n h k = subst (λ (o : Option Jam). IsReady fs p ls rs cs o stuck) (sym n) (subst (λ (gs : List Frame). IsReady gs p ls rs cs None stuck) e (h, k))
+pub ready_free : (old fs : List Frame) (p : EndPoints) (ls rs : List EndAt) (cs : List Cone) (conflict : Option Conflict) (stuck : Option (List EndPair)) → old ≡ fs → conflict ≡ None → IsHistory old ls rs cs None
+    → MatchOption stuck (IsHullOf (portals_of old ++ p ∷ []) ls rs cs) (λ pairs. ShowsNoLine (portals_of old ++ p ∷ []) pairs) → IsReady fs p ls rs cs conflict stuck
+ready_free old fs p ls rs cs conflict stuck e n h k = subst (λ (o : Option Conflict). IsReady fs p ls rs cs o stuck) (sym n) (subst (λ (gs : List Frame). IsReady gs p ls rs cs None stuck) e (h, k))
 
-pub push_ready : (fs : List Frame) (f : Frame) (ls rs : List EndAt) (cs : List Cone) (jam : Option Jam) (stuck : Option (List EndPair)) → IsReady fs (portal_of f) ls rs cs jam stuck → stuck ≡ None → f.lefts ≡ length ls → f.rights ≡ length rs → f.cones ≡ length cs → IsKept (fs ++ f ∷ []) ls rs cs jam
-push_ready fs f ls rs cs (Some j) None h e el er ec = push_jammed fs f ls rs cs j h
+pub ready_at : (fs : List Frame) (p : EndPoints) (f : Frame) (ls rs : List EndAt) (cs : List Cone) (found : Option Conflict) (stuck : Option (List EndPair)) → portal_of f ≡ p → IsReady fs p ls rs cs found stuck → IsReady fs (portal_of f) ls rs cs found stuck
+ready_at fs p f ls rs cs found stuck e h = subst (λ (q : EndPoints). IsReady fs q ls rs cs found stuck) (sym e) h
+
+pub push_ready : (fs : List Frame) (f : Frame) (ls rs : List EndAt) (cs : List Cone) (conflict : Option Conflict) (stuck : Option (List EndPair)) → IsReady fs (portal_of f) ls rs cs conflict stuck → stuck ≡ None → f.lefts ≡ length ls → f.rights ≡ length rs → f.cones ≡ length cs → IsHistory (fs ++ f ∷ []) ls rs cs conflict
+push_ready fs f ls rs cs (Some j) None h e el er ec = push_after_conflict fs f ls rs cs j h
 push_ready fs f ls rs cs (Some j) (Some pairs) h e el er ec = absurd h
 push_ready fs f ls rs cs None None h e el er ec = push_free fs f ls rs cs h.0 el er ec h.1
 push_ready fs f ls rs cs None (Some pairs) h e el er ec = absurd (none_some pairs (sym e))
 
-pub push_stuck : (fs : List Frame) (f : Frame) (ls rs : List EndAt) (cs : List Cone) (jam : Option Jam) (stuck : Option (List EndPair)) (pairs : List EndPair) (n : ℕ) → IsReady fs (portal_of f) ls rs cs jam stuck → stuck ≡ Some pairs → n ≡ length (fs ++ f ∷ []) → IsKept (fs ++ f ∷ []) ls rs cs (Some (record { portals = n; pairs = pairs }))
+pub push_stuck : (fs : List Frame) (f : Frame) (ls rs : List EndAt) (cs : List Cone) (conflict : Option Conflict) (stuck : Option (List EndPair)) (pairs : List EndPair) (n : ℕ) → IsReady fs (portal_of f) ls rs cs conflict stuck → stuck ≡ Some pairs → n ≡ length (fs ++ f ∷ []) → IsHistory (fs ++ f ∷ []) ls rs cs (Some (record { portals = n; pairs = pairs }))
 push_stuck fs f ls rs cs (Some j) None pairs n h e m = absurd (none_some pairs e)
 push_stuck fs f ls rs cs (Some j) (Some qs) pairs n h e m = absurd h
 push_stuck fs f ls rs cs None None pairs n h e m = absurd (none_some pairs e)
-push_stuck fs f ls rs cs None (Some qs) pairs n h e m = push_jam fs f ls rs cs (record { portals = n; pairs = pairs }) h.0 (m ∙ length_next fs f) (subst (λ (ps : List EndPair). ShowsNoLine (portals_of fs ++ portal_of f ∷ []) ps) (inner qs pairs e) h.1)
+push_stuck fs f ls rs cs None (Some qs) pairs n h e m = push_conflict fs f ls rs cs (record { portals = n; pairs = pairs }) h.0 (m ∙ length_next fs f) (subst (λ (ps : List EndPair). ShowsNoLine (portals_of fs ++ portal_of f ∷ []) ps) (inner qs pairs e) h.1)
   where
     inner : (qs ps : List EndPair) → Some qs ≡ Some ps → qs ≡ ps
     inner qs ps h = cc
+
+-- ---- a portal that is tried
+pub shows_more : (es : List EndPoints) (e : EndPoints) (pairs : List EndPair) → ShowsNoLine es pairs → ShowsNoLine (es ++ e ∷ []) pairs
+shows_more es e pairs h = record { ends = more_pairs es (e ∷ []) pairs h.ends; balanced = h.balanced }
+
+-- the cone that is stacked last
+pub new_cone : (es : List EndPoints) (ls rs : List EndAt) (cs : List Cone) (n : ℕ) (d : Cone) → n ≡ length cs → d ≡ get_or cs (n - 1) d → IsHullOf es ls rs cs → IsConeOf es d
+new_cone es ls rs cs n d e g h = cone_of es ls rs cs d h (h.cone.1 ∙ ap (λ (c : Cone). Some c) (top_is cs n d h.cone.0 e g h.cone.1))
+
+-- the frame of the portal that was stacked
+pub enter_free : (fs : List Frame) (p : EndPoints) (f : Frame) (ls rs : List EndAt) (cs : List Cone) (found : Option Conflict) → found ≡ None → IsHistory fs ls rs cs None → IsHullOf (portals_of fs ++ p ∷ []) ls rs cs → f ≡ record { left = p.left; right = p.right; lefts = length ls; rights = length rs; cones = length cs } → IsHistory (fs ++ f ∷ []) ls rs cs found
+enter_free fs p f ls rs cs found n h s e = subst (λ (o : Option Conflict). IsHistory (fs ++ f ∷ []) ls rs cs o) (sym n)
+    (push_free fs f ls rs cs h (ap (λ (g : Frame). g.lefts) e) (ap (λ (g : Frame). g.rights) e) (ap (λ (g : Frame). g.cones) e) (subst (λ (q : EndPoints). IsHullOf (portals_of fs ++ q ∷ []) ls rs cs) (sym (ap portal_of e)) s))
+
+pub entered_by_line : (old : List EndPoints) (e : EndPoints) (new : List EndPoints) (split : Split) (a b c : ℤ) → split ≡ Line a b c → new ≡ old ++ e ∷ [] → IsEntered old e new (Ok split)
+entered_by_line old e new (Line x y z) a b c s h = h
+entered_by_line old e new (Stuck pairs) a b c s h = cc
+
+pub entered_list : (fs gs : List Frame) (es : List EndPoints) (e : EndPoints) (f : Frame) → portals_of fs ≡ es → gs ≡ fs ++ f ∷ [] → portal_of f ≡ e → portals_of gs ≡ es ++ e ∷ []
+entered_list fs gs es e f v g p = ap portals_of g ∙ portals_next fs f ∙ ap₂ (λ (xs : List EndPoints) (x : EndPoints). xs ++ x ∷ []) v p
