@@ -1,5 +1,4 @@
-use Rattle.std.proofs.Common.{refl, sym, w64, to_z, of_z, to_z-of_z}
-use mir.Syntax.{w32}
+use Rattle.std.proofs.Common.{refl, sym, to_z-of_z}
 use Rattle.stab_hull.proofs.HistoryLemmas.{line_splits, has_corner, fits_a, fits_c, line_is}
 use Rattle.stab_hull.proofs.history.line_of.Goals as goal
 
