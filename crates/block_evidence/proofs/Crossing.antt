@@ -11,7 +11,7 @@ use Rattle.sight_names.specs.declared.names.EndAt.{EndAt}
 use Rattle.geom_exact.specs.Formulas.{turn_of}
 use Rattle.geom_exact.proofs.SegmentLemmas.{four_turns, same_meeting_x, same_meeting_y}
 use Rattle.block_evidence.specs.Stuck.{HullsMeet, AreStuck, left_ends, right_ends}
-use Rattle.block_evidence.specs.Quick.{AreWeights, AreOpposite, IsBetween}
+use Rattle.block_evidence.specs.SignTests.{AreWeights, AreOpposite, IsBetween}
 use Rattle.block_evidence.proofs.Means.{AsMean, means_meet}
 
 -- ---- weights as whole numbers that aren't below 0

@@ -242,6 +242,16 @@ mean_of_all xs s x y h m = record {
   y = ap (λ (n : ℕ). y *ℤ pos n) m.weight ∙ ap (λ (t : ℤ). t *ℤ pos s) (sym m.y_is);
 }
 
+-- a mean of points is a mean of any points that have them among them
+pub mean_more : (xs ps : List Pt) (r : Point) → AllByRecursion (λ p. In p xs) ps → IsMeanOf ps r → IsMeanOf xs r
+mean_more xs ps r h m = let a = as_mean xs ps m.weights m.one_each h in record {
+  weights = a.weights;
+  one_each = a.one_each;
+  weighed = subst (λ (n : ℕ). 0 < n) (sym a.weight) m.weighed;
+  x = ap (λ (n : ℕ). r.x *ℤ pos n) a.weight ∙ m.x ∙ ap (λ (t : ℤ). t *ℤ pos r.d) (sym a.x_is);
+  y = ap (λ (n : ℕ). r.y *ℤ pos n) a.weight ∙ m.y ∙ ap (λ (t : ℤ). t *ℤ pos r.d) (sym a.y_is);
+}
+
 -- a mean of the ones and of the others with the same weight
 pub means_meet : (ls rs : List Pt) (s : ℕ) (x y : ℤ) → 0 < s → AsMean ls s x y → AsMean rs s x y → HullsMeet ls rs
 means_meet ls rs s x y h m n = (record { x = x; y = y; d = s; positive = h }, mean_of_all ls s x y h m, mean_of_all rs s x y h n)

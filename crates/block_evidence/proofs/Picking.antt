@@ -1,5 +1,5 @@
 -- Evidence that names some of given ends.
-use Rattle.std.proofs.Common.{◌≡◌, ℕ, ◌<◌, ◌≤◌, List, [], ◌∷◌, length, get_or, pos, refl, arith, ◌⊎◌, inl, inr, All, Contains, Option, Some, None}
+use Rattle.std.proofs.Common.{◌≡◌, ◌<◌, ◌≤◌, List, [], ◌∷◌, length, get_or, pos, refl, arith, ◌⊎◌, inl, inr, All, Contains, Option, Some, None}
 use Rattle.std.specs.Prelude.{IfSome}
 use Rattle.std.specs.List.{AllByRecursion}
 use Rattle.std.proofs.lemmas.List.Elements.{All-contains_itself, recursion_from_All}
@@ -7,7 +7,7 @@ use Rattle.sight_names.specs.declared.names.EndAt.{EndAt}
 use Rattle.sight_names.specs.declared.names.EndPair.{EndPair}
 use Rattle.sight_names.specs.Splitting.{EndPoints, IsPairOf}
 use Rattle.block_evidence.specs.declared.Evidence.{Evidence}
-use Rattle.block_evidence.specs.Stuck.{AreStuck, IsEndOf, IsEvidenceOf, Blocks}
+use Rattle.block_evidence.specs.Stuck.{IsEndOf, IsEvidenceOf, Blocks}
 use Rattle.block_evidence.specs.Picked.{IsIn, IsChoice, AreAmong, Picks, both_ends}
 use Rattle.block_evidence.proofs.Ordered.{all_at, all_of}
 use Rattle.block_evidence.proofs.Choices.{choice_evidence, choice_blocks}
@@ -21,20 +21,6 @@ picks_more xs ys e h p = record { ends = p.ends; ascends = p.ascends; among = am
 pub some_more : (xs ys : List EndAt) (o : Option Evidence) → AreAmong ys xs → IfSome o (λ e. Picks xs e) → IfSome o (λ e. Picks ys e)
 some_more xs ys None h p = tt
 some_more xs ys (Some e) h p = picks_more xs ys e h p
-
--- four ends by ascending codes
-pub picks_four : (a b c d : EndAt) → (a.code < b.code) × (b.code < c.code) × (c.code < d.code) → AreStuck (a ∷ b ∷ c ∷ d ∷ []) → Picks (a ∷ b ∷ c ∷ d ∷ []) (record { count = 4; ends = a.code ∷ b.code ∷ c.code ∷ d.code ∷ [] })
-picks_four a b c d h s = record {
-  ends = a ∷ b ∷ c ∷ d ∷ [];
-  ascends = ((h.0, (below h.0 h.1, (below h.0 (below h.1 h.2), tt))), ((h.1, (below h.1 h.2, tt)), ((h.2, tt), (tt, tt))));
-  among = (inl refl, (inr (inl refl), (inr (inr (inl refl)), (inr (inr (inr (inl refl))), tt))));
-  few = omega arith;
-  stuck = s;
-  names = record { count = refl; codes = refl; unused = refl };
-}
-  where
-    below : {k m n : ℕ} → k < m → m < n → k < n
-    below h k = omega (arith, h, k)
 
 -- ---- the ends of pairs
 ends_of : (all pairs : List EndPair) → AllByRecursion (Contains all) pairs → AllByRecursion (IsEndOf all) (both_ends pairs)
@@ -55,23 +41,6 @@ pub picks_block : (pairs : List EndPair) (e : Evidence) → Picks (both_ends pai
 picks_block pairs e p es h = choice_blocks pairs p.ends e (choice_of pairs e p) p.names es h
 
 -- ---- the sets that are tried
-pub two_twos : (p q r s a b c d : EndAt) → AreAmong (p ∷ q ∷ []) (a ∷ b ∷ []) → AreAmong (r ∷ s ∷ []) (c ∷ d ∷ []) → AreAmong (p ∷ q ∷ r ∷ s ∷ []) (a ∷ b ∷ c ∷ d ∷ [])
-two_twos p q r s a b c d h k = (front a h.0, (front b h.1.0, (inr (inr k.0), (inr (inr k.1.0), tt))))
-  where
-    front : (e : EndAt) → IsIn e (p ∷ q ∷ []) → IsIn e (p ∷ q ∷ r ∷ s ∷ [])
-    front e (inl h) = inl h
-    front e (inr (inl h)) = inr (inl h)
-    front e (inr (inr h)) = absurd h
-
-pub three_one : (p q r s a b c : EndAt) → AreAmong (p ∷ q ∷ r ∷ []) (a ∷ b ∷ c ∷ []) → AreAmong (p ∷ q ∷ r ∷ s ∷ []) (a ∷ b ∷ c ∷ s ∷ [])
-three_one p q r s a b c h = (front a h.0, (front b h.1.0, (front c h.1.1.0, (inr (inr (inr (inl refl))), tt))))
-  where
-    front : (e : EndAt) → IsIn e (p ∷ q ∷ r ∷ []) → IsIn e (p ∷ q ∷ r ∷ s ∷ [])
-    front e (inl h) = inl h
-    front e (inr (inl h)) = inr (inl h)
-    front e (inr (inr (inl h))) = inr (inr (inl h))
-    front e (inr (inr (inr h))) = absurd h
-
 abbrev pub five : EndPair → EndPair → EndAt → List EndAt
 five p q t = p.left ∷ p.right ∷ q.left ∷ q.right ∷ t ∷ []
 

@@ -1,84 +1,119 @@
 //! Four of the ends of three pairs that are seen at once to be stuck. The third pair mostly has one end that is new, and
 //! one of the first or of the second pair: so there are five ends, and four sets of four of them with the new one are tried.
+//! Most sets fail by the signs of their turns; so these come first, and codes are put in order only where they show it.
 
-ghost use Rattle.std.specs.Prelude.{◌∷◌, [], ◌<◌, IsTrue, IfSome};
-ghost use Rattle.block_evidence.specs.Picked.{AreAmong, Picks, both_ends};
+ghost use Rattle.std.specs.Prelude.{◌∷◌, [], ◌<◌, ◌≤◌, IfSome};
+ghost use Rattle.block_evidence.specs.Stuck.{AreCoded};
+ghost use Rattle.block_evidence.specs.Picked.{Orders, Picks, both_ends};
 
 use crate::Evidence;
-use crate::quick::are_stuck;
+use crate::sign_tests::{do_cross, is_covered};
 use sight_names::{EndAt, EndPair};
 
-/// The two ends, the one with the lesser code first.
-fn in_order(a: EndAt, b: EndAt) -> (EndAt, EndAt)
-    ensures { AreAmong (a ∷ b ∷ []) (result.0 ∷ result.1 ∷ []) }
+/// The codes of two ends, the lesser one first.
+fn in_order(a: EndAt, b: EndAt) -> (u16, u16)
+    ensures { Orders (a ∷ b ∷ []) (result.0 ∷ result.1 ∷ []) }
 {
-    if a.code < b.code { (a, b) } else { (b, a) }
-}
-
-/// The three ends by their codes.
-fn all_in_order(a: EndAt, b: EndAt, c: EndAt) -> (EndAt, EndAt, EndAt)
-    ensures { AreAmong (a ∷ b ∷ c ∷ []) (result.0 ∷ result.1 ∷ result.2 ∷ []) }
-{
-    let (least, more) = in_order(a, b);
-    if more.code < c.code {
-        (least, more, c)
-    } else if least.code < c.code {
-        (least, c, more)
+    if a.code < b.code {
+        (a.code, b.code)
     } else {
-        (c, least, more)
+        (b.code, a.code)
     }
 }
 
-/// Whether each of the codes is below the next.
-fn do_ascend(a: u16, b: u16, c: u16, d: u16) -> bool
-    ensures { IsTrue result → (a < b) × (b < c) × (c < d) }
+/// The codes of three ends, each lesser one before the greater ones.
+fn all_in_order(a: EndAt, b: EndAt, c: EndAt) -> (u16, u16, u16)
+    ensures { Orders (a ∷ b ∷ c ∷ []) (result.0 ∷ result.1 ∷ result.2 ∷ []) }
 {
-    a < b && b < c && c < d
+    let (a, b, c) = (a.code, b.code, c.code);
+    if a < b {
+        if b < c {
+            (a, b, c)
+        } else if a < c {
+            (a, c, b)
+        } else {
+            (c, a, b)
+        }
+    } else if a < c {
+        (b, a, c)
+    } else if b < c {
+        (b, c, a)
+    } else {
+        (c, b, a)
+    }
 }
 
-/// Evidence of these ends, if their codes ascend and a quick test shows them stuck.
-fn four_of(a: EndAt, b: EndAt, c: EndAt, d: EndAt) -> Option<Evidence>
-    ensures { IfSome result (λ e. Picks (a ∷ b ∷ c ∷ d ∷ []) e) }
+/// Evidence of two left and two right ends, where the segments between them are seen to share a point.
+fn two_and_two(p: EndAt, q: EndAt, r: EndAt, s: EndAt) -> Option<Evidence>
+    requires p_left { p.code < 32768 }
+    requires q_left { q.code < 32768 }
+    requires r_right { 32768 ≤ r.code }
+    requires s_right { 32768 ≤ s.code }
+    ensures { IfSome result (λ e. Picks (p ∷ q ∷ r ∷ s ∷ []) e) }
 {
-    if !do_ascend(a.code, b.code, c.code, d.code) {
+    if p.code == q.code || r.code == s.code {
         return None;
     }
-    if !are_stuck(a, b, c, d) {
+    if !do_cross(p.at, q.at, r.at, s.at) {
         return None;
     }
+    let (a, b) = in_order(p, q);
+    let (c, d) = in_order(r, s);
     Some(Evidence {
         count: 4,
-        ends: [a.code, b.code, c.code, d.code],
+        ends: [a, b, c, d],
     })
 }
 
-/// Evidence of two left and two right ends.
-fn two_and_two(p: EndAt, q: EndAt, r: EndAt, s: EndAt) -> Option<Evidence>
-    ensures { IfSome result (λ e. Picks (p ∷ q ∷ r ∷ s ∷ []) e) }
-{
-    let (a, b) = in_order(p, q);
-    let (c, d) = in_order(r, s);
-    four_of(a, b, c, d)
-}
-
-/// Evidence of one left and three right ends.
+/// Evidence of one left and three right ends, whose triangle is seen to have the left one.
 fn one_and_three(p: EndAt, q: EndAt, r: EndAt, s: EndAt) -> Option<Evidence>
+    requires p_left { p.code < 32768 }
+    requires q_right { 32768 ≤ q.code }
+    requires r_right { 32768 ≤ r.code }
+    requires s_right { 32768 ≤ s.code }
     ensures { IfSome result (λ e. Picks (p ∷ q ∷ r ∷ s ∷ []) e) }
 {
+    if q.code == r.code || q.code == s.code || r.code == s.code {
+        return None;
+    }
+    if !is_covered(p.at, q.at, r.at, s.at) {
+        return None;
+    }
     let (b, c, d) = all_in_order(q, r, s);
-    four_of(p, b, c, d)
+    Some(Evidence {
+        count: 4,
+        ends: [p.code, b, c, d],
+    })
 }
 
-/// Evidence of three left ends and one right end.
+/// Evidence of three left ends, whose triangle is seen to have the right one, and that one.
 fn three_and_one(p: EndAt, q: EndAt, r: EndAt, s: EndAt) -> Option<Evidence>
+    requires p_left { p.code < 32768 }
+    requires q_left { q.code < 32768 }
+    requires r_left { r.code < 32768 }
+    requires s_right { 32768 ≤ s.code }
     ensures { IfSome result (λ e. Picks (p ∷ q ∷ r ∷ s ∷ []) e) }
 {
+    if p.code == q.code || p.code == r.code || q.code == r.code {
+        return None;
+    }
+    if !is_covered(s.at, p.at, q.at, r.at) {
+        return None;
+    }
     let (a, b, c) = all_in_order(p, q, r);
-    four_of(a, b, c, s)
+    Some(Evidence {
+        count: 4,
+        ends: [a, b, c, s.code],
+    })
 }
 
 /// Evidence of four of the ends of two pairs and one more right end.
 fn with_right(first: EndPair, second: EndPair, new: EndAt) -> Option<Evidence>
+    requires first_left { first.left.code < 32768 }
+    requires first_right { 32768 ≤ first.right.code }
+    requires second_left { second.left.code < 32768 }
+    requires second_right { 32768 ≤ second.right.code }
+    requires new_right { 32768 ≤ new.code }
     ensures { IfSome result (λ e. Picks (first.left ∷ first.right ∷ second.left ∷ second.right ∷ new ∷ []) e) }
 {
     if let Some(found) = two_and_two(first.left, second.left, second.right, new) {
@@ -95,6 +130,11 @@ fn with_right(first: EndPair, second: EndPair, new: EndAt) -> Option<Evidence>
 
 /// Evidence of four of the ends of two pairs and one more left end.
 fn with_left(first: EndPair, second: EndPair, new: EndAt) -> Option<Evidence>
+    requires first_left { first.left.code < 32768 }
+    requires first_right { 32768 ≤ first.right.code }
+    requires second_left { second.left.code < 32768 }
+    requires second_right { 32768 ≤ second.right.code }
+    requires new_left { new.code < 32768 }
     ensures { IfSome result (λ e. Picks (first.left ∷ first.right ∷ second.left ∷ second.right ∷ new ∷ []) e) }
 {
     if let Some(found) = two_and_two(first.left, new, first.right, second.right) {
@@ -109,9 +149,10 @@ fn with_left(first: EndPair, second: EndPair, new: EndAt) -> Option<Evidence>
     three_and_one(first.left, second.left, new, second.right)
 }
 
-/// Four of the ends of three pairs, where the third has an end of the first or of the second and a quick test shows
+/// Four of the ends of three pairs, where the third has an end of the first or of the second and the signs of turns show
 /// four of the five ends stuck.
-pub fn direct(pairs: &[EndPair; 3]) -> Option<Evidence>
+pub fn four_of_five(pairs: &[EndPair; 3]) -> Option<Evidence>
+    requires { AreCoded pairs.now }
     ensures { IfSome result (λ e. Picks (both_ends pairs.now) e) }
 {
     let [first, second, third] = *pairs;

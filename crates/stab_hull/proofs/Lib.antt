@@ -1,3 +1,3 @@
 pub mod StepLemmas
 pub mod HullLemmas
-pub mod KeptLemmas
+pub mod HistoryLemmas

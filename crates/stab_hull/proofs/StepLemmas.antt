@@ -1,5 +1,5 @@
 -- What one more end does to the cone of other ends.
-use Rattle.std.proofs.Common.{◌≡◌, ℕ, zero, suc, ◌+◌, ◌-◌, ◌<◌, ◌≤◌, List, [], ◌∷◌, ◌++◌, length, Option, Some, None, Result, Ok, Err, refl, sym, ap, arith, ◌∙◌, ◌⊎◌, inl, inr, subst, subst₂, All, get_or, below_more}
+use Rattle.std.proofs.Common.{◌≡◌, ℕ, zero, suc, ◌+◌, ◌-◌, ◌<◌, ◌≤◌, List, [], ◌∷◌, ◌++◌, length, Option, Some, None, Result, Ok, Err, refl, sym, ap, arith, ◌∙◌, ◌⊎◌, inl, inr, subst, subst₂, All, get_or, below_more, pos}
 use Rattle.std.specs.Prelude.{slice_get, MatchOption, IfOk}
 use Rattle.std.proofs.lemmas.Option.{slice_get-get_or, slice_get_within}
 use Rattle.std.proofs.lemmas.List.Elements.{All-nil, All-cons}
@@ -19,6 +19,10 @@ use Rattle.extreme_lines.proofs.Widening.{made_arrow, stays}
 use Rattle.extreme_lines.proofs.EndsLemmas.{get_append, get_cases}
 use Rattle.stab_hull.specs.Stacks.{IsAmong, IsPairAmong, SpansEnds, IsOfEnds, IsConeOfEnds, AreStuckAmong, IsTopCone, IsAdded}
 use Rattle.list_base.proofs.Lists.{get_pushed}
+
+-- what stands for an end where there is none
+abbrev pub no_end : EndAt
+no_end = record { code = 0; at = record { x = pos 0; y = pos 0 } }
 
 -- the cone has the differences of this left end and the first right ends
 abbrev pub HasFirstRights : List EndAt → EndAt → ℕ → Cone → Type 0
@@ -163,7 +167,7 @@ some_cone : (c d : Cone) → Some c ≡ Some d → c ≡ d
 some_cone c d h = cc
 
 -- the cone at the last place
-top_is : (C : List Cone) (n : ℕ) (d : Cone) (c : Cone) → n ≡ length C → d ≡ get_or C (n - 1) d → slice_get C (length C - 1) ≡ Some c → c ≡ d
+pub top_is : (C : List Cone) (n : ℕ) (d : Cone) (c : Cone) → n ≡ length C → d ≡ get_or C (n - 1) d → slice_get C (length C - 1) ≡ Some c → c ≡ d
 top_is C n d c e g h =
     let b = slice_get_within C (length C - 1) c h in
     let k : n - 1 ≡ length C - 1 = omega (arith, e) in

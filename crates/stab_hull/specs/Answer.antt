@@ -1,5 +1,6 @@
 -- What a split of portals is.
-use Rattle.std.specs.Prelude.{◌≤◌, ◌^◌, List, All, ℤ, nat_abs}
+use Rattle.std.specs.Prelude.{◌≡◌, ◌≤◌, ◌^◌, List, [], ◌∷◌, ◌++◌, All, ℤ, Result, Ok, Err, nat_abs}
+use Rattle.sight_names.specs.declared.names.Memory.{Memory}
 use Rattle.sight_names.specs.Splitting.{EndPoints, SplitsEnds, IsSplittable, IsPairOf, AreBalanced}
 use Rattle.stab_hull.specs.declared.Split.{Split}
 use Rattle.stab_hull.specs.declared.Split.TheVariants.{Line, Stuck}
@@ -14,3 +15,9 @@ pub record IsLineInRange (a b c : ℤ) : Type 0 where
 abbrev pub IsSplitOf : List EndPoints → Split → Type 0
 IsSplitOf es (Line a b c) = SplitsEnds es a b c × IsLineInRange a b c
 IsSplitOf es (Stuck pairs) = (¬ IsSplittable es) × All (IsPairOf es) pairs × AreBalanced pairs
+
+-- the list has the portal where a line splits its ends and all others, else it is as it was
+abbrev pub IsEntered : List EndPoints → EndPoints → List EndPoints → Result Split Memory → Type 0
+IsEntered old e new (Ok (Line a b c)) = new ≡ old ++ e ∷ []
+IsEntered old e new (Ok (Stuck pairs)) = new ≡ old
+IsEntered old e new (Err r) = new ≡ old

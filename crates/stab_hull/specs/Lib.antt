@@ -1,4 +1,4 @@
 pub mod Answer
 pub mod Portals
 pub mod Stacks
-pub mod Kept
+pub mod History

@@ -4,30 +4,25 @@ ghost use Rattle.std.specs.Prelude.{◌≡◌, ◌<◌, ◌≤◌, ◌+◌, ◌+
 ghost use Rattle.stab_hull.specs.Stacks.{HasPoint, IsAdded, IsTopCone, AreStuckAmong, KeepsFirst};
 
 use crate::frame::Frame;
-use crate::stacked::Stacked;
 use crate::step::{Step, left_step, right_step};
 use extreme_lines::{Cone, Extreme};
 use sight_names::{EndAt, EndPair, Memory, Pt};
-use smallvec::SmallVec;
-
-/// The ends of one side. On most maps there are few, and they lie in the value itself.
-pub type Short = SmallVec<Stacked, 32>;
 
 /// The ends of portals, without those that repeat the point of the one before, and the cones of the ends so far. What
 /// lies above the counts of the last frame is of portals that were taken away.
 #[derive(Drop)]
 pub struct Hull {
-    pub lefts: Short,
-    pub rights: Short,
+    pub lefts: Vec<EndAt>,
+    pub rights: Vec<EndAt>,
     pub cones: Vec<Cone>,
 }
 
 /// Whether the last end is at this point.
-fn repeats(ends: &[Stacked], at: Pt) -> bool
+fn repeats(ends: &[EndAt], at: Pt) -> bool
     ensures { IsTrue result → HasPoint ends.now at }
 {
     match ends.last() {
-        Some(end) => end.end().at == at,
+        Some(end) => end.at == at,
         None => false,
     }
 }
@@ -43,8 +38,8 @@ impl Hull {
         self.lefts.clear();
         self.rights.clear();
         self.cones.clear();
-        self.lefts.push(Stacked::of(left))?;
-        self.rights.push(Stacked::of(right))?;
+        self.lefts.push(left)?;
+        self.rights.push(right)?;
         self.cones.push(Cone::Ray(Extreme::through(left, right)))?;
         Ok(())
     }
@@ -66,7 +61,7 @@ impl Hull {
             Step::Wider(wider) => self.cones.push(wider)?,
             Step::Stuck(pairs) => return Ok(Some(pairs)),
         }
-        self.lefts.push(Stacked::of(left))?;
+        self.lefts.push(left)?;
         Ok(None)
     }
 
@@ -87,7 +82,7 @@ impl Hull {
             Step::Wider(wider) => self.cones.push(wider)?,
             Step::Stuck(pairs) => return Ok(Some(pairs)),
         }
-        self.rights.push(Stacked::of(right))?;
+        self.rights.push(right)?;
         Ok(None)
     }
 

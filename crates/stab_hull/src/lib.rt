@@ -2,21 +2,19 @@
 #![tactic(auto)]
 
 ghost use Rattle.std.specs.Prelude.{◌≡◌, ◌≢◌, ◌++◌, ◌∷◌, [], ◌<◌, length, IfOk, OnErr, take, ◌-◌, OnOk};
-ghost use Rattle.stab_hull.specs.Answer.{IsSplitOf};
+ghost use Rattle.stab_hull.specs.Answer.{IsSplitOf, IsEntered};
 
+mod conflict;
 mod frame;
+mod history;
 mod hull;
-mod jam;
-mod keep;
-mod stacked;
 mod step;
 
+use crate::conflict::Conflict;
 use crate::frame::Frame;
+use crate::history::{add_portal, forget_beyond, frame_over, line_of};
 use crate::hull::Hull;
-use crate::jam::Jam;
-use crate::keep::{jam_within, widened};
-use sight_names::{EndAt, EndPair, Memory, Pt};
-use smallvec::SmallVec;
+use sight_names::{EndPair, Memory, Pt};
 use std::alloc::Global;
 use std::marker::Model;
 
@@ -25,7 +23,7 @@ use std::marker::Model;
 pub struct Ends {
     frames: Vec<Frame>,
     hull: Hull,
-    jam: Option<Jam>,
+    conflict: Option<Conflict>,
 }
 
 impl Model for Ends {
@@ -35,11 +33,11 @@ impl Model for Ends {
     ghost Value = { List EndPoints };
 
     ghost use Rattle.stab_hull.specs.Portals.{portals_of};
-    ghost use Rattle.stab_hull.specs.Kept.{IsKept};
+    ghost use Rattle.stab_hull.specs.History.{IsHistory};
 
     ghost view = { λ s. portals_of s.frames.items };
 
-    ghost invariant = { λ s. IsKept s.frames.items s.hull.lefts.items s.hull.rights.items s.hull.cones.items s.jam };
+    ghost invariant = { λ s. IsHistory s.frames.items s.hull.lefts.items s.hull.rights.items s.hull.cones.items s.conflict };
 }
 
 /// Whether a line splits the ends.
@@ -60,11 +58,11 @@ impl Ends {
         Ends {
             frames: Vec::new(alloc),
             hull: Hull {
-                lefts: SmallVec::new(alloc),
-                rights: SmallVec::new(alloc),
+                lefts: Vec::new(alloc),
+                rights: Vec::new(alloc),
                 cones: Vec::new(alloc),
             },
-            jam: None,
+            conflict: None,
         }
     }
 
@@ -82,32 +80,36 @@ impl Ends {
         ensures ok { OnOk result (self.new ≡ self.old ++ record { left = left; right = right } ∷ []) }
         ensures err { OnErr result (self.new ≡ self.old) }
     {
-        let place = self.frames.len() as u16;
-        let left_end = EndAt {
-            code: place,
-            at: left,
-        };
-        let right_end = EndAt {
-            code: place + 32768,
-            at: right,
-        };
-        let stuck = match &self.jam {
+        let stuck = match &self.conflict {
             Some(_) => None,
-            None => widened(&mut self.hull, self.frames.as_slice(), left_end, right_end)?,
+            None => add_portal(&mut self.hull, self.frames.as_slice(), left, right)?,
         };
-        let frame = Frame {
-            left,
-            right,
-            lefts: self.hull.lefts.len(),
-            rights: self.hull.rights.len(),
-            cones: self.hull.cones.len(),
-        };
-        self.frames.push(frame)?;
+        self.frames.push(frame_over(&self.hull, left, right))?;
         if let Some(pairs) = stuck {
             let portals = self.frames.len();
-            self.jam = Some(Jam { portals, pairs });
+            self.conflict = Some(Conflict { portals, pairs });
         }
         Ok(())
+    }
+
+    /// Adds a portal at the end of the list where a line splits its ends and all others, and gives the line; where none
+    /// does, the list stays as it was, and three pairs show it.
+    pub fn enter(&mut self, left: Pt, right: Pt) -> Result<Split, Memory>
+        requires proper { left ≢ right }
+        requires room { length self.old < 32768 }
+        ensures split { IfOk result (λ split. IsSplitOf (self.old ++ record { left = left; right = right } ∷ []) split) }
+        ensures list { IsEntered self.old (record { left = left; right = right }) self.new result }
+    {
+        if let Some(conflict) = &self.conflict {
+            return Ok(Split::Stuck(conflict.pairs));
+        }
+        match add_portal(&mut self.hull, self.frames.as_slice(), left, right)? {
+            Some(pairs) => Ok(Split::Stuck(pairs)),
+            None => {
+                self.frames.push(frame_over(&self.hull, left, right))?;
+                Ok(line_of(&self.hull.cones[self.hull.cones.len() - 1]))
+            }
+        }
     }
 
     /// Takes the last portal away.
@@ -117,7 +119,7 @@ impl Ends {
     {
         let count = self.frames.len() - 1;
         self.frames.truncate(count);
-        self.jam = jam_within(&self.jam, count);
+        forget_beyond(&mut self.conflict, count);
     }
 
     /// A line that has all left ends strictly on its left and all right ends strictly on its right; or, exactly where
@@ -126,16 +128,11 @@ impl Ends {
         requires { 0 < length self.now }
         ensures { IsSplitOf self.now result }
     {
-        match &self.jam {
-            Some(jam) => Split::Stuck(jam.pairs),
+        match &self.conflict {
+            Some(conflict) => Split::Stuck(conflict.pairs),
             None => {
                 let top = &self.frames[self.frames.len() - 1];
-                let cut = self.hull.cones[top.cones - 1].cut();
-                Split::Line {
-                    a: cut.a,
-                    b: cut.b,
-                    c: cut.c,
-                }
+                line_of(&self.hull.cones[top.cones - 1])
             }
         }
     }

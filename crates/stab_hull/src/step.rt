@@ -4,7 +4,6 @@ ghost use Rattle.std.specs.Prelude.{List, ◌++◌, ◌∷◌, []};
 ghost use Rattle.sight_names.specs.declared.names.EndAt.{EndAt as End};
 ghost use Rattle.stab_hull.specs.Stacks.{IsConeOfEnds, IsStepTo};
 
-use crate::stacked::Stacked;
 use extreme_lines::Cone;
 use sight_names::{EndAt, EndPair};
 
@@ -20,12 +19,12 @@ pub enum Step {
 }
 
 /// The cone with the lines from all right ends to the new left end.
-fn left_against_all(cone: &Cone, rights: &[Stacked], left: EndAt) -> Step
+fn left_against_all(cone: &Cone, rights: &[EndAt], left: EndAt) -> Step
     ensures { (lefts : List End) → IsConeOfEnds lefts rights.now cone.now → IsStepTo (lefts ++ left ∷ []) rights.now cone.now result }
 {
     let mut wide = *cone;
     for j in 0..rights.len() {
-        let right = rights[j].end();
+        let right = rights[j];
         if !wide.covers(left.at, right.at) {
             match wide.with(left, right) {
                 Some(wider) => wide = wider,
@@ -37,12 +36,12 @@ fn left_against_all(cone: &Cone, rights: &[Stacked], left: EndAt) -> Step
 }
 
 /// The cone with the lines from the new right end to all left ends.
-fn right_against_all(cone: &Cone, lefts: &[Stacked], right: EndAt) -> Step
+fn right_against_all(cone: &Cone, lefts: &[EndAt], right: EndAt) -> Step
     ensures { (rights : List End) → IsConeOfEnds lefts.now rights cone.now → IsStepTo lefts.now (rights ++ right ∷ []) cone.now result }
 {
     let mut wide = *cone;
     for i in 0..lefts.len() {
-        let left = lefts[i].end();
+        let left = lefts[i];
         if !wide.covers(left.at, right.at) {
             match wide.with(left, right) {
                 Some(wider) => wide = wider,
@@ -55,7 +54,7 @@ fn right_against_all(cone: &Cone, lefts: &[Stacked], right: EndAt) -> Step
 
 /// What a new left end does. Most left ends are outside of both extreme lines, or can't be split from an extreme right
 /// end; only the others are looked at against all right ends.
-pub fn left_step(cone: &Cone, rights: &[Stacked], left: EndAt) -> Step
+pub fn left_step(cone: &Cone, rights: &[EndAt], left: EndAt) -> Step
     ensures { (lefts : List End) → IsConeOfEnds lefts rights.now cone.now → IsStepTo (lefts ++ left ∷ []) rights.now cone.now result }
 {
     if cone.has_outside_left(left.at) {
@@ -73,7 +72,7 @@ pub fn left_step(cone: &Cone, rights: &[Stacked], left: EndAt) -> Step
 }
 
 /// What a new right end does.
-pub fn right_step(cone: &Cone, lefts: &[Stacked], right: EndAt) -> Step
+pub fn right_step(cone: &Cone, lefts: &[EndAt], right: EndAt) -> Step
     ensures { (rights : List End) → IsConeOfEnds lefts.now rights cone.now → IsStepTo lefts.now (rights ++ right ∷ []) cone.now result }
 {
     if cone.has_outside_right(right.at) {

@@ -4,15 +4,15 @@ use Rattle.std.proofs.lemmas.List.{take-map}
 use Rattle.sight_names.specs.Splitting.{EndPoints}
 use Rattle.stab_hull.specs.declared.frame.Frame.{Frame}
 use Rattle.stab_hull.specs.Portals.{portal_of, portals_of}
-use Rattle.stab_hull.specs.Kept.{IsKept}
-use Rattle.stab_hull.proofs.KeptLemmas.{as_many, pop_kept}
+use Rattle.stab_hull.specs.History.{IsHistory}
+use Rattle.stab_hull.proofs.HistoryLemmas.{as_many, pop_history}
 use Rattle.stab_hull.proofs.Ends.pop.Goals as goal
 
 pub invariant_of-self : goal.invariant_of-self
 invariant_of-self c =
     let k : c.len-count.result ≡ length c.self.inside.frames.items = (let e = c.len-count.ensures in grind (arith, common_steps)) in
-    subst (λ (fs : List Frame). IsKept fs c.self.inside.hull.lefts.items c.self.inside.hull.rights.items c.self.inside.hull.cones.items c.jam_within-self-inside.result) (sym c.truncate.ensures.items)
-    (pop_kept c.self.inside.frames.items (c.len-count.result - 1) c.self.inside.hull.lefts.items c.self.inside.hull.rights.items c.self.inside.hull.cones.items c.self.inside.jam c.jam_within-self-inside.result (omega (arith, k)) c.self.invariant c.jam_within-self-inside.ensures.free c.jam_within-self-inside.ensures.same)
+    subst (λ (fs : List Frame). IsHistory fs c.self.inside.hull.lefts.items c.self.inside.hull.rights.items c.self.inside.hull.cones.items c.forget_beyond.new.conflict) (sym c.truncate.ensures.items)
+    (pop_history c.self.inside.frames.items (c.len-count.result - 1) c.self.inside.hull.lefts.items c.self.inside.hull.rights.items c.self.inside.hull.cones.items c.self.inside.conflict c.forget_beyond.new.conflict (omega (arith, k)) c.self.invariant c.forget_beyond.ensures.free c.forget_beyond.ensures.same)
 
 pub returns : goal.returns
 returns c =

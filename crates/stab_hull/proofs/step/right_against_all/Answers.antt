@@ -1,7 +1,6 @@
-use Rattle.std.proofs.Common.{refl, sym, ap, ◌∙◌, Some}
-use Rattle.sight_names.specs.declared.names.EndAt.{EndAt}
+use Rattle.std.proofs.Common.{refl, get_or}
 use Rattle.std.proofs.lemmas.Option.{slice_get-get_or}
-use Rattle.stab_hull.proofs.StepLemmas.{right_start, right_more, right_covered, right_stuck, right_whole}
+use Rattle.stab_hull.proofs.StepLemmas.{no_end, right_start, right_more, right_covered, right_stuck, right_whole}
 use Rattle.stab_hull.proofs.step.right_against_all.Goals as goal
 use Rattle.stab_hull.proofs.step.right_against_all.Goals.{then-not-covers+in-Some, else-not-covers}
 
@@ -10,12 +9,12 @@ loop-i-init c = λ rights h. right_start c.args.lefts.now rights c.args.right c.
 
 pub loop-i-preserved : goal.loop-i-preserved
 loop-i-preserved c = elim c.if-not-covers.branch [
-  | then-not-covers+in-Some w ↦ rw w.wide-is (λ rights h. right_more c.args.lefts.now rights c.args.right c.loop-i.i c.end-left.result c.loop-i.wide w.in-Some.wider (slice_get-get_or c.args.lefts.now c.loop-i.i _ c.loop-i-test.true ∙ ap (λ (x : EndAt). Some x) (sym (c.end-left.ensures ∙ c.index-lefts-i.is))) w.in-Some.ensures (c.loop-i.invariant rights h))
-  | else-not-covers w ↦ rw w.wide-is (λ rights h. right_covered c.args.lefts.now rights c.args.right c.loop-i.i c.end-left.result c.loop-i.wide (slice_get-get_or c.args.lefts.now c.loop-i.i _ c.loop-i-test.true ∙ ap (λ (x : EndAt). Some x) (sym (c.end-left.ensures ∙ c.index-lefts-i.is))) (w.if-not-covers.ensures refl) (c.loop-i.invariant rights h))
+  | then-not-covers+in-Some w ↦ rw w.wide-is (λ rights h. right_more c.args.lefts.now rights c.args.right c.loop-i.i (get_or c.args.lefts.now c.loop-i.i no_end) c.loop-i.wide w.in-Some.wider (slice_get-get_or c.args.lefts.now c.loop-i.i no_end c.loop-i-test.true) w.in-Some.ensures (c.loop-i.invariant rights h))
+  | else-not-covers w ↦ rw w.wide-is (λ rights h. right_covered c.args.lefts.now rights c.args.right c.loop-i.i (get_or c.args.lefts.now c.loop-i.i no_end) c.loop-i.wide (slice_get-get_or c.args.lefts.now c.loop-i.i no_end c.loop-i-test.true) (w.if-not-covers.ensures refl) (c.loop-i.invariant rights h))
 ]
 
 pub returns-in-None : goal.returns-in-None
-returns-in-None c = λ rights h. right_stuck c.args.lefts.now rights c.args.right c.loop-i.i c.end-left.result c.loop-i.wide c.pairs.result (slice_get-get_or c.args.lefts.now c.loop-i.i _ c.loop-i-test.true ∙ ap (λ (x : EndAt). Some x) (sym (c.end-left.ensures ∙ c.index-lefts-i.is))) (c.loop-i.invariant rights h) c.pairs.ensures c.in-None.ensures
+returns-in-None c = λ rights h. right_stuck c.args.lefts.now rights c.args.right c.loop-i.i (get_or c.args.lefts.now c.loop-i.i no_end) c.loop-i.wide c.pairs.result (slice_get-get_or c.args.lefts.now c.loop-i.i no_end c.loop-i-test.true) (c.loop-i.invariant rights h) c.pairs.ensures c.in-None.ensures
 
 pub returns : goal.returns
 returns c = λ rights h. right_whole c.args.lefts.now rights c.args.right c.loop-i.i c.loop-i.wide c.loop-i-test.false (c.loop-i.invariant rights h)

@@ -1,0 +1,113 @@
+-- Four ends of which the signs of turns show that they are stuck, by their codes.
+use Rattle.std.proofs.Common.{◌≡◌, ℕ, ◌+◌, ◌<◌, ◌≤◌, List, [], ◌∷◌, ◌++◌, length, refl, sym, ap₂, ◌∙◌, arith, inl, inr}
+use Rattle.std.specs.Prelude.{map, drop, replicate, ◌-◌}
+use Rattle.std.specs.List.{AllByRecursion}
+use Rattle.std.proofs.lemmas.Bool.{cases_order}
+use Rattle.std.proofs.lemmas.List.{length-append, map-append}
+use Rattle.sight_names.specs.declared.names.Pt.{Pt}
+use Rattle.sight_names.specs.declared.names.EndAt.{EndAt}
+use Rattle.block_evidence.specs.declared.Evidence.{Evidence}
+use Rattle.block_evidence.specs.Stuck.{HullsMeet, left_ends, right_ends, end_codes}
+use Rattle.block_evidence.specs.Picked.{IsIn, Ascends, AreAmong, AreDistinct, Orders, Picks}
+use Rattle.block_evidence.proofs.Means.{In, mean_more}
+use Rattle.block_evidence.proofs.Ordered.{all_at, all_of, left_in, right_in}
+
+abbrev pub AreLeft : List EndAt → Type 0
+AreLeft ends = AllByRecursion (λ (d : EndAt). d.code < 32768) ends
+
+abbrev pub AreRight : List EndAt → Type 0
+AreRight ends = AllByRecursion (λ (d : EndAt). 32768 ≤ d.code) ends
+
+abbrev points : List EndAt → List Pt
+points ends = map (λ (d : EndAt). d.at) ends
+
+-- ---- the codes in order
+pub less : (m n : ℕ) → ¬ (m ≡ n) → n ≤ m → n < m
+less m n h k = elim (cases_order m n) as (λ _. n < m) [
+  | inl e ↦ absurd (h e)
+  | inr l ↦ elim l as (λ _. n < m) [ inl l ↦ absurd (omega (arith, l, k)) | inr l ↦ l ]
+]
+
+pub two_ordered : (a b x y : EndAt) → AreAmong (a ∷ b ∷ []) (x ∷ y ∷ []) → AreAmong (x ∷ y ∷ []) (a ∷ b ∷ []) → (AreDistinct (a ∷ b ∷ []) → x.code < y.code) → Orders (a ∷ b ∷ []) (x.code ∷ y.code ∷ [])
+two_ordered a b x y h k l = record {
+  ends = x ∷ y ∷ [];
+  coded = refl;
+  many = refl;
+  among = h;
+  all = k;
+  ascends = λ d. ((l d, tt), (tt, tt));
+}
+
+pub three_ordered : (a b c x y z : EndAt) → AreAmong (a ∷ b ∷ c ∷ []) (x ∷ y ∷ z ∷ []) → AreAmong (x ∷ y ∷ z ∷ []) (a ∷ b ∷ c ∷ []) → (AreDistinct (a ∷ b ∷ c ∷ []) → (x.code < y.code) × (y.code < z.code)) → Orders (a ∷ b ∷ c ∷ []) (x.code ∷ y.code ∷ z.code ∷ [])
+three_ordered a b c x y z h k l = record {
+  ends = x ∷ y ∷ z ∷ [];
+  coded = refl;
+  many = refl;
+  among = h;
+  all = k;
+  ascends = λ d. let m = l d in let u = m.0 in let v = m.1 in ((m.0, (omega (arith, u, v), tt)), ((m.1, tt), (tt, tt)));
+}
+
+pub one_ordered : (a : EndAt) → Orders (a ∷ []) (a.code ∷ [])
+one_ordered a = record {
+  ends = a ∷ [];
+  coded = refl;
+  many = refl;
+  among = (inl refl, tt);
+  all = (inl refl, tt);
+  ascends = λ d. (tt, tt);
+}
+
+-- ---- left ends before right ones
+all_append : {X : Type 0} (P : X → Type 0) (xs ys : List X) → AllByRecursion P xs → AllByRecursion P ys → AllByRecursion P (xs ++ ys)
+all_append P [] ys h k = k
+all_append P (x ∷ xs) ys h k = (h.0, all_append P xs ys h.1 k)
+
+in_front : (e : EndAt) (xs ys : List EndAt) → IsIn e xs → IsIn e (xs ++ ys)
+in_front e [] ys h = absurd h
+in_front e (x ∷ xs) ys (inl h) = inl h
+in_front e (x ∷ xs) ys (inr h) = inr (in_front e xs ys h)
+
+in_back : (e : EndAt) (xs ys : List EndAt) → IsIn e ys → IsIn e (xs ++ ys)
+in_back e [] ys h = h
+in_back e (x ∷ xs) ys h = inr (in_back e xs ys h)
+
+above : (x : EndAt) (ys : List EndAt) → x.code < 32768 → AreRight ys → AllByRecursion (λ (d : EndAt). x.code < d.code) ys
+above x [] h k = tt
+above x (y ∷ ys) h k = (let l = k.0 in omega (arith, h, l), above x ys h k.1)
+
+both_ascend : (xs ys : List EndAt) → Ascends xs → Ascends ys → AreLeft xs → AreRight ys → Ascends (xs ++ ys)
+both_ascend [] ys h k l r = k
+both_ascend (x ∷ xs) ys h k l r = (all_append (λ (d : EndAt). x.code < d.code) xs ys h.0 (above x ys l.0 r), both_ascend xs ys h.1 k l.1 r)
+
+among_all : (P : EndAt → Type 0) (given ends : List EndAt) → AreAmong given ends → AllByRecursion P given → AllByRecursion P ends
+among_all P given ends h k = all_of P ends (λ e i. all_at P e given k (all_at (λ (d : EndAt). IsIn d given) e ends h i))
+
+all_points : (P : Pt → Type 0) (ends : List EndAt) → ((e : EndAt) → IsIn e ends → P e.at) → AllByRecursion P (points ends)
+all_points P [] h = tt
+all_points P (e ∷ ends) h = (h e (inl refl), all_points P ends (λ d i. h d (inr i)))
+
+-- left and right ends whose hulls meet, in the order of their codes
+pub picks_ordered : (ls rs : List EndAt) (cl cr : List ℕ) (e : Evidence) → Orders ls cl → Orders rs cr → AreLeft ls → AreRight rs → AreDistinct ls → AreDistinct rs → HullsMeet (points ls) (points rs)
+    → length ls + length rs ≡ 4 → e.count ≡ 4 → end_codes e ≡ cl ++ cr → drop e.count e.ends ≡ replicate (4 - e.count) 0 → Picks (ls ++ rs) e
+picks_ordered ls rs cl cr e o p l r dl dr (t, m, n) few count codes unused = record {
+  ends = o.ends ++ p.ends;
+  ascends = both_ascend o.ends p.ends (o.ascends dl) (p.ascends dr) (among_all (λ (d : EndAt). d.code < 32768) ls o.ends o.among l) (among_all (λ (d : EndAt). 32768 ≤ d.code) rs p.ends p.among r);
+  among = all_append (λ (d : EndAt). IsIn d (ls ++ rs)) o.ends p.ends
+      (all_of (λ (d : EndAt). IsIn d (ls ++ rs)) o.ends (λ d i. in_front d ls rs (all_at (λ (d : EndAt). IsIn d ls) d o.ends o.among i)))
+      (all_of (λ (d : EndAt). IsIn d (ls ++ rs)) p.ends (λ d i. in_back d ls rs (all_at (λ (d : EndAt). IsIn d rs) d p.ends p.among i)));
+  few = omega (arith, whole);
+  stuck = (
+    t,
+    mean_more (left_ends (o.ends ++ p.ends)) (points ls) t (all_points (λ q. In q (left_ends (o.ends ++ p.ends))) ls (λ d i. left_in d (o.ends ++ p.ends) (all_at (λ (d : EndAt). d.code < 32768) d ls l i) (in_front d o.ends p.ends (all_at (λ (d : EndAt). IsIn d o.ends) d ls o.all i)))) m,
+    mean_more (right_ends (o.ends ++ p.ends)) (points rs) t (all_points (λ q. In q (right_ends (o.ends ++ p.ends))) rs (λ d i. right_in d (o.ends ++ p.ends) (all_at (λ (d : EndAt). 32768 ≤ d.code) d rs r i) (in_back d o.ends p.ends (all_at (λ (d : EndAt). IsIn d p.ends) d rs p.all i)))) n,
+  );
+  names = record {
+    count = omega (arith, count, whole);
+    codes = codes ∙ ap₂ (λ (xs ys : List ℕ). xs ++ ys) (sym o.coded) (sym p.coded) ∙ sym (map-append (λ (d : EndAt). d.code) o.ends p.ends);
+    unused = unused;
+  };
+}
+  where
+    whole : length (o.ends ++ p.ends) ≡ 4
+    whole = let a = length-append o.ends p.ends in let b = o.many in let c = p.many in omega (arith, a, b, c, few)
