@@ -2,13 +2,14 @@
 //! their own fields have passed their ranges, a tree once its source has.
 
 ghost use Rattle.std.specs.Prelude.{◌≡◌, Some, None, IfOk};
-ghost use Rattle.block_evidence.specs.Packed.{IsPackable};
+ghost use Rattle.sight_tree.specs.Packed.{IsPackable};
 ghost use Rattle.cert_format.specs.Reading.{Gives, comes_after, pair_after, pair_of, triangle_after, triangle_at, sight_line_at, ray_at, pair_at, two_ends_at, three_ends_at, four_ends_at, node_at, nodes_at, tree_at};
 
 use crate::cert::{Labelled, Sizes};
 use crate::fields::{end_of, i32_at, i64_at, place, point_at, side_of, u16_at, u16_below, u64_at};
-use block_evidence::{Evidence, Node, Nodes, Tree};
+use block_evidence::Evidence;
 use sight_names::{CertFault, Pair, PairRay, Ray, Triangle};
+use sight_tree::{Node, Nodes, Tree};
 use std::alloc::Global;
 
 fn is_triangle_behind(last: Option<Labelled>, t: Triangle) -> bool

@@ -2,14 +2,15 @@
 
 ghost use Rattle.std.specs.Prelude.{◌≡◌, ◌<◌, ◌^◌, ◌++◌, ◌∷◌, [], length, flat_map, OnOk, IfOk};
 ghost use Rattle.std.specs.List.{AllByRecursion};
-ghost use Rattle.block_evidence.specs.declared.Tree.{Tree};
+ghost use Rattle.sight_tree.specs.declared.Tree.{Tree};
 ghost use Rattle.sight_names.specs.declared.names.PairRay.{PairRay};
-ghost use Rattle.block_evidence.specs.declared.Node.TheVariants.{Blocked};
+ghost use Rattle.sight_tree.specs.declared.Node.TheVariants.{Blocked};
 ghost use Rattle.cert_format.specs.Grammar.{AreSmall, Spells, IsEvidenceInOrder, IsNodeInOrder, HasShortSides, FitsRay, FitsPairRay, FitsNode, u16, line_bytes, FitsTree, side_number, triangle_bytes, ray_bytes, pair_bytes, node_bytes, tree_bytes, front_bytes, count_bytes};
 
 use crate::cert::{Cert, Counts, Labelled, Sizes};
-use block_evidence::{Evidence, Node, Nodes, Tree};
+use block_evidence::Evidence;
 use sight_names::{Memory, Pair, PairRay, Ray, Side};
+use sight_tree::{Node, Nodes, Tree};
 use std::alloc::Global;
 
 fn number_of(side: Side) -> u16

@@ -2,9 +2,10 @@
 
 ghost use Rattle.std.specs.Prelude.{◌≡◌, ◌-◌, ◌<◌, ◌≤◌, [], ◌∷◌, ◌++◌, length, OnOk, OnErr};
 ghost use Rattle.std.specs.Iterator.{YieldsFirst, item_count};
-ghost use Rattle.block_evidence.specs.Packed.{IsPackable, first_node, four_places};
+ghost use Rattle.sight_tree.specs.Packed.{IsPackable, first_node, four_places};
 
-use crate::{Evidence, Node};
+use crate::Node;
+use block_evidence::Evidence;
 use sight_names::Memory;
 use std::alloc::Global;
 use std::marker::Model;
@@ -20,11 +21,11 @@ pub struct Nodes {
 
 impl Model for Nodes {
     ghost use Rattle.std.specs.Prelude.{List};
-    ghost use Rattle.block_evidence.specs.declared.Node.{Node as WalkNode};
+    ghost use Rattle.sight_tree.specs.declared.Node.{Node as WalkNode};
 
     ghost Value = { List WalkNode };
 
-    ghost use Rattle.block_evidence.specs.Packed.{IsPacked, unpacked};
+    ghost use Rattle.sight_tree.specs.Packed.{IsPacked, unpacked};
 
     ghost view = { λ s. unpacked s.kinds.items s.ends.items };
 
@@ -105,11 +106,11 @@ pub struct NodesIter<'a> {
 
 impl<'a> Model for NodesIter<'a> {
     ghost use Rattle.std.specs.Prelude.{List};
-    ghost use Rattle.block_evidence.specs.declared.Node.{Node as WalkNode};
+    ghost use Rattle.sight_tree.specs.declared.Node.{Node as WalkNode};
 
     ghost Value = { List WalkNode };
 
-    ghost use Rattle.block_evidence.specs.Packed.{IsPacked, unpacked};
+    ghost use Rattle.sight_tree.specs.Packed.{IsPacked, unpacked};
 
     ghost view = { λ s. unpacked s.kinds.now s.ends.now };
 

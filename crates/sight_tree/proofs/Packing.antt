@@ -3,8 +3,8 @@ use Rattle.std.proofs.Common.{◌≡◌, ℕ, zero, suc, ◌-◌, ◌≤◌, Lis
 use Rattle.std.specs.Prelude.{replicate}
 use Rattle.std.proofs.lemmas.List.{take-append-le, drop-append-le, length-append}
 use Rattle.std.proofs.Math.Seq.{drop-length}
-use Rattle.block_evidence.specs.declared.Node.TheVariants.{Blocked}
-use Rattle.block_evidence.specs.Packed.{IsPacked, first_node, unpacked}
+use Rattle.sight_tree.specs.declared.Node.TheVariants.{Blocked}
+use Rattle.sight_tree.specs.Packed.{IsPacked, first_node, unpacked}
 
 pub unpacked_many : (ks es : List ℕ) → length ks ≡ length (unpacked ks es)
 unpacked_many [] es = refl

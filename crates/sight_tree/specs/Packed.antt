@@ -1,8 +1,8 @@
 -- Nodes packed: a number for each node, which is 0 for an open one and else how many ends block it, and all those ends
 -- one after the other.
 use Rattle.std.specs.Prelude.{◌≡◌, ℕ, zero, suc, ◌-◌, ◌≤◌, List, [], ◌∷◌, ◌++◌, take, drop, replicate, length}
-use Rattle.block_evidence.specs.declared.Node.{Node}
-use Rattle.block_evidence.specs.declared.Node.TheVariants.{Open, Blocked}
+use Rattle.sight_tree.specs.declared.Node.{Node}
+use Rattle.sight_tree.specs.declared.Node.TheVariants.{Open, Blocked}
 
 -- no number is above 4, and the ends are as many as the numbers say together
 abbrev pub IsPacked : List ℕ → List ℕ → Type 0

@@ -1,6 +1,6 @@
 use Rattle.std.proofs.Common.{sym}
-use Rattle.block_evidence.proofs.Packing.{packed_more, unpacked_more}
-use Rattle.block_evidence.proofs.nodes.Nodes.push_ends.Goals as goal
+use Rattle.sight_tree.proofs.Packing.{packed_more, unpacked_more}
+use Rattle.sight_tree.proofs.nodes.Nodes.push_ends.Goals as goal
 
 pub invariant_of-self-2 : goal.invariant_of-self-2
 invariant_of-self-2 c =
