@@ -1,2 +1,2 @@
 pub mod UTree
-pub mod Packing
+pub mod ReadBack

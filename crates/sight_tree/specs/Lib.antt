@@ -1,2 +1,2 @@
 pub mod WholeTree
-pub mod Packed
+pub mod Spelling

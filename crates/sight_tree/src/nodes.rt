@@ -1,8 +1,9 @@
-//! The nodes of a walk, packed as a certificate packs them.
+//! The nodes of a walk, kept as a certificate spells them.
 
-ghost use Rattle.std.specs.Prelude.{◌≡◌, ◌-◌, ◌<◌, ◌≤◌, [], ◌∷◌, ◌++◌, length, OnOk, OnErr};
+ghost use Rattle.std.specs.Prelude.{◌≡◌, ℕ, ◌*◌, ◌≤◌, [], ◌∷◌, ◌++◌, length, OnOk, OnErr, IfOk};
 ghost use Rattle.std.specs.Iterator.{YieldsFirst, item_count};
-ghost use Rattle.sight_tree.specs.Packed.{IsPackable, first_node, four_places};
+ghost use Rattle.sight_tree.specs.declared.Node.TheVariants.{Blocked};
+ghost use Rattle.sight_tree.specs.Spelling.{FitsNode, IsPackable, SpellNodes, SpellSoMany, first_node, node_bytes};
 
 use crate::Node;
 use block_evidence::Evidence;
@@ -13,23 +14,22 @@ use std::marker::Model;
 /// The nodes of a walk, in order; a contract sees the list of them. A node takes a byte and two more for each end.
 #[derive(Drop)]
 pub struct Nodes {
-    /// For each node 0, or how many ends block it.
-    kinds: Vec<u8>,
-    /// The ends of all blocked nodes, one after the other.
-    ends: Vec<u16>,
+    /// The nodes one behind the other, each as a certificate spells it.
+    bytes: Vec<u8>,
+    count: usize,
 }
 
 impl Model for Nodes {
-    ghost use Rattle.std.specs.Prelude.{List};
+    ghost use Rattle.std.specs.Prelude.{◌≡◌, List, length};
     ghost use Rattle.sight_tree.specs.declared.Node.{Node as WalkNode};
 
     ghost Value = { List WalkNode };
 
-    ghost use Rattle.sight_tree.specs.Packed.{IsPacked, unpacked};
+    ghost use Rattle.sight_tree.specs.Spelling.{SpellNodes, nodes_of};
 
-    ghost view = { λ s. unpacked s.kinds.items s.ends.items };
+    ghost view = { λ s. nodes_of s.bytes.items };
 
-    ghost invariant = { λ s. IsPacked s.kinds.items s.ends.items };
+    ghost invariant = { λ s. SpellNodes s.bytes.items (nodes_of s.bytes.items) × (s.count ≡ length (nodes_of s.bytes.items)) };
 }
 
 impl Nodes {
@@ -38,16 +38,34 @@ impl Nodes {
         ensures { result ≡ [] }
     {
         Nodes {
-            kinds: Vec::new(alloc),
-            ends: Vec::new(alloc),
+            bytes: Vec::new(alloc),
+            count: 0,
         }
+    }
+
+    /// The nodes that these bytes spell, of which there are so many.
+    pub fn of_bytes(alloc: Global, bytes: &[u8], count: usize) -> Result<Nodes, Memory>
+        requires { SpellSoMany bytes.now count }
+        ensures { IfOk result (λ ns. SpellNodes bytes.now ns) }
+    {
+        Ok(Nodes {
+            bytes: Vec::from_slice(alloc, bytes)?,
+            count,
+        })
+    }
+
+    /// The bytes that spell the nodes, one behind the other.
+    pub fn as_bytes(&self) -> &[u8]
+        ensures { SpellNodes result.now self.now }
+    {
+        self.bytes.as_slice()
     }
 
     /// How many there are.
     pub fn len(&self) -> usize
         ensures { result ≡ length self.now }
     {
-        self.kinds.as_slice().len()
+        self.count
     }
 
     /// Adds a node behind the others.
@@ -56,25 +74,8 @@ impl Nodes {
         ensures ok { OnOk result (self.new ≡ self.old ++ node ∷ []) }
         ensures err { OnErr result (self.new ≡ self.old) }
     {
-        match node {
-            Node::Open => self.push_ends(&[]),
-            Node::Blocked(evidence) => {
-                let [a, b, c, d] = evidence.ends;
-                let ends = [a, b, c, d];
-                self.push_ends(&ends[..evidence.count as usize])
-            }
-        }
-    }
-
-    /// Adds the node that these ends block, an open one where there are none.
-    fn push_ends(&mut self, ends: &[u16]) -> Result<(), Memory>
-        requires { length ends.now ≤ 4 }
-        ensures ok { OnOk result (self.new ≡ self.old ++ first_node (length ends.now) ends.now ∷ []) }
-        ensures err { OnErr result (self.new ≡ self.old) }
-    {
-        self.kinds.reserve(1)?;
-        self.ends.extend_from_slice(ends)?;
-        self.kinds.push_reserved(ends.len() as u8);
+        put_node(&mut self.bytes, &node)?;
+        self.count += 1;
         Ok(())
     }
 
@@ -82,8 +83,7 @@ impl Nodes {
     pub fn shrink_to_fit(&mut self)
         ensures { self.new ≡ self.old }
     {
-        self.kinds.shrink_to_fit();
-        self.ends.shrink_to_fit();
+        self.bytes.shrink_to_fit();
     }
 
     /// The nodes in order.
@@ -91,17 +91,47 @@ impl Nodes {
         ensures { result ≡ self.now }
     {
         NodesIter {
-            kinds: self.kinds.as_slice(),
-            ends: self.ends.as_slice(),
+            bytes: self.bytes.as_slice(),
         }
     }
+}
+
+fn put_node(bytes: &mut Vec<u8>, node: &Node) -> Result<(), Memory>
+    requires { IsPackable node.now }
+    ensures ok { OnOk result (bytes.new.items ≡ bytes.old.items ++ node_bytes node.now) }
+    ensures err { OnErr result (bytes.new.items ≡ bytes.old.items) }
+    ensures fits { FitsNode node.now }
+{
+    match node {
+        Node::Open => {
+            bytes.push(0)?;
+            Ok(())
+        }
+        Node::Blocked(evidence) => put_ends(bytes, evidence),
+    }
+}
+
+/// Adds the spelling of a node that these ends block.
+fn put_ends(bytes: &mut Vec<u8>, evidence: &Evidence) -> Result<(), Memory>
+    requires { evidence.now.count ≤ 4 }
+    ensures ok { OnOk result (bytes.new.items ≡ bytes.old.items ++ node_bytes (Blocked evidence.now)) }
+    ensures err { OnErr result (bytes.new.items ≡ bytes.old.items) }
+    ensures fits { FitsNode (Blocked evidence.now) }
+{
+    let [a, b, c, d] = evidence.ends;
+    let [a, a_high] = a.to_le_bytes();
+    let [b, b_high] = b.to_le_bytes();
+    let [c, c_high] = c.to_le_bytes();
+    let [d, d_high] = d.to_le_bytes();
+    let spelled = [evidence.count, a, a_high, b, b_high, c, c_high, d, d_high];
+    bytes.extend_from_slice(&spelled[..1 + 2 * evidence.count as usize])?;
+    Ok(())
 }
 
 /// The nodes that are still to come; a contract sees the list of them.
 #[derive(Drop)]
 pub struct NodesIter<'a> {
-    kinds: &'a [u8],
-    ends: &'a [u16],
+    bytes: &'a [u8],
 }
 
 impl<'a> Model for NodesIter<'a> {
@@ -110,11 +140,11 @@ impl<'a> Model for NodesIter<'a> {
 
     ghost Value = { List WalkNode };
 
-    ghost use Rattle.sight_tree.specs.Packed.{IsPacked, unpacked};
+    ghost use Rattle.sight_tree.specs.Spelling.{SpellNodes, nodes_of};
 
-    ghost view = { λ s. unpacked s.kinds.now s.ends.now };
+    ghost view = { λ s. nodes_of s.bytes.now };
 
-    ghost invariant = { λ s. IsPacked s.kinds.now s.ends.now };
+    ghost invariant = { λ s. SpellNodes s.bytes.now (nodes_of s.bytes.now) };
 }
 
 impl<'a> Iterator for NodesIter<'a> {
@@ -125,39 +155,49 @@ impl<'a> Iterator for NodesIter<'a> {
     ghost remaining = { item_count (λ s. s) };
 
     fn next(&mut self) -> Option<Node> {
-        let (kind, kinds) = self.kinds.split_first()?;
-        let (ends, rest) = self.ends.split_at(*kind as usize);
-        self.kinds = kinds;
-        self.ends = rest;
+        let (kind, rest) = self.bytes.split_first()?;
+        let (ends, rest) = rest.split_at(2 * *kind as usize);
+        self.bytes = rest;
         Some(node_of(ends))
     }
 }
 
-/// The node that these ends block, an open one where there are none.
-fn node_of(ends: &[u16]) -> Node
-    requires { length ends.now ≤ 4 }
-    ensures { result ≡ first_node (length ends.now) ends.now }
+/// The node that names the ends that these bytes spell, an open one where there are none.
+fn node_of(bytes: &[u8]) -> Node
+    ensures { (k : ℕ) → k ≤ 4 → length bytes.now ≡ 2 * k → result ≡ first_node k bytes.now }
 {
-    if ends.is_empty() {
-        Node::Open
-    } else {
-        Node::Blocked(Evidence {
-            count: ends.len() as u8,
-            ends: in_four_places(ends),
-        })
-    }
-}
-
-/// The ends, and 0 in the places behind them.
-fn in_four_places(ends: &[u16]) -> [u16; 4]
-    requires { length ends.now ≤ 4 }
-    ensures { result ≡ four_places (length ends.now) ends.now }
-{
-    match ends {
-        [] => [0; 4],
-        [a] => [*a, 0, 0, 0],
-        [a, b] => [*a, *b, 0, 0],
-        [a, b, c] => [*a, *b, *c, 0],
-        [a, b, c, d, ..] => [*a, *b, *c, *d],
+    match bytes {
+        [a, a_high, b, b_high, c, c_high, d, d_high] => Node::Blocked(Evidence {
+            count: 4,
+            ends: [
+                u16::from_le_bytes([*a, *a_high]),
+                u16::from_le_bytes([*b, *b_high]),
+                u16::from_le_bytes([*c, *c_high]),
+                u16::from_le_bytes([*d, *d_high]),
+            ],
+        }),
+        [a, a_high, b, b_high, c, c_high] => Node::Blocked(Evidence {
+            count: 3,
+            ends: [
+                u16::from_le_bytes([*a, *a_high]),
+                u16::from_le_bytes([*b, *b_high]),
+                u16::from_le_bytes([*c, *c_high]),
+                0,
+            ],
+        }),
+        [a, a_high, b, b_high] => Node::Blocked(Evidence {
+            count: 2,
+            ends: [
+                u16::from_le_bytes([*a, *a_high]),
+                u16::from_le_bytes([*b, *b_high]),
+                0,
+                0,
+            ],
+        }),
+        [a, a_high] => Node::Blocked(Evidence {
+            count: 1,
+            ends: [u16::from_le_bytes([*a, *a_high]), 0, 0, 0],
+        }),
+        _ => Node::Open,
     }
 }
