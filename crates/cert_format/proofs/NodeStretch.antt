@@ -24,14 +24,17 @@ behind_err : {X : Type 0} (read : Result (X × List ℕ) CertFault) (f : CertFau
 behind_err (Ok x) f e = absurd cc
 behind_err (Err g) f e = cc
 
+one_more : (total count i : ℕ) (bytes : List ℕ) (x : Node × List ℕ) → i < count → node_at total bytes ≡ Ok x → behind (nodes_at total (count - i) bytes) ≡ behind (nodes_at total (count - (i + 1)) x.1)
+unfolding records_at
+one_more total count i bytes x lt e =
+    let k : count - i ≡ suc (count - (i + 1)) = omega arith in
+    rw (k, e) (drops_first x.0 (nodes_at total (count - (i + 1)) x.1))
+
 pub test_goes_on : (total count i : ℕ) (bytes after : List ℕ) (all : Result (List ℕ) CertFault) → i < count → behind (node_at total bytes) ≡ Ok after
     → behind (nodes_at total (count - i) bytes) ≡ all → behind (nodes_at total (count - (i + 1)) after) ≡ all
-unfolding records_at
 test_goes_on total count i bytes after all lt h so_far =
-    let k : count - i ≡ suc (count - (i + 1)) = omega arith in
     let n = bind_ok (node_at total bytes) (λ x. Ok x.1) after h in
-    let one_more : behind (nodes_at total (count - i) bytes) ≡ behind (nodes_at total (count - (i + 1)) n.0.1) = rw (k, n.1) (drops_first n.0.0 (nodes_at total (count - (i + 1)) n.0.1)) in
-    subst (λ (r : List ℕ). behind (nodes_at total (count - (i + 1)) r) ≡ all) (ok_is n.0.1 after n.2) (sym one_more ∙ so_far)
+    subst (λ (r : List ℕ). behind (nodes_at total (count - (i + 1)) r) ≡ all) (ok_is n.0.1 after n.2) (sym (one_more total count i bytes n.0 lt n.1) ∙ so_far)
 
 stops : (total count i : ℕ) (bytes : List ℕ) (f : CertFault) (all : Result (List ℕ) CertFault) → i < count → behind (node_at total bytes) ≡ Err f
     → behind (nodes_at total (count - i) bytes) ≡ all → all ≡ Err f
@@ -83,7 +86,7 @@ stretch total count bytes rest fits h =
     let text = flat_map node_bytes x.0.0 in
     let many : length bytes - length x.0.1 ≡ length text = omega (arith, ap length taken.takes.parts, length-append text x.0.1) in
     let front : take (length bytes - length x.0.1) bytes ≡ text =
-      ap (λ (k : ℕ). take k bytes) many ∙ ap (λ (t : List ℕ). take (length text) t) taken.takes.parts ∙ take_at text x.0.1 (length text) refl in
+    ap (λ (k : ℕ). take k bytes) many ∙ ap (λ (t : List ℕ). take (length text) t) taken.takes.parts ∙ take_at text x.0.1 (length text) refl in
     subst (λ (r : List ℕ). IsStretch total count bytes r) (ok_is x.0.1 rest x.2) (record {
       nodes = x.0.0;
       read = x.1;
