@@ -4,6 +4,7 @@ pub mod FieldLaws
 pub mod RecordLaws
 pub mod KindLaws
 pub mod TreeLaws
+pub mod NodeStretch
 pub mod CountLaws
 pub mod WholeLaws
 pub mod Steps

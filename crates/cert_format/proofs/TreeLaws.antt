@@ -5,11 +5,12 @@ use Rattle.std.specs.Int.{w16, w64}
 use Rattle.std.proofs.lemmas.Bool.{ltb-true, lt-ltb, eqb-true}
 use Rattle.sight_names.specs.declared.faults.CertFault.{CertFault}
 use Rattle.sight_names.specs.declared.faults.CertFault.TheVariants as faults
-use Rattle.block_evidence.specs.declared.Node.{Node}
-use Rattle.block_evidence.specs.declared.Node.TheVariants.{Open, Blocked}
-use Rattle.block_evidence.specs.declared.Tree.{Tree}
+use Rattle.sight_tree.specs.declared.Node.{Node}
+use Rattle.sight_tree.specs.declared.Node.TheVariants.{Open, Blocked}
+use Rattle.sight_tree.specs.declared.Tree.{Tree}
 use Rattle.cert_format.specs.declared.cert.Sizes.{Sizes}
-use Rattle.cert_format.specs.Grammar.{Ascends, u16, u64, IsNodeInOrder, FitsNode, node_bytes, tree_bytes}
+use Rattle.sight_tree.specs.Spelling.{u16, FitsNode, node_bytes}
+use Rattle.cert_format.specs.Grammar.{Ascends, u64, IsNodeInOrder, tree_bytes}
 use Rattle.cert_format.specs.Reading.{begins_at, comes_after, end_at, two_ends_at, three_ends_at, four_ends_at, node_at, nodes_at, tree_at}
 use Rattle.cert_format.proofs.FieldLaws.{IsBytes, bind_ok, passed_ok, ok_is, Takes, Takes-then, wide16, wide64, number_takes, number_again, below_takes, below_again}
 use Rattle.cert_format.proofs.RecordLaws.{AreTaken, records_take, records_again, IsChain, ascends_of_chain, chain_of_ascends}
@@ -219,7 +220,7 @@ node_again total (Blocked e) rest fits = evidence_again total e.count e.ends res
 abbrev NoOrder : ℕ → Node → Type 0
 NoOrder k n = Unit {0}
 
-nodes_take : (total n : ℕ) (bytes : List ℕ) (x : List Node × List ℕ) → IsBytes bytes → nodes_at total n bytes ≡ Ok x → AreTaken (λ (k : ℕ). node_at total) (λ n. 0) node_bytes FitsInOrder NoOrder 0 n bytes x.0 x.1
+pub nodes_take : (total n : ℕ) (bytes : List ℕ) (x : List Node × List ℕ) → IsBytes bytes → nodes_at total n bytes ≡ Ok x → AreTaken (λ (k : ℕ). node_at total) (λ n. 0) node_bytes FitsInOrder NoOrder 0 n bytes x.0 x.1
 nodes_take total n bytes x fits e =
     records_take (λ (k : ℕ). node_at total) (λ n. 0) node_bytes FitsInOrder NoOrder (λ k bytes x fits e. let t = node_takes total bytes x fits e in (t.0, t.1, tt)) n 0 bytes x fits e
 

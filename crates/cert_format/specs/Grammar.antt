@@ -1,17 +1,18 @@
 -- The certificate grammar: ranges, orders, and the one spelling (version 1).
-use Rattle.std.specs.Prelude.{◌≡◌, ℕ, ◌+◌, ◌<◌, ◌≤◌, ◌^◌, ◌⊎◌, List, [], ◌∷◌, ◌++◌, Some, length, map, drop, slice_get, flat_map, codes, cond, FitsSigned}
+use Rattle.std.specs.Prelude.{◌≡◌, ℕ, ◌+◌, ◌<◌, ◌≤◌, ◌^◌, ◌⊎◌, List, ◌++◌, Some, length, map, drop, slice_get, flat_map, codes, cond, FitsSigned}
 use Rattle.std.specs.List.{AllByRecursion}
-use Rattle.std.specs.Int.{to_le_bytes, w16, w32, w64, cast_unsigned}
+use Rattle.std.specs.Int.{to_le_bytes, w32, w64, cast_unsigned}
 use Rattle.sight_names.specs.declared.names.Pair.{Pair}
 use Rattle.sight_names.specs.declared.names.PairRay.{PairRay}
 use Rattle.sight_names.specs.declared.names.Ray.{Ray}
 use Rattle.sight_names.specs.declared.names.Side.{Side}
 use Rattle.sight_names.specs.Mesh.{AreTriangles}
 use Rattle.block_evidence.specs.declared.Evidence.{Evidence}
-use Rattle.block_evidence.specs.declared.Node.{Node}
-use Rattle.block_evidence.specs.declared.Node.TheVariants.{Open, Blocked}
-use Rattle.block_evidence.specs.declared.Tree.{Tree}
+use Rattle.sight_tree.specs.declared.Node.{Node}
+use Rattle.sight_tree.specs.declared.Node.TheVariants.{Open, Blocked}
+use Rattle.sight_tree.specs.declared.Tree.{Tree}
 use Rattle.block_evidence.specs.Stuck.{end_codes}
+use Rattle.sight_tree.specs.Spelling.{u16, node_bytes, FitsNode}
 use Rattle.cert_format.specs.declared.cert.Sizes.{Sizes}
 use Rattle.cert_format.specs.declared.cert.Labelled.{Labelled}
 use Rattle.cert_format.specs.Parts.{CertParts}
@@ -71,10 +72,6 @@ pub record AreSmall (s : Sizes) : Type 0 where
   pub points : s.points < 2 ^ 16
   pub lines : s.lines < 2 ^ 16
 
-abbrev pub FitsNode : Node → Type 0
-FitsNode Open = Unit {0}
-FitsNode (Blocked e) = (length e.ends ≡ 4) × AllByRecursion (λ x. x < 2 ^ 16) e.ends
-
 abbrev pub FitsPairRay : PairRay → Type 0
 FitsPairRay r = FitsRay r.ray
 
@@ -94,9 +91,6 @@ pub record FitsFields (c : CertParts) : Type 0 where
   pub trees : AllByRecursion FitsTree c.trees
 
 -- ---- the spelling
-
-abbrev pub u16 : ℕ → List ℕ
-u16 n = to_le_bytes w16 n
 
 abbrev pub u32 : ℕ → List ℕ
 u32 n = to_le_bytes w32 n
@@ -120,10 +114,6 @@ line_bytes r = u16 (side_number r.first) ++ u16 (side_number r.last)
 
 abbrev pub ray_bytes : PairRay → List ℕ
 ray_bytes r = pair_bytes r.pair ++ line_bytes r.ray
-
-abbrev pub node_bytes : Node → List ℕ
-node_bytes Open = 0 ∷ []
-node_bytes (Blocked e) = e.count ∷ flat_map u16 (end_codes e)
 
 abbrev pub tree_bytes : Tree → List ℕ
 tree_bytes t = u16 t.source ++ u64 (length t.nodes) ++ flat_map node_bytes t.nodes

@@ -9,9 +9,9 @@ use Rattle.sight_names.specs.declared.names.PairRay.{PairRay}
 use Rattle.sight_names.specs.declared.names.Ray.{Ray}
 use Rattle.sight_names.specs.declared.names.Side.{Side}
 use Rattle.sight_names.specs.declared.names.Triangle.{Triangle}
-use Rattle.block_evidence.specs.declared.Node.{Node}
-use Rattle.block_evidence.specs.declared.Node.TheVariants.{Open, Blocked}
-use Rattle.block_evidence.specs.declared.Tree.{Tree}
+use Rattle.sight_tree.specs.declared.Node.{Node}
+use Rattle.sight_tree.specs.declared.Node.TheVariants.{Open, Blocked}
+use Rattle.sight_tree.specs.declared.Tree.{Tree}
 use Rattle.cert_format.specs.declared.cert.Sizes.{Sizes}
 use Rattle.cert_format.specs.declared.cert.Labelled.{Labelled}
 use Rattle.cert_format.specs.Parts.{CertParts}
@@ -38,6 +38,10 @@ begins_at total bytes = total - length bytes
 -- the value, where the test holds, or else the fault
 abbrev pub passed : {X : Type 0} → Bool → CertFault → X → Result X CertFault
 passed b fault x = if b then Ok x else Err fault
+
+-- what is left behind what was read
+abbrev pub behind : {X : Type 0} → Result (X × List ℕ) CertFault → Result (List ℕ) CertFault
+behind read = read >>= λ x. Ok x.1
 
 -- ---- fields: a value, and the bytes behind it
 

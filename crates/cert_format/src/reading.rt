@@ -8,8 +8,8 @@ ghost use Rattle.cert_format.specs.Reading.{Gives, magic_at, version_at, triangl
 use crate::cert::{Cert, Counts, Labelled, Sizes};
 use crate::fields::{place, u16_at, u16_known, u32_at};
 use crate::records::{listed_of, ray_of, tree_of, triangle_of};
-use block_evidence::Tree;
 use sight_names::{CertFault, Items, Pair, PairRay};
+use sight_tree::Tree;
 use std::alloc::Global;
 
 /// The number that the letters `DSCT` spell.

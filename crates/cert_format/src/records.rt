@@ -1,14 +1,13 @@
 //! One record of a certificate: a triangle, a ray, a listed pair, a node, a tree. Records are told out of order once
 //! their own fields have passed their ranges, a tree once its source has.
 
-ghost use Rattle.std.specs.Prelude.{◌≡◌, Some, None, IfOk};
-ghost use Rattle.block_evidence.specs.Packed.{IsPackable};
-ghost use Rattle.cert_format.specs.Reading.{Gives, comes_after, pair_after, pair_of, triangle_after, triangle_at, sight_line_at, ray_at, pair_at, two_ends_at, three_ends_at, four_ends_at, node_at, nodes_at, tree_at};
+ghost use Rattle.std.specs.Prelude.{◌≡◌, Some, None};
+ghost use Rattle.cert_format.specs.Reading.{Gives, behind, comes_after, pair_after, pair_of, triangle_after, triangle_at, sight_line_at, ray_at, pair_at, two_ends_at, three_ends_at, four_ends_at, node_at, nodes_at, tree_at};
 
 use crate::cert::{Labelled, Sizes};
 use crate::fields::{end_of, i32_at, i64_at, place, point_at, side_of, u16_at, u16_below, u64_at};
-use block_evidence::{Evidence, Node, Nodes, Tree};
 use sight_names::{CertFault, Pair, PairRay, Ray, Triangle};
+use sight_tree::{Nodes, Tree};
 use std::alloc::Global;
 
 fn is_triangle_behind(last: Option<Labelled>, t: Triangle) -> bool
@@ -130,60 +129,66 @@ pub fn listed_of(
 }
 
 #[tactic(auto, unfolding(crate::specs::Reading::two_ends_at))]
-fn two_ends(total: usize, bytes: &[u8]) -> Result<(Node, &[u8]), CertFault>
-    ensures value { Gives (λ x. (x.0, x.1.now)) result (two_ends_at total bytes.now) }
-    ensures packable { IfOk result (λ x. IsPackable x.0) }
+fn behind_two(total: usize, bytes: &[u8]) -> Result<&[u8], CertFault>
+    ensures { Gives (λ x. x.now) result (behind (two_ends_at total bytes.now)) }
 {
     let (a, rest) = end_of(total, None, bytes)?;
-    let (b, rest) = end_of(total, Some(a), rest)?;
-    let ends = [a, b, 0, 0];
-    Ok((Node::Blocked(Evidence { count: 2, ends }), rest))
+    let (_, rest) = end_of(total, Some(a), rest)?;
+    Ok(rest)
 }
 
 #[tactic(auto, unfolding(crate::specs::Reading::three_ends_at))]
-fn three_ends(total: usize, bytes: &[u8]) -> Result<(Node, &[u8]), CertFault>
-    ensures value { Gives (λ x. (x.0, x.1.now)) result (three_ends_at total bytes.now) }
-    ensures packable { IfOk result (λ x. IsPackable x.0) }
+fn behind_three(total: usize, bytes: &[u8]) -> Result<&[u8], CertFault>
+    ensures { Gives (λ x. x.now) result (behind (three_ends_at total bytes.now)) }
 {
     let (a, rest) = end_of(total, None, bytes)?;
     let (b, rest) = end_of(total, Some(a), rest)?;
-    let (c, rest) = end_of(total, Some(b), rest)?;
-    let ends = [a, b, c, 0];
-    Ok((Node::Blocked(Evidence { count: 3, ends }), rest))
+    let (_, rest) = end_of(total, Some(b), rest)?;
+    Ok(rest)
 }
 
 #[tactic(auto, unfolding(crate::specs::Reading::four_ends_at))]
-fn four_ends(total: usize, bytes: &[u8]) -> Result<(Node, &[u8]), CertFault>
-    ensures value { Gives (λ x. (x.0, x.1.now)) result (four_ends_at total bytes.now) }
-    ensures packable { IfOk result (λ x. IsPackable x.0) }
+fn behind_four(total: usize, bytes: &[u8]) -> Result<&[u8], CertFault>
+    ensures { Gives (λ x. x.now) result (behind (four_ends_at total bytes.now)) }
 {
     let (a, rest) = end_of(total, None, bytes)?;
     let (b, rest) = end_of(total, Some(a), rest)?;
     let (c, rest) = end_of(total, Some(b), rest)?;
-    let (d, rest) = end_of(total, Some(c), rest)?;
-    let ends = [a, b, c, d];
-    Ok((Node::Blocked(Evidence { count: 4, ends }), rest))
+    let (_, rest) = end_of(total, Some(c), rest)?;
+    Ok(rest)
 }
 
+/// The bytes behind the node that comes first.
 #[tactic(auto, unfolding(crate::specs::Reading::node_at))]
-fn node_of(total: usize, bytes: &[u8]) -> Result<(Node, &[u8]), CertFault>
-    ensures value { Gives (λ x. (x.0, x.1.now)) result (node_at total bytes.now) }
-    ensures packable { IfOk result (λ x. IsPackable x.0) }
+fn behind_node(total: usize, bytes: &[u8]) -> Result<&[u8], CertFault>
+    ensures { Gives (λ x. x.now) result (behind (node_at total bytes.now)) }
 {
     match bytes {
         [] => Err(CertFault::Short {
             at: place(total, bytes),
         }),
-        [0, rest @ ..] => Ok((Node::Open, rest)),
-        [2, rest @ ..] => two_ends(total, rest),
-        [3, rest @ ..] => three_ends(total, rest),
-        [4, rest @ ..] => four_ends(total, rest),
+        [0, rest @ ..] => Ok(rest),
+        [2, rest @ ..] => behind_two(total, rest),
+        [3, rest @ ..] => behind_three(total, rest),
+        [4, rest @ ..] => behind_four(total, rest),
         [_, ..] => Err(CertFault::OutOfRange {
             at: place(total, bytes),
         }),
     }
 }
 
+/// The bytes behind so many nodes.
+fn behind_nodes(total: usize, count: u64, bytes: &[u8]) -> Result<&[u8], CertFault>
+    ensures { Gives (λ x. x.now) result (behind (nodes_at total count bytes.now)) }
+{
+    let mut rest = bytes;
+    for _ in 0..count {
+        rest = behind_node(total, rest)?;
+    }
+    Ok(rest)
+}
+
+/// So many nodes, copied as they stand there once each has passed its test.
 fn nodes_of(
     alloc: Global,
     total: usize,
@@ -192,13 +197,9 @@ fn nodes_of(
 ) -> Result<(Nodes, &[u8]), CertFault>
     ensures { Gives (λ x. (x.0, x.1.now)) result (nodes_at total count bytes.now) }
 {
-    let mut nodes = Nodes::new(alloc);
-    let mut rest = bytes;
-    for _ in 0..count {
-        let (node, after) = node_of(total, rest)?;
-        nodes.push(node)?;
-        rest = after;
-    }
+    let rest = behind_nodes(total, count, bytes)?;
+    let text = &bytes[..bytes.len() - rest.len()];
+    let nodes = Nodes::of_bytes(alloc, text, count as usize)?;
     Ok((nodes, rest))
 }
 

@@ -2,14 +2,15 @@
 
 ghost use Rattle.std.specs.Prelude.{◌≡◌, ◌<◌, ◌^◌, ◌++◌, ◌∷◌, [], length, flat_map, OnOk, IfOk};
 ghost use Rattle.std.specs.List.{AllByRecursion};
-ghost use Rattle.block_evidence.specs.declared.Tree.{Tree};
+ghost use Rattle.sight_tree.specs.declared.Tree.{Tree};
 ghost use Rattle.sight_names.specs.declared.names.PairRay.{PairRay};
-ghost use Rattle.block_evidence.specs.declared.Node.TheVariants.{Blocked};
-ghost use Rattle.cert_format.specs.Grammar.{AreSmall, Spells, IsEvidenceInOrder, IsNodeInOrder, HasShortSides, FitsRay, FitsPairRay, FitsNode, u16, line_bytes, FitsTree, side_number, triangle_bytes, ray_bytes, pair_bytes, node_bytes, tree_bytes, front_bytes, count_bytes};
+ghost use Rattle.sight_tree.specs.declared.Node.TheVariants.{Blocked};
+ghost use Rattle.sight_tree.specs.Spelling.{FitsNode, u16, node_bytes};
+ghost use Rattle.cert_format.specs.Grammar.{AreSmall, Spells, IsEvidenceInOrder, IsNodeInOrder, HasShortSides, FitsRay, FitsPairRay, line_bytes, FitsTree, side_number, triangle_bytes, ray_bytes, pair_bytes, tree_bytes, front_bytes, count_bytes};
 
 use crate::cert::{Cert, Counts, Labelled, Sizes};
-use block_evidence::{Evidence, Node, Nodes, Tree};
 use sight_names::{Memory, Pair, PairRay, Ray, Side};
+use sight_tree::Tree;
 use std::alloc::Global;
 
 fn number_of(side: Side) -> u16
@@ -71,50 +72,14 @@ fn put_ray(out: &mut Vec<u8>, ray: &PairRay) -> Result<(), Memory>
     put_sight_line(out, &ray.ray)
 }
 
-fn put_ends(out: &mut Vec<u8>, evidence: &Evidence) -> Result<(), Memory>
-    requires { IsEvidenceInOrder evidence.now }
-    ensures spelled { OnOk result (out.new.items ≡ out.old.items ++ node_bytes (Blocked evidence.now)) }
-    ensures fits { OnOk result (FitsNode (Blocked evidence.now)) }
-{
-    let [a, b, c, d] = evidence.ends;
-    let ends = [a, b, c, d];
-    out.push(evidence.count)?;
-    put_numbers(out, &ends[..evidence.count as usize])
-}
-
-fn put_node(out: &mut Vec<u8>, node: &Node) -> Result<(), Memory>
-    requires { IsNodeInOrder node.now }
-    ensures spelled { OnOk result (out.new.items ≡ out.old.items ++ node_bytes node.now) }
-    ensures fits { OnOk result (FitsNode node.now) }
-{
-    match node {
-        Node::Open => {
-            out.push(0)?;
-            Ok(())
-        }
-        Node::Blocked(evidence) => put_ends(out, evidence),
-    }
-}
-
-fn put_nodes(out: &mut Vec<u8>, nodes: &Nodes) -> Result<(), Memory>
-    requires { AllByRecursion IsNodeInOrder nodes.now }
-    ensures spelled { OnOk result (out.new.items ≡ out.old.items ++ flat_map node_bytes nodes.now) }
-    ensures fits { OnOk result (AllByRecursion FitsNode nodes.now) }
-{
-    for node in nodes.iter() {
-        put_node(out, &node)?;
-    }
-    Ok(())
-}
-
 fn put_tree(out: &mut Vec<u8>, tree: &Tree) -> Result<(), Memory>
-    requires { AllByRecursion IsNodeInOrder tree.now.nodes }
     ensures spelled { OnOk result (out.new.items ≡ out.old.items ++ tree_bytes tree.now) }
     ensures fits { OnOk result (FitsTree tree.now) }
 {
     out.extend_from_slice(&tree.source.to_le_bytes())?;
     out.extend_from_slice(&(tree.nodes.len() as u64).to_le_bytes())?;
-    put_nodes(out, &tree.nodes)
+    out.extend_from_slice(tree.nodes.as_bytes())?;
+    Ok(())
 }
 
 fn put_triangles(out: &mut Vec<u8>, triangles: &[Labelled]) -> Result<(), Memory>
@@ -147,7 +112,6 @@ fn put_pairs(out: &mut Vec<u8>, pairs: &[Pair]) -> Result<(), Memory>
 }
 
 fn put_trees(out: &mut Vec<u8>, trees: &[Tree]) -> Result<(), Memory>
-    requires { AllByRecursion (λ (t : Tree). AllByRecursion IsNodeInOrder t.nodes) trees.now }
     ensures spelled { OnOk result (out.new.items ≡ out.old.items ++ flat_map tree_bytes trees.now) }
     ensures fits { OnOk result (AllByRecursion FitsTree trees.now) }
 {

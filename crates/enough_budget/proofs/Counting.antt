@@ -14,8 +14,8 @@ use Rattle.sight_names.specs.Sequence.{Sequence, roots}
 use Rattle.sight_names.specs.Found.{IsStabbableSequence, Spent}
 use Rattle.sight_names.proofs.PlanNumbers.{count_of_plan}
 use Rattle.block_evidence.specs.declared.Evidence.{Evidence}
-use Rattle.block_evidence.specs.declared.Node.{Node}
-use Rattle.block_evidence.specs.declared.Node.TheVariants.{Open as OpenNode, Blocked as BlockedNode}
+use Rattle.sight_tree.specs.declared.Node.{Node}
+use Rattle.sight_tree.specs.declared.Node.TheVariants.{Open as OpenNode, Blocked as BlockedNode}
 use Rattle.sequence_laws.specs.Ways.{root_alone, both_ways_on}
 use Rattle.sequence_laws.proofs.All.{stand_in_order}
 use Rattle.sequence_laws.proofs.Roots.{begins}

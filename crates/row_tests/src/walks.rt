@@ -3,11 +3,11 @@
 ghost use Rattle.sight_names.specs.Map.{map_of};
 ghost use Rattle.sight_names.specs.Sound.{LinesMeetAtEnds};
 
-use block_evidence::{Node, Nodes};
 use map_audit::audit_lines;
 use pair_budget::{Alone, Outcome, walk_source};
 use sight_job::faces_of;
 use sight_names::{Budget, Memory, Plan};
+use sight_tree::{Node, Nodes};
 use std::alloc::Global;
 use std::test::Fail;
 use tri_sectors::components;

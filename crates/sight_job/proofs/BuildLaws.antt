@@ -13,9 +13,9 @@ use Rattle.sight_names.specs.declared.names.PairRay.{PairRay}
 use Rattle.sight_names.specs.declared.names.Ray.{Ray}
 use Rattle.sight_names.specs.Mesh.{label_of, AreTriangles, IsGoodMesh}
 use Rattle.sight_names.specs.Plan.{PlanParts, IsPlan}
-use Rattle.block_evidence.specs.declared.Node.{Node}
-use Rattle.block_evidence.specs.declared.Node.TheVariants.{Open, Blocked}
-use Rattle.block_evidence.specs.declared.Tree.{Tree}
+use Rattle.sight_tree.specs.declared.Node.{Node}
+use Rattle.sight_tree.specs.declared.Node.TheVariants.{Open, Blocked}
+use Rattle.sight_tree.specs.declared.Tree.{Tree}
 use Rattle.block_evidence.specs.Stuck.{end_codes}
 use Rattle.portal_walk.specs.Nodes.{IsAnswered}
 use Rattle.cert_format.specs.declared.cert.Labelled.{Labelled}
@@ -32,7 +32,7 @@ use Rattle.pair_budget.proofs.FoundSectorsLaws.{reached_by}
 use Rattle.pair_budget.proofs.NamedLaws.{trees_cons}
 use Rattle.sight_names.specs.declared.names.Triangle.{Triangle}
 use Rattle.sight_names.specs.Map.{map_of}
-use Rattle.block_evidence.specs.WholeTree.{IsWholeTree}
+use Rattle.sight_tree.specs.WholeTree.{IsWholeTree}
 use Rattle.pair_budget.specs.Decided.{AreExact, DecidesOver, TellsConnected}
 use Rattle.pair_budget.specs.Whole.{IsShown}
 use Rattle.tri_sectors.specs.Components.{AreComponents}

@@ -19,7 +19,7 @@ use Rattle.sight_names.proofs.OneMesh.{one_mesh, one_labels}
 use Rattle.tri_sectors.specs.Components.{AreComponents}
 use Rattle.tri_sectors.proofs.ComponentLemmas.{connected_joined}
 use Rattle.sight_names.specs.Plan.{PlanParts}
-use Rattle.block_evidence.specs.declared.Tree.{Tree}
+use Rattle.sight_tree.specs.declared.Tree.{Tree}
 use Rattle.reject_bits.specs.Parts.{Rejects}
 use Rattle.cert_format.specs.Parts.{CertParts}
 use Rattle.cert_format.specs.Accepted.{HasRay, IsPairListed, IsNamed}

@@ -18,8 +18,8 @@ use Rattle.sight_names.specs.Plan.{PlanParts}
 use Rattle.sight_names.specs.Enough.{IsBudgetOf}
 use Rattle.sight_names.specs.Found.{AreConnected, IsListed, Spent}
 use Rattle.tri_sectors.specs.Components.{AreComponents}
-use Rattle.block_evidence.specs.declared.Tree.{Tree}
-use Rattle.block_evidence.specs.WholeTree.{IsWholeTree, KeepsFrom}
+use Rattle.sight_tree.specs.declared.Tree.{Tree}
+use Rattle.sight_tree.specs.WholeTree.{IsWholeTree, KeepsFrom}
 use Rattle.reject_bits.specs.Parts.{Rejects}
 use Rattle.cert_format.specs.declared.cert.Sizes.{Sizes}
 use Rattle.cert_format.specs.Accepted.{HasRay, HasTreeWithout, IsPairListed, IsNamed, triangles_of, labels_of}

@@ -14,13 +14,13 @@ ghost use Rattle.pair_budget.specs.Decided.{DecidesOver};
 
 use crate::certificate::{cert_of, labelled};
 use crate::faces::{Faces, faces_of};
-use block_evidence::Tree;
 use cert_format::{Cert, Sizes};
 use enough_budget::enough;
 use mesh_shape::Mesh;
 use pair_budget::{Verdicts, decide};
 use reject_bits::Table;
 use sight_names::{Ask, Budget, BuildFault, Items, LabelFault, Memory, Pair, Plan};
+use sight_tree::Tree;
 use sight_workers::{Gate, Job, walk_all};
 use std::alloc::Global;
 use std::thread::Threads;

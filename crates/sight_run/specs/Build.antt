@@ -11,7 +11,7 @@ use Rattle.sight_names.specs.Sound.{IsSound, LinesMeetAtEnds}
 use Rattle.sight_names.specs.Table.{table_bit}
 use Rattle.map_audit.specs.Audit.{IsLineFault}
 use Rattle.reject_bits.specs.Parts.{IsWhole, Rejects}
-use Rattle.block_evidence.specs.declared.Tree.{Tree}
+use Rattle.sight_tree.specs.declared.Tree.{Tree}
 use Rattle.cert_format.specs.Accepted.{IsAccepted, IsNamed}
 use Rattle.cert_format.specs.Grammar.{IsInOrder, Spells}
 use Rattle.cert_format.specs.Parts.{CertParts}

@@ -7,8 +7,8 @@ use Rattle.sight_names.specs.declared.names.Triangle.{Triangle}
 use Rattle.sight_names.specs.Plan.{PlanParts, IsPlan}
 use Rattle.sight_names.specs.Mesh.{IsGoodMesh}
 use Rattle.sight_names.specs.Map.{Map, map_of}
-use Rattle.block_evidence.specs.declared.Tree.{Tree}
-use Rattle.block_evidence.specs.WholeTree.{IsWholeTree}
+use Rattle.sight_tree.specs.declared.Tree.{Tree}
+use Rattle.sight_tree.specs.WholeTree.{IsWholeTree}
 use Rattle.reject_bits.specs.Parts.{TableParts, Rejects}
 use Rattle.cert_format.specs.Parts.{CertParts}
 use Rattle.cert_format.specs.Grammar.{Ascends, IsInOrder, IsTreeInRange}

@@ -5,7 +5,7 @@ use Rattle.std.proofs.lemmas.List.{append_assoc, append-nil, length-append, take
 use Rattle.std.proofs.lemmas.Option.{slice_get_within}
 use Rattle.std.proofs.Math.Seq.{take-append_seam}
 use Rattle.sight_names.specs.Map.{Map}
-use Rattle.block_evidence.specs.declared.Node.{Node}
+use Rattle.sight_tree.specs.declared.Node.{Node}
 use Rattle.reject_bits.specs.Parts.{TableParts}
 use Rattle.tree_judge.specs.declared.web.Entry.{Entry}
 use Rattle.tree_judge.specs.declared.roots.Root.{Root}

@@ -4,7 +4,7 @@ use Rattle.std.specs.List.{slice_get}
 use Rattle.sight_names.specs.Map.{Map}
 use Rattle.sight_names.specs.Splitting.{EndPoints}
 use Rattle.block_evidence.specs.declared.Evidence.{Evidence}
-use Rattle.block_evidence.specs.declared.Node.TheVariants.{Open, Blocked}
+use Rattle.sight_tree.specs.declared.Node.TheVariants.{Open, Blocked}
 use Rattle.reject_bits.specs.Parts.{TableParts}
 use Rattle.tree_judge.specs.declared.web.Entry.{Entry}
 use Rattle.tree_judge.specs.declared.roots.Root.{Root}

@@ -13,7 +13,7 @@ use Rattle.sight_names.specs.Sequence.{Portal, Left, Right, entry_edge, way_out,
 use Rattle.sight_names.proofs.PlanMap.{plan_is_map}
 use Rattle.mesh_base.proofs.PlanFacts.{plan_facts}
 use Rattle.mesh_shape.proofs.RuleLemmas.{found_here, first_edge, second_edge, third_edge}
-use Rattle.block_evidence.specs.WholeTree.{HasNoNode}
+use Rattle.sight_tree.specs.WholeTree.{HasNoNode}
 use Rattle.cert_format.specs.declared.cert.Labelled.{Labelled}
 use Rattle.tree_judge.specs.declared.web.Entry.{Entry}
 use Rattle.tree_judge.specs.Web.{edge, corner_of, IsPlace, IsEntry, IsEntryOf, IsGoodWeb, without_wall, way_at, way_outside}

@@ -2,8 +2,8 @@
 use Rattle.std.proofs.Common.{◌≡◌, List, [], ◌∷◌, ◌++◌, Option, Some, ℕ, sym, ◌∙◌, ap, subst}
 use Rattle.std.specs.List.{slice_get}
 use Rattle.sight_names.specs.Map.{Map}
-use Rattle.block_evidence.specs.declared.Node.{Node}
-use Rattle.block_evidence.specs.declared.Node.TheVariants.{Open, Blocked}
+use Rattle.sight_tree.specs.declared.Node.{Node}
+use Rattle.sight_tree.specs.declared.Node.TheVariants.{Open, Blocked}
 use Rattle.tree_judge.specs.declared.web.Entry.{Entry}
 use Rattle.tree_judge.specs.Path.{Pending}
 use Rattle.tree_judge.specs.Whole.{ways_through, Answers, AreAnswered}

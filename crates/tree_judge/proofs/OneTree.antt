@@ -9,8 +9,8 @@ use Rattle.sight_names.specs.Points.{Edge}
 use Rattle.sight_names.specs.Mesh.{IsGoodMesh, HasEdge, triangle_at}
 use Rattle.mesh_base.proofs.GoodMesh.{some_position}
 use Rattle.mesh_shape.proofs.RuleLemmas.{found_here, first_edge, second_edge, third_edge}
-use Rattle.block_evidence.specs.declared.Node.{Node}
-use Rattle.block_evidence.specs.declared.Tree.{Tree}
+use Rattle.sight_tree.specs.declared.Node.{Node}
+use Rattle.sight_tree.specs.declared.Tree.{Tree}
 use Rattle.cert_format.specs.Parts.{CertParts}
 use Rattle.cert_format.specs.Accepted.{triangles_of, labels_of}
 use Rattle.cert_format.specs.declared.cert.Labelled.{Labelled}

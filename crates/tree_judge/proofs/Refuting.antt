@@ -2,7 +2,7 @@
 use Rattle.std.proofs.Common.{◌≡◌, ◌≢◌, ℕ, zero, suc, ◌≤◌, List, [], ◌∷◌, Some, length, take, refl, sym, ◌∙◌, ap, subst, arith}
 use Rattle.std.specs.List.{slice_get}
 use Rattle.sight_names.specs.Map.{Map}
-use Rattle.block_evidence.specs.declared.Node.{Node}
+use Rattle.sight_tree.specs.declared.Node.{Node}
 use Rattle.tree_judge.specs.declared.web.Entry.{Entry}
 use Rattle.tree_judge.specs.Path.{Pending}
 use Rattle.tree_judge.specs.Whole.{Answers, AreAnswered, IsFirstWrong}

@@ -12,10 +12,10 @@ use Rattle.sight_names.specs.Mesh.{label_of, side_edge}
 use Rattle.sight_names.specs.Splitting.{EndPoints}
 use Rattle.sight_names.specs.Sequence.{Portal, Left, Right, entry_edge, way_out, apex, third_point, root_portal, roots, sides_of, is_root, names_it, end_points}
 use Rattle.block_evidence.specs.declared.Evidence.{Evidence}
-use Rattle.block_evidence.specs.declared.Node.{Node}
-use Rattle.block_evidence.specs.declared.Node.TheVariants.{Open, Blocked}
+use Rattle.sight_tree.specs.declared.Node.{Node}
+use Rattle.sight_tree.specs.declared.Node.TheVariants.{Open, Blocked}
 use Rattle.block_evidence.specs.Stuck.{Blocks}
-use Rattle.block_evidence.specs.WholeTree.{HasNode, HasNoNode, Answers as AnswersFor, no_node, blocked, open_node, AnswersRoots}
+use Rattle.sight_tree.specs.WholeTree.{HasNode, HasNoNode, Answers as AnswersFor, no_node, blocked, open_node, AnswersRoots}
 use Rattle.cert_format.specs.declared.cert.Labelled.{Labelled}
 use Rattle.tree_judge.specs.declared.web.Entry.{Entry}
 use Rattle.tree_judge.specs.Web.{IsGoodWeb, way_outside}

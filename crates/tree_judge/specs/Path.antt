@@ -4,7 +4,7 @@ use Rattle.sight_names.specs.Map.{Map}
 use Rattle.sight_names.specs.Points.{place}
 use Rattle.sight_names.specs.Splitting.{EndPoints}
 use Rattle.block_evidence.specs.declared.Evidence.{Evidence}
-use Rattle.block_evidence.specs.declared.Tree.{Tree}
+use Rattle.sight_tree.specs.declared.Tree.{Tree}
 use Rattle.block_evidence.specs.Stuck.{Blocks}
 use Rattle.tree_judge.specs.declared.web.Entry.{Entry}
 use Rattle.tree_judge.specs.declared.roots.Root.{Root}

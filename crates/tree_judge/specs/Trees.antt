@@ -1,8 +1,8 @@
 -- What a judge of trees tells of a certificate.
 use Rattle.std.specs.Prelude.{◌≡◌, ◌<◌, ◌↔◌, ℕ, List, map, slice_get, Some, Bool, Contains}
 use Rattle.sight_names.specs.Map.{Map}
-use Rattle.block_evidence.specs.declared.Tree.{Tree}
-use Rattle.block_evidence.specs.WholeTree.{IsWholeTree}
+use Rattle.sight_tree.specs.declared.Tree.{Tree}
+use Rattle.sight_tree.specs.WholeTree.{IsWholeTree}
 use Rattle.reject_bits.specs.Parts.{TableParts, Rejects}
 use Rattle.cert_format.specs.Parts.{CertParts}
 use Rattle.cert_format.specs.Accepted.{triangles_of, labels_of, HasTreeWithout}

@@ -2,9 +2,9 @@
 use Rattle.std.specs.Prelude.{◌≡◌, ◌≢◌, ℕ, ◌<◌, ◌≤◌, ◌⊎◌, ◌↔◌, List, [], ◌∷◌, ◌++◌, Option, Some, None, map, take, length, slice_get, Contains, Bool}
 use Rattle.sight_names.specs.Map.{Map}
 use Rattle.sight_names.specs.Splitting.{EndPoints}
-use Rattle.block_evidence.specs.declared.Node.{Node}
-use Rattle.block_evidence.specs.declared.Node.TheVariants.{Open, Blocked}
-use Rattle.block_evidence.specs.declared.Tree.{Tree}
+use Rattle.sight_tree.specs.declared.Node.{Node}
+use Rattle.sight_tree.specs.declared.Node.TheVariants.{Open, Blocked}
+use Rattle.sight_tree.specs.declared.Tree.{Tree}
 use Rattle.block_evidence.specs.Stuck.{Blocks}
 use Rattle.reject_bits.specs.Parts.{TableParts, Rejects}
 use Rattle.sight_names.specs.declared.names.Triangle.{Triangle}

@@ -17,11 +17,11 @@ use crate::marks::mark;
 use crate::roots::Roots;
 use crate::trees::{Frame, Ground, first_wrong, path_of};
 use crate::web::Web;
-use block_evidence::Tree;
 use cert_format::Cert;
 use mesh_shape::Mesh;
 use reject_bits::Table;
 use sight_names::{Memory, Plan};
+use sight_tree::Tree;
 use std::alloc::Global;
 
 /// The sectors that have a tree, and for each of them the sectors that its open nodes enter.

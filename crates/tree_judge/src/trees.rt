@@ -5,16 +5,17 @@ ghost use Rattle.sight_names.specs.Map.{map_of, origin};
 ghost use Rattle.sight_names.specs.Splitting.{end_of as end_at};
 ghost use Rattle.block_evidence.specs.Stuck.{Blocks};
 ghost use Rattle.reject_bits.specs.Parts.{TableParts};
-ghost use Rattle.block_evidence.specs.declared.Node.TheVariants.{Open, Blocked};
+ghost use Rattle.sight_tree.specs.declared.Node.TheVariants.{Open, Blocked};
 ghost use Rattle.tree_judge.specs.Path.{path_ends, frame_at, pending_way, to_come, longest_of, AsksRoot, EntersThrough, IsClosedBy, TakesNext};
 ghost use Rattle.tree_judge.specs.Roots.{first_at};
 ghost use Rattle.tree_judge.specs.Whole.{Notes, HasAnswered, HasRefused, StandsBefore, IsWholeFrom, IsFirstWrongFrom};
 
 use crate::roots::Roots;
 use crate::web::{Entry, Web};
-use block_evidence::{Evidence, Node, Tree, stuck};
+use block_evidence::{Evidence, stuck};
 use reject_bits::Table;
 use sight_names::{EndAt, Memory, Plan, Pt};
+use sight_tree::{Node, Tree};
 use std::alloc::Global;
 
 const ORIGIN: Pt = Pt { x: 0, y: 0 };

@@ -1,16 +1,17 @@
-use Rattle.std.proofs.Common.{ℕ}
-use Rattle.std.proofs.lemmas.Result.{err_from_is_err_and}
-use Rattle.cert_format.specs.Reading.{node_at, nodes_at}
-use Rattle.cert_format.proofs.Loop.{goes_on, ends, is_done}
+use Rattle.std.proofs.Common.{refl, arith}
+use Rattle.cert_format.proofs.NodeStretch.{stretch, stretch_read}
 use Rattle.cert_format.proofs.records.nodes_of.Goals as goal
 
-pub returns-in_err-node : goal.returns-in_err-node
-returns-in_err-node c =
-    let p = err_from_is_err_and c.from_residual.result c.from_residual.ensures.1 in
-    rw (p.1, p.2) (ends (λ (k : ℕ). node_at c.args.total) (λ n. 0) c.in_err-node.field-0.0 c.loop.nodes 0 c.args.count c.loop.counter c.loop.rest.now (nodes_at c.args.total c.args.count c.args.bytes.now) c.loop-test.true c.in_err-node.ensures.value c.loop.invariant)
+pub slice_bounds-text-count : goal.slice_bounds-text-count
+slice_bounds-text-count c =
+    (stretch c.args.total c.args.count c.args.bytes.now c.in_ok-rest.rest.now (λ i. omega (arith, c.type_inv.bytes i)) c.in_ok-rest.ensures).shorter
 
-pub loop-preserved : goal.loop-preserved
-loop-preserved c = rw c.in_ok-push.ensures.ok (goes_on (λ (k : ℕ). node_at c.args.total) (λ n. 0) c.loop.nodes 0 c.args.count c.loop.counter c.loop.rest.now c.in_ok-node.node c.in_ok-node.after.now (nodes_at c.args.total c.args.count c.args.bytes.now) c.loop-test.true c.in_ok-node.ensures.value c.loop.invariant)
+pub of_bytes-requires : goal.of_bytes-requires
+of_bytes-requires c =
+    let s = stretch c.args.total c.args.count c.args.bytes.now c.in_ok-rest.rest.now (λ i. omega (arith, c.type_inv.bytes i)) c.in_ok-rest.ensures in
+    (s.nodes, s.spelled, s.many)
 
 pub returns : goal.returns
-returns c = is_done (λ (k : ℕ). node_at c.args.total) (λ n. 0) c.loop.nodes 0 c.args.count c.loop.counter c.loop.rest.now (nodes_at c.args.total c.args.count c.args.bytes.now) c.loop-test.false c.loop.invariant
+returns c =
+    let s = stretch c.args.total c.args.count c.args.bytes.now c.in_ok-rest.rest.now (λ i. omega (arith, c.type_inv.bytes i)) c.in_ok-rest.ensures in
+    stretch_read c.args.total c.args.count c.args.bytes.now c.in_ok-rest.rest.now _ c.in_ok-nodes.nodes s refl c.in_ok-nodes.ensures

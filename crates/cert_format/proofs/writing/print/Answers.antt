@@ -2,11 +2,11 @@ use Rattle.std.proofs.Common.{◌≡◌, ℕ, List, [], ◌∷◌, ◌++◌, len
 use Rattle.std.specs.List.{flat_map, AllByRecursion}
 use Rattle.sight_names.specs.declared.names.Pair.{Pair}
 use Rattle.sight_names.specs.declared.names.PairRay.{PairRay}
-use Rattle.block_evidence.specs.declared.Tree.{Tree}
+use Rattle.sight_tree.specs.declared.Tree.{Tree}
 use Rattle.cert_format.specs.declared.cert.Sizes.{Sizes}
 use Rattle.cert_format.specs.declared.cert.Labelled.{Labelled}
 use Rattle.cert_format.specs.Parts.{CertParts}
-use Rattle.cert_format.specs.Grammar.{IsRayInRange, IsTreeInRange, IsNodeInOrder, HasShortSides, FitsPairRay, FitsTree, spelling, front_bytes, count_bytes, triangle_bytes, ray_bytes, pair_bytes, tree_bytes}
+use Rattle.cert_format.specs.Grammar.{IsRayInRange, HasShortSides, FitsPairRay, FitsTree, spelling, front_bytes, count_bytes, triangle_bytes, ray_bytes, pair_bytes, tree_bytes}
 use Rattle.cert_format.proofs.CountLaws.{few_rays, few_pairs, few_trees}
 use Rattle.cert_format.proofs.Steps.{six_steps}
 use Rattle.cert_format.proofs.writing.print.Goals as goal
@@ -14,10 +14,6 @@ use Rattle.cert_format.proofs.writing.print.Goals as goal
 short_sides : (sizes : Sizes) (rs : List PairRay) → AllByRecursion (IsRayInRange sizes) rs → AllByRecursion (λ (r : PairRay). HasShortSides r.ray) rs
 short_sides sizes [] h = tt
 short_sides sizes (r ∷ rs) h = ((h.0.1.1, h.0.2.1), short_sides sizes rs h.1)
-
-nodes_of : (sizes : Sizes) (ts : List Tree) → AllByRecursion (IsTreeInRange sizes) ts → AllByRecursion (λ (t : Tree). AllByRecursion IsNodeInOrder t.nodes) ts
-nodes_of sizes [] h = tt
-nodes_of sizes (t ∷ ts) h = (h.0.1, nodes_of sizes ts h.1)
 
 is_spelled : (c : CertParts) (out : List ℕ) (ts : List Labelled) (rs : List PairRay) (ps : List Pair) (ds : List Tree) → ts ≡ c.triangles → rs ≡ c.rays → ps ≡ c.listed → ds ≡ c.trees
     → out ≡ front_bytes c.sizes ++ count_bytes (length ts) (length rs) (length ps) (length ds) ++ flat_map triangle_bytes ts ++ flat_map ray_bytes rs ++ flat_map pair_bytes ps ++ flat_map tree_bytes ds → out ≡ spelling c
@@ -35,9 +31,6 @@ overflow_cast-counts-4 c = record { fits = rw c.as_slice-trees.ensures (few_tree
 
 pub put_rays-requires : goal.put_rays-requires
 put_rays-requires c = rw c.as_slice-rays.ensures (short_sides c.cert.inside.sizes c.cert.inside.rays c.cert.invariant.rays)
-
-pub put_trees-requires : goal.put_trees-requires
-put_trees-requires c = rw c.as_slice-trees.ensures (nodes_of c.cert.inside.sizes c.cert.inside.trees c.cert.invariant.trees)
 
 pub returns : goal.returns
 returns c =

@@ -1,6 +1,6 @@
 use Rattle.std.proofs.Common.{◌≡◌, ◌++◌, take}
 use Rattle.std.specs.List.{flat_map}
-use Rattle.cert_format.specs.Grammar.{u16}
+use Rattle.sight_tree.specs.Spelling.{u16}
 use Rattle.cert_format.proofs.writing.put_numbers.Given as goal
 
 abbrev pub invariant-loop-number : goal.invariant-loop-number

@@ -3,7 +3,8 @@ use Rattle.std.specs.List.{flat_map}
 use Rattle.std.specs.Prelude.{FitsSigned, ℤ}
 use Rattle.std.specs.Int.{w32, w64, cast_unsigned, cast_signed}
 use Rattle.std.proofs.lemmas.Int.{to_z-of_z}
-use Rattle.cert_format.specs.Grammar.{u16, u32, u64, side_number}
+use Rattle.sight_tree.specs.Spelling.{u16}
+use Rattle.cert_format.specs.Grammar.{u32, u64, side_number}
 use Rattle.cert_format.proofs.Steps.{four_steps}
 use Rattle.cert_format.proofs.writing.put_sight_line.Goals as goal
 

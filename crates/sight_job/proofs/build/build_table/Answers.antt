@@ -6,7 +6,7 @@ use Rattle.sight_names.specs.Plan.{PlanParts}
 use Rattle.cert_format.specs.declared.cert.Labelled.{Labelled}
 use Rattle.cert_format.specs.Parts.{CertParts}
 use Rattle.cert_format.specs.Grammar.{IsInOrder}
-use Rattle.block_evidence.specs.declared.Tree.{Tree}
+use Rattle.sight_tree.specs.declared.Tree.{Tree}
 use Rattle.sight_job.proofs.Accepting.{is_accepted, trees_of_set, whole_trees_of}
 use Rattle.sight_job.proofs.BuildLaws.{cert_in_order, cert_is}
 use Rattle.sight_job.proofs.BudgetLaws.{full_is, enough_lists_nothing}

@@ -1,6 +1,6 @@
 use Rattle.std.proofs.Common.{IsTrue, sym, subst}
 use Rattle.sight_names.specs.Map.{map_of}
-use Rattle.block_evidence.specs.declared.Node.{Node}
+use Rattle.sight_tree.specs.declared.Node.{Node}
 use Rattle.tree_judge.specs.Whole.{HasAnswered}
 use Rattle.tree_judge.proofs.trees.answer.Goals as goal
 

@@ -1,6 +1,6 @@
 use Rattle.std.proofs.Common.{◌≡◌, ◌∙◌, ℕ, suc, ◌+◌, ◌<◌, ◌∷◌, List, Option, Some, None, length, map, true, false, refl, sym, ap, subst, arith}
 use Rattle.sight_names.specs.Map.{map_of}
-use Rattle.block_evidence.specs.declared.Node.{Node}
+use Rattle.sight_tree.specs.declared.Node.{Node}
 use Rattle.std.specs.Option.{is_some}
 use Rattle.tree_judge.specs.Roots.{first_at}
 use Rattle.tree_judge.specs.Path.{root_pending}

@@ -1,0 +1,2 @@
+pub mod UTree
+pub mod ReadBack

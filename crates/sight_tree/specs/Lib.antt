@@ -1,0 +1,2 @@
+pub mod WholeTree
+pub mod Spelling
