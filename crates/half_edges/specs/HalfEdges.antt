@@ -1,11 +1,11 @@
 -- The half-edges of a mesh over a plan and labels: what one finds who enters a triangle by a portal.
-use Rattle.std.specs.Prelude.{◌≡◌, ℕ, ◌*◌, ◌<◌, ◌↔◌, List, Option, Some, None, length, slice_get, Bool, false, IsTrue, option_and_then, if◌then◌else◌}
+use Rattle.std.specs.Prelude.{◌≡◌, ℕ, ◌*◌, ◌<◌, ◌↔◌, List, Option, Some, None, length, slice_get, false, IsTrue, option_and_then, if◌then◌else◌}
 use Rattle.sight_names.specs.declared.names.Triangle.{Triangle}
 use Rattle.sight_names.specs.Points.{Edge, place}
-use Rattle.sight_names.specs.Plan.{PlanParts}
+use Rattle.sight_names.specs.Plan.{PlanParts, IsPlan}
 use Rattle.sight_names.specs.Map.{map_of}
-use Rattle.sight_names.specs.Mesh.{label_of, triangle_at}
-use Rattle.sight_names.specs.Sequence.{Portal, apex, entry_edge, names_it, IsSolidLine}
+use Rattle.sight_names.specs.Mesh.{label_of, triangle_at, IsGoodMesh}
+use Rattle.sight_names.specs.Sequence.{Portal, apex, names_it, IsSolidLine}
 use Rattle.half_edges.specs.declared.table.HalfEdge.{HalfEdge}
 use Rattle.half_edges.specs.Numbers.{edge, number_of}
 use Rattle.half_edges.specs.Kinds.{IsEnteredAt, portal_on}
@@ -42,3 +42,10 @@ pub record IsHalfEdge (p : PlanParts) (ts : List Triangle) (labels : List (Optio
 pub record AreHalfEdges (p : PlanParts) (ts : List Triangle) (labels : List (Option ℕ)) (xs : List HalfEdge) : Type 0 where
   pub len : length xs ≡ length ts * 3
   pub each : (e : Edge) (i : ℕ) → number_of ts e ≡ Some i → (x : HalfEdge) × (slice_get xs i ≡ Some x) × IsHalfEdge p ts labels xs e x
+
+-- those of a good mesh of the plan's map
+pub record AreOfGoodMesh (p : PlanParts) (ts : List Triangle) (xs : List HalfEdge) : Type 0 where
+  pub labels : List (Option ℕ)
+  pub plan : IsPlan p
+  pub good : IsGoodMesh (map_of p) ts labels
+  pub edges : AreHalfEdges p ts labels xs

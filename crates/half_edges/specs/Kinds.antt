@@ -1,11 +1,11 @@
 -- What the lines of a plan are to one who enters by a directed edge.
-use Rattle.std.specs.Prelude.{◌≡◌, ◌≢◌, ℕ, ◌+◌, ◌*◌, ◌<◌, ◌⊎◌, ◌↔◌, List, Option, Some, None, length, slice_get, slice_index_or, Bool, true, false, IsTrue, option_and_then, option_map, if◌then◌else◌}
+use Rattle.std.specs.Prelude.{◌≡◌, ◌≢◌, ℕ, ◌*◌, ◌<◌, List, Option, Some, None, length, slice_get, slice_index_or, Bool, true, false, option_and_then, option_map, if◌then◌else◌}
 use Rattle.sight_names.specs.declared.names.Side.{Side}
 use Rattle.sight_names.specs.declared.names.Triangle.{Triangle}
 use Rattle.sight_names.specs.declared.plan.Line.{Line}
 use Rattle.sight_names.specs.Points.{Edge}
 use Rattle.sight_names.specs.Plan.{PlanParts}
-use Rattle.sight_names.specs.Map.{Map, MapLine, line_at, map_of}
+use Rattle.sight_names.specs.Map.{MapLine, line_at, map_of}
 use Rattle.sight_names.specs.Mesh.{side_edge, IsLineEdge}
 use Rattle.sight_names.specs.Sequence.{Portal, entry_edge, IsSolidLine}
 use Rattle.half_edges.specs.declared.kinds.EdgeKind.{EdgeKind}
@@ -77,7 +77,7 @@ pub record AreKinds (p : PlanParts) (ts : List Triangle) (kinds : List EdgeKind)
 abbrev pub kind_with : List EdgeKind → ℕ → EdgeKind
 kind_with kinds i = slice_index_or kinds i Free
 
-abbrev way_of : ℕ → EdgeKind → Option ℕ
+abbrev pub way_of : ℕ → EdgeKind → Option ℕ
 way_of i Free = Some i
 way_of i (Passable s) = Some i
 way_of i Solid = None

@@ -215,6 +215,13 @@ impl HalfEdges {
         Ok(HalfEdges { edges })
     }
 
+    /// How many there are: three for each triangle.
+    pub fn len(&self) -> usize
+        ensures { result ≡ length self.now }
+    {
+        self.edges.len()
+    }
+
     /// The half-edge with this number.
     pub fn get(&self, number: u16) -> Option<&HalfEdge>
         ensures { option_copied result ≡ slice_get self.now number }
