@@ -1,0 +1,4 @@
+pub mod Numbers
+pub mod EachLine
+pub mod EachTriangle
+pub mod Reached
