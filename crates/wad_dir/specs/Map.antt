@@ -65,24 +65,24 @@ abbrev pub shifted : ℕ → Option ℕ → Option ℕ
 shifted by None = None
 shifted by (Some k) = Some (by + k)
 
--- the spot of a map whose run stands right behind its marker
-unfoldable pub spot_in : ℕ → List (List ℕ) → Result MapSpot MapFault
-spot_in marker run = do
+-- the spot of a map whose run stands right behind its marker, in Hexen's format or in Doom's
+unfoldable pub spot_in : ℕ → Bool → List (List ℕ) → Result MapSpot MapFault
+spot_in marker hexen run = do
   linedefs ← needed_in run Linedefs
   sidedefs ← needed_in run Sidedefs
   vertexes ← needed_in run Vertexes
   sectors ← needed_in run Sectors
-  Ok (record { marker = marker; linedefs = marker + 1 + linedefs; sidedefs = marker + 1 + sidedefs; vertexes = marker + 1 + vertexes; sectors = marker + 1 + sectors; reject = shifted (marker + 1) (place_in (codes "REJECT") run) })
+  Ok (record { marker = marker; linedefs = marker + 1 + linedefs; sidedefs = marker + 1 + sidedefs; vertexes = marker + 1 + vertexes; sectors = marker + 1 + sectors; reject = shifted (marker + 1) (place_in (codes "REJECT") run); hexen = hexen })
 
 abbrev pub begins_with_behavior : List (List ℕ) → Bool
 begins_with_behavior [] = false
 begins_with_behavior (n ∷ ns) = same_name n (codes "BEHAVIOR")
 
--- the spot of a map behind whose marker these names follow
+-- the spot of a map behind whose marker these names follow. Behind the run BEHAVIOR means Hexen's format
 unfoldable pub spot_behind : ℕ → List (List ℕ) → Result MapSpot MapFault
 spot_behind marker after =
     let run : List (List ℕ) = run_from [] after in
-    if begins_with_behavior (drop (length run) after) then Err fault.Hexen else spot_in marker run
+    spot_in marker (begins_with_behavior (drop (length run) after)) run
 
 -- the spot, among these names, of the map whose marker is the last of that name, or the first check that fails
 unfoldable pub spot_of : List (List ℕ) → List ℕ → Result MapSpot MapFault
