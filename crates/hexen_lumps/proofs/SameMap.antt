@@ -1,5 +1,5 @@
 -- Four lumps, and the same with LINEDEFS turned, spell one map, and the same check of them fails first.
-use Rattle.std.proofs.Common.{◌≡◌, ℕ, zero, suc, ◌+◌, ◌*◌, ◌/◌, ◌%◌, ◌<◌, ◌≤◌, ◌⊎◌, inl, inr, List, [], ◌∷◌, length, map, Bool, true, false, ◌==◌, ◌||◌, not, cond, is_none, nat_lt, nat_le, Option, Some, None, Result, Ok, Err, IfOk, refl, sym, ap, ap₂, ◌∙◌, subst, arith}
+use Rattle.std.proofs.Common.{◌≡◌, ℕ, zero, suc, ◌+◌, ◌*◌, ◌/◌, ◌%◌, ◌<◌, ◌≤◌, ◌⊎◌, inl, inr, List, [], ◌∷◌, length, map, Bool, true, false, ◌==◌, ◌||◌, not, if◌then◌else◌, is_none, nat_lt, nat_le, Option, Some, None, Result, Ok, Err, IfOk, refl, sym, ap, ap₂, ◌∙◌, subst, arith}
 use Rattle.std.specs.Int.{bit_at}
 use Rattle.sight_names.specs.declared.faults.Lump.TheVariants.{Linedefs, Sidedefs, Vertexes, Sectors}
 use Rattle.sight_names.specs.declared.faults.LumpFault.{LumpFault}
@@ -70,9 +70,6 @@ abbrev points_fault : Map → Option LumpFault
 points_fault m = fault_if (nat_lt 4096 (length (points_of m))) (TooManyPoints (length (points_of m))) None
 
 module _ (linedefs sidedefs vertexes sectors : List ℕ) where
-  abbrev n : ℕ
-  n = length linedefs / 14
-
   enough : 14 * (length linedefs / 14) ≤ length linedefs
   enough = omega arith
 
@@ -87,6 +84,12 @@ module _ (linedefs sidedefs vertexes sectors : List ℕ) where
   unfolding hexen_of
   numbers k lt = same_numbers linedefs (length linedefs / 14) k lt enough
 
+  abbrev map_with : List (Option MapLine) → Map
+  map_with lines = record { sectors = length sectors / 26; lines = lines }
+
+  abbrev of_all : ℕ → ℕ → (ℕ → Option LumpFault) → Map → Option LumpFault
+  of_all r c fault m = checks_of sidedefs vertexes sectors (r == 0) c (lines_fault fault (numbers_below c) (points_fault m))
+
   zero_on : (j : ℕ) → j ≡ 0 + j
   zero_on j = omega arith
 
@@ -95,10 +98,7 @@ module _ (linedefs sidedefs vertexes sectors : List ℕ) where
   one_map =
       ap (λ (m : ℕ). map_with (map (linedef Hexen (hexen_of linedefs) sidedefs vertexes) (numbers_below m))) turned_count
       ∙ ap map_with (same_map (linedef Hexen (hexen_of linedefs) sidedefs vertexes) (linedef Doom linedefs sidedefs vertexes) 0 (length linedefs / 14)
-          (λ j l. subst (λ (k : ℕ). linedef Hexen (hexen_of linedefs) sidedefs vertexes k ≡ linedef Doom linedefs sidedefs vertexes k) (zero_on j) (same_line linedefs (hexen_of linedefs) sidedefs vertexes j (numbers j l))))
-    where
-      map_with : List (Option MapLine) → Map
-      map_with lines = record { sectors = length sectors / 26; lines = lines }
+      (λ j l. subst (λ (k : ℕ). linedef Hexen (hexen_of linedefs) sidedefs vertexes k ≡ linedef Doom linedefs sidedefs vertexes k) (zero_on j) (same_line linedefs (hexen_of linedefs) sidedefs vertexes j (numbers j l))))
 
   one_fault : length linedefs % 14 ≡ 0 → lump_fault Hexen (hexen_of linedefs) sidedefs vertexes sectors ≡ lump_fault Doom linedefs sidedefs vertexes sectors
   unfolding lump_fault
@@ -106,12 +106,9 @@ module _ (linedefs sidedefs vertexes sectors : List ℕ) where
       ap (λ (m : Map). of_all (length (hexen_of linedefs) % 16) (length (hexen_of linedefs) / 16) (line_fault Hexen (hexen_of linedefs) sidedefs vertexes sectors) m) one_map
       ∙ ap₂ (λ (r c : ℕ). of_all r c (line_fault Hexen (hexen_of linedefs) sidedefs vertexes sectors) (map_of_lumps Doom linedefs sidedefs vertexes sectors)) rest turned_count
       ∙ ap (checks_of sidedefs vertexes sectors (length linedefs % 14 == 0) (length linedefs / 14))
-          (same_faults (line_fault Hexen (hexen_of linedefs) sidedefs vertexes sectors) (line_fault Doom linedefs sidedefs vertexes sectors) 0 (length linedefs / 14) (points_fault (map_of_lumps Doom linedefs sidedefs vertexes sectors))
-          (λ j l. subst (λ (k : ℕ). line_fault Hexen (hexen_of linedefs) sidedefs vertexes sectors k ≡ line_fault Doom linedefs sidedefs vertexes sectors k) (zero_on j) (same_fault linedefs (hexen_of linedefs) sidedefs vertexes sectors j (numbers j l))))
+      (same_faults (line_fault Hexen (hexen_of linedefs) sidedefs vertexes sectors) (line_fault Doom linedefs sidedefs vertexes sectors) 0 (length linedefs / 14) (points_fault (map_of_lumps Doom linedefs sidedefs vertexes sectors))
+      (λ j l. subst (λ (k : ℕ). line_fault Hexen (hexen_of linedefs) sidedefs vertexes sectors k ≡ line_fault Doom linedefs sidedefs vertexes sectors k) (zero_on j) (same_fault linedefs (hexen_of linedefs) sidedefs vertexes sectors j (numbers j l))))
     where
-      of_all : ℕ → ℕ → (ℕ → Option LumpFault) → Map → Option LumpFault
-      of_all r c fault m = checks_of sidedefs vertexes sectors (r == 0) c (lines_fault fault (numbers_below c) (points_fault m))
-
       rest : length (hexen_of linedefs) % 16 ≡ length linedefs % 14
       rest = let e = turned_length in omega (arith, e, whole)
 

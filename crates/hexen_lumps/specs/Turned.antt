@@ -3,7 +3,7 @@ use Rattle.std.specs.Prelude.{ℕ, zero, suc, ◌+◌, ◌*◌, ◌/◌, List, [
 
 -- a record: its vertices and flags, a special and five arguments of 0, its sides
 abbrev pub hexen_record : List ℕ → List ℕ
-hexen_record doom = take 6 doom ++ replicate 6 0 ++ drop 10 doom
+hexen_record doom = (take 6 doom ++ replicate 6 0) ++ drop 10 doom
 
 -- the first n records
 abbrev pub hexen_first : List ℕ → ℕ → List ℕ

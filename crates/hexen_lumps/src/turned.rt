@@ -10,16 +10,16 @@ use std::alloc::{AllocError, Global};
 const DOOM_LEN: usize = 14;
 
 /// Adds a record, turned.
-fn push_record(out: &mut Vec<u8>, record: &[u8]) -> Result<(), AllocError>
-    requires { length record.now ≡ 14 }
-    ensures { OnOk result (out.new.items ≡ out.old.items ++ hexen_record record.now) }
+fn push_record(out: &mut Vec<u8>, doom: &[u8]) -> Result<(), AllocError>
+    requires { length doom.now ≡ 14 }
+    ensures { OnOk result (out.new.items ≡ out.old.items ++ hexen_record doom.now) }
 {
     // the vertices and the flags
-    out.extend_from_slice(&record[..6])?;
+    out.extend_from_slice(&doom[..6])?;
     // the special and the arguments
     out.extend_from_slice(&[0; 6])?;
     // the sides
-    out.extend_from_slice(&record[10..])
+    out.extend_from_slice(&doom[10..])
 }
 
 /// The records of LINEDEFS in Hexen's format: each keeps its vertices, flags and sides, and has a special and arguments

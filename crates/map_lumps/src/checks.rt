@@ -6,8 +6,7 @@ ghost use Rattle.map_lumps.specs.Records.{AllSound};
 ghost use Rattle.map_lumps.specs.Answers.{Passes, cut_lump as cut_lump_lem};
 
 use crate::records::{
-    NO_SIDE, SECTOR_LEN, SIDEDEF_LEN, VERTEX_LEN, count_linedefs, linedef_len, number,
-    read_linedef,
+    NO_SIDE, SECTOR_LEN, SIDEDEF_LEN, VERTEX_LEN, count_linedefs, linedef_len, number, read_linedef,
 };
 use sight_names::{Lump, LumpFault, MapFormat};
 
@@ -47,7 +46,13 @@ pub fn early_fault(
 }
 
 /// The first lump whose size is no multiple of its record.
-fn cut_lump(format: MapFormat, linedefs: &[u8], sidedefs: &[u8], vertexes: &[u8], sectors: &[u8]) -> Option<Lump>
+fn cut_lump(
+    format: MapFormat,
+    linedefs: &[u8],
+    sidedefs: &[u8],
+    vertexes: &[u8],
+    sectors: &[u8],
+) -> Option<Lump>
     ensures { result ≡ cut_lump_lem format linedefs.now sidedefs.now vertexes.now sectors.now }
 {
     if linedefs.len() % linedef_len(format) != 0 {

@@ -77,5 +77,12 @@ pub fn read_map(
     ensures plan { IfOk result IsPlan }
     ensures fault { AnswersFirstFault result (lump_fault Doom linedefs.now sidedefs.now vertexes.now sectors.now) }
 {
-    read_lumps(alloc, MapFormat::Doom, linedefs, sidedefs, vertexes, sectors)
+    read_lumps(
+        alloc,
+        MapFormat::Doom,
+        linedefs,
+        sidedefs,
+        vertexes,
+        sectors,
+    )
 }

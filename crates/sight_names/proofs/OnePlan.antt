@@ -67,8 +67,8 @@ pub one_plan : (p q : PlanParts) → IsPlan p → IsPlan q → map_of p ≡ map_
 one_plan p q hp hq e =
     let points : p.points ≡ q.points = sym (plan_points p hp) ∙ ap points_of e ∙ plan_points q hq in
     let lines : p.lines ≡ q.lines =
-        lines_same p.points (numbering p hp) p.lines q.lines (ends_below p hp) (subst (λ (ps : List Pt). EndsBelow (length ps) q.lines) (sym points) (ends_below q hq))
-        (ap (λ (m : Map). m.lines) e ∙ ap (λ (ps : List Pt). map (option_map (looked_up ps)) q.lines) (sym points)) in
+    lines_same p.points (numbering p hp) p.lines q.lines (ends_below p hp) (subst (λ (ps : List Pt). EndsBelow (length ps) q.lines) (sym points) (ends_below q hq))
+    (ap (λ (m : Map). m.lines) e ∙ ap (λ (ps : List Pt). map (option_map (looked_up ps)) q.lines) (sym points)) in
     parts p.sectors q.sectors p.points q.points p.lines q.lines (ap (λ (m : Map). m.sectors) e) points lines
   where
     parts : (m n : ℕ) (ps qs : List Pt) (ls ks : List (Option Line)) → m ≡ n → ps ≡ qs → ls ≡ ks → ◌≡◌ {A = PlanParts} (record { sectors = m; points = ps; lines = ls }) (record { sectors = n; points = qs; lines = ks })
