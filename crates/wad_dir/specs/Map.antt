@@ -1,5 +1,5 @@
 -- Where a map lies in a directory (the Unofficial Doom Specs on the lumps of a map).
-use Rattle.std.specs.Prelude.{ℕ, ◌+◌, ◌==◌, Bool, false, not, ◌&&◌, List, [], ◌∷◌, ◌++◌, length, drop, Option, Some, None, Result, Ok, Err, if◌then◌else◌, position, codes, map}
+use Rattle.std.specs.Prelude.{ℕ, ◌+◌, ◌==◌, Bool, true, false, not, ◌&&◌, List, [], ◌∷◌, ◌++◌, length, drop, Option, Some, None, Result, Ok, Err, if◌then◌else◌, position, codes, map}
 use Rattle.std.specs.List.{list_any}
 use Rattle.std.specs.Char.{to_ascii_uppercase}
 use Rattle.std.specs.Str.{bytes_eq}
@@ -7,6 +7,8 @@ use Rattle.sight_names.specs.declared.faults.Lump.{Lump}
 use Rattle.sight_names.specs.declared.faults.Lump.TheVariants.{Linedefs, Sidedefs, Vertexes, Sectors}
 use Rattle.sight_names.specs.declared.faults.MapFault.{MapFault}
 use Rattle.sight_names.specs.declared.faults.MapFault.TheVariants as fault
+use Rattle.sight_names.specs.declared.names.MapFormat.{MapFormat}
+use Rattle.sight_names.specs.declared.names.MapFormat.TheVariants.{Doom, Hexen}
 use Rattle.wad_dir.specs.declared.parts.Entry.{Entry}
 use Rattle.wad_dir.specs.declared.parts.MapSpot.{MapSpot}
 
@@ -64,6 +66,11 @@ needed_in run lump = elim (place_in (name_of lump) run) [ Some k ↦ Ok k | None
 abbrev pub shifted : ℕ → Option ℕ → Option ℕ
 shifted by None = None
 shifted by (Some k) = Some (by + k)
+
+-- the format that a spot tells
+abbrev pub format_of : Bool → MapFormat
+format_of true = Hexen
+format_of false = Doom
 
 -- the spot of a map whose run stands right behind its marker, in Hexen's format or in Doom's
 unfoldable pub spot_in : ℕ → Bool → List (List ℕ) → Result MapSpot MapFault
