@@ -1,9 +1,11 @@
--- What read_map answers.
+-- What a reader of the four lumps answers.
 use Rattle.std.specs.Prelude.{◌≡◌, ℕ, ◌/◌, ◌%◌, ◌≤◌, ◌==◌, not, if◌then◌else◌, List, Option, Some, None, Result, Ok, Err, length, ⊤}
 use Rattle.sight_names.specs.declared.faults.Lump.{Lump}
 use Rattle.sight_names.specs.declared.faults.Lump.TheVariants.{Linedefs, Sidedefs, Vertexes, Sectors}
 use Rattle.sight_names.specs.declared.faults.LumpFault.{LumpFault}
 use Rattle.sight_names.specs.declared.faults.LumpFault.TheVariants.{Memory}
+use Rattle.sight_names.specs.declared.names.MapFormat.{MapFormat}
+use Rattle.sight_names.specs.Lumps.{linedef_len, count_linedefs}
 use Rattle.sight_names.specs.Plan.{PlanParts}
 use Rattle.map_lumps.specs.Records.{AllSound}
 
@@ -14,19 +16,19 @@ AnswersFirstFault (Err Memory) first = ⊤
 AnswersFirstFault (Err fault) first = first ≡ Some fault
 
 -- the checks that need no memory have passed
-pub record Passes (linedefs sidedefs vertexes sectors : List ℕ) : Type 0 where
-  pub whole_linedefs : length linedefs % 14 ≡ 0
+pub record Passes (format : MapFormat) (linedefs sidedefs vertexes sectors : List ℕ) : Type 0 where
+  pub whole_linedefs : length linedefs % linedef_len format ≡ 0
   pub whole_sidedefs : length sidedefs % 30 ≡ 0
   pub whole_vertexes : length vertexes % 4 ≡ 0
   pub whole_sectors : length sectors % 26 ≡ 0
   pub few_sectors : length sectors / 26 ≤ 4096
-  pub few_lines : length linedefs / 14 ≤ 16384
-  pub each : AllSound linedefs sidedefs vertexes sectors
+  pub few_lines : count_linedefs format linedefs ≤ 16384
+  pub each : AllSound format linedefs sidedefs vertexes sectors
 
 -- the first lump whose size is no multiple of its record
-abbrev pub cut_lump : List ℕ → List ℕ → List ℕ → List ℕ → Option Lump
-cut_lump linedefs sidedefs vertexes sectors =
-    if not (length linedefs % 14 == 0) then Some Linedefs
+abbrev pub cut_lump : MapFormat → List ℕ → List ℕ → List ℕ → List ℕ → Option Lump
+cut_lump format linedefs sidedefs vertexes sectors =
+    if not (length linedefs % linedef_len format == 0) then Some Linedefs
     else if not (length sidedefs % 30 == 0) then Some Sidedefs
     else if not (length vertexes % 4 == 0) then Some Vertexes
     else if not (length sectors % 26 == 0) then Some Sectors

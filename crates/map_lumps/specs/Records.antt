@@ -5,18 +5,29 @@ use Rattle.sight_names.specs.declared.plan.Line.{Line}
 use Rattle.sight_names.specs.Plan.{IsBefore}
 use Rattle.sight_names.specs.Map.{Map, MapLine}
 use Rattle.sight_names.specs.Points.{ends_of}
-use Rattle.sight_names.specs.Lumps.{u16_at, line_fault}
+use Rattle.sight_names.specs.declared.names.MapFormat.{MapFormat}
+use Rattle.sight_names.specs.Lumps.{u16_at, linedef_len, right_at, left_at, count_linedefs, line_fault}
 use Rattle.map_lumps.specs.declared.records.Linedef.{Linedef}
 use Rattle.map_lumps.specs.declared.records.PlacedLine.{PlacedLine}
 
+-- the numbers of the LINEDEFS record at this byte, whose right side stands so many bytes behind
+abbrev pub linedef_from : List ℕ → ℕ → ℕ → Linedef
+linedef_from linedefs at right = record {
+  first = u16_at linedefs at;
+  second = u16_at linedefs (at + 2);
+  flags = u16_at linedefs (at + 4);
+  right = u16_at linedefs (at + right);
+  left = u16_at linedefs (at + right + 2);
+}
+
 -- the numbers of a LINEDEFS record
-abbrev pub linedef_at : List ℕ → ℕ → Linedef
-linedef_at linedefs k = record {
-  first = u16_at linedefs (14 * k);
-  second = u16_at linedefs (14 * k + 2);
-  flags = u16_at linedefs (14 * k + 4);
-  right = u16_at linedefs (14 * k + 10);
-  left = u16_at linedefs (14 * k + 12);
+abbrev pub linedef_at : MapFormat → List ℕ → ℕ → Linedef
+linedef_at format linedefs k = record {
+  first = u16_at linedefs (linedef_len format * k);
+  second = u16_at linedefs (linedef_len format * k + 2);
+  flags = u16_at linedefs (linedef_len format * k + 4);
+  right = u16_at linedefs (linedef_len format * k + right_at format);
+  left = u16_at linedefs (linedef_len format * k + left_at format);
 }
 
 -- a placed line is a line of the map
@@ -28,8 +39,8 @@ abbrev pub map_of_placed : ℕ → List (Option PlacedLine) → Map
 map_of_placed sectors lines = record { sectors = sectors; lines = map (option_map as_map_line) lines }
 
 -- each record names vertices, sides and sectors that are there
-abbrev pub AllSound : List ℕ → List ℕ → List ℕ → List ℕ → Type 0
-AllSound linedefs sidedefs vertexes sectors = (k : ℕ) → k < length linedefs / 14 → line_fault linedefs sidedefs vertexes sectors k ≡ None
+abbrev pub AllSound : MapFormat → List ℕ → List ℕ → List ℕ → List ℕ → Type 0
+AllSound format linedefs sidedefs vertexes sectors = (k : ℕ) → k < count_linedefs format linedefs → line_fault format linedefs sidedefs vertexes sectors k ≡ None
 
 -- the ends of the lines, line by line
 abbrev pub placed_ends : List (Option PlacedLine) → List Pt

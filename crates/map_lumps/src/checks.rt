@@ -1,14 +1,14 @@
 //! The checks of the four lumps, in their order, up to the number of points.
 
 ghost use Rattle.std.specs.Prelude.{◌≡◌, ◌/◌, ◌<◌, ◌≤◌, false, None, Some, IfSome, IfNone, length};
-ghost use Rattle.sight_names.specs.Lumps.{is_bad_side as is_bad_side_lem, is_bad_sector as is_bad_sector_lem, line_fault as line_fault_lem, lines_fault, lump_fault, numbers_below};
+ghost use Rattle.sight_names.specs.Lumps.{is_bad_side as is_bad_side_lem, is_bad_sector as is_bad_sector_lem, count_linedefs as count_linedefs_lem, line_fault as line_fault_lem, lines_fault, lump_fault, numbers_below};
 ghost use Rattle.map_lumps.specs.Records.{AllSound};
 ghost use Rattle.map_lumps.specs.Answers.{Passes, cut_lump as cut_lump_lem};
 
 use crate::records::{
-    LINEDEF_LEN, NO_SIDE, SECTOR_LEN, SIDEDEF_LEN, VERTEX_LEN, number, read_linedef,
+    NO_SIDE, SECTOR_LEN, SIDEDEF_LEN, VERTEX_LEN, count_linedefs, linedef_len, number, read_linedef,
 };
-use sight_names::{Lump, LumpFault};
+use sight_names::{Lump, LumpFault, MapFormat};
 
 /// The most sectors and lines that a map may have.
 const MAX_SECTORS: usize = 4096;
@@ -18,15 +18,16 @@ const MAX_LINES: usize = 16384;
 /// The first of the checks before that of the number of points that fails.
 #[tactic(auto, unfolding(sight_names::specs::Lumps::lump_fault))]
 pub fn early_fault(
+    format: MapFormat,
     linedefs: &[u8],
     sidedefs: &[u8],
     vertexes: &[u8],
     sectors: &[u8],
 ) -> Option<LumpFault>
-    ensures fault { IfSome result (λ fault. lump_fault linedefs.now sidedefs.now vertexes.now sectors.now ≡ Some fault) }
-    ensures passed { IfNone result (Passes linedefs.now sidedefs.now vertexes.now sectors.now) }
+    ensures fault { IfSome result (λ fault. lump_fault format linedefs.now sidedefs.now vertexes.now sectors.now ≡ Some fault) }
+    ensures passed { IfNone result (Passes format linedefs.now sidedefs.now vertexes.now sectors.now) }
 {
-    if let Some(lump) = cut_lump(linedefs, sidedefs, vertexes, sectors) {
+    if let Some(lump) = cut_lump(format, linedefs, sidedefs, vertexes, sectors) {
         return Some(LumpFault::BadSize { lump });
     }
     let count = sectors.len() / SECTOR_LEN;
@@ -35,20 +36,26 @@ pub fn early_fault(
             count: count as u64,
         });
     }
-    let count = linedefs.len() / LINEDEF_LEN;
+    let count = count_linedefs(format, linedefs);
     if count > MAX_LINES {
         return Some(LumpFault::TooManyLines {
             count: count as u64,
         });
     }
-    first_line_fault(linedefs, sidedefs, vertexes, sectors)
+    first_line_fault(format, linedefs, sidedefs, vertexes, sectors)
 }
 
 /// The first lump whose size is no multiple of its record.
-fn cut_lump(linedefs: &[u8], sidedefs: &[u8], vertexes: &[u8], sectors: &[u8]) -> Option<Lump>
-    ensures { result ≡ cut_lump_lem linedefs.now sidedefs.now vertexes.now sectors.now }
+fn cut_lump(
+    format: MapFormat,
+    linedefs: &[u8],
+    sidedefs: &[u8],
+    vertexes: &[u8],
+    sectors: &[u8],
+) -> Option<Lump>
+    ensures { result ≡ cut_lump_lem format linedefs.now sidedefs.now vertexes.now sectors.now }
 {
-    if linedefs.len() % LINEDEF_LEN != 0 {
+    if linedefs.len() % linedef_len(format) != 0 {
         return Some(Lump::Linedefs);
     }
     if sidedefs.len() % SIDEDEF_LEN != 0 {
@@ -65,17 +72,18 @@ fn cut_lump(linedefs: &[u8], sidedefs: &[u8], vertexes: &[u8], sectors: &[u8]) -
 
 /// The first check of a line that fails, the lines in order.
 fn first_line_fault(
+    format: MapFormat,
     linedefs: &[u8],
     sidedefs: &[u8],
     vertexes: &[u8],
     sectors: &[u8],
 ) -> Option<LumpFault>
-    requires { length linedefs.now / 14 ≤ 16384 }
-    ensures first { result ≡ lines_fault (line_fault_lem linedefs.now sidedefs.now vertexes.now sectors.now) (numbers_below (length linedefs.now / 14)) None }
-    ensures sound { IfNone result (AllSound linedefs.now sidedefs.now vertexes.now sectors.now) }
+    requires { count_linedefs_lem format linedefs.now ≤ 16384 }
+    ensures first { result ≡ lines_fault (line_fault_lem format linedefs.now sidedefs.now vertexes.now sectors.now) (numbers_below (count_linedefs_lem format linedefs.now)) None }
+    ensures sound { IfNone result (AllSound format linedefs.now sidedefs.now vertexes.now sectors.now) }
 {
-    for k in 0..linedefs.len() / LINEDEF_LEN {
-        let fault = line_fault(linedefs, sidedefs, vertexes, sectors, k as u16);
+    for k in 0..count_linedefs(format, linedefs) {
+        let fault = line_fault(format, linedefs, sidedefs, vertexes, sectors, k as u16);
         if fault.is_some() {
             return fault;
         }
@@ -85,16 +93,17 @@ fn first_line_fault(
 
 /// The first check of a line that fails.
 fn line_fault(
+    format: MapFormat,
     linedefs: &[u8],
     sidedefs: &[u8],
     vertexes: &[u8],
     sectors: &[u8],
     k: u16,
 ) -> Option<LumpFault>
-    requires { k < length linedefs.now / 14 }
-    ensures { result ≡ line_fault_lem linedefs.now sidedefs.now vertexes.now sectors.now k }
+    requires { k < count_linedefs_lem format linedefs.now }
+    ensures { result ≡ line_fault_lem format linedefs.now sidedefs.now vertexes.now sectors.now k }
 {
-    let record = read_linedef(linedefs, k);
+    let record = read_linedef(format, linedefs, k);
     let vertices = vertexes.len() / VERTEX_LEN;
     if vertices <= record.first as usize || vertices <= record.second as usize {
         return Some(LumpFault::BadVertex { line: k });

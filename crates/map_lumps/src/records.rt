@@ -2,14 +2,16 @@
 
 ghost use Rattle.std.specs.Prelude.{◌≡◌, ◌≢◌, ◌+◌, ◌*◌, ◌/◌, ◌<◌, ◌≤◌, ◌==◌, ◌||◌, not, is_none, None, Some, IfOk, length, map, option_map};
 ghost use Rattle.std.specs.Int.{bit_at};
-ghost use Rattle.sight_names.specs.Lumps.{u16_at, i16_at, vertex as vertex_lem, side_sector as side_sector_lem, linedef, line_fault, numbers_below};
-ghost use Rattle.map_lumps.specs.Records.{linedef_at, as_map_line, AllSound};
+ghost use Rattle.sight_names.specs.Lumps.{u16_at, i16_at, vertex as vertex_lem, side_sector as side_sector_lem, linedef, linedef_len as linedef_len_lem, count_linedefs as count_linedefs_lem, line_fault, numbers_below};
+ghost use Rattle.map_lumps.specs.Records.{linedef_at, linedef_from as linedef_from_lem, as_map_line, AllSound};
 
-use sight_names::Pt;
+use sight_names::{MapFormat, Pt};
 use std::alloc::{AllocError, Global};
 
-/// Bytes of a record of each lump.
-pub const LINEDEF_LEN: usize = 14;
+/// Bytes of a record of each lump, and of LINEDEFS in each format.
+const DOOM_LINEDEF_LEN: usize = 14;
+
+const HEXEN_LINEDEF_LEN: usize = 16;
 
 pub const SIDEDEF_LEN: usize = 30;
 
@@ -23,7 +25,7 @@ pub const NO_SIDE: u16 = 0xFFFF;
 /// The flag of a line that one can look through.
 const TWO_SIDED: u16 = 4;
 
-/// The numbers of a LINEDEFS record, but for its special and its tag.
+/// The numbers of a LINEDEFS record, but for what the line does in the game.
 #[derive(Clone, Copy)]
 pub struct Linedef {
     pub first: u16,
@@ -83,18 +85,47 @@ fn side_sector(sidedefs: &[u8], side: u16) -> Option<u16>
     Some(number(sidedefs, SIDEDEF_LEN * side as usize + 28))
 }
 
-/// The numbers of a LINEDEFS record.
-pub fn read_linedef(linedefs: &[u8], k: u16) -> Linedef
-    requires { k < length linedefs.now / 14 }
-    ensures { result ≡ linedef_at linedefs.now k }
+/// How many bytes a LINEDEFS record has.
+pub fn linedef_len(format: MapFormat) -> usize
+    ensures len { result ≡ linedef_len_lem format }
+    ensures some { 1 ≤ result }
 {
-    let at = LINEDEF_LEN * k as usize;
+    match format {
+        MapFormat::Doom => DOOM_LINEDEF_LEN,
+        MapFormat::Hexen => HEXEN_LINEDEF_LEN,
+    }
+}
+
+/// How many LINEDEFS records there are.
+pub fn count_linedefs(format: MapFormat, linedefs: &[u8]) -> usize
+    ensures { result ≡ count_linedefs_lem format linedefs.now }
+{
+    linedefs.len() / linedef_len(format)
+}
+
+/// The numbers of the LINEDEFS record at this byte, whose right side stands so many bytes behind, with the left one behind it.
+fn linedef_from(linedefs: &[u8], at: usize, right: usize) -> Linedef
+    requires within { at + right + 4 ≤ length linedefs.now }
+    requires behind { 6 ≤ right }
+    ensures { result ≡ linedef_from_lem linedefs.now at right }
+{
     Linedef {
         first: number(linedefs, at),
         second: number(linedefs, at + 2),
         flags: number(linedefs, at + 4),
-        right: number(linedefs, at + 10),
-        left: number(linedefs, at + 12),
+        right: number(linedefs, at + right),
+        left: number(linedefs, at + right + 2),
+    }
+}
+
+/// The numbers of a LINEDEFS record.
+pub fn read_linedef(format: MapFormat, linedefs: &[u8], k: u16) -> Linedef
+    requires { k < count_linedefs_lem format linedefs.now }
+    ensures { result ≡ linedef_at format linedefs.now k }
+{
+    match format {
+        MapFormat::Doom => linedef_from(linedefs, DOOM_LINEDEF_LEN * k as usize, 10),
+        MapFormat::Hexen => linedef_from(linedefs, HEXEN_LINEDEF_LEN * k as usize, 12),
     }
 }
 
@@ -114,17 +145,18 @@ fn is_two_sided(flags: u16) -> bool
 
 /// The line of a sound record, None where it has zero length.
 fn placed_line(
+    format: MapFormat,
     linedefs: &[u8],
     sidedefs: &[u8],
     vertexes: &[u8],
     sectors: &[u8],
     k: u16,
 ) -> Option<PlacedLine>
-    requires within { k < length linedefs.now / 14 }
-    requires sound { line_fault linedefs.now sidedefs.now vertexes.now sectors.now k ≡ None }
-    ensures { option_map as_map_line result ≡ linedef linedefs.now sidedefs.now vertexes.now k }
+    requires within { k < count_linedefs_lem format linedefs.now }
+    requires sound { line_fault format linedefs.now sidedefs.now vertexes.now sectors.now k ≡ None }
+    ensures { option_map as_map_line result ≡ linedef format linedefs.now sidedefs.now vertexes.now k }
 {
-    let record = read_linedef(linedefs, k);
+    let record = read_linedef(format, linedefs, k);
     let first = vertex(vertexes, record.first);
     let second = vertex(vertexes, record.second);
     if first == second {
@@ -145,18 +177,19 @@ fn placed_line(
 /// The lines of all records, in order.
 pub fn placed_lines(
     alloc: Global,
+    format: MapFormat,
     linedefs: &[u8],
     sidedefs: &[u8],
     vertexes: &[u8],
     sectors: &[u8],
 ) -> Result<Vec<Option<PlacedLine>>, AllocError>
-    requires few { length linedefs.now / 14 ≤ 16384 }
-    requires sound { AllSound linedefs.now sidedefs.now vertexes.now sectors.now }
-    ensures { IfOk result (λ lines. map (option_map as_map_line) lines.items ≡ map (linedef linedefs.now sidedefs.now vertexes.now) (numbers_below (length linedefs.now / 14))) }
+    requires few { count_linedefs_lem format linedefs.now ≤ 16384 }
+    requires sound { AllSound format linedefs.now sidedefs.now vertexes.now sectors.now }
+    ensures { IfOk result (λ lines. map (option_map as_map_line) lines.items ≡ map (linedef format linedefs.now sidedefs.now vertexes.now) (numbers_below (count_linedefs_lem format linedefs.now))) }
 {
     let mut lines = Vec::new(alloc);
-    for k in 0..linedefs.len() / LINEDEF_LEN {
-        lines.push(placed_line(linedefs, sidedefs, vertexes, sectors, k as u16))?;
+    for k in 0..count_linedefs(format, linedefs) {
+        lines.push(placed_line(format, linedefs, sidedefs, vertexes, sectors, k as u16))?;
     }
     Ok(lines)
 }

@@ -129,9 +129,9 @@ fn is_behavior_next(rest: &[Entry]) -> bool
 }
 
 #[tactic(auto, unfolding(crate::specs::Map::spot_in))]
-fn spot(marker: usize, run: &[Entry]) -> Result<MapSpot, MapFault>
+fn spot(marker: usize, hexen: bool, run: &[Entry]) -> Result<MapSpot, MapFault>
     requires { marker + 1 + length run.now ≤ 65536 }
-    ensures spot { result ≡ spot_in marker (entry_names run.now) }
+    ensures spot { result ≡ spot_in marker hexen (entry_names run.now) }
     ensures linedefs { IfOk result (λ spot. spot.linedefs ≤ marker + length run.now) }
     ensures sidedefs { IfOk result (λ spot. spot.sidedefs ≤ marker + length run.now) }
     ensures vertexes { IfOk result (λ spot. spot.vertexes ≤ marker + length run.now) }
@@ -154,6 +154,7 @@ fn spot(marker: usize, run: &[Entry]) -> Result<MapSpot, MapFault>
         vertexes: (first + vertexes) as u32,
         sectors: (first + sectors) as u32,
         reject,
+        hexen,
     })
 }
 
@@ -167,10 +168,7 @@ fn spot_after(marker: usize, after: &[Entry]) -> Result<MapSpot, MapFault>
     ensures reject { IfOk result (λ spot. IfSome spot.reject (λ k. k ≤ marker + length after.now)) }
 {
     let (run, rest) = after.split_at(run_at_front(after));
-    if is_behavior_next(rest) {
-        return Err(MapFault::Hexen);
-    }
-    spot(marker, run)
+    spot(marker, is_behavior_next(rest), run)
 }
 
 /// Where the lumps of the last map of that name stand, or the first check that fails.

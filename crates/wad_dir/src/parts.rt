@@ -27,7 +27,8 @@ pub struct Wad {
     pub ghost few: { length entries ≤ 65536 },
 }
 
-/// Where the lumps of a map stand in the directory.
+/// Where the lumps of a map stand in the directory, and whether the map is of Hexen's format: whether the entry right
+/// behind its lumps is BEHAVIOR.
 #[derive(Clone, Copy, Debug, PartialEq, Eq)]
 pub struct MapSpot {
     pub marker: u32,
@@ -36,4 +37,5 @@ pub struct MapSpot {
     pub vertexes: u32,
     pub sectors: u32,
     pub reject: Option<u32>,
+    pub hexen: bool,
 }

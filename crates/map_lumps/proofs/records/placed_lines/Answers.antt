@@ -5,4 +5,4 @@ use Rattle.map_lumps.proofs.Reading.{mapped_more}
 use Rattle.map_lumps.proofs.records.placed_lines.Goals as goal
 
 pub loop-k-preserved : goal.loop-k-preserved
-loop-k-preserved c = rw c.in_ok-push.ensures.items (mapped_more (option_map as_map_line) (linedef c.args.linedefs.now c.args.sidedefs.now c.args.vertexes.now) c.loop-k.lines.items c.placed_line.result c.loop-k.k c.loop-k.invariant c.placed_line.ensures)
+loop-k-preserved c = rw c.in_ok-push.ensures.items (mapped_more (option_map as_map_line) (linedef c.args.format c.args.linedefs.now c.args.sidedefs.now c.args.vertexes.now) c.loop-k.lines.items c.placed_line.result c.loop-k.k c.loop-k.invariant c.placed_line.ensures)
