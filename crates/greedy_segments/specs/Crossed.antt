@@ -2,7 +2,7 @@
 use Rattle.std.specs.Prelude.{◌≡◌, ℕ, ◌<◌, ◌≤◌, ◌⊎◌, List}
 use Rattle.sight_names.specs.Map.{Map}
 use Rattle.sight_names.specs.Points.{Edge}
-use Rattle.sight_names.specs.Sound.{EdgesMeetAtEnds}
+use Rattle.sight_names.specs.Greedy.{EdgesMeetAtEnds}
 use Rattle.incident_segments.specs.declared.segments.Segment.{Segment}
 use Rattle.incident_segments.specs.Neighbours.{IsNeighbour}
 

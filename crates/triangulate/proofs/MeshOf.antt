@@ -16,7 +16,7 @@ use Rattle.plane_base.proofs.Near.{det-flip}
 use Rattle.sight_laws.proofs.Bridge.{turn_at_is}
 use Rattle.plane_base.proofs.Search.{In}
 use Rattle.mesh_base.proofs.Net.{Pair, pair, Net, Neighbours, closing, wedge_empty}
-use Rattle.mesh_base.proofs.MeshRules.{no_neighbour_inside, same_ray}
+use Rattle.mesh_base.proofs.MeshRules.{no_spoke_inside, same_ray}
 use Rattle.mesh_base.proofs.GoodMesh.{PointFacts, pv}
 use Rattle.incident_segments.specs.declared.segments.Segment.{Segment}
 use Rattle.incident_segments.specs.Kept.{edge_of}
@@ -127,7 +127,7 @@ module _ (m : Map) (f : PointFacts m) (ends : LinesMeetAtEnds m) (segs : List Se
         let c2 = det-flip (pv m a) (pv m c) (pv m x) in
         elim (le_or_lt (pos 0) (det (pv m a) (pv m c) (pv m x))) as (λ _. pos 0 ≤ℤ turn_at (place m a) (place m c) (point_of (place m x))) [
           | inl le ↦ omega (arith, ints)
-          | inr lt ↦ absurd (no_neighbour_inside (pv m) (numbers (length (points_of m))) pairs net a b c x t (kept_in a x s) (left_of a b x h) (omega (arith, ints)))
+          | inr lt ↦ absurd (no_spoke_inside (pv m) (numbers (length (points_of m))) pairs net a b c x t (kept_in a x s) (left_of a b x h) (omega (arith, ints)))
         ];
   }
 
