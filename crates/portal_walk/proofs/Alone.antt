@@ -15,7 +15,7 @@ use Rattle.sight_names.specs.Sound.{LinesMeetAtEnds, MeetAtEnds}
 use Rattle.sight_names.proofs.Laws.{start_on, on_segment_sym}
 use Rattle.sight_names.proofs.PlanMap.{line_of_plan, points_differ}
 use Rattle.mesh_shape.proofs.RuleLemmas.{Joins, edge_joined}
-use Rattle.portal_walk.specs.Sides.{IsEnteredAt}
+use Rattle.half_edges.specs.Kinds.{IsEnteredAt}
 
 -- both points are of the segment
 ends_on : (f : ℕ → Pt) (l : Line) (u v : ℕ) → Joins l u v → OnSegment (point_of (f l.a)) (point_of (f l.b)) (point_of (f u)) × OnSegment (point_of (f l.a)) (point_of (f l.b)) (point_of (f v))

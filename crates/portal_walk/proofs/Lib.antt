@@ -1,8 +1,6 @@
 pub mod Weights
 pub mod Lists
 pub mod Ends
-pub mod Chains
-pub mod Tried
 pub mod Upcoming
 pub mod Steps
 pub mod EdgeEnds
@@ -10,7 +8,7 @@ pub mod SideLines
 pub mod RootOrder
 pub mod Listed
 pub mod Alone
+pub mod Portals
 pub mod Sequences
-pub mod Lookups
+pub mod Paths
 pub mod Entering
-pub mod Exits

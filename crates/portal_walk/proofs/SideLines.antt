@@ -1,5 +1,5 @@
 -- Sides of a plan's lines, as edges of the map, as roots and as arrivals.
-use Rattle.std.proofs.Common.{◌≡◌, ℕ, ◌<◌, List, length, slice_get, Option, Some, None, Bool, true, false, not, IsTrue, ◌&&◌, refl, sym, ap, ◌∙◌, subst, option_and_then, option_map, true≢false, eqb-true, IfSome, All}
+use Rattle.std.proofs.Common.{◌≡◌, ℕ, ◌<◌, List, slice_get, Option, Some, None, Bool, true, false, not, IsTrue, ◌&&◌, refl, sym, ap, ◌∙◌, subst, option_and_then, option_map, true≢false, eqb-true, IfSome, All}
 use Rattle.std.specs.Option.{option_eq}
 use lib.Dec.{eqb}
 use mathlib.Core.Bool.{beq}
@@ -9,13 +9,14 @@ use Rattle.sight_names.specs.declared.names.Triangle.{Triangle}
 use Rattle.sight_names.specs.declared.plan.Line.{Line}
 use Rattle.sight_names.specs.Plan.{PlanParts, IsPlan}
 use Rattle.sight_names.specs.Map.{Map, MapLine, map_of, looked_up, line_at, named, sector_on, IsMapLine}
-use Rattle.sight_names.specs.Points.{Edge, line_edge, reverse_of}
-use Rattle.sight_names.specs.Mesh.{IsGoodMesh, triangle_at, label_of, side_edge, IsLineEdge}
-use Rattle.sight_names.specs.Sequence.{Portal, is_root, names_it, IsSolidLine}
+use Rattle.sight_names.specs.Points.{Edge, line_edge}
+use Rattle.sight_names.specs.Mesh.{IsGoodMesh, triangle_at, label_of}
+use Rattle.sight_names.specs.Sequence.{Portal, entry_edge, is_root, names_it}
 use Rattle.sight_names.proofs.PlanMap.{plan_is_map}
 use Rattle.sight_names.proofs.PlanNumbers.{line_edge_of_plan}
 use Rattle.mesh_shape.proofs.RuleLemmas.{plan_line_at}
-use Rattle.portal_walk.specs.Sides.{IsRootOf, IsPassableAt, IsEnteredAt, IsArrival, ArrivesAt, edge_at}
+use Rattle.half_edges.specs.Kinds.{IsEnteredAt, IsPassableAt}
+use Rattle.portal_walk.specs.Sides.{IsRootOf, IsArrival, ArrivesAt}
 
 -- the line of a record
 pub some_some : (o : Option (Option Line)) (l : Line) → option_and_then (λ k. k) o ≡ Some l → o ≡ Some (Some l)
@@ -76,30 +77,6 @@ rooted_left p is k a l e solid false true r f differ g = root_by_left p is k a l
 rooted_left p is k a l e solid false false r f differ g = absurd (true≢false differ)
 rooted_left p is k a l e solid true left r f differ g = absurd (true≢false g)
 
--- ---- edges
-
-line_side : (p : PlanParts) → IsPlan p → (k : ℕ) (l : Line) (left : Bool) → slice_get p.lines k ≡ Some (Some l) → side_edge (map_of p) (looked_up p.points l) left ≡ edge_at l left
-line_side p is k l true e = line_edge_of_plan p is k l e
-line_side p is k l false e = ap reverse_of (line_edge_of_plan p is k l e)
-
-pub passable_at : (p : PlanParts) → IsPlan p → (k : ℕ) (l : Line) (d : Edge) (s : Side) → slice_get p.lines k ≡ Some (Some l) → l.solid ≡ false → s.line ≡ k → edge_at l s.left ≡ d → IsPassableAt p d s
-passable_at p is k l d s e solid same edge = record {
-  within = subst (λ (i : ℕ). i < length p.lines) (sym same) (slice_get_within p.lines k (Some l) e);
-  line = looked_up p.points l;
-  is_line = subst (λ (i : ℕ). line_at (map_of p) i ≡ Some (looked_up p.points l)) (sym same) (plan_line_at p k l e);
-  passable = solid;
-  edge = line_side p is k l s.left e ∙ edge;
-}
-
-pub solid_at : (p : PlanParts) → IsPlan p → (k : ℕ) (l : Line) (d : Edge) (s : Side) → slice_get p.lines k ≡ Some (Some l) → l.solid ≡ true → edge_at l s.left ≡ d → IsSolidLine (map_of p) (record { left = d.from; right = d.to })
-solid_at p is k l d s e solid edge = (k, looked_up p.points l, s.left, plan_line_at p k l e, solid, line_side p is k l s.left e ∙ edge)
-
-pub entered_by : (p : PlanParts) (d : Edge) (o : Option Side) (s : Side) → o ≡ Some s → IsPassableAt p d s → IsEnteredAt p (record { left = d.from; right = d.to }) o
-entered_by p d o s e h = subst (IsEnteredAt p (record { left = d.from; right = d.to })) (sym e) h
-
-pub entered_freely : (p : PlanParts) (d : Edge) (o : Option Side) → o ≡ None → ¬ IsLineEdge (map_of p) d → IsEnteredAt p (record { left = d.from; right = d.to }) o
-entered_freely p d o e h = subst (IsEnteredAt p (record { left = d.from; right = d.to })) (sym e) h
-
 -- ---- arrivals
 
 has_name : (n : ℕ) (l : MapLine) (left : Bool) → IsMapLine n l → l.solid ≡ false → (a : ℕ) × (sector_on l left ≡ Some a) × (a < n)
@@ -114,7 +91,7 @@ has_name n l false h solid = one l.right h.right h.solid_right
     one None f g = absurd (true≢false (sym (g refl) ∙ solid))
     one (Some a) f g = (a, refl, f)
 
-pub arrival : (p : PlanParts) → IsPlan p → (ts : List Triangle) (ls : List (Option ℕ)) → IsGoodMesh (map_of p) ts ls → (d : Edge) (k : ℕ) (s : Side) → IsPassableAt p d s → triangle_at ts d ≡ Some k → IsArrival p ls k s
+arrival : (p : PlanParts) → IsPlan p → (ts : List Triangle) (ls : List (Option ℕ)) → IsGoodMesh (map_of p) ts ls → (d : Edge) (k : ℕ) (s : Side) → IsPassableAt p d s → triangle_at ts d ≡ Some k → IsArrival p ls k s
 arrival p is ts ls good d k s h at =
     let n = has_name p.sectors h.line s.left (plan_is_map p is s.line h.line h.is_line) h.passable in
     let names : named (map_of p) s ≡ Some n.0 = ap (option_and_then (λ (l : MapLine). sector_on l s.left)) h.is_line ∙ n.1 in
@@ -131,11 +108,9 @@ arrival p is ts ls good d k s h at =
       exists = n.2;
     }
 
-pub arrives : (p : PlanParts) (ls : List (Option ℕ)) (k : ℕ) (o : Option Side) (s : Side) → o ≡ Some s → IsArrival p ls k s → ArrivesAt p ls k o
-arrives p ls k o s e h = subst (ArrivesAt p ls k) (sym e) h
-
-pub arrives_nowhere : (p : PlanParts) (ls : List (Option ℕ)) (k : ℕ) (o : Option Side) → o ≡ None → ArrivesAt p ls k o
-arrives_nowhere p ls k o e = subst (ArrivesAt p ls k) (sym e) tt
+pub arrives : (p : PlanParts) → IsPlan p → (ts : List Triangle) (ls : List (Option ℕ)) → IsGoodMesh (map_of p) ts ls → (d : Portal) (k : ℕ) (o : Option Side) → IsEnteredAt p d o → triangle_at ts (entry_edge d) ≡ Some k → ArrivesAt p ls k o
+arrives p is ts ls good d k None h at = tt
+arrives p is ts ls good d k (Some s) h at = arrival p is ts ls good (entry_edge d) k s h at
 
 -- what holds of all holds of the one that stands there
 pub all_at : {X : Type 0} (P : X → Type 0) (xs : List X) (k : ℕ) (x : X) → All P xs → slice_get xs k ≡ Some x → P x

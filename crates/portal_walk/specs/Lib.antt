@@ -1,7 +1,6 @@
-pub mod Chains
-pub mod Due
 pub mod Frames
 pub mod Nodes
-pub mod Passages
+pub mod Pending
+pub mod Scene
 pub mod Sides
 pub mod Walk

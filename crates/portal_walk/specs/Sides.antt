@@ -1,14 +1,10 @@
 -- The sides by which a walk leaves its source and comes into triangles.
-use Rattle.std.specs.Prelude.{◌≡◌, ℕ, ◌<◌, List, Option, Some, None, Bool, true, false, IsTrue, filter, length}
+use Rattle.std.specs.Prelude.{◌≡◌, ℕ, ◌<◌, List, Option, Some, None, false, IsTrue, filter, length}
 use Rattle.sight_names.specs.declared.names.Side.{Side}
-use Rattle.sight_names.specs.declared.plan.Line.{Line}
 use Rattle.sight_names.specs.Map.{Map, MapLine, line_at, map_of, Names}
-use Rattle.sight_names.specs.Mesh.{label_of, side_edge, IsLineEdge}
+use Rattle.sight_names.specs.Mesh.{label_of}
 use Rattle.sight_names.specs.Plan.{PlanParts}
-use Rattle.sight_names.specs.Points.{Edge}
-use Rattle.sight_names.specs.Sequence.{Portal, is_root, both_sides, root_portal, entry_edge, IsSolidLine}
-use Rattle.portal_walk.specs.declared.edges.Edge.{Edge as EdgeKind}
-use Rattle.portal_walk.specs.declared.edges.Edge.TheVariants.{Free, Passable, Solid}
+use Rattle.sight_names.specs.Sequence.{is_root, both_sides, root_portal}
 use Rattle.portal_walk.specs.declared.roots.Root.{Root}
 
 -- a side that names the source, of a passable line whose other side doesn't
@@ -26,25 +22,6 @@ pub record IsRootOf (p : PlanParts) (source : ℕ) (r : Root) : Type 0 where
 abbrev pub roots_at : Map → ℕ → ℕ → List Side
 roots_at m source k = filter (is_root m source) (both_sides (k, line_at m k))
 
--- the directed edge of the triangle at a side of a line, by point numbers
-abbrev pub edge_at : Line → Bool → Edge
-edge_at l true = record { from = l.a; to = l.b }
-edge_at l false = record { from = l.b; to = l.a }
-
--- the side of a passable line at which the triangle with this directed edge lies
-pub record IsPassableAt (p : PlanParts) (e : Edge) (s : Side) : Type 0 where
-  pub within : s.line < length p.lines
-  pub line : MapLine
-  pub is_line : line_at (map_of p) s.line ≡ Some line
-  pub passable : line.solid ≡ false
-  pub edge : side_edge (map_of p) line s.left ≡ e
-
--- no line is the edge, either way round; or a solid one is; or a passable one
-abbrev pub IsEdgeKind : PlanParts → Edge → EdgeKind → Type 0
-IsEdgeKind p e Free = ¬ IsLineEdge (map_of p) e
-IsEdgeKind p e Solid = IsSolidLine (map_of p) (record { left = e.from; right = e.to })
-IsEdgeKind p e (Passable s) = IsPassableAt p e s
-
 -- a side of a passable line, which names a sector of the plan, the label of this triangle
 pub record IsArrival (p : PlanParts) (labels : List (Option ℕ)) (k : ℕ) (s : Side) : Type 0 where
   pub within : s.line < length p.lines
@@ -55,11 +32,6 @@ pub record IsArrival (p : PlanParts) (labels : List (Option ℕ)) (k : ℕ) (s :
   pub names : Names (map_of p) s sector
   pub label : label_of labels k ≡ Some sector
   pub exists : sector < p.sectors
-
--- no line is the portal; or a passable one is, and one comes in at this side
-abbrev pub IsEnteredAt : PlanParts → Portal → Option Side → Type 0
-IsEnteredAt p d None = ¬ IsLineEdge (map_of p) (entry_edge d)
-IsEnteredAt p d (Some s) = IsPassableAt p (entry_edge d) s
 
 -- where one comes in by a line, the side is its arrival
 abbrev pub ArrivesAt : PlanParts → List (Option ℕ) → ℕ → Option Side → Type 0

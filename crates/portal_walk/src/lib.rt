@@ -2,10 +2,9 @@
 //! left way first.
 #![tactic(auto)]
 
-mod edges;
-mod passages;
 mod path;
 mod roots;
+mod scene;
 mod step;
 mod walk;
 

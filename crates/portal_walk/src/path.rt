@@ -16,10 +16,10 @@ pub enum Ways {
     Done,
 }
 
-/// A portal that was entered, by the number of its passage.
+/// A portal that was entered, by the number of its half-edge.
 #[derive(Clone, Copy, Debug)]
 pub struct Frame {
-    pub passage: u16,
+    pub edge: u16,
     pub ways: Ways,
 }
 

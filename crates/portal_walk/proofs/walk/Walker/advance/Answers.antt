@@ -2,7 +2,7 @@ use Rattle.std.proofs.Common.{sym, ap, ◌∙◌, refl, subst, arith, None, Ok}
 use Rattle.std.proofs.lemmas.Option.{slice_get_within}
 use Rattle.portal_walk.specs.Frames.{PathParts, ways_left}
 use Rattle.portal_walk.specs.Walk.{WalkParts, Tries}
-use Rattle.portal_walk.proofs.Lookups.{walk_over, walk_left}
+use Rattle.portal_walk.proofs.Paths.{walk_over, walk_left}
 use Rattle.portal_walk.proofs.Weights.{no_top}
 use Rattle.portal_walk.proofs.Steps.{left_done}
 use Rattle.portal_walk.proofs.walk.Walker.advance.Goals as goal
@@ -14,11 +14,11 @@ pub invariant_of-self : goal.invariant_of-self
 invariant_of-self c =
     let s = c.self.inside in
     let some = slice_get_within s.path.frames _ c.in-Some.frame (sym c.in-Some.ensures) in
-    walk_left s.passages s.roots.items s.root s.path s.nodes c.leave.new.self c.self.invariant c.leave.ensures (omega arith)
+    walk_left s.scene s.roots.items s.root s.path s.nodes c.leave.new.self c.self.invariant c.leave.ensures (omega arith)
 
 pub returns-in-Done-clause-tries : goal.returns-in-Done-clause-tries
 returns-in-Done-clause-tries c =
     let s = c.self.inside in
-    let new : WalkParts = walk_over s.passages s.roots.items s.root c.leave.new.self.frames c.leave.new.self.ends s.nodes in
-    let old : WalkParts = walk_over s.passages s.roots.items s.root s.path.frames s.path.ends s.nodes in
+    let new : WalkParts = walk_over s.scene s.roots.items s.root c.leave.new.self.frames c.leave.new.self.ends s.nodes in
+    let old : WalkParts = walk_over s.scene s.roots.items s.root s.path.frames s.path.ends s.nodes in
     subst (λ (w : WalkParts). Tries w new (Ok None)) c.self.view_is (left_done old new c.in-Some.frame (record { plan = refl; mesh = refl; labels = refl; source = refl }) (sym c.in-Some.ensures) (ap ways_left c.in-Done.is) (ap (λ (p : PathParts). p.frames) c.leave.ensures) refl refl refl)

@@ -1,41 +1,43 @@
-use Rattle.std.proofs.Common.{◌≡◌, ◌-◌, ◌<◌, List, length, slice_get, IfSome, ap, sym, ◌∙◌, subst}
+use Rattle.std.proofs.Common.{◌≡◌, ◌-◌, ◌<◌, List, [], ◌∷◌, ◌++◌, Some, length, slice_get, IfSome, ap, sym, ◌∙◌, subst}
 use Rattle.portal_walk.specs.declared.path.Frame.{Frame}
-use Rattle.portal_walk.specs.Due.{way_of, way_taken}
-use Rattle.portal_walk.proofs.Steps.{enters_after}
-use Rattle.portal_walk.specs.Walk.{WalkParts}
-use Rattle.portal_walk.proofs.Entering.{way_comes, way_closed}
-use Rattle.portal_walk.proofs.Lookups.{walk_over, more_known}
+use Rattle.portal_walk.specs.Pending.{way_of, way_taken}
+use Rattle.portal_walk.specs.Scene.{IsNumber}
+use Rattle.portal_walk.specs.Walk.{WalkParts, ComesBy, IsNoSequence, ends_of, tried_by}
+use Rattle.portal_walk.proofs.Entering.{top_number, way_number, way_comes, way_closed}
+use Rattle.portal_walk.proofs.Lists.{some_of}
 use Rattle.portal_walk.proofs.walk.Walker.enter_way.Goals as goal
 
-pub invariant_of-self : goal.invariant_of-self
-invariant_of-self c = more_known c.self.inside.passages c.way.new.self _ _ _ _ _ c.in_err-passage.ensures.keeps c.self.invariant
-
-pub invariant_of-self-2 : goal.invariant_of-self-2
-invariant_of-self-2 c = more_known c.self.inside.passages c.way.new.self _ _ _ _ _ c.in_ok-passage.ensures.keeps c.self.invariant
-
-pub enter-requires-clause-comes : goal.enter-requires-clause-comes
-enter-requires-clause-comes c = λ number x side e at r is.
+pub way-edge-requires : goal.way-edge-requires
+way-edge-requires c =
     let s = c.self.inside in
     let frames = ap (λ (w : WalkParts). w.frames) c.self.view_is in
-    let top = subst (λ (fs : List Frame). IfSome (slice_get fs (length fs - 1)) (λ (f : Frame). (f.passage ≡ c.args.from) × (way_taken f.ways ≡ way_of c.args.turn))) (sym frames) c.requires.from in
+    let top = subst (λ (fs : List Frame). IfSome (slice_get fs (length fs - 1)) (λ (f : Frame). (f.edge ≡ c.args.from) × (way_taken f.ways ≡ way_of c.args.way))) (sym frames) c.requires.from in
     let some = subst (λ (fs : List Frame). 0 < length fs) (sym frames) c.requires.there in
-    way_comes s.passages c.way.new.self s.roots.items s.root s.path.frames s.path.ends s.nodes c.in_ok-passage.ensures.keeps c.self.invariant c.args.from c.args.turn c.in_ok-passage.passage top some c.in_ok-passage.ensures.found side number x e at (sym (ap (λ (w : WalkParts). w.root) c.enter.view_is) ∙ r) is
+    top_number s.scene s.roots.items s.root s.path.frames s.path.ends s.nodes c.self.invariant c.args.from c.args.way top some
+
+pub enter-requires-clause-number : goal.enter-requires-clause-number
+enter-requires-clause-number c =
+    let s = c.self.inside in
+    let frames = ap (λ (w : WalkParts). w.frames) c.self.view_is in
+    let top = subst (λ (fs : List Frame). IfSome (slice_get fs (length fs - 1)) (λ (f : Frame). (f.edge ≡ c.args.from) × (way_taken f.ways ≡ way_of c.args.way))) (sym frames) c.requires.from in
+    let some = subst (λ (fs : List Frame). 0 < length fs) (sym frames) c.requires.there in
+    let rooted = some_of s.root (c.self.invariant.rooted some) in
+    subst (λ (w : WalkParts). IfSome c.way-edge.result (IsNumber w.mesh.triangles)) c.self.view_is (way_number s.scene s.roots.items s.root s.path.frames s.path.ends s.nodes c.self.invariant c.args.from c.args.way c.way-edge.result top some c.way-edge.ensures rooted.0 rooted.1)
+
+pub enter-requires-clause-comes : goal.enter-requires-clause-comes
+enter-requires-clause-comes c = λ number x side e at r.
+    let s = c.self.inside in
+    let frames = ap (λ (w : WalkParts). w.frames) c.self.view_is in
+    let top = subst (λ (fs : List Frame). IfSome (slice_get fs (length fs - 1)) (λ (f : Frame). (f.edge ≡ c.args.from) × (way_taken f.ways ≡ way_of c.args.way))) (sym frames) c.requires.from in
+    let some = subst (λ (fs : List Frame). 0 < length fs) (sym frames) c.requires.there in
+    subst (λ (w : WalkParts). slice_get w.edges number ≡ Some x → w.root ≡ Some side → ComesBy w.plan w.mesh.triangles w.labels w.source (tried_by w side) x (w.ends ++ ends_of x ∷ [])) c.self.view_is
+    (λ there rooted. way_comes s.scene s.roots.items s.root s.path.frames s.path.ends s.nodes c.self.invariant c.args.from c.args.way c.way-edge.result top some c.way-edge.ensures side number x e there rooted) at (sym (ap (λ (w : WalkParts). w.root) c.enter.view_is) ∙ r)
 
 pub enter-requires-clause-closed : goal.enter-requires-clause-closed
 enter-requires-clause-closed c = λ side e r.
     let s = c.self.inside in
     let frames = ap (λ (w : WalkParts). w.frames) c.self.view_is in
-    let top = subst (λ (fs : List Frame). IfSome (slice_get fs (length fs - 1)) (λ (f : Frame). (f.passage ≡ c.args.from) × (way_taken f.ways ≡ way_of c.args.turn))) (sym frames) c.requires.from in
+    let top = subst (λ (fs : List Frame). IfSome (slice_get fs (length fs - 1)) (λ (f : Frame). (f.edge ≡ c.args.from) × (way_taken f.ways ≡ way_of c.args.way))) (sym frames) c.requires.from in
     let some = subst (λ (fs : List Frame). 0 < length fs) (sym frames) c.requires.there in
-    way_closed s.passages c.way.new.self s.roots.items s.root s.path.frames s.path.ends s.nodes c.in_ok-passage.ensures.keeps c.self.invariant c.args.from c.args.turn c.in_ok-passage.passage top some c.in_ok-passage.ensures.found side e (sym (ap (λ (w : WalkParts). w.root) c.enter.view_is) ∙ r)
-
-pub returns-clause-enters : goal.returns-clause-enters
-returns-clause-enters c = λ side r.
-    let s = c.self.inside in
-    let v = c.self.view_is in
-    let k = c.in_ok-passage.ensures.keeps in
-    let mid : WalkParts = walk_over c.way.new.self s.roots.items s.root s.path.frames s.path.ends s.nodes in
-    enters_after c.args.self.now mid c.enter-2.new.self side c.enter-2.result
-    (record { plan = k.plan ∙ ap (λ (w : WalkParts). w.plan) v; mesh = k.mesh ∙ ap (λ (w : WalkParts). w.mesh) v; labels = k.labels ∙ ap (λ (w : WalkParts). w.labels) v; source = k.source ∙ ap (λ (w : WalkParts). w.source) v })
-    (record { roots = ap (λ (w : WalkParts). w.roots) v; root = ap (λ (w : WalkParts). w.root) v; frames = ap (λ (w : WalkParts). w.frames) v; nodes = ap (λ (w : WalkParts). w.nodes) v })
-    (c.enter-2.ensures.enters side (ap (λ (w : WalkParts). w.root) c.enter.view_is ∙ ap (λ (w : WalkParts). w.root) v ∙ r))
+    subst (λ (w : WalkParts). w.root ≡ Some side → IsNoSequence w (tried_by w side)) c.self.view_is
+    (λ rooted. way_closed s.scene s.roots.items s.root s.path.frames s.path.ends s.nodes c.self.invariant c.args.from c.args.way c.way-edge.result top some c.way-edge.ensures side e rooted) (sym (ap (λ (w : WalkParts). w.root) c.enter.view_is) ∙ r)
