@@ -87,13 +87,6 @@ module _ (n : ℕ) (ts : List Triangle) (all : AreTriangles n ts) where
       at : (t : Triangle) × (slice_get ts a.triangle ≡ Some t) × HasEdge t e → IsCornerEdge a.corners e
       at (t, h, k) = corner_is n a.corners e (all.each a.triangle a.corners a.is) (subst (λ (x : Triangle). HasEdge x e) (same_Some t a.corners (sym h ∙ a.is)) k)
 
-  pub number_within : (e : Edge) (i : ℕ) → number_of ts e ≡ Some i → i < length ts * 3
-  number_within e i h =
-      let a = number_is ts e i h in
-      let l : a.triangle < length ts = slice_get_within ts a.triangle a.corners a.is in
-      let k : corner_of e a.corners < 3 = corner_few a.corners e (corner_at e i a) in
-      omega (arith, a.number, l, k)
-
   -- one number has one edge
   pub one_edge : (e f : Edge) (i : ℕ) → number_of ts e ≡ Some i → number_of ts f ≡ Some i → e ≡ f
   one_edge e f i g h = by (number_is ts e i g) (number_is ts f i h)

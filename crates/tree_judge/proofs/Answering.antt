@@ -4,36 +4,32 @@ use Rattle.std.specs.List.{slice_get}
 use Rattle.std.proofs.lemmas.List.{append_assoc, append-nil, length-append, take_all}
 use Rattle.std.proofs.lemmas.Option.{slice_get_within}
 use Rattle.std.proofs.Math.Seq.{take-append_seam}
-use Rattle.sight_names.specs.Map.{Map}
 use Rattle.sight_tree.specs.declared.Node.{Node}
 use Rattle.reject_bits.specs.Parts.{TableParts}
-use Rattle.tree_judge.specs.declared.web.Entry.{Entry}
+use Rattle.half_edges.specs.declared.table.HalfEdge.{HalfEdge}
 use Rattle.tree_judge.specs.declared.roots.Root.{Root}
 use Rattle.tree_judge.specs.declared.trees.Frame.{Frame}
 use Rattle.tree_judge.specs.declared.trees.Follow.{Follow}
-use Rattle.tree_judge.specs.Path.{path_ends, Pending, pending_way, IsChain, root_pending, still_asked}
+use Rattle.tree_judge.specs.Path.{path_ends, Pending, pending_way, IsChain, root_pending, all_pending}
 use Rattle.tree_judge.specs.Whole.{Answers, AreAnswered, IsFirstWrong, Notes, IsAt, HasAnswered, HasRefused, StandsBefore}
 use Rattle.tree_judge.proofs.Noting.{notes_none, notes_more}
 
 -- one more node answers
-answered_more : (m : Map) (xs : List Entry) (source : ℕ) (ns : List Node) (n : Node) (ps qs rs : List Pending) (here more : List ℕ) → AreAnswered m xs source ps ns qs here → Answers m xs source qs n rs more → AreAnswered m xs source ps (ns ++ n ∷ []) rs (here ++ more)
-answered_more m xs source [] n ps qs rs here more (e, f) answer = (rs, more, [], subst (λ (os : List Pending). Answers m xs source os n rs more) e answer, (refl, refl), ap (λ (ss : List ℕ). ss ++ more) f ∙ sym (append-nil more))
-answered_more m xs source (k ∷ ns) n ps qs rs here more (os, some, others, first, rest, e) answer = (os, some, others ++ more, first, answered_more m xs source ns n os qs rs others more rest answer, ap (λ (ss : List ℕ). ss ++ more) e ∙ append_assoc some others more)
+answered_more : (xs : List HalfEdge) (source : ℕ) (ns : List Node) (n : Node) (ps qs rs : List Pending) (here more : List ℕ) → AreAnswered xs source ps ns qs here → Answers xs source qs n rs more → AreAnswered xs source ps (ns ++ n ∷ []) rs (here ++ more)
+answered_more xs source [] n ps qs rs here more (e, f) answer = (rs, more, [], subst (λ (os : List Pending). Answers xs source os n rs more) e answer, (refl, refl), ap (λ (ss : List ℕ). ss ++ more) f ∙ sym (append-nil more))
+answered_more xs source (k ∷ ns) n ps qs rs here more (os, some, others, first, rest, e) answer = (os, some, others ++ more, first, answered_more xs source ns n os qs rs others more rest answer, ap (λ (ss : List ℕ). ss ++ more) e ∙ append_assoc some others more)
 
 -- the first so many nodes have answered
-pub record IsFollowed (m : Map) (xs : List Entry) (roots : List Root) (first : Option ℕ) (source : ℕ) (nodes rest : List Node) (number : ℕ) (path : List Frame) (f : Follow) (old new : TableParts) : Type 0 where
+pub record IsFollowed (xs : List HalfEdge) (roots : List Root) (first : Option ℕ) (source : ℕ) (nodes rest : List Node) (number : ℕ) (path : List Frame) (f : Follow) (old new : TableParts) : Type 0 where
   pub done : List Node
   pub split : nodes ≡ done ++ rest
   pub count : length done ≡ number
   pub depth : f.depth ≤ number
-  pub each : (es : List ℕ) → IsChain roots first es → (ps : List Pending) × (sectors : List ℕ) × AreAnswered m xs source (map root_pending es) done ps sectors × IsAt xs roots source path f ps × Notes source sectors old new
+  pub each : (es : List ℕ) → IsChain roots first es → (ps : List Pending) × (sectors : List ℕ) × AreAnswered xs source (map root_pending es) done ps sectors × IsAt xs roots source path f ps × Notes source sectors old new
 
-module _ (m : Map) (xs : List Entry) (roots : List Root) (first : Option ℕ) (source : ℕ) (nodes : List Node) (old : TableParts) where
-  pub follows_none : (path : List Frame) (f : Follow) → f.depth ≡ 0 → StandsBefore xs roots source first path f → IsFollowed m xs roots first source nodes nodes 0 path f old old
-  follows_none path f d s = record { done = []; split = refl; count = refl; depth = omega (arith, d); each = λ es c. (map root_pending es, [], (refl, refl), s.start es c, notes_none source old) }
-
-  pub follows_more : (n : Node) (rest : List Node) (number : ℕ) (path path_new : List Frame) (f f_new : Follow) (t u : TableParts) → IsFollowed m xs roots first source nodes (n ∷ rest) number path f old t
-      → HasAnswered m xs roots source n path f t path_new f_new u → f_new.depth ≤ f.depth + 1 → IsFollowed m xs roots first source nodes rest (number + 1) path_new f_new old u
+module _ (xs : List HalfEdge) (roots : List Root) (first : Option ℕ) (source : ℕ) (nodes : List Node) (old : TableParts) where
+  pub follows_more : (n : Node) (rest : List Node) (number : ℕ) (path path_new : List Frame) (f f_new : Follow) (t u : TableParts) → IsFollowed xs roots first source nodes (n ∷ rest) number path f old t
+      → HasAnswered xs roots source n path f t path_new f_new u → f_new.depth ≤ f.depth + 1 → IsFollowed xs roots first source nodes rest (number + 1) path_new f_new old u
   follows_more n rest number path path_new f f_new t u w a d = record {
     done = w.done ++ n ∷ [];
     split = w.split ∙ sym (append_assoc w.done (n ∷ []) rest);
@@ -42,13 +38,13 @@ module _ (m : Map) (xs : List Entry) (roots : List Root) (first : Option ℕ) (s
     each = λ es c. go es (w.each es c);
   }
     where
-      go : (es : List ℕ) → (ps : List Pending) × (sectors : List ℕ) × AreAnswered m xs source (map root_pending es) w.done ps sectors × IsAt xs roots source path f ps × Notes source sectors old t
-          → (ps : List Pending) × (sectors : List ℕ) × AreAnswered m xs source (map root_pending es) (w.done ++ n ∷ []) ps sectors × IsAt xs roots source path_new f_new ps × Notes source sectors old u
+      go : (es : List ℕ) → (ps : List Pending) × (sectors : List ℕ) × AreAnswered xs source (map root_pending es) w.done ps sectors × IsAt xs roots source path f ps × Notes source sectors old t
+          → (ps : List Pending) × (sectors : List ℕ) × AreAnswered xs source (map root_pending es) (w.done ++ n ∷ []) ps sectors × IsAt xs roots source path_new f_new ps × Notes source sectors old u
       go es (ps, sectors, answered, at, notes) = on (a.next ps at)
         where
-          on : (qs : List Pending) × (more : List ℕ) × Answers m xs source ps n qs more × IsAt xs roots source path_new f_new qs × Notes source more t u
-              → (ps : List Pending) × (sectors : List ℕ) × AreAnswered m xs source (map root_pending es) (w.done ++ n ∷ []) ps sectors × IsAt xs roots source path_new f_new ps × Notes source sectors old u
-          on (qs, more, answer, behind, noted) = (qs, sectors ++ more, answered_more m xs source w.done n (map root_pending es) ps qs sectors more answered answer, behind, notes_more source sectors more old t u notes noted)
+          on : (qs : List Pending) × (more : List ℕ) × Answers xs source ps n qs more × IsAt xs roots source path_new f_new qs × Notes source more t u
+              → (ps : List Pending) × (sectors : List ℕ) × AreAnswered xs source (map root_pending es) (w.done ++ n ∷ []) ps sectors × IsAt xs roots source path_new f_new ps × Notes source sectors old u
+          on (qs, more, answer, behind, noted) = (qs, sectors ++ more, answered_more xs source w.done n (map root_pending es) ps qs sectors more answered answer, behind, notes_more source sectors more old t u notes noted)
 
   first_done : (done rest : List Node) (number : ℕ) → nodes ≡ done ++ rest → length done ≡ number → take number nodes ≡ done
   first_done done rest number e h = ap (take number) e ∙ subst (λ (k : ℕ). take k (done ++ rest) ≡ done) h (take-append_seam done rest)
@@ -61,8 +57,8 @@ module _ (m : Map) (xs : List Entry) (roots : List Root) (first : Option ℕ) (s
   node_behind (k ∷ done) n rest = node_behind done n rest
 
   -- the next node doesn't answer
-  pub wrong_node : (n : Node) (rest : List Node) (number : ℕ) (path : List Frame) (f : Follow) (t : TableParts) → IsFollowed m xs roots first source nodes (n ∷ rest) number path f old t
-      → HasRefused m xs roots source n path f → (es : List ℕ) → IsChain roots first es → IsFirstWrong m xs source (map root_pending es) nodes number
+  pub wrong_node : (n : Node) (rest : List Node) (number : ℕ) (path : List Frame) (f : Follow) (t : TableParts) → IsFollowed xs roots first source nodes (n ∷ rest) number path f old t
+      → HasRefused xs roots source n path f → (es : List ℕ) → IsChain roots first es → IsFirstWrong xs source (map root_pending es) nodes number
   wrong_node n rest number path f t w r es c = go (w.each es c)
     where
       here : slice_get nodes number ≡ Some n
@@ -74,19 +70,19 @@ module _ (m : Map) (xs : List Entry) (roots : List Root) (first : Option ℕ) (s
           one : ◌≡◌ {A = Option Node} (Some n) (Some k) → n ≡ k
           one h = cc
 
-      go : (ps : List Pending) × (sectors : List ℕ) × AreAnswered m xs source (map root_pending es) w.done ps sectors × IsAt xs roots source path f ps × Notes source sectors old t → IsFirstWrong m xs source (map root_pending es) nodes number
+      go : (ps : List Pending) × (sectors : List ℕ) × AreAnswered xs source (map root_pending es) w.done ps sectors × IsAt xs roots source path f ps × Notes source sectors old t → IsFirstWrong xs source (map root_pending es) nodes number
       go (ps, sectors, answered, at, notes) = record {
         left = ps;
         sectors = sectors;
         within = within w.done (n ∷ rest) number w.split w.count;
-        before = subst (λ (ns : List Node). AreAnswered m xs source (map root_pending es) ns ps sectors) (sym (first_done w.done (n ∷ rest) number w.split w.count)) answered;
-        wrong = λ k e qs more answer. r.none ps qs more at (subst (λ (j : Node). Answers m xs source ps j qs more) (sym (same k e)) answer);
+        before = subst (λ (ns : List Node). AreAnswered xs source (map root_pending es) ns ps sectors) (sym (first_done w.done (n ∷ rest) number w.split w.count)) answered;
+        wrong = λ k e qs more answer. r.none ps qs more at (subst (λ (j : Node). Answers xs source ps j qs more) (sym (same k e)) answer);
         missing = λ e. absurd (let l : number < length nodes = slice_get_within nodes number n here in omega (arith, l, e));
       }
 
   -- no node is left, and something is still asked
-  pub missing_node : (rest : List Node) (number place : ℕ) (path : List Frame) (f : Follow) (t : TableParts) → rest ≡ [] → IsFollowed m xs roots first source nodes rest number path f old t
-      → f.asked ≡ Some place → (es : List ℕ) → IsChain roots first es → IsFirstWrong m xs source (map root_pending es) nodes (length nodes)
+  pub missing_node : (rest : List Node) (number place : ℕ) (path : List Frame) (f : Follow) (t : TableParts) → rest ≡ [] → IsFollowed xs roots first source nodes rest number path f old t
+      → f.asked ≡ Some place → (es : List ℕ) → IsChain roots first es → IsFirstWrong xs source (map root_pending es) nodes (length nodes)
   missing_node rest number place path f t e w asked es c = go (w.each es c)
     where
       all : nodes ≡ w.done
@@ -96,29 +92,29 @@ module _ (m : Map) (xs : List Entry) (roots : List Root) (first : Option ℕ) (s
       past k h = let l : length nodes < length nodes = slice_get_within nodes (length nodes) k h in omega (arith, l)
 
       some : (ps : List Pending) → IsAt xs roots source path f ps → ps ≡ [] → ⊥
-      some ps at h = nothing (sym (ap (λ (o : Option ℕ). pending_way (path_ends (take f.depth path)) o ++ still_asked xs source path f.depth at.es) asked) ∙ sym at.all ∙ h)
+      some ps at h = nothing (sym (ap (λ (o : Option ℕ). pending_way (path_ends (take f.depth path)) o ++ all_pending xs source path f.depth at.es) asked) ∙ sym at.all ∙ h)
         where
           nothing : {p : Pending} {qs : List Pending} → ◌≡◌ {A = List Pending} (p ∷ qs) [] → ⊥
           nothing q = cc
 
-      go : (ps : List Pending) × (sectors : List ℕ) × AreAnswered m xs source (map root_pending es) w.done ps sectors × IsAt xs roots source path f ps × Notes source sectors old t → IsFirstWrong m xs source (map root_pending es) nodes (length nodes)
+      go : (ps : List Pending) × (sectors : List ℕ) × AreAnswered xs source (map root_pending es) w.done ps sectors × IsAt xs roots source path f ps × Notes source sectors old t → IsFirstWrong xs source (map root_pending es) nodes (length nodes)
       go (ps, sectors, answered, at, notes) = record {
         left = ps;
         sectors = sectors;
         within = omega arith;
-        before = subst (λ (ns : List Node). AreAnswered m xs source (map root_pending es) ns ps sectors) (sym all ∙ sym (take_all (length nodes) nodes (omega arith))) answered;
+        before = subst (λ (ns : List Node). AreAnswered xs source (map root_pending es) ns ps sectors) (sym all ∙ sym (take_all (length nodes) nodes (omega arith))) answered;
         wrong = λ k h qs more answer. past k h;
         missing = λ h. some ps at;
       }
 
   -- no node is left, and nothing is asked any more
-  pub all_answered : (rest : List Node) (number : ℕ) (path : List Frame) (f : Follow) (t : TableParts) → rest ≡ [] → IsFollowed m xs roots first source nodes rest number path f old t
-      → f.asked ≡ None → (es : List ℕ) → IsChain roots first es → (sectors : List ℕ) × AreAnswered m xs source (map root_pending es) nodes [] sectors × Notes source sectors old t
+  pub all_answered : (rest : List Node) (number : ℕ) (path : List Frame) (f : Follow) (t : TableParts) → rest ≡ [] → IsFollowed xs roots first source nodes rest number path f old t
+      → f.asked ≡ None → (es : List ℕ) → IsChain roots first es → (sectors : List ℕ) × AreAnswered xs source (map root_pending es) nodes [] sectors × Notes source sectors old t
   all_answered rest number path f t e w asked es c = go (w.each es c)
     where
       all : nodes ≡ w.done
       all = w.split ∙ ap (λ (ns : List Node). w.done ++ ns) e ∙ append-nil w.done
 
-      go : (ps : List Pending) × (sectors : List ℕ) × AreAnswered m xs source (map root_pending es) w.done ps sectors × IsAt xs roots source path f ps × Notes source sectors old t
-          → (sectors : List ℕ) × AreAnswered m xs source (map root_pending es) nodes [] sectors × Notes source sectors old t
-      go (ps, sectors, answered, at, notes) = (sectors, subst (λ (ns : List Node). AreAnswered m xs source (map root_pending es) ns [] sectors) (sym all) (subst (λ (qs : List Pending). AreAnswered m xs source (map root_pending es) w.done qs sectors) (at.last asked) answered), notes)
+      go : (ps : List Pending) × (sectors : List ℕ) × AreAnswered xs source (map root_pending es) w.done ps sectors × IsAt xs roots source path f ps × Notes source sectors old t
+          → (sectors : List ℕ) × AreAnswered xs source (map root_pending es) nodes [] sectors × Notes source sectors old t
+      go (ps, sectors, answered, at, notes) = (sectors, subst (λ (ns : List Node). AreAnswered xs source (map root_pending es) ns [] sectors) (sym all) (subst (λ (qs : List Pending). AreAnswered xs source (map root_pending es) w.done qs sectors) (at.last asked) answered), notes)

@@ -1,5 +1,5 @@
 -- The chains of the sources' roots, a root and a line at a time.
-use Rattle.std.proofs.Common.{◌≡◌, ◌≢◌, ℕ, zero, suc, ◌+◌, ◌*◌, ◌<◌, ◌≤◌, ◌⊎◌, inl, inr, List, [], ◌∷◌, ◌++◌, Option, Some, None, length, get_or, map, drop, set, Bool, true, false, not, ◌&&◌, ◌==◌, refl, sym, ◌∙◌, ap, subst, arith, if◌then◌else◌, cond, eqb, eqb-true, eq-eqb, true≢false, replicate, drop-cons}
+use Rattle.std.proofs.Common.{◌≡◌, ◌≢◌, ℕ, zero, suc, ◌+◌, ◌<◌, ◌≤◌, ◌⊎◌, inl, inr, List, [], ◌∷◌, ◌++◌, Option, Some, None, length, get_or, map, drop, set, Bool, true, false, not, ◌&&◌, ◌==◌, refl, sym, ◌∙◌, ap, subst, arith, if◌then◌else◌, cond, eqb, eqb-true, eq-eqb, true≢false, replicate, drop-cons}
 use Rattle.std.specs.List.{slice_get, filter, filter_map, cons_option, flat_map, enumerate_from}
 use Rattle.std.specs.Option.{option_eq}
 use Rattle.std.specs.Prelude.{option_and_then, option_map, IfOk, Result, Ok, Err}
@@ -19,30 +19,11 @@ use Rattle.sight_names.proofs.PlanNumbers.{line_edge_of_plan}
 use Rattle.extreme_lines.proofs.EndsLemmas.{get_append}
 use Rattle.mesh_shape.proofs.RuleLemmas.{plan_line_at}
 use Rattle.tree_judge.specs.declared.roots.Root.{Root}
-use Rattle.tree_judge.specs.declared.web.Entry.{Entry}
-use Rattle.tree_judge.specs.Web.{edge, corner_of, IsPlace, IsWay, without_wall, way_at, way_outside}
-use Rattle.tree_judge.specs.Path.{IsChain}
-use Rattle.tree_judge.specs.Roots.{first_at, PutsFirst, PutsBefore, list_of, way_out_of, side_entries, line_entries, root_entry, AreRoots}
-
--- ---- the way through an edge
-
-pub at_place : (ts : List Triangle) (walls : List Bool) (e : Edge) (i : ℕ) → IsPlace ts e i → way_at ts walls e ≡ without_wall walls i
-at_place ts walls e i p = ap (λ (o : Option ℕ). option_and_then (λ k. option_and_then (λ (t : Triangle). without_wall walls (k * 3 + corner_of e t)) (slice_get ts k)) o) p.found
-    ∙ ap (λ (o : Option Triangle). option_and_then (λ (t : Triangle). without_wall walls (p.triangle * 3 + corner_of e t)) o) p.is
-    ∙ ap (without_wall walls) (sym p.place)
-
-walled : (walls : List Bool) (i : ℕ) → ¬ (slice_get walls i ≡ Some false) → None ≡ without_wall walls i
-walled walls i none = at (slice_get walls i) none
-  where
-    at : (o : Option Bool) → ¬ (o ≡ Some false) → None ≡ option_and_then (λ (wall : Bool). let n : Option ℕ = if wall then None else Some i in n) o
-    at None n = refl
-    at (Some true) n = refl
-    at (Some false) n = absurd (n refl)
-
-pub way_is : (ts : List Triangle) (walls : List Bool) (e : Edge) (o : Option ℕ) → IsWay ts walls e o → o ≡ way_at ts walls e
-way_is ts walls e None (inl n) = sym (ap (λ (o : Option ℕ). option_and_then (λ k. option_and_then (λ (t : Triangle). without_wall walls (k * 3 + corner_of e t)) (slice_get ts k)) o) n)
-way_is ts walls e None (inr (i, p, n)) = walled walls i n ∙ sym (at_place ts walls e i p)
-way_is ts walls e (Some i) (p, n) = sym (at_place ts walls e i p ∙ ap (λ (o : Option Bool). option_and_then (λ (wall : Bool). let n : Option ℕ = if wall then None else Some i in n) o) n)
+use Rattle.half_edges.specs.declared.table.HalfEdge.{HalfEdge}
+use Rattle.half_edges.specs.Numbers.{edge}
+use Rattle.half_edges.specs.HalfEdges.{entering, way_outside}
+use Rattle.tree_judge.specs.Path.{IsChain, list_of}
+use Rattle.tree_judge.specs.Roots.{first_at, PutsFirst, PutsBefore, way_out_of, side_edges, line_edges, root_edge, AreRoots}
 
 -- ---- roots put before others
 
@@ -66,30 +47,30 @@ get_other (y ∷ xs) zero (suc j) x n = refl
 get_other (y ∷ xs) (suc i) zero x n = refl
 get_other (y ∷ xs) (suc i) (suc j) x n = get_other xs i j x (λ e. n (ap suc e))
 
-pub before_none : (entries : ℕ → List ℕ) (roots : List Root) (firsts : List (Option ℕ)) → ((s : ℕ) → entries s ≡ []) → PutsBefore entries roots firsts roots firsts
-before_none entries roots firsts e = record { len = refl; chains = λ s l es c. subst (IsChain roots (first_at firsts s)) (ap (λ (fs : List ℕ). fs ++ es) (sym (e s))) c }
+pub before_none : (edges : ℕ → List ℕ) (roots : List Root) (firsts : List (Option ℕ)) → ((s : ℕ) → edges s ≡ []) → PutsBefore edges roots firsts roots firsts
+before_none edges roots firsts e = record { len = refl; chains = λ s l es c. subst (IsChain roots (first_at firsts s)) (ap (λ (fs : List ℕ). fs ++ es) (sym (e s))) c }
 
-pub before_as : (entries others : ℕ → List ℕ) (roots new : List Root) (firsts firsts_new : List (Option ℕ)) → ((s : ℕ) → entries s ≡ others s) → PutsBefore entries roots firsts new firsts_new → PutsBefore others roots firsts new firsts_new
-before_as entries others roots new firsts firsts_new e p = record { len = p.len; chains = λ s l es c. subst (IsChain new (first_at firsts_new s)) (ap (λ (fs : List ℕ). fs ++ es) (e s)) (p.chains s l es c) }
+pub before_as : (edges others : ℕ → List ℕ) (roots new : List Root) (firsts firsts_new : List (Option ℕ)) → ((s : ℕ) → edges s ≡ others s) → PutsBefore edges roots firsts new firsts_new → PutsBefore others roots firsts new firsts_new
+before_as edges others roots new firsts firsts_new e p = record { len = p.len; chains = λ s l es c. subst (IsChain new (first_at firsts_new s)) (ap (λ (fs : List ℕ). fs ++ es) (e s)) (p.chains s l es c) }
 
-pub before_both : (entries others : ℕ → List ℕ) (roots middle new : List Root) (firsts firsts_middle firsts_new : List (Option ℕ)) → PutsBefore entries roots firsts middle firsts_middle → PutsBefore others middle firsts_middle new firsts_new
-    → PutsBefore (λ s. others s ++ entries s) roots firsts new firsts_new
-before_both entries others roots middle new firsts firsts_middle firsts_new p q = record {
+pub before_both : (edges others : ℕ → List ℕ) (roots middle new : List Root) (firsts firsts_middle firsts_new : List (Option ℕ)) → PutsBefore edges roots firsts middle firsts_middle → PutsBefore others middle firsts_middle new firsts_new
+    → PutsBefore (λ s. others s ++ edges s) roots firsts new firsts_new
+before_both edges others roots middle new firsts firsts_middle firsts_new p q = record {
   len = q.len ∙ p.len;
-  chains = λ s l es c. subst (IsChain new (first_at firsts_new s)) (sym (append_assoc (others s) (entries s) es)) (q.chains s (let h : length firsts_middle ≡ length firsts = p.len in omega (arith, h, l)) (entries s ++ es) (p.chains s l es c));
+  chains = λ s l es c. subst (IsChain new (first_at firsts_new s)) (sym (append_assoc (others s) (edges s) es)) (q.chains s (let h : length firsts_middle ≡ length firsts = p.len in omega (arith, h, l)) (edges s ++ es) (p.chains s l es c));
 }
 
-abbrev pub one_entry : ℕ → ℕ → ℕ → List ℕ
-one_entry source entry s = if source == s then entry ∷ [] else []
+abbrev pub one_edge : ℕ → ℕ → ℕ → List ℕ
+one_edge source number s = if source == s then number ∷ [] else []
 
-pub puts_before : (source entry : ℕ) (roots new : List Root) (firsts firsts_new : List (Option ℕ)) → PutsFirst source entry roots firsts new firsts_new → PutsBefore (one_entry source entry) roots firsts new firsts_new
-puts_before source entry roots new firsts firsts_new p = record {
+pub puts_before : (source number : ℕ) (roots new : List Root) (firsts firsts_new : List (Option ℕ)) → PutsFirst source number roots firsts new firsts_new → PutsBefore (one_edge source number) roots firsts new firsts_new
+puts_before source number roots new firsts firsts_new p = record {
   len = elim (cases_lt source (length firsts)) as (λ _. length firsts_new ≡ length firsts) [ inl l ↦ ap length (p.first l) ∙ length-set firsts source (Some (length roots)) | inr l ↦ ap length (p.no_place l).1 ];
   chains = λ s l es c. by s l es c (eqb_tells source s);
 }
   where
     put : Root
-    put = record { entry = entry; next = first_at firsts source }
+    put = record { edge = number; next = first_at firsts source }
 
     here : (s : ℕ) → source ≡ s → source < length firsts → first_at firsts_new s ≡ Some (length roots)
     here s e l = ap (λ (o : Option (Option ℕ)). option_and_then (λ (q : Option ℕ). q) o) (ap (slice_get firsts_new) (sym e) ∙ ap (λ (fs : List (Option ℕ)). slice_get fs source) (p.first l) ∙ get_set firsts source (Some (length roots)) l)
@@ -100,7 +81,7 @@ puts_before source entry roots new firsts firsts_new p = record {
     more : (o : Option ℕ) (es : List ℕ) → source < length firsts → IsChain roots o es → IsChain new o es
     more o es l c = subst (λ (rs : List Root). IsChain rs o es) (sym (p.put l)) (chain_kept roots (put ∷ []) o es c)
 
-    first : (s : ℕ) (es : List ℕ) → source ≡ s → source < length firsts → IsChain roots (first_at firsts s) es → IsChain new (first_at firsts_new s) (entry ∷ es)
+    first : (s : ℕ) (es : List ℕ) → source ≡ s → source < length firsts → IsChain roots (first_at firsts s) es → IsChain new (first_at firsts_new s) (number ∷ es)
     first s es e l c = (length roots, put, here s e l, ap (λ (rs : List Root). slice_get rs (length roots)) (p.put l) ∙ last_root roots put, refl, more (first_at firsts source) es l (subst (λ (k : ℕ). IsChain roots (first_at firsts k) es) (sym e) c))
 
     other : (s : ℕ) (es : List ℕ) → source ≢ s → IsChain roots (first_at firsts s) es → IsChain new (first_at firsts_new s) es
@@ -109,9 +90,9 @@ puts_before source entry roots new firsts firsts_new p = record {
       | inr l ↦ subst (λ (rs : List Root). IsChain rs (first_at firsts_new s) es) (sym (p.no_place l).0) (subst (λ (fs : List (Option ℕ)). IsChain roots (first_at fs s) es) (sym (p.no_place l).1) c)
     ]
 
-    by : (s : ℕ) → s < length firsts → (es : List ℕ) → IsChain roots (first_at firsts s) es → (((source == s) ≡ true) × (source ≡ s)) ⊎ (((source == s) ≡ false) × (source ≢ s)) → IsChain new (first_at firsts_new s) (one_entry source entry s ++ es)
-    by s l es c (inl e) = subst (λ (b : Bool). IsChain new (first_at firsts_new s) ((let es : List ℕ = if b then entry ∷ [] else [] in es) ++ es)) (sym e.0) (first s es e.1 (omega (arith, l, e.1)) c)
-    by s l es c (inr e) = subst (λ (b : Bool). IsChain new (first_at firsts_new s) ((let es : List ℕ = if b then entry ∷ [] else [] in es) ++ es)) (sym e.0) (other s es e.1 c)
+    by : (s : ℕ) → s < length firsts → (es : List ℕ) → IsChain roots (first_at firsts s) es → (((source == s) ≡ true) × (source ≡ s)) ⊎ (((source == s) ≡ false) × (source ≢ s)) → IsChain new (first_at firsts_new s) (one_edge source number s ++ es)
+    by s l es c (inl e) = subst (λ (b : Bool). IsChain new (first_at firsts_new s) ((let es : List ℕ = if b then number ∷ [] else [] in es) ++ es)) (sym e.0) (first s es e.1 (omega (arith, l, e.1)) c)
+    by s l es c (inr e) = subst (λ (b : Bool). IsChain new (first_at firsts_new s) ((let es : List ℕ = if b then number ∷ [] else [] in es) ++ es)) (sym e.0) (other s es e.1 c)
 
 -- ---- one side and one line
 
@@ -119,29 +100,29 @@ by_flag : (b : Bool) (u v : List ℕ) → (b ≡ true → u ≡ v) → (let us :
 by_flag true u v e = e refl
 by_flag false u v e = refl
 
-module _ (ts : List Triangle) (walls : List Bool) (xs : List Entry) where
-  out_is : (source : ℕ) (e : Edge) (way o : Option ℕ) → IsWay ts walls e way → o ≡ way_outside xs source way → o ≡ way_out_of ts walls xs source e
-  out_is source e way o is f = f ∙ ap (way_outside xs source) (way_is ts walls e way is)
+module _ (ts : List Triangle) (xs : List HalfEdge) where
+  out_is : (source : ℕ) (e : Edge) (way o : Option ℕ) → way ≡ entering ts xs e → o ≡ way_outside xs source way → o ≡ way_out_of ts xs source e
+  out_is source e way o is f = f ∙ ap (way_outside xs source) is
 
-  same_out : (source s : ℕ) (e : Edge) (o : Option ℕ) → (source == s) ≡ true → o ≡ way_out_of ts walls xs source e → list_of o ≡ list_of (way_out_of ts walls xs s e)
-  same_out source s e o h f = ap list_of (f ∙ ap (λ (k : ℕ). way_out_of ts walls xs k e) (eqb-true source s h))
+  same_out : (source s : ℕ) (e : Edge) (o : Option ℕ) → (source == s) ≡ true → o ≡ way_out_of ts xs source e → list_of o ≡ list_of (way_out_of ts xs s e)
+  same_out source s e o h f = ap list_of (f ∙ ap (λ (k : ℕ). way_out_of ts xs k e) (eqb-true source s h))
 
-  pub side_put : (source entry : ℕ) (e : Edge) (way : Option ℕ) (roots new : List Root) (firsts firsts_new : List (Option ℕ)) → IsWay ts walls e way → Some entry ≡ way_outside xs source way
-      → PutsFirst source entry roots firsts new firsts_new → PutsBefore (side_entries ts walls xs (Some source) e) roots firsts new firsts_new
-  side_put source entry e way roots new firsts firsts_new is f p = before_as (one_entry source entry) (side_entries ts walls xs (Some source) e) roots new firsts firsts_new
-      (λ s. by_flag (source == s) (entry ∷ []) (list_of (way_out_of ts walls xs s e)) (λ h. same_out source s e (Some entry) h (out_is source e way (Some entry) is f)))
-      (puts_before source entry roots new firsts firsts_new p)
+  pub side_put : (source number : ℕ) (e : Edge) (way : Option ℕ) (roots new : List Root) (firsts firsts_new : List (Option ℕ)) → way ≡ entering ts xs e → Some number ≡ way_outside xs source way
+      → PutsFirst source number roots firsts new firsts_new → PutsBefore (side_edges ts xs (Some source) e) roots firsts new firsts_new
+  side_put source number e way roots new firsts firsts_new is f p = before_as (one_edge source number) (side_edges ts xs (Some source) e) roots new firsts firsts_new
+      (λ s. by_flag (source == s) (number ∷ []) (list_of (way_out_of ts xs s e)) (λ h. same_out source s e (Some number) h (out_is source e way (Some number) is f)))
+      (puts_before source number roots new firsts firsts_new p)
 
-  pub side_left_out : (source : ℕ) (e : Edge) (way : Option ℕ) (roots : List Root) (firsts : List (Option ℕ)) → IsWay ts walls e way → None ≡ way_outside xs source way → PutsBefore (side_entries ts walls xs (Some source) e) roots firsts roots firsts
-  side_left_out source e way roots firsts is f = before_none (side_entries ts walls xs (Some source) e) roots firsts
-      (λ s. sym (by_flag (source == s) [] (list_of (way_out_of ts walls xs s e)) (λ h. same_out source s e None h (out_is source e way None is f))) ∙ nothing (source == s))
+  pub side_left_out : (source : ℕ) (e : Edge) (way : Option ℕ) (roots : List Root) (firsts : List (Option ℕ)) → way ≡ entering ts xs e → None ≡ way_outside xs source way → PutsBefore (side_edges ts xs (Some source) e) roots firsts roots firsts
+  side_left_out source e way roots firsts is f = before_none (side_edges ts xs (Some source) e) roots firsts
+      (λ s. sym (by_flag (source == s) [] (list_of (way_out_of ts xs s e)) (λ h. same_out source s e None h (out_is source e way None is f))) ∙ nothing (source == s))
     where
       nothing : (b : Bool) → (let us : List ℕ = if b then [] else [] in us) ≡ []
       nothing true = refl
       nothing false = refl
 
-  pub side_unnamed : (e : Edge) (roots : List Root) (firsts : List (Option ℕ)) → PutsBefore (side_entries ts walls xs None e) roots firsts roots firsts
-  side_unnamed e roots firsts = before_none (side_entries ts walls xs None e) roots firsts (λ s. refl)
+  pub side_unnamed : (e : Edge) (roots : List Root) (firsts : List (Option ℕ)) → PutsBefore (side_edges ts xs None e) roots firsts roots firsts
+  side_unnamed e roots firsts = before_none (side_edges ts xs None e) roots firsts (λ s. refl)
 
   named_true : (o : Option ℕ) (s : ℕ) → names_it o s ≡ true → o ≡ Some s
   named_true None s e = absurd (cc)
@@ -160,18 +141,18 @@ module _ (ts : List Triangle) (walls : List Bool) (xs : List Entry) where
       at false true e f = join (names_it o s) (names_it other s) false true e f refl
       at false false e f = join (names_it o s) (names_it other s) false false e f refl
 
-  pub line_apart : (l : Line) (s : ℕ) → l.solid ≡ false → (l.left ≡ l.right → ⊥) → side_entries ts walls xs l.right (edge l.a l.b) s ++ side_entries ts walls xs l.left (edge l.b l.a) s ≡ line_entries ts walls xs (Some l) s
+  pub line_apart : (l : Line) (s : ℕ) → l.solid ≡ false → (l.left ≡ l.right → ⊥) → side_edges ts xs l.right (edge l.a l.b) s ++ side_edges ts xs l.left (edge l.b l.a) s ≡ line_edges ts xs (Some l) s
   line_apart l s e n = sym (
-      ap (λ (b : Bool). let us : List ℕ = if b then [] else (if names_it l.right s && not (names_it l.left s) then list_of (way_out_of ts walls xs s (edge l.a l.b)) else []) ++ (if names_it l.left s && not (names_it l.right s) then list_of (way_out_of ts walls xs s (edge l.b l.a)) else []) in us) e
-      ∙ ap (λ (b : Bool). (let us : List ℕ = if b then list_of (way_out_of ts walls xs s (edge l.a l.b)) else [] in us) ++ (let vs : List ℕ = if names_it l.left s && not (names_it l.right s) then list_of (way_out_of ts walls xs s (edge l.b l.a)) else [] in vs)) (alone l.right l.left s (λ h. n (sym h)))
-      ∙ ap (λ (b : Bool). side_entries ts walls xs l.right (edge l.a l.b) s ++ (let vs : List ℕ = if b then list_of (way_out_of ts walls xs s (edge l.b l.a)) else [] in vs)) (alone l.left l.right s n))
+      ap (λ (b : Bool). let us : List ℕ = if b then [] else (if names_it l.right s && not (names_it l.left s) then list_of (way_out_of ts xs s (edge l.a l.b)) else []) ++ (if names_it l.left s && not (names_it l.right s) then list_of (way_out_of ts xs s (edge l.b l.a)) else []) in us) e
+      ∙ ap (λ (b : Bool). (let us : List ℕ = if b then list_of (way_out_of ts xs s (edge l.a l.b)) else [] in us) ++ (let vs : List ℕ = if names_it l.left s && not (names_it l.right s) then list_of (way_out_of ts xs s (edge l.b l.a)) else [] in vs)) (alone l.right l.left s (λ h. n (sym h)))
+      ∙ ap (λ (b : Bool). side_edges ts xs l.right (edge l.a l.b) s ++ (let vs : List ℕ = if b then list_of (way_out_of ts xs s (edge l.b l.a)) else [] in vs)) (alone l.left l.right s n))
 
-  pub line_solid : (l : Line) (s : ℕ) → l.solid ≡ true → line_entries ts walls xs (Some l) s ≡ []
-  line_solid l s e = ap (λ (b : Bool). let us : List ℕ = if b then [] else (if names_it l.right s && not (names_it l.left s) then list_of (way_out_of ts walls xs s (edge l.a l.b)) else []) ++ (if names_it l.left s && not (names_it l.right s) then list_of (way_out_of ts walls xs s (edge l.b l.a)) else []) in us) e
+  pub line_solid : (l : Line) (s : ℕ) → l.solid ≡ true → line_edges ts xs (Some l) s ≡ []
+  line_solid l s e = ap (λ (b : Bool). let us : List ℕ = if b then [] else (if names_it l.right s && not (names_it l.left s) then list_of (way_out_of ts xs s (edge l.a l.b)) else []) ++ (if names_it l.left s && not (names_it l.right s) then list_of (way_out_of ts xs s (edge l.b l.a)) else []) in us) e
 
-  pub line_within : (l : Line) (s : ℕ) → l.left ≡ l.right → line_entries ts walls xs (Some l) s ≡ []
-  line_within l s e = ap (λ (o : Option ℕ). let us : List ℕ = if l.solid then [] else (if names_it l.right s && not (names_it o s) then list_of (way_out_of ts walls xs s (edge l.a l.b)) else []) ++ (if names_it o s && not (names_it l.right s) then list_of (way_out_of ts walls xs s (edge l.b l.a)) else []) in us) e
-      ∙ both l.solid (names_it l.right s) (list_of (way_out_of ts walls xs s (edge l.a l.b))) (list_of (way_out_of ts walls xs s (edge l.b l.a)))
+  pub line_within : (l : Line) (s : ℕ) → l.left ≡ l.right → line_edges ts xs (Some l) s ≡ []
+  line_within l s e = ap (λ (o : Option ℕ). let us : List ℕ = if l.solid then [] else (if names_it l.right s && not (names_it o s) then list_of (way_out_of ts xs s (edge l.a l.b)) else []) ++ (if names_it o s && not (names_it l.right s) then list_of (way_out_of ts xs s (edge l.b l.a)) else []) in us) e
+      ∙ both l.solid (names_it l.right s) (list_of (way_out_of ts xs s (edge l.a l.b))) (list_of (way_out_of ts xs s (edge l.b l.a)))
     where
       both : (solid b : Bool) (u v : List ℕ) → (let us : List ℕ = if solid then [] else (if b && not b then u else []) ++ (if b && not b then v else []) in us) ≡ []
       both true b u v = refl
@@ -202,9 +183,9 @@ shape false false false u v = refl
 pub root_test : (m : Map) (a : ℕ) (s : Side) (l : MapLine) → line_at m s.line ≡ Some l → is_root m a s ≡ (not l.solid && names_it (sector_on l s.left) a && not (names_it (sector_on l (not s.left)) a))
 root_test m a s l e = rw e refl
 
-module _ (ts : List Triangle) (walls : List Bool) (xs : List Entry) (p : PlanParts) where
+module _ (ts : List Triangle) (xs : List HalfEdge) (p : PlanParts) where
   abbrev the_root : ℕ → Side → Option ℕ
-  the_root s side = root_entry ts walls xs (map_of p) s side
+  the_root s side = root_edge ts xs (map_of p) s side
 
   right_portal : IsPlan p → (k : ℕ) (l : Line) → slice_get p.lines k ≡ Some (Some l) → ◌≡◌ {A = Option Portal} (root_portal (map_of p) (record { line = k; left = false })) (Some (record { left = l.a; right = l.b }))
   right_portal is k l e = ap (option_map (λ (x : MapLine). let q : Portal = record { left = (line_edge (map_of p) x).from; right = (line_edge (map_of p) x).to } in q)) (plan_line_at p k l e)
@@ -214,15 +195,15 @@ module _ (ts : List Triangle) (walls : List Bool) (xs : List Entry) (p : PlanPar
   left_portal is k l e = ap (option_map (λ (x : MapLine). let q : Portal = record { left = (line_edge (map_of p) x).to; right = (line_edge (map_of p) x).from } in q)) (plan_line_at p k l e)
       ∙ ap (λ (d : Edge). let q : Portal = record { left = d.to; right = d.from } in Some q) (line_edge_of_plan p is k l e)
 
-  line_part : IsPlan p → (s k : ℕ) (entry : Option Line) → slice_get p.lines k ≡ Some entry → filter_map (the_root s) (filter (is_root (map_of p) s) (both_sides (k, option_map (looked_up p.points) entry))) ≡ line_entries ts walls xs entry s
+  line_part : IsPlan p → (s k : ℕ) (entry : Option Line) → slice_get p.lines k ≡ Some entry → filter_map (the_root s) (filter (is_root (map_of p) s) (both_sides (k, option_map (looked_up p.points) entry))) ≡ line_edges ts xs entry s
   line_part is s k None e = refl
   line_part is s k (Some l) e =
       kept_one (the_root s) (is_root (map_of p) s) right (left ∷ [])
       ∙ ap (λ (us : List ℕ). (if is_root (map_of p) s right then list_of (the_root s right) else []) ++ us) (kept_one (the_root s) (is_root (map_of p) s) left [])
       ∙ join (is_root (map_of p) s right) (is_root (map_of p) s left) (the_root s right) (the_root s left)
       (root_test (map_of p) s right (looked_up p.points l) (plan_line_at p k l e)) (root_test (map_of p) s left (looked_up p.points l) (plan_line_at p k l e))
-      (ap (option_and_then (λ (q : Portal). way_out_of ts walls xs s (entry_edge q))) (right_portal is k l e)) (ap (option_and_then (λ (q : Portal). way_out_of ts walls xs s (entry_edge q))) (left_portal is k l e))
-      ∙ shape l.solid (names_it l.right s) (names_it l.left s) (list_of (way_out_of ts walls xs s (edge l.a l.b))) (list_of (way_out_of ts walls xs s (edge l.b l.a)))
+      (ap (option_and_then (λ (q : Portal). way_out_of ts xs s (entry_edge q))) (right_portal is k l e)) (ap (option_and_then (λ (q : Portal). way_out_of ts xs s (entry_edge q))) (left_portal is k l e))
+      ∙ shape l.solid (names_it l.right s) (names_it l.left s) (list_of (way_out_of ts xs s (edge l.a l.b))) (list_of (way_out_of ts xs s (edge l.b l.a)))
     where
       right : Side
       right = record { line = k; left = false }
@@ -234,11 +215,11 @@ module _ (ts : List Triangle) (walls : List Bool) (xs : List Entry) (p : PlanPar
           ≡ (if d then list_of x else []) ++ ((if f then list_of y else []) ++ [])
       join b c u v e f g h = λ i. (let us : List ℕ = if e i then list_of (g i) else [] in us) ++ ((let vs : List ℕ = if f i then list_of (h i) else [] in vs) ++ [])
 
-  -- the entries of the roots on the lines from number k on
+  -- the half-edges of the roots on the lines from number k on
   abbrev pub roots_from : ℕ → ℕ → List ℕ
   roots_from s k = filter_map (the_root s) (filter (is_root (map_of p) s) (flat_map both_sides (enumerate_from k (map (option_map (looked_up p.points)) (drop k p.lines)))))
 
-  one_more : IsPlan p → (s k : ℕ) (entry : Option Line) → slice_get p.lines k ≡ Some entry → roots_from s k ≡ line_entries ts walls xs entry s ++ roots_from s (k + 1)
+  one_more : IsPlan p → (s k : ℕ) (entry : Option Line) → slice_get p.lines k ≡ Some entry → roots_from s k ≡ line_edges ts xs entry s ++ roots_from s (k + 1)
   one_more is s k entry e = ap (λ (ls : List (Option Line)). filter_map (the_root s) (filter (is_root (map_of p) s) (flat_map both_sides (enumerate_from k (map (option_map (looked_up p.points)) ls))))) (drop_at p.lines k entry e)
       ∙ ap (filter_map (the_root s)) (filter-append (is_root (map_of p) s) here behind)
       ∙ filter_map-append (the_root s) (filter (is_root (map_of p) s) here) (filter (is_root (map_of p) s) behind)
@@ -259,7 +240,7 @@ module _ (ts : List Triangle) (walls : List Bool) (xs : List Entry) (p : PlanPar
     pub len : length firsts ≡ p.sectors
     pub chains : (s : ℕ) → s < p.sectors → IsChain roots (first_at firsts s) (roots_from s k)
 
-  pub roots_more : IsPlan p → (k : ℕ) (entry : Option Line) (roots new : List Root) (firsts firsts_new : List (Option ℕ)) → slice_get p.lines k ≡ Some entry → HasRootsFrom (k + 1) roots firsts → PutsBefore (line_entries ts walls xs entry) roots firsts new firsts_new → HasRootsFrom k new firsts_new
+  pub roots_more : IsPlan p → (k : ℕ) (entry : Option Line) (roots new : List Root) (firsts firsts_new : List (Option ℕ)) → slice_get p.lines k ≡ Some entry → HasRootsFrom (k + 1) roots firsts → PutsBefore (line_edges ts xs entry) roots firsts new firsts_new → HasRootsFrom k new firsts_new
   roots_more is k entry roots new firsts firsts_new e h q = record {
     len = q.len ∙ h.len;
     chains = λ s l. subst (IsChain new (first_at firsts_new s)) (sym (one_more is s k entry e)) (q.chains s (omega (arith, h.len, l)) (roots_from s (k + 1)) (h.chains s l));
@@ -279,7 +260,7 @@ module _ (ts : List Triangle) (walls : List Bool) (xs : List Entry) (p : PlanPar
       none : (fs : List (Option ℕ)) (s : ℕ) → fs ≡ replicate p.sectors None → first_at fs s ≡ None
       none fs s h = ap (λ (gs : List (Option ℕ)). first_at gs s) h ∙ empty p.sectors s
 
-  pub roots_all : (k : ℕ) (roots : List Root) (firsts : List (Option ℕ)) → k ≡ 0 → HasRootsFrom k roots firsts → AreRoots (map_of p) ts walls xs roots firsts
+  pub roots_all : (k : ℕ) (roots : List Root) (firsts : List (Option ℕ)) → k ≡ 0 → HasRootsFrom k roots firsts → AreRoots (map_of p) ts xs roots firsts
   roots_all k roots firsts e h = record { chains = λ s l. subst (λ (n : ℕ). IsChain roots (first_at firsts s) (roots_from s n)) e (h.chains s l) }
 
 pub if_ok : {A E : Type 0} {P Q : Type 0} (r : Result A E) → IfOk r (λ _. P) → (P → Q) → IfOk r (λ _. Q)

@@ -12,10 +12,8 @@ use Rattle.std.proofs.lemmas.List.{take_all}
 use Rattle.std.specs.Prelude.{option_map}
 use Rattle.sight_names.specs.Splitting.{EndPoints, end_of}
 use Rattle.extreme_lines.proofs.EndsLemmas.{left_end, right_end}
-use Rattle.sight_names.specs.declared.names.Pt.{Pt}
-use Rattle.sight_names.specs.Map.{Map}
 use Rattle.sight_names.specs.Points.{place}
-use Rattle.tree_judge.specs.declared.web.Entry.{Entry}
+use Rattle.half_edges.specs.declared.table.HalfEdge.{HalfEdge}
 use Rattle.tree_judge.specs.declared.trees.Frame.{Frame}
 use Rattle.tree_judge.specs.Path.{portal_ends, path_ends, frame_at, asked_ends, IsClosedBy}
 use Rattle.block_evidence.specs.declared.Evidence.{Evidence}
@@ -68,11 +66,6 @@ right_of path code f many few l e = subst (λ (n : ℕ). ◌≡◌ {A = Option E
     same : 32768 + code % 32768 ≡ code
     same = omega arith
 
--- ---- the portal of an entry
-
-pub same_frame : (m : Map) (x : Entry) (l r : Pt) → l ≡ place m x.left → r ≡ place m x.right → record { left = l; right = r; right_way = x.right_way } ≡ frame_at m x
-same_frame m x l r e f = λ i. record { left = e i; right = f i; right_way = x.right_way }
-
 -- ---- all codes
 
 same_take : (xs : List ℕ) (n i : ℕ) → length xs ≡ 4 → i ≡ min n 4 → take i xs ≡ take n xs
@@ -93,19 +86,38 @@ blocks_if es e ends some i b h l m t s = (λ n. record { ends = subst (AllByRecu
     same : filter_map (end_of es) (end_codes e) ≡ some
     same = ap (filter_map (end_of es)) (sym q) ∙ f.0 ∙ sym t
 
+-- ---- four codes at once
+
+four_codes : (xs : List ℕ) → length xs ≡ 4 → xs ≡ get_or xs 0 0 ∷ get_or xs 1 0 ∷ get_or xs 2 0 ∷ get_or xs 3 0 ∷ []
+four_codes [] l = absurd (omega (arith, l))
+four_codes (a ∷ []) l = absurd (omega (arith, l))
+four_codes (a ∷ b ∷ []) l = absurd (omega (arith, l))
+four_codes (a ∷ b ∷ c ∷ []) l = absurd (omega (arith, l))
+four_codes (a ∷ b ∷ c ∷ d ∷ []) l = refl
+four_codes (a ∷ b ∷ c ∷ d ∷ e ∷ xs) l = absurd (omega (arith, l))
+
+pub blocks_four : (es : List EndPoints) (e : Evidence) (a b c d : EndAt) → e.count ≡ 4 → length e.ends ≡ 4 → Some a ≡ end_of es (get_or e.ends 0 0) → Some b ≡ end_of es (get_or e.ends 1 0) → Some c ≡ end_of es (get_or e.ends 2 0) → Some d ≡ end_of es (get_or e.ends 3 0) → AreStuck (a ∷ b ∷ c ∷ d ∷ []) → Blocks es e
+blocks_four es e a b c d n l fa fb fc fd stuck = record { ends = f.1; stuck = subst AreStuck (sym f.0) stuck }
+  where
+    all : end_codes e ≡ get_or e.ends 0 0 ∷ get_or e.ends 1 0 ∷ get_or e.ends 2 0 ∷ get_or e.ends 3 0 ∷ []
+    all = take_all e.count e.ends (omega (arith, n, l)) ∙ four_codes e.ends l
+
+    f : (filter_map (end_of es) (end_codes e) ≡ a ∷ b ∷ c ∷ d ∷ []) × AllByRecursion (λ code. IsSome (end_of es code)) (end_codes e)
+    f = found_each es (end_codes e) (a ∷ b ∷ c ∷ d ∷ []) ((λ i. fa i ∷ fb i ∷ fc i ∷ fd i ∷ []) ∙ sym (ap (map (end_of es)) all))
+
 -- ---- the sequence that is asked
 
-pub asked_is : (m : Map) (path part : List Frame) (depth : ℕ) (x : Entry) → depth < length path → part ≡ take (depth + 1) (set path depth (frame_at m x)) → path_ends part ≡ asked_ends m path depth x
-asked_is m path part depth x l e = ap path_ends (e ∙ take_more_set path depth (frame_at m x) l) ∙ map-append portal_ends (take depth path) (frame_at m x ∷ [])
+pub asked_is : (path part : List Frame) (depth : ℕ) (x : HalfEdge) → depth < length path → part ≡ take (depth + 1) (set path depth (frame_at x)) → path_ends part ≡ asked_ends path depth x
+asked_is path part depth x l e = ap path_ends (e ∙ take_more_set path depth (frame_at x) l) ∙ map-append portal_ends (take depth path) (frame_at x ∷ [])
 
-pub closed_if : (m : Map) (xs : List Entry) (path part : List Frame) (depth place : ℕ) (x : Entry) (e : Evidence) (b : Bool) → slice_get xs place ≡ Some x → depth < length path → part ≡ take (depth + 1) (set path depth (frame_at m x)) → (IsTrue b ↔ Blocks (path_ends part) e) → IsTrue b ↔ IsClosedBy m xs path depth place e
-closed_if m xs path part depth place x e b at l p s = (λ t. record { entry = x; is = at; room = l; blocks = subst (λ (es : List EndPoints). Blocks es e) (asked_is m path part depth x l p) (s.0 t) }, λ k. s.1 (back k))
+pub closed_if : (xs : List HalfEdge) (path part : List Frame) (depth place : ℕ) (x : HalfEdge) (e : Evidence) (b : Bool) → slice_get xs place ≡ Some x → depth < length path → part ≡ take (depth + 1) (set path depth (frame_at x)) → (IsTrue b ↔ Blocks (path_ends part) e) → IsTrue b ↔ IsClosedBy xs path depth place e
+closed_if xs path part depth place x e b at l p s = (λ t. record { edge = x; is = at; room = l; blocks = subst (λ (es : List EndPoints). Blocks es e) (asked_is path part depth x l p) (s.0 t) }, λ k. s.1 (back k))
   where
-    same : (y : Entry) → slice_get xs place ≡ Some y → ◌≡◌ {A = Option Entry} (Some x) (Some y)
+    same : (y : HalfEdge) → slice_get xs place ≡ Some y → ◌≡◌ {A = Option HalfEdge} (Some x) (Some y)
     same y h = sym at ∙ h
 
-    one : (y : Entry) → ◌≡◌ {A = Option Entry} (Some x) (Some y) → y ≡ x
+    one : (y : HalfEdge) → ◌≡◌ {A = Option HalfEdge} (Some x) (Some y) → y ≡ x
     one y h = cc
 
-    back : IsClosedBy m xs path depth place e → Blocks (path_ends part) e
-    back k = subst (λ (es : List EndPoints). Blocks es e) (sym (asked_is m path part depth x l p)) (subst (λ (y : Entry). Blocks (asked_ends m path depth y) e) (one k.entry (same k.entry k.is)) k.blocks)
+    back : IsClosedBy xs path depth place e → Blocks (path_ends part) e
+    back k = subst (λ (es : List EndPoints). Blocks es e) (sym (asked_is path part depth x l p)) (subst (λ (y : HalfEdge). Blocks (asked_ends path depth y) e) (one k.edge (same k.edge k.is)) k.blocks)

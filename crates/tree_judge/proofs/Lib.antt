@@ -1,6 +1,4 @@
 pub mod Noting
-pub mod Walls
-pub mod Entries
 pub mod Chains
 pub mod Ends
 pub mod Ways

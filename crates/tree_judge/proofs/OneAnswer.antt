@@ -1,39 +1,38 @@
 -- Nodes answer in one way only, and enter the same sectors.
 use Rattle.std.proofs.Common.{◌≡◌, List, [], ◌∷◌, ◌++◌, Option, Some, ℕ, sym, ◌∙◌, ap, subst}
 use Rattle.std.specs.List.{slice_get}
-use Rattle.sight_names.specs.Map.{Map}
 use Rattle.sight_tree.specs.declared.Node.{Node}
 use Rattle.sight_tree.specs.declared.Node.TheVariants.{Open, Blocked}
-use Rattle.tree_judge.specs.declared.web.Entry.{Entry}
-use Rattle.tree_judge.specs.Path.{Pending}
+use Rattle.half_edges.specs.declared.table.HalfEdge.{HalfEdge}
+use Rattle.tree_judge.specs.Path.{Pending, list_of}
 use Rattle.tree_judge.specs.Whole.{ways_through, Answers, AreAnswered}
 
-module _ (m : Map) (xs : List Entry) (source : ℕ) where
+module _ (xs : List HalfEdge) (source : ℕ) where
   first_same : (p q : Pending) (ps qs us : List Pending) → us ≡ p ∷ ps → us ≡ q ∷ qs → p ≡ q
   first_same p q ps qs us e f = cc
 
   rest_same : (p q : Pending) (ps qs us : List Pending) → us ≡ p ∷ ps → us ≡ q ∷ qs → ps ≡ qs
   rest_same p q ps qs us e f = cc
 
-  one_same : (x y : Entry) (o : Option Entry) → o ≡ Some x → o ≡ Some y → x ≡ y
+  one_same : (x y : HalfEdge) (o : Option HalfEdge) → o ≡ Some x → o ≡ Some y → x ≡ y
   one_same x y o e f = cc
 
   -- what is asked behind the node, and what it enters
-  pub one_answer : (n : Node) (ps qs us : List Pending) (here there : List ℕ) → Answers m xs source ps n qs here → Answers m xs source ps n us there → (qs ≡ us) × (here ≡ there)
+  pub one_answer : (n : Node) (ps qs us : List Pending) (here there : List ℕ) → Answers xs source ps n qs here → Answers xs source ps n us there → (qs ≡ us) × (here ≡ there)
   one_answer Open ps qs us here there (p, rest, x, first, is, e, f) (q, more, y, also, this, g, h) = (
-    e ∙ (λ i. ways_through m xs source (same i) (found i) ++ rest_same p q rest more ps first also i) ∙ sym g,
-    f ∙ ap (λ (z : Entry). z.sector ∷ []) found ∙ sym h,
+    e ∙ (λ i. ways_through xs source (same i) (found i) ++ rest_same p q rest more ps first also i) ∙ sym g,
+    f ∙ ap (λ (z : HalfEdge). list_of z.sector) found ∙ sym h,
   )
     where
       same : p ≡ q
       same = first_same p q rest more ps first also
 
       found : x ≡ y
-      found = one_same x y (slice_get xs p.entry) is (ap (λ (r : Pending). slice_get xs r.entry) same ∙ this)
+      found = one_same x y (slice_get xs p.edge) is (ap (λ (r : Pending). slice_get xs r.edge) same ∙ this)
   one_answer (Blocked d) ps qs us here there (p, rest, x, first, is, blocks, e, f) (q, more, y, also, this, stuck, g, h) = (e ∙ rest_same p q rest more ps first also ∙ sym g, f ∙ sym h)
 
-  pub same_sectors : (ns : List Node) (ps left more : List Pending) (some all : List ℕ) → AreAnswered m xs source ps ns left some → AreAnswered m xs source ps ns more all → some ≡ all
+  pub same_sectors : (ns : List Node) (ps left more : List Pending) (some all : List ℕ) → AreAnswered xs source ps ns left some → AreAnswered xs source ps ns more all → some ≡ all
   same_sectors [] ps left more some all f g = f.1 ∙ sym g.1
   same_sectors (n ∷ ns) ps left more some all (us, there, others, first, before, f) (rs, here, back, answer, behind, g) =
       let one = one_answer n ps rs us here there answer first in
-      f ∙ (λ i. (sym one.1) i ++ same_sectors ns us left more others back before (subst (λ (qs : List Pending). AreAnswered m xs source qs ns more back) one.0 behind) i) ∙ sym g
+      f ∙ (λ i. (sym one.1) i ++ same_sectors ns us left more others back before (subst (λ (qs : List Pending). AreAnswered xs source qs ns more back) one.0 behind) i) ∙ sym g

@@ -6,25 +6,25 @@ use Rattle.std.proofs.lemmas.Bool.{cases_lt}
 use Rattle.std.proofs.lemmas.Option.{get_or_from_slice_get}
 use Rattle.sight_names.specs.Splitting.{EndPoints}
 use Rattle.sight_tree.specs.declared.Tree.{Tree}
-use Rattle.tree_judge.specs.declared.web.Entry.{Entry}
+use Rattle.half_edges.specs.declared.table.HalfEdge.{HalfEdge}
 use Rattle.tree_judge.specs.declared.trees.Frame.{Frame}
-use Rattle.tree_judge.specs.Web.{way_outside}
-use Rattle.tree_judge.specs.Path.{portal_ends, path_ends, Pending, pending_way, to_come, longest_of}
+use Rattle.half_edges.specs.HalfEdges.{way_outside}
+use Rattle.tree_judge.specs.Path.{portal_ends, path_ends, Pending, pending_way, pending_ways, longest_of}
 
 -- the last frame's way comes first
-last_first : (xs : List Entry) (source : ℕ) (path : List EndPoints) (fs : List Frame) (f : Frame) → to_come xs source path (fs ++ f ∷ []) ≡ pending_way (path ++ path_ends (fs ++ f ∷ [])) (way_outside xs source f.right_way) ++ to_come xs source path fs
+last_first : (xs : List HalfEdge) (source : ℕ) (path : List EndPoints) (fs : List Frame) (f : Frame) → pending_ways xs source path (fs ++ f ∷ []) ≡ pending_way (path ++ path_ends (fs ++ f ∷ [])) (way_outside xs source f.right_way) ++ pending_ways xs source path fs
 last_first xs source path [] f = cc_end (pending_way (path ++ portal_ends f ∷ []) (way_outside xs source f.right_way))
   where
     cc_end : (ps : List Pending) → [] ++ ps ≡ ps ++ []
     cc_end ps = sym (append-nil ps)
 last_first xs source path (g ∷ fs) f =
     ap (λ (ps : List Pending). ps ++ pending_way (path ++ portal_ends g ∷ []) (way_outside xs source g.right_way)) (last_first xs source (path ++ portal_ends g ∷ []) fs f)
-    ∙ append_assoc (pending_way ((path ++ portal_ends g ∷ []) ++ path_ends (fs ++ f ∷ [])) (way_outside xs source f.right_way)) (to_come xs source (path ++ portal_ends g ∷ []) fs) (pending_way (path ++ portal_ends g ∷ []) (way_outside xs source g.right_way))
-    ∙ ap (λ (es : List EndPoints). pending_way es (way_outside xs source f.right_way) ++ to_come xs source path (g ∷ fs)) (append_assoc path (portal_ends g ∷ []) (path_ends (fs ++ f ∷ [])))
+    ∙ append_assoc (pending_way ((path ++ portal_ends g ∷ []) ++ path_ends (fs ++ f ∷ [])) (way_outside xs source f.right_way)) (pending_ways xs source (path ++ portal_ends g ∷ []) fs) (pending_way (path ++ portal_ends g ∷ []) (way_outside xs source g.right_way))
+    ∙ ap (λ (es : List EndPoints). pending_way es (way_outside xs source f.right_way) ++ pending_ways xs source path (g ∷ fs)) (append_assoc path (portal_ends g ∷ []) (path_ends (fs ++ f ∷ [])))
 
 -- the first so many frames, the last of them apart
-pub back_one : (xs : List Entry) (source : ℕ) (path : List Frame) (d : ℕ) (f : Frame) → d < length path → f ≡ get_or path d f → to_come xs source [] (take (d + 1) path) ≡ pending_way (path_ends (take (d + 1) path)) (way_outside xs source f.right_way) ++ to_come xs source [] (take d path)
-back_one xs source path d f l e = subst (λ (fs : List Frame). to_come xs source [] fs ≡ pending_way (path_ends fs) (way_outside xs source f.right_way) ++ to_come xs source [] (take d path)) (sym (take_more path d f l ∙ ap (λ (g : Frame). take d path ++ g ∷ []) (sym e))) (last_first xs source [] (take d path) f)
+pub back_one : (xs : List HalfEdge) (source : ℕ) (path : List Frame) (d : ℕ) (f : Frame) → d < length path → f ≡ get_or path d f → pending_ways xs source [] (take (d + 1) path) ≡ pending_way (path_ends (take (d + 1) path)) (way_outside xs source f.right_way) ++ pending_ways xs source [] (take d path)
+back_one xs source path d f l e = subst (λ (fs : List Frame). pending_ways xs source [] fs ≡ pending_way (path_ends fs) (way_outside xs source f.right_way) ++ pending_ways xs source [] (take d path)) (sym (take_more path d f l ∙ ap (λ (g : Frame). take d path ++ g ∷ []) (sym e))) (last_first xs source [] (take d path) f)
 
 abbrev pub taken : Frame → Frame
 taken f = record f { right_way = None }
@@ -35,18 +35,18 @@ ends_set (g ∷ path) zero f l e = ap (λ (h : Frame). portal_ends h ∷ path_en
 ends_set (g ∷ path) (suc d) f l e = ap (λ (es : List EndPoints). portal_ends g ∷ es) (ends_set path d f (omega arith) e)
 
 -- its way taken, the frame has none to come
-back_taken : (xs : List Entry) (source : ℕ) (path : List Frame) (d : ℕ) (f : Frame) → d < length path → to_come xs source [] (take (d + 1) (set path d (taken f))) ≡ to_come xs source [] (take d path)
-back_taken xs source path d f l = ap (to_come xs source []) (take_more_set path d (taken f) l) ∙ last_first xs source [] (take d path) (taken f)
+back_taken : (xs : List HalfEdge) (source : ℕ) (path : List Frame) (d : ℕ) (f : Frame) → d < length path → pending_ways xs source [] (take (d + 1) (set path d (taken f))) ≡ pending_ways xs source [] (take d path)
+back_taken xs source path d f l = ap (pending_ways xs source []) (take_more_set path d (taken f) l) ∙ last_first xs source [] (take d path) (taken f)
 
 -- what is known on the way back
-pub record IsBackTo (xs : List Entry) (source : ℕ) (old path : List Frame) (all d : ℕ) : Type 0 where
+pub record IsBackTo (xs : List HalfEdge) (source : ℕ) (old path : List Frame) (all d : ℕ) : Type 0 where
   pub within : d ≤ length path
   pub fewer : d ≤ all
   pub ends : path_ends path ≡ path_ends old
-  pub ways : to_come xs source [] (take all old) ≡ to_come xs source [] (take d path)
+  pub ways : pending_ways xs source [] (take all old) ≡ pending_ways xs source [] (take d path)
 
-pub back_start : (xs : List Entry) (source : ℕ) (old : List Frame) (all d : ℕ) → d ≡ min all (length old) → IsBackTo xs source old old all d
-back_start xs source old all d e = record { within = omega arith; fewer = omega arith; ends = refl; ways = ap (to_come xs source []) same }
+pub back_start : (xs : List HalfEdge) (source : ℕ) (old : List Frame) (all d : ℕ) → d ≡ min all (length old) → IsBackTo xs source old old all d
+back_start xs source old all d e = record { within = omega arith; fewer = omega arith; ends = refl; ways = ap (pending_ways xs source []) same }
   where
     same : take all old ≡ take d old
     same = elim (cases_lt (length old) all) as (λ _. take all old ≡ take d old) [
@@ -57,12 +57,12 @@ back_start xs source old all d e = record { within = omega arith; fewer = omega 
 pub ends_take : (path old : List Frame) (d : ℕ) → path_ends path ≡ path_ends old → path_ends (take d path) ≡ path_ends (take d old)
 ends_take path old d e = sym (take-map portal_ends d path) ∙ ap (take d) e ∙ take-map portal_ends d old
 
-pub back_step : (xs : List Entry) (source : ℕ) (old path : List Frame) (all d k : ℕ) (f : Frame) → d ≡ k + 1 → slice_get path k ≡ Some f → IsBackTo xs source old path all d → None ≡ way_outside xs source f.right_way → IsBackTo xs source old (set path k (taken f)) all k
+pub back_step : (xs : List HalfEdge) (source : ℕ) (old path : List Frame) (all d k : ℕ) (f : Frame) → d ≡ k + 1 → slice_get path k ≡ Some f → IsBackTo xs source old path all d → None ≡ way_outside xs source f.right_way → IsBackTo xs source old (set path k (taken f)) all k
 back_step xs source old path all d k f q e b w = record {
   within = let h : length (set path k (taken f)) ≡ length path = length-set path k (taken f) in omega (arith, h, q, b.within);
   fewer = omega (arith, q, b.fewer);
   ends = ends_set path k f l here ∙ b.ends;
-  ways = b.ways ∙ ap (λ (n : ℕ). to_come xs source [] (take n path)) q ∙ back_one xs source path k f l here ∙ ap (λ (o : Option ℕ). pending_way (path_ends (take (k + 1) path)) o ++ to_come xs source [] (take k path)) (sym w) ∙ ap (to_come xs source []) (sym (take-set path k (taken f)));
+  ways = b.ways ∙ ap (λ (n : ℕ). pending_ways xs source [] (take n path)) q ∙ back_one xs source path k f l here ∙ ap (λ (o : Option ℕ). pending_way (path_ends (take (k + 1) path)) o ++ pending_ways xs source [] (take k path)) (sym w) ∙ ap (pending_ways xs source []) (sym (take-set path k (taken f)));
 }
   where
     l : k < length path
@@ -71,14 +71,14 @@ back_step xs source old path all d k f q e b w = record {
     here : f ≡ get_or path k f
     here = sym (get_or_from_slice_get path k f f e)
 
-pub back_found : (xs : List Entry) (source : ℕ) (old path : List Frame) (all d k i : ℕ) (f : Frame) → d ≡ k + 1 → slice_get path k ≡ Some f → IsBackTo xs source old path all d → Some i ≡ way_outside xs source f.right_way
-    → (path_ends (set path k (taken f)) ≡ path_ends old) × (to_come xs source [] (take all old) ≡ pending_way (path_ends (take d old)) (Some i) ++ to_come xs source [] (take d (set path k (taken f))))
+pub back_found : (xs : List HalfEdge) (source : ℕ) (old path : List Frame) (all d k i : ℕ) (f : Frame) → d ≡ k + 1 → slice_get path k ≡ Some f → IsBackTo xs source old path all d → Some i ≡ way_outside xs source f.right_way
+    → (path_ends (set path k (taken f)) ≡ path_ends old) × (pending_ways xs source [] (take all old) ≡ pending_way (path_ends (take d old)) (Some i) ++ pending_ways xs source [] (take d (set path k (taken f))))
 back_found xs source old path all d k i f q e b w = (
   ends_set path k f l here ∙ b.ends,
-  b.ways ∙ ap (λ (n : ℕ). to_come xs source [] (take n path)) q ∙ back_one xs source path k f l here
-      ∙ ap (λ (o : Option ℕ). pending_way (path_ends (take (k + 1) path)) o ++ to_come xs source [] (take k path)) (sym w)
-      ∙ ap (λ (es : List EndPoints). pending_way es (Some i) ++ to_come xs source [] (take k path)) (ap (λ (n : ℕ). path_ends (take n path)) (sym q) ∙ ends_take path old d b.ends)
-      ∙ ap (λ (ps : List Pending). pending_way (path_ends (take d old)) (Some i) ++ ps) (sym (back_taken xs source path k f l) ∙ ap (λ (n : ℕ). to_come xs source [] (take n (set path k (taken f)))) (sym q)),
+  b.ways ∙ ap (λ (n : ℕ). pending_ways xs source [] (take n path)) q ∙ back_one xs source path k f l here
+      ∙ ap (λ (o : Option ℕ). pending_way (path_ends (take (k + 1) path)) o ++ pending_ways xs source [] (take k path)) (sym w)
+      ∙ ap (λ (es : List EndPoints). pending_way es (Some i) ++ pending_ways xs source [] (take k path)) (ap (λ (n : ℕ). path_ends (take n path)) (sym q) ∙ ends_take path old d b.ends)
+      ∙ ap (λ (ps : List Pending). pending_way (path_ends (take d old)) (Some i) ++ ps) (sym (back_taken xs source path k f l) ∙ ap (λ (n : ℕ). pending_ways xs source [] (take n (set path k (taken f)))) (sym q)),
 )
   where
     l : k < length path
@@ -86,9 +86,6 @@ back_found xs source old path all d k i f q e b w = (
 
     here : f ≡ get_or path k f
     here = sym (get_or_from_slice_get path k f f e)
-
-pub back_end : (xs : List Entry) (source : ℕ) (old path : List Frame) (all d : ℕ) → d ≡ 0 → IsBackTo xs source old path all d → to_come xs source [] (take all old) ≡ to_come xs source [] (take 0 path)
-back_end xs source old path all d q b = b.ways ∙ ap (λ (n : ℕ). to_come xs source [] (take n path)) q
 
 -- ---- the longest tree
 

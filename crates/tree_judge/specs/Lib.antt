@@ -1,5 +1,4 @@
 pub mod Marks
-pub mod Web
 pub mod Path
 pub mod Roots
 pub mod Whole

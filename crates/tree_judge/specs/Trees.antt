@@ -1,18 +1,19 @@
 -- What a judge of trees tells of a certificate.
 use Rattle.std.specs.Prelude.{◌≡◌, ◌<◌, ◌↔◌, ℕ, List, map, slice_get, Some, Bool, Contains}
-use Rattle.sight_names.specs.Map.{Map}
+use Rattle.sight_names.specs.Map.{Map, map_of}
+use Rattle.sight_names.specs.Plan.{PlanParts}
 use Rattle.sight_tree.specs.declared.Tree.{Tree}
 use Rattle.sight_tree.specs.WholeTree.{IsWholeTree}
 use Rattle.reject_bits.specs.Parts.{TableParts, Rejects}
 use Rattle.cert_format.specs.Parts.{CertParts}
 use Rattle.cert_format.specs.Accepted.{triangles_of, labels_of, HasTreeWithout}
-use Rattle.tree_judge.specs.declared.web.Entry.{Entry}
+use Rattle.half_edges.specs.declared.table.HalfEdge.{HalfEdge}
+use Rattle.half_edges.specs.HalfEdges.{AreHalfEdges}
 use Rattle.tree_judge.specs.declared.judge.TreeVerdict.{TreeVerdict}
 use Rattle.tree_judge.specs.declared.judge.TreeVerdict.TheVariants.{Whole, Wrong}
 use Rattle.tree_judge.specs.Marks.{IsMarked}
-use Rattle.tree_judge.specs.Web.{AreWalls, AreEntries}
 use Rattle.tree_judge.specs.Path.{root_pending}
-use Rattle.tree_judge.specs.Roots.{root_entries}
+use Rattle.tree_judge.specs.Roots.{root_edges}
 use Rattle.tree_judge.specs.Whole.{IsFirstWrong}
 
 -- each tree of the certificate is whole
@@ -27,12 +28,12 @@ pub record IsFirstTreeNotWhole (m : Map) (c : CertParts) (source k : ℕ) : Type
   pub of : tree.source ≡ source
   pub not_whole : (opened : List ℕ) → ¬ IsWholeTree m (triangles_of c) (labels_of c) tree opened
   pub before : (i : ℕ) (t : Tree) → i < place → slice_get c.trees i ≡ Some t → (opened : List ℕ) × IsWholeTree m (triangles_of c) (labels_of c) t opened
-  -- the number, by the entries of the mesh
-  pub walls : List Bool
-  pub entries : List Entry
-  pub are_walls : AreWalls m (triangles_of c) walls
-  pub are_entries : AreEntries (triangles_of c) walls c.triangles entries
-  pub node : IsFirstWrong m entries tree.source (map root_pending (root_entries (triangles_of c) walls entries m tree.source)) tree.nodes k
+  -- the number, by the half-edges of the mesh over a plan of the map
+  pub plan : PlanParts
+  pub of_map : map_of plan ≡ m
+  pub edges : List HalfEdge
+  pub are_edges : AreHalfEdges plan (triangles_of c) (labels_of c) edges
+  pub node : IsFirstWrong edges tree.source (map root_pending (root_edges (triangles_of c) edges m tree.source)) tree.nodes k
 
 -- a sector is marked, and its bit of another one isn't set, exactly where a tree of the one keeps from the other
 abbrev pub TellsReach : Map → CertParts → List Bool → TableParts → Type 0

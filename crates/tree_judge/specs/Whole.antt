@@ -1,4 +1,4 @@
--- Trees as answers to a walk: each node answers the first of the entries that are still to be asked.
+-- Trees as answers to a walk: each node answers the first of the half-edges that are still to be asked.
 use Rattle.std.specs.Prelude.{◌≡◌, ◌≢◌, ℕ, ◌<◌, ◌≤◌, ◌⊎◌, ◌↔◌, List, [], ◌∷◌, ◌++◌, Option, Some, None, map, take, length, slice_get, Contains, Bool}
 use Rattle.sight_names.specs.Map.{Map}
 use Rattle.sight_names.specs.Splitting.{EndPoints}
@@ -8,42 +8,42 @@ use Rattle.sight_tree.specs.declared.Tree.{Tree}
 use Rattle.block_evidence.specs.Stuck.{Blocks}
 use Rattle.reject_bits.specs.Parts.{TableParts, Rejects}
 use Rattle.sight_names.specs.declared.names.Triangle.{Triangle}
-use Rattle.tree_judge.specs.declared.web.Entry.{Entry}
+use Rattle.half_edges.specs.declared.table.HalfEdge.{HalfEdge}
 use Rattle.tree_judge.specs.declared.roots.Root.{Root}
 use Rattle.tree_judge.specs.declared.trees.Frame.{Frame}
 use Rattle.tree_judge.specs.declared.trees.Follow.{Follow}
-use Rattle.tree_judge.specs.Web.{way_outside}
-use Rattle.tree_judge.specs.Roots.{root_entries}
+use Rattle.half_edges.specs.HalfEdges.{way_outside}
+use Rattle.tree_judge.specs.Roots.{root_edges}
 use Rattle.tree_judge.specs.Marks.{IsMarked}
-use Rattle.tree_judge.specs.Path.{portal_ends, path_ends, frame_at, Pending, pending_way, IsChain, root_pending, still_asked}
+use Rattle.tree_judge.specs.Path.{portal_ends, path_ends, frame_at, list_of, Pending, pending_way, IsChain, root_pending, all_pending}
 
--- the ends of the portals that lead up to the entry and through it
-abbrev pub ends_through : Map → Pending → Entry → List EndPoints
-ends_through m p x = p.path ++ portal_ends (frame_at m x) ∷ []
+-- the ends of the portals that lead up to the half-edge and through it
+abbrev pub ends_through : Pending → HalfEdge → List EndPoints
+ends_through p x = p.path ++ portal_ends (frame_at x) ∷ []
 
--- whoever goes through the entry has its two ways to ask, as far as they lead out of the source
-abbrev pub ways_through : Map → List Entry → ℕ → Pending → Entry → List Pending
-ways_through m xs source p x = pending_way (ends_through m p x) (way_outside xs source x.left_way) ++ pending_way (ends_through m p x) (way_outside xs source x.right_way)
+-- whoever goes through the half-edge has its two ways to ask, as far as they lead out of the source
+abbrev pub ways_through : List HalfEdge → ℕ → Pending → HalfEdge → List Pending
+ways_through xs source p x = pending_way (ends_through p x) (way_outside xs source x.left_way) ++ pending_way (ends_through p x) (way_outside xs source x.right_way)
 
--- The node answers for the first of the entries: an open one goes through it, and its ways are to be asked before the
+-- The node answers for the first of the half-edges: an open one goes through it, and its ways are to be asked before the
 -- others; a blocked one shows ends that are stuck. Then the one list is still to be asked, and the other is of the
 -- sectors that were entered.
-abbrev pub Answers : Map → List Entry → ℕ → List Pending → Node → List Pending → List ℕ → Type 0
-Answers m xs source ps Open qs sectors = (p : Pending) × (rest : List Pending) × (x : Entry) × (ps ≡ p ∷ rest) × (slice_get xs p.entry ≡ Some x) × (qs ≡ ways_through m xs source p x ++ rest) × (sectors ≡ x.sector ∷ [])
-Answers m xs source ps (Blocked e) qs sectors = (p : Pending) × (rest : List Pending) × (x : Entry) × (ps ≡ p ∷ rest) × (slice_get xs p.entry ≡ Some x) × Blocks (ends_through m p x) e × (qs ≡ rest) × (sectors ≡ [])
+abbrev pub Answers : List HalfEdge → ℕ → List Pending → Node → List Pending → List ℕ → Type 0
+Answers xs source ps Open qs sectors = (p : Pending) × (rest : List Pending) × (x : HalfEdge) × (ps ≡ p ∷ rest) × (slice_get xs p.edge ≡ Some x) × (qs ≡ ways_through xs source p x ++ rest) × (sectors ≡ list_of x.sector)
+Answers xs source ps (Blocked e) qs sectors = (p : Pending) × (rest : List Pending) × (x : HalfEdge) × (ps ≡ p ∷ rest) × (slice_get xs p.edge ≡ Some x) × Blocks (ends_through p x) e × (qs ≡ rest) × (sectors ≡ [])
 
 -- the nodes answer one after another, and the last of the lists is still to be asked behind them
-abbrev pub AreAnswered : Map → List Entry → ℕ → List Pending → List Node → List Pending → List ℕ → Type 0
-AreAnswered m xs source ps [] qs sectors = (qs ≡ ps) × (sectors ≡ [])
-AreAnswered m xs source ps (n ∷ ns) qs sectors = (rs : List Pending) × (here more : List ℕ) × Answers m xs source ps n rs here × AreAnswered m xs source rs ns qs more × (sectors ≡ here ++ more)
+abbrev pub AreAnswered : List HalfEdge → ℕ → List Pending → List Node → List Pending → List ℕ → Type 0
+AreAnswered xs source ps [] qs sectors = (qs ≡ ps) × (sectors ≡ [])
+AreAnswered xs source ps (n ∷ ns) qs sectors = (rs : List Pending) × (here more : List ℕ) × Answers xs source ps n rs here × AreAnswered xs source rs ns qs more × (sectors ≡ here ++ more)
 
 -- the nodes below k answer, and node k doesn't; or it is one past the last, and something is still to be asked
-pub record IsFirstWrong (m : Map) (xs : List Entry) (source : ℕ) (ps : List Pending) (ns : List Node) (k : ℕ) : Type 0 where
+pub record IsFirstWrong (xs : List HalfEdge) (source : ℕ) (ps : List Pending) (ns : List Node) (k : ℕ) : Type 0 where
   pub left : List Pending
   pub sectors : List ℕ
   pub within : k ≤ length ns
-  pub before : AreAnswered m xs source ps (take k ns) left sectors
-  pub wrong : (n : Node) → slice_get ns k ≡ Some n → (qs : List Pending) (here : List ℕ) → ¬ Answers m xs source left n qs here
+  pub before : AreAnswered xs source ps (take k ns) left sectors
+  pub wrong : (n : Node) → slice_get ns k ≡ Some n → (qs : List Pending) (here : List ℕ) → ¬ Answers xs source left n qs here
   pub missing : k ≡ length ns → left ≢ []
 
 -- the bits of the source and of these sectors are set too, and no other
@@ -52,43 +52,43 @@ pub record Notes (source : ℕ) (sectors : List ℕ) (old new : TableParts) : Ty
   pub bits : (a b : ℕ) → a < old.n → b < old.n → Rejects new a b ↔ (Rejects old a b ⊎ ((a ≡ source) × Contains sectors b))
 
 -- the nodes answer for these roots and all that follows them, with none missing and none left over; what they enter is noted
-pub record IsWholeFrom (m : Map) (xs : List Entry) (roots : List Root) (first : Option ℕ) (t : Tree) (old new : TableParts) : Type 0 where
-  pub whole : (es : List ℕ) → IsChain roots first es → (sectors : List ℕ) × AreAnswered m xs t.source (map root_pending es) t.nodes [] sectors × Notes t.source sectors old new
+pub record IsWholeFrom (xs : List HalfEdge) (roots : List Root) (first : Option ℕ) (t : Tree) (old new : TableParts) : Type 0 where
+  pub whole : (es : List ℕ) → IsChain roots first es → (sectors : List ℕ) × AreAnswered xs t.source (map root_pending es) t.nodes [] sectors × Notes t.source sectors old new
 
 -- node k is the first that doesn't answer, or that is missing
-pub record IsFirstWrongFrom (m : Map) (xs : List Entry) (roots : List Root) (first : Option ℕ) (t : Tree) (k : ℕ) : Type 0 where
-  pub wrong : (es : List ℕ) → IsChain roots first es → IsFirstWrong m xs t.source (map root_pending es) t.nodes k
+pub record IsFirstWrongFrom (xs : List HalfEdge) (roots : List Root) (first : Option ℕ) (t : Tree) (k : ℕ) : Type 0 where
+  pub wrong : (es : List ℕ) → IsChain roots first es → IsFirstWrong xs t.source (map root_pending es) t.nodes k
 
 -- ---- all trees
 
 -- the nodes answer for the roots of the map and all that follows them, and enter these sectors
-abbrev pub IsWholeOver : Map → List Triangle → List Bool → List Entry → Tree → List ℕ → Type 0
-IsWholeOver m ts walls xs t sectors = AreAnswered m xs t.source (map root_pending (root_entries ts walls xs m t.source)) t.nodes [] sectors
+abbrev pub IsWholeOver : Map → List Triangle → List HalfEdge → Tree → List ℕ → Type 0
+IsWholeOver m ts xs t sectors = AreAnswered xs t.source (map root_pending (root_edges ts xs m t.source)) t.nodes [] sectors
 
 -- a tree of the one sector that doesn't enter the other
-abbrev pub HasTreeAway : Map → List Triangle → List Bool → List Entry → List Tree → ℕ → ℕ → Type 0
-HasTreeAway m ts walls xs trees a b = (t : Tree) × (sectors : List ℕ) × Contains trees t × (t.source ≡ a) × IsWholeOver m ts walls xs t sectors × ¬ Contains sectors b
+abbrev pub HasTreeAway : Map → List Triangle → List HalfEdge → List Tree → ℕ → ℕ → Type 0
+HasTreeAway m ts xs trees a b = (t : Tree) × (sectors : List ℕ) × Contains trees t × (t.source ≡ a) × IsWholeOver m ts xs t sectors × ¬ Contains sectors b
 
 -- a tree of the one sector that enters the other
-abbrev pub HasTreeInto : Map → List Triangle → List Bool → List Entry → List Tree → ℕ → ℕ → Type 0
-HasTreeInto m ts walls xs trees a b = (t : Tree) × (sectors : List ℕ) × Contains trees t × (t.source ≡ a) × IsWholeOver m ts walls xs t sectors × Contains sectors b
+abbrev pub HasTreeInto : Map → List Triangle → List HalfEdge → List Tree → ℕ → ℕ → Type 0
+HasTreeInto m ts xs trees a b = (t : Tree) × (sectors : List ℕ) × Contains trees t × (t.source ≡ a) × IsWholeOver m ts xs t sectors × Contains sectors b
 
 -- Each of the trees is whole; a sector whose flag was set here has a tree that enters only sectors whose bit is set. The
 -- flag of each source is set, and a bit that was set here is of a sector that a tree of the source enters.
-pub record AreWholeOver (m : Map) (ts : List Triangle) (walls : List Bool) (xs : List Entry) (trees : List Tree) (walked walked_new : List Bool) (reached reached_new : TableParts) : Type 0 where
-  pub each : (t : Tree) → Contains trees t → (sectors : List ℕ) × IsWholeOver m ts walls xs t sectors
-  pub away : (a b : ℕ) → a < reached.n → b < reached.n → IsMarked walked_new a → ¬ Rejects reached_new a b → IsMarked walked a ⊎ HasTreeAway m ts walls xs trees a b
+pub record AreWholeOver (m : Map) (ts : List Triangle) (xs : List HalfEdge) (trees : List Tree) (walked walked_new : List Bool) (reached reached_new : TableParts) : Type 0 where
+  pub each : (t : Tree) → Contains trees t → (sectors : List ℕ) × IsWholeOver m ts xs t sectors
+  pub away : (a b : ℕ) → a < reached.n → b < reached.n → IsMarked walked_new a → ¬ Rejects reached_new a b → IsMarked walked a ⊎ HasTreeAway m ts xs trees a b
   pub marked : (t : Tree) → Contains trees t → t.source < length walked → IsMarked walked_new t.source
-  pub entered : (a b : ℕ) → a < reached.n → b < reached.n → Rejects reached_new a b → Rejects reached a b ⊎ HasTreeInto m ts walls xs trees a b
+  pub entered : (a b : ℕ) → a < reached.n → b < reached.n → Rejects reached_new a b → Rejects reached a b ⊎ HasTreeInto m ts xs trees a b
 
 -- the trees before this one are whole; node k is the first of its nodes that doesn't answer, or one past the last where one is missing
-pub record IsFirstWrongTree (m : Map) (ts : List Triangle) (walls : List Bool) (xs : List Entry) (trees : List Tree) (source k : ℕ) : Type 0 where
+pub record IsFirstWrongTree (m : Map) (ts : List Triangle) (xs : List HalfEdge) (trees : List Tree) (source k : ℕ) : Type 0 where
   pub place : ℕ
   pub tree : Tree
   pub is : slice_get trees place ≡ Some tree
   pub of : tree.source ≡ source
-  pub wrong : IsFirstWrong m xs tree.source (map root_pending (root_entries ts walls xs m tree.source)) tree.nodes k
-  pub before : (i : ℕ) (t : Tree) → i < place → slice_get trees i ≡ Some t → (sectors : List ℕ) × IsWholeOver m ts walls xs t sectors
+  pub wrong : IsFirstWrong xs tree.source (map root_pending (root_edges ts xs m tree.source)) tree.nodes k
+  pub before : (i : ℕ) (t : Tree) → i < place → slice_get trees i ≡ Some t → (sectors : List ℕ) × IsWholeOver m ts xs t sectors
 
 -- no bit is set
 abbrev pub HasNoBit : TableParts → Type 0
@@ -99,21 +99,21 @@ HaveSourcesBelow n trees = (t : Tree) → Contains trees t → t.source < n
 
 -- ---- the walk that follows a tree
 
--- all that is still to be asked by the walk: the present entry, the ways behind its path, the roots behind its own
-pub record IsAt (xs : List Entry) (roots : List Root) (source : ℕ) (path : List Frame) (f : Follow) (ps : List Pending) : Type 0 where
+-- all that is still to be asked by the walk: the present half-edge, the ways behind its path, the roots behind its own
+pub record IsAt (xs : List HalfEdge) (roots : List Root) (source : ℕ) (path : List Frame) (f : Follow) (ps : List Pending) : Type 0 where
   pub es : List ℕ
   pub chain : IsChain roots f.root es
-  pub all : ps ≡ pending_way (path_ends (take f.depth path)) f.asked ++ still_asked xs source path f.depth es
+  pub all : ps ≡ pending_way (path_ends (take f.depth path)) f.asked ++ all_pending xs source path f.depth es
   pub last : f.asked ≡ None → ps ≡ []
 
 -- whatever is still to be asked: the node answers for it, the walk stands behind it, and what it enters is noted
-pub record HasAnswered (m : Map) (xs : List Entry) (roots : List Root) (source : ℕ) (n : Node) (path : List Frame) (f : Follow) (t : TableParts) (path_new : List Frame) (f_new : Follow) (t_new : TableParts) : Type 0 where
-  pub next : (ps : List Pending) → IsAt xs roots source path f ps → (qs : List Pending) × (sectors : List ℕ) × Answers m xs source ps n qs sectors × IsAt xs roots source path_new f_new qs × Notes source sectors t t_new
+pub record HasAnswered (xs : List HalfEdge) (roots : List Root) (source : ℕ) (n : Node) (path : List Frame) (f : Follow) (t : TableParts) (path_new : List Frame) (f_new : Follow) (t_new : TableParts) : Type 0 where
+  pub next : (ps : List Pending) → IsAt xs roots source path f ps → (qs : List Pending) × (sectors : List ℕ) × Answers xs source ps n qs sectors × IsAt xs roots source path_new f_new qs × Notes source sectors t t_new
 
 -- whatever is still to be asked: the node doesn't answer for it
-pub record HasRefused (m : Map) (xs : List Entry) (roots : List Root) (source : ℕ) (n : Node) (path : List Frame) (f : Follow) : Type 0 where
-  pub none : (ps qs : List Pending) (sectors : List ℕ) → IsAt xs roots source path f ps → ¬ Answers m xs source ps n qs sectors
+pub record HasRefused (xs : List HalfEdge) (roots : List Root) (source : ℕ) (n : Node) (path : List Frame) (f : Follow) : Type 0 where
+  pub none : (ps qs : List Pending) (sectors : List ℕ) → IsAt xs roots source path f ps → ¬ Answers xs source ps n qs sectors
 
 -- the walk stands before these roots
-pub record StandsBefore (xs : List Entry) (roots : List Root) (source : ℕ) (first : Option ℕ) (path : List Frame) (f : Follow) : Type 0 where
+pub record StandsBefore (xs : List HalfEdge) (roots : List Root) (source : ℕ) (first : Option ℕ) (path : List Frame) (f : Follow) : Type 0 where
   pub start : (es : List ℕ) → IsChain roots first es → IsAt xs roots source path f (map root_pending es)

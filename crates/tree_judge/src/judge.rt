@@ -1,13 +1,13 @@
 //! All trees of a certificate, one after another.
 
 ghost use Rattle.std.specs.Prelude.{◌≡◌, ◌≤◌, List, Bool, length, IfOk, IfNone, IfSome};
-ghost use Rattle.sight_names.specs.Map.{map_of};
+ghost use Rattle.sight_names.specs.Map.{Map, map_of};
 ghost use Rattle.sight_names.specs.Mesh.{IsGoodMesh};
 ghost use Rattle.sight_names.specs.Plan.{IsPlan};
 ghost use Rattle.sight_names.specs.declared.names.Triangle.{Triangle};
 ghost use Rattle.cert_format.specs.Accepted.{triangles_of, labels_of};
 ghost use Rattle.tree_judge.specs.Marks.{HasNoMark};
-ghost use Rattle.tree_judge.specs.Web.{AreWalls, AreEntries};
+ghost use Rattle.half_edges.specs.HalfEdges.{AreHalfEdges};
 ghost use Rattle.tree_judge.specs.Path.{longest_of};
 ghost use Rattle.tree_judge.specs.Roots.{AreRoots};
 ghost use Rattle.tree_judge.specs.Whole.{AreWholeOver, IsFirstWrongTree, HasNoBit, HaveSourcesBelow};
@@ -15,9 +15,9 @@ ghost use Rattle.tree_judge.specs.Trees.{TellsTrees};
 
 use crate::marks::mark;
 use crate::roots::Roots;
-use crate::trees::{Frame, Ground, first_wrong, path_of};
-use crate::web::Web;
+use crate::trees::{Frame, Terrain, first_wrong, path_of};
 use cert_format::Cert;
+use half_edges::HalfEdges;
 use mesh_shape::Mesh;
 use reject_bits::Table;
 use sight_names::{Memory, Plan};
@@ -56,18 +56,18 @@ fn unreached(alloc: Global, count: u16) -> Result<Table, Memory>
 /// The source of the first tree that isn't whole, and its least wrong node. Sources with a tree are marked, and what
 /// they reach.
 fn wrong_tree(
-    ground: &Ground<'_>,
+    terrain: &Terrain<'_>,
     path: &mut [Frame],
     walked: &mut [bool],
     reached: &mut Table,
     trees: &[Tree],
 ) -> Option<(u16, u64)>
     ensures sectors { reached.new.n ≡ reached.old.n }
-    ensures whole { (ts : List Triangle) (walls : List Bool) → AreRoots (map_of ground.now.plan.now) ts walls ground.now.web.now.entries.items ground.now.roots.now.roots.items ground.now.roots.now.first.items → HaveSourcesBelow ground.now.plan.now.sectors trees.now → IfNone result (AreWholeOver (map_of ground.now.plan.now) ts walls ground.now.web.now.entries.items trees.now walked.old walked.new reached.old reached.new) }
-    ensures wrong { longest_of trees.now ≤ length path.old → (ts : List Triangle) (walls : List Bool) → AreRoots (map_of ground.now.plan.now) ts walls ground.now.web.now.entries.items ground.now.roots.now.roots.items ground.now.roots.now.first.items → HaveSourcesBelow ground.now.plan.now.sectors trees.now → IfSome result (λ w. IsFirstWrongTree (map_of ground.now.plan.now) ts walls ground.now.web.now.entries.items trees.now w.0 w.1) }
+    ensures whole { (m : Map) (ts : List Triangle) → AreRoots m ts terrain.now.edges.now terrain.now.roots.now.roots.items terrain.now.roots.now.first.items → HaveSourcesBelow m.sectors trees.now → IfNone result (AreWholeOver m ts terrain.now.edges.now trees.now walked.old walked.new reached.old reached.new) }
+    ensures wrong { longest_of trees.now ≤ length path.old → (m : Map) (ts : List Triangle) → AreRoots m ts terrain.now.edges.now terrain.now.roots.now.roots.items terrain.now.roots.now.first.items → HaveSourcesBelow m.sectors trees.now → IfSome result (λ w. IsFirstWrongTree m ts terrain.now.edges.now trees.now w.0 w.1) }
 {
     for tree in trees {
-        if let Some(node) = first_wrong(ground, path, reached, tree) {
+        if let Some(node) = first_wrong(terrain, path, reached, tree) {
             return Some((tree.source, node));
         }
         mark(walked, Some(tree.source));
@@ -81,28 +81,26 @@ pub fn judge_trees(
     plan: &Plan,
     cert: &Cert,
     mesh: &Mesh,
-    web: &Web,
+    edges: &HalfEdges,
 ) -> Result<TreeVerdict, Memory>
     requires plan { IsPlan plan.now }
     requires sectors { cert.now.sizes.sectors ≡ plan.now.sectors }
     requires triangles { mesh.now.triangles ≡ triangles_of cert.now }
     requires good { IsGoodMesh (map_of plan.now) mesh.now.triangles (labels_of cert.now) }
-    requires walls { AreWalls (map_of plan.now) mesh.now.triangles web.now.walls.items }
-    requires entries { AreEntries mesh.now.triangles web.now.walls.items cert.now.triangles web.now.entries.items }
+    requires edges { AreHalfEdges plan.now mesh.now.triangles (labels_of cert.now) edges.now }
     ensures { IfOk result (TellsTrees (map_of plan.now) cert.now) }
 {
     let trees = cert.trees();
     let mut path = path_of(alloc, trees)?;
     let mut walked = unmarked(alloc, plan.sectors)?;
     let mut reached = unreached(alloc, plan.sectors)?;
-    let roots = Roots::of(alloc, plan, mesh, web)?;
-    let ground = Ground {
-        plan,
-        web,
+    let roots = Roots::of(alloc, plan, mesh, edges)?;
+    let terrain = Terrain {
+        edges,
         roots: &roots,
     };
     let path = path.as_mut_slice();
-    match wrong_tree(&ground, path, walked.as_mut_slice(), &mut reached, trees) {
+    match wrong_tree(&terrain, path, walked.as_mut_slice(), &mut reached, trees) {
         Some((source, node)) => Ok(TreeVerdict::Wrong { source, node }),
         None => Ok(TreeVerdict::Whole(Reach { walked, reached })),
     }

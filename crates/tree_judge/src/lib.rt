@@ -5,8 +5,6 @@ mod judge;
 mod marks;
 mod roots;
 mod trees;
-mod web;
 
 pub use judge::{Reach, TreeVerdict, judge_trees};
 pub use marks::mark;
-pub use web::{Entry, Web};

@@ -2,18 +2,18 @@
 
 ghost use Rattle.std.specs.Prelude.{◌≡◌, option_and_then, slice_get, IfOk};
 ghost use Rattle.sight_names.specs.Map.{map_of};
-ghost use Rattle.tree_judge.specs.Web.{edge};
-ghost use Rattle.tree_judge.specs.Roots.{first_at, side_entries, line_entries, PutsFirst, PutsBefore, AreRoots};
+ghost use Rattle.half_edges.specs.Numbers.{edge};
+ghost use Rattle.tree_judge.specs.Roots.{first_at, side_edges, line_edges, PutsFirst, PutsBefore, AreRoots};
 
-use crate::web::Web;
+use half_edges::HalfEdges;
 use mesh_shape::Mesh;
 use sight_names::{Line, Memory, Plan};
 use std::alloc::Global;
 
-/// An entry out of a source, and the place of the source's next root.
+/// A half-edge out of a source, and the place of the source's next root.
 #[derive(Clone, Copy)]
 pub struct Root {
-    pub entry: u16,
+    pub edge: u16,
     pub next: Option<usize>,
 }
 
@@ -29,14 +29,14 @@ fn put(
     roots: &mut Vec<Root>,
     first: &mut [Option<usize>],
     source: u16,
-    entry: u16,
+    number: u16,
 ) -> Result<(), Memory>
-    ensures { IfOk result (λ _. PutsFirst source entry roots.old.items first.old roots.new.items first.new) }
+    ensures { IfOk result (λ _. PutsFirst source number roots.old.items first.old roots.new.items first.new) }
 {
     if (source as usize) < first.len() {
         let place = roots.len();
         let next = first[source as usize];
-        roots.push(Root { entry, next })?;
+        roots.push(Root { edge: number, next })?;
         first[source as usize] = Some(place);
     }
     Ok(())
@@ -44,7 +44,7 @@ fn put(
 
 /// Puts the root of the sector that a side names, through the edge with these ends, where it leads out of the sector.
 fn put_side(
-    web: &Web,
+    edges: &HalfEdges,
     mesh: &Mesh,
     roots: &mut Vec<Root>,
     first: &mut [Option<usize>],
@@ -52,27 +52,27 @@ fn put_side(
     left: u16,
     right: u16,
 ) -> Result<(), Memory>
-    ensures { IfOk result (λ _. PutsBefore (side_entries mesh.now.triangles web.now.walls.items web.now.entries.items side (edge left right)) roots.old.items first.old roots.new.items first.new) }
+    ensures { IfOk result (λ _. PutsBefore (side_edges mesh.now.triangles edges.now side (edge left right)) roots.old.items first.old roots.new.items first.new) }
 {
     let Some(source) = side else {
         return Ok(());
     };
-    let way = web.way_through(mesh, left, right);
-    match web.outside(way, source) {
-        Some(entry) => put(roots, first, source, entry),
+    let way = edges.entering(mesh, left, right);
+    match edges.outside(way, source) {
+        Some(number) => put(roots, first, source, number),
         None => Ok(()),
     }
 }
 
 /// Puts the roots at a passable line between two sectors: the left side's, then before it the right side's.
 fn put_line(
-    web: &Web,
+    edges: &HalfEdges,
     mesh: &Mesh,
     roots: &mut Vec<Root>,
     first: &mut [Option<usize>],
     entry: Option<Line>,
 ) -> Result<(), Memory>
-    ensures { IfOk result (λ _. PutsBefore (line_entries mesh.now.triangles web.now.walls.items web.now.entries.items entry) roots.old.items first.old roots.new.items first.new) }
+    ensures { IfOk result (λ _. PutsBefore (line_edges mesh.now.triangles edges.now entry) roots.old.items first.old roots.new.items first.new) }
 {
     let Some(line) = entry else {
         return Ok(());
@@ -80,20 +80,20 @@ fn put_line(
     if line.solid || line.left == line.right {
         return Ok(());
     }
-    put_side(web, mesh, roots, first, line.left, line.b, line.a)?;
-    put_side(web, mesh, roots, first, line.right, line.a, line.b)
+    put_side(edges, mesh, roots, first, line.left, line.b, line.a)?;
+    put_side(edges, mesh, roots, first, line.right, line.a, line.b)
 }
 
 impl Roots {
     /// The roots of all sources, from the last side back.
-    pub fn of(alloc: Global, plan: &Plan, mesh: &Mesh, web: &Web) -> Result<Roots, Memory>
-        ensures { IfOk result (λ r. AreRoots (map_of plan.now) mesh.now.triangles web.now.walls.items web.now.entries.items r.roots.items r.first.items) }
+    pub fn of(alloc: Global, plan: &Plan, mesh: &Mesh, edges: &HalfEdges) -> Result<Roots, Memory>
+        ensures { IfOk result (λ r. AreRoots (map_of plan.now) mesh.now.triangles edges.now r.roots.items r.first.items) }
     {
         let mut first = vec![in alloc; None; plan.sectors as usize]?;
         let mut roots = Vec::new(alloc);
         let lines = plan.lines();
         for k in (0..lines.len()).rev() {
-            put_line(web, mesh, &mut roots, &mut first, lines[k])?;
+            put_line(edges, mesh, &mut roots, &mut first, lines[k])?;
         }
         Ok(Roots { first, roots })
     }

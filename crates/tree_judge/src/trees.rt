@@ -1,20 +1,19 @@
 //! Trees judged in one pass: each node is asked of the walk at its place.
 
-ghost use Rattle.std.specs.Prelude.{◌≡◌, ◌≤◌, ◌<◌, ◌+◌, ◌↔◌, ◌++◌, [], ◌∷◌, Some, None, true, false, IsTrue, IfNone, IfSome, IfOk, slice_get, length, take, slice_set, slice_index_or};
-ghost use Rattle.sight_names.specs.Map.{map_of, origin};
+ghost use Rattle.std.specs.Prelude.{◌≡◌, ◌≤◌, ◌<◌, ◌+◌, ◌↔◌, ◌++◌, [], ◌∷◌, Some, None, true, false, IsTrue, IfNone, IfSome, IfOk, slice_get, length, take, slice_set};
 ghost use Rattle.sight_names.specs.Splitting.{end_of as end_at};
 ghost use Rattle.block_evidence.specs.Stuck.{Blocks};
 ghost use Rattle.reject_bits.specs.Parts.{TableParts};
 ghost use Rattle.sight_tree.specs.declared.Node.TheVariants.{Open, Blocked};
-ghost use Rattle.tree_judge.specs.Path.{path_ends, frame_at, pending_way, to_come, longest_of, AsksRoot, EntersThrough, IsClosedBy, TakesNext};
+ghost use Rattle.tree_judge.specs.Path.{list_of, path_ends, frame_at, pending_way, pending_ways, longest_of, AsksRoot, EntersThrough, IsClosedBy, TakesNext};
 ghost use Rattle.tree_judge.specs.Roots.{first_at};
 ghost use Rattle.tree_judge.specs.Whole.{Notes, HasAnswered, HasRefused, StandsBefore, IsWholeFrom, IsFirstWrongFrom};
 
 use crate::roots::Roots;
-use crate::web::{Entry, Web};
-use block_evidence::{Evidence, stuck};
+use block_evidence::{Evidence, are_stuck, stuck};
+use half_edges::{HalfEdge, HalfEdges};
 use reject_bits::Table;
-use sight_names::{EndAt, Memory, Plan, Pt};
+use sight_names::{EndAt, Memory, Pt};
 use sight_tree::{Node, Tree};
 use std::alloc::Global;
 
@@ -30,9 +29,8 @@ pub struct Frame {
 
 /// The mesh as a walk needs it.
 #[derive(Clone, Copy)]
-pub struct Ground<'a> {
-    pub plan: &'a Plan,
-    pub web: &'a Web,
+pub struct Terrain<'a> {
+    pub edges: &'a HalfEdges,
     pub roots: &'a Roots,
 }
 
@@ -52,25 +50,14 @@ pub fn path_of(alloc: Global, trees: &[Tree]) -> Result<Vec<Frame>, Memory>
     Ok(vec![in alloc; none; longest]?)
 }
 
-/// The point with this number.
-fn point_at(points: &[Pt], number: u16) -> Pt
-    ensures { result ≡ slice_index_or points.now number origin }
+/// The portal of the half-edge, its right way still to come.
+fn frame_of(edge: &HalfEdge) -> Frame
+    ensures { result ≡ frame_at edge.now }
 {
-    match points.get(number as usize) {
-        Some(at) => *at,
-        None => ORIGIN,
-    }
-}
-
-/// The portal of the entry, its right way still to come.
-fn frame_of(plan: &Plan, entry: &Entry) -> Frame
-    ensures { result ≡ frame_at (map_of plan.now) entry.now }
-{
-    let points = plan.points();
     Frame {
-        left: point_at(points, entry.left),
-        right: point_at(points, entry.right),
-        right_way: entry.right_way,
+        left: edge.left_at,
+        right: edge.right_at,
+        right_way: edge.right_way,
     }
 }
 
@@ -86,19 +73,19 @@ fn taken(frame: Frame) -> Frame
 }
 
 /// The next right way on the way back along the first portals of the path, and how many it stands behind.
-fn back(web: &Web, source: u16, path: &mut [Frame], count: usize) -> (Option<u16>, usize)
+fn back(edges: &HalfEdges, source: u16, path: &mut [Frame], count: usize) -> (Option<u16>, usize)
     ensures within { result.1 ≤ length path.old }
     ensures fewer { result.1 ≤ count }
     ensures none { IfNone result.0 (result.1 ≡ 0) }
     ensures ends { path_ends path.new ≡ path_ends path.old }
-    ensures ways { to_come web.now.entries.items source [] (take count path.old) ≡ pending_way (path_ends (take result.1 path.old)) result.0 ++ to_come web.now.entries.items source [] (take result.1 path.new) }
+    ensures ways { pending_ways edges.now source [] (take count path.old) ≡ pending_way (path_ends (take result.1 path.old)) result.0 ++ pending_ways edges.now source [] (take result.1 path.new) }
 {
     let mut depth = count.min(path.len());
     while depth > 0 {
         let last = depth - 1;
         let frame = path[last];
         path[last] = taken(frame);
-        if let Some(way) = web.outside(frame.right_way, source) {
+        if let Some(way) = edges.outside(frame.right_way, source) {
             return (Some(way), depth);
         }
         depth = last;
@@ -119,8 +106,30 @@ fn end_of(path: &[Frame], code: u16) -> Option<EndAt>
     Some(EndAt { code, at })
 }
 
+/// Whether the ends are four ends of these portals that are seen at once to be stuck. `false` says nothing.
+fn is_seen_blocked(path: &[Frame], evidence: Evidence) -> bool
+    ensures { IsTrue result → Blocks (path_ends path.now) evidence }
+{
+    if evidence.count != 4 {
+        return false;
+    }
+    let Some(a) = end_of(path, evidence.ends[0]) else {
+        return false;
+    };
+    let Some(b) = end_of(path, evidence.ends[1]) else {
+        return false;
+    };
+    let Some(c) = end_of(path, evidence.ends[2]) else {
+        return false;
+    };
+    let Some(d) = end_of(path, evidence.ends[3]) else {
+        return false;
+    };
+    are_stuck(a, b, c, d)
+}
+
 /// Whether the ends are ends of these portals, and stuck.
-fn is_blocked(path: &[Frame], evidence: Evidence) -> bool
+fn is_shown_blocked(path: &[Frame], evidence: Evidence) -> bool
     ensures { IsTrue result ↔ Blocks (path_ends path.now) evidence }
 {
     let mut ends = [EndAt {
@@ -137,33 +146,40 @@ fn is_blocked(path: &[Frame], evidence: Evidence) -> bool
     stuck(&ends[..count])
 }
 
-/// Puts the portal of this entry behind the open ones, and says whether there was room.
-fn put(plan: &Plan, path: &mut [Frame], depth: usize, entry: &Entry) -> bool
+/// The same; most often it is seen at once.
+fn is_blocked(path: &[Frame], evidence: Evidence) -> bool
+    ensures { IsTrue result ↔ Blocks (path_ends path.now) evidence }
+{
+    is_seen_blocked(path, evidence) || is_shown_blocked(path, evidence)
+}
+
+/// Puts the portal of this half-edge behind the open ones, and says whether there was room.
+fn put(path: &mut [Frame], depth: usize, edge: &HalfEdge) -> bool
     ensures room { IsTrue result ↔ (depth < length path.old) }
-    ensures put { path.new ≡ slice_set path.old depth (frame_at (map_of plan.now) entry.now) }
+    ensures put { path.new ≡ slice_set path.old depth (frame_at edge.now) }
 {
     if depth >= path.len() {
         return false;
     }
-    path[depth] = frame_of(plan, entry);
+    path[depth] = frame_of(edge);
     true
 }
 
 /// Whether the ends are ends of the sequence that is asked, and stuck.
 fn is_closed(
-    ground: &Ground<'_>,
+    terrain: &Terrain<'_>,
     path: &mut [Frame],
     depth: usize,
     place: u16,
     evidence: Evidence,
 ) -> bool
-    ensures closed { IsTrue result ↔ IsClosedBy (map_of ground.now.plan.now) ground.now.web.now.entries.items path.old depth place evidence }
+    ensures closed { IsTrue result ↔ IsClosedBy terrain.now.edges.now path.old depth place evidence }
     ensures kept { take depth path.new ≡ take depth path.old }
 {
-    let Some(entry) = ground.web.entry(place) else {
+    let Some(edge) = terrain.edges.get(place) else {
         return false;
     };
-    if !put(ground.plan, path, depth, entry) {
+    if !put(path, depth, edge) {
         return false;
     }
     is_blocked(&path[..=depth], evidence)
@@ -176,23 +192,23 @@ struct Follow {
     depth: usize,
     /// The place of the next root.
     root: Option<usize>,
-    /// The entry that is asked now.
+    /// The half-edge that is asked now.
     asked: Option<u16>,
 }
 
-/// The entry of the root at this place, and the place of the next one.
+/// The half-edge of the root at this place, and the place of the next one.
 fn next_root(roots: &Roots, root: Option<usize>) -> (Option<u16>, Option<usize>)
     ensures { AsksRoot roots.now.roots.items root result.0 result.1 }
 {
     match roots.root(root) {
-        Some(found) => (Some(found.entry), found.next),
+        Some(found) => (Some(found.edge), found.next),
         None => (None, root),
     }
 }
 
-/// The entry that is asked next: the next right way, or else the next root.
+/// The half-edge that is asked next: the next right way, or else the next root.
 fn next_asked(
-    ground: &Ground<'_>,
+    terrain: &Terrain<'_>,
     source: u16,
     path: &mut [Frame],
     follow: &mut Follow,
@@ -200,54 +216,57 @@ fn next_asked(
     ensures ends { path_ends path.new ≡ path_ends path.old }
     ensures depth { follow.new.depth ≤ length path.old }
     ensures fewer { follow.new.depth ≤ follow.old.depth }
-    ensures next { TakesNext ground.now.web.now.entries.items ground.now.roots.now.roots.items source path.old follow.old.depth follow.old.root path.new follow.new.depth follow.new.root result }
+    ensures next { TakesNext terrain.now.edges.now terrain.now.roots.now.roots.items source path.old follow.old.depth follow.old.root path.new follow.new.depth follow.new.root result }
 {
-    let (way, depth) = back(ground.web, source, path, follow.depth);
+    let (way, depth) = back(terrain.edges, source, path, follow.depth);
     follow.depth = depth;
     match way {
         Some(way) => Some(way),
         None => {
-            let (asked, next) = next_root(ground.roots, follow.root);
+            let (asked, next) = next_root(terrain.roots, follow.root);
             follow.root = next;
             asked
         }
     }
 }
 
-/// Goes through the entry, and gives what is asked next.
+/// Goes through the half-edge, and gives what is asked next.
 fn enter(
-    ground: &Ground<'_>,
+    terrain: &Terrain<'_>,
     source: u16,
     path: &mut [Frame],
     follow: &mut Follow,
-    entry: &Entry,
+    edge: &HalfEdge,
 ) -> Option<u16>
     requires { follow.old.depth < length path.old }
     ensures depth { follow.new.depth ≤ follow.old.depth + 1 }
-    ensures enters { EntersThrough (map_of ground.now.plan.now) ground.now.web.now.entries.items ground.now.roots.now.roots.items source path.old follow.old.depth follow.old.root entry.now path.new follow.new.depth follow.new.root result }
+    ensures enters { EntersThrough terrain.now.edges.now terrain.now.roots.now.roots.items source path.old follow.old.depth follow.old.root edge.now path.new follow.new.depth follow.new.root result }
 {
-    path[follow.depth] = frame_of(ground.plan, entry);
+    path[follow.depth] = frame_of(edge);
     follow.depth += 1;
-    match ground.web.outside(entry.left_way, source) {
+    match terrain.edges.outside(edge.left_way, source) {
         Some(way) => Some(way),
-        None => next_asked(ground, source, path, follow),
+        None => next_asked(terrain, source, path, follow),
     }
 }
 
-/// Notes that the source reaches the sector.
-fn note(reached: &mut Table, source: u16, sector: u16)
-    ensures { Notes source (sector ∷ []) reached.old reached.new }
+/// Notes that the source reaches the sector, where there is one.
+fn note(reached: &mut Table, source: u16, sector: Option<u16>)
+    ensures { Notes source (list_of sector) reached.old reached.new }
 {
+    let Some(sector) = sector else {
+        return;
+    };
     let count = reached.sectors();
     if source < count && sector < count {
         reached.set(source, sector);
     }
 }
 
-/// Goes through the entry that is asked: the source reaches the sector behind it. False where there is no such entry, or
+/// Goes through the half-edge that is asked: the source reaches the sector behind it. False where there is no such half-edge, or
 /// no room on the path.
 fn open(
-    ground: &Ground<'_>,
+    terrain: &Terrain<'_>,
     reached: &mut Table,
     source: u16,
     path: &mut [Frame],
@@ -257,23 +276,23 @@ fn open(
     requires { follow.old.asked ≡ Some place }
     ensures depth { follow.new.depth ≤ follow.old.depth + 1 }
     ensures sectors { reached.new.n ≡ reached.old.n }
-    ensures answered { IsTrue result → HasAnswered (map_of ground.now.plan.now) ground.now.web.now.entries.items ground.now.roots.now.roots.items source Open path.old follow.old reached.old path.new follow.new reached.new }
-    ensures refused { result ≡ false → follow.old.depth < length path.old → HasRefused (map_of ground.now.plan.now) ground.now.web.now.entries.items ground.now.roots.now.roots.items source Open path.old follow.old }
+    ensures answered { IsTrue result → HasAnswered terrain.now.edges.now terrain.now.roots.now.roots.items source Open path.old follow.old reached.old path.new follow.new reached.new }
+    ensures refused { result ≡ false → follow.old.depth < length path.old → HasRefused terrain.now.edges.now terrain.now.roots.now.roots.items source Open path.old follow.old }
 {
-    let Some(entry) = ground.web.entry(place) else {
+    let Some(edge) = terrain.edges.get(place) else {
         return false;
     };
     if follow.depth >= path.len() {
         return false;
     }
-    note(reached, source, entry.sector);
-    follow.asked = enter(ground, source, path, follow, entry);
+    note(reached, source, edge.sector);
+    follow.asked = enter(terrain, source, path, follow, edge);
     true
 }
 
-/// Leaves out the entry that is asked. False where these ends don't show that no line passes the sequence through it.
+/// Leaves out the half-edge that is asked. False where these ends don't show that no line passes the sequence through it.
 fn block(
-    ground: &Ground<'_>,
+    terrain: &Terrain<'_>,
     source: u16,
     path: &mut [Frame],
     follow: &mut Follow,
@@ -282,19 +301,19 @@ fn block(
 ) -> bool
     requires { follow.old.asked ≡ Some place }
     ensures depth { follow.new.depth ≤ follow.old.depth }
-    ensures answered { (t : TableParts) → IsTrue result → HasAnswered (map_of ground.now.plan.now) ground.now.web.now.entries.items ground.now.roots.now.roots.items source (Blocked evidence) path.old follow.old t path.new follow.new t }
-    ensures refused { result ≡ false → follow.old.depth < length path.old → HasRefused (map_of ground.now.plan.now) ground.now.web.now.entries.items ground.now.roots.now.roots.items source (Blocked evidence) path.old follow.old }
+    ensures answered { (t : TableParts) → IsTrue result → HasAnswered terrain.now.edges.now terrain.now.roots.now.roots.items source (Blocked evidence) path.old follow.old t path.new follow.new t }
+    ensures refused { result ≡ false → follow.old.depth < length path.old → HasRefused terrain.now.edges.now terrain.now.roots.now.roots.items source (Blocked evidence) path.old follow.old }
 {
-    if !is_closed(ground, path, follow.depth, place, evidence) {
+    if !is_closed(terrain, path, follow.depth, place, evidence) {
         return false;
     }
-    follow.asked = next_asked(ground, source, path, follow);
+    follow.asked = next_asked(terrain, source, path, follow);
     true
 }
 
-/// Whether the node answers for the entry that is asked. The next one is asked then.
+/// Whether the node answers for the half-edge that is asked. The next one is asked then.
 fn answer(
-    ground: &Ground<'_>,
+    terrain: &Terrain<'_>,
     reached: &mut Table,
     source: u16,
     path: &mut [Frame],
@@ -303,48 +322,48 @@ fn answer(
 ) -> bool
     ensures depth { follow.new.depth ≤ follow.old.depth + 1 }
     ensures sectors { reached.new.n ≡ reached.old.n }
-    ensures answered { IsTrue result → HasAnswered (map_of ground.now.plan.now) ground.now.web.now.entries.items ground.now.roots.now.roots.items source node path.old follow.old reached.old path.new follow.new reached.new }
-    ensures refused { result ≡ false → follow.old.depth < length path.old → HasRefused (map_of ground.now.plan.now) ground.now.web.now.entries.items ground.now.roots.now.roots.items source node path.old follow.old }
+    ensures answered { IsTrue result → HasAnswered terrain.now.edges.now terrain.now.roots.now.roots.items source node path.old follow.old reached.old path.new follow.new reached.new }
+    ensures refused { result ≡ false → follow.old.depth < length path.old → HasRefused terrain.now.edges.now terrain.now.roots.now.roots.items source node path.old follow.old }
 {
     let Some(place) = follow.asked else {
         return false;
     };
     match node {
-        Node::Open => open(ground, reached, source, path, follow, place),
-        Node::Blocked(evidence) => block(ground, source, path, follow, place, evidence),
+        Node::Open => open(terrain, reached, source, path, follow, place),
+        Node::Blocked(evidence) => block(terrain, source, path, follow, place, evidence),
     }
 }
 
 /// A walk of the source before its first root.
-fn start(ground: &Ground<'_>, source: u16, path: &mut [Frame]) -> Follow
+fn start(terrain: &Terrain<'_>, source: u16, path: &mut [Frame]) -> Follow
     ensures depth { result.depth ≡ 0 }
-    ensures stands { StandsBefore ground.now.web.now.entries.items ground.now.roots.now.roots.items source (first_at ground.now.roots.now.first.items source) path.new result }
+    ensures stands { StandsBefore terrain.now.edges.now terrain.now.roots.now.roots.items source (first_at terrain.now.roots.now.first.items source) path.new result }
 {
     let mut follow = Follow {
         depth: 0,
-        root: ground.roots.first_of(source),
+        root: terrain.roots.first_of(source),
         asked: None,
     };
-    follow.asked = next_asked(ground, source, path, &mut follow);
+    follow.asked = next_asked(terrain, source, path, &mut follow);
     follow
 }
 
 /// The least node of the tree that is missing, superfluous, or blocked by ends that aren't ends of its sequence or
 /// aren't stuck. The sectors that its open nodes reach are noted.
 pub fn first_wrong(
-    ground: &Ground<'_>,
+    terrain: &Terrain<'_>,
     path: &mut [Frame],
     reached: &mut Table,
     tree: &Tree,
 ) -> Option<u64>
     ensures sectors { reached.new.n ≡ reached.old.n }
-    ensures whole { IfNone result (IsWholeFrom (map_of ground.now.plan.now) ground.now.web.now.entries.items ground.now.roots.now.roots.items (first_at ground.now.roots.now.first.items tree.now.source) tree.now reached.old reached.new) }
-    ensures wrong { length tree.now.nodes ≤ length path.old → IfSome result (IsFirstWrongFrom (map_of ground.now.plan.now) ground.now.web.now.entries.items ground.now.roots.now.roots.items (first_at ground.now.roots.now.first.items tree.now.source) tree.now) }
+    ensures whole { IfNone result (IsWholeFrom terrain.now.edges.now terrain.now.roots.now.roots.items (first_at terrain.now.roots.now.first.items tree.now.source) tree.now reached.old reached.new) }
+    ensures wrong { length tree.now.nodes ≤ length path.old → IfSome result (IsFirstWrongFrom terrain.now.edges.now terrain.now.roots.now.roots.items (first_at terrain.now.roots.now.first.items tree.now.source) tree.now) }
 {
-    let mut follow = start(ground, tree.source, path);
+    let mut follow = start(terrain, tree.source, path);
     let count = tree.nodes.len();
     for (number, node) in tree.nodes.iter().enumerate() {
-        if !answer(ground, reached, tree.source, path, &mut follow, node) {
+        if !answer(terrain, reached, tree.source, path, &mut follow, node) {
             return Some(number as u64);
         }
     }

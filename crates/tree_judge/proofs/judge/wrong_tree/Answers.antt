@@ -1,7 +1,6 @@
 use Rattle.std.proofs.Common.{◌≡◌, ◌≤◌, ◌∙◌, ap, sym, refl, Some, length, arith}
 use Rattle.std.specs.List.{slice_get}
 use Rattle.std.proofs.lemmas.Option.{slice_get-get_or}
-use Rattle.sight_names.specs.Map.{map_of}
 use Rattle.tree_judge.proofs.AllTrees.{none_yet, one_more, wrong_tree, all_whole, longest_has}
 use Rattle.tree_judge.specs.Path.{longest_of}
 use Rattle.tree_judge.proofs.judge.wrong_tree.Goals as goal
@@ -9,7 +8,7 @@ use Rattle.tree_judge.proofs.judge.wrong_tree.Goals as goal
 pub loop-tree-init : goal.loop-tree-init
 loop-tree-init c = record {
   sectors = refl;
-  whole = λ ts walls are low. none_yet (map_of c.args.ground.now.plan.now) ts walls c.args.ground.now.web.now.entries.items c.args.trees.now c.args.walked.now c.args.reached.now;
+  whole = λ m ts are low. none_yet m ts c.args.terrain.now.edges.now c.args.trees.now c.args.walked.now c.args.reached.now;
 }
 
 pub loop-tree-preserved : goal.loop-tree-preserved
@@ -19,20 +18,20 @@ loop-tree-preserved c =
     let trees = c.args.trees.now in
     record {
       sectors = c.in_default.ensures.sectors ∙ l.invariant.sectors;
-      whole = λ ts walls are low. one_more (map_of c.args.ground.now.plan.now) ts walls c.args.ground.now.web.now.entries.items trees c.args.walked.now c.args.reached.now l.tree-index t c.args.ground.now.roots.now.roots.items c.args.ground.now.roots.now.first.items
-          l.walked c.mark.new.flags l.reached c.first_wrong.new.reached are (low t (l.tree-index, c.loop-tree-test.true, sym c.tree-item.is)) (slice_get-get_or trees l.tree-index t c.loop-tree-test.true ∙ ap Some (sym c.tree-item.is)) (l.invariant.whole ts walls are low) c.in_default.ensures.whole c.mark.ensures;
+      whole = λ m ts are low. one_more m ts c.args.terrain.now.edges.now trees c.args.walked.now c.args.reached.now l.tree-index t c.args.terrain.now.roots.now.roots.items c.args.terrain.now.roots.now.first.items
+          l.walked c.mark.new.flags l.reached c.first_wrong.new.reached are (low t (l.tree-index, c.loop-tree-test.true, sym c.tree-item.is)) (slice_get-get_or trees l.tree-index t c.loop-tree-test.true ∙ ap Some (sym c.tree-item.is)) (l.invariant.whole m ts are low) c.in_default.ensures.whole c.mark.ensures;
     }
 
 pub returns-clause-whole : goal.returns-clause-whole
-returns-clause-whole c = λ ts walls are low. all_whole (map_of c.args.ground.now.plan.now) ts walls c.args.ground.now.web.now.entries.items c.args.trees.now c.args.walked.now c.args.reached.now c.loop-tree.tree-index c.loop-tree.walked c.loop-tree.reached (omega arith) (c.loop-tree.invariant.whole ts walls are low)
+returns-clause-whole c = λ m ts are low. all_whole m ts c.args.terrain.now.edges.now c.args.trees.now c.args.walked.now c.args.reached.now c.loop-tree.tree-index c.loop-tree.walked c.loop-tree.reached (omega arith) (c.loop-tree.invariant.whole m ts are low)
 
 pub returns-in-Some-clause-wrong : goal.returns-in-Some-clause-wrong
-returns-in-Some-clause-wrong c = λ long ts walls are low.
+returns-in-Some-clause-wrong c = λ long m ts are low.
     let l = c.loop-tree in
     let t = c.tree-item.result in
     let trees = c.args.trees.now in
     let here : slice_get trees l.tree-index ≡ Some t = slice_get-get_or trees l.tree-index t c.loop-tree-test.true ∙ ap Some (sym c.tree-item.is) in
     let same : length l.path ≡ length c.args.path.now = l.auto.path in
     let few : length t.nodes ≤ longest_of trees = longest_has trees l.tree-index t here in
-    wrong_tree (map_of c.args.ground.now.plan.now) ts walls c.args.ground.now.web.now.entries.items trees c.args.walked.now c.args.reached.now l.tree-index c.in-Some.node t c.args.ground.now.roots.now.roots.items c.args.ground.now.roots.now.first.items
-    l.walked l.reached are (low t (l.tree-index, c.loop-tree-test.true, sym c.tree-item.is)) here (l.invariant.whole ts walls are low) (c.in-Some.ensures.wrong (omega (arith, long, same, few)))
+    wrong_tree m ts c.args.terrain.now.edges.now trees c.args.walked.now c.args.reached.now l.tree-index c.in-Some.node t c.args.terrain.now.roots.now.roots.items c.args.terrain.now.roots.now.first.items
+    l.walked l.reached are (low t (l.tree-index, c.loop-tree-test.true, sym c.tree-item.is)) here (l.invariant.whole m ts are low) (c.in-Some.ensures.wrong (omega (arith, long, same, few)))

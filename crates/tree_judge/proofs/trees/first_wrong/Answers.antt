@@ -1,5 +1,4 @@
 use Rattle.std.proofs.Common.{◌≡◌, ◌∙◌, ℕ, suc, ◌+◌, ◌<◌, ◌∷◌, List, Option, Some, None, length, map, true, false, refl, sym, ap, subst, arith}
-use Rattle.sight_names.specs.Map.{map_of}
 use Rattle.sight_tree.specs.declared.Node.{Node}
 use Rattle.std.specs.Option.{is_some}
 use Rattle.tree_judge.specs.Roots.{first_at}
@@ -13,36 +12,34 @@ longer n rest ns e = let h : length ns ≡ suc (length rest) = ap length e in om
 
 pub loop-number-preserved : goal.loop-number-preserved
 loop-number-preserved c =
-    let m = map_of c.args.ground.now.plan.now in
-    let xs = c.args.ground.now.web.now.entries.items in
-    let roots = c.args.ground.now.roots.now.roots.items in
-    let first = first_at c.args.ground.now.roots.now.first.items c.args.tree.now.source in
+    let xs = c.args.terrain.now.edges.now in
+    let roots = c.args.terrain.now.roots.now.roots.items in
+    let first = first_at c.args.terrain.now.roots.now.first.items c.args.tree.now.source in
     let t = c.args.tree.now in
     let l = c.loop-number in
     record {
       sectors = c.if-not-answer.ensures.sectors ∙ l.invariant.sectors;
       counted = let e : length l.node-iterator ≡ length c.next.new.self + 1 = longer c.in-Some.node c.next.new.self l.node-iterator c.in-Some.ensures.steps in omega (arith, e, l.invariant.counted);
       followed =
-          follows_more m xs roots first t.source t.nodes c.args.reached.now c.in-Some.node c.next.new.self l.number l.path c.answer.new.path l.follow c.answer.new.follow l.reached c.answer.new.reached
-          (subst (λ (ns : List Node). IsFollowed m xs roots first t.source t.nodes ns l.number l.path l.follow c.args.reached.now l.reached) c.in-Some.ensures.steps l.invariant.followed)
+          follows_more xs roots first t.source t.nodes c.args.reached.now c.in-Some.node c.next.new.self l.number l.path c.answer.new.path l.follow c.answer.new.follow l.reached c.answer.new.reached
+          (subst (λ (ns : List Node). IsFollowed xs roots first t.source t.nodes ns l.number l.path l.follow c.args.reached.now l.reached) c.in-Some.ensures.steps l.invariant.followed)
           (c.if-not-answer.ensures.answered refl) c.if-not-answer.ensures.depth;
     }
 
 pub returns-then-not-answer-clause-wrong : goal.returns-then-not-answer-clause-wrong
 returns-then-not-answer-clause-wrong c = λ room. record {
   wrong =
-      let m = map_of c.args.ground.now.plan.now in
-      let xs = c.args.ground.now.web.now.entries.items in
-      let roots = c.args.ground.now.roots.now.roots.items in
-      let first = first_at c.args.ground.now.roots.now.first.items c.args.tree.now.source in
+      let xs = c.args.terrain.now.edges.now in
+      let roots = c.args.terrain.now.roots.now.roots.items in
+      let first = first_at c.args.terrain.now.roots.now.first.items c.args.tree.now.source in
       let t = c.args.tree.now in
       let l = c.loop-number in
       let e : length l.node-iterator ≡ length c.next.new.self + 1 = longer c.in-Some.node c.next.new.self l.node-iterator c.in-Some.ensures.steps in
       let k : length l.path ≡ length c.start-follow.new.path = l.auto.path in
       let j : length c.start-follow.new.path ≡ length c.args.path.now = c.start-follow.auto.path in
       let d : l.follow.depth < length l.path = omega (arith, e, k, j, l.invariant.counted, l.invariant.followed.depth) in
-      wrong_node m xs roots first t.source t.nodes c.args.reached.now c.in-Some.node c.next.new.self l.number l.path l.follow l.reached
-      (subst (λ (ns : List Node). IsFollowed m xs roots first t.source t.nodes ns l.number l.path l.follow c.args.reached.now l.reached) c.in-Some.ensures.steps l.invariant.followed)
+      wrong_node xs roots first t.source t.nodes c.args.reached.now c.in-Some.node c.next.new.self l.number l.path l.follow l.reached
+      (subst (λ (ns : List Node). IsFollowed xs roots first t.source t.nodes ns l.number l.path l.follow c.args.reached.now l.reached) c.in-Some.ensures.steps l.invariant.followed)
       (c.if-not-answer.ensures.refused refl d);
 }
 
@@ -53,15 +50,14 @@ some_asked (Some place) e = (place, refl)
 pub returns-then-is_some-clause-wrong : goal.returns-then-is_some-clause-wrong
 returns-then-is_some-clause-wrong c = λ room. record {
   wrong =
-      let m = map_of c.args.ground.now.plan.now in
-      let xs = c.args.ground.now.web.now.entries.items in
-      let roots = c.args.ground.now.roots.now.roots.items in
-      let first = first_at c.args.ground.now.roots.now.first.items c.args.tree.now.source in
+      let xs = c.args.terrain.now.edges.now in
+      let roots = c.args.terrain.now.roots.now.roots.items in
+      let first = first_at c.args.terrain.now.roots.now.first.items c.args.tree.now.source in
       let t = c.args.tree.now in
       let l = c.loop-number in
       let some : (place : ℕ) × (l.follow.asked ≡ Some place) = some_asked l.follow.asked c.if-is_some.ensures in
-      λ es chain. subst (IsFirstWrong m xs t.source (map root_pending es) t.nodes) (sym c.len-count.ensures)
-      (missing_node m xs roots first t.source t.nodes c.args.reached.now l.node-iterator l.number some.0 l.path l.follow l.reached c.in-None.ensures.steps.0 l.invariant.followed some.1 es chain);
+      λ es chain. subst (IsFirstWrong xs t.source (map root_pending es) t.nodes) (sym c.len-count.ensures)
+      (missing_node xs roots first t.source t.nodes c.args.reached.now l.node-iterator l.number some.0 l.path l.follow l.reached c.in-None.ensures.steps.0 l.invariant.followed some.1 es chain);
 }
 
 none_asked : (o : Option ℕ) → false ≡ is_some o → o ≡ None
@@ -70,10 +66,9 @@ none_asked (Some place) e = absurd (cc)
 
 pub returns-clause-whole : goal.returns-clause-whole
 returns-clause-whole c =
-    let m = map_of c.args.ground.now.plan.now in
-    let xs = c.args.ground.now.web.now.entries.items in
-    let roots = c.args.ground.now.roots.now.roots.items in
-    let first = first_at c.args.ground.now.roots.now.first.items c.args.tree.now.source in
+    let xs = c.args.terrain.now.edges.now in
+    let roots = c.args.terrain.now.roots.now.roots.items in
+    let first = first_at c.args.terrain.now.roots.now.first.items c.args.tree.now.source in
     let t = c.args.tree.now in
     let l = c.loop-number in
-    record { whole = all_answered m xs roots first t.source t.nodes c.args.reached.now l.node-iterator l.number l.path l.follow l.reached c.in-None.ensures.steps.0 l.invariant.followed (none_asked l.follow.asked c.if-is_some.ensures) }
+    record { whole = all_answered xs roots first t.source t.nodes c.args.reached.now l.node-iterator l.number l.path l.follow l.reached c.in-None.ensures.steps.0 l.invariant.followed (none_asked l.follow.asked c.if-is_some.ensures) }

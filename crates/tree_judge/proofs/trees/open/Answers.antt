@@ -1,8 +1,7 @@
 use Rattle.std.proofs.Common.{sym}
-use Rattle.sight_names.specs.Map.{map_of}
 use Rattle.tree_judge.proofs.Following.{opened}
 use Rattle.tree_judge.proofs.trees.open.Goals as goal
 
 pub returns-clause-answered : goal.returns-clause-answered
-returns-clause-answered c = λ _. opened (map_of c.args.ground.now.plan.now) c.args.ground.now.web.now.entries.items c.args.ground.now.roots.now.roots.items c.args.source c.args.path.now c.args.follow.now c.enter-follow.new.path c.args.place
-    c.enter-follow.new.follow.depth c.enter-follow.new.follow.root c.enter-follow.result c.in-Some.entry.now c.args.reached.now c.note.new.reached c.requires (sym c.in-Some.ensures) c.enter-follow.ensures.enters c.note.ensures
+returns-clause-answered c = λ _. opened c.args.terrain.now.edges.now c.args.terrain.now.roots.now.roots.items c.args.source c.args.path.now c.args.follow.now c.enter-follow.new.path c.args.place
+    c.enter-follow.new.follow.depth c.enter-follow.new.follow.root c.enter-follow.result c.in-Some.edge.now c.args.reached.now c.note.new.reached c.requires (sym c.in-Some.ensures) c.enter-follow.ensures.enters c.note.ensures

@@ -2,7 +2,7 @@ use Rattle.std.proofs.Common.{◌≡◌, ◌∙◌, length, take, refl, sym, ap,
 use Rattle.std.proofs.lemmas.List.{length-set}
 use Rattle.tree_judge.specs.Path.{path_ends}
 use Rattle.tree_judge.proofs.Ends.{found_more, blocks_if}
-use Rattle.tree_judge.proofs.trees.is_blocked.Goals as goal
+use Rattle.tree_judge.proofs.trees.is_shown_blocked.Goals as goal
 
 pub loop-i-init : goal.loop-i-init
 loop-i-init c = record { long = refl; found = refl }

@@ -1,7 +1,7 @@
 use Rattle.std.proofs.Common.{◌≡◌, Some, length, map, take}
 use Rattle.sight_names.specs.Splitting.{end_of}
 use Rattle.tree_judge.specs.Path.{path_ends}
-use Rattle.tree_judge.proofs.trees.is_blocked.Given as goal
+use Rattle.tree_judge.proofs.trees.is_shown_blocked.Given as goal
 
 abbrev pub invariant-loop-i : goal.invariant-loop-i
 invariant-loop-i l = record {
