@@ -2,7 +2,7 @@ use Rattle.std.proofs.Common.{◌≡◌, ◌≢◌, ℕ, ◌<◌}
 use Rattle.sight_names.specs.declared.names.Budget.TheVariants.{Full}
 use Rattle.sight_names.specs.Found.{Found}
 use Rattle.sight_names.specs.Map.{map_of}
-use Rattle.portal_walk.specs.Walk.{SameWalk, due, remaining}
+use Rattle.portal_walk.specs.Walk.{SameWalk, pending, remaining}
 use Rattle.pair_budget.specs.Finds.{Extends}
 use Rattle.pair_budget.specs.Notes.{ordered, Grows}
 use Rattle.pair_budget.specs.Walked.{MarksFound}
@@ -16,7 +16,7 @@ invariant-loop-walker g l = record {
   walk : SameWalk l.fn.walker l.walker;
   finds : Extends l.fn.finds l.finds;
   over : IsOver l.walker;
-  come : ComesTo (due l.fn.walker) l.walker l.finds.found;
+  come : ComesTo (pending l.fn.walker) l.walker l.finds.found;
   exact : FindsOver l.walker l.fn.budget l.left l.finds.found;
   through : ThroughOver l.walker l.finds.found;
   full : l.fn.budget ≡ Full → l.left ≡ Full;
