@@ -14,19 +14,19 @@ use Rattle.sight_names.specs.Sequence.{Sequence, roots}
 use Rattle.sight_names.specs.Found.{IsStabbableSequence, Spent}
 use Rattle.sight_names.proofs.PlanNumbers.{count_of_plan}
 use Rattle.block_evidence.specs.declared.Evidence.{Evidence}
-use Rattle.sight_tree.specs.declared.Node.{Node}
-use Rattle.sight_tree.specs.declared.Node.TheVariants.{Open as OpenNode, Blocked as BlockedNode}
+use Rattle.block_evidence.specs.declared.Node.{Node}
+use Rattle.block_evidence.specs.declared.Node.TheVariants.{Open as OpenNode, Blocked as BlockedNode}
 use Rattle.sequence_laws.specs.Ways.{root_alone, both_ways_on}
 use Rattle.sequence_laws.proofs.All.{stand_in_order}
 use Rattle.sequence_laws.proofs.Roots.{begins}
 use Rattle.sequence_laws.proofs.UnderWay.{IsUnderWay, passes_all, passes_blocked, opens, all_opened}
 use Rattle.portal_walk.proofs.Lists.{get_more}
-use Rattle.portal_walk.specs.Walk.{WalkParts, SameWalk, Answers, Blocks, Opens, Ends, due}
+use Rattle.portal_walk.specs.Walk.{WalkParts, SameWalk, Answers, Blocks, Opens, Ends, pending}
 use Rattle.enough_base.proofs.Counts.{few_of_source}
-use Rattle.enough_base.proofs.Orders.{ascending_differ}
-use Rattle.enough_base.proofs.PlanBound.{few_passable, product}
+use Rattle.enough_base.proofs.Orders.{all_of_contains, ascending_differ}
+use Rattle.enough_base.proofs.PlanBound.{few_passable}
 use Rattle.enough_budget.specs.Need.{HasSequences, greatest}
-use Rattle.list_base.proofs.Lists.{all_of}
+use Rattle.enough_budget.proofs.Passing.{third_product}
 
 -- ---- the numbers
 
@@ -35,7 +35,7 @@ pub enough_below : (p : PlanParts) → IsPlan p → (ts : List Triangle) → len
 enough_below p is ts few =
     let v = count_of_plan p is in
     let f = is.few_points in
-    let e = product (passable_lines (map_of p)) (length (points_of (map_of p))) (length ts) (few_passable p is) (omega (arith, v, f)) few in
+    let e = third_product (passable_lines (map_of p)) (length (points_of (map_of p))) (length ts) (few_passable p is) (omega (arith, v, f)) few in
     omega (arith, e)
 
 below_greater : (n p : ℕ) → n ≤ p → n ≤ max 1 p
@@ -43,15 +43,15 @@ below_greater n p h = omega (arith, h)
 
 module _ (m : Map) (ts : List Triangle) (ls : List (Option ℕ)) (a : ℕ) where
   -- as many sequences were opened as were counted
-  pub record HasCounted (dues : List Sequence) (count : ℕ) : Type 0 where
+  pub record HasCounted (ss : List Sequence) (count : ℕ) : Type 0 where
     pub opened : List Sequence
-    pub under_way : IsUnderWay m ts ls a opened dues
+    pub under_way : IsUnderWay m ts ls a opened ss
     pub count_is : length opened ≡ count
 
   -- no more than enough, at any time
-  pub counted_few : IsGoodMesh m ts ls → (dues : List Sequence) (count : ℕ) → HasCounted dues count → count ≤ enough_of m ts
-  counted_few good dues count h =
-      let few = few_of_source m ts ls good.plain.triangles good.plain.turn a h.opened (ascending_differ h.opened h.under_way.ascend) (all_of (IsStabbableSequence m ts ls a) h.opened h.under_way.each) in
+  pub counted_few : IsGoodMesh m ts ls → (ss : List Sequence) (count : ℕ) → HasCounted ss count → count ≤ enough_of m ts
+  counted_few good ss count h =
+      let few = few_of_source m ts ls good.plain.triangles good.plain.turn a h.opened (ascending_differ h.opened h.under_way.ascend) (all_of_contains (IsStabbableSequence m ts ls a) h.opened h.under_way.each) in
       subst (λ (n : ℕ). n ≤ enough_of m ts) h.count_is (below_greater _ _ few)
 
   counted_begun : HasCounted (map root_alone (roots m a)) 0
@@ -64,7 +64,7 @@ module _ (m : Map) (ts : List Triangle) (ls : List (Option ℕ)) (a : ℕ) where
 
   pub sequences_few : IsGoodMesh m ts ls → (n : ℕ) → HasSequences m ts ls a n → n ≤ enough_of m ts
   sequences_few good n (all, are, count) =
-      let few = few_of_source m ts ls good.plain.triangles good.plain.turn a all (ascending_differ all are.ascend) (all_of (IsStabbableSequence m ts ls a) all (λ s c. (are.exactly s).0 c)) in
+      let few = few_of_source m ts ls good.plain.triangles good.plain.turn a all (ascending_differ all are.ascend) (all_of_contains (IsStabbableSequence m ts ls a) all (λ s c. (are.exactly s).0 c)) in
       subst (λ (k : ℕ). k ≤ enough_of m ts) count (below_greater _ _ few)
 
   pub spent_below : IsGoodMesh m ts ls → (n budget : ℕ) → HasSequences m ts ls a n → Spent m ts ls a (Of budget) ↔ (budget < n)
@@ -75,21 +75,21 @@ module _ (m : Map) (ts : List Triangle) (ls : List (Option ℕ)) (a : ℕ) where
 -- ---- over a walk
 
 abbrev pub Counted : WalkParts → ℕ → Type 0
-Counted w count = HasCounted (map_of w.plan) w.mesh.triangles w.labels w.source (due w) count
+Counted w count = HasCounted (map_of w.plan) w.mesh.triangles w.labels w.source (pending w) count
 
-pub begin : (w : WalkParts) → due w ≡ map root_alone (roots (map_of w.plan) w.source) → Counted w 0
+pub begin : (w : WalkParts) → pending w ≡ map root_alone (roots (map_of w.plan) w.source) → Counted w 0
 begin w first = subst (λ (ss : List Sequence). HasCounted (map_of w.plan) w.mesh.triangles w.labels w.source ss 0) (sym first) (counted_begun (map_of w.plan) w.mesh.triangles w.labels w.source)
 
--- the roots of the walk's plan are due at its beginning
-pub first_due : (w : WalkParts) (p : PlanParts) (a : ℕ) → w.plan ≡ p → w.source ≡ a → due w ≡ map root_alone (roots (map_of p) a) → due w ≡ map root_alone (roots (map_of w.plan) w.source)
-first_due w p a e f first = first ∙ sym (λ i. map root_alone (roots (map_of (e i)) (f i)))
+-- the roots of the walk's plan are pending at its beginning
+pub first_pending : (w : WalkParts) (p : PlanParts) (a : ℕ) → w.plan ≡ p → w.source ≡ a → pending w ≡ map root_alone (roots (map_of p) a) → pending w ≡ map root_alone (roots (map_of w.plan) w.source)
+first_pending w p a e f first = first ∙ sym (λ i. map root_alone (roots (map_of (e i)) (f i)))
 
-moved : (old new : WalkParts) (dues : List Sequence) (count : ℕ) → SameWalk old new → HasCounted (map_of old.plan) old.mesh.triangles old.labels old.source dues count → HasCounted (map_of new.plan) new.mesh.triangles new.labels new.source dues count
-moved old new dues count k h = rw (k.plan, k.mesh, k.labels, k.source) h
+moved : (old new : WalkParts) (ss : List Sequence) (count : ℕ) → SameWalk old new → HasCounted (map_of old.plan) old.mesh.triangles old.labels old.source ss count → HasCounted (map_of new.plan) new.mesh.triangles new.labels new.source ss count
+moved old new ss count k h = rw (k.plan, k.mesh, k.labels, k.source) h
 
 module _ (old new : WalkParts) (count : ℕ) (h : Counted old count) where
   abbrev Way : List Sequence → Type 0
-  Way dues = IsUnderWay (map_of old.plan) old.mesh.triangles old.labels old.source h.opened dues
+  Way ss = IsUnderWay (map_of old.plan) old.mesh.triangles old.labels old.source h.opened ss
 
   -- what was passed over is no sequence
   way_to : (s : Sequence) (node : Node) (more : List Sequence) (step : Answers old new s node more) → Way (s ∷ step.rest)
@@ -97,8 +97,8 @@ module _ (old new : WalkParts) (count : ℕ) (h : Counted old count) where
 
   pub blocked : SameWalk old new → (e : Evidence) → Blocks old new e → Counted new count
   blocked same e b =
-      moved old new (due new) count same
-      (subst (λ (dues : List Sequence). HasCounted (map_of old.plan) old.mesh.triangles old.labels old.source dues count) (sym b.answers.next) (record {
+      moved old new (pending new) count same
+      (subst (λ (ss : List Sequence). HasCounted (map_of old.plan) old.mesh.triangles old.labels old.source ss count) (sym b.answers.next) (record {
         opened = h.opened;
         under_way = passes_blocked (map_of old.plan) old.mesh.triangles old.labels old.source h.opened b.sequence b.answers.rest (way_to b.sequence (BlockedNode e) [] b.answers) b.blocked.portals b.blocked.sequence b.blocked.stuck;
         count_is = h.count_is;
@@ -106,8 +106,8 @@ module _ (old new : WalkParts) (count : ℕ) (h : Counted old count) where
 
   pub opened_one : SameWalk old new → (k : ℕ) (entered : Option Side) (a b c : ℤ) → Opens old new k entered a b c → Counted new (count + 1)
   opened_one same k entered a b c o =
-      moved old new (due new) (count + 1) same
-      (subst (λ (dues : List Sequence). HasCounted (map_of old.plan) old.mesh.triangles old.labels old.source dues (count + 1)) (sym o.answers.next) (record {
+      moved old new (pending new) (count + 1) same
+      (subst (λ (ss : List Sequence). HasCounted (map_of old.plan) old.mesh.triangles old.labels old.source ss (count + 1)) (sym o.answers.next) (record {
         opened = h.opened ++ o.sequence ∷ [];
         under_way = opens (map_of old.plan) old.mesh.triangles old.labels old.source h.opened o.sequence o.answers.rest (way_to o.sequence OpenNode (both_ways_on o.sequence) o.answers)
             (o.opened.before ++ o.opened.last ∷ [], o.opened.sequence, (a, b, c, o.opened.splits));
@@ -117,7 +117,7 @@ module _ (old new : WalkParts) (count : ℕ) (h : Counted old count) where
   pub ended : Ends old new → HasSequences (map_of old.plan) old.mesh.triangles old.labels old.source count
   ended e = counted_all (map_of old.plan) old.mesh.triangles old.labels old.source count (record {
     opened = h.opened;
-    under_way = passes_all (map_of old.plan) old.mesh.triangles old.labels old.source h.opened (due old) [] (subst Way (sym (append-nil (due old))) h.under_way) e.past;
+    under_way = passes_all (map_of old.plan) old.mesh.triangles old.labels old.source h.opened (pending old) [] (subst Way (sym (append-nil (pending old))) h.under_way) e.past;
     count_is = h.count_is;
   })
 
@@ -129,9 +129,9 @@ sequences_at w p ts ls a count e f g k h = rw (sym e, sym f, sym g, sym k) h
 -- while it walks, its count is no more than enough
 pub count_few : (w : WalkParts) (p : PlanParts) (ts : List Triangle) (ls : List (Option ℕ)) (a count : ℕ) → w.plan ≡ p → w.mesh.triangles ≡ ts → w.labels ≡ ls → w.source ≡ a → Counted w count
     → IsGoodMesh (map_of p) ts ls → count ≤ enough_of (map_of p) ts
-count_few w p ts ls a count e f g k h good = counted_few (map_of p) ts ls a good (due w) count (over_these p ts ls a e f g k)
+count_few w p ts ls a count e f g k h good = counted_few (map_of p) ts ls a good (pending w) count (over_these p ts ls a e f g k)
   where
-    over_these : (p : PlanParts) (ts : List Triangle) (ls : List (Option ℕ)) (a : ℕ) → w.plan ≡ p → w.mesh.triangles ≡ ts → w.labels ≡ ls → w.source ≡ a → HasCounted (map_of p) ts ls a (due w) count
+    over_these : (p : PlanParts) (ts : List Triangle) (ls : List (Option ℕ)) (a : ℕ) → w.plan ≡ p → w.mesh.triangles ≡ ts → w.labels ≡ ls → w.source ≡ a → HasCounted (map_of p) ts ls a (pending w) count
     over_these p ts ls a e f g k = rw (sym e, sym f, sym g, sym k) h
 
 -- ---- the greatest number

@@ -7,8 +7,10 @@ ghost use Rattle.sight_names.specs.Found.{Spent};
 ghost use Rattle.sight_names.specs.Map.{map_of};
 ghost use Rattle.sight_names.specs.Mesh.{IsGoodMesh};
 ghost use Rattle.sight_names.specs.Sound.{LinesMeetAtEnds};
+ghost use Rattle.half_edges.specs.HalfEdges.{AreHalfEdges};
 ghost use Rattle.enough_budget.specs.Need.{HasSequences, greatest};
 
+use half_edges::HalfEdges;
 use mesh_shape::{Labels, Mesh};
 use portal_walk::{Step, Walker};
 use sight_names::{Memory, Plan};
@@ -20,16 +22,18 @@ fn count_sequences(
     plan: &Plan,
     mesh: &Mesh,
     labels: &Labels,
+    edges: &HalfEdges,
     source: u16,
 ) -> Result<u64, Memory>
     requires points { mesh.now.points ≡ length plan.now.points }
     requires audited { LinesMeetAtEnds (map_of plan.now) }
     requires good { IsGoodMesh (map_of plan.now) mesh.now.triangles labels.now }
+    requires edges { AreHalfEdges plan.now mesh.now.triangles labels.now edges.now }
     requires source { source < plan.now.sectors }
     ensures number { IfOk result (HasSequences (map_of plan.now) mesh.now.triangles labels.now source) }
 {
     enough_fits(plan, mesh);
-    let mut walker = Walker::new(alloc, plan, mesh, labels, source)?;
+    let mut walker = Walker::over(alloc, plan, mesh, labels, edges, source)?;
     let mut count = 0u64;
     loop {
         match walker.next()? {
@@ -58,9 +62,10 @@ pub fn need(alloc: Global, plan: &Plan, mesh: &Mesh, labels: &Labels) -> Result<
     ensures few { IfOk result (λ ns. (a n : ℕ) → slice_get ns.items a ≡ Some n → n ≤ enough_of (map_of plan.now) mesh.now.triangles) }
     ensures spent { IfOk result (λ ns. (a n budget : ℕ) → slice_get ns.items a ≡ Some n → Spent (map_of plan.now) mesh.now.triangles labels.now a (Of budget) ↔ (budget < n)) }
 {
+    let edges = HalfEdges::of(alloc, plan, mesh, labels)?;
     let mut numbers = Vec::new(alloc);
     for source in 0..plan.sectors {
-        numbers.push(count_sequences(alloc, plan, mesh, labels, source)?)?;
+        numbers.push(count_sequences(alloc, plan, mesh, labels, &edges, source)?)?;
     }
     Ok(numbers)
 }

@@ -9,9 +9,10 @@ ghost use Rattle.sight_names.specs.Plan.{IsPlan};
 ghost use Rattle.sight_names.specs.Sequence.{roots};
 ghost use Rattle.sight_names.specs.Sound.{LinesMeetAtEnds};
 ghost use Rattle.stab_hull.specs.Answer.{IsLineInRange};
+ghost use Rattle.half_edges.specs.HalfEdges.{AreHalfEdges};
 ghost use Rattle.sequence_laws.specs.Ways.{root_alone};
 ghost use Rattle.portal_walk.specs.Sides.{ArrivesAt};
-ghost use Rattle.portal_walk.specs.Walk.{due};
+ghost use Rattle.portal_walk.specs.Walk.{pending};
 ghost use Rattle.pair_budget.specs.declared.results.Outcome.TheVariants as outcome;
 ghost use Rattle.pair_budget.specs.declared.results.Reached.{Reached as ReachedSector};
 ghost use Rattle.pair_budget.specs.Exact.{IsExact, IsWholly};
@@ -24,6 +25,7 @@ ghost use Rattle.pair_budget.specs.Whole.{IsFound, IsShown};
 use crate::found_sectors::FoundSectors;
 use crate::notice::Notice;
 use crate::results::{Outcome, Reached, SourceResult};
+use half_edges::HalfEdges;
 use mesh_shape::{Labels, Mesh};
 use portal_walk::{Step, Walker};
 use sight_names::{Budget, Memory, Plan, Side};
@@ -66,6 +68,47 @@ pub fn walk_source<N: Notice>(
     ensures seen { Grows (N.seen notice.old) (N.seen notice.new) }
     ensures looks { Grows (N.looks notice.old) (N.looks notice.new) }
 {
+    let edges = HalfEdges::of(alloc, plan, mesh, labels)?;
+    walk_source_over(alloc, plan, mesh, labels, &edges, source, budget, notice)
+}
+
+/// The same over the half-edges of the mesh, made before: many walks of one map can share them.
+///
+/// # Errors
+///
+/// After `Memory` the notice may have heard of sectors that were found.
+pub fn walk_source_over<N: Notice>(
+    alloc: Global,
+    plan: &Plan,
+    mesh: &Mesh,
+    labels: &Labels,
+    edges: &HalfEdges,
+    source: u16,
+    budget: Budget,
+    notice: &mut N,
+) -> Result<SourceResult, Memory>
+    requires points { mesh.now.points ≡ length plan.now.points }
+    requires audited { LinesMeetAtEnds (map_of plan.now) }
+    requires good { IsGoodMesh (map_of plan.now) mesh.now.triangles labels.now }
+    requires edges { AreHalfEdges plan.now mesh.now.triangles labels.now edges.now }
+    requires source { source < plan.now.sectors }
+    requires hears { (b : ℕ) → b ≢ source → b < plan.now.sectors → Found (map_of plan.now) mesh.now.triangles labels.now source b budget → N.may_hear notice.old (ordered source b) }
+    ensures source { IfOk result (λ r. r.source ≡ source) }
+    ensures found { IfOk result (λ r. AreReached plan.now source r.found) }
+    ensures outcome { IfOk result (λ r. IsOutcome source budget (N.may_settle notice.old) r.outcome) }
+    ensures exact { IfOk result (λ r. IsExact (map_of plan.now) mesh.now.triangles labels.now source budget r.found r.outcome) }
+    ensures alone { N.may_settle notice.old ≡ false → IfOk result (λ r. IsWholly (map_of plan.now) mesh.now.triangles labels.now source budget r.found r.outcome) }
+    ensures rays { IfOk result (λ r. AreThrough plan.now mesh.now.triangles labels.now source r.found) }
+    ensures shown { IfOk result (λ r. IsShown plan.now mesh.now.triangles labels.now r.found r.outcome) }
+    ensures mates { IfOk result (λ r. r.outcome ≡ outcome.All → (b : ℕ) → N.mates notice.old source b → Contains (N.seen notice.new) (ordered source b)) }
+    ensures tag { N.tag notice.new ≡ N.tag notice.old }
+    ensures marks { IfOk result (λ r. MarksFound source r.found (N.marks notice.old) (N.marks notice.new)) }
+    ensures kept { Grows (N.marks notice.old) (N.marks notice.new) }
+    ensures claims { N.claims notice.new ≡ N.claims notice.old }
+    ensures settles { N.may_settle notice.new ≡ N.may_settle notice.old }
+    ensures seen { Grows (N.seen notice.old) (N.seen notice.new) }
+    ensures looks { Grows (N.looks notice.old) (N.looks notice.new) }
+{
     let mut found_sectors = FoundSectors::new(alloc, plan, source)?;
     if notice.settled(source) {
         return Ok(SourceResult {
@@ -74,7 +117,7 @@ pub fn walk_source<N: Notice>(
             outcome: Outcome::All,
         });
     }
-    let walker = Walker::new(alloc, plan, mesh, labels, source)?;
+    let walker = Walker::over(alloc, plan, mesh, labels, edges, source)?;
     let outcome = walk_on(walker, labels, source, budget, &mut found_sectors, notice)?;
     Ok(SourceResult {
         source,
@@ -100,7 +143,7 @@ fn walk_on<N: Notice>(
     requires rules { IsPlan walker.plan }
     requires audited { LinesMeetAtEnds (map_of walker.plan) }
     requires good { IsGoodMesh (map_of walker.plan) walker.mesh.triangles walker.labels }
-    requires due { due walker ≡ map root_alone (roots (map_of walker.plan) walker.source) }
+    requires pending { pending walker ≡ map root_alone (roots (map_of walker.plan) walker.source) }
     requires no_nodes { walker.nodes ≡ [] }
     requires nothing { found_sectors.old.found ≡ [] }
     requires hears { (b : ℕ) → b ≢ walker.source → b < walker.plan.sectors → Found (map_of walker.plan) walker.mesh.triangles walker.labels walker.source b budget → N.may_hear notice.old (ordered source b) }

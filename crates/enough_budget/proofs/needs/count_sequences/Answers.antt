@@ -1,13 +1,13 @@
 use Rattle.std.proofs.Common.{◌∙◌, ap, subst, arith}
 use Rattle.mesh_shape.specs.Shape.{MeshParts}
 use Rattle.portal_walk.specs.Walk.{Takes}
-use Rattle.enough_budget.proofs.Counting.{begin, blocked, count_few, ended, first_due, opened_one, sequences_at}
+use Rattle.enough_budget.proofs.Counting.{begin, blocked, count_few, ended, first_pending, opened_one, sequences_at}
 use Rattle.enough_budget.proofs.needs.count_sequences.Goals as goal
 
 pub loop-walker-init : goal.loop-walker-init
 loop-walker-init c =
     let e = c.in_ok-walker.ensures in
-    record { plan = e.plan; mesh = e.mesh; labels = e.labels; source = e.source; counted = begin c.in_ok-walker.walker (first_due c.in_ok-walker.walker c.args.plan.now c.args.source e.plan e.source e.due) }
+    record { plan = e.plan; mesh = e.mesh; labels = e.labels; source = e.source; counted = begin c.in_ok-walker.walker (first_pending c.in_ok-walker.walker c.args.plan.now c.args.source e.plan e.source e.pending) }
 
 pub returns-in-End : goal.returns-in-End
 returns-in-End c =

@@ -6,7 +6,7 @@ use Rattle.pair_budget.specs.declared.results.Reached.{Reached}
 use Rattle.pair_budget.specs.Through.{IsRayOfStep}
 use Rattle.sight_names.specs.Mesh.{label_of}
 use Rattle.sight_names.specs.Plan.{PlanParts}
-use Rattle.portal_walk.specs.Walk.{Takes, Opens, due}
+use Rattle.portal_walk.specs.Walk.{Takes, Opens, pending}
 use Rattle.portal_walk.proofs.Steps.{same_walk_both}
 use Rattle.pair_budget.specs.Whole.{IsFound}
 use Rattle.pair_budget.proofs.Marks.{told_more, extends_both, still_full}
@@ -29,8 +29,8 @@ loop-walker-init g c =
       walk = record { plan = refl; mesh = refl; labels = refl; source = refl };
       found_sectors = record { plan = refl; source = refl; keeps = λ r h. h };
       over = over;
-      covered = begins c.args.walker over c.requires.due c.requires.no_nodes c.args.found_sectors.now.found c.requires.nothing;
-      exact = finds_begin c.args.walker c.args.budget c.args.found_sectors.now.found c.requires.due c.requires.nothing;
+      covered = begins c.args.walker over c.requires.pending c.requires.no_nodes c.args.found_sectors.now.found c.requires.nothing;
+      exact = finds_begin c.args.walker c.args.budget c.args.found_sectors.now.found c.requires.pending c.requires.nothing;
       through = through_none c.args.walker c.args.found_sectors.now.found c.requires.nothing;
       full = λ f. f;
       hears = c.requires.hears;
@@ -68,7 +68,7 @@ note-requires-clause-hears g c =
 pub returns-in-End-clause-shown : goal.returns-in-End-clause-shown
 returns-in-End-clause-shown g c =
     let i = c.loop-walker.invariant in
-    covers_end c.args.walker c.loop-walker.walker c.next.new.self c.loop-walker.found_sectors.found i.walk i.covered c.next.ensures.walk c.requires.due
+    covers_end c.args.walker c.loop-walker.walker c.next.new.self c.loop-walker.found_sectors.found i.walk i.covered c.next.ensures.walk c.requires.pending
     (subst (Takes c.loop-walker.walker c.next.new.self) c.in-End.is c.in_ok-next.ensures.step) c.tree.result c.tree.ensures.source c.tree.ensures.nodes
 
 pub loop-walker-preserved-in-Blocked : goal.loop-walker-preserved-in-Blocked
@@ -78,7 +78,7 @@ loop-walker-preserved-in-Blocked g c =
       walk = same_walk_both c.args.walker c.loop-walker.walker c.next.new.self i.walk c.next.ensures.walk;
       found_sectors = i.found_sectors;
       over = over_moved c.loop-walker.walker c.next.new.self c.next.ensures.walk i.over;
-      covered = covers_blocked (due c.args.walker) c.loop-walker.walker c.next.new.self c.loop-walker.found_sectors.found i.covered c.next.ensures.walk c.in-Blocked.field-0
+      covered = covers_blocked (pending c.args.walker) c.loop-walker.walker c.next.new.self c.loop-walker.found_sectors.found i.covered c.next.ensures.walk c.in-Blocked.field-0
           (subst (Takes c.loop-walker.walker c.next.new.self) c.in-Blocked.is c.in_ok-next.ensures.step);
       exact = finds_blocked c.loop-walker.walker c.next.new.self c.args.budget c.loop-walker.left c.loop-walker.found_sectors.found i.exact c.next.ensures.walk c.in-Blocked.field-0
           (subst (Takes c.loop-walker.walker c.next.new.self) c.in-Blocked.is c.in_ok-next.ensures.step);
@@ -149,7 +149,7 @@ loop-walker-preserved g c =
       walk = same_walk_both c.args.walker c.loop-walker.walker c.next.new.self i.walk c.next.ensures.walk;
       found_sectors = extends_both c.args.found_sectors.now c.loop-walker.found_sectors c.note.new.found_sectors i.found_sectors e.found_sectors;
       over = over_moved old new c.next.ensures.walk i.over;
-      covered = covers_open (due c.args.walker) old new c.loop-walker.found_sectors.found i.covered k c.in-Open.entered c.in-Open.a c.in-Open.b c.in-Open.c opens later e.found_sectors.keeps c.next.ensures.walk i.over noted
+      covered = covers_open (pending c.args.walker) old new c.loop-walker.found_sectors.found i.covered k c.in-Open.entered c.in-Open.a c.in-Open.b c.in-Open.c opens later e.found_sectors.keeps c.next.ensures.walk i.over noted
           (λ r there. only_label old.labels c.args.labels.now k c.loop-walker.found_sectors.found reached.result r labels reached.ensures.label (c.in_ok-note-in-Open.ensures.only r there));
       exact = finds_noted c.args.walker old new c.args.budget c.loop-walker.left c.loop-walker.found_sectors.found i.covered i.exact c.next.ensures.walk k c.in-Open.entered c.in-Open.a c.in-Open.b c.in-Open.c opens c.in-Some.less c.in-Some.ensures later e.found_sectors.keeps noted
           (λ r there. only_label old.labels c.args.labels.now k c.loop-walker.found_sectors.found reached.result r labels reached.ensures.label (c.in_ok-note-in-Open.ensures.only r there));

@@ -2,7 +2,7 @@ use Rattle.std.proofs.Common.{◌≡◌, ◌≢◌, ℕ, ◌<◌}
 use Rattle.sight_names.specs.declared.names.Budget.TheVariants.{Full}
 use Rattle.sight_names.specs.Found.{Found}
 use Rattle.sight_names.specs.Map.{map_of}
-use Rattle.portal_walk.specs.Walk.{SameWalk, due, remaining}
+use Rattle.portal_walk.specs.Walk.{SameWalk, pending, remaining}
 use Rattle.pair_budget.specs.FoundSectors.{Extends}
 use Rattle.pair_budget.specs.Notes.{ordered, Grows}
 use Rattle.pair_budget.specs.Walked.{MarksFound}
@@ -16,7 +16,7 @@ invariant-loop-walker g l = record {
   walk : SameWalk l.fn.walker l.walker;
   found_sectors : Extends l.fn.found_sectors l.found_sectors;
   over : IsOver l.walker;
-  covered : HasCovered (due l.fn.walker) l.walker l.found_sectors.found;
+  covered : HasCovered (pending l.fn.walker) l.walker l.found_sectors.found;
   exact : FindsOver l.walker l.fn.budget l.left l.found_sectors.found;
   through : ThroughOver l.walker l.found_sectors.found;
   full : l.fn.budget ≡ Full → l.left ≡ Full;

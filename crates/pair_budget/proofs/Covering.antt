@@ -1,4 +1,4 @@
--- The sequences that are due, step by step: nodes that answer for what is due next answer with the new one for what was due.
+-- The sequences that are pending, step by step: nodes that answer for what is pending next answer with the new one for what was pending.
 use Rattle.std.proofs.Common.{◌≡◌, ◌≢◌, ℕ, ◌⊎◌, inl, inr, List, [], ◌∷◌, ◌++◌, Option, Some, None, slice_get, option_map, option_and_then, map, Bool, true, false, IsTrue, cond, Contains, All, refl, sym, ap, ◌∙◌, subst}
 use Rattle.std.specs.List.{AllByRecursion, last_or, filter}
 use Rattle.std.proofs.lemmas.Bool.{cases_eq}
@@ -11,25 +11,40 @@ use Rattle.sight_names.specs.Plan.{PlanParts}
 use Rattle.sight_names.specs.Map.{map_of}
 use Rattle.sight_names.specs.Mesh.{triangle_at, label_of, HasEdge}
 use Rattle.sight_names.specs.Sequence.{Portal, Sequence, Way, Left, Right, IsSequence, IsSolidLine, LeadsOutside, entry_edge, way_out, apex, third_point, portals, portals_from, root_portal, roots, sides_of, is_root}
-use Rattle.sight_names.proofs.Lists.{contains_tail}
+use Rattle.sight_names.proofs.Lists.{contains_head, contains_tail}
 use Rattle.block_evidence.specs.declared.Evidence.{Evidence}
-use Rattle.sight_tree.specs.declared.Node.{Node}
-use Rattle.sight_tree.specs.declared.Node.TheVariants.{Open, Blocked}
+use Rattle.block_evidence.specs.declared.Node.{Node}
+use Rattle.block_evidence.specs.declared.Node.TheVariants.{Open, Blocked}
 use Rattle.block_evidence.specs.Stuck.{BlocksSequence}
-use Rattle.sight_tree.specs.WholeTree.{Answers, HasNoNode, HasNode, no_node, blocked, open_node, AnswersRoots}
+use Rattle.block_evidence.specs.WholeTree.{Answers, HasNoNode, HasNode, no_node, blocked, open_node, AnswersRoots}
 use Rattle.mesh_shape.proofs.RuleLemmas.{found_here}
 use Rattle.sequence_laws.specs.Ways.{root_alone, one_way_on, both_ways_on}
 use Rattle.portal_walk.proofs.Sequences.{portals_more, all_last}
 use Rattle.pair_budget.specs.declared.results.Reached.{Reached}
-use Rattle.pair_budget.specs.Whole.{IsOfFound, AnswersDue, IsGap, IsPending}
+use Rattle.pair_budget.specs.Whole.{IsOfFound, AnswersPending, IsGap, EndsAtGap}
 use Rattle.pair_budget.proofs.Gaps.{IsGround, ways_end, root_gap}
-use Rattle.list_base.proofs.Lists.{all_so, all_front, all_join, last_pushed, contains_here}
 
 -- ---- lists
+
+last_is : (q : Portal) (ps : List Portal) (o : Option Portal) → last_or o (ps ++ q ∷ []) ≡ Some q
+last_is q [] o = refl
+last_is q (p ∷ ps) o = last_is q ps (Some p)
+
+pub all_join : {X : Type 0} (P : X → Type 0) (xs ys : List X) → AllByRecursion P xs → AllByRecursion P ys → AllByRecursion P (xs ++ ys)
+all_join P [] ys h k = k
+all_join P (x ∷ xs) ys h k = (h.0, all_join P xs ys h.1 k)
+
+pub all_first : {X : Type 0} (P : X → Type 0) (xs ys : List X) → AllByRecursion P (xs ++ ys) → AllByRecursion P xs
+all_first P [] ys h = tt
+all_first P (x ∷ xs) ys h = (h.0, all_first P xs ys h.1)
 
 pub all_rest : {X : Type 0} (P : X → Type 0) (xs ys : List X) → AllByRecursion P (xs ++ ys) → AllByRecursion P ys
 all_rest P [] ys h = h
 all_rest P (x ∷ xs) ys h = all_rest P xs ys h.1
+
+pub all_so : {X : Type 0} (P Q : X → Type 0) (xs : List X) → ((x : X) → P x → Q x) → AllByRecursion P xs → AllByRecursion Q xs
+all_so P Q [] f h = tt
+all_so P Q (x ∷ xs) f h = (f x h.0, all_so P Q xs f h.1)
 
 -- ---- more sectors that were found
 
@@ -44,12 +59,12 @@ module _ (p : PlanParts) (ts : List Triangle) (ls : List (Option ℕ)) (a : ℕ)
   end_more old new keeps d (inl s) = inl s
   end_more old new keeps d (inr g) = inr (record { k = g.k; behind = g.behind; free = g.free; known = λ none. found_more ls old new keeps g.k (g.known none) })
 
-  abbrev pub pending_more : (old new : List Reached) → Keeps old new → (s : Sequence) → IsPending p ts ls a old s → IsPending p ts ls a new s
-  pending_more old new keeps s c = record { before = c.before; last = c.last; root = c.root; way = c.way; no_wall = c.no_wall; outside = c.outside; end = end_more old new keeps c.last c.end }
+  abbrev pub gap_more : (old new : List Reached) → Keeps old new → (s : Sequence) → EndsAtGap p ts ls a old s → EndsAtGap p ts ls a new s
+  gap_more old new keeps s c = record { before = c.before; last = c.last; root = c.root; way = c.way; no_wall = c.no_wall; outside = c.outside; end = end_more old new keeps c.last c.end }
 
   -- ---- one sequence
 
-  module _ (found : List Reached) (s : Sequence) (c : IsPending p ts ls a found s) where
+  module _ (found : List Reached) (s : Sequence) (c : EndsAtGap p ts ls a found s) where
     abbrev all_of : List Portal
     all_of = c.before ++ c.last ∷ []
 
@@ -79,8 +94,8 @@ module _ (p : PlanParts) (ts : List Triangle) (ls : List (Option ℕ)) (a : ℕ)
           }))
         ]
 
-    pub skip_one : ((ds : List Portal) → ¬ IsSequence (map_of p) ts ls a s ds) → (rest : List Sequence) (ns : List Node) (opened : List ℕ) → AnswersDue p ts ls a rest ns opened → AnswersDue p ts ls a (s ∷ rest) ns opened
-    skip_one none rest ns opened h = (all_of, [], ns, [], opened, c.way, refl, refl, no_node c.last (last_pushed c.last c.before None) (has_none none) refl refl, h)
+    pub skip_one : ((ds : List Portal) → ¬ IsSequence (map_of p) ts ls a s ds) → (rest : List Sequence) (ns : List Node) (opened : List ℕ) → AnswersPending p ts ls a rest ns opened → AnswersPending p ts ls a (s ∷ rest) ns opened
+    skip_one none rest ns opened h = (all_of, [], ns, [], opened, c.way, refl, refl, no_node c.last (last_is c.last c.before None) (has_none none) refl refl, h)
 
     module _ (ps : List Portal) (q : IsSequence (map_of p) ts ls a s ps) where
       pub same_portals : ps ≡ all_of
@@ -97,13 +112,13 @@ module _ (p : PlanParts) (ts : List Triangle) (ls : List (Option ℕ)) (a : ℕ)
 
       has_node : HasNode (map_of p) ts ls a all_of c.last last_outside.0
       has_node = record {
-        last = last_pushed c.last c.before None;
+        last = last_is c.last c.before None;
         no_wall = all_last (λ (d : Portal). ¬ IsSolidLine (map_of p) d) c.before c.last walls_free;
         entered = last_outside.1;
         outside = last_outside.2;
       }
 
-      pub block_one : (e : Evidence) → BlocksSequence (map_of p) ps e → (rest : List Sequence) (ns : List Node) (opened : List ℕ) → AnswersDue p ts ls a rest ns opened → AnswersDue p ts ls a (s ∷ rest) (Blocked e ∷ ns) opened
+      pub block_one : (e : Evidence) → BlocksSequence (map_of p) ps e → (rest : List Sequence) (ns : List Node) (opened : List ℕ) → AnswersPending p ts ls a rest ns opened → AnswersPending p ts ls a (s ∷ rest) (Blocked e ∷ ns) opened
       block_one e blocks rest ns opened h = (all_of, Blocked e ∷ [], ns, [], opened, c.way, refl, refl, blocked c.last last_outside.0 e has_node (subst (λ (ds : List Portal). BlocksSequence (map_of p) ds e) same_portals blocks) refl refl, h)
 
       module _ (k : ℕ) (at : triangle_at ts (entry_edge c.last) ≡ Some k) where
@@ -119,7 +134,7 @@ module _ (p : PlanParts) (ts : List Triangle) (ls : List (Option ℕ)) (a : ℕ)
         onward : (w : Way) → portals (map_of p) ts (one_way_on s w) ≡ Some (all_of ++ way_out c.last w third_there.0 ∷ [])
         onward w = portals_more ts (root_portal (map_of p) s.root) s.ways w c.before c.last third_there.0 c.way third_there.1
 
-        pub open_one : (rest : List Sequence) (ns : List Node) (opened : List ℕ) → AnswersDue p ts ls a (both_ways_on s ++ rest) ns opened → AnswersDue p ts ls a (s ∷ rest) (Open ∷ ns) (k ∷ opened)
+        pub open_one : (rest : List Sequence) (ns : List Node) (opened : List ℕ) → AnswersPending p ts ls a (both_ways_on s ++ rest) ns opened → AnswersPending p ts ls a (s ∷ rest) (Open ∷ ns) (k ∷ opened)
         open_one rest ns opened (lps, left, ns1, via_left, o1, lway, e1, f1, lanswers, (rps, right, back, via_right, via_back, rway, e2, f2, ranswers, h)) = (
           all_of,
           Open ∷ (left ++ right),
@@ -136,23 +151,23 @@ module _ (p : PlanParts) (ts : List Triangle) (ls : List (Option ℕ)) (a : ℕ)
           h,
         )
 
-        pub ways_pending : IsGround p ts ls → IsOfFound ls found k → AllByRecursion (IsPending p ts ls a found) (both_ways_on s)
-        ways_pending g known = (comes Left ends.0, (comes Right ends.1, tt))
+        pub ways_at_gaps : IsGround p ts ls → IsOfFound ls found k → AllByRecursion (EndsAtGap p ts ls a found) (both_ways_on s)
+        ways_at_gaps g known = (comes Left ends.0, (comes Right ends.1, tt))
           where
             ends : (IsSolidLine (map_of p) (way_out c.last Left third_there.0) ⊎ IsGap p ts ls a found (way_out c.last Left third_there.0)) × (IsSolidLine (map_of p) (way_out c.last Right third_there.0) ⊎ IsGap p ts ls a found (way_out c.last Right third_there.0))
             ends = ways_end p ts ls g a found c.last k third_there.0 at known third_there.1
 
-            comes : (w : Way) → IsSolidLine (map_of p) (way_out c.last w third_there.0) ⊎ IsGap p ts ls a found (way_out c.last w third_there.0) → IsPending p ts ls a found (one_way_on s w)
+            comes : (w : Way) → IsSolidLine (map_of p) (way_out c.last w third_there.0) ⊎ IsGap p ts ls a found (way_out c.last w third_there.0) → EndsAtGap p ts ls a found (one_way_on s w)
             comes w e = record { before = all_of; last = way_out c.last w third_there.0; root = c.root; way = onward w; no_wall = walls_free; outside = all_outside; end = e }
 
   -- ---- the sequences that were passed over
 
-  pub skip_all : (found : List Reached) (skipped rest : List Sequence) → All (λ (s : Sequence). (ds : List Portal) → ¬ IsSequence (map_of p) ts ls a s ds) skipped → AllByRecursion (IsPending p ts ls a found) skipped
-      → (ns : List Node) (opened : List ℕ) → AnswersDue p ts ls a rest ns opened → AnswersDue p ts ls a (skipped ++ rest) ns opened
-  skip_all found [] rest none pending ns opened h = h
-  skip_all found (s ∷ ss) rest none pending ns opened h =
-      skip_one found s pending.0 (All-head (λ (s : Sequence). (ds : List Portal) → ¬ IsSequence (map_of p) ts ls a s ds) s ss none) (ss ++ rest) ns opened
-      (skip_all found ss rest (All-tail (λ (s : Sequence). (ds : List Portal) → ¬ IsSequence (map_of p) ts ls a s ds) s ss none) pending.1 ns opened h)
+  pub skip_all : (found : List Reached) (skipped rest : List Sequence) → All (λ (s : Sequence). (ds : List Portal) → ¬ IsSequence (map_of p) ts ls a s ds) skipped → AllByRecursion (EndsAtGap p ts ls a found) skipped
+      → (ns : List Node) (opened : List ℕ) → AnswersPending p ts ls a rest ns opened → AnswersPending p ts ls a (skipped ++ rest) ns opened
+  skip_all found [] rest none at_gaps ns opened h = h
+  skip_all found (s ∷ ss) rest none at_gaps ns opened h =
+      skip_one found s at_gaps.0 (All-head (λ (s : Sequence). (ds : List Portal) → ¬ IsSequence (map_of p) ts ls a s ds) s ss none) (ss ++ rest) ns opened
+      (skip_all found ss rest (All-tail (λ (s : Sequence). (ds : List Portal) → ¬ IsSequence (map_of p) ts ls a s ds) s ss none) at_gaps.1 ns opened h)
 
   -- ---- roots
 
@@ -164,18 +179,18 @@ module _ (p : PlanParts) (ts : List Triangle) (ls : List (Option ℕ)) (a : ℕ)
       at true e all = (e, all)
       at false e all = all
 
-  roots_in : IsGround p ts ls → (found : List Reached) (ss : List Side) → ((s : Side) → Contains ss s → Contains (roots (map_of p) a) s) → AllByRecursion (λ s. IsTrue (is_root (map_of p) a s)) ss → AllByRecursion (IsPending p ts ls a found) (map root_alone ss)
+  roots_in : IsGround p ts ls → (found : List Reached) (ss : List Side) → ((s : Side) → Contains ss s → Contains (roots (map_of p) a) s) → AllByRecursion (λ s. IsTrue (is_root (map_of p) a s)) ss → AllByRecursion (EndsAtGap p ts ls a found) (map root_alone ss)
   roots_in g found [] within all = tt
   roots_in g found (s ∷ ss) within all = (first (root_gap p ts ls g a found s all.0), roots_in g found ss (λ t c. within t (contains_tail s t ss c)) all.1)
     where
-      first : (d : Portal) × (root_portal (map_of p) s ≡ Some d) × IsGap p ts ls a found d → IsPending p ts ls a found (root_alone s)
-      first (d, is, gap) = record { before = []; last = d; root = within s (contains_here s ss); way = ap (λ (o : Option Portal). portals_from ts o []) is; no_wall = tt; outside = tt; end = inr gap }
+      first : (d : Portal) × (root_portal (map_of p) s ≡ Some d) × IsGap p ts ls a found d → EndsAtGap p ts ls a found (root_alone s)
+      first (d, is, gap) = record { before = []; last = d; root = within s (contains_head s ss); way = ap (λ (o : Option Portal). portals_from ts o []) is; no_wall = tt; outside = tt; end = inr gap }
 
-  pub roots_pending : IsGround p ts ls → (found : List Reached) → AllByRecursion (IsPending p ts ls a found) (map root_alone (roots (map_of p) a))
-  roots_pending g found = roots_in g found (roots (map_of p) a) (λ s c. c) (all_kept (is_root (map_of p) a) (sides_of (map_of p)))
+  pub roots_at_gaps : IsGround p ts ls → (found : List Reached) → AllByRecursion (EndsAtGap p ts ls a found) (map root_alone (roots (map_of p) a))
+  roots_at_gaps g found = roots_in g found (roots (map_of p) a) (λ s c. c) (all_kept (is_root (map_of p) a) (sides_of (map_of p)))
 
   -- what answers for the roots alone answers for the roots
-  pub answers_roots : (ss : List Side) (ns : List Node) (opened : List ℕ) → AnswersDue p ts ls a (map root_alone ss) ns opened → AnswersRoots (map_of p) ts ls a ss ns opened
+  pub answers_roots : (ss : List Side) (ns : List Node) (opened : List ℕ) → AnswersPending p ts ls a (map root_alone ss) ns opened → AnswersRoots (map_of p) ts ls a ss ns opened
   answers_roots [] ns opened h = h
   answers_roots (s ∷ ss) ns opened (ps, front, back, via_front, via_back, way, e, f, answers, rest) = at (root_portal (map_of p) s) refl (answers_roots ss back via_back rest)
     where
