@@ -1,6 +1,5 @@
--- The ends of a path that no line splits.
-use Rattle.std.proofs.Common.{◌≡◌, ◌-◌, List, [], ◌∷◌, ◌++◌, length, take, Ok, Some, All, sym, ap, ◌∙◌, subst, arith}
-use Rattle.std.proofs.lemmas.List.{length_push, take_at}
+-- What a path says of its ends once a portal was tried.
+use Rattle.std.proofs.Common.{◌≡◌, List, [], ◌∷◌, ◌++◌, Ok, Some, All, ℤ, refl, sym, ap, ap₂, ◌∙◌}
 use Rattle.std.proofs.lemmas.List.Elements.{All-contains}
 use Rattle.std.proofs.lemmas.Option.{same_Some}
 use Rattle.sight_names.specs.declared.names.EndAt.{EndAt}
@@ -9,7 +8,7 @@ use Rattle.sight_names.specs.Splitting.{EndPoints, IsPairOf, end_of}
 use Rattle.block_evidence.specs.Stuck.{AreCoded}
 use Rattle.stab_hull.specs.declared.Split.{Split}
 use Rattle.stab_hull.specs.declared.Split.TheVariants.{Line, Stuck}
-use Rattle.stab_hull.specs.Answer.{IsSplitOf}
+use Rattle.stab_hull.specs.Answer.{IsSplitOf, IsEntered}
 use Rattle.portal_walk.specs.declared.path.Frame.{Frame}
 use Rattle.portal_walk.specs.Frames.{PathParts, Enters}
 
@@ -25,12 +24,12 @@ coded_of es pairs h = record {
   same_rights = λ p q c d e. same_end es p.right q.right (All-contains (IsPairOf es) pairs p h c).right (All-contains (IsPairOf es) pairs q h d).right e;
 }
 
-back_again : (es : List EndPoints) (e : EndPoints) → take (length (es ++ e ∷ []) - 1) (es ++ e ∷ []) ≡ es
-back_again es e = take_at es (e ∷ []) (length (es ++ e ∷ []) - 1) (let l = length_push es e in omega arith)
+-- the portal stands among the ends, and a line splits them
+pub line_enters : (p : PathParts) (f : Frame) (e : EndPoints) (frames : List Frame) (ends : List EndPoints) (split : Split) (a b c : ℤ) → split ≡ Line a b c → frames ≡ p.frames ++ f ∷ [] → IsSplitOf (p.ends ++ e ∷ []) split → IsEntered p.ends e ends (Ok split) → Enters p (record { frames = frames; ends = ends }) f e (Ok split)
+line_enters p f e frames ends (Stuck pairs) a b c is g h k = cc
+line_enters p f e frames ends (Line x y z) a b c is g h k = (ap₂ (λ (fs : List Frame) (es : List EndPoints). let w : PathParts = record { frames = fs; ends = es } in w) g k, h.0, h.1)
 
--- the ends were put there, and taken away since no line splits them
-pub stuck_enters : (p : PathParts) (f : Frame) (e : EndPoints) (pushed popped : List EndPoints) (split : Split) (pairs : List EndPair) → split ≡ Stuck pairs → pushed ≡ p.ends ++ e ∷ [] → IsSplitOf pushed split → popped ≡ take (length pushed - 1) pushed → Enters p (record { frames = p.frames; ends = popped }) f e (Ok split)
-stuck_enters p f e pushed popped (Line a b c) pairs is q h r = cc
-stuck_enters p f e pushed popped (Stuck stuck) pairs is q h r =
-    let g : IsSplitOf (p.ends ++ e ∷ []) (Stuck stuck) = subst (λ (es : List EndPoints). IsSplitOf es (Stuck stuck)) q h in
-    (ap (λ (es : List EndPoints). let w : PathParts = record { frames = p.frames; ends = es } in w) (r ∙ ap (λ (es : List EndPoints). take (length es - 1) es) q ∙ back_again p.ends e), g.0, g.1, coded_of (p.ends ++ e ∷ []) stuck g.1, g.2)
+-- the ends are as they were, since no line splits them and the portal's
+pub stuck_enters : (p : PathParts) (f : Frame) (e : EndPoints) (frames : List Frame) (ends : List EndPoints) (split : Split) → ((a b c : ℤ) → split ≡ Line a b c → ⊥) → frames ≡ p.frames → IsSplitOf (p.ends ++ e ∷ []) split → IsEntered p.ends e ends (Ok split) → Enters p (record { frames = frames; ends = ends }) f e (Ok split)
+stuck_enters p f e frames ends (Line a b c) n g h k = absurd (n a b c refl)
+stuck_enters p f e frames ends (Stuck pairs) n g h k = (ap₂ (λ (fs : List Frame) (es : List EndPoints). let w : PathParts = record { frames = fs; ends = es } in w) g k, h.0, h.1, coded_of (p.ends ++ e ∷ []) pairs h.1, h.2)

@@ -90,16 +90,10 @@ impl Path {
         ensures each { length self.old.ends ≡ length self.old.frames }
         ensures enters { Enters self.old self.new frame (record { left = left; right = right }) result }
     {
-        self.ends.push(left, right)?;
-        let split = self.ends.split();
-        match split {
-            Split::Stuck(_) => self.ends.pop(),
-            Split::Line { .. } => {
-                if self.frames.push(frame).is_err() {
-                    self.ends.pop();
-                    return Err(Memory);
-                }
-            }
+        self.frames.reserve(1)?;
+        let split = self.ends.enter(left, right)?;
+        if let Split::Line { .. } = split {
+            self.frames.push_reserved(frame);
         }
         Ok(split)
     }
