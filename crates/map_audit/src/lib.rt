@@ -9,7 +9,7 @@ ghost use Rattle.line_spans.specs.Spans.{AreSpans, IsSpanIn};
 ghost use Rattle.map_audit.specs.Audit.{AreRelated, FineAt, FineBefore, FineFrom, IsFaultOf, IsLineFault, fault_by};
 
 use geom_exact::{Relation, seg_relation};
-use line_spans::{Span, put_spans};
+use line_spans::{MAX_SPANS, NO_SPAN, Span, ends_below, put_spans};
 use sight_names::{Line, LineFault, Plan, Pt};
 
 /// Whether each two lines of the map share nothing but an end of both. Takes no memory.
@@ -35,11 +35,7 @@ pub fn audit_lines(plan: &Plan) -> Result<(), LineFault>
 fn is_swept_clean(plan: &Plan) -> bool
     ensures { IsTrue result → LinesMeetAtEnds (map_of plan.now) }
 {
-    let mut room = [Span {
-        least: 0,
-        greatest: 0,
-        line: 0,
-    }; 16384];
+    let mut room = [NO_SPAN; MAX_SPANS];
     let spans = &mut room[..plan.lines().len()];
     put_spans(plan, spans);
     are_clean(plan, spans)
@@ -48,7 +44,7 @@ fn is_swept_clean(plan: &Plan) -> bool
 /// Whether each line shares nothing but an end of both with those that come later in the order of lesser ends.
 fn are_clean(plan: &Plan, spans: &[Span]) -> bool
     requires plan { IsPlan plan.now }
-    requires spans { AreSpans plan.now.lines spans.now }
+    requires spans { AreSpans plan.now spans.now }
     ensures { IsTrue result → LinesMeetAtEnds (map_of plan.now) }
 {
     for (k, span) in spans.iter().enumerate() {
@@ -63,19 +59,34 @@ fn are_clean(plan: &Plan, spans: &[Span]) -> bool
 /// lesser end lies behind the line's greater end ends the sweep.
 fn is_clean_from(plan: &Plan, spans: &[Span], one: Span, from: usize) -> bool
     requires plan { IsPlan plan.now }
-    requires spans { AreSpans plan.now.lines spans.now }
-    requires span { IsSpanIn plan.now.lines one }
+    requires spans { AreSpans plan.now spans.now }
+    requires span { IsSpanIn plan.now one }
     ensures { IsTrue result → FineFrom (map_of plan.now) one.line spans.now from }
 {
     for k in from..spans.len() {
         if one.greatest < spans[k].least {
             return true;
         }
-        if !is_clean_pair(plan, one.line, spans[k].line) {
+        if !is_clean_with(plan, one, spans[k]) {
             return false;
         }
     }
     true
+}
+
+/// Whether the lines of the two spans have no fault. Most are apart by their y.
+fn is_clean_with(plan: &Plan, one: Span, other: Span) -> bool
+    requires one { IsSpanIn plan.now one }
+    requires other { IsSpanIn plan.now other }
+    ensures { IsTrue result → FineAt (map_of plan.now) one.line other.line }
+{
+    if ends_below(one, other) {
+        return true;
+    }
+    if ends_below(other, one) {
+        return true;
+    }
+    is_clean_pair(plan, one.line, other.line)
 }
 
 /// Whether records `i` and `j` have no fault.

@@ -1,8 +1,9 @@
 -- The least number, side or pair against a fact, or that it holds of all.
-use Rattle.std.specs.Prelude.{◌≡◌, ℕ, ◌<◌, Option, Some, None, List, length, Bool, true, false}
+use Rattle.std.specs.Prelude.{◌≡◌, ℕ, ◌<◌, ◌≤◌, Option, Some, None, List, length, Bool, true, false, ◌≤ℤ◌}
 use Rattle.sight_names.specs.declared.names.Side.{Side}
 use Rattle.sight_names.specs.declared.names.Triangle.{Triangle}
 use Rattle.sight_names.specs.declared.plan.Line.{Line}
+use Rattle.line_spans.specs.declared.Span.{Span}
 use Rattle.sight_names.specs.Point.{point_of}
 use Rattle.sight_names.specs.Map.{Map, MapLine, line_at}
 use Rattle.sight_names.specs.Points.{Edge, points_of, place}
@@ -37,6 +38,17 @@ IsLineMetFairly m t i = (l : MapLine) → line_at m i ≡ Some l → IsMetFairly
 -- no such point, or it isn't strictly inside
 abbrev pub IsOutsideOf : Map → Triangle → ℕ → Type 0
 IsOutsideOf m t k = k < length (points_of m) → ¬ InsideTriangle m t (point_of (place m k))
+
+-- the triangle's last corners lie in the span by number, and all corners by y
+pub record IsBand (m : Map) (t : Triangle) (b : Span) : Type 0 where
+  pub second : t.q ≤ b.greatest
+  pub third : t.r ≤ b.greatest
+  pub low_p : b.low ≤ℤ (place m t.p).y
+  pub low_q : b.low ≤ℤ (place m t.q).y
+  pub low_r : b.low ≤ℤ (place m t.r).y
+  pub high_p : (place m t.p).y ≤ℤ b.high
+  pub high_q : (place m t.q).y ≤ℤ b.high
+  pub high_r : (place m t.r).y ≤ℤ b.high
 
 -- both a and b are before p, the least of p, q and r
 abbrev pub AreBefore : ℕ → ℕ → ℕ → ℕ → ℕ → Type 0

@@ -20,19 +20,14 @@ fn link(last: &mut [u16], earlier: &mut [u16], line: Line, i: usize) {
     }
 }
 
-/// Links the line of this record, where it is one.
-fn link_entry(last: &mut [u16], earlier: &mut [u16], entry: Option<Line>, i: usize) {
-    if let Some(line) = entry {
-        link(last, earlier, line, i);
-    }
-}
-
 /// The chains of a plan's lines.
 pub fn chains_of(plan: &Plan) -> Chains {
     let mut last = [0u16; 4096];
     let mut earlier = [0u16; 16384];
     for (i, entry) in plan.lines().iter().enumerate() {
-        link_entry(last.as_mut_slice(), earlier.as_mut_slice(), *entry, i);
+        if let Some(line) = entry {
+            link(last.as_mut_slice(), earlier.as_mut_slice(), *line, i);
+        }
     }
     Chains { last, earlier }
 }

@@ -3,20 +3,21 @@
 
 ghost use Rattle.std.specs.Prelude.{ℕ, ◌≤◌, ◌≡◌, ◌≢◌, ◌<◌, ◌↔◌, ◌⊎◌, IsTrue, Some, None, ◌<ℤ◌, length, slice_get};
 ghost use Rattle.std.specs.Bool.{OnTrue};
+ghost use Rattle.std.specs.Int.{int_min, int_max};
 ghost use Rattle.sight_names.specs.Map.{map_of, looked_up};
 ghost use Rattle.sight_names.specs.Plan.{IsPlan, IsPlanLine};
 ghost use Rattle.sight_names.specs.Points.{points_of};
 ghost use Rattle.sight_names.specs.Mesh.{AreTriangles, IsTriangle, IsCounterclockwise, IsLineEdge, MeetsFairly, triangle_at};
-ghost use Rattle.line_spans.specs.Spans.{IsSpanIn, AreSpans};
+ghost use Rattle.line_spans.specs.Spans.{IsSpanIn, AreSpans, AreSkips};
 ghost use Rattle.mesh_shape.specs.Faults.{TurnsAt, IsNewAt, HasMate, HasMatesAt, FitsAt, IsFairAt, IsEmptyAt, IsMeshVerdict};
-ghost use Rattle.mesh_shape.specs.Search.{IsSearch, IsSideSearch, IsPairSearch, IsFitting, IsEdgeOf, IsUnfitLine, IsUnfitSide, IsMetFairly, IsLineMetFairly, IsOutsideOf, AreBefore, AreBehind};
+ghost use Rattle.mesh_shape.specs.Search.{IsBand, IsSearch, IsSideSearch, IsPairSearch, IsFitting, IsEdgeOf, IsUnfitLine, IsUnfitSide, IsMetFairly, IsLineMetFairly, IsOutsideOf, AreBefore, AreBehind};
 
 use crate::chains::{Chains, chains_of};
 use crate::labels::Labels;
 use crate::meets::meet_at_ends;
 use crate::mesh::Mesh;
 use geom_exact::{in_triangle, turn};
-use line_spans::{Span, put_spans};
+use line_spans::{MAX_SPANS, NO_SPAN, Span, ends_below, first_behind, put_skips, put_spans};
 use sight_names::{Line, MeshFault, Plan, Pt, Side, Triangle};
 
 /// The first rule of a good mesh that is broken, at its least numbers; None exactly where the mesh is good.
@@ -408,51 +409,106 @@ fn first_met(plan: &Plan, t: Triangle) -> Option<u16>
     None
 }
 
-/// The same for the line of this span, which may end before the triangle's least corner.
-fn is_span_fair(plan: &Plan, span: Span, t: Triangle) -> bool
+/// The least y of three points.
+fn lowest(a: Pt, b: Pt, c: Pt) -> i16
+    ensures { result ≡ int_min (int_min a.y b.y) c.y }
+{
+    a.y.min(b.y).min(c.y)
+}
+
+/// The greatest y of three points.
+fn highest(a: Pt, b: Pt, c: Pt) -> i16
+    ensures { result ≡ int_max (int_max a.y b.y) c.y }
+{
+    a.y.max(b.y).max(c.y)
+}
+
+/// What a triangle spans by its corners' numbers and by y.
+fn band_of(plan: &Plan, t: Triangle) -> Span
+    requires { IsTriangle (length plan.now.points) t }
+    ensures { IsBand (map_of plan.now) t result }
+{
+    let (a, b, c) = (plan.place(t.p), plan.place(t.q), plan.place(t.r));
+    Span {
+        least: t.p,
+        greatest: t.q.max(t.r),
+        low: lowest(a, b, c),
+        high: highest(a, b, c),
+        line: 0,
+    }
+}
+
+/// The same for the line of this span. Most are below the triangle or above it.
+fn is_span_fair(plan: &Plan, span: Span, t: Triangle, band: Span) -> bool
     requires plan { IsPlan plan.now }
-    requires span { IsSpanIn plan.now.lines span }
+    requires span { IsSpanIn plan.now span }
     requires triangle { IsTriangle (length plan.now.points) t }
+    requires band { IsBand (map_of plan.now) t band }
     ensures { IsTrue result → IsLineMetFairly (map_of plan.now) t span.line }
 {
-    if span.greatest < t.p {
+    if ends_below(span, band) {
+        return true;
+    }
+    if ends_below(band, span) {
         return true;
     }
     is_met_fairly(plan, span.line as usize, t)
 }
 
-/// Whether the same holds of all lines. The first one whose lesser end lies behind the triangle's corners ends the sweep.
-fn is_fair_to_all(plan: &Plan, spans: &[Span], t: Triangle) -> bool
+/// Whether the same holds of all lines. The sweep begins at the last one that doesn't begin behind the triangle's corners,
+/// and goes back over those that end before its least corner.
+fn is_fair_to_all(plan: &Plan, spans: &[Span], skips: &[u16], t: Triangle) -> bool
     requires plan { IsPlan plan.now }
-    requires spans { AreSpans plan.now.lines spans.now }
+    requires spans { AreSpans plan.now spans.now }
+    requires skips { AreSkips spans.now skips.now }
+    requires each { length skips.now ≡ length spans.now }
     requires triangle { IsTriangle (length plan.now.points) t }
     ensures { IsTrue result → (i : ℕ) → IsLineMetFairly (map_of plan.now) t i }
 {
-    let last = t.q.max(t.r);
-    for span in spans {
-        if last < span.least {
-            return true;
+    let band = band_of(plan, t);
+    let mut k = first_behind(plan, spans, band.greatest);
+    while k > 0 {
+        if spans[k - 1].greatest < t.p {
+            k = skips[k - 1] as usize;
+            continue;
         }
-        if !is_span_fair(plan, *span, t) {
+        if !is_span_fair(plan, spans[k - 1], t, band) {
+            return false;
+        }
+        k -= 1;
+    }
+    true
+}
+
+/// Whether it holds of all triangles and lines.
+fn are_all_fair(plan: &Plan, spans: &[Span], skips: &[u16], mesh: &Mesh) -> bool
+    requires plan { IsPlan plan.now }
+    requires points { mesh.now.points ≡ length plan.now.points }
+    requires spans { AreSpans plan.now spans.now }
+    requires skips { AreSkips spans.now skips.now }
+    requires each { length skips.now ≡ length spans.now }
+    ensures { IsTrue result → (k i : ℕ) → IsFairAt (map_of plan.now) mesh.now.triangles k i }
+{
+    for t in mesh.triangles() {
+        if !is_fair_to_all(plan, spans, skips, *t) {
             return false;
         }
     }
     true
 }
 
-/// Whether it holds of all triangles and lines.
-fn are_all_fair(plan: &Plan, spans: &[Span], mesh: &Mesh) -> bool
+/// The same, once it is known how far the sweeps may go back.
+fn are_fair_in_order(plan: &Plan, spans: &[Span], mesh: &Mesh) -> bool
     requires plan { IsPlan plan.now }
     requires points { mesh.now.points ≡ length plan.now.points }
-    requires spans { AreSpans plan.now.lines spans.now }
+    requires spans { AreSpans plan.now spans.now }
+    requires few { length spans.now ≤ 16384 }
     ensures { IsTrue result → (k i : ℕ) → IsFairAt (map_of plan.now) mesh.now.triangles k i }
 {
-    for t in mesh.triangles() {
-        if !is_fair_to_all(plan, spans, *t) {
-            return false;
-        }
-    }
-    true
+    let mut room = [0u16; MAX_SPANS];
+    let skips = &mut room[..spans.len()];
+    put_skips(spans, skips);
+    are_all_fair(plan, spans, skips, mesh)
 }
 
 /// Whether a sweep over the lines finds for no triangle one that it meets otherwise.
@@ -460,14 +516,10 @@ fn is_swept_fairly(plan: &Plan, mesh: &Mesh) -> bool
     requires { mesh.now.points ≡ length plan.now.points }
     ensures { IsTrue result → (k i : ℕ) → IsFairAt (map_of plan.now) mesh.now.triangles k i }
 {
-    let mut room = [Span {
-        least: 0,
-        greatest: 0,
-        line: 0,
-    }; 16384];
+    let mut room = [NO_SPAN; MAX_SPANS];
     let spans = &mut room[..plan.lines().len()];
     put_spans(plan, spans);
-    are_all_fair(plan, spans, mesh)
+    are_fair_in_order(plan, spans, mesh)
 }
 
 /// The least triangle with such an edge, and the least line that it meets.

@@ -1,21 +1,27 @@
-use Rattle.std.proofs.Common.{below_more, arith}
-use Rattle.std.proofs.lemmas.List.Elements.{All-get_or}
-use Rattle.sight_names.specs.Map.{map_of}
-use Rattle.line_spans.specs.declared.Span.{Span}
-use Rattle.line_spans.specs.Spans.{IsSpanIn}
-use Rattle.mesh_shape.specs.Search.{IsLineMetFairly}
-use Rattle.line_spans.proofs.Sweep.{at_place}
-use Rattle.mesh_shape.proofs.SweepRules.{fair_to_rest, fair_to_all}
+use Rattle.std.proofs.Common.{◌-◌, arith}
+use Rattle.mesh_shape.proofs.SweepRules.{fair_from_behind, fair_from_before, fair_from_skipped, fair_to_all}
 use Rattle.mesh_shape.proofs.rules.is_fair_to_all.Goals as goal
 
-pub returns-then-last-span : goal.returns-then-last-span
-returns-then-last-span c = λ w. fair_to_rest c.args.plan.now c.requires.plan c.args.spans.now c.args.t c.max-last.result c.loop-span.span-index _ c.requires.spans c.requires.triangle (let e = c.max-last.ensures in omega arith) (let e = c.max-last.ensures in omega arith) c.if-last-span.true c.loop-span.invariant
+pub loop-k-init : goal.loop-k-init
+loop-k-init c = record {
+  within = c.first_behind-k.ensures.within;
+  fair = fair_from_behind c.args.plan.now c.requires.plan c.args.spans.now c.args.t c.band_of-band.result.greatest c.first_behind-k.result c.requires.spans c.requires.triangle c.band_of-band.ensures.second c.band_of-band.ensures.third c.first_behind-k.ensures.behind;
+}
 
-pub is_span_fair-requires-clause-span : goal.is_span_fair-requires-clause-span
-is_span_fair-requires-clause-span c = All-get_or (IsSpanIn c.args.plan.now.lines) c.args.spans.now c.loop-span.span-index _ c.loop-span-test.true c.requires.spans.each
+pub loop-k-preserved-then-spans-k : goal.loop-k-preserved-then-spans-k
+loop-k-preserved-then-spans-k c =
+    let up = c.loop-k-test.true in
+    let within = c.loop-k.invariant.within in
+    let skip = c.requires.skips (c.loop-k.k - 1) (omega arith) in
+    let back = skip.back in
+    record {
+      within = omega arith;
+      fair = fair_from_skipped c.args.plan.now c.requires.plan c.args.spans.now c.args.t c.loop-k.k _ _ c.requires.spans c.requires.triangle up within c.loop-k.invariant.fair c.if-spans-k.true skip;
+    }
 
-pub loop-span-preserved : goal.loop-span-preserved
-loop-span-preserved c = below_more _ _ c.loop-span.invariant (at_place (λ (s : Span). IsLineMetFairly (map_of c.args.plan.now) c.args.t s.line) c.args.spans.now c.loop-span.span-index _ c.loop-span-test.true (c.is_span_fair.ensures c.if-not-is_span_fair.false))
+pub loop-k-preserved : goal.loop-k-preserved
+loop-k-preserved c = let up = c.loop-k-test.true in let within = c.loop-k.invariant.within in
+    record { within = omega arith; fair = fair_from_before c.args.plan.now c.args.spans.now c.args.t c.loop-k.k _ up within c.loop-k.invariant.fair (c.is_span_fair.ensures c.if-not-is_span_fair.false) }
 
 pub returns : goal.returns
-returns c = λ w. fair_to_all c.args.plan.now c.args.spans.now c.args.t c.loop-span.span-index c.requires.spans (omega arith) c.loop-span.invariant
+returns c = λ w. fair_to_all c.args.plan.now c.args.spans.now c.args.t c.loop-k.k c.requires.spans c.loop-k-test.false c.loop-k.invariant.fair

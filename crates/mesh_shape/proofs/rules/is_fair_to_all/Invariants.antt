@@ -1,8 +1,9 @@
-use Rattle.std.proofs.Common.{ℕ, ◌<◌, get_or}
-use Rattle.sight_names.specs.Map.{map_of}
-use Rattle.line_spans.specs.declared.Span.{Span}
-use Rattle.mesh_shape.specs.Search.{IsLineMetFairly}
+use Rattle.std.proofs.Common.{◌≤◌, length}
+use Rattle.mesh_shape.proofs.SweepRules.{AreFairFrom}
 use Rattle.mesh_shape.proofs.rules.is_fair_to_all.Given as goal
 
-abbrev pub invariant-loop-span : goal.invariant-loop-span
-invariant-loop-span l = (j : ℕ) → j < l.span-index → (d : Span) → IsLineMetFairly (map_of l.plan) l.t (get_or l.spans j d).line
+abbrev pub invariant-loop-k : goal.invariant-loop-k
+invariant-loop-k l = record { within : l.k ≤ length l.spans; fair : AreFairFrom l.plan l.spans l.t l.k }
+
+abbrev pub decreases-loop-k : goal.decreases-loop-k
+decreases-loop-k l = l.k

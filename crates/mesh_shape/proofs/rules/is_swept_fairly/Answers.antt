@@ -1,0 +1,5 @@
+use Rattle.std.proofs.Common.{arith}
+use Rattle.mesh_shape.proofs.rules.is_swept_fairly.Goals as goal
+
+pub are_fair_in_order-requires-clause-few : goal.are_fair_in_order-requires-clause-few
+are_fair_in_order-requires-clause-few c = let e = c.put_spans.ensures.each in let few = c.lines.ensures.plan.few_lines in omega arith
