@@ -1,2 +1,3 @@
 pub mod Small
 pub mod Printing
+pub mod Whole

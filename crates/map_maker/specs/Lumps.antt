@@ -4,6 +4,7 @@ use Rattle.std.specs.List.{list_any}
 use Rattle.std.specs.Int.{w16, to_le_bytes}
 use Rattle.wad_dir.specs.declared.parts.Kind.TheVariants.{Pwad}
 use Rattle.wad_dir.specs.Wad.{WadFile, WadLump}
+use Rattle.hexen_lumps.specs.Turned.{hexen_of}
 use Rattle.map_maker.specs.declared.lines.Spot.{Spot}
 use Rattle.map_maker.specs.declared.lines.Line.{Line}
 use Rattle.map_maker.specs.Lines.{lines_of, sector_count}
@@ -82,8 +83,21 @@ lumps_with linedefs sidedefs vertexes sectors =
     ∷ named (codes "SEGS" ++ 0 ∷ 0 ∷ 0 ∷ 0 ∷ []) [] ∷ named (codes "SSECTORS") [] ∷ named (codes "NODES" ++ 0 ∷ 0 ∷ 0 ∷ []) [] ∷ named (codes "SECTORS" ++ 0 ∷ []) sectors
     ∷ named (codes "REJECT" ++ 0 ∷ 0 ∷ []) [] ∷ named (codes "BLOCKMAP") [] ∷ []
 
+-- the points of the map of n times n rooms, and its LINEDEFS
+unfoldable pub points_in : ℕ → List Spot
+points_in n = points_after [] (lines_of n)
+
+unfoldable pub linedefs_in : ℕ → List ℕ
+linedefs_in n = linedefs_from (points_in n) 0 (lines_of n)
+
+-- the lumps of that map with this LINEDEFS
+unfoldable pub grid_lumps : ℕ → List ℕ → List WadLump
+grid_lumps n linedefs = lumps_with linedefs (sidedefs_of (lines_of n)) (vertexes_of (points_in n)) (replicate (26 * sector_count n) 0)
+
 -- the WAD of the map of n times n rooms
 unfoldable pub grid_file : ℕ → WadFile
-grid_file n =
-    let points : List Spot = points_after [] (lines_of n) in
-    record { kind = Pwad; lumps = lumps_with (linedefs_from points 0 (lines_of n)) (sidedefs_of (lines_of n)) (vertexes_of points) (replicate (26 * sector_count n) 0) }
+grid_file n = record { kind = Pwad; lumps = grid_lumps n (linedefs_in n) }
+
+-- the same in Hexen's format, with an empty BEHAVIOR
+unfoldable pub grid_hexen_file : ℕ → WadFile
+grid_hexen_file n = record { kind = Pwad; lumps = grid_lumps n (hexen_of (linedefs_in n)) ++ named (codes "BEHAVIOR") [] ∷ [] }

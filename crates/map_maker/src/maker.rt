@@ -1,29 +1,44 @@
 //! A made map as a WAD.
 
-ghost use Rattle.std.specs.Prelude.{◌≡◌, ◌≤◌, IfOk};
+ghost use Rattle.std.specs.Prelude.{◌≡◌, ◌≤◌, ◌++◌, ◌∷◌, [], IfOk, codes, replicate, ◌*◌};
+ghost use Rattle.hexen_lumps.specs.Turned.{hexen_of};
 ghost use Rattle.wad_dir.specs.Print.{print};
 ghost use Rattle.wad_dir.specs.declared.parts.Kind.TheVariants.{Pwad};
-ghost use Rattle.map_maker.specs.Lines.{sector_count};
-ghost use Rattle.map_maker.specs.Lumps.{grid_file, lumps_with};
+ghost use Rattle.wad_rewrite.specs.Lumps.{views};
+ghost use Rattle.map_maker.specs.Lines.{lines_of, sector_count};
+ghost use Rattle.map_maker.specs.Lumps.{grid_file, grid_hexen_file, linedefs_in, lumps_with, named, points_in, sidedefs_of, vertexes_of};
 
 use crate::lines::lines;
 use crate::lumps::{linedefs, sidedefs, vertexes, zeros};
 use crate::points::points;
+use hexen_lumps::to_hexen;
 use sight_names::Memory;
-use std::alloc::Global;
+use std::alloc::{AllocError, Global};
 use wad_dir::Kind;
 use wad_rewrite::{OutputLump, write_wad};
 
-fn map_wad<'a>(
-    alloc: Global,
+/// How many lumps a made map has in Doom's format.
+const DOOM_LUMPS: usize = 11;
+
+/// The lumps of a made map that are read.
+#[derive(Drop)]
+struct Parts {
+    linedefs: Vec<u8>,
+    sidedefs: Vec<u8>,
+    vertexes: Vec<u8>,
+    sectors: Vec<u8>,
+}
+
+/// The lumps of a map in Hexen's format; without the last they are those of a map in Doom's.
+fn lumps_of<'a>(
     linedefs: &'a [u8],
     sidedefs: &'a [u8],
     vertexes: &'a [u8],
     sectors: &'a [u8],
-) -> Result<Vec<u8>, Memory>
-    ensures { IfOk result (λ v. v.items ≡ print (record { kind = Pwad; lumps = lumps_with linedefs.entry.now sidedefs.entry.now vertexes.entry.now sectors.entry.now })) }
+) -> [OutputLump<'a>; 12]
+    ensures { views result ≡ lumps_with linedefs.entry.now sidedefs.entry.now vertexes.entry.now sectors.entry.now ++ named (codes "BEHAVIOR") [] ∷ [] }
 {
-    let lumps = [
+    [
         OutputLump {
             name: *b"MAP01\0\0\0",
             bytes: &[],
@@ -68,8 +83,17 @@ fn map_wad<'a>(
             name: *b"BLOCKMAP",
             bytes: &[],
         },
-    ];
-    match write_wad(alloc, Kind::Pwad, &lumps) {
+        OutputLump {
+            name: *b"BEHAVIOR",
+            bytes: &[],
+        },
+    ]
+}
+
+fn write(alloc: Global, lumps: &[OutputLump]) -> Result<Vec<u8>, Memory>
+    ensures { IfOk result (λ v. v.items ≡ print (record { kind = Pwad; lumps = views lumps.now })) }
+{
+    match write_wad(alloc, Kind::Pwad, lumps) {
         Ok(bytes) => Ok(bytes),
         Err(_) => Err(Memory),
     }
@@ -85,20 +109,52 @@ fn sectors(n: usize) -> usize
     n * n + 2 * (n * (n - 1))
 }
 
+#[tactic(auto, unfolding(crate::specs::Lumps::points_in, crate::specs::Lumps::linedefs_in))]
+fn parts_of(alloc: Global, n: usize) -> Result<Parts, AllocError>
+    requires some { 1 ≤ n }
+    requires side { n ≤ 18 }
+    ensures linedefs { IfOk result (λ parts. parts.linedefs.items ≡ linedefs_in n) }
+    ensures sidedefs { IfOk result (λ parts. parts.sidedefs.items ≡ sidedefs_of (lines_of n)) }
+    ensures vertexes { IfOk result (λ parts. parts.vertexes.items ≡ vertexes_of (points_in n)) }
+    ensures sectors { IfOk result (λ parts. parts.sectors.items ≡ replicate (26 * sector_count n) 0) }
+{
+    let lines = lines(alloc, n)?;
+    let points = points(alloc, &lines)?;
+    Ok(Parts {
+        linedefs: linedefs(alloc, &points, &lines)?,
+        sidedefs: sidedefs(alloc, &lines)?,
+        vertexes: vertexes(alloc, &points)?,
+        sectors: zeros(alloc, 26 * sectors(n))?,
+    })
+}
+
 /// The WAD of a made map of `n` times `n` rooms, 1 to 18, each 128 wide and joined to its neighbours by corridors.
 /// There are `3 n n - 2 n` sectors, `12 n n - 8 n` points and `4 n n + 12 n (n - 1)` lines.
-#[tactic(auto, unfolding(crate::specs::Lumps::grid_file))]
+#[tactic(auto, unfolding(crate::specs::Lumps::grid_file, crate::specs::Lumps::grid_lumps))]
 pub fn grid(alloc: Global, n: u16) -> Result<Vec<u8>, Memory>
     requires some { 1 ≤ n }
     requires side { n ≤ 18 }
     ensures { IfOk result (λ v. v.items ≡ print (grid_file n)) }
 {
-    let n = n as usize;
-    let lines = lines(alloc, n)?;
-    let points = points(alloc, &lines)?;
-    let linedefs = linedefs(alloc, &points, &lines)?;
-    let sidedefs = sidedefs(alloc, &lines)?;
-    let vertexes = vertexes(alloc, &points)?;
-    let sectors = zeros(alloc, 26 * sectors(n))?;
-    map_wad(alloc, &linedefs, &sidedefs, &vertexes, &sectors)
+    let parts = parts_of(alloc, n as usize)?;
+    let lumps = lumps_of(
+        &parts.linedefs,
+        &parts.sidedefs,
+        &parts.vertexes,
+        &parts.sectors,
+    );
+    write(alloc, &lumps[..DOOM_LUMPS])
+}
+
+/// The WAD of the same map in Hexen's format, with an empty BEHAVIOR behind BLOCKMAP.
+#[tactic(auto, using(crate::proofs::Whole::linedefs_whole), unfolding(crate::specs::Lumps::grid_hexen_file, crate::specs::Lumps::grid_lumps))]
+pub fn grid_hexen(alloc: Global, n: u16) -> Result<Vec<u8>, Memory>
+    requires some { 1 ≤ n }
+    requires side { n ≤ 18 }
+    ensures { IfOk result (λ v. v.items ≡ print (grid_hexen_file n)) }
+{
+    let parts = parts_of(alloc, n as usize)?;
+    let linedefs = to_hexen(alloc, &parts.linedefs)?;
+    let lumps = lumps_of(&linedefs, &parts.sidedefs, &parts.vertexes, &parts.sectors);
+    write(alloc, &lumps)
 }

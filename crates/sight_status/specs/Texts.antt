@@ -67,7 +67,6 @@ wad_words wad.Memory = codes "memory\n"
 
 abbrev pub map_words : MapFault → List ℕ
 map_words map.NoMarker = codes "no marker\n"
-map_words map.Hexen = codes "hexen format\n"
 map_words (map.Missing lump) = codes "missing " ++ lump_words lump
 
 abbrev pub lumps_words : LumpFault → List ℕ

@@ -171,7 +171,6 @@ fn push_map(alloc: Global, line: &mut String, fault: MapFault) -> Result<(), All
 {
     match fault {
         MapFault::NoMarker => line.push_str("no marker\n"),
-        MapFault::Hexen => line.push_str("hexen format\n"),
         MapFault::Missing { lump } => push_lump_line(alloc, line, "missing ", lump),
     }
 }
