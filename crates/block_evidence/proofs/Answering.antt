@@ -12,6 +12,7 @@ use Rattle.block_evidence.specs.declared.Evidence.{Evidence}
 use Rattle.block_evidence.specs.Stuck.{AreStuck, Blocks, end_codes}
 use Rattle.block_evidence.specs.Parted.{PartsEnd, PartsEnds}
 use Rattle.block_evidence.proofs.Means.{parted_not_stuck}
+use Rattle.list_base.proofs.Options.{some_is_same, none_is_not_some}
 
 is_true : (b : Bool) → false ≡ not b → b ≡ true
 is_true true h = refl
@@ -35,15 +36,10 @@ stuck_answer ends None b e h = (λ _. h, λ _. is_true b e)
 stuck_answer ends (Some cut) b e h = (λ t. absurd (both b e t), λ s. absurd (parted_not_stuck ends (cut.a, cut.b, cut.c, h) s))
 
 -- ---- a line that splits portals parts their ends
-none_some : {X : Type 0} (x : X) → ◌≡◌ {A = Option X} None (Some x) → ⊥
-none_some x h = cc
 
 parted_at : (a b c : ℤ) (es : List EndPoints) (k : ℕ) (p : EndPoints) → SplitsEnds es a b c → slice_get es k ≡ Some p → IsParted a b c p
-parted_at a b c [] k p h e = absurd (none_some p e)
-parted_at a b c (q ∷ es) zero p h e = subst (IsParted a b c) (some_is q p e) h.0
-  where
-    some_is : (q p : EndPoints) → Some q ≡ Some p → q ≡ p
-    some_is q p h = cc
+parted_at a b c [] k p h e = absurd (none_is_not_some p e)
+parted_at a b c (q ∷ es) zero p h e = subst (IsParted a b c) (some_is_same q p e) h.0
 parted_at a b c (q ∷ es) (suc k) p h e = parted_at a b c es k p h.1 e
 
 pub end_parted : (a b c : ℤ) (es : List EndPoints) (e : EndAt) → SplitsEnds es a b c → end_of es e.code ≡ Some e → PartsEnd a b c e
@@ -53,11 +49,8 @@ end_parted a b c es e h k = record {
 }
 
 code_by : (code : ℕ) (o : Option Pt) (e : EndAt) → ◌≡◌ {A = Option EndAt} (option_map (λ (p : Pt). record { code = code; at = p }) o) (Some e) → e.code ≡ code
-code_by code None e h = absurd (none_some e h)
-code_by code (Some p) e h = sym (ap (λ (v : EndAt). v.code) (some_is (record { code = code; at = p }) e h))
-  where
-    some_is : (u v : EndAt) → Some u ≡ Some v → u ≡ v
-    some_is u v h = cc
+code_by code None e h = absurd (none_is_not_some e h)
+code_by code (Some p) e h = sym (ap (λ (v : EndAt). v.code) (some_is_same (record { code = code; at = p }) e h))
 
 code_is : (es : List EndPoints) (code : ℕ) (e : EndAt) → end_of es code ≡ Some e → e.code ≡ code
 code_is es code e h = code_by code (if nat_lt code 32768 then option_map (λ (q : EndPoints). q.left) (slice_get es code) else option_map (λ (q : EndPoints). q.right) (slice_get es (code - 32768))) e h

@@ -14,6 +14,8 @@ use Rattle.block_evidence.specs.Parted.{PartsEnds, AreParted}
 use Rattle.block_evidence.specs.Picked.{IsIn, inserted, Ascends, left_out, IsChoice, Gathers, Shortens, Names}
 use Rattle.block_evidence.proofs.Means.{In, lefts, rights, balanced_meet}
 use Rattle.block_evidence.proofs.Ordered.{all_at, all_of, inserted_all, inserted_ascends, inserted_old, inserted_new, left_out_in, left_out_ascends, AreEnds, same_end, left_in, right_in, two_at_least, all_found, each_some}
+use Rattle.list_base.proofs.Numbers.{next_is, below_or_at}
+use Rattle.list_base.proofs.Options.{some_is_same}
 
 many_by : (e d : EndAt) (ds es : List EndAt) (b c : Bool) → length es ≤ suc (length ds) → length (if b then d ∷ es else if c then e ∷ d ∷ ds else d ∷ ds) ≤ suc (suc (length ds))
 many_by e d ds es true c h = omega (arith, h)
@@ -32,9 +34,6 @@ left_out_many (suc i) (d ∷ ds) h = ap suc (left_out_many i ds (omega (arith, h
 -- ---- the ends of pairs
 pub gathers_none : (pairs : List EndPair) → Gathers pairs 0 []
 gathers_none pairs = record { ascends = tt; from_pairs = tt; many = omega arith; has = λ j h. absurd (omega (arith, h)) }
-
-some_is : {X : Type 0} (x y : X) → Some x ≡ Some y → x ≡ y
-some_is x y h = cc
 
 found_new : (pairs : List EndPair) → AreCoded pairs → (e : EndAt) → IsEndOf pairs e → (ds : List EndAt) → AreEnds pairs ds → IsIn e (inserted e ds)
 found_new pairs c e h ds k = inserted_new e ds (λ d i n. same_end pairs c d e (all_at (IsEndOf pairs) d ds k i) h n)
@@ -55,18 +54,12 @@ gathers_more pairs ends k p c s i g =
     }
   where
     cases : (j : ℕ) → j < suc k → (j < k) ⊎ (j ≡ k)
-    cases j h = elim (lt_or j k h) as (λ _. (j < k) ⊎ (j ≡ k)) [ inl n ↦ inl n | inr n ↦ inr n ]
-      where
-        lt_or : (j k : ℕ) → j < suc k → (j < k) ⊎ (j ≡ k)
-        lt_or zero zero h = inr refl
-        lt_or zero (suc k) h = inl (omega arith)
-        lt_or (suc j) zero h = absurd (omega (arith, h))
-        lt_or (suc j) (suc k) h = elim (lt_or j k (omega (arith, h))) as (λ _. (suc j < suc k) ⊎ (suc j ≡ suc k)) [ inl n ↦ inl (omega (arith, n)) | inr n ↦ inr (ap suc n) ]
+    cases j h = elim (below_or_at j k h) as (λ _. (j < k) ⊎ (j ≡ k)) [ inl n ↦ inl n | inr n ↦ inr n ]
 
     has_by : (j : ℕ) (q : EndPair) → slice_get pairs j ≡ Some q → (j < k) ⊎ (j ≡ k) → IsIn q.left (inserted p.right (inserted p.left ends)) × IsIn q.right (inserted p.right (inserted p.left ends))
     has_by j q e (inl n) = (inserted_old q.left p.right (inserted p.left ends) (inserted_old q.left p.left ends (g.has j n q e).0), inserted_old q.right p.right (inserted p.left ends) (inserted_old q.right p.left ends (g.has j n q e).1))
     has_by j q e (inr n) = subst (λ (v : EndPair). IsIn v.left (inserted p.right (inserted p.left ends)) × IsIn v.right (inserted p.right (inserted p.left ends)))
-        (some_is p q (sym s ∙ ap (slice_get pairs) (sym n) ∙ e)) (
+        (some_is_same p q (sym s ∙ ap (slice_get pairs) (sym n) ∙ e)) (
           inserted_old p.left p.right (inserted p.left ends) (found_new pairs c p.left (p, i, inl refl) ends g.from_pairs),
           found_new pairs c p.right (p, i, inr refl) (inserted p.left ends) (inserted_all (IsEndOf pairs) p.left ends (p, i, inl refl) g.from_pairs),
         )
@@ -80,7 +73,7 @@ rights_in [] ends h = tt
 rights_in (p ∷ ps) ends h = (h 0 p refl, rights_in ps ends (λ j q s. h (suc j) q s))
 
 at_place : (P : EndPair → Type 0) (ps : List EndPair) (j : ℕ) (p : EndPair) → All P ps → slice_get ps j ≡ Some p → P p
-at_place P ps j p h s = subst P (some_is (get_or ps j p) p (sym (slice_get-get_or ps j p (slice_get_within ps j p s)) ∙ s)) (h j p (slice_get_within ps j p s))
+at_place P ps j p h s = subst P (some_is_same (get_or ps j p) p (sym (slice_get-get_or ps j p (slice_get_within ps j p s)) ∙ s)) (h j p (slice_get_within ps j p s))
 
 pub choice_gathered : (pairs : List EndPair) (ends : List EndAt) (k : ℕ) → k ≡ length pairs → AreCoded pairs → AreBalanced pairs → Gathers pairs k ends → IsChoice pairs ends
 choice_gathered pairs ends k n c b g = record {
@@ -115,10 +108,7 @@ rises (e ∷ d ∷ ds) h zero n = h.0.0
 rises (e ∷ d ∷ ds) h (suc k) n = rises (d ∷ ds) h.1 k (omega (arith, n))
 
 increasing : (ends : List EndAt) → Ascends ends → IsStrictlyIncreasing (codes ends)
-increasing ends h k n = subst (λ (m : ℕ). slice_index (codes ends) k < slice_index (codes ends) m) (one k) (rises ends h k (omega (arith, n)))
-  where
-    one : (k : ℕ) → suc k ≡ k + 1
-    one k = omega arith
+increasing ends h k n = subst (λ (m : ℕ). slice_index (codes ends) k < slice_index (codes ends) m) (next_is k) (rises ends h k (omega (arith, n)))
 
 pub choice_evidence : (pairs : List EndPair) (ends : List EndAt) (e : Evidence) → IsChoice pairs ends → length ends ≤ 4 → Names ends e → IsEvidenceOf pairs e
 choice_evidence pairs ends e c n m = record {
@@ -143,11 +133,8 @@ choice_blocks pairs ends e c m es h = record {
 
 -- ---- the code's lists
 pub gathers_step : (pairs : List EndPair) (few a f b g : List EndAt) (k : ℕ) (d : EndPair) → AreCoded pairs → k < length pairs → Gathers pairs k few → a ≡ few → f ≡ inserted (get_or pairs k d).left a → b ≡ f → g ≡ inserted (get_or pairs k d).right b → Gathers pairs (k + 1) g
-gathers_step pairs few a f b g k d c n h p q r s = subst (λ (j : ℕ). Gathers pairs j g) (one k) (subst (Gathers pairs (suc k)) (sym (s ∙ ap (inserted (get_or pairs k d).right) (r ∙ q ∙ ap (inserted (get_or pairs k d).left) p)))
+gathers_step pairs few a f b g k d c n h p q r s = subst (λ (j : ℕ). Gathers pairs j g) (next_is k) (subst (Gathers pairs (suc k)) (sym (s ∙ ap (inserted (get_or pairs k d).right) (r ∙ q ∙ ap (inserted (get_or pairs k d).left) p)))
     (gathers_more pairs few k (get_or pairs k d) c (slice_get-get_or pairs k d n) (All-contains_itself pairs k d n) h))
-  where
-    one : (k : ℕ) → suc k ≡ k + 1
-    one k = omega arith
 
 pub parted_is : (xs ys : List EndAt) (a b c : ℤ) → xs ≡ ys → PartsEnds xs a b c → AreParted ys
 parted_is xs ys a b c e h = (a, b, c, subst (λ (ds : List EndAt). PartsEnds ds a b c) e h)

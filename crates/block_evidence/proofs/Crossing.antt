@@ -12,7 +12,8 @@ use Rattle.geom_exact.specs.Formulas.{turn_of}
 use Rattle.geom_exact.proofs.SegmentLemmas.{four_turns, same_meeting_x, same_meeting_y}
 use Rattle.block_evidence.specs.Stuck.{HullsMeet, AreStuck, left_ends, right_ends}
 use Rattle.block_evidence.specs.SignTests.{AreWeights, AreOpposite, IsBetween}
-use Rattle.block_evidence.proofs.Means.{AsMean, means_meet}
+use Rattle.block_evidence.proofs.Means.{AsMean, means_meet, sum_cons}
+use Rattle.exact_ring.proofs.Small.{nonneg_of_nonpos, some_of_sum}
 
 -- ---- weights as whole numbers that aren't below 0
 record Weight (w : ℤ) : Type 0 where
@@ -22,9 +23,6 @@ record Weight (w : ℤ) : Type 0 where
 weight_of : (w : ℤ) → pos 0 ≤ℤ w → Weight w
 weight_of (pos n) h = record { number = n; is = refl }
 weight_of (negsuc n) h = absurd (omega (arith, ints))
-
-sum_cons : (w : ℕ) (ws : List ℕ) → sum (w ∷ ws) ≡ w + sum ws
-sum_cons w ws = sum_by-cons (λ x. x) w ws
 
 mean_of_one : (p : Pt) (m s : ℕ) (x y : ℤ) → m ≡ s → pos m *ℤ p.x ≡ x → pos m *ℤ p.y ≡ y → AsMean (p ∷ []) s x y
 mean_of_one p m s x y h i j = record {
@@ -64,12 +62,9 @@ mean_of_three p q r l m n s x y h i j = record {
 
 -- ---- two segments
 two_meet : (p q r s : Pt) (m n u v : ℕ) → pos 0 <ℤ (pos m +ℤ pos n) → pos m +ℤ pos n ≡ pos u +ℤ pos v → pos m *ℤ p.x +ℤ pos n *ℤ q.x ≡ pos u *ℤ r.x +ℤ pos v *ℤ s.x → pos m *ℤ p.y +ℤ pos n *ℤ q.y ≡ pos u *ℤ r.y +ℤ pos v *ℤ s.y → HullsMeet (p ∷ q ∷ []) (r ∷ s ∷ [])
-two_meet p q r s m n u v h e i j = means_meet (p ∷ q ∷ []) (r ∷ s ∷ []) (m + n) (pos m *ℤ p.x +ℤ pos n *ℤ q.x) (pos m *ℤ p.y +ℤ pos n *ℤ q.y) (above m n h)
+two_meet p q r s m n u v h e i j = means_meet (p ∷ q ∷ []) (r ∷ s ∷ []) (m + n) (pos m *ℤ p.x +ℤ pos n *ℤ q.x) (pos m *ℤ p.y +ℤ pos n *ℤ q.y) (some_of_sum m n h)
     (mean_of_two p q m n (m + n) _ _ refl refl refl) (mean_of_two r s u v (m + n) _ _ (same m n u v e) (sym i) (sym j))
   where
-    above : (m n : ℕ) → pos 0 <ℤ (pos m +ℤ pos n) → 0 < m + n
-    above m n h = omega (arith, ints)
-
     same : (m n u v : ℕ) → pos m +ℤ pos n ≡ pos u +ℤ pos v → u + v ≡ m + n
     same m n u v e = omega (arith, ints)
 
@@ -103,15 +98,12 @@ up_ring a b c d p q r s h = combine1 (negsuc 0) h (by_ring (a ∷ b ∷ c ∷ d 
 down_ring : (a b c d p q r s : ℤ) → c *ℤ s -ℤ d *ℤ r ≡ b *ℤ p -ℤ a *ℤ q → neg_ℤ b *ℤ p +ℤ a *ℤ q ≡ d *ℤ r +ℤ neg_ℤ c *ℤ s
 down_ring a b c d p q r s h = combine1 (pos 1) h (by_ring (a ∷ b ∷ c ∷ d ∷ p ∷ q ∷ r ∷ s ∷ []) _ _ (search quoting depth 60 fits 200000) (search quoting depth 60 fits 200000) tt)
 
-negated : (a : ℤ) → a ≤ℤ pos 0 → pos 0 ≤ℤ neg_ℤ a
-negated a h = omega (arith, ints)
-
 -- q is on the left of the line from r to s, p on its right
 pub crosses_up : (p q r s : Pt) → turn_of r s p <ℤ turn_of r s q → IsBetween (turn_of r s p) (turn_of r s q) → IsBetween (turn_of p q s) (turn_of p q r) → HullsMeet (p ∷ q ∷ []) (r ∷ s ∷ [])
 crosses_up p q r s h i j = crossing_meets p q r s (turn_of r s q) (neg_ℤ (turn_of r s p)) (neg_ℤ (turn_of p q s)) (turn_of p q r) (record {
   first = i.high;
-  second = negated (turn_of r s p) i.low;
-  third = negated (turn_of p q s) j.low;
+  second = nonneg_of_nonpos (turn_of r s p) i.low;
+  third = nonneg_of_nonpos (turn_of p q s) j.low;
   fourth = j.high;
   some = apart (turn_of r s p) (turn_of r s q) h;
   even = same (turn_of r s p) (turn_of r s q) (turn_of p q r) (turn_of p q s) (four_turns p q r s);
@@ -128,10 +120,10 @@ crosses_up p q r s h i j = crossing_meets p q r s (turn_of r s q) (neg_ℤ (turn
 -- the other way
 pub crosses_down : (p q r s : Pt) → turn_of r s q <ℤ turn_of r s p → IsBetween (turn_of r s q) (turn_of r s p) → IsBetween (turn_of p q r) (turn_of p q s) → HullsMeet (p ∷ q ∷ []) (r ∷ s ∷ [])
 crosses_down p q r s h i j = crossing_meets p q r s (neg_ℤ (turn_of r s q)) (turn_of r s p) (turn_of p q s) (neg_ℤ (turn_of p q r)) (record {
-  first = negated (turn_of r s q) i.low;
+  first = nonneg_of_nonpos (turn_of r s q) i.low;
   second = i.high;
   third = j.high;
-  fourth = negated (turn_of p q r) j.low;
+  fourth = nonneg_of_nonpos (turn_of p q r) j.low;
   some = apart (turn_of r s p) (turn_of r s q) h;
   even = same (turn_of r s p) (turn_of r s q) (turn_of p q r) (turn_of p q s) (four_turns p q r s);
   x = down_ring (turn_of r s p) (turn_of r s q) (turn_of p q r) (turn_of p q s) p.x q.x r.x s.x (same_meeting_x p q r s);

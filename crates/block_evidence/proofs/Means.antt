@@ -16,6 +16,9 @@ use Rattle.sight_names.specs.Point.{Point, point_of, value_at}
 use Rattle.sight_names.specs.Splitting.{AreBalanced, across, up, weighed}
 use Rattle.block_evidence.specs.Stuck.{weighed_x, weighed_y, IsMeanOf, HullsMeet, left_ends, right_ends, AreStuck}
 use Rattle.block_evidence.specs.Parted.{PartsEnds, AreParted}
+use Rattle.list_base.proofs.Options.{none_is_not_some, some_is_same}
+use Rattle.exact_ring.proofs.Small.{negated_sum, weighed_pos, weighed_nonneg}
+use Rattle.sight_names.proofs.Affine.{neg_value}
 
 -- ---- a line's value at a mean
 abbrev total : (Pt → ℤ) → List ℕ → List Pt → ℤ
@@ -31,7 +34,7 @@ total_ring a b c w s x y u v = by_ring (a ∷ b ∷ c ∷ w ∷ s ∷ x ∷ y �
 none_ring : (a b c : ℤ) → a *ℤ pos 0 +ℤ b *ℤ pos 0 +ℤ c *ℤ pos 0 ≡ pos 0
 none_ring a b c = by_ring (a ∷ b ∷ c ∷ []) _ _ (search quoting depth 40 fits 100000) (search quoting depth 40 fits 100000) tt
 
-sum_cons : (w : ℕ) (ws : List ℕ) → sum (w ∷ ws) ≡ w + sum ws
+pub sum_cons : (w : ℕ) (ws : List ℕ) → sum (w ∷ ws) ≡ w + sum ws
 sum_cons w ws = sum_by-cons (λ x. x) w ws
 
 total_is : (a b c : ℤ) (ws : List ℕ) (ps : List Pt) → length ws ≡ length ps → a *ℤ weighed_x ws ps +ℤ b *ℤ weighed_y ws ps +ℤ c *ℤ pos (sum ws) ≡ total (line a b c) ws ps
@@ -49,22 +52,16 @@ mean_ring a b c s x y d u v e f =
 value_of_mean : (a b c : ℤ) (ps : List Pt) (r : Point) (m : IsMeanOf ps r) → value_at a b c r *ℤ pos (sum m.weights) ≡ pos r.d *ℤ total (line a b c) m.weights ps
 value_of_mean a b c ps r m = mean_ring a b c (pos (sum m.weights)) r.x r.y (pos r.d) (weighed_x m.weights ps) (weighed_y m.weights ps) m.x m.y ∙ ap (λ (t : ℤ). pos r.d *ℤ t) (total_is a b c m.weights ps m.one_each)
 
-weigh : (w : ℕ) (x : ℤ) → pos 0 <ℤ x → pos 0 ≤ℤ (pos w *ℤ x)
-weigh w x h = mul-nonneg (pos w) x (omega (arith, ints)) (omega (arith, ints))
-
-weigh_more : (w : ℕ) (x : ℤ) → pos 0 <ℤ x → pos 0 <ℤ (pos (suc w) *ℤ x)
-weigh_more w x h = mul-pos (pos (suc w)) x (omega (arith, ints)) h
-
 total_nonneg : (f : Pt → ℤ) (ws : List ℕ) (ps : List Pt) → AllByRecursion (λ p. pos 0 <ℤ f p) ps → pos 0 ≤ℤ total f ws ps
 total_nonneg f [] ps h = omega (arith, ints)
 total_nonneg f (w ∷ ws) [] h = omega (arith, ints)
-total_nonneg f (w ∷ ws) (p ∷ ps) h = let a = weigh w (f p) h.0 in let b = total_nonneg f ws ps h.1 in omega (arith, ints)
+total_nonneg f (w ∷ ws) (p ∷ ps) h = let a = weighed_nonneg w (f p) h.0 in let b = total_nonneg f ws ps h.1 in omega (arith, ints)
 
 total_above : (f : Pt → ℤ) (ws : List ℕ) (ps : List Pt) → length ws ≡ length ps → 0 < sum ws → AllByRecursion (λ p. pos 0 <ℤ f p) ps → pos 0 <ℤ total f ws ps
 total_above f [] ps e s h = absurd (omega (arith, s))
 total_above f (w ∷ ws) [] e s h = absurd (omega (arith, e))
-total_above f (zero ∷ ws) (p ∷ ps) e s h = let a = weigh zero (f p) h.0 in let b = total_above f ws ps (omega (arith, e)) (omega (arith, s)) h.1 in omega (arith, ints)
-total_above f (suc w ∷ ws) (p ∷ ps) e s h = let a = weigh_more w (f p) h.0 in let b = total_nonneg f ws ps h.1 in omega (arith, ints)
+total_above f (zero ∷ ws) (p ∷ ps) e s h = let a = weighed_nonneg zero (f p) h.0 in let b = total_above f ws ps (omega (arith, e)) (omega (arith, s)) h.1 in omega (arith, ints)
+total_above f (suc w ∷ ws) (p ∷ ps) e s h = let a = weighed_pos w (f p) h.0 in let b = total_nonneg f ws ps h.1 in omega (arith, ints)
 
 -- a line that is above 0 at all points is above 0 at their means
 mean_above : (a b c : ℤ) (ps : List Pt) (r : Point) → IsMeanOf ps r → AllByRecursion (λ p. pos 0 <ℤ line a b c p) ps → pos 0 <ℤ value_at a b c r
@@ -79,12 +76,6 @@ neg_line a b c p = ring a b c p.x p.y
   where
     ring : (a b c x y : ℤ) → neg_ℤ a *ℤ x +ℤ neg_ℤ b *ℤ y +ℤ neg_ℤ c *ℤ pos 1 ≡ neg_ℤ (a *ℤ x +ℤ b *ℤ y +ℤ c *ℤ pos 1)
     ring a b c x y = by_ring (a ∷ b ∷ c ∷ x ∷ y ∷ []) _ _ (search quoting depth 40 fits 100000) (search quoting depth 40 fits 100000) tt
-
-neg_value : (a b c : ℤ) (r : Point) → value_at (neg_ℤ a) (neg_ℤ b) (neg_ℤ c) r ≡ neg_ℤ (value_at a b c r)
-neg_value a b c r = ring a b c r.x r.y (pos r.d)
-  where
-    ring : (a b c x y d : ℤ) → neg_ℤ a *ℤ x +ℤ neg_ℤ b *ℤ y +ℤ neg_ℤ c *ℤ d ≡ neg_ℤ (a *ℤ x +ℤ b *ℤ y +ℤ c *ℤ d)
-    ring a b c x y d = by_ring (a ∷ b ∷ c ∷ x ∷ y ∷ d ∷ []) _ _ (search quoting depth 40 fits 100000) (search quoting depth 40 fits 100000) tt
 
 all_negated : (a b c : ℤ) (ps : List Pt) → AllByRecursion (λ p. line a b c p <ℤ pos 0) ps → AllByRecursion (λ p. pos 0 <ℤ line (neg_ℤ a) (neg_ℤ b) (neg_ℤ c) p) ps
 all_negated a b c [] h = tt
@@ -155,20 +146,14 @@ here_right e ends true k = absurd (wrong k)
     wrong : true ≡ false → ⊥
     wrong h = cc
 
-some_is : (d e : EndAt) → Some d ≡ Some e → d ≡ e
-some_is d e h = cc
-
-none_some : (e : EndAt) → ◌≡◌ {A = Option EndAt} None (Some e) → ⊥
-none_some e h = cc
-
 pub in_lefts : (ends : List EndAt) (k : ℕ) (e : EndAt) → e.code < 32768 → slice_get ends k ≡ Some e → In e.at (left_ends ends)
-in_lefts [] k e h g = absurd (none_some e g)
-in_lefts (d ∷ ends) zero e h g = subst (λ (d : EndAt). In e.at (left_ends (d ∷ ends))) (sym (some_is d e g)) (here_left e ends (nat_lt e.code 32768) (lt-ltb e.code 32768 h))
+in_lefts [] k e h g = absurd (none_is_not_some e g)
+in_lefts (d ∷ ends) zero e h g = subst (λ (d : EndAt). In e.at (left_ends (d ∷ ends))) (sym (some_is_same d e g)) (here_left e ends (nat_lt e.code 32768) (lt-ltb e.code 32768 h))
 in_lefts (d ∷ ends) (suc k) e h g = in_lefts_by e.at d ends (nat_lt d.code 32768) (in_lefts ends k e h g)
 
 pub in_rights : (ends : List EndAt) (k : ℕ) (e : EndAt) → 32768 ≤ e.code → slice_get ends k ≡ Some e → In e.at (right_ends ends)
-in_rights [] k e h g = absurd (none_some e g)
-in_rights (d ∷ ends) zero e h g = subst (λ (d : EndAt). In e.at (right_ends (d ∷ ends))) (sym (some_is d e g)) (here_right e ends (nat_lt e.code 32768) (le-ltb e.code 32768 h))
+in_rights [] k e h g = absurd (none_is_not_some e g)
+in_rights (d ∷ ends) zero e h g = subst (λ (d : EndAt). In e.at (right_ends (d ∷ ends))) (sym (some_is_same d e g)) (here_right e ends (nat_lt e.code 32768) (le-ltb e.code 32768 h))
 in_rights (d ∷ ends) (suc k) e h g = in_rights_by e.at d ends (nat_lt d.code 32768) (in_rights ends k e h g)
 
 -- ---- weights for all points from weights for some of them

@@ -11,6 +11,7 @@ use Rattle.block_evidence.specs.Stuck.{HullsMeet, left_ends, right_ends, end_cod
 use Rattle.block_evidence.specs.Picked.{IsIn, Ascends, AreAmong, AreDistinct, Orders, Picks}
 use Rattle.block_evidence.proofs.Means.{In, mean_more}
 use Rattle.block_evidence.proofs.Ordered.{all_at, all_of, left_in, right_in}
+use Rattle.list_base.proofs.Lists.{all_join}
 
 abbrev pub AreLeft : List EndAt → Type 0
 AreLeft ends = AllByRecursion (λ (d : EndAt). d.code < 32768) ends
@@ -59,9 +60,6 @@ one_ordered a = record {
 }
 
 -- ---- left ends before right ones
-all_append : {X : Type 0} (P : X → Type 0) (xs ys : List X) → AllByRecursion P xs → AllByRecursion P ys → AllByRecursion P (xs ++ ys)
-all_append P [] ys h k = k
-all_append P (x ∷ xs) ys h k = (h.0, all_append P xs ys h.1 k)
 
 in_front : (e : EndAt) (xs ys : List EndAt) → IsIn e xs → IsIn e (xs ++ ys)
 in_front e [] ys h = absurd h
@@ -78,7 +76,7 @@ above x (y ∷ ys) h k = (let l = k.0 in omega (arith, h, l), above x ys h k.1)
 
 both_ascend : (xs ys : List EndAt) → Ascends xs → Ascends ys → AreLeft xs → AreRight ys → Ascends (xs ++ ys)
 both_ascend [] ys h k l r = k
-both_ascend (x ∷ xs) ys h k l r = (all_append (λ (d : EndAt). x.code < d.code) xs ys h.0 (above x ys l.0 r), both_ascend xs ys h.1 k l.1 r)
+both_ascend (x ∷ xs) ys h k l r = (all_join (λ (d : EndAt). x.code < d.code) xs ys h.0 (above x ys l.0 r), both_ascend xs ys h.1 k l.1 r)
 
 among_all : (P : EndAt → Type 0) (given ends : List EndAt) → AreAmong given ends → AllByRecursion P given → AllByRecursion P ends
 among_all P given ends h k = all_of P ends (λ e i. all_at P e given k (all_at (λ (d : EndAt). IsIn d given) e ends h i))
@@ -93,7 +91,7 @@ pub picks_ordered : (ls rs : List EndAt) (cl cr : List ℕ) (e : Evidence) → O
 picks_ordered ls rs cl cr e o p l r dl dr (t, m, n) few count codes unused = record {
   ends = o.ends ++ p.ends;
   ascends = both_ascend o.ends p.ends (o.ascends dl) (p.ascends dr) (among_all (λ (d : EndAt). d.code < 32768) ls o.ends o.among l) (among_all (λ (d : EndAt). 32768 ≤ d.code) rs p.ends p.among r);
-  among = all_append (λ (d : EndAt). IsIn d (ls ++ rs)) o.ends p.ends
+  among = all_join (λ (d : EndAt). IsIn d (ls ++ rs)) o.ends p.ends
       (all_of (λ (d : EndAt). IsIn d (ls ++ rs)) o.ends (λ d i. in_front d ls rs (all_at (λ (d : EndAt). IsIn d ls) d o.ends o.among i)))
       (all_of (λ (d : EndAt). IsIn d (ls ++ rs)) p.ends (λ d i. in_back d ls rs (all_at (λ (d : EndAt). IsIn d rs) d p.ends p.among i)));
   few = omega (arith, whole);

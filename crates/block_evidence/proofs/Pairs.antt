@@ -16,6 +16,7 @@ use Rattle.block_evidence.specs.Stuck.{left_ends, right_ends, AreStuck}
 use Rattle.block_evidence.specs.Parted.{PartsEnd, PartsEnds}
 use Rattle.block_evidence.specs.Pairs.{IsLeftIn, IsRightIn, IsConeIn, Keeps, HasAt, HasAllAt}
 use Rattle.block_evidence.proofs.Means.{In, in_lefts, in_rights, balanced_meet}
+use Rattle.list_base.proofs.Options.{some_is_same}
 
 in_left : (ends : List EndAt) (e : EndAt) → IsLeftIn ends e → In e.at (left_ends ends)
 in_left ends e h = in_lefts ends h.place e h.code h.is
@@ -45,13 +46,10 @@ cone_widened ends c d l r h i j w = record {
   second_right = choose_right ends (pair_of (second_of c)) (pair_of (second_of d)) (record { left = l; right = r }) w.second h.second_right j;
 }
 
-pub some_is : (d e : EndAt) → Some d ≡ Some e → d ≡ e
-some_is d e h = cc
-
 pub end_result : (ends : List EndAt) (c : Cone) (l r : EndAt) (j : ℕ) (o : Option Cone) → IsConeIn ends c → IsLeftIn ends l → IsRightIn ends r → slice_get ends j ≡ Some r
     → MatchOption o (AreBalanced (three_pairs c l r)) (λ d. IsWidened c l r d) → MatchOption o (AreStuck ends) (λ d. IsConeIn ends d × Keeps c d × HasAt ends l j d)
 end_result ends c l r j None h i k e w = meeting ends c l r h i k w
-end_result ends c l r j (Some d) h i k e w = (cone_widened ends c d l r h i k w, w.keeps, λ e' g n. subst (λ (u : EndAt). Spans d (difference l.at u.at)) (some_is r e' (sym e ∙ g)) w.has)
+end_result ends c l r j (Some d) h i k e w = (cone_widened ends c d l r h i k w, w.keeps, λ e' g n. subst (λ (u : EndAt). Spans d (difference l.at u.at)) (some_is_same r e' (sym e ∙ g)) w.has)
 
 -- the end at a place
 pub end_at_place : (ends : List EndAt) (k : ℕ) (d : EndAt) → k < length ends → slice_get ends k ≡ Some (get_or ends k d)
@@ -109,4 +107,4 @@ ray_in ends e l r p q i j = record { first_left = subst (IsLeftIn ends) (sym p) 
 pub place_result : (ends : List EndAt) (c : Cone) (i : ℕ) (left : EndAt) (o : Option Cone) → slice_get ends i ≡ Some left → MatchOption o (AreStuck ends) (λ d. IsConeIn ends d × Keeps c d × ((j : ℕ) → j < length ends → HasAt ends left j d))
     → MatchOption o (AreStuck ends) (λ d. IsConeIn ends d × Keeps c d × HasAllAt ends i d)
 place_result ends c i left None e h = h
-place_result ends c i left (Some k) e h = (h.0, h.1, λ d g n j u m o. subst (λ (v : EndAt). Spans k (difference v.at u.at)) (some_is left d (sym e ∙ g)) (h.2 j (slice_get_within ends j u m) u m o))
+place_result ends c i left (Some k) e h = (h.0, h.1, λ d g n j u m o. subst (λ (v : EndAt). Spans k (difference v.at u.at)) (some_is_same left d (sym e ∙ g)) (h.2 j (slice_get_within ends j u m) u m o))

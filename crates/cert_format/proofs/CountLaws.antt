@@ -6,6 +6,7 @@ use Rattle.sight_names.specs.declared.names.PairRay.{PairRay}
 use Rattle.sight_tree.specs.declared.Tree.{Tree}
 use Rattle.cert_format.specs.declared.cert.Sizes.{Sizes}
 use Rattle.cert_format.specs.Grammar.{Ascends, PairBefore, IsPairInRange, IsRayInRange, IsTreeInRange}
+use Rattle.list_base.proofs.Options.{some_is_same}
 
 module _ {X : Type 0} (code : X → ℕ) (limit : ℕ) where
   -- numbers below a limit that rise are no more than the limit
@@ -28,10 +29,7 @@ code_rises p q small (inr (e, lt)) = omega (arith, e, lt)
 
 pair_at : (sizes : Sizes) (ps : List Pair) → AllByRecursion (IsPairInRange sizes) ps → (i : ℕ) (p : Pair) → slice_get ps i ≡ Some p → IsPairInRange sizes p
 pair_at sizes [] h i p e = absurd cc
-pair_at sizes (q ∷ ps) h zero p e = let Q : Pair → Type 0 = λ r. IsPairInRange sizes r in subst Q (some_is q p e) h.0
-  where
-    some_is : (x y : Pair) → Some x ≡ Some y → x ≡ y
-    some_is x y e = cc
+pair_at sizes (q ∷ ps) h zero p e = let Q : Pair → Type 0 = λ r. IsPairInRange sizes r in subst Q (some_is_same q p e) h.0
 pair_at sizes (q ∷ ps) h (suc i) p e = pair_at sizes ps h.1 i p e
 
 pairs_below : (sizes : Sizes) (ps : List Pair) → sizes.sectors < 2 ^ 16 → AllByRecursion (IsPairInRange sizes) ps → AllByRecursion (λ p. pair_code p < 4294967295) ps
@@ -49,10 +47,7 @@ rays_below sizes (r ∷ rs) small h = (omega (arith, h.0.0.0, h.0.0.1), rays_bel
 
 ray_at : (sizes : Sizes) (rs : List PairRay) → AllByRecursion (IsRayInRange sizes) rs → (i : ℕ) (r : PairRay) → slice_get rs i ≡ Some r → IsPairInRange sizes r.pair
 ray_at sizes [] h i p e = absurd cc
-ray_at sizes (q ∷ rs) h zero p e = let Q : PairRay → Type 0 = λ r. IsPairInRange sizes r.pair in subst Q (some_is q p e) h.0.0
-  where
-    some_is : (x y : PairRay) → Some x ≡ Some y → x ≡ y
-    some_is x y e = cc
+ray_at sizes (q ∷ rs) h zero p e = let Q : PairRay → Type 0 = λ r. IsPairInRange sizes r.pair in subst Q (some_is_same q p e) h.0.0
 ray_at sizes (q ∷ rs) h (suc i) p e = ray_at sizes rs h.1 i p e
 
 pub few_rays : (sizes : Sizes) (rs : List PairRay) → sizes.sectors < 2 ^ 16 → AllByRecursion (IsRayInRange sizes) rs → Ascends (λ (r s : PairRay). PairBefore r.pair s.pair) rs → length rs < 2 ^ 32

@@ -7,6 +7,7 @@ use Rattle.sight_names.specs.declared.faults.CertFault.{CertFault}
 use Rattle.cert_format.specs.Grammar.{Ascends}
 use Rattle.cert_format.specs.Reading.{◌>>=◌, records_at}
 use Rattle.cert_format.proofs.FieldLaws.{IsBytes, bind_ok, ok_is, Takes, Takes-then}
+use Rattle.list_base.proofs.Options.{some_is_same}
 
 module _ {X K : Type 0} (one : K → List ℕ → Result (X × List ℕ) CertFault) (key : X → K) (text : X → List ℕ) (Fits : X → Type 0) (After : K → X → Type 0) where
   -- each comes after the one before it, the first after this key
@@ -56,19 +57,13 @@ module _ {X K : Type 0} (one : K → List ℕ → Result (X × List ℕ) CertFau
 
   chain_at : Carries → (o : X) (xs : List X) → IsChain (key o) xs → (j : ℕ) (y : X) → slice_get xs j ≡ Some y → After (key o) y
   chain_at carries o [] chain j y h = absurd cc
-  chain_at carries o (x ∷ xs) chain zero y h = subst (λ (z : X). After (key o) z) (some_is x y h) chain.0
-    where
-      some_is : (x y : X) → Some x ≡ Some y → x ≡ y
-      some_is x y h = cc
+  chain_at carries o (x ∷ xs) chain zero y h = subst (λ (z : X). After (key o) z) (some_is_same x y h) chain.0
   chain_at carries o (x ∷ xs) chain (suc j) y h = carries o x y chain.0 (chain_at carries x xs chain.1 j y h)
 
   pub ascends_of_chain : Carries → (k : K) (xs : List X) → IsChain k xs → Ascends (λ x y. After (key x) y) xs
   ascends_of_chain carries k [] chain i j x y lt h g = absurd cc
   ascends_of_chain carries k (o ∷ xs) chain zero zero x y lt h g = absurd (omega arith)
-  ascends_of_chain carries k (o ∷ xs) chain zero (suc j) x y lt h g = subst (λ (z : X). After (key z) y) (some_is o x h) (chain_at carries o xs chain.1 j y g)
-    where
-      some_is : (x y : X) → Some x ≡ Some y → x ≡ y
-      some_is x y h = cc
+  ascends_of_chain carries k (o ∷ xs) chain zero (suc j) x y lt h g = subst (λ (z : X). After (key z) y) (some_is_same o x h) (chain_at carries o xs chain.1 j y g)
   ascends_of_chain carries k (o ∷ xs) chain (suc i) zero x y lt h g = absurd (omega arith)
   ascends_of_chain carries k (o ∷ xs) chain (suc i) (suc j) x y lt h g = ascends_of_chain carries (key o) xs chain.1 i j x y (le_of_suc-le-suc lt) h g
 

@@ -23,6 +23,7 @@ use Rattle.cert_format.proofs.RecordLaws.{records_take, records_again, ascends_o
 use Rattle.cert_format.proofs.KindLaws.{FitsLabelled, TriangleAfter, triangle_takes, triangle_again, PairAfter, pair_takes, pair_again, FitsPairRay, RayAfter, ray_takes, ray_again}
 use Rattle.cert_format.proofs.TreeLaws.{FitsTree, TreeAfter, tree_takes, tree_again, in_orders, all_fit, fit_in_order}
 use Rattle.cert_format.proofs.CountLaws.{few_pairs, few_rays, few_trees}
+use Rattle.list_base.proofs.Options.{some_is_same}
 
 -- ---- the header
 
@@ -122,26 +123,17 @@ triangle_list ls = map (λ (l : Labelled). l.triangle) ls
 -- the labelled triangle behind a triangle of the list
 got : (ls : List Labelled) (i : ℕ) (t : Triangle) → slice_get (triangle_list ls) i ≡ Some t → (l : Labelled) × (slice_get ls i ≡ Some l) × (l.triangle ≡ t)
 got [] i t h = absurd cc
-got (l ∷ ls) zero t h = (l, refl, some_is l.triangle t h)
-  where
-    some_is : (x y : Triangle) → Some x ≡ Some y → x ≡ y
-    some_is x y h = cc
+got (l ∷ ls) zero t h = (l, refl, some_is_same l.triangle t h)
 got (l ∷ ls) (suc i) t h = got ls i t h
 
 got_back : (ls : List Labelled) (i : ℕ) (l : Labelled) → slice_get ls i ≡ Some l → slice_get (triangle_list ls) i ≡ Some l.triangle
 got_back [] i l h = absurd cc
-got_back (k ∷ ls) zero l h = ap (λ (x : Labelled). Some x.triangle) (some_is k l h)
-  where
-    some_is : (x y : Labelled) → Some x ≡ Some y → x ≡ y
-    some_is x y h = cc
+got_back (k ∷ ls) zero l h = ap (λ (x : Labelled). Some x.triangle) (some_is_same k l h)
 got_back (k ∷ ls) (suc i) l h = got_back ls i l h
 
 fits_at : (sizes : Sizes) (ls : List Labelled) → AllByRecursion (FitsLabelled sizes) ls → (i : ℕ) (l : Labelled) → slice_get ls i ≡ Some l → FitsLabelled sizes l
 fits_at sizes [] h i l e = absurd cc
-fits_at sizes (k ∷ ls) h zero l e = subst (FitsLabelled sizes) {x = k} (some_is k l e) h.0
-  where
-    some_is : (x y : Labelled) → Some x ≡ Some y → x ≡ y
-    some_is x y h = cc
+fits_at sizes (k ∷ ls) h zero l e = subst (FitsLabelled sizes) {x = k} (some_is_same k l e) h.0
 fits_at sizes (k ∷ ls) h (suc i) l e = fits_at sizes ls h.1 i l e
 
 triangles_are : (sizes : Sizes) (ls : List Labelled) → AllByRecursion (FitsLabelled sizes) ls → Ascends (λ x y. IsAbove x.triangle y.triangle) ls → AreTriangles sizes.points (triangle_list ls)

@@ -118,7 +118,7 @@ pub record KindsBelow (p : PlanParts) (ts : List Triangle) (m : ℕ) (kinds : Li
   pub len : length kinds ≡ length ts * 3
   pub each : (e : Edge) (i : ℕ) → number_of ts e ≡ Some i → (kind : EdgeKind) × (slice_get kinds i ≡ Some kind) × IsKnown p m e kind
 
-same_or_not : (o : Option ℕ) (i : ℕ) → (o ≡ Some i) ⊎ (o ≢ Some i)
+pub same_or_not : (o : Option ℕ) (i : ℕ) → (o ≡ Some i) ⊎ (o ≢ Some i)
 same_or_not None i = inr (none-some i)
 same_or_not (Some j) i = elim (cases_eq j i) as (λ _. (Some j ≡ Some i) ⊎ (Some j ≢ Some i)) [ inl h ↦ inl (ap (λ (k : ℕ). let o : Option ℕ = Some k in o) h) | inr h ↦ inr (λ q. h (same_Some j i q)) ]
 

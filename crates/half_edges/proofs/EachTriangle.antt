@@ -21,6 +21,7 @@ use Rattle.half_edges.specs.Kinds.{IsEdgeKind, IsEnteredAt, AreKinds, portal_on,
 use Rattle.half_edges.specs.HalfEdges.{portal_of, entering, IsHalfEdge, AreHalfEdges}
 use Rattle.half_edges.specs.Corners.{arrival_of, is_closed, IsCorner, by_corners, three_of, Pushes}
 use Rattle.half_edges.proofs.Numbers.{IsNumber, number_is, IsCornerEdge, corner_at}
+use Rattle.list_base.proofs.Numbers.{below_differs, tells_other, tells_same}
 
 get_front : {X : Type 0} (xs ys : List X) (i : ℕ) → i < length xs → slice_get (xs ++ ys) i ≡ slice_get xs i
 get_front [] ys i l = absurd (omega arith)
@@ -128,12 +129,6 @@ module _ (p : PlanParts) (ts : List Triangle) (labels : List (Option ℕ)) (kind
       pub is_other : IsCorner p ts kinds two third from other
       pub at : slice_get xs i ≡ Some (by_corners k (label_of labels k) left right other)
 
-    same_number : (a b : ℕ) → a ≡ b → (a == b) ≡ true
-    same_number a b e = grind arith
-
-    other_number : (a b : ℕ) → a ≢ b → (a == b) ≡ false
-    other_number a b e = grind arith
-
     chosen : (a b : Bool) (x y : ℕ) → a ≡ true → b ≡ true → (let n : ℕ = if a && b then x else y in n) ≡ x
     chosen a b x y e f = ap (λ (c : Bool). let n : ℕ = if c && b then x else y in n) e ∙ ap (λ (c : Bool). let n : ℕ = if c then x else y in n) f
 
@@ -141,17 +136,14 @@ module _ (p : PlanParts) (ts : List Triangle) (labels : List (Option ℕ)) (kind
     passed a b x y e = ap (λ (c : Bool). let n : ℕ = if c && b then x else y in n) e
 
     first_third : (t : Triangle) → third_point (edge t.p t.q) t ≡ t.r
-    first_third t = chosen (t.p == t.p) (t.q == t.q) t.r (if t.q == t.p && t.r == t.q then t.p else t.q) (same_number t.p t.p refl) (same_number t.q t.q refl)
+    first_third t = chosen (t.p == t.p) (t.q == t.q) t.r (if t.q == t.p && t.r == t.q then t.p else t.q) (tells_same t.p t.p refl) (tells_same t.q t.q refl)
 
     second_third : (t : Triangle) → (t.p ≡ t.q → ⊥) → third_point (edge t.q t.r) t ≡ t.p
-    second_third t n = passed (t.p == t.q) (t.q == t.r) t.r (if t.q == t.q && t.r == t.r then t.p else t.q) (other_number t.p t.q n)
-        ∙ chosen (t.q == t.q) (t.r == t.r) t.p t.q (same_number t.q t.q refl) (same_number t.r t.r refl)
+    second_third t n = passed (t.p == t.q) (t.q == t.r) t.r (if t.q == t.q && t.r == t.r then t.p else t.q) (tells_other t.p t.q n)
+        ∙ chosen (t.q == t.q) (t.r == t.r) t.p t.q (tells_same t.q t.q refl) (tells_same t.r t.r refl)
 
     third_third : (t : Triangle) → (t.p ≡ t.r → ⊥) → (t.q ≡ t.r → ⊥) → third_point (edge t.r t.p) t ≡ t.q
-    third_third t n k = passed (t.p == t.r) (t.q == t.p) t.r (if t.q == t.r && t.r == t.p then t.p else t.q) (other_number t.p t.r n) ∙ passed (t.q == t.r) (t.r == t.p) t.p t.q (other_number t.q t.r k)
-
-    less : (a b : ℕ) → a < b → a ≡ b → ⊥
-    less a b l f = omega (arith, l, f)
+    third_third t n k = passed (t.p == t.r) (t.q == t.p) t.r (if t.q == t.r && t.r == t.p then t.p else t.q) (tells_other t.p t.r n) ∙ passed (t.q == t.r) (t.r == t.p) t.p t.q (tells_other t.q t.r k)
 
     corner_moved : (i j from to : ℕ) (c : Corner) → i ≡ j → IsCorner p ts kinds i from to c → IsCorner p ts kinds j from to c
     corner_moved i j from to c q h = subst (λ (n : ℕ). IsCorner p ts kinds n from to c) q h
@@ -209,7 +201,7 @@ module _ (p : PlanParts) (ts : List Triangle) (labels : List (Option ℕ)) (kind
               found = a.found;
               there = a.is;
               ends = q;
-              apex_is = second_third t (less t.p t.q numbers.least);
+              apex_is = second_third t (below_differs t.p t.q numbers.least);
               is_left = corner_moved (k * 3 + 1) i t.q t.r three.second (omega (arith, a.number, c)) three.is_second;
               is_right = three.is_third;
               is_other = three.is_first;
@@ -229,7 +221,7 @@ module _ (p : PlanParts) (ts : List Triangle) (labels : List (Option ℕ)) (kind
               found = a.found;
               there = a.is;
               ends = q;
-              apex_is = third_third t (less t.p t.r numbers.least_too) numbers.differ;
+              apex_is = third_third t (below_differs t.p t.r numbers.least_too) numbers.differ;
               is_left = corner_moved (k * 3 + 2) i t.r t.p three.third (omega (arith, a.number, c)) three.is_third;
               is_right = three.is_first;
               is_other = three.is_second;

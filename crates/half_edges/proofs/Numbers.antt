@@ -5,8 +5,10 @@ use Rattle.std.proofs.lemmas.Option.{none-some, same_Some, slice_get_within}
 use Rattle.sight_names.specs.declared.names.Triangle.{Triangle}
 use Rattle.sight_names.specs.Points.{Edge}
 use Rattle.sight_names.specs.Mesh.{triangle_at, HasEdge, IsTriangle, AreTriangles}
-use Rattle.mesh_shape.proofs.RuleLemmas.{edge_cases, found_here}
+use Rattle.mesh_shape.proofs.RuleLemmas.{edge_cases}
 use Rattle.half_edges.specs.Numbers.{edge, corner_of, number_of}
+use Rattle.list_base.proofs.Numbers.{below_differs, tells_other, tells_same}
+use Rattle.mesh_base.proofs.GoodMesh.{found_at}
 
 -- the triangle and the corner of a number
 pub record IsNumber (ts : List Triangle) (e : Edge) (i : ℕ) : Type 0 where
@@ -36,15 +38,9 @@ no_number ts e h = at (triangle_at ts e) refl
   where
     at : (o : Option ℕ) → triangle_at ts e ≡ o → triangle_at ts e ≡ None
     at None f = f
-    at (Some k) f = let t = found_here ts e k f in absurd (none-some (k * 3 + corner_of e t.0) (sym h ∙ number_at ts e k t.0 f t.1))
+    at (Some k) f = let t = found_at ts e k f in absurd (none-some (k * 3 + corner_of e t.0) (sym h ∙ number_at ts e k t.0 f t.1))
 
 -- ---- corners
-
-same_number : (a b : ℕ) → a ≡ b → (a == b) ≡ true
-same_number a b e = elim (eqb_tells a b) as (λ _. (a == b) ≡ true) [ inl h ↦ h.0 | inr h ↦ absurd (h.1 e) ]
-
-other_number : (a b : ℕ) → a ≢ b → (a == b) ≡ false
-other_number a b n = elim (eqb_tells a b) as (λ _. (a == b) ≡ false) [ inl h ↦ absurd (n h.1) | inr h ↦ h.0 ]
 
 by_tests : (b c x y : Bool) → b ≡ x → c ≡ y → ◌≡◌ {A = ℕ} (if b then 0 else (if c then 1 else 2)) (if x then 0 else (if y then 1 else 2))
 by_tests b c x y e f = ap (λ (z : Bool). let n : ℕ = if z then 0 else (if c then 1 else 2) in n) e ∙ ap (λ (z : Bool). let n : ℕ = if x then 0 else (if z then 1 else 2) in n) f
@@ -55,12 +51,9 @@ IsCornerEdge t e = ((e ≡ edge t.p t.q) × (corner_of e t ≡ 0)) ⊎ ((e ≡ e
 
 corner_is : (n : ℕ) (t : Triangle) (e : Edge) → IsTriangle n t → HasEdge t e → IsCornerEdge t e
 corner_is n t e is h = edge_cases t e (IsCornerEdge t)
-    (inl (refl, by_tests (t.p == t.p) (t.q == t.p) true (t.q == t.p) (same_number t.p t.p refl) refl))
-    (inr (inl (refl, by_tests (t.p == t.q) (t.q == t.q) false true (other_number t.p t.q (below t.p t.q is.least)) (same_number t.q t.q refl))))
-    (inr (inr (refl, by_tests (t.p == t.r) (t.q == t.r) false false (other_number t.p t.r (below t.p t.r is.least_too)) (other_number t.q t.r is.differ)))) h
-  where
-    below : (a b : ℕ) → a < b → a ≡ b → ⊥
-    below a b l e = omega arith
+    (inl (refl, by_tests (t.p == t.p) (t.q == t.p) true (t.q == t.p) (tells_same t.p t.p refl) refl))
+    (inr (inl (refl, by_tests (t.p == t.q) (t.q == t.q) false true (tells_other t.p t.q (below_differs t.p t.q is.least)) (tells_same t.q t.q refl))))
+    (inr (inr (refl, by_tests (t.p == t.r) (t.q == t.r) false false (tells_other t.p t.r (below_differs t.p t.r is.least_too)) (tells_other t.q t.r is.differ)))) h
 
 corner_few : (t : Triangle) (e : Edge) → IsCornerEdge t e → corner_of e t < 3
 corner_few t e (inl h) = omega (arith, h.1)
@@ -82,7 +75,7 @@ one_corner t e f (inr (inr h)) (inr (inl k)) q = absurd (omega (arith, h.1, k.1,
 
 module _ (n : ℕ) (ts : List Triangle) (all : AreTriangles n ts) where
   pub corner_at : (e : Edge) (i : ℕ) → (a : IsNumber ts e i) → IsCornerEdge a.corners e
-  corner_at e i a = at (found_here ts e a.triangle a.found)
+  corner_at e i a = at (found_at ts e a.triangle a.found)
     where
       at : (t : Triangle) × (slice_get ts a.triangle ≡ Some t) × HasEdge t e → IsCornerEdge a.corners e
       at (t, h, k) = corner_is n a.corners e (all.each a.triangle a.corners a.is) (subst (λ (x : Triangle). HasEdge x e) (same_Some t a.corners (sym h ∙ a.is)) k)

@@ -10,13 +10,15 @@ use Rattle.sight_names.specs.Mesh.{AreTriangles, HasEdge, triangle_at}
 use Rattle.sight_names.specs.Sequence.{Portal, names_it, third_point, IsSolidLine}
 use Rattle.sight_names.proofs.PlanMap.{points_differ}
 use Rattle.sight_names.proofs.PlanNumbers.{place_of_plan}
-use Rattle.mesh_shape.proofs.RuleLemmas.{edge_cases, found_here, first_edge, second_edge, third_edge}
-use Rattle.mesh_base.proofs.CleanMesh.{IsTurnedTo, turned_to_third}
+use Rattle.mesh_shape.proofs.RuleLemmas.{edge_cases}
+use Rattle.mesh_base.proofs.CleanMesh.{IsTurnedTo, turned_to_third, edge_rp, edge_qr, edge_pq}
 use Rattle.half_edges.specs.declared.table.HalfEdge.{HalfEdge}
 use Rattle.half_edges.specs.Numbers.{edge, number_of}
 use Rattle.half_edges.specs.Kinds.{portal_on}
 use Rattle.half_edges.specs.HalfEdges.{portal_of, entering, way_outside, IsHalfEdge, AreHalfEdges}
 use Rattle.half_edges.proofs.Numbers.{no_number}
+use Rattle.list_base.proofs.Numbers.{below_differs}
+use Rattle.mesh_base.proofs.GoodMesh.{found_at}
 
 -- the half-edge behind a way
 pub record IsReached (p : PlanParts) (ts : List Triangle) (labels : List (Option ℕ)) (xs : List HalfEdge) (e : Edge) (i : ℕ) : Type 0 where
@@ -81,15 +83,15 @@ other_edges t e h = by (third_point e t) (turned_to_third t e.from e.to h)
     moved {a} {b} {c} {d} f g k = subst (HasEdge t) (let q : edge a b ≡ edge c d = λ i. edge (f i) (g i) in q) k
 
     by : (w : ℕ) → IsTurnedTo t e.from e.to w → HasEdge t (edge w e.from) × HasEdge t (edge e.to w)
-    by w (inl (f, g, k)) = (moved k f (third_edge t), moved g k (second_edge t))
-    by w (inr (inl (f, g, k))) = (moved k f (first_edge t), moved g k (third_edge t))
-    by w (inr (inr (f, g, k))) = (moved k f (second_edge t), moved g k (first_edge t))
+    by w (inl (f, g, k)) = (moved k f (edge_rp t), moved g k (edge_qr t))
+    by w (inr (inl (f, g, k))) = (moved k f (edge_pq t), moved g k (edge_rp t))
+    by w (inr (inr (f, g, k))) = (moved k f (edge_qr t), moved g k (edge_pq t))
 
 -- ---- ends
 
 -- the ends of an edge of the mesh are different points of the map
 pub ends_differ : (p : PlanParts) (ts : List Triangle) (labels : List (Option ℕ)) (xs : List HalfEdge) (e : Edge) (x : HalfEdge) → IsPlan p → AreTriangles (length p.points) ts → IsHalfEdge p ts labels xs e x → (x.left < length p.points) × (x.right < length p.points) × (x.left ≢ x.right) × (x.left_at ≢ x.right_at)
-ends_differ p ts labels xs e x plan all is = by (found_here ts e x.triangle is.triangle)
+ends_differ p ts labels xs e x plan all is = by (found_at ts e x.triangle is.triangle)
   where
     Proper : Edge → Type 0
     Proper d = (d.from < length p.points) × (d.to < length p.points) × (d.from ≢ d.to)
@@ -99,9 +101,6 @@ ends_differ p ts labels xs e x plan all is = by (found_here ts e x.triangle is.t
 
     right : x.right ≡ e.to
     right = ap (λ (q : Portal). q.right) is.portal
-
-    less : (a b : ℕ) → a < b → a ≡ b → ⊥
-    less a b l f = omega (arith, l, f)
 
     more : (a b : ℕ) → a < b → b ≡ a → ⊥
     more a b l f = omega (arith, l, f)
@@ -113,7 +112,7 @@ ends_differ p ts labels xs e x plan all is = by (found_here ts e x.triangle is.t
     by (t, at, has) =
         let n = all.each x.triangle t at in
         let first : t.p < length p.points = under t.p t.q (length p.points) n.least n.second in
-        let proper = edge_cases t e Proper (first, n.second, less t.p t.q n.least) (n.second, n.third, n.differ) (n.third, first, more t.p t.r n.least_too) has in
+        let proper = edge_cases t e Proper (first, n.second, below_differs t.p t.q n.least) (n.second, n.third, n.differ) (n.third, first, more t.p t.r n.least_too) has in
         let l : x.left < length p.points = subst (λ (a : ℕ). a < length p.points) (sym left) proper.0 in
         let r : x.right < length p.points = subst (λ (a : ℕ). a < length p.points) (sym right) proper.1 in
         let d : x.left ≢ x.right = λ q. proper.2 (sym left ∙ q ∙ right) in

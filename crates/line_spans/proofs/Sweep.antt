@@ -12,6 +12,7 @@ use Rattle.sight_names.specs.Map.{looked_up}
 use Rattle.line_spans.specs.declared.Span.{Span}
 use Rattle.line_spans.specs.Spans.{span_of, span_of_entry, span_at, IsSpanIn, AreSpans, IsSkip, AreSkipsBelow}
 use Rattle.line_spans.proofs.Filling.{line_is}
+use Rattle.list_base.proofs.Numbers.{below_above_or_same, below_same_or_above}
 
 -- the numbers of a line's ends lie in its span
 pub record AreEndsWithin (s : Span) (l : Line) : Type 0 where
@@ -69,12 +70,9 @@ skip_none ss k = record { back = omega arith; none = λ i d le lt. absurd (omega
 pub skip_on : (ss : List Span) (k j i : ℕ) (e : Span) → IsSkip ss k j → 0 < j → j ≤ length ss → k < length ss → (get_or ss (j - 1) e).greatest ≤ (get_or ss k e).greatest → IsSkip ss (j - 1) i → IsSkip ss k i
 skip_on ss k j i e h up within hk le g = record {
   back = let a = g.back in let b = h.back in omega arith;
-  none = λ n d from below. go n d from below (order n (j - 1));
+  none = λ n d from below. go n d from below (below_same_or_above n (j - 1));
 }
   where
-    order : (n m : ℕ) → (n < m) ⊎ ((n ≡ m) ⊎ (m < n))
-    order n m = grind arith
-
     last : (d : Span) → (get_or ss (j - 1) d).greatest ≤ (get_or ss k d).greatest
     last d = subst₂ (λ (a b : Span). a.greatest ≤ b.greatest) (get_or_default ss (j - 1) e d (omega arith)) (get_or_default ss k e d hk) le
 
@@ -115,11 +113,8 @@ of_each_pair p ss h R flip each i j hi hj n = cases (h.covered i hi) (h.covered 
     same_record : (a : Contains ss (span_at p i)) (b : Contains ss (span_at p j)) → a.0 ≡ b.0 → i ≡ j
     same_record a b e = let d = span_at p i in sym (read_line p ss i a d) ∙ ap (λ (k : ℕ). (get_or ss k d).line) e ∙ read_line p ss j b d
 
-    order : (a b : ℕ) → (a < b) ⊎ ((b < a) ⊎ (a ≡ b))
-    order a b = grind arith
-
     cases : Contains ss (span_at p i) → Contains ss (span_at p j) → R i j
-    cases a b = elim (order a.0 b.0) as (λ _. R i j) [
+    cases a b = elim (below_above_or_same a.0 b.0) as (λ _. R i j) [
       | inl lt ↦ in_order i j a b lt
       | inr w ↦ elim w as (λ _. R i j) [ inl gt ↦ flip j i (in_order j i b a gt) | inr e ↦ absurd (n (same_record a b e)) ]
     ]

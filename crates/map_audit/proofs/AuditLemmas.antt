@@ -16,6 +16,8 @@ use Rattle.geom_exact.proofs.Uniqueness.{one_relation}
 use Rattle.geom_exact.proofs.Meeting.{apart_meet, ends_meet, no_meet_overlap, no_meet_touch, no_meet_cross, meet_swapped, apart_swapped}
 use Rattle.geom_exact.proofs.Filters.{apart_below, apart_before_all}
 use Rattle.map_audit.specs.Audit.{AreFine, FineAt, FineBelow, FineBefore, AreRelated, IsPair, IsFirstPair, IsLineFault, IsFaultOf, fault_by}
+use Rattle.list_base.proofs.Numbers.{below_differs, below_or_above}
+use Rattle.list_base.proofs.Options.{one_value}
 
 -- ---- the two filters, and the ends of a line
 pub lines_before : (p : PlanParts) → IsPlan p → (one other : Line) → IsPlanLine p.sectors (length p.points) one → IsPlanLine p.sectors (length p.points) other
@@ -46,15 +48,9 @@ ends_differ p h read e l f = subst (λ (xs : List Pt). slice_index_or xs l.a ori
 pub record_below : (p : PlanParts) (i : ℕ) (l : Line) → option_and_then (λ k. k) (slice_get p.lines i) ≡ Some l → i < length p.lines
 record_below p i l e = line_below p i (looked_up p.points l) (line_there p i l (sym e))
 
-one_line : (o : Option MapLine) (k l : MapLine) → o ≡ Some k → o ≡ Some l → k ≡ l
-one_line o k l e f = injective (sym e ∙ f)
-  where
-    injective : Some k ≡ Some l → k ≡ l
-    injective g = cc
-
 -- ---- fine pairs
 fine_of : (m : Map) (i j : ℕ) (a b : MapLine) → line_at m i ≡ Some a → line_at m j ≡ Some b → AreFine a b → FineAt m i j
-fine_of m i j a b ea eb h k l ek el = subst₂ (λ (x y : MapLine). AreFine x y) (one_line (line_at m i) a k ea ek) (one_line (line_at m j) b l eb el) h
+fine_of m i j a b ea eb h k l ek el = subst₂ (λ (x y : MapLine). AreFine x y) (one_value (line_at m i) a k ea ek) (one_value (line_at m j) b l eb el) h
 
 pub fine_without_second : (p : PlanParts) (i j : ℕ) → option_and_then (λ l. l) (slice_get p.lines j) ≡ None → FineAt (map_of p) i j
 fine_without_second p i j e k l ek el = absurd (none-some l (sym (no_line_there p j (sym e)) ∙ el))
@@ -136,8 +132,8 @@ same_number a b h k = grind arith
 
 same_relation : (m : Map) (i j i' j' : ℕ) (r r' : Relation) → i ≡ i' → j ≡ j' → IsPair m i j r → IsPair m i' j' r' → r ≡ r'
 same_relation m i j i' j' r r' ei ej p q =
-    let a = one_line (line_at m i') p.one q.one (subst (λ (n : ℕ). line_at m n ≡ Some p.one) ei p.is_one) q.is_one in
-    let b = one_line (line_at m j') p.other q.other (subst (λ (n : ℕ). line_at m n ≡ Some p.other) ej p.is_other) q.is_other in
+    let a = one_value (line_at m i') p.one q.one (subst (λ (n : ℕ). line_at m n ≡ Some p.one) ei p.is_one) q.is_one in
+    let b = one_value (line_at m j') p.other q.other (subst (λ (n : ℕ). line_at m n ≡ Some p.other) ej p.is_other) q.is_other in
     one_relation q.one.first q.one.second q.other.first q.other.second r r' (subst₂ (λ (x y : MapLine). AreRelated x y r) a b p.related) q.related
 
 pub one_fault : (m : Map) (f g : LineFault) → IsLineFault m f → IsLineFault m g → f ≡ g
@@ -154,21 +150,15 @@ one_fault m f g hf hg =
 
 -- ---- a sound map
 pub sound_of : (p : PlanParts) → FineBefore (map_of p) (length p.lines) → LinesMeetAtEnds (map_of p)
-sound_of p h i j k l n ek el = elim (order i j n) as (λ _. AreFine k l) [
+sound_of p h i j k l n ek el = elim (below_or_above i j n) as (λ _. AreFine k l) [
   | inl lt ↦ h i (line_below p i k ek) j lt k l ek el
   | inr lt ↦ meet_swapped l.first l.second k.first k.second (h j (line_below p j l el) i lt l k el ek)
 ]
-  where
-    order : (i j : ℕ) → i ≢ j → (i < j) ⊎ (j < i)
-    order i j n = grind arith
 
 pub not_sound : (m : Map) (f : LineFault) → IsLineFault m f → ¬ LinesMeetAtEnds m
 not_sound m f hf s =
     let h = found m f hf in
-    not_fine m f h (λ k l ek el. s h.i h.j k l (differ h.i h.j h.first.ordered) ek el)
-  where
-    differ : (i j : ℕ) → i < j → i ≢ j
-    differ i j lt e = omega arith
+    not_fine m f h (λ k l ek el. s h.i h.j k l (below_differs h.i h.j h.first.ordered) ek el)
 
 -- the clauses of the audit
 pub refused_fault : (m : Map) (fault f : LineFault) → IsLineFault m fault → (◌≡◌ {A = Result (Unit {0}) LineFault} (Err fault) (Err f)) ↔ IsLineFault m f

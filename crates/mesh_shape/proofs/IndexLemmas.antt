@@ -10,6 +10,7 @@ use Rattle.sight_names.specs.Points.{Edge}
 use Rattle.sight_names.specs.Mesh.{AreTriangles, IsTriangle, has_edge, triangle_at}
 use Rattle.mesh_shape.specs.declared.mesh.Next.{Next}
 use Rattle.mesh_shape.specs.Index.{has_corner, IsNextAround, IsNext, IsPut, IsIndexed, entry_at}
+use Rattle.list_base.proofs.Bools.{by_value}
 
 -- a triangle with the corner u is itself the next one
 pub next_here : (ts : List Triangle) (u k : ℕ) (t : Triangle) → k < length ts → get_or ts k t ≡ t → has_corner u t ≡ true → IsNextAround ts u k k
@@ -154,7 +155,7 @@ enter_next ts k first t is round =
 pub enter_step : (ts : List Triangle) (m k : ℕ) (t : Triangle) (first new : List ℕ) (later : List Next) → m ≡ k + 1 → k < length ts → get_or ts k t ≡ t → IsTriangle (length first) t → length new ≡ length first → length later ≡ length ts → IsPut t k first new
     → IsEntered ts m first later → IsEntered ts k new (set later k (entry_of first t))
 enter_step ts m k t first new later e lt at is len len' put was = record {
-  first_round = λ u d h. elim_bool (has_corner u t) (λ c. subst (λ (z : ℕ). IsNextAround ts u k z) (sym (put.here u d (omega arith) c)) (next_here ts u k t lt at c))
+  first_round = λ u d h. by_value (has_corner u t) (λ c. subst (λ (z : ℕ). IsNextAround ts u k z) (sym (put.here u d (omega arith) c)) (next_here ts u k t lt at c))
       (λ c. next_over ts u k (get_or new u d) t lt at c (subst (λ (z : ℕ). IsNextAround ts u (k + 1) z) (sym (put.others u d c)) (round u d (omega arith))));
   next_round = λ j d n le b. elim (cases_eq j k) [
     | inl same ↦ now j d n same
@@ -164,10 +165,6 @@ enter_step ts m k t first new later e lt at is len len' put was = record {
   where
     round : (u d : ℕ) → u < length first → IsNextAround ts u (k + 1) (get_or first u d)
     round u d h = subst (λ (z : ℕ). IsNextAround ts u z (get_or first u d)) e (was.first_round u d h)
-
-    elim_bool : {P : Type 0} (b : Bool) → (b ≡ true → P) → (b ≡ false → P) → P
-    elim_bool true f g = f refl
-    elim_bool false f g = g refl
 
     now : (j : ℕ) (d : Triangle) (n : Next) → j ≡ k → IsNext ts j (get_or ts j d) (get_or (set later k (entry_of first t)) j n)
     now j d n same =

@@ -6,15 +6,7 @@ use Rattle.geom_exact.specs.declared.Relation.TheVariants.{Apart, Overlap, Ends,
 use Rattle.geom_exact.specs.Common.{IsRelation}
 use Rattle.geom_exact.proofs.Uniqueness.{same_trans, end_same}
 use Rattle.sight_names.proofs.Laws.{same_point_sym}
-
-pub apart_meet : (p q r s : Pt) → IsRelation p q r s Apart → MeetAtEnds p q r s
-apart_meet p q r s h = record { one = λ u v c d. absurd (h u c); ends = λ u c. absurd (h u c) }
-
-pub ends_meet : (p q r s : Pt) → IsRelation p q r s Ends → MeetAtEnds p q r s
-ends_meet p q r s (z, only, first, second) = record {
-  one = λ u v c d. same_trans u z v (only.only u c) (same_point_sym v z (only.only v d));
-  ends = λ u c. (end_same p q z u (same_point_sym u z (only.only u c)) first, end_same r s z u (same_point_sym u z (only.only u c)) second);
-}
+use Rattle.geom_exact.proofs.Meeting.{ends_meet, apart_meet}
 
 pub overlap_not : (p q r s : Pt) → IsRelation p q r s Overlap → MeetAtEnds p q r s → ⊥
 overlap_not p q r s (u, v, c, d, differ) h = differ (h.one u v c d)

@@ -24,6 +24,10 @@ use Rattle.geom_exact.proofs.SegmentLemmas.{turn_is_at}
 use Rattle.geom_exact.proofs.InsideLemmas.{inside_of_turns}
 use Rattle.mesh_shape.specs.Search.{IsEdgeOf, IsUnfitLine, IsUnfitSide, IsFitting, IsMetFairly, IsLineMetFairly, IsOutsideOf, AreBefore, AreBehind}
 use Rattle.mesh_shape.specs.Faults.{TurnsAt, IsNewAt, HasMate, HasMatesAt, FitsAt, IsFairAt, IsEmptyAt, IsFirstAgainst, IsFirstSideAgainst, IsFirstPairAgainst}
+use Rattle.list_base.proofs.Numbers.{below_or_above, same_or_below, below_or_not}
+use Rattle.mesh_base.proofs.GoodMesh.{found_at}
+use Rattle.mesh_base.proofs.CleanMesh.{edge_rp, edge_qr, edge_pq}
+use Rattle.sight_names.proofs.Records.{same_edge}
 
 -- what holds of the triangle that stands there holds of what stands there
 pub at_this : {X : Type 0} (P : X → Type 0) (xs : List X) (k : ℕ) (x : X) → slice_get xs k ≡ Some x → P x → (y : X) → slice_get xs k ≡ Some y → P y
@@ -35,10 +39,7 @@ behind P xs k le y f = absurd (let lt = slice_get_within xs k y f in omega arith
 
 -- from each number below n and each from n on
 pub everywhere : (P : ℕ → Type 0) (n : ℕ) → ((j : ℕ) → j < n → P j) → ((j : ℕ) → n ≤ j → P j) → (j : ℕ) → P j
-everywhere P n below above j = elim (cases j n) [ inl h ↦ below j h | inr h ↦ above j h ]
-  where
-    cases : (j n : ℕ) → (j < n) ⊎ (n ≤ j)
-    cases j n = grind arith
+everywhere P n below above j = elim (below_or_not j n) [ inl h ↦ below j h | inr h ↦ above j h ]
 
 -- ---- lines as edges
 
@@ -47,9 +48,6 @@ Joins l u v = ((l.a ≡ u) × (l.b ≡ v)) ⊎ ((l.a ≡ v) × (l.b ≡ u))
 
 pub plan_line_at : (p : PlanParts) (i : ℕ) (l : Line) → slice_get p.lines i ≡ Some (Some l) → line_at (map_of p) i ≡ Some (looked_up p.points l)
 plan_line_at p i l e = ap (option_and_then (λ (k : Option MapLine). k)) (slice_get-map (option_map (looked_up p.points)) p.lines i ∙ ap (option_map (option_map (looked_up p.points))) e)
-
-same_edge : {a b c d : ℕ} → a ≡ c → b ≡ d → ◌≡◌ {A = Edge} (record { from = a; to = b }) (record { from = c; to = d })
-same_edge e f = cc
 
 edge_from : {a b c d : ℕ} → ◌≡◌ {A = Edge} (record { from = a; to = b }) (record { from = c; to = d }) → a ≡ c
 edge_from e = ap (λ (x : Edge). x.from) e
@@ -192,31 +190,16 @@ or_third true b c h = refl
 or_third false true c h = refl
 or_third false false c h = h
 
-pub first_edge : (t : Triangle) → HasEdge t (record { from = t.p; to = t.q })
-first_edge t = or_first (t.p == t.p && t.q == t.q) (t.q == t.p && t.r == t.q) (t.r == t.p && t.p == t.q) (eqs t.p t.p t.q t.q refl refl)
-
-pub second_edge : (t : Triangle) → HasEdge t (record { from = t.q; to = t.r })
-second_edge t = or_second (t.p == t.q && t.q == t.r) (t.q == t.q && t.r == t.r) (t.r == t.q && t.p == t.r) (eqs t.q t.q t.r t.r refl refl)
-
-pub third_edge : (t : Triangle) → HasEdge t (record { from = t.r; to = t.p })
-third_edge t = or_third (t.p == t.r && t.q == t.p) (t.q == t.r && t.r == t.p) (t.r == t.r && t.p == t.p) (eqs t.r t.r t.p t.p refl refl)
-
 -- ---- the first triangle with an edge
 
 position_None : {X : Type 0} (p : X → Bool) (xs : List X) → position p xs ≡ None → (k : ℕ) → k < length xs → (d : X) → p (get_or xs k d) ≡ false
-position_None p xs h k lt d = elim (cases (position_or_len p xs) (length xs)) [
+position_None p xs h k lt d = elim (below_or_not (position_or_len p xs) (length xs)) [
   | inl less ↦ absurd (some (position_or_len p xs) (length xs) less h)
   | inr le ↦ fails_before_first p xs k d (omega arith)
 ]
   where
-    cases : (j k : ℕ) → (j < k) ⊎ (k ≤ j)
-    cases j k = grind arith
-
     some : (j n : ℕ) → j < n → cond (ltb j n) (Some j) None ≡ None → ⊥
     some j n lt h = grind arith
-
-pub found_here : (ts : List Triangle) (e : Edge) (k : ℕ) → triangle_at ts e ≡ Some k → (t : Triangle) × (slice_get ts k ≡ Some t) × HasEdge t e
-found_here ts e k h = let d : Triangle = record { p = 0; q = 0; r = 0 } in let s = position-Some (has_edge e) ts k d h in (get_or ts k d, slice_get-get_or ts k d s.0, s.1)
 
 pub none_before : (ts : List Triangle) (e : Edge) (k j : ℕ) (t : Triangle) → triangle_at ts e ≡ Some k → j < k → slice_get ts j ≡ Some t → ¬ HasEdge t e
 none_before ts e k j t h lt at edge = let s = position-Some (has_edge e) ts k t h in false≢true (sym (s.2 j lt) ∙ ap (has_edge e) (get_or_from_slice_get ts j t t at) ∙ edge)
@@ -263,13 +246,10 @@ some_first ts e k t at edge = go (triangle_at ts e) refl
 pub new_only : (ts : List Triangle) (k : ℕ) (t : Triangle) (e : Edge) → slice_get ts k ≡ Some t → HasEdge t e → IsNewAt ts k → triangle_at ts e ≡ Some k
 new_only ts k t e at edge new =
     let f = some_first ts e k t at edge in
-    elim (cases f.0 k f.2) [
+    elim (same_or_below f.0 k f.2) [
       | inl same ↦ f.1 ∙ ap (λ (n : ℕ). Some n) same
-      | inr lt ↦ absurd (let h = found_here ts e f.0 f.1 in new f.0 lt h.0 t e h.1 at h.2 edge)
+      | inr lt ↦ absurd (let h = found_at ts e f.0 f.1 in new f.0 lt h.0 t e h.1 at h.2 edge)
     ]
-  where
-    cases : (j k : ℕ) → j ≤ k → (j ≡ k) ⊎ (j < k)
-    cases j k h = grind arith
 
 -- ---- mates
 
@@ -478,7 +458,7 @@ all_good m ts ls are each turns new mates fits fair empty = record {
   plain = record {
     triangles = are;
     turn = λ k t at. turns k t at;
-    once = λ i j t u e differ a b x y. elim (order i j differ) [
+    once = λ i j t u e differ a b x y. elim (below_or_above i j differ) [
       | inl lt ↦ new j i lt t u e a b x y
       | inr lt ↦ new i j lt u t e b a y x
     ];
@@ -492,9 +472,6 @@ all_good m ts ls are each turns new mates fits fair empty = record {
     no_sides = λ s l k at names there. (fits s).none l k at names there;
   };
 }
-  where
-    order : (i j : ℕ) → i ≢ j → (i < j) ⊎ (j < i)
-    order i j differ = grind arith
 
 pub plan_triangles : (p : PlanParts) → IsPlan p → (points : ℕ) (ts : List Triangle) → points ≡ length p.points → AreTriangles points ts → AreTriangles (length (points_of (map_of p))) ts
 plan_triangles p is points ts e are = subst (λ (n : ℕ). AreTriangles n ts) (e ∙ sym (count_of_plan p is)) are

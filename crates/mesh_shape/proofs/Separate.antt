@@ -14,6 +14,8 @@ use Rattle.sight_names.specs.Sound.{IsCommon, MeetAtEnds}
 use Rattle.sight_names.proofs.PlanNumbers.{place_of_plan}
 use Rattle.geom_exact.proofs.SegmentLemmas.{IsOn, IsWeighted, on, above, other_way}
 use Rattle.geom_exact.proofs.InsideLemmas.{IsInside}
+use Rattle.list_base.proofs.Numbers.{below_same_or_above, same_below_or_above}
+use Rattle.exact_ring.proofs.Small.{nonneg_of_pos, nonpos_of_neg, nonpos_of_zero, nonneg_sum}
 
 -- a * x + b * y + c
 abbrev pub lin : ℤ → ℤ → ℤ → Pt → ℤ
@@ -136,10 +138,7 @@ both_before p q r s order qr qs z common =
 
     first : (n : ℤ) → reach q p <ℤ n → (p ≡ q) ⊎ IsBefore p q → past n q p ≤ℤ pos 0
     first n h (inl e) = subst (λ (k : Pt). past n q k ≤ℤ pos 0) (sym e) (zero n)
-    first n h (inr lt) = let m = past_before n q p h lt in less (past n q p) m
-      where
-        less : (k : ℤ) → k <ℤ pos 0 → k ≤ℤ pos 0
-        less k h = omega (arith, ints)
+    first n h (inr lt) = let m = past_before n q p h lt in nonpos_of_neg (past n q p) m
 
 pub place_before : (p : PlanParts) → IsPlan p → (i j : ℕ) → i < j → j < length p.points → IsBefore (place (map_of p) i) (place (map_of p) j)
 place_before p is i j lt within =
@@ -150,7 +149,7 @@ place_before p is i j lt within =
 -- segments between numbers of which those of the one are all before those of the other are apart
 pub numbers_apart : (p : PlanParts) → IsPlan p → (i j k l : ℕ) → k < length p.points → l < length p.points → i < k → i < l → j < k → j < l
     → (z : Point) → IsCommon (place (map_of p) i) (place (map_of p) j) (place (map_of p) k) (place (map_of p) l) z → ⊥
-numbers_apart p is i j k l wk wl ik il jk jl z common = elim (cases i j) [
+numbers_apart p is i j k l wk wl ik il jk jl z common = elim (same_below_or_above i j) [
   | inl e ↦ both_before (at i) (at j) (at k) (at l) (inl (ap at e)) (place_before p is j k jk wk) (place_before p is j l jl wl) z common
   | inr (inl lt) ↦ both_before (at i) (at j) (at k) (at l) (inr (place_before p is i j lt (omega arith))) (place_before p is j k jk wk) (place_before p is j l jl wl) z common
   | inr (inr lt) ↦ both_before (at j) (at i) (at k) (at l) (inr (place_before p is j i lt (omega arith))) (place_before p is i k ik wk) (place_before p is i l il wl) z (common_turned (at i) (at j) (at k) (at l) z common)
@@ -158,9 +157,6 @@ numbers_apart p is i j k l wk wl ik il jk jl z common = elim (cases i j) [
   where
     at : ℕ → Pt
     at k = place (map_of p) k
-
-    cases : (i j : ℕ) → (i ≡ j) ⊎ ((i < j) ⊎ (j < i))
-    cases i j = grind arith
 
 -- a point inside a triangle with its least number first comes after that number and before the greatest
 inside_value : (n b x y l m k ax ay bx by cx cy : ℤ) → l *ℤ (n *ℤ ax +ℤ pos 1 *ℤ ay +ℤ b) +ℤ m *ℤ (n *ℤ bx +ℤ pos 1 *ℤ by +ℤ b) +ℤ k *ℤ (n *ℤ cx +ℤ pos 1 *ℤ cy +ℤ b) -ℤ (l +ℤ m +ℤ k) *ℤ (n *ℤ x +ℤ pos 1 *ℤ y +ℤ b)
@@ -174,35 +170,23 @@ inside_mean n b p q r z i = combine2 (neg_ℤ n) (neg_ℤ (pos 1)) i.x i.y (insi
 inside_after : (n b : ℤ) (p q r z : Pt) → IsInside p q r z → pos 0 ≤ℤ lin n (pos 1) b p → pos 0 ≤ℤ lin n (pos 1) b q → pos 0 <ℤ lin n (pos 1) b r → lin n (pos 1) b z ≤ℤ pos 0 → ⊥
 inside_after n b p q r z i hp hq hr hz =
     let e = inside_mean n b p q r z i in
-    let a = mul-nonneg i.l (lin n (pos 1) b p) (less i.l i.first) hp in
-    let c = mul-nonneg i.m (lin n (pos 1) b q) (less i.m i.second) hq in
+    let a = mul-nonneg i.l (lin n (pos 1) b p) (nonpos_of_neg i.l i.first) hp in
+    let c = mul-nonneg i.m (lin n (pos 1) b q) (nonpos_of_neg i.m i.second) hq in
     let d = mul-pos i.n (lin n (pos 1) b r) i.third hr in
-    let w = sum i.l i.m i.n i.first i.second i.third in
+    let w = nonneg_sum i.l i.m i.n i.first i.second i.third in
     let g = mul-nonpos (i.l +ℤ i.m +ℤ i.n) (lin n (pos 1) b z) w hz in
     omega (arith, ints, e, a, c, d, g)
-  where
-    less : (k : ℤ) → pos 0 <ℤ k → pos 0 ≤ℤ k
-    less k h = omega (arith, ints)
-
-    sum : (l m n : ℤ) → pos 0 <ℤ l → pos 0 <ℤ m → pos 0 <ℤ n → pos 0 ≤ℤ (l +ℤ m +ℤ n)
-    sum l m n a b c = omega (arith, ints)
 
 inside_before : (n b : ℤ) (p q r z : Pt) → IsInside p q r z → lin n (pos 1) b p ≤ℤ pos 0 → lin n (pos 1) b q ≤ℤ pos 0 → lin n (pos 1) b r ≤ℤ pos 0 → (lin n (pos 1) b p <ℤ pos 0) ⊎ (lin n (pos 1) b q <ℤ pos 0) ⊎ (lin n (pos 1) b r <ℤ pos 0) → pos 0 ≤ℤ lin n (pos 1) b z → ⊥
 inside_before n b p q r z i hp hq hr some hz =
     let e = inside_mean n b p q r z i in
-    let w = sum i.l i.m i.n i.first i.second i.third in
+    let w = nonneg_sum i.l i.m i.n i.first i.second i.third in
     let g = mul-nonneg (i.l +ℤ i.m +ℤ i.n) (lin n (pos 1) b z) w hz in
-    let a = mul-nonpos i.l (lin n (pos 1) b p) (less i.l i.first) hp in
-    let c = mul-nonpos i.m (lin n (pos 1) b q) (less i.m i.second) hq in
-    let d = mul-nonpos i.n (lin n (pos 1) b r) (less i.n i.third) hr in
+    let a = mul-nonpos i.l (lin n (pos 1) b p) (nonpos_of_neg i.l i.first) hp in
+    let c = mul-nonpos i.m (lin n (pos 1) b q) (nonpos_of_neg i.m i.second) hq in
+    let d = mul-nonpos i.n (lin n (pos 1) b r) (nonpos_of_neg i.n i.third) hr in
     go some e g a c d
   where
-    less : (k : ℤ) → pos 0 <ℤ k → pos 0 ≤ℤ k
-    less k h = omega (arith, ints)
-
-    sum : (l m n : ℤ) → pos 0 <ℤ l → pos 0 <ℤ m → pos 0 <ℤ n → pos 0 ≤ℤ (l +ℤ m +ℤ n)
-    sum l m n a b c = omega (arith, ints)
-
     go : (lin n (pos 1) b p <ℤ pos 0) ⊎ (lin n (pos 1) b q <ℤ pos 0) ⊎ (lin n (pos 1) b r <ℤ pos 0)
         → i.l *ℤ lin n (pos 1) b p +ℤ i.m *ℤ lin n (pos 1) b q +ℤ i.n *ℤ lin n (pos 1) b r ≡ (i.l +ℤ i.m +ℤ i.n) *ℤ lin n (pos 1) b z
         → pos 0 ≤ℤ ((i.l +ℤ i.m +ℤ i.n) *ℤ lin n (pos 1) b z) → (i.l *ℤ lin n (pos 1) b p) ≤ℤ pos 0 → (i.m *ℤ lin n (pos 1) b q) ≤ℤ pos 0 → (i.n *ℤ lin n (pos 1) b r) ≤ℤ pos 0 → ⊥
@@ -223,32 +207,23 @@ big2 a b c = omega (arith, ints)
 big3 : (a b c : ℕ) → pos c <ℤ (pos 1 +ℤ pos a +ℤ pos b +ℤ pos c)
 big3 a b c = omega (arith, ints)
 
-at_most : (x : ℤ) → x ≡ pos 0 → x ≤ℤ pos 0
-at_most x e = omega (arith, ints)
-
 at_least : (x : ℤ) → x ≡ pos 0 → pos 0 ≤ℤ x
 at_least x e = omega (arith, ints)
 
-less : (x : ℤ) → x <ℤ pos 0 → x ≤ℤ pos 0
-less x e = omega (arith, ints)
-
-more : (x : ℤ) → pos 0 <ℤ x → pos 0 ≤ℤ x
-more x e = omega (arith, ints)
-
 up_to : (b : Pt) (n : ℤ) (p : Pt) → reach b p <ℤ n → (b ≡ p) ⊎ IsBefore p b → past n b p ≤ℤ pos 0
-up_to b n p h (inl e) = subst (λ (k : Pt). past n b k ≤ℤ pos 0) e (at_most (past n b b) (past_here n b))
-up_to b n p h (inr lt) = less (past n b p) (past_before n b p h lt)
+up_to b n p h (inl e) = subst (λ (k : Pt). past n b k ≤ℤ pos 0) e (nonpos_of_zero (past n b b) (past_here n b))
+up_to b n p h (inr lt) = nonpos_of_neg (past n b p) (past_before n b p h lt)
 
 from_on : (b : Pt) (n : ℤ) (p : Pt) → reach b p <ℤ n → (b ≡ p) ⊎ IsBefore b p → pos 0 ≤ℤ past n b p
 from_on b n p h (inl e) = subst (λ (k : Pt). pos 0 ≤ℤ past n b k) e (at_least (past n b b) (past_here n b))
-from_on b n p h (inr lt) = more (past n b p) (past_after n b p h lt)
+from_on b n p h (inr lt) = nonneg_of_pos (past n b p) (past_after n b p h lt)
 
 -- no point strictly inside comes before the first of the corners, or is it
 pub not_before_first : (p q r z : Pt) → IsBefore p q → IsBefore p r → (p ≡ z) ⊎ IsBefore z p → IsInside p q r z → ⊥
 not_before_first p q r z pq pr pz inside =
     inside_after (steepness p q r z) (neg_ℤ (steepness p q r z *ℤ p.x +ℤ p.y)) p q r z inside
     (at_least (past (steepness p q r z) p p) (past_here (steepness p q r z) p))
-    (more (past (steepness p q r z) p q) (past_after (steepness p q r z) p q (big1 (abs q) (abs r) (abs z)) pq))
+    (nonneg_of_pos (past (steepness p q r z) p q) (past_after (steepness p q r z) p q (big1 (abs q) (abs r) (abs z)) pq))
     (past_after (steepness p q r z) p r (big2 (abs q) (abs r) (abs z)) pr)
     (up_to p (steepness p q r z) z (big3 (abs q) (abs r) (abs z)) pz)
   where
@@ -260,7 +235,7 @@ pub not_after_last : (b p q r z : Pt) → IsBefore p b → (b ≡ q) ⊎ IsBefor
 not_after_last b p q r z pb qb rb bz inside =
     let n : ℤ = steepness b p q r +ℤ reach b z in
     inside_before n (neg_ℤ (n *ℤ b.x +ℤ b.y)) p q r z inside
-    (less (past n b p) (past_before n b p (w1 (abs p) (abs q) (abs r) (abs z)) pb))
+    (nonpos_of_neg (past n b p) (past_before n b p (w1 (abs p) (abs q) (abs r) (abs z)) pb))
     (up_to b n q (w2 (abs p) (abs q) (abs r) (abs z)) qb)
     (up_to b n r (w3 (abs p) (abs q) (abs r) (abs z)) rb)
     (inl (past_before n b p (w1 (abs p) (abs q) (abs r) (abs z)) pb))
@@ -285,12 +260,12 @@ not_after_last b p q r z pb qb rb bz inside =
 pub inside_numbers : (p : PlanParts) → IsPlan p → (i j k z last : ℕ) → i < j → i < k → j < length p.points → k < length p.points → z < length p.points → j ≤ last → k ≤ last → last < length p.points
     → IsInside (place (map_of p) i) (place (map_of p) j) (place (map_of p) k) (place (map_of p) z) → (i < z) × (z < last)
 inside_numbers p is i j k z last ij ik wj wk wz jl kl wl inside = (
-  elim (cases i z) [
+  elim (below_same_or_above i z) [
     | inl lt ↦ lt
     | inr (inl e) ↦ absurd (not_before_first (at i) (at j) (at k) (at z) (before i j ij wj) (before i k ik wk) (inl (ap at e)) inside)
     | inr (inr lt) ↦ absurd (not_before_first (at i) (at j) (at k) (at z) (before i j ij wj) (before i k ik wk) (inr (before z i lt (omega arith))) inside)
   ],
-  elim (cases z last) [
+  elim (below_same_or_above z last) [
     | inl lt ↦ lt
     | inr (inl e) ↦ absurd (not_after_last (at last) (at i) (at j) (at k) (at z) (before i last (omega arith) wl) (below j jl) (below k kl) (inl (ap at (sym e))) inside)
     | inr (inr lt) ↦ absurd (not_after_last (at last) (at i) (at j) (at k) (at z) (before i last (omega arith) wl) (below j jl) (below k kl) (inr (before last z lt wz)) inside)
@@ -302,9 +277,6 @@ inside_numbers p is i j k z last ij ik wj wk wz jl kl wl inside = (
 
     before : (i j : ℕ) → i < j → j < length p.points → IsBefore (at i) (at j)
     before i j h w = place_before p is i j h w
-
-    cases : (i j : ℕ) → (i < j) ⊎ ((i ≡ j) ⊎ (j < i))
-    cases i j = grind arith
 
     eq_or_lt : (j : ℕ) → j ≤ last → (last ≡ j) ⊎ (j < last)
     eq_or_lt j h = grind arith

@@ -17,34 +17,19 @@ use Rattle.block_evidence.specs.declared.Node.{Node}
 use Rattle.block_evidence.specs.declared.Node.TheVariants.{Open, Blocked}
 use Rattle.block_evidence.specs.Stuck.{BlocksSequence}
 use Rattle.block_evidence.specs.WholeTree.{Answers, HasNoNode, HasNode, no_node, blocked, open_node, AnswersRoots}
-use Rattle.mesh_shape.proofs.RuleLemmas.{found_here}
 use Rattle.sequence_laws.specs.Ways.{root_alone, one_way_on, both_ways_on}
 use Rattle.portal_walk.proofs.Sequences.{portals_more, all_last}
 use Rattle.pair_budget.specs.declared.results.Reached.{Reached}
 use Rattle.pair_budget.specs.Whole.{IsOfFound, AnswersPending, IsGap, EndsAtGap}
 use Rattle.pair_budget.proofs.Gaps.{IsGround, ways_end, root_gap}
+use Rattle.list_base.proofs.Lists.{all_so, all_front, all_join, last_pushed}
+use Rattle.mesh_base.proofs.GoodMesh.{found_at}
 
 -- ---- lists
-
-last_is : (q : Portal) (ps : List Portal) (o : Option Portal) → last_or o (ps ++ q ∷ []) ≡ Some q
-last_is q [] o = refl
-last_is q (p ∷ ps) o = last_is q ps (Some p)
-
-pub all_join : {X : Type 0} (P : X → Type 0) (xs ys : List X) → AllByRecursion P xs → AllByRecursion P ys → AllByRecursion P (xs ++ ys)
-all_join P [] ys h k = k
-all_join P (x ∷ xs) ys h k = (h.0, all_join P xs ys h.1 k)
-
-pub all_first : {X : Type 0} (P : X → Type 0) (xs ys : List X) → AllByRecursion P (xs ++ ys) → AllByRecursion P xs
-all_first P [] ys h = tt
-all_first P (x ∷ xs) ys h = (h.0, all_first P xs ys h.1)
 
 pub all_rest : {X : Type 0} (P : X → Type 0) (xs ys : List X) → AllByRecursion P (xs ++ ys) → AllByRecursion P ys
 all_rest P [] ys h = h
 all_rest P (x ∷ xs) ys h = all_rest P xs ys h.1
-
-pub all_so : {X : Type 0} (P Q : X → Type 0) (xs : List X) → ((x : X) → P x → Q x) → AllByRecursion P xs → AllByRecursion Q xs
-all_so P Q [] f h = tt
-all_so P Q (x ∷ xs) f h = (f x h.0, all_so P Q xs f h.1)
 
 -- ---- more sectors that were found
 
@@ -95,7 +80,7 @@ module _ (p : PlanParts) (ts : List Triangle) (ls : List (Option ℕ)) (a : ℕ)
         ]
 
     pub skip_one : ((ds : List Portal) → ¬ IsSequence (map_of p) ts ls a s ds) → (rest : List Sequence) (ns : List Node) (opened : List ℕ) → AnswersPending p ts ls a rest ns opened → AnswersPending p ts ls a (s ∷ rest) ns opened
-    skip_one none rest ns opened h = (all_of, [], ns, [], opened, c.way, refl, refl, no_node c.last (last_is c.last c.before None) (has_none none) refl refl, h)
+    skip_one none rest ns opened h = (all_of, [], ns, [], opened, c.way, refl, refl, no_node c.last (last_pushed c.last c.before None) (has_none none) refl refl, h)
 
     module _ (ps : List Portal) (q : IsSequence (map_of p) ts ls a s ps) where
       pub same_portals : ps ≡ all_of
@@ -112,7 +97,7 @@ module _ (p : PlanParts) (ts : List Triangle) (ls : List (Option ℕ)) (a : ℕ)
 
       has_node : HasNode (map_of p) ts ls a all_of c.last last_outside.0
       has_node = record {
-        last = last_is c.last c.before None;
+        last = last_pushed c.last c.before None;
         no_wall = all_last (λ (d : Portal). ¬ IsSolidLine (map_of p) d) c.before c.last walls_free;
         entered = last_outside.1;
         outside = last_outside.2;
@@ -126,7 +111,7 @@ module _ (p : PlanParts) (ts : List Triangle) (ls : List (Option ℕ)) (a : ℕ)
         same_triangle = same_Some last_outside.0 k (sym last_outside.1 ∙ at)
 
         third_there : (x : ℕ) × (apex ts c.last ≡ Some x)
-        third_there = by (found_here ts (entry_edge c.last) k at)
+        third_there = by (found_at ts (entry_edge c.last) k at)
           where
             by : (t : Triangle) × (slice_get ts k ≡ Some t) × HasEdge t (entry_edge c.last) → (x : ℕ) × (apex ts c.last ≡ Some x)
             by (t, is, has) = (third_point (entry_edge c.last) t, ap (option_map (third_point (entry_edge c.last))) (ap (option_and_then (slice_get ts)) at ∙ is))

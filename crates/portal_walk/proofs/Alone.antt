@@ -16,6 +16,8 @@ use Rattle.sight_names.proofs.Laws.{start_on, on_segment_sym}
 use Rattle.sight_names.proofs.PlanMap.{line_of_plan, points_differ}
 use Rattle.mesh_shape.proofs.RuleLemmas.{Joins, edge_joined}
 use Rattle.half_edges.specs.Kinds.{IsEnteredAt}
+use Rattle.exact_ring.proofs.Small.{same_without_one}
+use Rattle.sight_names.proofs.Records.{whole_same}
 
 -- both points are of the segment
 ends_on : (f : ℕ → Pt) (l : Line) (u v : ℕ) → Joins l u v → OnSegment (point_of (f l.a)) (point_of (f l.b)) (point_of (f u)) × OnSegment (point_of (f l.a)) (point_of (f l.b)) (point_of (f v))
@@ -27,12 +29,6 @@ ends_on f l u v (inr h) = (
   subst (λ (k : ℕ). OnSegment (point_of (f l.a)) (point_of (f l.b)) (point_of (f k))) h.1 (on_segment_sym _ _ _ (start_on _ _)),
   subst (λ (k : ℕ). OnSegment (point_of (f l.a)) (point_of (f l.b)) (point_of (f k))) h.0 (start_on _ _),
 )
-
-same_pt : (p q : Pt) → SamePoint (point_of p) (point_of q) → p ≡ q
-same_pt p q h = ap₂ (λ (x y : ℤ). let r : Pt = record { x = x; y = y } in r) (one p.x q.x h.x) (one p.y q.y h.y)
-  where
-    one : (x y : ℤ) → x *ℤ pos 1 ≡ y *ℤ pos 1 → x ≡ y
-    one x y e = omega (arith, ints)
 
 -- two records of which each is this edge are one record
 one_record : (p : PlanParts) → IsPlan p → LinesMeetAtEnds (map_of p) → (d : Portal) (i j : ℕ) (k l : MapLine) (a b : Bool) → line_at (map_of p) i ≡ Some k → line_at (map_of p) j ≡ Some l → side_edge (map_of p) k a ≡ entry_edge d → side_edge (map_of p) l b ≡ entry_edge d → i ≡ j
@@ -52,7 +48,7 @@ one_record p is ends d i j k l a b at_i at_j e f = elim (cases_eq i j) [
         let oy = ends_on at y.0 d.left d.right jy in
         let g : MeetAtEnds (at x.0.a) (at x.0.b) (at y.0.a) (at y.0.b) = subst (λ (m : MapLine). MeetAtEnds (at x.0.a) (at x.0.b) m.first m.second) (sym y.2) (subst (λ (m : MapLine). MeetAtEnds m.first m.second l.first l.second) (sym x.2) h) in
         let q = is.each i x.0 x.1 in
-        apart x.0 jx q.first q.second q.differ (same_pt (at d.left) (at d.right) (g.one (point_of (at d.left)) (point_of (at d.right)) (ox.0, oy.0) (ox.1, oy.1)))
+        apart x.0 jx q.first q.second q.differ (whole_same (at d.left) (at d.right) (g.one (point_of (at d.left)) (point_of (at d.right)) (ox.0, oy.0) (ox.1, oy.1)))
       where
         apart : (x : Line) → Joins x d.left d.right → x.a < length p.points → x.b < length p.points → x.a ≢ x.b → slice_index_or p.points d.left origin ≢ slice_index_or p.points d.right origin
         apart x (inl h) s t n = subst (λ (u : ℕ). slice_index_or p.points u origin ≢ slice_index_or p.points d.right origin) h.0 (subst (λ (v : ℕ). slice_index_or p.points x.a origin ≢ slice_index_or p.points v origin) h.1 (points_differ p is x.a x.b s t n))

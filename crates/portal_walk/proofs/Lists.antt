@@ -3,16 +3,13 @@ use Rattle.std.proofs.Common.{◌≡◌, ℕ, zero, suc, ◌-◌, ◌<◌, ◌�
 use Rattle.std.proofs.lemmas.Bool.{false≢true}
 use Rattle.std.proofs.lemmas.List.{length-set, length-take-le, set-set, set_at}
 use Rattle.std.proofs.lemmas.Option.{none-some, same_Some, slice_get_within}
+use Rattle.list_base.proofs.Lists.{get_take, get_there, get_pushed}
 
 -- the element stays where it is when one more comes
 pub get_front : {X : Type 0} (xs : List X) (y : X) (k : ℕ) (x : X) → slice_get xs k ≡ Some x → slice_get (xs ++ y ∷ []) k ≡ Some x
 get_front [] y k x e = absurd (none-some x e)
 get_front (z ∷ xs) y zero x e = e
 get_front (z ∷ xs) y (suc k) x e = get_front xs y k x e
-
-pub get_end : {X : Type 0} (xs : List X) (y : X) → slice_get (xs ++ y ∷ []) (length xs) ≡ Some y
-get_end [] y = refl
-get_end (z ∷ xs) y = get_end xs y
 
 -- what stands in a list with one more is the new one at the end, or was there
 pub get_more : {X : Type 0} (xs : List X) (y : X) (k : ℕ) (x : X) → slice_get (xs ++ y ∷ []) k ≡ Some x → ((k ≡ length xs) × (x ≡ y)) ⊎ (slice_get xs k ≡ Some x)
@@ -35,22 +32,10 @@ get_set (z ∷ xs) (suc i) y (suc k) x e = elim (get_set xs i y k x e) [
   | inr h ↦ inr h
 ]
 
-pub get_there : {X : Type 0} (xs : List X) (k : ℕ) → k < length xs → (x : X) × (slice_get xs k ≡ Some x)
-get_there [] k l = absurd (omega arith)
-get_there (x ∷ xs) zero l = (x, refl)
-get_there (x ∷ xs) (suc k) l = get_there xs k (omega arith)
-
 pub get_set_same : {X : Type 0} (xs : List X) (i : ℕ) (y : X) → i < length xs → slice_get (slice_set xs i y) i ≡ Some y
 get_set_same [] i y l = absurd (omega arith)
 get_set_same (z ∷ xs) zero y l = refl
 get_set_same (z ∷ xs) (suc i) y l = get_set_same xs i y (omega arith)
-
--- what stands in the front of a list stands in the list
-pub get_take : {X : Type 0} (n : ℕ) (xs : List X) (k : ℕ) (x : X) → slice_get (take n xs) k ≡ Some x → (k < n) × (slice_get xs k ≡ Some x)
-get_take zero xs k x e = absurd (none-some x e)
-get_take (suc n) [] k x e = absurd (none-some x e)
-get_take (suc n) (y ∷ ys) zero x e = (omega arith, e)
-get_take (suc n) (y ∷ ys) (suc k) x e = let h = get_take n ys k x e in (omega arith, h.1)
 
 pub last_down : {X : Type 0} (y z : X) (xs : List X) (o : Option X) → slice_get (y ∷ z ∷ xs) (length (y ∷ z ∷ xs) - 1) ≡ o → slice_get (z ∷ xs) (length (z ∷ xs) - 1) ≡ o
 last_down {X} y z xs o e =

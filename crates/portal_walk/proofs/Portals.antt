@@ -17,8 +17,9 @@ use Rattle.portal_walk.specs.declared.scene.Way.{Way as WayOut}
 use Rattle.portal_walk.specs.declared.scene.Way.TheVariants.{Left, Right}
 use Rattle.portal_walk.specs.Scene.{SceneParts, IsScene, IsNumber, IsEntry, IsClosed, Finds, FindsWay, behind, exit_of}
 use Rattle.portal_walk.proofs.EdgeEnds.{edge_ends, triangle_within}
-use Rattle.portal_walk.proofs.Lists.{get_there}
 use Rattle.portal_walk.proofs.SideLines.{arrives}
+use Rattle.list_base.proofs.Lists.{get_there}
+use Rattle.sight_names.proofs.Roots.{names_true}
 
 -- ---- numbers
 
@@ -46,10 +47,6 @@ outside_some : (xs : List HalfEdge) (source i : ℕ) (x : HalfEdge) → slice_ge
 outside_some xs source i x at = ap (option_and_then (λ (x : HalfEdge). if names_it x.sector source then None else Some i)) at
 
 -- ---- one half-edge
-
-named : (o : Option ℕ) (a : ℕ) → names_it o a ≡ true → o ≡ Some a
-named None a h = absurd (true≢false (sym h))
-named (Some b) a h = ap Some (eqb-true b a h)
 
 not_named : (o : Option ℕ) (a : ℕ) → names_it o a ≡ false → o ≢ Some a
 not_named o a h e = true≢false (sym (itself a) ∙ ap (λ (x : Option ℕ). names_it x a) (sym e) ∙ h)
@@ -114,7 +111,7 @@ found_behind s i d found is = go (number_of ts e) refl
             behind_is = is ∙ ap on (entering_some ts s.edges e n x h at) ∙ ap (λ (b : Bool). on (if b then None else Some n)) free ∙ outside_some s.edges s.source n x at
 
             by_sector : (b : Bool) → names_it x.sector s.source ≡ b → Finds s d found
-            by_sector true own = closed (inr (inl (x.triangle, half.triangle, half.label ∙ named x.sector s.source own))) (behind_is ∙ ap (λ (b : Bool). if b then None else Some n) own)
+            by_sector true own = closed (inr (inl (x.triangle, half.triangle, half.label ∙ names_true x.sector s.source own))) (behind_is ∙ ap (λ (b : Bool). if b then None else Some n) own)
             by_sector false apart = subst (Finds s d) (sym (behind_is ∙ ap (λ (b : Bool). if b then None else Some n) apart)) (record {
               edge = x;
               there = at;

@@ -17,6 +17,8 @@ use Rattle.sight_names.proofs.PlanNumbers.{line_edge_of_plan}
 use Rattle.mesh_shape.proofs.RuleLemmas.{plan_line_at}
 use Rattle.half_edges.specs.Kinds.{IsEnteredAt, IsPassableAt}
 use Rattle.portal_walk.specs.Sides.{IsRootOf, IsArrival, ArrivesAt}
+use Rattle.list_base.proofs.Bools.{only_middle}
+use Rattle.sight_names.proofs.Roots.{root_test}
 
 -- the line of a record
 pub some_some : (o : Option (Option Line)) (l : Line) → option_and_then (λ k. k) o ≡ Some l → o ≡ Some (Some l)
@@ -26,9 +28,6 @@ some_some (Some (Some j)) l e = cc
 
 -- ---- roots
 
-pub root_test : (m : Map) (a : ℕ) (s : Side) (l : MapLine) → line_at m s.line ≡ Some l → is_root m a s ≡ (not l.solid && names_it (sector_on l s.left) a && not (names_it (sector_on l (not s.left)) a))
-root_test m a s l e = rw e refl
-
 pub names_test : (o : Option ℕ) (a : ℕ) → names_it o a ≡ option_eq eqb o (Some a)
 names_test None a = refl
 names_test (Some b) a = refl
@@ -37,16 +36,13 @@ named_true : (o : Option ℕ) (a : ℕ) → option_eq eqb o (Some a) ≡ true �
 named_true None a e = absurd (true≢false (sym e))
 named_true (Some b) a e = ap Some (eqb-true b a e)
 
-passes : (s r l : Bool) → s ≡ false → r ≡ true → l ≡ false → (not s && r && not l) ≡ true
-passes s r l e f g = cc
-
 root_by_right : (p : PlanParts) → IsPlan p → (k a : ℕ) (l : Line) → slice_get p.lines k ≡ Some (Some l) → l.solid ≡ false → option_eq eqb l.right (Some a) ≡ true → option_eq eqb l.left (Some a) ≡ false
     → IsRootOf p a (record { side = record { line = k; left = false }; left = l.a; right = l.b })
 root_by_right p is k a l e solid right left = record {
   exit = record {
     within = slice_get_within p.lines k (Some l) e;
     names = ap (option_and_then (λ (x : MapLine). x.right)) (plan_line_at p k l e) ∙ named_true l.right a right;
-    is_root = root_test (map_of p) a (record { line = k; left = false }) (looked_up p.points l) (plan_line_at p k l e) ∙ passes l.solid (names_it l.right a) (names_it l.left a) solid (names_test l.right a ∙ right) (names_test l.left a ∙ left);
+    is_root = root_test (map_of p) a (record { line = k; left = false }) (looked_up p.points l) (plan_line_at p k l e) ∙ only_middle l.solid (names_it l.right a) (names_it l.left a) solid (names_test l.right a ∙ right) (names_test l.left a ∙ left);
   };
   portal = ap (option_map (λ (x : MapLine). let q : Portal = record { left = (line_edge (map_of p) x).from; right = (line_edge (map_of p) x).to } in q)) (plan_line_at p k l e)
       ∙ ap (λ (d : Edge). let q : Portal = record { left = d.from; right = d.to } in Some q) (line_edge_of_plan p is k l e);
@@ -58,7 +54,7 @@ root_by_left p is k a l e solid right left = record {
   exit = record {
     within = slice_get_within p.lines k (Some l) e;
     names = ap (option_and_then (λ (x : MapLine). x.left)) (plan_line_at p k l e) ∙ named_true l.left a left;
-    is_root = root_test (map_of p) a (record { line = k; left = true }) (looked_up p.points l) (plan_line_at p k l e) ∙ passes l.solid (names_it l.left a) (names_it l.right a) solid (names_test l.left a ∙ left) (names_test l.right a ∙ right);
+    is_root = root_test (map_of p) a (record { line = k; left = true }) (looked_up p.points l) (plan_line_at p k l e) ∙ only_middle l.solid (names_it l.left a) (names_it l.right a) solid (names_test l.left a ∙ left) (names_test l.right a ∙ right);
   };
   portal = ap (option_map (λ (x : MapLine). let q : Portal = record { left = (line_edge (map_of p) x).to; right = (line_edge (map_of p) x).from } in q)) (plan_line_at p k l e)
       ∙ ap (λ (d : Edge). let q : Portal = record { left = d.to; right = d.from } in Some q) (line_edge_of_plan p is k l e);

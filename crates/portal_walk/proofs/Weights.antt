@@ -6,6 +6,7 @@ use Rattle.portal_walk.specs.declared.path.Ways.{Ways}
 use Rattle.portal_walk.specs.declared.path.Ways.TheVariants.{Both, RightOnly, Done}
 use Rattle.portal_walk.specs.Frames.{ways_left, frames_weight, ways_of, top_ways}
 use Rattle.portal_walk.proofs.Lists.{get_front, get_set_same, last_down, front_back}
+use Rattle.list_base.proofs.Options.{none_is_not_some}
 
 pub three_pos : (k : ℕ) → 0 < 3 ^ k
 three_pos zero = omega arith
@@ -23,9 +24,6 @@ pow_is d e h = ap (λ (x : ℕ). 3 ^ x) h ∙ step e
         turn : (p : ℕ) → p * 3 ≡ 3 * p
         turn p = omega arith
 
-pub no_frame : (f : Frame) → ◌≡◌ {A = Option Frame} None (Some f) → ⊥
-no_frame f e = cc
-
 pub weight_push : (d : ℕ) (fs : List Frame) (g : Frame) → frames_weight d (fs ++ g ∷ []) ≡ frames_weight d fs + ways_left g.ways * 3 ^ (d - 1 - length fs)
 weight_push d [] g = ends (ways_left g.ways) (3 ^ (d - 1)) (3 ^ (d - 1 - 0)) (ap (λ (x : ℕ). 3 ^ x) (omega arith))
   where
@@ -38,7 +36,7 @@ weight_push d (f ∷ fs) g =
     more a b w g p q h e = rw (h, e) (omega arith)
 
 pub weight_set : (d : ℕ) (fs : List Frame) (i : ℕ) (f g : Frame) → slice_get fs i ≡ Some f → frames_weight d (slice_set fs i g) + ways_left f.ways * 3 ^ (d - 1 - i) ≡ frames_weight d fs + ways_left g.ways * 3 ^ (d - 1 - i)
-weight_set d [] i f g e = absurd (no_frame f e)
+weight_set d [] i f g e = absurd (none_is_not_some f e)
 weight_set d (h ∷ fs) zero f g e = let q : h ≡ f = cc in here (ways_left h.ways) (ways_left f.ways) (ways_left g.ways) (3 ^ (d - 1)) (3 ^ (d - 1 - 0)) (frames_weight (d - 1) fs) (ap (λ (x : Frame). ways_left x.ways) q) (ap (λ (x : ℕ). 3 ^ x) (omega arith))
   where
     here : (w f g p q r : ℕ) → w ≡ f → p ≡ q → g * p + r + f * q ≡ w * p + r + g * q
@@ -63,7 +61,7 @@ way_skips d fs f g e w = below _ _ _ (fewer _ _ _ _ _ (weight_set d fs (length f
     below a b p h k = omega arith
 
 pub there : (fs : List Frame) (i : ℕ) (f : Frame) → slice_get fs i ≡ Some f → i < length fs
-there [] i f e = absurd (no_frame f e)
+there [] i f e = absurd (none_is_not_some f e)
 there (g ∷ fs) zero f e = omega arith
 there (g ∷ fs) (suc i) f e = let h = there fs i f e in omega arith
 
@@ -101,7 +99,7 @@ ways_most f = go f.ways
 
 pub no_top : (fs : List Frame) → slice_get fs (length fs - 1) ≡ None → fs ≡ []
 no_top [] e = refl
-no_top (g ∷ []) e = absurd (no_frame g (sym e))
+no_top (g ∷ []) e = absurd (none_is_not_some g (sym e))
 no_top (g ∷ h ∷ fs) e = absurd (not_empty h fs (no_top (h ∷ fs) (last_down g h fs None e)))
   where
     not_empty : (h : Frame) (fs : List Frame) → h ∷ fs ≡ [] → ⊥

@@ -43,6 +43,7 @@ use Rattle.sight_job.specs.Sight.{AreAllThrough, IsFoundAlong, IsRayAlong, AreRa
 use Rattle.sight_job.proofs.VerdictLaws.{cert_rays, both_bits_of}
 use Rattle.list_base.proofs.Numbers.{same_below_or_above, same_or_not, below_or_not}
 use Rattle.list_base.proofs.Lists.{last_pushed}
+use Rattle.half_edges.proofs.EachLine.{same_or_not}
 
 -- ---- the rays
 
@@ -131,13 +132,9 @@ module _ (m : Map) (is_map : IsMap m) (ends : LinesMeetAtEnds m) (ts : List Tria
 abbrev NamesIt : List (Option MapLine) → ℕ → ℕ → Bool → Type 0
 NamesIt lines a i left = option_and_then (λ (l : MapLine). sector_on l left) (option_and_then (λ (l : Option MapLine). l) (slice_get lines i)) ≡ Some a
 
-is_or_not : (o : Option ℕ) (a : ℕ) → (o ≡ Some a) ⊎ (o ≢ Some a)
-is_or_not None a = inr (λ e. absurd cc)
-is_or_not (Some k) a = elim (same_or_not k a) as (λ _. (Some k ≡ Some a) ⊎ (Some k ≢ Some a)) [ inl e ↦ inl (ap (λ (n : ℕ). Some n) e) | inr n ↦ inr (λ e. n (same_Some k a e)) ]
-
 named_or_not : (lines : List (Option MapLine)) (a : ℕ) → ((i : ℕ) × (left : Bool) × NamesIt lines a i left) ⊎ ((i : ℕ) (left : Bool) → ¬ NamesIt lines a i left)
 named_or_not [] a = inr (λ i left e. absurd cc)
-named_or_not (l ∷ lines) a = at (is_or_not (option_and_then (λ (k : MapLine). sector_on k false) l) a) (is_or_not (option_and_then (λ (k : MapLine). sector_on k true) l) a) (named_or_not lines a)
+named_or_not (l ∷ lines) a = at (same_or_not (option_and_then (λ (k : MapLine). sector_on k false) l) a) (same_or_not (option_and_then (λ (k : MapLine). sector_on k true) l) a) (named_or_not lines a)
   where
     at : (option_and_then (λ (k : MapLine). sector_on k false) l ≡ Some a) ⊎ (option_and_then (λ (k : MapLine). sector_on k false) l ≢ Some a) → (option_and_then (λ (k : MapLine). sector_on k true) l ≡ Some a) ⊎ (option_and_then (λ (k : MapLine). sector_on k true) l ≢ Some a)
         → ((i : ℕ) × (left : Bool) × NamesIt lines a i left) ⊎ ((i : ℕ) (left : Bool) → ¬ NamesIt lines a i left) → ((i : ℕ) × (left : Bool) × NamesIt (l ∷ lines) a i left) ⊎ ((i : ℕ) (left : Bool) → ¬ NamesIt (l ∷ lines) a i left)

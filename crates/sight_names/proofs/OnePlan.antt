@@ -7,6 +7,8 @@ use Rattle.sight_names.specs.Map.{Map, MapLine, map_of, looked_up, origin}
 use Rattle.sight_names.specs.Points.{points_of}
 use Rattle.sight_names.proofs.PlanPoints.{at, plan_points}
 use Rattle.sight_names.proofs.PlanMap.{points_differ}
+use Rattle.list_base.proofs.Numbers.{same_or_not}
+use Rattle.list_base.proofs.Options.{some_is_same}
 
 -- both ends of each line are below n
 abbrev EndsBelow : ℕ → List (Option Line) → Type 0
@@ -25,15 +27,12 @@ heads x y xs ys e = cc
 tails : {X : Type 0} (x y : X) (xs ys : List X) → ◌≡◌ {A = List X} (x ∷ xs) (y ∷ ys) → xs ≡ ys
 tails x y xs ys e = cc
 
-inside : {X : Type 0} (x y : X) → ◌≡◌ {A = Option X} (Some x) (Some y) → x ≡ y
-inside x y e = cc
-
 entry_same : (points : List Pt) → IsNumbering points → (o p : Option Line) → EndsBelow (length points) (o ∷ []) → EndsBelow (length points) (p ∷ []) → option_map (looked_up points) o ≡ option_map (looked_up points) p → o ≡ p
 entry_same points one None None h k e = refl
 entry_same points one None (Some m) h k e = absurd cc
 entry_same points one (Some l) None h k e = absurd cc
 entry_same points one (Some l) (Some m) h k e =
-    let q : looked_up points l ≡ looked_up points m = inside (looked_up points l) (looked_up points m) e in
+    let q : looked_up points l ≡ looked_up points m = some_is_same (looked_up points l) (looked_up points m) e in
     let first = one l.a m.a (h 0 l refl).0 (k 0 m refl).0 (ap (λ (x : MapLine). x.first) q) in
     let second = one l.b m.b (h 0 l refl).1 (k 0 m refl).1 (ap (λ (x : MapLine). x.second) q) in
     ap (λ (x : Line). Some x) (line_same l.a l.b m.a m.b l.solid m.solid l.right m.right l.left m.left first second (ap (λ (x : MapLine). x.solid) q) (ap (λ (x : MapLine). x.right) q) (ap (λ (x : MapLine). x.left) q))
@@ -55,10 +54,7 @@ lines_same points one (o ∷ ls) (p ∷ ks) h k e =
     ap (λ (x : Option Line). x ∷ ls) first ∙ ap (λ (xs : List (Option Line)). p ∷ xs) rest
 
 numbering : (p : PlanParts) → IsPlan p → IsNumbering p.points
-numbering p h i j hi hj e = elim (told i j) [ inl same ↦ same | inr differ ↦ absurd (points_differ p h i j hi hj differ e) ]
-  where
-    told : (i j : ℕ) → (i ≡ j) ⊎ (i ≢ j)
-    told i j = grind arith
+numbering p h i j hi hj e = elim (same_or_not i j) [ inl same ↦ same | inr differ ↦ absurd (points_differ p h i j hi hj differ e) ]
 
 ends_below : (p : PlanParts) → IsPlan p → EndsBelow (length p.points) p.lines
 ends_below p h i l e = let q = h.each i l e in (q.first, q.second)

@@ -1,7 +1,9 @@
 -- Points and edges are their numbers.
-use Rattle.std.proofs.Common.{◌≡◌, ℕ, ℤ, Option, Some, None, ap, ap₂}
+use Rattle.std.proofs.Common.{◌≡◌, ℕ, ℤ, Option, Some, None, ap₂, arith}
+use Rattle.std.proofs.lemmas.Int.{ints}
 use Rattle.sight_names.specs.declared.names.Pt.{Pt}
 use Rattle.sight_names.specs.declared.plan.Line.{Line}
+use Rattle.sight_names.specs.Point.{SamePoint, point_of}
 use Rattle.sight_names.specs.Points.{Edge}
 
 pub same_pt : (p q : Pt) → p.x ≡ q.x → p.y ≡ q.y → p ≡ q
@@ -19,3 +21,6 @@ same_edge e f = cc
 -- a record that is passed over has no line
 pub none_is_no_line : (l : Line) → ◌≡◌ {A = Option (Option Line)} (Some None) (Some (Some l)) → ⊥
 none_is_no_line l h = cc
+
+pub whole_same : (p q : Pt) → SamePoint (point_of p) (point_of q) → p ≡ q
+whole_same p q h = same_pt p q (let e = h.x in omega (arith, ints)) (let e = h.y in omega (arith, ints))

@@ -78,7 +78,7 @@ cut_off (suc (suc (suc zero))) a b c d le = refl
 cut_off (suc (suc (suc (suc zero)))) a b c d le = refl
 cut_off (suc (suc (suc (suc (suc k))))) a b c d le = absurd (omega arith)
 
-in_places : (xs : List ℕ) → length xs ≡ 4 → xs ≡ get_or xs 0 0 ∷ get_or xs 1 0 ∷ get_or xs 2 0 ∷ get_or xs 3 0 ∷ []
+pub in_places : (xs : List ℕ) → length xs ≡ 4 → xs ≡ get_or xs 0 0 ∷ get_or xs 1 0 ∷ get_or xs 2 0 ∷ get_or xs 3 0 ∷ []
 in_places [] h = absurd (omega (arith, h))
 in_places (a ∷ []) h = absurd (omega (arith, h))
 in_places (a ∷ b ∷ []) h = absurd (omega (arith, h))

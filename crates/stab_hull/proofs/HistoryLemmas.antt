@@ -27,6 +27,8 @@ use Rattle.stab_hull.specs.History.{IsFree, IsConflict, IsHistory, IsFrameOf, Is
 use Rattle.stab_hull.proofs.StepLemmas.{top_is}
 use Rattle.stab_hull.proofs.HullLemmas.{cone_of, hull_more, hull_stuck, hull_first}
 use Rattle.extreme_lines.proofs.EndsLemmas.{pair_of_more, left_place, right_place}
+use Rattle.list_base.proofs.Options.{some_is_not_none, some_is_same, none_is_not_some}
+use Rattle.list_base.proofs.Lists.{length_pushed, get_take}
 
 -- ---- lines and conflicts
 each_parted : (a b c : ℤ) (es : List EndPoints) → ((k : ℕ) (p : EndPoints) → slice_get es k ≡ Some p → IsParted a b c p) → SplitsEnds es a b c
@@ -51,14 +53,8 @@ has_corner es k h =
     subst (λ (p : Pt). Spans k (difference p (first_of k).right.at)) t.3 (subst (λ (p : Pt). Spans k (difference t.1.left p)) u.3 (h.spans t.0 u.0 t.1 u.1 t.2 u.2))
 
 parted_at : (a b c : ℤ) (es : List EndPoints) (k : ℕ) (p : EndPoints) → SplitsEnds es a b c → slice_get es k ≡ Some p → IsParted a b c p
-parted_at a b c [] k p h e = absurd (none_some p e)
-  where
-    none_some : (p : EndPoints) → ◌≡◌ {A = Option EndPoints} None (Some p) → ⊥
-    none_some p h = cc
-parted_at a b c (q ∷ es) zero p h e = subst (IsParted a b c) (some_is q p e) h.0
-  where
-    some_is : (q p : EndPoints) → Some q ≡ Some p → q ≡ p
-    some_is q p h = cc
+parted_at a b c [] k p h e = absurd (none_is_not_some p e)
+parted_at a b c (q ∷ es) zero p h e = subst (IsParted a b c) (some_is_same q p e) h.0
 parted_at a b c (q ∷ es) (suc k) p h e = parted_at a b c es k p h.1 e
 
 pair_parted : (a b c : ℤ) (es : List EndPoints) (p : EndPair) → SplitsEnds es a b c → IsPairOf es p → PartsPair a b c p
@@ -97,31 +93,15 @@ take_take (suc m) zero xs h = absurd (omega (arith, h))
 take_take (suc m) (suc n) [] h = refl
 take_take (suc m) (suc n) (x ∷ xs) h = ap (λ zs. x ∷ zs) (take_take m n xs (omega (arith, h)))
 
-none_some : {X : Type 0} (x : X) → ◌≡◌ {A = Option X} None (Some x) → ⊥
-none_some x h = cc
-
-get_take : {X : Type 0} (n : ℕ) (xs : List X) (k : ℕ) (x : X) → slice_get (take n xs) k ≡ Some x → (k < n) × (slice_get xs k ≡ Some x)
-get_take zero xs k x h = absurd (none_some x h)
-get_take (suc n) [] k x h = absurd (none_some x h)
-get_take (suc n) (y ∷ xs) zero x h = (omega arith, h)
-get_take (suc n) (y ∷ xs) (suc k) x h = let t = get_take n xs k x h in (let l = t.0 in omega (arith, l), t.1)
-
 get_at : {X : Type 0} (xs : List X) (y : X) (k : ℕ) (x : X) → slice_get (xs ++ y ∷ []) k ≡ Some x → ((k < length xs) × (slice_get xs k ≡ Some x)) ⊎ ((k ≡ length xs) × (y ≡ x))
-get_at [] y zero x h = inr (refl, some_is y x h)
-  where
-    some_is : {X : Type 0} (y x : X) → Some y ≡ Some x → y ≡ x
-    some_is y x h = cc
-get_at [] y (suc k) x h = absurd (none_some x h)
+get_at [] y zero x h = inr (refl, some_is_same y x h)
+get_at [] y (suc k) x h = absurd (none_is_not_some x h)
 get_at (z ∷ xs) y zero x h = inl (omega arith, h)
 get_at (z ∷ xs) y (suc k) x h = next (get_at xs y k x h)
   where
     next : ((k < length xs) × (slice_get xs k ≡ Some x)) ⊎ ((k ≡ length xs) × (y ≡ x)) → ((suc k < length (z ∷ xs)) × (slice_get xs k ≡ Some x)) ⊎ ((suc k ≡ length (z ∷ xs)) × (y ≡ x))
     next (inl t) = inl (let l = t.0 in omega (arith, l), t.1)
     next (inr t) = inr (let l = t.0 in omega (arith, l), t.1)
-
-length_next : {X : Type 0} (xs : List X) (x : X) → length (xs ++ x ∷ []) ≡ length xs + 1
-length_next [] x = refl
-length_next (y ∷ xs) x = let h = length_next xs x in omega (arith, h)
 
 -- ---- frames
 portals_next : (fs : List Frame) (f : Frame) → portals_of (fs ++ f ∷ []) ≡ portals_of fs ++ portal_of f ∷ []
@@ -131,11 +111,11 @@ start_next : (fs : List Frame) (f : Frame) (n : ℕ) → n ≤ length fs → tak
 start_next fs f n h = ap (λ (es : List EndPoints). take n es) (portals_next fs f) ∙ take_append n (portals_of fs) (portal_of f ∷ []) (let e = length-map fs portal_of in omega (arith, e, h))
 
 whole_next : (fs : List Frame) (f : Frame) → take (length fs + 1) (portals_of (fs ++ f ∷ [])) ≡ portals_of fs ++ portal_of f ∷ []
-whole_next fs f = ap (λ (es : List EndPoints). take (length fs + 1) es) (portals_next fs f) ∙ take_all (length fs + 1) (portals_of fs ++ portal_of f ∷ []) (let e = length_next (portals_of fs) (portal_of f) in let m = length-map fs portal_of in omega (arith, e, m))
+whole_next fs f = ap (λ (es : List EndPoints). take (length fs + 1) es) (portals_next fs f) ∙ take_all (length fs + 1) (portals_of fs ++ portal_of f ∷ []) (let e = length_pushed (portals_of fs) (portal_of f) in let m = length-map fs portal_of in omega (arith, e, m))
 
 pub conflict_longer : (fs : List Frame) (f : Frame) (conflict : Option Conflict) → IsConflict fs conflict → IsConflict (fs ++ f ∷ []) conflict
 conflict_longer fs f None h = tt
-conflict_longer fs f (Some j) h = (let e = length_next fs f in let l = h.0 in omega (arith, e, l), subst (λ (es : List EndPoints). ShowsNoLine es j.pairs) (sym (start_next fs f j.portals h.0)) h.1)
+conflict_longer fs f (Some j) h = (let e = length_pushed fs f in let l = h.0 in omega (arith, e, l), subst (λ (es : List EndPoints). ShowsNoLine es j.pairs) (sym (start_next fs f j.portals h.0)) h.1)
 
 -- ---- stacks that change above what the frames say
 keeps_less : {X : Type 0} (m n : ℕ) (xs ys : List X) → m ≤ n → KeepsFirst n xs ys → KeepsFirst m xs ys
@@ -220,7 +200,7 @@ push_free fs f ls rs cs h el er ec s = push_history fs f ls rs cs None None h (�
 -- it gets conflict
 pub push_conflict : (fs : List Frame) (f : Frame) (ls rs : List EndAt) (cs : List Cone) (j : Conflict) → IsHistory fs ls rs cs None → j.portals ≡ length fs + 1 → ShowsNoLine (portals_of fs ++ portal_of f ∷ []) j.pairs → IsHistory (fs ++ f ∷ []) ls rs cs (Some j)
 push_conflict fs f ls rs cs j h n s = push_history fs f ls rs cs None (Some j) h (λ k l e. tt) (λ e. absurd (omega (arith, e, n))) (λ e. absurd (omega (arith, e, n)))
-    (let e = length_next fs f in omega (arith, e, n), subst (λ (es : List EndPoints). ShowsNoLine es j.pairs) (sym (whole_next fs f) ∙ ap (λ (k : ℕ). take k (portals_of (fs ++ f ∷ []))) (sym n)) s)
+    (let e = length_pushed fs f in omega (arith, e, n), subst (λ (es : List EndPoints). ShowsNoLine es j.pairs) (sym (whole_next fs f) ∙ ap (λ (k : ℕ). take k (portals_of (fs ++ f ∷ []))) (sym n)) s)
 
 -- ---- fewer frames
 start_take : (fs : List Frame) (m n : ℕ) → m ≤ n → take m (portals_of (take n fs)) ≡ take m (portals_of fs)
@@ -262,12 +242,9 @@ conflict_shows fs ls rs cs j h = let s = h.conflict.1 in subst (λ (es : List En
 pub top_frame : (fs : List Frame) (k : ℕ) (f : Frame) (ls rs : List EndAt) (cs : List Cone) → IsHistory fs ls rs cs None → k + 1 ≡ length fs → slice_get fs k ≡ Some f → IsFrameOf (portals_of fs) ls rs cs f
 top_frame fs k f ls rs cs h e t = subst (λ (es : List EndPoints). IsFrameOf es ls rs cs f) (take_all (k + 1) (portals_of fs) (let m = length-map fs portal_of in omega (arith, m, e))) (h.frames k f t tt)
 
-some_cone : (c d : Cone) → Some c ≡ Some d → c ≡ d
-some_cone c d h = cc
-
 -- the cone that a frame names
 pub frame_cone : (es : List EndPoints) (ls rs : List EndAt) (cs : List Cone) (f : Frame) → IsFrameOf es ls rs cs f → (f.cones - 1 < length cs) × (0 < f.cones) × ((d : Cone) → IsConeOf es (get_or cs (f.cones - 1) d))
-frame_cone es ls rs cs f h = (within, above, λ d. subst (λ (c : Cone). IsConeOf es c) (some_cone c.0 (get_or cs (f.cones - 1) d) (sym t.1 ∙ slice_get-get_or cs (f.cones - 1) d within)) (cone_of es (take f.lefts ls) (take f.rights rs) (take f.cones cs) c.0 h.hull c.1))
+frame_cone es ls rs cs f h = (within, above, λ d. subst (λ (c : Cone). IsConeOf es c) (some_is_same c.0 (get_or cs (f.cones - 1) d) (sym t.1 ∙ slice_get-get_or cs (f.cones - 1) d within)) (cone_of es (take f.lefts ls) (take f.rights rs) (take f.cones cs) c.0 h.hull c.1))
   where
     c : IsTopCone (take f.lefts ls) (take f.rights rs) (take f.cones cs)
     c = h.hull.cone
@@ -317,10 +294,7 @@ last_frame fs f ls rs cs h t = let b = slice_get_within fs (length fs - 1) f t i
 
 pub no_last : (fs : List Frame) → slice_get fs (length fs - 1) ≡ None → length fs ≡ 0
 no_last [] h = refl
-no_last (f ∷ fs) h = absurd (some_none _ (sym (slice_get-get_or (f ∷ fs) (length (f ∷ fs) - 1) f (omega arith)) ∙ h))
-  where
-    some_none : (f : Frame) → ◌≡◌ {A = Option Frame} (Some f) None → ⊥
-    some_none f h = cc
+no_last (f ∷ fs) h = absurd (some_is_not_none _ (sym (slice_get-get_or (f ∷ fs) (length (f ∷ fs) - 1) f (omega arith)) ∙ h))
 
 pub more_stacked : (fs : List Frame) (left right : EndAt) (ls rs ls' rs' : List EndAt) (cs cs' : List Cone) (r : Result (Option (List EndPair)) Memory) → left.code ≡ length fs → length fs < 32768 → right.code ≡ length fs + 32768
     → IsHullOf (portals_of fs) ls rs cs
@@ -355,13 +329,13 @@ pub push_ready : (fs : List Frame) (f : Frame) (ls rs : List EndAt) (cs : List C
 push_ready fs f ls rs cs (Some j) None h e el er ec = push_after_conflict fs f ls rs cs j h
 push_ready fs f ls rs cs (Some j) (Some pairs) h e el er ec = absurd h
 push_ready fs f ls rs cs None None h e el er ec = push_free fs f ls rs cs h.0 el er ec h.1
-push_ready fs f ls rs cs None (Some pairs) h e el er ec = absurd (none_some pairs (sym e))
+push_ready fs f ls rs cs None (Some pairs) h e el er ec = absurd (none_is_not_some pairs (sym e))
 
 pub push_stuck : (fs : List Frame) (f : Frame) (ls rs : List EndAt) (cs : List Cone) (conflict : Option Conflict) (stuck : Option (List EndPair)) (pairs : List EndPair) (n : ℕ) → IsReady fs (portal_of f) ls rs cs conflict stuck → stuck ≡ Some pairs → n ≡ length (fs ++ f ∷ []) → IsHistory (fs ++ f ∷ []) ls rs cs (Some (record { portals = n; pairs = pairs }))
-push_stuck fs f ls rs cs (Some j) None pairs n h e m = absurd (none_some pairs e)
+push_stuck fs f ls rs cs (Some j) None pairs n h e m = absurd (none_is_not_some pairs e)
 push_stuck fs f ls rs cs (Some j) (Some qs) pairs n h e m = absurd h
-push_stuck fs f ls rs cs None None pairs n h e m = absurd (none_some pairs e)
-push_stuck fs f ls rs cs None (Some qs) pairs n h e m = push_conflict fs f ls rs cs (record { portals = n; pairs = pairs }) h.0 (m ∙ length_next fs f) (subst (λ (ps : List EndPair). ShowsNoLine (portals_of fs ++ portal_of f ∷ []) ps) (inner qs pairs e) h.1)
+push_stuck fs f ls rs cs None None pairs n h e m = absurd (none_is_not_some pairs e)
+push_stuck fs f ls rs cs None (Some qs) pairs n h e m = push_conflict fs f ls rs cs (record { portals = n; pairs = pairs }) h.0 (m ∙ length_pushed fs f) (subst (λ (ps : List EndPair). ShowsNoLine (portals_of fs ++ portal_of f ∷ []) ps) (inner qs pairs e) h.1)
   where
     inner : (qs ps : List EndPair) → Some qs ≡ Some ps → qs ≡ ps
     inner qs ps h = cc

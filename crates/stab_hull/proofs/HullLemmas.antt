@@ -13,6 +13,7 @@ use Rattle.extreme_lines.proofs.EndsLemmas.{get_append, get_cases, end_of_more, 
 use Rattle.stab_hull.specs.Portals.{with_ends, IsConeOf, ShowsNoLine}
 use Rattle.stab_hull.specs.Stacks.{HasPoint, IsPairAmong, AreStuckAmong, IsConeOfEnds, IsTopCone, IsAdded, IsLeftEnd, IsRightEnd, IsHullOf}
 use Rattle.list_base.proofs.Lists.{get_pushed}
+use Rattle.list_base.proofs.Options.{some_is_same}
 
 abbrev pub AreLeftEnds : List EndPoints → List EndAt → Type 0
 AreLeftEnds es ends = (m : ℕ) (e : EndAt) → slice_get ends m ≡ Some e → IsLeftEnd es e
@@ -126,11 +127,8 @@ hull_first left right cs lc rc t = record {
 
 -- the cone of the ends is the cone of the portals
 pub cone_of : (es : List EndPoints) (ls rs : List EndAt) (cs : List Cone) (c : Cone) → IsHullOf es ls rs cs → slice_get cs (length cs - 1) ≡ Some c → IsConeOf es c
-cone_of es ls rs cs c h e = of_top (some_same h.cone.0 c (sym h.cone.1 ∙ e)) h.cone.2
+cone_of es ls rs cs c h e = of_top (some_is_same h.cone.0 c (sym h.cone.1 ∙ e)) h.cone.2
   where
-    some_same : (c d : Cone) → Some c ≡ Some d → c ≡ d
-    some_same c d h = cc
-
     pair : (p : EndPair) → IsPairAmong ls rs p → IsPairOf es p
     pair p m =
         let a = h.left_ends m.0.0 p.left m.0.1 in

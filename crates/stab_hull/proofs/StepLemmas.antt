@@ -19,6 +19,7 @@ use Rattle.extreme_lines.proofs.Widening.{made_arrow, stays}
 use Rattle.extreme_lines.proofs.EndsLemmas.{get_append, get_cases}
 use Rattle.stab_hull.specs.Stacks.{IsAmong, IsPairAmong, SpansEnds, IsOfEnds, IsConeOfEnds, AreStuckAmong, IsTopCone, IsAdded}
 use Rattle.list_base.proofs.Lists.{get_pushed}
+use Rattle.list_base.proofs.Options.{some_is_same, none_is_not_some, some_is_not_none}
 
 -- what stands for an end where there is none
 abbrev pub no_end : EndAt
@@ -66,9 +67,6 @@ stuck_among L R c l r pairs h hl hr e b = record {
   balanced = subst AreBalanced (sym e) b;
 }
 
-some_same : (p q : EndAt) → Some p ≡ Some q → p ≡ q
-some_same p q h = cc
-
 -- ---- a left end
 module _ (L R : List EndAt) (left : EndAt) where
   pub left_ends : (c : Cone) → IsOfEnds L R c → IsOfEnds (L ++ left ∷ []) R c
@@ -84,7 +82,7 @@ module _ (L R : List EndAt) (left : EndAt) where
   left_more n r c d e w h = record {
     spans = λ l r hl hr. w.keeps (difference l.at r.at) (h.spans l r hl hr);
     ends = ends_widened (L ++ left ∷ []) R c d left r w h.ends (among_last L left) (n, e);
-    has = below_more (λ k. (r : EndAt) → slice_get R k ≡ Some r → Spans d (difference left.at r.at)) n (λ k l r g. w.keeps (difference left.at r.at) (h.has k l r g)) (λ s g. subst (λ (u : EndAt). Spans d (difference left.at u.at)) (some_same r s (sym e ∙ g)) w.has);
+    has = below_more (λ k. (r : EndAt) → slice_get R k ≡ Some r → Spans d (difference left.at r.at)) n (λ k l r g. w.keeps (difference left.at r.at) (h.has k l r g)) (λ s g. subst (λ (u : EndAt). Spans d (difference left.at u.at)) (some_is_same r s (sym e ∙ g)) w.has);
   }
 
   -- the cone has the line already
@@ -131,7 +129,7 @@ module _ (L R : List EndAt) (right : EndAt) where
   right_more n l c d e w h = record {
     spans = λ l r hl hr. w.keeps (difference l.at r.at) (h.spans l r hl hr);
     ends = ends_widened L (R ++ right ∷ []) c d l right w h.ends (n, e) (among_last R right);
-    has = below_more (λ k. (l : EndAt) → slice_get L k ≡ Some l → Spans d (difference l.at right.at)) n (λ k b l g. w.keeps (difference l.at right.at) (h.has k b l g)) (λ s g. subst (λ (u : EndAt). Spans d (difference u.at right.at)) (some_same l s (sym e ∙ g)) w.has);
+    has = below_more (λ k. (l : EndAt) → slice_get L k ≡ Some l → Spans d (difference l.at right.at)) n (λ k b l g. w.keeps (difference l.at right.at) (h.has k b l g)) (λ s g. subst (λ (u : EndAt). Spans d (difference u.at right.at)) (some_is_same l s (sym e ∙ g)) w.has);
   }
 
   pub right_covered : (n : ℕ) (l : EndAt) (c : Cone) → slice_get L n ≡ Some l → Spans c (difference l.at right.at) → IsRightPart L R right n c → IsRightPart L R right (n + 1) c
@@ -163,15 +161,13 @@ module _ (L R : List EndAt) (right : EndAt) where
   right_meets c l pairs h m t b = stuck_among L (R ++ right ∷ []) c l right pairs (right_ends c h.ends) m (among_last R right) t b
 
 -- ---- stacks of cones
-some_cone : (c d : Cone) → Some c ≡ Some d → c ≡ d
-some_cone c d h = cc
 
 -- the cone at the last place
 pub top_is : (C : List Cone) (n : ℕ) (d : Cone) (c : Cone) → n ≡ length C → d ≡ get_or C (n - 1) d → slice_get C (length C - 1) ≡ Some c → c ≡ d
 top_is C n d c e g h =
     let b = slice_get_within C (length C - 1) c h in
     let k : n - 1 ≡ length C - 1 = omega (arith, e) in
-    some_cone c d (sym h ∙ slice_get-get_or C (length C - 1) d b ∙ ap (λ (m : ℕ). Some (get_or C m d)) (sym k) ∙ ap (λ (x : Cone). Some x) (sym g))
+    some_is_same c d (sym h ∙ slice_get-get_or C (length C - 1) d b ∙ ap (λ (m : ℕ). Some (get_or C m d)) (sym k) ∙ ap (λ (x : Cone). Some x) (sym g))
 
 pub top_cone : (L R : List EndAt) (C : List Cone) (n : ℕ) (d : Cone) → n ≡ length C → d ≡ get_or C (n - 1) d → IsTopCone L R C → IsConeOfEnds L R d
 top_cone L R C n d e g h = subst (IsConeOfEnds L R) (top_is C n d h.0 e g h.1) h.2
@@ -196,11 +192,8 @@ top_moved L R L' R' C C' a b c h = subst (λ (x : List EndAt). IsTopCone x R' C'
 
 -- one pair alone
 only : (e : EndAt) (m : ℕ) (d : EndAt) → slice_get (e ∷ []) m ≡ Some d → e ≡ d
-only e zero d h = some_same e d h
-only e (suc m) d h = absurd (none_some d h)
-  where
-    none_some : (d : EndAt) → ◌≡◌ {A = Option EndAt} None (Some d) → ⊥
-    none_some d h = cc
+only e zero d h = some_is_same e d h
+only e (suc m) d h = absurd (none_is_not_some d h)
 
 pub top_first : (e : Extreme) (left right : EndAt) (C C' : List Cone) → e.left ≡ left → e.right ≡ right → C' ≡ C ++ Ray e ∷ [] → IsTopCone (left ∷ []) (right ∷ []) C'
 top_first e left right C C' u v k = top_next (left ∷ []) (right ∷ []) C C' (Ray e) k (record {
@@ -215,20 +208,11 @@ top_first e left right C C' u v k = top_next (left ∷ []) (right ∷ []) C C' (
 -- ---- a left end, and then a right end
 pub none_part : {X : Type 0} (P : Type 0) (Q : X → Type 0) (o : Option X) → o ≡ None → MatchOption o P Q → P
 none_part P Q None e h = h
-none_part P Q (Some x) e h = absurd (some_none x e)
-  where
-    some_none : {X : Type 0} (x : X) → ◌≡◌ {A = Option X} (Some x) None → ⊥
-    some_none x h = cc
+none_part P Q (Some x) e h = absurd (some_is_not_none x e)
 
 pub some_part : {X : Type 0} (P : Type 0) (Q : X → Type 0) (o : Option X) (x : X) → o ≡ Some x → MatchOption o P Q → Q x
-some_part P Q None x e h = absurd (none_some x e)
-  where
-    none_some : {X : Type 0} (x : X) → ◌≡◌ {A = Option X} None (Some x) → ⊥
-    none_some x h = cc
-some_part P Q (Some y) x e h = subst Q (inner y x e) h
-  where
-    inner : {X : Type 0} (y x : X) → Some y ≡ Some x → y ≡ x
-    inner y x h = cc
+some_part P Q None x e h = absurd (none_is_not_some x e)
+some_part P Q (Some y) x e h = subst Q (some_is_same y x e) h
 
 all_pairs : (L R L' R' : List EndAt) (pairs : List EndPair) → ((e : EndAt) → IsAmong L e → IsAmong L' e) → ((e : EndAt) → IsAmong R e → IsAmong R' e) → AreStuckAmong L R pairs → AreStuckAmong L' R' pairs
 all_pairs L R L' R' pairs f g h = record { ends = λ k d l. let m = h.ends k d l in (f _ m.0, g _ m.1); balanced = h.balanced }

@@ -27,6 +27,7 @@ use Rattle.tree_judge.proofs.WholeTrees.{whole_tree, whole_answers, none_reached
 use Rattle.tree_judge.proofs.Meshed.{AreAllNamed}
 use Rattle.tree_judge.proofs.OneAnswer.{same_sectors}
 use Rattle.tree_judge.proofs.Refuting.{not_whole}
+use Rattle.list_base.proofs.Options.{some_is_same}
 
 module _ (m : Map) (ts : List Triangle) (xs : List HalfEdge) (trees : List Tree) (walked : List Bool) (reached : TableParts) where
   -- the trees below k
@@ -141,10 +142,7 @@ not_into m ts xs trees a b up (t, sectors, there, e, whole, none) (u, others, he
 -- no tree is longer than the longest
 pub longest_has : (us : List Tree) (k : ℕ) (t : Tree) → slice_get us k ≡ Some t → length t.nodes ≤ longest_of us
 longest_has [] k t e = absurd (cc)
-longest_has (u ∷ us) zero t e = let h : u ≡ t = same u t e in let l : length u.nodes ≡ length t.nodes = ap (λ (v : Tree). length v.nodes) h in omega (arith, l)
-  where
-    same : (x y : Tree) → ◌≡◌ {A = Option Tree} (Some x) (Some y) → x ≡ y
-    same x y q = cc
+longest_has (u ∷ us) zero t e = let h : u ≡ t = some_is_same u t e in let l : length u.nodes ≡ length t.nodes = ap (λ (v : Tree). length v.nodes) h in omega (arith, l)
 longest_has (u ∷ us) (suc k) t e = let l : length t.nodes ≤ longest_of us = longest_has us k t e in omega (arith, l)
 
 -- each triangle of a certificate has a sector

@@ -24,6 +24,7 @@ use Rattle.half_edges.specs.Numbers.{edge}
 use Rattle.half_edges.specs.HalfEdges.{entering, way_outside}
 use Rattle.tree_judge.specs.Path.{IsChain, list_of}
 use Rattle.tree_judge.specs.Roots.{first_at, PutsFirst, PutsBefore, way_out_of, side_edges, line_edges, root_edge, AreRoots}
+use Rattle.sight_names.proofs.Roots.{root_test, names_true}
 
 -- ---- roots put before others
 
@@ -124,10 +125,6 @@ module _ (ts : List Triangle) (xs : List HalfEdge) where
   pub side_unnamed : (e : Edge) (roots : List Root) (firsts : List (Option ℕ)) → PutsBefore (side_edges ts xs None e) roots firsts roots firsts
   side_unnamed e roots firsts = before_none (side_edges ts xs None e) roots firsts (λ s. refl)
 
-  named_true : (o : Option ℕ) (s : ℕ) → names_it o s ≡ true → o ≡ Some s
-  named_true None s e = absurd (cc)
-  named_true (Some b) s e = ap Some (eqb-true b s e)
-
   -- of two sides that name different sectors, or none, one at most names this one
   alone : (o other : Option ℕ) (s : ℕ) → (o ≡ other → ⊥) → (names_it o s && not (names_it other s)) ≡ names_it o s
   alone o other s n = at (names_it o s) (names_it other s) refl refl
@@ -136,7 +133,7 @@ module _ (ts : List Triangle) (xs : List HalfEdge) where
       join x y b c e f g = cc
 
       at : (b c : Bool) → names_it o s ≡ b → names_it other s ≡ c → (names_it o s && not (names_it other s)) ≡ names_it o s
-      at true true e f = absurd (n (named_true o s e ∙ sym (named_true other s f)))
+      at true true e f = absurd (n (names_true o s e ∙ sym (names_true other s f)))
       at true false e f = join (names_it o s) (names_it other s) true false e f refl
       at false true e f = join (names_it o s) (names_it other s) false true e f refl
       at false false e f = join (names_it o s) (names_it other s) false false e f refl
@@ -179,9 +176,6 @@ shape false true true u v = refl
 shape false true false u v = refl
 shape false false true u v = append-nil v
 shape false false false u v = refl
-
-pub root_test : (m : Map) (a : ℕ) (s : Side) (l : MapLine) → line_at m s.line ≡ Some l → is_root m a s ≡ (not l.solid && names_it (sector_on l s.left) a && not (names_it (sector_on l (not s.left)) a))
-root_test m a s l e = rw e refl
 
 module _ (ts : List Triangle) (xs : List HalfEdge) (p : PlanParts) where
   abbrev the_root : ℕ → Side → Option ℕ

@@ -18,6 +18,7 @@ use Rattle.tree_judge.specs.declared.trees.Frame.{Frame}
 use Rattle.tree_judge.specs.Path.{portal_ends, path_ends, frame_at, asked_ends, IsClosedBy}
 use Rattle.block_evidence.specs.declared.Evidence.{Evidence}
 use Rattle.block_evidence.specs.Stuck.{AreStuck, Blocks, end_codes}
+use Rattle.sight_tree.proofs.ReadBack.{in_places}
 
 -- what is found where each code has its end
 pub found_each : (es : List EndPoints) (codes : List ℕ) (xs : List EndAt) → map Some xs ≡ map (end_of es) codes → (filter_map (end_of es) codes ≡ xs) × AllByRecursion (λ code. IsSome (end_of es code)) codes
@@ -88,19 +89,11 @@ blocks_if es e ends some i b h l m t s = (λ n. record { ends = subst (AllByRecu
 
 -- ---- four codes at once
 
-four_codes : (xs : List ℕ) → length xs ≡ 4 → xs ≡ get_or xs 0 0 ∷ get_or xs 1 0 ∷ get_or xs 2 0 ∷ get_or xs 3 0 ∷ []
-four_codes [] l = absurd (omega (arith, l))
-four_codes (a ∷ []) l = absurd (omega (arith, l))
-four_codes (a ∷ b ∷ []) l = absurd (omega (arith, l))
-four_codes (a ∷ b ∷ c ∷ []) l = absurd (omega (arith, l))
-four_codes (a ∷ b ∷ c ∷ d ∷ []) l = refl
-four_codes (a ∷ b ∷ c ∷ d ∷ e ∷ xs) l = absurd (omega (arith, l))
-
 pub blocks_four : (es : List EndPoints) (e : Evidence) (a b c d : EndAt) → e.count ≡ 4 → length e.ends ≡ 4 → Some a ≡ end_of es (get_or e.ends 0 0) → Some b ≡ end_of es (get_or e.ends 1 0) → Some c ≡ end_of es (get_or e.ends 2 0) → Some d ≡ end_of es (get_or e.ends 3 0) → AreStuck (a ∷ b ∷ c ∷ d ∷ []) → Blocks es e
 blocks_four es e a b c d n l fa fb fc fd stuck = record { ends = f.1; stuck = subst AreStuck (sym f.0) stuck }
   where
     all : end_codes e ≡ get_or e.ends 0 0 ∷ get_or e.ends 1 0 ∷ get_or e.ends 2 0 ∷ get_or e.ends 3 0 ∷ []
-    all = take_all e.count e.ends (omega (arith, n, l)) ∙ four_codes e.ends l
+    all = take_all e.count e.ends (omega (arith, n, l)) ∙ in_places e.ends l
 
     f : (filter_map (end_of es) (end_codes e) ≡ a ∷ b ∷ c ∷ d ∷ []) × AllByRecursion (λ code. IsSome (end_of es code)) (end_codes e)
     f = found_each es (end_codes e) (a ∷ b ∷ c ∷ d ∷ []) ((λ i. fa i ∷ fb i ∷ fc i ∷ fd i ∷ []) ∙ sym (ap (map (end_of es)) all))

@@ -12,6 +12,7 @@ use Rattle.half_edges.specs.HalfEdges.{way_outside}
 use Rattle.tree_judge.specs.Path.{path_ends, frame_at, asked_ends, Pending, pending_way, pending_ways, IsChain, root_pending, all_pending, ways_behind, EntersThrough, TakesNext}
 use Rattle.tree_judge.proofs.Ends.{asked_is}
 use Rattle.tree_judge.proofs.Ways.{back_one, ends_take}
+use Rattle.list_base.proofs.Options.{some_is_not_none}
 
 module _ (xs : List HalfEdge) (source : ℕ) (old : List Frame) (depth : ℕ) (x : HalfEdge) (room : depth < length old) where
   -- with the half-edge's portal put, its right way is the first to come
@@ -30,13 +31,10 @@ still_put : (xs : List HalfEdge) (source : ℕ) (old : List Frame) (depth : ℕ)
     → all_pending xs source (set old depth (frame_at x)) (depth + 1) es ≡ pending_way (asked_ends old depth x) (way_outside xs source x.right_way) ++ all_pending xs source old depth es
 still_put xs source old depth x es room = ap (λ (ps : List Pending). ps ++ map root_pending es) (put_ways xs source old depth x room) ∙ append_assoc (pending_way (asked_ends old depth x) (way_outside xs source x.right_way)) (pending_ways xs source [] (take depth old)) (map root_pending es)
 
-some_not_none : {X : Type 0} (x : X) → ◌≡◌ {A = Option X} (Some x) None → ⊥
-some_not_none x e = cc
-
 -- the left way is asked
 pub enters_left : (xs : List HalfEdge) (roots : List Root) (source : ℕ) (old new : List Frame) (depth d i : ℕ) (root : Option ℕ) (x : HalfEdge) → depth < length old → new ≡ set old depth (frame_at x) → d ≡ depth + 1 → Some i ≡ way_outside xs source x.left_way
     → EntersThrough xs roots source old depth root x new d root (Some i)
-enters_left xs roots source old new depth d i root x room e q w = record { next = λ es c. (es, c, whole es, λ n. absurd (some_not_none i n)) }
+enters_left xs roots source old new depth d i root x room e q w = record { next = λ es c. (es, c, whole es, λ n. absurd (some_is_not_none i n)) }
   where
     ends : asked_ends old depth x ≡ path_ends (take d new)
     ends = sym (asked_is old (take d new) depth x room (ap (λ (n : ℕ). take n new) q ∙ ap (take (depth + 1)) e))

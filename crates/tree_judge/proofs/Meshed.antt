@@ -12,13 +12,14 @@ use Rattle.sight_names.specs.Mesh.{triangle_at, label_of, side_edge, HasEdge, Ar
 use Rattle.sight_names.specs.Sequence.{Portal, Left, Right, entry_edge, way_out, third_point, names_it, IsSolidLine}
 use Rattle.sight_names.proofs.PlanMap.{plan_is_map}
 use Rattle.mesh_base.proofs.PlanFacts.{plan_facts}
-use Rattle.mesh_shape.proofs.RuleLemmas.{found_here}
 use Rattle.half_edges.specs.declared.table.HalfEdge.{HalfEdge}
 use Rattle.half_edges.specs.Numbers.{edge, number_of}
 use Rattle.half_edges.specs.HalfEdges.{entering, way_outside, IsHalfEdge, AreOfGoodMesh}
 use Rattle.half_edges.proofs.Reached.{IsReached, reached, not_reached, outside_is, other_edges}
 use Rattle.sight_tree.specs.WholeTree.{HasNoNode}
 use Rattle.tree_judge.specs.Roots.{way_out_of}
+use Rattle.sight_names.proofs.Roots.{is_named, names_true}
+use Rattle.mesh_base.proofs.GoodMesh.{found_at}
 
 -- whoever goes through the portal enters triangle k by half-edge i
 pub record Enters (p : PlanParts) (ts : List Triangle) (ls : List (Option ℕ)) (xs : List HalfEdge) (q : Portal) (i : ℕ) : Type 0 where
@@ -45,13 +46,6 @@ AreAllNamed ts ls = (k : ℕ) (t : Triangle) → slice_get ts k ≡ Some t → (
 
 -- ---- whether a sector is the source
 
-pub named_true : (o : Option ℕ) (a : ℕ) → names_it o a ≡ true → o ≡ Some a
-named_true None a e = absurd (true≢false (sym e))
-named_true (Some b) a e = ap (λ (n : ℕ). let o : Option ℕ = Some n in o) (eqb-true b a e)
-
-pub true_named : (o : Option ℕ) (a : ℕ) → o ≡ Some a → names_it o a ≡ true
-true_named o a e = ap (λ (n : Option ℕ). names_it n a) e ∙ eq-eqb a a refl
-
 module _ (p : PlanParts) (ts : List Triangle) (xs : List HalfEdge) (w : AreOfGoodMesh p ts xs) where
   -- the sectors of the triangles
   abbrev ls : List (Option ℕ)
@@ -59,7 +53,7 @@ module _ (p : PlanParts) (ts : List Triangle) (xs : List HalfEdge) (w : AreOfGoo
 
   -- the half-edge along an edge is what one finds there
   enters_by : (q : Portal) (i : ℕ) (x : HalfEdge) → slice_get xs i ≡ Some x → IsHalfEdge p ts ls xs (entry_edge q) x → Enters p ts ls xs q i
-  enters_by q i x at is = by (found_here ts (entry_edge q) x.triangle is.triangle)
+  enters_by q i x at is = by (found_at ts (entry_edge q) x.triangle is.triangle)
     where
       left : x.left ≡ q.left
       left = ap (λ (r : Portal). r.left) is.portal
@@ -174,7 +168,7 @@ module _ (p : PlanParts) (ts : List Triangle) (xs : List HalfEdge) (w : AreOfGoo
       no_triangle (inr (k, f)) h = absurd (none-some k (sym h ∙ f))
 
       test : (i : ℕ) (r : IsReached p ts ls xs (entry_edge q) i) → entering ts xs (entry_edge q) ≡ Some i → (b : Bool) → names_it r.x.sector a ≡ b → HasNoNode (map_of p) ts ls a q
-      test i r h true n = inr (r.x.triangle, r.is.triangle, r.is.label ∙ named_true r.x.sector a n)
+      test i r h true n = inr (r.x.triangle, r.is.triangle, r.is.label ∙ names_true r.x.sector a n)
       test i r h false n = absurd (none-some i (sym e ∙ behind a (entry_edge q) i r.x h r.at ∙ inside a i r.x false n))
 
       at : (o : Option ℕ) → entering ts xs (entry_edge q) ≡ o → HasNoNode (map_of p) ts ls a q
@@ -196,7 +190,7 @@ module _ (p : PlanParts) (ts : List Triangle) (xs : List HalfEdge) (w : AreOfGoo
       test j r h false n = subst (IsAsked a q) (same_Some j i (sym (behind a (entry_edge q) j r.x h r.at ∙ inside a j r.x false n) ∙ e)) (record {
         enters = entered_by q j r;
         no_wall = λ s. r.no_wall (subst (IsSolidLine (map_of p)) (sym r.is.portal) s);
-        outside = λ s. true≢false (sym (true_named r.x.sector a s) ∙ n);
+        outside = λ s. true≢false (sym (is_named r.x.sector a s) ∙ n);
       })
 
       at : (o : Option ℕ) → entering ts xs (entry_edge q) ≡ o → IsAsked a q i
@@ -209,7 +203,7 @@ module _ (p : PlanParts) (ts : List Triangle) (xs : List HalfEdge) (w : AreOfGoo
     where
       by : (i : ℕ) (r : IsReached p ts ls xs (entry_edge q) i) → entering ts xs (entry_edge q) ≡ Some i → HasNoNode (map_of p) ts ls a q → way_out_of ts xs a (entry_edge q) ≡ None
       by i r h (inl s) = absurd (r.no_wall (subst (IsSolidLine (map_of p)) (sym r.is.portal) s))
-      by i r h (inr (k, found, label)) = behind a (entry_edge q) i r.x h r.at ∙ inside a i r.x true (true_named r.x.sector a (sym r.is.label ∙ ap (label_of ls) (same_Some r.x.triangle k (sym r.is.triangle ∙ found)) ∙ label))
+      by i r h (inr (k, found, label)) = behind a (entry_edge q) i r.x h r.at ∙ inside a i r.x true (is_named r.x.sector a (sym r.is.label ∙ ap (label_of ls) (same_Some r.x.triangle k (sym r.is.triangle ∙ found)) ∙ label))
 
       at : (o : Option ℕ) → entering ts xs (entry_edge q) ≡ o → way_out_of ts xs a (entry_edge q) ≡ None
       at None h = nowhere a (entry_edge q) h
@@ -220,7 +214,7 @@ module _ (p : PlanParts) (ts : List Triangle) (xs : List HalfEdge) (w : AreOfGoo
   node_asked a q k open_ found outside = at (entering ts xs (entry_edge q)) refl
     where
       test : (i : ℕ) (r : IsReached p ts ls xs (entry_edge q) i) → entering ts xs (entry_edge q) ≡ Some i → (b : Bool) → names_it r.x.sector a ≡ b → (i : ℕ) × (way_out_of ts xs a (entry_edge q) ≡ Some i)
-      test i r h true n = absurd (outside (ap (label_of ls) (same_Some k r.x.triangle (sym found ∙ r.is.triangle)) ∙ r.is.label ∙ named_true r.x.sector a n))
+      test i r h true n = absurd (outside (ap (label_of ls) (same_Some k r.x.triangle (sym found ∙ r.is.triangle)) ∙ r.is.label ∙ names_true r.x.sector a n))
       test i r h false n = (i, behind a (entry_edge q) i r.x h r.at ∙ inside a i r.x false n)
 
       at : (o : Option ℕ) → entering ts xs (entry_edge q) ≡ o → (i : ℕ) × (way_out_of ts xs a (entry_edge q) ≡ Some i)

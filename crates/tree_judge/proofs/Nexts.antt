@@ -6,15 +6,13 @@ use Rattle.half_edges.specs.declared.table.HalfEdge.{HalfEdge}
 use Rattle.tree_judge.specs.declared.roots.Root.{Root}
 use Rattle.tree_judge.specs.declared.trees.Frame.{Frame}
 use Rattle.tree_judge.specs.Path.{AsksRoot, path_ends, Pending, pending_way, pending_ways, IsChain, root_pending, all_pending, TakesNext}
-
-some_not_none : {X : Type 0} (x : X) → ◌≡◌ {A = Option X} (Some x) None → ⊥
-some_not_none x e = cc
+use Rattle.list_base.proofs.Options.{some_is_not_none}
 
 -- a way is asked
 pub takes_way : (xs : List HalfEdge) (roots : List Root) (source : ℕ) (old new : List Frame) (depth d i : ℕ) (root : Option ℕ)
     → pending_ways xs source [] (take depth old) ≡ pending_way (path_ends (take d old)) (Some i) ++ pending_ways xs source [] (take d new)
     → TakesNext xs roots source old depth root new d root (Some i)
-takes_way xs roots source old new depth d i root e = record { next = λ es c. (es, c, ap (λ (ps : List Pending). ps ++ map root_pending es) e, λ n. absurd (some_not_none i n)) }
+takes_way xs roots source old new depth d i root e = record { next = λ es c. (es, c, ap (λ (ps : List Pending). ps ++ map root_pending es) e, λ n. absurd (some_is_not_none i n)) }
 
 nothing : (xs : List HalfEdge) (source : ℕ) (old new : List Frame) (depth d : ℕ) → d ≡ 0 → pending_ways xs source [] (take depth old) ≡ pending_way (path_ends (take d old)) None ++ pending_ways xs source [] (take d new) → pending_ways xs source [] (take depth old) ≡ []
 nothing xs source old new depth d q e = e ∙ ap (λ (n : ℕ). pending_ways xs source [] (take n new)) q
@@ -38,8 +36,8 @@ takes_root xs roots source old new depth d root r q e at = record { next = λ es
     go : (es : List ℕ) → IsChain roots root es → (fs : List ℕ) × IsChain roots r.next fs
         × (all_pending xs source old depth es ≡ pending_way (path_ends (take d old)) (Some r.edge) ++ all_pending xs source new d fs)
         × (◌≡◌ {A = Option ℕ} (Some r.edge) None → all_pending xs source old depth es ≡ [])
-    go [] c = absurd (some_not_none r (at ∙ ap (λ (o : Option ℕ). option_and_then (slice_get roots) o) c))
-    go (f ∷ es) (k, s, o, h, g, c) = (es, subst (λ (x : Root). IsChain roots x.next es) is c, whole, λ n. absurd (some_not_none r.edge n))
+    go [] c = absurd (some_is_not_none r (at ∙ ap (λ (o : Option ℕ). option_and_then (slice_get roots) o) c))
+    go (f ∷ es) (k, s, o, h, g, c) = (es, subst (λ (x : Root). IsChain roots x.next es) is c, whole, λ n. absurd (some_is_not_none r.edge n))
       where
         is : s ≡ r
         is = same s (at ∙ ap (λ (u : Option ℕ). option_and_then (slice_get roots) u) o ∙ h)
@@ -66,7 +64,7 @@ takes_none xs roots source old new depth d root q e at = record { next = λ es c
         × (all_pending xs source old depth es ≡ pending_way (path_ends (take d old)) None ++ all_pending xs source new d fs)
         × (◌≡◌ {A = Option ℕ} None None → all_pending xs source old depth es ≡ [])
     go [] c = ([], c, ap (λ (ps : List Pending). ps ++ []) e, λ n. ap (λ (ps : List Pending). ps ++ []) (nothing xs source old new depth d q e))
-    go (f ∷ es) (k, s, o, h, g, c) = absurd (some_not_none s (sym h ∙ ap (λ (u : Option ℕ). option_and_then (slice_get roots) u) (sym o) ∙ sym at))
+    go (f ∷ es) (k, s, o, h, g, c) = absurd (some_is_not_none s (sym h ∙ ap (λ (u : Option ℕ). option_and_then (slice_get roots) u) (sym o) ∙ sym at))
 
 -- no way is left, so the next root is asked
 pub takes_from_root : (xs : List HalfEdge) (roots : List Root) (source : ℕ) (old new : List Frame) (depth d : ℕ) (way root asked next : Option ℕ) → way ≡ None → (way ≡ None → d ≡ 0)

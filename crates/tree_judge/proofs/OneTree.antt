@@ -12,8 +12,7 @@ use Rattle.sight_names.specs.Points.{Edge, place}
 use Rattle.sight_names.specs.Plan.{PlanParts}
 use Rattle.sight_names.specs.Mesh.{IsGoodMesh, HasEdge, triangle_at, label_of}
 use Rattle.sight_names.specs.Sequence.{Portal, apex as apex_of, entry_edge, names_it, root_portal, roots as roots_of, IsSolidLine}
-use Rattle.mesh_base.proofs.GoodMesh.{some_position}
-use Rattle.mesh_shape.proofs.RuleLemmas.{found_here, first_edge, second_edge, third_edge}
+use Rattle.mesh_base.proofs.GoodMesh.{some_position, same_or_not, found_at}
 use Rattle.sight_tree.specs.declared.Node.{Node}
 use Rattle.sight_tree.specs.declared.Node.TheVariants.{Open, Blocked}
 use Rattle.block_evidence.specs.Stuck.{Blocks}
@@ -31,9 +30,9 @@ use Rattle.tree_judge.specs.Roots.{way_out_of, root_edge, root_edges}
 use Rattle.tree_judge.specs.Whole.{ends_through, ways_through, Answers, AreAnswered, IsFirstWrong}
 use Rattle.tree_judge.specs.Trees.{IsFirstTreeNotWhole}
 use Rattle.tree_judge.proofs.OneAnswer.{one_answer}
-
-pub three : (i j : ℕ) → (i < j) ⊎ (i ≡ j) ⊎ (j < i)
-three i j = grind arith
+use Rattle.list_base.proofs.Numbers.{tells_other, tells_same, below_same_or_above}
+use Rattle.list_base.proofs.Lists.{get_there}
+use Rattle.mesh_base.proofs.CleanMesh.{edge_rp, edge_qr, edge_pq}
 
 pub same_some : {X : Type 0} (x y : X) (o : Option X) → o ≡ Some x → o ≡ Some y → x ≡ y
 same_some x y o e f = cc
@@ -46,26 +45,13 @@ same_lists [] (y ∷ ys) e h = absurd (omega (arith, e))
 same_lists (x ∷ xs) [] e h = absurd (omega (arith, e))
 same_lists (x ∷ xs) (y ∷ ys) e h = λ i. h 0 x y refl refl i ∷ same_lists xs ys (omega (arith, e)) (λ j. h (suc j)) i
 
-item_at : {X : Type 0} (xs : List X) (i : ℕ) → i < length xs → (x : X) × (slice_get xs i ≡ Some x)
-item_at [] i l = absurd (omega (arith, l))
-item_at (x ∷ xs) zero l = (x, refl)
-item_at (x ∷ xs) (suc i) l = item_at xs i (omega (arith, l))
-
-same_number : (a b : ℕ) → a ≡ b → (a == b) ≡ true
-same_number a b e = eq-eqb a b e
-
-other_number : (a b : ℕ) → (a ≡ b → ⊥) → (a == b) ≡ false
-other_number a b n = elim (eqb_tells a b) as (λ _. (a == b) ≡ false) [ inl h ↦ absurd (n h.1) | inr h ↦ h.0 ]
-
 module _ (m : Map) (ts : List Triangle) (ls : List (Option ℕ)) (good : IsGoodMesh m ts ls) where
-  same_or : (i j : ℕ) → (i ≡ j) ⊎ (i ≡ j → ⊥)
-  same_or i j = elim (eqb_tells i j) as (λ _. (i ≡ j) ⊎ (i ≡ j → ⊥)) [ inl h ↦ inl h.1 | inr h ↦ inr h.1 ]
 
   -- a directed edge of a triangle is found there
   found_there : (k : ℕ) (t : Triangle) (e : Edge) → slice_get ts k ≡ Some t → HasEdge t e → triangle_at ts e ≡ Some k
-  found_there k t e is has = elim (same_or j.0 k) as (λ _. triangle_at ts e ≡ Some k) [
+  found_there k t e is has = elim (same_or_not j.0 k) as (λ _. triangle_at ts e ≡ Some k) [
     | inl q ↦ j.1 ∙ ap Some q
-    | inr n ↦ (let f = found_here ts e j.0 j.1 in absurd (good.plain.once j.0 k f.0 t e n f.1 is f.2 has))
+    | inr n ↦ (let f = found_at ts e j.0 j.1 in absurd (good.plain.once j.0 k f.0 t e n f.1 is f.2 has))
   ]
     where
       j : (j : ℕ) × (triangle_at ts e ≡ Some j)
@@ -74,21 +60,21 @@ module _ (m : Map) (ts : List Triangle) (ls : List (Option ℕ)) (good : IsGoodM
   at_corner : (k c d : ℕ) → c ≡ d → ◌≡◌ {A = Option ℕ} (Some (k * 3 + c)) (Some (k * 3 + d))
   at_corner k c d e = ap (λ (n : ℕ). let o : Option ℕ = Some (k * 3 + n) in o) e
 
-  -- each number of the three of a triangle is that of an edge
+  -- each number of the below_same_or_above of a triangle is that of an edge
   number_there : (k c : ℕ) (t : Triangle) → slice_get ts k ≡ Some t → c < 3 → (e : Edge) × (number_of ts e ≡ Some (k * 3 + c))
-  number_there k zero t is l = (edge t.p t.q, number_at ts (edge t.p t.q) k t (found_there k t (edge t.p t.q) is (first_edge t)) is ∙ at_corner k (corner_of (edge t.p t.q) t) 0 (ap (λ (b : Bool). let n : ℕ = if b then 0 else (if t.q == t.p then 1 else 2) in n) (same_number t.p t.p refl)))
-  number_there k (suc zero) t is l = (edge t.q t.r, number_at ts (edge t.q t.r) k t (found_there k t (edge t.q t.r) is (second_edge t)) is ∙ at_corner k (corner_of (edge t.q t.r) t) 1 (ap (λ (b : Bool). let n : ℕ = if b then 0 else (if t.q == t.q then 1 else 2) in n) (other_number t.p t.q (λ e. let n = (good.plain.triangles.each k t is).least in omega (arith, n, e))) ∙ ap (λ (b : Bool). let n : ℕ = if b then 1 else 2 in n) (same_number t.q t.q refl)))
-  number_there k (suc (suc zero)) t is l = (edge t.r t.p, number_at ts (edge t.r t.p) k t (found_there k t (edge t.r t.p) is (third_edge t)) is ∙ at_corner k (corner_of (edge t.r t.p) t) 2 (ap (λ (b : Bool). let n : ℕ = if b then 0 else (if t.q == t.r then 1 else 2) in n) (other_number t.p t.r (λ e. let n = (good.plain.triangles.each k t is).least_too in omega (arith, n, e))) ∙ ap (λ (b : Bool). let n : ℕ = if b then 1 else 2 in n) (other_number t.q t.r (good.plain.triangles.each k t is).differ)))
+  number_there k zero t is l = (edge t.p t.q, number_at ts (edge t.p t.q) k t (found_there k t (edge t.p t.q) is (edge_pq t)) is ∙ at_corner k (corner_of (edge t.p t.q) t) 0 (ap (λ (b : Bool). let n : ℕ = if b then 0 else (if t.q == t.p then 1 else 2) in n) (tells_same t.p t.p refl)))
+  number_there k (suc zero) t is l = (edge t.q t.r, number_at ts (edge t.q t.r) k t (found_there k t (edge t.q t.r) is (edge_qr t)) is ∙ at_corner k (corner_of (edge t.q t.r) t) 1 (ap (λ (b : Bool). let n : ℕ = if b then 0 else (if t.q == t.q then 1 else 2) in n) (tells_other t.p t.q (λ e. let n = (good.plain.triangles.each k t is).least in omega (arith, n, e))) ∙ ap (λ (b : Bool). let n : ℕ = if b then 1 else 2 in n) (tells_same t.q t.q refl)))
+  number_there k (suc (suc zero)) t is l = (edge t.r t.p, number_at ts (edge t.r t.p) k t (found_there k t (edge t.r t.p) is (edge_rp t)) is ∙ at_corner k (corner_of (edge t.r t.p) t) 2 (ap (λ (b : Bool). let n : ℕ = if b then 0 else (if t.q == t.r then 1 else 2) in n) (tells_other t.p t.r (λ e. let n = (good.plain.triangles.each k t is).least_too in omega (arith, n, e))) ∙ ap (λ (b : Bool). let n : ℕ = if b then 1 else 2 in n) (tells_other t.q t.r (good.plain.triangles.each k t is).differ)))
   number_there k (suc (suc (suc c))) t is l = absurd (omega (arith, l))
 
-  -- a number below three times the triangles, by its triangle and its corner
+  -- a number below below_same_or_above times the triangles, by its triangle and its corner
   parts_of : (i n : ℕ) → i < n * 3 → (k : ℕ) × (c : ℕ) × (k < n) × (c < 3) × (i ≡ k * 3 + c)
   parts_of i n l = (i / 3, i % 3, omega arith, omega arith, omega arith)
 
   edge_of_number : (i : ℕ) → i < length ts * 3 → (e : Edge) × (number_of ts e ≡ Some i)
   edge_of_number i l =
       let p = parts_of i (length ts) l in
-      let t = item_at ts p.0 p.2 in
+      let t = get_there ts p.0 p.2 in
       let q = number_there p.0 p.1 t.0 t.1 p.3 in
       (q.0, q.1 ∙ ap (λ (n : ℕ). let o : Option ℕ = Some n in o) (sym p.4))
 
@@ -290,7 +276,7 @@ module _ (xs : List HalfEdge) (source : ℕ) where
       (λ n e. f.wrong n (sym (get_take ns j k l) ∙ e))
 
   one_first_wrong : (ps : List Pending) (ns : List Node) (j k : ℕ) → IsFirstWrong xs source ps ns j → IsFirstWrong xs source ps ns k → j ≡ k
-  one_first_wrong ps ns j k f g = by (three j k)
+  one_first_wrong ps ns j k f g = by (below_same_or_above j k)
     where
       by : (j < k) ⊎ (j ≡ k) ⊎ (k < j) → j ≡ k
       by (inl l) = absurd (no_later ps ns j k l f g)
@@ -300,7 +286,7 @@ module _ (xs : List HalfEdge) (source : ℕ) where
 module _ (m : Map) (c : CertParts) (good : IsGoodMesh m (triangles_of c) (labels_of c)) where
   -- the first tree that isn't whole is one, and so is its first wrong node
   pub one_wrong_tree : (s k t j : ℕ) → IsFirstTreeNotWhole m c s k → IsFirstTreeNotWhole m c t j → (s ≡ t) × (k ≡ j)
-  one_wrong_tree s k t j f g = by (three f.place g.place)
+  one_wrong_tree s k t j f g = by (below_same_or_above f.place g.place)
     where
       edges : map plain g.edges ≡ map plain f.edges
       edges = one_list m (triangles_of c) (labels_of c) good g.plan f.plan g.of_map f.of_map g.edges f.edges g.are_edges f.are_edges

@@ -24,11 +24,10 @@ use Rattle.tree_judge.specs.Roots.{way_out_of, root_edge}
 use Rattle.tree_judge.specs.Path.{Pending, pending_way, root_pending, list_of}
 use Rattle.tree_judge.specs.Whole.{ends_through, ways_through, Answers, AreAnswered}
 use Rattle.tree_judge.proofs.Meshed.{AreAllNamed, Enters, IsInner, IsAsked, asked, not_asked, no_node_unasked, node_asked, left_inner, right_inner, passable}
-use Rattle.tree_judge.proofs.Chains.{root_test}
-
-last_is : (q : Portal) (ps : List Portal) (o : Option Portal) → last_or o (ps ++ q ∷ []) ≡ Some q
-last_is q [] o = refl
-last_is q (p ∷ ps) o = last_is q ps (Some p)
+use Rattle.list_base.proofs.Options.{one_value, some_is_same}
+use Rattle.list_base.proofs.Bools.{first_is_not}
+use Rattle.list_base.proofs.Lists.{last_pushed}
+use Rattle.sight_names.proofs.Roots.{root_test}
 
 nothing_left : (p : Pending) (ps : List Pending) → ◌≡◌ {A = List Pending} [] (p ∷ ps) → ⊥
 nothing_left p ps e = cc
@@ -38,9 +37,6 @@ first_same p q ps qs e = cc
 
 rest_same : (p q : Pending) (ps qs : List Pending) → p ∷ ps ≡ q ∷ qs → ps ≡ qs
 rest_same p q ps qs e = cc
-
-one_same : (x y : HalfEdge) → ◌≡◌ {A = Option HalfEdge} (Some x) (Some y) → x ≡ y
-one_same x y e = cc
 
 module _ (p : PlanParts) (ts : List Triangle) (xs : List HalfEdge) (w : AreOfGoodMesh p ts xs) (named : AreAllNamed ts w.labels) (a : ℕ) where
   -- the sectors of the triangles
@@ -77,7 +73,7 @@ module _ (p : PlanParts) (ts : List Triangle) (xs : List HalfEdge) (w : AreOfGoo
   through front q i x e f = (λ j. end_points (map_of p) front ++ record { left = e j; right = f j } ∷ []) ∙ sym (sequence_ends front q)
 
   has_node : (front : List Portal) (q : Portal) (i : ℕ) (n : IsAsked p ts xs w a q i) → HasNode (map_of p) ts ls a (front ++ q ∷ []) q n.enters.k
-  has_node front q i n = record { last = last_is q front None; no_wall = n.no_wall; entered = n.enters.found; outside = λ e. n.outside (sym n.enters.label ∙ e) }
+  has_node front q i n = record { last = last_pushed q front None; no_wall = n.no_wall; entered = n.enters.found; outside = λ e. n.outside (sym n.enters.label ∙ e) }
 
   apex_is : (q : Portal) (i : ℕ) (n : Enters p ts ls xs q i) → apex ts q ≡ Some n.x.apex
   apex_is q i n = ap (option_map (third_point (entry_edge q))) (ap (option_and_then (slice_get ts)) n.found ∙ n.there) ∙ ap Some n.third
@@ -114,7 +110,7 @@ module _ (p : PlanParts) (ts : List Triangle) (xs : List HalfEdge) (w : AreOfGoo
     onward = front ++ q ∷ []
 
     same_half_edge : (r : Pending) (x : HalfEdge) → r ≡ this → slice_get xs r.edge ≡ Some x → x ≡ through_it.x
-    same_half_edge r x e f = one_same x through_it.x (sym f ∙ ap (λ (s : Pending). slice_get xs s.edge) e ∙ through_it.is)
+    same_half_edge r x e f = some_is_same x through_it.x (sym f ∙ ap (λ (s : Pending). slice_get xs s.edge) e ∙ through_it.is)
 
     closed : (e : Evidence) (ns : List Node) (sectors : List ℕ) → AreAnswered xs a (this ∷ rest) (Blocked e ∷ ns) [] sectors → Splits front q rest (Blocked e ∷ ns) sectors
     closed e ns sectors (rs, here, more, (r, others, x, first, is, blocks, g, h), behind, parts) = record {
@@ -200,7 +196,7 @@ module _ (p : PlanParts) (ts : List Triangle) (xs : List HalfEdge) (w : AreOfGoo
       moved o e = subst (λ (u : Option ℕ). AreAnswered xs a (pending_way (end_points (map_of p) front) u ++ rest) ns [] sectors) e answered
 
       by : (o : Option ℕ) → the_way q ≡ o → Splits front q rest ns sectors
-      by None e = record { here = []; back = ns; opened = []; reached = []; others = sectors; nodes = refl; parts = refl; marked = refl; answers = no_node q (last_is q front None) (not_asked p ts xs w a q inner e) refl refl; behind = moved None e }
+      by None e = record { here = []; back = ns; opened = []; reached = []; others = sectors; nodes = refl; parts = refl; marked = refl; answers = no_node q (last_pushed q front None) (not_asked p ts xs w a q inner e) refl refl; behind = moved None e }
       by (Some i) e = f i (asked p ts xs w a q i e) (moved (Some i) e)
 
   subtree : (n : ℕ) → SplitsAll n
@@ -221,16 +217,12 @@ module _ (p : PlanParts) (ts : List Triangle) (xs : List HalfEdge) (w : AreOfGoo
       none : line_at (map_of p) s.line ≡ None → is_root (map_of p) a s ≡ false
       none e = rw e refl
 
-      solid : (b c d : Bool) → (not b && c && d) ≡ true → b ≡ false
-      solid true c d e = absurd (not_true e)
-      solid false c d e = refl
-
       at : (o : Option MapLine) → line_at (map_of p) s.line ≡ o → (q : Portal) × (root_portal (map_of p) s ≡ Some q) × IsInner p ts xs w q
       at None e = absurd (not_true (sym (none e) ∙ root))
       at (Some l) e = (
         record { left = (side_edge (map_of p) l (not s.left)).from; right = (side_edge (map_of p) l (not s.left)).to },
         ap (option_map (λ (x : MapLine). let q : Portal = record { left = (side_edge (map_of p) x (not s.left)).from; right = (side_edge (map_of p) x (not s.left)).to } in q)) e,
-        inr (passable p ts xs w s.line l (not s.left) e (solid l.solid (names_it (sector_on l s.left) a) (not (names_it (sector_on l (not s.left)) a)) (sym (root_test (map_of p) a s l e) ∙ root))),
+        inr (passable p ts xs w s.line l (not s.left) e (first_is_not l.solid (names_it (sector_on l s.left) a) (not (names_it (sector_on l (not s.left)) a)) (sym (root_test (map_of p) a s l e) ∙ root))),
       )
 
   no_answer : (n : Node) (rs : List Pending) (here : List ℕ) → Answers xs a [] n rs here → ⊥
@@ -290,7 +282,7 @@ module _ (p : PlanParts) (ts : List Triangle) (xs : List HalfEdge) (w : AreOfGoo
   asked_at front i = record { path = end_points (map_of p) front; edge = i }
 
   last_same : (ps front : List Portal) (r q : Portal) → ps ≡ front ++ q ∷ [] → last_or None ps ≡ Some r → r ≡ q
-  last_same ps front r q e f = same (sym f ∙ ap (last_or None) e ∙ last_is q front None)
+  last_same ps front r q e f = same (sym f ∙ ap (last_or None) e ∙ last_pushed q front None)
     where
       same : ◌≡◌ {A = Option Portal} (Some r) (Some q) → r ≡ q
       same h = cc
@@ -355,9 +347,6 @@ module _ (p : PlanParts) (ts : List Triangle) (xs : List HalfEdge) (w : AreOfGoo
       (asks (front ++ q ∷ []) (way_out r Right t) ++ rest) (right ++ back) (via_right ++ others) behind_right in
       at_open front q k t rest here back left right opened others via_left via_right (subst (λ (us : List Portal). HasNode (map_of p) ts ls a us q k) same (subst (λ (s : Portal). HasNode (map_of p) ts ls a ps s k) is has)) (ap (apex ts) (sym is) ∙ third) e o
       (subst (λ (s : Portal). IsAnswered (asks (front ++ q ∷ []) (way_out s Left t) ++ (asks (front ++ q ∷ []) (way_out s Right t) ++ rest)) (left ++ (right ++ back)) (via_left ++ (via_right ++ others))) is behind_left)
-
-  same_portal : (o : Option Portal) (r q : Portal) → o ≡ Some r → o ≡ Some q → r ≡ q
-  same_portal o r q e f = cc
 
   all_roots : (ss : List Side) → AllByRecursion (λ s. IsTrue (is_root (map_of p) a s)) ss → (ns : List Node) (opened : List ℕ) → AnswersRoots (map_of p) ts ls a ss ns opened → IsAnswered (map root_pending (filter_map the_edge ss)) ns opened
   all_roots [] all ns opened (e, f) = subst (λ (ks : List ℕ). IsAnswered [] ns ks) (sym f) (subst (λ (ms : List Node). IsAnswered [] ms []) (sym e) ([], (refl, refl), refl))

@@ -12,12 +12,13 @@ use Rattle.sight_names.specs.Mesh.{IsTriangle, AreTriangles, HasEdge, triangle_a
 use Rattle.sight_names.proofs.PlanNumbers.{line_edge_of_plan}
 use Rattle.sight_laws.proofs.Plans.{line_below}
 use Rattle.mesh_shape.specs.Search.{IsEdgeOf}
-use Rattle.mesh_shape.proofs.RuleLemmas.{edge_cases, found_here, plan_line_at, no_line_there}
+use Rattle.mesh_shape.proofs.RuleLemmas.{edge_cases, plan_line_at, no_line_there}
 use Rattle.tri_sectors.specs.declared.faces.Walls.{Walls}
 use Rattle.tri_sectors.specs.Classes.{AreLeast, AreMerged, AreSingles, class_of}
 use Rattle.tri_sectors.specs.Faces.{edge_pq, edge_qr, edge_rp, HasMarks, AreMarked, AreWalls, IsWallBefore, IsMarkedMore, IsPutHere, IsPutAt, IsPut, IsFreeEdge, IsLink, HasGap, HasGapHere, IsRow, AreLinked, AreFaces, IsCrossed, AreCrossed, AreOpen}
 use Rattle.list_base.proofs.Numbers.{below_or_last}
 use Rattle.list_base.proofs.Options.{one_value}
+use Rattle.mesh_base.proofs.GoodMesh.{found_at}
 
 abbrev pub any_walls : Walls
 any_walls = record { pq = false; qr = false; rp = false }
@@ -25,7 +26,7 @@ any_walls = record { pq = false; qr = false; rp = false }
 -- ---- one edge marked
 
 pub triangle_below : (ts : List Triangle) (e : Edge) (j : ℕ) → triangle_at ts e ≡ Some j → j < length ts
-triangle_below ts e j h = let f = found_here ts e j h in slice_get_within ts j f.0 f.1
+triangle_below ts e j h = let f = found_at ts e j h in slice_get_within ts j f.0 f.1
 
 put_nothing : (b : Bool) (ts : List Triangle) (e f : Edge) (k : ℕ) → ¬ (triangle_at ts e ≡ Some k) → IsTrue b ↔ IsPutHere ts e k b f
 put_nothing b ts e f k n = (λ h. inl h, λ w. elim w as (λ _. IsTrue b) [ inl h ↦ h | inr h ↦ absurd (n h.1) ])
@@ -68,7 +69,7 @@ put_some n ts e k old t w d0 are at len there m = record {
     any d = get_or_from_slice_get old k (slice_index_or old k d) d0 (slice_get-get_or old k d lt)
 
     has : HasEdge t e
-    has = let f = found_here ts e k at in subst (λ (x : Triangle). HasEdge x e) (same_Some f.0 t (sym f.1 ∙ there)) f.2
+    has = let f = found_at ts e k at in subst (λ (x : Triangle). HasEdge x e) (same_Some f.0 t (sym f.1 ∙ there)) f.2
 
     here_put : (v : Walls) → IsMarkedMore t e.from v w → IsPutAt ts e k t v w
     here_put v m = let s = starts t e n (are.each k t there) has in record {

@@ -21,7 +21,7 @@ use Rattle.geom_exact.proofs.Uniqueness.{same_trans}
 use Rattle.exact_ring.proofs.Small.{same_where_no_difference, some_square}
 use Rattle.mesh_base.proofs.MakeNet.{crossing, apart_of}
 use Rattle.sight_names.proofs.Meets.{same_whole}
-use Rattle.sight_names.proofs.Records.{pt_of_numbers}
+use Rattle.sight_names.proofs.Records.{pt_of_numbers, whole_same}
 use Rattle.sight_names.proofs.Laws.{same_point_sym}
 
 abbrev pub at_pt : Pt → V
@@ -60,10 +60,6 @@ same_of_at p r h = record {
   x = same_along h.n h.k r.x p.x (pos r.d) h.comb.scale h.comb.x h.comb.d;
   y = same_along h.n h.k r.y p.y (pos r.d) h.comb.scale h.comb.y h.comb.d;
 }
-
--- two whole points that are one point are equal
-pub whole_same : (p q : Pt) → SamePoint (point_of p) (point_of q) → p ≡ q
-whole_same p q h = pt_of_numbers p.x p.y q.x q.y (let e = h.x in omega (arith, ints)) (let e = h.y in omega (arith, ints))
 
 -- ---- two whole points that differ
 

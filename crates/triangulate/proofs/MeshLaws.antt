@@ -15,11 +15,12 @@ use Rattle.mesh_base.proofs.Net.{Pair, Net}
 use Rattle.mesh_base.proofs.MeshRules.{MeshTri, one_each_edge}
 use Rattle.mesh_base.proofs.FirstSpoke.{fills}
 use Rattle.mesh_base.proofs.GoodMesh.{PointFacts, pv}
-use Rattle.mesh_shape.proofs.RuleLemmas.{edge_cases, first_edge, second_edge, third_edge, moved_ends}
+use Rattle.mesh_shape.proofs.RuleLemmas.{edge_cases, moved_ends}
 use Rattle.mesh_shape.specs.Fills.{FillsHull, FillsSides}
 use Rattle.triangulate.proofs.GreedyNet.{numbers, in_numbers, number_below, both, kept_of, in_kept, kept_back, kept_meet, each_line_kept, greedy_maximal, greedy_net}
 use Rattle.list_base.proofs.Numbers.{below_same_or_above}
 use Rattle.sight_names.proofs.OneMesh.{above_irreflexive}
+use Rattle.mesh_base.proofs.CleanMesh.{edge_rp, edge_qr, edge_pq}
 
 -- ---- turning a triangle
 
@@ -135,9 +136,9 @@ module _ (m : Map) (f : PointFacts m) (ends : LinesMeetAtEnds m) (kept : List Ed
       let t2 = turned_tri (pv m) (numbers n) (both kept) net a b c t in
       let t3 = turned_tri (pv m) (numbers n) (both kept) net b c a t2 in
       elim (least a b c nab nbc nac) as (λ _. (t : Triangle) × IsMeshTriangle m kept t × HasEdge t (record { from = a; to = b })) [
-        | inl h ↦ let u : Triangle = record { p = a; q = b; r = c } in (u, mesh_tri u (record { least = h.0; least_too = h.1; differ = nbc; second = ib; third = ic }) t, first_edge u)
-        | inr (inl h) ↦ let u : Triangle = record { p = b; q = c; r = a } in (u, mesh_tri u (record { least = h.0; least_too = h.1; differ = λ e. nac (sym e); second = ic; third = ia }) t2, third_edge u)
-        | inr (inr h) ↦ let u : Triangle = record { p = c; q = a; r = b } in (u, mesh_tri u (record { least = h.0; least_too = h.1; differ = nab; second = ia; third = ib }) t3, second_edge u)
+        | inl h ↦ let u : Triangle = record { p = a; q = b; r = c } in (u, mesh_tri u (record { least = h.0; least_too = h.1; differ = nbc; second = ib; third = ic }) t, edge_pq u)
+        | inr (inl h) ↦ let u : Triangle = record { p = b; q = c; r = a } in (u, mesh_tri u (record { least = h.0; least_too = h.1; differ = λ e. nac (sym e); second = ic; third = ia }) t2, edge_rp u)
+        | inr (inr h) ↦ let u : Triangle = record { p = c; q = a; r = b } in (u, mesh_tri u (record { least = h.0; least_too = h.1; differ = nab; second = ia; third = ib }) t3, edge_qr u)
       ]
     where
       least : (a b c : ℕ) → ¬ (a ≡ b) → ¬ (b ≡ c) → ¬ (a ≡ c) → ((a < b) × (a < c)) ⊎ (((b < c) × (b < a)) ⊎ ((c < a) × (c < b)))
