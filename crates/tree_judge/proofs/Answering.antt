@@ -11,8 +11,8 @@ use Rattle.tree_judge.specs.declared.roots.Root.{Root}
 use Rattle.tree_judge.specs.declared.trees.Frame.{Frame}
 use Rattle.tree_judge.specs.declared.trees.Follow.{Follow}
 use Rattle.tree_judge.specs.Path.{path_ends, Pending, pending_way, IsChain, root_pending, all_pending}
-use Rattle.tree_judge.specs.Whole.{Answers, AreAnswered, IsFirstWrong, Notes, IsAt, HasAnswered, HasRefused, StandsBefore}
-use Rattle.tree_judge.proofs.Noting.{notes_none, notes_more}
+use Rattle.tree_judge.specs.Whole.{Answers, AreAnswered, IsFirstWrong, Notes, IsAt, HasAnswered, HasRefused}
+use Rattle.tree_judge.proofs.Noting.{notes_more}
 
 -- one more node answers
 answered_more : (xs : List HalfEdge) (source : ℕ) (ns : List Node) (n : Node) (ps qs rs : List Pending) (here more : List ℕ) → AreAnswered xs source ps ns qs here → Answers xs source qs n rs more → AreAnswered xs source ps (ns ++ n ∷ []) rs (here ++ more)

@@ -1,7 +1,5 @@
 -- What is asked behind a half-edge: its left way, its right way, and then what was still to be asked.
 use Rattle.std.proofs.Common.{◌≡◌, ℕ, ◌+◌, ◌<◌, List, [], ◌++◌, Option, Some, None, length, get_or, map, set, take, refl, sym, ◌∙◌, ap, arith}
-use Rattle.std.specs.Prelude.{IfSome}
-use Rattle.std.proofs.Common.{subst}
 use Rattle.std.proofs.Common.{get_or-set_same}
 use Rattle.std.proofs.lemmas.List.{append_assoc, take-set, length-set}
 use Rattle.sight_names.specs.Splitting.{EndPoints}

@@ -1,14 +1,14 @@
 -- Half-edges of a good mesh: what is behind the portal of a sequence, and behind its two ways out.
-use Rattle.std.proofs.Common.{◌≡◌, ◌≢◌, ℕ, ◌⊎◌, inl, inr, List, Option, Some, None, length, Bool, true, false, not, IsTrue, refl, sym, ◌∙◌, ap, subst, if◌then◌else◌, eqb-true, eq-eqb}
+use Rattle.std.proofs.Common.{◌≡◌, ◌≢◌, ℕ, ◌⊎◌, inl, inr, List, Option, Some, None, Bool, true, false, not, IsTrue, refl, sym, ◌∙◌, ap, subst, if◌then◌else◌, eqb-true, eq-eqb}
 use Rattle.std.specs.List.{slice_get}
 use Rattle.std.specs.Prelude.{option_and_then, option_map}
 use Rattle.std.proofs.lemmas.Bool.{true≢false}
 use Rattle.std.proofs.lemmas.Option.{none-some, same_Some}
 use Rattle.sight_names.specs.declared.names.Triangle.{Triangle}
 use Rattle.sight_names.specs.Plan.{PlanParts}
-use Rattle.sight_names.specs.Points.{Edge, place, reverse_of, points_of}
+use Rattle.sight_names.specs.Points.{Edge, place, reverse_of}
 use Rattle.sight_names.specs.Map.{MapLine, map_of, line_at, sector_on, IsMapLine}
-use Rattle.sight_names.specs.Mesh.{triangle_at, label_of, side_edge, HasEdge, AreTriangles, IsLineEdge}
+use Rattle.sight_names.specs.Mesh.{triangle_at, label_of, side_edge, HasEdge, IsLineEdge}
 use Rattle.sight_names.specs.Sequence.{Portal, Left, Right, entry_edge, way_out, third_point, names_it, IsSolidLine}
 use Rattle.sight_names.proofs.PlanMap.{plan_is_map}
 use Rattle.mesh_base.proofs.PlanFacts.{plan_facts}
