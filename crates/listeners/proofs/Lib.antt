@@ -1,0 +1,3 @@
+mod Backwards
+mod Filling
+mod InTurn

@@ -1,0 +1,33 @@
+-- The findings of a map within a budget: each pair of sectors, and what is found of it.
+use Rattle.std.specs.Prelude.{◌≡◌, ℕ, ◌-◌, List, map, flat_map, All}
+use Rattle.std.specs.List.{range_with_len}
+use Rattle.sight_names.specs.declared.names.Budget.{Budget}
+use Rattle.sight_names.specs.declared.names.Pair.{Pair}
+use Rattle.sight_names.specs.Found.{IsListed}
+use Rattle.sight_names.specs.Map.{Map}
+use Rattle.sight_names.specs.Sees.{Sees}
+use Rattle.listeners.specs.declared.finding.Finding.{Finding}
+use Rattle.listeners.specs.declared.finding.Kind.{Kind}
+use Rattle.listeners.specs.declared.finding.Kind.TheVariants as kind
+
+-- a pair is listed, or else it is clear where the two see each other, and set where they don't
+abbrev pub IsKindOf : Map → Budget → ℕ → ℕ → Kind → Type 0
+IsKindOf m budget a b kind.Listed = IsListed m budget a b
+IsKindOf m budget a b kind.Clear = ¬ IsListed m budget a b × Sees m a b
+IsKindOf m budget a b kind.Set = ¬ IsListed m budget a b × ¬ Sees m a b
+
+-- the pairs (a, b) of so many sectors with a <= b, for one a
+abbrev pub pairs_from : ℕ → ℕ → List Pair
+pairs_from n a = map (λ b. record { a = a; b = b }) (range_with_len a (n - a))
+
+-- .. and for all a, by a, then by b
+abbrev pub all_pairs : ℕ → List Pair
+all_pairs n = flat_map (pairs_from n) (range_with_len 0 n)
+
+abbrev pub pair_of : Finding → Pair
+pair_of f = record { a = f.a; b = f.b }
+
+-- one finding for each pair in order, and each of its kind
+pub record AreFindings (m : Map) (budget : Budget) (findings : List Finding) : Type 0 where
+  pub pairs : map pair_of findings ≡ all_pairs m.sectors
+  pub kinds : All (λ f. IsKindOf m budget f.a f.b f.kind) findings
