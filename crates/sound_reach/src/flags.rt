@@ -1,0 +1,54 @@
+//! The lines that block sound.
+
+ghost use Rattle.std.specs.Prelude.{◌≡◌, ◌+◌, ◌*◌, ◌/◌, ◌%◌, ◌<◌, ◌≤◌, ◌==◌, Bool, IfOk, IsTrue, length};
+ghost use Rattle.std.specs.Int.{bit_at};
+ghost use Rattle.sight_names.specs.Lumps.{u16_at};
+ghost use Rattle.sound_reach.specs.Dampers.{dampers_of, is_damper, record_len};
+
+use sight_names::Memory;
+use std::alloc::Global;
+
+/// Bytes of a LINEDEFS record of a Doom map.
+const DOOM_LEN: usize = 14;
+
+/// .. and of a Hexen-format map. In both the flags are the third number.
+const HEXEN_LEN: usize = 16;
+
+/// The flag of a line that blocks sound.
+const BLOCKS_SOUND: u16 = 64;
+
+/// The unsigned number at this byte.
+fn number(bytes: &[u8], at: usize) -> u16
+    requires { at + 2 ≤ length bytes.now }
+    ensures { result ≡ u16_at bytes.now at }
+{
+    let two = &bytes[at..at + 2];
+    u16::from_le_bytes([two[0], two[1]])
+}
+
+/// Whether flags have the one that blocks sound.
+fn blocks_sound(flags: u16) -> bool
+    ensures { result ≡ (bit_at flags 6 == 1) }
+{
+    flags & BLOCKS_SOUND != 0
+}
+
+/// Bytes of a record.
+fn record_len_of(hexen: bool) -> usize
+    ensures { result ≡ record_len hexen }
+{
+    if hexen { HEXEN_LEN } else { DOOM_LEN }
+}
+
+/// For each record of LINEDEFS whether its line blocks sound.
+pub fn dampers(alloc: Global, linedefs: &[u8], hexen: bool) -> Result<Vec<bool>, Memory>
+    requires { length linedefs.now % record_len hexen ≡ 0 }
+    ensures { IfOk result (λ v. v.items ≡ dampers_of hexen linedefs.now) }
+{
+    let len = record_len_of(hexen);
+    let mut dampers = Vec::new(alloc);
+    for k in 0..linedefs.len() / len {
+        dampers.push(blocks_sound(number(linedefs, len * k + 4)))?;
+    }
+    Ok(dampers)
+}
