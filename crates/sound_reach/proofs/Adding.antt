@@ -1,17 +1,14 @@
 -- The doors of a map: gathered line by line, and found by their sectors.
-use Rattle.std.proofs.Common.{◌≡◌, ℕ, zero, suc, ◌+◌, ◌-◌, ◌<◌, ◌≤◌, ◌⊎◌, ◌↔◌, inl, inr, List, [], ◌∷◌, ◌++◌, length, slice_get, slice_index_or, get_or, take, drop, Option, Some, None, Bool, true, false, not, refl, sym, ap, ◌∙◌, subst, arith, Contains, map, option_map, option_and_then, IfSome, get_or-take, get_or-drop, length-take, length-drop, leb, ltb}
-use Rattle.std.specs.Prelude.{IsFalse}
-use Rattle.std.specs.List.{slice_range}
+use Rattle.std.proofs.Common.{◌≡◌, ℕ, zero, suc, ◌+◌, ◌-◌, ◌<◌, ◌≤◌, ◌⊎◌, ◌↔◌, inl, inr, List, [], ◌∷◌, ◌++◌, length, slice_get, slice_index_or, get_or, take, drop, Option, Some, None, Bool, true, false, not, refl, sym, ap, ◌∙◌, subst, arith, Contains, map, option_map, option_and_then, IfSome, get_or-take, get_or-drop, length-take, length-drop, ltb}
 use Rattle.std.proofs.lemmas.Bool.{ltb-true, ltb-false}
-use Rattle.std.proofs.lemmas.Option.{slice_get_within, slice_get-map, get_or_from_slice_get, same_Some}
+use Rattle.std.proofs.lemmas.Option.{slice_get_within, slice_get-map, get_or_from_slice_get}
 use Rattle.std.specs.List.Sorted.{IsPartitionPoint, IsPermutation}
 use Rattle.std.proofs.lemmas.List.Sorted.{Contains-permutation, IsPermutation-sym}
 use Rattle.sight_names.specs.declared.names.Pt.{Pt}
 use Rattle.sight_names.specs.declared.plan.Line.{Line}
 use Rattle.sight_names.specs.Plan.{PlanParts, IsPlan}
 use Rattle.sight_names.specs.Map.{MapLine, IsMapLine, line_at, looked_up, map_of, sector_on}
-use Rattle.sight_names.specs.Noise.{LeadsAcross, is_damped}
-use Rattle.sight_names.proofs.Lists.{get_of_contains, contains_of_get, contains_none}
+use Rattle.sight_names.proofs.Lists.{get_of_contains, contains_none}
 use Rattle.sight_names.proofs.PlanMap.{line_of_plan, plan_is_map}
 use Rattle.sound_reach.specs.declared.doors.Door.{Door}
 use Rattle.sound_reach.specs.Doors.{AreAdded, AreDoors, AreDoorsFrom, AreStarts, IsDoor, IsDoorOf, IsStart, sector_of}

@@ -9,7 +9,6 @@ use Rattle.sight_names.specs.declared.names.Side.{Side}
 use Rattle.sight_names.specs.Map.{Map}
 use Rattle.sight_names.specs.Noise.{AreHeardCounts, Heard, LeadThrough, is_damped}
 use Rattle.sound_reach.specs.declared.doors.Door.{Door}
-use Rattle.sound_reach.specs.declared.state.State.{State}
 use Rattle.sound_reach.specs.Doors.{AreDoors}
 use Rattle.sound_reach.specs.Routes.{AreDistances, distance_at}
 use Rattle.sound_reach.specs.Counts.{AreFilled, AreRows, IsRow, is_near, row_at}

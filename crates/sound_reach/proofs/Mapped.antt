@@ -1,16 +1,15 @@
 -- Routes through the doors of a map are its noise paths.
-use Rattle.std.proofs.Common.{◌≡◌, ℕ, zero, suc, ◌+◌, ◌<◌, ◌≤◌, ◌⊎◌, inl, inr, List, [], ◌∷◌, ◌++◌, length, Option, Some, None, Bool, true, false, not, ◌&&◌, cond, refl, sym, ap, ◌∙◌, subst, arith, Contains}
-use Rattle.std.specs.Prelude.{IsFalse}
+use Rattle.std.proofs.Common.{◌≡◌, ℕ, ◌+◌, ◌≤◌, inl, inr, List, [], ◌∷◌, ◌++◌, length, Option, Some, None, Bool, true, false, not, ◌&&◌, cond, refl, sym, ap, ◌∙◌, subst, arith}
 use Rattle.std.specs.List.{count_by}
 use Rattle.std.proofs.lemmas.List.Sums.{sum_by-cons, sum_by-append}
 use Rattle.std.proofs.lemmas.Option.{same_Some}
 use Rattle.sight_names.specs.declared.names.Side.{Side}
-use Rattle.sight_names.specs.Map.{Map, MapLine, line_at, sector_on}
+use Rattle.sight_names.specs.Map.{Map, MapLine, sector_on}
 use Rattle.sight_names.specs.Noise.{Heard, IsFirstNoisePath, IsNoisePath, LeadsAcross, LeadThrough, is_damped}
 use Rattle.sound_reach.specs.declared.doors.Door.{Door}
 use Rattle.sound_reach.specs.declared.state.State.{State}
 use Rattle.sound_reach.specs.State.{after_of}
-use Rattle.sound_reach.specs.Doors.{AreDoors, IsDoor, IsNet, turned, turned_side}
+use Rattle.sound_reach.specs.Doors.{AreDoors, IsNet, turned, turned_side}
 use Rattle.sound_reach.specs.Routes.{AreDistances, IsRoute, IsStep, distance_at}
 use Rattle.sound_reach.specs.Steps.{IsFirst}
 use Rattle.sound_reach.proofs.Lookups.{none_some, same_or_not}

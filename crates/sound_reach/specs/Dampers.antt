@@ -1,6 +1,6 @@
 -- The lines that block sound: flag 64 of a LINEDEFS record, whose flags are its third number (the Unofficial Doom Specs and
 -- the Official Hexen Technical Specs on LINEDEFS).
-use Rattle.std.specs.Prelude.{ℕ, ◌+◌, ◌*◌, ◌/◌, ◌==◌, Bool, true, false, List, length, map, if◌then◌else◌}
+use Rattle.std.specs.Prelude.{ℕ, ◌+◌, ◌*◌, ◌/◌, ◌==◌, Bool, List, length, map, if◌then◌else◌}
 use Rattle.std.specs.Int.{bit_at}
 use Rattle.std.specs.List.{range_with_len}
 use Rattle.sight_names.specs.Lumps.{u16_at}

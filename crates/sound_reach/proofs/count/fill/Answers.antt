@@ -1,4 +1,4 @@
-use Rattle.std.proofs.Common.{◌≡◌, ◌+◌, ◌-◌, ◌<◌, true, false, cond, sym, ◌∙◌, refl, arith}
+use Rattle.std.proofs.Common.{◌≡◌, ◌+◌, ◌-◌, ◌<◌, true, cond, sym, ◌∙◌, refl, arith}
 use Rattle.sound_reach.specs.Counts.{is_near}
 use Rattle.sound_reach.proofs.Heards.{filling_far, filling_near, none_more, one_more}
 use Rattle.sound_reach.proofs.count.fill.Goals as goal

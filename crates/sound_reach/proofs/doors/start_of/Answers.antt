@@ -1,4 +1,4 @@
-use Rattle.std.proofs.Common.{ltb, rules, arith, ◌≤◌, length}
+use Rattle.std.proofs.Common.{ltb, rules}
 use Rattle.std.proofs.lemmas.List.Sorted.{IsPartitionPoint-from_clause, IsPartitionedBy-ltb}
 use Rattle.sound_reach.specs.declared.doors.Door.{Door}
 use Rattle.sound_reach.proofs.Adding.{start_at}

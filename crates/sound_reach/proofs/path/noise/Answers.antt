@@ -1,4 +1,4 @@
-use Rattle.std.proofs.Common.{◌≡◌, ℕ, ◌<◌, true, sym, ◌∙◌, subst}
+use Rattle.std.proofs.Common.{ℕ, ◌<◌, true, sym, ◌∙◌, subst}
 use Rattle.sight_names.specs.Map.{map_of}
 use Rattle.sound_reach.proofs.Lookups.{distance_read}
 use Rattle.sound_reach.proofs.Mapped.{first_noise, not_heard}

@@ -1,4 +1,4 @@
-use Rattle.std.proofs.Common.{◌≡◌, ℕ, ◌+◌, ◌-◌, ◌*◌, ◌<◌, List, length, sym, ap, ◌∙◌, subst, arith}
+use Rattle.std.proofs.Common.{◌+◌, ◌-◌, List, sym, subst, arith}
 use Rattle.sight_names.specs.declared.names.Side.{Side}
 use Rattle.sound_reach.proofs.Lookups.{place_below, place_in}
 use Rattle.sound_reach.proofs.Firsts.{IsOnWay, way_begun, way_done, way_on, way_stuck}

@@ -1,4 +1,4 @@
-use Rattle.std.proofs.Common.{ℕ, ◌<◌, List, sym, ap, subst}
+use Rattle.std.proofs.Common.{◌<◌, List, sym, subst}
 use Rattle.sight_names.specs.Map.{map_of}
 use Rattle.sight_names.specs.Plan.{PlanParts, IsPlan}
 use Rattle.sound_reach.specs.declared.doors.Door.{Door}

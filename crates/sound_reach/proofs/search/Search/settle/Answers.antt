@@ -1,8 +1,7 @@
-use Rattle.std.proofs.Common.{◌≡◌, ℕ, ◌+◌, ◌<◌, ◌*◌, List, Option, get_or, slice_get, Some, sym, ap, ◌∙◌, refl, subst, length, arith}
+use Rattle.std.proofs.Common.{◌≡◌, ℕ, ◌+◌, ◌<◌, ◌*◌, get_or, slice_get, Some, sym, ap, ◌∙◌, refl, subst, arith}
 use Rattle.std.proofs.lemmas.Option.{slice_get-get_or}
 use Rattle.sound_reach.specs.declared.doors.Door.{Door}
 use Rattle.sound_reach.specs.declared.search.Search.{Search}
-use Rattle.sound_reach.specs.State.{place_of}
 use Rattle.sound_reach.proofs.Lookups.{any_door, below_place, contains_at, place_below, place_in}
 use Rattle.sound_reach.proofs.Searching.{IsSettling, all_settled, before_sector, settling_begun, settling_noted, settling_past}
 use Rattle.sound_reach.proofs.search.Search.settle.Goals as goal
