@@ -170,8 +170,8 @@ inside_mean n b p q r z i = combine2 (neg_ℤ n) (neg_ℤ (pos 1)) i.x i.y (insi
 inside_after : (n b : ℤ) (p q r z : Pt) → IsInside p q r z → pos 0 ≤ℤ lin n (pos 1) b p → pos 0 ≤ℤ lin n (pos 1) b q → pos 0 <ℤ lin n (pos 1) b r → lin n (pos 1) b z ≤ℤ pos 0 → ⊥
 inside_after n b p q r z i hp hq hr hz =
     let e = inside_mean n b p q r z i in
-    let a = mul-nonneg i.l (lin n (pos 1) b p) (nonpos_of_neg i.l i.first) hp in
-    let c = mul-nonneg i.m (lin n (pos 1) b q) (nonpos_of_neg i.m i.second) hq in
+    let a = mul-nonneg i.l (lin n (pos 1) b p) (nonneg_of_pos i.l i.first) hp in
+    let c = mul-nonneg i.m (lin n (pos 1) b q) (nonneg_of_pos i.m i.second) hq in
     let d = mul-pos i.n (lin n (pos 1) b r) i.third hr in
     let w = nonneg_sum i.l i.m i.n i.first i.second i.third in
     let g = mul-nonpos (i.l +ℤ i.m +ℤ i.n) (lin n (pos 1) b z) w hz in
@@ -182,9 +182,9 @@ inside_before n b p q r z i hp hq hr some hz =
     let e = inside_mean n b p q r z i in
     let w = nonneg_sum i.l i.m i.n i.first i.second i.third in
     let g = mul-nonneg (i.l +ℤ i.m +ℤ i.n) (lin n (pos 1) b z) w hz in
-    let a = mul-nonpos i.l (lin n (pos 1) b p) (nonpos_of_neg i.l i.first) hp in
-    let c = mul-nonpos i.m (lin n (pos 1) b q) (nonpos_of_neg i.m i.second) hq in
-    let d = mul-nonpos i.n (lin n (pos 1) b r) (nonpos_of_neg i.n i.third) hr in
+    let a = mul-nonpos i.l (lin n (pos 1) b p) (nonneg_of_pos i.l i.first) hp in
+    let c = mul-nonpos i.m (lin n (pos 1) b q) (nonneg_of_pos i.m i.second) hq in
+    let d = mul-nonpos i.n (lin n (pos 1) b r) (nonneg_of_pos i.n i.third) hr in
     go some e g a c d
   where
     go : (lin n (pos 1) b p <ℤ pos 0) ⊎ (lin n (pos 1) b q <ℤ pos 0) ⊎ (lin n (pos 1) b r <ℤ pos 0)

@@ -8,11 +8,12 @@ use Rattle.sight_names.specs.declared.names.Pt.{Pt}
 use Rattle.sight_names.specs.declared.plan.Line.{Line}
 use Rattle.sight_names.specs.Plan.{PlanParts, IsPlan}
 use Rattle.sight_names.specs.Map.{MapLine, IsMapLine, line_at, looked_up, map_of, sector_on}
-use Rattle.sight_names.proofs.Lists.{get_of_contains, contains_none}
+use Rattle.sight_names.proofs.Lists.{get_of_contains}
 use Rattle.sight_names.proofs.PlanMap.{line_of_plan, plan_is_map}
 use Rattle.sound_reach.specs.declared.doors.Door.{Door}
 use Rattle.sound_reach.specs.Doors.{AreAdded, AreDoors, AreDoorsFrom, AreStarts, IsDoor, IsDoorOf, IsStart, sector_of}
 use Rattle.sound_reach.proofs.Lookups.{get_push}
+use Rattle.list_base.proofs.Lists.{contains_none}
 
 -- ---- line by line
 
