@@ -1,7 +1,7 @@
 use Rattle.std.proofs.Common.{Bool, true, ◌+◌, ◌∙◌, subst}
 use Rattle.sight_workers.specs.Watches.{IsRound}
 use Rattle.sight_workers.proofs.Watches.{look_only_then, round_more}
-use Rattle.sight_workers.proofs.watch.has_all_mates.Goals as goal
+use Rattle.sight_workers.proofs.watch.first_unset.Goals as goal
 
 pub loop-b-preserved : goal.loop-b-preserved
 loop-b-preserved c =

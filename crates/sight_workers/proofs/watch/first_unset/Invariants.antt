@@ -2,7 +2,7 @@ use Rattle.std.proofs.Common.{◌≡◌, true}
 use Rattle.sight_workers.specs.Board.{task_of}
 use Rattle.sight_workers.specs.Seats.{IsSeatOf}
 use Rattle.sight_workers.specs.Watches.{IsLookOnly, IsRound}
-use Rattle.sight_workers.proofs.watch.has_all_mates.Given as goal
+use Rattle.sight_workers.proofs.watch.first_unset.Given as goal
 
 abbrev pub invariant-loop-b : goal.invariant-loop-b
 invariant-loop-b l = record {
