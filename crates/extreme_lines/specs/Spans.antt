@@ -15,6 +15,10 @@ use Rattle.extreme_lines.specs.declared.cone.Cone.TheVariants.{Ray, Open}
 abbrev pub arrow_of : Extreme → Arrow
 arrow_of e = difference e.left.at e.right.at
 
+-- twice the signed area of the triangle of the right end, the left end and the point
+abbrev pub form_at : Extreme → Pt → ℤ
+form_at e p = cross (arrow_of e) (difference p e.right.at)
+
 abbrev pub pair_of : Extreme → EndPair
 pair_of e = record { left = e.left; right = e.right }
 

@@ -10,6 +10,7 @@ ghost use Rattle.extreme_lines.specs.Spans.{arrow_of, Spans, first_of, second_of
 use crate::cut::{Cut, middle_cut, ray_cut};
 use crate::extreme::Extreme;
 use crate::wedge::Wedge;
+use crate::widen::{widen_first, widen_second};
 use sight_names::{EndAt, EndPair, Pt};
 
 /// The extreme ones of some lines from right ends to left ends, of equal directions the shortest.
@@ -171,48 +172,16 @@ fn wedge_with(wedge: &Wedge, left: EndAt, right: EndAt) -> Option<Cone>
 {
     let past_first = wedge.first.turn(left.at, right.at);
     let past_second = wedge.second.turn(left.at, right.at);
+    let mut wide = *wedge;
     if past_first > 0 {
-        if past_second < 0 {
-            return Some(Cone::Open(*wedge));
-        }
-        return Some(second_passed(wedge, left, right));
+        let _is_second = widen_second(&mut wide, left, right, past_second);
+        return Some(Cone::Open(wide));
     }
     if past_second < 0 {
-        return Some(first_passed(wedge, left, right));
+        let _is_first = widen_first(&mut wide, left, right, past_first);
+        return Some(Cone::Open(wide));
     }
     None
-}
-
-/// The wedge for a line that isn't strictly within its first one.
-fn first_passed(wedge: &Wedge, left: EndAt, right: EndAt) -> Cone
-    requires outside { cross (arrow_of wedge.now.first) (difference left.at right.at) ≤ℤ pos 0 }
-    requires within { cross (arrow_of wedge.now.second) (difference left.at right.at) <ℤ pos 0 }
-    ensures { IsWidened (Cone.Open wedge.now) left right result }
-{
-    if wedge.first.reaches(left.at, right.at) {
-        return Cone::Open(*wedge);
-    }
-    let first = Extreme::through(left, right);
-    Cone::Open(Wedge {
-        first,
-        second: wedge.second,
-    })
-}
-
-/// The wedge for a line that isn't strictly within its second one.
-fn second_passed(wedge: &Wedge, left: EndAt, right: EndAt) -> Cone
-    requires outside { pos 0 ≤ℤ cross (arrow_of wedge.now.second) (difference left.at right.at) }
-    requires within { pos 0 <ℤ cross (arrow_of wedge.now.first) (difference left.at right.at) }
-    ensures { IsWidened (Cone.Open wedge.now) left right result }
-{
-    if wedge.second.reaches(left.at, right.at) {
-        return Cone::Open(*wedge);
-    }
-    let second = Extreme::through(left, right);
-    Cone::Open(Wedge {
-        first: wedge.first,
-        second,
-    })
 }
 
 fn wedge_cut(wedge: &Wedge) -> Cut

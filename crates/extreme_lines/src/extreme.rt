@@ -1,8 +1,7 @@
 //! The line from a right end to a left end.
 
-ghost use Rattle.std.specs.Prelude.{◌≡◌, ◌≢◌, ◌-ℤ◌, ◌+ℤ◌, ◌*ℤ◌, ◌<ℤ◌, ◌≤ℤ◌, pos, ◌≤◌, ◌*◌, ◌^◌, nat_abs};
-ghost use Rattle.std.specs.Bool.{OnTrue, OnFalse};
-ghost use Rattle.splitting_base.specs.Arrows.{cross, dot, IsOnRay};
+ghost use Rattle.std.specs.Prelude.{◌≡◌, ◌-ℤ◌, ◌+ℤ◌, ◌*ℤ◌, ◌<ℤ◌, pos, ◌≤◌, ◌*◌, nat_abs};
+ghost use Rattle.splitting_base.specs.Arrows.{cross, dot};
 ghost use Rattle.extreme_lines.specs.Differences.{difference};
 
 use crate::arith::{less, level, minus, times};
@@ -76,16 +75,5 @@ impl Extreme {
         ensures bound { nat_abs result ≤ 2 * (65535 * 65535) }
     {
         self.product(self.left.at, self.right.at)
-    }
-
-    /// Whether the difference of the two ends has its own direction and isn't shorter than its own.
-    pub fn reaches(&self, left: Pt, right: Pt) -> bool
-        ensures yes { OnTrue result (IsOnRay (difference self.now.left.at self.now.right.at) (difference left right)) }
-        ensures no { OnFalse result (cross (difference self.now.left.at self.now.right.at) (difference left right) ≡ pos 0 → dot (difference self.now.left.at self.now.right.at) (difference left right) ≤ℤ dot (difference self.now.left.at self.now.right.at) (difference self.now.left.at self.now.right.at)) }
-    {
-        if self.turn(left, right) != 0 {
-            return false;
-        }
-        self.squared() <= self.product(left, right)
     }
 }

@@ -8,8 +8,10 @@ pub mod cone;
 pub mod cut;
 pub mod extreme;
 pub mod wedge;
+pub mod widen;
 
 pub use cone::Cone;
 pub use cut::Cut;
 pub use extreme::Extreme;
 pub use wedge::Wedge;
+pub use widen::{widen_first, widen_second};

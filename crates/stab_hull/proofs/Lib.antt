@@ -1,3 +1,4 @@
 pub mod StepLemmas
 pub mod HullLemmas
 pub mod HistoryLemmas
+pub mod OneLine

@@ -1,10 +1,12 @@
 //! What one more end does to a cone.
 
-ghost use Rattle.std.specs.Prelude.{List, ◌++◌, ◌∷◌, []};
+ghost use Rattle.std.specs.Prelude.{List, ◌++◌, ◌∷◌, [], pos, ◌<ℤ◌};
 ghost use Rattle.sight_names.specs.declared.names.EndAt.{EndAt as End};
+ghost use Rattle.extreme_lines.specs.declared.cone.Cone.TheVariants.{Open};
 ghost use Rattle.stab_hull.specs.Stacks.{IsConeOfEnds, IsStepTo};
+ghost use Rattle.extreme_lines.specs.Spans.{form_at};
 
-use extreme_lines::Cone;
+use extreme_lines::{Cone, Wedge, widen_first, widen_second};
 use sight_names::{EndAt, EndPair};
 
 /// What one more end does to the cone of other ends.
@@ -18,8 +20,81 @@ pub enum Step {
     Stuck([EndPair; 3]),
 }
 
+/// The wedge with the lines from all right ends to a new left end that is left of the first line, so that the first line
+/// stays, and one value tells of each of the others.
+fn second_to_left(wedge: &Wedge, rights: &[EndAt], left: EndAt) -> Wedge
+    requires cone { (lefts : List End) × IsConeOfEnds lefts rights.now (Open wedge.now) }
+    requires beyond { pos 0 <ℤ form_at wedge.now.first left.at }
+    ensures { (lefts : List End) → IsConeOfEnds lefts rights.now (Open wedge.now) → IsConeOfEnds (lefts ++ left ∷ []) rights.now (Open result) }
+{
+    let mut wide = *wedge;
+    let mut value = wide.second.value(left.at);
+    for j in 0..rights.len() {
+        let right = rights[j];
+        let turn = value - wide.second.value(right.at);
+        if widen_second(&mut wide, left, right, turn) {
+            value = 0;
+        }
+    }
+    wide
+}
+
+/// The same for a left end that is right of the second line, which stays.
+fn first_to_left(wedge: &Wedge, rights: &[EndAt], left: EndAt) -> Wedge
+    requires cone { (lefts : List End) × IsConeOfEnds lefts rights.now (Open wedge.now) }
+    requires beyond { form_at wedge.now.second left.at <ℤ pos 0 }
+    ensures { (lefts : List End) → IsConeOfEnds lefts rights.now (Open wedge.now) → IsConeOfEnds (lefts ++ left ∷ []) rights.now (Open result) }
+{
+    let mut wide = *wedge;
+    let mut value = wide.first.value(left.at);
+    for j in 0..rights.len() {
+        let right = rights[j];
+        let turn = value - wide.first.value(right.at);
+        if widen_first(&mut wide, left, right, turn) {
+            value = 0;
+        }
+    }
+    wide
+}
+
+/// The wedge with the lines from a new right end that is right of the first line, which stays, to all left ends.
+fn second_to_right(wedge: &Wedge, lefts: &[EndAt], right: EndAt) -> Wedge
+    requires cone { (rights : List End) × IsConeOfEnds lefts.now rights (Open wedge.now) }
+    requires beyond { form_at wedge.now.first right.at <ℤ pos 0 }
+    ensures { (rights : List End) → IsConeOfEnds lefts.now rights (Open wedge.now) → IsConeOfEnds lefts.now (rights ++ right ∷ []) (Open result) }
+{
+    let mut wide = *wedge;
+    let mut value = wide.second.value(right.at);
+    for i in 0..lefts.len() {
+        let left = lefts[i];
+        let turn = wide.second.value(left.at) - value;
+        if widen_second(&mut wide, left, right, turn) {
+            value = 0;
+        }
+    }
+    wide
+}
+
+/// The same for a right end that is left of the second line, which stays.
+fn first_to_right(wedge: &Wedge, lefts: &[EndAt], right: EndAt) -> Wedge
+    requires cone { (rights : List End) × IsConeOfEnds lefts.now rights (Open wedge.now) }
+    requires beyond { pos 0 <ℤ form_at wedge.now.second right.at }
+    ensures { (rights : List End) → IsConeOfEnds lefts.now rights (Open wedge.now) → IsConeOfEnds lefts.now (rights ++ right ∷ []) (Open result) }
+{
+    let mut wide = *wedge;
+    let mut value = wide.first.value(right.at);
+    for i in 0..lefts.len() {
+        let left = lefts[i];
+        let turn = wide.first.value(left.at) - value;
+        if widen_first(&mut wide, left, right, turn) {
+            value = 0;
+        }
+    }
+    wide
+}
+
 /// The cone with the lines from all right ends to the new left end.
-fn left_against_all(cone: &Cone, rights: &[EndAt], left: EndAt) -> Step
+fn left_against_each(cone: &Cone, rights: &[EndAt], left: EndAt) -> Step
     ensures { (lefts : List End) → IsConeOfEnds lefts rights.now cone.now → IsStepTo (lefts ++ left ∷ []) rights.now cone.now result }
 {
     let mut wide = *cone;
@@ -36,7 +111,7 @@ fn left_against_all(cone: &Cone, rights: &[EndAt], left: EndAt) -> Step
 }
 
 /// The cone with the lines from the new right end to all left ends.
-fn right_against_all(cone: &Cone, lefts: &[EndAt], right: EndAt) -> Step
+fn right_against_each(cone: &Cone, lefts: &[EndAt], right: EndAt) -> Step
     ensures { (rights : List End) → IsConeOfEnds lefts.now rights cone.now → IsStepTo lefts.now (rights ++ right ∷ []) cone.now result }
 {
     let mut wide = *cone;
@@ -52,9 +127,42 @@ fn right_against_all(cone: &Cone, lefts: &[EndAt], right: EndAt) -> Step
     Step::Wider(wide)
 }
 
+/// The cone with the lines from all right ends to the new left end.
+fn left_against_all(cone: &Cone, rights: &[EndAt], left: EndAt) -> Step
+    requires { (lefts : List End) × IsConeOfEnds lefts rights.now cone.now }
+    ensures { (lefts : List End) → IsConeOfEnds lefts rights.now cone.now → IsStepTo (lefts ++ left ∷ []) rights.now cone.now result }
+{
+    if let Cone::Open(wedge) = cone {
+        if wedge.first.value(left.at) > 0 {
+            return Step::Wider(Cone::Open(second_to_left(wedge, rights, left)));
+        }
+        if wedge.second.value(left.at) < 0 {
+            return Step::Wider(Cone::Open(first_to_left(wedge, rights, left)));
+        }
+    }
+    left_against_each(cone, rights, left)
+}
+
+/// The cone with the lines from the new right end to all left ends.
+fn right_against_all(cone: &Cone, lefts: &[EndAt], right: EndAt) -> Step
+    requires { (rights : List End) × IsConeOfEnds lefts.now rights cone.now }
+    ensures { (rights : List End) → IsConeOfEnds lefts.now rights cone.now → IsStepTo lefts.now (rights ++ right ∷ []) cone.now result }
+{
+    if let Cone::Open(wedge) = cone {
+        if wedge.first.value(right.at) < 0 {
+            return Step::Wider(Cone::Open(second_to_right(wedge, lefts, right)));
+        }
+        if wedge.second.value(right.at) > 0 {
+            return Step::Wider(Cone::Open(first_to_right(wedge, lefts, right)));
+        }
+    }
+    right_against_each(cone, lefts, right)
+}
+
 /// What a new left end does. Most left ends are outside of both extreme lines, or can't be split from an extreme right
 /// end; only the others are looked at against all right ends.
 pub fn left_step(cone: &Cone, rights: &[EndAt], left: EndAt) -> Step
+    requires { (lefts : List End) × IsConeOfEnds lefts rights.now cone.now }
     ensures { (lefts : List End) → IsConeOfEnds lefts rights.now cone.now → IsStepTo (lefts ++ left ∷ []) rights.now cone.now result }
 {
     if cone.has_outside_left(left.at) {
@@ -73,6 +181,7 @@ pub fn left_step(cone: &Cone, rights: &[EndAt], left: EndAt) -> Step
 
 /// What a new right end does.
 pub fn right_step(cone: &Cone, lefts: &[EndAt], right: EndAt) -> Step
+    requires { (rights : List End) × IsConeOfEnds lefts.now rights cone.now }
     ensures { (rights : List End) → IsConeOfEnds lefts.now rights cone.now → IsStepTo lefts.now (rights ++ right ∷ []) cone.now result }
 {
     if cone.has_outside_right(right.at) {

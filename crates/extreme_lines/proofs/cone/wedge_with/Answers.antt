@@ -1,10 +1,7 @@
 use Rattle.std.proofs.Common.{arith}
 use Rattle.std.proofs.lemmas.Int.{ints}
-use Rattle.extreme_lines.proofs.Widening.{stays, within_both, wedge_meets}
+use Rattle.extreme_lines.proofs.Widening.{wedge_meets}
 use Rattle.extreme_lines.proofs.cone.wedge_with.Goals as goal
-
-pub returns-then-past_second-lt0 : goal.returns-then-past_second-lt0
-returns-then-past_second-lt0 c = stays _ _ _ (within_both c.args.wedge.now c.args.left c.args.right (omega (arith, ints)) (omega (arith, ints)))
 
 pub returns : goal.returns
 returns c = wedge_meets c.args.wedge.now c.args.left c.args.right (omega (arith, ints)) (omega (arith, ints))

@@ -1,20 +1,17 @@
-use Rattle.std.proofs.Common.{refl, get_or}
-use Rattle.std.proofs.lemmas.Option.{slice_get-get_or}
-use Rattle.stab_hull.proofs.StepLemmas.{no_end, left_start, left_more, left_covered, left_stuck, left_whole}
+use Rattle.std.proofs.Common.{arith, subst}
+use Rattle.std.proofs.lemmas.Int.{ints}
+use Rattle.extreme_lines.specs.declared.cone.Cone.{Cone}
+use Rattle.stab_hull.specs.Stacks.{IsConeOfEnds}
 use Rattle.stab_hull.proofs.step.left_against_all.Goals as goal
-use Rattle.stab_hull.proofs.step.left_against_all.Goals.{then-not-covers+in-Some, else-not-covers}
 
-pub loop-j-init : goal.loop-j-init
-loop-j-init c = λ lefts h. left_start lefts c.args.rights.now c.args.left c.args.cone.now h
+pub second_to_left-requires : goal.second_to_left-requires
+second_to_left-requires c = record { cone = (c.requires.0, subst (λ (d : Cone). IsConeOfEnds c.requires.0 c.args.rights.now d) c.in-Open.is c.requires.1); beyond = (let v = c.value.ensures.value in let t = c.if-value-gt0.true in omega (arith, ints)) }
 
-pub loop-j-preserved : goal.loop-j-preserved
-loop-j-preserved c = elim c.if-not-covers.branch [
-  | then-not-covers+in-Some w ↦ rw w.wide-is (λ lefts h. left_more lefts c.args.rights.now c.args.left c.loop-j.j (get_or c.args.rights.now c.loop-j.j no_end) c.loop-j.wide w.in-Some.wider (slice_get-get_or c.args.rights.now c.loop-j.j no_end c.loop-j-test.true) w.in-Some.ensures (c.loop-j.invariant lefts h))
-  | else-not-covers w ↦ rw w.wide-is (λ lefts h. left_covered lefts c.args.rights.now c.args.left c.loop-j.j (get_or c.args.rights.now c.loop-j.j no_end) c.loop-j.wide (slice_get-get_or c.args.rights.now c.loop-j.j no_end c.loop-j-test.true) (w.if-not-covers.ensures refl) (c.loop-j.invariant lefts h))
-]
+pub first_to_left-requires : goal.first_to_left-requires
+first_to_left-requires c = record { cone = (c.requires.0, subst (λ (d : Cone). IsConeOfEnds c.requires.0 c.args.rights.now d) c.in-Open.is c.requires.1); beyond = (let v = c.value-in-Open.ensures.value in let t = c.if-value-lt0.true in omega (arith, ints)) }
 
-pub returns-in-None : goal.returns-in-None
-returns-in-None c = λ lefts h. left_stuck lefts c.args.rights.now c.args.left c.loop-j.j (get_or c.args.rights.now c.loop-j.j no_end) c.loop-j.wide c.pairs.result (slice_get-get_or c.args.rights.now c.loop-j.j no_end c.loop-j-test.true) (c.loop-j.invariant lefts h) c.pairs.ensures c.in-None.ensures
+pub returns-then-value-gt0 : goal.returns-then-value-gt0
+returns-then-value-gt0 c = λ lefts h. c.second_to_left.ensures lefts (subst (λ (d : Cone). IsConeOfEnds lefts c.args.rights.now d) c.in-Open.is h)
 
-pub returns : goal.returns
-returns c = λ lefts h. left_whole lefts c.args.rights.now c.args.left c.loop-j.j c.loop-j.wide c.loop-j-test.false (c.loop-j.invariant lefts h)
+pub returns-then-value-lt0 : goal.returns-then-value-lt0
+returns-then-value-lt0 c = λ lefts h. c.first_to_left.ensures lefts (subst (λ (d : Cone). IsConeOfEnds lefts c.args.rights.now d) c.in-Open.is h)

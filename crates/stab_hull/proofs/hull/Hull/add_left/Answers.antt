@@ -10,6 +10,11 @@ use Rattle.stab_hull.proofs.hull.Hull.add_left.Goals.{in-Same, in-Wider+in_ok-pu
 pub returns-then-repeats-clause-free : goal.returns-then-repeats-clause-free
 returns-then-repeats-clause-free c = (c.requires.top, inr (refl, subst (λ (xs : List EndAt). HasPoint xs c.args.left.at) c.as_slice.ensures.value (c.repeats.ensures c.if-repeats.true)))
 
+pub left_step-requires : goal.left_step-requires
+left_step-requires c =
+    let k : c.len.result ≡ length c.args.self.now.cones.items = (let e = c.len.ensures in grind (arith, common_steps)) in
+    (c.args.self.now.lefts.items, subst (λ (xs : List EndAt). IsConeOfEnds c.args.self.now.lefts.items xs c.index-cone.result.now) (sym c.as_slice-2.ensures.value) (top_cone c.args.self.now.lefts.items c.args.self.now.rights.items c.args.self.now.cones.items c.len.result c.index-cone.result.now k c.index-cone.ensures c.requires.top))
+
 pub returns-in-Stuck-clause-free : goal.returns-in-Stuck-clause-free
 returns-in-Stuck-clause-free c =
     let k : c.len.result ≡ length c.args.self.now.cones.items = (let e = c.len.ensures in grind (arith, common_steps)) in
