@@ -89,16 +89,6 @@ impl<'a> Left<'a> {
         if !self.begun.as_slice().is_empty() || !self.nodes.is_empty() {
             return true;
         }
-        self.begin()
-    }
-
-    fn begin(&mut self) -> bool
-        requires given { self.old.begun ≡ [] }
-        requires nodes { self.old.nodes ≡ [] }
-        ensures bytes { left_bytes self.new ≡ left_bytes self.old }
-        ensures some { IsTrue result → 0 < length self.new.begun + length self.new.nodes }
-        ensures none { result ≡ false → left_bytes self.old ≡ [] }
-    {
         if let Some((triangle, rest)) = self.triangles.split_first() {
             self.begun = Begun::of(&triangle_of(triangle));
             self.triangles = rest;

@@ -6,25 +6,17 @@ ghost use Rattle.cert_format.specs.Grammar.{Spells};
 use crate::cert::Cert;
 use crate::pieces::Printer;
 use sight_names::Memory;
-use sight_tree::Tree;
 use std::alloc::Global;
-
-/// As many bytes as the trees are spelled in, as far as numbers go.
-fn tree_bytes(trees: &[Tree]) -> usize {
-    let mut bytes = 0usize;
-    for tree in trees {
-        bytes = bytes.saturating_add(tree.nodes.as_bytes().len().saturating_add(10));
-    }
-    bytes
-}
 
 /// An empty list with room for the spelling. A list that grows would leave holes of its former sizes behind.
 fn with_room(alloc: Global, cert: &Cert) -> Result<Vec<u8>, Memory>
     ensures { IfOk result (λ v. v.items ≡ []) }
 {
     let records = cert.triangles().len() + cert.rays().len() + cert.listed().len();
-    let bytes = records.saturating_mul(24).saturating_add(28);
-    let room = bytes.saturating_add(tree_bytes(cert.trees()));
+    let mut room = records.saturating_mul(24).saturating_add(28);
+    for tree in cert.trees() {
+        room = room.saturating_add(tree.nodes.as_bytes().len().saturating_add(10));
+    }
     Ok(Vec::with_capacity(alloc, room)?)
 }
 
