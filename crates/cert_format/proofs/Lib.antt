@@ -7,4 +7,4 @@ pub mod TreeLaws
 pub mod NodeStretch
 pub mod CountLaws
 pub mod WholeLaws
-pub mod Steps
+pub mod PieceLaws

@@ -1,5 +1,5 @@
 -- Nodes that are only tested: where they end, and that the bytes up to there spell them.
-use Rattle.std.proofs.Common.{◌≡◌, ℕ, zero, suc, ◌+◌, ◌-◌, ◌<◌, ◌≤◌, List, [], ◌∷◌, ◌++◌, length, take, drop, Result, Ok, Err, refl, sym, ap, subst, ◌∙◌, arith}
+use Rattle.std.proofs.Common.{◌≡◌, ℕ, zero, suc, ◌+◌, ◌-◌, ◌<◌, ◌≤◌, List, [], ◌∷◌, length, take, drop, Result, Ok, Err, refl, sym, ap, subst, ◌∙◌, arith}
 use Rattle.std.specs.Prelude.{replicate}
 use Rattle.std.specs.List.{flat_map, AllByRecursion}
 use Rattle.std.proofs.lemmas.List.{length-append, length-drop, take_at}
@@ -7,9 +7,8 @@ use Rattle.sight_names.specs.declared.faults.CertFault.{CertFault}
 use Rattle.sight_names.specs.declared.faults.CertFault.TheVariants as faults
 use Rattle.sight_tree.specs.declared.Node.{Node}
 use Rattle.sight_tree.specs.declared.Node.TheVariants.{Open, Blocked}
-use Rattle.sight_tree.specs.Spelling.{node_bytes, IsPackable, FitsNode, SpellNodes, SpellSoMany}
+use Rattle.sight_tree.specs.Spelling.{node_bytes, IsPackable, SpellNodes}
 use Rattle.sight_tree.proofs.ReadBack.{one_list}
-use Rattle.cert_format.specs.Grammar.{IsNodeInOrder}
 use Rattle.cert_format.specs.Reading.{◌>>=◌, Fails, behind, node_at, nodes_at, records_at}
 use Rattle.cert_format.proofs.FieldLaws.{IsBytes, bind_ok, ok_is}
 use Rattle.cert_format.proofs.TreeLaws.{FitsInOrder, nodes_take, all_fit}

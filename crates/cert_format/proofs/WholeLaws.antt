@@ -14,7 +14,7 @@ use Rattle.sight_tree.specs.declared.Tree.{Tree}
 use Rattle.cert_format.specs.declared.cert.Sizes.{Sizes}
 use Rattle.cert_format.specs.declared.cert.Labelled.{Labelled}
 use Rattle.cert_format.specs.Parts.{CertParts}
-use Rattle.sight_tree.specs.Spelling.{FitsNode, u16}
+use Rattle.sight_tree.specs.Spelling.{u16}
 use Rattle.cert_format.specs.Grammar.{AreSmall, Ascends, PairBefore, IsPairInRange, IsRayInRange, IsTreeInRange, IsInOrder, FitsRay, FitsFields, Spells, u32, triangle_bytes, ray_bytes, pair_bytes, tree_bytes, front_bytes, header_bytes, spelling}
 use Rattle.cert_format.specs.Grammar as fields
 use Rattle.cert_format.specs.Reading.{◌>>=◌, passed, magic, magic_at, version_at, front_at, triangle_count_at, Counts, counts_at, triangle_at, ray_at, pair_at, tree_at, triangles_at, rays_at, pairs_at, trees_at, reading}

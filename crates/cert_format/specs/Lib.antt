@@ -2,3 +2,4 @@ pub mod Parts
 pub mod Grammar
 pub mod Reading
 pub mod Accepted
+pub mod Pieces

@@ -3,7 +3,7 @@
 ghost use Rattle.std.specs.Prelude.{◌≡◌, Some, None, Ok, IfOk};
 ghost use Rattle.cert_format.specs.Parts.{CertParts};
 ghost use Rattle.cert_format.specs.Grammar.{AreSmall, Spells};
-ghost use Rattle.cert_format.specs.Reading.{Gives, magic_at, version_at, triangle_count_at, front_at, counts_at, triangles_at, rays_at, pairs_at, trees_at, reading};
+ghost use Rattle.cert_format.specs.Reading.{Gives, triangle_count_at, front_at, counts_at, triangles_at, rays_at, pairs_at, trees_at, reading};
 
 use crate::cert::{Cert, Counts, Labelled, Sizes};
 use crate::fields::{place, u16_at, u16_known, u32_at};
@@ -15,36 +15,19 @@ use std::alloc::Global;
 /// The number that the letters `DSCT` spell.
 const MAGIC: u32 = 0x5443_5344;
 
-#[tactic(auto, unfolding(crate::specs::Reading::magic_at))]
-fn magic_of(total: usize, bytes: &[u8]) -> Result<&[u8], CertFault>
-    ensures { Gives (λ x. x.now) result (magic_at total bytes.now) }
-{
-    let (number, rest) = u32_at(total, bytes)?;
-    if number == MAGIC {
-        Ok(rest)
-    } else {
-        Err(CertFault::BadMagic)
-    }
-}
-
-#[tactic(auto, unfolding(crate::specs::Reading::version_at))]
-fn version_of(total: usize, bytes: &[u8]) -> Result<&[u8], CertFault>
-    ensures { Gives (λ x. x.now) result (version_at total bytes.now) }
-{
-    let (number, rest) = u16_at(total, bytes)?;
-    if number == 1 {
-        Ok(rest)
-    } else {
-        Err(CertFault::BadVersion)
-    }
-}
-
-#[tactic(auto, unfolding(crate::specs::Reading::front_at))]
+/// The bytes behind magic, version and sizes.
+#[tactic(auto, unfolding(crate::specs::Reading::front_at, crate::specs::Reading::magic_at, crate::specs::Reading::version_at))]
 fn front_of(sizes: Sizes, total: usize, bytes: &[u8]) -> Result<&[u8], CertFault>
     ensures { Gives (λ x. x.now) result (front_at sizes total bytes.now) }
 {
-    let rest = magic_of(total, bytes)?;
-    let rest = version_of(total, rest)?;
+    let (magic, rest) = u32_at(total, bytes)?;
+    if magic != MAGIC {
+        return Err(CertFault::BadMagic);
+    }
+    let (version, rest) = u16_at(total, rest)?;
+    if version != 1 {
+        return Err(CertFault::BadVersion);
+    }
     let rest = u16_known(sizes.sectors, total, rest)?;
     let rest = u16_known(sizes.points, total, rest)?;
     u16_known(sizes.lines, total, rest)

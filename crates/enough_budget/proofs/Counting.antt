@@ -14,8 +14,8 @@ use Rattle.sight_names.specs.Sequence.{Sequence, roots}
 use Rattle.sight_names.specs.Found.{IsStabbableSequence, Spent}
 use Rattle.sight_names.proofs.PlanNumbers.{count_of_plan}
 use Rattle.block_evidence.specs.declared.Evidence.{Evidence}
-use Rattle.block_evidence.specs.declared.Node.{Node}
-use Rattle.block_evidence.specs.declared.Node.TheVariants.{Open as OpenNode, Blocked as BlockedNode}
+use Rattle.sight_tree.specs.declared.Node.{Node}
+use Rattle.sight_tree.specs.declared.Node.TheVariants.{Open as OpenNode, Blocked as BlockedNode}
 use Rattle.sequence_laws.specs.Ways.{root_alone, both_ways_on}
 use Rattle.sequence_laws.proofs.All.{stand_in_order}
 use Rattle.sequence_laws.proofs.Roots.{begins}
@@ -23,10 +23,10 @@ use Rattle.sequence_laws.proofs.UnderWay.{IsUnderWay, passes_all, passes_blocked
 use Rattle.portal_walk.proofs.Lists.{get_more}
 use Rattle.portal_walk.specs.Walk.{WalkParts, SameWalk, Answers, Blocks, Opens, Ends, pending}
 use Rattle.enough_base.proofs.Counts.{few_of_source}
-use Rattle.enough_base.proofs.Orders.{all_of_contains, ascending_differ}
-use Rattle.enough_base.proofs.PlanBound.{few_passable}
+use Rattle.enough_base.proofs.Orders.{ascending_differ}
+use Rattle.enough_base.proofs.PlanBound.{few_passable, product as third_product}
 use Rattle.enough_budget.specs.Need.{HasSequences, greatest}
-use Rattle.enough_budget.proofs.Passing.{third_product}
+use Rattle.list_base.proofs.Lists.{all_of as all_of_contains}
 
 -- ---- the numbers
 

@@ -4,7 +4,7 @@ use Rattle.std.specs.List.{slice_get, last_or, filter, filter_map, cons_option, 
 use Rattle.std.specs.Prelude.{option_and_then, option_map}
 use Rattle.std.proofs.lemmas.List.{append_assoc, length-append, map-append}
 use Rattle.std.proofs.lemmas.List.Elements.{filter_map-append}
-use Rattle.sight_names.proofs.Lists.{contains_none}
+use Rattle.list_base.proofs.Lists.{contains_none, last_pushed}
 use Rattle.sight_names.specs.declared.names.Side.{Side}
 use Rattle.sight_names.specs.declared.names.Triangle.{Triangle}
 use Rattle.sight_names.specs.Plan.{PlanParts}
@@ -26,7 +26,6 @@ use Rattle.tree_judge.specs.Whole.{ends_through, ways_through, Answers, AreAnswe
 use Rattle.tree_judge.proofs.Meshed.{AreAllNamed, Enters, IsInner, IsAsked, asked, not_asked, no_node_unasked, node_asked, left_inner, right_inner, passable}
 use Rattle.list_base.proofs.Options.{one_value, some_is_same}
 use Rattle.list_base.proofs.Bools.{first_is_not}
-use Rattle.list_base.proofs.Lists.{last_pushed}
 use Rattle.sight_names.proofs.Roots.{root_test}
 
 nothing_left : (p : Pending) (ps : List Pending) → ◌≡◌ {A = List Pending} [] (p ∷ ps) → ⊥

@@ -29,7 +29,7 @@ use Rattle.tri_sectors.proofs.PlainFaces.{plain_turn, clean_of}
 use Rattle.tri_sectors.proofs.FaceRegion.{Ground, GapOn, numbers, on_face, only_one}
 use Rattle.tri_sectors.proofs.FacePaths.{IsNoLine, middle_turned, middle_closed, middle_flat, middle_inside, centre_turned, leads_join, one_leg, across, out_through, inside_clear, beyond_clear, free_beyond, outside_beyond, none_left, places_differ, far, far_left}
 use Rattle.sight_names.proofs.Records.{edge_of_numbers}
-use Rattle.mesh_base.proofs.CleanMesh.{edge_rp, edge_qr, edge_pq}
+use Rattle.mesh_base.proofs.CleanMesh.{edge_rp as third_edge, edge_qr as second_edge, edge_pq as first_edge}
 
 abbrev pub centre_of : Map → Triangle → Point
 centre_of m t = centre (place m t.p) (place m t.q) (place m t.r)
@@ -84,9 +84,9 @@ module _ (m : Map) (ts : List Triangle) (ws : List Walls) (fs : List ℕ) (d : G
       let same : slice_index_or ws k w ≡ w = get_or_from_slice_get ws k w w marks in
       let both : (f : Edge) → e ≡ f → HasEdge t f → ¬ IsLineEdge m f → HasEdge t e × ¬ IsLineEdge m e = λ f s x y. subst (λ (v : Edge). HasEdge t v × ¬ IsLineEdge m v) (sym s) (x, y) in
       elim free as (λ _. HasEdge t e × ¬ IsLineEdge m e) [
-        | inl f ↦ both (edge_pq t) f.0 (edge_pq t) (not_wall k t (edge_pq t) _ at (edge_pq t) h.pq.1 (ap (λ (v : Walls). v.pq) same ∙ f.1))
-        | inr (inl f) ↦ both (edge_qr t) f.0 (edge_qr t) (not_wall k t (edge_qr t) _ at (edge_qr t) h.qr.1 (ap (λ (v : Walls). v.qr) same ∙ f.1))
-        | inr (inr f) ↦ both (edge_rp t) f.0 (edge_rp t) (not_wall k t (edge_rp t) _ at (edge_rp t) h.rp.1 (ap (λ (v : Walls). v.rp) same ∙ f.1))
+        | inl f ↦ both (edge_pq t) f.0 (first_edge t) (not_wall k t (edge_pq t) _ at (first_edge t) h.pq.1 (ap (λ (v : Walls). v.pq) same ∙ f.1))
+        | inr (inl f) ↦ both (edge_qr t) f.0 (second_edge t) (not_wall k t (edge_qr t) _ at (second_edge t) h.qr.1 (ap (λ (v : Walls). v.qr) same ∙ f.1))
+        | inr (inr f) ↦ both (edge_rp t) f.0 (third_edge t) (not_wall k t (edge_rp t) _ at (third_edge t) h.rp.1 (ap (λ (v : Walls). v.rp) same ∙ f.1))
       ]
 
   no_line_side : (k : ℕ) (t : Triangle) (e : Edge) → slice_get ts k ≡ Some t → HasEdge t e → ¬ IsLineEdge m e → IsNoLine m (place m e.from) (place m e.to)
