@@ -5,7 +5,8 @@ use Rattle.sight_names.specs.declared.names.Pair.{Pair}
 use Rattle.sight_names.specs.declared.names.PairRay.{PairRay}
 use Rattle.sight_tree.specs.declared.Tree.{Tree}
 use Rattle.cert_format.specs.declared.cert.Sizes.{Sizes}
-use Rattle.cert_format.specs.Grammar.{Ascends, PairBefore, IsPairInRange, IsRayInRange, IsTreeInRange}
+use Rattle.cert_format.specs.Grammar.{IsPairInRange, IsRayInRange, IsTreeInRange}
+use Rattle.sight_names.specs.Order.{Ascends, PairBefore}
 use Rattle.list_base.proofs.Options.{some_is_same}
 
 module _ {X : Type 0} (code : X → ℕ) (limit : ℕ) where

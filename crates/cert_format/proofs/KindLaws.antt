@@ -12,7 +12,8 @@ use Rattle.sight_names.specs.Mesh.{IsTriangle, IsAbove}
 use Rattle.cert_format.specs.declared.cert.Sizes.{Sizes}
 use Rattle.cert_format.specs.declared.cert.Labelled.{Labelled}
 use Rattle.sight_tree.specs.Spelling.{u16}
-use Rattle.cert_format.specs.Grammar.{PairBefore, IsPairInRange, IsRayInRange, FitsRay, side_number, triangle_bytes, line_bytes, ray_bytes, pair_bytes}
+use Rattle.cert_format.specs.Grammar.{IsPairInRange, IsRayInRange, FitsRay, side_number, triangle_bytes, line_bytes, ray_bytes, pair_bytes}
+use Rattle.sight_names.specs.Order.{PairBefore}
 use Rattle.cert_format.specs.Reading.{triangle_after, pair_after, pair_of, triangle_at, sight_line_at, ray_at, pair_at, signed_at}
 use Rattle.cert_format.proofs.FieldLaws.{IsBytes, bind_ok, passed_ok, ok_is, Takes, Takes-then, wide32, wide64, below_takes, below_again, apart_takes, apart_again, side_takes, side_again, signed_takes, signed_again}
 

@@ -4,7 +4,7 @@ use Rattle.std.proofs.Common.{◌≡◌, ℕ, zero, suc, List, [], ◌∷◌, �
 use Rattle.std.specs.List.{flat_map, AllByRecursion}
 use Rattle.std.proofs.lemmas.List.Concat.{flat_map-cons}
 use Rattle.sight_names.specs.declared.faults.CertFault.{CertFault}
-use Rattle.cert_format.specs.Grammar.{Ascends}
+use Rattle.sight_names.specs.Order.{Ascends}
 use Rattle.cert_format.specs.Reading.{◌>>=◌, records_at}
 use Rattle.cert_format.proofs.FieldLaws.{IsBytes, bind_ok, ok_is, Takes, Takes-then}
 use Rattle.list_base.proofs.Options.{some_is_same}

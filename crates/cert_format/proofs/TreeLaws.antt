@@ -10,7 +10,8 @@ use Rattle.sight_tree.specs.declared.Node.TheVariants.{Open, Blocked}
 use Rattle.sight_tree.specs.declared.Tree.{Tree}
 use Rattle.cert_format.specs.declared.cert.Sizes.{Sizes}
 use Rattle.sight_tree.specs.Spelling.{u16, FitsNode, node_bytes}
-use Rattle.cert_format.specs.Grammar.{Ascends, u64, IsNodeInOrder, tree_bytes}
+use Rattle.cert_format.specs.Grammar.{u64, IsNodeInOrder, tree_bytes}
+use Rattle.sight_names.specs.Order.{Ascends}
 use Rattle.cert_format.specs.Reading.{begins_at, comes_after, end_at, two_ends_at, three_ends_at, four_ends_at, node_at, nodes_at, tree_at}
 use Rattle.cert_format.proofs.FieldLaws.{IsBytes, bind_ok, passed_ok, ok_is, Takes, Takes-then, wide16, wide64, number_takes, number_again, below_takes, below_again}
 use Rattle.cert_format.proofs.RecordLaws.{AreTaken, records_take, records_again, IsChain, ascends_of_chain, chain_of_ascends}

@@ -15,7 +15,8 @@ use Rattle.cert_format.specs.declared.cert.Sizes.{Sizes}
 use Rattle.cert_format.specs.declared.cert.Labelled.{Labelled}
 use Rattle.cert_format.specs.Parts.{CertParts}
 use Rattle.sight_tree.specs.Spelling.{u16}
-use Rattle.cert_format.specs.Grammar.{AreSmall, Ascends, PairBefore, IsPairInRange, IsRayInRange, IsTreeInRange, IsInOrder, FitsRay, FitsFields, Spells, u32, triangle_bytes, ray_bytes, pair_bytes, tree_bytes, front_bytes, header_bytes, spelling}
+use Rattle.cert_format.specs.Grammar.{AreSmall, IsPairInRange, IsRayInRange, IsTreeInRange, IsInOrder, FitsRay, FitsFields, Spells, u32, triangle_bytes, ray_bytes, pair_bytes, tree_bytes, front_bytes, header_bytes, spelling}
+use Rattle.sight_names.specs.Order.{Ascends, PairBefore}
 use Rattle.cert_format.specs.Grammar as fields
 use Rattle.cert_format.specs.Reading.{◌>>=◌, passed, magic, magic_at, version_at, front_at, triangle_count_at, Counts, counts_at, triangle_at, ray_at, pair_at, tree_at, triangles_at, rays_at, pairs_at, trees_at, reading}
 use Rattle.cert_format.proofs.FieldLaws.{IsBytes, bind_ok, passed_ok, ok_is, Takes, Takes-then, wide16, wide32, number_takes, number_again, known_takes, known_again}

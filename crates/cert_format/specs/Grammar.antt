@@ -7,6 +7,7 @@ use Rattle.sight_names.specs.declared.names.PairRay.{PairRay}
 use Rattle.sight_names.specs.declared.names.Ray.{Ray}
 use Rattle.sight_names.specs.declared.names.Side.{Side}
 use Rattle.sight_names.specs.Mesh.{AreTriangles}
+use Rattle.sight_names.specs.Order.{Ascends, PairBefore}
 use Rattle.block_evidence.specs.declared.Evidence.{Evidence}
 use Rattle.sight_tree.specs.declared.Node.{Node}
 use Rattle.sight_tree.specs.declared.Node.TheVariants.{Open, Blocked}
@@ -18,12 +19,6 @@ use Rattle.cert_format.specs.declared.cert.Labelled.{Labelled}
 use Rattle.cert_format.specs.Parts.{CertParts}
 
 -- ---- ranges and orders
-
-abbrev pub Ascends : {X : Type 0} → (X → X → Type 0) → List X → Type 0
-Ascends {X} R xs = (i j : ℕ) (x y : X) → i < j → slice_get xs i ≡ Some x → slice_get xs j ≡ Some y → R x y
-
-abbrev pub PairBefore : Pair → Pair → Type 0
-PairBefore p q = (p.a < q.a) ⊎ ((p.a ≡ q.a) × (p.b < q.b))
 
 abbrev pub IsPairInRange : Sizes → Pair → Type 0
 IsPairInRange sizes p = (p.a < p.b) × (p.b < sizes.sectors)

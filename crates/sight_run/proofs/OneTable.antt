@@ -20,7 +20,8 @@ use Rattle.sight_names.proofs.Lists.{same_ascending}
 use Rattle.sight_names.proofs.OneMesh.{one_mesh}
 use Rattle.reject_bits.specs.Parts.{IsWhole, Rejects, TableParts}
 use Rattle.cert_format.specs.Accepted.{IsPairListed}
-use Rattle.cert_format.specs.Grammar.{IsInOrder, PairBefore}
+use Rattle.cert_format.specs.Grammar.{IsInOrder}
+use Rattle.sight_names.specs.Order.{PairBefore}
 use Rattle.sight_job.specs.declared.build.Built.{Built}
 use Rattle.map_answers.specs.declared.counts.Counts.{Counts}
 use Rattle.sight_status.specs.Answer.{Answer, only_line}

@@ -13,7 +13,8 @@ use Rattle.sight_tree.specs.declared.Tree.{Tree}
 use Rattle.sight_tree.specs.WholeTree.{IsWholeTree}
 use Rattle.reject_bits.specs.Parts.{TableParts, Rejects}
 use Rattle.cert_format.specs.Parts.{CertParts}
-use Rattle.cert_format.specs.Grammar.{Ascends, IsInOrder, IsTreeInRange}
+use Rattle.cert_format.specs.Grammar.{IsInOrder, IsTreeInRange}
+use Rattle.sight_names.specs.Order.{Ascends}
 use Rattle.cert_format.specs.Accepted.{triangles_of, labels_of, HasTreeWithout}
 use Rattle.half_edges.specs.declared.table.HalfEdge.{HalfEdge}
 use Rattle.tree_judge.specs.declared.roots.Root.{Root}
