@@ -5,11 +5,12 @@ use Rattle.sight_names.specs.declared.faults.WadFault.TheVariants as wad
 use Rattle.sight_names.specs.declared.faults.MapFault.{MapFault}
 use Rattle.sight_names.specs.declared.faults.LumpFault.{LumpFault}
 use Rattle.sight_names.specs.declared.faults.LumpFault.TheVariants as lump
+use Rattle.sight_names.specs.declared.names.MapFormat.{MapFormat}
 use Rattle.sight_names.specs.Map.{Map}
 use Rattle.sight_names.specs.Lumps.{map_of_lumps, lump_fault}
 use Rattle.wad_dir.specs.declared.parts.MapSpot.{MapSpot}
 use Rattle.wad_dir.specs.Wad.{WadFile, names_of, wad_of}
-use Rattle.wad_dir.specs.Map.{spot_of}
+use Rattle.wad_dir.specs.Map.{format_of, spot_of}
 use Rattle.sight_status.specs.declared.status.Bound.TheVariants as bound
 use Rattle.sight_status.specs.declared.status.Status.{Status}
 use Rattle.sight_status.specs.declared.status.Status.TheVariants as status
@@ -45,13 +46,13 @@ of_lumps (Some fault) map = Err (status.BadLump fault)
 abbrev pub lump_at : WadFile → ℕ → List ℕ
 lump_at file k = (slice_index_or file.lumps k (record { name = []; bytes = [] })).bytes
 
--- the map that four lumps spell, or the first check that fails
-abbrev pub of_four_lumps : List ℕ → List ℕ → List ℕ → List ℕ → Result Map Status
-of_four_lumps linedefs sidedefs vertexes sectors = of_lumps (lump_fault linedefs sidedefs vertexes sectors) (map_of_lumps linedefs sidedefs vertexes sectors)
+-- the map that four lumps spell in a format, or the first check that fails
+abbrev pub of_four_lumps : MapFormat → List ℕ → List ℕ → List ℕ → List ℕ → Result Map Status
+of_four_lumps format linedefs sidedefs vertexes sectors = of_lumps (lump_fault format linedefs sidedefs vertexes sectors) (map_of_lumps format linedefs sidedefs vertexes sectors)
 
--- the map at this spot
+-- the map at this spot, in the format that it tells
 abbrev pub map_at : WadFile → MapSpot → Result Map Status
-map_at file spot = of_four_lumps (lump_at file spot.linedefs) (lump_at file spot.sidedefs) (lump_at file spot.vertexes) (lump_at file spot.sectors)
+map_at file spot = of_four_lumps (format_of spot.hexen) (lump_at file spot.linedefs) (lump_at file spot.sidedefs) (lump_at file spot.vertexes) (lump_at file spot.sectors)
 
 -- the map of this name in the bytes of a file, or the first check that fails
 unfoldable pub found_in : List ℕ → List ℕ → Result LocatedMap Status

@@ -3,13 +3,16 @@
 ghost use Rattle.std.specs.Prelude.{◌≡◌, ◌+◌, ◌≤◌, ◌<◌, length, IfOk, IfErr, All};
 ghost use Rattle.std.specs.Option.{ForSome};
 ghost use Rattle.sight_names.specs.Map.{map_of};
-ghost use Rattle.wad_dir.specs.Map.{entry_names, spot_of};
+ghost use Rattle.sight_names.specs.Lumps.{lump_fault, map_of_lumps};
+ghost use Rattle.map_lumps.specs.Answers.{AnswersFirstFault};
+ghost use Rattle.wad_dir.specs.Map.{entry_names, format_of, spot_of};
 ghost use Rattle.wad_dir.specs.Wad.{file_of, names_of, wad_of};
 ghost use Rattle.sight_status.specs.Answer.{Makes};
 ghost use Rattle.map_answers.specs.Input.{of_wad, of_spot, of_four_lumps, lump_at, map_at, found_in};
 ghost use Rattle.sight_status.specs.Status.{IsOfBytes};
 ghost use Rattle.map_answers.specs.Views.{found, IsWhole};
 
+use hexen_lumps::read_hexen;
 use map_lumps::read_map;
 use sight_names::{LumpFault, Plan, WadFault};
 use sight_status::{Bound, Status};
@@ -54,17 +57,37 @@ fn spot(wad: &Wad, name: &str) -> Result<MapSpot, Status>
     }
 }
 
+/// The plan that the lumps spell in Hexen's format or in Doom's.
+fn read_plan(
+    alloc: Global,
+    hexen: bool,
+    linedefs: &[u8],
+    sidedefs: &[u8],
+    vertexes: &[u8],
+    sectors: &[u8],
+) -> Result<Plan, LumpFault>
+    ensures map { IfOk result (λ plan. map_of plan ≡ map_of_lumps (format_of hexen) linedefs.now sidedefs.now vertexes.now sectors.now) }
+    ensures fault { AnswersFirstFault result (lump_fault (format_of hexen) linedefs.now sidedefs.now vertexes.now sectors.now) }
+{
+    if hexen {
+        read_hexen(alloc, linedefs, sidedefs, vertexes, sectors)
+    } else {
+        read_map(alloc, linedefs, sidedefs, vertexes, sectors)
+    }
+}
+
 fn plan_of(
     alloc: Global,
+    hexen: bool,
     linedefs: &[u8],
     sidedefs: &[u8],
     vertexes: &[u8],
     sectors: &[u8],
 ) -> Result<Plan, Status>
     ensures refusals { IfErr result IsOfBytes }
-    ensures map { Makes map_of result (of_four_lumps linedefs.now sidedefs.now vertexes.now sectors.now) }
+    ensures map { Makes map_of result (of_four_lumps (format_of hexen) linedefs.now sidedefs.now vertexes.now sectors.now) }
 {
-    match read_map(alloc, linedefs, sidedefs, vertexes, sectors) {
+    match read_plan(alloc, hexen, linedefs, sidedefs, vertexes, sectors) {
         Ok(plan) => Ok(plan),
         Err(LumpFault::Memory) => Err(Status::Memory),
         Err(LumpFault::TooManySectors { .. }) => Err(Status::Limit(Bound::Sectors)),
@@ -94,6 +117,7 @@ fn plan_at(alloc: Global, bytes: &[u8], wad: &Wad, spot: &MapSpot) -> Result<Pla
 {
     plan_of(
         alloc,
+        spot.hexen,
         lump_of(bytes, wad, spot.linedefs),
         lump_of(bytes, wad, spot.sidedefs),
         lump_of(bytes, wad, spot.vertexes),

@@ -3,6 +3,7 @@
 ghost use Rattle.board_core.specs.Machine.{State, Worker, CanStep, IsActive, idle, start, after};
 
 use board_core::{Core, Event, Reply};
+use hexen_lumps::to_hexen;
 use run_cases::stage_of;
 use shelf_io::{DiskShelf, Shelf, Sink, StdSink, fetch, store};
 use sight_names::{
@@ -30,6 +31,16 @@ fn two_workers_draw_two_sources_and_one_sees_what_the_other_marked(
     let ended = core.step(Event::End { worker: 0 })?;
     assert!(rt; first == Reply::Source(0) && second == Reply::Source(1) && marked == Reply::Done);
     assert!(rt; seen == Reply::Bits(2) && none == Reply::NoSource && ended == Reply::Done);
+    Ok(())
+}
+
+#[test]
+fn a_turned_record_has_six_zero_bytes_before_its_sides(rt: HostRuntime) -> Result<(), Fail> {
+    let turned = to_hexen(rt.alloc(), &[1, 0, 2, 0, 4, 0, 97, 0, 7, 0, 3, 0, 255, 255])?;
+    assert_eq!(rt;
+        turned.as_slice(),
+        [1u8, 0, 2, 0, 4, 0, 0, 0, 0, 0, 0, 0, 3, 0, 255, 255].as_slice()
+    );
     Ok(())
 }
 

@@ -35,6 +35,8 @@ a=SQUARE | grid 2 | 0 | grid 2 sectors 8 set 12 clear 24 listed 0 check yes
 | grid 2 --workers 1 | 0 | =
 | grid 2 --workers 3 | 0 | =
 | grid 2 --workers 64 | 0 | =
+| grid 2 --hexen | 0 | =
+| grid --hexen 2 --workers 1 | 0 | =
 | grid 6 --workers 1 | 0 | grid 6 sectors 96 .. check yes
 | grid 6 --workers 3 | 0 | =
 | grid 6 --workers 64 | 0 | =

@@ -16,6 +16,14 @@ a=FLAT | zero a MAP01 b | 0 | zero MAP01 sectors 1 bytes 1 | b=FLAT =00
 a=SQUARE +6:COPY @326:8:0c00000004000000 | zero a MAP01 b | 0 | zero MAP01 sectors 1 bytes 1 | b=SQUARE =00 +6:COPY =00000100
 # as many points as a map may have
 a=apart:2048 | zero a MAP01 b | 0 | zero MAP01 sectors 1 bytes 1
+# Hexen's format
+a=SQUARE =de .1 hexen +6:BEHAVIOR *3 | zero a MAP01 b | 0 | zero MAP01 sectors 1 bytes 1 | b=SQUARE =00 .1 hexen +6:BEHAVIOR *3
+a=SQUARE - .1 hexen +5:behavior *3 | zero a MAP01 b | 0 | zero MAP01 sectors 1 bytes 1 | b=SQUARE =00 .1 hexen +6:behavior *3
+a=SQUARE +6:BEHAVIOR | zero a MAP01 b | 8 | refused: bad lump: size LINEDEFS | b=
+a=SQUARE .1 hexen +6:SCRIPTS +7:BEHAVIOR | zero a MAP01 b | 8 | refused: bad lump: size LINEDEFS | b=
+a=SQUARE .1 hexen +6:BEHAVIOR @14:1:09 | zero a MAP01 b | 8 | refused: bad lump: vertex of line 0 | b=
+a=SQUARE .1 hexen +6:BEHAVIOR @72:1:04 | zero a MAP01 b | 8 | refused: bad lump: side of line 3 | b=
+a=SQUARE .1 *262160 +6:BEHAVIOR | zero a MAP01 b | 9 | refused: limit: lines | b=
 # no WAD
 a=#50574144000000000c0000 | zero a MAP01 b | 6 | refused: not a wad: short header | b=
 a=#50574158000000000c000000 | zero a MAP01 b | 6 | refused: not a wad: bad magic | b=
@@ -28,7 +36,6 @@ a=SQUARE @298:2:e803 | zero a MAP02 b | 6 | refused: not a wad: lump outside 4 |
 # no map
 a=#50574144000000000c000000 | zero a MAP01 b | 7 | refused: no map: no marker | b=
 a=SQUARE @250:1:37 | zero a MAP02 b | 7 | refused: no map: no marker | b=
-a=SQUARE +6:BEHAVIOR | zero a MAP01 b | 7 | refused: no map: hexen format | b=
 a=SQUARE - - | zero a MAP01 b | 7 | refused: no map: missing SECTORS | b=
 a=SQUARE @250:1:37 | zero a MAP01 b | 8 | refused: bad lump: size LINEDEFS | b=
 a=SQUARE @14:1:09 | zero a MAP01 b | 8 | refused: bad lump: vertex of line 0 | b=
@@ -48,6 +55,7 @@ a=SQUARE | paint a MAP01 b | 2 | refused: usage | b=
 a=SQUARE | zero a MAP000001 b | 2 | refused: usage | b=
 a=SQUARE | zero a MAP01 b --cert c | 2 | refused: usage | b=, c=
 a=SQUARE | zero a MAP01 b -h | 2 | refused: usage | b=
+a=SQUARE | zero a MAP01 b --hexen | 2 | refused: usage | b=
 a=SQUARE | zero a MAP01 a | 11 | refused: same name | a=SQUARE
 a=SQUARE | zero c MAP01 b | 3 | refused: no file wad | b=
 # faults
@@ -74,6 +82,7 @@ a=DOORS33 | ray a MAP01 3R,11L,-1,128,-4064 | 0 | sight 0 3
 a=DOORS33 | ray a MAP01 3R,11L,-1,128,-4032 | 1 | no ray: blocked 7
 a=SHUT-PAIR | ray a MAP01 2R,2L,0,1,-32 | 1 | no ray: blocked 2
 a=PAIR | ray a MAP01 00002R,2L,-2147483648,2147483647,-9223372036854775808 | 1 | no ray: range
+a=PAIR .1 hexen +6:BEHAVIOR | ray a MAP01 2R,2L,0,1,-32 | 0 | sight 0 1
 # words that are no ray
 a=PAIR | ray a MAP01 | 2 | refused: usage
 a=PAIR | ray a MAP01 2R,2L,0,1 | 2 | refused: usage
@@ -92,6 +101,7 @@ a=U | audit a MAP01 | 0 | sound lines 12 points 10 sectors 3 triangles 8 | a=U
 a=SQUARE | audit a MAP01 | 0 | sound lines 4 points 4 sectors 1 triangles 2
 a=PAIR .1 <000000000100000000000000ffff .3 <4000200001000100 | audit a MAP01 | 0 | sound lines 7 points 6 sectors 2 triangles 4
 a=NO-LINES | audit a MAP01 | 0 | sound lines 0 points 0 sectors 2 triangles 0
+a=U .1 hexen +6:BEHAVIOR | audit a MAP01 | 0 | sound lines 12 points 10 sectors 3 triangles 8
 # unsound ones
 a=TOUCHED | audit a MAP01 | 10 | refused: bad map: touch 0 4
 a=CROSSED | audit a MAP01 | 10 | refused: bad map: cross 3 4
@@ -109,6 +119,7 @@ a=FAR-JOINED | audit a MAP01 | 0 | sound lines 2 points 3 sectors 1 triangles 0
 a=FAR-PARTED | audit a MAP01 | 0 | sound lines 2 points 4 sectors 1 triangles 0
 # traced rays
 a=U | trace a MAP01 5L,5R,-1,0,32 | 0 | trace 0 1 | a=U
+a=U .1 hexen +6:BEHAVIOR | trace a MAP01 5L,5R,-1,0,32 | 0 | trace 0 1
 a=DOORS33 | trace a MAP01 3R,11L,-1,128,-4032 | 1 | no trace: point 6
 a=DOORS33 | trace a MAP01 3R,11L,-1,128,-3968 | 1 | no trace: solid 7
 a=PAIR | trace a MAP01 2L,2R,0,1,-32 | 1 | no ray: wrong way 2
@@ -120,6 +131,7 @@ const CHECK: &str = "\
 # tables
 a=U =4400, c=#U-CERT | check a MAP01 c | 0 | yes sectors 3 set 1 clear 5 listed 0 | a=U =4400, c=#U-CERT
 a=U =44fe, c=#U-CERT | check a MAP01 c | 0 | yes sectors 3 set 1 clear 5 listed 0
+a=U =4400 .1 hexen +6:BEHAVIOR, c=#U-CERT | check a MAP01 c | 0 | yes sectors 3 set 1 clear 5 listed 0
 a=U =4600, c=#U-CERT | check a MAP01 c | 1 | no unproved 0 1
 a=U =0000, c=#U-CERT | check a MAP01 c | 1 | no uncovered 0 2
 a=U =0400, c=#U-CERT | check a MAP01 c | 1 | no uncovered 0 2
@@ -217,6 +229,8 @@ a=LINE3 | build a MAP01 --budget full b --cert=c | 0 | built MAP01 sectors 3 set
 # a WAD as a node builder leaves it, and one without REJECT
 a=PAIR =06 .3 <40002000 +1:THINGS *20 +5:SEGS *96 +6:SSECTORS *8 +7:NODES *28 +10:BLOCKMAP *40 +11:D_RUNNIN *100 | build a MAP01 b --cert c | 0 | built MAP01 sectors 2 set 0 clear 3 listed 0 | b=PAIR =00 .3 <40002000 +1:THINGS *20 +5:SEGS *96 +6:SSECTORS *8 +7:NODES *28 +10:BLOCKMAP *40 +11:D_RUNNIN *100
 | check b MAP01 c | 0 | yes sectors 2 set 0 clear 3 listed 0
+a=PAIR =06 .3 <40002000 .1 hexen +1:THINGS *20 +5:SEGS *96 +6:SSECTORS *8 +7:NODES *28 +10:BLOCKMAP *40 +11:BEHAVIOR *16 +12:D_RUNNIN *100 | build a MAP01 b --cert c | 0 | built MAP01 sectors 2 set 0 clear 3 listed 0 | b=PAIR =00 .3 <40002000 .1 hexen +1:THINGS *20 +5:SEGS *96 +6:SSECTORS *8 +7:NODES *28 +10:BLOCKMAP *40 +11:BEHAVIOR *16 +12:D_RUNNIN *100
+| check b MAP01 c | 0 | yes sectors 2 set 0 clear 3 listed 0
 a=PAIR - | build a map01 b --cert c | 0 | built MAP01 sectors 2 set 0 clear 3 listed 0 | b=PAIR =00
 | check b MAP01 c | 0 | yes sectors 2 set 0 clear 3 listed 0
 # unsound maps
@@ -228,7 +242,10 @@ a=U | build a MAP01 b --workers 65 | 2 | refused: usage | b=
 a=U | build a MAP01 b --workers 0 | 2 | refused: usage | b=
 a=U | build a MAP01 b --budget 0 | 2 | refused: usage | b=
 a=U | build a MAP01 b --budget 4294967297 | 2 | refused: usage | b=
+a=U | build a MAP01 b --hexen | 2 | refused: usage | b=
 a=U | grid 19 | 2 | refused: usage
+a=U | grid 2 --hexen=true | 2 | refused: usage
+a=U | grid 2 --hexen --cert c | 2 | refused: usage | c=
 a=U | grid +2 | 2 | refused: usage
 a=U | build a MAP01 b --cert b | 11 | refused: same name | b=
 a=U | build a MAP01 b --cert a | 11 | refused: same name | a=U, b=
@@ -244,6 +261,7 @@ const NEED: &str = "\
 a=LINE3 | need a MAP01 | 0 | need MAP01 most 4 enough 768 | a=LINE3
 a=SQUARE | need a MAP01 | 0 | need MAP01 most 0 enough 1
 a=U | need a MAP01 | 0 | need MAP01 most 4 enough 2000
+a=LINE3 .1 hexen +6:BEHAVIOR | need a MAP01 | 0 | need MAP01 most 4 enough 768
 # no sector, and so no source
 a=NO-LINES .4 = | need a MAP01 | 0 | need MAP01 most 0 enough 1
 a=LINE3 | need a MAP01 --budget enough | 2 | refused: usage

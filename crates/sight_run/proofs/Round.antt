@@ -10,7 +10,7 @@ use Rattle.sight_names.specs.declared.faults.WadFault.TheVariants as wad
 use Rattle.sight_names.specs.Map.{Map}
 use Rattle.wad_dir.specs.declared.parts.MapSpot.{MapSpot}
 use Rattle.wad_dir.specs.Kept.{reject_then, spot_then}
-use Rattle.wad_dir.specs.Map.{same_name, spot_of}
+use Rattle.wad_dir.specs.Map.{format_of, same_name, spot_of}
 use Rattle.wad_dir.specs.Print.{with_reject}
 use Rattle.wad_dir.specs.Wad.{WadFile, WadLump, names_of, wad_of}
 use Rattle.wad_rewrite.specs.Again.{IsReadAgain}
@@ -143,4 +143,4 @@ found_again name old table bytes found h other made =
         → lump_at (with_reject found.wad found.spot table) (spot_then found.spot).vertexes ≡ lump_at found.wad found.spot.vertexes
         → lump_at (with_reject found.wad found.spot table) (spot_then found.spot).sectors ≡ lump_at found.wad found.spot.sectors
         → map_at (with_reject found.wad found.spot table) (spot_then found.spot) ≡ map_at found.wad found.spot
-    four a b c d = λ i. of_four_lumps (a i) (b i) (c i) (d i)
+    four a b c d = λ i. of_four_lumps (format_of found.spot.hexen) (a i) (b i) (c i) (d i)

@@ -3,6 +3,7 @@
 use crate::certs::digits_named;
 use crate::maps::{Lines, NONE, RowLine, map_named};
 use crate::rooms::made_rooms;
+use hexen_lumps::to_hexen;
 use map_lumps::read_map;
 use map_maker::grid;
 use sight_names::{LumpFault, Plan};
@@ -161,7 +162,7 @@ fn lines_of(alloc: Global, word: &str) -> Result<Option<Lines>, AllocError> {
 }
 
 // What a word makes of a lump's bytes: `=` and digits are its bytes, `<` and digits stand behind them, `*` and a number
-// are so many bytes 5a.
+// are so many bytes 5a; `hexen` turns the records of LINEDEFS to Hexen's format.
 fn change(alloc: Global, lump: &mut RowLump, word: &str) -> Result<(), AllocError> {
     if let Some(digits) = word.strip_prefix('=') {
         lump.bytes = bytes_of_digits(alloc, digits)?;
@@ -170,6 +171,8 @@ fn change(alloc: Global, lump: &mut RowLump, word: &str) -> Result<(), AllocErro
             .extend_from_slice(&bytes_of_digits(alloc, digits)?)?;
     } else if let Some(count) = word.strip_prefix('*') {
         lump.bytes = vec![in alloc; 0x5a; number(count)]?;
+    } else if word == "hexen" && lump.bytes.len() % 14 == 0 {
+        lump.bytes = to_hexen(alloc, &lump.bytes).map_err(|_| AllocError)?;
     }
     Ok(())
 }
