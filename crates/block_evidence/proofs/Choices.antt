@@ -32,8 +32,6 @@ left_out_many zero (d ∷ ds) h = refl
 left_out_many (suc i) (d ∷ ds) h = ap suc (left_out_many i ds (omega (arith, h)))
 
 -- ---- the ends of pairs
-pub gathers_none : (pairs : List EndPair) → Gathers pairs 0 []
-gathers_none pairs = record { ascends = tt; from_pairs = tt; many = omega arith; has = λ j h. absurd (omega (arith, h)) }
 
 found_new : (pairs : List EndPair) → AreCoded pairs → (e : EndAt) → IsEndOf pairs e → (ds : List EndAt) → AreEnds pairs ds → IsIn e (inserted e ds)
 found_new pairs c e h ds k = inserted_new e ds (λ d i n. same_end pairs c d e (all_at (IsEndOf pairs) d ds k i) h n)

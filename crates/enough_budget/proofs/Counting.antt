@@ -136,12 +136,6 @@ count_few w p ts ls a count e f g k h good = counted_few (map_of p) ts ls a good
 
 -- ---- the greatest number
 
-pub greatest_on : (n m : ℕ) (ns : List ℕ) → max (max m n) (greatest ns) ≡ max m (greatest (n ∷ ns))
-greatest_on n m ns = either m n (greatest ns)
-  where
-    either : (a b c : ℕ) → max (max a b) c ≡ max a (max b c)
-    either a b c = omega arith
-
 -- ---- one more number
 
 pub one_more_number : (m : Map) (ts : List Triangle) (ls : List (Option ℕ)) (ns : List ℕ) (a k : ℕ) → length ns ≡ a → HasSequences m ts ls a k → ((b n : ℕ) → slice_get ns b ≡ Some n → HasSequences m ts ls b n)

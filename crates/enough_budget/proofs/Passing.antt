@@ -22,13 +22,6 @@ same_count points (o ∷ os) = go (is_passable (option_map (looked_up points) o)
     go true false e r = absurd (Rattle.std.proofs.Common.true≢false e)
     go false true e r = absurd (Rattle.std.proofs.Common.true≢false (sym e))
 
--- the products of the call
-pub first_product : (l v : ℕ) → l ≤ 16384 → v ≤ 4096 → l * v ≤ 67108864
-first_product l v h k = mul-le-mul h k
-
-pub second_product : (l v : ℕ) → l ≤ 16384 → v ≤ 4096 → l * v * v ≤ 274877906944
-second_product l v h k = mul-le-mul (first_product l v h k) k
-
 either_way : (a : ℕ) → max a 1 ≡ max 1 a
 either_way a = omega arith
 

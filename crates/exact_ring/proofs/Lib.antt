@@ -3,5 +3,4 @@ pub mod Ring
 pub mod Signs
 pub mod Quoting
 pub mod MoreSigns
-pub mod Choice
 pub mod Small

@@ -44,27 +44,7 @@ square-pos a n = elim (sign_cases a) as (λ _. pos 0 <ℤ (a *ℤ a)) [
   | inr k ↦ elim k as (λ _. pos 0 <ℤ (a *ℤ a)) [ inl e ↦ absurd (n e) | inr h ↦ mul-pos a a h h ]
 ]
 
-mul-difference : (c a b : ℤ) → c *ℤ (b -ℤ a) ≡ c *ℤ b -ℤ c *ℤ a
-mul-difference c a b = ring_at (a ∷ b ∷ c ∷ []) (search quoting depth 40 fits 100000) tt
-
-pub mul-lt : (c a b : ℤ) → pos 0 <ℤ c → a <ℤ b → (c *ℤ a) <ℤ (c *ℤ b)
-mul-lt c a b h k =
-    let p : pos 0 <ℤ (c *ℤ (b -ℤ a)) = mul-pos c (b -ℤ a) h (omega (arith, ints)) in
-    let e = mul-difference c a b in
-    omega (arith, ints)
-
-pub lt-of-mul : (c a b : ℤ) → pos 0 <ℤ c → (c *ℤ a) <ℤ (c *ℤ b) → a <ℤ b
-lt-of-mul c a b h k =
-    let e = mul-difference c a b in
-    let p : pos 0 <ℤ (b -ℤ a) = pos-of-mul c (b -ℤ a) h (omega (arith, ints)) in
-    omega (arith, ints)
-
 -- ---- weighted sums
-pub sum-nonneg : (l m x y : ℤ) → pos 0 ≤ℤ l → pos 0 ≤ℤ m → pos 0 ≤ℤ x → pos 0 ≤ℤ y → pos 0 ≤ℤ (l *ℤ x +ℤ m *ℤ y)
-sum-nonneg l m x y a b c d =
-    let p = mul-nonneg l x a c in
-    let q = mul-nonneg m y b d in
-    omega (arith, ints)
 
 pub sum-nonpos : (l m x y : ℤ) → pos 0 ≤ℤ l → pos 0 ≤ℤ m → x ≤ℤ pos 0 → y ≤ℤ pos 0 → (l *ℤ x +ℤ m *ℤ y) ≤ℤ pos 0
 sum-nonpos l m x y a b c d =
@@ -90,15 +70,3 @@ sum-pos l m x y a b h c d = elim (le_or_lt l (pos 0)) as (λ _. pos 0 <ℤ (l *�
   | inl k ↦ sum-pos_right l m x y a (omega (arith, ints)) (omega (arith, ints)) d
   | inr k ↦ sum-pos_left l m x y k b c (omega (arith, ints))
 ]
-
-pub sum-neg : (l m x y : ℤ) → pos 0 ≤ℤ l → pos 0 ≤ℤ m → pos 0 <ℤ (l +ℤ m) → x <ℤ pos 0 → y <ℤ pos 0 → (l *ℤ x +ℤ m *ℤ y) <ℤ pos 0
-sum-neg l m x y a b h c d =
-    let p : pos 0 <ℤ (l *ℤ neg_ℤ x +ℤ m *ℤ neg_ℤ y) = sum-pos l m (neg_ℤ x) (neg_ℤ y) a b h (omega (arith, ints)) (omega (arith, ints)) in
-    let e : l *ℤ neg_ℤ x +ℤ m *ℤ neg_ℤ y ≡ neg_ℤ (l *ℤ x +ℤ m *ℤ y) = ring_at (l ∷ m ∷ x ∷ y ∷ []) (search quoting depth 40 fits 100000) tt in
-    omega (arith, ints)
-
--- a sum of two positive multiples that is 0 has numbers of different signs
-pub neg-of-sum_zero : (l m x y : ℤ) → pos 0 <ℤ l → pos 0 <ℤ m → l *ℤ x +ℤ m *ℤ y ≡ pos 0 → pos 0 <ℤ y → x <ℤ pos 0
-neg-of-sum_zero l m x y a b e h =
-    let p = mul-pos m y b h in
-    neg-of-mul l x a (omega (arith, ints))

@@ -70,9 +70,6 @@ same-of-mul c a b h k =
     let d : a -ℤ b ≡ pos 0 = zero-of-mul c (a -ℤ b) h (omega (arith, ints)) in
     omega (arith, ints)
 
-neg-cancel : (a b : ℤ) → neg_ℤ a ≡ neg_ℤ b → a ≡ b
-neg-cancel a b e = omega (arith, ints)
-
 pub same-of-factor : (c a b : ℤ) → ¬ (c ≡ pos 0) → c *ℤ a ≡ c *ℤ b → a ≡ b
 same-of-factor c a b n e = elim (sign_cases c) as (λ _. a ≡ b) [
   | inl h ↦ same-of-mul (neg_ℤ c) a b (omega (arith, ints)) (neg-*ℤ c a ∙ ap neg_ℤ e ∙ sym (neg-*ℤ c b))

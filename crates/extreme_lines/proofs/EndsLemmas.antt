@@ -21,9 +21,6 @@ get_cases [] y (suc k) x h = absurd (none_is_not_some x h)
 get_cases (z ∷ xs) y zero x h = inl h
 get_cases (z ∷ xs) y (suc k) x h = get_cases xs y k x h
 
-end_by : ℕ → Bool → List EndPoints → Option EndAt
-end_by code b es = option_map (λ (p : Pt). record { code = code; at = p }) (if b then option_map (λ (e : EndPoints). e.left) (slice_get es code) else option_map (λ (e : EndPoints). e.right) (slice_get es (code - 32768)))
-
 mapped : (code : ℕ) (f : EndPoints → Pt) (o o' : Option EndPoints) (e : EndAt) → ((q : EndPoints) → o ≡ Some q → o' ≡ Some q) → ◌≡◌ {A = Option EndAt} (option_map (λ (p : Pt). record { code = code; at = p }) (option_map f o)) (Some e) → ◌≡◌ {A = Option EndAt} (option_map (λ (p : Pt). record { code = code; at = p }) (option_map f o')) (Some e)
 mapped code f None o' e h k = absurd (none_some k)
   where

@@ -172,9 +172,6 @@ wedge_meets w l r h k = balanced (pair_of w.first) (pair_of w.second) (record { 
 pub made_before : (e f : Extreme) (l r : EndAt) → e.left ≡ l → e.right ≡ r → cross (arrow_of f) (difference l.at r.at) <ℤ pos 0 → pos 0 <ℤ cross (arrow_of e) (arrow_of f)
 made_before e f l r p q h = subst (λ (u : Arrow). pos 0 <ℤ cross u (arrow_of f)) (sym (made_arrow e l r p q)) (second_before (difference l.at r.at) (arrow_of f) h)
 
-pub made_after : (e f : Extreme) (l r : EndAt) → f.left ≡ l → f.right ≡ r → pos 0 <ℤ cross (arrow_of e) (difference l.at r.at) → pos 0 <ℤ cross (arrow_of e) (arrow_of f)
-made_after e f l r p q h = subst (λ (u : Arrow). pos 0 <ℤ cross (arrow_of e) u) (sym (made_arrow f l r p q)) h
-
 -- ---- two different points are apart
 
 pub long_of_different : (l r : Pt) → ¬ (l ≡ r) → pos 0 <ℤ dot (difference l r) (difference l r)

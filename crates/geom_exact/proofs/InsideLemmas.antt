@@ -34,11 +34,3 @@ unfolding turn_of
 turn_of_weights a b c p l m n h k =
     combine2 (a.y -ℤ b.y) (b.x -ℤ a.x) h k
     (by_ring (a.x ∷ a.y ∷ b.x ∷ b.y ∷ c.x ∷ c.y ∷ p.x ∷ p.y ∷ l ∷ m ∷ n ∷ []) _ _ (search quoting depth 60 fits 200000) (search quoting depth 60 fits 200000) tt)
-
-pub turn_of_inside : (a b c p : Pt) → pos 0 <ℤ turn_of a b c → IsInside a b c p → pos 0 <ℤ turn_of a b p
-turn_of_inside a b c p h g =
-    pos-of-mul (g.l +ℤ g.m +ℤ g.n) (turn_of a b p) (sum g.l g.m g.n g.first g.second g.third)
-    (subst (λ (t : ℤ). pos 0 <ℤ t) (sym (turn_of_weights a b c p g.l g.m g.n g.x g.y)) (mul-pos g.n (turn_of a b c) g.third h))
-  where
-    sum : (l m n : ℤ) → pos 0 <ℤ l → pos 0 <ℤ m → pos 0 <ℤ n → pos 0 <ℤ (l +ℤ m +ℤ n)
-    sum l m n a b c = omega (arith, ints)

@@ -133,9 +133,5 @@ pub OnTrue_not : (b : Bool) (P : Type 0) → (b ≡ false → P) → OnTrue (not
 OnTrue_not true P f = tt
 OnTrue_not false P f = f refl
 
-pub OnFalse_not : (b : Bool) (P : Type 0) → OnFalse b P → b ≡ false → P
-OnFalse_not true P f e = absurd (true≢false e)
-OnFalse_not false P f e = f
-
 pub bar_turned : (m : Map) (kept : List Edge) (u v : ℕ) → IsCrossedBy m kept (edge v u) → IsCrossedBy m kept (edge u v)
 bar_turned m kept u v bar = (bar.0, bar.1, λ h. bar.2 (flip_first (place m u) (place m v) (place m bar.0.from) (place m bar.0.to) h))

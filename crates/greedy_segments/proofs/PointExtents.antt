@@ -40,15 +40,6 @@ pub record StarsUpTo (m : Map) (k : ℕ) (extents : List Extent) : Type 0 where
   pub count : length extents ≡ k
   pub none : (u : ℕ) (d : Extent) → u < k → HasNoEnds m u (get_or extents u d)
 
-pub extent_next : (m : Map) (k : ℕ) (extents : List Extent) (s : Extent) → StarsUpTo m k extents → HasNoEnds m k s → StarsUpTo m (k + 1) (extents ++ s ∷ [])
-extent_next m k extents s h here = record {
-  count = let e = h.count in let f = length_pushed extents s in omega arith;
-  none = λ u d lt. elim (below_or_last u k lt) [
-    | inl less ↦ subst (HasNoEnds m u) (sym (get_or_append_left extents (s ∷ []) d u (let e = h.count in omega arith))) (h.none u d less)
-    | inr same ↦ subst (λ (n : ℕ). HasNoEnds m n (get_or (extents ++ s ∷ []) u d)) (sym same) (subst (HasNoEnds m k) (sym (get_or_at extents s [] d u (h.count ∙ sym same))) here)
-  ];
-}
-
 -- ---- one more segment
 
 in_wider : (y : ℤ) (s t : Extent) → IsWithinExtent s t → IsInRange y s → IsInRange y t
@@ -112,15 +103,6 @@ extent_wider extents at v y s low high last_neighbour lt e ls ly hs hy fs fv = e
 
 -- ---- blocks
 
-block_mono : (u n : ℕ) → u ≤ n → u / 64 ≤ n / 64
-block_mono u n h = le-div (u / 64) n 64 (omega arith) (let g = div-mul-le_self u 64 in omega arith)
-
-pub blocks_made : (extents : List Extent) (blocks : List ℕ) → length blocks ≡ length extents / 64 + 1 → ((u : ℕ) (d : Extent) → u < length extents → (get_or extents u d).last_neighbour ≡ 0) → AreBlocks extents blocks
-blocks_made extents blocks each none = record {
-  each_block = λ u lt. let h = block_mono u (length extents) (omega arith) in omega arith;
-  last_neighbour = λ u e d lt. let h = none u d lt in omega arith;
-}
-
 pub blocks_set : (extents : List Extent) (blocks : List ℕ) (at x : ℕ) (s : Extent) → at < length extents → AreBlocks extents blocks → s.last_neighbour ≤ x → ((e : ℕ) → get_or blocks (at / 64) e ≤ x) → AreBlocks (set extents at s) (set blocks (at / 64) x)
 blocks_set extents blocks at x s lt old last_neighbour more = record {
   each_block = λ u h. let a = length-set extents at s in let b = length-set blocks (at / 64) x in let g = old.each_block u (omega arith) in omega arith;
@@ -137,13 +119,6 @@ blocks_set extents blocks at x s lt old last_neighbour more = record {
       | inr n ↦ subst (λ (t : Extent). t.last_neighbour ≤ x) (sym (get_or-set_other extents at u s d (λ f. n (sym f))))
           (let a = length-set extents at s in let g = old.last_neighbour u e d (omega arith) in let b = more e in let c = ap (λ (k : ℕ). get_or blocks k e) same in omega arith)
     ]
-
--- the numbers from u on before the next block are in u's block
-pub same_block : (u w : ℕ) → u ≤ w → w < (u / 64 + 1) * 64 → w / 64 ≡ u / 64
-same_block u w le lt = div-eq_of_lt-le {k = u / 64} 64 {m = w} (let h = div-mul-le_self u 64 in omega arith) lt
-
-pub behind_block : (u : ℕ) → u < (u / 64 + 1) * 64
-behind_block u = let h = lt-div-mul-add {a = u} {b = 64} (omega arith) in omega arith
 
 -- ---- what may be passed over
 

@@ -61,27 +61,6 @@ pub record IsCount (k : ℕ) (numbers : List ℕ) : Type 0 where
   pub count : length numbers ≡ k
   pub at : (i : ℕ) → i < k → slice_get numbers i ≡ Some i
 
-pub count_none : IsCount 0 []
-count_none = record { count = refl; at = λ i lt. absurd (omega arith) }
-
-pub count_next : (k : ℕ) (numbers : List ℕ) → IsCount k numbers → IsCount (k + 1) (numbers ++ k ∷ [])
-count_next k numbers c = record {
-  count = let e = length_pushed numbers k in let f = c.count in omega arith;
-  at = λ i lt. elim (below_or_last i k lt) [
-    | inl less ↦ get_before_pushed numbers k i i (c.at i less)
-    | inr same ↦ ap (slice_get (numbers ++ k ∷ [])) (same ∙ sym c.count) ∙ get_pushed numbers k ∙ ap (λ (n : ℕ). Some n) (sym same)
-  ];
-}
-
-at_is : (k : ℕ) (numbers : List ℕ) → IsCount k numbers → (i x : ℕ) → slice_get numbers i ≡ Some x → (i ≡ x) × (i < k)
-at_is k numbers c i x e = let lt : i < k = subst (λ (n : ℕ). i < n) c.count (slice_get_within numbers i x e) in (same_Some i x (sym (c.at i lt) ∙ e), lt)
-
-pub counted : (k : ℕ) (numbers : List ℕ) → IsCount k numbers → AreNumbers k numbers
-counted k numbers c = record {
-  within = λ x h. let e = at_is k numbers c h.0 x (get_of_contains numbers x h.0 h.1 h.2) in let f = e.0 in let g = e.1 in omega arith;
-  ascend = λ i j x y lt at_i at_j. let e = (at_is k numbers c i x at_i).0 in let f = (at_is k numbers c j y at_j).0 in omega arith;
-}
-
 pub all_counted : (k : ℕ) (numbers : List ℕ) → IsCount k numbers → (i : ℕ) → i < k → Contains numbers i
 all_counted k numbers c i lt = contains_of_get numbers i i (c.at i lt)
 

@@ -61,9 +61,6 @@ end_cases u s h = go (s.from == u) (s.to == u) (eqb-true s.from u) (eqb-true s.t
     go false true f g h = inr (g refl)
     go false false f g h = absurd (false≢true h)
 
-pub no_end_cases : (u : ℕ) (s : Segment) → has_end u s ≡ false → ¬ (s.from ≡ u) × ¬ (s.to ≡ u)
-no_end_cases u s h = (λ e. true≢false (sym (subst (λ (v : ℕ). has_end v s ≡ true) e (end_from s)) ∙ h), λ e. true≢false (sym (subst (λ (v : ℕ). has_end v s ≡ true) e (end_to s)) ∙ h))
-
 has_end_if_from : (u : ℕ) (s : Segment) → s.from ≡ u → has_end u s ≡ true
 has_end_if_from u s e = subst (λ (v : ℕ). has_end v s ≡ true) e (end_from s)
 

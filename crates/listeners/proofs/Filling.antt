@@ -16,18 +16,6 @@ pub record IsFilling (all : List ℕ) (start : ℕ) (before now rest : List ℕ)
   pub bytes : now ≡ take filled (drop start all) ++ drop filled before
   pub within : filled ≤ length before
 
-pub filling_none : (all : List ℕ) (start : ℕ) (before : List ℕ) → IsFilling all start before before all start 0
-filling_none all start before = record { left = refl; fits = omega arith; bytes = refl; within = omega arith }
-
-pub filled_all : (all : List ℕ) (start : ℕ) (before now : List ℕ) (at filled : ℕ) → IsFilling all start before now [] at filled → AreWordsAt all start before now filled
-filled_all all start before now at filled h =
-    let none : length (drop filled (drop start all)) ≡ length {A = ℕ} (drop at []) = ap (length {A = ℕ}) h.left in
-    let no : length {A = ℕ} (drop at []) ≡ 0 = ap length (drop_all {X = ℕ} at [] (omega arith)) in
-    record {
-      count = omega (arith, none, no, h.fits, h.within, length-drop filled (drop start all), length-drop start all);
-      bytes = h.bytes;
-    }
-
 -- ---- one text more
 
 -- the rest is the next text and what is behind it

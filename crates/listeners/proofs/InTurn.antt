@@ -129,15 +129,6 @@ on_way_done state f old new after at x y ended_old ended_new h lt first more don
   ended_is = map-append state ended_new (y ∷ []) ∙ ap (λ l. l ++ state y ∷ []) h.ended_is ∙ append_assoc (map state ended_old) h.ended (state y ∷ []);
 }
 
--- all were told
-pub told_all : {X : Type 0} (state : X → ListenerState) (f : Finding) (old new : List X) (at : ℕ) (ended_old ended_new : List X) → IsOnWay state f old new at ended_old ended_new → length new ≤ at → TellsOk f (map state old) (map state new) (map state ended_old) (map state ended_new)
-told_all state f old new at ended_old ended_new h le = record {
-  ended = h.ended;
-  told = subst (λ (l : List ListenerState). IsTold f l (map state new) h.ended) (sym (append-nil h.front) ∙ ap (λ (l : List _). h.front ++ map state l) (sym (drop_all at new le)) ∙ sym h.is)
-      (subst (λ (l : List _). IsTold f h.front (map state l) h.ended) (take_all at new le) h.told);
-  ended_is = h.ended_is;
-}
-
 -- the next one found no memory: it is as before
 pub told_in_part : {X : Type 0} (state : X → ListenerState) (f : Finding) (old new : List X) (at : ℕ) (y : X) (ended_old ended_new : List X) (x : X) → IsOnWay state f old new at ended_old ended_new → at < length new → drop at new ≡ x ∷ drop (at + 1) new → state y ≡ state x
     → TellsInPart f (map state old) (map state (set new at y)) (map state ended_old) (map state ended_new)

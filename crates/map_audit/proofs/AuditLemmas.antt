@@ -52,9 +52,6 @@ record_below p i l e = line_below p i (looked_up p.points l) (line_there p i l (
 fine_of : (m : Map) (i j : ℕ) (a b : MapLine) → line_at m i ≡ Some a → line_at m j ≡ Some b → AreFine a b → FineAt m i j
 fine_of m i j a b ea eb h k l ek el = subst₂ (λ (x y : MapLine). AreFine x y) (one_value (line_at m i) a k ea ek) (one_value (line_at m j) b l eb el) h
 
-pub fine_without_second : (p : PlanParts) (i j : ℕ) → option_and_then (λ l. l) (slice_get p.lines j) ≡ None → FineAt (map_of p) i j
-fine_without_second p i j e k l ek el = absurd (none-some l (sym (no_line_there p j (sym e)) ∙ el))
-
 pub fine_without_first : (p : PlanParts) (i j : ℕ) → option_and_then (λ l. l) (slice_get p.lines i) ≡ None → FineAt (map_of p) i j
 fine_without_first p i j e k l ek el = absurd (none-some k (sym (no_line_there p i (sym e)) ∙ ek))
 
@@ -93,15 +90,6 @@ pub all_later : (p : PlanParts) (i n : ℕ) → FineBelow (map_of p) i n → len
 all_later p i n h le j lt k l ek el = h j (let w = line_below p j l el in omega arith) lt k l ek el
 
 -- ---- the first pair
-first_named : (m : Map) (i j : ℕ) (relation : Relation) (f : LineFault) → IsFirstPair m i j relation → fault_by i j relation ≡ Some f → IsLineFault m f
-first_named m i j Apart f h e = absurd (none-some f e)
-first_named m i j Ends f h e = absurd (none-some f e)
-first_named m i j Touching f h e = subst (IsLineFault m) (let g : Touch i j ≡ f = cc in g) h
-first_named m i j Crossing f h e = subst (IsLineFault m) (let g : Cross i j ≡ f = cc in g) h
-first_named m i j Overlapping f h e = subst (IsLineFault m) (let g : Overlap i j ≡ f = cc in g) h
-
-pub first_of : (m : Map) (i j : ℕ) (f : LineFault) → i < j → FineBefore m i → FineBelow m i j → IsFaultOf m i j f → IsLineFault m f
-first_of m i j f lt before below h = first_named m i j h.relation f (record { ordered = lt; pair = h.pair; earlier = before; between = below }) h.named
 
 -- the first pair of a fault
 pub record Found (m : Map) (f : LineFault) : Type 0 where

@@ -69,23 +69,6 @@ none_from fault k (suc n) rest none =
 pub none_found : (fault : ℕ → Option LumpFault) (n : ℕ) (rest : Option LumpFault) → ((j : ℕ) → j < n → fault j ≡ None) → lines_fault fault (numbers_below n) rest ≡ rest
 none_found fault n rest none = none_from fault 0 n rest (λ j l. subst (λ (i : ℕ). fault i ≡ None) (omega arith) (none j l))
 
--- the parts of a record that is no line of zero length are those of its line
-pub line_placed : (format : MapFormat) (linedefs sidedefs vertexes : List ℕ) (k : ℕ) (first second : Pt) (solid : Bool) (right left : Option ℕ) →
-    first ≡ vertex vertexes (u16_at linedefs (linedef_len format * k)) → second ≡ vertex vertexes (u16_at linedefs (linedef_len format * k + 2)) → pt_eq first second ≡ false →
-    right ≡ side_sector sidedefs (u16_at linedefs (linedef_len format * k + right_at format)) → left ≡ side_sector sidedefs (u16_at linedefs (linedef_len format * k + left_at format)) →
-    solid ≡ (not (bit_at (u16_at linedefs (linedef_len format * k + 4)) 2 == 1) || is_none right || is_none left) →
-    Some (record { first = first; second = second; solid = solid; right = right; left = left }) ≡ linedef format linedefs sidedefs vertexes k
-line_placed format linedefs sidedefs vertexes k first second solid right left e1 e2 differ e3 e4 e5 =
-    let d : pt_eq (vertex vertexes (u16_at linedefs (linedef_len format * k))) (vertex vertexes (u16_at linedefs (linedef_len format * k + 2))) ≡ false = subst (λ (p : Pt). pt_eq p (vertex vertexes (u16_at linedefs (linedef_len format * k + 2))) ≡ false) e1 (subst (λ (q : Pt). pt_eq first q ≡ false) e2 differ) in
-    made first (vertex vertexes (u16_at linedefs (linedef_len format * k))) second (vertex vertexes (u16_at linedefs (linedef_len format * k + 2))) solid _ right _ left _ e1 e2 (e5 ∙ ap₂ (λ (r l : Option ℕ). not (bit_at (u16_at linedefs (linedef_len format * k + 4)) 2 == 1) || is_none r || is_none l) e3 e4) e3 e4
-    ∙ sym (taken (pt_eq (vertex vertexes (u16_at linedefs (linedef_len format * k))) (vertex vertexes (u16_at linedefs (linedef_len format * k + 2)))) _ d)
-  where
-    made : (f f' s s' : Pt) (b b' : Bool) (r r' l l' : Option ℕ) → f ≡ f' → s ≡ s' → b ≡ b' → r ≡ r' → l ≡ l' → ◌≡◌ {A = Option MapLine} (Some (record { first = f; second = s; solid = b; right = r; left = l })) (Some (record { first = f'; second = s'; solid = b'; right = r'; left = l' }))
-    made f f' s s' b b' r r' l l' e1 e2 e3 e4 e5 = cc
-
-    taken : (b : Bool) (x : Option MapLine) → b ≡ false → cond b None x ≡ x
-    taken b x e = ap (λ (c : Bool). cond c None x) e
-
 -- the two-sided flag is the third bit
 third_bit : (x : ℕ) → x < 2 → not (x * 4 == 0) ≡ (x == 1)
 third_bit zero h = refl

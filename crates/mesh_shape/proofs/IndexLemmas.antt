@@ -54,13 +54,6 @@ no_corner_no_edge a b c u v h = go (a == u) (b == u) (c == u) (a == v) (b == v) 
 pub without_corner : (t : Triangle) (e : Edge) → has_corner e.from t ≡ false → has_edge e t ≡ false
 without_corner t e h = no_corner_no_edge t.p t.q t.r e.from e.to h
 
-pub search_start : (ts : List Triangle) (e : Edge) (j : ℕ) → IsNextAround ts e.from 0 j → IsSearched ts e j
-search_start ts e j next = record {
-  within = next.within;
-  none = λ k h d. without_corner (get_or ts k d) e (next.none k d h (omega arith));
-  here = next.here;
-}
-
 pub search_step : (ts : List Triangle) (e : Edge) (at j : ℕ) (t : Triangle) → IsSearched ts e at → at < length ts → get_or ts at t ≡ t → has_edge e t ≡ false → IsNextAround ts e.from (at + 1) j → IsSearched ts e j
 search_step ts e at j t s lt is none next = record {
   within = next.within;
@@ -142,9 +135,6 @@ pub record IsEntered (ts : List Triangle) (k : ℕ) (first : List ℕ) (later : 
 abbrev pub entry_of : List ℕ → Triangle → Next
 entry_of first t = record { p = get_or first t.p 0; q = get_or first t.q 0; r = get_or first t.r 0 }
 
-corner_p : (a u v : ℕ) (b c : Bool) → a ≡ u → (a == u || b || c) ≡ true
-corner_p a u v b c h = rw h (grind arith)
-
 pub enter_next : (ts : List Triangle) (k : ℕ) (first : List ℕ) (t : Triangle) → IsTriangle (length first) t → ((u d : ℕ) → u < length first → IsNextAround ts u (k + 1) (get_or first u d)) → IsNext ts k t (entry_of first t)
 enter_next ts k first t is round =
     let l : t.p < t.q = is.least in
@@ -175,13 +165,6 @@ enter_step ts m k t first new later e lt at is len len' put was = record {
 
     later_one : (j : ℕ) (d : Triangle) (n : Next) → k ≤ j → j < length ts → (j ≡ k → ⊥) → IsNext ts j (get_or ts j d) (get_or (set later k (entry_of first t)) j n)
     later_one j d n le b other = subst (λ (z : Next). IsNext ts j (get_or ts j d) z) (sym (get_or-set_other later k j (entry_of first t) n other)) (was.next_round j d n (omega arith) b)
-
--- nothing is entered yet
-pub enter_none : (ts : List Triangle) (first : List ℕ) (later : List Next) → ((u d : ℕ) → u < length first → get_or first u d ≡ length ts) → IsEntered ts (length ts) first later
-enter_none ts first later at_end = record {
-  first_round = λ u d h. subst (λ (z : ℕ). IsNextAround ts u (length ts) z) (sym (at_end u d h)) (record { from = omega arith; within = omega arith; none = λ k e a b. absurd (omega arith); here = λ e a. absurd (omega arith) });
-  next_round = λ j d e le b. absurd (omega arith);
-}
 
 -- from one triangle round a point to the next
 pub next_of : (points : ℕ) (ts : List Triangle) (first : List ℕ) (later : List Next) (k u : ℕ) (t : Triangle) (n : Next) → IsIndexed points ts first later → k < length ts → get_or ts k t ≡ t → get_or later k n ≡ n → has_corner u (get_or ts k t) ≡ true

@@ -10,9 +10,3 @@ use Rattle.geom_exact.proofs.Meeting.{ends_meet, apart_meet}
 
 pub overlap_not : (p q r s : Pt) → IsRelation p q r s Overlap → MeetAtEnds p q r s → ⊥
 overlap_not p q r s (u, v, c, d, differ) h = differ (h.one u v c d)
-
-pub touch_not : (p q r s : Pt) → IsRelation p q r s Touch → MeetAtEnds p q r s → ⊥
-touch_not p q r s (z, only, one) h = let e = h.ends z only.common in elim one [ inl k ↦ k.1 e.1 | inr k ↦ k.0 e.0 ]
-
-pub cross_not : (p q r s : Pt) → IsRelation p q r s Cross → MeetAtEnds p q r s → ⊥
-cross_not p q r s (z, only, no_first, no_second) h = no_first (h.ends z only.common).0

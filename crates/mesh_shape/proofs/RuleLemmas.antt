@@ -137,14 +137,6 @@ no_side_fits p ts ls i left h = record {
   none = λ k n at names there. none_is_not (line_at (map_of p) i) k h at;
 }
 
-pub joined_is_line : (p : PlanParts) → IsPlan p → (i : ℕ) (l : Line) (u v : ℕ) → slice_get p.lines i ≡ Some (Some l) → Joins l u v → IsLineEdge (map_of p) (record { from = u; to = v })
-joined_is_line p is i l u v e h = let s = joined_edge p is i l u v e h in (i, looked_up p.points l, s.0, plan_line_at p i l e, s.1)
-
-pub line_is_joined : (p : PlanParts) → IsPlan p → (u v : ℕ) → IsLineEdge (map_of p) (record { from = u; to = v }) → (i : ℕ) × (l : Line) × (slice_get p.lines i ≡ Some (Some l)) × Joins l u v
-line_is_joined p is u v (i, l, left, at, e) =
-    let k = line_of_plan p.points p.lines i l at in
-    (i, k.0, k.1, edge_joined p is i k.0 u v left k.1 (e ∙ ap (λ (x : MapLine). side_edge (map_of p) x left) (sym k.2)))
-
 -- ---- edges of a triangle
 
 -- a directed edge is one of the three
@@ -172,23 +164,6 @@ edge_cases t e P x y z h = go (t.p == e.from) (t.q == e.to) (t.q == e.from) (t.r
     go false b true false false g h1 h2 h3 h4 h5 h6 w = absurd (false≢true w)
     go false b false d true false h1 h2 h3 h4 h5 h6 w = absurd (false≢true w)
     go false b false d false g h1 h2 h3 h4 h5 h6 w = absurd (false≢true w)
-
-eqs : (a b c d : ℕ) → a ≡ b → c ≡ d → (a == b && c == d) ≡ true
-eqs a b c d e f = grind (arith, eq-eqb a b e, eq-eqb c d f)
-
-or_first : (a b c : Bool) → a ≡ true → (a || b || c) ≡ true
-or_first true b c h = refl
-or_first false b c h = absurd (false≢true h)
-
-or_second : (a b c : Bool) → b ≡ true → (a || b || c) ≡ true
-or_second true b c h = refl
-or_second false true c h = refl
-or_second false false c h = absurd (false≢true h)
-
-or_third : (a b c : Bool) → c ≡ true → (a || b || c) ≡ true
-or_third true b c h = refl
-or_third false true c h = refl
-or_third false false c h = h
 
 -- ---- the first triangle with an edge
 
@@ -219,10 +194,6 @@ item_there {X} xs ys k d e lt = subst (λ (zs : List X). slice_get zs k ≡ Some
 -- what holds of the item that a loop is at holds of what stands there
 pub at_item : {X : Type 0} (P : X → Type 0) (xs ys : List X) (k : ℕ) (d : X) → xs ≡ ys → k < length xs → P (get_or xs k d) → (x : X) → slice_get ys k ≡ Some x → P x
 at_item P xs ys k d e lt h = at_this P ys k (get_or xs k d) (item_there xs ys k d e lt) h
-
--- what holds of each item that a loop has seen holds of all
-pub at_all : {X : Type 0} (P : ℕ → X → Type 0) (xs ys : List X) (n : ℕ) → xs ≡ ys → length xs ≤ n → ((j : ℕ) → j < n → (x : X) → slice_get ys j ≡ Some x → P j x) → (j : ℕ) (x : X) → slice_get ys j ≡ Some x → P j x
-at_all {X} P xs ys n e le h j x f = h j (let lt = slice_get_within ys j x f in let l = ap length e in omega arith) x f
 
 -- ---- the rules of a triangle
 

@@ -44,10 +44,6 @@ has_pushed rays r a b h = elim (Contains-push_cases rays r h.0 h.1) [
   | inr q ↦ inr (ap (λ (x : PairRay). x.pair) q ∙ h.2)
 ]
 
--- no bit, no pair
-pub no_marks : (t : TableParts) → ((a b : ℕ) → ¬ Rejects t a b) → AreMarked t []
-no_marks t none = record { bits = λ a b h k. ((λ r. absurd (none a b r)), (λ r. absurd (contains_none r.0 r.1))) }
-
 -- the bit of the new ray's pair is set
 pub marked_more : (old new : TableParts) (rays : List PairRay) (r : PairRay) → AreMarked old rays → r.pair.a < old.n → r.pair.b < old.n → SetsPair old new r.pair.a r.pair.b → KeepsOtherPairs old new r.pair.a r.pair.b → AreMarked new (rays ++ r ∷ [])
 marked_more old new rays r marked la lb sets keeps = record { bits = λ c d lc ld. at c d (subst (λ (n : ℕ). c < n) sets.sectors lc) (subst (λ (n : ℕ). d < n) sets.sectors ld) (same_or_other c d r.pair.a r.pair.b) }
@@ -66,9 +62,6 @@ marked_more old new rays r marked la lb sets keeps = record { bits = λ c d lc l
     )
 
 -- ---- what is gathered
-
-pub gathers_none : KeepsOneEach [] []
-gathers_none = record { from = λ r c. c; pairs = λ r c. absurd (contains_none r c); once = λ i j r s lt h g. absurd cc }
 
 pub noted : (all : List PairRay) (r : PairRay) (old new : PairRaysParts) → KeepsOneEach all old.rays → IsNoted r old new → KeepsOneEach (all ++ r ∷ []) new.rays
 noted all r old new g is = elim is.rays [
@@ -95,16 +88,6 @@ pub noted_more : (all : List PairRay) (f : Reached → PairRay) (xs : List Reach
 noted_more all f xs i d old new lt g is =
     let e : (all ++ map f (take i xs)) ++ f (get_or xs i d) ∷ [] ≡ all ++ map f (take (i + 1) xs) = append_assoc all (map f (take i xs)) (f (get_or xs i d) ∷ []) ∙ ap (λ (ys : List PairRay). all ++ ys) (sym (map_more f xs i d lt)) in
     subst (λ (ys : List PairRay). KeepsOneEach ys new.rays) e (noted (all ++ map f (take i xs)) (f (get_or xs i d)) old new g is)
-
-pub noted_none : (all : List PairRay) (f : Reached → PairRay) (xs : List Reached) (rays : List PairRay) → KeepsOneEach all rays → KeepsOneEach (all ++ map f (take 0 xs)) rays
-noted_none all f xs rays g = subst (λ (ys : List PairRay). KeepsOneEach ys rays) (sym (append-nil all)) g
-
-pub noted_all : (all : List PairRay) (f : Reached → PairRay) (xs : List Reached) (i : ℕ) (rays : List PairRay) → length xs ≤ i → KeepsOneEach (all ++ map f (take i xs)) rays → KeepsOneEach (all ++ map f xs) rays
-noted_all all f xs i rays h g = subst (λ (ys : List Reached). KeepsOneEach (all ++ map f ys) rays) (take_all i xs h) g
-
--- one source more
-pub all_rays_more : (rs : List SourceResult) (i : ℕ) (d : SourceResult) → i < length rs → all_rays (take (i + 1) rs) ≡ all_rays (take i rs) ++ map (toward (get_or rs i d).source) (get_or rs i d).found
-all_rays_more rs i d lt = ap all_rays (take_more rs i d lt) ∙ sym (flat_map_more (λ (r : SourceResult). map (toward r.source) r.found) [] (take i rs) (get_or rs i d))
 
 -- ---- a ray runs from the smaller sector to the larger
 

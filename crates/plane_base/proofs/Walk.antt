@@ -97,9 +97,6 @@ dec_good cs p q w =
       ]
     ]
 
-trans_ring : (a b c d e f : ℤ) → d *ℤ (e *ℤ a) ≡ a *ℤ (e *ℤ d)
-trans_ring a b c d e f = by_ring (a ∷ d ∷ e ∷ []) _ _ (search quoting depth 60 fits 1000000) (search quoting depth 60 fits 1000000) tt
-
 le_trans0 : (al am bl bm cl cm : ℤ) → pos 0 <ℤ al → pos 0 <ℤ bl → pos 0 <ℤ cl → (bm *ℤ al) ≤ℤ (am *ℤ bl) → (cm *ℤ bl) ≤ℤ (bm *ℤ cl) → (cm *ℤ al) ≤ℤ (am *ℤ cl)
 le_trans0 al am bl bm cl cm a b c h k =
     let x = mul-le al (cm *ℤ bl) (bm *ℤ cl) (omega (arith, ints)) k in

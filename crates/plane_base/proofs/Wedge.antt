@@ -12,9 +12,6 @@ use Rattle.exact_ring.proofs.MoreSigns.{mul-nonpos, mul-neg}
 pub mul_np : (a b : ℤ) → a ≤ℤ pos 0 → pos 0 ≤ℤ b → (a *ℤ b) ≤ℤ pos 0
 mul_np a b h k = omega (arith, ints, neg-*ℤ a b, mul-nonneg (neg_ℤ a) b (omega (arith, ints)) k)
 
-pub mul_neg_pos : (a b : ℤ) → a <ℤ pos 0 → pos 0 <ℤ b → (a *ℤ b) <ℤ pos 0
-mul_neg_pos a b h k = omega (arith, ints, neg-*ℤ a b, mul-pos (neg_ℤ a) b (omega (arith, ints)) k)
-
 -- ---- a segment contains the segments between its points
 within0 : (n n1 n2 l m l1 m1 l2 m2 w y z p q : ℤ) →
     n *ℤ n1 *ℤ n2 *ℤ w -ℤ ((l *ℤ n2 *ℤ l1 +ℤ m *ℤ n1 *ℤ l2) *ℤ p +ℤ (l *ℤ n2 *ℤ m1 +ℤ m *ℤ n1 *ℤ m2) *ℤ q)

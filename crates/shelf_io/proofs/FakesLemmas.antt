@@ -38,14 +38,6 @@ with_bytes file bytes = record { name = file.name; bytes = bytes }
 place_step : (f : File) (fs : List File) (q : List ℕ) (i : ℕ) (t : Bool) → bytes_eq (string_bytes f.name) q ≡ t → place_in (f ∷ fs) q ≡ Some i → cond t (Some 0) (option_map suc (place_in fs q)) ≡ Some i
 place_step f fs q i t e p = rw (← e) p
 
-pub place_within : (fs : List File) (q : List ℕ) (i : ℕ) → place_in fs q ≡ Some i → i < length fs
-place_within [] q i p = absurd cc
-place_within (f ∷ fs) q i p =
-    elim (bytes_eq (string_bytes f.name) q) as (λ t. bytes_eq (string_bytes f.name) q ≡ t → i < suc (length fs)) [
-      | true ↦ λ e. let z : 0 ≡ i = same_Some 0 i (place_step f fs q i true e p) in omega arith
-      | false ↦ λ e. let b = behind (place_in fs q) i (place_step f fs q i false e p) in omega (arith, b.1, place_within fs q b.0 b.2)
-    ] refl
-
 pub found_at : (fs : List File) (q : List ℕ) (i : ℕ) (d : File) → place_in fs q ≡ Some i → files_of fs q ≡ Some (get_or fs i d).bytes.items
 found_at [] q i d p = absurd cc
 found_at (f ∷ fs) q i d p =

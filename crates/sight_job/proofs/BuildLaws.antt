@@ -45,9 +45,6 @@ use Rattle.tri_sectors.proofs.GoodLabels.{label_within}
 
 -- ---- labels
 
-pub label_is : (ls : List (Option ℕ)) (k : ℕ) (l : Option ℕ) → k < length ls → get_or ls k None ≡ l → label_of ls k ≡ l
-label_is ls k l lt e = ap (λ (o : Option (Option ℕ)). option_and_then (λ l. l) o) (slice_get-get_or ls k None lt) ∙ e
-
 -- ---- the walks
 
 -- each walk went as far as is told

@@ -50,9 +50,6 @@ two_of r l false h = inr h
 pub unsplit : (m : Map) (r : Ray) (s : Side) (l : MapLine) → line_at m s.line ≡ Some l → ¬ AreOnTwoSides (side_value r l.first) (side_value r l.second) → ¬ IsSplit m r s
 unsplit m r s l e n (b, h) = n (subst (λ (k : MapLine). AreOnTwoSides (side_value r k.first) (side_value r k.second)) (same_line m s.line h.line l h.is e) (two_of r h.line b h.ends))
 
-pub unsplit_none : (m : Map) (r : Ray) (s : Side) → line_at m s.line ≡ None → ¬ IsSplit m r s
-unsplit_none m r s e (b, h) = none_is_not_some h.line (sym e ∙ h.is)
-
 -- ---- the way
 one_way : (r : Ray) (l : MapLine) (b : Bool) → SplitsLine r l b → SplitsLine r l (not b) → ⊥
 one_way r l true h k = let a = h.0 in let b = k.0 in pos_not_neg _ a b
@@ -78,11 +75,6 @@ not_false true e = refl
 not_false false e = cc
 
 -- ---- crossings
-at_crossing : (r : Ray) (l : MapLine) (b : Bool) (left right : Pt) (z : Point) → left ≡ (if b then l.first else l.second) → right ≡ (if b then l.second else l.first)
-    → IsCrossing r l z → OnSegment (point_of left) (point_of right) z
-at_crossing r l true left right z e f c = subst (λ (p : Pt). OnSegment (point_of p) (point_of right) z) (sym e) (subst (λ (p : Pt). OnSegment (point_of l.first) (point_of p) z) (sym f) c.0)
-at_crossing r l false left right z e f c =
-    subst (λ (p : Pt). OnSegment (point_of p) (point_of right) z) (sym e) (subst (λ (p : Pt). OnSegment (point_of l.second) (point_of p) z) (sym f) (on_segment_sym (point_of l.first) (point_of l.second) z c.0))
 
 at_line : (l : MapLine) (b : Bool) (left right : Pt) (z : Point) → left ≡ (if b then l.first else l.second) → right ≡ (if b then l.second else l.first)
     → OnSegment (point_of left) (point_of right) z → OnSegment (point_of l.first) (point_of l.second) z
@@ -92,11 +84,6 @@ at_line l false left right z e f o =
 
 pub line_crosses : (m : Map) (r : Ray) (s : Side) (g : CrossedLine) (z : Point) → IsCrossedLineOf m r s g → CrossingOfLine r g z → Crosses m r s z
 line_crosses m r s g z h c = record { line = h.line; is = h.is; crossing = (at_line h.line g.first_left g.left g.right z h.crossed_line.left h.crossed_line.right c.0, c.1) }
-
-pub crosses_line : (m : Map) (r : Ray) (s : Side) (g : CrossedLine) (z : Point) → IsCrossedLineOf m r s g → Crosses m r s z → CrossingOfLine r g z
-crosses_line m r s g z h c =
-    let k : IsCrossing r h.line z = subst (λ (l : MapLine). IsCrossing r l z) (same_line m s.line c.line h.line c.is h.is) c.crossing in
-    (at_crossing r h.line g.first_left g.left g.right z h.crossed_line.left h.crossed_line.right k, k.1)
 
 -- ---- the answers of the code
 pub crossed_line_or_none : (m : Map) (r : Ray) (s : Side) (l : MapLine) (o : Option CrossedLine) (p q : Pt) → line_at m s.line ≡ Some l → p ≡ l.first → q ≡ l.second

@@ -26,9 +26,6 @@ names_of m r a b h e f = record { range = h; from = is_there (named m r.first) a
 pub leaves_by : (m : Map) (r : Ray) (g : CrossedLine) → IsCrossedLineOf m r r.first g → g.first_left ≡ not r.first.left → Leaves m r
 leaves_by m r g h e = subst (λ (b : Bool). Splits m r r.first b) e (crossed_line_splits m r r.first g h)
 
-pub arrives_by : (m : Map) (r : Ray) (g : CrossedLine) → IsCrossedLineOf m r r.last g → g.first_left ≡ r.last.left → Arrives m r
-arrives_by m r g h e = subst (λ (b : Bool). Splits m r r.last b) e (crossed_line_splits m r r.last g h)
-
 splits_both : (m : Map) (r : Ray) (g h : CrossedLine) → HasNames m r → IsCrossedLineOf m r r.first g → IsCrossedLineOf m r r.last h → HasSplits m r
 splits_both m r g h names gg gh = record { names = names; first = (g.first_left, crossed_line_splits m r r.first g gg); last = (h.first_left, crossed_line_splits m r r.last h gh) }
 

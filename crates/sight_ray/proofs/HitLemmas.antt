@@ -181,6 +181,3 @@ hit_or_clear m r g h i l p q b e solid f k = match_map b _ _ _ _
 
 pub none_clear : (m : Map) (r : Ray) (g h : CrossedLine) (i : ℕ) → line_at m i ≡ None → IsClearAt m r g h i
 none_clear m r g h i e l is solid = absurd (none_is_not_some l (sym e ∙ is))
-
-pub open_clear : (m : Map) (r : Ray) (g h : CrossedLine) (i : ℕ) (l : MapLine) → line_at m i ≡ Some l → l.solid ≡ false → IsClearAt m r g h i
-open_clear m r g h i l e f n is solid = absurd (true≢false (sym solid ∙ ap (λ (x : MapLine). x.solid) (same_line m i n l is e) ∙ f))

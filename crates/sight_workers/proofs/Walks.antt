@@ -39,16 +39,8 @@ later_look v w l = record { marks = λ p h. subst (λ (ms : List (ℕ × ℕ)). 
 pub later_then : (u v w : View) → IsLater u v → IsLater v w → IsLater u w
 later_then u v w a b = record { marks = λ p h. b.marks p (a.marks p h); seen = λ p h. b.seen p (a.seen p h); looks = λ p h. b.looks p (a.looks p h) }
 
-pub marked_none : (source : ℕ) (found : List Reached) (xs : List (ℕ × ℕ)) → IsMarkedBy source found xs xs
-marked_none source found xs = ((λ p h. h), (λ p h. inl h))
-
 pub marked_then : (source : ℕ) (found : List Reached) (xs ys zs : List (ℕ × ℕ)) → IsMarkedBy source found xs ys → IsMarkedBy source found ys zs → IsMarkedBy source found xs zs
 marked_then source found xs ys zs a b = ((λ p h. b.0 p (a.0 p h)), (λ p h. ⊎_elim (a.1 p) (λ k. inr k) (b.1 p h)))
-
-map_at : {X Y : Type 0} (h : X → Y) (xs : List X) (x : X) (k : ℕ) → k < length xs → get_or xs k x ≡ x → Contains (map h xs) (h x)
-map_at h [] x k lt e = absurd (omega arith)
-map_at h (y ∷ xs) x zero lt e = (0, omega arith, ap h e)
-map_at h (y ∷ xs) x (suc k) lt e = let q = map_at h xs x k (omega arith) e in (suc q.0, (let w = q.1 in omega arith), q.2)
 
 from_map_at : {X Y : Type 0} (h : X → Y) (xs : List X) (y : Y) (k : ℕ) → k < length (map h xs) → get_or (map h xs) k y ≡ y → (x : X) × Contains xs x × (h x ≡ y)
 from_map_at h [] y k lt e = absurd (omega arith)

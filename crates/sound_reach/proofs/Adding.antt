@@ -21,9 +21,6 @@ use Rattle.list_base.proofs.Lists.{contains_none}
 abbrev pub AreDoorsBelow : PlanParts → List Bool → ℕ → List Door → Type 0
 AreDoorsBelow p d n es = (e : Door) → Contains es e ↔ ((e.side.line < n) × IsDoor (map_of p) d e)
 
-pub below_begun : (p : PlanParts) (d : List Bool) → AreDoorsBelow p d 0 []
-below_begun p d e = (λ c. absurd (contains_none e c), λ w. let lt = w.0 in absurd (omega (arith, lt)))
-
 plan_line : (points : List Pt) (ls : List (Option Line)) (i : ℕ) (l : Line) → slice_get ls i ≡ Some (Some l) → option_and_then (λ k. k) (slice_get (map (option_map (looked_up points)) ls) i) ≡ Some (looked_up points l)
 plan_line points ls i l e = ap (option_and_then (λ (k : Option MapLine). k)) (slice_get-map (option_map (looked_up points)) ls i ∙ ap (option_map (option_map (looked_up points))) e)
 
@@ -102,12 +99,6 @@ doors_within p is d es are e c =
     at false l is f = subst (λ (o : Option ℕ). IfSome o (λ a. a < p.sectors)) f is.right
 
 -- ---- the doors of one sector
-
-pub starts_pushed : (es : List Door) (starts : List ℕ) (i : ℕ) → AreStarts es starts → IsStart es (length starts) i → AreStarts es (starts ++ i ∷ [])
-starts_pushed es starts i h is c j e = elim (get_push starts i j c e) as (λ _. IsStart es c j) [
-  | inl k ↦ h c j k
-  | inr k ↦ subst (λ (x : ℕ). IsStart es x j) (sym k.0) (subst (IsStart es (length starts)) k.1 is)
-]
 
 pub start_order : (es : List Door) (c i j : ℕ) → IsStart es c i → IsStart es (c + 1) j → i ≤ j
 start_order es c i j s t = elim (either i j) as (λ _. i ≤ j) [

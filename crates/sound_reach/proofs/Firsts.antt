@@ -27,36 +27,12 @@ not_after_after s t u (inr k) (inr h) = inr (chained s.line t.line u.line s.left
     chained i j k a b c (inr x) (inl y) = let x0 = x.0 in inl (omega arith)
     chained i j k a b c (inr x) (inr y) = inr (x.0 ∙ y.0, x.1, y.2)
 
-pub not_before : (s t : Side) → ¬ SideBefore t s → IsNotAfter s t
-not_before s t h = at s.left t.left (trichotomy s.line t.line) h
-  where
-    trichotomy : (i j : ℕ) → (i < j) ⊎ (i ≡ j) ⊎ (j < i)
-    trichotomy i j = grind arith
-
-    same : (i j : ℕ) (a b : Bool) → i ≡ j → a ≡ b → ◌≡◌ {A = Side} (record { line = i; left = a }) (record { line = j; left = b })
-    same i j a b e f = λ k. record { line = e k; left = f k }
-
-    at : (a b : Bool) → (s.line < t.line) ⊎ (s.line ≡ t.line) ⊎ (t.line < s.line) → ¬ ((t.line < s.line) ⊎ ((t.line ≡ s.line) × (b ≡ false) × (a ≡ true)))
-        → (◌≡◌ {A = Side} (record { line = s.line; left = a }) (record { line = t.line; left = b })) ⊎ ((s.line < t.line) ⊎ ((s.line ≡ t.line) × (a ≡ false) × (b ≡ true)))
-    at a b (inl lt) h = inr (inl lt)
-    at a b (inr (inr gt)) h = absurd (h (inl gt))
-    at true true (inr (inl e)) h = inl (same s.line t.line true true e refl)
-    at false false (inr (inl e)) h = inl (same s.line t.line false false e refl)
-    at false true (inr (inl e)) h = inr (inr (e, refl, refl))
-    at true false (inr (inl e)) h = absurd (h (inr (sym e, refl, refl)))
-
 -- ---- the least step of the doors so far
 
 -- the doors before place n were looked through
 pub record IsLeastBelow (ds : List (Option ℕ)) (left : ℕ) (spare : Bool) (found : List Door) (n : ℕ) (best : Option Step) : Type 0 where
   pub through : (step : Step) → best ≡ Some step → (e : Door) × Contains found e × IsStepThrough ds left spare e (Some step)
   pub least : (k : ℕ) (e : Door) (y : State) → k < n → slice_get found k ≡ Some e → Approaches ds left spare e y → (step : Step) × (best ≡ Some step) × IsNotAfter step.side e.side
-
-pub least_begun : (ds : List (Option ℕ)) (left : ℕ) (spare : Bool) (found : List Door) → IsLeastBelow ds left spare found 0 None
-least_begun ds left spare found = record { through = λ step e. absurd (no step e); least = λ k e y lt. absurd (omega arith) }
-  where
-    no : (step : Step) → ◌≡◌ {A = Option Step} None (Some step) → ⊥
-    no step e = cc
 
 pub least_more : (ds : List (Option ℕ)) (left : ℕ) (spare : Bool) (found : List Door) (n : ℕ) (best step result : Option Step) (e : Door) → Contains found e → slice_get found n ≡ Some e
     → IsStepThrough ds left spare e step → IsLesser best step result → IsLeastBelow ds left spare found n best → IsLeastBelow ds left spare found (n + 1) result

@@ -220,15 +220,6 @@ pub record IsFilling (sectors : ℕ) (ds rows rows' : List (Option ℕ)) (done c
   pub near : (a : ℕ) → sectors - done ≤ a → a < sectors → is_near ds false a ≡ true → row_at rows' a ≡ Some (count_by (is_near ds true) (range_with_len a (sectors - a)))
   pub far : (a : ℕ) → is_near ds false a ≡ false → row_at rows' a ≡ row_at rows a
 
-pub filling_begun : (sectors : ℕ) (ds rows : List (Option ℕ)) → IsFilling sectors ds rows rows 0 0
-filling_begun sectors ds rows = record {
-  count_is = let e : sectors - (sectors - 0) ≡ 0 = omega arith in sym (ap (λ k. count_by (is_near ds true) (range_with_len (sectors - 0) k)) e);
-  few = omega arith;
-  len = refl;
-  near = λ a ge lt. absurd (omega (arith, ge, lt));
-  far = λ a e. refl;
-}
-
 -- the count with one sector more
 pub counted_more : (sectors done count more b : ℕ) (ds : List (Option ℕ)) → done < sectors → b ≡ sectors - 1 - done → count ≡ count_by (is_near ds true) (range_with_len (sectors - done) (sectors - (sectors - done))) → more ≡ cond (is_near ds true b) 1 0 + count
     → more ≡ count_by (is_near ds true) (range_with_len b (sectors - b))
@@ -295,9 +286,6 @@ filling_far sectors done count more b ds rows rows' lt is e far h = record {
 
     higher : (a : ℕ) → sectors - (done + 1) ≤ a → (a ≡ b → ⊥) → b ≡ sectors - 1 - done → done < sectors → sectors - done ≤ a
     higher a ge differ is lt = grind arith
-
-pub all_filled : (sectors done count : ℕ) (ds rows rows' : List (Option ℕ)) → sectors ≤ done → IsFilling sectors ds rows rows' done count → AreFilled sectors ds rows rows'
-all_filled sectors done count ds rows rows' past h = record { len = h.len; near = λ a lt e. h.near a (omega (arith, past)) lt e; far = λ a lt e. h.far a e }
 
 -- ---- the sums of the rows
 

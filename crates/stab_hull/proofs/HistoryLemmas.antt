@@ -143,17 +143,7 @@ stacks_moved fs top ls rs ls' rs' cs cs' t kl kr kc h = record {
   conflict = tt;
 }
 
-pub no_frames : (fs : List Frame) (ls rs : List EndAt) (cs : List Cone) → length fs ≡ 0 → IsHistory fs ls rs cs None
-no_frames fs ls rs cs z = record {
-  frames = λ k f e g. let b = slice_get_within fs k f e in absurd (omega (arith, b, z));
-  order = λ k m f g l e t u. let b = slice_get_within fs k f e in absurd (omega (arith, b, z));
-  conflict = tt;
-}
-
 -- ---- one more frame
-less_free : (conflict : Option Conflict) (m n : ℕ) → m ≤ n → IsFree conflict n → IsFree conflict m
-less_free None m n l h = tt
-less_free (Some j) m n l h = omega (arith, l, h)
 
 push_history : (fs : List Frame) (f : Frame) (ls rs : List EndAt) (cs : List Cone) (conflict new : Option Conflict) → IsHistory fs ls rs cs conflict → ((k : ℕ) → k ≤ length fs → IsFree new k → IsFree conflict k)
     → (IsFree new (length fs + 1) → IsFrameOf (portals_of fs ++ portal_of f ∷ []) ls rs cs f)

@@ -36,16 +36,6 @@ found_each es (k ∷ codes) (x ∷ xs) e = at (end_of es k) head (found_each es 
     at : (o : Option EndAt) → Some x ≡ o → (filter_map (end_of es) codes ≡ xs) × AllByRecursion (λ code. IsSome (end_of es code)) codes → (filter_map (end_of es) (k ∷ codes) ≡ x ∷ xs) × AllByRecursion (λ code. IsSome (end_of es code)) (k ∷ codes)
     at o h (f, a) = (rw (sym head) (ap (λ (ys : List EndAt). x ∷ ys) f), (rw (sym head) refl, a))
 
--- a code that is no end's
-pub none_missing : (es : List EndPoints) (codes : List ℕ) (i : ℕ) → i < length codes → AllByRecursion (λ code. IsSome (end_of es code)) codes → end_of es (get_or codes i 0) ≡ None → ⊥
-none_missing es [] i l a e = absurd (omega arith)
-none_missing es (k ∷ codes) zero l a e = none (end_of es k) a.0 e
-  where
-    none : (o : Option EndAt) → IsSome o → o ≡ None → ⊥
-    none (Some x) h q = cc
-    none None h q = cc
-none_missing es (k ∷ codes) (suc i) l a e = none_missing es codes i (omega arith) a.1 e
-
 -- one more code and its end
 pub found_more : (es : List EndPoints) (codes : List ℕ) (ends : List EndAt) (i : ℕ) (x : EndAt) → i < length codes → i < length ends → map Some (take i ends) ≡ map (end_of es) (take i codes) → end_of es (get_or codes i 0) ≡ Some x → map Some (take (i + 1) (set ends i x)) ≡ map (end_of es) (take (i + 1) codes)
 found_more es codes ends i x l h e f = ap (map Some) (take_more_set ends i x h) ∙ map-append Some (take i ends) (x ∷ []) ∙ ap (λ (ys : List (Option EndAt)). ys ++ Some x ∷ []) e ∙ ap (λ (o : Option EndAt). map (end_of es) (take i codes) ++ o ∷ []) (sym f) ∙ sym (map-append (end_of es) (take i codes) (get_or codes i 0 ∷ [])) ∙ ap (map (end_of es)) (sym (take_more codes i 0 l))

@@ -88,9 +88,6 @@ module _ (p : PlanParts) (ts : List Triangle) (xs : List HalfEdge) (w : AreOfGoo
           others : HasEdge t (edge (third_point (entry_edge q) t) q.left) × HasEdge t (edge q.right (third_point (entry_edge q) t))
           others = other_edges t (entry_edge q) has
 
-  pub entered : (q : Portal) (i : ℕ) (x : HalfEdge) → number_of ts (entry_edge q) ≡ Some i → slice_get xs i ≡ Some x → Enters p ts ls xs q i
-  entered q i x n at = let f = w.edges.each (entry_edge q) i n in enters_by q i f.0 f.1 f.2
-
   pub entered_by : (q : Portal) (i : ℕ) → IsReached p ts ls xs (entry_edge q) i → Enters p ts ls xs q i
   entered_by q i r = enters_by q i r.x r.at r.is
 

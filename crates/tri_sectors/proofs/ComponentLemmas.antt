@@ -15,30 +15,6 @@ use Rattle.sight_names.proofs.Records.{none_is_no_line}
 
 -- ---- one line
 
-pub connects_none : (l : Line) (cs : List ℕ) → AreLeast cs → ((a b : ℕ) → ¬ IsDoor l a b) → Connects l cs cs
-connects_none l cs is none = record { len = refl; named = is; keeps = λ k j hk hj e. e; joins = λ a b d. absurd (none a b d); only = λ k j hk hj e. inl e }
-
-pub solid_none : (l : Line) → l.solid ≡ true → (a b : ℕ) → ¬ IsDoor l a b
-solid_none l s a b d = false≢true (sym d.passable ∙ s)
-
-no_name : (o : Option ℕ) (a : ℕ) → o ≡ None → o ≡ Some a → ⊥
-no_name o a h k = cc
-
-pub right_none : (l : Line) → l.right ≡ None → (a b : ℕ) → ¬ IsDoor l a b
-right_none l s a b d = no_name l.right a s d.right
-
-pub left_none : (l : Line) → l.left ≡ None → (a b : ℕ) → ¬ IsDoor l a b
-left_none l s a b d = no_name l.left b s d.left
-
-pub connects : (l : Line) (a b : ℕ) (old new : List ℕ) → IsFalse l.solid → l.right ≡ Some a → l.left ≡ Some b → a < length old → b < length old → AreMerged a b old new → Connects l old new
-connects l a b old new passable right left ha hb m = record {
-  len = m.len;
-  named = m.named;
-  keeps = λ k j hk hj e. (m.exactly k j hk hj).1 (inl e);
-  joins = λ c d door. (ap (class_of new) (same_Some c a (sym door.right ∙ right))) ∙ (m.exactly a b ha hb).1 (inr (inl (refl, refl))) ∙ ap (class_of new) (same_Some b d (sym left ∙ door.left));
-  only = λ k j hk hj e. inr (a, b, record { passable = passable; right = right; left = left }, (m.exactly k j hk hj).0 e);
-}
-
 -- ---- chains
 
 pub chain_joined : (m : Map) (a b c : ℕ) (xs ys : List ℕ) → IsChain m a xs b → IsChain m b ys c → IsChain m a (xs ++ ys) c

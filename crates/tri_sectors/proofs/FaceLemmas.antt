@@ -34,9 +34,6 @@ put_nothing b ts e f k n = (λ h. inl h, λ w. elim w as (λ _. IsTrue b) [ inl 
 put_at_none : (ts : List Triangle) (e : Edge) (k : ℕ) (t : Triangle) (v : Walls) → ¬ (triangle_at ts e ≡ Some k) → IsPutAt ts e k t v v
 put_at_none ts e k t v n = record { pq = put_nothing v.pq ts e (edge_pq t) k n; qr = put_nothing v.qr ts e (edge_qr t) k n; rp = put_nothing v.rp ts e (edge_rp t) k n }
 
-pub put_none : (ts : List Triangle) (e : Edge) (ws : List Walls) → triangle_at ts e ≡ None → IsPut ts e ws ws
-put_none ts e ws h = record { len = refl; each = λ k t d at. put_at_none ts e k t (slice_index_or ws k d) (λ s. none-some k (sym h ∙ s)) }
-
 -- the edge from u on is the one with this start
 starts : (t : Triangle) (e : Edge) (n : ℕ) → IsTriangle n t → HasEdge t e → (t.p ≡ e.from → edge_pq t ≡ e) × (t.q ≡ e.from → edge_qr t ≡ e) × (t.r ≡ e.from → edge_rp t ≡ e)
 starts t e n is h =

@@ -26,9 +26,6 @@ use Rattle.geom_exact.proofs.Uniqueness.{same_trans}
 
 -- ---- one point under two names
 
-trans_ring : (px pd qx qd rx rd : ℤ) → qd *ℤ (px *ℤ rd) -ℤ qd *ℤ (rx *ℤ pd) ≡ rd *ℤ (px *ℤ qd -ℤ qx *ℤ pd) +ℤ pd *ℤ (qx *ℤ rd -ℤ rx *ℤ qd)
-trans_ring px pd qx qd rx rd = by_ring (px ∷ pd ∷ qx ∷ qd ∷ rx ∷ rd ∷ []) _ _ (search quoting depth 80 fits 1000000) (search quoting depth 80 fits 1000000) tt
-
 zero_ring : (l m n px pd qx qd rx rd : ℤ) → n *ℤ (rx *ℤ pd) -ℤ n *ℤ (px *ℤ rd) ≡ (pd *ℤ (n *ℤ rx -ℤ (l *ℤ px +ℤ m *ℤ qx)) +ℤ neg_ℤ px *ℤ (n *ℤ rd -ℤ (l *ℤ pd +ℤ m *ℤ qd))) +ℤ (qx *ℤ pd -ℤ qd *ℤ px) *ℤ (m -ℤ pos 0)
 zero_ring l m n px pd qx qd rx rd = by_ring (l ∷ m ∷ n ∷ px ∷ pd ∷ qx ∷ qd ∷ rx ∷ rd ∷ []) _ _ (search quoting depth 80 fits 1000000) (search quoting depth 80 fits 1000000) tt
 
@@ -173,9 +170,6 @@ pub places_differ : (m : Map) → PointFacts m → (i j : ℕ) → i < length (p
 places_differ m facts i j hi hj differ e = differ (sym (facts.number i hi) ∙ ap (number_of m) e ∙ facts.number j hj)
 
 -- ---- strictly inside a triangle
-
-one_strict : (l m n : ℤ) (z c r : V) → IsComb l m n z c r → pos 0 <ℤ m → (f : Lin) → pos 0 ≤ℤ at f z → pos 0 <ℤ at f c → pos 0 <ℤ at f r
-one_strict l m n z c r h pm f fz fc = let v = value f l m n z c r h in pos-of-mul n (at f r) h.scale (omega (arith, ints, mul-nonneg l (at f z) h.left fz, mul-pos m (at f c) pm fc))
 
 -- from a point strictly inside to one of the closed triangle nothing but the latter is on a line
 pub inside_clear : (m : Map) (t : Tri) → CleanAll m t → (q z : Point) → Strict t (vec q) → Closed t (vec z) → (i : ℕ) (l : MapLine) (r : Point) → line_at m i ≡ Some l → OnSegment q z r → OnLine l r → SamePoint r z

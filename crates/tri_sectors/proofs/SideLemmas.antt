@@ -72,9 +72,6 @@ no_side_open p ts fs os i left h k a at names = absurd (none-some k (sym h ∙ a
 
 -- ---- sides that have triangles
 
-pub faced_none : (m : Map) (ts : List Triangle) (fs : List ℕ) → AreFacedOf (λ s. s.line < 0) m ts fs []
-faced_none m ts fs = record { each = λ i s e. absurd (none-some s e); all = λ s l k lt. absurd (omega arith); ascend = λ i j s t lt e. absurd (none-some s e) }
-
 pub changed_faced : (D E : Side → Type 0) (m : Map) (ts : List Triangle) (fs : List ℕ) (ss : List FacedSide) → ((s : Side) → D s → E s) → ((s : Side) (l : MapLine) → line_at m s.line ≡ Some l → E s → D s) → AreFacedOf D m ts fs ss → AreFacedOf E m ts fs ss
 changed_faced D E m ts fs ss f g h = record {
   each = λ i s e. let w = h.each i s e in (w.0, f s.side w.1);
@@ -179,95 +176,8 @@ pub record AreAlikeBefore (ss : List FacedSide) (n : ℕ) (seen : List Bool) : T
   pub alike : (i j : ℕ) → i < n → i < j → AreAlike ss i j
   pub noted : (f : ℕ) → slice_index_or seen f false ≡ true → (i : ℕ) × (s : FacedSide) × (i < n) × (slice_get ss i ≡ Some s) × (s.face ≡ f)
 
-pub alike_none : (ss : List FacedSide) (seen : List Bool) → ((f : ℕ) → slice_index_or seen f false ≡ false) → AreAlikeBefore ss 0 seen
-alike_none ss seen none = record { alike = λ i j lt. absurd (omega arith); noted = λ f h. absurd (false≢true (sym (none f) ∙ h)) }
-
--- a later side of a face that was seen
-pub alike_seen : (ss : List FacedSide) (n : ℕ) (seen : List Bool) (s : FacedSide) → slice_get ss n ≡ Some s → slice_index_or seen s.face false ≡ true → AreAlikeBefore ss n seen → AreAlikeBefore ss (n + 1) seen
-alike_seen ss n seen s at mark h = record {
-  alike = λ i j lt order. elim (below_or_last i n lt) as (λ _. AreAlike ss i j) [
-    | inl less ↦ h.alike i j less order
-    | inr same ↦ here i j same order
-  ];
-  noted = λ f mk. let w = h.noted f mk in let lt = w.2 in (w.0, w.1, omega (arith, lt), w.3, w.4);
-}
-  where
-    here : (i j : ℕ) → i ≡ n → i < j → AreAlike ss i j
-    here i j same order x y ex ey face =
-        let xs : s ≡ x = same_Some s x (sym at ∙ ap (slice_get ss) (sym same) ∙ ex) in
-        let w = h.noted s.face mark in
-        let fs : x.face ≡ w.1.face = ap (λ (v : FacedSide). v.face) (sym xs) ∙ sym w.4 in
-        let lt = w.2 in
-        h.alike w.0 j w.2 (omega (arith, lt, same, order)) w.1 y w.3 ey (face ∙ fs) ∙ sym (h.alike w.0 n w.2 w.2 w.1 s w.3 at (sym w.4)) ∙ ap (λ (v : FacedSide). v.sector) xs
-
--- the first side of a face, of which no later one differs
-pub alike_first : (ss : List FacedSide) (n : ℕ) (seen : List Bool) (s : FacedSide) → slice_get ss n ≡ Some s → s.face < length seen → IsOtherFrom ss n s None → AreAlikeBefore ss n seen → AreAlikeBefore ss (n + 1) (set seen s.face true)
-alike_first ss n seen s at lf none h = record {
-  alike = λ i j lt order. elim (below_or_last i n lt) as (λ _. AreAlike ss i j) [
-    | inl less ↦ h.alike i j less order
-    | inr same ↦ here i j same order
-  ];
-  noted = λ f mk. elim (cases_eq f s.face) as (λ _. (i : ℕ) × (x : FacedSide) × (i < n + 1) × (slice_get ss i ≡ Some x) × (x.face ≡ f)) [
-    | inl same ↦ (n, s, omega arith, at, sym same)
-    | inr other ↦ let w = h.noted f (sym (get_or-set_other seen s.face f true false other) ∙ mk) in let lt = w.2 in (w.0, w.1, omega (arith, lt), w.3, w.4)
-  ];
-}
-  where
-    here : (i j : ℕ) → i ≡ n → i < j → AreAlike ss i j
-    here i j same order x y ex ey face =
-        let xs : s ≡ x = same_Some s x (sym at ∙ ap (slice_get ss) (sym same) ∙ ex) in
-        none j y (omega (arith, same, order)) ey (face ∙ ap (λ (v : FacedSide). v.face) (sym xs)) ∙ ap (λ (v : FacedSide). v.sector) xs
-
-pub mixed_found : (ss : List FacedSide) (n j : ℕ) (seen : List Bool) (s : FacedSide) → slice_get ss n ≡ Some s → IsOtherFrom ss n s (Some j) → AreAlikeBefore ss n seen → IsFirstMixed ss n j
-mixed_found ss n j seen s at found h = record {
-  first = s;
-  second = found.1.0;
-  order = found.0;
-  at = at;
-  at_too = found.1.1;
-  mixed = found.1.2;
-  before = λ g i lt order. h.alike g i lt order;
-  before_here = λ i order lt x y ex ey face.
-      let xs : s ≡ x = same_Some s x (sym at ∙ ex) in
-      found.2 i y order lt ey (face ∙ ap (λ (v : FacedSide). v.face) (sym xs)) ∙ ap (λ (v : FacedSide). v.sector) xs;
-}
-
-pub all_alike : (ss : List FacedSide) (n : ℕ) (seen : List Bool) → length ss ≤ n → AreAlikeBefore ss n seen → (i j : ℕ) → i < j → AreAlike ss i j
-all_alike ss n seen past h i j order x y ex ey face = h.alike i j (let lt = slice_get_within ss i x ex in omega (arith, lt, past)) order x y ex ey face
-
 -- ---- the names of faces
 
 pub record AreNamesBefore (ss : List FacedSide) (n : ℕ) (ns : List (Option ℕ)) : Type 0 where
   pub given : (f a : ℕ) → slice_index_or ns f None ≡ Some a → (i : ℕ) × (s : FacedSide) × (slice_get ss i ≡ Some s) × (s.face ≡ f) × (s.sector ≡ Some a)
   pub none : (i : ℕ) (s : FacedSide) → i < n → slice_get ss i ≡ Some s → slice_index_or ns s.face None ≡ None → s.sector ≡ None
-
-pub names_none : (ss : List FacedSide) (ns : List (Option ℕ)) → ((f : ℕ) → slice_index_or ns f None ≡ None) → AreNamesBefore ss 0 ns
-names_none ss ns none = record { given = λ f a h. absurd (none-some a (sym (none f) ∙ h)); none = λ i s lt. absurd (omega arith) }
-
-pub name_given : (ss : List FacedSide) (n : ℕ) (ns : List (Option ℕ)) (s : FacedSide) → slice_get ss n ≡ Some s → s.face < length ns → slice_index_or ns s.face None ≡ None → AreNamesBefore ss n ns → AreNamesBefore ss (n + 1) (set ns s.face s.sector)
-name_given ss n ns s at lf empty h = record {
-  given = λ f a g. elim (cases_eq f s.face) as (λ _. (i : ℕ) × (x : FacedSide) × (slice_get ss i ≡ Some x) × (x.face ≡ f) × (x.sector ≡ Some a)) [
-    | inl same ↦ (n, s, at, sym same, sym (get_or-set_same ns s.face s.sector None lf) ∙ ap (λ (k : ℕ). slice_index_or (set ns s.face s.sector) k None) (sym same) ∙ g)
-    | inr other ↦ h.given f a (sym (get_or-set_other ns s.face f s.sector None other) ∙ g)
-  ];
-  none = λ i x lt e g. elim (below_or_last i n lt) as (λ _. x.sector ≡ None) [
-    | inl less ↦ elim (cases_eq x.face s.face) as (λ _. x.sector ≡ None) [
-      | inl same ↦ h.none i x less e (ap (λ (k : ℕ). slice_index_or ns k None) same ∙ empty)
-      | inr other ↦ h.none i x less e (sym (get_or-set_other ns s.face x.face s.sector None other) ∙ g)
-    ]
-    | inr same ↦ let xs : s ≡ x = same_Some s x (sym at ∙ ap (slice_get ss) (sym same) ∙ e) in
-        ap (λ (v : FacedSide). v.sector) (sym xs) ∙ sym (get_or-set_same ns s.face s.sector None lf) ∙ ap (λ (v : FacedSide). slice_index_or (set ns s.face s.sector) v.face None) xs ∙ g
-  ];
-}
-
-pub name_kept : (ss : List FacedSide) (n : ℕ) (ns : List (Option ℕ)) (s : FacedSide) → slice_get ss n ≡ Some s → ¬ (slice_index_or ns s.face None ≡ None) → AreNamesBefore ss n ns → AreNamesBefore ss (n + 1) ns
-name_kept ss n ns s at some h = record {
-  given = h.given;
-  none = λ i x lt e g. elim (below_or_last i n lt) as (λ _. x.sector ≡ None) [
-    | inl less ↦ h.none i x less e g
-    | inr same ↦ let xs : s ≡ x = same_Some s x (sym at ∙ ap (slice_get ss) (sym same) ∙ e) in absurd (some (ap (λ (v : FacedSide). slice_index_or ns v.face None) xs ∙ g))
-  ];
-}
-
-pub all_named : (ss : List FacedSide) (n : ℕ) (ns : List (Option ℕ)) → length ss ≤ n → AreNamesBefore ss n ns → AreNames ss ns
-all_named ss n ns past h = record { given = h.given; none = λ i s e g. h.none i s (let lt = slice_get_within ss i s e in omega (arith, lt, past)) e g }

@@ -73,9 +73,6 @@ pub record LeftSoFar (m : Map) (segs : List Segment) (i : ℕ) (ts : List Triang
   pub each : (t : Triangle) → Contains ts t → IsLeftTriangle m segs t
   pub all : (k : ℕ) (s : Segment) → k < i → slice_get segs k ≡ Some s → HasBothSides m segs ts s
 
-pub left_start : (m : Map) (segs : List Segment) → LeftSoFar m segs 0 []
-left_start m segs = record { each = λ t c. absurd (contains_none t c); all = λ k s lt e. absurd (omega arith) }
-
 pub left_more : (m : Map) (segs : List Segment) (i n : ℕ) (s : Segment) (old mid new : List Triangle) → AreSegments n segs → slice_get segs i ≡ Some s → LeftSoFar m segs i old
     → IsLeftAdded m segs s.from s.to old mid → IsLeftAdded m segs s.to s.from mid new → LeftSoFar m segs (i + 1) new
 left_more m segs i n s old mid new are here so_far out back = record {
