@@ -13,6 +13,7 @@ use Rattle.block_evidence.specs.Stuck.{AreStuck, Blocks, end_codes}
 use Rattle.block_evidence.specs.Parted.{PartsEnd, PartsEnds}
 use Rattle.block_evidence.proofs.Means.{parted_not_stuck}
 use Rattle.list_base.proofs.Options.{some_is_same, none_is_not_some}
+use Rattle.sight_names.proofs.Portals.{parted_at}
 
 is_true : (b : Bool) → false ≡ not b → b ≡ true
 is_true true h = refl
@@ -36,11 +37,6 @@ stuck_answer ends None b e h = (λ _. h, λ _. is_true b e)
 stuck_answer ends (Some cut) b e h = (λ t. absurd (both b e t), λ s. absurd (parted_not_stuck ends (cut.a, cut.b, cut.c, h) s))
 
 -- ---- a line that splits portals parts their ends
-
-parted_at : (a b c : ℤ) (es : List EndPoints) (k : ℕ) (p : EndPoints) → SplitsEnds es a b c → slice_get es k ≡ Some p → IsParted a b c p
-parted_at a b c [] k p h e = absurd (none_is_not_some p e)
-parted_at a b c (q ∷ es) zero p h e = subst (IsParted a b c) (some_is_same q p e) h.0
-parted_at a b c (q ∷ es) (suc k) p h e = parted_at a b c es k p h.1 e
 
 pub end_parted : (a b c : ℤ) (es : List EndPoints) (e : EndAt) → SplitsEnds es a b c → end_of es e.code ≡ Some e → PartsEnd a b c e
 end_parted a b c es e h k = record {

@@ -9,8 +9,9 @@ use Rattle.sight_names.specs.Point.{Point}
 use Rattle.sight_names.specs.Ray.{ray_value, along}
 use Rattle.geom_exact.specs.Formulas.{side_value, forward, AreOnTwoSides}
 use Rattle.geom_exact.specs.Crossings.{IsCrossingOf, IsPlacedBy, IsCrossOrder}
-use Rattle.geom_exact.proofs.SegmentLemmas.{above, on, segment, other_way, IsWeighted}
+use Rattle.geom_exact.proofs.SegmentLemmas.{on, segment, other_way, IsWeighted}
 use Rattle.exact_ring.proofs.Small.{nonneg_of_pos, nonneg_of_neg, cross_weights, zero_by_second}
+use Rattle.sight_names.proofs.Portals.{scale_above}
 
 -- the side of a mean is the mean of the sides
 mean_side : (ray : Ray) (p q : Pt) (m n : ℤ) (z : Point) → IsWeighted p q m n z → (m +ℤ n) *ℤ ray_value ray z ≡ pos z.d *ℤ (m *ℤ side_value ray p +ℤ n *ℤ side_value ray q)
@@ -105,7 +106,7 @@ fraction_order v w d e u k t l hd he hk hl f g =
     second d e t k l w g = combine1 (neg_ℤ (d *ℤ k)) g (by_ring (d ∷ e ∷ t ∷ k ∷ l ∷ w ∷ []) _ _ (search quoting depth 60 fits 200000) (search quoting depth 60 fits 200000) tt)
 
 pub crossings_in_order : (ray : Ray) (l1 l2 m1 m2 : Pt) (u k t l : ℤ) → IsPlacedBy ray l1 l2 u k → IsPlacedBy ray m1 m2 t l → IsCrossOrder ray l1 l2 m1 m2 (int_cmp (u *ℤ l) (t *ℤ k))
-crossings_in_order ray l1 l2 m1 m2 u k t l a b z w c d = fraction_order (along ray z) (along ray w) (pos z.d) (pos w.d) u k t l (above z) (above w) a.positive b.positive (a.value z c) (b.value w d)
+crossings_in_order ray l1 l2 m1 m2 u k t l a b z w c d = fraction_order (along ray z) (along ray w) (pos z.d) (pos w.d) u k t l (scale_above z) (scale_above w) a.positive b.positive (a.value z c) (b.value w d)
 
 cross_straight : (a b c px py qx qy s t d : ℤ) → s ≡ a *ℤ px +ℤ b *ℤ py +ℤ c *ℤ pos 1 → t ≡ a *ℤ qx +ℤ b *ℤ qy +ℤ c *ℤ pos 1 → d ≡ s -ℤ t → a *ℤ (s *ℤ qx -ℤ t *ℤ px) +ℤ b *ℤ (s *ℤ qy -ℤ t *ℤ py) +ℤ c *ℤ d ≡ pos 0
 cross_straight a b c px py qx qy s t d h k e =

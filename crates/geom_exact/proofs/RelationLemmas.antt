@@ -6,7 +6,7 @@ use Rattle.exact_ring.proofs.Signs.{mul-nonneg, mul-pos, zero-of-mul, nonneg-of-
 use Rattle.sight_names.specs.declared.names.Pt.{Pt}
 use Rattle.sight_names.specs.Point.{Point, point_of, SamePoint, OnSegment}
 use Rattle.sight_names.specs.Sound.{IsCommon, IsEndOf}
-use Rattle.geom_exact.proofs.SegmentLemmas.{above, IsOn, on, segment, other_way, same_reach, along-at, square_of-pos, beside, along, square_of, IsAlong, IsAlong-of-mean, IsOn-of-along, spread, only_meeting, beside-at, turn-of_same, beside-of_mean, along-of_mean, four_turns, meeting, meeting_is_on_first, meeting_is_on_second}
+use Rattle.geom_exact.proofs.SegmentLemmas.{IsOn, on, segment, other_way, same_reach, along-at, square_of-pos, beside, along, square_of, IsAlong, IsAlong-of-mean, IsOn-of-along, spread, only_meeting, beside-at, turn-of_same, beside-of_mean, along-of_mean, four_turns, meeting, meeting_is_on_first, meeting_is_on_second}
 use Rattle.geom_exact.specs.declared.Relation.{Relation}
 use Rattle.geom_exact.specs.declared.Relation.TheVariants.{Apart, Overlap, Ends, Touch, Cross}
 use Rattle.geom_exact.specs.Formulas.{turn_of, reach_of, AreOnOneSide}
@@ -15,6 +15,7 @@ use Rattle.exact_ring.proofs.Small.{same_without_one, lt_of_zero, le_of_zero, le
 use Rattle.exact_ring.proofs.MoreSigns.{sum-pos}
 use Rattle.sight_names.proofs.Meets.{end_flip}
 use Rattle.sight_names.proofs.Laws.{same_point_refl}
+use Rattle.sight_names.proofs.Portals.{scale_above}
 
 pub common_swapped : (p q r s : Pt) (z : Point) → IsCommon p q r s z → IsCommon p q s r z
 common_swapped p q r s z h = (h.0, other_way r s z h.1)
@@ -45,11 +46,11 @@ pub apart_on_side : (p q r s : Pt) → AreOnOneSide (turn_of p q r) (turn_of p q
 apart_on_side p q r s (inl h) z c =
     let g = on r s z c.1 in
     let k = g.2 in
-    no_zero_pos (g.0 +ℤ g.1) (beside p q z) (pos z.d) _ (straight p q z c.0) (beside-of_mean p q r s _ _ z k) (above z) (sum-pos _ _ _ _ k.first k.second k.weighted h.0 h.1)
+    no_zero_pos (g.0 +ℤ g.1) (beside p q z) (pos z.d) _ (straight p q z c.0) (beside-of_mean p q r s _ _ z k) (scale_above z) (sum-pos _ _ _ _ k.first k.second k.weighted h.0 h.1)
 apart_on_side p q r s (inr h) z c =
     let g = on r s z c.1 in
     let k = g.2 in
-    no_zero_neg (g.0 +ℤ g.1) (beside p q z) (pos z.d) _ (straight p q z c.0) (beside-of_mean p q r s _ _ z k) (above z) (sum_neg _ _ _ _ k.first k.second k.weighted h.0 h.1)
+    no_zero_neg (g.0 +ℤ g.1) (beside p q z) (pos z.d) _ (straight p q z c.0) (beside-of_mean p q r s _ _ z k) (scale_above z) (sum_neg _ _ _ _ k.first k.second k.weighted h.0 h.1)
 
 -- the other way round
 pub apart_on_other_side : (p q r s : Pt) → AreOnOneSide (turn_of r s p) (turn_of r s q) → IsRelation p q r s Apart
@@ -126,7 +127,7 @@ at_end p q r s v z h a b =
     only_meeting p q r s h.crossing z (point_of v) (straight p q z h.common.0) (straight r s z h.common.1) (beside-at p q v ∙ a) (beside-at r s v ∙ b)
 
 pub end_straight : (r s v : Pt) (z : Point) → OnSegment (point_of r) (point_of s) z → SamePoint z (point_of v) → turn_of r s v ≡ pos 0
-end_straight r s v z h e = zero-of-mul (pos z.d) (turn_of r s v) (above z) (sym (turn-of_same r s v z e) ∙ straight r s z h)
+end_straight r s v z h e = zero-of-mul (pos z.d) (turn_of r s v) (scale_above z) (sym (turn-of_same r s v z e) ∙ straight r s z h)
 
 pub end_of_first : (p q r s : Pt) (z : Point) → IsMeeting p q r s z → (turn_of r s p ≡ pos 0) ⊎ (turn_of r s q ≡ pos 0) → IsEndOf p q z
 end_of_first p q r s z h (inl e) = inl (at_end p q r s p z h (turn_at_first p q) e)
@@ -195,7 +196,7 @@ along_common p q r s t z h = counted (h.0 +ℤ h.1) (along p q z) (pos z.d) h.0 
 
 pub late_common : (p q r s : Pt) (t : ℤ) (z : Point) → IsOn r s z → t ≤ℤ reach_of p q r → t ≤ℤ reach_of p q s → (pos z.d *ℤ t) ≤ℤ along p q z
 late_common p q r s t z h a b =
-    le_of_difference (along p q z) (pos z.d *ℤ t) (nonneg-of-mul (h.0 +ℤ h.1) _ h.2.weighted (subst (λ (w : ℤ). pos 0 ≤ℤ w) (sym (along_common p q r s t z h)) (weighted h.0 h.1 (pos z.d) (reach_of p q r) (reach_of p q s) t h.2.first h.2.second (above z) a b)))
+    le_of_difference (along p q z) (pos z.d *ℤ t) (nonneg-of-mul (h.0 +ℤ h.1) _ h.2.weighted (subst (λ (w : ℤ). pos 0 ≤ℤ w) (sym (along_common p q r s t z h)) (weighted h.0 h.1 (pos z.d) (reach_of p q r) (reach_of p q s) t h.2.first h.2.second (scale_above z) a b)))
   where
     weighted : (m n d u v t : ℤ) → pos 0 ≤ℤ m → pos 0 ≤ℤ n → pos 0 <ℤ d → t ≤ℤ u → t ≤ℤ v → pos 0 ≤ℤ (d *ℤ (m *ℤ (u -ℤ t) +ℤ n *ℤ (v -ℤ t)))
     weighted m n d u v t hm hn hd hu hv =
@@ -205,7 +206,7 @@ late_common p q r s t z h a b =
 
 pub early_common : (p q r s : Pt) (t : ℤ) (z : Point) → IsOn r s z → reach_of p q r ≤ℤ t → reach_of p q s ≤ℤ t → along p q z ≤ℤ (pos z.d *ℤ t)
 early_common p q r s t z h a b =
-    most (along p q z) (pos z.d *ℤ t) (h.0 +ℤ h.1) (pos z.d *ℤ (h.0 *ℤ (reach_of p q r -ℤ t) +ℤ h.1 *ℤ (reach_of p q s -ℤ t))) (along_common p q r s t z h) h.2.weighted (weighted h.0 h.1 (pos z.d) (reach_of p q r) (reach_of p q s) t h.2.first h.2.second (above z) a b)
+    most (along p q z) (pos z.d *ℤ t) (h.0 +ℤ h.1) (pos z.d *ℤ (h.0 *ℤ (reach_of p q r -ℤ t) +ℤ h.1 *ℤ (reach_of p q s -ℤ t))) (along_common p q r s t z h) h.2.weighted (weighted h.0 h.1 (pos z.d) (reach_of p q r) (reach_of p q s) t h.2.first h.2.second (scale_above z) a b)
   where
     weighted : (m n d u v t : ℤ) → pos 0 ≤ℤ m → pos 0 ≤ℤ n → pos 0 <ℤ d → u ≤ℤ t → v ≤ℤ t → pos 0 ≤ℤ neg_ℤ (d *ℤ (m *ℤ (u -ℤ t) +ℤ n *ℤ (v -ℤ t)))
     weighted m n d u v t hm hn hd hu hv =
@@ -229,7 +230,7 @@ apart_before p q r s l h z c =
     let k = o.2 in
     let g = along_common p q r s (pos 0) z o in
     let a = (IsAlong-of-mean p q f.0 f.1 z f.2).from in
-    clash (along p q z) (pos z.d) (o.0 +ℤ o.1) (o.0 *ℤ (reach_of p q r -ℤ pos 0) +ℤ o.1 *ℤ (reach_of p q s -ℤ pos 0)) g a (above z) k.weighted
+    clash (along p q z) (pos z.d) (o.0 +ℤ o.1) (o.0 *ℤ (reach_of p q r -ℤ pos 0) +ℤ o.1 *ℤ (reach_of p q s -ℤ pos 0)) g a (scale_above z) k.weighted
     (sum_neg o.0 o.1 (reach_of p q r -ℤ pos 0) (reach_of p q s -ℤ pos 0) k.first k.second k.weighted (lower (reach_of p q r) (reach_of p q s) l.rising h) (below (reach_of p q s) h))
   where
     below : (a : ℤ) → a <ℤ pos 0 → (a -ℤ pos 0) <ℤ pos 0
@@ -252,7 +253,7 @@ apart_after p q r s l h z c =
     let k = o.2 in
     let g = along_common p q r s (square_of p q) z o in
     let a = (IsAlong-of-mean p q f.0 f.1 z f.2).to in
-    clash (along p q z) (pos z.d *ℤ square_of p q) (pos z.d) (o.0 +ℤ o.1) (o.0 *ℤ (reach_of p q r -ℤ square_of p q) +ℤ o.1 *ℤ (reach_of p q s -ℤ square_of p q)) g a (above z) k.weighted
+    clash (along p q z) (pos z.d *ℤ square_of p q) (pos z.d) (o.0 +ℤ o.1) (o.0 *ℤ (reach_of p q r -ℤ square_of p q) +ℤ o.1 *ℤ (reach_of p q s -ℤ square_of p q)) g a (scale_above z) k.weighted
     (sum-pos o.0 o.1 (reach_of p q r -ℤ square_of p q) (reach_of p q s -ℤ square_of p q) k.first k.second k.weighted (pos_difference (reach_of p q r) (square_of p q) h) (higher (reach_of p q r) (reach_of p q s) (square_of p q) l.rising h))
   where
     higher : (a b t : ℤ) → a <ℤ b → t <ℤ a → pos 0 <ℤ (b -ℤ t)

@@ -9,6 +9,7 @@ use Rattle.geom_exact.specs.Formulas.{turn_of, reach_of}
 use Rattle.exact_ring.proofs.Small.{zero_or_not, same_where_no_difference, nonneg_of_nonpos, cross_weights, abs_of_nonneg, some_of_sum, nat_nonneg}
 use Rattle.exact_ring.proofs.MoreSigns.{square-pos}
 use Rattle.sight_names.proofs.Records.{same_pt}
+use Rattle.sight_names.proofs.Portals.{scale_above}
 
 -- ---- the weights of whole points as whole numbers that aren't below 0
 pub record IsWeighted (p q : Pt) (m n : ℤ) (z : Point) : Type 0 where
@@ -20,9 +21,6 @@ pub record IsWeighted (p q : Pt) (m n : ℤ) (z : Point) : Type 0 where
 
 abbrev pub IsOn : Pt → Pt → Point → Type 0
 IsOn p q z = (m : ℤ) × (n : ℤ) × IsWeighted p q m n z
-
-pub above : (z : Point) → pos 0 <ℤ pos z.d
-above z = let h = z.positive in omega (arith, ints)
 
 weighed_there : (x u v d a b : ℤ) → x *ℤ (u +ℤ v) -ℤ d *ℤ (u *ℤ a +ℤ v *ℤ b) ≡ pos 1 *ℤ (x *ℤ ((u +ℤ v) *ℤ (pos 1 *ℤ pos 1)) -ℤ (u *ℤ pos 1 *ℤ a +ℤ v *ℤ pos 1 *ℤ b) *ℤ d)
 weighed_there x u v d a b = by_ring (x ∷ u ∷ v ∷ d ∷ a ∷ b ∷ []) _ _ (search quoting depth 40 fits 100000) (search quoting depth 40 fits 100000) tt
@@ -129,7 +127,7 @@ rest_along p q m n z h =
 pub IsAlong-of-mean : (p q : Pt) (m n : ℤ) (z : Point) → IsWeighted p q m n z → IsAlong p q z
 IsAlong-of-mean p q m n z h =
     let square = square_of-nonneg p q in
-    let d : pos 0 ≤ℤ pos z.d = omega (arith, ints, above z) in
+    let d : pos 0 ≤ℤ pos z.d = omega (arith, ints, scale_above z) in
     let late : pos 0 ≤ℤ (pos z.d *ℤ (n *ℤ square_of p q)) = mul-nonneg (pos z.d) _ d (mul-nonneg n _ h.second square) in
     let early : pos 0 ≤ℤ (pos z.d *ℤ (m *ℤ square_of p q)) = mul-nonneg (pos z.d) _ d (mul-nonneg m _ h.first square) in
     let e = along-mean p q m n z h in
@@ -168,7 +166,7 @@ IsOn-of-along p q z h g =
       record {
         first = difference (pos z.d) l a g.to;
         second = g.from;
-        weighted = subst (λ (t : ℤ). pos 0 <ℤ t) (sym (sum_back (pos z.d *ℤ l) a)) (mul-pos (pos z.d) l (above z) h);
+        weighted = subst (λ (t : ℤ). pos 0 <ℤ t) (sym (sum_back (pos z.d *ℤ l) a)) (mul-pos (pos z.d) l (scale_above z) h);
         x = scaled z.x a (pos z.d) l _ (mean_x p q z g.straight);
         y = scaled z.y a (pos z.d) l _ (mean_y p q z g.straight);
       },

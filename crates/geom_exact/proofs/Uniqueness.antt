@@ -8,11 +8,11 @@ use Rattle.sight_names.specs.Sound.{IsEndOf}
 use Rattle.geom_exact.specs.declared.Relation.{Relation}
 use Rattle.geom_exact.specs.declared.Relation.TheVariants.{Apart, Overlap, Ends, Touch, Cross}
 use Rattle.geom_exact.specs.Common.{IsOnlyCommon, IsRelation}
-use Rattle.geom_exact.proofs.SegmentLemmas.{above}
 use Rattle.sight_names.proofs.Laws.{same_point_sym}
+use Rattle.sight_names.proofs.Portals.{scale_above}
 
 pub same_trans : (z w v : Point) → SamePoint z w → SamePoint w v → SamePoint z v
-same_trans z w v h k = record { x = through (pos w.d) z.x (pos z.d) w.x v.x (pos v.d) (above w) h.x k.x; y = through (pos w.d) z.y (pos z.d) w.y v.y (pos v.d) (above w) h.y k.y }
+same_trans z w v h k = record { x = through (pos w.d) z.x (pos z.d) w.x v.x (pos v.d) (scale_above w) h.x k.x; y = through (pos w.d) z.y (pos z.d) w.y v.y (pos v.d) (scale_above w) h.y k.y }
   where
     through : (e x d y u f : ℤ) → pos 0 <ℤ e → x *ℤ e ≡ y *ℤ d → y *ℤ f ≡ u *ℤ e → x *ℤ f ≡ u *ℤ d
     through e x d y u f p h k = same-of-mul e (x *ℤ f) (u *ℤ d) p (combine2 f d h k (by_ring (e ∷ x ∷ d ∷ y ∷ u ∷ f ∷ []) _ _ (search quoting depth 60 fits 200000) (search quoting depth 60 fits 200000) tt))

@@ -50,7 +50,6 @@ adds_next p is from to i low high square later old mid new order are at measured
 
     made : IsPairBetween (map_of p) low high this
     made = record { pair = pair_of p is (edge from to) order (are.within to (contains_of_get later to i at)); square = measured; between = h.0 }
-
 adds_next p is from to i low high square later old mid new order are at measured (inr h) before = record {
   kept = λ q c. more q (before.kept q c);
   each = λ q c. before.each q (subst (λ (qs : List PointPair). Contains qs q) h.1 c);

@@ -124,7 +124,12 @@ fn all_points(alloc: Global, plan: &Plan) -> Result<Vec<u16>, Memory>
 }
 
 /// The points that aren't closed.
-fn unsaturated_points(alloc: Global, plan: &Plan, incident: &IncidentSegments, unsaturated: &[u16]) -> Result<Vec<u16>, Memory>
+fn unsaturated_points(
+    alloc: Global,
+    plan: &Plan,
+    incident: &IncidentSegments,
+    unsaturated: &[u16],
+) -> Result<Vec<u16>, Memory>
     requires points { incident.now.points ≡ length plan.now.points }
     requires unsaturated { AreNumbers (length plan.now.points) unsaturated.now }
     ensures numbers { IfOk result (λ v. AreNumbers (length plan.now.points) v.items) }
@@ -138,7 +143,12 @@ fn unsaturated_points(alloc: Global, plan: &Plan, incident: &IncidentSegments, u
 }
 
 /// Adds the point, unless it is closed.
-fn push_if_unsaturated(plan: &Plan, incident: &IncidentSegments, others: &mut Vec<u16>, k: u16) -> Result<(), Memory>
+fn push_if_unsaturated(
+    plan: &Plan,
+    incident: &IncidentSegments,
+    others: &mut Vec<u16>,
+    k: u16,
+) -> Result<(), Memory>
     requires points { incident.now.points ≡ length plan.now.points }
     requires within { k < incident.now.points }
     ensures { OnOk result (AddsIfUnsaturated (map_of plan.now) (edges_of incident.now.segments) k others.old.items others.new.items) }

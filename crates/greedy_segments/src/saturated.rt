@@ -10,8 +10,8 @@ ghost use Rattle.incident_segments.specs.Kept.{edges_of};
 ghost use Rattle.greedy_segments.specs.Rounds.{IsSaturated};
 ghost use Rattle.incident_segments.specs.Neighbours.{IsNeighbour};
 
-use incident_segments::{IncidentSegments, are_joined, next_left, next_right};
 use geom_exact::{in_triangle, turn};
+use incident_segments::{IncidentSegments, are_joined, next_left, next_right};
 use sight_names::{Plan, Pt};
 
 /// Whether a point of the map is strictly on the left of the way from `a` to `b`.

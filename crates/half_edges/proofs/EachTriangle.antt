@@ -11,7 +11,6 @@ use Rattle.sight_names.specs.Points.{Edge, place}
 use Rattle.sight_names.specs.Mesh.{AreTriangles, IsTriangle, triangle_at, label_of}
 use Rattle.sight_names.specs.Sequence.{Portal, apex, third_point, IsSolidLine}
 use Rattle.sight_names.proofs.PlanPoints.{plan_points}
-use Rattle.mesh_shape.proofs.RuleLemmas.{item_there}
 use Rattle.half_edges.specs.declared.kinds.EdgeKind.{EdgeKind}
 use Rattle.half_edges.specs.declared.kinds.EdgeKind.TheVariants.{Free, Passable, Solid}
 use Rattle.half_edges.specs.declared.table.Corner.{Corner}
@@ -22,6 +21,7 @@ use Rattle.half_edges.specs.HalfEdges.{portal_of, entering, IsHalfEdge, AreHalfE
 use Rattle.half_edges.specs.Corners.{arrival_of, is_closed, IsCorner, by_corners, three_of, Pushes}
 use Rattle.half_edges.proofs.Numbers.{IsNumber, number_is, IsCornerEdge, corner_at}
 use Rattle.list_base.proofs.Numbers.{below_differs, tells_other, tells_same}
+use Rattle.list_base.proofs.Lists.{item_there}
 
 get_front : {X : Type 0} (xs ys : List X) (i : ℕ) → i < length xs → slice_get (xs ++ ys) i ≡ slice_get xs i
 get_front [] ys i l = absurd (omega arith)

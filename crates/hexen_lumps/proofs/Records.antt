@@ -6,6 +6,8 @@ use Rattle.std.proofs.lemmas.List.{append-nil, drop-append-le, take-append-le, t
 use Rattle.std.proofs.lemmas.List.Folds.{drop_split}
 use Rattle.sight_names.specs.Lumps.{u16_at}
 use Rattle.hexen_lumps.specs.Turned.{hexen_first, hexen_record}
+use Rattle.list_base.proofs.Lists.{drop_more}
+use Rattle.list_base.proofs.Numbers.{below_or_at}
 
 -- ---- lengths
 
@@ -55,7 +57,7 @@ last_turned xs n le =
 
 turned : (xs : List ℕ) (n k : ℕ) → k < n → 14 * n ≤ length xs → IsTurned xs (hexen_first xs n) k
 turned xs zero k lt le = absurd (omega (arith, lt))
-turned xs (suc n) k lt le = elim (told k n lt) [
+turned xs (suc n) k lt le = elim (below_or_at k n lt) [
   | inl before ↦ (let t = turned xs n k before (omega (arith, le)) in
       let r : List ℕ = slice_range xs (14 * n) (14 * n + 14) in
       let h = first_length xs n (omega (arith, le)) in
@@ -69,16 +71,8 @@ turned xs (suc n) k lt le = elim (told k n lt) [
       })
   | inr same ↦ subst (λ (j : ℕ). IsTurned xs (hexen_first xs (suc n)) j) (sym same) (last_turned xs n (omega (arith, le)))
 ]
-  where
-    told : (k n : ℕ) → k < suc n → (k < n) ⊎ (k ≡ n)
-    told k n h = grind arith
 
 -- ---- two bytes in it
-
-drop_more : (a b : ℕ) (xs : List ℕ) → drop (a + b) xs ≡ drop b (drop a xs)
-drop_more zero b xs = let e : 0 + b ≡ b = omega arith in ap (λ (n : ℕ). drop n xs) e
-drop_more (suc a) b [] = drop-nil (suc a + b) ∙ sym (drop-nil b)
-drop_more (suc a) b (x ∷ xs) = let e : suc a + b ≡ suc (a + b) = omega arith in ap (λ (n : ℕ). drop n (x ∷ xs)) e ∙ drop_more a b xs
 
 two_at : (xs : List ℕ) (a b : ℕ) → slice_range xs (a + b) (a + b + 2) ≡ take 2 (drop b (drop a xs))
 two_at xs a b =

@@ -1,8 +1,9 @@
 -- Lists: what they contain, what stands at a place, the first ones of them, and one more at the end.
-use Rattle.std.proofs.Common.{◌≡◌, ◌⊎◌, inl, inr, ⊎_elim, ℕ, zero, suc, ◌+◌, ◌<◌, List, [], ◌∷◌, ◌++◌, length, take, get_or, map, filter, slice_get, refl, sym, ap, ◌∙◌, subst, arith, zero-lt-suc, Bool, true, false, cond, Option, Some, None, Contains}
+use Rattle.std.proofs.Common.{◌≡◌, ◌⊎◌, inl, inr, ⊎_elim, ℕ, zero, suc, ◌+◌, ◌<◌, List, [], ◌∷◌, ◌++◌, length, take, drop, get_or, map, filter, slice_get, refl, sym, ap, ◌∙◌, subst, arith, zero-lt-suc, Bool, true, false, cond, Option, Some, None, Contains}
 use Rattle.std.specs.List.{AllByRecursion, last_or}
+use Rattle.std.proofs.Math.Seq.{drop-nil}
 use Rattle.std.proofs.lemmas.Bool.{true≢false}
-use Rattle.std.proofs.lemmas.Option.{none-some, same_Some}
+use Rattle.std.proofs.lemmas.Option.{none-some, same_Some, slice_get-get_or}
 use Rattle.std.proofs.lemmas.List.Elements.{recursion_from_All, Contains-get_or}
 
 module _ {X : Type 0} where
@@ -91,6 +92,14 @@ module _ {X : Type 0} where
   pub last_pushed : (x : X) (xs : List X) (o : Option X) → last_or o (xs ++ x ∷ []) ≡ Some x
   last_pushed x [] o = refl
   last_pushed x (y ∷ xs) o = last_pushed x xs (Some y)
+
+pub item_there : {X : Type 0} (xs ys : List X) (k : ℕ) (d : X) → xs ≡ ys → k < length xs → slice_get ys k ≡ Some (get_or xs k d)
+item_there {X} xs ys k d e lt = subst (λ (zs : List X). slice_get zs k ≡ Some (get_or xs k d)) e (slice_get-get_or xs k d lt)
+
+pub drop_more : (a b : ℕ) (xs : List ℕ) → drop (a + b) xs ≡ drop b (drop a xs)
+drop_more zero b xs = let e : 0 + b ≡ b = omega arith in ap (λ (n : ℕ). drop n xs) e
+drop_more (suc a) b [] = drop-nil (suc a + b) ∙ sym (drop-nil b)
+drop_more (suc a) b (x ∷ xs) = let e : suc a + b ≡ suc (a + b) = omega arith in ap (λ (n : ℕ). drop n (x ∷ xs)) e ∙ drop_more a b xs
 
 -- ---- lists of what becomes of elements
 

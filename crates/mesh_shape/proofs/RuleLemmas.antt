@@ -28,6 +28,7 @@ use Rattle.list_base.proofs.Numbers.{below_or_above, same_or_below, below_or_not
 use Rattle.mesh_base.proofs.GoodMesh.{found_at}
 use Rattle.mesh_base.proofs.CleanMesh.{edge_rp, edge_qr, edge_pq}
 use Rattle.sight_names.proofs.Records.{same_edge}
+use Rattle.list_base.proofs.Lists.{item_there}
 
 -- what holds of the triangle that stands there holds of what stands there
 pub at_this : {X : Type 0} (P : X → Type 0) (xs : List X) (k : ℕ) (x : X) → slice_get xs k ≡ Some x → P x → (y : X) → slice_get xs k ≡ Some y → P y
@@ -187,9 +188,6 @@ no_first ts e k t h at edge =
     false≢true (sym n ∙ ap (has_edge e) (get_or_from_slice_get ts k t t at) ∙ edge)
 
 -- ---- loops over a list that is read through a slice
-
-pub item_there : {X : Type 0} (xs ys : List X) (k : ℕ) (d : X) → xs ≡ ys → k < length xs → slice_get ys k ≡ Some (get_or xs k d)
-item_there {X} xs ys k d e lt = subst (λ (zs : List X). slice_get zs k ≡ Some (get_or xs k d)) e (slice_get-get_or xs k d lt)
 
 -- what holds of the item that a loop is at holds of what stands there
 pub at_item : {X : Type 0} (P : X → Type 0) (xs ys : List X) (k : ℕ) (d : X) → xs ≡ ys → k < length xs → P (get_or xs k d) → (x : X) → slice_get ys k ≡ Some x → P x

@@ -12,10 +12,11 @@ use Rattle.sight_names.specs.Point.{Point}
 use Rattle.sight_names.specs.Points.{place}
 use Rattle.sight_names.specs.Sound.{IsCommon, MeetAtEnds}
 use Rattle.sight_names.proofs.PlanNumbers.{place_of_plan}
-use Rattle.geom_exact.proofs.SegmentLemmas.{IsOn, IsWeighted, on, above, other_way}
+use Rattle.geom_exact.proofs.SegmentLemmas.{IsOn, IsWeighted, on, other_way}
 use Rattle.geom_exact.proofs.InsideLemmas.{IsInside}
 use Rattle.list_base.proofs.Numbers.{below_same_or_above, same_below_or_above}
 use Rattle.exact_ring.proofs.Small.{nonneg_of_pos, nonpos_of_neg, nonpos_of_zero, nonneg_sum}
+use Rattle.sight_names.proofs.Portals.{scale_above}
 
 -- a * x + b * y + c
 abbrev pub lin : ℤ → ℤ → ℤ → Pt → ℤ
@@ -35,7 +36,7 @@ not_above : (a b c : ℤ) (p q : Pt) (z : Point) → IsOn p q z → lin a b c p 
 not_above a b c p q z (m, n, w) h k =
     let s = sum-nonpos m n (lin a b c p) (lin a b c q) w.first w.second h k in
     let v = mean_value a b c p q m n z w in
-    let d = above z in
+    let d = scale_above z in
     let t = w.weighted in
     let g = mul-nonpos (pos z.d) (m *ℤ lin a b c p +ℤ n *ℤ lin a b c q) (omega (arith, ints)) s in
     elim (le_or_lt (at_point a b c z) (pos 0)) [
@@ -47,7 +48,7 @@ is_above : (a b c : ℤ) (p q : Pt) (z : Point) → IsOn p q z → pos 0 <ℤ li
 is_above a b c p q z (m, n, w) h k =
     let s = sum-pos m n (lin a b c p) (lin a b c q) w.first w.second w.weighted h k in
     let v = mean_value a b c p q m n z w in
-    let g = mul-pos (pos z.d) (m *ℤ lin a b c p +ℤ n *ℤ lin a b c q) (above z) s in
+    let g = mul-pos (pos z.d) (m *ℤ lin a b c p +ℤ n *ℤ lin a b c q) (scale_above z) s in
     pos-of-mul (m +ℤ n) (at_point a b c z) w.weighted (subst (λ (t : ℤ). pos 0 <ℤ t) (sym v) g)
 
 -- a line has the one segment on its one side and the other strictly on its other side
@@ -66,7 +67,7 @@ common_turned p q r s z common = (other_way p q z common.0, common.1)
 pub common_swapped : (p q r s : Pt) (z : Point) → IsCommon p q r s z → IsCommon r s p q z
 common_swapped p q r s z common = (common.1, common.0)
 
--- ---- below and above
+-- ---- below and scale_above
 
 pub below_apart : (p q r s : Pt) → p.y <ℤ r.y → p.y <ℤ s.y → q.y <ℤ r.y → q.y <ℤ s.y → (z : Point) → IsCommon p q r s z → ⊥
 below_apart p q r s a b c d z common = elim (le_or_lt p.y q.y) [
@@ -256,7 +257,7 @@ not_after_last b p q r z pb qb rb bz inside =
     w4 : (a b c d : ℕ) → pos d <ℤ (pos 1 +ℤ pos a +ℤ pos b +ℤ pos c +ℤ pos d)
     w4 a b c d = omega (arith, ints)
 
--- the number of a point strictly inside a triangle is behind the least number and before any that no corner's is above
+-- the number of a point strictly inside a triangle is behind the least number and before any that no corner's is scale_above
 pub inside_numbers : (p : PlanParts) → IsPlan p → (i j k z last : ℕ) → i < j → i < k → j < length p.points → k < length p.points → z < length p.points → j ≤ last → k ≤ last → last < length p.points
     → IsInside (place (map_of p) i) (place (map_of p) j) (place (map_of p) k) (place (map_of p) z) → (i < z) × (z < last)
 inside_numbers p is i j k z last ij ik wj wk wz jl kl wl inside = (

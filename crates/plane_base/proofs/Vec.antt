@@ -174,3 +174,7 @@ pub on_back : (p q r : V) → On p q r → On q p r
 on_back p q r (l, m, n, h) = (m, l, n, comb_back l m n p q r h)
 
 -- ---- products
+
+-- the last end is on the segment
+pub on_last : (r s : V) → On r s s
+on_last r s = (pos 0, pos 1, pos 1, record { left = omega (arith, ints); right = omega (arith, ints); scale = omega (arith, ints); x = omega (arith, ints); y = omega (arith, ints); d = omega (arith, ints) })

@@ -5,6 +5,7 @@ use Rattle.std.proofs.lemmas.Option.{slice_get-get_or}
 use Rattle.sight_names.specs.declared.names.Triangle.{Triangle}
 use Rattle.sight_names.specs.Points.{Edge}
 use Rattle.sight_names.specs.Mesh.{AreTriangles, triangle_at, has_edge}
+use Rattle.sight_names.proofs.Portals.{triangle_within}
 
 ends_in : (p q r u v n : ℕ) → p < q → p < r → q ≢ r → q < n → r < n → ((p == u && q == v) || (q == u && r == v) || (r == u && p == v)) ≡ true → (u < n) × (v < n) × (u ≢ v)
 ends_in p q r u v n a b c d e h = grind arith
@@ -15,6 +16,3 @@ edge_ends n ts u v k all found =
     let here = position-Some (has_edge (record { from = u; to = v })) ts k d found in
     let is = all.each k (get_or ts k d) (slice_get-get_or ts k d here.0) in
     ends_in (get_or ts k d).p (get_or ts k d).q (get_or ts k d).r u v n is.least is.least_too is.differ is.second is.third here.1
-
-pub triangle_within : (ts : List Triangle) (e : Edge) (k : ℕ) → triangle_at ts e ≡ Some k → k < length ts
-triangle_within ts e k found = (position-Some (has_edge e) ts k (record { p = 0; q = 0; r = 0 }) found).0

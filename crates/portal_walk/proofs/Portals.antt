@@ -16,10 +16,11 @@ use Rattle.half_edges.specs.Numbers.{corner_of, number_of}
 use Rattle.portal_walk.specs.declared.scene.Way.{Way as WayOut}
 use Rattle.portal_walk.specs.declared.scene.Way.TheVariants.{Left, Right}
 use Rattle.portal_walk.specs.Scene.{SceneParts, IsScene, IsNumber, IsEntry, IsClosed, Finds, FindsWay, behind, exit_of}
-use Rattle.portal_walk.proofs.EdgeEnds.{edge_ends, triangle_within}
+use Rattle.portal_walk.proofs.EdgeEnds.{edge_ends}
 use Rattle.portal_walk.proofs.SideLines.{arrives}
 use Rattle.list_base.proofs.Lists.{get_there}
 use Rattle.sight_names.proofs.Roots.{names_true}
+use Rattle.sight_names.proofs.Portals.{triangle_within}
 
 -- ---- numbers
 

@@ -96,7 +96,6 @@ module _ (p : PlanParts) (ts : List Triangle) (ls : List (Option ℕ)) (rs : Lis
 -- ---- sectors that no walk found
 
 module _ (m : Map) (is_map : IsMap m) (ends : LinesMeetAtEnds m) (ts : List Triangle) (ls : List (Option ℕ)) (good : IsGoodMesh m ts ls) where
-
   place : (a b : ℕ) (s : Sequence) → Reaches m ts ls a s b → (i : ℕ) × (slice_get (stand_in_order m ts ls a good).all i ≡ Some s)
   place a b s r =
       let o = stand_in_order m ts ls a good in

@@ -14,7 +14,7 @@ use Rattle.sight_laws.proofs.Places.{ahead, place, norm, Before, NotAfter, turn_
 use Rattle.exact_ring.proofs.Small.{times_one, one_times, zero_by_second}
 
 -- ---- the order on the line
-chain_le : (ha da hb db hc dc : ℤ) → pos 0 <ℤ da → pos 0 <ℤ db → pos 0 <ℤ dc → (ha *ℤ db) ≤ℤ (hb *ℤ da) → (hb *ℤ dc) ≤ℤ (hc *ℤ db) → (ha *ℤ dc) ≤ℤ (hc *ℤ da)
+pub chain_le : (ha da hb db hc dc : ℤ) → pos 0 <ℤ da → pos 0 <ℤ db → pos 0 <ℤ dc → (ha *ℤ db) ≤ℤ (hb *ℤ da) → (hb *ℤ dc) ≤ℤ (hc *ℤ db) → (ha *ℤ dc) ≤ℤ (hc *ℤ da)
 chain_le ha da hb db hc dc pa pb pc l m =
     let x = mul-nonneg dc (hb *ℤ da -ℤ ha *ℤ db) (omega (arith, linear, pc)) (omega (arith, linear, l)) in
     let y = mul-nonneg da (hc *ℤ db -ℤ hb *ℤ dc) (omega (arith, linear, pa)) (omega (arith, linear, m)) in

@@ -15,6 +15,7 @@ use Rattle.plane_base.proofs.Near.{on_first, on_straight, on_inside}
 use Rattle.plane_base.proofs.Search.{In}
 use Rattle.plane_base.proofs.Walk.{Tri, Closed, Region, segment_walk}
 use Rattle.sight_laws.proofs.Bridge.{vec, mean_is_comb, on_of_segment, segment_of_on, turn_at_is}
+use Rattle.sight_names.proofs.Portals.{scale_above}
 
 -- a vector on a line of the map
 abbrev pub OnLineV : Map → V → Type 0
@@ -26,11 +27,8 @@ point_at r h =
     let e : pos (nat_abs r.d) ≡ r.d = omega (arith, ints) in
     (record { x = r.x; y = r.y; d = nat_abs r.d; positive = omega (arith, ints) }, ap (λ (k : ℤ). let v : V = record { x = r.x; y = r.y; d = k } in v) e)
 
-pub above : (p : Point) → pos 0 <ℤ pos p.d
-above p = let h = p.positive in omega (arith, ints)
-
 pub comb_above : (l m n : ℤ) (p q : Point) (r : V) → IsComb l m n (vec p) (vec q) r → pos 0 <ℤ l → pos 0 <ℤ r.d
-comb_above l m n p q r h hl = pos-of-mul n r.d h.scale (let e = h.d in omega (arith, ints, mul-pos l (pos p.d) hl (above p), mul-nonneg m (pos q.d) h.right (let k = above q in omega (arith, ints))))
+comb_above l m n p q r h hl = pos-of-mul n r.d h.scale (let e = h.d in omega (arith, ints, mul-pos l (pos p.d) hl (scale_above p), mul-nonneg m (pos q.d) h.right (let k = scale_above q in omega (arith, ints))))
 
 -- no vector of the segment is on a line
 pub free_of_misses : (m : Map) (p q : Point) → MissesAll m p q → (l k n : ℤ) (r : V) → IsComb l k n (vec p) (vec q) r → pos 0 <ℤ l → ¬ OnLineV m r
@@ -49,7 +47,7 @@ unfolding at
 same_value f p q h = combine2 f.a f.b h.x h.y (same_ring f.a f.b f.c p.x p.y (pos p.d) q.x q.y (pos q.d))
 
 same_nonneg : (f : Lin) (p q : Point) → SamePoint p q → pos 0 ≤ℤ at f (vec p) → pos 0 ≤ℤ at f (vec q)
-same_nonneg f p q h k = nonneg-of-mul (pos p.d) (at f (vec q)) (above p) (omega (arith, ints, same_value f p q h, *ℤ_comm (at f (vec q)) (pos p.d), mul-nonneg (at f (vec p)) (pos q.d) k (let z = above q in omega (arith, ints))))
+same_nonneg f p q h k = nonneg-of-mul (pos p.d) (at f (vec q)) (scale_above p) (omega (arith, ints, same_value f p q h, *ℤ_comm (at f (vec q)) (pos p.d), mul-nonneg (at f (vec p)) (pos q.d) k (let z = scale_above q in omega (arith, ints))))
 
 pub closed_same : (t : Tri) (p q : Point) → SamePoint p q → Closed t (vec p) → Closed t (vec q)
 closed_same t p q h c = record { ab = same_nonneg (edge t.a t.b) p q h c.ab; bc = same_nonneg (edge t.b t.c) p q h c.bc; ca = same_nonneg (edge t.c t.a) p q h c.ca }
@@ -82,9 +80,9 @@ same_on p q a b h (u, v, k) = segment_of_on q a b (swap_first p q a b h (_, _, _
       m *ℤ pos q.d,
       n *ℤ pos q.d,
       record {
-        left = mul-nonneg l (pos p.d) c.left (let z = above p in omega (arith, ints));
-        right = mul-nonneg m (pos q.d) c.right (let z = above q in omega (arith, ints));
-        scale = mul-pos n (pos q.d) c.scale (above q);
+        left = mul-nonneg l (pos p.d) c.left (let z = scale_above p in omega (arith, ints));
+        right = mul-nonneg m (pos q.d) c.right (let z = scale_above q in omega (arith, ints));
+        scale = mul-pos n (pos q.d) c.scale (scale_above q);
         x = combine2 (pos q.d) l c.x h.x (scale_ring l m n b.x p.x a.x (pos p.d) (pos q.d) q.x);
         y = combine2 (pos q.d) l c.y h.y (scale_ring l m n b.y p.y a.y (pos p.d) (pos q.d) q.y);
         d = combine2 (pos q.d) (pos 0) c.d c.d (last_ring l m n (pos b.d) (pos p.d) (pos a.d) (pos q.d));
@@ -110,9 +108,9 @@ on_same a b p q h (l, m, n, c) = (
   m *ℤ pos p.d,
   n *ℤ pos q.d,
   record {
-    left = mul-nonneg l (pos p.d) c.left (let z = above p in omega (arith, ints));
-    right = mul-nonneg m (pos p.d) c.right (let z = above p in omega (arith, ints));
-    scale = mul-pos n (pos q.d) c.scale (above q);
+    left = mul-nonneg l (pos p.d) c.left (let z = scale_above p in omega (arith, ints));
+    right = mul-nonneg m (pos p.d) c.right (let z = scale_above p in omega (arith, ints));
+    scale = mul-pos n (pos q.d) c.scale (scale_above q);
     x = combine2 (pos p.d) n c.x h.x (on_ring l m n q.x p.x a.x b.x (pos p.d) (pos q.d));
     y = combine2 (pos p.d) n c.y h.y (on_ring l m n q.y p.y a.y b.y (pos p.d) (pos q.d));
     d = combine2 (pos p.d) (pos 0) c.d c.d (on_last_ring l m n a.d b.d (pos p.d) (pos q.d));
@@ -186,7 +184,7 @@ free_before m p s t u v h r rd on left (i, line, is, onl) =
     let e = same_value (edge u v) x.0 t.foot same in
     let left2 : pos 0 <ℤ det u v (vec x.0) = subst (λ (k : V). pos 0 <ℤ det u v k) (sym x.1) left in
     let w : det u v (vec t.foot) *ℤ pos x.0.d ≡ pos 0 = ap (λ (k : ℤ). k *ℤ pos x.0.d) z ∙ zero-*ℤ (pos x.0.d) in
-    omega (arith, ints, mul-pos (det u v (vec x.0)) (pos t.foot.d) left2 (above t.foot))
+    omega (arith, ints, mul-pos (det u v (vec x.0)) (pos t.foot.d) left2 (scale_above t.foot))
 
 -- from q on to the foot: the triangle there has the foot and a point strictly on the side
 pub record Reaches (cs : List Tri) (u v f : V) : Type 0 where
@@ -254,9 +252,9 @@ touch_walk m cs Escape reg p s t u v w h it =
     pos-of-mul n (det u v r) c.scale (omega (arith, ints, mul-pos l (det u v M) hl (omega (arith, ints)), mul-nonneg k (det u v Q) c.right (omega (arith, ints)))) in
     let on_qf : (l k n : ℤ) (r : V) → IsComb l k n M Q r → On Q F r = λ l k n r c.
     on_within Q F M Q r (pos 1, K, pos 1, record { left = omega (arith, ints); right = hK; scale = omega (arith, ints); x = let e = mm.1.x in omega (arith, ints); y = let e = mm.1.y in omega (arith, ints); d = let e = mm.1.d in omega (arith, ints) }) (on_first Q F) (l, k, n, c) in
-    let md : pos 0 <ℤ M.d = let e = mm.1.d in omega (arith, ints, mul-nonneg K (pos t.foot.d) hK (let z = above t.foot in omega (arith, ints)), above t.q) in
+    let md : pos 0 <ℤ M.d = let e = mm.1.d in omega (arith, ints, mul-nonneg K (pos t.foot.d) hK (let z = scale_above t.foot in omega (arith, ints)), scale_above t.q) in
     let rd : (l k n : ℤ) (r : V) → IsComb l k n M Q r → pos 0 <ℤ l → pos 0 <ℤ r.d = λ l k n r c hl.
-    pos-of-mul n r.d c.scale (let e = c.d in omega (arith, ints, mul-pos l M.d hl md, mul-nonneg k (pos t.q.d) c.right (let z = above t.q in omega (arith, ints)))) in
+    pos-of-mul n r.d c.scale (let e = c.d in omega (arith, ints, mul-pos l M.d hl md, mul-nonneg k (pos t.q.d) c.right (let z = scale_above t.q in omega (arith, ints)))) in
     elim (segment_walk cs (OnLineV m) Escape reg M Q tri it cm (λ l k n r c hl. free_before m p s t u v h r (rd l k n r c hl) (on_qf l k n r c) (up l k n r c hl))) as (λ _. Holds cs p ⊎ Escape) [
       | inr e ↦ inr e
       | inl st ↦

@@ -15,9 +15,10 @@ use Rattle.sight_names.proofs.Affine.{value_pos, neg_value, value_mean}
 use Rattle.sight_names.proofs.Laws.{on_segment_sym}
 use Rattle.plane_base.proofs.Vec.{V, Lin, at, On, value, mean, det-swap}
 use Rattle.sight_laws.proofs.Bridge.{vec, value_at_is, turn_at_is, on_of_segment, segment_of_on}
-use Rattle.sight_laws.proofs.Paths.{point_at, above, same_on, same_value}
+use Rattle.sight_laws.proofs.Paths.{point_at, same_on, same_value}
 use Rattle.sight_laws.proofs.Places.{place, norm, NotAfter, den, between, on_line, not_before_start, not_after_stop, same_from_places, crossing_one, turn_at_crossing}
 use Rattle.exact_ring.proofs.Small.{neg_not_zero, pos_not_zero, neg_of_negated_pos, pos_of_negated_neg, nonneg_of_pos, lt_of_difference, pos_difference, le_of_difference, nonneg_of_neg}
+use Rattle.sight_names.proofs.Portals.{scale_above}
 
 -- the functional of a ray
 abbrev pub lin : Ray → Lin
@@ -89,7 +90,7 @@ has_direction r u v hu hv = elim (sign_cases r.a) as (λ _. HasDirection r) [
 -- a point of the ray's line that isn't behind t nor before s is on the segment from s to t
 pub on_stretch : (r : Ray) (s t z : Point) → HasDirection r → ray_value r s ≡ pos 0 → ray_value r t ≡ pos 0 → ray_value r z ≡ pos 0 → NotBehind r s z → NotBehind r z t → OnSegment s t z
 on_stretch r s t z hn es et ez h k =
-    segment_of_on s t z (between (lin r) (vec s) (vec t) (vec z) hn (above s) (above t) (above z) (sym (value_is r s) ∙ es) (sym (value_is r t) ∙ et) (sym (value_is r z) ∙ ez) (to_places r s z h) (to_places r z t k))
+    segment_of_on s t z (between (lin r) (vec s) (vec t) (vec z) hn (scale_above s) (scale_above t) (scale_above z) (sym (value_is r s) ∙ es) (sym (value_is r t) ∙ et) (sym (value_is r z) ∙ ez) (to_places r s z h) (to_places r z t k))
 
 -- the points of a segment between points of the ray's line are on the line
 pub stretch_on_ray : (r : Ray) (s t z : Point) → ray_value r s ≡ pos 0 → ray_value r t ≡ pos 0 → OnSegment s t z → ray_value r z ≡ pos 0
@@ -158,7 +159,7 @@ turn_order r u v x z h o ex ez =
     ∙ ap₂ (λ (s t : ℤ). den (lin r) (vec (point_of u)) (vec (point_of v)) *ℤ (s *ℤ pos x.d -ℤ t *ℤ pos z.d)) (sym (along_is r z)) (sym (along_is r x))
 
 scale : (r : Ray) (u v : Pt) (x : Point) → Parts r u v → pos 0 <ℤ (norm (lin r) *ℤ pos x.d)
-scale r u v x h = mul-pos _ _ (parts_direction r u v h) (above x)
+scale r u v x h = mul-pos _ _ (parts_direction r u v h) (scale_above x)
 
 -- where the turn isn't below 0 the point isn't before the crossing
 pub turn_not_before : (r : Ray) (u v : Pt) (x z : Point) → Parts r u v → OnSegment (point_of u) (point_of v) x → ray_value r x ≡ pos 0 → ray_value r z ≡ pos 0 → pos 0 ≤ℤ turn_at u v z → NotBehind r x z
@@ -173,7 +174,7 @@ turn_behind r u v x z h o ex ez t =
     let p : pos 0 <ℤ (norm (lin r) *ℤ pos x.d *ℤ turn_at u v z) = mul-pos _ _ (scale r u v x h) t in
     lt_of_difference _ _ (pos-of-mul _ _ (parts_den r u v h) (subst (λ (y : ℤ). pos 0 <ℤ y) e p))
 
--- where it isn't above 0 the point isn't behind the crossing
+-- where it isn't scale_above 0 the point isn't behind the crossing
 pub turn_not_behind : (r : Ray) (u v : Pt) (x z : Point) → Parts r u v → OnSegment (point_of u) (point_of v) x → ray_value r x ≡ pos 0 → ray_value r z ≡ pos 0 → turn_at u v z ≤ℤ pos 0 → NotBehind r z x
 turn_not_behind r u v x z h o ex ez t =
     let e = turn_order r u v x z h o ex ez in
@@ -281,8 +282,8 @@ along_same r p s h = combine2 r.b (neg_ℤ r.a) h.x h.y (by_ring (r.a ∷ r.b �
 -- ---- the order of points under other names
 pub not_behind_same : (r : Ray) (p q s t : Point) → SamePoint p s → SamePoint q t → NotBehind r p q → NotBehind r s t
 not_behind_same r p q s t h k f =
-    le-of-mul (pos p.d *ℤ pos q.d) (along r s *ℤ pos t.d) (along r t *ℤ pos s.d) (mul-pos _ _ (above p) (above q))
-    (carried (along r p) (along r q) (along r s) (along r t) (pos p.d) (pos q.d) (pos s.d) (pos t.d) (mul-nonneg _ _ (nonneg_of_pos _ (above s)) (nonneg_of_pos _ (above t))) (along_same r p s h) (along_same r q t k) f)
+    le-of-mul (pos p.d *ℤ pos q.d) (along r s *ℤ pos t.d) (along r t *ℤ pos s.d) (mul-pos _ _ (scale_above p) (scale_above q))
+    (carried (along r p) (along r q) (along r s) (along r t) (pos p.d) (pos q.d) (pos s.d) (pos t.d) (mul-nonneg _ _ (nonneg_of_pos _ (scale_above s)) (nonneg_of_pos _ (scale_above t))) (along_same r p s h) (along_same r q t k) f)
   where
     one : (ps ss qd td sd pd : ℤ) → ps *ℤ sd ≡ ss *ℤ pd → (pd *ℤ qd) *ℤ (ss *ℤ td) ≡ (sd *ℤ td) *ℤ (ps *ℤ qd)
     one ps ss qd td sd pd e = combine1 (neg_ℤ (qd *ℤ td)) e (by_ring (ps ∷ ss ∷ qd ∷ td ∷ sd ∷ pd ∷ []) _ _ (search quoting depth 60 fits 200000) (search quoting depth 60 fits 200000) tt)
@@ -344,7 +345,6 @@ turned_behind r p q h = flip (along r p) (along r q) (pos p.d) (pos q.d) (subst�
 
 pub turned_splits : (r : Ray) (l : MapLine) (b : Bool) → SplitsLine r l (not b) → SplitsLine (turned r) l b
 turned_splits r l true h = (pos_of_negated_neg _ _ (turned_value r (point_of l.first)) h.0, neg_of_negated_pos _ _ (turned_value r (point_of l.second)) h.1)
-
 turned_splits r l false h = (neg_of_negated_pos _ _ (turned_value r (point_of l.first)) h.0, pos_of_negated_neg _ _ (turned_value r (point_of l.second)) h.1)
 
 pub turned_crossing : (r : Ray) (l : MapLine) (p : Point) → IsCrossing r l p → IsCrossing (turned r) l p
@@ -368,7 +368,7 @@ split_direction r l false h = has_direction r l.second l.first h.1 h.0
 pub not_at : (r : Ray) (z : Point) (p : Pt) → ray_value r z ≡ pos 0 → ¬ (ray_value r (point_of p) ≡ pos 0) → ¬ SamePoint z (point_of p)
 not_at r z p e n h =
     let f = same_value (lin r) z (point_of p) h in
-    n (value_is r (point_of p) ∙ gone (at (lin r) (vec z)) (at (lin r) (vec (point_of p))) (pos z.d) (above z) (sym (value_is r z) ∙ e) f)
+    n (value_is r (point_of p) ∙ gone (at (lin r) (vec z)) (at (lin r) (vec (point_of p))) (pos z.d) (scale_above z) (sym (value_is r z) ∙ e) f)
   where
     gone : (x y d : ℤ) → pos 0 <ℤ d → x ≡ pos 0 → x *ℤ pos 1 ≡ y *ℤ d → y ≡ pos 0
     gone x y d h e f = zero-of-mul d y h (let g = *ℤ_comm y d in omega (arith, ints))
@@ -389,7 +389,6 @@ split_inside r l b z h ((u, v, k), e) =
   where
     off_ends : (r : Ray) (l : MapLine) (b : Bool) → SplitsLine r l b → (¬ (ray_value r (point_of l.first) ≡ pos 0)) × (¬ (ray_value r (point_of l.second) ≡ pos 0))
     off_ends r l true h = let a = h.0 in let b = h.1 in ((λ e. pos_not_zero _ a e), (λ e. neg_not_zero _ b e))
-
     off_ends r l false h = let a = h.0 in let b = h.1 in ((λ e. neg_not_zero _ a e), (λ e. pos_not_zero _ b e))
 
     swap : (u v : ℕ) → 0 < u + v → 0 < v + u
@@ -411,4 +410,4 @@ split_inside r l b z h ((u, v, k), e) =
     weights : (r : Ray) (l : MapLine) (z : Point) (u v : ℕ) → IsMean u v (point_of l.first) (point_of l.second) z → ray_value r z ≡ pos 0 → pos u *ℤ ray_value r (point_of l.first) +ℤ pos v *ℤ ray_value r (point_of l.second) ≡ pos 0
     weights r l z u v k e =
         let f = value_mean r.a r.b r.c u v (point_of l.first) (point_of l.second) z k in
-        cleared (pos u) (pos v) (ray_value r (point_of l.first)) (ray_value r (point_of l.second)) (ray_value r z) (pos z.d) ((pos u +ℤ pos v) *ℤ (pos 1 *ℤ pos 1)) (above z) e f
+        cleared (pos u) (pos v) (ray_value r (point_of l.first)) (ray_value r (point_of l.second)) (ray_value r z) (pos z.d) ((pos u +ℤ pos v) *ℤ (pos 1 *ℤ pos 1)) (scale_above z) e f

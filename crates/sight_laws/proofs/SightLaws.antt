@@ -16,12 +16,13 @@ use Rattle.sight_names.proofs.Laws.{on_segment_sym, misses_sym, same_point_sym, 
 use Rattle.sight_laws.specs.Laws.{IsOpenRay, AreInSight}
 use Rattle.plane_base.proofs.Vec.{V, On}
 use Rattle.sight_laws.proofs.Bridge.{vec, on_of_segment, segment_of_on}
-use Rattle.sight_laws.proofs.Paths.{free_first, above, on_same}
+use Rattle.sight_laws.proofs.Paths.{free_first, on_same}
 use Rattle.sight_laws.proofs.Rays.{Behind, order, behind_not, on_stretch, stretch_on_ray, stretch_after, stretch_before, split_direction, split_crossing, along_same, turned, turned_not_behind, turned_behind, turned_splits, turned_crossing}
 use Rattle.sight_laws.proofs.StepOff.{StepOff, step_off, distance, distance_pos}
 use Rattle.list_base.proofs.Options.{none_is_not_some}
 use Rattle.exact_ring.proofs.Small.{neg_of_negated_pos, nonneg_of_pos, abs_negated}
 use Rattle.list_base.proofs.Bools.{not_not}
+use Rattle.sight_names.proofs.Portals.{scale_above}
 
 -- ---- the ray the other way
 pub turned_range : (r : Ray) → IsInRange r → IsInRange (turned r)
@@ -57,7 +58,7 @@ not_strict : (r : Ray) (x z : Point) → SamePoint z x → Behind r x z → ⊥
 not_strict r x z s b = let e = along_same r z x s in omega (arith, ints)
 
 later : (r : Ray) (p q s : Point) → NotBehind r p q → NotBehind r q s → NotBehind r p s
-later r p q s h k = le-of-mul (pos q.d) (along r p *ℤ pos s.d) (along r s *ℤ pos p.d) (above q) (chain (along r p) (along r q) (along r s) (pos p.d) (pos q.d) (pos s.d) (nonneg_of_pos _ (above p)) (nonneg_of_pos _ (above s)) h k)
+later r p q s h k = le-of-mul (pos q.d) (along r p *ℤ pos s.d) (along r s *ℤ pos p.d) (scale_above q) (chain (along r p) (along r q) (along r s) (pos p.d) (pos q.d) (pos s.d) (nonneg_of_pos _ (scale_above p)) (nonneg_of_pos _ (scale_above s)) h k)
   where
     swap : (d x e : ℤ) → d *ℤ (x *ℤ e) ≡ e *ℤ (x *ℤ d)
     swap d x e = by_ring (d ∷ x ∷ e ∷ []) _ _ (search quoting depth 60 fits 200000) (search quoting depth 60 fits 200000) tt

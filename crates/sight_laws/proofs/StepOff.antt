@@ -14,15 +14,15 @@ use Rattle.sight_names.specs.Sound.{LinesMeetAtEnds}
 use Rattle.sight_names.specs.Ray.{ray_value, along, SplitsLine, IsCrossing}
 use Rattle.sight_names.proofs.Affine.{parted_misses}
 use Rattle.sight_names.proofs.Laws.{start_on, on_segment_sym, same_point_refl}
-use Rattle.sight_laws.proofs.Paths.{above}
 use Rattle.sight_laws.proofs.Rays.{Behind, HasDirection, order, on_stretch, stretch_on_ray, split_direction, split_once, split_inside, along_same, before_turn, turn_swap}
 use Rattle.list_base.proofs.Numbers.{below_same_or_above, same_or_not}
 use Rattle.list_base.proofs.Options.{none_is_not_some}
 use Rattle.exact_ring.proofs.Small.{times_one, pos_of_negated_neg, nonpos_of_zero, negated_sum, pos_not_zero, neg_not_zero}
 use Rattle.exact_ring.proofs.Ring.{same_of_difference}
+use Rattle.sight_names.proofs.Portals.{scale_above}
 
 -- ---- a point that isn't on a line is parted from it
--- the value is above 0 at the point, and not at the line's ends
+-- the value is scale_above 0 at the point, and not at the line's ends
 pub record IsParted (u v : Pt) (x : Point) : Type 0 where
   pub a : ℤ
   pub b : ℤ
@@ -187,7 +187,7 @@ back_on r x k e = back_value r.a r.b r.c r x k ∙ none (pos (suc k)) (ray_value
 pub back_before : (r : Ray) (x : Point) (k : ℕ) → HasDirection r → Behind r x (back r x k)
 back_before r x k h =
     let e = back_last x k in
-    subst (λ (d : ℤ). (along r (back r x k) *ℤ pos x.d) <ℤ (along r x *ℤ d)) (sym e) (less (along r (back r x k) *ℤ pos x.d) (along r x *ℤ (pos (suc k) *ℤ pos x.d)) _ (ring r.a r.b (pos (suc k)) x.x x.y (pos x.d)) (mul-pos _ _ h (above x)))
+    subst (λ (d : ℤ). (along r (back r x k) *ℤ pos x.d) <ℤ (along r x *ℤ d)) (sym e) (less (along r (back r x k) *ℤ pos x.d) (along r x *ℤ (pos (suc k) *ℤ pos x.d)) _ (ring r.a r.b (pos (suc k)) x.x x.y (pos x.d)) (mul-pos _ _ h (scale_above x)))
   where
     ring : (a b n x y d : ℤ) → (b *ℤ (n *ℤ x -ℤ b) -ℤ a *ℤ (n *ℤ y +ℤ a)) *ℤ d ≡ (b *ℤ x -ℤ a *ℤ y) *ℤ (n *ℤ d) -ℤ (a *ℤ a +ℤ b *ℤ b) *ℤ d
     ring a b n x y d = by_ring (a ∷ b ∷ n ∷ x ∷ y ∷ d ∷ []) _ _ (search quoting depth 60 fits 200000) (search quoting depth 60 fits 200000) tt

@@ -189,11 +189,13 @@ fn is_met(start: CrossedLine, stop: CrossedLine, p: Pt, q: Pt) -> bool
 fn are_before(crossed_line: CrossedLine, p: Pt, q: Pt) -> bool
     ensures { MatchBool result (AreBefore crossed_line p q) (ReachesStart crossed_line p q) }
 {
-    turn(crossed_line.left, crossed_line.right, p) < 0 && turn(crossed_line.left, crossed_line.right, q) < 0
+    turn(crossed_line.left, crossed_line.right, p) < 0
+        && turn(crossed_line.left, crossed_line.right, q) < 0
 }
 
 fn are_after(crossed_line: CrossedLine, p: Pt, q: Pt) -> bool
     ensures { MatchBool result (AreAfter crossed_line p q) (ReachesStop crossed_line p q) }
 {
-    turn(crossed_line.left, crossed_line.right, p) > 0 && turn(crossed_line.left, crossed_line.right, q) > 0
+    turn(crossed_line.left, crossed_line.right, p) > 0
+        && turn(crossed_line.left, crossed_line.right, q) > 0
 }

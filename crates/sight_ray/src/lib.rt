@@ -9,7 +9,7 @@ ghost use Rattle.sight_ray.specs.RayFault.{IsRayFault, HasNames, Leaves, Arrives
 
 mod crossed_line;
 
-use crossed_line::{CrossedLine, first_hit, crossed_line_of, is_backwards};
+use crossed_line::{CrossedLine, crossed_line_of, first_hit, is_backwards};
 use geom_exact::in_range;
 use sight_names::{Plan, Ray, RayFault, Side};
 

@@ -12,8 +12,9 @@ use Rattle.sight_names.proofs.Lists.{get_of_contains}
 use Rattle.sight_names.proofs.PlanMap.{line_of_plan, plan_is_map}
 use Rattle.sound_reach.specs.declared.doors.Door.{Door}
 use Rattle.sound_reach.specs.Doors.{AreAdded, AreDoors, AreDoorsFrom, AreStarts, IsDoor, IsDoorOf, IsStart, sector_of}
-use Rattle.sound_reach.proofs.Lookups.{get_push}
-use Rattle.list_base.proofs.Lists.{contains_none}
+use Rattle.list_base.proofs.Lists.{contains_none, pushed_at}
+use Rattle.list_base.proofs.Numbers.{below_or_not, below_or_last}
+use Rattle.sight_names.proofs.Records.{none_is_no_line}
 
 -- ---- line by line
 
@@ -49,9 +50,6 @@ line_of_door p d e door =
       },
     )
 
-cases : (i n : ℕ) → i < n + 1 → (i < n) ⊎ (i ≡ n)
-cases i n h = grind arith
-
 pub line_added : (p : PlanParts) (d : List Bool) (n : ℕ) (l : Line) (blocks : Bool) (old new : List Door) → slice_get p.lines n ≡ Some (Some l) → blocks ≡ slice_index_or d n false → AreAdded n l blocks old new → AreDoorsBelow p d n old → AreDoorsBelow p d (n + 1) new
 line_added p d n l blocks old new at is added h e = (there, back)
   where
@@ -62,7 +60,7 @@ line_added p d n l blocks old new at is added h e = (there, back)
     ]
 
     back : (e.side.line < n + 1) × IsDoor (map_of p) d e → Contains new e
-    back w = elim (cases e.side.line n w.0) as (λ _. Contains new e) [
+    back w = elim (below_or_last e.side.line n w.0) as (λ _. Contains new e) [
       | inl less ↦ (added e).1 (inl ((h e).1 (less, w.1)))
       | inr same ↦
           let k = line_of_door p d e w.1 in
@@ -76,13 +74,10 @@ line_added p d n l blocks old new at is added h e = (there, back)
 pub none_added : (p : PlanParts) (d : List Bool) (n : ℕ) (es : List Door) → slice_get p.lines n ≡ Some None → AreDoorsBelow p d n es → AreDoorsBelow p d (n + 1) es
 none_added p d n es at h e = (λ c. let w = (h e).0 c in let lt = w.0 in (omega (arith, lt), w.1), back)
   where
-    none : (l : Line) → ◌≡◌ {A = Option (Option Line)} (Some None) (Some (Some l)) → ⊥
-    none l e = cc
-
     back : (e.side.line < n + 1) × IsDoor (map_of p) d e → Contains es e
-    back w = elim (cases e.side.line n w.0) as (λ _. Contains es e) [
+    back w = elim (below_or_last e.side.line n w.0) as (λ _. Contains es e) [
       | inl less ↦ (h e).1 (less, w.1)
-      | inr same ↦ let k = line_of_door p d e w.1 in absurd (none k.0 (sym at ∙ ap (slice_get p.lines) (sym same) ∙ k.1))
+      | inr same ↦ let k = line_of_door p d e w.1 in absurd (none_is_no_line k.0 (sym at ∙ ap (slice_get p.lines) (sym same) ∙ k.1))
     ]
 
 pub all_doors : (p : PlanParts) (d : List Bool) (n : ℕ) (es : List Door) → length p.lines ≤ n → AreDoorsBelow p d n es → AreDoors (map_of p) d es
@@ -146,9 +141,9 @@ doors_between es c i j s t e = (there, back)
     back : Contains es e × (e.from ≡ c) → Contains (take (j - i) (drop i es)) e
     back ((k, lt, at), is) =
         let got = get_of_contains es e k lt at in
-        elim (either k i) as (λ _. Contains (take (j - i) (drop i es)) e) [
+        elim (below_or_not k i) as (λ _. Contains (take (j - i) (drop i es)) e) [
           | inl less ↦ let low = s.before k e less got in absurd (omega (arith, low, is))
-          | inr ge ↦ elim (either k j) as (λ _. Contains (take (j - i) (drop i es)) e) [
+          | inr ge ↦ elim (below_or_not k j) as (λ _. Contains (take (j - i) (drop i es)) e) [
             | inr far ↦ let high = t.from k e far got in absurd (omega (arith, high, is))
             | inl near ↦
                 let w = t.within in
@@ -159,6 +154,3 @@ doors_between es c i j s t e = (there, back)
                 (k - i, omega (arith, ge, near, w, len, len2), get_or-take (j - i) (drop i es) (k - i) e less ∙ get_or-drop i es (k - i) e ∙ ap (λ n. get_or es n e) same ∙ at)
           ]
         ]
-      where
-        either : (i j : ℕ) → (i < j) ⊎ (j ≤ i)
-        either i j = grind arith

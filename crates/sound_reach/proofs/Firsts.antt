@@ -13,6 +13,8 @@ use Rattle.sound_reach.specs.State.{after_of}
 use Rattle.sound_reach.specs.Doors.{AreDoorsFrom, IsNet}
 use Rattle.sound_reach.specs.Routes.{AreDistances, IsRoute, IsStep, distance_at}
 use Rattle.sound_reach.specs.Steps.{Approaches, IsFirst, IsLeastStep, IsLesser, IsNotAfter, IsStepThrough}
+use Rattle.list_base.proofs.Options.{none_is_not_some}
+use Rattle.list_base.proofs.Numbers.{below_or_last}
 
 -- ---- the lesser of two sides
 
@@ -41,7 +43,7 @@ least_more ds left spare found n best step result e there at through lesser h = 
     | inl old ↦ h.through s (old ∙ is)
     | inr new ↦ (e, there, subst (λ (o : Option Step). IsStepThrough ds left spare e o) (new ∙ is) through)
   ];
-  least = λ k d y lt got near. elim (cases k n lt) as (λ _. (s : Step) × (result ≡ Some s) × IsNotAfter s.side d.side) [
+  least = λ k d y lt got near. elim (below_or_last k n lt) as (λ _. (s : Step) × (result ≡ Some s) × IsNotAfter s.side d.side) [
     | inl less ↦ let w = h.least k d y less got near in let v = lesser.least w.0 (inl w.1) in (v.0, v.1, not_after_after v.0.side w.0.side d.side v.2 w.2)
     | inr same ↦ let f : e ≡ d = same_Some e d (sym at ∙ ap (slice_get found) (sym same) ∙ got) in
         let w = passing step through (subst (λ (c : Door). Approaches ds left spare c y) (sym f) near) in
@@ -50,9 +52,6 @@ least_more ds left spare found n best step result e there at through lesser h = 
   ];
 }
   where
-    cases : (i n : ℕ) → i < n + 1 → (i < n) ⊎ (i ≡ n)
-    cases i n h = grind arith
-
     passing : {y : State} → (o : Option Step) → IsStepThrough ds left spare e o → Approaches ds left spare e y → (s : Step) × (o ≡ Some s) × (s.side ≡ e.side)
     passing {y} None t near = absurd (t y near)
     passing (Some s) t near = (s, refl, t.1)
@@ -95,10 +94,7 @@ module _ (es : List Door) (sectors b : ℕ) (ds : List (Option ℕ)) (is : AreDi
           shorter n left e = omega (arith, e)
 
   pub never_stuck : (x : State) (left : ℕ) (found : List Door) (best : Option Step) → AreDoorsFrom es x.sector found → distance_at ds x ≡ Some (left + 1) → IsLeastStep ds left x.spare found best → best ≡ None → ⊥
-  never_stuck x left found best from at least none = let w = some_nearer x left found from at in let v = least.least w.0 w.1 w.2 w.3 in no v.0 (sym none ∙ v.1)
-    where
-      no : (step : Step) → ◌≡◌ {A = Option Step} None (Some step) → ⊥
-      no step e = cc
+  never_stuck x left found best from at least none = let w = some_nearer x left found from at in let v = least.least w.0 w.1 w.2 w.3 in none_is_not_some v.0 (sym none ∙ v.1)
 
   module _ (net : IsNet es) where
     pub first_further : (x : State) (left : ℕ) (found : List Door) (step : Step) → AreDoorsFrom es x.sector found → distance_at ds x ≡ Some (left + 1) → IsLeastStep ds left x.spare found (Some step)

@@ -12,8 +12,9 @@ use Rattle.sound_reach.specs.declared.doors.Door.{Door}
 use Rattle.sound_reach.specs.Doors.{AreDoors}
 use Rattle.sound_reach.specs.Routes.{AreDistances, distance_at}
 use Rattle.sound_reach.specs.Counts.{AreFilled, AreRows, IsRow, is_near, row_at}
-use Rattle.sound_reach.proofs.Lookups.{none_some, read_at, same_or_not}
+use Rattle.sound_reach.proofs.Lookups.{none_some, read_at}
 use Rattle.sound_reach.proofs.Mapped.{allowance, back, count_back, count_joined, heard_through, lead_back, lead_joined, leads_route, route_leads}
+use Rattle.list_base.proofs.Numbers.{below_or_not, below_or_last, same_or_not}
 
 -- ---- what one search tells
 
@@ -87,7 +88,7 @@ rows_more m d es are n ds rows rows' lt is filled h = record {
   ];
   known = λ a less. elim (both_ways (is_near ds false a)) as (λ _. (count : ℕ) × (row_at rows' a ≡ Some count)) [
     | inl near ↦ (count_by (is_near ds true) (range_with_len a (m.sectors - a)), filled.near a (below a less) near)
-    | inr far ↦ elim (cases a n less) as (λ _. (count : ℕ) × (row_at rows' a ≡ Some count)) [
+    | inr far ↦ elim (below_or_last a n less) as (λ _. (count : ℕ) × (row_at rows' a ≡ Some count)) [
       | inl l ↦ let w = h.known a l in (w.0, filled.far a (below a less) far ∙ w.1)
       | inr same ↦ absurd (false≢true (sym far ∙ ap (is_near ds false) same ∙ own_near m d es are n ds is))
     ]
@@ -100,18 +101,12 @@ rows_more m d es are n ds rows rows' lt is filled h = record {
     below : (a : ℕ) → a < n + 1 → a < m.sectors
     below a l = omega (arith, l, lt)
 
-    cases : (i n : ℕ) → i < n + 1 → (i < n) ⊎ (i ≡ n)
-    cases i n h = grind arith
-
 pub rows_known : (m : Map) (d : List Bool) (n count : ℕ) (rows : List (Option ℕ)) → row_at rows n ≡ Some count → AreRows m d n rows → AreRows m d (n + 1) rows
 rows_known m d n count rows e h = record {
   len = h.len;
   each = h.each;
-  known = λ a less. elim (cases a n less) as (λ _. (count : ℕ) × (row_at rows a ≡ Some count)) [ inl l ↦ h.known a l | inr same ↦ (count, ap (row_at rows) same ∙ e) ];
+  known = λ a less. elim (below_or_last a n less) as (λ _. (count : ℕ) × (row_at rows a ≡ Some count)) [ inl l ↦ h.known a l | inr same ↦ (count, ap (row_at rows) same ∙ e) ];
 }
-  where
-    cases : (i n : ℕ) → i < n + 1 → (i < n) ⊎ (i ≡ n)
-    cases i n h = grind arith
 
 -- ---- sums over the sectors from one on
 
@@ -174,9 +169,6 @@ row_few m d n rows a count h e =
     let len = range_length a (m.sectors - a) in
     omega (arith, is, le, len)
 
-split : (a n : ℕ) → (a < n) ⊎ (n ≤ a)
-split a n = grind arith
-
 module _ (m : Map) (d : List Bool) (rows : List (Option ℕ)) (h : AreRows m d m.sectors rows) where
   row : (a : ℕ) (lt : a < m.sectors) → IsRow m d a (h.known a lt).0
   row a lt = let k = h.known a lt in h.each a k.0 k.1
@@ -195,19 +187,19 @@ module _ (m : Map) (d : List Bool) (rows : List (Option ℕ)) (h : AreRows m d m
   value a (inl lt) ha = ap (λ (o : Option ℕ). unwrap_or o 0) (h.known a lt).1 ∙ (h.each a (h.known a lt).0 (h.known a lt).1).count_is
   value a (inr le) ha = absurd (omega (arith, le, ha))
 
-  unheard : (a : ℕ) → a < m.sectors → m.sectors - a - row_value rows a ≡ count_by (λ b. not (pick a (split a m.sectors) b)) (range_with_len a (m.sectors - a))
+  unheard : (a : ℕ) → a < m.sectors → m.sectors - a - row_value rows a ≡ count_by (λ b. not (pick a (below_or_not a m.sectors) b)) (range_with_len a (m.sectors - a))
   unheard a ha =
-      let v = value a (split a m.sectors) ha in
-      let c = count_not (pick a (split a m.sectors)) (range_with_len a (m.sectors - a)) in
+      let v = value a (below_or_not a m.sectors) ha in
+      let c = count_not (pick a (below_or_not a m.sectors)) (range_with_len a (m.sectors - a)) in
       let len = range_length a (m.sectors - a) in
       omega (arith, v, c, len)
 
   pub counts_heard : (pairs silent : ℕ) → pairs ≡ sum_by (row_value rows) (range_with_len 0 m.sectors) → silent ≡ sum_by (λ a. m.sectors - a - row_value rows a) (range_with_len 0 m.sectors) → AreHeardCounts m d pairs silent
   counts_heard pairs silent e f = record {
-    hears = λ a. pick a (split a m.sectors);
-    tells = λ a b ha hb. tell a b (split a m.sectors) ha hb;
-    pairs_are = e ∙ sum_same (row_value rows) (λ a. count_by (pick a (split a m.sectors)) (range_with_len a (m.sectors - a))) m.sectors (λ a lt. value a (split a m.sectors) lt);
-    silent_are = f ∙ sum_same (λ a. m.sectors - a - row_value rows a) (λ a. count_by (λ b. not (pick a (split a m.sectors) b)) (range_with_len a (m.sectors - a))) m.sectors unheard;
+    hears = λ a. pick a (below_or_not a m.sectors);
+    tells = λ a b ha hb. tell a b (below_or_not a m.sectors) ha hb;
+    pairs_are = e ∙ sum_same (row_value rows) (λ a. count_by (pick a (below_or_not a m.sectors)) (range_with_len a (m.sectors - a))) m.sectors (λ a lt. value a (below_or_not a m.sectors) lt);
+    silent_are = f ∙ sum_same (λ a. m.sectors - a - row_value rows a) (λ a. count_by (λ b. not (pick a (below_or_not a m.sectors) b)) (range_with_len a (m.sectors - a))) m.sectors unheard;
   }
 
 -- ---- the rows filled, from the last sector down

@@ -6,33 +6,9 @@ use Rattle.sound_reach.specs.declared.doors.Door.{Door}
 use Rattle.sound_reach.specs.declared.state.State.{State}
 use Rattle.sound_reach.specs.State.{place_of}
 use Rattle.sound_reach.specs.Routes.{distance_at}
-
-pub get_push : {X : Type 0} (xs : List X) (y z : X) (i : ℕ) → slice_get (xs ++ y ∷ []) i ≡ Some z → (slice_get xs i ≡ Some z) ⊎ ((i ≡ length xs) × (y ≡ z))
-get_push [] y z zero e = inr (refl, same_Some y z e)
-get_push [] y z (suc i) e = absurd (no z e)
-  where
-    no : {X : Type 0} (z : X) → ◌≡◌ {A = Option X} None (Some z) → ⊥
-    no z e = cc
-get_push (x ∷ xs) y z zero e = inl e
-get_push (x ∷ xs) y z (suc i) e = elim (get_push xs y z i e) as (λ _. (slice_get xs i ≡ Some z) ⊎ ((suc i ≡ suc (length xs)) × (y ≡ z))) [ inl h ↦ inl h | inr h ↦ inr (ap suc h.0, h.1) ]
-
-pub get_pushed : {X : Type 0} (xs : List X) (y : X) → slice_get (xs ++ y ∷ []) (length xs) ≡ Some y
-get_pushed [] y = refl
-get_pushed (x ∷ xs) y = get_pushed xs y
-
-pub get_kept : {X : Type 0} (xs : List X) (y z : X) (i : ℕ) → slice_get xs i ≡ Some z → slice_get (xs ++ y ∷ []) i ≡ Some z
-get_kept [] y z i e = absurd (no z e)
-  where
-    no : {X : Type 0} (z : X) → ◌≡◌ {A = Option X} None (Some z) → ⊥
-    no z e = cc
-get_kept (x ∷ xs) y z zero e = e
-get_kept (x ∷ xs) y z (suc i) e = get_kept xs y z i e
-
-pub none_some : {X : Type 0} (o : Option X) (x : X) → o ≡ None → o ≡ Some x → ⊥
-none_some o x e f = cc
-
-pub same_or_not : (i j : ℕ) → (i ≡ j) ⊎ (i ≢ j)
-same_or_not i j = grind arith
+use Rattle.list_base.proofs.Lists.{item_there, get_before_pushed, get_pushed, pushed_at}
+use Rattle.list_base.proofs.Numbers.{same_or_not}
+use Rattle.list_base.proofs.Options.{none_is_not_some}
 
 -- two states with one place are one state
 places : (a b : ℕ) (s t : Bool) → place_of (record { sector = a; spare = s }) ≡ place_of (record { sector = b; spare = t }) → (a ≡ b) × (s ≡ t)
@@ -80,9 +56,6 @@ slice_of_replicate (suc n) (suc i) = slice_of_replicate n i
 -- what a place past the end reads as
 abbrev pub any_door : Door
 any_door = record { from = 0; side = record { line = 0; left = false }; to = 0; damped = false }
-
-pub item_there : {X : Type 0} (xs ys : List X) (i : ℕ) (d : X) → xs ≡ ys → i < length xs → slice_get ys i ≡ Some (get_or xs i d)
-item_there xs ys i d e lt = ap (λ zs. slice_get zs i) (sym e) ∙ slice_get-get_or xs i d lt
 
 pub contains_at : {X : Type 0} (xs : List X) (i : ℕ) (d : X) → i < length xs → Contains xs (get_or xs i d)
 contains_at xs i d lt = contains_of_get xs (get_or xs i d) i (slice_get-get_or xs i d lt)

@@ -12,7 +12,9 @@ use Rattle.sound_reach.specs.State.{after_of}
 use Rattle.sound_reach.specs.Doors.{AreDoors, IsNet, turned, turned_side}
 use Rattle.sound_reach.specs.Routes.{AreDistances, IsRoute, IsStep, distance_at}
 use Rattle.sound_reach.specs.Steps.{IsFirst}
-use Rattle.sound_reach.proofs.Lookups.{none_some, same_or_not}
+use Rattle.sound_reach.proofs.Lookups.{none_some}
+use Rattle.list_base.proofs.Options.{none_is_not_some}
+use Rattle.list_base.proofs.Numbers.{same_or_not}
 
 -- ---- the two sides of a line
 
@@ -59,14 +61,11 @@ module _ (m : Map) (d : List Bool) (es : List Door) (are : AreDoors m d es) wher
         subst (λ (c : Bool). cond c 1 0 + allowance y.spare ≤ allowance x.spare) (w.damped ∙ ap (is_damped d) step.side) r.1,
       )
     where
-      no : (z : State) → ◌≡◌ {A = Option State} None (Some z) → ⊥
-      no z h = cc
-
       fits : (z : State) (b k : Bool) (n : ℕ) → z ≡ y → cond b 1 0 + allowance z.spare ≤ n → (y.sector ≡ z.sector) × (cond b 1 0 + allowance y.spare ≤ n)
       fits z b k n e le = (sym (ap (λ (c : State). c.sector) e), subst (λ (c : State). cond b 1 0 + allowance c.spare ≤ n) e le)
 
       at : (b k : Bool) → after_of (record { from = step.door.from; side = step.door.side; to = step.door.to; damped = b }) k ≡ Some y → (y.sector ≡ step.door.to) × (cond b 1 0 + allowance y.spare ≤ allowance k)
-      at true false h = absurd (no y h)
+      at true false h = absurd (none_is_not_some y h)
       at true true h = fits (record { sector = step.door.to; spare = false }) true true 1 (same_Some _ y h) (omega arith)
       at false true h = fits (record { sector = step.door.to; spare = true }) false true 1 (same_Some _ y h) (omega arith)
       at false false h = fits (record { sector = step.door.to; spare = false }) false false 0 (same_Some _ y h) (omega arith)

@@ -14,7 +14,10 @@ use Rattle.sound_reach.specs.State.{after_of, before_of, place_of}
 use Rattle.sound_reach.specs.Doors.{AreDoorsFrom, IsNet, turned, turned_side}
 use Rattle.sound_reach.specs.Routes.{AreDistances, IsRoute, IsStep, distance_at}
 use Rattle.sound_reach.specs.Search.{AreKept, IsBegun, IsNoted, IsReached, IsSearch}
-use Rattle.sound_reach.proofs.Lookups.{get_push, get_pushed, get_kept, none_some, below_place, distance_set, slice_of_replicate}
+use Rattle.sound_reach.proofs.Lookups.{none_some, below_place, distance_set, slice_of_replicate}
+use Rattle.list_base.proofs.Numbers.{below_or_last}
+use Rattle.list_base.proofs.Options.{none_is_not_some}
+use Rattle.list_base.proofs.Lists.{get_before_pushed, get_pushed, pushed_at}
 
 -- ---- a state goes to the end of the queue
 
@@ -42,7 +45,7 @@ module _ (es : List Door) (b : ℕ) (ds : List (Option ℕ)) (queue : List Reach
   there = get_or-set_same ds (place_of x) (Some k) None lt
 
   told : (i : ℕ) (q : Reached) → slice_get (queue ++ (record { state = x; distance = k }) ∷ []) i ≡ Some q → distance_at (set ds (place_of x) (Some k)) q.state ≡ Some q.distance
-  told i q e = elim (get_push queue _ q i e) as (λ _. distance_at (set ds (place_of x) (Some k)) q.state ≡ Some q.distance) [
+  told i q e = elim (pushed_at queue _ q i e) as (λ _. distance_at (set ds (place_of x) (Some k)) q.state ≡ Some q.distance) [
     | inl f ↦ pushed_keeps ds x k none lt q.state q.distance (s.told i q f)
     | inr f ↦ subst (λ (p : Reached). distance_at (set ds (place_of x) (Some k)) p.state ≡ Some p.distance) f.1 there
   ]
@@ -50,47 +53,47 @@ module _ (es : List Door) (b : ℕ) (ds : List (Option ℕ)) (queue : List Reach
   queued : (y : State) (j : ℕ) → distance_at (set ds (place_of x) (Some k)) y ≡ Some j → (i : ℕ) × (slice_get (queue ++ (record { state = x; distance = k }) ∷ []) i ≡ Some (record { state = y; distance = j }))
   queued y j e = elim (distance_set ds x y k lt) as (λ _. (i : ℕ) × (slice_get (queue ++ (record { state = x; distance = k }) ∷ []) i ≡ Some (record { state = y; distance = j }))) [
     | inl f ↦ (length queue, get_pushed queue (record { state = x; distance = k }) ∙ ap Some (same f.0 (same_Some k j (sym f.1 ∙ e))))
-    | inr f ↦ let w = s.queued y j (sym f ∙ e) in (w.0, get_kept queue _ _ w.0 w.1)
+    | inr f ↦ let w = s.queued y j (sym f ∙ e) in (w.0, get_before_pushed queue _ _ w.0 w.1)
   ]
     where
       same : y ≡ x → k ≡ j → ◌≡◌ {A = Reached} (record { state = x; distance = k }) (record { state = y; distance = j })
       same e f = λ i. record { state = sym e i; distance = f i }
 
   routes : (i : ℕ) (q : Reached) → slice_get (queue ++ (record { state = x; distance = k }) ∷ []) i ≡ Some q → (ss : List Side) × IsRoute es b q.state ss × (length ss ≡ q.distance)
-  routes i q e = elim (get_push queue _ q i e) as (λ _. (ss : List Side) × IsRoute es b q.state ss × (length ss ≡ q.distance)) [
+  routes i q e = elim (pushed_at queue _ q i e) as (λ _. (ss : List Side) × IsRoute es b q.state ss × (length ss ≡ q.distance)) [
     | inl f ↦ s.routes i q f
     | inr f ↦ subst (λ (p : Reached). (ss : List Side) × IsRoute es b p.state ss × (length ss ≡ p.distance)) f.1 next.route
   ]
 
   below : (i : ℕ) (q : Reached) → slice_get (queue ++ (record { state = x; distance = k }) ∷ []) i ≡ Some q → q.distance ≤ k
-  below i q e = elim (get_push queue _ q i e) as (λ _. q.distance ≤ k) [
+  below i q e = elim (pushed_at queue _ q i e) as (λ _. q.distance ≤ k) [
     | inl f ↦ next.above i q f
     | inr f ↦ let g = ap (λ (p : Reached). p.distance) f.1 in omega (arith, g)
   ]
 
   ascend : (i j : ℕ) (p q : Reached) → i ≤ j → slice_get (queue ++ (record { state = x; distance = k }) ∷ []) i ≡ Some p → slice_get (queue ++ (record { state = x; distance = k }) ∷ []) j ≡ Some q → p.distance ≤ q.distance
-  ascend i j p q le e f = elim (get_push queue _ q j f) as (λ _. p.distance ≤ q.distance) [
+  ascend i j p q le e f = elim (pushed_at queue _ q j f) as (λ _. p.distance ≤ q.distance) [
     | inr g ↦ let d = ap (λ (r : Reached). r.distance) g.1 in let w = below i p e in omega (arith, d, w)
-    | inl g ↦ elim (get_push queue _ p i e) as (λ _. p.distance ≤ q.distance) [
+    | inl g ↦ elim (pushed_at queue _ p i e) as (λ _. p.distance ≤ q.distance) [
       | inl c ↦ s.ascend i j p q le c g
       | inr c ↦ let w = slice_get_within queue j q g in let v = c.0 in absurd (omega (arith, w, v, le))
     ]
   ]
 
   near : (i : ℕ) (p q : Reached) → slice_get (queue ++ (record { state = x; distance = k }) ∷ []) h ≡ Some p → slice_get (queue ++ (record { state = x; distance = k }) ∷ []) i ≡ Some q → q.distance ≤ p.distance + 1
-  near i p q e f = elim (get_push queue _ p h e) as (λ _. q.distance ≤ p.distance + 1) [
+  near i p q e f = elim (pushed_at queue _ p h e) as (λ _. q.distance ≤ p.distance + 1) [
     | inr g ↦ let d = ap (λ (r : Reached). r.distance) g.1 in let w = below i q f in omega (arith, d, w)
     | inl g ↦ let w = below i q f in let v = next.close p g in omega (arith, w, v)
   ]
 
   closed : h ≤ length queue → (i : ℕ) (q : Reached) (y : State) (t : Side) → i < h → slice_get (queue ++ (record { state = x; distance = k }) ∷ []) i ≡ Some q → IsStep es y t q.state → (j : ℕ) × (distance_at (set ds (place_of x) (Some k)) y ≡ Some j) × (j ≤ q.distance + 1)
-  closed le i q y t less e step = elim (get_push queue _ q i e) as (λ _. (j : ℕ) × (distance_at (set ds (place_of x) (Some k)) y ≡ Some j) × (j ≤ q.distance + 1)) [
+  closed le i q y t less e step = elim (pushed_at queue _ q i e) as (λ _. (j : ℕ) × (distance_at (set ds (place_of x) (Some k)) y ≡ Some j) × (j ≤ q.distance + 1)) [
     | inl f ↦ let w = s.closed i q y t less f step in (w.0, pushed_keeps ds x k none lt y w.0 w.1, w.2)
     | inr f ↦ let v = f.0 in absurd (omega (arith, v, less, le))
   ]
 
   small : (i : ℕ) (q : Reached) → slice_get (queue ++ (record { state = x; distance = k }) ∷ []) i ≡ Some q → q.distance ≤ i
-  small i q e = elim (get_push queue _ q i e) as (λ _. q.distance ≤ i) [
+  small i q e = elim (pushed_at queue _ q i e) as (λ _. q.distance ≤ i) [
     | inl f ↦ s.small i q f
     | inr f ↦ let d = ap (λ (r : Reached). r.distance) f.1 in let v = f.0 in let w = next.small in omega (arith, d, v, w)
   ]
@@ -120,7 +123,7 @@ noted_length ds ds' queue queue' x k (inl n) = ap length n.1 ∙ length-set ds (
 noted_length ds ds' queue queue' x k (inr n) = ap length n.1
 
 pub noted_queue : (ds ds' : List (Option ℕ)) (queue queue' : List Reached) (x : State) (k i : ℕ) (q : Reached) → IsNoted x k ds queue ds' queue' → slice_get queue i ≡ Some q → slice_get queue' i ≡ Some q
-noted_queue ds ds' queue queue' x k i q (inl n) e = subst (λ (z : List Reached). slice_get z i ≡ Some q) (sym n.2) (get_kept queue _ q i e)
+noted_queue ds ds' queue queue' x k i q (inl n) e = subst (λ (z : List Reached). slice_get z i ≡ Some q) (sym n.2) (get_before_pushed queue _ q i e)
 noted_queue ds ds' queue queue' x k i q (inr n) e = subst (λ (z : List Reached). slice_get z i ≡ Some q) (sym n.2) e
 
 pub noted_search : (es : List Door) (b : ℕ) (ds ds' : List (Option ℕ)) (queue queue' : List Reached) (h : ℕ) (x : State) (k : ℕ) → IsSearch es b ds queue h → IsNext es b queue h x k → place_of x < length ds → h ≤ length queue → IsNoted x k ds queue ds' queue' → IsSearch es b ds' queue' h
@@ -134,12 +137,9 @@ noted_search es b ds ds' queue queue' h x k s next lt le (inr n) =
 pub turn_in : (e : Door) (spare : Bool) (x : State) → before_of e spare ≡ Some x → after_of (turned e) x.spare ≡ Some (record { sector = e.from; spare = spare })
 turn_in e spare x h = at e.damped spare h
   where
-    no : (y : State) → ◌≡◌ {A = Option State} None (Some y) → ⊥
-    no y h = cc
-
     at : (damped spare : Bool) → before_of (record { from = e.from; side = e.side; to = e.to; damped = damped }) spare ≡ Some x
         → after_of (record { from = e.to; side = turned_side e.side; to = e.from; damped = damped }) x.spare ≡ Some (record { sector = e.from; spare = spare })
-    at true true h = absurd (no x h)
+    at true true h = absurd (none_is_not_some x h)
     at true false h = let p = ap (λ (y : State). y.spare) (same_Some (record { sector = e.to; spare = true }) x h) in subst (λ (c : Bool). after_of (record { from = e.to; side = turned_side e.side; to = e.from; damped = true }) c ≡ Some (record { sector = e.from; spare = false })) p refl
     at false true h = let p = ap (λ (y : State). y.spare) (same_Some (record { sector = e.to; spare = true }) x h) in subst (λ (c : Bool). after_of (record { from = e.to; side = turned_side e.side; to = e.from; damped = false }) c ≡ Some (record { sector = e.from; spare = true })) p refl
     at false false h = let p = ap (λ (y : State). y.spare) (same_Some (record { sector = e.to; spare = false }) x h) in subst (λ (c : Bool). after_of (record { from = e.to; side = turned_side e.side; to = e.from; damped = false }) c ≡ Some (record { sector = e.from; spare = false })) p refl
@@ -147,11 +147,8 @@ turn_in e spare x h = at e.damped spare h
 pub before_sector : (e : Door) (spare : Bool) (x : State) → before_of e spare ≡ Some x → x.sector ≡ e.to
 before_sector e spare x h = at e.damped spare h
   where
-    no : (y : State) → ◌≡◌ {A = Option State} None (Some y) → ⊥
-    no y h = cc
-
     at : (damped spare : Bool) → before_of (record { from = e.from; side = e.side; to = e.to; damped = damped }) spare ≡ Some x → x.sector ≡ e.to
-    at true true h = absurd (no x h)
+    at true true h = absurd (none_is_not_some x h)
     at true false h = sym (ap (λ (y : State). y.sector) (same_Some (record { sector = e.to; spare = true }) x h))
     at false true h = sym (ap (λ (y : State). y.sector) (same_Some (record { sector = e.to; spare = true }) x h))
     at false false h = sym (ap (λ (y : State). y.sector) (same_Some (record { sector = e.to; spare = false }) x h))
@@ -159,11 +156,8 @@ before_sector e spare x h = at e.damped spare h
 pub after_sector : (e : Door) (spare : Bool) (x : State) → after_of e spare ≡ Some x → x.sector ≡ e.to
 after_sector e spare x h = at e.damped spare h
   where
-    no : (y : State) → ◌≡◌ {A = Option State} None (Some y) → ⊥
-    no y h = cc
-
     at : (damped spare : Bool) → after_of (record { from = e.from; side = e.side; to = e.to; damped = damped }) spare ≡ Some x → x.sector ≡ e.to
-    at true false h = absurd (no x h)
+    at true false h = absurd (none_is_not_some x h)
     at true true h = sym (ap (λ (y : State). y.sector) (same_Some (record { sector = e.to; spare = false }) x h))
     at false true h = sym (ap (λ (y : State). y.sector) (same_Some (record { sector = e.to; spare = true }) x h))
     at false false h = sym (ap (λ (y : State). y.sector) (same_Some (record { sector = e.to; spare = false }) x h))
@@ -171,12 +165,9 @@ after_sector e spare x h = at e.damped spare h
 turn_out : (e : Door) (spare : Bool) (y : State) → after_of e spare ≡ Some y → before_of (turned e) y.spare ≡ Some (record { sector = e.from; spare = spare })
 turn_out e spare y h = at e.damped spare h
   where
-    no : (y : State) → ◌≡◌ {A = Option State} None (Some y) → ⊥
-    no y h = cc
-
     at : (damped spare : Bool) → after_of (record { from = e.from; side = e.side; to = e.to; damped = damped }) spare ≡ Some y
         → before_of (record { from = e.to; side = turned_side e.side; to = e.from; damped = damped }) y.spare ≡ Some (record { sector = e.from; spare = spare })
-    at true false h = absurd (no y h)
+    at true false h = absurd (none_is_not_some y h)
     at true true h = let p = ap (λ (z : State). z.spare) (same_Some (record { sector = e.to; spare = false }) y h) in subst (λ (c : Bool). before_of (record { from = e.to; side = turned_side e.side; to = e.from; damped = true }) c ≡ Some (record { sector = e.from; spare = true })) p refl
     at false true h = let p = ap (λ (z : State). z.spare) (same_Some (record { sector = e.to; spare = true }) y h) in subst (λ (c : Bool). before_of (record { from = e.to; side = turned_side e.side; to = e.from; damped = false }) c ≡ Some (record { sector = e.from; spare = true })) p refl
     at false false h = let p = ap (λ (z : State). z.spare) (same_Some (record { sector = e.to; spare = false }) y h) in subst (λ (c : Bool). before_of (record { from = e.to; side = turned_side e.side; to = e.from; damped = false }) c ≡ Some (record { sector = e.from; spare = false })) p refl
@@ -212,7 +203,7 @@ advanced es b ds queue h p s at all = record {
   routes = s.routes;
   ascend = s.ascend;
   near = λ i c q e f. let w = s.near i p q at f in let v = s.ascend h (h + 1) p c (omega arith) at e in omega (arith, w, v);
-  closed = λ i q x t lt e step. elim (cases i h lt) as (λ _. (k : ℕ) × (distance_at ds x ≡ Some k) × (k ≤ q.distance + 1)) [
+  closed = λ i q x t lt e step. elim (below_or_last i h lt) as (λ _. (k : ℕ) × (distance_at ds x ≡ Some k) × (k ≤ q.distance + 1)) [
     | inl less ↦ s.closed i q x t less e step
     | inr same ↦ let f : p ≡ q = same_Some p q (sym at ∙ ap (slice_get queue) (sym same) ∙ e) in
         let r = all x t (subst (λ (c : Reached). IsStep es x t c.state) (sym f) step) in
@@ -224,9 +215,6 @@ advanced es b ds queue h p s at all = record {
   small = s.small;
   count = s.count;
 }
-  where
-    cases : (i n : ℕ) → i < n + 1 → (i < n) ⊎ (i ≡ n)
-    cases i n h = grind arith
 
 -- ---- the beginning and the end
 
@@ -250,7 +238,7 @@ empty_search es b n ds e = record {
     all_none (suc n) = let w = all_none n in let s = sum_by-cons (λ (o : Option ℕ). cond (is_none o) 1 0) None (replicate n None) in omega (arith, w, s)
 
 first_above : (x : State) (ds ds' : List (Option ℕ)) (queue queue' : List Reached) → queue ≡ [] → IsNoted x 0 ds queue ds' queue' → (i : ℕ) (q : Reached) → slice_get queue' i ≡ Some q → q.distance ≤ 0
-first_above x ds ds' queue queue' e (inl n) i q f = elim (get_push [] _ q i (ap (λ (z : List Reached). slice_get z i) (ap (λ (z : List Reached). z ++ (record { state = x; distance = 0 }) ∷ []) (sym e) ∙ sym n.2) ∙ f)) as (λ _. q.distance ≤ 0) [
+first_above x ds ds' queue queue' e (inl n) i q f = elim (pushed_at [] _ q i (ap (λ (z : List Reached). slice_get z i) (ap (λ (z : List Reached). z ++ (record { state = x; distance = 0 }) ∷ []) (sym e) ∙ sym n.2) ∙ f)) as (λ _. q.distance ≤ 0) [
   | inl g ↦ absurd (none_there i q g)
   | inr g ↦ let d = ap (λ (r : Reached). r.distance) g.1 in omega (arith, d)
 ]
@@ -317,9 +305,6 @@ pub record IsSettling (es : List Door) (b : ℕ) (ds ds' : List (Option ℕ)) (q
 pub settling_begun : (es : List Door) (b : ℕ) (ds : List (Option ℕ)) (queue : List Reached) (h : ℕ) (p : Reached) (found : List Door) → IsSearch es b ds queue h → slice_get queue h ≡ Some p → IsSettling es b ds ds queue h p found 0
 settling_begun es b ds queue h p found s at = record { search = s; len = refl; kept = λ x k e. e; at = at; reached = λ k e x lt. absurd (omega arith) }
 
-below_next : (i n : ℕ) → i < n + 1 → (i < n) ⊎ (i ≡ n)
-below_next i n h = grind arith
-
 pub settling_past : (es : List Door) (b : ℕ) (ds ds' : List (Option ℕ)) (queue : List Reached) (h : ℕ) (p : Reached) (found : List Door) (n : ℕ) (e : Door) → slice_get found n ≡ Some e → before_of e p.state.spare ≡ None
     → IsSettling es b ds ds' queue h p found n → IsSettling es b ds ds' queue h p found (n + 1)
 settling_past es b ds ds' queue h p found n e got none w = record {
@@ -327,7 +312,7 @@ settling_past es b ds ds' queue h p found n e got none w = record {
   len = w.len;
   kept = w.kept;
   at = w.at;
-  reached = λ k f x lt there before. elim (below_next k n lt) as (λ _. IsReached ds' x) [
+  reached = λ k f x lt there before. elim (below_or_last k n lt) as (λ _. IsReached ds' x) [
     | inl less ↦ w.reached k f x less there before
     | inr same ↦ absurd (none_some (before_of e p.state.spare) x none (ap (λ (d : Door). before_of d p.state.spare) (same_Some e f (sym got ∙ ap (slice_get found) (sym same) ∙ there)) ∙ before))
   ];
@@ -344,7 +329,7 @@ settling_noted es net b ds ds' ds'' queue queue' h p found n e x got there from 
       len = noted_length ds' ds'' queue queue' x (p.distance + 1) noted ∙ w.len;
       kept = λ y k f. keeps y k (w.kept y k f);
       at = noted_queue ds' ds'' queue queue' x (p.distance + 1) h p noted w.at;
-      reached = λ k f y less there before2. elim (below_next k n less) as (λ _. IsReached ds'' y) [
+      reached = λ k f y less there before2. elim (below_or_last k n less) as (λ _. IsReached ds'' y) [
         | inl l ↦ let r = w.reached k f y l there before2 in (r.0, keeps y r.0 r.1)
         | inr same ↦ let q : e ≡ f = same_Some e f (sym got ∙ ap (slice_get found) (sym same) ∙ there) in
             let z = same_Some x y (sym before ∙ ap (λ (d : Door). before_of d p.state.spare) q ∙ before2) in

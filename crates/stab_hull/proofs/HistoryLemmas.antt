@@ -29,6 +29,7 @@ use Rattle.stab_hull.proofs.HullLemmas.{cone_of, hull_more, hull_stuck, hull_fir
 use Rattle.extreme_lines.proofs.EndsLemmas.{pair_of_more, left_place, right_place}
 use Rattle.list_base.proofs.Options.{some_is_not_none, some_is_same, none_is_not_some}
 use Rattle.list_base.proofs.Lists.{length_pushed, get_take}
+use Rattle.sight_names.proofs.Portals.{parted_at}
 
 -- ---- lines and conflicts
 each_parted : (a b c : ℤ) (es : List EndPoints) → ((k : ℕ) (p : EndPoints) → slice_get es k ≡ Some p → IsParted a b c p) → SplitsEnds es a b c
@@ -51,11 +52,6 @@ has_corner es k h =
     let t = left_place es (second_of k).left h.pairs.second.left_code h.pairs.second.left in
     let u = right_place es (first_of k).right h.pairs.first.right_code h.pairs.first.right in
     subst (λ (p : Pt). Spans k (difference p (first_of k).right.at)) t.3 (subst (λ (p : Pt). Spans k (difference t.1.left p)) u.3 (h.spans t.0 u.0 t.1 u.1 t.2 u.2))
-
-parted_at : (a b c : ℤ) (es : List EndPoints) (k : ℕ) (p : EndPoints) → SplitsEnds es a b c → slice_get es k ≡ Some p → IsParted a b c p
-parted_at a b c [] k p h e = absurd (none_is_not_some p e)
-parted_at a b c (q ∷ es) zero p h e = subst (IsParted a b c) (some_is_same q p e) h.0
-parted_at a b c (q ∷ es) (suc k) p h e = parted_at a b c es k p h.1 e
 
 pair_parted : (a b c : ℤ) (es : List EndPoints) (p : EndPair) → SplitsEnds es a b c → IsPairOf es p → PartsPair a b c p
 pair_parted a b c es p h m =

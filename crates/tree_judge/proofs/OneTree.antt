@@ -46,7 +46,6 @@ same_lists (x ∷ xs) [] e h = absurd (omega (arith, e))
 same_lists (x ∷ xs) (y ∷ ys) e h = λ i. h 0 x y refl refl i ∷ same_lists xs ys (omega (arith, e)) (λ j. h (suc j)) i
 
 module _ (m : Map) (ts : List Triangle) (ls : List (Option ℕ)) (good : IsGoodMesh m ts ls) where
-
   -- a directed edge of a triangle is found there
   found_there : (k : ℕ) (t : Triangle) (e : Edge) → slice_get ts k ≡ Some t → HasEdge t e → triangle_at ts e ≡ Some k
   found_there k t e is has = elim (same_or_not j.0 k) as (λ _. triangle_at ts e ≡ Some k) [

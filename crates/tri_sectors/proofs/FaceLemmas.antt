@@ -19,14 +19,12 @@ use Rattle.tri_sectors.specs.Faces.{edge_pq, edge_qr, edge_rp, HasMarks, AreMark
 use Rattle.list_base.proofs.Numbers.{below_or_last}
 use Rattle.list_base.proofs.Options.{one_value}
 use Rattle.mesh_base.proofs.GoodMesh.{found_at}
+use Rattle.sight_names.proofs.Portals.{triangle_within}
 
 abbrev pub any_walls : Walls
 any_walls = record { pq = false; qr = false; rp = false }
 
 -- ---- one edge marked
-
-pub triangle_below : (ts : List Triangle) (e : Edge) (j : ℕ) → triangle_at ts e ≡ Some j → j < length ts
-triangle_below ts e j h = let f = found_at ts e j h in slice_get_within ts j f.0 f.1
 
 put_nothing : (b : Bool) (ts : List Triangle) (e f : Edge) (k : ℕ) → ¬ (triangle_at ts e ≡ Some k) → IsTrue b ↔ IsPutHere ts e k b f
 put_nothing b ts e f k n = (λ h. inl h, λ w. elim w as (λ _. IsTrue b) [ inl h ↦ h | inr h ↦ absurd (n h.1) ])
@@ -206,7 +204,7 @@ one_link_back ts ws a b h = (a ∷ [], (inr h, refl))
 
 merged_stage : (ts : List Triangle) (ws : List Walls) (n : ℕ) (e : Edge) (j : ℕ) (old new : List ℕ) → n < length ts → triangle_at ts (reverse_of e) ≡ Some j → IsLink ts ws n j → length old ≡ length ts → OnlyLinked ts ws old → AreMerged n j old new → IsStage ts ws n e false old new
 merged_stage ts ws n e j old new hn at link len only m =
-    let lj = triangle_below ts (reverse_of e) j at in record {
+    let lj = triangle_within ts (reverse_of e) j at in record {
       len = m.len ∙ len;
       keeps = λ k i hk hi h. (m.exactly k i (omega (arith, len, hk)) (omega (arith, len, hi))).1 (inl h);
       joins = λ i f there. (m.exactly n j (omega (arith, len, hn)) (omega (arith, len, lj))).1 (inr (inl (refl, refl))) ∙ ap (class_of new) (one_value (triangle_at ts (reverse_of e)) j i at there);
@@ -235,9 +233,9 @@ triangle_linked ts ws n t w old new at marks h c named =
       len = s3.len;
       named = named;
       linked = λ k j lt link. elim (below_or_last k n lt) as (λ _. class_of new k ≡ class_of new j) [
-        | inl less ↦ let hk = slice_get_within ts k link.t link.at in let hj = triangle_below ts (reverse_of link.e) j link.behind in
+        | inl less ↦ let hk = slice_get_within ts k link.t link.at in let hj = triangle_within ts (reverse_of link.e) j link.behind in
             s3.keeps k j hk hj (s2.keeps k j hk hj (s1.keeps k j hk hj (h.linked k j less link)))
-        | inr same ↦ let hj = triangle_below ts (reverse_of link.e) j link.behind in
+        | inr same ↦ let hj = triangle_within ts (reverse_of link.e) j link.behind in
             let et : link.t ≡ t = same_Some link.t t (sym link.at ∙ ap (slice_get ts) same ∙ at) in
             let ew : link.w ≡ w = same_Some link.w w (sym link.marks ∙ ap (slice_get ws) same ∙ marks) in
             let free : IsFreeEdge t w link.e = subst (λ (x : Triangle). IsFreeEdge x w link.e) et (subst (λ (x : Walls). IsFreeEdge link.t x link.e) ew link.free) in

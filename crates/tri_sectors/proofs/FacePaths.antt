@@ -15,7 +15,7 @@ use Rattle.sight_names.proofs.Laws.{same_point_refl, same_point_sym}
 use Rattle.plane_base.proofs.Vec.{V, Lin, at, edge, det, IsComb, On, value, det-first, det-last, det-cycle, comb_back}
 use Rattle.plane_base.proofs.Walk.{Tri, turned, side, Closed}
 use Rattle.sight_laws.proofs.Bridge.{vec, value_at_is, turn_at_is, on_of_segment, segment_of_on}
-use Rattle.sight_laws.proofs.Paths.{same_on, on_same, same_value, above, misses_all_sym, path_back}
+use Rattle.sight_laws.proofs.Paths.{same_on, on_same, same_value, misses_all_sym, path_back}
 use Rattle.sight_laws.proofs.StepOff.{distance, distance_pos}
 use Rattle.mesh_base.proofs.Face.{SameSegment}
 use Rattle.mesh_base.proofs.GoodMesh.{PointFacts}
@@ -23,6 +23,7 @@ use Rattle.mesh_shape.specs.Fills.{HasLeft}
 use Rattle.mesh_base.proofs.Joined.{Strict, CleanAll, whole, tri, free_inside, free_side, inside_free, joined, strict_mean, centre_strict, centre, middle, centre_value, middle_value}
 use Rattle.exact_ring.proofs.Small.{zero_times}
 use Rattle.geom_exact.proofs.Uniqueness.{same_trans}
+use Rattle.sight_names.proofs.Portals.{scale_above}
 
 -- ---- one point under two names
 
@@ -105,7 +106,7 @@ middle_inside m facts i l is = (1, 1, lit< tt, lit< tt, record { weighed = lit< 
 
 -- ---- beyond all lines
 
--- no end of a line is above 0
+-- no end of a line is scale_above 0
 pub record IsLow (m : Map) (f : Lin) : Type 0 where
   pub first : (i : ℕ) (l : MapLine) → line_at m i ≡ Some l → at f (whole l.first) ≤ℤ pos 0
   pub second : (i : ℕ) (l : MapLine) → line_at m i ≡ Some l → at f (whole l.second) ≤ℤ pos 0

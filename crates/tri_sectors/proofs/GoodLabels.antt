@@ -18,8 +18,9 @@ use Rattle.tri_sectors.specs.Classes.{class_of}
 use Rattle.tri_sectors.specs.Faces.{IsWall, AreWalls, IsFreeEdge, IsLink, HasGap, AreFaces, AreOpen, AreMarkedFaces}
 use Rattle.tri_sectors.specs.Sides.{IsSealedAt, IsFaced, AreFaced, AreAlike, AreLabelled, IsFirstMixed, IsMixedSearch}
 use Rattle.tri_sectors.specs.Labels.{AreFaceLabels, AreSealed, IsMixedPair, IsSidesVerdict, IsFacesVerdict}
-use Rattle.tri_sectors.proofs.FaceLemmas.{any_walls, triangle_below}
+use Rattle.tri_sectors.proofs.FaceLemmas.{any_walls}
 use Rattle.list_base.proofs.Numbers.{below_or_not, below_above_or_same}
+use Rattle.sight_names.proofs.Portals.{triangle_within}
 
 -- ---- an edge that is no line isn't marked
 
@@ -100,7 +101,7 @@ label_below m is s l a at names = go s.left (sym (ap (option_and_then (λ (k : M
 pub side_label : (m : Map) (ts : List Triangle) (fs : List ℕ) (ss : List FacedSide) (ls : List (Option ℕ)) → length fs ≡ length ts → AreFaced m ts fs ss → AreFaceLabels fs ss ls
     → (s : Side) (l : MapLine) (k : ℕ) → line_at m s.line ≡ Some l → triangle_at ts (side_edge m l s.left) ≡ Some k → label_of ls k ≡ named m s
 side_label m ts fs ss ls len faced fl s l k at there =
-    let lt : k < length fs = let w = triangle_below ts (side_edge m l s.left) k there in omega (arith, w, len) in
+    let lt : k < length fs = let w = triangle_within ts (side_edge m l s.left) k there in omega (arith, w, len) in
     let f = faced.all s l k tt at there in
     let w = (faced.each f.0 f.1 f.2).0 in
     let name : f.1.sector ≡ named m s = w.sector ∙ ap (named m) f.3 in
@@ -133,7 +134,7 @@ good_mesh m ts fs os ss ls plain g sealed fl = record {
       let h = named_side m ts fs ss ls sealed.faced fl k a label in
       elim (step_or_gap m ts g.walls k t e g.are_walls at has free) as (λ _. (j : ℕ) × (triangle_at ts (reverse_of e) ≡ Some j) × (label_of ls j ≡ Some a)) [
         | inr gap ↦ absurd (no_gap m ts fs os g sealed.each k a h lt gap)
-        | inl (j, behind, link) ↦ let len = g.are_faces.one_each in let lj = triangle_below ts (reverse_of e) j behind in
+        | inl (j, behind, link) ↦ let len = g.are_faces.one_each in let lj = triangle_within ts (reverse_of e) j behind in
             (j, behind, label_name fs fl.names ls j fl.labelled (omega (arith, len, lj)) ∙ ap (λ (f : ℕ). slice_index_or fl.names f None) (sym (g.are_faces.linked k j link)) ∙ sym (label_name fs fl.names ls k fl.labelled (omega (arith, len, lt))) ∙ label)
       ];
   fits = record {

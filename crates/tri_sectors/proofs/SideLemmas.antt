@@ -17,9 +17,9 @@ use Rattle.mesh_shape.proofs.RuleLemmas.{plan_line_at, no_line_there}
 use Rattle.tri_sectors.specs.declared.sides.FacedSide.{FacedSide}
 use Rattle.tri_sectors.specs.Classes.{IsBelow, class_of}
 use Rattle.tri_sectors.specs.Sides.{IsSealedEdge, IsSealedSide, IsSealedAt, IsFirstOfLine, IsOpenLine, IsFaced, AreFacedOf, AreFaced, AreAdded, IsAdded, AreAlike, IsOtherFrom, IsFirstMixed, AreNames, IsFacedBelow}
-use Rattle.tri_sectors.proofs.FaceLemmas.{triangle_below}
 use Rattle.list_base.proofs.Lists.{get_pushed, get_before_pushed, pushed_at, length_pushed}
 use Rattle.list_base.proofs.Numbers.{below_or_last}
+use Rattle.sight_names.proofs.Portals.{triangle_within}
 
 -- ---- a plan's sides
 
@@ -167,7 +167,7 @@ all_added p ts fs ss n past h = changed_faced _ _ (map_of p) ts fs ss (λ s lt. 
 pub faced_below : (m : Map) (ts : List Triangle) (fs : List ℕ) (ss : List FacedSide) → length fs ≡ length ts → All (IsBelow (length ts)) fs → AreFaced m ts fs ss → All (IsFacedBelow (length ts)) ss
 faced_below m ts fs ss len range h i d lt =
     let w = (h.each i (get_or ss i d) (slice_get-get_or ss i d lt)).0 in
-    let k = triangle_below ts (side_edge m w.line (get_or ss i d).side.left) w.k w.at in
+    let k = triangle_within ts (side_edge m w.line (get_or ss i d).side.left) w.k w.at in
     let r = range w.k 0 (omega (arith, len, k)) in let f = w.face in omega (arith, f, r)
 
 -- ---- sides on one face

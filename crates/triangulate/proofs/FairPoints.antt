@@ -9,7 +9,7 @@ use Rattle.exact_ring.proofs.MoreSigns.{square-pos}
 use Rattle.sight_names.specs.declared.names.Pt.{Pt}
 use Rattle.sight_names.specs.Point.{Point, point_of, SamePoint}
 use Rattle.sight_names.specs.Sound.{IsCommon, IsEndOf, MeetAtEnds}
-use Rattle.plane_base.proofs.Vec.{V, Lin, at, det, On, value, mean, bary_x, bary_y, bary_d, det-swap, det-cycle, on_back}
+use Rattle.plane_base.proofs.Vec.{V, Lin, at, det, On, value, mean, bary_x, bary_y, bary_d, det-swap, det-cycle, on_back, on_last}
 use Rattle.plane_base.proofs.Wedge.{Inside}
 use Rattle.plane_base.proofs.Near.{det-flip, on_first, on_inside, unit, height}
 use Rattle.sight_laws.proofs.Bridge.{vec, segment_of_on, on_of_segment}
@@ -143,9 +143,6 @@ meet_of_fair p q s t n h = record {
 }
 
 -- ---- how two segments meet, decided
-
-on_last : (r s : V) → On r s s
-on_last r s = (pos 0, pos 1, pos 1, record { left = omega (arith, ints); right = omega (arith, ints); scale = omega (arith, ints); x = omega (arith, ints); y = omega (arith, ints); d = omega (arith, ints) })
 
 up_at : (p : Pt) → pos 0 <ℤ at unit (at_pt p)
 up_at p = let e = height (at_pt p) in omega (arith, ints)

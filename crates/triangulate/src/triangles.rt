@@ -57,7 +57,11 @@ fn incident_of(alloc: Global, points: u16, segments: &Segments) -> Result<Incide
 }
 
 /// The triangles on the left of the segments, in both directions, each at its least point.
-fn triangles_of(alloc: Global, plan: &Plan, incident: &IncidentSegments) -> Result<Vec<Triangle>, Memory>
+fn triangles_of(
+    alloc: Global,
+    plan: &Plan,
+    incident: &IncidentSegments,
+) -> Result<Vec<Triangle>, Memory>
     requires { incident.now.points ≡ length plan.now.points }
     ensures left { IfOk result (λ v. AreLeftTriangles (map_of plan.now) incident.now.segments v.items) }
     ensures numbers { IfOk result (λ v. (t : Triangle) → Contains v.items t → IsTriangle incident.now.points t) }

@@ -1,11 +1,11 @@
 use Rattle.std.proofs.Common.{◌≤◌, length, Option, None, sym, ap, ◌∙◌, arith}
 use Rattle.std.proofs.lemmas.List.{take_all}
 use Rattle.sight_names.specs.declared.plan.Line.{Line}
-use Rattle.mesh_shape.proofs.RuleLemmas.{item_there}
 use Rattle.incident_segments.specs.Incident.{IncidentParts}
 use Rattle.incident_segments.specs.Kept.{edges_of}
 use Rattle.greedy_segments.proofs.Starting.{edges_of_lines, all_lines, lines_none, lines_next, line_fits}
 use Rattle.greedy_segments.proofs.rounds.lines_of.Goals as goal
+use Rattle.list_base.proofs.Lists.{item_there}
 
 pub loop-line-init : goal.loop-line-init
 loop-line-init c = record {

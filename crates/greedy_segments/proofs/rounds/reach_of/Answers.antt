@@ -2,9 +2,9 @@ use Rattle.std.proofs.Common.{◌≤◌, ℕ, length, ap, sym, subst, arith}
 use Rattle.std.proofs.Math.Nat.{le-max_left, le-max_right}
 use Rattle.sight_names.specs.declared.names.Pt.{Pt}
 use Rattle.sight_names.specs.Map.{origin}
-use Rattle.mesh_shape.proofs.RuleLemmas.{item_there}
 use Rattle.greedy_segments.proofs.Reach.{reach_next, reach_all}
 use Rattle.greedy_segments.proofs.rounds.reach_of.Goals as goal
+use Rattle.list_base.proofs.Lists.{item_there}
 
 pub loop-point-preserved : goal.loop-point-preserved
 loop-point-preserved c =

@@ -3,9 +3,9 @@ use Rattle.std.proofs.lemmas.Int.{ints}
 use Rattle.sight_names.specs.declared.names.Pt.{Pt}
 use Rattle.sight_names.specs.Map.{origin}
 use Rattle.geom_exact.specs.Formulas.{turn_of}
-use Rattle.mesh_shape.proofs.RuleLemmas.{item_there}
 use Rattle.greedy_segments.proofs.Filling.{none_next, none_left}
 use Rattle.greedy_segments.proofs.saturated.has_left.Goals as goal
+use Rattle.list_base.proofs.Lists.{item_there}
 
 pub loop-point-preserved : goal.loop-point-preserved
 loop-point-preserved c =

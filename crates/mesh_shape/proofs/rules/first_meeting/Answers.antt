@@ -2,9 +2,10 @@ use Rattle.std.proofs.Common.{ℕ, length, ap, arith, below_more}
 use Rattle.sight_names.specs.Map.{map_of}
 use Rattle.mesh_shape.specs.Faults.{IsFairAt}
 use Rattle.mesh_shape.proofs.IndexLemmas.{any_triangle}
-use Rattle.mesh_shape.proofs.RuleLemmas.{item_there, behind, everywhere}
+use Rattle.mesh_shape.proofs.RuleLemmas.{behind, everywhere}
 use Rattle.mesh_shape.proofs.RuleLemmas.{fair_here, meeting_found}
 use Rattle.mesh_shape.proofs.rules.first_meeting.Goals as goal
+use Rattle.list_base.proofs.Lists.{item_there}
 
 pub returns-in-Some : goal.returns-in-Some
 returns-in-Some c = meeting_found (map_of c.args.plan.now) c.args.mesh.now.triangles c.loop-k.k c.in-Some.line _ (item_there c.triangles-t-items.result.now c.args.mesh.now.triangles c.loop-k.k any_triangle c.triangles-t-items.ensures.list c.loop-k-test.true) c.loop-k.invariant c.in-Some.ensures

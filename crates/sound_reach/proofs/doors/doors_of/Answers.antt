@@ -1,10 +1,10 @@
 use Rattle.std.proofs.Common.{◌+◌, Some, None, Option, length, sym, ap, ◌∙◌, subst, refl, arith, Vec, Global}
 use Rattle.sight_names.specs.declared.plan.Line.{Line}
 use Rattle.sound_reach.specs.declared.doors.Door.{Door}
-use Rattle.sound_reach.proofs.Lookups.{item_there}
 use Rattle.sound_reach.proofs.Adding.{AreDoorsBelow, all_doors, line_added, none_added}
 use Rattle.sound_reach.proofs.doors.doors_of.Goals as goal
 use Rattle.sound_reach.proofs.doors.doors_of.Goals.{in-Some+in_ok-add_doors, in_default}
+use Rattle.list_base.proofs.Lists.{item_there}
 
 pub loop-i-preserved : goal.loop-i-preserved
 loop-i-preserved c =

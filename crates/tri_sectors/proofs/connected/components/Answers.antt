@@ -3,10 +3,10 @@ use Rattle.sight_names.specs.declared.plan.Line.{Line}
 use Rattle.std.proofs.lemmas.List.{with_items_is}
 use Rattle.sight_names.specs.Plan.{PlanParts}
 use Rattle.tri_sectors.specs.Classes.{AreSingles}
-use Rattle.mesh_shape.proofs.RuleLemmas.{item_there}
 use Rattle.tri_sectors.proofs.ComponentLemmas.{IsPassed, begun, line_passed, none_passed, sector_below, components_of}
 use Rattle.tri_sectors.proofs.connected.components.Goals as goal
 use Rattle.tri_sectors.proofs.connected.components.Goals.{in-Some, in_default}
+use Rattle.list_base.proofs.Lists.{item_there}
 
 pub loop-line-init : goal.loop-line-init
 loop-line-init c = begun c.args.plan.now _ (subst (λ (p : PlanParts). AreSingles p.sectors c.in_ok-classes.classes.items) c.plan.view_is c.in_ok-classes.ensures.singles) c.in_ok-classes.ensures.named

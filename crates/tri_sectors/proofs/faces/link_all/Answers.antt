@@ -1,9 +1,9 @@
 use Rattle.std.proofs.Common.{length, ap, arith}
 use Rattle.std.proofs.lemmas.Option.{slice_get-get_or}
 use Rattle.mesh_shape.proofs.IndexLemmas.{any_triangle}
-use Rattle.mesh_shape.proofs.RuleLemmas.{item_there}
 use Rattle.tri_sectors.proofs.FaceLemmas.{any_walls, none_linked, triangle_linked, all_linked}
 use Rattle.tri_sectors.proofs.faces.link_all.Goals as goal
+use Rattle.list_base.proofs.Lists.{item_there}
 
 pub loop-k-init : goal.loop-k-init
 loop-k-init c = none_linked c.args.mesh.now.triangles c.args.walls.now c.args.faces.now c.requires.alone

@@ -1,12 +1,12 @@
 use Rattle.std.proofs.Common.{◌+◌, List, length, Some, None, Option, sym, ap, ◌∙◌, subst, arith}
 use Rattle.sight_names.specs.declared.plan.Line.{Line}
 use Rattle.sight_names.specs.Map.{map_of}
-use Rattle.mesh_shape.proofs.RuleLemmas.{item_there}
 use Rattle.tri_sectors.specs.declared.faces.Walls.{Walls}
 use Rattle.tri_sectors.specs.Faces.{AreMarked, IsWallBefore}
 use Rattle.tri_sectors.proofs.FaceLemmas.{none_marked, line_marked, no_line_marked, walls_done}
 use Rattle.tri_sectors.proofs.faces.mark_lines.Goals as goal
 use Rattle.tri_sectors.proofs.faces.mark_lines.Goals.{in-Some, in_default}
+use Rattle.list_base.proofs.Lists.{item_there}
 
 pub loop-line-init : goal.loop-line-init
 loop-line-init c = none_marked (map_of c.args.plan.now) c.args.mesh.now.triangles c.args.walls.now c.requires.none

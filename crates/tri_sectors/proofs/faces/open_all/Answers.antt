@@ -2,10 +2,10 @@ use Rattle.std.proofs.Common.{◌+◌, ◌<◌, List, Bool, length, refl, sym, a
 use Rattle.std.proofs.lemmas.Bool.{false≢true}
 use Rattle.std.proofs.lemmas.Option.{slice_get-get_or}
 use Rattle.mesh_shape.proofs.IndexLemmas.{any_triangle}
-use Rattle.mesh_shape.proofs.RuleLemmas.{item_there}
 use Rattle.tri_sectors.proofs.FaceLemmas.{any_walls, AreOpenBefore, none_opened, gap_if, gap_only, gap_opened, gap_passed, all_opened}
 use Rattle.tri_sectors.proofs.faces.open_all.Goals as goal
 use Rattle.tri_sectors.proofs.faces.open_all.Goals.{then-has_gap, else-has_gap}
+use Rattle.list_base.proofs.Lists.{item_there}
 
 pub loop-k-init : goal.loop-k-init
 loop-k-init c = none_opened c.args.mesh.now.triangles c.args.walls.now c.args.faces.now c.args.marks.now c.requires.len c.requires.none

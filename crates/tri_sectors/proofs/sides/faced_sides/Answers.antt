@@ -1,12 +1,12 @@
 use Rattle.std.proofs.Common.{◌+◌, ◌<◌, length, Some, None, Option, sym, ap, ◌∙◌, subst, arith, Vec, Global}
 use Rattle.sight_names.specs.declared.plan.Line.{Line}
 use Rattle.sight_names.specs.Map.{map_of}
-use Rattle.mesh_shape.proofs.RuleLemmas.{item_there}
 use Rattle.tri_sectors.specs.declared.sides.FacedSide.{FacedSide}
 use Rattle.tri_sectors.specs.Sides.{AreFacedOf}
 use Rattle.tri_sectors.proofs.SideLemmas.{line_added, no_line_added, all_added, faced_below}
 use Rattle.tri_sectors.proofs.sides.faced_sides.Goals as goal
 use Rattle.tri_sectors.proofs.sides.faced_sides.Goals.{in-Some+in_ok-add_sides, in_default}
+use Rattle.list_base.proofs.Lists.{item_there}
 
 pub loop-i-preserved : goal.loop-i-preserved
 loop-i-preserved c =

@@ -1,8 +1,9 @@
 use Rattle.std.proofs.Common.{length, Some, None, Option, ap, ◌∙◌, arith}
 use Rattle.sight_names.specs.declared.plan.Line.{Line}
-use Rattle.mesh_shape.proofs.RuleLemmas.{item_there, no_line_there}
+use Rattle.mesh_shape.proofs.RuleLemmas.{no_line_there}
 use Rattle.tri_sectors.proofs.SideLemmas.{open_of_line, no_side_open}
 use Rattle.tri_sectors.proofs.sides.open_side_at.Goals as goal
+use Rattle.list_base.proofs.Lists.{item_there}
 
 pub returns-in-Some : goal.returns-in-Some
 returns-in-Some c = let there = item_there c.lines.result.now c.args.plan.now.lines c.args.i None c.lines.ensures.list (let e = ap length c.lines.ensures.list in let lt = c.requires.record in omega arith) ∙ ap (λ (o : Option Line). Some o) c.in-Some.is in

@@ -1,9 +1,9 @@
 use Rattle.std.proofs.Common.{◌≡◌, ◌∙◌, ◌<◌, ◌≤◌, ℕ, ◌+◌, ◌-◌, None, List, Option, length, replicate, sym, ap, subst, arith, rules}
 use Rattle.sight_names.specs.Plan.{PlanParts}
-use Rattle.mesh_shape.proofs.RuleLemmas.{item_there}
 use Rattle.tree_judge.proofs.Chains.{HasRootsFrom, roots_none, roots_more, roots_all}
 use Rattle.tree_judge.proofs.Noting.{stored}
 use Rattle.tree_judge.proofs.roots.Roots.of.Goals as goal
+use Rattle.list_base.proofs.Lists.{item_there}
 
 pub loop-k-init : goal.loop-k-init
 loop-k-init c =
