@@ -97,3 +97,6 @@ beyond_second_right L R right l w wide n k e h s = subst (λ (d : Extreme). cros
 -- ends of a line have the value 0
 pub level_left : (e : Extreme) (left : EndAt) → e.left ≡ left → pos 0 ≡ form_at e left.at
 level_left e left h = sym (subst (λ (d : EndAt). form_at e d.at ≡ pos 0) h (form_left e))
+
+pub level_right : (e : Extreme) (right : EndAt) → e.right ≡ right → pos 0 ≡ form_at e right.at
+level_right e right h = sym (subst (λ (d : EndAt). form_at e d.at ≡ pos 0) h (form_right e))

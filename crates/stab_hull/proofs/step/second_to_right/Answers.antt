@@ -5,7 +5,7 @@ use Rattle.extreme_lines.specs.declared.extreme.Extreme.{Extreme}
 use Rattle.extreme_lines.specs.declared.cone.Cone.TheVariants.{Open}
 use Rattle.extreme_lines.specs.Spans.{form_at}
 use Rattle.stab_hull.proofs.StepLemmas.{no_end, right_start, right_more, right_whole}
-use Rattle.stab_hull.proofs.OneLine.{held, held_small, beyond_first_right, turn_is, level_left}
+use Rattle.stab_hull.proofs.OneLine.{held, held_small, beyond_first_right, turn_is, level_right}
 use Rattle.stab_hull.proofs.step.second_to_right.Goals as goal
 use Rattle.stab_hull.proofs.step.second_to_right.Goals.{then-widen_second, else-widen_second}
 
@@ -22,7 +22,7 @@ pub loop-i-preserved : goal.loop-i-preserved
 loop-i-preserved c = elim c.if-widen_second.branch [
   | then-widen_second w ↦ rw w.value-is (record {
     first = c.widen_second.ensures.first ∙ c.loop-i.invariant.first;
-    level = level_left c.widen_second.new.wedge.second c.args.right w.if-widen_second.ensures.yes.1;
+    level = level_right c.widen_second.new.wedge.second c.args.right w.if-widen_second.ensures.yes.1;
     small = omega (arith, ints);
     part = λ rights h. right_more c.args.lefts.now rights c.args.right c.loop-i.i (get_or c.args.lefts.now c.loop-i.i no_end) (Open c.loop-i.wide) (Open c.widen_second.new.wedge) (slice_get-get_or c.args.lefts.now c.loop-i.i no_end c.loop-i-test.true) c.widen_second.ensures.wider (c.loop-i.invariant.part rights h);
   })
