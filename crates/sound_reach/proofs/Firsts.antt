@@ -166,6 +166,9 @@ way_begun es b ds from distance at = record { len = refl; here = at ∙ ap Some 
     minus_none : (n : ℕ) → n ≡ n - 0
     minus_none n = omega arith
 
+left_over : (n d : ℕ) → d < n → n - d ≡ (n - d - 1) + 1
+left_over n d h = omega arith
+
 pub way_on : (es : List Door) (sectors b : ℕ) (ds : List (Option ℕ)) → AreDistances es sectors b ds → IsNet es → (from : State) (distance done : ℕ) (sides : List Side) (at : State) (found : List Door) (best : Option Step) (step : Step)
     → done < distance → AreDoorsFrom es at.sector found → IsLeastStep ds (distance - done - 1) at.spare found best → best ≡ Some step
     → IsOnWay es b ds from distance done sides at → IsOnWay es b ds from distance (done + 1) (sides ++ step.side ∷ []) step.state
@@ -179,9 +182,6 @@ way_on es sectors b ds is net from distance done sides at found best step lt doo
           (h.first (step.side ∷ tail) (tail_longer (length tail) distance done lt len) (first_further es sectors b ds is net at (distance - done - 1) found step doors here least' tail (len ∙ sym (one_less distance done)) first));
     }
   where
-    left_over : (n d : ℕ) → d < n → n - d ≡ (n - d - 1) + 1
-    left_over n d h = omega arith
-
     one_less : (n d : ℕ) → n - d - 1 ≡ n - (d + 1)
     one_less n d = omega arith
 
@@ -202,6 +202,3 @@ way_done es sectors b ds is from distance done sides at past h =
 pub way_stuck : (es : List Door) (sectors b : ℕ) (ds : List (Option ℕ)) → AreDistances es sectors b ds → (from : State) (distance done : ℕ) (sides : List Side) (at : State) (found : List Door) (best : Option Step)
     → done < distance → AreDoorsFrom es at.sector found → IsLeastStep ds (distance - done - 1) at.spare found best → best ≡ None → IsOnWay es b ds from distance done sides at → ⊥
 way_stuck es sectors b ds is from distance done sides at found best lt doors least none h = never_stuck es sectors b ds is at (distance - done - 1) found best doors (h.here ∙ ap Some (left_over distance done lt)) least none
-  where
-    left_over : (n d : ℕ) → d < n → n - d ≡ (n - d - 1) + 1
-    left_over n d h = omega arith
