@@ -67,7 +67,7 @@ common_turned p q r s z common = (other_way p q z common.0, common.1)
 pub common_swapped : (p q r s : Pt) (z : Point) → IsCommon p q r s z → IsCommon r s p q z
 common_swapped p q r s z common = (common.1, common.0)
 
--- ---- below and scale_above
+-- ---- below and above
 
 pub below_apart : (p q r s : Pt) → p.y <ℤ r.y → p.y <ℤ s.y → q.y <ℤ r.y → q.y <ℤ s.y → (z : Point) → IsCommon p q r s z → ⊥
 below_apart p q r s a b c d z common = elim (le_or_lt p.y q.y) [
@@ -257,7 +257,7 @@ not_after_last b p q r z pb qb rb bz inside =
     w4 : (a b c d : ℕ) → pos d <ℤ (pos 1 +ℤ pos a +ℤ pos b +ℤ pos c +ℤ pos d)
     w4 a b c d = omega (arith, ints)
 
--- the number of a point strictly inside a triangle is behind the least number and before any that no corner's is scale_above
+-- the number of a point strictly inside a triangle is behind the least number and before any that no corner's is above
 pub inside_numbers : (p : PlanParts) → IsPlan p → (i j k z last : ℕ) → i < j → i < k → j < length p.points → k < length p.points → z < length p.points → j ≤ last → k ≤ last → last < length p.points
     → IsInside (place (map_of p) i) (place (map_of p) j) (place (map_of p) k) (place (map_of p) z) → (i < z) × (z < last)
 inside_numbers p is i j k z last ij ik wj wk wz jl kl wl inside = (

@@ -174,7 +174,7 @@ turn_behind r u v x z h o ex ez t =
     let p : pos 0 <ℤ (norm (lin r) *ℤ pos x.d *ℤ turn_at u v z) = mul-pos _ _ (scale r u v x h) t in
     lt_of_difference _ _ (pos-of-mul _ _ (parts_den r u v h) (subst (λ (y : ℤ). pos 0 <ℤ y) e p))
 
--- where it isn't scale_above 0 the point isn't behind the crossing
+-- where it isn't above 0 the point isn't behind the crossing
 pub turn_not_behind : (r : Ray) (u v : Pt) (x z : Point) → Parts r u v → OnSegment (point_of u) (point_of v) x → ray_value r x ≡ pos 0 → ray_value r z ≡ pos 0 → turn_at u v z ≤ℤ pos 0 → NotBehind r z x
 turn_not_behind r u v x z h o ex ez t =
     let e = turn_order r u v x z h o ex ez in

@@ -22,7 +22,7 @@ use Rattle.exact_ring.proofs.Ring.{same_of_difference}
 use Rattle.sight_names.proofs.Portals.{scale_above}
 
 -- ---- a point that isn't on a line is parted from it
--- the value is scale_above 0 at the point, and not at the line's ends
+-- the value is above 0 at the point, and not at the line's ends
 pub record IsParted (u v : Pt) (x : Point) : Type 0 where
   pub a : ℤ
   pub b : ℤ

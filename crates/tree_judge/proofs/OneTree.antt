@@ -59,14 +59,14 @@ module _ (m : Map) (ts : List Triangle) (ls : List (Option ℕ)) (good : IsGoodM
   at_corner : (k c d : ℕ) → c ≡ d → ◌≡◌ {A = Option ℕ} (Some (k * 3 + c)) (Some (k * 3 + d))
   at_corner k c d e = ap (λ (n : ℕ). let o : Option ℕ = Some (k * 3 + n) in o) e
 
-  -- each number of the below_same_or_above of a triangle is that of an edge
+  -- each number of the three of a triangle is that of an edge
   number_there : (k c : ℕ) (t : Triangle) → slice_get ts k ≡ Some t → c < 3 → (e : Edge) × (number_of ts e ≡ Some (k * 3 + c))
   number_there k zero t is l = (edge t.p t.q, number_at ts (edge t.p t.q) k t (found_there k t (edge t.p t.q) is (edge_pq t)) is ∙ at_corner k (corner_of (edge t.p t.q) t) 0 (ap (λ (b : Bool). let n : ℕ = if b then 0 else (if t.q == t.p then 1 else 2) in n) (tells_same t.p t.p refl)))
   number_there k (suc zero) t is l = (edge t.q t.r, number_at ts (edge t.q t.r) k t (found_there k t (edge t.q t.r) is (edge_qr t)) is ∙ at_corner k (corner_of (edge t.q t.r) t) 1 (ap (λ (b : Bool). let n : ℕ = if b then 0 else (if t.q == t.q then 1 else 2) in n) (tells_other t.p t.q (λ e. let n = (good.plain.triangles.each k t is).least in omega (arith, n, e))) ∙ ap (λ (b : Bool). let n : ℕ = if b then 1 else 2 in n) (tells_same t.q t.q refl)))
   number_there k (suc (suc zero)) t is l = (edge t.r t.p, number_at ts (edge t.r t.p) k t (found_there k t (edge t.r t.p) is (edge_rp t)) is ∙ at_corner k (corner_of (edge t.r t.p) t) 2 (ap (λ (b : Bool). let n : ℕ = if b then 0 else (if t.q == t.r then 1 else 2) in n) (tells_other t.p t.r (λ e. let n = (good.plain.triangles.each k t is).least_too in omega (arith, n, e))) ∙ ap (λ (b : Bool). let n : ℕ = if b then 1 else 2 in n) (tells_other t.q t.r (good.plain.triangles.each k t is).differ)))
   number_there k (suc (suc (suc c))) t is l = absurd (omega (arith, l))
 
-  -- a number below below_same_or_above times the triangles, by its triangle and its corner
+  -- a number below three times the triangles, by its triangle and its corner
   parts_of : (i n : ℕ) → i < n * 3 → (k : ℕ) × (c : ℕ) × (k < n) × (c < 3) × (i ≡ k * 3 + c)
   parts_of i n l = (i / 3, i % 3, omega arith, omega arith, omega arith)
 

@@ -106,7 +106,7 @@ middle_inside m facts i l is = (1, 1, lit< tt, lit< tt, record { weighed = lit< 
 
 -- ---- beyond all lines
 
--- no end of a line is scale_above 0
+-- no end of a line is above 0
 pub record IsLow (m : Map) (f : Lin) : Type 0 where
   pub first : (i : ℕ) (l : MapLine) → line_at m i ≡ Some l → at f (whole l.first) ≤ℤ pos 0
   pub second : (i : ℕ) (l : MapLine) → line_at m i ≡ Some l → at f (whole l.second) ≤ℤ pos 0
