@@ -12,10 +12,9 @@ use Rattle.sound_reach.specs.declared.doors.Door.{Door}
 use Rattle.sound_reach.specs.Doors.{AreDoors}
 use Rattle.sound_reach.specs.Routes.{AreDistances, distance_at}
 use Rattle.sound_reach.specs.Counts.{AreFilled, AreRows, IsRow, is_near, row_at}
-use Rattle.sound_reach.proofs.Lookups.{read_at}
+use Rattle.sound_reach.proofs.Lookups.{read_at, none_some}
 use Rattle.sound_reach.proofs.Mapped.{allowance, back, count_back, count_joined, heard_through, lead_back, lead_joined, leads_route, route_leads}
 use Rattle.list_base.proofs.Numbers.{below_or_not, below_or_last, same_or_not}
-use Rattle.list_base.proofs.Options.{none_is_not_some as none_some}
 
 -- ---- what one search tells
 

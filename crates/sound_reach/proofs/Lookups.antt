@@ -10,6 +10,9 @@ use Rattle.list_base.proofs.Lists.{item_there, get_before_pushed, get_pushed, pu
 use Rattle.list_base.proofs.Numbers.{same_or_not}
 use Rattle.list_base.proofs.Options.{none_is_not_some}
 
+pub none_some : {X : Type 0} (o : Option X) (x : X) → o ≡ None → o ≡ Some x → ⊥
+none_some o x e f = cc
+
 -- two states with one place are one state
 places : (a b : ℕ) (s t : Bool) → place_of (record { sector = a; spare = s }) ≡ place_of (record { sector = b; spare = t }) → (a ≡ b) × (s ≡ t)
 places a b true true e = (omega (arith, e), refl)
