@@ -5,7 +5,7 @@ use Rattle.std.proofs.Math.Seq.{drop-append_seam, take-append_seam, drop-append-
 use borrow.Rule.Slice.PartMut.{mid_of, post_of, put_mid}
 use Rattle.listeners.specs.Listening.{AreWordsAt, ListenerState}
 use Rattle.listeners.specs.Told.{texts}
-use Rattle.list_base.proofs.Lists.{drop_more}
+use Rattle.list_base.proofs.Lists.{drop_more as drop-add}
 
 -- so many bytes are written of all from a place on, and what is left of them is what is left of the rest from its own place on
 pub record IsFilling (all : List ℕ) (start : ℕ) (before now rest : List ℕ) (at filled : ℕ) : Type 0 where
@@ -56,7 +56,7 @@ module _ (all : List ℕ) (start : ℕ) (before now text rest : List ℕ) (at fi
             ∙ ap (λ (t : List ℕ). take n (drop filled (drop start all)) ++ drop n t) behind)
             ∙ sym (append_assoc (take filled (drop start all)) (take n (drop filled (drop start all))) (drop n (drop filled before)))
             ∙ ap (λ (t : List ℕ). t ++ drop n (drop filled before)) (sym (take-add filled n (drop start all)))
-            ∙ ap (λ (t : List ℕ). take (filled + n) (drop start all) ++ t) (sym (drop_more filled n before))),
+            ∙ ap (λ (t : List ℕ). take (filled + n) (drop start all) ++ t) (sym (drop-add filled n before))),
       )
 
   -- the buffer is full
@@ -74,7 +74,7 @@ module _ (all : List ℕ) (start : ℕ) (before now text rest : List ℕ) (at fi
   filling_more n part after w is whole =
       let m = filled_more n part w in
       record {
-        left = drop_more filled n (drop start all) ∙ ap (drop n) h.left ∙ sym (drop_more at n (text ++ rest))
+        left = drop-add filled n (drop start all) ∙ ap (drop n) h.left ∙ sym (drop-add at n (text ++ rest))
             ∙ ap (λ (k : ℕ). drop k (text ++ rest)) (seam whole)
             ∙ drop-append-add text rest (at - length text);
         fits = m.0;
