@@ -256,7 +256,7 @@ a=U, creates=1 | build a MAP01 b --cert c --budget 1 | 5 | refused: write fault 
 a=U, puts=0 | build a MAP01 b --cert c --budget 1 | 5 | built MAP01 sectors 3 ~ | b=U =0000, c<=#U-CERT @20:5:0100000000 @92:69:, c>=#00000200
 ";
 
-/// The order `sound`. The flags of line k of a map stand at byte 16 + 14 k of its WAD.
+/// The order `sound`. The flags of line k of a map stand at byte 16 + 14 k of its WAD, in Hexen's format at byte 16 + 16 k.
 const SOUND: &str = "\
 a=U @86:2:4400 | sound a MAP01 0 2 | 0 | noise 0 2 by 5L 3R | a=U @86:2:4400
 a=U @58:2:4400 @86:2:4400 | sound a MAP01 0 2 | 0 | no noise 0 2
@@ -267,6 +267,10 @@ a=U | sound a MAP01 3 0 | 1 | no sector 3
 a=U | sound a MAP01 0 0 | 0 | noise 0 0
 a=U | sound a map01 02 0 | 0 | noise 2 0 by 3L 5R
 a=U | sound a MAP01 | 0 | sound MAP01 sectors 3 heard 6 silent 0
+# Hexen's format
+a=U .1 hexen +6:BEHAVIOR @96:2:4400 | sound a MAP01 0 2 | 0 | noise 0 2 by 5L 3R
+a=U .1 hexen +6:BEHAVIOR @64:2:4400 @96:2:4400 | sound a MAP01 0 2 | 0 | no noise 0 2
+a=U .1 hexen +6:BEHAVIOR @64:2:4400 @96:2:4400 | sound a MAP01 | 0 | sound MAP01 sectors 3 heard 5 silent 1
 # a line without the two-sided flag carries no noise
 a=U @86:2:4000 | sound a MAP01 | 0 | sound MAP01 sectors 3 heard 4 silent 2
 # nothing is audited
