@@ -41,7 +41,7 @@ use Rattle.sight_workers.specs.Teams.{AreWalked}
 use Rattle.sight_job.specs.Built.{AreVerdicts}
 use Rattle.sight_job.specs.Sight.{AreAllThrough, IsFoundAlong, IsRayAlong, AreRaysAlong, HasSightRays, TellsWhoSees}
 use Rattle.sight_job.proofs.VerdictLaws.{cert_rays, both_bits_of}
-use Rattle.list_base.proofs.Numbers.{same_below_or_above, same_or_not, below_or_not}
+use Rattle.list_base.proofs.Numbers.{same_below_or_above, below_or_not}
 use Rattle.list_base.proofs.Lists.{last_pushed}
 use Rattle.half_edges.proofs.EachLine.{same_or_not}
 
