@@ -8,3 +8,4 @@ pub mod Traces
 pub mod Counting
 pub mod Noises
 pub mod Linedefs
+pub mod Dampers

@@ -1,7 +1,6 @@
 -- The answer of `sound`, the only one: two sectors have one first noise path, and a map has one count.
-use Rattle.std.proofs.Common.{◌≡◌, ℕ, ◌<◌, ◌≤◌, ◌⊎◌, inl, inr, List, Bool, Option, Some, None, Result, Ok, Err, String, sym, ap, ap₂, ◌∙◌, subst, arith, string_bytes}
+use Rattle.std.proofs.Common.{◌≡◌, ℕ, ◌<◌, inl, inr, List, Bool, Option, Some, None, Result, Ok, Err, sym, ap, ap₂, ◌∙◌, arith}
 use Rattle.std.specs.Prelude.{⊤, MatchOption, option_map}
-use Rattle.std.specs.declared.alloc.Global.{Global}
 use Rattle.sight_names.specs.declared.names.Pair.{Pair}
 use Rattle.sight_names.specs.declared.names.Side.{Side}
 use Rattle.sight_names.specs.Map.{Map}
@@ -11,7 +10,7 @@ use Rattle.sight_status.specs.declared.status.Why.TheVariants as why
 use Rattle.sight_status.specs.declared.status.Status.{Status}
 use Rattle.sight_status.specs.declared.status.Status.TheVariants as status
 use Rattle.sight_status.specs.Answer.{Answer, IsTheAnswer, only_line}
-use Rattle.map_answers.specs.Noise.{CountCalls, IsMissing, PairCalls, ShowsHeard, ShowsPath, ShowsSilence, heard_line, no_noise_line, noise_line, path_line}
+use Rattle.map_answers.specs.Noise.{CountCalls, IsMissing, PairCalls, heard_line, no_noise_line, noise_line, path_line}
 
 module _ (m : Map) (d : List Bool) (pair : Pair) where
   not_missing : (k : ℕ) → pair.a < m.sectors → pair.b < m.sectors → IsMissing m pair k → ⊥

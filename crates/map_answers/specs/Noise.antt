@@ -1,5 +1,5 @@
 -- What the order `sound` says of a map that was found. It writes nothing, and audits nothing.
-use Rattle.std.specs.Prelude.{◌≡◌, ℕ, ◌/◌, ◌%◌, ◌<◌, ◌≤◌, ◌⊎◌, nat_lt, if◌then◌else◌, List, [], ◌++◌, Bool, false, Option, Some, None, Result, Ok, Err, codes, length}
+use Rattle.std.specs.Prelude.{◌≡◌, ℕ, ◌/◌, ◌%◌, ◌<◌, ◌≤◌, ◌⊎◌, nat_lt, if◌then◌else◌, List, [], ◌++◌, Bool, Option, Some, None, Result, Ok, Err, codes, length}
 use Rattle.std.specs.Fmt.{decimal}
 use Rattle.std.specs.List.{flat_map}
 use Rattle.sight_names.specs.declared.names.Pair.{Pair}
@@ -18,19 +18,15 @@ use Rattle.sight_status.specs.Texts.{two}
 use Rattle.map_answers.specs.declared.input.Input.{Input}
 use Rattle.map_answers.specs.Input.{LocatedMap, lump_at}
 
--- the map at this spot is in Hexen format
-abbrev pub is_hexen : MapSpot → Bool
-is_hexen spot = false
-
 -- for each line record whether the line blocks sound
 abbrev pub dampers_at : WadFile → MapSpot → List Bool
-dampers_at file spot = dampers_of (is_hexen spot) (lump_at file spot.linedefs)
+dampers_at file spot = dampers_of spot.hexen (lump_at file spot.linedefs)
 
 -- LINEDEFS is there and has whole records, as many as the map has lines
 pub record HasLinedefs (input : Input) : Type 0 where
   pub place : input.spot.linedefs < length input.wad.entries
-  pub whole : length (lump_at (file_of input.bytes.items input.wad) input.spot.linedefs) % record_len (is_hexen input.spot) ≡ 0
-  pub each : length input.plan.lines ≡ length (lump_at (file_of input.bytes.items input.wad) input.spot.linedefs) / record_len (is_hexen input.spot)
+  pub whole : length (lump_at (file_of input.bytes.items input.wad) input.spot.linedefs) % record_len input.spot.hexen ≡ 0
+  pub each : length input.plan.lines ≡ length (lump_at (file_of input.bytes.items input.wad) input.spot.linedefs) / record_len input.spot.hexen
 
 -- ---- the lines
 

@@ -7,7 +7,7 @@ ghost use Rattle.sight_names.specs.Texts.{side_text};
 ghost use Rattle.sight_status.specs.Answer.{Gives, line_answer};
 ghost use Rattle.sight_status.specs.Status.{IsOfSoundTest};
 ghost use Rattle.sight_status.specs.Texts.{two};
-ghost use Rattle.map_answers.specs.Noise.{CountCalls, HasLinedefs, IsMissing, PairCalls, SoundCalls, heard_line, is_hexen, no_noise_line, noise_line, path_line, path_words, side_word};
+ghost use Rattle.map_answers.specs.Noise.{CountCalls, HasLinedefs, IsMissing, PairCalls, SoundCalls, heard_line, no_noise_line, noise_line, path_line, path_words, side_word};
 ghost use Rattle.map_answers.specs.Views.{found, IsWhole};
 
 use crate::input::{Input, lump_of};
@@ -17,14 +17,6 @@ use sight_status::{
 };
 use sound_reach::{Heard, count_heard, dampers, noise};
 use std::alloc::{AllocError, Global};
-use wad_dir::MapSpot;
-
-/// Whether the map at this spot is in Hexen format.
-fn is_hexen_at(_spot: &MapSpot) -> bool
-    ensures { result ≡ is_hexen _spot.now }
-{
-    false
-}
 
 fn heard_line_of(
     alloc: Global,
@@ -168,7 +160,7 @@ pub fn judge_sound(
     ensures refusals { IfErr result IsOfSoundTest }
 {
     let linedefs = lump_of(&input.bytes, &input.wad, input.spot.linedefs);
-    let Ok(dampers) = dampers(alloc, linedefs, is_hexen_at(&input.spot)) else {
+    let Ok(dampers) = dampers(alloc, linedefs, input.spot.hexen) else {
         return Err(Status::Memory);
     };
     match pair {
