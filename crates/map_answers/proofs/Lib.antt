@@ -6,3 +6,6 @@ pub mod Audits
 pub mod Needs
 pub mod Traces
 pub mod Counting
+pub mod Noises
+pub mod Linedefs
+pub mod Dampers

@@ -5,4 +5,5 @@ pub mod Sound
 pub mod Audit
 pub mod Trace
 pub mod Need
+pub mod Noise
 pub mod Counts

@@ -10,6 +10,7 @@ ghost use Rattle.wad_dir.specs.Wad.{file_of, names_of, wad_of};
 ghost use Rattle.sight_status.specs.Answer.{Makes};
 ghost use Rattle.map_answers.specs.Input.{of_wad, of_spot, of_four_lumps, lump_at, map_at, found_in};
 ghost use Rattle.sight_status.specs.Status.{IsOfBytes};
+ghost use Rattle.map_answers.specs.Noise.{HasLinedefs};
 ghost use Rattle.map_answers.specs.Views.{found, IsWhole};
 
 use hexen_lumps::read_hexen;
@@ -131,6 +132,7 @@ pub fn find_in(alloc: Global, bytes: Vec<u8>, name: &str) -> Result<Input, Statu
     ensures found { Makes found result (found_in name.now bytes.items) }
     ensures refusals { IfErr result IsOfBytes }
     ensures whole { IfOk result IsWhole }
+    ensures linedefs { IfOk result HasLinedefs }
 {
     let wad = directory(alloc, &bytes)?;
     let spot = spot(&wad, name)?;

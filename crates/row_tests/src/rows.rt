@@ -256,6 +256,40 @@ a=U, creates=1 | build a MAP01 b --cert c --budget 1 | 5 | refused: write fault 
 a=U, puts=0 | build a MAP01 b --cert c --budget 1 | 5 | built MAP01 sectors 3 ~ | b=U =0000, c<=#U-CERT @20:5:0100000000 @92:69:, c>=#00000200
 ";
 
+/// The order `sound`. The flags of line k of a map stand at byte 16 + 14 k of its WAD, in Hexen's format at byte 16 + 16 k.
+const SOUND: &str = "\
+a=U @86:2:4400 | sound a MAP01 0 2 | 0 | noise 0 2 by 5L 3R | a=U @86:2:4400
+a=U @58:2:4400 @86:2:4400 | sound a MAP01 0 2 | 0 | no noise 0 2
+a=U @58:2:4400 @86:2:4400 | sound a MAP01 | 0 | sound MAP01 sectors 3 heard 5 silent 1
+a=U | sound a MAP01 0 9 | 1 | no sector 9
+a=U | sound a MAP01 9 8 | 1 | no sector 9
+a=U | sound a MAP01 3 0 | 1 | no sector 3
+a=U | sound a MAP01 0 0 | 0 | noise 0 0
+a=U | sound a map01 02 0 | 0 | noise 2 0 by 3L 5R
+a=U | sound a MAP01 | 0 | sound MAP01 sectors 3 heard 6 silent 0
+# Hexen's format
+a=U .1 hexen +6:BEHAVIOR @96:2:4400 | sound a MAP01 0 2 | 0 | noise 0 2 by 5L 3R
+a=U .1 hexen +6:BEHAVIOR @64:2:4400 @96:2:4400 | sound a MAP01 0 2 | 0 | no noise 0 2
+a=U .1 hexen +6:BEHAVIOR @64:2:4400 @96:2:4400 | sound a MAP01 | 0 | sound MAP01 sectors 3 heard 5 silent 1
+# a line without the two-sided flag carries no noise
+a=U @86:2:4000 | sound a MAP01 | 0 | sound MAP01 sectors 3 heard 4 silent 2
+# nothing is audited
+a=TOUCHED | sound a MAP01 | 0 | sound MAP01 sectors 1 heard 1 silent 0
+a=NO-LINES .4 = | sound a MAP01 | 0 | sound MAP01 sectors 0 heard 0 silent 0
+a=NO-LINES .4 = | sound a MAP01 0 0 | 1 | no sector 0
+# words
+a=U | sound a MAP01 0 | 2 | refused: usage
+a=U | sound a MAP01 0 1 2 | 2 | refused: usage
+a=U | sound a MAP01 0 65536 | 2 | refused: usage
+a=U | sound a MAP01 0 65535 | 1 | no sector 65535
+a=U | sound a MAP01 000000 1 | 2 | refused: usage
+a=U | sound a MAP01 0R 1 | 2 | refused: usage
+a=U | sound a MAP01 --budget full | 2 | refused: usage
+a=U | sound a MAP02 | 7 | refused: no map: no marker
+a=U, reads=0 | sound a MAP01 0 1 | 4 | refused: read fault wad
+a=SQUARE @14:1:09 | sound a MAP01 0 0 | 8 | refused: bad lump: vertex of line 0
+";
+
 /// The order `need`, and a build with a budget that is enough.
 const NEED: &str = "\
 a=LINE3 | need a MAP01 | 0 | need MAP01 most 4 enough 768 | a=LINE3
@@ -271,7 +305,7 @@ a=LINE3 | build a MAP01 b --cert c --budget enough | 0 | built MAP01 sectors 3 s
 
 #[test]
 fn each_row_comes_out_as_it_says(rt: HostRuntime) -> Result<(), Fail> {
-    for rows in [ZERO, JUDGED, CHECK, BUILD, NEED] {
+    for rows in [ZERO, JUDGED, CHECK, BUILD, NEED, SOUND] {
         assert_eq!(rt; first_wrong(&rt, rt.alloc(), rows)?.as_str(), "");
     }
     Ok(())

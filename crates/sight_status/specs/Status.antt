@@ -83,6 +83,12 @@ IsOfRayTest (status.No (why.Ray fault)) = ⊤
 IsOfRayTest status.Memory = ⊤
 IsOfRayTest other = ⊥
 
+-- what a question on a noise can end with
+abbrev pub IsOfSoundTest : Status → Type 0
+IsOfSoundTest (status.No (why.NoSector a)) = ⊤
+IsOfSoundTest status.Memory = ⊤
+IsOfSoundTest other = ⊥
+
 -- what taking bytes as a table can end with
 abbrev pub IsOfTableTest : Status → Type 0
 IsOfTableTest (status.No (why.Table table.Memory)) = ⊥

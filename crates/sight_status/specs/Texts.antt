@@ -144,6 +144,7 @@ no_words (why.Trace fault) = trace_words fault
 no_words (why.Table fault) = table_words fault
 no_words (why.Cert fault) = codes "no cert: " ++ cert_words fault
 no_words (why.Check fault) = check_words fault
+no_words (why.NoSector a) = codes "no sector " ++ decimal a ++ codes "\n"
 
 -- the line of a refusal; want of memory has none, and what was done has its own
 abbrev pub text_of : Status → List ℕ

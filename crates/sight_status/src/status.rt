@@ -48,6 +48,8 @@ pub enum Why {
     Table(TableFault),
     Cert(CertFault),
     Check(CheckFault),
+    /// The map has no sector of this number.
+    NoSector(u16),
 }
 
 /// How a run ends. A fault for which there is another status, such as want of memory, never stands in `NotWad`,

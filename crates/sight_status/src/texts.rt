@@ -377,6 +377,7 @@ fn push_no(alloc: Global, line: &mut String, why: Why) -> Result<(), AllocError>
             push_cert(alloc, line, fault)
         }
         Why::Check(fault) => push_check(alloc, line, fault),
+        Why::NoSector(a) => push_count_line(alloc, line, "no sector ", u64::from(a)),
     }
 }
 
