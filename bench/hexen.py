@@ -4,7 +4,7 @@
     bench/hexen.py [--program PATH] [--wads FOLDER] [--only MAP01,E1M7] [--budget N] [--zdbsp PATH]
 
 LINEDEFS records get their six bytes here, with a special and arguments that aren't 0, and 16 bytes of BEHAVIOR stand
-behind the map's lumps. For each map the lines of `audit` have to be equal; where the map is sound, those of `build` and `check`, the
+behind the map's lumps. Builds run with one worker: with more, two of the same map may differ in their certificates. For each map the lines of `audit` have to be equal; where the map is sound, those of `build` and `check`, the
 REJECT and the certificate too, byte for byte, and every other lump has to stay. With `--zdbsp` that node builder (Debian's
 package zdbsp) reads each turned map and writes it anew with its own vertices and nodes, and the lines and the REJECT have to be those
 of the first again. Where the WADs are missing the script says so and ends with 0.
@@ -55,7 +55,7 @@ class Side:
         self.lines, self.table, self.cert, self.kept = [self.audit.line], None, None, True
         if self.audit.status != 0:
             return
-        for words in (["build", source, name, output, "--cert", cert, "--budget", budget], ["check", output, name, cert]):
+        for words in (["build", source, name, output, "--cert", cert, "--budget", budget, "--workers", "1"], ["check", output, name, cert]):
             self.lines.append(Run([program] + words).line)
         after = list(directory(open(output, "rb").read()))
         self.table = dict(after)[b"REJECT"]
