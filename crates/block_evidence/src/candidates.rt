@@ -1,6 +1,7 @@
 //! Four of the ends of three pairs that are seen at once to be stuck. The third pair mostly has one end that is new, and
 //! one of the first or of the second pair: so there are five ends, and four sets of four of them with the new one are tried.
 //! Most sets fail by the signs of their turns; so these come first, and codes are put in order only where they show it.
+//! The three tests stand in line, since a call would hand each of four ends over in memory, which costs as much as the turns.
 
 ghost use Rattle.std.specs.Prelude.{◌∷◌, [], ◌<◌, ◌≤◌, IfSome};
 ghost use Rattle.block_evidence.specs.Stuck.{AreCoded};
@@ -44,6 +45,7 @@ fn all_in_order(a: EndAt, b: EndAt, c: EndAt) -> (u16, u16, u16)
 }
 
 /// Evidence of two left and two right ends, where the segments between them are seen to share a point.
+#[inline(always)]
 fn two_and_two(p: EndAt, q: EndAt, r: EndAt, s: EndAt) -> Option<Evidence>
     requires p_left { p.code < 32768 }
     requires q_left { q.code < 32768 }
@@ -66,6 +68,7 @@ fn two_and_two(p: EndAt, q: EndAt, r: EndAt, s: EndAt) -> Option<Evidence>
 }
 
 /// Evidence of one left and three right ends, whose triangle is seen to have the left one.
+#[inline(always)]
 fn one_and_three(p: EndAt, q: EndAt, r: EndAt, s: EndAt) -> Option<Evidence>
     requires p_left { p.code < 32768 }
     requires q_right { 32768 ≤ q.code }
@@ -87,6 +90,7 @@ fn one_and_three(p: EndAt, q: EndAt, r: EndAt, s: EndAt) -> Option<Evidence>
 }
 
 /// Evidence of three left ends, whose triangle is seen to have the right one, and that one.
+#[inline(always)]
 fn three_and_one(p: EndAt, q: EndAt, r: EndAt, s: EndAt) -> Option<Evidence>
     requires p_left { p.code < 32768 }
     requires q_left { q.code < 32768 }

@@ -1,8 +1,10 @@
 //! The portals that a walk has entered, with their ends.
 
-ghost use Rattle.std.specs.Prelude.{◌≡◌, ◌≢◌, ◌-◌, ◌<◌, [], length, slice_get, slice_set, take};
-ghost use Rattle.portal_walk.specs.Frames.{Enters};
+ghost use Rattle.std.specs.Prelude.{◌≡◌, ◌≢◌, ◌+◌, ◌-◌, ◌<◌, [], length, slice_get, slice_set, take, IfNone, IfSome};
+ghost use Rattle.portal_walk.specs.Frames.{Enters, ways_left};
+ghost use Rattle.portal_walk.specs.Pending.{way_of, way_taken};
 
+use crate::scene::Way;
 use sight_names::{Memory, Pt};
 use stab_hull::{Ends, Split};
 use std::alloc::Global;
@@ -14,6 +16,18 @@ pub enum Ways {
     Both,
     RightOnly,
     Done,
+}
+
+/// The way that is tried next where these are left, and those that are left then; None where none is left.
+pub fn next_way(ways: Ways) -> Option<(Way, Ways)>
+    ensures some { IfSome result (λ next. (ways_left ways ≡ ways_left next.1 + 1) × (way_taken next.1 ≡ way_of next.0)) }
+    ensures none { IfNone result (ways_left ways ≡ 0) }
+{
+    match ways {
+        Ways::Both => Some((Way::Left, Ways::RightOnly)),
+        Ways::RightOnly => Some((Way::Right, Ways::Done)),
+        Ways::Done => None,
+    }
 }
 
 /// A portal that was entered, by the number of its half-edge.

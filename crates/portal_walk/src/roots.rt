@@ -41,9 +41,12 @@ fn root_at(plan: &Plan, k: u16, source: u16) -> Option<Root>
     ensures side { roots_at (map_of plan.now) source k ≡ option_to_list (option_map (λ root. root.side) result) }
 {
     let line = plan.line(k)?;
+    if line.solid {
+        return None;
+    }
     let right = line.right == Some(source);
     let left = line.left == Some(source);
-    if line.solid || right == left {
+    if right == left {
         return None;
     }
     // who leaves by the right side is in the triangle at the left side, with the directed edge from first to second

@@ -124,6 +124,11 @@ fn put_ends(bytes: &mut Vec<u8>, evidence: &Evidence) -> Result<(), Memory>
     let [c, c_high] = c.to_le_bytes();
     let [d, d_high] = d.to_le_bytes();
     let spelled = [evidence.count, a, a_high, b, b_high, c, c_high, d, d_high];
+    // nearly all name four ends, and nine bytes are copied without a call
+    if evidence.count == 4 {
+        bytes.extend_from_slice(&spelled)?;
+        return Ok(());
+    }
     bytes.extend_from_slice(&spelled[..1 + 2 * evidence.count as usize])?;
     Ok(())
 }

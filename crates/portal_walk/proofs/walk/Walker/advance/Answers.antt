@@ -16,9 +16,9 @@ invariant_of-self c =
     let some = slice_get_within s.path.frames _ c.in-Some.frame (sym c.in-Some.ensures) in
     walk_left s.scene s.roots.items s.root s.path s.nodes c.leave.new.self c.self.invariant c.leave.ensures (omega arith)
 
-pub returns-in-Done-clause-tries : goal.returns-in-Done-clause-tries
-returns-in-Done-clause-tries c =
+pub returns-in-None-next_way-clause-tries : goal.returns-in-None-next_way-clause-tries
+returns-in-None-next_way-clause-tries c =
     let s = c.self.inside in
     let new : WalkParts = walk_over s.scene s.roots.items s.root c.leave.new.self.frames c.leave.new.self.ends s.nodes in
     let old : WalkParts = walk_over s.scene s.roots.items s.root s.path.frames s.path.ends s.nodes in
-    subst (λ (w : WalkParts). Tries w new (Ok None)) c.self.view_is (left_done old new c.in-Some.frame (record { plan = refl; mesh = refl; labels = refl; source = refl }) (sym c.in-Some.ensures) (ap ways_left c.in-Done.is) (ap (λ (p : PathParts). p.frames) c.leave.ensures) refl refl refl)
+    subst (λ (w : WalkParts). Tries w new (Ok None)) c.self.view_is (left_done old new c.in-Some.frame (record { plan = refl; mesh = refl; labels = refl; source = refl }) (sym c.in-Some.ensures) c.in-None-next_way.ensures.none (ap (λ (p : PathParts). p.frames) c.leave.ensures) refl refl refl)
