@@ -33,7 +33,7 @@ use Rattle.sight_status.specs.declared.status.Status.{Status}
 use Rattle.sight_status.specs.declared.status.Status.TheVariants as status
 use Rattle.sight_status.specs.declared.status.Why.TheVariants as why
 use Rattle.sight_status.specs.Answer.{Answer, ◌>>=◌, IsTheAnswer, only_line}
-use Rattle.sight_run.specs.Build.{AreAsked, BuildCalls, ShowsBuild, build_writes}
+use Rattle.sight_run.specs.Build.{BuildCalls, ShowsBuild}
 use Rattle.sight_run.specs.Check.{CheckInput, CheckCalls, IsVerdictOn, OnCheckInput, VerdictCalls, check_input, cert_in, of_cert_fetch, of_length, of_reading, reject_of, yes_line}
 use Rattle.map_answers.specs.Input.{LocatedMap, OnFound, found_in}
 use Rattle.sight_run.specs.Reading.{found_of, of_fetch}
@@ -149,16 +149,17 @@ wad_fetched o name bytes found e lt h =
 
 -- the map was found in these bytes, and what was built of it is in these files
 module _ (name out cert : List ℕ) (budget : Ask) (files others : Files) (found : LocatedMap) (answer : Answer) (given : Result Answer Status) where
-  checked : (old spelled : List ℕ) → found_in name old ≡ Ok found → same_name (codes "REJECT") name ≡ false → bytes_eq out cert ≡ false
-      → (shows : ShowsBuild name out (Some cert) budget found answer) → shows.spelled ≡ Some spelled → Spells shows.built.cert.sizes spelled shows.built.cert
+  checked : (old : List ℕ) → found_in name old ≡ Ok found → same_name (codes "REJECT") name ≡ false → bytes_eq out cert ≡ false
+      → (shows : ShowsBuild name out (Some cert) budget found answer)
       → HaveBoth (put_all files answer.writes) others out cert → IsShort others cert
       → OnFound (found_of out name others) (CheckCalls cert others) given → IsYesFor found.map shows.built.table shows.built.cert given
   unfolding found_of
-  checked old spelled h other apart shows is spells have short q =
+  checked old h other apart shows have short q =
+      let spelled : List ℕ = shows.spelled in
       let table : List ℕ = shows.built.table.bytes in
       let c : CertParts = shows.built.cert in
       let again : IsFoundAgain name found table shows.bytes = found_again name old table shows.bytes found h other shows.made in
-      let all : put_all files answer.writes ≡ put (put files out shows.bytes) cert spelled = ap (λ (x : Answer). put_all files x.writes) shows.is ∙ ap (λ (o : Option (List ℕ)). put_all files (build_writes out shows.bytes (Some cert) o)) is in
+      let all : put_all files answer.writes ≡ put (put files out shows.bytes) cert spelled = ap (λ (x : Answer). put_all files x.writes) shows.is in
       let at_out : others out ≡ Some shows.bytes = have.at_out ∙ ap (λ (f : Files). f out) all ∙ under_out files out cert shows.bytes spelled apart in
       let at_cert : others cert ≡ Some spelled = have.at_cert ∙ ap (λ (f : Files). f cert) all ∙ under_cert files out cert shows.bytes spelled in
       let there : found_of out name others ≡ Ok (found_then found table) = wad_fetched (others out) name shows.bytes (found_then found table) at_out again.short again.again in
@@ -166,7 +167,7 @@ module _ (name out cert : List ℕ) (budget : Ask) (files others : Files) (found
       let len : length table ≡ table_len found.map.sectors = shows.whole.len ∙ ap table_len shows.is_built.sectors in
       let reads : check_input cert (found_then found table) others ≡ Ok (input_as table c) =
       is_input cert (found_then found table) others table spelled c (right_length found.map.sectors (reject_of (found_then found table)) table again.reject len)
-      (cert_fetched (others cert) spelled at_cert (short spelled at_cert)) (spelled_reads found.map c spelled shows.is_built.sizes spells) in
+      (cert_fetched (others cert) spelled at_cert (short spelled at_cert)) (spelled_reads found.map c spelled shows.is_built.sizes shows.spells) in
       verdict_yes found.map shows.built.table c given shows.is_built.sectors shows.is_built.accepted
       (past_lines found.map (input_as table c) given shows.is_built.fit.ends (subst (λ (r : Result CheckInput Status). OnSoundLines found.map (OnCheckInput found.map r) given) reads asked))
 
@@ -179,22 +180,18 @@ built_is_checked build check name out cert files others answer ask h have short 
 
     on : (r : Result LocatedMap Status) → found_of ask.wad name files ≡ r → OnFound r (BuildCalls name out (Some cert) ask.budget) (Ok answer) → SaysYes check name others answer
     on (Err s) e shows = absurd cc
-    on (Ok found) e shows = by shows.spelled refl shows.are_asked
-      where
-        by : (o : Option (List ℕ)) → shows.spelled ≡ o → AreAsked (Some cert) shows.built.cert o → SaysYes check name others answer
-        by None f a = absurd a
-        by (Some spelled) f a =
-            let old = bytes_of ask.wad name files found e in
-            let counts = counts_with shows.built.table (length shows.built.cert.listed) in
-            record {
-              counts = counts;
-              built = ap (λ (x : Answer). x.line) shows.is;
-              only = λ given q.
-                  let asked = subst (λ r. AnswersAsked r others given) ask.checked q in
-                  let yes = checked name out cert ask.budget files others found answer given old.bytes spelled old.are ask.other apart shows f a have short asked in
-                  let same = same_counts shows.built.table shows.built.cert.listed found.map.sectors yes.totals shows.is_built.symmetric shows.is_built.sectors yes.are in
-                  yes.is ∙ ap (λ (k : Counts). Ok (only_line (yes_line k.sectors (totals_of k)))) same;
-            }
+    on (Ok found) e shows =
+        let old = bytes_of ask.wad name files found e in
+        let counts = counts_with shows.built.table (length shows.built.cert.listed) in
+        record {
+          counts = counts;
+          built = ap (λ (x : Answer). x.line) shows.is;
+          only = λ given q.
+              let asked = subst (λ r. AnswersAsked r others given) ask.checked q in
+              let yes = checked name out cert ask.budget files others found answer given old.bytes old.are ask.other apart shows have short asked in
+              let same = same_counts shows.built.table shows.built.cert.listed found.map.sectors yes.totals shows.is_built.symmetric shows.is_built.sectors yes.are in
+              yes.is ∙ ap (λ (k : Counts). Ok (only_line (yes_line k.sectors (totals_of k)))) same;
+        }
 
 -- ---- the runs
 

@@ -3,10 +3,9 @@ use Rattle.std.proofs.Common.{◌≡◌, ℕ, ◌*◌, List, ◌∷◌, Bool, fa
 use Rattle.std.specs.Int.{div_ceil}
 use Rattle.shelf_io.specs.Shelf.{Files, put}
 use Rattle.order_words.specs.declared.order.Order.TheVariants as order
-use Rattle.cert_format.specs.Parts.{CertParts}
 use Rattle.sight_status.specs.declared.status.Status.{Status}
 use Rattle.sight_status.specs.Answer.{Answer}
-use Rattle.sight_run.specs.Build.{AreAsked, BuildCalls, build_writes}
+use Rattle.sight_run.specs.Build.{BuildCalls, build_writes}
 use Rattle.map_answers.specs.Input.{LocatedMap, OnFound}
 use Rattle.sight_run.specs.Reading.{found_of}
 use Rattle.sight_run.specs.Laws.{BuildKeepsLumps, HasTableLength, IsClearTable, KeepsLumps, ZeroKeepsLumps}
@@ -46,11 +45,9 @@ zero_keeps_lumps words wad name out files answer asked other h = on (found_of wa
     on (Ok found) e q = made found q e
 
 -- the WAD stands, with the certificate beside it or without
-built_stands : (files : Files) (wad out bytes : List ℕ) (asked spelled : Option (List ℕ)) (c : CertParts) → has_twice (wad ∷ out ∷ given asked) ≡ false → AreAsked asked c spelled → put_all files (build_writes out bytes asked spelled) out ≡ Some bytes
-built_stands files wad out bytes None None c apart h = stored files out bytes
-built_stands files wad out bytes None (Some spelled) c apart h = stored files out bytes
-built_stands files wad out bytes (Some cert) None c apart h = absurd h
-built_stands files wad out bytes (Some cert) (Some spelled) c apart h = under_out files out cert bytes spelled (differ wad out cert apart)
+built_stands : (files : Files) (wad out bytes : List ℕ) (asked : Option (List ℕ)) (spelled : List ℕ) → has_twice (wad ∷ out ∷ given asked) ≡ false → put_all files (build_writes out bytes asked spelled) out ≡ Some bytes
+built_stands files wad out bytes None spelled apart = stored files out bytes
+built_stands files wad out bytes (Some cert) spelled apart = under_out files out cert bytes spelled (differ wad out cert apart)
 
 pub build_keeps_lumps : BuildKeepsLumps
 build_keeps_lumps words wad name out asked report workers budget files answer is_asked other h = on (found_of wad name files) refl (subst (λ r. AnswersAsked r files (Ok answer)) is_asked h)
@@ -65,6 +62,6 @@ build_keeps_lumps words wad name out asked report workers budget files answer is
           table = q.built.table.bytes;
           is_right = q.whole.len ∙ ap (λ n. div_ceil (n * n) 8) q.is_built.sectors;
           bytes = q.bytes;
-          stands = ap (λ (a : Answer). put_all files a.writes out) q.is ∙ built_stands files wad out q.bytes asked q.spelled q.built.cert (of_words words (order.Build wad name out asked report workers budget) is_asked) q.are_asked;
+          stands = ap (λ (a : Answer). put_all files a.writes out) q.is ∙ built_stands files wad out q.bytes asked q.spelled (of_words words (order.Build wad name out asked report workers budget) is_asked);
           again = written_again name old.bytes q.built.table.bytes q.bytes found old.are other q.made;
         }

@@ -14,7 +14,6 @@ use Rattle.reject_bits.specs.Parts.{IsWhole, Rejects}
 use Rattle.sight_tree.specs.declared.Tree.{Tree}
 use Rattle.cert_format.specs.Accepted.{IsAccepted, IsNamed}
 use Rattle.cert_format.specs.Grammar.{IsInOrder, Spells}
-use Rattle.cert_format.specs.Parts.{CertParts}
 use Rattle.sight_job.specs.declared.build.Built.{Built}
 use Rattle.sight_job.specs.Built.{HasRaysOfClear, HasTrianglesOf, IsSymmetric, ListsClear}
 use Rattle.sight_job.specs.Sight.{TellsWhoSees}
@@ -82,12 +81,6 @@ IsOfBuilding other = ⊥
 
 -- ---- what is stored and said
 
--- the bytes of the certificate, where it is asked for
-abbrev pub AreAsked : Option (List ℕ) → CertParts → Option (List ℕ) → Type 0
-AreAsked None certificate None = ⊤
-AreAsked (Some name) certificate (Some bytes) = Spells certificate.sizes bytes certificate
-AreAsked asked certificate other = ⊥
-
 abbrev pub wad_output : List ℕ → List ℕ → Written
 wad_output name bytes = record { role = role.Wad; name = name; bytes = bytes }
 
@@ -95,9 +88,9 @@ abbrev pub cert_output : List ℕ → List ℕ → Written
 cert_output name bytes = record { role = role.Cert; name = name; bytes = bytes }
 
 -- the WAD is stored first, then the certificate where it is asked for
-abbrev pub build_writes : List ℕ → List ℕ → Option (List ℕ) → Option (List ℕ) → List Written
-build_writes out bytes (Some name) (Some spelled) = wad_output out bytes ∷ cert_output name spelled ∷ []
-build_writes out bytes asked spelled = wad_output out bytes ∷ []
+abbrev pub build_writes : List ℕ → List ℕ → Option (List ℕ) → List ℕ → List Written
+build_writes out bytes None spelled = wad_output out bytes ∷ []
+build_writes out bytes (Some name) spelled = wad_output out bytes ∷ cert_output name spelled ∷ []
 
 -- the roles of these outputs
 abbrev pub build_roles : Option (List ℕ) → List Role
@@ -115,8 +108,8 @@ pub record ShowsBuild (name out : List ℕ) (asked : Option (List ℕ)) (budget 
   pub in_order : IsInOrder built.cert
   pub bytes : List ℕ
   pub made : with_table found built.table.bytes ≡ Ok bytes
-  pub spelled : Option (List ℕ)
-  pub are_asked : AreAsked asked built.cert spelled
+  pub spelled : List ℕ
+  pub spells : Spells built.cert.sizes spelled built.cert
   pub is : answer ≡ record { writes = build_writes out bytes asked spelled; line = build_line name (counts_with built.table (length built.cert.listed)) }
 
 -- the WAD with the table that was built is above a limit
