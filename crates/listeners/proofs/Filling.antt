@@ -1,6 +1,6 @@
 -- A buffer filled with texts, one behind the other.
 use Rattle.std.proofs.Common.{◌≡◌, ◌∙◌, ℕ, suc, zero, ◌+◌, ◌-◌, ◌<◌, ◌≤◌, List, [], ◌∷◌, ◌++◌, length, map, take, drop, get_or, refl, sym, ap, subst, arith, append_assoc}
-use Rattle.std.proofs.lemmas.List.{append-nil, drop-drop, drop_all, drop_more, take_all, length-append, length-drop, length-take-le, take-append-le, drop-append-le}
+use Rattle.std.proofs.lemmas.List.{append-nil, drop_all, drop_more, take_all, length-append, length-drop, length-take-le, take-append-le, drop-append-le}
 use Rattle.std.proofs.Math.Seq.{drop-append_seam, take-append_seam, drop-append-add, take-add}
 use borrow.Rule.Slice.PartMut.{mid_of, post_of, put_mid}
 use Rattle.listeners.specs.Listening.{AreWordsAt, ListenerState}

@@ -1,6 +1,6 @@
 -- A finding told to one listener after another.
 use Rattle.std.proofs.Common.{◌≡◌, ◌∙◌, ℕ, ◌+◌, ◌<◌, ◌≤◌, set, Bool, true, false, cond, ◌&&◌, not, if◌then◌else◌, List, [], ◌∷◌, ◌++◌, length, take, drop, map, Option, refl, sym, ap, subst, arith, append_assoc}
-use Rattle.std.proofs.lemmas.List.{map-append, append-nil, take-append-drop, take-set, drop-set, drop-set-lt, length-append, length-set, length-take-le, take_more_set, take_all, drop_all}
+use Rattle.std.proofs.lemmas.List.{map-append, append-nil, take-append-drop, take-set, drop-set, drop-set-lt, length-append, length-set, length-take-le, take_more_set}
 use Rattle.std.proofs.Math.Seq.{drop-append_seam, take-append_seam}
 use Rattle.std.proofs.lemmas.List.Elements.{AllZip-push, filter-append}
 use Rattle.std.proofs.lemmas.List.Sums.{sum_by-append}
@@ -8,11 +8,11 @@ use Rattle.std.specs.List.{filter}
 use Rattle.listeners.specs.declared.finding.Finding.{Finding}
 use Rattle.listeners.specs.declared.finding.Keep.TheVariants as keep
 use Rattle.listeners.specs.Listening.{ListenerState, is_last_for, is_quota, is_set_kind, keep_of, sets_in}
-use Rattle.listeners.specs.Told.{HeardMore, IsTold, TellsInPart, TellsOk, ends_with}
+use Rattle.listeners.specs.Told.{HeardMore, IsTold, TellsInPart, ends_with}
 
 -- ---- whether it is the last
 
-one_more : (fs : List Finding) (f : Finding) → sets_in (fs ++ f ∷ []) ≡ sets_in fs + cond (is_set_kind f.kind) 1 0
+pub one_more : (fs : List Finding) (f : Finding) → sets_in (fs ++ f ∷ []) ≡ sets_in fs + cond (is_set_kind f.kind) 1 0
 one_more fs f = sum_by-append (λ g. cond (is_set_kind g.kind) 1 0) fs (f ∷ []) ∙ (omega arith)
 
 last_by : (b : Bool) (q : Option ℕ) (n m : ℕ) → m ≡ n + cond b 1 0 → b && is_quota q m ≡ b && is_quota q (n + 1)

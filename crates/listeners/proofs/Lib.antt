@@ -1,3 +1,5 @@
 mod Backwards
 mod Filling
 mod InTurn
+pub mod Turns
+pub mod Heards

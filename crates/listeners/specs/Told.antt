@@ -42,6 +42,30 @@ pub record TellsInPart (f : Finding) (old new ended_old ended_new : List Listene
   pub told : IsToldInPart f old new ended
   pub ended_is : ended_new ≡ ended_old ++ ended
 
+-- ---- findings in turn
+
+-- Each finding is told to the listeners that are left by then. Those for which it is the last stand apart, in the order in which they end.
+abbrev pub AreToldInTurn : List Finding → List ListenerState → List ListenerState → List ListenerState → Type 0
+AreToldInTurn [] before left ended = (left ≡ before) × (ended ≡ [])
+AreToldInTurn (f ∷ fs) before left ended = (between first others : List ListenerState) × IsTold f before between first × AreToldInTurn fs between left others × (ended ≡ first ++ others)
+
+-- .. behind those that ended before
+pub record TellsAll (fs : List Finding) (old new ended_old ended_new : List ListenerState) : Type 0 where
+  pub ended : List ListenerState
+  pub told : AreToldInTurn fs old new ended
+  pub ended_is : ended_new ≡ ended_old ++ ended
+
+-- the findings in front of one of them were told, and that one in part
+pub record StopsAmong (fs : List Finding) (old new ended_old ended_new : List ListenerState) : Type 0 where
+  pub done : List Finding
+  pub at : Finding
+  pub rest : List Finding
+  pub is : fs ≡ done ++ at ∷ rest
+  pub between : List ListenerState
+  pub ended_between : List ListenerState
+  pub told : TellsAll done old between ended_old ended_between
+  pub in_part : TellsInPart at between new ended_between ended_new
+
 -- the texts of a list of listeners in order
 abbrev pub texts : List ListenerState → List ℕ
 texts [] = []

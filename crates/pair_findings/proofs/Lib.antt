@@ -1,0 +1,4 @@
+pub mod Counted
+mod Places
+mod Rows
+pub mod Telling
