@@ -1,5 +1,5 @@
 -- The run of a map's lumps, and the places in it, where a REJECT is put into the run.
-use Rattle.std.proofs.Common.{◌≡◌, ℕ, zero, suc, ◌+◌, ◌<◌, ◌≤◌, ◌⊎◌, inl, inr, List, [], ◌∷◌, ◌++◌, length, drop, Bool, true, false, not, ◌&&◌, ◌||◌, if◌then◌else◌, Option, Some, None, refl, sym, ap, ◌∙◌, subst, append_assoc, arith}
+use Rattle.std.proofs.Common.{◌≡◌, ℕ, zero, suc, ◌+◌, ◌<◌, ◌≤◌, ◌⊎◌, inl, inr, List, [], ◌∷◌, ◌++◌, length, get_or, drop, Bool, true, false, not, ◌&&◌, ◌||◌, if◌then◌else◌, Option, Some, None, refl, sym, ap, ◌∙◌, subst, append_assoc, arith}
 use Rattle.std.specs.Prelude.{codes, bytes_eq}
 use Rattle.std.specs.List.{insert, list_any, position_from}
 use Rattle.std.proofs.lemmas.List.{append-nil}
@@ -28,7 +28,7 @@ drop_behind (y ∷ xs) (suc p) (suc n) x le within = drop_behind xs p n x (omega
 
 -- ---- the last of a name
 
-last_bound : (ns : List (List ℕ)) (name : List ℕ) (k : ℕ) (found : Option ℕ) (m : ℕ) → last_from ns name k found ≡ Some m → (found ≡ Some m) ⊎ (k ≤ m)
+pub last_bound : (ns : List (List ℕ)) (name : List ℕ) (k : ℕ) (found : Option ℕ) (m : ℕ) → last_from ns name k found ≡ Some m → (found ≡ Some m) ⊎ (k ≤ m)
 last_bound [] name k found m h = inl h
 last_bound (n ∷ ns) name k found m h = by (same_name n name) (last_bound ns name (k + 1) (if same_name n name then Some k else found) m h)
   where
@@ -105,6 +105,30 @@ more_short before (n ∷ ns) = by (is_run_name n && not (has_name n before)) (mo
     by : (c : Bool) → length (more (before ++ n ∷ []) ns) ≤ length ns → length (if c then n ∷ more (before ++ n ∷ []) ns else []) ≤ length (n ∷ ns)
     by true rest = omega (arith, rest)
     by false rest = omega arith
+
+-- each of the names that are added is that of a map's lump
+pub more_named : (before ns : List (List ℕ)) (j : ℕ) (d : List ℕ) → j < length (more before ns) → is_run_name (get_or ns j d) ≡ true
+unfolding more
+more_named before [] j d lt = absurd (omega (arith, lt))
+more_named before (n ∷ ns) j d lt = by (is_run_name n) (has_name n before) refl (λ k l. more_named (before ++ n ∷ []) ns k d l) j lt
+  where
+    by : (r b : Bool) → is_run_name n ≡ r → ((k : ℕ) → k < length (more (before ++ n ∷ []) ns) → is_run_name (get_or ns k d) ≡ true) → (i : ℕ) → i < length (if r && not b then n ∷ more (before ++ n ∷ []) ns else []) → is_run_name (get_or (n ∷ ns) i d) ≡ true
+    by true false e rest zero l = e
+    by true false e rest (suc i) l = rest i (omega (arith, l))
+    by true true e rest i l = absurd (omega (arith, l))
+    by false b e rest i l = absurd (omega (arith, l))
+
+-- a name that is put in behind what ends a run leaves the run as it is
+pub more_stays : (p : ℕ) (before ns : List (List ℕ)) (x : List ℕ) → length (more before ns) < p → p ≤ length ns → more before (insert ns p x) ≡ more before ns
+unfolding more
+more_stays zero before ns x lt le = absurd (omega (arith, lt))
+more_stays (suc p) before [] x lt le = absurd (omega (arith, le))
+more_stays (suc p) before (n ∷ ns) x lt le = by (is_run_name n && not (has_name n before)) (λ l. more_stays p (before ++ n ∷ []) ns x l (omega (arith, le))) lt
+  where
+    by : (c : Bool) → (length (more (before ++ n ∷ []) ns) < p → more (before ++ n ∷ []) (insert ns p x) ≡ more (before ++ n ∷ []) ns) → length (if c then n ∷ more (before ++ n ∷ []) ns else []) < suc p
+        → (if c then n ∷ more (before ++ n ∷ []) (insert ns p x) else []) ≡ (if c then n ∷ more (before ++ n ∷ []) ns else [])
+    by true rest l = ap (λ (ms : List (List ℕ)). n ∷ ms) (rest (omega (arith, l)))
+    by false rest l = refl
 
 abbrev pub word : List ℕ
 word = codes "REJECT"

@@ -5,4 +5,5 @@ pub mod Printed
 pub mod Inserted
 pub mod Spots
 pub mod Rewritten
+pub mod Moved
 pub mod Eight

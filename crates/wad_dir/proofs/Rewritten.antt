@@ -17,7 +17,7 @@ use Rattle.wad_dir.proofs.Spots.{IsSpot, place, spot_at, spot_from, spot_parts}
 
 -- ---- lists
 
-map_insert : {X Y : Type 0} (f : X → Y) (xs : List X) (i : ℕ) (x : X) → map f (insert xs i x) ≡ insert (map f xs) i (f x)
+pub map_insert : {X Y : Type 0} (f : X → Y) (xs : List X) (i : ℕ) (x : X) → map f (insert xs i x) ≡ insert (map f xs) i (f x)
 map_insert f xs zero x = refl
 map_insert f [] (suc i) x = refl
 map_insert {X} {Y} f (y ∷ xs) (suc i) x = ap (λ (ys : List Y). f y ∷ ys) (map_insert f xs i x)
@@ -27,7 +27,7 @@ get_at xs zero x le = refl
 get_at [] (suc i) x le = absurd (omega (arith, le))
 get_at (y ∷ xs) (suc i) x le = get_at xs i x (omega (arith, le))
 
-get_before : {X : Type 0} (xs : List X) (i k : ℕ) (x : X) → i ≤ length xs → k < i → slice_get (insert xs i x) k ≡ slice_get xs k
+pub get_before : {X : Type 0} (xs : List X) (i k : ℕ) (x : X) → i ≤ length xs → k < i → slice_get (insert xs i x) k ≡ slice_get xs k
 get_before xs zero k x le lt = absurd (omega (arith, lt))
 get_before [] (suc i) k x le lt = absurd (omega (arith, le))
 get_before (y ∷ xs) (suc i) zero x le lt = refl
@@ -44,7 +44,7 @@ get_set [] i x lt = absurd (omega (arith, lt))
 get_set (y ∷ xs) zero x lt = refl
 get_set (y ∷ xs) (suc i) x lt = get_set xs i x (omega (arith, lt))
 
-get_other : {X : Type 0} (xs : List X) (i k : ℕ) (x : X) → k ≢ i → slice_get (set xs i x) k ≡ slice_get xs k
+pub get_other : {X : Type 0} (xs : List X) (i k : ℕ) (x : X) → k ≢ i → slice_get (set xs i x) k ≡ slice_get xs k
 get_other [] i k x other = refl
 get_other (y ∷ xs) zero zero x other = absurd (other refl)
 get_other (y ∷ xs) zero (suc k) x other = refl

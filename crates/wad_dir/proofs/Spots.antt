@@ -91,12 +91,18 @@ behind_by : (marker : ℕ) (after : List (List ℕ)) → spot_behind marker afte
 unfolding spot_behind
 behind_by marker after = λ i. spot_in marker (begins_with_behavior (drop (length (run_is [] after i)) after)) (run_is [] after i)
 
-of_by : Option ℕ → List (List ℕ) → Result MapSpot MapFault
+-- the spot of a map whose marker is the last of its name
+pub of_by : Option ℕ → List (List ℕ) → Result MapSpot MapFault
 of_by o ns = elim o [ None ↦ Err fault.NoMarker | Some marker ↦ spot_behind marker (drop (marker + 1) ns) ]
 
-spot_of_by : (ns : List (List ℕ)) (name : List ℕ) → spot_of ns name ≡ of_by (last_from ns name 0 None) ns
+pub spot_of_by : (ns : List (List ℕ)) (name : List ℕ) → spot_of ns name ≡ of_by (last_from ns name 0 None) ns
 unfolding spot_of of_by
 spot_of_by ns name = refl
+
+-- a name that no entry has finds no map
+pub none_found : (ns : List (List ℕ)) (name : List ℕ) → last_from ns name 0 None ≡ None → spot_of ns name ≡ Err fault.NoMarker
+unfolding of_by
+none_found ns name e = spot_of_by ns name ∙ ap (λ (o : Option ℕ). of_by o ns) e
 
 -- the parts of a spot that was found
 pub spot_parts : (ns : List (List ℕ)) (name : List ℕ) (spot : MapSpot) → spot_of ns name ≡ Ok spot → IsSpot ns name spot

@@ -8,5 +8,5 @@ mod parts;
 
 pub use directory::{lump, read_wad};
 pub use laws::{prints_its_length, reads_what_is_printed};
-pub use map::find_map;
+pub use map::{find_map, is_map_lump, is_same_name, spot_after};
 pub use parts::{Entry, Kind, MapSpot, Wad};

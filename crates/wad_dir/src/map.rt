@@ -6,7 +6,8 @@ ghost use Rattle.wad_dir.specs.Map.{same_name, last_from, run_from, is_run_name,
 use crate::parts::{Entry, MapSpot, Wad};
 use sight_names::{Lump, MapFault};
 
-fn is_same_name(a: &[u8], b: &[u8]) -> bool
+/// Whether two names are the same: up to their first NUL, in upper or in lower case.
+pub fn is_same_name(a: &[u8], b: &[u8]) -> bool
     ensures { result ≡ same_name a.now b.now }
 {
     let mut rest = b;
@@ -46,7 +47,8 @@ fn last_named(entries: &[Entry], name: &[u8]) -> Option<usize>
     found
 }
 
-fn is_map_lump(name: &[u8]) -> bool
+/// Whether this is the name of one of a map's own lumps.
+pub fn is_map_lump(name: &[u8]) -> bool
     ensures { result ≡ is_run_name name.now }
 {
     is_same_name(name, b"THINGS")
@@ -158,7 +160,8 @@ fn spot(marker: usize, hexen: bool, run: &[Entry]) -> Result<MapSpot, MapFault>
     })
 }
 
-fn spot_after(marker: usize, after: &[Entry]) -> Result<MapSpot, MapFault>
+/// Where the lumps of a map stand behind whose marker these entries follow, or the first that is missing.
+pub fn spot_after(marker: usize, after: &[Entry]) -> Result<MapSpot, MapFault>
     requires { marker + 1 + length after.now ≤ 65536 }
     ensures spot { result ≡ spot_behind marker (entry_names after.now) }
     ensures linedefs { IfOk result (λ spot. spot.linedefs ≤ marker + length after.now) }

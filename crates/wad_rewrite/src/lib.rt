@@ -7,4 +7,4 @@ mod rewrite;
 
 pub use laws::rewritten_is_read;
 pub use lumps::OutputLump;
-pub use rewrite::{with_reject, write_wad};
+pub use rewrite::{lumps_of, reject_lump, with_reject, write_wad};

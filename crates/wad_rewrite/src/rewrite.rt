@@ -4,7 +4,7 @@ ghost use Rattle.std.specs.Prelude.{◌≡◌, ◌+◌, ◌*◌, ◌≤◌, ◌^
 ghost use Rattle.std.specs.Option.{ForSome};
 ghost use Rattle.std.specs.Int.{w32, to_le_bytes};
 ghost use Rattle.wad_dir.specs.Wad.{WadFile, file_of, lump_under, magic};
-ghost use Rattle.wad_dir.specs.Print.{body, directory_from, lumps_with_reject, printed_len, with_reject};
+ghost use Rattle.wad_dir.specs.Print.{body, directory_from, lumps_with_reject, printed_len, reject_lump, with_reject};
 ghost use Rattle.wad_rewrite.specs.Rewrite.{Writes, printed};
 ghost use Rattle.wad_rewrite.specs.Lumps.{view, views};
 
@@ -33,7 +33,8 @@ fn lump_of<'a>(bytes: &'a [u8], entry: &Entry) -> OutputLump<'a>
     }
 }
 
-fn lumps_of<'a>(
+/// The lumps of these entries, in order.
+pub fn lumps_of<'a>(
     alloc: Global,
     bytes: &'a [u8],
     entries: &[Entry],
@@ -46,6 +47,16 @@ fn lumps_of<'a>(
         lumps.push(lump_of(bytes, entry))?;
     }
     Ok(lumps)
+}
+
+/// A REJECT of these bytes.
+pub fn reject_lump<'a>(table: &'a [u8]) -> OutputLump<'a>
+    ensures { view result ≡ reject_lump table.now }
+{
+    OutputLump {
+        name: REJECT_NAME,
+        bytes: table,
+    }
 }
 
 fn replace_reject<'a>(
@@ -61,11 +72,7 @@ fn replace_reject<'a>(
     match spot.reject {
         Some(place) => lumps[place as usize].bytes = table,
         None => {
-            let reject = OutputLump {
-                name: REJECT_NAME,
-                bytes: table,
-            };
-            lumps.insert(behind, reject)?;
+            lumps.insert(behind, reject_lump(table))?;
         }
     }
     Ok(())
