@@ -2,6 +2,7 @@
 
 use crate::table::first_wrong;
 use std::test::Fail;
+use worked_maps::certs::digits_named;
 
 /// The order `zero`: what it writes, what it refuses, and what stands where something fails.
 const ZERO: &str = "\
@@ -171,13 +172,17 @@ a=U =4400, c=#U-CERT @118:1:00 | check a MAP01 c | 1 | no cert: order 116
 a=U =4400, c=#U-CERT @140:1:03 | check a MAP01 c | 1 | no cert: range 140
 a=U =4400, c=#U-CERT @154:1:05 | check a MAP01 c | 1 | no cert: range 154
 a=U =4400, c=#U-CERT @157:1:00 | check a MAP01 c | 1 | no cert: order 157
-a=U =4400, c=#U-CERT @142:8:ffffffffffffffff | check a MAP01 c | 1 | no cert: short 161
 a=U =4400, c=#U-CERT @161:0:00 | check a MAP01 c | 1 | no cert: trailing 161
-a=U =4400, c=#U-CERT @0:161: | check a MAP01 c | 1 | no cert: short 0
 a=U =4400, c=#U-CERT @3:158: | check a MAP01 c | 1 | no cert: short 0
 a=U =4400, c=#U-CERT @4:157: | check a MAP01 c | 1 | no cert: short 4
 a=U =4400, c=#U-CERT @139:22: | check a MAP01 c | 1 | no cert: short 132
 a=U =4400, c=#U-CERT @160:1: | check a MAP01 c | 1 | no cert: short 159
+# counts that no bytes bear out: of triangles, rays, listed pairs, trees and nodes. What they would need isn't asked for
+a=U =4400, c=#U-CERT @12:4:00200000 @92:69: | check a MAP01 c | 1 | no cert: short 92
+a=U =4400, c=#U-CERT @16:4:ffffffff @140:21: | check a MAP01 c | 1 | no cert: short 140
+a=U =4400, c=#U-CERT @20:4:ffffffff @140:21: | check a MAP01 c | 1 | no cert: short 140
+a=U =4400, c=#U-CERT @24:4:ffffffff | check a MAP01 c | 1 | no cert: short 161
+a=U =4400, c=#U-CERT @142:8:ffffffffffffffff | check a MAP01 c | 1 | no cert: short 161
 # faults
 a=U =4400 | check a MAP01 c | 3 | refused: no file cert
 a=U =4400, c=#U-CERT, reads=2 | check a MAP01 c | 4 | refused: read fault cert
@@ -325,11 +330,17 @@ fn each_proper_prefix_is_refused(rt: HostRuntime) -> Result<(), Fail> {
         )?;
         assert_eq!(rt; first_wrong(&rt, alloc, &row)?.as_str(), "");
     }
-    for len in 0..161u32 {
-        let row = format!(in alloc;
-            "a=U =4400, c=#U-CERT @{len}:161: | check a MAP01 c | 1 | no cert: short .."
-        )?;
-        assert_eq!(rt; first_wrong(&rt, alloc, &row)?.as_str(), "");
+    let mut at = 0usize;
+    for field in digits_named("U-CERT").split_whitespace() {
+        let end = at.wrapping_add(field.len() / 2);
+        for len in at..end {
+            let row = format!(in alloc;
+                "a=U =4400, c=#U-CERT @{len}:161: | check a MAP01 c | 1 | no cert: short {at}"
+            )?;
+            assert_eq!(rt; first_wrong(&rt, alloc, &row)?.as_str(), "");
+        }
+        at = end;
     }
+    assert_eq!(rt; at, 161);
     Ok(())
 }

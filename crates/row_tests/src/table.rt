@@ -11,7 +11,8 @@ use std::alloc::{AllocError, Global};
 use std::thread::Threads;
 use worked_maps::files::bytes_of;
 
-fn part(row: &str, k: usize) -> &str {
+/// The part of a row behind so many bars.
+pub fn part(row: &str, k: usize) -> &str {
     row.split('|').nth(k).unwrap_or("").trim()
 }
 

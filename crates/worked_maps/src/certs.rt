@@ -1,7 +1,7 @@
 //! Whole files as text: certificates, and a WAD.
 
 /// The certificate of the map U and its table 4400: a header, eight triangles, two rays, no listed pair, and the tree of
-/// sector 0.
+/// sector 0. Each word is a field.
 const U_CERT: &str = "\
 44534354 0100 0300 0a00 0c00 08000000 02000000 00000000 01000000
 0000 0300 0400 0000
@@ -46,7 +46,7 @@ cc0000001a000000534543544f525300
 e60000000100000052454a4543540000
 ";
 
-/// The hexadecimal digits of a file of this name.
+/// The hexadecimal digits of a file of this name, and blanks between them; nothing where there is none.
 pub fn digits_named(name: &str) -> &'static str {
     match name {
         "U-CERT" => U_CERT,

@@ -1,7 +1,7 @@
 //! Worked maps and certificates as whole files, and made-up maps. For the tests of the crates beside it.
 #![tactic(auto)]
 
-mod certs;
+pub mod certs;
 pub mod dice;
 pub mod files;
 pub mod maps;

@@ -1,0 +1,274 @@
+#!/usr/bin/env python3
+"""Each request for memory of a run refused, one a run.
+
+    bench/refused_memory.py [--program PATH] [--tests PATH] [--cc CC]
+
+A small library stands before the C library's malloc and its like. It refuses the first request of a run, of the next run the second, and so
+on, until a run makes fewer; requests of threads, and of the C library where it starts them, count too. What is run:
+
+- the program, for every verb over real files; its outputs hold something else before, so that one sees whether they were touched;
+- with --tests the test of thread_rows that builds over files in memory (crates/thread_rows/out/thread_rows_tests, made by `rt test`).
+
+Each run has to end by itself, within a minute, and so all workers have returned, in one of these ways:
+
+- memory: code 12, no line, and no file touched;
+- done: code, line and files of the run to which nothing is refused (of a build by three workers `check` says yes to table and certificate);
+- read fault or write fault, where opening a file or printing was refused: what was stored before is whole, the file itself is as before
+  or a front, all others are as before.
+
+And certificates whose counts no bytes bear out: `check` asks for fewer bytes, all requests together, than for the whole certificate that
+they were made of.
+The status is 1 where anything is otherwise.
+
+Found: the runs of thirteen orders make 1,674 requests (a build of U by three workers 202, one of a made map 376). With one of 1,649 refused the run
+ended by memory, and with one of 25 it was done, as a thread that can't be started is done without; no fault of reading or writing came.
+"""
+import argparse
+import collections
+import os
+import shutil
+import struct
+import subprocess
+import sys
+import tempfile
+
+HERE = os.path.dirname(os.path.abspath(__file__))
+CRATES = os.path.join(HERE, "..", "crates")
+TEST = "memory::a_build_by_three_workers_stores_all_or_nothing"
+
+LIBRARY = r"""
+#include <errno.h>
+#include <fcntl.h>
+#include <stdlib.h>
+#include <sys/mman.h>
+
+void *__libc_malloc(size_t), *__libc_calloc(size_t, size_t), *__libc_realloc(void *, size_t), *__libc_memalign(size_t, size_t);
+
+/* The number of the request to refuse, how many came, and for how many bytes. */
+static volatile unsigned long *page;
+
+static int is_refused(size_t size) {
+    if (!page) return 0;
+    __atomic_add_fetch(&page[2], size, __ATOMIC_SEQ_CST);
+    if (__atomic_add_fetch(&page[1], 1, __ATOMIC_SEQ_CST) != page[0]) return 0;
+    errno = ENOMEM;
+    return 1;
+}
+
+void *malloc(size_t size) { return is_refused(size) ? 0 : __libc_malloc(size); }
+void *calloc(size_t many, size_t size) { return is_refused(size && many > -1UL / size ? -1UL : many * size) ? 0 : __libc_calloc(many, size); }
+void *realloc(void *old, size_t size) { return is_refused(size) ? 0 : __libc_realloc(old, size); }
+void *memalign(size_t align, size_t size) { return is_refused(size) ? 0 : __libc_memalign(align, size); }
+void *aligned_alloc(size_t align, size_t size) { return memalign(align, size); }
+int posix_memalign(void **place, size_t align, size_t size) {
+    void *made = memalign(align, size);
+    if (!made) return ENOMEM;
+    *place = made;
+    return 0;
+}
+
+__attribute__((constructor)) static void begin(void) {
+    int file = open(getenv("REQUESTS"), O_RDWR);
+    void *made = mmap(0, 4096, PROT_READ | PROT_WRITE, MAP_SHARED, file, 0);
+    if (made == MAP_FAILED) abort();
+    page = made;
+}
+"""
+
+OLD = b"what was there before"
+ROLES = {"wad": "out.wad", "cert": "new.cert"}
+
+# The words of each verb, and its outputs in order. `u.wad` has no table, `built.wad` and `u.cert` are those of a build of it.
+ORDERS = [
+    ("build u.wad MAP01 out.wad --cert new.cert --workers 3", ["out.wad", "new.cert"]),
+    ("build u.wad MAP01 out.wad --cert new.cert --workers 1", ["out.wad", "new.cert"]),
+    ("build u.wad MAP01 out.wad --budget 1", ["out.wad"]),
+    ("grid 2 --workers 3", []),
+    ("zero u.wad MAP01 out.wad", ["out.wad"]),
+    ("check built.wad MAP01 u.cert", []),
+    ("audit u.wad MAP01", []),
+    ("need u.wad MAP01", []),
+    ("trace u.wad MAP01 5L,5R,-1,0,32", []),
+    ("ray u.wad MAP01 5L,5R,-1,0,32", []),
+    ("sound u.wad MAP01", []),
+    ("sound u.wad MAP01 0 2", []),
+    ("paint u.wad MAP01 out.wad", ["out.wad"]),
+]
+
+# Where the worked certificate of U has a count, how many bytes of it, and where it is cut off, so that the count can't be borne out.
+COUNTS = [("rays", 16, 4, 140), ("listed pairs", 20, 4, 140), ("trees", 24, 4, 161), ("nodes", 142, 8, 161)]
+
+Ended = collections.namedtuple("Ended", "status line errors count asked")
+
+
+class Folder:
+    """A folder with the files of all runs, and the library."""
+
+    def __init__(self, place, program, compiler):
+        self.place, self.program = place, os.path.abspath(program)
+        self.library, self.page = os.path.join(place, "refuse.so"), os.path.join(place, "requests")
+        source = os.path.join(place, "refuse.c")
+        with open(source, "w") as held:
+            held.write(LIBRARY)
+        subprocess.run([compiler, "-O1", "-shared", "-fPIC", "-fno-builtin", "-o", self.library, source], check=True)
+        shutil.copy(os.path.join(CRATES, "doomsight", "data", "u.wad"), self.path("u.wad"))
+        self.refused(0, [self.program, *"build u.wad MAP01 built.wad --cert u.cert --workers 1".split()])
+
+    def path(self, name):
+        return os.path.join(self.place, name)
+
+    def held(self, name):
+        """The bytes of a file, None where there is none."""
+        if not os.path.exists(self.path(name)):
+            return None
+        with open(self.path(name), "rb") as file:
+            return file.read()
+
+    def put(self, name, held):
+        with open(self.path(name), "wb") as file:
+            file.write(held)
+
+    def refused(self, number, words):
+        """A run whose request of this number is refused; of which none is where the number is 0."""
+        self.put("requests", struct.pack("<QQQ", number, 0, 0) + bytes(4096 - 24))
+        env = {"LD_PRELOAD": self.library, "REQUESTS": self.page}
+        run = subprocess.run(words, cwd=self.place, env=env, stdin=subprocess.DEVNULL, capture_output=True, timeout=60)
+        _, count, asked = struct.unpack_from("<QQQ", self.held("requests"))
+        return Ended(run.returncode, run.stdout, run.stderr, count, asked)
+
+    def ordered(self, number, words, outputs):
+        """The same of the program, whose outputs hold something else before."""
+        for name in outputs:
+            self.put(name, OLD)
+        return self.refused(number, [self.program, *words.split()])
+
+    def is_whole(self, words, base, name):
+        """Whether an output is what the run to which nothing is refused writes; of a certificate by several workers, whether it is accepted."""
+        if name == "new.cert" and "--workers 3" in words:
+            return self.refused(0, [self.program, *"check built.wad MAP01 new.cert".split()]).status == 0
+        return self.held(name) == base[name]
+
+    def way(self, words, outputs, base, bytes_of, run):
+        """The way in which a run has ended, None where it is none of those that may be."""
+        untouched = all(self.held(name) == OLD for name in outputs)
+        whole = lambda names: all(self.is_whole(words, bytes_of, name) for name in names)
+        if not base.errors.startswith(run.errors):
+            return None
+        if run.status == 12:
+            return "memory" if untouched and not run.line else None
+        if run.status == base.status and run.line == base.line:
+            return "done" if (whole(outputs) if base.status == 0 else untouched) else None
+        if run.status == 4 and run.line in (b"refused: read fault wad\n", b"refused: read fault cert\n"):
+            return "read fault" if untouched else None
+        if run.status != 5:
+            return None
+        for role, name in ROLES.items():
+            if run.line == b"refused: write fault %s\n" % role.encode() and name in outputs:
+                at = outputs.index(name)
+                is_front = self.held(name) == OLD or bytes_of[name].startswith(self.held(name)) or "--workers 3" in words and name == "new.cert"
+                rest = all(self.held(other) == OLD for other in outputs[at + 1:])
+                return "write fault" if whole(outputs[:at]) and is_front and rest else None
+        if base.line.startswith(run.line):
+            return "write fault" if (whole(outputs) if base.status == 0 else untouched) else None
+        return None
+
+
+def tried(run_of, way_of):
+    """How often runs ended in each way, where one request after the other is refused; the number of the first that ended in none."""
+    ways, number, rest = collections.Counter(), 0, 0
+    while rest < 3:
+        number += 1
+        try:
+            run = run_of(number)
+        except subprocess.TimeoutExpired:
+            return ways, number, "it didn't end"
+        way = way_of(run)
+        if way is None:
+            return ways, number, run
+        # Threads make a few requests more or fewer, so the end is where three runs in turn made fewer.
+        rest = rest + 1 if run.count < number else 0
+        if not rest:
+            ways[way] += 1
+    return ways, number, None
+
+
+def row(title, count, ways, kinds):
+    print("| " + " | ".join(map(str, [title, count] + [ways[kind] for kind in kinds])) + " |", flush=True)
+
+
+def orders(folder):
+    """Tries each verb of the program."""
+    kinds, wrong = ["memory", "done", "read fault", "write fault"], False
+    print("| Words | Requests | " + " | ".join(kinds) + " |\n|" + "---|" * (2 + len(kinds)))
+    for words, outputs in ORDERS:
+        base = folder.ordered(0, words, outputs)
+        bytes_of = {name: folder.held(name) for name in outputs}
+        ways, number, odd = tried(lambda number: folder.ordered(number, words, outputs), lambda run: folder.way(words, outputs, base, bytes_of, run))
+        row("`%s`" % words, base.count, ways, kinds)
+        if odd:
+            print("wrong: %s with request %d refused: %s" % (words, number, odd))
+            wrong = True
+    return wrong
+
+
+def test(folder, tests):
+    """Tries the test that builds over files in memory."""
+    kinds = ["memory", "done", "no room", "before or behind the build"]
+
+    def way(run):
+        said = run.line.decode()
+        for kind, word in [("memory", "no memory\n"), ("done", "done\n"), ("no room", "no room for")]:
+            if word in said and run.status == 0:
+                return kind
+        # The test itself found no memory: it says so, and neither stops at an assertion nor by a signal.
+        return kinds[3] if run.status > 0 and "assert" not in said + run.errors.decode() and "wrong" not in said else None
+
+    ways, number, odd = tried(lambda number: folder.refused(number, [os.path.abspath(tests), TEST]), way)
+    print("\n| Files in memory | Requests | " + " | ".join(kinds) + " |\n|" + "---|" * (2 + len(kinds)))
+    row("`build .. --cert c --workers 3`", number - 3, ways, kinds)
+    if odd:
+        print("wrong: the test with request %d refused: %s" % (number, odd))
+    return bool(odd)
+
+
+def worked_cert():
+    """The worked certificate of U, as the tests have it."""
+    with open(os.path.join(CRATES, "worked_maps", "src", "certs.rt")) as held:
+        digits = held.read().split('U_CERT: &str = "\\\n')[1].split('"')[0]
+    return bytes.fromhex("".join(digits.split()))
+
+
+def counts(folder):
+    """Tries certificates whose counts no bytes bear out."""
+    check = lambda: folder.refused(0, [folder.program, *"check built.wad MAP01 odd.cert".split()])
+    cert = worked_cert()
+    folder.put("odd.cert", cert)
+    whole = check()
+    wrong = whole.status != 0
+    for what, at, size, cut in COUNTS:
+        folder.put("odd.cert", (cert[:at] + b"\xff" * size + cert[at + size:])[:cut])
+        run = check()
+        is_right = run.status == 1 and run.line.startswith(b"no cert: short ") and run.asked < whole.asked
+        print("%s: %s, %d bytes asked for, %d for the whole certificate" % (what, run.line.decode().strip(), run.asked, whole.asked))
+        wrong = wrong or not is_right
+    return wrong
+
+
+def main():
+    parser = argparse.ArgumentParser(description=__doc__, formatter_class=argparse.RawDescriptionHelpFormatter)
+    parser.add_argument("--program", default=os.path.join(CRATES, "doomsight", "out", "doomsight"))
+    parser.add_argument("--tests")
+    parser.add_argument("--cc", default="cc")
+    given = parser.parse_args()
+    with tempfile.TemporaryDirectory() as place:
+        folder = Folder(place, given.program, given.cc)
+        wrong = orders(folder)
+        if given.tests:
+            wrong = test(folder, given.tests) or wrong
+        print()
+        wrong = counts(folder) or wrong
+    sys.exit(1 if wrong else 0)
+
+
+if __name__ == "__main__":
+    main()
