@@ -13,6 +13,11 @@ regroup : {X : Type 0} (front : List X) (n : X) (read : Result (List X × List �
 regroup {X} front n (Ok x) = ap (λ (ns : List X). Ok (ns, x.1)) (simp append_assoc)
 regroup front n (Err f) = refl
 
+-- an answer that is this fault
+pub fails : {Y : Type 0} (f : CertFault) (read : Result Y CertFault) → read ≡ Err f → Fails f read
+fails faults.Memory read h = tt
+fails f read h = h
+
 module _ {X K : Type 0} (one : K → List ℕ → Result (X × List ℕ) CertFault) (key : X → K) where
   pub goes_on : (front : List X) (last : K) (count i : ℕ) (bytes : List ℕ) (n : X) (after : List ℕ) (total : Result (List X × List ℕ) CertFault) → i < count → one last bytes ≡ Ok (n, after)
       → with_front front (records_at one key last (count - i) bytes) ≡ total → with_front (front ++ n ∷ []) (records_at one key (key n) (count - (i + 1)) after) ≡ total
@@ -34,6 +39,11 @@ module _ {X K : Type 0} (one : K → List ℕ → Result (X × List ℕ) CertFau
       → with_front front (records_at one key last (count - i) bytes) ≡ total → Fails e total
   ends faults.Memory front last count i bytes total lt h so_far = tt
   ends f front last count i bytes total lt h so_far = stops front last count i bytes f total lt h so_far
+
+  -- the same of a record that takes no memory
+  pub breaks : (e : CertFault) (front : List X) (last : K) (count i : ℕ) (bytes : List ℕ) (total : Result (List X × List ℕ) CertFault) → i < count → one last bytes ≡ Err e
+      → with_front front (records_at one key last (count - i) bytes) ≡ total → Fails e total
+  breaks e front last count i bytes total lt h so_far = fails e total (stops front last count i bytes e total lt h so_far)
 
   pub is_done : (front : List X) (last : K) (count i : ℕ) (bytes : List ℕ) (total : Result (List X × List ℕ) CertFault) → count ≤ i → with_front front (records_at one key last (count - i) bytes) ≡ total → total ≡ Ok (front, bytes)
   unfolding records_at

@@ -4,12 +4,11 @@ use Rattle.std.specs.Prelude.{replicate}
 use Rattle.std.specs.List.{flat_map, AllByRecursion}
 use Rattle.std.proofs.lemmas.List.{length-append, length-drop, take_at}
 use Rattle.sight_names.specs.declared.faults.CertFault.{CertFault}
-use Rattle.sight_names.specs.declared.faults.CertFault.TheVariants as faults
 use Rattle.sight_tree.specs.declared.Node.{Node}
 use Rattle.sight_tree.specs.declared.Node.TheVariants.{Open, Blocked}
 use Rattle.sight_tree.specs.Spelling.{node_bytes, IsPackable, SpellNodes}
 use Rattle.sight_tree.proofs.ReadBack.{one_list}
-use Rattle.cert_format.specs.Reading.{◌>>=◌, Fails, behind, node_at, nodes_at, records_at}
+use Rattle.cert_format.specs.Reading.{◌>>=◌, behind, node_at, nodes_at, records_at}
 use Rattle.cert_format.proofs.FieldLaws.{IsBytes, bind_ok, ok_is}
 use Rattle.cert_format.proofs.TreeLaws.{FitsInOrder, nodes_take, all_fit}
 
@@ -19,7 +18,7 @@ drops_first : (n : Node) (read : Result (List Node × List ℕ) CertFault) → b
 drops_first n (Ok x) = refl
 drops_first n (Err f) = refl
 
-behind_err : {X : Type 0} (read : Result (X × List ℕ) CertFault) (f : CertFault) → behind read ≡ Err f → read ≡ Err f
+pub behind_err : {X : Type 0} (read : Result (X × List ℕ) CertFault) (f : CertFault) → behind read ≡ Err f → read ≡ Err f
 behind_err (Ok x) f e = absurd cc
 behind_err (Err g) f e = cc
 
@@ -35,18 +34,13 @@ test_goes_on total count i bytes after all lt h so_far =
     let n = bind_ok (node_at total bytes) (λ x. Ok x.1) after h in
     subst (λ (r : List ℕ). behind (nodes_at total (count - (i + 1)) r) ≡ all) (ok_is n.0.1 after n.2) (sym (one_more total count i bytes n.0 lt n.1) ∙ so_far)
 
-stops : (total count i : ℕ) (bytes : List ℕ) (f : CertFault) (all : Result (List ℕ) CertFault) → i < count → behind (node_at total bytes) ≡ Err f
+pub test_stops : (total count i : ℕ) (bytes : List ℕ) (f : CertFault) (all : Result (List ℕ) CertFault) → i < count → behind (node_at total bytes) ≡ Err f
     → behind (nodes_at total (count - i) bytes) ≡ all → all ≡ Err f
 unfolding records_at
-stops total count i bytes f all lt h so_far =
+test_stops total count i bytes f all lt h so_far =
     let k : count - i ≡ suc (count - (i + 1)) = omega arith in
     let one_more : behind (nodes_at total (count - i) bytes) ≡ Err f = rw (k, behind_err (node_at total bytes) f h) refl in
     sym so_far ∙ one_more
-
-pub test_fails : (e : CertFault) (total count i : ℕ) (bytes : List ℕ) (all : Result (List ℕ) CertFault) → i < count → Fails e (behind (node_at total bytes))
-    → behind (nodes_at total (count - i) bytes) ≡ all → Fails e all
-test_fails faults.Memory total count i bytes all lt h so_far = tt
-test_fails f total count i bytes all lt h so_far = stops total count i bytes f all lt h so_far
 
 pub test_ends : (total count i : ℕ) (bytes : List ℕ) (all : Result (List ℕ) CertFault) → count ≤ i → behind (nodes_at total (count - i) bytes) ≡ all → all ≡ Ok bytes
 unfolding records_at

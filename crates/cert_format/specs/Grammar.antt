@@ -1,5 +1,5 @@
 -- The certificate grammar: ranges, orders, and the one spelling (version 1).
-use Rattle.std.specs.Prelude.{◌≡◌, ℕ, ◌+◌, ◌<◌, ◌≤◌, ◌^◌, ◌⊎◌, List, ◌++◌, Some, length, map, drop, slice_get, flat_map, codes, cond, FitsSigned}
+use Rattle.std.specs.Prelude.{◌≡◌, ℕ, ◌+◌, ◌<◌, ◌≤◌, ◌^◌, List, ◌++◌, length, map, drop, flat_map, codes, cond, FitsSigned}
 use Rattle.std.specs.List.{AllByRecursion}
 use Rattle.std.specs.Int.{to_le_bytes, w32, w64, cast_unsigned}
 use Rattle.sight_names.specs.declared.names.Pair.{Pair}

@@ -31,6 +31,11 @@ abbrev pub Gives : {X Y : Type 0} → (X → Y) → Result X CertFault → Resul
 Gives view (Ok x) read = read ≡ Ok (view x)
 Gives view (Err e) read = Fails e read
 
+-- the answer of a call that takes no memory is this one
+abbrev pub GivesExactly : {X Y : Type 0} → (X → Y) → Result X CertFault → Result Y CertFault → Type 0
+GivesExactly view (Ok x) read = read ≡ Ok (view x)
+GivesExactly view (Err f) read = read ≡ Err f
+
 -- where the bytes that are left begin
 abbrev pub begins_at : ℕ → List ℕ → ℕ
 begins_at total bytes = total - length bytes

@@ -3,7 +3,7 @@
 
 ghost use Rattle.std.specs.Prelude.{◌≡◌, ◌-◌, length};
 ghost use Rattle.std.specs.Int.{w16, w32, w64};
-ghost use Rattle.cert_format.specs.Reading.{Gives, number_at, signed_at, number_below, number_known, point_apart, side_at, end_at};
+ghost use Rattle.cert_format.specs.Reading.{GivesExactly, number_at, signed_at, number_below, number_known, point_apart, side_at, end_at};
 
 use sight_names::{CertFault, Side};
 
@@ -14,8 +14,9 @@ pub fn place(total: usize, bytes: &[u8]) -> u64
     total.saturating_sub(bytes.len()) as u64
 }
 
+/// A number of two bytes.
 pub fn u16_at(total: usize, bytes: &[u8]) -> Result<(u16, &[u8]), CertFault>
-    ensures { Gives (λ x. (x.0, x.1.now)) result (number_at w16 total bytes.now) }
+    ensures { GivesExactly (λ x. (x.0, x.1.now)) result (number_at w16 total bytes.now) }
 {
     if bytes.len() < 2 {
         return Err(CertFault::Short {
@@ -26,8 +27,9 @@ pub fn u16_at(total: usize, bytes: &[u8]) -> Result<(u16, &[u8]), CertFault>
     Ok((u16::from_le_bytes([front[0], front[1]]), rest))
 }
 
+/// A number of four bytes.
 pub fn u32_at(total: usize, bytes: &[u8]) -> Result<(u32, &[u8]), CertFault>
-    ensures { Gives (λ x. (x.0, x.1.now)) result (number_at w32 total bytes.now) }
+    ensures { GivesExactly (λ x. (x.0, x.1.now)) result (number_at w32 total bytes.now) }
 {
     if bytes.len() < 4 {
         return Err(CertFault::Short {
@@ -39,8 +41,9 @@ pub fn u32_at(total: usize, bytes: &[u8]) -> Result<(u32, &[u8]), CertFault>
     Ok((number, rest))
 }
 
+/// A number of eight bytes.
 pub fn u64_at(total: usize, bytes: &[u8]) -> Result<(u64, &[u8]), CertFault>
-    ensures { Gives (λ x. (x.0, x.1.now)) result (number_at w64 total bytes.now) }
+    ensures { GivesExactly (λ x. (x.0, x.1.now)) result (number_at w64 total bytes.now) }
 {
     if bytes.len() < 8 {
         return Err(CertFault::Short {
@@ -54,17 +57,19 @@ pub fn u64_at(total: usize, bytes: &[u8]) -> Result<(u64, &[u8]), CertFault>
     Ok((number, rest))
 }
 
+/// A signed number of four bytes.
 #[tactic(auto, unfolding(crate::specs::Reading::signed_at))]
 pub fn i32_at(total: usize, bytes: &[u8]) -> Result<(i32, &[u8]), CertFault>
-    ensures { Gives (λ x. (x.0, x.1.now)) result (signed_at w32 total bytes.now) }
+    ensures { GivesExactly (λ x. (x.0, x.1.now)) result (signed_at w32 total bytes.now) }
 {
     let (bits, rest) = u32_at(total, bytes)?;
     Ok((bits.cast_signed(), rest))
 }
 
+/// A signed number of eight bytes.
 #[tactic(auto, unfolding(crate::specs::Reading::signed_at))]
 pub fn i64_at(total: usize, bytes: &[u8]) -> Result<(i64, &[u8]), CertFault>
-    ensures { Gives (λ x. (x.0, x.1.now)) result (signed_at w64 total bytes.now) }
+    ensures { GivesExactly (λ x. (x.0, x.1.now)) result (signed_at w64 total bytes.now) }
 {
     let (bits, rest) = u64_at(total, bytes)?;
     Ok((bits.cast_signed(), rest))
@@ -73,7 +78,7 @@ pub fn i64_at(total: usize, bytes: &[u8]) -> Result<(i64, &[u8]), CertFault>
 /// A number below the limit.
 #[tactic(auto, unfolding(crate::specs::Reading::number_below))]
 pub fn u16_below(limit: u16, total: usize, bytes: &[u8]) -> Result<(u16, &[u8]), CertFault>
-    ensures { Gives (λ x. (x.0, x.1.now)) result (number_below limit total bytes.now) }
+    ensures { GivesExactly (λ x. (x.0, x.1.now)) result (number_below limit total bytes.now) }
 {
     let (number, rest) = u16_at(total, bytes)?;
     if number < limit {
@@ -88,7 +93,7 @@ pub fn u16_below(limit: u16, total: usize, bytes: &[u8]) -> Result<(u16, &[u8]),
 /// The bytes behind a number that is known before.
 #[tactic(auto, unfolding(crate::specs::Reading::number_known))]
 pub fn u16_known(known: u16, total: usize, bytes: &[u8]) -> Result<&[u8], CertFault>
-    ensures { Gives (λ x. x.now) result (number_known known total bytes.now) }
+    ensures { GivesExactly (λ x. x.now) result (number_known known total bytes.now) }
 {
     let (number, rest) = u16_at(total, bytes)?;
     if number == known {
@@ -109,7 +114,7 @@ pub fn point_at(
     total: usize,
     bytes: &[u8],
 ) -> Result<(u16, &[u8]), CertFault>
-    ensures { Gives (λ x. (x.0, x.1.now)) result (point_apart points p q total bytes.now) }
+    ensures { GivesExactly (λ x. (x.0, x.1.now)) result (point_apart points p q total bytes.now) }
 {
     let (number, rest) = u16_at(total, bytes)?;
     if number < points && number != p && number != q {
@@ -124,7 +129,7 @@ pub fn point_at(
 /// A line's record number, plus 32,768 for its left side.
 #[tactic(auto, unfolding(crate::specs::Reading::side_at))]
 pub fn side_of(lines: u16, total: usize, bytes: &[u8]) -> Result<(Side, &[u8]), CertFault>
-    ensures { Gives (λ x. (x.0, x.1.now)) result (side_at lines total bytes.now) }
+    ensures { GivesExactly (λ x. (x.0, x.1.now)) result (side_at lines total bytes.now) }
 {
     let (number, rest) = u16_at(total, bytes)?;
     let line = number % 32_768;
@@ -141,7 +146,7 @@ pub fn side_of(lines: u16, total: usize, bytes: &[u8]) -> Result<(Side, &[u8]), 
 /// An end of a portal, above the one before it.
 #[tactic(auto, unfolding(crate::specs::Reading::end_at))]
 pub fn end_of(total: usize, before: Option<u16>, bytes: &[u8]) -> Result<(u16, &[u8]), CertFault>
-    ensures { Gives (λ x. (x.0, x.1.now)) result (end_at total before bytes.now) }
+    ensures { GivesExactly (λ x. (x.0, x.1.now)) result (end_at total before bytes.now) }
 {
     let (number, rest) = u16_at(total, bytes)?;
     let ascends = match before {

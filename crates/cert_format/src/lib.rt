@@ -3,16 +3,16 @@
 #![tactic(auto)]
 
 mod cert;
-mod fields;
+pub mod fields;
 mod laws;
 mod pieces;
 mod ranges;
-mod reading;
-mod records;
+pub mod reading;
+pub mod records;
 mod spelled;
 mod writing;
 
-pub use cert::{Cert, Labelled, Sizes};
+pub use cert::{Cert, Counts, Labelled, Sizes};
 pub use laws::one_spelling;
 pub use pieces::Printer;
 pub use reading::read;

@@ -3,7 +3,7 @@
 ghost use Rattle.std.specs.Prelude.{◌≡◌, Some, None, Ok, IfOk};
 ghost use Rattle.cert_format.specs.Parts.{CertParts};
 ghost use Rattle.cert_format.specs.Grammar.{AreSmall, Spells};
-ghost use Rattle.cert_format.specs.Reading.{Gives, triangle_count_at, front_at, counts_at, triangles_at, rays_at, pairs_at, trees_at, reading};
+ghost use Rattle.cert_format.specs.Reading.{Gives, GivesExactly, triangle_count_at, front_at, counts_at, triangles_at, rays_at, pairs_at, trees_at, reading};
 
 use crate::cert::{Cert, Counts, Labelled, Sizes};
 use crate::fields::{place, u16_at, u16_known, u32_at};
@@ -17,8 +17,8 @@ const MAGIC: u32 = 0x5443_5344;
 
 /// The bytes behind magic, version and sizes.
 #[tactic(auto, unfolding(crate::specs::Reading::front_at, crate::specs::Reading::magic_at, crate::specs::Reading::version_at))]
-fn front_of(sizes: Sizes, total: usize, bytes: &[u8]) -> Result<&[u8], CertFault>
-    ensures { Gives (λ x. x.now) result (front_at sizes total bytes.now) }
+pub fn front_of(sizes: Sizes, total: usize, bytes: &[u8]) -> Result<&[u8], CertFault>
+    ensures { GivesExactly (λ x. x.now) result (front_at sizes total bytes.now) }
 {
     let (magic, rest) = u32_at(total, bytes)?;
     if magic != MAGIC {
@@ -35,7 +35,7 @@ fn front_of(sizes: Sizes, total: usize, bytes: &[u8]) -> Result<&[u8], CertFault
 
 #[tactic(auto, unfolding(crate::specs::Reading::triangle_count_at))]
 fn triangle_count(total: usize, bytes: &[u8]) -> Result<(u32, &[u8]), CertFault>
-    ensures { Gives (λ x. (x.0, x.1.now)) result (triangle_count_at total bytes.now) }
+    ensures { GivesExactly (λ x. (x.0, x.1.now)) result (triangle_count_at total bytes.now) }
 {
     let (number, rest) = u32_at(total, bytes)?;
     if number <= 8192 {
@@ -47,9 +47,10 @@ fn triangle_count(total: usize, bytes: &[u8]) -> Result<(u32, &[u8]), CertFault>
     }
 }
 
+/// How many records there are of each kind.
 #[tactic(auto, unfolding(crate::specs::Reading::counts_at))]
-fn counts_of(total: usize, bytes: &[u8]) -> Result<(Counts, &[u8]), CertFault>
-    ensures { Gives (λ x. (record { triangles = x.0.triangles; rays = x.0.rays; listed = x.0.listed; trees = x.0.trees }, x.1.now)) result (counts_at total bytes.now) }
+pub fn counts_of(total: usize, bytes: &[u8]) -> Result<(Counts, &[u8]), CertFault>
+    ensures { GivesExactly (λ x. (record { triangles = x.0.triangles; rays = x.0.rays; listed = x.0.listed; trees = x.0.trees }, x.1.now)) result (counts_at total bytes.now) }
 {
     let (triangles, rest) = triangle_count(total, bytes)?;
     let (rays, rest) = u32_at(total, rest)?;

@@ -2,7 +2,7 @@
 //! their own fields have passed their ranges, a tree once its source has.
 
 ghost use Rattle.std.specs.Prelude.{◌≡◌, Some, None};
-ghost use Rattle.cert_format.specs.Reading.{Gives, behind, comes_after, pair_after, pair_of, triangle_after, triangle_at, sight_line_at, ray_at, pair_at, two_ends_at, three_ends_at, four_ends_at, node_at, nodes_at, tree_at};
+ghost use Rattle.cert_format.specs.Reading.{Gives, GivesExactly, behind, comes_after, pair_after, pair_of, triangle_after, triangle_at, sight_line_at, ray_at, pair_at, two_ends_at, three_ends_at, four_ends_at, node_at, nodes_at, tree_at};
 
 use crate::cert::{Labelled, Sizes};
 use crate::fields::{end_of, i32_at, i64_at, place, point_at, side_of, u16_at, u16_below, u64_at};
@@ -40,6 +40,7 @@ fn pair_before(last: Option<PairRay>) -> Option<Pair>
     }
 }
 
+/// The triangle that comes first, behind the last one.
 #[tactic(auto, unfolding(crate::specs::Reading::triangle_at))]
 pub fn triangle_of(
     sizes: Sizes,
@@ -47,7 +48,7 @@ pub fn triangle_of(
     last: Option<Labelled>,
     bytes: &[u8],
 ) -> Result<(Labelled, &[u8]), CertFault>
-    ensures { Gives (λ x. (x.0, x.1.now)) result (triangle_at sizes total last bytes.now) }
+    ensures { GivesExactly (λ x. (x.0, x.1.now)) result (triangle_at sizes total last bytes.now) }
 {
     let (p, rest) = u16_below(sizes.points, total, bytes)?;
     let (q, rest) = point_at(sizes.points, p, p, total, rest)?;
@@ -66,7 +67,7 @@ pub fn triangle_of(
 
 #[tactic(auto, unfolding(crate::specs::Reading::sight_line_at))]
 fn sight_line_of(lines: u16, total: usize, bytes: &[u8]) -> Result<(Ray, &[u8]), CertFault>
-    ensures { Gives (λ x. (x.0, x.1.now)) result (sight_line_at lines total bytes.now) }
+    ensures { GivesExactly (λ x. (x.0, x.1.now)) result (sight_line_at lines total bytes.now) }
 {
     let (first, rest) = side_of(lines, total, bytes)?;
     let (last, rest) = side_of(lines, total, rest)?;
@@ -83,6 +84,7 @@ fn sight_line_of(lines: u16, total: usize, bytes: &[u8]) -> Result<(Ray, &[u8]),
     Ok((ray, rest))
 }
 
+/// The ray that comes first, behind the one before it.
 #[tactic(auto, unfolding(crate::specs::Reading::ray_at))]
 pub fn ray_of(
     sizes: Sizes,
@@ -90,7 +92,7 @@ pub fn ray_of(
     before: Option<PairRay>,
     bytes: &[u8],
 ) -> Result<(PairRay, &[u8]), CertFault>
-    ensures { Gives (λ x. (x.0, x.1.now)) result (ray_at sizes total before bytes.now) }
+    ensures { GivesExactly (λ x. (x.0, x.1.now)) result (ray_at sizes total before bytes.now) }
 {
     let (from, rest) = u16_below(sizes.sectors, total, bytes)?;
     let (to, rest) = u16_below(sizes.sectors, total, rest)?;
@@ -106,6 +108,7 @@ pub fn ray_of(
     }
 }
 
+/// The listed pair that comes first, behind the one before it.
 #[tactic(auto, unfolding(crate::specs::Reading::pair_at))]
 pub fn listed_of(
     sizes: Sizes,
@@ -113,7 +116,7 @@ pub fn listed_of(
     before: Option<Pair>,
     bytes: &[u8],
 ) -> Result<(Pair, &[u8]), CertFault>
-    ensures { Gives (λ x. (x.0, x.1.now)) result (pair_at sizes total before bytes.now) }
+    ensures { GivesExactly (λ x. (x.0, x.1.now)) result (pair_at sizes total before bytes.now) }
 {
     let (a, rest) = u16_below(sizes.sectors, total, bytes)?;
     let (b, rest) = u16_below(sizes.sectors, total, rest)?;
@@ -130,7 +133,7 @@ pub fn listed_of(
 
 #[tactic(auto, unfolding(crate::specs::Reading::two_ends_at))]
 fn behind_two(total: usize, bytes: &[u8]) -> Result<&[u8], CertFault>
-    ensures { Gives (λ x. x.now) result (behind (two_ends_at total bytes.now)) }
+    ensures { GivesExactly (λ x. x.now) result (behind (two_ends_at total bytes.now)) }
 {
     let (a, rest) = end_of(total, None, bytes)?;
     let (_, rest) = end_of(total, Some(a), rest)?;
@@ -139,7 +142,7 @@ fn behind_two(total: usize, bytes: &[u8]) -> Result<&[u8], CertFault>
 
 #[tactic(auto, unfolding(crate::specs::Reading::three_ends_at))]
 fn behind_three(total: usize, bytes: &[u8]) -> Result<&[u8], CertFault>
-    ensures { Gives (λ x. x.now) result (behind (three_ends_at total bytes.now)) }
+    ensures { GivesExactly (λ x. x.now) result (behind (three_ends_at total bytes.now)) }
 {
     let (a, rest) = end_of(total, None, bytes)?;
     let (b, rest) = end_of(total, Some(a), rest)?;
@@ -149,7 +152,7 @@ fn behind_three(total: usize, bytes: &[u8]) -> Result<&[u8], CertFault>
 
 #[tactic(auto, unfolding(crate::specs::Reading::four_ends_at))]
 fn behind_four(total: usize, bytes: &[u8]) -> Result<&[u8], CertFault>
-    ensures { Gives (λ x. x.now) result (behind (four_ends_at total bytes.now)) }
+    ensures { GivesExactly (λ x. x.now) result (behind (four_ends_at total bytes.now)) }
 {
     let (a, rest) = end_of(total, None, bytes)?;
     let (b, rest) = end_of(total, Some(a), rest)?;
@@ -161,7 +164,7 @@ fn behind_four(total: usize, bytes: &[u8]) -> Result<&[u8], CertFault>
 /// The bytes behind the node that comes first.
 #[tactic(auto, unfolding(crate::specs::Reading::node_at))]
 fn behind_node(total: usize, bytes: &[u8]) -> Result<&[u8], CertFault>
-    ensures { Gives (λ x. x.now) result (behind (node_at total bytes.now)) }
+    ensures { GivesExactly (λ x. x.now) result (behind (node_at total bytes.now)) }
 {
     match bytes {
         [] => Err(CertFault::Short {
@@ -179,7 +182,7 @@ fn behind_node(total: usize, bytes: &[u8]) -> Result<&[u8], CertFault>
 
 /// The bytes behind so many nodes.
 fn behind_nodes(total: usize, count: u64, bytes: &[u8]) -> Result<&[u8], CertFault>
-    ensures { Gives (λ x. x.now) result (behind (nodes_at total count bytes.now)) }
+    ensures { GivesExactly (λ x. x.now) result (behind (nodes_at total count bytes.now)) }
 {
     let mut rest = bytes;
     for _ in 0..count {
@@ -203,6 +206,7 @@ fn nodes_of(
     Ok((nodes, rest))
 }
 
+/// The tree that comes first, with a source above the last one.
 #[tactic(auto, unfolding(crate::specs::Reading::tree_at))]
 pub fn tree_of(
     alloc: Global,

@@ -1,13 +1,13 @@
 use Rattle.std.proofs.Common.{Some, None}
 use Rattle.std.proofs.lemmas.Result.{err_from_is_err_and}
 use Rattle.cert_format.specs.Reading.{pair_at, pairs_at}
-use Rattle.cert_format.proofs.Loop.{goes_on, ends, is_done}
+use Rattle.cert_format.proofs.Loop.{goes_on, breaks, is_done}
 use Rattle.cert_format.proofs.reading.pairs_of.Goals as goal
 
 pub returns-in_err-one : goal.returns-in_err-one
 returns-in_err-one c =
     let p = err_from_is_err_and c.from_residual.result c.from_residual.ensures.1 in
-    rw (p.1, p.2) (ends (pair_at c.args.sizes c.args.total) (λ t. Some t) c.in_err-one.field-0.0 c.loop.pairs.items c.loop.last c.args.count c.loop.counter c.loop.rest.now (pairs_at c.args.sizes c.args.total None c.args.count c.args.bytes.now) c.loop-test.true c.in_err-one.ensures c.loop.invariant)
+    rw (p.1, p.2) (breaks (pair_at c.args.sizes c.args.total) (λ t. Some t) c.in_err-one.field-0.0 c.loop.pairs.items c.loop.last c.args.count c.loop.counter c.loop.rest.now (pairs_at c.args.sizes c.args.total None c.args.count c.args.bytes.now) c.loop-test.true c.in_err-one.ensures c.loop.invariant)
 
 pub loop-preserved : goal.loop-preserved
 loop-preserved c = rw c.in_ok-push.ensures.items (goes_on (pair_at c.args.sizes c.args.total) (λ t. Some t) c.loop.pairs.items c.loop.last c.args.count c.loop.counter c.loop.rest.now c.in_ok-one.one c.in_ok-one.after.now (pairs_at c.args.sizes c.args.total None c.args.count c.args.bytes.now) c.loop-test.true c.in_ok-one.ensures c.loop.invariant)

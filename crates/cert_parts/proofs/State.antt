@@ -1,0 +1,85 @@
+-- What a reader's parts to come are before and behind a step.
+use Rattle.std.proofs.Common.{◌≡◌, ℕ, ◌+◌, ◌-◌, ◌<◌, ◌≤◌, ◌⊎◌, inr, true, false, List, [], ◌++◌, length, take, drop, Result, Ok, Err, refl, sym, ap, subst, ◌∙◌, append_assoc, arith}
+use Rattle.std.proofs.lemmas.List.{append-nil, take-append-drop, length-append, length-take, nil_from_length}
+use Rattle.sight_names.specs.declared.faults.CertFault.{CertFault}
+use Rattle.cert_format.specs.Reading.{◌>>=◌}
+use Rattle.cert_parts.specs.Left.{ReaderState, left_at, parts_left, put_before}
+use Rattle.cert_parts.specs.Steps.{is_done, first_at, width_at}
+use Rattle.cert_parts.proofs.Whole.{longer}
+use Rattle.cert_parts.proofs.First.{First, first_grows, first_takes, some_width, width_stays, still_cut}
+use Rattle.cert_parts.proofs.Order.{left_first, done_left}
+
+-- a piece that is kept
+pub kept_tells : (s new : ReaderState) (piece more : List ℕ) → new.awaited ≡ s.awaited → new.given ≡ s.given + length piece → new.kept ≡ s.kept ++ piece → parts_left s (piece ++ more) ≡ parts_left new more
+unfolding parts_left
+kept_tells s new piece more p q r =
+    let n : s.given + length (piece ++ more) ≡ s.given + length piece + length more = omega (arith, length-append piece more) in
+    rw (p, q, r, n, append_assoc s.kept piece more) refl
+
+-- a record that is there whole: what was kept, and the front of the piece
+pub record IsRecord (s : ReaderState) (piece front rest whole : List ℕ) : Type 0 where
+  pub cut : piece ≡ front ++ rest
+  pub joined : whole ≡ s.kept ++ front
+  pub wide : width_at s.awaited whole ≡ length whole
+
+pub record_is : (s : ReaderState) (piece front rest whole : List ℕ) (width count : ℕ) → length s.kept < width_at s.awaited s.kept → width ≡ width_at s.awaited (s.kept ++ piece) → count ≡ length s.kept → width - count ≤ length piece
+    → front ≡ take (width - count) piece → rest ≡ drop (width - count) piece → whole ≡ s.kept ++ front → IsRecord s piece front rest whole
+record_is s piece front rest whole width count lacks wide counted le f r w =
+    let cut : piece ≡ front ++ rest = rw (f, r) (sym (take-append-drop (width - count) piece)) in
+    let long : length whole ≡ width = omega (arith, ap length w, length-append s.kept front, ap length f, length-take (width - count) piece, le, counted, wide, still_cut s.awaited s.kept piece lacks) in
+    let regrouped : s.kept ++ piece ≡ whole ++ rest = ap (λ (t : List ℕ). s.kept ++ t) cut ∙ sym (append_assoc s.kept front rest) ∙ ap (λ (t : List ℕ). t ++ rest) (sym w) in
+    let some : 0 < length whole = omega (arith, long, wide, some_width s.awaited (s.kept ++ piece)) in
+    record {
+      cut = cut;
+      joined = w;
+      wide = sym (width_stays s.awaited whole rest some) ∙ ap (width_at s.awaited) (sym regrouped) ∙ sym wide ∙ sym long;
+    }
+
+module _ (s : ReaderState) (piece front rest whole : List ℕ) (is : IsRecord s piece front rest whole) (more : List ℕ) where
+  some : 0 < length whole
+  some = subst (λ (n : ℕ). 0 < n) is.wide (some_width s.awaited whole)
+
+  regrouped : s.kept ++ (piece ++ more) ≡ whole ++ (rest ++ more)
+  regrouped =
+      ap (λ (t : List ℕ). s.kept ++ (t ++ more)) is.cut ∙ ap (λ (t : List ℕ). s.kept ++ t) (append_assoc front rest more) ∙ sym (append_assoc s.kept front (rest ++ more)) ∙ ap (λ (t : List ℕ). t ++ (rest ++ more)) (sym is.joined)
+
+  counted : s.given + length (piece ++ more) ≡ s.given + length front + length (rest ++ more)
+  counted = omega (arith, length-append piece more, ap length is.cut, length-append front rest, length-append rest more)
+
+  at_first : parts_left s (piece ++ more)
+      ≡ (longer (rest ++ more) (first_at s.awaited (s.given + length front) whole) >>= λ x. put_before x.0.0 (left_at x.0.1 (s.given + length front + length (rest ++ more)) x.1))
+  unfolding parts_left
+  at_first =
+      let n = s.given + length front + length (rest ++ more) in
+      ap (λ (t : List ℕ). left_at s.awaited (s.given + length (piece ++ more)) t) regrouped
+      ∙ ap (λ (k : ℕ). left_at s.awaited k (whole ++ (rest ++ more))) counted
+      ∙ left_first s.awaited n (whole ++ (rest ++ more)) (inr (omega (arith, some, length-append whole (rest ++ more))))
+      ∙ ap (λ (r : Result First CertFault). r >>= λ x. put_before x.0.0 (left_at x.0.1 n x.1)) (first_grows s.awaited (s.given + length front) whole (rest ++ more) (omega (arith, is.wide)))
+
+  pub fault_told : (f : CertFault) → first_at s.awaited (s.given + length front) whole ≡ Err f → parts_left s (piece ++ more) ≡ Err f
+  fault_told f e = at_first ∙ rw e refl
+
+  pub part_told : (new : ReaderState) (x : First) → first_at s.awaited (s.given + length front) whole ≡ Ok x → new.awaited ≡ x.0.1 → new.given ≡ s.given + length front → new.kept ≡ []
+      → parts_left s (piece ++ more) ≡ put_before x.0.0 (parts_left new (rest ++ more))
+  unfolding parts_left
+  part_told new x e p q r =
+      let nothing : x.1 ≡ [] = nil_from_length x.1 (omega (arith, first_takes s.awaited (s.given + length front) whole x e, is.wide)) in
+      at_first ∙ rw (e, p, q, r, nothing) refl
+
+-- ---- at the end
+
+pub end_told : (s : ReaderState) (f : CertFault) → (is_done s.awaited ≡ false) ⊎ (0 < length s.kept) → first_at s.awaited s.given s.kept ≡ Err f → parts_left s [] ≡ Err f
+unfolding parts_left
+end_told s f owed e =
+    let n : s.given + 0 ≡ s.given = omega arith in
+    rw (n, append-nil s.kept) (left_first s.awaited s.given s.kept owed ∙ rw e refl)
+
+pub done_told : (s : ReaderState) → is_done s.awaited ≡ true → length s.kept ≡ 0 → parts_left s [] ≡ Ok []
+unfolding parts_left
+done_told s h none =
+    let n : s.given + 0 ≡ s.given = omega arith in
+    rw (n, append-nil s.kept) (done_left s.awaited s.given s.kept h none)
+
+-- a record that is cut is not read
+pub not_read : (s : ReaderState) (kept : List ℕ) (x : First) → length s.kept < width_at s.awaited s.kept → kept ≡ s.kept → first_at s.awaited s.given kept ≡ Ok x → ⊥
+not_read s kept x lacks same e = omega (arith, first_takes s.awaited s.given s.kept x (subst (λ (t : List ℕ). first_at s.awaited s.given t ≡ Ok x) same e), lacks)

@@ -1,0 +1,101 @@
+//! The records that a whole certificate has no reader for: a node as a value, and the head of a tree. Both take no
+//! memory.
+
+ghost use Rattle.std.specs.Prelude.{◌≡◌};
+ghost use Rattle.cert_format.specs.Reading.{GivesExactly, two_ends_at, three_ends_at, four_ends_at, node_at};
+ghost use Rattle.cert_parts.specs.Steps.{head_at, node_width};
+
+use block_evidence::Evidence;
+use cert_format::Sizes;
+use cert_format::fields::{end_of, place, u16_below, u64_at};
+use sight_names::CertFault;
+use sight_tree::Node;
+
+#[tactic(auto, unfolding(cert_format::specs::Reading::two_ends_at))]
+fn two_ends(total: usize, bytes: &[u8]) -> Result<(Node, &[u8]), CertFault>
+    ensures { GivesExactly (λ x. (x.0, x.1.now)) result (two_ends_at total bytes.now) }
+{
+    let (a, rest) = end_of(total, None, bytes)?;
+    let (b, rest) = end_of(total, Some(a), rest)?;
+    let ends = [a, b, 0, 0];
+    Ok((Node::Blocked(Evidence { count: 2, ends }), rest))
+}
+
+#[tactic(auto, unfolding(cert_format::specs::Reading::three_ends_at))]
+fn three_ends(total: usize, bytes: &[u8]) -> Result<(Node, &[u8]), CertFault>
+    ensures { GivesExactly (λ x. (x.0, x.1.now)) result (three_ends_at total bytes.now) }
+{
+    let (a, rest) = end_of(total, None, bytes)?;
+    let (b, rest) = end_of(total, Some(a), rest)?;
+    let (c, rest) = end_of(total, Some(b), rest)?;
+    let ends = [a, b, c, 0];
+    Ok((Node::Blocked(Evidence { count: 3, ends }), rest))
+}
+
+#[tactic(auto, unfolding(cert_format::specs::Reading::four_ends_at))]
+fn four_ends(total: usize, bytes: &[u8]) -> Result<(Node, &[u8]), CertFault>
+    ensures { GivesExactly (λ x. (x.0, x.1.now)) result (four_ends_at total bytes.now) }
+{
+    let (a, rest) = end_of(total, None, bytes)?;
+    let (b, rest) = end_of(total, Some(a), rest)?;
+    let (c, rest) = end_of(total, Some(b), rest)?;
+    let (d, rest) = end_of(total, Some(c), rest)?;
+    let ends = [a, b, c, d];
+    Ok((Node::Blocked(Evidence { count: 4, ends }), rest))
+}
+
+/// The node that comes first.
+#[tactic(auto, unfolding(cert_format::specs::Reading::node_at))]
+pub fn node_of(total: usize, bytes: &[u8]) -> Result<(Node, &[u8]), CertFault>
+    ensures { GivesExactly (λ x. (x.0, x.1.now)) result (node_at total bytes.now) }
+{
+    match bytes {
+        [] => Err(CertFault::Short {
+            at: place(total, bytes),
+        }),
+        [0, rest @ ..] => Ok((Node::Open, rest)),
+        [2, rest @ ..] => two_ends(total, rest),
+        [3, rest @ ..] => three_ends(total, rest),
+        [4, rest @ ..] => four_ends(total, rest),
+        [_, ..] => Err(CertFault::OutOfRange {
+            at: place(total, bytes),
+        }),
+    }
+}
+
+/// How many bytes a node takes that begins with this byte; one where no node does.
+pub fn node_width(first: u8) -> usize
+    ensures { result ≡ node_width first }
+{
+    match first {
+        0 => 1,
+        2 => 5,
+        3 => 7,
+        4 => 9,
+        _ => 1,
+    }
+}
+
+/// The source of the tree that comes first, above the last one, and how many nodes it has.
+#[tactic(auto, unfolding(crate::specs::Steps::head_at))]
+pub fn head_of(
+    sizes: Sizes,
+    total: usize,
+    last: Option<u16>,
+    bytes: &[u8],
+) -> Result<((u16, u64), &[u8]), CertFault>
+    ensures { GivesExactly (λ x. (x.0, x.1.now)) result (head_at sizes total last bytes.now) }
+{
+    let (source, rest) = u16_below(sizes.sectors, total, bytes)?;
+    let behind = match last {
+        None => true,
+        Some(other) => other < source,
+    };
+    if !behind {
+        return Err(CertFault::NotSorted {
+            at: place(total, bytes),
+        });
+    }
+    let (count, rest) = u64_at(total, rest)?;
+    Ok(((source, count), rest))
+}
