@@ -68,7 +68,7 @@ no_line m facts e hf ht none i l is s = elim s as (λ _. ⊥) [
     number k p h s = sym (facts.number k h) ∙ ap (number_of m) (pt_of_vec (place m k) p s)
 
 module _ (m : Map) (ts : List Triangle) (ws : List Walls) (fs : List ℕ) (d : Ground m ts ws fs) where
-  clean_at : (k : ℕ) (t : Triangle) (g : Tri) → slice_get ts k ≡ Some t → In g (sides (tri_of m t)) → CleanAll m g
+  pub clean_at : (k : ℕ) (t : Triangle) (g : Tri) → slice_get ts k ≡ Some t → In g (sides (tri_of m t)) → CleanAll m g
   clean_at k t g at turn = record { each = λ i l is. clean_of m d.facts ts (numbers fs) d.plain (class_of fs k) g (on_face m ts ws fs d (class_of fs k) k t g at refl turn) i l is }
 
   turn_at : (k : ℕ) (t : Triangle) (g : Tri) → slice_get ts k ≡ Some t → In g (sides (tri_of m t)) → pos 0 <ℤ side g g.c
@@ -78,7 +78,7 @@ module _ (m : Map) (ts : List Triangle) (ws : List Walls) (fs : List ℕ) (d : G
   not_wall : (k : ℕ) (t : Triangle) (e : Edge) (b : Bool) → slice_get ts k ≡ Some t → HasEdge t e → (IsLineEdge m e × (triangle_at ts e ≡ Some k) → IsTrue b) → b ≡ false → ¬ IsLineEdge m e
   not_wall k t e b at has f none line = false≢true (sym none ∙ f (line, only_one m ts d.plain e k t at has))
 
-  free_edge : (k : ℕ) (t : Triangle) (w : Walls) (e : Edge) → slice_get ts k ≡ Some t → slice_get ws k ≡ Some w → IsFreeEdge t w e → HasEdge t e × ¬ IsLineEdge m e
+  pub free_edge : (k : ℕ) (t : Triangle) (w : Walls) (e : Edge) → slice_get ts k ≡ Some t → slice_get ws k ≡ Some w → IsFreeEdge t w e → HasEdge t e × ¬ IsLineEdge m e
   free_edge k t w e at marks free =
       let h = d.walls.each k t w at in
       let same : slice_index_or ws k w ≡ w = get_or_from_slice_get ws k w w marks in
@@ -105,7 +105,7 @@ module _ (m : Map) (ts : List Triangle) (ws : List Walls) (fs : List ℕ) (d : G
       subst (λ (x : Point). Leads m x (centre_of m u)) a.same (subst (λ (x : Point). Leads m (centre (place m link.e.from) (place m link.e.to) (place m a.z)) x) b.same
       (across m (place m link.e.from) (place m link.e.to) (place m a.z) (place m b.z) (clean_at k t _ at a.turn) (clean_at j u _ at_too b.turn) (turn_at k t _ at a.turn) (turn_at j u _ at_too b.turn) (no_line_side k t link.e at free.0 free.1)))
 
-  centre_inside : (k : ℕ) (t : Triangle) → slice_get ts k ≡ Some t → Strict (tri_of m t) (vec (centre_of m t))
+  pub centre_inside : (k : ℕ) (t : Triangle) → slice_get ts k ≡ Some t → Strict (tri_of m t) (vec (centre_of m t))
   centre_inside k t at = centre_strict (place m t.p) (place m t.q) (place m t.r) (turn_at k t (tri_of m t) at (inl refl))
 
   centre_free : (k : ℕ) (t : Triangle) → slice_get ts k ≡ Some t → OnNoLine m (centre_of m t)

@@ -69,7 +69,7 @@ fn label_sides(alloc: Global, faces: &[u16], sides: &[FacedSide]) -> Result<Labe
 }
 
 /// Each triangle's name by its face.
-fn labels_of(
+pub fn labels_of(
     alloc: Global,
     faces: &[u16],
     names: &[Option<u16>],

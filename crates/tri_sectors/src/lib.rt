@@ -3,9 +3,9 @@
 
 mod classes;
 mod connected;
-mod faces;
+pub mod faces;
 mod labelling;
-mod sides;
+pub mod sides;
 
 pub use connected::components;
-pub use labelling::label;
+pub use labelling::{label, labels_of};

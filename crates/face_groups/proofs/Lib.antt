@@ -1,0 +1,6 @@
+pub mod FaceLists
+pub mod NamingOrder
+pub mod Numbers
+pub mod RegroupedPlan
+pub mod Runs
+pub mod Verdicts

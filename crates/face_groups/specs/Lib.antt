@@ -1,0 +1,4 @@
+pub mod NamedFaces
+pub mod Namings
+pub mod Regrouped
+pub mod Verdict

@@ -1,0 +1,2 @@
+//! Proofs alone: the sectors of a face whose sides name several, and sight between groups of sectors.
+#![tactic(auto)]
