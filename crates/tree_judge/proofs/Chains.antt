@@ -13,7 +13,7 @@ use Rattle.sight_names.specs.declared.names.Triangle.{Triangle}
 use Rattle.sight_names.specs.declared.plan.Line.{Line}
 use Rattle.sight_names.specs.Plan.{PlanParts, IsPlan}
 use Rattle.sight_names.specs.Points.{Edge, line_edge}
-use Rattle.sight_names.specs.Map.{Map, MapLine, map_of, looked_up, line_at, sector_on}
+use Rattle.sight_names.specs.Map.{MapLine, map_of, looked_up}
 use Rattle.sight_names.specs.Sequence.{Portal, entry_edge, both_sides, is_root, names_it, root_portal}
 use Rattle.sight_names.proofs.PlanNumbers.{line_edge_of_plan}
 use Rattle.extreme_lines.proofs.EndsLemmas.{get_append}

@@ -1,5 +1,5 @@
 -- Ends of the portals on a path, one code after another.
-use Rattle.std.proofs.Common.{◌≡◌, ℕ, zero, suc, ◌+◌, ◌<◌, ◌≤◌, ◌↔◌, List, [], ◌∷◌, ◌++◌, Option, Some, None, length, get_or, map, take, IsTrue, Bool, refl, sym, ◌∙◌, ap, subst, arith}
+use Rattle.std.proofs.Common.{◌≡◌, ℕ, ◌+◌, ◌<◌, ◌≤◌, ◌↔◌, List, [], ◌∷◌, ◌++◌, Option, Some, length, get_or, map, take, IsTrue, Bool, refl, sym, ◌∙◌, ap, subst, arith}
 use Rattle.std.specs.List.{AllByRecursion, filter_map, slice_get}
 use Rattle.std.specs.Prelude.{IsSome}
 use Rattle.std.proofs.Common.{set}

@@ -12,3 +12,6 @@ pub mod OneAnswer
 pub mod Refuting
 pub mod AllTrees
 pub mod OneTree
+pub mod Walking
+pub mod TreesSoFar
+pub mod TreesTold

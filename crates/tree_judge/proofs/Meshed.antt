@@ -1,5 +1,5 @@
 -- Half-edges of a good mesh: what is behind the portal of a sequence, and behind its two ways out.
-use Rattle.std.proofs.Common.{◌≡◌, ◌≢◌, ℕ, ◌⊎◌, inl, inr, List, Option, Some, None, Bool, true, false, not, IsTrue, refl, sym, ◌∙◌, ap, subst, if◌then◌else◌, eqb-true, eq-eqb}
+use Rattle.std.proofs.Common.{◌≡◌, ◌≢◌, ℕ, ◌⊎◌, inl, inr, List, Option, Some, None, Bool, true, false, not, IsTrue, refl, sym, ◌∙◌, ap, subst, if◌then◌else◌}
 use Rattle.std.specs.List.{slice_get}
 use Rattle.std.specs.Prelude.{option_and_then, option_map}
 use Rattle.std.proofs.lemmas.Bool.{true≢false}
@@ -13,7 +13,7 @@ use Rattle.sight_names.specs.Sequence.{Portal, Left, Right, entry_edge, way_out,
 use Rattle.sight_names.proofs.PlanMap.{plan_is_map}
 use Rattle.mesh_base.proofs.PlanFacts.{plan_facts}
 use Rattle.half_edges.specs.declared.table.HalfEdge.{HalfEdge}
-use Rattle.half_edges.specs.Numbers.{edge, number_of}
+use Rattle.half_edges.specs.Numbers.{edge}
 use Rattle.half_edges.specs.HalfEdges.{entering, way_outside, IsHalfEdge, AreOfGoodMesh}
 use Rattle.half_edges.proofs.Reached.{IsReached, reached, not_reached, outside_is, other_edges}
 use Rattle.sight_tree.specs.WholeTree.{HasNoNode}

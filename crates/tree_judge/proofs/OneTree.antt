@@ -1,6 +1,5 @@
 -- What a judge of trees tells is one: the half-edges of a good mesh, and the first wrong node of the first tree that isn't whole.
-use Rattle.std.proofs.Common.{◌≡◌, ℕ, zero, suc, ◌+◌, ◌*◌, ◌<◌, ◌≤◌, ◌⊎◌, inl, inr, List, [], ◌∷◌, ◌++◌, Option, Some, None, Bool, true, false, length, take, map, refl, sym, ◌∙◌, ap, subst, arith, ◌==◌, if◌then◌else◌, eq-eqb, ◌/◌, ◌%◌}
-use Rattle.std.proofs.lemmas.Bool.Decides.{eqb_tells}
+use Rattle.std.proofs.Common.{◌≡◌, ℕ, zero, suc, ◌+◌, ◌*◌, ◌<◌, ◌≤◌, ◌⊎◌, inl, inr, List, [], ◌∷◌, ◌++◌, Option, Some, None, Bool, true, false, length, take, map, refl, sym, ◌∙◌, ap, subst, arith, ◌==◌, if◌then◌else◌, ◌/◌, ◌%◌}
 use Rattle.std.specs.List.{slice_get, filter_map, cons_option}
 use Rattle.std.proofs.lemmas.Option.{none-some, same_Some, slice_get_within, slice_get-map}
 use Rattle.std.proofs.lemmas.List.{length-map}

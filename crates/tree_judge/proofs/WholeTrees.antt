@@ -1,5 +1,5 @@
 -- Nodes that answer for all that is asked are a whole tree over the mesh.
-use Rattle.std.proofs.Common.{◌≡◌, ◌≢◌, ℕ, zero, suc, ◌+◌, ◌≤◌, inr, List, [], ◌∷◌, ◌++◌, Option, Some, None, length, map, Bool, true, false, not, IsTrue, ◌&&◌, Contains, refl, sym, ◌∙◌, ap, subst, arith, cond}
+use Rattle.std.proofs.Common.{◌≡◌, ◌≢◌, ℕ, zero, suc, ◌+◌, ◌≤◌, inr, List, [], ◌∷◌, ◌++◌, Option, Some, None, length, map, Bool, true, false, not, IsTrue, Contains, refl, sym, ◌∙◌, ap, subst, arith, cond}
 use Rattle.std.specs.List.{slice_get, last_or, filter, filter_map, cons_option, AllByRecursion}
 use Rattle.std.specs.Prelude.{option_and_then, option_map}
 use Rattle.std.proofs.lemmas.List.{append_assoc, length-append, map-append}
@@ -24,7 +24,7 @@ use Rattle.tree_judge.specs.Roots.{way_out_of, root_edge}
 use Rattle.tree_judge.specs.Path.{Pending, pending_way, root_pending, list_of}
 use Rattle.tree_judge.specs.Whole.{ends_through, ways_through, Answers, AreAnswered}
 use Rattle.tree_judge.proofs.Meshed.{AreAllNamed, Enters, IsInner, IsAsked, asked, not_asked, no_node_unasked, node_asked, left_inner, right_inner, passable}
-use Rattle.list_base.proofs.Options.{one_value, some_is_same}
+use Rattle.list_base.proofs.Options.{some_is_same}
 use Rattle.list_base.proofs.Bools.{first_is_not}
 use Rattle.sight_names.proofs.Roots.{root_test}
 

@@ -3,3 +3,5 @@ pub mod Path
 pub mod Roots
 pub mod Whole
 pub mod Trees
+pub mod Walked
+pub mod Heard

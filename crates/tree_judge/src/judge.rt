@@ -39,14 +39,14 @@ pub enum TreeVerdict {
 }
 
 /// So many flags, none of them set.
-fn unmarked(alloc: Global, count: u16) -> Result<Vec<bool>, Memory>
+pub fn unmarked(alloc: Global, count: u16) -> Result<Vec<bool>, Memory>
     ensures { IfOk result (λ v. HasNoMark count v.items) }
 {
     Ok(vec![in alloc; false; count as usize]?)
 }
 
 /// A table of so many sectors, no bit of which is set.
-fn unreached(alloc: Global, count: u16) -> Result<Table, Memory>
+pub fn unreached(alloc: Global, count: u16) -> Result<Table, Memory>
     ensures sectors { IfOk result (λ t. t.n ≡ count) }
     ensures clear { IfOk result (λ t. HasNoBit t) }
 {

@@ -1,10 +1,13 @@
 //! The trees of a certificate judged: each node is asked of a walk through the certificate's own triangles.
 #![tactic(auto)]
 
+mod hearing;
 mod judge;
 mod marks;
 mod roots;
 mod trees;
+mod walk;
 
+pub use hearing::TreeJudge;
 pub use judge::{Reach, TreeVerdict, judge_trees};
 pub use marks::mark;

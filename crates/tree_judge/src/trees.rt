@@ -34,6 +34,15 @@ pub struct Terrain<'a> {
     pub roots: &'a Roots,
 }
 
+/// The portal at a place of the path that no walk has come to.
+fn blank() -> Frame {
+    Frame {
+        left: ORIGIN,
+        right: ORIGIN,
+        right_way: None,
+    }
+}
+
 /// The path buffer, for trees of at most so many nodes.
 pub fn path_of(alloc: Global, trees: &[Tree]) -> Result<Vec<Frame>, Memory>
     ensures { IfOk result (λ v. length v.items ≡ longest_of trees.now) }
@@ -42,12 +51,18 @@ pub fn path_of(alloc: Global, trees: &[Tree]) -> Result<Vec<Frame>, Memory>
     for tree in trees {
         longest = longest.max(tree.nodes.len());
     }
-    let none = Frame {
-        left: ORIGIN,
-        right: ORIGIN,
-        right_way: None,
-    };
-    Ok(vec![in alloc; none; longest]?)
+    Ok(vec![in alloc; blank(); longest]?)
+}
+
+/// Makes the path longer by a place where it has none behind the open portals.
+pub fn make_room(path: &mut Vec<Frame>, depth: usize) -> Result<(), Memory>
+    ensures room { depth ≤ length path.old.items → IfOk result (λ _. depth < length path.new.items) }
+    ensures kept { depth ≤ length path.old.items → IfOk result (λ _. take depth path.new.items ≡ take depth path.old.items) }
+{
+    if depth >= path.len() {
+        path.push(blank())?;
+    }
+    Ok(())
 }
 
 /// The portal of the half-edge, its right way still to come.
@@ -187,13 +202,13 @@ fn is_closed(
 
 /// A walk that follows a tree.
 #[derive(Drop)]
-struct Follow {
+pub struct Follow {
     /// How many open nodes lead to the present one.
-    depth: usize,
+    pub depth: usize,
     /// The place of the next root.
-    root: Option<usize>,
+    pub root: Option<usize>,
     /// The half-edge that is asked now.
-    asked: Option<u16>,
+    pub asked: Option<u16>,
 }
 
 /// The half-edge of the root at this place, and the place of the next one.
@@ -312,7 +327,7 @@ fn block(
 }
 
 /// Whether the node answers for the half-edge that is asked. The next one is asked then.
-fn answer(
+pub fn answer(
     terrain: &Terrain<'_>,
     reached: &mut Table,
     source: u16,
@@ -335,7 +350,7 @@ fn answer(
 }
 
 /// A walk of the source before its first root.
-fn start(terrain: &Terrain<'_>, source: u16, path: &mut [Frame]) -> Follow
+pub fn start(terrain: &Terrain<'_>, source: u16, path: &mut [Frame]) -> Follow
     ensures depth { result.depth ≡ 0 }
     ensures stands { StandsBefore terrain.now.edges.now terrain.now.roots.now.roots.items source (first_at terrain.now.roots.now.first.items source) path.new result }
 {

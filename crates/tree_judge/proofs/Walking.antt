@@ -1,0 +1,79 @@
+-- A walk whose nodes come one by one: what it says of the nodes so far, and of the next one.
+use Rattle.std.proofs.Common.{◌≡◌, ℕ, ◌+◌, ◌<◌, ◌≤◌, List, [], ◌∷◌, ◌++◌, Option, Some, None, length, map, take, refl, sym, ◌∙◌, ap, subst, arith}
+use Rattle.std.proofs.lemmas.List.{append-nil, length_push}
+use Rattle.sight_tree.specs.declared.Node.{Node}
+use Rattle.sight_tree.specs.declared.Tree.{Tree}
+use Rattle.reject_bits.specs.Parts.{TableParts}
+use Rattle.half_edges.specs.declared.table.HalfEdge.{HalfEdge}
+use Rattle.tree_judge.specs.declared.roots.Root.{Root}
+use Rattle.tree_judge.specs.declared.trees.Frame.{Frame}
+use Rattle.tree_judge.specs.declared.trees.Follow.{Follow}
+use Rattle.tree_judge.specs.Roots.{first_at}
+use Rattle.tree_judge.specs.Path.{path_ends, Pending, pending_way, pending_ways, root_pending}
+use Rattle.tree_judge.specs.Whole.{AreAnswered, Notes, IsAt, HasAnswered, HasRefused, StandsBefore, IsWholeFrom, IsFirstWrongFrom}
+use Rattle.tree_judge.specs.Walked.{with_node, IsWalkedAt}
+use Rattle.tree_judge.proofs.Noting.{notes_none}
+use Rattle.tree_judge.proofs.Answering.{IsFollowed, follows_more, wrong_node, missing_node, all_answered}
+
+-- what is still to be asked depends on the open portals of the path alone
+at_same : (xs : List HalfEdge) (roots : List Root) (source : ℕ) (path other : List Frame) (f : Follow) (ps : List Pending) → take f.depth other ≡ take f.depth path → IsAt xs roots source path f ps → IsAt xs roots source other f ps
+at_same xs roots source path other f ps e a = record {
+  es = a.es;
+  chain = a.chain;
+  all = a.all ∙ ap (λ (fs : List Frame). pending_way (path_ends fs) f.asked ++ (pending_ways xs source [] fs ++ map root_pending a.es)) (sym e);
+  last = a.last;
+}
+
+module _ (xs : List HalfEdge) (roots : List Root) (firsts : List (Option ℕ)) (t : Tree) (old : TableParts) where
+  abbrev first : Option ℕ
+  first = first_at firsts t.source
+
+  -- before the first root
+  pub walk_begins : (path : List Frame) (f : Follow) → t.nodes ≡ [] → f.depth ≡ 0 → StandsBefore xs roots t.source first path f → IsWalkedAt xs roots firsts t old old t.source path f
+  walk_begins path f none zero stands = record {
+    source_is = refl;
+    room = omega (arith, zero);
+    depth = omega (arith, zero);
+    each = λ es c. (map root_pending es, [], subst (λ (ns : List Node). AreAnswered xs t.source (map root_pending es) ns (map root_pending es) []) (sym none) (refl, refl), stands.start es c, notes_none t.source old);
+  }
+
+  -- in the words of a loop over a whole tree
+  at_end : (new : TableParts) (source : ℕ) (path : List Frame) (f : Follow) → IsWalkedAt xs roots firsts t old new source path f → IsFollowed xs roots first t.source t.nodes [] (length t.nodes) path f old new
+  at_end new source path f w = record { done = t.nodes; split = sym (append-nil t.nodes); count = refl; depth = w.depth; each = w.each }
+
+  before_node : (n : Node) (new : TableParts) (source : ℕ) (path other : List Frame) (f : Follow) → take f.depth other ≡ take f.depth path → IsWalkedAt xs roots firsts t old new source path f
+      → IsFollowed xs roots first t.source (t.nodes ++ n ∷ []) (n ∷ []) (length t.nodes) other f old new
+  before_node n new source path other f e w = record { done = t.nodes; split = refl; count = refl; depth = w.depth; each = λ es c. go es (w.each es c) }
+    where
+      go : (es : List ℕ) → (ps : List Pending) × (sectors : List ℕ) × AreAnswered xs t.source (map root_pending es) t.nodes ps sectors × IsAt xs roots t.source path f ps × Notes t.source sectors old new
+          → (ps : List Pending) × (sectors : List ℕ) × AreAnswered xs t.source (map root_pending es) t.nodes ps sectors × IsAt xs roots t.source other f ps × Notes t.source sectors old new
+      go es (ps, sectors, answered, at, notes) = (ps, sectors, answered, at_same xs roots t.source path other f ps e at, notes)
+
+  -- the next node answers
+  pub walk_goes_on : (n : Node) (new more : TableParts) (source : ℕ) (path other path_new : List Frame) (f f_new : Follow) → IsWalkedAt xs roots firsts t old new source path f
+      → (f.depth ≤ length path → take f.depth other ≡ take f.depth path) → (f.depth ≤ length path → f.depth < length other) → length path_new ≡ length other
+      → f_new.depth ≤ f.depth + 1 → (source ≡ t.source → HasAnswered xs roots t.source n other f new path_new f_new more) → IsWalkedAt xs roots firsts (with_node n t) old more source path_new f_new
+  walk_goes_on n new more source path other path_new f f_new w kept room same d answered = record {
+    source_is = w.source_is;
+    room = let l : f.depth < length other = room w.room in omega (arith, l, same, d);
+    depth = let h : length (t.nodes ++ n ∷ []) ≡ length t.nodes + 1 = length_push t.nodes n in omega (arith, h, d, w.depth);
+    each = λ es c. subst (λ (ns : List Node). (ps : List Pending) × (sectors : List ℕ) × AreAnswered xs t.source (map root_pending es) ns ps sectors × IsAt xs roots t.source path_new f_new ps × Notes t.source sectors old more) all (after.each es c);
+  }
+    where
+      after : IsFollowed xs roots first t.source (t.nodes ++ n ∷ []) [] (length t.nodes + 1) path_new f_new old more
+      after = follows_more xs roots first t.source (t.nodes ++ n ∷ []) old n [] (length t.nodes) other path_new f f_new new more (before_node n new source path other f (kept w.room) w) (answered w.source_is) d
+
+      all : after.done ≡ t.nodes ++ n ∷ []
+      all = sym (after.split ∙ append-nil after.done)
+
+  -- the next node doesn't
+  pub walk_refuses : (n : Node) (new : TableParts) (source : ℕ) (path other : List Frame) (f : Follow) → IsWalkedAt xs roots firsts t old new source path f
+      → (f.depth ≤ length path → take f.depth other ≡ take f.depth path) → (source ≡ t.source → HasRefused xs roots t.source n other f) → IsFirstWrongFrom xs roots first (with_node n t) (length t.nodes)
+  walk_refuses n new source path other f w kept refused = record { wrong = wrong_node xs roots first t.source (t.nodes ++ n ∷ []) old n [] (length t.nodes) other f new (before_node n new source path other f (kept w.room) w) (refused w.source_is) }
+
+  -- nothing is asked any more, or something is
+  pub walk_is_done : (new : TableParts) (source : ℕ) (path : List Frame) (f : Follow) → IsWalkedAt xs roots firsts t old new source path f → f.asked ≡ None → IsWholeFrom xs roots first t old new
+  walk_is_done new source path f w none = record { whole = all_answered xs roots first t.source t.nodes old [] (length t.nodes) path f new refl (at_end new source path f w) none }
+
+  pub walk_is_not_done : (new : TableParts) (source place : ℕ) (path : List Frame) (f : Follow) → IsWalkedAt xs roots firsts t old new source path f → f.asked ≡ Some place → IsFirstWrongFrom xs roots first t (length t.nodes)
+  walk_is_not_done new source place path f w some = record { wrong = missing_node xs roots first t.source t.nodes old [] (length t.nodes) place path f new refl (at_end new source path f w) some }

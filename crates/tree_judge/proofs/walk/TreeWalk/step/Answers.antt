@@ -1,0 +1,37 @@
+use Rattle.std.proofs.Common.{◌≡◌, ℕ, ◌<◌, ◌++◌, List, length, take, drop, sym, ◌∙◌, subst}
+use Rattle.tree_judge.specs.declared.trees.Frame.{Frame}
+use Rattle.tree_judge.specs.Whole.{HasAnswered, HasRefused}
+use Rattle.tree_judge.specs.Walked.{with_node, IsWalkedAt}
+use Rattle.tree_judge.proofs.Noting.{stored}
+use Rattle.tree_judge.proofs.Walking.{walk_goes_on, walk_refuses}
+use Rattle.tree_judge.proofs.walk.TreeWalk.step.Goals as goal
+
+pub returns-clause-answered : goal.returns-clause-answered
+returns-clause-answered c = λ t old w right.
+    let xs = c.args.terrain.now.edges.now in
+    let roots = c.args.terrain.now.roots.now.roots.items in
+    let firsts = c.args.terrain.now.roots.now.first.items in
+    let path = c.args.self.now.path.items in
+    let f = c.args.self.now.follow in
+    let value : c.as_mut_slice.result.now ≡ c.make_room.new.path.items = c.as_mut_slice.ensures.value in
+    let same : length c.answer.new.path ≡ length c.as_mut_slice.result.now = c.answer.auto.path in
+    let back : take c.make_room.new.path.len (c.answer.new.path ++ drop (length c.answer.new.path) c.make_room.new.path.items) ≡ c.answer.new.path = stored c.answer.new.path _ c.make_room.new.path.len (same ∙ c.as_mut_slice.ensures.len) in
+    subst (λ (fs : List Frame). IsWalkedAt xs roots firsts (with_node c.args.node t) old c.answer.new.reached c.args.self.now.source fs c.answer.new.follow) (sym back)
+    (walk_goes_on xs roots firsts t old c.args.node c.args.reached.now c.answer.new.reached c.args.self.now.source path c.as_mut_slice.result.now c.answer.new.path f c.answer.new.follow w
+    (λ l. subst (λ (fs : List Frame). take f.depth fs ≡ take f.depth path) (sym value) (c.in_ok-make_room.ensures.kept l))
+    (λ l. subst (λ (fs : List Frame). f.depth < length fs) (sym value) (c.in_ok-make_room.ensures.room l))
+    same c.answer.ensures.depth
+    (λ e. subst (λ (s : ℕ). HasAnswered xs roots s c.args.node c.as_mut_slice.result.now f c.args.reached.now c.answer.new.path c.answer.new.follow c.answer.new.reached) e (c.answer.ensures.answered right)))
+
+pub returns-clause-refused : goal.returns-clause-refused
+returns-clause-refused c = λ t old w wrong.
+    let xs = c.args.terrain.now.edges.now in
+    let roots = c.args.terrain.now.roots.now.roots.items in
+    let firsts = c.args.terrain.now.roots.now.first.items in
+    let path = c.args.self.now.path.items in
+    let f = c.args.self.now.follow in
+    let value : c.as_mut_slice.result.now ≡ c.make_room.new.path.items = c.as_mut_slice.ensures.value in
+    let room : f.depth < length c.as_mut_slice.result.now = subst (λ (fs : List Frame). f.depth < length fs) (sym value) (c.in_ok-make_room.ensures.room w.room) in
+    walk_refuses xs roots firsts t old c.args.node c.args.reached.now c.args.self.now.source path c.as_mut_slice.result.now f w
+    (λ l. subst (λ (fs : List Frame). take f.depth fs ≡ take f.depth path) (sym value) (c.in_ok-make_room.ensures.kept l))
+    (λ e. subst (λ (s : ℕ). HasRefused xs roots s c.args.node c.as_mut_slice.result.now f) e (c.answer.ensures.refused wrong room))

@@ -1,0 +1,83 @@
+//! A walk that is asked node by node, without the tree.
+
+ghost use Rattle.std.specs.Prelude.{◌≡◌, ℕ, List, Option, length, true, false, IfOk};
+ghost use Rattle.reject_bits.specs.Parts.{TableParts};
+ghost use Rattle.sight_tree.specs.declared.Tree.{Tree as WalkTree};
+ghost use Rattle.half_edges.specs.declared.table.HalfEdge.{HalfEdge as EdgeOf};
+ghost use Rattle.tree_judge.specs.declared.roots.Root.{Root as RootOf};
+ghost use Rattle.tree_judge.specs.Roots.{first_at};
+ghost use Rattle.tree_judge.specs.Whole.{IsWholeFrom, IsFirstWrongFrom};
+ghost use Rattle.tree_judge.specs.Walked.{begun, with_node, IsWalked};
+
+use crate::trees::{Follow, Frame, Terrain, answer, make_room, start};
+use reject_bits::Table;
+use sight_names::Memory;
+use sight_tree::Node;
+use std::alloc::Global;
+
+/// A walk of a source whose nodes come one by one. Its path grows with its depth.
+#[derive(Drop)]
+pub struct TreeWalk {
+    source: u16,
+    path: Vec<Frame>,
+    follow: Follow,
+}
+
+impl TreeWalk {
+    /// A walk that asks for nothing.
+    pub fn new(alloc: Global) -> TreeWalk {
+        TreeWalk {
+            source: 0,
+            path: Vec::new(alloc),
+            follow: Follow {
+                depth: 0,
+                root: None,
+                asked: None,
+            },
+        }
+    }
+
+    /// The source.
+    pub fn source(&self) -> u16
+        ensures { result ≡ self.now.source }
+    {
+        self.source
+    }
+
+    /// Goes back before the first root, now of this source.
+    pub fn begin(&mut self, terrain: &Terrain<'_>, source: u16)
+        ensures { (t : TableParts) → IsWalked terrain.now.edges.now terrain.now.roots.now.roots.items terrain.now.roots.now.first.items (begun source) t t self.new }
+    {
+        self.source = source;
+        self.follow = start(terrain, source, self.path.as_mut_slice());
+    }
+
+    /// Whether the node answers for what is asked; then the walk stands behind it, and what it enters is noted.
+    pub fn step(
+        &mut self,
+        terrain: &Terrain<'_>,
+        reached: &mut Table,
+        node: Node,
+    ) -> Result<bool, Memory>
+        ensures answered { (t : WalkTree) (old : TableParts) → IsWalked terrain.now.edges.now terrain.now.roots.now.roots.items terrain.now.roots.now.first.items t old reached.old self.old → IfOk result (λ yes. yes ≡ true → IsWalked terrain.now.edges.now terrain.now.roots.now.roots.items terrain.now.roots.now.first.items (with_node node t) old reached.new self.new) }
+        ensures refused { (t : WalkTree) (old : TableParts) → IsWalked terrain.now.edges.now terrain.now.roots.now.roots.items terrain.now.roots.now.first.items t old reached.old self.old → IfOk result (λ yes. yes ≡ false → IsFirstWrongFrom terrain.now.edges.now terrain.now.roots.now.roots.items (first_at terrain.now.roots.now.first.items t.source) (with_node node t) (length t.nodes)) }
+    {
+        make_room(&mut self.path, self.follow.depth)?;
+        Ok(answer(
+            terrain,
+            reached,
+            self.source,
+            self.path.as_mut_slice(),
+            &mut self.follow,
+            node,
+        ))
+    }
+
+    /// Whether nothing is asked any more.
+    pub fn is_done(&self) -> bool
+        ensures whole { (xs : List EdgeOf) (roots : List RootOf) (firsts : List (Option ℕ)) (t : WalkTree) (old new : TableParts) → IsWalked xs roots firsts t old new self.now → result ≡ true → IsWholeFrom xs roots (first_at firsts t.source) t old new }
+        ensures missing { (xs : List EdgeOf) (roots : List RootOf) (firsts : List (Option ℕ)) (t : WalkTree) (old new : TableParts) → IsWalked xs roots firsts t old new self.now → result ≡ false → IsFirstWrongFrom xs roots (first_at firsts t.source) t (length t.nodes) }
+    {
+        self.follow.asked.is_none()
+    }
+}
