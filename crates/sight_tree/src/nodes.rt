@@ -69,6 +69,8 @@ impl Nodes {
     }
 
     /// Adds a node behind the others.
+    // in line with what it calls: a walk notes a node for each sequence that it comes to
+    #[inline(always)]
     pub fn push(&mut self, node: Node) -> Result<(), Memory>
         requires { IsPackable node }
         ensures ok { OnOk result (self.new ≡ self.old ++ node ∷ []) }
@@ -96,6 +98,7 @@ impl Nodes {
     }
 }
 
+#[inline(always)]
 fn put_node(bytes: &mut Vec<u8>, node: &Node) -> Result<(), Memory>
     requires { IsPackable node.now }
     ensures ok { OnOk result (bytes.new.items ≡ bytes.old.items ++ node_bytes node.now) }
@@ -112,6 +115,7 @@ fn put_node(bytes: &mut Vec<u8>, node: &Node) -> Result<(), Memory>
 }
 
 /// Adds the spelling of a node that these ends block.
+#[inline(always)]
 fn put_ends(bytes: &mut Vec<u8>, evidence: &Evidence) -> Result<(), Memory>
     requires { evidence.now.count ≤ 4 }
     ensures ok { OnOk result (bytes.new.items ≡ bytes.old.items ++ node_bytes (Blocked evidence.now)) }
