@@ -1,5 +1,5 @@
 -- The first record that is awaited, whatever its kind.
-use Rattle.std.proofs.Common.{◌≡◌, ℕ, suc, ◌+◌, ◌-◌, ◌<◌, ◌≤◌, Bool, true, false, cond, eqb, ltb, List, [], ◌∷◌, ◌++◌, length, Option, Some, None, IsSome, Result, Ok, Err, refl, sym, ap, subst, ◌∙◌, arith}
+use Rattle.std.proofs.Common.{◌≡◌, ℕ, suc, ◌+◌, ◌-◌, ◌<◌, ◌≤◌, Bool, true, false, cond, not, eqb, ltb, List, [], ◌∷◌, ◌++◌, length, Option, Some, None, IsSome, Result, Ok, Err, refl, sym, ap, subst, ◌∙◌, arith}
 use Rattle.std.proofs.lemmas.Bool.{lt-ltb}
 use Rattle.sight_names.specs.declared.faults.CertFault.{CertFault}
 use Rattle.sight_names.specs.declared.faults.CertFault.TheVariants as faults
@@ -76,12 +76,10 @@ module _ (a : Awaited) where
 
   abbrev chosen : ℕ → List ℕ → Bool → Bool → Bool → Bool → Bool → Bool → FirstRead
   chosen total bytes begun triangles rays listed nodes trees =
-      cond begun
-      (cond triangles (triangle_step a total bytes) (cond rays (ray_step a total bytes) (cond listed (pair_step a total bytes) (cond nodes (node_step a total bytes) (cond trees (head_step a total bytes) (Err (faults.Trailing (begins_at total bytes))))))))
-      (header_step a total bytes)
+      cond (not begun) (header_step a total bytes) (cond triangles (triangle_step a total bytes) (cond rays (ray_step a total bytes) (cond listed (pair_step a total bytes) (cond nodes (node_step a total bytes) (cond trees (head_step a total bytes) (Err (faults.Trailing (begins_at total bytes))))))))
 
   abbrev width : List ℕ → Bool → Bool → Bool → Bool → Bool → Bool → ℕ
-  width bytes begun triangles rays listed nodes trees = cond begun (cond triangles 8 (cond rays 24 (cond listed 4 (cond nodes (first_width bytes) (cond trees 10 1))))) 28
+  width bytes begun triangles rays listed nodes trees = cond (not begun) 28 (cond triangles 8 (cond rays 24 (cond listed 4 (cond nodes (first_width bytes) (cond trees 10 1)))))
 
   chosen_grows : (total : ℕ) (bytes more : List ℕ) (begun triangles rays listed nodes trees : Bool) → width bytes begun triangles rays listed nodes trees ≤ length bytes
       → chosen (total + length more) (bytes ++ more) begun triangles rays listed nodes trees ≡ longer more (chosen total bytes begun triangles rays listed nodes trees)

@@ -1,5 +1,5 @@
 -- One record after the other: the part that comes first, what is awaited behind it, and how many bytes it takes.
-use Rattle.std.specs.Prelude.{ℕ, ◌-◌, List, [], ◌∷◌, Option, Some, None, Result, Ok, Err, Bool, false, nat_lt, ◌==◌, ◌&&◌, if◌then◌else◌}
+use Rattle.std.specs.Prelude.{ℕ, ◌-◌, List, [], ◌∷◌, Option, Some, None, Result, Ok, Err, Bool, false, nat_lt, not, ◌==◌, ◌&&◌, if◌then◌else◌}
 use Rattle.std.specs.Int.{w64}
 use Rattle.sight_names.specs.declared.faults.CertFault.{CertFault}
 use Rattle.sight_names.specs.declared.faults.CertFault.TheVariants as faults
@@ -68,14 +68,13 @@ head_step a total bytes = as_first (head_at a.sizes total a.last_source bytes) (
 -- the nodes of a tree come before the next tree; a byte behind all records is a fault
 unfoldable pub first_at : Awaited → ℕ → List ℕ → FirstRead
 first_at a total bytes =
-    if a.begun then (
-    if nat_lt 0 a.triangles then triangle_step a total bytes
+    if not a.begun then header_step a total bytes
+    else if nat_lt 0 a.triangles then triangle_step a total bytes
     else if nat_lt 0 a.rays then ray_step a total bytes
     else if nat_lt 0 a.listed then pair_step a total bytes
     else if nat_lt 0 a.nodes then node_step a total bytes
     else if nat_lt 0 a.trees then head_step a total bytes
     else Err (faults.Trailing (begins_at total bytes))
-    ) else header_step a total bytes
 
 -- ---- how many bytes it takes
 
@@ -89,11 +88,10 @@ first_width (first ∷ bytes) = node_width first
 
 unfoldable pub width_at : Awaited → List ℕ → ℕ
 width_at a bytes =
-    if a.begun then (
-    if nat_lt 0 a.triangles then 8
+    if not a.begun then 28
+    else if nat_lt 0 a.triangles then 8
     else if nat_lt 0 a.rays then 24
     else if nat_lt 0 a.listed then 4
     else if nat_lt 0 a.nodes then first_width bytes
     else if nat_lt 0 a.trees then 10
     else 1
-    ) else 28
