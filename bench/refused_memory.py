@@ -1,13 +1,11 @@
 #!/usr/bin/env python3
 """Each request for memory of a run refused, one a run.
 
-    bench/refused_memory.py [--program PATH] [--tests PATH] [--cc CC]
+    bench/refused_memory.py [--program PATH] [--cc CC]
 
 A small library stands before the C library's malloc and its like. It refuses the first request of a run, of the next run the second, and so
-on, until a run makes fewer; requests of threads, and of the C library where it starts them, count too. What is run:
-
-- the program, for every verb over real files; its outputs hold something else before, so that one sees whether they were touched;
-- with --tests the test of thread_rows that builds over files in memory (crates/thread_rows/out/thread_rows_tests, made by `rt test`).
+on, until a run makes fewer; requests of threads, and of the C library where it starts them, count too. The program is run for every verb over
+real files; its outputs hold something else before, so that one sees whether they were touched.
 
 Each run has to end by itself, within a minute, and so all workers have returned, in one of these ways:
 
@@ -34,7 +32,6 @@ import tempfile
 
 HERE = os.path.dirname(os.path.abspath(__file__))
 CRATES = os.path.join(HERE, "..", "crates")
-TEST = "memory::a_build_by_three_workers_stores_all_or_nothing"
 
 LIBRARY = r"""
 #include <errno.h>
@@ -211,26 +208,6 @@ def orders(folder):
     return wrong
 
 
-def test(folder, tests):
-    """Tries the test that builds over files in memory."""
-    kinds = ["memory", "done", "no room", "before or behind the build"]
-
-    def way(run):
-        said = run.line.decode()
-        for kind, word in [("memory", "no memory\n"), ("done", "done\n"), ("no room", "no room for")]:
-            if word in said and run.status == 0:
-                return kind
-        # The test itself found no memory: it says so, and neither stops at an assertion nor by a signal.
-        return kinds[3] if run.status > 0 and "assert" not in said + run.errors.decode() and "wrong" not in said else None
-
-    ways, number, odd = tried(lambda number: folder.refused(number, [os.path.abspath(tests), TEST]), way)
-    print("\n| Files in memory | Requests | " + " | ".join(kinds) + " |\n|" + "---|" * (2 + len(kinds)))
-    row("`build .. --cert c --workers 3`", number - 3, ways, kinds)
-    if odd:
-        print("wrong: the test with request %d refused: %s" % (number, odd))
-    return bool(odd)
-
-
 def worked_cert():
     """The worked certificate of U, as the tests have it."""
     with open(os.path.join(CRATES, "worked_maps", "src", "certs.rt")) as held:
@@ -257,14 +234,11 @@ def counts(folder):
 def main():
     parser = argparse.ArgumentParser(description=__doc__, formatter_class=argparse.RawDescriptionHelpFormatter)
     parser.add_argument("--program", default=os.path.join(CRATES, "doomsight", "out", "doomsight"))
-    parser.add_argument("--tests")
     parser.add_argument("--cc", default="cc")
     given = parser.parse_args()
     with tempfile.TemporaryDirectory() as place:
         folder = Folder(place, given.program, given.cc)
         wrong = orders(folder)
-        if given.tests:
-            wrong = test(folder, given.tests) or wrong
         print()
         wrong = counts(folder) or wrong
     sys.exit(1 if wrong else 0)
