@@ -73,12 +73,12 @@ __attribute__((constructor)) static void begin(void) {
 """
 
 OLD = b"what was there before"
-ROLES = {"wad": "out.wad", "cert": "new.cert"}
+ROLES = {"wad": "out.wad", "cert": "new.cert", "report": "report"}
 
 # The words of each verb, and its outputs in order. `u.wad` has no table, `built.wad` and `u.cert` are those of a build of it.
 ORDERS = [
-    ("build u.wad MAP01 out.wad --cert new.cert --workers 3", ["out.wad", "new.cert"]),
-    ("build u.wad MAP01 out.wad --cert new.cert --workers 1", ["out.wad", "new.cert"]),
+    ("build u.wad MAP01 out.wad --cert new.cert --report report --workers 3", ["out.wad", "new.cert", "report"]),
+    ("build u.wad MAP01 out.wad --cert new.cert --report report --workers 1", ["out.wad", "new.cert", "report"]),
     ("build u.wad MAP01 out.wad --budget 1", ["out.wad"]),
     ("grid 2 --workers 3", []),
     ("zero u.wad MAP01 out.wad", ["out.wad"]),

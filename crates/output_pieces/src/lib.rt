@@ -1,6 +1,8 @@
 //! Outputs stored piece by piece, so that none of them stands in memory a second time.
 #![tactic(auto)]
 
+mod report;
 mod spelling;
 
+pub use report::store_report;
 pub use spelling::store_spelling;

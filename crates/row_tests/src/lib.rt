@@ -8,10 +8,10 @@ mod faults;
 #[cfg(test)]
 mod grids;
 #[cfg(test)]
+mod listening;
+#[cfg(test)]
 mod rows;
 #[cfg(test)]
 mod table;
-#[cfg(test)]
-mod told;
 #[cfg(test)]
 mod walks;

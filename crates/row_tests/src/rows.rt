@@ -259,6 +259,23 @@ a=U, appends=1 | build a MAP01 b --cert c --budget 1 | 5 | refused: write fault 
 a=U, creates=0 | build a MAP01 b --cert c --budget 1 | 5 | refused: write fault wad | b=, c=
 a=U, creates=1 | build a MAP01 b --cert c --budget 1 | 5 | refused: write fault cert | b=U =0000, c=
 a=U, puts=0 | build a MAP01 b --cert c --budget 1 | 5 | built MAP01 sectors 3 ~ | b=U =0000, c<=#U-CERT @20:5:0100000000 @92:69:, c>=#00000200
+# reports; the first of those is `set 0 2` and `total set 1 clear 5 listed 0`, each on a line
+a=U | build a MAP01 b --report r | 0 | built MAP01 sectors 3 set 1 clear 5 listed 0 | b=U =4400, c=, r=#736574203020320a746f74616c20736574203120636c6561722035206c697374656420300a
+a=U | build a MAP01 b --cert c --report=r --budget 1 | 0 | built MAP01 sectors 3 set 0 clear 5 listed 1 | b=U =0000, c>=#00000200, r=#6c6973746564203020320a746f74616c20736574203020636c6561722035206c697374656420310a
+| check b MAP01 c | 0 | yes sectors 3 set 0 clear 5 listed 1
+a=PAIR | build a MAP01 b --report r | 0 | built MAP01 sectors 2 set 0 clear 3 listed 0 | r=#746f74616c20736574203020636c6561722033206c697374656420300a
+a=U | build a MAP01 b --report b | 11 | refused: same name | b=
+a=U | build a MAP01 b --report a | 11 | refused: same name | a=U, b=
+a=U | build a MAP01 b --cert r --report r | 11 | refused: same name | b=, r=
+a=OPEN | build a MAP01 b --cert c --report r | 10 | refused: bad map: open 0R | b=, c=, r=
+a=U, appends=1 | build a MAP01 b --cert c --report r --budget 1 | 5 | refused: write fault cert | b=U =0000, c=#U-CERT @20:5:0100000000 @72:89:, r=
+a=U, creates=2 | build a MAP01 b --cert c --report r | 5 | refused: write fault report | b=U =4400, c<=#U-CERT @24:137:, r=
+a=U, creates=1 | build a MAP01 b --report r | 5 | refused: write fault report | b=U =4400, r=
+a=U, appends=2 | build a MAP01 b --cert c --report r | 5 | refused: write fault report | b=U =4400, r=#73657420
+a=U, appends=3 | build a MAP01 b --cert c --report r | 5 | refused: write fault report | b=U =4400, r=#736574203020320a746f74616c20736574203120636c
+a=U, puts=0 | build a MAP01 b --report r | 5 | built MAP01 sectors 3 ~ | b=U =4400, r=#736574203020320a746f74616c20736574203120636c6561722035206c697374656420300a
+a=U | grid 2 --report r | 2 | refused: usage | r=
+a=SQUARE | zero a MAP01 b --report r | 2 | refused: usage | b=, r=
 ";
 
 /// The order `sound`. The flags of line k of a map stand at byte 16 + 14 k of its WAD, in Hexen's format at byte 16 + 16 k.

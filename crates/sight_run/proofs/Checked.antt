@@ -1,6 +1,6 @@
 -- The check of what a build wrote has one answer, and it is yes.
 use Rattle.std.proofs.Common.{◌≡◌, ℕ, zero, suc, ◌+◌, ◌*◌, ◌^◌, ◌<◌, ◌≤◌, inl, inr, List, ◌++◌, length, Bool, true, false, if◌then◌else◌, nat_lt, Option, Some, None, Result, Ok, Err, refl, sym, ap, ◌∙◌, subst, arith}
-use Rattle.std.specs.Prelude.{bytes_eq, codes}
+use Rattle.std.specs.Prelude.{codes}
 use Rattle.std.specs.Option.{option_map}
 use Rattle.std.proofs.lemmas.Bool.{le-ltb}
 use Rattle.std.proofs.lemmas.Bool.Decides.{Decides-eqb}
@@ -32,10 +32,11 @@ use Rattle.sight_status.specs.declared.status.Role.TheVariants as role
 use Rattle.sight_status.specs.declared.status.Status.{Status}
 use Rattle.sight_status.specs.declared.status.Status.TheVariants as status
 use Rattle.sight_status.specs.declared.status.Why.TheVariants as why
-use Rattle.sight_status.specs.Answer.{Answer, ◌>>=◌, IsTheAnswer, only_line}
-use Rattle.sight_run.specs.Build.{BuildCalls, ShowsBuild}
+use Rattle.sight_status.specs.Answer.{Answer, ◌>>=◌, IsTheAnswer, Written, only_line}
+use Rattle.sight_run.specs.Build.{BuildCalls, ShowsBuild, build_writes, report_behind}
 use Rattle.sight_run.specs.Check.{CheckInput, CheckCalls, IsVerdictOn, OnCheckInput, VerdictCalls, check_input, cert_in, of_cert_fetch, of_length, of_reading, reject_of, yes_line}
 use Rattle.map_answers.specs.Input.{LocatedMap, OnFound, found_in}
+use Rattle.sight_run.specs.Heard.{Heard}
 use Rattle.sight_run.specs.Reading.{found_of, of_fetch}
 use Rattle.sight_run.specs.Obeys.{AnswersAsked, IsAnswer}
 use Rattle.sight_run.specs.Run.{IsBrokenBy, RunEnds, StandsUpTo, put_all}
@@ -44,7 +45,7 @@ use Rattle.map_answers.specs.Sound.{OnSoundLines}
 use Rattle.sight_run.specs.Zero.{table_len}
 use Rattle.sight_run.specs.Laws.{BuiltIsChecked, BuiltRunIsChecked, ChecksYes, HaveBoth, IsShort, SaysYes, Sinks, totals_of}
 use Rattle.sight_run.proofs.Round.{IsFoundAgain, found_again, found_then, same_ok}
-use Rattle.sight_run.proofs.Stood.{bytes_of, differ, of_words, under_cert, under_out}
+use Rattle.sight_run.proofs.Stood.{IsOther, before_report, bytes_of, cert_apart, of_words, out_apart, under_cert, under_out}
 use Rattle.sight_run.proofs.Totals.{same_counts}
 use Rattle.list_base.proofs.Options.{some_is_same}
 use Rattle.list_base.proofs.Numbers.{place_within, row_within}
@@ -148,20 +149,21 @@ wad_fetched o name bytes found e lt h =
     by false q = refl
 
 -- the map was found in these bytes, and what was built of it is in these files
-module _ (name out cert : List ℕ) (budget : Ask) (files others : Files) (found : LocatedMap) (answer : Answer) (given : Result Answer Status) where
-  checked : (old : List ℕ) → found_in name old ≡ Ok found → same_name (codes "REJECT") name ≡ false → bytes_eq out cert ≡ false
-      → (shows : ShowsBuild name out (Some cert) budget found answer)
+module _ (name out cert : List ℕ) (reported : Option (List ℕ)) (budget : Ask) (files others : Files) (heard : Heard) (found : LocatedMap) (answer : Answer) (given : Result Answer Status) where
+  checked : (old : List ℕ) → found_in name old ≡ Ok found → same_name (codes "REJECT") name ≡ false → IsOther out (Some cert) × IsOther out reported → IsOther cert reported
+      → (shows : ShowsBuild name out (Some cert) reported budget found heard answer)
       → HaveBoth (put_all files answer.writes) others out cert → IsShort others cert
       → OnFound (found_of out name others) (CheckCalls cert others) given → IsYesFor found.map shows.built.table shows.built.cert given
   unfolding found_of
-  checked old h other apart shows have short q =
+  checked old h other apart other_report shows have short q =
       let spelled : List ℕ = shows.spelled in
+      let both : List Written = build_writes out shows.bytes (Some cert) spelled in
       let table : List ℕ = shows.built.table.bytes in
       let c : CertParts = shows.built.cert in
       let again : IsFoundAgain name found table shows.bytes = found_again name old table shows.bytes found h other shows.made in
-      let all : put_all files answer.writes ≡ put (put files out shows.bytes) cert spelled = ap (λ (x : Answer). put_all files x.writes) shows.is in
-      let at_out : others out ≡ Some shows.bytes = have.at_out ∙ ap (λ (f : Files). f out) all ∙ under_out files out cert shows.bytes spelled apart in
-      let at_cert : others cert ≡ Some spelled = have.at_cert ∙ ap (λ (f : Files). f cert) all ∙ under_cert files out cert shows.bytes spelled in
+      let all : put_all files answer.writes ≡ put_all files (report_behind reported shows.report both) = ap (λ (x : Answer). put_all files x.writes) shows.is in
+      let at_out : others out ≡ Some shows.bytes = have.at_out ∙ ap (λ (f : Files). f out) all ∙ before_report files both reported shows.report out apart.1 ∙ under_out files out cert shows.bytes spelled apart.0 in
+      let at_cert : others cert ≡ Some spelled = have.at_cert ∙ ap (λ (f : Files). f cert) all ∙ before_report files both reported shows.report cert other_report ∙ under_cert files out cert shows.bytes spelled in
       let there : found_of out name others ≡ Ok (found_then found table) = wad_fetched (others out) name shows.bytes (found_then found table) at_out again.short again.again in
       let asked : CheckCalls cert others (found_then found table) given = subst (λ (r : Result LocatedMap Status). OnFound r (CheckCalls cert others) given) there q in
       let len : length table ≡ table_len found.map.sectors = shows.whole.len ∙ ap table_len shows.is_built.sectors in
@@ -172,13 +174,16 @@ module _ (name out cert : List ℕ) (budget : Ask) (files others : Files) (found
       (past_lines found.map (input_as table c) given shows.is_built.fit.ends (subst (λ (r : Result CheckInput Status). OnSoundLines found.map (OnCheckInput found.map r) given) reads asked))
 
 pub built_is_checked : BuiltIsChecked
-built_is_checked build check name out cert files others answer ask h have short =
-    on (found_of ask.wad name files) refl (subst (λ r. AnswersAsked r files (Ok answer)) ask.built h)
+built_is_checked build check name out cert files others heard answer ask h have short =
+    on (found_of ask.wad name files) refl (subst (λ r. AnswersAsked r files heard (Ok answer)) ask.built h)
   where
-    apart : bytes_eq out cert ≡ false
-    apart = differ ask.wad out cert (of_words build _ ask.built)
+    apart : IsOther out (Some cert) × IsOther out ask.report
+    apart = out_apart ask.wad out (Some cert) ask.report (of_words build _ ask.built)
 
-    on : (r : Result LocatedMap Status) → found_of ask.wad name files ≡ r → OnFound r (BuildCalls name out (Some cert) ask.budget) (Ok answer) → SaysYes check name others answer
+    other_report : IsOther cert ask.report
+    other_report = cert_apart ask.wad out cert ask.report (of_words build _ ask.built)
+
+    on : (r : Result LocatedMap Status) → found_of ask.wad name files ≡ r → OnFound r (BuildCalls name out (Some cert) ask.report ask.budget heard) (Ok answer) → SaysYes check name others answer
     on (Err s) e shows = absurd cc
     on (Ok found) e shows =
         let old = bytes_of ask.wad name files found e in
@@ -186,23 +191,24 @@ built_is_checked build check name out cert files others answer ask h have short 
         record {
           counts = counts;
           built = ap (λ (x : Answer). x.line) shows.is;
-          only = λ given q.
-              let asked = subst (λ r. AnswersAsked r others given) ask.checked q in
-              let yes = checked name out cert ask.budget files others found answer given old.bytes old.are ask.other apart shows have short asked in
+          only = λ unheard given q.
+              let asked = subst (λ r. AnswersAsked r others unheard given) ask.checked q in
+              let yes = checked name out cert ask.report ask.budget files others heard found answer given old.bytes old.are ask.other apart other_report shows have short asked in
               let same = same_counts shows.built.table shows.built.cert.listed found.map.sectors yes.totals shows.is_built.symmetric shows.is_built.sectors yes.are in
               yes.is ∙ ap (λ (k : Counts). Ok (only_line (yes_line k.sectors (totals_of k)))) same;
         }
 
 -- ---- the runs
 
-record EndsDone (build : List (List ℕ)) (files stand : Files) (sinks : Sinks) : Type 0 where
+record EndsDone (build : List (List ℕ)) (files stand : Files) (heard : Heard) (sinks : Sinks) : Type 0 where
   answer : Answer
-  called : IsAnswer build files (Ok answer)
+  called : IsAnswer build files heard (Ok answer)
   stands : stand ≡ put_all files answer.writes
   said : sinks.new.held ≡ option_map (λ held. held ++ answer.line) sinks.old.held
 
-ends_done : (build : List (List ℕ)) (files stand : Files) (before after : ShelfState) (sinks : Sinks) → RunEnds build files before after sinks.old sinks.new status.Done → after.files ≡ Some stand → EndsDone build files stand sinks
-ends_done build files stand before after sinks h e = record {
+ends_done : (build : List (List ℕ)) (files stand : Files) (heard : Heard) (before after : ShelfState) (sinks : Sinks) → RunEnds build files heard before after sinks.old sinks.new status.Done → after.files ≡ Some stand
+    → EndsDone build files stand heard sinks
+ends_done build files stand heard before after sinks h e = record {
   answer = h.ends.answer;
   called = h.ends.called.called;
   stands = some_is_same stand (put_all files h.ends.answer.writes) (sym e ∙ h.ends.stands);
@@ -217,24 +223,24 @@ never_broken called Sole which files after line one h =
 never_refused : (called : Result Answer Status → Type 0) (Sole : Type 0) (line : List ℕ) (s : Status) → ((given : Result Answer Status) → called given → given ≡ Ok (only_line line)) → IsTheAnswer Sole called (Err s) → ⊥
 never_refused called Sole line s one h = let e = one (Err s) h.called in absurd cc
 
-ends_yes : (check : List (List ℕ)) (others : Files) (first last : ShelfState) (old new : SinkState) (counts : Counts) (s : Status)
-    → ((given : Result Answer Status) → IsAnswer check others given → given ≡ Ok (only_line (yes_line counts.sectors (totals_of counts))))
-    → RunEnds check others first last old new s → ChecksYes counts old new s
-ends_yes check others first last old new counts status.Done one h =
+ends_yes : (check : List (List ℕ)) (others : Files) (heard : Heard) (first last : ShelfState) (old new : SinkState) (counts : Counts) (s : Status)
+    → ((given : Result Answer Status) → IsAnswer check others heard given → given ≡ Ok (only_line (yes_line counts.sectors (totals_of counts))))
+    → RunEnds check others heard first last old new s → ChecksYes counts old new s
+ends_yes check others heard first last old new counts status.Done one h =
     h.said ∙ ap (λ (l : List ℕ). option_map (λ held. held ++ l) old.held) (h.ends.line_is ∙ ap (λ (a : Answer). a.line) (same_ok h.ends.answer (only_line (yes_line counts.sectors (totals_of counts))) (one (Ok h.ends.answer) h.ends.called.called)))
-ends_yes check others first last old new counts status.Memory one h = tt
-ends_yes check others first last old new counts (status.ReadFault k) one h = tt
-ends_yes check others first last old new counts (status.WriteFault role.Text) one h = tt
-ends_yes check others first last old new counts (status.WriteFault k) one h = never_broken (IsAnswer check others) _ k others last.files _ one h.ends.0
-ends_yes check others first last old new counts s one h = never_refused (IsAnswer check others) _ _ s one h.ends.0
+ends_yes check others heard first last old new counts status.Memory one h = tt
+ends_yes check others heard first last old new counts (status.ReadFault k) one h = tt
+ends_yes check others heard first last old new counts (status.WriteFault role.Text) one h = tt
+ends_yes check others heard first last old new counts (status.WriteFault k) one h = never_broken (IsAnswer check others heard) _ k others last.files _ one h.ends.0
+ends_yes check others heard first last old new counts s one h = never_refused (IsAnswer check others heard) _ _ s one h.ends.0
 
 pub built_run_is_checked : BuiltRunIsChecked
-built_run_is_checked build check name out cert files stand others before after first last building checking s ask ran e have short h =
-    let done = ends_done build files stand before after building ran e in
+built_run_is_checked build check name out cert files stand others heard unheard before after first last building checking s ask ran e have short h =
+    let done = ends_done build files stand heard before after building ran e in
     let both : HaveBoth (put_all files done.answer.writes) others out cert = record { at_out = have.at_out ∙ ap (λ (f : Files). f out) done.stands; at_cert = have.at_cert ∙ ap (λ (f : Files). f cert) done.stands } in
-    let yes = built_is_checked build check name out cert files others done.answer ask done.called both short in
+    let yes = built_is_checked build check name out cert files others heard done.answer ask done.called both short in
     record {
       counts = yes.counts;
       built = done.said ∙ ap (λ (l : List ℕ). option_map (λ held. held ++ l) building.old.held) yes.built;
-      checked = ends_yes check others first last checking.old checking.new yes.counts s yes.only h;
+      checked = ends_yes check others unheard first last checking.old checking.new yes.counts s (yes.only unheard) h;
     }

@@ -151,7 +151,7 @@ module _ (m : Map) (budget : Ask) (one other : Built) (is_one : IsBuiltOf m budg
   one_count = let same = one_table m budget one other is_one is_other whole in_order other_whole other_in_order in same_counts one other same (sym is_one.listed ∙ same.listed ∙ is_other.listed)
 
 pub one_line : BuildsSayOneLine
-one_line name out asked budget found one other p q =
+one_line name out asked reported budget found heard others one other p q =
     ap (λ (a : Answer). a.line) p.is ∙ ap (build_line name) (one_count found.map budget p.built q.built p.is_built p.whole p.in_order q.is_built q.whole q.in_order) ∙ sym (ap (λ (a : Answer). a.line) q.is)
 
 pub one_grid : (n : ℕ) (budget : Ask) (m : Map) (one other : Answer) → ShowsGrid n budget m one → ShowsGrid n budget m other → other ≡ one

@@ -1,16 +1,22 @@
 -- The names of an order's files, what stands under them once its outputs are stored, and the bytes in which a map was found.
-use Rattle.std.proofs.Common.{◌≡◌, ℕ, List, [], ◌∷◌, Bool, true, false, not, ◌||◌, if◌then◌else◌, Option, Some, None, Ok, Err, refl, sym, ap, ◌∙◌, subst}
-use Rattle.std.specs.Prelude.{bytes_eq}
+use Rattle.std.proofs.Common.{◌≡◌, ℕ, List, [], ◌∷◌, ◌++◌, Bool, true, false, not, ◌||◌, if◌then◌else◌, Option, Some, None, Ok, Err, refl, sym, ap, ◌∙◌, subst}
+use Rattle.std.specs.Prelude.{bytes_eq, ⊤}
+use Rattle.std.specs.List.{list_any}
 use Rattle.std.proofs.lemmas.Slice.Eq.{bytes_eq-Decides}
 use Rattle.shelf_io.specs.Shelf.{Files, content_of, put}
 use Rattle.order_words.specs.declared.order.Order.{Order}
 use Rattle.order_words.specs.Words.{order_of}
 use Rattle.sight_status.specs.declared.status.Status.TheVariants as status
+use Rattle.sight_status.specs.Answer.{Written}
 use Rattle.map_answers.specs.Input.{LocatedMap, found_in}
 use Rattle.sight_run.specs.Reading.{found_of, of_fetch}
-use Rattle.sight_run.specs.Words.{asked_of, file_names, has_twice, is_built, of_order}
+use Rattle.sight_run.specs.Build.{report_behind, report_output}
+use Rattle.sight_run.specs.Run.{put_all}
+use Rattle.sight_run.specs.Words.{asked_of, file_names, given, has_twice, is_built, of_order}
 use Rattle.sight_run.proofs.Round.{passes, same_ok}
+use Rattle.sight_run.proofs.Stores.{put_all_pushed}
 use Rattle.shelf_io.proofs.FilesLemmas.{bytes_eq-refl}
+use Rattle.list_base.proofs.Bools.{first_false, second_false}
 
 -- ---- the words
 
@@ -27,17 +33,6 @@ of_words words o h = by (order_of words) h
     by None q = absurd cc
     by (Some x) q = on (is_built x) (has_twice (file_names x)) x refl q
 
-pub differ : (wad out cert : List ℕ) → has_twice (wad ∷ out ∷ cert ∷ []) ≡ false → bytes_eq out cert ≡ false
-differ wad out cert h = by (bytes_eq wad out) (bytes_eq wad cert) (bytes_eq out cert) h
-  where
-    by : (a b c : Bool) → ((a || (b || false)) || ((c || false) || (false || false))) ≡ false → c ≡ false
-    by a b false e = refl
-    by true b true e = absurd cc
-    by false true true e = absurd cc
-    by false false true e = absurd cc
-
--- ---- the files
-
 not_back : (a b : List ℕ) → bytes_eq a b ≡ false → bytes_eq b a ≡ false
 not_back a b h = by (bytes_eq b a) refl
   where
@@ -45,12 +40,47 @@ not_back a b h = by (bytes_eq b a) refl
     by true e = let same : bytes_eq a b ≡ true = (bytes_eq-Decides a b).1 (sym ((bytes_eq-Decides b a).0 e)) in absurd cc
     by false e = refl
 
-pub under_out : (files : Files) (out cert bytes spelled : List ℕ) → bytes_eq out cert ≡ false → put (put files out bytes) cert spelled out ≡ Some bytes
+-- no such file is asked for, or it has another name
+abbrev pub IsOther : List ℕ → Option (List ℕ) → Type 0
+IsOther name None = ⊤
+IsOther name (Some asked) = bytes_eq asked name ≡ false
+
+others : (name : List ℕ) (cert report : Option (List ℕ)) → list_any (bytes_eq name) (given cert ++ given report) ≡ false → IsOther name cert × IsOther name report
+others name None None h = (tt, tt)
+others name (Some c) None h = (not_back name c (first_false (bytes_eq name c) false h), tt)
+others name None (Some r) h = (tt, not_back name r (first_false (bytes_eq name r) false h))
+others name (Some c) (Some r) h = (
+  not_back name c (first_false (bytes_eq name c) (bytes_eq name r || false) h),
+  not_back name r (first_false (bytes_eq name r) false (second_false (bytes_eq name c) (bytes_eq name r || false) h)),
+)
+
+-- the certificate and the report of a build have other names than its output
+pub out_apart : (wad out : List ℕ) (cert report : Option (List ℕ)) → has_twice (wad ∷ out ∷ (given cert ++ given report)) ≡ false → IsOther out cert × IsOther out report
+out_apart wad out cert report h =
+    others out cert report (first_false (list_any (bytes_eq out) (given cert ++ given report)) (has_twice (given cert ++ given report))
+    (second_false (list_any (bytes_eq wad) (out ∷ (given cert ++ given report))) (has_twice (out ∷ (given cert ++ given report))) h))
+
+-- .. and the report has another name than the certificate
+pub cert_apart : (wad out cert : List ℕ) (report : Option (List ℕ)) → has_twice (wad ∷ out ∷ (given (Some cert) ++ given report)) ≡ false → IsOther cert report
+cert_apart wad out cert report h =
+    (others cert None report (first_false (list_any (bytes_eq cert) (given report)) (has_twice (given report))
+    (second_false (list_any (bytes_eq out) (cert ∷ given report)) (has_twice (cert ∷ given report))
+    (second_false (list_any (bytes_eq wad) (out ∷ cert ∷ given report)) (has_twice (out ∷ cert ∷ given report)) h)))).1
+
+-- ---- the files
+
+pub under_out : (files : Files) (out cert bytes spelled : List ℕ) → bytes_eq cert out ≡ false → put (put files out bytes) cert spelled out ≡ Some bytes
 under_out files out cert bytes spelled h =
-    ap (λ (b : Bool). if b then Some spelled else put files out bytes out) (not_back out cert h) ∙ ap (λ (b : Bool). if b then Some bytes else files out) (bytes_eq-refl out)
+    ap (λ (b : Bool). if b then Some spelled else put files out bytes out) h ∙ ap (λ (b : Bool). if b then Some bytes else files out) (bytes_eq-refl out)
 
 pub under_cert : (files : Files) (out cert bytes spelled : List ℕ) → put (put files out bytes) cert spelled cert ≡ Some spelled
 under_cert files out cert bytes spelled = ap (λ (b : Bool). if b then Some spelled else put files out bytes cert) (bytes_eq-refl cert)
+
+-- what stands under another name than that of the report
+pub before_report : (files : Files) (ws : List Written) (asked : Option (List ℕ)) (report name : List ℕ) → IsOther name asked → put_all files (report_behind asked report ws) name ≡ put_all files ws name
+before_report files ws None report name h = refl
+before_report files ws (Some r) report name h =
+    ap (λ (f : Files). f name) (put_all_pushed files ws (report_output r report)) ∙ ap (λ (b : Bool). if b then Some report else put_all files ws name) h
 
 -- ---- the bytes of a map
 

@@ -10,10 +10,15 @@ use Rattle.sight_names.specs.Map.{Map}
 use Rattle.sight_names.specs.Sound.{IsSound, LinesMeetAtEnds}
 use Rattle.sight_names.specs.Table.{table_bit}
 use Rattle.map_audit.specs.Audit.{IsLineFault}
-use Rattle.reject_bits.specs.Parts.{IsWhole, Rejects}
+use Rattle.listeners.specs.declared.finding.Finding.{Finding}
+use Rattle.listeners.specs.Findings.{AreFindings}
+use Rattle.listeners.specs.Listening.{ListenerState, clears_in, lists_in, sets_in}
+use Rattle.listeners.specs.Told.{AreTold, AreToldInTurn, texts}
+use Rattle.reject_bits.specs.Parts.{IsWhole, Rejects, TableParts}
 use Rattle.sight_tree.specs.declared.Tree.{Tree}
 use Rattle.cert_format.specs.Accepted.{IsAccepted, IsNamed}
-use Rattle.cert_format.specs.Grammar.{IsInOrder, Spells}
+use Rattle.cert_format.specs.Grammar.{IsInOrder, Spells, spelling}
+use Rattle.cert_format.specs.Parts.{CertParts}
 use Rattle.sight_job.specs.declared.build.Built.{Built}
 use Rattle.sight_job.specs.Built.{HasRaysOfClear, HasTrianglesOf, IsSymmetric, ListsClear}
 use Rattle.sight_job.specs.Sight.{TellsWhoSees}
@@ -28,6 +33,7 @@ use Rattle.sight_status.specs.declared.status.Status.TheVariants as status
 use Rattle.sight_status.specs.Answer.{Answer, Written}
 use Rattle.map_answers.specs.Counts.{counts_with, counts_words}
 use Rattle.map_answers.specs.Input.{LocatedMap}
+use Rattle.sight_run.specs.Heard.{Heard}
 use Rattle.sight_run.specs.Sizes.{sizes_of_map}
 use Rattle.map_answers.specs.Sound.{HasMixedPair, HasOpenSide, IsAuditRefusal}
 use Rattle.sight_run.specs.Zero.{with_table}
@@ -100,8 +106,36 @@ build_roles (Some name) = role.Wad ∷ role.Cert ∷ []
 abbrev pub build_line : List ℕ → Counts → List ℕ
 build_line name counts = codes "built " ++ name ++ counts_words counts ++ codes "\n"
 
--- The file's WAD with the table that was built, the certificate where it is asked for, and a line with the counts of the table and of the list.
-pub record ShowsBuild (name out : List ℕ) (asked : Option (List ℕ)) (budget : Ask) (found : LocatedMap) (answer : Answer) : Type 0 where
+-- how many of the findings are set, clear and listed
+abbrev pub finding_counts : ℕ → List Finding → Counts
+finding_counts sectors findings = record { sectors = sectors; set = sets_in findings; clear = clears_in findings; listed = lists_in findings }
+
+abbrev pub report_output : List ℕ → List ℕ → Written
+report_output name bytes = record { role = role.Report; name = name; bytes = bytes }
+
+-- the report, where it is asked for
+abbrev pub report_writes : Option (List ℕ) → List ℕ → List Written
+report_writes None report = []
+report_writes (Some name) report = report_output name report ∷ []
+
+abbrev pub report_roles : Option (List ℕ) → List Role
+report_roles None = []
+report_roles (Some name) = role.Report ∷ []
+
+-- these outputs, and behind them the report where it is asked for
+abbrev pub report_behind : Option (List ℕ) → List ℕ → List Written → List Written
+report_behind None report ws = ws
+report_behind (Some name) report ws = ws ++ report_output name report ∷ []
+
+-- an answer, with the report where it is asked for
+abbrev pub with_report : Option (List ℕ) → List ℕ → Result Answer Status → Result Answer Status
+with_report reported report (Ok answer) = Ok (record { writes = report_behind reported report answer.writes; line = answer.line })
+with_report reported report (Err refusal) = Err refusal
+
+-- The file's WAD with the table that was built, the certificate and the report where they are asked for, and a line with the counts of
+-- the table and of the list. The listeners heard the findings of the map within the budget in turn, each that has a quota up to its last
+-- set pair; the report is the texts of those that ended, and then of those that are left.
+pub record ShowsBuild (name out : List ℕ) (asked reported : Option (List ℕ)) (budget : Ask) (found : LocatedMap) (heard : Heard) (answer : Answer) : Type 0 where
   pub built : Built
   pub is_built : IsBuiltOf found.map budget built
   pub whole : IsWhole built.table
@@ -110,7 +144,16 @@ pub record ShowsBuild (name out : List ℕ) (asked : Option (List ℕ)) (budget 
   pub made : with_table found built.table.bytes ≡ Ok bytes
   pub spelled : List ℕ
   pub spells : Spells built.cert.sizes spelled built.cert
-  pub is : answer ≡ record { writes = build_writes out bytes asked spelled; line = build_line name (counts_with built.table (length built.cert.listed)) }
+  pub findings : List Finding
+  pub are_findings : AreFindings found.map is_built.allowed findings
+  pub ended : List ListenerState
+  pub in_turn : AreToldInTurn findings heard.before heard.after ended
+  -- the line counts them
+  pub counted : counts_with built.table (length built.cert.listed) ≡ finding_counts found.map.sectors findings
+  pub report : List ℕ
+  pub report_is : report ≡ texts ended ++ texts heard.after
+  pub told : AreTold findings heard.before heard.after report
+  pub is : answer ≡ record { writes = report_behind reported report (build_writes out bytes asked spelled); line = build_line name (counts_with built.table (length built.cert.listed)) }
 
 -- the WAD with the table that was built is above a limit
 pub record ShowsLimit (budget : Ask) (found : LocatedMap) (bound : Bound) : Type 0 where
@@ -133,13 +176,29 @@ IsUnbuildable (Err refusal) = ⊤
 IsUnbuildable (Ok found) = ¬ IsSound found.map
 
 -- The answer that `build` calls for. Where the map isn't sound it is the refusal of its audit.
-abbrev pub BuildCalls : List ℕ → List ℕ → Option (List ℕ) → Ask → LocatedMap → Result Answer Status → Type 0
-BuildCalls name out asked budget found (Ok answer) = ShowsBuild name out asked budget found answer
-BuildCalls name out asked budget found (Err (status.BadMap (flaw.Line fault))) = IsLineFault found.map fault
-BuildCalls name out asked budget found (Err (status.BadMap (flaw.Open side))) = LinesMeetAtEnds found.map × HasOpenSide found.map side
-BuildCalls name out asked budget found (Err (status.BadMap (flaw.Mixed first second))) = LinesMeetAtEnds found.map × HasMixedPair found.map first second
-BuildCalls name out asked budget found (Err (status.Limit bound)) = ShowsLimit budget found bound
-BuildCalls name out asked budget found (Err other) = ⊥
+abbrev pub BuildCalls : List ℕ → List ℕ → Option (List ℕ) → Option (List ℕ) → Ask → Heard → LocatedMap → Result Answer Status → Type 0
+BuildCalls name out asked reported budget heard found (Ok answer) = ShowsBuild name out asked reported budget found heard answer
+BuildCalls name out asked reported budget heard found (Err (status.BadMap (flaw.Line fault))) = IsLineFault found.map fault
+BuildCalls name out asked reported budget heard found (Err (status.BadMap (flaw.Open side))) = LinesMeetAtEnds found.map × HasOpenSide found.map side
+BuildCalls name out asked reported budget heard found (Err (status.BadMap (flaw.Mixed first second))) = LinesMeetAtEnds found.map × HasMixedPair found.map first second
+BuildCalls name out asked reported budget heard found (Err (status.Limit bound)) = ShowsLimit budget found bound
+BuildCalls name out asked reported budget heard found (Err other) = ⊥
+
+-- ---- parts of it
+
+-- what is made of a table and its certificate before any listener is told: all but the report
+pub record ShowsMade (name out : List ℕ) (asked : Option (List ℕ)) (found : LocatedMap) (table : TableParts) (cert : CertParts) (answer : Answer) : Type 0 where
+  pub whole : IsWhole table
+  pub bytes : List ℕ
+  pub made : with_table found table.bytes ≡ Ok bytes
+  pub is : answer ≡ record { writes = build_writes out bytes asked (spelling cert); line = build_line name (counts_with table (length cert.listed)) }
+
+-- .. or why it isn't
+abbrev pub BuildMakes : List ℕ → List ℕ → Option (List ℕ) → LocatedMap → TableParts → CertParts → Result Answer Status → Type 0
+BuildMakes name out asked found table cert (Ok answer) = ShowsMade name out asked found table cert answer
+BuildMakes name out asked found table cert (Err (status.Limit bound)) = IsWhole table × (with_table found table.bytes ≡ Err (status.Limit bound))
+BuildMakes name out asked found table cert (Err status.Memory) = ⊤
+BuildMakes name out asked found table cert (Err other) = ⊥
 
 -- ---- what all builds of a map have in common
 
@@ -157,4 +216,5 @@ BuildsHaveOneTable = (m : Map) (budget : Ask) (one other : Built) → IsBuiltOf 
 
 -- .. and all that `build` answers of it says one line
 abbrev pub BuildsSayOneLine : Type 0
-BuildsSayOneLine = (name out : List ℕ) (asked : Option (List ℕ)) (budget : Ask) (found : LocatedMap) (one other : Answer) → BuildCalls name out asked budget found (Ok one) → BuildCalls name out asked budget found (Ok other) → one.line ≡ other.line
+BuildsSayOneLine = (name out : List ℕ) (asked reported : Option (List ℕ)) (budget : Ask) (found : LocatedMap) (heard others : Heard) (one other : Answer)
+    → BuildCalls name out asked reported budget heard found (Ok one) → BuildCalls name out asked reported budget others found (Ok other) → one.line ≡ other.line

@@ -18,6 +18,7 @@ use Rattle.sight_status.specs.Answer.{Answer, only_line}
 use Rattle.sight_run.specs.Build.{build_line}
 use Rattle.sight_run.specs.Check.{yes_line}
 use Rattle.map_answers.specs.Input.{LocatedMap}
+use Rattle.sight_run.specs.Heard.{Heard}
 use Rattle.sight_run.specs.Reading.{found_of}
 use Rattle.sight_run.specs.Obeys.{IsAnswer}
 use Rattle.sight_run.specs.Run.{RunEnds, put_all}
@@ -52,12 +53,12 @@ totals_of counts = record { set = counts.set; clear = counts.clear; listed = cou
 pub record SaysYes (check : List (List ℕ)) (name : List ℕ) (others : Files) (answer : Answer) : Type 0 where
   pub counts : Counts
   pub built : answer.line ≡ build_line name counts
-  pub only : (given : Result Answer Status) → IsAnswer check others given → given ≡ Ok (only_line (yes_line counts.sectors (totals_of counts)))
+  pub only : (heard : Heard) (given : Result Answer Status) → IsAnswer check others heard given → given ≡ Ok (only_line (yes_line counts.sectors (totals_of counts)))
 
 -- Where a build is answered, the one answer to the check of what it wrote is yes, with the same counts.
 abbrev pub BuiltIsChecked : Type 0
-BuiltIsChecked = (build check : List (List ℕ)) (name out cert : List ℕ) (files others : Files) (answer : Answer)
-    → AskBoth build check name out cert → IsAnswer build files (Ok answer)
+BuiltIsChecked = (build check : List (List ℕ)) (name out cert : List ℕ) (files others : Files) (heard : Heard) (answer : Answer)
+    → AskBoth build check name out cert → IsAnswer build files heard (Ok answer)
     → HaveBoth (put_all files answer.writes) others out cert → IsShort others cert
     → SaysYes check name others answer
 
@@ -82,10 +83,10 @@ pub record EndWithYes (name : List ℕ) (building checking : Sinks) (s : Status)
 
 -- Where a run of `build` ends with Done, a run of `check` on what stands in its two files then ends with Done.
 abbrev pub BuiltRunIsChecked : Type 0
-BuiltRunIsChecked = (build check : List (List ℕ)) (name out cert : List ℕ) (files stand others : Files) (before after first last : ShelfState) (building checking : Sinks) (s : Status)
-    → AskBoth build check name out cert → RunEnds build files before after building.old building.new status.Done
+BuiltRunIsChecked = (build check : List (List ℕ)) (name out cert : List ℕ) (files stand others : Files) (heard unheard : Heard) (before after first last : ShelfState) (building checking : Sinks) (s : Status)
+    → AskBoth build check name out cert → RunEnds build files heard before after building.old building.new status.Done
     → after.files ≡ Some stand → HaveBoth stand others out cert → IsShort others cert
-    → RunEnds check others first last checking.old checking.new s → EndWithYes name building checking s
+    → RunEnds check others unheard first last checking.old checking.new s → EndWithYes name building checking s
 
 -- ---- what a written WAD keeps
 
@@ -107,12 +108,12 @@ HasTableLength m table = IsTable m.sectors table
 
 -- Where `zero` is answered, OUT holds the WAD with a clear REJECT and all other lumps as they were. The map isn't called REJECT.
 abbrev pub ZeroKeepsLumps : Type 0
-ZeroKeepsLumps = (words : List (List ℕ)) (wad name out : List ℕ) (files : Files) (answer : Answer)
-    → asked_of words ≡ Ok (order.Zero wad name out) → same_name (codes "REJECT") name ≡ false → IsAnswer words files (Ok answer)
+ZeroKeepsLumps = (words : List (List ℕ)) (wad name out : List ℕ) (files : Files) (heard : Heard) (answer : Answer)
+    → asked_of words ≡ Ok (order.Zero wad name out) → same_name (codes "REJECT") name ≡ false → IsAnswer words files heard (Ok answer)
     → KeepsLumps wad name out files (put_all files answer.writes) IsClearTable
 
 -- where `build` is answered, it holds the WAD with a table of the map's sectors and all other lumps as they were
 abbrev pub BuildKeepsLumps : Type 0
-BuildKeepsLumps = (words : List (List ℕ)) (wad name out : List ℕ) (asked report : Option (List ℕ)) (workers : ℕ) (budget : Ask) (files : Files) (answer : Answer)
-    → asked_of words ≡ Ok (order.Build wad name out asked report workers budget) → same_name (codes "REJECT") name ≡ false → IsAnswer words files (Ok answer)
+BuildKeepsLumps = (words : List (List ℕ)) (wad name out : List ℕ) (asked report : Option (List ℕ)) (workers : ℕ) (budget : Ask) (files : Files) (heard : Heard) (answer : Answer)
+    → asked_of words ≡ Ok (order.Build wad name out asked report workers budget) → same_name (codes "REJECT") name ≡ false → IsAnswer words files heard (Ok answer)
     → KeepsLumps wad name out files (put_all files answer.writes) HasTableLength

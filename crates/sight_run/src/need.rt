@@ -1,10 +1,13 @@
 //! The order `need`: how great a budget the sources of a map need, and one that is enough.
 
-ghost use Rattle.std.specs.Prelude.{◌≡◌, IfErr, IfOk, Some};
+ghost use Rattle.std.specs.Prelude.{◌≡◌, IfErr, IfOk, Some, ⊤};
 ghost use Rattle.shelf_io.specs.Shelf.{Files, NoneFell};
 ghost use Rattle.order_words.specs.declared.order.Order.TheVariants.{Need};
+ghost use Rattle.map_answers.specs.Need.{NeedCalls};
+ghost use Rattle.map_answers.specs.Input.{OnFound};
 ghost use Rattle.sight_status.specs.Answer.{Gives};
-ghost use Rattle.sight_run.specs.Obeys.{IsDetermined, Obeys, WritesEach};
+ghost use Rattle.sight_run.specs.Obeys.{WritesEach};
+ghost use Rattle.sight_run.specs.Reading.{found_of};
 ghost use Rattle.sight_run.specs.Reply.{reply_seen, roles_of, writes};
 ghost use Rattle.sight_run.specs.Run.{Cause, IsOfAudit};
 
@@ -22,7 +25,7 @@ pub fn do_need<S: Shelf>(
     wad: &str,
     name: &str,
 ) -> Result<Reply, Status>
-    ensures told { (files : Files) → (S.state shelf.old).files ≡ Some files → Gives (IsDetermined (Need wad.now name.now) files) (Obeys (Need wad.now name.now) files) (reply_seen result) }
+    ensures told { (files : Files) → (S.state shelf.old).files ≡ Some files → Gives ⊤ (OnFound (found_of wad.now name.now files) (λ found. NeedCalls name.now found.map)) (reply_seen result) }
     ensures files { (S.state shelf.new).files ≡ (S.state shelf.old).files }
     ensures counts { NoneFell (S.state shelf.old) (S.state shelf.new) }
     ensures cause { Cause (S.state shelf.old) (S.state shelf.new) result }

@@ -1,0 +1,150 @@
+-- What the listeners have heard where a call ends, by how far it came.
+use Rattle.std.proofs.Common.{◌≡◌, ◌⊎◌, ℕ, inl, inr, List, Option, Some, None, Result, Ok, Err, refl, sym, subst}
+use Rattle.sight_names.specs.declared.names.Ask.{Ask}
+use Rattle.listeners.specs.declared.finding.Finding.{Finding}
+use Rattle.shelf_io.specs.Shelf.{Files, ShelfState}
+use Rattle.shelf_io.specs.Sink.{SinkState}
+use Rattle.order_words.specs.declared.order.Order.{Order}
+use Rattle.order_words.specs.declared.order.Order.TheVariants as order
+use Rattle.sight_status.specs.declared.status.Role.{Role}
+use Rattle.sight_status.specs.declared.status.Role.TheVariants as role
+use Rattle.sight_status.specs.declared.status.Status.{Status}
+use Rattle.sight_status.specs.declared.status.Status.TheVariants as status
+use Rattle.sight_status.specs.Say.{Refused, Said, SaidIfMade, WasDropped}
+use Rattle.sight_status.specs.Status.{IsOfMaking}
+use Rattle.sight_status.specs.Texts.{text_of}
+use Rattle.map_answers.specs.Input.{LocatedMap}
+use Rattle.sight_run.specs.Build.{IsOfBuilding}
+use Rattle.sight_run.specs.Heard.{AllHeard, AreFindingsIn, AreFindingsOf, AreOfFound, BuildHears, FrontsHeard, Heard, Hears, IsUnheard, OrderHears}
+use Rattle.sight_run.specs.Reading.{found_of}
+use Rattle.sight_run.specs.Reply.{IsFaultOf}
+use Rattle.sight_run.specs.Run.{HasLine, IsOfReading, IsUnstored, RefusalCause}
+
+-- ---- nothing was told
+
+pub building_unstored : (s : Status) → IsOfBuilding s → IsUnstored s
+building_unstored (status.BadMap flaw) h = tt
+building_unstored status.Memory h = tt
+building_unstored s h = absurd h
+
+pub making_unstored : (s : Status) → IsOfMaking s → IsUnstored s
+making_unstored status.Done h = absurd h
+making_unstored (status.WriteFault k) h = absurd h
+making_unstored s h = tt
+
+pub reading_unstored : (s : Status) → IsOfReading s → IsUnstored s
+reading_unstored status.Done h = absurd h
+reading_unstored (status.WriteFault k) h = absurd h
+reading_unstored s h = tt
+
+pub build_unheard : (Are : List Finding → Type 0) (heard : Heard) (s : Status) → IsUnheard heard → IsUnstored s → BuildHears Are heard s
+build_unheard Are heard status.Done h early = absurd early
+build_unheard Are heard (status.WriteFault k) h early = absurd early
+build_unheard Are heard status.Memory h early = inl h
+build_unheard Are heard s h early = h
+
+-- ---- findings of a narrower kind
+
+all_wider : (Are More : List Finding → Type 0) (heard : Heard) → ((fs : List Finding) → Are fs → More fs) → AllHeard Are heard → AllHeard More heard
+all_wider Are More heard f h = (h.0, f h.0 h.1, h.2, h.3)
+
+fronts_wider : (Are More : List Finding → Type 0) (heard : Heard) → ((fs : List Finding) → Are fs → More fs) → FrontsHeard Are heard → FrontsHeard More heard
+fronts_wider Are More heard f h = (h.0, f h.0 h.1, h.2)
+
+pub build_wider : (Are More : List Finding → Type 0) (heard : Heard) (s : Status) → ((fs : List Finding) → Are fs → More fs) → BuildHears Are heard s → BuildHears More heard s
+build_wider Are More heard status.Done f h = all_wider Are More heard f h
+build_wider Are More heard (status.WriteFault role.Text) f (inl h) = inl h
+build_wider Are More heard (status.WriteFault role.Text) f (inr h) = inr (all_wider Are More heard f h)
+build_wider Are More heard (status.WriteFault k) f h = all_wider Are More heard f h
+build_wider Are More heard status.Memory f (inl h) = inl h
+build_wider Are More heard status.Memory f (inr h) = inr (fronts_wider Are More heard f h)
+build_wider Are More heard s f h = h
+
+-- the findings of a map that was found are those that the files tell
+pub found_in_files : (files : Option Files) (wad name : List ℕ) (budget : Ask) (found : LocatedMap) → ((told : Files) → files ≡ Some told → found_of wad name told ≡ Ok found)
+    → (fs : List Finding) → AreFindingsOf found.map budget fs → AreFindingsIn files wad name budget fs
+found_in_files None wad name budget found told fs h = tt
+found_in_files (Some files) wad name budget found told fs h = subst (λ (r : Result LocatedMap Status). AreOfFound r budget fs) (sym (told files refl)) h
+
+-- ---- an output couldn't be stored
+
+fault_hears : (asked : Order) (files : Option Files) (heard : Heard) (k : Role) → OrderHears asked files heard status.Done → OrderHears asked files heard (status.WriteFault k)
+fault_hears (order.Build wad name out cert report workers budget) files heard role.Text h = inr h
+fault_hears (order.Build wad name out cert report workers budget) files heard k h = h
+fault_hears asked files heard k h = h
+
+pub broken_hears : (asked : Order) (files : Option Files) (heard : Heard) (roles : List Role) (s : Status) → IsFaultOf roles s → OrderHears asked files heard status.Done → OrderHears asked files heard s
+broken_hears asked files heard roles (status.WriteFault k) fault h = fault_hears asked files heard k h
+broken_hears asked files heard roles s fault h = absurd fault
+
+-- ---- the line couldn't be put
+
+build_cut : (Are : List Finding → Type 0) (heard : Heard) (s : Status) → HasLine s → BuildHears Are heard s → BuildHears Are heard (status.WriteFault role.Text)
+build_cut Are heard status.Done has h = inr h
+build_cut Are heard (status.WriteFault role.Text) has h = h
+build_cut Are heard (status.WriteFault k) has h = inr h
+build_cut Are heard status.Memory has h = absurd has
+build_cut Are heard s has h = inl h
+
+order_cut : (asked : Order) (files : Option Files) (heard : Heard) (s : Status) → HasLine s → OrderHears asked files heard s → OrderHears asked files heard (status.WriteFault role.Text)
+order_cut (order.Build wad name out cert report workers budget) files heard s has h = build_cut (AreFindingsIn files wad name budget) heard s has h
+order_cut asked files heard s has h = h
+
+line_cut : (asked : Result Order Status) (files : Option Files) (heard : Heard) (s : Status) → HasLine s → Hears asked files heard s → Hears asked files heard (status.WriteFault role.Text)
+line_cut (Ok asked) files heard s has h = order_cut asked files heard s has h
+line_cut (Err refusal) files heard s has h = h
+
+-- ---- there was no memory for the line
+
+build_starved : (Are : List Finding → Type 0) (heard : Heard) (s : Status) → IsUnstored s → BuildHears Are heard s → BuildHears Are heard status.Memory
+build_starved Are heard status.Done early h = absurd early
+build_starved Are heard (status.WriteFault k) early h = absurd early
+build_starved Are heard status.Memory early h = h
+build_starved Are heard s early h = inl h
+
+order_starved : (asked : Order) (files : Option Files) (heard : Heard) (s : Status) → IsUnstored s → OrderHears asked files heard s → OrderHears asked files heard status.Memory
+order_starved (order.Build wad name out cert report workers budget) files heard s early h = build_starved (AreFindingsIn files wad name budget) heard s early h
+order_starved asked files heard s early h = h
+
+line_starved : (asked : Result Order Status) (files : Option Files) (heard : Heard) (s : Status) → IsUnstored s → Hears asked files heard s → Hears asked files heard status.Memory
+line_starved (Ok asked) files heard s early h = order_starved asked files heard s early h
+line_starved (Err refusal) files heard s early h = h
+
+-- ---- at the end of a run
+
+module _ (asked : Result Order Status) (files : Option Files) (heard : Heard) (o n : SinkState) where
+  pub hears_said : (s r : Status) (line : List ℕ) → HasLine s → Hears asked files heard s → Said s r o n line → Hears asked files heard r
+  hears_said s r line has h (inl put) = subst (λ (t : Status). Hears asked files heard t) (sym put.status) h
+  hears_said s r line has h (inr cut) = subst (λ (t : Status). Hears asked files heard t) (sym cut.status) (line_cut asked files heard s has h)
+
+  hears_made : (s r : Status) → HasLine s → IsUnstored s → Hears asked files heard s → SaidIfMade s r o n → Hears asked files heard r
+  hears_made s r has early h (inl said) = hears_said s r (text_of s) has h said
+  hears_made s r has early h (inr none) = subst (λ (t : Status). Hears asked files heard t) (sym none.status) (line_starved asked files heard s early h)
+
+  pub hears_refused : (before after : ShelfState) (s r : Status) → RefusalCause before after s → Hears asked files heard s → Refused s r o n → Hears asked files heard r
+  hears_refused before after status.Done r cause h said = absurd cause
+  hears_refused before after status.Memory r cause h said = subst (λ (t : Status). Hears asked files heard t) (sym said.status) h
+  hears_refused before after (status.WriteFault role.Text) r cause h said = absurd cause
+  hears_refused before after (status.WriteFault role.Wad) r cause h said = hears_said (status.WriteFault role.Wad) r _ tt h said
+  hears_refused before after (status.WriteFault role.Cert) r cause h said = hears_said (status.WriteFault role.Cert) r _ tt h said
+  hears_refused before after (status.WriteFault role.Report) r cause h said = hears_said (status.WriteFault role.Report) r _ tt h said
+  hears_refused before after (status.ReadFault k) r cause h said = hears_made (status.ReadFault k) r tt tt h said
+  hears_refused before after (status.No k) r cause h said = hears_made (status.No k) r tt tt h said
+  hears_refused before after status.Usage r cause h said = hears_made status.Usage r tt tt h said
+  hears_refused before after (status.NoFile k) r cause h said = hears_made (status.NoFile k) r tt tt h said
+  hears_refused before after (status.NotWad k) r cause h said = hears_made (status.NotWad k) r tt tt h said
+  hears_refused before after (status.NoMap k) r cause h said = hears_made (status.NoMap k) r tt tt h said
+  hears_refused before after (status.BadLump k) r cause h said = hears_made (status.BadLump k) r tt tt h said
+  hears_refused before after (status.Limit k) r cause h said = hears_made (status.Limit k) r tt tt h said
+  hears_refused before after (status.BadMap k) r cause h said = hears_made (status.BadMap k) r tt tt h said
+  hears_refused before after status.SameName r cause h said = hears_made status.SameName r tt tt h said
+
+-- .. where the files are told
+pub hears_in : (asked : Result Order Status) (told : Option Files) (files : Files) (heard : Heard) (s : Status) → told ≡ Some files → Hears asked told heard s → Hears asked (Some files) heard s
+hears_in asked told files heard s e h = subst (λ (o : Option Files). Hears asked o heard s) e h
+
+-- .. and by the same names
+pub build_named : (files : Option Files) (wad name other_wad other_name : List ℕ) (budget : Ask) (heard : Heard) (s : Status) → wad ≡ other_wad → name ≡ other_name
+    → BuildHears (AreFindingsIn files wad name budget) heard s → BuildHears (AreFindingsIn files other_wad other_name budget) heard s
+build_named files wad name other_wad other_name budget heard s p q h =
+    subst (λ (n : List ℕ). BuildHears (AreFindingsIn files other_wad n budget) heard s) q (subst (λ (w : List ℕ). BuildHears (AreFindingsIn files w name budget) heard s) p h)
