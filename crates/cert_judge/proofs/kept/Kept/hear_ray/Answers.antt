@@ -1,0 +1,6 @@
+use Rattle.std.proofs.Common.{List, [], ◌∷◌, ◌++◌, ap, ◌∙◌}
+use Rattle.sight_names.specs.declared.names.PairRay.{PairRay}
+use Rattle.cert_judge.proofs.kept.Kept.hear_ray.Goals as goal
+
+pub returns : goal.returns
+returns c = λ h closed k. record { triangles = k.triangles; rays = c.in_ok-push.ensures.items ∙ ap (λ (rs : List PairRay). rs ++ c.args.ray ∷ []) k.rays; listed = k.listed; stage = c.hear_ray.ensures h closed k.stage }

@@ -1,0 +1,10 @@
+//! A certificate judged part by part, as it is read: the mesh, what is known of pairs, and one path are kept.
+#![tactic(auto)]
+
+mod in_order;
+mod judging;
+mod kept;
+mod on_mesh;
+mod stage;
+
+pub use judging::Judging;
