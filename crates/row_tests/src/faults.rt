@@ -10,8 +10,7 @@ use std::test::Fail;
 use std::thread::Threads;
 
 /// What there is, the words, the exit code of a run of which nothing fails, and the calls that it makes: the file of each read in turn,
-/// of each create, and of each append, with the number of its bytes where they are fewer than 65,536 before the file's end. Each run puts
-/// once. `a` is the WAD that is read, `b` the one that is written; `c` is a certificate, `r` a report.
+/// of each create, and of each append. Each run puts once. `a` is the WAD that is read, `b` the one that is written; `c` is a certificate.
 const RUNS: &str = "\
 a=SQUARE | zero a MAP01 b | 0 | a a | b | b
 a=SQUARE, b=PAIR | zero a MAP01 b | 0 | a a | b | b
@@ -26,9 +25,6 @@ a=U =4400, c=#U-CERT | check a MAP01 c | 0 | a a c c
 a=U | build a MAP01 b --cert c --workers 1 | 0 | a a | b c | b c
 a=U, b=PAIR, c=PAIR | build a MAP01 b --cert c --workers 1 | 0 | a a | b c | b c
 a=U, b=PAIR, c=PAIR | build a MAP01 b --workers 1 | 0 | a a | b | b
-a=U | build a MAP01 b --cert c --report r --workers 1 | 0 | a a | b c r | b c r:8 r
-a=U, b=PAIR, c=PAIR, r=PAIR | build a MAP01 b --cert c --report r --workers 1 | 0 | a a | b c r | b c r:8 r
-a=SQUARE, r=PAIR | build a MAP01 b --report r --workers 1 | 0 | a a | b r | b r
 a=grid:7 | build a MAP01 b --cert c --workers 1 | 0 | a a | b c | b c c
 a=SQUARE | grid 2 --workers 1 | 0
 # runs that are refused, and answers that are no
@@ -44,7 +40,7 @@ a=U | sound a MAP01 0 9 | 1 | a a
 a=U =4400 | check a MAP01 c | 3 | a a
 a=U, c=#U-CERT | check a MAP01 c | 1 | a a
 a=U =4600, c=#U-CERT | check a MAP01 c | 1 | a a c c
-a=ISLAND, b=PAIR, c=PAIR, r=PAIR | build a MAP01 b --cert c --report r | 10 | a a
+a=ISLAND, b=PAIR, c=PAIR | build a MAP01 b --cert c | 10 | a a
 ";
 
 /// The most bytes that one append takes.
@@ -100,29 +96,23 @@ fn wanted_under<'a>(name: &str, left: Left<'_>, whole: &'a Ran) -> Option<&'a [u
     }
 }
 
-// The file of an append, and how many bytes it has at most.
-fn piece_of(word: &str) -> (&str, usize) {
-    match word.split_once(':') {
-        Some((name, size)) => (name, size.parse().unwrap_or(0)),
-        None => (word, PIECE),
-    }
+// How many bytes of an output there are when an append behind so many whole ones fails: they, and the first half of its own piece.
+fn front_len(output: Option<&[u8]>, appends: usize) -> usize {
+    let len = output.unwrap_or(&[]).len();
+    let stored = appends.saturating_mul(PIECE).min(len);
+    let piece = len.saturating_sub(stored).min(PIECE);
+    stored.saturating_add(piece / 2)
 }
 
-// How many bytes of an output there are when this one of the appends fails: the pieces before it, and the first half of its own.
-fn front_len(output: Option<&[u8]>, appends: &str, call: usize, name: &str) -> usize {
-    let len = output.unwrap_or(&[]).len();
-    let mut stored = 0usize;
-    for (k, word) in appends.split_whitespace().enumerate() {
-        let (about, most) = piece_of(word);
-        let size = most.min(len.saturating_sub(stored));
-        if k == call {
-            return stored.saturating_add(size / 2);
-        }
-        if about == name {
-            stored = stored.saturating_add(size);
+// How many of so many calls are about the file.
+fn count_of(names: &str, calls: usize, name: &str) -> usize {
+    let mut count = 0usize;
+    for (k, other) in names.split_whitespace().enumerate() {
+        if k < calls && other == name {
+            count = count.wrapping_add(1);
         }
     }
-    stored
+    count
 }
 
 fn left_by<'a>(
@@ -141,7 +131,7 @@ fn left_by<'a>(
         };
     };
     let front = match kind {
-        "appends" => Some(front_len(whole.after.shelf.bytes(name), appends, call, name)),
+        "appends" => Some(front_len(whole.after.shelf.bytes(name), count_of(appends, call, name))),
         _ => None,
     };
     Left {
@@ -211,10 +201,7 @@ fn wrong_at<R: Threads + Sync>(
     let name = match kind {
         "reads" => part(row, 3).split_whitespace().nth(call),
         "creates" => part(row, 4).split_whitespace().nth(call),
-        _ => part(row, 5)
-            .split_whitespace()
-            .nth(call)
-            .map(|word| piece_of(word).0),
+        _ => part(row, 5).split_whitespace().nth(call),
     };
     let (status, line) = match name {
         Some(name) => end_of(alloc, kind, name)?,

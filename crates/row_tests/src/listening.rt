@@ -3,9 +3,10 @@
 ghost use Rattle.std.specs.Prelude.{◌≡◌};
 
 use listeners::{Finding, FirstSet, Keep, Lines, Listener, Totals, words_of};
-use run_cases::{run_heard, stage_of};
+use run_cases::{stage_of, words_in};
+use shelf_io::MemSink;
 use sight_names::Memory;
-use sight_run::Status;
+use sight_run::{Status, run};
 use sight_workers::OpenGate;
 use std::test::Fail;
 
@@ -43,8 +44,17 @@ fn a_listener_that_has_heard_enough_goes_and_its_text_begins_the_report(
     let mut listeners: Vec<Box<dyn Listener>> = Vec::new(alloc);
     listeners.push(Box::new(alloc, Totals::new(alloc))?)?;
     listeners.push(Box::new(alloc, FirstSet::new(alloc, 1))?)?;
-    let words = "build a MAP01 b --report r";
-    let status = run_heard(&rt, alloc, &mut stage, words, &mut listeners, &OpenGate)?;
+    let words = words_in(alloc, "build a MAP01 b --report r")?;
+    let mut out = MemSink::new(alloc, Vec::new(alloc));
+    let status = run(
+        &rt,
+        alloc,
+        &words,
+        &mut stage.shelf,
+        &mut out,
+        &mut listeners,
+        &OpenGate,
+    );
     assert!(rt; status == Status::Done && listeners.len() == 1);
     let report = stage.shelf.bytes("r").unwrap_or(b"");
     assert_eq!(rt;
@@ -66,8 +76,17 @@ fn no_file_is_made_where_a_listener_finds_no_memory(rt: HostRuntime) -> Result<(
             heard: Vec::new(alloc),
         },
     )?)?;
-    let words = "build a MAP01 b --cert c --report r";
-    let status = run_heard(&rt, alloc, &mut stage, words, &mut listeners, &OpenGate)?;
+    let words = words_in(alloc, "build a MAP01 b --cert c --report r")?;
+    let mut out = MemSink::new(alloc, Vec::new(alloc));
+    let status = run(
+        &rt,
+        alloc,
+        &words,
+        &mut stage.shelf,
+        &mut out,
+        &mut listeners,
+        &OpenGate,
+    );
     assert!(rt; status == Status::Memory && listeners.len() == 2);
     assert!(rt; stage.shelf.bytes("b").is_none() && stage.shelf.bytes("c").is_none());
     // the first one heard the third finding, which is that 0 and 2 don't see each other

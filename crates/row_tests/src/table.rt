@@ -1,11 +1,13 @@
 //! How a row is run. A row has up to five parts between bars: what there is, the words, the exit code, the line, and what
 //! stands under some names after it. Where the first part is empty, the run goes on with what the row before left.
 
-use run_cases::{Stage, run_on, stage_of};
+use listeners::{Lines, Listener, Totals};
+use run_cases::{Stage, stage_of, words_in};
+use shelf_io::MemSink;
 use sight_names::{
     BuildFault, CheckFault, FetchFault, LabelFault, LumpFault, OrderFault, RewriteFault, WadFault,
 };
-use sight_run::{Bound, Flaw, Status, Why, code};
+use sight_run::{Bound, Flaw, Status, Why, code, run};
 use sight_workers::OpenGate;
 use std::alloc::{AllocError, Global};
 use std::thread::Threads;
@@ -135,7 +137,21 @@ fn wrong_part<R: Threads + Sync>(
         *stage = stage_of(alloc, part(row, 0))?;
     }
     let before = stage.text.clone()?;
-    let status = run_on(rt, alloc, stage, part(row, 1), &OpenGate)?;
+    let words = words_in(alloc, part(row, 1))?;
+    let mut out = MemSink::new(alloc, stage.puts.clone()?);
+    let mut listeners: Vec<Box<dyn Listener>> = Vec::new(alloc);
+    listeners.push(Box::new(alloc, Lines::new(alloc))?)?;
+    listeners.push(Box::new(alloc, Totals::new(alloc))?)?;
+    let status = run(
+        rt,
+        alloc,
+        &words,
+        &mut stage.shelf,
+        &mut out,
+        &mut listeners,
+        &OpenGate,
+    );
+    stage.text = out.held().to_vec(alloc)?;
     if part(row, 2).parse::<u8>() != Ok(code(&status)) {
         return Ok("code");
     }
