@@ -18,8 +18,9 @@ And certificates whose counts no bytes bear out: `check` asks for fewer bytes, a
 they were made of.
 The status is 1 where anything is otherwise.
 
-Found: the runs of thirteen orders make 1,674 requests (a build of U by three workers 202, one of a made map 376). With one of 1,649 refused the run
-ended by memory, and with one of 25 it was done, as a thread that can't be started is done without; no fault of reading or writing came.
+Found: the runs of thirteen orders make some 1,720 requests (a build of U by three workers with certificate and report 224, one of a made map
+376). With one of 1,695 refused the run ended by memory, and with one of 25 it was done, as a thread that can't be started is done without; no
+fault of reading or writing came.
 """
 import argparse
 import collections
