@@ -6,4 +6,3 @@ pub mod Pieces
 pub mod Merging
 pub mod Splicing
 pub mod Lasting
-pub mod InOrder
