@@ -1,5 +1,6 @@
 -- Values that may be missing.
-use Rattle.std.proofs.Common.{◌≡◌, ℕ, Option, Some, None, refl}
+use Rattle.std.proofs.Common.{◌≡◌, ℕ, Option, Some, None, false, refl}
+use Rattle.std.specs.Option.{is_some}
 use Rattle.std.specs.Prelude.{IsSome}
 use Rattle.std.proofs.lemmas.Option.{none-some, same_Some}
 
@@ -14,6 +15,10 @@ some_is_same x y e = same_Some x y e
 
 pub one_value : {A : Type 0} (o : Option A) (x y : A) → o ≡ Some x → o ≡ Some y → x ≡ y
 one_value o x y e f = cc
+
+pub none_where_not_some : {A : Type 0} (o : Option A) → false ≡ is_some o → o ≡ None
+none_where_not_some None e = refl
+none_where_not_some (Some x) e = absurd (cc)
 
 pub is_there : {A : Type 0} (o : Option A) (x : A) → o ≡ Some x → IsSome o
 is_there None x e = absurd (none-some x e)

@@ -1,7 +1,7 @@
 //! Triangles between the points of a map, their labels, and the first rule of a good mesh that they break.
 #![tactic(auto)]
 
-pub mod chains;
+mod chains;
 pub mod labels;
 pub mod laws;
 pub mod meets;

@@ -1,6 +1,7 @@
 use Rattle.std.proofs.Common.{◌≡◌, ◌∙◌, ℕ, suc, ◌+◌, ◌<◌, ◌∷◌, List, Option, Some, None, length, map, true, false, refl, sym, ap, subst, arith}
 use Rattle.sight_tree.specs.declared.Node.{Node}
 use Rattle.std.specs.Option.{is_some}
+use Rattle.list_base.proofs.Options.{none_where_not_some}
 use Rattle.tree_judge.specs.Roots.{first_at}
 use Rattle.tree_judge.specs.Path.{root_pending}
 use Rattle.tree_judge.specs.Whole.{IsFirstWrong}
@@ -60,10 +61,6 @@ returns-then-is_some-clause-wrong c = λ room. record {
       (missing_node xs roots first t.source t.nodes c.args.reached.now l.node-iterator l.number some.0 l.path l.follow l.reached c.in-None.ensures.steps.0 l.invariant.followed some.1 es chain);
 }
 
-none_asked : (o : Option ℕ) → false ≡ is_some o → o ≡ None
-none_asked None e = refl
-none_asked (Some place) e = absurd (cc)
-
 pub returns-clause-whole : goal.returns-clause-whole
 returns-clause-whole c =
     let xs = c.args.terrain.now.edges.now in
@@ -71,4 +68,4 @@ returns-clause-whole c =
     let first = first_at c.args.terrain.now.roots.now.first.items c.args.tree.now.source in
     let t = c.args.tree.now in
     let l = c.loop-number in
-    record { whole = all_answered xs roots first t.source t.nodes c.args.reached.now l.node-iterator l.number l.path l.follow l.reached c.in-None.ensures.steps.0 l.invariant.followed (none_asked l.follow.asked c.if-is_some.ensures) }
+    record { whole = all_answered xs roots first t.source t.nodes c.args.reached.now l.node-iterator l.number l.path l.follow l.reached c.in-None.ensures.steps.0 l.invariant.followed (none_where_not_some l.follow.asked c.if-is_some.ensures) }

@@ -1,5 +1,5 @@
-use Rattle.std.proofs.Common.{◌≡◌, Option, Some, None, false, refl}
-use Rattle.std.specs.Option.{is_some}
+use Rattle.std.proofs.Common.{◌≡◌}
+use Rattle.list_base.proofs.Options.{none_where_not_some}
 use Rattle.std.specs.Prelude.{option_map}
 use Rattle.std.proofs.lemmas.Result.{IfOk-weaker}
 use Rattle.sight_names.specs.Map.{map_of}
@@ -9,14 +9,10 @@ use Rattle.cert_checker.specs.Apart.{triangles_in}
 use Rattle.cert_judge.specs.OnMesh.{IsOnMesh}
 use Rattle.cert_judge.proofs.on_mesh.OnMesh.hear_node.Goals as goal
 
-none_there : {A : Type 0} (o : Option A) → false ≡ is_some o → o ≡ None
-none_there None e = refl
-none_there (Some x) e = absurd (cc)
-
 pub returns : goal.returns
 returns c = λ p ls rays front tree w.
     let g = c.args.self.now in
     let more = option_map (with_node c.args.node) tree in
     IfOk-weaker c.hear.result (λ _. HasHeardTrees (map_of p) (triangles_in ls) g.edges front more c.hear.new.self) (λ _. IsOnMesh p ls rays front more (record { mesh = g.mesh; edges = g.edges; fault = g.fault; trees = c.hear.new.self }))
     (λ x heard. record { mesh = w.mesh; plan = w.plan; good = w.good; edges = w.edges; sight = w.sight; heard = λ _. heard })
-    (c.hear.ensures (map_of p) (triangles_in ls) front tree (w.heard (none_there g.fault c.if-is_some.ensures)))
+    (c.hear.ensures (map_of p) (triangles_in ls) front tree (w.heard (none_where_not_some g.fault c.if-is_some.ensures)))
