@@ -1,4 +1,5 @@
 pub mod Parts
+pub mod Sizes
 pub mod Grammar
 pub mod Reading
 pub mod Accepted

@@ -9,7 +9,7 @@ use Rattle.sight_tree.specs.declared.Node.{Node}
 use Rattle.sight_tree.specs.declared.Tree.{Tree}
 use Rattle.cert_format.specs.declared.cert.Labelled.{Labelled}
 use Rattle.cert_parts.specs.declared.part.Part.{Part}
-use Rattle.cert_parts.specs.declared.part.Part.TheVariants.{Triangle, Ray, Listed, Tree as OfTree, Node as OfNode}
+use Rattle.cert_parts.specs.declared.part.Part.TheVariants.{Triangle, Ray, Listed, Node as OfNode}
 use Rattle.cert_format.specs.Parts.{CertParts}
 use Rattle.cert_parts.specs.Parts.{tree_parts, parts_of}
 use Rattle.cert_judge.specs.Heard.{Heard, nothing, with_part, heard_from}

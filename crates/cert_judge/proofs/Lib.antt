@@ -5,3 +5,5 @@ pub mod OnMeshes
 pub mod Stages
 pub mod Verdicts
 pub mod Keeping
+pub mod Intakes
+pub mod Endings

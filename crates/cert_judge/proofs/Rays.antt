@@ -1,5 +1,5 @@
 -- One ray more: all are sight rays, or the first that isn't stays the first.
-use Rattle.std.proofs.Common.{◌≡◌, ℕ, ◌<◌, ◌⊎◌, inl, inr, List, [], ◌∷◌, ◌++◌, Option, Some, None, length, refl, sym, subst, arith}
+use Rattle.std.proofs.Common.{◌≡◌, ℕ, ◌<◌, inl, inr, List, [], ◌∷◌, ◌++◌, Option, Some, None, length, subst, arith}
 use Rattle.std.specs.List.{slice_get}
 use Rattle.std.specs.Prelude.{IfSome, MatchOption}
 use Rattle.std.proofs.lemmas.Option.{slice_get_within}
@@ -8,7 +8,7 @@ use Rattle.sight_names.specs.declared.names.PairRay.{PairRay}
 use Rattle.sight_names.specs.Map.{Map}
 use Rattle.sight_names.specs.Ray.{IsSightRay}
 use Rattle.cert_checker.specs.Judged.{IsRayFaultOf}
-use Rattle.cert_checker.specs.Rays.{AreSightRaysBelow, IsFaultOf, IsFirstRayFault}
+use Rattle.cert_checker.specs.Rays.{AreSightRaysBelow, IsFaultOf}
 use Rattle.cert_judge.specs.OnMesh.{IsRayFaultIn}
 use Rattle.list_base.proofs.Lists.{get_pushed, get_before_pushed, pushed_at}
 

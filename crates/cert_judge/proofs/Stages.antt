@@ -1,5 +1,5 @@
 -- How a stage stands to what was heard.
-use Rattle.std.proofs.Common.{◌≡◌, List, [], Option, None, Bool, true, false, refl, sym, subst}
+use Rattle.std.proofs.Common.{◌≡◌, List, [], Option, None, true, false, refl, sym, subst}
 use Rattle.sight_names.specs.declared.names.PairRay.{PairRay}
 use Rattle.sight_names.specs.Plan.{PlanParts}
 use Rattle.sight_tree.specs.declared.Tree.{Tree}

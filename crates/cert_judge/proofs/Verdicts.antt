@@ -1,5 +1,5 @@
 -- What the verdict says of a certificate, where its parts all have come.
-use Rattle.std.proofs.Common.{◌≡◌, ℕ, List, ◌++◌, Option, Some, None, length, refl, sym, subst}
+use Rattle.std.proofs.Common.{◌≡◌, List, ◌++◌, None, length, refl, sym}
 use Rattle.std.specs.Option.{option_to_list}
 use Rattle.sight_names.specs.declared.faults.CheckFault.{CheckFault}
 use Rattle.sight_names.specs.declared.faults.CheckFault.TheVariants.{Mesh, Ray, Tree as OfTree, ListedSet, Unproved, Uncovered}
@@ -9,12 +9,10 @@ use Rattle.sight_names.specs.declared.names.PairRay.{PairRay}
 use Rattle.sight_names.specs.Map.{Map, map_of}
 use Rattle.sight_names.specs.Mesh.{IsGoodMesh}
 use Rattle.sight_names.specs.Plan.{PlanParts}
-use Rattle.sight_tree.specs.declared.Tree.{Tree}
 use Rattle.mesh_shape.specs.Faults.{IsFirstFault}
 use Rattle.cert_format.specs.Accepted.{triangles_of, labels_of}
 use Rattle.cert_format.specs.Parts.{CertParts}
 use Rattle.reject_bits.specs.Parts.{TableParts}
-use Rattle.half_edges.specs.declared.table.HalfEdge.{HalfEdge}
 use Rattle.tree_judge.specs.declared.judge.TreeVerdict.{TreeVerdict}
 use Rattle.tree_judge.specs.Heard.{IsJudgeable}
 use Rattle.tree_judge.specs.Trees.{TellsTrees}
@@ -25,7 +23,7 @@ use Rattle.cert_checker.specs.Judged.{JudgesMesh, JudgesRays, JudgesTrees, Judge
 use Rattle.cert_checker.specs.Rays.{AreSightRaysBelow}
 use Rattle.cert_judge.specs.declared.on_mesh.OnMesh.{OnMesh}
 use Rattle.cert_judge.specs.OnMesh.{IsRayFaultIn}
-use Rattle.cert_judge.specs.Whole.{IsCertOf, IsJudgedOn, IsToldBy, IsBehindRays}
+use Rattle.cert_judge.specs.Whole.{IsJudgedOn, IsToldBy, IsBehindRays}
 
 -- ---- a wrong ray
 

@@ -4,3 +4,6 @@ pub mod OnMesh
 pub mod Stage
 pub mod Whole
 pub mod Judging
+pub mod Judged
+pub mod Intake
+pub mod Judge

@@ -1,5 +1,5 @@
 -- Rays and trees that are judged over a good mesh as they come.
-use Rattle.std.specs.Prelude.{◌≡◌, ℕ, List, Option, None, length, MatchOption}
+use Rattle.std.specs.Prelude.{◌≡◌, List, Option, None, length, MatchOption}
 use Rattle.sight_names.specs.declared.faults.CheckFault.{CheckFault}
 use Rattle.sight_names.specs.declared.names.PairRay.{PairRay}
 use Rattle.sight_names.specs.Map.{Map, map_of}

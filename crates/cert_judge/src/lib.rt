@@ -2,9 +2,14 @@
 #![tactic(auto)]
 
 mod in_order;
+mod intake;
+mod judge;
+mod judged;
 mod judging;
 mod kept;
 mod on_mesh;
 mod stage;
 
+pub use judge::Judge;
+pub use judged::Judged;
 pub use judging::Judging;

@@ -1,4 +1,4 @@
-use Rattle.std.proofs.Common.{◌≡◌, ◌<◌, length, refl, below_more, arith}
+use Rattle.std.proofs.Common.{◌≡◌, length, refl, below_more, arith}
 use Rattle.std.proofs.lemmas.Bool.{leb-true, le-leb}
 use Rattle.std.proofs.lemmas.List.{length-map}
 use Rattle.cert_format.specs.declared.cert.Labelled.{Labelled}

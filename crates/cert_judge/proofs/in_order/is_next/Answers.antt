@@ -1,4 +1,4 @@
-use Rattle.std.proofs.Common.{◌≡◌, ℕ, ◌+◌, ◌-◌, refl, arith}
+use Rattle.std.proofs.Common.{◌≡◌, ◌+◌, ◌-◌, refl, arith}
 use Rattle.cert_judge.proofs.Order.{next_of, triangle_of_next, above_of_next}
 use Rattle.cert_judge.proofs.in_order.is_next.Goals as goal
 

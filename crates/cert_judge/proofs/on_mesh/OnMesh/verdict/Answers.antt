@@ -1,4 +1,3 @@
-use Rattle.std.proofs.Common.{◌≡◌}
 use Rattle.cert_checker.specs.Apart.{triangles_in}
 use Rattle.cert_judge.proofs.Verdicts.{told_by}
 use Rattle.cert_judge.proofs.on_mesh.OnMesh.verdict.Goals as goal

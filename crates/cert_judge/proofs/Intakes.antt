@@ -1,0 +1,168 @@
+-- What has become of the bytes, from part to part and from piece to piece, and what comes of them at the end.
+use Rattle.std.proofs.Common.{◌≡◌, ◌≢◌, ℕ, zero, suc, ◌+◌, ◌<◌, ◌^◌, List, [], ◌∷◌, ◌++◌, length, Option, Some, None, Result, Ok, Err, false, Contains, refl, sym, ap, subst, ◌∙◌, append_assoc, arith, inl, inr}
+use Rattle.std.specs.List.{AllByRecursion}
+use Rattle.std.specs.Prelude.{MatchOption}
+use Rattle.std.proofs.lemmas.List.{append-nil, length-append}
+use Rattle.std.proofs.lemmas.Option.{MatchOption-at_none}
+use Rattle.list_base.proofs.Lists.{contains_none}
+use Rattle.sight_names.proofs.Lists.{contains_cases}
+use Rattle.sight_names.specs.declared.faults.CertFault.{CertFault}
+use Rattle.sight_names.specs.Plan.{PlanParts}
+use Rattle.sight_tree.specs.declared.Tree.{Tree}
+use Rattle.reject_bits.specs.Parts.{TableParts}
+use Rattle.cert_format.specs.declared.cert.Sizes.{Sizes}
+use Rattle.cert_format.specs.Grammar.{AreSmall, FitsTree}
+use Rattle.cert_format.specs.Parts.{CertParts}
+use Rattle.cert_format.specs.Reading.{◌>>=◌, reading}
+use Rattle.cert_format.specs.Sizes.{sizes_of}
+use Rattle.cert_format.proofs.FieldLaws.{bind_ok, ok_is}
+use Rattle.cert_format.proofs.WholeLaws.{reading_takes}
+use Rattle.cert_parts.specs.declared.part.Part.{Part}
+use Rattle.cert_parts.specs.Parts.{parts_of, reading_parts}
+use Rattle.cert_parts.specs.Left.{IsCountable, parts_left, put_before}
+use Rattle.cert_judge.specs.declared.intake.Intake.{Intake}
+use Rattle.cert_judge.specs.declared.judge.Judge.{Judge}
+use Rattle.cert_judge.specs.Whole.{IsCertOf}
+use Rattle.cert_judge.specs.Judging.{HasHeard, HasHeardAll}
+use Rattle.cert_judge.specs.Judge.{MayBeFed}
+use Rattle.cert_judge.specs.Intake.{put_all, AreBytes, IsGoingOn, AreRefused, HasTaken}
+
+-- ---- parts, one behind the other
+
+abbrev pub all_read : List Part → Result (List Part) CertFault
+all_read parts = Ok parts
+
+put_none : (left : Result (List Part) CertFault) → put_all [] left ≡ left
+put_none (Ok others) = refl
+put_none (Err f) = refl
+
+put_one_more : (parts : List Part) (part : Part) (left : Result (List Part) CertFault) → put_all (parts ++ part ∷ []) left ≡ put_all parts (put_before (Some part) left)
+put_one_more parts part (Ok others) = ap all_read (append_assoc parts (part ∷ []) others)
+put_one_more parts part (Err f) = refl
+
+-- all bytes were taken, and no fault is kept
+going_on : (p : PlanParts) (t : TableParts) (bytes : List ℕ) (k : Intake) → k.fault ≡ None → IsGoingOn p t bytes [] k → HasTaken p t bytes k
+going_on p t bytes k none w = subst (λ (o : Option CertFault). MatchOption o (IsGoingOn p t bytes [] k) (AreRefused p bytes)) (sym none) w
+
+module _ (p : PlanParts) (t : TableParts) (bytes rest : List ℕ) (k : Intake) (w : IsGoingOn p t bytes rest k) where
+  -- the next part was read and heard
+  pub part_taken : (part : Part) (behind : List ℕ) (new : Intake) → ((more : List ℕ) → parts_left k.reader (rest ++ more) ≡ put_before (Some part) (parts_left new.reader (behind ++ more)))
+      → new.reader.given + length behind ≡ k.reader.given + length rest → HasHeard p t (w.parts ++ part ∷ []) new.judging → IsGoingOn p t bytes behind new
+  part_taken part behind new told given heard = record {
+    small = w.small;
+    fit = w.fit;
+    parts = w.parts ++ part ∷ [];
+    heard = heard;
+    given = given ∙ w.given;
+    left = λ more. w.left more ∙ ap (put_all w.parts) (told more) ∙ sym (put_one_more w.parts part (parts_left new.reader (behind ++ more)));
+  }
+
+  -- there was no part in what was left of the piece
+  pub none_taken : (behind : List ℕ) (new : Intake) → ((more : List ℕ) → parts_left k.reader (rest ++ more) ≡ parts_left new.reader (behind ++ more))
+      → new.reader.given + length behind ≡ k.reader.given + length rest → HasHeard p t w.parts new.judging → behind ≡ [] → new.fault ≡ None → HasTaken p t bytes new
+  none_taken behind new told given heard used none = going_on p t bytes new none (subst (λ (ahead : List ℕ). IsGoingOn p t bytes ahead new) used (record {
+    small = w.small;
+    fit = w.fit;
+    parts = w.parts;
+    heard = heard;
+    given = given ∙ w.given;
+    left = λ more. w.left more ∙ ap (put_all w.parts) (told more);
+  }))
+
+  -- a fault was told
+  pub fault_taken : (f : CertFault) → ((more : List ℕ) → parts_left k.reader (rest ++ more) ≡ Err f) → AreRefused p bytes f
+  fault_taken f told = λ more. w.left more ∙ ap (put_all w.parts) (told more)
+
+-- ---- a piece comes
+
+bytes_more : (bytes piece : List ℕ) → AreBytes bytes → AreBytes piece → AreBytes (bytes ++ piece)
+bytes_more [] piece a b i = b i
+bytes_more (x ∷ bytes) piece a b zero = a zero
+bytes_more (x ∷ bytes) piece a b (suc i) = bytes_more bytes piece (λ j. a (suc j)) b i
+
+pub piece_comes : (p : PlanParts) (t : TableParts) (bytes piece : List ℕ) (k : Intake) → AreBytes piece → IsGoingOn p t bytes [] k → IsGoingOn p t (bytes ++ piece) piece k
+piece_comes p t bytes piece k fit w = record {
+  small = w.small;
+  fit = bytes_more bytes piece w.fit fit;
+  parts = w.parts;
+  heard = w.heard;
+  given = omega (arith, w.given, length-append bytes piece);
+  left = λ more. ap (reading_parts (sizes_of p)) (append_assoc bytes piece more) ∙ w.left (piece ++ more);
+}
+
+pub still_refused : (p : PlanParts) (bytes piece : List ℕ) (f : CertFault) → AreRefused p bytes f → AreRefused p (bytes ++ piece) f
+still_refused p bytes piece f w = λ more. ap (reading_parts (sizes_of p)) (append_assoc bytes piece more) ∙ w (piece ++ more)
+
+-- where a fault was kept before
+pub kept_refused : (p : PlanParts) (t : TableParts) (bytes piece : List ℕ) (k : Intake) (o : Option CertFault) → o ≢ None → MatchOption o (IsGoingOn p t bytes [] k) (AreRefused p bytes) → MatchOption o (IsGoingOn p t (bytes ++ piece) [] k) (AreRefused p (bytes ++ piece))
+kept_refused p t bytes piece k None some w = absurd (some refl)
+kept_refused p t bytes piece k (Some f) some w = still_refused p bytes piece f w
+
+-- ---- at the end
+
+-- what is said whatever bytes come is said of these
+pub refused_whole : (p : PlanParts) (bytes : List ℕ) (f : CertFault) → AreRefused p bytes f → reading_parts (sizes_of p) bytes ≡ Err f
+refused_whole p bytes f w = ap (reading_parts (sizes_of p)) (sym (append-nil bytes)) ∙ w []
+
+-- a fault of the parts is one of the reading
+pub fault_read : (read : Result CertParts CertFault) (f : CertFault) → (read >>= λ c. Ok (parts_of c)) ≡ Err f → read ≡ Err f
+fault_read (Ok c) f e = absurd cc
+fault_read (Err g) f e = cc
+
+trees_counted : (ts : List Tree) → AllByRecursion FitsTree ts → (u : Tree) → Contains ts u → length u.nodes < 2 ^ 64
+trees_counted [] all u h = absurd (contains_none u h)
+trees_counted (t ∷ ts) all u h = elim (contains_cases t u ts h) as (λ _. length u.nodes < 2 ^ 64) [
+  | inl e ↦ subst (λ (x : Tree). length x.nodes < 2 ^ 64) e all.0.count
+  | inr k ↦ trees_counted ts all.1 u k
+]
+
+-- there is but one plan and one table
+pub same_fits : (p q : PlanParts) (t u : TableParts) (bytes others : List ℕ) (k : Intake) → IsGoingOn p t bytes [] k → IsGoingOn q u others [] k → u.n ≡ q.sectors → t.n ≡ p.sectors
+same_fits p q t u bytes others k w v fits =
+    sym (ap (λ (x : TableParts). x.n) w.heard.table) ∙ ap (λ (x : TableParts). x.n) v.heard.table ∙ fits ∙ sym (ap (λ (x : PlanParts). x.sectors) v.heard.plan) ∙ ap (λ (x : PlanParts). x.sectors) w.heard.plan
+
+module _ (p : PlanParts) (t : TableParts) (bytes : List ℕ) (k : Intake) (w : IsGoingOn p t bytes [] k) where
+  whole : reading_parts (sizes_of p) bytes ≡ put_all w.parts (parts_left k.reader [])
+  whole = ap (reading_parts (sizes_of p)) (sym (append-nil bytes)) ∙ w.left []
+
+  pub fault_at_end : (f : CertFault) → parts_left k.reader [] ≡ Err f → reading_parts (sizes_of p) bytes ≡ Err f
+  fault_at_end f e = whole ∙ ap (put_all w.parts) e
+
+  cert_of_plan : (c : CertParts) → t.n ≡ p.sectors → reading (sizes_of p) bytes ≡ Ok c → IsCertOf p t c
+  cert_of_plan c fits e =
+      let s = reading_takes (sizes_of p) bytes c w.small w.fit e in
+      record {
+        in_order = s.in_order;
+        table = fits;
+        sectors = ap (λ (z : Sizes). z.sectors) s.sized;
+        points = ap (λ (z : Sizes). z.points) s.sized;
+        counted = trees_counted c.trees s.fits.trees;
+      }
+
+  -- the certificate that was read was heard
+  pub read_at_end : t.n ≡ p.sectors → parts_left k.reader [] ≡ Ok [] → (c : CertParts) × (reading (sizes_of p) bytes ≡ Ok c) × HasHeardAll p t c k.judging
+  read_at_end fits e =
+      let r = bind_ok (reading (sizes_of p) bytes) (λ c. Ok (parts_of c)) w.parts (whole ∙ ap (put_all w.parts) e ∙ ap all_read (append-nil w.parts)) in
+      (r.0, r.1, record { cert = cert_of_plan r.0 fits r.1; heard = subst (λ (ps : List Part). HasHeard p t ps k.judging) (sym (ok_is (parts_of r.0) w.parts r.2)) w.heard })
+
+-- ---- what a call may count on
+
+pub may_count : (piece : List ℕ) (j : Judge) → MayBeFed piece j → j.spent ≡ false → j.intake.fault ≡ None → IsCountable j.intake.reader piece
+may_count piece j m fine none =
+    let w = MatchOption-at_none (IsGoingOn m.plan m.table m.bytes [] j.intake) (AreRefused m.plan m.bytes) none (m.fed.taken fine) in
+    omega (arith, w.given, m.few)
+
+-- ---- at the beginning
+
+no_bytes : AreBytes []
+no_bytes i = omega arith
+
+pub begins : (p : PlanParts) (t : TableParts) (sizes : Sizes) (k : Intake) → sizes ≡ sizes_of p → AreSmall sizes → ((bytes : List ℕ) → parts_left k.reader bytes ≡ reading_parts sizes bytes) → k.reader.given ≡ 0 → HasHeard p t [] k.judging → IsGoingOn p t [] [] k
+begins p t sizes k same small told none heard = record {
+  small = subst AreSmall same small;
+  fit = no_bytes;
+  parts = [];
+  heard = heard;
+  given = omega (arith, none);
+  left = λ more. ap (λ (z : Sizes). reading_parts z more) (sym same) ∙ sym (told more) ∙ sym (put_none (parts_left k.reader more));
+}

@@ -1,0 +1,77 @@
+//! A certificate judged while its bytes come in pieces.
+
+ghost use Rattle.std.specs.Prelude.{ℕ, ◌++◌, ◌↔◌, List, [], IsErr, IfOk, OnOk, OnErr};
+ghost use Rattle.sight_names.specs.Map.{map_of};
+ghost use Rattle.sight_names.specs.Plan.{PlanParts};
+ghost use Rattle.sight_names.specs.Sound.{LinesMeetAtEnds};
+ghost use Rattle.reject_bits.specs.Parts.{TableParts};
+ghost use Rattle.cert_format.specs.Accepted.{IsAccepted};
+ghost use Rattle.cert_format.specs.Reading.{reading};
+ghost use Rattle.cert_format.specs.Sizes.{sizes_of};
+ghost use Rattle.cert_checker.specs.Judged.{JudgesMesh, JudgesRays, JudgesTrees, JudgesPairs, IsYes};
+ghost use Rattle.cert_checker.specs.Sight.{TellsSight};
+ghost use Rattle.cert_judge.specs.Judged.{JudgedBy};
+ghost use Rattle.cert_judge.specs.Judge.{HasBeenFed, MayBeFed, IsFed, IsSpent};
+
+use crate::intake::Intake;
+use crate::judged::Judged;
+use reject_bits::Table;
+use sight_names::{Memory, Plan};
+use std::alloc::Global;
+
+/// Judges a table by a certificate that it is fed in pieces, however they are cut. It keeps neither the bytes nor the
+/// trees of the certificate.
+#[derive(Drop)]
+pub struct Judge<'a> {
+    intake: Intake<'a>,
+    /// Whether a piece found no memory.
+    spent: bool,
+}
+
+impl<'a> Judge<'a> {
+    /// Nothing was fed so far. Takes no memory.
+    pub fn new(alloc: Global, plan: &'a Plan, table: &'a Table) -> Judge<'a>
+        ensures fed { HasBeenFed plan.now table.now [] result }
+        ensures unspent { ¬ IsSpent result }
+    {
+        Judge {
+            intake: Intake::new(alloc, plan, table),
+            spent: false,
+        }
+    }
+
+    /// The next piece. All pieces together have at most 2^63 - 1 bytes. After an Err the judge is spent: each later call
+    /// answers Memory. What is behind a fault is not read.
+    pub fn feed(&mut self, piece: &[u8]) -> Result<(), Memory>
+        requires { MayBeFed piece.now self.old }
+        ensures fed { (p : PlanParts) (t : TableParts) (bytes : List ℕ) → HasBeenFed p t bytes self.old → HasBeenFed p t (bytes ++ piece.now) self.new }
+        ensures spent { OnErr result (IsSpent self.new) }
+        ensures unspent { OnOk result (¬ IsSpent self.new) }
+        ensures stays { IsSpent self.old → IsErr result × IsSpent self.new }
+    {
+        if self.spent {
+            return Err(Memory);
+        }
+        let fed = self.intake.feed(piece);
+        self.spent = fed.is_err();
+        fed
+    }
+
+    /// What comes of all the pieces, one behind the other: the fault where they spell no certificate of the plan's map,
+    /// and else the verdict that `check` gives of the certificate.
+    pub fn end(self) -> Result<Judged, Memory>
+        requires { IsFed self }
+        ensures spent { IsSpent self.entry → IsErr result }
+        ensures mesh { (p : PlanParts) (t : TableParts) (bytes : List ℕ) → HasBeenFed p t bytes self.entry → IfOk result (JudgedBy (reading (sizes_of p) bytes) (λ c v. JudgesMesh (map_of p) c v)) }
+        ensures rays { (p : PlanParts) (t : TableParts) (bytes : List ℕ) → HasBeenFed p t bytes self.entry → IfOk result (JudgedBy (reading (sizes_of p) bytes) (λ c v. JudgesRays (map_of p) c v)) }
+        ensures trees { (p : PlanParts) (t : TableParts) (bytes : List ℕ) → HasBeenFed p t bytes self.entry → IfOk result (JudgedBy (reading (sizes_of p) bytes) (λ c v. JudgesTrees (map_of p) c v)) }
+        ensures pairs { (p : PlanParts) (t : TableParts) (bytes : List ℕ) → HasBeenFed p t bytes self.entry → IfOk result (JudgedBy (reading (sizes_of p) bytes) (λ c v. JudgesPairs (map_of p) t c v)) }
+        ensures accepted { (p : PlanParts) (t : TableParts) (bytes : List ℕ) → HasBeenFed p t bytes self.entry → IfOk result (JudgedBy (reading (sizes_of p) bytes) (λ c v. IsYes v ↔ IsAccepted (map_of p) t.bytes c)) }
+        ensures sight { (p : PlanParts) (t : TableParts) (bytes : List ℕ) → HasBeenFed p t bytes self.entry → LinesMeetAtEnds (map_of p) → IfOk result (JudgedBy (reading (sizes_of p) bytes) (λ c v. IsYes v → TellsSight (map_of p) t c)) }
+    {
+        if self.spent {
+            return Err(Memory);
+        }
+        self.intake.end()
+    }
+}
