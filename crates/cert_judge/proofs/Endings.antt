@@ -53,8 +53,3 @@ accepted_by p t c v w = yes_exactly (map_of p) t c w.table v w.mesh w.rays w.tre
 
 pub tells_by : (p : PlanParts) (t : TableParts) → IsPlan p → LinesMeetAtEnds (map_of p) → (c : CertParts) (v : Verdict) → IsVerdictOf p t c v → IsYes v → TellsSight (map_of p) t c
 tells_by p t is_plan ends c v w said = accepted_tells (map_of p) t c w.table (plan_is_map p is_plan) ends ((accepted_by p t c v w).0 said)
-
--- whether a call failed is whether the judge is spent behind it
-pub err_spends : {T E : Type 0} (r : Result T E) (spent : Bool) → spent ≡ is_err r → OnErr r (spent ≡ true)
-err_spends (Ok x) spent e = tt
-err_spends (Err x) spent e = e

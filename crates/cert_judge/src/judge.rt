@@ -52,9 +52,11 @@ impl<'a> Judge<'a> {
         if self.spent {
             return Err(Memory);
         }
-        let fed = self.intake.feed(piece);
-        self.spent = fed.is_err();
-        fed
+        if let Err(memory) = self.intake.feed(piece) {
+            self.spent = true;
+            return Err(memory);
+        }
+        Ok(())
     }
 
     /// What comes of all the pieces, one behind the other: the fault where they spell no certificate of the plan's map,
