@@ -92,18 +92,6 @@ def rays(cert):
     return found
 
 
-def nodes(cert):
-    """How many nodes the trees of a certificate have."""
-    triangles, ray_count, listed, trees = header(cert)
-    at, total = 28 + 8 * triangles + 24 * ray_count + 4 * listed, 0
-    for _ in range(trees):
-        count = struct.unpack_from("<HQ", cert, at)[1]
-        at, total = at + 10, total + count
-        for _ in range(count):
-            at += 1 + 2 * cert[at]
-    return total
-
-
 def rejects(table, n, a, b):
     """Whether the bit of the pair is set; a table that is too short has no further bit."""
     place = a * n + b

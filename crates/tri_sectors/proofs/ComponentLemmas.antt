@@ -1,14 +1,13 @@
 -- Chains of neighbours, and how a passable line puts two components together.
-use Rattle.std.proofs.Common.{◌≡◌, ℕ, ◌+◌, ◌<◌, ◌≤◌, ◌⊎◌, inl, inr, List, [], ◌∷◌, ◌++◌, length, slice_get, Bool, true, false, not, IsFalse, Option, Some, None, refl, sym, ap, ◌∙◌, subst, arith, IfSome}
-use Rattle.std.proofs.lemmas.Option.{slice_get_within, get_or_from_slice_get, same_Some}
-use Rattle.std.proofs.lemmas.Bool.{false≢true}
+use Rattle.std.proofs.Common.{◌≡◌, ℕ, ◌+◌, ◌<◌, ◌≤◌, inl, inr, List, [], ◌∷◌, ◌++◌, length, slice_get, Bool, true, false, not, Option, Some, None, refl, sym, ap, ◌∙◌, subst, arith, IfSome}
+use Rattle.std.proofs.lemmas.Option.{slice_get_within, get_or_from_slice_get}
 use Rattle.sight_names.specs.declared.plan.Line.{Line}
 use Rattle.sight_names.specs.Plan.{PlanParts, IsPlan}
 use Rattle.sight_names.specs.Map.{Map, MapLine, map_of, looked_up, sector_on}
 use Rattle.sight_names.specs.Found.{AreNeighbours, IsChain, AreConnected}
 use Rattle.sight_names.proofs.PlanMap.{line_of_plan}
 use Rattle.mesh_shape.proofs.RuleLemmas.{plan_line_at}
-use Rattle.tri_sectors.specs.Classes.{AreLeast, AreMerged, AreSingles, class_of}
+use Rattle.tri_sectors.specs.Classes.{AreLeast, AreSingles, class_of}
 use Rattle.tri_sectors.specs.Components.{AreComponents, IsDoor, Connects}
 use Rattle.list_base.proofs.Numbers.{below_or_last}
 use Rattle.sight_names.proofs.Records.{none_is_no_line}

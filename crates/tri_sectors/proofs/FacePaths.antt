@@ -2,8 +2,8 @@
 use Rattle.std.proofs.Common.{◌≡◌, ◌≢◌, ℕ, ◌<◌, ℤ, pos, neg_ℤ, ◌+ℤ◌, ◌-ℤ◌, ◌*ℤ◌, ◌≤ℤ◌, ◌<ℤ◌, arith, refl, sym, ap, ◌∙◌, subst, inl, inr, List, [], ◌∷◌, length, Some, lit<}
 use borrow.Author.Differences.{ints}
 use lib.IntN.{*ℤ-zero}
-use Rattle.exact_ring.proofs.Quoting.{quoting, by_ring, combine2, combine3}
-use Rattle.exact_ring.proofs.Signs.{le_or_lt, mul-pos, mul-nonneg, pos-of-mul, same-of-mul}
+use Rattle.exact_ring.proofs.Quoting.{quoting, by_ring, combine3}
+use Rattle.exact_ring.proofs.Signs.{le_or_lt, mul-pos, pos-of-mul, same-of-mul}
 use Rattle.exact_ring.proofs.MoreSigns.{sum-nonpos}
 use Rattle.sight_names.specs.declared.names.Pt.{Pt}
 use Rattle.sight_names.specs.Point.{Point, point_of, turn_at, SamePoint, OnSegment, InsideSegment}
@@ -20,10 +20,9 @@ use Rattle.sight_laws.proofs.StepOff.{distance, distance_pos}
 use Rattle.mesh_base.proofs.Face.{SameSegment}
 use Rattle.mesh_base.proofs.GoodMesh.{PointFacts}
 use Rattle.mesh_shape.specs.Fills.{HasLeft}
-use Rattle.mesh_base.proofs.Joined.{Strict, CleanAll, whole, tri, free_inside, free_side, inside_free, joined, strict_mean, centre_strict, centre, middle, centre_value, middle_value}
+use Rattle.mesh_base.proofs.Joined.{Strict, CleanAll, whole, tri, free_inside, free_side, inside_free, joined, strict_mean, centre_strict, centre, middle, middle_value}
 use Rattle.exact_ring.proofs.Small.{zero_times}
 use Rattle.geom_exact.proofs.Uniqueness.{same_trans}
-use Rattle.sight_names.proofs.Portals.{scale_above}
 
 -- ---- one point under two names
 

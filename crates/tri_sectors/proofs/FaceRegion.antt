@@ -11,11 +11,11 @@ use Rattle.sight_names.specs.Path.{Touches}
 use Rattle.sight_names.specs.Points.{Edge, reverse_of, points_of, place, number_of}
 use Rattle.sight_names.specs.Sound.{IsOutside}
 use Rattle.sight_names.specs.Mesh.{HasEdge, label_of, side_edge, triangle_at, IsPlainMesh}
-use Rattle.plane_base.proofs.Vec.{V, Lin, at, det, On, bary, det-swap}
+use Rattle.plane_base.proofs.Vec.{V, Lin, at, det, On, bary}
 use Rattle.plane_base.proofs.Search.{In}
 use Rattle.plane_base.proofs.Walk.{Tri, turned, side, sides, Region}
 use Rattle.sight_laws.proofs.Bridge.{vec, value_at_is}
-use Rattle.sight_laws.proofs.Paths.{OnLineV, Holds, side_from, side_to, IsSide, is_side, inside_of, touch_walk, to_foot}
+use Rattle.sight_laws.proofs.Paths.{OnLineV, Holds, side_from, side_to, is_side, inside_of, touch_walk, to_foot}
 use Rattle.mesh_base.proofs.Face.{SameSegment, is_ab, is_bc, is_ca, line_is_edge}
 use Rattle.mesh_base.proofs.GoodMesh.{PointFacts, pv, tri_of, class, in_class, Member, corner_of, turned_to_edge, found_at, same_or_not, pt_of_vec, in_all, side_on, to_is, from_is}
 use Rattle.mesh_shape.proofs.RuleLemmas.{some_first}

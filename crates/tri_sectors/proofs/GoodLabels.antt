@@ -1,5 +1,5 @@
 -- Where no side is open and the sides of each face name the same, the labels make the mesh good.
-use Rattle.std.proofs.Common.{◌≡◌, ℕ, ◌<◌, ◌≤◌, ◌⊎◌, inl, inr, List, length, slice_get, slice_index_or, Bool, true, false, IsTrue, Option, Some, None, IfSome, Result, Ok, Err, IfOk, option_and_then, refl, sym, ap, ◌∙◌, subst, arith}
+use Rattle.std.proofs.Common.{◌≡◌, ℕ, ◌<◌, ◌⊎◌, inl, inr, List, length, slice_get, slice_index_or, Bool, true, false, IsTrue, Option, Some, None, IfSome, Result, Ok, Err, IfOk, option_and_then, refl, sym, ap, ◌∙◌, subst, arith}
 use Rattle.std.proofs.lemmas.Bool.{false≢true}
 use Rattle.std.proofs.lemmas.Option.{slice_get_within, slice_get-get_or, get_or_from_slice_get, slice_get_past, same_Some, none-some}
 use Rattle.sight_names.specs.declared.names.Side.{Side}

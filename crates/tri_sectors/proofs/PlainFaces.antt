@@ -1,7 +1,6 @@
 -- The triangles of a plain mesh that have one number in a list, as vectors: where their vertices are, and how their sides meet lines.
 use Rattle.std.proofs.Common.{◌≡◌, ℕ, ◌<◌, ℤ, pos, ◌+ℤ◌, ◌*ℤ◌, ◌<ℤ◌, arith, sym, ap, ◌∙◌, subst, ◌⊎◌, inl, inr, List, length, Option, Some, Bool, true, false}
 use borrow.Author.Differences.{ints}
-use Rattle.std.proofs.lemmas.Option.{slice_get_within}
 use lib.IntN.{zero-*ℤ, *ℤ_comm}
 use Rattle.exact_ring.proofs.Signs.{le_or_lt, mul-pos, pos-of-mul}
 use Rattle.sight_names.specs.declared.names.Pt.{Pt}
@@ -10,15 +9,15 @@ use Rattle.sight_names.specs.Point.{Point, point_of, SamePoint}
 use Rattle.sight_names.specs.Map.{Map, MapLine, line_at}
 use Rattle.sight_names.specs.Points.{Edge, points_of, place, number_of}
 use Rattle.sight_names.specs.Sound.{MeetAtEnds}
-use Rattle.sight_names.specs.Mesh.{side_edge, IsPlainMesh}
-use Rattle.plane_base.proofs.Vec.{V, Lin, at, IsComb, On, value, det-cycle, on_back}
+use Rattle.sight_names.specs.Mesh.{IsPlainMesh}
+use Rattle.plane_base.proofs.Vec.{V, Lin, at, IsComb, On, value, det-cycle}
 use Rattle.plane_base.proofs.Search.{In}
 use Rattle.plane_base.proofs.Walk.{Tri, turned, side, sides}
 use Rattle.sight_laws.proofs.Bridge.{vec, turn_at_is, segment_of_on}
 use Rattle.sight_laws.proofs.Paths.{OnLineV, side_from, side_to, point_at}
 use Rattle.mesh_base.proofs.Face.{Fair, SameSegment, Clean}
 use Rattle.mesh_base.proofs.Net.{IsAt}
-use Rattle.mesh_base.proofs.GoodMesh.{PointFacts, pv, tri_of, class, Member, Corner, corner_of, class_in, pt_of_vec, in_all, side_on, to_is, from_is, place_vec, comb_right, comb_left, turned_in}
+use Rattle.mesh_base.proofs.GoodMesh.{PointFacts, pv, tri_of, Member, Corner, corner_of, to_is, from_is, place_vec, comb_right, comb_left, turned_in}
 
 turn_of : (t g : Tri) → In g (sides t) → pos 0 <ℤ side t t.c → pos 0 <ℤ side g g.c
 turn_of t g i h =

@@ -1,8 +1,7 @@
 -- Open sides, sides that have triangles, and the names of faces.
-use Rattle.std.proofs.Common.{◌≡◌, ℕ, ◌+◌, ◌<◌, ◌≤◌, ◌⊎◌, inl, inr, List, [], ◌∷◌, ◌++◌, length, slice_get, slice_index_or, get_or, set, Bool, true, false, Option, Some, None, MatchOption, option_and_then, All, refl, sym, ap, ◌∙◌, subst, arith}
-use Rattle.std.proofs.lemmas.Bool.{cases_eq, false≢true}
-use Rattle.std.proofs.lemmas.Option.{slice_get_within, slice_get-get_or, get_or_from_slice_get, same_Some, none-some}
-use Rattle.std.proofs.lemmas.List.{get_or-set_same, get_or-set_other, get_or_append_left, get_or_at}
+use Rattle.std.proofs.Common.{◌≡◌, ℕ, ◌+◌, ◌<◌, ◌≤◌, ◌⊎◌, inl, inr, List, [], ◌∷◌, ◌++◌, length, slice_get, slice_index_or, get_or, Bool, true, false, Option, Some, None, MatchOption, option_and_then, All, refl, sym, ap, ◌∙◌, subst, arith}
+use Rattle.std.proofs.lemmas.Bool.{false≢true}
+use Rattle.std.proofs.lemmas.Option.{slice_get_within, slice_get-get_or, same_Some, none-some}
 use Rattle.sight_names.specs.declared.names.Side.{Side}
 use Rattle.sight_names.specs.declared.names.Triangle.{Triangle}
 use Rattle.sight_names.specs.declared.plan.Line.{Line}
@@ -16,8 +15,8 @@ use Rattle.mesh_shape.specs.Faults.{IsSideBefore}
 use Rattle.mesh_shape.proofs.RuleLemmas.{plan_line_at, no_line_there}
 use Rattle.tri_sectors.specs.declared.sides.FacedSide.{FacedSide}
 use Rattle.tri_sectors.specs.Classes.{IsBelow, class_of}
-use Rattle.tri_sectors.specs.Sides.{IsSealedEdge, IsSealedSide, IsSealedAt, IsFirstOfLine, IsOpenLine, IsFaced, AreFacedOf, AreFaced, AreAdded, IsAdded, AreAlike, IsOtherFrom, IsFirstMixed, AreNames, IsFacedBelow}
-use Rattle.list_base.proofs.Lists.{get_pushed, get_before_pushed, pushed_at, length_pushed}
+use Rattle.tri_sectors.specs.Sides.{IsSealedEdge, IsSealedSide, IsSealedAt, IsFirstOfLine, IsOpenLine, IsFaced, AreFacedOf, AreFaced, AreAdded, IsAdded, AreAlike, IsFacedBelow}
+use Rattle.list_base.proofs.Lists.{get_pushed, get_before_pushed, pushed_at}
 use Rattle.list_base.proofs.Numbers.{below_or_last}
 use Rattle.sight_names.proofs.Portals.{triangle_within}
 
