@@ -1,7 +1,6 @@
 -- What has become of the bytes, from part to part and from piece to piece, and what comes of them at the end.
-use Rattle.std.proofs.Common.{◌≡◌, ◌≢◌, ℕ, zero, suc, ◌+◌, ◌<◌, ◌^◌, List, [], ◌∷◌, ◌++◌, length, Option, Some, None, Result, Ok, Err, false, Contains, refl, sym, ap, subst, ◌∙◌, append_assoc, arith, inl, inr}
+use Rattle.std.proofs.Common.{◌≡◌, ℕ, zero, suc, ◌+◌, ◌<◌, ◌^◌, List, [], ◌∷◌, ◌++◌, length, Some, None, Result, Ok, Err, false, Contains, refl, sym, ap, subst, ◌∙◌, append_assoc, arith, inl, inr}
 use Rattle.std.specs.List.{AllByRecursion}
-use Rattle.std.specs.Prelude.{MatchOption}
 use Rattle.std.proofs.lemmas.List.{append-nil, length-append}
 use Rattle.std.proofs.lemmas.Option.{MatchOption-at_none}
 use Rattle.list_base.proofs.Lists.{contains_none}
@@ -11,7 +10,7 @@ use Rattle.sight_names.specs.Plan.{PlanParts}
 use Rattle.sight_tree.specs.declared.Tree.{Tree}
 use Rattle.reject_bits.specs.Parts.{TableParts}
 use Rattle.cert_format.specs.declared.cert.Sizes.{Sizes}
-use Rattle.cert_format.specs.Grammar.{AreSmall, FitsTree}
+use Rattle.cert_format.specs.Grammar.{FitsTree}
 use Rattle.cert_format.specs.Parts.{CertParts}
 use Rattle.cert_format.specs.Reading.{◌>>=◌, reading}
 use Rattle.cert_format.specs.Sizes.{sizes_of}
@@ -25,24 +24,16 @@ use Rattle.cert_judge.specs.declared.judge.Judge.{Judge}
 use Rattle.cert_judge.specs.Whole.{IsCertOf}
 use Rattle.cert_judge.specs.Judging.{HasHeard, HasHeardAll}
 use Rattle.cert_judge.specs.Judge.{MayBeFed}
-use Rattle.cert_judge.specs.Intake.{put_all, AreBytes, IsGoingOn, AreRefused, HasTaken}
+use Rattle.cert_judge.specs.Intake.{put_all, AreBytes, IsGoingOn, AreRefused}
 
 -- ---- parts, one behind the other
 
 abbrev pub all_read : List Part → Result (List Part) CertFault
 all_read parts = Ok parts
 
-put_none : (left : Result (List Part) CertFault) → put_all [] left ≡ left
-put_none (Ok others) = refl
-put_none (Err f) = refl
-
 put_one_more : (parts : List Part) (part : Part) (left : Result (List Part) CertFault) → put_all (parts ++ part ∷ []) left ≡ put_all parts (put_before (Some part) left)
 put_one_more parts part (Ok others) = ap all_read (append_assoc parts (part ∷ []) others)
 put_one_more parts part (Err f) = refl
-
--- all bytes were taken, and no fault is kept
-going_on : (p : PlanParts) (t : TableParts) (bytes : List ℕ) (k : Intake) → k.fault ≡ None → IsGoingOn p t bytes [] k → HasTaken p t bytes k
-going_on p t bytes k none w = subst (λ (o : Option CertFault). MatchOption o (IsGoingOn p t bytes [] k) (AreRefused p bytes)) (sym none) w
 
 module _ (p : PlanParts) (t : TableParts) (bytes rest : List ℕ) (k : Intake) (w : IsGoingOn p t bytes rest k) where
   -- the next part was read and heard
@@ -56,22 +47,6 @@ module _ (p : PlanParts) (t : TableParts) (bytes rest : List ℕ) (k : Intake) (
     given = given ∙ w.given;
     left = λ more. w.left more ∙ ap (put_all w.parts) (told more) ∙ sym (put_one_more w.parts part (parts_left new.reader (behind ++ more)));
   }
-
-  -- there was no part in what was left of the piece
-  pub none_taken : (behind : List ℕ) (new : Intake) → ((more : List ℕ) → parts_left k.reader (rest ++ more) ≡ parts_left new.reader (behind ++ more))
-      → new.reader.given + length behind ≡ k.reader.given + length rest → HasHeard p t w.parts new.judging → behind ≡ [] → new.fault ≡ None → HasTaken p t bytes new
-  none_taken behind new told given heard used none = going_on p t bytes new none (subst (λ (ahead : List ℕ). IsGoingOn p t bytes ahead new) used (record {
-    small = w.small;
-    fit = w.fit;
-    parts = w.parts;
-    heard = heard;
-    given = given ∙ w.given;
-    left = λ more. w.left more ∙ ap (put_all w.parts) (told more);
-  }))
-
-  -- a fault was told
-  pub fault_taken : (f : CertFault) → ((more : List ℕ) → parts_left k.reader (rest ++ more) ≡ Err f) → AreRefused p bytes f
-  fault_taken f told = λ more. w.left more ∙ ap (put_all w.parts) (told more)
 
 -- ---- a piece comes
 
@@ -89,14 +64,6 @@ piece_comes p t bytes piece k fit w = record {
   given = omega (arith, w.given, length-append bytes piece);
   left = λ more. ap (reading_parts (sizes_of p)) (append_assoc bytes piece more) ∙ w.left (piece ++ more);
 }
-
-pub still_refused : (p : PlanParts) (bytes piece : List ℕ) (f : CertFault) → AreRefused p bytes f → AreRefused p (bytes ++ piece) f
-still_refused p bytes piece f w = λ more. ap (reading_parts (sizes_of p)) (append_assoc bytes piece more) ∙ w (piece ++ more)
-
--- where a fault was kept before
-pub kept_refused : (p : PlanParts) (t : TableParts) (bytes piece : List ℕ) (k : Intake) (o : Option CertFault) → o ≢ None → MatchOption o (IsGoingOn p t bytes [] k) (AreRefused p bytes) → MatchOption o (IsGoingOn p t (bytes ++ piece) [] k) (AreRefused p (bytes ++ piece))
-kept_refused p t bytes piece k None some w = absurd (some refl)
-kept_refused p t bytes piece k (Some f) some w = still_refused p bytes piece f w
 
 -- ---- at the end
 
@@ -125,9 +92,6 @@ module _ (p : PlanParts) (t : TableParts) (bytes : List ℕ) (k : Intake) (w : I
   whole : reading_parts (sizes_of p) bytes ≡ put_all w.parts (parts_left k.reader [])
   whole = ap (reading_parts (sizes_of p)) (sym (append-nil bytes)) ∙ w.left []
 
-  pub fault_at_end : (f : CertFault) → parts_left k.reader [] ≡ Err f → reading_parts (sizes_of p) bytes ≡ Err f
-  fault_at_end f e = whole ∙ ap (put_all w.parts) e
-
   cert_of_plan : (c : CertParts) → t.n ≡ p.sectors → reading (sizes_of p) bytes ≡ Ok c → IsCertOf p t c
   cert_of_plan c fits e =
       let s = reading_takes (sizes_of p) bytes c w.small w.fit e in
@@ -151,18 +115,3 @@ pub may_count : (piece : List ℕ) (j : Judge) → MayBeFed piece j → j.spent 
 may_count piece j m fine none =
     let w = MatchOption-at_none (IsGoingOn m.plan m.table m.bytes [] j.intake) (AreRefused m.plan m.bytes) none (m.fed.taken fine) in
     omega (arith, w.given, m.few)
-
--- ---- at the beginning
-
-no_bytes : AreBytes []
-no_bytes i = omega arith
-
-pub begins : (p : PlanParts) (t : TableParts) (sizes : Sizes) (k : Intake) → sizes ≡ sizes_of p → AreSmall sizes → ((bytes : List ℕ) → parts_left k.reader bytes ≡ reading_parts sizes bytes) → k.reader.given ≡ 0 → HasHeard p t [] k.judging → IsGoingOn p t [] [] k
-begins p t sizes k same small told none heard = record {
-  small = subst AreSmall same small;
-  fit = no_bytes;
-  parts = [];
-  heard = heard;
-  given = omega (arith, none);
-  left = λ more. ap (λ (z : Sizes). reading_parts z more) (sym same) ∙ sym (told more) ∙ sym (put_none (parts_left k.reader more));
-}
