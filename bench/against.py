@@ -6,7 +6,7 @@
 Builds (one worker, with a certificate) and checks of single-map WADs cut out of Debian's package freedoom, and `grid 18`.
 Instructions are counted by valgrind's callgrind and don't depend on what else the machine does; each count is shown with
 its share of the older program's. Times are medians of runs in turns; memory is the peak of a build, with its share of
-certificate and WAD together. With --all every map of freedoom and freedm that the audit accepts is built by both, without
+certificate and WAD together, and that of a check by both programs. With --all every map of freedoom and freedm that the audit accepts is built by both, without
 counting: the tables must be equal byte for byte, and so must the certificates, or the map is named. The status is 1 where
 a table differs.
 """
@@ -61,9 +61,11 @@ def map_row(words, label, name, lumps, folder):
     run = Run(now)
     Run(before)
     held = os.path.getsize(cert_now) + os.path.getsize(source)
-    cells = against(label, [(now, before), ([words.program, "check", out_now, name, cert_now], [words.before, "check", out_before, name, cert_before])], folder, words.runs)
+    checks = [words.program, "check", out_now, name, cert_now], [words.before, "check", out_before, name, cert_before]
+    peaks = "%.0f / %.0f" % tuple(Run(check).megabytes for check in checks)
+    cells = against(label, [(now, before), checks], folder, words.runs)
     equal = "yes" if same(cert_now, cert_before) else "no"
-    return cells + ["%.0f (%.2f)" % (run.megabytes, run.megabytes * 1e6 / held), equal], same(out_now, out_before)
+    return cells + ["%.0f (%.2f)" % (run.megabytes, run.megabytes * 1e6 / held), peaks, equal], same(out_now, out_before)
 
 
 def all_maps(words, folder):
@@ -105,7 +107,7 @@ def main():
     with tempfile.TemporaryDirectory() as folder:
         if words.all:
             return 0 if all_maps(words, folder) else 1
-        print("| map | build, M instructions | build, s | check, M instructions | check, s | peak of the build, MB | certificates equal |\n|" + "---|" * 7)
+        print("| map | build, M instructions | build, s | check, M instructions | check, s | peak of the build, MB | of the check, now / before, MB | certificates equal |\n|" + "---|" * 8)
         for file in FREEDOOM[:2]:
             path = os.path.join(words.wads, file)
             for name, lumps in maps(open(path, "rb").read()) if os.path.exists(path) else ():
@@ -114,7 +116,7 @@ def main():
                     right = right and equal
                     print("| " + " | ".join(cells) + " |", flush=True)
         grid = [[program, "grid", "18", "--workers", "1"] for program in (words.program, words.before)]
-        print("| " + " | ".join(against("grid 18", [grid], folder, words.runs)) + " | | | | |", flush=True)
+        print("| " + " | ".join(against("grid 18", [grid], folder, words.runs)) + " | | | | | |", flush=True)
     return 0 if right else 1
 
 

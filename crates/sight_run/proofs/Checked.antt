@@ -34,6 +34,7 @@ use Rattle.sight_status.specs.declared.status.Status.TheVariants as status
 use Rattle.sight_status.specs.declared.status.Why.TheVariants as why
 use Rattle.sight_status.specs.Answer.{Answer, ◌>>=◌, IsTheAnswer, Written, only_line}
 use Rattle.sight_run.specs.Build.{BuildCalls, ShowsBuild, build_writes, report_behind}
+use Rattle.sight_run.proofs.CheckInputs.{input_as, is_input}
 use Rattle.sight_run.specs.Check.{CheckInput, CheckCalls, IsVerdictOn, OnCheckInput, VerdictCalls, check_input, cert_in, of_cert_fetch, of_length, of_reading, reject_of, yes_line}
 use Rattle.map_answers.specs.Input.{LocatedMap, OnFound, found_in}
 use Rattle.sight_run.specs.Heard.{Heard}
@@ -75,27 +76,6 @@ accepted_same m t u c bits h = record {
     clear_in_first a b p q (inr n) = inr (λ e. n (bits (b * m.sectors + a) (place_within b a m.sectors q p) ∙ e))
 
 -- ---- the table and the certificate
-
-abbrev input_as : List ℕ → CertParts → CheckInput
-input_as t c = record { table = t; cert = c }
-
-with_parts : List ℕ → Result CertParts Status → Result CheckInput Status
-with_parts t r = r >>= (λ parts. Ok (input_as t parts))
-
-with_cert : Map → List ℕ → Result (List ℕ) Status → Result CheckInput Status
-with_cert m t r = r >>= (λ bytes. with_parts t (cert_in m bytes))
-
-with_bytes : List ℕ → LocatedMap → Files → Result (List ℕ) Status → Result CheckInput Status
-with_bytes name found files r = r >>= (λ t. with_cert found.map t (of_cert_fetch (content_of (files name) 9223372036854775807)))
-
-input_by : (name : List ℕ) (found : LocatedMap) (files : Files) → check_input name found files ≡ with_bytes name found files (of_length found.map.sectors (reject_of found))
-unfolding check_input with_parts with_cert with_bytes
-input_by name found files = refl
-
-is_input : (name : List ℕ) (found : LocatedMap) (files : Files) (t spelled : List ℕ) (c : CertParts) → of_length found.map.sectors (reject_of found) ≡ Ok t → of_cert_fetch (content_of (files name) 9223372036854775807) ≡ Ok spelled → cert_in found.map spelled ≡ Ok c
-    → check_input name found files ≡ Ok (input_as t c)
-unfolding with_parts with_cert with_bytes
-is_input name found files t spelled c p q r = input_by name found files ∙ ap (with_bytes name found files) p ∙ ap (with_cert found.map t) q ∙ ap (with_parts t) r
 
 -- bytes of a table's length are taken
 right_length : (n : ℕ) (bytes t : List ℕ) → bytes ≡ t → length t ≡ table_len n → of_length n bytes ≡ Ok t

@@ -1,0 +1,2 @@
+mod OnWay
+mod Promises

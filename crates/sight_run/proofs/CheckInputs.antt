@@ -1,0 +1,118 @@
+-- What the order `check` reads, step by step, and the answers to what it judges.
+use Rattle.std.proofs.Common.{◌≡◌, ℕ, List, Result, Ok, Err, refl, sym, ap, ◌∙◌, subst, length, option_map}
+use Rattle.std.specs.Prelude.{⊤, String, string_bytes}
+use Rattle.std.specs.declared.alloc.Global.{Global}
+use Rattle.std.proofs.lemmas.List.{length-map}
+use Rattle.sight_names.specs.declared.faults.CertFault.{CertFault}
+use Rattle.sight_names.specs.declared.faults.CertFault.TheVariants as cert
+use Rattle.sight_names.specs.declared.faults.TableFault.TheVariants as table
+use Rattle.sight_names.specs.Map.{Map, looked_up, map_of}
+use Rattle.sight_names.specs.Plan.{IsPlan, PlanParts}
+use Rattle.sight_names.proofs.PlanPoints.{seen_points}
+use Rattle.shelf_io.specs.Shelf.{Files, content_of}
+use Rattle.reject_bits.specs.Parts.{TableParts}
+use Rattle.cert_format.specs.declared.cert.Sizes.{Sizes}
+use Rattle.cert_format.specs.Parts.{CertParts}
+use Rattle.cert_format.specs.Reading.{reading}
+use Rattle.cert_format.specs.Sizes.{sizes_of}
+use Rattle.cert_checker.specs.declared.verdict.Verdict.TheVariants as verdict
+use Rattle.cert_judge.specs.declared.judged.Judged.{Judged}
+use Rattle.cert_judge.specs.declared.judged.Judged.TheVariants as judged
+use Rattle.cert_judge.specs.Judged.{JudgedBy}
+use Rattle.cert_file.specs.Judgement.{IsJudged, IsJudgement}
+use Rattle.sight_status.specs.declared.status.Bound.TheVariants as bound
+use Rattle.sight_status.specs.declared.status.Role.TheVariants as role
+use Rattle.sight_status.specs.declared.status.Why.TheVariants as why
+use Rattle.sight_status.specs.declared.status.Status.{Status}
+use Rattle.sight_status.specs.declared.status.Status.TheVariants as status
+use Rattle.sight_status.specs.Answer.{Answer, Gives, Makes, ◌>>=◌, line_answer, only_line}
+use Rattle.sight_status.specs.Status.{IsOfCertFetch, IsOfCheckInput, IsOfTableTest}
+use Rattle.map_answers.specs.Input.{LocatedMap}
+use Rattle.map_answers.specs.Sound.{HasSoundLines, OnSoundLines}
+use Rattle.sight_run.specs.Check.{CheckCalls, CheckInput, IsTableOf, JudgesBytes, JudgesFetched, OnCheckInput, TakesTable, answer_of, cert_in, check_input, of_cert_fetch, of_length, of_reading, reject_of, yes_line}
+use Rattle.sight_run.specs.Sizes.{sizes_of_map}
+use Rattle.sight_run.proofs.Checks.{gives_unread, gives_verdict, sizes_at}
+
+-- ---- the table and the certificate
+
+abbrev pub input_as : List ℕ → CertParts → CheckInput
+input_as t c = record { table = t; cert = c }
+
+abbrev pub with_parts : List ℕ → Result CertParts Status → Result CheckInput Status
+with_parts t r = r >>= (λ parts. Ok (input_as t parts))
+
+abbrev pub with_cert : Map → List ℕ → Result (List ℕ) Status → Result CheckInput Status
+with_cert m t r = r >>= (λ bytes. with_parts t (cert_in m bytes))
+
+abbrev pub with_bytes : List ℕ → LocatedMap → Files → Result (List ℕ) Status → Result CheckInput Status
+with_bytes name found files r = r >>= (λ t. with_cert found.map t (of_cert_fetch (content_of (files name) 9223372036854775807)))
+
+pub input_by : (name : List ℕ) (found : LocatedMap) (files : Files) → check_input name found files ≡ with_bytes name found files (of_length found.map.sectors (reject_of found))
+unfolding check_input
+input_by name found files = refl
+
+pub is_input : (name : List ℕ) (found : LocatedMap) (files : Files) (t spelled : List ℕ) (c : CertParts) → of_length found.map.sectors (reject_of found) ≡ Ok t → of_cert_fetch (content_of (files name) 9223372036854775807) ≡ Ok spelled → cert_in found.map spelled ≡ Ok c
+    → check_input name found files ≡ Ok (input_as t c)
+is_input name found files t spelled c p q r = input_by name found files ∙ ap (with_bytes name found files) p ∙ ap (with_cert found.map t) q ∙ ap (with_parts t) r
+
+-- the sizes by the plan are those by its map
+pub one_size : (p : PlanParts) → IsPlan p → sizes_of p ≡ sizes_of_map (map_of p)
+one_size p plan = sizes_at _ _ _ _ _ _ refl (ap length (sym (seen_points p p refl plan))) (sym (length-map p.lines (option_map (looked_up p.points))))
+
+-- what was judged by the sizes of a plan was judged by those of its map
+pub by_map : (p : PlanParts) (table : TableParts) (bytes : List ℕ) (given : Judged) → IsPlan p → IsJudgement p table bytes given → JudgedBy (reading (sizes_of_map (map_of p)) bytes) (IsJudged (map_of p) table) given
+by_map p table bytes given plan h = subst (λ (s : Sizes). JudgedBy (reading s bytes) (IsJudged (map_of p) table) given) (one_size p plan) h
+
+-- ---- the answers
+
+module _ (name : List ℕ) (found : LocatedMap) (files : Files) (lines : HasSoundLines found.map) (n : ℕ) (raw : List ℕ) (size : n ≡ found.map.sectors) (same : raw ≡ reject_of found) where
+  input_from : check_input name found files ≡ with_bytes name found files (of_length n raw)
+  input_from = input_by name found files ∙ sym (λ i. with_bytes name found files (of_length (size i) (same i)))
+
+  -- the bytes are no table
+  pub table_refused : (V : Type 0) (s : Status) → IsOfTableTest s → TakesTable {V = V} n raw (Err s) → Gives ⊤ (CheckCalls name files found) (Err s)
+  table_refused V status.Memory of h = tt
+  table_refused V (status.No (why.Table table.Memory)) of h = absurd of
+  table_refused V (status.No (why.Table (table.WrongLength a b))) of h =
+      gives_unread found.map ⊤ (λ (x : CheckInput). x) (check_input name found files) (status.No (why.Table (table.WrongLength a b))) lines tt (input_from ∙ ap (with_bytes name found files) h)
+  table_refused V s of h = absurd of
+
+  module _ (taken : of_length n raw ≡ Ok raw) where
+    input_taken : (r : Result (List ℕ) Status) → of_cert_fetch (content_of (files name) 9223372036854775807) ≡ r → check_input name found files ≡ with_cert found.map raw r
+    input_taken r e = input_from ∙ ap (with_bytes name found files) taken ∙ ap (with_cert found.map raw) e
+
+    -- the file isn't read to its end
+    pub fetch_refused : (p : PlanParts) (t : TableParts) (s : Status) → IsOfCertFetch s → JudgesFetched p t (Err s) (of_cert_fetch (content_of (files name) 9223372036854775807)) → Gives ⊤ (CheckCalls name files found) (Err s)
+    fetch_refused p t status.Memory of h = tt
+    fetch_refused p t (status.ReadFault k) of h = tt
+    fetch_refused p t (status.NoFile role.Cert) of h = gives_unread found.map ⊤ (λ (x : CheckInput). x) (check_input name found files) (status.NoFile role.Cert) lines tt (input_taken _ h)
+    fetch_refused p t (status.Limit bound.CertBytes) of h = gives_unread found.map ⊤ (λ (x : CheckInput). x) (check_input name found files) (status.Limit bound.CertBytes) lines tt (input_taken _ h)
+    fetch_refused p t s of h = absurd of
+
+    -- the bytes spell no certificate
+    unread : (g : CertFault) → check_input name found files ≡ with_parts raw (of_reading (Err g)) → Gives ⊤ (CheckCalls name files found) (answer_of found.map.sectors (judged.Unread g))
+    unread cert.Memory e = tt
+    unread g e = gives_unread found.map ⊤ (λ (x : CheckInput). x) (check_input name found files) (status.No (why.Cert g)) lines tt e
+
+    by_reading : (t : TableParts) → IsTableOf found.map.sectors raw t → (r : Result CertParts CertFault) (given : Judged) → check_input name found files ≡ with_parts raw (of_reading r) → JudgedBy r (IsJudged found.map t) given → Gives ⊤ (CheckCalls name files found) (answer_of found.map.sectors given)
+    by_reading t is (Ok c) (judged.Verdict (verdict.Yes totals)) e h =
+        gives_verdict found.map (check_input name found files) (input_as raw c) t (Ok (only_line (yes_line found.map.sectors totals))) e is lines tt
+        (record { called = record { totals = totals; judged = h; is = refl }; only = λ sole. absurd sole })
+    by_reading t is (Ok c) (judged.Verdict (verdict.No f)) e h =
+        gives_verdict found.map (check_input name found files) (input_as raw c) t (Err (status.No (why.Check f))) e is lines tt (record { called = h; only = λ sole. absurd sole })
+    by_reading t is (Ok c) (judged.Unread g) e h = absurd h
+    by_reading t is (Err f) (judged.Verdict v) e h = absurd h
+    by_reading t is (Err f) (judged.Unread g) e h = unread g (e ∙ ap (λ (x : CertFault). with_parts raw (of_reading (Err x))) h)
+
+    -- what was judged is told
+    pub judged_gives : (t : TableParts) (bytes : List ℕ) (given : Judged) (r : Result (String Global) Status) → IsTableOf n raw t → of_cert_fetch (content_of (files name) 9223372036854775807) ≡ Ok bytes
+        → JudgedBy (reading (sizes_of_map found.map) bytes) (IsJudged found.map t) given → Makes (λ line. only_line (string_bytes line)) r (answer_of n given) → Gives ⊤ (CheckCalls name files found) (line_answer r)
+    judged_gives t bytes given r is whole h made = line_gives r made
+        (subst (λ (k : ℕ). Gives ⊤ (CheckCalls name files found) (answer_of k given)) (sym size)
+        (by_reading t (subst (λ (k : ℕ). IsTableOf k raw t) size is) (reading (sizes_of_map found.map) bytes) given (input_taken (Ok bytes) whole) h))
+      where
+        line_gives : (r : Result (String Global) Status) → Makes (λ line. only_line (string_bytes line)) r (answer_of n given) → Gives ⊤ (CheckCalls name files found) (answer_of n given) → Gives ⊤ (CheckCalls name files found) (line_answer r)
+        line_gives (Ok line) e g = subst (λ (x : Result Answer Status). Gives ⊤ (CheckCalls name files found) x) e g
+        line_gives (Err status.Memory) e g = tt
+        line_gives (Err (status.ReadFault k)) e g = tt
+        line_gives (Err s) e g = subst (λ (x : Result Answer Status). Gives ⊤ (CheckCalls name files found) x) e g
