@@ -15,3 +15,4 @@ pub mod OneTree
 pub mod Walking
 pub mod TreesSoFar
 pub mod TreesTold
+pub mod PartsTold

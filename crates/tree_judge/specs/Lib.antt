@@ -5,3 +5,4 @@ pub mod Whole
 pub mod Trees
 pub mod Walked
 pub mod Heard
+pub mod Part

@@ -9,6 +9,7 @@ ghost use Rattle.cert_format.specs.Accepted.{triangles_of, labels_of};
 ghost use Rattle.tree_judge.specs.Marks.{HasNoMark};
 ghost use Rattle.half_edges.specs.HalfEdges.{AreHalfEdges};
 ghost use Rattle.tree_judge.specs.Path.{longest_of};
+ghost use Rattle.tree_judge.specs.Part.{AreRootsOf, TellsPart};
 ghost use Rattle.tree_judge.specs.Roots.{AreRoots};
 ghost use Rattle.tree_judge.specs.Whole.{AreWholeOver, IsFirstWrongTree, HasNoBit, HaveSourcesBelow};
 ghost use Rattle.tree_judge.specs.Trees.{TellsTrees};
@@ -75,6 +76,25 @@ fn wrong_tree(
     None
 }
 
+/// Whether these trees of a map with so many sectors are whole, and what they keep from; or the first that isn't.
+pub fn judge_part(
+    alloc: Global,
+    sectors: u16,
+    terrain: &Terrain<'_>,
+    trees: &[Tree],
+) -> Result<TreeVerdict, Memory>
+    ensures { (m : Map) (ts : List Triangle) → m.sectors ≡ sectors → AreRootsOf m ts terrain.now.edges.now terrain.now.roots.now → HaveSourcesBelow m.sectors trees.now → IfOk result (TellsPart m ts terrain.now.edges.now trees.now) }
+{
+    let mut path = path_of(alloc, trees)?;
+    let mut walked = unmarked(alloc, sectors)?;
+    let mut reached = unreached(alloc, sectors)?;
+    let path = path.as_mut_slice();
+    match wrong_tree(terrain, path, walked.as_mut_slice(), &mut reached, trees) {
+        Some((source, node)) => Ok(TreeVerdict::Wrong { source, node }),
+        None => Ok(TreeVerdict::Whole(Reach { walked, reached })),
+    }
+}
+
 /// Whether all trees of the certificate are whole over its triangles, and what they keep from; or the first that isn't.
 pub fn judge_trees(
     alloc: Global,
@@ -90,18 +110,10 @@ pub fn judge_trees(
     requires edges { AreHalfEdges plan.now mesh.now.triangles (labels_of cert.now) edges.now }
     ensures { IfOk result (TellsTrees (map_of plan.now) cert.now) }
 {
-    let trees = cert.trees();
-    let mut path = path_of(alloc, trees)?;
-    let mut walked = unmarked(alloc, plan.sectors)?;
-    let mut reached = unreached(alloc, plan.sectors)?;
     let roots = Roots::of(alloc, plan, mesh, edges)?;
     let terrain = Terrain {
         edges,
         roots: &roots,
     };
-    let path = path.as_mut_slice();
-    match wrong_tree(&terrain, path, walked.as_mut_slice(), &mut reached, trees) {
-        Some((source, node)) => Ok(TreeVerdict::Wrong { source, node }),
-        None => Ok(TreeVerdict::Whole(Reach { walked, reached })),
-    }
+    judge_part(alloc, plan.sectors, &terrain, cert.trees())
 }

@@ -9,5 +9,7 @@ mod trees;
 mod walk;
 
 pub use hearing::TreeJudge;
-pub use judge::{Reach, TreeVerdict, judge_trees};
+pub use judge::{Reach, TreeVerdict, judge_part, judge_trees, unmarked, unreached};
 pub use marks::mark;
+pub use roots::Roots;
+pub use trees::Terrain;
