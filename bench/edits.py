@@ -18,11 +18,11 @@ ROOT = os.path.dirname(os.path.dirname(os.path.abspath(__file__)))
 
 
 def copied(to):
-    """Copies what the prover reads, with what it kept, and makes an edit of each text beside the edits."""
+    """Copies what the prover reads, and makes an edit of each text beside the edits."""
     os.mkdir(os.path.join(to, ".git"))
     for name in ("crates.txt", "HANDLES"):
         shutil.copy2(os.path.join(ROOT, name), to)
-    shutil.copytree(os.path.join(ROOT, "crates"), os.path.join(to, "crates"), symlinks=True)
+    shutil.copytree(os.path.join(ROOT, "crates"), os.path.join(to, "crates"), ignore=shutil.ignore_patterns("out"))
     for folder, _, files in os.walk(os.path.join(to, "crates")):
         if os.path.basename(folder) == "must-fail":
             for file in (f for f in files if f.endswith(".md")):
