@@ -1,5 +1,5 @@
 -- What the judge promises of a verdict, clause by clause, is one promise.
-use Rattle.std.proofs.Common.{◌↔◌, ℕ, List, Result, Ok, Err}
+use Rattle.std.proofs.Common.{◌↔◌, Result, Ok, Err}
 use Rattle.std.specs.Prelude.{IfOk}
 use Rattle.sight_names.specs.declared.faults.CertFault.{CertFault}
 use Rattle.sight_names.specs.declared.names.Memory.{Memory}

@@ -2,5 +2,6 @@
 #![tactic(auto)]
 
 mod file;
+mod received;
 
 pub use file::judge_file;

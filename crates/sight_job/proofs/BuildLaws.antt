@@ -1,6 +1,6 @@
 -- The walks of all sectors, and what they decide as parts of a certificate in range and order.
-use Rattle.std.proofs.Common.{◌≡◌, ℕ, zero, suc, ◌-◌, ◌^◌, ◌<◌, ◌≤◌, ◌⊎◌, inl, inr, List, [], ◌∷◌, ◌++◌, length, map, get_or, slice_get, Contains, Option, Some, None, refl, sym, ap, ◌∙◌, subst, arith, add-one}
-use Rattle.std.specs.Prelude.{Result, Ok, Err, IfOk, slice_index, replicate, option_and_then}
+use Rattle.std.proofs.Common.{◌≡◌, ℕ, zero, suc, ◌-◌, ◌^◌, ◌<◌, ◌≤◌, ◌⊎◌, inl, inr, List, [], ◌∷◌, ◌++◌, length, map, get_or, slice_get, Contains, Option, Some, refl, sym, subst, arith, add-one}
+use Rattle.std.specs.Prelude.{Result, Ok, Err, IfOk, slice_index, replicate}
 use Rattle.std.specs.List.{AllByRecursion}
 use Rattle.std.specs.List.Sorted.{IsStrictlyIncreasing}
 use Rattle.std.proofs.lemmas.List.Elements.{recursion_from_All, Contains-get_or}
@@ -11,7 +11,7 @@ use Rattle.sight_names.specs.declared.names.Memory.{Memory}
 use Rattle.sight_names.specs.declared.names.Pair.{Pair}
 use Rattle.sight_names.specs.declared.names.PairRay.{PairRay}
 use Rattle.sight_names.specs.declared.names.Ray.{Ray}
-use Rattle.sight_names.specs.Mesh.{label_of, AreTriangles, IsGoodMesh}
+use Rattle.sight_names.specs.Mesh.{AreTriangles, IsGoodMesh}
 use Rattle.sight_names.specs.Plan.{PlanParts, IsPlan}
 use Rattle.sight_tree.specs.declared.Node.{Node}
 use Rattle.sight_tree.specs.declared.Node.TheVariants.{Open, Blocked}
@@ -38,10 +38,10 @@ use Rattle.pair_budget.specs.Whole.{IsShown}
 use Rattle.tri_sectors.specs.Components.{AreComponents}
 use Rattle.sight_workers.specs.declared.view.Task.{Task}
 use Rattle.sight_workers.specs.Teams.{AreWalked}
-use Rattle.sight_job.specs.Built.{sizes_of, AreWalks, AreVerdicts, AreShown, AreWholeTrees}
+use Rattle.cert_format.specs.Sizes.{sizes_of}
+use Rattle.sight_job.specs.Built.{AreWalks, AreVerdicts, AreShown, AreWholeTrees}
 use Rattle.list_base.proofs.Numbers.{below_or_at}
 use Rattle.list_base.proofs.Lists.{all_join}
-use Rattle.tri_sectors.proofs.GoodLabels.{label_within}
 
 -- ---- labels
 

@@ -21,7 +21,6 @@ use Rattle.tri_sectors.specs.Components.{AreComponents}
 use Rattle.sight_tree.specs.declared.Tree.{Tree}
 use Rattle.sight_tree.specs.WholeTree.{IsWholeTree, KeepsFrom}
 use Rattle.reject_bits.specs.Parts.{Rejects}
-use Rattle.cert_format.specs.declared.cert.Sizes.{Sizes}
 use Rattle.cert_format.specs.Accepted.{HasRay, HasTreeWithout, IsPairListed, IsNamed, triangles_of, labels_of}
 use Rattle.pair_budget.specs.declared.results.SourceResult.{SourceResult}
 use Rattle.pair_budget.specs.declared.results.Verdicts.{Verdicts}
@@ -31,10 +30,6 @@ use Rattle.pair_budget.specs.Whole.{IsShown}
 use Rattle.sight_job.specs.declared.build.Built.{Built}
 use Rattle.sight_job.specs.Faces.{IsFaceFault}
 use Rattle.pair_budget.specs.Decide.{AreResults, IsSettled, DecidesTable, DecidesList, DecidesRays, trees_of}
-
--- the sizes of a certificate of this plan
-abbrev pub sizes_of : PlanParts → Sizes
-sizes_of p = record { sectors = p.sectors; points = length p.points; lines = length p.lines }
 
 -- why a map gets no table: its faces, as their audit tells
 abbrev pub IsBuildFault : Map → BuildFault → Type 0

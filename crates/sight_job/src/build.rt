@@ -8,7 +8,8 @@ ghost use Rattle.sight_names.specs.Mesh.{IsGoodMesh, IsMeshOf};
 ghost use Rattle.sight_names.specs.Sound.{IsSound, LinesMeetAtEnds};
 ghost use Rattle.cert_format.specs.Accepted.{IsAccepted, triangles_of, labels_of};
 ghost use Rattle.sight_job.specs.Faces.{AreFacesOf};
-ghost use Rattle.sight_job.specs.Built.{sizes_of, IsBuildFault, AreVerdicts, HasRaysOfClear, RaysJoinPairs, ListsClear, IsSymmetric, HasDiagonal, HasTreesOfSet, HasTrianglesOf, HasWholeTrees, AreSetApart, AreTreesOfUnspent, AreWholeTrees, HasTreesOfUnspent, IsWhole, DecidesByMesh, ListsSpent};
+ghost use Rattle.cert_format.specs.Sizes.{sizes_of};
+ghost use Rattle.sight_job.specs.Built.{IsBuildFault, AreVerdicts, HasRaysOfClear, RaysJoinPairs, ListsClear, IsSymmetric, HasDiagonal, HasTreesOfSet, HasTrianglesOf, HasWholeTrees, AreSetApart, AreTreesOfUnspent, AreWholeTrees, HasTreesOfUnspent, IsWhole, DecidesByMesh, ListsSpent};
 ghost use Rattle.sight_job.specs.Sight.{AreRaysAlong, HasSightRays, TellsWhoSees};
 ghost use Rattle.pair_budget.specs.Decided.{DecidesOver};
 

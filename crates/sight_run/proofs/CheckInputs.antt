@@ -1,20 +1,17 @@
 -- What the order `check` reads, step by step, and the answers to what it judges.
-use Rattle.std.proofs.Common.{◌≡◌, ℕ, List, Result, Ok, Err, refl, sym, ap, ◌∙◌, subst, length, option_map}
+use Rattle.std.proofs.Common.{◌≡◌, ℕ, List, Result, Ok, Err, refl, sym, ap, ◌∙◌, subst}
 use Rattle.std.specs.Prelude.{⊤, String, string_bytes}
 use Rattle.std.specs.declared.alloc.Global.{Global}
-use Rattle.std.proofs.lemmas.List.{length-map}
 use Rattle.sight_names.specs.declared.faults.CertFault.{CertFault}
 use Rattle.sight_names.specs.declared.faults.CertFault.TheVariants as cert
 use Rattle.sight_names.specs.declared.faults.TableFault.TheVariants as table
-use Rattle.sight_names.specs.Map.{Map, looked_up, map_of}
+use Rattle.sight_names.specs.Map.{Map, map_of}
 use Rattle.sight_names.specs.Plan.{IsPlan, PlanParts}
-use Rattle.sight_names.proofs.PlanPoints.{seen_points}
 use Rattle.shelf_io.specs.Shelf.{Files, content_of}
 use Rattle.reject_bits.specs.Parts.{TableParts}
 use Rattle.cert_format.specs.declared.cert.Sizes.{Sizes}
 use Rattle.cert_format.specs.Parts.{CertParts}
 use Rattle.cert_format.specs.Reading.{reading}
-use Rattle.cert_format.specs.Sizes.{sizes_of}
 use Rattle.cert_checker.specs.declared.verdict.Verdict.TheVariants as verdict
 use Rattle.cert_judge.specs.declared.judged.Judged.{Judged}
 use Rattle.cert_judge.specs.declared.judged.Judged.TheVariants as judged
@@ -26,12 +23,13 @@ use Rattle.sight_status.specs.declared.status.Why.TheVariants as why
 use Rattle.sight_status.specs.declared.status.Status.{Status}
 use Rattle.sight_status.specs.declared.status.Status.TheVariants as status
 use Rattle.sight_status.specs.Answer.{Answer, Gives, Makes, ◌>>=◌, line_answer, only_line}
-use Rattle.sight_status.specs.Status.{IsOfCertFetch, IsOfCheckInput, IsOfTableTest}
+use Rattle.sight_status.specs.Status.{IsOfCertFetch, IsOfTableTest}
 use Rattle.map_answers.specs.Input.{LocatedMap}
-use Rattle.map_answers.specs.Sound.{HasSoundLines, OnSoundLines}
-use Rattle.sight_run.specs.Check.{CheckCalls, CheckInput, IsTableOf, JudgesBytes, JudgesFetched, OnCheckInput, TakesTable, answer_of, cert_in, check_input, of_cert_fetch, of_length, of_reading, reject_of, yes_line}
+use Rattle.map_answers.specs.Sound.{HasSoundLines}
+use Rattle.sight_run.specs.Check.{CheckCalls, CheckInput, IsTableOf, JudgesFetched, TakesTable, answer_of, cert_in, check_input, of_cert_fetch, of_length, of_reading, reject_of, yes_line}
 use Rattle.sight_run.specs.Sizes.{sizes_of_map}
-use Rattle.sight_run.proofs.Checks.{gives_unread, gives_verdict, sizes_at}
+use Rattle.sight_run.proofs.Building.{same_sizes}
+use Rattle.sight_run.proofs.Checks.{gives_unread, gives_verdict}
 
 -- ---- the table and the certificate
 
@@ -55,13 +53,9 @@ pub is_input : (name : List ℕ) (found : LocatedMap) (files : Files) (t spelled
     → check_input name found files ≡ Ok (input_as t c)
 is_input name found files t spelled c p q r = input_by name found files ∙ ap (with_bytes name found files) p ∙ ap (with_cert found.map t) q ∙ ap (with_parts t) r
 
--- the sizes by the plan are those by its map
-pub one_size : (p : PlanParts) → IsPlan p → sizes_of p ≡ sizes_of_map (map_of p)
-one_size p plan = sizes_at _ _ _ _ _ _ refl (ap length (sym (seen_points p p refl plan))) (sym (length-map p.lines (option_map (looked_up p.points))))
-
 -- what was judged by the sizes of a plan was judged by those of its map
 pub by_map : (p : PlanParts) (table : TableParts) (bytes : List ℕ) (given : Judged) → IsPlan p → IsJudgement p table bytes given → JudgedBy (reading (sizes_of_map (map_of p)) bytes) (IsJudged (map_of p) table) given
-by_map p table bytes given plan h = subst (λ (s : Sizes). JudgedBy (reading s bytes) (IsJudged (map_of p) table) given) (one_size p plan) h
+by_map p table bytes given plan h = subst (λ (s : Sizes). JudgedBy (reading s bytes) (IsJudged (map_of p) table) given) (same_sizes p plan) h
 
 -- ---- the answers
 

@@ -1,5 +1,5 @@
 -- The check of what a build wrote has one answer, and it is yes.
-use Rattle.std.proofs.Common.{◌≡◌, ℕ, zero, suc, ◌+◌, ◌*◌, ◌^◌, ◌<◌, ◌≤◌, inl, inr, List, ◌++◌, length, Bool, true, false, if◌then◌else◌, nat_lt, Option, Some, None, Result, Ok, Err, refl, sym, ap, ◌∙◌, subst, arith}
+use Rattle.std.proofs.Common.{◌≡◌, ℕ, ◌+◌, ◌*◌, ◌^◌, ◌<◌, ◌≤◌, inl, inr, List, ◌++◌, length, Bool, true, false, if◌then◌else◌, nat_lt, Option, Some, Result, Ok, Err, refl, sym, ap, ◌∙◌, subst, arith}
 use Rattle.std.specs.Prelude.{codes}
 use Rattle.std.specs.Option.{option_map}
 use Rattle.std.proofs.lemmas.Bool.{le-ltb}
@@ -11,7 +11,7 @@ use Rattle.sight_names.specs.Map.{Map}
 use Rattle.sight_names.specs.Sound.{LinesMeetAtEnds}
 use Rattle.sight_names.specs.Table.{table_bit}
 use Rattle.map_audit.proofs.AuditLemmas.{not_sound}
-use Rattle.shelf_io.specs.Shelf.{Files, ShelfState, content_of, put}
+use Rattle.shelf_io.specs.Shelf.{Files, ShelfState, content_of}
 use Rattle.shelf_io.specs.Sink.{SinkState}
 use Rattle.wad_dir.specs.Map.{same_name}
 use Rattle.cert_format.specs.Accepted.{EitherClear, EitherSet, IsAccepted}
@@ -49,7 +49,7 @@ use Rattle.sight_run.proofs.Round.{IsFoundAgain, found_again, found_then, same_o
 use Rattle.sight_run.proofs.Stood.{IsOther, before_report, bytes_of, cert_apart, of_words, out_apart, under_cert, under_out}
 use Rattle.sight_run.proofs.Totals.{same_counts}
 use Rattle.list_base.proofs.Options.{some_is_same}
-use Rattle.list_base.proofs.Numbers.{place_within, row_within}
+use Rattle.list_base.proofs.Numbers.{place_within}
 
 -- ---- the table's bits
 
