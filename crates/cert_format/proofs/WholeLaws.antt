@@ -28,7 +28,7 @@ use Rattle.list_base.proofs.Options.{some_is_same}
 
 -- ---- the header
 
-abbrev count_bytes : Counts → List ℕ
+abbrev pub count_bytes : Counts → List ℕ
 count_bytes c = fields.count_bytes c.triangles c.rays c.listed c.trees
 
 front_takes : (sizes : Sizes) (total : ℕ) (bytes rest : List ℕ) → IsBytes bytes → front_at sizes total bytes ≡ Ok rest → Takes bytes (front_bytes sizes) rest
@@ -69,7 +69,7 @@ pub record FitCounts (c : Counts) : Type 0 where
   pub listed : c.listed < 2 ^ 32
   pub trees : c.trees < 2 ^ 32
 
-counts_take : (total : ℕ) (bytes : List ℕ) (x : Counts × List ℕ) → IsBytes bytes → counts_at total bytes ≡ Ok x → Takes bytes (count_bytes x.0) x.1 × FitCounts x.0
+pub counts_take : (total : ℕ) (bytes : List ℕ) (x : Counts × List ℕ) → IsBytes bytes → counts_at total bytes ≡ Ok x → Takes bytes (count_bytes x.0) x.1 × FitCounts x.0
 unfolding counts_at triangle_count_at
 counts_take total bytes x fits e =
     let t = bind_ok _ _ x e in
@@ -87,7 +87,7 @@ counts_take total bytes x fits e =
     let taken = Takes-then bytes (u32 t.0.0 ++ u32 r.0.0 ++ u32 l.0.0) l.0.1 (u32 f.0.0) f.0.1 (Takes-then bytes (u32 t.0.0 ++ u32 r.0.0) r.0.1 (u32 l.0.0) l.0.1 (Takes-then bytes (u32 t.0.0) t.0.1 (u32 r.0.0) r.0.1 both.0 t1.0) t2.0) t3.0 in
     subst (λ (y : Counts × List ℕ). Takes bytes (count_bytes y.0) y.1 × FitCounts y.0) {x = made} (ok_is made x f.2) (taken, record { triangles = both.1; rays = t1.1; listed = t2.1; trees = t3.1 })
 
-counts_again : (total : ℕ) (c : Counts) (rest : List ℕ) → FitCounts c → counts_at total (count_bytes c ++ rest) ≡ Ok (c, rest)
+pub counts_again : (total : ℕ) (c : Counts) (rest : List ℕ) → FitCounts c → counts_at total (count_bytes c ++ rest) ≡ Ok (c, rest)
 unfolding counts_at triangle_count_at
 counts_again total c rest fits =
     rw (
@@ -100,7 +100,7 @@ counts_again total c rest fits =
 
 -- ---- the parts
 
-above_carries : (a b c : Triangle) → IsAbove a b → IsAbove b c → IsAbove a c
+pub above_carries : (a b c : Triangle) → IsAbove a b → IsAbove b c → IsAbove a c
 above_carries a b c (inl h) (inl g) = inl (omega (arith, h, g))
 above_carries a b c (inl h) (inr (e, g)) = inl (omega (arith, h, e))
 above_carries a b c (inr (e, h)) (inl g) = inl (omega (arith, e, g))
@@ -109,16 +109,16 @@ above_carries a b c (inr (e, inl h)) (inr (f, inr (i, g))) = inr (e ∙ f, inl (
 above_carries a b c (inr (e, inr (j, h))) (inr (f, inl g)) = inr (e ∙ f, inl (omega (arith, j, g)))
 above_carries a b c (inr (e, inr (j, h))) (inr (f, inr (i, g))) = inr (e ∙ f, inr (j ∙ i, omega (arith, h, g)))
 
-pair_carries : (a b c : Pair) → PairBefore a b → PairBefore b c → PairBefore a c
+pub pair_carries : (a b c : Pair) → PairBefore a b → PairBefore b c → PairBefore a c
 pair_carries a b c (inl h) (inl g) = inl (omega (arith, h, g))
 pair_carries a b c (inl h) (inr (e, g)) = inl (omega (arith, h, e))
 pair_carries a b c (inr (e, h)) (inl g) = inl (omega (arith, e, g))
 pair_carries a b c (inr (e, h)) (inr (f, g)) = inr (e ∙ f, omega (arith, h, g))
 
-source_carries : (a b c : Tree) → a.source < b.source → b.source < c.source → a.source < c.source
+pub source_carries : (a b c : Tree) → a.source < b.source → b.source < c.source → a.source < c.source
 source_carries a b c h g = omega (arith, h, g)
 
-abbrev triangle_list : List Labelled → List Triangle
+abbrev pub triangle_list : List Labelled → List Triangle
 triangle_list ls = map (λ (l : Labelled). l.triangle) ls
 
 -- the labelled triangle behind a triangle of the list
@@ -127,7 +127,7 @@ got [] i t h = absurd cc
 got (l ∷ ls) zero t h = (l, refl, some_is_same l.triangle t h)
 got (l ∷ ls) (suc i) t h = got ls i t h
 
-got_back : (ls : List Labelled) (i : ℕ) (l : Labelled) → slice_get ls i ≡ Some l → slice_get (triangle_list ls) i ≡ Some l.triangle
+pub got_back : (ls : List Labelled) (i : ℕ) (l : Labelled) → slice_get ls i ≡ Some l → slice_get (triangle_list ls) i ≡ Some l.triangle
 got_back [] i l h = absurd cc
 got_back (k ∷ ls) zero l h = ap (λ (x : Labelled). Some x.triangle) (some_is_same k l h)
 got_back (k ∷ ls) (suc i) l h = got_back ls i l h
@@ -137,41 +137,41 @@ fits_at sizes [] h i l e = absurd cc
 fits_at sizes (k ∷ ls) h zero l e = subst (FitsLabelled sizes) {x = k} (some_is_same k l e) h.0
 fits_at sizes (k ∷ ls) h (suc i) l e = fits_at sizes ls h.1 i l e
 
-triangles_are : (sizes : Sizes) (ls : List Labelled) → AllByRecursion (FitsLabelled sizes) ls → Ascends (λ x y. IsAbove x.triangle y.triangle) ls → AreTriangles sizes.points (triangle_list ls)
+pub triangles_are : (sizes : Sizes) (ls : List Labelled) → AllByRecursion (FitsLabelled sizes) ls → Ascends (λ x y. IsAbove x.triangle y.triangle) ls → AreTriangles sizes.points (triangle_list ls)
 triangles_are sizes ls fit ascend = record {
   each = λ k t h. let g = got ls k t h in subst (IsTriangle sizes.points) g.2 (fits_at sizes ls fit k g.0 g.1).triangle;
   ascend = λ i j t u lt h g. let p = got ls i t h in let q = got ls j u g in subst (λ (w : Triangle). IsAbove w u) p.2 (subst (λ (w : Triangle). IsAbove p.0.triangle w) q.2 (ascend i j p.0 q.0 lt p.1 q.1));
 }
 
-sectors_are : (sizes : Sizes) (ls : List Labelled) → AllByRecursion (FitsLabelled sizes) ls → AllByRecursion (λ (l : Labelled). l.sector < sizes.sectors) ls
+pub sectors_are : (sizes : Sizes) (ls : List Labelled) → AllByRecursion (FitsLabelled sizes) ls → AllByRecursion (λ (l : Labelled). l.sector < sizes.sectors) ls
 sectors_are sizes [] h = tt
 sectors_are sizes (l ∷ ls) h = (h.0.sector, sectors_are sizes ls h.1)
 
-labelled_fit : (sizes : Sizes) (ls : List Labelled) → ((k : ℕ) (l : Labelled) → slice_get ls k ≡ Some l → IsTriangle sizes.points l.triangle) → AllByRecursion (λ (l : Labelled). l.sector < sizes.sectors) ls → AllByRecursion (FitsLabelled sizes) ls
+pub labelled_fit : (sizes : Sizes) (ls : List Labelled) → ((k : ℕ) (l : Labelled) → slice_get ls k ≡ Some l → IsTriangle sizes.points l.triangle) → AllByRecursion (λ (l : Labelled). l.sector < sizes.sectors) ls → AllByRecursion (FitsLabelled sizes) ls
 labelled_fit sizes [] each h = tt
 labelled_fit sizes (l ∷ ls) each h = (record { triangle = each 0 l refl; sector = h.0 }, labelled_fit sizes ls (λ k m e. each (suc k) m e) h.1)
 
-ranges_of : (sizes : Sizes) (rs : List PairRay) → AllByRecursion (FitsPairRay sizes) rs → AllByRecursion (IsRayInRange sizes) rs
+pub ranges_of : (sizes : Sizes) (rs : List PairRay) → AllByRecursion (FitsPairRay sizes) rs → AllByRecursion (IsRayInRange sizes) rs
 ranges_of sizes [] h = tt
 ranges_of sizes (r ∷ rs) h = (h.0.in_range, ranges_of sizes rs h.1)
 
-rays_fit : (sizes : Sizes) (rs : List PairRay) → AllByRecursion (FitsPairRay sizes) rs → AllByRecursion (λ (r : PairRay). FitsRay r.ray) rs
+pub rays_fit : (sizes : Sizes) (rs : List PairRay) → AllByRecursion (FitsPairRay sizes) rs → AllByRecursion (λ (r : PairRay). FitsRay r.ray) rs
 rays_fit sizes [] h = tt
 rays_fit sizes (r ∷ rs) h = (h.0.fits, rays_fit sizes rs h.1)
 
-pair_rays_fit : (sizes : Sizes) (rs : List PairRay) → AllByRecursion (IsRayInRange sizes) rs → AllByRecursion (λ (r : PairRay). FitsRay r.ray) rs → AllByRecursion (FitsPairRay sizes) rs
+pub pair_rays_fit : (sizes : Sizes) (rs : List PairRay) → AllByRecursion (IsRayInRange sizes) rs → AllByRecursion (λ (r : PairRay). FitsRay r.ray) rs → AllByRecursion (FitsPairRay sizes) rs
 pair_rays_fit sizes [] h g = tt
 pair_rays_fit sizes (r ∷ rs) h g = (record { in_range = h.0; fits = g.0 }, pair_rays_fit sizes rs h.1 g.1)
 
-tree_ranges : (sizes : Sizes) (ts : List Tree) → AllByRecursion (FitsTree sizes) ts → AllByRecursion (IsTreeInRange sizes) ts
+pub tree_ranges : (sizes : Sizes) (ts : List Tree) → AllByRecursion (FitsTree sizes) ts → AllByRecursion (IsTreeInRange sizes) ts
 tree_ranges sizes [] h = tt
 tree_ranges sizes (t ∷ ts) h = ((h.0.source, in_orders t.nodes h.0.nodes), tree_ranges sizes ts h.1)
 
-fields_fit : (sizes : Sizes) (ts : List Tree) → AllByRecursion (FitsTree sizes) ts → AllByRecursion fields.FitsTree ts
+pub fields_fit : (sizes : Sizes) (ts : List Tree) → AllByRecursion (FitsTree sizes) ts → AllByRecursion fields.FitsTree ts
 fields_fit sizes [] h = tt
 fields_fit sizes (t ∷ ts) h = (record { count = h.0.count; nodes = all_fit t.nodes h.0.nodes }, fields_fit sizes ts h.1)
 
-trees_fit : (sizes : Sizes) (ts : List Tree) → AllByRecursion (IsTreeInRange sizes) ts → AllByRecursion fields.FitsTree ts → AllByRecursion (FitsTree sizes) ts
+pub trees_fit : (sizes : Sizes) (ts : List Tree) → AllByRecursion (IsTreeInRange sizes) ts → AllByRecursion fields.FitsTree ts → AllByRecursion (FitsTree sizes) ts
 trees_fit sizes [] h g = tt
 trees_fit sizes (t ∷ ts) h g = (record { source = h.0.0; count = g.0.count; nodes = fit_in_order t.nodes h.0.1 g.0.nodes }, trees_fit sizes ts h.1 g.1)
 

@@ -5,11 +5,11 @@
 mod cert;
 pub mod fields;
 mod laws;
-mod pieces;
-mod ranges;
+pub mod pieces;
+pub mod ranges;
 pub mod reading;
 pub mod records;
-mod spelled;
+pub mod spelled;
 mod writing;
 
 pub use cert::{Cert, Counts, Labelled, Sizes};

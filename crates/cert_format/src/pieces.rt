@@ -13,8 +13,8 @@ use std::marker::Model;
 
 /// A record under way: a contract sees those of its bytes that are still to give.
 #[derive(Drop)]
-struct Begun {
-    bytes: [u8; 28],
+pub struct Begun {
+    bytes: [u8; 30],
     given: usize,
 }
 
@@ -25,29 +25,30 @@ impl Model for Begun {
 
     ghost view = { λ b. drop b.given b.bytes };
 
-    ghost invariant = { λ b. b.given ≤ 28 };
+    ghost invariant = { λ b. b.given ≤ 30 };
 }
 
 impl Begun {
-    /// A record of these bytes, of which none was given. The longest record is the header.
-    fn of(text: &[u8]) -> Begun
-        requires { length text.now ≤ 28 }
+    /// A record of these bytes, of which none was given. The longest record is the header, that of version 2.
+    pub fn of(text: &[u8]) -> Begun
+        requires { length text.now ≤ 30 }
         ensures { result ≡ text.now }
     {
-        let mut bytes = [0; 28];
-        let given = 28 - text.len();
+        let mut bytes = [0; 30];
+        let given = 30 - text.len();
         bytes[given..].copy_from_slice(text);
         Begun { bytes, given }
     }
 
-    fn as_slice(&self) -> &[u8]
+    /// The bytes that are still to give.
+    pub fn as_slice(&self) -> &[u8]
         ensures { result.now ≡ self.now }
     {
         &self.bytes[self.given..]
     }
 
     /// So many of the bytes are given.
-    fn skip(&mut self, count: usize)
+    pub fn skip(&mut self, count: usize)
         requires { count ≤ length self.old }
         ensures { self.new ≡ drop count self.old }
     {
@@ -57,13 +58,13 @@ impl Begun {
 
 /// What is still to give: of a record, of the nodes of a tree, and whole records.
 #[derive(Drop)]
-struct Left<'a> {
-    begun: Begun,
-    nodes: &'a [u8],
-    triangles: &'a [Labelled],
-    rays: &'a [PairRay],
-    listed: &'a [Pair],
-    trees: &'a [Tree],
+pub struct Left<'a> {
+    pub begun: Begun,
+    pub nodes: &'a [u8],
+    pub triangles: &'a [Labelled],
+    pub rays: &'a [PairRay],
+    pub listed: &'a [Pair],
+    pub trees: &'a [Tree],
 }
 
 impl<'a> Model for Left<'a> {
@@ -137,7 +138,7 @@ impl<'a> Left<'a> {
 }
 
 /// Copies what comes first to that place of the buffer, as much as fits behind it; the number of bytes.
-fn copy_front(text: &[u8], buf: &mut [u8], at: usize) -> usize
+pub fn copy_front(text: &[u8], buf: &mut [u8], at: usize) -> usize
     requires { at ≤ length buf.old }
     ensures count { result ≡ min (length buf.old - at) (length text.now) }
     ensures front { take (at + result) buf.new ≡ take at buf.old ++ take result text.now }
@@ -151,7 +152,7 @@ fn copy_front(text: &[u8], buf: &mut [u8], at: usize) -> usize
 /// Gives the spelling of a certificate in pieces; a contract sees the bytes that are still to come.
 #[derive(Drop)]
 pub struct Printer<'a> {
-    left: Left<'a>,
+    pub left: Left<'a>,
 }
 
 impl<'a> Model for Printer<'a> {

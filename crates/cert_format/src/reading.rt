@@ -13,7 +13,7 @@ use sight_tree::Tree;
 use std::alloc::Global;
 
 /// The number that the letters `DSCT` spell.
-const MAGIC: u32 = 0x5443_5344;
+pub const MAGIC: u32 = 0x5443_5344;
 
 /// The bytes behind magic, version and sizes.
 #[tactic(auto, unfolding(crate::specs::Reading::front_at, crate::specs::Reading::magic_at, crate::specs::Reading::version_at))]
@@ -65,7 +65,8 @@ pub fn counts_of(total: usize, bytes: &[u8]) -> Result<(Counts, &[u8]), CertFaul
     Ok((counts, rest))
 }
 
-fn triangles_of(
+/// So many labelled triangles, in order.
+pub fn triangles_of(
     alloc: Global,
     sizes: Sizes,
     total: usize,
@@ -86,7 +87,8 @@ fn triangles_of(
     Ok((triangles, rest))
 }
 
-fn rays_of(
+/// So many rays, in the order of their pairs.
+pub fn rays_of(
     alloc: Global,
     sizes: Sizes,
     total: usize,
@@ -107,7 +109,8 @@ fn rays_of(
     Ok((rays, rest))
 }
 
-fn pairs_of(
+/// So many listed pairs, in order.
+pub fn pairs_of(
     alloc: Global,
     sizes: Sizes,
     total: usize,
@@ -128,7 +131,8 @@ fn pairs_of(
     Ok((pairs, rest))
 }
 
-fn trees_of(
+/// So many trees, in the order of their sources.
+pub fn trees_of(
     alloc: Global,
     sizes: Sizes,
     total: usize,

@@ -33,7 +33,7 @@ fn front_of(sizes: Sizes) -> [u8; 12]
 }
 
 /// How many records there are of each kind.
-fn counts_of(counts: Counts) -> [u8; 16]
+pub fn counts_of(counts: Counts) -> [u8; 16]
     ensures { result ≡ count_bytes counts.triangles counts.rays counts.listed counts.trees }
 {
     let [t0, t1, t2, t3] = counts.triangles.to_le_bytes();
