@@ -1,4 +1,4 @@
-//! The certificate in a file, judged while it is read in pieces, so that its bytes never stand in memory whole.
+//! The certificate in a file, judged: one of few bytes held whole, a longer one while it is read in pieces.
 #![tactic(auto)]
 
 mod file;

@@ -48,12 +48,7 @@ fn sizes(plan: &Plan) -> Sizes
 }
 
 /// What comes of bytes that are whole.
-fn judged_whole(
-    alloc: Global,
-    plan: &Plan,
-    table: &Table,
-    bytes: &[u8],
-) -> Result<Judged, Memory>
+fn judged_whole(alloc: Global, plan: &Plan, table: &Table, bytes: &[u8]) -> Result<Judged, Memory>
     requires audited { LinesMeetAtEnds (map_of plan.now) }
     requires table { table.now.n ≡ plan.now.sectors }
     ensures mesh { IfOk result (JudgedBy (reading (sizes_of plan.now) bytes.now) (λ c v. JudgesMesh (map_of plan.now) c v)) }

@@ -327,6 +327,7 @@ fn block(
 }
 
 /// Whether the node answers for the half-edge that is asked. The next one is asked then.
+#[inline(always)]
 pub fn answer(
     terrain: &Terrain<'_>,
     reached: &mut Table,
