@@ -280,6 +280,7 @@ fn note(reached: &mut Table, source: u16, sector: Option<u16>)
 
 /// Goes through the half-edge that is asked: the source reaches the sector behind it. False where there is no such half-edge, or
 /// no room on the path.
+#[inline(always)]
 fn open(
     terrain: &Terrain<'_>,
     reached: &mut Table,
@@ -306,6 +307,7 @@ fn open(
 }
 
 /// Leaves out the half-edge that is asked. False where these ends don't show that no line passes the sequence through it.
+#[inline(always)]
 fn block(
     terrain: &Terrain<'_>,
     source: u16,
