@@ -181,6 +181,7 @@ fn put(path: &mut [Frame], depth: usize, edge: &HalfEdge) -> bool
 }
 
 /// Whether the ends are ends of the sequence that is asked, and stuck.
+#[inline(always)]
 fn is_closed(
     terrain: &Terrain<'_>,
     path: &mut [Frame],
@@ -246,6 +247,7 @@ fn next_asked(
 }
 
 /// Goes through the half-edge, and gives what is asked next.
+#[inline(always)]
 fn enter(
     terrain: &Terrain<'_>,
     source: u16,
