@@ -29,7 +29,7 @@ const ROWS: &str = "\
 4400 | @132:8:38ffffffffffffff | Verdict(No(Ray { a: 1, b: 2, why: Some(NotSplit { line: 3 }) }))
 4400 | @12:1:07 @84:8: | Verdict(No(Mesh(NoMate { triangle: 4 })))
 4400 | @4:1:03 | Unread(BadVersion)
-4400 | @160:1: | Unread(Short { at: 160 })
+4400 | @160:1: | Unread(Short { at: 159 })
 ";
 
 // Adds the parts that a piece gives, up to its end or to a fault.
