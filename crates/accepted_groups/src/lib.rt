@@ -1,0 +1,2 @@
+//! What an accepted certificate of version 2 is. Builder and checker both cite it.
+#![tactic(auto)]
