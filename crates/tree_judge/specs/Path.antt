@@ -1,9 +1,10 @@
 -- The path of a walk that follows a tree: its portals, and the ways that are still to come.
-use Rattle.std.specs.Prelude.{◌≡◌, ℕ, max, ◌<◌, List, [], ◌∷◌, ◌++◌, Option, Some, None, option_and_then, map, take, length, slice_get}
-use Rattle.sight_names.specs.Splitting.{EndPoints}
+use Rattle.std.specs.Prelude.{◌≡◌, ℕ, max, ◌<◌, List, [], ◌∷◌, ◌++◌, Option, Some, None, option_and_then, map, take, length, slice_get, IfSome}
+use Rattle.sight_names.specs.Splitting.{EndPoints, end_of}
+use Rattle.sight_names.specs.declared.names.EndAt.{EndAt}
 use Rattle.block_evidence.specs.declared.Evidence.{Evidence}
 use Rattle.sight_tree.specs.declared.Tree.{Tree}
-use Rattle.block_evidence.specs.Stuck.{Blocks}
+use Rattle.block_evidence.specs.Stuck.{AreStuck, Blocks}
 use Rattle.half_edges.specs.declared.table.HalfEdge.{HalfEdge}
 use Rattle.tree_judge.specs.declared.roots.Root.{Root}
 use Rattle.tree_judge.specs.declared.trees.Frame.{Frame}
@@ -24,6 +25,14 @@ frame_at x = record { left = x.left_at; right = x.right_at; right_way = x.right_
 -- the ends of the first portals of the path, and behind them those of the half-edge's portal
 abbrev pub asked_ends : List Frame → ℕ → HalfEdge → List EndPoints
 asked_ends path depth x = path_ends (take depth path) ++ portal_ends (frame_at x) ∷ []
+
+-- this is the end with the code, if it is any
+abbrev pub IsEndOf : List EndPoints → ℕ → Option EndAt → Type 0
+IsEndOf es code found = IfSome found (λ e. end_of es code ≡ Some e)
+
+-- all four are ends, and stuck
+abbrev pub AreAllStuck : Option EndAt → Option EndAt → Option EndAt → Option EndAt → Type 0
+AreAllStuck a b c d = (w x y z : EndAt) × (a ≡ Some w) × (b ≡ Some x) × (c ≡ Some y) × (d ≡ Some z) × AreStuck (w ∷ x ∷ y ∷ z ∷ [])
 
 -- the ends are ends of the sequence that goes through the half-edge at this place behind the first portals of the path, and stuck
 pub record IsClosedBy (xs : List HalfEdge) (path : List Frame) (depth place : ℕ) (e : Evidence) : Type 0 where

@@ -5,12 +5,13 @@ ghost use Rattle.sight_names.specs.Splitting.{end_of as end_at};
 ghost use Rattle.block_evidence.specs.Stuck.{Blocks};
 ghost use Rattle.reject_bits.specs.Parts.{TableParts};
 ghost use Rattle.sight_tree.specs.declared.Node.TheVariants.{Open, Blocked};
-ghost use Rattle.tree_judge.specs.Path.{list_of, path_ends, frame_at, pending_way, pending_ways, longest_of, AsksRoot, EntersThrough, IsClosedBy, TakesNext};
+ghost use Rattle.tree_judge.specs.Path.{list_of, path_ends, frame_at, pending_way, pending_ways, longest_of, IsEndOf, AreAllStuck, AsksRoot, EntersThrough, IsClosedBy, TakesNext};
 ghost use Rattle.tree_judge.specs.Roots.{first_at};
 ghost use Rattle.tree_judge.specs.Whole.{Notes, HasAnswered, HasRefused, StandsBefore, IsWholeFrom, IsFirstWrongFrom};
 
+use crate::four_ends::{RIGHT, are_stuck};
 use crate::roots::Roots;
-use block_evidence::{Evidence, are_stuck, stuck};
+use block_evidence::{Evidence, stuck};
 use half_edges::{HalfEdge, HalfEdges};
 use reject_bits::Table;
 use sight_names::{EndAt, Memory, Pt};
@@ -121,26 +122,87 @@ fn end_of(path: &[Frame], code: u16) -> Option<EndAt>
     Some(EndAt { code, at })
 }
 
-/// Whether the ends are four ends of these portals that are seen at once to be stuck. `false` says nothing.
+/// The left end with this code. None where it is a right end's, or its portal isn't there.
+#[inline(always)]
+fn left_end(path: &[Frame], code: u16) -> Option<EndAt>
+    ensures { IsEndOf (path_ends path.now) code result }
+{
+    if code >= RIGHT {
+        return None;
+    }
+    let frame = path.get(code as usize)?;
+    Some(EndAt {
+        code,
+        at: frame.left,
+    })
+}
+
+/// The right end with this code. None where it is a left end's, or its portal isn't there.
+#[inline(always)]
+fn right_end(path: &[Frame], code: u16) -> Option<EndAt>
+    ensures { IsEndOf (path_ends path.now) code result }
+{
+    if code < RIGHT {
+        return None;
+    }
+    let frame = path.get((code - RIGHT) as usize)?;
+    Some(EndAt {
+        code,
+        at: frame.right,
+    })
+}
+
+/// Whether all four ends are there, and are seen at once to be stuck. `false` says nothing.
+#[inline(always)]
+fn are_all_stuck(a: Option<EndAt>, b: Option<EndAt>, c: Option<EndAt>, d: Option<EndAt>) -> bool
+    ensures { IsTrue result → AreAllStuck a b c d }
+{
+    let Some(a) = a else {
+        return false;
+    };
+    let Some(b) = b else {
+        return false;
+    };
+    let Some(c) = c else {
+        return false;
+    };
+    let Some(d) = d else {
+        return false;
+    };
+    are_stuck(a, b, c, d)
+}
+
+/// Whether the ends are four ends of these portals that are seen at once to be stuck. `false` says nothing. Which of them
+/// are left ones is told first, so that none is asked again for its side.
+#[inline(always)]
 fn is_seen_blocked(path: &[Frame], evidence: Evidence) -> bool
     ensures { IsTrue result → Blocks (path_ends path.now) evidence }
 {
     if evidence.count != 4 {
         return false;
     }
-    let Some(a) = end_of(path, evidence.ends[0]) else {
-        return false;
-    };
-    let Some(b) = end_of(path, evidence.ends[1]) else {
-        return false;
-    };
-    let Some(c) = end_of(path, evidence.ends[2]) else {
-        return false;
-    };
-    let Some(d) = end_of(path, evidence.ends[3]) else {
-        return false;
-    };
-    are_stuck(a, b, c, d)
+    let [a, b, c, d] = evidence.ends;
+    match (b < RIGHT, c < RIGHT) {
+        (true, true) => are_all_stuck(
+            left_end(path, a),
+            left_end(path, b),
+            left_end(path, c),
+            right_end(path, d),
+        ),
+        (true, false) => are_all_stuck(
+            left_end(path, a),
+            left_end(path, b),
+            right_end(path, c),
+            right_end(path, d),
+        ),
+        (false, false) => are_all_stuck(
+            left_end(path, a),
+            right_end(path, b),
+            right_end(path, c),
+            right_end(path, d),
+        ),
+        (false, true) => false,
+    }
 }
 
 /// Whether the ends are ends of these portals, and stuck.

@@ -1,0 +1,82 @@
+//! Four ends that are seen at once to be stuck, by the signs of their turns. These are `block_evidence`'s tests once more, for
+//! nodes alone: they stand in line with what finds the ends, since a call would hand four ends over in memory, which costs as
+//! much as the turns.
+
+ghost use Rattle.std.specs.Prelude.{◌∷◌, [], IsTrue};
+ghost use Rattle.block_evidence.specs.Stuck.{AreStuck, HullsMeet};
+ghost use Rattle.block_evidence.specs.SignTests.{AreWeights, AreOpposite, IsBetween};
+
+use geom_exact::turn;
+use sight_names::{EndAt, Pt};
+
+/// The least code of a right end.
+pub const RIGHT: u16 = 32_768;
+
+/// Whether 0 is between the two numbers.
+#[inline(always)]
+fn is_between(low: i64, high: i64) -> bool
+    ensures { IsTrue result → IsBetween low high }
+{
+    low <= 0 && 0 <= high
+}
+
+/// Whether none of the numbers is below 0, and one is above.
+#[inline(always)]
+fn are_weights(l: i64, m: i64, n: i64) -> bool
+    ensures { IsTrue result → AreWeights l m n }
+{
+    l >= 0 && m >= 0 && n >= 0 && (l > 0 || m > 0 || n > 0)
+}
+
+/// Whether none of the numbers is above 0, and one is below.
+#[inline(always)]
+fn are_opposite(l: i64, m: i64, n: i64) -> bool
+    ensures { IsTrue result → AreOpposite l m n }
+{
+    l <= 0 && m <= 0 && n <= 0 && (l < 0 || m < 0 || n < 0)
+}
+
+/// Whether the segment from `p` to `q` and the segment from `r` to `s` share a point. False also where all four points
+/// are on one line.
+#[inline(always)]
+fn do_cross(p: Pt, q: Pt, r: Pt, s: Pt) -> bool
+    ensures { IsTrue result → HullsMeet (p ∷ q ∷ []) (r ∷ s ∷ []) }
+{
+    let of_p = turn(r, s, p);
+    let of_q = turn(r, s, q);
+    if of_p < of_q {
+        is_between(of_p, of_q) && is_between(turn(p, q, s), turn(p, q, r))
+    } else if of_q < of_p {
+        is_between(of_q, of_p) && is_between(turn(p, q, r), turn(p, q, s))
+    } else {
+        false
+    }
+}
+
+/// Whether the triangle `a`, `b`, `c` has the point `p`. False also where all four points are on one line.
+#[inline(always)]
+fn is_covered(p: Pt, a: Pt, b: Pt, c: Pt) -> bool
+    ensures { IsTrue result → HullsMeet (p ∷ []) (a ∷ b ∷ c ∷ []) }
+{
+    let of_a = turn(b, c, p);
+    let of_b = turn(c, a, p);
+    let of_c = turn(a, b, p);
+    are_weights(of_a, of_b, of_c) || are_opposite(of_a, of_b, of_c)
+}
+
+/// Whether four ends are seen at once to be stuck. `false` says nothing: it comes also where all of them are on one line,
+/// and where a right end comes before a left one.
+#[inline(always)]
+pub fn are_stuck(a: EndAt, b: EndAt, c: EndAt, d: EndAt) -> bool
+    ensures { IsTrue result → AreStuck (a ∷ b ∷ c ∷ d ∷ []) }
+{
+    if a.code >= RIGHT || d.code < RIGHT {
+        return false;
+    }
+    match (b.code < RIGHT, c.code < RIGHT) {
+        (true, true) => is_covered(d.at, a.at, b.at, c.at),
+        (true, false) => do_cross(a.at, b.at, c.at, d.at),
+        (false, true) => false,
+        (false, false) => is_covered(a.at, b.at, c.at, d.at),
+    }
+}
