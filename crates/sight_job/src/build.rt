@@ -76,8 +76,46 @@ pub fn build_table<R: Threads + Sync, G: Gate + Sync>(
     ensures accepted { IfOk result (λ b. IsAccepted (map_of plan.now) b.table.bytes b.cert) }
 {
     let shape = sound_faces(alloc, plan)?;
+    let built = build_over(rt, alloc, plan, &shape, workers, ask, gate)?;
+    Ok(built)
+}
+
+/// The same over faces that are known: the mesh of a sound map with its labels.
+pub fn build_over<R: Threads + Sync, G: Gate + Sync>(
+    rt: &R,
+    alloc: Global,
+    plan: &Plan,
+    shape: &Faces,
+    workers: u16,
+    ask: Ask,
+    gate: &G,
+) -> Result<Built, Memory>
+    requires audited { LinesMeetAtEnds (map_of plan.now) }
+    requires shape { AreFacesOf plan.now shape.now }
+    requires workers { (1 ≤ workers) × (workers ≤ 64) }
+    ensures sectors { IfOk result (λ b. b.table.n ≡ plan.now.sectors) }
+    ensures sizes { IfOk result (λ b. b.cert.sizes ≡ sizes_of plan.now) }
+    ensures listed { IfOk result (λ b. b.listed ≡ b.cert.listed) }
+    ensures triangles { IfOk result (λ b. HasTrianglesOf (map_of plan.now) b.cert) }
+    ensures mesh { IfOk result (λ b. IsGoodMesh (map_of plan.now) (triangles_of b.cert) (labels_of b.cert)) }
+    ensures rays { IfOk result HasRaysOfClear }
+    ensures joined { IfOk result (λ b. RaysJoinPairs (map_of plan.now) b.cert) }
+    ensures clear { IfOk result ListsClear }
+    ensures symmetric { IfOk result IsSymmetric }
+    ensures diagonal { IfOk result (HasDiagonal plan.now) }
+    ensures set { IfOk result (HasTreesOfSet plan.now) }
+    ensures trees { IfOk result (λ b. HasWholeTrees (map_of plan.now) b.cert) }
+    ensures whole { ask ≡ Full → IfOk result (IsWhole plan.now) }
+    ensures unspent { IfOk result (HasTreesOfUnspent plan.now ask) }
+    ensures enough { ask ≡ Enough → IfOk result (λ b. b.listed ≡ []) }
+    ensures decided { IfOk result (DecidesByMesh plan.now ask) }
+    ensures spent { IfOk result (ListsSpent plan.now ask) }
+    ensures sight_rays { IfOk result (λ b. HasSightRays (map_of plan.now) b.cert) }
+    ensures sight { IfOk result (λ b. TellsWhoSees (map_of plan.now) b.table b.cert) }
+    ensures accepted { IfOk result (λ b. IsAccepted (map_of plan.now) b.table.bytes b.cert) }
+{
     let budget = budget_for(ask, plan, &shape.mesh);
-    let verdicts = verdicts_of(rt, alloc, plan, &shape, workers, budget, gate)?;
+    let verdicts = verdicts_of(rt, alloc, plan, shape, workers, budget, gate)?;
     let triangles = labelled(alloc, &shape.mesh, &shape.labels)?;
     let listed = Vec::from_slice(alloc, verdicts.listed.as_slice())?;
     let sizes = Sizes {

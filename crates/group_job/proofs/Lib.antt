@@ -1,0 +1,11 @@
+pub mod Marks
+pub mod Following
+pub mod Steps
+pub mod Rows
+pub mod KeptFaces
+pub mod OneWalk
+pub mod Finding
+pub mod GroupPairs
+pub mod SectorPairs
+pub mod Certifying
+pub mod Walking

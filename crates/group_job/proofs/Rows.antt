@@ -1,0 +1,94 @@
+-- The list of pairs, one pair after the other.
+use Rattle.std.proofs.Common.{◌≡◌, ◌≢◌, ℕ, ◌+◌, ◌<◌, ◌⊎◌, inl, inr, List, [], ◌∷◌, ◌++◌, length, slice_get, Contains, Some, refl, sym, subst, arith}
+use Rattle.std.proofs.lemmas.List.Elements.{Contains-append_left, Contains-push, Contains-push_cases}
+use Rattle.std.proofs.lemmas.Option.{slice_get_within}
+use Rattle.list_base.proofs.Lists.{contains_none, pushed_at}
+use Rattle.sight_names.proofs.Lists.{contains_of_get}
+use Rattle.sight_names.specs.declared.names.Pair.{Pair}
+use Rattle.sight_names.specs.Order.{PairBefore}
+use Rattle.reject_bits.specs.Parts.{TableParts}
+use Rattle.pair_budget.specs.Rows.{IsEarlier}
+use Rattle.pair_budget.proofs.FoundSectorsLaws.{same_or_other, pair_is}
+use Rattle.pair_budget.proofs.RowLaws.{later, earlier, this_place, next_row, whole_row}
+use Rattle.group_job.specs.Rows.{IsBetween, ListedBefore}
+use Rattle.group_job.specs.Sectors.{ListsBetween}
+
+module _ (these others : TableParts) where
+  pub list_none : ListedBefore these others 0 0 []
+  list_none = record { exactly = λ q. (λ c. absurd (contains_none q c), λ h. absurd (nowhere q h.1)); ascend = λ i j x y lt h k. absurd (nothing x i h) }
+    where
+      nowhere : (q : Pair) → ¬ IsEarlier q.a q.b 0 0
+      nowhere q (inl h) = omega (arith, h)
+      nowhere q (inr h) = let k = h.1 in omega (arith, k)
+
+      nothing : (x : Pair) (i : ℕ) → ¬ (slice_get [] i ≡ Some x)
+      nothing x i h = let w = slice_get_within [] i x h in omega (arith, w)
+
+  pub list_skip : (a b : ℕ) (xs : List Pair) → ListedBefore these others a b xs → ¬ IsBetween these others a b → ListedBefore these others a (b + 1) xs
+  list_skip a b xs before none = record {
+    exactly = λ q. (
+      (λ c. let h = (before.exactly q).0 c in (h.0, later q.a q.b a b h.1)),
+      (λ h. (before.exactly q).1 (h.0, earlier q.a q.b a b (other q.a q.b h.0 (same_or_other q.a q.b a b)) h.1)),
+    );
+    ascend = before.ascend;
+  }
+    where
+      other : (c d : ℕ) → IsBetween these others c d → ((c ≡ a) × (d ≡ b)) ⊎ ((c ≢ a) ⊎ (d ≢ b)) → (c ≢ a) ⊎ (d ≢ b)
+      other c d l (inl same) = absurd (none (subst (λ (u : ℕ). IsBetween these others a u) same.1 (subst (λ (u : ℕ). IsBetween these others u d) same.0 l)))
+      other c d l (inr o) = o
+
+  pub list_push : (a b : ℕ) (xs : List Pair) → ListedBefore these others a b xs → IsBetween these others a b → ListedBefore these others a (b + 1) (xs ++ record { a = a; b = b } ∷ [])
+  list_push a b xs before l = record {
+    exactly = λ q. ((λ c. into q (Contains-push_cases xs (record { a = a; b = b }) q c)), (λ h. out q h (same_or_other q.a q.b a b)));
+    ascend = λ i j x y lt h k. up i j x y lt (pushed_at xs (record { a = a; b = b }) x i h) (pushed_at xs (record { a = a; b = b }) y j k);
+  }
+    where
+      into : (q : Pair) → Contains xs q ⊎ (record { a = a; b = b } ≡ q) → IsBetween these others q.a q.b × IsEarlier q.a q.b a (b + 1)
+      into q (inl c) = let h = (before.exactly q).0 c in (h.0, later q.a q.b a b h.1)
+      into q (inr e) = subst (λ (r : Pair). IsBetween these others r.a r.b × IsEarlier r.a r.b a (b + 1)) e (l, this_place a b)
+
+      out : (q : Pair) → IsBetween these others q.a q.b × IsEarlier q.a q.b a (b + 1) → ((q.a ≡ a) × (q.b ≡ b)) ⊎ ((q.a ≢ a) ⊎ (q.b ≢ b)) → Contains (xs ++ record { a = a; b = b } ∷ []) q
+      out q h (inl same) = subst (λ (r : Pair). Contains (xs ++ record { a = a; b = b } ∷ []) r) (sym (pair_is q a b same.0 same.1)) (Contains-push xs (record { a = a; b = b }))
+      out q h (inr o) = Contains-append_left xs (record { a = a; b = b } ∷ []) q ((before.exactly q).1 (h.0, earlier q.a q.b a b o h.1))
+
+      up : (i j : ℕ) (x y : Pair) → i < j → (slice_get xs i ≡ Some x) ⊎ ((i ≡ length xs) × (record { a = a; b = b } ≡ x)) → (slice_get xs j ≡ Some y) ⊎ ((j ≡ length xs) × (record { a = a; b = b } ≡ y)) → PairBefore x y
+      up i j x y lt (inl h) (inl k) = before.ascend i j x y lt h k
+      up i j x y lt (inl h) (inr k) = subst (λ (r : Pair). PairBefore x r) k.1 ((before.exactly x).0 (contains_of_get xs x i h)).1
+      up i j x y lt (inr h) (inl k) = let w = slice_get_within xs j y k in absurd (omega (arith, h.0, w, lt))
+      up i j x y lt (inr h) (inr k) = absurd (omega (arith, h.0, k.0, lt))
+
+  -- pairs have their smaller sector first, so a row begins behind its own number
+  pub list_row_start : (a : ℕ) (xs : List Pair) → ListedBefore these others a 0 xs → ListedBefore these others a (a + 1) xs
+  list_row_start a xs before = record {
+    exactly = λ q. ((λ c. let h = (before.exactly q).0 c in (h.0, grown q.a q.b h.1)), (λ h. (before.exactly q).1 (h.0, shrunk q.a q.b h.0.0 h.1)));
+    ascend = before.ascend;
+  }
+    where
+      grown : (c d : ℕ) → IsEarlier c d a 0 → IsEarlier c d a (a + 1)
+      grown c d (inl h) = inl h
+      grown c d (inr h) = let k = h.1 in absurd (omega (arith, k))
+
+      shrunk : (c d : ℕ) → c < d → IsEarlier c d a (a + 1) → IsEarlier c d a 0
+      shrunk c d lt (inl h) = inl h
+      shrunk c d lt (inr h) = let e = h.0 in let k = h.1 in absurd (omega (arith, lt, e, k))
+
+  pub list_row_end : (a n : ℕ) (xs : List Pair) → these.n ≡ n → ListedBefore these others a n xs → ListedBefore these others (a + 1) 0 xs
+  list_row_end a n xs size before = record {
+    exactly = λ q. (
+      (λ c. let h = (before.exactly q).0 c in (h.0, next_row q.a q.b a n h.1)),
+      (λ h. (before.exactly q).1 (h.0, whole_row q.a q.b a n (subst (λ (u : ℕ). q.b < u) size h.0.1) h.1)),
+    );
+    ascend = before.ascend;
+  }
+
+  pub list_end : (n : ℕ) (xs : List Pair) → these.n ≡ n → ListedBefore these others n 0 xs → ListsBetween these others xs
+  list_end n xs size before = record {
+    exactly = λ q. (
+      (λ c. ((before.exactly q).0 c).0),
+      (λ l. (before.exactly q).1 (l, inl (under q.a q.b l.0 (subst (λ (u : ℕ). q.b < u) size l.1)))),
+    );
+    ascend = before.ascend;
+  }
+    where
+      under : (c d : ℕ) → c < d → d < n → c < n
+      under c d h k = omega (arith, h, k)

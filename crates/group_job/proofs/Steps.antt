@@ -1,0 +1,136 @@
+-- The steps by which tables of sectors are made.
+use Rattle.std.proofs.Common.{◌≡◌, ℕ, ◌<◌, ◌⊎◌, inl, inr, List, length, slice_get, Contains, Some, refl, sym, ap, ◌∙◌, subst, arith}
+use Rattle.std.proofs.lemmas.Option.{same_Some, slice_get_within}
+use Rattle.sight_names.specs.declared.names.Pair.{Pair}
+use Rattle.sight_names.specs.Groups.{IsInGroup}
+use Rattle.groups_base.proofs.Ordered.{at_contains, contains_at}
+use Rattle.pair_budget.proofs.FoundSectorsLaws.{pair_is}
+use Rattle.reject_bits.specs.Parts.{TableParts, Rejects}
+use Rattle.group_job.specs.Marks.{SetsMore, OfSteps, HasSteps}
+use Rattle.group_job.specs.Sectors.{AreListed, AreClearByGroups, HasClearPairs, HasOtherBits}
+use Rattle.group_job.proofs.Marks.{sets_as}
+use Rattle.group_job.proofs.Following.{in_table}
+
+-- ---- one sector with the i-th of some
+
+abbrev pub RowStep : ℕ → List ℕ → ℕ → ℕ → ℕ → Type 0
+RowStep a sectors i c d = (c ≡ a) × (slice_get sectors i ≡ Some d)
+
+pub row_set : (a : ℕ) (sectors : List ℕ) (old new : TableParts) → SetsMore (OfSteps (RowStep a sectors) (length sectors)) old new → SetsMore (λ c d. (c ≡ a) × Contains sectors d) old new
+row_set a sectors old new = sets_as (OfSteps (RowStep a sectors) (length sectors)) (λ c d. (c ≡ a) × Contains sectors d) old new
+    (λ c d w. (w.2.0, at_contains sectors d (w.0, w.2.1)))
+    (λ c d h. let x = contains_at sectors d h.1 in (x.0, slice_get_within sectors x.0 d x.1, (h.0, x.1)))
+
+pub row_step : (a : ℕ) (sectors : List ℕ) (i x : ℕ) (old new : TableParts) → slice_get sectors i ≡ Some x → SetsMore (λ c d. (c ≡ a) × (d ≡ x)) old new → SetsMore (RowStep a sectors i) old new
+row_step a sectors i x old new at = sets_as (λ c d. (c ≡ a) × (d ≡ x)) (RowStep a sectors i) old new
+    (λ c d h. (h.0, subst (λ (u : ℕ). slice_get sectors i ≡ Some u) (sym h.1) at))
+    (λ c d h. (h.0, same_Some d x (sym h.1 ∙ at)))
+
+-- ---- the i-th of these with each of those
+
+abbrev pub BlockStep : List ℕ → List ℕ → ℕ → ℕ → ℕ → Type 0
+BlockStep from to i c d = (slice_get from i ≡ Some c) × Contains to d
+
+pub block_set : (from to : List ℕ) (old new : TableParts) → SetsMore (OfSteps (BlockStep from to) (length from)) old new → SetsMore (λ c d. Contains from c × Contains to d) old new
+block_set from to old new = sets_as (OfSteps (BlockStep from to) (length from)) (λ c d. Contains from c × Contains to d) old new
+    (λ c d w. (at_contains from c (w.0, w.2.0), w.2.1))
+    (λ c d h. let x = contains_at from c h.0 in (x.0, slice_get_within from x.0 c x.1, (x.1, h.1)))
+
+pub block_step : (from to : List ℕ) (i a : ℕ) (old new : TableParts) → slice_get from i ≡ Some a → SetsMore (λ c d. (c ≡ a) × Contains to d) old new → SetsMore (BlockStep from to i) old new
+block_step from to i a old new at = sets_as (λ c d. (c ≡ a) × Contains to d) (BlockStep from to i) old new
+    (λ c d h. (subst (λ (u : ℕ). slice_get from i ≡ Some u) (sym h.0) at, h.1))
+    (λ c d h. (same_Some c a (sym h.0 ∙ at), h.1))
+
+-- ---- one group with the k-th, where their bit is clear
+
+abbrev pub ClearStep : List (List ℕ) → TableParts → ℕ → ℕ → ℕ → ℕ → Type 0
+ClearStep groups t f k c d = IsInGroup groups c f × IsInGroup groups d k × (¬ Rejects t f k)
+
+pub clear_step : (groups : List (List ℕ)) (t : TableParts) (f k : ℕ) (from to : List ℕ) (old new : TableParts) → slice_get groups f ≡ Some from → slice_get groups k ≡ Some to → ¬ Rejects t f k
+    → SetsMore (λ c d. Contains from c × Contains to d) old new → SetsMore (ClearStep groups t f k) old new
+clear_step groups t f k from to old new at_f at_k clear = sets_as (λ c d. Contains from c × Contains to d) (ClearStep groups t f k) old new
+    (λ c d h. ((from, at_f, h.0), (to, at_k, h.1), clear))
+    (λ c d h. (subst (λ (xs : List ℕ). Contains xs c) (same_Some h.0.0 from (sym h.0.1 ∙ at_f)) h.0.2, subst (λ (xs : List ℕ). Contains xs d) (same_Some h.1.0 to (sym h.1.1 ∙ at_k)) h.1.2))
+
+abbrev pub ClearRow : List (List ℕ) → TableParts → ℕ → ℕ → ℕ → Type 0
+ClearRow groups t f c d = (k : ℕ) × IsInGroup groups c f × IsInGroup groups d k × (¬ Rejects t f k)
+
+pub clear_row_set : (groups : List (List ℕ)) (t : TableParts) (f n : ℕ) (old new : TableParts) → n ≡ length groups → SetsMore (OfSteps (ClearStep groups t f) n) old new → SetsMore (ClearRow groups t f) old new
+clear_row_set groups t f n old new count = sets_as (OfSteps (ClearStep groups t f) n) (ClearRow groups t f) old new
+    (λ c d w. (w.0, w.2.0, w.2.1, w.2.2))
+    (λ c d h. (h.0, in_table groups n h.0 d count h.2, (h.1, h.2, h.3)))
+
+-- ---- each group in turn
+
+abbrev pub ClearRowStep : List (List ℕ) → TableParts → ℕ → ℕ → ℕ → Type 0
+ClearRowStep groups t f c d = ClearRow groups t f c d
+
+pub clear_set : (groups : List (List ℕ)) (t : TableParts) (sectors n : ℕ) (marks : TableParts) → n ≡ length groups → HasSteps (ClearRowStep groups t) n sectors marks → HasClearPairs t groups sectors marks
+clear_set groups t sectors n marks count h = record {
+  sectors_are = h.sectors_are;
+  bits = λ a b la lb. let x = h.bits a b la lb in (
+    λ r. let w = x.0 r in (w.0, w.2.0, w.2.1, w.2.2, w.2.3),
+    λ c. x.1 (c.0, in_table groups n c.0 a count c.2, (c.1, c.2, c.3, c.4)),
+  );
+}
+
+-- ---- the i-th pair, both ways
+
+abbrev pub PairStep : List Pair → ℕ → ℕ → ℕ → Type 0
+PairStep pairs i c d = (slice_get pairs i ≡ Some (record { a = c; b = d })) ⊎ (slice_get pairs i ≡ Some (record { a = d; b = c }))
+
+pub pair_step : (pairs : List Pair) (i : ℕ) (q : Pair) (old new : TableParts) → slice_get pairs i ≡ Some q → SetsMore (λ c d. ((c ≡ q.a) × (d ≡ q.b)) ⊎ ((c ≡ q.b) × (d ≡ q.a))) old new → SetsMore (PairStep pairs i) old new
+pair_step pairs i q old new at = sets_as (λ c d. ((c ≡ q.a) × (d ≡ q.b)) ⊎ ((c ≡ q.b) × (d ≡ q.a))) (PairStep pairs i) old new to back
+  where
+    to : (c d : ℕ) → ((c ≡ q.a) × (d ≡ q.b)) ⊎ ((c ≡ q.b) × (d ≡ q.a)) → PairStep pairs i c d
+    to c d (inl h) = inl (at ∙ ap (λ (r : Pair). Some r) (pair_is q c d (sym h.0) (sym h.1)))
+    to c d (inr h) = inr (at ∙ ap (λ (r : Pair). Some r) (pair_is q d c (sym h.1) (sym h.0)))
+
+    back : (c d : ℕ) → PairStep pairs i c d → ((c ≡ q.a) × (d ≡ q.b)) ⊎ ((c ≡ q.b) × (d ≡ q.a))
+    back c d (inl h) = let e = same_Some (record { a = c; b = d }) q (sym h ∙ at) in inl (ap (λ (r : Pair). r.a) e, ap (λ (r : Pair). r.b) e)
+    back c d (inr h) = let e = same_Some (record { a = d; b = c }) q (sym h ∙ at) in inr (ap (λ (r : Pair). r.b) e, ap (λ (r : Pair). r.a) e)
+
+pub pairs_set : (pairs : List Pair) (old new : TableParts) → SetsMore (OfSteps (PairStep pairs) (length pairs)) old new → SetsMore (AreListed pairs) old new
+pairs_set pairs old new = sets_as (OfSteps (PairStep pairs) (length pairs)) (AreListed pairs) old new to back
+  where
+    to : (c d : ℕ) → OfSteps (PairStep pairs) (length pairs) c d → AreListed pairs c d
+    to c d (i, lt, inl h) = inl (at_contains pairs (record { a = c; b = d }) (i, h))
+    to c d (i, lt, inr h) = inr (at_contains pairs (record { a = d; b = c }) (i, h))
+
+    back : (c d : ℕ) → AreListed pairs c d → OfSteps (PairStep pairs) (length pairs) c d
+    back c d (inl h) = let x = contains_at pairs (record { a = c; b = d }) h in (x.0, slice_get_within pairs x.0 (record { a = c; b = d }) x.1, inl x.1)
+    back c d (inr h) = let x = contains_at pairs (record { a = d; b = c }) h in (x.0, slice_get_within pairs x.0 (record { a = d; b = c }) x.1, inr x.1)
+
+-- ---- the bits that another table hasn't
+
+abbrev pub OtherStep : TableParts → ℕ → ℕ → ℕ → ℕ → Type 0
+OtherStep marks a b c d = (c ≡ a) × (d ≡ b) × (¬ Rejects marks c d)
+
+pub other_step : (marks : TableParts) (a b : ℕ) (old new : TableParts) → ¬ Rejects marks a b → SetsMore (λ c d. (c ≡ a) × (d ≡ b)) old new → SetsMore (OtherStep marks a b) old new
+other_step marks a b old new clear = sets_as (λ c d. (c ≡ a) × (d ≡ b)) (OtherStep marks a b) old new
+    (λ c d h. (h.0, h.1, subst (λ (u : ℕ). ¬ Rejects marks u d) (sym h.0) (subst (λ (u : ℕ). ¬ Rejects marks a u) (sym h.1) clear)))
+    (λ c d h. (h.0, h.1))
+
+pub other_none : (marks : TableParts) (a b : ℕ) → Rejects marks a b → (c d : ℕ) → ¬ OtherStep marks a b c d
+other_none marks a b set c d h = h.2 (subst (λ (u : ℕ). Rejects marks u d) (sym h.0) (subst (λ (u : ℕ). Rejects marks a u) (sym h.1) set))
+
+abbrev pub OtherRowStep : TableParts → ℕ → ℕ → ℕ → Type 0
+OtherRowStep marks a c d = (c ≡ a) × (¬ Rejects marks c d)
+
+pub other_row_set : (marks : TableParts) (a n : ℕ) (old new : TableParts) → old.n ≡ n → SetsMore (OfSteps (OtherStep marks a) n) old new → SetsMore (OtherRowStep marks a) old new
+other_row_set marks a n old new size h = record {
+  sectors = h.sectors;
+  bits = λ c d lc ld. let x = h.bits c d lc ld in (
+    λ r. elim (x.0 r) as (λ _. Rejects old c d ⊎ OtherRowStep marks a c d) [ inl o ↦ inl o | inr w ↦ inr (w.2.0, w.2.2) ],
+    λ k. x.1 (elim k as (λ _. Rejects old c d ⊎ OfSteps (OtherStep marks a) n c d) [ inl o ↦ inl o | inr w ↦ inr (d, subst (λ (u : ℕ). d < u) size ld, (w.0, refl, w.1)) ]),
+  );
+}
+
+pub other_set : (marks : TableParts) (n : ℕ) (t : TableParts) → n ≡ marks.n → HasSteps (OtherRowStep marks) n n t → HasOtherBits marks t
+other_set marks n t same h = record {
+  sectors_are = h.sectors_are ∙ same;
+  bits = λ a b la lb. let x = h.bits a b (subst (λ (u : ℕ). a < u) (sym same) la) (subst (λ (u : ℕ). b < u) (sym same) lb) in (
+    λ r. (x.0 r).2.1,
+    λ c. x.1 (a, subst (λ (u : ℕ). a < u) (sym same) la, (refl, c)),
+  );
+}

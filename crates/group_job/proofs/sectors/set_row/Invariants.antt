@@ -1,0 +1,6 @@
+use Rattle.group_job.proofs.Steps.{RowStep}
+use Rattle.group_job.specs.Marks.{SetsMore, OfSteps}
+use Rattle.group_job.proofs.sectors.set_row.Given as goal
+
+abbrev pub invariant-loop-i : goal.invariant-loop-i
+invariant-loop-i l = SetsMore (OfSteps (RowStep l.a l.sectors) l.i) l.initial.table l.table

@@ -1,0 +1,40 @@
+use Rattle.std.proofs.Common.{◌≡◌, ◌≤◌, ℕ, length, arith}
+use Rattle.group_job.proofs.Walking.{faces_of_groups}
+use Rattle.group_job.proofs.walked.walk_groups.Goals as goal
+
+pub build_over-requires-clause-audited : goal.build_over-requires-clause-audited
+build_over-requires-clause-audited g c = λ κs lives. let v = c.in_ok-groups.ensures.verdict c.in_ok-mesh.ensures.plain c.in_ok-mesh.ensures.fills in (v.sound c.requires.audited).ends
+
+pub build_over-requires-clause-shape : goal.build_over-requires-clause-shape
+build_over-requires-clause-shape g c = λ κs lives.
+    let v = c.in_ok-groups.ensures.verdict c.in_ok-mesh.ensures.plain c.in_ok-mesh.ensures.fills in
+    faces_of_groups c.args.plan.now c.in_ok-groups.field-0.plan c.in_ok-groups.field-0.groups (record { mesh = c.in_ok-mesh.mesh; labels = c.in_ok-groups.field-0.labels }) c.requires.audited c.in_ok-mesh.ensures.points c.in_ok-mesh.ensures.mesh c.in_ok-groups.ensures.points c.in_ok-groups.ensures.sectors v
+
+pub returns-clause-walked : goal.returns-clause-walked
+returns-clause-walked g c =
+    let v = c.in_ok-groups.ensures.verdict c.in_ok-mesh.ensures.plain c.in_ok-mesh.ensures.fills in
+    let b = c.in_ok-built.ensures in record {
+      plan = c.lines.ensures.plan;
+      faces = record { ends = c.requires.audited; closed = v.closed };
+      are = v.groups_are;
+      is = v.grouped;
+      ends = (v.sound c.requires.audited).ends;
+      few = let x = c.triangles.ensures.few in let y = c.in_ok-groups.ensures.few in omega (arith, x, y);
+      points = c.in_ok-groups.ensures.points;
+      sectors = b.sectors;
+      sizes = b.sizes;
+      in_order = c.triangles-2.ensures.in_order;
+      listed = b.listed;
+      triangles = b.triangles;
+      rays = b.rays;
+      symmetric = b.symmetric;
+      diagonal = b.diagonal;
+      set = b.set;
+      trees = b.trees;
+      unspent = b.unspent;
+      decided = b.decided;
+      sight_rays = b.sight_rays;
+      sight = b.sight;
+      enough = b.enough;
+      whole = λ full. (b.whole full).no_list;
+    }

@@ -1,0 +1,5 @@
+pub mod Built
+pub mod Marks
+pub mod Rows
+pub mod Sectors
+pub mod Walked

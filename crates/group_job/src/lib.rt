@@ -1,0 +1,11 @@
+//! The build of a map with closed faces, by groups of sectors.
+//!
+//! A face whose sides name several sectors belongs to all of them: its list of sectors is a group. The walks go over the map of
+//! groups, and what they show of groups is told of the sectors in them.
+#![tactic(auto)]
+
+mod build;
+mod sectors;
+mod walked;
+
+pub use build::{GroupBuilt, build_table};
