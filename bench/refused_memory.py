@@ -3,11 +3,13 @@
 
     bench/refused_memory.py [--program PATH] [--cc CC]
 
-A small library stands before the C library's malloc and its like. It refuses the first request of a run, of the next run the second, and so
-on, until a run makes fewer; requests of threads, and of the C library where it starts them, count too. The program is run for every verb over
-real files; its outputs hold something else before, so that one sees whether they were touched.
+A small library stands before the C library's malloc and its like, and before the start of threads. It refuses the first request of a run, of the
+next run the second, and so on, until a run makes fewer; requests of threads, and of the C library where it starts them, count too, and so
+does the start of a thread. The program is run for every verb over real files; its outputs hold something else before, so that one sees whether
+they were touched.
 
-Each run has to end by itself, within a minute, and so all workers have returned, in one of these ways:
+Each run has to end by itself, within a minute, with each thread joined that it started, with no file under any other name than before and those of
+its outputs, and in one of these ways:
 
 - memory: code 12, no line, and no file touched;
 - done: code, line and files of the run to which nothing is refused (of a build by three workers `check` says yes to table and certificate);
@@ -31,19 +33,26 @@ import subprocess
 import sys
 import tempfile
 
+from growth import row_of_rooms
+from wads import wad
+
 HERE = os.path.dirname(os.path.abspath(__file__))
 CRATES = os.path.join(HERE, "..", "crates")
 
 LIBRARY = r"""
+#define _GNU_SOURCE
+#include <dlfcn.h>
 #include <errno.h>
 #include <fcntl.h>
+#include <pthread.h>
 #include <stdlib.h>
 #include <sys/mman.h>
 
 void *__libc_malloc(size_t), *__libc_calloc(size_t, size_t), *__libc_realloc(void *, size_t), *__libc_memalign(size_t, size_t);
 
-/* The number of the request to refuse, how many came, and for how many bytes. */
+/* The number of the request to refuse, how many came, and for how many bytes; how many threads were started, and how many joined. */
 static volatile unsigned long *page;
+static int (*create)(pthread_t *, const pthread_attr_t *, void *(*)(void *), void *), (*join)(pthread_t, void **);
 
 static int is_refused(size_t size) {
     if (!page) return 0;
@@ -65,7 +74,20 @@ int posix_memalign(void **place, size_t align, size_t size) {
     return 0;
 }
 
+int pthread_create(pthread_t *thread, const pthread_attr_t *how, void *(*what)(void *), void *with) {
+    int fault = is_refused(0) ? EAGAIN : create(thread, how, what, with);
+    if (!fault && page) __atomic_add_fetch(&page[3], 1, __ATOMIC_SEQ_CST);
+    return fault;
+}
+int pthread_join(pthread_t thread, void **given) {
+    int fault = join(thread, given);
+    if (!fault && page) __atomic_add_fetch(&page[4], 1, __ATOMIC_SEQ_CST);
+    return fault;
+}
+
 __attribute__((constructor)) static void begin(void) {
+    create = dlsym(RTLD_NEXT, "pthread_create");
+    join = dlsym(RTLD_NEXT, "pthread_join");
     int file = open(getenv("REQUESTS"), O_RDWR);
     void *made = mmap(0, 4096, PROT_READ | PROT_WRITE, MAP_SHARED, file, 0);
     if (made == MAP_FAILED) abort();
@@ -76,7 +98,8 @@ __attribute__((constructor)) static void begin(void) {
 OLD = b"what was there before"
 ROLES = {"wad": "out.wad", "cert": "new.cert", "report": "report"}
 
-# The words of each verb, and its outputs in order. `u.wad` has no table, `built.wad` and `u.cert` are those of a build of it.
+# The words of each verb, and its outputs in order. `u.wad` has no table, `built.wad` and `u.cert` are those of a build of it. The certificate of
+# a row of rooms is longer than a piece that is read; that of U with bytes behind it is longer than one that is held whole.
 ORDERS = [
     ("build u.wad MAP01 out.wad --cert new.cert --report report --workers 3", ["out.wad", "new.cert", "report"]),
     ("build u.wad MAP01 out.wad --cert new.cert --report report --workers 1", ["out.wad", "new.cert", "report"]),
@@ -84,6 +107,8 @@ ORDERS = [
     ("grid 2 --workers 3", []),
     ("zero u.wad MAP01 out.wad", ["out.wad"]),
     ("check built.wad MAP01 u.cert", []),
+    ("check row.wad MAP01 row.cert", []),
+    ("check built.wad MAP01 behind.cert", []),
     ("audit u.wad MAP01", []),
     ("need u.wad MAP01", []),
     ("trace u.wad MAP01 5L,5R,-1,0,32", []),
@@ -96,7 +121,7 @@ ORDERS = [
 # Where the worked certificate of U has a count, how many bytes of it, and where it is cut off, so that the count can't be borne out.
 COUNTS = [("rays", 16, 4, 140), ("listed pairs", 20, 4, 140), ("trees", 24, 4, 161), ("nodes", 142, 8, 161)]
 
-Ended = collections.namedtuple("Ended", "status line errors count asked")
+Ended = collections.namedtuple("Ended", "status line errors count asked started joined")
 
 
 class Folder:
@@ -111,6 +136,10 @@ class Folder:
         subprocess.run([compiler, "-O1", "-shared", "-fPIC", "-fno-builtin", "-o", self.library, source], check=True)
         shutil.copy(os.path.join(CRATES, "doomsight", "data", "u.wad"), self.path("u.wad"))
         self.refused(0, [self.program, *"build u.wad MAP01 built.wad --cert u.cert --workers 1".split()])
+        self.put("rooms.wad", wad("MAP01", row_of_rooms(64)))
+        self.refused(0, [self.program, *"build rooms.wad MAP01 row.wad --cert row.cert --workers 1".split()])
+        self.put("behind.cert", self.held("u.cert") + bytes(33_554_432))
+        self.names = set(os.listdir(place))
 
     def path(self, name):
         return os.path.join(self.place, name)
@@ -128,14 +157,16 @@ class Folder:
 
     def refused(self, number, words):
         """A run whose request of this number is refused; of which none is where the number is 0."""
-        self.put("requests", struct.pack("<QQQ", number, 0, 0) + bytes(4096 - 24))
+        self.put("requests", struct.pack("<5Q", number, 0, 0, 0, 0) + bytes(4096 - 40))
         env = {"LD_PRELOAD": self.library, "REQUESTS": self.page}
         run = subprocess.run(words, cwd=self.place, env=env, stdin=subprocess.DEVNULL, capture_output=True, timeout=60)
-        _, count, asked = struct.unpack_from("<QQQ", self.held("requests"))
-        return Ended(run.returncode, run.stdout, run.stderr, count, asked)
+        _, count, asked, started, joined = struct.unpack_from("<5Q", self.held("requests"))
+        return Ended(run.returncode, run.stdout, run.stderr, count, asked, started, joined)
 
     def ordered(self, number, words, outputs):
         """The same of the program, whose outputs hold something else before."""
+        for name in set(os.listdir(self.place)) - self.names:
+            os.remove(self.path(name))
         for name in outputs:
             self.put(name, OLD)
         return self.refused(number, [self.program, *words.split()])
@@ -148,6 +179,8 @@ class Folder:
 
     def way(self, words, outputs, base, bytes_of, run):
         """The way in which a run has ended, None where it is none of those that may be."""
+        if run.started != run.joined or set(os.listdir(self.place)) != self.names.union(outputs):
+            return None
         untouched = all(self.held(name) == OLD for name in outputs)
         whole = lambda names: all(self.is_whole(words, bytes_of, name) for name in names)
         if not base.errors.startswith(run.errors):
