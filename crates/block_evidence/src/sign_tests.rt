@@ -32,6 +32,7 @@ fn are_opposite(l: i64, m: i64, n: i64) -> bool
 
 /// Whether the segment from `p` to `q` and the segment from `r` to `s` share a point. False also where all four points
 /// are on one line.
+#[inline(always)]
 pub fn do_cross(p: Pt, q: Pt, r: Pt, s: Pt) -> bool
     ensures { IsTrue result → HullsMeet (p ∷ q ∷ []) (r ∷ s ∷ []) }
 {
@@ -47,6 +48,7 @@ pub fn do_cross(p: Pt, q: Pt, r: Pt, s: Pt) -> bool
 }
 
 /// Whether the triangle `a`, `b`, `c` has the point `p`. False also where all four points are on one line.
+#[inline(always)]
 pub fn is_covered(p: Pt, a: Pt, b: Pt, c: Pt) -> bool
     ensures { IsTrue result → HullsMeet (p ∷ []) (a ∷ b ∷ c ∷ []) }
 {
@@ -58,6 +60,8 @@ pub fn is_covered(p: Pt, a: Pt, b: Pt, c: Pt) -> bool
 
 /// Whether four ends are seen at once to be stuck. `false` says nothing: it comes also where all of them are on one line,
 /// and where a right end comes before a left one.
+// in line with what finds the ends: a call would hand four of them over in memory, at each blocked node of a certificate
+#[inline(always)]
 pub fn are_stuck(a: EndAt, b: EndAt, c: EndAt, d: EndAt) -> bool
     ensures { IsTrue result → AreStuck (a ∷ b ∷ c ∷ d ∷ []) }
 {

@@ -1,7 +1,6 @@
 //! The trees of a certificate judged: each node is asked of a walk through the certificate's own triangles.
 #![tactic(auto)]
 
-mod four_ends;
 mod hearing;
 mod judge;
 mod marks;

@@ -9,9 +9,8 @@ ghost use Rattle.tree_judge.specs.Path.{list_of, path_ends, frame_at, pending_wa
 ghost use Rattle.tree_judge.specs.Roots.{first_at};
 ghost use Rattle.tree_judge.specs.Whole.{Notes, HasAnswered, HasRefused, StandsBefore, IsWholeFrom, IsFirstWrongFrom};
 
-use crate::four_ends::{RIGHT, are_stuck};
 use crate::roots::Roots;
-use block_evidence::{Evidence, stuck};
+use block_evidence::{Evidence, are_stuck, stuck};
 use half_edges::{HalfEdge, HalfEdges};
 use reject_bits::Table;
 use sight_names::{EndAt, Memory, Pt};
@@ -19,6 +18,9 @@ use sight_tree::{Node, Tree};
 use std::alloc::Global;
 
 const ORIGIN: Pt = Pt { x: 0, y: 0 };
+
+/// The least code of a right end.
+const RIGHT: u16 = 32_768;
 
 /// A portal on the way to the present node: its ends, and the right way behind it as long as that is still to come.
 #[derive(Clone, Copy)]
