@@ -15,3 +15,4 @@ mod regrouping;
 pub use fault::GroupFault;
 pub use grouping::{Grouped, group_map};
 pub use lists::{Group, faces};
+pub use regrouping::regrouped_map;

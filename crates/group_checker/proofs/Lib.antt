@@ -1,0 +1,10 @@
+pub mod Each
+pub mod Meshed
+pub mod OneMap
+pub mod AcceptingTwo
+pub mod SeeingTwo
+pub mod Rows
+pub mod Growing
+pub mod Judging
+pub mod Listing
+pub mod Ending

@@ -1,0 +1,84 @@
+-- What the ranges and orders of a certificate of version 2 give, and its one map of groups.
+use Rattle.std.proofs.Common.{◌≡◌, ℕ, zero, suc, ◌<◌, List, [], ◌∷◌, Option, Some, length, map, refl, sym, ◌∙◌, ap, subst, arith, zero-lt-suc, suc-le-suc, le_of_suc-le-suc}
+use Rattle.std.specs.List.{slice_get, AllByRecursion}
+use Rattle.std.proofs.lemmas.Option.{none-some, same_Some}
+use Rattle.sight_names.specs.declared.names.Triangle.{Triangle}
+use Rattle.sight_names.specs.Plan.{PlanParts, IsPlan}
+use Rattle.sight_names.specs.Map.{Map, map_of}
+use Rattle.sight_names.specs.Mesh.{label_of, side_edge}
+use Rattle.sight_names.proofs.Portals.{triangle_within}
+use Rattle.mesh_base.proofs.GoodMesh.{PointFacts}
+use Rattle.cert_format.specs.declared.cert.Sizes.{Sizes}
+use Rattle.cert_format.specs.declared.cert.Labelled.{Labelled}
+use Rattle.cert_format.specs.Accepted.{triangles_of, labels_of}
+use Rattle.cert_groups.specs.declared.cert.CertTwo.{CertTwo}
+use Rattle.groups_base.specs.Table.{IsTableFor, NamesTheLabels, NamedAreLabelled}
+use Rattle.groups_base.proofs.CheckedGroups.{table_has_groups, table_has_grouped}
+use Rattle.groups_base.proofs.FacesExist.{ground_exists}
+use Rattle.groups_base.proofs.GroupLaws.{HasLists}
+use Rattle.groups_base.proofs.GroupTable.{sealed_by_mates}
+use Rattle.groups_base.proofs.NamedLists.{lists_exist}
+use Rattle.groups_base.proofs.OneGrouped.{one_grouped}
+use Rattle.face_groups.proofs.RegroupedPlan.{names_the_labels}
+use Rattle.group_checker.specs.Meshes.{grouped_map}
+use Rattle.group_checker.specs.Judged.{IsTwoFor}
+
+-- ---- lists
+
+pub each_at : {X : Type 0} (P : X → Type 0) (xs : List X) (i : ℕ) (x : X) → AllByRecursion P xs → slice_get xs i ≡ Some x → P x
+each_at P [] i x all e = absurd (none-some x e)
+each_at P (y ∷ xs) zero x all e = subst P (same_Some y x e) all.0
+each_at P (y ∷ xs) (suc i) x all e = each_at P xs i x all.1 e
+
+pub label_within : (ls : List (Option ℕ)) (k f : ℕ) → label_of ls k ≡ Some f → k < length ls
+label_within [] k f e = absurd (none-some f e)
+label_within (x ∷ ls) zero f e = zero-lt-suc _
+label_within (x ∷ ls) (suc k) f e = suc-le-suc (label_within ls k f e)
+
+-- each triangle has a label, below the number of sectors
+labelled_below : (n : ℕ) (xs : List Labelled) → AllByRecursion (λ (l : Labelled). l.sector < n) xs → (k : ℕ) → k < length xs → (f : ℕ) × (label_of (map (λ (l : Labelled). Some l.sector) xs) k ≡ Some f) × (f < n)
+labelled_below n [] all k lt = absurd (omega (arith, lt))
+labelled_below n (x ∷ xs) all zero lt = (x.sector, refl, all.0)
+labelled_below n (x ∷ xs) all (suc k) lt = labelled_below n xs all.1 k (le_of_suc-le-suc lt)
+
+label_below : (n : ℕ) (xs : List Labelled) → AllByRecursion (λ (l : Labelled). l.sector < n) xs → (k f : ℕ) → label_of (map (λ (l : Labelled). Some l.sector) xs) k ≡ Some f → f < n
+label_below n [] all k f e = absurd (none-some f e)
+label_below n (x ∷ xs) all zero f e = subst (λ (y : ℕ). y < n) (same_Some x.sector f e) all.0
+label_below n (x ∷ xs) all (suc k) f e = label_below n xs all.1 k f e
+
+many : (xs : List Labelled) → length (map (λ (l : Labelled). Some l.sector) xs) ≡ length xs
+many [] = refl
+many (x ∷ xs) = ap suc (many xs)
+
+many_triangles : (xs : List Labelled) → length (map (λ (l : Labelled). l.triangle) xs) ≡ length xs
+many_triangles [] = refl
+many_triangles (x ∷ xs) = ap suc (many_triangles xs)
+
+-- ---- of the certificate
+
+pub one_label_each : (c : CertTwo) → length (labels_of c.cert) ≡ length (triangles_of c.cert)
+one_label_each c = many c.cert.triangles ∙ sym (many_triangles c.cert.triangles)
+
+sectors_are : (p : PlanParts) (c : CertTwo) → IsTwoFor p c → AllByRecursion (λ (l : Labelled). l.sector < length c.groups) c.cert.triangles
+sectors_are p c two = subst (λ (n : ℕ). AllByRecursion (λ (l : Labelled). l.sector < n) c.cert.triangles) (ap (λ (s : Sizes). s.sectors) two.in_order.grouped) two.in_order.in_order.sectors
+
+pub has_label : (p : PlanParts) (c : CertTwo) → IsTwoFor p c → (k : ℕ) → k < length (triangles_of c.cert) → (f : ℕ) × (label_of (labels_of c.cert) k ≡ Some f) × (f < length c.groups)
+has_label p c two k lt = let n = many_triangles c.cert.triangles in labelled_below (length c.groups) c.cert.triangles (sectors_are p c two) k (omega (arith, lt, n))
+
+pub is_label : (p : PlanParts) (c : CertTwo) → IsTwoFor p c → (k f : ℕ) → label_of (labels_of c.cert) k ≡ Some f → f < length c.groups
+is_label p c two k f e = label_below (length c.groups) c.cert.triangles (sectors_are p c two) k f e
+
+pub names_grouped : (p : PlanParts) → IsPlan p → (c : CertTwo) → NamesTheLabels (map_of p) (triangles_of c.cert) c.groups (labels_of c.cert) (grouped_map p c)
+names_grouped p is c = names_the_labels p is (triangles_of c.cert) c.groups (labels_of c.cert)
+
+-- ---- one map of groups
+
+module _ (m : Map) (facts : PointFacts m) (ts : List Triangle) (groups : List (List ℕ)) (ls : List (Option ℕ)) (table : IsTableFor m ts groups ls) where
+  has_lists : HasLists m
+  has_lists =
+      let g = ground_exists m ts facts table.plain in
+      let sides : NamedAreLabelled m ts ls = λ s l a is names. let r = table.sides s l a is names in (r.0, r.1, let x = table.each r.0 (triangle_within ts (side_edge m l s.left) r.0 r.1) in (x.f, x.label)) in
+      lists_exist m ts g.0 g.1 g.2 (sealed_by_mates m ts g.0 g.1 g.2 ls table.mates sides)
+
+  pub one_map : (g h : Map) → NamesTheLabels m ts groups ls g → NamesTheLabels m ts groups ls h → g ≡ h
+  one_map g h a b = one_grouped m groups (table_has_groups m facts ts groups ls table) has_lists g h (table_has_grouped m facts ts groups ls table g a) (table_has_grouped m facts ts groups ls table h b)

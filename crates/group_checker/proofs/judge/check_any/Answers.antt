@@ -1,0 +1,10 @@
+use Rattle.std.proofs.Common.{◌↔◌, sym, subst}
+use Rattle.std.specs.Prelude.{IfOk}
+use Rattle.sight_names.specs.Map.{map_of}
+use Rattle.cert_groups.specs.declared.cert.AnyCert.{AnyCert}
+use Rattle.accepted_groups.specs.Accepted.{IsAcceptedAny}
+use Rattle.group_checker.specs.Judged.{IsYesAny}
+use Rattle.group_checker.proofs.judge.check_any.Goals as goal
+
+pub returns-in-Two-clause-accepted : goal.returns-in-Two-clause-accepted
+returns-in-Two-clause-accepted c = subst (λ (x : AnyCert). IfOk c.check_two.result (λ v. IsYesAny v ↔ IsAcceptedAny (map_of c.args.plan.now) c.args.table.now.bytes x)) (sym c.in-Two.is) c.check_two.ensures.accepted

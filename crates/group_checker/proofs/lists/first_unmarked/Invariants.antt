@@ -1,0 +1,6 @@
+use Rattle.tree_judge.specs.Marks.{IsMarked}
+use Rattle.group_checker.proofs.Each.{AtEachBelow}
+use Rattle.group_checker.proofs.lists.first_unmarked.Given as goal
+
+abbrev pub invariant-loop-f : goal.invariant-loop-f
+invariant-loop-f l = AtEachBelow (IsMarked l.marks) l.f

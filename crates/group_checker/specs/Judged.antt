@@ -1,0 +1,154 @@
+-- What the answer says of a certificate of version 2, and of one of either version.
+use Rattle.std.specs.Prelude.{◌≡◌, ◌<◌, ◌≤◌, ◌↔◌, ℕ, List, Option, length}
+use Rattle.sight_names.specs.declared.names.Side.{Side}
+use Rattle.sight_names.specs.declared.names.Triangle.{Triangle}
+use Rattle.sight_names.specs.declared.faults.CheckFault.TheVariants.{Mesh, ListedSet, Unproved, Uncovered}
+use Rattle.sight_names.specs.Plan.{PlanParts, IsPlan}
+use Rattle.sight_names.specs.Map.{Map, map_of}
+use Rattle.sight_names.specs.Mesh.{IsGoodMesh}
+use Rattle.mesh_shape.specs.Faults.{IsFirstAgainst}
+use Rattle.tri_sectors.specs.Components.{AreComponents}
+use Rattle.reject_bits.specs.Parts.{TableParts, Rejects}
+use Rattle.cert_format.specs.Parts.{CertParts}
+use Rattle.cert_format.specs.declared.cert.Sizes.{Sizes}
+use Rattle.cert_format.specs.Accepted.{triangles_of, labels_of, EitherSet, EitherClear, HasRay, HasTreeWithout}
+use Rattle.cert_groups.specs.declared.cert.CertTwo.{CertTwo}
+use Rattle.cert_groups.specs.declared.cert.AnyCert.{AnyCert}
+use Rattle.cert_groups.specs.declared.cert.AnyCert.TheVariants.{One, Two}
+use Rattle.cert_groups.specs.Grammar.{IsTwoInOrder}
+use Rattle.accepted_groups.specs.Accepted.{IsPairOfList, IsGroupedBlind, IsGroupedSeen}
+use Rattle.cert_checker.specs.declared.verdict.Verdict.{Verdict}
+use Rattle.cert_checker.specs.declared.verdict.Verdict.TheVariants.{Yes as YesOne, No as NoOne}
+use Rattle.cert_checker.specs.Pairs.{AreTotals}
+use Rattle.cert_checker.specs.Judged.{JudgesMesh, JudgesRays, JudgesTrees, JudgesPairs}
+use Rattle.cert_checker.specs.Sight.{TellsSight}
+use Rattle.group_checker.specs.declared.verdict.AnyFault.TheVariants.{Check, Group, Unused}
+use Rattle.group_checker.specs.declared.verdict.AnyVerdict.{AnyVerdict}
+use Rattle.group_checker.specs.declared.verdict.AnyVerdict.TheVariants.{Yes, No}
+use Rattle.group_checker.specs.Meshes.{grouped_map, grouped_plan, HasTriangleAt, IsFirstMeshFault}
+use Rattle.group_checker.specs.Lists.{IsListRight, IsUsedGroup}
+use Rattle.group_checker.specs.Members.{AreMembers}
+use Rattle.group_checker.specs.Pairs.{KnownParts, KeepsAway}
+
+-- the answer is yes
+abbrev pub IsYesAny : AnyVerdict → Type 0
+IsYesAny (Yes t) = Unit {0}
+IsYesAny (No f) = ⊥
+
+-- a verdict of version 1 in the words of either version
+abbrev pub any_of : Verdict → AnyVerdict
+any_of (YesOne t) = Yes t
+any_of (NoOne f) = No (Check f)
+
+-- what is said of it in the words of version 1; nothing where it tells one of the two faults of groups
+abbrev pub InWordsOfOne : (Verdict → Type 0) → AnyVerdict → Type 0
+InWordsOfOne P (Yes t) = P (YesOne t)
+InWordsOfOne P (No (Check f)) = P (NoOne f)
+InWordsOfOne P (No (Group k)) = Unit {0}
+InWordsOfOne P (No (Unused f)) = Unit {0}
+
+-- ---- mesh and groups
+
+-- a fault of the mesh is the first rule that the triangles break; with every other answer they break none
+abbrev pub TellsMesh : Map → Map → CertTwo → AnyVerdict → Type 0
+TellsMesh m g c (No (Check (Mesh f))) = IsFirstMeshFault m g (triangles_of c.cert) (labels_of c.cert) f
+TellsMesh m g c _ = ((s : Side) → HasTriangleAt m (triangles_of c.cert) s) × IsGoodMesh g (triangles_of c.cert) (labels_of c.cert)
+
+-- the least triangle for which the table has another list than that of its face; then the least group that no triangle has
+abbrev pub TellsGroups : Map → CertTwo → AnyVerdict → Type 0
+TellsGroups m c (No (Check (Mesh f))) = Unit {0}
+TellsGroups m c (No (Group k)) = IsFirstAgainst (IsListRight m (triangles_of c.cert) c.groups (labels_of c.cert)) k
+TellsGroups m c (No (Unused f)) = ((k : ℕ) → IsListRight m (triangles_of c.cert) c.groups (labels_of c.cert) k) × IsFirstAgainst (IsUsedGroup (length c.groups) (labels_of c.cert)) f
+TellsGroups m c _ = ((k : ℕ) → IsListRight m (triangles_of c.cert) c.groups (labels_of c.cert) k) × ((f : ℕ) → IsUsedGroup (length c.groups) (labels_of c.cert) f)
+
+-- ---- pairs of sectors
+
+-- a listed pair is clear, a clear one that isn't listed is proved to see, and a set one to be blind
+pub record IsPairRight (g : Map) (t : TableParts) (c : CertTwo) (a b : ℕ) : Type 0 where
+  pub listed : IsPairOfList c a b → ¬ EitherSet t.n t.bytes a b
+  pub set : EitherSet t.n t.bytes a b → IsGroupedBlind g c a b
+  pub clear : EitherClear t.n t.bytes a b → ¬ IsPairOfList c a b → IsGroupedSeen c a b
+
+-- it is a pair of the table, and all pairs before it are right
+pub record IsReached (g : Map) (t : TableParts) (c : CertTwo) (a b : ℕ) : Type 0 where
+  pub order : a ≤ b
+  pub within : b < t.n
+  pub row : (e : ℕ) → a ≤ e → e < b → IsPairRight g t c a e
+  pub rows : (d e : ℕ) → d < a → d ≤ e → e < t.n → IsPairRight g t c d e
+
+-- with yes each pair is right, and the totals are those of the table and the list; a fault of a pair is one, and the first of its kind
+abbrev pub TellsPairs : Map → TableParts → CertTwo → Verdict → Type 0
+TellsPairs g t c (YesOne totals) = ((a b : ℕ) → a ≤ b → b < t.n → IsPairRight g t c a b) × AreTotals t c.listed t.n totals
+TellsPairs g t c (NoOne (ListedSet a b)) = IsReached g t c a b × IsPairOfList c a b × EitherSet t.n t.bytes a b
+TellsPairs g t c (NoOne (Unproved a b)) = IsReached g t c a b × ¬ IsPairOfList c a b × EitherSet t.n t.bytes a b × ¬ IsGroupedBlind g c a b
+TellsPairs g t c (NoOne (Uncovered a b)) = IsReached g t c a b × ¬ IsPairOfList c a b × (EitherSet t.n t.bytes a b → IsGroupedBlind g c a b) × EitherClear t.n t.bytes a b × ¬ IsGroupedSeen c a b
+TellsPairs g t c _ = Unit {0}
+
+-- ---- the whole
+
+-- The answer for a certificate of version 2: the first fault in the order of mesh, groups, rays, trees and pairs. Rays and trees
+-- are judged over the map of groups.
+pub record JudgesTwo (p : PlanParts) (t : TableParts) (c : CertTwo) (v : AnyVerdict) : Type 0 where
+  pub mesh : TellsMesh (map_of p) (grouped_map p c) c v
+  pub groups : TellsGroups (map_of p) c v
+  pub rays : InWordsOfOne (JudgesRays (grouped_map p c) c.cert) v
+  pub trees : InWordsOfOne (JudgesTrees (grouped_map p c) c.cert) v
+  pub pairs : InWordsOfOne (TellsPairs (grouped_map p c) t c) v
+
+-- the answer for one of version 1 is that of version 1
+pub record JudgesOne (m : Map) (t : TableParts) (c : CertParts) (v : AnyVerdict) : Type 0 where
+  pub verdict : Verdict
+  pub is : v ≡ any_of verdict
+  pub mesh : JudgesMesh m c verdict
+  pub rays : JudgesRays m c verdict
+  pub trees : JudgesTrees m c verdict
+  pub pairs : JudgesPairs m t c verdict
+
+-- the answer, by the version
+abbrev pub JudgesAny : PlanParts → TableParts → AnyCert → AnyVerdict → Type 0
+JudgesAny p t (One c) v = JudgesOne (map_of p) t c v
+JudgesAny p t (Two c sizes) v = JudgesTwo p t c v
+
+-- ranges and orders of the certificate are those of version 2, for the sizes of the plan
+pub record IsTwoFor (p : PlanParts) (c : CertTwo) : Type 0 where
+  pub sizes : Sizes
+  pub in_order : IsTwoInOrder sizes c
+  pub sectors : sizes.sectors ≡ p.sectors
+  pub points : sizes.points ≡ length p.points
+  pub lines : sizes.lines ≡ length p.lines
+
+-- the same, for a map of so many sectors
+abbrev pub IsTwoOf : ℕ → CertTwo → Type 0
+IsTwoOf n c = (sizes : Sizes) × IsTwoInOrder sizes c × (sizes.sectors ≡ n)
+
+-- the judge of pairs goes by this map of groups, and by the trees, the rays, the list and the groups of this certificate
+pub record IsAbout (g : Map) (c : CertTwo) (k : KnownParts) : Type 0 where
+  pub groups : g.sectors ≡ length c.groups
+  pub components : AreComponents g k.facts.components
+  pub walked : (f h : ℕ) → f < g.sectors → h < g.sectors → KeepsAway k.facts f h ↔ HasTreeWithout g c.cert f h
+  pub rays : (f h : ℕ) → f < g.sectors → h < g.sectors → Rejects k.facts.rays f h ↔ HasRay c.cert f h
+  pub members : AreMembers c.groups k.table.n k.members
+  pub listed : k.listed ≡ c.listed
+
+-- what is judged goes by the map of groups of a certificate whose mesh keeps the rules there
+pub record IsTerrain (p : PlanParts) (t : TableParts) (c : CertTwo) (grouped : PlanParts) (ts : List Triangle) (ls : List (Option ℕ)) : Type 0 where
+  pub table : t.n ≡ p.sectors
+  pub plan : IsPlan p
+  pub cert : IsTwoFor p c
+  pub triangles : ts ≡ triangles_of c.cert
+  pub labels : ls ≡ labels_of c.cert
+  pub grouped_is : grouped ≡ grouped_plan p c
+  pub is_plan : IsPlan grouped
+  pub sides : (s : Side) → HasTriangleAt (map_of p) (triangles_of c.cert) s
+  pub good : IsGoodMesh (map_of grouped) (triangles_of c.cert) (labels_of c.cert)
+
+-- ---- sight
+
+-- the certificate with the list of sectors in the place of its own
+abbrev pub with_list : CertTwo → CertParts
+with_list c = record { sizes = c.cert.sizes; triangles = c.cert.triangles; rays = c.cert.rays; listed = c.listed; trees = c.cert.trees }
+
+-- what the table tells of sight, with the list of the version
+abbrev pub TellsSightAny : Map → TableParts → AnyCert → Type 0
+TellsSightAny m t (One c) = TellsSight m t c
+TellsSightAny m t (Two c sizes) = TellsSight m t (with_list c)

@@ -1,0 +1,5 @@
+pub mod Meshes
+pub mod Lists
+pub mod Members
+pub mod Pairs
+pub mod Judged

@@ -1,0 +1,16 @@
+//! A REJECT table judged by a certificate of either version: yes only where no rejected pair sees, and each clear pair that
+//! isn't listed does.
+//!
+//! A certificate of version 2 is of the map of groups: the same lines, and each side names the label of its triangle. Its mesh,
+//! rays and trees are judged there. Two sectors see each other where some groups that contain them do.
+#![tactic(auto)]
+
+mod judge;
+mod lists;
+mod members;
+mod meshes;
+mod pairs;
+mod verdict;
+
+pub use judge::{check_any, check_two};
+pub use verdict::{AnyFault, AnyVerdict};

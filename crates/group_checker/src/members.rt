@@ -1,0 +1,50 @@
+//! The groups of each sector.
+
+ghost use Rattle.std.specs.Prelude.{◌≡◌, ◌≤◌, ◌↔◌, Contains, IfOk, IsTrue, OnOk, length};
+ghost use Rattle.group_checker.specs.Members.{added, AreGroupsWith, AreMembers};
+
+use face_groups::Group;
+use sight_names::{Items, Memory};
+use std::alloc::Global;
+
+/// Whether the group contains the sector.
+fn has_sector(group: &Group, sector: u16) -> bool
+    ensures { IsTrue result ↔ Contains group.now sector }
+{
+    group.as_slice().contains(&sector)
+}
+
+/// Adds the place, if the group there contains the sector.
+fn add_place(places: &mut Vec<u16>, place: u16, contains: bool) -> Result<(), Memory>
+    ensures { OnOk result (places.new.items ≡ added contains place places.old.items) }
+{
+    if contains {
+        places.push(place)?;
+    }
+    Ok(())
+}
+
+/// The places of the groups that contain the sector.
+fn groups_with(alloc: Global, groups: &[Group], sector: u16) -> Result<Vec<u16>, Memory>
+    requires { length groups.now ≤ 8192 }
+    ensures { IfOk result (λ v. AreGroupsWith groups.now sector v.items) }
+{
+    let mut places = Vec::new(alloc);
+    for (place, group) in groups.iter().enumerate() {
+        add_place(&mut places, place as u16, has_sector(group, sector))?;
+    }
+    Ok(places)
+}
+
+/// For each of so many sectors the places of the groups that contain it.
+pub fn members_of(alloc: Global, groups: &[Group], sectors: u16) -> Result<Vec<Group>, Memory>
+    requires { length groups.now ≤ 8192 }
+    ensures { IfOk result (λ v. AreMembers groups.now sectors v.items) }
+{
+    let mut members = Vec::new(alloc);
+    for sector in 0..sectors {
+        let places = groups_with(alloc, groups, sector)?;
+        members.push(Items::of(places))?;
+    }
+    Ok(members)
+}
