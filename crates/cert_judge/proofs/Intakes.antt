@@ -48,6 +48,10 @@ module _ (p : PlanParts) (t : TableParts) (bytes rest : List ℕ) (k : Intake) (
     left = λ more. w.left more ∙ ap (put_all w.parts) (told more) ∙ sym (put_one_more w.parts part (parts_left new.reader (behind ++ more)));
   }
 
+  -- or a fault was met
+  pub fault_taken : (f : CertFault) → ((more : List ℕ) → parts_left k.reader (rest ++ more) ≡ Err f) → AreRefused p bytes f
+  fault_taken f told more = w.left more ∙ ap (put_all w.parts) (told more)
+
 -- ---- a piece comes
 
 bytes_more : (bytes piece : List ℕ) → AreBytes bytes → AreBytes piece → AreBytes (bytes ++ piece)

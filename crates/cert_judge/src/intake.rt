@@ -1,6 +1,6 @@
 //! The bytes of a certificate, read and judged as they come.
 
-ghost use Rattle.std.specs.Prelude.{◌≡◌, ◌<◌, ℕ, List, [], ◌++◌, None, length, IsSome, IfSome, IfOk};
+ghost use Rattle.std.specs.Prelude.{◌≡◌, ◌<◌, ◌≤◌, ℕ, List, [], ◌++◌, None, length, IsSome, IfSome, IfOk};
 ghost use Rattle.sight_names.specs.Plan.{PlanParts, IsPlan};
 ghost use Rattle.reject_bits.specs.Parts.{TableParts};
 ghost use Rattle.cert_format.specs.Parts.{CertParts};
@@ -16,7 +16,7 @@ use crate::judged::Judged;
 use crate::judging::Judging;
 use cert_checker::Verdict;
 use cert_format::Sizes;
-use cert_parts::Reader;
+use cert_parts::{Part, Reader};
 use reject_bits::Table;
 use sight_names::{CertFault, Memory, Plan};
 use std::alloc::Global;
@@ -71,8 +71,25 @@ impl<'a> Intake<'a> {
         }
     }
 
-    /// The part that comes first in the rest of a piece: what of the piece is behind it, or None where nothing of it is to
-    /// be read any more.
+    /// The nodes that come first in the rest of a piece: what of the piece is behind them. Others than the usual ones are
+    /// left to `take_one`.
+    fn take_nodes<'b>(&mut self, ahead: &'b [u8]) -> Result<&'b [u8], Memory>
+        requires countable { IsCountable self.old.reader ahead.now }
+        ensures heard { (p : PlanParts) (t : TableParts) (bytes : List ℕ) → IsGoingOn p t bytes ahead.now self.old → IfOk result (λ rest. IsGoingOn p t bytes rest.now self.new) }
+        ensures still { IfOk result (λ _. self.new.fault ≡ self.old.fault) }
+        ensures countable { IfOk result (λ rest. IsCountable self.new.reader rest.now) }
+        ensures within { IfOk result (λ rest. length rest.now ≤ length ahead.now) }
+    {
+        let mut rest = ahead;
+        'rest: while let Some((node, behind)) = self.reader.node(rest) {
+            self.judging.hear(Part::Node(node))?;
+            rest = behind;
+        }
+        Ok(rest)
+    }
+
+    /// The nodes and the part behind them that come first in the rest of a piece: what of the piece is behind them, or None
+    /// where nothing of it is to be read any more.
     fn take_one<'b>(&mut self, rest: &'b [u8]) -> Result<Option<&'b [u8]>, Memory>
         requires on { self.old.fault ≡ None }
         requires countable { IsCountable self.old.reader rest.now }
@@ -82,6 +99,7 @@ impl<'a> Intake<'a> {
         ensures countable { IfOk result (λ o. IfSome o (λ behind. IsCountable self.new.reader behind.now)) }
         ensures less { IfOk result (λ o. IfSome o (λ behind. length behind.now < length rest.now)) }
     {
+        let rest = self.take_nodes(rest)?;
         match self.reader.next(rest) {
             Ok((Some(part), behind)) => {
                 self.judging.hear(part)?;

@@ -43,6 +43,7 @@ impl<'a> Judging<'a> {
     }
 
     /// The next part of the certificate. A part that finds no memory spends the judging: it finds none from then on.
+    #[inline(always)]
     pub fn hear(&mut self, part: Part) -> Result<(), Memory>
         ensures { (p : PlanParts) (t : TableParts) (parts : List PartOf) → HasHeard p t parts self.old → HasHeard p t (parts ++ part ∷ []) self.new }
     {

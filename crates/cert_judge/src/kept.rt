@@ -50,6 +50,7 @@ impl Kept {
     }
 
     /// Another part than a triangle has come.
+    #[inline(always)]
     fn close(&mut self, alloc: Global, plan: &Plan) -> Result<(), Memory>
         ensures { (h : Heard) → IsKept plan.now h self.old → IfOk result (λ _. IsKept plan.now (closed_at h) self.new) }
     {
@@ -81,6 +82,7 @@ impl Kept {
     }
 
     /// A node of the last tree.
+    #[inline(always)]
     fn hear_node(&mut self, node: Node) -> Result<(), Memory>
         ensures { (p : PlanParts) (h : Heard) → h.closed ≡ true → IsKept p h self.old → IfOk result (λ _. IsKept p (with_next node h) self.new) }
     {
@@ -88,6 +90,7 @@ impl Kept {
     }
 
     /// The next part.
+    #[inline(always)]
     pub fn hear(&mut self, alloc: Global, plan: &Plan, part: Part) -> Result<(), Memory>
         ensures { (h : Heard) → IsKept plan.now h self.old → IfOk result (λ _. IsKept plan.now (with_part h part) self.new) }
     {

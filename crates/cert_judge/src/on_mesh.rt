@@ -69,6 +69,7 @@ impl OnMesh {
     }
 
     /// The next node of the last tree.
+    #[inline(always)]
     pub fn hear_node(&mut self, node: Node) -> Result<(), Memory>
         ensures { (p : PlanParts) (ls : List AtSector) (rays : List RayOfPair) (front : List Tree) (tree : Option Tree) → IsOnMesh p ls rays front tree self.old → IfOk result (λ _. IsOnMesh p ls rays front (option_map (with_node node) tree) self.new) }
     {

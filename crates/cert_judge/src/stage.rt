@@ -40,6 +40,7 @@ fn stage_of(alloc: Global, plan: &Plan, labelled: &[Labelled]) -> Result<Stage, 
 
 impl Stage {
     /// Another part than a triangle has come: the triangles are judged, if they aren't yet.
+    #[inline(always)]
     pub fn close(&mut self, alloc: Global, plan: &Plan, labelled: &[Labelled]) -> Result<(), Memory>
         ensures { (h : Heard) → labelled.now ≡ h.triangles → IsStage plan.now h self.old → IfOk result (λ _. IsStage plan.now (closed_at h) self.new) }
     {
@@ -68,6 +69,7 @@ impl Stage {
     }
 
     /// The next node of the last tree.
+    #[inline(always)]
     pub fn hear_node(&mut self, node: Node) -> Result<(), Memory>
         ensures { (p : PlanParts) (h : Heard) → h.closed ≡ true → IsStage p h self.old → IfOk result (λ _. IsStage p (with_next node h) self.new) }
     {

@@ -1,6 +1,7 @@
 pub mod Whole
 pub mod RecordWidths
 pub mod Nodes
+pub mod UsualNodes
 pub mod Header
 pub mod First
 pub mod Order

@@ -218,7 +218,7 @@ module _ (a : Awaited) (total : ℕ) (bytes : List ℕ) where
       ∙ step_tells (pair_at a.sizes total a.last_pair bytes) (λ t. parts.Listed t) (λ y. record a { listed = a.listed - 1; last_pair = Some y })
       (λ y rest. pairs_left (record a { listed = a.listed - 1; last_pair = Some y }) total rest) total (λ y rest. at_pairs (record a { listed = a.listed - 1; last_pair = Some y }) total rest e t r)
 
-  node_tells : a.begun ≡ true → a.triangles ≡ 0 → a.rays ≡ 0 → a.listed ≡ 0 → 0 < a.nodes → left_at a total bytes ≡ told total (node_step a total bytes)
+  pub node_tells : a.begun ≡ true → a.triangles ≡ 0 → a.rays ≡ 0 → a.listed ≡ 0 → 0 < a.nodes → left_at a total bytes ≡ told total (node_step a total bytes)
   unfolding node_step nodes_left trees_left
   node_tells e t r l some =
       at_nodes a total bytes e t r l

@@ -1,13 +1,17 @@
 -- What a reader's parts to come are before and behind a step.
-use Rattle.std.proofs.Common.{◌≡◌, ℕ, ◌+◌, ◌-◌, ◌<◌, ◌≤◌, ◌⊎◌, inr, true, false, List, [], ◌++◌, length, take, drop, Result, Ok, Err, refl, sym, ap, subst, ◌∙◌, append_assoc, arith}
+use Rattle.std.proofs.Common.{◌≡◌, ℕ, ◌+◌, ◌-◌, ◌<◌, ◌≤◌, ◌⊎◌, inr, true, false, List, [], ◌++◌, length, take, drop, Some, Result, Ok, Err, refl, sym, ap, subst, ◌∙◌, append_assoc, arith}
+use Rattle.std.proofs.lemmas.Bool.{and_parts, eqb-true, ltb-true}
 use Rattle.std.proofs.lemmas.List.{append-nil, take-append-drop, length-append, length-take, nil_from_length}
 use Rattle.sight_names.specs.declared.faults.CertFault.{CertFault}
-use Rattle.cert_format.specs.Reading.{◌>>=◌}
+use Rattle.sight_tree.specs.declared.Node.{Node}
+use Rattle.cert_format.specs.Reading.{◌>>=◌, node_at}
+use Rattle.cert_parts.specs.declared.part.Part.TheVariants as parts
 use Rattle.cert_parts.specs.Left.{ReaderState, left_at, parts_left, put_before}
-use Rattle.cert_parts.specs.Steps.{is_done, first_at, width_at}
+use Rattle.cert_parts.specs.Steps.{is_done, is_in_tree, first_at, first_width, node_step, width_at}
 use Rattle.cert_parts.proofs.Whole.{longer}
 use Rattle.cert_parts.proofs.First.{First, first_grows, first_takes, some_width, width_stays, still_cut}
-use Rattle.cert_parts.proofs.Order.{left_first, done_left}
+use Rattle.cert_parts.proofs.Nodes.{node_grows, node_takes}
+use Rattle.cert_parts.proofs.Order.{left_first, done_left, node_tells}
 
 -- a piece that is kept
 pub kept_tells : (s new : ReaderState) (piece more : List ℕ) → new.awaited ≡ s.awaited → new.given ≡ s.given + length piece → new.kept ≡ s.kept ++ piece → parts_left s (piece ++ more) ≡ parts_left new more
@@ -65,6 +69,26 @@ module _ (s : ReaderState) (piece front rest whole : List ℕ) (is : IsRecord s 
   part_told new x e p q r =
       let nothing : x.1 ≡ [] = nil_from_length x.1 (omega (arith, first_takes s.awaited (s.given + length front) whole x e, is.wide)) in
       at_first ∙ rw (e, p, q, r, nothing) refl
+
+-- ---- a node that the piece has whole
+
+abbrev Read : Type 0
+Read = Result (Node × List ℕ) CertFault
+
+pub node_told : (s new : ReaderState) (piece rest more : List ℕ) (n : Node) → s.kept ≡ [] → is_in_tree s.awaited ≡ true → ((total : ℕ) → node_at total piece ≡ Ok (n, rest))
+    → new.awaited ≡ record s.awaited { nodes = s.awaited.nodes - 1 } → new.given + length rest ≡ s.given + length piece → new.kept ≡ [] → parts_left s (piece ++ more) ≡ put_before (Some (parts.Node n)) (parts_left new (rest ++ more))
+unfolding parts_left node_step
+node_told s new piece rest more n none on read p q r =
+    let total = s.given + length piece in
+    let many : s.given + length (piece ++ more) ≡ total + length more = omega (arith, length-append piece more) in
+    let still : new.given + length (rest ++ more) ≡ total + length more = omega (arith, length-append rest more, q) in
+    let whole : first_width piece ≤ length piece = omega (arith, node_takes total piece (n, rest) (read total)) in
+    let longer_read : node_at (total + length more) (piece ++ more) ≡ Ok (n, rest ++ more) = node_grows total piece more whole ∙ ap (λ (x : Read). longer more x) (read total) in
+    let p4 = and_parts _ _ on in
+    let p3 = and_parts _ _ p4.0 in
+    let p2 = and_parts _ _ p3.0 in
+    let p1 = and_parts _ _ p2.0 in
+    rw (none, many) (node_tells s.awaited (total + length more) (piece ++ more) p1.0 (eqb-true _ _ p1.1) (eqb-true _ _ p2.1) (eqb-true _ _ p3.1) (ltb-true _ _ p4.1) ∙ rw (longer_read, p, still, r) refl)
 
 -- ---- at the end
 

@@ -30,6 +30,10 @@ none_read sizes = record {
 abbrev pub is_done : Awaited → Bool
 is_done a = a.begun && a.triangles == 0 && a.rays == 0 && a.listed == 0 && a.nodes == 0 && a.trees == 0
 
+-- a node comes next
+abbrev pub is_in_tree : Awaited → Bool
+is_in_tree a = a.begun && a.triangles == 0 && a.rays == 0 && a.listed == 0 && nat_lt 0 a.nodes
+
 -- ---- the first record; the header has no part
 
 -- the source of a tree and how many nodes it has

@@ -2,7 +2,7 @@
 
 ghost use Rattle.std.specs.Prelude.{◌≡◌, ◌<◌, ◌++◌, OnErr};
 ghost use Rattle.cert_format.specs.Reading.{GivesExactly};
-ghost use Rattle.cert_parts.specs.Steps.{none_read, is_done, header_step, triangle_step, ray_step, pair_step, node_step, head_step, first_at, first_width, width_at};
+ghost use Rattle.cert_parts.specs.Steps.{none_read, is_done, is_in_tree, header_step, triangle_step, ray_step, pair_step, node_step, head_step, first_at, first_width, width_at};
 
 use crate::part::Part;
 use crate::records::{head_of, node_of, node_width};
@@ -73,6 +73,14 @@ impl Awaited {
             && self.listed == 0
             && self.nodes == 0
             && self.trees == 0
+    }
+
+    /// Whether a node comes next.
+    #[inline(always)]
+    pub fn is_in_tree(&self) -> bool
+        ensures { result ≡ is_in_tree self.now }
+    {
+        self.begun && self.triangles == 0 && self.rays == 0 && self.listed == 0 && 0 < self.nodes
     }
 
     /// How many bytes the record takes whose first bytes were kept, and go on in this piece.

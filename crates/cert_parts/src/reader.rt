@@ -1,14 +1,17 @@
 //! The reader: it is given the bytes of a certificate in pieces, and gives its parts.
 
-ghost use Rattle.std.specs.Prelude.{◌≡◌, ◌+◌, ◌<◌, ℕ, List, [], ◌++◌, length, None, Ok, Err, true, false, IsSome, IfOk, IfErr, OnOk, OnErr};
+ghost use Rattle.std.specs.Prelude.{◌≡◌, ◌+◌, ◌<◌, ◌≤◌, ℕ, List, [], ◌++◌, length, Some, None, Ok, Err, true, false, IsSome, IfSome, IfNone, IfOk, IfErr, OnOk, OnErr};
+ghost use Rattle.cert_parts.specs.declared.part.Part.TheVariants.{Node as OfNode};
 ghost use Rattle.cert_parts.specs.Parts.{reading_parts};
 ghost use Rattle.cert_parts.specs.Left.{IsCountable, parts_left, put_before};
 
 use crate::awaited::Awaited;
 use crate::kept::Kept;
 use crate::part::Part;
+use crate::records::usual_node;
 use cert_format::Sizes;
 use sight_names::CertFault;
+use sight_tree::Node;
 use std::marker::Model;
 
 /// Reads a certificate from its bytes in pieces, however they are cut, and keeps at most 27 of them; a contract sees
@@ -87,6 +90,48 @@ impl Reader {
         Ok((part, rest))
     }
 
+    /// Takes the record that comes first, of which no byte is kept and all stand in the piece, where they stand: its part and
+    /// the bytes behind it.
+    fn take_whole<'a>(&mut self, piece: &'a [u8]) -> Result<(Option<Part>, &'a [u8]), CertFault>
+        requires begun { self.old.awaited.begun ≡ true }
+        requires uncut { self.old.kept ≡ [] }
+        requires whole { 28 ≤ length piece.now }
+        ensures told { IsCountable self.old piece.now → IfOk result (λ x. (more : List ℕ) → parts_left self.old (piece.now ++ more) ≡ put_before x.0 (parts_left self.new (x.1.now ++ more))) }
+        ensures fault { IsCountable self.old piece.now → IfErr result (λ f. (more : List ℕ) → parts_left self.old (piece.now ++ more) ≡ Err f) }
+        ensures given { IsCountable self.old piece.now → IfOk result (λ x. self.new.given + length x.1.now ≡ self.old.given + length piece.now) }
+        ensures rest { IfOk result (λ x. (front : List ℕ) × (piece.now ≡ front ++ x.1.now)) }
+        ensures less { IfOk result (λ x. length x.1.now < length piece.now) }
+        ensures some { IfOk result (λ x. IsSome x.0) }
+        ensures err { OnErr result (self.new ≡ self.old) }
+    {
+        let width = self.awaited.width(&[], piece);
+        let (front, rest) = piece.split_at(width);
+        let total = self.given.saturating_add(width);
+        let (part, _) = self.awaited.take(total, front)?;
+        self.given = total;
+        Ok((part, rest))
+    }
+
+    /// The next part and what of the piece is behind it, where that part is a node that is open or names four ends and the
+    /// piece has all of it. None says nothing, and the reader stays.
+    // in line with what it calls: a certificate has millions of nodes
+    #[inline(always)]
+    pub fn node<'a>(&mut self, piece: &'a [u8]) -> Option<(Node, &'a [u8])>
+        // The node comes first of the parts that were still to come, whatever bytes come behind the piece.
+        ensures part { IsCountable self.old piece.now → IfSome result (λ x. (more : List ℕ) → parts_left self.old (piece.now ++ more) ≡ put_before (Some (OfNode x.0)) (parts_left self.new (x.1.now ++ more))) }
+        ensures given { IsCountable self.old piece.now → IfSome result (λ x. self.new.given + length x.1.now ≡ self.old.given + length piece.now) }
+        ensures less { IfSome result (λ x. length x.1.now < length piece.now) }
+        ensures none { IfNone result (self.new ≡ self.old) }
+    {
+        if self.kept.len() != 0 || !self.awaited.is_in_tree() {
+            return None;
+        }
+        let (node, rest) = usual_node(piece)?;
+        self.awaited.nodes -= 1;
+        self.given = self.given.saturating_add(piece.len() - rest.len());
+        Some((node, rest))
+    }
+
     /// The next part and what of the piece is behind it; None where the piece is used up. Bytes of a part that is cut are
     /// kept, and a fault in them is told with the piece that has the rest of it, or at the end.
     pub fn next<'a>(&mut self, piece: &'a [u8]) -> Result<(Option<Part>, &'a [u8]), CertFault>
@@ -104,6 +149,9 @@ impl Reader {
         ensures err { OnErr result (self.new ≡ self.old) }
     {
         if self.awaited.begun {
+            if self.kept.len() == 0 && piece.len() >= 28 {
+                return self.take_whole(piece);
+            }
             return self.step(piece);
         }
         let mut reader = self.copied();

@@ -1,7 +1,7 @@
 //! The records that a whole certificate has no reader for: a node as a value, and the head of a tree. Both take no
 //! memory.
 
-ghost use Rattle.std.specs.Prelude.{◌≡◌};
+ghost use Rattle.std.specs.Prelude.{◌≡◌, ◌<◌, ℕ, length, Ok, IfSome};
 ghost use Rattle.cert_format.specs.Reading.{GivesExactly, two_ends_at, three_ends_at, four_ends_at, node_at};
 ghost use Rattle.cert_parts.specs.Steps.{head_at, node_width};
 
@@ -60,6 +60,42 @@ pub fn node_of(total: usize, bytes: &[u8]) -> Result<(Node, &[u8]), CertFault>
         [_, ..] => Err(CertFault::OutOfRange {
             at: place(total, bytes),
         }),
+    }
+}
+
+/// The node that names the four ends that come first, and the bytes behind it; else None.
+#[inline(always)]
+fn usual_ends(bytes: &[u8]) -> Option<(Node, &[u8])>
+    ensures read { IfSome result (λ x. (total : ℕ) → four_ends_at total bytes.now ≡ Ok (x.0, x.1.now)) }
+    ensures less { IfSome result (λ x. length x.1.now < length bytes.now) }
+{
+    let [a, a_high, b, b_high, c, c_high, d, d_high, rest @ ..] = bytes else {
+        return None;
+    };
+    let a = u16::from_le_bytes([*a, *a_high]);
+    let b = u16::from_le_bytes([*b, *b_high]);
+    let c = u16::from_le_bytes([*c, *c_high]);
+    let d = u16::from_le_bytes([*d, *d_high]);
+    if a < b && b < c && c < d {
+        let ends = [a, b, c, d];
+        return Some((Node::Blocked(Evidence { count: 4, ends }), rest));
+    }
+    None
+}
+
+/// The node that comes first and the bytes behind it, where the bytes have all of it and it is open or names four ends, as
+/// nearly all nodes do. None says nothing.
+// in line with what it calls: a certificate has millions of nodes
+#[inline(always)]
+#[tactic(auto, unfolding(cert_format::specs::Reading::node_at))]
+pub fn usual_node(bytes: &[u8]) -> Option<(Node, &[u8])>
+    ensures read { IfSome result (λ x. (total : ℕ) → node_at total bytes.now ≡ Ok (x.0, x.1.now)) }
+    ensures less { IfSome result (λ x. length x.1.now < length bytes.now) }
+{
+    match bytes {
+        [0, rest @ ..] => Some((Node::Open, rest)),
+        [4, rest @ ..] => usual_ends(rest),
+        _ => None,
     }
 }
 

@@ -1,0 +1,17 @@
+use Rattle.std.proofs.Common.{◌≡◌, ◌≤◌, ℕ, List, length}
+use Rattle.sight_names.specs.Plan.{PlanParts}
+use Rattle.reject_bits.specs.Parts.{TableParts}
+use Rattle.cert_parts.specs.Left.{IsCountable}
+use Rattle.cert_judge.specs.Intake.{IsGoingOn}
+use Rattle.cert_judge.proofs.intake.Intake.take_nodes.Given as goal
+
+abbrev pub decreases-rest : goal.decreases-rest
+decreases-rest l = length l.rest
+
+abbrev pub invariant-rest : goal.invariant-rest
+invariant-rest l = record {
+  still : l.self.fault ≡ l.initial.self.fault;
+  countable : IsCountable l.self.reader l.rest;
+  within : length l.rest ≤ length l.ahead;
+  taken : (p : PlanParts) (t : TableParts) (bytes : List ℕ) → IsGoingOn p t bytes l.ahead l.initial.self → IsGoingOn p t bytes l.rest l.self;
+}
