@@ -98,6 +98,7 @@ impl TreeJudge {
     }
 
     /// The next node of the open tree.
+    #[inline(always)]
     pub fn hear(&mut self, edges: &HalfEdges, node: Node) -> Result<(), Memory>
         ensures { (m : Map) (ts : List Triangle) (front : List WalkTree) (tree : Option WalkTree) → HasHeardTrees m ts edges.now front tree self.old → IfOk result (λ _. HasHeardTrees m ts edges.now front (option_map (with_node node) tree) self.new) }
     {

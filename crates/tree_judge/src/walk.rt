@@ -53,6 +53,7 @@ impl TreeWalk {
     }
 
     /// Whether the node answers for what is asked; then the walk stands behind it, and what it enters is noted.
+    #[inline(always)]
     pub fn step(
         &mut self,
         terrain: &Terrain<'_>,
