@@ -1,22 +1,17 @@
 -- The certificate of a build by groups: it is in order and accepted, and has the rays and trees that it should.
-use Rattle.std.proofs.Common.{◌≡◌, ◌≢◌, ℕ, ◌<◌, ◌≤◌, ◌⊎◌, ◌↔◌, inl, inr, List, [], ◌∷◌, length, map, slice_get, Contains, Option, Some, refl, sym, ap, ◌∙◌, subst, arith}
+use Rattle.std.proofs.Common.{◌≡◌, ◌≢◌, ℕ, ◌<◌, ◌≤◌, ◌⊎◌, ◌↔◌, inl, inr, List, [], length, Contains, Option, refl, sym, ap, ◌∙◌, subst, arith}
 use Rattle.std.proofs.lemmas.List.{length-map}
 use Rattle.std.proofs.lemmas.List.Elements.{All-contains, All-from_recursion}
 use Rattle.std.proofs.lemmas.Option.{none-some}
 use Rattle.list_base.proofs.Lists.{all_of}
 use Rattle.list_base.proofs.Numbers.{same_below_or_above, same_or_below}
 use Rattle.sight_names.specs.declared.names.Ask.{Ask}
-use Rattle.sight_names.specs.declared.names.Budget.{Budget}
 use Rattle.sight_names.specs.declared.names.Pair.{Pair}
-use Rattle.sight_names.specs.declared.names.Pt.{Pt}
-use Rattle.sight_names.specs.declared.names.Triangle.{Triangle}
-use Rattle.sight_names.specs.declared.plan.Line.{Line}
 use Rattle.sight_names.specs.Plan.{PlanParts}
-use Rattle.sight_names.specs.Map.{Map, MapLine, map_of}
+use Rattle.sight_names.specs.Map.{MapLine, map_of}
 use Rattle.sight_names.specs.Table.{Rejected}
 use Rattle.sight_names.specs.Found.{AreConnected, Found, Spent}
 use Rattle.sight_names.specs.Groups.{IsInGroup, unnamed}
-use Rattle.sight_tree.specs.declared.Tree.{Tree}
 use Rattle.reject_bits.specs.Parts.{TableParts, Rejects}
 use Rattle.cert_format.specs.declared.cert.Sizes.{Sizes}
 use Rattle.cert_format.specs.Accepted.{EitherClear, EitherSet, HasRay}
@@ -25,7 +20,7 @@ use Rattle.cert_format.specs.Parts.{CertParts}
 use Rattle.cert_format.specs.Sizes.{sizes_of}
 use Rattle.cert_groups.specs.declared.cert.CertTwo.{CertTwo}
 use Rattle.cert_groups.specs.Grammar.{IsGroupInOrder, IsTwoInOrder, grouped_sizes}
-use Rattle.accepted_groups.specs.Accepted.{AreGroupsApart, AreGroupsJoined, IsAcceptedTwo, IsGroupedBlind, IsGroupedSeen, IsPairOfList}
+use Rattle.accepted_groups.specs.Accepted.{AreGroupsJoined, IsAcceptedTwo, IsGroupedBlind, IsGroupedSeen, IsPairOfList}
 use Rattle.groups_base.proofs.Ordered.{contains_at}
 use Rattle.sight_job.specs.declared.build.Built.{Built}
 use Rattle.sight_job.specs.Built.{HasTree, SeesConnected}

@@ -1,5 +1,5 @@
 -- Whether a sector is found from another can be told, over a good mesh; and what is found is seen.
-use Rattle.std.proofs.Common.{◌≡◌, ◌≢◌, ℕ, zero, suc, ◌<◌, ◌⊎◌, inl, inr, List, length, slice_get, Contains, Option, Some, None, refl, sym, ap, ◌∙◌, subst, arith, option_and_then}
+use Rattle.std.proofs.Common.{◌≡◌, ℕ, zero, suc, ◌<◌, ◌⊎◌, inl, inr, List, length, slice_get, Contains, Option, Some, None, refl, sym, ap, ◌∙◌, subst, arith, option_and_then}
 use Rattle.std.proofs.lemmas.Option.{none-some, same_Some, slice_get_within}
 use Rattle.list_base.proofs.Numbers.{below_or_at, below_or_not, same_or_not}
 use Rattle.sight_names.specs.declared.names.Budget.{Budget}

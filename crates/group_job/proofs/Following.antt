@@ -1,5 +1,5 @@
 -- The table of sectors and its list, from the marks of the pairs that are clear and of those that are seen by groups.
-use Rattle.std.proofs.Common.{◌≡◌, ℕ, ◌+◌, ◌*◌, ◌<◌, ◌⊎◌, ◌↔◌, inl, inr, List, length, slice_get, Contains, Some, refl, sym, ◌∙◌, subst, arith}
+use Rattle.std.proofs.Common.{◌≡◌, ℕ, ◌+◌, ◌*◌, ◌<◌, ◌⊎◌, ◌↔◌, inl, inr, List, length, Contains, sym, ◌∙◌, subst, arith}
 use Rattle.std.proofs.lemmas.Option.{slice_get_within}
 use Rattle.list_base.proofs.Numbers.{same_or_not}
 use Rattle.sight_names.specs.declared.names.Pair.{Pair}

@@ -1,5 +1,5 @@
 -- What a build over the map of groups tells of pairs of groups.
-use Rattle.std.proofs.Common.{◌≡◌, ◌≢◌, ℕ, ◌<◌, ◌⊎◌, ◌↔◌, inl, inr, List, [], length, slice_get, Contains, Option, Some, None, MatchOption, refl, sym, ap, ◌∙◌, subst, arith}
+use Rattle.std.proofs.Common.{◌≡◌, ◌≢◌, ℕ, ◌<◌, ◌↔◌, inl, inr, List, [], length, slice_get, Contains, Option, Some, None, MatchOption, refl, sym, ap, ◌∙◌, subst}
 use Rattle.std.proofs.lemmas.Option.{MatchOption-at_some, MatchOption-at_none}
 use Rattle.list_base.proofs.Numbers.{below_or_above}
 use Rattle.sight_names.specs.declared.names.Ask.{Ask}
@@ -7,13 +7,13 @@ use Rattle.sight_names.specs.declared.names.Budget.{Budget}
 use Rattle.sight_names.specs.declared.names.Pair.{Pair}
 use Rattle.sight_names.specs.declared.names.Side.{Side}
 use Rattle.sight_names.specs.declared.names.Triangle.{Triangle}
-use Rattle.sight_names.specs.Plan.{PlanParts, IsPlan}
+use Rattle.sight_names.specs.Plan.{PlanParts}
 use Rattle.sight_names.specs.Map.{Map, IsMap, map_of, named}
 use Rattle.sight_names.specs.Sees.{Sees}
-use Rattle.sight_names.specs.Sound.{LinesMeetAtEnds, NamesAgree}
+use Rattle.sight_names.specs.Sound.{NamesAgree}
 use Rattle.sight_names.specs.Mesh.{IsGoodMesh, IsMeshOf}
 use Rattle.sight_names.specs.Found.{Found, IsListedOver}
-use Rattle.sight_names.specs.Groups.{AreGroups, HasClosedFaces, IsGroupedMap, IsInGroup}
+use Rattle.sight_names.specs.Groups.{IsGroupedMap, IsInGroup}
 use Rattle.reject_bits.specs.Parts.{Rejects}
 use Rattle.cert_format.specs.Accepted.{IsNamed}
 use Rattle.pair_budget.proofs.Connected.{connected_back}

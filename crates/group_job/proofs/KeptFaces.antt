@@ -1,13 +1,13 @@
 -- The labelled triangles of the mesh, which a certificate has, keep the rules of a table of groups: what the whole mesh says of faces they
 -- say too, since no way from a labelled triangle across edges that are no lines leaves them.
-use Rattle.std.proofs.Common.{◌≡◌, ℕ, ◌<◌, refl, sym, ap, ◌∙◌, subst, ◌↔◌, List, [], ◌∷◌, length, map, slice_get, Option, Some, None, MatchOption, Contains, option_and_then}
+use Rattle.std.proofs.Common.{◌≡◌, ℕ, ◌<◌, refl, sym, ap, ◌∙◌, subst, ◌↔◌, List, [], ◌∷◌, length, slice_get, Option, Some, None, MatchOption, Contains, option_and_then}
 use Rattle.std.proofs.lemmas.Option.{slice_get_within, slice_get-get_or, same_Some, MatchOption-at_some, MatchOption-at_none}
 use Rattle.sight_names.specs.declared.names.Side.{Side}
 use Rattle.sight_names.specs.declared.names.Triangle.{Triangle}
 use Rattle.sight_names.specs.Plan.{PlanParts, IsPlan}
 use Rattle.sight_names.specs.Map.{Map, MapLine, line_at, map_of, named, Names}
 use Rattle.sight_names.specs.Points.{Edge, reverse_of}
-use Rattle.sight_names.specs.Mesh.{AreLabelsOf, HasEdge, HasMates, IsGoodMesh, IsLineEdge, IsMeshOf, IsPlainMesh, label_of, side_edge, triangle_at}
+use Rattle.sight_names.specs.Mesh.{AreLabelsOf, HasEdge, HasMates, IsGoodMesh, IsMeshOf, IsPlainMesh, label_of, side_edge, triangle_at}
 use Rattle.sight_names.specs.Groups.{AreGroups, HasClosedFaces, IsGroupedMap}
 use Rattle.sight_names.proofs.OneMesh.{one_labels}
 use Rattle.mesh_base.proofs.GoodMesh.{found_at}

@@ -1,12 +1,11 @@
 -- From pairs of groups to pairs of sectors: what the table and the list that follow the groups tell of sight.
-use Rattle.std.proofs.Common.{◌≡◌, ◌≢◌, ℕ, ◌<◌, ◌⊎◌, ◌↔◌, inl, inr, List, [], ◌∷◌, length, slice_get, Contains, Some, refl, sym, ap, ◌∙◌, subst, arith}
+use Rattle.std.proofs.Common.{◌≡◌, ◌≢◌, ℕ, ◌<◌, ◌⊎◌, ◌↔◌, inl, inr, List, [], ◌∷◌, Contains, refl, sym, ap, subst, arith}
 use Rattle.list_base.proofs.Lists.{contains_here, contains_none}
 use Rattle.list_base.proofs.Numbers.{same_below_or_above}
 use Rattle.sight_names.specs.declared.names.Ask.{Ask}
 use Rattle.sight_names.specs.declared.names.Pair.{Pair}
 use Rattle.sight_names.specs.Plan.{PlanParts, IsPlan}
 use Rattle.sight_names.specs.Map.{map_of}
-use Rattle.sight_names.specs.Path.{InSector}
 use Rattle.sight_names.specs.Sees.{Sees}
 use Rattle.sight_names.specs.Found.{Found, IsListedOver}
 use Rattle.sight_names.specs.Groups.{AreGroups, IsInGroup, IsListedByGroups}

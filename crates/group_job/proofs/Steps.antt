@@ -1,5 +1,5 @@
 -- The steps by which tables of sectors are made.
-use Rattle.std.proofs.Common.{◌≡◌, ℕ, ◌<◌, ◌⊎◌, inl, inr, List, length, slice_get, Contains, Some, refl, sym, ap, ◌∙◌, subst, arith}
+use Rattle.std.proofs.Common.{◌≡◌, ℕ, ◌<◌, ◌⊎◌, inl, inr, List, length, slice_get, Contains, Some, refl, sym, ap, ◌∙◌, subst}
 use Rattle.std.proofs.lemmas.Option.{same_Some, slice_get_within}
 use Rattle.sight_names.specs.declared.names.Pair.{Pair}
 use Rattle.sight_names.specs.Groups.{IsInGroup}
@@ -7,7 +7,7 @@ use Rattle.groups_base.proofs.Ordered.{at_contains, contains_at}
 use Rattle.pair_budget.proofs.FoundSectorsLaws.{pair_is}
 use Rattle.reject_bits.specs.Parts.{TableParts, Rejects}
 use Rattle.group_job.specs.Marks.{SetsMore, OfSteps, HasSteps}
-use Rattle.group_job.specs.Sectors.{AreListed, AreClearByGroups, HasClearPairs, HasOtherBits}
+use Rattle.group_job.specs.Sectors.{AreListed, HasClearPairs, HasOtherBits}
 use Rattle.group_job.proofs.Marks.{sets_as}
 use Rattle.group_job.proofs.Following.{in_table}
 

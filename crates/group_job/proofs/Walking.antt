@@ -1,10 +1,10 @@
 -- The map of groups with its mesh and labels is one that can be built.
-use Rattle.std.proofs.Common.{◌≡◌, ℕ, ◌<◌, sym, ap, ◌∙◌, subst, List, length, Option, Some, arith}
+use Rattle.std.proofs.Common.{◌≡◌, ℕ, ◌<◌, sym, ap, ◌∙◌, subst, List, length, Some, arith}
 use Rattle.std.proofs.lemmas.Option.{slice_get_within}
 use Rattle.sight_names.specs.declared.names.Pt.{Pt}
 use Rattle.sight_names.specs.Plan.{PlanParts}
 use Rattle.sight_names.specs.Map.{map_of}
-use Rattle.sight_names.specs.Mesh.{IsMeshOf, label_of}
+use Rattle.sight_names.specs.Mesh.{IsMeshOf}
 use Rattle.sight_names.specs.Sound.{LinesMeetAtEnds}
 use Rattle.groups_base.specs.Found.{AreFoundGroups}
 use Rattle.sight_job.specs.declared.faces.Faces.{Faces}

@@ -1,5 +1,4 @@
-use Rattle.std.proofs.Common.{◌≡◌, ◌<◌, ◌∙◌, ℕ, List, length, get_or, slice_get, Some, Contains, refl, sym, ap, subst, arith}
-use Rattle.group_job.specs.Marks.{SetsMore, OfSteps, HasSteps}
+use Rattle.std.proofs.Common.{◌≡◌, ◌<◌, ℕ, length, sym, subst, arith}
 use Rattle.group_job.proofs.Marks.{steps_next, steps_none}
 use Rattle.group_job.proofs.Steps.{ClearRowStep, clear_set}
 use Rattle.group_job.proofs.sectors.clear_pairs.Goals as goal

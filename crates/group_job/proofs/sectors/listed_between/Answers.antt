@@ -1,4 +1,4 @@
-use Rattle.std.proofs.Common.{◌≡◌, ◌<◌, ◌∙◌, ℕ, List, length, get_or, slice_get, Some, Contains, refl, sym, ap, subst, arith}
+use Rattle.std.proofs.Common.{◌≡◌, ℕ, refl, subst, arith}
 use Rattle.group_job.specs.Rows.{ListedBefore}
 use Rattle.group_job.proofs.Rows.{list_end}
 use Rattle.group_job.proofs.sectors.listed_between.Goals as goal

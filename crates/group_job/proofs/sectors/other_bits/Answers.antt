@@ -1,5 +1,5 @@
-use Rattle.std.proofs.Common.{◌≡◌, ◌<◌, ◌∙◌, ℕ, List, length, get_or, slice_get, Some, Contains, refl, sym, ap, subst, arith}
-use Rattle.group_job.specs.Marks.{SetsMore, OfSteps, HasSteps}
+use Rattle.std.proofs.Common.{◌≡◌, ◌∙◌, ℕ, refl, subst, arith}
+use Rattle.group_job.specs.Marks.{HasSteps}
 use Rattle.group_job.proofs.Marks.{steps_next, steps_none}
 use Rattle.group_job.proofs.Steps.{OtherRowStep, other_set}
 use Rattle.group_job.proofs.sectors.other_bits.Goals as goal

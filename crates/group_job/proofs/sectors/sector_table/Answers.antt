@@ -1,4 +1,4 @@
-use Rattle.std.proofs.Common.{◌≡◌, ◌<◌, ◌∙◌, ℕ, List, length, get_or, slice_get, Some, Contains, refl, sym, ap, subst, arith}
+use Rattle.std.proofs.Common.{ℕ, List, Contains, sym, subst}
 use Rattle.sight_names.specs.declared.names.Pair.{Pair}
 use Rattle.sight_names.specs.Groups.{IsInGroup}
 use Rattle.group_job.specs.Marks.{SetsMore}

@@ -1,5 +1,4 @@
-use Rattle.std.proofs.Common.{◌≡◌, ◌<◌, ◌∙◌, ℕ, List, length, get_or, slice_get, Some, Contains, refl, sym, ap, subst, arith}
-use Rattle.group_job.specs.Marks.{SetsMore, OfSteps, HasSteps}
+use Rattle.std.proofs.Common.{◌≡◌, ◌∙◌, sym, arith}
 use Rattle.list_base.proofs.Bools.{not_both_values}
 use Rattle.group_job.proofs.Marks.{sets_next, sets_one, sets_skip}
 use Rattle.group_job.proofs.Steps.{OtherStep, other_none, other_row_set, other_step}

@@ -1,4 +1,4 @@
-use Rattle.std.proofs.Common.{◌≡◌, ◌≤◌, ℕ, length, arith}
+use Rattle.std.proofs.Common.{arith}
 use Rattle.group_job.proofs.Walking.{faces_of_groups}
 use Rattle.group_job.proofs.walked.walk_groups.Goals as goal
 
