@@ -100,7 +100,7 @@ OLD = b"what was there before"
 ROLES = {"wad": "out.wad", "cert": "new.cert", "report": "report"}
 
 # The words of each verb, and its outputs in order. `u.wad` has no table, `built.wad` and `u.cert` are those of a build of it. The certificate of
-# a row of rooms is longer than a piece that is read; that of U with bytes behind it is longer than one that is held whole.
+# a row of rooms is longer than a piece that is read; that of U with bytes behind it has more than 500 pieces.
 ORDERS = [
     ("build u.wad MAP01 out.wad --cert new.cert --report report --workers 3", ["out.wad", "new.cert", "report"]),
     ("build u.wad MAP01 out.wad --cert new.cert --report report --workers 1", ["out.wad", "new.cert", "report"]),

@@ -1,7 +1,6 @@
-//! The certificate in a file, judged: one of few bytes held whole, a longer one while it is read in pieces.
+//! The certificate in a file, judged while it is read in pieces, so that its bytes never stand in memory whole.
 #![tactic(auto)]
 
 mod file;
-mod received;
 
 pub use file::judge_file;

@@ -1,5 +1,5 @@
 -- What has become of the bytes, from part to part and from piece to piece, and what comes of them at the end.
-use Rattle.std.proofs.Common.{◌≡◌, ℕ, zero, suc, ◌+◌, ◌<◌, ◌^◌, List, [], ◌∷◌, ◌++◌, length, Some, None, Result, Ok, Err, false, Contains, refl, sym, ap, subst, ◌∙◌, append_assoc, arith, inl, inr}
+use Rattle.std.proofs.Common.{◌≡◌, ℕ, zero, suc, ◌+◌, ◌-◌, ◌<◌, ◌≤◌, ◌^◌, List, [], ◌∷◌, ◌++◌, length, Some, None, Result, Ok, Err, false, Contains, refl, sym, ap, subst, ◌∙◌, append_assoc, arith, inl, inr}
 use Rattle.std.specs.List.{AllByRecursion}
 use Rattle.std.proofs.lemmas.List.{append-nil, length-append}
 use Rattle.std.proofs.lemmas.Option.{MatchOption-at_none}
@@ -7,20 +7,25 @@ use Rattle.list_base.proofs.Lists.{contains_none}
 use Rattle.sight_names.proofs.Lists.{contains_cases}
 use Rattle.sight_names.specs.declared.faults.CertFault.{CertFault}
 use Rattle.sight_names.specs.Plan.{PlanParts}
+use Rattle.sight_tree.specs.declared.Node.{Node}
 use Rattle.sight_tree.specs.declared.Tree.{Tree}
 use Rattle.reject_bits.specs.Parts.{TableParts}
 use Rattle.cert_format.specs.declared.cert.Sizes.{Sizes}
 use Rattle.cert_format.specs.Grammar.{FitsTree}
 use Rattle.cert_format.specs.Parts.{CertParts}
-use Rattle.cert_format.specs.Reading.{◌>>=◌, reading}
+use Rattle.cert_format.specs.Reading.{◌>>=◌, reading, node_at}
 use Rattle.cert_format.specs.Sizes.{sizes_of}
 use Rattle.cert_format.proofs.FieldLaws.{bind_ok, ok_is}
 use Rattle.cert_format.proofs.WholeLaws.{reading_takes}
 use Rattle.cert_parts.specs.declared.part.Part.{Part}
+use Rattle.cert_parts.specs.declared.part.Part.TheVariants.{Node as OfNode}
 use Rattle.cert_parts.specs.Parts.{parts_of, reading_parts}
-use Rattle.cert_parts.specs.Left.{IsCountable, parts_left, put_before}
+use Rattle.cert_parts.specs.Left.{ReaderState, IsCountable, parts_left, put_before}
+use Rattle.cert_parts.specs.Nodes.{AwaitsNodes, behind_nodes}
+use Rattle.cert_parts.proofs.State.{behind_none, node_behind}
 use Rattle.cert_judge.specs.declared.intake.Intake.{Intake}
 use Rattle.cert_judge.specs.declared.judge.Judge.{Judge}
+use Rattle.cert_judge.specs.declared.judging.Judging.{Judging}
 use Rattle.cert_judge.specs.Whole.{IsCertOf}
 use Rattle.cert_judge.specs.Judging.{HasHeard, HasHeardAll}
 use Rattle.cert_judge.specs.Judge.{MayBeFed}
@@ -51,6 +56,29 @@ module _ (p : PlanParts) (t : TableParts) (bytes rest : List ℕ) (k : Intake) (
   -- or a fault was met
   pub fault_taken : (f : CertFault) → ((more : List ℕ) → parts_left k.reader (rest ++ more) ≡ Err f) → AreRefused p bytes f
   fault_taken f told more = w.left more ∙ ap (put_all w.parts) (told more)
+
+-- ---- nodes, one by one, while the reader stays where the first of them began
+
+-- the intake with the reader behind the nodes that were taken
+abbrev pub at_rest : List ℕ → List ℕ → ℕ → Intake → Intake
+at_rest ahead rest left k = record k { reader = behind_nodes k.reader left (length ahead - length rest) }
+
+module _ (p : PlanParts) (t : TableParts) (bytes ahead : List ℕ) (k : Intake) (count : ℕ) (awaits : AwaitsNodes k.reader count) where
+  -- none was taken yet
+  pub nodes_begin : IsGoingOn p t bytes ahead k → IsGoingOn p t bytes ahead (at_rest ahead ahead count k)
+  nodes_begin w =
+      let none : length ahead - length ahead ≡ 0 = omega arith in
+      let same : k.reader ≡ behind_nodes k.reader count (length ahead - length ahead) = sym (ap (behind_nodes k.reader count) none ∙ behind_none k.reader count awaits) in
+      subst (λ (r : ReaderState). IsGoingOn p t bytes ahead (record k { reader = r })) same w
+
+  -- the next one was read and heard
+  pub node_taken : (rest behind : List ℕ) (left : ℕ) (n : Node) (j : Judging) (w : IsGoingOn p t bytes rest (at_rest ahead rest left k)) → 0 < left → ((total : ℕ) → node_at total rest ≡ Ok (n, behind)) → length behind < length rest → length rest ≤ length ahead
+      → HasHeard p t (w.parts ++ OfNode n ∷ []) j → IsGoingOn p t bytes behind (at_rest ahead behind (left - 1) (record k { judging = j }))
+  node_taken rest behind left n j w some read less within heard =
+      let moved : length ahead - length behind + length behind ≡ length ahead - length rest + length rest = omega (arith, less, within) in
+      let new = at_rest ahead behind (left - 1) (record k { judging = j }) in
+      part_taken p t bytes rest (at_rest ahead rest left k) w (OfNode n) behind new (λ more. node_behind k.reader count left (length ahead - length rest) (length ahead - length behind) rest behind more n awaits some read moved)
+      (omega (arith, moved)) heard
 
 -- ---- a piece comes
 

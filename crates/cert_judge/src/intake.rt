@@ -16,7 +16,7 @@ use crate::judged::Judged;
 use crate::judging::Judging;
 use cert_checker::Verdict;
 use cert_format::Sizes;
-use cert_parts::{Part, Reader};
+use cert_parts::{Part, Reader, usual_node};
 use reject_bits::Table;
 use sight_names::{CertFault, Memory, Plan};
 use std::alloc::Global;
@@ -80,11 +80,20 @@ impl<'a> Intake<'a> {
         ensures countable { IfOk result (λ rest. IsCountable self.new.reader rest.now) }
         ensures within { IfOk result (λ rest. length rest.now ≤ length ahead.now) }
     {
+        let mut left = self.reader.nodes_awaited();
+        if left == 0 {
+            return Ok(ahead);
+        }
         let mut rest = ahead;
-        'rest: while let Some((node, behind)) = self.reader.node(rest) {
+        'rest: while left > 0 {
+            let Some((node, behind)) = usual_node(rest) else {
+                break;
+            };
             self.judging.hear(Part::Node(node))?;
             rest = behind;
+            left -= 1;
         }
+        self.reader.nodes_taken(left, ahead.len() - rest.len());
         Ok(rest)
     }
 

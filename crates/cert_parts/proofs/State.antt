@@ -1,13 +1,15 @@
 -- What a reader's parts to come are before and behind a step.
 use Rattle.std.proofs.Common.{◌≡◌, ℕ, ◌+◌, ◌-◌, ◌<◌, ◌≤◌, ◌⊎◌, inr, true, false, List, [], ◌++◌, length, take, drop, Some, Result, Ok, Err, refl, sym, ap, subst, ◌∙◌, append_assoc, arith}
-use Rattle.std.proofs.lemmas.Bool.{and_parts, eqb-true, ltb-true}
+use Rattle.std.proofs.lemmas.Bool.{and_parts, and_from, eqb-true, ltb-true, lt-ltb}
 use Rattle.std.proofs.lemmas.List.{append-nil, take-append-drop, length-append, length-take, nil_from_length}
 use Rattle.sight_names.specs.declared.faults.CertFault.{CertFault}
 use Rattle.sight_tree.specs.declared.Node.{Node}
 use Rattle.cert_format.specs.Reading.{◌>>=◌, node_at}
+use Rattle.cert_parts.specs.declared.awaited.Awaited.{Awaited}
 use Rattle.cert_parts.specs.declared.part.Part.TheVariants as parts
 use Rattle.cert_parts.specs.Left.{ReaderState, left_at, parts_left, put_before}
 use Rattle.cert_parts.specs.Steps.{is_done, is_in_tree, first_at, first_width, node_step, width_at}
+use Rattle.cert_parts.specs.Nodes.{AwaitsNodes, behind_nodes}
 use Rattle.cert_parts.proofs.Whole.{longer}
 use Rattle.cert_parts.proofs.First.{First, first_grows, first_takes, some_width, width_stays, still_cut}
 use Rattle.cert_parts.proofs.Nodes.{node_grows, node_takes}
@@ -107,3 +109,21 @@ done_told s h none =
 -- a record that is cut is not read
 pub not_read : (s : ReaderState) (kept : List ℕ) (x : First) → length s.kept < width_at s.awaited s.kept → kept ≡ s.kept → first_at s.awaited s.given kept ≡ Ok x → ⊥
 not_read s kept x lacks same e = omega (arith, first_takes s.awaited s.given s.kept x (subst (λ (t : List ℕ). first_at s.awaited s.given t ≡ Ok x) same e), lacks)
+
+-- ---- nodes that are taken while the reader stays
+
+-- none was taken yet
+pub behind_none : (s : ReaderState) (count : ℕ) → AwaitsNodes s count → behind_nodes s count 0 ≡ s
+behind_none s count awaits =
+    let n : s.given + 0 ≡ s.given = omega arith in
+    let same : behind_nodes s s.awaited.nodes 0 ≡ s = rw n refl in
+    ap (λ (k : ℕ). behind_nodes s k 0) (sym awaits.counted) ∙ same
+
+still_in_tree : (a : Awaited) (left : ℕ) → is_in_tree a ≡ true → 0 < left → is_in_tree (record a { nodes = left }) ≡ true
+still_in_tree a left on lt = and_from _ _ (and_parts _ _ on).0 (lt-ltb 0 left lt)
+
+-- the next of them comes first of the parts that were still to come
+pub node_behind : (s : ReaderState) (count left bytes later : ℕ) (piece rest more : List ℕ) (n : Node) → AwaitsNodes s count → 0 < left → ((total : ℕ) → node_at total piece ≡ Ok (n, rest)) → later + length rest ≡ bytes + length piece
+    → parts_left (behind_nodes s left bytes) (piece ++ more) ≡ put_before (Some (parts.Node n)) (parts_left (behind_nodes s (left - 1) later) (rest ++ more))
+node_behind s count left bytes later piece rest more n awaits lt read moved =
+    node_told (behind_nodes s left bytes) (behind_nodes s (left - 1) later) piece rest more n awaits.uncut (still_in_tree s.awaited left awaits.in_tree lt) read refl (omega (arith, moved)) awaits.uncut

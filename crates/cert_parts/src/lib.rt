@@ -9,3 +9,4 @@ mod records;
 
 pub use part::Part;
 pub use reader::Reader;
+pub use records::usual_node;

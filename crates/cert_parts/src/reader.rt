@@ -1,17 +1,15 @@
 //! The reader: it is given the bytes of a certificate in pieces, and gives its parts.
 
-ghost use Rattle.std.specs.Prelude.{◌≡◌, ◌+◌, ◌<◌, ◌≤◌, ℕ, List, [], ◌++◌, length, Some, None, Ok, Err, true, false, IsSome, IfSome, IfNone, IfOk, IfErr, OnOk, OnErr};
-ghost use Rattle.cert_parts.specs.declared.part.Part.TheVariants.{Node as OfNode};
+ghost use Rattle.std.specs.Prelude.{◌≡◌, ◌+◌, ◌^◌, ◌<◌, ◌≤◌, ℕ, List, [], ◌++◌, length, None, Ok, Err, true, false, IsSome, IfOk, IfErr, OnOk, OnErr};
 ghost use Rattle.cert_parts.specs.Parts.{reading_parts};
 ghost use Rattle.cert_parts.specs.Left.{IsCountable, parts_left, put_before};
+ghost use Rattle.cert_parts.specs.Nodes.{AwaitsNodes, behind_nodes};
 
 use crate::awaited::Awaited;
 use crate::kept::Kept;
 use crate::part::Part;
-use crate::records::usual_node;
 use cert_format::Sizes;
 use sight_names::CertFault;
-use sight_tree::Node;
 use std::marker::Model;
 
 /// Reads a certificate from its bytes in pieces, however they are cut, and keeps at most 27 of them; a contract sees
@@ -112,24 +110,25 @@ impl Reader {
         Ok((part, rest))
     }
 
-    /// The next part and what of the piece is behind it, where that part is a node that is open or names four ends and the
-    /// piece has all of it. None says nothing, and the reader stays.
-    // in line with what it calls: a certificate has millions of nodes
+    /// How many nodes come next, none of whose bytes is kept; 0 says nothing.
     #[inline(always)]
-    pub fn node<'a>(&mut self, piece: &'a [u8]) -> Option<(Node, &'a [u8])>
-        // The node comes first of the parts that were still to come, whatever bytes come behind the piece.
-        ensures part { IsCountable self.old piece.now → IfSome result (λ x. (more : List ℕ) → parts_left self.old (piece.now ++ more) ≡ put_before (Some (OfNode x.0)) (parts_left self.new (x.1.now ++ more))) }
-        ensures given { IsCountable self.old piece.now → IfSome result (λ x. self.new.given + length x.1.now ≡ self.old.given + length piece.now) }
-        ensures less { IfSome result (λ x. length x.1.now < length piece.now) }
-        ensures none { IfNone result (self.new ≡ self.old) }
+    pub fn nodes_awaited(&self) -> u64
+        ensures { 0 < result → AwaitsNodes self.now result }
     {
         if self.kept.len() != 0 || !self.awaited.is_in_tree() {
-            return None;
+            return 0;
         }
-        let (node, rest) = usual_node(piece)?;
-        self.awaited.nodes -= 1;
-        self.given = self.given.saturating_add(piece.len() - rest.len());
-        Some((node, rest))
+        self.awaited.nodes
+    }
+
+    /// Goes behind nodes that were taken by `usual_node`, of so many bytes; so many are left.
+    #[inline(always)]
+    pub fn nodes_taken(&mut self, left: u64, bytes: usize)
+        requires { self.old.kept ≡ [] }
+        ensures { self.old.given + bytes < 2 ^ 64 → self.new ≡ behind_nodes self.old left bytes }
+    {
+        self.awaited.nodes = left;
+        self.given = self.given.saturating_add(bytes);
     }
 
     /// The next part and what of the piece is behind it; None where the piece is used up. Bytes of a part that is cut are

@@ -32,23 +32,11 @@ const ROWS: &str = "\
 4400 | @160:1: | Unread(Short { at: 159 })
 ";
 
-// The part that comes first and what of the piece is behind it: a node where the reader gives one at once, or else what
-// comes next.
-fn first_part<'a>(
-    reader: &mut Reader,
-    piece: &'a [u8],
-) -> Result<(Option<Part>, &'a [u8]), CertFault> {
-    match reader.node(piece) {
-        Some((node, behind)) => Ok((Some(Part::Node(node)), behind)),
-        None => reader.next(piece),
-    }
-}
-
 // Adds the parts that a piece gives, up to its end or to a fault.
 fn add_parts(reader: &mut Reader, piece: &[u8], parts: &mut Vec<Part>) -> Result<(), CertFault> {
     let mut rest = piece;
     for _ in 0..=piece.len() {
-        let (part, behind) = first_part(reader, rest)?;
+        let (part, behind) = reader.next(rest)?;
         let Some(part) = part else {
             return Ok(());
         };

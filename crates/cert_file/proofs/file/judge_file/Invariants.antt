@@ -3,12 +3,12 @@ use Rattle.shelf_io.specs.Shelf.{NoneFell, SameCounts}
 use Rattle.cert_file.proofs.OnWay.{IsUnderWay}
 use Rattle.cert_file.proofs.file.judge_file.Given as goal
 
--- what was read was received, and no count rose
+-- the judge was fed what was read, and no count rose
 abbrev pub invariant-loop-taken : goal.invariant-loop-taken
 invariant-loop-taken g l =
     let state = g.S.Shelf.state in
     record {
-      way : IsUnderWay l.plan l.table (state l.fn.shelf).files l.name l.at l.received;
+      way : IsUnderWay l.plan l.table (state l.fn.shelf).files l.name l.at l.judge;
       within : l.at ≤ 9223372036854775807;
       room : length l.piece ≡ 65536;
       files : (state l.shelf).files ≡ (state l.fn.shelf).files;
