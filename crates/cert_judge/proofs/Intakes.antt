@@ -20,9 +20,9 @@ use Rattle.cert_format.proofs.WholeLaws.{reading_takes}
 use Rattle.cert_parts.specs.declared.part.Part.{Part}
 use Rattle.cert_parts.specs.declared.part.Part.TheVariants.{Node as OfNode}
 use Rattle.cert_parts.specs.Parts.{parts_of, reading_parts}
-use Rattle.cert_parts.specs.Left.{ReaderState, IsCountable, parts_left, put_before}
+use Rattle.cert_parts.specs.Left.{IsCountable, parts_left, put_before}
 use Rattle.cert_parts.specs.Nodes.{AwaitsNodes, behind_nodes}
-use Rattle.cert_parts.proofs.State.{behind_none, node_behind}
+use Rattle.cert_parts.proofs.State.{node_behind}
 use Rattle.cert_judge.specs.declared.intake.Intake.{Intake}
 use Rattle.cert_judge.specs.declared.judge.Judge.{Judge}
 use Rattle.cert_judge.specs.declared.judging.Judging.{Judging}
@@ -64,13 +64,6 @@ abbrev pub at_rest : List ℕ → List ℕ → ℕ → Intake → Intake
 at_rest ahead rest left k = record k { reader = behind_nodes k.reader left (length ahead - length rest) }
 
 module _ (p : PlanParts) (t : TableParts) (bytes ahead : List ℕ) (k : Intake) (count : ℕ) (awaits : AwaitsNodes k.reader count) where
-  -- none was taken yet
-  pub nodes_begin : IsGoingOn p t bytes ahead k → IsGoingOn p t bytes ahead (at_rest ahead ahead count k)
-  nodes_begin w =
-      let none : length ahead - length ahead ≡ 0 = omega arith in
-      let same : k.reader ≡ behind_nodes k.reader count (length ahead - length ahead) = sym (ap (behind_nodes k.reader count) none ∙ behind_none k.reader count awaits) in
-      subst (λ (r : ReaderState). IsGoingOn p t bytes ahead (record k { reader = r })) same w
-
   -- the next one was read and heard
   pub node_taken : (rest behind : List ℕ) (left : ℕ) (n : Node) (j : Judging) (w : IsGoingOn p t bytes rest (at_rest ahead rest left k)) → 0 < left → ((total : ℕ) → node_at total rest ≡ Ok (n, behind)) → length behind < length rest → length rest ≤ length ahead
       → HasHeard p t (w.parts ++ OfNode n ∷ []) j → IsGoingOn p t bytes behind (at_rest ahead behind (left - 1) (record k { judging = j }))

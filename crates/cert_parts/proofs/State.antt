@@ -112,13 +112,6 @@ not_read s kept x lacks same e = omega (arith, first_takes s.awaited s.given s.k
 
 -- ---- nodes that are taken while the reader stays
 
--- none was taken yet
-pub behind_none : (s : ReaderState) (count : ℕ) → AwaitsNodes s count → behind_nodes s count 0 ≡ s
-behind_none s count awaits =
-    let n : s.given + 0 ≡ s.given = omega arith in
-    let same : behind_nodes s s.awaited.nodes 0 ≡ s = rw n refl in
-    ap (λ (k : ℕ). behind_nodes s k 0) (sym awaits.counted) ∙ same
-
 still_in_tree : (a : Awaited) (left : ℕ) → is_in_tree a ≡ true → 0 < left → is_in_tree (record a { nodes = left }) ≡ true
 still_in_tree a left on lt = and_from _ _ (and_parts _ _ on).0 (lt-ltb 0 left lt)
 
