@@ -6,3 +6,4 @@ pub mod Pieces
 pub mod Merging
 pub mod Splicing
 pub mod Lasting
+pub mod Texts

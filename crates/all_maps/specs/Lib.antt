@@ -2,3 +2,4 @@ pub mod Maps
 pub mod Places
 pub mod All
 pub mod Spliced
+pub mod Names

@@ -4,10 +4,12 @@
 mod changes;
 mod laws;
 mod markers;
+mod names;
 mod parts;
 mod places;
 
 pub use changes::with_rejects;
 pub use laws::{each_change_is_made, each_table_is_there};
 pub use markers::maps;
+pub use names::text_of;
 pub use parts::Change;

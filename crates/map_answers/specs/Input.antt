@@ -54,6 +54,12 @@ of_four_lumps format linedefs sidedefs vertexes sectors = of_lumps (lump_fault f
 abbrev pub map_at : WadFile → MapSpot → Result Map Status
 map_at file spot = of_four_lumps (format_of spot.hexen) (lump_at file spot.linedefs) (lump_at file spot.sidedefs) (lump_at file spot.vertexes) (lump_at file spot.sectors)
 
+-- the map of this name in a WAD, or the first check that fails
+unfoldable pub map_named : WadFile → List ℕ → Result Map Status
+map_named file name = do
+  spot ← of_spot (spot_of (names_of file) name)
+  map_at file spot
+
 -- the map of this name in the bytes of a file, or the first check that fails
 unfoldable pub found_in : List ℕ → List ℕ → Result LocatedMap Status
 found_in name bytes = do

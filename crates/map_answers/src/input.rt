@@ -8,7 +8,7 @@ ghost use Rattle.map_lumps.specs.Answers.{AnswersFirstFault};
 ghost use Rattle.wad_dir.specs.Map.{entry_names, format_of, spot_of};
 ghost use Rattle.wad_dir.specs.Wad.{file_of, names_of, wad_of};
 ghost use Rattle.sight_status.specs.Answer.{Makes};
-ghost use Rattle.map_answers.specs.Input.{of_wad, of_spot, of_four_lumps, lump_at, map_at, found_in};
+ghost use Rattle.map_answers.specs.Input.{of_wad, of_spot, of_four_lumps, lump_at, map_at, map_named, found_in};
 ghost use Rattle.sight_status.specs.Status.{IsOfBytes};
 ghost use Rattle.map_answers.specs.Noise.{HasLinedefs};
 ghost use Rattle.map_answers.specs.Views.{found, IsWhole};
@@ -29,7 +29,8 @@ pub struct Input {
     pub plan: Plan,
 }
 
-fn directory(alloc: Global, bytes: &[u8]) -> Result<Wad, Status>
+/// The directory of the bytes of a file, or why they are no WAD.
+pub fn directory(alloc: Global, bytes: &[u8]) -> Result<Wad, Status>
     ensures inside { IfOk result (λ wad. All (λ entry. entry.at + entry.size ≤ length bytes.now) wad.entries) }
     ensures names { IfOk result (λ wad. names_of (file_of bytes.now wad) ≡ entry_names wad.entries) }
     ensures refusals { IfErr result IsOfBytes }
@@ -124,6 +125,18 @@ fn plan_at(alloc: Global, bytes: &[u8], wad: &Wad, spot: &MapSpot) -> Result<Pla
         lump_of(bytes, wad, spot.vertexes),
         lump_of(bytes, wad, spot.sectors),
     )
+}
+
+/// The map of this name in the WAD of these bytes, or the first check that fails.
+#[tactic(auto, unfolding(crate::specs::Input::map_named))]
+pub fn plan_named(alloc: Global, bytes: &[u8], wad: &Wad, name: &str) -> Result<Plan, Status>
+    requires inside { All (λ entry. entry.at + entry.size ≤ length bytes.now) wad.now.entries }
+    requires names { names_of (file_of bytes.now wad.now) ≡ entry_names wad.now.entries }
+    ensures map { Makes map_of result (map_named (file_of bytes.now wad.now) name.now) }
+    ensures refusals { IfErr result IsOfBytes }
+{
+    let spot = spot(wad, name)?;
+    plan_at(alloc, bytes, wad, &spot)
 }
 
 /// The map of this name in the bytes of a file, or the first check that fails.

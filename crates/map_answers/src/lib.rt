@@ -12,7 +12,7 @@ mod trace;
 
 pub use audit::judge_audit;
 pub use counts::{Counts, counts_of, push_counts};
-pub use input::{Input, find_in, lump_of};
+pub use input::{Input, directory, find_in, lump_of, plan_named};
 pub use need::judge_need;
 pub use noise::judge_sound;
 pub use ray::judge_ray;

@@ -26,6 +26,7 @@ a=U | build a MAP01 b --cert c --workers 1 | 0 | a a | b c | b c
 a=U, b=PAIR, c=PAIR | build a MAP01 b --cert c --workers 1 | 0 | a a | b c | b c
 a=U, b=PAIR, c=PAIR | build a MAP01 b --workers 1 | 0 | a a | b | b
 a=grid:7 | build a MAP01 b --cert c --workers 1 | 0 | a a | b c | b c c
+a=PAIR U .6 - +6:MAP02, b=PAIR | all a b --workers 1 | 0 | a a | b | b
 a=SQUARE | grid 2 --workers 1 | 0
 # runs that are refused, and answers that are no
 b=PAIR | zero a MAP01 b | 3

@@ -6,7 +6,7 @@ use listeners::{Finding, FirstSet, Keep, Lines, Listener, Totals, words_of};
 use run_cases::{stage_of, words_in};
 use shelf_io::MemSink;
 use sight_names::Memory;
-use sight_run::{Status, run};
+use sight_run::{NoNotice, Status, run};
 use sight_workers::OpenGate;
 use std::test::Fail;
 
@@ -54,6 +54,7 @@ fn a_listener_that_has_heard_enough_goes_and_its_text_begins_the_report(
         &mut out,
         &mut listeners,
         &OpenGate,
+        &NoNotice,
     );
     assert!(rt; status == Status::Done && listeners.len() == 1);
     let report = stage.shelf.bytes("r").unwrap_or(b"");
@@ -86,6 +87,7 @@ fn no_file_is_made_where_a_listener_finds_no_memory(rt: HostRuntime) -> Result<(
         &mut out,
         &mut listeners,
         &OpenGate,
+        &NoNotice,
     );
     assert!(rt; status == Status::Memory && listeners.len() == 2);
     assert!(rt; stage.shelf.bytes("b").is_none() && stage.shelf.bytes("c").is_none());

@@ -312,6 +312,46 @@ a=U, reads=0 | sound a MAP01 0 1 | 4 | refused: read fault wad
 a=SQUARE @14:1:09 | sound a MAP01 0 0 | 8 | refused: bad lump: vertex of line 0
 ";
 
+/// The order `all`: what it writes and reports, what it refuses, and what stands where something fails.
+const ALL: &str = "\
+# two maps that are built, and one that is refused and keeps its REJECT
+a=PAIR U .6 - +6:MAP02 OPEN =de .12 - +12:MAP03 | all a b --report r | 0 | all maps 3 built 2 refused 1 | b=PAIR =00 U =4400 .6 - +6:MAP02 OPEN =de .12 - +12:MAP03, r=#4d4150303120736574203020636c6561722033206c697374656420300a4d4150303220736574203120636c6561722035206c697374656420300a4d41503033207265667573656420626164206d61703a206f70656e2030520a
+a=PAIR U .6 - +6:MAP02 OPEN =de .12 - +12:MAP03 | all a b --workers 3 | 0 | all maps 3 built 2 refused 1 | b=PAIR =00 U =4400 .6 - +6:MAP02 OPEN =de .12 - +12:MAP03, r=
+# no map
+a=#50574144000000000c000000 | all a b --report r | 0 | all maps 0 built 0 refused 0 | b=#50574144000000000c000000, r=#
+# a budget of one sequence, and one that is enough
+a=U | all a b --report r --budget 1 | 0 | all maps 1 built 1 refused 0 | b=U =0000, r=#4d4150303120736574203020636c6561722035206c697374656420310a
+a=LINE3 | all a b --budget enough | 0 | all maps 1 built 1 refused 0 | b=LINE3 =0000
+# of two maps of one name the last; a map in Hexen's format; a map without REJECT, under a name in lower case
+a=SQUARE U | all a b | 0 | all maps 1 built 1 refused 0 | b=SQUARE U =4400
+a=PAIR .1 hexen +6:BEHAVIOR *3 U - .7 - +7:map02 | all a b --report r | 0 | all maps 2 built 2 refused 0 | b=PAIR =00 .1 hexen +6:BEHAVIOR *3 U =4400 .7 - +7:map02, r=#4d4150303120736574203020636c6561722033206c697374656420300a4d4150303220736574203120636c6561722035206c697374656420300a
+# maps that can't be read
+a=SQUARE @14:1:09 | all a b --report r | 0 | all maps 1 built 0 refused 1 | b=SQUARE @14:1:09, r=#4d41503031207265667573656420626164206c756d703a20766572746578206f66206c696e6520300a
+a=SQUARE .1 *229390 | all a b --report r | 0 | all maps 1 built 0 refused 1 | b=SQUARE .1 *229390, r=#4d415030312072656675736564206c696d69743a206c696e65730a
+a=OPEN | all a b --report r | 0 | all maps 1 built 0 refused 1 | b=OPEN, r=#4d41503031207265667573656420626164206d61703a206f70656e2030520a
+# refusals of the whole run
+a=#50574158000000000c000000 | all a b --report r | 6 | refused: not a wad: bad magic | b=, r=
+a=#50574144010001000c000000 | all a b | 9 | refused: limit: lumps | b=
+a=SQUARE - +5:BULK &65530 @4:4:00000100 | all a b --report r | 9 | refused: limit: lumps | b=, r=
+a=SQUARE +6:BULK *40000 &64999 @4:4:eefd0000 | all a b --report r | 9 | refused: limit: output bytes | b=, r=
+b=PAIR | all a b | 3 | refused: no file wad | b=PAIR
+a=PAIR, reads=1 | all a b --report r | 4 | refused: read fault wad | b=, r=
+a=U, creates=0 | all a b --report r | 5 | refused: write fault wad | b=, r=
+a=U, creates=1 | all a b --report r | 5 | refused: write fault report | b=U =4400, r=
+a=U, appends=1 | all a b --report r | 5 | refused: write fault report | b=U =4400, r=#4d4150303120736574203120636c
+a=U, puts=0 | all a b --report r | 5 | all maps 1 bui~ | b=U =4400, r=#4d4150303120736574203120636c6561722035206c697374656420300a
+# words and names
+a=U | all a | 2 | refused: usage
+a=U | all a MAP01 b | 2 | refused: usage | b=
+a=U | all a b --cert c | 2 | refused: usage | b=, c=
+a=U | all a b --workers 0 | 2 | refused: usage | b=
+a=U | all a b --workers 65 | 2 | refused: usage | b=
+a=U | all a b --hexen | 2 | refused: usage | b=
+a=U | all a a | 11 | refused: same name | a=U
+a=U | all a b --report a | 11 | refused: same name | a=U, b=
+a=U | all a b --report b | 11 | refused: same name | a=U, b=
+";
+
 /// The order `need`, and a build with a budget that is enough.
 const NEED: &str = "\
 a=LINE3 | need a MAP01 | 0 | need MAP01 most 4 enough 768 | a=LINE3
@@ -327,7 +367,7 @@ a=LINE3 | build a MAP01 b --cert c --budget enough | 0 | built MAP01 sectors 3 s
 
 #[test]
 fn each_row_comes_out_as_it_says(rt: HostRuntime) -> Result<(), Fail> {
-    for rows in [ZERO, JUDGED, CHECK, BUILD, NEED, SOUND] {
+    for rows in [ZERO, JUDGED, CHECK, BUILD, ALL, NEED, SOUND] {
         assert_eq!(rt; first_wrong(&rt, rt.alloc(), rows)?.as_str(), "");
     }
     Ok(())

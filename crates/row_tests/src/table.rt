@@ -7,7 +7,7 @@ use shelf_io::MemSink;
 use sight_names::{
     BuildFault, CheckFault, FetchFault, LabelFault, LumpFault, OrderFault, RewriteFault, WadFault,
 };
-use sight_run::{Bound, Flaw, Status, Why, code, run};
+use sight_run::{Bound, Flaw, NoNotice, Status, Why, code, run};
 use sight_workers::OpenGate;
 use std::alloc::{AllocError, Global};
 use std::thread::Threads;
@@ -150,6 +150,7 @@ fn wrong_part<R: Threads + Sync>(
         &mut out,
         &mut listeners,
         &OpenGate,
+        &NoNotice,
     );
     stage.text = out.held().to_vec(alloc)?;
     if part(row, 2).parse::<u8>() != Ok(code(&status)) {

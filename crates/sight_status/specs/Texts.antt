@@ -146,6 +146,13 @@ no_words (why.Cert fault) = codes "no cert: " ++ cert_words fault
 no_words (why.Check fault) = check_words fault
 no_words (why.NoSector a) = codes "no sector " ++ decimal a ++ codes "\n"
 
+-- what the line of a map's refusal says behind `refused: `: why it gets no table, whatever WAD it stands in
+abbrev pub reason_words : Status → List ℕ
+reason_words (status.BadLump fault) = codes "bad lump: " ++ lumps_words fault
+reason_words (status.Limit bound) = codes "limit: " ++ bound_words bound
+reason_words (status.BadMap flaw) = codes "bad map: " ++ flaw_words flaw
+reason_words other = codes "\n"
+
 -- the line of a refusal; want of memory has none, and what was done has its own
 abbrev pub text_of : Status → List ℕ
 text_of status.Done = []

@@ -3,7 +3,7 @@
 ghost use Rattle.std.specs.Prelude.{◌≡◌, ◌++◌, List, ℕ, string_bytes, codes, OnOk, IfOk};
 ghost use Rattle.std.specs.Fmt.{decimal};
 ghost use Rattle.sight_names.specs.Texts.{side_text};
-ghost use Rattle.sight_status.specs.Texts.{bound_words, cert_words, check_words, clash_words, flaw_words, lump_words, lumps_words, map_words, mesh_words, no_words, ray_words, role_words, table_words, text_of, trace_words, two, wad_words, why_words};
+ghost use Rattle.sight_status.specs.Texts.{bound_words, cert_words, check_words, clash_words, flaw_words, lump_words, lumps_words, map_words, mesh_words, no_words, ray_words, reason_words, role_words, table_words, text_of, trace_words, two, wad_words, why_words};
 ghost use Rattle.sight_status.specs.Say.{Refused, Said, SaidIfMade};
 
 use crate::status::{Bound, Flaw, Role, Status, Why};
@@ -381,6 +381,34 @@ fn push_no(alloc: Global, line: &mut String, why: Why) -> Result<(), AllocError>
     }
 }
 
+/// Adds what the line of a map's refusal says behind `refused: `.
+pub fn push_reason(alloc: Global, line: &mut String, status: Status) -> Result<(), AllocError>
+    ensures { OnOk result (string_bytes line.new ≡ string_bytes line.old ++ reason_words status) }
+{
+    match status {
+        Status::BadLump(fault) => {
+            push_text(line, "bad lump: ")?;
+            push_lumps(alloc, line, fault)
+        }
+        Status::Limit(bound) => {
+            push_text(line, "limit: ")?;
+            push_text(line, bound_name(bound))
+        }
+        Status::BadMap(flaw) => {
+            push_text(line, "bad map: ")?;
+            push_flaw(alloc, line, flaw)
+        }
+        _ => push_text(line, "\n"),
+    }
+}
+
+fn push_refused(alloc: Global, line: &mut String, status: Status) -> Result<(), AllocError>
+    ensures { OnOk result (string_bytes line.new ≡ string_bytes line.old ++ (codes "refused: " ++ reason_words status)) }
+{
+    push_text(line, "refused: ")?;
+    push_reason(alloc, line, status)
+}
+
 fn push_status(alloc: Global, line: &mut String, status: Status) -> Result<(), AllocError>
     ensures { OnOk result (string_bytes line.new ≡ string_bytes line.old ++ text_of status) }
 {
@@ -409,18 +437,9 @@ fn push_status(alloc: Global, line: &mut String, status: Status) -> Result<(), A
             push_text(line, "refused: no map: ")?;
             push_map(alloc, line, fault)
         }
-        Status::BadLump(fault) => {
-            push_text(line, "refused: bad lump: ")?;
-            push_lumps(alloc, line, fault)
-        }
-        Status::Limit(bound) => {
-            push_text(line, "refused: limit: ")?;
-            push_text(line, bound_name(bound))
-        }
-        Status::BadMap(flaw) => {
-            push_text(line, "refused: bad map: ")?;
-            push_flaw(alloc, line, flaw)
-        }
+        Status::BadLump(_) => push_refused(alloc, line, status),
+        Status::Limit(_) => push_refused(alloc, line, status),
+        Status::BadMap(_) => push_refused(alloc, line, status),
     }
 }
 

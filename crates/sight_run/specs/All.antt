@@ -1,0 +1,67 @@
+-- What the order `all` makes of a WAD.
+use Rattle.std.specs.Prelude.{◌≡◌, ℕ, List, [], ◌∷◌, ◌++◌, Option, Result, Ok, Err, codes, length, ⊤}
+use Rattle.std.specs.Fmt.{decimal}
+use Rattle.sight_names.specs.declared.faults.RewriteFault.TheVariants as rewrite
+use Rattle.sight_names.specs.declared.names.Ask.{Ask}
+use Rattle.shelf_io.specs.Shelf.{Files, content_of}
+use Rattle.wad_dir.specs.Wad.{WadFile, wad_of}
+use Rattle.sight_status.specs.declared.status.Bound.TheVariants as bound
+use Rattle.sight_status.specs.declared.status.Role.{Role}
+use Rattle.sight_status.specs.declared.status.Role.TheVariants as role
+use Rattle.sight_status.specs.declared.status.Status.{Status}
+use Rattle.sight_status.specs.declared.status.Status.TheVariants as status
+use Rattle.sight_status.specs.Answer.{Answer, Written, ◌>>=◌}
+use Rattle.map_answers.specs.Input.{of_wad}
+use Rattle.whole_wad.specs.declared.outcomes.MapOutcome.{MapOutcome}
+use Rattle.whole_wad.specs.Outcomes.{AreOutcomes, changes_of, refusals_of}
+use Rattle.whole_wad.specs.Report.{report_of}
+use Rattle.whole_wad.specs.Whole.{IsAboveLimit, written_of}
+use Rattle.sight_run.specs.Build.{report_behind, report_roles, wad_output}
+use Rattle.sight_run.specs.Reading.{of_fetch}
+
+-- the WAD in the file of this name, or the first check that fails
+unfoldable pub wad_in : List ℕ → Files → Result WadFile Status
+wad_in wad files = do
+  bytes ← of_fetch (content_of (files wad) 2147483647)
+  of_wad (wad_of bytes)
+
+-- an answer to the WAD that was read, or the refusal where none was
+abbrev pub OnWad : Result WadFile Status → (WadFile → Result Answer Status → Type 0) → Result Answer Status → Type 0
+OnWad (Ok w) Called answer = Called w answer
+OnWad (Err refusal) Called answer = answer ≡ Err refusal
+
+-- no WAD is read
+abbrev pub IsUnread : Result WadFile Status → Type 0
+IsUnread (Ok w) = ⊥
+IsUnread (Err refusal) = ⊤
+
+-- how many maps the WAD has, and how many of them were built and refused
+abbrev pub tally_line : ℕ → ℕ → ℕ → List ℕ
+tally_line maps built refused = codes "all maps " ++ decimal maps ++ codes " built " ++ decimal built ++ codes " refused " ++ decimal refused ++ codes "\n"
+
+-- the WAD is stored first, then the report where it is asked for
+abbrev pub all_writes : List ℕ → List ℕ → Option (List ℕ) → List ℕ → List Written
+all_writes out bytes reported report = report_behind reported report (wad_output out bytes ∷ [])
+
+-- the roles of these outputs
+abbrev pub all_roles : Option (List ℕ) → List Role
+all_roles reported = role.Wad ∷ report_roles reported
+
+-- A map gets its table exactly where it is within the limits and sound, and else is refused by the first check that fails.
+-- OUT is the WAD with these tables, the report says of each map its counts or its refusal, and the line counts them.
+pub record ShowsAll (out : List ℕ) (reported : Option (List ℕ)) (budget : Ask) (w : WadFile) (answer : Answer) : Type 0 where
+  pub outcomes : List MapOutcome
+  pub are : AreOutcomes w budget outcomes
+  pub bytes : List ℕ
+  pub made : written_of w outcomes ≡ Ok bytes
+  pub is : answer ≡ record {
+    writes = all_writes out bytes reported (report_of outcomes);
+    line = tally_line (length outcomes) (length (changes_of outcomes)) (length (refusals_of outcomes));
+  }
+
+-- the answer that `all` calls for
+abbrev pub AllCalls : List ℕ → Option (List ℕ) → Ask → WadFile → Result Answer Status → Type 0
+AllCalls out reported budget w (Ok answer) = ShowsAll out reported budget w answer
+AllCalls out reported budget w (Err (status.Limit bound.Lumps)) = IsAboveLimit w budget rewrite.TooManyLumps
+AllCalls out reported budget w (Err (status.Limit bound.OutputBytes)) = IsAboveLimit w budget rewrite.TooLong
+AllCalls out reported budget w (Err other) = ⊥

@@ -1,0 +1,120 @@
+//! The order `all`: the table of each map of a WAD in the place of its REJECT, and a line on each map where a report is asked for.
+
+ghost use Rattle.std.specs.Prelude.{◌≡◌, ◌+◌, ◌≤◌, ℕ, List, IfErr, IfOk, OnErr, All, Some, length, string_bytes};
+ghost use Rattle.shelf_io.specs.Shelf.{Files, NoneFell};
+ghost use Rattle.wad_dir.specs.Map.{entry_names};
+ghost use Rattle.wad_dir.specs.Wad.{WadFile, file_of, names_of};
+ghost use Rattle.order_words.specs.declared.order.Order.TheVariants as order;
+ghost use Rattle.sight_status.specs.Answer.{Gives};
+ghost use Rattle.sight_run.specs.All.{AllCalls, IsUnread, OnWad, all_roles, all_writes, tally_line, wad_in};
+ghost use Rattle.sight_run.specs.Reply.{replied, reply_seen, roles_of, writes};
+ghost use Rattle.sight_run.specs.Run.{Cause, IsOfAll};
+ghost use Rattle.sight_status.specs.Status.{IsOfMaking};
+
+use crate::input::fetch_wad;
+use crate::reply::{Bytes, Reply, push_output};
+use map_answers::directory;
+use order_words::Text;
+use shelf_io::Shelf;
+use sight_names::{Ask, RewriteFault};
+use sight_status::{Bound, Role, Status, push_count, push_count_line};
+use sight_workers::Gate;
+use std::alloc::{AllocError, Global};
+use std::thread::Threads;
+use wad_dir::Wad;
+use whole_wad::{Notice, WholeWad, build_wad};
+
+fn line_of(alloc: Global, maps: u64, built: u64, refused: u64) -> Result<String, AllocError>
+    ensures { IfOk result (λ line. string_bytes line ≡ tally_line maps built refused) }
+{
+    let mut line = String::new(alloc);
+    push_count(alloc, &mut line, "all maps ", maps)?;
+    push_count(alloc, &mut line, " built ", built)?;
+    push_count_line(alloc, &mut line, " refused ", refused)?;
+    Ok(line)
+}
+
+/// The reply that writes the WAD, and the report where it is asked for.
+fn reply_of(
+    alloc: Global,
+    out: &str,
+    report: &Option<Text>,
+    whole: WholeWad,
+) -> Result<Reply, AllocError>
+    ensures reply { IfOk result (λ reply. replied reply ≡ record { writes = all_writes out.now whole.bytes.items report.now (string_bytes whole.report); line = tally_line whole.maps whole.built whole.refused }) }
+    ensures roles { IfOk result (λ reply. roles_of (writes reply) ≡ all_roles report.now) }
+{
+    let line = line_of(alloc, whole.maps, whole.built, whole.refused)?;
+    let mut outputs = Vec::new(alloc);
+    push_output(alloc, &mut outputs, Role::Wad, out, Bytes::Whole(whole.bytes))?;
+    if let Some(name) = report {
+        push_output(
+            alloc,
+            &mut outputs,
+            Role::Report,
+            name.as_str(),
+            Bytes::Whole(whole.report.into_bytes()),
+        )?;
+    }
+    Ok(Reply { outputs, line })
+}
+
+/// What comes of all maps of the WAD.
+fn make_reply<R: Threads + Sync, G: Gate + Sync, N: Notice>(
+    rt: &R,
+    alloc: Global,
+    bytes: &[u8],
+    wad: &Wad,
+    out: &str,
+    report: &Option<Text>,
+    workers: u16,
+    budget: Ask,
+    gate: &G,
+    notice: &N,
+) -> Result<Reply, Status>
+    requires inside { All (λ entry. entry.at + entry.size ≤ length bytes.now) wad.now.entries }
+    requires names { names_of (file_of bytes.now wad.now) ≡ entry_names wad.now.entries }
+    requires workers { (1 ≤ workers) × (workers ≤ 64) }
+    ensures called { Gives ⊥ (AllCalls out.now report.now budget (file_of bytes.now wad.now)) (reply_seen result) }
+    ensures refusals { IfErr result IsOfMaking }
+    ensures roles { IfOk result (λ reply. roles_of (writes reply) ≡ all_roles report.now) }
+{
+    let whole = match build_wad(rt, alloc, bytes, wad, workers, budget, gate, notice) {
+        Ok(whole) => whole,
+        Err(RewriteFault::TooManyLumps) => return Err(Status::Limit(Bound::Lumps)),
+        Err(RewriteFault::TooLong) => return Err(Status::Limit(Bound::OutputBytes)),
+        Err(RewriteFault::Memory) => return Err(Status::Memory),
+    };
+    match reply_of(alloc, out, report, whole) {
+        Ok(reply) => Ok(reply),
+        Err(_) => Err(Status::Memory),
+    }
+}
+
+/// What the order `all` calls for. All files stay.
+pub fn do_all<R: Threads + Sync, S: Shelf, G: Gate + Sync, N: Notice>(
+    rt: &R,
+    alloc: Global,
+    shelf: &mut S,
+    wad: &str,
+    out: &str,
+    report: &Option<Text>,
+    workers: u16,
+    budget: Ask,
+    gate: &G,
+    notice: &N,
+) -> Result<Reply, Status>
+    requires workers { (1 ≤ workers) × (workers ≤ 64) }
+    ensures told { (files : Files) → (S.state shelf.old).files ≡ Some files → Gives (IsUnread (wad_in wad.now files)) (OnWad (wad_in wad.now files) (AllCalls out.now report.now budget)) (reply_seen result) }
+    ensures files { (S.state shelf.new).files ≡ (S.state shelf.old).files }
+    ensures counts { NoneFell (S.state shelf.old) (S.state shelf.new) }
+    ensures cause { Cause (S.state shelf.old) (S.state shelf.new) result }
+    ensures refusals { IfErr result IsOfAll }
+    ensures roles { IfOk result (λ reply. roles_of (writes reply) ≡ all_roles report.now) }
+{
+    let bytes = fetch_wad(alloc, shelf, wad)?;
+    let wad = directory(alloc, &bytes)?;
+    make_reply(
+        rt, alloc, &bytes, &wad, out, report, workers, budget, gate, notice,
+    )
+}

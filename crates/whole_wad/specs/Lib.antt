@@ -1,0 +1,4 @@
+pub mod Tables
+pub mod Outcomes
+pub mod Report
+pub mod Whole

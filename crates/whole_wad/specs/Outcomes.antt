@@ -1,0 +1,39 @@
+-- What comes of each map of a WAD.
+use Rattle.std.specs.Prelude.{◌≡◌, ℕ, List, [], ◌∷◌, map, filter_map, Option, Some, None, Result, Ok, Err}
+use Rattle.std.specs.List.{AllByRecursion}
+use Rattle.sight_names.specs.declared.names.Ask.{Ask}
+use Rattle.wad_dir.specs.Wad.{WadFile, names_of}
+use Rattle.all_maps.specs.declared.parts.Change.{Change}
+use Rattle.all_maps.specs.Maps.{maps_of}
+use Rattle.sight_status.specs.declared.status.Status.{Status}
+use Rattle.map_answers.specs.Input.{map_named}
+use Rattle.whole_wad.specs.declared.outcomes.MapOutcome.{MapOutcome}
+use Rattle.whole_wad.specs.declared.tables.MapTable.{MapTable}
+use Rattle.all_maps.specs.Names.{word_of}
+use Rattle.whole_wad.specs.Tables.{Gets}
+
+-- what the map of a name gets within the budget: its table exactly where it is within the limits and sound, or the first
+-- check that fails
+abbrev pub ComesOf : WadFile → Ask → MapOutcome → Type 0
+ComesOf w budget outcome = Gets (map_named w (word_of outcome.name)) budget outcome.made
+
+-- there is one outcome for each map of the WAD, in order
+pub record AreOutcomes (w : WadFile) (budget : Ask) (outcomes : List MapOutcome) : Type 0 where
+  pub each : map (λ (o : MapOutcome). o.name) outcomes ≡ maps_of (names_of w)
+  pub comes : AllByRecursion (ComesOf w budget) outcomes
+
+abbrev pub change_by : List ℕ → Result MapTable Status → Option Change
+change_by name (Ok made) = Some (record { name = name; table = made.table.bytes })
+change_by name (Err refusal) = None
+
+abbrev pub refusal_in : Result MapTable Status → Option Status
+refusal_in (Ok made) = None
+refusal_in (Err refusal) = Some refusal
+
+-- another REJECT for each map that got a table
+abbrev pub changes_of : List MapOutcome → List Change
+changes_of outcomes = filter_map (λ (o : MapOutcome). change_by o.name o.made) outcomes
+
+-- why the other ones got none
+abbrev pub refusals_of : List MapOutcome → List Status
+refusals_of outcomes = filter_map (λ (o : MapOutcome). refusal_in o.made) outcomes

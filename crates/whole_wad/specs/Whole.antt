@@ -1,0 +1,38 @@
+-- The WAD with the tables of all its maps.
+use Rattle.std.specs.Prelude.{◌≡◌, ℕ, List, length, Result, Ok, Err, ⊤, string_bytes}
+use Rattle.sight_names.specs.declared.faults.RewriteFault.{RewriteFault}
+use Rattle.sight_names.specs.declared.faults.RewriteFault.TheVariants as rewrite
+use Rattle.sight_names.specs.declared.names.Ask.{Ask}
+use Rattle.wad_dir.specs.Wad.{WadFile}
+use Rattle.wad_rewrite.specs.Rewrite.{printed}
+use Rattle.all_maps.specs.All.{with_all}
+use Rattle.whole_wad.specs.declared.outcomes.MapOutcome.{MapOutcome}
+use Rattle.whole_wad.specs.declared.whole.WholeWad.{WholeWad}
+use Rattle.whole_wad.specs.Outcomes.{AreOutcomes, changes_of, refusals_of}
+use Rattle.whole_wad.specs.Report.{report_of}
+
+-- what is written of the WAD in which each map that gets a table has it as its REJECT, or why it isn't
+abbrev pub written_of : WadFile → List MapOutcome → Result (List ℕ) RewriteFault
+written_of w outcomes = printed (with_all w (changes_of outcomes))
+
+-- the bytes, the report and the counts are those of what comes of the maps
+pub record ShowsWhole (w : WadFile) (budget : Ask) (whole : WholeWad) : Type 0 where
+  pub outcomes : List MapOutcome
+  pub are : AreOutcomes w budget outcomes
+  pub bytes : written_of w outcomes ≡ Ok whole.bytes.items
+  pub report : string_bytes whole.report ≡ report_of outcomes
+  pub maps : whole.maps ≡ length outcomes
+  pub built : whole.built ≡ length (changes_of outcomes)
+  pub refused : whole.refused ≡ length (refusals_of outcomes)
+
+-- the WAD with all tables is above a limit
+pub record IsAboveLimit (w : WadFile) (budget : Ask) (fault : RewriteFault) : Type 0 where
+  pub outcomes : List MapOutcome
+  pub are : AreOutcomes w budget outcomes
+  pub limit : written_of w outcomes ≡ Err fault
+
+-- what is made of the WAD, unless memory ran out
+abbrev pub MakesWhole : WadFile → Ask → Result WholeWad RewriteFault → Type 0
+MakesWhole w budget (Ok whole) = ShowsWhole w budget whole
+MakesWhole w budget (Err rewrite.Memory) = ⊤
+MakesWhole w budget (Err fault) = IsAboveLimit w budget fault

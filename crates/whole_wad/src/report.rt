@@ -1,0 +1,52 @@
+//! The report's line of one map.
+
+ghost use Rattle.std.specs.Prelude.{◌≡◌, ◌++◌, IfOk, OnOk, IsTrue, string_bytes};
+ghost use Rattle.all_maps.specs.Maps.{is_map_name};
+ghost use Rattle.whole_wad.specs.Report.{made_words, map_line, totals_words};
+
+use crate::outcomes::MapOutcome;
+use crate::tables::MapTable;
+use all_maps::text_of;
+use map_answers::{Counts, counts_of};
+use sight_status::{Status, push_count, push_count_line, push_reason, push_text};
+use std::alloc::{AllocError, Global};
+
+/// Adds how many pairs are set, clear and listed.
+fn push_totals(alloc: Global, line: &mut String, counts: Counts) -> Result<(), AllocError>
+    ensures { OnOk result (string_bytes line.new ≡ string_bytes line.old ++ totals_words counts) }
+{
+    push_count(alloc, line, " set ", counts.set)?;
+    push_count(alloc, line, " clear ", counts.clear)?;
+    push_count_line(alloc, line, " listed ", counts.listed)
+}
+
+/// Adds what is said of a map's table, or of its refusal.
+fn push_made(
+    alloc: Global,
+    line: &mut String,
+    made: &Result<MapTable, Status>,
+) -> Result<(), AllocError>
+    ensures { OnOk result (string_bytes line.new ≡ string_bytes line.old ++ made_words made.now) }
+{
+    match made {
+        Ok(made) => push_totals(
+            alloc,
+            line,
+            counts_of(&made.table, made.listed.as_slice().len()),
+        ),
+        Err(refusal) => {
+            push_text(line, " refused ")?;
+            push_reason(alloc, line, *refusal)
+        }
+    }
+}
+
+/// The report's line of what comes of a map.
+pub fn line_of(alloc: Global, outcome: &MapOutcome) -> Result<String, AllocError>
+    requires { IsTrue (is_map_name outcome.now.name) }
+    ensures { IfOk result (λ line. string_bytes line ≡ map_line outcome.now) }
+{
+    let mut line = String::from_str(alloc, text_of(&outcome.name))?;
+    push_made(alloc, &mut line, &outcome.made)?;
+    Ok(line)
+}
