@@ -1,5 +1,5 @@
 -- What the listeners have heard where a call ends, by how far it came.
-use Rattle.std.proofs.Common.{◌≡◌, ◌⊎◌, ℕ, inl, inr, List, Option, Some, None, Result, Ok, Err, refl, sym, subst}
+use Rattle.std.proofs.Common.{◌≡◌, ℕ, inl, inr, List, Option, Some, None, Result, Ok, Err, refl, sym, subst}
 use Rattle.sight_names.specs.declared.names.Ask.{Ask}
 use Rattle.listeners.specs.declared.finding.Finding.{Finding}
 use Rattle.shelf_io.specs.Shelf.{Files, ShelfState}
@@ -10,7 +10,7 @@ use Rattle.sight_status.specs.declared.status.Role.{Role}
 use Rattle.sight_status.specs.declared.status.Role.TheVariants as role
 use Rattle.sight_status.specs.declared.status.Status.{Status}
 use Rattle.sight_status.specs.declared.status.Status.TheVariants as status
-use Rattle.sight_status.specs.Say.{Refused, Said, SaidIfMade, WasDropped}
+use Rattle.sight_status.specs.Say.{Refused, Said, SaidIfMade}
 use Rattle.sight_status.specs.Status.{IsOfMaking}
 use Rattle.sight_status.specs.Texts.{text_of}
 use Rattle.map_answers.specs.Input.{LocatedMap}

@@ -1,7 +1,6 @@
--- The answers that the order `all` calls for.
-use Rattle.std.proofs.Common.{◌≡◌, ℕ, List, Option, Some, None, Result, Ok, Err, refl, sym, ap, subst, ◌∙◌, length}
-use Rattle.std.specs.Prelude.{IfErr, IfOk, string_bytes}
-use Rattle.sight_names.specs.declared.faults.RewriteFault.TheVariants as rewrite
+-- What the order `all` reads, and what it can be refused with.
+use Rattle.std.proofs.Common.{◌≡◌, ℕ, List, Option, Some, None, Result, Ok, Err, refl, sym, ap, subst, ◌∙◌}
+use Rattle.std.specs.Prelude.{IfErr, IfOk}
 use Rattle.sight_names.specs.declared.faults.WadFault.{WadFault}
 use Rattle.sight_names.specs.declared.faults.WadFault.TheVariants as wad
 use Rattle.sight_names.specs.declared.names.Ask.{Ask}
@@ -15,9 +14,7 @@ use Rattle.sight_status.specs.declared.status.Status.TheVariants as status
 use Rattle.sight_status.specs.Answer.{Answer, Gives, IsTheAnswer, Makes, ◌>>=◌}
 use Rattle.sight_status.specs.Status.{IsOfBytes}
 use Rattle.map_answers.specs.Input.{of_wad}
-use Rattle.whole_wad.specs.declared.whole.WholeWad.{WholeWad}
-use Rattle.whole_wad.specs.Whole.{IsAboveLimit, ShowsWhole}
-use Rattle.sight_run.specs.All.{AllCalls, IsUnread, OnWad, ShowsAll, all_roles, all_writes, tally_line, wad_in}
+use Rattle.sight_run.specs.All.{IsUnread, OnWad, all_roles, wad_in}
 use Rattle.sight_run.specs.Obeys.{WritesEach}
 use Rattle.sight_run.specs.Reading.{of_fetch}
 use Rattle.sight_run.specs.declared.reply.Reply.{Reply}
@@ -51,27 +48,6 @@ gives_unread view said Called s made = subst (λ (r : Result WadFile Status). Is
 
 pub gives_read : (said : Result WadFile Status) (w : WadFile) (Called : WadFile → Result Answer Status → Type 0) (r : Result Answer Status) → said ≡ Ok w → Gives ⊥ (Called w) r → Gives (IsUnread said) (OnWad said Called) r
 gives_read said w Called r e h = subst (λ (x : Result WadFile Status). Gives (IsUnread x) (OnWad x Called) r) (sym e) h
-
--- ---- what comes of the maps
-
-module _ (out : List ℕ) (reported : Option (List ℕ)) (budget : Ask) (w : WadFile) where
-  pub gives_whole : (whole : WholeWad) (answer : Answer) → ShowsWhole w budget whole → answer ≡ record { writes = all_writes out whole.bytes.items reported (string_bytes whole.report); line = tally_line whole.maps whole.built whole.refused }
-      → Gives ⊥ (AllCalls out reported budget w) (Ok answer)
-  gives_whole whole answer h e =
-      let shows : ShowsAll out reported budget w answer = record {
-        outcomes = h.outcomes;
-        are = h.are;
-        bytes = whole.bytes.items;
-        made = h.bytes;
-        is = e ∙ (λ i. record { writes = all_writes out whole.bytes.items reported (h.report i); line = tally_line (h.maps i) (h.built i) (h.refused i) });
-      } in
-      record { called = shows; only = λ sole. absurd sole }
-
-  pub gives_lumps : IsAboveLimit w budget rewrite.TooManyLumps → Gives ⊥ (AllCalls out reported budget w) (Err (status.Limit bound.Lumps))
-  gives_lumps h = record { called = h; only = λ sole. absurd sole }
-
-  pub gives_long : IsAboveLimit w budget rewrite.TooLong → Gives ⊥ (AllCalls out reported budget w) (Err (status.Limit bound.OutputBytes))
-  gives_long h = record { called = h; only = λ sole. absurd sole }
 
 -- ---- refusals and roles
 

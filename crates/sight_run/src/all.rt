@@ -46,7 +46,13 @@ fn reply_of(
 {
     let line = line_of(alloc, whole.maps, whole.built, whole.refused)?;
     let mut outputs = Vec::new(alloc);
-    push_output(alloc, &mut outputs, Role::Wad, out, Bytes::Whole(whole.bytes))?;
+    push_output(
+        alloc,
+        &mut outputs,
+        Role::Wad,
+        out,
+        Bytes::Whole(whole.bytes),
+    )?;
     if let Some(name) = report {
         push_output(
             alloc,
