@@ -20,9 +20,9 @@ And certificates whose counts no bytes bear out: `check` asks for fewer bytes, a
 they were made of.
 The status is 1 where anything is otherwise.
 
-Found: the runs of fifteen orders make some 1,950 requests (a build of U by three workers with certificate and report 226, one of a made map
-380; a check of U 82, of a certificate of 197 KB 137, of one longer than 32 MiB 84). With one of 1,918 refused the run ended by memory, and with
-one of 28 it was done, as a thread that can't be started is done without; no fault of reading or writing came, and each thread that was
+Found: the runs of fifteen orders make some 1,940 requests (a build of U by three workers with certificate and report 226, one of a made map
+378; a check of U 79, of a certificate of 197 KB 134, of one longer than 32 MiB 74). With one refused the run ended by memory, and in 30 of
+them it was done, as a thread that can't be started is done without; no fault of reading or writing came, and each thread that was
 started was joined.
 """
 import argparse
