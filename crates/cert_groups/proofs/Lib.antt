@@ -1,6 +1,9 @@
 pub mod IslandCert
 pub mod GroupOrder
 pub mod GroupLaws
+pub mod FrontLaws
 pub mod PartLaws
 pub mod AnyLaws
 pub mod PieceLaws
+pub mod MoreBytes
+pub mod Versions

@@ -17,12 +17,13 @@ use Rattle.cert_format.proofs.RecordLaws.{records_take, records_again, ascends_o
 use Rattle.cert_format.proofs.KindLaws.{FitsLabelled, TriangleAfter, triangle_takes, triangle_again, PairAfter, pair_takes, pair_again, FitsPairRay, RayAfter, ray_takes, ray_again}
 use Rattle.cert_format.proofs.TreeLaws.{FitsTree, TreeAfter, tree_takes, tree_again}
 use Rattle.cert_format.proofs.CountLaws.{few_pairs, few_rays, few_trees}
-use Rattle.cert_format.proofs.WholeLaws.{FitCounts, count_bytes, counts_take, counts_again, above_carries, pair_carries, source_carries, got_back, triangles_are, sectors_are, labelled_fit, ranges_of, rays_fit, pair_rays_fit, tree_ranges, fields_fit, trees_fit}
+use Rattle.cert_format.proofs.WholeLaws.{FitCounts, count_bytes, counts_again, above_carries, pair_carries, source_carries, got_back, triangles_are, sectors_are, labelled_fit, ranges_of, rays_fit, pair_rays_fit, tree_ranges, fields_fit, trees_fit}
 use Rattle.cert_groups.specs.declared.cert.CertTwo.{CertTwo}
 use Rattle.cert_groups.specs.Grammar.{IsGroupInOrder, IsTwoInOrder, grouped_sizes, group_bytes}
-use Rattle.cert_groups.specs.Reading.{PartsTwo, group_at, parts_at, cert_of}
-use Rattle.cert_groups.proofs.GroupOrder.{GroupAfter, before_carries}
-use Rattle.cert_groups.proofs.GroupLaws.{sizes_take, sizes_again, group_count_takes, group_count_again, group_takes, group_again}
+use Rattle.cert_groups.specs.Reading.{PartsTwo, front_two_at, group_at, parts_at, cert_of}
+use Rattle.cert_groups.proofs.GroupOrder.{GroupAfter}
+use Rattle.cert_groups.proofs.FrontLaws.{counts_in, head_bytes, front_takes}
+use Rattle.cert_groups.proofs.GroupLaws.{sizes_again, group_count_again, group_again}
 
 -- the spelling without its first two fields
 abbrev pub tail_bytes : Sizes → CertTwo → List ℕ
@@ -33,12 +34,6 @@ pub record AreSpelledParts (sizes : Sizes) (bytes : List ℕ) (c : CertTwo) : Ty
   pub in_order : IsTwoInOrder sizes c
   pub fits : FitsFields c.cert
   pub spelled : bytes ≡ tail_bytes sizes c
-
-abbrev with_sectors : Sizes → ℕ → Sizes
-with_sectors sizes n = record { sectors = n; points = sizes.points; lines = sizes.lines }
-
-sizes_same : (sizes : Sizes) (n m : ℕ) → m ≡ n → with_sectors sizes n ≡ with_sectors sizes m
-sizes_same sizes n m e = ap (λ (k : ℕ). with_sectors sizes k) (sym e)
 
 none_ascend : Ascends PairBefore []
 none_ascend i j x y lt h g = absurd cc
@@ -56,41 +51,32 @@ pub parts_take : (sizes : Sizes) (total : ℕ) (bytes : List ℕ) (p : PartsTwo)
 unfolding parts_at
 parts_take sizes total bytes p small fits e =
     let f = bind_ok _ _ p e in
-    let n = bind_ok _ _ p f.2 in
-    let k = bind_ok _ _ p n.2 in
-    let g = bind_ok _ _ p k.2 in
-    let t = bind_ok _ _ p g.2 in
+    let t = bind_ok _ _ p f.2 in
     let r = bind_ok _ _ p t.2 in
     let l = bind_ok _ _ p r.2 in
     let d = bind_ok _ _ p l.2 in
-    let own : Sizes = record { sectors = n.0.0; points = sizes.points; lines = sizes.lines } in
-    let made : PartsTwo = record { sizes = own; groups = g.0.0; triangles = t.0.0; rays = r.0.0; listed = l.0.0; trees = d.0.0 } in
+    let own : Sizes = f.0.0.sizes in
+    let groups : List (List ℕ) = f.0.0.groups in
+    let made : PartsTwo = record { sizes = own; groups = groups; triangles = t.0.0; rays = r.0.0; listed = l.0.0; trees = d.0.0 } in
     let q = passed_ok _ _ made p d.2 in
-    let tf = sizes_take sizes total bytes f.0 fits f.1 in
-    let tn = group_count_takes total f.0 n.0 tf.rest_fits n.1 in
-    let tk = counts_take total n.0.1 k.0 tn.0.rest_fits k.1 in
-    let tg = records_take (group_at sizes.sectors total) (λ x. Some x) group_bytes (IsGroupInOrder sizes.sectors) GroupAfter (group_takes sizes.sectors total) n.0.0 None k.0.1 g.0 tk.0.rest_fits g.1 in
-    let tt' = records_take (triangle_at own total) (λ x. Some x) triangle_bytes (FitsLabelled own) TriangleAfter (triangle_takes own total) k.0.0.triangles None g.0.1 t.0 tg.takes.rest_fits t.1 in
-    let tr = records_take (ray_at own total) (λ x. Some x) ray_bytes (FitsPairRay own) RayAfter (ray_takes own total) k.0.0.rays None t.0.1 r.0 tt'.takes.rest_fits r.1 in
-    let tl = records_take (pair_at sizes total) (λ x. Some x) pair_bytes (IsPairInRange sizes) PairAfter (pair_takes sizes total) k.0.0.listed None r.0.1 l.0 tr.takes.rest_fits l.1 in
-    let td = records_take (tree_at own total) (λ x. Some x.source) tree_bytes (FitsTree own) TreeAfter (tree_takes own total) k.0.0.trees None l.0.1 d.0 tl.takes.rest_fits d.1 in
+    let tf = front_takes sizes total bytes f.0 fits f.1 in
+    let tt' = records_take (triangle_at own total) (λ x. Some x) triangle_bytes (FitsLabelled own) TriangleAfter (triangle_takes own total) f.0.0.counts.triangles None f.0.1 t.0 tf.takes.rest_fits t.1 in
+    let tr = records_take (ray_at own total) (λ x. Some x) ray_bytes (FitsPairRay own) RayAfter (ray_takes own total) f.0.0.counts.rays None t.0.1 r.0 tt'.takes.rest_fits r.1 in
+    let tl = records_take (pair_at sizes total) (λ x. Some x) pair_bytes (IsPairInRange sizes) PairAfter (pair_takes sizes total) f.0.0.counts.listed None r.0.1 l.0 tr.takes.rest_fits l.1 in
+    let td = records_take (tree_at own total) (λ x. Some x.source) tree_bytes (FitsTree own) TreeAfter (tree_takes own total) f.0.0.counts.trees None l.0.1 d.0 tl.takes.rest_fits d.1 in
     let counts : Counts = record { triangles = length t.0.0; rays = length r.0.0; listed = length l.0.0; trees = length d.0.0 } in
-    let same : k.0.0 ≡ counts = counts_same k.0.0 (length t.0.0) (length r.0.0) (length l.0.0) (length d.0.0) (sym tt'.count) (sym tr.count) (sym tl.count) (sym td.count) in
-    let numbered : Takes f.0 (u16 (length g.0.0)) n.0.1 = subst (λ (j : ℕ). Takes f.0 (u16 j) n.0.1) (sym tg.count) tn.0 in
-    let counted : Takes n.0.1 (count_bytes counts) k.0.1 = subst (λ (x : Counts). Takes n.0.1 (count_bytes x) k.0.1) same tk.0 in
-    let front : List ℕ = u16 sizes.sectors ++ u16 sizes.points ++ u16 sizes.lines ++ u16 (length g.0.0) in
-    let e0 = Takes-then bytes (u16 sizes.sectors ++ u16 sizes.points ++ u16 sizes.lines) f.0 (u16 (length g.0.0)) n.0.1 tf numbered in
-    let e1 = Takes-then bytes front n.0.1 (count_bytes counts) k.0.1 e0 counted in
-    let e2 = Takes-then bytes (front ++ count_bytes counts) k.0.1 (flat_map group_bytes g.0.0) g.0.1 e1 tg.takes in
-    let e3 = Takes-then bytes (front ++ count_bytes counts ++ flat_map group_bytes g.0.0) g.0.1 (flat_map triangle_bytes t.0.0) t.0.1 e2 tt'.takes in
-    let e4 = Takes-then bytes (front ++ count_bytes counts ++ flat_map group_bytes g.0.0 ++ flat_map triangle_bytes t.0.0) t.0.1 (flat_map ray_bytes r.0.0) r.0.1 e3 tr.takes in
-    let e5 = Takes-then bytes (front ++ count_bytes counts ++ flat_map group_bytes g.0.0 ++ flat_map triangle_bytes t.0.0 ++ flat_map ray_bytes r.0.0) r.0.1 (flat_map pair_bytes l.0.0) l.0.1 e4 tl.takes in
-    let e6 = Takes-then bytes (front ++ count_bytes counts ++ flat_map group_bytes g.0.0 ++ flat_map triangle_bytes t.0.0 ++ flat_map ray_bytes r.0.0 ++ flat_map pair_bytes l.0.0) l.0.1 (flat_map tree_bytes d.0.0) d.0.1 e5 td.takes in
+    let same : counts_in f.0.0 ≡ counts = counts_same (counts_in f.0.0) (length t.0.0) (length r.0.0) (length l.0.0) (length d.0.0) (sym tt'.count) (sym tr.count) (sym tl.count) (sym td.count) in
+    let front : List ℕ = head_bytes sizes groups ++ count_bytes counts ++ flat_map group_bytes groups in
+    let e2 : Takes bytes front f.0.1 = subst (λ (x : Counts). Takes bytes (head_bytes sizes groups ++ count_bytes x ++ flat_map group_bytes groups) f.0.1) same tf.takes in
+    let e3 = Takes-then bytes front f.0.1 (flat_map triangle_bytes t.0.0) t.0.1 e2 tt'.takes in
+    let e4 = Takes-then bytes (front ++ flat_map triangle_bytes t.0.0) t.0.1 (flat_map ray_bytes r.0.0) r.0.1 e3 tr.takes in
+    let e5 = Takes-then bytes (front ++ flat_map triangle_bytes t.0.0 ++ flat_map ray_bytes r.0.0) r.0.1 (flat_map pair_bytes l.0.0) l.0.1 e4 tl.takes in
+    let e6 = Takes-then bytes (front ++ flat_map triangle_bytes t.0.0 ++ flat_map ray_bytes r.0.0 ++ flat_map pair_bytes l.0.0) l.0.1 (flat_map tree_bytes d.0.0) d.0.1 e5 td.takes in
     let nothing : d.0.1 ≡ [] = nil_from_length d.0.1 (eqb-true _ _ q.0) in
     let whole : bytes ≡ tail_bytes sizes (cert_of made) = e6.parts ∙ ap (λ (x : List ℕ). tail_bytes sizes (cert_of made) ++ x) nothing ∙ append-nil (tail_bytes sizes (cert_of made)) in
     let above = ascends_of_chain (triangle_at own total) (λ x. Some x) triangle_bytes (FitsLabelled own) TriangleAfter (λ x y z. above_carries x.triangle y.triangle z.triangle) None t.0.0 tt'.chain in
     let cert_in_order : IsInOrder (cert_of made).cert = record {
-      few = few_of k.0.0.triangles (length t.0.0) tt'.count tk.1.triangles;
+      few = few_of f.0.0.counts.triangles (length t.0.0) tt'.count tf.counts.triangles;
       triangles = triangles_are own t.0.0 tt'.fit above;
       sectors = sectors_are own t.0.0 tt'.fit;
       rays = ranges_of own r.0.0 tr.fit;
@@ -101,18 +87,20 @@ parts_take sizes total bytes p small fits e =
       trees_ascend = ascends_of_chain (tree_at own total) (λ x. Some x.source) tree_bytes (FitsTree own) TreeAfter source_carries None d.0.0 td.chain;
     } in
     let in_order : IsTwoInOrder sizes (cert_of made) = record {
-      few = few_of n.0.0 (length g.0.0) tg.count tn.1;
-      groups = tg.fit;
-      groups_ascend = ascends_of_chain (group_at sizes.sectors total) (λ x. Some x) group_bytes (IsGroupInOrder sizes.sectors) GroupAfter before_carries None g.0.0 tg.chain;
-      grouped = sizes_same sizes n.0.0 (length g.0.0) tg.count;
+      few = tf.in_order.few;
+      groups = tf.in_order.each;
+      groups_ascend = tf.in_order.ascend;
+      grouped = tf.own;
       in_order = cert_in_order;
       no_pairs = refl;
       listed = tl.fit;
       listed_ascend = ascends_of_chain (pair_at sizes total) (λ x. Some x) pair_bytes (IsPairInRange sizes) PairAfter pair_carries None l.0.0 tl.chain;
     } in
+    let small_own : AreSmall (grouped_sizes sizes groups) = record { sectors = small_of (length groups) tf.in_order.few; points = small.points; lines = small.lines } in
+    let fits_own : AreSmall own = subst AreSmall (sym tf.own) small_own in
     subst (λ (x : PartsTwo). AreSpelledParts sizes bytes (cert_of x)) {x = made} q.1 (record {
       in_order = in_order;
-      fits = record { sectors = small_of n.0.0 tn.1; points = small.points; lines = small.lines; rays = rays_fit own r.0.0 tr.fit; trees = fields_fit own d.0.0 td.fit };
+      fits = record { sectors = fits_own.sectors; points = fits_own.points; lines = fits_own.lines; rays = rays_fit own r.0.0 tr.fit; trees = fields_fit own d.0.0 td.fit };
       spelled = whole;
     })
 
@@ -130,7 +118,7 @@ cert_of_parts sizes c is = ap with_sizes (sym is.grouped) ∙ sym (ap with_pairs
     with_pairs ps = record { groups = c.groups; cert = record { sizes = c.cert.sizes; triangles = c.cert.triangles; rays = c.cert.rays; listed = ps; trees = c.cert.trees }; listed = c.listed }
 
 pub parts_again : (sizes : Sizes) (total : ℕ) (c : CertTwo) → AreSmall sizes → IsTwoInOrder sizes c → FitsFields c.cert → parts_at sizes total (tail_bytes sizes c) ≡ Ok (parts_of sizes c)
-unfolding parts_at
+unfolding parts_at front_two_at
 parts_again sizes total c small is fits =
     let s = grouped_sizes sizes c.groups in
     let own : CertParts = record { sizes = s; triangles = c.cert.triangles; rays = c.cert.rays; listed = c.cert.listed; trees = c.cert.trees } in

@@ -18,6 +18,12 @@ pub record IsGroupInOrder (sectors : ℕ) (group : List ℕ) : Type 0 where
   pub below : AllByRecursion (λ a. a < sectors) group
   pub ascend : AscendStrictly group
 
+-- so many groups can be counted, each is in order, and each comes before the next
+pub record AreGroupsInOrder (sectors : ℕ) (groups : List (List ℕ)) : Type 0 where
+  pub few : length groups ≤ 8192
+  pub each : AllByRecursion (IsGroupInOrder sectors) groups
+  pub ascend : Ascends ListBefore groups
+
 -- the map's sizes with the groups as sectors
 abbrev pub grouped_sizes : Sizes → List (List ℕ) → Sizes
 grouped_sizes sizes groups = record { sectors = length groups; points = sizes.points; lines = sizes.lines }

@@ -11,6 +11,7 @@ use Rattle.sight_tree.specs.declared.Tree.{Tree}
 use Rattle.cert_format.specs.declared.cert.Sizes.{Sizes}
 use Rattle.cert_format.specs.declared.cert.Labelled.{Labelled}
 use Rattle.cert_format.specs.Reading.{◌>>=◌, begins_at, passed, number_at, number_below, number_known, magic_at, comes_after, counts_at, records_at, triangles_at, rays_at, pairs_at, trees_at, reading}
+use Rattle.cert_groups.specs.declared.cert.FrontTwo.{FrontTwo}
 use Rattle.cert_groups.specs.declared.cert.CertTwo.{CertTwo}
 use Rattle.cert_groups.specs.declared.cert.AnyCert.{AnyCert}
 use Rattle.cert_groups.specs.declared.cert.AnyCert.TheVariants.{One, Two}
@@ -74,6 +75,22 @@ sizes_at sizes total bytes = do
   points ← number_known sizes.points total sectors
   number_known sizes.lines total points
 
+-- what comes before the parts; the sizes have the groups as sectors
+unfoldable pub front_two_at : Sizes → ℕ → List ℕ → Result (FrontTwo × List ℕ) CertFault
+front_two_at sizes total bytes = do
+  front ← sizes_at sizes total bytes
+  count ← group_count_at total front
+  counts ← counts_at total count.1
+  groups ← groups_at sizes.sectors total None count.0 counts.1
+  Ok (
+    record {
+      sizes = record { sectors = count.0; points = sizes.points; lines = sizes.lines };
+      groups = groups.0;
+      counts = record { triangles = counts.0.triangles; rays = counts.0.rays; listed = counts.0.listed; trees = counts.0.trees };
+    },
+    groups.1,
+  )
+
 -- the parts of a certificate of version 2; the sizes have the groups as sectors
 pub record PartsTwo : Type 0 where
   pub sizes : Sizes
@@ -87,16 +104,13 @@ pub record PartsTwo : Type 0 where
 -- place of sectors; listed pairs are pairs of sectors
 unfoldable pub parts_at : Sizes → ℕ → List ℕ → Result PartsTwo CertFault
 parts_at sizes total bytes = do
-  front ← sizes_at sizes total bytes
-  count ← group_count_at total front
-  counts ← counts_at total count.1
-  groups ← groups_at sizes.sectors total None count.0 counts.1
-  triangles ← triangles_at (record { sectors = count.0; points = sizes.points; lines = sizes.lines }) total None counts.0.triangles groups.1
-  rays ← rays_at (record { sectors = count.0; points = sizes.points; lines = sizes.lines }) total None counts.0.rays triangles.1
-  listed ← pairs_at sizes total None counts.0.listed rays.1
-  trees ← trees_at (record { sectors = count.0; points = sizes.points; lines = sizes.lines }) total None counts.0.trees listed.1
+  front ← front_two_at sizes total bytes
+  triangles ← triangles_at front.0.sizes total None front.0.counts.triangles front.1
+  rays ← rays_at front.0.sizes total None front.0.counts.rays triangles.1
+  listed ← pairs_at sizes total None front.0.counts.listed rays.1
+  trees ← trees_at front.0.sizes total None front.0.counts.trees listed.1
   passed (length trees.1 == 0) (faults.Trailing (begins_at total trees.1))
-      (record { sizes = record { sectors = count.0; points = sizes.points; lines = sizes.lines }; groups = groups.0; triangles = triangles.0; rays = rays.0; listed = listed.0; trees = trees.0 })
+      (record { sizes = front.0.sizes; groups = front.0.groups; triangles = triangles.0; rays = rays.0; listed = listed.0; trees = trees.0 })
 
 abbrev pub cert_of : PartsTwo → CertTwo
 cert_of p = record { groups = p.groups; cert = record { sizes = p.sizes; triangles = p.triangles; rays = p.rays; listed = []; trees = p.trees }; listed = p.listed }

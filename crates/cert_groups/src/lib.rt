@@ -13,8 +13,9 @@ mod printer;
 mod reading;
 mod writing;
 
-pub use cert::{AnyCert, CertTwo, Group};
+pub use cert::{AnyCert, CertTwo, FrontTwo, Group};
+pub use fields::version_of;
 pub use laws::one_spelling;
 pub use printer::AnyPrinter;
-pub use reading::read_any;
+pub use reading::{front_two_of, read_any};
 pub use writing::print_any;

@@ -5,9 +5,9 @@ ghost use Rattle.cert_format.specs.Grammar.{AreSmall};
 ghost use Rattle.cert_format.specs.Reading.{Gives, GivesExactly};
 ghost use Rattle.cert_groups.specs.declared.cert.AnyCert.{AnyCert};
 ghost use Rattle.cert_groups.specs.Grammar.{IsAnyInOrder, SpellsAny};
-ghost use Rattle.cert_groups.specs.Reading.{sizes_at, parts_at, two_at, any_at};
+ghost use Rattle.cert_groups.specs.Reading.{sizes_at, front_two_at, parts_at, two_at, any_at};
 
-use crate::cert::{AnyCert, CertTwo, Group};
+use crate::cert::{AnyCert, CertTwo, FrontTwo, Group};
 use crate::fields::{group_count, version_of};
 use crate::groups::groups_of;
 use cert_format::fields::{place, u16_known};
@@ -32,18 +32,23 @@ fn behind_sizes(sizes: Sizes, total: usize, bytes: &[u8]) -> Result<&[u8], CertF
 #[derive(Drop)]
 struct PartsTwo {
     sizes: Sizes,
-    groups: Vec<Group>,
+    groups: Items<Group>,
     triangles: Vec<Labelled>,
     rays: Vec<PairRay>,
     listed: Vec<Pair>,
     trees: Vec<Tree>,
 }
 
-/// What the bytes behind the version spell.
-#[tactic(auto, unfolding(crate::specs::Reading::parts_at))]
-fn parts_of(alloc: Global, sizes: Sizes, total: usize, bytes: &[u8]) -> Result<PartsTwo, CertFault>
+/// What the bytes behind the version spell before the parts, and the bytes behind it.
+#[tactic(auto, unfolding(crate::specs::Reading::front_two_at))]
+pub fn front_two_of(
+    alloc: Global,
+    sizes: Sizes,
+    total: usize,
+    bytes: &[u8],
+) -> Result<(FrontTwo, &[u8]), CertFault>
     ensures small { AreSmall sizes }
-    ensures exact { Gives (λ x. record { sizes = x.sizes; groups = x.groups.items; triangles = x.triangles.items; rays = x.rays.items; listed = x.listed.items; trees = x.trees.items }) result (parts_at sizes total bytes.now) }
+    ensures exact { Gives (λ x. (x.0, x.1.now)) result (front_two_at sizes total bytes.now) }
 {
     let rest = behind_sizes(sizes, total, bytes)?;
     let (count, rest) = group_count(total, rest)?;
@@ -54,18 +59,33 @@ fn parts_of(alloc: Global, sizes: Sizes, total: usize, bytes: &[u8]) -> Result<P
         points: sizes.points,
         lines: sizes.lines,
     };
-    let (triangles, rest) = triangles_of(alloc, grouped, total, counts.triangles, rest)?;
-    let (rays, rest) = rays_of(alloc, grouped, total, counts.rays, rest)?;
-    let (listed, rest) = pairs_of(alloc, sizes, total, counts.listed, rest)?;
-    let (trees, rest) = trees_of(alloc, grouped, total, counts.trees, rest)?;
+    let front = FrontTwo {
+        sizes: grouped,
+        groups: Items::of(groups),
+        counts,
+    };
+    Ok((front, rest))
+}
+
+/// What the bytes behind the version spell.
+#[tactic(auto, unfolding(crate::specs::Reading::parts_at))]
+fn parts_of(alloc: Global, sizes: Sizes, total: usize, bytes: &[u8]) -> Result<PartsTwo, CertFault>
+    ensures small { AreSmall sizes }
+    ensures exact { Gives (λ x. record { sizes = x.sizes; groups = x.groups; triangles = x.triangles.items; rays = x.rays.items; listed = x.listed.items; trees = x.trees.items }) result (parts_at sizes total bytes.now) }
+{
+    let (front, rest) = front_two_of(alloc, sizes, total, bytes)?;
+    let (triangles, rest) = triangles_of(alloc, front.sizes, total, front.counts.triangles, rest)?;
+    let (rays, rest) = rays_of(alloc, front.sizes, total, front.counts.rays, rest)?;
+    let (listed, rest) = pairs_of(alloc, sizes, total, front.counts.listed, rest)?;
+    let (trees, rest) = trees_of(alloc, front.sizes, total, front.counts.trees, rest)?;
     if !rest.is_empty() {
         return Err(CertFault::Trailing {
             at: place(total, rest),
         });
     }
     Ok(PartsTwo {
-        sizes: grouped,
-        groups,
+        sizes: front.sizes,
+        groups: front.groups,
         triangles,
         rays,
         listed,
@@ -86,7 +106,7 @@ fn two_of(alloc: Global, sizes: Sizes, total: usize, bytes: &[u8]) -> Result<Cer
         trees: Items::of(parts.trees),
     };
     Ok(CertTwo {
-        groups: Items::of(parts.groups),
+        groups: parts.groups,
         cert,
         listed: Items::of(parts.listed),
     })

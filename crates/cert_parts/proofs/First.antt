@@ -6,12 +6,13 @@ use Rattle.sight_names.specs.declared.faults.CertFault.TheVariants as faults
 use Rattle.sight_tree.specs.declared.Node.{Node}
 use Rattle.cert_format.specs.Reading.{begins_at, Counts, triangle_at, ray_at, pair_at, node_at}
 use Rattle.cert_format.proofs.FieldLaws.{ok_is}
+use Rattle.cert_groups.proofs.MoreBytes.{place_stays}
 use Rattle.cert_parts.specs.declared.awaited.Awaited.{Awaited}
 use Rattle.cert_parts.specs.declared.part.Part.{Part}
 use Rattle.cert_parts.specs.declared.part.Part.TheVariants as parts
 use Rattle.cert_parts.specs.Left.{header_at, all_awaited}
 use Rattle.cert_parts.specs.Steps.{FirstRead, as_first, head_at, header_step, triangle_step, ray_step, pair_step, node_step, head_step, first_at, first_width, width_at}
-use Rattle.cert_parts.proofs.Whole.{longer, value, place_stays, IsWhole, whole_then, whole_value}
+use Rattle.cert_parts.proofs.Whole.{longer, value, IsWhole, whole_then, whole_value}
 use Rattle.cert_parts.proofs.RecordWidths.{triangle_whole, ray_whole, pair_whole, head_whole}
 use Rattle.cert_parts.proofs.Nodes.{node_grows, node_takes}
 use Rattle.cert_parts.proofs.Header.{header_whole}
@@ -44,7 +45,7 @@ module _ (a : Awaited) where
 
   pair_step_whole : IsWhole (λ start total bytes. pair_step a total bytes) 4
   unfolding pair_step
-  pair_step_whole = step_whole (λ total bytes. pair_at a.sizes total a.last_pair bytes) 4 (λ x. Some (parts.Listed x)) (λ x. record a { listed = a.listed - 1; last_pair = Some x }) (pair_whole a.sizes a.last_pair)
+  pair_step_whole = step_whole (λ total bytes. pair_at a.map_sizes total a.last_pair bytes) 4 (λ x. Some (parts.Listed x)) (λ x. record a { listed = a.listed - 1; last_pair = Some x }) (pair_whole a.map_sizes a.last_pair)
 
   head_step_whole : IsWhole (λ start total bytes. head_step a total bytes) 10
   unfolding head_step
@@ -168,7 +169,7 @@ module _ (a : Awaited) where
   chosen_first total bytes false triangles rays listed nodes trees x h e = by_header (header_at a.sizes total bytes) x h e
   chosen_first total bytes true true rays listed nodes trees x h e = begun_first x h (has_part (triangle_at a.sizes total a.last_triangle bytes) (λ y. parts.Triangle y) (λ y. record a { triangles = a.triangles - 1; last_triangle = Some y }) a.begun x (λ y. refl) e)
   chosen_first total bytes true false true listed nodes trees x h e = begun_first x h (has_part (ray_at a.sizes total a.last_ray bytes) (λ y. parts.Ray y) (λ y. record a { rays = a.rays - 1; last_ray = Some y }) a.begun x (λ y. refl) e)
-  chosen_first total bytes true false false true nodes trees x h e = begun_first x h (has_part (pair_at a.sizes total a.last_pair bytes) (λ y. parts.Listed y) (λ y. record a { listed = a.listed - 1; last_pair = Some y }) a.begun x (λ y. refl) e)
+  chosen_first total bytes true false false true nodes trees x h e = begun_first x h (has_part (pair_at a.map_sizes total a.last_pair bytes) (λ y. parts.Listed y) (λ y. record a { listed = a.listed - 1; last_pair = Some y }) a.begun x (λ y. refl) e)
   chosen_first total bytes true false false false true trees x h e = begun_first x h (has_part (node_at total bytes) (λ y. parts.Node y) (λ y. record a { nodes = a.nodes - 1 }) a.begun x (λ y. refl) e)
   chosen_first total bytes true false false false false true x h e =
       begun_first x h (has_part (head_at a.sizes total a.last_source bytes) (λ y. parts.Tree y.0 y.1) (λ y. record a { trees = a.trees - 1; nodes = y.1; last_source = Some y.0 }) a.begun x (λ y. refl) e)

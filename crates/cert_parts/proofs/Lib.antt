@@ -6,4 +6,6 @@ pub mod Header
 pub mod First
 pub mod Order
 pub mod State
-pub mod Beginning
+pub mod Stretches
+pub mod FromBeginning
+pub mod EitherVersion

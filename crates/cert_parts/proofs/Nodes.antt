@@ -7,8 +7,9 @@ use Rattle.sight_tree.specs.declared.Node.{Node}
 use Rattle.sight_tree.specs.declared.Node.TheVariants.{Open, Blocked}
 use Rattle.cert_format.specs.Reading.{◌>>=◌, begins_at, comes_after, end_at, two_ends_at, three_ends_at, four_ends_at, node_at}
 use Rattle.cert_format.proofs.FieldLaws.{ok_is}
+use Rattle.cert_groups.proofs.MoreBytes.{place_stays}
 use Rattle.cert_parts.specs.Steps.{first_width}
-use Rattle.cert_parts.proofs.Whole.{longer, value, place_stays, IsWhole, whole_then, whole_value, whole_field}
+use Rattle.cert_parts.proofs.Whole.{longer, value, IsWhole, whole_then, whole_value, whole_field}
 
 abbrev Reader : Type 0
 Reader = ℕ → ℕ → List ℕ → Result (Node × List ℕ) CertFault

@@ -19,7 +19,7 @@ use Rattle.cert_parts.proofs.First.{first_header, first_triangle, first_ray, fir
 
 -- ---- steps
 
-same_read : {A : Type 0} (r : Result A CertFault) → (r >>= λ x. Ok x) ≡ r
+pub same_read : {A : Type 0} (r : Result A CertFault) → (r >>= λ x. Ok x) ≡ r
 same_read (Ok x) = refl
 same_read (Err f) = refl
 
@@ -144,7 +144,7 @@ module _ (a : Awaited) (total : ℕ) (bytes : List ℕ) where
 
   no_pair : a.listed ≡ 0 → pairs_left a total bytes ≡ nodes_left a total bytes
   unfolding pairs_left
-  no_pair z = none_first (pair_at a.sizes total) (λ t. Some t) (λ t. parts.Listed t) (nodes_left a total) a.last_pair a.listed bytes z
+  no_pair z = none_first (pair_at a.map_sizes total) (λ t. Some t) (λ t. parts.Listed t) (nodes_left a total) a.last_pair a.listed bytes z
 
   no_node : a.nodes ≡ 0 → nodes_left a total bytes ≡ trees_left a total bytes
   unfolding nodes_left
@@ -214,8 +214,8 @@ module _ (a : Awaited) (total : ℕ) (bytes : List ℕ) where
   unfolding pair_step pairs_left nodes_left trees_left
   pair_tells e t r some =
       at_pairs a total bytes e t r
-      ∙ one_first (pair_at a.sizes total) (λ t. Some t) (λ t. parts.Listed t) (nodes_left a total) a.last_pair a.listed bytes some
-      ∙ step_tells (pair_at a.sizes total a.last_pair bytes) (λ t. parts.Listed t) (λ y. record a { listed = a.listed - 1; last_pair = Some y })
+      ∙ one_first (pair_at a.map_sizes total) (λ t. Some t) (λ t. parts.Listed t) (nodes_left a total) a.last_pair a.listed bytes some
+      ∙ step_tells (pair_at a.map_sizes total a.last_pair bytes) (λ t. parts.Listed t) (λ y. record a { listed = a.listed - 1; last_pair = Some y })
       (λ y rest. pairs_left (record a { listed = a.listed - 1; last_pair = Some y }) total rest) total (λ y rest. at_pairs (record a { listed = a.listed - 1; last_pair = Some y }) total rest e t r)
 
   pub node_tells : a.begun ≡ true → a.triangles ≡ 0 → a.rays ≡ 0 → a.listed ≡ 0 → 0 < a.nodes → left_at a total bytes ≡ told total (node_step a total bytes)

@@ -7,6 +7,7 @@ use Rattle.sight_names.specs.declared.faults.CertFault.{CertFault}
 use Rattle.sight_names.specs.declared.faults.CertFault.TheVariants as faults
 use Rattle.cert_format.specs.Reading.{◌>>=◌, begins_at, passed, number_at}
 use Rattle.cert_format.proofs.FieldLaws.{bind_ok, passed_ok, ok_is}
+use Rattle.cert_groups.proofs.MoreBytes.{place_stays}
 
 -- what is read, when more bytes stand behind
 abbrev pub longer : {X : Type 0} → List ℕ → Result (X × List ℕ) CertFault → Result (X × List ℕ) CertFault
@@ -20,10 +21,6 @@ value v bytes = Ok (v, bytes)
 -- the same where the test holds
 abbrev pub tested : {X : Type 0} → Bool → CertFault → X → List ℕ → Result (X × List ℕ) CertFault
 tested b fault v bytes = passed b fault (v, bytes)
-
--- a fault's place stays
-pub place_stays : (total : ℕ) (bytes more : List ℕ) → begins_at (total + length more) (bytes ++ more) ≡ begins_at total bytes
-place_stays total bytes more = omega (arith, length-append bytes more)
 
 -- A reader gets the place where its record begins, how many bytes there are in all, and those that are left.
 pub record IsWhole {X : Type 0} (p : ℕ → ℕ → List ℕ → Result (X × List ℕ) CertFault) (width : ℕ) : Type 0 where

@@ -26,7 +26,7 @@ nodes_left a total bytes = do
 
 unfoldable pub pairs_left : Awaited → ℕ → List ℕ → Result (List Part) CertFault
 pairs_left a total bytes = do
-  listed ← pairs_at a.sizes total a.last_pair a.listed bytes
+  listed ← pairs_at a.map_sizes total a.last_pair a.listed bytes
   others ← nodes_left a total listed.1
   Ok (map (λ p. parts.Listed p) listed.0 ++ others)
 
@@ -52,6 +52,7 @@ header_at sizes total bytes = do
 abbrev pub all_awaited : Sizes → Counts → Awaited
 all_awaited sizes counts = record {
   sizes = sizes;
+  map_sizes = sizes;
   begun = true;
   triangles = counts.triangles;
   rays = counts.rays;

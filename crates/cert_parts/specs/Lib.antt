@@ -2,3 +2,4 @@ pub mod Parts
 pub mod Left
 pub mod Steps
 pub mod Nodes
+pub mod Beginning

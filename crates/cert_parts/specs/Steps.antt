@@ -1,10 +1,11 @@
 -- One record after the other: the part that comes first, what is awaited behind it, and how many bytes it takes.
-use Rattle.std.specs.Prelude.{ℕ, ◌-◌, List, [], ◌∷◌, Option, Some, None, Result, Ok, Err, Bool, false, nat_lt, not, ◌==◌, ◌&&◌, if◌then◌else◌}
+use Rattle.std.specs.Prelude.{ℕ, ◌-◌, List, [], ◌∷◌, Option, Some, None, Result, Ok, Err, Bool, true, false, nat_lt, not, ◌==◌, ◌&&◌, if◌then◌else◌}
 use Rattle.std.specs.Int.{w64}
 use Rattle.sight_names.specs.declared.faults.CertFault.{CertFault}
 use Rattle.sight_names.specs.declared.faults.CertFault.TheVariants as faults
 use Rattle.cert_format.specs.declared.cert.Sizes.{Sizes}
 use Rattle.cert_format.specs.Reading.{◌>>=◌, begins_at, passed, comes_after, number_at, number_below, triangle_at, ray_at, pair_at, node_at}
+use Rattle.cert_groups.specs.declared.cert.FrontTwo.{FrontTwo}
 use Rattle.cert_parts.specs.declared.awaited.Awaited.{Awaited}
 use Rattle.cert_parts.specs.declared.part.Part.{Part}
 use Rattle.cert_parts.specs.declared.part.Part.TheVariants as parts
@@ -14,11 +15,29 @@ use Rattle.cert_parts.specs.Left.{header_at, all_awaited}
 abbrev pub none_read : Sizes → Awaited
 none_read sizes = record {
   sizes = sizes;
+  map_sizes = sizes;
   begun = false;
   triangles = 0;
   rays = 0;
   listed = 0;
   trees = 0;
+  nodes = 0;
+  last_triangle = None;
+  last_ray = None;
+  last_pair = None;
+  last_source = None;
+}
+
+-- behind the groups of version 2 all records are awaited that the front counts
+abbrev pub two_awaited : Sizes → FrontTwo → Awaited
+two_awaited sizes front = record {
+  sizes = front.sizes;
+  map_sizes = sizes;
+  begun = true;
+  triangles = front.counts.triangles;
+  rays = front.counts.rays;
+  listed = front.counts.listed;
+  trees = front.counts.trees;
   nodes = 0;
   last_triangle = None;
   last_ray = None;
@@ -61,7 +80,7 @@ unfoldable pub ray_step : Awaited → ℕ → List ℕ → FirstRead
 ray_step a total bytes = as_first (ray_at a.sizes total a.last_ray bytes) (λ x. Some (parts.Ray x)) (λ x. record a { rays = a.rays - 1; last_ray = Some x })
 
 unfoldable pub pair_step : Awaited → ℕ → List ℕ → FirstRead
-pair_step a total bytes = as_first (pair_at a.sizes total a.last_pair bytes) (λ x. Some (parts.Listed x)) (λ x. record a { listed = a.listed - 1; last_pair = Some x })
+pair_step a total bytes = as_first (pair_at a.map_sizes total a.last_pair bytes) (λ x. Some (parts.Listed x)) (λ x. record a { listed = a.listed - 1; last_pair = Some x })
 
 unfoldable pub node_step : Awaited → ℕ → List ℕ → FirstRead
 node_step a total bytes = as_first (node_at total bytes) (λ x. Some (parts.Node x)) (λ x. record a { nodes = a.nodes - 1 })

@@ -2,7 +2,7 @@
 
 ghost use Rattle.std.specs.Prelude.{◌≡◌, ◌<◌, ◌++◌, OnErr};
 ghost use Rattle.cert_format.specs.Reading.{GivesExactly};
-ghost use Rattle.cert_parts.specs.Steps.{none_read, is_done, is_in_tree, header_step, triangle_step, ray_step, pair_step, node_step, head_step, first_at, first_width, width_at};
+ghost use Rattle.cert_parts.specs.Steps.{none_read, two_awaited, is_done, is_in_tree, header_step, triangle_step, ray_step, pair_step, node_step, head_step, first_at, first_width, width_at};
 
 use crate::part::Part;
 use crate::records::{head_of, node_of, node_width};
@@ -10,12 +10,15 @@ use cert_format::fields::place;
 use cert_format::reading::{counts_of, front_of};
 use cert_format::records::{listed_of, ray_of, triangle_of};
 use cert_format::{Labelled, Sizes};
+use cert_groups::FrontTwo;
 use sight_names::{CertFault, Pair, PairRay};
 
 /// How many records of each kind are still to come, and the last one of each, which the next has to come behind.
 #[derive(Clone, Copy)]
 pub struct Awaited {
     pub sizes: Sizes,
+    /// The sizes of the map, whose sectors listed pairs are of; those above may have groups in the place of sectors.
+    pub map_sizes: Sizes,
     /// Whether the header was read.
     pub begun: bool,
     pub triangles: u32,
@@ -50,11 +53,32 @@ impl Awaited {
     {
         Awaited {
             sizes,
+            map_sizes: sizes,
             begun: false,
             triangles: 0,
             rays: 0,
             listed: 0,
             trees: 0,
+            nodes: 0,
+            last_triangle: None,
+            last_ray: None,
+            last_pair: None,
+            last_source: None,
+        }
+    }
+
+    /// All records that the front of version 2 counts.
+    pub fn behind_groups(sizes: Sizes, front: &FrontTwo) -> Awaited
+        ensures { result ≡ two_awaited sizes front.now }
+    {
+        Awaited {
+            sizes: front.sizes,
+            map_sizes: sizes,
+            begun: true,
+            triangles: front.counts.triangles,
+            rays: front.counts.rays,
+            listed: front.counts.listed,
+            trees: front.counts.trees,
             nodes: 0,
             last_triangle: None,
             last_ray: None,
@@ -119,6 +143,7 @@ impl Awaited {
         let (counts, rest) = counts_of(total, rest)?;
         *self = Awaited {
             sizes: self.sizes,
+            map_sizes: self.sizes,
             begun: true,
             triangles: counts.triangles,
             rays: counts.rays,
@@ -175,7 +200,7 @@ impl Awaited {
         ensures read { GivesExactly (λ x. ((x.0, self.new), x.1.now)) result (pair_step self.old total bytes.now) }
         ensures err { OnErr result (self.new ≡ self.old) }
     {
-        let (pair, rest) = listed_of(self.sizes, total, self.last_pair, bytes)?;
+        let (pair, rest) = listed_of(self.map_sizes, total, self.last_pair, bytes)?;
         self.listed -= 1;
         self.last_pair = Some(pair);
         Ok((Some(Part::Listed(pair)), rest))

@@ -1,12 +1,15 @@
-//! The parts of a certificate, one by one, from bytes in pieces of any cut. Nothing here takes memory.
+//! The parts of a certificate, one by one, from bytes in pieces of any cut. Nothing here takes memory but the groups of
+//! version 2, which come before the parts.
 #![tactic(auto)]
 
 mod awaited;
+mod beginning;
 mod kept;
 mod part;
 mod reader;
 mod records;
 
+pub use beginning::{Beginning, beginning_of};
 pub use part::Part;
 pub use reader::Reader;
-pub use records::usual_node;
+pub use records::{pass_nodes, usual_node};

@@ -4,11 +4,13 @@ ghost use Rattle.std.specs.Prelude.{◌≡◌, ◌+◌, ◌^◌, ◌<◌, ◌≤
 ghost use Rattle.cert_parts.specs.Parts.{reading_parts};
 ghost use Rattle.cert_parts.specs.Left.{IsCountable, parts_left, put_before};
 ghost use Rattle.cert_parts.specs.Nodes.{AwaitsNodes, behind_nodes};
+ghost use Rattle.cert_parts.specs.Steps.{two_awaited};
 
 use crate::awaited::Awaited;
 use crate::kept::Kept;
 use crate::part::Part;
 use cert_format::Sizes;
+use cert_groups::FrontTwo;
 use sight_names::CertFault;
 use std::marker::Model;
 
@@ -44,6 +46,17 @@ impl Reader {
         Reader {
             awaited: Awaited::new(*sizes),
             given: 0,
+            kept: Kept::new(),
+        }
+    }
+
+    /// Behind the groups of a certificate of version 2 for a map of these sizes, and so many bytes.
+    pub(crate) fn behind_groups(sizes: &Sizes, front: &FrontTwo, given: usize) -> Reader
+        ensures { result ≡ record { awaited = two_awaited sizes.now front.now; given = given; kept = [] } }
+    {
+        Reader {
+            awaited: Awaited::behind_groups(*sizes, front),
+            given,
             kept: Kept::new(),
         }
     }

@@ -1,8 +1,9 @@
 //! The records that a whole certificate has no reader for: a node as a value, and the head of a tree. Both take no
 //! memory.
 
-ghost use Rattle.std.specs.Prelude.{◌≡◌, ◌<◌, ℕ, length, Ok, IfSome};
+ghost use Rattle.std.specs.Prelude.{◌≡◌, ◌<◌, ℕ, length, Ok, IfSome, ⊤};
 ghost use Rattle.cert_format.specs.Reading.{GivesExactly, two_ends_at, three_ends_at, four_ends_at, node_at};
+ghost use Rattle.cert_parts.specs.Nodes.{TakesNodes};
 ghost use Rattle.cert_parts.specs.Steps.{head_at, node_width};
 
 use block_evidence::Evidence;
@@ -97,6 +98,23 @@ pub fn usual_node(bytes: &[u8]) -> Option<(Node, &[u8])>
         [4, rest @ ..] => usual_ends(rest),
         _ => None,
     }
+}
+
+/// Passes over the usual nodes that come first, of so many that are to come: what of the bytes is behind them, and how many
+/// are left.
+pub fn pass_nodes(bytes: &[u8], count: u64) -> (&[u8], u64)
+    ensures { TakesNodes bytes.now count result.0.now result.1 (λ _. ⊤) }
+{
+    let mut rest = bytes;
+    let mut left = count;
+    'rest: while left > 0 {
+        let Some((_, behind)) = usual_node(rest) else {
+            break;
+        };
+        rest = behind;
+        left -= 1;
+    }
+    (rest, left)
 }
 
 /// How many bytes a node takes that begins with this byte; one where no node does.

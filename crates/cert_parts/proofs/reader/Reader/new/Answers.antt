@@ -1,7 +1,7 @@
 use Rattle.std.proofs.Common.{◌<◌, length, List, ℕ, [], refl, sym, subst}
 use Rattle.cert_parts.specs.Steps.{width_at}
 use Rattle.cert_parts.proofs.First.{some_width}
-use Rattle.cert_parts.proofs.Beginning.{from_the_beginning}
+use Rattle.cert_parts.proofs.FromBeginning.{from_the_beginning}
 use Rattle.cert_parts.proofs.reader.Reader.new.Goals as goal
 
 pub invariant_of-result : goal.invariant_of-result
