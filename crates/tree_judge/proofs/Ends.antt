@@ -1,5 +1,5 @@
 -- Ends of the portals on a path, one code after another.
-use Rattle.std.proofs.Common.{◌≡◌, ℕ, ◌+◌, ◌<◌, ◌≤◌, ◌↔◌, List, [], ◌∷◌, ◌++◌, Option, Some, None, length, get_or, map, take, IsTrue, Bool, refl, sym, ◌∙◌, ap, subst, arith}
+use Rattle.std.proofs.Common.{◌≡◌, ℕ, ◌+◌, ◌<◌, ◌≤◌, ◌↔◌, List, [], ◌∷◌, ◌++◌, Option, Some, length, get_or, map, take, IsTrue, Bool, refl, sym, ◌∙◌, ap, subst, arith}
 use Rattle.std.specs.List.{AllByRecursion, filter_map, slice_get}
 use Rattle.std.specs.Prelude.{IsSome}
 use Rattle.std.proofs.Common.{set}
@@ -15,7 +15,7 @@ use Rattle.extreme_lines.proofs.EndsLemmas.{left_end, right_end}
 use Rattle.sight_names.specs.Points.{place}
 use Rattle.half_edges.specs.declared.table.HalfEdge.{HalfEdge}
 use Rattle.tree_judge.specs.declared.trees.Frame.{Frame}
-use Rattle.tree_judge.specs.Path.{portal_ends, path_ends, frame_at, asked_ends, IsEndOf, AreAllStuck, IsClosedBy}
+use Rattle.tree_judge.specs.Path.{portal_ends, path_ends, frame_at, asked_ends, AreStuckEnds, IsClosedBy}
 use Rattle.block_evidence.specs.declared.Evidence.{Evidence}
 use Rattle.block_evidence.specs.Stuck.{AreStuck, Blocks, end_codes}
 use Rattle.sight_tree.proofs.ReadBack.{in_places}
@@ -88,13 +88,9 @@ blocks_four es e a b c d n l fa fb fc fd stuck = record { ends = f.1; stuck = su
     f : (filter_map (end_of es) (end_codes e) ≡ a ∷ b ∷ c ∷ d ∷ []) × AllByRecursion (λ code. IsSome (end_of es code)) (end_codes e)
     f = found_each es (end_codes e) (a ∷ b ∷ c ∷ d ∷ []) ((λ i. fa i ∷ fb i ∷ fc i ∷ fd i ∷ []) ∙ sym (ap (map (end_of es)) all))
 
--- the same where each of them was looked up
-pub blocks_all : (es : List EndPoints) (e : Evidence) (a b c d : Option EndAt) → e.count ≡ 4 → length e.ends ≡ 4 → IsEndOf es (get_or e.ends 0 0) a → IsEndOf es (get_or e.ends 1 0) b → IsEndOf es (get_or e.ends 2 0) c → IsEndOf es (get_or e.ends 3 0) d → AreAllStuck a b c d → Blocks es e
-blocks_all es e a b c d n l fa fb fc fd (w, x, y, z, wa, xb, yc, zd, stuck) = blocks_four es e w x y z n l (found _ a w fa wa) (found _ b x fb xb) (found _ c y fc yc) (found _ d z fd zd) stuck
-  where
-    found : (code : ℕ) (o : Option EndAt) (v : EndAt) → IsEndOf es code o → o ≡ Some v → Some v ≡ end_of es code
-    found code (Some u) v h e = sym (h ∙ e)
-    found code None v h e = absurd (cc)
+-- the same by the codes alone
+pub blocks_ends : (es : List EndPoints) (e : Evidence) → e.count ≡ 4 → length e.ends ≡ 4 → AreStuckEnds es (get_or e.ends 0 0) (get_or e.ends 1 0) (get_or e.ends 2 0) (get_or e.ends 3 0) → Blocks es e
+blocks_ends es e n l (w, x, y, z, fw, fx, fy, fz, stuck) = blocks_four es e w x y z n l (sym fw) (sym fx) (sym fy) (sym fz) stuck
 
 -- ---- the sequence that is asked
 

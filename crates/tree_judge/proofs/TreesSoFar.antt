@@ -1,9 +1,9 @@
 -- A judge of trees that come node by node: what it says of the trees so far when one begins, goes on or ends.
-use Rattle.std.proofs.Common.{◌≡◌, ℕ, ◌+◌, ◌-◌, ◌<◌, ◌^◌, min, ◌⊎◌, inl, inr, List, [], ◌∷◌, ◌++◌, Option, Some, None, length, map, Contains, Bool, true, false, refl, sym, ◌∙◌, ap, subst, arith}
+use Rattle.std.proofs.Common.{◌≡◌, ℕ, ◌+◌, ◌-◌, ◌<◌, ◌^◌, ◌⊎◌, inl, inr, List, [], ◌∷◌, ◌++◌, Option, Some, None, length, map, Contains, Bool, true, false, refl, sym, ◌∙◌, ap, subst, arith}
 use Rattle.std.specs.List.{slice_get}
 use Rattle.std.specs.Option.{is_some, option_to_list}
 use Rattle.std.specs.Prelude.{option_map}
-use Rattle.std.proofs.lemmas.List.{append-nil, take-append-le}
+use Rattle.std.proofs.lemmas.List.{append-nil, append_assoc, length-append, take-append-le}
 use Rattle.std.proofs.lemmas.List.Elements.{Contains-append_left, Contains-push, Contains-push_cases}
 use Rattle.std.proofs.lemmas.Option.{slice_get_within, get_or_from_slice_get, same_Some}
 use Rattle.sight_names.specs.declared.names.Triangle.{Triangle}
@@ -20,7 +20,7 @@ use Rattle.tree_judge.specs.Heard.{IsTreeCounted, AreTreesCounted, AreNoted, IsU
 use Rattle.tree_judge.specs.Marks.{IsMarked, Marks, HasNoMark}
 use Rattle.tree_judge.specs.Path.{Pending, root_pending}
 use Rattle.tree_judge.specs.Roots.{first_at, root_edges, AreRoots}
-use Rattle.tree_judge.specs.Walked.{begun, with_node, IsWalked}
+use Rattle.tree_judge.specs.Walked.{begun, with_nodes, IsWalked}
 use Rattle.tree_judge.specs.Whole.{Answers, AreAnswered, IsFirstWrong, Notes, IsFirstWrongFrom, IsFirstWrongTree, IsWholeFrom, IsWholeOver, HasTreeAway, HasTreeInto, HasNoBit}
 
 -- ---- trees that can be counted
@@ -31,12 +31,12 @@ counted_front n front t all u there = all u (Contains-append_left front (t ∷ [
 pub counted_last : (n : ℕ) (front : List Tree) (t : Tree) → AreTreesCounted n (front ++ t ∷ []) → IsTreeCounted n t
 counted_last n front t all = all t (Contains-push front t)
 
--- a node fewer
-pub counted_less : (n : ℕ) (front : List Tree) (k : Node) (o : Option Tree) → AreTreesCounted n (front ++ option_to_list (option_map (with_node k) o)) → AreTreesCounted n (front ++ option_to_list o)
-counted_less n front k None all u there = all u there
-counted_less n front k (Some t) all u there = elim (Contains-push_cases front t u there) as (λ _. IsTreeCounted n u) [
-  | inl h ↦ counted_front n front (with_node k t) all u h
-  | inr e ↦ subst (IsTreeCounted n) e (record { source = (counted_last n front (with_node k t) all).source; nodes = let h : length (t.nodes ++ k ∷ []) ≡ length t.nodes + 1 = length_pushed t.nodes k in let l : length (t.nodes ++ k ∷ []) < 2 ^ 64 = (counted_last n front (with_node k t) all).nodes in omega (arith, h, l) })
+-- fewer nodes
+pub counted_less : (n : ℕ) (front : List Tree) (ks : List Node) (o : Option Tree) → AreTreesCounted n (front ++ option_to_list (option_map (with_nodes ks) o)) → AreTreesCounted n (front ++ option_to_list o)
+counted_less n front ks None all u there = all u there
+counted_less n front ks (Some t) all u there = elim (Contains-push_cases front t u there) as (λ _. IsTreeCounted n u) [
+  | inl h ↦ counted_front n front (with_nodes ks t) all u h
+  | inr e ↦ subst (IsTreeCounted n) e (record { source = (counted_last n front (with_nodes ks t) all).source; nodes = let h : length (t.nodes ++ ks) ≡ length t.nodes + length ks = length-append t.nodes ks in let l : length (t.nodes ++ ks) < 2 ^ 64 = (counted_last n front (with_nodes ks t) all).nodes in omega (arith, h, l) })
 ]
 
 pub counted_ended : (n : ℕ) (front : List Tree) (o : Option Tree) → AreTreesCounted n ((front ++ option_to_list o) ++ []) → AreTreesCounted n (front ++ option_to_list o)
@@ -61,6 +61,12 @@ still_first xs source ps ns n k l w = record {
     there : (x : Node) → (slice_get ns k ≡ Some x) ⊎ ((k ≡ length ns) × (n ≡ x)) → (qs : List Pending) (here : List ℕ) → ¬ Answers xs source w.left x qs here
     there x (inl e) qs here answer = w.wrong x e qs here answer
     there x (inr h) qs here answer = let e : k ≡ length ns = h.0 in omega (arith, e, l)
+
+pub still_first_of : (xs : List HalfEdge) (source : ℕ) (ps : List Pending) (ns more : List Node) (k : ℕ) → k < length ns → IsFirstWrong xs source ps ns k → IsFirstWrong xs source ps (ns ++ more) k
+still_first_of xs source ps ns [] k l w = subst (λ (us : List Node). IsFirstWrong xs source ps us k) (sym (append-nil ns)) w
+still_first_of xs source ps ns (n ∷ more) k l w =
+    let long : length (ns ++ n ∷ []) ≡ length ns + 1 = length_pushed ns n in
+    subst (λ (us : List Node). IsFirstWrong xs source ps us k) (append_assoc ns (n ∷ []) more) (still_first_of xs source ps (ns ++ n ∷ []) more k (omega (arith, long, l)) (still_first xs source ps ns n k l w))
 
 module _ (m : Map) (ts : List Triangle) (xs : List HalfEdge) where
   -- whatever tree comes behind it
@@ -98,13 +104,13 @@ module _ (m : Map) (ts : List Triangle) (xs : List HalfEdge) where
   pub open_is_first : (front : List Tree) (o : Option Tree) (s k : ℕ) → IsOpenWrong m ts xs front o s k → IsFirstWrongTree m ts xs (front ++ option_to_list o) s k
   open_is_first front o s k w = subst (λ (p : Option Tree). IsFirstWrongTree m ts xs (front ++ option_to_list p) s k) (sym w.is) (subst (λ (a : ℕ). IsFirstWrongTree m ts xs (front ++ w.tree ∷ []) a k) w.of (last_is_first front w.tree k w.before w.wrong))
 
-  pub wrong_with_node : (front : List Tree) (o : Option Tree) (n : Node) (s k : ℕ) → IsOpenWrong m ts xs front o s k → IsOpenWrong m ts xs front (option_map (with_node n) o) s k
-  wrong_with_node front o n s k w = record {
-    tree = with_node n w.tree;
-    is = ap (option_map (with_node n)) w.is;
+  pub wrong_with_nodes : (front : List Tree) (o : Option Tree) (ns : List Node) (s k : ℕ) → IsOpenWrong m ts xs front o s k → IsOpenWrong m ts xs front (option_map (with_nodes ns) o) s k
+  wrong_with_nodes front o ns s k w = record {
+    tree = with_nodes ns w.tree;
+    is = ap (option_map (with_nodes ns)) w.is;
     of = w.of;
-    there = let h : length (w.tree.nodes ++ n ∷ []) ≡ length w.tree.nodes + 1 = length_pushed w.tree.nodes n in omega (arith, h, w.there);
-    wrong = still_first xs w.tree.source (map root_pending (root_edges ts xs m w.tree.source)) w.tree.nodes n k w.there w.wrong;
+    there = let h : length (w.tree.nodes ++ ns) ≡ length w.tree.nodes + length ns = length-append w.tree.nodes ns in omega (arith, h, w.there);
+    wrong = still_first_of xs w.tree.source (map root_pending (root_edges ts xs m w.tree.source)) w.tree.nodes ns k w.there w.wrong;
     before = w.before;
   }
 
@@ -192,11 +198,14 @@ module _ (m : Map) (ts : List Triangle) (xs : List HalfEdge) where
   stays_ended front None j None ended h = (h.0, subst (λ (us : List Tree). AreNoted m ts xs us j.walked.items j.reached) (sym (append-nil front)) h.1)
   stays_ended front (Some t) j None ended h = absurd (let e : j.under_way ≡ true = h.going in cc)
 
-  -- nothing was under way, and a node comes
-  pub stays_with_node : (front : List Tree) (o : Option Tree) (n : Node) (j : TreeJudge) (w : Option (ℕ × ℕ)) → j.under_way ≡ false → IsJudged m ts xs front o j w → IsJudged m ts xs front (option_map (with_node n) o) j w
-  stays_with_node front o n j (Some w) ended h = (h.0, elim h.1 as (λ _. IsFirstWrongTree m ts xs front w.0 w.1 ⊎ IsOpenWrong m ts xs front (option_map (with_node n) o) w.0 w.1) [ inl f ↦ inl f | inr f ↦ inr (wrong_with_node front o n w.0 w.1 f) ])
-  stays_with_node front None n j None ended h = h
-  stays_with_node front (Some t) n j None ended h = absurd (let e : j.under_way ≡ true = h.going in cc)
+  -- nothing was under way, and nodes come
+  stays_judged : (front : List Tree) (o : Option Tree) (ns : List Node) (j : TreeJudge) (w : Option (ℕ × ℕ)) → j.under_way ≡ false → IsJudged m ts xs front o j w → IsJudged m ts xs front (option_map (with_nodes ns) o) j w
+  stays_judged front o ns j (Some w) ended h = (h.0, elim h.1 as (λ _. IsFirstWrongTree m ts xs front w.0 w.1 ⊎ IsOpenWrong m ts xs front (option_map (with_nodes ns) o) w.0 w.1) [ inl f ↦ inl f | inr f ↦ inr (wrong_with_nodes front o ns w.0 w.1 f) ])
+  stays_judged front None ns j None ended h = h
+  stays_judged front (Some t) ns j None ended h = absurd (let e : j.under_way ≡ true = h.going in cc)
+
+  pub stays_with_nodes : (front : List Tree) (o : Option Tree) (ns : List Node) (j : TreeJudge) → j.under_way ≡ false → HasHeardTrees m ts xs front o j → HasHeardTrees m ts xs front (option_map (with_nodes ns) o) j
+  stays_with_nodes front o ns j ended h = record { roots = h.roots; judged = λ all. stays_judged front o ns j j.wrong ended (h.judged (counted_less m.sectors front ns o all)) }
 
   -- nothing was under way, and a tree begins behind a wrong one
   pub begins_behind_wrong : (front : List Tree) (t : Tree) (j : TreeJudge) (w : ℕ × ℕ) → IsJudged m ts xs front None j (Some w) → IsJudged m ts xs front (Some t) j (Some w)
@@ -216,29 +225,29 @@ module _ (m : Map) (ts : List Triangle) (xs : List HalfEdge) where
   ends_wrong front t j source number are low u wrong e f = subst (λ (s : ℕ). IsFirstWrongTree m ts xs (front ++ t ∷ []) s number) (sym (e ∙ u.walked.source_is)) (subst (IsFirstWrongTree m ts xs (front ++ t ∷ []) t.source) (sym (f ∙ u.number))
       (last_is_first front t (length t.nodes) u.noted.over.each ((wrong u.begun u.walked).wrong (root_edges ts xs m t.source) (are.chains t.source low))))
 
-  -- the next node of the open tree is wrong
-  pub hears_wrong : (front : List Tree) (t : Tree) (n : Node) (j : TreeJudge) (source number : ℕ) → AreRoots m ts xs j.roots.roots.items j.roots.first.items → t.source < m.sectors → IsUnderWay m ts xs front t j
-      → ((old : TableParts) → IsWalked xs j.roots.roots.items j.roots.first.items t old j.reached j.walk → IsFirstWrongFrom xs j.roots.roots.items (first_at j.roots.first.items t.source) (with_node n t) (length t.nodes))
-      → source ≡ j.walk.source → number ≡ j.number → IsOpenWrong m ts xs front (Some (with_node n t)) source number
-  hears_wrong front t n j source number are low u wrong e f = record {
-    tree = with_node n t;
+  -- the last of the next nodes of the open tree is wrong
+  pub hears_wrong : (front : List Tree) (t : Tree) (ns : List Node) (j : TreeJudge) (source number : ℕ) → AreRoots m ts xs j.roots.roots.items j.roots.first.items → t.source < m.sectors → IsUnderWay m ts xs front t j → 0 < length ns
+      → ((old : TableParts) → IsWalked xs j.roots.roots.items j.roots.first.items t old j.reached j.walk → IsFirstWrongFrom xs j.roots.roots.items (first_at j.roots.first.items t.source) (with_nodes ns t) (length t.nodes + length ns - 1))
+      → source ≡ j.walk.source → number ≡ length t.nodes + length ns - 1 → IsOpenWrong m ts xs front (Some (with_nodes ns t)) source number
+  hears_wrong front t ns j source number are low u some wrong e f = record {
+    tree = with_nodes ns t;
     is = refl;
     of = sym (e ∙ u.walked.source_is);
-    there = let h : length (t.nodes ++ n ∷ []) ≡ length t.nodes + 1 = length_pushed t.nodes n in omega (arith, h, f, u.number);
-    wrong = subst (IsFirstWrong xs t.source (map root_pending (root_edges ts xs m t.source)) (t.nodes ++ n ∷ [])) (sym (f ∙ u.number)) ((wrong u.begun u.walked).wrong (root_edges ts xs m t.source) (are.chains t.source low));
+    there = let h : length (t.nodes ++ ns) ≡ length t.nodes + length ns = length-append t.nodes ns in omega (arith, h, f, some);
+    wrong = subst (IsFirstWrong xs t.source (map root_pending (root_edges ts xs m t.source)) (t.nodes ++ ns)) (sym f) ((wrong u.begun u.walked).wrong (root_edges ts xs m t.source) (are.chains t.source low));
     before = u.noted.over.each;
   }
 
-  -- it answers
-  pub hears_right : (front : List Tree) (t : Tree) (n : Node) (j k : TreeJudge) → IsUnderWay m ts xs front t j → k.under_way ≡ true → k.walked.items ≡ j.walked.items
-      → ((old : TableParts) → IsWalked xs j.roots.roots.items j.roots.first.items t old j.reached j.walk → IsWalked xs k.roots.roots.items k.roots.first.items (with_node n t) old k.reached k.walk)
-      → k.number ≡ min (j.number + 1) (2 ^ 64 - 1) → length (t.nodes ++ n ∷ []) < 2 ^ 64 → IsUnderWay m ts xs front (with_node n t) k
-  hears_right front t n j k u going marks walked count few = record {
+  -- all of them answer
+  pub hears_right : (front : List Tree) (t : Tree) (ns : List Node) (j k : TreeJudge) → IsUnderWay m ts xs front t j → k.under_way ≡ true → k.walked.items ≡ j.walked.items
+      → ((old : TableParts) → IsWalked xs j.roots.roots.items j.roots.first.items t old j.reached j.walk → IsWalked xs k.roots.roots.items k.roots.first.items (with_nodes ns t) old k.reached k.walk)
+      → k.number ≡ length (t.nodes ++ ns) → IsUnderWay m ts xs front (with_nodes ns t) k
+  hears_right front t ns j k u going marks walked count = record {
     going = going;
     begun = u.begun;
     noted = subst (λ (ws : List Bool). AreNoted m ts xs front ws u.begun) (sym marks) u.noted;
     walked = walked u.begun u.walked;
-    number = let h : length (t.nodes ++ n ∷ []) ≡ length t.nodes + 1 = length_pushed t.nodes n in omega (arith, count, u.number, h, few);
+    number = count;
   }
 
   -- a tree begins, where a tree that has ended was wrong
@@ -294,34 +303,46 @@ module _ (m : Map) (ts : List Triangle) (xs : List HalfEdge) where
           first : IsFirstWrongTree m ts xs (front ++ option_to_list o) source number
           first = subst (λ (p : Option Tree). IsFirstWrongTree m ts xs (front ++ option_to_list p) source number) (sym is) (ends_wrong front t j source number h.roots counted.source u (wrong t) e f)
 
-  -- the next node answers
-  pub hear_right : (front : List Tree) (o : Option Tree) (n : Node) (j k : TreeJudge) → HasHeardTrees m ts xs front o j → j.under_way ≡ true
-      → ((t : Tree) (old : TableParts) → IsWalked xs j.roots.roots.items j.roots.first.items t old j.reached j.walk → IsWalked xs j.roots.roots.items j.roots.first.items (with_node n t) old k.reached k.walk)
-      → k.number ≡ min (j.number + 1) (2 ^ 64 - 1) → k.roots ≡ j.roots → k.walked.items ≡ j.walked.items → k.under_way ≡ true → k.wrong ≡ j.wrong → HasHeardTrees m ts xs front (option_map (with_node n) o) k
-  hear_right front o n j k h going walked count same_roots marks goes same_wrong = record {
+  -- the next nodes answer
+  pub hear_right : (front : List Tree) (o : Option Tree) (ns : List Node) (j k : TreeJudge) → HasHeardTrees m ts xs front o j → j.under_way ≡ true
+      → ((t : Tree) (old : TableParts) → IsWalked xs j.roots.roots.items j.roots.first.items t old j.reached j.walk → IsWalked xs j.roots.roots.items j.roots.first.items (with_nodes ns t) old k.reached k.walk)
+      → ((n : ℕ) → j.number ≡ n → n + length ns < 2 ^ 64 → k.number ≡ n + length ns) → k.roots ≡ j.roots → k.walked.items ≡ j.walked.items → k.under_way ≡ true → k.wrong ≡ j.wrong → HasHeardTrees m ts xs front (option_map (with_nodes ns) o) k
+  hear_right front o ns j k h going walked count same_roots marks goes same_wrong = record {
     roots = subst (λ (r : Roots). AreRoots m ts xs r.roots.items r.first.items) (sym same_roots) h.roots;
-    judged = λ all. go all (under_way_now front o j h going (counted_less m.sectors front n o all));
+    judged = λ all. go all (under_way_now front o j h going (counted_less m.sectors front ns o all));
   }
     where
-      go : AreTreesCounted m.sectors (front ++ option_to_list (option_map (with_node n) o)) → (t : Tree) × (o ≡ Some t) × (j.wrong ≡ None) × IsUnderWay m ts xs front t j × IsTreeCounted m.sectors t → IsJudged m ts xs front (option_map (with_node n) o) k k.wrong
-      go all (t, is, none, u, counted) = subst (λ (p : Option Tree). IsJudged m ts xs front (option_map (with_node n) p) k k.wrong) (sym is) (judged_under_way front (with_node n t) k k.wrong (same_wrong ∙ none)
-          (hears_right front t n j k u goes marks (λ old w. subst (λ (r : Roots). IsWalked xs r.roots.items r.first.items (with_node n t) old k.reached k.walk) (sym same_roots) (walked t old w)) count few))
+      go : AreTreesCounted m.sectors (front ++ option_to_list (option_map (with_nodes ns) o)) → (t : Tree) × (o ≡ Some t) × (j.wrong ≡ None) × IsUnderWay m ts xs front t j × IsTreeCounted m.sectors t → IsJudged m ts xs front (option_map (with_nodes ns) o) k k.wrong
+      go all (t, is, none, u, counted) = subst (λ (p : Option Tree). IsJudged m ts xs front (option_map (with_nodes ns) p) k k.wrong) (sym is) (judged_under_way front (with_nodes ns t) k k.wrong (same_wrong ∙ none)
+          (hears_right front t ns j k u goes marks (λ old w. subst (λ (r : Roots). IsWalked xs r.roots.items r.first.items (with_nodes ns t) old k.reached k.walk) (sym same_roots) (walked t old w)) number))
         where
-          few : length (t.nodes ++ n ∷ []) < 2 ^ 64
-          few = (counted_last m.sectors front (with_node n t) (subst (λ (p : Option Tree). AreTreesCounted m.sectors (front ++ option_to_list (option_map (with_node n) p))) is all)).nodes
+          long : length (t.nodes ++ ns) ≡ length t.nodes + length ns
+          long = length-append t.nodes ns
 
-  -- it doesn't
-  pub hear_wrong : (front : List Tree) (o : Option Tree) (n : Node) (j k : TreeJudge) (source number : ℕ) → HasHeardTrees m ts xs front o j → j.under_way ≡ true
-      → ((t : Tree) (old : TableParts) → IsWalked xs j.roots.roots.items j.roots.first.items t old j.reached j.walk → IsFirstWrongFrom xs j.roots.roots.items (first_at j.roots.first.items t.source) (with_node n t) (length t.nodes))
-      → source ≡ j.walk.source → number ≡ j.number → k.roots ≡ j.roots → k.under_way ≡ false → k.wrong ≡ Some (source, number) → HasHeardTrees m ts xs front (option_map (with_node n) o) k
-  hear_wrong front o n j k source number h going wrong e f same_roots ended is_wrong = record {
+          few : length (t.nodes ++ ns) < 2 ^ 64
+          few = (counted_last m.sectors front (with_nodes ns t) (subst (λ (p : Option Tree). AreTreesCounted m.sectors (front ++ option_to_list (option_map (with_nodes ns) p))) is all)).nodes
+
+          number : k.number ≡ length (t.nodes ++ ns)
+          number = count (length t.nodes) u.number (omega (arith, long, few)) ∙ sym long
+
+  -- the last of them doesn't
+  pub hear_wrong : (front : List Tree) (o : Option Tree) (ns : List Node) (j k : TreeJudge) (source number : ℕ) → HasHeardTrees m ts xs front o j → j.under_way ≡ true → 0 < length ns
+      → ((t : Tree) (old : TableParts) → IsWalked xs j.roots.roots.items j.roots.first.items t old j.reached j.walk → IsFirstWrongFrom xs j.roots.roots.items (first_at j.roots.first.items t.source) (with_nodes ns t) (length t.nodes + length ns - 1))
+      → source ≡ j.walk.source → ((n : ℕ) → j.number ≡ n → n + length ns < 2 ^ 64 → number ≡ n + length ns - 1) → k.roots ≡ j.roots → k.under_way ≡ false → k.wrong ≡ Some (source, number) → HasHeardTrees m ts xs front (option_map (with_nodes ns) o) k
+  hear_wrong front o ns j k source number h going some wrong e f same_roots ended is_wrong = record {
     roots = subst (λ (r : Roots). AreRoots m ts xs r.roots.items r.first.items) (sym same_roots) h.roots;
-    judged = λ all. go (under_way_now front o j h going (counted_less m.sectors front n o all));
+    judged = λ all. go all (under_way_now front o j h going (counted_less m.sectors front ns o all));
   }
     where
-      go : (t : Tree) × (o ≡ Some t) × (j.wrong ≡ None) × IsUnderWay m ts xs front t j × IsTreeCounted m.sectors t → IsJudged m ts xs front (option_map (with_node n) o) k k.wrong
-      go (t, is, none, u, counted) = subst (λ (w : Option (ℕ × ℕ)). IsJudged m ts xs front (option_map (with_node n) o) k w) (sym is_wrong)
-          (ended, inr (subst (λ (p : Option Tree). IsOpenWrong m ts xs front (option_map (with_node n) p) source number) (sym is) (hears_wrong front t n j source number h.roots counted.source u (wrong t) e f)))
+      go : AreTreesCounted m.sectors (front ++ option_to_list (option_map (with_nodes ns) o)) → (t : Tree) × (o ≡ Some t) × (j.wrong ≡ None) × IsUnderWay m ts xs front t j × IsTreeCounted m.sectors t → IsJudged m ts xs front (option_map (with_nodes ns) o) k k.wrong
+      go all (t, is, none, u, counted) = subst (λ (w : Option (ℕ × ℕ)). IsJudged m ts xs front (option_map (with_nodes ns) o) k w) (sym is_wrong)
+          (ended, inr (subst (λ (p : Option Tree). IsOpenWrong m ts xs front (option_map (with_nodes ns) p) source number) (sym is) (hears_wrong front t ns j source number h.roots counted.source u some (wrong t) e (f (length t.nodes) u.number few))))
+        where
+          few : length t.nodes + length ns < 2 ^ 64
+          few =
+              let long : length (t.nodes ++ ns) ≡ length t.nodes + length ns = length-append t.nodes ns in
+              let all_few : length (t.nodes ++ ns) < 2 ^ 64 = (counted_last m.sectors front (with_nodes ns t) (subst (λ (p : Option Tree). AreTreesCounted m.sectors (front ++ option_to_list (option_map (with_nodes ns) p))) is all)).nodes in
+              omega (arith, long, all_few)
 
   -- a tree begins behind trees none of which is wrong
   pub begin_right : (front : List Tree) (source : ℕ) (j k : TreeJudge) → HasHeardTrees m ts xs front None j → j.wrong ≡ None

@@ -1,6 +1,6 @@
 -- A walk whose nodes come one by one: what it says of the nodes so far, and of the next one.
-use Rattle.std.proofs.Common.{◌≡◌, ℕ, ◌+◌, ◌<◌, ◌≤◌, List, [], ◌∷◌, ◌++◌, Option, Some, None, length, map, take, refl, sym, ◌∙◌, ap, subst, arith}
-use Rattle.std.proofs.lemmas.List.{append-nil, length_push}
+use Rattle.std.proofs.Common.{◌≡◌, ℕ, ◌+◌, ◌-◌, ◌<◌, ◌≤◌, List, [], ◌∷◌, ◌++◌, Option, Some, None, length, map, take, Bool, true, false, not, IsTrue, refl, sym, ◌∙◌, ap, subst, arith}
+use Rattle.std.proofs.lemmas.List.{append-nil, append_assoc, length-append, length_push}
 use Rattle.sight_tree.specs.declared.Node.{Node}
 use Rattle.sight_tree.specs.declared.Tree.{Tree}
 use Rattle.reject_bits.specs.Parts.{TableParts}
@@ -11,7 +11,7 @@ use Rattle.tree_judge.specs.declared.trees.Follow.{Follow}
 use Rattle.tree_judge.specs.Roots.{first_at}
 use Rattle.tree_judge.specs.Path.{path_ends, Pending, pending_way, pending_ways, root_pending}
 use Rattle.tree_judge.specs.Whole.{AreAnswered, Notes, IsAt, HasAnswered, HasRefused, StandsBefore, IsWholeFrom, IsFirstWrongFrom}
-use Rattle.tree_judge.specs.Walked.{with_node, IsWalkedAt}
+use Rattle.tree_judge.specs.Walked.{with_node, with_nodes, IsWalkedAt, FollowsAt}
 use Rattle.tree_judge.proofs.Noting.{notes_none}
 use Rattle.tree_judge.proofs.Answering.{IsFollowed, follows_more, wrong_node, missing_node, all_answered}
 
@@ -77,3 +77,37 @@ module _ (xs : List HalfEdge) (roots : List Root) (firsts : List (Option ℕ)) (
 
   pub walk_is_not_done : (new : TableParts) (source place : ℕ) (path : List Frame) (f : Follow) → IsWalkedAt xs roots firsts t old new source path f → f.asked ≡ Some place → IsFirstWrongFrom xs roots first t (length t.nodes)
   walk_is_not_done new source place path f w some = record { wrong = missing_node xs roots first t.source t.nodes old [] (length t.nodes) place path f new refl (at_end new source path f w) some }
+
+-- ---- nodes one behind the other
+
+with_none : (t : Tree) → with_nodes [] t ≡ t
+with_none t = ap (λ (ns : List Node). let u : Tree = record { source = t.source; nodes = ns } in u) (append-nil t.nodes)
+
+with_more : (t : Tree) (ns : List Node) (n : Node) → with_node n (with_nodes ns t) ≡ with_nodes (ns ++ n ∷ []) t
+with_more t ns n = ap (λ (us : List Node). let u : Tree = record { source = t.source; nodes = us } in u) (append_assoc t.nodes ns (n ∷ []))
+
+module _ (xs : List HalfEdge) (roots : List Root) (firsts : List (Option ℕ)) (source : ℕ) (path : List Frame) (f : Follow) (old : TableParts) where
+  -- before the first of them
+  pub follows_none : FollowsAt xs roots firsts source path f old path f old false []
+  follows_none = record { on = λ _ t begun w. subst (λ (u : Tree). IsWalkedAt xs roots firsts u begun old source path f) (sym (with_none t)) w; some = λ e. absurd (cc); refused = λ e. absurd (cc) }
+
+  -- the next one answers, or it doesn't
+  pub follows_next : (ns : List Node) (n : Node) (path_now path_new : List Frame) (f_now f_new : Follow) (new more : TableParts) (wrong yes : Bool) → wrong ≡ false → FollowsAt xs roots firsts source path f old path_now f_now new wrong ns
+      → f_now.depth < length path_now → length path_new ≡ length path_now → f_new.depth ≤ f_now.depth + 1 → (IsTrue yes → HasAnswered xs roots source n path_now f_now new path_new f_new more) → (yes ≡ false → f_now.depth < length path_now → HasRefused xs roots source n path_now f_now)
+      → FollowsAt xs roots firsts source path f old path_new f_new more (not yes) (ns ++ n ∷ [])
+  follows_next ns n path_now path_new f_now f_new new more wrong true so_far w room same d answered refused = record {
+    on = λ _ t begun v. subst (λ (u : Tree). IsWalkedAt xs roots firsts u begun more source path_new f_new) (with_more t ns n)
+        (walk_goes_on xs roots firsts (with_nodes ns t) begun n new more source path_now path_now path_new f_now f_new (w.on so_far t begun v) (λ _. refl) (λ _. room) same d (λ e. subst (λ (s : ℕ). HasAnswered xs roots s n path_now f_now new path_new f_new more) e (answered refl)));
+    some = λ e. absurd (cc);
+    refused = λ e. absurd (cc);
+  }
+  follows_next ns n path_now path_new f_now f_new new more wrong false so_far w room same d answered refused = record {
+    on = λ e. absurd (cc);
+    some = λ _. let h : length (ns ++ n ∷ []) ≡ length ns + 1 = length_push ns n in omega (arith, h);
+    refused = λ _ t begun v.
+        let h : length (ns ++ n ∷ []) ≡ length ns + 1 = length_push ns n in
+        let k : length (t.nodes ++ ns) ≡ length t.nodes + length ns = length-append t.nodes ns in
+        let at : length (t.nodes ++ ns) ≡ length t.nodes + length (ns ++ n ∷ []) - 1 = omega (arith, h, k) in
+        subst (IsFirstWrongFrom xs roots (first_at firsts t.source) (with_nodes (ns ++ n ∷ []) t)) at (subst (λ (u : Tree). IsFirstWrongFrom xs roots (first_at firsts t.source) u (length (t.nodes ++ ns))) (with_more t ns n)
+        (walk_refuses xs roots firsts (with_nodes ns t) begun n new source path_now path_now f_now (w.on so_far t begun v) (λ _. refl) (λ e. subst (λ (s : ℕ). HasRefused xs roots s n path_now f_now) e (refused refl room))));
+  }

@@ -30,9 +30,9 @@ asked_ends path depth x = path_ends (take depth path) ++ portal_ends (frame_at x
 abbrev pub IsEndOf : List EndPoints → ℕ → Option EndAt → Type 0
 IsEndOf es code found = IfSome found (λ e. end_of es code ≡ Some e)
 
--- all four are ends, and stuck
-abbrev pub AreAllStuck : Option EndAt → Option EndAt → Option EndAt → Option EndAt → Type 0
-AreAllStuck a b c d = (w x y z : EndAt) × (a ≡ Some w) × (b ≡ Some x) × (c ≡ Some y) × (d ≡ Some z) × AreStuck (w ∷ x ∷ y ∷ z ∷ [])
+-- these are the codes of four ends, and the ends are stuck
+abbrev pub AreStuckEnds : List EndPoints → ℕ → ℕ → ℕ → ℕ → Type 0
+AreStuckEnds es a b c d = (w x y z : EndAt) × (end_of es a ≡ Some w) × (end_of es b ≡ Some x) × (end_of es c ≡ Some y) × (end_of es d ≡ Some z) × AreStuck (w ∷ x ∷ y ∷ z ∷ [])
 
 -- the ends are ends of the sequence that goes through the half-edge at this place behind the first portals of the path, and stuck
 pub record IsClosedBy (xs : List HalfEdge) (path : List Frame) (depth place : ℕ) (e : Evidence) : Type 0 where

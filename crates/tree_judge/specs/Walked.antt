@@ -1,5 +1,5 @@
 -- A tree as far as its nodes have come, and a walk that all of them have answered for.
-use Rattle.std.specs.Prelude.{◌≡◌, ℕ, ◌≤◌, List, [], ◌∷◌, ◌++◌, Option, map, length}
+use Rattle.std.specs.Prelude.{◌≡◌, ℕ, ◌+◌, ◌-◌, ◌<◌, ◌≤◌, List, [], ◌∷◌, ◌++◌, Option, map, length, Bool, true, false}
 use Rattle.sight_tree.specs.declared.Node.{Node}
 use Rattle.sight_tree.specs.declared.Tree.{Tree}
 use Rattle.reject_bits.specs.Parts.{TableParts}
@@ -10,7 +10,7 @@ use Rattle.tree_judge.specs.declared.trees.Follow.{Follow}
 use Rattle.tree_judge.specs.declared.walk.TreeWalk.{TreeWalk}
 use Rattle.tree_judge.specs.Roots.{first_at}
 use Rattle.tree_judge.specs.Path.{Pending, IsChain, root_pending}
-use Rattle.tree_judge.specs.Whole.{AreAnswered, Notes, IsAt}
+use Rattle.tree_judge.specs.Whole.{AreAnswered, Notes, IsAt, IsFirstWrongFrom}
 
 -- a tree of which no node has come
 abbrev pub begun : ℕ → Tree
@@ -19,6 +19,10 @@ begun source = record { source = source; nodes = [] }
 -- one node more
 abbrev pub with_node : Node → Tree → Tree
 with_node n t = record { source = t.source; nodes = t.nodes ++ n ∷ [] }
+
+-- these nodes more
+abbrev pub with_nodes : List Node → Tree → Tree
+with_nodes ns t = record { source = t.source; nodes = t.nodes ++ ns }
 
 -- all nodes that have come have answered, the walk stands behind them, and what they enter is noted
 pub record IsWalkedAt (xs : List HalfEdge) (roots : List Root) (firsts : List (Option ℕ)) (t : Tree) (old new : TableParts) (source : ℕ) (path : List Frame) (f : Follow) : Type 0 where
@@ -29,3 +33,15 @@ pub record IsWalkedAt (xs : List HalfEdge) (roots : List Root) (firsts : List (O
 
 abbrev pub IsWalked : List HalfEdge → List Root → List (Option ℕ) → Tree → TableParts → TableParts → TreeWalk → Type 0
 IsWalked xs roots firsts t old new w = IsWalkedAt xs roots firsts t old new w.source w.path.items w.follow
+
+-- ---- a walk that is asked for nodes one behind the other
+
+-- Whatever tree the walk has followed: it has followed the tree with these nodes too, and what they enter is noted; or the
+-- last of them is the first wrong node of that tree.
+pub record FollowsAt (xs : List HalfEdge) (roots : List Root) (firsts : List (Option ℕ)) (source : ℕ) (path : List Frame) (f : Follow) (old : TableParts) (path_new : List Frame) (f_new : Follow) (new : TableParts) (wrong : Bool) (ns : List Node) : Type 0 where
+  pub on : wrong ≡ false → (t : Tree) (begun : TableParts) → IsWalkedAt xs roots firsts t begun old source path f → IsWalkedAt xs roots firsts (with_nodes ns t) begun new source path_new f_new
+  pub some : wrong ≡ true → 0 < length ns
+  pub refused : wrong ≡ true → (t : Tree) (begun : TableParts) → IsWalkedAt xs roots firsts t begun old source path f → IsFirstWrongFrom xs roots (first_at firsts t.source) (with_nodes ns t) (length t.nodes + length ns - 1)
+
+abbrev pub Follows : List HalfEdge → List Root → List (Option ℕ) → TreeWalk → TableParts → TreeWalk → TableParts → Bool → List Node → Type 0
+Follows xs roots firsts w old w_new new wrong ns = (w_new.source ≡ w.source) × FollowsAt xs roots firsts w.source w.path.items w.follow old w_new.path.items w_new.follow new wrong ns

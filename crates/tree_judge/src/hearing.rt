@@ -10,13 +10,15 @@ ghost use Rattle.cert_format.specs.Parts.{CertParts};
 ghost use Rattle.half_edges.specs.declared.table.HalfEdge.{HalfEdge as EdgeOf};
 ghost use Rattle.tree_judge.specs.Heard.{HasHeardTrees, IsJudgeable};
 ghost use Rattle.tree_judge.specs.Trees.{TellsTrees};
-ghost use Rattle.tree_judge.specs.Walked.{begun, with_node};
+ghost use Rattle.cert_parts.specs.Nodes.{TakesNodes};
+ghost use Rattle.tree_judge.specs.Walked.{begun, with_node, with_nodes};
 
 use crate::judge::{Reach, TreeVerdict, unmarked, unreached};
 use crate::marks::mark;
 use crate::roots::Roots;
 use crate::trees::Terrain;
 use crate::walk::TreeWalk;
+use cert_parts::pass_nodes;
 use half_edges::HalfEdges;
 use mesh_shape::Mesh;
 use reject_bits::Table;
@@ -97,8 +99,36 @@ impl TreeJudge {
         self.under_way = true;
     }
 
+    /// The next nodes of the open tree, of so many that are to come, from the bytes: what of those is behind them, and how many
+    /// are left. Others than the usual ones, and now and then one that needs room, are left to `hear`.
+    pub fn hear_nodes<'a>(
+        &mut self,
+        edges: &HalfEdges,
+        bytes: &'a [u8],
+        count: u64,
+    ) -> (&'a [u8], u64)
+        ensures { TakesNodes bytes.now count result.0.now result.1 (λ nodes. (m : Map) (ts : List Triangle) (front : List WalkTree) (tree : Option WalkTree) → HasHeardTrees m ts edges.now front tree self.old → HasHeardTrees m ts edges.now front (option_map (with_nodes nodes) tree) self.new) }
+    {
+        if !self.under_way {
+            return pass_nodes(bytes, count);
+        }
+        let terrain = Terrain {
+            edges,
+            roots: &self.roots,
+        };
+        let followed = self.walk.follow(&terrain, &mut self.reached, bytes, count);
+        let taken = count - followed.left;
+        if followed.wrong {
+            self.under_way = false;
+            let number = self.number.saturating_add(taken - 1);
+            self.wrong = Some((self.walk.source(), number));
+            return (followed.rest, followed.left);
+        }
+        self.number = self.number.saturating_add(taken);
+        (followed.rest, followed.left)
+    }
+
     /// The next node of the open tree.
-    #[inline(always)]
     pub fn hear(&mut self, edges: &HalfEdges, node: Node) -> Result<(), Memory>
         ensures { (m : Map) (ts : List Triangle) (front : List WalkTree) (tree : Option WalkTree) → HasHeardTrees m ts edges.now front tree self.old → IfOk result (λ _. HasHeardTrees m ts edges.now front (option_map (with_node node) tree) self.new) }
     {

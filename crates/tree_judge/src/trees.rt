@@ -5,7 +5,7 @@ ghost use Rattle.sight_names.specs.Splitting.{end_of as end_at};
 ghost use Rattle.block_evidence.specs.Stuck.{Blocks};
 ghost use Rattle.reject_bits.specs.Parts.{TableParts};
 ghost use Rattle.sight_tree.specs.declared.Node.TheVariants.{Open, Blocked};
-ghost use Rattle.tree_judge.specs.Path.{list_of, path_ends, frame_at, pending_way, pending_ways, longest_of, IsEndOf, AreAllStuck, AsksRoot, EntersThrough, IsClosedBy, TakesNext};
+ghost use Rattle.tree_judge.specs.Path.{list_of, path_ends, frame_at, pending_way, pending_ways, longest_of, IsEndOf, AreStuckEnds, AsksRoot, EntersThrough, IsClosedBy, TakesNext};
 ghost use Rattle.tree_judge.specs.Roots.{first_at};
 ghost use Rattle.tree_judge.specs.Whole.{Notes, HasAnswered, HasRefused, StandsBefore, IsWholeFrom, IsFirstWrongFrom};
 
@@ -69,6 +69,7 @@ pub fn make_room(path: &mut Vec<Frame>, depth: usize) -> Result<(), Memory>
 }
 
 /// The portal of the half-edge, its right way still to come.
+#[inline(always)]
 fn frame_of(edge: &HalfEdge) -> Frame
     ensures { result ≡ frame_at edge.now }
 {
@@ -80,6 +81,7 @@ fn frame_of(edge: &HalfEdge) -> Frame
 }
 
 /// The frame with its right way taken.
+#[inline(always)]
 fn taken(frame: Frame) -> Frame
     ensures { result ≡ record frame { right_way = None } }
 {
@@ -91,6 +93,7 @@ fn taken(frame: Frame) -> Frame
 }
 
 /// The next right way on the way back along the first portals of the path, and how many it stands behind.
+#[inline(always)]
 fn back(edges: &HalfEdges, source: u16, path: &mut [Frame], count: usize) -> (Option<u16>, usize)
     ensures within { result.1 ≤ length path.old }
     ensures fewer { result.1 ≤ count }
@@ -124,15 +127,15 @@ fn end_of(path: &[Frame], code: u16) -> Option<EndAt>
     Some(EndAt { code, at })
 }
 
-/// The left end with this code. None where it is a right end's, or its portal isn't there.
+/// The left end with this code. None where it is a right end's, or its portal isn't there: one comparison tells both.
 #[inline(always)]
 fn left_end(path: &[Frame], code: u16) -> Option<EndAt>
+    requires { length path.now ≤ 32768 }
     ensures { IsEndOf (path_ends path.now) code result }
 {
-    if code >= RIGHT {
-        return None;
-    }
     let frame = path.get(code as usize)?;
+    // the code itself, as one that is seen to be a left end's
+    let code = code % RIGHT;
     Some(EndAt {
         code,
         at: frame.left,
@@ -142,72 +145,102 @@ fn left_end(path: &[Frame], code: u16) -> Option<EndAt>
 /// The right end with this code. None where it is a left end's, or its portal isn't there.
 #[inline(always)]
 fn right_end(path: &[Frame], code: u16) -> Option<EndAt>
+    requires { length path.now ≤ 32768 }
     ensures { IsEndOf (path_ends path.now) code result }
 {
-    if code < RIGHT {
-        return None;
-    }
-    let frame = path.get((code - RIGHT) as usize)?;
+    let place = (code as usize + 32_768) % 65_536;
+    let frame = path.get(place)?;
+    let code = RIGHT + (place % 32_768) as u16;
     Some(EndAt {
         code,
         at: frame.right,
     })
 }
 
-/// Whether all four ends are there, and are seen at once to be stuck. `false` says nothing.
+/// Whether these are three left ends and a right one that are seen at once to be stuck. `false` says nothing.
 #[inline(always)]
-fn are_all_stuck(a: Option<EndAt>, b: Option<EndAt>, c: Option<EndAt>, d: Option<EndAt>) -> bool
-    ensures { IsTrue result → AreAllStuck a b c d }
+fn are_three_and_one(path: &[Frame], a: u16, b: u16, c: u16, d: u16) -> bool
+    requires { length path.now ≤ 32768 }
+    ensures { IsTrue result → AreStuckEnds (path_ends path.now) a b c d }
 {
-    let Some(a) = a else {
+    let Some(p) = left_end(path, a) else {
         return false;
     };
-    let Some(b) = b else {
+    let Some(q) = left_end(path, b) else {
         return false;
     };
-    let Some(c) = c else {
+    let Some(r) = left_end(path, c) else {
         return false;
     };
-    let Some(d) = d else {
+    let Some(s) = right_end(path, d) else {
         return false;
     };
-    are_stuck(a, b, c, d)
+    are_stuck(p, q, r, s)
+}
+
+/// The same of two left ends and two right ones.
+#[inline(always)]
+fn are_two_and_two(path: &[Frame], a: u16, b: u16, c: u16, d: u16) -> bool
+    requires { length path.now ≤ 32768 }
+    ensures { IsTrue result → AreStuckEnds (path_ends path.now) a b c d }
+{
+    let Some(p) = left_end(path, a) else {
+        return false;
+    };
+    let Some(q) = left_end(path, b) else {
+        return false;
+    };
+    let Some(r) = right_end(path, c) else {
+        return false;
+    };
+    let Some(s) = right_end(path, d) else {
+        return false;
+    };
+    are_stuck(p, q, r, s)
+}
+
+/// The same of a left end and three right ones.
+#[inline(always)]
+fn are_one_and_three(path: &[Frame], a: u16, b: u16, c: u16, d: u16) -> bool
+    requires { length path.now ≤ 32768 }
+    ensures { IsTrue result → AreStuckEnds (path_ends path.now) a b c d }
+{
+    let Some(p) = left_end(path, a) else {
+        return false;
+    };
+    let Some(q) = right_end(path, b) else {
+        return false;
+    };
+    let Some(r) = right_end(path, c) else {
+        return false;
+    };
+    let Some(s) = right_end(path, d) else {
+        return false;
+    };
+    are_stuck(p, q, r, s)
 }
 
 /// Whether the ends are four ends of these portals that are seen at once to be stuck. `false` says nothing. Which of them
-/// are left ones is told first, so that none is asked again for its side.
+/// are left ones is told by their places: of so few portals no left end has the code of a right one.
 #[inline(always)]
 fn is_seen_blocked(path: &[Frame], evidence: Evidence) -> bool
     ensures { IsTrue result → Blocks (path_ends path.now) evidence }
 {
-    if evidence.count != 4 {
+    let count = path.len();
+    if evidence.count != 4 || count > 32_768 {
         return false;
     }
     let [a, b, c, d] = evidence.ends;
-    match (b < RIGHT, c < RIGHT) {
-        (true, true) => are_all_stuck(
-            left_end(path, a),
-            left_end(path, b),
-            left_end(path, c),
-            right_end(path, d),
-        ),
-        (true, false) => are_all_stuck(
-            left_end(path, a),
-            left_end(path, b),
-            right_end(path, c),
-            right_end(path, d),
-        ),
-        (false, false) => are_all_stuck(
-            left_end(path, a),
-            right_end(path, b),
-            right_end(path, c),
-            right_end(path, d),
-        ),
+    match ((b as usize) < count, (c as usize) < count) {
+        (true, true) => are_three_and_one(path, a, b, c, d),
+        (true, false) => are_two_and_two(path, a, b, c, d),
+        (false, false) => are_one_and_three(path, a, b, c, d),
         (false, true) => false,
     }
 }
 
 /// Whether the ends are ends of these portals, and stuck.
+#[inline(never)]
 fn is_shown_blocked(path: &[Frame], evidence: Evidence) -> bool
     ensures { IsTrue result ↔ Blocks (path_ends path.now) evidence }
 {
@@ -226,6 +259,7 @@ fn is_shown_blocked(path: &[Frame], evidence: Evidence) -> bool
 }
 
 /// The same; most often it is seen at once.
+#[inline(always)]
 fn is_blocked(path: &[Frame], evidence: Evidence) -> bool
     ensures { IsTrue result ↔ Blocks (path_ends path.now) evidence }
 {
@@ -233,6 +267,7 @@ fn is_blocked(path: &[Frame], evidence: Evidence) -> bool
 }
 
 /// Puts the portal of this half-edge behind the open ones, and says whether there was room.
+#[inline(always)]
 fn put(path: &mut [Frame], depth: usize, edge: &HalfEdge) -> bool
     ensures room { IsTrue result ↔ (depth < length path.old) }
     ensures put { path.new ≡ slice_set path.old depth (frame_at edge.now) }
@@ -266,7 +301,7 @@ fn is_closed(
 }
 
 /// A walk that follows a tree.
-#[derive(Drop)]
+#[derive(Clone, Copy)]
 pub struct Follow {
     /// How many open nodes lead to the present one.
     pub depth: usize,
@@ -277,6 +312,7 @@ pub struct Follow {
 }
 
 /// The half-edge of the root at this place, and the place of the next one.
+#[inline(always)]
 fn next_root(roots: &Roots, root: Option<usize>) -> (Option<u16>, Option<usize>)
     ensures { AsksRoot roots.now.roots.items root result.0 result.1 }
 {
@@ -287,6 +323,7 @@ fn next_root(roots: &Roots, root: Option<usize>) -> (Option<u16>, Option<usize>)
 }
 
 /// The half-edge that is asked next: the next right way, or else the next root.
+#[inline(always)]
 fn next_asked(
     terrain: &Terrain<'_>,
     source: u16,
@@ -332,6 +369,7 @@ fn enter(
 }
 
 /// Notes that the source reaches the sector, where there is one.
+#[inline(always)]
 fn note(reached: &mut Table, source: u16, sector: Option<u16>)
     ensures { Notes source (list_of sector) reached.old reached.new }
 {

@@ -7,9 +7,11 @@ ghost use Rattle.half_edges.specs.declared.table.HalfEdge.{HalfEdge as EdgeOf};
 ghost use Rattle.tree_judge.specs.declared.roots.Root.{Root as RootOf};
 ghost use Rattle.tree_judge.specs.Roots.{first_at};
 ghost use Rattle.tree_judge.specs.Whole.{IsWholeFrom, IsFirstWrongFrom};
-ghost use Rattle.tree_judge.specs.Walked.{begun, with_node, IsWalked};
+ghost use Rattle.cert_parts.specs.Nodes.{TakesNodes};
+ghost use Rattle.tree_judge.specs.Walked.{begun, with_node, FollowsAt, Follows, IsWalked};
 
 use crate::trees::{Follow, Frame, Terrain, answer, make_room, start};
+use cert_parts::usual_node;
 use reject_bits::Table;
 use sight_names::Memory;
 use sight_tree::Node;
@@ -21,6 +23,44 @@ pub struct TreeWalk {
     source: u16,
     path: Vec<Frame>,
     follow: Follow,
+}
+
+/// What comes of nodes that a walk has followed: the bytes behind them, how many are left, and whether the last one is wrong.
+#[derive(Clone, Copy)]
+pub struct Followed<'a> {
+    pub rest: &'a [u8],
+    pub left: u64,
+    pub wrong: bool,
+}
+
+/// Follows the usual nodes that come first in the bytes, of so many that are to come, up to the first wrong one and as far as
+/// the path has room.
+// the walk stands in locals here, and all that it calls is in line: a certificate has millions of nodes
+fn follow_nodes<'a>(
+    terrain: &Terrain<'_>,
+    reached: &mut Table,
+    source: u16,
+    path: &mut [Frame],
+    follow: &mut Follow,
+    bytes: &'a [u8],
+    count: u64,
+) -> Followed<'a>
+    ensures { TakesNodes bytes.now count result.rest.now result.left (FollowsAt terrain.now.edges.now terrain.now.roots.now.roots.items terrain.now.roots.now.first.items source path.old follow.old reached.old path.new follow.new reached.new result.wrong) }
+{
+    let mut at = *follow;
+    let mut rest = bytes;
+    let mut left = count;
+    let mut wrong = false;
+    'rest: while left > 0 && !wrong && at.depth < path.len() {
+        let Some((node, behind)) = usual_node(rest) else {
+            break;
+        };
+        wrong = !answer(terrain, reached, source, path, &mut at, node);
+        rest = behind;
+        left -= 1;
+    }
+    *follow = at;
+    Followed { rest, left, wrong }
 }
 
 impl TreeWalk {
@@ -72,6 +112,28 @@ impl TreeWalk {
             &mut self.follow,
             node,
         ))
+    }
+
+    /// Follows the usual nodes that come first in the bytes, of so many that are to come, up to the first wrong one; others and
+    /// those that find no room are left to `step`.
+    pub fn follow<'a>(
+        &mut self,
+        terrain: &Terrain<'_>,
+        reached: &mut Table,
+        bytes: &'a [u8],
+        count: u64,
+    ) -> Followed<'a>
+        ensures { TakesNodes bytes.now count result.rest.now result.left (Follows terrain.now.edges.now terrain.now.roots.now.roots.items terrain.now.roots.now.first.items self.old reached.old self.new reached.new result.wrong) }
+    {
+        follow_nodes(
+            terrain,
+            reached,
+            self.source,
+            self.path.as_mut_slice(),
+            &mut self.follow,
+            bytes,
+            count,
+        )
     }
 
     /// Whether nothing is asked any more.
