@@ -1,104 +1,144 @@
--- The verdict at each end, by what is known there.
-use Rattle.std.proofs.Common.{◌≡◌, ℕ, ◌<◌, List, Option, Some, None, length, sym, ◌∙◌, ap, subst}
+-- The answer at each end, by what is known there.
+use Rattle.std.proofs.Common.{◌≡◌, ℕ, List, Option, Some, None, length, refl, sym, ap, subst}
+use Rattle.std.specs.Prelude.{IfOk, Result}
+use Rattle.sight_names.specs.declared.names.Memory.{Memory}
 use Rattle.sight_names.specs.declared.names.Side.{Side}
 use Rattle.sight_names.specs.declared.names.Triangle.{Triangle}
-use Rattle.sight_names.specs.declared.faults.CheckFault.TheVariants.{Mesh}
+use Rattle.sight_names.specs.declared.faults.CheckFault.TheVariants.{Mesh, Ray, Tree as OfTree, ListedSet, Unproved, Uncovered}
 use Rattle.sight_names.specs.declared.faults.MeshFault.{MeshFault}
 use Rattle.sight_names.specs.Plan.{PlanParts, IsPlan}
 use Rattle.sight_names.specs.Map.{map_of}
-use Rattle.sight_names.specs.Mesh.{IsGoodMesh, IsPlainMesh, label_of, side_edge}
+use Rattle.sight_names.specs.Mesh.{IsGoodMesh, IsPlainMesh, side_edge}
 use Rattle.sight_names.proofs.Portals.{triangle_within}
-use Rattle.mesh_shape.specs.Faults.{IsFirstSideAgainst, IsFirstFault}
-use Rattle.mesh_shape.specs.Search.{IsSearch, IsSideSearch}
+use Rattle.mesh_shape.specs.Faults.{IsFirstAgainst, IsFirstSideAgainst, IsFirstFault}
+use Rattle.mesh_shape.specs.Search.{IsSideSearch}
 use Rattle.mesh_shape.specs.Shape.{MeshParts}
 use Rattle.reject_bits.specs.Parts.{TableParts}
+use Rattle.cert_format.specs.declared.cert.Labelled.{Labelled}
 use Rattle.cert_format.specs.Accepted.{triangles_of, labels_of}
 use Rattle.cert_groups.specs.declared.cert.CertTwo.{CertTwo}
-use Rattle.groups_base.specs.Table.{NamedAreLabelled}
+use Rattle.groups_base.specs.Table.{NamedAreLabelled, NamesTheLabels}
 use Rattle.groups_base.proofs.SamePoints.{plain_alike}
 use Rattle.face_groups.specs.Regrouped.{regrouped_plan}
+use Rattle.face_groups.proofs.RegroupedPlan.{names_the_labels}
+use Rattle.cert_checker.specs.Apart.{triangles_in, labels_in}
 use Rattle.cert_checker.specs.declared.verdict.Verdict.{Verdict}
+use Rattle.cert_checker.specs.declared.verdict.Verdict.TheVariants.{Yes as YesOne, No as NoOne}
 use Rattle.cert_checker.specs.Judged.{IsLaterVerdict, JudgesRays, JudgesTrees}
+use Rattle.group_checker.specs.declared.grouping.MeshVerdict.{MeshVerdict}
+use Rattle.group_checker.specs.declared.grouping.MeshVerdict.TheVariants.{Broken}
+use Rattle.group_checker.specs.declared.verdict.AnyFault.{AnyFault}
 use Rattle.group_checker.specs.declared.verdict.AnyFault.TheVariants.{Check, Group, Unused}
-use Rattle.group_checker.specs.declared.verdict.AnyVerdict.TheVariants.{No}
-use Rattle.group_checker.specs.Meshes.{grouped_plan, grouped_map, HasTriangleAt, IsFirstMeshFault}
-use Rattle.group_checker.specs.Lists.{IsListRight, IsUsedGroup}
-use Rattle.group_checker.specs.Judged.{any_of, IsTerrain, IsTwoFor, JudgesTwo, TellsPairs}
+use Rattle.group_checker.specs.Grouping.{HasGrouping, IsGroupedMesh, TellsGrouping}
+use Rattle.group_checker.specs.Lists.{AreGroupLabels, IsGroupFault, IsListRight, IsUsedGroup}
+use Rattle.group_checker.specs.Meshes.{HasTriangleAt, IsFirstMeshFault}
+use Rattle.group_checker.specs.Judged.{any_of, JudgesTwo, TellsPairs}
 use Rattle.group_checker.proofs.Meshed.{fault_moved, fault_over}
-use Rattle.group_checker.proofs.OneMap.{has_label, is_label, names_grouped}
-use Rattle.group_checker.proofs.Listing.{judged_later}
 
--- ---- the mesh
+-- ---- the lists of a certificate
 
-mesh_fault_judged : (p : PlanParts) (t : TableParts) (c : CertTwo) (f : MeshFault) → IsFirstMeshFault (map_of p) (grouped_map p c) (triangles_of c.cert) (labels_of c.cert) f → JudgesTwo p t c (No (Check (Mesh f)))
-mesh_fault_judged p t c f h = record { mesh = h; groups = tt; rays = tt; trees = tt; pairs = tt }
+-- what holds of triangles, labels and groups holds of those of a certificate that has them
+own : (c : CertTwo) (ts : List Triangle) (ls : List (Option ℕ)) (groups : List (List ℕ)) → HasGrouping c ts ls groups → (P : List Triangle → List (Option ℕ) → List (List ℕ) → Type 0) → P ts ls groups → P (triangles_of c.cert) (labels_of c.cert) c.groups
+own c ts ls groups has P h =
+    subst (λ (gs : List (List ℕ)). P (triangles_of c.cert) (labels_of c.cert) gs) (sym has.lists)
+    (subst (λ (xs : List (Option ℕ)). P (triangles_of c.cert) xs groups) (sym has.labels) (subst (λ (us : List Triangle). P us ls groups) (sym has.triangles) h))
 
--- a side has no triangle
-pub bare_judged : (p : PlanParts) → IsPlan p → (t : TableParts) (c : CertTwo) (mesh : MeshParts) (points : ℕ) (ls : List (Option ℕ)) → mesh ≡ record { points = points; triangles = triangles_of c.cert } → ls ≡ labels_of c.cert
-    → (s : Side) → IsFirstSideAgainst (HasTriangleAt (map_of p) mesh.triangles) s → (f : MeshFault) → IsFirstMeshFault (map_of p) (map_of p) mesh.triangles ls f → JudgesTwo p t c (No (Check (Mesh f)))
-bare_judged p is t c mesh points ls e l s bare f h =
-    mesh_fault_judged p t c f (fault_moved (map_of p) (grouped_map p c) (names_grouped p is c).lines (triangles_of c.cert) (labels_of c.cert) s
-    (subst (λ (x : MeshParts). IsFirstSideAgainst (HasTriangleAt (map_of p) x.triangles) s) e bare) f
-    (subst (λ (xs : List (Option ℕ)). IsFirstMeshFault (map_of p) (map_of p) (triangles_of c.cert) xs f) l (subst (λ (x : MeshParts). IsFirstMeshFault (map_of p) (map_of p) x.triangles ls f) e h)))
+own_grouping : (c : CertTwo) (xs : List Labelled) (groups : List (List ℕ)) → xs ≡ c.cert.triangles → groups ≡ c.groups → HasGrouping c (triangles_in xs) (labels_in xs) groups
+own_grouping c xs groups e l = record { triangles = ap triangles_in (sym e); labels = ap labels_in (sym e); lists = sym l }
+
+pub own_told : (p : PlanParts) (c : CertTwo) (xs : List Labelled) (groups : List (List ℕ)) (r v : MeshVerdict) → xs ≡ c.cert.triangles → groups ≡ c.groups → r ≡ v → TellsGrouping p (triangles_in xs) (labels_in xs) groups r → TellsGrouping p (triangles_of c.cert) (labels_of c.cert) c.groups v
+own_told p c xs groups r v e l is h = subst (TellsGrouping p (triangles_of c.cert) (labels_of c.cert) c.groups) is (own c (triangles_in xs) (labels_in xs) groups (own_grouping c xs groups e l) (λ us ys gs. TellsGrouping p us ys gs r) h)
+
+pub its_own : (c : CertTwo) → HasGrouping c (triangles_of c.cert) (labels_of c.cert) c.groups
+its_own c = record { triangles = refl; labels = refl; lists = refl }
+
+-- what is told by the mesh and the labels that are made of them is told of the triangles
+pub grouping_moved : (p : PlanParts) (groups : List (List ℕ)) (mesh : MeshParts) (points : ℕ) (ts : List Triangle) (ls xs : List (Option ℕ)) (r : Result MeshVerdict Memory) → mesh ≡ record { points = points; triangles = ts } → xs ≡ ls
+    → IfOk r (TellsGrouping p mesh.triangles xs groups) → IfOk r (TellsGrouping p ts ls groups)
+grouping_moved p groups mesh points ts ls xs r e l h = subst (λ (ys : List (Option ℕ)). IfOk r (TellsGrouping p ts ys groups)) l (subst (λ (x : MeshParts). IfOk r (TellsGrouping p x.triangles xs groups)) e h)
+
+pub labels_moved : (n : ℕ) (mesh : MeshParts) (points : ℕ) (ts : List Triangle) (ls xs : List (Option ℕ)) → mesh ≡ record { points = points; triangles = ts } → xs ≡ ls → AreGroupLabels n ts ls → AreGroupLabels n mesh.triangles xs
+labels_moved n mesh points ts ls xs e l h = subst (λ (x : MeshParts). AreGroupLabels n x.triangles xs) (sym e) (subst (AreGroupLabels n ts) (sym l) h)
 
 pub found_bare : (P : Side → Type 0) (o : Option Side) (s : Side) → o ≡ Some s → IsSideSearch P o → IsFirstSideAgainst P s
 found_bare P o s e h = subst (IsSideSearch P) e h
 
-pub all_sided : (p : PlanParts) (c : CertTwo) (mesh : MeshParts) (points : ℕ) (o : Option Side) → mesh ≡ record { points = points; triangles = triangles_of c.cert } → o ≡ None → IsSideSearch (HasTriangleAt (map_of p) mesh.triangles) o → (s : Side) → HasTriangleAt (map_of p) (triangles_of c.cert) s
-all_sided p c mesh points o e none h s = subst (λ (x : MeshParts). HasTriangleAt (map_of p) x.triangles s) e (subst (IsSideSearch (HasTriangleAt (map_of p) mesh.triangles)) none h s)
+pub all_sided : (P : Side → Type 0) (o : Option Side) → o ≡ None → IsSideSearch P o → (s : Side) → P s
+all_sided P o none h = subst (IsSideSearch P) none h
 
--- ---- the map of groups
+module _ (p : PlanParts) (is : IsPlan p) (ts : List Triangle) (ls : List (Option ℕ)) (groups : List (List ℕ)) where
+  names : NamesTheLabels (map_of p) ts groups ls (map_of (regrouped_plan ts ls (length groups) p))
+  names = names_the_labels p is ts groups ls
 
-module _ (p : PlanParts) (is : IsPlan p) (c : CertTwo) (two : IsTwoFor p c) (sides : (s : Side) → HasTriangleAt (map_of p) (triangles_of c.cert) s) where
-  named_labelled : NamedAreLabelled (map_of p) (triangles_of c.cert) (labels_of c.cert)
-  named_labelled s l a at names =
-      let w = sides s l a at names in
-      let x = has_label p c two w.0 (triangle_within (triangles_of c.cert) (side_edge (map_of p) l s.left) w.0 w.1) in (w.0, w.1, (x.0, x.1))
+  -- ---- the mesh
 
-  pub range_is : (ls : List (Option ℕ)) (n : ℕ) → ls ≡ labels_of c.cert → n ≡ length c.groups → (k f : ℕ) → label_of ls k ≡ Some f → f < n
-  range_is ls n l e k f label = subst (λ (x : ℕ). f < x) (sym e) (is_label p c two k f (sym (ap (λ (xs : List (Option ℕ)). label_of xs k) l) ∙ label))
+  mesh_fault_told : (f : MeshFault) → IsFirstMeshFault (map_of p) (map_of (regrouped_plan ts ls (length groups) p)) ts ls f → TellsGrouping p ts ls groups (Broken (Check (Mesh f)))
+  mesh_fault_told f h t c has = record {
+    mesh = own c ts ls groups has (λ us xs gs. IsFirstMeshFault (map_of p) (map_of (regrouped_plan us xs (length gs) p)) us xs f) h;
+    groups = tt;
+    rays = tt;
+    trees = tt;
+    pairs = tt;
+  }
 
-  pub named_is : (ts : List Triangle) (ls : List (Option ℕ)) → ts ≡ triangles_of c.cert → ls ≡ labels_of c.cert → NamedAreLabelled (map_of p) ts ls
-  named_is ts ls e l = subst (λ (xs : List Triangle). NamedAreLabelled (map_of p) xs ls) (sym e) (subst (λ (xs : List (Option ℕ)). NamedAreLabelled (map_of p) (triangles_of c.cert) xs) (sym l) named_labelled)
+  -- a side has no triangle
+  pub bare_told : (s : Side) → IsFirstSideAgainst (HasTriangleAt (map_of p) ts) s → (f : MeshFault) → IsFirstMeshFault (map_of p) (map_of p) ts ls f → TellsGrouping p ts ls groups (Broken (Check (Mesh f)))
+  bare_told s bare f h = mesh_fault_told f (fault_moved (map_of p) (map_of (regrouped_plan ts ls (length groups) p)) names.lines ts ls s bare f h)
 
-  pub grouped_is : (ts : List Triangle) (ls : List (Option ℕ)) (n : ℕ) (grouped : PlanParts) → ts ≡ triangles_of c.cert → ls ≡ labels_of c.cert → n ≡ length c.groups → grouped ≡ regrouped_plan ts ls n p → grouped ≡ grouped_plan p c
-  grouped_is ts ls n grouped e l q g = g ∙ (λ i. regrouped_plan (e i) (l i) (q i) p)
+  module _ (labels : AreGroupLabels (length groups) ts ls) (sides : (s : Side) → HasTriangleAt (map_of p) ts s) where
+    pub named_labelled : NamedAreLabelled (map_of p) ts ls
+    named_labelled s l a at named =
+        let w = sides s l a at named in
+        (w.0, w.1, labels.each w.0 (triangle_within ts (side_edge (map_of p) l s.left) w.0 w.1))
 
-  pub fault_judged : (t : TableParts) (ts : List Triangle) (ls : List (Option ℕ)) (grouped : PlanParts) → ts ≡ triangles_of c.cert → ls ≡ labels_of c.cert → grouped ≡ grouped_plan p c → (f : MeshFault) → IsFirstFault (map_of grouped) ts ls f → JudgesTwo p t c (No (Check (Mesh f)))
-  fault_judged t ts ls grouped e l g f h =
-      mesh_fault_judged p t c f (fault_over (map_of p) (triangles_of c.cert) c.groups (labels_of c.cert) (grouped_map p c) (names_grouped p is c) sides f
-      (subst (λ (x : PlanParts). IsFirstFault (map_of x) (triangles_of c.cert) (labels_of c.cert) f) g
-      (subst (λ (xs : List (Option ℕ)). IsFirstFault (map_of grouped) (triangles_of c.cert) xs f) l (subst (λ (xs : List Triangle). IsFirstFault (map_of grouped) xs ls f) e h))))
+    pub fault_told : (grouped : PlanParts) → grouped ≡ regrouped_plan ts ls (length groups) p → (f : MeshFault) → IsFirstFault (map_of grouped) ts ls f → TellsGrouping p ts ls groups (Broken (Check (Mesh f)))
+    fault_told grouped e f h = mesh_fault_told f (fault_over (map_of p) ts groups ls (map_of (regrouped_plan ts ls (length groups) p)) names sides f (subst (λ (x : PlanParts). IsFirstFault (map_of x) ts ls f) e h))
+
+  -- ---- the groups
+
+  module _ (grouped : PlanParts) (e : grouped ≡ regrouped_plan ts ls (length groups) p) (good : IsGoodMesh (map_of grouped) ts ls) where
+    good_over : IsGoodMesh (map_of (regrouped_plan ts ls (length groups) p)) ts ls
+    good_over = subst (λ (x : PlanParts). IsGoodMesh (map_of x) ts ls) e good
+
+    pub plain_is : IsPlainMesh (map_of p) ts
+    plain_is = plain_alike (map_of (regrouped_plan ts ls (length groups) p)) (map_of p) (sym names.lines) ts good_over.plain
+
+    pub group_fault_told : ((s : Side) → HasTriangleAt (map_of p) ts s) → (f : AnyFault) → IsGroupFault (map_of p) ts groups ls (Some f) → TellsGrouping p ts ls groups (Broken f)
+    group_fault_told sides (Check f) h = absurd h
+    group_fault_told sides (Group k) h = λ t c has. record {
+      mesh = own c ts ls groups has (λ us xs gs. ((s : Side) → HasTriangleAt (map_of p) us s) × IsGoodMesh (map_of (regrouped_plan us xs (length gs) p)) us xs) (sides, good_over);
+      groups = own c ts ls groups has (λ us xs gs. IsFirstAgainst (IsListRight (map_of p) us gs xs) k) h;
+      rays = tt;
+      trees = tt;
+      pairs = tt;
+    }
+    group_fault_told sides (Unused f) h = λ t c has. record {
+      mesh = own c ts ls groups has (λ us xs gs. ((s : Side) → HasTriangleAt (map_of p) us s) × IsGoodMesh (map_of (regrouped_plan us xs (length gs) p)) us xs) (sides, good_over);
+      groups = own c ts ls groups has (λ us xs gs. ((k : ℕ) → IsListRight (map_of p) us gs xs k) × IsFirstAgainst (IsUsedGroup (length gs) xs) f) h;
+      rays = tt;
+      trees = tt;
+      pairs = tt;
+    }
 
 -- ---- the rest
 
-module _ (p : PlanParts) (t : TableParts) (c : CertTwo) (grouped : PlanParts) (ts : List Triangle) (ls : List (Option ℕ)) (w : IsTerrain p t c grouped ts ls) where
-  good_over : IsGoodMesh (grouped_map p c) (triangles_of c.cert) (labels_of c.cert)
-  good_over = subst (λ (x : PlanParts). IsGoodMesh (map_of x) (triangles_of c.cert) (labels_of c.cert)) w.grouped_is w.good
+later_judged : (p : PlanParts) (t : TableParts) (c : CertTwo) → IsGroupedMesh p (triangles_of c.cert) (labels_of c.cert) c.groups (regrouped_plan (triangles_of c.cert) (labels_of c.cert) (length c.groups) p)
+    → (v : Verdict) → IsLaterVerdict v → JudgesRays (map_of (regrouped_plan (triangles_of c.cert) (labels_of c.cert) (length c.groups) p)) c.cert v → JudgesTrees (map_of (regrouped_plan (triangles_of c.cert) (labels_of c.cert) (length c.groups) p)) c.cert v
+    → TellsPairs (map_of (regrouped_plan (triangles_of c.cert) (labels_of c.cert) (length c.groups) p)) t c v → JudgesTwo p t c (any_of v)
+later_judged p t c w (YesOne totals) later rays trees pairs = record { mesh = (w.sides, w.good); groups = (w.lists, w.used); rays = rays; trees = trees; pairs = pairs }
+later_judged p t c w (NoOne (Mesh f)) later rays trees pairs = absurd later
+later_judged p t c w (NoOne (Ray a b why)) later rays trees pairs = record { mesh = (w.sides, w.good); groups = (w.lists, w.used); rays = rays; trees = trees; pairs = pairs }
+later_judged p t c w (NoOne (OfTree s n)) later rays trees pairs = record { mesh = (w.sides, w.good); groups = (w.lists, w.used); rays = rays; trees = trees; pairs = pairs }
+later_judged p t c w (NoOne (ListedSet a b)) later rays trees pairs = record { mesh = (w.sides, w.good); groups = (w.lists, w.used); rays = rays; trees = trees; pairs = pairs }
+later_judged p t c w (NoOne (Unproved a b)) later rays trees pairs = record { mesh = (w.sides, w.good); groups = (w.lists, w.used); rays = rays; trees = trees; pairs = pairs }
+later_judged p t c w (NoOne (Uncovered a b)) later rays trees pairs = record { mesh = (w.sides, w.good); groups = (w.lists, w.used); rays = rays; trees = trees; pairs = pairs }
 
-  pub plain_is : IsPlainMesh (map_of p) (triangles_of c.cert)
-  plain_is = plain_alike (grouped_map p c) (map_of p) (sym (names_grouped p w.plan c).lines) (triangles_of c.cert) good_over.plain
-
-  pub sectors_is : grouped.sectors ≡ length c.groups
-  sectors_is = ap (λ (x : PlanParts). x.sectors) w.grouped_is
-
-  pub list_judged : (o : Option ℕ) (k : ℕ) → o ≡ Some k → IsSearch (IsListRight (map_of p) (triangles_of c.cert) c.groups (labels_of c.cert)) o → JudgesTwo p t c (No (Group k))
-  list_judged o k e h = record { mesh = (w.sides, good_over); groups = subst (IsSearch (IsListRight (map_of p) (triangles_of c.cert) c.groups (labels_of c.cert))) e h; rays = tt; trees = tt; pairs = tt }
-
-  pub lists_right : (o : Option ℕ) → o ≡ None → IsSearch (IsListRight (map_of p) (triangles_of c.cert) c.groups (labels_of c.cert)) o → (k : ℕ) → IsListRight (map_of p) (triangles_of c.cert) c.groups (labels_of c.cert) k
-  lists_right o e h = subst (IsSearch (IsListRight (map_of p) (triangles_of c.cert) c.groups (labels_of c.cert))) e h
-
-  module _ (right : (k : ℕ) → IsListRight (map_of p) (triangles_of c.cert) c.groups (labels_of c.cert) k) where
-    used_there : (count : ℕ) (xs : List (Option ℕ)) (o : Option ℕ) → count ≡ grouped.sectors → xs ≡ ls → IsSearch (IsUsedGroup count xs) o → IsSearch (IsUsedGroup (length c.groups) (labels_of c.cert)) o
-    used_there count xs o e l h = subst (λ (n : ℕ). IsSearch (IsUsedGroup n (labels_of c.cert)) o) (e ∙ sectors_is) (subst (λ (ys : List (Option ℕ)). IsSearch (IsUsedGroup count ys) o) (l ∙ w.labels) h)
-
-    pub unused_judged : (count : ℕ) (xs : List (Option ℕ)) (o : Option ℕ) (f : ℕ) → count ≡ grouped.sectors → xs ≡ ls → o ≡ Some f → IsSearch (IsUsedGroup count xs) o → JudgesTwo p t c (No (Unused f))
-    unused_judged count xs o f e l some h = record { mesh = (w.sides, good_over); groups = (right, subst (IsSearch (IsUsedGroup (length c.groups) (labels_of c.cert))) some (used_there count xs o e l h)); rays = tt; trees = tt; pairs = tt }
-
-    pub later_judged : (count : ℕ) (xs : List (Option ℕ)) (o : Option ℕ) → count ≡ grouped.sectors → xs ≡ ls → o ≡ None → IsSearch (IsUsedGroup count xs) o
-        → (v : Verdict) → IsLaterVerdict v → JudgesRays (map_of grouped) c.cert v → JudgesTrees (map_of grouped) c.cert v → TellsPairs (map_of grouped) t c v → JudgesTwo p t c (any_of v)
-    later_judged count xs o e l none h v later rays trees pairs =
-        judged_later p t c w.sides good_over right (subst (IsSearch (IsUsedGroup (length c.groups) (labels_of c.cert))) none (used_there count xs o e l h)) v later
-        (subst (λ (x : PlanParts). JudgesRays (map_of x) c.cert v) w.grouped_is rays)
-        (subst (λ (x : PlanParts). JudgesTrees (map_of x) c.cert v) w.grouped_is trees)
-        (subst (λ (x : PlanParts). TellsPairs (map_of x) t c v) w.grouped_is pairs)
+-- a verdict behind mesh and groups is the answer for a certificate that has these
+pub grouped_judged : (p : PlanParts) (t : TableParts) (c : CertTwo) (ts : List Triangle) (ls : List (Option ℕ)) (groups : List (List ℕ)) (grouped : PlanParts) → IsGroupedMesh p ts ls groups grouped → HasGrouping c ts ls groups
+    → (v : Verdict) → IsLaterVerdict v → JudgesRays (map_of grouped) c.cert v → JudgesTrees (map_of grouped) c.cert v → TellsPairs (map_of grouped) t c v → JudgesTwo p t c (any_of v)
+grouped_judged p t c ts ls groups grouped w has v later rays trees pairs =
+    let h = own c ts ls groups has (λ us xs gs. IsGroupedMesh p us xs gs grouped) w in
+    later_judged p t c (subst (IsGroupedMesh p (triangles_of c.cert) (labels_of c.cert) c.groups) h.grouped_is h) v later
+    (subst (λ (x : PlanParts). JudgesRays (map_of x) c.cert v) h.grouped_is rays)
+    (subst (λ (x : PlanParts). JudgesTrees (map_of x) c.cert v) h.grouped_is trees)
+    (subst (λ (x : PlanParts). TellsPairs (map_of x) t c v) h.grouped_is pairs)

@@ -39,6 +39,9 @@ ray_within n c two count e rays same i r at =
     let w : IsRayInRange c.cert.sizes r = each_at (IsRayInRange c.cert.sizes) c.cert.rays i r two.1.in_order.rays (subst (λ (rs : List PairRay). slice_get rs i ≡ Some r) same at) in
     subst (λ (x : ℕ). IsWithin x r.pair) (ap (λ (s : Sizes). s.sectors) two.1.grouped ∙ sym e) w.0
 
+pub few_are : (n : ℕ) (c : CertTwo) → IsTwoOf n c → (groups : List (List ℕ)) → groups ≡ c.groups → length groups ≤ 8192
+few_are n c two groups same = let few = two.1.few in let e : length groups ≡ length c.groups = ap length same in omega (arith, few, e)
+
 pub members_moved : (n : ℕ) (groups given lists moved : List (List ℕ)) → given ≡ groups → moved ≡ lists → AreMembers given n lists → AreMembers groups n moved
 members_moved n groups given lists moved e f h = subst (λ (xs : List (List ℕ)). AreMembers groups n xs) (sym f) (subst (λ (gs : List (List ℕ)). AreMembers gs n lists) e h)
 

@@ -3,8 +3,11 @@ pub mod Meshed
 pub mod OneMap
 pub mod AcceptingTwo
 pub mod SeeingTwo
+pub mod AnyTold
 pub mod Rows
 pub mod Growing
 pub mod Judging
 pub mod Listing
 pub mod Ending
+pub mod OneAny
+pub mod SameAnyBits

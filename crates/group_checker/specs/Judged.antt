@@ -1,9 +1,10 @@
 -- What the answer says of a certificate of version 2, and of one of either version.
-use Rattle.std.specs.Prelude.{◌≡◌, ◌<◌, ◌≤◌, ◌↔◌, ℕ, List, Option, length}
+use Rattle.std.specs.Prelude.{◌≡◌, ◌<◌, ◌≤◌, ◌↔◌, ℕ, List, length}
+use Rattle.sight_names.specs.declared.names.Pair.{Pair}
+use Rattle.sight_names.specs.declared.names.PairRay.{PairRay}
 use Rattle.sight_names.specs.declared.names.Side.{Side}
-use Rattle.sight_names.specs.declared.names.Triangle.{Triangle}
 use Rattle.sight_names.specs.declared.faults.CheckFault.TheVariants.{Mesh, ListedSet, Unproved, Uncovered}
-use Rattle.sight_names.specs.Plan.{PlanParts, IsPlan}
+use Rattle.sight_names.specs.Plan.{PlanParts}
 use Rattle.sight_names.specs.Map.{Map, map_of}
 use Rattle.sight_names.specs.Mesh.{IsGoodMesh}
 use Rattle.mesh_shape.specs.Faults.{IsFirstAgainst}
@@ -25,7 +26,7 @@ use Rattle.cert_checker.specs.Sight.{TellsSight}
 use Rattle.group_checker.specs.declared.verdict.AnyFault.TheVariants.{Check, Group, Unused}
 use Rattle.group_checker.specs.declared.verdict.AnyVerdict.{AnyVerdict}
 use Rattle.group_checker.specs.declared.verdict.AnyVerdict.TheVariants.{Yes, No}
-use Rattle.group_checker.specs.Meshes.{grouped_map, grouped_plan, HasTriangleAt, IsFirstMeshFault}
+use Rattle.group_checker.specs.Meshes.{grouped_map, HasTriangleAt, IsFirstMeshFault}
 use Rattle.group_checker.specs.Lists.{IsListRight, IsUsedGroup}
 use Rattle.group_checker.specs.Members.{AreMembers}
 use Rattle.group_checker.specs.Pairs.{KnownParts, KeepsAway}
@@ -130,17 +131,13 @@ pub record IsAbout (g : Map) (c : CertTwo) (k : KnownParts) : Type 0 where
   pub members : AreMembers c.groups k.table.n k.members
   pub listed : k.listed ≡ c.listed
 
--- what is judged goes by the map of groups of a certificate whose mesh keeps the rules there
-pub record IsTerrain (p : PlanParts) (t : TableParts) (c : CertTwo) (grouped : PlanParts) (ts : List Triangle) (ls : List (Option ℕ)) : Type 0 where
-  pub table : t.n ≡ p.sectors
-  pub plan : IsPlan p
-  pub cert : IsTwoFor p c
-  pub triangles : ts ≡ triangles_of c.cert
-  pub labels : ls ≡ labels_of c.cert
-  pub grouped_is : grouped ≡ grouped_plan p c
-  pub is_plan : IsPlan grouped
-  pub sides : (s : Side) → HasTriangleAt (map_of p) (triangles_of c.cert) s
-  pub good : IsGoodMesh (map_of grouped) (triangles_of c.cert) (labels_of c.cert)
+-- the groups, the list and the rays of some certificate of version 2 in order, of a map with so many sectors
+pub record AreListsOfTwo (n : ℕ) (groups : List (List ℕ)) (listed : List Pair) (rays : List PairRay) : Type 0 where
+  pub cert : CertTwo
+  pub two : IsTwoOf n cert
+  pub groups_are : groups ≡ cert.groups
+  pub listed_is : listed ≡ cert.listed
+  pub rays_are : rays ≡ cert.cert.rays
 
 -- ---- sight
 

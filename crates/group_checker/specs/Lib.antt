@@ -3,3 +3,4 @@ pub mod Lists
 pub mod Members
 pub mod Pairs
 pub mod Judged
+pub mod Grouping

@@ -5,7 +5,6 @@ ghost use Rattle.sight_names.specs.Map.{Map, map_of};
 ghost use Rattle.sight_names.specs.Mesh.{IsGoodMesh};
 ghost use Rattle.sight_names.specs.Plan.{IsPlan};
 ghost use Rattle.sight_names.specs.Sound.{LinesMeetAtEnds};
-ghost use Rattle.sight_names.specs.declared.names.Side.{Side};
 ghost use Rattle.cert_format.specs.Accepted.{triangles_of, labels_of};
 ghost use Rattle.cert_groups.specs.declared.cert.CertTwo.{CertTwo as CertOf};
 ghost use Rattle.cert_groups.specs.Grammar.{IsAnyInOrder, sizes_of};
@@ -13,23 +12,19 @@ ghost use Rattle.accepted_groups.specs.Accepted.{IsAcceptedAny, IsAcceptedTwo};
 ghost use Rattle.cert_checker.specs.Judged.{IsLaterVerdict, IsPairVerdict, JudgesRays, JudgesTrees};
 ghost use Rattle.cert_checker.specs.Sight.{TellsSight};
 ghost use Rattle.tree_judge.specs.Trees.{TellsReach};
-ghost use Rattle.group_checker.specs.Judged.{any_of as either, with_list, IsAbout, IsTerrain, IsTwoFor, IsTwoOf, IsYesAny, JudgesAny, JudgesTwo, TellsPairs, TellsSightAny};
-ghost use Rattle.group_checker.specs.Lists.{IsListRight};
-ghost use Rattle.group_checker.specs.Meshes.{HasTriangleAt};
+ghost use Rattle.group_checker.specs.Judged.{any_of as either, with_list, AreListsOfTwo, IsAbout, IsTwoFor, IsTwoOf, IsYesAny, JudgesAny, JudgesTwo, TellsPairs, TellsSightAny};
 ghost use Rattle.group_checker.specs.Pairs.{known_of, IsKnown};
 
-use crate::lists::{first_unused, first_wrong_list};
+use crate::grouping::{GroupedMesh, MeshVerdict, judge_mesh};
 use crate::members::members_of;
-use crate::meshes::{fault_with, first_bare_side};
 use crate::pairs::{Known, judge_pairs, ray_table};
-use crate::verdict::{AnyFault, AnyVerdict, any_of};
-use cert_checker::{Verdict, check, mesh_of, ray_fault};
+use crate::verdict::{AnyVerdict, any_of};
+use cert_checker::{Verdict, check, ray_fault};
 use cert_groups::{AnyCert, CertTwo};
-use face_groups::regrouped_map;
+use face_groups::Group;
 use half_edges::HalfEdges;
-use mesh_shape::{Labels, Mesh, mesh_fault};
 use reject_bits::Table;
-use sight_names::{CheckFault, Memory, Plan};
+use sight_names::{CheckFault, Memory, Pair, PairRay, Plan};
 use std::alloc::Global;
 use tree_judge::{Reach, TreeVerdict, judge_trees};
 use tri_sectors::components;
@@ -46,29 +41,30 @@ fn judge_each_pair(known: Known<'_>, sectors: u16) -> Verdict
     }
 }
 
-/// Judges the pairs of sectors once it is known what the trees of groups keep from.
-fn judge_sectors(
+/// Judges the pairs of sectors by groups, and by a list and rays in order, once it is known what the trees of groups keep from.
+pub fn judge_sectors(
     alloc: Global,
     grouped: &Plan,
     table: &Table,
-    two: &CertTwo,
+    groups: &[Group],
+    listed: &[Pair],
+    rays: &[PairRay],
     reach: &Reach,
 ) -> Result<Verdict, Memory>
-    requires cert { IsTwoOf table.now.n two.now }
-    requires sectors { grouped.now.sectors ≡ length two.now.groups }
+    requires sectors { grouped.now.sectors ≡ length groups.now }
     requires reached { reach.now.reached.n ≡ grouped.now.sectors }
-    requires reach { TellsReach (map_of grouped.now) two.now.cert reach.now.walked.items reach.now.reached }
+    requires lists { AreListsOfTwo table.now.n groups.now listed.now rays.now }
     ensures kind { IfOk result IsPairVerdict }
-    ensures pairs { IfOk result (TellsPairs (map_of grouped.now) table.now two.now) }
+    ensures pairs { (c : CertOf) → c.groups ≡ groups.now → c.listed ≡ listed.now → c.cert.rays ≡ rays.now → TellsReach (map_of grouped.now) c.cert reach.now.walked.items reach.now.reached → IfOk result (TellsPairs (map_of grouped.now) table.now c) }
 {
     let sectors = table.sectors();
     let count = reach.reached.sectors();
     let components = components(alloc, grouped)?;
-    let rays = ray_table(alloc, count, two.cert.rays())?;
-    let members = members_of(alloc, two.groups.as_slice(), sectors)?;
+    let rays = ray_table(alloc, count, rays)?;
+    let members = members_of(alloc, groups, sectors)?;
     let known = Known {
         table,
-        listed: two.listed.as_slice(),
+        listed,
         members: members.as_slice(),
         components: components.as_slice(),
         walked: reach.walked.as_slice(),
@@ -81,105 +77,34 @@ fn judge_sectors(
 /// Judges rays and trees over the map of groups, and then the pairs of sectors.
 fn judge_grouped(
     alloc: Global,
-    grouped: &Plan,
     table: &Table,
     two: &CertTwo,
-    mesh: &Mesh,
-    labels: &Labels,
+    over: &GroupedMesh,
 ) -> Result<Verdict, Memory>
     requires cert { IsTwoOf table.now.n two.now }
-    requires plan { IsPlan grouped.now }
-    requires sectors { grouped.now.sectors ≡ length two.now.groups }
-    requires size { two.now.cert.sizes.sectors ≡ grouped.now.sectors }
-    requires triangles { mesh.now.triangles ≡ triangles_of two.now.cert }
-    requires labels { labels.now ≡ labels_of two.now.cert }
-    requires good { IsGoodMesh (map_of grouped.now) mesh.now.triangles (labels_of two.now.cert) }
+    requires triangles { over.now.mesh.triangles ≡ triangles_of two.now.cert }
+    requires labels { over.now.labels ≡ labels_of two.now.cert }
+    requires sectors { over.now.plan.sectors ≡ length two.now.groups }
+    requires plan { IsPlan over.now.plan }
+    requires good { IsGoodMesh (map_of over.now.plan) over.now.mesh.triangles (labels_of two.now.cert) }
     ensures later { IfOk result IsLaterVerdict }
-    ensures rays { IfOk result (JudgesRays (map_of grouped.now) two.now.cert) }
-    ensures trees { IfOk result (JudgesTrees (map_of grouped.now) two.now.cert) }
-    ensures pairs { IfOk result (TellsPairs (map_of grouped.now) table.now two.now) }
+    ensures rays { IfOk result (JudgesRays (map_of over.now.plan) two.now.cert) }
+    ensures trees { IfOk result (JudgesTrees (map_of over.now.plan) two.now.cert) }
+    ensures pairs { IfOk result (TellsPairs (map_of over.now.plan) table.now two.now) }
 {
-    let edges = HalfEdges::of(alloc, grouped, mesh, labels)?;
-    if let Some(fault) = ray_fault(grouped, mesh, &edges, two.cert.rays()) {
+    let edges = HalfEdges::of(alloc, &over.plan, &over.mesh, &over.labels)?;
+    let rays = two.cert.rays();
+    if let Some(fault) = ray_fault(&over.plan, &over.mesh, &edges, rays) {
         return Ok(Verdict::No(fault));
     }
-    let reach = match judge_trees(alloc, grouped, &two.cert, mesh, &edges)? {
+    let reach = match judge_trees(alloc, &over.plan, &two.cert, &over.mesh, &edges)? {
         TreeVerdict::Whole(reach) => reach,
         TreeVerdict::Wrong { source, node } => {
             return Ok(Verdict::No(CheckFault::Tree { source, node }));
         }
     };
-    judge_sectors(alloc, grouped, table, two, &reach)
-}
-
-/// Looks for a group that no triangle has, and then judges what is over the map of groups.
-fn judge_listed(
-    alloc: Global,
-    plan: &Plan,
-    grouped: &Plan,
-    table: &Table,
-    two: &CertTwo,
-    mesh: &Mesh,
-    labels: &Labels,
-) -> Result<AnyVerdict, Memory>
-    requires terrain { IsTerrain plan.now table.now two.now grouped.now mesh.now.triangles labels.now }
-    requires lists { (k : ℕ) → IsListRight (map_of plan.now) (triangles_of two.now.cert) two.now.groups (labels_of two.now.cert) k }
-    ensures { IfOk result (JudgesTwo plan.now table.now two.now) }
-{
-    let unused = first_unused(alloc, grouped.sectors, labels.as_slice())?;
-    match unused {
-        Some(group) => Ok(AnyVerdict::No(AnyFault::Unused { group })),
-        None => {
-            let verdict = judge_grouped(alloc, grouped, table, two, mesh, labels)?;
-            Ok(any_of(verdict))
-        }
-    }
-}
-
-/// Judges the table of groups on a good mesh, and then what is over the map of groups.
-fn judge_labelled(
-    alloc: Global,
-    plan: &Plan,
-    grouped: &Plan,
-    table: &Table,
-    two: &CertTwo,
-    mesh: &Mesh,
-    labels: &Labels,
-) -> Result<AnyVerdict, Memory>
-    requires terrain { IsTerrain plan.now table.now two.now grouped.now mesh.now.triangles labels.now }
-    ensures { IfOk result (JudgesTwo plan.now table.now two.now) }
-{
-    let other = first_wrong_list(alloc, plan, two, mesh, labels)?;
-    match other {
-        Some(triangle) => Ok(AnyVerdict::No(AnyFault::Group { triangle })),
-        None => judge_listed(alloc, plan, grouped, table, two, mesh, labels),
-    }
-}
-
-/// Judges the mesh where each side that names a sector has its triangle, and then the rest.
-fn judge_sided(
-    alloc: Global,
-    plan: &Plan,
-    table: &Table,
-    two: &CertTwo,
-    mesh: &Mesh,
-    labels: &Labels,
-) -> Result<AnyVerdict, Memory>
-    requires table { table.now.n ≡ plan.now.sectors }
-    requires plan { IsPlan plan.now }
-    requires cert { IsTwoFor plan.now two.now }
-    requires points { mesh.now.points ≡ length plan.now.points }
-    requires triangles { mesh.now.triangles ≡ triangles_of two.now.cert }
-    requires labels { labels.now ≡ labels_of two.now.cert }
-    requires sides { (s : Side) → HasTriangleAt (map_of plan.now) (triangles_of two.now.cert) s }
-    ensures { IfOk result (JudgesTwo plan.now table.now two.now) }
-{
-    let groups = two.groups.as_slice();
-    let grouped = regrouped_map(alloc, plan, mesh, labels.as_slice(), groups.len() as u16)?;
-    match mesh_fault(&grouped, mesh, labels) {
-        Some(fault) => Ok(AnyVerdict::No(AnyFault::Check(CheckFault::Mesh(fault)))),
-        None => judge_labelled(alloc, plan, &grouped, table, two, mesh, labels),
-    }
+    let (groups, listed) = (two.groups.as_slice(), two.listed.as_slice());
+    judge_sectors(alloc, &over.plan, table, groups, listed, rays, &reach)
 }
 
 /// The first fault in the order of mesh, groups, rays, trees and pairs, or yes.
@@ -188,14 +113,13 @@ fn judge_two(alloc: Global, plan: &Plan, table: &Table, two: &CertTwo) -> Result
     requires cert { IsTwoFor plan.now two.now }
     ensures { IfOk result (JudgesTwo plan.now table.now two.now) }
 {
-    let (mesh, labels) = mesh_of(alloc, plan, &two.cert)?;
-    let bare = first_bare_side(alloc, plan, &mesh)?;
-    match bare {
-        Some(side) => {
-            let fault = fault_with(plan, &mesh, &labels, side);
-            Ok(AnyVerdict::No(AnyFault::Check(CheckFault::Mesh(fault))))
+    let judged = judge_mesh(alloc, plan, two.cert.triangles(), two.groups.as_slice())?;
+    match judged {
+        MeshVerdict::Broken(fault) => Ok(AnyVerdict::No(fault)),
+        MeshVerdict::Good(over) => {
+            let verdict = judge_grouped(alloc, table, two, &over)?;
+            Ok(any_of(verdict))
         }
-        None => judge_sided(alloc, plan, table, two, &mesh, &labels),
     }
 }
 

@@ -5,6 +5,7 @@
 //! rays and trees are judged there. Two sectors see each other where some groups that contain them do.
 #![tactic(auto)]
 
+mod grouping;
 mod judge;
 mod lists;
 mod members;
@@ -12,5 +13,6 @@ mod meshes;
 mod pairs;
 mod verdict;
 
-pub use judge::{check_any, check_two};
-pub use verdict::{AnyFault, AnyVerdict};
+pub use grouping::{GroupedMesh, MeshVerdict, judge_mesh};
+pub use judge::{check_any, check_two, judge_sectors};
+pub use verdict::{AnyFault, AnyVerdict, any_of};

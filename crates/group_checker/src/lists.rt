@@ -5,11 +5,9 @@ ghost use Rattle.sight_names.specs.Mesh.{IsPlainMesh, label_of};
 ghost use Rattle.sight_names.specs.Map.{map_of};
 ghost use Rattle.mesh_shape.specs.Search.{IsSearch};
 ghost use Rattle.tree_judge.specs.Marks.{IsMarked};
-ghost use Rattle.cert_format.specs.Accepted.{triangles_of, labels_of};
-ghost use Rattle.group_checker.specs.Judged.{IsTwoFor};
-ghost use Rattle.group_checker.specs.Lists.{HasItsList, IsGroupOf, IsListRight, IsUsedBelow, IsUsedGroup};
+ghost use Rattle.group_checker.specs.Lists.{AreGroupLabels, HasItsList, IsGroupFault, IsGroupOf, IsListRight, IsUsedBelow, IsUsedGroup};
 
-use cert_groups::CertTwo;
+use crate::verdict::AnyFault;
 use face_groups::{Group, faces};
 use mesh_shape::{Labels, Mesh};
 use sight_names::{Memory, Plan};
@@ -44,7 +42,7 @@ fn is_group_of(groups: &[Group], label: Option<u16>, names: &[u16]) -> bool
 }
 
 /// The least triangle whose label's group isn't the list that it has here.
-pub fn first_other_list(groups: &[Group], labels: &Labels, lists: &[Group]) -> Option<u16>
+fn first_other_list(groups: &[Group], labels: &Labels, lists: &[Group]) -> Option<u16>
     requires len { length lists.now ≡ length labels.now }
     requires few { length lists.now ≤ 8192 }
     ensures { IsSearch (HasItsList groups.now labels.now lists.now) result }
@@ -84,32 +82,52 @@ fn first_unmarked(marks: &[bool]) -> Option<u16>
 }
 
 /// The least of so many groups that is no triangle's label.
-pub fn first_unused(
-    alloc: Global,
-    count: u16,
-    labels: &[Option<u16>],
-) -> Result<Option<u16>, Memory>
+fn first_unused(alloc: Global, count: u16, labels: &[Option<u16>]) -> Result<Option<u16>, Memory>
     ensures { IfOk result (IsSearch (IsUsedGroup count labels.now)) }
 {
     let marks = used(alloc, count, labels)?;
     Ok(first_unmarked(marks.as_slice()))
 }
 
-/// The least triangle for which the table has another list than that of its face.
-pub fn first_wrong_list(
+/// The least triangle whose group isn't the list of its face.
+fn first_wrong_list(
     alloc: Global,
     plan: &Plan,
-    two: &CertTwo,
+    groups: &[Group],
     mesh: &Mesh,
     labels: &Labels,
 ) -> Result<Option<u16>, Memory>
-    requires cert { IsTwoFor plan.now two.now }
-    requires triangles { mesh.now.triangles ≡ triangles_of two.now.cert }
-    requires labels { labels.now ≡ labels_of two.now.cert }
-    requires plain { IsPlainMesh (map_of plan.now) (triangles_of two.now.cert) }
-    ensures { IfOk result (IsSearch (IsListRight (map_of plan.now) (triangles_of two.now.cert) two.now.groups (labels_of two.now.cert))) }
+    requires labels { AreGroupLabels (length groups.now) mesh.now.triangles labels.now }
+    requires plain { IsPlainMesh (map_of plan.now) mesh.now.triangles }
+    ensures { IfOk result (IsSearch (IsListRight (map_of plan.now) mesh.now.triangles groups.now labels.now)) }
 {
     let lists = faces(alloc, plan, mesh)?;
     let _ = mesh.triangles();
-    Ok(first_other_list(two.groups.as_slice(), labels, lists.as_slice()))
+    Ok(first_other_list(groups, labels, lists.as_slice()))
+}
+
+/// The first fault of the groups: a triangle whose group isn't the list of its face, or else a group that no triangle has.
+pub fn group_fault(
+    alloc: Global,
+    plan: &Plan,
+    groups: &[Group],
+    mesh: &Mesh,
+    labels: &Labels,
+) -> Result<Option<AnyFault>, Memory>
+    requires few { length groups.now ≤ 8192 }
+    requires labels { AreGroupLabels (length groups.now) mesh.now.triangles labels.now }
+    requires plain { IsPlainMesh (map_of plan.now) mesh.now.triangles }
+    ensures { IfOk result (IsGroupFault (map_of plan.now) mesh.now.triangles groups.now labels.now) }
+{
+    let other = first_wrong_list(alloc, plan, groups, mesh, labels)?;
+    match other {
+        Some(triangle) => Ok(Some(AnyFault::Group { triangle })),
+        None => {
+            let unused = first_unused(alloc, groups.len() as u16, labels.as_slice())?;
+            match unused {
+                Some(group) => Ok(Some(AnyFault::Unused { group })),
+                None => Ok(None),
+            }
+        }
+    }
 }
