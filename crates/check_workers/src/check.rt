@@ -1,27 +1,41 @@
-//! The check with the trees judged in threads, in the order of its faults: mesh, rays, trees, pairs.
+//! The check with the trees judged in threads, in the order of its faults: mesh, groups, rays, trees, pairs.
 
 ghost use Rattle.std.specs.Prelude.{◌≡◌, ◌↔◌, length, IfOk};
 ghost use Rattle.sight_names.specs.Map.{map_of};
 ghost use Rattle.sight_names.specs.Mesh.{IsGoodMesh};
 ghost use Rattle.sight_names.specs.Plan.{IsPlan};
 ghost use Rattle.sight_names.specs.Sound.{LinesMeetAtEnds};
-ghost use Rattle.cert_format.specs.Accepted.{IsAccepted, triangles_of, labels_of};
+ghost use Rattle.cert_format.specs.Accepted.{triangles_of, labels_of};
+ghost use Rattle.cert_groups.specs.Grammar.{IsAnyInOrder, sizes_of};
+ghost use Rattle.accepted_groups.specs.Accepted.{IsAcceptedAny};
 ghost use Rattle.half_edges.specs.HalfEdges.{AreHalfEdges};
 ghost use Rattle.tree_judge.specs.Trees.{TellsTrees};
-ghost use Rattle.cert_checker.specs.Judged.{JudgesMesh, JudgesRays, JudgesTrees, JudgesPairs, IsLaterVerdict, IsYes};
-ghost use Rattle.cert_checker.specs.Sight.{TellsSight};
+ghost use Rattle.cert_checker.specs.Judged.{IsLaterVerdict, JudgesPairs, JudgesRays, JudgesTrees};
+ghost use Rattle.group_checker.specs.Judged.{IsTwoFor, IsTwoOf, IsYesAny, JudgesAny, JudgesOne, JudgesTwo, TellsPairs, TellsSightAny};
+ghost use Rattle.check_workers.specs.Walked.{TellsWalked};
 
 use crate::join::join;
 use crate::parts::judge_parts;
 use cert_checker::{Verdict, judge_reached, mesh_of, ray_fault};
 use cert_format::Cert;
+use cert_groups::{AnyCert, CertTwo};
+use group_checker::{
+    AnyFault, AnyVerdict, GroupedMesh, MeshVerdict, any_of, judge_mesh, judge_sectors,
+};
 use half_edges::HalfEdges;
 use mesh_shape::{Labels, Mesh, mesh_fault};
 use reject_bits::Table;
 use sight_names::{CheckFault, Memory, Plan};
 use std::alloc::Global;
 use std::thread::Threads;
-use tree_judge::{Roots, Terrain, TreeVerdict};
+use tree_judge::{Reach, Roots, Terrain, TreeVerdict};
+
+/// What the trees keep from, where all rays and trees are right; or the first fault of these.
+#[derive(Drop)]
+pub enum Walked {
+    Right(Reach),
+    Wrong(CheckFault),
+}
 
 /// Whether all trees of the certificate are whole over its triangles, and what they keep from; or the first that isn't. Parts
 /// of the trees are judged in threads, and what is found of them is taken in the order of the trees.
@@ -49,7 +63,34 @@ fn judge_trees_par<R: Threads + Sync>(
     join(alloc, plan.sectors, parts.as_slice())
 }
 
-/// Judges rays, trees and pairs, on a good mesh.
+/// Judges rays and trees, on a good mesh.
+fn judge_walks<R: Threads + Sync>(
+    rt: &R,
+    alloc: Global,
+    plan: &Plan,
+    cert: &Cert,
+    mesh: &Mesh,
+    labels: &Labels,
+) -> Result<Walked, Memory>
+    requires plan { IsPlan plan.now }
+    requires sectors { cert.now.sizes.sectors ≡ plan.now.sectors }
+    requires triangles { mesh.now.triangles ≡ triangles_of cert.now }
+    requires labels { labels.now ≡ labels_of cert.now }
+    requires good { IsGoodMesh (map_of plan.now) mesh.now.triangles (labels_of cert.now) }
+    ensures { IfOk result (TellsWalked (map_of plan.now) cert.now) }
+{
+    let edges = HalfEdges::of(alloc, plan, mesh, labels)?;
+    if let Some(fault) = ray_fault(plan, mesh, &edges, cert.rays()) {
+        return Ok(Walked::Wrong(fault));
+    }
+    let trees = judge_trees_par(rt, alloc, plan, cert, mesh, &edges)?;
+    match trees {
+        TreeVerdict::Whole(reach) => Ok(Walked::Right(reach)),
+        TreeVerdict::Wrong { source, node } => Ok(Walked::Wrong(CheckFault::Tree { source, node })),
+    }
+}
+
+/// Judges rays, trees and pairs of a certificate of version 1, on a good mesh.
 fn judge_rest<R: Threads + Sync>(
     rt: &R,
     alloc: Global,
@@ -70,44 +111,138 @@ fn judge_rest<R: Threads + Sync>(
     ensures trees { IfOk result (JudgesTrees (map_of plan.now) cert.now) }
     ensures pairs { IfOk result (JudgesPairs (map_of plan.now) table.now cert.now) }
 {
-    let edges = HalfEdges::of(alloc, plan, mesh, labels)?;
-    if let Some(fault) = ray_fault(plan, mesh, &edges, cert.rays()) {
-        return Ok(Verdict::No(fault));
-    }
-    let reach = match judge_trees_par(rt, alloc, plan, cert, mesh, &edges)? {
-        TreeVerdict::Whole(reach) => reach,
-        TreeVerdict::Wrong { source, node } => {
-            return Ok(Verdict::No(CheckFault::Tree { source, node }));
+    let walked = judge_walks(rt, alloc, plan, cert, mesh, labels)?;
+    match walked {
+        Walked::Wrong(fault) => Ok(Verdict::No(fault)),
+        Walked::Right(reach) => {
+            judge_reached(alloc, plan, table, cert.listed(), cert.rays(), &reach)
         }
-    };
-    judge_reached(alloc, plan, table, cert.listed(), cert.rays(), &reach)
+    }
 }
 
-/// Judges the table by the certificate, its trees in threads where some can be had: yes with the totals exactly where the
-/// certificate is accepted, or the first fault in order. On yes no rejected pair sees, and each clear pair that isn't
-/// listed does.
-pub fn check_par<R: Threads + Sync>(
+/// Judges the table by a certificate of version 1: the first fault in the order of mesh, rays, trees and pairs, or yes.
+fn judge_one<R: Threads + Sync>(
     rt: &R,
     alloc: Global,
     plan: &Plan,
     table: &Table,
     cert: &Cert,
-) -> Result<Verdict, Memory>
-    requires audited { LinesMeetAtEnds (map_of plan.now) }
+) -> Result<AnyVerdict, Memory>
     requires table { table.now.n ≡ plan.now.sectors }
     requires sectors { cert.now.sizes.sectors ≡ plan.now.sectors }
     requires points { cert.now.sizes.points ≡ length plan.now.points }
-    requires lines { cert.now.sizes.lines ≡ length plan.now.lines }
-    ensures mesh { IfOk result (JudgesMesh (map_of plan.now) cert.now) }
-    ensures rays { IfOk result (JudgesRays (map_of plan.now) cert.now) }
-    ensures trees { IfOk result (JudgesTrees (map_of plan.now) cert.now) }
-    ensures pairs { IfOk result (JudgesPairs (map_of plan.now) table.now cert.now) }
-    ensures accepted { IfOk result (λ v. IsYes v ↔ IsAccepted (map_of plan.now) table.now.bytes cert.now) }
-    ensures sight { IfOk result (λ v. IsYes v → TellsSight (map_of plan.now) table.now cert.now) }
+    ensures { IfOk result (JudgesOne (map_of plan.now) table.now cert.now) }
 {
     let (mesh, labels) = mesh_of(alloc, plan, cert)?;
     match mesh_fault(plan, &mesh, &labels) {
-        Some(fault) => Ok(Verdict::No(CheckFault::Mesh(fault))),
-        None => judge_rest(rt, alloc, plan, table, cert, &mesh, &labels),
+        Some(fault) => Ok(AnyVerdict::No(AnyFault::Check(CheckFault::Mesh(fault)))),
+        None => {
+            let verdict = judge_rest(rt, alloc, plan, table, cert, &mesh, &labels)?;
+            Ok(any_of(verdict))
+        }
     }
+}
+
+/// Judges rays, trees and pairs of a certificate of version 2, over the map of groups.
+fn judge_grouped<R: Threads + Sync>(
+    rt: &R,
+    alloc: Global,
+    table: &Table,
+    two: &CertTwo,
+    over: &GroupedMesh,
+) -> Result<Verdict, Memory>
+    requires cert { IsTwoOf table.now.n two.now }
+    requires triangles { over.now.mesh.triangles ≡ triangles_of two.now.cert }
+    requires labels { over.now.labels ≡ labels_of two.now.cert }
+    requires sectors { over.now.plan.sectors ≡ length two.now.groups }
+    requires plan { IsPlan over.now.plan }
+    requires good { IsGoodMesh (map_of over.now.plan) over.now.mesh.triangles (labels_of two.now.cert) }
+    ensures later { IfOk result IsLaterVerdict }
+    ensures rays { IfOk result (JudgesRays (map_of over.now.plan) two.now.cert) }
+    ensures trees { IfOk result (JudgesTrees (map_of over.now.plan) two.now.cert) }
+    ensures pairs { IfOk result (TellsPairs (map_of over.now.plan) table.now two.now) }
+{
+    let walked = judge_walks(rt, alloc, &over.plan, &two.cert, &over.mesh, &over.labels)?;
+    match walked {
+        Walked::Wrong(fault) => Ok(Verdict::No(fault)),
+        Walked::Right(reach) => {
+            let (groups, listed) = (two.groups.as_slice(), two.listed.as_slice());
+            judge_sectors(
+                alloc,
+                &over.plan,
+                table,
+                groups,
+                listed,
+                two.cert.rays(),
+                &reach,
+            )
+        }
+    }
+}
+
+/// Judges the table by a certificate of version 2: the first fault in the order of mesh, groups, rays, trees and pairs, or yes.
+fn judge_two<R: Threads + Sync>(
+    rt: &R,
+    alloc: Global,
+    plan: &Plan,
+    table: &Table,
+    two: &CertTwo,
+) -> Result<AnyVerdict, Memory>
+    requires table { table.now.n ≡ plan.now.sectors }
+    requires cert { IsTwoFor plan.now two.now }
+    ensures { IfOk result (JudgesTwo plan.now table.now two.now) }
+{
+    let judged = judge_mesh(alloc, plan, two.cert.triangles(), two.groups.as_slice())?;
+    match judged {
+        MeshVerdict::Broken(fault) => Ok(AnyVerdict::No(fault)),
+        MeshVerdict::Good(over) => {
+            let verdict = judge_grouped(rt, alloc, table, two, &over)?;
+            Ok(any_of(verdict))
+        }
+    }
+}
+
+/// The first fault in the order of the version, or yes.
+fn judge_any<R: Threads + Sync>(
+    rt: &R,
+    alloc: Global,
+    plan: &Plan,
+    table: &Table,
+    cert: &AnyCert,
+) -> Result<AnyVerdict, Memory>
+    requires table { table.now.n ≡ plan.now.sectors }
+    requires sectors { (sizes_of cert.now).sectors ≡ plan.now.sectors }
+    requires points { (sizes_of cert.now).points ≡ length plan.now.points }
+    requires lines { (sizes_of cert.now).lines ≡ length plan.now.lines }
+    requires in_order { IsAnyInOrder cert.now }
+    ensures { IfOk result (JudgesAny plan.now table.now cert.now) }
+{
+    match cert {
+        AnyCert::One(one) => judge_one(rt, alloc, plan, table, one),
+        AnyCert::Two(two, _) => judge_two(rt, alloc, plan, table, two),
+    }
+}
+
+/// Judges the table by a certificate of either version, its trees in threads where some can be had: yes with the totals
+/// exactly where the certificate is accepted, or the first fault in order. On yes no rejected pair sees, and each clear pair
+/// that isn't listed does.
+pub fn check_any_par<R: Threads + Sync>(
+    rt: &R,
+    alloc: Global,
+    plan: &Plan,
+    table: &Table,
+    cert: &AnyCert,
+) -> Result<AnyVerdict, Memory>
+    requires audited { LinesMeetAtEnds (map_of plan.now) }
+    requires table { table.now.n ≡ plan.now.sectors }
+    requires sectors { (sizes_of cert.now).sectors ≡ plan.now.sectors }
+    requires points { (sizes_of cert.now).points ≡ length plan.now.points }
+    requires lines { (sizes_of cert.now).lines ≡ length plan.now.lines }
+    requires in_order { IsAnyInOrder cert.now }
+    ensures exact { IfOk result (JudgesAny plan.now table.now cert.now) }
+    ensures accepted { IfOk result (λ v. IsYesAny v ↔ IsAcceptedAny (map_of plan.now) table.now.bytes cert.now) }
+    ensures sight { IfOk result (λ v. IsYesAny v → TellsSightAny (map_of plan.now) table.now cert.now) }
+{
+    let _ = plan.lines();
+    judge_any(rt, alloc, plan, table, cert)
 }
