@@ -2,32 +2,28 @@
 use Rattle.std.specs.Prelude.{◌≡◌, ◌↔◌, ℕ, List, Result, Ok, Err, ⊤}
 use Rattle.sight_names.specs.declared.faults.FetchFault.{FetchFault}
 use Rattle.sight_names.specs.declared.faults.FetchFault.TheVariants as fetch
-use Rattle.sight_names.specs.Map.{Map, map_of}
+use Rattle.sight_names.specs.Map.{map_of}
 use Rattle.sight_names.specs.Plan.{PlanParts}
 use Rattle.reject_bits.specs.Parts.{TableParts}
-use Rattle.cert_format.specs.Accepted.{IsAccepted}
-use Rattle.cert_format.specs.Parts.{CertParts}
-use Rattle.cert_format.specs.Reading.{reading}
 use Rattle.cert_format.specs.Sizes.{sizes_of}
-use Rattle.cert_checker.specs.declared.verdict.Verdict.{Verdict}
-use Rattle.cert_checker.specs.Judged.{JudgesMesh, JudgesPairs, JudgesRays, JudgesTrees, IsYes}
-use Rattle.cert_checker.specs.Sight.{TellsSight}
+use Rattle.cert_groups.specs.declared.cert.AnyCert.{AnyCert}
+use Rattle.cert_groups.specs.Reading.{any_at}
+use Rattle.accepted_groups.specs.Accepted.{IsAcceptedAny}
+use Rattle.group_checker.specs.declared.verdict.AnyVerdict.{AnyVerdict}
+use Rattle.group_checker.specs.Judged.{IsYesAny, JudgesAny, TellsSightAny}
 use Rattle.cert_judge.specs.declared.judged.Judged.{Judged}
 use Rattle.cert_judge.specs.Judged.{JudgedBy}
 
--- what is promised of a verdict on a table by a certificate
-pub record IsJudged (m : Map) (table : TableParts) (cert : CertParts) (verdict : Verdict) : Type 0 where
-  pub mesh : JudgesMesh m cert verdict
-  pub rays : JudgesRays m cert verdict
-  pub trees : JudgesTrees m cert verdict
-  pub pairs : JudgesPairs m table cert verdict
+-- what is promised of a verdict on a table by a certificate of either version
+pub record IsJudged (p : PlanParts) (table : TableParts) (cert : AnyCert) (verdict : AnyVerdict) : Type 0 where
+  pub exact : JudgesAny p table cert verdict
   -- it is yes exactly where the certificate is accepted for the table, and then no rejected pair sees
-  pub accepted : IsYes verdict ↔ IsAccepted m table.bytes cert
-  pub sight : IsYes verdict → TellsSight m table cert
+  pub accepted : IsYesAny verdict ↔ IsAcceptedAny (map_of p) table.bytes cert
+  pub sight : IsYesAny verdict → TellsSightAny (map_of p) table cert
 
 -- the verdict by the certificate that the bytes spell for the plan, or the first fault where they spell none
 abbrev pub IsJudgement : PlanParts → TableParts → List ℕ → Judged → Type 0
-IsJudgement p table bytes given = JudgedBy (reading (sizes_of p) bytes) (IsJudged (map_of p) table) given
+IsJudgement p table bytes given = JudgedBy (any_at (sizes_of p) bytes) (IsJudged p table) given
 
 -- the content is these bytes, and this is what they give
 pub record JudgesContent (p : PlanParts) (table : TableParts) (given : Judged) (content : Result (List ℕ) FetchFault) : Type 0 where

@@ -2,6 +2,7 @@
 use Rattle.std.proofs.Common.{◌≡◌, ℕ, List, [], ◌∷◌, ◌++◌, Option, Some, None, map, Bool, true, false, refl, sym, ◌∙◌, ap}
 use Rattle.std.specs.List.{flat_map}
 use Rattle.std.specs.Option.{option_to_list}
+use Rattle.std.specs.Prelude.{option_map}
 use Rattle.std.proofs.lemmas.List.{append-nil, append_assoc}
 use Rattle.sight_names.specs.declared.names.Pair.{Pair}
 use Rattle.sight_names.specs.declared.names.PairRay.{PairRay}
@@ -11,15 +12,18 @@ use Rattle.cert_format.specs.declared.cert.Labelled.{Labelled}
 use Rattle.cert_parts.specs.declared.part.Part.{Part}
 use Rattle.cert_parts.specs.declared.part.Part.TheVariants.{Triangle, Ray, Listed, Node as OfNode}
 use Rattle.cert_format.specs.Parts.{CertParts}
-use Rattle.cert_parts.specs.Parts.{tree_parts, parts_of}
-use Rattle.cert_judge.specs.Heard.{Heard, nothing, with_part, heard_from}
+use Rattle.cert_groups.specs.declared.cert.AnyCert.{AnyCert}
+use Rattle.cert_groups.specs.declared.cert.AnyCert.TheVariants.{One, Two}
+use Rattle.cert_parts.specs.Parts.{tree_parts, parts_of, any_parts_of}
+use Rattle.tree_judge.specs.Walked.{with_node, with_nodes}
+use Rattle.cert_judge.specs.Heard.{Heard, nothing, with_part, node_parts, heard_from}
 use Rattle.cert_judge.specs.Whole.{IsAllOf}
 
 pub heard_one_more : (h : Heard) (parts : List Part) (part : Part) → heard_from h (parts ++ part ∷ []) ≡ with_part (heard_from h parts) part
 heard_one_more h [] part = refl
 heard_one_more h (first ∷ parts) part = heard_one_more (with_part h first) parts part
 
-heard_both : (h : Heard) (parts more : List Part) → heard_from h (parts ++ more) ≡ heard_from (heard_from h parts) more
+pub heard_both : (h : Heard) (parts more : List Part) → heard_from h (parts ++ more) ≡ heard_from (heard_from h parts) more
 heard_both h [] more = refl
 heard_both h (part ∷ parts) more = heard_both (with_part h part) parts more
 
@@ -66,8 +70,15 @@ trees_heard b ts rs ps front tree (t ∷ more) =
       all = h.all ∙ append_assoc (front ++ option_to_list tree) (t ∷ []) more;
     }
 
-pub all_heard : (c : CertParts) → IsAllOf c (heard_from nothing (parts_of c))
-all_heard c = record {
+-- the triangles, rays, listed pairs and trees of these lists
+record AreListsHeard (c : CertParts) (h : Heard) : Type 0 where
+  triangles : h.triangles ≡ c.triangles
+  rays : h.rays ≡ c.rays
+  listed : h.listed ≡ c.listed
+  trees : h.front ++ option_to_list h.tree ≡ c.trees
+
+lists_heard : (c : CertParts) → AreListsHeard c (heard_from nothing (parts_of c))
+lists_heard c = record {
   triangles = ap (λ (h : Heard). h.triangles) all;
   rays = ap (λ (h : Heard). h.rays) all;
   listed = ap (λ (h : Heard). h.listed) all;
@@ -91,3 +102,43 @@ all_heard c = record {
         ∙ heard_both (made c.triangles rays.0 c.rays [] [] None) (map (λ p. Listed p) c.listed) (flat_map tree_parts c.trees)
         ∙ ap (λ (h : Heard). heard_from h (flat_map tree_parts c.trees)) listed.1
         ∙ trees.is
+
+pub all_heard : (c : AnyCert) → IsAllOf c (heard_from nothing (any_parts_of c).1)
+all_heard (One c) = let h = lists_heard c in record { triangles = h.triangles; rays = h.rays; listed = h.listed; trees = h.trees }
+all_heard (Two c sizes) =
+    let h = lists_heard (record { sizes = c.cert.sizes; triangles = c.cert.triangles; rays = c.cert.rays; listed = c.listed; trees = c.cert.trees }) in
+    record { triangles = h.triangles; rays = h.rays; listed = h.listed; trees = h.trees }
+
+-- ---- nodes of the last tree
+
+module _ (ns : List Node) where
+  -- what was heard with these nodes of the last tree
+  abbrev pub with_all : Heard → Heard
+  with_all h = record { triangles = h.triangles; closed = true; rays = h.rays; listed = h.listed; front = h.front; tree = option_map (with_nodes ns) h.tree }
+
+abbrev same_but : Heard → Bool → Option Tree → Heard
+same_but h closed tree = record { triangles = h.triangles; closed = closed; rays = h.rays; listed = h.listed; front = h.front; tree = tree }
+
+none_more : (o : Option Tree) → option_map (with_nodes []) o ≡ o
+none_more None = refl
+none_more (Some t) = ap (λ (ns : List Node). let u : Option Tree = Some (record { source = t.source; nodes = ns }) in u) (append-nil t.nodes)
+
+more_then : (n : Node) (ns : List Node) (o : Option Tree) → option_map (with_nodes ns) (option_map (with_node n) o) ≡ option_map (with_nodes (n ∷ ns)) o
+more_then n ns None = refl
+more_then n ns (Some t) = ap (λ (us : List Node). let u : Option Tree = Some (record { source = t.source; nodes = us }) in u) (append_assoc t.nodes (n ∷ []) ns)
+
+pub last_nodes_heard : (h : Heard) (ns : List Node) → h.closed ≡ true → heard_from h (node_parts ns) ≡ with_all ns h
+last_nodes_heard h [] e = ap (λ (b : Bool). same_but h b h.tree) e ∙ ap (same_but h true) (sym (none_more h.tree))
+last_nodes_heard h (n ∷ ns) e = last_nodes_heard (with_part h (OfNode n)) ns refl ∙ ap (same_but h true) (more_then n ns h.tree)
+
+pub same_triangles : (h : Heard) (ns : List Node) → (heard_from h (node_parts ns)).triangles ≡ h.triangles
+same_triangles h [] = refl
+same_triangles h (n ∷ ns) = same_triangles (with_part h (OfNode n)) ns
+
+pub same_rays : (h : Heard) (ns : List Node) → (heard_from h (node_parts ns)).rays ≡ h.rays
+same_rays h [] = refl
+same_rays h (n ∷ ns) = same_rays (with_part h (OfNode n)) ns
+
+pub same_listed : (h : Heard) (ns : List Node) → (heard_from h (node_parts ns)).listed ≡ h.listed
+same_listed h [] = refl
+same_listed h (n ∷ ns) = same_listed (with_part h (OfNode n)) ns

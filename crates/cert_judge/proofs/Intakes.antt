@@ -1,8 +1,7 @@
 -- What has become of the bytes, from part to part and from piece to piece, and what comes of them at the end.
-use Rattle.std.proofs.Common.{◌≡◌, ℕ, zero, suc, ◌+◌, ◌-◌, ◌<◌, ◌≤◌, ◌^◌, List, [], ◌∷◌, ◌++◌, length, Some, None, Result, Ok, Err, false, Contains, refl, sym, ap, subst, ◌∙◌, append_assoc, arith, inl, inr}
+use Rattle.std.proofs.Common.{◌≡◌, ℕ, zero, suc, ◌+◌, ◌-◌, ◌<◌, ◌≤◌, ◌^◌, List, [], ◌∷◌, ◌++◌, length, Some, Result, Ok, Err, Contains, refl, sym, ap, subst, ◌∙◌, append_assoc, arith, inl, inr}
 use Rattle.std.specs.List.{AllByRecursion}
 use Rattle.std.proofs.lemmas.List.{append-nil, length-append}
-use Rattle.std.proofs.lemmas.Option.{MatchOption-at_none}
 use Rattle.list_base.proofs.Lists.{contains_none}
 use Rattle.sight_names.proofs.Lists.{contains_cases}
 use Rattle.sight_names.specs.declared.faults.CertFault.{CertFault}
@@ -12,70 +11,106 @@ use Rattle.sight_tree.specs.declared.Tree.{Tree}
 use Rattle.reject_bits.specs.Parts.{TableParts}
 use Rattle.cert_format.specs.declared.cert.Sizes.{Sizes}
 use Rattle.cert_format.specs.Grammar.{FitsTree}
-use Rattle.cert_format.specs.Parts.{CertParts}
-use Rattle.cert_format.specs.Reading.{◌>>=◌, reading, node_at}
+use Rattle.cert_format.specs.Reading.{◌>>=◌}
 use Rattle.cert_format.specs.Sizes.{sizes_of}
 use Rattle.cert_format.proofs.FieldLaws.{bind_ok, ok_is}
-use Rattle.cert_format.proofs.WholeLaws.{reading_takes}
+use Rattle.cert_groups.specs.declared.cert.AnyCert.{AnyCert}
+use Rattle.cert_groups.specs.declared.cert.AnyCert.TheVariants.{One, Two}
+use Rattle.cert_groups.specs.Grammar.{IsTwoInOrder, SpellsAny}
+use Rattle.cert_groups.specs.Reading.{any_at}
+use Rattle.cert_groups.proofs.AnyLaws.{any_takes}
 use Rattle.cert_parts.specs.declared.part.Part.{Part}
-use Rattle.cert_parts.specs.declared.part.Part.TheVariants.{Node as OfNode}
-use Rattle.cert_parts.specs.Parts.{parts_of, reading_parts}
-use Rattle.cert_parts.specs.Left.{IsCountable, parts_left, put_before}
-use Rattle.cert_parts.specs.Nodes.{AwaitsNodes, behind_nodes}
-use Rattle.cert_parts.proofs.State.{node_behind}
+use Rattle.cert_parts.specs.Parts.{AnyParts, any_parts_of, reading_any_parts}
+use Rattle.cert_parts.specs.Left.{ReaderState, parts_left, put_before}
+use Rattle.cert_parts.specs.Nodes.{ReadsNodes, AwaitsNodes, behind_nodes}
+use Rattle.cert_parts.proofs.Stretches.{put_all as put_behind, reads_within, nodes_behind}
 use Rattle.cert_judge.specs.declared.intake.Intake.{Intake}
-use Rattle.cert_judge.specs.declared.judge.Judge.{Judge}
-use Rattle.cert_judge.specs.declared.judging.Judging.{Judging}
+use Rattle.cert_judge.specs.Heard.{node_parts}
 use Rattle.cert_judge.specs.Whole.{IsCertOf}
 use Rattle.cert_judge.specs.Judging.{HasHeard, HasHeardAll}
-use Rattle.cert_judge.specs.Judge.{MayBeFed}
 use Rattle.cert_judge.specs.Intake.{put_all, AreBytes, IsGoingOn, AreRefused}
+use Rattle.cert_judge.specs.Version.{Groups}
 
 -- ---- parts, one behind the other
 
-abbrev pub all_read : List Part → Result (List Part) CertFault
-all_read parts = Ok parts
+abbrev all_read : Groups → List Part → Result AnyParts CertFault
+all_read groups parts = Ok (groups, parts)
 
-put_one_more : (parts : List Part) (part : Part) (left : Result (List Part) CertFault) → put_all (parts ++ part ∷ []) left ≡ put_all parts (put_before (Some part) left)
-put_one_more parts part (Ok others) = ap all_read (append_assoc parts (part ∷ []) others)
-put_one_more parts part (Err f) = refl
+put_one_more : (groups : Groups) (parts : List Part) (part : Part) (left : Result (List Part) CertFault) → put_all groups (parts ++ part ∷ []) left ≡ put_all groups parts (put_before (Some part) left)
+put_one_more groups parts part (Ok others) = ap (all_read groups) (append_assoc parts (part ∷ []) others)
+put_one_more groups parts part (Err f) = refl
 
 module _ (p : PlanParts) (t : TableParts) (bytes rest : List ℕ) (k : Intake) (w : IsGoingOn p t bytes rest k) where
   -- the next part was read and heard
   pub part_taken : (part : Part) (behind : List ℕ) (new : Intake) → ((more : List ℕ) → parts_left k.reader (rest ++ more) ≡ put_before (Some part) (parts_left new.reader (behind ++ more)))
-      → new.reader.given + length behind ≡ k.reader.given + length rest → HasHeard p t (w.parts ++ part ∷ []) new.judging → IsGoingOn p t bytes behind new
+      → new.reader.given + length behind ≡ k.reader.given + length rest → HasHeard p t w.groups (w.parts ++ part ∷ []) new.judging → IsGoingOn p t bytes behind new
   part_taken part behind new told given heard = record {
     small = w.small;
     fit = w.fit;
+    groups = w.groups;
     parts = w.parts ++ part ∷ [];
     heard = heard;
     given = given ∙ w.given;
-    left = λ more. w.left more ∙ ap (put_all w.parts) (told more) ∙ sym (put_one_more w.parts part (parts_left new.reader (behind ++ more)));
+    left = λ more. w.left more ∙ ap (put_all w.groups w.parts) (told more) ∙ sym (put_one_more w.groups w.parts part (parts_left new.reader (behind ++ more)));
+  }
+
+  -- or all bytes were taken
+  pub all_taken : (behind : List ℕ) (new : Intake) → ((more : List ℕ) → parts_left k.reader (rest ++ more) ≡ parts_left new.reader (behind ++ more)) → behind ≡ [] → new.reader.given + length behind ≡ k.reader.given + length rest → new.judging ≡ k.judging → IsGoingOn p t bytes [] new
+  all_taken behind new told none given same = record {
+    small = w.small;
+    fit = w.fit;
+    groups = w.groups;
+    parts = w.parts;
+    heard = subst (HasHeard p t w.groups w.parts) (sym same) w.heard;
+    given = ap (λ (b : List ℕ). new.reader.given + length b) (sym none) ∙ given ∙ w.given;
+    left = λ more. w.left more ∙ ap (put_all w.groups w.parts) (told more ∙ ap (λ (b : List ℕ). parts_left new.reader (b ++ more)) none);
   }
 
   -- or a fault was met
   pub fault_taken : (f : CertFault) → ((more : List ℕ) → parts_left k.reader (rest ++ more) ≡ Err f) → AreRefused p bytes f
-  fault_taken f told more = w.left more ∙ ap (put_all w.parts) (told more)
+  fault_taken f told more = w.left more ∙ ap (put_all w.groups w.parts) (told more)
 
 -- ---- nodes, one by one, while the reader stays where the first of them began
 
--- the intake with the reader behind the nodes that were taken
-abbrev pub at_rest : List ℕ → List ℕ → ℕ → Intake → Intake
-at_rest ahead rest left k = record k { reader = behind_nodes k.reader left (length ahead - length rest) }
+put_both : (groups : Groups) (parts more : List Part) (left : Result (List Part) CertFault) → put_all groups parts (put_behind more left) ≡ put_all groups (parts ++ more) left
+put_both groups parts more (Ok others) = ap (all_read groups) (sym (append_assoc parts more others))
+put_both groups parts more (Err f) = refl
 
-module _ (p : PlanParts) (t : TableParts) (bytes ahead : List ℕ) (k : Intake) (count : ℕ) (awaits : AwaitsNodes k.reader count) where
-  -- the next one was read and heard
-  pub node_taken : (rest behind : List ℕ) (left : ℕ) (n : Node) (j : Judging) (w : IsGoingOn p t bytes rest (at_rest ahead rest left k)) → 0 < left → ((total : ℕ) → node_at total rest ≡ Ok (n, behind)) → length behind < length rest → length rest ≤ length ahead
-      → HasHeard p t (w.parts ++ OfNode n ∷ []) j → IsGoingOn p t bytes behind (at_rest ahead behind (left - 1) (record k { judging = j }))
-  node_taken rest behind left n j w some read less within heard =
-      let moved : length ahead - length behind + length behind ≡ length ahead - length rest + length rest = omega (arith, less, within) in
-      let new = at_rest ahead behind (left - 1) (record k { judging = j }) in
-      part_taken p t bytes rest (at_rest ahead rest left k) w (OfNode n) behind new (λ more. node_behind k.reader count left (length ahead - length rest) (length ahead - length behind) rest behind more n awaits some read moved)
-      (omega (arith, moved)) heard
+at_start : (s : ReaderState) (count : ℕ) → s.awaited.nodes ≡ count → s ≡ behind_nodes s count 0
+at_start s count e =
+    let same : s.given ≡ s.given + 0 = omega arith in
+    ap (λ (n : ℕ). let u : ReaderState = record s { given = n } in u) same ∙ ap (λ (n : ℕ). let u : ReaderState = record s { awaited = record s.awaited { nodes = n }; given = s.given + 0 } in u) e
+
+module _ (p : PlanParts) (t : TableParts) (bytes ahead : List ℕ) (k : Intake) (count : ℕ) (awaits : AwaitsNodes k.reader count) (w : IsGoingOn p t bytes ahead k) where
+  -- they were read and heard
+  pub nodes_taken : (ns : List Node) (rest : List ℕ) (left : ℕ) (new : Intake) → ReadsNodes ahead ns rest → length ns + left ≡ count → HasHeard p t w.groups (w.parts ++ node_parts ns) new.judging
+      → new.reader ≡ behind_nodes k.reader left (length ahead - length rest) → IsGoingOn p t bytes rest new
+  nodes_taken ns rest left new read counted heard behind =
+      let within : length rest ≤ length ahead = reads_within ahead ns rest read in
+      let given : new.reader.given ≡ k.reader.given + (length ahead - length rest) = ap (λ (s : ReaderState). s.given) behind in
+      record {
+        small = w.small;
+        fit = w.fit;
+        groups = w.groups;
+        parts = w.parts ++ node_parts ns;
+        heard = heard;
+        given = omega (arith, given, within, w.given);
+        left = λ more. w.left more ∙ ap (put_all w.groups w.parts) (told more) ∙ put_both w.groups w.parts (node_parts ns) (parts_left new.reader (rest ++ more));
+      }
+    where
+      none : 0 + (length ahead - length rest) ≡ length ahead - length rest
+      none = omega arith
+
+      told : (more : List ℕ) → parts_left k.reader (ahead ++ more) ≡ put_behind (node_parts ns) (parts_left new.reader (rest ++ more))
+      told more =
+          ap (λ (s : ReaderState). parts_left s (ahead ++ more)) (at_start k.reader (length ns + left) (awaits.counted ∙ sym counted))
+          ∙ nodes_behind k.reader count awaits ns left 0 ahead rest more read
+          ∙ ap (λ (n : ℕ). put_behind (node_parts ns) (parts_left (behind_nodes k.reader left n) (rest ++ more))) none
+          ∙ ap (λ (s : ReaderState). put_behind (node_parts ns) (parts_left s (rest ++ more))) (sym behind)
 
 -- ---- a piece comes
 
-bytes_more : (bytes piece : List ℕ) → AreBytes bytes → AreBytes piece → AreBytes (bytes ++ piece)
+pub bytes_more : (bytes piece : List ℕ) → AreBytes bytes → AreBytes piece → AreBytes (bytes ++ piece)
 bytes_more [] piece a b i = b i
 bytes_more (x ∷ bytes) piece a b zero = a zero
 bytes_more (x ∷ bytes) piece a b (suc i) = bytes_more bytes piece (λ j. a (suc j)) b i
@@ -84,20 +119,21 @@ pub piece_comes : (p : PlanParts) (t : TableParts) (bytes piece : List ℕ) (k :
 piece_comes p t bytes piece k fit w = record {
   small = w.small;
   fit = bytes_more bytes piece w.fit fit;
+  groups = w.groups;
   parts = w.parts;
   heard = w.heard;
   given = omega (arith, w.given, length-append bytes piece);
-  left = λ more. ap (reading_parts (sizes_of p)) (append_assoc bytes piece more) ∙ w.left (piece ++ more);
+  left = λ more. ap (reading_any_parts (sizes_of p)) (append_assoc bytes piece more) ∙ w.left (piece ++ more);
 }
 
 -- ---- at the end
 
 -- what is said whatever bytes come is said of these
-pub refused_whole : (p : PlanParts) (bytes : List ℕ) (f : CertFault) → AreRefused p bytes f → reading_parts (sizes_of p) bytes ≡ Err f
-refused_whole p bytes f w = ap (reading_parts (sizes_of p)) (sym (append-nil bytes)) ∙ w []
+pub refused_whole : (p : PlanParts) (bytes : List ℕ) (f : CertFault) → AreRefused p bytes f → reading_any_parts (sizes_of p) bytes ≡ Err f
+refused_whole p bytes f w = ap (reading_any_parts (sizes_of p)) (sym (append-nil bytes)) ∙ w []
 
 -- a fault of the parts is one of the reading
-pub fault_read : (read : Result CertParts CertFault) (f : CertFault) → (read >>= λ c. Ok (parts_of c)) ≡ Err f → read ≡ Err f
+pub fault_read : (read : Result AnyCert CertFault) (f : CertFault) → (read >>= λ c. Ok (any_parts_of c)) ≡ Err f → read ≡ Err f
 fault_read (Ok c) f e = absurd cc
 fault_read (Err g) f e = cc
 
@@ -113,30 +149,29 @@ pub same_fits : (p q : PlanParts) (t u : TableParts) (bytes others : List ℕ) (
 same_fits p q t u bytes others k w v fits =
     sym (ap (λ (x : TableParts). x.n) w.heard.table) ∙ ap (λ (x : TableParts). x.n) v.heard.table ∙ fits ∙ sym (ap (λ (x : PlanParts). x.sectors) v.heard.plan) ∙ ap (λ (x : PlanParts). x.sectors) w.heard.plan
 
-module _ (p : PlanParts) (t : TableParts) (bytes : List ℕ) (k : Intake) (w : IsGoingOn p t bytes [] k) where
-  whole : reading_parts (sizes_of p) bytes ≡ put_all w.parts (parts_left k.reader [])
-  whole = ap (reading_parts (sizes_of p)) (sym (append-nil bytes)) ∙ w.left []
+-- what is read is a certificate of the plan, in order
+cert_of_plan : (p : PlanParts) (t : TableParts) (bytes : List ℕ) (c : AnyCert) → t.n ≡ p.sectors → SpellsAny (sizes_of p) bytes c → IsCertOf p t c
+cert_of_plan p t bytes (One c) fits s = record { sized = s.sized; in_order = tt; core = s.in_order; table = fits; counted = trees_counted c.trees s.fits.trees }
+cert_of_plan p t bytes (Two c sizes) fits s = record {
+  sized = s.0;
+  in_order = subst (λ (z : Sizes). IsTwoInOrder z c) (sym s.0) s.1.in_order;
+  core = s.1.in_order.in_order;
+  table = fits;
+  counted = trees_counted c.cert.trees s.1.fits.trees;
+}
 
-  cert_of_plan : (c : CertParts) → t.n ≡ p.sectors → reading (sizes_of p) bytes ≡ Ok c → IsCertOf p t c
-  cert_of_plan c fits e =
-      let s = reading_takes (sizes_of p) bytes c w.small w.fit e in
-      record {
-        in_order = s.in_order;
-        table = fits;
-        sectors = ap (λ (z : Sizes). z.sectors) s.sized;
-        points = ap (λ (z : Sizes). z.points) s.sized;
-        counted = trees_counted c.trees s.fits.trees;
-      }
+module _ (p : PlanParts) (t : TableParts) (bytes : List ℕ) (k : Intake) (w : IsGoingOn p t bytes [] k) where
+  whole : reading_any_parts (sizes_of p) bytes ≡ put_all w.groups w.parts (parts_left k.reader [])
+  whole = ap (reading_any_parts (sizes_of p)) (sym (append-nil bytes)) ∙ w.left []
 
   -- the certificate that was read was heard
-  pub read_at_end : t.n ≡ p.sectors → parts_left k.reader [] ≡ Ok [] → (c : CertParts) × (reading (sizes_of p) bytes ≡ Ok c) × HasHeardAll p t c k.judging
+  pub read_at_end : t.n ≡ p.sectors → parts_left k.reader [] ≡ Ok [] → (c : AnyCert) × (any_at (sizes_of p) bytes ≡ Ok c) × HasHeardAll p t c k.judging
   read_at_end fits e =
-      let r = bind_ok (reading (sizes_of p) bytes) (λ c. Ok (parts_of c)) w.parts (whole ∙ ap (put_all w.parts) e ∙ ap all_read (append-nil w.parts)) in
-      (r.0, r.1, record { cert = cert_of_plan r.0 fits r.1; heard = subst (λ (ps : List Part). HasHeard p t ps k.judging) (sym (ok_is (parts_of r.0) w.parts r.2)) w.heard })
-
--- ---- what a call may count on
-
-pub may_count : (piece : List ℕ) (j : Judge) → MayBeFed piece j → j.spent ≡ false → j.intake.fault ≡ None → IsCountable j.intake.reader piece
-may_count piece j m fine none =
-    let w = MatchOption-at_none (IsGoingOn m.plan m.table m.bytes [] j.intake) (AreRefused m.plan m.bytes) none (m.fed.taken fine) in
-    omega (arith, w.given, m.few)
+      let r = bind_ok (any_at (sizes_of p) bytes) (λ c. Ok (any_parts_of c)) (w.groups, w.parts) (whole ∙ ap (put_all w.groups w.parts) e ∙ ap (all_read w.groups) (append-nil w.parts)) in (
+        r.0,
+        r.1,
+        record {
+          cert = cert_of_plan p t bytes r.0 fits (any_takes (sizes_of p) bytes r.0 w.small w.fit r.1);
+          heard = subst (λ (ps : AnyParts). HasHeard p t ps.0 ps.1 k.judging) (sym (ok_is (any_parts_of r.0) (w.groups, w.parts) r.2)) w.heard;
+        },
+      )

@@ -4,6 +4,9 @@ pub mod Rays
 pub mod OnMeshes
 pub mod Stages
 pub mod Verdicts
+pub mod Grounds
+pub mod Wholes
 pub mod Keeping
 pub mod Intakes
+pub mod Openings
 pub mod Endings

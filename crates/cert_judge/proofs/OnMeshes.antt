@@ -1,5 +1,5 @@
 -- What is judged over a good mesh, when a ray comes.
-use Rattle.std.proofs.Common.{◌≡◌, List, [], ◌∷◌, ◌++◌, Option, Some, None, length, true, false, refl, sym, subst}
+use Rattle.std.proofs.Common.{◌≡◌, List, [], ◌∷◌, ◌++◌, Option, Some, None, length, true, false, ap, refl, sym, subst}
 use Rattle.std.specs.Option.{is_some}
 use Rattle.std.specs.Prelude.{IfSome, MatchOption}
 use Rattle.std.proofs.lemmas.Option.{MatchOption-at_none}
@@ -55,3 +55,7 @@ module _ (p : PlanParts) (labelled : List Labelled) (rays : List PairRay) (front
   -- or where one was
   pub with_ray_behind_wrong : (one : PairRay) → is_some g.fault ≡ true → IsOnMesh p labelled (rays ++ one ∷ []) front tree g
   with_ray_behind_wrong one some = record { mesh = w.mesh; plan = w.plan; good = w.good; edges = w.edges; sight = still_match (map_of p) rays one g.fault some w.sight; heard = w.heard }
+
+  -- nodes come behind a wrong ray
+  pub with_nodes_behind_wrong : (other : Option Tree) → true ≡ is_some g.fault → IsOnMesh p labelled rays front other g
+  with_nodes_behind_wrong other some = record { mesh = w.mesh; plan = w.plan; good = w.good; edges = w.edges; sight = w.sight; heard = λ none. absurd (let e : is_some g.fault ≡ false = ap is_some none in cc) }

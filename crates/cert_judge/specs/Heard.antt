@@ -1,5 +1,5 @@
 -- What the parts that were heard are of a certificate: its triangles, rays, listed pairs and trees so far.
-use Rattle.std.specs.Prelude.{ℕ, List, [], ◌∷◌, ◌++◌, Option, Some, None, option_map, Bool, true, false, if◌then◌else◌}
+use Rattle.std.specs.Prelude.{ℕ, List, [], ◌∷◌, ◌++◌, Option, Some, None, map, option_map, Bool, true, false, if◌then◌else◌}
 use Rattle.std.specs.Option.{option_to_list}
 use Rattle.sight_names.specs.declared.names.Pair.{Pair}
 use Rattle.sight_names.specs.declared.names.PairRay.{PairRay}
@@ -49,6 +49,10 @@ with_part h (Ray r) = with_ray r (closed_at h)
 with_part h (Listed p) = with_listed p (closed_at h)
 with_part h (OfTree source nodes) = with_tree source (closed_at h)
 with_part h (OfNode n) = with_next n (closed_at h)
+
+-- nodes as parts
+abbrev pub node_parts : List Node → List Part
+node_parts ns = map (λ n. OfNode n) ns
 
 -- one part after another
 abbrev pub heard_from : Heard → List Part → Heard

@@ -7,31 +7,33 @@ use Rattle.cert_format.specs.Grammar.{AreSmall}
 use Rattle.cert_format.specs.Reading.{◌>>=◌}
 use Rattle.cert_format.specs.Sizes.{sizes_of}
 use Rattle.cert_parts.specs.declared.part.Part.{Part}
-use Rattle.cert_parts.specs.Parts.{reading_parts}
+use Rattle.cert_parts.specs.Parts.{AnyParts, reading_any_parts}
 use Rattle.cert_parts.specs.Left.{parts_left}
 use Rattle.cert_judge.specs.declared.intake.Intake.{Intake}
 use Rattle.cert_judge.specs.Judging.{HasHeard}
+use Rattle.cert_judge.specs.Version.{Groups}
 
--- these parts, and what is still to come behind them
-abbrev pub put_all : List Part → Result (List Part) CertFault → Result (List Part) CertFault
-put_all parts left = left >>= λ others. Ok (parts ++ others)
+-- these groups, these parts, and what is still to come behind them
+abbrev pub put_all : Groups → List Part → Result (List Part) CertFault → Result AnyParts CertFault
+put_all groups parts left = left >>= λ others. Ok (groups, parts ++ others)
 
 abbrev pub AreBytes : List ℕ → Type 0
 AreBytes bytes = (i : ℕ) → slice_index bytes i < 256
 
--- These are all bytes so far, and all but those ahead were taken: the parts that they gave were heard, and whatever
--- bytes come behind, the parts of all bytes are these and then those that the reader has still to give.
+-- These are all bytes so far, and all but those ahead were taken: the groups and the parts that they gave were heard, and
+-- whatever bytes come behind, the parts of all bytes are these and then those that the reader has still to give.
 pub record IsGoingOn (p : PlanParts) (t : TableParts) (bytes ahead : List ℕ) (k : Intake) : Type 0 where
   pub small : AreSmall (sizes_of p)
   pub fit : AreBytes bytes
+  pub groups : Groups
   pub parts : List Part
-  pub heard : HasHeard p t parts k.judging
+  pub heard : HasHeard p t groups parts k.judging
   pub given : k.reader.given + length ahead ≡ length bytes
-  pub left : (more : List ℕ) → reading_parts (sizes_of p) (bytes ++ more) ≡ put_all parts (parts_left k.reader (ahead ++ more))
+  pub left : (more : List ℕ) → reading_any_parts (sizes_of p) (bytes ++ more) ≡ put_all groups parts (parts_left k.reader (ahead ++ more))
 
 -- whatever bytes come behind, they are no certificate of the plan
 abbrev pub AreRefused : PlanParts → List ℕ → CertFault → Type 0
-AreRefused p bytes f = (more : List ℕ) → reading_parts (sizes_of p) (bytes ++ more) ≡ Err f
+AreRefused p bytes f = (more : List ℕ) → reading_any_parts (sizes_of p) (bytes ++ more) ≡ Err f
 
 -- all bytes were taken, or the fault that they have is kept
 abbrev pub HasTaken : PlanParts → TableParts → List ℕ → Intake → Type 0

@@ -3,12 +3,12 @@ use Rattle.std.specs.Prelude.{◌≡◌, ℕ, ◌+◌, ◌<◌, ◌^◌, List, l
 use Rattle.sight_names.specs.Plan.{PlanParts, IsPlan}
 use Rattle.reject_bits.specs.Parts.{TableParts}
 use Rattle.cert_judge.specs.declared.judge.Judge.{Judge}
-use Rattle.cert_judge.specs.Intake.{HasTaken}
+use Rattle.cert_judge.specs.Course.{IsOnCourse}
 
 -- it was made for this plan and this table, and these are the bytes of all pieces; once it is spent it answers no more
 pub record HasBeenFed (p : PlanParts) (t : TableParts) (bytes : List ℕ) (j : Judge) : Type 0 where
   pub plan : IsPlan p
-  pub taken : j.spent ≡ false → HasTaken p t bytes j.intake
+  pub course : j.spent ≡ false → IsOnCourse p t bytes j.course
 
 -- with the piece there are fewer than 2^63 bytes
 pub record MayBeFed (piece : List ℕ) (j : Judge) : Type 0 where

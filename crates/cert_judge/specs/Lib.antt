@@ -1,9 +1,12 @@
+pub mod Version
 pub mod InOrder
 pub mod Heard
 pub mod OnMesh
+pub mod OnGround
 pub mod Stage
 pub mod Whole
 pub mod Judging
 pub mod Judged
 pub mod Intake
+pub mod Course
 pub mod Judge

@@ -1,29 +1,37 @@
 -- How far a certificate is judged: its triangles come, or they have come.
-use Rattle.std.specs.Prelude.{◌≡◌, ℕ, ◌≤◌, List, [], Option, None, length, true, false}
+use Rattle.std.specs.Prelude.{◌≡◌, ℕ, ◌<◌, ◌≤◌, List, [], Option, Some, None, length, true, false, All}
 use Rattle.sight_names.specs.declared.names.PairRay.{PairRay}
-use Rattle.sight_names.specs.Map.{map_of}
 use Rattle.sight_names.specs.Mesh.{AreTriangles}
 use Rattle.sight_names.specs.Plan.{PlanParts}
 use Rattle.sight_tree.specs.declared.Tree.{Tree}
 use Rattle.cert_format.specs.declared.cert.Labelled.{Labelled}
-use Rattle.mesh_shape.specs.Faults.{IsFirstFault}
-use Rattle.cert_checker.specs.Apart.{triangles_in, labels_in}
+use Rattle.cert_checker.specs.Apart.{triangles_in}
 use Rattle.cert_judge.specs.declared.stage.Stage.{Stage}
 use Rattle.cert_judge.specs.declared.stage.Stage.TheVariants.{Gathering, Lost, Broken, Good}
 use Rattle.cert_judge.specs.Heard.{Heard}
-use Rattle.cert_judge.specs.OnMesh.{IsOnMesh}
+use Rattle.cert_judge.specs.OnGround.{IsOnGround, IsFaultOfMesh}
+use Rattle.cert_judge.specs.Version.{Groups}
 
 -- triangles between so many points, in order and few enough
 pub record AreInOrder (points : ℕ) (labelled : List Labelled) : Type 0 where
   pub triangles : AreTriangles points (triangles_in labelled)
   pub few : length labelled ≤ 8192
 
--- the triangles have come: no certificate has them, or they break a rule of a good mesh, or they are one
-abbrev pub IsClosed : PlanParts → List Labelled → List PairRay → List Tree → Option Tree → Stage → Type 0
-IsClosed p labelled rays front tree Gathering = ⊥
-IsClosed p labelled rays front tree Lost = ¬ AreInOrder (length p.points) labelled
-IsClosed p labelled rays front tree (Broken f) = IsFirstFault (map_of p) (triangles_in labelled) (labels_in labelled) f
-IsClosed p labelled rays front tree (Good g) = IsOnMesh p labelled rays front tree g
+-- each triangle is labelled with one of so many groups
+abbrev pub AreLabelledBelow : ℕ → List Labelled → Type 0
+AreLabelledBelow count labelled = All (λ (one : Labelled). one.sector < count) labelled
+
+-- a certificate may have these triangles and groups
+abbrev pub AreFit : ℕ → Groups → List Labelled → Type 0
+AreFit points None labelled = AreInOrder points labelled
+AreFit points (Some groups) labelled = AreInOrder points labelled × (length groups ≤ 8192) × AreLabelledBelow (length groups) labelled
+
+-- the triangles have come: no certificate has them, or they break a rule of a good mesh or of its groups, or they keep all
+abbrev pub IsClosed : PlanParts → Groups → List Labelled → List PairRay → List Tree → Option Tree → Stage → Type 0
+IsClosed p groups labelled rays front tree Gathering = ⊥
+IsClosed p groups labelled rays front tree Lost = ¬ AreFit (length p.points) groups labelled
+IsClosed p groups labelled rays front tree (Broken f) = IsFaultOfMesh p groups labelled f
+IsClosed p groups labelled rays front tree (Good g) = IsOnGround p groups labelled rays front tree g
 
 -- no part but triangles has come
 pub record IsFresh (h : Heard) : Type 0 where
@@ -32,8 +40,8 @@ pub record IsFresh (h : Heard) : Type 0 where
   pub front : h.front ≡ []
   pub tree : h.tree ≡ None
 
-abbrev pub IsStage : PlanParts → Heard → Stage → Type 0
-IsStage p h Gathering = IsFresh h
-IsStage p h Lost = (h.closed ≡ true) × IsClosed p h.triangles h.rays h.front h.tree Lost
-IsStage p h (Broken f) = (h.closed ≡ true) × IsClosed p h.triangles h.rays h.front h.tree (Broken f)
-IsStage p h (Good g) = (h.closed ≡ true) × IsClosed p h.triangles h.rays h.front h.tree (Good g)
+abbrev pub IsStage : PlanParts → Groups → Heard → Stage → Type 0
+IsStage p groups h Gathering = IsFresh h
+IsStage p groups h Lost = (h.closed ≡ true) × IsClosed p groups h.triangles h.rays h.front h.tree Lost
+IsStage p groups h (Broken f) = (h.closed ≡ true) × IsClosed p groups h.triangles h.rays h.front h.tree (Broken f)
+IsStage p groups h (Good g) = (h.closed ≡ true) × IsClosed p groups h.triangles h.rays h.front h.tree (Good g)

@@ -1,62 +1,102 @@
 -- A certificate whose parts all have come.
 use Rattle.std.specs.Prelude.{◌≡◌, ◌<◌, ◌^◌, List, ◌++◌, Option, length, Contains}
 use Rattle.std.specs.Option.{option_to_list}
+use Rattle.sight_names.specs.declared.faults.CheckFault.{CheckFault}
 use Rattle.sight_names.specs.declared.faults.CheckFault.TheVariants.{Mesh, Ray, Tree as OfTree, ListedSet, Unproved, Uncovered}
 use Rattle.sight_names.specs.declared.names.Pair.{Pair}
 use Rattle.sight_names.specs.declared.names.PairRay.{PairRay}
-use Rattle.sight_names.specs.Map.{map_of}
+use Rattle.sight_names.specs.Map.{Map, map_of}
 use Rattle.sight_names.specs.Plan.{PlanParts}
 use Rattle.sight_tree.specs.declared.Tree.{Tree}
 use Rattle.cert_format.specs.Grammar.{IsInOrder}
 use Rattle.cert_format.specs.Parts.{CertParts}
+use Rattle.cert_format.specs.Sizes.{sizes_of}
+use Rattle.cert_groups.specs.declared.cert.AnyCert.{AnyCert}
+use Rattle.cert_groups.specs.Grammar.{IsAnyInOrder, sizes_of as sizes_in}
 use Rattle.reject_bits.specs.Parts.{TableParts}
-use Rattle.tree_judge.specs.declared.judge.TreeVerdict.{TreeVerdict}
-use Rattle.tree_judge.specs.Trees.{TellsTrees}
-use Rattle.cert_checker.specs.declared.verdict.Verdict.{Verdict}
-use Rattle.cert_checker.specs.declared.verdict.Verdict.TheVariants.{Yes, No}
+use Rattle.tree_judge.specs.declared.judge.Reach.{Reach}
+use Rattle.tree_judge.specs.Trees.{AreTreesWhole, TellsReach}
+use Rattle.cert_checker.specs.declared.verdict.Verdict.TheVariants.{No}
+use Rattle.cert_checker.specs.Judged.{JudgesRays, JudgesTrees}
+use Rattle.cert_checker.specs.Rays.{AreSightRaysBelow}
+use Rattle.cert_judge.specs.declared.on_ground.OnGround.{OnGround}
 use Rattle.cert_judge.specs.declared.on_mesh.OnMesh.{OnMesh}
 use Rattle.cert_judge.specs.Heard.{Heard}
+use Rattle.cert_judge.specs.OnGround.{IsOnGround}
 use Rattle.cert_judge.specs.OnMesh.{IsOnMesh}
+use Rattle.cert_judge.specs.Version.{Groups, groups_in, core_of, listed_in, plan_over}
+
+abbrev pub AreNodesCounted : CertParts → Type 0
+AreNodesCounted c = (u : Tree) → Contains c.trees u → length u.nodes < 2 ^ 64
 
 -- a certificate in order, of a plan and a table
-pub record IsCertOf (p : PlanParts) (t : TableParts) (c : CertParts) : Type 0 where
-  pub in_order : IsInOrder c
+pub record IsCertOf (p : PlanParts) (t : TableParts) (c : AnyCert) : Type 0 where
+  pub sized : sizes_in c ≡ sizes_of p
+  pub in_order : IsAnyInOrder c
+  pub core : IsInOrder (core_of c)
   pub table : t.n ≡ p.sectors
-  pub sectors : c.sizes.sectors ≡ p.sectors
-  pub points : c.sizes.points ≡ length p.points
-  -- the nodes of each tree can be counted
-  pub counted : (u : Tree) → Contains c.trees u → length u.nodes < 2 ^ 64
+  pub counted : AreNodesCounted (core_of c)
 
 -- what was heard is the whole of the certificate
-pub record IsAllOf (c : CertParts) (h : Heard) : Type 0 where
-  pub triangles : h.triangles ≡ c.triangles
-  pub rays : h.rays ≡ c.rays
-  pub listed : h.listed ≡ c.listed
-  pub trees : h.front ++ option_to_list h.tree ≡ c.trees
+pub record IsAllOf (c : AnyCert) (h : Heard) : Type 0 where
+  pub triangles : h.triangles ≡ (core_of c).triangles
+  pub rays : h.rays ≡ (core_of c).rays
+  pub listed : h.listed ≡ listed_in c
+  pub trees : h.front ++ option_to_list h.tree ≡ (core_of c).trees
 
--- its lists are these, and its triangles are the good mesh over which its rays and trees were judged
-pub record IsJudgedOn (p : PlanParts) (t : TableParts) (c : CertParts) (listed : List Pair) (rays : List PairRay) (g : OnMesh) : Type 0 where
-  pub cert : IsCertOf p t c
-  pub listed_is : listed ≡ c.listed
-  pub rays_are : rays ≡ c.rays
+-- ---- over a good mesh
+
+-- the triangles of the certificate are the good mesh over which its rays and trees were judged
+pub record IsHeardOver (p : PlanParts) (c : CertParts) (g : OnMesh) : Type 0 where
+  pub in_order : IsInOrder c
+  pub sectors : c.sizes.sectors ≡ p.sectors
+  pub counted : AreNodesCounted c
   pub front : List Tree
   pub tree : Option Tree
   pub trees : front ++ option_to_list tree ≡ c.trees
   pub on : IsOnMesh p c.triangles c.rays front tree g
 
--- its lists are these, and this is told of its trees
-pub record IsToldBy (p : PlanParts) (t : TableParts) (c : CertParts) (listed : List Pair) (rays : List PairRay) (told : TreeVerdict) : Type 0 where
-  pub cert : IsCertOf p t c
-  pub listed_is : listed ≡ c.listed
-  pub rays_are : rays ≡ c.rays
-  pub tells : TellsTrees (map_of p) c told
+-- each ray is a sight ray and each tree is whole, and this is what the trees keep from
+pub record HasReached (m : Map) (c : CertParts) (reach : Reach) : Type 0 where
+  pub rays : AreSightRaysBelow m c.rays (length c.rays)
+  pub trees : AreTreesWhole m c
+  pub sectors : reach.reached.n ≡ m.sectors
+  pub tells : TellsReach m c reach.walked.items reach.reached
 
--- the answer tells no fault of the mesh or of a ray
-abbrev pub IsBehindRays : Verdict → Type 0
-IsBehindRays (Yes t) = Unit {0}
-IsBehindRays (No (Mesh f)) = ⊥
-IsBehindRays (No (Ray a b f)) = ⊥
-IsBehindRays (No (OfTree s n)) = Unit {0}
-IsBehindRays (No (ListedSet a b)) = Unit {0}
-IsBehindRays (No (Unproved a b)) = Unit {0}
-IsBehindRays (No (Uncovered a b)) = Unit {0}
+-- a fault of a ray or of a tree
+abbrev pub IsEarlyFault : CheckFault → Type 0
+IsEarlyFault (Mesh f) = ⊥
+IsEarlyFault (Ray a b f) = Unit {0}
+IsEarlyFault (OfTree s n) = Unit {0}
+IsEarlyFault (ListedSet a b) = ⊥
+IsEarlyFault (Unproved a b) = ⊥
+IsEarlyFault (Uncovered a b) = ⊥
+
+-- it is the first one
+pub record IsFirstEarly (m : Map) (c : CertParts) (f : CheckFault) : Type 0 where
+  pub kind : IsEarlyFault f
+  pub rays : JudgesRays m c (No f)
+  pub trees : JudgesTrees m c (No f)
+
+-- ---- in either version
+
+-- it is a certificate of the plan and the table, and its groups and lists are these
+pub record HasLists (p : PlanParts) (t : TableParts) (c : AnyCert) (groups : Groups) (listed : List Pair) (rays : List PairRay) : Type 0 where
+  pub cert : IsCertOf p t c
+  pub groups_are : groups ≡ groups_in c
+  pub listed_is : listed ≡ listed_in c
+  pub rays_are : rays ≡ (core_of c).rays
+
+-- and its triangles are those over which its rays and trees were judged
+pub record IsJudgedOn (p : PlanParts) (t : TableParts) (c : AnyCert) (groups : Groups) (listed : List Pair) (rays : List PairRay) (g : OnGround) : Type 0 where
+  pub lists : HasLists p t c groups listed rays
+  pub front : List Tree
+  pub tree : Option Tree
+  pub trees : front ++ option_to_list tree ≡ (core_of c).trees
+  pub on : IsOnGround p groups (core_of c).triangles (core_of c).rays front tree g
+
+-- and this is what its trees keep from, over the plan of the version
+pub record IsReachedOn (p over : PlanParts) (t : TableParts) (c : AnyCert) (groups : Groups) (listed : List Pair) (rays : List PairRay) (reach : Reach) : Type 0 where
+  pub lists : HasLists p t c groups listed rays
+  pub over_is : over ≡ plan_over p groups (core_of c).triangles
+  pub reached : HasReached (map_of over) (core_of c) reach

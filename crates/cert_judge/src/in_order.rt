@@ -1,10 +1,10 @@
 //! Whether triangles may be those of a certificate.
 
-ghost use Rattle.std.specs.Prelude.{◌<◌, ◌↔◌, IsTrue, length};
+ghost use Rattle.std.specs.Prelude.{◌<◌, ◌≤◌, ◌↔◌, IsTrue, length};
 ghost use Rattle.sight_names.specs.Mesh.{IsTriangle, IsAbove};
 ghost use Rattle.cert_checker.specs.Apart.{triangles_in};
 ghost use Rattle.cert_judge.specs.InOrder.{IsNextAt};
-ghost use Rattle.cert_judge.specs.Stage.{AreInOrder};
+ghost use Rattle.cert_judge.specs.Stage.{AreInOrder, AreLabelledBelow};
 
 use cert_format::Labelled;
 use sight_names::Triangle;
@@ -42,4 +42,16 @@ pub fn are_in_order(points: u16, labelled: &[Labelled]) -> bool
         }
     }
     labelled.len() <= 8192
+}
+
+/// Whether each triangle is labelled with one of so many groups, which a certificate may have.
+pub fn are_labelled_below(groups: usize, labelled: &[Labelled]) -> bool
+    ensures { IsTrue result ↔ ((groups ≤ 8192) × AreLabelledBelow groups labelled.now) }
+{
+    for one in labelled {
+        if one.sector as usize >= groups {
+            return false;
+        }
+    }
+    groups <= 8192
 }

@@ -1,22 +1,21 @@
 //! The bytes of a certificate, read and judged as they come.
 
 ghost use Rattle.std.specs.Prelude.{◌≡◌, ◌<◌, ◌≤◌, ℕ, List, [], ◌++◌, None, length, IsSome, IfSome, IfOk};
-ghost use Rattle.sight_names.specs.Plan.{PlanParts, IsPlan};
+ghost use Rattle.sight_names.specs.Plan.{PlanParts};
 ghost use Rattle.reject_bits.specs.Parts.{TableParts};
-ghost use Rattle.cert_format.specs.Parts.{CertParts};
-ghost use Rattle.cert_format.specs.Grammar.{AreSmall};
-ghost use Rattle.cert_format.specs.Reading.{reading};
 ghost use Rattle.cert_format.specs.Sizes.{sizes_of};
+ghost use Rattle.cert_groups.specs.declared.cert.AnyCert.{AnyCert};
+ghost use Rattle.cert_groups.specs.Reading.{any_at};
 ghost use Rattle.cert_parts.specs.Left.{IsCountable};
-ghost use Rattle.cert_judge.specs.Judging.{HasHeardAll, IsComplete};
+ghost use Rattle.cert_judge.specs.Judging.{HasHeard, HasHeardAll, IsComplete};
 ghost use Rattle.cert_judge.specs.Judged.{JudgedBy, IsVerdictOf};
 ghost use Rattle.cert_judge.specs.Intake.{IsGoingOn, HasTaken, IsTaken};
 
 use crate::judged::Judged;
 use crate::judging::Judging;
-use cert_checker::Verdict;
-use cert_format::Sizes;
-use cert_parts::{Part, Reader, usual_node};
+use crate::on_ground::Groups;
+use cert_parts::Reader;
+use group_checker::AnyVerdict;
 use reject_bits::Table;
 use sight_names::{CertFault, Memory, Plan};
 use std::alloc::Global;
@@ -30,71 +29,50 @@ pub struct Intake<'a> {
     pub fault: Option<CertFault>,
 }
 
-/// Sizes fit two bytes each, as their types say.
-fn see_sizes(sizes: Sizes)
-    ensures { AreSmall sizes }
-{}
-
-/// The sizes of the map that the certificate is to be about.
-fn sizes(plan: &Plan) -> Sizes
-    ensures sizes { result ≡ sizes_of plan.now }
-    ensures small { AreSmall result }
-    ensures plan { IsPlan plan.now }
-{
-    let sizes = Sizes {
-        sectors: plan.sectors,
-        points: plan.points().len() as u16,
-        lines: plan.lines().len() as u16,
-    };
-    see_sizes(sizes);
-    sizes
-}
-
 /// The verdict on a certificate whose parts all were heard.
-fn verdict_of(judging: Judging<'_>) -> Result<Verdict, Memory>
+fn verdict_of(judging: Judging<'_>) -> Result<AnyVerdict, Memory>
     requires { IsComplete judging }
-    ensures { (p : PlanParts) (t : TableParts) (c : CertParts) → HasHeardAll p t c judging.entry → IfOk result (IsVerdictOf p t c) }
+    ensures { (p : PlanParts) (t : TableParts) (c : AnyCert) → HasHeardAll p t c judging.entry → IfOk result (IsVerdictOf p t c) }
 {
     judging.verdict()
 }
 
 impl<'a> Intake<'a> {
-    /// No byte so far.
-    pub fn new(alloc: Global, plan: &'a Plan, table: &'a Table) -> Intake<'a>
-        ensures taken { HasTaken plan.now table.now [] result }
-        ensures plan { IsPlan plan.now }
+    /// No part so far; the reader is to give the parts.
+    pub fn new(
+        alloc: Global,
+        plan: &'a Plan,
+        table: &'a Table,
+        groups: Groups,
+        reader: Reader,
+    ) -> Intake<'a>
+        ensures heard { HasHeard plan.now table.now groups [] result.judging }
+        ensures reader { result.reader ≡ reader }
+        ensures fault { result.fault ≡ None }
     {
         Intake {
-            reader: Reader::new(&sizes(plan)),
-            judging: Judging::new(alloc, plan, table),
+            reader,
+            judging: Judging::new(alloc, plan, table, groups),
             fault: None,
         }
     }
 
-    /// The nodes that come first in the rest of a piece: what of the piece is behind them. Others than the usual ones are
-    /// left to `take_one`.
-    fn take_nodes<'b>(&mut self, ahead: &'b [u8]) -> Result<&'b [u8], Memory>
+    /// The nodes that come first in the rest of a piece: what of the piece is behind them. Others than the usual ones, and now
+    /// and then one of these, are left to `take_one`.
+    fn take_nodes<'b>(&mut self, ahead: &'b [u8]) -> &'b [u8]
         requires countable { IsCountable self.old.reader ahead.now }
-        ensures heard { (p : PlanParts) (t : TableParts) (bytes : List ℕ) → IsGoingOn p t bytes ahead.now self.old → IfOk result (λ rest. IsGoingOn p t bytes rest.now self.new) }
-        ensures still { IfOk result (λ _. self.new.fault ≡ self.old.fault) }
-        ensures countable { IfOk result (λ rest. IsCountable self.new.reader rest.now) }
-        ensures within { IfOk result (λ rest. length rest.now ≤ length ahead.now) }
+        ensures heard { (p : PlanParts) (t : TableParts) (bytes : List ℕ) → IsGoingOn p t bytes ahead.now self.old → IsGoingOn p t bytes result.now self.new }
+        ensures still { self.new.fault ≡ self.old.fault }
+        ensures countable { IsCountable self.new.reader result.now }
+        ensures within { length result.now ≤ length ahead.now }
     {
-        let mut left = self.reader.nodes_awaited();
-        if left == 0 {
-            return Ok(ahead);
+        let count = self.reader.nodes_awaited();
+        if count == 0 {
+            return ahead;
         }
-        let mut rest = ahead;
-        'rest: while left > 0 {
-            let Some((node, behind)) = usual_node(rest) else {
-                break;
-            };
-            self.judging.hear(Part::Node(node))?;
-            rest = behind;
-            left -= 1;
-        }
+        let (rest, left) = self.judging.hear_nodes(ahead, count);
         self.reader.nodes_taken(left, ahead.len() - rest.len());
-        Ok(rest)
+        rest
     }
 
     /// The nodes and the part behind them that come first in the rest of a piece: what of the piece is behind them, or None
@@ -108,7 +86,7 @@ impl<'a> Intake<'a> {
         ensures countable { IfOk result (λ o. IfSome o (λ behind. IsCountable self.new.reader behind.now)) }
         ensures less { IfOk result (λ o. IfSome o (λ behind. length behind.now < length rest.now)) }
     {
-        let rest = self.take_nodes(rest)?;
+        let rest = self.take_nodes(rest);
         match self.reader.next(rest) {
             Ok((Some(part), behind)) => {
                 self.judging.hear(part)?;
@@ -123,7 +101,7 @@ impl<'a> Intake<'a> {
     }
 
     /// All parts that end in the piece.
-    fn take_all(&mut self, piece: &[u8]) -> Result<(), Memory>
+    pub fn take_all(&mut self, piece: &[u8]) -> Result<(), Memory>
         requires on { self.old.fault ≡ None }
         requires countable { IsCountable self.old.reader piece.now }
         ensures { (p : PlanParts) (t : TableParts) (bytes : List ℕ) → IsGoingOn p t bytes piece.now self.old → IfOk result (λ _. HasTaken p t bytes self.new) }
@@ -149,7 +127,7 @@ impl<'a> Intake<'a> {
     /// What comes of all bytes.
     pub fn end(self) -> Result<Judged, Memory>
         requires { IsTaken self }
-        ensures { (p : PlanParts) (t : TableParts) (bytes : List ℕ) → HasTaken p t bytes self.entry → IfOk result (JudgedBy (reading (sizes_of p) bytes) (IsVerdictOf p t)) }
+        ensures { (p : PlanParts) (t : TableParts) (bytes : List ℕ) → HasTaken p t bytes self.entry → IfOk result (JudgedBy (any_at (sizes_of p) bytes) (IsVerdictOf p t)) }
     {
         if let Some(fault) = self.fault {
             return Ok(Judged::Unread(fault));

@@ -5,25 +5,24 @@ ghost use Rattle.sight_names.specs.Map.{map_of};
 ghost use Rattle.sight_names.specs.Plan.{PlanParts};
 ghost use Rattle.sight_names.specs.Sound.{LinesMeetAtEnds};
 ghost use Rattle.reject_bits.specs.Parts.{TableParts};
-ghost use Rattle.cert_format.specs.Accepted.{IsAccepted};
-ghost use Rattle.cert_format.specs.Reading.{reading};
 ghost use Rattle.cert_format.specs.Sizes.{sizes_of};
-ghost use Rattle.cert_checker.specs.Judged.{JudgesMesh, JudgesRays, JudgesTrees, JudgesPairs, IsYes};
-ghost use Rattle.cert_checker.specs.Sight.{TellsSight};
+ghost use Rattle.cert_groups.specs.Reading.{any_at};
+ghost use Rattle.accepted_groups.specs.Accepted.{IsAcceptedAny};
+ghost use Rattle.group_checker.specs.Judged.{IsYesAny, JudgesAny, TellsSightAny};
 ghost use Rattle.cert_judge.specs.Judged.{JudgedBy};
 ghost use Rattle.cert_judge.specs.Judge.{HasBeenFed, MayBeFed, IsFed, IsSpent};
 
-use crate::intake::Intake;
+use crate::course::Course;
 use crate::judged::Judged;
 use reject_bits::Table;
 use sight_names::{Memory, Plan};
 use std::alloc::Global;
 
-/// Judges a table by a certificate that it is fed in pieces, however they are cut. It keeps neither the bytes nor the
-/// trees of the certificate.
+/// Judges a table by a certificate of either version that it is fed in pieces, however they are cut. It keeps neither the
+/// trees of the certificate nor its bytes, but those before the first part until they all have come.
 #[derive(Drop)]
 pub struct Judge<'a> {
-    intake: Intake<'a>,
+    course: Course<'a>,
     /// Whether a piece found no memory.
     spent: bool,
 }
@@ -35,7 +34,7 @@ impl<'a> Judge<'a> {
         ensures unspent { ¬ IsSpent result }
     {
         Judge {
-            intake: Intake::new(alloc, plan, table),
+            course: Course::new(alloc, plan, table),
             spent: false,
         }
     }
@@ -52,7 +51,7 @@ impl<'a> Judge<'a> {
         if self.spent {
             return Err(Memory);
         }
-        if let Err(memory) = self.intake.feed(piece) {
+        if let Err(memory) = self.course.feed(piece) {
             self.spent = true;
             return Err(memory);
         }
@@ -60,20 +59,17 @@ impl<'a> Judge<'a> {
     }
 
     /// What comes of all the pieces, one behind the other: the fault where they spell no certificate of the plan's map,
-    /// and else the verdict that `check` gives of the certificate.
+    /// and else the verdict that `check_any` gives of the certificate.
     pub fn end(self) -> Result<Judged, Memory>
         requires { IsFed self }
         ensures spent { IsSpent self.entry → IsErr result }
-        ensures mesh { (p : PlanParts) (t : TableParts) (bytes : List ℕ) → HasBeenFed p t bytes self.entry → IfOk result (JudgedBy (reading (sizes_of p) bytes) (λ c v. JudgesMesh (map_of p) c v)) }
-        ensures rays { (p : PlanParts) (t : TableParts) (bytes : List ℕ) → HasBeenFed p t bytes self.entry → IfOk result (JudgedBy (reading (sizes_of p) bytes) (λ c v. JudgesRays (map_of p) c v)) }
-        ensures trees { (p : PlanParts) (t : TableParts) (bytes : List ℕ) → HasBeenFed p t bytes self.entry → IfOk result (JudgedBy (reading (sizes_of p) bytes) (λ c v. JudgesTrees (map_of p) c v)) }
-        ensures pairs { (p : PlanParts) (t : TableParts) (bytes : List ℕ) → HasBeenFed p t bytes self.entry → IfOk result (JudgedBy (reading (sizes_of p) bytes) (λ c v. JudgesPairs (map_of p) t c v)) }
-        ensures accepted { (p : PlanParts) (t : TableParts) (bytes : List ℕ) → HasBeenFed p t bytes self.entry → IfOk result (JudgedBy (reading (sizes_of p) bytes) (λ c v. IsYes v ↔ IsAccepted (map_of p) t.bytes c)) }
-        ensures sight { (p : PlanParts) (t : TableParts) (bytes : List ℕ) → HasBeenFed p t bytes self.entry → LinesMeetAtEnds (map_of p) → IfOk result (JudgedBy (reading (sizes_of p) bytes) (λ c v. IsYes v → TellsSight (map_of p) t c)) }
+        ensures exact { (p : PlanParts) (t : TableParts) (bytes : List ℕ) → HasBeenFed p t bytes self.entry → IfOk result (JudgedBy (any_at (sizes_of p) bytes) (JudgesAny p t)) }
+        ensures accepted { (p : PlanParts) (t : TableParts) (bytes : List ℕ) → HasBeenFed p t bytes self.entry → IfOk result (JudgedBy (any_at (sizes_of p) bytes) (λ c v. IsYesAny v ↔ IsAcceptedAny (map_of p) t.bytes c)) }
+        ensures sight { (p : PlanParts) (t : TableParts) (bytes : List ℕ) → HasBeenFed p t bytes self.entry → LinesMeetAtEnds (map_of p) → IfOk result (JudgedBy (any_at (sizes_of p) bytes) (λ c v. IsYesAny v → TellsSightAny (map_of p) t c)) }
     {
         if self.spent {
             return Err(Memory);
         }
-        self.intake.end()
+        self.course.end()
     }
 }

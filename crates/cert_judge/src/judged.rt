@@ -1,11 +1,11 @@
 //! What the judge answers.
 
-use cert_checker::Verdict;
+use group_checker::AnyVerdict;
 use sight_names::CertFault;
 
 /// The bytes are no certificate of the map, and why; or the verdict on the certificate that they spell.
 #[derive(Clone, Copy, Debug, PartialEq, Eq)]
 pub enum Judged {
     Unread(CertFault),
-    Verdict(Verdict),
+    Verdict(AnyVerdict),
 }

@@ -1,22 +1,25 @@
 //! A certificate judged part by part.
 
 ghost use Rattle.std.specs.Prelude.{◌≡◌, [], ◌∷◌, ◌++◌, List, IfOk};
-ghost use Rattle.sight_names.specs.Map.{map_of};
 ghost use Rattle.sight_names.specs.Plan.{PlanParts};
 ghost use Rattle.cert_parts.specs.declared.part.Part.{Part as PartOf};
-ghost use Rattle.cert_format.specs.Parts.{CertParts};
+ghost use Rattle.cert_groups.specs.declared.cert.AnyCert.{AnyCert};
 ghost use Rattle.reject_bits.specs.Parts.{TableParts};
-ghost use Rattle.cert_checker.specs.Judged.{JudgesMesh, JudgesRays, JudgesTrees, JudgesPairs};
+ghost use Rattle.group_checker.specs.Judged.{JudgesAny};
+ghost use Rattle.cert_parts.specs.Nodes.{TakesNodes};
+ghost use Rattle.cert_judge.specs.Heard.{node_parts};
 ghost use Rattle.cert_judge.specs.Judging.{HasHeard, HasHeardAll, IsComplete};
+ghost use Rattle.cert_judge.specs.Version.{Groups as GroupsOf};
 
 use crate::kept::Kept;
-use cert_checker::Verdict;
+use crate::on_ground::Groups;
 use cert_parts::Part;
+use group_checker::AnyVerdict;
 use reject_bits::Table;
 use sight_names::{Memory, Plan};
 use std::alloc::Global;
 
-/// What has come of a certificate, judged as far as it goes. It keeps the mesh, the rays, the listed pairs, what trees
+/// What has come of a certificate of either version, judged as far as it goes. It keeps the groups, the mesh, the rays, the listed pairs, what trees
 /// keep from and one path, and never a tree.
 #[derive(Drop)]
 pub struct Judging<'a> {
@@ -29,23 +32,33 @@ pub struct Judging<'a> {
 }
 
 impl<'a> Judging<'a> {
-    /// No part so far.
-    pub fn new(alloc: Global, plan: &'a Plan, table: &'a Table) -> Judging<'a>
-        ensures { HasHeard plan.now table.now [] result }
+    /// No part so far; in version 2 with the groups.
+    pub fn new(alloc: Global, plan: &'a Plan, table: &'a Table, groups: Groups) -> Judging<'a>
+        ensures { HasHeard plan.now table.now groups [] result }
     {
         Judging {
             alloc,
             plan,
             table,
-            kept: Kept::new(alloc),
+            kept: Kept::new(alloc, groups),
             spent: false,
         }
     }
 
+    /// The next nodes of the last tree, of so many that are to come, from the bytes: what of those is behind them, and how many
+    /// are left. Others than the usual ones, and now and then one of these, are left to `hear`.
+    pub fn hear_nodes<'b>(&mut self, bytes: &'b [u8], count: u64) -> (&'b [u8], u64)
+        ensures { TakesNodes bytes.now count result.0.now result.1 (λ nodes. (p : PlanParts) (t : TableParts) (groups : GroupsOf) (parts : List PartOf) → HasHeard p t groups parts self.old → HasHeard p t groups (parts ++ node_parts nodes) self.new) }
+    {
+        if self.spent {
+            return (bytes, count);
+        }
+        self.kept.hear_nodes(bytes, count)
+    }
+
     /// The next part of the certificate. A part that finds no memory spends the judging: it finds none from then on.
-    #[inline(always)]
     pub fn hear(&mut self, part: Part) -> Result<(), Memory>
-        ensures { (p : PlanParts) (t : TableParts) (parts : List PartOf) → HasHeard p t parts self.old → HasHeard p t (parts ++ part ∷ []) self.new }
+        ensures { (p : PlanParts) (t : TableParts) (groups : GroupsOf) (parts : List PartOf) → HasHeard p t groups parts self.old → HasHeard p t groups (parts ++ part ∷ []) self.new }
     {
         if self.spent {
             return Err(Memory);
@@ -56,12 +69,9 @@ impl<'a> Judging<'a> {
     }
 
     /// The verdict on the certificate whose parts all have been heard: that of the check of the whole certificate.
-    pub fn verdict(self) -> Result<Verdict, Memory>
+    pub fn verdict(self) -> Result<AnyVerdict, Memory>
         requires { IsComplete self }
-        ensures mesh { (p : PlanParts) (t : TableParts) (c : CertParts) → HasHeardAll p t c self.entry → IfOk result (JudgesMesh (map_of p) c) }
-        ensures rays { (p : PlanParts) (t : TableParts) (c : CertParts) → HasHeardAll p t c self.entry → IfOk result (JudgesRays (map_of p) c) }
-        ensures trees { (p : PlanParts) (t : TableParts) (c : CertParts) → HasHeardAll p t c self.entry → IfOk result (JudgesTrees (map_of p) c) }
-        ensures pairs { (p : PlanParts) (t : TableParts) (c : CertParts) → HasHeardAll p t c self.entry → IfOk result (JudgesPairs (map_of p) t c) }
+        ensures { (p : PlanParts) (t : TableParts) (c : AnyCert) → HasHeardAll p t c self.entry → IfOk result (JudgesAny p t c) }
     {
         if self.spent {
             return Err(Memory);

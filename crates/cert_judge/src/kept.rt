@@ -1,25 +1,28 @@
 //! What is kept of the parts that have come.
 
 ghost use Rattle.std.specs.Prelude.{◌≡◌, true, IfOk};
-ghost use Rattle.sight_names.specs.Map.{map_of};
 ghost use Rattle.sight_names.specs.Plan.{PlanParts};
-ghost use Rattle.cert_format.specs.Parts.{CertParts};
-ghost use Rattle.cert_checker.specs.Judged.{JudgesMesh, JudgesRays, JudgesTrees, JudgesPairs};
-ghost use Rattle.cert_judge.specs.Heard.{Heard, nothing, closed_at, with_part, with_triangle, with_ray, with_listed, with_tree, with_next};
+ghost use Rattle.cert_groups.specs.declared.cert.AnyCert.{AnyCert};
+ghost use Rattle.group_checker.specs.Judged.{JudgesAny};
+ghost use Rattle.cert_parts.specs.Nodes.{TakesNodes};
+ghost use Rattle.cert_judge.specs.Heard.{Heard, nothing, closed_at, heard_from, node_parts, with_part, with_triangle, with_ray, with_listed, with_tree, with_next};
 ghost use Rattle.cert_judge.specs.Judging.{IsKept, IsKeptWhole};
+ghost use Rattle.cert_judge.specs.Version.{Groups as GroupsOf};
 
+use crate::on_ground::Groups;
 use crate::stage::Stage;
-use cert_checker::Verdict;
 use cert_format::Labelled;
 use cert_parts::Part;
+use group_checker::{AnyVerdict, any_of};
 use reject_bits::Table;
-use sight_names::{CheckFault, Memory, Pair, PairRay, Plan};
+use sight_names::{Memory, Pair, PairRay, Plan};
 use sight_tree::Node;
 use std::alloc::Global;
 
-/// The triangles, the rays and the listed pairs so far, and how far they and the trees are judged.
+/// The groups, the triangles, the rays and the listed pairs so far, and how far they and the trees are judged.
 #[derive(Drop)]
 pub struct Kept {
+    groups: Groups,
     triangles: Vec<Labelled>,
     rays: Vec<PairRay>,
     listed: Vec<Pair>,
@@ -27,11 +30,12 @@ pub struct Kept {
 }
 
 impl Kept {
-    /// Nothing so far.
-    pub fn new(alloc: Global) -> Kept
-        ensures { (p : PlanParts) → IsKept p nothing result }
+    /// Nothing but the groups so far.
+    pub fn new(alloc: Global, groups: Groups) -> Kept
+        ensures { (p : PlanParts) → IsKept p groups nothing result }
     {
         Kept {
+            groups,
             triangles: Vec::new(alloc),
             rays: Vec::new(alloc),
             listed: Vec::new(alloc),
@@ -41,7 +45,7 @@ impl Kept {
 
     /// A triangle, unless another part has come before it.
     fn hear_triangle(&mut self, one: Labelled) -> Result<(), Memory>
-        ensures { (p : PlanParts) (h : Heard) → IsKept p h self.old → IfOk result (λ _. IsKept p (with_triangle one h) self.new) }
+        ensures { (p : PlanParts) (groups : GroupsOf) (h : Heard) → IsKept p groups h self.old → IfOk result (λ _. IsKept p groups (with_triangle one h) self.new) }
     {
         if let Stage::Gathering = self.stage {
             self.triangles.push(one)?;
@@ -50,16 +54,16 @@ impl Kept {
     }
 
     /// Another part than a triangle has come.
-    #[inline(always)]
     fn close(&mut self, alloc: Global, plan: &Plan) -> Result<(), Memory>
-        ensures { (h : Heard) → IsKept plan.now h self.old → IfOk result (λ _. IsKept plan.now (closed_at h) self.new) }
+        ensures { (groups : GroupsOf) (h : Heard) → IsKept plan.now groups h self.old → IfOk result (λ _. IsKept plan.now groups (closed_at h) self.new) }
     {
-        self.stage.close(alloc, plan, self.triangles.as_slice())
+        self.stage
+            .close(alloc, plan, &self.groups, self.triangles.as_slice())
     }
 
     /// A ray.
     fn hear_ray(&mut self, plan: &Plan, ray: PairRay) -> Result<(), Memory>
-        ensures { (h : Heard) → h.closed ≡ true → IsKept plan.now h self.old → IfOk result (λ _. IsKept plan.now (with_ray ray h) self.new) }
+        ensures { (groups : GroupsOf) (h : Heard) → h.closed ≡ true → IsKept plan.now groups h self.old → IfOk result (λ _. IsKept plan.now groups (with_ray ray h) self.new) }
     {
         self.stage.hear_ray(plan, &ray);
         self.rays.push(ray)?;
@@ -68,7 +72,7 @@ impl Kept {
 
     /// A listed pair.
     fn hear_listed(&mut self, pair: Pair) -> Result<(), Memory>
-        ensures { (p : PlanParts) (h : Heard) → h.closed ≡ true → IsKept p h self.old → IfOk result (λ _. IsKept p (with_listed pair h) self.new) }
+        ensures { (p : PlanParts) (groups : GroupsOf) (h : Heard) → h.closed ≡ true → IsKept p groups h self.old → IfOk result (λ _. IsKept p groups (with_listed pair h) self.new) }
     {
         self.listed.push(pair)?;
         Ok(())
@@ -76,23 +80,29 @@ impl Kept {
 
     /// A tree begins.
     fn begin_tree(&mut self, source: u16)
-        ensures { (p : PlanParts) (h : Heard) → h.closed ≡ true → IsKept p h self.old → IsKept p (with_tree source h) self.new }
+        ensures { (p : PlanParts) (groups : GroupsOf) (h : Heard) → h.closed ≡ true → IsKept p groups h self.old → IsKept p groups (with_tree source h) self.new }
     {
         self.stage.begin_tree(source);
     }
 
     /// A node of the last tree.
-    #[inline(always)]
     fn hear_node(&mut self, node: Node) -> Result<(), Memory>
-        ensures { (p : PlanParts) (h : Heard) → h.closed ≡ true → IsKept p h self.old → IfOk result (λ _. IsKept p (with_next node h) self.new) }
+        ensures { (p : PlanParts) (groups : GroupsOf) (h : Heard) → h.closed ≡ true → IsKept p groups h self.old → IfOk result (λ _. IsKept p groups (with_next node h) self.new) }
     {
         self.stage.hear_node(node)
     }
 
+    /// The next nodes of the last tree, of so many that are to come, from the bytes: what of those is behind them, and how many
+    /// are left. Others than the usual ones, and now and then one of these, are left to `hear`.
+    pub fn hear_nodes<'a>(&mut self, bytes: &'a [u8], count: u64) -> (&'a [u8], u64)
+        ensures { TakesNodes bytes.now count result.0.now result.1 (λ nodes. (p : PlanParts) (groups : GroupsOf) (h : Heard) → IsKept p groups h self.old → IsKept p groups (heard_from h (node_parts nodes)) self.new) }
+    {
+        self.stage.hear_nodes(bytes, count)
+    }
+
     /// The next part.
-    #[inline(always)]
     pub fn hear(&mut self, alloc: Global, plan: &Plan, part: Part) -> Result<(), Memory>
-        ensures { (h : Heard) → IsKept plan.now h self.old → IfOk result (λ _. IsKept plan.now (with_part h part) self.new) }
+        ensures { (groups : GroupsOf) (h : Heard) → IsKept plan.now groups h self.old → IfOk result (λ _. IsKept plan.now groups (with_part h part) self.new) }
     {
         match part {
             Part::Triangle(one) => self.hear_triangle(one),
@@ -117,23 +127,36 @@ impl Kept {
     }
 
     /// The verdict, once all parts have come.
-    pub fn verdict(mut self, alloc: Global, plan: &Plan, table: &Table) -> Result<Verdict, Memory>
-        requires { (c : CertParts) × IsKeptWhole plan.now table.now c self }
-        ensures mesh { (c : CertParts) → IsKeptWhole plan.now table.now c self → IfOk result (JudgesMesh (map_of plan.now) c) }
-        ensures rays { (c : CertParts) → IsKeptWhole plan.now table.now c self → IfOk result (JudgesRays (map_of plan.now) c) }
-        ensures trees { (c : CertParts) → IsKeptWhole plan.now table.now c self → IfOk result (JudgesTrees (map_of plan.now) c) }
-        ensures pairs { (c : CertParts) → IsKeptWhole plan.now table.now c self → IfOk result (JudgesPairs (map_of plan.now) table.now c) }
+    pub fn verdict(
+        mut self,
+        alloc: Global,
+        plan: &Plan,
+        table: &Table,
+    ) -> Result<AnyVerdict, Memory>
+        requires { (c : AnyCert) × IsKeptWhole plan.now table.now c self }
+        ensures { (c : AnyCert) → IsKeptWhole plan.now table.now c self → IfOk result (JudgesAny plan.now table.now c) }
     {
         self.close(alloc, plan)?;
         let Kept {
+            groups,
             rays,
             listed,
             stage,
             ..
         } = self;
         match stage {
-            Stage::Good(on) => on.verdict(alloc, plan, table, listed.as_slice(), rays.as_slice()),
-            Stage::Broken(fault) => Ok(Verdict::No(CheckFault::Mesh(fault))),
+            Stage::Good(on) => {
+                let verdict = on.verdict(
+                    alloc,
+                    plan,
+                    table,
+                    &groups,
+                    listed.as_slice(),
+                    rays.as_slice(),
+                )?;
+                Ok(any_of(verdict))
+            }
+            Stage::Broken(fault) => Ok(AnyVerdict::No(fault)),
             // No certificate comes to this.
             Stage::Gathering | Stage::Lost => Err(Memory),
         }

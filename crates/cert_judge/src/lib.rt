@@ -1,13 +1,16 @@
-//! A certificate judged part by part, as it is read: the mesh, what is known of pairs, and one path are kept.
+//! A certificate of either version judged part by part, as it is read: the mesh, what is known of pairs, and one path are kept.
 #![tactic(auto)]
 
+mod course;
 mod in_order;
 mod intake;
 mod judge;
 mod judged;
 mod judging;
 mod kept;
+mod on_ground;
 mod on_mesh;
+mod opening;
 mod stage;
 
 pub use judge::Judge;

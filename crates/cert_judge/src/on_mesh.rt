@@ -1,6 +1,6 @@
 //! Rays and trees judged over a good mesh, as they come.
 
-ghost use Rattle.std.specs.Prelude.{◌≡◌, [], ◌∷◌, ◌++◌, List, Option, Some, None, IfOk, option_map};
+ghost use Rattle.std.specs.Prelude.{◌≡◌, [], ◌∷◌, ◌++◌, List, Option, Some, None, IfErr, IfOk, option_map};
 ghost use Rattle.std.specs.Option.{option_to_list};
 ghost use Rattle.sight_names.specs.Map.{map_of};
 ghost use Rattle.sight_names.specs.Mesh.{IsGoodMesh};
@@ -9,20 +9,20 @@ ghost use Rattle.sight_names.specs.declared.names.PairRay.{PairRay as RayOfPair}
 ghost use Rattle.sight_tree.specs.declared.Tree.{Tree};
 ghost use Rattle.cert_format.specs.declared.cert.Labelled.{Labelled as AtSector};
 ghost use Rattle.cert_format.specs.Parts.{CertParts};
-ghost use Rattle.tree_judge.specs.Walked.{begun, with_node};
+ghost use Rattle.cert_parts.specs.Nodes.{TakesNodes};
+ghost use Rattle.tree_judge.specs.Walked.{begun, with_node, with_nodes};
 ghost use Rattle.cert_checker.specs.Apart.{triangles_in, labels_in};
-ghost use Rattle.cert_checker.specs.Judged.{JudgesMesh, JudgesRays, JudgesTrees, JudgesPairs};
 ghost use Rattle.cert_judge.specs.OnMesh.{IsOnMesh};
-ghost use Rattle.cert_judge.specs.Whole.{IsJudgedOn, IsToldBy, IsBehindRays};
+ghost use Rattle.cert_judge.specs.Whole.{HasReached, IsFirstEarly, IsHeardOver};
 
-use cert_checker::{Verdict, fault_of_ray, judge_reached};
+use cert_checker::fault_of_ray;
+use cert_parts::pass_nodes;
 use half_edges::HalfEdges;
 use mesh_shape::{Labels, Mesh};
-use reject_bits::Table;
-use sight_names::{CheckFault, Memory, Pair, PairRay, Plan};
+use sight_names::{CheckFault, Memory, PairRay, Plan};
 use sight_tree::Node;
 use std::alloc::Global;
-use tree_judge::{TreeJudge, TreeVerdict};
+use tree_judge::{Reach, TreeJudge, TreeVerdict};
 
 /// A good mesh, the fault of the first wrong ray, and a judge of the trees. Behind a wrong ray no tree is judged.
 #[derive(Drop)]
@@ -68,8 +68,18 @@ impl OnMesh {
         }
     }
 
+    /// The next nodes of the last tree, of so many that are to come, from the bytes: what of those is behind them, and how many
+    /// are left. Others than the usual ones, and now and then one of these, are left to `hear_node`.
+    pub fn hear_nodes<'a>(&mut self, bytes: &'a [u8], count: u64) -> (&'a [u8], u64)
+        ensures { TakesNodes bytes.now count result.0.now result.1 (λ nodes. (p : PlanParts) (ls : List AtSector) (rays : List RayOfPair) (front : List Tree) (tree : Option Tree) → IsOnMesh p ls rays front tree self.old → IsOnMesh p ls rays front (option_map (with_nodes nodes) tree) self.new) }
+    {
+        if self.fault.is_some() {
+            return pass_nodes(bytes, count);
+        }
+        self.trees.hear_nodes(&self.edges, bytes, count)
+    }
+
     /// The next node of the last tree.
-    #[inline(always)]
     pub fn hear_node(&mut self, node: Node) -> Result<(), Memory>
         ensures { (p : PlanParts) (ls : List AtSector) (rays : List RayOfPair) (front : List Tree) (tree : Option Tree) → IsOnMesh p ls rays front tree self.old → IfOk result (λ _. IsOnMesh p ls rays front (option_map (with_node node) tree) self.new) }
     {
@@ -79,46 +89,17 @@ impl OnMesh {
         self.trees.hear(&self.edges, node)
     }
 
-    /// The verdict of rays, trees and pairs, once all have come.
-    pub fn verdict(
-        self,
-        alloc: Global,
-        plan: &Plan,
-        table: &Table,
-        listed: &[Pair],
-        rays: &[PairRay],
-    ) -> Result<Verdict, Memory>
-        requires { (c : CertParts) × IsJudgedOn plan.now table.now c listed.now rays.now self }
-        ensures mesh { (c : CertParts) → IsJudgedOn plan.now table.now c listed.now rays.now self → IfOk result (JudgesMesh (map_of plan.now) c) }
-        ensures rays { (c : CertParts) → IsJudgedOn plan.now table.now c listed.now rays.now self → IfOk result (JudgesRays (map_of plan.now) c) }
-        ensures trees { (c : CertParts) → IsJudgedOn plan.now table.now c listed.now rays.now self → IfOk result (JudgesTrees (map_of plan.now) c) }
-        ensures pairs { (c : CertParts) → IsJudgedOn plan.now table.now c listed.now rays.now self → IfOk result (JudgesPairs (map_of plan.now) table.now c) }
+    /// What the trees keep from, where each ray is a sight ray and each tree is whole; or the first fault.
+    pub fn reached(self) -> Result<Reach, CheckFault>
+        ensures reach { (p : PlanParts) (c : CertParts) → IsHeardOver p c self → IfOk result (HasReached (map_of p) c) }
+        ensures fault { (p : PlanParts) (c : CertParts) → IsHeardOver p c self → IfErr result (IsFirstEarly (map_of p) c) }
     {
         match self.fault {
-            Some(fault) => Ok(Verdict::No(fault)),
-            None => verdict_by(alloc, plan, table, listed, rays, self.trees.verdict()),
+            Some(fault) => Err(fault),
+            None => match self.trees.verdict() {
+                TreeVerdict::Whole(reach) => Ok(reach),
+                TreeVerdict::Wrong { source, node } => Err(CheckFault::Tree { source, node }),
+            },
         }
-    }
-}
-
-/// The verdict by what the trees tell, where no ray is wrong.
-fn verdict_by(
-    alloc: Global,
-    plan: &Plan,
-    table: &Table,
-    listed: &[Pair],
-    rays: &[PairRay],
-    trees: TreeVerdict,
-) -> Result<Verdict, Memory>
-    requires { (c : CertParts) × IsToldBy plan.now table.now c listed.now rays.now trees }
-    ensures kind { IfOk result IsBehindRays }
-    ensures trees { (c : CertParts) → IsToldBy plan.now table.now c listed.now rays.now trees → IfOk result (JudgesTrees (map_of plan.now) c) }
-    ensures pairs { (c : CertParts) → IsToldBy plan.now table.now c listed.now rays.now trees → IfOk result (JudgesPairs (map_of plan.now) table.now c) }
-{
-    match trees {
-        TreeVerdict::Wrong { source, node } => {
-            Ok(Verdict::No(CheckFault::Tree { source, node }))
-        }
-        TreeVerdict::Whole(reach) => judge_reached(alloc, plan, table, listed, rays, &reach),
     }
 }

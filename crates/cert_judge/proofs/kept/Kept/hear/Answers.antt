@@ -6,13 +6,13 @@ use Rattle.cert_judge.specs.Judging.{IsKept}
 use Rattle.cert_judge.proofs.kept.Kept.hear.Goals as goal
 
 pub returns-in_ok-close-in-Ray : goal.returns-in_ok-close-in-Ray
-returns-in_ok-close-in-Ray c = λ h k. subst (λ (part : Part). IfOk c.hear_ray.result (λ _. IsKept c.args.plan.now (with_part h part) c.hear_ray.new.self)) (sym c.in-Ray.is) (c.hear_ray.ensures (closed_at h) refl (c.in_ok-close-in-Ray.ensures h k))
+returns-in_ok-close-in-Ray c = λ groups h k. subst (λ (part : Part). IfOk c.hear_ray.result (λ _. IsKept c.args.plan.now groups (with_part h part) c.hear_ray.new.self)) (sym c.in-Ray.is) (c.hear_ray.ensures groups (closed_at h) refl (c.in_ok-close-in-Ray.ensures groups h k))
 
 pub returns-in_ok-close-in-Listed : goal.returns-in_ok-close-in-Listed
-returns-in_ok-close-in-Listed c = λ h k. subst (λ (part : Part). IfOk c.hear_listed.result (λ _. IsKept c.args.plan.now (with_part h part) c.hear_listed.new.self)) (sym c.in-Listed.is) (c.hear_listed.ensures c.args.plan.now (closed_at h) refl (c.in_ok-close-in-Listed.ensures h k))
+returns-in_ok-close-in-Listed c = λ groups h k. subst (λ (part : Part). IfOk c.hear_listed.result (λ _. IsKept c.args.plan.now groups (with_part h part) c.hear_listed.new.self)) (sym c.in-Listed.is) (c.hear_listed.ensures c.args.plan.now groups (closed_at h) refl (c.in_ok-close-in-Listed.ensures groups h k))
 
 pub returns-in_ok-close-in-Tree : goal.returns-in_ok-close-in-Tree
-returns-in_ok-close-in-Tree c = λ h k. subst (λ (part : Part). IsKept c.args.plan.now (with_part h part) c.begin_tree.new.self) (sym c.in-Tree.is) (c.begin_tree.ensures c.args.plan.now (closed_at h) refl (c.in_ok-close-in-Tree.ensures h k))
+returns-in_ok-close-in-Tree c = λ groups h k. subst (λ (part : Part). IsKept c.args.plan.now groups (with_part h part) c.begin_tree.new.self) (sym c.in-Tree.is) (c.begin_tree.ensures c.args.plan.now groups (closed_at h) refl (c.in_ok-close-in-Tree.ensures groups h k))
 
 pub returns-in_ok-close-in-Node : goal.returns-in_ok-close-in-Node
-returns-in_ok-close-in-Node c = λ h k. subst (λ (part : Part). IfOk c.hear_node.result (λ _. IsKept c.args.plan.now (with_part h part) c.hear_node.new.self)) (sym c.in-Node.is) (c.hear_node.ensures c.args.plan.now (closed_at h) refl (c.in_ok-close-in-Node.ensures h k))
+returns-in_ok-close-in-Node c = λ groups h k. subst (λ (part : Part). IfOk c.hear_node.result (λ _. IsKept c.args.plan.now groups (with_part h part) c.hear_node.new.self)) (sym c.in-Node.is) (c.hear_node.ensures c.args.plan.now groups (closed_at h) refl (c.in_ok-close-in-Node.ensures groups h k))

@@ -3,6 +3,6 @@ use Rattle.cert_judge.specs.Stage.{IsStage}
 use Rattle.cert_judge.proofs.stage.Stage.hear_ray.Goals as goal
 
 pub returns-in-Good : goal.returns-in-Good
-returns-in-Good c = λ h closed k.
-    let on = subst (IsStage c.args.plan.now h) c.in-Good.is k in
-    (closed, c.hear_ray.ensures h.triangles h.rays h.front h.tree on.1)
+returns-in-Good c = λ groups h closed k.
+    let on = subst (IsStage c.args.plan.now groups h) c.in-Good.is k in
+    (closed, c.hear_ray.ensures groups h.triangles h.rays h.front h.tree on.1)
