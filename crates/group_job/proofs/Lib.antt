@@ -9,3 +9,4 @@ pub mod GroupPairs
 pub mod SectorPairs
 pub mod Certifying
 pub mod Walking
+pub mod TwoSizes

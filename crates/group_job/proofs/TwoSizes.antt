@@ -1,0 +1,12 @@
+-- The sizes of a certificate that is of version 2.
+use Rattle.std.proofs.Common.{◌≡◌}
+use Rattle.cert_format.specs.declared.cert.Sizes.{Sizes}
+use Rattle.cert_groups.specs.declared.cert.AnyCert.{AnyCert}
+use Rattle.cert_groups.specs.declared.cert.AnyCert.TheVariants.{One, Two}
+use Rattle.cert_groups.specs.Grammar.{sizes_of}
+use Rattle.group_job.specs.Built.{IsTwoOf}
+
+-- for a map of these sizes it has them
+pub sizes_are : (s : Sizes) (cert : AnyCert) → IsTwoOf s cert → sizes_of cert ≡ s
+sizes_are s (One c) h = absurd h
+sizes_are s (Two c own) h = h
