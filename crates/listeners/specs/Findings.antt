@@ -3,18 +3,18 @@ use Rattle.std.specs.Prelude.{◌≡◌, ℕ, ◌-◌, List, map, flat_map, All}
 use Rattle.std.specs.List.{range_with_len}
 use Rattle.sight_names.specs.declared.names.Budget.{Budget}
 use Rattle.sight_names.specs.declared.names.Pair.{Pair}
-use Rattle.sight_names.specs.Found.{IsListed}
+use Rattle.sight_names.specs.Groups.{IsListedByGroups}
 use Rattle.sight_names.specs.Map.{Map}
 use Rattle.sight_names.specs.Sees.{Sees}
 use Rattle.listeners.specs.declared.finding.Finding.{Finding}
 use Rattle.listeners.specs.declared.finding.Kind.{Kind}
 use Rattle.listeners.specs.declared.finding.Kind.TheVariants as kind
 
--- a pair is listed, or else it is clear where the two see each other, and set where they don't
+-- a pair is listed by the groups of its sectors, or else it is clear where the two see each other, and set where they don't
 abbrev pub IsKindOf : Map → Budget → ℕ → ℕ → Kind → Type 0
-IsKindOf m budget a b kind.Listed = IsListed m budget a b
-IsKindOf m budget a b kind.Clear = ¬ IsListed m budget a b × Sees m a b
-IsKindOf m budget a b kind.Set = ¬ IsListed m budget a b × ¬ Sees m a b
+IsKindOf m budget a b kind.Listed = IsListedByGroups m budget a b
+IsKindOf m budget a b kind.Clear = ¬ IsListedByGroups m budget a b × Sees m a b
+IsKindOf m budget a b kind.Set = ¬ IsListedByGroups m budget a b × ¬ Sees m a b
 
 -- the pairs (a, b) of so many sectors with a <= b, for one a
 abbrev pub pairs_from : ℕ → ℕ → List Pair

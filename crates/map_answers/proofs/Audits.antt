@@ -1,24 +1,15 @@
--- The answer of `audit`, the only one: a map has one list of labels, and so one number of triangles in sectors.
-use Rattle.std.proofs.Common.{◌≡◌, ℕ, List, Option, Result, Ok, sym, ap, ◌∙◌}
+-- The answer of `audit`, the only one.
+use Rattle.std.proofs.Common.{◌≡◌, ℕ, List, Ok, sym, ap, ◌∙◌}
 use Rattle.std.specs.Prelude.{⊤}
-use Rattle.sight_names.specs.Map.{Map}
-use Rattle.sight_job.specs.declared.faces.Faces.{Faces}
-use Rattle.sight_status.specs.declared.status.Status.{Status}
-use Rattle.sight_status.specs.Answer.{Answer, Gives, only_line}
-use Rattle.map_answers.specs.Audit.{AuditCalls, FacesCall, sound_line}
-use Rattle.map_answers.specs.Sound.{AreFaces, HasSoundLines}
-use Rattle.map_answers.proofs.Flaws.{gives_one}
-use Rattle.map_answers.proofs.OneFaces.{same_labels}
+use Rattle.sight_names.specs.Map.{map_of}
+use Rattle.sight_names.specs.Plan.{IsPlan, PlanParts}
+use Rattle.sight_status.specs.Answer.{Gives, only_line}
+use Rattle.map_answers.specs.Audit.{AuditCalls, SoundCall, sound_line}
+use Rattle.map_answers.specs.Groups.{IsOverGroups, MapGroups}
+use Rattle.map_answers.specs.Sound.{HasSoundLines}
+use Rattle.map_answers.proofs.Closed.{gives_called}
 
--- the answer that says this of a map
-abbrev said : List ℕ → Result Answer Status
-said line = Ok (only_line line)
-
--- all faces of a map call for one line
-one_called : (m : Map) (faces : Faces) (r : Result Answer Status) → AreFaces m faces → FacesCall m faces r → (others : Faces) (s : Result Answer Status) → AreFaces m others → FacesCall m others s → s ≡ r
-one_called m faces r are h others s too k = k ∙ ap (λ (labels : List (Option ℕ)). said (sound_line m labels)) (same_labels m faces others are too) ∙ sym h
-
-pub gives_line : (m : Map) (faces : Faces) (line : List ℕ) → HasSoundLines m → AreFaces m faces → line ≡ sound_line m faces.labels → Gives ⊤ (AuditCalls m) (Ok (only_line line))
-gives_line m faces line lines are is =
-    let called : FacesCall m faces (said line) = ap said is in
-    gives_one m (FacesCall m) faces (said line) lines are called (one_called m faces (said line) are called) tt
+pub gives_line : (p : PlanParts) (g : MapGroups) (line : List ℕ) → IsPlan p → HasSoundLines (map_of p) → IsOverGroups (map_of p) g → line ≡ sound_line (map_of p) g.labels → Gives ⊤ (AuditCalls (map_of p)) (Ok (only_line line))
+gives_line p g line plan lines over is =
+    let called : SoundCall (map_of p) g (Ok (only_line line)) = ap (λ (l : List ℕ). Ok (only_line l)) is in
+    gives_called p plan (SoundCall (map_of p)) g (Ok (only_line line)) lines over called (λ s k. k ∙ sym called) tt

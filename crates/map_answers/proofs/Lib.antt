@@ -1,7 +1,8 @@
 pub mod Rays
 pub mod Sounds
 pub mod Flaws
-pub mod OneFaces
+pub mod OneGroups
+pub mod Closed
 pub mod Audits
 pub mod Needs
 pub mod Traces

@@ -1,4 +1,4 @@
--- The answer of `need`, the only one: a map has one mesh, one list of labels, and of each sector one number of sequences.
+-- The answer of `need`, the only one: of each source there is one number of sequences.
 use Rattle.std.proofs.Common.{◌≡◌, ℕ, ◌<◌, List, Option, Result, Ok, Err, String, length, get_or, ap, sym, ◌∙◌, subst, string_bytes}
 use Rattle.std.specs.Prelude.{IfErr, IfOk, ⊤}
 use Rattle.std.specs.declared.alloc.Global.{Global}
@@ -6,19 +6,18 @@ use Rattle.std.proofs.lemmas.Grind.{same_number_lists}
 use Rattle.std.proofs.lemmas.Option.{slice_get-get_or}
 use Rattle.sight_names.specs.declared.names.Triangle.{Triangle}
 use Rattle.sight_names.specs.Enough.{enough_of}
-use Rattle.sight_names.specs.Map.{Map}
+use Rattle.sight_names.specs.Map.{Map, map_of}
 use Rattle.sight_names.specs.Mesh.{IsGoodMesh}
+use Rattle.sight_names.specs.Plan.{IsPlan, PlanParts}
 use Rattle.sequence_laws.proofs.All.{stand_in_order}
 use Rattle.enough_budget.specs.Need.{HasSequences, greatest}
-use Rattle.sight_job.specs.declared.faces.Faces.{Faces}
-use Rattle.sight_status.specs.declared.status.Flaw.TheVariants as flaw
 use Rattle.sight_status.specs.declared.status.Status.{Status}
 use Rattle.sight_status.specs.declared.status.Status.TheVariants as status
 use Rattle.sight_status.specs.Answer.{Answer, Gives, line_answer, only_line}
-use Rattle.map_answers.specs.Need.{AreNeeds, NeedCalls, need_line}
-use Rattle.map_answers.specs.Sound.{AreFaces, HasSoundLines}
-use Rattle.map_answers.proofs.Flaws.{agree_at}
-use Rattle.map_answers.proofs.OneFaces.{same_labels, same_triangles}
+use Rattle.map_answers.specs.Groups.{IsOverGroups, MapGroups}
+use Rattle.map_answers.specs.Need.{AreNeeds, NeedCalls, NeedsOf, need_line}
+use Rattle.map_answers.specs.Sound.{HasSoundLines}
+use Rattle.map_answers.proofs.Closed.{gives_called}
 
 -- ---- the numbers are the only ones
 
@@ -33,35 +32,18 @@ module _ (m : Map) (ts : List Triangle) (ls : List (Option ℕ)) (good : IsGoodM
       let same : length ns ≡ length ks = h.each ∙ sym k.each in
       same_number_lists ns ks same (λ a lt. one_number a (get_or ns a 0) (get_or ks a 0) (h.counts a (get_or ns a 0) (slice_get-get_or ns a 0 lt)) (k.counts a (get_or ks a 0) (slice_get-get_or ks a 0 (subst (λ (n : ℕ). a < n) same lt))))
 
--- over other faces of the map the numbers and the budget that is enough are the same
-same_over : (m : Map) (name : List ℕ) (f g : Faces) (ns ks : List ℕ) → AreFaces m f → AreFaces m g → AreNeeds m f.mesh.triangles f.labels ns → AreNeeds m g.mesh.triangles g.labels ks
-    → need_line name (greatest ks) (enough_of m g.mesh.triangles) ≡ need_line name (greatest ns) (enough_of m f.mesh.triangles)
-same_over m name f g ns ks of_f of_g h k =
-    let mesh : g.mesh.triangles ≡ f.mesh.triangles = same_triangles m f g of_f of_g in
-    let labels : g.labels ≡ f.labels = same_labels m f g of_f of_g in
-    let same : ks ≡ ns = same_numbers m f.mesh.triangles f.labels of_f.found.good ks ns (subst (λ (os : List (Option ℕ)). AreNeeds m f.mesh.triangles os ks) labels (subst (λ (us : List Triangle). AreNeeds m us g.labels ks) mesh k)) h in
-    ap (λ (xs : List ℕ). need_line name (greatest xs) (enough_of m g.mesh.triangles)) same ∙ ap (λ (us : List Triangle). need_line name (greatest ns) (enough_of m us)) mesh
-
 -- ---- so the line is the only answer
 
-only_need : (m : Map) (name : List ℕ) (f : Faces) (ns : List ℕ) (line : List ℕ) → HasSoundLines m → AreFaces m f → AreNeeds m f.mesh.triangles f.labels ns → line ≡ need_line name (greatest ns) (enough_of m f.mesh.triangles)
-    → (other : Result Answer Status) → NeedCalls name m other → other ≡ Ok (only_line line)
-only_need m name f ns line lines are h is (Ok answer) q =
-    let shown = q.1.called in
-    ap Ok (shown.is ∙ ap only_line (same_over m name f q.1.faces ns shown.numbers are q.1.are h shown.are ∙ sym is))
-only_need m name f ns line lines are h is (Err (status.BadMap (flaw.Line fault))) q = absurd (lines.none fault q)
-only_need m name f ns line lines are h is (Err (status.BadMap (flaw.Open side))) q = absurd (q.1.against (are.found.closed side))
-only_need m name f ns line lines are h is (Err (status.BadMap (flaw.Mixed s t))) q = absurd (q.1.1.against (agree_at m s t are.found.agree))
-only_need m name f ns line lines are h is (Err s) q = absurd q.1.called
+abbrev line_for : List ℕ → MapGroups → List ℕ → List ℕ
+line_for name g ns = need_line name (greatest ns) (enough_of g.grouped g.triangles)
 
-need_is_the_answer : (m : Map) (name : List ℕ) (f : Faces) (ns : List ℕ) (line : List ℕ) → HasSoundLines m → AreFaces m f → AreNeeds m f.mesh.triangles f.labels ns → line ≡ need_line name (greatest ns) (enough_of m f.mesh.triangles)
-    → Gives ⊤ (NeedCalls name m) (Ok (only_line line))
-need_is_the_answer m name f ns line lines are h is = record {
-  called = (lines.meet, record { faces = f; are = are; called = record { numbers = ns; are = h; is = ap only_line is } });
-  only = λ sole. only_need m name f ns line lines are h is;
-}
+only_need : (name : List ℕ) (g : MapGroups) (ns line : List ℕ) → IsGoodMesh g.grouped g.triangles g.labels → AreNeeds g.grouped g.triangles g.labels ns → line ≡ line_for name g ns
+    → (other : Result Answer Status) → NeedsOf name g other → other ≡ Ok (only_line line)
+only_need name g ns line good h is (Ok answer) q = ap Ok (q.is ∙ ap only_line (ap (line_for name g) (same_numbers g.grouped g.triangles g.labels good q.numbers ns q.are h) ∙ sym is))
+only_need name g ns line good h is (Err s) q = absurd q
 
-pub gives_need : (m : Map) (name : List ℕ) (f : Faces) (ns : List ℕ) (r : Result (String Global) Status) → HasSoundLines m → AreFaces m f → AreNeeds m f.mesh.triangles f.labels ns
-    → IfOk r (λ line. string_bytes line ≡ need_line name (greatest ns) (enough_of m f.mesh.triangles)) → IfErr r (λ s. s ≡ status.Memory) → Gives ⊤ (NeedCalls name m) (line_answer r)
-gives_need m name f ns (Ok line) lines are h is refusal = need_is_the_answer m name f ns (string_bytes line) lines are h is
-gives_need m name f ns (Err s) lines are h is refusal = subst (λ (t : Status). Gives ⊤ (NeedCalls name m) (Err t)) (sym refusal) tt
+pub gives_need : (p : PlanParts) (name : List ℕ) (g : MapGroups) (ns : List ℕ) (r : Result (String Global) Status) → IsPlan p → HasSoundLines (map_of p) → IsOverGroups (map_of p) g → IsGoodMesh g.grouped g.triangles g.labels
+    → AreNeeds g.grouped g.triangles g.labels ns → IfOk r (λ line. string_bytes line ≡ need_line name (greatest ns) (enough_of g.grouped g.triangles)) → IfErr r (λ s. s ≡ status.Memory) → Gives ⊤ (NeedCalls name (map_of p)) (line_answer r)
+gives_need p name g ns (Ok line) plan lines over good h is refusal =
+    gives_called p plan (NeedsOf name) g (Ok (only_line (string_bytes line))) lines over (record { numbers = ns; are = h; is = ap only_line is }) (only_need name g ns (string_bytes line) good h is) tt
+gives_need p name g ns (Err s) plan lines over good h is refusal = subst (λ (t : Status). Gives ⊤ (NeedCalls name (map_of p)) (Err t)) (sym refusal) tt

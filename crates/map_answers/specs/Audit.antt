@@ -4,19 +4,18 @@ use Rattle.std.specs.Fmt.{decimal}
 use Rattle.sight_names.specs.Map.{Map}
 use Rattle.sight_names.specs.Points.{lines_of, points_of}
 use Rattle.sight_status.specs.declared.status.Status.{Status}
-use Rattle.sight_job.specs.declared.faces.Faces.{Faces}
 use Rattle.sight_status.specs.Answer.{Answer, only_line}
-use Rattle.map_answers.specs.Sound.{OnSound}
+use Rattle.map_answers.specs.Groups.{MapGroups, OnAudited}
 
--- how many lines, points and sectors the map has, and how many triangles a sector has
+-- how many lines, points and sectors the map has, and how many triangles are on faces that have a sector
 abbrev pub sound_line : Map → List (Option ℕ) → List ℕ
 sound_line m labels = codes "sound lines " ++ decimal (length (lines_of m)) ++ codes " points " ++ decimal (length (points_of m)) ++ codes " sectors " ++ decimal m.sectors
     ++ codes " triangles " ++ decimal (length (filter_map (λ label. label) labels)) ++ codes "\n"
 
--- the faces of a sound map call for its line
-abbrev pub FacesCall : Map → Faces → Result Answer Status → Type 0
-FacesCall m faces answer = answer ≡ Ok (only_line (sound_line m faces.labels))
+-- the groups of a map call for its line
+abbrev pub SoundCall : Map → MapGroups → Result Answer Status → Type 0
+SoundCall m g answer = answer ≡ Ok (only_line (sound_line m g.labels))
 
 -- the answers that `audit` calls for
 abbrev pub AuditCalls : Map → Result Answer Status → Type 0
-AuditCalls m answer = OnSound m (FacesCall m) answer
+AuditCalls m answer = OnAudited m (SoundCall m) answer

@@ -2,6 +2,7 @@ pub mod Input
 pub mod Views
 pub mod Ray
 pub mod Sound
+pub mod Groups
 pub mod Audit
 pub mod Trace
 pub mod Need

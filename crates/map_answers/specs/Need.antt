@@ -5,10 +5,9 @@ use Rattle.sight_names.specs.declared.names.Triangle.{Triangle}
 use Rattle.sight_names.specs.Enough.{enough_of}
 use Rattle.sight_names.specs.Map.{Map}
 use Rattle.enough_budget.specs.Need.{HasSequences, greatest}
-use Rattle.sight_job.specs.declared.faces.Faces.{Faces}
 use Rattle.sight_status.specs.declared.status.Status.{Status}
 use Rattle.sight_status.specs.Answer.{Answer, only_line}
-use Rattle.map_answers.specs.Sound.{OnSound}
+use Rattle.map_answers.specs.Groups.{MapGroups, OnAudited}
 
 -- for each sector the number of its stabbable sequences
 pub record AreNeeds (m : Map) (ts : List Triangle) (ls : List (Option ℕ)) (numbers : List ℕ) : Type 0 where
@@ -19,17 +18,17 @@ pub record AreNeeds (m : Map) (ts : List Triangle) (ls : List (Option ℕ)) (num
 abbrev pub need_line : List ℕ → ℕ → ℕ → List ℕ
 need_line name most enough = codes "need " ++ name ++ codes " most " ++ decimal most ++ codes " enough " ++ decimal enough ++ codes "\n"
 
--- the line has the greatest number of stabbable sequences of a sector, 0 where there is no sector, and the budget that is enough
-pub record ShowsNeed (name : List ℕ) (m : Map) (faces : Faces) (answer : Answer) : Type 0 where
+-- the line has the greatest number of stabbable sequences of a group, 0 where there is no group, and the budget that is enough
+pub record ShowsNeed (name : List ℕ) (g : MapGroups) (answer : Answer) : Type 0 where
   pub numbers : List ℕ
-  pub are : AreNeeds m faces.mesh.triangles faces.labels numbers
-  pub is : answer ≡ only_line (need_line name (greatest numbers) (enough_of m faces.mesh.triangles))
+  pub are : AreNeeds g.grouped g.triangles g.labels numbers
+  pub is : answer ≡ only_line (need_line name (greatest numbers) (enough_of g.grouped g.triangles))
 
--- the answer that the faces of a sound map call for
-abbrev pub NeedsOf : List ℕ → Map → Faces → Result Answer Status → Type 0
-NeedsOf name m faces (Ok answer) = ShowsNeed name m faces answer
-NeedsOf name m faces (Err refusal) = ⊥
+-- the answer that the groups of a map call for
+abbrev pub NeedsOf : List ℕ → MapGroups → Result Answer Status → Type 0
+NeedsOf name g (Ok answer) = ShowsNeed name g answer
+NeedsOf name g (Err refusal) = ⊥
 
 -- the answer that `need` calls for
 abbrev pub NeedCalls : List ℕ → Map → Result Answer Status → Type 0
-NeedCalls name m answer = OnSound m (NeedsOf name m) answer
+NeedCalls name m answer = OnAudited m (NeedsOf name) answer

@@ -1,5 +1,5 @@
 -- What the order `trace` says of a map that was found. It writes nothing.
-use Rattle.std.specs.Prelude.{◌≡◌, ℕ, List, [], ◌∷◌, ◌++◌, Bool, false, ◌==◌, filter_map, Option, Some, None, Result, Ok, Err, codes, if◌then◌else◌, ⊤}
+use Rattle.std.specs.Prelude.{◌≡◌, ℕ, List, [], ◌∷◌, ◌++◌, Bool, false, ◌==◌, filter_map, Option, Some, None, Result, Ok, Err, codes, slice_index_or, if◌then◌else◌, ⊤}
 use Rattle.std.specs.Fmt.{decimal}
 use Rattle.std.specs.List.{flat_map}
 use Rattle.sight_names.specs.declared.names.Ray.{Ray}
@@ -11,9 +11,8 @@ use Rattle.ray_trace.specs.Trace.{IsTrace, IsTraceFault}
 use Rattle.sight_status.specs.declared.status.Why.TheVariants as why
 use Rattle.sight_status.specs.declared.status.Status.{Status}
 use Rattle.sight_status.specs.declared.status.Status.TheVariants as status
-use Rattle.sight_job.specs.declared.faces.Faces.{Faces}
 use Rattle.sight_status.specs.Answer.{Answer, only_line}
-use Rattle.map_answers.specs.Sound.{OnSound}
+use Rattle.map_answers.specs.Groups.{MapGroups, OnAudited}
 
 abbrev pub is_last : Option ℕ → ℕ → Bool
 is_last None a = false
@@ -24,29 +23,38 @@ abbrev pub changes : Option ℕ → List ℕ → List ℕ
 changes last [] = []
 changes last (a ∷ rest) = if is_last last a then changes last rest else a ∷ changes (Some a) rest
 
-abbrev pub word_of : ℕ → List ℕ
-word_of a = codes " " ++ decimal a
+abbrev pub plus_word : ℕ → List ℕ
+plus_word a = codes "+" ++ decimal a
 
--- the sectors one after the other, equal neighbours once
-abbrev pub trace_line : List ℕ → List ℕ
-trace_line sectors = codes "trace" ++ flat_map word_of (changes None sectors) ++ codes "\n"
+-- the sectors of a group, joined by plus signs
+abbrev pub group_text : List ℕ → List ℕ
+group_text [] = []
+group_text (a ∷ rest) = decimal a ++ flat_map plus_word rest
 
--- the sectors of these triangles
-abbrev pub sectors_at : List (Option ℕ) → List ℕ → List ℕ
-sectors_at labels passed = filter_map (label_of labels) passed
+-- the group at this place
+abbrev pub word_of : List (List ℕ) → ℕ → List ℕ
+word_of groups k = codes " " ++ group_text (slice_index_or groups k [])
 
--- the ray passes these triangles, and the line names their sectors
-pub record ShowsTrace (m : Map) (ray : Ray) (faces : Faces) (answer : Answer) : Type 0 where
+-- the groups at these places one after the other, equal neighbours once
+abbrev pub trace_line : List (List ℕ) → List ℕ → List ℕ
+trace_line groups places = codes "trace" ++ flat_map (word_of groups) (changes None places) ++ codes "\n"
+
+-- the places of the groups of these triangles
+abbrev pub places_of : List (Option ℕ) → List ℕ → List ℕ
+places_of labels passed = filter_map (label_of labels) passed
+
+-- on the map of groups the ray passes these triangles, and the line names their groups
+pub record ShowsTrace (ray : Ray) (g : MapGroups) (answer : Answer) : Type 0 where
   pub passed : List ℕ
-  pub trace : IsTrace m faces.mesh.triangles ray passed
-  pub is : answer ≡ only_line (trace_line (sectors_at faces.labels passed))
+  pub trace : IsTrace g.grouped g.triangles ray passed
+  pub is : answer ≡ only_line (trace_line g.groups (places_of g.labels passed))
 
--- the answers that some faces of a sound map call for: the trace, or what the ray comes to first
-abbrev pub RayCallsFor : Ray → Map → Faces → Result Answer Status → Type 0
-RayCallsFor ray m faces (Ok answer) = ShowsTrace m ray faces answer
-RayCallsFor ray m faces (Err (status.No (why.Trace trace.Memory))) = ⊥
-RayCallsFor ray m faces (Err (status.No (why.Trace fault))) = IsTraceFault m faces.mesh.triangles ray fault
-RayCallsFor ray m faces (Err other) = ⊥
+-- the answers that the groups of a map call for: the trace, or what the ray comes to first
+abbrev pub RayCallsFor : Ray → MapGroups → Result Answer Status → Type 0
+RayCallsFor ray g (Ok answer) = ShowsTrace ray g answer
+RayCallsFor ray g (Err (status.No (why.Trace trace.Memory))) = ⊥
+RayCallsFor ray g (Err (status.No (why.Trace fault))) = IsTraceFault g.grouped g.triangles ray fault
+RayCallsFor ray g (Err other) = ⊥
 
 -- what the walk along the ray can end with
 abbrev pub IsTraceRefusal : Map → List Triangle → Ray → Status → Type 0
@@ -57,4 +65,4 @@ IsTraceRefusal m ts ray other = ⊥
 
 -- the answers that `trace` calls for
 abbrev pub TraceCalls : Ray → Map → Result Answer Status → Type 0
-TraceCalls ray m answer = OnSound m (RayCallsFor ray m) answer
+TraceCalls ray m answer = OnAudited m (RayCallsFor ray) answer

@@ -8,7 +8,7 @@ ghost use Rattle.sight_status.specs.Answer.{Gives, line_answer};
 ghost use Rattle.map_answers.specs.Audit.{AuditCalls, sound_line};
 ghost use Rattle.sight_status.specs.Status.{IsOfMapTest};
 
-use crate::sound::audit_map;
+use crate::groups::audit_map;
 use mesh_shape::Labels;
 use sight_names::{Line, Plan};
 use sight_status::{Status, push_count, push_count_line};
@@ -27,7 +27,7 @@ fn count_lines(lines: &[Option<Line>]) -> u64
     count
 }
 
-/// How many of the triangles have a sector.
+/// How many of the triangles have a label.
 fn count_labels(labels: &[Option<u16>]) -> u64
     ensures { result ≡ length (filter_map (λ label. label) labels.now) }
 {
@@ -40,7 +40,7 @@ fn count_labels(labels: &[Option<u16>]) -> u64
     count
 }
 
-/// What a sound map has: numbers of lines, points, sectors and labelled triangles.
+/// What a sound map has: numbers of lines, points, sectors and triangles on faces that have a sector.
 #[derive(Clone, Copy)]
 struct MapCounts {
     lines: u64,
@@ -85,8 +85,8 @@ pub fn judge_audit(alloc: Global, plan: &Plan) -> Result<String, Status>
     ensures judged { Gives ⊤ (AuditCalls (map_of plan.now)) (line_answer result) }
     ensures refusals { IfErr result IsOfMapTest }
 {
-    let faces = audit_map(alloc, plan)?;
-    match sound_line_of(alloc, plan, &faces.labels) {
+    let groups = audit_map(alloc, plan)?;
+    match sound_line_of(alloc, plan, &groups.grouped.labels) {
         Ok(line) => Ok(line),
         Err(_) => Err(Status::Memory),
     }

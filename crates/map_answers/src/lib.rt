@@ -3,6 +3,7 @@
 
 mod audit;
 mod counts;
+mod groups;
 mod input;
 mod need;
 mod noise;
@@ -12,9 +13,10 @@ mod trace;
 
 pub use audit::judge_audit;
 pub use counts::{Counts, counts_of, push_counts};
+pub use groups::{MeshGroups, audit_groups, audit_map};
 pub use input::{Input, directory, find_in, lump_of, plan_named};
 pub use need::judge_need;
 pub use noise::judge_sound;
 pub use ray::judge_ray;
-pub use sound::{audit_faces, audit_lines_of, audit_map};
+pub use sound::audit_lines_of;
 pub use trace::judge_trace;

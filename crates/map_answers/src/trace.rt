@@ -1,4 +1,4 @@
-//! What `trace` says of a map: the sectors that a ray passes.
+//! What `trace` says of a map: the groups of sectors that a ray passes.
 
 ghost use Rattle.std.specs.Prelude.{◌≡◌, ◌++◌, IfErr, IfOk, MatchResult, None, OnOk, string_bytes, ⊤};
 ghost use Rattle.std.specs.List.{flat_map};
@@ -7,14 +7,14 @@ ghost use Rattle.sight_names.specs.Mesh.{IsGoodMesh, label_of};
 ghost use Rattle.ray_trace.specs.Trace.{IsTrace};
 ghost use Rattle.sight_status.specs.Answer.{Gives, line_answer};
 ghost use Rattle.sight_status.specs.Status.{IsOfTraceTest};
-ghost use Rattle.map_answers.specs.Trace.{IsTraceRefusal, TraceCalls, changes, sectors_at, trace_line, word_of};
+ghost use Rattle.map_answers.specs.Trace.{IsTraceRefusal, TraceCalls, changes, group_text, places_of, plus_word, trace_line, word_of};
 
-use crate::sound::audit_map;
+use crate::groups::{MeshGroups, audit_map};
+use face_groups::Group;
 use mesh_shape::Labels;
 use ray_trace::trace;
-use sight_job::Faces;
 use sight_names::{Plan, Ray, TraceFault};
-use sight_status::{Status, Why, push_number, push_text};
+use sight_status::{Status, Why, push_count, push_number, push_text};
 use std::alloc::{AllocError, Global};
 
 /// The label of a triangle, None where it has none or isn't there.
@@ -27,67 +27,109 @@ fn label_at(labels: &Labels, triangle: u16) -> Option<u16>
     }
 }
 
-/// The sectors of these triangles, in order.
-fn sectors_of(alloc: Global, labels: &Labels, passed: &[u16]) -> Result<Vec<u16>, AllocError>
-    ensures { IfOk result (λ sectors. sectors.items ≡ sectors_at labels.now passed.now) }
+/// The places of the groups of these triangles, in order.
+fn places_along(alloc: Global, labels: &Labels, passed: &[u16]) -> Result<Vec<u16>, AllocError>
+    ensures { IfOk result (λ places. places.items ≡ places_of labels.now passed.now) }
 {
-    let mut sectors = Vec::new(alloc);
+    let mut places = Vec::new(alloc);
     for triangle in passed {
-        if let Some(sector) = label_at(labels, *triangle) {
-            sectors.push(sector)?;
+        if let Some(group) = label_at(labels, *triangle) {
+            places.push(group)?;
         }
     }
-    Ok(sectors)
+    Ok(places)
 }
 
-/// Adds the sectors one after the other, equal neighbours once.
-fn push_changes(alloc: Global, line: &mut String, sectors: &[u16]) -> Result<(), AllocError>
-    ensures { OnOk result (string_bytes line.new ≡ string_bytes line.old ++ flat_map word_of (changes None sectors.now)) }
+/// Adds the sectors, each behind a plus sign.
+fn push_others(alloc: Global, line: &mut String, sectors: &[u16]) -> Result<(), AllocError>
+    ensures { OnOk result (string_bytes line.new ≡ string_bytes line.old ++ flat_map plus_word sectors.now) }
+{
+    for sector in sectors {
+        push_count(alloc, line, "+", u64::from(*sector))?;
+    }
+    Ok(())
+}
+
+/// Adds the sectors of a group.
+fn push_group(alloc: Global, line: &mut String, sectors: &[u16]) -> Result<(), AllocError>
+    ensures { OnOk result (string_bytes line.new ≡ string_bytes line.old ++ group_text sectors.now) }
+{
+    if sectors.is_empty() {
+        return Ok(());
+    }
+    push_number(alloc, line, u64::from(sectors[0]))?;
+    push_others(alloc, line, &sectors[1..])
+}
+
+/// Adds the group at this place.
+fn push_word(
+    alloc: Global,
+    line: &mut String,
+    groups: &[Group],
+    place: u16,
+) -> Result<(), AllocError>
+    ensures { OnOk result (string_bytes line.new ≡ string_bytes line.old ++ word_of groups.now place) }
+{
+    line.push_str(" ")?;
+    match groups.get(place as usize) {
+        Some(group) => push_group(alloc, line, group.as_slice()),
+        None => Ok(()),
+    }
+}
+
+/// Adds the groups at these places one after the other, equal neighbours once.
+fn push_changes(
+    alloc: Global,
+    line: &mut String,
+    groups: &[Group],
+    places: &[u16],
+) -> Result<(), AllocError>
+    ensures { OnOk result (string_bytes line.new ≡ string_bytes line.old ++ flat_map (word_of groups.now) (changes None places.now)) }
 {
     let mut last = None;
-    for sector in sectors {
-        if last != Some(*sector) {
-            line.push_str(" ")?;
-            push_number(alloc, line, u64::from(*sector))?;
-            last = Some(*sector);
+    for place in places {
+        if last != Some(*place) {
+            push_word(alloc, line, groups, *place)?;
+            last = Some(*place);
         }
     }
     Ok(())
 }
 
-fn trace_line_of(alloc: Global, sectors: &[u16]) -> Result<String, AllocError>
-    ensures { IfOk result (λ line. string_bytes line ≡ trace_line sectors.now) }
+fn trace_line_of(alloc: Global, groups: &[Group], places: &[u16]) -> Result<String, AllocError>
+    ensures { IfOk result (λ line. string_bytes line ≡ trace_line groups.now places.now) }
 {
     let mut line = String::new(alloc);
     push_text(&mut line, "trace")?;
-    push_changes(alloc, &mut line, sectors)?;
+    push_changes(alloc, &mut line, groups, places)?;
     push_text(&mut line, "\n")?;
     Ok(line)
 }
 
-/// The triangles that the ray passes.
-fn trace_ray(alloc: Global, plan: &Plan, faces: &Faces, ray: &Ray) -> Result<Vec<u16>, Status>
-    requires good { IsGoodMesh (map_of plan.now) faces.now.mesh.triangles faces.now.labels }
-    ensures answer { MatchResult result (λ passed. IsTrace (map_of plan.now) faces.now.mesh.triangles ray.now passed.items) (IsTraceRefusal (map_of plan.now) faces.now.mesh.triangles ray.now) }
+/// The triangles that the ray passes on the map of groups.
+fn trace_ray(alloc: Global, groups: &MeshGroups, ray: &Ray) -> Result<Vec<u16>, Status>
+    requires good { IsGoodMesh (map_of groups.now.grouped.plan) groups.now.mesh.triangles groups.now.grouped.labels }
+    ensures answer { MatchResult result (λ passed. IsTrace (map_of groups.now.grouped.plan) groups.now.mesh.triangles ray.now passed.items) (IsTraceRefusal (map_of groups.now.grouped.plan) groups.now.mesh.triangles ray.now) }
 {
-    match trace(alloc, plan, &faces.mesh, &faces.labels, ray) {
+    let grouped = &groups.grouped;
+    match trace(alloc, &grouped.plan, &groups.mesh, &grouped.labels, ray) {
         Ok(passed) => Ok(passed),
         Err(TraceFault::Memory) => Err(Status::Memory),
         Err(fault) => Err(Status::No(Why::Trace(fault))),
     }
 }
 
-/// The sectors that the ray passes, where the map is sound.
+/// The groups that the ray passes, where the map is sound.
 pub fn judge_trace(alloc: Global, plan: &Plan, ray: &Ray) -> Result<String, Status>
     ensures judged { Gives ⊤ (TraceCalls ray.now (map_of plan.now)) (line_answer result) }
     ensures refusals { IfErr result IsOfTraceTest }
 {
-    let faces = audit_map(alloc, plan)?;
-    let passed = trace_ray(alloc, plan, &faces, ray)?;
-    let Ok(sectors) = sectors_of(alloc, &faces.labels, &passed) else {
+    let groups = audit_map(alloc, plan)?;
+    let passed = trace_ray(alloc, &groups, ray)?;
+    let Ok(places) = places_along(alloc, &groups.grouped.labels, &passed) else {
         return Err(Status::Memory);
     };
-    match trace_line_of(alloc, &sectors) {
+    match trace_line_of(alloc, groups.grouped.groups.as_slice(), &places) {
         Ok(line) => Ok(line),
         Err(_) => Err(Status::Memory),
     }

@@ -1,1 +1,2 @@
 mod OnWay
+pub mod OneSpelling

@@ -2,7 +2,9 @@
 #![tactic(auto)]
 
 mod report;
+mod spellable;
 mod spelling;
 
 pub use report::store_report;
+pub use spellable::Spellable;
 pub use spelling::store_spelling;

@@ -2,16 +2,16 @@
 
 ghost use Rattle.std.specs.Prelude.{◌≡◌, OnErr, OnOk};
 ghost use Rattle.std.specs.Option.{option_map};
-ghost use Rattle.cert_format.specs.Grammar.{spelling};
+ghost use Rattle.output_pieces.specs.Spelled.{spelling};
 ghost use Rattle.shelf_io.specs.Shelf.{MayHoldFront, NoneFell, Rose, SameCounts, put};
 
-use cert_format::{Cert, Printer};
+use crate::spellable::Spellable;
 use shelf_io::{PIECE, Shelf};
 use sight_names::Failed;
 
 /// Makes the file hold the one spelling of the certificate, in pieces of at most 65,536 bytes. After `Failed` it is as before, or holds
 /// a front of the spelling. It takes no memory.
-pub fn store_spelling<S: Shelf>(shelf: &mut S, name: &str, cert: &Cert) -> Result<(), Failed>
+pub fn store_spelling<S: Shelf>(shelf: &mut S, name: &str, cert: &Spellable) -> Result<(), Failed>
     ensures stored { OnOk result ((S.state shelf.new).files ≡ option_map (λ files. put files name.now (spelling cert.now)) (S.state shelf.old).files) }
     ensures failed { OnErr result (MayHoldFront (S.state shelf.old).files (S.state shelf.new).files name.now (spelling cert.now)) }
     ensures counts { NoneFell (S.state shelf.old) (S.state shelf.new) }
@@ -19,7 +19,7 @@ pub fn store_spelling<S: Shelf>(shelf: &mut S, name: &str, cert: &Cert) -> Resul
     ensures cause { OnErr result (Rose (S.state shelf.old).write_faults (S.state shelf.new).write_faults) }
 {
     shelf.create(name)?;
-    let mut printer = Printer::new(cert);
+    let mut printer = cert.printer();
     let mut piece = [0; PIECE];
     loop {
         let count = printer.next(&mut piece);

@@ -122,6 +122,8 @@ IsOfCheckInput other = IsOfCertFetch other
 -- what a verdict can end with
 abbrev pub IsOfVerdict : Status → Type 0
 IsOfVerdict (status.No (why.Check fault)) = ⊤
+IsOfVerdict (status.No (why.Group triangle)) = ⊤
+IsOfVerdict (status.No (why.Unused group)) = ⊤
 IsOfVerdict status.Memory = ⊤
 IsOfVerdict other = ⊥
 

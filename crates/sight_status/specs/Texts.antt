@@ -87,7 +87,6 @@ clash_words (line.Overlap i j) = codes "overlap " ++ two i j ++ codes "\n"
 abbrev pub flaw_words : Flaw → List ℕ
 flaw_words (flaw.Line fault) = clash_words fault
 flaw_words (flaw.Open side) = codes "open " ++ side_text side ++ codes "\n"
-flaw_words (flaw.Mixed first second) = codes "mixed " ++ side_text first ++ codes " " ++ side_text second ++ codes "\n"
 
 abbrev pub ray_words : RayFault → List ℕ
 ray_words ray.Range = codes "range\n"
@@ -144,6 +143,8 @@ no_words (why.Trace fault) = trace_words fault
 no_words (why.Table fault) = table_words fault
 no_words (why.Cert fault) = codes "no cert: " ++ cert_words fault
 no_words (why.Check fault) = check_words fault
+no_words (why.Group triangle) = codes "no face " ++ decimal triangle ++ codes "\n"
+no_words (why.Unused group) = codes "no group " ++ decimal group ++ codes "\n"
 no_words (why.NoSector a) = codes "no sector " ++ decimal a ++ codes "\n"
 
 -- what the line of a map's refusal says behind `refused: `: why it gets no table, whatever WAD it stands in

@@ -34,10 +34,8 @@ pub enum Bound {
 pub enum Flaw {
     /// Two lines share more than an end of both.
     Line(LineFault),
-    /// The sector of this side isn't closed.
+    /// The face of this side isn't closed.
     Open(Side),
-    /// The sides of one face name different sectors, or one of them names none.
-    Mixed(Side, Side),
 }
 
 /// Why the answer of an order that judges is no.
@@ -48,6 +46,10 @@ pub enum Why {
     Table(TableFault),
     Cert(CertFault),
     Check(CheckFault),
+    /// The group that labels this triangle isn't the list of its face.
+    Group(u16),
+    /// No triangle is labelled with this group.
+    Unused(u16),
     /// The map has no sector of this number.
     NoSector(u16),
 }

@@ -205,14 +205,6 @@ fn push_lumps(alloc: Global, line: &mut String, fault: LumpFault) -> Result<(), 
     }
 }
 
-fn push_mixed(alloc: Global, line: &mut String, first: Side, second: Side) -> Result<(), AllocError>
-    ensures { OnOk result (string_bytes line.new ≡ string_bytes line.old ++ (codes "mixed " ++ side_text first ++ codes " " ++ side_text second ++ codes "\n")) }
-{
-    line.push_str("mixed ")?;
-    push_side(alloc, line, first)?;
-    push_side_line(alloc, line, " ", second)
-}
-
 fn push_clash(alloc: Global, line: &mut String, fault: LineFault) -> Result<(), AllocError>
     ensures { OnOk result (string_bytes line.new ≡ string_bytes line.old ++ clash_words fault) }
 {
@@ -229,7 +221,6 @@ fn push_flaw(alloc: Global, line: &mut String, flaw: Flaw) -> Result<(), AllocEr
     match flaw {
         Flaw::Line(fault) => push_clash(alloc, line, fault),
         Flaw::Open(side) => push_side_line(alloc, line, "open ", side),
-        Flaw::Mixed(first, second) => push_mixed(alloc, line, first, second),
     }
 }
 
@@ -377,6 +368,8 @@ fn push_no(alloc: Global, line: &mut String, why: Why) -> Result<(), AllocError>
             push_cert(alloc, line, fault)
         }
         Why::Check(fault) => push_check(alloc, line, fault),
+        Why::Group(triangle) => push_count_line(alloc, line, "no face ", u64::from(triangle)),
+        Why::Unused(group) => push_count_line(alloc, line, "no group ", u64::from(group)),
         Why::NoSector(a) => push_count_line(alloc, line, "no sector ", u64::from(a)),
     }
 }

@@ -1,8 +1,9 @@
 use Rattle.std.proofs.Common.{rules, arith, sym, subst, take, List, ℕ}
 use Rattle.std.proofs.lemmas.Result.{err_from_is_err_and}
-use Rattle.cert_format.specs.Grammar.{spelling}
+use Rattle.output_pieces.specs.Spelled.{spelling}
 use Rattle.output_pieces.specs.UnderWay.{IsUnderWay}
 use Rattle.output_pieces.proofs.OnWay.{all_put, begun, piece_failed, piece_put}
+use Rattle.output_pieces.proofs.OneSpelling.{spelled_is}
 use Rattle.output_pieces.proofs.spelling.store_spelling.Goals as goal
 
 pub loop-printer-init : goal.loop-printer-init
@@ -12,7 +13,7 @@ loop-printer-init g c =
     let now = (state c.create.new.self).files in
     let all = spelling c.args.cert.now in
     record {
-      way = subst (λ (t : List ℕ). IsUnderWay before now c.args.name.now all t) (sym c.new-printer.ensures.spelled) (begun before now c.args.name.now all c.in_ok-create.ensures.made);
+      way = subst (λ (t : List ℕ). IsUnderWay before now c.args.name.now all t) (sym (spelled_is c.args.cert.now _ c.printer-printer.ensures)) (begun before now c.args.name.now all c.in_ok-create.ensures.made);
       room = search rules;
       counts = search rules;
       quiet = search rules;
