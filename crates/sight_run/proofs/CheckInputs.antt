@@ -5,18 +5,16 @@ use Rattle.std.specs.declared.alloc.Global.{Global}
 use Rattle.sight_names.specs.declared.faults.CertFault.{CertFault}
 use Rattle.sight_names.specs.declared.faults.CertFault.TheVariants as cert
 use Rattle.sight_names.specs.declared.faults.TableFault.TheVariants as table
-use Rattle.sight_names.specs.Map.{Map, map_of}
-use Rattle.sight_names.specs.Plan.{IsPlan, PlanParts}
+use Rattle.sight_names.specs.Map.{Map}
 use Rattle.shelf_io.specs.Shelf.{Files, content_of}
 use Rattle.reject_bits.specs.Parts.{TableParts}
-use Rattle.cert_format.specs.declared.cert.Sizes.{Sizes}
-use Rattle.cert_format.specs.Parts.{CertParts}
-use Rattle.cert_format.specs.Reading.{reading}
-use Rattle.cert_checker.specs.declared.verdict.Verdict.TheVariants as verdict
+use Rattle.cert_groups.specs.declared.cert.AnyCert.{AnyCert}
+use Rattle.cert_groups.specs.Reading.{any_at}
+use Rattle.group_checker.specs.declared.verdict.AnyFault.TheVariants as fault
+use Rattle.group_checker.specs.declared.verdict.AnyVerdict.TheVariants as verdict
 use Rattle.cert_judge.specs.declared.judged.Judged.{Judged}
 use Rattle.cert_judge.specs.declared.judged.Judged.TheVariants as judged
 use Rattle.cert_judge.specs.Judged.{JudgedBy}
-use Rattle.cert_file.specs.Judgement.{IsJudged, IsJudgement}
 use Rattle.sight_status.specs.declared.status.Bound.TheVariants as bound
 use Rattle.sight_status.specs.declared.status.Role.TheVariants as role
 use Rattle.sight_status.specs.declared.status.Why.TheVariants as why
@@ -26,17 +24,17 @@ use Rattle.sight_status.specs.Answer.{Answer, Gives, Makes, ◌>>=◌, line_answ
 use Rattle.sight_status.specs.Status.{IsOfCertFetch, IsOfTableTest}
 use Rattle.map_answers.specs.Input.{LocatedMap}
 use Rattle.map_answers.specs.Sound.{HasSoundLines}
+use Rattle.sight_run.specs.Judged.{IsJudged, IsJudgement}
 use Rattle.sight_run.specs.Check.{CheckCalls, CheckInput, IsTableOf, JudgesFetched, TakesTable, answer_of, cert_in, check_input, of_cert_fetch, of_length, of_reading, reject_of, yes_line}
 use Rattle.sight_run.specs.Sizes.{sizes_of_map}
-use Rattle.sight_run.proofs.Building.{same_sizes}
 use Rattle.sight_run.proofs.Checks.{gives_unread, gives_verdict}
 
 -- ---- the table and the certificate
 
-abbrev pub input_as : List ℕ → CertParts → CheckInput
+abbrev pub input_as : List ℕ → AnyCert → CheckInput
 input_as t c = record { table = t; cert = c }
 
-abbrev pub with_parts : List ℕ → Result CertParts Status → Result CheckInput Status
+abbrev pub with_parts : List ℕ → Result AnyCert Status → Result CheckInput Status
 with_parts t r = r >>= (λ parts. Ok (input_as t parts))
 
 abbrev pub with_cert : Map → List ℕ → Result (List ℕ) Status → Result CheckInput Status
@@ -49,13 +47,9 @@ pub input_by : (name : List ℕ) (found : LocatedMap) (files : Files) → check_
 unfolding check_input
 input_by name found files = refl
 
-pub is_input : (name : List ℕ) (found : LocatedMap) (files : Files) (t spelled : List ℕ) (c : CertParts) → of_length found.map.sectors (reject_of found) ≡ Ok t → of_cert_fetch (content_of (files name) 9223372036854775807) ≡ Ok spelled → cert_in found.map spelled ≡ Ok c
+pub is_input : (name : List ℕ) (found : LocatedMap) (files : Files) (t spelled : List ℕ) (c : AnyCert) → of_length found.map.sectors (reject_of found) ≡ Ok t → of_cert_fetch (content_of (files name) 9223372036854775807) ≡ Ok spelled → cert_in found.map spelled ≡ Ok c
     → check_input name found files ≡ Ok (input_as t c)
 is_input name found files t spelled c p q r = input_by name found files ∙ ap (with_bytes name found files) p ∙ ap (with_cert found.map t) q ∙ ap (with_parts t) r
-
--- what was judged by the sizes of a plan was judged by those of its map
-pub by_map : (p : PlanParts) (table : TableParts) (bytes : List ℕ) (given : Judged) → IsPlan p → IsJudgement p table bytes given → JudgedBy (reading (sizes_of_map (map_of p)) bytes) (IsJudged (map_of p) table) given
-by_map p table bytes given plan h = subst (λ (s : Sizes). JudgedBy (reading s bytes) (IsJudged (map_of p) table) given) (same_sizes p plan) h
 
 -- ---- the answers
 
@@ -76,34 +70,38 @@ module _ (name : List ℕ) (found : LocatedMap) (files : Files) (lines : HasSoun
     input_taken r e = input_from ∙ ap (with_bytes name found files) taken ∙ ap (with_cert found.map raw) e
 
     -- the file isn't read to its end
-    pub fetch_refused : (p : PlanParts) (t : TableParts) (s : Status) → IsOfCertFetch s → JudgesFetched p t (Err s) (of_cert_fetch (content_of (files name) 9223372036854775807)) → Gives ⊤ (CheckCalls name files found) (Err s)
-    fetch_refused p t status.Memory of h = tt
-    fetch_refused p t (status.ReadFault k) of h = tt
-    fetch_refused p t (status.NoFile role.Cert) of h = gives_unread found.map ⊤ (λ (x : CheckInput). x) (check_input name found files) (status.NoFile role.Cert) lines tt (input_taken _ h)
-    fetch_refused p t (status.Limit bound.CertBytes) of h = gives_unread found.map ⊤ (λ (x : CheckInput). x) (check_input name found files) (status.Limit bound.CertBytes) lines tt (input_taken _ h)
-    fetch_refused p t s of h = absurd of
+    pub fetch_refused : (t : TableParts) (s : Status) → IsOfCertFetch s → JudgesFetched (IsJudgement found.map t) (Err s) (of_cert_fetch (content_of (files name) 9223372036854775807)) → Gives ⊤ (CheckCalls name files found) (Err s)
+    fetch_refused t status.Memory of h = tt
+    fetch_refused t (status.ReadFault k) of h = tt
+    fetch_refused t (status.NoFile role.Cert) of h = gives_unread found.map ⊤ (λ (x : CheckInput). x) (check_input name found files) (status.NoFile role.Cert) lines tt (input_taken _ h)
+    fetch_refused t (status.Limit bound.CertBytes) of h = gives_unread found.map ⊤ (λ (x : CheckInput). x) (check_input name found files) (status.Limit bound.CertBytes) lines tt (input_taken _ h)
+    fetch_refused t s of h = absurd of
 
     -- the bytes spell no certificate
     unread : (g : CertFault) → check_input name found files ≡ with_parts raw (of_reading (Err g)) → Gives ⊤ (CheckCalls name files found) (answer_of found.map.sectors (judged.Unread g))
     unread cert.Memory e = tt
     unread g e = gives_unread found.map ⊤ (λ (x : CheckInput). x) (check_input name found files) (status.No (why.Cert g)) lines tt e
 
-    by_reading : (t : TableParts) → IsTableOf found.map.sectors raw t → (r : Result CertParts CertFault) (given : Judged) → check_input name found files ≡ with_parts raw (of_reading r) → JudgedBy r (IsJudged found.map t) given → Gives ⊤ (CheckCalls name files found) (answer_of found.map.sectors given)
+    by_reading : (t : TableParts) → IsTableOf found.map.sectors raw t → (r : Result AnyCert CertFault) (given : Judged) → check_input name found files ≡ with_parts raw (of_reading r) → JudgedBy r (IsJudged found.map t) given → Gives ⊤ (CheckCalls name files found) (answer_of found.map.sectors given)
     by_reading t is (Ok c) (judged.Verdict (verdict.Yes totals)) e h =
         gives_verdict found.map (check_input name found files) (input_as raw c) t (Ok (only_line (yes_line found.map.sectors totals))) e is lines tt
         (record { called = record { totals = totals; judged = h; is = refl }; only = λ sole. absurd sole })
-    by_reading t is (Ok c) (judged.Verdict (verdict.No f)) e h =
+    by_reading t is (Ok c) (judged.Verdict (verdict.No (fault.Check f))) e h =
         gives_verdict found.map (check_input name found files) (input_as raw c) t (Err (status.No (why.Check f))) e is lines tt (record { called = h; only = λ sole. absurd sole })
+    by_reading t is (Ok c) (judged.Verdict (verdict.No (fault.Group k))) e h =
+        gives_verdict found.map (check_input name found files) (input_as raw c) t (Err (status.No (why.Group k))) e is lines tt (record { called = h; only = λ sole. absurd sole })
+    by_reading t is (Ok c) (judged.Verdict (verdict.No (fault.Unused f))) e h =
+        gives_verdict found.map (check_input name found files) (input_as raw c) t (Err (status.No (why.Unused f))) e is lines tt (record { called = h; only = λ sole. absurd sole })
     by_reading t is (Ok c) (judged.Unread g) e h = absurd h
     by_reading t is (Err f) (judged.Verdict v) e h = absurd h
     by_reading t is (Err f) (judged.Unread g) e h = unread g (e ∙ ap (λ (x : CertFault). with_parts raw (of_reading (Err x))) h)
 
     -- what was judged is told
     pub judged_gives : (t : TableParts) (bytes : List ℕ) (given : Judged) (r : Result (String Global) Status) → IsTableOf n raw t → of_cert_fetch (content_of (files name) 9223372036854775807) ≡ Ok bytes
-        → JudgedBy (reading (sizes_of_map found.map) bytes) (IsJudged found.map t) given → Makes (λ line. only_line (string_bytes line)) r (answer_of n given) → Gives ⊤ (CheckCalls name files found) (line_answer r)
+        → IsJudgement found.map t bytes given → Makes (λ line. only_line (string_bytes line)) r (answer_of n given) → Gives ⊤ (CheckCalls name files found) (line_answer r)
     judged_gives t bytes given r is whole h made = line_gives r made
         (subst (λ (k : ℕ). Gives ⊤ (CheckCalls name files found) (answer_of k given)) (sym size)
-        (by_reading t (subst (λ (k : ℕ). IsTableOf k raw t) size is) (reading (sizes_of_map found.map) bytes) given (input_taken (Ok bytes) whole) h))
+        (by_reading t (subst (λ (k : ℕ). IsTableOf k raw t) size is) (any_at (sizes_of_map found.map) bytes) given (input_taken (Ok bytes) whole) h))
       where
         line_gives : (r : Result (String Global) Status) → Makes (λ line. only_line (string_bytes line)) r (answer_of n given) → Gives ⊤ (CheckCalls name files found) (answer_of n given) → Gives ⊤ (CheckCalls name files found) (line_answer r)
         line_gives (Ok line) e g = subst (λ (x : Result Answer Status). Gives ⊤ (CheckCalls name files found) x) e g

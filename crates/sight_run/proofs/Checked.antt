@@ -7,6 +7,7 @@ use Rattle.std.proofs.lemmas.Bool.Decides.{Decides-eqb}
 use Rattle.sight_names.specs.declared.faults.FetchFault.TheVariants as fetch
 use Rattle.sight_names.specs.declared.faults.TableFault.TheVariants as table
 use Rattle.sight_names.specs.declared.names.Ask.{Ask}
+use Rattle.sight_names.specs.declared.names.Pair.{Pair}
 use Rattle.sight_names.specs.Map.{Map}
 use Rattle.sight_names.specs.Sound.{LinesMeetAtEnds}
 use Rattle.sight_names.specs.Table.{table_bit}
@@ -15,15 +16,22 @@ use Rattle.shelf_io.specs.Shelf.{Files, ShelfState, content_of}
 use Rattle.shelf_io.specs.Sink.{SinkState}
 use Rattle.wad_dir.specs.Map.{same_name}
 use Rattle.cert_format.specs.Accepted.{EitherClear, EitherSet, IsAccepted}
-use Rattle.cert_format.specs.Grammar.{Spells}
 use Rattle.cert_format.specs.Parts.{CertParts}
-use Rattle.cert_format.specs.Reading.{reading}
-use Rattle.cert_format.proofs.WholeLaws.{spells_again}
+use Rattle.cert_groups.specs.declared.cert.CertTwo.{CertTwo}
+use Rattle.cert_groups.specs.declared.cert.AnyCert.{AnyCert}
+use Rattle.cert_groups.specs.declared.cert.AnyCert.TheVariants.{One, Two}
+use Rattle.cert_groups.specs.Grammar.{SpellsAny}
+use Rattle.cert_groups.proofs.AnyLaws.{any_again}
+use Rattle.accepted_groups.specs.Accepted.{IsAcceptedAny, IsAcceptedTwo}
 use Rattle.reject_bits.specs.Parts.{TableParts}
 use Rattle.cert_checker.specs.declared.verdict.Totals.{Totals}
-use Rattle.cert_checker.specs.declared.verdict.Verdict.TheVariants as verdict
 use Rattle.cert_checker.specs.Pairs.{AreTotals}
-use Rattle.cert_checker.proofs.SameBits.{HaveOneBits, promised_same}
+use Rattle.cert_checker.proofs.SameBits.{HaveOneBits}
+use Rattle.group_checker.specs.declared.verdict.AnyFault.{AnyFault}
+use Rattle.group_checker.specs.declared.verdict.AnyFault.TheVariants as fault
+use Rattle.group_checker.specs.declared.verdict.AnyVerdict.TheVariants as verdict
+use Rattle.group_checker.proofs.SameAnyBits.{told_same}
+use Rattle.group_job.specs.Built.{OfTwo}
 use Rattle.map_answers.specs.declared.counts.Counts.{Counts}
 use Rattle.map_answers.specs.Counts.{counts_with}
 use Rattle.sight_status.specs.declared.status.Flaw.TheVariants as flaw
@@ -35,6 +43,7 @@ use Rattle.sight_status.specs.declared.status.Why.TheVariants as why
 use Rattle.sight_status.specs.Answer.{Answer, ◌>>=◌, IsTheAnswer, Written, only_line}
 use Rattle.sight_run.specs.Build.{BuildCalls, ShowsBuild, build_writes, report_behind}
 use Rattle.sight_run.proofs.CheckInputs.{input_as, is_input}
+use Rattle.sight_run.specs.Judged.{IsJudged, JudgesOf, JudgesTwoOf}
 use Rattle.sight_run.specs.Check.{CheckInput, CheckCalls, IsVerdictOn, OnCheckInput, VerdictCalls, check_input, cert_in, of_cert_fetch, of_length, of_reading, reject_of, yes_line}
 use Rattle.map_answers.specs.Input.{LocatedMap, OnFound, found_in}
 use Rattle.sight_run.specs.Heard.{Heard}
@@ -54,26 +63,45 @@ use Rattle.list_base.proofs.Numbers.{place_within}
 -- ---- the table's bits
 
 -- what is accepted for a table is accepted for one of the same bits
-accepted_same : (m : Map) (t u : List ℕ) (c : CertParts) → ((k : ℕ) → k < m.sectors * m.sectors → table_bit u k ≡ table_bit t k) → IsAccepted m t c → IsAccepted m u c
-accepted_same m t u c bits h = record {
-  mesh = h.mesh;
-  rays = h.rays;
-  trees = h.trees;
-  listed = λ a b l w n s. h.listed a b l w n (set_in_first a b (low a b l w) w s);
-  set = λ a b l w s. h.set a b l w (set_in_first a b (low a b l w) w s);
-  clear = λ a b l w s n. h.clear a b l w (clear_in_first a b (low a b l w) w s) n;
-}
-  where
-    low : (a b : ℕ) → a ≤ b → b < m.sectors → a < m.sectors
-    low a b l w = omega (arith, l, w)
+module _ (m : Map) (t u : List ℕ) (bits : (k : ℕ) → k < m.sectors * m.sectors → table_bit u k ≡ table_bit t k) where
+  low : (a b : ℕ) → a ≤ b → b < m.sectors → a < m.sectors
+  low a b l w = omega (arith, l, w)
 
-    set_in_first : (a b : ℕ) → a < m.sectors → b < m.sectors → EitherSet m.sectors u a b → EitherSet m.sectors t a b
-    set_in_first a b p q (inl e) = inl (sym (bits (a * m.sectors + b) (place_within a b m.sectors p q)) ∙ e)
-    set_in_first a b p q (inr e) = inr (sym (bits (b * m.sectors + a) (place_within b a m.sectors q p)) ∙ e)
+  set_in_first : (a b : ℕ) → a < m.sectors → b < m.sectors → EitherSet m.sectors u a b → EitherSet m.sectors t a b
+  set_in_first a b p q (inl e) = inl (sym (bits (a * m.sectors + b) (place_within a b m.sectors p q)) ∙ e)
+  set_in_first a b p q (inr e) = inr (sym (bits (b * m.sectors + a) (place_within b a m.sectors q p)) ∙ e)
 
-    clear_in_first : (a b : ℕ) → a < m.sectors → b < m.sectors → EitherClear m.sectors u a b → EitherClear m.sectors t a b
-    clear_in_first a b p q (inl n) = inl (λ e. n (bits (a * m.sectors + b) (place_within a b m.sectors p q) ∙ e))
-    clear_in_first a b p q (inr n) = inr (λ e. n (bits (b * m.sectors + a) (place_within b a m.sectors q p) ∙ e))
+  clear_in_first : (a b : ℕ) → a < m.sectors → b < m.sectors → EitherClear m.sectors u a b → EitherClear m.sectors t a b
+  clear_in_first a b p q (inl n) = inl (λ e. n (bits (a * m.sectors + b) (place_within a b m.sectors p q) ∙ e))
+  clear_in_first a b p q (inr n) = inr (λ e. n (bits (b * m.sectors + a) (place_within b a m.sectors q p) ∙ e))
+
+  one_accepted : (c : CertParts) → IsAccepted m t c → IsAccepted m u c
+  one_accepted c h = record {
+    mesh = h.mesh;
+    rays = h.rays;
+    trees = h.trees;
+    listed = λ a b l w n s. h.listed a b l w n (set_in_first a b (low a b l w) w s);
+    set = λ a b l w s. h.set a b l w (set_in_first a b (low a b l w) w s);
+    clear = λ a b l w s n. h.clear a b l w (clear_in_first a b (low a b l w) w s) n;
+  }
+
+  two_accepted : (c : CertTwo) → IsAcceptedTwo m t c → IsAcceptedTwo m u c
+  two_accepted c (g, names, h) = (
+    g,
+    names,
+    record {
+      table_for = h.table_for;
+      rays = h.rays;
+      trees = h.trees;
+      listed = λ a b l w n s. h.listed a b l w n (set_in_first a b (low a b l w) w s);
+      set = λ a b l w s. h.set a b l w (set_in_first a b (low a b l w) w s);
+      clear = λ a b l w s n. h.clear a b l w (clear_in_first a b (low a b l w) w s) n;
+    },
+  )
+
+  accepted_same : (c : AnyCert) → IsAcceptedAny m t c → IsAcceptedAny m u c
+  accepted_same (One c) h = one_accepted c h
+  accepted_same (Two c sizes) h = two_accepted c h
 
 -- ---- the table and the certificate
 
@@ -91,26 +119,41 @@ cert_fetched o bytes e le =
     by true q = absurd cc
     by false q = refl
 
-spelled_reads : (m : Map) (c : CertParts) (bytes : List ℕ) → c.sizes ≡ sizes_of_map m → Spells c.sizes bytes c → cert_in m bytes ≡ Ok c
-spelled_reads m c bytes e h = ap of_reading (ap (λ s. reading s bytes) (sym e) ∙ spells_again c.sizes bytes c h)
+spelled_reads : (m : Map) (c : AnyCert) (bytes : List ℕ) → SpellsAny (sizes_of_map m) bytes c → cert_in m bytes ≡ Ok c
+spelled_reads m c bytes h = ap of_reading (any_again (sizes_of_map m) bytes c h)
 
 -- ---- the verdict
 
-record IsYesFor (m : Map) (t : TableParts) (c : CertParts) (given : Result Answer Status) : Type 0 where
+record IsYesFor (m : Map) (t : TableParts) (listed : List Pair) (given : Result Answer Status) : Type 0 where
   totals : Totals
-  are : AreTotals t c.listed m.sectors totals
+  are : AreTotals t listed m.sectors totals
   is : given ≡ Ok (only_line (yes_line m.sectors totals))
 
+-- the totals of a yes are those of the table and the list
+totals_of_two : (m : Map) (t other : TableParts) (c : CertTwo) (listed : List Pair) (totals : Totals) → HaveOneBits m other t → c.listed ≡ listed → JudgesTwoOf m other c (verdict.Yes totals) → AreTotals t listed m.sectors totals
+totals_of_two m t other c listed totals same e h =
+    let told = (told_same m h.g c other t same (verdict.Yes totals) h.pairs).1 in
+    subst (λ (ps : List Pair). AreTotals t ps m.sectors totals) e (subst (λ (n : ℕ). AreTotals t c.listed n totals) same.second told)
+
+totals_of_any : (m : Map) (t other : TableParts) (c : AnyCert) (listed : List Pair) (totals : Totals) → HaveOneBits m other t → OfTwo (λ x. x.listed ≡ listed) c → JudgesOf m other c (verdict.Yes totals) → AreTotals t listed m.sectors totals
+totals_of_any m t other (One c) listed totals same e h = absurd e
+totals_of_any m t other (Two c sizes) listed totals same e h = totals_of_two m t other c listed totals same e h
+
 -- the bytes are those of a table whose certificate is accepted
-verdict_yes : (m : Map) (t : TableParts) (c : CertParts) (given : Result Answer Status) → t.n ≡ m.sectors → IsAccepted m t.bytes c → IsVerdictOn m (input_as t.bytes c) given → IsYesFor m t c given
-verdict_yes m t c given n h v = by given v.called
+verdict_yes : (m : Map) (t : TableParts) (c : AnyCert) (listed : List Pair) (given : Result Answer Status) → t.n ≡ m.sectors → OfTwo (λ x. x.listed ≡ listed) c → IsAcceptedAny m t.bytes c → IsVerdictOn m (input_as t.bytes c) given → IsYesFor m t listed given
+verdict_yes m t c listed given n e h v = by given v.called
   where
     same : HaveOneBits m v.table t
     same = record { first = v.spelled.sectors; second = n; bits = v.spelled.bits }
 
-    by : (r : Result Answer Status) → VerdictCalls m v.table c r → IsYesFor m t c r
-    by (Ok answer) k = record { totals = k.totals; are = (promised_same m c v.table t same (verdict.Yes k.totals) k.judged.pairs).1; is = ap (λ (x : Answer). Ok x) k.is }
-    by (Err (status.No (why.Check f))) k = absurd (k.accepted.1 (accepted_same m t.bytes v.table.bytes c v.spelled.bits h))
+    not_no : (f : AnyFault) → IsJudged m v.table c (verdict.No f) → ⊥
+    not_no f k = k.accepted.1 (accepted_same m t.bytes v.table.bytes v.spelled.bits c h)
+
+    by : (r : Result Answer Status) → VerdictCalls m v.table c r → IsYesFor m t listed r
+    by (Ok answer) k = record { totals = k.totals; are = totals_of_any m t v.table c listed k.totals same e k.judged.exact; is = ap (λ (x : Answer). Ok x) k.is }
+    by (Err (status.No (why.Check f))) k = absurd (not_no (fault.Check f) k)
+    by (Err (status.No (why.Group f))) k = absurd (not_no (fault.Group f) k)
+    by (Err (status.No (why.Unused f))) k = absurd (not_no (fault.Unused f) k)
     by (Err s) k = absurd k
 
 past_lines : (m : Map) (b : CheckInput) (given : Result Answer Status) → LinesMeetAtEnds m → OnSoundLines m (OnCheckInput m (Ok b)) given → IsVerdictOn m b given
@@ -133,13 +176,13 @@ module _ (name out cert : List ℕ) (reported : Option (List ℕ)) (budget : Ask
   checked : (old : List ℕ) → found_in name old ≡ Ok found → same_name (codes "REJECT") name ≡ false → IsOther out (Some cert) × IsOther out reported → IsOther cert reported
       → (shows : ShowsBuild name out (Some cert) reported budget found heard answer)
       → HaveBoth (put_all files answer.writes) others out cert → IsShort others cert
-      → OnFound (found_of out name others) (CheckCalls cert others) given → IsYesFor found.map shows.built.table shows.built.cert given
+      → OnFound (found_of out name others) (CheckCalls cert others) given → IsYesFor found.map shows.built.table shows.built.listed given
   unfolding found_of
   checked old h other apart other_report shows have short q =
       let spelled : List ℕ = shows.spelled in
       let both : List Written = build_writes out shows.bytes (Some cert) spelled in
       let table : List ℕ = shows.built.table.bytes in
-      let c : CertParts = shows.built.cert in
+      let c : AnyCert = shows.built.cert in
       let again : IsFoundAgain name found table shows.bytes = found_again name old table shows.bytes found h other shows.made in
       let all : put_all files answer.writes ≡ put_all files (report_behind reported shows.report both) = ap (λ (x : Answer). put_all files x.writes) shows.is in
       let at_out : others out ≡ Some shows.bytes = have.at_out ∙ ap (λ (f : Files). f out) all ∙ before_report files both reported shows.report out apart.1 ∙ under_out files out cert shows.bytes spelled apart.0 in
@@ -149,8 +192,8 @@ module _ (name out cert : List ℕ) (reported : Option (List ℕ)) (budget : Ask
       let len : length table ≡ table_len found.map.sectors = shows.whole.len ∙ ap table_len shows.is_built.sectors in
       let reads : check_input cert (found_then found table) others ≡ Ok (input_as table c) =
       is_input cert (found_then found table) others table spelled c (right_length found.map.sectors (reject_of (found_then found table)) table again.reject len)
-      (cert_fetched (others cert) spelled at_cert (short spelled at_cert)) (spelled_reads found.map c spelled shows.is_built.sizes shows.spells) in
-      verdict_yes found.map shows.built.table c given shows.is_built.sectors shows.is_built.accepted
+      (cert_fetched (others cert) spelled at_cert (short spelled at_cert)) (spelled_reads found.map c spelled shows.spells) in
+      verdict_yes found.map shows.built.table c shows.built.listed given shows.is_built.sectors shows.is_built.listed shows.is_built.accepted
       (past_lines found.map (input_as table c) given shows.is_built.fit.ends (subst (λ (r : Result CheckInput Status). OnSoundLines found.map (OnCheckInput found.map r) given) reads asked))
 
 pub built_is_checked : BuiltIsChecked
@@ -167,14 +210,14 @@ built_is_checked build check name out cert files others heard answer ask h have 
     on (Err s) e shows = absurd cc
     on (Ok found) e shows =
         let old = bytes_of ask.wad name files found e in
-        let counts = counts_with shows.built.table (length shows.built.cert.listed) in
+        let counts = counts_with shows.built.table (length shows.built.listed) in
         record {
           counts = counts;
           built = ap (λ (x : Answer). x.line) shows.is;
           only = λ unheard given q.
               let asked = subst (λ r. AnswersAsked r others unheard given) ask.checked q in
               let yes = checked name out cert ask.report ask.budget files others heard found answer given old.bytes old.are ask.other apart other_report shows have short asked in
-              let same = same_counts shows.built.table shows.built.cert.listed found.map.sectors yes.totals shows.is_built.symmetric shows.is_built.sectors yes.are in
+              let same = same_counts shows.built.table shows.built.listed found.map.sectors yes.totals shows.is_built.symmetric shows.is_built.sectors yes.are in
               yes.is ∙ ap (λ (k : Counts). Ok (only_line (yes_line k.sectors (totals_of k)))) same;
         }
 

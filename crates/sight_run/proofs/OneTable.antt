@@ -1,5 +1,5 @@
 -- All builds of a map within one budget have one table and one list, and so they say one line: the sequences of the sources fix what is listed, and sight fixes each bit of a pair that isn't.
-use Rattle.std.proofs.Common.{◌≡◌, ◌≢◌, ℕ, zero, suc, ◌+◌, ◌-◌, ◌*◌, ◌/◌, ◌%◌, ◌<◌, ◌≤◌, ◌==◌, ◌⊎◌, inl, inr, List, length, Contains, sym, ap, ◌∙◌, subst, arith, zero-lt-suc}
+use Rattle.std.proofs.Common.{◌≡◌, ℕ, zero, suc, ◌+◌, ◌-◌, ◌*◌, ◌/◌, ◌%◌, ◌<◌, ◌≤◌, ◌==◌, inl, inr, List, length, Contains, sym, ap, ◌∙◌, subst, arith, zero-lt-suc}
 use Rattle.std.specs.Int.{bit_at, div_ceil}
 use Rattle.std.specs.List.{count_by, range_with_len, sum_by}
 use Rattle.std.proofs.Math.Nat.{div-lt_iff_lt-mul, mod-lt}
@@ -13,16 +13,18 @@ use Rattle.sight_names.specs.declared.names.Budget.TheVariants.{Of}
 use Rattle.sight_names.specs.declared.names.Pair.{Pair}
 use Rattle.sight_names.specs.declared.names.Triangle.{Triangle}
 use Rattle.sight_names.specs.Enough.{IsBudgetOf, enough_of}
-use Rattle.sight_names.specs.Found.{IsListed}
+use Rattle.sight_names.specs.Groups.{IsListedByGroups}
 use Rattle.sight_names.specs.Map.{Map}
 use Rattle.sight_names.specs.Table.{table_bit}
 use Rattle.sight_names.proofs.Lists.{same_ascending}
 use Rattle.sight_names.proofs.OneMesh.{one_mesh}
 use Rattle.reject_bits.specs.Parts.{IsWhole, Rejects, TableParts}
-use Rattle.cert_format.specs.Accepted.{IsPairListed}
-use Rattle.cert_format.specs.Grammar.{IsInOrder}
-use Rattle.sight_names.specs.Order.{PairBefore}
-use Rattle.sight_job.specs.declared.build.Built.{Built}
+use Rattle.cert_groups.specs.declared.cert.AnyCert.{AnyCert}
+use Rattle.cert_groups.specs.declared.cert.AnyCert.TheVariants.{One, Two}
+use Rattle.cert_groups.specs.Grammar.{IsAnyInOrder}
+use Rattle.sight_names.specs.Order.{Ascends, PairBefore}
+use Rattle.group_job.specs.declared.build.GroupBuilt.{GroupBuilt}
+use Rattle.group_job.specs.Built.{OfTwo}
 use Rattle.map_answers.specs.declared.counts.Counts.{Counts}
 use Rattle.sight_status.specs.Answer.{Answer, only_line}
 use Rattle.sight_run.specs.Build.{BuildsSayOneLine, HaveOneTable, IsBuiltOf, build_line}
@@ -31,9 +33,6 @@ use Rattle.sight_run.specs.Grid.{ShowsGrid, grid_line}
 use Rattle.list_base.proofs.Numbers.{same_bit, below_or_not}
 
 -- ---- numbers
-
-one_or_not : (x : ℕ) → (x ≡ 1) ⊎ (x ≢ 1)
-one_or_not x = grind arith
 
 some_sector : (k n : ℕ) → k < n * n → 0 < n
 some_sector k zero h = absurd (omega arith)
@@ -70,27 +69,26 @@ one_budget m Enough b c h k = h.2 ∙ ap (λ (ts : List Triangle). Of (enough_of
 
 -- ---- two builds
 
-module _ (m : Map) (budget : Ask) (one other : Built) (is_one : IsBuiltOf m budget one) (is_other : IsBuiltOf m budget other) where
+-- the list of a certificate of version 2 ascends
+pub list_ascends : (cert : AnyCert) (listed : List Pair) → IsAnyInOrder cert → OfTwo (λ c. c.listed ≡ listed) cert → Ascends PairBefore listed
+list_ascends (One c) listed h is = absurd is
+list_ascends (Two c sizes) listed h is = subst (λ (ps : List Pair). Ascends PairBefore ps) is h.listed_ascend
+
+module _ (m : Map) (budget : Ask) (one other : GroupBuilt) (is_one : IsBuiltOf m budget one) (is_other : IsBuiltOf m budget other) where
+  budgets : is_one.decided.budget ≡ is_other.decided.budget
+  budgets = one_budget m budget is_one.decided.budget is_other.decided.budget is_one.decided.is_budget is_other.decided.is_budget
+
   listed_too : (q : Pair) → Contains one.listed q → Contains other.listed q
   listed_too q c =
-      let same = one_budget m budget is_one.allowed is_other.allowed is_one.is_allowed is_other.is_allowed in
-      let h = (is_one.spent q).0 c in
-      (is_other.spent q).1 (h.0, subst (λ (b : Budget). IsListed m b q.a q.b) same h.1)
-
-module _ (m : Map) (budget : Ask) (one other : Built) (is_one : IsBuiltOf m budget one) (is_other : IsBuiltOf m budget other) where
-  -- a pair that the other certificate lists is listed by the one build
-  listed_back : (a b : ℕ) → IsPairListed other.cert a b → Contains one.listed (record { a = a; b = b })
-  listed_back a b c = let q : Pair = record { a = a; b = b } in listed_too m budget other one is_other is_one q (subst (λ (ps : List Pair). Contains ps q) (sym is_other.listed) c)
+      let h = (is_one.decided.listed q).0 c in
+      (is_other.decided.listed q).1 (h.0, subst (λ (b : Budget). IsListedByGroups m b q.a q.b) budgets h.1)
 
   set_too : (a b : ℕ) → a < m.sectors → b < m.sectors → Rejects one.table a b → Rejects other.table a b
-  set_too a b la lb bit = elim (one_or_not (table_bit other.table.bytes (a * other.table.n + b))) as (λ _. Rejects other.table a b) [
-    | inl h ↦ h
-    | inr clear ↦ absurd (is_one.sight.blind a b la lb bit (is_other.sight.seen a b la lb clear
-        (λ c. (is_one.clear (record { a = a; b = b }) (listed_back a b c)).0 bit)
-        (λ c. (is_one.clear (record { a = b; b = a }) (listed_back b a c)).1 bit)))
-  ]
+  set_too a b la lb bit =
+      let h = (is_one.decided.bits a b la lb).0 bit in
+      (is_other.decided.bits a b la lb).1 (h.0, λ l. h.1 (subst (λ (x : Budget). IsListedByGroups m x a b) (sym budgets) l))
 
-module _ (m : Map) (budget : Ask) (one other : Built) (is_one : IsBuiltOf m budget one) (is_other : IsBuiltOf m budget other) where
+module _ (m : Map) (budget : Ask) (one other : GroupBuilt) (is_one : IsBuiltOf m budget one) (is_other : IsBuiltOf m budget other) where
   -- the bit of a pair, by its place
   place_is : (t : TableParts) → t.n ≡ m.sectors → (a b k : ℕ) → a * m.sectors + b ≡ k → table_bit t.bytes (a * t.n + b) ≡ table_bit t.bytes k
   place_is t sectors a b k e = ap (λ (n : ℕ). table_bit t.bytes (a * n + b)) sectors ∙ ap (table_bit t.bytes) e
@@ -109,24 +107,20 @@ module _ (m : Map) (budget : Ask) (one other : Built) (is_one : IsBuiltOf m budg
       (λ bit. sym there ∙ set_too m budget one other is_one is_other a b la lb (here ∙ bit))
       (λ bit. sym here ∙ set_too m budget other one is_other is_one a b la lb (there ∙ bit))
 
-  pub one_table : IsWhole one.table → IsInOrder one.cert → IsWhole other.table → IsInOrder other.cert → HaveOneTable one other
-  one_table whole in_order other_whole other_in_order = record {
+  pub one_table : IsWhole one.table → IsWhole other.table → HaveOneTable one other
+  one_table whole other_whole = record {
     sectors = sectors;
     len = whole.len ∙ ap (λ (n : ℕ). div_ceil (n * n) 8) sectors ∙ sym other_whole.len;
     bits = λ k. elim (below_or_not k (m.sectors * m.sectors)) as (λ _. table_bit one.table.bytes k ≡ table_bit other.table.bytes k) [
       | inl lt ↦ pair_bit k lt
       | inr past ↦ spare_clear m.sectors one.table is_one.sectors whole k past ∙ sym (spare_clear m.sectors other.table is_other.sectors other_whole k past)
     ];
-    listed = is_one.listed ∙ lists ∙ sym is_other.listed;
+    listed = same_ascending PairBefore not_before_itself not_both_before one.listed other.listed (list_ascends one.cert one.listed is_one.in_order is_one.listed) (list_ascends other.cert other.listed is_other.in_order is_other.listed)
+        (listed_too m budget one other is_one is_other) (listed_too m budget other one is_other is_one);
   }
     where
       sectors : one.table.n ≡ other.table.n
       sectors = is_one.sectors ∙ sym is_other.sectors
-
-      lists : one.cert.listed ≡ other.cert.listed
-      lists = same_ascending PairBefore not_before_itself not_both_before one.cert.listed other.cert.listed in_order.listed_ascend other_in_order.listed_ascend
-          (λ q c. subst (λ (ps : List Pair). Contains ps q) is_other.listed (listed_too m budget one other is_one is_other q (subst (λ (ps : List Pair). Contains ps q) (sym is_one.listed) c)))
-          (λ q c. subst (λ (ps : List Pair). Contains ps q) is_one.listed (listed_too m budget other one is_other is_one q (subst (λ (ps : List Pair). Contains ps q) (sym is_other.listed) c)))
 
 -- ---- what is counted of them
 
@@ -137,22 +131,22 @@ same_set t u e bits = λ i. sum_by (λ a. count_by (λ b. bit a b i == 1) (range
     bit : (a b : ℕ) → table_bit t.bytes (a * t.n + b) ≡ table_bit u.bytes (a * u.n + b)
     bit a b = bits (a * t.n + b) ∙ ap (λ (n : ℕ). table_bit u.bytes (a * n + b)) e
 
-pub same_counts : (one other : Built) → HaveOneTable one other → one.cert.listed ≡ other.cert.listed → counts_with one.table (length one.cert.listed) ≡ counts_with other.table (length other.cert.listed)
-same_counts one other same lists =
+pub same_counts : (one other : GroupBuilt) → HaveOneTable one other → counts_with one.table (length one.listed) ≡ counts_with other.table (length other.listed)
+same_counts one other same =
     let n = same.sectors in
     let s = same_set one.table other.table same.sectors same.bits in
-    let l = ap length lists in
+    let l = ap length same.listed in
     λ i. record { sectors = n i; set = s i; clear = pair_count (n i) - s i - l i; listed = l i }
 
 -- ---- what is said of them
 
-module _ (m : Map) (budget : Ask) (one other : Built) (is_one : IsBuiltOf m budget one) (whole : IsWhole one.table) (in_order : IsInOrder one.cert) (is_other : IsBuiltOf m budget other) (other_whole : IsWhole other.table) (other_in_order : IsInOrder other.cert) where
-  pub one_count : counts_with one.table (length one.cert.listed) ≡ counts_with other.table (length other.cert.listed)
-  one_count = let same = one_table m budget one other is_one is_other whole in_order other_whole other_in_order in same_counts one other same (sym is_one.listed ∙ same.listed ∙ is_other.listed)
+module _ (m : Map) (budget : Ask) (one other : GroupBuilt) (is_one : IsBuiltOf m budget one) (whole : IsWhole one.table) (is_other : IsBuiltOf m budget other) (other_whole : IsWhole other.table) where
+  pub one_count : counts_with one.table (length one.listed) ≡ counts_with other.table (length other.listed)
+  one_count = same_counts one other (one_table m budget one other is_one is_other whole other_whole)
 
 pub one_line : BuildsSayOneLine
 one_line name out asked reported budget found heard others one other p q =
-    ap (λ (a : Answer). a.line) p.is ∙ ap (build_line name) (one_count found.map budget p.built q.built p.is_built p.whole p.in_order q.is_built q.whole q.in_order) ∙ sym (ap (λ (a : Answer). a.line) q.is)
+    ap (λ (a : Answer). a.line) p.is ∙ ap (build_line name) (one_count found.map budget p.built q.built p.is_built p.whole q.is_built q.whole) ∙ sym (ap (λ (a : Answer). a.line) q.is)
 
 pub one_grid : (n : ℕ) (budget : Ask) (m : Map) (one other : Answer) → ShowsGrid n budget m one → ShowsGrid n budget m other → other ≡ one
-one_grid n budget m one other p q = q.is ∙ ap (λ (c : Counts). only_line (grid_line n c)) (one_count m budget q.built p.built q.is_built q.whole q.in_order p.is_built p.whole p.in_order) ∙ sym p.is
+one_grid n budget m one other p q = q.is ∙ ap (λ (c : Counts). only_line (grid_line n c)) (one_count m budget q.built p.built q.is_built q.whole p.is_built p.whole) ∙ sym p.is

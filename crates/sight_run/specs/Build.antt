@@ -1,27 +1,23 @@
 -- What the order `build` makes of a map that was found.
-use Rattle.std.specs.Prelude.{◌≡◌, ◌≢◌, ◌↔◌, ◌⊎◌, ℕ, ◌<◌, List, [], ◌∷◌, ◌++◌, Option, Some, None, Result, Ok, Err, Contains, codes, length, ⊤}
+use Rattle.std.specs.Prelude.{◌≡◌, ℕ, List, [], ◌∷◌, ◌++◌, Option, Some, None, Result, Ok, Err, codes, length, ⊤}
 use Rattle.sight_names.specs.declared.names.Ask.{Ask}
 use Rattle.sight_names.specs.declared.names.Ask.TheVariants.{Enough, Full}
-use Rattle.sight_names.specs.declared.names.Budget.{Budget}
-use Rattle.sight_names.specs.declared.names.Pair.{Pair}
-use Rattle.sight_names.specs.Enough.{IsBudgetOf}
-use Rattle.sight_names.specs.Found.{AreConnected, IsListed}
+use Rattle.sight_names.specs.Groups.{AreGroups, HasClosedFaces}
 use Rattle.sight_names.specs.Map.{Map}
-use Rattle.sight_names.specs.Sound.{IsSound, LinesMeetAtEnds}
+use Rattle.sight_names.specs.Sound.{LinesMeetAtEnds}
 use Rattle.sight_names.specs.Table.{table_bit}
 use Rattle.map_audit.specs.Audit.{IsLineFault}
 use Rattle.listeners.specs.declared.finding.Finding.{Finding}
 use Rattle.listeners.specs.Findings.{AreFindings}
 use Rattle.listeners.specs.Listening.{ListenerState, clears_in, lists_in, sets_in}
 use Rattle.listeners.specs.Told.{AreTold, AreToldInTurn, texts}
-use Rattle.reject_bits.specs.Parts.{IsWhole, Rejects, TableParts}
-use Rattle.sight_tree.specs.declared.Tree.{Tree}
-use Rattle.cert_format.specs.Accepted.{IsAccepted, IsNamed}
-use Rattle.cert_format.specs.Grammar.{IsInOrder, Spells, spelling}
-use Rattle.cert_format.specs.Parts.{CertParts}
-use Rattle.sight_job.specs.declared.build.Built.{Built}
-use Rattle.sight_job.specs.Built.{HasRaysOfClear, HasTrianglesOf, IsSymmetric, ListsClear}
-use Rattle.sight_job.specs.Sight.{TellsWhoSees}
+use Rattle.reject_bits.specs.Parts.{IsWhole, TableParts}
+use Rattle.accepted_groups.specs.Accepted.{IsAcceptedAny}
+use Rattle.cert_groups.specs.declared.cert.AnyCert.{AnyCert}
+use Rattle.cert_groups.specs.Grammar.{IsAnyInOrder, SpellsAny}
+use Rattle.group_job.specs.declared.build.GroupBuilt.{GroupBuilt}
+use Rattle.group_job.specs.Built.{DecidesByGroups, HasRaysOfFound, HasTreesOfUnspent, IsSymmetric, IsTwoOf, OfTwo, TellsSectors}
+use Rattle.output_pieces.specs.Spelled.{spelling}
 use Rattle.map_answers.specs.declared.counts.Counts.{Counts}
 use Rattle.sight_status.specs.declared.status.Bound.{Bound}
 use Rattle.sight_status.specs.declared.status.Bound.TheVariants as bound
@@ -35,47 +31,40 @@ use Rattle.map_answers.specs.Counts.{counts_with, counts_words}
 use Rattle.map_answers.specs.Input.{LocatedMap}
 use Rattle.sight_run.specs.Heard.{Heard}
 use Rattle.sight_run.specs.Sizes.{sizes_of_map}
-use Rattle.map_answers.specs.Sound.{HasMixedPair, HasOpenSide, IsAuditRefusal}
+use Rattle.map_answers.specs.Sound.{HasOpenSide, IsAuditRefusal}
 use Rattle.sight_run.specs.Zero.{with_table}
 
 -- ---- what is built of a map
 
--- no pair is listed, and each sector has its tree, but for those that see all that passable lines connect with them
-pub record IsExhausted (m : Map) (built : Built) : Type 0 where
-  pub no_list : built.listed ≡ []
-  pub trees : (a : ℕ) → a < m.sectors → ((t : Tree) × Contains built.cert.trees t × (t.source ≡ a)) ⊎ ((b : ℕ) → b < m.sectors → a ≢ b → AreConnected m a b → ¬ Rejects built.table a b)
-
 -- what a build of the map gives that is asked for with this budget
-pub record IsBuiltOf (m : Map) (budget : Ask) (built : Built) : Type 0 where
-  -- the map is sound as a whole, and the certificate has the labelled triangles of its mesh
-  pub fit : IsSound m
-  pub triangles : HasTrianglesOf m built.cert
+pub record IsBuiltOf (m : Map) (budget : Ask) (built : GroupBuilt) : Type 0 where
+  -- lines meet at ends alone, and each face is closed
+  pub fit : HasClosedFaces m
   pub sectors : built.table.n ≡ m.sectors
-  pub sizes : built.cert.sizes ≡ sizes_of_map m
-  pub listed : built.listed ≡ built.cert.listed
+  -- the certificate is of version 2, for a map of these sizes, and its groups are those of the map
+  pub sizes : IsTwoOf (sizes_of_map m) built.cert
+  pub in_order : IsAnyInOrder built.cert
+  pub groups : OfTwo (λ c. AreGroups m c.groups) built.cert
+  pub listed : OfTwo (λ c. c.listed ≡ built.listed) built.cert
   -- The certificate is accepted for the table: its triangles are a good mesh, its rays sight rays, its trees whole, and each pair
   -- has its reason. So `check` says yes to it.
-  pub accepted : IsAccepted m built.table.bytes built.cert
-  -- the certificate has a ray for just the clear pairs that aren't listed
-  pub rays : HasRaysOfClear built
-  -- both bits of a listed pair are clear
-  pub clear : ListsClear built
+  pub accepted : IsAcceptedAny m built.table.bytes built.cert
+  -- it has a ray for just the pairs of groups of which one is found from the other
+  pub rays : OfTwo (HasRaysOfFound m budget) built.cert
+  -- each group whose budget isn't spent has its tree, but for those that need none
+  pub trees : OfTwo (HasTreesOfUnspent m budget) built.cert
   pub symmetric : IsSymmetric built
-  -- a sector's own bit is set exactly where no side names it
-  pub diagonal : (a : ℕ) → a < m.sectors → Rejects built.table a a ↔ ¬ IsNamed m a
-  pub exhausted : budget ≡ Full → IsExhausted m built
-  -- the listed pairs are just those of two connected sectors of which neither is found from the other within the budget that
-  -- is asked for, and both budgets ran out
-  pub allowed : Budget
-  pub is_allowed : IsBudgetOf m budget allowed
-  pub spent : (q : Pair) → Contains built.listed q ↔ ((q.a < q.b) × IsListed m allowed q.a q.b)
-  -- with a budget that is enough no pair is listed
+  -- within the budget that is asked for a bit is set exactly where the two sectors neither see each other nor are listed; the
+  -- listed pairs are just those of which some groups are listed and none are equal or found
+  pub decided : DecidesByGroups m budget built
+  -- with a budget that is enough, and without any, no pair is listed
   pub none_listed : budget ≡ Enough → built.listed ≡ []
+  pub whole : budget ≡ Full → built.listed ≡ []
   -- sectors whose bit is set don't see each other; those whose bit is clear do, unless their pair is listed
-  pub sight : TellsWhoSees m built.table built.cert
+  pub sight : TellsSectors m built
 
 -- what was built of the map, or the refusal of its audit
-abbrev pub Builds : Map → Ask → Result Built Status → Type 0
+abbrev pub Builds : Map → Ask → Result GroupBuilt Status → Type 0
 Builds m budget (Ok built) = IsBuiltOf m budget built
 Builds m budget (Err refusal) = IsAuditRefusal m refusal
 
@@ -136,28 +125,27 @@ with_report reported report (Err refusal) = Err refusal
 -- the table and of the list. The listeners heard the findings of the map within the budget in turn, each that has a quota up to its last
 -- set pair; the report is the texts of those that ended, and then of those that are left.
 pub record ShowsBuild (name out : List ℕ) (asked reported : Option (List ℕ)) (budget : Ask) (found : LocatedMap) (heard : Heard) (answer : Answer) : Type 0 where
-  pub built : Built
+  pub built : GroupBuilt
   pub is_built : IsBuiltOf found.map budget built
   pub whole : IsWhole built.table
-  pub in_order : IsInOrder built.cert
   pub bytes : List ℕ
   pub made : with_table found built.table.bytes ≡ Ok bytes
   pub spelled : List ℕ
-  pub spells : Spells built.cert.sizes spelled built.cert
+  pub spells : SpellsAny (sizes_of_map found.map) spelled built.cert
   pub findings : List Finding
-  pub are_findings : AreFindings found.map is_built.allowed findings
+  pub are_findings : AreFindings found.map is_built.decided.budget findings
   pub ended : List ListenerState
   pub in_turn : AreToldInTurn findings heard.before heard.after ended
   -- the line counts them
-  pub counted : counts_with built.table (length built.cert.listed) ≡ finding_counts found.map.sectors findings
+  pub counted : counts_with built.table (length built.listed) ≡ finding_counts found.map.sectors findings
   pub report : List ℕ
   pub report_is : report ≡ texts ended ++ texts heard.after
   pub told : AreTold findings heard.before heard.after report
-  pub is : answer ≡ record { writes = report_behind reported report (build_writes out bytes asked spelled); line = build_line name (counts_with built.table (length built.cert.listed)) }
+  pub is : answer ≡ record { writes = report_behind reported report (build_writes out bytes asked spelled); line = build_line name (counts_with built.table (length built.listed)) }
 
 -- the WAD with the table that was built is above a limit
 pub record ShowsLimit (budget : Ask) (found : LocatedMap) (bound : Bound) : Type 0 where
-  pub built : Built
+  pub built : GroupBuilt
   pub is_built : IsBuiltOf found.map budget built
   pub whole : IsWhole built.table
   pub limit : with_table found built.table.bytes ≡ Err (status.Limit bound)
@@ -173,37 +161,36 @@ IsOfBuildReply other = ⊥
 -- no map is found, or it isn't sound: a build ends before anything is built
 abbrev pub IsUnbuildable : Result LocatedMap Status → Type 0
 IsUnbuildable (Err refusal) = ⊤
-IsUnbuildable (Ok found) = ¬ IsSound found.map
+IsUnbuildable (Ok found) = ¬ HasClosedFaces found.map
 
 -- The answer that `build` calls for. Where the map isn't sound it is the refusal of its audit.
 abbrev pub BuildCalls : List ℕ → List ℕ → Option (List ℕ) → Option (List ℕ) → Ask → Heard → LocatedMap → Result Answer Status → Type 0
 BuildCalls name out asked reported budget heard found (Ok answer) = ShowsBuild name out asked reported budget found heard answer
 BuildCalls name out asked reported budget heard found (Err (status.BadMap (flaw.Line fault))) = IsLineFault found.map fault
 BuildCalls name out asked reported budget heard found (Err (status.BadMap (flaw.Open side))) = LinesMeetAtEnds found.map × HasOpenSide found.map side
-BuildCalls name out asked reported budget heard found (Err (status.BadMap (flaw.Mixed first second))) = LinesMeetAtEnds found.map × HasMixedPair found.map first second
 BuildCalls name out asked reported budget heard found (Err (status.Limit bound)) = ShowsLimit budget found bound
 BuildCalls name out asked reported budget heard found (Err other) = ⊥
 
 -- ---- parts of it
 
--- what is made of a table and its certificate before any listener is told: all but the report
-pub record ShowsMade (name out : List ℕ) (asked : Option (List ℕ)) (found : LocatedMap) (table : TableParts) (cert : CertParts) (answer : Answer) : Type 0 where
+-- what is made of a table, its list and its certificate before any listener is told: all but the report
+pub record ShowsMade (name out : List ℕ) (asked : Option (List ℕ)) (found : LocatedMap) (table : TableParts) (listed : ℕ) (cert : AnyCert) (answer : Answer) : Type 0 where
   pub whole : IsWhole table
   pub bytes : List ℕ
   pub made : with_table found table.bytes ≡ Ok bytes
-  pub is : answer ≡ record { writes = build_writes out bytes asked (spelling cert); line = build_line name (counts_with table (length cert.listed)) }
+  pub is : answer ≡ record { writes = build_writes out bytes asked (spelling cert); line = build_line name (counts_with table listed) }
 
 -- .. or why it isn't
-abbrev pub BuildMakes : List ℕ → List ℕ → Option (List ℕ) → LocatedMap → TableParts → CertParts → Result Answer Status → Type 0
-BuildMakes name out asked found table cert (Ok answer) = ShowsMade name out asked found table cert answer
-BuildMakes name out asked found table cert (Err (status.Limit bound)) = IsWhole table × (with_table found table.bytes ≡ Err (status.Limit bound))
-BuildMakes name out asked found table cert (Err status.Memory) = ⊤
-BuildMakes name out asked found table cert (Err other) = ⊥
+abbrev pub BuildMakes : List ℕ → List ℕ → Option (List ℕ) → LocatedMap → TableParts → ℕ → AnyCert → Result Answer Status → Type 0
+BuildMakes name out asked found table listed cert (Ok answer) = ShowsMade name out asked found table listed cert answer
+BuildMakes name out asked found table listed cert (Err (status.Limit bound)) = IsWhole table × (with_table found table.bytes ≡ Err (status.Limit bound))
+BuildMakes name out asked found table listed cert (Err status.Memory) = ⊤
+BuildMakes name out asked found table listed cert (Err other) = ⊥
 
 -- ---- what all builds of a map have in common
 
 -- The two have one table and one list.
-pub record HaveOneTable (one other : Built) : Type 0 where
+pub record HaveOneTable (one other : GroupBuilt) : Type 0 where
   pub sectors : one.table.n ≡ other.table.n
   pub len : length one.table.bytes ≡ length other.table.bytes
   pub bits : (k : ℕ) → table_bit one.table.bytes k ≡ table_bit other.table.bytes k
@@ -212,7 +199,7 @@ pub record HaveOneTable (one other : Built) : Type 0 where
 -- What is built of a map within a budget has one table and one list, by how many workers ever; so two builds can differ in the rays
 -- and the trees of their certificates alone.
 abbrev pub BuildsHaveOneTable : Type 0
-BuildsHaveOneTable = (m : Map) (budget : Ask) (one other : Built) → IsBuiltOf m budget one → IsWhole one.table → IsInOrder one.cert → IsBuiltOf m budget other → IsWhole other.table → IsInOrder other.cert → HaveOneTable one other
+BuildsHaveOneTable = (m : Map) (budget : Ask) (one other : GroupBuilt) → IsBuiltOf m budget one → IsWhole one.table → IsBuiltOf m budget other → IsWhole other.table → HaveOneTable one other
 
 -- .. and all that `build` answers of it says one line
 abbrev pub BuildsSayOneLine : Type 0

@@ -3,17 +3,20 @@
 ghost use Rattle.std.specs.Prelude.{◌≡◌, ◌≤◌, IfErr, IfOk, Ok};
 ghost use Rattle.sight_names.specs.Map.{map_of};
 ghost use Rattle.sight_names.specs.Sound.{LinesMeetAtEnds};
-ghost use Rattle.cert_format.specs.Accepted.{IsAccepted};
 ghost use Rattle.cert_format.specs.Sizes.{sizes_of};
+ghost use Rattle.cert_groups.specs.Grammar.{IsAnyInOrder};
+ghost use Rattle.accepted_groups.specs.Accepted.{IsAcceptedAny};
+ghost use Rattle.group_job.specs.Built.{IsTwoOf};
 ghost use Rattle.sight_status.specs.declared.status.Status.TheVariants as status;
 ghost use Rattle.whole_wad.specs.Tables.{GetsOrMemory};
 
-use cert_checker::Verdict;
-use check_workers::check_par;
+use check_workers::check_any_par;
+use face_groups::GroupFault;
+use group_checker::AnyVerdict;
+use group_job::{GroupBuilt, build_table};
 use map_answers::audit_lines_of;
 use reject_bits::Table;
-use sight_job::{Built, build_table};
-use sight_names::{Ask, BuildFault, Items, Pair, Plan};
+use sight_names::{Ask, Items, Pair, Plan};
 use sight_status::{Flaw, Status};
 use sight_workers::Gate;
 use std::alloc::Global;
@@ -26,28 +29,29 @@ pub struct MapTable {
     pub listed: Items<Pair>,
 }
 
-/// The table and the list of what was built, once its own certificate is judged.
+/// The table and the list of what was built, once its own certificate is judged, its trees in threads.
 fn judged<R: Threads + Sync>(
     rt: &R,
     alloc: Global,
     plan: &Plan,
-    built: Built,
+    built: GroupBuilt,
 ) -> Result<MapTable, Status>
     requires audited { LinesMeetAtEnds (map_of plan.now) }
     requires sectors { built.table.n ≡ plan.now.sectors }
-    requires sizes { built.cert.sizes ≡ sizes_of plan.now }
-    requires accepted { IsAccepted (map_of plan.now) built.table.bytes built.cert }
+    requires sizes { IsTwoOf (sizes_of plan.now) built.cert }
+    requires in_order { IsAnyInOrder built.cert }
+    requires accepted { IsAcceptedAny (map_of plan.now) built.table.bytes built.cert }
     ensures table { IfOk result (λ made. made.table ≡ built.table) }
     ensures listed { IfOk result (λ made. made.listed ≡ built.listed) }
     ensures refusals { IfErr result (λ s. s ≡ status.Memory) }
 {
-    match check_par(rt, alloc, plan, &built.table, &built.cert) {
-        Ok(Verdict::Yes(_)) => Ok(MapTable {
+    match check_any_par(rt, alloc, plan, &built.table, &built.cert) {
+        Ok(AnyVerdict::Yes(_)) => Ok(MapTable {
             table: built.table,
             listed: built.listed,
         }),
         // what is built is accepted
-        Ok(Verdict::No(_)) => unreachable!(),
+        Ok(AnyVerdict::No(_)) => unreachable!(),
         Err(_) => Err(Status::Memory),
     }
 }
@@ -67,9 +71,8 @@ fn table_between<R: Threads + Sync, G: Gate + Sync>(
 {
     match build_table(rt, alloc, plan, workers, budget, gate) {
         Ok(built) => judged(rt, alloc, plan, built),
-        Err(BuildFault::Open { side }) => Err(Status::BadMap(Flaw::Open(side))),
-        Err(BuildFault::Mixed { first, second }) => Err(Status::BadMap(Flaw::Mixed(first, second))),
-        Err(BuildFault::Memory) => Err(Status::Memory),
+        Err(GroupFault::Open { side }) => Err(Status::BadMap(Flaw::Open(side))),
+        Err(GroupFault::Memory) => Err(Status::Memory),
     }
 }
 

@@ -1,23 +1,23 @@
-use Rattle.std.proofs.Common.{◌∙◌}
+use Rattle.std.proofs.Common.{subst}
+use Rattle.cert_format.specs.declared.cert.Sizes.{Sizes}
+use Rattle.group_job.specs.Built.{IsTwoOf}
 use Rattle.sight_run.proofs.build.build_sound.Goals as goal
 
 pub returns-in-Ok-clause-built : goal.returns-in-Ok-clause-built
 returns-in-Ok-clause-built g c =
     let e = c.in-Ok.ensures in record {
-      fit = e.sound;
-      triangles = e.triangles;
+      fit = e.closed;
       sectors = e.sectors;
-      sizes = e.sizes ∙ c.has_sizes_of_map.ensures;
+      sizes = subst (λ (s : Sizes). IsTwoOf s c.in-Ok.built.cert) c.has_sizes_of_map.ensures e.sizes;
+      in_order = e.in_order;
+      groups = e.groups;
       listed = e.listed;
       accepted = e.accepted;
       rays = e.rays;
-      clear = e.clear;
+      trees = e.trees;
       symmetric = e.symmetric;
-      diagonal = e.diagonal;
-      exhausted = λ full. let w = e.whole full in record { no_list = w.no_list; trees = w.trees };
-      allowed = e.spent.budget;
-      is_allowed = e.spent.is_budget;
-      spent = e.spent.exactly;
+      decided = e.by_groups;
       none_listed = e.enough;
+      whole = e.whole;
       sight = e.sight;
     }

@@ -1,9 +1,9 @@
-use Rattle.std.proofs.Common.{◌≡◌, ap, subst}
+use Rattle.std.proofs.Common.{◌≡◌, ap}
 use Rattle.std.proofs.lemmas.Result.{err_from_is_err_and}
-use Rattle.sight_names.specs.Plan.{IsPlan, PlanParts}
+use Rattle.sight_names.specs.Plan.{PlanParts}
 use Rattle.reject_bits.specs.Parts.{TableParts}
 use Rattle.map_answers.specs.Views.{found}
-use Rattle.sight_run.proofs.CheckInputs.{by_map, fetch_refused, judged_gives, table_refused}
+use Rattle.sight_run.proofs.CheckInputs.{fetch_refused, judged_gives, table_refused}
 use Rattle.sight_run.proofs.check.judge.Goals as goal
 
 pub returns-in_err-table-clause-told : goal.returns-in_err-table-clause-told
@@ -16,13 +16,12 @@ pub returns-in_err-judged-clause-told : goal.returns-in_err-judged-clause-told
 returns-in_err-judged-clause-told g c =
     let p = err_from_is_err_and c.from_residual-in_err-judged.result c.from_residual-in_err-judged.ensures.1 in
     let size : c.plan.inside.sectors ≡ c.args.input.now.plan.sectors = ap (λ (q : PlanParts). q.sectors) c.plan.view_is in
-    λ files e. rw (p.1, p.2) (fetch_refused c.args.name.now (found c.args.input.now) files c.requires.lines c.plan.inside.sectors c.reject.result.now size c.reject.ensures c.in_ok-table.ensures.taken c.args.input.now.plan c.in_ok-table.table c.in_err-judged.field-0.0
+    λ files e. rw (p.1, p.2) (fetch_refused c.args.name.now (found c.args.input.now) files c.requires.lines c.plan.inside.sectors c.reject.result.now size c.reject.ensures c.in_ok-table.ensures.taken c.in_ok-table.table c.in_err-judged.field-0.0
     c.in_err-judged.ensures.refusals (c.in_err-judged.ensures.told files e))
 
 pub returns-clause-told : goal.returns-clause-told
 returns-clause-told g c =
     let size : c.plan.inside.sectors ≡ c.args.input.now.plan.sectors = ap (λ (q : PlanParts). q.sectors) c.plan.view_is in
-    let plan : IsPlan c.args.input.now.plan = subst IsPlan c.plan.view_is c.plan.invariant in
     λ files e. let j = c.in_ok-judged.ensures.told files e in
     judged_gives c.args.name.now (found c.args.input.now) files c.requires.lines c.plan.inside.sectors c.reject.result.now size c.reject.ensures c.in_ok-table.ensures.taken c.in_ok-table.table j.bytes c.in_ok-judged.judged c.line_of.result c.in_ok-table.ensures.table j.whole
-    (by_map c.args.input.now.plan c.in_ok-table.table j.bytes c.in_ok-judged.judged plan j.judged) c.line_of.ensures.told
+    j.judged c.line_of.ensures.told

@@ -6,17 +6,15 @@ pub returns-in-Ok : goal.returns-in-Ok
 returns-in-Ok g c =
     let e = c.in-Ok.ensures in
     judged_gets (map_of c.args.plan.now) c.args.budget c.in-Ok.built.table c.in-Ok.built.listed c.judged.result (record {
-      fit = e.sound;
+      fit = e.closed;
       sectors = e.sectors;
       cert = c.in-Ok.built.cert;
+      groups = e.groups;
       listed = e.listed;
       accepted = e.accepted;
       sight = e.sight;
-      allowed = e.spent.budget;
-      is_allowed = e.spent.is_budget;
-      spent = e.spent.exactly;
+      decided = e.by_groups;
       none_listed = e.enough;
-      clear = e.clear;
+      whole = e.whole;
       symmetric = e.symmetric;
-      diagonal = e.diagonal;
     }) c.judged.ensures.table c.judged.ensures.listed c.judged.ensures.refusals

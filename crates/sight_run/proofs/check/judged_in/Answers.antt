@@ -1,7 +1,0 @@
-use Rattle.std.proofs.Common.{ap}
-use Rattle.sight_run.specs.Check.{of_cert_fetch}
-use Rattle.sight_run.proofs.check.judged_in.Goals as goal
-
-pub returns-in-Ok-clause-told : goal.returns-in-Ok-clause-told
-returns-in-Ok-clause-told g c = λ files e. let j = c.in-Ok.ensures.told files e in
-    record { bytes = j.bytes; whole = ap of_cert_fetch j.whole; judged = j.judged }
