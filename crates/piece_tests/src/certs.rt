@@ -23,11 +23,11 @@ const U: Sizes = Sizes {
 /// A table of the map U, what is changed in the worked certificate, and what a judge answers.
 const ROWS: &str = "\
 4400 | | Verdict(Yes(Totals { set: 1, clear: 5, listed: 0 }))
-4600 | | Verdict(No(Unproved { a: 0, b: 1 }))
-0000 | | Verdict(No(Uncovered { a: 0, b: 2 }))
-4400 | @157:1:03 | Verdict(No(Tree { source: 0, node: 4 }))
-4400 | @132:8:38ffffffffffffff | Verdict(No(Ray { a: 1, b: 2, why: Some(NotSplit { line: 3 }) }))
-4400 | @12:1:07 @84:8: | Verdict(No(Mesh(NoMate { triangle: 4 })))
+4600 | | Verdict(No(Check(Unproved { a: 0, b: 1 })))
+0000 | | Verdict(No(Check(Uncovered { a: 0, b: 2 })))
+4400 | @157:1:03 | Verdict(No(Check(Tree { source: 0, node: 4 })))
+4400 | @132:8:38ffffffffffffff | Verdict(No(Check(Ray { a: 1, b: 2, why: Some(NotSplit { line: 3 }) })))
+4400 | @12:1:07 @84:8: | Verdict(No(Check(Mesh(NoMate { triangle: 4 }))))
 4400 | @4:1:03 | Unread(BadVersion)
 4400 | @160:1: | Unread(Short { at: 159 })
 ";

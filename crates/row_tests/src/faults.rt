@@ -41,7 +41,7 @@ a=U | sound a MAP01 0 9 | 1 | a a
 a=U =4400 | check a MAP01 c | 3 | a a
 a=U, c=#U-CERT | check a MAP01 c | 1 | a a
 a=U =4600, c=#U-CERT | check a MAP01 c | 1 | a a c c
-a=ISLAND, b=PAIR, c=PAIR | build a MAP01 b --cert c | 10 | a a
+a=OPEN, b=PAIR, c=PAIR | build a MAP01 b --cert c | 10 | a a
 ";
 
 /// The most bytes that one append takes.

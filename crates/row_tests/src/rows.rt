@@ -109,7 +109,9 @@ a=CROSSED | audit a MAP01 | 10 | refused: bad map: cross 3 4
 a=OVERLAPPED | audit a MAP01 | 10 | refused: bad map: overlap 0 4
 a=OPEN | audit a MAP01 | 10 | refused: bad map: open 0R
 a=ROD | audit a MAP01 | 10 | refused: bad map: open 0R
-a=ISLAND | audit a MAP01 | 10 | refused: bad map: mixed 0R 4R
+# a face whose sides name two sectors belongs to both
+a=ISLAND | audit a MAP01 | 0 | sound lines 8 points 8 sectors 2 triangles 8
+a=SELFREF | audit a MAP01 | 0 | sound lines 8 points 8 sectors 2 triangles 10
 # lines over the whole range
 a=FAR-CROSS | audit a MAP01 | 10 | refused: bad map: cross 0 1
 a=FAR-ENDS | audit a MAP01 | 0 | sound lines 2 points 3 sectors 1 triangles 0
@@ -120,6 +122,9 @@ a=FAR-JOINED | audit a MAP01 | 0 | sound lines 2 points 3 sectors 1 triangles 0
 a=FAR-PARTED | audit a MAP01 | 0 | sound lines 2 points 4 sectors 1 triangles 0
 # traced rays
 a=U | trace a MAP01 5L,5R,-1,0,32 | 0 | trace 0 1 | a=U
+a=SELFREF | trace a MAP01 4R,6R,-1,0,96 | 0 | trace 0+1 1 0+1
+a=SELFREF | ray a MAP01 4R,6R,-1,0,96 | 0 | sight 1 1
+a=ISLAND | trace a MAP01 4L,6R,-1,0,96 | 1 | no ray: side 4L
 a=U .1 hexen +6:BEHAVIOR | trace a MAP01 5L,5R,-1,0,32 | 0 | trace 0 1
 a=DOORS33 | trace a MAP01 3R,11L,-1,128,-4032 | 1 | no trace: point 6
 a=DOORS33 | trace a MAP01 3R,11L,-1,128,-3968 | 1 | no trace: solid 7
@@ -134,6 +139,15 @@ a=U =4400, c=#U-CERT | check a MAP01 c | 0 | yes sectors 3 set 1 clear 5 listed 
 a=U =44fe, c=#U-CERT | check a MAP01 c | 0 | yes sectors 3 set 1 clear 5 listed 0
 a=U =4400 .1 hexen +6:BEHAVIOR, c=#U-CERT | check a MAP01 c | 0 | yes sectors 3 set 1 clear 5 listed 0
 a=U =4600, c=#U-CERT | check a MAP01 c | 1 | no unproved 0 1
+# certificates with groups
+a=U =4400, c=#U-GROUPS | check a MAP01 c | 0 | yes sectors 3 set 1 clear 5 listed 0
+a=U =4600, c=#U-GROUPS | check a MAP01 c | 1 | no unproved 0 1
+a=U =0000, c=#U-GROUPS | check a MAP01 c | 1 | no uncovered 0 2
+a=ISLAND =00, c=#ISLAND-CERT | check a MAP01 c | 0 | yes sectors 2 set 0 clear 3 listed 0
+a=ISLAND =02, c=#ISLAND-CERT | check a MAP01 c | 1 | no unproved 0 1
+a=ISLAND =00, c=#ISLAND-CERT @34:1:00 | check a MAP01 c | 1 | no cert: order 34
+a=ISLAND =00, c=#ISLAND-CERT @30:1:01 @34:2: | check a MAP01 c | 1 | no face 0
+a=ISLAND =00, c=#ISLAND-CERT @12:1:02 @36:0:01000100 | check a MAP01 c | 1 | no group 1
 a=U =0000, c=#U-CERT | check a MAP01 c | 1 | no uncovered 0 2
 a=U =0400, c=#U-CERT | check a MAP01 c | 1 | no uncovered 0 2
 a=U, c=#U-CERT | check a MAP01 c | 1 | no table: 0 bytes, 2 expected
@@ -187,12 +201,14 @@ a=U =4400, c=#U-CERT @142:8:ffffffffffffffff | check a MAP01 c | 1 | no cert: sh
 a=U =4400 | check a MAP01 c | 3 | refused: no file cert
 a=U =4400, c=#U-CERT, reads=2 | check a MAP01 c | 4 | refused: read fault cert
 a=U =4400, c=#U-CERT, reads=3 | check a MAP01 c | 4 | refused: read fault cert
+a=U =4400, c=#U-GROUPS, reads=2 | check a MAP01 c | 4 | refused: read fault cert
+a=U =4400, c=#U-GROUPS, reads=3 | check a MAP01 c | 4 | refused: read fault cert
 ";
 
 /// The order `build`, and `check` of what it wrote.
 const BUILD: &str = "\
 # the certificate has as many triangles, rays and listed pairs as the worked one
-a=U | build a MAP01 b --cert c --workers 1 | 0 | built MAP01 sectors 3 set 1 clear 5 listed 0 | b=U =4400, a=U, c<=#U-CERT @24:137:
+a=U | build a MAP01 b --cert c --workers 1 | 0 | built MAP01 sectors 3 set 1 clear 5 listed 0 | b=U =4400, a=U, c<=#U-GROUPS @26:149:
 | check b MAP01 c | 0 | yes sectors 3 set 1 clear 5 listed 0
 a=U | build a MAP01 b --cert c --workers 3 | 0 | built MAP01 sectors 3 set 1 clear 5 listed 0 | b=U =4400
 | check b MAP01 c | 0 | yes sectors 3 set 1 clear 5 listed 0
@@ -200,7 +216,7 @@ a=U | build a MAP01 b --cert c --workers 64 | 0 | built MAP01 sectors 3 set 1 cl
 | check b MAP01 c | 0 | yes sectors 3 set 1 clear 5 listed 0
 a=U | build a MAP01 b --workers 02 | 0 | built MAP01 sectors 3 set 1 clear 5 listed 0 | b=U =4400, c=
 a=U | build a MAP01 b | 0 | built MAP01 sectors 3 set 1 clear 5 listed 0 | b=U =4400, c=
-a=SQUARE | build a MAP01 b --cert c | 0 | built MAP01 sectors 1 set 0 clear 1 listed 0 | b=SQUARE =00, c=#SQUARE-CERT
+a=SQUARE | build a MAP01 b --cert c | 0 | built MAP01 sectors 1 set 0 clear 1 listed 0 | b=SQUARE =00, c=#SQUARE-GROUPS
 | check b MAP01 c | 0 | yes sectors 1 set 0 clear 1 listed 0
 a=PAIR | build a MAP01 b --cert c | 0 | built MAP01 sectors 2 set 0 clear 3 listed 0 | b=PAIR =00
 | check b MAP01 c | 0 | yes sectors 2 set 0 clear 3 listed 0
@@ -225,7 +241,7 @@ a=RINGS | build a MAP01 b --cert c | 0 | built MAP01 sectors 2 set 1 clear 2 lis
 a=PILLAR | build a MAP01 b --cert c | 0 | built MAP01 sectors 1 set 0 clear 1 listed 0 | b=PILLAR =00
 | check b MAP01 c | 0 | yes sectors 1 set 0 clear 1 listed 0
 # budgets: each of the three sources has four sequences; the certificate has no tree and ends with the one listed pair
-a=U | build a MAP01 b --cert c --budget 1 | 0 | built MAP01 sectors 3 set 0 clear 5 listed 1 | b=U =0000, c<=#U-CERT @20:5:0100000000 @92:69:, c>=#00000200
+a=U | build a MAP01 b --cert c --budget 1 | 0 | built MAP01 sectors 3 set 0 clear 5 listed 1 | b=U =0000, c<=#U-GROUPS @22:5:0100000000 @106:69:, c>=#00000200
 | check b MAP01 c | 0 | yes sectors 3 set 0 clear 5 listed 1
 a=LINE3 | build a MAP01 b --cert c --budget 1 | 0 | built MAP01 sectors 3 set 0 clear 5 listed 1 | b=LINE3 =0000, c>=#00000200
 | check b MAP01 c | 0 | yes sectors 3 set 0 clear 5 listed 1
@@ -238,9 +254,13 @@ a=PAIR =06 .3 <40002000 .1 hexen +1:THINGS *20 +5:SEGS *96 +6:SSECTORS *8 +7:NOD
 | check b MAP01 c | 0 | yes sectors 2 set 0 clear 3 listed 0
 a=PAIR - | build a map01 b --cert c | 0 | built MAP01 sectors 2 set 0 clear 3 listed 0 | b=PAIR =00
 | check b MAP01 c | 0 | yes sectors 2 set 0 clear 3 listed 0
+# faces with several names
+a=ISLAND | build a MAP01 b --cert c | 0 | built MAP01 sectors 2 set 0 clear 3 listed 0 | b=ISLAND =00, c=#ISLAND-CERT
+| check b MAP01 c | 0 | yes sectors 2 set 0 clear 3 listed 0
+a=SELFREF | build a MAP01 b --cert c | 0 | built MAP01 sectors 2 set 0 clear 3 listed 0 | b=SELFREF =00
+| check b MAP01 c | 0 | yes sectors 2 set 0 clear 3 listed 0
 # unsound maps
 a=OPEN | build a MAP01 b --cert c | 10 | refused: bad map: open 0R | b=, c=
-a=ISLAND | build a MAP01 b --cert c | 10 | refused: bad map: mixed 0R 4R | b=, c=
 a=CROSSED | build a MAP01 b --cert c | 10 | refused: bad map: cross 3 4 | b=, c=
 # words and names
 a=U | build a MAP01 b --workers 65 | 2 | refused: usage | b=
@@ -255,10 +275,10 @@ a=U | grid +2 | 2 | refused: usage
 a=U | build a MAP01 b --cert b | 11 | refused: same name | b=
 a=U | build a MAP01 b --cert a | 11 | refused: same name | a=U, b=
 # faults: the file is stored by one append, the certificate of 144 bytes by the next
-a=U, appends=1 | build a MAP01 b --cert c --budget 1 | 5 | refused: write fault cert | b=U =0000, c=#U-CERT @20:5:0100000000 @72:89:
+a=U, appends=1 | build a MAP01 b --cert c --budget 1 | 5 | refused: write fault cert | b=U =0000, c=#U-GROUPS @22:5:0100000000 @79:96:
 a=U, creates=0 | build a MAP01 b --cert c --budget 1 | 5 | refused: write fault wad | b=, c=
 a=U, creates=1 | build a MAP01 b --cert c --budget 1 | 5 | refused: write fault cert | b=U =0000, c=
-a=U, puts=0 | build a MAP01 b --cert c --budget 1 | 5 | built MAP01 sectors 3 ~ | b=U =0000, c<=#U-CERT @20:5:0100000000 @92:69:, c>=#00000200
+a=U, puts=0 | build a MAP01 b --cert c --budget 1 | 5 | built MAP01 sectors 3 ~ | b=U =0000, c<=#U-GROUPS @22:5:0100000000 @106:69:, c>=#00000200
 # reports; the first of those is `set 0 2` and `total set 1 clear 5 listed 0`, each on a line
 a=U | build a MAP01 b --report r | 0 | built MAP01 sectors 3 set 1 clear 5 listed 0 | b=U =4400, c=, r=#736574203020320a746f74616c20736574203120636c6561722035206c697374656420300a
 a=U | build a MAP01 b --cert c --report=r --budget 1 | 0 | built MAP01 sectors 3 set 0 clear 5 listed 1 | b=U =0000, c>=#00000200, r=#6c6973746564203020320a746f74616c20736574203020636c6561722035206c697374656420310a
@@ -268,8 +288,8 @@ a=U | build a MAP01 b --report b | 11 | refused: same name | b=
 a=U | build a MAP01 b --report a | 11 | refused: same name | a=U, b=
 a=U | build a MAP01 b --cert r --report r | 11 | refused: same name | b=, r=
 a=OPEN | build a MAP01 b --cert c --report r | 10 | refused: bad map: open 0R | b=, c=, r=
-a=U, appends=1 | build a MAP01 b --cert c --report r --budget 1 | 5 | refused: write fault cert | b=U =0000, c=#U-CERT @20:5:0100000000 @72:89:, r=
-a=U, creates=2 | build a MAP01 b --cert c --report r | 5 | refused: write fault report | b=U =4400, c<=#U-CERT @24:137:, r=
+a=U, appends=1 | build a MAP01 b --cert c --report r --budget 1 | 5 | refused: write fault cert | b=U =0000, c=#U-GROUPS @22:5:0100000000 @79:96:, r=
+a=U, creates=2 | build a MAP01 b --cert c --report r | 5 | refused: write fault report | b=U =4400, c<=#U-GROUPS @26:149:, r=
 a=U, creates=1 | build a MAP01 b --report r | 5 | refused: write fault report | b=U =4400, r=
 a=U, appends=2 | build a MAP01 b --cert c --report r | 5 | refused: write fault report | b=U =4400, r=#73657420
 a=U, appends=3 | build a MAP01 b --cert c --report r | 5 | refused: write fault report | b=U =4400, r=#736574203020320a746f74616c20736574203120636c
@@ -325,6 +345,8 @@ a=LINE3 | all a b --budget enough | 0 | all maps 1 built 1 refused 0 | b=LINE3 =
 # of two maps of one name the last; a map in Hexen's format; a map without REJECT, under a name in lower case
 a=SQUARE U | all a b | 0 | all maps 1 built 1 refused 0 | b=SQUARE U =4400
 a=PAIR .1 hexen +6:BEHAVIOR *3 U - .7 - +7:map02 | all a b --report r | 0 | all maps 2 built 2 refused 0 | b=PAIR =00 .1 hexen +6:BEHAVIOR *3 U =4400 .7 - +7:map02, r=#4d4150303120736574203020636c6561722033206c697374656420300a4d4150303220736574203120636c6561722035206c697374656420300a
+# a face of several sectors
+a=SELFREF | all a b --report r | 0 | all maps 1 built 1 refused 0 | b=SELFREF =00, r=#4d4150303120736574203020636c6561722033206c697374656420300a
 # maps that can't be read
 a=SQUARE @14:1:09 | all a b --report r | 0 | all maps 1 built 0 refused 1 | b=SQUARE @14:1:09, r=#4d41503031207265667573656420626164206c756d703a20766572746578206f66206c696e6520300a
 a=SQUARE .1 *229390 | all a b --report r | 0 | all maps 1 built 0 refused 1 | b=SQUARE .1 *229390, r=#4d415030312072656675736564206c696d69743a206c696e65730a

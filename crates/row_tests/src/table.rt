@@ -5,7 +5,7 @@ use listeners::{Lines, Listener, Totals};
 use run_cases::{Stage, stage_of, words_in};
 use shelf_io::MemSink;
 use sight_names::{
-    BuildFault, CheckFault, FetchFault, LabelFault, LumpFault, OrderFault, RewriteFault, WadFault,
+    CheckFault, FetchFault, LabelFault, LumpFault, OrderFault, RewriteFault, WadFault,
 };
 use sight_run::{Bound, Flaw, NoNotice, Status, Why, code, run};
 use sight_workers::OpenGate;
@@ -54,7 +54,6 @@ fn words_of_flaw(alloc: Global, flaw: Flaw) -> Result<String, AllocError> {
     match flaw {
         Flaw::Line(fault) => fault.to_string(alloc),
         Flaw::Open(side) => LabelFault::Open { side }.to_string(alloc),
-        Flaw::Mixed(first, second) => BuildFault::Mixed { first, second }.to_string(alloc),
     }
 }
 

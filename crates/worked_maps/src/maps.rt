@@ -181,6 +181,15 @@ const MAPS: &str = "\
 128 64 128 128 1 1 -
 128 128 64 128 1 1 -
 64 128 64 64 1 1 -
+# SELFREF 2 ISLAND whose pillar has lines that name its sector on both sides: the room belongs to both.
+0 0 0 192 1 0 -
+0 192 192 192 1 0 -
+192 192 192 0 1 0 -
+192 0 0 0 1 0 -
+64 64 128 64 4 1 1
+128 64 128 128 4 1 1
+128 128 64 128 4 1 1
+64 128 64 64 4 1 1
 # PILLAR 1 A room with a pillar of rock inside.
 0 0 0 192 1 0 -
 0 192 192 192 1 0 -
