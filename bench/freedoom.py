@@ -13,7 +13,7 @@ import os
 import sys
 import tempfile
 
-from wads import FREEDOOM, Run, directory, header, maps, rays, rejects, wad
+from wads import FREEDOOM, Certificate, Run, directory, maps, rejects, wad
 
 
 def zeroed(program, folder, path):
@@ -31,11 +31,12 @@ def zeroed(program, folder, path):
 
 
 def refuted(program, source, name, sectors, shipped, cert):
-    """Pairs that the shipped table rejects and ours clears with a ray: each with its ray, and whether `ray` accepts it."""
+    """Pairs that the shipped table rejects and ours clears because a ray joins them or a face belongs to both: each with its ray, if it
+    has one, and whether `ray` accepts that."""
     found = []
-    for (a, b), ray in rays(cert).items():
+    for (a, b), ray in cert.seen().items():
         if rejects(shipped, sectors, a, b) or rejects(shipped, sectors, b, a):
-            found.append((a, b, ray, Run([program, "ray", source, name, ray]).status == 0))
+            found.append((a, b, ray, ray is None or Run([program, "ray", source, name, ray]).status == 0))
     return found
 
 
@@ -65,12 +66,13 @@ class Row:
         self.build = Run([program, "build", source, name, output, "--cert", cert, "--workers", "1"])
         self.check = Run([program, "check", output, name, cert])
         held = open(cert, "rb").read()
+        cert = Certificate(held)
         self.cert = len(held)
-        self.treeless = self.sectors - header(held)[3]
+        self.treeless = len(cert.groups) - cert.trees
         self.files = len(held) + os.path.getsize(source)
         table = dict(next(maps(open(output, "rb").read()))[1])[b"REJECT"]
         shipped = lumps.get(b"REJECT", b"")
-        self.refuted = refuted(program, source, name, self.sectors, shipped, held)
+        self.refuted = refuted(program, source, name, self.sectors, shipped, cert)
         self.saved = seen_by_shipped(self.sectors, shipped, table)
 
     def peak(self):
@@ -129,7 +131,7 @@ def main():
     if sound:
         print("\nSeconds of processor time in all: audit %.1f, build %.1f, check %.1f; %d maps accepted.\n" % (*seconds, len(sound)))
     print_table("map | sectors | ray that refutes the shipped bit",
-                [[r.label, "%d %d" % (a, b), "`%s`" % ray] for r in sound for a, b, ray, accepted in r.refuted if accepted])
+                [[r.label, "%d %d" % (a, b), "`%s`" % ray if ray else "a face belongs to both"] for r in sound for a, b, ray, accepted in r.refuted if accepted])
     print()
     print_table("refused map | lines | sectors | why", [[r.label, r.lines, r.sectors, r.audit.line] for r in rows if not r.sound])
 

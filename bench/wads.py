@@ -76,20 +76,46 @@ class Run:
         self.status, self.line, self.seconds, self.megabytes, self.wall = json.loads(starter.stdout.readline())
 
 
-def header(cert):
-    """How many triangles, rays, listed pairs and trees a certificate has."""
-    return struct.unpack_from("<IIII", cert, 12)
+class Certificate:
+    """The counts, the groups and the rays of a certificate of either version; in version 1 each sector is a group."""
+
+    def __init__(self, held):
+        version, sectors = struct.unpack_from("<HH", held, 4)
+        count, at = (sectors, 28) if version == 1 else (struct.unpack_from("<H", held, 12)[0], 30)
+        self.triangles, rays, self.listed, self.trees = struct.unpack_from("<IIII", held, at - 16)
+        self.groups = [(a,) for a in range(sectors)]
+        if version == 2:
+            self.groups, at = groups_from(held, count, at)
+        self.by_groups = dict(rays_from(held, rays, at + 8 * self.triangles))
+
+    def seen(self):
+        """Why two sectors see each other, for each pair of which that is shown: None where a face belongs to both, else a ray, as
+        words of the command line."""
+        found = {(a, b): None for group in self.groups for a in group for b in group if a < b}
+        for (f, g), ray in self.by_groups.items():
+            for a in self.groups[f]:
+                for b in self.groups[g]:
+                    if a != b:
+                        found.setdefault((min(a, b), max(a, b)), ray)
+        return found
 
 
-def rays(cert):
-    """The rays of a certificate by their pair, as words of the command line."""
-    triangles, count, _, _ = header(cert)
-    found = {}
+def groups_from(held, count, at):
+    """So many groups from this place on, each a list of sectors, and the place behind them."""
+    groups = []
+    for _ in range(count):
+        size, = struct.unpack_from("<H", held, at)
+        groups.append(struct.unpack_from("<%dH" % size, held, at + 2))
+        at += 2 + 2 * size
+    return groups, at
+
+
+def rays_from(held, count, at):
+    """So many rays from this place on, each with its pair."""
     for k in range(count):
-        a, b, first, last, x, y, c = struct.unpack_from("<HHHHiiq", cert, 28 + 8 * triangles + 24 * k)
+        a, b, first, last, x, y, c = struct.unpack_from("<HHHHiiq", held, at + 24 * k)
         sides = ["%d%s" % (s & 32767, "L" if s & 32768 else "R") for s in (first, last)]
-        found[a, b] = ",".join(sides + [str(x), str(y), str(c)])
-    return found
+        yield (a, b), ",".join(sides + [str(x), str(y), str(c)])
 
 
 def rejects(table, n, a, b):
