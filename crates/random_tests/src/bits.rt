@@ -6,8 +6,8 @@ use worked_maps::dice::Dice;
 /// So many bytes stand behind the table in a made WAD: a directory of six entries.
 const DIRECTORY: usize = 96;
 
-/// The bytes of a certificate before its triangles, of each triangle, and of each ray.
-const HEADER: usize = 28;
+/// The bytes of a certificate of version 2 before its groups, of each triangle, and of each ray.
+const HEADER: usize = 30;
 
 const TRIANGLE: usize = 8;
 
@@ -44,13 +44,24 @@ fn short_at(bytes: &[u8], place: usize) -> usize {
 
 /// How many pairs a certificate lists.
 pub fn listed_count(cert: &[u8]) -> usize {
-    short_at(cert, 20)
+    short_at(cert, 22)
+}
+
+// Where the triangles of a certificate begin, behind its groups.
+fn behind_groups(cert: &[u8]) -> usize {
+    let mut at = HEADER;
+    for _ in 0..short_at(cert, 12) {
+        at = at
+            .wrapping_add(2)
+            .wrapping_add(short_at(cert, at).wrapping_mul(2));
+    }
+    at
 }
 
 /// Whether a certificate lists a pair.
 pub fn is_listed(cert: &[u8], a: usize, b: usize) -> bool {
-    let rays = HEADER.wrapping_add(short_at(cert, 12).wrapping_mul(TRIANGLE));
-    let start = rays.wrapping_add(short_at(cert, 16).wrapping_mul(RAY));
+    let rays = behind_groups(cert).wrapping_add(short_at(cert, 14).wrapping_mul(TRIANGLE));
+    let start = rays.wrapping_add(short_at(cert, 18).wrapping_mul(RAY));
     for k in 0..listed_count(cert) {
         let at = start.wrapping_add(k.wrapping_mul(4));
         if short_at(cert, at) == a.min(b) && short_at(cert, at.wrapping_add(2)) == a.max(b) {
