@@ -26,7 +26,7 @@ use Rattle.map_answers.specs.Input.{LocatedMap}
 use Rattle.map_answers.specs.Sound.{HasSoundLines}
 use Rattle.sight_run.specs.Judged.{IsJudged, IsJudgement}
 use Rattle.sight_run.specs.Check.{CheckCalls, CheckInput, IsTableOf, JudgesFetched, TakesTable, answer_of, cert_in, check_input, of_cert_fetch, of_length, of_reading, reject_of, yes_line}
-use Rattle.sight_run.specs.Sizes.{sizes_of_map}
+use Rattle.whole_wad.specs.Sizes.{sizes_of_map}
 use Rattle.sight_run.proofs.Checks.{gives_unread, gives_verdict}
 
 -- ---- the table and the certificate

@@ -14,7 +14,7 @@ use Rattle.sight_status.specs.Say.{Refused, Said, SaidIfMade}
 use Rattle.sight_status.specs.Status.{IsOfMaking}
 use Rattle.sight_status.specs.Texts.{text_of}
 use Rattle.map_answers.specs.Input.{LocatedMap}
-use Rattle.sight_run.specs.Build.{IsOfBuilding}
+use Rattle.whole_wad.specs.Built.{IsOfBuilding}
 use Rattle.sight_run.specs.Heard.{AllHeard, AreFindingsIn, AreFindingsOf, AreOfFound, BuildHears, FrontsHeard, Heard, Hears, IsUnheard, OrderHears}
 use Rattle.sight_run.specs.Reading.{found_of}
 use Rattle.sight_run.specs.Reply.{IsFaultOf}

@@ -20,7 +20,7 @@ use Rattle.cert_judge.specs.declared.judged.Judged.TheVariants as judged
 use Rattle.cert_judge.specs.Judged.{JudgedBy}
 use Rattle.cert_file.specs.Judgement.{IsJudged as IsJudgedOver, IsJudgement as IsJudgementOver}
 use Rattle.sight_run.specs.Judged.{IsJudged, IsJudgement, JudgesOf, JudgesTwoOf}
-use Rattle.sight_run.specs.Sizes.{sizes_of_map}
+use Rattle.whole_wad.specs.Sizes.{sizes_of_map}
 
 two_by_map : (p : PlanParts) (t : TableParts) (c : CertTwo) (v : AnyVerdict) → IsPlan p → JudgesTwo p t c v → JudgesTwoOf (map_of p) t c v
 two_by_map p t c v plan h = record {

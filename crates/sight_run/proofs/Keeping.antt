@@ -17,7 +17,7 @@ use Rattle.sight_run.proofs.Round.{passes, same_ok, written_again}
 use Rattle.sight_run.proofs.Stood.{IsOther, before_report, bytes_of, of_words, out_apart, under_out}
 use Rattle.shelf_io.proofs.FilesLemmas.{bytes_eq-refl}
 
-stored : (files : Files) (out bytes : List ℕ) → put files out bytes out ≡ Some bytes
+pub stored : (files : Files) (out bytes : List ℕ) → put files out bytes out ≡ Some bytes
 stored files out bytes = ap (λ (b : Bool). if b then Some bytes else files out) (bytes_eq-refl out)
 
 pub zero_keeps_lumps : ZeroKeepsLumps
@@ -67,7 +67,7 @@ build_keeps_lumps words wad name out asked report workers budget files heard ans
           found = found;
           was = e;
           table = q.built.table.bytes;
-          is_right = q.whole.len ∙ ap (λ n. div_ceil (n * n) 8) q.is_built.sectors;
+          is_right = q.is_built.is_whole.len ∙ ap (λ n. div_ceil (n * n) 8) q.is_built.sectors;
           bytes = q.bytes;
           stands = ap (λ (a : Answer). put_all files a.writes out) q.is ∙ built_stands files wad out q.bytes asked report q.spelled q.report (of_words words (order.Build wad name out asked report workers budget) is_asked);
           again = written_again name old.bytes q.built.table.bytes q.bytes found old.are other q.made;

@@ -36,7 +36,7 @@ pub passes : {A B : Type 0} (r : Result A Status) (f : A → Result B Status) (y
 passes (Ok x) f y h = record { x = x; step = refl; rest = h }
 passes (Err s) f y h = absurd cc
 
-was_wad : (r : Result WadFile WadFault) (w : WadFile) → of_wad r ≡ Ok w → r ≡ Ok w
+pub was_wad : (r : Result WadFile WadFault) (w : WadFile) → of_wad r ≡ Ok w → r ≡ Ok w
 was_wad (Ok v) w h = ap (λ (x : WadFile). Ok x) (same_ok v w h)
 was_wad (Err wad.TooManyLumps) w h = absurd cc
 was_wad (Err wad.Memory) w h = absurd cc
@@ -46,7 +46,7 @@ was_spot : (r : Result MapSpot MapFault) (s : MapSpot) → of_spot r ≡ Ok s �
 was_spot (Ok t) s h = ap (λ (x : MapSpot). Ok x) (same_ok t s h)
 was_spot (Err fault) s h = absurd cc
 
-was_printed : (r : Result (List ℕ) RewriteFault) (bytes : List ℕ) → of_rewrite r ≡ Ok bytes → r ≡ Ok bytes
+pub was_printed : (r : Result (List ℕ) RewriteFault) (bytes : List ℕ) → of_rewrite r ≡ Ok bytes → r ≡ Ok bytes
 was_printed (Ok b) bytes h = ap (λ (x : List ℕ). Ok x) (same_ok b bytes h)
 was_printed (Err rewrite.TooManyLumps) bytes h = absurd cc
 was_printed (Err rewrite.TooLong) bytes h = absurd cc
@@ -70,12 +70,12 @@ found_by : (name bytes : List ℕ) → found_in name bytes ≡ with_wad name (wa
 unfolding found_in with_map with_spot with_wad
 found_by name bytes = refl
 
-record WasFound (name bytes : List ℕ) (found : LocatedMap) : Type 0 where
-  read : wad_of bytes ≡ Ok found.wad
-  spot : spot_of (names_of found.wad) name ≡ Ok found.spot
-  map : map_at found.wad found.spot ≡ Ok found.map
+pub record WasFound (name bytes : List ℕ) (found : LocatedMap) : Type 0 where
+  pub read : wad_of bytes ≡ Ok found.wad
+  pub spot : spot_of (names_of found.wad) name ≡ Ok found.spot
+  pub map : map_at found.wad found.spot ≡ Ok found.map
 
-was_found : (name bytes : List ℕ) (found : LocatedMap) → found_in name bytes ≡ Ok found → WasFound name bytes found
+pub was_found : (name bytes : List ℕ) (found : LocatedMap) → found_in name bytes ≡ Ok found → WasFound name bytes found
 unfolding with_map with_spot with_wad
 was_found name bytes found h =
     let a = passes (of_wad (wad_of bytes)) (λ w. with_spot w (spot_of (names_of w) name)) found (sym (found_by name bytes) ∙ h) in

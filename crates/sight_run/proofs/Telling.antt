@@ -35,10 +35,11 @@ use Rattle.sight_status.specs.declared.status.Status.TheVariants as status
 use Rattle.sight_status.specs.Answer.{Answer, Gives}
 use Rattle.map_answers.specs.Counts.{counts_with, pair_count, set_from, set_pairs}
 use Rattle.map_answers.specs.Input.{LocatedMap}
-use Rattle.sight_run.specs.Build.{BuildCalls, BuildMakes, IsBuiltOf, ShowsBuild, ShowsMade, finding_counts, report_behind, with_report}
+use Rattle.sight_run.specs.Build.{BuildCalls, BuildMakes, ShowsBuild, ShowsMade, finding_counts, report_behind, with_report}
 use Rattle.sight_run.specs.Heard.{AreFindingsOf, Heard}
-use Rattle.sight_run.specs.Sizes.{sizes_of_map}
-use Rattle.sight_run.proofs.OneTable.{list_ascends}
+use Rattle.whole_wad.specs.Built.{IsBuiltOf}
+use Rattle.whole_wad.specs.Sizes.{sizes_of_map}
+use Rattle.whole_wad.proofs.OneTable.{list_ascends}
 
 -- ---- the findings of a build
 
@@ -137,7 +138,6 @@ module _ (name out : List ℕ) (asked reported : Option (List ℕ)) (budget : As
       let shows : ShowsBuild name out asked reported budget found heard whole = record {
         built = built;
         is_built = is;
-        whole = made.whole;
         bytes = made.bytes;
         made = made.made;
         spelled = spelling built.cert;
@@ -156,6 +156,6 @@ module _ (name out : List ℕ) (asked reported : Option (List ℕ)) (budget : As
 
   -- .. and one whose WAD is above a limit too
   pub gives_unmade : (s : Status) → BuildMakes name out asked found built.table (length built.listed) built.cert (Err s) → Gives (¬ HasClosedFaces found.map) (BuildCalls name out asked reported budget heard found) (Err s)
-  gives_unmade (status.Limit k) h = record { called = record { built = built; is_built = is; whole = h.0; limit = h.1 }; only = λ flawed other q. absurd (flawed is.fit) }
+  gives_unmade (status.Limit k) h = record { called = record { built = built; is_built = is; limit = h }; only = λ flawed other q. absurd (flawed is.fit) }
   gives_unmade status.Memory h = tt
   gives_unmade s h = absurd h

@@ -1,6 +1,6 @@
 -- What the order `all` reads, and what it can be refused with.
 use Rattle.std.proofs.Common.{◌≡◌, ℕ, List, Option, Some, None, Result, Ok, Err, refl, sym, ap, subst, ◌∙◌}
-use Rattle.std.specs.Prelude.{IfErr, IfOk}
+use Rattle.std.specs.Prelude.{IfErr, IfOk, ⊤}
 use Rattle.sight_names.specs.declared.faults.WadFault.{WadFault}
 use Rattle.sight_names.specs.declared.faults.WadFault.TheVariants as wad
 use Rattle.sight_names.specs.declared.names.Ask.{Ask}
@@ -14,7 +14,7 @@ use Rattle.sight_status.specs.declared.status.Status.TheVariants as status
 use Rattle.sight_status.specs.Answer.{Answer, Gives, IsTheAnswer, Makes, ◌>>=◌}
 use Rattle.sight_status.specs.Status.{IsOfBytes}
 use Rattle.map_answers.specs.Input.{of_wad}
-use Rattle.sight_run.specs.All.{IsUnread, OnWad, all_roles, wad_in}
+use Rattle.sight_run.specs.All.{OnWad, all_roles, wad_in}
 use Rattle.sight_run.specs.Obeys.{WritesEach}
 use Rattle.sight_run.specs.Reading.{of_fetch}
 use Rattle.sight_run.specs.declared.reply.Reply.{Reply}
@@ -41,13 +41,13 @@ wad_refused view wad files bytes s e made = subst (λ (r : Result (List ℕ) Sta
 
 -- ---- an answer by the WAD
 
-pub gives_unread : {V : Type 0} (view : V → WadFile) (said : Result WadFile Status) (Called : WadFile → Result Answer Status → Type 0) (s : Status) → Makes view (Err s) said → Gives (IsUnread said) (OnWad said Called) (Err s)
+pub gives_unread : {V : Type 0} (view : V → WadFile) (said : Result WadFile Status) (Called : WadFile → Result Answer Status → Type 0) (s : Status) → Makes view (Err s) said → Gives ⊤ (OnWad said Called) (Err s)
 gives_unread view said Called status.Memory made = tt
 gives_unread view said Called (status.ReadFault k) made = tt
-gives_unread view said Called s made = subst (λ (r : Result WadFile Status). IsTheAnswer (IsUnread r) (OnWad r Called) (Err s)) (sym made) (record { called = refl; only = λ sole other q. q })
+gives_unread view said Called s made = subst (λ (r : Result WadFile Status). IsTheAnswer ⊤ (OnWad r Called) (Err s)) (sym made) (record { called = refl; only = λ sole other q. q })
 
-pub gives_read : (said : Result WadFile Status) (w : WadFile) (Called : WadFile → Result Answer Status → Type 0) (r : Result Answer Status) → said ≡ Ok w → Gives ⊥ (Called w) r → Gives (IsUnread said) (OnWad said Called) r
-gives_read said w Called r e h = subst (λ (x : Result WadFile Status). Gives (IsUnread x) (OnWad x Called) r) (sym e) h
+pub gives_read : (said : Result WadFile Status) (w : WadFile) (Called : WadFile → Result Answer Status → Type 0) (r : Result Answer Status) → said ≡ Ok w → Gives ⊤ (Called w) r → Gives ⊤ (OnWad said Called) r
+gives_read said w Called r e h = subst (λ (x : Result WadFile Status). Gives ⊤ (OnWad x Called) r) (sym e) h
 
 -- ---- refusals and roles
 

@@ -1,5 +1,5 @@
 -- What the order `all` makes of a WAD.
-use Rattle.std.specs.Prelude.{◌≡◌, ℕ, List, [], ◌∷◌, ◌++◌, Option, Result, Ok, Err, codes, length, ⊤}
+use Rattle.std.specs.Prelude.{◌≡◌, ℕ, List, [], ◌∷◌, ◌++◌, Option, Result, Ok, Err, codes, length}
 use Rattle.std.specs.Fmt.{decimal}
 use Rattle.sight_names.specs.declared.faults.RewriteFault.TheVariants as rewrite
 use Rattle.sight_names.specs.declared.names.Ask.{Ask}
@@ -29,11 +29,6 @@ wad_in wad files = do
 abbrev pub OnWad : Result WadFile Status → (WadFile → Result Answer Status → Type 0) → Result Answer Status → Type 0
 OnWad (Ok w) Called answer = Called w answer
 OnWad (Err refusal) Called answer = answer ≡ Err refusal
-
--- no WAD is read
-abbrev pub IsUnread : Result WadFile Status → Type 0
-IsUnread (Ok w) = ⊥
-IsUnread (Err refusal) = ⊤
 
 -- how many maps the WAD has, and how many of them were built and refused
 abbrev pub tally_line : ℕ → ℕ → ℕ → List ℕ

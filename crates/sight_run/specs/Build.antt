@@ -1,22 +1,17 @@
 -- What the order `build` makes of a map that was found.
-use Rattle.std.specs.Prelude.{◌≡◌, ℕ, List, [], ◌∷◌, ◌++◌, Option, Some, None, Result, Ok, Err, codes, length, ⊤}
+use Rattle.std.specs.Prelude.{◌≡◌, ℕ, List, [], ◌∷◌, ◌++◌, Option, Some, None, Result, Ok, Err, codes, length, slice_get, ⊤}
 use Rattle.sight_names.specs.declared.names.Ask.{Ask}
-use Rattle.sight_names.specs.declared.names.Ask.TheVariants.{Enough, Full}
-use Rattle.sight_names.specs.Groups.{AreGroups, HasClosedFaces}
-use Rattle.sight_names.specs.Map.{Map}
+use Rattle.sight_names.specs.Groups.{HasClosedFaces}
 use Rattle.sight_names.specs.Sound.{LinesMeetAtEnds}
-use Rattle.sight_names.specs.Table.{table_bit}
 use Rattle.map_audit.specs.Audit.{IsLineFault}
 use Rattle.listeners.specs.declared.finding.Finding.{Finding}
 use Rattle.listeners.specs.Findings.{AreFindings}
 use Rattle.listeners.specs.Listening.{ListenerState, clears_in, lists_in, sets_in}
 use Rattle.listeners.specs.Told.{AreTold, AreToldInTurn, texts}
-use Rattle.reject_bits.specs.Parts.{IsWhole, TableParts}
-use Rattle.accepted_groups.specs.Accepted.{IsAcceptedAny}
+use Rattle.reject_bits.specs.Parts.{TableParts}
 use Rattle.cert_groups.specs.declared.cert.AnyCert.{AnyCert}
-use Rattle.cert_groups.specs.Grammar.{IsAnyInOrder, SpellsAny}
+use Rattle.cert_groups.specs.Grammar.{SpellsAny}
 use Rattle.group_job.specs.declared.build.GroupBuilt.{GroupBuilt}
-use Rattle.group_job.specs.Built.{DecidesByGroups, HasRaysOfFound, HasTreesOfUnspent, IsSymmetric, IsTwoOf, OfTwo, TellsSectors}
 use Rattle.output_pieces.specs.Spelled.{spelling}
 use Rattle.map_answers.specs.declared.counts.Counts.{Counts}
 use Rattle.sight_status.specs.declared.status.Bound.{Bound}
@@ -30,49 +25,10 @@ use Rattle.sight_status.specs.Answer.{Answer, Written}
 use Rattle.map_answers.specs.Counts.{counts_with, counts_words}
 use Rattle.map_answers.specs.Input.{LocatedMap}
 use Rattle.sight_run.specs.Heard.{Heard}
-use Rattle.sight_run.specs.Sizes.{sizes_of_map}
-use Rattle.map_answers.specs.Sound.{HasOpenSide, IsAuditRefusal}
+use Rattle.whole_wad.specs.Built.{IsBuiltOf}
+use Rattle.whole_wad.specs.Sizes.{sizes_of_map}
+use Rattle.map_answers.specs.Sound.{HasOpenSide}
 use Rattle.sight_run.specs.Zero.{with_table}
-
--- ---- what is built of a map
-
--- what a build of the map gives that is asked for with this budget
-pub record IsBuiltOf (m : Map) (budget : Ask) (built : GroupBuilt) : Type 0 where
-  -- lines meet at ends alone, and each face is closed
-  pub fit : HasClosedFaces m
-  pub sectors : built.table.n ≡ m.sectors
-  -- the certificate is of version 2, for a map of these sizes, and its groups are those of the map
-  pub sizes : IsTwoOf (sizes_of_map m) built.cert
-  pub in_order : IsAnyInOrder built.cert
-  pub groups : OfTwo (λ c. AreGroups m c.groups) built.cert
-  pub listed : OfTwo (λ c. c.listed ≡ built.listed) built.cert
-  -- The certificate is accepted for the table: its triangles are a good mesh, its rays sight rays, its trees whole, and each pair
-  -- has its reason. So `check` says yes to it.
-  pub accepted : IsAcceptedAny m built.table.bytes built.cert
-  -- it has a ray for just the pairs of groups of which one is found from the other
-  pub rays : OfTwo (HasRaysOfFound m budget) built.cert
-  -- each group whose budget isn't spent has its tree, but for those that need none
-  pub trees : OfTwo (HasTreesOfUnspent m budget) built.cert
-  pub symmetric : IsSymmetric built
-  -- within the budget that is asked for a bit is set exactly where the two sectors neither see each other nor are listed; the
-  -- listed pairs are just those of which some groups are listed and none are equal or found
-  pub decided : DecidesByGroups m budget built
-  -- with a budget that is enough, and without any, no pair is listed
-  pub none_listed : budget ≡ Enough → built.listed ≡ []
-  pub whole : budget ≡ Full → built.listed ≡ []
-  -- sectors whose bit is set don't see each other; those whose bit is clear do, unless their pair is listed
-  pub sight : TellsSectors m built
-
--- what was built of the map, or the refusal of its audit
-abbrev pub Builds : Map → Ask → Result GroupBuilt Status → Type 0
-Builds m budget (Ok built) = IsBuiltOf m budget built
-Builds m budget (Err refusal) = IsAuditRefusal m refusal
-
--- a refusal that building a table can end with
-abbrev pub IsOfBuilding : Status → Type 0
-IsOfBuilding (status.BadMap flaw) = ⊤
-IsOfBuilding status.Memory = ⊤
-IsOfBuilding other = ⊥
 
 -- ---- what is stored and said
 
@@ -127,7 +83,6 @@ with_report reported report (Err refusal) = Err refusal
 pub record ShowsBuild (name out : List ℕ) (asked reported : Option (List ℕ)) (budget : Ask) (found : LocatedMap) (heard : Heard) (answer : Answer) : Type 0 where
   pub built : GroupBuilt
   pub is_built : IsBuiltOf found.map budget built
-  pub whole : IsWhole built.table
   pub bytes : List ℕ
   pub made : with_table found built.table.bytes ≡ Ok bytes
   pub spelled : List ℕ
@@ -147,7 +102,6 @@ pub record ShowsBuild (name out : List ℕ) (asked reported : Option (List ℕ))
 pub record ShowsLimit (budget : Ask) (found : LocatedMap) (bound : Bound) : Type 0 where
   pub built : GroupBuilt
   pub is_built : IsBuiltOf found.map budget built
-  pub whole : IsWhole built.table
   pub limit : with_table found built.table.bytes ≡ Err (status.Limit bound)
 
 -- a refusal that comes once a map is found
@@ -175,7 +129,6 @@ BuildCalls name out asked reported budget heard found (Err other) = ⊥
 
 -- what is made of a table, its list and its certificate before any listener is told: all but the report
 pub record ShowsMade (name out : List ℕ) (asked : Option (List ℕ)) (found : LocatedMap) (table : TableParts) (listed : ℕ) (cert : AnyCert) (answer : Answer) : Type 0 where
-  pub whole : IsWhole table
   pub bytes : List ℕ
   pub made : with_table found table.bytes ≡ Ok bytes
   pub is : answer ≡ record { writes = build_writes out bytes asked (spelling cert); line = build_line name (counts_with table listed) }
@@ -183,25 +136,17 @@ pub record ShowsMade (name out : List ℕ) (asked : Option (List ℕ)) (found : 
 -- .. or why it isn't
 abbrev pub BuildMakes : List ℕ → List ℕ → Option (List ℕ) → LocatedMap → TableParts → ℕ → AnyCert → Result Answer Status → Type 0
 BuildMakes name out asked found table listed cert (Ok answer) = ShowsMade name out asked found table listed cert answer
-BuildMakes name out asked found table listed cert (Err (status.Limit bound)) = IsWhole table × (with_table found table.bytes ≡ Err (status.Limit bound))
+BuildMakes name out asked found table listed cert (Err (status.Limit bound)) = with_table found table.bytes ≡ Err (status.Limit bound)
 BuildMakes name out asked found table listed cert (Err status.Memory) = ⊤
 BuildMakes name out asked found table listed cert (Err other) = ⊥
 
 -- ---- what all builds of a map have in common
 
--- The two have one table and one list.
-pub record HaveOneTable (one other : GroupBuilt) : Type 0 where
-  pub sectors : one.table.n ≡ other.table.n
-  pub len : length one.table.bytes ≡ length other.table.bytes
-  pub bits : (k : ℕ) → table_bit one.table.bytes k ≡ table_bit other.table.bytes k
-  pub listed : one.listed ≡ other.listed
+-- All that `build` answers of a map within a budget says one line, and writes one WAD, byte for byte.
+pub record SayOneThing (one other : Answer) : Type 0 where
+  pub line : one.line ≡ other.line
+  pub wad : slice_get one.writes 0 ≡ slice_get other.writes 0
 
--- What is built of a map within a budget has one table and one list, by how many workers ever; so two builds can differ in the rays
--- and the trees of their certificates alone.
-abbrev pub BuildsHaveOneTable : Type 0
-BuildsHaveOneTable = (m : Map) (budget : Ask) (one other : GroupBuilt) → IsBuiltOf m budget one → IsWhole one.table → IsBuiltOf m budget other → IsWhole other.table → HaveOneTable one other
-
--- .. and all that `build` answers of it says one line
-abbrev pub BuildsSayOneLine : Type 0
-BuildsSayOneLine = (name out : List ℕ) (asked reported : Option (List ℕ)) (budget : Ask) (found : LocatedMap) (heard others : Heard) (one other : Answer)
-    → BuildCalls name out asked reported budget heard found (Ok one) → BuildCalls name out asked reported budget others found (Ok other) → one.line ≡ other.line
+abbrev pub BuildsSayOneThing : Type 0
+BuildsSayOneThing = (name out : List ℕ) (asked reported : Option (List ℕ)) (budget : Ask) (found : LocatedMap) (heard others : Heard) (one other : Answer)
+    → BuildCalls name out asked reported budget heard found (Ok one) → BuildCalls name out asked reported budget others found (Ok other) → SayOneThing one other

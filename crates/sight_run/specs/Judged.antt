@@ -14,7 +14,7 @@ use Rattle.cert_judge.specs.declared.judged.Judged.{Judged}
 use Rattle.cert_judge.specs.Judged.{JudgedBy}
 use Rattle.group_checker.specs.declared.verdict.AnyVerdict.{AnyVerdict}
 use Rattle.group_checker.specs.Judged.{InWordsOfOne, IsYesAny, JudgesOne, TellsGroups, TellsMesh, TellsPairs, TellsSightAny}
-use Rattle.sight_run.specs.Sizes.{sizes_of_map}
+use Rattle.whole_wad.specs.Sizes.{sizes_of_map}
 
 -- Of a certificate of version 2: the first fault in the order of mesh, groups, rays, trees and pairs, over the map with the same
 -- lines whose sectors are the groups and whose sides name the labels of their triangles.

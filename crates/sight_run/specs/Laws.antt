@@ -1,29 +1,46 @@
--- What is built is checked: the answer of `check` to what `build` wrote.
-use Rattle.std.specs.Prelude.{◌≡◌, ◌≤◌, ℕ, false, List, ◌++◌, length, Option, Some, Result, Ok, codes, ⊤}
+-- What holds of the orders together: the answer of `check` to what `build` wrote, what written WADs keep, and how runs end where nothing failed.
+use Rattle.std.specs.Prelude.{◌≡◌, ◌⊎◌, ◌≤◌, ◌<◌, ◌^◌, ℕ, false, List, ◌++◌, length, Contains, Option, Some, Result, Ok, Err, codes, ⊤}
+use Rattle.std.specs.List.{AllByRecursion}
 use Rattle.std.specs.Option.{option_map}
+use Rattle.sight_names.specs.declared.faults.RewriteFault.TheVariants as rewrite
 use Rattle.sight_names.specs.declared.names.Ask.{Ask}
+use Rattle.sight_names.specs.Groups.{HasClosedFaces}
 use Rattle.sight_names.specs.Map.{Map}
 use Rattle.sight_names.specs.Table.{IsTable}
 use Rattle.shelf_io.specs.Shelf.{Files, ShelfState}
 use Rattle.shelf_io.specs.Sink.{SinkState}
 use Rattle.wad_dir.specs.Map.{same_name}
+use Rattle.wad_dir.specs.Wad.{WadFile, names_of, wad_of}
 use Rattle.wad_rewrite.specs.Again.{IsReadAgain}
+use Rattle.all_maps.specs.declared.parts.Change.{Change}
+use Rattle.all_maps.specs.All.{HasReject, IsAll}
+use Rattle.all_maps.specs.Names.{word_of}
+use Rattle.all_maps.specs.Spliced.{spliced}
+use Rattle.group_job.specs.declared.build.GroupBuilt.{GroupBuilt}
 use Rattle.order_words.specs.declared.order.Order.TheVariants as order
 use Rattle.cert_checker.specs.declared.verdict.Totals.{Totals}
 use Rattle.map_answers.specs.declared.counts.Counts.{Counts}
+use Rattle.sight_status.specs.declared.status.Bound.TheVariants as bound
 use Rattle.sight_status.specs.declared.status.Role.TheVariants as role
 use Rattle.sight_status.specs.declared.status.Status.{Status}
 use Rattle.sight_status.specs.declared.status.Status.TheVariants as status
 use Rattle.sight_status.specs.Answer.{Answer, only_line}
-use Rattle.sight_run.specs.Build.{build_line}
+use Rattle.whole_wad.specs.declared.outcomes.MapOutcome.{MapOutcome}
+use Rattle.whole_wad.specs.declared.tables.MapTable.{MapTable}
+use Rattle.whole_wad.specs.Built.{IsBuiltOf}
+use Rattle.whole_wad.specs.Outcomes.{AreOutcomes, changes_of}
+use Rattle.whole_wad.specs.Tables.{IsFlawOf}
+use Rattle.whole_wad.specs.Whole.{IsAboveLimit}
+use Rattle.sight_run.specs.All.{wad_in}
+use Rattle.sight_run.specs.Build.{ShowsLimit, build_line}
 use Rattle.sight_run.specs.Check.{yes_line}
-use Rattle.map_answers.specs.Input.{LocatedMap}
+use Rattle.map_answers.specs.Input.{LocatedMap, map_named}
 use Rattle.sight_run.specs.Heard.{Heard}
 use Rattle.sight_run.specs.Reading.{found_of}
 use Rattle.sight_run.specs.Obeys.{IsAnswer}
-use Rattle.sight_run.specs.Run.{RunEnds, put_all}
+use Rattle.sight_run.specs.Run.{NothingRose, RunEnds, StatusCause, put_all}
 use Rattle.sight_run.specs.Words.{asked_of}
-use Rattle.sight_run.specs.Zero.{clear_table}
+use Rattle.sight_run.specs.Zero.{clear_table, with_table}
 
 -- the words ask for a build of this map into OUT with its certificate in FILE, and the others for the check of just these
 pub record AskBoth (build check : List (List ℕ)) (name out cert : List ℕ) : Type 0 where
@@ -117,3 +134,103 @@ abbrev pub BuildKeepsLumps : Type 0
 BuildKeepsLumps = (words : List (List ℕ)) (wad name out : List ℕ) (asked report : Option (List ℕ)) (workers : ℕ) (budget : Ask) (files : Files) (heard : Heard) (answer : Answer)
     → asked_of words ≡ Ok (order.Build wad name out asked report workers budget) → same_name (codes "REJECT") name ≡ false → IsAnswer words files heard (Ok answer)
     → KeepsLumps wad name out files (put_all files answer.writes) HasTableLength
+
+-- ---- what `all` writes
+
+-- what was built, without its certificate
+abbrev pub table_built : GroupBuilt → MapTable
+table_built built = record { table = built.table; listed = built.listed }
+
+-- What `all` makes of a map is what `build` makes of it within the same budget: the same table, byte for byte, and the same list, or the same flaw.
+pub record AreMadeAlike (found : LocatedMap) (name : List ℕ) (budget : Ask) (outcomes : List MapOutcome) : Type 0 where
+  pub tables : (o : MapOutcome) → Contains outcomes o → word_of o.name ≡ name → (built : GroupBuilt) → IsBuiltOf found.map budget built → o.made ≡ Ok (table_built built)
+  pub flaws : (o : MapOutcome) → Contains outcomes o → word_of o.name ≡ name → (refusal : Status) → IsFlawOf found.map refusal → o.made ≡ Err refusal
+
+abbrev pub AllIsAsBuild : Type 0
+AllIsAsBuild = (wad name : List ℕ) (files : Files) (w : WadFile) (found : LocatedMap) (budget : Ask) (outcomes : List MapOutcome)
+    → wad_in wad files ≡ Ok w → found_of wad name files ≡ Ok found → AreOutcomes w budget outcomes → AreMadeAlike found name budget outcomes
+
+-- a table has the length that the sectors of its map ask
+abbrev pub HasLengthOf : Result Map Status → Result MapTable Status → Type 0
+HasLengthOf (Ok m) (Ok made) = IsTable m.sectors made.table.bytes
+HasLengthOf said other = ⊤
+
+-- Under OUT stands a WAD that is read as the one of the file in which each map that got a table has it as its REJECT, and in which all
+-- other lumps are as they were, in order.
+pub record KeepsAllLumps (wad out : List ℕ) (budget : Ask) (files stand : Files) : Type 0 where
+  pub w : WadFile
+  pub was : wad_in wad files ≡ Ok w
+  pub outcomes : List MapOutcome
+  pub are : AreOutcomes w budget outcomes
+  pub lengths : AllByRecursion (λ (o : MapOutcome). HasLengthOf (map_named w (word_of o.name)) o.made) outcomes
+  pub bytes : List ℕ
+  pub stands : stand out ≡ Some bytes
+  pub short : length bytes < 2 ^ 31
+  pub new : WadFile
+  pub read : wad_of bytes ≡ Ok new
+  -- each table is put in at the map that its name finds in what those before it left, and the name finds it there at the end
+  pub made : IsAll w (changes_of outcomes) new
+  pub tables : AllByRecursion (λ (c : Change). HasReject new c.name c.table) (changes_of outcomes)
+  -- what lies before, between and behind these REJECTs is what it was
+  pub lumps : new.lumps ≡ spliced (names_of w) w.lumps 0 (changes_of outcomes)
+
+-- Where `all` is answered, OUT holds such a WAD.
+abbrev pub AllKeepsLumps : Type 0
+AllKeepsLumps = (words : List (List ℕ)) (wad out : List ℕ) (report : Option (List ℕ)) (workers : ℕ) (budget : Ask) (files : Files) (heard : Heard) (answer : Answer)
+    → asked_of words ≡ Ok (order.All wad out report workers budget) → IsAnswer words files heard (Ok answer)
+    → KeepsAllLumps wad out budget files (put_all files answer.writes)
+
+-- ---- where nothing failed
+
+-- how a run went: the files, the shelf, the sink and the listeners before and after it, and its status
+pub record Went : Type 0 where
+  pub files : Files
+  pub heard : Heard
+  pub before : ShelfState
+  pub after : ShelfState
+  pub sink : Sinks
+  pub status : Status
+
+-- as `run` promises, and no count of faults rose
+pub record WentWell (words : List (List ℕ)) (went : Went) : Type 0 where
+  pub ends : RunEnds words went.files went.heard went.before went.after went.sink.old went.sink.new went.status
+  pub cause : StatusCause went.before went.after went.sink.old went.sink.new went.status
+  pub quiet : NothingRose went.before went.after went.sink.old went.sink.new
+
+-- it is done, unless memory ran out, or the WAD with the table is above that limit
+abbrev pub EndsBuild : Ask → LocatedMap → Status → Type 0
+EndsBuild budget found status.Done = ⊤
+EndsBuild budget found status.Memory = ⊤
+EndsBuild budget found (status.Limit bound) = ShowsLimit budget found bound
+EndsBuild budget found other = ⊥
+
+-- A build of a map that the audit accepts ends so.
+abbrev pub BuildIsDone : Type 0
+BuildIsDone = (words : List (List ℕ)) (wad name out : List ℕ) (asked report : Option (List ℕ)) (workers : ℕ) (budget : Ask) (went : Went) (found : LocatedMap)
+    → asked_of words ≡ Ok (order.Build wad name out asked report workers budget) → found_of wad name went.files ≡ Ok found → HasClosedFaces found.map
+    → WentWell words went → EndsBuild budget found went.status
+
+-- the WAD with a clear REJECT for the map, as `zero` writes it, is within the limits; so is the one with any other table of its sectors
+pub record HasRoom (found : LocatedMap) : Type 0 where
+  pub bytes : List ℕ
+  pub clear : with_table found (clear_table found.map.sectors) ≡ Ok bytes
+
+-- Where there is room it ends with Done, or for want of memory.
+abbrev pub BuildWithRoomIsDone : Type 0
+BuildWithRoomIsDone = (words : List (List ℕ)) (wad name out : List ℕ) (asked report : Option (List ℕ)) (workers : ℕ) (budget : Ask) (went : Went) (found : LocatedMap)
+    → asked_of words ≡ Ok (order.Build wad name out asked report workers budget) → found_of wad name went.files ≡ Ok found → HasClosedFaces found.map → HasRoom found
+    → WentWell words went → (went.status ≡ status.Done) ⊎ (went.status ≡ status.Memory)
+
+-- it is done, unless memory ran out, or the WAD with all tables is above that limit
+abbrev pub EndsAll : Ask → WadFile → Status → Type 0
+EndsAll budget w status.Done = ⊤
+EndsAll budget w status.Memory = ⊤
+EndsAll budget w (status.Limit bound.Lumps) = IsAboveLimit w budget rewrite.TooManyLumps
+EndsAll budget w (status.Limit bound.OutputBytes) = IsAboveLimit w budget rewrite.TooLong
+EndsAll budget w other = ⊥
+
+-- `all` of a WAD that is read ends so.
+abbrev pub AllIsDone : Type 0
+AllIsDone = (words : List (List ℕ)) (wad out : List ℕ) (report : Option (List ℕ)) (workers : ℕ) (budget : Ask) (went : Went) (w : WadFile)
+    → asked_of words ≡ Ok (order.All wad out report workers budget) → wad_in wad went.files ≡ Ok w
+    → WentWell words went → EndsAll budget w went.status

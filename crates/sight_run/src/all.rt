@@ -1,12 +1,12 @@
 //! The order `all`: the table of each map of a WAD in the place of its REJECT, and a line on each map where a report is asked for.
 
-ghost use Rattle.std.specs.Prelude.{◌≡◌, ◌+◌, ◌≤◌, ℕ, List, IfErr, IfOk, OnErr, All, Some, length, string_bytes};
+ghost use Rattle.std.specs.Prelude.{◌≡◌, ◌+◌, ◌≤◌, ℕ, List, IfErr, IfOk, OnErr, All, Some, length, string_bytes, ⊤};
 ghost use Rattle.shelf_io.specs.Shelf.{Files, NoneFell};
 ghost use Rattle.wad_dir.specs.Map.{entry_names};
 ghost use Rattle.wad_dir.specs.Wad.{WadFile, file_of, names_of};
 ghost use Rattle.order_words.specs.declared.order.Order.TheVariants as order;
 ghost use Rattle.sight_status.specs.Answer.{Gives};
-ghost use Rattle.sight_run.specs.All.{AllCalls, IsUnread, OnWad, all_roles, all_writes, tally_line, wad_in};
+ghost use Rattle.sight_run.specs.All.{AllCalls, OnWad, all_roles, all_writes, tally_line, wad_in};
 ghost use Rattle.sight_run.specs.Reply.{replied, reply_seen, roles_of, writes};
 ghost use Rattle.sight_run.specs.Run.{Cause, IsOfAll};
 ghost use Rattle.sight_status.specs.Status.{IsOfMaking};
@@ -81,7 +81,7 @@ fn make_reply<R: Threads + Sync, G: Gate + Sync, N: Notice>(
     requires inside { All (λ entry. entry.at + entry.size ≤ length bytes.now) wad.now.entries }
     requires names { names_of (file_of bytes.now wad.now) ≡ entry_names wad.now.entries }
     requires workers { (1 ≤ workers) × (workers ≤ 64) }
-    ensures called { Gives ⊥ (AllCalls out.now report.now budget (file_of bytes.now wad.now)) (reply_seen result) }
+    ensures called { Gives ⊤ (AllCalls out.now report.now budget (file_of bytes.now wad.now)) (reply_seen result) }
     ensures refusals { IfErr result IsOfMaking }
     ensures roles { IfOk result (λ reply. roles_of (writes reply) ≡ all_roles report.now) }
 {
@@ -111,7 +111,7 @@ pub fn do_all<R: Threads + Sync, S: Shelf, G: Gate + Sync, N: Notice>(
     notice: &N,
 ) -> Result<Reply, Status>
     requires workers { (1 ≤ workers) × (workers ≤ 64) }
-    ensures told { (files : Files) → (S.state shelf.old).files ≡ Some files → Gives (IsUnread (wad_in wad.now files)) (OnWad (wad_in wad.now files) (AllCalls out.now report.now budget)) (reply_seen result) }
+    ensures told { (files : Files) → (S.state shelf.old).files ≡ Some files → Gives ⊤ (OnWad (wad_in wad.now files) (AllCalls out.now report.now budget)) (reply_seen result) }
     ensures files { (S.state shelf.new).files ≡ (S.state shelf.old).files }
     ensures counts { NoneFell (S.state shelf.old) (S.state shelf.new) }
     ensures cause { Cause (S.state shelf.old) (S.state shelf.new) result }

@@ -11,7 +11,6 @@ ghost use Rattle.sight_run.specs.Check.{JudgesFetched, of_cert_fetch};
 ghost use Rattle.sight_run.specs.Judged.{IsJudged, IsJudgement};
 ghost use Rattle.sight_run.specs.Run.{Cause};
 
-use crate::build::has_sizes_of_map;
 use cert_file::judge_file;
 use cert_groups::AnyCert;
 use cert_judge::Judged;
@@ -21,6 +20,7 @@ use shelf_io::Shelf;
 use sight_names::{FetchFault, Memory, Plan};
 use sight_status::{Bound, Role, Status};
 use std::alloc::Global;
+use whole_wad::has_sizes_of_map;
 
 /// The verdict by a certificate for a map of the plan's sizes.
 pub fn verdict_of(

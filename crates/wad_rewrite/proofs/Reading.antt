@@ -14,12 +14,12 @@ use Rattle.wad_rewrite.specs.Rewrite.{printed}
 same_bytes : (x y : List ℕ) → ◌≡◌ {A = Result (List ℕ) RewriteFault} (Ok x) (Ok y) → x ≡ y
 same_bytes x y e = cc
 
-record IsPrinted (w : WadFile) (bytes : List ℕ) : Type 0 where
-  read : wad_of bytes ≡ Ok w
-  short : length bytes < 2 ^ 31
+pub record IsPrinted (w : WadFile) (bytes : List ℕ) : Type 0 where
+  pub read : wad_of bytes ≡ Ok w
+  pub short : length bytes < 2 ^ 31
 
 -- what was printed is read
-printed_reads : (w : WadFile) (bytes : List ℕ) → HasNames w.lumps → printed w ≡ Ok bytes → IsPrinted w bytes
+pub printed_reads : (w : WadFile) (bytes : List ℕ) → HasNames w.lumps → printed w ≡ Ok bytes → IsPrinted w bytes
 unfolding printed
 printed_reads w bytes names h = by (nat_lt 65536 (length w.lumps)) (nat_le (2 ^ 31) (printed_len w.lumps)) refl refl h
   where

@@ -1,3 +1,6 @@
+pub mod PlanSizes
+pub mod OneTable
+pub mod OneOutcome
 pub mod Refusing
 pub mod Telling
 pub mod Changing

@@ -1,3 +1,5 @@
+pub mod Sizes
+pub mod Built
 pub mod Tables
 pub mod Outcomes
 pub mod Report

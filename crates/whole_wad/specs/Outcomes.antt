@@ -1,5 +1,5 @@
 -- What comes of each map of a WAD.
-use Rattle.std.specs.Prelude.{◌≡◌, ℕ, List, [], ◌∷◌, map, filter_map, Option, Some, None, Result, Ok, Err}
+use Rattle.std.specs.Prelude.{◌≡◌, ℕ, List, map, filter_map, Option, Some, None, Result, Ok, Err}
 use Rattle.std.specs.List.{AllByRecursion}
 use Rattle.sight_names.specs.declared.names.Ask.{Ask}
 use Rattle.wad_dir.specs.Wad.{WadFile, names_of}
@@ -37,3 +37,7 @@ changes_of outcomes = filter_map (λ (o : MapOutcome). change_by o.name o.made) 
 -- why the other ones got none
 abbrev pub refusals_of : List MapOutcome → List Status
 refusals_of outcomes = filter_map (λ (o : MapOutcome). refusal_in o.made) outcomes
+
+-- There is one such list: what comes of the maps of a WAD within a budget is one.
+abbrev pub OutcomesAreOne : Type 0
+OutcomesAreOne = (w : WadFile) (budget : Ask) (one other : List MapOutcome) → AreOutcomes w budget one → AreOutcomes w budget other → one ≡ other

@@ -1,12 +1,16 @@
-//! Every map of a WAD built, one by one: their tables, the new WAD, and the lines of the report.
+//! The build of a map, and every map of a WAD built, one by one: their tables, the new WAD, and the lines of the report.
 #![tactic(auto)]
 
+mod built;
+mod laws;
 mod notice;
 mod outcomes;
 mod report;
 mod tables;
 mod whole;
 
+pub use built::{build, has_sizes_of_map};
+pub use laws::{builds_have_one_table, outcomes_are_one};
 pub use notice::{NoNotice, Notice};
 pub use outcomes::MapOutcome;
 pub use tables::MapTable;

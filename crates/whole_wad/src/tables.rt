@@ -3,21 +3,20 @@
 ghost use Rattle.std.specs.Prelude.{◌≡◌, ◌≤◌, IfErr, IfOk, Ok};
 ghost use Rattle.sight_names.specs.Map.{map_of};
 ghost use Rattle.sight_names.specs.Sound.{LinesMeetAtEnds};
-ghost use Rattle.cert_format.specs.Sizes.{sizes_of};
 ghost use Rattle.cert_groups.specs.Grammar.{IsAnyInOrder};
 ghost use Rattle.accepted_groups.specs.Accepted.{IsAcceptedAny};
 ghost use Rattle.group_job.specs.Built.{IsTwoOf};
 ghost use Rattle.sight_status.specs.declared.status.Status.TheVariants as status;
+ghost use Rattle.whole_wad.specs.Sizes.{sizes_of_map};
 ghost use Rattle.whole_wad.specs.Tables.{GetsOrMemory};
 
+use crate::built::{build, has_sizes_of_map};
 use check_workers::check_any_par;
-use face_groups::GroupFault;
 use group_checker::AnyVerdict;
-use group_job::{GroupBuilt, build_table};
-use map_answers::audit_lines_of;
+use group_job::GroupBuilt;
 use reject_bits::Table;
 use sight_names::{Ask, Items, Pair, Plan};
-use sight_status::{Flaw, Status};
+use sight_status::Status;
 use sight_workers::Gate;
 use std::alloc::Global;
 use std::thread::Threads;
@@ -38,13 +37,14 @@ fn judged<R: Threads + Sync>(
 ) -> Result<MapTable, Status>
     requires audited { LinesMeetAtEnds (map_of plan.now) }
     requires sectors { built.table.n ≡ plan.now.sectors }
-    requires sizes { IsTwoOf (sizes_of plan.now) built.cert }
+    requires sizes { IsTwoOf (sizes_of_map (map_of plan.now)) built.cert }
     requires in_order { IsAnyInOrder built.cert }
     requires accepted { IsAcceptedAny (map_of plan.now) built.table.bytes built.cert }
     ensures table { IfOk result (λ made. made.table ≡ built.table) }
     ensures listed { IfOk result (λ made. made.listed ≡ built.listed) }
     ensures refusals { IfErr result (λ s. s ≡ status.Memory) }
 {
+    has_sizes_of_map(plan);
     match check_any_par(rt, alloc, plan, &built.table, &built.cert) {
         Ok(AnyVerdict::Yes(_)) => Ok(MapTable {
             table: built.table,
@@ -56,28 +56,7 @@ fn judged<R: Threads + Sync>(
     }
 }
 
-/// The table of a map whose lines meet at ends, or the flaw of its faces.
-fn table_between<R: Threads + Sync, G: Gate + Sync>(
-    rt: &R,
-    alloc: Global,
-    plan: &Plan,
-    workers: u16,
-    budget: Ask,
-    gate: &G,
-) -> Result<MapTable, Status>
-    requires audited { LinesMeetAtEnds (map_of plan.now) }
-    requires workers { (1 ≤ workers) × (workers ≤ 64) }
-    ensures { GetsOrMemory (Ok (map_of plan.now)) budget result }
-{
-    match build_table(rt, alloc, plan, workers, budget, gate) {
-        Ok(built) => judged(rt, alloc, plan, built),
-        Err(GroupFault::Open { side }) => Err(Status::BadMap(Flaw::Open(side))),
-        Err(GroupFault::Memory) => Err(Status::Memory),
-    }
-}
-
-/// The table of a map within the budget that is asked for, or the first flaw for which it gets none. How maps are built
-/// is said here alone.
+/// The table of a map within the budget that is asked for, or the first flaw for which it gets none.
 pub fn table_of<R: Threads + Sync, G: Gate + Sync>(
     rt: &R,
     alloc: Global,
@@ -89,6 +68,6 @@ pub fn table_of<R: Threads + Sync, G: Gate + Sync>(
     requires workers { (1 ≤ workers) × (workers ≤ 64) }
     ensures { GetsOrMemory (Ok (map_of plan.now)) budget result }
 {
-    audit_lines_of(plan)?;
-    table_between(rt, alloc, plan, workers, budget, gate)
+    let built = build(rt, alloc, plan, workers, budget, gate)?;
+    judged(rt, alloc, plan, built)
 }

@@ -2,7 +2,7 @@ use Rattle.std.proofs.Common.{sym, ◌∙◌}
 use Rattle.std.proofs.lemmas.Result.{err_from_is_err_and}
 use Rattle.sight_names.specs.Map.{map_of}
 use Rattle.group_job.proofs.TwoSizes.{sizes_are}
-use Rattle.sight_run.specs.Sizes.{sizes_of_map}
+use Rattle.whole_wad.specs.Sizes.{sizes_of_map}
 use Rattle.sight_run.proofs.Gridding.{gives_line, gives_unmade}
 use Rattle.sight_run.proofs.grid.judge_map.Goals as goal
 
@@ -19,5 +19,5 @@ verdict_of-requires-clause-sizes g c = sizes_are (sizes_of_map (map_of c.args.pl
 
 pub returns-in-Ok-Yes-clause-called : goal.returns-in-Ok-Yes-clause-called
 returns-in-Ok-Yes-clause-called g c =
-    gives_line c.args.n c.args.budget (map_of c.args.plan.now) c.in_ok-built.built c.in_ok-built.ensures.built c.counted_line.ensures.whole
+    gives_line c.args.n c.args.budget (map_of c.args.plan.now) c.in_ok-built.built c.in_ok-built.ensures.built
     c.in-Ok-Yes.field-0 c.in-Ok-Yes.ensures c.in-Ok-Yes.field-0-0 c.in-Ok-Yes.field-0-is c.counted_line.result c.counted_line.ensures.line c.counted_line.ensures.refusals

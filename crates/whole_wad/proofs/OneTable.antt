@@ -1,11 +1,10 @@
--- All builds of a map within one budget have one table and one list, and so they say one line: the sequences of the sources fix what is listed, and sight fixes each bit of a pair that isn't.
-use Rattle.std.proofs.Common.{◌≡◌, ℕ, zero, suc, ◌+◌, ◌-◌, ◌*◌, ◌/◌, ◌%◌, ◌<◌, ◌≤◌, ◌==◌, inl, inr, List, length, Contains, sym, ap, ◌∙◌, subst, arith, zero-lt-suc}
+-- All builds of a map within one budget have one table, byte for byte, and one list: the sequences of the sources fix what is listed, and sight fixes each bit of a pair that isn't.
+use Rattle.std.proofs.Common.{◌≡◌, ℕ, zero, suc, ◌+◌, ◌*◌, ◌/◌, ◌%◌, ◌<◌, ◌≤◌, inl, inr, List, length, get_or, Contains, sym, ap, ◌∙◌, subst, arith, zero-lt-suc}
 use Rattle.std.specs.Int.{bit_at, div_ceil}
-use Rattle.std.specs.List.{count_by, range_with_len, sum_by}
 use Rattle.std.proofs.Math.Nat.{div-lt_iff_lt-mul, mod-lt}
-use Rattle.std.proofs.lemmas.List.{get_or_past}
+use Rattle.std.proofs.lemmas.List.{ext_get_or, get_or_past}
 use Rattle.std.proofs.lemmas.Nat.{div-add-mod'}
-use Rattle.std.proofs.lemmas.Nat.Bits.{bit_at-lt, bit_at-zero}
+use Rattle.std.proofs.lemmas.Nat.Bits.{bit_at-lt, bit_at-zero, same_from_bits_below}
 use Rattle.sight_names.specs.declared.names.Ask.{Ask}
 use Rattle.sight_names.specs.declared.names.Ask.TheVariants.{Of as AskOf, Full as AskFull, Enough}
 use Rattle.sight_names.specs.declared.names.Budget.{Budget}
@@ -25,11 +24,7 @@ use Rattle.cert_groups.specs.Grammar.{IsAnyInOrder}
 use Rattle.sight_names.specs.Order.{Ascends, PairBefore}
 use Rattle.group_job.specs.declared.build.GroupBuilt.{GroupBuilt}
 use Rattle.group_job.specs.Built.{OfTwo}
-use Rattle.map_answers.specs.declared.counts.Counts.{Counts}
-use Rattle.sight_status.specs.Answer.{Answer, only_line}
-use Rattle.sight_run.specs.Build.{BuildsSayOneLine, HaveOneTable, IsBuiltOf, build_line}
-use Rattle.map_answers.specs.Counts.{counts_with, pair_count, set_from, set_pairs}
-use Rattle.sight_run.specs.Grid.{ShowsGrid, grid_line}
+use Rattle.whole_wad.specs.Built.{AreBytes, HaveOneTable, IsBuiltOf}
 use Rattle.list_base.proofs.Numbers.{same_bit, below_or_not}
 
 -- ---- numbers
@@ -40,6 +35,21 @@ some_sector k (suc n) h = zero-lt-suc n
 
 past_bytes : (l k : ℕ) → 8 * l ≤ k → l ≤ k / 8
 past_bytes l k h = omega arith
+
+-- ---- bytes by their bits
+
+byte_of : (i j : ℕ) → j < 8 → (8 * i + j) / 8 ≡ i
+byte_of i j h = omega (arith, h)
+
+bit_in_byte : (i j : ℕ) → j < 8 → (8 * i + j) % 8 ≡ j
+bit_in_byte i j h = omega (arith, h)
+
+-- a bit of a byte is the bit at its place in the list
+placed_bit : (xs : List ℕ) (i j : ℕ) → j < 8 → table_bit xs (8 * i + j) ≡ bit_at (get_or xs i 0) j
+placed_bit xs i j h = (λ k. bit_at (get_or xs (byte_of i j h k) 0) (bit_in_byte i j h k))
+
+same_bytes : (xs ys : List ℕ) → length xs ≡ length ys → AreBytes xs → AreBytes ys → ((k : ℕ) → table_bit xs k ≡ table_bit ys k) → xs ≡ ys
+same_bytes xs ys len fit fit_too bits = ext_get_or 0 xs ys len (λ i lt. same_from_bits_below 8 (get_or xs i 0) (get_or ys i 0) (fit i) (fit_too i) (λ j small. sym (placed_bit xs i j small) ∙ bits (8 * i + j) ∙ placed_bit ys i j small))
 
 -- ---- pairs in order
 
@@ -107,14 +117,16 @@ module _ (m : Map) (budget : Ask) (one other : GroupBuilt) (is_one : IsBuiltOf m
       (λ bit. sym there ∙ set_too m budget one other is_one is_other a b la lb (here ∙ bit))
       (λ bit. sym here ∙ set_too m budget other one is_other is_one a b la lb (there ∙ bit))
 
-  pub one_table : IsWhole one.table → IsWhole other.table → HaveOneTable one other
-  one_table whole other_whole = record {
-    sectors = sectors;
-    len = whole.len ∙ ap (λ (n : ℕ). div_ceil (n * n) 8) sectors ∙ sym other_whole.len;
-    bits = λ k. elim (below_or_not k (m.sectors * m.sectors)) as (λ _. table_bit one.table.bytes k ≡ table_bit other.table.bytes k) [
-      | inl lt ↦ pair_bit k lt
-      | inr past ↦ spare_clear m.sectors one.table is_one.sectors whole k past ∙ sym (spare_clear m.sectors other.table is_other.sectors other_whole k past)
-    ];
+  one_bit : (k : ℕ) → table_bit one.table.bytes k ≡ table_bit other.table.bytes k
+  one_bit k = elim (below_or_not k (m.sectors * m.sectors)) as (λ _. table_bit one.table.bytes k ≡ table_bit other.table.bytes k) [
+    | inl lt ↦ pair_bit k lt
+    | inr past ↦ spare_clear m.sectors one.table is_one.sectors is_one.is_whole k past ∙ sym (spare_clear m.sectors other.table is_other.sectors is_other.is_whole k past)
+  ]
+
+  -- they have one table and one list
+  pub one_table : HaveOneTable one other
+  one_table = record {
+    table = λ i. record { n = sectors i; bytes = bytes i };
     listed = same_ascending PairBefore not_before_itself not_both_before one.listed other.listed (list_ascends one.cert one.listed is_one.in_order is_one.listed) (list_ascends other.cert other.listed is_other.in_order is_other.listed)
         (listed_too m budget one other is_one is_other) (listed_too m budget other one is_other is_one);
   }
@@ -122,31 +134,8 @@ module _ (m : Map) (budget : Ask) (one other : GroupBuilt) (is_one : IsBuiltOf m
       sectors : one.table.n ≡ other.table.n
       sectors = is_one.sectors ∙ sym is_other.sectors
 
--- ---- what is counted of them
+      len : length one.table.bytes ≡ length other.table.bytes
+      len = is_one.is_whole.len ∙ ap (λ (n : ℕ). div_ceil (n * n) 8) sectors ∙ sym is_other.is_whole.len
 
-same_set : (t u : TableParts) → t.n ≡ u.n → ((k : ℕ) → table_bit t.bytes k ≡ table_bit u.bytes k) → set_pairs t ≡ set_pairs u
-unfolding set_pairs set_from
-same_set t u e bits = λ i. sum_by (λ a. count_by (λ b. bit a b i == 1) (range_with_len a (e i - a))) (range_with_len 0 (e i))
-  where
-    bit : (a b : ℕ) → table_bit t.bytes (a * t.n + b) ≡ table_bit u.bytes (a * u.n + b)
-    bit a b = bits (a * t.n + b) ∙ ap (λ (n : ℕ). table_bit u.bytes (a * n + b)) e
-
-pub same_counts : (one other : GroupBuilt) → HaveOneTable one other → counts_with one.table (length one.listed) ≡ counts_with other.table (length other.listed)
-same_counts one other same =
-    let n = same.sectors in
-    let s = same_set one.table other.table same.sectors same.bits in
-    let l = ap length same.listed in
-    λ i. record { sectors = n i; set = s i; clear = pair_count (n i) - s i - l i; listed = l i }
-
--- ---- what is said of them
-
-module _ (m : Map) (budget : Ask) (one other : GroupBuilt) (is_one : IsBuiltOf m budget one) (whole : IsWhole one.table) (is_other : IsBuiltOf m budget other) (other_whole : IsWhole other.table) where
-  pub one_count : counts_with one.table (length one.listed) ≡ counts_with other.table (length other.listed)
-  one_count = same_counts one other (one_table m budget one other is_one is_other whole other_whole)
-
-pub one_line : BuildsSayOneLine
-one_line name out asked reported budget found heard others one other p q =
-    ap (λ (a : Answer). a.line) p.is ∙ ap (build_line name) (one_count found.map budget p.built q.built p.is_built p.whole q.is_built q.whole) ∙ sym (ap (λ (a : Answer). a.line) q.is)
-
-pub one_grid : (n : ℕ) (budget : Ask) (m : Map) (one other : Answer) → ShowsGrid n budget m one → ShowsGrid n budget m other → other ≡ one
-one_grid n budget m one other p q = q.is ∙ ap (λ (c : Counts). only_line (grid_line n c)) (one_count m budget q.built p.built q.is_built q.whole p.is_built p.whole) ∙ sym p.is
+      bytes : one.table.bytes ≡ other.table.bytes
+      bytes = same_bytes one.table.bytes other.table.bytes len is_one.are_bytes is_other.are_bytes one_bit
