@@ -11,8 +11,10 @@ mod named_faces;
 mod namings;
 mod numbering;
 mod regrouping;
+mod short_list;
 
 pub use fault::GroupFault;
 pub use grouping::{Grouped, group_map};
 pub use lists::{Group, faces};
 pub use regrouping::regrouped_map;
+pub use short_list::ShortList;

@@ -8,17 +8,18 @@ ghost use Rattle.face_groups.specs.Namings.{NamingBefore, AreListsOn};
 ghost use Rattle.face_groups.specs.Verdict.{AreFaceNames};
 
 use crate::namings::{Naming, namings_of, sectors_on};
+use crate::short_list::ShortList;
 use mesh_shape::Mesh;
 use sight_names::{Items, Memory, Plan};
 use std::alloc::Global;
 use tri_sectors::faces::{faces_of, walls_of};
 
-/// The sectors of a face, ascending.
+/// The sectors of a group, ascending.
 pub type Group = Items<u16>;
 
 /// For each triangle the sectors that sides name on its face. Two triangles are on one face if a chain leads from the
 /// one to the other across edges that are no lines.
-pub fn faces(alloc: Global, plan: &Plan, mesh: &Mesh) -> Result<Vec<Group>, Memory>
+pub fn faces(alloc: Global, plan: &Plan, mesh: &Mesh) -> Result<Vec<ShortList>, Memory>
     ensures len { IfOk result (λ v. length v.items ≡ length mesh.now.triangles) }
     ensures names { IsPlainMesh (map_of plan.now) mesh.now.triangles → IfOk result (λ v. AreFaceNames (map_of plan.now) mesh.now.triangles v.items) }
 {
@@ -30,14 +31,14 @@ pub fn faces(alloc: Global, plan: &Plan, mesh: &Mesh) -> Result<Vec<Group>, Memo
 }
 
 /// The list of each face, in this order of faces.
-fn lists_on(alloc: Global, namings: &[Naming], faces: &[u16]) -> Result<Vec<Group>, Memory>
+fn lists_on(alloc: Global, namings: &[Naming], faces: &[u16]) -> Result<Vec<ShortList>, Memory>
     requires { Ascends NamingBefore namings.now }
     ensures { IfOk result (λ v. AreListsOn namings.now faces.now v.items) }
 {
     let mut lists = Vec::new(alloc);
     for face in faces {
         let sectors = sectors_on(alloc, namings, *face)?;
-        lists.push(Items::of(sectors))?;
+        lists.push(ShortList::of(sectors))?;
     }
     Ok(lists)
 }

@@ -7,6 +7,7 @@ ghost use Rattle.face_groups.specs.Namings.{NamingBefore};
 ghost use Rattle.face_groups.specs.NamedFaces.{IsFaceAdded, AreNamedFaces, RiseAsLists};
 
 use crate::namings::{Naming, sectors_on};
+use crate::short_list::FewNumbers;
 use sight_names::Memory;
 use std::alloc::Global;
 
@@ -14,7 +15,7 @@ use std::alloc::Global;
 /// lists, a front of a list before it.
 #[derive(PartialEq, Eq, PartialOrd, Ord, Drop)]
 pub struct NamedFace {
-    pub sectors: Vec<u16>,
+    pub sectors: FewNumbers,
     pub face: u16,
 }
 

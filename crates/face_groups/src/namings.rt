@@ -8,6 +8,7 @@ ghost use Rattle.tri_sectors.specs.Classes.{IsBelow};
 ghost use Rattle.face_groups.specs.declared.namings.Naming.{Naming};
 ghost use Rattle.face_groups.specs.Namings.{said_by, NamingBefore, AreInOrder, AreNamings, AreSectorsOn, IsRunOf, IsStart};
 
+use crate::short_list::FewNumbers;
 use mesh_shape::Mesh;
 use sight_names::{Memory, Plan};
 use std::alloc::Global;
@@ -87,7 +88,7 @@ fn run_of(namings: &[Naming], face: u16) -> &[Naming]
 }
 
 /// The sectors of namings, in their order.
-fn sectors_of(alloc: Global, namings: &[Naming]) -> Result<Vec<u16>, Memory>
+fn sectors_of(alloc: Global, namings: &[Naming]) -> Result<FewNumbers, Memory>
     ensures { IfOk result (λ v. v.items ≡ map (λ n. n.sector) namings.now) }
 {
     let sectors = namings.iter().map(|naming| naming.sector).collect(alloc)?;
@@ -95,7 +96,7 @@ fn sectors_of(alloc: Global, namings: &[Naming]) -> Result<Vec<u16>, Memory>
 }
 
 /// The sectors that sides of this face name, ascending.
-pub fn sectors_on(alloc: Global, namings: &[Naming], face: u16) -> Result<Vec<u16>, Memory>
+pub fn sectors_on(alloc: Global, namings: &[Naming], face: u16) -> Result<FewNumbers, Memory>
     requires { Ascends NamingBefore namings.now }
     ensures { IfOk result (λ v. AreSectorsOn namings.now face v.items) }
 {

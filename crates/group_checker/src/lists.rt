@@ -8,7 +8,7 @@ ghost use Rattle.tree_judge.specs.Marks.{IsMarked};
 ghost use Rattle.group_checker.specs.Lists.{AreGroupLabels, HasItsList, IsGroupFault, IsGroupOf, IsListRight, IsUsedBelow, IsUsedGroup};
 
 use crate::verdict::AnyFault;
-use face_groups::{Group, faces};
+use face_groups::{Group, ShortList, faces};
 use mesh_shape::{Labels, Mesh};
 use sight_names::{Memory, Plan};
 use std::alloc::Global;
@@ -42,7 +42,7 @@ fn is_group_of(groups: &[Group], label: Option<u16>, names: &[u16]) -> bool
 }
 
 /// The least triangle whose label's group isn't the list that it has here.
-fn first_other_list(groups: &[Group], labels: &Labels, lists: &[Group]) -> Option<u16>
+fn first_other_list(groups: &[Group], labels: &Labels, lists: &[ShortList]) -> Option<u16>
     requires len { length lists.now ≡ length labels.now }
     requires few { length lists.now ≤ 8192 }
     ensures { IsSearch (HasItsList groups.now labels.now lists.now) result }

@@ -5,7 +5,7 @@ ghost use Rattle.sight_names.specs.Map.{map_of};
 ghost use Rattle.sight_names.specs.Sound.{LinesMeetAtEnds};
 
 use crate::rows::part;
-use face_groups::{Group, Grouped, faces, group_map};
+use face_groups::{Grouped, ShortList, faces, group_map};
 use map_answers::find_in;
 use map_audit::audit_lines;
 use mesh_shape::Mesh;
@@ -30,6 +30,8 @@ ISLAND .1 <0400060004000000000000000000 | 2 of 0 | 8 of 0 1 | 0, 0 1 | 1- 1- 1- 
 ISLAND .1 <0400060004000000000004000400 | 2 of 1 | 8 of 0 1 | 0 1, 1 | 0- 0- 0- 0- 01 01 01 01 11
 # the pillar's own lines name sector 1 on both sides
 ISLAND @72:2:0400 @80:2:0400 @86:2:0400 @94:2:0500 @100:2:0400 @108:2:0600 @114:2:0400 @122:2:0700 | 2 of 1 | 8 of 0 1 | 0 1, 1 | 0- 0- 0- 0- 01 01 01 01
+# nine sides of one face name nine sectors, one more than its list has room for in itself
+ISLAND .1 <0000040004000000000008000800 .2 <000000000000000000000000000000000000000000000000000000000800 .4 *260 @196:2:0100 @226:2:0200 @256:2:0300 @286:2:0400 @316:2:0500 @346:2:0600 @376:2:0700 | 2 of - | 8 of 0 1 2 3 4 5 6 7 8 | 0 1 2 3 4 5 6 7 8 | 0- 0- 0- 0- 0- 0- 0- 0- 00
 # a face that reaches outside the hull
 OPEN | 0 of - | 2 of 0 | open 0R |
 ";
@@ -56,7 +58,7 @@ fn is_inside(triangle: &Triangle) -> bool {
 fn told_where(
     alloc: Global,
     mesh: &Mesh,
-    lists: &[Group],
+    lists: &[ShortList],
     inside: bool,
 ) -> Result<String, AllocError> {
     let mut count = 0usize;
@@ -76,7 +78,7 @@ fn told_where(
 }
 
 // Whether each triangle's label is the place of its list among the groups, none where the list is empty.
-fn are_labelled(lists: &[Group], grouped: &Grouped) -> bool {
+fn are_labelled(lists: &[ShortList], grouped: &Grouped) -> bool {
     let groups = grouped.groups.as_slice();
     for (list, label) in lists.iter().zip(grouped.labels.as_slice().iter()) {
         let right = match label {
