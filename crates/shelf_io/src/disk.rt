@@ -1,63 +1,147 @@
 //! Real files and the standard output. Both count what fails, and tell nothing of what they hold.
 
-ghost use Rattle.std.specs.Prelude.{◌≡◌, ◌≤◌, length, IfOk};
-ghost use Rattle.shelf_io.specs.Shelf.{ShelfState};
+ghost use Rattle.std.specs.Prelude.{◌≡◌, ◌≤◌, length, IfOk, OnErr, OnOk};
+ghost use Rattle.shelf_io.specs.Shelf.{Rose, ShelfState};
 ghost use Rattle.shelf_io.specs.Sink.{SinkState};
 
+use crate::begun::{Begun, append, begin, discard, read_begun, settle};
 use crate::shelf::{Shelf, Sink};
 use sight_names::{Failed, ShelfFault};
-use std::fs::OpenOptions;
+use std::alloc::Global;
 use std::io::{ErrorKind, Read, Seek, SeekFrom, Write};
 use std::rt::Files;
 use std::{fs, io};
 
-/// The files of the machine.
+/// The files of the machine. What is created is written to a new file beside its place, which takes the place when it is
+/// settled: the name then has the whole new file, and up to then the old one. Links to the place stay. A device, a
+/// pipe, or an open file by the system's own name for it is written as it stands.
+///
+/// The folder of what is created has to be writable. A name of a new file is `.NAME.doomsight-K`; where the program is
+/// killed one may be left. Names are kept in memory: where there is none for them, the call ends by its fault of reading
+/// or writing.
 #[derive(Drop)]
 pub struct DiskShelf<R: Files> {
     rt: R,
+    begun: Vec<Begun<R::File>>,
+    reading: Option<Reading<R::File>>,
     read_faults: u64,
     write_faults: u64,
     absents: u64,
 }
 
-impl<R: Files> DiskShelf<R> {
+// The file that was read last, and up to where.
+#[derive(Drop)]
+struct Reading<F: Drop> {
+    name: String,
+    file: F,
+    at: u64,
+}
+
+impl<R: Files + AllocGlobal> DiskShelf<R> {
     /// The files of this runtime, with nothing counted.
     pub fn new(rt: R) -> DiskShelf<R>
         ensures { ⟦<DiskShelf<R> as Shelf>⟧.state result ≡ record { files = None; read_faults = 0; write_faults = 0; absents = 0 } }
     {
+        let begun = Vec::new(rt.alloc());
         DiskShelf {
             rt,
+            begun,
+            reading: None,
             read_faults: 0,
             write_faults: 0,
             absents: 0,
         }
     }
+
+    /// Removes what was created and isn't settled. A new file that can't be removed stays.
+    pub fn discard(&mut self)
+        ensures { ⟦<DiskShelf<R> as Shelf>⟧.state self.new ≡ ⟦<DiskShelf<R> as Shelf>⟧.state self.old }
+    {
+        discard(&self.rt, &mut self.begun);
+    }
 }
 
-fn read_at(files: &impl Files, name: &str, at: u64, buf: &mut [u8]) -> io::Result<usize>
+fn opened<R: Files + AllocGlobal>(rt: &R, name: &str) -> io::Result<Reading<R::File>> {
+    Ok(Reading {
+        file: fs::open(rt, name)?,
+        name: String::from_str(rt.alloc(), name)?,
+        at: 0,
+    })
+}
+
+// Goes on where the last read ended, if that is the place, so that a pipe can be read.
+fn read_on<F: Read + Seek + Drop>(
+    reading: &mut Reading<F>,
+    at: u64,
+    buf: &mut [u8],
+) -> io::Result<usize>
     ensures { IfOk result (λ k. k ≤ length buf.old) }
 {
-    let mut file = fs::open(files, name)?;
-    file.seek(SeekFrom::Start(at))?;
-    file.read(buf)
+    if reading.at != at {
+        reading.file.seek(SeekFrom::Start(at))?;
+    }
+    let taken = reading.file.read(buf)?;
+    reading.at = at.saturating_add(taken as u64);
+    Ok(taken)
 }
 
-fn append_all(files: &impl Files, name: &str, bytes: &[u8]) -> io::Result<()> {
-    let mut file = OpenOptions::new()
-        .append(true)
-        .create(true)
-        .open(files, name)?;
-    file.write_all(bytes)
+// The file stays open for the next read, unless this one fails.
+fn read_named<R: Files + AllocGlobal>(
+    rt: &R,
+    kept: &mut Option<Reading<R::File>>,
+    name: &str,
+    at: u64,
+    buf: &mut [u8],
+) -> io::Result<usize>
+    ensures { IfOk result (λ k. k ≤ length buf.old) }
+{
+    let mut reading = match kept.take() {
+        // At the beginning another file may stand under the name by now.
+        Some(reading) if at > 0 && reading.name.as_str() == name => reading,
+        _ => opened(rt, name)?,
+    };
+    let taken = read_on(&mut reading, at, buf)?;
+    *kept = Some(reading);
+    Ok(taken)
 }
 
-impl<R: Files> Shelf for DiskShelf<R> {
+fn read_any<R: Files + AllocGlobal>(
+    rt: &R,
+    begun: &mut [Begun<R::File>],
+    kept: &mut Option<Reading<R::File>>,
+    name: &str,
+    at: u64,
+    buf: &mut [u8],
+) -> io::Result<usize>
+    ensures { IfOk result (λ k. k ≤ length buf.old) }
+{
+    match read_begun(begun, name, at, buf) {
+        Some(read) => read,
+        None => read_named(rt, kept, name, at, buf),
+    }
+}
+
+// What a call that writes answers, with its fault counted.
+fn counted(faults: &mut u64, written: io::Result<()>) -> Result<(), Failed>
+    ensures counts { faults.old ≤ faults.new }
+    ensures quiet { OnOk result (faults.new ≡ faults.old) }
+    ensures cause { OnErr result (Rose faults.old faults.new) }
+{
+    if written.is_err() {
+        *faults = faults.saturating_add(1);
+        return Err(Failed);
+    }
+    Ok(())
+}
+
+impl<R: Files + AllocGlobal> Shelf for DiskShelf<R> {
     ghost use Rattle.std.specs.Prelude.{None};
     ghost use Rattle.shelf_io.specs.Shelf.{ShelfState};
 
     ghost state = { λ d. record { files = None; read_faults = d.read_faults; write_faults = d.write_faults; absents = d.absents } };
 
     fn read(&mut self, name: &str, at: u64, buf: &mut [u8]) -> Result<usize, ShelfFault> {
-        match read_at(&self.rt, name, at, buf) {
+        match read_any(&self.rt, &mut self.begun, &mut self.reading, name, at, buf) {
             Ok(taken) => Ok(taken),
             Err(e) if e.kind() == ErrorKind::NotFound => {
                 self.absents = self.absents.saturating_add(1);
@@ -71,19 +155,20 @@ impl<R: Files> Shelf for DiskShelf<R> {
     }
 
     fn create(&mut self, name: &str) -> Result<(), Failed> {
-        if fs::create(&self.rt, name).is_err() {
-            self.write_faults = self.write_faults.saturating_add(1);
-            return Err(Failed);
-        }
-        Ok(())
+        self.reading = None;
+        let begun = begin(&self.rt, &mut self.begun, name);
+        counted(&mut self.write_faults, begun)
     }
 
     fn append(&mut self, name: &str, bytes: &[u8]) -> Result<(), Failed> {
-        if append_all(&self.rt, name, bytes).is_err() {
-            self.write_faults = self.write_faults.saturating_add(1);
-            return Err(Failed);
-        }
-        Ok(())
+        let added = append(&self.rt, &mut self.begun, name, bytes);
+        counted(&mut self.write_faults, added)
+    }
+
+    fn settle(&mut self, name: &str) -> Result<(), Failed> {
+        self.reading = None;
+        let settled = settle(&self.rt, &mut self.begun, name);
+        counted(&mut self.write_faults, settled)
     }
 }
 

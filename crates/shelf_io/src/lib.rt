@@ -2,13 +2,16 @@
 //! thin adapters over std.
 #![tactic(auto)]
 
+mod begun;
 mod disk;
 mod memory;
+mod place;
 mod shelf;
 mod transfer;
 
 pub use disk::{DiskShelf, StdSink};
 pub use memory::{Fails, File, MemShelf, MemSink};
+pub use place::names_one_file;
 pub use shelf::{Shelf, Sink};
 pub use transfer::{fetch, store};
 

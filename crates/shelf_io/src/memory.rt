@@ -1,6 +1,6 @@
 //! A shelf and a sink in memory, whose calls fail where a test says so.
 
-ghost use Rattle.std.specs.Prelude.{◌≡◌, ◌≤◌, ◌<◌, ◌-◌, ◌++◌, ◌/◌, take, if◌then◌else◌, min, [], OnOk, OnErr, IfOk, IfSome, IfNone, length, string_bytes, slice_get, Some};
+ghost use Rattle.std.specs.Prelude.{◌≡◌, ◌≤◌, ◌<◌, ◌-◌, ◌++◌, ◌/◌, take, if◌then◌else◌, min, [], OnOk, OnErr, IfOk, IfSome, IfNone, length, string_bytes, slice_get, Some, None};
 ghost use Rattle.std.specs.Option.{option_map, option_copied};
 ghost use Rattle.shelf_io.specs.Shelf.{Files, ShelfState, IsReadAt, put, append_to, ReadsFile, ReadCause, Rose, NoneFell, SameCounts, MayBeEmpty, MayHaveFront};
 ghost use Rattle.shelf_io.specs.Sink.{HasFront};
@@ -228,6 +228,18 @@ impl Shelf for MemShelf {
             self.write_faults = self.write_faults.saturating_add(1);
             return Err(Failed);
         }
+        Ok(())
+    }
+
+    fn settle(&mut self, _name: &str) -> Result<(), Failed>
+        ensures files { (shelf_of self.new).files ≡ (shelf_of self.old).files }
+        ensures told { OnErr result ((shelf_of self.old).files ≡ None) }
+        ensures counts { NoneFell (shelf_of self.old) (shelf_of self.new) }
+        ensures quiet { OnOk result (SameCounts (shelf_of self.old) (shelf_of self.new)) }
+        ensures cause { OnErr result (Rose (shelf_of self.old).write_faults (shelf_of self.new).write_faults) }
+        // Beyond what any shelf does: nothing changes.
+        ensures stays { self.new ≡ self.old }
+    {
         Ok(())
     }
 }

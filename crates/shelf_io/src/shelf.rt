@@ -1,6 +1,6 @@
 //! What is outside the program, as it sees it.
 
-ghost use Rattle.std.specs.Prelude.{◌≡◌, ◌≤◌, ◌++◌, List, [], length, IfOk, OnOk, OnErr, Some};
+ghost use Rattle.std.specs.Prelude.{◌≡◌, ◌≤◌, ◌++◌, List, [], length, IfOk, OnOk, OnErr, Some, None};
 ghost use Rattle.std.specs.Option.{option_map};
 ghost use Rattle.shelf_io.specs.Shelf.{ShelfState, Files, Rose, NoneFell, SameCounts, ReadsFile, ReadCause, MayBeEmpty, MayHaveFront, put, append_to};
 ghost use Rattle.shelf_io.specs.Sink.{SinkState, HasFront};
@@ -33,6 +33,15 @@ pub trait Shelf {
     fn append(&mut self, name: &str, bytes: &[u8]) -> Result<(), Failed>
         ensures added { OnOk result ((state self.new).files ≡ option_map (λ files. append_to files name.now bytes.now) (state self.old).files) }
         ensures failed { OnErr result (MayHaveFront (state self.old).files (state self.new).files name.now bytes.now) }
+        ensures counts { NoneFell (state self.old) (state self.new) }
+        ensures quiet { OnOk result (SameCounts (state self.old) (state self.new)) }
+        ensures cause { OnErr result (Rose (state self.old).write_faults (state self.new).write_faults) };
+
+    /// Puts what was created and added under the name in its place for good. All files stay. A shelf that tells its
+    /// files keeps what it is given at once, so there nothing is left that could fail.
+    fn settle(&mut self, name: &str) -> Result<(), Failed>
+        ensures files { (state self.new).files ≡ (state self.old).files }
+        ensures told { OnErr result ((state self.old).files ≡ None) }
         ensures counts { NoneFell (state self.old) (state self.new) }
         ensures quiet { OnOk result (SameCounts (state self.old) (state self.new)) }
         ensures cause { OnErr result (Rose (state self.old).write_faults (state self.new).write_faults) };

@@ -1,0 +1,164 @@
+//! Where the bytes under a name go, and whether two names mean one place.
+
+use std::alloc::{AllocError, Global};
+use std::fs::Permissions;
+use std::io::ErrorKind;
+use std::os::unix::fs::MetadataExt;
+use std::rt::Files;
+use std::{fs, io};
+
+/// As many links, one behind the other, as Linux follows.
+const MOST_LINKS: usize = 40;
+
+/// So many bytes a new name has more than what it keeps of the other: a dot, ".doomsight-" and a number below 1,000.
+const ADDED: usize = 15;
+
+/// So many bytes of a name its new name keeps at least, if there are as many.
+const KEPT: usize = 100;
+
+/// What a name is to one who writes under it.
+#[derive(Drop)]
+pub enum Place {
+    /// A file, or nothing yet: the name behind all links, and the permissions of the file that is there.
+    File {
+        name: String,
+        old: Option<Permissions>,
+    },
+    /// A device, a pipe, a folder, or an open file by the system's own name for it.
+    Other,
+}
+
+// What stands under a name, as far as links go.
+#[derive(Drop)]
+enum Link {
+    // No link.
+    No,
+    // A link to this name.
+    To(String),
+    // The system's own name for an open file, as /proc/self/fd/1.
+    Open,
+}
+
+/// What a name is to one who writes under it. An error where that can't be found out, or memory is wanting.
+pub fn place_of<R: Files + AllocGlobal>(rt: &R, name: &str) -> io::Result<Place> {
+    let old = match fs::metadata(rt, name) {
+        Ok(found) => {
+            if !found.is_file() {
+                return Ok(Place::Other);
+            }
+            Some(found.permissions())
+        }
+        Err(e) if e.kind() == ErrorKind::NotFound => None,
+        Err(e) => return Err(e),
+    };
+    let Some(name) = behind_links(rt, name)? else {
+        return Ok(Place::Other);
+    };
+    if is_folder_name(&name) {
+        return Ok(Place::Other);
+    }
+    Ok(Place::File { name, old })
+}
+
+/// Whether two names mean one file: the one that stands under both, or, where neither has one, the one that
+/// could be made. Links are followed. False where that can't be found out, or memory is wanting.
+pub fn names_one_file(rt: &(impl Files + AllocGlobal), one: &str, other: &str) -> bool {
+    match (fs::metadata(rt, one), fs::metadata(rt, other)) {
+        (Ok(one), Ok(other)) => one.dev() == other.dev() && one.ino() == other.ino(),
+        (Err(_), Err(_)) => names_one_place(rt, one, other),
+        _ => false,
+    }
+}
+
+// Whether the names behind the links have one folder and one last part.
+fn names_one_place(rt: &(impl Files + AllocGlobal), one: &str, other: &str) -> bool {
+    let (Ok(Some(one)), Ok(Some(other))) = (behind_links(rt, one), behind_links(rt, other)) else {
+        return false;
+    };
+    if last_of(&one) != last_of(&other) {
+        return false;
+    }
+    match (
+        fs::metadata(rt, folder_of(&one)),
+        fs::metadata(rt, folder_of(&other)),
+    ) {
+        (Ok(one), Ok(other)) => one.dev() == other.dev() && one.ino() == other.ino(),
+        _ => false,
+    }
+}
+
+/// A name for a new file in the same folder. It isn't longer than the name itself, or has at most 115 bytes.
+pub fn name_beside(alloc: Global, name: &str, number: u16) -> Result<String, AllocError> {
+    let last = last_of(name);
+    let kept = last.floor_char_boundary(KEPT.max(last.len().saturating_sub(ADDED)));
+    let front = &last[..kept];
+    let new = format!(in alloc; ".{front}.doomsight-{number}")?;
+    in_folder(alloc, name, &new)
+}
+
+/// The folder of a name.
+pub fn folder_of(name: &str) -> &str {
+    match name.rsplit_once('/') {
+        Some((folder, _)) => { if folder.is_empty() { "/" } else { folder } }
+        None => ".",
+    }
+}
+
+// What stands behind the last slash of a name.
+fn last_of(name: &str) -> &str {
+    match name.rsplit_once('/') {
+        Some((_, last)) => last,
+        None => name,
+    }
+}
+
+fn is_folder_name(name: &str) -> bool {
+    let last = last_of(name);
+    last.is_empty() || last == "." || last == ".."
+}
+
+// Another last part in the folder of a name.
+fn in_folder(alloc: Global, name: &str, last: &str) -> Result<String, AllocError> {
+    let mut made = String::new(alloc);
+    if let Some((folder, _)) = name.rsplit_once('/') {
+        made.push_str(folder)?;
+        made.push('/')?;
+    }
+    made.push_str(last)?;
+    Ok(made)
+}
+
+// The name behind all links; none where one of them is the system's own name for an open file.
+fn behind_links<R: Files + AllocGlobal>(rt: &R, name: &str) -> io::Result<Option<String>> {
+    let mut at = String::from_str(rt.alloc(), name)?;
+    for _ in 0..MOST_LINKS {
+        match link_at(rt, &at)? {
+            Link::No => return Ok(Some(at)),
+            Link::To(next) => at = next,
+            Link::Open => return Ok(None),
+        }
+    }
+    Err(io::Error::from(ErrorKind::InvalidInput))
+}
+
+fn link_at<R: Files + AllocGlobal>(rt: &R, name: &str) -> io::Result<Link> {
+    let found = match fs::symlink_metadata(rt, name) {
+        Ok(found) => found,
+        Err(e) if e.kind() == ErrorKind::NotFound => return Ok(Link::No),
+        Err(e) => return Err(e),
+    };
+    if !found.is_symlink() {
+        return Ok(Link::No);
+    }
+    if let Ok(system) = fs::metadata(rt, "/proc") {
+        // The text of such a link is no name: what is open may have none by now.
+        if system.dev() == found.dev() {
+            return Ok(Link::Open);
+        }
+    }
+    let to = fs::read_link(rt, name)?.into_string();
+    if to.as_str().starts_with('/') {
+        return Ok(Link::To(to));
+    }
+    Ok(Link::To(in_folder(rt.alloc(), name, &to)?))
+}
