@@ -7,3 +7,5 @@ pub mod Merging
 pub mod Splicing
 pub mod Lasting
 pub mod Texts
+pub mod InOrder
+pub mod AskedMaps

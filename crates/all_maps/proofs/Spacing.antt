@@ -15,9 +15,9 @@ use Rattle.wad_dir.proofs.Moved.{spot_alike}
 use Rattle.wad_dir.proofs.Spots.{IsSpot, spot_at, spot_parts}
 use Rattle.all_maps.specs.declared.parts.Change.{Change}
 use Rattle.all_maps.specs.All.{HasInOrder, names_changed}
-use Rattle.all_maps.specs.Maps.{is_map, is_map_name, is_visible, maps_among, maps_of, told}
+use Rattle.all_maps.specs.Maps.{begins_with_textmap, is_map, is_map_name, is_udmf, is_visible, maps_among, maps_of, markers_among, told, udmf_maps_of}
 use Rattle.all_maps.specs.Spliced.{AreSpaced, place_behind}
-use Rattle.all_maps.proofs.FoundMaps.{begins_here}
+use Rattle.all_maps.proofs.FoundMaps.{all_more, begins_here, each_marker}
 use Rattle.all_maps.proofs.Told.{key_told}
 use Rattle.list_base.proofs.Bools.{false_of_not, false_where_not_true, first_true, not_both_values, second_true}
 use Rattle.list_base.proofs.Numbers.{below_or_not, is_told_same, next_is}
@@ -168,32 +168,34 @@ are_spaced ns cs among = spaced_from ns ns 0 0 cs refl (omega arith) (λ j name 
 
 -- ---- what is known of each map's name
 
-named_alike : (a b : List ℕ) → key_of a ≡ key_of b → is_map_name a ≡ is_map_name b
+pub named_alike : (a b : List ℕ) → key_of a ≡ key_of b → is_map_name a ≡ is_map_name b
 unfolding is_map_name
 named_alike a b e = ap (λ (key : List ℕ). not (bytes_eq key []) && list_all is_visible key && not (bytes_eq key (codes "BEHAVIOR")) && not (list_any (λ n. bytes_eq key (key_of n)) run_names)) e
 
 each_found : (all ns : List (List ℕ)) (k : ℕ) (d : List ℕ) → k < length (maps_among all ns) → (is_map_name (get_or (maps_among all ns) k d) ≡ true) × IsOk (spot_of all (get_or (maps_among all ns) k d))
-each_found all [] k d lt = absurd (omega (arith, lt))
-each_found all (n ∷ ns) k d lt = by (is_map all n ns) refl k lt (λ j l. each_found all ns j d l)
+each_found all ns k d lt = each_marker (is_map all) (λ (name : List ℕ). (is_map_name name ≡ true) × IsOk (spot_of all name)) first ns k d lt
   where
-    first : is_map all n ns ≡ true → (is_map_name (told n) ≡ true) × IsOk (spot_of all (told n))
-    first is =
-        let h = map_there all n ns is in
-        (named_alike (told n) n (key_told n) ∙ map_named all n ns is, ap (λ (r : Result MapSpot MapFault). is_ok r) (spot_alike all (told n) n (key_told n) ∙ h.1))
-
-    by : (t : Bool) → is_map all n ns ≡ t → (i : ℕ) → i < length (if t then told n ∷ maps_among all ns else maps_among all ns) → ((j : ℕ) → j < length (maps_among all ns) → (is_map_name (get_or (maps_among all ns) j d) ≡ true) × IsOk (spot_of all (get_or (maps_among all ns) j d)))
-        → (is_map_name (get_or (if t then told n ∷ maps_among all ns else maps_among all ns) i d) ≡ true) × IsOk (spot_of all (get_or (if t then told n ∷ maps_among all ns else maps_among all ns) i d))
-    by false is i l rest = rest i l
-    by true is zero l rest = first is
-    by true is (suc i) l rest = rest i (omega (arith, l))
+    first : (n : List ℕ) (behind : List (List ℕ)) → is_map all n behind ≡ true → (is_map_name (told n) ≡ true) × IsOk (spot_of all (told n))
+    first n behind is =
+        let h = map_there all n behind is in
+        (named_alike (told n) n (key_told n) ∙ map_named all n behind is, ap (λ (r : Result MapSpot MapFault). is_ok r) (spot_alike all (told n) n (key_told n) ∙ h.1))
 
 maps_are : (ns : List (List ℕ)) (k : ℕ) (maps : List (List ℕ)) → length ns ≤ k → maps ++ maps_among ns (drop k ns) ≡ maps_of ns → maps ≡ maps_of ns
-maps_are ns k maps le h = sym (append-nil maps) ∙ ap (λ (xs : List (List ℕ)). maps ++ maps_among ns xs) (sym (drop_all k ns le)) ∙ h
+maps_are ns k maps le h = all_more (is_map ns) ns k maps (maps_of ns) le h
 
 -- each name can be a map's
+pub maps_named : (ns : List (List ℕ)) → All (λ (name : List ℕ). IsTrue (is_map_name name)) (maps_of ns)
+maps_named ns = λ i d lt. (each_found ns ns i d lt).0
+
 pub all_named : (ns : List (List ℕ)) (k : ℕ) (maps : List (List ℕ)) → length ns ≤ k → maps ++ maps_among ns (drop k ns) ≡ maps_of ns → All (λ (name : List ℕ). IsTrue (is_map_name name)) maps
-all_named ns k maps le h = subst (λ (xs : List (List ℕ)). All (λ (name : List ℕ). IsTrue (is_map_name name)) xs) (sym (maps_are ns k maps le h)) (λ i d lt. (each_found ns ns i d lt).0)
+all_named ns k maps le h = subst (λ (xs : List (List ℕ)). All (λ (name : List ℕ). IsTrue (is_map_name name)) xs) (sym (maps_are ns k maps le h)) (maps_named ns)
 
 -- and finds a map
 pub all_found : (ns : List (List ℕ)) (k : ℕ) (maps : List (List ℕ)) → length ns ≤ k → maps ++ maps_among ns (drop k ns) ≡ maps_of ns → All (λ (name : List ℕ). IsOk (spot_of ns name)) maps
 all_found ns k maps le h = subst (λ (xs : List (List ℕ)). All (λ (name : List ℕ). IsOk (spot_of ns name)) xs) (sym (maps_are ns k maps le h)) (λ i d lt. (each_found ns ns i d lt).1)
+
+-- each name of a map of UDMF can be a map's
+pub udmf_named : (ns : List (List ℕ)) (k : ℕ) (maps : List (List ℕ)) → length ns ≤ k → maps ++ markers_among is_udmf (drop k ns) ≡ udmf_maps_of ns → All (λ (name : List ℕ). IsTrue (is_map_name name)) maps
+udmf_named ns k maps le h =
+    subst (λ (xs : List (List ℕ)). All (λ (name : List ℕ). IsTrue (is_map_name name)) xs) (sym (all_more is_udmf ns k maps (udmf_maps_of ns) le h))
+    (λ i d lt. each_marker is_udmf (λ (name : List ℕ). is_map_name name ≡ true) (λ n behind is. named_alike (told n) n (key_told n) ∙ first_true (is_map_name n) (not (has_name n behind)) (first_true (is_map_name n && not (has_name n behind)) (begins_with_textmap behind) is)) ns i d lt)

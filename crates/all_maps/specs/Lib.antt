@@ -1,4 +1,5 @@
 pub mod Maps
+pub mod Asked
 pub mod Places
 pub mod All
 pub mod Spliced

@@ -1,5 +1,5 @@
--- The maps of a WAD (the Unofficial Doom Specs on the lumps of a map).
-use Rattle.std.specs.Prelude.{ℕ, ◌-◌, Bool, not, ◌&&◌, nat_le, is_ok, List, [], ◌∷◌, ◌++◌, length, replicate, if◌then◌else◌, codes}
+-- The maps of a WAD (the Unofficial Doom Specs on the lumps of a map, the UDMF specification on TEXTMAP).
+use Rattle.std.specs.Prelude.{ℕ, ◌-◌, Bool, false, not, ◌&&◌, nat_le, is_ok, List, [], ◌∷◌, ◌++◌, length, replicate, if◌then◌else◌, codes}
 use Rattle.std.specs.List.{list_all}
 use Rattle.wad_dir.specs.Map.{has_name, is_run_name, key_of, same_name, spot_of}
 
@@ -21,11 +21,28 @@ told name = key_of name ++ replicate (8 - length (key_of name)) 0
 unfoldable pub is_map : List (List ℕ) → List ℕ → List (List ℕ) → Bool
 is_map all name behind = is_map_name name && not (has_name name behind) && is_ok (spot_of all name)
 
+-- those of some names that are markers, by what stands behind them, in order
+abbrev pub markers_among : (List ℕ → List (List ℕ) → Bool) → List (List ℕ) → List (List ℕ)
+markers_among is_marker [] = []
+markers_among is_marker (n ∷ ns) = if is_marker n ns then told n ∷ markers_among is_marker ns else markers_among is_marker ns
+
 -- the names of the maps whose markers are among the last of all names, in order
 abbrev pub maps_among : List (List ℕ) → List (List ℕ) → List (List ℕ)
-maps_among all [] = []
-maps_among all (n ∷ ns) = if is_map all n ns then told n ∷ maps_among all ns else maps_among all ns
+maps_among all names = markers_among (is_map all) names
 
 -- the maps of a WAD whose entries have these names
 abbrev pub maps_of : List (List ℕ) → List (List ℕ)
 maps_of names = maps_among names names
+
+abbrev pub begins_with_textmap : List (List ℕ) → Bool
+begins_with_textmap [] = false
+begins_with_textmap (n ∷ ns) = same_name n (codes "TEXTMAP")
+
+-- an entry of this name, behind which these names stand, is the marker of a map of UDMF: a map can have the name, it is the last of
+-- its name, and TEXTMAP stands right behind it
+abbrev pub is_udmf : List ℕ → List (List ℕ) → Bool
+is_udmf name behind = is_map_name name && not (has_name name behind) && begins_with_textmap behind
+
+-- the maps of UDMF, which aren't read, in order
+abbrev pub udmf_maps_of : List (List ℕ) → List (List ℕ)
+udmf_maps_of names = markers_among is_udmf names

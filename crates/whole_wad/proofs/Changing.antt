@@ -1,20 +1,17 @@
 -- The changes that what comes of maps makes.
-use Rattle.std.proofs.Common.{◌≡◌, ℕ, ◌+◌, ◌-◌, ◌<◌, ◌≤◌, inl, inr, List, [], ◌∷◌, ◌++◌, length, get_or, take, map, Result, Ok, Err, refl, sym, ap, ◌∙◌, arith}
+use Rattle.std.proofs.Common.{◌≡◌, ℕ, ◌+◌, ◌-◌, ◌<◌, ◌≤◌, inl, List, [], ◌∷◌, ◌++◌, length, get_or, take, map, Result, Ok, Err, refl, sym, ap, ◌∙◌, arith}
 use Rattle.std.specs.List.{cons_option}
 use Rattle.std.proofs.lemmas.List.{length-map, take_more}
 use Rattle.std.proofs.lemmas.List.Elements.{filter_map-append}
 use Rattle.all_maps.specs.declared.parts.Change.{Change}
 use Rattle.all_maps.specs.All.{HasInOrder, names_changed}
+use Rattle.all_maps.proofs.InOrder.{passed}
 use Rattle.sight_status.specs.declared.status.Status.{Status}
 use Rattle.whole_wad.specs.declared.outcomes.MapOutcome.{MapOutcome}
 use Rattle.whole_wad.specs.declared.tables.MapTable.{MapTable}
 use Rattle.whole_wad.specs.Outcomes.{change_by, changes_of, refusal_in, refusals_of}
 
 -- ---- the names that are changed are some of the maps, in order
-
-passed : (m : List ℕ) (ms ns : List (List ℕ)) → HasInOrder ms ns → HasInOrder (m ∷ ms) ns
-passed m ms [] h = tt
-passed m ms (n ∷ ns) h = inr h
 
 pub changed_in_order : (outcomes : List MapOutcome) → HasInOrder (map (λ (o : MapOutcome). o.name) outcomes) (names_changed (changes_of outcomes))
 changed_in_order [] = tt

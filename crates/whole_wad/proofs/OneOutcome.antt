@@ -83,4 +83,4 @@ one_list w budget (o ∷ os) (p ∷ ps) e h k =
 
 pub outcomes_are_one : OutcomesAreOne
 unfolding named
-outcomes_are_one w budget one other h k = one_list w budget one other (h.each ∙ sym k.each) h.comes k.comes
+outcomes_are_one w names budget one other h k = one_list w budget one other (h.each ∙ sym k.each) h.comes k.comes

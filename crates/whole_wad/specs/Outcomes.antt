@@ -1,10 +1,9 @@
--- What comes of each map of a WAD.
+-- What comes of maps of a WAD.
 use Rattle.std.specs.Prelude.{◌≡◌, ℕ, List, map, filter_map, Option, Some, None, Result, Ok, Err}
 use Rattle.std.specs.List.{AllByRecursion}
 use Rattle.sight_names.specs.declared.names.Ask.{Ask}
-use Rattle.wad_dir.specs.Wad.{WadFile, names_of}
+use Rattle.wad_dir.specs.Wad.{WadFile}
 use Rattle.all_maps.specs.declared.parts.Change.{Change}
-use Rattle.all_maps.specs.Maps.{maps_of}
 use Rattle.sight_status.specs.declared.status.Status.{Status}
 use Rattle.map_answers.specs.Input.{map_named}
 use Rattle.whole_wad.specs.declared.outcomes.MapOutcome.{MapOutcome}
@@ -17,9 +16,9 @@ use Rattle.whole_wad.specs.Tables.{Gets}
 abbrev pub ComesOf : WadFile → Ask → MapOutcome → Type 0
 ComesOf w budget outcome = Gets (map_named w (word_of outcome.name)) budget outcome.made
 
--- there is one outcome for each map of the WAD, in order
-pub record AreOutcomes (w : WadFile) (budget : Ask) (outcomes : List MapOutcome) : Type 0 where
-  pub each : map (λ (o : MapOutcome). o.name) outcomes ≡ maps_of (names_of w)
+-- there is one outcome for each map of these names, in order
+pub record AreOutcomes (w : WadFile) (names : List (List ℕ)) (budget : Ask) (outcomes : List MapOutcome) : Type 0 where
+  pub each : map (λ (o : MapOutcome). o.name) outcomes ≡ names
   pub comes : AllByRecursion (ComesOf w budget) outcomes
 
 abbrev pub change_by : List ℕ → Result MapTable Status → Option Change
@@ -38,6 +37,6 @@ changes_of outcomes = filter_map (λ (o : MapOutcome). change_by o.name o.made) 
 abbrev pub refusals_of : List MapOutcome → List Status
 refusals_of outcomes = filter_map (λ (o : MapOutcome). refusal_in o.made) outcomes
 
--- There is one such list: what comes of the maps of a WAD within a budget is one.
+-- There is one such list: what comes of these maps of a WAD within a budget is one.
 abbrev pub OutcomesAreOne : Type 0
-OutcomesAreOne = (w : WadFile) (budget : Ask) (one other : List MapOutcome) → AreOutcomes w budget one → AreOutcomes w budget other → one ≡ other
+OutcomesAreOne = (w : WadFile) (names : List (List ℕ)) (budget : Ask) (one other : List MapOutcome) → AreOutcomes w names budget one → AreOutcomes w names budget other → one ≡ other

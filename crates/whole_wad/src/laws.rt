@@ -8,7 +8,7 @@ pub fn builds_have_one_table()
     ensures { BuildsHaveOneTable }
 {}
 
-/// What comes of the maps of a WAD within a budget is one: of each map its table and its list, or its first flaw.
+/// What comes of some maps of a WAD within a budget is one: of each map its table and its list, or its first flaw.
 pub fn outcomes_are_one()
     ensures { OutcomesAreOne }
 {}

@@ -1,4 +1,4 @@
-//! The build of a map, and every map of a WAD built, one by one: their tables, the new WAD, and the lines of the report.
+//! The build of a map, and maps of a WAD built, one by one: their tables, the new WAD, and the lines of the report.
 #![tactic(auto)]
 
 mod built;

@@ -1,10 +1,11 @@
-//! All maps of a WAD, and the WAD with their tables.
+//! Maps of a WAD, and the WAD with their tables.
 
 ghost use Rattle.std.specs.Prelude.{◌≡◌, ◌+◌, ◌≤◌, ◌∷◌, ◌++◌, [], length, map, All, IfOk, IsTrue, OnOk, string_bytes};
 ghost use Rattle.std.specs.List.{AllByRecursion};
 ghost use Rattle.wad_dir.specs.Map.{entry_names};
 ghost use Rattle.wad_dir.specs.Wad.{file_of, names_of};
-ghost use Rattle.all_maps.specs.Maps.{is_map_name};
+ghost use Rattle.all_maps.specs.All.{HasInOrder};
+ghost use Rattle.all_maps.specs.Maps.{is_map_name, maps_of};
 ghost use Rattle.whole_wad.specs.Outcomes.{ComesOf, changes_of};
 ghost use Rattle.whole_wad.specs.Report.{report_of};
 ghost use Rattle.whole_wad.specs.Whole.{MakesWhole};
@@ -12,14 +13,14 @@ ghost use Rattle.whole_wad.specs.Whole.{MakesWhole};
 use crate::notice::Notice;
 use crate::outcomes::{MapOutcome, outcome_of};
 use crate::report::line_of;
-use all_maps::{Change, maps, with_rejects};
+use all_maps::{Change, text_of, udmf_maps, with_rejects};
 use sight_names::{Ask, Items, Memory, RewriteFault};
 use sight_workers::Gate;
 use std::alloc::{AllocError, Global};
 use std::thread::Threads;
 use wad_dir::Wad;
 
-/// A WAD with the tables of its maps: its bytes, one line of text a map, and how many maps there are, have been built, and
+/// A WAD with the tables of maps: its bytes, one line of text a map, and how many maps were asked for, have been built, and
 /// are refused.
 #[derive(Drop)]
 pub struct WholeWad {
@@ -35,6 +36,15 @@ pub struct WholeWad {
 struct Told {
     outcomes: Vec<MapOutcome>,
     report: String,
+}
+
+/// Tells which maps of the WAD aren't read, since they are of UDMF.
+fn tell_unread<N: Notice>(alloc: Global, wad: &Wad, notice: &N) -> Result<(), Memory> {
+    let names = udmf_maps(alloc, wad)?;
+    for name in &names {
+        notice.pass_over(text_of(name));
+    }
+    Ok(())
 }
 
 /// What comes of the maps of these names, each told as it is done.
@@ -101,9 +111,9 @@ fn changes_in(alloc: Global, outcomes: &[MapOutcome]) -> Result<Vec<Change>, All
     Ok(changes)
 }
 
-/// The WAD in which each map has its table within the budget as its REJECT, all other lumps as they were. A map that is
-/// above a limit or isn't sound keeps its REJECT, and the report says why. Each line of the report is told as its map is
-/// done.
+/// The WAD in which each map of these names has its table within the budget as its REJECT, all other lumps as they were. A map that is
+/// above a limit or isn't sound keeps its REJECT, and the report says why. The maps of UDMF are told first, and then each line of the
+/// report as its map is done.
 ///
 /// # Errors
 ///
@@ -113,6 +123,7 @@ pub fn build_wad<R: Threads + Sync, G: Gate + Sync, N: Notice>(
     alloc: Global,
     bytes: &[u8],
     wad: &Wad,
+    names: &[[u8; 8]],
     workers: u16,
     budget: Ask,
     gate: &G,
@@ -120,11 +131,13 @@ pub fn build_wad<R: Threads + Sync, G: Gate + Sync, N: Notice>(
 ) -> Result<WholeWad, RewriteFault>
     requires inside { All (λ entry. entry.at + entry.size ≤ length bytes.now) wad.now.entries }
     requires names { names_of (file_of bytes.now wad.now) ≡ entry_names wad.now.entries }
+    // They are some of the WAD's maps, in the order of their entries.
+    requires among { HasInOrder (maps_of (entry_names wad.now.entries)) names.now }
     requires workers { (1 ≤ workers) × (workers ≤ 64) }
-    ensures { MakesWhole (file_of bytes.now wad.now) budget result }
+    ensures { MakesWhole (file_of bytes.now wad.now) names.now budget result }
 {
-    let names = maps(alloc, wad)?;
-    let told = tell_maps(rt, alloc, bytes, wad, &names, workers, budget, gate, notice)?;
+    tell_unread(alloc, wad, notice)?;
+    let told = tell_maps(rt, alloc, bytes, wad, names, workers, budget, gate, notice)?;
     let changes = changes_in(alloc, &told.outcomes)?;
     let new = with_rejects(alloc, bytes, wad, &changes)?;
     Ok(WholeWad {
