@@ -3,7 +3,7 @@ use Rattle.std.proofs.Common.{◌≡◌, ◌∙◌, ℕ, suc, zero, ◌+◌, ◌
 use Rattle.std.proofs.lemmas.List.{append-nil, drop_all, drop_more, take_all, length-append, length-drop, length-take-le, take-append-le, drop-append-le}
 use Rattle.std.proofs.Math.Seq.{drop-append_seam, take-append_seam, drop-append-add, take-add}
 use borrow.Rule.Slice.PartMut.{mid_of, post_of, put_mid}
-use Rattle.listeners.specs.Listening.{AreWordsAt, ListenerState}
+use Rattle.listeners.specs.Listening.{AreWordsAt, ListenerState, listener_text}
 use Rattle.listeners.specs.Told.{texts}
 use Rattle.list_base.proofs.Lists.{drop_more as drop-add}
 
@@ -18,7 +18,7 @@ pub record IsFilling (all : List ℕ) (start : ℕ) (before now rest : List ℕ)
 
 -- the rest is the next text and what is behind it
 pub filling_on : {X : Type 0} (state : X → ListenerState) (list : List X) (i : ℕ) (x : X) → i < length list → x ≡ get_or list i x → (all : List ℕ) (start : ℕ) (before now : List ℕ) (at filled : ℕ) → IsFilling all start before now (texts (map state (drop i list))) at filled
-    → IsFilling all start before now ((state x).text ++ texts (map state (drop (i + 1) list))) at filled
+    → IsFilling all start before now (listener_text (state x) ++ texts (map state (drop (i + 1) list))) at filled
 filling_on state list i x lt e all start before now at filled h =
     subst (λ (l : List _). IsFilling all start before now (texts (map state l)) at filled) (drop_more list i x lt ∙ ap (λ y. y ∷ drop (i + 1) list) (sym e)) h
 

@@ -15,11 +15,12 @@ use Rattle.listeners.proofs.InTurn.{one_more}
 heard_both : (fs gs : List Finding) (s t u : ListenerState) → HeardMore fs s t → HeardMore gs t u → HeardMore (fs ++ gs) s u
 heard_both fs gs s t u h k = record {
   heard = k.heard ∙ ap (λ (l : List Finding). l ++ gs) h.heard ∙ append_assoc s.heard fs gs;
+  writes = k.writes ∙ h.writes;
   quota = k.quota ∙ h.quota;
 }
 
 heard_none : (s : ListenerState) → HeardMore [] s s
-heard_none s = record { heard = sym (append-nil s.heard); quota = refl }
+heard_none s = record { heard = sym (append-nil s.heard); writes = refl; quota = refl }
 
 -- ---- whether a listener ends: at the first finding, or among the others
 

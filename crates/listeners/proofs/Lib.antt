@@ -3,3 +3,4 @@ mod Filling
 mod InTurn
 pub mod Turns
 pub mod Heards
+pub mod Reports

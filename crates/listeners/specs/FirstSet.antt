@@ -9,4 +9,4 @@ pub record FirstSetParts : Type 0 where
   pub quota : ℕ
 
 abbrev pub state_of : FirstSetParts → ListenerState
-state_of f = record { heard = f.heard; text = set_lines f.heard; quota = Some f.quota }
+state_of f = record { heard = f.heard; writes = set_lines; quota = Some f.quota }

@@ -6,11 +6,15 @@ use Rattle.listeners.specs.declared.finding.Kind.TheVariants as kind
 use Rattle.listeners.specs.declared.finding.Keep.{Keep}
 use Rattle.listeners.specs.declared.finding.Keep.TheVariants as keep
 
--- What a listener heard, its text, and after how many set pairs it is done, if ever. No call changes the last.
+-- What a listener heard, what it writes of what it heard, and after how many set pairs it is done, if ever. No call changes the last two.
 pub record ListenerState : Type 0 where
   pub heard : List Finding
-  pub text : List ℕ
+  pub writes : List Finding → List ℕ
   pub quota : Option ℕ
+
+-- its text
+abbrev pub listener_text : ListenerState → List ℕ
+listener_text s = s.writes s.heard
 
 abbrev pub is_set_kind : Kind → Bool
 is_set_kind kind.Set = true

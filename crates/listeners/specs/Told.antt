@@ -2,11 +2,12 @@
 use Rattle.std.specs.Prelude.{◌≡◌, ◌⊎◌, ℕ, ◌+◌, Bool, false, ◌&&◌, not, nat_lt, nat_le, List, [], ◌∷◌, ◌++◌, take, Option, Some, None, filter, ⊤}
 use Rattle.std.specs.List.{AllZip}
 use Rattle.listeners.specs.declared.finding.Finding.{Finding}
-use Rattle.listeners.specs.Listening.{ListenerState, is_quota, is_set_kind, sets_in}
+use Rattle.listeners.specs.Listening.{ListenerState, is_quota, is_set_kind, listener_text, sets_in}
 
--- a listener heard these findings more, and has the quota that it had
+-- a listener heard these findings more, and writes of what it heard as before, with the quota that it had
 pub record HeardMore (findings : List Finding) (before after : ListenerState) : Type 0 where
   pub heard : after.heard ≡ before.heard ++ findings
+  pub writes : after.writes ≡ before.writes
   pub quota : after.quota ≡ before.quota
 
 -- ---- one finding
@@ -69,7 +70,7 @@ pub record StopsAmong (fs : List Finding) (old new ended_old ended_new : List Li
 -- the texts of a list of listeners in order
 abbrev pub texts : List ListenerState → List ℕ
 texts [] = []
-texts (s ∷ ss) = s.text ++ texts ss
+texts (s ∷ ss) = listener_text s ++ texts ss
 
 -- ---- many findings
 

@@ -41,11 +41,9 @@ impl Lines {
 }
 
 impl Listener for Lines {
-    ghost use Rattle.std.specs.Prelude.{None};
-    ghost use Rattle.listeners.specs.Listening.{ListenerState};
-    ghost use Rattle.listeners.specs.Texts.{finding_lines};
+    ghost use Rattle.listeners.specs.Reporters.{lines_state};
 
-    ghost listener_state = { λ heard. record { heard = heard; text = finding_lines heard; quota = None } };
+    ghost listener_state = { lines_state };
 
     fn hear(&mut self, finding: &Finding) -> Result<Keep, Memory> {
         let mut line = [0; ROOM];

@@ -1,23 +1,23 @@
 //! The texts of a list of listeners as one.
 
 ghost use Rattle.std.specs.Prelude.{◌≡◌, ◌-◌, ◌<◌, ◌^◌, map, length, nat_lt};
-ghost use Rattle.listeners.specs.Listening.{AreWordsAt, ListenerState};
+ghost use Rattle.listeners.specs.Listening.{AreWordsAt, ListenerState, listener_text};
 ghost use Rattle.listeners.specs.Told.{texts};
 
 use crate::listener::Listener;
 
 /// Fills the buffer from a byte of the text of a boxed listener on, and answers how many bytes it wrote. It takes no memory.
 pub fn words_of(listener: &Box<dyn Listener>, at: u64, buf: &mut [u8]) -> usize
-    ensures words { AreWordsAt (listener_state listener.now).text at buf.old buf.new result }
-    ensures short { length (listener_state listener.now).text < 2 ^ 63 }
+    ensures words { AreWordsAt (listener_text (listener_state listener.now)) at buf.old buf.new result }
+    ensures short { length (listener_text (listener_state listener.now)) < 2 ^ 63 }
 {
     listener.words_at(at, buf)
 }
 
 /// Whether its text has a byte there.
 fn has_byte(listener: &Box<dyn Listener>, at: u64) -> bool
-    ensures has { result ≡ nat_lt at (length (listener_state listener.now).text) }
-    ensures short { length (listener_state listener.now).text < 2 ^ 63 }
+    ensures has { result ≡ nat_lt at (length (listener_text (listener_state listener.now))) }
+    ensures short { length (listener_text (listener_state listener.now)) < 2 ^ 63 }
 {
     let mut byte = [0];
     words_of(listener, at, &mut byte) == 1
@@ -25,7 +25,7 @@ fn has_byte(listener: &Box<dyn Listener>, at: u64) -> bool
 
 /// How many bytes its text has, by bisection.
 fn text_len(listener: &Box<dyn Listener>) -> u64
-    ensures { result ≡ length (listener_state listener.now).text }
+    ensures { result ≡ length (listener_text (listener_state listener.now)) }
 {
     if !has_byte(listener, 0) {
         return 0;
@@ -45,8 +45,8 @@ fn text_len(listener: &Box<dyn Listener>) -> u64
 
 /// The place in what is behind a text that was written to its end, so many bytes of it.
 fn place_behind(listener: &Box<dyn Listener>, at: u64, written: usize) -> u64
-    requires { written ≡ length (listener_state listener.now).text - at }
-    ensures { result ≡ at - length (listener_state listener.now).text }
+    requires { written ≡ length (listener_text (listener_state listener.now)) - at }
+    ensures { result ≡ at - length (listener_text (listener_state listener.now)) }
 {
     if written > 0 || at == 0 {
         return 0;

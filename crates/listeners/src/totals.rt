@@ -46,11 +46,9 @@ impl Totals {
 }
 
 impl Listener for Totals {
-    ghost use Rattle.std.specs.Prelude.{None};
-    ghost use Rattle.listeners.specs.Listening.{ListenerState};
-    ghost use Rattle.listeners.specs.Texts.{totals_line};
+    ghost use Rattle.listeners.specs.Reporters.{totals_state};
 
-    ghost listener_state = { λ heard. record { heard = heard; text = totals_line heard; quota = None } };
+    ghost listener_state = { totals_state };
 
     fn hear(&mut self, finding: &Finding) -> Result<Keep, Memory> {
         self.heard.push(*finding)?;

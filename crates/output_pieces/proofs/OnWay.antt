@@ -3,7 +3,7 @@ use Rattle.std.proofs.Common.{◌≡◌, ◌∙◌, ◌+◌, ◌<◌, ◌≤◌,
 use Rattle.std.proofs.lemmas.List.{append-nil, drop_all, drop_more, length-drop, length-take-le, take-append-drop}
 use Rattle.std.proofs.Math.Seq.{take-append_seam}
 use Rattle.std.specs.Option.{option_map}
-use Rattle.listeners.specs.Listening.{AreWordsAt, ListenerState}
+use Rattle.listeners.specs.Listening.{AreWordsAt, ListenerState, listener_text}
 use Rattle.listeners.specs.Told.{texts}
 use Rattle.shelf_io.specs.Shelf.{Files, MayHaveFront, MayHoldFront, append_to, put}
 use Rattle.shelf_io.proofs.FilesLemmas.{append_more, front_is}
@@ -66,10 +66,10 @@ next_bytes text piece room rest at n few e =
 
 -- the texts of a list are that of its first one and those of the rest
 pub next_text : {X : Type 0} (state : X → ListenerState) (list : List X) (i : ℕ) (x : X) (rest : List ℕ) → i < length list → x ≡ get_or list i x
-    → texts (map state (drop i list)) ++ rest ≡ (state x).text ++ (texts (map state (drop (i + 1) list)) ++ rest)
+    → texts (map state (drop i list)) ++ rest ≡ listener_text (state x) ++ (texts (map state (drop (i + 1) list)) ++ rest)
 next_text state list i x rest lt e =
     ap (λ (l : List _). texts (map state l) ++ rest) (drop_more list i x lt ∙ ap (λ y. y ∷ drop (i + 1) list) (sym e))
-    ∙ append_assoc (state x).text (texts (map state (drop (i + 1) list))) rest
+    ∙ append_assoc (listener_text (state x)) (texts (map state (drop (i + 1) list))) rest
 
 -- the same, by what is left
 pub left_is : (before now : Option Files) (name all one other : List ℕ) → one ≡ other → IsUnderWay before now name all one → IsUnderWay before now name all other

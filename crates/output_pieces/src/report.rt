@@ -2,7 +2,7 @@
 
 ghost use Rattle.std.specs.Prelude.{◌≡◌, ◌++◌, ℕ, List, OnErr, OnOk, Option, map};
 ghost use Rattle.std.specs.Option.{option_map};
-ghost use Rattle.listeners.specs.Listening.{ListenerState};
+ghost use Rattle.listeners.specs.Listening.{ListenerState, listener_text};
 ghost use Rattle.listeners.specs.Told.{texts};
 ghost use Rattle.output_pieces.specs.UnderWay.{IsUnderWay};
 ghost use Rattle.shelf_io.specs.Shelf.{Files, MayHoldFront, NoneFell, Rose, SameCounts, put};
@@ -13,9 +13,9 @@ use sight_names::Failed;
 
 /// Adds the text of a listener to a file whose next bytes it is.
 fn put_text<S: Shelf>(shelf: &mut S, name: &str, listener: &Box<dyn Listener>) -> Result<(), Failed>
-    ensures put { (before : Option Files) (all rest : List ℕ) → IsUnderWay before (S.state shelf.old).files name.now all ((listener_state listener.now).text ++ rest) →
+    ensures put { (before : Option Files) (all rest : List ℕ) → IsUnderWay before (S.state shelf.old).files name.now all (listener_text (listener_state listener.now) ++ rest) →
         OnOk result (IsUnderWay before (S.state shelf.new).files name.now all rest) }
-    ensures failed { (before : Option Files) (all rest : List ℕ) → IsUnderWay before (S.state shelf.old).files name.now all ((listener_state listener.now).text ++ rest) →
+    ensures failed { (before : Option Files) (all rest : List ℕ) → IsUnderWay before (S.state shelf.old).files name.now all (listener_text (listener_state listener.now) ++ rest) →
         OnErr result (MayHoldFront before (S.state shelf.new).files name.now all) }
     ensures counts { NoneFell (S.state shelf.old) (S.state shelf.new) }
     ensures quiet { OnOk result (SameCounts (S.state shelf.old) (S.state shelf.new)) }

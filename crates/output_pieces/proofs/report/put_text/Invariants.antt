@@ -1,4 +1,5 @@
 use Rattle.std.proofs.Common.{◌≡◌, ◌-◌, ◌≤◌, ℕ, List, ◌++◌, Option, drop, length}
+use Rattle.listeners.specs.Listening.{listener_text}
 use Rattle.shelf_io.specs.Shelf.{Files, NoneFell, SameCounts}
 use Rattle.output_pieces.specs.UnderWay.{IsUnderWay}
 use Rattle.output_pieces.proofs.report.put_text.Given as goal
@@ -7,7 +8,7 @@ use Rattle.output_pieces.proofs.report.put_text.Given as goal
 abbrev pub invariant-loop-piece : goal.invariant-loop-piece
 invariant-loop-piece g l =
     let state = g.S.Shelf.state in
-    let text = ((goal.Listener-dyn g (l.listener.vtable, l.listener.value)).listener_state l.listener.value).text in
+    let text = listener_text ((goal.Listener-dyn g (l.listener.vtable, l.listener.value)).listener_state l.listener.value) in
     record {
       way : (before : Option Files) (all rest : List ℕ) → IsUnderWay before (state l.fn.shelf).files l.name all (text ++ rest) → IsUnderWay before (state l.shelf).files l.name all (drop l.at text ++ rest);
       within : l.at ≤ length text;
@@ -17,4 +18,4 @@ invariant-loop-piece g l =
     }
 
 abbrev pub decreases-loop-piece : goal.decreases-loop-piece
-decreases-loop-piece g l = length ((goal.Listener-dyn g (l.listener.vtable, l.listener.value)).listener_state l.listener.value).text - l.at
+decreases-loop-piece g l = length (listener_text ((goal.Listener-dyn g (l.listener.vtable, l.listener.value)).listener_state l.listener.value)) - l.at
