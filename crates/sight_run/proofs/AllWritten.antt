@@ -15,6 +15,7 @@ use Rattle.wad_dir.proofs.Eight.{HasNames, names_read, names_rewritten}
 use Rattle.wad_rewrite.proofs.Reading.{printed_reads}
 use Rattle.all_maps.specs.declared.parts.Change.{Change}
 use Rattle.all_maps.specs.All.{HasInOrder, IsAll, names_changed, with_all}
+use Rattle.all_maps.proofs.InOrder.{in_order_through}
 use Rattle.all_maps.specs.Maps.{maps_of}
 use Rattle.all_maps.specs.Names.{word_of}
 use Rattle.all_maps.proofs.Lasting.{each_table_is_there}
@@ -30,7 +31,7 @@ use Rattle.whole_wad.specs.Report.{report_of}
 use Rattle.whole_wad.specs.Tables.{Gets}
 use Rattle.whole_wad.proofs.Changing.{changed_in_order}
 use Rattle.whole_wad.proofs.OneOutcome.{one_got}
-use Rattle.sight_run.specs.All.{AllCalls, OnWad, wad_in}
+use Rattle.sight_run.specs.All.{AllCalls, MapsCall, OnRead, maps_in, wad_in}
 use Rattle.sight_run.specs.Build.{wad_output}
 use Rattle.sight_run.specs.Laws.{AllIsAsBuild, AllKeepsLumps, HasLengthOf, KeepsAllLumps, table_built}
 use Rattle.sight_run.specs.Obeys.{AnswersAsked}
@@ -39,6 +40,7 @@ use Rattle.sight_run.specs.Run.{put_all}
 use Rattle.sight_run.proofs.Keeping.{stored}
 use Rattle.sight_run.proofs.Round.{passes, same_ok, was_found, was_wad}
 use Rattle.sight_run.proofs.Stood.{before_report, of_words, out_apart}
+use Rattle.sight_run.proofs.Whole.{asked_are_maps}
 
 -- ---- one WAD, and one map of a name
 
@@ -71,7 +73,7 @@ named_there wad name files w found is_wad is_found =
 contained : {A : Type 0} (P : A → Type 0) (xs : List A) (x : A) → AllByRecursion P xs → Contains xs x → P x
 contained P xs x all c = all_at P xs all c.0 x (slice_get-get_or xs c.0 x c.1 ∙ ap (λ y. Some y) c.2)
 
-module _ (wad name : List ℕ) (files : Files) (w : WadFile) (found : LocatedMap) (budget : Ask) (outcomes : List MapOutcome) (is_wad : wad_in wad files ≡ Ok w) (is_found : found_of wad name files ≡ Ok found) (are : AreOutcomes w budget outcomes) where
+module _ (wad name : List ℕ) (files : Files) (w : WadFile) (found : LocatedMap) (maps : List (List ℕ)) (budget : Ask) (outcomes : List MapOutcome) (is_wad : wad_in wad files ≡ Ok w) (is_found : found_of wad name files ≡ Ok found) (are : AreOutcomes w maps budget outcomes) where
   got : (o : MapOutcome) → Contains outcomes o → word_of o.name ≡ name → Gets (Ok found.map) budget o.made
   got o c e =
       let is : map_named w (word_of o.name) ≡ Ok found.map = ap (map_named w) e ∙ named_there wad name files w found is_wad is_found in
@@ -81,9 +83,9 @@ module _ (wad name : List ℕ) (files : Files) (w : WadFile) (found : LocatedMap
   made_as o c e made h = one_got (Ok found.map) budget o.made made (got o c e) h
 
 pub all_is_as_build : AllIsAsBuild
-all_is_as_build wad name files w found budget outcomes is_wad is_found are = record {
-  tables = λ o c e built h. made_as wad name files w found budget outcomes is_wad is_found are o c e (Ok (table_built built)) (record { cert = built.cert; is_built = h });
-  flaws = λ o c e refusal h. made_as wad name files w found budget outcomes is_wad is_found are o c e (Err refusal) h;
+all_is_as_build wad name files w found maps budget outcomes is_wad is_found are = record {
+  tables = λ o c e built h. made_as wad name files w found maps budget outcomes is_wad is_found are o c e (Ok (table_built built)) (record { cert = built.cert; is_built = h });
+  flaws = λ o c e refusal h. made_as wad name files w found maps budget outcomes is_wad is_found are o c e (Err refusal) h;
 }
 
 -- ---- what is written
@@ -99,24 +101,28 @@ has_length (Ok m) budget (Err s) h = tt
 has_length (Err s) budget made h = tt
 
 pub all_keeps_lumps : AllKeepsLumps
-all_keeps_lumps words wad out report workers budget files heard answer is_asked h = on (wad_in wad files) refl (subst (λ r. AnswersAsked r files heard (Ok answer)) is_asked h)
+all_keeps_lumps words wad out only report workers budget files heard answer is_asked h = on (wad_in wad files) refl (subst (λ r. AnswersAsked r files heard (Ok answer)) is_asked h)
   where
-    on : (r : Result WadFile Status) → wad_in wad files ≡ r → OnWad r (AllCalls out report budget) (Ok answer) → KeepsAllLumps wad out budget files (put_all files answer.writes)
-    on (Err s) e q = absurd cc
-    on (Ok w) e q =
+    of_maps : (w : WadFile) (r : Result (List (List ℕ)) Status) → wad_in wad files ≡ Ok w → maps_in (names_of w) only ≡ r → OnRead r (λ maps. MapsCall out report maps budget w) (Ok answer) → KeepsAllLumps wad out only budget files (put_all files answer.writes)
+    of_maps w (Err s) e f q = absurd cc
+    of_maps w (Ok maps) e f q =
         let cs = changes_of q.outcomes in
-        let among : HasInOrder (maps_of (names_of w)) (names_changed cs) = subst (λ (ms : List (List ℕ)). HasInOrder ms (names_changed cs)) q.are.each (changed_in_order q.outcomes) in
+        let among : HasInOrder (maps_of (names_of w)) (names_changed cs) =
+        in_order_through (maps_of (names_of w)) maps (names_changed cs) (asked_are_maps (names_of w) only maps f)
+        (subst (λ (ms : List (List ℕ)). HasInOrder ms (names_changed cs)) q.are.each (changed_in_order q.outcomes)) in
         let made : IsAll w cs (with_all w cs) = each_change_is_made w cs among in
         let old = fetched_wad wad files w e in
         let printed = printed_reads (with_all w cs) q.bytes (names_all w (with_all w cs) cs made (names_read old.bytes w old.read)) q.made in
         record {
           w = w;
           was = e;
+          maps = maps;
+          asked = f;
           outcomes = q.outcomes;
           are = q.are;
           lengths = all_so (ComesOf w budget) (λ (o : MapOutcome). HasLengthOf (map_named w (word_of o.name)) o.made) q.outcomes (λ o k. has_length (map_named w (word_of o.name)) budget o.made k) q.are.comes;
           bytes = q.bytes;
-          stands = ap (λ (a : Answer). put_all files a.writes out) q.is ∙ before_report files (wad_output out q.bytes ∷ []) report (report_of q.outcomes) out (out_apart wad out None report (of_words words (order.All wad out report workers budget) is_asked)).1 ∙ stored files out q.bytes;
+          stands = ap (λ (a : Answer). put_all files a.writes out) q.is ∙ before_report files (wad_output out q.bytes ∷ []) report (report_of q.outcomes) out (out_apart wad out None report (of_words words (order.All wad out only report workers budget) is_asked)).1 ∙ stored files out q.bytes;
           short = printed.short;
           new = with_all w cs;
           read = printed.read;
@@ -124,3 +130,7 @@ all_keeps_lumps words wad out report workers budget files heard answer is_asked 
           tables = each_table_is_there w cs among;
           lumps = ap (λ (x : WadFile). x.lumps) (all_spliced w cs among);
         }
+
+    on : (r : Result WadFile Status) → wad_in wad files ≡ r → OnRead r (AllCalls out only report budget) (Ok answer) → KeepsAllLumps wad out only budget files (put_all files answer.writes)
+    on (Err s) e q = absurd cc
+    on (Ok w) e q = of_maps w (maps_in (names_of w) only) e refl q

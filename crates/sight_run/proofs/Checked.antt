@@ -163,7 +163,7 @@ past_lines m b (Err s) meet q = q.1
 
 -- ---- the build, then the check
 
-wad_fetched : (o : Option (List ℕ)) (name bytes : List ℕ) (found : LocatedMap) → o ≡ Some bytes → length bytes < 2 ^ 31 → found_in name bytes ≡ Ok found → (of_fetch (content_of o 2147483647) >>= (λ bs. found_in name bs)) ≡ Ok found
+pub wad_fetched : (o : Option (List ℕ)) (name bytes : List ℕ) (found : LocatedMap) → o ≡ Some bytes → length bytes < 2 ^ 31 → found_in name bytes ≡ Ok found → (of_fetch (content_of o 2147483647) >>= (λ bs. found_in name bs)) ≡ Ok found
 wad_fetched o name bytes found e lt h =
     ap (λ (x : Option (List ℕ)). of_fetch (content_of x 2147483647) >>= (λ bs. found_in name bs)) e ∙ by (nat_lt 2147483647 (length bytes)) (le-ltb 2147483647 (length bytes) (omega (arith, lt))) ∙ h
   where
@@ -223,13 +223,14 @@ built_is_checked build check name out cert files others heard answer ask h have 
 
 -- ---- the runs
 
-record EndsDone (build : List (List ℕ)) (files stand : Files) (heard : Heard) (sinks : Sinks) : Type 0 where
-  answer : Answer
-  called : IsAnswer build files heard (Ok answer)
-  stands : stand ≡ put_all files answer.writes
-  said : sinks.new.held ≡ option_map (λ held. held ++ answer.line) sinks.old.held
+-- the answer that a run gave which ended with Done
+pub record EndsDone (build : List (List ℕ)) (files stand : Files) (heard : Heard) (sinks : Sinks) : Type 0 where
+  pub answer : Answer
+  pub called : IsAnswer build files heard (Ok answer)
+  pub stands : stand ≡ put_all files answer.writes
+  pub said : sinks.new.held ≡ option_map (λ held. held ++ answer.line) sinks.old.held
 
-ends_done : (build : List (List ℕ)) (files stand : Files) (heard : Heard) (before after : ShelfState) (sinks : Sinks) → RunEnds build files heard before after sinks.old sinks.new status.Done → after.files ≡ Some stand
+pub ends_done : (build : List (List ℕ)) (files stand : Files) (heard : Heard) (before after : ShelfState) (sinks : Sinks) → RunEnds build files heard before after sinks.old sinks.new status.Done → after.files ≡ Some stand
     → EndsDone build files stand heard sinks
 ends_done build files stand heard before after sinks h e = record {
   answer = h.ends.answer;

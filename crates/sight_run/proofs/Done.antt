@@ -12,7 +12,7 @@ use Rattle.sight_status.specs.declared.status.Role.TheVariants as role
 use Rattle.sight_status.specs.declared.status.Status.{Status}
 use Rattle.sight_status.specs.declared.status.Status.TheVariants as status
 use Rattle.map_answers.specs.Input.{LocatedMap, OnFound}
-use Rattle.sight_run.specs.All.{AllCalls, OnWad}
+use Rattle.sight_run.specs.All.{AllCalls, MapsCall, OnRead}
 use Rattle.sight_run.specs.Build.{BuildCalls}
 use Rattle.sight_run.specs.Heard.{Heard}
 use Rattle.sight_run.specs.Laws.{AllIsDone, BuildIsDone, EndsAll, EndsBuild}
@@ -62,16 +62,17 @@ build_is_done words wad name out asked report workers budget went found is_asked
 
 -- ---- all
 
-of_wad : (out : List ℕ) (report : Option (List ℕ)) (budget : Ask) (w : WadFile) (s : Status) → AllCalls out report budget w (Err s) → EndsAll budget w s
-of_wad out report budget w (status.Limit bound.Lumps) q = q
-of_wad out report budget w (status.Limit bound.OutputBytes) q = q
-of_wad out report budget w s q = absurd q
+of_wad : (out : List ℕ) (report : Option (List ℕ)) (maps : List (List ℕ)) (budget : Ask) (w : WadFile) (s : Status) → MapsCall out report maps budget w (Err s) → EndsAll maps budget w s
+of_wad out report maps budget w (status.Limit bound.Lumps) q = q
+of_wad out report maps budget w (status.Limit bound.OutputBytes) q = q
+of_wad out report maps budget w s q = absurd q
 
 pub all_is_done : AllIsDone
 unfolding Refuses
-all_is_done words wad out report workers budget went w is_asked is_wad well = elim (refuses words went.files went.heard went.before went.after went.sink.old went.sink.new went.status well.quiet well.ends well.cause) as (λ _. EndsAll budget w went.status) [
-  | inl e ↦ subst (EndsAll budget w) (sym e) tt
-  | inr (inl e) ↦ subst (EndsAll budget w) (sym e) tt
-  | inr (inr q) ↦ of_wad out report budget w went.status
-      (subst (λ (r : Result WadFile Status). OnWad r (AllCalls out report budget) (Err went.status)) is_wad (subst (λ r. AnswersAsked r went.files went.heard (Err went.status)) is_asked q))
+all_is_done words wad out only report workers budget went w maps is_asked is_wad is_found well = elim (refuses words went.files went.heard went.before went.after went.sink.old went.sink.new went.status well.quiet well.ends well.cause) as (λ _. EndsAll maps budget w went.status) [
+  | inl e ↦ subst (EndsAll maps budget w) (sym e) tt
+  | inr (inl e) ↦ subst (EndsAll maps budget w) (sym e) tt
+  | inr (inr q) ↦ of_wad out report maps budget w went.status
+      (subst (λ (r : Result (List (List ℕ)) Status). OnRead r (λ ms. MapsCall out report ms budget w) (Err went.status)) is_found
+      (subst (λ (r : Result WadFile Status). OnRead r (AllCalls out only report budget) (Err went.status)) is_wad (subst (λ r. AnswersAsked r went.files went.heard (Err went.status)) is_asked q)))
 ]

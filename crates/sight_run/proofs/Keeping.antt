@@ -50,7 +50,7 @@ made_stands files out bytes None spelled apart = stored files out bytes
 made_stands files out bytes (Some cert) spelled apart = under_out files out cert bytes spelled apart
 
 -- .. and with the report or without
-built_stands : (files : Files) (wad out bytes : List ℕ) (asked reported : Option (List ℕ)) (spelled report : List ℕ) → has_twice (wad ∷ out ∷ (given asked ++ given reported)) ≡ false
+pub built_stands : (files : Files) (wad out bytes : List ℕ) (asked reported : Option (List ℕ)) (spelled report : List ℕ) → has_twice (wad ∷ out ∷ (given asked ++ given reported)) ≡ false
     → put_all files (report_behind reported report (build_writes out bytes asked spelled)) out ≡ Some bytes
 built_stands files wad out bytes asked reported spelled report apart =
     let p = out_apart wad out asked reported apart in

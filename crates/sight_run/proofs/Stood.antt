@@ -33,6 +33,20 @@ of_words words o h = by (order_of words) h
     by None q = absurd cc
     by (Some x) q = on (is_built x) (has_twice (file_names x)) x refl q
 
+-- an order that words ask is the one that they are
+pub asked_is : (words : List (List ℕ)) (o : Order) → asked_of words ≡ Ok o → order_of words ≡ Some o
+unfolding asked_of
+asked_is words o h = by (order_of words) h
+  where
+    on : (a b : Bool) (x : Order) → (if not a then Err status.Usage else (if b then Err status.SameName else Ok x)) ≡ Ok o → x ≡ o
+    on false b x q = absurd cc
+    on true true x q = absurd cc
+    on true false x q = same_ok x o q
+
+    by : (r : Option Order) → of_order r ≡ Ok o → r ≡ Some o
+    by None q = absurd cc
+    by (Some x) q = ap (λ (y : Order). Some y) (on (is_built x) (has_twice (file_names x)) x q)
+
 not_back : (a b : List ℕ) → bytes_eq a b ≡ false → bytes_eq b a ≡ false
 not_back a b h = by (bytes_eq b a) refl
   where
@@ -75,6 +89,11 @@ under_out files out cert bytes spelled h =
 
 pub under_cert : (files : Files) (out cert bytes spelled : List ℕ) → put (put files out bytes) cert spelled cert ≡ Some spelled
 under_cert files out cert bytes spelled = ap (λ (b : Bool). if b then Some spelled else put files out bytes cert) (bytes_eq-refl cert)
+
+-- the report stands under its name, behind what else is written
+pub under_report : (files : Files) (ws : List Written) (report bytes : List ℕ) → put_all files (report_behind (Some report) bytes ws) report ≡ Some bytes
+under_report files ws report bytes =
+    ap (λ (f : Files). f report) (put_all_pushed files ws (report_output report bytes)) ∙ ap (λ (b : Bool). if b then Some bytes else put_all files ws report) (bytes_eq-refl report)
 
 -- what stands under another name than that of the report
 pub before_report : (files : Files) (ws : List Written) (asked : Option (List ℕ)) (report name : List ℕ) → IsOther name asked → put_all files (report_behind asked report ws) name ≡ put_all files ws name

@@ -1,11 +1,16 @@
 -- What the order `all` reads, and what it can be refused with.
 use Rattle.std.proofs.Common.{◌≡◌, ℕ, List, Option, Some, None, Result, Ok, Err, refl, sym, ap, subst, ◌∙◌}
 use Rattle.std.specs.Prelude.{IfErr, IfOk, ⊤}
+use Rattle.sight_names.specs.declared.faults.MapFault.{MapFault}
 use Rattle.sight_names.specs.declared.faults.WadFault.{WadFault}
 use Rattle.sight_names.specs.declared.faults.WadFault.TheVariants as wad
 use Rattle.sight_names.specs.declared.names.Ask.{Ask}
-use Rattle.shelf_io.specs.Shelf.{Files, content_of}
+use Rattle.shelf_io.specs.Shelf.{Files, SameCounts, ShelfState, content_of}
 use Rattle.wad_dir.specs.Wad.{WadFile, wad_of}
+use Rattle.all_maps.specs.All.{HasInOrder}
+use Rattle.all_maps.specs.Asked.{asked_maps_of}
+use Rattle.all_maps.specs.Maps.{maps_of}
+use Rattle.all_maps.proofs.AskedMaps.{asked_in_order}
 use Rattle.order_words.specs.declared.order.Order.TheVariants as order
 use Rattle.sight_status.specs.declared.status.Bound.TheVariants as bound
 use Rattle.sight_status.specs.declared.status.Role.TheVariants as role
@@ -14,12 +19,14 @@ use Rattle.sight_status.specs.declared.status.Status.TheVariants as status
 use Rattle.sight_status.specs.Answer.{Answer, Gives, IsTheAnswer, Makes, ◌>>=◌}
 use Rattle.sight_status.specs.Status.{IsOfBytes}
 use Rattle.map_answers.specs.Input.{of_wad}
-use Rattle.sight_run.specs.All.{OnWad, all_roles, wad_in}
+use Rattle.sight_run.specs.All.{OnRead, all_roles, maps_in, of_asked, wad_in}
+use Rattle.sight_run.specs.Asked.{IsOfNames}
 use Rattle.sight_run.specs.Obeys.{WritesEach}
 use Rattle.sight_run.specs.Reading.{of_fetch}
 use Rattle.sight_run.specs.declared.reply.Reply.{Reply}
 use Rattle.sight_run.specs.Reply.{roles_of, writes}
-use Rattle.sight_run.specs.Run.{IsOfAll, IsOfOrder}
+use Rattle.sight_run.specs.Run.{IsOfAll, IsOfOrder, IsOfWhole, RefusalCause}
+use Rattle.sight_run.proofs.Round.{same_ok}
 
 -- ---- the WAD in a file
 
@@ -39,15 +46,25 @@ pub wad_refused : {V : Type 0} (view : V → WadFile) (wad : List ℕ) (files : 
 unfolding wad_in
 wad_refused view wad files bytes s e made = subst (λ (r : Result (List ℕ) Status). Makes view (Err s) (r >>= (λ (b : List ℕ). of_wad (wad_of b)))) (sym e) made
 
--- ---- an answer by the WAD
+-- ---- an answer by what was read
 
-pub gives_unread : {V : Type 0} (view : V → WadFile) (said : Result WadFile Status) (Called : WadFile → Result Answer Status → Type 0) (s : Status) → Makes view (Err s) said → Gives ⊤ (OnWad said Called) (Err s)
+pub gives_unread : {V D : Type 0} (view : V → D) (said : Result D Status) (Called : D → Result Answer Status → Type 0) (s : Status) → Makes view (Err s) said → Gives ⊤ (OnRead said Called) (Err s)
 gives_unread view said Called status.Memory made = tt
 gives_unread view said Called (status.ReadFault k) made = tt
-gives_unread view said Called s made = subst (λ (r : Result WadFile Status). IsTheAnswer ⊤ (OnWad r Called) (Err s)) (sym made) (record { called = refl; only = λ sole other q. q })
+gives_unread {V} {D} view said Called s made = subst (λ (r : Result D Status). IsTheAnswer ⊤ (OnRead r Called) (Err s)) (sym made) (record { called = refl; only = λ sole other q. q })
 
-pub gives_read : (said : Result WadFile Status) (w : WadFile) (Called : WadFile → Result Answer Status → Type 0) (r : Result Answer Status) → said ≡ Ok w → Gives ⊤ (Called w) r → Gives ⊤ (OnWad said Called) r
-gives_read said w Called r e h = subst (λ (x : Result WadFile Status). Gives ⊤ (OnWad x Called) r) (sym e) h
+pub gives_read : {D : Type 0} (said : Result D Status) (read : D) (Called : D → Result Answer Status → Type 0) (r : Result Answer Status) → said ≡ Ok read → Gives ⊤ (Called read) r → Gives ⊤ (OnRead said Called) r
+gives_read {D} said read Called r e h = subst (λ (x : Result D Status). Gives ⊤ (OnRead x Called) r) (sym e) h
+
+-- ---- the maps that are to be built
+
+pub was_asked : (r : Result (List (List ℕ)) MapFault) (maps : List (List ℕ)) → of_asked r ≡ Ok maps → r ≡ Ok maps
+was_asked (Ok found) maps h = ap (λ (ms : List (List ℕ)). Ok ms) (same_ok found maps h)
+was_asked (Err fault) maps h = absurd cc
+
+-- they are some of all maps, in order
+pub asked_are_maps : (names : List (List ℕ)) (only : Option (List (List ℕ))) (maps : List (List ℕ)) → maps_in names only ≡ Ok maps → HasInOrder (maps_of names) maps
+asked_are_maps names only maps h = asked_in_order names only maps (was_asked (asked_maps_of names only) maps h)
 
 -- ---- refusals and roles
 
@@ -64,36 +81,54 @@ of_directory (Err wad.TooManyLumps) s e = let q : status.Limit bound.Lumps ≡ s
 of_directory (Err wad.Memory) s e = let q : status.Memory ≡ s = cc in subst IsOfDirectory q tt
 of_directory (Err fault) s e = let q : status.NotWad fault ≡ s = cc in subst IsOfDirectory q tt
 
-by_directory : (s : Status) → IsOfBytes s → IsOfDirectory s → IsOfAll s
+by_directory : (s : Status) → IsOfBytes s → IsOfDirectory s → IsOfWhole s
 by_directory (status.NotWad fault) of h = of
 by_directory (status.Limit bound.Lumps) of h = tt
 by_directory status.Memory of h = tt
 by_directory s of h = absurd h
 
-pub directory_refused : {V : Type 0} (view : V → WadFile) (said : Result WadFile WadFault) (s : Status) → IsOfBytes s → Makes view (Err s) (of_wad said) → IsOfAll s
+pub directory_refused : {V : Type 0} (view : V → WadFile) (said : Result WadFile WadFault) (s : Status) → IsOfBytes s → Makes view (Err s) (of_wad said) → IsOfWhole s
 directory_refused view said status.Memory of made = tt
 directory_refused view said (status.ReadFault k) of made = absurd of
 directory_refused view said s of made = by_directory s of (of_directory said s made)
 
-of_order : (wad out : List ℕ) (report : Option (List ℕ)) (workers : ℕ) (budget : Ask) (s : Status) → IsOfAll s → IsOfOrder (order.All wad out report workers budget) s
-of_order wad out report workers budget (status.NoFile role.Wad) h = tt
-of_order wad out report workers budget (status.ReadFault role.Wad) h = tt
-of_order wad out report workers budget (status.NotWad fault) h = tt
-of_order wad out report workers budget (status.Limit bound.WadBytes) h = tt
-of_order wad out report workers budget (status.Limit bound.Lumps) h = tt
-of_order wad out report workers budget (status.Limit bound.OutputBytes) h = tt
-of_order wad out report workers budget status.Memory h = tt
-of_order wad out report workers budget s h = absurd h
+-- one that is none of a name's
+pub of_whole : (only : Option (List (List ℕ))) (s : Status) → IsOfWhole s → IsOfAll only s
+of_whole only (status.NoMap fault) h = absurd h
+of_whole only s h = h
 
-pub all_refusals : {V : Type 0} (wad out : List ℕ) (report : Option (List ℕ)) (workers : ℕ) (budget : Ask) (r : Result V Status) → IfErr r IsOfAll → IfErr r (IsOfOrder (order.All wad out report workers budget))
-all_refusals wad out report workers budget (Ok v) h = tt
-all_refusals wad out report workers budget (Err s) h = of_order wad out report workers budget s h
+-- one of a name
+pub of_names : (only : Option (List (List ℕ))) (s : Status) → IsOfNames only s → IsOfAll only s
+of_names only (status.NoMap fault) h = h
+of_names only status.Memory h = tt
+of_names only s h = absurd h
 
-all_written : (wad out : List ℕ) (report : Option (List ℕ)) (workers : ℕ) (budget : Ask) → WritesEach (order.All wad out report workers budget) (all_roles report)
-all_written wad out None workers budget = (tt, tt)
-all_written wad out (Some name) workers budget = (tt, (tt, tt))
+-- .. which the shelf doesn't explain
+pub names_cause : (only : Option (List (List ℕ))) (old new : ShelfState) (s : Status) → IsOfNames only s → SameCounts old new → RefusalCause old new s
+names_cause only old new (status.NoMap fault) h same = same
+names_cause only old new status.Memory h same = tt
+names_cause only old new s h same = absurd h
 
-pub each_written : (wad out : List ℕ) (report : Option (List ℕ)) (workers : ℕ) (budget : Ask) (r : Result Reply Status) → IfOk r (λ (reply : Reply). roles_of (writes reply) ≡ all_roles report)
-    → IfOk r (λ (reply : Reply). WritesEach (order.All wad out report workers budget) (roles_of (writes reply)))
-each_written wad out report workers budget (Ok reply) h = subst (WritesEach (order.All wad out report workers budget)) (sym h) (all_written wad out report workers budget)
-each_written wad out report workers budget (Err s) h = tt
+of_order : (wad out : List ℕ) (only : Option (List (List ℕ))) (report : Option (List ℕ)) (workers : ℕ) (budget : Ask) (s : Status) → IsOfAll only s → IsOfOrder (order.All wad out only report workers budget) s
+of_order wad out only report workers budget (status.NoFile role.Wad) h = tt
+of_order wad out only report workers budget (status.ReadFault role.Wad) h = tt
+of_order wad out only report workers budget (status.NotWad fault) h = tt
+of_order wad out only report workers budget (status.NoMap fault) h = h
+of_order wad out only report workers budget (status.Limit bound.WadBytes) h = tt
+of_order wad out only report workers budget (status.Limit bound.Lumps) h = tt
+of_order wad out only report workers budget (status.Limit bound.OutputBytes) h = tt
+of_order wad out only report workers budget status.Memory h = tt
+of_order wad out only report workers budget s h = absurd h
+
+pub all_refusals : {V : Type 0} (wad out : List ℕ) (only : Option (List (List ℕ))) (report : Option (List ℕ)) (workers : ℕ) (budget : Ask) (r : Result V Status) → IfErr r (IsOfAll only) → IfErr r (IsOfOrder (order.All wad out only report workers budget))
+all_refusals wad out only report workers budget (Ok v) h = tt
+all_refusals wad out only report workers budget (Err s) h = of_order wad out only report workers budget s h
+
+all_written : (wad out : List ℕ) (only : Option (List (List ℕ))) (report : Option (List ℕ)) (workers : ℕ) (budget : Ask) → WritesEach (order.All wad out only report workers budget) (all_roles report)
+all_written wad out only None workers budget = (tt, tt)
+all_written wad out only (Some name) workers budget = (tt, (tt, tt))
+
+pub each_written : (wad out : List ℕ) (only : Option (List (List ℕ))) (report : Option (List ℕ)) (workers : ℕ) (budget : Ask) (r : Result Reply Status) → IfOk r (λ (reply : Reply). roles_of (writes reply) ≡ all_roles report)
+    → IfOk r (λ (reply : Reply). WritesEach (order.All wad out only report workers budget) (roles_of (writes reply)))
+each_written wad out only report workers budget (Ok reply) h = subst (WritesEach (order.All wad out only report workers budget)) (sym h) (all_written wad out only report workers budget)
+each_written wad out only report workers budget (Err s) h = tt

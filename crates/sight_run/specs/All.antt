@@ -1,10 +1,12 @@
 -- What the order `all` makes of a WAD.
 use Rattle.std.specs.Prelude.{◌≡◌, ℕ, List, [], ◌∷◌, ◌++◌, Option, Result, Ok, Err, codes, length}
 use Rattle.std.specs.Fmt.{decimal}
+use Rattle.sight_names.specs.declared.faults.MapFault.{MapFault}
 use Rattle.sight_names.specs.declared.faults.RewriteFault.TheVariants as rewrite
 use Rattle.sight_names.specs.declared.names.Ask.{Ask}
 use Rattle.shelf_io.specs.Shelf.{Files, content_of}
-use Rattle.wad_dir.specs.Wad.{WadFile, wad_of}
+use Rattle.wad_dir.specs.Wad.{WadFile, names_of, wad_of}
+use Rattle.all_maps.specs.Asked.{asked_maps_of}
 use Rattle.sight_status.specs.declared.status.Bound.TheVariants as bound
 use Rattle.sight_status.specs.declared.status.Role.{Role}
 use Rattle.sight_status.specs.declared.status.Role.TheVariants as role
@@ -25,12 +27,21 @@ wad_in wad files = do
   bytes ← of_fetch (content_of (files wad) 2147483647)
   of_wad (wad_of bytes)
 
--- an answer to the WAD that was read, or the refusal where none was
-abbrev pub OnWad : Result WadFile Status → (WadFile → Result Answer Status → Type 0) → Result Answer Status → Type 0
-OnWad (Ok w) Called answer = Called w answer
-OnWad (Err refusal) Called answer = answer ≡ Err refusal
+abbrev pub of_asked : Result (List (List ℕ)) MapFault → Result (List (List ℕ)) Status
+of_asked (Ok maps) = Ok maps
+of_asked (Err fault) = Err (status.NoMap fault)
 
--- how many maps the WAD has, and how many of them were built and refused
+-- the maps that are to be built, among entries of these names: all of them, or those that some names are given for; or the refusal
+-- of the first such name that is none's
+abbrev pub maps_in : List (List ℕ) → Option (List (List ℕ)) → Result (List (List ℕ)) Status
+maps_in names only = of_asked (asked_maps_of names only)
+
+-- an answer to what was read, or the refusal where nothing was
+abbrev pub OnRead : {V : Type 0} → Result V Status → (V → Result Answer Status → Type 0) → Result Answer Status → Type 0
+OnRead (Ok read) Called answer = Called read answer
+OnRead (Err refusal) Called answer = answer ≡ Err refusal
+
+-- how many maps were to be built, and how many of them were built and refused
 abbrev pub tally_line : ℕ → ℕ → ℕ → List ℕ
 tally_line maps built refused = codes "all maps " ++ decimal maps ++ codes " built " ++ decimal built ++ codes " refused " ++ decimal refused ++ codes "\n"
 
@@ -44,9 +55,9 @@ all_roles reported = role.Wad ∷ report_roles reported
 
 -- A map gets its table exactly where it is within the limits and sound, and else is refused by the first check that fails.
 -- OUT is the WAD with these tables, the report says of each map its counts or its refusal, and the line counts them.
-pub record ShowsAll (out : List ℕ) (reported : Option (List ℕ)) (budget : Ask) (w : WadFile) (answer : Answer) : Type 0 where
+pub record ShowsAll (out : List ℕ) (reported : Option (List ℕ)) (maps : List (List ℕ)) (budget : Ask) (w : WadFile) (answer : Answer) : Type 0 where
   pub outcomes : List MapOutcome
-  pub are : AreOutcomes w budget outcomes
+  pub are : AreOutcomes w maps budget outcomes
   pub bytes : List ℕ
   pub made : written_of w outcomes ≡ Ok bytes
   pub is : answer ≡ record {
@@ -54,9 +65,13 @@ pub record ShowsAll (out : List ℕ) (reported : Option (List ℕ)) (budget : As
     line = tally_line (length outcomes) (length (changes_of outcomes)) (length (refusals_of outcomes));
   }
 
--- the answer that `all` calls for
-abbrev pub AllCalls : List ℕ → Option (List ℕ) → Ask → WadFile → Result Answer Status → Type 0
-AllCalls out reported budget w (Ok answer) = ShowsAll out reported budget w answer
-AllCalls out reported budget w (Err (status.Limit bound.Lumps)) = IsAboveLimit w budget rewrite.TooManyLumps
-AllCalls out reported budget w (Err (status.Limit bound.OutputBytes)) = IsAboveLimit w budget rewrite.TooLong
-AllCalls out reported budget w (Err other) = ⊥
+-- the answer that is called for where these maps are to be built
+abbrev pub MapsCall : List ℕ → Option (List ℕ) → List (List ℕ) → Ask → WadFile → Result Answer Status → Type 0
+MapsCall out reported maps budget w (Ok answer) = ShowsAll out reported maps budget w answer
+MapsCall out reported maps budget w (Err (status.Limit bound.Lumps)) = IsAboveLimit w maps budget rewrite.TooManyLumps
+MapsCall out reported maps budget w (Err (status.Limit bound.OutputBytes)) = IsAboveLimit w maps budget rewrite.TooLong
+MapsCall out reported maps budget w (Err other) = ⊥
+
+-- The answer that `all` calls for. Where names are given, the maps of these names alone are built; all other lumps stay.
+abbrev pub AllCalls : List ℕ → Option (List (List ℕ)) → Option (List ℕ) → Ask → WadFile → Result Answer Status → Type 0
+AllCalls out only reported budget w answer = OnRead (maps_in (names_of w) only) (λ maps. MapsCall out reported maps budget w) answer

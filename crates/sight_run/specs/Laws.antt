@@ -31,7 +31,7 @@ use Rattle.whole_wad.specs.Built.{IsBuiltOf}
 use Rattle.whole_wad.specs.Outcomes.{AreOutcomes, changes_of}
 use Rattle.whole_wad.specs.Tables.{IsFlawOf}
 use Rattle.whole_wad.specs.Whole.{IsAboveLimit}
-use Rattle.sight_run.specs.All.{wad_in}
+use Rattle.sight_run.specs.All.{maps_in, wad_in}
 use Rattle.sight_run.specs.Build.{ShowsLimit, build_line}
 use Rattle.sight_run.specs.Check.{yes_line}
 use Rattle.map_answers.specs.Input.{LocatedMap, map_named}
@@ -147,21 +147,23 @@ pub record AreMadeAlike (found : LocatedMap) (name : List ℕ) (budget : Ask) (o
   pub flaws : (o : MapOutcome) → Contains outcomes o → word_of o.name ≡ name → (refusal : Status) → IsFlawOf found.map refusal → o.made ≡ Err refusal
 
 abbrev pub AllIsAsBuild : Type 0
-AllIsAsBuild = (wad name : List ℕ) (files : Files) (w : WadFile) (found : LocatedMap) (budget : Ask) (outcomes : List MapOutcome)
-    → wad_in wad files ≡ Ok w → found_of wad name files ≡ Ok found → AreOutcomes w budget outcomes → AreMadeAlike found name budget outcomes
+AllIsAsBuild = (wad name : List ℕ) (files : Files) (w : WadFile) (found : LocatedMap) (maps : List (List ℕ)) (budget : Ask) (outcomes : List MapOutcome)
+    → wad_in wad files ≡ Ok w → found_of wad name files ≡ Ok found → AreOutcomes w maps budget outcomes → AreMadeAlike found name budget outcomes
 
 -- a table has the length that the sectors of its map ask
 abbrev pub HasLengthOf : Result Map Status → Result MapTable Status → Type 0
 HasLengthOf (Ok m) (Ok made) = IsTable m.sectors made.table.bytes
 HasLengthOf said other = ⊤
 
--- Under OUT stands a WAD that is read as the one of the file in which each map that got a table has it as its REJECT, and in which all
--- other lumps are as they were, in order.
-pub record KeepsAllLumps (wad out : List ℕ) (budget : Ask) (files stand : Files) : Type 0 where
+-- Under OUT stands a WAD that is read as the one of the file in which each map that was to be built and got a table has it as its REJECT,
+-- and in which all other lumps are as they were, in order.
+pub record KeepsAllLumps (wad out : List ℕ) (only : Option (List (List ℕ))) (budget : Ask) (files stand : Files) : Type 0 where
   pub w : WadFile
   pub was : wad_in wad files ≡ Ok w
+  pub maps : List (List ℕ)
+  pub asked : maps_in (names_of w) only ≡ Ok maps
   pub outcomes : List MapOutcome
-  pub are : AreOutcomes w budget outcomes
+  pub are : AreOutcomes w maps budget outcomes
   pub lengths : AllByRecursion (λ (o : MapOutcome). HasLengthOf (map_named w (word_of o.name)) o.made) outcomes
   pub bytes : List ℕ
   pub stands : stand out ≡ Some bytes
@@ -176,9 +178,9 @@ pub record KeepsAllLumps (wad out : List ℕ) (budget : Ask) (files stand : File
 
 -- Where `all` is answered, OUT holds such a WAD.
 abbrev pub AllKeepsLumps : Type 0
-AllKeepsLumps = (words : List (List ℕ)) (wad out : List ℕ) (report : Option (List ℕ)) (workers : ℕ) (budget : Ask) (files : Files) (heard : Heard) (answer : Answer)
-    → asked_of words ≡ Ok (order.All wad out report workers budget) → IsAnswer words files heard (Ok answer)
-    → KeepsAllLumps wad out budget files (put_all files answer.writes)
+AllKeepsLumps = (words : List (List ℕ)) (wad out : List ℕ) (only : Option (List (List ℕ))) (report : Option (List ℕ)) (workers : ℕ) (budget : Ask) (files : Files) (heard : Heard) (answer : Answer)
+    → asked_of words ≡ Ok (order.All wad out only report workers budget) → IsAnswer words files heard (Ok answer)
+    → KeepsAllLumps wad out only budget files (put_all files answer.writes)
 
 -- ---- where nothing failed
 
@@ -222,15 +224,15 @@ BuildWithRoomIsDone = (words : List (List ℕ)) (wad name out : List ℕ) (asked
     → WentWell words went → (went.status ≡ status.Done) ⊎ (went.status ≡ status.Memory)
 
 -- it is done, unless memory ran out, or the WAD with all tables is above that limit
-abbrev pub EndsAll : Ask → WadFile → Status → Type 0
-EndsAll budget w status.Done = ⊤
-EndsAll budget w status.Memory = ⊤
-EndsAll budget w (status.Limit bound.Lumps) = IsAboveLimit w budget rewrite.TooManyLumps
-EndsAll budget w (status.Limit bound.OutputBytes) = IsAboveLimit w budget rewrite.TooLong
-EndsAll budget w other = ⊥
+abbrev pub EndsAll : List (List ℕ) → Ask → WadFile → Status → Type 0
+EndsAll maps budget w status.Done = ⊤
+EndsAll maps budget w status.Memory = ⊤
+EndsAll maps budget w (status.Limit bound.Lumps) = IsAboveLimit w maps budget rewrite.TooManyLumps
+EndsAll maps budget w (status.Limit bound.OutputBytes) = IsAboveLimit w maps budget rewrite.TooLong
+EndsAll maps budget w other = ⊥
 
--- `all` of a WAD that is read ends so.
+-- `all` of a WAD that is read ends so, where each name that is given is that of a map. Without names there is nothing to be found.
 abbrev pub AllIsDone : Type 0
-AllIsDone = (words : List (List ℕ)) (wad out : List ℕ) (report : Option (List ℕ)) (workers : ℕ) (budget : Ask) (went : Went) (w : WadFile)
-    → asked_of words ≡ Ok (order.All wad out report workers budget) → wad_in wad went.files ≡ Ok w
-    → WentWell words went → EndsAll budget w went.status
+AllIsDone = (words : List (List ℕ)) (wad out : List ℕ) (only : Option (List (List ℕ))) (report : Option (List ℕ)) (workers : ℕ) (budget : Ask) (went : Went) (w : WadFile) (maps : List (List ℕ))
+    → asked_of words ≡ Ok (order.All wad out only report workers budget) → wad_in wad went.files ≡ Ok w → maps_in (names_of w) only ≡ Ok maps
+    → WentWell words went → EndsAll maps budget w went.status

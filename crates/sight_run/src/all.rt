@@ -1,22 +1,26 @@
-//! The order `all`: the table of each map of a WAD in the place of its REJECT, and a line on each map where a report is asked for.
+//! The order `all`: the table of each map of a WAD, or of those that are named, in the place of its REJECT, and a line on each where a
+//! report is asked for.
 
 ghost use Rattle.std.specs.Prelude.{◌≡◌, ◌+◌, ◌≤◌, ℕ, List, IfErr, IfOk, OnErr, All, Some, length, string_bytes, ⊤};
 ghost use Rattle.shelf_io.specs.Shelf.{Files, NoneFell};
 ghost use Rattle.wad_dir.specs.Map.{entry_names};
 ghost use Rattle.wad_dir.specs.Wad.{WadFile, file_of, names_of};
+ghost use Rattle.all_maps.specs.All.{HasInOrder};
+ghost use Rattle.all_maps.specs.Maps.{maps_of};
 ghost use Rattle.order_words.specs.declared.order.Order.TheVariants as order;
 ghost use Rattle.sight_status.specs.Answer.{Gives};
-ghost use Rattle.sight_run.specs.All.{AllCalls, OnWad, all_roles, all_writes, tally_line, wad_in};
+ghost use Rattle.sight_run.specs.All.{AllCalls, MapsCall, OnRead, all_roles, all_writes, tally_line, wad_in};
 ghost use Rattle.sight_run.specs.Reply.{replied, reply_seen, roles_of, writes};
 ghost use Rattle.sight_run.specs.Run.{Cause, IsOfAll};
 ghost use Rattle.sight_status.specs.Status.{IsOfMaking};
 
+use crate::asked::asked_maps;
 use crate::input::fetch_wad;
 use crate::reply::{Bytes, Reply, push_output};
 use map_answers::directory;
 use order_words::Text;
 use shelf_io::Shelf;
-use sight_names::{Ask, RewriteFault};
+use sight_names::{Ask, Items, RewriteFault};
 use sight_status::{Bound, Role, Status, push_count, push_count_line};
 use sight_workers::Gate;
 use std::alloc::{AllocError, Global};
@@ -65,12 +69,13 @@ fn reply_of(
     Ok(Reply { outputs, line })
 }
 
-/// What comes of all maps of the WAD.
+/// What comes of the maps of these names.
 fn make_reply<R: Threads + Sync, G: Gate + Sync, N: Notice>(
     rt: &R,
     alloc: Global,
     bytes: &[u8],
     wad: &Wad,
+    maps: &[[u8; 8]],
     out: &str,
     report: &Option<Text>,
     workers: u16,
@@ -80,12 +85,13 @@ fn make_reply<R: Threads + Sync, G: Gate + Sync, N: Notice>(
 ) -> Result<Reply, Status>
     requires inside { All (λ entry. entry.at + entry.size ≤ length bytes.now) wad.now.entries }
     requires names { names_of (file_of bytes.now wad.now) ≡ entry_names wad.now.entries }
+    requires among { HasInOrder (maps_of (entry_names wad.now.entries)) maps.now }
     requires workers { (1 ≤ workers) × (workers ≤ 64) }
-    ensures called { Gives ⊤ (AllCalls out.now report.now budget (file_of bytes.now wad.now)) (reply_seen result) }
+    ensures called { Gives ⊤ (MapsCall out.now report.now maps.now budget (file_of bytes.now wad.now)) (reply_seen result) }
     ensures refusals { IfErr result IsOfMaking }
     ensures roles { IfOk result (λ reply. roles_of (writes reply) ≡ all_roles report.now) }
 {
-    let whole = match build_wad(rt, alloc, bytes, wad, workers, budget, gate, notice) {
+    let whole = match build_wad(rt, alloc, bytes, wad, maps, workers, budget, gate, notice) {
         Ok(whole) => whole,
         Err(RewriteFault::TooManyLumps) => return Err(Status::Limit(Bound::Lumps)),
         Err(RewriteFault::TooLong) => return Err(Status::Limit(Bound::OutputBytes)),
@@ -104,6 +110,7 @@ pub fn do_all<R: Threads + Sync, S: Shelf, G: Gate + Sync, N: Notice>(
     shelf: &mut S,
     wad: &str,
     out: &str,
+    only: &Option<Items<Text>>,
     report: &Option<Text>,
     workers: u16,
     budget: Ask,
@@ -111,16 +118,17 @@ pub fn do_all<R: Threads + Sync, S: Shelf, G: Gate + Sync, N: Notice>(
     notice: &N,
 ) -> Result<Reply, Status>
     requires workers { (1 ≤ workers) × (workers ≤ 64) }
-    ensures told { (files : Files) → (S.state shelf.old).files ≡ Some files → Gives ⊤ (OnWad (wad_in wad.now files) (AllCalls out.now report.now budget)) (reply_seen result) }
+    ensures told { (files : Files) → (S.state shelf.old).files ≡ Some files → Gives ⊤ (OnRead (wad_in wad.now files) (AllCalls out.now only.now report.now budget)) (reply_seen result) }
     ensures files { (S.state shelf.new).files ≡ (S.state shelf.old).files }
     ensures counts { NoneFell (S.state shelf.old) (S.state shelf.new) }
     ensures cause { Cause (S.state shelf.old) (S.state shelf.new) result }
-    ensures refusals { IfErr result IsOfAll }
+    ensures refusals { IfErr result (IsOfAll only.now) }
     ensures roles { IfOk result (λ reply. roles_of (writes reply) ≡ all_roles report.now) }
 {
     let bytes = fetch_wad(alloc, shelf, wad)?;
     let wad = directory(alloc, &bytes)?;
+    let maps = asked_maps(alloc, &wad, only)?;
     make_reply(
-        rt, alloc, &bytes, &wad, out, report, workers, budget, gate, notice,
+        rt, alloc, &bytes, &wad, &maps, out, report, workers, budget, gate, notice,
     )
 }

@@ -1,5 +1,6 @@
 //! What holds of the orders together, and of what they write.
 
+ghost use Rattle.sight_run.specs.Build.{BuildsSayOneThing};
 ghost use Rattle.sight_run.specs.Laws.{AllIsAsBuild, AllIsDone, AllKeepsLumps, BuildIsDone, BuildKeepsLumps, BuildWithRoomIsDone, BuiltIsChecked, BuiltRunIsChecked, ZeroKeepsLumps};
 
 /// Where `build` is answered, the one answer that `check` of OUT and FILE calls for is yes, with the same counts.
@@ -11,6 +12,11 @@ pub fn built_is_checked()
 /// want of memory and faults of reading or of the text.
 pub fn built_run_is_checked()
     ensures { BuiltRunIsChecked }
+{}
+
+/// All that `build` answers of a map within a budget says one line and writes one WAD, by how many workers ever.
+pub fn builds_say_one_thing()
+    ensures { BuildsSayOneThing }
 {}
 
 /// Where `zero` is answered, OUT is read as the WAD with a clear REJECT for the map. The map's name finds it there with

@@ -1,0 +1,102 @@
+-- What `grid` answers, told on from the reply to the line that is put.
+use Rattle.std.proofs.Common.{◌≡◌, ◌⊎◌, ◌∙◌, inl, inr, ℕ, Bool, List, [], ◌++◌, Result, Ok, Err, sym, ap, subst}
+use Rattle.std.specs.Prelude.{IfErr, IfOk, string_bytes, ⊤}
+use Rattle.std.specs.Option.{option_map}
+use Rattle.sight_names.specs.declared.names.Ask.{Ask}
+use Rattle.shelf_io.specs.Shelf.{ShelfState}
+use Rattle.shelf_io.specs.Sink.{SinkState}
+use Rattle.order_words.specs.declared.order.Order.{Order}
+use Rattle.order_words.specs.declared.order.Order.TheVariants as order
+use Rattle.sight_status.specs.declared.status.Role.{Role}
+use Rattle.sight_status.specs.declared.status.Role.TheVariants as role
+use Rattle.sight_status.specs.declared.status.Status.{Status}
+use Rattle.sight_status.specs.declared.status.Status.TheVariants as status
+use Rattle.sight_status.specs.Answer.{Gives, Makes, Written, status_of}
+use Rattle.sight_status.specs.Say.{Refused, Said, SaidIfMade}
+use Rattle.sight_status.specs.Status.{IsOfWords}
+use Rattle.sight_status.specs.Texts.{text_of}
+use Rattle.sight_run.specs.declared.reply.Reply.{Reply}
+use Rattle.sight_run.specs.Grid.{GridCalls, IsOfGrid}
+use Rattle.sight_run.specs.Made.{GridSays, IsMade, IsMadeBy, PutsMade}
+use Rattle.sight_run.specs.Reply.{IsFaultOf, reply_line, reply_seen, writes}
+use Rattle.sight_run.specs.Run.{RefusalCause}
+
+-- ---- by the order
+
+-- the reply has no output, so its line is all that is answered
+pub grid_says : (n : ℕ) (hexen : Bool) (budget : Ask) (r : Result Reply Status) → Gives ⊤ (GridCalls n hexen budget) (reply_seen r) → IfOk r (λ reply. writes reply ≡ []) → IfErr r IsOfGrid → GridSays n hexen budget (status_of (reply_seen r)) (reply_line r)
+grid_says n hexen budget (Ok reply) h none of = subst (λ (ws : List Written). GridCalls n hexen budget (Ok (record { writes = ws; line = string_bytes reply.line }))) none h.called
+grid_says n hexen budget (Err status.Done) h none of = absurd of
+grid_says n hexen budget (Err status.Memory) h none of = tt
+grid_says n hexen budget (Err (status.WriteFault k)) h none of = tt
+grid_says n hexen budget (Err (status.ReadFault k)) h none of = absurd of
+grid_says n hexen budget (Err s) h none of = h.called
+
+-- an order whose output can't be stored has made one
+pub broken_made : (asked : Order) (roles : List Role) (s : Status) (line : List ℕ) → IsFaultOf roles s → IsMadeBy asked s line
+broken_made (order.Grid n workers budget hexen) roles (status.WriteFault k) line h = tt
+broken_made (order.Grid n workers budget hexen) roles s line h = absurd h
+broken_made asked roles s line h = tt
+
+starved_by : (asked : Order) (line : List ℕ) → IsMadeBy asked status.Memory line
+starved_by (order.Grid n workers budget hexen) line = tt
+starved_by asked line = tt
+
+unput_by : (asked : Order) (line : List ℕ) → IsMadeBy asked (status.WriteFault role.Text) line
+unput_by (order.Grid n workers budget hexen) line = tt
+unput_by asked line = tt
+
+-- ---- by the words
+
+pub asked_made : (said : Result Order Status) (asked : Order) (s : Status) (line : List ℕ) → said ≡ Ok asked → IsMadeBy asked s line → IsMade said s line
+asked_made said asked s line e h = subst (λ (r : Result Order Status). IsMade r s line) (sym e) h
+
+pub unasked_made : (said : Result Order Status) (s : Status) (line : List ℕ) → IsOfWords s → Makes {V = Order} (λ o. o) (Err s) said → IsMade said s line
+unasked_made (Err refusal) s line of made = tt
+unasked_made (Ok asked) status.Memory line of made = starved_by asked line
+unasked_made (Ok asked) status.Usage line of made = absurd cc
+unasked_made (Ok asked) status.SameName line of made = absurd cc
+unasked_made (Ok asked) s line of made = absurd of
+
+starved : (said : Result Order Status) (line : List ℕ) → IsMade said status.Memory line
+starved (Ok asked) line = starved_by asked line
+starved (Err refusal) line = tt
+
+unput : (said : Result Order Status) (line : List ℕ) → IsMade said (status.WriteFault role.Text) line
+unput (Ok asked) line = unput_by asked line
+unput (Err refusal) line = tt
+
+-- ---- at the end of a run
+
+-- the status of a run that had a line to put: that one, or the sink is at fault
+pub made_done : (said : Result Order Status) (o n : SinkState) (r : Status) (line put : List ℕ) → put ≡ line → IsMade said status.Done line → Said status.Done r o n put → PutsMade said o n r
+made_done said o n r line put same h (inl w) = subst (λ (t : Status). PutsMade said o n t) (sym w.status) (line, h, w.held ∙ ap (λ (l : List ℕ). option_map (λ held. held ++ l) o.held) same)
+made_done said o n r line put same h (inr w) = subst (λ (t : Status). PutsMade said o n t) (sym w.status) (unput said (text_of (status.WriteFault role.Text)))
+
+-- .. or there was no memory for the line
+abbrev EndsAs : Status → Status → Type 0
+EndsAs s r = (r ≡ s) ⊎ ((r ≡ status.Memory) ⊎ (r ≡ status.WriteFault role.Text))
+
+of_said : (s r : Status) (o n : SinkState) (line : List ℕ) → Said s r o n line → EndsAs s r
+of_said s r o n line (inl w) = inl w.status
+of_said s r o n line (inr w) = inr (inr w.status)
+
+of_made : (s r : Status) (o n : SinkState) → SaidIfMade s r o n → EndsAs s r
+of_made s r o n (inl h) = of_said s r o n (text_of s) h
+of_made s r o n (inr w) = inr (inl w.status)
+
+of_refused : (s r : Status) (o n : SinkState) → Refused s r o n → EndsAs s r
+of_refused status.Memory r o n h = inl h.status
+of_refused (status.WriteFault k) r o n h = of_said (status.WriteFault k) r o n (text_of (status.WriteFault k)) h
+of_refused s r o n h = of_made s r o n h
+
+puts_refusal : (said : Result Order Status) (before after : ShelfState) (o n : SinkState) (s : Status) → RefusalCause before after s → IsMade said s (text_of s) → PutsMade said o n s
+puts_refusal said before after o n status.Done cause h = absurd cause
+puts_refusal said before after o n s cause h = h
+
+pub made_refused : (said : Result Order Status) (before after : ShelfState) (o n : SinkState) (s r : Status) → RefusalCause before after s → IsMade said s (text_of s) → Refused s r o n → PutsMade said o n r
+made_refused said before after o n s r cause h put = elim (of_refused s r o n put) as (λ _. PutsMade said o n r) [
+  | inl e ↦ subst (λ (t : Status). PutsMade said o n t) (sym e) (puts_refusal said before after o n s cause h)
+  | inr (inl e) ↦ subst (λ (t : Status). PutsMade said o n t) (sym e) (starved said (text_of status.Memory))
+  | inr (inr e) ↦ subst (λ (t : Status). PutsMade said o n t) (sym e) (unput said (text_of (status.WriteFault role.Text)))
+]

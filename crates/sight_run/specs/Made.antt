@@ -1,0 +1,34 @@
+-- What `grid` ends with. It reads no file, so this is said whatever the shelf tells.
+use Rattle.std.specs.Prelude.{◌≡◌, ℕ, Bool, List, ◌++◌, Result, Ok, Err, ⊤}
+use Rattle.std.specs.Option.{option_map}
+use Rattle.sight_names.specs.declared.names.Ask.{Ask}
+use Rattle.shelf_io.specs.Sink.{SinkState}
+use Rattle.order_words.specs.declared.order.Order.{Order}
+use Rattle.order_words.specs.declared.order.Order.TheVariants as order
+use Rattle.sight_status.specs.declared.status.Status.{Status}
+use Rattle.sight_status.specs.declared.status.Status.TheVariants as status
+use Rattle.sight_status.specs.Answer.{only_line}
+use Rattle.sight_status.specs.Texts.{text_of}
+use Rattle.sight_run.specs.Grid.{GridCalls}
+
+-- the line, or the refusal, is what the order calls for; memory may run out, and the line may not be put
+abbrev pub GridSays : ℕ → Bool → Ask → Status → List ℕ → Type 0
+GridSays n hexen budget status.Done line = GridCalls n hexen budget (Ok (only_line line))
+GridSays n hexen budget status.Memory line = ⊤
+GridSays n hexen budget (status.WriteFault role) line = ⊤
+GridSays n hexen budget refusal line = GridCalls n hexen budget (Err refusal)
+
+-- so it is of an order that reads no file
+abbrev pub IsMadeBy : Order → Status → List ℕ → Type 0
+IsMadeBy (order.Grid n workers budget hexen) s line = GridSays n hexen budget s line
+IsMadeBy asked s line = ⊤
+
+-- .. and of words that ask for it
+abbrev pub IsMade : Result Order Status → Status → List ℕ → Type 0
+IsMade (Ok asked) s line = IsMadeBy asked s line
+IsMade (Err refusal) s line = ⊤
+
+-- with Done such a line was put
+abbrev pub PutsMade : Result Order Status → SinkState → SinkState → Status → Type 0
+PutsMade said old new status.Done = (line : List ℕ) × IsMade said status.Done line × (new.held ≡ option_map (λ held. held ++ line) old.held)
+PutsMade said old new refusal = IsMade said refusal (text_of refusal)

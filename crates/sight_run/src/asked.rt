@@ -1,0 +1,77 @@
+//! The maps that `all` is to build: all maps of a WAD, or those of some names.
+
+ghost use Rattle.std.specs.Prelude.{◌≡◌, IfErr, IfOk, filter};
+ghost use Rattle.wad_dir.specs.Map.{entry_names, has_name};
+ghost use Rattle.all_maps.specs.Asked.{first_fault};
+ghost use Rattle.sight_status.specs.Answer.{Makes};
+ghost use Rattle.sight_run.specs.All.{maps_in};
+ghost use Rattle.sight_run.specs.Asked.{IsOfNames};
+
+use all_maps::{fault_of, maps};
+use order_words::Text;
+use sight_names::{Items, MapFault};
+use sight_status::Status;
+use std::alloc::{AllocError, Global};
+use wad_dir::{Wad, is_same_name};
+
+/// Why the first of these names that is none of a map's isn't one.
+fn first_fault(wad: &Wad, only: &[Text]) -> Option<MapFault>
+    ensures { result ≡ first_fault (entry_names wad.now.entries) only.now }
+{
+    for name in only {
+        if let Some(fault) = fault_of(wad, name.as_str()) {
+            return Some(fault);
+        }
+    }
+    None
+}
+
+fn is_asked(map: &[u8; 8], only: &[Text]) -> bool
+    ensures { result ≡ has_name map.now only.now }
+{
+    for name in only {
+        if is_same_name(name.as_str().as_bytes(), map) {
+            return true;
+        }
+    }
+    false
+}
+
+/// Those of the maps that have one of these names.
+fn asked_among(alloc: Global, maps: &[[u8; 8]], only: &[Text]) -> Result<Vec<[u8; 8]>, AllocError>
+    ensures { IfOk result (λ asked. asked.items ≡ filter (λ map. has_name map only.now) maps.now) }
+{
+    let mut asked = Vec::new(alloc);
+    for map in maps {
+        if is_asked(map, only) {
+            asked.push(*map)?;
+        }
+    }
+    Ok(asked)
+}
+
+/// The names of the maps that are to be built, in the order of their entries.
+pub fn asked_maps(
+    alloc: Global,
+    wad: &Wad,
+    only: &Option<Items<Text>>,
+) -> Result<Vec<[u8; 8]>, Status>
+    ensures maps { Makes (λ maps. maps.items) result (maps_in (entry_names wad.now.entries) only.now) }
+    ensures refusals { IfErr result (IsOfNames only.now) }
+{
+    let all = match maps(alloc, wad) {
+        Ok(all) => all,
+        Err(_) => return Err(Status::Memory),
+    };
+    let Some(only) = only else {
+        return Ok(all);
+    };
+    let only = only.as_slice();
+    if let Some(fault) = first_fault(wad, only) {
+        return Err(Status::NoMap(fault));
+    }
+    match asked_among(alloc, &all, only) {
+        Ok(asked) => Ok(asked),
+        Err(_) => Err(Status::Memory),
+    }
+}
