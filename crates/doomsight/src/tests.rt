@@ -1,0 +1,280 @@
+//! What no clause says: which word is the first wrong one, what the program says of itself, and runs on files in memory.
+
+use crate::answers::{answer, question_in};
+use crate::runs::run_words;
+use crate::usage::{Fault, diagnose};
+use order_words::read_words;
+use run_cases::{Stage, stage_of, words_in};
+use shelf_io::MemSink;
+use sight_names::OrderFault;
+use sight_run::{NoNotice, Status, code};
+use std::alloc::{AllocError, Global};
+use std::test::Fail;
+use std::thread::Threads;
+
+/// Words, and the number of the first wrong one, `end` where one is missing, or `-` where they are an order. The word `''` is
+/// empty.
+const WORDS: &str = "\
+ | end
+paint a MAP01 b | 1
+'' a | 1
+- a | 1
+zero | end
+zero a MAP01 | end
+zero a MAP01 b | -
+zero a MAP01 a | -
+zero a map01 b | -
+zero a MAP01 b c | 5
+zero '' MAP01 b | 2
+zero a '' b | 3
+zero a MAP000001 b | 3
+zero a MAP01 '' | 4
+zero a MAP01 b --cert c | 5
+zero --cert | 2
+zero a MAP01 b -h | 5
+zero --help a MAP01 b | 2
+zero a MAP01 -5 | 4
+zero a MAP01 - | -
+zero - MAP01 b | -
+zero -- a MAP01 b | -
+-- zero a MAP01 b | -
+zero a -- MAP01 --cert | -
+zero a MAP01 -- -- | -
+zero a MAP01 b -- | -
+zero a MAP01 b -- c | 6
+--help | 1
+--version | 1
+audit a MAP01 | -
+audit a MAP01 b | 4
+need a | end
+need a MAP01 --budget enough | 4
+check a MAP01 c | -
+check a MAP01 '' | 4
+ray a MAP01 2R,2L,0,1,-32 | -
+ray a MAP01 2R,2L,0,1 | 4
+ray a MAP01 65536R,2L,0,1,-32 | 4
+trace a MAP01 2R,5L,0,1,0 | -
+trace a MAP01 | end
+sound a MAP01 | -
+sound a MAP01 0 | end
+sound a MAP01 0 1 | -
+sound a MAP01 0 65536 | 5
+sound a MAP01 000000 1 | 4
+sound a MAP01 0 1 2 | 6
+build a MAP01 b --cert c --report r --budget full --workers 8 | -
+--report r build a --cert=c MAP01 --workers=64 b --budget=enough | -
+build a MAP01 b --cert | end
+build a MAP01 b --cert= | 5
+build a MAP01 b --cert '' | 6
+build a MAP01 b --cert --report r | 6
+build a MAP01 b --cert -- r | 6
+build a MAP01 b --cert - | -
+build a MAP01 b --cert c --cert d | 7
+build a MAP01 b --cert=c --cert=d | 6
+build a MAP01 b --cer c | 5
+build a MAP01 b --cert=--report | -
+build a MAP01 b -c | 5
+build a MAP01 b --=c | 5
+build a MAP01 b --budget 0 | 6
+build a MAP01 b --budget=4294967296 | -
+build a MAP01 b --budget 4294967297 | 6
+build a MAP01 b --workers 0 | 6
+build a MAP01 b --workers 65 | 6
+build a MAP01 b --hexen | 5
+--hexen build a MAP01 b | 2
+--hexen --cert c grid 2 | 2
+--cert c --hexen | 3
+--cert c grid 2 | 3
+--report r grid 2 | 3
+--report r all a b | -
+all a b | -
+all a | end
+all a b --cert c | 4
+all a b --only map01,MAP02 | -
+all a b --only=MAP01 | -
+all a b --only MAP01, | 5
+all a b --only ,MAP01 | 5
+all a b --only '' | 5
+all a b --only MAP000001 | 5
+all a b --only MAP01 --only MAP02 | 6
+--only MAP01 build a MAP01 b | 3
+--only MAP01 --cert c | 3
+all a MAP01 b | 4
+grid 2 | -
+grid 18 --hexen --workers 1 --budget 1 | -
+grid 19 | 2
+grid +2 | 2
+grid 2 3 | 3
+grid 2 --hexen=true | 3
+grid 2 --hexen= | 3
+grid 2 --hexen --hexen | 4
+grid --report r 2 | 2
+grid --budget | end
+";
+
+/// Words that are put together in every way.
+static SOME: [&str; 10] = [
+    "build",
+    "grid",
+    "sound",
+    "MAP01",
+    "2",
+    "--cert",
+    "--budget=full",
+    "--hexen",
+    "--",
+    "-x",
+];
+
+/// Words that ask of the program itself, and how the answer begins.
+const QUESTIONS: &str = "\
+--version | doomsight 1.0.0
+-h | doomsight 1.0.0: 
+paint --help | doomsight 1.0.0: 
+build a --version --help | doomsight 1.0.0
+audit a MAP01 -h | doomsight audit WAD MAP
+grid --help | doomsight grid N [--budget N|full|enough] [--workers N] [--hexen]
+sound -- --help | 
+zero a MAP01 b | 
+";
+
+/// Files, words, and the exit code.
+const CODES: &str = "\
+a=U | audit a MAP01 | 0
+a=PAIR | ray a MAP01 2L,2R,0,1,-32 | 1
+a=U | audit a | 2
+a=U | audit b MAP01 | 3
+a=U, reads=0 | audit a MAP01 | 4
+a=U, puts=0 | audit a MAP01 | 5
+a=#50574158000000000c000000 | zero a MAP01 b | 6
+a=SQUARE @250:1:37 | zero a MAP02 b | 7
+a=SQUARE @14:1:09 | zero a MAP01 b | 8
+a=SQUARE .1 *229390 | zero a MAP01 b | 9
+a=TOUCHED | audit a MAP01 | 10
+a=U | zero a MAP01 a | 11
+";
+
+fn parts_of(row: &str) -> (&str, &str) {
+    row.split_once('|').unwrap_or((row, ""))
+}
+
+fn words_of(alloc: Global, line: &str) -> Result<Vec<String>, AllocError> {
+    let mut words = words_in(alloc, line)?;
+    for word in words.iter_mut() {
+        if word.as_str() == "''" {
+            word.clear();
+        }
+    }
+    Ok(words)
+}
+
+// What is said of the words, as the rows have it. Whether that is that they are an order is what `read_words` says.
+fn said_of(alloc: Global, words: &[String]) -> Result<String, OrderFault> {
+    let fault = diagnose(words).fault;
+    let is_order = match read_words(alloc, words) {
+        Ok(_) => true,
+        Err(OrderFault::Usage) => false,
+        Err(OrderFault::Memory) => return Err(OrderFault::Memory),
+    };
+    let said = match fault {
+        None if is_order => String::from_str(alloc, "-")?,
+        Some(Fault::Missing) if !is_order => String::from_str(alloc, "end")?,
+        Some(Fault::Word { at, .. }) if !is_order => at.saturating_add(1).to_string(alloc)?,
+        _ => String::from_str(alloc, "unlike read_words")?,
+    };
+    Ok(said)
+}
+
+#[test]
+fn the_first_wrong_word_is_told(rt: HostRuntime) -> Result<(), Fail> {
+    let alloc = rt.alloc();
+    for row in WORDS.lines() {
+        let (line, wanted) = parts_of(row);
+        let said = said_of(alloc, &words_of(alloc, line)?)?;
+        assert_eq!(rt; said.as_str(), wanted.trim(), "{row}");
+    }
+    Ok(())
+}
+
+// The list of so many of these words that has this number.
+fn words_numbered(alloc: Global, count: usize, number: usize) -> Result<Vec<String>, AllocError> {
+    let mut words = Vec::new(alloc);
+    let mut left = number;
+    for _ in 0..count {
+        words.push(String::from_str(alloc, SOME[left % 10])?)?;
+        left /= 10;
+    }
+    Ok(words)
+}
+
+#[test]
+fn what_is_no_order_has_a_wrong_word(rt: HostRuntime) -> Result<(), Fail> {
+    let alloc = rt.alloc();
+    let mut orders = 0u32;
+    for (count, lists) in [(1, 10), (2, 100), (3, 1_000), (4, 10_000)] {
+        for number in 0..lists {
+            let words = words_numbered(alloc, count, number)?;
+            let said = said_of(alloc, &words)?;
+            assert!(rt; said.as_str() != "unlike read_words", "{words:?}");
+            if said.as_str() == "-" {
+                orders = orders.saturating_add(1);
+            }
+        }
+    }
+    assert!(rt; orders > 0);
+    Ok(())
+}
+
+#[test]
+fn what_is_asked_of_the_program_is_answered(rt: HostRuntime) -> Result<(), Fail> {
+    let alloc = rt.alloc();
+    for row in QUESTIONS.lines() {
+        let (line, begins) = parts_of(row);
+        let mut out = MemSink::new(alloc, Vec::new(alloc));
+        let mut broken = MemSink::new(alloc, vec![in alloc; 2]?);
+        if let Some(question) = question_in(&words_of(alloc, line)?) {
+            assert!(rt; answer(&mut out, &question) == Status::Done, "{row}");
+            assert_eq!(rt; code(&answer(&mut broken, &question)), 5, "{row}");
+        }
+        assert!(rt; out.held().starts_with(begins.trim().as_bytes()), "{row}");
+        assert_eq!(rt; out.held().is_empty(), begins.trim().is_empty(), "{row}");
+    }
+    Ok(())
+}
+
+fn run_on<R: Threads + Sync>(
+    rt: &R,
+    alloc: Global,
+    stage: &mut Stage,
+    line: &str,
+) -> Result<Status, AllocError> {
+    let words = words_in(alloc, line)?;
+    let mut out = MemSink::new(alloc, stage.puts.clone()?);
+    run_words(rt, alloc, &words, &mut stage.shelf, &mut out, &NoNotice)
+}
+
+#[test]
+fn each_run_has_its_exit_code(rt: HostRuntime) -> Result<(), Fail> {
+    let alloc = rt.alloc();
+    for row in CODES.lines() {
+        let (given, rest) = parts_of(row);
+        let (line, wanted) = parts_of(rest);
+        let mut stage = stage_of(alloc, given)?;
+        let status = run_on(&rt, alloc, &mut stage, line)?;
+        assert_eq!(rt; Ok(code(&status)), wanted.trim().parse::<u8>(), "{row}");
+    }
+    Ok(())
+}
+
+#[test]
+fn a_report_has_its_lines_and_totals(rt: HostRuntime) -> Result<(), Fail> {
+    let alloc = rt.alloc();
+    let mut stage = stage_of(alloc, "a=U")?;
+    let status = run_on(&rt, alloc, &mut stage, "build a MAP01 b --report=r")?;
+    assert!(rt; status == Status::Done);
+    assert_eq!(rt;
+        stage.shelf.bytes("r").unwrap_or(b""),
+        b"set 0 2\ntotal set 1 clear 5 listed 0\n".as_slice()
+    );
+    Ok(())
+}

@@ -1,0 +1,324 @@
+//! What is wrong with words that are no order: the first word behind which no words make an order of those up to it.
+//! `order_words` has the last word on which words are an order; a test holds the two together.
+
+use crate::verbs::{Choice, Place, VERBS, Verb, verb_named};
+use order_words::{budget, may_name_file, may_name_map, ray, rooms, sector, workers};
+use std::io;
+
+/// Why a word can't stand where it does.
+#[derive(Clone, Copy)]
+pub enum Why {
+    NoVerb,
+    NoFile,
+    NoMap,
+    NoRay,
+    NoSector,
+    NoRooms,
+    NoBudget,
+    NoWorkers,
+    NoMaps,
+    TooMany,
+    NoOption,
+    NotTaken,
+    Twice,
+    TakesNone,
+    WantsValue,
+}
+
+/// What is wrong with words.
+#[derive(Clone, Copy)]
+pub enum Fault {
+    /// The word of this number, counted from 0.
+    Word { at: usize, why: Why },
+    /// No word is wrong, but one is missing behind them.
+    Missing,
+}
+
+/// What is wrong with words, nothing where they are an order, and the verb among them.
+#[derive(Clone, Copy)]
+pub struct Diagnosis {
+    pub fault: Option<Fault>,
+    pub verb: Option<&'static Verb>,
+}
+
+// Which options stand among the words so far.
+#[derive(Clone, Copy)]
+struct Given {
+    only: bool,
+    cert: bool,
+    report: bool,
+    budget: bool,
+    workers: bool,
+    hexen: bool,
+}
+
+impl Given {
+    fn has(&self, choice: Choice) -> bool {
+        match choice {
+            Choice::Only => self.only,
+            Choice::Cert => self.cert,
+            Choice::Report => self.report,
+            Choice::Budget => self.budget,
+            Choice::Workers => self.workers,
+            Choice::Hexen => self.hexen,
+        }
+    }
+
+    fn note(&mut self, choice: Choice) {
+        match choice {
+            Choice::Only => self.only = true,
+            Choice::Cert => self.cert = true,
+            Choice::Report => self.report = true,
+            Choice::Budget => self.budget = true,
+            Choice::Workers => self.workers = true,
+            Choice::Hexen => self.hexen = true,
+        }
+    }
+}
+
+const CHOICES: [Choice; 6] = [
+    Choice::Only,
+    Choice::Cert,
+    Choice::Report,
+    Choice::Budget,
+    Choice::Workers,
+    Choice::Hexen,
+];
+
+fn choice_named(name: &str) -> Option<Choice> {
+    match name {
+        "only" => Some(Choice::Only),
+        "cert" => Some(Choice::Cert),
+        "report" => Some(Choice::Report),
+        "budget" => Some(Choice::Budget),
+        "workers" => Some(Choice::Workers),
+        "hexen" => Some(Choice::Hexen),
+        _ => None,
+    }
+}
+
+fn takes_all(verb: &Verb, given: Given) -> bool {
+    CHOICES.iter().all(|choice| !given.has(*choice) || verb.choices.contains(choice))
+}
+
+fn unless(fits: bool, why: Why) -> Result<(), Why> {
+    if fits { Ok(()) } else { Err(why) }
+}
+
+fn fits_place(place: Place, word: &str) -> Result<(), Why> {
+    match place {
+        Place::File => unless(may_name_file(word), Why::NoFile),
+        Place::Map => unless(may_name_map(word), Why::NoMap),
+        Place::Ray => unless(ray(word).is_some(), Why::NoRay),
+        Place::Sector => unless(sector(word).is_some(), Why::NoSector),
+        Place::Rooms => unless(rooms(word).is_some(), Why::NoRooms),
+    }
+}
+
+fn may_name_maps(word: &str) -> bool {
+    word.split(',').all(|name| may_name_map(name))
+}
+
+fn fits_choice(choice: Choice, word: &str) -> Result<(), Why> {
+    match choice {
+        Choice::Only => unless(may_name_maps(word), Why::NoMaps),
+        Choice::Cert | Choice::Report => unless(may_name_file(word), Why::NoFile),
+        Choice::Budget => unless(budget(word).is_some(), Why::NoBudget),
+        Choice::Workers => unless(workers(word).is_some(), Why::NoWorkers),
+        Choice::Hexen => Err(Why::TakesNone),
+    }
+}
+
+// The name of a long option, and the value behind its `=`.
+fn parts_of(body: &str) -> (&str, Option<&str>) {
+    match body.split_once('=') {
+        Some((name, value)) => (name, Some(value)),
+        None => (body, None),
+    }
+}
+
+// What was read so far, where no word was wrong.
+#[derive(Clone, Copy)]
+struct Reader {
+    verb: Option<&'static Verb>,
+    // How many places behind the verb have their word.
+    filled: usize,
+    given: Given,
+    // The option whose value comes next.
+    waiting: Option<Choice>,
+    // `--` stood there: no option comes any more.
+    is_closed: bool,
+}
+
+impl Reader {
+    fn new() -> Reader {
+        Reader {
+            verb: None,
+            filled: 0,
+            given: Given {
+                only: false,
+                cert: false,
+                report: false,
+                budget: false,
+                workers: false,
+                hexen: false,
+            },
+            waiting: None,
+            is_closed: false,
+        }
+    }
+
+    // The verb takes all options so far; while there is none, some verb does.
+    fn check_options(&self) -> Result<(), Why> {
+        let given = self.given;
+        let is_taken = match self.verb {
+            Some(verb) => takes_all(verb, given),
+            None => VERBS.iter().any(|verb| takes_all(verb, given)),
+        };
+        unless(is_taken, Why::NotTaken)
+    }
+
+    fn take_choice(&mut self, choice: Choice, value: Option<&str>) -> Result<(), Why> {
+        unless(!self.given.has(choice), Why::Twice)?;
+        self.given.note(choice);
+        self.check_options()?;
+        match value {
+            Some(value) => fits_choice(choice, value),
+            None => {
+                if choice != Choice::Hexen {
+                    self.waiting = Some(choice);
+                }
+                Ok(())
+            }
+        }
+    }
+
+    fn take_option(&mut self, word: &str) -> Result<(), Why> {
+        unless(self.waiting.is_none(), Why::WantsValue)?;
+        if word == "--" {
+            self.is_closed = true;
+            return Ok(());
+        }
+        let (name, value) = match word.strip_prefix("--") {
+            Some(body) => parts_of(body),
+            None => return Err(Why::NoOption),
+        };
+        match choice_named(name) {
+            Some(choice) => self.take_choice(choice, value),
+            None => Err(Why::NoOption),
+        }
+    }
+
+    fn take_value(&mut self, word: &str) -> Result<(), Why> {
+        match self.verb {
+            None => {
+                self.verb = verb_named(word);
+                unless(self.verb.is_some(), Why::NoVerb)?;
+                self.check_options()
+            }
+            Some(verb) => match verb.places.get(self.filled) {
+                Some(place) => {
+                    self.filled = self.filled.saturating_add(1);
+                    fits_place(*place, word)
+                }
+                None => Err(Why::TooMany),
+            },
+        }
+    }
+
+    fn take(&mut self, word: &str) -> Result<(), Why> {
+        if !self.is_closed && word.starts_with('-') && word != "-" {
+            return self.take_option(word);
+        }
+        match self.waiting {
+            Some(choice) => {
+                self.waiting = None;
+                fits_choice(choice, word)
+            }
+            None => self.take_value(word),
+        }
+    }
+
+    fn is_complete(&self) -> bool {
+        match self.verb {
+            Some(verb) => {
+                let left = verb.places.len().saturating_sub(self.filled);
+                self.waiting.is_none() && (left == 0 || left == verb.spare)
+            }
+            None => false,
+        }
+    }
+}
+
+/// What is wrong with the words.
+pub fn diagnose(words: &[String]) -> Diagnosis {
+    let mut reader = Reader::new();
+    for (at, word) in words.iter().enumerate() {
+        if let Err(why) = reader.take(word.as_str()) {
+            return Diagnosis {
+                fault: Some(Fault::Word { at, why }),
+                verb: reader.verb,
+            };
+        }
+    }
+    Diagnosis {
+        fault: if reader.is_complete() {
+            None
+        } else {
+            Some(Fault::Missing)
+        },
+        verb: reader.verb,
+    }
+}
+
+fn reason(why: Why) -> &'static str {
+    match why {
+        Why::NoVerb => "no verb",
+        Why::NoFile => "no name of a file",
+        Why::NoMap => "no name of a map, 1 to 8 printing characters",
+        Why::NoRay => "no ray of five parts, as 2R,5L,0,1,-32",
+        Why::NoSector => "no sector, 0 to 65535",
+        Why::NoRooms => "no number of rooms, 1 to 18",
+        Why::NoBudget => "no budget, 1 to 4294967296, full or enough",
+        Why::NoWorkers => "no number of workers, 1 to 64",
+        Why::NoMaps => "no names of maps between commas, as MAP01,MAP02",
+        Why::TooMany => "one word too many",
+        Why::NoOption => "no option",
+        Why::NotTaken => "not with these options",
+        Why::Twice => "given twice",
+        Why::TakesNone => "this option takes no value",
+        Why::WantsValue => "the option before it has no value",
+    }
+}
+
+/// Prints the synopsis of the verb, or of each verb.
+pub fn print_synopsis<P: Print>(to: &P, verb: Option<&Verb>) -> io::Result<()> {
+    match verb {
+        Some(verb) => to.println(verb.synopsis),
+        None => {
+            for verb in VERBS.iter() {
+                to.println(verb.synopsis)?;
+            }
+            Ok(())
+        }
+    }
+}
+
+/// Prints what is wrong with words that are no order, and a synopsis.
+pub fn print_diagnosis<P: Print>(to: &P, words: &[String]) -> io::Result<()> {
+    let found = diagnose(words);
+    match found.fault {
+        Some(Fault::Word { at, why }) => {
+            let number = at.saturating_add(1);
+            let word = match words.get(at) {
+                Some(word) => word.as_str(),
+                None => "",
+            };
+            let reason = reason(why);
+            println!(to; "word {number}, {word:?}: {reason}")?;
+        }
+        Some(Fault::Missing) => println!(to; "a word is missing at the end")?,
+        None => {}
+    }
+    print_synopsis(to, found.verb)
+}

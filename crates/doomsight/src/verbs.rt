@@ -1,0 +1,135 @@
+//! The verbs: what each takes, and what is said of it.
+
+/// What a word behind a verb has to be.
+#[derive(Clone, Copy)]
+pub enum Place {
+    File,
+    Map,
+    Ray,
+    Sector,
+    Rooms,
+}
+
+/// An option.
+#[derive(Clone, Copy, PartialEq, Eq)]
+pub enum Choice {
+    Only,
+    Cert,
+    Report,
+    Budget,
+    Workers,
+    Hexen,
+}
+
+/// A verb.
+pub struct Verb {
+    pub name: &'static str,
+    /// What stands behind it, in order.
+    pub places: &'static [Place],
+    /// How many of these, the last ones, may be left out together.
+    pub spare: usize,
+    /// The options that it takes.
+    pub choices: &'static [Choice],
+    pub synopsis: &'static str,
+    /// What it does, in one sentence.
+    pub about: &'static str,
+}
+
+/// All verbs.
+pub static VERBS: [Verb; 10] = [
+    Verb {
+        name: "all",
+        places: &[Place::File, Place::File],
+        spare: 0,
+        choices: &[
+            Choice::Only,
+            Choice::Report,
+            Choice::Budget,
+            Choice::Workers,
+        ],
+        synopsis: "doomsight all WAD OUT [--only MAP,MAP] [--report FILE] [--budget N|full|enough] [--workers N]",
+        about: "Builds every map of the WAD, or those that are named, judges each table by its own certificate, and writes the WAD with these tables to OUT.",
+    },
+    Verb {
+        name: "build",
+        places: &[Place::File, Place::Map, Place::File],
+        spare: 0,
+        choices: &[
+            Choice::Cert,
+            Choice::Report,
+            Choice::Budget,
+            Choice::Workers,
+        ],
+        synopsis: "doomsight build WAD MAP OUT [--cert FILE] [--report FILE] [--budget N|full|enough] [--workers N]",
+        about: "Writes the WAD with the map's REJECT to OUT, and a certificate and a report of the pairs of sectors where they are asked for.",
+    },
+    Verb {
+        name: "check",
+        places: &[Place::File, Place::Map, Place::File],
+        spare: 0,
+        choices: &[],
+        synopsis: "doomsight check WAD MAP CERT",
+        about: "Judges the map's REJECT by a certificate; a yes means that no rejected pair can see.",
+    },
+    Verb {
+        name: "audit",
+        places: &[Place::File, Place::Map],
+        spare: 0,
+        choices: &[],
+        synopsis: "doomsight audit WAD MAP",
+        about: "Says whether the map is sound: lines meet at ends alone, and each face is closed.",
+    },
+    Verb {
+        name: "need",
+        places: &[Place::File, Place::Map],
+        spare: 0,
+        choices: &[],
+        synopsis: "doomsight need WAD MAP",
+        about: "Says how many sequences of portals the sector that needs most has, and a number that is enough for any map of this size.",
+    },
+    Verb {
+        name: "sound",
+        places: &[Place::File, Place::Map, Place::Sector, Place::Sector],
+        spare: 2,
+        choices: &[],
+        synopsis: "doomsight sound WAD MAP [A B]",
+        about: "Names the sides of the lines by which a noise gets from sector A to sector B; without them says how many pairs of sectors hear each other.",
+    },
+    Verb {
+        name: "ray",
+        places: &[Place::File, Place::Map, Place::Ray],
+        spare: 0,
+        choices: &[],
+        synopsis: "doomsight ray WAD MAP RAY",
+        about: "Says whether a ray is a line of sight, and between which sectors, or what is wrong with it.",
+    },
+    Verb {
+        name: "trace",
+        places: &[Place::File, Place::Map, Place::Ray],
+        spare: 0,
+        choices: &[],
+        synopsis: "doomsight trace WAD MAP RAY",
+        about: "Names the sectors that a ray passes, or what it hits first.",
+    },
+    Verb {
+        name: "zero",
+        places: &[Place::File, Place::Map, Place::File],
+        spare: 0,
+        choices: &[],
+        synopsis: "doomsight zero WAD MAP OUT",
+        about: "Writes the WAD with an all-clear REJECT for the map to OUT, without an audit.",
+    },
+    Verb {
+        name: "grid",
+        places: &[Place::Rooms],
+        spare: 0,
+        choices: &[Choice::Budget, Choice::Workers, Choice::Hexen],
+        synopsis: "doomsight grid N [--budget N|full|enough] [--workers N] [--hexen]",
+        about: "Makes a map of N by N rooms, and builds and checks it in memory.",
+    },
+];
+
+/// The verb of that name.
+pub fn verb_named(name: &str) -> Option<&'static Verb> {
+    VERBS.iter().find(|verb| verb.name == name)
+}
