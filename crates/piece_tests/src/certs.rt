@@ -1,36 +1,53 @@
-//! The worked certificate in pieces of every cut: its parts, its fault where it is cut off, and what a judge says of it.
+//! Worked certificates of both versions in pieces of every cut: the parts that they give, and the fault where they are cut off.
 
-ghost use Rattle.std.specs.Prelude.{◌≡◌, ◌+◌, ◌<◌, ◌≤◌, ◌^◌, length};
+ghost use Rattle.std.specs.Prelude.{◌≤◌, length};
 
 use crate::rows::part;
-use cert_format::{Cert, Sizes, read};
-use cert_judge::{Judge, Judged};
-use cert_parts::{Part, Reader};
-use reject_bits::Table;
-use sight_names::{CertFault, Memory, Plan, TableFault};
+use cert_format::{Cert, Sizes};
+use cert_groups::{AnyCert, read_any};
+use cert_parts::{Beginning, Part, Reader, beginning_of};
+use sight_names::{CertFault, Pair};
 use sight_tree::Tree;
 use std::alloc::{AllocError, Global};
 use std::test::Fail;
-use worked_maps::files::{bytes_of, bytes_of_digits, plan_named};
+use worked_maps::certs::digits_named;
+use worked_maps::files::{bytes_of_digits, number};
 
-/// The sizes of the map U.
-const U: Sizes = Sizes {
-    sectors: 3,
-    points: 10,
-    lines: 12,
-};
-
-/// A table of the map U, what is changed in the worked certificate, and what a judge answers.
+/// A certificate, how many sectors, points and lines its map has, and how many parts it has itself. The first two have eight triangles,
+/// two rays, and a tree of five nodes.
 const ROWS: &str = "\
-4400 | | Verdict(Yes(Totals { set: 1, clear: 5, listed: 0 }))
-4600 | | Verdict(No(Check(Unproved { a: 0, b: 1 })))
-0000 | | Verdict(No(Check(Uncovered { a: 0, b: 2 })))
-4400 | @157:1:03 | Verdict(No(Check(Tree { source: 0, node: 4 })))
-4400 | @132:8:38ffffffffffffff | Verdict(No(Check(Ray { a: 1, b: 2, why: Some(NotSplit { line: 3 }) })))
-4400 | @12:1:07 @84:8: | Verdict(No(Check(Mesh(NoMate { triangle: 4 }))))
-4400 | @4:1:03 | Unread(BadVersion)
-4400 | @160:1: | Unread(Short { at: 159 })
+U-CERT | 3 10 12 | 16
+U-GROUPS | 3 10 12 | 16
+SQUARE-CERT | 1 4 4 | 2
+SQUARE-GROUPS | 1 4 4 | 2
+ISLAND-CERT | 2 8 8 | 8
+LISTED | 2 8 8 | 2
 ";
+
+/// A certificate of version 2 with one group of two sectors, one triangle, and the listed pair of both sectors. Each word is a field.
+const LISTED: &str = "\
+44534354 0200 0200 0800 0800 0100 01000000 00000000 01000000 00000000
+0200 0000 0100
+0000 0200 0300 0000
+0000 0100
+";
+
+// The fields of a certificate, with blanks between them.
+fn fields_named(name: &str) -> &'static str {
+    if name == "LISTED" {
+        return LISTED;
+    }
+    digits_named(name)
+}
+
+fn number_at(words: &str, k: usize) -> u16 {
+    words
+        .split_whitespace()
+        .nth(k)
+        .unwrap_or("")
+        .parse()
+        .unwrap_or(0)
+}
 
 // Adds the parts that a piece gives, up to its end or to a fault.
 fn add_parts(reader: &mut Reader, piece: &[u8], parts: &mut Vec<Part>) -> Result<(), CertFault> {
@@ -46,14 +63,48 @@ fn add_parts(reader: &mut Reader, piece: &[u8], parts: &mut Vec<Part>) -> Result
     Ok(())
 }
 
-// The parts that a reader gives of these pieces.
-fn parts_in(alloc: Global, sizes: &Sizes, pieces: &[&[u8]]) -> Result<Vec<Part>, CertFault> {
-    let mut reader = Reader::new(sizes);
-    let mut parts = Vec::new(alloc);
-    for piece in pieces {
-        add_parts(&mut reader, piece, &mut parts)?;
+// The reader behind what these bytes begin with, and the parts that it gives of them; or where the bytes end before their first part.
+fn begun(
+    alloc: Global,
+    sizes: &Sizes,
+    bytes: &[u8],
+    parts: &mut Vec<Part>,
+) -> Result<Result<Reader, u64>, CertFault> {
+    match beginning_of(alloc, sizes, bytes) {
+        Ok(Beginning::Cut { at }) => Ok(Err(at)),
+        Ok(
+            Beginning::Read {
+                groups,
+                reader,
+                rest,
+            },
+        ) => {
+            let _ = groups;
+            let mut reader = reader;
+            add_parts(&mut reader, rest, parts)?;
+            Ok(Ok(reader))
+        }
+        Err(fault) => Err(fault),
     }
-    reader.end()?;
+}
+
+// The parts that these pieces give.
+fn parts_in(alloc: Global, sizes: &Sizes, pieces: &[&[u8]]) -> Result<Vec<Part>, CertFault> {
+    let mut parts = Vec::new(alloc);
+    let mut kept = Vec::new(alloc);
+    let mut course = Err(0);
+    for piece in pieces {
+        if let Ok(reader) = &mut course {
+            add_parts(reader, piece, &mut parts)?;
+        } else {
+            kept.extend_from_slice(piece)?;
+            course = begun(alloc, sizes, &kept, &mut parts)?;
+        }
+    }
+    match course {
+        Ok(reader) => reader.end()?,
+        Err(at) => return Err(CertFault::Short { at }),
+    }
     Ok(parts)
 }
 
@@ -69,8 +120,8 @@ fn add_tree(parts: &mut Vec<Part>, tree: &Tree) -> Result<(), AllocError> {
     Ok(())
 }
 
-// The parts of a certificate, in the order in which its bytes have them.
-fn parts_of(alloc: Global, cert: &Cert) -> Result<Vec<Part>, AllocError> {
+// The parts of a certificate that lists these pairs, in the order in which its bytes have them.
+fn parts_with(alloc: Global, cert: &Cert, listed: &[Pair]) -> Result<Vec<Part>, AllocError> {
     let mut parts = Vec::new(alloc);
     for triangle in cert.triangles() {
         parts.push(Part::Triangle(*triangle))?;
@@ -78,7 +129,7 @@ fn parts_of(alloc: Global, cert: &Cert) -> Result<Vec<Part>, AllocError> {
     for ray in cert.rays() {
         parts.push(Part::Ray(*ray))?;
     }
-    for pair in cert.listed() {
+    for pair in listed {
         parts.push(Part::Listed(*pair))?;
     }
     for tree in cert.trees() {
@@ -87,32 +138,12 @@ fn parts_of(alloc: Global, cert: &Cert) -> Result<Vec<Part>, AllocError> {
     Ok(parts)
 }
 
-// What a judge says of a front and of what is behind it.
-fn judged_cut(
-    alloc: Global,
-    plan: &Plan,
-    table: &Table,
-    front: &[u8],
-    back: &[u8],
-) -> Result<Judged, Memory>
-    requires table { table.now.n ≡ plan.now.sectors }
-    requires few { length front.now + length back.now < 2 ^ 63 }
-{
-    let mut judge = Judge::new(alloc, plan, table);
-    judge.feed(front)?;
-    judge.feed(back)?;
-    judge.end()
-}
-
-// What a judge says of the bytes one by one.
-fn judged_singly(alloc: Global, plan: &Plan, table: &Table, bytes: &[u8]) -> Result<Judged, Memory>
-    requires table { table.now.n ≡ plan.now.sectors }
-{
-    let mut judge = Judge::new(alloc, plan, table);
-    for k in 0..bytes.len() {
-        judge.feed(&bytes[k..=k])?;
+// The same of either version.
+fn parts_of(alloc: Global, cert: &AnyCert) -> Result<Vec<Part>, AllocError> {
+    match cert {
+        AnyCert::One(one) => parts_with(alloc, one, one.listed()),
+        AnyCert::Two(two, _) => parts_with(alloc, &two.cert, two.listed.as_slice()),
     }
-    judge.end()
 }
 
 // The bytes one by one.
@@ -124,126 +155,116 @@ fn singles<'a>(alloc: Global, bytes: &'a [u8]) -> Result<Vec<&'a [u8]>, AllocErr
     Ok(pieces)
 }
 
-// The certificate that the bytes spell.
-fn cert_of(alloc: Global, bytes: &[u8]) -> Result<Cert, CertFault> {
-    read(alloc, &U, bytes)
-}
-
-// Whether pieces give these parts, or this fault where there is one.
-fn gives(alloc: Global, pieces: &[&[u8]], whole: &[Part], fault: Option<CertFault>) -> bool {
-    match parts_in(alloc, &U, pieces) {
-        Ok(parts) => fault.is_none() && parts.as_slice() == whole,
-        Err(other) => fault == Some(other),
+// Whether pieces give these parts.
+fn gives(alloc: Global, sizes: &Sizes, pieces: &[&[u8]], whole: &[Part]) -> bool {
+    match parts_in(alloc, sizes, pieces) {
+        Ok(parts) => parts.as_slice() == whole,
+        Err(_) => false,
     }
 }
 
-// Whether a front gives the fault that it has as a whole, in one piece and byte by byte, and none where it is all.
-fn is_right_front(alloc: Global, front: &[u8], whole: &[Part]) -> Result<bool, CertFault> {
-    let fault = cert_of(alloc, front).err();
-    let pieces = singles(alloc, front)?;
-    if !gives(alloc, &[front], whole, fault) {
-        return Ok(false);
+// Whether pieces have this fault.
+fn fails(alloc: Global, sizes: &Sizes, pieces: &[&[u8]], fault: CertFault) -> bool {
+    match parts_in(alloc, sizes, pieces) {
+        Ok(_) => false,
+        Err(other) => other == fault,
     }
-    Ok(gives(alloc, &pieces, whole, fault))
 }
 
 // Whether the bytes cut in two here give these parts.
-fn is_right_cut(alloc: Global, bytes: &[u8], at: usize, whole: &[Part]) -> bool
+fn is_right_cut(alloc: Global, sizes: &Sizes, bytes: &[u8], at: usize, whole: &[Part]) -> bool
     requires { at ≤ length bytes.now }
 {
     let (front, back) = bytes.split_at(at);
-    gives(alloc, &[front, back], whole, None)
+    gives(alloc, sizes, &[front, back], whole)
 }
 
-// Whether both hold at each place.
-fn are_right_cuts(alloc: Global, bytes: &[u8], whole: &[Part]) -> Result<bool, CertFault> {
+// Whether they do so cut in two at each place, and one by one.
+fn are_right_cuts(
+    alloc: Global,
+    sizes: &Sizes,
+    bytes: &[u8],
+    whole: &[Part],
+) -> Result<bool, AllocError> {
     for at in 0..=bytes.len() {
-        if !is_right_cut(alloc, bytes, at, whole) || !is_right_front(alloc, &bytes[..at], whole)? {
+        if !is_right_cut(alloc, sizes, bytes, at, whole) {
             return Ok(false);
         }
     }
-    Ok(true)
+    let pieces = singles(alloc, bytes)?;
+    Ok(gives(alloc, sizes, &pieces, whole))
 }
 
-// Whether the bytes cut in two here give this answer.
-fn is_judged_cut(
+// Whether the bytes have this fault, in one piece and one by one.
+fn is_fault(
     alloc: Global,
-    plan: &Plan,
-    table: &Table,
+    sizes: &Sizes,
     bytes: &[u8],
-    at: usize,
-    answer: Judged,
-) -> Result<bool, Memory>
-    requires table { table.now.n ≡ plan.now.sectors }
-    requires at { at ≤ length bytes.now }
-{
-    let (front, back) = bytes.split_at(at);
-    let judged = judged_cut(alloc, plan, table, front, back)?;
-    Ok(judged == answer)
+    fault: CertFault,
+) -> Result<bool, AllocError> {
+    let pieces = singles(alloc, bytes)?;
+    Ok(fails(alloc, sizes, &[bytes], fault) && fails(alloc, sizes, &pieces, fault))
 }
 
-// Whether the bytes one by one and each cut of them give the answer of the whole ones, and that is told by these words.
-fn is_judged(
+// Whether each front of the bytes is short at the field in which it is cut off.
+fn are_right_fronts(
     alloc: Global,
-    plan: &Plan,
-    table: &Table,
+    sizes: &Sizes,
     bytes: &[u8],
-    words: &str,
-) -> Result<bool, CertFault>
-    requires table { table.now.n ≡ plan.now.sectors }
-{
-    let answer = judged_singly(alloc, plan, table, bytes)?;
-    for at in 0..=bytes.len() {
-        if !is_judged_cut(alloc, plan, table, bytes, at, answer)? {
-            return Ok(false);
+    fields: &str,
+) -> Result<bool, AllocError> {
+    let mut at = 0usize;
+    for field in fields.split_whitespace() {
+        let end = at.wrapping_add(field.len() / 2);
+        for len in at..end {
+            let front = bytes.get(..len).unwrap_or(&[]);
+            if !is_fault(alloc, sizes, front, CertFault::Short { at: at as u64 })? {
+                return Ok(false);
+            }
         }
+        at = end;
     }
-    let told = format!(in alloc; "{answer:?}")?;
-    Ok(told.as_str() == words)
+    Ok(at == bytes.len())
 }
 
-// The table of U that digits spell.
-fn table_of(alloc: Global, digits: &str) -> Result<Table, TableFault> {
-    let bytes = bytes_of_digits(alloc, digits)?;
-    Table::of_bytes(alloc, 3, &bytes)
+// Whether the bytes with one more behind them trail where it stands.
+fn is_right_behind(alloc: Global, sizes: &Sizes, bytes: &[u8]) -> Result<bool, AllocError> {
+    let mut more = bytes.to_vec(alloc)?;
+    more.push(0)?;
+    let fault = CertFault::Trailing {
+        at: bytes.len() as u64,
+    };
+    is_fault(alloc, sizes, &more, fault)
 }
 
-// The worked certificate with a row's change.
-fn changed(alloc: Global, change: &str) -> Result<Vec<u8>, AllocError> {
-    let words = format!(in alloc; "#U-CERT {change}")?;
-    bytes_of(alloc, &words)
-}
-
-// Whether the row's table and certificate are judged as it says.
-fn is_row(alloc: Global, plan: &Plan, row: &str) -> Result<bool, Fail> {
-    let table = table_of(alloc, part(row, 0))?;
-    let bytes = changed(alloc, part(row, 1))?;
-    if table.sectors() != plan.sectors {
+// Whether the row's certificate has so many parts, which pieces of every cut give, and its fronts their faults.
+fn is_right(alloc: Global, row: &str) -> Result<bool, Fail> {
+    let fields = fields_named(part(row, 0));
+    let sizes = Sizes {
+        sectors: number_at(part(row, 1), 0),
+        points: number_at(part(row, 1), 1),
+        lines: number_at(part(row, 1), 2),
+    };
+    let bytes = bytes_of_digits(alloc, fields)?;
+    let whole = parts_of(alloc, &read_any(alloc, &sizes, &bytes)?)?;
+    if whole.len() != number(part(row, 2)) {
         return Ok(false);
     }
-    Ok(is_judged(alloc, plan, &table, &bytes, part(row, 2))?)
+    if !are_right_cuts(alloc, &sizes, &bytes, &whole)? {
+        return Ok(false);
+    }
+    if !are_right_fronts(alloc, &sizes, &bytes, fields)? {
+        return Ok(false);
+    }
+    Ok(is_right_behind(alloc, &sizes, &bytes)?)
 }
 
 #[test]
-fn pieces_of_every_cut_give_the_parts_and_a_front_the_fault_of_its_bytes(
+fn pieces_of_every_cut_give_the_parts_and_a_front_is_short_at_its_field(
     rt: HostRuntime,
 ) -> Result<(), Fail> {
-    let alloc = rt.alloc();
-    let bytes = bytes_of(alloc, "#U-CERT")?;
-    let whole = parts_of(alloc, &cert_of(alloc, &bytes)?)?;
-    // eight triangles, two rays, and a tree of five nodes
-    assert_eq!(rt; whole.len(), 16);
-    assert!(rt; are_right_cuts(alloc, &bytes, &whole)?);
-    Ok(())
-}
-
-#[test]
-fn a_certificate_judged_in_pieces_of_any_cut_has_the_answer_of_the_row(
-    rt: HostRuntime,
-) -> Result<(), Fail> {
-    let plan = plan_named(rt.alloc(), "U")?;
     for row in ROWS.lines() {
-        assert!(rt; is_row(rt.alloc(), &plan, row)?, "{row}");
+        assert!(rt; is_right(rt.alloc(), row)?, "{row}");
     }
     Ok(())
 }

@@ -1,4 +1,5 @@
-//! Calls that the program doesn't make: a certificate in pieces, faces with several names, and every map of a WAD.
+//! Calls that the program doesn't make, or doesn't make so: certificates in pieces and in threads, faces with several names, and every map
+//! of a WAD.
 #![tactic(auto)]
 
 #[cfg(test)]
@@ -7,5 +8,7 @@ mod certs;
 mod groups;
 #[cfg(test)]
 mod rows;
+#[cfg(test)]
+mod verdicts;
 #[cfg(test)]
 mod wads;

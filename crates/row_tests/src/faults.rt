@@ -27,6 +27,7 @@ a=U, b=PAIR, c=PAIR | build a MAP01 b --cert c --workers 1 | 0 | a a | b c | b c
 a=U, b=PAIR, c=PAIR | build a MAP01 b --workers 1 | 0 | a a | b | b
 a=grid:7 | build a MAP01 b --cert c --workers 1 | 0 | a a | b c | b c c
 a=PAIR U .6 - +6:MAP02, b=PAIR | all a b --workers 1 | 0 | a a | b | b
+a=PAIR U .6 - +6:MAP02, b=PAIR | all a b --only MAP02 --workers 1 | 0 | a a | b | b
 a=SQUARE | grid 2 --workers 1 | 0
 # runs that are refused, and answers that are no
 b=PAIR | zero a MAP01 b | 3
@@ -42,6 +43,7 @@ a=U =4400 | check a MAP01 c | 3 | a a
 a=U, c=#U-CERT | check a MAP01 c | 1 | a a
 a=U =4600, c=#U-CERT | check a MAP01 c | 1 | a a c c
 a=OPEN, b=PAIR, c=PAIR | build a MAP01 b --cert c | 10 | a a
+a=PAIR, b=PAIR | all a b --only MAP02 | 7 | a a
 ";
 
 /// The most bytes that one append takes.

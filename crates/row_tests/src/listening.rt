@@ -1,13 +1,14 @@
-//! A listener that has heard enough before the end, and one that finds no memory.
+//! A listener that has heard enough before the end, and one that finds no memory; and what a notice is told of maps.
 
 ghost use Rattle.std.specs.Prelude.{◌≡◌};
 
-use listeners::{Finding, FirstSet, Keep, Lines, Listener, Totals, words_of};
+use listeners::{Finding, FirstSet, Keep, Lines, Listener, Totals, pieces, words_of};
 use run_cases::{stage_of, words_in};
 use shelf_io::MemSink;
 use sight_names::Memory;
-use sight_run::{NoNotice, Status, run};
+use sight_run::{NoNotice, Notice, Status, run};
 use sight_workers::OpenGate;
+use std::cell::RefCell;
 use std::test::Fail;
 
 /// Hears two findings, and finds no memory for a third.
@@ -20,7 +21,7 @@ impl Listener for Forgetful {
     ghost use Rattle.std.specs.Prelude.{None, []};
     ghost use Rattle.listeners.specs.Listening.{ListenerState};
 
-    ghost listener_state = { λ f. record { heard = f.heard.items; text = []; quota = None } };
+    ghost listener_state = { λ f. record { heard = f.heard.items; writes = λ findings. []; quota = None } };
 
     fn hear(&mut self, finding: &Finding) -> Result<Keep, Memory> {
         if self.heard.len() == 2 {
@@ -44,6 +45,7 @@ fn a_listener_that_has_heard_enough_goes_and_its_text_begins_the_report(
     let mut listeners: Vec<Box<dyn Listener>> = Vec::new(alloc);
     listeners.push(Box::new(alloc, Totals::new(alloc))?)?;
     listeners.push(Box::new(alloc, FirstSet::new(alloc, 1))?)?;
+    listeners.push(Box::new(alloc, Lines::new(alloc))?)?;
     let words = words_in(alloc, "build a MAP01 b --report r")?;
     let mut out = MemSink::new(alloc, Vec::new(alloc));
     let status = run(
@@ -56,12 +58,19 @@ fn a_listener_that_has_heard_enough_goes_and_its_text_begins_the_report(
         &OpenGate,
         &NoNotice,
     );
-    assert!(rt; status == Status::Done && listeners.len() == 1);
+    assert!(rt; status == Status::Done && listeners.len() == 2);
     let report = stage.shelf.bytes("r").unwrap_or(b"");
-    assert_eq!(rt;
-        report,
-        b"set 0 2\ntotal set 1 clear 5 listed 0\n".as_slice()
-    );
+    let left = b"total set 1 clear 5 listed 0\nset 0 2\n".as_slice();
+    assert_eq!(rt; report.strip_prefix(b"set 0 2\n"), Some(left));
+    // pieces of what is left, from each byte on
+    for at in 0..=left.len() {
+        let mut piece = [0; 9];
+        let given = pieces(&listeners, at as u64, &mut piece);
+        let wanted = left
+            .get(at..left.len().min(at.saturating_add(9)))
+            .unwrap_or(&[]);
+        assert_eq!(rt; piece.get(..given).unwrap_or(&[]), wanted, "at {at}");
+    }
     Ok(())
 }
 
@@ -94,5 +103,61 @@ fn no_file_is_made_where_a_listener_finds_no_memory(rt: HostRuntime) -> Result<(
     // the first one heard the third finding, which is that 0 and 2 don't see each other
     let mut text = [0; 16];
     assert_eq!(rt; words_of(&listeners[0], 0, &mut text), 8);
+    Ok(())
+}
+
+/// Keeps what it is told: the names behind `over`, and the lines.
+#[derive(Drop)]
+struct Told {
+    text: RefCell<String>,
+}
+
+impl Told {
+    // A text for which there is no memory is missing then.
+    fn add(&self, more: &str) {
+        if let Ok(mut text) = self.text.try_borrow_mut() {
+            let _ = text.push_str(more);
+        }
+    }
+}
+
+impl Notice for Told {
+    fn pass_over(&self, name: &str) {
+        self.add("over ");
+        self.add(name);
+        self.add("\n");
+    }
+
+    fn tell(&self, line: &str) {
+        self.add(line);
+    }
+}
+
+#[test]
+fn a_notice_is_told_of_maps_of_udmf_before_the_lines(rt: HostRuntime) -> Result<(), Fail> {
+    let alloc = rt.alloc();
+    let given = "a=PAIR +6:map02 +7:TEXTMAP U .8 - +8:MAP03 +14:E1M9 +15:textmap";
+    let mut stage = stage_of(alloc, given)?;
+    let mut none: Vec<Box<dyn Listener>> = Vec::new(alloc);
+    let words = words_in(alloc, "all a b")?;
+    let mut out = MemSink::new(alloc, Vec::new(alloc));
+    let told = Told {
+        text: RefCell::new(String::new(alloc)),
+    };
+    let status = run(
+        &rt,
+        alloc,
+        &words,
+        &mut stage.shelf,
+        &mut out,
+        &mut none,
+        &OpenGate,
+        &told,
+    );
+    assert!(rt; status == Status::Done);
+    assert_eq!(rt;
+        told.text.into_inner().as_str(),
+        "over MAP02\nover E1M9\nMAP01 set 0 clear 3 listed 0\nMAP03 set 1 clear 5 listed 0\n"
+    );
     Ok(())
 }

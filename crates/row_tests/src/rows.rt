@@ -351,6 +351,19 @@ a=SELFREF | all a b --report r | 0 | all maps 1 built 1 refused 0 | b=SELFREF =0
 a=SQUARE @14:1:09 | all a b --report r | 0 | all maps 1 built 0 refused 1 | b=SQUARE @14:1:09, r=#4d41503031207265667573656420626164206c756d703a20766572746578206f66206c696e6520300a
 a=SQUARE .1 *229390 | all a b --report r | 0 | all maps 1 built 0 refused 1 | b=SQUARE .1 *229390, r=#4d415030312072656675736564206c696d69743a206c696e65730a
 a=OPEN | all a b --report r | 0 | all maps 1 built 0 refused 1 | b=OPEN, r=#4d41503031207265667573656420626164206d61703a206f70656e2030520a
+# some of the maps, each once and in the order of their entries; all others keep their REJECT
+a=PAIR U .6 - +6:MAP02 OPEN =de .12 - +12:MAP03 | all a b --only MAP02 --report r | 0 | all maps 1 built 1 refused 0 | b=PAIR U =4400 .6 - +6:MAP02 OPEN =de .12 - +12:MAP03, r=#4d4150303220736574203120636c6561722035206c697374656420300a
+a=PAIR U .6 - +6:MAP02 OPEN =de .12 - +12:MAP03 | all a b --only map03,MAP01 --report r | 0 | all maps 2 built 1 refused 1 | b=PAIR =00 U .6 - +6:MAP02 OPEN =de .12 - +12:MAP03, r=#4d4150303120736574203020636c6561722033206c697374656420300a4d41503033207265667573656420626164206d61703a206f70656e2030520a
+a=PAIR | all a --only=MAP01,map01 b | 0 | all maps 1 built 1 refused 0 | b=PAIR =00
+# the first name that is no map's
+a=PAIR U .6 - +6:MAP02 OPEN =de .12 - +12:MAP03 | all a b --only MAP01,MAP04 --report r | 7 | refused: no map: no marker | b=, r=
+a=PAIR | all a b --only LINEDEFS,MAP04 | 7 | refused: no map: missing LINEDEFS | b=
+a=PAIR | all a b --only MAP04,LINEDEFS | 7 | refused: no map: no marker | b=
+a=PAIR +1:THINGS | all a b --only THINGS | 7 | refused: no map: no marker | b=
+a=PAIR +1:THINGS | zero a THINGS b | 0 | zero THINGS sectors 2 bytes 1
+# a map of UDMF stays
+a=PAIR +6:MAP02 +7:TEXTMAP *20 +8:ENDMAP U .9 - +9:MAP03 | all a b --report r | 0 | all maps 2 built 2 refused 0 | b=PAIR =00 +6:MAP02 +7:TEXTMAP *20 +8:ENDMAP U =4400 .9 - +9:MAP03, r=#4d4150303120736574203020636c6561722033206c697374656420300a4d4150303320736574203120636c6561722035206c697374656420300a
+a=PAIR +6:MAP02 +7:TEXTMAP *20 +8:ENDMAP U .9 - +9:MAP03 | all a b --only MAP02 | 7 | refused: no map: missing LINEDEFS | b=
 # refusals of the whole run
 a=#50574158000000000c000000 | all a b --report r | 6 | refused: not a wad: bad magic | b=, r=
 a=#50574144010001000c000000 | all a b | 9 | refused: limit: lumps | b=
@@ -369,6 +382,15 @@ a=U | all a b --cert c | 2 | refused: usage | b=, c=
 a=U | all a b --workers 0 | 2 | refused: usage | b=
 a=U | all a b --workers 65 | 2 | refused: usage | b=
 a=U | all a b --hexen | 2 | refused: usage | b=
+a=U | all a b --only | 2 | refused: usage | b=
+a=U | all a b --only= | 2 | refused: usage | b=
+a=U | all a b --only MAP01, | 2 | refused: usage | b=
+a=U | all a b --only ,MAP01 | 2 | refused: usage | b=
+a=U | all a b --only MAP01,,MAP01 | 2 | refused: usage | b=
+a=U | all a b --only MAP01,MAP000001 | 2 | refused: usage | b=
+a=U | build a MAP01 b --only MAP01 | 2 | refused: usage | b=
+a=U | zero a MAP01 b --only MAP01 | 2 | refused: usage | b=
+a=U | grid 2 --only MAP01 | 2 | refused: usage
 a=U | all a a | 11 | refused: same name | a=U
 a=U | all a b --report a | 11 | refused: same name | a=U, b=
 a=U | all a b --report b | 11 | refused: same name | a=U, b=

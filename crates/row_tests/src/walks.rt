@@ -1,18 +1,22 @@
-//! Segments, components and walks of worked maps.
+//! Segments, components, walks and tables of worked maps.
 
 ghost use Rattle.sight_names.specs.Map.{map_of};
 ghost use Rattle.sight_names.specs.Sound.{LinesMeetAtEnds};
 
+use crate::table::part;
 use map_audit::audit_lines;
 use pair_budget::{Alone, Outcome, walk_source};
-use sight_job::faces_of;
-use sight_names::{Budget, Memory, Plan};
+use portal_walk::{Step, Walker};
+use sight_job::{build_table, faces_of};
+use sight_names::{Ask, Budget, Memory, Plan};
 use sight_tree::{Node, Nodes};
+use sight_workers::OpenGate;
 use std::alloc::Global;
 use std::test::Fail;
+use std::thread::Threads;
 use tri_sectors::components;
 use triangulate::{Segments, greedy};
-use worked_maps::files::plan_named;
+use worked_maps::files::{bytes_of_digits, number, plan_named};
 
 // The segments behind the lines are these.
 fn keeps(found: &Segments, lines: usize, rest: &[(u16, u16)]) -> bool {
@@ -103,5 +107,98 @@ fn each_of_three_rooms_in_a_row_has_four_sequences(rt: HostRuntime) -> Result<()
     }
     let u = audited_walk(alloc, &plan_named(alloc, "U")?, 0, Budget::Full)?;
     assert_eq!(rt; u, Some((1, Some((4, 5)))));
+    Ok(())
+}
+
+// The steps of a walk of a source of a map, of which there are few, before its end. None where the map isn't sound.
+fn steps_of(alloc: Global, plan: &Plan, source: u16) -> Result<Vec<Step>, Memory> {
+    let mut steps = Vec::new(alloc);
+    let Ok(()) = audit_lines(plan) else {
+        return Ok(steps);
+    };
+    let Ok(faces) = faces_of(alloc, plan) else {
+        return Ok(steps);
+    };
+    if source >= plan.sectors {
+        return Ok(steps);
+    }
+    let mut walker = Walker::new(alloc, plan, &faces.mesh, &faces.labels, source)?;
+    for _ in 0..100 {
+        match walker.next()? {
+            Step::End => break,
+            step => steps.push(step)?,
+        }
+    }
+    Ok(steps)
+}
+
+#[test]
+fn a_walk_of_u_stops_where_a_right_end_is_between_two_left_ones(
+    rt: HostRuntime,
+) -> Result<(), Fail> {
+    let alloc = rt.alloc();
+    let steps = steps_of(alloc, &plan_named(alloc, "U")?, 0)?;
+    let mut triangles = Vec::new(alloc);
+    let mut stuck = Vec::new(alloc);
+    for step in &steps {
+        match step {
+            Step::Open { triangle, .. } => triangles.push(*triangle)?,
+            Step::Blocked(evidence) => {
+                stuck.extend_from_slice(
+                    evidence.ends.get(..evidence.count as usize).unwrap_or(&[]),
+                )?;
+            }
+            Step::End => {}
+        }
+    }
+    // through sector 1 by its triangles; triangles 5 and 6 lie in the block between the rooms, 7 and 8 in sector 2, whose door is the fifth portal
+    assert_eq!(rt; steps.len(), 5);
+    assert_eq!(rt; triangles.as_slice(), [2, 3, 4, 9].as_slice());
+    // All right ends are (64,64) or (128,64). Of the left ends only that of the first portal, (0,64), and that of the fifth, (192,64),
+    // aren't above them. So any stuck ends have these two, and a right one.
+    assert!(rt; stuck.contains(&0) && stuck.contains(&4));
+    assert!(rt; matches!(stuck.last(), Some(code) if *code >= 32_768));
+    Ok(())
+}
+
+/// A map; the table that a build of it makes, or why it makes none; and how many triangles and rays its certificate of version 1 has.
+const TABLES: &str = "\
+U | 4400 | 8 | 2
+PAIR | 00 | 4 | 1
+LONE | 0e | 2 | 0
+OPEN | open 0R
+ISLAND | mixed 0R 4R
+";
+
+// Whether a build of the row's map by two workers comes to what the row says.
+fn is_built<R: Threads + Sync>(rt: &R, alloc: Global, row: &str) -> Result<bool, Fail> {
+    let plan = plan_named(alloc, part(row, 0))?;
+    let Ok(()) = audit_lines(&plan) else {
+        return Ok(false);
+    };
+    match build_table(rt, alloc, &plan, 2, Ask::Full, &OpenGate) {
+        Ok(built) => {
+            let table = bytes_of_digits(alloc, part(row, 1))?;
+            Ok(
+                built.table.as_bytes() == table.as_slice()
+                    && built.listed.as_slice().is_empty()
+                    && built.cert.triangles().len() == number(part(row, 2))
+                    && built.cert.rays().len() == number(part(row, 3)),
+            )
+        }
+        Err(fault) => {
+            let told = fault.to_string(alloc)?;
+            Ok(told.as_str() == part(row, 1))
+        }
+    }
+}
+
+#[test]
+fn tables_whose_faces_have_one_name_each_are_as_their_rows_say(
+    rt: HostRuntime,
+) -> Result<(), Fail> {
+    for row in TABLES.lines() {
+        assert!(rt; is_built(&rt, rt.alloc(), row)?, "{row}");
+    }
     Ok(())
 }

@@ -1,6 +1,6 @@
 use Rattle.std.proofs.Common.{◌≡◌, ℕ, ◌+◌, ◌-◌, ◌<◌, List, ◌++◌, take, drop, length, arith}
 use Rattle.std.proofs.lemmas.List.{length-append, length-drop, length-take-le}
-use Rattle.piece_tests.proofs.certs.judged_singly.Goals as goal
+use Rattle.piece_tests.proofs.verdicts.judged_singly.Goals as goal
 
 -- with the byte at this place there is one more
 one_more : (fed all : List ℕ) (k : ℕ) → length fed ≡ k → k < length all → length (fed ++ take (k + 1 - k) (drop k all)) ≡ k + 1

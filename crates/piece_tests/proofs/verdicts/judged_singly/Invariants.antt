@@ -1,6 +1,6 @@
 use Rattle.std.proofs.Common.{◌≡◌, ℕ, List, length}
 use Rattle.cert_judge.specs.Judge.{HasBeenFed}
-use Rattle.piece_tests.proofs.certs.judged_singly.Given as goal
+use Rattle.piece_tests.proofs.verdicts.judged_singly.Given as goal
 
 -- the judge was fed as many bytes as there were
 abbrev pub invariant-loop-k : goal.invariant-loop-k

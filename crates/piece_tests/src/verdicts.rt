@@ -1,0 +1,276 @@
+//! What is said of worked certificates: by a judge that is fed them in pieces of every cut, and by the check that judges their trees in
+//! threads.
+
+ghost use Rattle.std.specs.Prelude.{◌≡◌, ◌+◌, ◌<◌, ◌≤◌, ◌^◌, length, IsTrue};
+ghost use Rattle.sight_names.specs.Map.{map_of};
+ghost use Rattle.sight_names.specs.Sound.{LinesMeetAtEnds};
+ghost use Rattle.cert_groups.specs.Grammar.{IsAnyInOrder, sizes_of};
+
+use crate::rows::part;
+use cert_format::{Sizes, print};
+use cert_groups::{AnyCert, print_any, read_any};
+use cert_judge::{Judge, Judged};
+use check_workers::check_any_par;
+use map_answers::find_in;
+use map_audit::audit_lines;
+use reject_bits::Table;
+use sight_names::{Memory, Plan, TableFault};
+use std::alloc::Global;
+use std::test::Fail;
+use std::thread::Threads;
+use worked_maps::files::{bytes_of, bytes_of_digits};
+
+/// The words of a map, its table, the words of a certificate, and what is said of them.
+///
+/// Trees that are put behind that of sector 0 are those of sectors 1 and 2. The first has a sequence into each of the two triangles behind
+/// both of its doors. The second comes to the door of sector 0 by four sequences; there the left ends (128,64) and (64,64) stand between
+/// the right ends (192,64) of the first portal and (0,64) of the fifth, which are ends 0080 and 0480; end 0280 is the third one's (0,128).
+const ROWS: &str = "\
+U | 4400 | #U-CERT | Verdict(Yes(Totals { set: 1, clear: 5, listed: 0 }))
+U | 4400 | #U-GROUPS | Verdict(Yes(Totals { set: 1, clear: 5, listed: 0 }))
+ISLAND | 00 | #ISLAND-CERT | Verdict(Yes(Totals { set: 0, clear: 3, listed: 0 }))
+# the pair (0, 2) is listed, and clear
+U | 0000 | #U-CERT @20:1:01 @140:0:00000200 | Verdict(Yes(Totals { set: 0, clear: 5, listed: 1 }))
+U | 0000 | #U-GROUPS @22:1:01 @154:0:00000200 | Verdict(Yes(Totals { set: 0, clear: 5, listed: 1 }))
+# three trees
+U | 4400 | #U-CERT @24:1:03 @161:0:0100_0400000000000000_00000000_0200_0500000000000000_00000000_03_0000_0080_0480 | Verdict(Yes(Totals { set: 1, clear: 5, listed: 0 }))
+U | 4400 | #U-GROUPS @26:1:03 @175:0:0100_0400000000000000_00000000_0200_0500000000000000_00000000_03_0000_0080_0480 | Verdict(Yes(Totals { set: 1, clear: 5, listed: 0 }))
+# no bytes of a certificate
+U | 4400 | #U-CERT @4:1:03 | Unread(BadVersion)
+U | 4400 | #U-CERT @160:1: | Unread(Short { at: 159 })
+U | 4400 | #U-CERT @161:0:00 | Unread(Trailing { at: 161 })
+U | 4400 | #U-GROUPS @174:1: | Unread(Short { at: 173 })
+U | 4400 | #U-GROUPS @175:0:00 | Unread(Trailing { at: 175 })
+U | 4400 | #U-GROUPS @36:1:03 | Unread(OutOfRange { at: 36 })
+ISLAND | 00 | #ISLAND-CERT @34:1:00 | Unread(NotSorted { at: 34 })
+# the mesh: a triangle too few, a side without a sector, and no triangle at all
+U | 4400 | #U-CERT @12:1:07 @84:8: | Verdict(No(Check(Mesh(NoMate { triangle: 4 }))))
+U | 4400 | #U-GROUPS @14:1:07 @98:8: | Verdict(No(Check(Mesh(NoMate { triangle: 4 }))))
+SQUARE @64:2:ffff | 00 | #SQUARE-CERT | Verdict(No(Check(Mesh(NoTriangle { side: Side { line: 3, left: false } }))))
+SQUARE | 00 | #SQUARE-GROUPS @12:1:00 @14:1:00 @30:20: | Verdict(No(Check(Mesh(NoTriangle { side: Side { line: 0, left: false } }))))
+# a face whose group lacks a sector, and a group that no face has
+ISLAND | 00 | #ISLAND-CERT @30:1:01 @34:2: | Verdict(No(Group { triangle: 0 }))
+ISLAND | 00 | #ISLAND-CERT @12:1:02 @36:0:01000100 | Verdict(No(Unused { group: 1 }))
+# a ray that misses its line, and one of another pair
+U | 4400 | #U-CERT @132:8:38ffffffffffffff | Verdict(No(Check(Ray { a: 1, b: 2, why: Some(NotSplit { line: 3 }) })))
+U | 4400 | #U-GROUPS @146:8:38ffffffffffffff | Verdict(No(Check(Ray { a: 1, b: 2, why: Some(NotSplit { line: 3 }) })))
+U | 4400 | #U-CERT @96:20:03000380010000000000000060ffffffffffffff | Verdict(No(Check(Ray { a: 0, b: 1, why: None })))
+U | 4400 | #U-GROUPS @110:20:03000380010000000000000060ffffffffffffff | Verdict(No(Check(Ray { a: 0, b: 1, why: None })))
+# of one tree an end that isn't stuck; of the second of three a node too few; of the third an end that isn't stuck; of both; of the first and the second
+U | 4400 | #U-CERT @157:1:03 | Verdict(No(Check(Tree { source: 0, node: 4 })))
+U | 4400 | #U-GROUPS @171:1:03 | Verdict(No(Check(Tree { source: 0, node: 4 })))
+U | 4400 | #U-CERT @24:1:03 @161:0:0100_0300000000000000_000000_0200_0500000000000000_00000000_03_0000_0080_0480 | Verdict(No(Check(Tree { source: 1, node: 3 })))
+U | 4400 | #U-CERT @24:1:03 @161:0:0100_0400000000000000_00000000_0200_0500000000000000_00000000_03_0000_0080_0280 | Verdict(No(Check(Tree { source: 2, node: 4 })))
+U | 4400 | #U-GROUPS @26:1:03 @175:0:0100_0400000000000000_00000000_0200_0500000000000000_00000000_03_0000_0080_0280 | Verdict(No(Check(Tree { source: 2, node: 4 })))
+U | 4400 | #U-CERT @24:1:03 @161:0:0100_0300000000000000_000000_0200_0500000000000000_00000000_03_0000_0080_0280 | Verdict(No(Check(Tree { source: 1, node: 3 })))
+U | 4400 | #U-GROUPS @171:1:03 @26:1:03 @175:0:0100_0300000000000000_000000_0200_0500000000000000_00000000_03_0000_0080_0480 | Verdict(No(Check(Tree { source: 0, node: 4 })))
+# pairs: listed and set, set without a tree that keeps from it, clear without a ray
+U | 4400 | #U-CERT @20:1:01 @140:0:00000200 | Verdict(No(Check(ListedSet { a: 0, b: 2 })))
+U | 4400 | #U-GROUPS @22:1:01 @154:0:00000200 | Verdict(No(Check(ListedSet { a: 0, b: 2 })))
+U | 4600 | #U-CERT | Verdict(No(Check(Unproved { a: 0, b: 1 })))
+U | 4600 | #U-GROUPS | Verdict(No(Check(Unproved { a: 0, b: 1 })))
+ISLAND | 02 | #ISLAND-CERT | Verdict(No(Check(Unproved { a: 0, b: 1 })))
+U | 0000 | #U-CERT | Verdict(No(Check(Uncovered { a: 0, b: 2 })))
+U | 0000 | #U-GROUPS | Verdict(No(Check(Uncovered { a: 0, b: 2 })))
+";
+
+// What a judge says of a front and of what is behind it.
+fn judged_cut(
+    alloc: Global,
+    plan: &Plan,
+    table: &Table,
+    front: &[u8],
+    back: &[u8],
+) -> Result<Judged, Memory>
+    requires table { table.now.n ≡ plan.now.sectors }
+    requires few { length front.now + length back.now < 2 ^ 63 }
+{
+    let mut judge = Judge::new(alloc, plan, table);
+    judge.feed(front)?;
+    judge.feed(back)?;
+    judge.end()
+}
+
+// What a judge says of the bytes one by one.
+fn judged_singly(alloc: Global, plan: &Plan, table: &Table, bytes: &[u8]) -> Result<Judged, Memory>
+    requires table { table.now.n ≡ plan.now.sectors }
+{
+    let mut judge = Judge::new(alloc, plan, table);
+    for k in 0..bytes.len() {
+        judge.feed(&bytes[k..=k])?;
+    }
+    judge.end()
+}
+
+// Whether the bytes cut in two here give this answer.
+fn is_judged_cut(
+    alloc: Global,
+    plan: &Plan,
+    table: &Table,
+    bytes: &[u8],
+    at: usize,
+    answer: Judged,
+) -> Result<bool, Memory>
+    requires table { table.now.n ≡ plan.now.sectors }
+    requires at { at ≤ length bytes.now }
+{
+    let (front, back) = bytes.split_at(at);
+    let judged = judged_cut(alloc, plan, table, front, back)?;
+    Ok(judged == answer)
+}
+
+// Whether the bytes one by one and each cut of them in two give this answer.
+fn are_judged(
+    alloc: Global,
+    plan: &Plan,
+    table: &Table,
+    bytes: &[u8],
+    answer: Judged,
+) -> Result<bool, Memory>
+    requires table { table.now.n ≡ plan.now.sectors }
+{
+    for at in 0..=bytes.len() {
+        if !is_judged_cut(alloc, plan, table, bytes, at, answer)? {
+            return Ok(false);
+        }
+    }
+    let judged = judged_singly(alloc, plan, table, bytes)?;
+    Ok(judged == answer)
+}
+
+// A number of points or lines, of which a plan has few.
+fn small(number: usize) -> u16 {
+    u16::try_from(number).unwrap_or(0)
+}
+
+// The sizes of the map that the certificate is about.
+fn sizes_in(cert: &AnyCert) -> Sizes
+    ensures { result ≡ sizes_of cert.now }
+{
+    match cert {
+        AnyCert::One(one) => one.sizes,
+        AnyCert::Two(_, sizes) => *sizes,
+    }
+}
+
+// Whether it is about a map with as many sectors, points and lines.
+fn is_about(plan: &Plan, cert: &AnyCert) -> bool
+    ensures sectors { IsTrue result → (sizes_of cert.now).sectors ≡ plan.now.sectors }
+    ensures points { IsTrue result → (sizes_of cert.now).points ≡ length plan.now.points }
+    ensures lines { IsTrue result → (sizes_of cert.now).lines ≡ length plan.now.lines }
+{
+    let sizes = sizes_in(cert);
+    sizes.sectors == plan.sectors
+        && sizes.points as usize == plan.points().len()
+        && sizes.lines as usize == plan.lines().len()
+}
+
+// Whether the bytes are the one spelling of the certificate.
+fn is_spelled(alloc: Global, cert: &AnyCert, bytes: &[u8]) -> Result<bool, Memory>
+    requires { IsAnyInOrder cert.now }
+{
+    if let AnyCert::One(one) = cert {
+        let printed = print(alloc, one)?;
+        if printed.as_slice() != bytes {
+            return Ok(false);
+        }
+    }
+    let printed = print_any(alloc, cert)?;
+    Ok(printed.as_slice() == bytes)
+}
+
+// What the check in threads says of a certificate that these bytes spell.
+fn judged_in_threads<R: Threads + Sync>(
+    rt: &R,
+    alloc: Global,
+    plan: &Plan,
+    table: &Table,
+    cert: &AnyCert,
+    bytes: &[u8],
+) -> Result<Judged, Fail>
+    requires audited { LinesMeetAtEnds (map_of plan.now) }
+    requires table { table.now.n ≡ plan.now.sectors }
+    requires in_order { IsAnyInOrder cert.now }
+{
+    if !is_spelled(alloc, cert, bytes)? {
+        return Err("another spelling".into());
+    }
+    if !is_about(plan, cert) {
+        return Err("of another map".into());
+    }
+    let verdict = check_any_par(rt, alloc, plan, table, cert)?;
+    Ok(Judged::Verdict(verdict))
+}
+
+// What reader and check say of the bytes.
+fn judged_whole<R: Threads + Sync>(
+    rt: &R,
+    alloc: Global,
+    plan: &Plan,
+    table: &Table,
+    bytes: &[u8],
+) -> Result<Judged, Fail>
+    requires audited { LinesMeetAtEnds (map_of plan.now) }
+    requires table { table.now.n ≡ plan.now.sectors }
+{
+    let sizes = Sizes {
+        sectors: plan.sectors,
+        points: small(plan.points().len()),
+        lines: small(plan.lines().len()),
+    };
+    match read_any(alloc, &sizes, bytes) {
+        Ok(cert) => judged_in_threads(rt, alloc, plan, table, &cert, bytes),
+        Err(fault) => Ok(Judged::Unread(fault)),
+    }
+}
+
+// The same of any map.
+fn judged_audited<R: Threads + Sync>(
+    rt: &R,
+    alloc: Global,
+    plan: &Plan,
+    table: &Table,
+    bytes: &[u8],
+) -> Result<Judged, Fail>
+    requires { table.now.n ≡ plan.now.sectors }
+{
+    let Ok(()) = audit_lines(plan) else {
+        return Err("lines don't meet at ends".into());
+    };
+    judged_whole(rt, alloc, plan, table, bytes)
+}
+
+// The table of so many sectors that digits spell.
+fn table_of(alloc: Global, sectors: u16, digits: &str) -> Result<Table, TableFault> {
+    let bytes = bytes_of_digits(alloc, digits)?;
+    Table::of_bytes(alloc, sectors, &bytes)
+}
+
+// Whether the row's table and certificate are judged as it says, in threads and in pieces.
+fn is_row<R: Threads + Sync>(rt: &R, alloc: Global, row: &str) -> Result<bool, Fail> {
+    let found = find_in(alloc, bytes_of(alloc, part(row, 0))?, "MAP01")?;
+    let plan = &found.plan;
+    let table = table_of(alloc, plan.sectors, part(row, 1))?;
+    let bytes = bytes_of(alloc, part(row, 2))?;
+    if table.sectors() != plan.sectors {
+        return Ok(false);
+    }
+    let answer = judged_audited(rt, alloc, plan, &table, &bytes)?;
+    let told = format!(in alloc; "{answer:?}")?;
+    if told.as_str() != part(row, 3) {
+        return Ok(false);
+    }
+    Ok(are_judged(alloc, plan, &table, &bytes, answer)?)
+}
+
+#[test]
+fn certificates_are_judged_as_their_rows_say_in_threads_and_in_pieces(
+    rt: HostRuntime,
+) -> Result<(), Fail> {
+    for row in ROWS.lines() {
+        if !row.starts_with('#') {
+            assert!(rt; is_row(&rt, rt.alloc(), row)?, "{row}");
+        }
+    }
+    Ok(())
+}
