@@ -13,8 +13,8 @@ its outputs, and in one of these ways:
 
 - memory: code 12, no line, and no file touched;
 - done: code, line and files of the run to which nothing is refused (of a build by three workers `check` says yes to table and certificate);
-- read fault or write fault, where opening a file or printing was refused: what was stored before is whole, the file itself is as before
-  or a front, all others are as before.
+- read fault or write fault, where the shelf got no memory for a name, or opening a file or printing was refused: no file touched, or those
+  whole that had their names before one didn't get its name.
 
 And certificates whose counts no bytes bear out: `check` asks for fewer bytes, all requests together, than for the whole certificate that
 they were made of.
@@ -197,9 +197,8 @@ class Folder:
         for role, name in ROLES.items():
             if run.line == b"refused: write fault %s\n" % role.encode() and name in outputs:
                 at = outputs.index(name)
-                is_front = self.held(name) == OLD or bytes_of[name].startswith(self.held(name)) or "--workers 3" in words and name == "new.cert"
-                rest = all(self.held(other) == OLD for other in outputs[at + 1:])
-                return "write fault" if whole(outputs[:at]) and is_front and rest else None
+                renamed = whole(outputs[:at]) and all(self.held(other) == OLD for other in outputs[at:])
+                return "write fault" if untouched or renamed else None
         if base.line.startswith(run.line):
             return "write fault" if (whole(outputs) if base.status == 0 else untouched) else None
         return None
