@@ -2,6 +2,7 @@
 -- budget that is enough.
 use Rattle.std.proofs.Common.{◌≡◌, ℕ, ◌+◌, ◌<◌, ◌≤◌, ◌^◌, ◌↔◌, max, arith, refl, sym, ap, ◌∙◌, subst, inl, inr, List, [], ◌∷◌, ◌++◌, length, length-append, map, Option, Some, slice_get, ℤ}
 use Rattle.std.proofs.lemmas.List.{append-nil}
+use Rattle.sight_names.specs.declared.limits.TheConstants.{MOST_TRIANGLES}
 use Rattle.sight_names.specs.declared.names.Budget.TheVariants.{Of}
 use Rattle.sight_names.specs.declared.names.Side.{Side}
 use Rattle.sight_names.specs.declared.names.Triangle.{Triangle}
@@ -31,7 +32,7 @@ use Rattle.list_base.proofs.Lists.{all_of as all_of_contains}
 -- ---- the numbers
 
 -- with few lines, points and triangles the budget that is enough is far below the greatest number
-pub enough_below : (p : PlanParts) → IsPlan p → (ts : List Triangle) → length ts ≤ 8192 → enough_of (map_of p) ts ≤ 2 ^ 51
+pub enough_below : (p : PlanParts) → IsPlan p → (ts : List Triangle) → length ts ≤ MOST_TRIANGLES → enough_of (map_of p) ts ≤ 2 ^ 58
 enough_below p is ts few =
     let v = count_of_plan p is in
     let f = is.few_points in

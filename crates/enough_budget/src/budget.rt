@@ -10,7 +10,7 @@ ghost use Rattle.sight_names.specs.Enough.{enough_of, passable_lines};
 ghost use Rattle.enough_budget.specs.Passable.{is_open};
 
 use mesh_shape::Mesh;
-use sight_names::{Line, Plan};
+use sight_names::{LARGE_LINES, Line, Plan};
 
 /// Whether the record is a line that isn't solid.
 fn is_passable(entry: Option<Line>) -> bool
@@ -25,7 +25,7 @@ fn is_passable(entry: Option<Line>) -> bool
 /// How many lines of the plan aren't solid.
 fn count_passable(plan: &Plan) -> u64
     ensures count { result ≡ passable_lines (map_of plan.now) }
-    ensures few { result ≤ 16384 }
+    ensures few { result ≤ LARGE_LINES }
 {
     let mut count = 0;
     for entry in plan.lines() {
@@ -40,7 +40,7 @@ fn count_passable(plan: &Plan) -> u64
 pub fn enough(plan: &Plan, mesh: &Mesh) -> u64
     requires mesh { IsMeshOf (map_of plan.now) mesh.now.triangles }
     ensures value { result ≡ enough_of (map_of plan.now) mesh.now.triangles }
-    ensures fits { result ≤ 2 ^ 51 }
+    ensures fits { result ≤ 2 ^ 58 }
     ensures never_spent { (ls : List (Option ℕ)) (a : ℕ) → ¬ Spent (map_of plan.now) mesh.now.triangles ls a (Of result) }
     ensures never_listed { (a b : ℕ) → ¬ IsListed (map_of plan.now) (Of result) a b }
     ensures never_in_groups { (a b : ℕ) → ¬ IsListedByGroups (map_of plan.now) (Of result) a b }

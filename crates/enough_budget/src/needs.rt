@@ -46,7 +46,7 @@ fn count_sequences(
 
 /// The budget that is enough is far below the greatest number, so no count of sequences passes that.
 fn enough_fits(plan: &Plan, mesh: &Mesh)
-    ensures { enough_of (map_of plan.now) mesh.now.triangles ≤ 2 ^ 51 }
+    ensures { enough_of (map_of plan.now) mesh.now.triangles ≤ 2 ^ 58 }
 {
     let _points = plan.points();
     let _triangles = mesh.triangles();

@@ -33,12 +33,12 @@ fn corner_of(t: Triangle, from: u16, to: u16) -> u16
 }
 
 /// The number of the half-edge along the directed edge.
-pub fn number_of(mesh: &Mesh, left: u16, right: u16) -> Option<u16>
+pub fn number_of(mesh: &Mesh, left: u16, right: u16) -> Option<u32>
     ensures { result ≡ number_at mesh.now.triangles (edge left right) }
 {
     let triangle = mesh.triangle_at(left, right)?;
     let corners = mesh.triangles().get(triangle as usize)?;
-    Some(triangle * 3 + corner_of(*corners, left, right))
+    Some(triangle as u32 * 3 + corner_of(*corners, left, right) as u32)
 }
 
 /// What the line with this record number is for one who arrives at its side.
@@ -63,7 +63,7 @@ fn joined(old: EdgeKind, new: EdgeKind) -> EdgeKind
 }
 
 /// Joins the kind with this number, where there is one, with the new one.
-fn put_kind(kinds: &mut [EdgeKind], number: Option<u16>, kind: EdgeKind)
+fn put_kind(kinds: &mut [EdgeKind], number: Option<u32>, kind: EdgeKind)
     ensures { PutsKind number kind kinds.old kinds.new }
 {
     let Some(number) = number else {
@@ -106,7 +106,7 @@ pub fn kinds_of(alloc: Global, plan: &Plan, mesh: &Mesh) -> Result<Vec<EdgeKind>
 }
 
 /// The kind with this number.
-pub fn kind_of(kinds: &[EdgeKind], number: u16) -> EdgeKind
+pub fn kind_of(kinds: &[EdgeKind], number: u32) -> EdgeKind
     ensures { result ≡ kind_with kinds.now number }
 {
     match kinds.get(number as usize) {
@@ -116,7 +116,7 @@ pub fn kind_of(kinds: &[EdgeKind], number: u16) -> EdgeKind
 }
 
 /// The half-edge along the directed edge, unless the edge is a solid line or no triangle has it.
-pub fn way(mesh: &Mesh, kinds: &[EdgeKind], left: u16, right: u16) -> Option<u16>
+pub fn way(mesh: &Mesh, kinds: &[EdgeKind], left: u16, right: u16) -> Option<u32>
     ensures { result ≡ way_by mesh.now.triangles kinds.now (edge left right) }
 {
     let number = number_of(mesh, left, right)?;

@@ -32,9 +32,9 @@ pub struct HalfEdge {
     /// The side where one arrives, if the edge is a line that one can look through.
     pub entered: Option<Side>,
     /// From `left` to `apex`; None where that edge is a solid line, or no triangle is behind it.
-    pub left_way: Option<u16>,
+    pub left_way: Option<u32>,
     /// From `apex` to `right`; None likewise.
-    pub right_way: Option<u16>,
+    pub right_way: Option<u32>,
 }
 
 /// The half-edges of a mesh; a contract sees the list of them. The one that begins at corner c of triangle k has the
@@ -59,7 +59,7 @@ struct Corner {
     point: u16,
     at: Pt,
     kind: EdgeKind,
-    way: Option<u16>,
+    way: Option<u32>,
 }
 
 /// The point with this number.
@@ -87,7 +87,7 @@ fn corner_at(
     plan: &Plan,
     mesh: &Mesh,
     kinds: &[EdgeKind],
-    number: u16,
+    number: u32,
     from: u16,
     to: u16,
 ) -> Corner
@@ -183,10 +183,9 @@ fn push_triangle(
     sector: Option<u16>,
     t: Triangle,
 ) -> Result<(), Memory>
-    requires { number < 8192 }
     ensures { IfOk result (λ _. Pushes plan.now mesh.now.triangles kinds.now number sector t edges.old.items edges.new.items) }
 {
-    let first = number * 3;
+    let first = number as u32 * 3;
     let p = corner_at(plan, mesh, kinds, first, t.p, t.q);
     let q = corner_at(plan, mesh, kinds, first + 1, t.q, t.r);
     let r = corner_at(plan, mesh, kinds, first + 2, t.r, t.p);
@@ -223,7 +222,7 @@ impl HalfEdges {
     }
 
     /// The half-edge with this number.
-    pub fn get(&self, number: u16) -> Option<&HalfEdge>
+    pub fn get(&self, number: u32) -> Option<&HalfEdge>
         ensures { option_copied result ≡ slice_get self.now number }
     {
         self.edges.as_slice().get(number as usize)
@@ -231,7 +230,7 @@ impl HalfEdges {
 
     /// The number of the half-edge along the directed edge, unless the edge is a solid line or no triangle of this mesh
     /// has it.
-    pub fn entering(&self, mesh: &Mesh, left: u16, right: u16) -> Option<u16>
+    pub fn entering(&self, mesh: &Mesh, left: u16, right: u16) -> Option<u32>
         ensures { result ≡ entering_at mesh.now.triangles self.now (edge left right) }
     {
         let number = number_of(mesh, left, right)?;
@@ -240,7 +239,7 @@ impl HalfEdges {
     }
 
     /// This way, unless it leads into a triangle of the source.
-    pub fn outside(&self, way: Option<u16>, source: u16) -> Option<u16>
+    pub fn outside(&self, way: Option<u32>, source: u16) -> Option<u32>
         ensures { result ≡ way_outside self.now source way }
     {
         let number = way?;

@@ -6,10 +6,7 @@ ghost use Rattle.std.specs.Prelude.{◌≡◌, ℕ, ◌<◌, ◌≤◌, length, 
 ghost use Rattle.sight_names.specs.Plan.{IsPlanLine};
 ghost use Rattle.line_spans.specs.Spans.{span_of as span_in, span_at as span_entry, AreSpans, IsSkip, AreSkipsBelow, AreSkips};
 
-use sight_names::{Line, Plan};
-
-/// The most records that a plan has.
-pub const MAX_SPANS: usize = 16384;
+use sight_names::{LARGE_LINES, Line, Plan};
 
 /// The point numbers and the y between which a line lies, and its record number. A record that is passed over has its
 /// place behind all lines.
@@ -75,7 +72,7 @@ fn span_at(plan: &Plan, i: u16) -> Span
 /// Writes each record's span at its number.
 fn put_by_record(plan: &Plan, spans: &mut [Span])
     requires each { length spans.old ≡ length plan.now.lines }
-    requires few { length plan.now.lines ≤ 16384 }
+    requires few { length plan.now.lines ≤ LARGE_LINES }
     ensures { (i : ℕ) (d : Span) → i < length plan.now.lines → slice_index_or spans.new i d ≡ span_entry plan.now i }
 {
     for i in 0..spans.len() {
@@ -98,7 +95,7 @@ pub fn put_spans(plan: &Plan, spans: &mut [Span])
 fn skip_at(spans: &[Span], skips: &[u16], k: usize) -> u16
     requires place { k < length spans.now }
     requires each { length skips.now ≡ length spans.now }
-    requires few { length spans.now ≤ 16384 }
+    requires few { length spans.now ≤ LARGE_LINES }
     requires earlier { AreSkipsBelow spans.now skips.now k }
     ensures { IsSkip spans.now k result }
 {
@@ -116,7 +113,7 @@ fn skip_at(spans: &[Span], skips: &[u16], k: usize) -> u16
 /// passes over them all where its own span ends too early.
 pub fn put_skips(spans: &[Span], skips: &mut [u16])
     requires each { length skips.old ≡ length spans.now }
-    requires few { length spans.now ≤ 16384 }
+    requires few { length spans.now ≤ LARGE_LINES }
     ensures { AreSkips spans.now skips.new }
 {
     for k in 0..spans.len() {

@@ -9,8 +9,8 @@ ghost use Rattle.line_spans.specs.Spans.{AreSpans, IsSpanIn};
 ghost use Rattle.map_audit.specs.Audit.{AreRelated, FineAt, FineBefore, FineFrom, IsFaultOf, IsLineFault, fault_by};
 
 use geom_exact::{Relation, seg_relation};
-use line_spans::{MAX_SPANS, NO_SPAN, Span, ends_below, put_spans};
-use sight_names::{Line, LineFault, Plan, Pt};
+use line_spans::{NO_SPAN, Span, ends_below, put_spans};
+use sight_names::{LARGE_LINES, Line, LineFault, Plan, Pt};
 
 /// Whether each two lines of the map share nothing but an end of both. Takes no memory.
 ///
@@ -35,7 +35,7 @@ pub fn audit_lines(plan: &Plan) -> Result<(), LineFault>
 fn is_swept_clean(plan: &Plan) -> bool
     ensures { IsTrue result → LinesMeetAtEnds (map_of plan.now) }
 {
-    let mut room = [NO_SPAN; MAX_SPANS];
+    let mut room = [NO_SPAN; LARGE_LINES];
     let spans = &mut room[..plan.lines().len()];
     put_spans(plan, spans);
     are_clean(plan, spans)

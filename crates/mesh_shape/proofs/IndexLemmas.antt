@@ -5,6 +5,7 @@ use Rattle.std.proofs.lemmas.Bool.{false≢true, true≢false, cases_eq}
 use Rattle.std.proofs.lemmas.Option.{slice_get-get_or}
 use Rattle.std.proofs.lemmas.List.Sums.{position_or_len_is}
 use Rattle.std.specs.List.{position, position_or_len}
+use Rattle.sight_names.specs.declared.limits.TheConstants.{MOST_TRIANGLES}
 use Rattle.sight_names.specs.declared.names.Triangle.{Triangle}
 use Rattle.sight_names.specs.Points.{Edge}
 use Rattle.sight_names.specs.Mesh.{AreTriangles, IsTriangle, has_edge, triangle_at}
@@ -175,7 +176,7 @@ next_of points ts first later k u t n is lt at entry corner = entry_next ts k u 
     now h = subst (λ (z : Next). IsNext ts k t z) entry (subst (λ (z : Triangle). IsNext ts k z (get_or later k n)) at h)
 
 -- all triangles are entered
-pub enter_all : (ts : List Triangle) (first : List ℕ) (later : List Next) (points : ℕ) → length first ≡ points → length later ≡ length ts → length ts ≤ 8192 → AreTriangles points ts → IsEntered ts 0 first later → IsIndexed points ts first later
+pub enter_all : (ts : List Triangle) (first : List ℕ) (later : List Next) (points : ℕ) → length first ≡ points → length later ≡ length ts → length ts ≤ MOST_TRIANGLES → AreTriangles points ts → IsEntered ts 0 first later → IsIndexed points ts first later
 enter_all ts first later points e f few are was = record {
   triangles = are;
   few = few;

@@ -1,5 +1,6 @@
 -- Where the triangles round each point stand in the list of triangles.
 use Rattle.std.specs.Prelude.{◌≡◌, ℕ, ◌+◌, ◌<◌, ◌≤◌, List, length, slice_index_or, Bool, true, false, ◌==◌, ◌||◌, if◌then◌else◌}
+use Rattle.sight_names.specs.declared.limits.TheConstants.{MOST_TRIANGLES}
 use Rattle.sight_names.specs.declared.names.Triangle.{Triangle}
 use Rattle.mesh_shape.specs.declared.mesh.Next.{Next}
 use Rattle.sight_names.specs.Mesh.{AreTriangles}
@@ -33,7 +34,7 @@ pub record IsPut (t : Triangle) (k : ℕ) (old new : List ℕ) : Type 0 where
 -- triangles between so many points, with the first triangle round each point, and the next ones
 pub record IsIndexed (points : ℕ) (ts : List Triangle) (first : List ℕ) (later : List Next) : Type 0 where
   pub triangles : AreTriangles points ts
-  pub few : length ts ≤ 8192
+  pub few : length ts ≤ MOST_TRIANGLES
   pub each_point : length first ≡ points
   pub each_triangle : length later ≡ length ts
   pub first_round : (u d : ℕ) → u < points → IsNextAround ts u 0 (slice_index_or first u d)

@@ -1,14 +1,14 @@
 //! The lines of a plan by their lesser ends, in arrays, so that no memory is taken. Nothing rests on what they hold: by
 //! them a line is found soon, and where they show none all lines are looked at.
 
-use sight_names::{Line, Plan};
+use sight_names::{LARGE_LINES, LARGE_POINTS, Line, Plan};
 
 /// For each point the last line whose lesser end it is, and for each line the one before it. Numbers are greater by one,
 /// and 0 is none.
 #[derive(Drop)]
 pub struct Chains {
-    last: [u16; 4096],
-    earlier: [u16; 16384],
+    last: [u16; LARGE_POINTS],
+    earlier: [u16; LARGE_LINES],
 }
 
 /// Puts the line with this record number before the others with its lesser end.
@@ -22,8 +22,8 @@ fn link(last: &mut [u16], earlier: &mut [u16], line: Line, i: usize) {
 
 /// The chains of a plan's lines.
 pub fn chains_of(plan: &Plan) -> Chains {
-    let mut last = [0u16; 4096];
-    let mut earlier = [0u16; 16384];
+    let mut last = [0u16; LARGE_POINTS];
+    let mut earlier = [0u16; LARGE_LINES];
     for (i, entry) in plan.lines().iter().enumerate() {
         if let Some(line) = entry {
             link(last.as_mut_slice(), earlier.as_mut_slice(), *line, i);

@@ -5,7 +5,7 @@ ghost use Rattle.mesh_shape.specs.Index.{IsIndexed, IsPut, entry_at};
 ghost use Rattle.sight_names.specs.Mesh.{AreTriangles, IsTriangle, has_edge as has_edge_of, triangle_at as triangle_of};
 ghost use Rattle.sight_names.specs.Sequence.{apex as apex_of, third_point as third_of};
 
-use sight_names::{Memory, Triangle};
+use sight_names::{MOST_TRIANGLES, Memory, Triangle};
 use std::alloc::Global;
 use std::marker::Model;
 
@@ -83,7 +83,7 @@ fn put(first: &mut [u16], t: Triangle, k: u16)
 /// Enters the triangles into the index, from the last one back.
 fn index(triangles: &[Triangle], first: &mut [u16], later: &mut [Next])
     requires triangles { AreTriangles (length first.old) triangles.now }
-    requires few { length triangles.now ≤ 8192 }
+    requires few { length triangles.now ≤ MOST_TRIANGLES }
     requires each_triangle { length later.old ≡ length triangles.now }
     requires empty { EachIndex first.old (λ u. slice_index first.old u ≡ length triangles.now) }
     ensures { IsIndexed (length first.old) triangles.now first.new later.new }
@@ -105,7 +105,7 @@ impl Mesh {
     /// The triangles at their places; for each point and each corner the index is made from the last triangle back.
     pub fn of(alloc: Global, points: u16, triangles: Vec<Triangle>) -> Result<Mesh, Memory>
         requires triangles { AreTriangles points triangles.items }
-        requires few { vec_len triangles ≤ 8192 }
+        requires few { vec_len triangles ≤ MOST_TRIANGLES }
         ensures { IfOk result (λ m. m ≡ record { points = points; triangles = triangles.items }) }
     {
         let count = triangles.len() as u16;
@@ -140,7 +140,7 @@ impl Mesh {
     pub fn triangles(&self) -> &[Triangle]
         ensures list { result.now ≡ self.now.triangles }
         ensures triangles { AreTriangles self.now.points self.now.triangles }
-        ensures few { length self.now.triangles ≤ 8192 }
+        ensures few { length self.now.triangles ≤ MOST_TRIANGLES }
     {
         self.triangles.as_slice()
     }

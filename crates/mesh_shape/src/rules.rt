@@ -17,8 +17,8 @@ use crate::labels::Labels;
 use crate::meets::meet_at_ends;
 use crate::mesh::Mesh;
 use geom_exact::{in_triangle, turn};
-use line_spans::{MAX_SPANS, NO_SPAN, Span, ends_below, first_behind, put_skips, put_spans};
-use sight_names::{Line, MeshFault, Plan, Pt, Side, Triangle};
+use line_spans::{NO_SPAN, Span, ends_below, first_behind, put_skips, put_spans};
+use sight_names::{LARGE_LINES, Line, MOST_TRIANGLES, MeshFault, Plan, Pt, Side, Triangle};
 
 /// The first rule of a good mesh that is broken, at its least numbers; None exactly where the mesh is good.
 pub fn mesh_fault(plan: &Plan, mesh: &Mesh, labels: &Labels) -> Option<MeshFault>
@@ -67,7 +67,7 @@ fn triangles_of<'a>(plan: &Plan, mesh: &'a Mesh) -> &'a [Triangle]
     requires { mesh.now.points ≡ length plan.now.points }
     ensures list { result.now ≡ mesh.now.triangles }
     ensures triangles { AreTriangles (length (points_of (map_of plan.now))) mesh.now.triangles }
-    ensures few { length mesh.now.triangles ≤ 8192 }
+    ensures few { length mesh.now.triangles ≤ MOST_TRIANGLES }
     ensures numbers { AreTriangles (length plan.now.points) mesh.now.triangles }
 {
     let _ = plan.points();
@@ -502,10 +502,10 @@ fn are_fair_in_order(plan: &Plan, spans: &[Span], mesh: &Mesh) -> bool
     requires plan { IsPlan plan.now }
     requires points { mesh.now.points ≡ length plan.now.points }
     requires spans { AreSpans plan.now spans.now }
-    requires few { length spans.now ≤ 16384 }
+    requires few { length spans.now ≤ LARGE_LINES }
     ensures { IsTrue result → (k i : ℕ) → IsFairAt (map_of plan.now) mesh.now.triangles k i }
 {
-    let mut room = [0u16; MAX_SPANS];
+    let mut room = [0u16; LARGE_LINES];
     let skips = &mut room[..spans.len()];
     put_skips(spans, skips);
     are_all_fair(plan, spans, skips, mesh)
@@ -516,7 +516,7 @@ fn is_swept_fairly(plan: &Plan, mesh: &Mesh) -> bool
     requires { mesh.now.points ≡ length plan.now.points }
     ensures { IsTrue result → (k i : ℕ) → IsFairAt (map_of plan.now) mesh.now.triangles k i }
 {
-    let mut room = [NO_SPAN; MAX_SPANS];
+    let mut room = [NO_SPAN; LARGE_LINES];
     let spans = &mut room[..plan.lines().len()];
     put_spans(plan, spans);
     are_fair_in_order(plan, spans, mesh)

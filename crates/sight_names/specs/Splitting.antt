@@ -1,6 +1,7 @@
 -- Lines that split the ends of portals, over points.
 use Rattle.std.specs.Prelude.{◌≡◌, ℕ, ◌-◌, ◌<◌, ◌≤◌, List, ◌∷◌, Option, Some, option_map, slice_get, length, sum, nat_lt, if◌then◌else◌, ℤ, pos, ◌+ℤ◌, ◌-ℤ◌, ◌*ℤ◌, ◌<ℤ◌}
 use Rattle.std.specs.List.{AllByRecursion}
+use Rattle.sight_names.specs.declared.limits.TheConstants.{RIGHT_END}
 use Rattle.sight_names.specs.declared.names.Pt.{Pt}
 use Rattle.sight_names.specs.declared.names.EndAt.{EndAt}
 use Rattle.sight_names.specs.declared.names.EndPair.{EndPair}
@@ -25,12 +26,12 @@ IsSplittable es = (a b c : ℤ) × SplitsEnds es a b c
 
 -- the end with this code: the portal's place, plus 32,768 for a right end
 abbrev pub end_of : List EndPoints → ℕ → Option EndAt
-end_of es code = option_map (λ (p : Pt). record { code = code; at = p }) (if nat_lt code 32768 then option_map (λ (e : EndPoints). e.left) (slice_get es code) else option_map (λ (e : EndPoints). e.right) (slice_get es (code - 32768)))
+end_of es code = option_map (λ (p : Pt). record { code = code; at = p }) (if nat_lt code RIGHT_END then option_map (λ (e : EndPoints). e.left) (slice_get es code) else option_map (λ (e : EndPoints). e.right) (slice_get es (code - RIGHT_END)))
 
 -- a pair of a left and a right end of these portals, with their codes
 pub record IsPairOf (es : List EndPoints) (p : EndPair) : Type 0 where
-  pub left_code : p.left.code < 32768
-  pub right_code : 32768 ≤ p.right.code
+  pub left_code : p.left.code < RIGHT_END
+  pub right_code : RIGHT_END ≤ p.right.code
   pub left : end_of es p.left.code ≡ Some p.left
   pub right : end_of es p.right.code ≡ Some p.right
 

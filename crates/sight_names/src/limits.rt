@@ -1,0 +1,28 @@
+//! The limits of maps, of certificates and of files, each said once.
+
+/// The points, line records and sectors of a map by the usual limits, at most.
+pub const MOST_POINTS: usize = 4_096;
+
+pub const MOST_LINES: usize = 16_384;
+
+pub const MOST_SECTORS: usize = 4_096;
+
+/// The same by the larger limits. There are fewer points than 2^14, so that a map has at most `MOST_TRIANGLES`
+/// triangles, and a sequence of portals, which enters each triangle at most once, fewer portals than `RIGHT_END`.
+pub const LARGE_POINTS: usize = 16_383;
+
+pub const LARGE_LINES: usize = 32_768;
+
+pub const LARGE_SECTORS: usize = 16_384;
+
+/// The triangles and the groups of a map, at most: twice its points.
+pub const MOST_TRIANGLES: usize = 32_766;
+
+/// The triangles and the groups that a certificate may always have, however few points the map has.
+pub const USUAL_TRIANGLES: usize = 8_192;
+
+/// What the code of a right end is more than its portal's place.
+pub const RIGHT_END: u16 = 32_768;
+
+/// The bytes of a WAD or a certificate, at most.
+pub const MOST_BYTES: usize = 2_147_483_647;
