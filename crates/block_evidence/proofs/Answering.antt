@@ -2,6 +2,7 @@
 use Rattle.std.proofs.Common.{◌≡◌, ℕ, zero, suc, ◌-◌, List, [], ◌∷◌, Option, Some, None, Bool, true, false, refl, sym, ap, ◌∙◌, subst, ℤ, pos, ◌<ℤ◌, IsTrue, ◌↔◌}
 use Rattle.std.specs.Prelude.{slice_get, MatchOption, filter_map, is_some, not, option_map, nat_lt, if◌then◌else◌}
 use Rattle.std.specs.List.{cons_option}
+use Rattle.sight_names.specs.declared.limits.TheConstants.{RIGHT_END}
 use Rattle.sight_names.specs.declared.names.Pt.{Pt}
 use Rattle.sight_names.specs.declared.names.EndAt.{EndAt}
 use Rattle.sight_names.specs.Point.{point_of, value_at}
@@ -49,7 +50,7 @@ code_by code None e h = absurd (none_is_not_some e h)
 code_by code (Some p) e h = sym (ap (λ (v : EndAt). v.code) (some_is_same (record { code = code; at = p }) e h))
 
 code_is : (es : List EndPoints) (code : ℕ) (e : EndAt) → end_of es code ≡ Some e → e.code ≡ code
-code_is es code e h = code_by code (if nat_lt code 32768 then option_map (λ (q : EndPoints). q.left) (slice_get es code) else option_map (λ (q : EndPoints). q.right) (slice_get es (code - 32768))) e h
+code_is es code e h = code_by code (if nat_lt code RIGHT_END then option_map (λ (q : EndPoints). q.left) (slice_get es code) else option_map (λ (q : EndPoints). q.right) (slice_get es (code - RIGHT_END))) e h
 
 parted_by : (a b c : ℤ) (es : List EndPoints) (code : ℕ) (ds : List EndAt) (o : Option EndAt) → SplitsEnds es a b c → end_of es code ≡ o → PartsEnds ds a b c → PartsEnds (cons_option o ds) a b c
 parted_by a b c es code ds None h e k = k

@@ -5,6 +5,7 @@ use Rattle.std.specs.List.{AllByRecursion}
 use Rattle.std.specs.List.Sorted.{IsStrictlyIncreasing}
 use Rattle.std.proofs.lemmas.List.Elements.{All-contains, All-from_recursion, All-contains_itself}
 use Rattle.std.proofs.lemmas.Option.{slice_get-get_or, slice_get_within}
+use Rattle.sight_names.specs.declared.limits.TheConstants.{RIGHT_END}
 use Rattle.sight_names.specs.declared.names.EndAt.{EndAt}
 use Rattle.sight_names.specs.declared.names.EndPair.{EndPair}
 use Rattle.sight_names.specs.Splitting.{EndPoints, IsPairOf, AreBalanced, end_of}
@@ -78,8 +79,8 @@ choice_gathered pairs ends k n c b g = record {
   ascends = g.ascends;
   from_pairs = g.from_pairs;
   stuck = balanced_meet (left_ends ends) (right_ends ends) pairs b
-      (lefts_in pairs ends (λ j p s. left_in p.left ends (at_place (λ (v : EndPair). v.left.code < 32768) pairs j p c.lefts s) (g.has j (within j p s) p s).0))
-      (rights_in pairs ends (λ j p s. right_in p.right ends (at_place (λ (v : EndPair). 32768 ≤ v.right.code) pairs j p c.rights s) (g.has j (within j p s) p s).1));
+      (lefts_in pairs ends (λ j p s. left_in p.left ends (at_place (λ (v : EndPair). v.left.code < RIGHT_END) pairs j p c.lefts s) (g.has j (within j p s) p s).0))
+      (rights_in pairs ends (λ j p s. right_in p.right ends (at_place (λ (v : EndPair). RIGHT_END ≤ v.right.code) pairs j p c.rights s) (g.has j (within j p s) p s).1));
 }
   where
     within : (j : ℕ) (p : EndPair) → slice_get pairs j ≡ Some p → j < k

@@ -6,6 +6,7 @@ use Rattle.std.proofs.lemmas.Bool.{lt-ltb, le-ltb}
 use Rattle.std.proofs.lemmas.Int.{ints}
 use Rattle.std.proofs.lemmas.List.Sums.{sum_by-cons}
 use Rattle.exact_ring.proofs.Quoting.{quoting, by_ring, ring_at, combine1}
+use Rattle.sight_names.specs.declared.limits.TheConstants.{RIGHT_END}
 use Rattle.sight_names.specs.declared.names.Pt.{Pt}
 use Rattle.sight_names.specs.declared.names.EndAt.{EndAt}
 use Rattle.geom_exact.specs.Formulas.{turn_of}
@@ -190,34 +191,34 @@ pub hulls_turned : (ps qs : List Pt) → HullsMeet ps qs → HullsMeet qs ps
 hulls_turned ps qs (r, m, n) = (r, n, m)
 
 -- ---- ends by their codes
-left_of : (e : EndAt) (es : List EndAt) → e.code < 32768 → left_ends (e ∷ es) ≡ e.at ∷ left_ends es
-left_of e es h = ap (λ (b : Bool). cons_option (if b then Some e.at else None) (left_ends es)) (lt-ltb e.code 32768 h)
+left_of : (e : EndAt) (es : List EndAt) → e.code < RIGHT_END → left_ends (e ∷ es) ≡ e.at ∷ left_ends es
+left_of e es h = ap (λ (b : Bool). cons_option (if b then Some e.at else None) (left_ends es)) (lt-ltb e.code RIGHT_END h)
 
-not_left : (e : EndAt) (es : List EndAt) → 32768 ≤ e.code → left_ends (e ∷ es) ≡ left_ends es
-not_left e es h = ap (λ (b : Bool). cons_option (if b then Some e.at else None) (left_ends es)) (le-ltb e.code 32768 h)
+not_left : (e : EndAt) (es : List EndAt) → RIGHT_END ≤ e.code → left_ends (e ∷ es) ≡ left_ends es
+not_left e es h = ap (λ (b : Bool). cons_option (if b then Some e.at else None) (left_ends es)) (le-ltb e.code RIGHT_END h)
 
-right_of : (e : EndAt) (es : List EndAt) → 32768 ≤ e.code → right_ends (e ∷ es) ≡ e.at ∷ right_ends es
-right_of e es h = ap (λ (b : Bool). cons_option (if b then None else Some e.at) (right_ends es)) (le-ltb e.code 32768 h)
+right_of : (e : EndAt) (es : List EndAt) → RIGHT_END ≤ e.code → right_ends (e ∷ es) ≡ e.at ∷ right_ends es
+right_of e es h = ap (λ (b : Bool). cons_option (if b then None else Some e.at) (right_ends es)) (le-ltb e.code RIGHT_END h)
 
-not_right : (e : EndAt) (es : List EndAt) → e.code < 32768 → right_ends (e ∷ es) ≡ right_ends es
-not_right e es h = ap (λ (b : Bool). cons_option (if b then None else Some e.at) (right_ends es)) (lt-ltb e.code 32768 h)
+not_right : (e : EndAt) (es : List EndAt) → e.code < RIGHT_END → right_ends (e ∷ es) ≡ right_ends es
+not_right e es h = ap (λ (b : Bool). cons_option (if b then None else Some e.at) (right_ends es)) (lt-ltb e.code RIGHT_END h)
 
 with_first : (p : Pt) (ps qs : List Pt) → ps ≡ qs → p ∷ ps ≡ p ∷ qs
 with_first p ps qs h = ap (λ (t : List Pt). p ∷ t) h
 
-pub stuck_by_two : (a b c d : EndAt) → a.code < 32768 → b.code < 32768 → 32768 ≤ c.code → 32768 ≤ d.code → HullsMeet (a.at ∷ b.at ∷ []) (c.at ∷ d.at ∷ []) → AreStuck (a ∷ b ∷ c ∷ d ∷ [])
+pub stuck_by_two : (a b c d : EndAt) → a.code < RIGHT_END → b.code < RIGHT_END → RIGHT_END ≤ c.code → RIGHT_END ≤ d.code → HullsMeet (a.at ∷ b.at ∷ []) (c.at ∷ d.at ∷ []) → AreStuck (a ∷ b ∷ c ∷ d ∷ [])
 stuck_by_two a b c d h i j k m = subst₂ (λ (ps qs : List Pt). HullsMeet ps qs)
     (sym (left_of a (b ∷ c ∷ d ∷ []) h ∙ with_first a.at (left_ends (b ∷ c ∷ d ∷ [])) (b.at ∷ []) (left_of b (c ∷ d ∷ []) i ∙ with_first b.at (left_ends (c ∷ d ∷ [])) [] (not_left c (d ∷ []) j ∙ not_left d [] k))))
     (sym (not_right a (b ∷ c ∷ d ∷ []) h ∙ not_right b (c ∷ d ∷ []) i ∙ right_of c (d ∷ []) j ∙ with_first c.at (right_ends (d ∷ [])) (d.at ∷ []) (right_of d [] k)))
     m
 
-pub stuck_by_one : (a b c d : EndAt) → a.code < 32768 → 32768 ≤ b.code → 32768 ≤ c.code → 32768 ≤ d.code → HullsMeet (a.at ∷ []) (b.at ∷ c.at ∷ d.at ∷ []) → AreStuck (a ∷ b ∷ c ∷ d ∷ [])
+pub stuck_by_one : (a b c d : EndAt) → a.code < RIGHT_END → RIGHT_END ≤ b.code → RIGHT_END ≤ c.code → RIGHT_END ≤ d.code → HullsMeet (a.at ∷ []) (b.at ∷ c.at ∷ d.at ∷ []) → AreStuck (a ∷ b ∷ c ∷ d ∷ [])
 stuck_by_one a b c d h i j k m = subst₂ (λ (ps qs : List Pt). HullsMeet ps qs)
     (sym (left_of a (b ∷ c ∷ d ∷ []) h ∙ with_first a.at (left_ends (b ∷ c ∷ d ∷ [])) [] (not_left b (c ∷ d ∷ []) i ∙ not_left c (d ∷ []) j ∙ not_left d [] k)))
     (sym (not_right a (b ∷ c ∷ d ∷ []) h ∙ right_of b (c ∷ d ∷ []) i ∙ with_first b.at (right_ends (c ∷ d ∷ [])) (c.at ∷ d.at ∷ []) (right_of c (d ∷ []) j ∙ with_first c.at (right_ends (d ∷ [])) (d.at ∷ []) (right_of d [] k))))
     m
 
-pub stuck_by_three : (a b c d : EndAt) → a.code < 32768 → b.code < 32768 → c.code < 32768 → 32768 ≤ d.code → HullsMeet (d.at ∷ []) (a.at ∷ b.at ∷ c.at ∷ []) → AreStuck (a ∷ b ∷ c ∷ d ∷ [])
+pub stuck_by_three : (a b c d : EndAt) → a.code < RIGHT_END → b.code < RIGHT_END → c.code < RIGHT_END → RIGHT_END ≤ d.code → HullsMeet (d.at ∷ []) (a.at ∷ b.at ∷ c.at ∷ []) → AreStuck (a ∷ b ∷ c ∷ d ∷ [])
 stuck_by_three a b c d h i j k m = subst₂ (λ (ps qs : List Pt). HullsMeet ps qs)
     (sym (left_of a (b ∷ c ∷ d ∷ []) h ∙ with_first a.at (left_ends (b ∷ c ∷ d ∷ [])) (b.at ∷ c.at ∷ []) (left_of b (c ∷ d ∷ []) i ∙ with_first b.at (left_ends (c ∷ d ∷ [])) (c.at ∷ []) (left_of c (d ∷ []) j ∙ with_first c.at (left_ends (d ∷ [])) [] (not_left d [] k)))))
     (sym (not_right a (b ∷ c ∷ d ∷ []) h ∙ not_right b (c ∷ d ∷ []) i ∙ not_right c (d ∷ []) j ∙ right_of d [] k))

@@ -9,6 +9,7 @@ use Rattle.std.proofs.lemmas.Bool.{lt-ltb, le-ltb, ltb-true, ltb-false}
 use Rattle.exact_ring.proofs.Quoting.{quoting, by_ring}
 use Rattle.exact_ring.proofs.Signs.{mul-pos, mul-nonneg, pos-of-mul}
 use lib.IntN.{*ℤ_comm}
+use Rattle.sight_names.specs.declared.limits.TheConstants.{RIGHT_END}
 use Rattle.sight_names.specs.declared.names.Pt.{Pt}
 use Rattle.sight_names.specs.declared.names.EndAt.{EndAt}
 use Rattle.sight_names.specs.declared.names.EndPair.{EndPair}
@@ -96,19 +97,19 @@ rights_by : (e : EndAt) (ends : List EndAt) (P : Pt → Type 0) (b : Bool) → (
 rights_by e ends P true h t = t
 rights_by e ends P false h t = (h refl, t)
 
-all_lefts : (ends : List EndAt) (P : Pt → Type 0) → AllByRecursion (λ e. e.code < 32768 → P e.at) ends → AllByRecursion P (left_ends ends)
+all_lefts : (ends : List EndAt) (P : Pt → Type 0) → AllByRecursion (λ e. e.code < RIGHT_END → P e.at) ends → AllByRecursion P (left_ends ends)
 all_lefts [] P h = tt
-all_lefts (e ∷ ends) P h = lefts_by e ends P (nat_lt e.code 32768) (λ k. h.0 (ltb-true e.code 32768 k)) (all_lefts ends P h.1)
+all_lefts (e ∷ ends) P h = lefts_by e ends P (nat_lt e.code RIGHT_END) (λ k. h.0 (ltb-true e.code RIGHT_END k)) (all_lefts ends P h.1)
 
-all_rights : (ends : List EndAt) (P : Pt → Type 0) → AllByRecursion (λ e. 32768 ≤ e.code → P e.at) ends → AllByRecursion P (right_ends ends)
+all_rights : (ends : List EndAt) (P : Pt → Type 0) → AllByRecursion (λ e. RIGHT_END ≤ e.code → P e.at) ends → AllByRecursion P (right_ends ends)
 all_rights [] P h = tt
-all_rights (e ∷ ends) P h = rights_by e ends P (nat_lt e.code 32768) (λ k. h.0 (ltb-false e.code 32768 k)) (all_rights ends P h.1)
+all_rights (e ∷ ends) P h = rights_by e ends P (nat_lt e.code RIGHT_END) (λ k. h.0 (ltb-false e.code RIGHT_END k)) (all_rights ends P h.1)
 
-each_left : (a b c : ℤ) (ends : List EndAt) → PartsEnds ends a b c → AllByRecursion (λ e. e.code < 32768 → pos 0 <ℤ line a b c e.at) ends
+each_left : (a b c : ℤ) (ends : List EndAt) → PartsEnds ends a b c → AllByRecursion (λ e. e.code < RIGHT_END → pos 0 <ℤ line a b c e.at) ends
 each_left a b c [] h = tt
 each_left a b c (e ∷ ends) h = (h.0.left, each_left a b c ends h.1)
 
-each_right : (a b c : ℤ) (ends : List EndAt) → PartsEnds ends a b c → AllByRecursion (λ e. 32768 ≤ e.code → line a b c e.at <ℤ pos 0) ends
+each_right : (a b c : ℤ) (ends : List EndAt) → PartsEnds ends a b c → AllByRecursion (λ e. RIGHT_END ≤ e.code → line a b c e.at <ℤ pos 0) ends
 each_right a b c [] h = tt
 each_right a b c (e ∷ ends) h = (h.0.right, each_right a b c ends h.1)
 
@@ -146,15 +147,15 @@ here_right e ends true k = absurd (wrong k)
     wrong : true ≡ false → ⊥
     wrong h = cc
 
-pub in_lefts : (ends : List EndAt) (k : ℕ) (e : EndAt) → e.code < 32768 → slice_get ends k ≡ Some e → In e.at (left_ends ends)
+pub in_lefts : (ends : List EndAt) (k : ℕ) (e : EndAt) → e.code < RIGHT_END → slice_get ends k ≡ Some e → In e.at (left_ends ends)
 in_lefts [] k e h g = absurd (none_is_not_some e g)
-in_lefts (d ∷ ends) zero e h g = subst (λ (d : EndAt). In e.at (left_ends (d ∷ ends))) (sym (some_is_same d e g)) (here_left e ends (nat_lt e.code 32768) (lt-ltb e.code 32768 h))
-in_lefts (d ∷ ends) (suc k) e h g = in_lefts_by e.at d ends (nat_lt d.code 32768) (in_lefts ends k e h g)
+in_lefts (d ∷ ends) zero e h g = subst (λ (d : EndAt). In e.at (left_ends (d ∷ ends))) (sym (some_is_same d e g)) (here_left e ends (nat_lt e.code RIGHT_END) (lt-ltb e.code RIGHT_END h))
+in_lefts (d ∷ ends) (suc k) e h g = in_lefts_by e.at d ends (nat_lt d.code RIGHT_END) (in_lefts ends k e h g)
 
-pub in_rights : (ends : List EndAt) (k : ℕ) (e : EndAt) → 32768 ≤ e.code → slice_get ends k ≡ Some e → In e.at (right_ends ends)
+pub in_rights : (ends : List EndAt) (k : ℕ) (e : EndAt) → RIGHT_END ≤ e.code → slice_get ends k ≡ Some e → In e.at (right_ends ends)
 in_rights [] k e h g = absurd (none_is_not_some e g)
-in_rights (d ∷ ends) zero e h g = subst (λ (d : EndAt). In e.at (right_ends (d ∷ ends))) (sym (some_is_same d e g)) (here_right e ends (nat_lt e.code 32768) (le-ltb e.code 32768 h))
-in_rights (d ∷ ends) (suc k) e h g = in_rights_by e.at d ends (nat_lt d.code 32768) (in_rights ends k e h g)
+in_rights (d ∷ ends) zero e h g = subst (λ (d : EndAt). In e.at (right_ends (d ∷ ends))) (sym (some_is_same d e g)) (here_right e ends (nat_lt e.code RIGHT_END) (le-ltb e.code RIGHT_END h))
+in_rights (d ∷ ends) (suc k) e h g = in_rights_by e.at d ends (nat_lt d.code RIGHT_END) (in_rights ends k e h g)
 
 -- ---- weights for all points from weights for some of them
 pub record AsMean (xs : List Pt) (s : ℕ) (x y : ℤ) : Type 0 where

@@ -1,9 +1,10 @@
 -- Four ends of which the signs of turns show that they are stuck, by their codes.
-use Rattle.std.proofs.Common.{◌≡◌, ℕ, ◌+◌, ◌<◌, ◌≤◌, List, [], ◌∷◌, ◌++◌, length, refl, sym, ap₂, ◌∙◌, arith, inl, inr}
+use Rattle.std.proofs.Common.{◌≡◌, ℕ, ◌+◌, ◌<◌, ◌≤◌, List, [], ◌∷◌, ◌++◌, length, refl, sym, ap, ap₂, subst, ◌∙◌, arith, inl, inr}
 use Rattle.std.specs.Prelude.{map, drop, replicate, ◌-◌}
 use Rattle.std.specs.List.{AllByRecursion}
 use Rattle.std.proofs.lemmas.Bool.{cases_order}
 use Rattle.std.proofs.lemmas.List.{length-append, map-append}
+use Rattle.sight_names.specs.declared.limits.TheConstants.{RIGHT_END}
 use Rattle.sight_names.specs.declared.names.Pt.{Pt}
 use Rattle.sight_names.specs.declared.names.EndAt.{EndAt}
 use Rattle.block_evidence.specs.declared.Evidence.{Evidence}
@@ -14,10 +15,10 @@ use Rattle.block_evidence.proofs.Ordered.{all_at, all_of, left_in, right_in}
 use Rattle.list_base.proofs.Lists.{all_join}
 
 abbrev pub AreLeft : List EndAt → Type 0
-AreLeft ends = AllByRecursion (λ (d : EndAt). d.code < 32768) ends
+AreLeft ends = AllByRecursion (λ (d : EndAt). d.code < RIGHT_END) ends
 
 abbrev pub AreRight : List EndAt → Type 0
-AreRight ends = AllByRecursion (λ (d : EndAt). 32768 ≤ d.code) ends
+AreRight ends = AllByRecursion (λ (d : EndAt). RIGHT_END ≤ d.code) ends
 
 abbrev points : List EndAt → List Pt
 points ends = map (λ (d : EndAt). d.at) ends
@@ -59,8 +60,7 @@ one_ordered a = record {
   ascends = λ d. (tt, tt);
 }
 
--- ---- left ends before right ones
-
+-- ---- lists of ends, one behind the other
 in_front : (e : EndAt) (xs ys : List EndAt) → IsIn e xs → IsIn e (xs ++ ys)
 in_front e [] ys h = absurd h
 in_front e (x ∷ xs) ys (inl h) = inl h
@@ -70,7 +70,29 @@ in_back : (e : EndAt) (xs ys : List EndAt) → IsIn e ys → IsIn e (xs ++ ys)
 in_back e [] ys h = h
 in_back e (x ∷ xs) ys h = inr (in_back e xs ys h)
 
-above : (x : EndAt) (ys : List EndAt) → x.code < 32768 → AreRight ys → AllByRecursion (λ (d : EndAt). x.code < d.code) ys
+-- two ends in order, and one that is later than both
+pub last_ordered : (a b c : EndAt) (x y : ℕ) → a.code < c.code → b.code < c.code → Orders (a ∷ b ∷ []) (x ∷ y ∷ []) → Orders (a ∷ b ∷ c ∷ []) (x ∷ y ∷ c.code ∷ [])
+last_ordered a b c x y h k o = record {
+  ends = o.ends ++ c ∷ [];
+  coded = map-append (λ (d : EndAt). d.code) o.ends (c ∷ []) ∙ ap (λ (xs : List ℕ). xs ++ c.code ∷ []) o.coded;
+  many = (let m = o.many in let l = length-append o.ends (c ∷ []) in omega (arith, l, m));
+  among = all_join (λ (d : EndAt). IsIn d (a ∷ b ∷ c ∷ [])) o.ends (c ∷ []) (all_of (λ (d : EndAt). IsIn d (a ∷ b ∷ c ∷ [])) o.ends (λ d i. in_front d (a ∷ b ∷ []) (c ∷ []) (all_at (λ (d : EndAt). IsIn d (a ∷ b ∷ [])) d o.ends o.among i))) (inr (inr (inl refl)), tt);
+  all = (in_front a o.ends (c ∷ []) o.all.0, (in_front b o.ends (c ∷ []) o.all.1.0, (in_back c o.ends (c ∷ []) (inl refl), tt)));
+  ascends = λ d. ascends_last o.ends (o.ascends ((d.0.0, tt), (tt, tt))) (all_of (λ (d : EndAt). d.code < c.code) o.ends (λ e i. below e (all_at (λ (d : EndAt). IsIn d (a ∷ b ∷ [])) e o.ends o.among i)));
+}
+  where
+    below : (e : EndAt) → IsIn e (a ∷ b ∷ []) → e.code < c.code
+    below e (inl p) = subst (λ (d : EndAt). d.code < c.code) p h
+    below e (inr (inl p)) = subst (λ (d : EndAt). d.code < c.code) p k
+    below e (inr (inr p)) = absurd p
+
+    ascends_last : (xs : List EndAt) → Ascends xs → AllByRecursion (λ (d : EndAt). d.code < c.code) xs → Ascends (xs ++ c ∷ [])
+    ascends_last [] u v = (tt, tt)
+    ascends_last (x ∷ xs) u v = (all_join (λ (d : EndAt). x.code < d.code) xs (c ∷ []) u.0 (v.0, tt), ascends_last xs u.1 v.1)
+
+-- ---- left ends before right ones
+
+above : (x : EndAt) (ys : List EndAt) → x.code < RIGHT_END → AreRight ys → AllByRecursion (λ (d : EndAt). x.code < d.code) ys
 above x [] h k = tt
 above x (y ∷ ys) h k = (let l = k.0 in omega (arith, h, l), above x ys h k.1)
 
@@ -90,15 +112,15 @@ pub picks_ordered : (ls rs : List EndAt) (cl cr : List ℕ) (e : Evidence) → O
     → length ls + length rs ≡ 4 → e.count ≡ 4 → end_codes e ≡ cl ++ cr → drop e.count e.ends ≡ replicate (4 - e.count) 0 → Picks (ls ++ rs) e
 picks_ordered ls rs cl cr e o p l r dl dr (t, m, n) few count codes unused = record {
   ends = o.ends ++ p.ends;
-  ascends = both_ascend o.ends p.ends (o.ascends dl) (p.ascends dr) (among_all (λ (d : EndAt). d.code < 32768) ls o.ends o.among l) (among_all (λ (d : EndAt). 32768 ≤ d.code) rs p.ends p.among r);
+  ascends = both_ascend o.ends p.ends (o.ascends dl) (p.ascends dr) (among_all (λ (d : EndAt). d.code < RIGHT_END) ls o.ends o.among l) (among_all (λ (d : EndAt). RIGHT_END ≤ d.code) rs p.ends p.among r);
   among = all_join (λ (d : EndAt). IsIn d (ls ++ rs)) o.ends p.ends
       (all_of (λ (d : EndAt). IsIn d (ls ++ rs)) o.ends (λ d i. in_front d ls rs (all_at (λ (d : EndAt). IsIn d ls) d o.ends o.among i)))
       (all_of (λ (d : EndAt). IsIn d (ls ++ rs)) p.ends (λ d i. in_back d ls rs (all_at (λ (d : EndAt). IsIn d rs) d p.ends p.among i)));
   few = omega (arith, whole);
   stuck = (
     t,
-    mean_more (left_ends (o.ends ++ p.ends)) (points ls) t (all_points (λ q. In q (left_ends (o.ends ++ p.ends))) ls (λ d i. left_in d (o.ends ++ p.ends) (all_at (λ (d : EndAt). d.code < 32768) d ls l i) (in_front d o.ends p.ends (all_at (λ (d : EndAt). IsIn d o.ends) d ls o.all i)))) m,
-    mean_more (right_ends (o.ends ++ p.ends)) (points rs) t (all_points (λ q. In q (right_ends (o.ends ++ p.ends))) rs (λ d i. right_in d (o.ends ++ p.ends) (all_at (λ (d : EndAt). 32768 ≤ d.code) d rs r i) (in_back d o.ends p.ends (all_at (λ (d : EndAt). IsIn d p.ends) d rs p.all i)))) n,
+    mean_more (left_ends (o.ends ++ p.ends)) (points ls) t (all_points (λ q. In q (left_ends (o.ends ++ p.ends))) ls (λ d i. left_in d (o.ends ++ p.ends) (all_at (λ (d : EndAt). d.code < RIGHT_END) d ls l i) (in_front d o.ends p.ends (all_at (λ (d : EndAt). IsIn d o.ends) d ls o.all i)))) m,
+    mean_more (right_ends (o.ends ++ p.ends)) (points rs) t (all_points (λ q. In q (right_ends (o.ends ++ p.ends))) rs (λ d i. right_in d (o.ends ++ p.ends) (all_at (λ (d : EndAt). RIGHT_END ≤ d.code) d rs r i) (in_back d o.ends p.ends (all_at (λ (d : EndAt). IsIn d p.ends) d rs p.all i)))) n,
   );
   names = record {
     count = omega (arith, count, whole);

@@ -3,6 +3,7 @@ use Rattle.std.proofs.Common.{◌≡◌, ℕ, suc, ◌<◌, ◌≤◌, List, [],
 use Rattle.std.specs.Prelude.{slice_get, MatchOption}
 use Rattle.std.proofs.lemmas.Int.{ints}
 use Rattle.std.proofs.lemmas.Option.{slice_get-get_or, slice_get_within}
+use Rattle.sight_names.specs.declared.limits.TheConstants.{RIGHT_END}
 use Rattle.sight_names.specs.declared.names.Pt.{Pt}
 use Rattle.sight_names.specs.declared.names.EndAt.{EndAt}
 use Rattle.sight_names.specs.declared.names.EndPair.{EndPair}
@@ -66,7 +67,7 @@ whole_parted ends k a b c h all cut = each_parted a b c ends (λ i e g. record {
   right = λ n. cut.right e.at (at (first_of k).left h.first_left i e g n) (at (second_of k).left h.second_left i e g n);
 })
   where
-    at : (l : EndAt) → IsLeftIn ends l → (i : ℕ) (e : EndAt) → slice_get ends i ≡ Some e → 32768 ≤ e.code → Spans k (difference l.at e.at)
+    at : (l : EndAt) → IsLeftIn ends l → (i : ℕ) (e : EndAt) → slice_get ends i ≡ Some e → RIGHT_END ≤ e.code → Spans k (difference l.at e.at)
     at l m i e g n = all m.place (slice_get_within ends m.place l m.is) l m.is m.code i e g n
 
 pub whole_corner : (ends : List EndAt) (k : Cone) → IsConeIn ends k → ((i : ℕ) → i < length ends → HasAllAt ends i k) → Spans k (difference (second_of k).left.at (first_of k).right.at)
@@ -76,13 +77,13 @@ whole_corner ends k h all = all h.second_left.place (slice_get_within ends h.sec
 flat : (v : ℤ) (x y : ℤ) → pos 0 *ℤ x +ℤ pos 0 *ℤ y +ℤ v *ℤ pos 1 ≡ v
 flat v x y = let a : pos 0 *ℤ x ≡ pos 0 = omega (arith, ints) in let b : pos 0 *ℤ y ≡ pos 0 = omega (arith, ints) in let c : v *ℤ pos 1 ≡ v = omega (arith, ints) in omega (arith, ints)
 
-pub no_left : (ends : List EndAt) → ((k : ℕ) → k < length ends → (e : EndAt) → slice_get ends k ≡ Some e → 32768 ≤ e.code) → PartsEnds ends (pos 0) (pos 0) (negsuc 0)
+pub no_left : (ends : List EndAt) → ((k : ℕ) → k < length ends → (e : EndAt) → slice_get ends k ≡ Some e → RIGHT_END ≤ e.code) → PartsEnds ends (pos 0) (pos 0) (negsuc 0)
 no_left ends h = each_parted (pos 0) (pos 0) (negsuc 0) ends (λ k e g. record {
   left = λ n. let m = h k (slice_get_within ends k e g) e g in absurd (omega (arith, n, m));
   right = λ n. let z = flat (negsuc 0) e.at.x e.at.y in omega (arith, ints);
 })
 
-pub no_right : (ends : List EndAt) → ((k : ℕ) → k < length ends → (e : EndAt) → slice_get ends k ≡ Some e → e.code < 32768) → PartsEnds ends (pos 0) (pos 0) (pos 1)
+pub no_right : (ends : List EndAt) → ((k : ℕ) → k < length ends → (e : EndAt) → slice_get ends k ≡ Some e → e.code < RIGHT_END) → PartsEnds ends (pos 0) (pos 0) (pos 1)
 no_right ends h = each_parted (pos 0) (pos 0) (pos 1) ends (λ k e g. record {
   left = λ n. let z = flat (pos 1) e.at.x e.at.y in omega (arith, ints);
   right = λ n. let m = h k (slice_get_within ends k e g) e g in absurd (omega (arith, n, m));

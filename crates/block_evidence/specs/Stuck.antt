@@ -2,6 +2,7 @@
 use Rattle.std.specs.Prelude.{◌≡◌, ℕ, ◌-◌, ◌<◌, ◌≤◌, ◌⊎◌, List, ◌∷◌, Some, None, length, sum, take, drop, map, filter_map, replicate, if◌then◌else◌, nat_lt, ℤ, pos, ◌+ℤ◌, ◌*ℤ◌, IsSome, All, Contains}
 use Rattle.std.specs.List.{AllByRecursion}
 use Rattle.std.specs.List.Sorted.{IsStrictlyIncreasing}
+use Rattle.sight_names.specs.declared.limits.TheConstants.{RIGHT_END}
 use Rattle.sight_names.specs.declared.names.Pt.{Pt}
 use Rattle.sight_names.specs.declared.names.EndAt.{EndAt}
 use Rattle.sight_names.specs.declared.names.EndPair.{EndPair}
@@ -33,10 +34,10 @@ HullsMeet lefts rights = (r : Point) × IsMeanOf lefts r × IsMeanOf rights r
 
 -- the left ones and the right ones of a list of ends: the code of a right one is 32,768 or more
 abbrev pub left_ends : List EndAt → List Pt
-left_ends ends = filter_map (λ (e : EndAt). if nat_lt e.code 32768 then Some e.at else None) ends
+left_ends ends = filter_map (λ (e : EndAt). if nat_lt e.code RIGHT_END then Some e.at else None) ends
 
 abbrev pub right_ends : List EndAt → List Pt
-right_ends ends = filter_map (λ (e : EndAt). if nat_lt e.code 32768 then None else Some e.at) ends
+right_ends ends = filter_map (λ (e : EndAt). if nat_lt e.code RIGHT_END then None else Some e.at) ends
 
 abbrev pub AreStuck : List EndAt → Type 0
 AreStuck ends = HullsMeet (left_ends ends) (right_ends ends)
@@ -59,8 +60,8 @@ BlocksSequence m ps e = Blocks (end_points m ps) e
 
 -- the left ends' codes are below 32,768, the right ends' aren't, and ends of equal code are equal
 pub record AreCoded (pairs : List EndPair) : Type 0 where
-  pub lefts : All (λ (p : EndPair). p.left.code < 32768) pairs
-  pub rights : All (λ (p : EndPair). 32768 ≤ p.right.code) pairs
+  pub lefts : All (λ (p : EndPair). p.left.code < RIGHT_END) pairs
+  pub rights : All (λ (p : EndPair). RIGHT_END ≤ p.right.code) pairs
   pub same_lefts : (p q : EndPair) → Contains pairs p → Contains pairs q → p.left.code ≡ q.left.code → p.left ≡ q.left
   pub same_rights : (p q : EndPair) → Contains pairs p → Contains pairs q → p.right.code ≡ q.right.code → p.right ≡ q.right
 

@@ -9,10 +9,11 @@ ghost use Rattle.block_evidence.specs.Picked.{Orders, Picks, both_ends};
 
 use crate::Evidence;
 use crate::sign_tests::{do_cross, is_covered};
-use sight_names::{EndAt, EndPair};
+use geom_exact::turn;
+use sight_names::{EndAt, EndPair, RIGHT_END};
 
 /// The codes of two ends, the lesser one first.
-fn in_order(a: EndAt, b: EndAt) -> (u16, u16)
+pub fn in_order(a: EndAt, b: EndAt) -> (u16, u16)
     ensures { Orders (a ∷ b ∷ []) (result.0 ∷ result.1 ∷ []) }
 {
     if a.code < b.code {
@@ -47,10 +48,10 @@ fn all_in_order(a: EndAt, b: EndAt, c: EndAt) -> (u16, u16, u16)
 /// Evidence of two left and two right ends, where the segments between them are seen to share a point.
 #[inline(always)]
 fn two_and_two(p: EndAt, q: EndAt, r: EndAt, s: EndAt) -> Option<Evidence>
-    requires p_left { p.code < 32768 }
-    requires q_left { q.code < 32768 }
-    requires r_right { 32768 ≤ r.code }
-    requires s_right { 32768 ≤ s.code }
+    requires p_left { p.code < RIGHT_END }
+    requires q_left { q.code < RIGHT_END }
+    requires r_right { RIGHT_END ≤ r.code }
+    requires s_right { RIGHT_END ≤ s.code }
     ensures { IfSome result (λ e. Picks (p ∷ q ∷ r ∷ s ∷ []) e) }
 {
     if p.code == q.code || r.code == s.code {
@@ -70,10 +71,10 @@ fn two_and_two(p: EndAt, q: EndAt, r: EndAt, s: EndAt) -> Option<Evidence>
 /// Evidence of one left and three right ends, whose triangle is seen to have the left one.
 #[inline(always)]
 fn one_and_three(p: EndAt, q: EndAt, r: EndAt, s: EndAt) -> Option<Evidence>
-    requires p_left { p.code < 32768 }
-    requires q_right { 32768 ≤ q.code }
-    requires r_right { 32768 ≤ r.code }
-    requires s_right { 32768 ≤ s.code }
+    requires p_left { p.code < RIGHT_END }
+    requires q_right { RIGHT_END ≤ q.code }
+    requires r_right { RIGHT_END ≤ r.code }
+    requires s_right { RIGHT_END ≤ s.code }
     ensures { IfSome result (λ e. Picks (p ∷ q ∷ r ∷ s ∷ []) e) }
 {
     if q.code == r.code || q.code == s.code || r.code == s.code {
@@ -92,10 +93,10 @@ fn one_and_three(p: EndAt, q: EndAt, r: EndAt, s: EndAt) -> Option<Evidence>
 /// Evidence of three left ends, whose triangle is seen to have the right one, and that one.
 #[inline(always)]
 fn three_and_one(p: EndAt, q: EndAt, r: EndAt, s: EndAt) -> Option<Evidence>
-    requires p_left { p.code < 32768 }
-    requires q_left { q.code < 32768 }
-    requires r_left { r.code < 32768 }
-    requires s_right { 32768 ≤ s.code }
+    requires p_left { p.code < RIGHT_END }
+    requires q_left { q.code < RIGHT_END }
+    requires r_left { r.code < RIGHT_END }
+    requires s_right { RIGHT_END ≤ s.code }
     ensures { IfSome result (λ e. Picks (p ∷ q ∷ r ∷ s ∷ []) e) }
 {
     if p.code == q.code || p.code == r.code || q.code == r.code {
@@ -111,13 +112,13 @@ fn three_and_one(p: EndAt, q: EndAt, r: EndAt, s: EndAt) -> Option<Evidence>
     })
 }
 
-/// Evidence of four of the ends of two pairs and one more right end.
-fn with_right(first: EndPair, second: EndPair, new: EndAt) -> Option<Evidence>
-    requires first_left { first.left.code < 32768 }
-    requires first_right { 32768 ≤ first.right.code }
-    requires second_left { second.left.code < 32768 }
-    requires second_right { 32768 ≤ second.right.code }
-    requires new_right { 32768 ≤ new.code }
+/// Evidence of four of the ends of two pairs and one more right end, whichever four show it.
+fn any_with_right(first: EndPair, second: EndPair, new: EndAt) -> Option<Evidence>
+    requires first_left { first.left.code < RIGHT_END }
+    requires first_right { RIGHT_END ≤ first.right.code }
+    requires second_left { second.left.code < RIGHT_END }
+    requires second_right { RIGHT_END ≤ second.right.code }
+    requires new_right { RIGHT_END ≤ new.code }
     ensures { IfSome result (λ e. Picks (first.left ∷ first.right ∷ second.left ∷ second.right ∷ new ∷ []) e) }
 {
     if let Some(found) = two_and_two(first.left, second.left, second.right, new) {
@@ -132,13 +133,45 @@ fn with_right(first: EndPair, second: EndPair, new: EndAt) -> Option<Evidence>
     one_and_three(second.left, first.right, second.right, new)
 }
 
-/// Evidence of four of the ends of two pairs and one more left end.
-fn with_left(first: EndPair, second: EndPair, new: EndAt) -> Option<Evidence>
-    requires first_left { first.left.code < 32768 }
-    requires first_right { 32768 ≤ first.right.code }
-    requires second_left { second.left.code < 32768 }
-    requires second_right { 32768 ≤ second.right.code }
-    requires new_left { new.code < 32768 }
+/// The same of the two sets of which one turn chooses one. Where the pairs are those of two extreme lines, and the new end
+/// can't be split from an end of one, the chosen four are stuck.
+#[inline(always)]
+fn by_turn_right(first: EndPair, second: EndPair, new: EndAt) -> Option<Evidence>
+    requires first_left { first.left.code < RIGHT_END }
+    requires first_right { RIGHT_END ≤ first.right.code }
+    requires second_left { second.left.code < RIGHT_END }
+    requires second_right { RIGHT_END ≤ second.right.code }
+    requires new_right { RIGHT_END ≤ new.code }
+    ensures { IfSome result (λ e. Picks (first.left ∷ first.right ∷ second.left ∷ second.right ∷ new ∷ []) e) }
+{
+    if turn(second.right.at, new.at, first.left.at) <= 0 {
+        return two_and_two(first.left, second.left, second.right, new);
+    }
+    one_and_three(first.left, first.right, second.right, new)
+}
+
+/// The same, those that one turn tells first.
+fn with_right(first: EndPair, second: EndPair, new: EndAt) -> Option<Evidence>
+    requires first_left { first.left.code < RIGHT_END }
+    requires first_right { RIGHT_END ≤ first.right.code }
+    requires second_left { second.left.code < RIGHT_END }
+    requires second_right { RIGHT_END ≤ second.right.code }
+    requires new_right { RIGHT_END ≤ new.code }
+    ensures { IfSome result (λ e. Picks (first.left ∷ first.right ∷ second.left ∷ second.right ∷ new ∷ []) e) }
+{
+    if let Some(found) = by_turn_right(first, second, new) {
+        return Some(found);
+    }
+    any_with_right(first, second, new)
+}
+
+/// Evidence of four of the ends of two pairs and one more left end, whichever four show it.
+fn any_with_left(first: EndPair, second: EndPair, new: EndAt) -> Option<Evidence>
+    requires first_left { first.left.code < RIGHT_END }
+    requires first_right { RIGHT_END ≤ first.right.code }
+    requires second_left { second.left.code < RIGHT_END }
+    requires second_right { RIGHT_END ≤ second.right.code }
+    requires new_left { new.code < RIGHT_END }
     ensures { IfSome result (λ e. Picks (first.left ∷ first.right ∷ second.left ∷ second.right ∷ new ∷ []) e) }
 {
     if let Some(found) = two_and_two(first.left, new, first.right, second.right) {
@@ -151,6 +184,38 @@ fn with_left(first: EndPair, second: EndPair, new: EndAt) -> Option<Evidence>
         return Some(found);
     }
     three_and_one(first.left, second.left, new, second.right)
+}
+
+/// The same of the two sets of which one turn chooses one. Where the pairs are those of two extreme lines, and the new end
+/// can't be split from an end of one, the chosen four are stuck.
+#[inline(always)]
+fn by_turn_left(first: EndPair, second: EndPair, new: EndAt) -> Option<Evidence>
+    requires first_left { first.left.code < RIGHT_END }
+    requires first_right { RIGHT_END ≤ first.right.code }
+    requires second_left { second.left.code < RIGHT_END }
+    requires second_right { RIGHT_END ≤ second.right.code }
+    requires new_left { new.code < RIGHT_END }
+    ensures { IfSome result (λ e. Picks (first.left ∷ first.right ∷ second.left ∷ second.right ∷ new ∷ []) e) }
+{
+    if turn(second.right.at, new.at, first.left.at) <= 0 {
+        return two_and_two(first.left, new, first.right, second.right);
+    }
+    three_and_one(first.left, second.left, new, second.right)
+}
+
+/// The same, those that one turn tells first.
+fn with_left(first: EndPair, second: EndPair, new: EndAt) -> Option<Evidence>
+    requires first_left { first.left.code < RIGHT_END }
+    requires first_right { RIGHT_END ≤ first.right.code }
+    requires second_left { second.left.code < RIGHT_END }
+    requires second_right { RIGHT_END ≤ second.right.code }
+    requires new_left { new.code < RIGHT_END }
+    ensures { IfSome result (λ e. Picks (first.left ∷ first.right ∷ second.left ∷ second.right ∷ new ∷ []) e) }
+{
+    if let Some(found) = by_turn_left(first, second, new) {
+        return Some(found);
+    }
+    any_with_left(first, second, new)
 }
 
 /// Four of the ends of three pairs, where the third has an end of the first or of the second and the signs of turns show

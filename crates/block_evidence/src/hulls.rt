@@ -8,19 +8,18 @@ ghost use Rattle.block_evidence.specs.Parted.{PartsEnds};
 ghost use Rattle.block_evidence.specs.Pairs.{IsLeftIn, IsRightIn, IsConeIn, Keeps, HasAt, HasAllAt};
 
 use extreme_lines::{Cone, Cut, Extreme};
-use sight_names::EndAt;
+use sight_names::{EndAt, RIGHT_END};
 
 /// The least code of a right end.
-pub const RIGHT: u16 = 32768;
 
 /// The first left end.
 fn first_left(ends: &[EndAt]) -> Option<EndAt>
     ensures some { IfSome result (λ e. IsLeftIn ends.now e) }
-    ensures none { IfNone result ((k : ℕ) → k < length ends.now → (e : EndAt) → slice_get ends.now k ≡ Given e → 32768 ≤ e.code) }
+    ensures none { IfNone result ((k : ℕ) → k < length ends.now → (e : EndAt) → slice_get ends.now k ≡ Given e → RIGHT_END ≤ e.code) }
 {
     for k in 0..ends.len() {
         let end = ends[k];
-        if end.code < RIGHT {
+        if end.code < RIGHT_END {
             return Some(end);
         }
     }
@@ -30,11 +29,11 @@ fn first_left(ends: &[EndAt]) -> Option<EndAt>
 /// The first right end.
 fn first_right(ends: &[EndAt]) -> Option<EndAt>
     ensures some { IfSome result (λ e. IsRightIn ends.now e) }
-    ensures none { IfNone result ((k : ℕ) → k < length ends.now → (e : EndAt) → slice_get ends.now k ≡ Given e → e.code < 32768) }
+    ensures none { IfNone result ((k : ℕ) → k < length ends.now → (e : EndAt) → slice_get ends.now k ≡ Given e → e.code < RIGHT_END) }
 {
     for k in 0..ends.len() {
         let end = ends[k];
-        if end.code >= RIGHT {
+        if end.code >= RIGHT_END {
             return Some(end);
         }
     }
@@ -49,7 +48,7 @@ fn with_end(cone: &Cone, ends: &[EndAt], left: EndAt, j: usize) -> Option<Cone>
     ensures { MatchOption result (AreStuck ends.now) (λ c. IsConeIn ends.now c × Keeps cone.now c × HasAt ends.now left j c) }
 {
     let right = ends[j];
-    if right.code < RIGHT {
+    if right.code < RIGHT_END {
         return Some(*cone);
     }
     if cone.covers(left.at, right.at) {
@@ -78,7 +77,7 @@ fn with_place(cone: &Cone, ends: &[EndAt], i: usize) -> Option<Cone>
     ensures { MatchOption result (AreStuck ends.now) (λ c. IsConeIn ends.now c × Keeps cone.now c × HasAllAt ends.now i c) }
 {
     let left = ends[i];
-    if left.code >= RIGHT {
+    if left.code >= RIGHT_END {
         return Some(*cone);
     }
     with_left(cone, ends, left)

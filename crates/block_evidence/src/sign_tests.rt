@@ -5,9 +5,8 @@ ghost use Rattle.std.specs.Prelude.{◌∷◌, [], IsTrue};
 ghost use Rattle.block_evidence.specs.Stuck.{AreStuck, HullsMeet};
 ghost use Rattle.block_evidence.specs.SignTests.{AreWeights, AreOpposite, IsBetween};
 
-use crate::hulls::RIGHT;
 use geom_exact::turn;
-use sight_names::{EndAt, Pt};
+use sight_names::{EndAt, Pt, RIGHT_END};
 
 /// Whether 0 is between the two numbers.
 fn is_between(low: i64, high: i64) -> bool
@@ -65,10 +64,10 @@ pub fn is_covered(p: Pt, a: Pt, b: Pt, c: Pt) -> bool
 pub fn are_stuck(a: EndAt, b: EndAt, c: EndAt, d: EndAt) -> bool
     ensures { IsTrue result → AreStuck (a ∷ b ∷ c ∷ d ∷ []) }
 {
-    if a.code >= RIGHT || d.code < RIGHT {
+    if a.code >= RIGHT_END || d.code < RIGHT_END {
         return false;
     }
-    match (b.code < RIGHT, c.code < RIGHT) {
+    match (b.code < RIGHT_END, c.code < RIGHT_END) {
         (true, true) => is_covered(d.at, a.at, b.at, c.at),
         (true, false) => do_cross(a.at, b.at, c.at, d.at),
         (false, true) => false,

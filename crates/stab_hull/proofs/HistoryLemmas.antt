@@ -6,6 +6,7 @@ use Rattle.std.specs.Prelude.{slice_get, MatchOption, IfOk}
 use Rattle.std.specs.List.{AllByRecursion}
 use Rattle.std.proofs.lemmas.Option.{slice_get-get_or, slice_get_within}
 use Rattle.std.proofs.lemmas.List.{length-map, map-append, take-map}
+use Rattle.sight_names.specs.declared.limits.TheConstants.{RIGHT_END}
 use Rattle.sight_names.specs.declared.names.Pt.{Pt}
 use Rattle.sight_names.specs.declared.names.EndAt.{EndAt}
 use Rattle.sight_names.specs.declared.names.EndPair.{EndPair}
@@ -282,7 +283,7 @@ pub no_last : (fs : List Frame) → slice_get fs (length fs - 1) ≡ None → le
 no_last [] h = refl
 no_last (f ∷ fs) h = absurd (some_is_not_none _ (sym (slice_get-get_or (f ∷ fs) (length (f ∷ fs) - 1) f (omega arith)) ∙ h))
 
-pub more_stacked : (fs : List Frame) (left right : EndAt) (ls rs ls' rs' : List EndAt) (cs cs' : List Cone) (r : Result (Option (List EndPair)) Memory) → left.code ≡ length fs → length fs < 32768 → right.code ≡ length fs + 32768
+pub more_stacked : (fs : List Frame) (left right : EndAt) (ls rs ls' rs' : List EndAt) (cs cs' : List Cone) (r : Result (Option (List EndPair)) Memory) → left.code ≡ length fs → length fs < RIGHT_END → right.code ≡ length fs + RIGHT_END
     → IsHullOf (portals_of fs) ls rs cs
     → IfOk r (λ stuck. MatchOption stuck (IsTopCone ls' rs' cs' × IsAdded ls left ls' × IsAdded rs right rs') (λ pairs. AreStuckAmong (ls ++ left ∷ []) (rs ++ right ∷ []) pairs))
     → IfOk r (λ stuck. MatchOption stuck (IsHullOf (with_ends (portals_of fs) left right) ls' rs' cs') (λ pairs. ShowsNoLine (with_ends (portals_of fs) left right) pairs))
@@ -290,7 +291,7 @@ more_stacked fs left right ls rs ls' rs' cs cs' (Ok None) lc few rc h k = let m 
 more_stacked fs left right ls rs ls' rs' cs cs' (Ok (Some pairs)) lc few rc h k = let m = as_many fs in hull_stuck (portals_of fs) left right ls rs pairs (omega (arith, lc, m)) (omega (arith, few, m)) (omega (arith, rc, m)) h.left_ends h.right_ends k
 more_stacked fs left right ls rs ls' rs' cs cs' (Err e) lc few rc h k = tt
 
-pub first_stacked : (fs : List Frame) (left right : EndAt) (ls rs : List EndAt) (cs : List Cone) → length fs ≡ 0 → left.code ≡ length fs → right.code ≡ length fs + 32768 → ls ≡ left ∷ [] → rs ≡ right ∷ [] → IsTopCone (left ∷ []) (right ∷ []) cs → IsHullOf (with_ends (portals_of fs) left right) ls rs cs
+pub first_stacked : (fs : List Frame) (left right : EndAt) (ls rs : List EndAt) (cs : List Cone) → length fs ≡ 0 → left.code ≡ length fs → right.code ≡ length fs + RIGHT_END → ls ≡ left ∷ [] → rs ≡ right ∷ [] → IsTopCone (left ∷ []) (right ∷ []) cs → IsHullOf (with_ends (portals_of fs) left right) ls rs cs
 first_stacked [] left right ls rs cs z lc rc el er t = hull_same (with_ends [] left right) (left ∷ []) (right ∷ []) ls rs cs cs el er refl (hull_first left right cs lc (omega (arith, rc)) t)
 first_stacked (f ∷ fs) left right ls rs cs z lc rc el er t = absurd (omega (arith, z))
 

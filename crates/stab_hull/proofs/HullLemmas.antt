@@ -2,6 +2,7 @@
 use Rattle.std.proofs.Common.{◌≡◌, ℕ, ◌+◌, ◌-◌, ◌<◌, List, [], ◌∷◌, ◌++◌, length, Some, refl, sym, ap, ◌∙◌, arith, ◌⊎◌, inl, inr, subst}
 use Rattle.std.specs.Prelude.{slice_get}
 use Rattle.std.proofs.lemmas.Option.{slice_get_within}
+use Rattle.sight_names.specs.declared.limits.TheConstants.{RIGHT_END}
 use Rattle.sight_names.specs.declared.names.Pt.{Pt}
 use Rattle.sight_names.specs.declared.names.EndAt.{EndAt}
 use Rattle.sight_names.specs.declared.names.EndPair.{EndPair}
@@ -36,14 +37,14 @@ added_new xs ys e (inl a) = subst (λ (zs : List EndAt). HasPoint zs e.at) (sym 
 added_new xs ys e (inr a) = subst (λ (zs : List EndAt). HasPoint zs e.at) (sym a.0) a.1
 
 module _ (es : List EndPoints) (left right : EndAt) where
-  new_left : left.code ≡ length es → length es < 32768 → IsLeftEnd (with_ends es left right) left
+  new_left : left.code ≡ length es → length es < RIGHT_END → IsLeftEnd (with_ends es left right) left
   new_left lc few = record {
     code = omega (arith, lc, few);
     end = ap (λ (k : ℕ). end_of (with_ends es left right) k) lc ∙ left_end (with_ends es left right) (length es) (record { left = left.at; right = right.at }) few (get_pushed es (record { left = left.at; right = right.at })) ∙ ap (λ (k : ℕ). Some (let v : EndAt = record { code = k; at = left.at } in v)) (sym lc);
   }
 
-  new_right : right.code ≡ length es + 32768 → IsRightEnd (with_ends es left right) right
-  new_right rc = let rc' : right.code ≡ 32768 + length es = omega (arith, rc) in record {
+  new_right : right.code ≡ length es + RIGHT_END → IsRightEnd (with_ends es left right) right
+  new_right rc = let rc' : right.code ≡ RIGHT_END + length es = omega (arith, rc) in record {
     code = omega (arith, rc);
     end = ap (λ (k : ℕ). end_of (with_ends es left right) k) rc' ∙ right_end (with_ends es left right) (length es) (record { left = left.at; right = right.at }) (get_pushed es (record { left = left.at; right = right.at })) ∙ ap (λ (k : ℕ). Some (let v : EndAt = record { code = k; at = right.at } in v)) (sym rc');
   }
@@ -54,25 +55,25 @@ module _ (es : List EndPoints) (left right : EndAt) where
   right_longer : (e : EndAt) → IsRightEnd es e → IsRightEnd (with_ends es left right) e
   right_longer e h = record { code = h.code; end = end_of_more es _ e.code e h.end }
 
-  lefts_next : (xs : List EndAt) → left.code ≡ length es → length es < 32768 → AreLeftEnds es xs → AreLeftEnds (with_ends es left right) (xs ++ left ∷ [])
+  lefts_next : (xs : List EndAt) → left.code ≡ length es → length es < RIGHT_END → AreLeftEnds es xs → AreLeftEnds (with_ends es left right) (xs ++ left ∷ [])
   lefts_next xs lc few h m e k = case (get_cases xs left m e k)
     where
       case : (slice_get xs m ≡ Some e) ⊎ (left ≡ e) → IsLeftEnd (with_ends es left right) e
       case (inl g) = left_longer e (h m e g)
       case (inr g) = subst (IsLeftEnd (with_ends es left right)) g (new_left lc few)
 
-  rights_next : (xs : List EndAt) → right.code ≡ length es + 32768 → AreRightEnds es xs → AreRightEnds (with_ends es left right) (xs ++ right ∷ [])
+  rights_next : (xs : List EndAt) → right.code ≡ length es + RIGHT_END → AreRightEnds es xs → AreRightEnds (with_ends es left right) (xs ++ right ∷ [])
   rights_next xs rc h m e k = case (get_cases xs right m e k)
     where
       case : (slice_get xs m ≡ Some e) ⊎ (right ≡ e) → IsRightEnd (with_ends es left right) e
       case (inl g) = right_longer e (h m e g)
       case (inr g) = subst (IsRightEnd (with_ends es left right)) g (new_right rc)
 
-  lefts_added : (xs ys : List EndAt) → left.code ≡ length es → length es < 32768 → AreLeftEnds es xs → IsAdded xs left ys → AreLeftEnds (with_ends es left right) ys
+  lefts_added : (xs ys : List EndAt) → left.code ≡ length es → length es < RIGHT_END → AreLeftEnds es xs → IsAdded xs left ys → AreLeftEnds (with_ends es left right) ys
   lefts_added xs ys lc few h (inl a) = subst (AreLeftEnds (with_ends es left right)) (sym a) (lefts_next xs lc few h)
   lefts_added xs ys lc few h (inr a) = subst (AreLeftEnds (with_ends es left right)) (sym a.0) (λ m e k. left_longer e (h m e k))
 
-  rights_added : (xs ys : List EndAt) → right.code ≡ length es + 32768 → AreRightEnds es xs → IsAdded xs right ys → AreRightEnds (with_ends es left right) ys
+  rights_added : (xs ys : List EndAt) → right.code ≡ length es + RIGHT_END → AreRightEnds es xs → IsAdded xs right ys → AreRightEnds (with_ends es left right) ys
   rights_added xs ys rc h (inl a) = subst (AreRightEnds (with_ends es left right)) (sym a) (rights_next xs rc h)
   rights_added xs ys rc h (inr a) = subst (AreRightEnds (with_ends es left right)) (sym a.0) (λ m e k. right_longer e (h m e k))
 
@@ -85,7 +86,7 @@ module _ (es : List EndPoints) (left right : EndAt) where
       case (inr g) = subst (λ (q : EndPoints). HasPoint ys (side q)) g (subst (HasPoint ys) (sym s) (added_new xs ys e a))
 
   -- one more portal
-  pub hull_more : (ls rs ls' rs' : List EndAt) (cs cs' : List Cone) → left.code ≡ length es → length es < 32768 → right.code ≡ length es + 32768
+  pub hull_more : (ls rs ls' rs' : List EndAt) (cs cs' : List Cone) → left.code ≡ length es → length es < RIGHT_END → right.code ≡ length es + RIGHT_END
       → IsHullOf es ls rs cs → IsTopCone ls' rs' cs' → IsAdded ls left ls' → IsAdded rs right rs' → IsHullOf (with_ends es left right) ls' rs' cs'
   hull_more ls rs ls' rs' cs cs' lc few rc h t al ar = record {
     left_ends = lefts_added ls ls' lc few h.left_ends al;
@@ -96,7 +97,7 @@ module _ (es : List EndPoints) (left right : EndAt) where
   }
 
   -- pairs of ends of the portals and of one more
-  pub hull_stuck : (ls rs : List EndAt) (pairs : List EndPair) → left.code ≡ length es → length es < 32768 → right.code ≡ length es + 32768
+  pub hull_stuck : (ls rs : List EndAt) (pairs : List EndPair) → left.code ≡ length es → length es < RIGHT_END → right.code ≡ length es + RIGHT_END
       → AreLeftEnds es ls → AreRightEnds es rs → AreStuckAmong (ls ++ left ∷ []) (rs ++ right ∷ []) pairs → ShowsNoLine (with_ends es left right) pairs
   hull_stuck ls rs pairs lc few rc hl hr s = record {
     ends = λ k d l. pair (_) (s.ends k d l);
@@ -110,7 +111,7 @@ module _ (es : List EndPoints) (left right : EndAt) where
           record { left_code = a.code; right_code = b.code; left = a.end; right = b.end }
 
 -- the first portal
-pub hull_first : (left right : EndAt) (cs : List Cone) → left.code ≡ 0 → right.code ≡ 32768 → IsTopCone (left ∷ []) (right ∷ []) cs → IsHullOf (with_ends [] left right) (left ∷ []) (right ∷ []) cs
+pub hull_first : (left right : EndAt) (cs : List Cone) → left.code ≡ 0 → right.code ≡ RIGHT_END → IsTopCone (left ∷ []) (right ∷ []) cs → IsHullOf (with_ends [] left right) (left ∷ []) (right ∷ []) cs
 hull_first left right cs lc rc t = record {
   left_ends = lefts_added [] left right [] (left ∷ []) lc (omega arith) (λ m e k. absurd (none m e k)) (inl refl);
   right_ends = rights_added [] left right [] (right ∷ []) (omega (arith, rc)) (λ m e k. absurd (none m e k)) (inl refl);

@@ -2,6 +2,9 @@
 use Rattle.std.specs.Prelude.{◌≡◌, ◌≤◌, ◌^◌, List, [], ◌∷◌, ◌++◌, All, ℤ, Result, Ok, Err, nat_abs}
 use Rattle.sight_names.specs.declared.names.Memory.{Memory}
 use Rattle.sight_names.specs.Splitting.{EndPoints, SplitsEnds, IsSplittable, IsPairOf, AreBalanced}
+use Rattle.sight_names.specs.declared.names.EndPair.{EndPair}
+use Rattle.block_evidence.specs.declared.Evidence.{Evidence}
+use Rattle.block_evidence.specs.Stuck.{Blocks, IsEvidenceOf}
 use Rattle.stab_hull.specs.declared.Split.{Split}
 use Rattle.stab_hull.specs.declared.Split.TheVariants.{Line, Stuck}
 
@@ -21,3 +24,10 @@ abbrev pub IsEntered : List EndPoints → EndPoints → List EndPoints → Resul
 IsEntered old e new (Ok (Line a b c)) = new ≡ old ++ e ∷ []
 IsEntered old e new (Ok (Stuck pairs)) = new ≡ old
 IsEntered old e new (Err r) = new ≡ old
+
+-- no line splits the ends, as two to four of them show
+pub record IsBarredBy (es : List EndPoints) (e : Evidence) : Type 0 where
+  pub no_line : ¬ IsSplittable es
+  pub blocks : Blocks es e
+  pub pairs : List EndPair
+  pub evidence : IsEvidenceOf pairs e

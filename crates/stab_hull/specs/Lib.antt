@@ -2,3 +2,4 @@ pub mod Answer
 pub mod Portals
 pub mod Stacks
 pub mod History
+pub mod Barred

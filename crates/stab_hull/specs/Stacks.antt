@@ -1,5 +1,6 @@
 -- What a cone says of lists of left and of right ends.
 use Rattle.std.specs.Prelude.{◌≡◌, ◌⊎◌, ℕ, ◌-◌, ◌<◌, ◌≤◌, List, [], ◌∷◌, ◌++◌, Some, All, length, take, slice_get}
+use Rattle.sight_names.specs.declared.limits.TheConstants.{RIGHT_END}
 use Rattle.sight_names.specs.declared.names.Pt.{Pt}
 use Rattle.sight_names.specs.declared.names.EndAt.{EndAt}
 use Rattle.sight_names.specs.declared.names.EndPair.{EndPair}
@@ -60,12 +61,12 @@ KeepsFirst n old new = (take n new ≡ take n old) × (n ≤ length new)
 
 -- a left end of these portals, with its code
 pub record IsLeftEnd (es : List EndPoints) (e : EndAt) : Type 0 where
-  pub code : e.code < 32768
+  pub code : e.code < RIGHT_END
   pub end : end_of es e.code ≡ Some e
 
 -- a right end of these portals, with its code
 pub record IsRightEnd (es : List EndPoints) (e : EndAt) : Type 0 where
-  pub code : 32768 ≤ e.code
+  pub code : RIGHT_END ≤ e.code
   pub end : end_of es e.code ≡ Some e
 
 -- the ends of these portals, each point at least once, and their cone

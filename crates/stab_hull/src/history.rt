@@ -13,7 +13,7 @@ use crate::conflict::Conflict;
 use crate::frame::Frame;
 use crate::hull::Hull;
 use extreme_lines::Cone;
-use sight_names::{EndAt, EndPair, Memory, Pt};
+use sight_names::{EndAt, EndPair, Memory, Pt, RIGHT_END};
 
 /// Stacks the ends of one more portal, or gives the pairs that show that no line splits all ends.
 pub fn add_portal(
@@ -22,7 +22,7 @@ pub fn add_portal(
     left: Pt,
     right: Pt,
 ) -> Result<Option<[EndPair; 3]>, Memory>
-    requires few { length old.now < 32768 }
+    requires few { length old.now < RIGHT_END }
     requires proper { left ≢ right }
     requires history { IsHistory old.now hull.old.lefts.items hull.old.rights.items hull.old.cones.items None }
     ensures history { IsHistory old.now hull.new.lefts.items hull.new.rights.items hull.new.cones.items None }
@@ -34,7 +34,7 @@ pub fn add_portal(
         at: left,
     };
     let right_end = EndAt {
-        code: place + 32768,
+        code: place + RIGHT_END,
         at: right,
     };
     match old.last() {

@@ -1,20 +1,23 @@
 //! Lines that split the left ends of portals strictly from the right ones.
 #![tactic(auto)]
 
-ghost use Rattle.std.specs.Prelude.{◌≡◌, ◌≢◌, ◌++◌, ◌∷◌, [], ◌<◌, length, IfOk, OnErr, take, ◌-◌, OnOk};
-ghost use Rattle.stab_hull.specs.Answer.{IsSplitOf, IsEntered};
+ghost use Rattle.std.specs.Prelude.{◌≡◌, ◌≢◌, ◌++◌, ◌∷◌, [], ◌<◌, length, IfOk, OnErr, take, ◌-◌, OnOk, IfSome};
+ghost use Rattle.stab_hull.specs.Answer.{IsSplitOf, IsEntered, IsBarredBy};
 
+mod bars;
 mod conflict;
 mod frame;
 mod history;
 mod hull;
 mod step;
 
+use crate::bars::barred;
 use crate::conflict::Conflict;
 use crate::frame::Frame;
 use crate::history::{add_portal, forget_beyond, frame_over, line_of};
 use crate::hull::Hull;
-use sight_names::{EndPair, Memory, Pt};
+use block_evidence::Evidence;
+use sight_names::{EndPair, Memory, Pt, RIGHT_END};
 use std::alloc::Global;
 use std::marker::Model;
 
@@ -76,7 +79,7 @@ impl Ends {
     /// Adds a portal at the end of the list, with the room that its `pop` needs.
     pub fn push(&mut self, left: Pt, right: Pt) -> Result<(), Memory>
         requires proper { left ≢ right }
-        requires room { length self.old < 32768 }
+        requires room { length self.old < RIGHT_END }
         ensures ok { OnOk result (self.new ≡ self.old ++ record { left = left; right = right } ∷ []) }
         ensures err { OnErr result (self.new ≡ self.old) }
     {
@@ -96,7 +99,7 @@ impl Ends {
     /// does, the list stays as it was, and three pairs show it.
     pub fn enter(&mut self, left: Pt, right: Pt) -> Result<Split, Memory>
         requires proper { left ≢ right }
-        requires room { length self.old < 32768 }
+        requires room { length self.old < RIGHT_END }
         ensures split { IfOk result (λ split. IsSplitOf (self.old ++ record { left = left; right = right } ∷ []) split) }
         ensures list { IsEntered self.old (record { left = left; right = right }) self.new result }
     {
@@ -109,6 +112,18 @@ impl Ends {
                 self.frames.push(frame_over(&self.hull, left, right))?;
                 Ok(line_of(&self.hull.cones[self.hull.cones.len() - 1]))
             }
+        }
+    }
+
+    /// Two to four stuck ends, where no line splits the ends and those of one more portal, and this is seen at once: the portal has
+    /// an end of the last one, and its other end lies beyond an extreme line. `None` says nothing.
+    pub fn bars(&self, left: Pt, right: Pt) -> Option<Evidence>
+        requires { length self.now < RIGHT_END }
+        ensures { IfSome result (λ e. IsBarredBy (self.now ++ record { left = left; right = right } ∷ []) e) }
+    {
+        match &self.conflict {
+            Some(_) => None,
+            None => barred(&self.hull, self.frames.as_slice(), left, right),
         }
     }
 

@@ -159,41 +159,44 @@ fn right_against_all(cone: &Cone, lefts: &[EndAt], right: EndAt) -> Step
     right_against_each(cone, lefts, right)
 }
 
-/// What a new left end does. Most left ends are outside of both extreme lines, or can't be split from an extreme right
-/// end; only the others are looked at against all right ends.
+/// What a new left end does. In a walk it lies right of the second line, where that line stays and the first one may move;
+/// or no line splits it from the right end of the second line. Only other left ends are looked at against all right ends.
 pub fn left_step(cone: &Cone, rights: &[EndAt], left: EndAt) -> Step
     requires { (lefts : List End) × IsConeOfEnds lefts rights.now cone.now }
     ensures { (lefts : List End) → IsConeOfEnds lefts rights.now cone.now → IsStepTo (lefts ++ left ∷ []) rights.now cone.now result }
 {
-    if cone.has_outside_left(left.at) {
-        return Step::Same;
-    }
-    let first = cone.first().right;
-    if cone.meets(left, first) {
-        return Step::Stuck(cone.pairs(left, first));
-    }
-    let second = cone.second().right;
-    if cone.meets(left, second) {
-        return Step::Stuck(cone.pairs(left, second));
+    if let Cone::Open(wedge) = cone {
+        let of_first = wedge.first.value(left.at);
+        if wedge.second.value(left.at) < 0 {
+            if of_first > 0 {
+                return Step::Same;
+            }
+            return Step::Wider(Cone::Open(first_to_left(wedge, rights, left)));
+        }
+        if of_first <= wedge.first.value(wedge.second.right.at) {
+            return Step::Stuck(cone.pairs(left, wedge.second.right));
+        }
     }
     left_against_all(cone, rights, left)
 }
 
-/// What a new right end does.
+/// What a new right end does. In a walk it lies right of the first line, where that line stays and the second one may move;
+/// or no line splits it from the left end of the first line. Only other right ends are looked at against all left ends.
 pub fn right_step(cone: &Cone, lefts: &[EndAt], right: EndAt) -> Step
     requires { (rights : List End) × IsConeOfEnds lefts.now rights cone.now }
     ensures { (rights : List End) → IsConeOfEnds lefts.now rights cone.now → IsStepTo lefts.now (rights ++ right ∷ []) cone.now result }
 {
-    if cone.has_outside_right(right.at) {
-        return Step::Same;
-    }
-    let first = cone.first().left;
-    if cone.meets(first, right) {
-        return Step::Stuck(cone.pairs(first, right));
-    }
-    let second = cone.second().left;
-    if cone.meets(second, right) {
-        return Step::Stuck(cone.pairs(second, right));
+    if let Cone::Open(wedge) = cone {
+        let of_second = wedge.second.value(right.at);
+        if wedge.first.value(right.at) < 0 {
+            if of_second > 0 {
+                return Step::Same;
+            }
+            return Step::Wider(Cone::Open(second_to_right(wedge, lefts, right)));
+        }
+        if of_second <= wedge.second.value(wedge.first.left.at) {
+            return Step::Stuck(cone.pairs(wedge.first.left, right));
+        }
     }
     right_against_all(cone, lefts, right)
 }

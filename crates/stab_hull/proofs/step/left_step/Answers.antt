@@ -1,14 +1,29 @@
-use Rattle.std.proofs.Common.{sym, subst}
-use Rattle.extreme_lines.specs.declared.extreme.Extreme.{Extreme}
-use Rattle.stab_hull.specs.Stacks.{IsAmong}
-use Rattle.stab_hull.proofs.StepLemmas.{left_outside, left_meets}
+use Rattle.std.proofs.Common.{arith, subst}
+use Rattle.std.proofs.lemmas.Int.{ints}
+use Rattle.extreme_lines.specs.declared.cone.Cone.{Cone}
+use Rattle.stab_hull.specs.Stacks.{IsConeOfEnds}
+use Rattle.stab_hull.proofs.TwoForms.{left_same, left_no_line}
 use Rattle.stab_hull.proofs.step.left_step.Goals as goal
 
-pub returns-then-has_outside_left : goal.returns-then-has_outside_left
-returns-then-has_outside_left c = λ lefts h. left_outside lefts c.args.rights.now c.args.left c.args.cone.now (c.has_outside_left.ensures c.if-has_outside_left.true) h
+pub first_to_left-requires : goal.first_to_left-requires
+first_to_left-requires c = record { cone = (c.requires.0, subst (λ (d : Cone). IsConeOfEnds c.requires.0 c.args.rights.now d) c.in-Open.is c.requires.1); beyond = (let v = c.value.ensures.value in let t = c.if-value-lt0.true in omega (arith, ints)) }
 
-pub returns-then-meets : goal.returns-then-meets
-returns-then-meets c = λ lefts h. left_meets lefts c.args.rights.now c.args.left c.args.cone.now c.first.result.now.right c.pairs.result h (subst (λ (e : Extreme). IsAmong c.args.rights.now e.right) (sym c.first.ensures) h.ends.first.1) c.pairs.ensures (c.meets.ensures c.if-meets.true)
+pub returns-then-of_first-gt0 : goal.returns-then-of_first-gt0
+returns-then-of_first-gt0 c = λ lefts h.
+    let v = c.value.ensures.value in
+    let u = c.value-of_first.ensures.value in
+    let s = c.if-value-lt0.true in
+    let t = c.if-of_first-gt0.true in
+    left_same lefts c.args.rights.now c.args.left c.args.cone.now c.in-Open.wedge c.in-Open.is (omega (arith, ints)) (omega (arith, ints)) h
 
-pub returns-then-meets-2 : goal.returns-then-meets-2
-returns-then-meets-2 c = λ lefts h. left_meets lefts c.args.rights.now c.args.left c.args.cone.now c.second.result.now.right c.pairs-then-meets-2.result h (subst (λ (e : Extreme). IsAmong c.args.rights.now e.right) (sym c.second.ensures) h.ends.second.1) c.pairs-then-meets-2.ensures (c.meets-2.ensures c.if-meets-2.true)
+pub returns-then-value-lt0 : goal.returns-then-value-lt0
+returns-then-value-lt0 c = λ lefts h. c.first_to_left.ensures lefts (subst (λ (d : Cone). IsConeOfEnds lefts c.args.rights.now d) c.in-Open.is h)
+
+pub returns-then-of_first-value : goal.returns-then-of_first-value
+returns-then-of_first-value c = λ lefts h.
+    let v = c.value.ensures.value in
+    let u = c.value-of_first.ensures.value in
+    let x = c.value-in-Open.ensures.value in
+    let s = c.if-value-lt0.false in
+    let t = c.if-of_first-value.true in
+    left_no_line lefts c.args.rights.now c.args.left c.args.cone.now c.in-Open.wedge c.in-Open.is c.pairs.result (omega (arith, ints)) (omega (arith, ints)) c.pairs.ensures h

@@ -1,14 +1,29 @@
-use Rattle.std.proofs.Common.{sym, subst}
-use Rattle.extreme_lines.specs.declared.extreme.Extreme.{Extreme}
-use Rattle.stab_hull.specs.Stacks.{IsAmong}
-use Rattle.stab_hull.proofs.StepLemmas.{right_outside, right_meets}
+use Rattle.std.proofs.Common.{arith, subst}
+use Rattle.std.proofs.lemmas.Int.{ints}
+use Rattle.extreme_lines.specs.declared.cone.Cone.{Cone}
+use Rattle.stab_hull.specs.Stacks.{IsConeOfEnds}
+use Rattle.stab_hull.proofs.TwoForms.{right_same, right_no_line}
 use Rattle.stab_hull.proofs.step.right_step.Goals as goal
 
-pub returns-then-has_outside_right : goal.returns-then-has_outside_right
-returns-then-has_outside_right c = λ rights h. right_outside c.args.lefts.now rights c.args.right c.args.cone.now (c.has_outside_right.ensures c.if-has_outside_right.true) h
+pub second_to_right-requires : goal.second_to_right-requires
+second_to_right-requires c = record { cone = (c.requires.0, subst (λ (d : Cone). IsConeOfEnds c.args.lefts.now c.requires.0 d) c.in-Open.is c.requires.1); beyond = (let v = c.value.ensures.value in let t = c.if-value-lt0.true in omega (arith, ints)) }
 
-pub returns-then-meets : goal.returns-then-meets
-returns-then-meets c = λ rights h. right_meets c.args.lefts.now rights c.args.right c.args.cone.now c.first.result.now.left c.pairs.result h (subst (λ (e : Extreme). IsAmong c.args.lefts.now e.left) (sym c.first.ensures) h.ends.first.0) c.pairs.ensures (c.meets.ensures c.if-meets.true)
+pub returns-then-of_second-gt0 : goal.returns-then-of_second-gt0
+returns-then-of_second-gt0 c = λ rights h.
+    let v = c.value.ensures.value in
+    let u = c.value-of_second.ensures.value in
+    let s = c.if-value-lt0.true in
+    let t = c.if-of_second-gt0.true in
+    right_same c.args.lefts.now rights c.args.right c.args.cone.now c.in-Open.wedge c.in-Open.is (omega (arith, ints)) (omega (arith, ints)) h
 
-pub returns-then-meets-2 : goal.returns-then-meets-2
-returns-then-meets-2 c = λ rights h. right_meets c.args.lefts.now rights c.args.right c.args.cone.now c.second.result.now.left c.pairs-then-meets-2.result h (subst (λ (e : Extreme). IsAmong c.args.lefts.now e.left) (sym c.second.ensures) h.ends.second.0) c.pairs-then-meets-2.ensures (c.meets-2.ensures c.if-meets-2.true)
+pub returns-then-value-lt0 : goal.returns-then-value-lt0
+returns-then-value-lt0 c = λ rights h. c.second_to_right.ensures rights (subst (λ (d : Cone). IsConeOfEnds c.args.lefts.now rights d) c.in-Open.is h)
+
+pub returns-then-of_second-value : goal.returns-then-of_second-value
+returns-then-of_second-value c = λ rights h.
+    let v = c.value.ensures.value in
+    let u = c.value-of_second.ensures.value in
+    let x = c.value-in-Open.ensures.value in
+    let s = c.if-value-lt0.false in
+    let t = c.if-of_second-value.true in
+    right_no_line c.args.lefts.now rights c.args.right c.args.cone.now c.in-Open.wedge c.in-Open.is c.pairs.result (omega (arith, ints)) (omega (arith, ints)) c.pairs.ensures h

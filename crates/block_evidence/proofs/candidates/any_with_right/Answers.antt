@@ -1,6 +1,6 @@
 use Rattle.std.proofs.Common.{inl, inr, refl}
 use Rattle.block_evidence.proofs.Picking.{some_of_five, of_five}
-use Rattle.block_evidence.proofs.candidates.with_right.Goals as goal
+use Rattle.block_evidence.proofs.candidates.any_with_right.Goals as goal
 
 pub returns-in-Some : goal.returns-in-Some
 returns-in-Some c = of_five c.args.first c.args.second c.args.new c.args.first.left c.args.second.left c.args.second.right c.args.new c.in-Some.found (inl refl) (inr (inr (inl refl))) (inr (inr (inr (inl refl)))) (inr (inr (inr (inr (inl refl))))) c.in-Some.ensures
