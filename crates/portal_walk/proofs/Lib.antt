@@ -12,3 +12,6 @@ pub mod Portals
 pub mod Sequences
 pub mod Paths
 pub mod Entering
+pub mod Gaps
+pub mod Covering
+pub mod Answering

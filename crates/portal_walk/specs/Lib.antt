@@ -4,3 +4,4 @@ pub mod Pending
 pub mod Scene
 pub mod Sides
 pub mod Walk
+pub mod Whole

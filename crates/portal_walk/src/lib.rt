@@ -7,6 +7,7 @@ mod roots;
 mod scene;
 mod step;
 mod walk;
+mod walker;
 
 pub use step::Step;
-pub use walk::Walker;
+pub use walker::Walker;

@@ -1,11 +1,13 @@
 //! The portals that a walk has entered, with their ends.
 
-ghost use Rattle.std.specs.Prelude.{◌≡◌, ◌≢◌, ◌+◌, ◌-◌, ◌<◌, [], length, slice_get, slice_set, take, IfNone, IfSome};
+ghost use Rattle.std.specs.Prelude.{◌≡◌, ◌≢◌, ◌+◌, ◌-◌, ◌<◌, ◌++◌, ◌∷◌, [], length, slice_get, slice_set, take, IfNone, IfSome};
+ghost use Rattle.stab_hull.specs.Answer.{IsBarredBy};
 ghost use Rattle.portal_walk.specs.Frames.{Enters, ways_left};
 ghost use Rattle.portal_walk.specs.Pending.{way_of, way_taken};
 
 use crate::scene::Way;
-use sight_names::{Memory, Pt};
+use block_evidence::Evidence;
+use sight_names::{Memory, Pt, RIGHT_END};
 use stab_hull::{Ends, Split};
 use std::alloc::Global;
 use std::marker::Model;
@@ -33,7 +35,7 @@ pub fn next_way(ways: Ways) -> Option<(Way, Ways)>
 /// A portal that was entered, by the number of its half-edge.
 #[derive(Clone, Copy, Debug)]
 pub struct Frame {
-    pub edge: u16,
+    pub edge: u32,
     pub ways: Ways,
 }
 
@@ -97,10 +99,18 @@ impl Path {
         self.ends.pop();
     }
 
+    /// Stuck ends, where it is seen at once that no line splits the ends of the whole path and of a portal with these ends.
+    pub fn bars(&self, left: Pt, right: Pt) -> Option<Evidence>
+        requires { length self.now.frames < RIGHT_END }
+        ensures { IfSome result (λ e. IsBarredBy (self.now.ends ++ record { left = left; right = right } ∷ []) e) }
+    {
+        self.ends.bars(left, right)
+    }
+
     /// Enters a portal with these ends, where a line splits the ends of the whole path.
     pub fn enter(&mut self, frame: Frame, left: Pt, right: Pt) -> Result<Split, Memory>
         requires proper { left ≢ right }
-        requires room { length self.old.frames < 32768 }
+        requires room { length self.old.frames < RIGHT_END }
         ensures each { length self.old.ends ≡ length self.old.frames }
         ensures enters { Enters self.old self.new frame (record { left = left; right = right }) result }
     {

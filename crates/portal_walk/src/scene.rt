@@ -47,7 +47,7 @@ impl<'a> Model for Scene<'a> {
 }
 
 /// The half-edge behind a way out of the triangle.
-fn behind(edge: &HalfEdge, way: Way) -> Option<u16>
+fn behind(edge: &HalfEdge, way: Way) -> Option<u32>
     ensures { result ≡ behind_of edge.now way }
 {
     match way {
@@ -98,7 +98,7 @@ impl<'a> Scene<'a> {
     }
 
     /// The half-edge with this number.
-    pub fn get(&self, number: u16) -> &HalfEdge
+    pub fn get(&self, number: u32) -> &HalfEdge
         requires { IsNumber self.now.mesh.triangles number }
         ensures { slice_get self.now.edges number ≡ Some result.now }
     {
@@ -106,7 +106,7 @@ impl<'a> Scene<'a> {
     }
 
     /// The number of the half-edge behind a way out of the triangle of this one; None where one can't leave by this way.
-    pub fn way(&self, from: u16, way: Way) -> Option<u16>
+    pub fn way(&self, from: u32, way: Way) -> Option<u32>
         requires { IsNumber self.now.mesh.triangles from }
         ensures { FindsWay self.now from way result }
     {
@@ -115,7 +115,7 @@ impl<'a> Scene<'a> {
     }
 
     /// The number of the half-edge by the portal with these ends; None where one can't enter by it.
-    pub fn at(&self, left: u16, right: u16) -> Option<u16>
+    pub fn at(&self, left: u16, right: u16) -> Option<u32>
         ensures { Finds self.now (record { left = left; right = right }) result }
     {
         let edges = self.edges();

@@ -12,7 +12,8 @@ use Rattle.pair_budget.specs.Whole.{IsFound}
 use Rattle.pair_budget.proofs.Marks.{told_more, extends_both, still_full}
 use Rattle.pair_budget.proofs.Exactly.{finds_begin, finds_blocked, finds_next, finds_noted, finds_end, finds_spent, finds_early}
 use Rattle.pair_budget.proofs.Through.{through_none, through_moved, through_back, through_open}
-use Rattle.pair_budget.proofs.Walking.{IsOver, over_moved, begins, covers_blocked, covers_open, covers_end, noted_label, only_label}
+use Rattle.portal_walk.proofs.Answering.{IsOver, over_moved}
+use Rattle.pair_budget.proofs.Walking.{begins, covers_blocked, covers_open, covers_end, noted_label, only_label}
 use Rattle.pair_budget.proofs.walk.walk_on.Goals as goal
 
 -- the numbers of the line are as they were when they come as arguments
@@ -149,7 +150,7 @@ loop-walker-preserved g c =
       walk = same_walk_both c.args.walker c.loop-walker.walker c.next.new.self i.walk c.next.ensures.walk;
       found_sectors = extends_both c.args.found_sectors.now c.loop-walker.found_sectors c.note.new.found_sectors i.found_sectors e.found_sectors;
       over = over_moved old new c.next.ensures.walk i.over;
-      covered = covers_open (pending c.args.walker) old new c.loop-walker.found_sectors.found i.covered k c.in-Open.entered c.in-Open.a c.in-Open.b c.in-Open.c opens later e.found_sectors.keeps c.next.ensures.walk i.over noted
+      covered = covers_open (pending c.args.walker) old new c.loop-walker.found_sectors.found i.covered c.next.ensures.walk k c.in-Open.entered c.in-Open.a c.in-Open.b c.in-Open.c opens later e.found_sectors.keeps i.over noted
           (λ r there. only_label old.labels c.args.labels.now k c.loop-walker.found_sectors.found reached.result r labels reached.ensures.label (c.in_ok-note-in-Open.ensures.only r there));
       exact = finds_noted c.args.walker old new c.args.budget c.loop-walker.left c.loop-walker.found_sectors.found i.covered i.exact c.next.ensures.walk k c.in-Open.entered c.in-Open.a c.in-Open.b c.in-Open.c opens c.in-Some.less c.in-Some.ensures later e.found_sectors.keeps noted
           (λ r there. only_label old.labels c.args.labels.now k c.loop-walker.found_sectors.found reached.result r labels reached.ensures.label (c.in_ok-note-in-Open.ensures.only r there));

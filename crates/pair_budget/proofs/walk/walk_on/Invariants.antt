@@ -8,7 +8,8 @@ use Rattle.pair_budget.specs.Notes.{ordered, Grows}
 use Rattle.pair_budget.specs.Walked.{MarksFound}
 use Rattle.pair_budget.proofs.Exactly.{FindsOver}
 use Rattle.pair_budget.proofs.Through.{ThroughOver}
-use Rattle.pair_budget.proofs.Walking.{IsOver, HasCovered}
+use Rattle.portal_walk.proofs.Answering.{IsOver}
+use Rattle.pair_budget.proofs.Walking.{HasCovered}
 use Rattle.pair_budget.proofs.walk.walk_on.Given as goal
 
 abbrev pub invariant-loop-walker : goal.invariant-loop-walker

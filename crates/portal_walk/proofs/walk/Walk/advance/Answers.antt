@@ -5,7 +5,7 @@ use Rattle.portal_walk.specs.Walk.{WalkParts, Tries}
 use Rattle.portal_walk.proofs.Paths.{walk_over, walk_left}
 use Rattle.portal_walk.proofs.Weights.{no_top}
 use Rattle.portal_walk.proofs.Steps.{left_done}
-use Rattle.portal_walk.proofs.walk.Walker.advance.Goals as goal
+use Rattle.portal_walk.proofs.walk.Walk.advance.Goals as goal
 
 pub try_root-requires : goal.try_root-requires
 try_root-requires c = sym (ap (λ (w : WalkParts). w.frames) c.self.view_is) ∙ no_top c.self.inside.path.frames (sym c.in-None.ensures)

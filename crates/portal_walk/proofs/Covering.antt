@@ -3,7 +3,7 @@ use Rattle.std.proofs.Common.{◌≡◌, ◌≢◌, ℕ, ◌⊎◌, inl, inr, Li
 use Rattle.std.specs.List.{AllByRecursion, last_or, filter}
 use Rattle.std.proofs.lemmas.Bool.{cases_eq}
 use Rattle.std.proofs.lemmas.Option.{none-some, same_Some}
-use Rattle.std.proofs.lemmas.List.{append_assoc}
+use Rattle.std.proofs.lemmas.List.{append_assoc, append-nil}
 use Rattle.std.proofs.lemmas.List.Elements.{All-head, All-tail}
 use Rattle.sight_names.specs.declared.names.Side.{Side}
 use Rattle.sight_names.specs.declared.names.Triangle.{Triangle}
@@ -19,9 +19,8 @@ use Rattle.block_evidence.specs.Stuck.{BlocksSequence}
 use Rattle.sight_tree.specs.WholeTree.{Answers, HasNoNode, HasNode, no_node, blocked, open_node, AnswersRoots}
 use Rattle.sequence_laws.specs.Ways.{root_alone, one_way_on, both_ways_on}
 use Rattle.portal_walk.proofs.Sequences.{portals_more, all_last}
-use Rattle.pair_budget.specs.declared.results.Reached.{Reached}
-use Rattle.pair_budget.specs.Whole.{IsOfFound, AnswersPending, IsGap, EndsAtGap}
-use Rattle.pair_budget.proofs.Gaps.{IsGround, ways_end, root_gap}
+use Rattle.portal_walk.specs.Whole.{IsGround, IsOfKnown, AnswersPending, IsGap, EndsAtGap, AnswersSoFar}
+use Rattle.portal_walk.proofs.Gaps.{ways_end, root_gap}
 use Rattle.list_base.proofs.Lists.{all_so, all_front, all_join, last_pushed, contains_here as contains_head}
 use Rattle.mesh_base.proofs.GoodMesh.{found_at}
 
@@ -31,25 +30,22 @@ pub all_rest : {X : Type 0} (P : X → Type 0) (xs ys : List X) → AllByRecursi
 all_rest P [] ys h = h
 all_rest P (x ∷ xs) ys h = all_rest P xs ys h.1
 
--- ---- more sectors that were found
+-- ---- more sectors that are known
 
-abbrev pub Keeps : List Reached → List Reached → Type 0
-Keeps old new = (r : Reached) → Contains old r → Contains new r
-
-pub found_more : (ls : List (Option ℕ)) (old new : List Reached) → Keeps old new → (k : ℕ) → IsOfFound ls old k → IsOfFound ls new k
-found_more ls old new keeps k (b, labelled, (r, there, is)) = (b, labelled, (r, keeps r there, is))
+pub known_more : (ls : List (Option ℕ)) (Known Later : ℕ → Type 0) → ((b : ℕ) → Known b → Later b) → (k : ℕ) → IsOfKnown ls Known k → IsOfKnown ls Later k
+known_more ls Known Later keeps k (b, labelled, known) = (b, labelled, keeps b known)
 
 module _ (p : PlanParts) (ts : List Triangle) (ls : List (Option ℕ)) (a : ℕ) where
-  pub end_more : (old new : List Reached) → Keeps old new → (d : Portal) → IsSolidLine (map_of p) d ⊎ IsGap p ts ls a old d → IsSolidLine (map_of p) d ⊎ IsGap p ts ls a new d
-  end_more old new keeps d (inl s) = inl s
-  end_more old new keeps d (inr g) = inr (record { k = g.k; behind = g.behind; free = g.free; known = λ none. found_more ls old new keeps g.k (g.known none) })
+  pub end_more : (Known Later : ℕ → Type 0) → ((b : ℕ) → Known b → Later b) → (d : Portal) → IsSolidLine (map_of p) d ⊎ IsGap p ts ls a Known d → IsSolidLine (map_of p) d ⊎ IsGap p ts ls a Later d
+  end_more Known Later keeps d (inl s) = inl s
+  end_more Known Later keeps d (inr g) = inr (record { k = g.k; behind = g.behind; free = g.free; known = λ none. known_more ls Known Later keeps g.k (g.known none) })
 
-  abbrev pub gap_more : (old new : List Reached) → Keeps old new → (s : Sequence) → EndsAtGap p ts ls a old s → EndsAtGap p ts ls a new s
-  gap_more old new keeps s c = record { before = c.before; last = c.last; root = c.root; way = c.way; no_wall = c.no_wall; outside = c.outside; end = end_more old new keeps c.last c.end }
+  abbrev pub gap_more : (Known Later : ℕ → Type 0) → ((b : ℕ) → Known b → Later b) → (s : Sequence) → EndsAtGap p ts ls a Known s → EndsAtGap p ts ls a Later s
+  gap_more Known Later keeps s c = record { before = c.before; last = c.last; root = c.root; way = c.way; no_wall = c.no_wall; outside = c.outside; end = end_more Known Later keeps c.last c.end }
 
   -- ---- one sequence
 
-  module _ (found : List Reached) (s : Sequence) (c : EndsAtGap p ts ls a found s) where
+  module _ (Known : ℕ → Type 0) (s : Sequence) (c : EndsAtGap p ts ls a Known s) where
     abbrev all_of : List Portal
     all_of = c.before ++ c.last ∷ []
 
@@ -67,7 +63,7 @@ module _ (p : PlanParts) (ts : List Triangle) (ls : List (Option ℕ)) (a : ℕ)
     has_none : ((ds : List Portal) → ¬ IsSequence (map_of p) ts ls a s ds) → HasNoNode (map_of p) ts ls a c.last
     has_none none = at c.end
       where
-        at : IsSolidLine (map_of p) c.last ⊎ IsGap p ts ls a found c.last → HasNoNode (map_of p) ts ls a c.last
+        at : IsSolidLine (map_of p) c.last ⊎ IsGap p ts ls a Known c.last → HasNoNode (map_of p) ts ls a c.last
         at (inl solid) = inl solid
         at (inr g) = elim (outside_or g.k) as (λ _. HasNoNode (map_of p) ts ls a c.last) [
           | inl is ↦ inr (g.k, g.behind, is)
@@ -136,23 +132,23 @@ module _ (p : PlanParts) (ts : List Triangle) (ls : List (Option ℕ)) (a : ℕ)
           h,
         )
 
-        pub ways_at_gaps : IsGround p ts ls → IsOfFound ls found k → AllByRecursion (EndsAtGap p ts ls a found) (both_ways_on s)
+        pub ways_at_gaps : IsGround p ts ls → IsOfKnown ls Known k → AllByRecursion (EndsAtGap p ts ls a Known) (both_ways_on s)
         ways_at_gaps g known = (comes Left ends.0, (comes Right ends.1, tt))
           where
-            ends : (IsSolidLine (map_of p) (way_out c.last Left third_there.0) ⊎ IsGap p ts ls a found (way_out c.last Left third_there.0)) × (IsSolidLine (map_of p) (way_out c.last Right third_there.0) ⊎ IsGap p ts ls a found (way_out c.last Right third_there.0))
-            ends = ways_end p ts ls g a found c.last k third_there.0 at known third_there.1
+            ends : (IsSolidLine (map_of p) (way_out c.last Left third_there.0) ⊎ IsGap p ts ls a Known (way_out c.last Left third_there.0)) × (IsSolidLine (map_of p) (way_out c.last Right third_there.0) ⊎ IsGap p ts ls a Known (way_out c.last Right third_there.0))
+            ends = ways_end p ts ls g a Known c.last k third_there.0 at known third_there.1
 
-            comes : (w : Way) → IsSolidLine (map_of p) (way_out c.last w third_there.0) ⊎ IsGap p ts ls a found (way_out c.last w third_there.0) → EndsAtGap p ts ls a found (one_way_on s w)
+            comes : (w : Way) → IsSolidLine (map_of p) (way_out c.last w third_there.0) ⊎ IsGap p ts ls a Known (way_out c.last w third_there.0) → EndsAtGap p ts ls a Known (one_way_on s w)
             comes w e = record { before = all_of; last = way_out c.last w third_there.0; root = c.root; way = onward w; no_wall = walls_free; outside = all_outside; end = e }
 
   -- ---- the sequences that were passed over
 
-  pub skip_all : (found : List Reached) (skipped rest : List Sequence) → All (λ (s : Sequence). (ds : List Portal) → ¬ IsSequence (map_of p) ts ls a s ds) skipped → AllByRecursion (EndsAtGap p ts ls a found) skipped
+  pub skip_all : (Known : ℕ → Type 0) (skipped rest : List Sequence) → All (λ (s : Sequence). (ds : List Portal) → ¬ IsSequence (map_of p) ts ls a s ds) skipped → AllByRecursion (EndsAtGap p ts ls a Known) skipped
       → (ns : List Node) (opened : List ℕ) → AnswersPending p ts ls a rest ns opened → AnswersPending p ts ls a (skipped ++ rest) ns opened
-  skip_all found [] rest none at_gaps ns opened h = h
-  skip_all found (s ∷ ss) rest none at_gaps ns opened h =
-      skip_one found s at_gaps.0 (All-head (λ (s : Sequence). (ds : List Portal) → ¬ IsSequence (map_of p) ts ls a s ds) s ss none) (ss ++ rest) ns opened
-      (skip_all found ss rest (All-tail (λ (s : Sequence). (ds : List Portal) → ¬ IsSequence (map_of p) ts ls a s ds) s ss none) at_gaps.1 ns opened h)
+  skip_all Known [] rest none at_gaps ns opened h = h
+  skip_all Known (s ∷ ss) rest none at_gaps ns opened h =
+      skip_one Known s at_gaps.0 (All-head (λ (s : Sequence). (ds : List Portal) → ¬ IsSequence (map_of p) ts ls a s ds) s ss none) (ss ++ rest) ns opened
+      (skip_all Known ss rest (All-tail (λ (s : Sequence). (ds : List Portal) → ¬ IsSequence (map_of p) ts ls a s ds) s ss none) at_gaps.1 ns opened h)
 
   -- ---- roots
 
@@ -164,15 +160,15 @@ module _ (p : PlanParts) (ts : List Triangle) (ls : List (Option ℕ)) (a : ℕ)
       at true e all = (e, all)
       at false e all = all
 
-  roots_in : IsGround p ts ls → (found : List Reached) (ss : List Side) → ((s : Side) → Contains ss s → Contains (roots (map_of p) a) s) → AllByRecursion (λ s. IsTrue (is_root (map_of p) a s)) ss → AllByRecursion (EndsAtGap p ts ls a found) (map root_alone ss)
-  roots_in g found [] within all = tt
-  roots_in g found (s ∷ ss) within all = (first (root_gap p ts ls g a found s all.0), roots_in g found ss (λ t c. within t (contains_tail s t ss c)) all.1)
+  roots_in : IsGround p ts ls → (Known : ℕ → Type 0) (ss : List Side) → ((s : Side) → Contains ss s → Contains (roots (map_of p) a) s) → AllByRecursion (λ s. IsTrue (is_root (map_of p) a s)) ss → AllByRecursion (EndsAtGap p ts ls a Known) (map root_alone ss)
+  roots_in g Known [] within all = tt
+  roots_in g Known (s ∷ ss) within all = (first (root_gap p ts ls g a Known s all.0), roots_in g Known ss (λ t c. within t (contains_tail s t ss c)) all.1)
     where
-      first : (d : Portal) × (root_portal (map_of p) s ≡ Some d) × IsGap p ts ls a found d → EndsAtGap p ts ls a found (root_alone s)
+      first : (d : Portal) × (root_portal (map_of p) s ≡ Some d) × IsGap p ts ls a Known d → EndsAtGap p ts ls a Known (root_alone s)
       first (d, is, gap) = record { before = []; last = d; root = within s (contains_head s ss); way = ap (λ (o : Option Portal). portals_from ts o []) is; no_wall = tt; outside = tt; end = inr gap }
 
-  pub roots_at_gaps : IsGround p ts ls → (found : List Reached) → AllByRecursion (EndsAtGap p ts ls a found) (map root_alone (roots (map_of p) a))
-  roots_at_gaps g found = roots_in g found (roots (map_of p) a) (λ s c. c) (all_kept (is_root (map_of p) a) (sides_of (map_of p)))
+  pub roots_at_gaps : IsGround p ts ls → (Known : ℕ → Type 0) → AllByRecursion (EndsAtGap p ts ls a Known) (map root_alone (roots (map_of p) a))
+  roots_at_gaps g Known = roots_in g Known (roots (map_of p) a) (λ s c. c) (all_kept (is_root (map_of p) a) (sides_of (map_of p)))
 
   -- what answers for the roots alone answers for the roots
   pub answers_roots : (ss : List Side) (ns : List Node) (opened : List ℕ) → AnswersPending p ts ls a (map root_alone ss) ns opened → AnswersRoots (map_of p) ts ls a ss ns opened
@@ -184,3 +180,41 @@ module _ (p : PlanParts) (ts : List Triangle) (ls : List (Option ℕ)) (a : ℕ)
       at (Some d) is others =
           let same : ps ≡ d ∷ [] = same_Some ps (d ∷ []) (sym way ∙ ap (λ (o : Option Portal). portals_from ts o []) is) in
           (d, front, back, via_front, via_back, is, e, f, subst (λ (ds : List Portal). Answers (map_of p) ts ls a ds front via_front) same answers, others)
+
+  -- ---- nodes that answer so far
+
+  module _ (Known : ℕ → Type 0) (first : List Sequence) where
+    abbrev SoFar : List Sequence → List Node → List ℕ → Type 0
+    SoFar pending ns opened = AnswersSoFar p ts ls a Known first pending ns opened
+
+    -- what was passed over needs no node
+    pub past_skipped : (skipped rest : List Sequence) (ns : List Node) (opened : List ℕ) → All (λ (s : Sequence). (ds : List Portal) → ¬ IsSequence (map_of p) ts ls a s ds) skipped → SoFar (skipped ++ rest) ns opened → SoFar rest ns opened
+    past_skipped skipped rest ns opened none h = record {
+      goes_on = λ more onward d. h.goes_on more onward (skip_all Known skipped rest none (all_front (EndsAtGap p ts ls a Known) skipped rest h.at_gaps) more onward d);
+      at_gaps = all_rest (EndsAtGap p ts ls a Known) skipped rest h.at_gaps;
+    }
+
+    module _ (s : Sequence) (rest : List Sequence) (ns : List Node) (opened : List ℕ) (h : AnswersSoFar p ts ls a Known first (s ∷ rest) ns opened) (ps : List Portal) (is : IsSequence (map_of p) ts ls a s ps) where
+      pub past_blocked : (e : Evidence) → BlocksSequence (map_of p) ps e → SoFar rest (ns ++ Blocked e ∷ []) opened
+      past_blocked e blocks = record {
+        goes_on = λ more onward d.
+            subst (λ (ms : List Node). AnswersPending p ts ls a first ms (opened ++ onward)) (sym (append_assoc ns (Blocked e ∷ []) more))
+            (h.goes_on (Blocked e ∷ more) onward (block_one Known s h.at_gaps.0 ps is e blocks rest more onward d));
+        at_gaps = h.at_gaps.1;
+      }
+
+      pub past_open : (c : EndsAtGap p ts ls a Known s) (k : ℕ) → triangle_at ts (entry_edge c.last) ≡ Some k → IsGround p ts ls → (Later : ℕ → Type 0) → ((b : ℕ) → Known b → Later b) → IsOfKnown ls Later k
+          → AnswersSoFar p ts ls a Later first (both_ways_on s ++ rest) (ns ++ Open ∷ []) (opened ++ k ∷ [])
+      past_open c k at g Later keeps known = record {
+        goes_on = λ more onward d.
+            subst (λ (ms : List Node). AnswersPending p ts ls a first ms ((opened ++ k ∷ []) ++ onward)) (sym (append_assoc ns (Open ∷ []) more))
+            (subst (λ (ks : List ℕ). AnswersPending p ts ls a first (ns ++ Open ∷ more) ks) (sym (append_assoc opened (k ∷ []) onward))
+            (h.goes_on (Open ∷ more) (k ∷ onward) (open_one Known s c ps is k at rest more onward d)));
+        at_gaps = all_join (EndsAtGap p ts ls a Later) (both_ways_on s) rest
+            (ways_at_gaps Later s (gap_more Known Later keeps s c) ps is k at g known)
+            (all_so (EndsAtGap p ts ls a Known) (EndsAtGap p ts ls a Later) rest (gap_more Known Later keeps) h.at_gaps.1);
+      }
+
+    -- with nothing pending the nodes answer for all
+    pub all_answered : (ns : List Node) (opened : List ℕ) → SoFar [] ns opened → AnswersPending p ts ls a first ns opened
+    all_answered ns opened h = subst (λ (ks : List ℕ). AnswersPending p ts ls a first ns ks) (append-nil opened) (subst (λ (ms : List Node). AnswersPending p ts ls a first ms (opened ++ [])) (append-nil ns) (h.goes_on [] [] (refl, refl)))

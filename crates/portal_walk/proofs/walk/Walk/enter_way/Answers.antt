@@ -5,7 +5,7 @@ use Rattle.portal_walk.specs.Scene.{IsNumber}
 use Rattle.portal_walk.specs.Walk.{WalkParts, ComesBy, IsNoSequence, ends_of, tried_by}
 use Rattle.portal_walk.proofs.Entering.{top_number, way_number, way_comes, way_closed}
 use Rattle.portal_walk.proofs.Lists.{some_of}
-use Rattle.portal_walk.proofs.walk.Walker.enter_way.Goals as goal
+use Rattle.portal_walk.proofs.walk.Walk.enter_way.Goals as goal
 
 pub way-edge-requires : goal.way-edge-requires
 way-edge-requires c =

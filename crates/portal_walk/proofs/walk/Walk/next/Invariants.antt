@@ -1,5 +1,5 @@
 use Rattle.portal_walk.specs.Walk.{SameWalk, Rests, tries_left}
-use Rattle.portal_walk.proofs.walk.Walker.next.Given as goal
+use Rattle.portal_walk.proofs.walk.Walk.next.Given as goal
 
 abbrev pub invariant-loop-step : goal.invariant-loop-step
 invariant-loop-step l = record {

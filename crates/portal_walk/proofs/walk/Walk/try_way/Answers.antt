@@ -6,7 +6,7 @@ use Rattle.portal_walk.specs.Walk.{WalkParts}
 use Rattle.portal_walk.proofs.Lists.{last_set, set_again, some_of}
 use Rattle.portal_walk.proofs.Paths.{walk_over, walk_set}
 use Rattle.portal_walk.proofs.Steps.{way_tried, way_ahead, rests_of}
-use Rattle.portal_walk.proofs.walk.Walker.try_way.Goals as goal
+use Rattle.portal_walk.proofs.walk.Walk.try_way.Goals as goal
 
 abbrev written : PathParts → ℕ → Frame → PathParts
 written p n g = record { frames = slice_set p.frames n g; ends = p.ends }

@@ -6,7 +6,7 @@ use Rattle.portal_walk.specs.Walk.{WalkParts}
 use Rattle.portal_walk.proofs.SideLines.{all_at}
 use Rattle.portal_walk.proofs.Paths.{walk_over}
 use Rattle.portal_walk.proofs.Steps.{root_tried, root_ahead, rests_of, popped}
-use Rattle.portal_walk.proofs.walk.Walker.try_root.Goals as goal
+use Rattle.portal_walk.proofs.walk.Walk.try_root.Goals as goal
 
 pub enter_root-requires-clause-root : goal.enter_root-requires-clause-root
 enter_root-requires-clause-root c =

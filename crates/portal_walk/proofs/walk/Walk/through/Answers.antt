@@ -5,7 +5,7 @@ use Rattle.portal_walk.specs.Frames.{PathParts}
 use Rattle.portal_walk.specs.Scene.{SceneParts, edges_in}
 use Rattle.portal_walk.specs.Walk.{IsWalk}
 use Rattle.portal_walk.proofs.Paths.{walk_over, walk_begins}
-use Rattle.portal_walk.proofs.walk.Walker.through.Goals as goal
+use Rattle.portal_walk.proofs.walk.Walk.through.Goals as goal
 
 pub invariant_of-result : goal.invariant_of-result
 invariant_of-result c =

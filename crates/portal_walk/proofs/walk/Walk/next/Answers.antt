@@ -1,5 +1,5 @@
 use Rattle.portal_walk.proofs.Steps.{on_err, rests_both, same_walk_both, takes_after}
-use Rattle.portal_walk.proofs.walk.Walker.next.Goals as goal
+use Rattle.portal_walk.proofs.walk.Walk.next.Goals as goal
 
 pub returns-in_err-step-clause-memory : goal.returns-in_err-step-clause-memory
 returns-in_err-step-clause-memory c =

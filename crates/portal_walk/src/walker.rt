@@ -1,0 +1,132 @@
+//! The walk through the sequences of a source, whose nodes are a whole tree at its end.
+
+ghost use Rattle.std.specs.Prelude.{◌≡◌, ◌<◌, ℕ, None, Ok, IfOk, OnErr, length, map, List, [], All, IfSome};
+ghost use Rattle.sight_names.specs.Map.{map_of};
+ghost use Rattle.sight_names.specs.Mesh.{IsGoodMesh};
+ghost use Rattle.sight_names.specs.Plan.{IsPlan};
+ghost use Rattle.sight_names.specs.Sequence.{roots};
+ghost use Rattle.sight_names.specs.Sound.{LinesMeetAtEnds};
+ghost use Rattle.half_edges.specs.HalfEdges.{AreHalfEdges};
+
+use crate::scene::Kept;
+use crate::step::Step;
+use crate::walk::Walk;
+use half_edges::HalfEdges;
+use mesh_shape::{Labels, Mesh};
+use sight_names::{Memory, Plan, Side};
+use sight_tree::Tree;
+use std::alloc::Global;
+use std::marker::Model;
+
+/// A walk through the sequences of one source.
+#[derive(Drop)]
+pub struct Walker<'a> {
+    walk: Walk<'a>,
+}
+
+// between two steps what was answered, and any answers for what is still pending, are a whole tree
+impl<'a> Model for Walker<'a> {
+    ghost use Rattle.portal_walk.specs.Walk.{WalkParts};
+    ghost use Rattle.portal_walk.specs.Whole.{IsWholeSoFar};
+
+    ghost Value = { WalkParts };
+
+    ghost view = { λ w. w.walk };
+
+    ghost invariant = { λ w. IsWholeSoFar w.walk };
+}
+
+impl<'a> Walker<'a> {
+    ghost use Rattle.sequence_laws.specs.Ways.{root_alone};
+    ghost use Rattle.sight_tree.specs.WholeTree.{IsWholeTree};
+    ghost use Rattle.portal_walk.specs.Nodes.{IsAnswered};
+    ghost use Rattle.portal_walk.specs.Sides.{IsExit};
+    ghost use Rattle.portal_walk.specs.Walk.{Takes, Rests, SameWalk, pending, remaining};
+
+    /// A walk at its beginning. It makes the half-edges of the map for itself.
+    pub fn new(
+        alloc: Global,
+        plan: &'a Plan,
+        mesh: &'a Mesh,
+        labels: &'a Labels,
+        source: u16,
+    ) -> Result<Walker<'a>, Memory>
+        requires points { mesh.now.points ≡ length plan.now.points }
+        requires audited { LinesMeetAtEnds (map_of plan.now) }
+        requires good { IsGoodMesh (map_of plan.now) mesh.now.triangles labels.now }
+        requires source { source < plan.now.sectors }
+        ensures plan { IfOk result (λ w. w.plan ≡ plan.now) }
+        ensures rules { IfOk result (λ w. IsPlan w.plan) }
+        ensures mesh { IfOk result (λ w. w.mesh ≡ mesh.now) }
+        ensures labels { IfOk result (λ w. w.labels ≡ labels.now) }
+        ensures source { IfOk result (λ w. w.source ≡ source) }
+        ensures root { IfOk result (λ w. w.root ≡ None) }
+        ensures pending { IfOk result (λ w. pending w ≡ map root_alone (roots (map_of plan.now) source)) }
+        ensures nodes { IfOk result (λ w. w.nodes ≡ []) }
+    {
+        let edges = HalfEdges::of(alloc, plan, mesh, labels)?;
+        let walk = Walk::through(alloc, plan, mesh, labels, Kept::Own(edges), source)?;
+        Ok(Walker { walk })
+    }
+
+    /// The same over half-edges that were made before.
+    pub fn over(
+        alloc: Global,
+        plan: &'a Plan,
+        mesh: &'a Mesh,
+        labels: &'a Labels,
+        edges: &'a HalfEdges,
+        source: u16,
+    ) -> Result<Walker<'a>, Memory>
+        requires points { mesh.now.points ≡ length plan.now.points }
+        requires audited { LinesMeetAtEnds (map_of plan.now) }
+        requires good { IsGoodMesh (map_of plan.now) mesh.now.triangles labels.now }
+        requires source { source < plan.now.sectors }
+        requires edges { AreHalfEdges plan.now mesh.now.triangles labels.now edges.now }
+        ensures plan { IfOk result (λ w. w.plan ≡ plan.now) }
+        ensures rules { IfOk result (λ w. IsPlan w.plan) }
+        ensures mesh { IfOk result (λ w. w.mesh ≡ mesh.now) }
+        ensures labels { IfOk result (λ w. w.labels ≡ labels.now) }
+        ensures source { IfOk result (λ w. w.source ≡ source) }
+        ensures root { IfOk result (λ w. w.root ≡ None) }
+        ensures pending { IfOk result (λ w. pending w ≡ map root_alone (roots (map_of plan.now) source)) }
+        ensures nodes { IfOk result (λ w. w.nodes ≡ []) }
+    {
+        let walk = Walk::through(alloc, plan, mesh, labels, Kept::Lent(edges), source)?;
+        Ok(Walker { walk })
+    }
+
+    /// The next sequence in order that a line passes through, with such a line; or the next one that no line passes
+    /// through though one passes through all of it but its last portal; or the end.
+    ///
+    /// # Errors
+    ///
+    /// After `Memory` the walk stands where it stood.
+    pub fn next(&mut self) -> Result<Step, Memory>
+        ensures walk { SameWalk self.old self.new }
+        ensures step { IfOk result (Takes self.old self.new) }
+        ensures memory { OnErr result (Rests self.old self.new) }
+        ensures end { remaining self.old ≡ 0 → result ≡ Ok Step.End }
+    {
+        self.walk.next()
+    }
+
+    /// The side of the present root that names the source; None before the first step and after the end.
+    pub fn root(&self) -> Option<Side>
+        ensures root { result ≡ self.now.root }
+        ensures exit { IfSome result (λ side. IsExit self.now.plan self.now.source side) }
+    {
+        self.walk.root()
+    }
+
+    /// All nodes that were answered, in order: a whole tree of the source.
+    pub fn tree(self) -> Tree
+        requires { remaining self ≡ 0 }
+        ensures source { result.source ≡ self.entry.source }
+        ensures nodes { result.nodes ≡ self.entry.nodes }
+        ensures answered { All IsAnswered result.nodes }
+        ensures whole { (opened : List ℕ) × IsWholeTree (map_of self.entry.plan) self.entry.mesh.triangles self.entry.labels result opened }
+    {
+        self.walk.tree()
+    }
+}
