@@ -6,5 +6,6 @@ pub mod KindLaws
 pub mod TreeLaws
 pub mod NodeStretch
 pub mod CountLaws
+pub mod LimitLaws
 pub mod WholeLaws
 pub mod PieceLaws

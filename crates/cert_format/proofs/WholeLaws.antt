@@ -4,6 +4,7 @@ use Rattle.std.specs.List.{flat_map, AllByRecursion}
 use Rattle.std.specs.Int.{w16, w32}
 use Rattle.std.proofs.lemmas.Bool.{ltb-false, le-ltb, eqb-true, not-true}
 use Rattle.std.proofs.lemmas.List.{append-nil, nil_from_length}
+use Rattle.sight_names.specs.Limits.{most_triangles}
 use Rattle.sight_names.specs.declared.faults.CertFault.{CertFault}
 use Rattle.sight_names.specs.declared.faults.CertFault.TheVariants as faults
 use Rattle.sight_names.specs.declared.names.Pair.{Pair}
@@ -24,6 +25,7 @@ use Rattle.cert_format.proofs.RecordLaws.{records_take, records_again, ascends_o
 use Rattle.cert_format.proofs.KindLaws.{FitsLabelled, TriangleAfter, triangle_takes, triangle_again, PairAfter, pair_takes, pair_again, FitsPairRay, RayAfter, ray_takes, ray_again}
 use Rattle.cert_format.proofs.TreeLaws.{FitsTree, TreeAfter, tree_takes, tree_again, in_orders, all_fit, fit_in_order}
 use Rattle.cert_format.proofs.CountLaws.{few_pairs, few_rays, few_trees}
+use Rattle.cert_format.proofs.LimitLaws.{few_of}
 use Rattle.list_base.proofs.Options.{some_is_same}
 
 -- ---- the header
@@ -63,15 +65,15 @@ front_again sizes small total rest =
       known_again sizes.points total (u16 sizes.lines ++ rest) small.points,
     ) (known_again sizes.lines total rest small.lines)
 
-pub record FitCounts (c : Counts) : Type 0 where
-  pub triangles : c.triangles ≤ 8192
+pub record FitCounts (points : ℕ) (c : Counts) : Type 0 where
+  pub triangles : c.triangles ≤ most_triangles points
   pub rays : c.rays < 2 ^ 32
   pub listed : c.listed < 2 ^ 32
   pub trees : c.trees < 2 ^ 32
 
-pub counts_take : (total : ℕ) (bytes : List ℕ) (x : Counts × List ℕ) → IsBytes bytes → counts_at total bytes ≡ Ok x → Takes bytes (count_bytes x.0) x.1 × FitCounts x.0
+pub counts_take : (points total : ℕ) (bytes : List ℕ) (x : Counts × List ℕ) → IsBytes bytes → counts_at points total bytes ≡ Ok x → Takes bytes (count_bytes x.0) x.1 × FitCounts points x.0
 unfolding counts_at triangle_count_at
-counts_take total bytes x fits e =
+counts_take points total bytes x fits e =
     let t = bind_ok _ _ x e in
     let r = bind_ok _ _ x t.2 in
     let l = bind_ok _ _ x r.2 in
@@ -80,18 +82,18 @@ counts_take total bytes x fits e =
     let t' = bind_ok _ _ t.0 t.1 in
     let g = passed_ok _ _ t'.0 t.0 t'.2 in
     let t0 = number_takes w32 (2 ^ 32) wide32 total bytes t'.0 fits t'.1 in
-    let both = subst (λ (y : ℕ × List ℕ). Takes bytes (u32 y.0) y.1 × (y.0 ≤ 8192)) {x = t'.0} g.1 (t0.0, ltb-false _ _ (not-true _ g.0)) in
+    let both = subst (λ (y : ℕ × List ℕ). Takes bytes (u32 y.0) y.1 × (y.0 ≤ most_triangles points)) {x = t'.0} g.1 (t0.0, ltb-false _ _ (not-true _ g.0)) in
     let t1 = number_takes w32 (2 ^ 32) wide32 total t.0.1 r.0 both.0.rest_fits r.1 in
     let t2 = number_takes w32 (2 ^ 32) wide32 total r.0.1 l.0 t1.0.rest_fits l.1 in
     let t3 = number_takes w32 (2 ^ 32) wide32 total l.0.1 f.0 t2.0.rest_fits f.1 in
     let taken = Takes-then bytes (u32 t.0.0 ++ u32 r.0.0 ++ u32 l.0.0) l.0.1 (u32 f.0.0) f.0.1 (Takes-then bytes (u32 t.0.0 ++ u32 r.0.0) r.0.1 (u32 l.0.0) l.0.1 (Takes-then bytes (u32 t.0.0) t.0.1 (u32 r.0.0) r.0.1 both.0 t1.0) t2.0) t3.0 in
-    subst (λ (y : Counts × List ℕ). Takes bytes (count_bytes y.0) y.1 × FitCounts y.0) {x = made} (ok_is made x f.2) (taken, record { triangles = both.1; rays = t1.1; listed = t2.1; trees = t3.1 })
+    subst (λ (y : Counts × List ℕ). Takes bytes (count_bytes y.0) y.1 × FitCounts points y.0) {x = made} (ok_is made x f.2) (taken, record { triangles = both.1; rays = t1.1; listed = t2.1; trees = t3.1 })
 
-pub counts_again : (total : ℕ) (c : Counts) (rest : List ℕ) → FitCounts c → counts_at total (count_bytes c ++ rest) ≡ Ok (c, rest)
+pub counts_again : (points total : ℕ) (c : Counts) (rest : List ℕ) → FitCounts points c → counts_at points total (count_bytes c ++ rest) ≡ Ok (c, rest)
 unfolding counts_at triangle_count_at
-counts_again total c rest fits =
+counts_again points total c rest fits =
     rw (
-      number_again w32 (2 ^ 32) wide32 total c.triangles (u32 c.rays ++ (u32 c.listed ++ (u32 c.trees ++ rest))) (let h = fits.triangles in omega arith),
+      number_again w32 (2 ^ 32) wide32 total c.triangles (u32 c.rays ++ (u32 c.listed ++ (u32 c.trees ++ rest))) (let h = few_of points c.triangles fits.triangles in omega arith),
       le-ltb _ _ fits.triangles,
       number_again w32 (2 ^ 32) wide32 total c.rays (u32 c.listed ++ (u32 c.trees ++ rest)) fits.rays,
       number_again w32 (2 ^ 32) wide32 total c.listed (u32 c.trees ++ rest) fits.listed,
@@ -202,7 +204,7 @@ reading_takes sizes bytes c small fits e =
     let made : CertParts = record { sizes = sizes; triangles = t.0.0; rays = r.0.0; listed = l.0.0; trees = d.0.0 } in
     let g = passed_ok _ _ made c d.2 in
     let tf = front_takes sizes n bytes f.0 fits f.1 in
-    let tk = counts_take n f.0 k.0 tf.rest_fits k.1 in
+    let tk = counts_take sizes.points n f.0 k.0 tf.rest_fits k.1 in
     let tt' = records_take (triangle_at sizes n) (λ x. Some x) triangle_bytes (FitsLabelled sizes) TriangleAfter (triangle_takes sizes n) k.0.0.triangles None k.0.1 t.0 tk.0.rest_fits t.1 in
     let tr = records_take (ray_at sizes n) (λ x. Some x) ray_bytes (FitsPairRay sizes) RayAfter (ray_takes sizes n) k.0.0.rays None t.0.1 r.0 tt'.takes.rest_fits r.1 in
     let tl = records_take (pair_at sizes n) (λ x. Some x) pair_bytes (IsPairInRange sizes) PairAfter (pair_takes sizes n) k.0.0.listed None r.0.1 l.0 tr.takes.rest_fits l.1 in
@@ -246,7 +248,7 @@ spelled_again c is fits =
     let s = c.sizes in
     let small : AreSmall s = record { sectors = fits.sectors; points = fits.points; lines = fits.lines } in
     let counts : Counts = record { triangles = length c.triangles; rays = length c.rays; listed = length c.listed; trees = length c.trees } in
-    let fit_counts : FitCounts counts = record { triangles = is.few; rays = few_rays s c.rays fits.sectors is.rays is.rays_ascend; listed = few_pairs s c.listed fits.sectors is.listed is.listed_ascend; trees = few_trees s c.trees fits.sectors is.trees is.trees_ascend } in
+    let fit_counts : FitCounts s.points counts = record { triangles = is.few; rays = few_rays s c.rays fits.sectors is.rays is.rays_ascend; listed = few_pairs s c.listed fits.sectors is.listed is.listed_ascend; trees = few_trees s c.trees fits.sectors is.trees is.trees_ascend } in
     let ts = flat_map triangle_bytes c.triangles in
     let rs = flat_map ray_bytes c.rays in
     let ps = flat_map pair_bytes c.listed in
@@ -263,9 +265,9 @@ spelled_again c is fits =
     (chain_of_ascends (pair_at s n) (λ x. Some x) pair_bytes (IsPairInRange s) PairAfter None c.listed (λ x. tt) is.listed_ascend) in
     let d = records_again (tree_at s n) (λ x. Some x.source) tree_bytes (FitsTree s) TreeAfter (tree_again s fits.sectors n) None c.trees [] trees
     (chain_of_ascends (tree_at s n) (λ x. Some x.source) tree_bytes (FitsTree s) TreeAfter None c.trees (λ x. tt) is.trees_ascend) in
-    let F : List ℕ → Result CertParts CertFault = λ bytes. front_at s n bytes >>= (λ front. counts_at n front >>= (λ counts. triangles_at s n None counts.0.triangles counts.1 >>= (λ triangles. rays_at s n None counts.0.rays triangles.1 >>= (λ rays. pairs_at s n None counts.0.listed rays.1 >>= (λ listed. trees_at s n None counts.0.trees listed.1 >>= (λ trees.
+    let F : List ℕ → Result CertParts CertFault = λ bytes. front_at s n bytes >>= (λ front. counts_at s.points n front >>= (λ counts. triangles_at s n None counts.0.triangles counts.1 >>= (λ triangles. rays_at s n None counts.0.rays triangles.1 >>= (λ rays. pairs_at s n None counts.0.listed rays.1 >>= (λ listed. trees_at s n None counts.0.trees listed.1 >>= (λ trees.
     passed (eqb (length trees.1) 0) (faults.Trailing (n - length trees.1)) (record { sizes = s; triangles = triangles.0; rays = rays.0; listed = listed.0; trees = trees.0 }))))))) in
-    ap F regrouped ∙ rw (front_again s small n (count_bytes counts ++ (ts ++ (rs ++ (ps ++ (ds ++ []))))), counts_again n counts (ts ++ (rs ++ (ps ++ (ds ++ [])))) fit_counts, t, r, p, d) refl
+    ap F regrouped ∙ rw (front_again s small n (count_bytes counts ++ (ts ++ (rs ++ (ps ++ (ds ++ []))))), counts_again s.points n counts (ts ++ (rs ++ (ps ++ (ds ++ [])))) fit_counts, t, r, p, d) refl
   where
     in_parts : (f k t r p d : List ℕ) → f ++ k ++ t ++ r ++ p ++ d ≡ f ++ (k ++ (t ++ (r ++ (p ++ (d ++ [])))))
     in_parts f k t r p d = rw (append-nil d) (simp append_assoc)

@@ -2,6 +2,7 @@
 use Rattle.std.specs.Prelude.{◌≡◌, ℕ, ◌+◌, ◌<◌, ◌≤◌, ◌^◌, List, ◌++◌, length, map, drop, flat_map, codes, cond, FitsSigned}
 use Rattle.std.specs.List.{AllByRecursion}
 use Rattle.std.specs.Int.{to_le_bytes, w32, w64, cast_unsigned}
+use Rattle.sight_names.specs.Limits.{most_triangles}
 use Rattle.sight_names.specs.declared.names.Pair.{Pair}
 use Rattle.sight_names.specs.declared.names.PairRay.{PairRay}
 use Rattle.sight_names.specs.declared.names.Ray.{Ray}
@@ -45,7 +46,7 @@ IsTreeInRange sizes t = (t.source < sizes.sectors) × AllByRecursion IsNodeInOrd
 
 -- the ranges and orders of a certificate
 pub record IsInOrder (c : CertParts) : Type 0 where
-  pub few : length c.triangles ≤ 8192
+  pub few : length c.triangles ≤ most_triangles c.sizes.points
   pub triangles : AreTriangles c.sizes.points (map (λ (l : Labelled). l.triangle) c.triangles)
   pub sectors : AllByRecursion (λ (l : Labelled). l.sector < c.sizes.sectors) c.triangles
   pub rays : AllByRecursion (IsRayInRange c.sizes) c.rays

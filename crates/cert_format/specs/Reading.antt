@@ -2,6 +2,7 @@
 -- how many bytes there are in all, and those that are left.
 use Rattle.std.specs.Prelude.{◌≡◌, ℕ, zero, suc, ◌-◌, ◌%◌, List, [], ◌∷◌, length, take, drop, Option, Some, None, Result, Ok, Err, Bool, true, nat_lt, not, ◌==◌, ◌&&◌, ◌||◌, if◌then◌else◌, ℤ}
 use Rattle.std.specs.Int.{Width, w16, w32, w64, byte_len, from_le_bytes, cast_signed}
+use Rattle.sight_names.specs.Limits.{most_triangles}
 use Rattle.sight_names.specs.declared.faults.CertFault.{CertFault}
 use Rattle.sight_names.specs.declared.faults.CertFault.TheVariants as faults
 use Rattle.sight_names.specs.declared.names.Pair.{Pair}
@@ -220,10 +221,11 @@ version_at total bytes = do
   n ← number_at w16 total bytes
   passed (n.0 == 1) faults.BadVersion n.1
 
-unfoldable pub triangle_count_at : ℕ → List ℕ → Result (ℕ × List ℕ) CertFault
-triangle_count_at total bytes = do
+-- at most as many triangles as a map of so many points may have
+unfoldable pub triangle_count_at : ℕ → ℕ → List ℕ → Result (ℕ × List ℕ) CertFault
+triangle_count_at points total bytes = do
   n ← number_at w32 total bytes
-  passed (not (nat_lt 8192 n.0)) (faults.OutOfRange (begins_at total bytes)) n
+  passed (not (nat_lt (most_triangles points) n.0)) (faults.OutOfRange (begins_at total bytes)) n
 
 -- magic, version and sizes
 unfoldable pub front_at : Sizes → ℕ → List ℕ → Result (List ℕ) CertFault
@@ -241,9 +243,9 @@ pub record Counts : Type 0 where
   pub listed : ℕ
   pub trees : ℕ
 
-unfoldable pub counts_at : ℕ → List ℕ → Result (Counts × List ℕ) CertFault
-counts_at total bytes = do
-  triangles ← triangle_count_at total bytes
+unfoldable pub counts_at : ℕ → ℕ → List ℕ → Result (Counts × List ℕ) CertFault
+counts_at points total bytes = do
+  triangles ← triangle_count_at points total bytes
   rays ← number_at w32 total triangles.1
   listed ← number_at w32 total rays.1
   trees ← number_at w32 total listed.1
@@ -253,7 +255,7 @@ counts_at total bytes = do
 unfoldable pub reading : Sizes → List ℕ → Result CertParts CertFault
 reading sizes bytes = do
   front ← front_at sizes (length bytes) bytes
-  counts ← counts_at (length bytes) front
+  counts ← counts_at sizes.points (length bytes) front
   triangles ← triangles_at sizes (length bytes) None counts.0.triangles counts.1
   rays ← rays_at sizes (length bytes) None counts.0.rays triangles.1
   listed ← pairs_at sizes (length bytes) None counts.0.listed rays.1

@@ -5,6 +5,7 @@
 mod cert;
 pub mod fields;
 mod laws;
+mod limit;
 pub mod pieces;
 pub mod ranges;
 pub mod reading;
@@ -14,6 +15,7 @@ mod writing;
 
 pub use cert::{Cert, Counts, Labelled, Sizes};
 pub use laws::one_spelling;
+pub use limit::most_triangles;
 pub use pieces::Printer;
 pub use reading::read;
 pub use writing::print;

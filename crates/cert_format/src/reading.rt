@@ -7,6 +7,7 @@ ghost use Rattle.cert_format.specs.Reading.{Gives, GivesExactly, triangle_count_
 
 use crate::cert::{Cert, Counts, Labelled, Sizes};
 use crate::fields::{place, u16_at, u16_known, u32_at};
+use crate::limit::most_triangles;
 use crate::records::{listed_of, ray_of, tree_of, triangle_of};
 use sight_names::{CertFault, Items, Pair, PairRay};
 use sight_tree::Tree;
@@ -34,11 +35,11 @@ pub fn front_of(sizes: Sizes, total: usize, bytes: &[u8]) -> Result<&[u8], CertF
 }
 
 #[tactic(auto, unfolding(crate::specs::Reading::triangle_count_at))]
-fn triangle_count(total: usize, bytes: &[u8]) -> Result<(u32, &[u8]), CertFault>
-    ensures { GivesExactly (λ x. (x.0, x.1.now)) result (triangle_count_at total bytes.now) }
+fn triangle_count(points: u16, total: usize, bytes: &[u8]) -> Result<(u32, &[u8]), CertFault>
+    ensures { GivesExactly (λ x. (x.0, x.1.now)) result (triangle_count_at points total bytes.now) }
 {
     let (number, rest) = u32_at(total, bytes)?;
-    if number <= 8192 {
+    if number as usize <= most_triangles(points) {
         Ok((number, rest))
     } else {
         Err(CertFault::OutOfRange {
@@ -47,12 +48,12 @@ fn triangle_count(total: usize, bytes: &[u8]) -> Result<(u32, &[u8]), CertFault>
     }
 }
 
-/// How many records there are of each kind.
+/// How many records there are of each kind, for a map of so many points.
 #[tactic(auto, unfolding(crate::specs::Reading::counts_at))]
-pub fn counts_of(total: usize, bytes: &[u8]) -> Result<(Counts, &[u8]), CertFault>
-    ensures { GivesExactly (λ x. (record { triangles = x.0.triangles; rays = x.0.rays; listed = x.0.listed; trees = x.0.trees }, x.1.now)) result (counts_at total bytes.now) }
+pub fn counts_of(points: u16, total: usize, bytes: &[u8]) -> Result<(Counts, &[u8]), CertFault>
+    ensures { GivesExactly (λ x. (record { triangles = x.0.triangles; rays = x.0.rays; listed = x.0.listed; trees = x.0.trees }, x.1.now)) result (counts_at points total bytes.now) }
 {
-    let (triangles, rest) = triangle_count(total, bytes)?;
+    let (triangles, rest) = triangle_count(points, total, bytes)?;
     let (rays, rest) = u32_at(total, rest)?;
     let (listed, rest) = u32_at(total, rest)?;
     let (trees, rest) = u32_at(total, rest)?;
@@ -169,7 +170,7 @@ fn parts_of(alloc: Global, sizes: Sizes, bytes: &[u8]) -> Result<Parts, CertFaul
 {
     let total = bytes.len();
     let rest = front_of(sizes, total, bytes)?;
-    let (counts, rest) = counts_of(total, rest)?;
+    let (counts, rest) = counts_of(sizes.points, total, rest)?;
     let (triangles, rest) = triangles_of(alloc, sizes, total, counts.triangles, rest)?;
     let (rays, rest) = rays_of(alloc, sizes, total, counts.rays, rest)?;
     let (listed, rest) = pairs_of(alloc, sizes, total, counts.listed, rest)?;

@@ -1,5 +1,5 @@
 -- What comes before the parts of version 2: what is read is spelled so and in order.
-use Rattle.std.proofs.Common.{◌≡◌, ℕ, ◌≤◌, List, ◌++◌, length, Some, None, Ok, sym, ap, subst, arith}
+use Rattle.std.proofs.Common.{◌≡◌, ℕ, ◌≤◌, List, ◌++◌, length, Some, None, Ok, sym, ap, subst}
 use Rattle.std.specs.List.{flat_map}
 use Rattle.sight_tree.specs.Spelling.{u16}
 use Rattle.cert_format.specs.declared.cert.Sizes.{Sizes}
@@ -12,6 +12,7 @@ use Rattle.cert_groups.specs.Grammar.{IsGroupInOrder, AreGroupsInOrder, grouped_
 use Rattle.cert_groups.specs.Reading.{group_at, front_two_at}
 use Rattle.cert_groups.proofs.GroupOrder.{GroupAfter, before_carries}
 use Rattle.cert_groups.proofs.GroupLaws.{sizes_take, group_count_takes, group_takes}
+use Rattle.sight_names.specs.Limits.{most_triangles}
 
 abbrev pub counts_in : FrontTwo → Counts
 counts_in f = record { triangles = f.counts.triangles; rays = f.counts.rays; listed = f.counts.listed; trees = f.counts.trees }
@@ -22,11 +23,8 @@ head_bytes sizes groups = u16 sizes.sectors ++ u16 sizes.points ++ u16 sizes.lin
 pub record IsFrontTaken (sizes : Sizes) (bytes : List ℕ) (f : FrontTwo) (rest : List ℕ) : Type 0 where
   pub takes : Takes bytes (head_bytes sizes f.groups ++ count_bytes (counts_in f) ++ flat_map group_bytes f.groups) rest
   pub own : f.sizes ≡ grouped_sizes sizes f.groups
-  pub counts : FitCounts (counts_in f)
-  pub in_order : AreGroupsInOrder sizes.sectors f.groups
-
-few_of : (n m : ℕ) → m ≡ n → n ≤ 8192 → m ≤ 8192
-few_of n m e few = omega (arith, e, few)
+  pub counts : FitCounts sizes.points (counts_in f)
+  pub in_order : AreGroupsInOrder sizes f.groups
 
 abbrev with_sectors : Sizes → ℕ → Sizes
 with_sectors sizes n = record { sectors = n; points = sizes.points; lines = sizes.lines }
@@ -46,8 +44,8 @@ front_takes sizes total bytes x fits e =
     } in
     let both : FrontTwo × List ℕ = (made, g.0.1) in
     let tf = sizes_take sizes total bytes f.0 fits f.1 in
-    let tn = group_count_takes total f.0 n.0 tf.rest_fits n.1 in
-    let tk = counts_take total n.0.1 k.0 tn.0.rest_fits k.1 in
+    let tn = group_count_takes sizes.points total f.0 n.0 tf.rest_fits n.1 in
+    let tk = counts_take sizes.points total n.0.1 k.0 tn.0.rest_fits k.1 in
     let tg = records_take (group_at sizes.sectors total) (λ x. Some x) group_bytes (IsGroupInOrder sizes.sectors) GroupAfter (group_takes sizes.sectors total) n.0.0 None k.0.1 g.0 tk.0.rest_fits g.1 in
     let numbered : Takes f.0 (u16 (length g.0.0)) n.0.1 = subst (λ (j : ℕ). Takes f.0 (u16 j) n.0.1) (sym tg.count) tn.0 in
     let e0 = Takes-then bytes (u16 sizes.sectors ++ u16 sizes.points ++ u16 sizes.lines) f.0 (u16 (length g.0.0)) n.0.1 tf numbered in
@@ -58,7 +56,7 @@ front_takes sizes total bytes x fits e =
       own = ap (λ (j : ℕ). with_sectors sizes j) (sym tg.count);
       counts = tk.1;
       in_order = record {
-        few = few_of n.0.0 (length g.0.0) tg.count tn.1;
+        few = subst (λ (j : ℕ). j ≤ most_triangles sizes.points) (sym tg.count) tn.1;
         each = tg.fit;
         ascend = ascends_of_chain (group_at sizes.sectors total) (λ x. Some x) group_bytes (IsGroupInOrder sizes.sectors) GroupAfter before_carries None g.0.0 tg.chain;
       };

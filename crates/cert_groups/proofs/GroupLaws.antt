@@ -12,9 +12,11 @@ use Rattle.cert_format.proofs.FieldLaws.{IsBytes, bind_ok, passed_ok, Takes, Tak
 use Rattle.cert_format.proofs.RecordLaws.{records_take, records_again, ascends_of_chain, chain_of_ascends}
 use Rattle.cert_format.proofs.TreeLaws.{NumberAfter, number_after_is, number_after_test}
 use Rattle.cert_format.proofs.CountLaws.{few_codes}
+use Rattle.cert_format.proofs.LimitLaws.{small_of}
 use Rattle.cert_groups.specs.Grammar.{IsGroupInOrder, group_bytes}
 use Rattle.cert_groups.specs.Reading.{version_at, group_count_at, size_at, sector_at, sizes_at, group_at}
 use Rattle.cert_groups.proofs.GroupOrder.{GroupAfter, group_after_is, group_after_test}
+use Rattle.sight_names.specs.Limits.{most_triangles}
 
 -- ---- the header
 
@@ -60,17 +62,17 @@ sizes_again sizes small total rest =
       known_again sizes.points total (u16 sizes.lines ++ rest) small.points,
     ) (known_again sizes.lines total rest small.lines)
 
-pub group_count_takes : (total : ℕ) (bytes : List ℕ) (x : ℕ × List ℕ) → IsBytes bytes → group_count_at total bytes ≡ Ok x → Takes bytes (u16 x.0) x.1 × (x.0 ≤ 8192)
+pub group_count_takes : (points total : ℕ) (bytes : List ℕ) (x : ℕ × List ℕ) → IsBytes bytes → group_count_at points total bytes ≡ Ok x → Takes bytes (u16 x.0) x.1 × (x.0 ≤ most_triangles points)
 unfolding group_count_at
-group_count_takes total bytes x fits e =
+group_count_takes points total bytes x fits e =
     let a = bind_ok _ _ x e in
     let g = passed_ok _ _ a.0 x a.2 in
     let t = number_takes w16 (2 ^ 16) wide16 total bytes a.0 fits a.1 in
-    subst (λ (y : ℕ × List ℕ). Takes bytes (u16 y.0) y.1 × (y.0 ≤ 8192)) {x = a.0} g.1 (t.0, ltb-false _ _ (not-true _ g.0))
+    subst (λ (y : ℕ × List ℕ). Takes bytes (u16 y.0) y.1 × (y.0 ≤ most_triangles points)) {x = a.0} g.1 (t.0, ltb-false _ _ (not-true _ g.0))
 
-pub group_count_again : (total n : ℕ) (rest : List ℕ) → n ≤ 8192 → group_count_at total (u16 n ++ rest) ≡ Ok (n, rest)
+pub group_count_again : (points total n : ℕ) (rest : List ℕ) → n ≤ most_triangles points → group_count_at points total (u16 n ++ rest) ≡ Ok (n, rest)
 unfolding group_count_at
-group_count_again total n rest few = rw (number_again w16 (2 ^ 16) wide16 total n rest (omega (arith, few)), le-ltb _ _ few) refl
+group_count_again points total n rest few = rw (number_again w16 (2 ^ 16) wide16 total n rest (small_of points n few), le-ltb _ _ few) refl
 
 -- ---- groups
 

@@ -3,6 +3,7 @@ use Rattle.std.proofs.Common.{◌≡◌, ℕ, zero, suc, ◌+◌, Bool, true, fa
 use Rattle.std.specs.Int.{Width, w16, w32, byte_len}
 use Rattle.std.proofs.lemmas.Bool.{cases_lt, le-ltb, lt-ltb}
 use Rattle.std.proofs.lemmas.List.{length-append, take-append-le, drop-append-le}
+use Rattle.sight_names.specs.Limits.{most_triangles}
 use Rattle.sight_names.specs.declared.faults.CertFault.{CertFault}
 use Rattle.sight_names.specs.declared.faults.CertFault.TheVariants as faults
 use Rattle.cert_format.specs.declared.cert.Sizes.{Sizes}
@@ -113,13 +114,13 @@ module _ (more : List ℕ) where
       stays_then (longer more) (longer more) (number_known sizes.sectors total bytes) (number_known sizes.sectors long (bytes ++ more)) (next total) (next long) (known_stays sizes.sectors total bytes)
       (λ a. stays_then (longer more) (longer more) (number_known sizes.points total a) (number_known sizes.points long (a ++ more)) (last total) (last long) (known_stays sizes.points total a) (λ b. known_stays sizes.lines total b))
 
-  group_count_stays : (total : ℕ) (bytes : List ℕ) → Stays (with_longer more) (group_count_at total bytes) (group_count_at (total + length more) (bytes ++ more))
+  group_count_stays : (points total : ℕ) (bytes : List ℕ) → Stays (with_longer more) (group_count_at points total bytes) (group_count_at points (total + length more) (bytes ++ more))
   unfolding group_count_at
-  group_count_stays total bytes = number_field w16 (λ n. not (ltb 8192 n)) (λ at. faults.OutOfRange at) total bytes
+  group_count_stays points total bytes = number_field w16 (λ n. not (ltb (most_triangles points) n)) (λ at. faults.OutOfRange at) total bytes
 
-  triangle_count_stays : (total : ℕ) (bytes : List ℕ) → Stays (with_longer more) (triangle_count_at total bytes) (triangle_count_at (total + length more) (bytes ++ more))
+  triangle_count_stays : (points total : ℕ) (bytes : List ℕ) → Stays (with_longer more) (triangle_count_at points total bytes) (triangle_count_at points (total + length more) (bytes ++ more))
   unfolding triangle_count_at
-  triangle_count_stays total bytes = number_field w32 (λ n. not (ltb 8192 n)) (λ at. faults.OutOfRange at) total bytes
+  triangle_count_stays points total bytes = number_field w32 (λ n. not (ltb (most_triangles points) n)) (λ at. faults.OutOfRange at) total bytes
 
   abbrev counted : ℕ → ℕ → ℕ → ℕ → Counts
   counted triangles rays listed trees = record { triangles = triangles; rays = rays; listed = listed; trees = trees }
@@ -133,11 +134,11 @@ module _ (more : List ℕ) where
   abbrev with_one : ℕ → ℕ → List ℕ → Result (Counts × List ℕ) CertFault
   with_one t total bytes = number_at w32 total bytes >>= λ r. with_two t r.0 total r.1
 
-  counts_stay : (total : ℕ) (bytes : List ℕ) → Stays (with_longer more) (counts_at total bytes) (counts_at (total + length more) (bytes ++ more))
+  counts_stay : (points total : ℕ) (bytes : List ℕ) → Stays (with_longer more) (counts_at points total bytes) (counts_at points (total + length more) (bytes ++ more))
   unfolding counts_at
-  counts_stay total bytes =
+  counts_stay points total bytes =
       let long = total + length more in
-      stays_then (with_longer more) (with_longer more) (triangle_count_at total bytes) (triangle_count_at long (bytes ++ more)) (λ t. with_one t.0 total t.1) (λ t. with_one t.0 long t.1) (triangle_count_stays total bytes) (λ t.
+      stays_then (with_longer more) (with_longer more) (triangle_count_at points total bytes) (triangle_count_at points long (bytes ++ more)) (λ t. with_one t.0 total t.1) (λ t. with_one t.0 long t.1) (triangle_count_stays points total bytes) (λ t.
       stays_then (with_longer more) (with_longer more) (number_at w32 total t.1) (number_at w32 long (t.1 ++ more)) (λ r. with_two t.0 r.0 total r.1) (λ r. with_two t.0 r.0 long r.1) (number_stays w32 total t.1) (λ r.
       stays_then (with_longer more) (with_longer more) (number_at w32 total r.1) (number_at w32 long (r.1 ++ more)) (λ l. with_three t.0 r.0 l.0 total l.1) (λ l. with_three t.0 r.0 l.0 long l.1) (number_stays w32 total r.1) (λ l.
       stays_then (with_longer more) (with_longer more) (number_at w32 total l.1) (number_at w32 long (l.1 ++ more)) (λ d. Ok (counted t.0 r.0 l.0 d.0, d.1)) (λ d. Ok (counted t.0 r.0 l.0 d.0, d.1)) (number_stays w32 total l.1) (λ d. refl))))
@@ -200,17 +201,17 @@ module _ (more : List ℕ) where
     with_counts total count counts = groups_at sizes.sectors total None count counts.1 >>= made count counts.0
 
     abbrev with_count : ℕ → ℕ × List ℕ → Result (FrontTwo × List ℕ) CertFault
-    with_count total count = counts_at total count.1 >>= with_counts total count.0
+    with_count total count = counts_at sizes.points total count.1 >>= with_counts total count.0
 
     abbrev with_sizes : ℕ → List ℕ → Result (FrontTwo × List ℕ) CertFault
-    with_sizes total front = group_count_at total front >>= with_count total
+    with_sizes total front = group_count_at sizes.points total front >>= with_count total
 
     pub front_stays : (total : ℕ) (bytes : List ℕ) → Stays (with_longer more) (front_two_at sizes total bytes) (front_two_at sizes (total + length more) (bytes ++ more))
     unfolding front_two_at
     front_stays total bytes =
         let long = total + length more in
         stays_then (longer more) (with_longer more) (sizes_at sizes total bytes) (sizes_at sizes long (bytes ++ more)) (with_sizes total) (with_sizes long) (sizes_stay sizes total bytes) (λ front.
-        stays_then (with_longer more) (with_longer more) (group_count_at total front) (group_count_at long (front ++ more)) (with_count total) (with_count long) (group_count_stays total front) (λ count.
-        stays_then (with_longer more) (with_longer more) (counts_at total count.1) (counts_at long (count.1 ++ more)) (with_counts total count.0) (with_counts long count.0) (counts_stay total count.1) (λ counts.
+        stays_then (with_longer more) (with_longer more) (group_count_at sizes.points total front) (group_count_at sizes.points long (front ++ more)) (with_count total) (with_count long) (group_count_stays sizes.points total front) (λ count.
+        stays_then (with_longer more) (with_longer more) (counts_at sizes.points total count.1) (counts_at sizes.points long (count.1 ++ more)) (with_counts total count.0) (with_counts long count.0) (counts_stay sizes.points total count.1) (λ counts.
         stays_then (with_longer more) (with_longer more) (groups_at sizes.sectors total None count.0 counts.1) (groups_at sizes.sectors long None count.0 (counts.1 ++ more)) (made count.0 counts.0) (made count.0 counts.0)
         (records_stay (group_at sizes.sectors total) (group_at sizes.sectors long) (λ g. Some g) (group_stays sizes.sectors total) None count.0 counts.1) (λ groups. refl))))

@@ -1,9 +1,10 @@
 -- What the bytes behind the version 2 spell: the parts that are read are spelled so and in order, and parts in order are
 -- read again.
-use Rattle.std.proofs.Common.{◌≡◌, ℕ, ◌<◌, ◌≤◌, ◌^◌, List, [], ◌++◌, length, Some, None, Ok, refl, sym, ap, subst, ◌∙◌, append_assoc, arith}
+use Rattle.std.proofs.Common.{◌≡◌, ℕ, ◌<◌, ◌≤◌, ◌^◌, List, [], ◌++◌, length, Some, None, Ok, refl, sym, ap, subst, ◌∙◌, append_assoc}
 use Rattle.std.specs.List.{flat_map}
 use Rattle.std.proofs.lemmas.Bool.{eqb-true}
 use Rattle.std.proofs.lemmas.List.{append-nil, nil_from_length}
+use Rattle.sight_names.specs.Limits.{most_triangles}
 use Rattle.sight_names.specs.declared.names.Pair.{Pair}
 use Rattle.sight_tree.specs.Spelling.{u16}
 use Rattle.cert_format.specs.declared.cert.Sizes.{Sizes}
@@ -17,6 +18,7 @@ use Rattle.cert_format.proofs.RecordLaws.{records_take, records_again, ascends_o
 use Rattle.cert_format.proofs.KindLaws.{FitsLabelled, TriangleAfter, triangle_takes, triangle_again, PairAfter, pair_takes, pair_again, FitsPairRay, RayAfter, ray_takes, ray_again}
 use Rattle.cert_format.proofs.TreeLaws.{FitsTree, TreeAfter, tree_takes, tree_again}
 use Rattle.cert_format.proofs.CountLaws.{few_pairs, few_rays, few_trees}
+use Rattle.cert_format.proofs.LimitLaws.{small_of}
 use Rattle.cert_format.proofs.WholeLaws.{FitCounts, count_bytes, counts_again, above_carries, pair_carries, source_carries, got_back, triangles_are, sectors_are, labelled_fit, ranges_of, rays_fit, pair_rays_fit, tree_ranges, fields_fit, trees_fit}
 use Rattle.cert_groups.specs.declared.cert.CertTwo.{CertTwo}
 use Rattle.cert_groups.specs.Grammar.{IsGroupInOrder, IsTwoInOrder, grouped_sizes, group_bytes}
@@ -40,12 +42,6 @@ none_ascend i j x y lt h g = absurd cc
 
 counts_same : (k : Counts) (a b c d : ℕ) → k.triangles ≡ a → k.rays ≡ b → k.listed ≡ c → k.trees ≡ d → k ≡ record { triangles = a; rays = b; listed = c; trees = d }
 counts_same k a b c d p q r s = rw (← p, ← q, ← r, ← s) refl
-
-few_of : (n m : ℕ) → m ≡ n → n ≤ 8192 → m ≤ 8192
-few_of n m e few = omega (arith, e, few)
-
-small_of : (n : ℕ) → n ≤ 8192 → n < 2 ^ 16
-small_of n few = omega (arith, few)
 
 pub parts_take : (sizes : Sizes) (total : ℕ) (bytes : List ℕ) (p : PartsTwo) → AreSmall sizes → IsBytes bytes → parts_at sizes total bytes ≡ Ok p → AreSpelledParts sizes bytes (cert_of p)
 unfolding parts_at
@@ -76,7 +72,7 @@ parts_take sizes total bytes p small fits e =
     let whole : bytes ≡ tail_bytes sizes (cert_of made) = e6.parts ∙ ap (λ (x : List ℕ). tail_bytes sizes (cert_of made) ++ x) nothing ∙ append-nil (tail_bytes sizes (cert_of made)) in
     let above = ascends_of_chain (triangle_at own total) (λ x. Some x) triangle_bytes (FitsLabelled own) TriangleAfter (λ x y z. above_carries x.triangle y.triangle z.triangle) None t.0.0 tt'.chain in
     let cert_in_order : IsInOrder (cert_of made).cert = record {
-      few = few_of f.0.0.counts.triangles (length t.0.0) tt'.count tf.counts.triangles;
+      few = subst (λ (z : Sizes). length t.0.0 ≤ most_triangles z.points) (sym tf.own) (subst (λ (n : ℕ). n ≤ most_triangles sizes.points) (sym tt'.count) tf.counts.triangles);
       triangles = triangles_are own t.0.0 tt'.fit above;
       sectors = sectors_are own t.0.0 tt'.fit;
       rays = ranges_of own r.0.0 tr.fit;
@@ -96,7 +92,7 @@ parts_take sizes total bytes p small fits e =
       listed = tl.fit;
       listed_ascend = ascends_of_chain (pair_at sizes total) (λ x. Some x) pair_bytes (IsPairInRange sizes) PairAfter pair_carries None l.0.0 tl.chain;
     } in
-    let small_own : AreSmall (grouped_sizes sizes groups) = record { sectors = small_of (length groups) tf.in_order.few; points = small.points; lines = small.lines } in
+    let small_own : AreSmall (grouped_sizes sizes groups) = record { sectors = small_of sizes.points (length groups) tf.in_order.few; points = small.points; lines = small.lines } in
     let fits_own : AreSmall own = subst AreSmall (sym tf.own) small_own in
     subst (λ (x : PartsTwo). AreSpelledParts sizes bytes (cert_of x)) {x = made} q.1 (record {
       in_order = in_order;
@@ -123,9 +119,9 @@ parts_again sizes total c small is fits =
     let s = grouped_sizes sizes c.groups in
     let own : CertParts = record { sizes = s; triangles = c.cert.triangles; rays = c.cert.rays; listed = c.cert.listed; trees = c.cert.trees } in
     let inner : IsInOrder own = subst (λ (z : Sizes). IsInOrder (record { sizes = z; triangles = c.cert.triangles; rays = c.cert.rays; listed = c.cert.listed; trees = c.cert.trees })) is.grouped is.in_order in
-    let many : s.sectors < 2 ^ 16 = small_of (length c.groups) is.few in
+    let many : s.sectors < 2 ^ 16 = small_of sizes.points (length c.groups) is.few in
     let counts : Counts = record { triangles = length c.cert.triangles; rays = length c.cert.rays; listed = length c.listed; trees = length c.cert.trees } in
-    let fit_counts : FitCounts counts = record { triangles = inner.few; rays = few_rays s c.cert.rays many inner.rays inner.rays_ascend; listed = few_pairs sizes c.listed small.sectors is.listed is.listed_ascend; trees = few_trees s c.cert.trees many inner.trees inner.trees_ascend } in
+    let fit_counts : FitCounts sizes.points counts = record { triangles = inner.few; rays = few_rays s c.cert.rays many inner.rays inner.rays_ascend; listed = few_pairs sizes c.listed small.sectors is.listed is.listed_ascend; trees = few_trees s c.cert.trees many inner.trees inner.trees_ascend } in
     let sb = u16 sizes.sectors ++ u16 sizes.points ++ u16 sizes.lines in
     let gs = flat_map group_bytes c.groups in
     let ts = flat_map triangle_bytes c.cert.triangles in
@@ -149,8 +145,8 @@ parts_again sizes total c small is fits =
     ap (parts_at sizes total) regrouped
     ∙ rw (
       sizes_again sizes small total (u16 (length c.groups) ++ (count_bytes counts ++ (gs ++ (ts ++ (rs ++ (ps ++ (ds ++ []))))))),
-      group_count_again total (length c.groups) (count_bytes counts ++ (gs ++ (ts ++ (rs ++ (ps ++ (ds ++ [])))))) is.few,
-      counts_again total counts (gs ++ (ts ++ (rs ++ (ps ++ (ds ++ []))))) fit_counts,
+      group_count_again sizes.points total (length c.groups) (count_bytes counts ++ (gs ++ (ts ++ (rs ++ (ps ++ (ds ++ [])))))) is.few,
+      counts_again sizes.points total counts (gs ++ (ts ++ (rs ++ (ps ++ (ds ++ []))))) fit_counts,
       g,
       t,
       r,

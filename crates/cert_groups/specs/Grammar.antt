@@ -1,6 +1,7 @@
 -- The grammar of version 2: ranges, orders, and the one spelling; and of either version.
 use Rattle.std.specs.Prelude.{◌≡◌, ◌≢◌, ℕ, ◌<◌, ◌≤◌, ◌^◌, List, [], ◌++◌, length, flat_map, codes}
 use Rattle.std.specs.List.{AllByRecursion}
+use Rattle.sight_names.specs.Limits.{most_triangles}
 use Rattle.sight_names.specs.Order.{Ascends, PairBefore}
 use Rattle.sight_names.specs.Groups.{AscendStrictly, ListBefore}
 use Rattle.sight_tree.specs.Spelling.{u16}
@@ -18,10 +19,10 @@ pub record IsGroupInOrder (sectors : ℕ) (group : List ℕ) : Type 0 where
   pub below : AllByRecursion (λ a. a < sectors) group
   pub ascend : AscendStrictly group
 
--- so many groups can be counted, each is in order, and each comes before the next
-pub record AreGroupsInOrder (sectors : ℕ) (groups : List (List ℕ)) : Type 0 where
-  pub few : length groups ≤ 8192
-  pub each : AllByRecursion (IsGroupInOrder sectors) groups
+-- a certificate for a map of these sizes may have so many groups, each is in order, and each comes before the next
+pub record AreGroupsInOrder (sizes : Sizes) (groups : List (List ℕ)) : Type 0 where
+  pub few : length groups ≤ most_triangles sizes.points
+  pub each : AllByRecursion (IsGroupInOrder sizes.sectors) groups
   pub ascend : Ascends ListBefore groups
 
 -- the map's sizes with the groups as sectors
@@ -30,7 +31,7 @@ grouped_sizes sizes groups = record { sectors = length groups; points = sizes.po
 
 -- the ranges and orders of a certificate of version 2, for a map of these sizes
 pub record IsTwoInOrder (sizes : Sizes) (c : CertTwo) : Type 0 where
-  pub few : length c.groups ≤ 8192
+  pub few : length c.groups ≤ most_triangles sizes.points
   pub groups : AllByRecursion (IsGroupInOrder sizes.sectors) c.groups
   pub groups_ascend : Ascends ListBefore c.groups
   -- the rest is as in version 1, with groups in the place of sectors

@@ -3,6 +3,7 @@ use Rattle.std.specs.Prelude.{ℕ, ◌-◌, List, [], length, slice_get, Option,
 use Rattle.std.specs.Int.{w16}
 use Rattle.std.specs.Ordering.{nat_cmp, is_lt}
 use Rattle.std.specs.Cmp.Lexicographic.{slice_cmp}
+use Rattle.sight_names.specs.Limits.{most_triangles}
 use Rattle.sight_names.specs.declared.faults.CertFault.{CertFault}
 use Rattle.sight_names.specs.declared.faults.CertFault.TheVariants as faults
 use Rattle.sight_names.specs.declared.names.Pair.{Pair}
@@ -25,11 +26,11 @@ version_at total bytes = do
   v ← number_at w16 total m
   passed (v.0 == 1 || v.0 == 2) faults.BadVersion v
 
--- how many groups there are
-unfoldable pub group_count_at : ℕ → List ℕ → Result (ℕ × List ℕ) CertFault
-group_count_at total bytes = do
+-- how many groups there are, at most as many as triangles between so many points
+unfoldable pub group_count_at : ℕ → ℕ → List ℕ → Result (ℕ × List ℕ) CertFault
+group_count_at points total bytes = do
   n ← number_at w16 total bytes
-  passed (not (nat_lt 8192 n.0)) (faults.OutOfRange (begins_at total bytes)) n
+  passed (not (nat_lt (most_triangles points) n.0)) (faults.OutOfRange (begins_at total bytes)) n
 
 -- how many sectors a group has
 unfoldable pub size_at : ℕ → List ℕ → Result (ℕ × List ℕ) CertFault
@@ -79,8 +80,8 @@ sizes_at sizes total bytes = do
 unfoldable pub front_two_at : Sizes → ℕ → List ℕ → Result (FrontTwo × List ℕ) CertFault
 front_two_at sizes total bytes = do
   front ← sizes_at sizes total bytes
-  count ← group_count_at total front
-  counts ← counts_at total count.1
+  count ← group_count_at sizes.points total front
+  counts ← counts_at sizes.points total count.1
   groups ← groups_at sizes.sectors total None count.0 counts.1
   Ok (
     record {

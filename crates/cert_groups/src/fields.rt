@@ -6,6 +6,7 @@ ghost use Rattle.cert_format.specs.Reading.{GivesExactly};
 ghost use Rattle.cert_groups.specs.Reading.{version_at, group_count_at, size_at, sector_at};
 
 use cert_format::fields::{place, u16_at, u16_below, u32_at};
+use cert_format::most_triangles;
 use cert_format::reading::MAGIC;
 use sight_names::CertFault;
 
@@ -26,13 +27,13 @@ pub fn version_of(total: usize, bytes: &[u8]) -> Result<(u16, &[u8]), CertFault>
     }
 }
 
-/// How many groups there are, at most 8,192.
+/// How many groups there are, at most as many as triangles between so many points.
 #[tactic(auto, unfolding(crate::specs::Reading::group_count_at))]
-pub fn group_count(total: usize, bytes: &[u8]) -> Result<(u16, &[u8]), CertFault>
-    ensures { GivesExactly (λ x. (x.0, x.1.now)) result (group_count_at total bytes.now) }
+pub fn group_count(points: u16, total: usize, bytes: &[u8]) -> Result<(u16, &[u8]), CertFault>
+    ensures { GivesExactly (λ x. (x.0, x.1.now)) result (group_count_at points total bytes.now) }
 {
     let (number, rest) = u16_at(total, bytes)?;
-    if number <= 8192 {
+    if number as usize <= most_triangles(points) {
         Ok((number, rest))
     } else {
         Err(CertFault::OutOfRange {

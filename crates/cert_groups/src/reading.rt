@@ -51,8 +51,8 @@ pub fn front_two_of(
     ensures exact { Gives (λ x. (x.0, x.1.now)) result (front_two_at sizes total bytes.now) }
 {
     let rest = behind_sizes(sizes, total, bytes)?;
-    let (count, rest) = group_count(total, rest)?;
-    let (counts, rest) = counts_of(total, rest)?;
+    let (count, rest) = group_count(sizes.points, total, rest)?;
+    let (counts, rest) = counts_of(sizes.points, total, rest)?;
     let (groups, rest) = groups_of(alloc, sizes.sectors, total, count, rest)?;
     let grouped = Sizes {
         sectors: count,

@@ -1,5 +1,6 @@
 -- How far a certificate is judged: its triangles come, or they have come.
 use Rattle.std.specs.Prelude.{◌≡◌, ℕ, ◌<◌, ◌≤◌, List, [], Option, Some, None, length, true, false, All}
+use Rattle.sight_names.specs.Limits.{most_triangles}
 use Rattle.sight_names.specs.declared.names.PairRay.{PairRay}
 use Rattle.sight_names.specs.Mesh.{AreTriangles}
 use Rattle.sight_names.specs.Plan.{PlanParts}
@@ -15,7 +16,7 @@ use Rattle.cert_judge.specs.Version.{Groups}
 -- triangles between so many points, in order and few enough
 pub record AreInOrder (points : ℕ) (labelled : List Labelled) : Type 0 where
   pub triangles : AreTriangles points (triangles_in labelled)
-  pub few : length labelled ≤ 8192
+  pub few : length labelled ≤ most_triangles points
 
 -- each triangle is labelled with one of so many groups
 abbrev pub AreLabelledBelow : ℕ → List Labelled → Type 0
@@ -24,7 +25,7 @@ AreLabelledBelow count labelled = All (λ (one : Labelled). one.sector < count) 
 -- a certificate may have these triangles and groups
 abbrev pub AreFit : ℕ → Groups → List Labelled → Type 0
 AreFit points None labelled = AreInOrder points labelled
-AreFit points (Some groups) labelled = AreInOrder points labelled × (length groups ≤ 8192) × AreLabelledBelow (length groups) labelled
+AreFit points (Some groups) labelled = AreInOrder points labelled × (length groups ≤ most_triangles points) × AreLabelledBelow (length groups) labelled
 
 -- the triangles have come: no certificate has them, or they break a rule of a good mesh or of its groups, or they keep all
 abbrev pub IsClosed : PlanParts → Groups → List Labelled → List PairRay → List Tree → Option Tree → Stage → Type 0

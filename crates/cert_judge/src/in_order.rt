@@ -1,12 +1,13 @@
 //! Whether triangles may be those of a certificate.
 
 ghost use Rattle.std.specs.Prelude.{◌<◌, ◌≤◌, ◌↔◌, IsTrue, length};
+ghost use Rattle.sight_names.specs.Limits.{most_triangles};
 ghost use Rattle.sight_names.specs.Mesh.{IsTriangle, IsAbove};
 ghost use Rattle.cert_checker.specs.Apart.{triangles_in};
 ghost use Rattle.cert_judge.specs.InOrder.{IsNextAt};
 ghost use Rattle.cert_judge.specs.Stage.{AreInOrder, AreLabelledBelow};
 
-use cert_format::Labelled;
+use cert_format::{Labelled, most_triangles};
 use sight_names::Triangle;
 
 /// Whether the numbers are three different ones below that of the points, the least first.
@@ -41,17 +42,18 @@ pub fn are_in_order(points: u16, labelled: &[Labelled]) -> bool
             return false;
         }
     }
-    labelled.len() <= 8192
+    labelled.len() <= most_triangles(points)
 }
 
-/// Whether each triangle is labelled with one of so many groups, which a certificate may have.
-pub fn are_labelled_below(groups: usize, labelled: &[Labelled]) -> bool
-    ensures { IsTrue result ↔ ((groups ≤ 8192) × AreLabelledBelow groups labelled.now) }
+/// Whether each triangle is labelled with one of so many groups, as many as a certificate for a map of so many points
+/// may have.
+pub fn are_labelled_below(points: u16, groups: usize, labelled: &[Labelled]) -> bool
+    ensures { IsTrue result ↔ ((groups ≤ most_triangles points) × AreLabelledBelow groups labelled.now) }
 {
     for one in labelled {
         if one.sector as usize >= groups {
             return false;
         }
     }
-    groups <= 8192
+    groups <= most_triangles(points)
 }

@@ -57,7 +57,7 @@ fn grouped_stage(
     ensures { IfOk result (IsClosed plan.now (Some groups.now) labelled.now [] [] None) }
 {
     let points = plan.points().len() as u16;
-    if !are_in_order(points, labelled) || !are_labelled_below(groups.len(), labelled) {
+    if !are_in_order(points, labelled) || !are_labelled_below(points, groups.len(), labelled) {
         return Ok(Stage::Lost);
     }
     match judge_mesh(alloc, plan, labelled, groups)? {

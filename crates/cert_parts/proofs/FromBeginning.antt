@@ -108,8 +108,8 @@ module _ (sizes : Sizes) (n : ℕ) where
   by_counts (Ok k) = by_kinds k
   by_counts (Err f) = refl
 
-  by_front : (r : Result (List ℕ) CertFault) → ((r >>= λ f. counts_at n f) >>= λ k. triangles_left (all_awaited sizes k.0) n k.1) ≡ told (r >>= λ f. counts_at n f >>= counted)
-  by_front (Ok f) = by_counts (counts_at n f)
+  by_front : (r : Result (List ℕ) CertFault) → ((r >>= λ f. counts_at sizes.points n f) >>= λ k. triangles_left (all_awaited sizes k.0) n k.1) ≡ told (r >>= λ f. counts_at sizes.points n f >>= counted)
+  by_front (Ok f) = by_counts (counts_at sizes.points n f)
   by_front (Err f) = refl
 
 pub from_the_beginning : (s : ReaderState) (sizes : Sizes) (bytes : List ℕ) → s.awaited ≡ none_read sizes → s.given ≡ 0 → s.kept ≡ [] → parts_left s bytes ≡ reading_parts sizes bytes

@@ -1,6 +1,7 @@
 -- The header is a whole record.
 use Rattle.std.proofs.Common.{◌≡◌, ℕ, ◌+◌, Bool, true, false, ltb, not, ◌==◌, List, ◌++◌, length, Result, Ok, Err, refl, sym, ap, ◌∙◌}
 use Rattle.std.specs.Int.{Width, w16, w32, byte_len}
+use Rattle.sight_names.specs.Limits.{most_triangles}
 use Rattle.sight_names.specs.declared.faults.CertFault.{CertFault}
 use Rattle.sight_names.specs.declared.faults.CertFault.TheVariants as faults
 use Rattle.cert_format.specs.declared.cert.Sizes.{Sizes}
@@ -140,16 +141,16 @@ two_then triangles rays = whole_then (λ start total bytes. number_at w32 total 
 one_then : (triangles : ℕ) → IsWhole (with_one triangles) 12
 one_then triangles = whole_then (λ start total bytes. number_at w32 total bytes) (with_two triangles) 4 8 (whole_number w32) (two_then triangles)
 
-triangle_count_whole : IsWhole (λ start total bytes. triangle_count_at total bytes) 4
+triangle_count_whole : (points : ℕ) → IsWhole (λ start total bytes. triangle_count_at points total bytes) 4
 unfolding triangle_count_at
-triangle_count_whole = whole_field w32 (λ n. not (ltb 8192 n)) (λ at. faults.OutOfRange at) (λ n. n)
+triangle_count_whole points = whole_field w32 (λ n. not (ltb (most_triangles points) n)) (λ at. faults.OutOfRange at) (λ n. n)
 
-counts_whole : IsWhole (λ start total bytes. counts_at total bytes) 16
+counts_whole : (points : ℕ) → IsWhole (λ start total bytes. counts_at points total bytes) 16
 unfolding counts_at
-counts_whole = whole_then (λ start total bytes. triangle_count_at total bytes) with_one 4 12 triangle_count_whole one_then
+counts_whole points = whole_then (λ start total bytes. triangle_count_at points total bytes) with_one 4 12 (triangle_count_whole points) one_then
 
 -- ---- both
 
 pub header_whole : (sizes : Sizes) → IsWhole (λ start total bytes. header_at sizes total bytes) 28
 unfolding header_at
-header_whole sizes = known_then (front_at sizes) counts_at 12 16 (front_known sizes) counts_whole
+header_whole sizes = known_then (front_at sizes) (counts_at sizes.points) 12 16 (front_known sizes) (counts_whole sizes.points)

@@ -24,7 +24,7 @@ pub record IsBegun (sizes : Sizes) (bytes : List ℕ) (groups : Option (List (Li
   -- whatever bytes come behind
   pub parts : (more : List ℕ) → reading_any_parts sizes (bytes ++ more) ≡ parts_from groups reader (rest ++ more)
   pub given : reader.given + length rest ≡ length bytes
-  pub in_order : IfSome groups (λ gs. AreGroupsInOrder sizes.sectors gs)
+  pub in_order : IfSome groups (λ gs. AreGroupsInOrder sizes gs)
 
 -- what is told of these bytes: that alone they are cut, or what they begin with
 abbrev pub BeginsAs : Sizes → List ℕ → Beginning → Type 0

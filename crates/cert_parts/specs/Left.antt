@@ -46,7 +46,7 @@ triangles_left a total bytes = do
 unfoldable pub header_at : Sizes → ℕ → List ℕ → Result (Counts × List ℕ) CertFault
 header_at sizes total bytes = do
   front ← front_at sizes total bytes
-  counts_at total front
+  counts_at sizes.points total front
 
 -- behind a header with these counts all their records are awaited
 abbrev pub all_awaited : Sizes → Counts → Awaited

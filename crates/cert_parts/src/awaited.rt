@@ -140,7 +140,7 @@ impl Awaited {
         ensures err { OnErr result (self.new ≡ self.old) }
     {
         let rest = front_of(self.sizes, total, bytes)?;
-        let (counts, rest) = counts_of(total, rest)?;
+        let (counts, rest) = counts_of(self.sizes.points, total, rest)?;
         *self = Awaited {
             sizes: self.sizes,
             map_sizes: self.sizes,

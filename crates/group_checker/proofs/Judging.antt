@@ -2,6 +2,7 @@
 use Rattle.std.proofs.Common.{◌≡◌, ℕ, ◌<◌, ◌≤◌, inl, inr, List, [], Some, length, get_or, Bool, Contains, sym, ◌∙◌, ap, subst, arith}
 use Rattle.std.specs.List.{slice_get}
 use Rattle.std.proofs.lemmas.Option.{slice_get_within, slice_get-get_or}
+use Rattle.sight_names.specs.declared.limits.TheConstants.{MOST_TRIANGLES}
 use Rattle.sight_names.specs.declared.faults.CheckFault.{CheckFault}
 use Rattle.sight_names.specs.declared.faults.CheckFault.TheVariants.{Mesh, Ray, Tree as OfTree, ListedSet, Unproved, Uncovered}
 use Rattle.sight_names.specs.declared.names.Pair.{Pair}
@@ -14,6 +15,7 @@ use Rattle.tri_sectors.specs.Components.{AreComponents}
 use Rattle.cert_format.specs.Accepted.{EitherSet, EitherClear}
 use Rattle.cert_format.specs.Grammar.{IsPairInRange, IsRayInRange}
 use Rattle.cert_format.specs.declared.cert.Sizes.{Sizes}
+use Rattle.cert_format.proofs.LimitLaws.{few_of}
 use Rattle.cert_groups.specs.declared.cert.CertTwo.{CertTwo}
 use Rattle.tree_judge.specs.Trees.{TellsReach}
 use Rattle.accepted_groups.specs.Accepted.{IsPairOfList, AreGroupsApart, AreGroupsJoined, IsGroupedBlind, IsGroupedSeen}
@@ -39,8 +41,8 @@ ray_within n c two count e rays same i r at =
     let w : IsRayInRange c.cert.sizes r = each_at (IsRayInRange c.cert.sizes) c.cert.rays i r two.1.in_order.rays (subst (λ (rs : List PairRay). slice_get rs i ≡ Some r) same at) in
     subst (λ (x : ℕ). IsWithin x r.pair) (ap (λ (s : Sizes). s.sectors) two.1.grouped ∙ sym e) w.0
 
-pub few_are : (n : ℕ) (c : CertTwo) → IsTwoOf n c → (groups : List (List ℕ)) → groups ≡ c.groups → length groups ≤ 8192
-few_are n c two groups same = let few = two.1.few in let e : length groups ≡ length c.groups = ap length same in omega (arith, few, e)
+pub few_are : (n : ℕ) (c : CertTwo) → IsTwoOf n c → (groups : List (List ℕ)) → groups ≡ c.groups → length groups ≤ MOST_TRIANGLES
+few_are n c two groups same = subst (λ (gs : List (List ℕ)). length gs ≤ MOST_TRIANGLES) (sym same) (few_of two.0.points (length c.groups) two.1.few)
 
 pub members_moved : (n : ℕ) (groups given lists moved : List (List ℕ)) → given ≡ groups → moved ≡ lists → AreMembers given n lists → AreMembers groups n moved
 members_moved n groups given lists moved e f h = subst (λ (xs : List (List ℕ)). AreMembers groups n xs) (sym f) (subst (λ (gs : List (List ℕ)). AreMembers gs n lists) e h)

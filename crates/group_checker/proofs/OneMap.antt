@@ -1,8 +1,9 @@
 -- What the ranges and orders of a certificate of version 2 give, and its one map of groups.
-use Rattle.std.proofs.Common.{◌≡◌, ℕ, zero, suc, ◌<◌, List, [], ◌∷◌, Option, Some, length, get_or, refl, sym, ◌∙◌, ap, subst, arith, zero-lt-suc, suc-le-suc, le_of_suc-le-suc}
+use Rattle.std.proofs.Common.{◌≡◌, ℕ, zero, suc, ◌<◌, ◌≤◌, List, [], ◌∷◌, Option, Some, length, get_or, refl, sym, ◌∙◌, ap, subst, arith, zero-lt-suc, suc-le-suc, le_of_suc-le-suc}
 use Rattle.std.specs.List.{slice_get, All, AllByRecursion}
 use Rattle.std.proofs.lemmas.Option.{none-some, same_Some, slice_get-get_or}
 use Rattle.list_base.proofs.Lists.{all_at, all_of}
+use Rattle.sight_names.specs.declared.limits.TheConstants.{MOST_TRIANGLES}
 use Rattle.sight_names.specs.declared.names.Triangle.{Triangle}
 use Rattle.sight_names.specs.Plan.{PlanParts, IsPlan}
 use Rattle.sight_names.specs.Map.{Map, map_of}
@@ -12,6 +13,7 @@ use Rattle.mesh_base.proofs.GoodMesh.{PointFacts}
 use Rattle.cert_format.specs.declared.cert.Sizes.{Sizes}
 use Rattle.cert_format.specs.declared.cert.Labelled.{Labelled}
 use Rattle.cert_format.specs.Accepted.{triangles_of, labels_of}
+use Rattle.cert_format.proofs.LimitLaws.{few_of}
 use Rattle.cert_groups.specs.declared.cert.CertTwo.{CertTwo}
 use Rattle.groups_base.specs.Table.{IsTableFor, NamesTheLabels, NamedAreLabelled}
 use Rattle.groups_base.proofs.CheckedGroups.{table_has_groups, table_has_grouped}
@@ -84,6 +86,13 @@ pub triangles_between : (p : PlanParts) (c : CertTwo) → IsTwoFor p c → (xs :
 triangles_between p c two xs same =
     subst (λ (n : ℕ). AreTriangles n (triangles_in xs)) (ap (λ (s : Sizes). s.points) two.in_order.grouped ∙ two.points)
     (subst (λ (ls : List Labelled). AreTriangles c.cert.sizes.points (triangles_in ls)) (sym same) two.in_order.in_order.triangles)
+
+pub few_triangles : (p : PlanParts) (c : CertTwo) → IsTwoFor p c → (xs : List Labelled) → xs ≡ c.cert.triangles → length xs ≤ MOST_TRIANGLES
+few_triangles p c two xs same =
+    subst (λ (ls : List Labelled). length ls ≤ MOST_TRIANGLES) (sym same) (few_of c.cert.sizes.points (length c.cert.triangles) two.in_order.in_order.few)
+
+pub few_groups : (p : PlanParts) (c : CertTwo) → IsTwoFor p c → (groups : List (List ℕ)) → groups ≡ c.groups → length groups ≤ MOST_TRIANGLES
+few_groups p c two groups same = subst (λ (gs : List (List ℕ)). length gs ≤ MOST_TRIANGLES) (sym same) (few_of two.sizes.points (length c.groups) two.in_order.few)
 
 pub labels_two : (p : PlanParts) (c : CertTwo) → IsTwoFor p c → AreGroupLabels (length c.groups) (triangles_of c.cert) (labels_of c.cert)
 labels_two p c two = labels_are (length c.groups) c.cert.triangles (sectors_are p c two)

@@ -17,7 +17,7 @@ use cert_checker::mesh_over;
 use cert_format::Labelled;
 use face_groups::{Group, regrouped_map};
 use mesh_shape::{Labels, Mesh, mesh_fault};
-use sight_names::{CheckFault, Memory, Plan};
+use sight_names::{CheckFault, MOST_TRIANGLES, Memory, Plan};
 use std::alloc::Global;
 
 /// The map of groups, a good mesh of it, and the groups of the triangles.
@@ -46,7 +46,7 @@ fn judge_sided(
 ) -> Result<MeshVerdict, Memory>
     requires plan { IsPlan plan.now }
     requires points { mesh.points ≡ length plan.now.points }
-    requires few { length groups.now ≤ 8192 }
+    requires few { length groups.now ≤ MOST_TRIANGLES }
     requires labels { AreGroupLabels (length groups.now) mesh.triangles labels }
     requires sides { (s : SideOf) → HasTriangleAt (map_of plan.now) mesh.triangles s }
     ensures { IfOk result (TellsGrouping plan.now mesh.triangles labels groups.now) }
@@ -75,8 +75,8 @@ pub fn judge_mesh(
     groups: &[Group],
 ) -> Result<MeshVerdict, Memory>
     requires triangles { AreTriangles (length plan.now.points) (triangles_in labelled.now) }
-    requires few { length labelled.now ≤ 8192 }
-    requires few_groups { length groups.now ≤ 8192 }
+    requires few { length labelled.now ≤ MOST_TRIANGLES }
+    requires few_groups { length groups.now ≤ MOST_TRIANGLES }
     requires sectors { All (λ one. one.sector < length groups.now) labelled.now }
     ensures { IfOk result (TellsGrouping plan.now (triangles_in labelled.now) (labels_in labelled.now) groups.now) }
 {

@@ -10,7 +10,7 @@ ghost use Rattle.group_checker.specs.Lists.{AreGroupLabels, HasItsList, IsGroupF
 use crate::verdict::AnyFault;
 use face_groups::{Group, ShortList, faces};
 use mesh_shape::{Labels, Mesh};
-use sight_names::{Memory, Plan};
+use sight_names::{MOST_TRIANGLES, Memory, Plan};
 use std::alloc::Global;
 use tree_judge::{mark, unmarked};
 
@@ -44,7 +44,7 @@ fn is_group_of(groups: &[Group], label: Option<u16>, names: &[u16]) -> bool
 /// The least triangle whose label's group isn't the list that it has here.
 fn first_other_list(groups: &[Group], labels: &Labels, lists: &[ShortList]) -> Option<u16>
     requires len { length lists.now ≡ length labels.now }
-    requires few { length lists.now ≤ 8192 }
+    requires few { length lists.now ≤ MOST_TRIANGLES }
     ensures { IsSearch (HasItsList groups.now labels.now lists.now) result }
 {
     for (k, names) in lists.iter().enumerate() {
@@ -114,7 +114,7 @@ pub fn group_fault(
     mesh: &Mesh,
     labels: &Labels,
 ) -> Result<Option<AnyFault>, Memory>
-    requires few { length groups.now ≤ 8192 }
+    requires few { length groups.now ≤ MOST_TRIANGLES }
     requires labels { AreGroupLabels (length groups.now) mesh.now.triangles labels.now }
     requires plain { IsPlainMesh (map_of plan.now) mesh.now.triangles }
     ensures { IfOk result (IsGroupFault (map_of plan.now) mesh.now.triangles groups.now labels.now) }

@@ -4,7 +4,7 @@ ghost use Rattle.std.specs.Prelude.{◌≡◌, ◌≤◌, ◌↔◌, Contains, I
 ghost use Rattle.group_checker.specs.Members.{added, AreGroupsWith, AreMembers};
 
 use face_groups::Group;
-use sight_names::{Items, Memory};
+use sight_names::{Items, MOST_TRIANGLES, Memory};
 use std::alloc::Global;
 
 /// Whether the group contains the sector.
@@ -26,7 +26,7 @@ fn add_place(places: &mut Vec<u16>, place: u16, contains: bool) -> Result<(), Me
 
 /// The places of the groups that contain the sector.
 fn groups_with(alloc: Global, groups: &[Group], sector: u16) -> Result<Vec<u16>, Memory>
-    requires { length groups.now ≤ 8192 }
+    requires { length groups.now ≤ MOST_TRIANGLES }
     ensures { IfOk result (λ v. AreGroupsWith groups.now sector v.items) }
 {
     let mut places = Vec::new(alloc);
@@ -38,7 +38,7 @@ fn groups_with(alloc: Global, groups: &[Group], sector: u16) -> Result<Vec<u16>,
 
 /// For each of so many sectors the places of the groups that contain it.
 pub fn members_of(alloc: Global, groups: &[Group], sectors: u16) -> Result<Vec<Group>, Memory>
-    requires { length groups.now ≤ 8192 }
+    requires { length groups.now ≤ MOST_TRIANGLES }
     ensures { IfOk result (λ v. AreMembers groups.now sectors v.items) }
 {
     let mut members = Vec::new(alloc);

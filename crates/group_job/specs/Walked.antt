@@ -2,6 +2,7 @@
 use Rattle.std.specs.Prelude.{◌≡◌, ℕ, ◌≤◌, List, [], length}
 use Rattle.sight_names.specs.declared.names.Ask.{Ask}
 use Rattle.sight_names.specs.declared.names.Ask.TheVariants.{Enough, Full}
+use Rattle.sight_names.specs.Limits.{most_triangles}
 use Rattle.sight_names.specs.Plan.{PlanParts, IsPlan}
 use Rattle.sight_names.specs.Map.{map_of}
 use Rattle.sight_names.specs.Sound.{LinesMeetAtEnds}
@@ -19,7 +20,7 @@ pub record AreWalkedGroups (p gp : PlanParts) (ask : Ask) (groups : List (List �
   pub are : AreGroups (map_of p) groups
   pub is : IsGroupedMap (map_of p) groups (map_of gp)
   pub ends : LinesMeetAtEnds (map_of gp)
-  pub few : length groups ≤ 8192
+  pub few : length groups ≤ most_triangles (length p.points)
   pub points : gp.points ≡ p.points
   pub sectors : b.table.n ≡ gp.sectors
   pub sizes : b.cert.sizes ≡ sizes_of gp

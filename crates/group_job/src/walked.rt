@@ -42,7 +42,6 @@ pub fn walk_groups<R: Threads + Sync, G: Gate + Sync>(
 {
     let _ = plan.lines();
     let mesh = triangles_of(alloc, plan)?;
-    let _ = mesh.triangles();
     let Grouped {
         groups,
         plan: grouped,

@@ -5,6 +5,7 @@ use Rattle.std.specs.List.{AllByRecursion}
 use Rattle.std.specs.List.Sorted.{IsStrictlyIncreasing}
 use Rattle.std.proofs.lemmas.List.Elements.{recursion_from_All, Contains-get_or}
 use Rattle.std.proofs.lemmas.Option.{slice_get-get_or, slice_get_within, get_or_from_slice_get, same_Some}
+use Rattle.sight_names.specs.Limits.{most_triangles}
 use Rattle.sight_names.specs.Order.{Ascends}
 use Rattle.sight_names.specs.declared.names.Budget.{Budget}
 use Rattle.sight_names.specs.declared.names.Memory.{Memory}
@@ -187,7 +188,7 @@ trees_ascend p rs are = trees_rise rs
 
 -- ---- the certificate
 
-pub cert_in_order : (p : PlanParts) → IsPlan p → (budget : Budget) (v : Verdicts) → AreVerdicts p budget v → (triangles : List Labelled) → length triangles ≤ 8192 → AreTriangles (length p.points) (map (λ (l : Labelled). l.triangle) triangles) → AllByRecursion (λ (l : Labelled). l.sector < p.sectors) triangles
+pub cert_in_order : (p : PlanParts) → IsPlan p → (budget : Budget) (v : Verdicts) → AreVerdicts p budget v → (triangles : List Labelled) → length triangles ≤ most_triangles (length p.points) → AreTriangles (length p.points) (map (λ (l : Labelled). l.triangle) triangles) → AllByRecursion (λ (l : Labelled). l.sector < p.sectors) triangles
     → IsInOrder (record { sizes = sizes_of p; triangles = triangles; rays = v.rays; listed = v.listed; trees = v.trees })
 cert_in_order p plan budget v are triangles few ascend below = record {
   few = few;

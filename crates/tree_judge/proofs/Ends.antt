@@ -4,6 +4,7 @@ use Rattle.std.specs.List.{AllByRecursion, filter_map, slice_get}
 use Rattle.std.specs.Prelude.{IsSome}
 use Rattle.std.proofs.Common.{set}
 use Rattle.std.proofs.lemmas.List.{take_more, take_more_set, map-append}
+use Rattle.sight_names.specs.declared.limits.TheConstants.{RIGHT_END}
 use Rattle.sight_names.specs.declared.names.EndAt.{EndAt}
 use Rattle.std.proofs.lemmas.Option.{slice_get-map, slice_get-get_or}
 use Rattle.std.proofs.Common.{◌%◌, min, inl, inr}
@@ -45,16 +46,16 @@ found_more es codes ends i x l h e f = ap (map Some) (take_more_set ends i x h) 
 at_code : (path : List Frame) (k : ℕ) (f : Frame) → k < length path → f ≡ get_or path k f → slice_get (path_ends path) k ≡ Some (portal_ends f)
 at_code path k f l e = slice_get-map portal_ends path k ∙ ap (λ (o : Option Frame). option_map portal_ends o) (slice_get-get_or path k f l ∙ ap Some (sym e))
 
-pub left_of : (path : List Frame) (code : ℕ) (f : Frame) → code < 32768 → code % 32768 < length path → f ≡ get_or path (code % 32768) f → ◌≡◌ {A = Option EndAt} (Some (record { code = code; at = f.left })) (end_of (path_ends path) code)
-left_of path code f few l e = sym (left_end (path_ends path) code (portal_ends f) few (subst (λ (k : ℕ). slice_get (path_ends path) k ≡ Some (portal_ends f)) same (at_code path (code % 32768) f l e)))
+pub left_of : (path : List Frame) (code : ℕ) (f : Frame) → code < RIGHT_END → code % RIGHT_END < length path → f ≡ get_or path (code % RIGHT_END) f → ◌≡◌ {A = Option EndAt} (Some (record { code = code; at = f.left })) (end_of (path_ends path) code)
+left_of path code f few l e = sym (left_end (path_ends path) code (portal_ends f) few (subst (λ (k : ℕ). slice_get (path_ends path) k ≡ Some (portal_ends f)) same (at_code path (code % RIGHT_END) f l e)))
   where
-    same : code % 32768 ≡ code
+    same : code % RIGHT_END ≡ code
     same = omega arith
 
-pub right_of : (path : List Frame) (code : ℕ) (f : Frame) → 32768 ≤ code → code < 65536 → code % 32768 < length path → f ≡ get_or path (code % 32768) f → ◌≡◌ {A = Option EndAt} (Some (record { code = code; at = f.right })) (end_of (path_ends path) code)
-right_of path code f many few l e = subst (λ (n : ℕ). ◌≡◌ {A = Option EndAt} (Some (record { code = n; at = f.right })) (end_of (path_ends path) n)) same (sym (right_end (path_ends path) (code % 32768) (portal_ends f) (at_code path (code % 32768) f l e)))
+pub right_of : (path : List Frame) (code : ℕ) (f : Frame) → RIGHT_END ≤ code → code < 65536 → code % RIGHT_END < length path → f ≡ get_or path (code % RIGHT_END) f → ◌≡◌ {A = Option EndAt} (Some (record { code = code; at = f.right })) (end_of (path_ends path) code)
+right_of path code f many few l e = subst (λ (n : ℕ). ◌≡◌ {A = Option EndAt} (Some (record { code = n; at = f.right })) (end_of (path_ends path) n)) same (sym (right_end (path_ends path) (code % RIGHT_END) (portal_ends f) (at_code path (code % RIGHT_END) f l e)))
   where
-    same : 32768 + code % 32768 ≡ code
+    same : RIGHT_END + code % RIGHT_END ≡ code
     same = omega arith
 
 -- ---- all codes

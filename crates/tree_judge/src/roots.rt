@@ -13,7 +13,7 @@ use std::alloc::Global;
 /// A half-edge out of a source, and the place of the source's next root.
 #[derive(Clone, Copy)]
 pub struct Root {
-    pub edge: u16,
+    pub edge: u32,
     pub next: Option<usize>,
 }
 
@@ -29,7 +29,7 @@ fn put(
     roots: &mut Vec<Root>,
     first: &mut [Option<usize>],
     source: u16,
-    number: u16,
+    number: u32,
 ) -> Result<(), Memory>
     ensures { IfOk result (λ _. PutsFirst source number roots.old.items first.old roots.new.items first.new) }
 {

@@ -13,21 +13,20 @@ use crate::roots::Roots;
 use block_evidence::{Evidence, are_stuck, stuck};
 use half_edges::{HalfEdge, HalfEdges};
 use reject_bits::Table;
-use sight_names::{EndAt, Memory, Pt};
+use sight_names::{EndAt, Memory, Pt, RIGHT_END};
 use sight_tree::{Node, Tree};
 use std::alloc::Global;
 
 const ORIGIN: Pt = Pt { x: 0, y: 0 };
 
 /// The least code of a right end.
-const RIGHT: u16 = 32_768;
 
 /// A portal on the way to the present node: its ends, and the right way behind it as long as that is still to come.
 #[derive(Clone, Copy)]
 pub struct Frame {
     left: Pt,
     right: Pt,
-    right_way: Option<u16>,
+    right_way: Option<u32>,
 }
 
 /// The mesh as a walk needs it.
@@ -94,7 +93,7 @@ fn taken(frame: Frame) -> Frame
 
 /// The next right way on the way back along the first portals of the path, and how many it stands behind.
 #[inline(always)]
-fn back(edges: &HalfEdges, source: u16, path: &mut [Frame], count: usize) -> (Option<u16>, usize)
+fn back(edges: &HalfEdges, source: u16, path: &mut [Frame], count: usize) -> (Option<u32>, usize)
     ensures within { result.1 ≤ length path.old }
     ensures fewer { result.1 ≤ count }
     ensures none { IfNone result.0 (result.1 ≡ 0) }
@@ -118,8 +117,8 @@ fn back(edges: &HalfEdges, source: u16, path: &mut [Frame], count: usize) -> (Op
 fn end_of(path: &[Frame], code: u16) -> Option<EndAt>
     ensures { result ≡ end_at (path_ends path.now) code }
 {
-    let frame = path.get((code % 32_768) as usize)?;
-    let at = if code < 32_768 {
+    let frame = path.get((code % RIGHT_END) as usize)?;
+    let at = if code < RIGHT_END {
         frame.left
     } else {
         frame.right
@@ -130,12 +129,12 @@ fn end_of(path: &[Frame], code: u16) -> Option<EndAt>
 /// The left end with this code. None where it is a right end's, or its portal isn't there: one comparison tells both.
 #[inline(always)]
 fn left_end(path: &[Frame], code: u16) -> Option<EndAt>
-    requires { length path.now ≤ 32768 }
+    requires { length path.now ≤ RIGHT_END }
     ensures { IsEndOf (path_ends path.now) code result }
 {
     let frame = path.get(code as usize)?;
     // the code itself, as one that is seen to be a left end's
-    let code = code % RIGHT;
+    let code = code % RIGHT_END;
     Some(EndAt {
         code,
         at: frame.left,
@@ -145,12 +144,12 @@ fn left_end(path: &[Frame], code: u16) -> Option<EndAt>
 /// The right end with this code. None where it is a left end's, or its portal isn't there.
 #[inline(always)]
 fn right_end(path: &[Frame], code: u16) -> Option<EndAt>
-    requires { length path.now ≤ 32768 }
+    requires { length path.now ≤ RIGHT_END }
     ensures { IsEndOf (path_ends path.now) code result }
 {
-    let place = (code as usize + 32_768) % 65_536;
+    let place = (code as usize + RIGHT_END as usize) % 65_536;
     let frame = path.get(place)?;
-    let code = RIGHT + (place % 32_768) as u16;
+    let code = RIGHT_END + (place % RIGHT_END as usize) as u16;
     Some(EndAt {
         code,
         at: frame.right,
@@ -160,7 +159,7 @@ fn right_end(path: &[Frame], code: u16) -> Option<EndAt>
 /// Whether these are three left ends and a right one that are seen at once to be stuck. `false` says nothing.
 #[inline(always)]
 fn are_three_and_one(path: &[Frame], a: u16, b: u16, c: u16, d: u16) -> bool
-    requires { length path.now ≤ 32768 }
+    requires { length path.now ≤ RIGHT_END }
     ensures { IsTrue result → AreStuckEnds (path_ends path.now) a b c d }
 {
     let Some(p) = left_end(path, a) else {
@@ -181,7 +180,7 @@ fn are_three_and_one(path: &[Frame], a: u16, b: u16, c: u16, d: u16) -> bool
 /// The same of two left ends and two right ones.
 #[inline(always)]
 fn are_two_and_two(path: &[Frame], a: u16, b: u16, c: u16, d: u16) -> bool
-    requires { length path.now ≤ 32768 }
+    requires { length path.now ≤ RIGHT_END }
     ensures { IsTrue result → AreStuckEnds (path_ends path.now) a b c d }
 {
     let Some(p) = left_end(path, a) else {
@@ -202,7 +201,7 @@ fn are_two_and_two(path: &[Frame], a: u16, b: u16, c: u16, d: u16) -> bool
 /// The same of a left end and three right ones.
 #[inline(always)]
 fn are_one_and_three(path: &[Frame], a: u16, b: u16, c: u16, d: u16) -> bool
-    requires { length path.now ≤ 32768 }
+    requires { length path.now ≤ RIGHT_END }
     ensures { IsTrue result → AreStuckEnds (path_ends path.now) a b c d }
 {
     let Some(p) = left_end(path, a) else {
@@ -227,7 +226,7 @@ fn is_seen_blocked(path: &[Frame], evidence: Evidence) -> bool
     ensures { IsTrue result → Blocks (path_ends path.now) evidence }
 {
     let count = path.len();
-    if evidence.count != 4 || count > 32_768 {
+    if evidence.count != 4 || count > RIGHT_END as usize {
         return false;
     }
     let [a, b, c, d] = evidence.ends;
@@ -285,7 +284,7 @@ fn is_closed(
     terrain: &Terrain<'_>,
     path: &mut [Frame],
     depth: usize,
-    place: u16,
+    place: u32,
     evidence: Evidence,
 ) -> bool
     ensures closed { IsTrue result ↔ IsClosedBy terrain.now.edges.now path.old depth place evidence }
@@ -308,12 +307,12 @@ pub struct Follow {
     /// The place of the next root.
     pub root: Option<usize>,
     /// The half-edge that is asked now.
-    pub asked: Option<u16>,
+    pub asked: Option<u32>,
 }
 
 /// The half-edge of the root at this place, and the place of the next one.
 #[inline(always)]
-fn next_root(roots: &Roots, root: Option<usize>) -> (Option<u16>, Option<usize>)
+fn next_root(roots: &Roots, root: Option<usize>) -> (Option<u32>, Option<usize>)
     ensures { AsksRoot roots.now.roots.items root result.0 result.1 }
 {
     match roots.root(root) {
@@ -329,7 +328,7 @@ fn next_asked(
     source: u16,
     path: &mut [Frame],
     follow: &mut Follow,
-) -> Option<u16>
+) -> Option<u32>
     ensures ends { path_ends path.new ≡ path_ends path.old }
     ensures depth { follow.new.depth ≤ length path.old }
     ensures fewer { follow.new.depth ≤ follow.old.depth }
@@ -355,7 +354,7 @@ fn enter(
     path: &mut [Frame],
     follow: &mut Follow,
     edge: &HalfEdge,
-) -> Option<u16>
+) -> Option<u32>
     requires { follow.old.depth < length path.old }
     ensures depth { follow.new.depth ≤ follow.old.depth + 1 }
     ensures enters { EntersThrough terrain.now.edges.now terrain.now.roots.now.roots.items source path.old follow.old.depth follow.old.root edge.now path.new follow.new.depth follow.new.root result }
@@ -391,7 +390,7 @@ fn open(
     source: u16,
     path: &mut [Frame],
     follow: &mut Follow,
-    place: u16,
+    place: u32,
 ) -> bool
     requires { follow.old.asked ≡ Some place }
     ensures depth { follow.new.depth ≤ follow.old.depth + 1 }
@@ -417,7 +416,7 @@ fn block(
     source: u16,
     path: &mut [Frame],
     follow: &mut Follow,
-    place: u16,
+    place: u32,
     evidence: Evidence,
 ) -> bool
     requires { follow.old.asked ≡ Some place }

@@ -1,4 +1,4 @@
-use Rattle.std.proofs.Common.{◌≡◌, length, refl, below_more, arith}
+use Rattle.std.proofs.Common.{◌≡◌, ℕ, ◌≤◌, length, refl, sym, subst, below_more, arith}
 use Rattle.std.proofs.lemmas.Bool.{leb-true, le-leb}
 use Rattle.std.proofs.lemmas.List.{length-map}
 use Rattle.cert_format.specs.declared.cert.Labelled.{Labelled}
@@ -14,6 +14,9 @@ pub returns : goal.returns
 returns c =
     let ls = c.args.labelled.now in
     let many : length (triangles_in ls) ≡ length ls = length-map ls (λ (l : Labelled). l.triangle) in (
-      λ yes. record { triangles = all_next c.args.points (triangles_in ls) (λ k l. c.loop-k.invariant k (omega (arith, l, many))); few = leb-true (length ls) 8192 yes },
-      λ are. le-leb (length ls) 8192 are.few,
+      λ yes. record {
+        triangles = all_next c.args.points (triangles_in ls) (λ k l. c.loop-k.invariant k (omega (arith, l, many)));
+        few = subst (λ (n : ℕ). length ls ≤ n) c.most_triangles.ensures (leb-true (length ls) c.most_triangles.result yes);
+      },
+      λ are. le-leb (length ls) c.most_triangles.result (subst (λ (n : ℕ). length ls ≤ n) (sym c.most_triangles.ensures) are.few),
     )

@@ -6,11 +6,17 @@ use Rattle.sight_names.specs.Plan.{PlanParts}
 use Rattle.cert_format.specs.Accepted.{triangles_of, labels_of}
 use Rattle.group_checker.specs.declared.grouping.MeshVerdict.TheVariants.{Good, Broken}
 use Rattle.group_checker.proofs.Ending.{grouped_judged, its_own, own_told}
-use Rattle.group_checker.proofs.OneMap.{sectors_below, triangles_between}
+use Rattle.group_checker.proofs.OneMap.{few_groups, few_triangles, sectors_below, triangles_between}
 use Rattle.check_workers.proofs.check.judge_two.Goals as goal
 
 pub judge_mesh-requires-clause-triangles : goal.judge_mesh-requires-clause-triangles
 judge_mesh-requires-clause-triangles g c = triangles_between c.args.plan.now c.args.two.now c.requires.cert c.triangles.result.now c.triangles.ensures.list
+
+pub judge_mesh-requires-clause-few : goal.judge_mesh-requires-clause-few
+judge_mesh-requires-clause-few g c = few_triangles c.args.plan.now c.args.two.now c.requires.cert c.triangles.result.now c.triangles.ensures.list
+
+pub judge_mesh-requires-clause-few_groups : goal.judge_mesh-requires-clause-few_groups
+judge_mesh-requires-clause-few_groups g c = few_groups c.args.plan.now c.args.two.now c.requires.cert c.as_slice.result.now c.as_slice.ensures
 
 pub judge_mesh-requires-clause-sectors : goal.judge_mesh-requires-clause-sectors
 judge_mesh-requires-clause-sectors g c = sectors_below c.args.plan.now c.args.two.now c.requires.cert (length c.as_slice.result.now) (ap length c.as_slice.ensures) c.triangles.result.now c.triangles.ensures.list

@@ -1,4 +1,6 @@
-use Rattle.std.proofs.Common.{arith}
+use Rattle.std.proofs.Common.{length, arith}
+use Rattle.cert_format.proofs.LimitLaws.{twice_fits}
+use Rattle.triangulate.proofs.MeshBound.{few_in_plan}
 use Rattle.group_job.proofs.Walking.{faces_of_groups}
 use Rattle.group_job.proofs.walked.walk_groups.Goals as goal
 
@@ -13,17 +15,18 @@ build_over-requires-clause-shape g c = λ κs lives.
 pub returns-clause-walked : goal.returns-clause-walked
 returns-clause-walked g c =
     let v = c.in_ok-groups.ensures.verdict c.in_ok-mesh.ensures.plain c.in_ok-mesh.ensures.fills in
+    let twice = few_in_plan c.args.plan.now c.lines.ensures.plan c.requires.audited c.in_ok-mesh.mesh.triangles c.in_ok-mesh.ensures.mesh in
     let b = c.in_ok-built.ensures in record {
       plan = c.lines.ensures.plan;
       faces = record { ends = c.requires.audited; closed = v.closed };
       are = v.groups_are;
       is = v.grouped;
       ends = (v.sound c.requires.audited).ends;
-      few = let x = c.triangles.ensures.few in let y = c.in_ok-groups.ensures.few in omega (arith, x, y);
+      few = twice_fits (length c.args.plan.now.points) (length c.in_ok-groups.field-0.groups) c.lines.ensures.plan.few_points (let all = c.in_ok-groups.ensures.few in omega (arith, all, twice));
       points = c.in_ok-groups.ensures.points;
       sectors = b.sectors;
       sizes = b.sizes;
-      in_order = c.triangles-2.ensures.in_order;
+      in_order = c.triangles.ensures.in_order;
       listed = b.listed;
       triangles = b.triangles;
       rays = b.rays;

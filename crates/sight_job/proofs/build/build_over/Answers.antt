@@ -1,4 +1,4 @@
-use Rattle.std.proofs.Common.{◌<◌, ◌∙◌, ℕ, List, Contains, Some, inl, inr, length, map, ap, sym, subst}
+use Rattle.std.proofs.Common.{◌<◌, ◌∙◌, ℕ, List, Contains, Some, inl, inr, length, map, ap, sym, subst, arith}
 use Rattle.std.specs.List.{AllByRecursion}
 use Rattle.sight_names.specs.Map.{map_of}
 use Rattle.sight_names.specs.Mesh.{AreTriangles, IsGoodMesh}
@@ -6,7 +6,9 @@ use Rattle.sight_names.specs.Plan.{PlanParts}
 use Rattle.cert_format.specs.declared.cert.Labelled.{Labelled}
 use Rattle.cert_format.specs.Parts.{CertParts}
 use Rattle.cert_format.specs.Grammar.{IsInOrder}
+use Rattle.cert_format.proofs.LimitLaws.{twice_fits}
 use Rattle.sight_tree.specs.declared.Tree.{Tree}
+use Rattle.triangulate.proofs.MeshBound.{few_in_plan}
 use Rattle.sight_job.proofs.Accepting.{is_accepted, trees_of_set, whole_trees_of}
 use Rattle.sight_job.proofs.BuildLaws.{cert_in_order, cert_is}
 use Rattle.sight_job.proofs.BudgetLaws.{full_is, enough_lists_nothing}
@@ -22,7 +24,10 @@ cert_of-cert-requires g c =
     let shape = c.requires.shape in
     let ascend = subst (λ (n : ℕ). AreTriangles n (map (λ (l : Labelled). l.triangle) c.in_ok-triangles.triangles.items)) shape.points c.in_ok-triangles.ensures.ascend in
     let sectors = subst (λ (ls : List Labelled). AllByRecursion (λ (l : Labelled). l.sector < c.args.plan.now.sectors) ls) (sym c.in_ok-triangles.ensures.list) (below c.args.plan.now.sectors c.args.shape.now.mesh.triangles c.args.shape.now.labels shape.sectors) in
-    let good = cert_in_order c.args.plan.now c.points.ensures.plan c.budget_for-budget.result c.in_ok-verdicts.verdicts c.in_ok-verdicts.ensures.verdicts c.in_ok-triangles.triangles.items c.in_ok-triangles.ensures.few ascend sectors in
+    let plan = c.points.ensures.plan in
+    let twice = few_in_plan c.args.plan.now plan c.requires.audited c.args.shape.now.mesh.triangles shape.mesh in
+    let few = twice_fits (length c.args.plan.now.points) (length c.in_ok-triangles.triangles.items) plan.few_points (let kept = c.in_ok-triangles.ensures.few in omega (arith, kept, twice)) in
+    let good = cert_in_order c.args.plan.now c.points.ensures.plan c.budget_for-budget.result c.in_ok-verdicts.verdicts c.in_ok-verdicts.ensures.verdicts c.in_ok-triangles.triangles.items few ascend sectors in
     subst IsInOrder (sym (cert_is c.args.plan.now c.in_ok-verdicts.verdicts c.in_ok-triangles.triangles.items _ _ _ _ _ _ (ap (λ (p : PlanParts). p.sectors) c.plan.view_is) (ap length c.points.ensures.list) (ap length c.lines.ensures.list) c.into_vec.ensures (c.in_ok-listed.ensures.items ∙ c.as_slice.ensures) c.into_vec-2.ensures)) good
 
 pub returns-clause-rays : goal.returns-clause-rays

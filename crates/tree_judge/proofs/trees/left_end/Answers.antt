@@ -1,4 +1,5 @@
 use Rattle.std.proofs.Common.{◌≡◌, ℕ, ◌<◌, ◌%◌, Option, Some, length, get_or, sym, subst, arith}
+use Rattle.sight_names.specs.declared.limits.TheConstants.{RIGHT_END}
 use Rattle.sight_names.specs.Splitting.{end_of}
 use Rattle.sight_names.specs.declared.names.EndAt.{EndAt}
 use Rattle.tree_judge.specs.Path.{path_ends}
@@ -11,7 +12,7 @@ returns c =
     let path = c.args.path.now in
     let code = c.args.code in
     let f = c.in_ok-frame.frame.now in
-    let few : code < 32768 = omega (arith, l.3.0, c.requires) in
-    let same : code % 32768 ≡ code = omega (arith, few) in
+    let few : code < RIGHT_END = omega (arith, l.3.0, c.requires) in
+    let same : code % RIGHT_END ≡ code = omega (arith, few) in
     subst (λ (k : ℕ). ◌≡◌ {A = Option EndAt} (end_of (path_ends path) code) (Some (record { code = k; at = f.left }))) (sym same)
     (sym (left_of path code f few (subst (λ (k : ℕ). k < length path) (sym same) l.3.0) (subst (λ (k : ℕ). f ≡ get_or path k f) (sym same) l.1)))

@@ -1,4 +1,5 @@
 use Rattle.std.proofs.Common.{◌≡◌, ℕ, ◌+◌, ◌<◌, ◌≤◌, ◌^◌, ◌%◌, Option, Some, length, get_or, sym, subst, arith}
+use Rattle.sight_names.specs.declared.limits.TheConstants.{RIGHT_END}
 use Rattle.sight_names.specs.Splitting.{end_of}
 use Rattle.sight_names.specs.declared.names.EndAt.{EndAt}
 use Rattle.tree_judge.specs.Path.{path_ends}
@@ -12,9 +13,9 @@ returns c =
     let code = c.args.code in
     let f = c.in_ok-frame.frame.now in
     let fits : code < 2 ^ 16 = c.ranges.code.fits in
-    let near : (code + 32768) % 65536 < 32768 = omega (arith, l.3.0, c.requires) in
-    let many : 32768 ≤ code = omega (arith, fits, near) in
-    let same : (code + 32768) % 65536 ≡ code % 32768 = omega (arith, fits, many) in
-    let back : 32768 + (code + 32768) % 65536 % 32768 ≡ code = omega (arith, fits, many) in
+    let near : (code + RIGHT_END) % 65536 < RIGHT_END = omega (arith, l.3.0, c.requires) in
+    let many : RIGHT_END ≤ code = omega (arith, fits, near) in
+    let same : (code + RIGHT_END) % 65536 ≡ code % RIGHT_END = omega (arith, fits, many) in
+    let back : RIGHT_END + (code + RIGHT_END) % 65536 % RIGHT_END ≡ code = omega (arith, fits, many) in
     subst (λ (k : ℕ). ◌≡◌ {A = Option EndAt} (end_of (path_ends path) code) (Some (record { code = k; at = f.right }))) (sym back)
     (sym (right_of path code f many fits (subst (λ (k : ℕ). k < length path) same l.3.0) (subst (λ (k : ℕ). f ≡ get_or path k f) same l.1)))

@@ -1,9 +1,10 @@
-use Rattle.std.proofs.Common.{◌<◌, ◌^◌, refl, sym, ◌∙◌, subst, arith, length, List, ℕ}
+use Rattle.std.proofs.Common.{◌<◌, ◌^◌, refl, sym, ◌∙◌, subst, length, List, ℕ}
 use Rattle.std.specs.List.{AllByRecursion}
 use Rattle.sight_names.specs.declared.names.PairRay.{PairRay}
 use Rattle.sight_tree.specs.declared.Tree.{Tree}
 use Rattle.cert_format.specs.declared.cert.Sizes.{Sizes}
 use Rattle.cert_format.specs.Grammar.{HasShortSides, FitsPairRay, FitsTree}
+use Rattle.cert_format.proofs.LimitLaws.{small_of}
 use Rattle.cert_groups.proofs.GroupLaws.{short_groups}
 use Rattle.cert_groups.proofs.PieceLaws.{short_sides, whole}
 use Rattle.cert_groups.proofs.printer.AnyPrinter.of_two.Goals as goal
@@ -24,7 +25,7 @@ returns c =
     record {
       in_order = is;
       fits = record {
-        sectors = subst (λ (z : Sizes). z.sectors < 2 ^ 16) (sym is.grouped) (let few = is.few in omega (arith, few));
+        sectors = subst (λ (z : Sizes). z.sectors < 2 ^ 16) (sym is.grouped) (small_of c.args.sizes.points _ is.few);
         points = subst (λ (z : Sizes). z.points < 2 ^ 16) (sym is.grouped) small.points;
         lines = subst (λ (z : Sizes). z.lines < 2 ^ 16) (sym is.grouped) small.lines;
         rays = subst (λ (rs : List PairRay). AllByRecursion FitsPairRay rs) c.rays-rays.ensures.list c.see_rays.ensures;
