@@ -28,7 +28,7 @@ shifted_sum k (Some r) = let same : 1 + (k + r) ≡ 1 + k + r = omega arith in a
 further_sum : (k : ℕ) (spot : MapSpot) → further 1 (further k spot) ≡ further (1 + k) spot
 further_sum k spot =
     let sum : (x : ℕ) → 1 + (k + x) ≡ 1 + k + x = (λ x. omega arith) in
-    (λ i. spot_by_parts (sum spot.marker i) (sum spot.linedefs i) (sum spot.sidedefs i) (sum spot.vertexes i) (sum spot.sectors i) (shifted_sum k spot.reject i) spot.hexen)
+    (λ i. spot_by_parts (sum spot.marker i) (sum spot.linedefs i) (sum spot.sidedefs i) (sum spot.vertexes i) (sum spot.sectors i) (shifted_sum k spot.reject i) spot.format)
 
 shifted_none : (o : Option ℕ) → o ≡ shifted 0 o
 shifted_none None = refl
@@ -37,7 +37,7 @@ shifted_none (Some r) = let same : r ≡ 0 + r = omega arith in ap (λ (i : ℕ)
 further_none : (spot : MapSpot) → spot ≡ further 0 spot
 further_none spot =
     let none : (x : ℕ) → x ≡ 0 + x = (λ x. omega arith) in
-    (λ i. spot_by_parts (none spot.marker i) (none spot.linedefs i) (none spot.sidedefs i) (none spot.vertexes i) (none spot.sectors i) (shifted_none spot.reject i) spot.hexen)
+    (λ i. spot_by_parts (none spot.marker i) (none spot.linedefs i) (none spot.sidedefs i) (none spot.vertexes i) (none spot.sectors i) (shifted_none spot.reject i) spot.format)
 
 ok_is_same : (a b : MapSpot) → ◌≡◌ {A = Result MapSpot MapFault} (Ok a) (Ok b) → a ≡ b
 ok_is_same a b e = cc

@@ -7,6 +7,7 @@ use Rattle.std.proofs.lemmas.List.{drop_all, get_or-drop, length-drop}
 use Rattle.std.proofs.lemmas.Option.{get_or_from_slice_get, slice_get_within}
 use Rattle.std.proofs.lemmas.Slice.Eq.{bytes_eq-Decides}
 use Rattle.sight_names.specs.declared.faults.MapFault.{MapFault}
+use Rattle.sight_names.specs.declared.names.MapFormat.{MapFormat}
 use Rattle.wad_dir.specs.declared.parts.MapSpot.{MapSpot}
 use Rattle.wad_dir.specs.Kept.{reject_then}
 use Rattle.wad_dir.specs.Map.{has_name, is_run_name, key_of, run_names, same_name, spot_of}
@@ -28,9 +29,9 @@ use Rattle.list_base.proofs.Numbers.{below_or_not, is_told_same, next_is}
 abbrev pub run_of : List (List ℕ) → ℕ → List (List ℕ)
 run_of ns m = more [] (drop (m + 1) ns)
 
-ends_at : (m l s v c len : ℕ) (r : Option ℕ) (hexen : Bool) → c < len → ((k : ℕ) → r ≡ Some k → k < len) → (m < reject_then (spot_at m hexen l s v c r)) × (place_behind (spot_at m hexen l s v c r) ≤ m + 1 + len)
-ends_at m l s v c len None hexen lt within = (omega (arith, lt), omega (arith, lt))
-ends_at m l s v c len (Some k) hexen lt within = let b : k < len = within k refl in (omega (arith, b), omega (arith, b))
+ends_at : (m l s v c len : ℕ) (r : Option ℕ) (format : MapFormat) → c < len → ((k : ℕ) → r ≡ Some k → k < len) → (m < reject_then (spot_at m format l s v c r)) × (place_behind (spot_at m format l s v c r) ≤ m + 1 + len)
+ends_at m l s v c len None format lt within = (omega (arith, lt), omega (arith, lt))
+ends_at m l s v c len (Some k) format lt within = let b : k < len = within k refl in (omega (arith, b), omega (arith, b))
 
 -- the REJECT lies behind the marker and in the run, and so does the place behind SECTORS
 pub spot_ends : (ns : List (List ℕ)) (name : List ℕ) (spot : MapSpot) (p : IsSpot ns name spot) → (spot.marker < reject_then spot) × (place_behind spot ≤ p.marker + 1 + length (run_of ns p.marker))
@@ -38,7 +39,7 @@ spot_ends ns name spot p =
     let run : List (List ℕ) = run_of ns p.marker in
     let sectors : p.c < length run = (let h = place_bound (λ n. same_name n (codes "SECTORS")) run 0 p.c p.sectors in omega (arith, h.1)) in
     let reject : (k : ℕ) → p.r ≡ Some k → k < length run = (λ k e. let h = place_bound (λ n. same_name n (codes "REJECT")) run 0 k (p.reject ∙ e) in omega (arith, h.1)) in
-    subst (λ (y : MapSpot). (y.marker < reject_then y) × (place_behind y ≤ p.marker + 1 + length run)) (sym p.is) (ends_at p.marker p.l p.s p.v p.c (length run) p.r p.hexen sectors reject)
+    subst (λ (y : MapSpot). (y.marker < reject_then y) × (place_behind y ≤ p.marker + 1 + length run)) (sym p.is) (ends_at p.marker p.l p.s p.v p.c (length run) p.r p.format sectors reject)
 
 run_fits : (ns : List (List ℕ)) (m : ℕ) → m < length ns → m + 1 + length (run_of ns m) ≤ length ns
 run_fits ns m lt = let a = more_short [] (drop (m + 1) ns) in let b = length-drop (m + 1) ns in omega (arith, a, b, lt)

@@ -4,8 +4,8 @@ use Rattle.std.specs.Int.{bit_at}
 use Rattle.sight_names.specs.declared.faults.Lump.TheVariants.{Linedefs, Sidedefs, Vertexes, Sectors}
 use Rattle.sight_names.specs.declared.faults.LumpFault.{LumpFault}
 use Rattle.sight_names.specs.declared.faults.LumpFault.TheVariants.{BadSize, TooManySectors, TooManyLines, BadVertex, BadSide, BadSector, TooManyPoints, Memory}
-use Rattle.sight_names.specs.declared.names.MapFormat.{MapFormat}
 use Rattle.sight_names.specs.declared.names.MapFormat.TheVariants.{Doom, Hexen}
+use Rattle.sight_names.specs.Limits.{most_lines, most_points, most_sectors}
 use Rattle.sight_names.specs.Lumps.{first_of, fault_if, is_bad_sector, is_bad_side, linedef, line_fault, lines_fault, lump_fault, map_of_lumps, numbers_from, numbers_below, side_sector, u16_at, vertex}
 use Rattle.sight_names.specs.Map.{Map, MapLine, map_of}
 use Rattle.sight_names.specs.Plan.{PlanParts, IsPlan}
@@ -13,7 +13,7 @@ use Rattle.sight_names.specs.Points.{points_of, pt_eq}
 use Rattle.sight_names.proofs.OnePlan.{one_plan}
 use Rattle.map_lumps.specs.Answers.{AnswersFirstFault}
 use Rattle.hexen_lumps.specs.Turned.{hexen_of}
-use Rattle.hexen_lumps.specs.Laws.{IsReadOf, IsReadTheSame, SpellsTheSame}
+use Rattle.hexen_lumps.specs.Laws.{IsReadOf, IsReadTheSame, SpellsTheSame, as_doom, as_hexen}
 use Rattle.hexen_lumps.proofs.Records.{HasSameNumbers, first_length, same_numbers}
 
 -- ---- one record
@@ -57,17 +57,17 @@ same_faults f g k (suc n) rest same =
     ap₂ (λ (x y : Option LumpFault). first_of x y) head (same_faults f g (k + 1) n rest (λ j l. subst (λ (i : ℕ). f i ≡ g i) (omega arith) (same (suc j) (omega arith))))
 
 -- the checks in their order, where LINEDEFS has whole records or not, and so many
-abbrev checks_of : List ℕ → List ℕ → List ℕ → Bool → ℕ → Option LumpFault → Option LumpFault
-checks_of sidedefs vertexes sectors whole n rest =
+abbrev checks_of : Bool → List ℕ → List ℕ → List ℕ → Bool → ℕ → Option LumpFault → Option LumpFault
+checks_of large sidedefs vertexes sectors whole n rest =
     fault_if (not whole) (BadSize Linedefs)
     (fault_if (not (length sidedefs % 30 == 0)) (BadSize Sidedefs)
     (fault_if (not (length vertexes % 4 == 0)) (BadSize Vertexes)
     (fault_if (not (length sectors % 26 == 0)) (BadSize Sectors)
-    (fault_if (nat_lt 4096 (length sectors / 26)) (TooManySectors (length sectors / 26))
-    (fault_if (nat_lt 16384 n) (TooManyLines n) rest)))))
+    (fault_if (nat_lt (most_sectors large) (length sectors / 26)) (TooManySectors (length sectors / 26))
+    (fault_if (nat_lt (most_lines large) n) (TooManyLines n) rest)))))
 
-abbrev points_fault : Map → Option LumpFault
-points_fault m = fault_if (nat_lt 4096 (length (points_of m))) (TooManyPoints (length (points_of m))) None
+abbrev points_fault : Bool → Map → Option LumpFault
+points_fault large m = fault_if (nat_lt (most_points large) (length (points_of m))) (TooManyPoints (length (points_of m))) None
 
 module _ (linedefs sidedefs vertexes sectors : List ℕ) where
   enough : 14 * (length linedefs / 14) ≤ length linedefs
@@ -87,8 +87,8 @@ module _ (linedefs sidedefs vertexes sectors : List ℕ) where
   abbrev map_with : List (Option MapLine) → Map
   map_with lines = record { sectors = length sectors / 26; lines = lines }
 
-  abbrev of_all : ℕ → ℕ → (ℕ → Option LumpFault) → Map → Option LumpFault
-  of_all r c fault m = checks_of sidedefs vertexes sectors (r == 0) c (lines_fault fault (numbers_below c) (points_fault m))
+  abbrev of_all : Bool → ℕ → ℕ → (ℕ → Option LumpFault) → Map → Option LumpFault
+  of_all large r c fault m = checks_of large sidedefs vertexes sectors (r == 0) c (lines_fault fault (numbers_below c) (points_fault large m))
 
   zero_on : (j : ℕ) → j ≡ 0 + j
   zero_on j = omega arith
@@ -100,20 +100,20 @@ module _ (linedefs sidedefs vertexes sectors : List ℕ) where
       ∙ ap map_with (same_map (linedef Hexen (hexen_of linedefs) sidedefs vertexes) (linedef Doom linedefs sidedefs vertexes) 0 (length linedefs / 14)
       (λ j l. subst (λ (k : ℕ). linedef Hexen (hexen_of linedefs) sidedefs vertexes k ≡ linedef Doom linedefs sidedefs vertexes k) (zero_on j) (same_line linedefs (hexen_of linedefs) sidedefs vertexes j (numbers j l))))
 
-  one_fault : length linedefs % 14 ≡ 0 → lump_fault Hexen (hexen_of linedefs) sidedefs vertexes sectors ≡ lump_fault Doom linedefs sidedefs vertexes sectors
+  one_fault : (large : Bool) → length linedefs % 14 ≡ 0 → lump_fault (as_hexen large) (hexen_of linedefs) sidedefs vertexes sectors ≡ lump_fault (as_doom large) linedefs sidedefs vertexes sectors
   unfolding lump_fault
-  one_fault whole =
-      ap (λ (m : Map). of_all (length (hexen_of linedefs) % 16) (length (hexen_of linedefs) / 16) (line_fault Hexen (hexen_of linedefs) sidedefs vertexes sectors) m) one_map
-      ∙ ap₂ (λ (r c : ℕ). of_all r c (line_fault Hexen (hexen_of linedefs) sidedefs vertexes sectors) (map_of_lumps Doom linedefs sidedefs vertexes sectors)) rest turned_count
-      ∙ ap (checks_of sidedefs vertexes sectors (length linedefs % 14 == 0) (length linedefs / 14))
-      (same_faults (line_fault Hexen (hexen_of linedefs) sidedefs vertexes sectors) (line_fault Doom linedefs sidedefs vertexes sectors) 0 (length linedefs / 14) (points_fault (map_of_lumps Doom linedefs sidedefs vertexes sectors))
+  one_fault large whole =
+      ap (λ (m : Map). of_all large (length (hexen_of linedefs) % 16) (length (hexen_of linedefs) / 16) (line_fault Hexen (hexen_of linedefs) sidedefs vertexes sectors) m) one_map
+      ∙ ap₂ (λ (r c : ℕ). of_all large r c (line_fault Hexen (hexen_of linedefs) sidedefs vertexes sectors) (map_of_lumps Doom linedefs sidedefs vertexes sectors)) rest turned_count
+      ∙ ap (checks_of large sidedefs vertexes sectors (length linedefs % 14 == 0) (length linedefs / 14))
+      (same_faults (line_fault Hexen (hexen_of linedefs) sidedefs vertexes sectors) (line_fault Doom linedefs sidedefs vertexes sectors) 0 (length linedefs / 14) (points_fault large (map_of_lumps Doom linedefs sidedefs vertexes sectors))
       (λ j l. subst (λ (k : ℕ). line_fault Hexen (hexen_of linedefs) sidedefs vertexes sectors k ≡ line_fault Doom linedefs sidedefs vertexes sectors k) (zero_on j) (same_fault linedefs (hexen_of linedefs) sidedefs vertexes sectors j (numbers j l))))
     where
       rest : length (hexen_of linedefs) % 16 ≡ length linedefs % 14
       rest = let e = turned_length in omega (arith, e, whole)
 
 pub spells_the_same : SpellsTheSame
-spells_the_same linedefs sidedefs vertexes sectors whole = (one_map linedefs sidedefs vertexes sectors, one_fault linedefs sidedefs vertexes sectors whole)
+spells_the_same large linedefs sidedefs vertexes sectors whole = (one_map linedefs sidedefs vertexes sectors, one_fault linedefs sidedefs vertexes sectors large whole)
 
 -- ---- the same plan
 
@@ -125,9 +125,9 @@ first_passes false f rest e = absurd (no e)
     no : ◌≡◌ {A = Option LumpFault} (Some f) None → ⊥
     no e = cc
 
-whole_of : (linedefs sidedefs vertexes sectors : List ℕ) → lump_fault Doom linedefs sidedefs vertexes sectors ≡ None → length linedefs % 14 ≡ 0
+whole_of : (large : Bool) (linedefs sidedefs vertexes sectors : List ℕ) → lump_fault (as_doom large) linedefs sidedefs vertexes sectors ≡ None → length linedefs % 14 ≡ 0
 unfolding lump_fault
-whole_of linedefs sidedefs vertexes sectors e = zero_of (length linedefs % 14) (first_passes (length linedefs % 14 == 0) _ _ e)
+whole_of large linedefs sidedefs vertexes sectors e = zero_of (length linedefs % 14) (first_passes (length linedefs % 14 == 0) _ _ e)
   where
     zero_of : (n : ℕ) → (n == 0) ≡ true → n ≡ 0
     zero_of n h = grind arith
@@ -144,6 +144,6 @@ same_answer plan m (Err (BadSector k)) is h same h' fault = absurd cc
 same_answer plan m (Err (TooManyPoints n)) is h same h' fault = absurd cc
 
 pub is_read_the_same : IsReadTheSame
-is_read_the_same linedefs sidedefs vertexes sectors plan answer was is =
-    let one = spells_the_same linedefs sidedefs vertexes sectors (whole_of linedefs sidedefs vertexes sectors was.fault) in
+is_read_the_same large linedefs sidedefs vertexes sectors plan answer was is =
+    let one = spells_the_same large linedefs sidedefs vertexes sectors (whole_of large linedefs sidedefs vertexes sectors was.fault) in
     same_answer plan (map_of_lumps Hexen (hexen_of linedefs) sidedefs vertexes sectors) answer (was.map ∙ sym one.0) was.plan is.map is.plan (subst (λ (o : Option LumpFault). AnswersFirstFault answer o) (one.1 ∙ was.fault) is.fault)

@@ -3,13 +3,13 @@
 ghost use Rattle.hexen_lumps.specs.Laws.{IsReadTheSame, SpellsTheSame};
 
 /// Whole records of LINEDEFS, turned to Hexen's format, spell the same map with the same other lumps, and the first check
-/// of the four that fails is the same.
+/// of the four that fails is the same, by the same limits.
 pub fn spells_the_same()
     ensures { SpellsTheSame }
 {}
 
-/// Where `read_map` takes four lumps, `read_hexen` takes them with the first one turned by `to_hexen`, and gives the same
-/// plan, unless memory runs out.
+/// Where `read_lumps` takes four lumps in Doom's format, it takes them in Hexen's with the first one turned by `to_hexen`, by
+/// the same limits, and gives the same plan, unless memory runs out.
 pub fn is_read_the_same()
     ensures { IsReadTheSame }
 {}

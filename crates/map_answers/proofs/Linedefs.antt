@@ -1,5 +1,5 @@
 -- Where four lumps spell a map, LINEDEFS has whole records, as many as the map has lines.
-use Rattle.std.proofs.Common.{◌≡◌, ℕ, zero, suc, ◌+◌, ◌/◌, ◌%◌, ◌==◌, List, length, Option, Some, None, Result, Ok, Err, Bool, true, false, not, refl, sym, subst, ap, ◌∙◌, option_map}
+use Rattle.std.proofs.Common.{◌≡◌, ℕ, zero, suc, ◌+◌, ◌/◌, ◌%◌, ◌==◌, List, length, Option, Some, None, Result, Ok, Err, Bool, true, false, not, refl, sym, ap, ◌∙◌, option_map}
 use Rattle.std.proofs.lemmas.Bool.{eqb-true}
 use Rattle.std.proofs.lemmas.List.{length-map}
 use Rattle.sight_names.specs.declared.faults.LumpFault.{LumpFault}
@@ -8,9 +8,8 @@ use Rattle.sight_names.specs.declared.faults.Lump.TheVariants.{Linedefs}
 use Rattle.sight_names.specs.Map.{Map, looked_up, map_of}
 use Rattle.sight_names.specs.Plan.{PlanParts}
 use Rattle.sight_names.specs.declared.names.MapFormat.{MapFormat}
+use Rattle.sight_names.specs.declared.names.Reading.{Reading}
 use Rattle.sight_names.specs.Lumps.{count_linedefs, fault_if, linedef, linedef_len, lump_fault, map_of_lumps, numbers_below, numbers_from}
-use Rattle.sound_reach.specs.Dampers.{record_len}
-use Rattle.wad_dir.specs.Map.{format_of}
 use Rattle.sight_status.specs.declared.status.Status.{Status}
 use Rattle.map_answers.specs.Input.{of_four_lumps, of_lumps}
 
@@ -36,9 +35,10 @@ first_passes false f rest e = absurd (no f e)
     no : (f : LumpFault) → ◌≡◌ {A = Option LumpFault} (Some f) None → ⊥
     no f e = cc
 
-whole_records : (format : MapFormat) (linedefs sidedefs vertexes sectors : List ℕ) → lump_fault format linedefs sidedefs vertexes sectors ≡ None → length linedefs % linedef_len format ≡ 0
+whole_records : (reading : Reading) (linedefs sidedefs vertexes sectors : List ℕ) → lump_fault reading linedefs sidedefs vertexes sectors ≡ None → length linedefs % linedef_len reading.format ≡ 0
 unfolding lump_fault
-whole_records format linedefs sidedefs vertexes sectors e = eqb-true (length linedefs % linedef_len format) 0 (first_passes (length linedefs % linedef_len format == 0) (lump.BadSize Linedefs) _ e)
+whole_records reading linedefs sidedefs vertexes sectors e =
+    eqb-true (length linedefs % linedef_len reading.format) 0 (first_passes (length linedefs % linedef_len reading.format == 0) (lump.BadSize Linedefs) _ e)
 
 length_numbers : (k n : ℕ) → length (numbers_from k n) ≡ n
 length_numbers k zero = refl
@@ -48,20 +48,11 @@ as_many_lines : (format : MapFormat) (linedefs sidedefs vertexes sectors : List 
 unfolding map_of_lumps
 as_many_lines format linedefs sidedefs vertexes sectors = length-map (numbers_below (count_linedefs format linedefs)) (linedef format linedefs sidedefs vertexes) ∙ length_numbers 0 (count_linedefs format linedefs)
 
--- LINEDEFS has whole records of so many bytes, as many as the plan has lines
-abbrev Fits : List ℕ → PlanParts → ℕ → Type 0
-Fits linedefs p len = (length linedefs % len ≡ 0) × (length p.lines ≡ length linedefs / len)
-
-fits : (format : MapFormat) (linedefs sidedefs vertexes sectors : List ℕ) (p : PlanParts) → of_four_lumps format linedefs sidedefs vertexes sectors ≡ Ok (map_of p) → Fits linedefs p (linedef_len format)
-fits format linedefs sidedefs vertexes sectors p e =
-    let w = no_fault (lump_fault format linedefs sidedefs vertexes sectors) (map_of_lumps format linedefs sidedefs vertexes sectors) (map_of p) e in (
-      whole_records format linedefs sidedefs vertexes sectors w.0,
-      sym (length-map p.lines (option_map (looked_up p.points))) ∙ sym (ap (λ (m : Map). length m.lines) w.1) ∙ as_many_lines format linedefs sidedefs vertexes sectors,
+-- LINEDEFS has whole records, as many as the plan has lines
+pub linedefs_fit : (reading : Reading) (linedefs sidedefs vertexes sectors : List ℕ) (p : PlanParts) → of_four_lumps reading linedefs sidedefs vertexes sectors ≡ Ok (map_of p)
+    → (length linedefs % linedef_len reading.format ≡ 0) × (length p.lines ≡ length linedefs / linedef_len reading.format)
+linedefs_fit reading linedefs sidedefs vertexes sectors p e =
+    let w = no_fault (lump_fault reading linedefs sidedefs vertexes sectors) (map_of_lumps reading.format linedefs sidedefs vertexes sectors) (map_of p) e in (
+      whole_records reading linedefs sidedefs vertexes sectors w.0,
+      sym (length-map p.lines (option_map (looked_up p.points))) ∙ sym (ap (λ (m : Map). length m.lines) w.1) ∙ as_many_lines reading.format linedefs sidedefs vertexes sectors,
     )
-
-same_len : (hexen : Bool) → linedef_len (format_of hexen) ≡ record_len hexen
-same_len true = refl
-same_len false = refl
-
-pub linedefs_fit : (hexen : Bool) (linedefs sidedefs vertexes sectors : List ℕ) (p : PlanParts) → of_four_lumps (format_of hexen) linedefs sidedefs vertexes sectors ≡ Ok (map_of p) → (length linedefs % record_len hexen ≡ 0) × (length p.lines ≡ length linedefs / record_len hexen)
-linedefs_fit hexen linedefs sidedefs vertexes sectors p e = subst (Fits linedefs p) (same_len hexen) (fits (format_of hexen) linedefs sidedefs vertexes sectors p e)

@@ -1,16 +1,16 @@
 -- The WAD in the bytes of a file, and the map of a name in it.
-use Rattle.std.specs.Prelude.{◌≡◌, ℕ, List, [], Option, Some, None, Result, Ok, Err, slice_index_or}
+use Rattle.std.specs.Prelude.{◌≡◌, ℕ, Bool, List, [], Option, Some, None, Result, Ok, Err, slice_index_or}
 use Rattle.sight_names.specs.declared.faults.WadFault.{WadFault}
 use Rattle.sight_names.specs.declared.faults.WadFault.TheVariants as wad
 use Rattle.sight_names.specs.declared.faults.MapFault.{MapFault}
 use Rattle.sight_names.specs.declared.faults.LumpFault.{LumpFault}
 use Rattle.sight_names.specs.declared.faults.LumpFault.TheVariants as lump
-use Rattle.sight_names.specs.declared.names.MapFormat.{MapFormat}
+use Rattle.sight_names.specs.declared.names.Reading.{Reading}
 use Rattle.sight_names.specs.Map.{Map}
 use Rattle.sight_names.specs.Lumps.{map_of_lumps, lump_fault}
 use Rattle.wad_dir.specs.declared.parts.MapSpot.{MapSpot}
 use Rattle.wad_dir.specs.Wad.{WadFile, names_of, wad_of}
-use Rattle.wad_dir.specs.Map.{format_of, spot_of}
+use Rattle.wad_dir.specs.Map.{spot_of}
 use Rattle.sight_status.specs.declared.status.Bound.TheVariants as bound
 use Rattle.sight_status.specs.declared.status.Status.{Status}
 use Rattle.sight_status.specs.declared.status.Status.TheVariants as status
@@ -46,26 +46,32 @@ of_lumps (Some fault) map = Err (status.BadLump fault)
 abbrev pub lump_at : WadFile → ℕ → List ℕ
 lump_at file k = (slice_index_or file.lumps k (record { name = []; bytes = [] })).bytes
 
--- the map that four lumps spell in a format, or the first check that fails
-abbrev pub of_four_lumps : MapFormat → List ℕ → List ℕ → List ℕ → List ℕ → Result Map Status
-of_four_lumps format linedefs sidedefs vertexes sectors = of_lumps (lump_fault format linedefs sidedefs vertexes sectors) (map_of_lumps format linedefs sidedefs vertexes sectors)
+-- the map that four lumps spell in a format, or the first check by these limits that fails
+abbrev pub of_four_lumps : Reading → List ℕ → List ℕ → List ℕ → List ℕ → Result Map Status
+of_four_lumps reading linedefs sidedefs vertexes sectors =
+    of_lumps (lump_fault reading linedefs sidedefs vertexes sectors) (map_of_lumps reading.format linedefs sidedefs vertexes sectors)
 
--- the map at this spot, in the format that it tells
-abbrev pub map_at : WadFile → MapSpot → Result Map Status
-map_at file spot = of_four_lumps (format_of spot.hexen) (lump_at file spot.linedefs) (lump_at file spot.sidedefs) (lump_at file spot.vertexes) (lump_at file spot.sectors)
+-- how the map at this spot is read by these limits: in the format that the spot tells
+abbrev pub reading_at : Bool → MapSpot → Reading
+reading_at large spot = record { format = spot.format; large = large }
+
+-- the map at this spot, by the larger limits or by the usual ones
+abbrev pub map_at : Bool → WadFile → MapSpot → Result Map Status
+map_at large file spot =
+    of_four_lumps (reading_at large spot) (lump_at file spot.linedefs) (lump_at file spot.sidedefs) (lump_at file spot.vertexes) (lump_at file spot.sectors)
 
 -- the map of this name in a WAD, or the first check that fails
-unfoldable pub map_named : WadFile → List ℕ → Result Map Status
-map_named file name = do
+unfoldable pub map_named : Bool → WadFile → List ℕ → Result Map Status
+map_named large file name = do
   spot ← of_spot (spot_of (names_of file) name)
-  map_at file spot
+  map_at large file spot
 
 -- the map of this name in the bytes of a file, or the first check that fails
-unfoldable pub found_in : List ℕ → List ℕ → Result LocatedMap Status
-found_in name bytes = do
+unfoldable pub found_in : Bool → List ℕ → List ℕ → Result LocatedMap Status
+found_in large name bytes = do
   file ← of_wad (wad_of bytes)
   spot ← of_spot (spot_of (names_of file) name)
-  map ← map_at file spot
+  map ← map_at large file spot
   Ok (record { wad = file; spot = spot; map = map })
 
 -- an answer to the map that was found, or the refusal where none was

@@ -4,10 +4,11 @@ use Rattle.std.specs.Fmt.{decimal}
 use Rattle.std.specs.List.{flat_map}
 use Rattle.sight_names.specs.declared.names.Pair.{Pair}
 use Rattle.sight_names.specs.declared.names.Side.{Side}
+use Rattle.sight_names.specs.Lumps.{linedef_len}
 use Rattle.sight_names.specs.Map.{Map}
 use Rattle.sight_names.specs.Noise.{AreHeardCounts, Heard, IsFirstNoisePath}
 use Rattle.sight_names.specs.Texts.{side_text}
-use Rattle.sound_reach.specs.Dampers.{dampers_of, record_len}
+use Rattle.sound_reach.specs.Dampers.{dampers_of}
 use Rattle.wad_dir.specs.Wad.{WadFile, file_of}
 use Rattle.wad_dir.specs.declared.parts.MapSpot.{MapSpot}
 use Rattle.sight_status.specs.declared.status.Why.TheVariants as why
@@ -20,13 +21,13 @@ use Rattle.map_answers.specs.Input.{LocatedMap, lump_at}
 
 -- for each line record whether the line blocks sound
 abbrev pub dampers_at : WadFile → MapSpot → List Bool
-dampers_at file spot = dampers_of spot.hexen (lump_at file spot.linedefs)
+dampers_at file spot = dampers_of spot.format (lump_at file spot.linedefs)
 
 -- LINEDEFS is there and has whole records, as many as the map has lines
 pub record HasLinedefs (input : Input) : Type 0 where
   pub place : input.spot.linedefs < length input.wad.entries
-  pub whole : length (lump_at (file_of input.bytes.items input.wad) input.spot.linedefs) % record_len input.spot.hexen ≡ 0
-  pub each : length input.plan.lines ≡ length (lump_at (file_of input.bytes.items input.wad) input.spot.linedefs) / record_len input.spot.hexen
+  pub whole : length (lump_at (file_of input.bytes.items input.wad) input.spot.linedefs) % linedef_len input.spot.format ≡ 0
+  pub each : length input.plan.lines ≡ length (lump_at (file_of input.bytes.items input.wad) input.spot.linedefs) / linedef_len input.spot.format
 
 -- ---- the lines
 

@@ -3,9 +3,7 @@
 ghost use Rattle.std.specs.Prelude.{◌≡◌, ◌+◌, ◌≤◌, ◌<◌, length, IfOk, IfErr, All};
 ghost use Rattle.std.specs.Option.{ForSome};
 ghost use Rattle.sight_names.specs.Map.{map_of};
-ghost use Rattle.sight_names.specs.Lumps.{lump_fault, map_of_lumps};
-ghost use Rattle.map_lumps.specs.Answers.{AnswersFirstFault};
-ghost use Rattle.wad_dir.specs.Map.{entry_names, format_of, spot_of};
+ghost use Rattle.wad_dir.specs.Map.{entry_names, spot_of};
 ghost use Rattle.wad_dir.specs.Wad.{file_of, names_of, wad_of};
 ghost use Rattle.sight_status.specs.Answer.{Makes};
 ghost use Rattle.map_answers.specs.Input.{of_wad, of_spot, of_four_lumps, lump_at, map_at, map_named, found_in};
@@ -13,9 +11,8 @@ ghost use Rattle.sight_status.specs.Status.{IsOfBytes};
 ghost use Rattle.map_answers.specs.Noise.{HasLinedefs};
 ghost use Rattle.map_answers.specs.Views.{found, IsWhole};
 
-use hexen_lumps::read_hexen;
-use map_lumps::read_map;
-use sight_names::{LumpFault, Plan, WadFault};
+use map_lumps::read_lumps;
+use sight_names::{LumpFault, Plan, Reading, WadFault};
 use sight_status::{Bound, Status};
 use std::alloc::Global;
 use wad_dir::{MapSpot, Wad, find_map, lump, read_wad};
@@ -59,37 +56,19 @@ fn spot(wad: &Wad, name: &str) -> Result<MapSpot, Status>
     }
 }
 
-/// The plan that the lumps spell in Hexen's format or in Doom's.
-fn read_plan(
+/// The map that four lumps spell, or the first check that fails.
+pub fn plan_of(
     alloc: Global,
-    hexen: bool,
-    linedefs: &[u8],
-    sidedefs: &[u8],
-    vertexes: &[u8],
-    sectors: &[u8],
-) -> Result<Plan, LumpFault>
-    ensures map { IfOk result (λ plan. map_of plan ≡ map_of_lumps (format_of hexen) linedefs.now sidedefs.now vertexes.now sectors.now) }
-    ensures fault { AnswersFirstFault result (lump_fault (format_of hexen) linedefs.now sidedefs.now vertexes.now sectors.now) }
-{
-    if hexen {
-        read_hexen(alloc, linedefs, sidedefs, vertexes, sectors)
-    } else {
-        read_map(alloc, linedefs, sidedefs, vertexes, sectors)
-    }
-}
-
-fn plan_of(
-    alloc: Global,
-    hexen: bool,
+    reading: Reading,
     linedefs: &[u8],
     sidedefs: &[u8],
     vertexes: &[u8],
     sectors: &[u8],
 ) -> Result<Plan, Status>
     ensures refusals { IfErr result IsOfBytes }
-    ensures map { Makes map_of result (of_four_lumps (format_of hexen) linedefs.now sidedefs.now vertexes.now sectors.now) }
+    ensures map { Makes map_of result (of_four_lumps reading linedefs.now sidedefs.now vertexes.now sectors.now) }
 {
-    match read_plan(alloc, hexen, linedefs, sidedefs, vertexes, sectors) {
+    match read_lumps(alloc, reading, linedefs, sidedefs, vertexes, sectors) {
         Ok(plan) => Ok(plan),
         Err(LumpFault::Memory) => Err(Status::Memory),
         Err(LumpFault::TooManySectors { .. }) => Err(Status::Limit(Bound::Sectors)),
@@ -108,18 +87,27 @@ pub fn lump_of<'a>(bytes: &'a [u8], wad: &Wad, k: u32) -> &'a [u8]
     lump(bytes, &wad.entries.as_slice()[k as usize])
 }
 
-fn plan_at(alloc: Global, bytes: &[u8], wad: &Wad, spot: &MapSpot) -> Result<Plan, Status>
+fn plan_at(
+    alloc: Global,
+    bytes: &[u8],
+    wad: &Wad,
+    large: bool,
+    spot: &MapSpot,
+) -> Result<Plan, Status>
     requires inside { All (λ entry. entry.at + entry.size ≤ length bytes.now) wad.now.entries }
     requires linedefs { spot.now.linedefs < length wad.now.entries }
     requires sidedefs { spot.now.sidedefs < length wad.now.entries }
     requires vertexes { spot.now.vertexes < length wad.now.entries }
     requires sectors { spot.now.sectors < length wad.now.entries }
     ensures refusals { IfErr result IsOfBytes }
-    ensures map { Makes map_of result (map_at (file_of bytes.now wad.now) spot.now) }
+    ensures map { Makes map_of result (map_at large (file_of bytes.now wad.now) spot.now) }
 {
     plan_of(
         alloc,
-        spot.hexen,
+        Reading {
+            format: spot.format,
+            large,
+        },
         lump_of(bytes, wad, spot.linedefs),
         lump_of(bytes, wad, spot.sidedefs),
         lump_of(bytes, wad, spot.vertexes),
@@ -127,29 +115,35 @@ fn plan_at(alloc: Global, bytes: &[u8], wad: &Wad, spot: &MapSpot) -> Result<Pla
     )
 }
 
-/// The map of this name in the WAD of these bytes, or the first check that fails.
+/// The map of this name in the WAD of these bytes, by the usual limits or by the larger ones, or the first check that fails.
 #[tactic(auto, unfolding(crate::specs::Input::map_named))]
-pub fn plan_named(alloc: Global, bytes: &[u8], wad: &Wad, name: &str) -> Result<Plan, Status>
+pub fn plan_named(
+    alloc: Global,
+    bytes: &[u8],
+    wad: &Wad,
+    large: bool,
+    name: &str,
+) -> Result<Plan, Status>
     requires inside { All (λ entry. entry.at + entry.size ≤ length bytes.now) wad.now.entries }
     requires names { names_of (file_of bytes.now wad.now) ≡ entry_names wad.now.entries }
-    ensures map { Makes map_of result (map_named (file_of bytes.now wad.now) name.now) }
+    ensures map { Makes map_of result (map_named large (file_of bytes.now wad.now) name.now) }
     ensures refusals { IfErr result IsOfBytes }
 {
     let spot = spot(wad, name)?;
-    plan_at(alloc, bytes, wad, &spot)
+    plan_at(alloc, bytes, wad, large, &spot)
 }
 
-/// The map of this name in the bytes of a file, or the first check that fails.
+/// The map of this name in the bytes of a file, by the usual limits or by the larger ones, or the first check that fails.
 #[tactic(auto, unfolding(crate::specs::Input::found_in))]
-pub fn find_in(alloc: Global, bytes: Vec<u8>, name: &str) -> Result<Input, Status>
-    ensures found { Makes found result (found_in name.now bytes.items) }
+pub fn find_in(alloc: Global, bytes: Vec<u8>, large: bool, name: &str) -> Result<Input, Status>
+    ensures found { Makes found result (found_in large name.now bytes.items) }
     ensures refusals { IfErr result IsOfBytes }
     ensures whole { IfOk result IsWhole }
     ensures linedefs { IfOk result HasLinedefs }
 {
     let wad = directory(alloc, &bytes)?;
     let spot = spot(&wad, name)?;
-    let plan = plan_at(alloc, &bytes, &wad, &spot)?;
+    let plan = plan_at(alloc, &bytes, &wad, large, &spot)?;
     Ok(Input {
         bytes,
         wad,

@@ -14,7 +14,7 @@ mod trace;
 pub use audit::judge_audit;
 pub use counts::{Counts, counts_of, push_counts};
 pub use groups::{MeshGroups, audit_groups, audit_map};
-pub use input::{Input, directory, find_in, lump_of, plan_named};
+pub use input::{Input, directory, find_in, lump_of, plan_named, plan_of};
 pub use need::judge_need;
 pub use noise::judge_sound;
 pub use ray::judge_ray;

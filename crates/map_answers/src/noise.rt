@@ -160,7 +160,7 @@ pub fn judge_sound(
     ensures refusals { IfErr result IsOfSoundTest }
 {
     let linedefs = lump_of(&input.bytes, &input.wad, input.spot.linedefs);
-    let Ok(dampers) = dampers(alloc, linedefs, input.spot.hexen) else {
+    let Ok(dampers) = dampers(alloc, linedefs, input.spot.format) else {
         return Err(Status::Memory);
     };
     match pair {

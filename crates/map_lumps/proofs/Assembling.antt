@@ -1,6 +1,7 @@
 -- The plan of points in order and of lines between their numbers is a plan of the map.
 use Rattle.std.proofs.Common.{◌≡◌, ℕ, zero, suc, ◌+◌, ◌<◌, ◌≤◌, ◌⊎◌, inl, inr, List, [], ◌∷◌, ◌++◌, length, take, slice_get, slice_index_or, Contains, Option, Some, None, IfSome, refl, sym, ap, ap₂, ◌∙◌, subst, arith, map, option_map, option_and_then}
 use Rattle.std.proofs.lemmas.List.{take_more}
+use Rattle.sight_names.specs.declared.limits.TheConstants.{LARGE_LINES, LARGE_POINTS}
 use Rattle.sight_names.specs.declared.names.Pt.{Pt}
 use Rattle.sight_names.specs.declared.plan.Line.{Line}
 use Rattle.sight_names.specs.Plan.{PlanParts, IsPlan, IsPlanLine, IsBefore}
@@ -66,7 +67,7 @@ same_place points h i j hi hj e = elim (same_below_or_above i j) [
 ]
 
 -- the parts of a map's plan, its points in order, keep the invariant
-pub is_plan : (p : PlanParts) → IsMap (map_of p) → length p.points ≤ 4096 → length p.lines ≤ 16384 → IsInOrder p.points → ((e : Pt) → Contains p.points e → Contains (the_ends p.points p.lines) e) → EndsBelow (length p.points) p.lines → IsPlan p
+pub is_plan : (p : PlanParts) → IsMap (map_of p) → length p.points ≤ LARGE_POINTS → length p.lines ≤ LARGE_LINES → IsInOrder p.points → ((e : Pt) → Contains p.points e → Contains (the_ends p.points p.lines) e) → EndsBelow (length p.points) p.lines → IsPlan p
 is_plan p m few_points few_lines order among below = record {
   few_points = few_points;
   few_lines = few_lines;

@@ -5,7 +5,8 @@ use Rattle.sight_names.specs.declared.faults.LumpFault.{LumpFault}
 use Rattle.sight_names.specs.declared.faults.LumpFault.TheVariants.{BadSize, TooManySectors, TooManyLines, TooManyPoints}
 use Rattle.sight_names.specs.declared.faults.Lump.TheVariants.{Linedefs, Sidedefs, Vertexes, Sectors}
 use Rattle.sight_names.specs.Points.{points_of}
-use Rattle.sight_names.specs.declared.names.MapFormat.{MapFormat}
+use Rattle.sight_names.specs.declared.names.Reading.{Reading}
+use Rattle.sight_names.specs.Limits.{most_lines, most_points, most_sectors}
 use Rattle.sight_names.specs.Lumps.{linedef_len, count_linedefs, numbers_below, lines_fault, line_fault, lump_fault, fault_if, map_of_lumps}
 use Rattle.map_lumps.specs.Answers.{cut_lump, Passes}
 use Rattle.map_lumps.proofs.Reading.{stands, none_found}
@@ -36,29 +37,29 @@ after_six a b c d e f p q r s t u rest h1 h2 h3 h4 h5 h6 = rw (h1, h2, h3, h4, h
 not_above : (m n : ℕ) → n ≤ m → nat_lt m n ≡ false
 not_above m n h = grind arith
 
-module _ (format : MapFormat) (linedefs sidedefs vertexes sectors : List ℕ) where
+module _ (reading : Reading) (linedefs sidedefs vertexes sectors : List ℕ) where
   abbrev points_fault : Option LumpFault
-  points_fault = fault_if (nat_lt 4096 (length (points_of (map_of_lumps format linedefs sidedefs vertexes sectors)))) (TooManyPoints (length (points_of (map_of_lumps format linedefs sidedefs vertexes sectors)))) None
+  points_fault = fault_if (nat_lt (most_points reading.large) (length (points_of (map_of_lumps reading.format linedefs sidedefs vertexes sectors)))) (TooManyPoints (length (points_of (map_of_lumps reading.format linedefs sidedefs vertexes sectors)))) None
 
   -- where the sizes and the counts pass, the lines are what is left, and then the points
-  pub lines_left : cut_lump format linedefs sidedefs vertexes sectors ≡ None → length sectors / 26 ≤ 4096 → count_linedefs format linedefs ≤ 16384 →
-      lump_fault format linedefs sidedefs vertexes sectors ≡ lines_fault (line_fault format linedefs sidedefs vertexes sectors) (numbers_below (count_linedefs format linedefs)) points_fault
+  pub lines_left : cut_lump reading.format linedefs sidedefs vertexes sectors ≡ None → length sectors / 26 ≤ most_sectors reading.large → count_linedefs reading.format linedefs ≤ most_lines reading.large →
+      lump_fault reading linedefs sidedefs vertexes sectors ≡ lines_fault (line_fault reading.format linedefs sidedefs vertexes sectors) (numbers_below (count_linedefs reading.format linedefs)) points_fault
   unfolding lump_fault
   lines_left cut few_sectors few_lines =
-      let sizes = uncut (not (length linedefs % linedef_len format == 0)) (not (length sidedefs % 30 == 0)) (not (length vertexes % 4 == 0)) (not (length sectors % 26 == 0)) Linedefs Sidedefs Vertexes Sectors cut in
-      after_six _ _ _ _ _ _ (BadSize Linedefs) (BadSize Sidedefs) (BadSize Vertexes) (BadSize Sectors) (TooManySectors (length sectors / 26)) (TooManyLines (count_linedefs format linedefs)) _ sizes.0 sizes.1 sizes.2 sizes.3 (not_above 4096 (length sectors / 26) few_sectors) (not_above 16384 (count_linedefs format linedefs) few_lines)
+      let sizes = uncut (not (length linedefs % linedef_len reading.format == 0)) (not (length sidedefs % 30 == 0)) (not (length vertexes % 4 == 0)) (not (length sectors % 26 == 0)) Linedefs Sidedefs Vertexes Sectors cut in
+      after_six _ _ _ _ _ _ (BadSize Linedefs) (BadSize Sidedefs) (BadSize Vertexes) (BadSize Sectors) (TooManySectors (length sectors / 26)) (TooManyLines (count_linedefs reading.format linedefs)) _ sizes.0 sizes.1 sizes.2 sizes.3 (not_above (most_sectors reading.large) (length sectors / 26) few_sectors) (not_above (most_lines reading.large) (count_linedefs reading.format linedefs) few_lines)
 
-  pub line_fault_first : (o : Option LumpFault) → cut_lump format linedefs sidedefs vertexes sectors ≡ None → length sectors / 26 ≤ 4096 → count_linedefs format linedefs ≤ 16384 →
-      o ≡ lines_fault (line_fault format linedefs sidedefs vertexes sectors) (numbers_below (count_linedefs format linedefs)) None → IfSome o (λ f. lump_fault format linedefs sidedefs vertexes sectors ≡ Some f)
+  pub line_fault_first : (o : Option LumpFault) → cut_lump reading.format linedefs sidedefs vertexes sectors ≡ None → length sectors / 26 ≤ most_sectors reading.large → count_linedefs reading.format linedefs ≤ most_lines reading.large →
+      o ≡ lines_fault (line_fault reading.format linedefs sidedefs vertexes sectors) (numbers_below (count_linedefs reading.format linedefs)) None → IfSome o (λ f. lump_fault reading linedefs sidedefs vertexes sectors ≡ Some f)
   line_fault_first None cut few_sectors few_lines e = tt
-  line_fault_first (Some f) cut few_sectors few_lines e = lines_left cut few_sectors few_lines ∙ stands _ (numbers_below (count_linedefs format linedefs)) points_fault f (sym e)
+  line_fault_first (Some f) cut few_sectors few_lines e = lines_left cut few_sectors few_lines ∙ stands _ (numbers_below (count_linedefs reading.format linedefs)) points_fault f (sym e)
 
-  uncut_of : Passes format linedefs sidedefs vertexes sectors → cut_lump format linedefs sidedefs vertexes sectors ≡ None
+  uncut_of : Passes reading linedefs sidedefs vertexes sectors → cut_lump reading.format linedefs sidedefs vertexes sectors ≡ None
   uncut_of h = whole _ _ _ _ Linedefs Sidedefs Vertexes Sectors h.whole_linedefs h.whole_sidedefs h.whole_vertexes h.whole_sectors
     where
       whole : (a b c d : ℕ) (p q r s : Lump) → a ≡ 0 → b ≡ 0 → c ≡ 0 → d ≡ 0 → cond (not (a == 0)) (Some p) (cond (not (b == 0)) (Some q) (cond (not (c == 0)) (Some r) (cond (not (d == 0)) (Some s) None))) ≡ None
       whole a b c d p q r s h1 h2 h3 h4 = rw (h1, h2, h3, h4) refl
 
   -- where the early checks pass, the points decide
-  pub points_left : Passes format linedefs sidedefs vertexes sectors → lump_fault format linedefs sidedefs vertexes sectors ≡ points_fault
-  points_left h = lines_left (uncut_of h) h.few_sectors h.few_lines ∙ none_found (line_fault format linedefs sidedefs vertexes sectors) (count_linedefs format linedefs) points_fault h.each
+  pub points_left : Passes reading linedefs sidedefs vertexes sectors → lump_fault reading linedefs sidedefs vertexes sectors ≡ points_fault
+  points_left h = lines_left (uncut_of h) h.few_sectors h.few_lines ∙ none_found (line_fault reading.format linedefs sidedefs vertexes sectors) (count_linedefs reading.format linedefs) points_fault h.each

@@ -9,7 +9,9 @@ use Rattle.sight_names.specs.declared.faults.LumpFault.TheVariants.{BadVertex, B
 use Rattle.sight_names.specs.Plan.{PlanParts, IsPlan}
 use Rattle.sight_names.specs.Map.{MapLine, map_of, looked_up, IsMap, IsMapLine}
 use Rattle.sight_names.specs.Points.{points_of, in_order, ends_of, pt_eq}
-use Rattle.sight_names.specs.declared.names.MapFormat.{MapFormat}
+use Rattle.sight_names.specs.declared.limits.TheConstants.{LARGE_LINES, LARGE_POINTS}
+use Rattle.sight_names.specs.declared.names.Reading.{Reading}
+use Rattle.sight_names.specs.Limits.{most_lines, most_points}
 use Rattle.sight_names.specs.Lumps.{linedef_len, right_at, left_at, count_linedefs, numbers_from, numbers_below, linedef, line_fault, lump_fault, fault_if, map_of_lumps, vertex, side_sector, u16_at, is_bad_sector}
 use Rattle.sight_names.proofs.PlanPoints.{in_order_from, in_order_has}
 use Rattle.map_lumps.specs.declared.records.PlacedLine.{PlacedLine}
@@ -19,6 +21,17 @@ use Rattle.map_lumps.proofs.Checking.{points_left}
 use Rattle.map_lumps.proofs.Numbering.{pt_eq_equiv, in_order_is}
 use Rattle.map_lumps.proofs.Assembling.{is_plan}
 use Rattle.list_base.proofs.Bools.{not_both_values}
+
+-- ---- the larger limits
+
+-- what is within the limits is within the larger ones
+pub within_points : (large : Bool) (n : ℕ) → n ≤ most_points large → n ≤ LARGE_POINTS
+within_points true n h = h
+within_points false n h = omega (arith, h)
+
+pub within_lines : (large : Bool) (n : ℕ) → n ≤ most_lines large → n ≤ LARGE_LINES
+within_lines true n h = h
+within_lines false n h = omega (arith, h)
 
 -- ---- a sound record
 
@@ -68,20 +81,20 @@ solid_of_left false (Some x) (Some y) e = absurd (no e)
 differ_of : (p q : Pt) → pt_eq p q ≡ false → p ≢ q
 differ_of p q h e = not_both_values _ (pt_eq_equiv.refl p) (subst (λ (z : Pt). pt_eq p z ≡ false) (sym e) h)
 
-module _ (format : MapFormat) (linedefs sidedefs vertexes sectors : List ℕ) where
-  sound_line : (k : ℕ) (l : MapLine) → line_fault format linedefs sidedefs vertexes sectors k ≡ None → linedef format linedefs sidedefs vertexes k ≡ Some l → IsMapLine (length sectors / 26) l
+module _ (reading : Reading) (linedefs sidedefs vertexes sectors : List ℕ) where
+  sound_line : (k : ℕ) (l : MapLine) → line_fault reading.format linedefs sidedefs vertexes sectors k ≡ None → linedef reading.format linedefs sidedefs vertexes k ≡ Some l → IsMapLine (length sectors / 26) l
   sound_line k l pass e =
-      let first = vertex vertexes (u16_at linedefs (linedef_len format * k)) in
-      let second = vertex vertexes (u16_at linedefs (linedef_len format * k + 2)) in
-      let r = u16_at linedefs (linedef_len format * k + right_at format) in
-      let s = u16_at linedefs (linedef_len format * k + left_at format) in
+      let first = vertex vertexes (u16_at linedefs (linedef_len reading.format * k)) in
+      let second = vertex vertexes (u16_at linedefs (linedef_len reading.format * k + 2)) in
+      let r = u16_at linedefs (linedef_len reading.format * k + right_at reading.format) in
+      let s = u16_at linedefs (linedef_len reading.format * k + left_at reading.format) in
       let passed = four_pass _ _ (is_bad_sector sidedefs sectors r) (is_bad_sector sidedefs sectors s) (BadVertex k) (BadSide k) (BadSector r) (BadSector s) pass in
       go (pt_eq first second) _ l (λ differ. record {
         differ = differ_of first second differ;
         right = named_below (r == 65535) (u16_at sidedefs (30 * r + 28)) (length sectors / 26) passed.2;
         left = named_below (s == 65535) (u16_at sidedefs (30 * s + 28)) (length sectors / 26) passed.3;
-        solid_right = solid_of_right (not (bit_at (u16_at linedefs (linedef_len format * k + 4)) 2 == 1)) (side_sector sidedefs r) (side_sector sidedefs s);
-        solid_left = solid_of_left (not (bit_at (u16_at linedefs (linedef_len format * k + 4)) 2 == 1)) (side_sector sidedefs r) (side_sector sidedefs s);
+        solid_right = solid_of_right (not (bit_at (u16_at linedefs (linedef_len reading.format * k + 4)) 2 == 1)) (side_sector sidedefs r) (side_sector sidedefs s);
+        solid_left = solid_of_left (not (bit_at (u16_at linedefs (linedef_len reading.format * k + 4)) 2 == 1)) (side_sector sidedefs r) (side_sector sidedefs s);
       }) e
     where
       go : (b : Bool) (m l : MapLine) → (b ≡ false → IsMapLine (length sectors / 26) m) → cond b None (Some m) ≡ Some l → IsMapLine (length sectors / 26) l
@@ -100,13 +113,13 @@ module _ (format : MapFormat) (linedefs sidedefs vertexes sectors : List ℕ) wh
   got f k (suc n) (suc i) l e = let h = got f (k + 1) n i l e in (omega arith, subst (λ (j : ℕ). f j ≡ Some l) (omega arith) h.1)
 
   -- the lumps spell a map where each record is sound
-  pub lumps_are_map : Passes format linedefs sidedefs vertexes sectors → IsMap (map_of_lumps format linedefs sidedefs vertexes sectors)
+  pub lumps_are_map : Passes reading linedefs sidedefs vertexes sectors → IsMap (map_of_lumps reading.format linedefs sidedefs vertexes sectors)
   unfolding map_of_lumps
-  lumps_are_map h i l e = let g = got (linedef format linedefs sidedefs vertexes) 0 (count_linedefs format linedefs) i l e in
-      sound_line i l (h.each i g.0) (subst (λ (j : ℕ). linedef format linedefs sidedefs vertexes j ≡ Some l) (zero-add i) g.1)
+  lumps_are_map h i l e = let g = got (linedef reading.format linedefs sidedefs vertexes) 0 (count_linedefs reading.format linedefs) i l e in
+      sound_line i l (h.each i g.0) (subst (λ (j : ℕ). linedef reading.format linedefs sidedefs vertexes j ≡ Some l) (zero-add i) g.1)
 
-  module _ (placed : List (Option PlacedLine)) (points : List Pt) (same : map (option_map as_map_line) placed ≡ map (linedef format linedefs sidedefs vertexes) (numbers_below (count_linedefs format linedefs))) (are : points ≡ in_order (placed_ends placed)) where
-    pub points_are : points_of (map_of_lumps format linedefs sidedefs vertexes sectors) ≡ points
+  module _ (placed : List (Option PlacedLine)) (points : List Pt) (same : map (option_map as_map_line) placed ≡ map (linedef reading.format linedefs sidedefs vertexes) (numbers_below (count_linedefs reading.format linedefs))) (are : points ≡ in_order (placed_ends placed)) where
+    pub points_are : points_of (map_of_lumps reading.format linedefs sidedefs vertexes sectors) ≡ points
     unfolding map_of_lumps points_of
     points_are = ap (λ (ls : List (Option MapLine)). in_order (ends_of (filter_map (λ l. l) ls))) (sym same) ∙ sym are
 
@@ -116,24 +129,24 @@ module _ (format : MapFormat) (linedefs sidedefs vertexes sectors : List ℕ) wh
     pub points_in_order : IsInOrder points
     points_in_order = subst IsInOrder (sym are) (in_order_is (placed_ends placed))
 
-    pub fault_left : Passes format linedefs sidedefs vertexes sectors → lump_fault format linedefs sidedefs vertexes sectors ≡ fault_if (nat_lt 4096 (length points)) (TooManyPoints (length points)) None
-    fault_left h = points_left format linedefs sidedefs vertexes sectors h ∙ ap (λ (ps : List Pt). fault_if (nat_lt 4096 (length ps)) (TooManyPoints (length ps)) None) points_are
+    pub fault_left : Passes reading linedefs sidedefs vertexes sectors → lump_fault reading linedefs sidedefs vertexes sectors ≡ fault_if (nat_lt (most_points reading.large) (length points)) (TooManyPoints (length points)) None
+    fault_left h = points_left reading linedefs sidedefs vertexes sectors h ∙ ap (λ (ps : List Pt). fault_if (nat_lt (most_points reading.large) (length ps)) (TooManyPoints (length ps)) None) points_are
 
     module _ (lines : List (Option Line)) (looked : map (option_map (looked_up points)) lines ≡ map (option_map as_map_line) placed) where
       abbrev parts : PlanParts
       parts = record { sectors = length sectors / 26; points = points; lines = lines }
 
-      pub map_is : map_of parts ≡ map_of_lumps format linedefs sidedefs vertexes sectors
+      pub map_is : map_of parts ≡ map_of_lumps reading.format linedefs sidedefs vertexes sectors
       unfolding map_of_lumps
       map_is = ap (λ (ls : List (Option MapLine)). record { sectors = length sectors / 26; lines = ls }) (looked ∙ same)
 
-      len_is : length lines ≡ count_linedefs format linedefs
-      len_is = sym (length-map lines (option_map (looked_up points))) ∙ ap length (looked ∙ same) ∙ length-map (numbers_below (count_linedefs format linedefs)) (linedef format linedefs sidedefs vertexes) ∙ length_numbers 0 (count_linedefs format linedefs)
+      len_is : length lines ≡ count_linedefs reading.format linedefs
+      len_is = sym (length-map lines (option_map (looked_up points))) ∙ ap length (looked ∙ same) ∙ length-map (numbers_below (count_linedefs reading.format linedefs)) (linedef reading.format linedefs sidedefs vertexes) ∙ length_numbers 0 (count_linedefs reading.format linedefs)
         where
           length_numbers : (k n : ℕ) → length (numbers_from k n) ≡ n
           length_numbers k zero = refl
           length_numbers k (suc n) = ap suc (length_numbers (k + 1) n)
 
-      pub plan_is : Passes format linedefs sidedefs vertexes sectors → length points ≤ 4096 → EndsBelow (length points) lines → IsPlan parts
-      plan_is h few below = is_plan parts (subst IsMap (sym map_is) (lumps_are_map h)) few (omega (arith, len_is, h.few_lines)) points_in_order
+      pub plan_is : Passes reading linedefs sidedefs vertexes sectors → length points ≤ most_points reading.large → EndsBelow (length points) lines → IsPlan parts
+      plan_is h few below = is_plan parts (subst IsMap (sym map_is) (lumps_are_map h)) (within_points reading.large (length points) few) (within_lines reading.large (length lines) (omega (arith, len_is, h.few_lines))) points_in_order
           (λ e c. subst (λ (ps : List Pt). Contains ps e) (sym (ap (λ (ls : List (Option MapLine)). ends_of (filter_map (λ l. l) ls)) looked)) (in_order_from (placed_ends placed) e (subst (λ (ps : List Pt). Contains ps e) are c))) below

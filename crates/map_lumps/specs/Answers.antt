@@ -5,6 +5,8 @@ use Rattle.sight_names.specs.declared.faults.Lump.TheVariants.{Linedefs, Sidedef
 use Rattle.sight_names.specs.declared.faults.LumpFault.{LumpFault}
 use Rattle.sight_names.specs.declared.faults.LumpFault.TheVariants.{Memory}
 use Rattle.sight_names.specs.declared.names.MapFormat.{MapFormat}
+use Rattle.sight_names.specs.declared.names.Reading.{Reading}
+use Rattle.sight_names.specs.Limits.{most_lines, most_sectors}
 use Rattle.sight_names.specs.Lumps.{linedef_len, count_linedefs}
 use Rattle.sight_names.specs.Plan.{PlanParts}
 use Rattle.map_lumps.specs.Records.{AllSound}
@@ -16,14 +18,14 @@ AnswersFirstFault (Err Memory) first = ⊤
 AnswersFirstFault (Err fault) first = first ≡ Some fault
 
 -- the checks that need no memory have passed
-pub record Passes (format : MapFormat) (linedefs sidedefs vertexes sectors : List ℕ) : Type 0 where
-  pub whole_linedefs : length linedefs % linedef_len format ≡ 0
+pub record Passes (reading : Reading) (linedefs sidedefs vertexes sectors : List ℕ) : Type 0 where
+  pub whole_linedefs : length linedefs % linedef_len reading.format ≡ 0
   pub whole_sidedefs : length sidedefs % 30 ≡ 0
   pub whole_vertexes : length vertexes % 4 ≡ 0
   pub whole_sectors : length sectors % 26 ≡ 0
-  pub few_sectors : length sectors / 26 ≤ 4096
-  pub few_lines : count_linedefs format linedefs ≤ 16384
-  pub each : AllSound format linedefs sidedefs vertexes sectors
+  pub few_sectors : length sectors / 26 ≤ most_sectors reading.large
+  pub few_lines : count_linedefs reading.format linedefs ≤ most_lines reading.large
+  pub each : AllSound reading.format linedefs sidedefs vertexes sectors
 
 -- the first lump whose size is no multiple of its record
 abbrev pub cut_lump : MapFormat → List ℕ → List ℕ → List ℕ → List ℕ → Option Lump

@@ -1,4 +1,4 @@
--- What the parts of read_map see of the lumps.
+-- What the parts of read_lumps see of the lumps.
 use Rattle.std.specs.Prelude.{◌≡◌, ℕ, ◌+◌, ◌*◌, ◌/◌, ◌<◌, List, Option, Some, None, length, map, filter_map, option_map, slice_get, Contains}
 use Rattle.sight_names.specs.declared.names.Pt.{Pt}
 use Rattle.sight_names.specs.declared.plan.Line.{Line}

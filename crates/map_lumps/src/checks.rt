@@ -2,42 +2,40 @@
 
 ghost use Rattle.std.specs.Prelude.{◌≡◌, ◌/◌, ◌<◌, ◌≤◌, false, None, Some, IfSome, IfNone, length};
 ghost use Rattle.sight_names.specs.Lumps.{is_bad_side as is_bad_side_lem, is_bad_sector as is_bad_sector_lem, count_linedefs as count_linedefs_lem, line_fault as line_fault_lem, lines_fault, lump_fault, numbers_below};
+ghost use Rattle.sight_names.specs.declared.limits.TheConstants.{LARGE_LINES};
 ghost use Rattle.map_lumps.specs.Records.{AllSound};
 ghost use Rattle.map_lumps.specs.Answers.{Passes, cut_lump as cut_lump_lem};
 
+use crate::limits::{most_lines, most_sectors};
 use crate::records::{
     NO_SIDE, SECTOR_LEN, SIDEDEF_LEN, VERTEX_LEN, count_linedefs, linedef_len, number, read_linedef,
 };
-use sight_names::{Lump, LumpFault, MapFormat};
-
-/// The most sectors and lines that a map may have.
-const MAX_SECTORS: usize = 4096;
-
-const MAX_LINES: usize = 16384;
+use sight_names::{Lump, LumpFault, MapFormat, Reading};
 
 /// The first of the checks before that of the number of points that fails.
 #[tactic(auto, unfolding(sight_names::specs::Lumps::lump_fault))]
 pub fn early_fault(
-    format: MapFormat,
+    reading: Reading,
     linedefs: &[u8],
     sidedefs: &[u8],
     vertexes: &[u8],
     sectors: &[u8],
 ) -> Option<LumpFault>
-    ensures fault { IfSome result (λ fault. lump_fault format linedefs.now sidedefs.now vertexes.now sectors.now ≡ Some fault) }
-    ensures passed { IfNone result (Passes format linedefs.now sidedefs.now vertexes.now sectors.now) }
+    ensures fault { IfSome result (λ fault. lump_fault reading linedefs.now sidedefs.now vertexes.now sectors.now ≡ Some fault) }
+    ensures passed { IfNone result (Passes reading linedefs.now sidedefs.now vertexes.now sectors.now) }
 {
+    let format = reading.format;
     if let Some(lump) = cut_lump(format, linedefs, sidedefs, vertexes, sectors) {
         return Some(LumpFault::BadSize { lump });
     }
     let count = sectors.len() / SECTOR_LEN;
-    if count > MAX_SECTORS {
+    if count > most_sectors(reading.large) {
         return Some(LumpFault::TooManySectors {
             count: count as u64,
         });
     }
     let count = count_linedefs(format, linedefs);
-    if count > MAX_LINES {
+    if count > most_lines(reading.large) {
         return Some(LumpFault::TooManyLines {
             count: count as u64,
         });
@@ -78,7 +76,7 @@ fn first_line_fault(
     vertexes: &[u8],
     sectors: &[u8],
 ) -> Option<LumpFault>
-    requires { count_linedefs_lem format linedefs.now ≤ 16384 }
+    requires { count_linedefs_lem format linedefs.now ≤ LARGE_LINES }
     ensures first { result ≡ lines_fault (line_fault_lem format linedefs.now sidedefs.now vertexes.now sectors.now) (numbers_below (count_linedefs_lem format linedefs.now)) None }
     ensures sound { IfNone result (AllSound format linedefs.now sidedefs.now vertexes.now sectors.now) }
 {

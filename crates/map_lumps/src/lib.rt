@@ -6,24 +6,23 @@ ghost use Rattle.std.specs.Prelude.{◌≡◌, IfOk};
 ghost use Rattle.sight_names.specs.Lumps.{lump_fault, map_of_lumps};
 ghost use Rattle.sight_names.specs.Map.{map_of};
 ghost use Rattle.sight_names.specs.Plan.{IsPlan};
-ghost use Rattle.sight_names.specs.declared.names.MapFormat.TheVariants.{Doom};
 ghost use Rattle.map_lumps.specs.Answers.{AnswersFirstFault};
 
 mod checks;
+mod limits;
 mod points;
 mod records;
 
 use checks::early_fault;
+use limits::most_points;
 use points::{plan_lines, points_of};
 use records::{SECTOR_LEN, placed_lines};
-use sight_names::{LumpFault, MapFormat, Plan};
+use sight_names::{LumpFault, Plan, Reading};
 use std::alloc::Global;
 
-/// The most points that a map may have.
-const MAX_POINTS: usize = 4096;
-
-/// The plan of the map that the four lumps spell in this format. Sides that no line names, vertices that no line uses,
-/// and bytes that the map has no use for are not looked at.
+/// The plan of the map that the four lumps spell in this format, by these limits. Sides that no line names, vertices that
+/// no line uses, and bytes that the map has no use for are not looked at; nor, in Hexen's format, is what a line does in the
+/// game, so that the lines of polyobjects count where they are drawn.
 ///
 /// # Errors
 ///
@@ -31,23 +30,24 @@ const MAX_POINTS: usize = 4096;
 /// and sectors, then the number of points.
 pub fn read_lumps(
     alloc: Global,
-    format: MapFormat,
+    reading: Reading,
     linedefs: &[u8],
     sidedefs: &[u8],
     vertexes: &[u8],
     sectors: &[u8],
 ) -> Result<Plan, LumpFault>
-    ensures map { IfOk result (λ plan. map_of plan ≡ map_of_lumps format linedefs.now sidedefs.now vertexes.now sectors.now) }
+    ensures map { IfOk result (λ plan. map_of plan ≡ map_of_lumps reading.format linedefs.now sidedefs.now vertexes.now sectors.now) }
     ensures plan { IfOk result IsPlan }
-    ensures fault { AnswersFirstFault result (lump_fault format linedefs.now sidedefs.now vertexes.now sectors.now) }
+    ensures fault { AnswersFirstFault result (lump_fault reading linedefs.now sidedefs.now vertexes.now sectors.now) }
 {
-    if let Some(fault) = early_fault(format, linedefs, sidedefs, vertexes, sectors) {
+    if let Some(fault) = early_fault(reading, linedefs, sidedefs, vertexes, sectors) {
         return Err(fault);
     }
+    let format = reading.format;
     let placed = placed_lines(alloc, format, linedefs, sidedefs, vertexes, sectors)?;
     let points = points_of(alloc, placed.as_slice())?;
     let count = points.len();
-    if count > MAX_POINTS {
+    if count > most_points(reading.large) {
         return Err(LumpFault::TooManyPoints {
             count: count as u64,
         });
@@ -59,30 +59,4 @@ pub fn read_lumps(
         points,
         lines,
     })
-}
-
-/// The plan of the map that the four lumps spell in Doom's format, as `read_lumps` reads it.
-///
-/// # Errors
-///
-/// The first check of `read_lumps` that fails.
-pub fn read_map(
-    alloc: Global,
-    linedefs: &[u8],
-    sidedefs: &[u8],
-    vertexes: &[u8],
-    sectors: &[u8],
-) -> Result<Plan, LumpFault>
-    ensures map { IfOk result (λ plan. map_of plan ≡ map_of_lumps Doom linedefs.now sidedefs.now vertexes.now sectors.now) }
-    ensures plan { IfOk result IsPlan }
-    ensures fault { AnswersFirstFault result (lump_fault Doom linedefs.now sidedefs.now vertexes.now sectors.now) }
-{
-    read_lumps(
-        alloc,
-        MapFormat::Doom,
-        linedefs,
-        sidedefs,
-        vertexes,
-        sectors,
-    )
 }

@@ -1,6 +1,7 @@
 //! The points of a map, and its lines between point numbers.
 
 ghost use Rattle.std.specs.Prelude.{◌≡◌, ◌++◌, ◌∷◌, [], ◌<◌, ◌≤◌, Some, Contains, IfOk, IfSome, OnOk, length, map, option_map, slice_get};
+ghost use Rattle.sight_names.specs.declared.limits.TheConstants.{LARGE_POINTS};
 ghost use Rattle.sight_names.specs.Map.{looked_up};
 ghost use Rattle.sight_names.specs.Points.{in_order};
 ghost use Rattle.map_lumps.specs.Records.{as_map_line, placed_ends, EndsAmong, EndsBelow, IsInOrder};
@@ -47,7 +48,7 @@ pub fn plan_lines(
     points: &[Pt],
     lines: &[Option<PlacedLine>],
 ) -> Result<Vec<Option<Line>>, AllocError>
-    requires few { length points.now ≤ 4096 }
+    requires few { length points.now ≤ LARGE_POINTS }
     requires order { IsInOrder points.now }
     requires ends { EndsAmong points.now lines.now }
     ensures same { IfOk result (λ plan. map (option_map (looked_up points.now)) plan.items ≡ map (option_map as_map_line) lines.now) }
@@ -62,7 +63,7 @@ pub fn plan_lines(
 
 /// A line between the numbers of its ends, where there is one.
 fn plan_entry(points: &[Pt], line: Option<PlacedLine>) -> Option<Line>
-    requires few { length points.now ≤ 4096 }
+    requires few { length points.now ≤ LARGE_POINTS }
     requires order { IsInOrder points.now }
     requires ends { EndsAmong points.now (line ∷ []) }
     ensures same { option_map (looked_up points.now) result ≡ option_map as_map_line line }
@@ -80,7 +81,7 @@ fn plan_entry(points: &[Pt], line: Option<PlacedLine>) -> Option<Line>
 
 /// The number of a point.
 fn number_of(points: &[Pt], point: Pt) -> u16
-    requires few { length points.now ≤ 4096 }
+    requires few { length points.now ≤ LARGE_POINTS }
     requires order { IsInOrder points.now }
     requires there { Contains points.now point }
     ensures { slice_get points.now result ≡ Some point }

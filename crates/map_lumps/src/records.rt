@@ -2,6 +2,7 @@
 
 ghost use Rattle.std.specs.Prelude.{◌≡◌, ◌≢◌, ◌+◌, ◌*◌, ◌/◌, ◌<◌, ◌≤◌, ◌==◌, ◌||◌, not, is_none, None, Some, IfOk, length, map, option_map};
 ghost use Rattle.std.specs.Int.{bit_at};
+ghost use Rattle.sight_names.specs.declared.limits.TheConstants.{LARGE_LINES};
 ghost use Rattle.sight_names.specs.Lumps.{u16_at, i16_at, vertex as vertex_lem, side_sector as side_sector_lem, linedef, linedef_len as linedef_len_lem, count_linedefs as count_linedefs_lem, line_fault, numbers_below};
 ghost use Rattle.map_lumps.specs.Records.{linedef_at, linedef_from as linedef_from_lem, as_map_line, AllSound};
 
@@ -183,7 +184,7 @@ pub fn placed_lines(
     vertexes: &[u8],
     sectors: &[u8],
 ) -> Result<Vec<Option<PlacedLine>>, AllocError>
-    requires few { count_linedefs_lem format linedefs.now ≤ 16384 }
+    requires few { count_linedefs_lem format linedefs.now ≤ LARGE_LINES }
     requires sound { AllSound format linedefs.now sidedefs.now vertexes.now sectors.now }
     ensures { IfOk result (λ lines. map (option_map as_map_line) lines.items ≡ map (linedef format linedefs.now sidedefs.now vertexes.now) (numbers_below (count_linedefs_lem format linedefs.now))) }
 {

@@ -2,6 +2,8 @@
 use Rattle.std.specs.Prelude.{ℕ, ◌+◌, ◌*◌, ◌==◌, ◌&&◌, Bool, List, [], ◌∷◌, ◌++◌, Option, Some, None, if◌then◌else◌, replicate, codes}
 use Rattle.std.specs.List.{list_any}
 use Rattle.std.specs.Int.{w16, to_le_bytes}
+use Rattle.sight_names.specs.declared.names.MapFormat.{MapFormat}
+use Rattle.sight_names.specs.declared.names.MapFormat.TheVariants.{Doom, Hexen}
 use Rattle.wad_dir.specs.declared.parts.Kind.TheVariants.{Pwad}
 use Rattle.wad_dir.specs.Wad.{WadFile, WadLump}
 use Rattle.hexen_lumps.specs.Turned.{hexen_of}
@@ -94,10 +96,14 @@ linedefs_in n = linedefs_from (points_in n) 0 (lines_of n)
 unfoldable pub grid_lumps : ℕ → List ℕ → List WadLump
 grid_lumps n linedefs = lumps_with linedefs (sidedefs_of (lines_of n)) (vertexes_of (points_in n)) (replicate (26 * sector_count n) 0)
 
--- the WAD of the map of n times n rooms
-unfoldable pub grid_file : ℕ → WadFile
-grid_file n = record { kind = Pwad; lumps = grid_lumps n (linedefs_in n) }
+-- the WAD of the map of n times n rooms in Doom's format
+unfoldable pub doom_file : ℕ → WadFile
+doom_file n = record { kind = Pwad; lumps = grid_lumps n (linedefs_in n) }
 
--- the same in Hexen's format, with an empty BEHAVIOR
-unfoldable pub grid_hexen_file : ℕ → WadFile
-grid_hexen_file n = record { kind = Pwad; lumps = grid_lumps n (hexen_of (linedefs_in n)) ++ named (codes "BEHAVIOR") [] ∷ [] }
+-- .. and in Hexen's, with an empty BEHAVIOR
+unfoldable pub hexen_file : ℕ → WadFile
+hexen_file n = record { kind = Pwad; lumps = grid_lumps n (hexen_of (linedefs_in n)) ++ named (codes "BEHAVIOR") [] ∷ [] }
+
+abbrev pub grid_file : ℕ → MapFormat → WadFile
+grid_file n Doom = doom_file n
+grid_file n Hexen = hexen_file n

@@ -6,4 +6,4 @@ mod lumps;
 mod maker;
 mod points;
 
-pub use maker::{grid, grid_hexen};
+pub use maker::grid;

@@ -6,13 +6,13 @@ ghost use Rattle.wad_dir.specs.Print.{print};
 ghost use Rattle.wad_dir.specs.declared.parts.Kind.TheVariants.{Pwad};
 ghost use Rattle.wad_rewrite.specs.Lumps.{views};
 ghost use Rattle.map_maker.specs.Lines.{lines_of, sector_count};
-ghost use Rattle.map_maker.specs.Lumps.{grid_file, grid_hexen_file, linedefs_in, lumps_with, named, points_in, sidedefs_of, vertexes_of};
+ghost use Rattle.map_maker.specs.Lumps.{doom_file, grid_file, hexen_file, linedefs_in, lumps_with, named, points_in, sidedefs_of, vertexes_of};
 
 use crate::lines::lines;
 use crate::lumps::{linedefs, sidedefs, vertexes, zeros};
 use crate::points::points;
 use hexen_lumps::to_hexen;
-use sight_names::Memory;
+use sight_names::{MapFormat, Memory};
 use std::alloc::{AllocError, Global};
 use wad_dir::Kind;
 use wad_rewrite::{OutputLump, write_wad};
@@ -128,13 +128,12 @@ fn parts_of(alloc: Global, n: usize) -> Result<Parts, AllocError>
     })
 }
 
-/// The WAD of a made map of `n` times `n` rooms, 1 to 18, each 128 wide and joined to its neighbours by corridors.
-/// There are `3 n n - 2 n` sectors, `12 n n - 8 n` points and `4 n n + 12 n (n - 1)` lines.
-#[tactic(auto, unfolding(crate::specs::Lumps::grid_file, crate::specs::Lumps::grid_lumps))]
-pub fn grid(alloc: Global, n: u16) -> Result<Vec<u8>, Memory>
+/// The WAD of the map in Doom's format.
+#[tactic(auto, unfolding(crate::specs::Lumps::doom_file, crate::specs::Lumps::grid_lumps))]
+fn doom(alloc: Global, n: u16) -> Result<Vec<u8>, Memory>
     requires some { 1 ≤ n }
     requires side { n ≤ 18 }
-    ensures { IfOk result (λ v. v.items ≡ print (grid_file n)) }
+    ensures { IfOk result (λ v. v.items ≡ print (doom_file n)) }
 {
     let parts = parts_of(alloc, n as usize)?;
     let lumps = lumps_of(
@@ -146,15 +145,28 @@ pub fn grid(alloc: Global, n: u16) -> Result<Vec<u8>, Memory>
     write(alloc, &lumps[..DOOM_LUMPS])
 }
 
-/// The WAD of the same map in Hexen's format, with an empty BEHAVIOR behind BLOCKMAP.
-#[tactic(auto, using(crate::proofs::Whole::linedefs_whole), unfolding(crate::specs::Lumps::grid_hexen_file, crate::specs::Lumps::grid_lumps))]
-pub fn grid_hexen(alloc: Global, n: u16) -> Result<Vec<u8>, Memory>
+/// The WAD of the map in Hexen's format, with an empty BEHAVIOR behind BLOCKMAP.
+#[tactic(auto, using(crate::proofs::Whole::linedefs_whole), unfolding(crate::specs::Lumps::hexen_file, crate::specs::Lumps::grid_lumps))]
+fn hexen(alloc: Global, n: u16) -> Result<Vec<u8>, Memory>
     requires some { 1 ≤ n }
     requires side { n ≤ 18 }
-    ensures { IfOk result (λ v. v.items ≡ print (grid_hexen_file n)) }
+    ensures { IfOk result (λ v. v.items ≡ print (hexen_file n)) }
 {
     let parts = parts_of(alloc, n as usize)?;
     let linedefs = to_hexen(alloc, &parts.linedefs)?;
     let lumps = lumps_of(&linedefs, &parts.sidedefs, &parts.vertexes, &parts.sectors);
     write(alloc, &lumps)
+}
+
+/// The WAD of a made map of `n` times `n` rooms, 1 to 18, each 128 wide and joined to its neighbours by corridors, in this
+/// format. There are `3 n n - 2 n` sectors, `12 n n - 8 n` points and `4 n n + 12 n (n - 1)` lines.
+pub fn grid(alloc: Global, n: u16, format: MapFormat) -> Result<Vec<u8>, Memory>
+    requires some { 1 ≤ n }
+    requires side { n ≤ 18 }
+    ensures { IfOk result (λ v. v.items ≡ print (grid_file n format)) }
+{
+    match format {
+        MapFormat::Doom => doom(alloc, n),
+        MapFormat::Hexen => hexen(alloc, n),
+    }
 }

@@ -2,10 +2,10 @@
 
 ghost use Rattle.std.specs.Prelude.{◌≡◌, ◌+◌, ◌*◌, ◌/◌, ◌%◌, ◌<◌, ◌≤◌, ◌==◌, Bool, IfOk, IsTrue, length};
 ghost use Rattle.std.specs.Int.{bit_at};
-ghost use Rattle.sight_names.specs.Lumps.{u16_at};
-ghost use Rattle.sound_reach.specs.Dampers.{dampers_of, is_damper, record_len};
+ghost use Rattle.sight_names.specs.Lumps.{linedef_len as linedef_len_lem, u16_at};
+ghost use Rattle.sound_reach.specs.Dampers.{dampers_of, is_damper};
 
-use sight_names::Memory;
+use sight_names::{MapFormat, Memory};
 use std::alloc::Global;
 
 /// Bytes of a LINEDEFS record of a Doom map.
@@ -34,18 +34,21 @@ fn blocks_sound(flags: u16) -> bool
 }
 
 /// Bytes of a record.
-fn record_len_of(hexen: bool) -> usize
-    ensures { result ≡ record_len hexen }
+fn linedef_len(format: MapFormat) -> usize
+    ensures { result ≡ linedef_len_lem format }
 {
-    if hexen { HEXEN_LEN } else { DOOM_LEN }
+    match format {
+        MapFormat::Doom => DOOM_LEN,
+        MapFormat::Hexen => HEXEN_LEN,
+    }
 }
 
 /// For each record of LINEDEFS whether its line blocks sound.
-pub fn dampers(alloc: Global, linedefs: &[u8], hexen: bool) -> Result<Vec<bool>, Memory>
-    requires { length linedefs.now % record_len hexen ≡ 0 }
-    ensures { IfOk result (λ v. v.items ≡ dampers_of hexen linedefs.now) }
+pub fn dampers(alloc: Global, linedefs: &[u8], format: MapFormat) -> Result<Vec<bool>, Memory>
+    requires { length linedefs.now % linedef_len_lem format ≡ 0 }
+    ensures { IfOk result (λ v. v.items ≡ dampers_of format linedefs.now) }
 {
-    let len = record_len_of(hexen);
+    let len = linedef_len(format);
     let mut dampers = Vec::new(alloc);
     for k in 0..linedefs.len() / len {
         dampers.push(blocks_sound(number(linedefs, len * k + 4)))?;

@@ -4,7 +4,8 @@ use Rattle.std.proofs.Common.{◌≡◌, ℕ, zero, suc, ◌+◌, ◌-◌, ◌<�
 use Rattle.std.specs.Prelude.{bytes_eq, codes, slice_get}
 use Rattle.std.specs.List.{insert}
 use Rattle.wad_dir.specs.declared.parts.MapSpot.{MapSpot}
-use Rattle.wad_dir.specs.Map.{begins_with_behavior, key_of, last_from, same_name, shifted, spot_of}
+use Rattle.sight_names.specs.declared.names.MapFormat.{MapFormat}
+use Rattle.wad_dir.specs.Map.{format_behind, key_of, last_from, same_name, shifted, spot_of}
 use Rattle.wad_dir.proofs.Inserted.{drop_behind, drop_insert, last_kept, last_within, more, more_stays}
 use Rattle.wad_dir.proofs.Spots.{IsSpot, of_by, place, spot_at, spot_from, spot_of_by, spot_parts}
 use Rattle.std.proofs.lemmas.List.{length-drop}
@@ -69,23 +70,23 @@ last_moved (n ∷ ns) (suc i) name x k found m apart not other le h =
 
 -- the spot that stands so much further on
 abbrev pub further : ℕ → MapSpot → MapSpot
-further by spot = record { marker = by + spot.marker; linedefs = by + spot.linedefs; sidedefs = by + spot.sidedefs; vertexes = by + spot.vertexes; sectors = by + spot.sectors; reject = shifted by spot.reject; hexen = spot.hexen }
+further by spot = record { marker = by + spot.marker; linedefs = by + spot.linedefs; sidedefs = by + spot.sidedefs; vertexes = by + spot.vertexes; sectors = by + spot.sectors; reject = shifted by spot.reject; format = spot.format }
 
-abbrev pub spot_by_parts : ℕ → ℕ → ℕ → ℕ → ℕ → Option ℕ → Bool → MapSpot
-spot_by_parts m l s v c r hexen = record { marker = m; linedefs = l; sidedefs = s; vertexes = v; sectors = c; reject = r; hexen = hexen }
+abbrev pub spot_by_parts : ℕ → ℕ → ℕ → ℕ → ℕ → Option ℕ → MapFormat → MapSpot
+spot_by_parts m l s v c r format = record { marker = m; linedefs = l; sidedefs = s; vertexes = v; sectors = c; reject = r; format = format }
 
 shifted_more : (m : ℕ) (r : Option ℕ) → shifted (m + 1 + 1) r ≡ shifted 1 (shifted (m + 1) r)
 shifted_more m None = refl
 shifted_more m (Some k) = let same : m + 1 + 1 + k ≡ 1 + (m + 1 + k) = omega arith in ap (λ (i : ℕ). Some i) same
 
-at_further : (m l s v c : ℕ) (r : Option ℕ) (hexen : Bool) → spot_at (m + 1) hexen l s v c r ≡ further 1 (spot_at m hexen l s v c r)
-at_further m l s v c r hexen =
+at_further : (m l s v c : ℕ) (r : Option ℕ) (format : MapFormat) → spot_at (m + 1) format l s v c r ≡ further 1 (spot_at m format l s v c r)
+at_further m l s v c r format =
     let em : m + 1 ≡ 1 + m = omega arith in
     let el : m + 1 + 1 + l ≡ 1 + (m + 1 + l) = omega arith in
     let es : m + 1 + 1 + s ≡ 1 + (m + 1 + s) = omega arith in
     let ev : m + 1 + 1 + v ≡ 1 + (m + 1 + v) = omega arith in
     let ec : m + 1 + 1 + c ≡ 1 + (m + 1 + c) = omega arith in
-    (λ i. spot_by_parts (em i) (el i) (es i) (ev i) (ec i) (shifted_more m r i) hexen)
+    (λ i. spot_by_parts (em i) (el i) (es i) (ev i) (ec i) (shifted_more m r i) format)
 
 -- a map behind a name that is put in stands one further on
 pub spot_moved : (ns : List (List ℕ)) (i : ℕ) (name x : List ℕ) (spot : MapSpot) → same_name x name ≡ false → i ≤ spot.marker → spot_of ns name ≡ Ok spot → spot_of (insert ns i x) name ≡ Ok (further 1 spot)
@@ -95,11 +96,11 @@ spot_moved ns i name x spot apart le found =
     let within : p.marker < 0 + length ns = last_within ns name 0 p.marker p.is_last in
     let after : drop (p.marker + 1 + 1) (insert ns i x) ≡ drop (p.marker + 1) ns = ap (λ (k : ℕ). drop k (insert ns i x)) (is_next (p.marker + 1)) ∙ drop_behind ns i (p.marker + 1) x (omega (arith, le, marker)) (omega (arith, le, marker, within)) in
     let there : (lump : List ℕ) (o : Option ℕ) → place lump (more [] (drop (p.marker + 1) ns)) ≡ o → place lump (more [] (drop (p.marker + 1 + 1) (insert ns i x))) ≡ o = (λ lump o e. ap (λ (ys : List (List ℕ)). place lump (more [] ys)) after ∙ e) in
-    spot_from (insert ns i x) name (spot_at (p.marker + 1) p.hexen p.l p.s p.v p.c p.r) (record {
+    spot_from (insert ns i x) name (spot_at (p.marker + 1) p.format p.l p.s p.v p.c p.r) (record {
       marker = p.marker + 1;
       is_last = last_moved ns i name x 0 None p.marker apart (λ e. none_is_not_some p.marker e) (λ e. none_is_not_some (p.marker + 1) e) (omega (arith, le, marker)) p.is_last;
-      hexen = p.hexen;
-      behind_run = ap (λ (ys : List (List ℕ)). begins_with_behavior (drop (length (more [] ys)) ys)) after ∙ p.behind_run;
+      format = p.format;
+      behind_run = ap (λ (ys : List (List ℕ)). format_behind (drop (length (more [] ys)) ys)) after ∙ p.behind_run;
       l = p.l;
       s = p.s;
       v = p.v;
@@ -112,11 +113,11 @@ spot_moved ns i name x spot apart le found =
       reject = there (codes "REJECT") p.r p.reject;
       is = refl;
     })
-    ∙ ap (λ (y : MapSpot). Ok y) (at_further p.marker p.l p.s p.v p.c p.r p.hexen ∙ ap (further 1) (sym p.is))
+    ∙ ap (λ (y : MapSpot). Ok y) (at_further p.marker p.l p.s p.v p.c p.r p.format ∙ ap (further 1) (sym p.is))
 
 -- ---- a name that is put in behind
 
-next_stays : (xs : List (List ℕ)) (n p : ℕ) (x : List ℕ) → n < p → p ≤ length xs → begins_with_behavior (drop n (insert xs p x)) ≡ begins_with_behavior (drop n xs)
+next_stays : (xs : List (List ℕ)) (n p : ℕ) (x : List ℕ) → n < p → p ≤ length xs → format_behind (drop n (insert xs p x)) ≡ format_behind (drop n xs)
 next_stays xs n zero x lt le = absurd (omega (arith, lt))
 next_stays [] n (suc p) x lt le = absurd (omega (arith, le))
 next_stays (y ∷ xs) zero (suc p) x lt le = refl
@@ -131,11 +132,11 @@ stays_at ns name x spot p q apart lt le =
     let after_is : drop (p.marker + 1) new ≡ insert after q x = drop_insert ns (p.marker + 1) q x (omega (arith, le)) in
     let run_is : more [] (insert after q x) ≡ more [] after = more_stays q [] after x lt within in
     let there : (lump : List ℕ) (o : Option ℕ) → place lump (more [] after) ≡ o → place lump (more [] (drop (p.marker + 1) new)) ≡ o = (λ lump o e. ap (λ (ys : List (List ℕ)). place lump (more [] ys)) after_is ∙ ap (λ (ys : List (List ℕ)). place lump ys) run_is ∙ e) in
-    spot_from new name (spot_at p.marker p.hexen p.l p.s p.v p.c p.r) (record {
+    spot_from new name (spot_at p.marker p.format p.l p.s p.v p.c p.r) (record {
       marker = p.marker;
       is_last = last_kept ns (p.marker + 1 + q) name x 0 None p.marker apart (omega arith) p.is_last;
-      hexen = p.hexen;
-      behind_run = ap (λ (ys : List (List ℕ)). begins_with_behavior (drop (length (more [] ys)) ys)) after_is ∙ ap (λ (ys : List (List ℕ)). begins_with_behavior (drop (length ys) (insert after q x))) run_is ∙ next_stays after (length (more [] after)) q x lt within ∙ p.behind_run;
+      format = p.format;
+      behind_run = ap (λ (ys : List (List ℕ)). format_behind (drop (length (more [] ys)) ys)) after_is ∙ ap (λ (ys : List (List ℕ)). format_behind (drop (length ys) (insert after q x))) run_is ∙ next_stays after (length (more [] after)) q x lt within ∙ p.behind_run;
       l = p.l;
       s = p.s;
       v = p.v;

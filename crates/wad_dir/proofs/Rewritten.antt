@@ -8,7 +8,7 @@ use Rattle.std.proofs.lemmas.Bool.Decides.{Decides-ltb, not_from_Decides}
 use Rattle.std.proofs.lemmas.List.{length-drop, length-map, length-set}
 use Rattle.std.proofs.lemmas.List.Edits.{length-insert}
 use Rattle.wad_dir.specs.declared.parts.MapSpot.{MapSpot}
-use Rattle.wad_dir.specs.Map.{begins_with_behavior, last_from, same_name, shifted, spot_of}
+use Rattle.wad_dir.specs.Map.{format_behind, last_from, same_name, shifted, spot_of}
 use Rattle.wad_dir.specs.Print.{reject_lump, with_bytes, with_reject}
 use Rattle.wad_dir.specs.Wad.{WadFile, WadLump, names_of}
 use Rattle.wad_dir.specs.Kept.{IsKept, spot_then}
@@ -134,12 +134,12 @@ module _ (ns : List (List ℕ)) (name : List ℕ) (spot : MapSpot) (p : IsSpot n
     at_put : (x : List ℕ) (k : ℕ) → place x (insert run (p.c + 1) padded) ≡ Some k → place x (more [] (drop (p.marker + 1) put)) ≡ Some k
     at_put x k h = ap (λ (ys : List (List ℕ)). place x (more [] ys)) after_put ∙ ap (place x) run_put ∙ h
 
-    parts_put : IsSpot put name (spot_at p.marker p.hexen (moved p.c p.l) (moved p.c p.s) (moved p.c p.v) (moved p.c p.c) (Some (p.c + 1)))
+    parts_put : IsSpot put name (spot_at p.marker p.format (moved p.c p.l) (moved p.c p.s) (moved p.c p.v) (moved p.c p.c) (Some (p.c + 1)))
     parts_put = record {
       marker = p.marker;
       is_last = last_put;
-      hexen = p.hexen;
-      behind_run = ap (λ (ys : List (List ℕ)). begins_with_behavior (drop (length (more [] ys)) ys)) after_put ∙ ap (λ (ys : List (List ℕ)). begins_with_behavior (drop (length ys) (insert after (p.c + 1) padded))) run_put ∙ ap begins_with_behavior end_put ∙ p.behind_run;
+      format = p.format;
+      behind_run = ap (λ (ys : List (List ℕ)). format_behind (drop (length (more [] ys)) ys)) after_put ∙ ap (λ (ys : List (List ℕ)). format_behind (drop (length ys) (insert after (p.c + 1) padded))) run_put ∙ ap format_behind end_put ∙ p.behind_run;
       l = moved p.c p.l;
       s = moved p.c p.s;
       v = moved p.c p.v;
@@ -155,21 +155,21 @@ module _ (ns : List (List ℕ)) (name : List ℕ) (spot : MapSpot) (p : IsSpot n
 
     -- which is the old spot, moved
     abbrev spot_of_five : ℕ → ℕ → ℕ → ℕ → ℕ → MapSpot
-    spot_of_five l s v c r = record { marker = p.marker; linedefs = l; sidedefs = s; vertexes = v; sectors = c; reject = Some r; hexen = p.hexen }
+    spot_of_five l s v c r = record { marker = p.marker; linedefs = l; sidedefs = s; vertexes = v; sectors = c; reject = Some r; format = p.format }
 
-    is_then : spot_at p.marker p.hexen (moved p.c p.l) (moved p.c p.s) (moved p.c p.v) (moved p.c p.c) (Some (p.c + 1)) ≡ spot_then (spot_at p.marker p.hexen p.l p.s p.v p.c None)
+    is_then : spot_at p.marker p.format (moved p.c p.l) (moved p.c p.s) (moved p.c p.v) (moved p.c p.c) (Some (p.c + 1)) ≡ spot_then (spot_at p.marker p.format p.l p.s p.v p.c None)
     is_then =
         let r : p.marker + 1 + (p.c + 1) ≡ p.marker + 1 + p.c + 1 = omega arith in
         (λ i. spot_of_five (moved_by (p.marker + 1) p.c p.l i) (moved_by (p.marker + 1) p.c p.s i) (moved_by (p.marker + 1) p.c p.v i) (moved_by (p.marker + 1) p.c p.c i) (r i))
 
     pub spot_put : spot_of put name ≡ Ok (spot_then spot)
-    spot_put = spot_from put name _ parts_put ∙ ap (λ (x : MapSpot). Ok x) (is_then ∙ ap spot_then (ap (spot_at p.marker p.hexen p.l p.s p.v p.c) (sym none) ∙ sym p.is))
+    spot_put = spot_from put name _ parts_put ∙ ap (λ (x : MapSpot). Ok x) (is_then ∙ ap spot_then (ap (spot_at p.marker p.format p.l p.s p.v p.c) (sym none) ∙ sym p.is))
 
 -- ---- one is there, or none
 
 -- the spot with another REJECT
 abbrev with_place : MapSpot → Option ℕ → MapSpot
-with_place spot o = record { marker = spot.marker; linedefs = spot.linedefs; sidedefs = spot.sidedefs; vertexes = spot.vertexes; sectors = spot.sectors; reject = o; hexen = spot.hexen }
+with_place spot o = record { marker = spot.marker; linedefs = spot.linedefs; sidedefs = spot.sidedefs; vertexes = spot.vertexes; sectors = spot.sectors; reject = o; format = spot.format }
 
 abbrev rewritten : WadFile → MapSpot → Option ℕ → List ℕ → WadFile
 rewritten w spot o table = with_reject w (with_place spot o) table

@@ -14,7 +14,7 @@ reject_then spot = elim spot.reject [ Some r ↦ r | None ↦ spot.sectors + 1 ]
 
 -- where the map stands then
 abbrev pub spot_then : MapSpot → MapSpot
-spot_then spot = record { marker = spot.marker; linedefs = place_then spot spot.linedefs; sidedefs = place_then spot spot.sidedefs; vertexes = place_then spot spot.vertexes; sectors = place_then spot spot.sectors; reject = Some (reject_then spot); hexen = spot.hexen }
+spot_then spot = record { marker = spot.marker; linedefs = place_then spot spot.linedefs; sidedefs = place_then spot spot.sidedefs; vertexes = place_then spot spot.vertexes; sectors = place_then spot spot.sectors; reject = Some (reject_then spot); format = spot.format }
 
 -- how many lumps there are then
 abbrev pub count_then : MapSpot → ℕ → ℕ

@@ -1,5 +1,5 @@
 -- Where a map lies in a directory (the Unofficial Doom Specs on the lumps of a map).
-use Rattle.std.specs.Prelude.{ℕ, ◌+◌, ◌==◌, Bool, true, false, not, ◌&&◌, List, [], ◌∷◌, ◌++◌, length, drop, Option, Some, None, Result, Ok, Err, if◌then◌else◌, position, codes, map}
+use Rattle.std.specs.Prelude.{ℕ, ◌+◌, ◌==◌, Bool, not, ◌&&◌, List, [], ◌∷◌, ◌++◌, length, drop, Option, Some, None, Result, Ok, Err, if◌then◌else◌, position, codes, map}
 use Rattle.std.specs.List.{list_any}
 use Rattle.std.specs.Char.{to_ascii_uppercase}
 use Rattle.std.specs.Str.{bytes_eq}
@@ -67,29 +67,25 @@ abbrev pub shifted : ℕ → Option ℕ → Option ℕ
 shifted by None = None
 shifted by (Some k) = Some (by + k)
 
--- the format that a spot tells
-abbrev pub format_of : Bool → MapFormat
-format_of true = Hexen
-format_of false = Doom
-
--- the spot of a map whose run stands right behind its marker, in Hexen's format or in Doom's
-unfoldable pub spot_in : ℕ → Bool → List (List ℕ) → Result MapSpot MapFault
-spot_in marker hexen run = do
+-- the spot of a map of this format whose run stands right behind its marker
+unfoldable pub spot_in : ℕ → MapFormat → List (List ℕ) → Result MapSpot MapFault
+spot_in marker format run = do
   linedefs ← needed_in run Linedefs
   sidedefs ← needed_in run Sidedefs
   vertexes ← needed_in run Vertexes
   sectors ← needed_in run Sectors
-  Ok (record { marker = marker; linedefs = marker + 1 + linedefs; sidedefs = marker + 1 + sidedefs; vertexes = marker + 1 + vertexes; sectors = marker + 1 + sectors; reject = shifted (marker + 1) (place_in (codes "REJECT") run); hexen = hexen })
+  Ok (record { marker = marker; linedefs = marker + 1 + linedefs; sidedefs = marker + 1 + sidedefs; vertexes = marker + 1 + vertexes; sectors = marker + 1 + sectors; reject = shifted (marker + 1) (place_in (codes "REJECT") run); format = format })
 
-abbrev pub begins_with_behavior : List (List ℕ) → Bool
-begins_with_behavior [] = false
-begins_with_behavior (n ∷ ns) = same_name n (codes "BEHAVIOR")
+-- the format of a map behind whose run these names follow: BEHAVIOR right behind it means Hexen's
+abbrev pub format_behind : List (List ℕ) → MapFormat
+format_behind [] = Doom
+format_behind (n ∷ ns) = if same_name n (codes "BEHAVIOR") then Hexen else Doom
 
--- the spot of a map behind whose marker these names follow. Behind the run BEHAVIOR means Hexen's format
+-- the spot of a map behind whose marker these names follow
 unfoldable pub spot_behind : ℕ → List (List ℕ) → Result MapSpot MapFault
 spot_behind marker after =
     let run : List (List ℕ) = run_from [] after in
-    spot_in marker (begins_with_behavior (drop (length run) after)) run
+    spot_in marker (format_behind (drop (length run) after)) run
 
 -- the spot, among these names, of the map whose marker is the last of that name, or the first check that fails
 unfoldable pub spot_of : List (List ℕ) → List ℕ → Result MapSpot MapFault

@@ -1,10 +1,10 @@
 //! The place of a map in a directory.
 
 ghost use Rattle.std.specs.Prelude.{◌≡◌, ◌+◌, ◌≤◌, ◌<◌, List, [], length, take, drop, IfOk, IfSome, None};
-ghost use Rattle.wad_dir.specs.Map.{same_name, last_from, run_from, is_run_name, has_name, place_in, needed_in, begins_with_behavior, spot_in, spot_behind, spot_of, name_of, entry_names};
+ghost use Rattle.wad_dir.specs.Map.{same_name, last_from, run_from, is_run_name, has_name, place_in, needed_in, format_behind, spot_in, spot_behind, spot_of, name_of, entry_names};
 
 use crate::parts::{Entry, MapSpot, Wad};
-use sight_names::{Lump, MapFault};
+use sight_names::{Lump, MapFault, MapFormat};
 
 /// Whether two names are the same: up to their first NUL, in upper or in lower case.
 pub fn is_same_name(a: &[u8], b: &[u8]) -> bool
@@ -121,19 +121,20 @@ fn needed(run: &[Entry], lump: Lump) -> Result<usize, MapFault>
     }
 }
 
-fn is_behavior_next(rest: &[Entry]) -> bool
-    ensures { result ≡ begins_with_behavior (entry_names rest.now) }
+/// The format of a map behind whose lumps these entries follow.
+fn format_by(rest: &[Entry]) -> MapFormat
+    ensures { result ≡ format_behind (entry_names rest.now) }
 {
     match rest {
-        [] => false,
-        [entry, ..] => is_same_name(&entry.name, b"BEHAVIOR"),
+        [entry, ..] if is_same_name(&entry.name, b"BEHAVIOR") => MapFormat::Hexen,
+        _ => MapFormat::Doom,
     }
 }
 
 #[tactic(auto, unfolding(crate::specs::Map::spot_in))]
-fn spot(marker: usize, hexen: bool, run: &[Entry]) -> Result<MapSpot, MapFault>
+fn spot(marker: usize, format: MapFormat, run: &[Entry]) -> Result<MapSpot, MapFault>
     requires { marker + 1 + length run.now ≤ 65536 }
-    ensures spot { result ≡ spot_in marker hexen (entry_names run.now) }
+    ensures spot { result ≡ spot_in marker format (entry_names run.now) }
     ensures linedefs { IfOk result (λ spot. spot.linedefs ≤ marker + length run.now) }
     ensures sidedefs { IfOk result (λ spot. spot.sidedefs ≤ marker + length run.now) }
     ensures vertexes { IfOk result (λ spot. spot.vertexes ≤ marker + length run.now) }
@@ -156,7 +157,7 @@ fn spot(marker: usize, hexen: bool, run: &[Entry]) -> Result<MapSpot, MapFault>
         vertexes: (first + vertexes) as u32,
         sectors: (first + sectors) as u32,
         reject,
-        hexen,
+        format,
     })
 }
 
@@ -171,7 +172,7 @@ pub fn spot_after(marker: usize, after: &[Entry]) -> Result<MapSpot, MapFault>
     ensures reject { IfOk result (λ spot. IfSome spot.reject (λ k. k ≤ marker + length after.now)) }
 {
     let (run, rest) = after.split_at(run_at_front(after));
-    spot(marker, is_behavior_next(rest), run)
+    spot(marker, format_by(rest), run)
 }
 
 /// Where the lumps of the last map of that name stand, or the first check that fails.

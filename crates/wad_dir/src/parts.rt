@@ -2,7 +2,7 @@
 
 ghost use Rattle.std.specs.Prelude.{◌≤◌, length};
 
-use sight_names::Items;
+use sight_names::{Items, MapFormat};
 
 /// Whether a WAD is a game's own or an addition to one.
 #[derive(Clone, Copy, Debug, PartialEq, Eq)]
@@ -27,8 +27,8 @@ pub struct Wad {
     pub ghost few: { length entries ≤ 65536 },
 }
 
-/// Where the lumps of a map stand in the directory, and whether the map is of Hexen's format: whether the entry right
-/// behind its lumps is BEHAVIOR.
+/// Where the lumps of a map stand in the directory, and the format of the map: Hexen's where the entry right behind its
+/// lumps is BEHAVIOR, else Doom's.
 #[derive(Clone, Copy, Debug, PartialEq, Eq)]
 pub struct MapSpot {
     pub marker: u32,
@@ -37,5 +37,5 @@ pub struct MapSpot {
     pub vertexes: u32,
     pub sectors: u32,
     pub reject: Option<u32>,
-    pub hexen: bool,
+    pub format: MapFormat,
 }

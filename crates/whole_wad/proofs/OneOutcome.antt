@@ -1,5 +1,5 @@
 -- What comes of the maps of a WAD within a budget is one: each map has one table and one list, or one flaw.
-use Rattle.std.proofs.Common.{◌≡◌, List, [], ◌∷◌, map, ℕ, Result, Ok, Err, sym, ap, ◌∙◌, subst, refl}
+use Rattle.std.proofs.Common.{◌≡◌, Bool, List, [], ◌∷◌, map, ℕ, Result, Ok, Err, sym, ap, ◌∙◌, subst, refl}
 use Rattle.std.specs.List.{AllByRecursion}
 use Rattle.sight_names.specs.declared.faults.LineFault.{LineFault}
 use Rattle.sight_names.specs.declared.names.Ask.{Ask}
@@ -66,21 +66,21 @@ abbrev other_names : List (List ℕ) → List (List ℕ)
 other_names [] = []
 other_names (n ∷ ns) = ns
 
-one_outcome : (w : WadFile) (budget : Ask) (one other : MapOutcome) → one.name ≡ other.name → ComesOf w budget one → ComesOf w budget other → one ≡ other
-one_outcome w budget one other e h k =
-    let made = one_got (map_named w (word_of other.name)) budget one.made other.made (subst (λ (n : List ℕ). Gets (map_named w (word_of n)) budget one.made) e h) k in
+one_outcome : (w : WadFile) (large : Bool) (budget : Ask) (one other : MapOutcome) → one.name ≡ other.name → ComesOf w large budget one → ComesOf w large budget other → one ≡ other
+one_outcome w large budget one other e h k =
+    let made = one_got (map_named large w (word_of other.name)) budget one.made other.made (subst (λ (n : List ℕ). Gets (map_named large w (word_of n)) budget one.made) e h) k in
     λ i. record { name = e i; made = made i }
 
-one_list : (w : WadFile) (budget : Ask) (ones others : List MapOutcome) → named ones ≡ named others → AllByRecursion (ComesOf w budget) ones → AllByRecursion (ComesOf w budget) others → ones ≡ others
+one_list : (w : WadFile) (large : Bool) (budget : Ask) (ones others : List MapOutcome) → named ones ≡ named others → AllByRecursion (ComesOf w large budget) ones → AllByRecursion (ComesOf w large budget) others → ones ≡ others
 unfolding named
-one_list w budget [] [] e h k = refl
-one_list w budget [] (o ∷ os) e h k = absurd cc
-one_list w budget (o ∷ os) [] e h k = absurd cc
-one_list w budget (o ∷ os) (p ∷ ps) e h k =
-    let first = one_outcome w budget o p (ap first_name e) h.0 k.0 in
-    let rest = one_list w budget os ps (ap other_names e) h.1 k.1 in
+one_list w large budget [] [] e h k = refl
+one_list w large budget [] (o ∷ os) e h k = absurd cc
+one_list w large budget (o ∷ os) [] e h k = absurd cc
+one_list w large budget (o ∷ os) (p ∷ ps) e h k =
+    let first = one_outcome w large budget o p (ap first_name e) h.0 k.0 in
+    let rest = one_list w large budget os ps (ap other_names e) h.1 k.1 in
     λ i. first i ∷ rest i
 
 pub outcomes_are_one : OutcomesAreOne
 unfolding named
-outcomes_are_one w names budget one other h k = one_list w budget one other (h.each ∙ sym k.each) h.comes k.comes
+outcomes_are_one w large names budget one other h k = one_list w large budget one other (h.each ∙ sym k.each) h.comes k.comes

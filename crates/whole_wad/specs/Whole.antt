@@ -1,5 +1,5 @@
 -- The WAD with the tables of maps of these names.
-use Rattle.std.specs.Prelude.{◌≡◌, ℕ, List, length, Result, Ok, Err, ⊤, string_bytes}
+use Rattle.std.specs.Prelude.{◌≡◌, ℕ, Bool, List, length, Result, Ok, Err, ⊤, string_bytes}
 use Rattle.sight_names.specs.declared.faults.RewriteFault.{RewriteFault}
 use Rattle.sight_names.specs.declared.faults.RewriteFault.TheVariants as rewrite
 use Rattle.sight_names.specs.declared.names.Ask.{Ask}
@@ -16,9 +16,9 @@ abbrev pub written_of : WadFile → List MapOutcome → Result (List ℕ) Rewrit
 written_of w outcomes = printed (with_all w (changes_of outcomes))
 
 -- the bytes, the report and the counts are those of what comes of the maps
-pub record ShowsWhole (w : WadFile) (names : List (List ℕ)) (budget : Ask) (whole : WholeWad) : Type 0 where
+pub record ShowsWhole (w : WadFile) (large : Bool) (names : List (List ℕ)) (budget : Ask) (whole : WholeWad) : Type 0 where
   pub outcomes : List MapOutcome
-  pub are : AreOutcomes w names budget outcomes
+  pub are : AreOutcomes w large names budget outcomes
   pub bytes : written_of w outcomes ≡ Ok whole.bytes.items
   pub report : string_bytes whole.report ≡ report_of outcomes
   pub maps : whole.maps ≡ length outcomes
@@ -26,13 +26,13 @@ pub record ShowsWhole (w : WadFile) (names : List (List ℕ)) (budget : Ask) (wh
   pub refused : whole.refused ≡ length (refusals_of outcomes)
 
 -- the WAD with all tables is above a limit
-pub record IsAboveLimit (w : WadFile) (names : List (List ℕ)) (budget : Ask) (fault : RewriteFault) : Type 0 where
+pub record IsAboveLimit (w : WadFile) (large : Bool) (names : List (List ℕ)) (budget : Ask) (fault : RewriteFault) : Type 0 where
   pub outcomes : List MapOutcome
-  pub are : AreOutcomes w names budget outcomes
+  pub are : AreOutcomes w large names budget outcomes
   pub limit : written_of w outcomes ≡ Err fault
 
 -- what is made of the WAD, unless memory ran out
-abbrev pub MakesWhole : WadFile → List (List ℕ) → Ask → Result WholeWad RewriteFault → Type 0
-MakesWhole w names budget (Ok whole) = ShowsWhole w names budget whole
-MakesWhole w names budget (Err rewrite.Memory) = ⊤
-MakesWhole w names budget (Err fault) = IsAboveLimit w names budget fault
+abbrev pub MakesWhole : WadFile → Bool → List (List ℕ) → Ask → Result WholeWad RewriteFault → Type 0
+MakesWhole w large names budget (Ok whole) = ShowsWhole w large names budget whole
+MakesWhole w large names budget (Err rewrite.Memory) = ⊤
+MakesWhole w large names budget (Err fault) = IsAboveLimit w large names budget fault

@@ -31,6 +31,7 @@ fn table_named<R: Threads + Sync, G: Gate + Sync>(
     alloc: Global,
     bytes: &[u8],
     wad: &Wad,
+    large: bool,
     name: &str,
     workers: u16,
     budget: Ask,
@@ -39,9 +40,9 @@ fn table_named<R: Threads + Sync, G: Gate + Sync>(
     requires inside { All (λ entry. entry.at + entry.size ≤ length bytes.now) wad.now.entries }
     requires names { names_of (file_of bytes.now wad.now) ≡ entry_names wad.now.entries }
     requires workers { (1 ≤ workers) × (workers ≤ 64) }
-    ensures { GetsOrMemory (map_named (file_of bytes.now wad.now) name.now) budget result }
+    ensures { GetsOrMemory (map_named large (file_of bytes.now wad.now) name.now) budget result }
 {
-    let plan = plan_named(alloc, bytes, wad, name)?;
+    let plan = plan_named(alloc, bytes, wad, large, name)?;
     table_of(rt, alloc, &plan, workers, budget, gate)
 }
 
@@ -51,6 +52,7 @@ pub fn outcome_of<R: Threads + Sync, G: Gate + Sync>(
     alloc: Global,
     bytes: &[u8],
     wad: &Wad,
+    large: bool,
     name: &[u8; 8],
     workers: u16,
     budget: Ask,
@@ -61,11 +63,21 @@ pub fn outcome_of<R: Threads + Sync, G: Gate + Sync>(
     requires named { IsTrue (is_map_name name.now) }
     requires workers { (1 ≤ workers) × (workers ≤ 64) }
     ensures name { IfOk result (λ outcome. outcome.name ≡ name.now) }
-    ensures comes { IfOk result (ComesOf (file_of bytes.now wad.now) budget) }
+    ensures comes { IfOk result (ComesOf (file_of bytes.now wad.now) large budget) }
     ensures named { IfOk result (λ outcome. IsTrue (is_map_name outcome.name)) }
 {
     let name = *name;
-    match table_named(rt, alloc, bytes, wad, text_of(&name), workers, budget, gate) {
+    match table_named(
+        rt,
+        alloc,
+        bytes,
+        wad,
+        large,
+        text_of(&name),
+        workers,
+        budget,
+        gate,
+    ) {
         Ok(made) => Ok(MapOutcome {
             name,
             made: Ok(made),

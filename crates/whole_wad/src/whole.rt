@@ -53,6 +53,7 @@ fn tell_maps<R: Threads + Sync, G: Gate + Sync, N: Notice>(
     alloc: Global,
     bytes: &[u8],
     wad: &Wad,
+    large: bool,
     names: &[[u8; 8]],
     workers: u16,
     budget: Ask,
@@ -64,13 +65,13 @@ fn tell_maps<R: Threads + Sync, G: Gate + Sync, N: Notice>(
     requires named { All (λ name. IsTrue (is_map_name name)) names.now }
     requires workers { (1 ≤ workers) × (workers ≤ 64) }
     ensures each { IfOk result (λ told. map (λ (o : MapOutcome). o.name) told.outcomes.items ≡ names.now) }
-    ensures comes { IfOk result (λ told. AllByRecursion (ComesOf (file_of bytes.now wad.now) budget) told.outcomes.items) }
+    ensures comes { IfOk result (λ told. AllByRecursion (ComesOf (file_of bytes.now wad.now) large budget) told.outcomes.items) }
     ensures report { IfOk result (λ told. string_bytes told.report ≡ report_of told.outcomes.items) }
 {
     let mut outcomes = Vec::with_capacity(alloc, names.len())?;
     let mut report = String::new(alloc);
     for name in names {
-        let outcome = outcome_of(rt, alloc, bytes, wad, name, workers, budget, gate)?;
+        let outcome = outcome_of(rt, alloc, bytes, wad, large, name, workers, budget, gate)?;
         let line = line_of(alloc, &outcome)?;
         notice.tell(&line);
         report.push_str(&line)?;
@@ -112,7 +113,7 @@ fn changes_in(alloc: Global, outcomes: &[MapOutcome]) -> Result<Vec<Change>, All
 }
 
 /// The WAD in which each map of these names has its table within the budget as its REJECT, all other lumps as they were. A map that is
-/// above a limit or isn't sound keeps its REJECT, and the report says why. The maps of UDMF are told first, and then each line of the
+/// above a limit, of the usual ones or of the larger ones, or isn't sound keeps its REJECT, and the report says why. The maps of UDMF are told first, and then each line of the
 /// report as its map is done.
 ///
 /// # Errors
@@ -123,6 +124,7 @@ pub fn build_wad<R: Threads + Sync, G: Gate + Sync, N: Notice>(
     alloc: Global,
     bytes: &[u8],
     wad: &Wad,
+    large: bool,
     names: &[[u8; 8]],
     workers: u16,
     budget: Ask,
@@ -134,10 +136,12 @@ pub fn build_wad<R: Threads + Sync, G: Gate + Sync, N: Notice>(
     // They are some of the WAD's maps, in the order of their entries.
     requires among { HasInOrder (maps_of (entry_names wad.now.entries)) names.now }
     requires workers { (1 ≤ workers) × (workers ≤ 64) }
-    ensures { MakesWhole (file_of bytes.now wad.now) names.now budget result }
+    ensures { MakesWhole (file_of bytes.now wad.now) large names.now budget result }
 {
     tell_unread(alloc, wad, notice)?;
-    let told = tell_maps(rt, alloc, bytes, wad, names, workers, budget, gate, notice)?;
+    let told = tell_maps(
+        rt, alloc, bytes, wad, large, names, workers, budget, gate, notice,
+    )?;
     let changes = changes_in(alloc, &told.outcomes)?;
     let new = with_rejects(alloc, bytes, wad, &changes)?;
     Ok(WholeWad {

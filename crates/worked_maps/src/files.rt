@@ -4,9 +4,9 @@ use crate::certs::digits_named;
 use crate::maps::{Lines, NONE, RowLine, map_named};
 use crate::rooms::made_rooms;
 use hexen_lumps::to_hexen;
-use map_lumps::read_map;
+use map_lumps::read_lumps;
 use map_maker::grid;
-use sight_names::{LumpFault, Plan};
+use sight_names::{LumpFault, MapFormat, Plan, Reading};
 use std::alloc::{AllocError, Global};
 
 // A lump: its name, padded with NUL, and its bytes.
@@ -126,8 +126,12 @@ pub fn plan_named(alloc: Global, name: &str) -> Result<Plan, LumpFault> {
         push_map(alloc, &mut lumps, &map)?;
     }
     match lumps.as_slice() {
-        [_, linedefs, sidedefs, vertexes, sectors, _] => read_map(
+        [_, linedefs, sidedefs, vertexes, sectors, _] => read_lumps(
             alloc,
+            Reading {
+                format: MapFormat::Doom,
+                large: false,
+            },
             &linedefs.bytes,
             &sidedefs.bytes,
             &vertexes.bytes,
@@ -259,7 +263,7 @@ fn edited(alloc: Global, file: Vec<u8>, word: &str) -> Result<Vec<u8>, AllocErro
     }
     if let Some(size) = word.strip_prefix("grid:") {
         return match number(size) {
-            n @ 1..=18 => grid(alloc, n as u16).map_err(|_| AllocError),
+            n @ 1..=18 => grid(alloc, n as u16, MapFormat::Doom).map_err(|_| AllocError),
             _ => Ok(file),
         };
     }
