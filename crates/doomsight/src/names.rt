@@ -23,13 +23,13 @@ fn given(text: &Option<Text>) -> Option<&str> {
 fn names_in(order: &Order) -> Names<'_> {
     match order {
         Order::Zero { wad, out, .. } => Names {
-            wad: Some(wad.as_str()),
+            wad: Some(wad.file.as_str()),
             out: Some(out.as_str()),
             cert: None,
             report: None,
         },
         Order::Check { wad, cert, .. } => Names {
-            wad: Some(wad.as_str()),
+            wad: Some(wad.file.as_str()),
             out: None,
             cert: Some(cert.as_str()),
             report: None,
@@ -41,7 +41,7 @@ fn names_in(order: &Order) -> Names<'_> {
             report,
             ..
         } => Names {
-            wad: Some(wad.as_str()),
+            wad: Some(wad.file.as_str()),
             out: Some(out.as_str()),
             cert: given(cert),
             report: given(report),
@@ -52,7 +52,7 @@ fn names_in(order: &Order) -> Names<'_> {
             report,
             ..
         } => Names {
-            wad: Some(wad.as_str()),
+            wad: Some(wad.file.as_str()),
             out: Some(out.as_str()),
             cert: None,
             report: given(report),

@@ -1,5 +1,6 @@
-//! What is told of the maps while all maps of a WAD are built.
+//! What is told of the maps while all maps of a WAD are built, and behind a run.
 
+use crate::usage::print_larger_limits;
 use sight_run::Notice;
 use std::cell::Cell;
 
@@ -9,6 +10,14 @@ pub struct Progress<P: Print> {
     to: P,
     is_terminal: bool,
     has_told: Cell<bool>,
+    has_refused_size: Cell<bool>,
+}
+
+// A map's line says that a limit of its size refuses it.
+fn refuses_size(line: &str) -> bool {
+    line.ends_with(" refused limit: points\n")
+        || line.ends_with(" refused limit: lines\n")
+        || line.ends_with(" refused limit: sectors\n")
 }
 
 impl<P: Print> Progress<P> {
@@ -17,6 +26,7 @@ impl<P: Print> Progress<P> {
             to,
             is_terminal,
             has_told: Cell::new(false),
+            has_refused_size: Cell::new(false),
         }
     }
 
@@ -25,6 +35,16 @@ impl<P: Print> Progress<P> {
         if !self.has_told.get() {
             let _ = self.to.println("no map of Doom's or Hexen's format");
         }
+    }
+
+    /// Whether it was told of a map that a limit of its size refuses.
+    pub fn has_refused_size(&self) -> bool {
+        self.has_refused_size.get()
+    }
+
+    /// Names the option of the larger limits.
+    pub fn name_larger_limits(&self) {
+        let _ = print_larger_limits(&self.to);
     }
 }
 
@@ -35,6 +55,9 @@ impl<P: Print> Notice for Progress<P> {
 
     fn tell(&self, line: &str) {
         self.has_told.set(true);
+        if refuses_size(line) {
+            self.has_refused_size.set(true);
+        }
         if self.is_terminal {
             let _ = self.to.write_all(line.as_bytes());
         }

@@ -1,13 +1,14 @@
 //! What no clause says: which word is the first wrong one, what the program says of itself, and runs on files in memory.
 
 use crate::answers::{answer, question_in};
+use crate::progress::Progress;
 use crate::runs::run_words;
 use crate::usage::{Fault, diagnose};
 use order_words::read_words;
 use run_cases::{Stage, stage_of, words_in};
 use shelf_io::MemSink;
 use sight_names::OrderFault;
-use sight_run::{NoNotice, Status, code};
+use sight_run::{NoNotice, Notice, Status, code};
 use std::alloc::{AllocError, Global};
 use std::test::Fail;
 use std::thread::Threads;
@@ -30,6 +31,13 @@ zero a '' b | 3
 zero a MAP000001 b | 3
 zero a MAP01 '' | 4
 zero a MAP01 b --cert c | 5
+zero a MAP01 b --large | -
+--large zero a MAP01 b | -
+zero a MAP01 b --large --large | 6
+zero a MAP01 b --large=true | 5
+zero a MAP01 b --large= | 5
+zero a -- MAP01 --large | -
+zero a MAP01 b --hexen --large | 5
 zero --cert | 2
 zero a MAP01 b -h | 5
 zero --help a MAP01 b | 2
@@ -46,22 +54,33 @@ zero a MAP01 b -- c | 6
 --version | 1
 audit a MAP01 | -
 audit a MAP01 b | 4
+audit --large a MAP01 | -
+audit a MAP01 --large b | 5
+audit a MAP01 --large --budget 1 | 5
 need a | end
+need a MAP01 --large | -
 need a MAP01 --budget enough | 4
 check a MAP01 c | -
 check a MAP01 '' | 4
+check a MAP01 c --large | -
 ray a MAP01 2R,2L,0,1,-32 | -
 ray a MAP01 2R,2L,0,1 | 4
 ray a MAP01 65536R,2L,0,1,-32 | 4
+ray a MAP01 2R,2L,0,1,-32 --large | -
 trace a MAP01 2R,5L,0,1,0 | -
+trace a MAP01 2R,5L,0,1,0 --large | -
 trace a MAP01 | end
 sound a MAP01 | -
 sound a MAP01 0 | end
 sound a MAP01 0 1 | -
+sound a MAP01 --large 0 1 | -
+sound a MAP01 --large | -
 sound a MAP01 0 65536 | 5
 sound a MAP01 000000 1 | 4
 sound a MAP01 0 1 2 | 6
 build a MAP01 b --cert c --report r --budget full --workers 8 | -
+build a MAP01 b --cert c --report r --budget full --workers 8 --large | -
+build a MAP01 b --large c | 6
 --report r build a --cert=c MAP01 --workers=64 b --budget=enough | -
 build a MAP01 b --cert | end
 build a MAP01 b --cert= | 5
@@ -90,6 +109,8 @@ build a MAP01 b --hexen | 5
 all a b | -
 all a | end
 all a b --cert c | 4
+all a b --large | -
+all a b --large --only MAP01,MAP02 --report r | -
 all a b --only map01,MAP02 | -
 all a b --only=MAP01 | -
 all a b --only MAP01, | 5
@@ -110,10 +131,13 @@ grid 2 --hexen= | 3
 grid 2 --hexen --hexen | 4
 grid --report r 2 | 2
 grid --budget | end
+grid 2 --large | 3
+--large grid 2 | 2
+--large --hexen | 2
 ";
 
 /// Words that are put together in every way.
-static SOME: [&str; 10] = [
+static SOME: [&str; 11] = [
     "build",
     "grid",
     "sound",
@@ -122,6 +146,7 @@ static SOME: [&str; 10] = [
     "--cert",
     "--budget=full",
     "--hexen",
+    "--large",
     "--",
     "-x",
 ];
@@ -150,6 +175,7 @@ a=#50574158000000000c000000 | zero a MAP01 b | 6
 a=SQUARE @250:1:37 | zero a MAP02 b | 7
 a=SQUARE @14:1:09 | zero a MAP01 b | 8
 a=SQUARE .1 *229390 | zero a MAP01 b | 9
+a=SQUARE .4 *106522 | zero a MAP01 b --large | 0
 a=TOUCHED | audit a MAP01 | 10
 a=U | zero a MAP01 a | 11
 ";
@@ -201,8 +227,8 @@ fn words_numbered(alloc: Global, count: usize, number: usize) -> Result<Vec<Stri
     let mut words = Vec::new(alloc);
     let mut left = number;
     for _ in 0..count {
-        words.push(String::from_str(alloc, SOME[left % 10])?)?;
-        left /= 10;
+        words.push(String::from_str(alloc, SOME[left % 11])?)?;
+        left /= 11;
     }
     Ok(words)
 }
@@ -211,7 +237,7 @@ fn words_numbered(alloc: Global, count: usize, number: usize) -> Result<Vec<Stri
 fn what_is_no_order_has_a_wrong_word(rt: HostRuntime) -> Result<(), Fail> {
     let alloc = rt.alloc();
     let mut orders = 0u32;
-    for (count, lists) in [(1, 10), (2, 100), (3, 1_000), (4, 10_000)] {
+    for (count, lists) in [(1, 11), (2, 121), (3, 1_331), (4, 14_641)] {
         for number in 0..lists {
             let words = words_numbered(alloc, count, number)?;
             let said = said_of(alloc, &words)?;
@@ -276,5 +302,32 @@ fn a_report_has_its_lines_and_totals(rt: HostRuntime) -> Result<(), Fail> {
         stage.shelf.bytes("r").unwrap_or(b""),
         b"set 0 2\ntotal set 1 clear 5 listed 0\n".as_slice()
     );
+    Ok(())
+}
+
+/// Lines of the report of `all`, and whether a limit of its size refuses the map.
+const REFUSED: &str = "\
+MAP01 refused limit: points | true
+MAP01 refused limit: lines | true
+MAP01 refused limit: sectors | true
+MAP01 refused limit: lumps | false
+MAP01 refused bad map: open 0R | false
+MAP01 set 0 clear 3 listed 0 | false
+";
+
+#[test]
+fn a_map_that_is_refused_for_its_size_is_noted(rt: HostRuntime) -> Result<(), Fail> {
+    let alloc = rt.alloc();
+    for row in REFUSED.lines() {
+        let (line, wanted) = parts_of(row);
+        let line = format!(in alloc; "{}\n", line.trim())?;
+        let progress = Progress::new(rt.stderr(), false);
+        progress.tell(&line);
+        assert_eq!(rt;
+            progress.has_refused_size(),
+            wanted.trim() == "true",
+            "{row}"
+        );
+    }
     Ok(())
 }

@@ -50,6 +50,7 @@ struct Given {
     budget: bool,
     workers: bool,
     hexen: bool,
+    large: bool,
 }
 
 impl Given {
@@ -61,6 +62,7 @@ impl Given {
             Choice::Budget => self.budget,
             Choice::Workers => self.workers,
             Choice::Hexen => self.hexen,
+            Choice::Large => self.large,
         }
     }
 
@@ -72,17 +74,19 @@ impl Given {
             Choice::Budget => self.budget = true,
             Choice::Workers => self.workers = true,
             Choice::Hexen => self.hexen = true,
+            Choice::Large => self.large = true,
         }
     }
 }
 
-const CHOICES: [Choice; 6] = [
+const CHOICES: [Choice; 7] = [
     Choice::Only,
     Choice::Cert,
     Choice::Report,
     Choice::Budget,
     Choice::Workers,
     Choice::Hexen,
+    Choice::Large,
 ];
 
 fn choice_named(name: &str) -> Option<Choice> {
@@ -93,6 +97,7 @@ fn choice_named(name: &str) -> Option<Choice> {
         "budget" => Some(Choice::Budget),
         "workers" => Some(Choice::Workers),
         "hexen" => Some(Choice::Hexen),
+        "large" => Some(Choice::Large),
         _ => None,
     }
 }
@@ -125,7 +130,7 @@ fn fits_choice(choice: Choice, word: &str) -> Result<(), Why> {
         Choice::Cert | Choice::Report => unless(may_name_file(word), Why::NoFile),
         Choice::Budget => unless(budget(word).is_some(), Why::NoBudget),
         Choice::Workers => unless(workers(word).is_some(), Why::NoWorkers),
-        Choice::Hexen => Err(Why::TakesNone),
+        Choice::Hexen | Choice::Large => Err(Why::TakesNone),
     }
 }
 
@@ -162,6 +167,7 @@ impl Reader {
                 budget: false,
                 workers: false,
                 hexen: false,
+                large: false,
             },
             waiting: None,
             is_closed: false,
@@ -185,7 +191,7 @@ impl Reader {
         match value {
             Some(value) => fits_choice(choice, value),
             None => {
-                if choice != Choice::Hexen {
+                if !choice.is_flag() {
                     self.waiting = Some(choice);
                 }
                 Ok(())
@@ -302,6 +308,11 @@ pub fn print_synopsis<P: Print>(to: &P, verb: Option<&Verb>) -> io::Result<()> {
             Ok(())
         }
     }
+}
+
+/// Names the option of the larger limits.
+pub fn print_larger_limits<P: Print>(to: &P) -> io::Result<()> {
+    to.println("doomsight: try --large (16,383 points, 32,768 lines, 16,384 sectors)")
 }
 
 /// Prints what is wrong with words that are no order, and a synopsis.

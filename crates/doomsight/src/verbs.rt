@@ -10,7 +10,7 @@ pub enum Place {
     Rooms,
 }
 
-/// An option.
+/// An option; the last two take no value.
 #[derive(Clone, Copy, PartialEq, Eq)]
 pub enum Choice {
     Only,
@@ -19,6 +19,14 @@ pub enum Choice {
     Budget,
     Workers,
     Hexen,
+    Large,
+}
+
+impl Choice {
+    /// Whether no value stands behind it.
+    pub fn is_flag(self) -> bool {
+        matches!(self, Choice::Hexen | Choice::Large)
+    }
 }
 
 /// A verb.
@@ -46,8 +54,9 @@ pub static VERBS: [Verb; 10] = [
             Choice::Report,
             Choice::Budget,
             Choice::Workers,
+            Choice::Large,
         ],
-        synopsis: "doomsight all WAD OUT [--only MAP,MAP] [--report FILE] [--budget N|full|enough] [--workers N]",
+        synopsis: "doomsight all WAD OUT [--only MAP,MAP] [--report FILE] [--budget N|full|enough] [--workers N] [--large]",
         about: "Builds every map of the WAD, or those that are named, judges each table by its own certificate, and writes the WAD with these tables to OUT.",
     },
     Verb {
@@ -59,64 +68,65 @@ pub static VERBS: [Verb; 10] = [
             Choice::Report,
             Choice::Budget,
             Choice::Workers,
+            Choice::Large,
         ],
-        synopsis: "doomsight build WAD MAP OUT [--cert FILE] [--report FILE] [--budget N|full|enough] [--workers N]",
+        synopsis: "doomsight build WAD MAP OUT [--cert FILE] [--report FILE] [--budget N|full|enough] [--workers N] [--large]",
         about: "Writes the WAD with the map's REJECT to OUT, and a certificate and a report of the pairs of sectors where they are asked for.",
     },
     Verb {
         name: "check",
         places: &[Place::File, Place::Map, Place::File],
         spare: 0,
-        choices: &[],
-        synopsis: "doomsight check WAD MAP CERT",
+        choices: &[Choice::Large],
+        synopsis: "doomsight check WAD MAP CERT [--large]",
         about: "Judges the map's REJECT by a certificate; a yes means that no rejected pair can see.",
     },
     Verb {
         name: "audit",
         places: &[Place::File, Place::Map],
         spare: 0,
-        choices: &[],
-        synopsis: "doomsight audit WAD MAP",
+        choices: &[Choice::Large],
+        synopsis: "doomsight audit WAD MAP [--large]",
         about: "Says whether the map is sound: lines meet at ends alone, and each face is closed.",
     },
     Verb {
         name: "need",
         places: &[Place::File, Place::Map],
         spare: 0,
-        choices: &[],
-        synopsis: "doomsight need WAD MAP",
+        choices: &[Choice::Large],
+        synopsis: "doomsight need WAD MAP [--large]",
         about: "Says how many sequences of portals the sector that needs most has, and a number that is enough for any map of this size.",
     },
     Verb {
         name: "sound",
         places: &[Place::File, Place::Map, Place::Sector, Place::Sector],
         spare: 2,
-        choices: &[],
-        synopsis: "doomsight sound WAD MAP [A B]",
+        choices: &[Choice::Large],
+        synopsis: "doomsight sound WAD MAP [A B] [--large]",
         about: "Names the sides of the lines by which a noise gets from sector A to sector B; without them says how many pairs of sectors hear each other.",
     },
     Verb {
         name: "ray",
         places: &[Place::File, Place::Map, Place::Ray],
         spare: 0,
-        choices: &[],
-        synopsis: "doomsight ray WAD MAP RAY",
+        choices: &[Choice::Large],
+        synopsis: "doomsight ray WAD MAP RAY [--large]",
         about: "Says whether a ray is a line of sight, and between which sectors, or what is wrong with it.",
     },
     Verb {
         name: "trace",
         places: &[Place::File, Place::Map, Place::Ray],
         spare: 0,
-        choices: &[],
-        synopsis: "doomsight trace WAD MAP RAY",
+        choices: &[Choice::Large],
+        synopsis: "doomsight trace WAD MAP RAY [--large]",
         about: "Names the sectors that a ray passes, or what it hits first.",
     },
     Verb {
         name: "zero",
         places: &[Place::File, Place::Map, Place::File],
         spare: 0,
-        choices: &[],
-        synopsis: "doomsight zero WAD MAP OUT",
+        choices: &[Choice::Large],
+        synopsis: "doomsight zero WAD MAP OUT [--large]",
         about: "Writes the WAD with an all-clear REJECT for the map to OUT, without an audit.",
     },
     Verb {

@@ -1,5 +1,5 @@
 -- What `all` makes of a map is what `build` makes of it, and what the WAD that it wrote keeps of the one that was read.
-use Rattle.std.proofs.Common.{◌≡◌, ◌*◌, ℕ, List, [], ◌∷◌, Contains, Some, None, Result, Ok, Err, refl, sym, ap, ◌∙◌, subst}
+use Rattle.std.proofs.Common.{◌≡◌, ◌*◌, ℕ, Bool, List, [], ◌∷◌, Contains, Some, None, Result, Ok, Err, refl, sym, ap, ◌∙◌, subst}
 use Rattle.std.specs.Int.{div_ceil}
 use Rattle.std.specs.List.{AllByRecursion}
 use Rattle.std.proofs.lemmas.Option.{slice_get-get_or}
@@ -21,6 +21,7 @@ use Rattle.all_maps.specs.Names.{word_of}
 use Rattle.all_maps.proofs.Lasting.{each_table_is_there}
 use Rattle.all_maps.proofs.Merging.{all_spliced, each_change_is_made}
 use Rattle.order_words.specs.declared.order.Order.TheVariants as order
+use Rattle.order_words.specs.declared.order.Source.{Source}
 use Rattle.sight_status.specs.declared.status.Status.{Status}
 use Rattle.sight_status.specs.Answer.{Answer, ◌>>=◌}
 use Rattle.map_answers.specs.Input.{LocatedMap, found_in, map_at, map_named, of_spot, of_wad}
@@ -54,30 +55,30 @@ fetched_wad : (wad : List ℕ) (files : Files) (w : WadFile) → wad_in wad file
 unfolding wad_in
 fetched_wad wad files w h = let p = passes (of_fetch (content_of (files wad) 2147483647)) (λ (b : List ℕ). of_wad (wad_of b)) w h in record { bytes = p.x; fetched = p.step; read = was_wad (wad_of p.x) w p.rest }
 
-named_by : WadFile → Result MapSpot MapFault → Result Map Status
-named_by w r = of_spot r >>= (λ s. map_at w s)
+named_by : Bool → WadFile → Result MapSpot MapFault → Result Map Status
+named_by large w r = of_spot r >>= (λ s. map_at large w s)
 
 -- the map that was found is the one of its name in the WAD
-named_there : (wad name : List ℕ) (files : Files) (w : WadFile) (found : LocatedMap) → wad_in wad files ≡ Ok w → found_of wad name files ≡ Ok found → map_named w name ≡ Ok found.map
+named_there : (wad : Source) (name : List ℕ) (files : Files) (w : WadFile) (found : LocatedMap) → wad_in wad.file files ≡ Ok w → found_of wad name files ≡ Ok found → map_named wad.large w name ≡ Ok found.map
 unfolding found_of map_named named_by
 named_there wad name files w found is_wad is_found =
-    let a = fetched_wad wad files w is_wad in
-    let p = passes (of_fetch (content_of (files wad) 2147483647)) (λ bs. found_in name bs) found is_found in
+    let a = fetched_wad wad.file files w is_wad in
+    let p = passes (of_fetch (content_of (files wad.file) 2147483647)) (λ bs. found_in wad.large name bs) found is_found in
     let bytes : a.bytes ≡ p.x = same_ok a.bytes p.x (sym a.fetched ∙ p.step) in
-    let f = was_found name p.x found p.rest in
+    let f = was_found wad.large name p.x found p.rest in
     let wads : w ≡ found.wad = same_ok w found.wad (sym a.read ∙ ap wad_of bytes ∙ f.read) in
-    ap (λ (v : WadFile). map_named v name) wads ∙ ap (named_by found.wad) f.spot ∙ f.map
+    ap (λ (v : WadFile). map_named wad.large v name) wads ∙ ap (named_by wad.large found.wad) f.spot ∙ f.map
 
 -- ---- what is made of a map
 
 contained : {A : Type 0} (P : A → Type 0) (xs : List A) (x : A) → AllByRecursion P xs → Contains xs x → P x
 contained P xs x all c = all_at P xs all c.0 x (slice_get-get_or xs c.0 x c.1 ∙ ap (λ y. Some y) c.2)
 
-module _ (wad name : List ℕ) (files : Files) (w : WadFile) (found : LocatedMap) (maps : List (List ℕ)) (budget : Ask) (outcomes : List MapOutcome) (is_wad : wad_in wad files ≡ Ok w) (is_found : found_of wad name files ≡ Ok found) (are : AreOutcomes w maps budget outcomes) where
+module _ (wad : Source) (name : List ℕ) (files : Files) (w : WadFile) (found : LocatedMap) (maps : List (List ℕ)) (budget : Ask) (outcomes : List MapOutcome) (is_wad : wad_in wad.file files ≡ Ok w) (is_found : found_of wad name files ≡ Ok found) (are : AreOutcomes w wad.large maps budget outcomes) where
   got : (o : MapOutcome) → Contains outcomes o → word_of o.name ≡ name → Gets (Ok found.map) budget o.made
   got o c e =
-      let is : map_named w (word_of o.name) ≡ Ok found.map = ap (map_named w) e ∙ named_there wad name files w found is_wad is_found in
-      subst (λ (r : Result Map Status). Gets r budget o.made) is (contained (ComesOf w budget) outcomes o are.comes c)
+      let is : map_named wad.large w (word_of o.name) ≡ Ok found.map = ap (map_named wad.large w) e ∙ named_there wad name files w found is_wad is_found in
+      subst (λ (r : Result Map Status). Gets r budget o.made) is (contained (ComesOf w wad.large budget) outcomes o are.comes c)
 
   made_as : (o : MapOutcome) → Contains outcomes o → word_of o.name ≡ name → (made : Result MapTable Status) → Gets (Ok found.map) budget made → o.made ≡ made
   made_as o c e made h = one_got (Ok found.map) budget o.made made (got o c e) h
@@ -101,9 +102,9 @@ has_length (Ok m) budget (Err s) h = tt
 has_length (Err s) budget made h = tt
 
 pub all_keeps_lumps : AllKeepsLumps
-all_keeps_lumps words wad out only report workers budget files heard answer is_asked h = on (wad_in wad files) refl (subst (λ r. AnswersAsked r files heard (Ok answer)) is_asked h)
+all_keeps_lumps words wad out only report workers budget files heard answer is_asked h = on (wad_in wad.file files) refl (subst (λ r. AnswersAsked r files heard (Ok answer)) is_asked h)
   where
-    of_maps : (w : WadFile) (r : Result (List (List ℕ)) Status) → wad_in wad files ≡ Ok w → maps_in (names_of w) only ≡ r → OnRead r (λ maps. MapsCall out report maps budget w) (Ok answer) → KeepsAllLumps wad out only budget files (put_all files answer.writes)
+    of_maps : (w : WadFile) (r : Result (List (List ℕ)) Status) → wad_in wad.file files ≡ Ok w → maps_in (names_of w) only ≡ r → OnRead r (λ maps. MapsCall out report wad.large maps budget w) (Ok answer) → KeepsAllLumps wad out only budget files (put_all files answer.writes)
     of_maps w (Err s) e f q = absurd cc
     of_maps w (Ok maps) e f q =
         let cs = changes_of q.outcomes in
@@ -111,7 +112,7 @@ all_keeps_lumps words wad out only report workers budget files heard answer is_a
         in_order_through (maps_of (names_of w)) maps (names_changed cs) (asked_are_maps (names_of w) only maps f)
         (subst (λ (ms : List (List ℕ)). HasInOrder ms (names_changed cs)) q.are.each (changed_in_order q.outcomes)) in
         let made : IsAll w cs (with_all w cs) = each_change_is_made w cs among in
-        let old = fetched_wad wad files w e in
+        let old = fetched_wad wad.file files w e in
         let printed = printed_reads (with_all w cs) q.bytes (names_all w (with_all w cs) cs made (names_read old.bytes w old.read)) q.made in
         record {
           w = w;
@@ -120,9 +121,9 @@ all_keeps_lumps words wad out only report workers budget files heard answer is_a
           asked = f;
           outcomes = q.outcomes;
           are = q.are;
-          lengths = all_so (ComesOf w budget) (λ (o : MapOutcome). HasLengthOf (map_named w (word_of o.name)) o.made) q.outcomes (λ o k. has_length (map_named w (word_of o.name)) budget o.made k) q.are.comes;
+          lengths = all_so (ComesOf w wad.large budget) (λ (o : MapOutcome). HasLengthOf (map_named wad.large w (word_of o.name)) o.made) q.outcomes (λ o k. has_length (map_named wad.large w (word_of o.name)) budget o.made k) q.are.comes;
           bytes = q.bytes;
-          stands = ap (λ (a : Answer). put_all files a.writes out) q.is ∙ before_report files (wad_output out q.bytes ∷ []) report (report_of q.outcomes) out (out_apart wad out None report (of_words words (order.All wad out only report workers budget) is_asked)).1 ∙ stored files out q.bytes;
+          stands = ap (λ (a : Answer). put_all files a.writes out) q.is ∙ before_report files (wad_output out q.bytes ∷ []) report (report_of q.outcomes) out (out_apart wad.file out None report (of_words words (order.All wad out only report workers budget) is_asked)).1 ∙ stored files out q.bytes;
           short = printed.short;
           new = with_all w cs;
           read = printed.read;
@@ -131,6 +132,6 @@ all_keeps_lumps words wad out only report workers budget files heard answer is_a
           lumps = ap (λ (x : WadFile). x.lumps) (all_spliced w cs among);
         }
 
-    on : (r : Result WadFile Status) → wad_in wad files ≡ r → OnRead r (AllCalls out only report budget) (Ok answer) → KeepsAllLumps wad out only budget files (put_all files answer.writes)
+    on : (r : Result WadFile Status) → wad_in wad.file files ≡ r → OnRead r (AllCalls out wad.large only report budget) (Ok answer) → KeepsAllLumps wad out only budget files (put_all files answer.writes)
     on (Err s) e q = absurd cc
     on (Ok w) e q = of_maps w (maps_in (names_of w) only) e refl q

@@ -34,6 +34,7 @@ use Rattle.group_checker.proofs.SameAnyBits.{told_same}
 use Rattle.group_job.specs.Built.{OfTwo}
 use Rattle.map_answers.specs.declared.counts.Counts.{Counts}
 use Rattle.map_answers.specs.Counts.{counts_with}
+use Rattle.order_words.specs.Words.{source_of}
 use Rattle.sight_status.specs.declared.status.Flaw.TheVariants as flaw
 use Rattle.sight_status.specs.declared.status.Role.{Role}
 use Rattle.sight_status.specs.declared.status.Role.TheVariants as role
@@ -163,31 +164,31 @@ past_lines m b (Err s) meet q = q.1
 
 -- ---- the build, then the check
 
-pub wad_fetched : (o : Option (List ℕ)) (name bytes : List ℕ) (found : LocatedMap) → o ≡ Some bytes → length bytes < 2 ^ 31 → found_in name bytes ≡ Ok found → (of_fetch (content_of o 2147483647) >>= (λ bs. found_in name bs)) ≡ Ok found
-wad_fetched o name bytes found e lt h =
-    ap (λ (x : Option (List ℕ)). of_fetch (content_of x 2147483647) >>= (λ bs. found_in name bs)) e ∙ by (nat_lt 2147483647 (length bytes)) (le-ltb 2147483647 (length bytes) (omega (arith, lt))) ∙ h
+pub wad_fetched : (large : Bool) (o : Option (List ℕ)) (name bytes : List ℕ) (found : LocatedMap) → o ≡ Some bytes → length bytes < 2 ^ 31 → found_in large name bytes ≡ Ok found → (of_fetch (content_of o 2147483647) >>= (λ bs. found_in large name bs)) ≡ Ok found
+wad_fetched large o name bytes found e lt h =
+    ap (λ (x : Option (List ℕ)). of_fetch (content_of x 2147483647) >>= (λ bs. found_in large name bs)) e ∙ by (nat_lt 2147483647 (length bytes)) (le-ltb 2147483647 (length bytes) (omega (arith, lt))) ∙ h
   where
-    by : (b : Bool) → b ≡ false → (of_fetch (if b then Err fetch.TooLong else Ok bytes) >>= (λ bs. found_in name bs)) ≡ found_in name bytes
+    by : (b : Bool) → b ≡ false → (of_fetch (if b then Err fetch.TooLong else Ok bytes) >>= (λ bs. found_in large name bs)) ≡ found_in large name bytes
     by true q = absurd cc
     by false q = refl
 
 -- the map was found in these bytes, and what was built of it is in these files
-module _ (name out cert : List ℕ) (reported : Option (List ℕ)) (budget : Ask) (files others : Files) (heard : Heard) (found : LocatedMap) (answer : Answer) (given : Result Answer Status) where
-  checked : (old : List ℕ) → found_in name old ≡ Ok found → same_name (codes "REJECT") name ≡ false → IsOther out (Some cert) × IsOther out reported → IsOther cert reported
+module _ (large : Bool) (name out cert : List ℕ) (reported : Option (List ℕ)) (budget : Ask) (files others : Files) (heard : Heard) (found : LocatedMap) (answer : Answer) (given : Result Answer Status) where
+  checked : (old : List ℕ) → found_in large name old ≡ Ok found → same_name (codes "REJECT") name ≡ false → IsOther out (Some cert) × IsOther out reported → IsOther cert reported
       → (shows : ShowsBuild name out (Some cert) reported budget found heard answer)
       → HaveBoth (put_all files answer.writes) others out cert → IsShort others cert
-      → OnFound (found_of out name others) (CheckCalls cert others) given → IsYesFor found.map shows.built.table shows.built.listed given
+      → OnFound (found_of (source_of large out) name others) (CheckCalls cert others) given → IsYesFor found.map shows.built.table shows.built.listed given
   unfolding found_of
   checked old h other apart other_report shows have short q =
       let spelled : List ℕ = shows.spelled in
       let both : List Written = build_writes out shows.bytes (Some cert) spelled in
       let table : List ℕ = shows.built.table.bytes in
       let c : AnyCert = shows.built.cert in
-      let again : IsFoundAgain name found table shows.bytes = found_again name old table shows.bytes found h other shows.made in
+      let again : IsFoundAgain large name found table shows.bytes = found_again large name old table shows.bytes found h other shows.made in
       let all : put_all files answer.writes ≡ put_all files (report_behind reported shows.report both) = ap (λ (x : Answer). put_all files x.writes) shows.is in
       let at_out : others out ≡ Some shows.bytes = have.at_out ∙ ap (λ (f : Files). f out) all ∙ before_report files both reported shows.report out apart.1 ∙ under_out files out cert shows.bytes spelled apart.0 in
       let at_cert : others cert ≡ Some spelled = have.at_cert ∙ ap (λ (f : Files). f cert) all ∙ before_report files both reported shows.report cert other_report ∙ under_cert files out cert shows.bytes spelled in
-      let there : found_of out name others ≡ Ok (found_then found table) = wad_fetched (others out) name shows.bytes (found_then found table) at_out again.short again.again in
+      let there : found_of (source_of large out) name others ≡ Ok (found_then found table) = wad_fetched large (others out) name shows.bytes (found_then found table) at_out again.short again.again in
       let asked : CheckCalls cert others (found_then found table) given = subst (λ (r : Result LocatedMap Status). OnFound r (CheckCalls cert others) given) there q in
       let len : length table ≡ table_len found.map.sectors = shows.is_built.is_whole.len ∙ ap table_len shows.is_built.sectors in
       let reads : check_input cert (found_then found table) others ≡ Ok (input_as table c) =
@@ -201,10 +202,10 @@ built_is_checked build check name out cert files others heard answer ask h have 
     on (found_of ask.wad name files) refl (subst (λ r. AnswersAsked r files heard (Ok answer)) ask.built h)
   where
     apart : IsOther out (Some cert) × IsOther out ask.report
-    apart = out_apart ask.wad out (Some cert) ask.report (of_words build _ ask.built)
+    apart = out_apart ask.wad.file out (Some cert) ask.report (of_words build _ ask.built)
 
     other_report : IsOther cert ask.report
-    other_report = cert_apart ask.wad out cert ask.report (of_words build _ ask.built)
+    other_report = cert_apart ask.wad.file out cert ask.report (of_words build _ ask.built)
 
     on : (r : Result LocatedMap Status) → found_of ask.wad name files ≡ r → OnFound r (BuildCalls name out (Some cert) ask.report ask.budget heard) (Ok answer) → SaysYes check name others answer
     on (Err s) e shows = absurd cc
@@ -216,7 +217,7 @@ built_is_checked build check name out cert files others heard answer ask h have 
           built = ap (λ (x : Answer). x.line) shows.is;
           only = λ unheard given q.
               let asked = subst (λ r. AnswersAsked r others unheard given) ask.checked q in
-              let yes = checked name out cert ask.report ask.budget files others heard found answer given old.bytes old.are ask.other apart other_report shows have short asked in
+              let yes = checked ask.wad.large name out cert ask.report ask.budget files others heard found answer given old.bytes old.are ask.other apart other_report shows have short asked in
               let same = same_counts shows.built.table shows.built.listed found.map.sectors yes.totals shows.is_built.symmetric shows.is_built.sectors yes.are in
               yes.is ∙ ap (λ (k : Counts). Ok (only_line (yes_line k.sectors (totals_of k)))) same;
         }

@@ -1,5 +1,5 @@
 -- How `build` and `all` end where no count of faults rose.
-use Rattle.std.proofs.Common.{◌≡◌, ◌⊎◌, inl, inr, ℕ, List, Option, Result, Err, refl, sym, subst}
+use Rattle.std.proofs.Common.{◌≡◌, ◌⊎◌, inl, inr, ℕ, Bool, List, Option, Result, Err, refl, sym, subst}
 use Rattle.sight_names.specs.declared.names.Ask.{Ask}
 use Rattle.sight_names.specs.Groups.{HasClosedFaces}
 use Rattle.map_audit.proofs.AuditLemmas.{not_sound}
@@ -62,17 +62,17 @@ build_is_done words wad name out asked report workers budget went found is_asked
 
 -- ---- all
 
-of_wad : (out : List ℕ) (report : Option (List ℕ)) (maps : List (List ℕ)) (budget : Ask) (w : WadFile) (s : Status) → MapsCall out report maps budget w (Err s) → EndsAll maps budget w s
-of_wad out report maps budget w (status.Limit bound.Lumps) q = q
-of_wad out report maps budget w (status.Limit bound.OutputBytes) q = q
-of_wad out report maps budget w s q = absurd q
+of_wad : (out : List ℕ) (report : Option (List ℕ)) (large : Bool) (maps : List (List ℕ)) (budget : Ask) (w : WadFile) (s : Status) → MapsCall out report large maps budget w (Err s) → EndsAll large maps budget w s
+of_wad out report large maps budget w (status.Limit bound.Lumps) q = q
+of_wad out report large maps budget w (status.Limit bound.OutputBytes) q = q
+of_wad out report large maps budget w s q = absurd q
 
 pub all_is_done : AllIsDone
 unfolding Refuses
-all_is_done words wad out only report workers budget went w maps is_asked is_wad is_found well = elim (refuses words went.files went.heard went.before went.after went.sink.old went.sink.new went.status well.quiet well.ends well.cause) as (λ _. EndsAll maps budget w went.status) [
-  | inl e ↦ subst (EndsAll maps budget w) (sym e) tt
-  | inr (inl e) ↦ subst (EndsAll maps budget w) (sym e) tt
-  | inr (inr q) ↦ of_wad out report maps budget w went.status
-      (subst (λ (r : Result (List (List ℕ)) Status). OnRead r (λ ms. MapsCall out report ms budget w) (Err went.status)) is_found
-      (subst (λ (r : Result WadFile Status). OnRead r (AllCalls out only report budget) (Err went.status)) is_wad (subst (λ r. AnswersAsked r went.files went.heard (Err went.status)) is_asked q)))
+all_is_done words wad out only report workers budget went w maps is_asked is_wad is_found well = elim (refuses words went.files went.heard went.before went.after went.sink.old went.sink.new went.status well.quiet well.ends well.cause) as (λ _. EndsAll wad.large maps budget w went.status) [
+  | inl e ↦ subst (EndsAll wad.large maps budget w) (sym e) tt
+  | inr (inl e) ↦ subst (EndsAll wad.large maps budget w) (sym e) tt
+  | inr (inr q) ↦ of_wad out report wad.large maps budget w went.status
+      (subst (λ (r : Result (List (List ℕ)) Status). OnRead r (λ ms. MapsCall out report wad.large ms budget w) (Err went.status)) is_found
+      (subst (λ (r : Result WadFile Status). OnRead r (AllCalls out wad.large only report budget) (Err went.status)) is_wad (subst (λ r. AnswersAsked r went.files went.heard (Err went.status)) is_asked q)))
 ]

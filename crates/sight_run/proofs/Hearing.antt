@@ -6,6 +6,7 @@ use Rattle.shelf_io.specs.Shelf.{Files, ShelfState}
 use Rattle.shelf_io.specs.Sink.{SinkState}
 use Rattle.order_words.specs.declared.order.Order.{Order}
 use Rattle.order_words.specs.declared.order.Order.TheVariants as order
+use Rattle.order_words.specs.declared.order.Source.{Source}
 use Rattle.sight_status.specs.declared.status.Role.{Role}
 use Rattle.sight_status.specs.declared.status.Role.TheVariants as role
 use Rattle.sight_status.specs.declared.status.Status.{Status}
@@ -61,7 +62,7 @@ build_wider Are More heard status.Memory f (inr h) = inr (fronts_wider Are More 
 build_wider Are More heard s f h = h
 
 -- the findings of a map that was found are those that the files tell
-pub found_in_files : (files : Option Files) (wad name : List ℕ) (budget : Ask) (found : LocatedMap) → ((told : Files) → files ≡ Some told → found_of wad name told ≡ Ok found)
+pub found_in_files : (files : Option Files) (wad : Source) (name : List ℕ) (budget : Ask) (found : LocatedMap) → ((told : Files) → files ≡ Some told → found_of wad name told ≡ Ok found)
     → (fs : List Finding) → AreFindingsOf found.map budget fs → AreFindingsIn files wad name budget fs
 found_in_files None wad name budget found told fs h = tt
 found_in_files (Some files) wad name budget found told fs h = subst (λ (r : Result LocatedMap Status). AreOfFound r budget fs) (sym (told files refl)) h
@@ -143,8 +144,7 @@ module _ (asked : Result Order Status) (files : Option Files) (heard : Heard) (o
 pub hears_in : (asked : Result Order Status) (told : Option Files) (files : Files) (heard : Heard) (s : Status) → told ≡ Some files → Hears asked told heard s → Hears asked (Some files) heard s
 hears_in asked told files heard s e h = subst (λ (o : Option Files). Hears asked o heard s) e h
 
--- .. and by the same names
-pub build_named : (files : Option Files) (wad name other_wad other_name : List ℕ) (budget : Ask) (heard : Heard) (s : Status) → wad ≡ other_wad → name ≡ other_name
-    → BuildHears (AreFindingsIn files wad name budget) heard s → BuildHears (AreFindingsIn files other_wad other_name budget) heard s
-build_named files wad name other_wad other_name budget heard s p q h =
-    subst (λ (n : List ℕ). BuildHears (AreFindingsIn files other_wad n budget) heard s) q (subst (λ (w : List ℕ). BuildHears (AreFindingsIn files w name budget) heard s) p h)
+-- .. and by the same name
+pub build_named : (files : Option Files) (wad : Source) (name other_name : List ℕ) (budget : Ask) (heard : Heard) (s : Status) → name ≡ other_name
+    → BuildHears (AreFindingsIn files wad name budget) heard s → BuildHears (AreFindingsIn files wad other_name budget) heard s
+build_named files wad name other_name budget heard s e h = subst (λ (n : List ℕ). BuildHears (AreFindingsIn files wad n budget) heard s) e h

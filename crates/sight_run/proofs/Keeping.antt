@@ -37,7 +37,7 @@ zero_keeps_lumps words wad name out files heard answer asked other h = on (found
           is_right = refl;
           bytes = p.x;
           stands = ap (λ (a : Answer). put_all files a.writes out) (sym is) ∙ stored files out p.x;
-          again = written_again name old.bytes table p.x found old.are other p.step;
+          again = written_again wad.large name old.bytes table p.x found old.are other p.step;
         }
 
     on : (r : Result LocatedMap Status) → found_of wad name files ≡ r → OnFound r (ZeroCalls name out) (Ok answer) → KeepsLumps wad name out files (put_all files answer.writes) IsClearTable
@@ -69,6 +69,6 @@ build_keeps_lumps words wad name out asked report workers budget files heard ans
           table = q.built.table.bytes;
           is_right = q.is_built.is_whole.len ∙ ap (λ n. div_ceil (n * n) 8) q.is_built.sectors;
           bytes = q.bytes;
-          stands = ap (λ (a : Answer). put_all files a.writes out) q.is ∙ built_stands files wad out q.bytes asked report q.spelled q.report (of_words words (order.Build wad name out asked report workers budget) is_asked);
-          again = written_again name old.bytes q.built.table.bytes q.bytes found old.are other q.made;
+          stands = ap (λ (a : Answer). put_all files a.writes out) q.is ∙ built_stands files wad.file out q.bytes asked report q.spelled q.report (of_words words (order.Build wad name out asked report workers budget) is_asked);
+          again = written_again wad.large name old.bytes q.built.table.bytes q.bytes found old.are other q.made;
         }

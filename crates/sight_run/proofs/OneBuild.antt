@@ -8,6 +8,7 @@ use Rattle.map_audit.proofs.AuditLemmas.{not_sound, one_fault}
 use Rattle.reject_bits.specs.Parts.{TableParts}
 use Rattle.shelf_io.specs.Shelf.{Files}
 use Rattle.order_words.specs.declared.order.Order.TheVariants as order
+use Rattle.order_words.specs.declared.order.Source.{Source}
 use Rattle.sight_status.specs.declared.status.Bound.{Bound}
 use Rattle.sight_status.specs.declared.status.Flaw.TheVariants as flaw
 use Rattle.sight_status.specs.declared.status.Status.{Status}
@@ -73,7 +74,7 @@ plain_gives name out budget heard said (Err (status.ReadFault k)) h = tt
 plain_gives name out budget heard said r h = record { called = h.called; only = λ sole other q. one_of_found name out budget heard said r other h.called q }
 
 -- what is given for a build is given for its order
-pub gives_build : (wad name out : List ℕ) (cert report : Option (List ℕ)) (workers : ℕ) (budget : Ask) (files : Files) (heard : Heard) (r : Result Answer Status)
+pub gives_build : (wad : Source) (name out : List ℕ) (cert report : Option (List ℕ)) (workers : ℕ) (budget : Ask) (files : Files) (heard : Heard) (r : Result Answer Status)
     → Gives (IsUnbuildable (found_of wad name files)) (OnFound (found_of wad name files) (BuildCalls name out cert report budget heard)) r
     → Gives (IsDetermined (order.Build wad name out cert report workers budget) files) (Obeys (order.Build wad name out cert report workers budget) files heard) r
 gives_build wad name out None None workers budget files heard r h = plain_gives name out budget heard (found_of wad name files) r h

@@ -33,6 +33,8 @@ use Rattle.group_checker.specs.Judged.{TellsSightAny, with_list}
 use Rattle.group_job.specs.declared.build.GroupBuilt.{GroupBuilt}
 use Rattle.group_job.specs.Sectors.{AreListed}
 use Rattle.order_words.specs.declared.order.Order.TheVariants as order
+use Rattle.order_words.specs.declared.order.Source.{Source}
+use Rattle.order_words.specs.Words.{source_of}
 use Rattle.sight_status.specs.declared.status.Status.{Status}
 use Rattle.sight_status.specs.declared.status.Status.TheVariants as status
 use Rattle.sight_status.specs.declared.status.Why.TheVariants as why
@@ -131,7 +133,7 @@ module _ (m : Map) (bytes : List ℕ) (t : TableParts) (spelled : IsTableOf m.se
   right_by_any (One c) h = right_by c h
   right_by_any (Two c sizes) h = right_by (with_list c) h
 
-module _ (wad name cert : List ℕ) (files : Files) (answer : Answer) where
+module _ (wad : Source) (name cert : List ℕ) (files : Files) (answer : Answer) where
   right_verdict : (found : LocatedMap) (input : CheckInput) → found_of wad name files ≡ Ok found → check_input cert found files ≡ Ok input → IsVerdictOn found.map input (Ok answer) → HasRightReject wad name cert files
   right_verdict found input is read v =
       let w = was_input cert found files input read in
@@ -215,27 +217,27 @@ module _ (m : Map) (budget : Ask) (built : GroupBuilt) (is : IsBuiltOf m budget 
 
 -- ---- what a build left
 
-found_there : (name out bytes : List ℕ) (stand : Files) (found : LocatedMap) → stand out ≡ Some bytes → length bytes < 2 ^ 31 → found_in name bytes ≡ Ok found → found_of out name stand ≡ Ok found
+found_there : (large : Bool) (name out bytes : List ℕ) (stand : Files) (found : LocatedMap) → stand out ≡ Some bytes → length bytes < 2 ^ 31 → found_in large name bytes ≡ Ok found → found_of (source_of large out) name stand ≡ Ok found
 unfolding found_of
-found_there name out bytes stand found there short is = wad_fetched (stand out) name bytes found there short is
+found_there large name out bytes stand found there short is = wad_fetched large (stand out) name bytes found there short is
 
-module _ (wad name out : List ℕ) (cert report : Option (List ℕ)) (budget : Ask) (files stand : Files) (heard : Heard) (found : LocatedMap) (answer : Answer) (apart : has_twice (wad ∷ out ∷ (given cert ++ given report)) ≡ false) (shows : ShowsBuild name out cert report budget found heard answer) (left : stand ≡ put_all files answer.writes) where
+module _ (wad : Source) (name out : List ℕ) (cert report : Option (List ℕ)) (budget : Ask) (files stand : Files) (heard : Heard) (found : LocatedMap) (answer : Answer) (apart : has_twice (wad.file ∷ out ∷ (given cert ++ given report)) ≡ false) (shows : ShowsBuild name out cert report budget found heard answer) (left : stand ≡ put_all files answer.writes) where
   -- the WAD with the table stands under OUT
   wad_stands : stand out ≡ Some shows.bytes
-  wad_stands = ap (λ (f : Files). f out) left ∙ ap (λ (a : Answer). put_all files a.writes out) shows.is ∙ built_stands files wad out shows.bytes cert report shows.spelled shows.report apart
+  wad_stands = ap (λ (f : Files). f out) left ∙ ap (λ (a : Answer). put_all files a.writes out) shows.is ∙ built_stands files wad.file out shows.bytes cert report shows.spelled shows.report apart
 
   right_left : found_of wad name files ≡ Ok found → same_name (codes "REJECT") name ≡ false → LeavesRightReject wad name out budget files stand
   right_left is other =
       let old = bytes_of wad name files found is in
       let table : List ℕ = shows.built.table.bytes in
-      let again = found_again name old.bytes table shows.bytes found old.are other shows.made in
+      let again = found_again wad.large name old.bytes table shows.bytes found old.are other shows.made in
       let reads : table ≡ reject_of (found_then found table) = sym again.reject in
       let allowed : Budget = shows.is_built.decided.budget in
       record {
         found = found;
         is_found = is;
         new = found_then found table;
-        is_new = found_there name out shows.bytes stand (found_then found table) wad_stands again.short again.again;
+        is_new = found_there wad.large name out shows.bytes stand (found_then found table) wad_stands again.short again.again;
         same = refl;
         allowed = allowed;
         is_allowed = shows.is_built.decided.is_budget;
@@ -249,7 +251,7 @@ built_is_right words wad name out cert report workers budget files stand asked o
     let e = was_answered words files stand done in
     on (found_of wad name files) e.answer refl e.stands (subst (λ r. AnswersAsked r files done.heard (Ok e.answer)) asked e.called)
   where
-    apart : has_twice (wad ∷ out ∷ (given cert ++ given report)) ≡ false
+    apart : has_twice (wad.file ∷ out ∷ (given cert ++ given report)) ≡ false
     apart = of_words words (order.Build wad name out cert report workers budget) asked
 
     on : (r : Result LocatedMap Status) (answer : Answer) → found_of wad name files ≡ r → stand ≡ put_all files answer.writes → OnFound r (BuildCalls name out cert report budget done.heard) (Ok answer) → LeavesRightReject wad name out budget files stand
@@ -270,10 +272,10 @@ builds_leave_one_wad words others wad name out cert report other_cert other_repo
     let same = on (found_of wad name files) a.answer b.answer a.stands b.stands (subst (λ r. AnswersAsked r files one.heard (Ok a.answer)) asked a.called) (subst (λ r. AnswersAsked r files other.heard (Ok b.answer)) other_asked b.called) in
     (same.0, (a.answer.line, a.said, b.said ∙ ap (λ (l : List ℕ). option_map (λ held. held ++ l) other.sink.old.held) (sym same.1)))
   where
-    apart : has_twice (wad ∷ out ∷ (given cert ++ given report)) ≡ false
+    apart : has_twice (wad.file ∷ out ∷ (given cert ++ given report)) ≡ false
     apart = of_words words (order.Build wad name out cert report workers budget) asked
 
-    other_apart : has_twice (wad ∷ out ∷ (given other_cert ++ given other_report)) ≡ false
+    other_apart : has_twice (wad.file ∷ out ∷ (given other_cert ++ given other_report)) ≡ false
     other_apart = of_words others (order.Build wad name out other_cert other_report other_workers budget) other_asked
 
     on : (r : Result LocatedMap Status) (x y : Answer) → stand ≡ put_all files x.writes → other_stand ≡ put_all files y.writes

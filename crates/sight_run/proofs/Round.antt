@@ -1,5 +1,5 @@
 -- The check of what a build wrote.
-use Rattle.std.proofs.Common.{◌≡◌, ℕ, ◌^◌, ◌<◌, List, [], length, get_or, false, Option, Some, Result, Ok, Err, refl, sym, ap, ◌∙◌, subst}
+use Rattle.std.proofs.Common.{◌≡◌, ℕ, ◌^◌, ◌<◌, List, [], length, get_or, Bool, false, Option, Some, Result, Ok, Err, refl, sym, ap, ◌∙◌, subst}
 use Rattle.std.specs.Prelude.{codes, slice_get, unwrap_or}
 use Rattle.std.proofs.lemmas.Option.{unwrap_or-slice_get}
 use Rattle.sight_names.specs.declared.faults.MapFault.{MapFault}
@@ -10,7 +10,7 @@ use Rattle.sight_names.specs.declared.faults.WadFault.TheVariants as wad
 use Rattle.sight_names.specs.Map.{Map}
 use Rattle.wad_dir.specs.declared.parts.MapSpot.{MapSpot}
 use Rattle.wad_dir.specs.Kept.{reject_then, spot_then}
-use Rattle.wad_dir.specs.Map.{format_of, same_name, spot_of}
+use Rattle.wad_dir.specs.Map.{same_name, spot_of}
 use Rattle.wad_dir.specs.Print.{with_reject}
 use Rattle.wad_dir.specs.Wad.{WadFile, WadLump, names_of, wad_of}
 use Rattle.wad_rewrite.specs.Again.{IsReadAgain}
@@ -18,7 +18,7 @@ use Rattle.wad_rewrite.specs.Rewrite.{printed}
 use Rattle.wad_rewrite.proofs.Reading.{rewritten_is_read}
 use Rattle.sight_status.specs.declared.status.Status.{Status}
 use Rattle.sight_status.specs.Answer.{◌>>=◌}
-use Rattle.map_answers.specs.Input.{LocatedMap, found_in, lump_at, map_at, of_four_lumps, of_spot, of_wad}
+use Rattle.map_answers.specs.Input.{LocatedMap, found_in, lump_at, map_at, of_four_lumps, of_spot, of_wad, reading_at}
 use Rattle.sight_run.specs.Zero.{of_rewrite, with_table}
 
 -- ---- steps that pass
@@ -60,36 +60,36 @@ found_with w s m = record { wad = w; spot = s; map = m }
 with_map : WadFile → MapSpot → Result Map Status → Result LocatedMap Status
 with_map w s r = r >>= (λ m. Ok (found_with w s m))
 
-with_spot : WadFile → Result MapSpot MapFault → Result LocatedMap Status
-with_spot w r = of_spot r >>= (λ s. with_map w s (map_at w s))
+with_spot : Bool → WadFile → Result MapSpot MapFault → Result LocatedMap Status
+with_spot large w r = of_spot r >>= (λ s. with_map w s (map_at large w s))
 
-with_wad : List ℕ → Result WadFile WadFault → Result LocatedMap Status
-with_wad name r = of_wad r >>= (λ w. with_spot w (spot_of (names_of w) name))
+with_wad : Bool → List ℕ → Result WadFile WadFault → Result LocatedMap Status
+with_wad large name r = of_wad r >>= (λ w. with_spot large w (spot_of (names_of w) name))
 
-found_by : (name bytes : List ℕ) → found_in name bytes ≡ with_wad name (wad_of bytes)
+found_by : (large : Bool) (name bytes : List ℕ) → found_in large name bytes ≡ with_wad large name (wad_of bytes)
 unfolding found_in with_map with_spot with_wad
-found_by name bytes = refl
+found_by large name bytes = refl
 
-pub record WasFound (name bytes : List ℕ) (found : LocatedMap) : Type 0 where
+pub record WasFound (large : Bool) (name bytes : List ℕ) (found : LocatedMap) : Type 0 where
   pub read : wad_of bytes ≡ Ok found.wad
   pub spot : spot_of (names_of found.wad) name ≡ Ok found.spot
-  pub map : map_at found.wad found.spot ≡ Ok found.map
+  pub map : map_at large found.wad found.spot ≡ Ok found.map
 
-pub was_found : (name bytes : List ℕ) (found : LocatedMap) → found_in name bytes ≡ Ok found → WasFound name bytes found
+pub was_found : (large : Bool) (name bytes : List ℕ) (found : LocatedMap) → found_in large name bytes ≡ Ok found → WasFound large name bytes found
 unfolding with_map with_spot with_wad
-was_found name bytes found h =
-    let a = passes (of_wad (wad_of bytes)) (λ w. with_spot w (spot_of (names_of w) name)) found (sym (found_by name bytes) ∙ h) in
-    let b = passes (of_spot (spot_of (names_of a.x) name)) (λ s. with_map a.x s (map_at a.x s)) found a.rest in
-    let c = passes (map_at a.x b.x) (λ m. Ok (found_with a.x b.x m)) found b.rest in
+was_found large name bytes found h =
+    let a = passes (of_wad (wad_of bytes)) (λ w. with_spot large w (spot_of (names_of w) name)) found (sym (found_by large name bytes) ∙ h) in
+    let b = passes (of_spot (spot_of (names_of a.x) name)) (λ s. with_map a.x s (map_at large a.x s)) found a.rest in
+    let c = passes (map_at large a.x b.x) (λ m. Ok (found_with a.x b.x m)) found b.rest in
     let is : found_with a.x b.x c.x ≡ found = same_ok (found_with a.x b.x c.x) found c.rest in
-    subst (λ (x : LocatedMap). WasFound name bytes x) {x = found_with a.x b.x c.x} is (record { read = was_wad (wad_of bytes) a.x a.step; spot = was_spot (spot_of (names_of a.x) name) b.x b.step; map = c.step })
+    subst (λ (x : LocatedMap). WasFound large name bytes x) {x = found_with a.x b.x c.x} is (record { read = was_wad (wad_of bytes) a.x a.step; spot = was_spot (spot_of (names_of a.x) name) b.x b.step; map = c.step })
 
-is_found : (name bytes : List ℕ) (found : LocatedMap) → WasFound name bytes found → found_in name bytes ≡ Ok found
+is_found : (large : Bool) (name bytes : List ℕ) (found : LocatedMap) → WasFound large name bytes found → found_in large name bytes ≡ Ok found
 unfolding with_map with_spot with_wad
-is_found name bytes found h =
-    found_by name bytes
-    ∙ ap (with_wad name) h.read
-    ∙ ap (with_spot found.wad) h.spot
+is_found large name bytes found h =
+    found_by large name bytes
+    ∙ ap (with_wad large name) h.read
+    ∙ ap (with_spot large found.wad) h.spot
     ∙ ap (with_map found.wad found.spot) h.map
 
 -- ---- the map is found again
@@ -107,26 +107,26 @@ abbrev pub found_then : LocatedMap → List ℕ → LocatedMap
 found_then found table = found_with (with_reject found.wad found.spot table) (spot_then found.spot) found.map
 
 -- what was written is read again
-pub written_again : (name old table bytes : List ℕ) (found : LocatedMap) → found_in name old ≡ Ok found → same_name (codes "REJECT") name ≡ false → with_table found table ≡ Ok bytes → IsReadAgain found.wad name found.spot table bytes
-written_again name old table bytes found h other made =
-    let was = was_found name old found h in
+pub written_again : (large : Bool) (name old table bytes : List ℕ) (found : LocatedMap) → found_in large name old ≡ Ok found → same_name (codes "REJECT") name ≡ false → with_table found table ≡ Ok bytes → IsReadAgain found.wad name found.spot table bytes
+written_again large name old table bytes found h other made =
+    let was = was_found large name old found h in
     rewritten_is_read old found.wad name found.spot table bytes was.read was.spot other (was_printed (printed (with_reject found.wad found.spot table)) bytes made)
 
 -- the map is found in the bytes that were printed, and the REJECT is the table
-pub record IsFoundAgain (name : List ℕ) (found : LocatedMap) (table bytes : List ℕ) : Type 0 where
-  pub again : found_in name bytes ≡ Ok (found_then found table)
+pub record IsFoundAgain (large : Bool) (name : List ℕ) (found : LocatedMap) (table bytes : List ℕ) : Type 0 where
+  pub again : found_in large name bytes ≡ Ok (found_then found table)
   pub short : length bytes < 2 ^ 31
   pub reject : lump_at (with_reject found.wad found.spot table) (reject_then found.spot) ≡ table
 
-pub found_again : (name old table bytes : List ℕ) (found : LocatedMap) → found_in name old ≡ Ok found → same_name (codes "REJECT") name ≡ false → with_table found table ≡ Ok bytes → IsFoundAgain name found table bytes
-found_again name old table bytes found h other made =
-    let was = was_found name old found h in
+pub found_again : (large : Bool) (name old table bytes : List ℕ) (found : LocatedMap) → found_in large name old ≡ Ok found → same_name (codes "REJECT") name ≡ false → with_table found table ≡ Ok bytes → IsFoundAgain large name found table bytes
+found_again large name old table bytes found h other made =
+    let was = was_found large name old found h in
     let new : WadFile = with_reject found.wad found.spot table in
-    let again = written_again name old table bytes found h other made in
+    let again = written_again large name old table bytes found h other made in
     let k = again.kept in
     let here = (λ (e : (l : WadLump) × (slice_get new.lumps (reject_then found.spot) ≡ Some l) × (l.bytes ≡ table)). ap (λ (l : WadLump). l.bytes) (sym (unwrap_or-slice_get new.lumps (reject_then found.spot) nothing) ∙ ap (λ (o : Option WadLump). unwrap_or o nothing) e.1) ∙ e.2) in
     record {
-      again = is_found name bytes (found_then found table) (record {
+      again = is_found large name bytes (found_then found table) (record {
         read = again.read;
         spot = k.found;
         map = four (lump_same new found.wad (spot_then found.spot).linedefs found.spot.linedefs k.linedefs)
@@ -142,5 +142,5 @@ found_again name old table bytes found h other made =
         → lump_at (with_reject found.wad found.spot table) (spot_then found.spot).sidedefs ≡ lump_at found.wad found.spot.sidedefs
         → lump_at (with_reject found.wad found.spot table) (spot_then found.spot).vertexes ≡ lump_at found.wad found.spot.vertexes
         → lump_at (with_reject found.wad found.spot table) (spot_then found.spot).sectors ≡ lump_at found.wad found.spot.sectors
-        → map_at (with_reject found.wad found.spot table) (spot_then found.spot) ≡ map_at found.wad found.spot
-    four a b c d = λ i. of_four_lumps (format_of found.spot.hexen) (a i) (b i) (c i) (d i)
+        → map_at large (with_reject found.wad found.spot table) (spot_then found.spot) ≡ map_at large found.wad found.spot
+    four a b c d = λ i. of_four_lumps (reading_at large found.spot) (a i) (b i) (c i) (d i)

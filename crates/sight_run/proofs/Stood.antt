@@ -5,6 +5,7 @@ use Rattle.std.specs.List.{list_any}
 use Rattle.std.proofs.lemmas.Slice.Eq.{bytes_eq-Decides}
 use Rattle.shelf_io.specs.Shelf.{Files, content_of, put}
 use Rattle.order_words.specs.declared.order.Order.{Order}
+use Rattle.order_words.specs.declared.order.Source.{Source}
 use Rattle.order_words.specs.Words.{order_of}
 use Rattle.sight_status.specs.declared.status.Status.TheVariants as status
 use Rattle.sight_status.specs.Answer.{Written}
@@ -104,10 +105,10 @@ before_report files ws (Some r) report name h =
 -- ---- the bytes of a map
 
 -- the bytes in which a map was found
-pub record HasBytes (name : List ℕ) (found : LocatedMap) : Type 0 where
+pub record HasBytes (large : Bool) (name : List ℕ) (found : LocatedMap) : Type 0 where
   pub bytes : List ℕ
-  pub are : found_in name bytes ≡ Ok found
+  pub are : found_in large name bytes ≡ Ok found
 
-pub bytes_of : (wad name : List ℕ) (files : Files) (found : LocatedMap) → found_of wad name files ≡ Ok found → HasBytes name found
+pub bytes_of : (wad : Source) (name : List ℕ) (files : Files) (found : LocatedMap) → found_of wad name files ≡ Ok found → HasBytes wad.large name found
 unfolding found_of
-bytes_of wad name files found h = let p = passes (of_fetch (content_of (files wad) 2147483647)) (λ bs. found_in name bs) found h in record { bytes = p.x; are = p.rest }
+bytes_of wad name files found h = let p = passes (of_fetch (content_of (files wad.file) 2147483647)) (λ bs. found_in wad.large name bs) found h in record { bytes = p.x; are = p.rest }

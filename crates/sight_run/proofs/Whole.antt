@@ -12,6 +12,7 @@ use Rattle.all_maps.specs.Asked.{asked_maps_of}
 use Rattle.all_maps.specs.Maps.{maps_of}
 use Rattle.all_maps.proofs.AskedMaps.{asked_in_order}
 use Rattle.order_words.specs.declared.order.Order.TheVariants as order
+use Rattle.order_words.specs.declared.order.Source.{Source}
 use Rattle.sight_status.specs.declared.status.Bound.TheVariants as bound
 use Rattle.sight_status.specs.declared.status.Role.TheVariants as role
 use Rattle.sight_status.specs.declared.status.Status.{Status}
@@ -109,7 +110,7 @@ names_cause only old new (status.NoMap fault) h same = same
 names_cause only old new status.Memory h same = tt
 names_cause only old new s h same = absurd h
 
-of_order : (wad out : List ℕ) (only : Option (List (List ℕ))) (report : Option (List ℕ)) (workers : ℕ) (budget : Ask) (s : Status) → IsOfAll only s → IsOfOrder (order.All wad out only report workers budget) s
+of_order : (wad : Source) (out : List ℕ) (only : Option (List (List ℕ))) (report : Option (List ℕ)) (workers : ℕ) (budget : Ask) (s : Status) → IsOfAll only s → IsOfOrder (order.All wad out only report workers budget) s
 of_order wad out only report workers budget (status.NoFile role.Wad) h = tt
 of_order wad out only report workers budget (status.ReadFault role.Wad) h = tt
 of_order wad out only report workers budget (status.NotWad fault) h = tt
@@ -120,15 +121,15 @@ of_order wad out only report workers budget (status.Limit bound.OutputBytes) h =
 of_order wad out only report workers budget status.Memory h = tt
 of_order wad out only report workers budget s h = absurd h
 
-pub all_refusals : {V : Type 0} (wad out : List ℕ) (only : Option (List (List ℕ))) (report : Option (List ℕ)) (workers : ℕ) (budget : Ask) (r : Result V Status) → IfErr r (IsOfAll only) → IfErr r (IsOfOrder (order.All wad out only report workers budget))
+pub all_refusals : {V : Type 0} (wad : Source) (out : List ℕ) (only : Option (List (List ℕ))) (report : Option (List ℕ)) (workers : ℕ) (budget : Ask) (r : Result V Status) → IfErr r (IsOfAll only) → IfErr r (IsOfOrder (order.All wad out only report workers budget))
 all_refusals wad out only report workers budget (Ok v) h = tt
 all_refusals wad out only report workers budget (Err s) h = of_order wad out only report workers budget s h
 
-all_written : (wad out : List ℕ) (only : Option (List (List ℕ))) (report : Option (List ℕ)) (workers : ℕ) (budget : Ask) → WritesEach (order.All wad out only report workers budget) (all_roles report)
+all_written : (wad : Source) (out : List ℕ) (only : Option (List (List ℕ))) (report : Option (List ℕ)) (workers : ℕ) (budget : Ask) → WritesEach (order.All wad out only report workers budget) (all_roles report)
 all_written wad out only None workers budget = (tt, tt)
 all_written wad out only (Some name) workers budget = (tt, (tt, tt))
 
-pub each_written : (wad out : List ℕ) (only : Option (List (List ℕ))) (report : Option (List ℕ)) (workers : ℕ) (budget : Ask) (r : Result Reply Status) → IfOk r (λ (reply : Reply). roles_of (writes reply) ≡ all_roles report)
+pub each_written : (wad : Source) (out : List ℕ) (only : Option (List (List ℕ))) (report : Option (List ℕ)) (workers : ℕ) (budget : Ask) (r : Result Reply Status) → IfOk r (λ (reply : Reply). roles_of (writes reply) ≡ all_roles report)
     → IfOk r (λ (reply : Reply). WritesEach (order.All wad out only report workers budget) (roles_of (writes reply)))
 each_written wad out only report workers budget (Ok reply) h = subst (WritesEach (order.All wad out only report workers budget)) (sym h) (all_written wad out only report workers budget)
 each_written wad out only report workers budget (Err s) h = tt

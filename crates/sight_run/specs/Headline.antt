@@ -17,6 +17,8 @@ use Rattle.cert_groups.specs.declared.cert.AnyCert.TheVariants.{One, Two}
 use Rattle.cert_groups.specs.Reading.{any_at}
 use Rattle.group_job.specs.Sectors.{AreListed}
 use Rattle.order_words.specs.declared.order.Order.TheVariants as order
+use Rattle.order_words.specs.declared.order.Source.{Source}
+use Rattle.order_words.specs.Words.{source_of}
 use Rattle.sight_status.specs.declared.status.Status.TheVariants as status
 use Rattle.map_answers.specs.Input.{LocatedMap}
 use Rattle.whole_wad.specs.Sizes.{sizes_of_map}
@@ -56,7 +58,7 @@ listed_of (Two c sizes) = c.listed
 
 -- The name finds a map in the WAD, and FILE spells a certificate of that map. The map's REJECT is right, but for the pairs that the
 -- certificate lists.
-pub record HasRightReject (wad name cert : List ℕ) (files : Files) : Type 0 where
+pub record HasRightReject (wad : Source) (name cert : List ℕ) (files : Files) : Type 0 where
   pub found : LocatedMap
   pub is_found : found_of wad name files ≡ Ok found
   pub bytes : List ℕ
@@ -67,18 +69,18 @@ pub record HasRightReject (wad name cert : List ℕ) (files : Files) : Type 0 wh
 
 -- so it is where a `check` was done
 abbrev pub CheckedIsRight : Type 0
-CheckedIsRight = (words : List (List ℕ)) (wad name cert : List ℕ) (files stand : Files)
+CheckedIsRight = (words : List (List ℕ)) (wad : Source) (name cert : List ℕ) (files stand : Files)
     → asked_of words ≡ Ok (order.Check wad name cert) → WasDone words files stand → HasRightReject wad name cert files
 
 -- ---- `build`
 
--- The name finds a map in the WAD, and the same map in the WAD that stands under OUT. There its REJECT is right, but for the pairs whose
--- groups are listed within the budget.
-pub record LeavesRightReject (wad name out : List ℕ) (budget : Ask) (files stand : Files) : Type 0 where
+-- The name finds a map in the WAD, and by the same limits the same map in the WAD that stands under OUT. There its REJECT
+-- is right, but for the pairs whose groups are listed within the budget.
+pub record LeavesRightReject (wad : Source) (name out : List ℕ) (budget : Ask) (files stand : Files) : Type 0 where
   pub found : LocatedMap
   pub is_found : found_of wad name files ≡ Ok found
   pub new : LocatedMap
-  pub is_new : found_of out name stand ≡ Ok new
+  pub is_new : found_of (source_of wad.large out) name stand ≡ Ok new
   pub same : new.map ≡ found.map
   pub allowed : Budget
   pub is_allowed : IsBudgetOf found.map budget allowed
@@ -90,13 +92,13 @@ pub record LeavesRightReject (wad name out : List ℕ) (budget : Ask) (files sta
 
 -- so it is where a `build` was done, by how many workers ever. The map isn't called REJECT
 abbrev pub BuiltIsRight : Type 0
-BuiltIsRight = (words : List (List ℕ)) (wad name out : List ℕ) (cert report : Option (List ℕ)) (workers : ℕ) (budget : Ask) (files stand : Files)
+BuiltIsRight = (words : List (List ℕ)) (wad : Source) (name out : List ℕ) (cert report : Option (List ℕ)) (workers : ℕ) (budget : Ask) (files stand : Files)
     → asked_of words ≡ Ok (order.Build wad name out cert report workers budget) → same_name (codes "REJECT") name ≡ false
     → WasDone words files stand → LeavesRightReject wad name out budget files stand
 
 -- .. and all other lumps of the WAD under OUT are as they were
 abbrev pub BuildLeavesLumps : Type 0
-BuildLeavesLumps = (words : List (List ℕ)) (wad name out : List ℕ) (cert report : Option (List ℕ)) (workers : ℕ) (budget : Ask) (files stand : Files)
+BuildLeavesLumps = (words : List (List ℕ)) (wad : Source) (name out : List ℕ) (cert report : Option (List ℕ)) (workers : ℕ) (budget : Ask) (files stand : Files)
     → asked_of words ≡ Ok (order.Build wad name out cert report workers budget) → same_name (codes "REJECT") name ≡ false
     → WasDone words files stand → KeepsLumps wad name out files stand HasTableLength
 
@@ -109,6 +111,6 @@ GotOneLine one other = (line : List ℕ) × (one.new.held ≡ option_map (λ hel
 -- Two builds of one map within one budget, by how many workers ever, leave the same bytes under OUT and put the same line. Certificates
 -- and reports may be asked for or not.
 abbrev pub BuildsLeaveOneWad : Type 0
-BuildsLeaveOneWad = (words others : List (List ℕ)) (wad name out : List ℕ) (cert report other_cert other_report : Option (List ℕ)) (workers other_workers : ℕ) (budget : Ask) (files stand other_stand : Files)
+BuildsLeaveOneWad = (words others : List (List ℕ)) (wad : Source) (name out : List ℕ) (cert report other_cert other_report : Option (List ℕ)) (workers other_workers : ℕ) (budget : Ask) (files stand other_stand : Files)
     → asked_of words ≡ Ok (order.Build wad name out cert report workers budget) → asked_of others ≡ Ok (order.Build wad name out other_cert other_report other_workers budget)
     → (one : WasDone words files stand) (other : WasDone others files other_stand) → (stand out ≡ other_stand out) × GotOneLine one.sink other.sink

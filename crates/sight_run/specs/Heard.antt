@@ -11,6 +11,7 @@ use Rattle.listeners.specs.Told.{AreTold, HeardFronts}
 use Rattle.shelf_io.specs.Shelf.{Files}
 use Rattle.order_words.specs.declared.order.Order.{Order}
 use Rattle.order_words.specs.declared.order.Order.TheVariants as order
+use Rattle.order_words.specs.declared.order.Source.{Source}
 use Rattle.sight_status.specs.declared.status.Role.TheVariants as role
 use Rattle.sight_status.specs.declared.status.Status.{Status}
 use Rattle.sight_status.specs.declared.status.Status.TheVariants as status
@@ -60,7 +61,7 @@ AreOfFound (Ok found) budget findings = AreFindingsOf found.map budget findings
 AreOfFound (Err refusal) budget findings = ⊥
 
 -- .. by the files. Where they aren't told, nothing is said of which findings were heard.
-abbrev pub AreFindingsIn : Option Files → List ℕ → List ℕ → Ask → List Finding → Type 0
+abbrev pub AreFindingsIn : Option Files → Source → List ℕ → Ask → List Finding → Type 0
 AreFindingsIn None wad name budget findings = ⊤
 AreFindingsIn (Some files) wad name budget findings = AreOfFound (found_of wad name files) budget findings
 

@@ -1,5 +1,5 @@
 -- What holds of the orders together: the answer of `check` to what `build` wrote, what written WADs keep, and how runs end where nothing failed.
-use Rattle.std.specs.Prelude.{◌≡◌, ◌⊎◌, ◌≤◌, ◌<◌, ◌^◌, ℕ, false, List, ◌++◌, length, Contains, Option, Some, Result, Ok, Err, codes, ⊤}
+use Rattle.std.specs.Prelude.{◌≡◌, ◌⊎◌, ◌≤◌, ◌<◌, ◌^◌, ℕ, Bool, false, List, ◌++◌, length, Contains, Option, Some, Result, Ok, Err, codes, ⊤}
 use Rattle.std.specs.List.{AllByRecursion}
 use Rattle.std.specs.Option.{option_map}
 use Rattle.sight_names.specs.declared.faults.RewriteFault.TheVariants as rewrite
@@ -18,6 +18,8 @@ use Rattle.all_maps.specs.Names.{word_of}
 use Rattle.all_maps.specs.Spliced.{spliced}
 use Rattle.group_job.specs.declared.build.GroupBuilt.{GroupBuilt}
 use Rattle.order_words.specs.declared.order.Order.TheVariants as order
+use Rattle.order_words.specs.declared.order.Source.{Source}
+use Rattle.order_words.specs.Words.{source_of}
 use Rattle.cert_checker.specs.declared.verdict.Totals.{Totals}
 use Rattle.map_answers.specs.declared.counts.Counts.{Counts}
 use Rattle.sight_status.specs.declared.status.Bound.TheVariants as bound
@@ -42,14 +44,14 @@ use Rattle.sight_run.specs.Run.{NothingRose, RunEnds, StatusCause, put_all}
 use Rattle.sight_run.specs.Words.{asked_of}
 use Rattle.sight_run.specs.Zero.{clear_table, with_table}
 
--- the words ask for a build of this map into OUT with its certificate in FILE, and the others for the check of just these
+-- the words ask for a build of this map into OUT with its certificate in FILE, and the others for the check of just these by the same limits
 pub record AskBoth (build check : List (List ℕ)) (name out cert : List ℕ) : Type 0 where
-  pub wad : List ℕ
+  pub wad : Source
   pub report : Option (List ℕ)
   pub workers : ℕ
   pub budget : Ask
   pub built : asked_of build ≡ Ok (order.Build wad name out (Some cert) report workers budget)
-  pub checked : asked_of check ≡ Ok (order.Check out name cert)
+  pub checked : asked_of check ≡ Ok (order.Check (source_of wad.large out) name cert)
   -- the map isn't called REJECT
   pub other : same_name (codes "REJECT") name ≡ false
 
@@ -108,7 +110,7 @@ BuiltRunIsChecked = (build check : List (List ℕ)) (name out cert : List ℕ) (
 -- ---- what a written WAD keeps
 
 -- under OUT stands a WAD which is read as the one in which the map was found, with such a REJECT for it, and with all other lumps
-pub record KeepsLumps (wad name out : List ℕ) (files stand : Files) (IsRight : Map → List ℕ → Type 0) : Type 0 where
+pub record KeepsLumps (wad : Source) (name out : List ℕ) (files stand : Files) (IsRight : Map → List ℕ → Type 0) : Type 0 where
   pub found : LocatedMap
   pub was : found_of wad name files ≡ Ok found
   pub table : List ℕ
@@ -125,13 +127,13 @@ HasTableLength m table = IsTable m.sectors table
 
 -- Where `zero` is answered, OUT holds the WAD with a clear REJECT and all other lumps as they were. The map isn't called REJECT.
 abbrev pub ZeroKeepsLumps : Type 0
-ZeroKeepsLumps = (words : List (List ℕ)) (wad name out : List ℕ) (files : Files) (heard : Heard) (answer : Answer)
+ZeroKeepsLumps = (words : List (List ℕ)) (wad : Source) (name out : List ℕ) (files : Files) (heard : Heard) (answer : Answer)
     → asked_of words ≡ Ok (order.Zero wad name out) → same_name (codes "REJECT") name ≡ false → IsAnswer words files heard (Ok answer)
     → KeepsLumps wad name out files (put_all files answer.writes) IsClearTable
 
 -- where `build` is answered, it holds the WAD with a table of the map's sectors and all other lumps as they were
 abbrev pub BuildKeepsLumps : Type 0
-BuildKeepsLumps = (words : List (List ℕ)) (wad name out : List ℕ) (asked report : Option (List ℕ)) (workers : ℕ) (budget : Ask) (files : Files) (heard : Heard) (answer : Answer)
+BuildKeepsLumps = (words : List (List ℕ)) (wad : Source) (name out : List ℕ) (asked report : Option (List ℕ)) (workers : ℕ) (budget : Ask) (files : Files) (heard : Heard) (answer : Answer)
     → asked_of words ≡ Ok (order.Build wad name out asked report workers budget) → same_name (codes "REJECT") name ≡ false → IsAnswer words files heard (Ok answer)
     → KeepsLumps wad name out files (put_all files answer.writes) HasTableLength
 
@@ -147,8 +149,8 @@ pub record AreMadeAlike (found : LocatedMap) (name : List ℕ) (budget : Ask) (o
   pub flaws : (o : MapOutcome) → Contains outcomes o → word_of o.name ≡ name → (refusal : Status) → IsFlawOf found.map refusal → o.made ≡ Err refusal
 
 abbrev pub AllIsAsBuild : Type 0
-AllIsAsBuild = (wad name : List ℕ) (files : Files) (w : WadFile) (found : LocatedMap) (maps : List (List ℕ)) (budget : Ask) (outcomes : List MapOutcome)
-    → wad_in wad files ≡ Ok w → found_of wad name files ≡ Ok found → AreOutcomes w maps budget outcomes → AreMadeAlike found name budget outcomes
+AllIsAsBuild = (wad : Source) (name : List ℕ) (files : Files) (w : WadFile) (found : LocatedMap) (maps : List (List ℕ)) (budget : Ask) (outcomes : List MapOutcome)
+    → wad_in wad.file files ≡ Ok w → found_of wad name files ≡ Ok found → AreOutcomes w wad.large maps budget outcomes → AreMadeAlike found name budget outcomes
 
 -- a table has the length that the sectors of its map ask
 abbrev pub HasLengthOf : Result Map Status → Result MapTable Status → Type 0
@@ -157,14 +159,14 @@ HasLengthOf said other = ⊤
 
 -- Under OUT stands a WAD that is read as the one of the file in which each map that was to be built and got a table has it as its REJECT,
 -- and in which all other lumps are as they were, in order.
-pub record KeepsAllLumps (wad out : List ℕ) (only : Option (List (List ℕ))) (budget : Ask) (files stand : Files) : Type 0 where
+pub record KeepsAllLumps (wad : Source) (out : List ℕ) (only : Option (List (List ℕ))) (budget : Ask) (files stand : Files) : Type 0 where
   pub w : WadFile
-  pub was : wad_in wad files ≡ Ok w
+  pub was : wad_in wad.file files ≡ Ok w
   pub maps : List (List ℕ)
   pub asked : maps_in (names_of w) only ≡ Ok maps
   pub outcomes : List MapOutcome
-  pub are : AreOutcomes w maps budget outcomes
-  pub lengths : AllByRecursion (λ (o : MapOutcome). HasLengthOf (map_named w (word_of o.name)) o.made) outcomes
+  pub are : AreOutcomes w wad.large maps budget outcomes
+  pub lengths : AllByRecursion (λ (o : MapOutcome). HasLengthOf (map_named wad.large w (word_of o.name)) o.made) outcomes
   pub bytes : List ℕ
   pub stands : stand out ≡ Some bytes
   pub short : length bytes < 2 ^ 31
@@ -178,7 +180,7 @@ pub record KeepsAllLumps (wad out : List ℕ) (only : Option (List (List ℕ))) 
 
 -- Where `all` is answered, OUT holds such a WAD.
 abbrev pub AllKeepsLumps : Type 0
-AllKeepsLumps = (words : List (List ℕ)) (wad out : List ℕ) (only : Option (List (List ℕ))) (report : Option (List ℕ)) (workers : ℕ) (budget : Ask) (files : Files) (heard : Heard) (answer : Answer)
+AllKeepsLumps = (words : List (List ℕ)) (wad : Source) (out : List ℕ) (only : Option (List (List ℕ))) (report : Option (List ℕ)) (workers : ℕ) (budget : Ask) (files : Files) (heard : Heard) (answer : Answer)
     → asked_of words ≡ Ok (order.All wad out only report workers budget) → IsAnswer words files heard (Ok answer)
     → KeepsAllLumps wad out only budget files (put_all files answer.writes)
 
@@ -208,7 +210,7 @@ EndsBuild budget found other = ⊥
 
 -- A build of a map that the audit accepts ends so.
 abbrev pub BuildIsDone : Type 0
-BuildIsDone = (words : List (List ℕ)) (wad name out : List ℕ) (asked report : Option (List ℕ)) (workers : ℕ) (budget : Ask) (went : Went) (found : LocatedMap)
+BuildIsDone = (words : List (List ℕ)) (wad : Source) (name out : List ℕ) (asked report : Option (List ℕ)) (workers : ℕ) (budget : Ask) (went : Went) (found : LocatedMap)
     → asked_of words ≡ Ok (order.Build wad name out asked report workers budget) → found_of wad name went.files ≡ Ok found → HasClosedFaces found.map
     → WentWell words went → EndsBuild budget found went.status
 
@@ -219,20 +221,20 @@ pub record HasRoom (found : LocatedMap) : Type 0 where
 
 -- Where there is room it ends with Done, or for want of memory.
 abbrev pub BuildWithRoomIsDone : Type 0
-BuildWithRoomIsDone = (words : List (List ℕ)) (wad name out : List ℕ) (asked report : Option (List ℕ)) (workers : ℕ) (budget : Ask) (went : Went) (found : LocatedMap)
+BuildWithRoomIsDone = (words : List (List ℕ)) (wad : Source) (name out : List ℕ) (asked report : Option (List ℕ)) (workers : ℕ) (budget : Ask) (went : Went) (found : LocatedMap)
     → asked_of words ≡ Ok (order.Build wad name out asked report workers budget) → found_of wad name went.files ≡ Ok found → HasClosedFaces found.map → HasRoom found
     → WentWell words went → (went.status ≡ status.Done) ⊎ (went.status ≡ status.Memory)
 
 -- it is done, unless memory ran out, or the WAD with all tables is above that limit
-abbrev pub EndsAll : List (List ℕ) → Ask → WadFile → Status → Type 0
-EndsAll maps budget w status.Done = ⊤
-EndsAll maps budget w status.Memory = ⊤
-EndsAll maps budget w (status.Limit bound.Lumps) = IsAboveLimit w maps budget rewrite.TooManyLumps
-EndsAll maps budget w (status.Limit bound.OutputBytes) = IsAboveLimit w maps budget rewrite.TooLong
-EndsAll maps budget w other = ⊥
+abbrev pub EndsAll : Bool → List (List ℕ) → Ask → WadFile → Status → Type 0
+EndsAll large maps budget w status.Done = ⊤
+EndsAll large maps budget w status.Memory = ⊤
+EndsAll large maps budget w (status.Limit bound.Lumps) = IsAboveLimit w large maps budget rewrite.TooManyLumps
+EndsAll large maps budget w (status.Limit bound.OutputBytes) = IsAboveLimit w large maps budget rewrite.TooLong
+EndsAll large maps budget w other = ⊥
 
 -- `all` of a WAD that is read ends so, where each name that is given is that of a map. Without names there is nothing to be found.
 abbrev pub AllIsDone : Type 0
-AllIsDone = (words : List (List ℕ)) (wad out : List ℕ) (only : Option (List (List ℕ))) (report : Option (List ℕ)) (workers : ℕ) (budget : Ask) (went : Went) (w : WadFile) (maps : List (List ℕ))
-    → asked_of words ≡ Ok (order.All wad out only report workers budget) → wad_in wad went.files ≡ Ok w → maps_in (names_of w) only ≡ Ok maps
-    → WentWell words went → EndsAll maps budget w went.status
+AllIsDone = (words : List (List ℕ)) (wad : Source) (out : List ℕ) (only : Option (List (List ℕ))) (report : Option (List ℕ)) (workers : ℕ) (budget : Ask) (went : Went) (w : WadFile) (maps : List (List ℕ))
+    → asked_of words ≡ Ok (order.All wad out only report workers budget) → wad_in wad.file went.files ≡ Ok w → maps_in (names_of w) only ≡ Ok maps
+    → WentWell words went → EndsAll wad.large maps budget w went.status

@@ -1,8 +1,9 @@
--- The map of a name in the file of a name.
+-- The map of a name in the file of a name, by the limits that are asked for.
 use Rattle.std.specs.Prelude.{ℕ, List, Result, Ok, Err}
 use Rattle.sight_names.specs.declared.faults.FetchFault.{FetchFault}
 use Rattle.sight_names.specs.declared.faults.FetchFault.TheVariants as fetch
 use Rattle.shelf_io.specs.Shelf.{Files, content_of}
+use Rattle.order_words.specs.declared.order.Source.{Source}
 use Rattle.sight_status.specs.declared.status.Bound.TheVariants as bound
 use Rattle.sight_status.specs.declared.status.Role.TheVariants as role
 use Rattle.sight_status.specs.declared.status.Status.{Status}
@@ -18,8 +19,8 @@ of_fetch (Err fetch.Failed) = Err (status.ReadFault role.Wad)
 of_fetch (Err fetch.TooLong) = Err (status.Limit bound.WadBytes)
 of_fetch (Err fetch.Memory) = Err status.Memory
 
--- the map of this name in the file of that name
-unfoldable pub found_of : List ℕ → List ℕ → Files → Result LocatedMap Status
+-- the map of this name in the file that an order reads
+unfoldable pub found_of : Source → List ℕ → Files → Result LocatedMap Status
 found_of wad name files = do
-  bytes ← of_fetch (content_of (files wad) 2147483647)
-  found_in name bytes
+  bytes ← of_fetch (content_of (files wad.file) 2147483647)
+  found_in wad.large name bytes

@@ -18,7 +18,7 @@ use crate::asked::asked_maps;
 use crate::input::fetch_wad;
 use crate::reply::{Bytes, Reply, push_output};
 use map_answers::directory;
-use order_words::Text;
+use order_words::{Source, Text};
 use shelf_io::Shelf;
 use sight_names::{Ask, Items, RewriteFault};
 use sight_status::{Bound, Role, Status, push_count, push_count_line};
@@ -75,6 +75,7 @@ fn make_reply<R: Threads + Sync, G: Gate + Sync, N: Notice>(
     alloc: Global,
     bytes: &[u8],
     wad: &Wad,
+    large: bool,
     maps: &[[u8; 8]],
     out: &str,
     report: &Option<Text>,
@@ -87,11 +88,13 @@ fn make_reply<R: Threads + Sync, G: Gate + Sync, N: Notice>(
     requires names { names_of (file_of bytes.now wad.now) ≡ entry_names wad.now.entries }
     requires among { HasInOrder (maps_of (entry_names wad.now.entries)) maps.now }
     requires workers { (1 ≤ workers) × (workers ≤ 64) }
-    ensures called { Gives ⊤ (MapsCall out.now report.now maps.now budget (file_of bytes.now wad.now)) (reply_seen result) }
+    ensures called { Gives ⊤ (MapsCall out.now report.now large maps.now budget (file_of bytes.now wad.now)) (reply_seen result) }
     ensures refusals { IfErr result IsOfMaking }
     ensures roles { IfOk result (λ reply. roles_of (writes reply) ≡ all_roles report.now) }
 {
-    let whole = match build_wad(rt, alloc, bytes, wad, maps, workers, budget, gate, notice) {
+    let whole = match build_wad(
+        rt, alloc, bytes, wad, large, maps, workers, budget, gate, notice,
+    ) {
         Ok(whole) => whole,
         Err(RewriteFault::TooManyLumps) => return Err(Status::Limit(Bound::Lumps)),
         Err(RewriteFault::TooLong) => return Err(Status::Limit(Bound::OutputBytes)),
@@ -108,7 +111,7 @@ pub fn do_all<R: Threads + Sync, S: Shelf, G: Gate + Sync, N: Notice>(
     rt: &R,
     alloc: Global,
     shelf: &mut S,
-    wad: &str,
+    source: &Source,
     out: &str,
     only: &Option<Items<Text>>,
     report: &Option<Text>,
@@ -118,17 +121,28 @@ pub fn do_all<R: Threads + Sync, S: Shelf, G: Gate + Sync, N: Notice>(
     notice: &N,
 ) -> Result<Reply, Status>
     requires workers { (1 ≤ workers) × (workers ≤ 64) }
-    ensures told { (files : Files) → (S.state shelf.old).files ≡ Some files → Gives ⊤ (OnRead (wad_in wad.now files) (AllCalls out.now only.now report.now budget)) (reply_seen result) }
+    ensures told { (files : Files) → (S.state shelf.old).files ≡ Some files → Gives ⊤ (OnRead (wad_in source.now.file files) (AllCalls out.now source.now.large only.now report.now budget)) (reply_seen result) }
     ensures files { (S.state shelf.new).files ≡ (S.state shelf.old).files }
     ensures counts { NoneFell (S.state shelf.old) (S.state shelf.new) }
     ensures cause { Cause (S.state shelf.old) (S.state shelf.new) result }
     ensures refusals { IfErr result (IsOfAll only.now) }
     ensures roles { IfOk result (λ reply. roles_of (writes reply) ≡ all_roles report.now) }
 {
-    let bytes = fetch_wad(alloc, shelf, wad)?;
+    let bytes = fetch_wad(alloc, shelf, source.file.as_str())?;
     let wad = directory(alloc, &bytes)?;
     let maps = asked_maps(alloc, &wad, only)?;
     make_reply(
-        rt, alloc, &bytes, &wad, &maps, out, report, workers, budget, gate, notice,
+        rt,
+        alloc,
+        &bytes,
+        &wad,
+        source.large,
+        &maps,
+        out,
+        report,
+        workers,
+        budget,
+        gate,
+        notice,
     )
 }

@@ -14,6 +14,7 @@ ghost use Rattle.sight_run.specs.Run.{Cause, IsOfAudit};
 use crate::input::read_input;
 use crate::reply::{Reply, line_alone};
 use map_answers::judge_need;
+use order_words::Source;
 use shelf_io::Shelf;
 use sight_status::Status;
 use std::alloc::Global;
@@ -22,7 +23,7 @@ use std::alloc::Global;
 pub fn do_need<S: Shelf>(
     alloc: Global,
     shelf: &mut S,
-    wad: &str,
+    wad: &Source,
     name: &str,
 ) -> Result<Reply, Status>
     ensures told { (files : Files) → (S.state shelf.old).files ≡ Some files → Gives ⊤ (OnFound (found_of wad.now name.now files) (λ found. NeedCalls name.now found.map)) (reply_seen result) }
