@@ -150,7 +150,7 @@ fn audited(alloc: Global, plan: &Plan) -> Result<String, Fail> {
 
 // Whether a row tells what there is to tell of its map.
 fn is_right(alloc: Global, row: &str) -> Result<bool, Fail> {
-    let found = find_in(alloc, bytes_of(alloc, part(row, 0))?, "MAP01")?;
+    let found = find_in(alloc, bytes_of(alloc, part(row, 0))?, false, "MAP01")?;
     let text = audited(alloc, &found.plan)?;
     let (_, wanted) = row.split_once(" | ").unwrap_or(("", ""));
     Ok(text.as_str().trim() == wanted.trim())

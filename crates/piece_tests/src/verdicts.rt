@@ -40,6 +40,8 @@ U | 4400 | #U-CERT @4:1:03 | Unread(BadVersion)
 U | 4400 | #U-CERT @160:1: | Unread(Short { at: 159 })
 U | 4400 | #U-CERT @161:0:00 | Unread(Trailing { at: 161 })
 U | 4400 | #U-GROUPS @174:1: | Unread(Short { at: 173 })
+# two rays of one pair
+U | 4400 | #U-CERT @116:1:00 @118:1:01 | Unread(NotSorted { at: 116 })
 U | 4400 | #U-GROUPS @175:0:00 | Unread(Trailing { at: 175 })
 U | 4400 | #U-GROUPS @36:1:03 | Unread(OutOfRange { at: 36 })
 ISLAND | 00 | #ISLAND-CERT @34:1:00 | Unread(NotSorted { at: 34 })
@@ -248,7 +250,7 @@ fn table_of(alloc: Global, sectors: u16, digits: &str) -> Result<Table, TableFau
 
 // Whether the row's table and certificate are judged as it says, in threads and in pieces.
 fn is_row<R: Threads + Sync>(rt: &R, alloc: Global, row: &str) -> Result<bool, Fail> {
-    let found = find_in(alloc, bytes_of(alloc, part(row, 0))?, "MAP01")?;
+    let found = find_in(alloc, bytes_of(alloc, part(row, 0))?, false, "MAP01")?;
     let plan = &found.plan;
     let table = table_of(alloc, plan.sectors, part(row, 1))?;
     let bytes = bytes_of(alloc, part(row, 2))?;

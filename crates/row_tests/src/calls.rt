@@ -1,25 +1,22 @@
-//! Calls of the crates below that no row reaches, and what real files and the standard output do.
+//! Calls of the crates below that no row reaches, and a run on a real disk.
 
 ghost use Rattle.std.specs.Prelude.{◌<◌, length};
 ghost use Rattle.board_core.specs.Machine.{State, Worker, CanStep, IsActive, idle, start, after};
 
+use crate::table::ran;
 use block_evidence::{Evidence, four};
 use board_core::{Core, Event, Reply};
 use hexen_lumps::to_hexen;
 use listeners::Listener;
-use run_cases::{stage_of, words_in};
-use shelf_io::{DiskShelf, MemSink, Shelf, Sink, StdSink, fetch, names_one_file, store};
+use run_cases::stage_of;
+use shelf_io::{DiskShelf, MemSink, fetch};
 use sight_names::{
     BuildFault, FetchFault, LabelFault, Pair, Pt, RewriteFault, ShelfFault, Side, WadFault,
 };
-use sight_run::{NoNotice, Status, run};
-use sight_workers::OpenGate;
+use sight_run::{NoNotice, Status};
 use stab_hull::{Ends, Split};
-use std::alloc::{AllocError, Global};
 use std::fs;
-use std::os::unix::fs::symlink;
 use std::test::Fail;
-use worked_maps::dice::Dice;
 use worked_maps::files::bytes_of;
 
 #[test]
@@ -62,95 +59,17 @@ fn a_file_longer_than_the_limit_is_not_fetched(rt: HostRuntime) -> Result<(), Fa
     Ok(())
 }
 
-// So many bytes that differ from place to place.
-fn mixed_bytes(alloc: Global, count: u32) -> Result<Vec<u8>, AllocError> {
-    let mut dice = Dice::new(1);
-    let mut bytes = Vec::new(alloc);
-    for _ in 0..count {
-        bytes.push(dice.roll(256) as u8)?;
-    }
-    Ok(bytes)
-}
-
-#[test]
-fn real_files_hold_what_was_stored(rt: HostRuntime) -> Result<(), Fail> {
-    let alloc = rt.alloc();
-    let mut shelf = DiskShelf::new(&rt);
-    let name = "row_tests.tmp";
-    let long = mixed_bytes(alloc, 70_000)?;
-    assert!(rt; store(&mut shelf, name, &long).is_ok());
-    assert_eq!(rt; fetch(alloc, &mut shelf, name, 70_000)?, long);
-    // within the first piece, over the end of it, at the end of the file, and behind it
-    for (at, there) in [(1usize, 16usize), (65_530, 16), (69_990, 10), (70_000, 0)] {
-        let mut taken = [0; 16];
-        assert_eq!(rt;
-            shelf.read(name, at as u64, &mut taken),
-            Ok(there),
-            "at {at}"
-        );
-        let wanted = long.get(at..at.saturating_add(there)).unwrap_or(&[]);
-        assert_eq!(rt; taken.get(..there).unwrap_or(&[]), wanted, "at {at}");
-    }
-    assert!(rt; shelf.append(name, b"!").is_ok());
-    assert!(rt;
-        matches!(
-            fetch(alloc, &mut shelf, name, 70_000),
-            Err(FetchFault::TooLong)
-        )
-    );
-    assert!(rt; shelf.create(name).is_ok());
-    assert_eq!(rt; fetch(alloc, &mut shelf, name, 0)?.len(), 0);
-    // a file that is shorter than what stood there
-    let short = long.get(40_000..40_100).unwrap_or(&[]);
-    assert!(rt; store(&mut shelf, name, short).is_ok());
-    assert_eq!(rt; fetch(alloc, &mut shelf, name, 70_000)?.as_slice(), short);
-    assert!(rt; shelf.settle(name).is_ok());
-    fs::remove_file(&rt, name)?;
-    assert!(rt; matches!(fetch(alloc, &mut shelf, name, 0), Err(FetchFault::Absent)));
-    assert!(rt; matches!(fetch(alloc, &mut shelf, ".", 0), Err(FetchFault::Failed)));
-    assert!(rt; store(&mut shelf, "no_such_folder/file", b"x").is_err());
-    assert_eq!(rt; StdSink::new(&rt).put(b"a line of the test\n"), Ok(()));
-    Ok(())
-}
-
-#[test]
-fn a_created_file_takes_its_place_when_it_is_settled(rt: HostRuntime) -> Result<(), Fail> {
-    let (name, link, beside) = ("settled.tmp", "settled.link", ".settled.tmp.doomsight-0");
-    let mut shelf = DiskShelf::new(&rt);
-    fs::write(&rt, name, "old")?;
-    symlink(&rt, name, link)?;
-    assert!(rt; store(&mut shelf, link, b"new").is_ok());
-    assert_eq!(rt; fs::read_to_string(&rt, name)?.as_str(), "old");
-    assert_eq!(rt; fs::read_to_string(&rt, beside)?.as_str(), "new");
-    assert!(rt; shelf.settle(link).is_ok());
-    assert_eq!(rt; fs::read_to_string(&rt, name)?.as_str(), "new");
-    assert!(rt; fs::symlink_metadata(&rt, link)?.is_symlink() && !fs::exists(&rt, beside)?);
-    assert!(rt; store(&mut shelf, name, b"other").is_ok());
-    shelf.discard();
-    assert_eq!(rt; fs::read_to_string(&rt, link)?.as_str(), "new");
-    assert!(rt; names_one_file(&rt, name, link) && !fs::exists(&rt, beside)?);
-    fs::remove_file(&rt, name)?;
-    // Nothing stands behind the link now.
-    assert!(rt; names_one_file(&rt, "./settled.tmp", link) && !names_one_file(&rt, beside, link));
-    fs::remove_file(&rt, link)?;
-    assert!(rt; store(&mut shelf, "/dev/null", b"x").is_ok() && shelf.settle("/dev/null").is_ok());
-    assert!(rt; !fs::metadata(&rt, "/dev/null")?.is_file());
-    Ok(())
-}
-
 // No clause says that a run settles what it stores: where the files are told there is nothing to settle.
 #[test]
 fn a_run_puts_its_output_in_its_place(rt: HostRuntime) -> Result<(), Fail> {
     let alloc = rt.alloc();
     let (wad, clear) = (bytes_of(alloc, "SQUARE")?, bytes_of(alloc, "SQUARE =00")?);
     fs::write(&rt, "square.tmp", wad.as_slice())?;
-    let words = words_in(alloc, "zero square.tmp MAP01 clear.tmp")?;
     let mut shelf = DiskShelf::new(&rt);
     let mut out = MemSink::new(alloc, Vec::new(alloc));
     let mut none: Vec<Box<dyn Listener>> = Vec::new(alloc);
-    let status = run(
-        &rt, alloc, &words, &mut shelf, &mut out, &mut none, &OpenGate, &NoNotice,
-    );
+    let line = "zero square.tmp MAP01 clear.tmp";
+    let status = ran(&rt, alloc, line, &mut shelf, &mut out, &mut none, &NoNotice)?;
     assert!(rt; status == Status::Done);
     assert_eq!(rt; fs::read(&rt, "clear.tmp")?, clear);
     fs::remove_file(&rt, "clear.tmp")?;

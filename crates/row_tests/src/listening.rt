@@ -2,12 +2,12 @@
 
 ghost use Rattle.std.specs.Prelude.{◌≡◌};
 
+use crate::table::ran;
 use listeners::{Finding, FirstSet, Keep, Lines, Listener, Totals, pieces, words_of};
-use run_cases::{stage_of, words_in};
+use run_cases::stage_of;
 use shelf_io::MemSink;
 use sight_names::Memory;
-use sight_run::{NoNotice, Notice, Status, run};
-use sight_workers::OpenGate;
+use sight_run::{NoNotice, Notice, Status};
 use std::cell::RefCell;
 use std::test::Fail;
 
@@ -46,18 +46,16 @@ fn a_listener_that_has_heard_enough_goes_and_its_text_begins_the_report(
     listeners.push(Box::new(alloc, Totals::new(alloc))?)?;
     listeners.push(Box::new(alloc, FirstSet::new(alloc, 1))?)?;
     listeners.push(Box::new(alloc, Lines::new(alloc))?)?;
-    let words = words_in(alloc, "build a MAP01 b --report r")?;
     let mut out = MemSink::new(alloc, Vec::new(alloc));
-    let status = run(
+    let status = ran(
         &rt,
         alloc,
-        &words,
+        "build a MAP01 b --report r",
         &mut stage.shelf,
         &mut out,
         &mut listeners,
-        &OpenGate,
         &NoNotice,
-    );
+    )?;
     assert!(rt; status == Status::Done && listeners.len() == 2);
     let report = stage.shelf.bytes("r").unwrap_or(b"");
     let left = b"total set 1 clear 5 listed 0\nset 0 2\n".as_slice();
@@ -86,18 +84,16 @@ fn no_file_is_made_where_a_listener_finds_no_memory(rt: HostRuntime) -> Result<(
             heard: Vec::new(alloc),
         },
     )?)?;
-    let words = words_in(alloc, "build a MAP01 b --cert c --report r")?;
     let mut out = MemSink::new(alloc, Vec::new(alloc));
-    let status = run(
+    let status = ran(
         &rt,
         alloc,
-        &words,
+        "build a MAP01 b --cert c --report r",
         &mut stage.shelf,
         &mut out,
         &mut listeners,
-        &OpenGate,
         &NoNotice,
-    );
+    )?;
     assert!(rt; status == Status::Memory && listeners.len() == 2);
     assert!(rt; stage.shelf.bytes("b").is_none() && stage.shelf.bytes("c").is_none());
     // the first one heard the third finding, which is that 0 and 2 don't see each other
@@ -139,21 +135,19 @@ fn a_notice_is_told_of_maps_of_udmf_before_the_lines(rt: HostRuntime) -> Result<
     let given = "a=PAIR +6:map02 +7:TEXTMAP U .8 - +8:MAP03 +14:E1M9 +15:textmap";
     let mut stage = stage_of(alloc, given)?;
     let mut none: Vec<Box<dyn Listener>> = Vec::new(alloc);
-    let words = words_in(alloc, "all a b")?;
     let mut out = MemSink::new(alloc, Vec::new(alloc));
     let told = Told {
         text: RefCell::new(String::new(alloc)),
     };
-    let status = run(
+    let status = ran(
         &rt,
         alloc,
-        &words,
+        "all a b",
         &mut stage.shelf,
         &mut out,
         &mut none,
-        &OpenGate,
         &told,
-    );
+    )?;
     assert!(rt; status == Status::Done);
     assert_eq!(rt;
         told.text.into_inner().as_str(),

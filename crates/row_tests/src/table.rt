@@ -3,11 +3,11 @@
 
 use listeners::{Lines, Listener, Totals};
 use run_cases::{Stage, stage_of, words_in};
-use shelf_io::MemSink;
+use shelf_io::{MemSink, Shelf};
 use sight_names::{
     CheckFault, FetchFault, LabelFault, LumpFault, OrderFault, RewriteFault, WadFault,
 };
-use sight_run::{Bound, Flaw, NoNotice, Status, Why, code, run};
+use sight_run::{Bound, Flaw, NoNotice, Notice, Status, Why, code, run};
 use sight_workers::OpenGate;
 use std::alloc::{AllocError, Global};
 use std::thread::Threads;
@@ -16,6 +16,20 @@ use worked_maps::files::bytes_of;
 /// The part of a row behind so many bars.
 pub fn part(row: &str, k: usize) -> &str {
     row.split('|').nth(k).unwrap_or("").trim()
+}
+
+/// Runs the words of a line. It says nothing of what `run` promises, so that the proof of no test carries that along.
+pub fn ran<R: Threads + Sync, S: Shelf, N: Notice>(
+    rt: &R,
+    alloc: Global,
+    line: &str,
+    shelf: &mut S,
+    out: &mut MemSink,
+    listeners: &mut Vec<Box<dyn Listener>>,
+    notice: &N,
+) -> Result<Status, AllocError> {
+    let words = words_in(alloc, line)?;
+    Ok(run(rt, alloc, &words, shelf, out, listeners, &OpenGate, notice))
 }
 
 // Whether a line was put. `=` is the line that was put before; two dots stand for anything; a line that ends in `~` isn't
@@ -136,21 +150,19 @@ fn wrong_part<R: Threads + Sync>(
         *stage = stage_of(alloc, part(row, 0))?;
     }
     let before = stage.text.clone()?;
-    let words = words_in(alloc, part(row, 1))?;
     let mut out = MemSink::new(alloc, stage.puts.clone()?);
     let mut listeners: Vec<Box<dyn Listener>> = Vec::new(alloc);
     listeners.push(Box::new(alloc, Lines::new(alloc))?)?;
     listeners.push(Box::new(alloc, Totals::new(alloc))?)?;
-    let status = run(
+    let status = ran(
         rt,
         alloc,
-        &words,
+        part(row, 1),
         &mut stage.shelf,
         &mut out,
         &mut listeners,
-        &OpenGate,
         &NoNotice,
-    );
+    )?;
     stage.text = out.held().to_vec(alloc)?;
     if part(row, 2).parse::<u8>() != Ok(code(&status)) {
         return Ok("code");

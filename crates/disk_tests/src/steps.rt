@@ -1,0 +1,189 @@
+//! Steps on a real disk, some by the adapter and some beside it, each with what has to come of it.
+
+use shelf_io::{DiskShelf, Shelf, Sink, StdSink, fetch, names_one_file, store};
+use sight_names::FetchFault;
+use std::alloc::{AllocError, Global};
+use std::os::unix::fs::symlink;
+use std::rt::Files;
+use std::test::Fail;
+use std::{fs, io};
+
+/// What is stored, up to a settled file that is removed. Steps write or have to find bytes of a text of 70,000, which
+/// differ from place to place: the last two numbers of a step are where they begin and end in it. Before them a read has
+/// its place in the file, and a fetch its limit.
+const STORED: &str = "\
+store row.tmp 0 70000
+fetch row.tmp 70000 0 70000
+# within the first piece, over the end of it, at the end of the file, and behind it
+read row.tmp 1 1 17
+read row.tmp 65530 65530 65546
+read row.tmp 69990 69990 70000
+read row.tmp 70000 70000 70000
+append row.tmp 0 1
+fetch row.tmp 70000 long
+create row.tmp
+fetch row.tmp 0 0 0
+# a file that is shorter than what stood there
+store row.tmp 40000 40100
+fetch row.tmp 70000 40000 40100
+settle row.tmp
+remove row.tmp
+fetch row.tmp 0 absent
+fetch . 0 failed
+fails no_such_folder/file
+";
+
+/// A created file takes its place when it is settled, also behind a link. `same` says that two names are of one file,
+/// `other` that they aren't.
+const SETTLED: &str = "\
+write settled.tmp 0 3
+link settled.tmp settled.link
+store settled.link 10 14
+holds settled.tmp 0 3
+holds .settled.tmp.doomsight-0 10 14
+settle settled.link
+holds settled.tmp 10 14
+points settled.link
+gone .settled.tmp.doomsight-0
+store settled.tmp 20 25
+discard
+holds settled.link 10 14
+same settled.tmp settled.link
+gone .settled.tmp.doomsight-0
+remove settled.tmp
+# nothing stands behind the link now
+same ./settled.tmp settled.link
+other .settled.tmp.doomsight-0 settled.link
+remove settled.link
+store /dev/null 0 1
+settle /dev/null
+device /dev/null
+";
+
+fn number(word: &str) -> usize {
+    word.parse().unwrap_or(0)
+}
+
+fn word(step: &str, k: usize) -> &str {
+    step.split_whitespace().nth(k).unwrap_or("")
+}
+
+// The bytes of the text between the places that two words of a step give.
+fn between<'a>(text: &'a [u8], step: &str, from: usize, to: usize) -> &'a [u8] {
+    text.get(number(word(step, from))..number(word(step, to)))
+        .unwrap_or(&[])
+}
+
+// So many bytes that differ from place to place: the first eight bits of each place's product, as a hash takes it.
+fn mixed_bytes(alloc: Global, count: u32) -> Result<Vec<u8>, AllocError> {
+    let mut bytes = Vec::new(alloc);
+    for k in 0..count {
+        bytes.push((k.wrapping_mul(2_654_435_761) >> 24) as u8)?;
+    }
+    Ok(bytes)
+}
+
+// Whether the file is fetched within the limit of a step, or why it isn't.
+fn is_fetched<S: Shelf>(alloc: Global, shelf: &mut S, text: &[u8], step: &str) -> bool {
+    let told = match fetch(alloc, shelf, word(step, 1), number(word(step, 2)) as u64) {
+        Ok(found) => return !word(step, 4).is_empty()
+            && found.as_slice() == between(text, step, 3, 4),
+        Err(FetchFault::Absent) => "absent",
+        Err(FetchFault::Failed) => "failed",
+        Err(FetchFault::TooLong) => "long",
+        Err(FetchFault::Memory) => "memory",
+    };
+    word(step, 3) == told
+}
+
+// Whether one read of at most 16 bytes gives those of a step.
+fn is_read<S: Shelf>(shelf: &mut S, text: &[u8], step: &str) -> bool {
+    let wanted = between(text, step, 3, 4);
+    let mut taken = [0; 16];
+    let count = shelf.read(word(step, 1), number(word(step, 2)) as u64, &mut taken);
+    count == Ok(wanted.len()) && taken.get(..wanted.len()).unwrap_or(&[]) == wanted
+}
+
+// Whether a step that the adapter takes comes out as it has to; not so where it is no step.
+fn is_done<S: Shelf>(alloc: Global, shelf: &mut S, text: &[u8], step: &str) -> bool {
+    let name = word(step, 1);
+    match word(step, 0) {
+        "create" => shelf.create(name).is_ok(),
+        "append" => shelf.append(name, between(text, step, 2, 3)).is_ok(),
+        "settle" => shelf.settle(name).is_ok(),
+        "store" => store(shelf, name, between(text, step, 2, 3)).is_ok(),
+        "fails" => store(shelf, name, b"x").is_err(),
+        "fetch" => is_fetched(alloc, shelf, text, step),
+        "read" => is_read(shelf, text, step),
+        _ => false,
+    }
+}
+
+// Whether what a step says of a name is so; nothing where it says nothing.
+fn is_so<R: Files + AllocGlobal>(rt: &R, text: &[u8], step: &str) -> io::Result<Option<bool>> {
+    let name = word(step, 1);
+    let so = match word(step, 0) {
+        "holds" => fs::read(rt, name)?.as_slice() == between(text, step, 2, 3),
+        "gone" => !fs::exists(rt, name)?,
+        "points" => fs::symlink_metadata(rt, name)?.is_symlink(),
+        "device" => !fs::metadata(rt, name)?.is_file(),
+        "same" => names_one_file(rt, name, word(step, 2)),
+        "other" => !names_one_file(rt, name, word(step, 2)),
+        _ => return Ok(None),
+    };
+    Ok(Some(so))
+}
+
+// Takes a step beside the adapter, where it is one; answers whether it is.
+fn is_beside<R: Files + AllocGlobal>(rt: &R, text: &[u8], step: &str) -> io::Result<bool> {
+    let name = word(step, 1);
+    match word(step, 0) {
+        "write" => fs::write(rt, name, between(text, step, 2, 3))?,
+        "link" => symlink(rt, name, word(step, 2))?,
+        "remove" => fs::remove_file(rt, name)?,
+        _ => return Ok(false),
+    }
+    Ok(true)
+}
+
+// Takes a step; answers whether it came out as it has to.
+fn is_right<R: Files + AllocGlobal>(
+    rt: &R,
+    alloc: Global,
+    shelf: &mut DiskShelf<R>,
+    text: &[u8],
+    step: &str,
+) -> io::Result<bool> {
+    if step == "discard" {
+        shelf.discard();
+        return Ok(true);
+    }
+    if is_beside(rt, text, step)? {
+        return Ok(true);
+    }
+    if let Some(so) = is_so(rt, text, step)? {
+        return Ok(so);
+    }
+    Ok(is_done(alloc, shelf, text, step))
+}
+
+#[test]
+fn each_step_on_a_real_disk_comes_out_as_it_says(rt: HostRuntime) -> Result<(), Fail> {
+    let (alloc, host) = (rt.alloc(), &rt);
+    let text = mixed_bytes(alloc, 70_000)?;
+    for steps in [STORED, SETTLED] {
+        let mut shelf = DiskShelf::new(host);
+        for step in steps.lines() {
+            if !step.starts_with('#') {
+                assert!(rt; is_right(&host, alloc, &mut shelf, &text, step)?, "{step}");
+            }
+        }
+    }
+    Ok(())
+}
+
+#[test]
+fn a_line_is_put(rt: HostRuntime) -> Result<(), Fail> {
+    assert_eq!(rt; StdSink::new(&rt).put(b"a line of the test\n"), Ok(()));
+    Ok(())
+}
