@@ -30,7 +30,7 @@ PLAIN = {
     "grid 18": (25, 11, 0.8, 99, 19),
 }
 # The phases in order, each with a part of the symbols that it begins with.
-STARTS = (("lines", "map_audit"), ("segments", "greedy_segments"), ("mesh", "add_left"), ("labels", "tri_sectors"))
+STARTS = (("lines", "line_spans"), ("segments", "greedy_segments"), ("mesh", "add_left"), ("labels", "tri_sectors"))
 SAMPLES = 5000  # a second
 
 
