@@ -21,6 +21,7 @@ import math
 import mmap
 import os
 import struct
+import subprocess
 import sys
 import tempfile
 
@@ -360,7 +361,15 @@ def limits(bench, _):
         ends = [Run(quiet(each.audit("MAP01"))) for each in (bench.usual(), bench)]
         judge("%s: %s" % (label, [end.line for end in ends]), [end.status for end in ends] == codes)
         row(label, *(cell for end in ends for cell in ("`%s`" % end.line, end.status)))
+        # standard error names the option once, just where a limit refused the map and the option wasn't given
+        named = [hints(each.audit("MAP01")) for each in (bench.usual(), bench)]
+        judge("%s: the option is named %s times" % (label, named), named == [1 if codes[0] == 9 else 0, 0])
     others(bench)
+
+
+def hints(words):
+    """How often standard error names the option of the larger limits."""
+    return subprocess.run(words, capture_output=True, text=True, check=False).stderr.count("try --large")
 
 
 def others(bench):
