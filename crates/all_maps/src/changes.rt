@@ -17,7 +17,7 @@ ghost use Rattle.all_maps.specs.Spliced.{AreSpaced, piece, place_behind, reject_
 
 use crate::parts::Change;
 use crate::places::{find_at, last_places};
-use sight_names::{Memory, RewriteFault};
+use sight_names::{MOST_LUMPS, Memory, RewriteFault};
 use std::alloc::{AllocError, Global};
 use std::collections::BTreeMap;
 use wad_dir::{Entry, MapSpot, Wad};
@@ -25,7 +25,7 @@ use wad_rewrite::{OutputLump, lumps_of, reject_lump, write_wad};
 
 /// The spot of a map that is there.
 fn spot_there(entries: &[Entry], places: &BTreeMap<[u8; 8], usize>, name: &[u8; 8]) -> MapSpot
-    requires few { length entries.now ≤ 65536 }
+    requires few { length entries.now ≤ MOST_LUMPS }
     requires last { AreLast (entry_names entries.now) (get (slice_cmp nat_cmp) places.now) }
     requires there { IsOk (spot_of (entry_names entries.now) name.now) }
     ensures { spot_of (entry_names entries.now) name.now ≡ Ok result }
@@ -93,7 +93,7 @@ fn spliced<'a>(
     entries: &[Entry],
     changes: &'a [Change],
 ) -> Result<Vec<OutputLump<'a>>, Memory>
-    requires few { length entries.now ≤ 65536 }
+    requires few { length entries.now ≤ MOST_LUMPS }
     requires spaced { AreSpaced (entry_names entries.now) (length lumps.now) 0 changes.now }
     ensures { IfOk result (λ out. views out.items ≡ spliced (entry_names entries.now) (views lumps.now) 0 changes.now) }
 {

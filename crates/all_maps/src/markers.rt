@@ -10,7 +10,7 @@ ghost use Rattle.all_maps.specs.Maps.{begins_with_textmap, is_map, is_map_name, 
 ghost use Rattle.all_maps.specs.Places.{AreLast};
 
 use crate::places::{find_at, last_places, told};
-use sight_names::Memory;
+use sight_names::{MOST_LUMPS, Memory};
 use std::alloc::Global;
 use std::collections::BTreeMap;
 use wad_dir::{Entry, Wad, is_map_lump, is_same_name};
@@ -47,7 +47,7 @@ fn is_map(
     place: usize,
     name: &[u8; 8],
 ) -> bool
-    requires few { length entries.now ≤ 65536 }
+    requires few { length entries.now ≤ MOST_LUMPS }
     requires last { AreLast (entry_names entries.now) (get (slice_cmp nat_cmp) places.now) }
     requires there { slice_get (entry_names entries.now) place ≡ Some name.now }
     ensures { result ≡ is_map (entry_names entries.now) name.now (drop (place + 1) (entry_names entries.now)) }

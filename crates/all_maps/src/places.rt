@@ -8,7 +8,7 @@ ghost use Rattle.wad_dir.specs.Map.{entry_names, spot_of};
 ghost use Rattle.all_maps.specs.Maps.{told};
 ghost use Rattle.all_maps.specs.Places.{AreLast};
 
-use sight_names::{MapFault, Memory};
+use sight_names::{MOST_LUMPS, MapFault, Memory};
 use std::alloc::Global;
 use std::collections::BTreeMap;
 use wad_dir::{Entry, MapSpot};
@@ -44,7 +44,7 @@ pub fn find_at(
     places: &BTreeMap<[u8; 8], usize>,
     name: &[u8; 8],
 ) -> Result<MapSpot, MapFault>
-    requires few { length entries.now ≤ 65536 }
+    requires few { length entries.now ≤ MOST_LUMPS }
     requires last { AreLast (entry_names entries.now) (get (slice_cmp nat_cmp) places.now) }
     ensures { result ≡ spot_of (entry_names entries.now) name.now }
 {

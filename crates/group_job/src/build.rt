@@ -32,7 +32,7 @@ pub struct GroupBuilt {
 }
 
 /// The sizes of the map of a plan.
-fn map_sizes(plan: &Plan) -> Sizes
+pub(crate) fn map_sizes(plan: &Plan) -> Sizes
     ensures { result ≡ sizes_of plan.now }
 {
     Sizes {
@@ -43,7 +43,7 @@ fn map_sizes(plan: &Plan) -> Sizes
 }
 
 /// The certificate without its listed pairs.
-fn without_list(alloc: Global, cert: Cert) -> Cert
+pub(crate) fn without_list(alloc: Global, cert: Cert) -> Cert
     ensures is { result ≡ record { sizes = cert.sizes; triangles = cert.triangles; rays = cert.rays; listed = []; trees = cert.trees } }
 {
     let _ = cert.triangles();

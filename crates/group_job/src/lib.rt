@@ -4,8 +4,10 @@
 //! groups, and what they show of groups is told of the sectors in them.
 #![tactic(auto)]
 
+mod alone;
 mod build;
 mod sectors;
 mod walked;
 
+pub use alone::build_table_alone;
 pub use build::{GroupBuilt, build_table};

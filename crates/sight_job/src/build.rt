@@ -152,7 +152,7 @@ fn sound_faces(alloc: Global, plan: &Plan) -> Result<Faces, BuildFault>
 }
 
 /// The budget that is asked for.
-fn budget_for(ask: Ask, plan: &Plan, mesh: &Mesh) -> Budget
+pub(crate) fn budget_for(ask: Ask, plan: &Plan, mesh: &Mesh) -> Budget
     requires { IsMeshOf (map_of plan.now) mesh.now.triangles }
     ensures { IsBudgetOf (map_of plan.now) ask result }
 {

@@ -24,5 +24,8 @@ pub const USUAL_TRIANGLES: usize = 8_192;
 /// What the code of a right end is more than its portal's place.
 pub const RIGHT_END: u16 = 32_768;
 
-/// The bytes of a WAD or a certificate, at most.
+/// The lumps of a WAD, at most.
+pub const MOST_LUMPS: u32 = 65_536;
+
+/// The bytes of a WAD, at most. A certificate's file may be longer: it is read in pieces.
 pub const MOST_BYTES: usize = 2_147_483_647;

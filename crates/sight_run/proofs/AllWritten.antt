@@ -4,6 +4,7 @@ use Rattle.std.specs.Int.{div_ceil}
 use Rattle.std.specs.List.{AllByRecursion}
 use Rattle.std.proofs.lemmas.Option.{slice_get-get_or}
 use Rattle.list_base.proofs.Lists.{all_at, all_so}
+use Rattle.sight_names.specs.declared.limits.TheConstants.{MOST_BYTES}
 use Rattle.sight_names.specs.declared.faults.MapFault.{MapFault}
 use Rattle.sight_names.specs.declared.names.Ask.{Ask}
 use Rattle.sight_names.specs.Map.{Map}
@@ -48,12 +49,12 @@ use Rattle.sight_run.proofs.Whole.{asked_are_maps}
 -- the bytes that were fetched, and the WAD that they are
 record IsFetched (wad : List ℕ) (files : Files) (w : WadFile) : Type 0 where
   bytes : List ℕ
-  fetched : of_fetch (content_of (files wad) 2147483647) ≡ Ok bytes
+  fetched : of_fetch (content_of (files wad) MOST_BYTES) ≡ Ok bytes
   read : wad_of bytes ≡ Ok w
 
 fetched_wad : (wad : List ℕ) (files : Files) (w : WadFile) → wad_in wad files ≡ Ok w → IsFetched wad files w
 unfolding wad_in
-fetched_wad wad files w h = let p = passes (of_fetch (content_of (files wad) 2147483647)) (λ (b : List ℕ). of_wad (wad_of b)) w h in record { bytes = p.x; fetched = p.step; read = was_wad (wad_of p.x) w p.rest }
+fetched_wad wad files w h = let p = passes (of_fetch (content_of (files wad) MOST_BYTES)) (λ (b : List ℕ). of_wad (wad_of b)) w h in record { bytes = p.x; fetched = p.step; read = was_wad (wad_of p.x) w p.rest }
 
 named_by : Bool → WadFile → Result MapSpot MapFault → Result Map Status
 named_by large w r = of_spot r >>= (λ s. map_at large w s)
@@ -63,7 +64,7 @@ named_there : (wad : Source) (name : List ℕ) (files : Files) (w : WadFile) (fo
 unfolding found_of map_named named_by
 named_there wad name files w found is_wad is_found =
     let a = fetched_wad wad.file files w is_wad in
-    let p = passes (of_fetch (content_of (files wad.file) 2147483647)) (λ bs. found_in wad.large name bs) found is_found in
+    let p = passes (of_fetch (content_of (files wad.file) MOST_BYTES)) (λ bs. found_in wad.large name bs) found is_found in
     let bytes : a.bytes ≡ p.x = same_ok a.bytes p.x (sym a.fetched ∙ p.step) in
     let f = was_found wad.large name p.x found p.rest in
     let wads : w ≡ found.wad = same_ok w found.wad (sym a.read ∙ ap wad_of bytes ∙ f.read) in

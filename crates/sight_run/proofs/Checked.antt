@@ -4,6 +4,7 @@ use Rattle.std.specs.Prelude.{codes}
 use Rattle.std.specs.Option.{option_map}
 use Rattle.std.proofs.lemmas.Bool.{le-ltb}
 use Rattle.std.proofs.lemmas.Bool.Decides.{Decides-eqb}
+use Rattle.sight_names.specs.declared.limits.TheConstants.{MOST_BYTES}
 use Rattle.sight_names.specs.declared.faults.FetchFault.TheVariants as fetch
 use Rattle.sight_names.specs.declared.faults.TableFault.TheVariants as table
 use Rattle.sight_names.specs.declared.names.Ask.{Ask}
@@ -164,9 +165,9 @@ past_lines m b (Err s) meet q = q.1
 
 -- ---- the build, then the check
 
-pub wad_fetched : (large : Bool) (o : Option (List ℕ)) (name bytes : List ℕ) (found : LocatedMap) → o ≡ Some bytes → length bytes < 2 ^ 31 → found_in large name bytes ≡ Ok found → (of_fetch (content_of o 2147483647) >>= (λ bs. found_in large name bs)) ≡ Ok found
+pub wad_fetched : (large : Bool) (o : Option (List ℕ)) (name bytes : List ℕ) (found : LocatedMap) → o ≡ Some bytes → length bytes < 2 ^ 31 → found_in large name bytes ≡ Ok found → (of_fetch (content_of o MOST_BYTES) >>= (λ bs. found_in large name bs)) ≡ Ok found
 wad_fetched large o name bytes found e lt h =
-    ap (λ (x : Option (List ℕ)). of_fetch (content_of x 2147483647) >>= (λ bs. found_in large name bs)) e ∙ by (nat_lt 2147483647 (length bytes)) (le-ltb 2147483647 (length bytes) (omega (arith, lt))) ∙ h
+    ap (λ (x : Option (List ℕ)). of_fetch (content_of x MOST_BYTES) >>= (λ bs. found_in large name bs)) e ∙ by (nat_lt MOST_BYTES (length bytes)) (le-ltb MOST_BYTES (length bytes) (omega (arith, lt))) ∙ h
   where
     by : (b : Bool) → b ≡ false → (of_fetch (if b then Err fetch.TooLong else Ok bytes) >>= (λ bs. found_in large name bs)) ≡ found_in large name bytes
     by true q = absurd cc

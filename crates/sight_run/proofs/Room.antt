@@ -4,6 +4,7 @@ use Rattle.std.specs.Prelude.{insert, slice_index_or, slice_set}
 use Rattle.std.specs.Int.{div_ceil}
 use Rattle.std.proofs.lemmas.List.{length-replicate, length-set}
 use Rattle.std.proofs.lemmas.List.Sums.{sum_by-cons, sum_by-insert}
+use Rattle.sight_names.specs.declared.limits.TheConstants.{MOST_LUMPS}
 use Rattle.sight_names.specs.declared.faults.RewriteFault.{RewriteFault}
 use Rattle.sight_names.specs.declared.faults.RewriteFault.TheVariants as fault
 use Rattle.sight_names.specs.declared.names.Ask.{Ask}
@@ -71,8 +72,8 @@ not_both false false xs ys bytes f p q = absurd cc
 same_limit : (w v : WadFile) (bytes : List ℕ) (f : RewriteFault) → length w.lumps ≡ length v.lumps → body_len w.lumps ≡ body_len v.lumps → printed w ≡ Ok bytes → printed v ≡ Err f → ⊥
 unfolding printed tested
 same_limit w v bytes f many body p q =
-    not_both (nat_lt 65536 (length w.lumps)) (nat_le (2 ^ 31) (printed_len w.lumps)) (print w) (print v) bytes f p
-    ((λ i. tested (nat_lt 65536 (many i)) (nat_le (2 ^ 31) (12 + body i + 16 * many i)) (print v)) ∙ q)
+    not_both (nat_lt MOST_LUMPS (length w.lumps)) (nat_le (2 ^ 31) (printed_len w.lumps)) (print w) (print v) bytes f p
+    ((λ i. tested (nat_lt MOST_LUMPS (many i)) (nat_le (2 ^ 31) (12 + body i + 16 * many i)) (print v)) ∙ q)
 
 -- why a WAD isn't written
 record WasLimited (r : Result (List ℕ) RewriteFault) : Type 0 where

@@ -18,6 +18,7 @@ use Rattle.sight_run.proofs.Round.{passes, same_ok}
 use Rattle.sight_run.proofs.Stores.{put_all_pushed}
 use Rattle.shelf_io.proofs.FilesLemmas.{bytes_eq-refl}
 use Rattle.list_base.proofs.Bools.{first_false, second_false}
+use Rattle.sight_names.specs.declared.limits.TheConstants.{MOST_BYTES}
 
 -- ---- the words
 
@@ -111,4 +112,4 @@ pub record HasBytes (large : Bool) (name : List ℕ) (found : LocatedMap) : Type
 
 pub bytes_of : (wad : Source) (name : List ℕ) (files : Files) (found : LocatedMap) → found_of wad name files ≡ Ok found → HasBytes wad.large name found
 unfolding found_of
-bytes_of wad name files found h = let p = passes (of_fetch (content_of (files wad.file) 2147483647)) (λ bs. found_in wad.large name bs) found h in record { bytes = p.x; are = p.rest }
+bytes_of wad name files found h = let p = passes (of_fetch (content_of (files wad.file) MOST_BYTES)) (λ bs. found_in wad.large name bs) found h in record { bytes = p.x; are = p.rest }

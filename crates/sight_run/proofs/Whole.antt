@@ -1,6 +1,7 @@
 -- What the order `all` reads, and what it can be refused with.
 use Rattle.std.proofs.Common.{◌≡◌, ℕ, List, Option, Some, None, Result, Ok, Err, refl, sym, ap, subst, ◌∙◌}
 use Rattle.std.specs.Prelude.{IfErr, IfOk, ⊤}
+use Rattle.sight_names.specs.declared.limits.TheConstants.{MOST_BYTES}
 use Rattle.sight_names.specs.declared.faults.MapFault.{MapFault}
 use Rattle.sight_names.specs.declared.faults.WadFault.{WadFault}
 use Rattle.sight_names.specs.declared.faults.WadFault.TheVariants as wad
@@ -31,19 +32,19 @@ use Rattle.sight_run.proofs.Round.{same_ok}
 
 -- ---- the WAD in a file
 
-pub wad_read : (wad : List ℕ) (files : Files) (bytes : List ℕ) (w : WadFile) → of_fetch (content_of (files wad) 2147483647) ≡ Ok bytes → of_wad (wad_of bytes) ≡ Ok w → wad_in wad files ≡ Ok w
+pub wad_read : (wad : List ℕ) (files : Files) (bytes : List ℕ) (w : WadFile) → of_fetch (content_of (files wad) MOST_BYTES) ≡ Ok bytes → of_wad (wad_of bytes) ≡ Ok w → wad_in wad files ≡ Ok w
 unfolding wad_in
 wad_read wad files bytes w e f = ap (λ (r : Result (List ℕ) Status). r >>= (λ (b : List ℕ). of_wad (wad_of b))) e ∙ f
 
 -- the file can't be read
-pub wad_unfetched : {V : Type 0} (view : V → List ℕ) (wad : List ℕ) (files : Files) (s : Status) → Makes view (Err s) (of_fetch (content_of (files wad) 2147483647)) → Makes {V = WadFile} (λ w. w) (Err s) (wad_in wad files)
+pub wad_unfetched : {V : Type 0} (view : V → List ℕ) (wad : List ℕ) (files : Files) (s : Status) → Makes view (Err s) (of_fetch (content_of (files wad) MOST_BYTES)) → Makes {V = WadFile} (λ w. w) (Err s) (wad_in wad files)
 unfolding wad_in
 wad_unfetched view wad files status.Memory made = tt
 wad_unfetched view wad files (status.ReadFault k) made = tt
 wad_unfetched view wad files s made = ap (λ (r : Result (List ℕ) Status). r >>= (λ (b : List ℕ). of_wad (wad_of b))) made
 
 -- its bytes are no WAD
-pub wad_refused : {V : Type 0} (view : V → WadFile) (wad : List ℕ) (files : Files) (bytes : List ℕ) (s : Status) → of_fetch (content_of (files wad) 2147483647) ≡ Ok bytes → Makes view (Err s) (of_wad (wad_of bytes)) → Makes view (Err s) (wad_in wad files)
+pub wad_refused : {V : Type 0} (view : V → WadFile) (wad : List ℕ) (files : Files) (bytes : List ℕ) (s : Status) → of_fetch (content_of (files wad) MOST_BYTES) ≡ Ok bytes → Makes view (Err s) (of_wad (wad_of bytes)) → Makes view (Err s) (wad_in wad files)
 unfolding wad_in
 wad_refused view wad files bytes s e made = subst (λ (r : Result (List ℕ) Status). Makes view (Err s) (r >>= (λ (b : List ℕ). of_wad (wad_of b)))) (sym e) made
 

@@ -1,6 +1,7 @@
 -- What the order `all` makes of a WAD.
 use Rattle.std.specs.Prelude.{◌≡◌, ℕ, Bool, List, [], ◌∷◌, ◌++◌, Option, Result, Ok, Err, codes, length}
 use Rattle.std.specs.Fmt.{decimal}
+use Rattle.sight_names.specs.declared.limits.TheConstants.{MOST_BYTES}
 use Rattle.sight_names.specs.declared.faults.MapFault.{MapFault}
 use Rattle.sight_names.specs.declared.faults.RewriteFault.TheVariants as rewrite
 use Rattle.sight_names.specs.declared.names.Ask.{Ask}
@@ -24,7 +25,7 @@ use Rattle.sight_run.specs.Reading.{of_fetch}
 -- the WAD in the file of this name, or the first check that fails
 unfoldable pub wad_in : List ℕ → Files → Result WadFile Status
 wad_in wad files = do
-  bytes ← of_fetch (content_of (files wad) 2147483647)
+  bytes ← of_fetch (content_of (files wad) MOST_BYTES)
   of_wad (wad_of bytes)
 
 abbrev pub of_asked : Result (List (List ℕ)) MapFault → Result (List (List ℕ)) Status

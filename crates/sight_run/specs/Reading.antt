@@ -1,5 +1,6 @@
 -- The map of a name in the file of a name, by the limits that are asked for.
 use Rattle.std.specs.Prelude.{ℕ, List, Result, Ok, Err}
+use Rattle.sight_names.specs.declared.limits.TheConstants.{MOST_BYTES}
 use Rattle.sight_names.specs.declared.faults.FetchFault.{FetchFault}
 use Rattle.sight_names.specs.declared.faults.FetchFault.TheVariants as fetch
 use Rattle.shelf_io.specs.Shelf.{Files, content_of}
@@ -22,5 +23,5 @@ of_fetch (Err fetch.Memory) = Err status.Memory
 -- the map of this name in the file that an order reads
 unfoldable pub found_of : Source → List ℕ → Files → Result LocatedMap Status
 found_of wad name files = do
-  bytes ← of_fetch (content_of (files wad.file) 2147483647)
+  bytes ← of_fetch (content_of (files wad.file) MOST_BYTES)
   found_in wad.large name bytes

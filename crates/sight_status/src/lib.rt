@@ -6,6 +6,6 @@ mod texts;
 
 pub use status::{Bound, Flaw, Role, Status, Why, code};
 pub use texts::{
-    push_count, push_count_line, push_number, push_pair_line, push_reason, push_text, put_line,
-    put_refusal,
+    line_of, push_count, push_count_line, push_number, push_pair_line, push_reason, push_text,
+    put_line, put_refusal,
 };

@@ -436,7 +436,8 @@ fn push_status(alloc: Global, line: &mut String, status: Status) -> Result<(), A
     }
 }
 
-fn line_of(alloc: Global, status: Status) -> Result<String, AllocError>
+/// The line of a refusal.
+pub fn line_of(alloc: Global, status: Status) -> Result<String, AllocError>
     ensures { IfOk result (λ line. string_bytes line ≡ text_of status) }
 {
     let mut line = String::new(alloc);

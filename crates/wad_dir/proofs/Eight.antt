@@ -5,6 +5,7 @@ use Rattle.std.specs.List.{AllByRecursion, insert}
 use Rattle.std.proofs.Math.ListN.{get_or, set}
 use Rattle.std.proofs.lemmas.Bool.Decides.{Decides-eqb, Decides-ltb, not_from_Decides}
 use Rattle.std.proofs.lemmas.List.{length-drop, length-take}
+use Rattle.sight_names.specs.declared.limits.TheConstants.{MOST_LUMPS}
 use Rattle.sight_names.specs.declared.faults.WadFault.{WadFault}
 use Rattle.wad_dir.specs.declared.parts.MapSpot.{MapSpot}
 use Rattle.wad_dir.specs.Print.{reject_lump, with_bytes, with_reject}
@@ -43,7 +44,7 @@ fifth false false false false false f g h i j o q = refl
 
 inside : (bytes : List ℕ) → wad_fault bytes ≡ None → is_directory_outside bytes ≡ false
 unfolding wad_fault
-inside bytes h = fifth (nat_lt (length bytes) 12) (is_none (kind_of bytes)) (nat_le (2 ^ 31) (count_of bytes)) (nat_lt 65536 (count_of bytes)) (is_directory_outside bytes) _ _ _ _ _ _ h
+inside bytes h = fifth (nat_lt (length bytes) 12) (is_none (kind_of bytes)) (nat_le (2 ^ 31) (count_of bytes)) (nat_lt MOST_LUMPS (count_of bytes)) (is_directory_outside bytes) _ _ _ _ _ _ h
 
 within : (bytes : List ℕ) → is_directory_outside bytes ≡ false → HasSlots (slots_of bytes)
 within bytes h = by (count_of bytes == 0) (nat_le (2 ^ 31) (directory_place bytes)) (nat_lt (length bytes) (directory_place bytes + 16 * count_of bytes)) refl refl h

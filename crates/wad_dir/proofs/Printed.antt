@@ -9,6 +9,7 @@ use Rattle.std.proofs.lemmas.List.{take_at, drop_at, length-append, append-nil}
 use Rattle.std.proofs.lemmas.List.Concat.{flat_map-cons, length-flat_map}
 use Rattle.std.proofs.lemmas.List.Sums.{sum_by-cons}
 use Rattle.std.proofs.lemmas.Nat.{from_le_bytes-to_le_bytes_4}
+use Rattle.sight_names.specs.declared.limits.TheConstants.{MOST_LUMPS}
 use Rattle.sight_names.specs.declared.faults.WadFault.{WadFault}
 use Rattle.sight_names.specs.declared.faults.WadFault.TheVariants as fault
 use Rattle.wad_dir.specs.declared.parts.Kind.{Kind}
@@ -249,12 +250,12 @@ said w ok =
 no_fault : (w : WadFile) (bytes : List ℕ) → IsPrintable w → Said w bytes → wad_fault bytes ≡ None
 unfolding wad_fault
 no_fault w bytes ok s =
-    none_fails (nat_lt (length bytes) 12) (is_none (kind_of bytes)) (nat_le (2 ^ 31) (count_of bytes)) (nat_lt 65536 (count_of bytes)) (is_directory_outside bytes) fault.ShortHeader fault.BadMagic fault.BadCount fault.TooManyLumps fault.DirectoryOutside
+    none_fails (nat_lt (length bytes) 12) (is_none (kind_of bytes)) (nat_le (2 ^ 31) (count_of bytes)) (nat_lt MOST_LUMPS (count_of bytes)) (is_directory_outside bytes) fault.ShortHeader fault.BadMagic fault.BadCount fault.TooManyLumps fault.DirectoryOutside
     (option_map fault.LumpOutside (position_from (is_outside (length bytes)) 0 (slots_of bytes)))
     (le-ltb (length bytes) 12 (omega (arith, s.length_is)))
     (ap (λ (k : Option Kind). is_none k) (kind_is bytes w.kind s.first))
     (lt-leb (2 ^ 31) (count_of bytes) (omega (arith, s.count, ok.few)))
-    (le-ltb 65536 (count_of bytes) (omega (arith, s.count, ok.few)))
+    (le-ltb MOST_LUMPS (count_of bytes) (omega (arith, s.count, ok.few)))
     (directory_inside (length bytes) (directory_place bytes) (count_of bytes) (omega (arith, s.place, ok.short)) (omega (arith, s.place, s.count, s.length_is)))
     (ap (λ (ss : List Slot). option_map fault.LumpOutside (position_from (is_outside (length bytes)) 0 ss)) s.slots
     ∙ ap (λ (o : Option ℕ). option_map fault.LumpOutside o) (none_outside w.lumps (length bytes) 12 0 (omega (arith, ok.short)) (omega (arith, s.length_is))))

@@ -2,6 +2,7 @@
 use Rattle.std.specs.Prelude.{◌≡◌, ◌≤◌, ◌<◌, ◌^◌, Ok, ℕ, ◌+◌, ◌*◌, List, [], ◌∷◌, ◌++◌, length, Some, None, slice_set, slice_index_or, insert, sum_by, codes}
 use Rattle.std.specs.List.{flat_map, AllByRecursion}
 use Rattle.std.specs.Int.{w32, to_le_bytes}
+use Rattle.sight_names.specs.declared.limits.TheConstants.{MOST_LUMPS}
 use Rattle.wad_dir.specs.declared.parts.MapSpot.{MapSpot}
 use Rattle.wad_dir.specs.Wad.{WadFile, WadLump, magic, wad_of}
 
@@ -54,7 +55,7 @@ with_reject w spot table = record { kind = w.kind; lumps = lumps_with_reject w.l
 -- each name has eight bytes, and the numbers fit
 pub record IsPrintable (w : WadFile) : Type 0 where
   pub names : AllByRecursion (λ (l : WadLump). length l.name ≡ 8) w.lumps
-  pub few : length w.lumps ≤ 65536
+  pub few : length w.lumps ≤ MOST_LUMPS
   pub short : printed_len w.lumps < 2 ^ 31
 
 -- what is printed has the length that the formula says

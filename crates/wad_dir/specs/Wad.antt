@@ -4,6 +4,7 @@ use Rattle.std.specs.List.{position_from}
 use Rattle.std.specs.Option.{option_map}
 use Rattle.std.specs.Int.{w32, from_le_bytes}
 use Rattle.std.specs.Str.{bytes_eq}
+use Rattle.sight_names.specs.declared.limits.TheConstants.{MOST_LUMPS}
 use Rattle.sight_names.specs.declared.faults.WadFault.{WadFault}
 use Rattle.sight_names.specs.declared.faults.WadFault.TheVariants as fault
 use Rattle.wad_dir.specs.declared.parts.Kind.{Kind}
@@ -80,7 +81,7 @@ wad_fault bytes =
     if nat_lt (length bytes) 12 then Some fault.ShortHeader
     else (if is_none (kind_of bytes) then Some fault.BadMagic
     else (if nat_le (2 ^ 31) (count_of bytes) then Some fault.BadCount
-    else (if nat_lt 65536 (count_of bytes) then Some fault.TooManyLumps
+    else (if nat_lt MOST_LUMPS (count_of bytes) then Some fault.TooManyLumps
     else (if is_directory_outside bytes then Some fault.DirectoryOutside
     else option_map fault.LumpOutside (position_from (is_outside (length bytes)) 0 (slots_of bytes))))))
 

@@ -6,14 +6,12 @@ ghost use Rattle.wad_dir.specs.Wad.{Reads, directory_of, wad_of, file_of, parts_
 ghost use Rattle.wad_dir.specs.Map.{entry_names};
 
 use crate::parts::{Entry, Kind, Wad};
-use sight_names::{Items, WadFault};
+use sight_names::{Items, MOST_LUMPS, WadFault};
 use std::alloc::{AllocError, Global};
 
 const HEADER: usize = 12;
 
 const ENTRY: usize = 16;
-
-const MAX_LUMPS: u32 = 65_536;
 
 fn word(bytes: &[u8], at: usize) -> u32
     requires { at + 4 ≤ length bytes.now }
@@ -82,7 +80,7 @@ fn checked_entries(
     at: usize,
     count: usize,
 ) -> Result<Vec<Entry>, WadFault>
-    requires small { count ≤ 65536 }
+    requires small { count ≤ MOST_LUMPS }
     requires within { at + 16 * count ≤ length bytes.now }
     ensures few { IfOk result (λ entries. vec_len entries ≡ count) }
     ensures inside { IfOk result (λ entries. All (λ entry. entry.at + entry.size ≤ length bytes.now) entries.items) }
@@ -127,7 +125,7 @@ fn read_directory(alloc: Global, bytes: &[u8]) -> Result<Wad, WadFault>
     if count >= 1 << 31 {
         return Err(WadFault::BadCount);
     }
-    if count > MAX_LUMPS {
+    if count > MOST_LUMPS {
         return Err(WadFault::TooManyLumps);
     }
     let count = count as usize;

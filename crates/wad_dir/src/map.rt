@@ -4,7 +4,7 @@ ghost use Rattle.std.specs.Prelude.{◌≡◌, ◌+◌, ◌≤◌, ◌<◌, List
 ghost use Rattle.wad_dir.specs.Map.{same_name, last_from, run_from, is_run_name, has_name, place_in, needed_in, format_behind, spot_in, spot_behind, spot_of, name_of, entry_names};
 
 use crate::parts::{Entry, MapSpot, Wad};
-use sight_names::{Lump, MapFault, MapFormat};
+use sight_names::{Lump, MOST_LUMPS, MapFault, MapFormat};
 
 /// Whether two names are the same: up to their first NUL, in upper or in lower case.
 pub fn is_same_name(a: &[u8], b: &[u8]) -> bool
@@ -133,7 +133,7 @@ fn format_by(rest: &[Entry]) -> MapFormat
 
 #[tactic(auto, unfolding(crate::specs::Map::spot_in))]
 fn spot(marker: usize, format: MapFormat, run: &[Entry]) -> Result<MapSpot, MapFault>
-    requires { marker + 1 + length run.now ≤ 65536 }
+    requires { marker + 1 + length run.now ≤ MOST_LUMPS }
     ensures spot { result ≡ spot_in marker format (entry_names run.now) }
     ensures linedefs { IfOk result (λ spot. spot.linedefs ≤ marker + length run.now) }
     ensures sidedefs { IfOk result (λ spot. spot.sidedefs ≤ marker + length run.now) }
@@ -163,7 +163,7 @@ fn spot(marker: usize, format: MapFormat, run: &[Entry]) -> Result<MapSpot, MapF
 
 /// Where the lumps of a map stand behind whose marker these entries follow, or the first that is missing.
 pub fn spot_after(marker: usize, after: &[Entry]) -> Result<MapSpot, MapFault>
-    requires { marker + 1 + length after.now ≤ 65536 }
+    requires { marker + 1 + length after.now ≤ MOST_LUMPS }
     ensures spot { result ≡ spot_behind marker (entry_names after.now) }
     ensures linedefs { IfOk result (λ spot. spot.linedefs ≤ marker + length after.now) }
     ensures sidedefs { IfOk result (λ spot. spot.sidedefs ≤ marker + length after.now) }

@@ -2,7 +2,7 @@
 
 ghost use Rattle.std.specs.Prelude.{◌≤◌, length};
 
-use sight_names::{Items, MapFormat};
+use sight_names::{Items, MOST_LUMPS, MapFormat};
 
 /// Whether a WAD is a game's own or an addition to one.
 #[derive(Clone, Copy, Debug, PartialEq, Eq)]
@@ -24,7 +24,7 @@ pub struct Entry {
 pub struct Wad {
     pub kind: Kind,
     pub entries: Items<Entry>,
-    pub ghost few: { length entries ≤ 65536 },
+    pub ghost few: { length entries ≤ MOST_LUMPS },
 }
 
 /// Where the lumps of a map stand in the directory, and the format of the map: Hexen's where the entry right behind its

@@ -1,6 +1,7 @@
 -- What was written with another REJECT is read again.
 use Rattle.std.proofs.Common.{◌≡◌, ℕ, ◌^◌, ◌<◌, List, Bool, true, false, if◌then◌else◌, length, nat_lt, nat_le, Result, Ok, Err, refl, subst, arith}
 use Rattle.std.proofs.lemmas.Bool.{leb-false, ltb-false}
+use Rattle.sight_names.specs.declared.limits.TheConstants.{MOST_LUMPS}
 use Rattle.sight_names.specs.declared.faults.RewriteFault.{RewriteFault}
 use Rattle.sight_names.specs.declared.faults.RewriteFault.TheVariants as fault
 use Rattle.wad_dir.specs.Print.{print, printed_len, with_reject}
@@ -21,15 +22,15 @@ pub record IsPrinted (w : WadFile) (bytes : List ℕ) : Type 0 where
 -- what was printed is read
 pub printed_reads : (w : WadFile) (bytes : List ℕ) → HasNames w.lumps → printed w ≡ Ok bytes → IsPrinted w bytes
 unfolding printed
-printed_reads w bytes names h = by (nat_lt 65536 (length w.lumps)) (nat_le (2 ^ 31) (printed_len w.lumps)) refl refl h
+printed_reads w bytes names h = by (nat_lt MOST_LUMPS (length w.lumps)) (nat_le (2 ^ 31) (printed_len w.lumps)) refl refl h
   where
-    by : (a b : Bool) → nat_lt 65536 (length w.lumps) ≡ a → nat_le (2 ^ 31) (printed_len w.lumps) ≡ b → (if a then Err fault.TooManyLumps else (if b then Err fault.TooLong else Ok (print w))) ≡ Ok bytes → IsPrinted w bytes
+    by : (a b : Bool) → nat_lt MOST_LUMPS (length w.lumps) ≡ a → nat_le (2 ^ 31) (printed_len w.lumps) ≡ b → (if a then Err fault.TooManyLumps else (if b then Err fault.TooLong else Ok (print w))) ≡ Ok bytes → IsPrinted w bytes
     by true b e f q = absurd cc
     by false true e f q = absurd cc
     by false false e f q =
         let short : printed_len w.lumps < 2 ^ 31 = leb-false (2 ^ 31) (printed_len w.lumps) f in
         subst (λ (bs : List ℕ). IsPrinted w bs) (same_bytes (print w) bytes q) (record {
-          read = reads_what_is_printed w (record { names = names; few = ltb-false 65536 (length w.lumps) e; short = short });
+          read = reads_what_is_printed w (record { names = names; few = ltb-false MOST_LUMPS (length w.lumps) e; short = short });
           short = (let l = prints_its_length w names in omega (arith, l, short));
         })
 

@@ -1,5 +1,6 @@
 -- What is written of a WAD.
 use Rattle.std.specs.Prelude.{◌≡◌, ℕ, ◌^◌, nat_lt, nat_le, List, length, Result, Ok, Err, if◌then◌else◌, ⊤}
+use Rattle.sight_names.specs.declared.limits.TheConstants.{MOST_LUMPS}
 use Rattle.sight_names.specs.declared.faults.RewriteFault.{RewriteFault}
 use Rattle.sight_names.specs.declared.faults.RewriteFault.TheVariants as fault
 use Rattle.wad_dir.specs.Wad.{WadFile}
@@ -8,7 +9,7 @@ use Rattle.wad_dir.specs.Print.{print, printed_len}
 -- what is written of a WAD, or why not
 unfoldable pub printed : WadFile → Result (List ℕ) RewriteFault
 printed w =
-    if nat_lt 65536 (length w.lumps) then Err fault.TooManyLumps
+    if nat_lt MOST_LUMPS (length w.lumps) then Err fault.TooManyLumps
     else (if nat_le (2 ^ 31) (printed_len w.lumps) then Err fault.TooLong else Ok (print w))
 
 -- What was written is that, unless memory ran out.

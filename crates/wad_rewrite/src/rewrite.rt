@@ -9,15 +9,13 @@ ghost use Rattle.wad_rewrite.specs.Rewrite.{Writes, printed};
 ghost use Rattle.wad_rewrite.specs.Lumps.{view, views};
 
 use crate::lumps::OutputLump;
-use sight_names::RewriteFault;
+use sight_names::{MOST_LUMPS, RewriteFault};
 use std::alloc::{AllocError, Global};
 use wad_dir::{Entry, Kind, MapSpot, Wad};
 
 const HEADER: u64 = 12;
 
 const ENTRY: u64 = 16;
-
-const MAX_LUMPS: usize = 65_536;
 
 const MAX_LEN: u64 = 1 << 31;
 
@@ -79,7 +77,7 @@ fn replace_reject<'a>(
 }
 
 fn len_of(lumps: &[OutputLump]) -> u64
-    requires { length lumps.now ≤ 65536 }
+    requires { length lumps.now ≤ MOST_LUMPS }
     ensures within { nat_le (2 ^ 31) result ≡ nat_le (2 ^ 31) (printed_len (views lumps.now)) }
     ensures len { result < 2 ^ 31 → result ≡ printed_len (views lumps.now) }
 {
@@ -138,7 +136,7 @@ fn magic(kind: Kind) -> &'static [u8]
 pub fn write_wad(alloc: Global, kind: Kind, lumps: &[OutputLump]) -> Result<Vec<u8>, RewriteFault>
     ensures { Writes (λ v. v.items) result (printed (record { kind = kind; lumps = views lumps.now })) }
 {
-    if lumps.len() > MAX_LUMPS {
+    if lumps.len() > MOST_LUMPS as usize {
         return Err(RewriteFault::TooManyLumps);
     }
     let len = len_of(lumps);

@@ -1,0 +1,91 @@
+/* refused WAD MAP [STEP]: every STEP-th allocation of a build and of a check refused, each in a call of its own. Linked with this heap
+ * in the place of doomsight_heap.c: each such call has to answer MEMORY, give all back and leave the table alone. */
+#include "doomsight.h"
+#include "wadio.h"
+
+struct rattle_block {
+    _Bool ok;
+    void *at;
+};
+
+static long left = -1, live = 0;
+static char nothing;
+
+static int refuses(void)
+{
+    if (left < 0) return 0;
+    if (left == 0) return 1;
+    left--;
+    return 0;
+}
+
+struct rattle_block rattle_alloc(size_t size, size_t align);
+struct rattle_block rattle_realloc(void *old, size_t old_size, size_t size, size_t align);
+void rattle_dealloc(void *at);
+
+struct rattle_block rattle_alloc(size_t size, size_t align)
+{
+    void *p = refuses() ? NULL : malloc(size ? size : align);
+    struct rattle_block b = {p != NULL, p ? p : &nothing};
+    if (p) live++;
+    return b;
+}
+
+struct rattle_block rattle_realloc(void *old, size_t old_size, size_t size, size_t align)
+{
+    void *p = refuses() ? NULL : realloc(old, size ? size : align);
+    struct rattle_block b = {p != NULL, p ? p : &nothing};
+    (void)old_size;
+    return b;
+}
+
+void rattle_dealloc(void *at)
+{
+    live--;
+    free(at);
+}
+
+#define MANY 1000000000L
+
+int main(int argc, char **argv)
+{
+    if (argc < 3) return 64;
+    struct bytes wad = slurp(argv[1]);
+    doomsight_map map = map_of(wad, argv[2]);
+    size_t size = doomsight_table_size(map.sectors.size), room = (size_t)64 << 20, cert_size;
+    uint8_t *table = (uint8_t *)malloc(size), *other = (uint8_t *)malloc(size), *cert = (uint8_t *)malloc(room);
+    long step = argc > 3 ? atol(argv[3]) : 1, builds, checks, i, bad = 0, tried = 0;
+    doomsight_counts c;
+    doomsight_fault f;
+    char text[DOOMSIGHT_LINE_ROOM];
+    left = MANY;
+    if (doomsight_build(&map, NULL, table, size, cert, room, &c, &f) || c.cert_size > room) return 1;
+    builds = MANY - left;
+    cert_size = (size_t)c.cert_size;
+    left = MANY;
+    if (doomsight_check(&map, NULL, table, size, cert, cert_size, &c, &f)) return 1;
+    checks = MANY - left;
+    for (i = 0; i < builds; i += step, tried++) {
+        left = i;
+        memset(other, 0xAA, size);
+        if (doomsight_build(&map, NULL, other, size, NULL, 0, &c, &f) != DOOMSIGHT_MEMORY) bad++;
+        if (f.code != DOOMSIGHT_MEMORY || live != 0 || other[0] != 0xAA || other[size - 1] != 0xAA) bad++;
+    }
+    for (i = 0; i < checks; i += step, tried++) {
+        left = i;
+        if (doomsight_check(&map, NULL, table, size, cert, cert_size, &c, &f) != DOOMSIGHT_MEMORY || live != 0) bad++;
+    }
+    f.code = DOOMSIGHT_BAD_LUMP;
+    f.kind = DOOMSIGHT_LUMP_VERTEX;
+    f.a = 7;
+    left = 0;
+    if (doomsight_line(&f, text, sizeof text) != DOOMSIGHT_NO_LINE || live != 0) bad++;
+    left = -1;
+    if (doomsight_line(&f, text, sizeof text) != strlen(text)) bad++;
+    printf("allocations: build %ld check %ld, refused %ld, wrong %ld, line %s", builds, checks, tried, bad, text);
+    free(table);
+    free(other);
+    free(cert);
+    free(wad.at);
+    return bad != 0;
+}

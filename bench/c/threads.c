@@ -1,0 +1,70 @@
+/* threads WAD MAP COUNT [STACK]: so many builds and checks of the map at once, each in a thread with DOOMSIGHT_STACK bytes of stack,
+ * or with so many. */
+#include "doomsight.h"
+#include "wadio.h"
+#include <pthread.h>
+
+static doomsight_map map;
+static size_t size;
+static uint8_t *first;
+static pthread_mutex_t lock = PTHREAD_MUTEX_INITIALIZER;
+static int wrong;
+
+/* Builds, checks, and checks a table with a bit turned: 0 where all is as it should be. */
+static int try_all(uint8_t *table, uint8_t *cert, size_t room)
+{
+    doomsight_counts counts, yes;
+    doomsight_fault fault;
+    char text[DOOMSIGHT_LINE_ROOM];
+    int bad;
+    if (doomsight_build(&map, NULL, table, size, cert, room, &counts, &fault) || counts.cert_size > room) return 1;
+    if (doomsight_check(&map, NULL, table, size, cert, (size_t)counts.cert_size, &yes, &fault)) return 1;
+    if (yes.set != counts.set) return 1;
+    table[0] ^= 2;
+    bad = doomsight_check(&map, NULL, table, size, cert, (size_t)counts.cert_size, &yes, &fault) != DOOMSIGHT_NO;
+    if (doomsight_line(&fault, text, sizeof text) == 0) bad = 1;
+    table[0] ^= 2;
+    return bad;
+}
+
+static void *work(void *arg)
+{
+    size_t room = (size_t)64 << 20;
+    uint8_t *table = (uint8_t *)malloc(size), *cert = (uint8_t *)malloc(room);
+    int bad = try_all(table, cert, room);
+    (void)arg;
+    pthread_mutex_lock(&lock);
+    if (!first) {
+        first = table;
+        table = NULL;
+    } else if (memcmp(first, table, size)) {
+        bad = 1;
+    }
+    wrong += bad;
+    pthread_mutex_unlock(&lock);
+    free(table);
+    free(cert);
+    return NULL;
+}
+
+int main(int argc, char **argv)
+{
+    pthread_attr_t attr;
+    pthread_t t[64];
+    int i, count;
+    if (argc < 4) return 64;
+    struct bytes wad = slurp(argv[1]);
+    map = map_of(wad, argv[2]);
+    size = doomsight_table_size(map.sectors.size);
+    count = atoi(argv[3]);
+    if (count > 64) return 64;
+    pthread_attr_init(&attr);
+    if (pthread_attr_setstacksize(&attr, argc > 4 ? strtoul(argv[4], NULL, 10) : DOOMSIGHT_STACK)) return 65;
+    for (i = 0; i < count; i++)
+        if (pthread_create(&t[i], &attr, work, NULL)) return 66;
+    for (i = 0; i < count; i++) pthread_join(t[i], NULL);
+    free(first);
+    free(wad.at);
+    printf("%d threads, %d wrong\n", count, wrong);
+    return wrong != 0;
+}

@@ -1,0 +1,124 @@
+-- What the judge promises of a verdict, clause by clause, is one promise; and what it says of the table and the certificate.
+use Rattle.std.proofs.Common.{◌≡◌, ◌↔◌, ◌∙◌, ℕ, List, Result, Ok, Err, length, refl, sym, ap, subst}
+use Rattle.std.specs.Prelude.{IfOk}
+use Rattle.sight_names.specs.declared.faults.CertFault.{CertFault}
+use Rattle.sight_names.specs.declared.faults.CertFault.TheVariants as cert_fault
+use Rattle.sight_names.specs.declared.faults.TableFault.TheVariants as table_fault
+use Rattle.sight_names.specs.declared.names.Memory.{Memory}
+use Rattle.sight_names.specs.Map.{Map, map_of}
+use Rattle.sight_names.specs.Plan.{PlanParts}
+use Rattle.sight_names.specs.Sound.{LinesMeetAtEnds}
+use Rattle.reject_bits.specs.Parts.{TableParts}
+use Rattle.cert_format.specs.Sizes.{sizes_of}
+use Rattle.cert_checker.specs.declared.verdict.Totals.{Totals}
+use Rattle.cert_groups.specs.declared.cert.AnyCert.{AnyCert}
+use Rattle.cert_groups.specs.Reading.{any_at}
+use Rattle.accepted_groups.specs.Accepted.{IsAcceptedAny}
+use Rattle.group_checker.specs.declared.verdict.AnyFault.TheVariants as fault
+use Rattle.group_checker.specs.declared.verdict.AnyVerdict.{AnyVerdict}
+use Rattle.group_checker.specs.declared.verdict.AnyVerdict.TheVariants as verdict
+use Rattle.group_checker.specs.Judged.{IsYesAny, JudgesAny, TellsSightAny}
+use Rattle.cert_judge.specs.declared.judged.Judged.{Judged}
+use Rattle.cert_judge.specs.declared.judged.Judged.TheVariants as judged
+use Rattle.cert_judge.specs.Judged.{JudgedBy}
+use Rattle.sight_status.specs.Answer.{Makes}
+use Rattle.sight_status.specs.Status.{IsOfBytes}
+use Rattle.sight_status.specs.declared.status.Why.TheVariants as why
+use Rattle.sight_status.specs.declared.status.Status.{Status}
+use Rattle.sight_status.specs.declared.status.Status.TheVariants as status
+use Rattle.doomsight_c.specs.declared.counts.DoomsightCounts.{DoomsightCounts}
+use Rattle.doomsight_c.specs.declared.fault.DoomsightFault.{DoomsightFault}
+use Rattle.doomsight_c.specs.Checked.{ChecksMap, Denies, IsJudged, IsJudgement, IsTableOf, IsUnproved, IsUnread, IsVerdictOn, IsYes, VerdictOf, totals_view}
+use Rattle.doomsight_c.specs.Faults.{fault_view}
+use Rattle.doomsight_c.specs.Lines.{IsOfLibrary, status_in}
+use Rattle.doomsight_c.proofs.Giving.{IsLibrarys, of_reading}
+
+module _ (p : PlanParts) (t : TableParts) where
+  abbrev Saying : (AnyCert → AnyVerdict → Type 0) → Result AnyCert CertFault → Judged → Type 0
+  Saying P r j = JudgedBy r P j
+
+  one_promise : (r : Result AnyCert CertFault) (j : Judged) → Saying (λ c v. JudgesAny p t c v) r j → Saying (λ c v. IsYesAny v ↔ IsAcceptedAny (map_of p) t.bytes c) r j
+      → Saying (λ c v. IsYesAny v → TellsSightAny (map_of p) t c) r j → Saying (λ c v. IsJudged p t c v) r j
+  one_promise (Ok c) (judged.Verdict v) exact accepted sight = record { exact = exact; accepted = accepted; sight = sight }
+  one_promise (Ok c) (judged.Unread g) exact accepted sight = absurd exact
+  one_promise (Err f) (judged.Verdict v) exact accepted sight = absurd exact
+  one_promise (Err f) (judged.Unread g) exact accepted sight = exact
+
+  pub promised : (r : Result AnyCert CertFault) (given : Result Judged Memory) → IfOk given (Saying (λ c v. JudgesAny p t c v) r) → IfOk given (Saying (λ c v. IsYesAny v ↔ IsAcceptedAny (map_of p) t.bytes c) r)
+      → IfOk given (Saying (λ c v. IsYesAny v → TellsSightAny (map_of p) t c) r) → IfOk given (JudgedBy r (IsJudged p t))
+  promised r (Ok j) exact accepted sight = one_promise r j exact accepted sight
+  promised r (Err e) exact accepted sight = tt
+
+-- ---- a verdict was given, or the certificate wasn't read
+
+was_read : (P : AnyCert → AnyVerdict → Type 0) (r : Result AnyCert CertFault) (v : AnyVerdict) → JudgedBy r P (judged.Verdict v) → (c : AnyCert) × (r ≡ Ok c) × P c v
+was_read P (Ok c) v h = (c, refl, h)
+was_read P (Err f) v h = absurd h
+
+wasnt_read : (P : AnyCert → AnyVerdict → Type 0) (r : Result AnyCert CertFault) (f : CertFault) → JudgedBy r P (judged.Unread f) → r ≡ Err f
+wasnt_read P (Ok c) f h = absurd h
+wasnt_read P (Err g) f h = ap Err h
+
+module _ (p : PlanParts) (meet : LinesMeetAtEnds (map_of p)) (reject cert : List ℕ) (t : TableParts) (spelled : IsTableOf p.sectors reject t) (j : Judged) (judgement : IsJudgement p t cert j) where
+  verdict_on : (v : AnyVerdict) → j ≡ judged.Verdict v → IsVerdictOn (map_of p) reject cert v
+  verdict_on v e =
+      let r = was_read (IsJudged p t) (any_at (sizes_of p) cert) v (subst (λ (i : Judged). IsJudgement p t cert i) e judgement) in
+      record { plan = p; map = refl; meet = meet; table = t; spelled = spelled; parts = r.0; read = r.1; judged = r.2 }
+
+  unread : (f : CertFault) → j ≡ judged.Unread f → IsUnread (map_of p) cert f
+  unread f e = record { plan = p; map = refl; read = wasnt_read (IsJudged p t) (any_at (sizes_of p) cert) f (subst (λ (i : Judged). IsJudgement p t cert i) e judgement) }
+
+  pub checks : (r : Result Totals Status) → VerdictOf j r → ChecksMap (map_of p) reject cert r
+  checks (Ok totals) h = verdict_on (verdict.Yes totals) h
+  checks (Err (status.No (why.Check f))) h = verdict_on (verdict.No (fault.Check f)) h
+  checks (Err (status.No (why.Group k))) h = verdict_on (verdict.No (fault.Group k)) h
+  checks (Err (status.No (why.Unused g))) h = verdict_on (verdict.No (fault.Unused g)) h
+  checks (Err (status.No (why.Cert cert_fault.BadMagic))) h = unread cert_fault.BadMagic h
+  checks (Err (status.No (why.Cert cert_fault.BadVersion))) h = unread cert_fault.BadVersion h
+  checks (Err (status.No (why.Cert (cert_fault.Short at)))) h = unread (cert_fault.Short at) h
+  checks (Err (status.No (why.Cert (cert_fault.OutOfRange at)))) h = unread (cert_fault.OutOfRange at) h
+  checks (Err (status.No (why.Cert (cert_fault.NotSorted at)))) h = unread (cert_fault.NotSorted at) h
+  checks (Err (status.No (why.Cert (cert_fault.Trailing at)))) h = unread (cert_fault.Trailing at) h
+  checks (Err status.Memory) h = tt
+  checks (Err other) h = absurd h
+
+-- ---- what a check refuses with is of the library
+
+pub of_check : (m : Map) (reject cert : List ℕ) (s : Status) → ChecksMap m reject cert (Err s) → IsOfLibrary s
+of_check m reject cert (status.No (why.Table (table_fault.WrongLength found expected))) h = tt
+of_check m reject cert (status.No (why.Check f)) h = tt
+of_check m reject cert (status.No (why.Group k)) h = tt
+of_check m reject cert (status.No (why.Unused g)) h = tt
+of_check m reject cert (status.No (why.Cert cert_fault.BadMagic)) h = tt
+of_check m reject cert (status.No (why.Cert cert_fault.BadVersion)) h = tt
+of_check m reject cert (status.No (why.Cert (cert_fault.Short at))) h = tt
+of_check m reject cert (status.No (why.Cert (cert_fault.OutOfRange at))) h = tt
+of_check m reject cert (status.No (why.Cert (cert_fault.NotSorted at))) h = tt
+of_check m reject cert (status.No (why.Cert (cert_fault.Trailing at))) h = tt
+of_check m reject cert (status.BadMap flaw) h = tt
+of_check m reject cert status.Memory h = tt
+of_check m reject cert other h = absurd h
+
+denied_by_reading : (read : Result Map Status) (reject cert : List ℕ) (s : Status) → IsOfBytes s → Makes map_of (Err s) read → Denies read reject cert s
+denied_by_reading read reject cert (status.BadLump f) h made = subst (λ r. Denies r reject cert (status.BadLump f)) (sym made) refl
+denied_by_reading read reject cert (status.Limit b) h made = subst (λ r. Denies r reject cert (status.Limit b)) (sym made) refl
+denied_by_reading read reject cert (status.NotWad f) h made = subst (λ r. Denies r reject cert (status.NotWad f)) (sym made) refl
+denied_by_reading read reject cert (status.NoMap f) h made = subst (λ r. Denies r reject cert (status.NoMap f)) (sym made) refl
+denied_by_reading (Ok m) reject cert status.Memory h made = tt
+denied_by_reading (Err r) reject cert status.Memory h made = tt
+denied_by_reading read reject cert other h made = absurd h
+
+module _ (tells : (s : Status) → IsOfLibrary s → status_in (fault_view s) ≡ s) (reject cert : List ℕ) where
+  pub unproved_read : (read : Result Map Status) → IsLibrarys read → (s : Status) → IsOfBytes s → Makes map_of (Err s) read → (f : DoomsightFault) → f ≡ fault_view s → IsUnproved read reject cert f
+  unproved_read read lib s h made f is = record {
+    refusal = s;
+    is = is;
+    told = ap status_in is ∙ tells s (of_reading read lib s h made);
+    called = denied_by_reading read reject cert s h made;
+  }
+
+  pub unproved_map : (m : Map) (s : Status) → ChecksMap m reject cert (Err s) → (f : DoomsightFault) → f ≡ fault_view s → IsUnproved (Ok m) reject cert f
+  unproved_map m s h f is = record { refusal = s; is = is; told = ap status_in is ∙ tells s (of_check m reject cert s h); called = h }
+
+pub proved_map : (m : Map) (reject cert : List ℕ) (t : Totals) → IsVerdictOn m reject cert (verdict.Yes t) → (counts : DoomsightCounts) → counts ≡ totals_view t m.sectors (length cert) → IsYes (Ok m) reject cert counts
+proved_map m reject cert t h counts counted = record { map = m; is_read = refl; totals = t; verdict = h; counted = counted }

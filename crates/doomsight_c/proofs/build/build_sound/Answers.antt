@@ -1,0 +1,27 @@
+use Rattle.std.proofs.Common.{subst}
+use Rattle.cert_format.specs.declared.cert.Sizes.{Sizes}
+use Rattle.group_job.specs.Built.{IsTwoOf}
+use Rattle.doomsight_c.proofs.build.build_sound.Goals as goal
+
+pub returns-in-Ok : goal.returns-in-Ok
+returns-in-Ok c =
+    let e = c.in-Ok.ensures in record {
+      built = record {
+        fit = e.closed;
+        sectors = e.sectors;
+        is_whole = c.is_whole.ensures.whole;
+        are_bytes = c.is_whole.ensures.bytes;
+        sizes = subst (λ (s : Sizes). IsTwoOf s c.in-Ok.built.cert) c.has_sizes_of_map.ensures e.sizes;
+        in_order = e.in_order;
+        groups = e.groups;
+        listed = e.listed;
+        accepted = e.accepted;
+        rays = e.rays;
+        trees = e.trees;
+        symmetric = e.symmetric;
+        decided = e.by_groups;
+        none_listed = e.enough;
+        whole = e.whole;
+        sight = e.sight;
+      };
+    }

@@ -1,0 +1,25 @@
+use Rattle.std.proofs.Common.{length, subst}
+use Rattle.sight_names.specs.declared.names.Ask.{Ask}
+use Rattle.sight_names.specs.declared.names.Reading.{Reading}
+use Rattle.map_answers.specs.Input.{of_four_lumps}
+use Rattle.doomsight_c.specs.Asked.{ask_of, reading_of}
+use Rattle.doomsight_c.specs.Built.{IsBuiltFor}
+use Rattle.doomsight_c.proofs.Giving.{given}
+use Rattle.doomsight_c.proofs.exports.try_build.Goals as goal
+
+pub put-requires-clause-in_order : goal.put-requires-clause-in_order
+put-requires-clause-in_order c = c.in_ok-built.ensures.built.is_built.in_order
+
+pub put-requires-clause-fits : goal.put-requires-clause-fits
+put-requires-clause-fits c = c.in_ok-built.ensures.built.fits
+
+pub returns-clause-given : goal.returns-clause-given
+returns-clause-given c =
+    let a = c.args in
+    let read = λ (r : Reading). of_four_lumps r a.linedefs.now a.sidedefs.now a.vertexes.now a.sectors.now in
+    let meant = reading_of a.format a.flags in
+    let size = length a.reject.now in
+    let b = c.in_ok-built.built in
+    let as_read = subst (λ (r : Reading). IsBuiltFor (read r) c.ask_of.result size b) c.reading_of.ensures c.in_ok-built.ensures.built in
+    let as_asked = subst (λ (k : Ask). IsBuiltFor (read meant) k size b) c.ask_of.ensures as_read in
+    given (read meant) (ask_of a.budget) size b as_asked c.put.new.reject a.cert.now c.put.new.cert c.put.new.counts c.put.ensures.put

@@ -1,0 +1,44 @@
+-- What the numbers of a call ask for, and which of them are out of order.
+use Rattle.std.specs.Prelude.{ℕ, Option, Some, None, ◌==◌, if◌then◌else◌, nat_lt}
+use Rattle.sight_names.specs.declared.names.Ask.{Ask}
+use Rattle.sight_names.specs.declared.names.Ask.TheVariants.{Of, Full, Enough}
+use Rattle.sight_names.specs.declared.names.MapFormat.{MapFormat}
+use Rattle.sight_names.specs.declared.names.MapFormat.TheVariants.{Doom, Hexen}
+use Rattle.sight_names.specs.declared.names.Reading.{Reading}
+use Rattle.doomsight_c.specs.declared.fault.DoomsightFault.{DoomsightFault}
+use Rattle.doomsight_c.specs.Faults.{wide}
+
+-- format 0 is Doom's and 1 Hexen's
+abbrev pub format_of : ℕ → MapFormat
+format_of n = if n == 1 then Hexen else Doom
+
+-- flag 1 asks for the larger limits
+abbrev pub reading_of : ℕ → ℕ → Reading
+reading_of format flags = record { format = format_of format; large = flags == 1 }
+
+-- 0 is a budget that is enough for every source, the greatest number of 64 bits is none, and 1 to 2^32 are budgets
+abbrev pub ask_of : ℕ → Ask
+ask_of n =
+    if n == 0 then Enough
+    else if n == 18446744073709551615 then Full
+    else Of n
+
+abbrev pub budget_fault : ℕ → Option DoomsightFault
+budget_fault n =
+    if n == 18446744073709551615 then None
+    else if nat_lt 4294967296 n then Some (wide 2 14 n 0)
+    else None
+
+-- the first number that is out of order: the format, or the flags
+abbrev pub reading_fault : ℕ → ℕ → Option DoomsightFault
+reading_fault format flags =
+    if nat_lt 1 format then Some (wide 2 12 format 0)
+    else if nat_lt 1 flags then Some (wide 2 13 flags 0)
+    else None
+
+-- .. or the budget
+abbrev pub call_fault : ℕ → ℕ → ℕ → Option DoomsightFault
+call_fault format flags budget =
+    if nat_lt 1 format then Some (wide 2 12 format 0)
+    else if nat_lt 1 flags then Some (wide 2 13 flags 0)
+    else budget_fault budget

@@ -1,0 +1,236 @@
+/* doomsight.h: REJECT tables of Doom maps, built and checked in the process of the caller.
+ *
+ * Link with libdoomsight_c.a and doomsight_heap.o (or the kit's liblibc_c.a), in this order; nothing else but the C library is
+ * needed: the archive asks for rattle_alloc, rattle_realloc and rattle_dealloc, memcpy, memmove and memset alone.
+ *
+ * docs/C-LIBRARY.md says what is proved of these calls, and what the caller owes.
+ *
+ * - No call keeps anything: there is no handle, no global state, nothing to free. All outputs are buffers of the caller.
+ * - Calls may run in several threads at once, on buffers that they don't share (inputs may be shared, if nobody writes them).
+ * - No call starts a thread, reads or writes a file, prints, or calls back. Each takes its memory by malloc and gives all of it
+ *   back by free before it returns. Don't call from a signal handler, or in the child of a fork of a process with threads.
+ *   For a build in several threads run the program (doomsight build --workers N), and check what it made by doomsight_check.
+ * - A call needs some stack: see DOOMSIGHT_STACK.
+ * - Buffers of one call must not overlap one another, but inputs may.
+ */
+#ifndef DOOMSIGHT_H
+#define DOOMSIGHT_H
+
+#include <stddef.h>
+#include <stdint.h>
+
+#ifdef __cplusplus
+extern "C" {
+#endif
+
+/* The interface of this header; doomsight_abi() tells that of the library. They differ where one of them is to be replaced. */
+#define DOOMSIGHT_ABI 1
+uint32_t doomsight_abi(void);
+
+/* The version of this header: 10000 times its first number, 100 times its second, and its third. doomsight_version() tells that
+ * of the library. */
+#define DOOMSIGHT_VERSION 10000
+uint32_t doomsight_version(void);
+
+/* Bytes of stack that a call has to find free. Two arrays of a sweep, with room for 32768 lines, take most of them, whatever the map.
+ * Tried by bench/c_library.sh, not proved. Where there is less the thread ends by SIGSEGV at its guard page: musl gives a thread
+ * 128 KiB and macOS 512 KiB, so start a thread for the calls with more. */
+#define DOOMSIGHT_STACK (768u * 1024u)
+
+/* What a call answers. Each is the exit status of the program `doomsight` that has the same meaning. */
+enum doomsight_code {
+    DOOMSIGHT_OK = 0,        /* done; of a check: yes */
+    DOOMSIGHT_NO = 1,        /* of a check: no */
+    DOOMSIGHT_USAGE = 2,     /* a number of the call or the size of the table's buffer isn't in order */
+    DOOMSIGHT_BAD_LUMP = 8,  /* the lumps are no map */
+    DOOMSIGHT_LIMIT = 9,     /* more than 4096 sectors, 16384 lines or 4096 points; see DOOMSIGHT_LARGE */
+    DOOMSIGHT_BAD_MAP = 10,  /* lines cross, touch or overlap, or a face is open */
+    DOOMSIGHT_MEMORY = 12    /* malloc refused */
+};
+
+/* What exactly, and which numbers of a fault tell more. Each kind has one code; kind 0 is that of DOOMSIGHT_OK and of
+ * DOOMSIGHT_MEMORY. */
+enum doomsight_kind {
+    DOOMSIGHT_NONE = 0,
+    /* BAD_LUMP */
+    DOOMSIGHT_LUMP_SIZE = 1,         /* a: 0 LINEDEFS, 1 SIDEDEFS, 2 VERTEXES, 3 SECTORS */
+    DOOMSIGHT_LUMP_VERTEX = 2,       /* a: the LINEDEFS record */
+    DOOMSIGHT_LUMP_SIDE = 3,         /* a: the LINEDEFS record */
+    DOOMSIGHT_LUMP_SECTOR = 4,       /* a: the SIDEDEFS record */
+    /* LIMIT */
+    DOOMSIGHT_SECTORS = 5,
+    DOOMSIGHT_LINES = 6,
+    DOOMSIGHT_POINTS = 7,
+    /* BAD_MAP */
+    DOOMSIGHT_CROSS = 8,             /* a, b: two LINEDEFS records, here and in the next two */
+    DOOMSIGHT_TOUCH = 9,
+    DOOMSIGHT_OVERLAP = 10,
+    DOOMSIGHT_OPEN = 11,             /* line, left: the side whose face is open */
+    /* USAGE */
+    DOOMSIGHT_BAD_FORMAT = 12,       /* at: the format */
+    DOOMSIGHT_BAD_FLAGS = 13,        /* at: the flags */
+    DOOMSIGHT_BAD_BUDGET = 14,       /* at: the budget */
+    DOOMSIGHT_BAD_TABLE_SIZE = 15,   /* at: the size that the table of this map has */
+    /* NO */
+    DOOMSIGHT_TABLE_LENGTH = 20,     /* at: bytes found, more: bytes expected */
+    DOOMSIGHT_CERT_MAGIC = 21,
+    DOOMSIGHT_CERT_VERSION = 22,
+    DOOMSIGHT_CERT_SHORT = 23,       /* at: the byte, here and in the next three */
+    DOOMSIGHT_CERT_RANGE = 24,
+    DOOMSIGHT_CERT_ORDER = 25,
+    DOOMSIGHT_CERT_TRAILING = 26,
+    DOOMSIGHT_MESH_FLAT = 30,        /* a: the triangle, here and in the next two */
+    DOOMSIGHT_MESH_TWICE = 31,
+    DOOMSIGHT_MESH_MATE = 32,
+    DOOMSIGHT_MESH_SIDE = 33,        /* line, left: the side */
+    DOOMSIGHT_MESH_MEETS = 34,       /* a: the triangle, b: the line */
+    DOOMSIGHT_MESH_INSIDE = 35,      /* a: the triangle, b: the point */
+    DOOMSIGHT_RAY_ELSEWHERE = 40,    /* a, b: the pair of groups of the ray, here and in the next six */
+    DOOMSIGHT_RAY_RANGE = 41,
+    DOOMSIGHT_RAY_SIDE = 42,         /* line, left: the side */
+    DOOMSIGHT_RAY_NOT_SPLIT = 43,    /* line */
+    DOOMSIGHT_RAY_WRONG_WAY = 44,    /* line */
+    DOOMSIGHT_RAY_BACKWARDS = 45,
+    DOOMSIGHT_RAY_BLOCKED = 46,      /* line */
+    DOOMSIGHT_TREE = 50,             /* a: the source of the tree, at: its node */
+    DOOMSIGHT_LISTED_SET = 51,       /* a, b: the pair of sectors, here and in the next two */
+    DOOMSIGHT_UNPROVED = 52,
+    DOOMSIGHT_UNCOVERED = 53,
+    DOOMSIGHT_GROUP = 54,            /* a: the triangle */
+    DOOMSIGHT_UNUSED = 55            /* a: the group */
+};
+
+typedef struct doomsight_fault {
+    uint16_t code;  /* an enum doomsight_code */
+    uint16_t kind;  /* an enum doomsight_kind */
+    uint16_t a, b;
+    uint16_t line, left; /* a side: its LINEDEFS record, and 1 where it is the left one */
+    uint64_t at, more;
+} doomsight_fault;
+
+/* Pairs (a, b) with a <= b. */
+typedef struct doomsight_counts {
+    uint64_t sectors;
+    uint64_t set;       /* proved blind: their bit is set */
+    uint64_t clear;     /* proved to see */
+    uint64_t listed;    /* clear, since the budget ran out; none with DOOMSIGHT_ENOUGH and DOOMSIGHT_FULL */
+    uint64_t cert_size; /* bytes of the whole certificate, whatever room the buffer has */
+} doomsight_counts;
+
+#if defined(__cplusplus) && __cplusplus >= 201103L
+#define DOOMSIGHT_HOLDS(fact) static_assert(fact, #fact)
+#elif defined(__STDC_VERSION__) && __STDC_VERSION__ >= 201112L
+#define DOOMSIGHT_HOLDS(fact) _Static_assert(fact, #fact)
+#else
+#define DOOMSIGHT_HOLDS(fact) typedef char doomsight_holds[(fact) ? 1 : -1]
+#endif
+DOOMSIGHT_HOLDS(sizeof(doomsight_fault) == 32 && sizeof(doomsight_counts) == 40);
+#undef DOOMSIGHT_HOLDS
+
+/* Budgets: 1 to 4294967296, or one of these. The program's default is 16384. */
+#define DOOMSIGHT_ENOUGH UINT64_C(0)    /* as much as this map needs */
+#define DOOMSIGHT_FULL UINT64_MAX       /* no bound */
+
+enum doomsight_format { DOOMSIGHT_DOOM = 0, DOOMSIGHT_HEXEN = 1 };
+
+/* Flags. LARGE is the program's --large: at most 16384 sectors, 32768 lines and 16383 points. */
+enum doomsight_flag { DOOMSIGHT_LARGE = 1 };
+
+/* A lump: bytes and how many. `bytes` may be NULL where `size` is 0. */
+typedef struct doomsight_lump {
+    const void *bytes;
+    size_t size;
+} doomsight_lump;
+
+/* The four lumps that a table depends on, as they stand in a WAD (little-endian records). */
+typedef struct doomsight_map {
+    doomsight_lump linedefs, sidedefs, vertexes, sectors;
+    uint32_t format; /* an enum doomsight_format */
+} doomsight_map;
+
+typedef struct doomsight_options {
+    uint64_t budget; /* of a build; a check doesn't look at it */
+    uint32_t flags;  /* 0, or DOOMSIGHT_LARGE */
+} doomsight_options;
+
+/* How many bytes the table of a SECTORS lump of so many bytes has; 0 where it has none, or more than 16384 sectors. */
+static inline size_t doomsight_table_size(size_t sectors_size)
+{
+    size_t n = sectors_size / 26;
+    return n > 16384 ? 0 : (n * n + 7) / 8;
+}
+
+/* ---- The functions of the library. A `&[u8]` of Rattle is a pointer that isn't NULL, and a length. */
+
+int32_t doomsight_build_buffers(const uint8_t *linedefs, size_t linedefs_size, const uint8_t *sidedefs, size_t sidedefs_size,
+    const uint8_t *vertexes, size_t vertexes_size, const uint8_t *sectors, size_t sectors_size, uint32_t format, uint32_t flags,
+    uint64_t budget, uint8_t *reject, size_t reject_size, uint8_t *cert, size_t cert_room, doomsight_counts *counts,
+    doomsight_fault *fault);
+
+int32_t doomsight_check_buffers(const uint8_t *linedefs, size_t linedefs_size, const uint8_t *sidedefs, size_t sidedefs_size,
+    const uint8_t *vertexes, size_t vertexes_size, const uint8_t *sectors, size_t sectors_size, uint32_t format, uint32_t flags,
+    const uint8_t *reject, size_t reject_size, const uint8_t *cert, size_t cert_size, doomsight_counts *counts,
+    doomsight_fault *fault);
+
+size_t doomsight_line_buffer(const doomsight_fault *fault, uint8_t *text, size_t room);
+
+/* Writes 1, 2, 3 and so on into the fields, in the order in which they stand above. Where they read otherwise, this header isn't
+ * that of the library, or the compiler lays out structs in another way. */
+void doomsight_layout(doomsight_fault *fault, doomsight_counts *counts);
+
+/* ---- What programs call. */
+
+#define DOOMSIGHT_LINE_ROOM 128 /* room for every line and its NUL */
+
+static inline const uint8_t *doomsight_some(const void *bytes)
+{
+    static const uint8_t none[1] = {0};
+    return bytes ? (const uint8_t *)bytes : none;
+}
+
+/* Builds the table of the map into `reject`, whose size is to be doomsight_table_size(map->sectors.size). Where `options` is
+ * NULL the budget is 16384 and no flag is set.
+ *
+ * `cert` is a buffer for the certificate, of `cert_room` bytes; NULL and 0 where none is wanted. The certificate is whole where
+ * counts->cert_size <= cert_room; else its front stands there, and a second call with so much room gives it whole.
+ *
+ * The answer is DOOMSIGHT_OK, or the code of the fault; then nothing but *fault was written. */
+static inline int32_t doomsight_build(const doomsight_map *map, const doomsight_options *options, void *reject, size_t reject_size,
+    void *cert, size_t cert_room, doomsight_counts *counts, doomsight_fault *fault)
+{
+    uint8_t nothing[1];
+    return doomsight_build_buffers(doomsight_some(map->linedefs.bytes), map->linedefs.size, doomsight_some(map->sidedefs.bytes),
+        map->sidedefs.size, doomsight_some(map->vertexes.bytes), map->vertexes.size, doomsight_some(map->sectors.bytes),
+        map->sectors.size, map->format, options ? options->flags : 0, options ? options->budget : 16384,
+        reject ? (uint8_t *)reject : nothing,
+        reject ? reject_size : 0, cert ? (uint8_t *)cert : nothing, cert ? cert_room : 0, counts, fault);
+}
+
+/* Whether the table is right for the map, by the certificate: DOOMSIGHT_OK and the counts for yes; else the code of the fault,
+ * DOOMSIGHT_NO where the table or the certificate is wrong; then nothing but *fault was written. `options` may be NULL. */
+static inline int32_t doomsight_check(const doomsight_map *map, const doomsight_options *options, const void *reject,
+    size_t reject_size, const void *cert, size_t cert_size, doomsight_counts *counts, doomsight_fault *fault)
+{
+    return doomsight_check_buffers(doomsight_some(map->linedefs.bytes), map->linedefs.size, doomsight_some(map->sidedefs.bytes),
+        map->sidedefs.size, doomsight_some(map->vertexes.bytes), map->vertexes.size, doomsight_some(map->sectors.bytes),
+        map->sectors.size, map->format, options ? options->flags : 0, doomsight_some(reject), reject ? reject_size : 0,
+        doomsight_some(cert), cert ? cert_size : 0, counts, fault);
+}
+
+/* What doomsight_line answers where malloc refuses. */
+#define DOOMSIGHT_NO_LINE SIZE_MAX
+
+/* The line by which the program tells this fault, with its '\n' and a NUL, as "refused: bad map: open 0R\n". The answer is its
+ * length without the NUL; where `room` isn't more than that, nothing is written. It is 0 for DOOMSIGHT_MEMORY, for which the
+ * program has no line, and DOOMSIGHT_NO_LINE, with nothing written, where malloc refuses. All kinds of DOOMSIGHT_USAGE have one
+ * line. */
+static inline size_t doomsight_line(const doomsight_fault *fault, char *text, size_t room)
+{
+    uint8_t nothing[1];
+    return doomsight_line_buffer(fault, text ? (uint8_t *)text : nothing, text ? room : 0);
+}
+
+#ifdef __cplusplus
+}
+#endif
+#endif
