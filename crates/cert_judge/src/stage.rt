@@ -38,7 +38,7 @@ fn plain_stage(alloc: Global, plan: &Plan, labelled: &[Labelled]) -> Result<Stag
         return Ok(Stage::Lost);
     }
     let (mesh, labels) = mesh_over(alloc, plan, labelled)?;
-    match mesh_fault(plan, &mesh, &labels) {
+    match mesh_fault(alloc, plan, &mesh, &labels) {
         Some(fault) => Ok(Stage::Broken(AnyFault::Check(CheckFault::Mesh(fault)))),
         None => Ok(Stage::Good(OnGround {
             grouped: None,

@@ -134,7 +134,7 @@ fn judge_one<R: Threads + Sync>(
     ensures { IfOk result (JudgesOne (map_of plan.now) table.now cert.now) }
 {
     let (mesh, labels) = mesh_of(alloc, plan, cert)?;
-    match mesh_fault(plan, &mesh, &labels) {
+    match mesh_fault(alloc, plan, &mesh, &labels) {
         Some(fault) => Ok(AnyVerdict::No(AnyFault::Check(CheckFault::Mesh(fault)))),
         None => {
             let verdict = judge_rest(rt, alloc, plan, table, cert, &mesh, &labels)?;

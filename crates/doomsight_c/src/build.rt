@@ -53,7 +53,7 @@ fn build_sound(alloc: Global, plan: &Plan, ask: Ask) -> Result<GroupBuilt, Statu
 fn build_alone(alloc: Global, plan: &Plan, ask: Ask) -> Result<GroupBuilt, Status>
     ensures built { Builds (map_of plan.now) ask result }
 {
-    audit_lines_of(plan)?;
+    audit_lines_of(alloc, plan)?;
     build_sound(alloc, plan, ask)
 }
 

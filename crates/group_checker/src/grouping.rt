@@ -52,7 +52,7 @@ fn judge_sided(
     ensures { IfOk result (TellsGrouping plan.now mesh.triangles labels groups.now) }
 {
     let grouped = regrouped_map(alloc, plan, &mesh, labels.as_slice(), groups.len() as u16)?;
-    if let Some(fault) = mesh_fault(&grouped, &mesh, &labels) {
+    if let Some(fault) = mesh_fault(alloc, &grouped, &mesh, &labels) {
         return Ok(MeshVerdict::Broken(AnyFault::Check(CheckFault::Mesh(fault))));
     }
     let fault = group_fault(alloc, plan, groups, &mesh, &labels)?;
@@ -84,7 +84,7 @@ pub fn judge_mesh(
     let bare = first_bare_side(alloc, plan, &mesh)?;
     match bare {
         Some(side) => {
-            let fault = fault_with(plan, &mesh, &labels, side);
+            let fault = fault_with(alloc, plan, &mesh, &labels, side);
             Ok(MeshVerdict::Broken(AnyFault::Check(CheckFault::Mesh(fault))))
         }
         None => judge_sided(alloc, plan, groups, mesh, labels),

@@ -36,13 +36,13 @@ fn earlier(fault: MeshFault, side: Side) -> MeshFault
 
 /// The first rule of a mesh that is broken, where this is the least side without a triangle. The rules before that one don't
 /// speak of what sides name.
-pub fn fault_with(plan: &Plan, mesh: &Mesh, labels: &Labels, side: Side) -> MeshFault
+pub fn fault_with(alloc: Global, plan: &Plan, mesh: &Mesh, labels: &Labels, side: Side) -> MeshFault
     requires points { mesh.now.points ≡ length plan.now.points }
     requires one_each { length labels.now ≡ length mesh.now.triangles }
     requires bare { IsFirstSideAgainst (HasTriangleAt (map_of plan.now) mesh.now.triangles) side }
     ensures { IsFirstMeshFault (map_of plan.now) (map_of plan.now) mesh.now.triangles labels.now result }
 {
-    match mesh_fault(plan, mesh, labels) {
+    match mesh_fault(alloc, plan, mesh, labels) {
         Some(fault) => earlier(fault, side),
         None => MeshFault::NoTriangle { side },
     }

@@ -1,9 +1,9 @@
 -- What a sweep over the spans of lines may pass over, and that it leaves no pair of records out.
-use Rattle.std.proofs.Common.{◌≡◌, take, replicate, ◌≢◌, ℕ, ◌+◌, ◌-◌, ◌<◌, ◌≤◌, ◌⊎◌, inl, inr, List, length, get_or, set, slice_get, option_and_then, Option, Some, ℤ, ◌≤ℤ◌, sym, ◌∙◌, ap, subst, subst₂, arith, min, max}
+use Rattle.std.proofs.Common.{◌≡◌, ◌≢◌, ℕ, ◌+◌, ◌-◌, ◌<◌, ◌≤◌, ◌⊎◌, inl, inr, List, length, get_or, set, slice_get, option_and_then, Option, Some, ℤ, ◌≤ℤ◌, sym, ◌∙◌, ap, subst, subst₂, arith, min, max}
 use Rattle.std.specs.Int.{int_min, int_max}
 use Rattle.std.specs.List.{Contains}
 use Rattle.std.specs.List.Sorted.{IsNonDecreasingBy}
-use Rattle.std.proofs.lemmas.List.{get_or_default, get_or_read, get_or-set_same, get_or-set_other, length-take, length-replicate}
+use Rattle.std.proofs.lemmas.List.{get_or_default, get_or_read, get_or-set_same, get_or-set_other}
 use Rattle.std.proofs.lemmas.Bool.{cases_lt}
 use Rattle.std.proofs.lemmas.Int.{ints, clamps}
 use Rattle.sight_names.specs.declared.plan.Line.{Line}
@@ -118,7 +118,3 @@ of_each_pair p ss h R flip each i j hi hj n = cases (h.covered i hi) (h.covered 
       | inl lt ↦ in_order i j a b lt
       | inr w ↦ elim w as (λ _. R i j) [ inl gt ↦ flip j i (in_order j i b a gt) | inr e ↦ absurd (n (same_record a b e)) ]
     ]
-
--- an array of so many places has room for each list that is no longer
-pub room_for : (n m : ℕ) (s : Span) → n ≤ m → n ≡ length (take n (replicate m s))
-room_for n m s h = let t = length-take n (replicate m s) in let r = length-replicate m s in omega (arith, h, t, r)

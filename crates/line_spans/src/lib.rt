@@ -19,7 +19,7 @@ pub struct Span {
     pub line: u16,
 }
 
-/// A span to fill an array with.
+/// A span to fill a list with.
 pub const NO_SPAN: Span = Span {
     least: u16::MAX,
     greatest: 0,

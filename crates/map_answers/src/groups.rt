@@ -71,6 +71,6 @@ pub fn audit_map(alloc: Global, plan: &Plan) -> Result<MeshGroups, Status>
     ensures groups { IfOk result (AreGroupsOver plan.now) }
     ensures refusals { IfErr result (IsAuditRefusal (map_of plan.now)) }
 {
-    audit_lines_of(plan)?;
+    audit_lines_of(alloc, plan)?;
     audit_groups(alloc, plan)
 }

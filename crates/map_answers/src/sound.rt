@@ -7,13 +7,14 @@ ghost use Rattle.map_answers.specs.Sound.{HasSoundLines, IsLineRefusal};
 use map_audit::audit_lines;
 use sight_names::Plan;
 use sight_status::{Flaw, Status};
+use std::alloc::Global;
 
 /// Whether the lines of the map meet at ends alone.
-pub fn audit_lines_of(plan: &Plan) -> Result<(), Status>
+pub fn audit_lines_of(alloc: Global, plan: &Plan) -> Result<(), Status>
     ensures sound { OnOk result (HasSoundLines (map_of plan.now)) }
     ensures clash { IfErr result (IsLineRefusal (map_of plan.now)) }
 {
-    match audit_lines(plan) {
+    match audit_lines(alloc, plan) {
         Ok(()) => Ok(()),
         Err(fault) => Err(Status::BadMap(Flaw::Line(fault))),
     }

@@ -10,19 +10,21 @@ ghost use Rattle.map_audit.specs.Audit.{AreRelated, FineAt, FineBefore, FineFrom
 
 use geom_exact::{Relation, seg_relation};
 use line_spans::{NO_SPAN, Span, ends_below, put_spans};
-use sight_names::{LARGE_LINES, Line, LineFault, Plan, Pt};
+use sight_names::{Line, LineFault, Plan, Pt};
+use std::alloc::Global;
 
-/// Whether each two lines of the map share nothing but an end of both. Takes no memory.
+/// Whether each two lines of the map share nothing but an end of both. Takes memory for a span of each line, for the length
+/// of the call; where it is refused, each pair of lines is looked at.
 ///
 /// # Errors
 ///
 /// The least pair of line records, by the first number and then the second, whose lines share more: they cross,
 /// one touches the other with an end, or they overlap.
-pub fn audit_lines(plan: &Plan) -> Result<(), LineFault>
+pub fn audit_lines(alloc: Global, plan: &Plan) -> Result<(), LineFault>
     ensures sound { IsOk result ↔ LinesMeetAtEnds (map_of plan.now) }
     ensures fault { (f : LineFault) → (result ≡ Err f) ↔ IsLineFault (map_of plan.now) f }
 {
-    if is_swept_clean(plan) {
+    if is_swept_clean(alloc, plan) {
         return Ok(());
     }
     match first_fault(plan) {
@@ -31,14 +33,16 @@ pub fn audit_lines(plan: &Plan) -> Result<(), LineFault>
     }
 }
 
-/// Whether a sweep over the lines finds no two that share more than an end of both.
-fn is_swept_clean(plan: &Plan) -> bool
+/// Whether a sweep over the lines finds no two that share more than an end of both. Where memory for it is refused, it
+/// finds nothing out.
+fn is_swept_clean(alloc: Global, plan: &Plan) -> bool
     ensures { IsTrue result → LinesMeetAtEnds (map_of plan.now) }
 {
-    let mut room = [NO_SPAN; LARGE_LINES];
-    let spans = &mut room[..plan.lines().len()];
-    put_spans(plan, spans);
-    are_clean(plan, spans)
+    let Ok(mut spans) = vec![in alloc; NO_SPAN; plan.lines().len()] else {
+        return false;
+    };
+    put_spans(plan, spans.as_mut_slice());
+    are_clean(plan, spans.as_slice())
 }
 
 /// Whether each line shares nothing but an end of both with those that come later in the order of lesser ends.

@@ -1,14 +1,15 @@
-//! The lines of a plan by their lesser ends, in arrays, so that no memory is taken. Nothing rests on what they hold: by
-//! them a line is found soon, and where they show none all lines are looked at.
+//! The lines of a plan by their lesser ends. Nothing rests on what they hold: by them a line is found soon, and where they
+//! show none, as where memory for them is refused, all lines are looked at.
 
-use sight_names::{LARGE_LINES, LARGE_POINTS, Line, Plan};
+use sight_names::{Line, Plan};
+use std::alloc::{AllocError, Global};
 
 /// For each point the last line whose lesser end it is, and for each line the one before it. Numbers are greater by one,
 /// and 0 is none.
 #[derive(Drop)]
 pub struct Chains {
-    last: [u16; LARGE_POINTS],
-    earlier: [u16; LARGE_LINES],
+    last: Vec<u16>,
+    earlier: Vec<u16>,
 }
 
 /// Puts the line with this record number before the others with its lesser end.
@@ -21,15 +22,28 @@ fn link(last: &mut [u16], earlier: &mut [u16], line: Line, i: usize) {
 }
 
 /// The chains of a plan's lines.
-pub fn chains_of(plan: &Plan) -> Chains {
-    let mut last = [0u16; LARGE_POINTS];
-    let mut earlier = [0u16; LARGE_LINES];
+fn linked(alloc: Global, plan: &Plan) -> Result<Chains, AllocError> {
+    let mut last = vec![in alloc; 0u16; plan.points().len()]?;
+    let mut earlier = vec![in alloc; 0u16; plan.lines().len()]?;
     for (i, entry) in plan.lines().iter().enumerate() {
         if let Some(line) = entry {
             link(last.as_mut_slice(), earlier.as_mut_slice(), *line, i);
         }
     }
-    Chains { last, earlier }
+    Ok(Chains { last, earlier })
+}
+
+/// The chains of a plan's lines, or chains that lead to no line.
+pub fn chains_of(alloc: Global, plan: &Plan) -> Chains {
+    match linked(alloc, plan) {
+        Ok(chains) => chains,
+        Err(_) => {
+            Chains {
+                last: Vec::new(alloc),
+                earlier: Vec::new(alloc),
+            }
+        }
+    }
 }
 
 impl Chains {

@@ -1,5 +1,6 @@
 //! The first rule of a good mesh that is broken: each rule is a search through triangles, sides, lines or points in
-//! order, and the rules are looked at in order. Nothing here takes memory.
+//! order, and the rules are looked at in order. What lets a search look at few lines takes memory for the length of the
+//! search; where it is refused, the search looks at all.
 
 ghost use Rattle.std.specs.Prelude.{ℕ, ◌≤◌, ◌≡◌, ◌≢◌, ◌<◌, ◌↔◌, ◌⊎◌, IsTrue, Some, None, ◌<ℤ◌, length, slice_get};
 ghost use Rattle.std.specs.Bool.{OnTrue};
@@ -19,9 +20,12 @@ use crate::mesh::Mesh;
 use geom_exact::{in_triangle, turn};
 use line_spans::{NO_SPAN, Span, ends_below, first_behind, put_skips, put_spans};
 use sight_names::{LARGE_LINES, Line, MOST_TRIANGLES, MeshFault, Plan, Pt, Side, Triangle};
+use std::alloc::Global;
 
-/// The first rule of a good mesh that is broken, at its least numbers; None exactly where the mesh is good.
-pub fn mesh_fault(plan: &Plan, mesh: &Mesh, labels: &Labels) -> Option<MeshFault>
+/// The first rule of a good mesh that is broken, at its least numbers; None exactly where the mesh is good. Takes memory for
+/// what is known of each line, for the length of the call; where it is refused, each pair of a triangle and a line is looked
+/// at.
+pub fn mesh_fault(alloc: Global, plan: &Plan, mesh: &Mesh, labels: &Labels) -> Option<MeshFault>
     requires points { mesh.now.points ≡ length plan.now.points }
     requires one_each { length labels.now ≡ length mesh.now.triangles }
     ensures { IsMeshVerdict (map_of plan.now) mesh.now.triangles labels.now result }
@@ -32,13 +36,13 @@ pub fn mesh_fault(plan: &Plan, mesh: &Mesh, labels: &Labels) -> Option<MeshFault
     if let Some(triangle) = first_twice(mesh) {
         return Some(MeshFault::Twice { triangle });
     }
-    if let Some(triangle) = first_without_mate(plan, mesh, labels) {
+    if let Some(triangle) = first_without_mate(alloc, plan, mesh, labels) {
         return Some(MeshFault::NoMate { triangle });
     }
     if let Some(side) = first_unfit_side(plan, mesh, labels) {
         return Some(MeshFault::NoTriangle { side });
     }
-    if let Some((triangle, line)) = first_meeting(plan, mesh) {
+    if let Some((triangle, line)) = first_meeting(alloc, plan, mesh) {
         return Some(MeshFault::Meets { triangle, line });
     }
     if let Some((triangle, point)) = first_inside(plan, mesh) {
@@ -227,11 +231,11 @@ fn has_mates(
 }
 
 /// The least labelled triangle with an edge that is no line and has no mate of the same label.
-fn first_without_mate(plan: &Plan, mesh: &Mesh, labels: &Labels) -> Option<u16>
+fn first_without_mate(alloc: Global, plan: &Plan, mesh: &Mesh, labels: &Labels) -> Option<u16>
     requires { length labels.now ≡ length mesh.now.triangles }
     ensures { IsSearch (HasMatesAt (map_of plan.now) mesh.now.triangles labels.now) result }
 {
-    let chains = chains_of(plan);
+    let chains = chains_of(alloc, plan);
     for (k, t) in mesh.triangles().iter().enumerate() {
         if !has_mates(plan, &chains, mesh, labels, k as u16, *t) {
             return Some(k as u16);
@@ -497,37 +501,40 @@ fn are_all_fair(plan: &Plan, spans: &[Span], skips: &[u16], mesh: &Mesh) -> bool
     true
 }
 
-/// The same, once it is known how far the sweeps may go back.
-fn are_fair_in_order(plan: &Plan, spans: &[Span], mesh: &Mesh) -> bool
+/// The same, once it is known how far the sweeps may go back; not where memory for that is refused.
+fn are_fair_in_order(alloc: Global, plan: &Plan, spans: &[Span], mesh: &Mesh) -> bool
     requires plan { IsPlan plan.now }
     requires points { mesh.now.points ≡ length plan.now.points }
     requires spans { AreSpans plan.now spans.now }
     requires few { length spans.now ≤ LARGE_LINES }
     ensures { IsTrue result → (k i : ℕ) → IsFairAt (map_of plan.now) mesh.now.triangles k i }
 {
-    let mut room = [0u16; LARGE_LINES];
-    let skips = &mut room[..spans.len()];
-    put_skips(spans, skips);
-    are_all_fair(plan, spans, skips, mesh)
+    let Ok(mut skips) = vec![in alloc; 0u16; spans.len()] else {
+        return false;
+    };
+    put_skips(spans, skips.as_mut_slice());
+    are_all_fair(plan, spans, skips.as_slice(), mesh)
 }
 
-/// Whether a sweep over the lines finds for no triangle one that it meets otherwise.
-fn is_swept_fairly(plan: &Plan, mesh: &Mesh) -> bool
+/// Whether a sweep over the lines finds for no triangle one that it meets otherwise. Where memory for it is refused, it finds
+/// nothing out.
+fn is_swept_fairly(alloc: Global, plan: &Plan, mesh: &Mesh) -> bool
     requires { mesh.now.points ≡ length plan.now.points }
     ensures { IsTrue result → (k i : ℕ) → IsFairAt (map_of plan.now) mesh.now.triangles k i }
 {
-    let mut room = [NO_SPAN; LARGE_LINES];
-    let spans = &mut room[..plan.lines().len()];
-    put_spans(plan, spans);
-    are_fair_in_order(plan, spans, mesh)
+    let Ok(mut spans) = vec![in alloc; NO_SPAN; plan.lines().len()] else {
+        return false;
+    };
+    put_spans(plan, spans.as_mut_slice());
+    are_fair_in_order(alloc, plan, spans.as_slice(), mesh)
 }
 
 /// The least triangle with such an edge, and the least line that it meets.
-fn first_meeting(plan: &Plan, mesh: &Mesh) -> Option<(u16, u16)>
+fn first_meeting(alloc: Global, plan: &Plan, mesh: &Mesh) -> Option<(u16, u16)>
     requires { mesh.now.points ≡ length plan.now.points }
     ensures { IsPairSearch (IsFairAt (map_of plan.now) mesh.now.triangles) result }
 {
-    if is_swept_fairly(plan, mesh) {
+    if is_swept_fairly(alloc, plan, mesh) {
         return None;
     }
     for (k, t) in mesh.triangles().iter().enumerate() {

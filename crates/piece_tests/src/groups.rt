@@ -142,7 +142,7 @@ fn told(alloc: Global, plan: &Plan) -> Result<String, Fail>
 
 // The same of any map.
 fn audited(alloc: Global, plan: &Plan) -> Result<String, Fail> {
-    let Ok(()) = audit_lines(plan) else {
+    let Ok(()) = audit_lines(alloc, plan) else {
         return Err("lines don't meet at ends".into());
     };
     told(alloc, plan)

@@ -236,7 +236,7 @@ fn judged_audited<R: Threads + Sync>(
 ) -> Result<Judged, Fail>
     requires { table.now.n ≡ plan.now.sectors }
 {
-    let Ok(()) = audit_lines(plan) else {
+    let Ok(()) = audit_lines(alloc, plan) else {
         return Err("lines don't meet at ends".into());
     };
     judged_whole(rt, alloc, plan, table, bytes)

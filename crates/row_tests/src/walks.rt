@@ -85,7 +85,7 @@ fn audited_walk(
     source: u16,
     budget: Budget,
 ) -> Result<Option<(usize, Option<(usize, usize)>)>, Memory> {
-    let Ok(()) = audit_lines(plan) else {
+    let Ok(()) = audit_lines(alloc, plan) else {
         return Ok(None);
     };
     walk_of(alloc, plan, source, budget)
@@ -113,7 +113,7 @@ fn each_of_three_rooms_in_a_row_has_four_sequences(rt: HostRuntime) -> Result<()
 // The steps of a walk of a source of a map, of which there are few, before its end. None where the map isn't sound.
 fn steps_of(alloc: Global, plan: &Plan, source: u16) -> Result<Vec<Step>, Memory> {
     let mut steps = Vec::new(alloc);
-    let Ok(()) = audit_lines(plan) else {
+    let Ok(()) = audit_lines(alloc, plan) else {
         return Ok(steps);
     };
     let Ok(faces) = faces_of(alloc, plan) else {
@@ -173,7 +173,7 @@ ISLAND | mixed 0R 4R
 // Whether a build of the row's map by two workers comes to what the row says.
 fn is_built<R: Threads + Sync>(rt: &R, alloc: Global, row: &str) -> Result<bool, Fail> {
     let plan = plan_named(alloc, part(row, 0))?;
-    let Ok(()) = audit_lines(&plan) else {
+    let Ok(()) = audit_lines(alloc, &plan) else {
         return Ok(false);
     };
     match build_table(rt, alloc, &plan, 2, Ask::Full, &OpenGate) {

@@ -76,6 +76,6 @@ pub fn build<R: Threads + Sync, G: Gate + Sync>(
     ensures built { Builds (map_of plan.now) budget result }
     ensures refusals { IfErr result IsOfBuilding }
 {
-    audit_lines_of(plan)?;
+    audit_lines_of(alloc, plan)?;
     build_sound(rt, alloc, plan, workers, budget, gate)
 }
