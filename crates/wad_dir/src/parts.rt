@@ -1,8 +1,9 @@
 //! What a WAD's directory holds, and where a map lies in it.
 
 ghost use Rattle.std.specs.Prelude.{◌≤◌, length};
+ghost use Rattle.sight_names.specs.declared.limits.TheConstants.{MOST_LUMPS};
 
-use sight_names::{Items, MOST_LUMPS, MapFormat};
+use sight_names::{Items, MapFormat};
 
 /// Whether a WAD is a game's own or an addition to one.
 #[derive(Clone, Copy, Debug, PartialEq, Eq)]
