@@ -98,7 +98,7 @@ names_all old new [] made h = subst (λ (x : WadFile). HasNames x.lumps) (sym ma
 names_all old new (c ∷ cs) made h = names_all (with_reject old made.0 c.table) new cs made.2 (names_rewritten old made.0 c.table h)
 
 has_length : (said : Result Map Status) (budget : Ask) (made : Result MapTable Status) → Gets said budget made → HasLengthOf said made
-has_length (Ok m) budget (Ok made) h = h.is_built.is_whole.len ∙ ap (λ n. div_ceil (n * n) 8) h.is_built.sectors
+has_length (Ok m) budget (Ok made) h = h.is_built.table_is_whole.len ∙ ap (λ n. div_ceil (n * n) 8) h.is_built.sectors
 has_length (Ok m) budget (Err s) h = tt
 has_length (Err s) budget made h = tt
 

@@ -191,7 +191,7 @@ module _ (large : Bool) (name out cert : List ℕ) (reported : Option (List ℕ)
       let at_cert : others cert ≡ Some spelled = have.at_cert ∙ ap (λ (f : Files). f cert) all ∙ before_report files both reported shows.report cert other_report ∙ under_cert files out cert shows.bytes spelled in
       let there : found_of (source_of large out) name others ≡ Ok (found_then found table) = wad_fetched large (others out) name shows.bytes (found_then found table) at_out again.short again.again in
       let asked : CheckCalls cert others (found_then found table) given = subst (λ (r : Result LocatedMap Status). OnFound r (CheckCalls cert others) given) there q in
-      let len : length table ≡ table_len found.map.sectors = shows.is_built.is_whole.len ∙ ap table_len shows.is_built.sectors in
+      let len : length table ≡ table_len found.map.sectors = shows.is_built.table_is_whole.len ∙ ap table_len shows.is_built.sectors in
       let reads : check_input cert (found_then found table) others ≡ Ok (input_as table c) =
       is_input cert (found_then found table) others table spelled c (right_length found.map.sectors (reject_of (found_then found table)) table again.reject len)
       (cert_fetched (others cert) spelled at_cert (short spelled at_cert)) (spelled_reads found.map c spelled shows.spells) in

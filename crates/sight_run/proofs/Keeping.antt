@@ -67,7 +67,7 @@ build_keeps_lumps words wad name out asked report workers budget files heard ans
           found = found;
           was = e;
           table = q.built.table.bytes;
-          is_right = q.is_built.is_whole.len ∙ ap (λ n. div_ceil (n * n) 8) q.is_built.sectors;
+          is_right = q.is_built.table_is_whole.len ∙ ap (λ n. div_ceil (n * n) 8) q.is_built.sectors;
           bytes = q.bytes;
           stands = ap (λ (a : Answer). put_all files a.writes out) q.is ∙ built_stands files wad.file out q.bytes asked report q.spelled q.report (of_words words (order.Build wad name out asked report workers budget) is_asked);
           again = written_again wad.large name old.bytes q.built.table.bytes q.bytes found old.are other q.made;

@@ -194,7 +194,7 @@ module _ (m : Map) (budget : Ask) (built : GroupBuilt) (is : IsBuiltOf m budget 
 
   right_built : IsRightTable m built.table.bytes (IsListedByGroups m allowed)
   right_built = record {
-    long = is.is_whole.len ∙ ap (λ (n : ℕ). div_ceil (n * n) 8) is.sectors;
+    long = is.table_is_whole.len ∙ ap (λ (n : ℕ). div_ceil (n * n) 8) is.sectors;
     blind = λ a b la lb set. is.sight.blind a b la lb (at_place a b ∙ set);
     seen = λ a b la lb clear none. is.sight.seen a b la lb (λ set. clear (sym (at_place a b) ∙ set)) (λ c. none (in_list a b c)) (λ c. none (listed_back m allowed b a (in_list b a c)));
   }
@@ -204,7 +204,7 @@ module _ (m : Map) (budget : Ask) (built : GroupBuilt) (is : IsBuiltOf m budget 
 
   no_list : (budget ≡ Enough) ⊎ (budget ≡ Full) → built.listed ≡ []
   no_list (inl e) = is.none_listed e
-  no_list (inr e) = is.whole e
+  no_list (inr e) = is.none_listed_in_full e
 
   below_unlisted : (a b : ℕ) → built.listed ≡ [] → a < b → ¬ IsListedByGroups m allowed a b
   below_unlisted a b none lt l = contains_none (record { a = a; b = b }) (subst (λ (ps : List Pair). Contains ps (record { a = a; b = b })) none ((is.decided.listed (record { a = a; b = b })).1 (lt, l)))

@@ -88,7 +88,7 @@ no_limit : (budget : Ask) (found : LocatedMap) (bound : Bound) → HasRoom found
 no_limit budget found bound room h =
     let table : List ℕ = h.built.table.bytes in
     let clear : List ℕ = clear_table found.map.sectors in
-    let len : length clear ≡ length table = length-replicate (table_len found.map.sectors) 0 ∙ sym (h.is_built.is_whole.len ∙ ap (λ (n : ℕ). div_ceil (n * n) 8) h.is_built.sectors) in
+    let len : length clear ≡ length table = length-replicate (table_len found.map.sectors) 0 ∙ sym (h.is_built.table_is_whole.len ∙ ap (λ (n : ℕ). div_ceil (n * n) 8) h.is_built.sectors) in
     let limited = was_limited (printed (with_reject found.wad found.spot table)) (status.Limit bound) h.limit in
     same_limit (with_reject found.wad found.spot clear) (with_reject found.wad found.spot table) room.bytes limited.fault
     (many_same found.wad.lumps found.spot clear table) (body_same found.wad.lumps found.spot clear table len)

@@ -120,7 +120,7 @@ module _ (m : Map) (budget : Ask) (one other : GroupBuilt) (is_one : IsBuiltOf m
   one_bit : (k : ℕ) → table_bit one.table.bytes k ≡ table_bit other.table.bytes k
   one_bit k = elim (below_or_not k (m.sectors * m.sectors)) as (λ _. table_bit one.table.bytes k ≡ table_bit other.table.bytes k) [
     | inl lt ↦ pair_bit k lt
-    | inr past ↦ spare_clear m.sectors one.table is_one.sectors is_one.is_whole k past ∙ sym (spare_clear m.sectors other.table is_other.sectors is_other.is_whole k past)
+    | inr past ↦ spare_clear m.sectors one.table is_one.sectors is_one.table_is_whole k past ∙ sym (spare_clear m.sectors other.table is_other.sectors is_other.table_is_whole k past)
   ]
 
   -- they have one table and one list
@@ -135,7 +135,7 @@ module _ (m : Map) (budget : Ask) (one other : GroupBuilt) (is_one : IsBuiltOf m
       sectors = is_one.sectors ∙ sym is_other.sectors
 
       len : length one.table.bytes ≡ length other.table.bytes
-      len = is_one.is_whole.len ∙ ap (λ (n : ℕ). div_ceil (n * n) 8) sectors ∙ sym is_other.is_whole.len
+      len = is_one.table_is_whole.len ∙ ap (λ (n : ℕ). div_ceil (n * n) 8) sectors ∙ sym is_other.table_is_whole.len
 
       bytes : one.table.bytes ≡ other.table.bytes
       bytes = same_bytes one.table.bytes other.table.bytes len is_one.are_bytes is_other.are_bytes one_bit

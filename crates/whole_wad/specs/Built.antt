@@ -24,7 +24,7 @@ pub record IsBuiltOf (m : Map) (budget : Ask) (built : GroupBuilt) : Type 0 wher
   pub fit : HasClosedFaces m
   pub sectors : built.table.n ≡ m.sectors
   -- the table has as many bytes as its sectors ask, and the bits behind the last pair are clear
-  pub is_whole : IsWhole built.table
+  pub table_is_whole : IsWhole built.table
   pub are_bytes : AreBytes built.table.bytes
   -- the certificate is of version 2, for a map of these sizes, and its groups are those of the map
   pub sizes : IsTwoOf (sizes_of_map m) built.cert
@@ -44,7 +44,7 @@ pub record IsBuiltOf (m : Map) (budget : Ask) (built : GroupBuilt) : Type 0 wher
   pub decided : DecidesByGroups m budget built
   -- with a budget that is enough, and without any, no pair is listed
   pub none_listed : budget ≡ Enough → built.listed ≡ []
-  pub whole : budget ≡ Full → built.listed ≡ []
+  pub none_listed_in_full : budget ≡ Full → built.listed ≡ []
   -- sectors whose bit is set don't see each other; those whose bit is clear do, unless their pair is listed
   pub sight : TellsSectors m built
 

@@ -8,7 +8,7 @@ returns-in-Ok-clause-built g c =
     let e = c.in-Ok.ensures in record {
       fit = e.closed;
       sectors = e.sectors;
-      is_whole = c.is_whole.ensures.whole;
+      table_is_whole = c.is_whole.ensures.whole;
       are_bytes = c.is_whole.ensures.bytes;
       sizes = subst (λ (s : Sizes). IsTwoOf s c.in-Ok.built.cert) c.has_sizes_of_map.ensures e.sizes;
       in_order = e.in_order;
@@ -20,6 +20,6 @@ returns-in-Ok-clause-built g c =
       symmetric = e.symmetric;
       decided = e.by_groups;
       none_listed = e.enough;
-      whole = e.whole;
+      none_listed_in_full = e.whole;
       sight = e.sight;
     }
