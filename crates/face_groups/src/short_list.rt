@@ -1,10 +1,8 @@
 //! Lists that nearly always have one number, and then take no memory of their own.
 
-ghost use Rattle.std.specs.Prelude.{◌≡◌, ◌∷◌, ◌++◌, [], OnOk};
+ghost use Rattle.std.specs.Prelude.{◌≡◌};
 
-use sight_names::Memory;
 use smallvec::SmallVec;
-use std::alloc::Global;
 use std::marker::Model;
 
 /// Numbers of which up to eight stand in the value itself. A value with room for eight is as large as one with room for one, since it
@@ -26,28 +24,11 @@ impl Model for ShortList {
 }
 
 impl ShortList {
-    /// No number yet. It takes no memory.
-    pub fn new(alloc: Global) -> ShortList
-        ensures { result ≡ [] }
-    {
-        ShortList {
-            numbers: SmallVec::new(alloc),
-        }
-    }
-
     /// These numbers.
     pub fn of(numbers: FewNumbers) -> ShortList
         ensures { result ≡ numbers.items }
     {
         ShortList { numbers }
-    }
-
-    /// Puts a number at the end.
-    pub fn push(&mut self, number: u16) -> Result<(), Memory>
-        ensures { OnOk result (self.new ≡ self.old ++ number ∷ []) }
-    {
-        self.numbers.push(number)?;
-        Ok(())
     }
 
     /// The numbers in order.
