@@ -1,5 +1,8 @@
 //! The verbs: what each takes, and what is said of it.
 
+ghost use Rattle.std.specs.Prelude.{◌≡◌};
+ghost use Rattle.doomsight.specs.Options.{takes_no_value};
+
 /// What a word behind a verb has to be.
 #[derive(Clone, Copy)]
 pub enum Place {
@@ -24,7 +27,9 @@ pub enum Choice {
 
 impl Choice {
     /// Whether no value stands behind it.
-    pub fn is_flag(self) -> bool {
+    pub fn is_flag(self) -> bool
+        ensures { result ≡ takes_no_value self }
+    {
         matches!(self, Choice::Hexen | Choice::Large)
     }
 }

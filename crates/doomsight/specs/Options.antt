@@ -1,0 +1,10 @@
+-- The options of a command line.
+use Rattle.std.specs.Prelude.{Bool, true, false}
+use Rattle.doomsight.specs.declared.verbs.Choice.{Choice}
+use Rattle.doomsight.specs.declared.verbs.Choice.TheVariants as choice
+
+-- no value stands behind it
+abbrev pub takes_no_value : Choice → Bool
+takes_no_value choice.Hexen = true
+takes_no_value choice.Large = true
+takes_no_value other = false
