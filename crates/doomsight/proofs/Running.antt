@@ -1,12 +1,36 @@
--- What a run promises of words.
-use Rattle.std.proofs.Common.{◌≡◌, ℕ, List, Option, Some, subst}
+-- What a run promises of words, with the listeners that it had.
+use Rattle.std.proofs.Common.{◌≡◌, ◌∙◌, ℕ, true, List, [], ◌∷◌, Option, Some, Result, Ok, Err, IfOk, map, refl, sym, ap, ap₂, subst}
+use Rattle.listeners.specs.Listening.{ListenerState}
+use Rattle.listeners.specs.Reporters.{lines_state, new_reporters, totals_state}
+use Rattle.order_words.specs.Words.{order_of}
 use Rattle.shelf_io.specs.Shelf.{Files, ShelfState}
 use Rattle.shelf_io.specs.Sink.{SinkState}
 use Rattle.sight_status.specs.declared.status.Status.{Status}
-use Rattle.sight_run.specs.Heard.{Heard, Hears}
+use Rattle.sight_run.specs.Heard.{Heard, Hears, heard_as}
 use Rattle.sight_run.specs.Run.{RunEnds}
 use Rattle.sight_run.specs.Words.{asked_of}
-use Rattle.doomsight.specs.Words.{RunsWords}
+use Rattle.doomsight.specs.Words.{RunsHeard, RunsWords, is_reported, listeners_where}
 
-pub runs : (words : List (List ℕ)) (files : Files) (told : Option Files) (heard : Heard) (before after : ShelfState) (old new : SinkState) (s : Status) → told ≡ Some files → RunEnds words files heard before after old new s → Hears (asked_of words) told heard s → RunsWords words files before after old new s
-runs words files told heard before after old new s e ends hears = record { heard = heard; ends = ends; hears = subst (λ (t : Option Files). Hears (asked_of words) t heard s) e hears }
+pub runs : (words : List (List ℕ)) (files : Files) (told : Option Files) (given left : List ListenerState) (before after : ShelfState) (old new : SinkState) (s : Status) → told ≡ Some files
+    → RunEnds words files (heard_as given left) before after old new s → Hears (asked_of words) told (heard_as given left) s → RunsHeard given words files before after old new s
+runs words files told given left before after old new s e ends hears = record {
+  heard = heard_as given left;
+  given_are = refl;
+  ends = ends;
+  hears = subst (λ (t : Option Files). Hears (asked_of words) t (heard_as given left) s) e hears;
+}
+
+-- the same, of equal listeners
+pub runs_as : (words : List (List ℕ)) (files : Files) (given others : List ListenerState) (before after : ShelfState) (old new : SinkState) (s : Status) → RunsHeard given words files before after old new s → given ≡ others
+    → RunsHeard others words files before after old new s
+runs_as words files given others before after old new s h e = subst (λ (l : List ListenerState). RunsHeard l words files before after old new s) e h
+
+-- the states of the two that are handed in where a report is asked for
+pub both_given : {X : Type 0} (state : X → ListenerState) (list : List X) (a b : X) → list ≡ a ∷ b ∷ [] → state a ≡ lines_state [] → state b ≡ totals_state [] → map state list ≡ new_reporters
+both_given state list a b are is_a is_b = ap (λ (l : List _). map state l) are ∙ ap₂ (λ (s t : ListenerState). s ∷ t ∷ []) is_a is_b
+
+-- those are the ones that the order asks for
+pub runs_reported : {E : Type 0} (words : List (List ℕ)) (files : Files) (before after : ShelfState) (old new : SinkState) (r : Result Status E) → is_reported (order_of words) ≡ true
+    → IfOk r (RunsHeard new_reporters words files before after old new) → IfOk r (RunsWords words files before after old new)
+runs_reported words files before after old new (Ok s) asks h = runs_as words files new_reporters (listeners_where (is_reported (order_of words))) before after old new s h (ap listeners_where (sym asks))
+runs_reported words files before after old new (Err e) asks h = h

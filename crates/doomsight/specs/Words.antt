@@ -1,14 +1,65 @@
--- How the words of a command line end.
-use Rattle.std.specs.Prelude.{ℕ, List, Some}
+-- How the words of a command line end, with the listeners that a report asks for.
+use Rattle.std.specs.Prelude.{◌≡◌, ℕ, Bool, true, false, List, [], ◌++◌, Option, Some, None, Result, Ok, Err, ⊤}
+use Rattle.listeners.specs.declared.finding.Finding.{Finding}
+use Rattle.listeners.specs.Listening.{ListenerState}
+use Rattle.listeners.specs.Reporters.{new_reporters}
+use Rattle.listeners.specs.Texts.{finding_lines, totals_line}
+use Rattle.order_words.specs.declared.order.Order.{Order}
+use Rattle.order_words.specs.declared.order.Order.TheVariants as order
+use Rattle.order_words.specs.declared.order.Source.{Source}
+use Rattle.order_words.specs.Words.{order_of}
 use Rattle.shelf_io.specs.Shelf.{Files, ShelfState}
 use Rattle.shelf_io.specs.Sink.{SinkState}
+use Rattle.sight_names.specs.declared.names.Ask.{Ask}
 use Rattle.sight_status.specs.declared.status.Status.{Status}
-use Rattle.sight_run.specs.Heard.{Heard, Hears}
+use Rattle.sight_status.specs.declared.status.Status.TheVariants as status
+use Rattle.sight_run.specs.Heard.{AreFindingsIn, Heard, Hears}
 use Rattle.sight_run.specs.Run.{RunEnds}
 use Rattle.sight_run.specs.Words.{asked_of}
 
--- all that `run` promises of the words, with some listeners
-pub record RunsWords (words : List (List ℕ)) (files : Files) (before after : ShelfState) (old new : SinkState) (s : Status) : Type 0 where
+-- the order is a build of one map with a report
+abbrev pub is_reported : Option Order → Bool
+is_reported (Some (order.Build wad name out cert (Some report) workers budget)) = true
+is_reported other = false
+
+-- its listeners write the lines and the totals of the report; other orders have none
+abbrev pub listeners_where : Bool → List ListenerState
+listeners_where true = new_reporters
+listeners_where false = []
+
+-- all that `run` promises of the words, with these listeners before it
+pub record RunsHeard (given : List ListenerState) (words : List (List ℕ)) (files : Files) (before after : ShelfState) (old new : SinkState) (s : Status) : Type 0 where
   pub heard : Heard
+  pub given_are : heard.before ≡ given
   pub ends : RunEnds words files heard before after old new s
   pub hears : Hears (asked_of words) (Some files) heard s
+
+-- .. with those that the order asks for
+abbrev pub RunsWords : List (List ℕ) → Files → ShelfState → ShelfState → SinkState → SinkState → Status → Type 0
+RunsWords words files before after old new s = RunsHeard (listeners_where (is_reported (order_of words))) words files before after old new s
+
+-- ---- what a report holds
+
+-- the lines of the findings of the map within the budget that is asked for, and their totals
+pub record IsReportOf (files : Files) (wad : Source) (name : List ℕ) (budget : Ask) (report : List ℕ) : Type 0 where
+  pub findings : List Finding
+  pub are : AreFindingsIn (Some files) wad name budget findings
+  pub is : report ≡ finding_lines findings ++ totals_line findings
+
+-- the file of this name is such a report
+pub record HoldsReport (files : Files) (after : Option Files) (wad : Source) (name report : List ℕ) (budget : Ask) : Type 0 where
+  pub others : Files
+  pub told : after ≡ Some others
+  pub bytes : List ℕ
+  pub stands : others report ≡ Some bytes
+  pub is : IsReportOf files wad name budget bytes
+
+-- where the order is a build of one map with a report, this stands in the report's file
+abbrev pub LeavesReport : Result Order Status → Files → Option Files → Type 0
+LeavesReport (Ok (order.Build wad name out cert (Some report) workers budget)) files after = HoldsReport files after wad name report budget
+LeavesReport asked files after = ⊤
+
+-- .. where it is done
+abbrev pub Reports : List (List ℕ) → Files → Option Files → Status → Type 0
+Reports words files after status.Done = LeavesReport (asked_of words) files after
+Reports words files after other = ⊤

@@ -1,39 +1,55 @@
 //! A run of words, with the listeners that its report asks for.
 
-ghost use Rattle.std.specs.Prelude.{◌≡◌, IfOk, OnErr, Some, map, string_bytes};
+ghost use Rattle.std.specs.Prelude.{◌≡◌, [], IfOk, OnErr, Some, map, string_bytes};
+ghost use Rattle.listeners.specs.Reporters.{lines_state, new_reporters, totals_state};
+ghost use Rattle.order_words.specs.Words.{order_of};
 ghost use Rattle.shelf_io.specs.Shelf.{Files};
 ghost use Rattle.sight_run.specs.Run.{StatusCause};
-ghost use Rattle.doomsight.specs.Words.{RunsWords};
+ghost use Rattle.doomsight.specs.Words.{Reports, RunsHeard, RunsWords, is_reported};
 
 use listeners::{Lines, Listener, Totals};
+use order_words::{Order, read_words};
 use shelf_io::{Shelf, Sink};
+use sight_names::OrderFault;
 use sight_run::{Notice, Status, run};
 use sight_workers::OpenGate;
 use std::alloc::{AllocError, Global};
 use std::thread::Threads;
 
-/// Does what the words ask. Where they ask for no report nobody would read what listeners hear, so there are none then.
-pub fn run_words<R: Threads + Sync, S: Shelf, O: Sink, N: Notice>(
+/// Whether the words ask for a build of one map with a report.
+fn asks_for_report(alloc: Global, words: &[String]) -> Result<bool, AllocError>
+    ensures { IfOk result (λ asks. asks ≡ is_reported (order_of (map string_bytes words.now))) }
+{
+    match read_words(alloc, words) {
+        Ok(Order::Build { report, .. }) => Ok(report.is_some()),
+        Ok(_) => Ok(false),
+        Err(OrderFault::Usage) => Ok(false),
+        Err(OrderFault::Memory) => Err(AllocError),
+    }
+}
+
+/// Does what the words ask, and tells a build to these two.
+fn run_told<R: Threads + Sync, S: Shelf, O: Sink, N: Notice>(
     rt: &R,
     alloc: Global,
     words: &[String],
     shelf: &mut S,
     out: &mut O,
     notice: &N,
+    lines: Box<dyn Listener>,
+    totals: Box<dyn Listener>,
 ) -> Result<Status, AllocError>
-    // What `run` promises, where the files are told.
+    requires lines_new { listener_state lines ≡ lines_state [] }
+    requires totals_new { listener_state totals ≡ totals_state [] }
     ensures ends { (files : Files) → (S.state shelf.old).files ≡ Some files →
-        IfOk result (RunsWords (map string_bytes words.now) files (S.state shelf.old) (S.state shelf.new) (O.state out.old) (O.state out.new)) }
+        IfOk result (RunsHeard new_reporters (map string_bytes words.now) files (S.state shelf.old) (S.state shelf.new) (O.state out.old) (O.state out.new)) }
     ensures cause { IfOk result (StatusCause (S.state shelf.old) (S.state shelf.new) (O.state out.old) (O.state out.new)) }
-    // Where there is no memory for the listeners, nothing is done.
     ensures shelf { OnErr result (S.state shelf.new ≡ S.state shelf.old) }
     ensures sink { OnErr result (O.state out.new ≡ O.state out.old) }
 {
     let mut listeners: Vec<Box<dyn Listener>> = Vec::new(alloc);
-    if words.iter().any(|word| word.starts_with("--report")) {
-        listeners.push(Box::new(alloc, Lines::new(alloc))?)?;
-        listeners.push(Box::new(alloc, Totals::new(alloc))?)?;
-    }
+    listeners.push(lines)?;
+    listeners.push(totals)?;
     Ok(run(
         rt,
         alloc,
@@ -44,4 +60,34 @@ pub fn run_words<R: Threads + Sync, S: Shelf, O: Sink, N: Notice>(
         &OpenGate,
         notice,
     ))
+}
+
+/// Does what the words ask. A build of one map with a report is told to the lines and the totals of that report; with no
+/// report nobody would read what listeners hear, so there are none then.
+pub fn run_words<R: Threads + Sync, S: Shelf, O: Sink, N: Notice>(
+    rt: &R,
+    alloc: Global,
+    words: &[String],
+    shelf: &mut S,
+    out: &mut O,
+    notice: &N,
+) -> Result<Status, AllocError>
+    // What `run` promises, where the files are told, with the listeners that the order asks for.
+    ensures ends { (files : Files) → (S.state shelf.old).files ≡ Some files →
+        IfOk result (RunsWords (map string_bytes words.now) files (S.state shelf.old) (S.state shelf.new) (O.state out.old) (O.state out.new)) }
+    // What a report holds, where its build is done: a line for each set and listed pair, and the totals.
+    ensures report { (files : Files) → (S.state shelf.old).files ≡ Some files →
+        IfOk result (Reports (map string_bytes words.now) files (S.state shelf.new).files) }
+    ensures cause { IfOk result (StatusCause (S.state shelf.old) (S.state shelf.new) (O.state out.old) (O.state out.new)) }
+    // Where there is no memory for the listeners, nothing is done.
+    ensures shelf { OnErr result (S.state shelf.new ≡ S.state shelf.old) }
+    ensures sink { OnErr result (O.state out.new ≡ O.state out.old) }
+{
+    if !asks_for_report(alloc, words)? {
+        let mut none: Vec<Box<dyn Listener>> = Vec::new(alloc);
+        return Ok(run(rt, alloc, words, shelf, out, &mut none, &OpenGate, notice));
+    }
+    let lines: Box<dyn Listener> = Box::new(alloc, Lines::new(alloc))?;
+    let totals: Box<dyn Listener> = Box::new(alloc, Totals::new(alloc))?;
+    run_told(rt, alloc, words, shelf, out, notice, lines, totals)
 }

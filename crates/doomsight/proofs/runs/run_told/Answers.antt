@@ -1,0 +1,9 @@
+use Rattle.std.proofs.Common.{rules, map, string_bytes}
+use Rattle.doomsight.proofs.Running.{both_given, runs, runs_as}
+use Rattle.doomsight.proofs.runs.run_told.Goals as goal
+
+pub returns-clause-ends : goal.returns-clause-ends
+returns-clause-ends g c = λ files e.
+    runs_as (map string_bytes c.args.words.now) files _ _ _ _ _ _ _
+    (runs (map string_bytes c.args.words.now) files _ _ _ _ _ _ _ c.run.result e (c.run.ensures.ends files e) c.run.ensures.listeners)
+    (both_given _ _ c.args.lines c.args.totals (search rules) c.requires.lines_new c.requires.totals_new)
