@@ -7,12 +7,28 @@ use Rattle.sight_names.specs.Map.{Map, MapLine, map_of, looked_up, sector_on}
 use Rattle.sight_names.specs.Found.{AreNeighbours, IsChain, AreConnected}
 use Rattle.sight_names.proofs.PlanMap.{line_of_plan}
 use Rattle.mesh_shape.proofs.RuleLemmas.{plan_line_at}
-use Rattle.tri_sectors.specs.Classes.{AreLeast, AreSingles, class_of}
+use Rattle.tri_sectors.specs.Classes.{AreLeast, AreMerged, AreSingles, class_of}
 use Rattle.tri_sectors.specs.Components.{AreComponents, IsDoor, Connects}
+use Rattle.tri_sectors.specs.Forest.{IsForest, classes_in}
+use Rattle.tri_sectors.proofs.Forests.{classes_many, forest_named, singles_alone, singles_forest}
 use Rattle.list_base.proofs.Numbers.{below_or_last}
+use Rattle.list_base.proofs.Options.{one_value}
 use Rattle.sight_names.proofs.Records.{none_is_no_line}
 
 -- ---- one line
+
+-- nothing is put together at a line that is no door
+pub no_door_connects : (l : Line) (cs : List ℕ) → AreLeast cs → ((a b : ℕ) → IsDoor l a b → ⊥) → Connects l cs cs
+no_door_connects l cs named none = record { len = refl; named = named; keeps = λ k j hk hj e. e; joins = λ a b d. absurd (none a b d); only = λ k j hk hj e. inl e }
+
+pub door_connects : (l : Line) (a b : ℕ) (old new : List ℕ) → IsDoor l a b → a < length old → b < length old → AreMerged a b old new → Connects l old new
+door_connects l a b old new door ha hb m = record {
+  len = m.len;
+  named = m.named;
+  keeps = λ k j hk hj e. (m.exactly k j hk hj).1 (inl e);
+  joins = λ x y d. ap (class_of new) (one_value l.right x a d.right door.right) ∙ (m.exactly a b ha hb).1 (inr (inl (refl, refl))) ∙ ap (class_of new) (one_value l.left b y door.left d.left);
+  only = λ k j hk hj e. inr (a, b, door, (m.exactly k j hk hj).0 e);
+}
 
 -- ---- chains
 
@@ -32,7 +48,7 @@ door_leads p i l a b e d = (i, looked_up p.points l, false, plan_line_at p i l e
 door_leads_back : (p : PlanParts) (i : ℕ) (l : Line) (a b : ℕ) → slice_get p.lines i ≡ Some (Some l) → IsDoor l a b → AreNeighbours (map_of p) b a
 door_leads_back p i l a b e d = (i, looked_up p.points l, true, plan_line_at p i l e, d.passable, d.left, d.right)
 
-some_below : (o : Option ℕ) (a n : ℕ) → IfSome o (λ x. x < n) → o ≡ Some a → a < n
+pub some_below : (o : Option ℕ) (a n : ℕ) → IfSome o (λ x. x < n) → o ≡ Some a → a < n
 some_below o a n h e = subst (λ (x : Option ℕ). IfSome x (λ y. y < n)) e h
 
 door_below : (p : PlanParts) → IsPlan p → (i : ℕ) (l : Line) (a b : ℕ) → slice_get p.lines i ≡ Some (Some l) → IsDoor l a b → (a < p.sectors) × (b < p.sectors)
@@ -54,7 +70,7 @@ pub record IsPassed (p : PlanParts) (n : ℕ) (cs : List ℕ) : Type 0 where
   pub joined : AreJoined p n cs
   pub only : OnlyConnected p cs
 
-pub begun : (p : PlanParts) (cs : List ℕ) → AreSingles p.sectors cs → AreLeast cs → IsPassed p 0 cs
+begun : (p : PlanParts) (cs : List ℕ) → AreSingles p.sectors cs → AreLeast cs → IsPassed p 0 cs
 begun p cs s named = record {
   len = s.len;
   named = named;
@@ -87,7 +103,7 @@ only_more p is n line old new at len h c k j hk hj e = elim (c.only k j (omega (
   ]
 ]
 
-pub line_passed : (p : PlanParts) → IsPlan p → (n : ℕ) (line : Line) (old seen new : List ℕ) → slice_get p.lines n ≡ Some (Some line) → seen ≡ old → Connects line seen new → IsPassed p n old → IsPassed p (n + 1) new
+line_passed : (p : PlanParts) → IsPlan p → (n : ℕ) (line : Line) (old seen new : List ℕ) → slice_get p.lines n ≡ Some (Some line) → seen ≡ old → Connects line seen new → IsPassed p n old → IsPassed p (n + 1) new
 line_passed p is n line old seen new at e c h =
     let con : Connects line old new = subst (λ (xs : List ℕ). Connects line xs new) e c in record {
       len = con.len ∙ h.len;
@@ -96,8 +112,25 @@ line_passed p is n line old seen new at e c h =
       only = only_more p is n line old new at h.len h.only con;
     }
 
-pub none_passed : (p : PlanParts) (n : ℕ) (cs : List ℕ) → slice_get p.lines n ≡ Some None → IsPassed p n cs → IsPassed p (n + 1) cs
+none_passed : (p : PlanParts) (n : ℕ) (cs : List ℕ) → slice_get p.lines n ≡ Some None → IsPassed p n cs → IsPassed p (n + 1) cs
 none_passed p n cs at h = record { len = h.len; named = h.named; joined = joined_past p n cs at h.joined; only = h.only }
+
+-- the same of the classes of a forest
+pub record ArePassed (p : PlanParts) (n : ℕ) (ps : List ℕ) : Type 0 where
+  pub forest : IsForest ps
+  pub passed : IsPassed p n (classes_in ps)
+
+pub forest_begun : (p : PlanParts) (ps : List ℕ) → AreSingles p.sectors ps → ArePassed p 0 ps
+forest_begun p ps s = let is = singles_forest p.sectors ps s in record { forest = is; passed = begun p (classes_in ps) (singles_alone p.sectors ps s) (forest_named ps is) }
+
+pub forest_line_passed : (p : PlanParts) → IsPlan p → (n : ℕ) (line : Line) (old seen new : List ℕ) → slice_get p.lines n ≡ Some (Some line) → seen ≡ old → IsForest new → Connects line (classes_in seen) (classes_in new) → ArePassed p n old → ArePassed p (n + 1) new
+forest_line_passed p is n line old seen new at e forest c h = record { forest = forest; passed = line_passed p is n line (classes_in old) (classes_in seen) (classes_in new) at (ap classes_in e) c h.passed }
+
+pub forest_none_passed : (p : PlanParts) (n : ℕ) (ps : List ℕ) → slice_get p.lines n ≡ Some None → ArePassed p n ps → ArePassed p (n + 1) ps
+forest_none_passed p n ps at h = record { forest = h.forest; passed = none_passed p n (classes_in ps) at h.passed }
+
+pub forest_many : (p : PlanParts) (n : ℕ) (ps : List ℕ) → ArePassed p n ps → length ps ≡ p.sectors
+forest_many p n ps h = sym (classes_many ps) ∙ h.passed.len
 
 pub sector_below : (p : PlanParts) → IsPlan p → (n : ℕ) (line : Line) (cs seen : List ℕ) → slice_get p.lines n ≡ Some (Some line) → seen ≡ cs → length cs ≡ p.sectors → IfSome line.right (λ a. a < length seen) × IfSome line.left (λ a. a < length seen)
 sector_below p is n line cs seen at e len = let w = is.each n line at in let f : p.sectors ≡ length seen = sym len ∙ ap length (sym e) in

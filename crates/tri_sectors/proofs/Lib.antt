@@ -1,5 +1,7 @@
 pub mod ComponentLemmas
 pub mod FaceLemmas
+pub mod Forests
+pub mod ClassLemmas
 pub mod LabelVerdict
 pub mod PlainFaces
 pub mod SideLemmas

@@ -1,4 +1,5 @@
 pub mod Classes
+pub mod Forest
 pub mod Components
 pub mod Faces
 pub mod Labels

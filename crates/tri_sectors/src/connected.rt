@@ -2,10 +2,10 @@
 
 ghost use Rattle.std.specs.Prelude.{◌≡◌, ◌<◌, IfOk, IfSome, length};
 ghost use Rattle.sight_names.specs.Map.{map_of};
-ghost use Rattle.tri_sectors.specs.Classes.{AreLeast};
 ghost use Rattle.tri_sectors.specs.Components.{AreComponents, Connects};
+ghost use Rattle.tri_sectors.specs.Forest.{classes_in, IsForest};
 
-use crate::classes::{merge, singles};
+use crate::classes::{merge, name_all, singles};
 use sight_names::{Line, Memory, Plan};
 use std::alloc::Global;
 
@@ -14,21 +14,24 @@ pub fn components(alloc: Global, plan: &Plan) -> Result<Vec<u16>, Memory>
     ensures len { IfOk result (λ v. length v.items ≡ plan.now.sectors) }
     ensures components { IfOk result (λ v. AreComponents (map_of plan.now) v.items) }
 {
-    let mut classes = singles(alloc, plan.sectors)?;
+    let mut parents = singles(alloc, plan.sectors)?;
     for line in plan.lines() {
         if let Some(line) = line {
-            connect(&mut classes, *line);
+            connect(&mut parents, *line);
         }
     }
-    Ok(classes)
+    name_all(&mut parents);
+    Ok(parents)
 }
 
 /// Puts the sectors of a passable line's two sides together.
-fn connect(classes: &mut [u16], line: Line)
-    requires named { AreLeast classes.old }
-    requires right { IfSome line.right (λ a. a < length classes.old) }
-    requires left { IfSome line.left (λ a. a < length classes.old) }
-    ensures { Connects line classes.old classes.new }
+fn connect(parents: &mut [u16], line: Line)
+    requires forest { IsForest parents.old }
+    requires right { IfSome line.right (λ a. a < length parents.old) }
+    requires left { IfSome line.left (λ a. a < length parents.old) }
+    ensures len { length parents.new ≡ length parents.old }
+    ensures forest { IsForest parents.new }
+    ensures connected { Connects line (classes_in parents.old) (classes_in parents.new) }
 {
     if line.solid {
         return;
@@ -39,5 +42,5 @@ fn connect(classes: &mut [u16], line: Line)
     let Some(left) = line.left else {
         return;
     };
-    merge(classes, right, left);
+    merge(parents, right, left);
 }

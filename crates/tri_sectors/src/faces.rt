@@ -3,10 +3,11 @@
 ghost use Rattle.std.specs.Prelude.{◌≡◌, ◌<◌, ◌↔◌, ℕ, false, IfOk, All, None, IsTrue, IsFalse, length, slice_index_or};
 ghost use Rattle.sight_names.specs.Map.{map_of};
 ghost use Rattle.sight_names.specs.Mesh.{triangle_at};
-ghost use Rattle.tri_sectors.specs.Classes.{AreLeast, AreSingles, IsBelow};
+ghost use Rattle.tri_sectors.specs.Classes.{AreSingles, IsBelow};
 ghost use Rattle.tri_sectors.specs.Faces.{AreMarked, AreWalls, IsPut, IsMarkedMore, AreFaces, AreCrossed, IsCrossed, AreOpen, HasGapHere};
+ghost use Rattle.tri_sectors.specs.Forest.{classes_in, IsForest};
 
-use crate::classes::{merge, singles};
+use crate::classes::{merge, name_all, singles};
 use mesh_shape::Mesh;
 use sight_names::{Memory, Plan, Triangle};
 use std::alloc::Global;
@@ -82,7 +83,7 @@ pub fn faces_of(alloc: Global, mesh: &Mesh, walls: &[Walls]) -> Result<Vec<u16>,
     Ok(faces)
 }
 
-/// Puts all triangles together with their neighbours across edges that are no lines.
+/// Puts all triangles together with their neighbours across edges that are no lines, and names the faces.
 fn link_all(mesh: &Mesh, walls: &[Walls], faces: &mut [u16])
     requires walls { length walls.now ≡ length mesh.now.triangles }
     requires alone { AreSingles (length mesh.now.triangles) faces.old }
@@ -91,35 +92,37 @@ fn link_all(mesh: &Mesh, walls: &[Walls], faces: &mut [u16])
     for (k, t) in mesh.triangles().iter().enumerate() {
         link(mesh, faces, walls[k], k as u16, *t);
     }
+    name_all(faces);
 }
 
 /// Puts the triangle together with its neighbours across edges that are no lines.
-fn link(mesh: &Mesh, faces: &mut [u16], walls: Walls, k: u16, t: Triangle)
-    requires len { length faces.old ≡ length mesh.now.triangles }
-    requires at { k < length faces.old }
-    requires named { AreLeast faces.old }
-    ensures named { AreLeast faces.new }
-    ensures crossed { AreCrossed mesh.now.triangles walls k t faces.old faces.new }
+fn link(mesh: &Mesh, parents: &mut [u16], walls: Walls, k: u16, t: Triangle)
+    requires len { length parents.old ≡ length mesh.now.triangles }
+    requires at { k < length parents.old }
+    requires forest { IsForest parents.old }
+    ensures len { length parents.new ≡ length parents.old }
+    ensures forest { IsForest parents.new }
+    ensures crossed { AreCrossed mesh.now.triangles walls k t (classes_in parents.old) (classes_in parents.new) }
 {
-    link_across(mesh, faces, walls.pq, k, t.p, t.q);
-    link_across(mesh, faces, walls.qr, k, t.q, t.r);
-    link_across(mesh, faces, walls.rp, k, t.r, t.p);
+    link_across(mesh, parents, walls.pq, k, t.p, t.q);
+    link_across(mesh, parents, walls.qr, k, t.q, t.r);
+    link_across(mesh, parents, walls.rp, k, t.r, t.p);
 }
 
 /// Puts the triangle together with the one that has the reverse of this edge, if the edge isn't a line.
-fn link_across(mesh: &Mesh, faces: &mut [u16], is_line: bool, k: u16, u: u16, v: u16)
-    requires len { length faces.old ≡ length mesh.now.triangles }
-    requires at { k < length faces.old }
-    requires named { AreLeast faces.old }
-    ensures len { length faces.new ≡ length faces.old }
-    ensures named { AreLeast faces.new }
-    ensures crossed { IsCrossed mesh.now.triangles is_line k (record { from = u; to = v }) faces.old faces.new }
+fn link_across(mesh: &Mesh, parents: &mut [u16], is_line: bool, k: u16, u: u16, v: u16)
+    requires len { length parents.old ≡ length mesh.now.triangles }
+    requires at { k < length parents.old }
+    requires forest { IsForest parents.old }
+    ensures len { length parents.new ≡ length parents.old }
+    ensures forest { IsForest parents.new }
+    ensures crossed { IsCrossed mesh.now.triangles is_line k (record { from = u; to = v }) (classes_in parents.old) (classes_in parents.new) }
 {
     if is_line {
         return;
     }
     if let Some(j) = mesh.triangle_at(v, u) {
-        merge(faces, k, j);
+        merge(parents, k, j);
     }
 }
 

@@ -3,31 +3,43 @@ use Rattle.sight_names.specs.declared.plan.Line.{Line}
 use Rattle.std.proofs.lemmas.List.{with_items_is}
 use Rattle.sight_names.specs.Plan.{PlanParts}
 use Rattle.tri_sectors.specs.Classes.{AreSingles}
-use Rattle.tri_sectors.proofs.ComponentLemmas.{IsPassed, begun, line_passed, none_passed, sector_below, components_of}
+use Rattle.tri_sectors.specs.Forest.{IsForest, classes_in}
+use Rattle.tri_sectors.proofs.Forests.{classes_many}
+use Rattle.tri_sectors.specs.Components.{AreComponents}
+use Rattle.sight_names.specs.Map.{map_of}
+use Rattle.tri_sectors.proofs.ComponentLemmas.{ArePassed, forest_begun, forest_line_passed, forest_none_passed, forest_many, sector_below, components_of}
 use Rattle.tri_sectors.proofs.connected.components.Goals as goal
 use Rattle.tri_sectors.proofs.connected.components.Goals.{in-Some, in_default}
 use Rattle.list_base.proofs.Lists.{item_there}
 
 pub loop-line-init : goal.loop-line-init
-loop-line-init c = begun c.args.plan.now _ (subst (λ (p : PlanParts). AreSingles p.sectors c.in_ok-classes.classes.items) c.plan.view_is c.in_ok-classes.ensures.singles) c.in_ok-classes.ensures.named
+loop-line-init c = forest_begun c.args.plan.now _ (subst (λ (p : PlanParts). AreSingles p.sectors c.in_ok-parents.parents.items) c.plan.view_is c.in_ok-parents.ensures.singles)
+
+pub connect-requires-clause-forest : goal.connect-requires-clause-forest
+connect-requires-clause-forest c = subst IsForest (sym c.deref_mut.ensures.value) c.loop-line.invariant.forest
 
 pub connect-requires-clause-right : goal.connect-requires-clause-right
 connect-requires-clause-right c = let there = item_there c.lines-line-items.result.now c.args.plan.now.lines c.loop-line.line-index None c.lines-line-items.ensures.list c.loop-line-test.true ∙ ap (λ (o : Option Line). Some o) c.in-Some.is in
-    (sector_below c.args.plan.now c.lines-line-items.ensures.plan c.loop-line.line-index c.in-Some.line c.loop-line.classes.items _ there c.deref_mut.ensures.value c.loop-line.invariant.len).0
+    (sector_below c.args.plan.now c.lines-line-items.ensures.plan c.loop-line.line-index c.in-Some.line c.loop-line.parents.items _ there c.deref_mut.ensures.value (forest_many c.args.plan.now c.loop-line.line-index c.loop-line.parents.items c.loop-line.invariant)).0
 
 pub connect-requires-clause-left : goal.connect-requires-clause-left
 connect-requires-clause-left c = let there = item_there c.lines-line-items.result.now c.args.plan.now.lines c.loop-line.line-index None c.lines-line-items.ensures.list c.loop-line-test.true ∙ ap (λ (o : Option Line). Some o) c.in-Some.is in
-    (sector_below c.args.plan.now c.lines-line-items.ensures.plan c.loop-line.line-index c.in-Some.line c.loop-line.classes.items _ there c.deref_mut.ensures.value c.loop-line.invariant.len).1
+    (sector_below c.args.plan.now c.lines-line-items.ensures.plan c.loop-line.line-index c.in-Some.line c.loop-line.parents.items _ there c.deref_mut.ensures.value (forest_many c.args.plan.now c.loop-line.line-index c.loop-line.parents.items c.loop-line.invariant)).1
 
 pub loop-line-preserved : goal.loop-line-preserved
 loop-line-preserved c =
     let item = item_there c.lines-line-items.result.now c.args.plan.now.lines c.loop-line.line-index None c.lines-line-items.ensures.list c.loop-line-test.true in
     elim c.match-line.branch [
-      | in-Some w ↦ subst (λ (xs : List ℕ). IsPassed c.args.plan.now (c.loop-line.line-index + 1) xs) (sym (ap (λ (v : Vec ℕ Global). v.items) w.classes-is ∙ with_items_is c.loop-line.classes w.connect.new.classes (w.connect.ensures.len ∙ w.deref_mut.ensures.len)))
-          (line_passed c.args.plan.now c.lines-line-items.ensures.plan c.loop-line.line-index w.in-Some.line c.loop-line.classes.items w.deref_mut.result.now w.connect.new.classes (item ∙ ap (λ (o : Option Line). Some o) w.in-Some.is) w.deref_mut.ensures.value w.connect.ensures c.loop-line.invariant)
-      | in_default w ↦ subst (λ (v : Vec ℕ Global). IsPassed c.args.plan.now (c.loop-line.line-index + 1) v.items) (sym w.classes-is)
-          (none_passed c.args.plan.now c.loop-line.line-index c.loop-line.classes.items (item ∙ ap (λ (o : Option Line). Some o) w.in_default.is) c.loop-line.invariant)
+      | in-Some w ↦ subst (λ (xs : List ℕ). ArePassed c.args.plan.now (c.loop-line.line-index + 1) xs) (sym (ap (λ (v : Vec ℕ Global). v.items) w.parents-is ∙ with_items_is c.loop-line.parents w.connect.new.parents (w.connect.ensures.len ∙ w.deref_mut.ensures.len)))
+          (forest_line_passed c.args.plan.now c.lines-line-items.ensures.plan c.loop-line.line-index w.in-Some.line c.loop-line.parents.items w.deref_mut.result.now w.connect.new.parents (item ∙ ap (λ (o : Option Line). Some o) w.in-Some.is) w.deref_mut.ensures.value w.connect.ensures.forest w.connect.ensures.connected c.loop-line.invariant)
+      | in_default w ↦ subst (λ (v : Vec ℕ Global). ArePassed c.args.plan.now (c.loop-line.line-index + 1) v.items) (sym w.parents-is)
+          (forest_none_passed c.args.plan.now c.loop-line.line-index c.loop-line.parents.items (item ∙ ap (λ (o : Option Line). Some o) w.in_default.is) c.loop-line.invariant)
     ]
 
 pub returns-clause-components : goal.returns-clause-components
-returns-clause-components c = components_of c.args.plan.now c.lines-line-items.ensures.plan c.loop-line.line-index _ (let e = ap length c.lines-line-items.ensures.list in let f = c.loop-line-test.false in omega (arith, e, f)) c.loop-line.invariant
+returns-clause-components c =
+    let named = c.name_all.ensures in
+    let many = ap length named ∙ classes_many c.deref_mut-2.result.now in
+    subst (AreComponents (map_of c.args.plan.now))
+    (sym (with_items_is c.loop-line.parents c.name_all.new.parents (many ∙ c.deref_mut-2.ensures.len) ∙ named ∙ ap classes_in c.deref_mut-2.ensures.value))
+    (components_of c.args.plan.now c.lines-line-items.ensures.plan c.loop-line.line-index _ (let e = ap length c.lines-line-items.ensures.list in let f = c.loop-line-test.false in omega (arith, e, f)) c.loop-line.invariant.passed)
