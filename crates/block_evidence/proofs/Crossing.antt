@@ -61,6 +61,11 @@ mean_of_three p q r l m n s x y h i j = record {
     last : (a b c x : ℤ) → a +ℤ b +ℤ c ≡ x → a +ℤ (b +ℤ (c +ℤ pos 0)) ≡ x
     last a b c x h = omega (arith, ints)
 
+-- the same three points, from the second one on
+turned_on : (p q r : Pt) → turn_of p q r ≡ turn_of q r p
+unfolding turn_of
+turned_on p q r = ring_at (p.x ∷ p.y ∷ q.x ∷ q.y ∷ r.x ∷ r.y ∷ []) (search quoting depth 60 fits 200000) tt
+
 -- ---- two segments
 two_meet : (p q r s : Pt) (m n u v : ℕ) → pos 0 <ℤ (pos m +ℤ pos n) → pos m +ℤ pos n ≡ pos u +ℤ pos v → pos m *ℤ p.x +ℤ pos n *ℤ q.x ≡ pos u *ℤ r.x +ℤ pos v *ℤ s.x → pos m *ℤ p.y +ℤ pos n *ℤ q.y ≡ pos u *ℤ r.y +ℤ pos v *ℤ s.y → HullsMeet (p ∷ q ∷ []) (r ∷ s ∷ [])
 two_meet p q r s m n u v h e i j = means_meet (p ∷ q ∷ []) (r ∷ s ∷ []) (m + n) (pos m *ℤ p.x +ℤ pos n *ℤ q.x) (pos m *ℤ p.y +ℤ pos n *ℤ q.y) (some_of_sum m n h)
@@ -137,6 +142,39 @@ crosses_down p q r s h i j = crossing_meets p q r s (neg_ℤ (turn_of r s q)) (t
     same : (a b c d : ℤ) → b -ℤ a ≡ c -ℤ d → neg_ℤ b +ℤ a ≡ d +ℤ neg_ℤ c
     same a b c d h = omega (arith, ints)
 
+between_at : (a b u v : ℤ) → a ≡ u → b ≡ v → IsBetween a b → IsBetween u v
+between_at a b u v e f h = record { low = omega (arith, ints); high = omega (arith, ints) }
+
+-- ---- two segments, by turns that begin at p
+fourth : (p q r s : Pt) → turn_of p r s +ℤ (turn_of p q r -ℤ turn_of p q s) ≡ turn_of r s q
+fourth p q r s = by (turn_of p q r) (turn_of p q s) (turn_of p r s) (turn_of r s p) (turn_of r s q) (turned_on p r s) (four_turns p q r s)
+  where
+    by : (k l m n o : ℤ) → m ≡ n → o -ℤ n ≡ k -ℤ l → m +ℤ (k -ℤ l) ≡ o
+    by k l m n o f e = omega (arith, ints)
+
+-- values in place of turns
+same_between : (a b c d k l m o : ℤ) → a ≡ k → b ≡ l → c ≡ m → d ≡ c +ℤ (a -ℤ b) → m +ℤ (k -ℤ l) ≡ o → IsBetween c d → IsBetween m o
+same_between a b c d k l m o e f g h i j = record { low = omega (arith, ints); high = omega (arith, ints) }
+
+same_back : (a b c d k l m o : ℤ) → a ≡ k → b ≡ l → c ≡ m → d ≡ c +ℤ (a -ℤ b) → m +ℤ (k -ℤ l) ≡ o → IsBetween d c → IsBetween o m
+same_back a b c d k l m o e f g h i j = record { low = omega (arith, ints); high = omega (arith, ints) }
+
+pub crosses_up_by : (p q r s : Pt) (a b c d u : ℤ) → a ≡ turn_of p q r → b ≡ turn_of p q s → c ≡ turn_of p r s → d ≡ u → u ≡ c +ℤ (a -ℤ b) → turn_of p q s <ℤ turn_of p q r → IsBetween b a → IsBetween c d → HullsMeet (p ∷ q ∷ []) (r ∷ s ∷ [])
+crosses_up_by p q r s a b c d u e f g h v l i j = crosses_up p q r s (less (turn_of p q r) (turn_of p q s) (turn_of r s p) (turn_of r s q) (four_turns p q r s) l)
+    (subst (λ (t : ℤ). IsBetween t (turn_of r s q)) (turned_on p r s) (same_between a b c d (turn_of p q r) (turn_of p q s) (turn_of p r s) (turn_of r s q) e f g (h ∙ v) (fourth p q r s) j))
+    (between_at b a (turn_of p q s) (turn_of p q r) f e i)
+  where
+    less : (k l m n : ℤ) → n -ℤ m ≡ k -ℤ l → l <ℤ k → m <ℤ n
+    less k l m n e h = omega (arith, ints)
+
+pub crosses_down_by : (p q r s : Pt) (a b c d u : ℤ) → a ≡ turn_of p q r → b ≡ turn_of p q s → c ≡ turn_of p r s → d ≡ u → u ≡ c +ℤ (a -ℤ b) → turn_of p q r <ℤ turn_of p q s → IsBetween a b → IsBetween d c → HullsMeet (p ∷ q ∷ []) (r ∷ s ∷ [])
+crosses_down_by p q r s a b c d u e f g h v l i j = crosses_down p q r s (less (turn_of p q r) (turn_of p q s) (turn_of r s p) (turn_of r s q) (four_turns p q r s) l)
+    (subst (λ (t : ℤ). IsBetween (turn_of r s q) t) (turned_on p r s) (same_back a b c d (turn_of p q r) (turn_of p q s) (turn_of p r s) (turn_of r s q) e f g (h ∙ v) (fourth p q r s) j))
+    (between_at a b (turn_of p q r) (turn_of p q s) e f i)
+  where
+    less : (k l m n : ℤ) → n -ℤ m ≡ k -ℤ l → k <ℤ l → n <ℤ m
+    less k l m n e h = omega (arith, ints)
+
 -- ---- a point and a triangle
 three_meet : (p a b c : Pt) (l m n : ℕ) → pos 0 <ℤ (pos l +ℤ pos m +ℤ pos n) → (pos l +ℤ pos m +ℤ pos n) *ℤ p.x ≡ pos l *ℤ a.x +ℤ pos m *ℤ b.x +ℤ pos n *ℤ c.x → (pos l +ℤ pos m +ℤ pos n) *ℤ p.y ≡ pos l *ℤ a.y +ℤ pos m *ℤ b.y +ℤ pos n *ℤ c.y → HullsMeet (p ∷ []) (a ∷ b ∷ c ∷ [])
 three_meet p a b c l m n h i j = means_meet (p ∷ []) (a ∷ b ∷ c ∷ []) (l + m + n) (pos (l + m + n) *ℤ p.x) (pos (l + m + n) *ℤ p.y) (above l m n h)
@@ -176,7 +214,7 @@ covered_left p a b c h = covering_meets p a b c (turn_of b c p) (turn_of c a p) 
   y = ring_at (a.x ∷ a.y ∷ b.x ∷ b.y ∷ c.x ∷ c.y ∷ p.x ∷ p.y ∷ []) (search quoting depth 60 fits 200000) tt;
 })
 
-pub covered_right : (p a b c : Pt) → AreOpposite (turn_of b c p) (turn_of c a p) (turn_of a b p) → HullsMeet (p ∷ []) (a ∷ b ∷ c ∷ [])
+covered_right : (p a b c : Pt) → AreOpposite (turn_of b c p) (turn_of c a p) (turn_of a b p) → HullsMeet (p ∷ []) (a ∷ b ∷ c ∷ [])
 unfolding turn_of
 covered_right p a b c h = covering_meets p a b c (neg_ℤ (turn_of b c p)) (neg_ℤ (turn_of c a p)) (neg_ℤ (turn_of a b p)) (record {
   weights = opposite (turn_of b c p) (turn_of c a p) (turn_of a b p) h;
@@ -224,11 +262,15 @@ stuck_by_three a b c d h i j k m = subst₂ (λ (ps qs : List Pt). HullsMeet ps 
     (sym (not_right a (b ∷ c ∷ d ∷ []) h ∙ not_right b (c ∷ d ∷ []) i ∙ not_right c (d ∷ []) j ∙ right_of d [] k))
     (hulls_turned (d.at ∷ []) (a.at ∷ b.at ∷ c.at ∷ []) m)
 
-pub weights_at : (l m n u v w : ℤ) → l ≡ u → m ≡ v → n ≡ w → AreWeights l m n → AreWeights u v w
+weights_at : (l m n u v w : ℤ) → l ≡ u → m ≡ v → n ≡ w → AreWeights l m n → AreWeights u v w
 weights_at l m n u v w e f g h = record { first = omega (arith, ints); second = omega (arith, ints); third = omega (arith, ints); some = omega (arith, ints) }
 
-pub opposite_at : (l m n u v w : ℤ) → l ≡ u → m ≡ v → n ≡ w → AreOpposite l m n → AreOpposite u v w
+opposite_at : (l m n u v w : ℤ) → l ≡ u → m ≡ v → n ≡ w → AreOpposite l m n → AreOpposite u v w
 opposite_at l m n u v w e f g h = record { first = omega (arith, ints); second = omega (arith, ints); third = omega (arith, ints); some = omega (arith, ints) }
 
-pub between_at : (a b u v : ℤ) → a ≡ u → b ≡ v → IsBetween a b → IsBetween u v
-between_at a b u v e f h = record { low = omega (arith, ints); high = omega (arith, ints) }
+-- the turns of a triangle's edges at p, each from p on
+pub weights_round : (p a b c : Pt) (l m n : ℤ) → l ≡ turn_of p b c → m ≡ turn_of p c a → n ≡ turn_of p a b → AreWeights l m n → HullsMeet (p ∷ []) (a ∷ b ∷ c ∷ [])
+weights_round p a b c l m n e f g h = covered_left p a b c (weights_at l m n _ _ _ (e ∙ turned_on p b c) (f ∙ turned_on p c a) (g ∙ turned_on p a b) h)
+
+pub opposite_round : (p a b c : Pt) (l m n : ℤ) → l ≡ turn_of p b c → m ≡ turn_of p c a → n ≡ turn_of p a b → AreOpposite l m n → HullsMeet (p ∷ []) (a ∷ b ∷ c ∷ [])
+opposite_round p a b c l m n e f g h = covered_right p a b c (opposite_at l m n _ _ _ (e ∙ turned_on p b c) (f ∙ turned_on p c a) (g ∙ turned_on p a b) h)

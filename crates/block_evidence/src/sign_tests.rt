@@ -1,7 +1,7 @@
 //! A quick test that shows four ends stuck: two segments share a point where the ends of each aren't on one side of the
 //! other, and a triangle has a point that is on one side of all three edges. The turns are the weights of that point.
 
-ghost use Rattle.std.specs.Prelude.{◌∷◌, [], IsTrue};
+ghost use Rattle.std.specs.Prelude.{◌≡◌, ◌<◌, ◌^◌, ◌+ℤ◌, ◌-ℤ◌, ◌∷◌, [], unsigned_abs, IsTrue};
 ghost use Rattle.block_evidence.specs.Stuck.{AreStuck, HullsMeet};
 ghost use Rattle.block_evidence.specs.SignTests.{AreWeights, AreOpposite, IsBetween};
 
@@ -29,31 +29,47 @@ fn are_opposite(l: i64, m: i64, n: i64) -> bool
     l <= 0 && m <= 0 && n <= 0 && (l < 0 || m < 0 || n < 0)
 }
 
+/// The turn of `q` at the segment from `r` to `s`, by those of `p` at it and of `r` and `s` at the segment from `p` to `q`.
+#[inline(always)]
+fn fourth_turn(of_p: i64, of_r: i64, of_s: i64) -> i64
+    requires first { unsigned_abs of_p < 2 ^ 33 }
+    requires second { unsigned_abs of_r < 2 ^ 33 }
+    requires third { unsigned_abs of_s < 2 ^ 33 }
+    ensures value { result ≡ of_p +ℤ (of_r -ℤ of_s) }
+    ensures bound { unsigned_abs result < 2 ^ 35 }
+{
+    of_p + (of_r - of_s)
+}
+
 /// Whether the segment from `p` to `q` and the segment from `r` to `s` share a point. False also where all four points
 /// are on one line.
+// all turns begin at `p`, so that they share its differences; the turn of `q` is told by the other three
 #[inline(always)]
 pub fn do_cross(p: Pt, q: Pt, r: Pt, s: Pt) -> bool
     ensures { IsTrue result → HullsMeet (p ∷ q ∷ []) (r ∷ s ∷ []) }
 {
-    let of_p = turn(r, s, p);
-    let of_q = turn(r, s, q);
-    if of_p < of_q {
-        is_between(of_p, of_q) && is_between(turn(p, q, s), turn(p, q, r))
-    } else if of_q < of_p {
-        is_between(of_q, of_p) && is_between(turn(p, q, r), turn(p, q, s))
+    let of_r = turn(p, q, r);
+    let of_s = turn(p, q, s);
+    let of_p = turn(p, r, s);
+    let of_q = fourth_turn(of_p, of_r, of_s);
+    if of_s < of_r {
+        is_between(of_s, of_r) && is_between(of_p, of_q)
+    } else if of_r < of_s {
+        is_between(of_r, of_s) && is_between(of_q, of_p)
     } else {
         false
     }
 }
 
 /// Whether the triangle `a`, `b`, `c` has the point `p`. False also where all four points are on one line.
+// all turns begin at `p`, so that they share its differences
 #[inline(always)]
 pub fn is_covered(p: Pt, a: Pt, b: Pt, c: Pt) -> bool
     ensures { IsTrue result → HullsMeet (p ∷ []) (a ∷ b ∷ c ∷ []) }
 {
-    let of_a = turn(b, c, p);
-    let of_b = turn(c, a, p);
-    let of_c = turn(a, b, p);
+    let of_a = turn(p, b, c);
+    let of_b = turn(p, c, a);
+    let of_c = turn(p, a, b);
     are_weights(of_a, of_b, of_c) || are_opposite(of_a, of_b, of_c)
 }
 

@@ -10,8 +10,8 @@ use Rattle.half_edges.specs.declared.table.HalfEdge.{HalfEdge}
 use Rattle.tree_judge.specs.declared.roots.Root.{Root}
 use Rattle.tree_judge.specs.declared.trees.Frame.{Frame}
 use Rattle.tree_judge.specs.declared.trees.Follow.{Follow}
-use Rattle.tree_judge.specs.Path.{path_ends, Pending, pending_way, IsChain, root_pending, all_pending}
-use Rattle.tree_judge.specs.Whole.{Answers, AreAnswered, IsFirstWrong, Notes, IsAt, HasAnswered, HasRefused}
+use Rattle.tree_judge.specs.Path.{path_ends, Pending, pending_way, IsChain, root_pending, IsAt}
+use Rattle.tree_judge.specs.Whole.{Answers, AreAnswered, IsFirstWrong, Notes, HasAnswered, HasRefused}
 use Rattle.tree_judge.proofs.Noting.{notes_more}
 
 -- one more node answers
@@ -24,26 +24,29 @@ pub record IsFollowed (xs : List HalfEdge) (roots : List Root) (first : Option �
   pub done : List Node
   pub split : nodes ≡ done ++ rest
   pub count : length done ≡ number
-  pub depth : f.depth ≤ number
-  pub each : (es : List ℕ) → IsChain roots first es → (ps : List Pending) × (sectors : List ℕ) × AreAnswered xs source (map root_pending es) done ps sectors × IsAt xs roots source path f ps × Notes source sectors old new
+  pub depth : (es : List ℕ) → IsChain roots first es → f.depth ≤ number
+  pub each : (es : List ℕ) → IsChain roots first es → (ps : List Pending) × (sectors : List ℕ) × AreAnswered xs source (map root_pending es) done ps sectors × IsAt roots path f ps × Notes source sectors old new
 
 module _ (xs : List HalfEdge) (roots : List Root) (first : Option ℕ) (source : ℕ) (nodes : List Node) (old : TableParts) where
   pub follows_more : (n : Node) (rest : List Node) (number : ℕ) (path path_new : List Frame) (f f_new : Follow) (t u : TableParts) → IsFollowed xs roots first source nodes (n ∷ rest) number path f old t
-      → HasAnswered xs roots source n path f t path_new f_new u → f_new.depth ≤ f.depth + 1 → IsFollowed xs roots first source nodes rest (number + 1) path_new f_new old u
-  follows_more n rest number path path_new f f_new t u w a d = record {
+      → HasAnswered xs roots source n path f t path_new f_new u → IsFollowed xs roots first source nodes rest (number + 1) path_new f_new old u
+  follows_more n rest number path path_new f f_new t u w a = record {
     done = w.done ++ n ∷ [];
     split = w.split ∙ sym (append_assoc w.done (n ∷ []) rest);
     count = let h : length (w.done ++ n ∷ []) ≡ length w.done + 1 = length-append w.done (n ∷ []) in omega (arith, h, w.count);
-    depth = omega (arith, w.depth, d);
+    depth = λ es c. let k : f.depth ≤ number = w.depth es c in let d : f_new.depth ≤ f.depth + 1 = nested es (w.each es c) in omega (arith, k, d);
     each = λ es c. go es (w.each es c);
   }
     where
-      go : (es : List ℕ) → (ps : List Pending) × (sectors : List ℕ) × AreAnswered xs source (map root_pending es) w.done ps sectors × IsAt xs roots source path f ps × Notes source sectors old t
-          → (ps : List Pending) × (sectors : List ℕ) × AreAnswered xs source (map root_pending es) (w.done ++ n ∷ []) ps sectors × IsAt xs roots source path_new f_new ps × Notes source sectors old u
+      nested : (es : List ℕ) → (ps : List Pending) × (sectors : List ℕ) × AreAnswered xs source (map root_pending es) w.done ps sectors × IsAt roots path f ps × Notes source sectors old t → f_new.depth ≤ f.depth + 1
+      nested es (ps, sectors, answered, at, notes) = a.depth at.nested
+
+      go : (es : List ℕ) → (ps : List Pending) × (sectors : List ℕ) × AreAnswered xs source (map root_pending es) w.done ps sectors × IsAt roots path f ps × Notes source sectors old t
+          → (ps : List Pending) × (sectors : List ℕ) × AreAnswered xs source (map root_pending es) (w.done ++ n ∷ []) ps sectors × IsAt roots path_new f_new ps × Notes source sectors old u
       go es (ps, sectors, answered, at, notes) = on (a.next ps at)
         where
-          on : (qs : List Pending) × (more : List ℕ) × Answers xs source ps n qs more × IsAt xs roots source path_new f_new qs × Notes source more t u
-              → (ps : List Pending) × (sectors : List ℕ) × AreAnswered xs source (map root_pending es) (w.done ++ n ∷ []) ps sectors × IsAt xs roots source path_new f_new ps × Notes source sectors old u
+          on : (qs : List Pending) × (more : List ℕ) × Answers xs source ps n qs more × IsAt roots path_new f_new qs × Notes source more t u
+              → (ps : List Pending) × (sectors : List ℕ) × AreAnswered xs source (map root_pending es) (w.done ++ n ∷ []) ps sectors × IsAt roots path_new f_new ps × Notes source sectors old u
           on (qs, more, answer, behind, noted) = (qs, sectors ++ more, answered_more xs source w.done n (map root_pending es) ps qs sectors more answered answer, behind, notes_more source sectors more old t u notes noted)
 
   first_done : (done rest : List Node) (number : ℕ) → nodes ≡ done ++ rest → length done ≡ number → take number nodes ≡ done
@@ -58,7 +61,7 @@ module _ (xs : List HalfEdge) (roots : List Root) (first : Option ℕ) (source :
 
   -- the next node doesn't answer
   pub wrong_node : (n : Node) (rest : List Node) (number : ℕ) (path : List Frame) (f : Follow) (t : TableParts) → IsFollowed xs roots first source nodes (n ∷ rest) number path f old t
-      → HasRefused xs roots source n path f → (es : List ℕ) → IsChain roots first es → IsFirstWrong xs source (map root_pending es) nodes number
+      → (f.depth ≤ number → HasRefused xs roots source n path f) → (es : List ℕ) → IsChain roots first es → IsFirstWrong xs source (map root_pending es) nodes number
   wrong_node n rest number path f t w r es c = go (w.each es c)
     where
       here : slice_get nodes number ≡ Some n
@@ -70,13 +73,13 @@ module _ (xs : List HalfEdge) (roots : List Root) (first : Option ℕ) (source :
           one : ◌≡◌ {A = Option Node} (Some n) (Some k) → n ≡ k
           one h = cc
 
-      go : (ps : List Pending) × (sectors : List ℕ) × AreAnswered xs source (map root_pending es) w.done ps sectors × IsAt xs roots source path f ps × Notes source sectors old t → IsFirstWrong xs source (map root_pending es) nodes number
+      go : (ps : List Pending) × (sectors : List ℕ) × AreAnswered xs source (map root_pending es) w.done ps sectors × IsAt roots path f ps × Notes source sectors old t → IsFirstWrong xs source (map root_pending es) nodes number
       go (ps, sectors, answered, at, notes) = record {
         left = ps;
         sectors = sectors;
         within = within w.done (n ∷ rest) number w.split w.count;
         before = subst (λ (ns : List Node). AreAnswered xs source (map root_pending es) ns ps sectors) (sym (first_done w.done (n ∷ rest) number w.split w.count)) answered;
-        wrong = λ k e qs more answer. r.none ps qs more at (subst (λ (j : Node). Answers xs source ps j qs more) (sym (same k e)) answer);
+        wrong = λ k e qs more answer. (r (w.depth es c)).none ps qs more at (subst (λ (j : Node). Answers xs source ps j qs more) (sym (same k e)) answer);
         missing = λ e. absurd (let l : number < length nodes = slice_get_within nodes number n here in omega (arith, l, e));
       }
 
@@ -91,13 +94,13 @@ module _ (xs : List HalfEdge) (roots : List Root) (first : Option ℕ) (source :
       past : (k : Node) → slice_get nodes (length nodes) ≡ Some k → ⊥
       past k h = let l : length nodes < length nodes = slice_get_within nodes (length nodes) k h in omega (arith, l)
 
-      some : (ps : List Pending) → IsAt xs roots source path f ps → ps ≡ [] → ⊥
-      some ps at h = nothing (sym (ap (λ (o : Option ℕ). pending_way (path_ends (take f.depth path)) o ++ all_pending xs source path f.depth at.es) asked) ∙ sym at.all ∙ h)
+      some : (ps : List Pending) → IsAt roots path f ps → ps ≡ [] → ⊥
+      some ps at h = nothing (sym (ap (λ (o : Option ℕ). pending_way (path_ends (take f.depth path)) o ++ (at.ways ++ map root_pending at.es)) asked) ∙ sym at.all ∙ h)
         where
           nothing : {p : Pending} {qs : List Pending} → ◌≡◌ {A = List Pending} (p ∷ qs) [] → ⊥
           nothing q = cc
 
-      go : (ps : List Pending) × (sectors : List ℕ) × AreAnswered xs source (map root_pending es) w.done ps sectors × IsAt xs roots source path f ps × Notes source sectors old t → IsFirstWrong xs source (map root_pending es) nodes (length nodes)
+      go : (ps : List Pending) × (sectors : List ℕ) × AreAnswered xs source (map root_pending es) w.done ps sectors × IsAt roots path f ps × Notes source sectors old t → IsFirstWrong xs source (map root_pending es) nodes (length nodes)
       go (ps, sectors, answered, at, notes) = record {
         left = ps;
         sectors = sectors;
@@ -115,6 +118,6 @@ module _ (xs : List HalfEdge) (roots : List Root) (first : Option ℕ) (source :
       all : nodes ≡ w.done
       all = w.split ∙ ap (λ (ns : List Node). w.done ++ ns) e ∙ append-nil w.done
 
-      go : (ps : List Pending) × (sectors : List ℕ) × AreAnswered xs source (map root_pending es) w.done ps sectors × IsAt xs roots source path f ps × Notes source sectors old t
+      go : (ps : List Pending) × (sectors : List ℕ) × AreAnswered xs source (map root_pending es) w.done ps sectors × IsAt roots path f ps × Notes source sectors old t
           → (sectors : List ℕ) × AreAnswered xs source (map root_pending es) nodes [] sectors × Notes source sectors old t
       go (ps, sectors, answered, at, notes) = (sectors, subst (λ (ns : List Node). AreAnswered xs source (map root_pending es) ns [] sectors) (sym all) (subst (λ (qs : List Pending). AreAnswered xs source (map root_pending es) w.done qs sectors) (at.last asked) answered), notes)

@@ -14,9 +14,8 @@ use Rattle.std.specs.Prelude.{option_map}
 use Rattle.sight_names.specs.Splitting.{EndPoints, end_of}
 use Rattle.extreme_lines.proofs.EndsLemmas.{left_end, right_end}
 use Rattle.sight_names.specs.Points.{place}
-use Rattle.half_edges.specs.declared.table.HalfEdge.{HalfEdge}
 use Rattle.tree_judge.specs.declared.trees.Frame.{Frame}
-use Rattle.tree_judge.specs.Path.{portal_ends, path_ends, frame_at, asked_ends, AreStuckEnds, IsClosedBy}
+use Rattle.tree_judge.specs.Path.{portal_ends, path_ends, AreStuckEnds}
 use Rattle.block_evidence.specs.declared.Evidence.{Evidence}
 use Rattle.block_evidence.specs.Stuck.{AreStuck, Blocks, end_codes}
 use Rattle.sight_tree.proofs.ReadBack.{in_places}
@@ -92,20 +91,3 @@ blocks_four es e a b c d n l fa fb fc fd stuck = record { ends = f.1; stuck = su
 -- the same by the codes alone
 pub blocks_ends : (es : List EndPoints) (e : Evidence) → e.count ≡ 4 → length e.ends ≡ 4 → AreStuckEnds es (get_or e.ends 0 0) (get_or e.ends 1 0) (get_or e.ends 2 0) (get_or e.ends 3 0) → Blocks es e
 blocks_ends es e n l (w, x, y, z, fw, fx, fy, fz, stuck) = blocks_four es e w x y z n l (sym fw) (sym fx) (sym fy) (sym fz) stuck
-
--- ---- the sequence that is asked
-
-pub asked_is : (path part : List Frame) (depth : ℕ) (x : HalfEdge) → depth < length path → part ≡ take (depth + 1) (set path depth (frame_at x)) → path_ends part ≡ asked_ends path depth x
-asked_is path part depth x l e = ap path_ends (e ∙ take_more_set path depth (frame_at x) l) ∙ map-append portal_ends (take depth path) (frame_at x ∷ [])
-
-pub closed_if : (xs : List HalfEdge) (path part : List Frame) (depth place : ℕ) (x : HalfEdge) (e : Evidence) (b : Bool) → slice_get xs place ≡ Some x → depth < length path → part ≡ take (depth + 1) (set path depth (frame_at x)) → (IsTrue b ↔ Blocks (path_ends part) e) → IsTrue b ↔ IsClosedBy xs path depth place e
-closed_if xs path part depth place x e b at l p s = (λ t. record { edge = x; is = at; room = l; blocks = subst (λ (es : List EndPoints). Blocks es e) (asked_is path part depth x l p) (s.0 t) }, λ k. s.1 (back k))
-  where
-    same : (y : HalfEdge) → slice_get xs place ≡ Some y → ◌≡◌ {A = Option HalfEdge} (Some x) (Some y)
-    same y h = sym at ∙ h
-
-    one : (y : HalfEdge) → ◌≡◌ {A = Option HalfEdge} (Some x) (Some y) → y ≡ x
-    one y h = cc
-
-    back : IsClosedBy xs path depth place e → Blocks (path_ends part) e
-    back k = subst (λ (es : List EndPoints). Blocks es e) (sym (asked_is path part depth x l p)) (subst (λ (y : HalfEdge). Blocks (asked_ends path depth y) e) (one k.edge (same k.edge k.is)) k.blocks)

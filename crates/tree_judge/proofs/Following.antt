@@ -1,33 +1,33 @@
 -- A walk that follows a tree: what each node answers, and what is still to be asked behind it.
-use Rattle.std.proofs.Common.{◌≡◌, ℕ, List, [], ◌∷◌, ◌++◌, Option, Some, None, map, take, refl, sym, ◌∙◌, ap, subst}
+use Rattle.std.proofs.Common.{◌≡◌, ◌↔◌, ℕ, ◌+◌, ◌≤◌, IsTrue, false, List, [], ◌∷◌, ◌++◌, Option, Some, None, map, take, refl, sym, ◌∙◌, ap, subst, arith}
 use Rattle.std.specs.List.{slice_get}
 use Rattle.sight_names.specs.Splitting.{EndPoints}
 use Rattle.block_evidence.specs.declared.Evidence.{Evidence}
+use Rattle.block_evidence.specs.Stuck.{Blocks}
+use Rattle.sight_tree.specs.declared.Node.{Node}
 use Rattle.sight_tree.specs.declared.Node.TheVariants.{Open, Blocked}
 use Rattle.reject_bits.specs.Parts.{TableParts}
 use Rattle.half_edges.specs.declared.table.HalfEdge.{HalfEdge}
 use Rattle.tree_judge.specs.declared.roots.Root.{Root}
 use Rattle.tree_judge.specs.declared.trees.Frame.{Frame}
 use Rattle.tree_judge.specs.declared.trees.Follow.{Follow}
-use Rattle.tree_judge.specs.Path.{list_of, path_ends, Pending, pending_way, pending_ways, IsChain, root_pending, all_pending, ways_behind, IsClosedBy, TakesNext, EntersThrough}
-use Rattle.tree_judge.specs.Whole.{ways_through, Answers, Notes, IsAt, HasAnswered, StandsBefore}
-use Rattle.tree_judge.proofs.Ways.{ends_take}
+use Rattle.tree_judge.specs.Path.{list_of, path_ends, edge_ends, PutsAt, IsWaiting, Pending, pending_way, IsChain, root_pending, IsAt, with_asked, ways_behind, TakesNext, EntersThrough}
+use Rattle.tree_judge.specs.Whole.{ends_through, ways_through, Answers, Notes, HasAnswered, HasRefused, StandsBefore}
+use Rattle.tree_judge.proofs.Ways.{waiting_same}
 use Rattle.tree_judge.proofs.Noting.{notes_none}
+use Rattle.list_base.proofs.Options.{some_is_not_none}
 
--- ---- what is asked next
+abbrev pub at_first : Option ℕ → Follow
+at_first first = record { depth = 0; root = first; asked = None; waiting = 0 }
 
-next_at : (xs : List HalfEdge) (roots : List Root) (source : ℕ) (old new : List Frame) (depth d : ℕ) (root next asked : Option ℕ) (es : List ℕ)
-    → path_ends new ≡ path_ends old → TakesNext xs roots source old depth root new d next asked → IsChain roots root es
-    → IsAt xs roots source new (record { depth = d; root = next; asked = asked }) (all_pending xs source old depth es)
-next_at xs roots source old new depth d root next asked es g t c = at (t.next es c)
-  where
-    at : (fs : List ℕ) × IsChain roots next fs × (all_pending xs source old depth es ≡ pending_way (path_ends (take d old)) asked ++ all_pending xs source new d fs) × (asked ≡ None → all_pending xs source old depth es ≡ [])
-        → IsAt xs roots source new (record { depth = d; root = next; asked = asked }) (all_pending xs source old depth es)
-    at (fs, k, h, n) = record { es = fs; chain = k; all = h ∙ ap (λ (ends : List EndPoints). pending_way ends asked ++ all_pending xs source new d fs) (sym (ends_take new old d g)); last = n }
+pub stands : (roots : List Root) (path : List Frame) (new : Follow) (first asked : Option ℕ) → TakesNext roots path (at_first first) new asked → StandsBefore roots first path (with_asked new asked)
+stands roots path new first asked t = record { start = λ es c. t.next es [] c refl }
 
-pub stands : (xs : List HalfEdge) (roots : List Root) (source : ℕ) (old new : List Frame) (d : ℕ) (first next asked : Option ℕ)
-    → path_ends new ≡ path_ends old → TakesNext xs roots source old 0 first new d next asked → StandsBefore xs roots source first new (record { depth = d; root = next; asked = asked })
-stands xs roots source old new d first next asked g t = record { start = λ es c. next_at xs roots source old new 0 d first next asked es g t c }
+same_first : (p q : Pending) (ps qs us : List Pending) → us ≡ p ∷ ps → us ≡ q ∷ qs → p ≡ q
+same_first p q ps qs us e f = cc
+
+no_first : (p : Pending) (ps us : List Pending) → us ≡ [] → us ≡ p ∷ ps → ⊥
+no_first p ps us e f = cc
 
 module _ (xs : List HalfEdge) (roots : List Root) (source : ℕ) (path : List Frame) (f : Follow) where
   -- the half-edge that is asked, behind the present path
@@ -35,36 +35,71 @@ module _ (xs : List HalfEdge) (roots : List Root) (source : ℕ) (path : List Fr
   present place = record { path = path_ends (take f.depth path); edge = place }
 
   -- what is to be asked behind it
-  abbrev others : List ℕ → List Pending
-  others es = all_pending xs source path f.depth es
+  abbrev others : {ps : List Pending} → IsAt roots path f ps → List Pending
+  others a = a.ways ++ map root_pending a.es
 
-  present_first : (ps : List Pending) (place : ℕ) → f.asked ≡ Some place → (a : IsAt xs roots source path f ps) → ps ≡ present place ∷ others a.es
-  present_first ps place e a = a.all ∙ ap (λ (o : Option ℕ). pending_way (path_ends (take f.depth path)) o ++ others a.es) e
+  present_first : (ps : List Pending) (place : ℕ) → f.asked ≡ Some place → (a : IsAt roots path f ps) → ps ≡ present place ∷ others a
+  present_first ps place e a = a.all ∙ ap (λ (o : Option ℕ). pending_way (path_ends (take f.depth path)) o ++ others a) e
 
   -- ---- a node that answers
 
-  pub opened : (new : List Frame) (place d : ℕ) (next asked : Option ℕ) (x : HalfEdge) (t u : TableParts) → f.asked ≡ Some place → slice_get xs place ≡ Some x
-      → EntersThrough xs roots source path f.depth f.root x new d next asked → Notes source (list_of x.sector) t u
-      → HasAnswered xs roots source Open path f t new (record { depth = d; root = next; asked = asked }) u
-  opened new place d next asked x t u e is enters notes = record { next = λ ps a. go ps a (enters.next a.es a.chain) }
-    where
-      go : (ps : List Pending) (a : IsAt xs roots source path f ps)
-          → (fs : List ℕ) × IsChain roots next fs × (ways_behind xs source path f.depth x ++ others a.es ≡ pending_way (path_ends (take d new)) asked ++ all_pending xs source new d fs) × (asked ≡ None → ways_behind xs source path f.depth x ++ others a.es ≡ [])
-          → (qs : List Pending) × (sectors : List ℕ) × Answers xs source ps Open qs sectors × IsAt xs roots source new (record { depth = d; root = next; asked = asked }) qs × Notes source sectors t u
-      go ps a (fs, c, h, n) = (ways_through xs source (present place) x ++ others a.es, list_of x.sector, (present place, others a.es, x, present_first ps place e a, is, refl, refl), record { es = fs; chain = c; all = h; last = n }, notes)
-
-  pub blocked : (middle new : List Frame) (place d : ℕ) (next asked : Option ℕ) (ends : Evidence) (t : TableParts) → f.asked ≡ Some place → IsClosedBy xs path f.depth place ends
-      → take f.depth middle ≡ take f.depth path → path_ends new ≡ path_ends middle → TakesNext xs roots source middle f.depth f.root new d next asked
-      → HasAnswered xs roots source (Blocked ends) path f t new (record { depth = d; root = next; asked = asked }) t
-  blocked middle new place d next asked ends t e closed kept g takes = record {
+  pub opened : (middle new : List Frame) (place : ℕ) (f_new : Follow) (asked : Option ℕ) (x : HalfEdge) (t u : TableParts) → f.asked ≡ Some place → slice_get xs place ≡ Some x → PutsAt path f.depth (edge_ends x) middle
+      → EntersThrough xs roots source middle f x new f_new asked → Notes source (list_of x.sector) t u → HasAnswered xs roots source Open path f t new (with_asked f_new asked) u
+  opened middle new place f_new asked x t u e is put enters notes = record {
     next = λ ps a. (
-      others a.es,
+      ways_through xs source (present place) x ++ others a,
+      list_of x.sector,
+      (present place, others a, x, present_first ps place e a, is, refl, refl),
+      subst (λ (es : List EndPoints). IsAt roots new (with_asked f_new asked) (ways_behind xs source es x ++ others a)) put.put
+          (enters.next a.es a.ways a.chain (waiting_same path middle f.depth f.waiting a.ways put.kept a.nested a.waiting) a.nested),
+      notes,
+    );
+    depth = enters.depth;
+  }
+
+  pub blocked : (middle : List Frame) (place : ℕ) (f_new : Follow) (asked : Option ℕ) (x : HalfEdge) (e : Evidence) (t : TableParts) → f.asked ≡ Some place → slice_get xs place ≡ Some x → PutsAt path f.depth (edge_ends x) middle
+      → Blocks (path_ends (take (f.depth + 1) middle)) e → TakesNext roots middle f f_new asked → HasAnswered xs roots source (Blocked e) path f t middle (with_asked f_new asked) t
+  blocked middle place f_new asked x e t h is put blocks takes = record {
+    next = λ ps a. (
+      others a,
       [],
-      (present place, others a.es, closed.edge, present_first ps place e a, closed.is, closed.blocks, refl, refl),
-      subst (IsAt xs roots source new (record { depth = d; root = next; asked = asked })) (same a.es) (next_at xs roots source middle new f.depth d f.root next asked a.es g takes a.chain),
+      (present place, others a, x, present_first ps place h a, is, subst (λ (es : List EndPoints). Blocks es e) put.put blocks, refl, refl),
+      takes.next a.es a.ways a.chain (waiting_same path middle f.depth f.waiting a.ways put.kept a.nested a.waiting),
       notes_none source t,
     );
+    depth = λ n. let d : f_new.depth ≤ f.waiting = takes.depth in omega (arith, d, n);
   }
+
+  -- ---- a node that doesn't
+
+  -- nothing is asked
+  pub refused_all : (n : Node) → f.asked ≡ None → HasRefused xs roots source n path f
+  refused_all Open e = record { none = λ ps qs sectors a (p, rest, x, first, is, left, here). no_first p rest ps (a.last e) first }
+  refused_all (Blocked d) e = record { none = λ ps qs sectors a (p, rest, x, first, is, blocks, left, here). no_first p rest ps (a.last e) first }
+
+  -- there is no such half-edge
+  no_edge : (ps rest : List Pending) (place : ℕ) (p : Pending) (x : HalfEdge) → f.asked ≡ Some place → slice_get xs place ≡ None → IsAt roots path f ps → ps ≡ p ∷ rest → slice_get xs p.edge ≡ Some x → ⊥
+  no_edge ps rest place p x e none a first is = some_is_not_none x (sym is ∙ ap (λ (q : Pending). slice_get xs q.edge) (same_first p (present place) rest (others a) ps first (present_first ps place e a)) ∙ none)
+
+  pub refused_edge : (n : Node) (place : ℕ) → f.asked ≡ Some place → slice_get xs place ≡ None → HasRefused xs roots source n path f
+  refused_edge Open place e none = record { none = λ ps qs sectors a (p, rest, x, first, is, left, here). no_edge ps rest place p x e none a first is }
+  refused_edge (Blocked d) place e none = record { none = λ ps qs sectors a (p, rest, x, first, is, blocks, left, here). no_edge ps rest place p x e none a first is }
+
+  -- the ends show nothing
+  one_edge : (x y : HalfEdge) (o : Option HalfEdge) → o ≡ Some x → o ≡ Some y → x ≡ y
+  one_edge x y o e f = cc
+
+  untrue : IsTrue false → ⊥
+  untrue e = cc
+
+  pub refused_ends : (middle : List Frame) (place : ℕ) (x : HalfEdge) (e : Evidence) → f.asked ≡ Some place → slice_get xs place ≡ Some x → PutsAt path f.depth (edge_ends x) middle → (IsTrue false ↔ Blocks (path_ends (take (f.depth + 1) middle)) e) → HasRefused xs roots source (Blocked e) path f
+  refused_ends middle place x e h is put fails = record { none = λ ps qs sectors a (p, rest, y, first, at, blocks, left, here). go ps rest p y a first at blocks }
     where
-      same : (es : List ℕ) → all_pending xs source middle f.depth es ≡ others es
-      same es = ap (λ (fs : List Frame). pending_ways xs source [] fs ++ map root_pending es) kept
+      go : (ps rest : List Pending) (p : Pending) (y : HalfEdge) → IsAt roots path f ps → ps ≡ p ∷ rest → slice_get xs p.edge ≡ Some y → Blocks (ends_through p y) e → ⊥
+      go ps rest p y a first at blocks = untrue (fails.1 (subst (λ (es : List EndPoints). Blocks es e) (sym put.put) (subst (λ (z : HalfEdge). Blocks (ends_through (present place) z) e) found (subst (λ (q : Pending). Blocks (ends_through q y) e) same blocks))))
+        where
+          same : p ≡ present place
+          same = same_first p (present place) rest (others a) ps first (present_first ps place h a)
+
+          found : y ≡ x
+          found = one_edge y x (slice_get xs place) (ap (λ (q : Pending). slice_get xs q.edge) (sym same) ∙ at) is

@@ -9,31 +9,23 @@ use Rattle.tree_judge.specs.declared.roots.Root.{Root}
 use Rattle.tree_judge.specs.declared.trees.Frame.{Frame}
 use Rattle.tree_judge.specs.declared.trees.Follow.{Follow}
 use Rattle.tree_judge.specs.Roots.{first_at}
-use Rattle.tree_judge.specs.Path.{path_ends, Pending, pending_way, pending_ways, root_pending}
-use Rattle.tree_judge.specs.Whole.{AreAnswered, Notes, IsAt, HasAnswered, HasRefused, StandsBefore, IsWholeFrom, IsFirstWrongFrom}
+use Rattle.tree_judge.specs.Path.{Pending, root_pending, IsAt}
+use Rattle.tree_judge.specs.Whole.{AreAnswered, Notes, HasAnswered, HasRefused, StandsBefore, IsWholeFrom, IsFirstWrongFrom}
 use Rattle.tree_judge.specs.Walked.{with_node, with_nodes, IsWalkedAt, FollowsAt}
 use Rattle.tree_judge.proofs.Noting.{notes_none}
+use Rattle.tree_judge.proofs.Ways.{at_same}
 use Rattle.tree_judge.proofs.Answering.{IsFollowed, follows_more, wrong_node, missing_node, all_answered}
-
--- what is still to be asked depends on the open portals of the path alone
-at_same : (xs : List HalfEdge) (roots : List Root) (source : ℕ) (path other : List Frame) (f : Follow) (ps : List Pending) → take f.depth other ≡ take f.depth path → IsAt xs roots source path f ps → IsAt xs roots source other f ps
-at_same xs roots source path other f ps e a = record {
-  es = a.es;
-  chain = a.chain;
-  all = a.all ∙ ap (λ (fs : List Frame). pending_way (path_ends fs) f.asked ++ (pending_ways xs source [] fs ++ map root_pending a.es)) (sym e);
-  last = a.last;
-}
 
 module _ (xs : List HalfEdge) (roots : List Root) (firsts : List (Option ℕ)) (t : Tree) (old : TableParts) where
   abbrev first : Option ℕ
   first = first_at firsts t.source
 
   -- before the first root
-  pub walk_begins : (path : List Frame) (f : Follow) → t.nodes ≡ [] → f.depth ≡ 0 → StandsBefore xs roots t.source first path f → IsWalkedAt xs roots firsts t old old t.source path f
+  pub walk_begins : (path : List Frame) (f : Follow) → t.nodes ≡ [] → f.depth ≡ 0 → StandsBefore roots first path f → IsWalkedAt xs roots firsts t old old t.source path f
   walk_begins path f none zero stands = record {
     source_is = refl;
     room = omega (arith, zero);
-    depth = omega (arith, zero);
+    depth = λ _ _. omega (arith, zero);
     each = λ es c. (map root_pending es, [], subst (λ (ns : List Node). AreAnswered xs t.source (map root_pending es) ns (map root_pending es) []) (sym none) (refl, refl), stands.start es c, notes_none t.source old);
   }
 
@@ -45,23 +37,23 @@ module _ (xs : List HalfEdge) (roots : List Root) (firsts : List (Option ℕ)) (
       → IsFollowed xs roots first t.source (t.nodes ++ n ∷ []) (n ∷ []) (length t.nodes) other f old new
   before_node n new source path other f e w = record { done = t.nodes; split = refl; count = refl; depth = w.depth; each = λ es c. go es (w.each es c) }
     where
-      go : (es : List ℕ) → (ps : List Pending) × (sectors : List ℕ) × AreAnswered xs t.source (map root_pending es) t.nodes ps sectors × IsAt xs roots t.source path f ps × Notes t.source sectors old new
-          → (ps : List Pending) × (sectors : List ℕ) × AreAnswered xs t.source (map root_pending es) t.nodes ps sectors × IsAt xs roots t.source other f ps × Notes t.source sectors old new
-      go es (ps, sectors, answered, at, notes) = (ps, sectors, answered, at_same xs roots t.source path other f ps e at, notes)
+      go : (es : List ℕ) → (ps : List Pending) × (sectors : List ℕ) × AreAnswered xs t.source (map root_pending es) t.nodes ps sectors × IsAt roots path f ps × Notes t.source sectors old new
+          → (ps : List Pending) × (sectors : List ℕ) × AreAnswered xs t.source (map root_pending es) t.nodes ps sectors × IsAt roots other f ps × Notes t.source sectors old new
+      go es (ps, sectors, answered, at, notes) = (ps, sectors, answered, at_same roots path other f ps e at, notes)
 
   -- the next node answers
   pub walk_goes_on : (n : Node) (new more : TableParts) (source : ℕ) (path other path_new : List Frame) (f f_new : Follow) → IsWalkedAt xs roots firsts t old new source path f
-      → (f.depth ≤ length path → take f.depth other ≡ take f.depth path) → (f.depth ≤ length path → f.depth < length other) → length path_new ≡ length other
-      → f_new.depth ≤ f.depth + 1 → (source ≡ t.source → HasAnswered xs roots t.source n other f new path_new f_new more) → IsWalkedAt xs roots firsts (with_node n t) old more source path_new f_new
-  walk_goes_on n new more source path other path_new f f_new w kept room same d answered = record {
+      → (f.depth ≤ length path → take f.depth other ≡ take f.depth path) → (f.depth ≤ length path → f_new.depth ≤ length path_new)
+      → (source ≡ t.source → HasAnswered xs roots t.source n other f new path_new f_new more) → IsWalkedAt xs roots firsts (with_node n t) old more source path_new f_new
+  walk_goes_on n new more source path other path_new f f_new w kept room answered = record {
     source_is = w.source_is;
-    room = let l : f.depth < length other = room w.room in omega (arith, l, same, d);
-    depth = let h : length (t.nodes ++ n ∷ []) ≡ length t.nodes + 1 = length_push t.nodes n in omega (arith, h, d, w.depth);
-    each = λ es c. subst (λ (ns : List Node). (ps : List Pending) × (sectors : List ℕ) × AreAnswered xs t.source (map root_pending es) ns ps sectors × IsAt xs roots t.source path_new f_new ps × Notes t.source sectors old more) all (after.each es c);
+    room = room w.room;
+    depth = λ es c. let h : length (t.nodes ++ n ∷ []) ≡ length t.nodes + 1 = length_push t.nodes n in let d : f_new.depth ≤ length t.nodes + 1 = after.depth es c in omega (arith, h, d);
+    each = λ es c. subst (λ (ns : List Node). (ps : List Pending) × (sectors : List ℕ) × AreAnswered xs t.source (map root_pending es) ns ps sectors × IsAt roots path_new f_new ps × Notes t.source sectors old more) all (after.each es c);
   }
     where
       after : IsFollowed xs roots first t.source (t.nodes ++ n ∷ []) [] (length t.nodes + 1) path_new f_new old more
-      after = follows_more xs roots first t.source (t.nodes ++ n ∷ []) old n [] (length t.nodes) other path_new f f_new new more (before_node n new source path other f (kept w.room) w) (answered w.source_is) d
+      after = follows_more xs roots first t.source (t.nodes ++ n ∷ []) old n [] (length t.nodes) other path_new f f_new new more (before_node n new source path other f (kept w.room) w) (answered w.source_is)
 
       all : after.done ≡ t.nodes ++ n ∷ []
       all = sym (after.split ∙ append-nil after.done)
@@ -69,7 +61,7 @@ module _ (xs : List HalfEdge) (roots : List Root) (firsts : List (Option ℕ)) (
   -- the next node doesn't
   pub walk_refuses : (n : Node) (new : TableParts) (source : ℕ) (path other : List Frame) (f : Follow) → IsWalkedAt xs roots firsts t old new source path f
       → (f.depth ≤ length path → take f.depth other ≡ take f.depth path) → (source ≡ t.source → HasRefused xs roots t.source n other f) → IsFirstWrongFrom xs roots first (with_node n t) (length t.nodes)
-  walk_refuses n new source path other f w kept refused = record { wrong = wrong_node xs roots first t.source (t.nodes ++ n ∷ []) old n [] (length t.nodes) other f new (before_node n new source path other f (kept w.room) w) (refused w.source_is) }
+  walk_refuses n new source path other f w kept refused = record { wrong = wrong_node xs roots first t.source (t.nodes ++ n ∷ []) old n [] (length t.nodes) other f new (before_node n new source path other f (kept w.room) w) (λ _. refused w.source_is) }
 
   -- nothing is asked any more, or something is
   pub walk_is_done : (new : TableParts) (source : ℕ) (path : List Frame) (f : Follow) → IsWalkedAt xs roots firsts t old new source path f → f.asked ≡ None → IsWholeFrom xs roots first t old new
@@ -93,15 +85,15 @@ module _ (xs : List HalfEdge) (roots : List Root) (firsts : List (Option ℕ)) (
 
   -- the next one answers, or it doesn't
   pub follows_next : (ns : List Node) (n : Node) (path_now path_new : List Frame) (f_now f_new : Follow) (new more : TableParts) (wrong yes : Bool) → wrong ≡ false → FollowsAt xs roots firsts source path f old path_now f_now new wrong ns
-      → f_now.depth < length path_now → length path_new ≡ length path_now → f_new.depth ≤ f_now.depth + 1 → (IsTrue yes → HasAnswered xs roots source n path_now f_now new path_new f_new more) → (yes ≡ false → f_now.depth < length path_now → HasRefused xs roots source n path_now f_now)
+      → f_now.depth < length path_now → (f_now.depth ≤ length path_now → f_new.depth ≤ length path_new) → (IsTrue yes → HasAnswered xs roots source n path_now f_now new path_new f_new more) → (yes ≡ false → f_now.depth < length path_now → HasRefused xs roots source n path_now f_now)
       → FollowsAt xs roots firsts source path f old path_new f_new more (not yes) (ns ++ n ∷ [])
-  follows_next ns n path_now path_new f_now f_new new more wrong true so_far w room same d answered refused = record {
+  follows_next ns n path_now path_new f_now f_new new more wrong true so_far w room within answered refused = record {
     on = λ _ t begun v. subst (λ (u : Tree). IsWalkedAt xs roots firsts u begun more source path_new f_new) (with_more t ns n)
-        (walk_goes_on xs roots firsts (with_nodes ns t) begun n new more source path_now path_now path_new f_now f_new (w.on so_far t begun v) (λ _. refl) (λ _. room) same d (λ e. subst (λ (s : ℕ). HasAnswered xs roots s n path_now f_now new path_new f_new more) e (answered refl)));
+        (walk_goes_on xs roots firsts (with_nodes ns t) begun n new more source path_now path_now path_new f_now f_new (w.on so_far t begun v) (λ _. refl) within (λ e. subst (λ (s : ℕ). HasAnswered xs roots s n path_now f_now new path_new f_new more) e (answered refl)));
     some = λ e. absurd (cc);
     refused = λ e. absurd (cc);
   }
-  follows_next ns n path_now path_new f_now f_new new more wrong false so_far w room same d answered refused = record {
+  follows_next ns n path_now path_new f_now f_new new more wrong false so_far w room within answered refused = record {
     on = λ e. absurd (cc);
     some = λ _. let h : length (ns ++ n ∷ []) ≡ length ns + 1 = length_push ns n in omega (arith, h);
     refused = λ _ t begun v.

@@ -1,91 +1,91 @@
--- The ways that are still to come, on the way back along the path; and the longest tree.
-use Rattle.std.proofs.Common.{◌≡◌, ℕ, zero, suc, ◌+◌, ◌<◌, ◌≤◌, List, [], ◌∷◌, ◌++◌, Option, Some, None, length, get_or, max, min, inl, inr, take, set, refl, sym, ◌∙◌, ap, subst, arith}
-use Rattle.std.proofs.lemmas.List.{take_more, take_more_set, take-set, length-set, take-map, take_all, append-nil, append_assoc}
+-- The right ways that wait, on a path whose first portals are as they were; and the longest tree.
+use Rattle.std.proofs.Common.{◌≡◌, ℕ, zero, suc, ◌+◌, ◌<◌, ◌≤◌, List, [], ◌∷◌, ◌++◌, length, get_or, max, set, take, refl, sym, ◌∙◌, ap, subst, arith}
+use Rattle.std.proofs.Common.{Some, map, get_or-set_same}
+use Rattle.std.proofs.lemmas.List.{take_more, take_more_set, take-set, length-set, map-append}
+use Rattle.std.proofs.lemmas.Option.{slice_get_within, slice_get-get_or, get_or_from_slice_get}
 use Rattle.std.specs.List.{slice_get}
-use Rattle.std.proofs.lemmas.Bool.{cases_lt}
-use Rattle.std.proofs.lemmas.Option.{get_or_from_slice_get}
 use Rattle.sight_names.specs.Splitting.{EndPoints}
 use Rattle.sight_tree.specs.declared.Tree.{Tree}
-use Rattle.half_edges.specs.declared.table.HalfEdge.{HalfEdge}
+use Rattle.tree_judge.specs.declared.roots.Root.{Root}
 use Rattle.tree_judge.specs.declared.trees.Frame.{Frame}
-use Rattle.half_edges.specs.HalfEdges.{way_outside}
-use Rattle.tree_judge.specs.Path.{portal_ends, path_ends, Pending, pending_way, pending_ways, longest_of}
+use Rattle.tree_judge.specs.declared.trees.Follow.{Follow}
+use Rattle.tree_judge.specs.Path.{portal_ends, path_ends, PutsAt, StandsAt, IsWaiting, LetsWait, Pending, pending_way, root_pending, IsAt, longest_of}
 
--- the last frame's way comes first
-last_first : (xs : List HalfEdge) (source : ℕ) (path : List EndPoints) (fs : List Frame) (f : Frame) → pending_ways xs source path (fs ++ f ∷ []) ≡ pending_way (path ++ path_ends (fs ++ f ∷ [])) (way_outside xs source f.right_way) ++ pending_ways xs source path fs
-last_first xs source path [] f = cc_end (pending_way (path ++ portal_ends f ∷ []) (way_outside xs source f.right_way))
+-- ---- the first portals alone count
+
+take_in : (xs : List Frame) (d e : ℕ) → d ≤ e → take d (take e xs) ≡ take d xs
+take_in [] zero zero l = refl
+take_in [] zero (suc e) l = refl
+take_in [] (suc d) zero l = absurd (omega (arith, l))
+take_in [] (suc d) (suc e) l = refl
+take_in (x ∷ xs) zero zero l = refl
+take_in (x ∷ xs) zero (suc e) l = refl
+take_in (x ∷ xs) (suc d) zero l = absurd (omega (arith, l))
+take_in (x ∷ xs) (suc d) (suc e) l = ap (λ (fs : List Frame). x ∷ fs) (take_in xs d e (omega (arith, l)))
+
+get_in : (xs : List Frame) (k d : ℕ) → k < d → slice_get (take d xs) k ≡ slice_get xs k
+get_in [] k zero l = absurd (omega (arith, l))
+get_in [] k (suc d) l = refl
+get_in (x ∷ xs) k zero l = absurd (omega (arith, l))
+get_in (x ∷ xs) zero (suc d) l = refl
+get_in (x ∷ xs) (suc k) (suc d) l = get_in xs k d (omega (arith, l))
+
+pub waiting_same : (path other : List Frame) (d count : ℕ) (ws : List Pending) → take d other ≡ take d path → count ≤ d → IsWaiting path count ws → IsWaiting other count ws
+waiting_same path other d count [] e l h = h
+waiting_same path other d count (p ∷ ws) e l (f, (k, q, is), this, less, more) = (f, (k, q, there), this ∙ ends, less, waiting_same path other d f.before ws e (omega (arith, l, less)) more)
   where
-    cc_end : (ps : List Pending) → [] ++ ps ≡ ps ++ []
-    cc_end ps = sym (append-nil ps)
-last_first xs source path (g ∷ fs) f =
-    ap (λ (ps : List Pending). ps ++ pending_way (path ++ portal_ends g ∷ []) (way_outside xs source g.right_way)) (last_first xs source (path ++ portal_ends g ∷ []) fs f)
-    ∙ append_assoc (pending_way ((path ++ portal_ends g ∷ []) ++ path_ends (fs ++ f ∷ [])) (way_outside xs source f.right_way)) (pending_ways xs source (path ++ portal_ends g ∷ []) fs) (pending_way (path ++ portal_ends g ∷ []) (way_outside xs source g.right_way))
-    ∙ ap (λ (es : List EndPoints). pending_way es (way_outside xs source f.right_way) ++ pending_ways xs source path (g ∷ fs)) (append_assoc path (portal_ends g ∷ []) (path_ends (fs ++ f ∷ [])))
+    near : k < d
+    near = omega (arith, q, l)
 
--- the first so many frames, the last of them apart
-pub back_one : (xs : List HalfEdge) (source : ℕ) (path : List Frame) (d : ℕ) (f : Frame) → d < length path → f ≡ get_or path d f → pending_ways xs source [] (take (d + 1) path) ≡ pending_way (path_ends (take (d + 1) path)) (way_outside xs source f.right_way) ++ pending_ways xs source [] (take d path)
-back_one xs source path d f l e = subst (λ (fs : List Frame). pending_ways xs source [] fs ≡ pending_way (path_ends fs) (way_outside xs source f.right_way) ++ pending_ways xs source [] (take d path)) (sym (take_more path d f l ∙ ap (λ (g : Frame). take d path ++ g ∷ []) (sym e))) (last_first xs source [] (take d path) f)
+    there : slice_get other k ≡ Some f
+    there = sym (get_in other k d near) ∙ ap (λ (fs : List Frame). slice_get fs k) e ∙ get_in path k d near ∙ is
 
-abbrev pub taken : Frame → Frame
-taken f = record f { right_way = None }
+    ends : ◌≡◌ {A = Pending} (record { path = path_ends (take count path); edge = f.right_way }) (record { path = path_ends (take count other); edge = f.right_way })
+    ends = ap (λ (fs : List Frame). let r : Pending = record { path = path_ends fs; edge = f.right_way } in r) (sym (take_in path count d l) ∙ ap (take count) (sym e) ∙ take_in other count d l)
 
-ends_set : (path : List Frame) (d : ℕ) (f : Frame) → d < length path → f ≡ get_or path d f → path_ends (set path d (taken f)) ≡ path_ends path
-ends_set [] d f l e = absurd (omega arith)
-ends_set (g ∷ path) zero f l e = ap (λ (h : Frame). portal_ends h ∷ path_ends path) e
-ends_set (g ∷ path) (suc d) f l e = ap (λ (es : List EndPoints). portal_ends g ∷ es) (ends_set path d f (omega arith) e)
+-- what is still to be asked depends on the open portals of the path alone
+pub at_same : (roots : List Root) (path other : List Frame) (f : Follow) (ps : List Pending) → take f.depth other ≡ take f.depth path → IsAt roots path f ps → IsAt roots other f ps
+at_same roots path other f ps e a = record {
+  es = a.es;
+  ways = a.ways;
+  chain = a.chain;
+  waiting = waiting_same path other f.depth f.waiting a.ways e a.nested a.waiting;
+  nested = a.nested;
+  all = subst (λ (fs : List Frame). ps ≡ pending_way (path_ends fs) f.asked ++ (a.ways ++ map root_pending a.es)) (sym e) a.all;
+  last = a.last;
+}
 
--- its way taken, the frame has none to come
-back_taken : (xs : List HalfEdge) (source : ℕ) (path : List Frame) (d : ℕ) (f : Frame) → d < length path → pending_ways xs source [] (take (d + 1) (set path d (taken f))) ≡ pending_ways xs source [] (take d path)
-back_taken xs source path d f l = ap (pending_ways xs source []) (take_more_set path d (taken f) l) ∙ last_first xs source [] (take d path) (taken f)
+-- ---- none waits
 
--- what is known on the way back
-pub record IsBackTo (xs : List HalfEdge) (source : ℕ) (old path : List Frame) (all d : ℕ) : Type 0 where
-  pub within : d ≤ length path
-  pub fewer : d ≤ all
-  pub ends : path_ends path ≡ path_ends old
-  pub ways : pending_ways xs source [] (take all old) ≡ pending_ways xs source [] (take d path)
+pub none_waits : (path : List Frame) (count : ℕ) (ws : List Pending) → count ≡ 0 → IsWaiting path count ws → ws ≡ []
+none_waits path count [] e h = refl
+none_waits path count (p ∷ ws) e (f, (k, q, is), first, less, more) = absurd (omega (arith, e, q))
 
-pub back_start : (xs : List HalfEdge) (source : ℕ) (old : List Frame) (all d : ℕ) → d ≡ min all (length old) → IsBackTo xs source old old all d
-back_start xs source old all d e = record { within = omega arith; fewer = omega arith; ends = refl; ways = ap (pending_ways xs source []) same }
-  where
-    same : take all old ≡ take d old
-    same = elim (cases_lt (length old) all) as (λ _. take all old ≡ take d old) [
-      | inl h ↦ take_all all old (omega arith) ∙ sym (take_all d old (omega arith))
-      | inr h ↦ ap (λ (n : ℕ). take n old) (omega arith)
-    ]
+pub none_stands : (path : List Frame) (count : ℕ) (ws : List Pending) → length path < count → IsWaiting path count ws → ws ≡ []
+none_stands path count [] l h = refl
+none_stands path count (p ∷ ws) l (f, (k, q, is), first, less, more) = absurd (let n : k < length path = slice_get_within path k f is in omega (arith, l, q, n))
 
-pub ends_take : (path old : List Frame) (d : ℕ) → path_ends path ≡ path_ends old → path_ends (take d path) ≡ path_ends (take d old)
-ends_take path old d e = sym (take-map portal_ends d path) ∙ ap (take d) e ∙ take-map portal_ends d old
+-- ---- a portal that is put, or whose right way waits
 
-pub back_step : (xs : List HalfEdge) (source : ℕ) (old path : List Frame) (all d k : ℕ) (f : Frame) → d ≡ k + 1 → slice_get path k ≡ Some f → IsBackTo xs source old path all d → None ≡ way_outside xs source f.right_way → IsBackTo xs source old (set path k (taken f)) all k
-back_step xs source old path all d k f q e b w = record {
-  within = let h : length (set path k (taken f)) ≡ length path = length-set path k (taken f) in omega (arith, h, q, b.within);
-  fewer = omega (arith, q, b.fewer);
-  ends = ends_set path k f l here ∙ b.ends;
-  ways = b.ways ∙ ap (λ (n : ℕ). pending_ways xs source [] (take n path)) q ∙ back_one xs source path k f l here ∙ ap (λ (o : Option ℕ). pending_way (path_ends (take (k + 1) path)) o ++ pending_ways xs source [] (take k path)) (sym w) ∙ ap (pending_ways xs source []) (sym (take-set path k (taken f)));
+pub put_at : (path : List Frame) (d : ℕ) (f : Frame) (ends : EndPoints) → d < length path → portal_ends f ≡ ends → PutsAt path d ends (set path d f)
+put_at path d f ends l e = record {
+  kept = take-set path d f;
+  put = ap path_ends (take_more_set path d f l) ∙ map-append portal_ends (take d path) (f ∷ []) ∙ ap (λ (es : EndPoints). path_ends (take d path) ++ es ∷ []) e;
+}
+
+pub waits_at : (path : List Frame) (d way before : ℕ) (f g : Frame) → d < length path → slice_get path d ≡ Some g → portal_ends f ≡ portal_ends g → f.right_way ≡ way → f.before ≡ before → LetsWait path d way before (set path d f)
+waits_at path d way before f g l is e w b = record {
+  kept = take-set path d f;
+  ends = ap path_ends (take_more_set path d f l) ∙ map-append portal_ends (take d path) (f ∷ []) ∙ ap (λ (es : EndPoints). path_ends (take d path) ++ es ∷ []) e ∙ sym (map-append portal_ends (take d path) (g ∷ []))
+      ∙ ap path_ends (ap (λ (h : Frame). take d path ++ h ∷ []) (sym (get_or_from_slice_get path d g g is)) ∙ sym (take_more path d g l));
+  frame = f;
+  is = there;
+  way_is = w;
+  before_is = b;
 }
   where
-    l : k < length path
-    l = omega (arith, q, b.within)
-
-    here : f ≡ get_or path k f
-    here = sym (get_or_from_slice_get path k f f e)
-
-pub back_found : (xs : List HalfEdge) (source : ℕ) (old path : List Frame) (all d k i : ℕ) (f : Frame) → d ≡ k + 1 → slice_get path k ≡ Some f → IsBackTo xs source old path all d → Some i ≡ way_outside xs source f.right_way
-    → (path_ends (set path k (taken f)) ≡ path_ends old) × (pending_ways xs source [] (take all old) ≡ pending_way (path_ends (take d old)) (Some i) ++ pending_ways xs source [] (take d (set path k (taken f))))
-back_found xs source old path all d k i f q e b w = (
-  ends_set path k f l here ∙ b.ends,
-  b.ways ∙ ap (λ (n : ℕ). pending_ways xs source [] (take n path)) q ∙ back_one xs source path k f l here
-      ∙ ap (λ (o : Option ℕ). pending_way (path_ends (take (k + 1) path)) o ++ pending_ways xs source [] (take k path)) (sym w)
-      ∙ ap (λ (es : List EndPoints). pending_way es (Some i) ++ pending_ways xs source [] (take k path)) (ap (λ (n : ℕ). path_ends (take n path)) (sym q) ∙ ends_take path old d b.ends)
-      ∙ ap (λ (ps : List Pending). pending_way (path_ends (take d old)) (Some i) ++ ps) (sym (back_taken xs source path k f l) ∙ ap (λ (n : ℕ). pending_ways xs source [] (take n (set path k (taken f)))) (sym q)),
-)
-  where
-    l : k < length path
-    l = omega (arith, q, b.within)
-
-    here : f ≡ get_or path k f
-    here = sym (get_or_from_slice_get path k f f e)
+    there : slice_get (set path d f) d ≡ Some f
+    there = slice_get-get_or (set path d f) d f (let h : length (set path d f) ≡ length path = length-set path d f in omega (arith, h, l)) ∙ ap Some (get_or-set_same path d f f l)
 
 -- ---- the longest tree
 

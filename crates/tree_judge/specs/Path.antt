@@ -1,12 +1,12 @@
 -- The path of a walk that follows a tree: its portals, and the ways that are still to come.
-use Rattle.std.specs.Prelude.{◌≡◌, ℕ, max, ◌<◌, List, [], ◌∷◌, ◌++◌, Option, Some, None, option_and_then, map, take, length, slice_get, IfSome}
+use Rattle.std.specs.Prelude.{◌≡◌, ℕ, max, ◌+◌, ◌<◌, ◌≤◌, List, [], ◌∷◌, ◌++◌, Option, Some, None, option_and_then, map, take, length, slice_get, IfSome}
 use Rattle.sight_names.specs.Splitting.{EndPoints, end_of}
 use Rattle.sight_names.specs.declared.names.EndAt.{EndAt}
-use Rattle.block_evidence.specs.declared.Evidence.{Evidence}
 use Rattle.sight_tree.specs.declared.Tree.{Tree}
-use Rattle.block_evidence.specs.Stuck.{AreStuck, Blocks}
+use Rattle.block_evidence.specs.Stuck.{AreStuck}
 use Rattle.half_edges.specs.declared.table.HalfEdge.{HalfEdge}
 use Rattle.tree_judge.specs.declared.roots.Root.{Root}
+use Rattle.tree_judge.specs.declared.trees.Follow.{Follow}
 use Rattle.tree_judge.specs.declared.trees.Frame.{Frame}
 use Rattle.half_edges.specs.HalfEdges.{way_outside}
 
@@ -18,13 +18,14 @@ portal_ends f = record { left = f.left; right = f.right }
 abbrev pub path_ends : List Frame → List EndPoints
 path_ends path = map portal_ends path
 
--- the portal of the half-edge, its right way still to come
-abbrev pub frame_at : HalfEdge → Frame
-frame_at x = record { left = x.left_at; right = x.right_at; right_way = x.right_way }
+-- the ends of the half-edge's portal
+abbrev pub edge_ends : HalfEdge → EndPoints
+edge_ends x = record { left = x.left_at; right = x.right_at }
 
--- the ends of the first portals of the path, and behind them those of the half-edge's portal
-abbrev pub asked_ends : List Frame → ℕ → HalfEdge → List EndPoints
-asked_ends path depth x = path_ends (take depth path) ++ portal_ends (frame_at x) ∷ []
+-- the portal with these ends is behind the first portals of the path, and those are as they were
+pub record PutsAt (old : List Frame) (depth : ℕ) (ends : EndPoints) (new : List Frame) : Type 0 where
+  pub kept : take depth new ≡ take depth old
+  pub put : path_ends (take (depth + 1) new) ≡ path_ends (take depth old) ++ ends ∷ []
 
 -- this is the end with the code, if it is any
 abbrev pub IsEndOf : List EndPoints → ℕ → Option EndAt → Type 0
@@ -33,13 +34,6 @@ IsEndOf es code found = IfSome found (λ e. end_of es code ≡ Some e)
 -- these are the codes of four ends, and the ends are stuck
 abbrev pub AreStuckEnds : List EndPoints → ℕ → ℕ → ℕ → ℕ → Type 0
 AreStuckEnds es a b c d = (w x y z : EndAt) × (end_of es a ≡ Some w) × (end_of es b ≡ Some x) × (end_of es c ≡ Some y) × (end_of es d ≡ Some z) × AreStuck (w ∷ x ∷ y ∷ z ∷ [])
-
--- the ends are ends of the sequence that goes through the half-edge at this place behind the first portals of the path, and stuck
-pub record IsClosedBy (xs : List HalfEdge) (path : List Frame) (depth place : ℕ) (e : Evidence) : Type 0 where
-  pub edge : HalfEdge
-  pub is : slice_get xs place ≡ Some edge
-  pub room : depth < length path
-  pub blocks : Blocks (asked_ends path depth edge) e
 
 abbrev pub list_of : Option ℕ → List ℕ
 list_of None = []
@@ -54,10 +48,24 @@ abbrev pub pending_way : List EndPoints → Option ℕ → List Pending
 pending_way path None = []
 pending_way path (Some i) = record { path = path; edge = i } ∷ []
 
--- the right ways out of the source that are still to come behind these portals, those of the last frame first
-abbrev pub pending_ways : List HalfEdge → ℕ → List EndPoints → List Frame → List Pending
-pending_ways xs source path [] = []
-pending_ways xs source path (f ∷ fs) = pending_ways xs source (path ++ portal_ends f ∷ []) fs ++ pending_way (path ++ portal_ends f ∷ []) (way_outside xs source f.right_way)
+-- so many portals lead to this one
+abbrev pub StandsAt : List Frame → ℕ → Frame → Type 0
+StandsAt path count f = (k : ℕ) × (count ≡ k + 1) × (slice_get path k ≡ Some f)
+
+-- The right ways that are still to come, the last one first: that behind the last portal that has one, to which so many lead, and those behind
+-- the portals that are named one after another.
+abbrev pub IsWaiting : List Frame → ℕ → List Pending → Type 0
+IsWaiting path count [] = count ≡ 0
+IsWaiting path count (p ∷ ps) = (f : Frame) × StandsAt path count f × (p ≡ record { path = path_ends (take count path); edge = f.right_way }) × (f.before < count) × IsWaiting path f.before ps
+
+-- the way waits behind the portal at this depth, which names the one before it; all portals are as they were
+pub record LetsWait (old : List Frame) (depth way before : ℕ) (new : List Frame) : Type 0 where
+  pub kept : take depth new ≡ take depth old
+  pub ends : path_ends (take (depth + 1) new) ≡ path_ends (take (depth + 1) old)
+  pub frame : Frame
+  pub is : slice_get new depth ≡ Some frame
+  pub way_is : frame.right_way ≡ way
+  pub before_is : frame.before ≡ before
 
 -- the half-edges of the roots from this place on
 abbrev pub IsChain : List Root → Option ℕ → List ℕ → Type 0
@@ -73,25 +81,34 @@ pub record AsksRoot (roots : List Root) (root asked next : Option ℕ) : Type 0 
 abbrev pub root_pending : ℕ → Pending
 root_pending e = record { path = []; edge = e }
 
--- all that is still to be asked: the ways behind the first portals of the path, then the roots
-abbrev pub all_pending : List HalfEdge → ℕ → List Frame → ℕ → List ℕ → List Pending
-all_pending xs source path depth es = pending_ways xs source [] (take depth path) ++ map root_pending es
+-- all that is still to be asked by the walk: the present half-edge, the right ways that wait, the roots behind its own
+pub record IsAt (roots : List Root) (path : List Frame) (f : Follow) (ps : List Pending) : Type 0 where
+  pub es : List ℕ
+  pub ways : List Pending
+  pub chain : IsChain roots f.root es
+  pub waiting : IsWaiting path f.waiting ways
+  pub nested : f.waiting ≤ f.depth
+  pub all : ps ≡ pending_way (path_ends (take f.depth path)) f.asked ++ (ways ++ map root_pending es)
+  pub last : f.asked ≡ None → ps ≡ []
 
--- the first of all that is still to be asked is asked, and the others remain; None only where nothing was left
-pub record TakesNext (xs : List HalfEdge) (roots : List Root) (source : ℕ) (old : List Frame) (depth : ℕ) (root : Option ℕ) (new : List Frame) (depth_new : ℕ) (root_new : Option ℕ) (asked : Option ℕ) : Type 0 where
-  pub next : (es : List ℕ) → IsChain roots root es → (fs : List ℕ) × IsChain roots root_new fs
-      × (all_pending xs source old depth es ≡ pending_way (path_ends (take depth_new old)) asked ++ all_pending xs source new depth_new fs)
-      × (asked ≡ None → all_pending xs source old depth es ≡ [])
+-- the walk, this half-edge asked
+abbrev pub with_asked : Follow → Option ℕ → Follow
+with_asked f asked = record f { asked = asked }
 
--- the two ways behind a half-edge that is asked, as far as they lead out of the source
-abbrev pub ways_behind : List HalfEdge → ℕ → List Frame → ℕ → HalfEdge → List Pending
-ways_behind xs source path depth x = pending_way (asked_ends path depth x) (way_outside xs source x.left_way) ++ pending_way (asked_ends path depth x) (way_outside xs source x.right_way)
+-- the first of the ways that wait and of the roots is asked, and the others remain; None only where nothing was left
+pub record TakesNext (roots : List Root) (path : List Frame) (old new : Follow) (asked : Option ℕ) : Type 0 where
+  pub next : (es : List ℕ) (ways : List Pending) → IsChain roots old.root es → IsWaiting path old.waiting ways → IsAt roots path (with_asked new asked) (ways ++ map root_pending es)
+  pub depth : new.depth ≤ old.waiting
+
+-- the two ways behind a half-edge to whose portal's far side these ends lead, as far as they lead out of the source
+abbrev pub ways_behind : List HalfEdge → ℕ → List EndPoints → HalfEdge → List Pending
+ways_behind xs source ends x = pending_way ends (way_outside xs source x.left_way) ++ pending_way ends (way_outside xs source x.right_way)
 
 -- whoever goes through the half-edge has its two ways to ask before all that is still to be asked; the first is asked
-pub record EntersThrough (xs : List HalfEdge) (roots : List Root) (source : ℕ) (old : List Frame) (depth : ℕ) (root : Option ℕ) (x : HalfEdge) (new : List Frame) (depth_new : ℕ) (root_new : Option ℕ) (asked : Option ℕ) : Type 0 where
-  pub next : (es : List ℕ) → IsChain roots root es → (fs : List ℕ) × IsChain roots root_new fs
-      × (ways_behind xs source old depth x ++ all_pending xs source old depth es ≡ pending_way (path_ends (take depth_new new)) asked ++ all_pending xs source new depth_new fs)
-      × (asked ≡ None → ways_behind xs source old depth x ++ all_pending xs source old depth es ≡ [])
+pub record EntersThrough (xs : List HalfEdge) (roots : List Root) (source : ℕ) (path : List Frame) (old : Follow) (x : HalfEdge) (path_new : List Frame) (new : Follow) (asked : Option ℕ) : Type 0 where
+  pub next : (es : List ℕ) (ways : List Pending) → IsChain roots old.root es → IsWaiting path old.waiting ways → old.waiting ≤ old.depth
+      → IsAt roots path_new (with_asked new asked) (ways_behind xs source (path_ends (take (old.depth + 1) path)) x ++ (ways ++ map root_pending es))
+  pub depth : old.waiting ≤ old.depth → new.depth ≤ old.depth + 1
 
 -- how many nodes the longest of the trees has
 abbrev pub longest_of : List Tree → ℕ

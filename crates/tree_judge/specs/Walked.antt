@@ -9,8 +9,8 @@ use Rattle.tree_judge.specs.declared.trees.Frame.{Frame}
 use Rattle.tree_judge.specs.declared.trees.Follow.{Follow}
 use Rattle.tree_judge.specs.declared.walk.TreeWalk.{TreeWalk}
 use Rattle.tree_judge.specs.Roots.{first_at}
-use Rattle.tree_judge.specs.Path.{Pending, IsChain, root_pending}
-use Rattle.tree_judge.specs.Whole.{AreAnswered, Notes, IsAt, IsFirstWrongFrom}
+use Rattle.tree_judge.specs.Path.{Pending, IsChain, root_pending, IsAt}
+use Rattle.tree_judge.specs.Whole.{AreAnswered, Notes, IsFirstWrongFrom}
 
 -- a tree of which no node has come
 abbrev pub begun : ℕ → Tree
@@ -28,8 +28,8 @@ with_nodes ns t = record { source = t.source; nodes = t.nodes ++ ns }
 pub record IsWalkedAt (xs : List HalfEdge) (roots : List Root) (firsts : List (Option ℕ)) (t : Tree) (old new : TableParts) (source : ℕ) (path : List Frame) (f : Follow) : Type 0 where
   pub source_is : source ≡ t.source
   pub room : f.depth ≤ length path
-  pub depth : f.depth ≤ length t.nodes
-  pub each : (es : List ℕ) → IsChain roots (first_at firsts t.source) es → (ps : List Pending) × (sectors : List ℕ) × AreAnswered xs t.source (map root_pending es) t.nodes ps sectors × IsAt xs roots t.source path f ps × Notes t.source sectors old new
+  pub depth : (es : List ℕ) → IsChain roots (first_at firsts t.source) es → f.depth ≤ length t.nodes
+  pub each : (es : List ℕ) → IsChain roots (first_at firsts t.source) es → (ps : List Pending) × (sectors : List ℕ) × AreAnswered xs t.source (map root_pending es) t.nodes ps sectors × IsAt roots path f ps × Notes t.source sectors old new
 
 abbrev pub IsWalked : List HalfEdge → List Root → List (Option ℕ) → Tree → TableParts → TableParts → TreeWalk → Type 0
 IsWalked xs roots firsts t old new w = IsWalkedAt xs roots firsts t old new w.source w.path.items w.follow

@@ -1,5 +1,5 @@
 -- Trees as answers to a walk: each node answers the first of the half-edges that are still to be asked.
-use Rattle.std.specs.Prelude.{◌≡◌, ◌≢◌, ℕ, ◌<◌, ◌≤◌, ◌⊎◌, ◌↔◌, List, [], ◌∷◌, ◌++◌, Option, Some, None, map, take, length, slice_get, Contains, Bool}
+use Rattle.std.specs.Prelude.{◌≡◌, ◌≢◌, ℕ, ◌+◌, ◌<◌, ◌≤◌, ◌⊎◌, ◌↔◌, List, [], ◌∷◌, ◌++◌, Option, Some, None, map, take, length, slice_get, Contains, Bool}
 use Rattle.sight_names.specs.Map.{Map}
 use Rattle.sight_names.specs.Splitting.{EndPoints}
 use Rattle.sight_tree.specs.declared.Node.{Node}
@@ -15,11 +15,11 @@ use Rattle.tree_judge.specs.declared.trees.Follow.{Follow}
 use Rattle.half_edges.specs.HalfEdges.{way_outside}
 use Rattle.tree_judge.specs.Roots.{root_edges}
 use Rattle.tree_judge.specs.Marks.{IsMarked}
-use Rattle.tree_judge.specs.Path.{portal_ends, path_ends, frame_at, list_of, Pending, pending_way, IsChain, root_pending, all_pending}
+use Rattle.tree_judge.specs.Path.{edge_ends, list_of, Pending, pending_way, IsChain, root_pending, IsAt}
 
 -- the ends of the portals that lead up to the half-edge and through it
 abbrev pub ends_through : Pending → HalfEdge → List EndPoints
-ends_through p x = p.path ++ portal_ends (frame_at x) ∷ []
+ends_through p x = p.path ++ edge_ends x ∷ []
 
 -- whoever goes through the half-edge has its two ways to ask, as far as they lead out of the source
 abbrev pub ways_through : List HalfEdge → ℕ → Pending → HalfEdge → List Pending
@@ -99,21 +99,15 @@ HaveSourcesBelow n trees = (t : Tree) → Contains trees t → t.source < n
 
 -- ---- the walk that follows a tree
 
--- all that is still to be asked by the walk: the present half-edge, the ways behind its path, the roots behind its own
-pub record IsAt (xs : List HalfEdge) (roots : List Root) (source : ℕ) (path : List Frame) (f : Follow) (ps : List Pending) : Type 0 where
-  pub es : List ℕ
-  pub chain : IsChain roots f.root es
-  pub all : ps ≡ pending_way (path_ends (take f.depth path)) f.asked ++ all_pending xs source path f.depth es
-  pub last : f.asked ≡ None → ps ≡ []
-
 -- whatever is still to be asked: the node answers for it, the walk stands behind it, and what it enters is noted
 pub record HasAnswered (xs : List HalfEdge) (roots : List Root) (source : ℕ) (n : Node) (path : List Frame) (f : Follow) (t : TableParts) (path_new : List Frame) (f_new : Follow) (t_new : TableParts) : Type 0 where
-  pub next : (ps : List Pending) → IsAt xs roots source path f ps → (qs : List Pending) × (sectors : List ℕ) × Answers xs source ps n qs sectors × IsAt xs roots source path_new f_new qs × Notes source sectors t t_new
+  pub next : (ps : List Pending) → IsAt roots path f ps → (qs : List Pending) × (sectors : List ℕ) × Answers xs source ps n qs sectors × IsAt roots path_new f_new qs × Notes source sectors t t_new
+  pub depth : f.waiting ≤ f.depth → f_new.depth ≤ f.depth + 1
 
 -- whatever is still to be asked: the node doesn't answer for it
 pub record HasRefused (xs : List HalfEdge) (roots : List Root) (source : ℕ) (n : Node) (path : List Frame) (f : Follow) : Type 0 where
-  pub none : (ps qs : List Pending) (sectors : List ℕ) → IsAt xs roots source path f ps → ¬ Answers xs source ps n qs sectors
+  pub none : (ps qs : List Pending) (sectors : List ℕ) → IsAt roots path f ps → ¬ Answers xs source ps n qs sectors
 
 -- the walk stands before these roots
-pub record StandsBefore (xs : List HalfEdge) (roots : List Root) (source : ℕ) (first : Option ℕ) (path : List Frame) (f : Follow) : Type 0 where
-  pub start : (es : List ℕ) → IsChain roots first es → IsAt xs roots source path f (map root_pending es)
+pub record StandsBefore (roots : List Root) (first : Option ℕ) (path : List Frame) (f : Follow) : Type 0 where
+  pub start : (es : List ℕ) → IsChain roots first es → IsAt roots path f (map root_pending es)

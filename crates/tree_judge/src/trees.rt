@@ -1,11 +1,11 @@
 //! Trees judged in one pass: each node is asked of the walk at its place.
 
-ghost use Rattle.std.specs.Prelude.{◌≡◌, ◌≤◌, ◌<◌, ◌+◌, ◌↔◌, ◌++◌, [], ◌∷◌, Some, None, true, false, IsTrue, IfNone, IfSome, IfOk, slice_get, length, take, slice_set};
+ghost use Rattle.std.specs.Prelude.{◌≡◌, ◌≤◌, ◌<◌, ◌+◌, ◌↔◌, [], List, Some, None, true, false, IsTrue, IfNone, IfSome, IfOk, length, take};
 ghost use Rattle.sight_names.specs.Splitting.{end_of as end_at};
 ghost use Rattle.block_evidence.specs.Stuck.{Blocks};
 ghost use Rattle.reject_bits.specs.Parts.{TableParts};
 ghost use Rattle.sight_tree.specs.declared.Node.TheVariants.{Open, Blocked};
-ghost use Rattle.tree_judge.specs.Path.{list_of, path_ends, frame_at, pending_way, pending_ways, longest_of, IsEndOf, AreStuckEnds, AsksRoot, EntersThrough, IsClosedBy, TakesNext};
+ghost use Rattle.tree_judge.specs.Path.{list_of, path_ends, edge_ends, longest_of, IsEndOf, AreStuckEnds, AsksRoot, Pending, IsWaiting, StandsAt, PutsAt, LetsWait, EntersThrough, TakesNext};
 ghost use Rattle.tree_judge.specs.Roots.{first_at};
 ghost use Rattle.tree_judge.specs.Whole.{Notes, HasAnswered, HasRefused, StandsBefore, IsWholeFrom, IsFirstWrongFrom};
 
@@ -21,12 +21,14 @@ const ORIGIN: Pt = Pt { x: 0, y: 0 };
 
 /// The least code of a right end.
 
-/// A portal on the way to the present node: its ends, and the right way behind it as long as that is still to come.
+/// A portal on the way to the present node: its ends; and, where both ways behind it lead on and the left one is taken, the
+/// right one, and how many portals lead to the portal before it of which that is true.
 #[derive(Clone, Copy)]
 pub struct Frame {
     left: Pt,
     right: Pt,
-    right_way: Option<u32>,
+    right_way: u32,
+    before: usize,
 }
 
 /// The mesh as a walk needs it.
@@ -41,7 +43,8 @@ fn blank() -> Frame {
     Frame {
         left: ORIGIN,
         right: ORIGIN,
-        right_way: None,
+        right_way: 0,
+        before: 0,
     }
 }
 
@@ -65,52 +68,6 @@ pub fn make_room(path: &mut Vec<Frame>, depth: usize) -> Result<(), Memory>
         path.push(blank())?;
     }
     Ok(())
-}
-
-/// The portal of the half-edge, its right way still to come.
-#[inline(always)]
-fn frame_of(edge: &HalfEdge) -> Frame
-    ensures { result ≡ frame_at edge.now }
-{
-    Frame {
-        left: edge.left_at,
-        right: edge.right_at,
-        right_way: edge.right_way,
-    }
-}
-
-/// The frame with its right way taken.
-#[inline(always)]
-fn taken(frame: Frame) -> Frame
-    ensures { result ≡ record frame { right_way = None } }
-{
-    Frame {
-        left: frame.left,
-        right: frame.right,
-        right_way: None,
-    }
-}
-
-/// The next right way on the way back along the first portals of the path, and how many it stands behind.
-#[inline(always)]
-fn back(edges: &HalfEdges, source: u16, path: &mut [Frame], count: usize) -> (Option<u32>, usize)
-    ensures within { result.1 ≤ length path.old }
-    ensures fewer { result.1 ≤ count }
-    ensures none { IfNone result.0 (result.1 ≡ 0) }
-    ensures ends { path_ends path.new ≡ path_ends path.old }
-    ensures ways { pending_ways edges.now source [] (take count path.old) ≡ pending_way (path_ends (take result.1 path.old)) result.0 ++ pending_ways edges.now source [] (take result.1 path.new) }
-{
-    let mut depth = count.min(path.len());
-    while depth > 0 {
-        let last = depth - 1;
-        let frame = path[last];
-        path[last] = taken(frame);
-        if let Some(way) = edges.outside(frame.right_way, source) {
-            return (Some(way), depth);
-        }
-        depth = last;
-    }
-    (None, 0)
 }
 
 /// The end with this code: of the portal at its place.
@@ -269,34 +226,20 @@ fn is_blocked(path: &[Frame], evidence: Evidence) -> bool
 #[inline(always)]
 fn put(path: &mut [Frame], depth: usize, edge: &HalfEdge) -> bool
     ensures room { IsTrue result ↔ (depth < length path.old) }
-    ensures put { path.new ≡ slice_set path.old depth (frame_at edge.now) }
+    ensures put { IsTrue result → PutsAt path.old depth (edge_ends edge.now) path.new }
 {
     if depth >= path.len() {
         return false;
     }
-    path[depth] = frame_of(edge);
-    true
-}
-
-/// Whether the ends are ends of the sequence that is asked, and stuck.
-#[inline(always)]
-fn is_closed(
-    terrain: &Terrain<'_>,
-    path: &mut [Frame],
-    depth: usize,
-    place: u32,
-    evidence: Evidence,
-) -> bool
-    ensures closed { IsTrue result ↔ IsClosedBy terrain.now.edges.now path.old depth place evidence }
-    ensures kept { take depth path.new ≡ take depth path.old }
-{
-    let Some(edge) = terrain.edges.get(place) else {
-        return false;
+    // what isn't of the ends stays as it is, so that it needn't be written
+    let frame = path[depth];
+    path[depth] = Frame {
+        left: edge.left_at,
+        right: edge.right_at,
+        right_way: frame.right_way,
+        before: frame.before,
     };
-    if !put(path, depth, edge) {
-        return false;
-    }
-    is_blocked(&path[..=depth], evidence)
+    true
 }
 
 /// A walk that follows a tree.
@@ -308,6 +251,8 @@ pub struct Follow {
     pub root: Option<usize>,
     /// The half-edge that is asked now.
     pub asked: Option<u32>,
+    /// How many portals lead to the last one whose right way is still to come; 0 where there is none.
+    pub waiting: usize,
 }
 
 /// The half-edge of the root at this place, and the place of the next one.
@@ -321,32 +266,58 @@ fn next_root(roots: &Roots, root: Option<usize>) -> (Option<u32>, Option<usize>)
     }
 }
 
+/// The last portal whose right way is still to come, where so many portals lead to it.
+#[inline(always)]
+#[tactic(auto, using(crate::proofs::Ways::none_waits, crate::proofs::Ways::none_stands))]
+fn last_waiting(path: &[Frame], waiting: usize) -> Option<Frame>
+    ensures some { IfSome result (λ f. StandsAt path.now waiting f) }
+    ensures none { IfNone result ((ws : List Pending) → IsWaiting path.now waiting ws → ws ≡ []) }
+{
+    if waiting == 0 || waiting > path.len() {
+        return None;
+    }
+    Some(path[waiting - 1])
+}
+
 /// The half-edge that is asked next: the next right way, or else the next root.
 #[inline(always)]
-fn next_asked(
-    terrain: &Terrain<'_>,
-    source: u16,
-    path: &mut [Frame],
-    follow: &mut Follow,
-) -> Option<u32>
-    ensures ends { path_ends path.new ≡ path_ends path.old }
-    ensures depth { follow.new.depth ≤ length path.old }
-    ensures fewer { follow.new.depth ≤ follow.old.depth }
-    ensures next { TakesNext terrain.now.edges.now terrain.now.roots.now.roots.items source path.old follow.old.depth follow.old.root path.new follow.new.depth follow.new.root result }
+fn next_asked(roots: &Roots, path: &[Frame], follow: &mut Follow) -> Option<u32>
+    ensures within { follow.new.depth ≤ length path.now }
+    ensures next { TakesNext roots.now.roots.items path.now follow.old follow.new result }
 {
-    let (way, depth) = back(terrain.edges, source, path, follow.depth);
-    follow.depth = depth;
-    match way {
-        Some(way) => Some(way),
+    match last_waiting(path, follow.waiting) {
+        Some(frame) => {
+            follow.depth = follow.waiting;
+            follow.waiting = frame.before;
+            Some(frame.right_way)
+        }
         None => {
-            let (asked, next) = next_root(terrain.roots, follow.root);
+            let (asked, next) = next_root(roots, follow.root);
+            follow.depth = 0;
+            follow.waiting = 0;
             follow.root = next;
             asked
         }
     }
 }
 
-/// Goes through the half-edge, and gives what is asked next.
+/// Lets the right way behind the portal at this depth wait, and names the portal before it of which that is true.
+#[inline(always)]
+fn let_wait(path: &mut [Frame], depth: usize, way: u32, before: usize)
+    requires { depth < length path.old }
+    ensures { LetsWait path.old depth way before path.new }
+{
+    let frame = path[depth];
+    path[depth] = Frame {
+        left: frame.left,
+        right: frame.right,
+        right_way: way,
+        before,
+    };
+}
+
+/// Goes through the half-edge whose portal was put last, and gives what is asked next: its left way, its right way, or what comes
+/// behind both. Where both ways lead out of the source, the right one waits.
 #[inline(always)]
 fn enter(
     terrain: &Terrain<'_>,
@@ -356,14 +327,27 @@ fn enter(
     edge: &HalfEdge,
 ) -> Option<u32>
     requires { follow.old.depth < length path.old }
-    ensures depth { follow.new.depth ≤ follow.old.depth + 1 }
-    ensures enters { EntersThrough terrain.now.edges.now terrain.now.roots.now.roots.items source path.old follow.old.depth follow.old.root edge.now path.new follow.new.depth follow.new.root result }
+    ensures within { follow.new.depth ≤ length path.new }
+    ensures enters { EntersThrough terrain.now.edges.now terrain.now.roots.now.roots.items source path.old follow.old edge.now path.new follow.new result }
 {
-    path[follow.depth] = frame_of(edge);
-    follow.depth += 1;
-    match terrain.edges.outside(edge.left_way, source) {
-        Some(way) => Some(way),
-        None => next_asked(terrain, source, path, follow),
+    let right = terrain.edges.outside(edge.right_way, source);
+    let left = terrain.edges.outside(edge.left_way, source);
+    match (left, right) {
+        (Some(left), Some(right)) => {
+            let_wait(path, follow.depth, right, follow.waiting);
+            follow.depth += 1;
+            follow.waiting = follow.depth;
+            Some(left)
+        }
+        (Some(way), None) => {
+            follow.depth += 1;
+            Some(way)
+        }
+        (None, Some(way)) => {
+            follow.depth += 1;
+            Some(way)
+        }
+        (None, None) => next_asked(terrain.roots, path, follow),
     }
 }
 
@@ -381,57 +365,8 @@ fn note(reached: &mut Table, source: u16, sector: Option<u16>)
     }
 }
 
-/// Goes through the half-edge that is asked: the source reaches the sector behind it. False where there is no such half-edge, or
-/// no room on the path.
-#[inline(always)]
-fn open(
-    terrain: &Terrain<'_>,
-    reached: &mut Table,
-    source: u16,
-    path: &mut [Frame],
-    follow: &mut Follow,
-    place: u32,
-) -> bool
-    requires { follow.old.asked ≡ Some place }
-    ensures depth { follow.new.depth ≤ follow.old.depth + 1 }
-    ensures sectors { reached.new.n ≡ reached.old.n }
-    ensures answered { IsTrue result → HasAnswered terrain.now.edges.now terrain.now.roots.now.roots.items source Open path.old follow.old reached.old path.new follow.new reached.new }
-    ensures refused { result ≡ false → follow.old.depth < length path.old → HasRefused terrain.now.edges.now terrain.now.roots.now.roots.items source Open path.old follow.old }
-{
-    let Some(edge) = terrain.edges.get(place) else {
-        return false;
-    };
-    if follow.depth >= path.len() {
-        return false;
-    }
-    note(reached, source, edge.sector);
-    follow.asked = enter(terrain, source, path, follow, edge);
-    true
-}
-
-/// Leaves out the half-edge that is asked. False where these ends don't show that no line passes the sequence through it.
-#[inline(always)]
-fn block(
-    terrain: &Terrain<'_>,
-    source: u16,
-    path: &mut [Frame],
-    follow: &mut Follow,
-    place: u32,
-    evidence: Evidence,
-) -> bool
-    requires { follow.old.asked ≡ Some place }
-    ensures depth { follow.new.depth ≤ follow.old.depth }
-    ensures answered { (t : TableParts) → IsTrue result → HasAnswered terrain.now.edges.now terrain.now.roots.now.roots.items source (Blocked evidence) path.old follow.old t path.new follow.new t }
-    ensures refused { result ≡ false → follow.old.depth < length path.old → HasRefused terrain.now.edges.now terrain.now.roots.now.roots.items source (Blocked evidence) path.old follow.old }
-{
-    if !is_closed(terrain, path, follow.depth, place, evidence) {
-        return false;
-    }
-    follow.asked = next_asked(terrain, source, path, follow);
-    true
-}
-
-/// Whether the node answers for the half-edge that is asked. The next one is asked then.
+/// Whether the node answers for the half-edge that is asked: it goes through it, and the source reaches the sector behind it; or its ends show
+/// that no line passes the sequence through it. The next half-edge is asked then. False also where there is no room on the path.
 #[inline(always)]
 pub fn answer(
     terrain: &Terrain<'_>,
@@ -441,7 +376,7 @@ pub fn answer(
     follow: &mut Follow,
     node: Node,
 ) -> bool
-    ensures depth { follow.new.depth ≤ follow.old.depth + 1 }
+    ensures within { follow.old.depth ≤ length path.old → follow.new.depth ≤ length path.new }
     ensures sectors { reached.new.n ≡ reached.old.n }
     ensures answered { IsTrue result → HasAnswered terrain.now.edges.now terrain.now.roots.now.roots.items source node path.old follow.old reached.old path.new follow.new reached.new }
     ensures refused { result ≡ false → follow.old.depth < length path.old → HasRefused terrain.now.edges.now terrain.now.roots.now.roots.items source node path.old follow.old }
@@ -449,23 +384,40 @@ pub fn answer(
     let Some(place) = follow.asked else {
         return false;
     };
+    let Some(edge) = terrain.edges.get(place) else {
+        return false;
+    };
+    if !put(path, follow.depth, edge) {
+        return false;
+    }
     match node {
-        Node::Open => open(terrain, reached, source, path, follow, place),
-        Node::Blocked(evidence) => block(terrain, source, path, follow, place, evidence),
+        Node::Open => {
+            note(reached, source, edge.sector);
+            follow.asked = enter(terrain, source, path, follow, edge);
+            true
+        }
+        Node::Blocked(evidence) => {
+            if !is_blocked(&path[..=follow.depth], evidence) {
+                return false;
+            }
+            follow.asked = next_asked(terrain.roots, path, follow);
+            true
+        }
     }
 }
 
 /// A walk of the source before its first root.
-pub fn start(terrain: &Terrain<'_>, source: u16, path: &mut [Frame]) -> Follow
+pub fn start(terrain: &Terrain<'_>, source: u16, path: &[Frame]) -> Follow
     ensures depth { result.depth ≡ 0 }
-    ensures stands { StandsBefore terrain.now.edges.now terrain.now.roots.now.roots.items source (first_at terrain.now.roots.now.first.items source) path.new result }
+    ensures stands { StandsBefore terrain.now.roots.now.roots.items (first_at terrain.now.roots.now.first.items source) path.now result }
 {
     let mut follow = Follow {
         depth: 0,
         root: terrain.roots.first_of(source),
         asked: None,
+        waiting: 0,
     };
-    follow.asked = next_asked(terrain, source, path, &mut follow);
+    follow.asked = next_asked(terrain.roots, path, &mut follow);
     follow
 }
 

@@ -73,6 +73,7 @@ impl TreeWalk {
                 depth: 0,
                 root: None,
                 asked: None,
+                waiting: 0,
             },
         }
     }
@@ -89,7 +90,7 @@ impl TreeWalk {
         ensures { (t : TableParts) → IsWalked terrain.now.edges.now terrain.now.roots.now.roots.items terrain.now.roots.now.first.items (begun source) t t self.new }
     {
         self.source = source;
-        self.follow = start(terrain, source, self.path.as_mut_slice());
+        self.follow = start(terrain, source, self.path.as_slice());
     }
 
     /// Whether the node answers for what is asked; then the walk stands behind it, and what it enters is noted.

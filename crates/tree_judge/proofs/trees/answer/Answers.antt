@@ -1,8 +1,18 @@
-use Rattle.std.proofs.Common.{IsTrue, sym, subst}
+use Rattle.std.proofs.Common.{refl, sym, subst}
 use Rattle.sight_tree.specs.declared.Node.{Node}
-use Rattle.tree_judge.specs.Whole.{HasAnswered}
+use Rattle.tree_judge.specs.Path.{with_asked}
+use Rattle.tree_judge.specs.Whole.{HasAnswered, HasRefused}
+use Rattle.tree_judge.proofs.Following.{opened, blocked, refused_all, refused_edge, refused_ends}
 use Rattle.tree_judge.proofs.trees.answer.Goals as goal
 
-pub returns-in-Blocked-clause-answered : goal.returns-in-Blocked-clause-answered
-returns-in-Blocked-clause-answered c = subst (λ (n : Node). IsTrue c.block.result → HasAnswered c.args.terrain.now.edges.now c.args.terrain.now.roots.now.roots.items c.args.source n c.args.path.now c.args.follow.now c.args.reached.now c.block.new.path c.block.new.follow c.args.reached.now) (sym c.in-Blocked.is)
-    (c.block.ensures.answered c.args.reached.now)
+pub returns-then-not-is_blocked-clause-refused : goal.returns-then-not-is_blocked-clause-refused
+returns-then-not-is_blocked-clause-refused c = λ _ _. subst (λ (n : Node). HasRefused c.args.terrain.now.edges.now c.args.terrain.now.roots.now.roots.items c.args.source n c.args.path.now c.args.follow.now) (sym c.in-Blocked.is)
+    (refused_ends c.args.terrain.now.edges.now c.args.terrain.now.roots.now.roots.items c.args.source c.args.path.now c.args.follow.now c.put.new.path c.in-Some.place c.in-Some-get.edge.now c.in-Blocked.evidence c.in-Some.is (sym c.in-Some-get.ensures) (c.if-not-put.ensures.put refl) c.if-not-is_blocked.ensures)
+
+pub returns-in-Open-clause-answered : goal.returns-in-Open-clause-answered
+returns-in-Open-clause-answered c = λ _. subst (λ (n : Node). HasAnswered c.args.terrain.now.edges.now c.args.terrain.now.roots.now.roots.items c.args.source n c.args.path.now c.args.follow.now c.args.reached.now c.enter-follow.new.path (with_asked c.enter-follow.new.follow c.enter-follow.result) c.note.new.reached) (sym c.in-Open.is)
+    (opened c.args.terrain.now.edges.now c.args.terrain.now.roots.now.roots.items c.args.source c.args.path.now c.args.follow.now c.put.new.path c.enter-follow.new.path c.in-Some.place c.enter-follow.new.follow c.enter-follow.result c.in-Some-get.edge.now c.args.reached.now c.note.new.reached c.in-Some.is (sym c.in-Some-get.ensures) (c.if-not-put.ensures.put refl) c.enter-follow.ensures.enters c.note.ensures)
+
+pub returns-else-not-is_blocked-clause-answered : goal.returns-else-not-is_blocked-clause-answered
+returns-else-not-is_blocked-clause-answered c = λ _. subst (λ (n : Node). HasAnswered c.args.terrain.now.edges.now c.args.terrain.now.roots.now.roots.items c.args.source n c.args.path.now c.args.follow.now c.args.reached.now c.put.new.path (with_asked c.next_asked-follow.new.follow c.next_asked-follow.result) c.args.reached.now) (sym c.in-Blocked.is)
+    (blocked c.args.terrain.now.edges.now c.args.terrain.now.roots.now.roots.items c.args.source c.args.path.now c.args.follow.now c.put.new.path c.in-Some.place c.next_asked-follow.new.follow c.next_asked-follow.result c.in-Some-get.edge.now c.in-Blocked.evidence c.args.reached.now c.in-Some.is (sym c.in-Some-get.ensures) (c.if-not-put.ensures.put refl) (c.if-not-is_blocked.ensures.0 refl) c.next_asked-follow.ensures.next)

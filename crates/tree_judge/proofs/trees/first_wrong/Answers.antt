@@ -24,7 +24,7 @@ loop-number-preserved c =
       followed =
           follows_more xs roots first t.source t.nodes c.args.reached.now c.in-Some.node c.next.new.self l.number l.path c.answer.new.path l.follow c.answer.new.follow l.reached c.answer.new.reached
           (subst (λ (ns : List Node). IsFollowed xs roots first t.source t.nodes ns l.number l.path l.follow c.args.reached.now l.reached) c.in-Some.ensures.steps l.invariant.followed)
-          (c.if-not-answer.ensures.answered refl) c.if-not-answer.ensures.depth;
+          (c.if-not-answer.ensures.answered refl);
     }
 
 pub returns-then-not-answer-clause-wrong : goal.returns-then-not-answer-clause-wrong
@@ -36,12 +36,10 @@ returns-then-not-answer-clause-wrong c = λ room. record {
       let t = c.args.tree.now in
       let l = c.loop-number in
       let e : length l.node-iterator ≡ length c.next.new.self + 1 = longer c.in-Some.node c.next.new.self l.node-iterator c.in-Some.ensures.steps in
-      let k : length l.path ≡ length c.start-follow.new.path = l.auto.path in
-      let j : length c.start-follow.new.path ≡ length c.args.path.now = c.start-follow.auto.path in
-      let d : l.follow.depth < length l.path = omega (arith, e, k, j, l.invariant.counted, l.invariant.followed.depth) in
+      let k : length l.path ≡ length c.args.path.now = l.auto.path in
       wrong_node xs roots first t.source t.nodes c.args.reached.now c.in-Some.node c.next.new.self l.number l.path l.follow l.reached
       (subst (λ (ns : List Node). IsFollowed xs roots first t.source t.nodes ns l.number l.path l.follow c.args.reached.now l.reached) c.in-Some.ensures.steps l.invariant.followed)
-      (c.if-not-answer.ensures.refused refl d);
+      (λ h. c.if-not-answer.ensures.refused refl (omega (arith, e, k, l.invariant.counted, h)));
 }
 
 some_asked : (o : Option ℕ) → true ≡ is_some o → (place : ℕ) × (o ≡ Some place)

@@ -8,4 +8,4 @@ rest-init c = takes_none c.args.bytes.now c.args.count _ (follows_none _ _ _ _ _
 pub rest-preserved : goal.rest-preserved
 rest-preserved c =
     takes_more c.args.bytes.now c.args.count c.rest.rest.now c.in-Some.behind.now c.rest.left c.in-Some.node _ _ c.rest.invariant c.rest-test.true c.in-Some.ensures.read
-    (λ ns w. follows_next _ _ _ _ _ _ _ ns c.in-Some.node _ _ _ _ _ _ c.rest.wrong c.answer-wrong.result c.if-not-wrong.true w c.if-at-path.true c.answer-wrong.auto.path c.answer-wrong.ensures.depth c.answer-wrong.ensures.answered c.answer-wrong.ensures.refused)
+    (λ ns w. follows_next _ _ _ _ _ _ _ ns c.in-Some.node _ _ _ _ _ _ c.rest.wrong c.answer-wrong.result c.if-not-wrong.true w c.if-at-path.true c.answer-wrong.ensures.within c.answer-wrong.ensures.answered c.answer-wrong.ensures.refused)

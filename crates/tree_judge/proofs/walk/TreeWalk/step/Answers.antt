@@ -1,4 +1,4 @@
-use Rattle.std.proofs.Common.{◌≡◌, ℕ, ◌<◌, ◌++◌, List, length, take, drop, sym, ◌∙◌, subst}
+use Rattle.std.proofs.Common.{◌≡◌, ℕ, ◌<◌, ◌++◌, List, length, take, drop, sym, ◌∙◌, subst, arith}
 use Rattle.tree_judge.specs.declared.trees.Frame.{Frame}
 use Rattle.tree_judge.specs.Whole.{HasAnswered, HasRefused}
 use Rattle.tree_judge.specs.Walked.{with_node, IsWalkedAt}
@@ -19,8 +19,7 @@ returns-clause-answered c = λ t old w right.
     subst (λ (fs : List Frame). IsWalkedAt xs roots firsts (with_node c.args.node t) old c.answer.new.reached c.args.self.now.source fs c.answer.new.follow) (sym back)
     (walk_goes_on xs roots firsts t old c.args.node c.args.reached.now c.answer.new.reached c.args.self.now.source path c.as_mut_slice.result.now c.answer.new.path f c.answer.new.follow w
     (λ l. subst (λ (fs : List Frame). take f.depth fs ≡ take f.depth path) (sym value) (c.in_ok-make_room.ensures.kept l))
-    (λ l. subst (λ (fs : List Frame). f.depth < length fs) (sym value) (c.in_ok-make_room.ensures.room l))
-    same c.answer.ensures.depth
+    (λ l. c.answer.ensures.within (let h : f.depth < length c.as_mut_slice.result.now = subst (λ (fs : List Frame). f.depth < length fs) (sym value) (c.in_ok-make_room.ensures.room l) in omega (arith, h)))
     (λ e. subst (λ (s : ℕ). HasAnswered xs roots s c.args.node c.as_mut_slice.result.now f c.args.reached.now c.answer.new.path c.answer.new.follow c.answer.new.reached) e (c.answer.ensures.answered right)))
 
 pub returns-clause-refused : goal.returns-clause-refused
