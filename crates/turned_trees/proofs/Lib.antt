@@ -1,0 +1,11 @@
+pub mod Cutting
+pub mod Following
+pub mod Loose
+pub mod Blind
+pub mod Tells
+pub mod TellsTwo
+pub mod Telling
+pub mod CutDown
+pub mod Cut
+pub mod Once
+pub mod CutTwo
