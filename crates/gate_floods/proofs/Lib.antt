@@ -1,0 +1,11 @@
+pub mod Fronts
+pub mod Chains
+pub mod Flooding
+pub mod Following
+pub mod Blind
+pub mod Tells
+pub mod RowsOn
+pub mod RowBits
+pub mod Owned
+pub mod Masks
+pub mod Once
