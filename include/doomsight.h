@@ -32,10 +32,9 @@ uint32_t doomsight_abi(void);
 #define DOOMSIGHT_VERSION 10000
 uint32_t doomsight_version(void);
 
-/* Bytes of stack that a call has to find free. Two arrays of a sweep, with room for 32768 lines, take most of them, whatever the map.
- * Tried by bench/c_library.sh, not proved. Where there is less the thread ends by SIGSEGV at its guard page: musl gives a thread
- * 128 KiB and macOS 512 KiB, so start a thread for the calls with more. */
-#define DOOMSIGHT_STACK (768u * 1024u)
+/* Bytes of stack that a call has to find free, whatever the map: three times what one was seen to need. Tried by bench/c_library.sh,
+ * not proved. Where there is less the thread ends by SIGSEGV at its guard page. A thread of musl has 128 KiB, one of macOS 512 KiB. */
+#define DOOMSIGHT_STACK (64u * 1024u)
 
 /* What a call answers. Each is the exit status of the program `doomsight` that has the same meaning. */
 enum doomsight_code {
