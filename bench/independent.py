@@ -24,9 +24,9 @@ def built(program, source, name, folder):
     for more in ([], ["--large"]):
         words = [program, "build", source, name, out, "--budget", "full"] + more
         line = subprocess.run(words, stdout=subprocess.PIPE, stderr=subprocess.DEVNULL, text=True).stdout.strip()
-        if not line.startswith("limit:"):
+        if not line.startswith("refused: limit:"):
             break
-    if not line.startswith("build "):
+    if not line.startswith("built "):
         return line, None
     with open(out, "rb") as it:
         return line, dict(directory(it.read()))[b"REJECT"]
