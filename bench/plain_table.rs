@@ -1,7 +1,7 @@
-//! An independent program for the same question: the exact REJECT table of one map, by other means than doomsight's.
-//! It shares no code and no method with it but the definition of sight: a Delaunay triangulation that is made to have the
-//! lines, walks from every face, and of each path all differences of left and right ends. It knows no budget, writes no
-//! certificate and proves nothing. `bench/independent.py` compiles it and compares tables.
+//! An independent program for the same question: the exact REJECT table of one map. It shares no code with doomsight, and of
+//! its method only that sight goes through portals: a Delaunay triangulation that is made to have the lines, walks from
+//! every face, and at each step the differences of all left and right ends. It knows no budget, writes no certificate, audits
+//! nothing and proves nothing. `bench/independent.py` compiles it and compares tables.
 //!
 //! plain_table WAD MAP OUT [THREADS]: writes the table's bytes and says how many bits are set.
 
