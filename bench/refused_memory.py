@@ -20,11 +20,13 @@ And certificates whose counts no bytes bear out: `check` asks for fewer bytes, a
 they were made of.
 The status is 1 where anything is otherwise.
 
-Found on 2026-11-28: the runs of fifteen orders make 3,115 requests (a build of U by three workers with certificate and
-report 324, one of a made map 485; a check of U 145, of a row of rooms 485, of a certificate longer than a piece 136).
-With one refused the run ended by memory 2,402 times and was done 641 times; 16 times it ended by a read fault and 53
-times by a write fault, where opening a file, or the name beside an output, got no memory. Nothing else came, and each
-thread that was started was joined. For damaged certificates `check` asked for at most as many bytes as for whole ones.
+Found on 2026-11-29: the runs of fifteen orders make 3,692 requests (a build of U by three workers with certificate and
+report 388, one of a made map 528; a check of U 182, of a row of rooms 522, of a certificate longer than a piece 173).
+With one refused the run ended by memory 2,957 times and was done 666 times, among them where the list of a sweep over
+lines was refused, which then looks at each pair; 16 times it ended by a read fault and 51 times by a write fault, where
+opening a file, or the name beside an output, got no memory. (Threads make two requests more or fewer from run to run.)
+Nothing else came, and each thread that was started was joined. For damaged certificates `check` asked for at most as
+many bytes as for whole ones.
 """
 import argparse
 import collections
