@@ -1,6 +1,6 @@
 -- A walk that has counted the sequences that it has opened has at its end counted all stabbable ones; no count is above the
 -- budget that is enough.
-use Rattle.std.proofs.Common.{◌≡◌, ℕ, ◌+◌, ◌<◌, ◌≤◌, ◌^◌, ◌↔◌, max, arith, refl, sym, ap, ◌∙◌, subst, inl, inr, List, [], ◌∷◌, ◌++◌, length, length-append, map, Option, Some, slice_get, ℤ}
+use Rattle.std.proofs.Common.{◌≡◌, ℕ, ◌+◌, ◌<◌, ◌≤◌, ◌^◌, ◌↔◌, max, arith, refl, sym, ap, ◌∙◌, subst, inl, inr, List, [], ◌∷◌, ◌++◌, length, length-append, map, Option, Some, slice_get}
 use Rattle.std.proofs.lemmas.List.{append-nil}
 use Rattle.sight_names.specs.declared.limits.TheConstants.{MOST_TRIANGLES}
 use Rattle.sight_names.specs.declared.names.Budget.TheVariants.{Of}
@@ -22,11 +22,11 @@ use Rattle.sequence_laws.proofs.All.{stand_in_order}
 use Rattle.sequence_laws.proofs.Roots.{begins}
 use Rattle.sequence_laws.proofs.UnderWay.{IsUnderWay, passes_all, passes_blocked, opens, all_opened}
 use Rattle.portal_walk.proofs.Lists.{get_more}
-use Rattle.portal_walk.specs.Walk.{WalkParts, SameWalk, Answers, Blocks, Opens, Ends, pending}
+use Rattle.portal_walk.specs.Walk.{WalkParts, SameWalk, Answers, Blocks, Leads, Ends, pending}
 use Rattle.enough_base.proofs.Counts.{few_of_source}
 use Rattle.enough_base.proofs.Orders.{ascending_differ}
 use Rattle.enough_base.proofs.PlanBound.{few_passable, product as third_product}
-use Rattle.enough_budget.specs.Need.{HasSequences, greatest}
+use Rattle.enough_budget.specs.Need.{HasSequences}
 use Rattle.list_base.proofs.Lists.{all_of as all_of_contains}
 
 -- ---- the numbers
@@ -105,13 +105,13 @@ module _ (old new : WalkParts) (count : ℕ) (h : Counted old count) where
         count_is = h.count_is;
       }))
 
-  pub opened_one : SameWalk old new → (k : ℕ) (entered : Option Side) (a b c : ℤ) → Opens old new k entered a b c → Counted new (count + 1)
-  opened_one same k entered a b c o =
+  pub opened_one : SameWalk old new → (k : ℕ) (entered : Option Side) → Leads old new k entered → Counted new (count + 1)
+  opened_one same k entered o =
       moved old new (pending new) (count + 1) same
       (subst (λ (ss : List Sequence). HasCounted (map_of old.plan) old.mesh.triangles old.labels old.source ss (count + 1)) (sym o.answers.next) (record {
         opened = h.opened ++ o.sequence ∷ [];
         under_way = opens (map_of old.plan) old.mesh.triangles old.labels old.source h.opened o.sequence o.answers.rest (way_to o.sequence OpenNode (both_ways_on o.sequence) o.answers)
-            (o.opened.before ++ o.opened.last ∷ [], o.opened.sequence, (a, b, c, o.opened.splits));
+            (o.opened.before ++ o.opened.last ∷ [], o.opened.sequence, o.opened.stabbable);
         count_is = length-append h.opened (o.sequence ∷ []) ∙ ap (λ (n : ℕ). n + 1) h.count_is;
       }))
 

@@ -5,7 +5,6 @@ use Rattle.sight_names.specs.declared.plan.Line.{Line}
 use Rattle.sight_names.specs.Map.{looked_up}
 use Rattle.sight_names.specs.Enough.{is_passable}
 use Rattle.enough_budget.specs.Passable.{is_open}
-use Rattle.enough_base.proofs.PlanBound.{product}
 
 same_test : (points : List Pt) (o : Option Line) → is_passable (option_map (looked_up points) o) ≡ is_open o
 same_test points None = refl

@@ -12,7 +12,7 @@ ghost use Rattle.enough_budget.specs.Need.{HasSequences, greatest};
 
 use half_edges::HalfEdges;
 use mesh_shape::{Labels, Mesh};
-use portal_walk::{Step, Walker};
+use portal_walk::{Walker, Went};
 use sight_names::{Memory, Plan};
 use std::alloc::Global;
 
@@ -36,10 +36,10 @@ fn count_sequences(
     let mut walker = Walker::over(alloc, plan, mesh, labels, edges, source)?;
     let mut count = 0u64;
     loop {
-        match walker.next()? {
-            Step::End => return Ok(count),
-            Step::Blocked(_) => {}
-            Step::Open { .. } => count += 1,
+        match walker.go()? {
+            Went::End => return Ok(count),
+            Went::Blocked => {}
+            Went::Open => count += 1,
         }
     }
 }

@@ -1,9 +1,9 @@
 -- What is gathered of all that was found: one ray for each pair of which one found the other.
-use Rattle.std.proofs.Common.{◌≡◌, ◌≢◌, ℕ, zero, suc, ◌+◌, ◌<◌, ◌≤◌, ◌⊎◌, ◌↔◌, inl, inr, List, [], ◌∷◌, ◌++◌, length, map, take, get_or, slice_get, Contains, Some, refl, sym, ap, ◌∙◌, subst, arith, Bool, true, false, ap₂, append_assoc}
+use Rattle.std.proofs.Common.{◌≡◌, ◌≢◌, ℕ, zero, suc, ◌+◌, ◌<◌, ◌⊎◌, ◌↔◌, inl, inr, List, [], ◌∷◌, ◌++◌, length, map, take, get_or, slice_get, Contains, Some, refl, sym, ap, ◌∙◌, subst, arith, Bool, true, false, ap₂, append_assoc}
 use Rattle.std.specs.Prelude.{nat_lt, if◌then◌else◌}
 use Rattle.std.proofs.lemmas.Bool.{ltb-true, ltb-false}
 use Rattle.std.proofs.lemmas.List.Elements.{Contains-append_left, Contains-append_right, Contains-append_cases, Contains-push, Contains-push_cases}
-use Rattle.std.proofs.lemmas.List.{append-nil, map_more, take_all, take_more, flat_map_more}
+use Rattle.std.proofs.lemmas.List.{map_more}
 use Rattle.std.proofs.lemmas.Option.{slice_get_within, same_Some}
 use Rattle.sight_names.proofs.Lists.{contains_cases, contains_tail, contains_of_get, get_of_contains}
 use Rattle.sight_names.specs.declared.names.Pair.{Pair}
@@ -18,7 +18,6 @@ use Rattle.pair_budget.specs.PairRays.{PairRaysParts, HasRayFor, AreMarked, IsNo
 use Rattle.pair_budget.specs.Rows.{KnowsFound}
 use Rattle.list_base.proofs.Numbers.{below_or_above}
 use Rattle.list_base.proofs.Lists.{pushed_at, contains_none, contains_here}
-use Rattle.list_base.proofs.Bools.{not_both_values}
 
 -- ---- two numbers are two others, or not
 

@@ -60,6 +60,16 @@ impl<'a> FoundSectors<'a> {
         Ok(true)
     }
 
+    /// Whether the sector was found.
+    pub fn has(&self, sector: u16) -> bool
+        ensures { result ≡ true → IsFound self.now.found sector }
+    {
+        match self.seen.as_slice().get(sector as usize) {
+            Some(seen) => *seen,
+            None => false,
+        }
+    }
+
     /// The sectors, in the order in which they were found.
     pub fn into_items(self) -> Items<Reached>
         ensures list { result ≡ self.entry.found }

@@ -9,16 +9,18 @@ ghost use Rattle.sight_names.specs.Plan.{IsPlan};
 ghost use Rattle.sight_names.specs.Sequence.{roots};
 ghost use Rattle.sight_names.specs.Sound.{LinesMeetAtEnds};
 ghost use Rattle.stab_hull.specs.Answer.{IsLineInRange};
+ghost use Rattle.sight_names.specs.Splitting.{IsSplittable};
+ghost use Rattle.half_edges.specs.declared.table.HalfEdge.{HalfEdge as HalfEdgeOf};
 ghost use Rattle.half_edges.specs.HalfEdges.{AreHalfEdges};
 ghost use Rattle.sequence_laws.specs.Ways.{root_alone};
 ghost use Rattle.portal_walk.specs.Sides.{ArrivesAt};
-ghost use Rattle.portal_walk.specs.Walk.{pending};
+ghost use Rattle.portal_walk.specs.Walk.{IsTop, pending};
 ghost use Rattle.pair_budget.specs.declared.results.Outcome.TheVariants as outcome;
 ghost use Rattle.pair_budget.specs.declared.results.Reached.{Reached as ReachedSector};
 ghost use Rattle.pair_budget.specs.Exact.{IsExact, IsWholly};
 ghost use Rattle.pair_budget.specs.FoundSectors.{Extends, one_less};
 ghost use Rattle.pair_budget.specs.Notes.{ordered, Grows};
-ghost use Rattle.pair_budget.specs.Through.{AreThrough, IsRayOfStep};
+ghost use Rattle.pair_budget.specs.Through.{AreThrough, IsAt, IsRayOfStep, IsRayTo};
 ghost use Rattle.pair_budget.specs.Walked.{AreReached, IsOutcome, IsReachedFrom, MarksFound};
 ghost use Rattle.pair_budget.specs.Whole.{IsFound, IsShown};
 
@@ -27,7 +29,7 @@ use crate::notice::Notice;
 use crate::results::{Outcome, Reached, SourceResult};
 use half_edges::HalfEdges;
 use mesh_shape::{Labels, Mesh};
-use portal_walk::{Step, Walker};
+use portal_walk::{Walker, Went};
 use sight_names::{Budget, Memory, Plan, Side};
 use sight_ray::ray_of;
 use std::alloc::Global;
@@ -163,21 +165,15 @@ fn walk_on<N: Notice>(
 {
     let mut left = budget;
     loop {
-        match walker.next()? {
-            Step::End => return Ok(Outcome::Complete(walker.tree())),
-            Step::Blocked(_) => {}
-            Step::Open {
-                triangle,
-                entered,
-                a,
-                b,
-                c,
-            } => {
+        match walker.go()? {
+            Went::End => return Ok(Outcome::Complete(walker.tree())),
+            Went::Blocked => {}
+            Went::Open => {
                 let Some(less) = with_one_less(left) else {
                     return Ok(Outcome::Spent);
                 };
                 left = less;
-                let reached = reached_by(&walker, labels, triangle, entered, a, b, c);
+                let reached = newly_reached(&walker, labels, found_sectors);
                 if note(found_sectors, source, reached, notice)? {
                     return Ok(Outcome::All);
                 }
@@ -195,6 +191,31 @@ fn with_one_less(budget: Budget) -> Option<Budget>
         Budget::Of(0) => None,
         Budget::Of(n) => Some(Budget::Of(n - 1)),
     }
+}
+
+/// The sector of the triangle that a walk came to, with a sight ray to it. None where the last portal is no line, or the
+/// sector was found before: most sequences need no line.
+// in line, since a call would take what it finds through memory
+#[inline(always)]
+fn newly_reached(walker: &Walker, labels: &Labels, found_sectors: &FoundSectors) -> Option<Reached>
+    requires labels { walker.now.labels ≡ labels.now }
+    requires at { (edge : HalfEdgeOf) × IsAt walker.now edge }
+    requires splittable { IsSplittable walker.now.ends }
+    ensures reached { IfSome result (λ reached. IsReachedFrom walker.now.plan walker.now.source reached) }
+    ensures label { (edge : HalfEdgeOf) → IsTop walker.now edge → IfSome result (λ reached. label_of labels.now edge.triangle ≡ Given reached.to) }
+    ensures ray { (edge : HalfEdgeOf) → IsTop walker.now edge → IfSome result (IsRayTo walker.now edge.entered) }
+    ensures given { (edge : HalfEdgeOf) (sector : ℕ) → IsTop walker.now edge → label_of labels.now edge.triangle ≡ Given sector → IsSome walker.now.root → IsSome edge.entered → IsSome result ⊎ IsFound found_sectors.now.found sector }
+{
+    let here = walker.here();
+    if here.entered.is_none() {
+        return None;
+    }
+    let to = labels.get(here.triangle)?;
+    if found_sectors.has(to) {
+        return None;
+    }
+    let (a, b, c) = walker.line();
+    reached_by(walker, labels, here.triangle, here.entered, a, b, c)
 }
 
 /// The sector of the triangle that a walk came to, with the ray from the source that the splitting line is; None where
@@ -229,6 +250,8 @@ fn reached_by(
 
 /// Adds a sector to what was found and tells of it, unless it was found before. Whether the notice then says that nothing
 /// else matters; it isn't asked where nothing is new.
+// in line, since nearly always there is nothing to add
+#[inline(always)]
 fn note<N: Notice>(
     found_sectors: &mut FoundSectors,
     source: u16,

@@ -1,6 +1,5 @@
 -- A portal that was entered is no solid line, since two lines aren't the same segment.
-use Rattle.std.proofs.Common.{◌≡◌, ◌≢◌, ℕ, ◌<◌, inl, inr, Option, Some, None, Bool, slice_index_or, length, ℤ, pos, ◌*ℤ◌, sym, ap, ap₂, ◌∙◌, subst, arith}
-use Rattle.std.proofs.lemmas.Int.{ints}
+use Rattle.std.proofs.Common.{◌≡◌, ◌≢◌, ℕ, ◌<◌, inl, inr, Option, Some, None, Bool, slice_index_or, length, sym, ap, ◌∙◌, subst}
 use Rattle.std.proofs.lemmas.Bool.{cases_eq, true≢false}
 use Rattle.std.proofs.lemmas.Option.{same_Some}
 use Rattle.sight_names.specs.declared.names.Pt.{Pt}
@@ -9,14 +8,13 @@ use Rattle.sight_names.specs.declared.plan.Line.{Line}
 use Rattle.sight_names.specs.Map.{MapLine, map_of, line_at, origin}
 use Rattle.sight_names.specs.Mesh.{side_edge}
 use Rattle.sight_names.specs.Plan.{PlanParts, IsPlan}
-use Rattle.sight_names.specs.Point.{SamePoint, OnSegment, point_of}
+use Rattle.sight_names.specs.Point.{OnSegment, point_of}
 use Rattle.sight_names.specs.Sequence.{Portal, IsSolidLine, entry_edge}
 use Rattle.sight_names.specs.Sound.{LinesMeetAtEnds, MeetAtEnds}
 use Rattle.sight_names.proofs.Laws.{start_on, on_segment_sym}
 use Rattle.sight_names.proofs.PlanMap.{line_of_plan, points_differ}
 use Rattle.mesh_shape.proofs.RuleLemmas.{Joins, edge_joined}
 use Rattle.half_edges.specs.Kinds.{IsEnteredAt}
-use Rattle.exact_ring.proofs.Small.{same_without_one}
 use Rattle.sight_names.proofs.Records.{whole_same}
 
 -- both points are of the segment

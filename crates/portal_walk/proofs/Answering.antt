@@ -1,5 +1,5 @@
 -- The nodes of a walk answer, with what is still pending, for all roots of its source: at its beginning, after each step, and at its end, where they are a whole tree.
-use Rattle.std.proofs.Common.{◌≡◌, ℕ, ℤ, ◌⊎◌, inl, inr, List, [], ◌∷◌, ◌++◌, Option, Some, None, Result, Ok, Err, IfOk, OnErr, IsSome, map, refl, sym, ap, ◌∙◌, subst}
+use Rattle.std.proofs.Common.{◌≡◌, ℕ, ◌⊎◌, inl, inr, List, [], ◌∷◌, ◌++◌, Option, Some, None, Result, Ok, Err, IfOk, OnErr, IsSome, map, refl, sym, ap, ◌∙◌, subst}
 use Rattle.std.specs.List.{AllByRecursion}
 use Rattle.std.proofs.lemmas.Option.{same_Some}
 use Rattle.std.proofs.lemmas.List.{append-nil, same_from_push}
@@ -20,10 +20,13 @@ use Rattle.sequence_laws.specs.Ways.{root_alone, both_ways_on}
 use Rattle.half_edges.specs.Kinds.{IsEnteredAt}
 use Rattle.portal_walk.specs.declared.step.Step.{Step}
 use Rattle.portal_walk.specs.declared.step.Step.TheVariants.{Open, Blocked, End}
+use Rattle.portal_walk.specs.declared.step.Went.{Went}
+use Rattle.portal_walk.specs.declared.step.Went.TheVariants as went
 use Rattle.portal_walk.specs.Sides.{ArrivesAt}
-use Rattle.portal_walk.specs.Walk.{WalkParts, SameWalk, Answers, Rests, Blocks, Opens, Ends, Takes, pending, remaining}
+use Rattle.portal_walk.specs.Walk.{WalkParts, SameWalk, Answers, Rests, Blocks, Ends, Goes, Leads, Takes, pending, remaining}
 use Rattle.portal_walk.specs.Whole.{IsGround, IsOfKnown, IsGap, EndsAtGap, AnswersPending, AnswersSoFar, IsAnySector, IsWholeSoFar, all_roots}
 use Rattle.portal_walk.proofs.Sequences.{all_last}
+use Rattle.portal_walk.proofs.Steps.{leads_by, leads_to}
 use Rattle.portal_walk.proofs.Upcoming.{none_pending}
 use Rattle.portal_walk.proofs.Covering.{known_more, same_portals, past_skipped, past_blocked, past_open, all_answered, roots_at_gaps, answers_roots}
 
@@ -78,7 +81,7 @@ module _ (Known : ℕ → Type 0) (first : List Sequence) (old new : WalkParts) 
       (subst (λ (ns : List Node). Over b.answers.rest ns) (sym b.answers.nodes)
       (past_blocked old.plan old.mesh.triangles old.labels old.source Known first b.sequence b.answers.rest old.nodes opened (at_step b.sequence (BlockedNode e) [] b.answers) b.blocked.portals b.blocked.sequence e b.blocked.evidence)))
 
-  module _ (k : ℕ) (entered : Option Side) (a b c : ℤ) (o : Opens old new k entered a b c) (Later : ℕ → Type 0) (keeps : (n : ℕ) → Known n → Later n) where
+  module _ (k : ℕ) (entered : Option Side) (o : Leads old new k entered) (Later : ℕ → Type 0) (keeps : (n : ℕ) → Known n → Later n) where
     abbrev all_of : List Portal
     all_of = o.opened.before ++ o.opened.last ∷ []
 
@@ -150,13 +153,22 @@ after old new opened same over h = record {
   so_far = subst (λ (ss : List Sequence). HasAnswered IsAnySector ss new opened) (roots_moved old new same) h;
 }
 
+whole_open : (old new : WalkParts) (k : ℕ) (entered : Option Side) → SameWalk old new → Leads old new k entered → IsWholeSoFar old → IsWholeSoFar new
+whole_open old new k entered same leads h =
+    after old new (h.opened ++ k ∷ []) same h.ground (answers_open IsAnySector (all_roots old) old new h.opened h.so_far same k entered leads IsAnySector (λ n x. x) h.ground (λ sector l s. tt))
+
 -- and stays so whatever the next step answers
 pub whole_after : (old new : WalkParts) (r : Result Step Memory) → SameWalk old new → IfOk r (Takes old new) → OnErr r (Rests old new) → IsWholeSoFar old → IsWholeSoFar new
 whole_after old new (Err m) same takes rests h = after old new h.opened same h.ground (answers_resting IsAnySector (all_roots old) old new h.opened h.so_far same rests)
 whole_after old new (Ok End) same takes rests h = after old new h.opened same h.ground (answers_ended IsAnySector (all_roots old) old new h.opened h.so_far same takes)
 whole_after old new (Ok (Blocked e)) same takes rests h = after old new h.opened same h.ground (answers_blocked IsAnySector (all_roots old) old new h.opened h.so_far same e takes)
-whole_after old new (Ok (Open k entered a b c)) same takes rests h =
-    after old new (h.opened ++ k ∷ []) same h.ground (answers_open IsAnySector (all_roots old) old new h.opened h.so_far same k entered a b c takes IsAnySector (λ n x. x) h.ground (λ sector l s. tt))
+whole_after old new (Ok (Open k entered a b c)) same takes rests h = whole_open old new k entered same (leads_by old new k entered a b c takes) h
+
+pub whole_gone : (old new : WalkParts) (r : Result Went Memory) → SameWalk old new → IfOk r (Goes old new) → OnErr r (Rests old new) → IsWholeSoFar old → IsWholeSoFar new
+whole_gone old new (Err m) same goes rests h = after old new h.opened same h.ground (answers_resting IsAnySector (all_roots old) old new h.opened h.so_far same rests)
+whole_gone old new (Ok went.End) same goes rests h = after old new h.opened same h.ground (answers_ended IsAnySector (all_roots old) old new h.opened h.so_far same goes)
+whole_gone old new (Ok went.Blocked) same goes rests h = after old new h.opened same h.ground (answers_blocked IsAnySector (all_roots old) old new h.opened h.so_far same goes.0 goes.1)
+whole_gone old new (Ok went.Open) same goes rests h = whole_open old new goes.opened.edge.triangle goes.opened.edge.entered same (leads_to old new goes goes.opened.edge goes.opened.top) h
 
 pub whole_tree : (w : WalkParts) (t : Tree) → IsWholeSoFar w → remaining w ≡ 0 → t.source ≡ w.source → t.nodes ≡ w.nodes → (opened : List ℕ) × IsWholeTree (map_of w.plan) w.mesh.triangles w.labels t opened
 whole_tree w t h none source nodes = (h.opened, whole_at_end w IsAnySector h.opened h.so_far (none_pending w none) t source nodes)

@@ -1,11 +1,9 @@
 -- The ends of a triangle's edge are different points of the mesh.
-use Rattle.std.proofs.Common.{◌≡◌, ◌≢◌, ℕ, ◌<◌, List, Some, get_or, length, true, ◌==◌, ◌&&◌, ◌||◌, arith}
+use Rattle.std.proofs.Common.{◌≡◌, ◌≢◌, ℕ, ◌<◌, List, Some, get_or, true, ◌==◌, ◌&&◌, ◌||◌, arith}
 use Rattle.std.proofs.lemmas.List.Quantifiers.{position-Some}
 use Rattle.std.proofs.lemmas.Option.{slice_get-get_or}
 use Rattle.sight_names.specs.declared.names.Triangle.{Triangle}
-use Rattle.sight_names.specs.Points.{Edge}
 use Rattle.sight_names.specs.Mesh.{AreTriangles, triangle_at, has_edge}
-use Rattle.sight_names.proofs.Portals.{triangle_within}
 
 ends_in : (p q r u v n : ℕ) → p < q → p < r → q ≢ r → q < n → r < n → ((p == u && q == v) || (q == u && r == v) || (r == u && p == v)) ≡ true → (u < n) × (v < n) × (u ≢ v)
 ends_in p q r u v n a b c d e h = grind arith

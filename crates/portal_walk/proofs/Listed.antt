@@ -1,16 +1,12 @@
 -- A root is in the list of the roots of its source.
-use Rattle.std.proofs.Common.{◌≡◌, ℕ, zero, suc, ◌+◌, ◌⊎◌, inl, inr, List, [], ◌∷◌, ◌++◌, slice_get, Option, Some, None, Bool, true, false, cond, filter, Contains, option_and_then, refl, sym, ap, ◌∙◌, zero-lt-suc, arith}
-use Rattle.std.specs.List.{flat_map, enumerate_from}
+use Rattle.std.proofs.Common.{◌≡◌, ℕ, Option, Some, None, true, false, Contains, refl, sym, ◌∙◌, arith}
 use Rattle.std.proofs.lemmas.Bool.{true≢false}
-use Rattle.std.proofs.lemmas.List.Elements.{Contains-append_right}
-use Rattle.std.proofs.lemmas.Option.{none-some}
-use Rattle.sight_names.proofs.Lists.{contains_cases, contains_tail}
 use Rattle.sight_names.specs.declared.names.Side.{Side}
 use Rattle.sight_names.specs.Map.{MapLine, map_of, line_at}
 use Rattle.sight_names.specs.Plan.{PlanParts}
-use Rattle.sight_names.specs.Sequence.{roots, sides_of, both_sides, is_root}
+use Rattle.sight_names.specs.Sequence.{roots, sides_of, is_root}
 use Rattle.portal_walk.specs.Sides.{IsExit}
-use Rattle.list_base.proofs.Lists.{contains_none, contains_kept}
+use Rattle.list_base.proofs.Lists.{contains_kept}
 use Rattle.sight_names.proofs.Roots.{there_of, side_in}
 
 pub exit_listed : (p : PlanParts) (a : ℕ) (s : Side) → IsExit p a s → Contains (roots (map_of p) a) s

@@ -1,5 +1,5 @@
 -- The half-edge behind a portal is one by which one comes in; where there is none, the portal is closed.
-use Rattle.std.proofs.Common.{◌≡◌, ◌≢◌, ℕ, ◌+◌, ◌*◌, ◌<◌, inl, inr, List, Option, Some, None, Bool, true, false, IsSome, length, option_and_then, option_map, option_copied, slice_get, refl, sym, ap, ◌∙◌, subst, true≢false, eqb-true, Bor, arith}
+use Rattle.std.proofs.Common.{◌≡◌, ◌≢◌, ℕ, ◌+◌, ◌*◌, ◌<◌, inl, inr, List, Option, Some, None, Bool, true, false, IsSome, length, option_and_then, option_map, option_copied, slice_get, refl, sym, ap, ◌∙◌, subst, true≢false, Bor, arith}
 use Rattle.std.specs.Prelude.{if◌then◌else◌}
 use Rattle.std.proofs.lemmas.Option.{none-some, same_Some}
 use Rattle.sight_names.specs.declared.names.Triangle.{Triangle}

@@ -1,5 +1,5 @@
 -- Sides of a plan's lines, as edges of the map, as roots and as arrivals.
-use Rattle.std.proofs.Common.{◌≡◌, ℕ, ◌<◌, List, slice_get, Option, Some, None, Bool, true, false, not, IsTrue, ◌&&◌, refl, sym, ap, ◌∙◌, subst, option_and_then, option_map, true≢false, eqb-true, IfSome, All}
+use Rattle.std.proofs.Common.{◌≡◌, ℕ, ◌<◌, List, slice_get, Option, Some, None, Bool, true, false, IsTrue, refl, sym, ap, ◌∙◌, subst, option_and_then, option_map, true≢false, eqb-true, IfSome, All}
 use Rattle.std.specs.Option.{option_eq}
 use lib.Dec.{eqb}
 use mathlib.Core.Bool.{beq}
@@ -8,10 +8,10 @@ use Rattle.sight_names.specs.declared.names.Side.{Side}
 use Rattle.sight_names.specs.declared.names.Triangle.{Triangle}
 use Rattle.sight_names.specs.declared.plan.Line.{Line}
 use Rattle.sight_names.specs.Plan.{PlanParts, IsPlan}
-use Rattle.sight_names.specs.Map.{Map, MapLine, map_of, looked_up, line_at, named, sector_on, IsMapLine}
+use Rattle.sight_names.specs.Map.{MapLine, map_of, looked_up, named, sector_on, IsMapLine}
 use Rattle.sight_names.specs.Points.{Edge, line_edge}
 use Rattle.sight_names.specs.Mesh.{IsGoodMesh, triangle_at, label_of}
-use Rattle.sight_names.specs.Sequence.{Portal, entry_edge, is_root, names_it}
+use Rattle.sight_names.specs.Sequence.{Portal, entry_edge, names_it}
 use Rattle.sight_names.proofs.PlanMap.{plan_is_map}
 use Rattle.sight_names.proofs.PlanNumbers.{line_edge_of_plan}
 use Rattle.mesh_shape.proofs.RuleLemmas.{plan_line_at}

@@ -1,11 +1,10 @@
 -- The path of a walk: the portals that were entered, and the ways that each still has.
-use Rattle.std.specs.Prelude.{◌≡◌, ℕ, ◌+◌, ◌-◌, ◌*◌, ◌^◌, List, [], ◌∷◌, ◌++◌, Option, Some, None, Result, Ok, Err, All, length, slice_get}
+use Rattle.std.specs.Prelude.{◌≡◌, ℕ, ◌+◌, ◌-◌, ◌*◌, ◌^◌, List, [], ◌∷◌, ◌++◌, Option, Some, None, Result, Ok, Err, length, slice_get}
 use Rattle.sight_names.specs.declared.names.Memory.{Memory}
-use Rattle.block_evidence.specs.Stuck.{AreCoded}
-use Rattle.sight_names.specs.Splitting.{EndPoints, SplitsEnds, IsSplittable, IsPairOf, AreBalanced}
-use Rattle.stab_hull.specs.declared.Split.{Split}
-use Rattle.stab_hull.specs.declared.Split.TheVariants.{Line, Stuck}
-use Rattle.stab_hull.specs.Answer.{IsLineInRange}
+use Rattle.sight_names.specs.Splitting.{EndPoints, IsSplittable}
+use Rattle.stab_hull.specs.declared.Passed.{Passed}
+use Rattle.stab_hull.specs.declared.Passed.TheVariants.{Open, Stuck}
+use Rattle.stab_hull.specs.Answer.{IsBarredBy}
 use Rattle.portal_walk.specs.declared.path.Frame.{Frame}
 use Rattle.portal_walk.specs.declared.path.Ways.{Ways}
 use Rattle.portal_walk.specs.declared.path.Ways.TheVariants.{Both, RightOnly, Done}
@@ -39,8 +38,8 @@ frames_weight d (f ∷ fs) = ways_left f.ways * 3 ^ (d - 1) + frames_weight (d -
 abbrev pub with_portal : PathParts → Frame → EndPoints → PathParts
 with_portal p f e = record { frames = p.frames ++ f ∷ []; ends = p.ends ++ e ∷ [] }
 
--- the portal is on the path, and a line in range splits all ends; or the path is as before, and no line does
-abbrev pub Enters : PathParts → PathParts → Frame → EndPoints → Result Split Memory → Type 0
-Enters old new f e (Ok (Line a b c)) = (new ≡ with_portal old f e) × SplitsEnds (old.ends ++ e ∷ []) a b c × IsLineInRange a b c
-Enters old new f e (Ok (Stuck pairs)) = (new ≡ old) × (¬ IsSplittable (old.ends ++ e ∷ [])) × All (IsPairOf (old.ends ++ e ∷ [])) pairs × AreCoded pairs × AreBalanced pairs
-Enters old new f e (Err r) = new ≡ old
+-- the portal is on the path, and a line splits all ends; or the path is as before, and stuck ends show that none does
+abbrev pub Passes : PathParts → PathParts → Frame → EndPoints → Result Passed Memory → Type 0
+Passes old new f e (Ok Open) = (new ≡ with_portal old f e) × IsSplittable (old.ends ++ e ∷ [])
+Passes old new f e (Ok (Stuck evidence)) = (new ≡ old) × IsBarredBy (old.ends ++ e ∷ []) evidence
+Passes old new f e (Err r) = new ≡ old

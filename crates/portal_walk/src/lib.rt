@@ -9,5 +9,5 @@ mod step;
 mod walk;
 mod walker;
 
-pub use step::Step;
+pub use step::{Step, Went};
 pub use walker::Walker;

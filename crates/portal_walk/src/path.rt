@@ -1,14 +1,14 @@
 //! The portals that a walk has entered, with their ends.
 
 ghost use Rattle.std.specs.Prelude.{◌≡◌, ◌≢◌, ◌+◌, ◌-◌, ◌<◌, ◌++◌, ◌∷◌, [], length, slice_get, slice_set, take, IfNone, IfSome};
-ghost use Rattle.stab_hull.specs.Answer.{IsBarredBy};
-ghost use Rattle.portal_walk.specs.Frames.{Enters, ways_left};
+ghost use Rattle.sight_names.specs.Splitting.{SplitsEnds, IsSplittable};
+ghost use Rattle.stab_hull.specs.Answer.{IsLineInRange};
+ghost use Rattle.portal_walk.specs.Frames.{Passes, ways_left};
 ghost use Rattle.portal_walk.specs.Pending.{way_of, way_taken};
 
 use crate::scene::Way;
-use block_evidence::Evidence;
 use sight_names::{Memory, Pt, RIGHT_END};
-use stab_hull::{Ends, Split};
+use stab_hull::{Ends, Passed};
 use std::alloc::Global;
 use std::marker::Model;
 
@@ -99,26 +99,30 @@ impl Path {
         self.ends.pop();
     }
 
-    /// Stuck ends, where it is seen at once that no line splits the ends of the whole path and of a portal with these ends.
-    pub fn bars(&self, left: Pt, right: Pt) -> Option<Evidence>
-        requires { length self.now.frames < RIGHT_END }
-        ensures { IfSome result (λ e. IsBarredBy (self.now.ends ++ record { left = left; right = right } ∷ []) e) }
-    {
-        self.ends.bars(left, right)
-    }
-
-    /// Enters a portal with these ends, where a line splits the ends of the whole path.
-    pub fn enter(&mut self, frame: Frame, left: Pt, right: Pt) -> Result<Split, Memory>
+    /// Enters a portal with these ends where a line splits the ends of the whole path, else tells ends that show that none does.
+    // in line, since a call would take what comes of it through memory
+    #[inline(always)]
+    pub fn pass(&mut self, frame: Frame, left: Pt, right: Pt) -> Result<Passed, Memory>
         requires proper { left ≢ right }
         requires room { length self.old.frames < RIGHT_END }
         ensures each { length self.old.ends ≡ length self.old.frames }
-        ensures enters { Enters self.old self.new frame (record { left = left; right = right }) result }
+        ensures passes { Passes self.old self.new frame (record { left = left; right = right }) result }
     {
         self.frames.reserve(1)?;
-        let split = self.ends.enter(left, right)?;
-        if let Split::Line { .. } = split {
+        let passed = self.ends.pass(left, right)?;
+        if let Passed::Open = passed {
             self.frames.push_reserved(frame);
         }
-        Ok(split)
+        Ok(passed)
+    }
+
+    /// A line that splits the ends.
+    pub fn line(&self) -> (i32, i32, i64)
+        requires there { 0 < length self.now.frames }
+        requires splittable { IsSplittable self.now.ends }
+        ensures splits { SplitsEnds self.now.ends result.0 result.1 result.2 }
+        ensures range { IsLineInRange result.0 result.1 result.2 }
+    {
+        self.ends.line()
     }
 }

@@ -35,6 +35,8 @@ pub fn roots_of(alloc: Global, plan: &Plan, source: u16) -> Result<Vec<Root>, Me
 }
 
 /// The root at a line, where one of its sides names the source and the other doesn't.
+// in line, since each source asks this of every line
+#[inline(always)]
 fn root_at(plan: &Plan, k: u16, source: u16) -> Option<Root>
     requires plan { IsPlan plan.now }
     ensures root { IfSome result (λ root. IsRootOf plan.now source root) }

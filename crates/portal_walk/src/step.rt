@@ -20,3 +20,22 @@ pub enum Step {
     /// There is no further sequence.
     End,
 }
+
+/// How a walk went on: the kind of its next step. The walk can be asked for the rest.
+#[derive(Clone, Copy, Debug, PartialEq, Eq)]
+pub enum Went {
+    /// To a sequence that a line passes through.
+    Open,
+    /// To a sequence that no line passes through.
+    Blocked,
+    /// There is no further sequence.
+    End,
+}
+
+/// The same with the ends that block a sequence, which `next` tells.
+#[derive(Clone, Copy, Debug)]
+pub enum Came {
+    Open,
+    Blocked(Evidence),
+    End,
+}

@@ -6,12 +6,15 @@ ghost use Rattle.sight_names.specs.Mesh.{IsGoodMesh};
 ghost use Rattle.sight_names.specs.Plan.{IsPlan};
 ghost use Rattle.sight_names.specs.Sequence.{roots};
 ghost use Rattle.sight_names.specs.Sound.{LinesMeetAtEnds};
+ghost use Rattle.sight_names.specs.Splitting.{SplitsEnds, IsSplittable};
+ghost use Rattle.stab_hull.specs.Answer.{IsLineInRange};
+ghost use Rattle.half_edges.specs.declared.table.HalfEdge.{HalfEdge as HalfEdgeOf};
 ghost use Rattle.half_edges.specs.HalfEdges.{AreHalfEdges};
 
 use crate::scene::Kept;
-use crate::step::Step;
+use crate::step::{Step, Went};
 use crate::walk::Walk;
-use half_edges::HalfEdges;
+use half_edges::{HalfEdge, HalfEdges};
 use mesh_shape::{Labels, Mesh};
 use sight_names::{Memory, Plan, Side};
 use sight_tree::Tree;
@@ -41,7 +44,7 @@ impl<'a> Walker<'a> {
     ghost use Rattle.sight_tree.specs.WholeTree.{IsWholeTree};
     ghost use Rattle.portal_walk.specs.Nodes.{IsAnswered};
     ghost use Rattle.portal_walk.specs.Sides.{IsExit};
-    ghost use Rattle.portal_walk.specs.Walk.{Takes, Rests, SameWalk, pending, remaining};
+    ghost use Rattle.portal_walk.specs.Walk.{Goes, IsTop, Takes, Rests, SameWalk, pending, remaining};
 
     /// A walk at its beginning. It makes the half-edges of the map for itself.
     pub fn new(
@@ -109,6 +112,40 @@ impl<'a> Walker<'a> {
         ensures end { remaining self.old ≡ 0 → result ≡ Ok Step.End }
     {
         self.walk.next()
+    }
+
+    /// The same, of which its kind alone is told: `here` and `line` tell the rest.
+    ///
+    /// # Errors
+    ///
+    /// After `Memory` the walk stands where it stood.
+    // in line, since whoever walks calls it for each sequence
+    #[inline(always)]
+    pub fn go(&mut self) -> Result<Went, Memory>
+        ensures walk { SameWalk self.old self.new }
+        ensures went { IfOk result (Goes self.old self.new) }
+        ensures memory { OnErr result (Rests self.old self.new) }
+        ensures end { remaining self.old ≡ 0 → result ≡ Ok Went.End }
+    {
+        self.walk.go()
+    }
+
+    /// The last portal of the sequence that the walk is at.
+    pub fn here(&self) -> &HalfEdge
+        requires { (edge : HalfEdgeOf) × IsTop self.now edge }
+        ensures { IsTop self.now result.now }
+    {
+        self.walk.here()
+    }
+
+    /// A line that passes through the sequence that the walk is at.
+    pub fn line(&self) -> (i32, i32, i64)
+        requires there { 0 < length self.now.frames }
+        requires splittable { IsSplittable self.now.ends }
+        ensures splits { SplitsEnds self.now.ends result.0 result.1 result.2 }
+        ensures range { IsLineInRange result.0 result.1 result.2 }
+    {
+        self.walk.line()
     }
 
     /// The side of the present root that names the source; None before the first step and after the end.

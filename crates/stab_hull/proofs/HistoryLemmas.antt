@@ -17,12 +17,11 @@ use Rattle.extreme_lines.specs.declared.cone.Cone.{Cone}
 use Rattle.extreme_lines.specs.Differences.{difference}
 use Rattle.extreme_lines.specs.Spans.{Spans, first_of, second_of, pair_of, IsCutOf}
 use Rattle.extreme_lines.proofs.Balance.{PartsPair, no_line_parts}
+use Rattle.stab_hull.proofs.HasCut.{Cuts}
 use Rattle.stab_hull.specs.declared.frame.Frame.{Frame}
 use Rattle.stab_hull.specs.declared.conflict.Conflict.{Conflict}
 use Rattle.stab_hull.specs.Portals.{portal_of, portals_of, with_ends, IsConeOf, ShowsNoLine}
-use Rattle.stab_hull.specs.declared.Split.{Split}
-use Rattle.stab_hull.specs.declared.Split.TheVariants.{Line, Stuck}
-use Rattle.stab_hull.specs.Answer.{IsLineInRange, IsEntered}
+use Rattle.stab_hull.specs.Answer.{IsLineInRange}
 use Rattle.stab_hull.specs.Stacks.{KeepsFirst, AreStuckAmong, IsTopCone, IsAdded, IsHullOf}
 use Rattle.stab_hull.specs.History.{IsFree, IsConflict, IsHistory, IsFrameOf, IsWithin}
 use Rattle.stab_hull.proofs.StepLemmas.{top_is}
@@ -37,15 +36,19 @@ each_parted : (a b c : ℤ) (es : List EndPoints) → ((k : ℕ) (p : EndPoints)
 each_parted a b c [] h = tt
 each_parted a b c (p ∷ es) h = (h 0 p refl, each_parted a b c es (λ k q e. h (suc k) q e))
 
--- the middle line of the cone of portals splits them
-pub line_splits : (es : List EndPoints) (k : Cone) (a b c : ℤ) → IsConeOf es k → IsCutOf k a b c → SplitsEnds es a b c
-line_splits es k a b c h cut = each_parted a b c es (λ i p e. (cut.left p.left (to_right i p e (pair_of (first_of k)) h.pairs.first) (to_right i p e (pair_of (second_of k)) h.pairs.second), cut.right p.right (from_left i p e (pair_of (first_of k)) h.pairs.first) (from_left i p e (pair_of (second_of k)) h.pairs.second)))
+-- a line that cuts between the ends of a cone of portals splits them
+pub cuts_split : (es : List EndPoints) (k : Cone) (a b c : ℤ) → IsConeOf es k → Cuts k a b c → SplitsEnds es a b c
+cuts_split es k a b c h cut = each_parted a b c es (λ i p e. (cut.left p.left (to_right i p e (pair_of (first_of k)) h.pairs.first) (to_right i p e (pair_of (second_of k)) h.pairs.second), cut.right p.right (from_left i p e (pair_of (first_of k)) h.pairs.first) (from_left i p e (pair_of (second_of k)) h.pairs.second)))
   where
     to_right : (i : ℕ) (p : EndPoints) → slice_get es i ≡ Some p → (r : EndPair) → IsPairOf es r → Spans k (difference p.left r.right.at)
     to_right i p e r m = let t = right_place es r.right m.right_code m.right in subst (λ (u : Pt). Spans k (difference p.left u)) t.3 (h.spans i t.0 p t.1 e t.2)
 
     from_left : (i : ℕ) (p : EndPoints) → slice_get es i ≡ Some p → (r : EndPair) → IsPairOf es r → Spans k (difference r.left.at p.right)
     from_left i p e r m = let t = left_place es r.left m.left_code m.left in subst (λ (u : Pt). Spans k (difference u p.right)) t.3 (h.spans t.0 i t.1 p t.2 e)
+
+-- so does its middle line
+pub line_splits : (es : List EndPoints) (k : Cone) (a b c : ℤ) → IsConeOf es k → IsCutOf k a b c → SplitsEnds es a b c
+line_splits es k a b c h cut = cuts_split es k a b c h (record { left = cut.left; right = cut.right })
 
 -- the cone has the difference that its middle line asks for
 pub has_corner : (es : List EndPoints) (k : Cone) → IsConeOf es k → Spans k (difference (second_of k).left.at (first_of k).right.at)
@@ -339,10 +342,6 @@ new_cone es ls rs cs n d e g h = cone_of es ls rs cs d h (h.cone.1 ∙ ap (λ (c
 pub enter_free : (fs : List Frame) (p : EndPoints) (f : Frame) (ls rs : List EndAt) (cs : List Cone) (found : Option Conflict) → found ≡ None → IsHistory fs ls rs cs None → IsHullOf (portals_of fs ++ p ∷ []) ls rs cs → f ≡ record { left = p.left; right = p.right; lefts = length ls; rights = length rs; cones = length cs } → IsHistory (fs ++ f ∷ []) ls rs cs found
 enter_free fs p f ls rs cs found n h s e = subst (λ (o : Option Conflict). IsHistory (fs ++ f ∷ []) ls rs cs o) (sym n)
     (push_free fs f ls rs cs h (ap (λ (g : Frame). g.lefts) e) (ap (λ (g : Frame). g.rights) e) (ap (λ (g : Frame). g.cones) e) (subst (λ (q : EndPoints). IsHullOf (portals_of fs ++ q ∷ []) ls rs cs) (sym (ap portal_of e)) s))
-
-pub entered_by_line : (old : List EndPoints) (e : EndPoints) (new : List EndPoints) (split : Split) (a b c : ℤ) → split ≡ Line a b c → new ≡ old ++ e ∷ [] → IsEntered old e new (Ok split)
-entered_by_line old e new (Line x y z) a b c s h = h
-entered_by_line old e new (Stuck pairs) a b c s h = cc
 
 pub entered_list : (fs gs : List Frame) (es : List EndPoints) (e : EndPoints) (f : Frame) → portals_of fs ≡ es → gs ≡ fs ++ f ∷ [] → portal_of f ≡ e → portals_of gs ≡ es ++ e ∷ []
 entered_list fs gs es e f v g p = ap portals_of g ∙ portals_next fs f ∙ ap₂ (λ (xs : List EndPoints) (x : EndPoints). xs ++ x ∷ []) v p

@@ -1,7 +1,9 @@
 pub mod StepLemmas
 pub mod HullLemmas
+pub mod HasCut
 pub mod HistoryLemmas
 pub mod OneLine
 pub mod TwoForms
 pub mod Barring
 pub mod Strip
+pub mod Tries

@@ -7,6 +7,8 @@ use Rattle.block_evidence.specs.declared.Evidence.{Evidence}
 use Rattle.block_evidence.specs.Stuck.{Blocks, IsEvidenceOf}
 use Rattle.stab_hull.specs.declared.Split.{Split}
 use Rattle.stab_hull.specs.declared.Split.TheVariants.{Line, Stuck}
+use Rattle.stab_hull.specs.declared.Passed.{Passed}
+use Rattle.stab_hull.specs.declared.Passed.TheVariants.{Open, Stuck as StuckBy}
 
 -- the line has the range of rays
 pub record IsLineInRange (a b c : ℤ) : Type 0 where
@@ -31,3 +33,9 @@ pub record IsBarredBy (es : List EndPoints) (e : Evidence) : Type 0 where
   pub blocks : Blocks es e
   pub pairs : List EndPair
   pub evidence : IsEvidenceOf pairs e
+
+-- the list has the portal where a line splits its ends and all others; else it is as it was, and stuck ends show that none does
+abbrev pub IsPassed : List EndPoints → EndPoints → List EndPoints → Result Passed Memory → Type 0
+IsPassed old e new (Ok Open) = (new ≡ old ++ e ∷ []) × IsSplittable (old ++ e ∷ [])
+IsPassed old e new (Ok (StuckBy evidence)) = (new ≡ old) × IsBarredBy (old ++ e ∷ []) evidence
+IsPassed old e new (Err r) = new ≡ old

@@ -1,14 +1,12 @@
 //! What a push and a pop do to the stacks and the conflict.
 
-ghost use Rattle.std.specs.Prelude.{◌≡◌, ◌≢◌, ◌+◌, ◌<◌, ◌≤◌, ◌++◌, ◌∷◌, [], None, ℕ, ℤ, List, length, IfOk, MatchOption};
-ghost use Rattle.sight_names.specs.Splitting.{EndPoints};
-ghost use Rattle.stab_hull.specs.declared.Split.TheVariants.{Line};
-ghost use Rattle.stab_hull.specs.Answer.{IsSplitOf};
+ghost use Rattle.std.specs.Prelude.{◌≡◌, ◌≢◌, ◌+◌, ◌<◌, ◌≤◌, ◌++◌, ◌∷◌, [], None, ℕ, List, length, IfOk, MatchOption};
+ghost use Rattle.sight_names.specs.Splitting.{EndPoints, SplitsEnds};
+ghost use Rattle.stab_hull.specs.Answer.{IsLineInRange};
 ghost use Rattle.stab_hull.specs.Portals.{portals_of, IsConeOf, ShowsNoLine};
 ghost use Rattle.stab_hull.specs.Stacks.{IsHullOf};
 ghost use Rattle.stab_hull.specs.History.{IsFree, IsHistory};
 
-use crate::Split;
 use crate::conflict::Conflict;
 use crate::frame::Frame;
 use crate::hull::Hull;
@@ -60,17 +58,13 @@ pub fn frame_over(hull: &Hull, left: Pt, right: Pt) -> Frame
 }
 
 /// The line in the middle of the cone of some portals.
-pub fn line_of(cone: &Cone) -> Split
+pub fn line_of(cone: &Cone) -> (i32, i32, i64)
     requires { (es : List EndPoints) × IsConeOf es cone.now }
-    ensures line { (a : ℤ) × (b : ℤ) × (c : ℤ) × (result ≡ Line a b c) }
-    ensures splits { (es : List EndPoints) → IsConeOf es cone.now → IsSplitOf es result }
+    ensures splits { (es : List EndPoints) → IsConeOf es cone.now → SplitsEnds es result.0 result.1 result.2 }
+    ensures range { IsLineInRange result.0 result.1 result.2 }
 {
     let cut = cone.cut();
-    Split::Line {
-        a: cut.a,
-        b: cut.b,
-        c: cut.c,
-    }
+    (cut.a, cut.b, cut.c)
 }
 
 /// Forgets a conflict of more than the first portals.

@@ -2,13 +2,15 @@
 #![tactic(auto)]
 
 ghost use Rattle.std.specs.Prelude.{◌≡◌, ◌≢◌, ◌++◌, ◌∷◌, [], ◌<◌, length, IfOk, OnErr, take, ◌-◌, OnOk, IfSome};
-ghost use Rattle.stab_hull.specs.Answer.{IsSplitOf, IsEntered, IsBarredBy};
+ghost use Rattle.sight_names.specs.Splitting.{SplitsEnds, IsSplittable};
+ghost use Rattle.stab_hull.specs.Answer.{IsSplitOf, IsEntered, IsBarredBy, IsPassed, IsLineInRange};
 
 mod bars;
 mod conflict;
 mod frame;
 mod history;
 mod hull;
+mod passing;
 mod step;
 
 use crate::bars::barred;
@@ -16,7 +18,8 @@ use crate::conflict::Conflict;
 use crate::frame::Frame;
 use crate::history::{add_portal, forget_beyond, frame_over, line_of};
 use crate::hull::Hull;
-use block_evidence::Evidence;
+use crate::passing::pass_portal;
+use block_evidence::{Evidence, four};
 use sight_names::{EndPair, Memory, Pt, RIGHT_END};
 use std::alloc::Global;
 use std::marker::Model;
@@ -51,6 +54,15 @@ pub enum Split {
     Line { a: i32, b: i32, c: i64 },
     /// No line does: the differences of these pairs, left minus right, have the origin in their convex hull.
     Stuck([EndPair; 3]),
+}
+
+/// Whether a line splits the ends and those of one more portal.
+#[derive(Clone, Copy, Debug, PartialEq, Eq)]
+pub enum Passed {
+    /// One does.
+    Open,
+    /// None does, as two to four stuck ends show.
+    Stuck(Evidence),
 }
 
 impl Ends {
@@ -95,6 +107,36 @@ impl Ends {
         Ok(())
     }
 
+    /// Adds a portal at the end of the list where a line splits its ends and all others; where none does, the list stays
+    /// as it was, and stuck ends show it.
+    pub fn pass(&mut self, left: Pt, right: Pt) -> Result<Passed, Memory>
+        requires proper { left ≢ right }
+        requires room { length self.old < RIGHT_END }
+        ensures { IsPassed self.old (record { left = left; right = right }) self.new result }
+    {
+        if let Some(conflict) = &self.conflict {
+            return Ok(Passed::Stuck(four(&conflict.pairs)));
+        }
+        match pass_portal(&mut self.hull, self.frames.as_slice(), left, right)? {
+            Some(evidence) => Ok(Passed::Stuck(evidence)),
+            None => {
+                self.frames.push(frame_over(&self.hull, left, right))?;
+                Ok(Passed::Open)
+            }
+        }
+    }
+
+    /// A line that splits the ends, where one does. |a| and |b| are at most 2^20, |c| is at most 2^37.
+    pub fn line(&self) -> (i32, i32, i64)
+        requires there { 0 < length self.now }
+        requires splittable { IsSplittable self.now }
+        ensures splits { SplitsEnds self.now result.0 result.1 result.2 }
+        ensures range { IsLineInRange result.0 result.1 result.2 }
+    {
+        let top = &self.frames[self.frames.len() - 1];
+        line_of(&self.hull.cones[top.cones - 1])
+    }
+
     /// Adds a portal at the end of the list where a line splits its ends and all others, and gives the line; where none
     /// does, the list stays as it was, and three pairs show it.
     pub fn enter(&mut self, left: Pt, right: Pt) -> Result<Split, Memory>
@@ -110,7 +152,8 @@ impl Ends {
             Some(pairs) => Ok(Split::Stuck(pairs)),
             None => {
                 self.frames.push(frame_over(&self.hull, left, right))?;
-                Ok(line_of(&self.hull.cones[self.hull.cones.len() - 1]))
+                let (a, b, c) = line_of(&self.hull.cones[self.hull.cones.len() - 1]);
+                Ok(Split::Line { a, b, c })
             }
         }
     }
@@ -147,7 +190,8 @@ impl Ends {
             Some(conflict) => Split::Stuck(conflict.pairs),
             None => {
                 let top = &self.frames[self.frames.len() - 1];
-                line_of(&self.hull.cones[top.cones - 1])
+                let (a, b, c) = line_of(&self.hull.cones[top.cones - 1]);
+                Split::Line { a, b, c }
             }
         }
     }

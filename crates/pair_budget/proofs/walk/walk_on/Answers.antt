@@ -1,27 +1,17 @@
-use Rattle.std.proofs.Common.{◌≡◌, ◌≢◌, ℕ, ◌<◌, inl, List, Option, Some, None, IsSome, refl, sym, ap, ◌∙◌, subst, IfSome, ℤ, w32, w64, rules}
-use mir.Val.{SFits, to_z, of_z}
-use Rattle.std.proofs.lemmas.Int.{to_z-of_z}
-use Rattle.sight_names.specs.declared.names.Side.{Side}
+use Rattle.std.proofs.Common.{◌≡◌, ◌≢◌, ℕ, ◌<◌, inl, List, Option, Some, None, IsSome, refl, sym, ap, ◌∙◌, subst, IfSome, length}
 use Rattle.pair_budget.specs.declared.results.Reached.{Reached}
-use Rattle.pair_budget.specs.Through.{IsRayOfStep}
 use Rattle.sight_names.specs.Mesh.{label_of}
 use Rattle.sight_names.specs.Plan.{PlanParts}
-use Rattle.portal_walk.specs.Walk.{Takes, Opens, pending}
-use Rattle.portal_walk.proofs.Steps.{same_walk_both}
+use Rattle.mesh_shape.specs.Shape.{MeshParts}
+use Rattle.portal_walk.specs.Walk.{Goes, OpensTo, pending}
+use Rattle.portal_walk.proofs.Steps.{same_walk_both, leads_to, top_splittable}
 use Rattle.pair_budget.specs.Whole.{IsFound}
 use Rattle.pair_budget.proofs.Marks.{told_more, extends_both, still_full}
 use Rattle.pair_budget.proofs.Exactly.{finds_begin, finds_blocked, finds_next, finds_noted, finds_end, finds_spent, finds_early}
-use Rattle.pair_budget.proofs.Through.{through_none, through_moved, through_back, through_open}
+use Rattle.pair_budget.proofs.Through.{through_none, through_moved, through_back, through_open, is_at}
 use Rattle.portal_walk.proofs.Answering.{IsOver, over_moved}
 use Rattle.pair_budget.proofs.Walking.{begins, covers_blocked, covers_open, covers_end, noted_label, only_label}
 use Rattle.pair_budget.proofs.walk.walk_on.Goals as goal
-
--- the numbers of the line are as they were when they come as arguments
-ray_kept : (root entered : Option Side) (a b c : ℤ) (o : Option Reached) → SFits w32 a → SFits w32 b → SFits w64 c → IfSome o (IsRayOfStep root entered (to_z w32 (of_z w32 a)) (to_z w32 (of_z w32 b)) (to_z w64 (of_z w64 c))) → IfSome o (IsRayOfStep root entered a b c)
-ray_kept root entered a b c o fa fb fc h =
-    subst (λ (x : ℤ). IfSome o (IsRayOfStep root entered x b c)) (to_z-of_z w32 a fa)
-    (subst (λ (y : ℤ). IfSome o (IsRayOfStep root entered (to_z w32 (of_z w32 a)) y c)) (to_z-of_z w32 b fb)
-    (subst (λ (z : ℤ). IfSome o (IsRayOfStep root entered (to_z w32 (of_z w32 a)) (to_z w32 (of_z w32 b)) z)) (to_z-of_z w64 c fc) h))
 
 pub loop-walker-init : goal.loop-walker-init
 loop-walker-init g c =
@@ -50,40 +40,53 @@ some_both : {X : Type 0} (o : Option X) {P Q R : X → Type 0} → IfSome o P �
 some_both None p q f = tt
 some_both (Some x) p q f = f x p q
 
+pub newly_reached-reached-requires-clause-at : goal.newly_reached-reached-requires-clause-at
+newly_reached-reached-requires-clause-at g c =
+    let i = c.loop-walker.invariant in
+    let old = c.loop-walker.walker in
+    let new = c.go.new.self in
+    let opens : OpensTo old new = subst (Goes old new) c.in-Open.is c.in_ok-go.ensures.went in
+    (opens.opened.edge, is_at old new c.go.ensures.walk (ap length i.walk.labels ∙ c.requires.one_each ∙ sym (ap (λ (m : MeshParts). length m.triangles) i.walk.mesh)) opens)
+
+pub newly_reached-reached-requires-clause-splittable : goal.newly_reached-reached-requires-clause-splittable
+newly_reached-reached-requires-clause-splittable g c =
+    top_splittable c.loop-walker.walker c.go.new.self (subst (Goes c.loop-walker.walker c.go.new.self) c.in-Open.is c.in_ok-go.ensures.went)
+
 -- the sector that is noted is found within the budget
 pub note-requires-clause-hears : goal.note-requires-clause-hears
 note-requires-clause-hears g c =
     let i = c.loop-walker.invariant in
     let old = c.loop-walker.walker in
-    let new = c.next.new.self in
-    let k = c.in-Open.triangle in
+    let new = c.go.new.self in
     let labels : old.labels ≡ c.args.labels.now = i.walk.labels ∙ c.requires.labels in
-    let opens : Opens old new k c.in-Open.entered c.in-Open.a c.in-Open.b c.in-Open.c = subst (Takes old new) c.in-Open.is c.in_ok-next.ensures.step in
-    let reached = c.reached_by-reached in
-    let walk = same_walk_both c.args.walker old new i.walk c.next.ensures.walk in
-    some_both reached.result reached.ensures.reached reached.ensures.label
+    let opens : OpensTo old new = subst (Goes old new) c.in-Open.is c.in_ok-go.ensures.went in
+    let x = opens.opened.edge in
+    let leads = leads_to old new opens x opens.opened.top in
+    let reached = c.newly_reached-reached in
+    let walk = same_walk_both c.args.walker old new i.walk c.go.ensures.walk in
+    some_both reached.result reached.ensures.reached (reached.ensures.label x opens.opened.top)
     (λ (r : Reached) far labelled. i.hears r.to (subst (λ (a : ℕ). r.to ≢ a) walk.source far.other) (subst (λ (p : PlanParts). r.to < p.sectors) walk.plan far.within)
-    (finds_next old new c.args.budget c.loop-walker.left c.loop-walker.found_sectors.found i.exact k c.in-Open.entered c.in-Open.a c.in-Open.b c.in-Open.c opens c.args.walker i.walk c.in-Some.less c.in-Some.ensures r.to
-    (ap (λ (ls : List (Option ℕ)). label_of ls k) labels ∙ labelled)))
+    (finds_next old new c.args.budget c.loop-walker.left c.loop-walker.found_sectors.found i.exact x.triangle x.entered leads c.args.walker i.walk c.in-Some.less c.in-Some.ensures r.to
+    (ap (λ (ls : List (Option ℕ)). label_of ls x.triangle) labels ∙ labelled)))
 
 pub returns-in-End-clause-shown : goal.returns-in-End-clause-shown
 returns-in-End-clause-shown g c =
     let i = c.loop-walker.invariant in
-    covers_end c.args.walker c.loop-walker.walker c.next.new.self c.loop-walker.found_sectors.found i.walk i.covered c.next.ensures.walk c.requires.pending
-    (subst (Takes c.loop-walker.walker c.next.new.self) c.in-End.is c.in_ok-next.ensures.step) c.tree.result c.tree.ensures.source c.tree.ensures.nodes
+    covers_end c.args.walker c.loop-walker.walker c.go.new.self c.loop-walker.found_sectors.found i.walk i.covered c.go.ensures.walk c.requires.pending
+    (subst (Goes c.loop-walker.walker c.go.new.self) c.in-End.is c.in_ok-go.ensures.went) c.tree.result c.tree.ensures.source c.tree.ensures.nodes
 
 pub loop-walker-preserved-in-Blocked : goal.loop-walker-preserved-in-Blocked
 loop-walker-preserved-in-Blocked g c =
     let i = c.loop-walker.invariant in
     record {
-      walk = same_walk_both c.args.walker c.loop-walker.walker c.next.new.self i.walk c.next.ensures.walk;
+      walk = same_walk_both c.args.walker c.loop-walker.walker c.go.new.self i.walk c.go.ensures.walk;
       found_sectors = i.found_sectors;
-      over = over_moved c.loop-walker.walker c.next.new.self c.next.ensures.walk i.over;
-      covered = covers_blocked (pending c.args.walker) c.loop-walker.walker c.next.new.self c.loop-walker.found_sectors.found i.covered c.next.ensures.walk c.in-Blocked.field-0
-          (subst (Takes c.loop-walker.walker c.next.new.self) c.in-Blocked.is c.in_ok-next.ensures.step);
-      exact = finds_blocked c.loop-walker.walker c.next.new.self c.args.budget c.loop-walker.left c.loop-walker.found_sectors.found i.exact c.next.ensures.walk c.in-Blocked.field-0
-          (subst (Takes c.loop-walker.walker c.next.new.self) c.in-Blocked.is c.in_ok-next.ensures.step);
-      through = through_moved c.loop-walker.walker c.next.new.self c.loop-walker.found_sectors.found c.next.ensures.walk i.through;
+      over = over_moved c.loop-walker.walker c.go.new.self c.go.ensures.walk i.over;
+      covered = covers_blocked (pending c.args.walker) c.loop-walker.walker c.go.new.self c.loop-walker.found_sectors.found i.covered c.go.ensures.walk (subst (Goes c.loop-walker.walker c.go.new.self) c.in-Blocked.is c.in_ok-go.ensures.went).0
+          (subst (Goes c.loop-walker.walker c.go.new.self) c.in-Blocked.is c.in_ok-go.ensures.went).1;
+      exact = finds_blocked c.loop-walker.walker c.go.new.self c.args.budget c.loop-walker.left c.loop-walker.found_sectors.found i.exact c.go.ensures.walk (subst (Goes c.loop-walker.walker c.go.new.self) c.in-Blocked.is c.in_ok-go.ensures.went).0
+          (subst (Goes c.loop-walker.walker c.go.new.self) c.in-Blocked.is c.in_ok-go.ensures.went).1;
+      through = through_moved c.loop-walker.walker c.go.new.self c.loop-walker.found_sectors.found c.go.ensures.walk i.through;
       full = i.full;
       hears = i.hears;
       tag = i.tag;
@@ -137,24 +140,25 @@ loop-walker-preserved g c =
     let i = c.loop-walker.invariant in
     let e = c.note.ensures in
     let old = c.loop-walker.walker in
-    let new = c.next.new.self in
+    let new = c.go.new.self in
     let later = c.note.new.found_sectors.found in
-    let k = c.in-Open.triangle in
     let labels : old.labels ≡ c.args.labels.now = i.walk.labels ∙ c.requires.labels in
-    let opens : Opens old new k c.in-Open.entered c.in-Open.a c.in-Open.b c.in-Open.c = subst (Takes old new) c.in-Open.is c.in_ok-next.ensures.step in
-    let reached = c.reached_by-reached in
-    let noted : (sector : ℕ) → label_of old.labels k ≡ Some sector → IsSome c.in-Open.entered → IsFound later sector =
-    λ sector h some. noted_label old.labels c.args.labels.now k later reached.result labels c.in_ok-note-in-Open.ensures.reached reached.ensures.label sector h
-    (reached.ensures.given sector (subst (λ (ls : List (Option ℕ)). label_of ls k ≡ Some sector) labels h) (subst IsSome (sym opens.answers.root) refl) some) in
+    let opens : OpensTo old new = subst (Goes old new) c.in-Open.is c.in_ok-go.ensures.went in
+    let x = opens.opened.edge in
+    let leads = leads_to old new opens x opens.opened.top in
+    let reached = c.newly_reached-reached in
+    let noted : (sector : ℕ) → label_of old.labels x.triangle ≡ Some sector → IsSome x.entered → IsFound later sector =
+    λ sector h some. noted_label old.labels c.args.labels.now x.triangle c.loop-walker.found_sectors.found later e.found_sectors.keeps reached.result labels c.in_ok-note-in-Open.ensures.reached (reached.ensures.label x opens.opened.top) sector h
+    (reached.ensures.given x sector opens.opened.top (subst (λ (ls : List (Option ℕ)). label_of ls x.triangle ≡ Some sector) labels h) (subst IsSome (sym opens.answers.root) refl) some) in
     record {
-      walk = same_walk_both c.args.walker c.loop-walker.walker c.next.new.self i.walk c.next.ensures.walk;
+      walk = same_walk_both c.args.walker c.loop-walker.walker c.go.new.self i.walk c.go.ensures.walk;
       found_sectors = extends_both c.args.found_sectors.now c.loop-walker.found_sectors c.note.new.found_sectors i.found_sectors e.found_sectors;
-      over = over_moved old new c.next.ensures.walk i.over;
-      covered = covers_open (pending c.args.walker) old new c.loop-walker.found_sectors.found i.covered c.next.ensures.walk k c.in-Open.entered c.in-Open.a c.in-Open.b c.in-Open.c opens later e.found_sectors.keeps i.over noted
-          (λ r there. only_label old.labels c.args.labels.now k c.loop-walker.found_sectors.found reached.result r labels reached.ensures.label (c.in_ok-note-in-Open.ensures.only r there));
-      exact = finds_noted c.args.walker old new c.args.budget c.loop-walker.left c.loop-walker.found_sectors.found i.covered i.exact c.next.ensures.walk k c.in-Open.entered c.in-Open.a c.in-Open.b c.in-Open.c opens c.in-Some.less c.in-Some.ensures later e.found_sectors.keeps noted
-          (λ r there. only_label old.labels c.args.labels.now k c.loop-walker.found_sectors.found reached.result r labels reached.ensures.label (c.in_ok-note-in-Open.ensures.only r there));
-      through = through_open old new c.loop-walker.found_sectors.found later i.through k c.in-Open.entered c.in-Open.a c.in-Open.b c.in-Open.c opens c.next.ensures.walk c.args.labels.now labels reached.result reached.ensures.label (ray_kept new.root c.in-Open.entered c.in-Open.a c.in-Open.b c.in-Open.c reached.result (search rules) (search rules) (search rules) reached.ensures.ray) c.in_ok-note-in-Open.ensures.only;
+      over = over_moved old new c.go.ensures.walk i.over;
+      covered = covers_open (pending c.args.walker) old new c.loop-walker.found_sectors.found i.covered c.go.ensures.walk x.triangle x.entered leads later e.found_sectors.keeps i.over noted
+          (λ r there. only_label old.labels c.args.labels.now x.triangle c.loop-walker.found_sectors.found reached.result r labels (reached.ensures.label x opens.opened.top) (c.in_ok-note-in-Open.ensures.only r there));
+      exact = finds_noted c.args.walker old new c.args.budget c.loop-walker.left c.loop-walker.found_sectors.found i.covered i.exact c.go.ensures.walk x.triangle x.entered leads c.in-Some.less c.in-Some.ensures later e.found_sectors.keeps noted
+          (λ r there. only_label old.labels c.args.labels.now x.triangle c.loop-walker.found_sectors.found reached.result r labels (reached.ensures.label x opens.opened.top) (c.in_ok-note-in-Open.ensures.only r there));
+      through = through_open old new c.loop-walker.found_sectors.found later i.through opens c.go.ensures.walk c.args.labels.now labels reached.result (reached.ensures.label x opens.opened.top) (reached.ensures.ray x opens.opened.top) c.in_ok-note-in-Open.ensures.only;
       full = λ f. still_full c.loop-walker.left c.in-Some.less (i.full f) c.in-Some.ensures;
       hears = λ b other below f. e.hears _ (i.hears b other below f);
       tag = e.tag ∙ i.tag;
@@ -170,30 +174,34 @@ loop-walker-preserved g c =
 pub returns-in-End-clause-exact : goal.returns-in-End-clause-exact
 returns-in-End-clause-exact g c =
     let i = c.loop-walker.invariant in
-    finds_end c.loop-walker.walker c.next.new.self c.args.budget c.loop-walker.left c.loop-walker.found_sectors.found i.exact c.args.walker i.walk (subst (Takes c.loop-walker.walker c.next.new.self) c.in-End.is c.in_ok-next.ensures.step) c.tree.result
+    finds_end c.loop-walker.walker c.go.new.self c.args.budget c.loop-walker.left c.loop-walker.found_sectors.found i.exact c.args.walker i.walk (subst (Goes c.loop-walker.walker c.go.new.self) c.in-End.is c.in_ok-go.ensures.went) c.tree.result
 
 pub returns-in_default-clause-exact : goal.returns-in_default-clause-exact
 returns-in_default-clause-exact g c =
     let i = c.loop-walker.invariant in
-    finds_spent c.loop-walker.walker c.next.new.self c.args.budget c.loop-walker.left c.loop-walker.found_sectors.found i.exact c.in-Open.triangle c.in-Open.entered c.in-Open.a c.in-Open.b c.in-Open.c
-    (subst (Takes c.loop-walker.walker c.next.new.self) c.in-Open.is c.in_ok-next.ensures.step) c.args.walker i.walk c.in_default.ensures
+    let old = c.loop-walker.walker in
+    let new = c.go.new.self in
+    let opens : OpensTo old new = subst (Goes old new) c.in-Open.is c.in_ok-go.ensures.went in
+    let x = opens.opened.edge in
+    finds_spent old new c.args.budget c.loop-walker.left c.loop-walker.found_sectors.found i.exact x.triangle x.entered (leads_to old new opens x opens.opened.top) c.args.walker i.walk c.in_default.ensures
 
 pub returns-then-branch-clause-exact : goal.returns-then-branch-clause-exact
 returns-then-branch-clause-exact g c =
     let i = c.loop-walker.invariant in
     let e = c.note.ensures in
     let old = c.loop-walker.walker in
-    let new = c.next.new.self in
-    let k = c.in-Open.triangle in
+    let new = c.go.new.self in
     let labels : old.labels ≡ c.args.labels.now = i.walk.labels ∙ c.requires.labels in
-    let opens : Opens old new k c.in-Open.entered c.in-Open.a c.in-Open.b c.in-Open.c = subst (Takes old new) c.in-Open.is c.in_ok-next.ensures.step in
-    let reached = c.reached_by-reached in
+    let opens : OpensTo old new = subst (Goes old new) c.in-Open.is c.in_ok-go.ensures.went in
+    let x = opens.opened.edge in
+    let leads = leads_to old new opens x opens.opened.top in
+    let reached = c.newly_reached-reached in
     let later = c.note.new.found_sectors.found in
-    finds_early c.args.walker new c.args.budget c.in-Some.less later (same_walk_both c.args.walker old new i.walk c.next.ensures.walk)
-    (finds_noted c.args.walker old new c.args.budget c.loop-walker.left c.loop-walker.found_sectors.found i.covered i.exact c.next.ensures.walk k c.in-Open.entered c.in-Open.a c.in-Open.b c.in-Open.c opens c.in-Some.less c.in-Some.ensures later e.found_sectors.keeps
-    (λ sector h some. noted_label old.labels c.args.labels.now k later reached.result labels c.in_ok-note-in-Open.ensures.reached reached.ensures.label sector h
-    (reached.ensures.given sector (subst (λ (ls : List (Option ℕ)). label_of ls k ≡ Some sector) labels h) (subst IsSome (sym opens.answers.root) refl) some))
-    (λ r there. only_label old.labels c.args.labels.now k c.loop-walker.found_sectors.found reached.result r labels reached.ensures.label (c.in_ok-note-in-Open.ensures.only r there)))
+    finds_early c.args.walker new c.args.budget c.in-Some.less later (same_walk_both c.args.walker old new i.walk c.go.ensures.walk)
+    (finds_noted c.args.walker old new c.args.budget c.loop-walker.left c.loop-walker.found_sectors.found i.covered i.exact c.go.ensures.walk x.triangle x.entered leads c.in-Some.less c.in-Some.ensures later e.found_sectors.keeps
+    (λ sector h some. noted_label old.labels c.args.labels.now x.triangle c.loop-walker.found_sectors.found later e.found_sectors.keeps reached.result labels c.in_ok-note-in-Open.ensures.reached (reached.ensures.label x opens.opened.top) sector h
+    (reached.ensures.given x sector opens.opened.top (subst (λ (ls : List (Option ℕ)). label_of ls x.triangle ≡ Some sector) labels h) (subst IsSome (sym opens.answers.root) refl) some))
+    (λ r there. only_label old.labels c.args.labels.now x.triangle c.loop-walker.found_sectors.found reached.result r labels (reached.ensures.label x opens.opened.top) (c.in_ok-note-in-Open.ensures.only r there)))
 
 pub returns-in-End-clause-rays : goal.returns-in-End-clause-rays
 returns-in-End-clause-rays g c = through_back c.args.walker c.loop-walker.walker c.loop-walker.found_sectors.found c.loop-walker.invariant.walk c.loop-walker.invariant.through
@@ -205,11 +213,12 @@ pub returns-then-branch-clause-rays : goal.returns-then-branch-clause-rays
 returns-then-branch-clause-rays g c =
     let i = c.loop-walker.invariant in
     let old = c.loop-walker.walker in
-    let new = c.next.new.self in
-    let k = c.in-Open.triangle in
+    let new = c.go.new.self in
     let labels : old.labels ≡ c.args.labels.now = i.walk.labels ∙ c.requires.labels in
-    let opens : Opens old new k c.in-Open.entered c.in-Open.a c.in-Open.b c.in-Open.c = subst (Takes old new) c.in-Open.is c.in_ok-next.ensures.step in
-    let reached = c.reached_by-reached in
+    let opens : OpensTo old new = subst (Goes old new) c.in-Open.is c.in_ok-go.ensures.went in
+    let x = opens.opened.edge in
+    let leads = leads_to old new opens x opens.opened.top in
+    let reached = c.newly_reached-reached in
     let later = c.note.new.found_sectors.found in
-    through_back c.args.walker new later (same_walk_both c.args.walker old new i.walk c.next.ensures.walk)
-    (through_open old new c.loop-walker.found_sectors.found later i.through k c.in-Open.entered c.in-Open.a c.in-Open.b c.in-Open.c opens c.next.ensures.walk c.args.labels.now labels reached.result reached.ensures.label (ray_kept new.root c.in-Open.entered c.in-Open.a c.in-Open.b c.in-Open.c reached.result (search rules) (search rules) (search rules) reached.ensures.ray) c.in_ok-note-in-Open.ensures.only)
+    through_back c.args.walker new later (same_walk_both c.args.walker old new i.walk c.go.ensures.walk)
+    (through_open old new c.loop-walker.found_sectors.found later i.through opens c.go.ensures.walk c.args.labels.now labels reached.result (reached.ensures.label x opens.opened.top) (reached.ensures.ray x opens.opened.top) c.in_ok-note-in-Open.ensures.only)

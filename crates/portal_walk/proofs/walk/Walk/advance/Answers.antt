@@ -1,6 +1,6 @@
 use Rattle.std.proofs.Common.{sym, ap, ◌∙◌, refl, subst, arith, None, Ok}
 use Rattle.std.proofs.lemmas.Option.{slice_get_within}
-use Rattle.portal_walk.specs.Frames.{PathParts, ways_left}
+use Rattle.portal_walk.specs.Frames.{PathParts}
 use Rattle.portal_walk.specs.Walk.{WalkParts, Tries}
 use Rattle.portal_walk.proofs.Paths.{walk_over, walk_left}
 use Rattle.portal_walk.proofs.Weights.{no_top}

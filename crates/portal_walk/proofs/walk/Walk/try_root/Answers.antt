@@ -32,4 +32,4 @@ returns-in-Ok-clause-tries c =
     (record { plan = ap (λ (w : WalkParts). w.plan) u; mesh = ap (λ (w : WalkParts). w.mesh) u; labels = ap (λ (w : WalkParts). w.labels) u; source = ap (λ (w : WalkParts). w.source) u })
     c.requires first (ap (λ (w : WalkParts). w.frames) u)
     (popped s.roots.items c.pop.new.self.items c.enter_root.new.self.roots _ c.pop.ensures.rest (omega (arith, s.roots.ok)) (ap (λ (w : WalkParts). w.roots) u))
-    (ap (λ (w : WalkParts). w.root) u) (ap (λ (w : WalkParts). w.nodes) u) c.in-Ok.step c.in-Ok.ensures.enters
+    (ap (λ (w : WalkParts). w.root) u) (ap (λ (w : WalkParts). w.ends) u) (ap (λ (w : WalkParts). w.edges) u) (ap (λ (w : WalkParts). w.nodes) u) c.in-Ok.step c.in-Ok.ensures.enters
