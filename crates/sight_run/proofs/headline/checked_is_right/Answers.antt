@@ -1,5 +1,0 @@
-use Rattle.sight_run.proofs.RightTables.{checked_is_right}
-use Rattle.sight_run.proofs.headline.checked_is_right.Goals as goal
-
-pub returns : goal.returns
-returns c = checked_is_right

@@ -1,5 +1,0 @@
-use Rattle.sight_run.proofs.AllWritten.{all_is_as_build}
-use Rattle.sight_run.proofs.laws.all_is_as_build.Goals as goal
-
-pub returns : goal.returns
-returns c = all_is_as_build

@@ -1,5 +1,0 @@
-use Rattle.sight_run.proofs.Done.{all_is_done}
-use Rattle.sight_run.proofs.laws.all_is_done.Goals as goal
-
-pub returns : goal.returns
-returns c = all_is_done
