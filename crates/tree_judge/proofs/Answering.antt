@@ -9,6 +9,7 @@ use Rattle.reject_bits.specs.Parts.{TableParts}
 use Rattle.half_edges.specs.declared.table.HalfEdge.{HalfEdge}
 use Rattle.tree_judge.specs.declared.roots.Root.{Root}
 use Rattle.tree_judge.specs.declared.trees.Frame.{Frame}
+use Rattle.tree_judge.specs.declared.trees.Wait.{Wait}
 use Rattle.tree_judge.specs.declared.trees.Follow.{Follow}
 use Rattle.tree_judge.specs.Path.{path_ends, Pending, pending_way, IsChain, root_pending, IsAt}
 use Rattle.tree_judge.specs.Whole.{Answers, AreAnswered, IsFirstWrong, Notes, HasAnswered, HasRefused}
@@ -20,17 +21,17 @@ answered_more xs source [] n ps qs rs here more (e, f) answer = (rs, more, [], s
 answered_more xs source (k ∷ ns) n ps qs rs here more (os, some, others, first, rest, e) answer = (os, some, others ++ more, first, answered_more xs source ns n os qs rs others more rest answer, ap (λ (ss : List ℕ). ss ++ more) e ∙ append_assoc some others more)
 
 -- the first so many nodes have answered
-pub record IsFollowed (xs : List HalfEdge) (roots : List Root) (first : Option ℕ) (source : ℕ) (nodes rest : List Node) (number : ℕ) (path : List Frame) (f : Follow) (old new : TableParts) : Type 0 where
+pub record IsFollowed (xs : List HalfEdge) (roots : List Root) (first : Option ℕ) (source : ℕ) (nodes rest : List Node) (number : ℕ) (path : List Frame) (waits : List Wait) (f : Follow) (old new : TableParts) : Type 0 where
   pub done : List Node
   pub split : nodes ≡ done ++ rest
   pub count : length done ≡ number
   pub depth : (es : List ℕ) → IsChain roots first es → f.depth ≤ number
-  pub each : (es : List ℕ) → IsChain roots first es → (ps : List Pending) × (sectors : List ℕ) × AreAnswered xs source (map root_pending es) done ps sectors × IsAt roots path f ps × Notes source sectors old new
+  pub each : (es : List ℕ) → IsChain roots first es → (ps : List Pending) × (sectors : List ℕ) × AreAnswered xs source (map root_pending es) done ps sectors × IsAt roots path waits f ps × Notes source sectors old new
 
 module _ (xs : List HalfEdge) (roots : List Root) (first : Option ℕ) (source : ℕ) (nodes : List Node) (old : TableParts) where
-  pub follows_more : (n : Node) (rest : List Node) (number : ℕ) (path path_new : List Frame) (f f_new : Follow) (t u : TableParts) → IsFollowed xs roots first source nodes (n ∷ rest) number path f old t
-      → HasAnswered xs roots source n path f t path_new f_new u → IsFollowed xs roots first source nodes rest (number + 1) path_new f_new old u
-  follows_more n rest number path path_new f f_new t u w a = record {
+  pub follows_more : (n : Node) (rest : List Node) (number : ℕ) (path path_new : List Frame) (waits waits_new : List Wait) (f f_new : Follow) (t u : TableParts) → IsFollowed xs roots first source nodes (n ∷ rest) number path waits f old t
+      → HasAnswered xs roots source n path waits f t path_new waits_new f_new u → IsFollowed xs roots first source nodes rest (number + 1) path_new waits_new f_new old u
+  follows_more n rest number path path_new waits waits_new f f_new t u w a = record {
     done = w.done ++ n ∷ [];
     split = w.split ∙ sym (append_assoc w.done (n ∷ []) rest);
     count = let h : length (w.done ++ n ∷ []) ≡ length w.done + 1 = length-append w.done (n ∷ []) in omega (arith, h, w.count);
@@ -38,15 +39,15 @@ module _ (xs : List HalfEdge) (roots : List Root) (first : Option ℕ) (source :
     each = λ es c. go es (w.each es c);
   }
     where
-      nested : (es : List ℕ) → (ps : List Pending) × (sectors : List ℕ) × AreAnswered xs source (map root_pending es) w.done ps sectors × IsAt roots path f ps × Notes source sectors old t → f_new.depth ≤ f.depth + 1
+      nested : (es : List ℕ) → (ps : List Pending) × (sectors : List ℕ) × AreAnswered xs source (map root_pending es) w.done ps sectors × IsAt roots path waits f ps × Notes source sectors old t → f_new.depth ≤ f.depth + 1
       nested es (ps, sectors, answered, at, notes) = a.depth at.nested
 
-      go : (es : List ℕ) → (ps : List Pending) × (sectors : List ℕ) × AreAnswered xs source (map root_pending es) w.done ps sectors × IsAt roots path f ps × Notes source sectors old t
-          → (ps : List Pending) × (sectors : List ℕ) × AreAnswered xs source (map root_pending es) (w.done ++ n ∷ []) ps sectors × IsAt roots path_new f_new ps × Notes source sectors old u
+      go : (es : List ℕ) → (ps : List Pending) × (sectors : List ℕ) × AreAnswered xs source (map root_pending es) w.done ps sectors × IsAt roots path waits f ps × Notes source sectors old t
+          → (ps : List Pending) × (sectors : List ℕ) × AreAnswered xs source (map root_pending es) (w.done ++ n ∷ []) ps sectors × IsAt roots path_new waits_new f_new ps × Notes source sectors old u
       go es (ps, sectors, answered, at, notes) = on (a.next ps at)
         where
-          on : (qs : List Pending) × (more : List ℕ) × Answers xs source ps n qs more × IsAt roots path_new f_new qs × Notes source more t u
-              → (ps : List Pending) × (sectors : List ℕ) × AreAnswered xs source (map root_pending es) (w.done ++ n ∷ []) ps sectors × IsAt roots path_new f_new ps × Notes source sectors old u
+          on : (qs : List Pending) × (more : List ℕ) × Answers xs source ps n qs more × IsAt roots path_new waits_new f_new qs × Notes source more t u
+              → (ps : List Pending) × (sectors : List ℕ) × AreAnswered xs source (map root_pending es) (w.done ++ n ∷ []) ps sectors × IsAt roots path_new waits_new f_new ps × Notes source sectors old u
           on (qs, more, answer, behind, noted) = (qs, sectors ++ more, answered_more xs source w.done n (map root_pending es) ps qs sectors more answered answer, behind, notes_more source sectors more old t u notes noted)
 
   first_done : (done rest : List Node) (number : ℕ) → nodes ≡ done ++ rest → length done ≡ number → take number nodes ≡ done
@@ -60,9 +61,9 @@ module _ (xs : List HalfEdge) (roots : List Root) (first : Option ℕ) (source :
   node_behind (k ∷ done) n rest = node_behind done n rest
 
   -- the next node doesn't answer
-  pub wrong_node : (n : Node) (rest : List Node) (number : ℕ) (path : List Frame) (f : Follow) (t : TableParts) → IsFollowed xs roots first source nodes (n ∷ rest) number path f old t
-      → (f.depth ≤ number → HasRefused xs roots source n path f) → (es : List ℕ) → IsChain roots first es → IsFirstWrong xs source (map root_pending es) nodes number
-  wrong_node n rest number path f t w r es c = go (w.each es c)
+  pub wrong_node : (n : Node) (rest : List Node) (number : ℕ) (path : List Frame) (waits : List Wait) (f : Follow) (t : TableParts) → IsFollowed xs roots first source nodes (n ∷ rest) number path waits f old t
+      → (f.depth ≤ number → HasRefused xs roots source n path waits f) → (es : List ℕ) → IsChain roots first es → IsFirstWrong xs source (map root_pending es) nodes number
+  wrong_node n rest number path waits f t w r es c = go (w.each es c)
     where
       here : slice_get nodes number ≡ Some n
       here = subst (λ (k : ℕ). slice_get nodes k ≡ Some n) w.count (ap (λ (ns : List Node). slice_get ns (length w.done)) w.split ∙ node_behind w.done n rest)
@@ -73,7 +74,7 @@ module _ (xs : List HalfEdge) (roots : List Root) (first : Option ℕ) (source :
           one : ◌≡◌ {A = Option Node} (Some n) (Some k) → n ≡ k
           one h = cc
 
-      go : (ps : List Pending) × (sectors : List ℕ) × AreAnswered xs source (map root_pending es) w.done ps sectors × IsAt roots path f ps × Notes source sectors old t → IsFirstWrong xs source (map root_pending es) nodes number
+      go : (ps : List Pending) × (sectors : List ℕ) × AreAnswered xs source (map root_pending es) w.done ps sectors × IsAt roots path waits f ps × Notes source sectors old t → IsFirstWrong xs source (map root_pending es) nodes number
       go (ps, sectors, answered, at, notes) = record {
         left = ps;
         sectors = sectors;
@@ -84,9 +85,9 @@ module _ (xs : List HalfEdge) (roots : List Root) (first : Option ℕ) (source :
       }
 
   -- no node is left, and something is still asked
-  pub missing_node : (rest : List Node) (number place : ℕ) (path : List Frame) (f : Follow) (t : TableParts) → rest ≡ [] → IsFollowed xs roots first source nodes rest number path f old t
+  pub missing_node : (rest : List Node) (number place : ℕ) (path : List Frame) (waits : List Wait) (f : Follow) (t : TableParts) → rest ≡ [] → IsFollowed xs roots first source nodes rest number path waits f old t
       → f.asked ≡ Some place → (es : List ℕ) → IsChain roots first es → IsFirstWrong xs source (map root_pending es) nodes (length nodes)
-  missing_node rest number place path f t e w asked es c = go (w.each es c)
+  missing_node rest number place path waits f t e w asked es c = go (w.each es c)
     where
       all : nodes ≡ w.done
       all = w.split ∙ ap (λ (ns : List Node). w.done ++ ns) e ∙ append-nil w.done
@@ -94,13 +95,13 @@ module _ (xs : List HalfEdge) (roots : List Root) (first : Option ℕ) (source :
       past : (k : Node) → slice_get nodes (length nodes) ≡ Some k → ⊥
       past k h = let l : length nodes < length nodes = slice_get_within nodes (length nodes) k h in omega (arith, l)
 
-      some : (ps : List Pending) → IsAt roots path f ps → ps ≡ [] → ⊥
+      some : (ps : List Pending) → IsAt roots path waits f ps → ps ≡ [] → ⊥
       some ps at h = nothing (sym (ap (λ (o : Option ℕ). pending_way (path_ends (take f.depth path)) o ++ (at.ways ++ map root_pending at.es)) asked) ∙ sym at.all ∙ h)
         where
           nothing : {p : Pending} {qs : List Pending} → ◌≡◌ {A = List Pending} (p ∷ qs) [] → ⊥
           nothing q = cc
 
-      go : (ps : List Pending) × (sectors : List ℕ) × AreAnswered xs source (map root_pending es) w.done ps sectors × IsAt roots path f ps × Notes source sectors old t → IsFirstWrong xs source (map root_pending es) nodes (length nodes)
+      go : (ps : List Pending) × (sectors : List ℕ) × AreAnswered xs source (map root_pending es) w.done ps sectors × IsAt roots path waits f ps × Notes source sectors old t → IsFirstWrong xs source (map root_pending es) nodes (length nodes)
       go (ps, sectors, answered, at, notes) = record {
         left = ps;
         sectors = sectors;
@@ -111,13 +112,13 @@ module _ (xs : List HalfEdge) (roots : List Root) (first : Option ℕ) (source :
       }
 
   -- no node is left, and nothing is asked any more
-  pub all_answered : (rest : List Node) (number : ℕ) (path : List Frame) (f : Follow) (t : TableParts) → rest ≡ [] → IsFollowed xs roots first source nodes rest number path f old t
+  pub all_answered : (rest : List Node) (number : ℕ) (path : List Frame) (waits : List Wait) (f : Follow) (t : TableParts) → rest ≡ [] → IsFollowed xs roots first source nodes rest number path waits f old t
       → f.asked ≡ None → (es : List ℕ) → IsChain roots first es → (sectors : List ℕ) × AreAnswered xs source (map root_pending es) nodes [] sectors × Notes source sectors old t
-  all_answered rest number path f t e w asked es c = go (w.each es c)
+  all_answered rest number path waits f t e w asked es c = go (w.each es c)
     where
       all : nodes ≡ w.done
       all = w.split ∙ ap (λ (ns : List Node). w.done ++ ns) e ∙ append-nil w.done
 
-      go : (ps : List Pending) × (sectors : List ℕ) × AreAnswered xs source (map root_pending es) w.done ps sectors × IsAt roots path f ps × Notes source sectors old t
+      go : (ps : List Pending) × (sectors : List ℕ) × AreAnswered xs source (map root_pending es) w.done ps sectors × IsAt roots path waits f ps × Notes source sectors old t
           → (sectors : List ℕ) × AreAnswered xs source (map root_pending es) nodes [] sectors × Notes source sectors old t
       go (ps, sectors, answered, at, notes) = (sectors, subst (λ (ns : List Node). AreAnswered xs source (map root_pending es) ns [] sectors) (sym all) (subst (λ (qs : List Pending). AreAnswered xs source (map root_pending es) w.done qs sectors) (at.last asked) answered), notes)

@@ -1,21 +1,22 @@
 -- What is asked behind a half-edge: its left way, its right way, and then what was still to be asked.
-use Rattle.std.proofs.Common.{◌≡◌, ℕ, ◌+◌, ◌<◌, ◌≤◌, List, [], ◌∷◌, ◌++◌, Option, Some, None, map, take, refl, sym, ◌∙◌, ap, subst, arith}
-use Rattle.std.specs.List.{slice_get}
+use Rattle.std.proofs.Common.{◌≡◌, ℕ, ◌+◌, ◌<◌, ◌≤◌, List, [], ◌∷◌, ◌++◌, Option, Some, None, length, map, set, take, refl, sym, ◌∙◌, ap, subst, arith}
+use Rattle.std.proofs.lemmas.List.{take-set}
 use Rattle.sight_names.specs.Splitting.{EndPoints}
 use Rattle.half_edges.specs.declared.table.HalfEdge.{HalfEdge}
 use Rattle.half_edges.specs.HalfEdges.{way_outside}
 use Rattle.tree_judge.specs.declared.roots.Root.{Root}
 use Rattle.tree_judge.specs.declared.trees.Frame.{Frame}
+use Rattle.tree_judge.specs.declared.trees.Wait.{Wait}
 use Rattle.tree_judge.specs.declared.trees.Follow.{Follow}
-use Rattle.tree_judge.specs.Path.{path_ends, LetsWait, IsWaiting, Pending, pending_way, IsChain, root_pending, IsAt, with_asked, ways_behind, EntersThrough, TakesNext}
-use Rattle.tree_judge.proofs.Ways.{waiting_same}
+use Rattle.tree_judge.specs.Path.{path_ends, IsWaiting, Pending, pending_way, IsChain, root_pending, IsAt, with_asked, ways_behind, EntersThrough, TakesNext}
+use Rattle.tree_judge.proofs.Ways.{waiting_same, waits_at}
 use Rattle.list_base.proofs.Options.{some_is_not_none}
 
 -- one portal more is open
 abbrev pub deeper : Follow → ℕ → Follow
 deeper f waiting = record { depth = f.depth + 1; root = f.root; asked = f.asked; waiting = waiting }
 
-module _ (xs : List HalfEdge) (roots : List Root) (source : ℕ) (path : List Frame) (f : Follow) (x : HalfEdge) where
+module _ (xs : List HalfEdge) (roots : List Root) (source : ℕ) (path : List Frame) (waits : List Wait) (f : Follow) (x : HalfEdge) where
   -- the ends of the open portals and of the half-edge's own
   abbrev ends : List EndPoints
   ends = path_ends (take (f.depth + 1) path)
@@ -25,29 +26,30 @@ module _ (xs : List HalfEdge) (roots : List Root) (source : ℕ) (path : List Fr
   behind left right ps = (pending_way ends left ++ pending_way ends right) ++ ps
 
   -- both lead on: the left one is asked, the right one waits
-  pub enters_both : (new : List Frame) (left right : ℕ) → LetsWait path f.depth right f.waiting new → Some left ≡ way_outside xs source x.left_way → Some right ≡ way_outside xs source x.right_way → EntersThrough xs roots source path f x new (deeper f (f.depth + 1)) (Some left)
-  enters_both new left right w l r = record {
+  pub enters_both : (left right : ℕ) (w : Wait) → f.depth < length path → f.depth < length waits → w.way ≡ right → w.before ≡ f.waiting → Some left ≡ way_outside xs source x.left_way → Some right ≡ way_outside xs source x.right_way
+      → EntersThrough xs roots source path waits f x (set waits f.depth w) (deeper f (f.depth + 1)) (Some left)
+  enters_both left right w near room way before l r = record {
     next = λ es ws c h n. record {
       es = es;
-      ways = record { path = path_ends (take (f.depth + 1) new); edge = right } ∷ ws;
+      ways = record { path = ends; edge = right } ∷ ws;
       chain = c;
       waiting = (
-        w.frame,
-        (f.depth, refl, w.is),
-        ap (λ (e : ℕ). let u : Pending = record { path = path_ends (take (f.depth + 1) new); edge = e } in u) (sym w.way_is),
-        let b : w.frame.before ≡ f.waiting = w.before_is in omega (arith, b, n),
-        subst (λ (k : ℕ). IsWaiting new k ws) (sym w.before_is) (waiting_same path new f.depth f.waiting ws w.kept n h),
+        w,
+        (f.depth, refl, waits_at waits f.depth w room),
+        omega (arith, near),
+        ap (λ (e : ℕ). let u : Pending = record { path = ends; edge = e } in u) (sym way),
+        omega (arith, before, n),
+        subst (λ (k : ℕ). IsWaiting path (set waits f.depth w) k ws) (sym before) (waiting_same path path waits (set waits f.depth w) f.depth f.waiting ws refl (take-set waits f.depth w) n h),
       );
       nested = omega arith;
-      all = sym (λ i. behind (l i) (r i) (ws ++ map root_pending es))
-          ∙ ap (λ (es_ : List EndPoints). let u : Pending = record { path = es_; edge = left } in let v : Pending = record { path = es_; edge = right } in u ∷ v ∷ (ws ++ map root_pending es)) (sym w.ends);
+      all = sym (λ i. behind (l i) (r i) (ws ++ map root_pending es));
       last = λ e. absurd (some_is_not_none left e);
     };
     depth = λ _. omega arith;
   }
 
   -- the left one alone
-  pub enters_left : (way : ℕ) → Some way ≡ way_outside xs source x.left_way → None ≡ way_outside xs source x.right_way → EntersThrough xs roots source path f x path (deeper f f.waiting) (Some way)
+  pub enters_left : (way : ℕ) → Some way ≡ way_outside xs source x.left_way → None ≡ way_outside xs source x.right_way → EntersThrough xs roots source path waits f x waits (deeper f f.waiting) (Some way)
   enters_left way l r = record {
     next = λ es ws c h n. record {
       es = es;
@@ -62,7 +64,7 @@ module _ (xs : List HalfEdge) (roots : List Root) (source : ℕ) (path : List Fr
   }
 
   -- the right one alone
-  pub enters_right : (way : ℕ) → None ≡ way_outside xs source x.left_way → Some way ≡ way_outside xs source x.right_way → EntersThrough xs roots source path f x path (deeper f f.waiting) (Some way)
+  pub enters_right : (way : ℕ) → None ≡ way_outside xs source x.left_way → Some way ≡ way_outside xs source x.right_way → EntersThrough xs roots source path waits f x waits (deeper f f.waiting) (Some way)
   enters_right way l r = record {
     next = λ es ws c h n. record {
       es = es;
@@ -77,8 +79,8 @@ module _ (xs : List HalfEdge) (roots : List Root) (source : ℕ) (path : List Fr
   }
 
   -- none of them: what was still to be asked is asked
-  pub enters_none : (new : Follow) (asked : Option ℕ) → None ≡ way_outside xs source x.left_way → None ≡ way_outside xs source x.right_way → TakesNext roots path f new asked → EntersThrough xs roots source path f x path new asked
+  pub enters_none : (new : Follow) (asked : Option ℕ) → None ≡ way_outside xs source x.left_way → None ≡ way_outside xs source x.right_way → TakesNext roots path waits f new asked → EntersThrough xs roots source path waits f x waits new asked
   enters_none new asked l r t = record {
-    next = λ es ws c h n. subst (IsAt roots path (with_asked new asked)) (λ i. behind (l i) (r i) (ws ++ map root_pending es)) (t.next es ws c h);
+    next = λ es ws c h n. subst (IsAt roots path waits (with_asked new asked)) (λ i. behind (l i) (r i) (ws ++ map root_pending es)) (t.next es ws c h);
     depth = λ n. let d : new.depth ≤ f.waiting = t.depth in omega (arith, d, n);
   }

@@ -10,6 +10,7 @@ use Rattle.reject_bits.specs.Parts.{TableParts}
 use Rattle.half_edges.specs.declared.table.HalfEdge.{HalfEdge}
 use Rattle.tree_judge.specs.declared.roots.Root.{Root}
 use Rattle.tree_judge.specs.declared.trees.Frame.{Frame}
+use Rattle.tree_judge.specs.declared.trees.Wait.{Wait}
 use Rattle.tree_judge.specs.declared.trees.Follow.{Follow}
 use Rattle.tree_judge.specs.Path.{list_of, path_ends, edge_ends, PutsAt, IsWaiting, Pending, pending_way, IsChain, root_pending, IsAt, with_asked, ways_behind, TakesNext, EntersThrough}
 use Rattle.tree_judge.specs.Whole.{ends_through, ways_through, Answers, Notes, HasAnswered, HasRefused, StandsBefore}
@@ -20,8 +21,8 @@ use Rattle.list_base.proofs.Options.{some_is_not_none}
 abbrev pub at_first : Option ℕ → Follow
 at_first first = record { depth = 0; root = first; asked = None; waiting = 0 }
 
-pub stands : (roots : List Root) (path : List Frame) (new : Follow) (first asked : Option ℕ) → TakesNext roots path (at_first first) new asked → StandsBefore roots first path (with_asked new asked)
-stands roots path new first asked t = record { start = λ es c. t.next es [] c refl }
+pub stands : (roots : List Root) (path : List Frame) (waits : List Wait) (new : Follow) (first asked : Option ℕ) → TakesNext roots path waits (at_first first) new asked → StandsBefore roots first path waits (with_asked new asked)
+stands roots path waits new first asked t = record { start = λ es c. t.next es [] c refl }
 
 same_first : (p q : Pending) (ps qs us : List Pending) → us ≡ p ∷ ps → us ≡ q ∷ qs → p ≡ q
 same_first p q ps qs us e f = cc
@@ -29,42 +30,42 @@ same_first p q ps qs us e f = cc
 no_first : (p : Pending) (ps us : List Pending) → us ≡ [] → us ≡ p ∷ ps → ⊥
 no_first p ps us e f = cc
 
-module _ (xs : List HalfEdge) (roots : List Root) (source : ℕ) (path : List Frame) (f : Follow) where
+module _ (xs : List HalfEdge) (roots : List Root) (source : ℕ) (path : List Frame) (waits : List Wait) (f : Follow) where
   -- the half-edge that is asked, behind the present path
   abbrev present : ℕ → Pending
   present place = record { path = path_ends (take f.depth path); edge = place }
 
   -- what is to be asked behind it
-  abbrev others : {ps : List Pending} → IsAt roots path f ps → List Pending
+  abbrev others : {ps : List Pending} → IsAt roots path waits f ps → List Pending
   others a = a.ways ++ map root_pending a.es
 
-  present_first : (ps : List Pending) (place : ℕ) → f.asked ≡ Some place → (a : IsAt roots path f ps) → ps ≡ present place ∷ others a
+  present_first : (ps : List Pending) (place : ℕ) → f.asked ≡ Some place → (a : IsAt roots path waits f ps) → ps ≡ present place ∷ others a
   present_first ps place e a = a.all ∙ ap (λ (o : Option ℕ). pending_way (path_ends (take f.depth path)) o ++ others a) e
 
   -- ---- a node that answers
 
-  pub opened : (middle new : List Frame) (place : ℕ) (f_new : Follow) (asked : Option ℕ) (x : HalfEdge) (t u : TableParts) → f.asked ≡ Some place → slice_get xs place ≡ Some x → PutsAt path f.depth (edge_ends x) middle
-      → EntersThrough xs roots source middle f x new f_new asked → Notes source (list_of x.sector) t u → HasAnswered xs roots source Open path f t new (with_asked f_new asked) u
+  pub opened : (middle : List Frame) (new : List Wait) (place : ℕ) (f_new : Follow) (asked : Option ℕ) (x : HalfEdge) (t u : TableParts) → f.asked ≡ Some place → slice_get xs place ≡ Some x → PutsAt path f.depth (edge_ends x) middle
+      → EntersThrough xs roots source middle waits f x new f_new asked → Notes source (list_of x.sector) t u → HasAnswered xs roots source Open path waits f t middle new (with_asked f_new asked) u
   opened middle new place f_new asked x t u e is put enters notes = record {
     next = λ ps a. (
       ways_through xs source (present place) x ++ others a,
       list_of x.sector,
       (present place, others a, x, present_first ps place e a, is, refl, refl),
-      subst (λ (es : List EndPoints). IsAt roots new (with_asked f_new asked) (ways_behind xs source es x ++ others a)) put.put
-          (enters.next a.es a.ways a.chain (waiting_same path middle f.depth f.waiting a.ways put.kept a.nested a.waiting) a.nested),
+      subst (λ (es : List EndPoints). IsAt roots middle new (with_asked f_new asked) (ways_behind xs source es x ++ others a)) put.put
+          (enters.next a.es a.ways a.chain (waiting_same path middle waits waits f.depth f.waiting a.ways put.kept refl a.nested a.waiting) a.nested),
       notes,
     );
     depth = enters.depth;
   }
 
   pub blocked : (middle : List Frame) (place : ℕ) (f_new : Follow) (asked : Option ℕ) (x : HalfEdge) (e : Evidence) (t : TableParts) → f.asked ≡ Some place → slice_get xs place ≡ Some x → PutsAt path f.depth (edge_ends x) middle
-      → Blocks (path_ends (take (f.depth + 1) middle)) e → TakesNext roots middle f f_new asked → HasAnswered xs roots source (Blocked e) path f t middle (with_asked f_new asked) t
+      → Blocks (path_ends (take (f.depth + 1) middle)) e → TakesNext roots middle waits f f_new asked → HasAnswered xs roots source (Blocked e) path waits f t middle waits (with_asked f_new asked) t
   blocked middle place f_new asked x e t h is put blocks takes = record {
     next = λ ps a. (
       others a,
       [],
       (present place, others a, x, present_first ps place h a, is, subst (λ (es : List EndPoints). Blocks es e) put.put blocks, refl, refl),
-      takes.next a.es a.ways a.chain (waiting_same path middle f.depth f.waiting a.ways put.kept a.nested a.waiting),
+      takes.next a.es a.ways a.chain (waiting_same path middle waits waits f.depth f.waiting a.ways put.kept refl a.nested a.waiting),
       notes_none source t,
     );
     depth = λ n. let d : f_new.depth ≤ f.waiting = takes.depth in omega (arith, d, n);
@@ -73,15 +74,15 @@ module _ (xs : List HalfEdge) (roots : List Root) (source : ℕ) (path : List Fr
   -- ---- a node that doesn't
 
   -- nothing is asked
-  pub refused_all : (n : Node) → f.asked ≡ None → HasRefused xs roots source n path f
+  pub refused_all : (n : Node) → f.asked ≡ None → HasRefused xs roots source n path waits f
   refused_all Open e = record { none = λ ps qs sectors a (p, rest, x, first, is, left, here). no_first p rest ps (a.last e) first }
   refused_all (Blocked d) e = record { none = λ ps qs sectors a (p, rest, x, first, is, blocks, left, here). no_first p rest ps (a.last e) first }
 
   -- there is no such half-edge
-  no_edge : (ps rest : List Pending) (place : ℕ) (p : Pending) (x : HalfEdge) → f.asked ≡ Some place → slice_get xs place ≡ None → IsAt roots path f ps → ps ≡ p ∷ rest → slice_get xs p.edge ≡ Some x → ⊥
+  no_edge : (ps rest : List Pending) (place : ℕ) (p : Pending) (x : HalfEdge) → f.asked ≡ Some place → slice_get xs place ≡ None → IsAt roots path waits f ps → ps ≡ p ∷ rest → slice_get xs p.edge ≡ Some x → ⊥
   no_edge ps rest place p x e none a first is = some_is_not_none x (sym is ∙ ap (λ (q : Pending). slice_get xs q.edge) (same_first p (present place) rest (others a) ps first (present_first ps place e a)) ∙ none)
 
-  pub refused_edge : (n : Node) (place : ℕ) → f.asked ≡ Some place → slice_get xs place ≡ None → HasRefused xs roots source n path f
+  pub refused_edge : (n : Node) (place : ℕ) → f.asked ≡ Some place → slice_get xs place ≡ None → HasRefused xs roots source n path waits f
   refused_edge Open place e none = record { none = λ ps qs sectors a (p, rest, x, first, is, left, here). no_edge ps rest place p x e none a first is }
   refused_edge (Blocked d) place e none = record { none = λ ps qs sectors a (p, rest, x, first, is, blocks, left, here). no_edge ps rest place p x e none a first is }
 
@@ -92,10 +93,10 @@ module _ (xs : List HalfEdge) (roots : List Root) (source : ℕ) (path : List Fr
   untrue : IsTrue false → ⊥
   untrue e = cc
 
-  pub refused_ends : (middle : List Frame) (place : ℕ) (x : HalfEdge) (e : Evidence) → f.asked ≡ Some place → slice_get xs place ≡ Some x → PutsAt path f.depth (edge_ends x) middle → (IsTrue false ↔ Blocks (path_ends (take (f.depth + 1) middle)) e) → HasRefused xs roots source (Blocked e) path f
+  pub refused_ends : (middle : List Frame) (place : ℕ) (x : HalfEdge) (e : Evidence) → f.asked ≡ Some place → slice_get xs place ≡ Some x → PutsAt path f.depth (edge_ends x) middle → (IsTrue false ↔ Blocks (path_ends (take (f.depth + 1) middle)) e) → HasRefused xs roots source (Blocked e) path waits f
   refused_ends middle place x e h is put fails = record { none = λ ps qs sectors a (p, rest, y, first, at, blocks, left, here). go ps rest p y a first at blocks }
     where
-      go : (ps rest : List Pending) (p : Pending) (y : HalfEdge) → IsAt roots path f ps → ps ≡ p ∷ rest → slice_get xs p.edge ≡ Some y → Blocks (ends_through p y) e → ⊥
+      go : (ps rest : List Pending) (p : Pending) (y : HalfEdge) → IsAt roots path waits f ps → ps ≡ p ∷ rest → slice_get xs p.edge ≡ Some y → Blocks (ends_through p y) e → ⊥
       go ps rest p y a first at blocks = untrue (fails.1 (subst (λ (es : List EndPoints). Blocks es e) (sym put.put) (subst (λ (z : HalfEdge). Blocks (ends_through (present place) z) e) found (subst (λ (q : Pending). Blocks (ends_through q y) e) same blocks))))
         where
           same : p ≡ present place

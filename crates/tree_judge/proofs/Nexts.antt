@@ -4,6 +4,7 @@ use Rattle.std.specs.List.{slice_get}
 use Rattle.std.specs.Prelude.{option_and_then}
 use Rattle.tree_judge.specs.declared.roots.Root.{Root}
 use Rattle.tree_judge.specs.declared.trees.Frame.{Frame}
+use Rattle.tree_judge.specs.declared.trees.Wait.{Wait}
 use Rattle.tree_judge.specs.declared.trees.Follow.{Follow}
 use Rattle.tree_judge.specs.Path.{AsksRoot, path_ends, StandsAt, IsWaiting, Pending, pending_way, IsChain, root_pending, IsAt, with_asked, TakesNext}
 use Rattle.list_base.proofs.Options.{some_is_not_none}
@@ -13,39 +14,39 @@ one_some x y o e f = cc
 
 -- ---- a way is asked
 
-abbrev pub on_way : Follow → Frame → Follow
-on_way old f = record { depth = old.waiting; root = old.root; asked = old.asked; waiting = f.before }
+abbrev pub on_way : Follow → Wait → Follow
+on_way old w = record { depth = old.waiting; root = old.root; asked = old.asked; waiting = w.before }
 
-pub takes_way : (roots : List Root) (path : List Frame) (old : Follow) (f : Frame) → StandsAt path old.waiting f → TakesNext roots path old (on_way old f) (Some f.right_way)
-takes_way roots path old f (k, q, is) = record { next = λ es ws c h. go es ws c h; depth = omega arith }
+pub takes_way : (roots : List Root) (path : List Frame) (waits : List Wait) (old : Follow) (w : Wait) → StandsAt waits old.waiting w → TakesNext roots path waits old (on_way old w) (Some w.way)
+takes_way roots path waits old w (k, q, is) = record { next = λ es ws c h. go es ws c h; depth = omega arith }
   where
-    go : (es : List ℕ) (ws : List Pending) → IsChain roots old.root es → IsWaiting path old.waiting ws → IsAt roots path (with_asked (on_way old f) (Some f.right_way)) (ws ++ map root_pending es)
+    go : (es : List ℕ) (ws : List Pending) → IsChain roots old.root es → IsWaiting path waits old.waiting ws → IsAt roots path waits (with_asked (on_way old w) (Some w.way)) (ws ++ map root_pending es)
     go es [] c h = absurd (omega (arith, h, q))
-    go es (p ∷ ws) c (g, (j, r, this), first, less, more) = record {
+    go es (p ∷ ws) c (v, (j, r, this), leads, first, less, more) = record {
       es = es;
       ways = ws;
       chain = c;
-      waiting = subst (λ (e : Frame). IsWaiting path e.before ws) same more;
-      nested = let l : f.before < old.waiting = subst (λ (e : Frame). e.before < old.waiting) same less in omega (arith, l);
-      all = ap (λ (u : Pending). u ∷ (ws ++ map root_pending es)) (first ∙ ap (λ (e : Frame). let u : Pending = record { path = path_ends (take old.waiting path); edge = e.right_way } in u) same);
-      last = λ n. absurd (some_is_not_none f.right_way n);
+      waiting = subst (λ (u : Wait). IsWaiting path waits u.before ws) same more;
+      nested = let l : w.before < old.waiting = subst (λ (u : Wait). u.before < old.waiting) same less in omega (arith, l);
+      all = ap (λ (u : Pending). u ∷ (ws ++ map root_pending es)) (first ∙ ap (λ (e : Wait). let u : Pending = record { path = path_ends (take old.waiting path); edge = e.way } in u) same);
+      last = λ n. absurd (some_is_not_none w.way n);
     }
       where
         at : k ≡ j
         at = omega (arith, q, r)
 
-        same : g ≡ f
-        same = one_some g f (slice_get path j) this (ap (slice_get path) (sym at) ∙ is)
+        same : v ≡ w
+        same = one_some v w (slice_get waits j) this (ap (slice_get waits) (sym at) ∙ is)
 
 -- ---- no way waits, and a root is asked, if there is one
 
 abbrev pub on_root : Follow → Option ℕ → Follow
 on_root old next = record { depth = 0; root = next; asked = old.asked; waiting = 0 }
 
-pub takes_from_root : (roots : List Root) (path : List Frame) (old : Follow) (asked next : Option ℕ) → ((ws : List Pending) → IsWaiting path old.waiting ws → ws ≡ []) → AsksRoot roots old.root asked next → TakesNext roots path old (on_root old next) asked
-takes_from_root roots path old asked next none a = record { next = λ es ws c h. go es ws c (none ws h); depth = omega arith }
+pub takes_from_root : (roots : List Root) (path : List Frame) (waits : List Wait) (old : Follow) (asked next : Option ℕ) → ((ws : List Pending) → IsWaiting path waits old.waiting ws → ws ≡ []) → AsksRoot roots old.root asked next → TakesNext roots path waits old (on_root old next) asked
+takes_from_root roots path waits old asked next none a = record { next = λ es ws c h. go es ws c (none ws h); depth = omega arith }
   where
-    by_root : (r : Root) → option_and_then (slice_get roots) old.root ≡ Some r → (es : List ℕ) → IsChain roots old.root es → IsAt roots path (with_asked (on_root old r.next) (Some r.edge)) (map root_pending es)
+    by_root : (r : Root) → option_and_then (slice_get roots) old.root ≡ Some r → (es : List ℕ) → IsChain roots old.root es → IsAt roots path waits (with_asked (on_root old r.next) (Some r.edge)) (map root_pending es)
     by_root r at [] c = absurd (some_is_not_none r (sym at ∙ ap (λ (o : Option ℕ). option_and_then (slice_get roots) o) c))
     by_root r at (e ∷ es) (k, s, o, h, g, c) = record {
       es = es;
@@ -60,13 +61,13 @@ takes_from_root roots path old asked next none a = record { next = λ es ws c h.
         is : s ≡ r
         is = one_some s r (option_and_then (slice_get roots) old.root) (ap (λ (u : Option ℕ). option_and_then (slice_get roots) u) o ∙ h) at
 
-    by_none : option_and_then (slice_get roots) old.root ≡ None → (es : List ℕ) → IsChain roots old.root es → IsAt roots path (with_asked (on_root old old.root) None) (map root_pending es)
+    by_none : option_and_then (slice_get roots) old.root ≡ None → (es : List ℕ) → IsChain roots old.root es → IsAt roots path waits (with_asked (on_root old old.root) None) (map root_pending es)
     by_none at [] c = record { es = []; ways = []; chain = c; waiting = refl; nested = omega arith; all = refl; last = λ n. refl }
     by_none at (e ∷ es) (k, s, o, h, g, c) = absurd (some_is_not_none s (sym h ∙ ap (λ (u : Option ℕ). option_and_then (slice_get roots) u) (sym o) ∙ at))
 
-    by : (o : Option Root) → option_and_then (slice_get roots) old.root ≡ o → (es : List ℕ) → IsChain roots old.root es → IsAt roots path (with_asked (on_root old next) asked) (map root_pending es)
-    by (Some r) h es c = let k = a.some r h in subst (λ (n : Option ℕ). IsAt roots path (with_asked (on_root old n) asked) (map root_pending es)) (sym k.1) (subst (λ (u : Option ℕ). IsAt roots path (with_asked (on_root old r.next) u) (map root_pending es)) (sym k.0) (by_root r h es c))
-    by None h es c = let k = a.none h in subst (λ (n : Option ℕ). IsAt roots path (with_asked (on_root old n) asked) (map root_pending es)) (sym k.1) (subst (λ (u : Option ℕ). IsAt roots path (with_asked (on_root old old.root) u) (map root_pending es)) (sym k.0) (by_none h es c))
+    by : (o : Option Root) → option_and_then (slice_get roots) old.root ≡ o → (es : List ℕ) → IsChain roots old.root es → IsAt roots path waits (with_asked (on_root old next) asked) (map root_pending es)
+    by (Some r) h es c = let k = a.some r h in subst (λ (n : Option ℕ). IsAt roots path waits (with_asked (on_root old n) asked) (map root_pending es)) (sym k.1) (subst (λ (u : Option ℕ). IsAt roots path waits (with_asked (on_root old r.next) u) (map root_pending es)) (sym k.0) (by_root r h es c))
+    by None h es c = let k = a.none h in subst (λ (n : Option ℕ). IsAt roots path waits (with_asked (on_root old n) asked) (map root_pending es)) (sym k.1) (subst (λ (u : Option ℕ). IsAt roots path waits (with_asked (on_root old old.root) u) (map root_pending es)) (sym k.0) (by_none h es c))
 
-    go : (es : List ℕ) (ws : List Pending) → IsChain roots old.root es → ws ≡ [] → IsAt roots path (with_asked (on_root old next) asked) (ws ++ map root_pending es)
-    go es ws c e = subst (λ (us : List Pending). IsAt roots path (with_asked (on_root old next) asked) (us ++ map root_pending es)) (sym e) (by (option_and_then (slice_get roots) old.root) refl es c)
+    go : (es : List ℕ) (ws : List Pending) → IsChain roots old.root es → ws ≡ [] → IsAt roots path waits (with_asked (on_root old next) asked) (ws ++ map root_pending es)
+    go es ws c e = subst (λ (us : List Pending). IsAt roots path waits (with_asked (on_root old next) asked) (us ++ map root_pending es)) (sym e) (by (option_and_then (slice_get roots) old.root) refl es c)

@@ -1,15 +1,16 @@
 -- The right ways that wait, on a path whose first portals are as they were; and the longest tree.
 use Rattle.std.proofs.Common.{◌≡◌, ℕ, zero, suc, ◌+◌, ◌<◌, ◌≤◌, List, [], ◌∷◌, ◌++◌, length, get_or, max, set, take, refl, sym, ◌∙◌, ap, subst, arith}
-use Rattle.std.proofs.Common.{Some, map, get_or-set_same}
-use Rattle.std.proofs.lemmas.List.{take_more, take_more_set, take-set, length-set, map-append}
-use Rattle.std.proofs.lemmas.Option.{slice_get_within, slice_get-get_or, get_or_from_slice_get}
+use Rattle.std.proofs.Common.{Some, map, min, get_or-set_same}
+use Rattle.std.proofs.lemmas.List.{take_more, take_more_set, take-set, length-set, length-take, map-append}
+use Rattle.std.proofs.lemmas.Option.{slice_get_within, slice_get-get_or}
 use Rattle.std.specs.List.{slice_get}
 use Rattle.sight_names.specs.Splitting.{EndPoints}
 use Rattle.sight_tree.specs.declared.Tree.{Tree}
 use Rattle.tree_judge.specs.declared.roots.Root.{Root}
 use Rattle.tree_judge.specs.declared.trees.Frame.{Frame}
+use Rattle.tree_judge.specs.declared.trees.Wait.{Wait}
 use Rattle.tree_judge.specs.declared.trees.Follow.{Follow}
-use Rattle.tree_judge.specs.Path.{portal_ends, path_ends, PutsAt, StandsAt, IsWaiting, LetsWait, Pending, pending_way, root_pending, IsAt, longest_of}
+use Rattle.tree_judge.specs.Path.{portal_ends, path_ends, PutsAt, IsWaiting, Pending, pending_way, root_pending, IsAt, longest_of}
 
 -- ---- the first portals alone count
 
@@ -23,33 +24,46 @@ take_in (x ∷ xs) zero (suc e) l = refl
 take_in (x ∷ xs) (suc d) zero l = absurd (omega (arith, l))
 take_in (x ∷ xs) (suc d) (suc e) l = ap (λ (fs : List Frame). x ∷ fs) (take_in xs d e (omega (arith, l)))
 
-get_in : (xs : List Frame) (k d : ℕ) → k < d → slice_get (take d xs) k ≡ slice_get xs k
+get_in : (xs : List Wait) (k d : ℕ) → k < d → slice_get (take d xs) k ≡ slice_get xs k
 get_in [] k zero l = absurd (omega (arith, l))
 get_in [] k (suc d) l = refl
 get_in (x ∷ xs) k zero l = absurd (omega (arith, l))
 get_in (x ∷ xs) zero (suc d) l = refl
 get_in (x ∷ xs) (suc k) (suc d) l = get_in xs k d (omega (arith, l))
 
-pub waiting_same : (path other : List Frame) (d count : ℕ) (ws : List Pending) → take d other ≡ take d path → count ≤ d → IsWaiting path count ws → IsWaiting other count ws
-waiting_same path other d count [] e l h = h
-waiting_same path other d count (p ∷ ws) e l (f, (k, q, is), this, less, more) = (f, (k, q, there), this ∙ ends, less, waiting_same path other d f.before ws e (omega (arith, l, less)) more)
+still_leads : (path other : List Frame) (d count : ℕ) → take d other ≡ take d path → count ≤ d → count ≤ length path → count ≤ length other
+still_leads path other d count e l n = omega (arith, h, f, g, l, n)
+  where
+    h : length (take d other) ≡ length (take d path)
+    h = ap length e
+
+    f : length (take d other) ≡ min d (length other)
+    f = length-take d other
+
+    g : length (take d path) ≡ min d (length path)
+    g = length-take d path
+
+pub waiting_same : (path other : List Frame) (waits others : List Wait) (d count : ℕ) (ws : List Pending) → take d other ≡ take d path → take d others ≡ take d waits → count ≤ d → IsWaiting path waits count ws → IsWaiting other others count ws
+waiting_same path other waits others d count [] e i l h = h
+waiting_same path other waits others d count (p ∷ ws) e i l (w, (k, q, is), leads, this, less, more) =
+    (w, (k, q, there), still_leads path other d count e l leads, this ∙ ends, less, waiting_same path other waits others d w.before ws e i (omega (arith, l, less)) more)
   where
     near : k < d
     near = omega (arith, q, l)
 
-    there : slice_get other k ≡ Some f
-    there = sym (get_in other k d near) ∙ ap (λ (fs : List Frame). slice_get fs k) e ∙ get_in path k d near ∙ is
+    there : slice_get others k ≡ Some w
+    there = sym (get_in others k d near) ∙ ap (λ (us : List Wait). slice_get us k) i ∙ get_in waits k d near ∙ is
 
-    ends : ◌≡◌ {A = Pending} (record { path = path_ends (take count path); edge = f.right_way }) (record { path = path_ends (take count other); edge = f.right_way })
-    ends = ap (λ (fs : List Frame). let r : Pending = record { path = path_ends fs; edge = f.right_way } in r) (sym (take_in path count d l) ∙ ap (take count) (sym e) ∙ take_in other count d l)
+    ends : ◌≡◌ {A = Pending} (record { path = path_ends (take count path); edge = w.way }) (record { path = path_ends (take count other); edge = w.way })
+    ends = ap (λ (fs : List Frame). let r : Pending = record { path = path_ends fs; edge = w.way } in r) (sym (take_in path count d l) ∙ ap (take count) (sym e) ∙ take_in other count d l)
 
--- what is still to be asked depends on the open portals of the path alone
-pub at_same : (roots : List Root) (path other : List Frame) (f : Follow) (ps : List Pending) → take f.depth other ≡ take f.depth path → IsAt roots path f ps → IsAt roots other f ps
-at_same roots path other f ps e a = record {
+-- what is still to be asked depends on the places of the open portals alone
+pub at_same : (roots : List Root) (path other : List Frame) (waits others : List Wait) (f : Follow) (ps : List Pending) → take f.depth other ≡ take f.depth path → take f.depth others ≡ take f.depth waits → IsAt roots path waits f ps → IsAt roots other others f ps
+at_same roots path other waits others f ps e i a = record {
   es = a.es;
   ways = a.ways;
   chain = a.chain;
-  waiting = waiting_same path other f.depth f.waiting a.ways e a.nested a.waiting;
+  waiting = waiting_same path other waits others f.depth f.waiting a.ways e i a.nested a.waiting;
   nested = a.nested;
   all = subst (λ (fs : List Frame). ps ≡ pending_way (path_ends fs) f.asked ++ (a.ways ++ map root_pending a.es)) (sym e) a.all;
   last = a.last;
@@ -57,15 +71,19 @@ at_same roots path other f ps e a = record {
 
 -- ---- none waits
 
-pub none_waits : (path : List Frame) (count : ℕ) (ws : List Pending) → count ≡ 0 → IsWaiting path count ws → ws ≡ []
-none_waits path count [] e h = refl
-none_waits path count (p ∷ ws) e (f, (k, q, is), first, less, more) = absurd (omega (arith, e, q))
+pub none_waits : (path : List Frame) (waits : List Wait) (count : ℕ) (ws : List Pending) → count ≡ 0 → IsWaiting path waits count ws → ws ≡ []
+none_waits path waits count [] e h = refl
+none_waits path waits count (p ∷ ws) e (w, (k, q, is), leads, first, less, more) = absurd (omega (arith, e, q))
 
-pub none_stands : (path : List Frame) (count : ℕ) (ws : List Pending) → length path < count → IsWaiting path count ws → ws ≡ []
-none_stands path count [] l h = refl
-none_stands path count (p ∷ ws) l (f, (k, q, is), first, less, more) = absurd (let n : k < length path = slice_get_within path k f is in omega (arith, l, q, n))
+pub none_stands : (path : List Frame) (waits : List Wait) (count : ℕ) (ws : List Pending) → length waits < count → IsWaiting path waits count ws → ws ≡ []
+none_stands path waits count [] l h = refl
+none_stands path waits count (p ∷ ws) l (w, (k, q, is), leads, first, less, more) = absurd (let n : k < length waits = slice_get_within waits k w is in omega (arith, l, q, n))
 
--- ---- a portal that is put, or whose right way waits
+pub none_leads : (path : List Frame) (waits : List Wait) (count : ℕ) (ws : List Pending) → length path < count → IsWaiting path waits count ws → ws ≡ []
+none_leads path waits count [] l h = refl
+none_leads path waits count (p ∷ ws) l (w, at, leads, first, less, more) = absurd (omega (arith, l, leads))
+
+-- ---- a portal that is put, and a way that waits behind one
 
 pub put_at : (path : List Frame) (d : ℕ) (f : Frame) (ends : EndPoints) → d < length path → portal_ends f ≡ ends → PutsAt path d ends (set path d f)
 put_at path d f ends l e = record {
@@ -73,19 +91,8 @@ put_at path d f ends l e = record {
   put = ap path_ends (take_more_set path d f l) ∙ map-append portal_ends (take d path) (f ∷ []) ∙ ap (λ (es : EndPoints). path_ends (take d path) ++ es ∷ []) e;
 }
 
-pub waits_at : (path : List Frame) (d way before : ℕ) (f g : Frame) → d < length path → slice_get path d ≡ Some g → portal_ends f ≡ portal_ends g → f.right_way ≡ way → f.before ≡ before → LetsWait path d way before (set path d f)
-waits_at path d way before f g l is e w b = record {
-  kept = take-set path d f;
-  ends = ap path_ends (take_more_set path d f l) ∙ map-append portal_ends (take d path) (f ∷ []) ∙ ap (λ (es : EndPoints). path_ends (take d path) ++ es ∷ []) e ∙ sym (map-append portal_ends (take d path) (g ∷ []))
-      ∙ ap path_ends (ap (λ (h : Frame). take d path ++ h ∷ []) (sym (get_or_from_slice_get path d g g is)) ∙ sym (take_more path d g l));
-  frame = f;
-  is = there;
-  way_is = w;
-  before_is = b;
-}
-  where
-    there : slice_get (set path d f) d ≡ Some f
-    there = slice_get-get_or (set path d f) d f (let h : length (set path d f) ≡ length path = length-set path d f in omega (arith, h, l)) ∙ ap Some (get_or-set_same path d f f l)
+pub waits_at : (waits : List Wait) (d : ℕ) (w : Wait) → d < length waits → slice_get (set waits d w) d ≡ Some w
+waits_at waits d w l = slice_get-get_or (set waits d w) d w (let h : length (set waits d w) ≡ length waits = length-set waits d w in omega (arith, h, l)) ∙ ap Some (get_or-set_same waits d w w l)
 
 -- ---- the longest tree
 

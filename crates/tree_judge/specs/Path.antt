@@ -8,6 +8,7 @@ use Rattle.half_edges.specs.declared.table.HalfEdge.{HalfEdge}
 use Rattle.tree_judge.specs.declared.roots.Root.{Root}
 use Rattle.tree_judge.specs.declared.trees.Follow.{Follow}
 use Rattle.tree_judge.specs.declared.trees.Frame.{Frame}
+use Rattle.tree_judge.specs.declared.trees.Wait.{Wait}
 use Rattle.half_edges.specs.HalfEdges.{way_outside}
 
 -- the ends of a portal on the path
@@ -48,24 +49,15 @@ abbrev pub pending_way : List EndPoints → Option ℕ → List Pending
 pending_way path None = []
 pending_way path (Some i) = record { path = path; edge = i } ∷ []
 
--- so many portals lead to this one
-abbrev pub StandsAt : List Frame → ℕ → Frame → Type 0
-StandsAt path count f = (k : ℕ) × (count ≡ k + 1) × (slice_get path k ≡ Some f)
+-- this way waits behind a portal, to whose far side so many portals lead, itself the last of them
+abbrev pub StandsAt : List Wait → ℕ → Wait → Type 0
+StandsAt waits count w = (k : ℕ) × (count ≡ k + 1) × (slice_get waits k ≡ Some w)
 
--- The right ways that are still to come, the last one first: that behind the last portal that has one, to which so many lead, and those behind
--- the portals that are named one after another.
-abbrev pub IsWaiting : List Frame → ℕ → List Pending → Type 0
-IsWaiting path count [] = count ≡ 0
-IsWaiting path count (p ∷ ps) = (f : Frame) × StandsAt path count f × (p ≡ record { path = path_ends (take count path); edge = f.right_way }) × (f.before < count) × IsWaiting path f.before ps
-
--- the way waits behind the portal at this depth, which names the one before it; all portals are as they were
-pub record LetsWait (old : List Frame) (depth way before : ℕ) (new : List Frame) : Type 0 where
-  pub kept : take depth new ≡ take depth old
-  pub ends : path_ends (take (depth + 1) new) ≡ path_ends (take (depth + 1) old)
-  pub frame : Frame
-  pub is : slice_get new depth ≡ Some frame
-  pub way_is : frame.right_way ≡ way
-  pub before_is : frame.before ≡ before
+-- The right ways that are still to come, the last one first: that behind the last portal that has one, to whose far side so many lead, and those
+-- behind the portals that are named one after another.
+abbrev pub IsWaiting : List Frame → List Wait → ℕ → List Pending → Type 0
+IsWaiting path waits count [] = count ≡ 0
+IsWaiting path waits count (p ∷ ps) = (w : Wait) × StandsAt waits count w × (count ≤ length path) × (p ≡ record { path = path_ends (take count path); edge = w.way }) × (w.before < count) × IsWaiting path waits w.before ps
 
 -- the half-edges of the roots from this place on
 abbrev pub IsChain : List Root → Option ℕ → List ℕ → Type 0
@@ -82,11 +74,11 @@ abbrev pub root_pending : ℕ → Pending
 root_pending e = record { path = []; edge = e }
 
 -- all that is still to be asked by the walk: the present half-edge, the right ways that wait, the roots behind its own
-pub record IsAt (roots : List Root) (path : List Frame) (f : Follow) (ps : List Pending) : Type 0 where
+pub record IsAt (roots : List Root) (path : List Frame) (waits : List Wait) (f : Follow) (ps : List Pending) : Type 0 where
   pub es : List ℕ
   pub ways : List Pending
   pub chain : IsChain roots f.root es
-  pub waiting : IsWaiting path f.waiting ways
+  pub waiting : IsWaiting path waits f.waiting ways
   pub nested : f.waiting ≤ f.depth
   pub all : ps ≡ pending_way (path_ends (take f.depth path)) f.asked ++ (ways ++ map root_pending es)
   pub last : f.asked ≡ None → ps ≡ []
@@ -96,8 +88,8 @@ abbrev pub with_asked : Follow → Option ℕ → Follow
 with_asked f asked = record f { asked = asked }
 
 -- the first of the ways that wait and of the roots is asked, and the others remain; None only where nothing was left
-pub record TakesNext (roots : List Root) (path : List Frame) (old new : Follow) (asked : Option ℕ) : Type 0 where
-  pub next : (es : List ℕ) (ways : List Pending) → IsChain roots old.root es → IsWaiting path old.waiting ways → IsAt roots path (with_asked new asked) (ways ++ map root_pending es)
+pub record TakesNext (roots : List Root) (path : List Frame) (waits : List Wait) (old new : Follow) (asked : Option ℕ) : Type 0 where
+  pub next : (es : List ℕ) (ways : List Pending) → IsChain roots old.root es → IsWaiting path waits old.waiting ways → IsAt roots path waits (with_asked new asked) (ways ++ map root_pending es)
   pub depth : new.depth ≤ old.waiting
 
 -- the two ways behind a half-edge to whose portal's far side these ends lead, as far as they lead out of the source
@@ -105,9 +97,9 @@ abbrev pub ways_behind : List HalfEdge → ℕ → List EndPoints → HalfEdge �
 ways_behind xs source ends x = pending_way ends (way_outside xs source x.left_way) ++ pending_way ends (way_outside xs source x.right_way)
 
 -- whoever goes through the half-edge has its two ways to ask before all that is still to be asked; the first is asked
-pub record EntersThrough (xs : List HalfEdge) (roots : List Root) (source : ℕ) (path : List Frame) (old : Follow) (x : HalfEdge) (path_new : List Frame) (new : Follow) (asked : Option ℕ) : Type 0 where
-  pub next : (es : List ℕ) (ways : List Pending) → IsChain roots old.root es → IsWaiting path old.waiting ways → old.waiting ≤ old.depth
-      → IsAt roots path_new (with_asked new asked) (ways_behind xs source (path_ends (take (old.depth + 1) path)) x ++ (ways ++ map root_pending es))
+pub record EntersThrough (xs : List HalfEdge) (roots : List Root) (source : ℕ) (path : List Frame) (waits : List Wait) (old : Follow) (x : HalfEdge) (waits_new : List Wait) (new : Follow) (asked : Option ℕ) : Type 0 where
+  pub next : (es : List ℕ) (ways : List Pending) → IsChain roots old.root es → IsWaiting path waits old.waiting ways → old.waiting ≤ old.depth
+      → IsAt roots path waits_new (with_asked new asked) (ways_behind xs source (path_ends (take (old.depth + 1) path)) x ++ (ways ++ map root_pending es))
   pub depth : old.waiting ≤ old.depth → new.depth ≤ old.depth + 1
 
 -- how many nodes the longest of the trees has

@@ -6,6 +6,7 @@ use Rattle.reject_bits.specs.Parts.{TableParts}
 use Rattle.half_edges.specs.declared.table.HalfEdge.{HalfEdge}
 use Rattle.tree_judge.specs.declared.roots.Root.{Root}
 use Rattle.tree_judge.specs.declared.trees.Frame.{Frame}
+use Rattle.tree_judge.specs.declared.trees.Wait.{Wait}
 use Rattle.tree_judge.specs.declared.trees.Follow.{Follow}
 use Rattle.tree_judge.specs.declared.walk.TreeWalk.{TreeWalk}
 use Rattle.tree_judge.specs.Roots.{first_at}
@@ -25,23 +26,24 @@ abbrev pub with_nodes : List Node → Tree → Tree
 with_nodes ns t = record { source = t.source; nodes = t.nodes ++ ns }
 
 -- all nodes that have come have answered, the walk stands behind them, and what they enter is noted
-pub record IsWalkedAt (xs : List HalfEdge) (roots : List Root) (firsts : List (Option ℕ)) (t : Tree) (old new : TableParts) (source : ℕ) (path : List Frame) (f : Follow) : Type 0 where
+pub record IsWalkedAt (xs : List HalfEdge) (roots : List Root) (firsts : List (Option ℕ)) (t : Tree) (old new : TableParts) (source : ℕ) (path : List Frame) (waits : List Wait) (f : Follow) : Type 0 where
   pub source_is : source ≡ t.source
   pub room : f.depth ≤ length path
+  pub room_to_wait : f.depth ≤ length waits
   pub depth : (es : List ℕ) → IsChain roots (first_at firsts t.source) es → f.depth ≤ length t.nodes
-  pub each : (es : List ℕ) → IsChain roots (first_at firsts t.source) es → (ps : List Pending) × (sectors : List ℕ) × AreAnswered xs t.source (map root_pending es) t.nodes ps sectors × IsAt roots path f ps × Notes t.source sectors old new
+  pub each : (es : List ℕ) → IsChain roots (first_at firsts t.source) es → (ps : List Pending) × (sectors : List ℕ) × AreAnswered xs t.source (map root_pending es) t.nodes ps sectors × IsAt roots path waits f ps × Notes t.source sectors old new
 
 abbrev pub IsWalked : List HalfEdge → List Root → List (Option ℕ) → Tree → TableParts → TableParts → TreeWalk → Type 0
-IsWalked xs roots firsts t old new w = IsWalkedAt xs roots firsts t old new w.source w.path.items w.follow
+IsWalked xs roots firsts t old new w = IsWalkedAt xs roots firsts t old new w.source w.path.items w.waits.items w.follow
 
 -- ---- a walk that is asked for nodes one behind the other
 
 -- Whatever tree the walk has followed: it has followed the tree with these nodes too, and what they enter is noted; or the
 -- last of them is the first wrong node of that tree.
-pub record FollowsAt (xs : List HalfEdge) (roots : List Root) (firsts : List (Option ℕ)) (source : ℕ) (path : List Frame) (f : Follow) (old : TableParts) (path_new : List Frame) (f_new : Follow) (new : TableParts) (wrong : Bool) (ns : List Node) : Type 0 where
-  pub on : wrong ≡ false → (t : Tree) (begun : TableParts) → IsWalkedAt xs roots firsts t begun old source path f → IsWalkedAt xs roots firsts (with_nodes ns t) begun new source path_new f_new
+pub record FollowsAt (xs : List HalfEdge) (roots : List Root) (firsts : List (Option ℕ)) (source : ℕ) (path : List Frame) (waits : List Wait) (f : Follow) (old : TableParts) (path_new : List Frame) (waits_new : List Wait) (f_new : Follow) (new : TableParts) (wrong : Bool) (ns : List Node) : Type 0 where
+  pub on : wrong ≡ false → (t : Tree) (begun : TableParts) → IsWalkedAt xs roots firsts t begun old source path waits f → IsWalkedAt xs roots firsts (with_nodes ns t) begun new source path_new waits_new f_new
   pub some : wrong ≡ true → 0 < length ns
-  pub refused : wrong ≡ true → (t : Tree) (begun : TableParts) → IsWalkedAt xs roots firsts t begun old source path f → IsFirstWrongFrom xs roots (first_at firsts t.source) (with_nodes ns t) (length t.nodes + length ns - 1)
+  pub refused : wrong ≡ true → (t : Tree) (begun : TableParts) → IsWalkedAt xs roots firsts t begun old source path waits f → IsFirstWrongFrom xs roots (first_at firsts t.source) (with_nodes ns t) (length t.nodes + length ns - 1)
 
 abbrev pub Follows : List HalfEdge → List Root → List (Option ℕ) → TreeWalk → TableParts → TreeWalk → TableParts → Bool → List Node → Type 0
-Follows xs roots firsts w old w_new new wrong ns = (w_new.source ≡ w.source) × FollowsAt xs roots firsts w.source w.path.items w.follow old w_new.path.items w_new.follow new wrong ns
+Follows xs roots firsts w old w_new new wrong ns = (w_new.source ≡ w.source) × FollowsAt xs roots firsts w.source w.path.items w.waits.items w.follow old w_new.path.items w_new.waits.items w_new.follow new wrong ns

@@ -11,6 +11,7 @@ use Rattle.sight_names.specs.declared.names.Triangle.{Triangle}
 use Rattle.half_edges.specs.declared.table.HalfEdge.{HalfEdge}
 use Rattle.tree_judge.specs.declared.roots.Root.{Root}
 use Rattle.tree_judge.specs.declared.trees.Frame.{Frame}
+use Rattle.tree_judge.specs.declared.trees.Wait.{Wait}
 use Rattle.tree_judge.specs.declared.trees.Follow.{Follow}
 use Rattle.half_edges.specs.HalfEdges.{way_outside}
 use Rattle.tree_judge.specs.Roots.{root_edges}
@@ -100,14 +101,14 @@ HaveSourcesBelow n trees = (t : Tree) → Contains trees t → t.source < n
 -- ---- the walk that follows a tree
 
 -- whatever is still to be asked: the node answers for it, the walk stands behind it, and what it enters is noted
-pub record HasAnswered (xs : List HalfEdge) (roots : List Root) (source : ℕ) (n : Node) (path : List Frame) (f : Follow) (t : TableParts) (path_new : List Frame) (f_new : Follow) (t_new : TableParts) : Type 0 where
-  pub next : (ps : List Pending) → IsAt roots path f ps → (qs : List Pending) × (sectors : List ℕ) × Answers xs source ps n qs sectors × IsAt roots path_new f_new qs × Notes source sectors t t_new
+pub record HasAnswered (xs : List HalfEdge) (roots : List Root) (source : ℕ) (n : Node) (path : List Frame) (waits : List Wait) (f : Follow) (t : TableParts) (path_new : List Frame) (waits_new : List Wait) (f_new : Follow) (t_new : TableParts) : Type 0 where
+  pub next : (ps : List Pending) → IsAt roots path waits f ps → (qs : List Pending) × (sectors : List ℕ) × Answers xs source ps n qs sectors × IsAt roots path_new waits_new f_new qs × Notes source sectors t t_new
   pub depth : f.waiting ≤ f.depth → f_new.depth ≤ f.depth + 1
 
 -- whatever is still to be asked: the node doesn't answer for it
-pub record HasRefused (xs : List HalfEdge) (roots : List Root) (source : ℕ) (n : Node) (path : List Frame) (f : Follow) : Type 0 where
-  pub none : (ps qs : List Pending) (sectors : List ℕ) → IsAt roots path f ps → ¬ Answers xs source ps n qs sectors
+pub record HasRefused (xs : List HalfEdge) (roots : List Root) (source : ℕ) (n : Node) (path : List Frame) (waits : List Wait) (f : Follow) : Type 0 where
+  pub none : (ps qs : List Pending) (sectors : List ℕ) → IsAt roots path waits f ps → ¬ Answers xs source ps n qs sectors
 
 -- the walk stands before these roots
-pub record StandsBefore (roots : List Root) (first : Option ℕ) (path : List Frame) (f : Follow) : Type 0 where
-  pub start : (es : List ℕ) → IsChain roots first es → IsAt roots path f (map root_pending es)
+pub record StandsBefore (roots : List Root) (first : Option ℕ) (path : List Frame) (waits : List Wait) (f : Follow) : Type 0 where
+  pub start : (es : List ℕ) → IsChain roots first es → IsAt roots path waits f (map root_pending es)

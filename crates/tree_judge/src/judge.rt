@@ -16,7 +16,7 @@ ghost use Rattle.tree_judge.specs.Trees.{TellsTrees};
 
 use crate::marks::mark;
 use crate::roots::Roots;
-use crate::trees::{Frame, Terrain, first_wrong, path_of};
+use crate::trees::{Frame, Terrain, Wait, first_wrong, path_of, waits_of};
 use cert_format::Cert;
 use half_edges::HalfEdges;
 use mesh_shape::Mesh;
@@ -59,16 +59,17 @@ pub fn unreached(alloc: Global, count: u16) -> Result<Table, Memory>
 fn wrong_tree(
     terrain: &Terrain<'_>,
     path: &mut [Frame],
+    waits: &mut [Wait],
     walked: &mut [bool],
     reached: &mut Table,
     trees: &[Tree],
 ) -> Option<(u16, u64)>
     ensures sectors { reached.new.n ≡ reached.old.n }
     ensures whole { (m : Map) (ts : List Triangle) → AreRoots m ts terrain.now.edges.now terrain.now.roots.now.roots.items terrain.now.roots.now.first.items → HaveSourcesBelow m.sectors trees.now → IfNone result (AreWholeOver m ts terrain.now.edges.now trees.now walked.old walked.new reached.old reached.new) }
-    ensures wrong { longest_of trees.now ≤ length path.old → (m : Map) (ts : List Triangle) → AreRoots m ts terrain.now.edges.now terrain.now.roots.now.roots.items terrain.now.roots.now.first.items → HaveSourcesBelow m.sectors trees.now → IfSome result (λ w. IsFirstWrongTree m ts terrain.now.edges.now trees.now w.0 w.1) }
+    ensures wrong { longest_of trees.now ≤ length path.old → longest_of trees.now ≤ length waits.old → (m : Map) (ts : List Triangle) → AreRoots m ts terrain.now.edges.now terrain.now.roots.now.roots.items terrain.now.roots.now.first.items → HaveSourcesBelow m.sectors trees.now → IfSome result (λ w. IsFirstWrongTree m ts terrain.now.edges.now trees.now w.0 w.1) }
 {
     for tree in trees {
-        if let Some(node) = first_wrong(terrain, path, reached, tree) {
+        if let Some(node) = first_wrong(terrain, path, waits, reached, tree) {
             return Some((tree.source, node));
         }
         mark(walked, Some(tree.source));
@@ -86,10 +87,19 @@ pub fn judge_part(
     ensures { (m : Map) (ts : List Triangle) → m.sectors ≡ sectors → AreRootsOf m ts terrain.now.edges.now terrain.now.roots.now → HaveSourcesBelow m.sectors trees.now → IfOk result (TellsPart m ts terrain.now.edges.now trees.now) }
 {
     let mut path = path_of(alloc, trees)?;
+    let mut waits = waits_of(alloc, path.len())?;
     let mut walked = unmarked(alloc, sectors)?;
     let mut reached = unreached(alloc, sectors)?;
     let path = path.as_mut_slice();
-    match wrong_tree(terrain, path, walked.as_mut_slice(), &mut reached, trees) {
+    let waits = waits.as_mut_slice();
+    match wrong_tree(
+        terrain,
+        path,
+        waits,
+        walked.as_mut_slice(),
+        &mut reached,
+        trees,
+    ) {
         Some((source, node)) => Ok(TreeVerdict::Wrong { source, node }),
         None => Ok(TreeVerdict::Whole(Reach { walked, reached })),
     }

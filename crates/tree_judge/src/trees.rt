@@ -1,11 +1,9 @@
 //! Trees judged in one pass: each node is asked of the walk at its place.
 
-ghost use Rattle.std.specs.Prelude.{◌≡◌, ◌≤◌, ◌<◌, ◌+◌, ◌↔◌, [], List, Some, None, true, false, IsTrue, IfNone, IfSome, IfOk, length, take};
+ghost use Rattle.std.specs.Prelude.{◌≡◌, ◌≤◌, ◌<◌, ◌↔◌, [], List, false, IsTrue, IfNone, IfSome, IfOk, length, take};
 ghost use Rattle.sight_names.specs.Splitting.{end_of as end_at};
 ghost use Rattle.block_evidence.specs.Stuck.{Blocks};
-ghost use Rattle.reject_bits.specs.Parts.{TableParts};
-ghost use Rattle.sight_tree.specs.declared.Node.TheVariants.{Open, Blocked};
-ghost use Rattle.tree_judge.specs.Path.{list_of, path_ends, edge_ends, longest_of, IsEndOf, AreStuckEnds, AsksRoot, Pending, IsWaiting, StandsAt, PutsAt, LetsWait, EntersThrough, TakesNext};
+ghost use Rattle.tree_judge.specs.Path.{list_of, path_ends, edge_ends, longest_of, IsEndOf, AreStuckEnds, AsksRoot, Pending, IsWaiting, StandsAt, PutsAt, EntersThrough, TakesNext};
 ghost use Rattle.tree_judge.specs.Roots.{first_at};
 ghost use Rattle.tree_judge.specs.Whole.{Notes, HasAnswered, HasRefused, StandsBefore, IsWholeFrom, IsFirstWrongFrom};
 
@@ -19,15 +17,18 @@ use std::alloc::Global;
 
 const ORIGIN: Pt = Pt { x: 0, y: 0 };
 
-/// The least code of a right end.
-
-/// A portal on the way to the present node: its ends; and, where both ways behind it lead on and the left one is taken, the
-/// right one, and how many portals lead to the portal before it of which that is true.
+/// A portal on the way to the present node: its ends.
 #[derive(Clone, Copy)]
 pub struct Frame {
     left: Pt,
     right: Pt,
-    right_way: u32,
+}
+
+/// What stands at the place of a portal behind which both ways lead on, the left one being taken: the right one, which waits,
+/// and how many portals lead to the portal before it whose right way waits; 0 where there is none.
+#[derive(Clone, Copy)]
+pub struct Wait {
+    way: u32,
     before: usize,
 }
 
@@ -43,9 +44,12 @@ fn blank() -> Frame {
     Frame {
         left: ORIGIN,
         right: ORIGIN,
-        right_way: 0,
-        before: 0,
     }
+}
+
+/// What stands at the place of a portal that no right way waits behind.
+fn no_wait() -> Wait {
+    Wait { way: 0, before: 0 }
 }
 
 /// The path buffer, for trees of at most so many nodes.
@@ -59,6 +63,13 @@ pub fn path_of(alloc: Global, trees: &[Tree]) -> Result<Vec<Frame>, Memory>
     Ok(vec![in alloc; blank(); longest]?)
 }
 
+/// The buffer of the ways that wait, for a path of so many portals.
+pub fn waits_of(alloc: Global, count: usize) -> Result<Vec<Wait>, Memory>
+    ensures { IfOk result (λ v. length v.items ≡ count) }
+{
+    Ok(vec![in alloc; no_wait(); count]?)
+}
+
 /// Makes the path longer by a place where it has none behind the open portals.
 pub fn make_room(path: &mut Vec<Frame>, depth: usize) -> Result<(), Memory>
     ensures room { depth ≤ length path.old.items → IfOk result (λ _. depth < length path.new.items) }
@@ -66,6 +77,17 @@ pub fn make_room(path: &mut Vec<Frame>, depth: usize) -> Result<(), Memory>
 {
     if depth >= path.len() {
         path.push(blank())?;
+    }
+    Ok(())
+}
+
+/// The same of the ways that wait.
+pub fn make_wait(waits: &mut Vec<Wait>, depth: usize) -> Result<(), Memory>
+    ensures room { depth ≤ length waits.old.items → IfOk result (λ _. depth < length waits.new.items) }
+    ensures kept { depth ≤ length waits.old.items → IfOk result (λ _. take depth waits.new.items ≡ take depth waits.old.items) }
+{
+    if depth >= waits.len() {
+        waits.push(no_wait())?;
     }
     Ok(())
 }
@@ -231,13 +253,9 @@ fn put(path: &mut [Frame], depth: usize, edge: &HalfEdge) -> bool
     if depth >= path.len() {
         return false;
     }
-    // what isn't of the ends stays as it is, so that it needn't be written
-    let frame = path[depth];
     path[depth] = Frame {
         left: edge.left_at,
         right: edge.right_at,
-        right_way: frame.right_way,
-        before: frame.before,
     };
     true
 }
@@ -266,30 +284,32 @@ fn next_root(roots: &Roots, root: Option<usize>) -> (Option<u32>, Option<usize>)
     }
 }
 
-/// The last portal whose right way is still to come, where so many portals lead to it.
+/// The last way that waits, where so many portals lead to the one that it is behind.
 #[inline(always)]
-#[tactic(auto, using(crate::proofs::Ways::none_waits, crate::proofs::Ways::none_stands))]
-fn last_waiting(path: &[Frame], waiting: usize) -> Option<Frame>
-    ensures some { IfSome result (λ f. StandsAt path.now waiting f) }
-    ensures none { IfNone result ((ws : List Pending) → IsWaiting path.now waiting ws → ws ≡ []) }
+#[tactic(auto, using(crate::proofs::Ways::none_waits, crate::proofs::Ways::none_stands, crate::proofs::Ways::none_leads))]
+fn last_waiting(path: &[Frame], waits: &[Wait], waiting: usize) -> Option<Wait>
+    ensures some { IfSome result (λ w. StandsAt waits.now waiting w) }
+    ensures within { IfSome result (λ _. waiting ≤ length path.now) }
+    ensures none { IfNone result ((ws : List Pending) → IsWaiting path.now waits.now waiting ws → ws ≡ []) }
 {
-    if waiting == 0 || waiting > path.len() {
+    if waiting == 0 || waiting > waits.len() || waiting > path.len() {
         return None;
     }
-    Some(path[waiting - 1])
+    Some(waits[waiting - 1])
 }
 
-/// The half-edge that is asked next: the next right way, or else the next root.
+/// The half-edge that is asked next: the last way that waits, or else the next root.
 #[inline(always)]
-fn next_asked(roots: &Roots, path: &[Frame], follow: &mut Follow) -> Option<u32>
+fn next_asked(roots: &Roots, path: &[Frame], waits: &[Wait], follow: &mut Follow) -> Option<u32>
     ensures within { follow.new.depth ≤ length path.now }
-    ensures next { TakesNext roots.now.roots.items path.now follow.old follow.new result }
+    ensures room { follow.new.depth ≤ length waits.now }
+    ensures next { TakesNext roots.now.roots.items path.now waits.now follow.old follow.new result }
 {
-    match last_waiting(path, follow.waiting) {
-        Some(frame) => {
+    match last_waiting(path, waits, follow.waiting) {
+        Some(wait) => {
             follow.depth = follow.waiting;
-            follow.waiting = frame.before;
-            Some(frame.right_way)
+            follow.waiting = wait.before;
+            Some(wait.way)
         }
         None => {
             let (asked, next) = next_root(roots, follow.root);
@@ -301,40 +321,31 @@ fn next_asked(roots: &Roots, path: &[Frame], follow: &mut Follow) -> Option<u32>
     }
 }
 
-/// Lets the right way behind the portal at this depth wait, and names the portal before it of which that is true.
-#[inline(always)]
-fn let_wait(path: &mut [Frame], depth: usize, way: u32, before: usize)
-    requires { depth < length path.old }
-    ensures { LetsWait path.old depth way before path.new }
-{
-    let frame = path[depth];
-    path[depth] = Frame {
-        left: frame.left,
-        right: frame.right,
-        right_way: way,
-        before,
-    };
-}
-
 /// Goes through the half-edge whose portal was put last, and gives what is asked next: its left way, its right way, or what comes
 /// behind both. Where both ways lead out of the source, the right one waits.
 #[inline(always)]
 fn enter(
     terrain: &Terrain<'_>,
     source: u16,
-    path: &mut [Frame],
+    path: &[Frame],
+    waits: &mut [Wait],
     follow: &mut Follow,
     edge: &HalfEdge,
 ) -> Option<u32>
-    requires { follow.old.depth < length path.old }
-    ensures within { follow.new.depth ≤ length path.new }
-    ensures enters { EntersThrough terrain.now.edges.now terrain.now.roots.now.roots.items source path.old follow.old edge.now path.new follow.new result }
+    requires path { follow.old.depth < length path.now }
+    requires waits { follow.old.depth < length waits.old }
+    ensures within { follow.new.depth ≤ length path.now }
+    ensures room { follow.new.depth ≤ length waits.new }
+    ensures enters { EntersThrough terrain.now.edges.now terrain.now.roots.now.roots.items source path.now waits.old follow.old edge.now waits.new follow.new result }
 {
     let right = terrain.edges.outside(edge.right_way, source);
     let left = terrain.edges.outside(edge.left_way, source);
     match (left, right) {
         (Some(left), Some(right)) => {
-            let_wait(path, follow.depth, right, follow.waiting);
+            waits[follow.depth] = Wait {
+                way: right,
+                before: follow.waiting,
+            };
             follow.depth += 1;
             follow.waiting = follow.depth;
             Some(left)
@@ -347,7 +358,7 @@ fn enter(
             follow.depth += 1;
             Some(way)
         }
-        (None, None) => next_asked(terrain.roots, path, follow),
+        (None, None) => next_asked(terrain.roots, path, waits, follow),
     }
 }
 
@@ -373,13 +384,15 @@ pub fn answer(
     reached: &mut Table,
     source: u16,
     path: &mut [Frame],
+    waits: &mut [Wait],
     follow: &mut Follow,
     node: Node,
 ) -> bool
     ensures within { follow.old.depth ≤ length path.old → follow.new.depth ≤ length path.new }
+    ensures room { follow.old.depth ≤ length waits.old → follow.new.depth ≤ length waits.new }
     ensures sectors { reached.new.n ≡ reached.old.n }
-    ensures answered { IsTrue result → HasAnswered terrain.now.edges.now terrain.now.roots.now.roots.items source node path.old follow.old reached.old path.new follow.new reached.new }
-    ensures refused { result ≡ false → follow.old.depth < length path.old → HasRefused terrain.now.edges.now terrain.now.roots.now.roots.items source node path.old follow.old }
+    ensures answered { IsTrue result → HasAnswered terrain.now.edges.now terrain.now.roots.now.roots.items source node path.old waits.old follow.old reached.old path.new waits.new follow.new reached.new }
+    ensures refused { result ≡ false → follow.old.depth < length path.old → follow.old.depth < length waits.old → HasRefused terrain.now.edges.now terrain.now.roots.now.roots.items source node path.old waits.old follow.old }
 {
     let Some(place) = follow.asked else {
         return false;
@@ -392,24 +405,27 @@ pub fn answer(
     }
     match node {
         Node::Open => {
+            if follow.depth >= waits.len() {
+                return false;
+            }
             note(reached, source, edge.sector);
-            follow.asked = enter(terrain, source, path, follow, edge);
+            follow.asked = enter(terrain, source, path, waits, follow, edge);
             true
         }
         Node::Blocked(evidence) => {
             if !is_blocked(&path[..=follow.depth], evidence) {
                 return false;
             }
-            follow.asked = next_asked(terrain.roots, path, follow);
+            follow.asked = next_asked(terrain.roots, path, waits, follow);
             true
         }
     }
 }
 
 /// A walk of the source before its first root.
-pub fn start(terrain: &Terrain<'_>, source: u16, path: &[Frame]) -> Follow
+pub fn start(terrain: &Terrain<'_>, source: u16, path: &[Frame], waits: &[Wait]) -> Follow
     ensures depth { result.depth ≡ 0 }
-    ensures stands { StandsBefore terrain.now.roots.now.roots.items (first_at terrain.now.roots.now.first.items source) path.now result }
+    ensures stands { StandsBefore terrain.now.roots.now.roots.items (first_at terrain.now.roots.now.first.items source) path.now waits.now result }
 {
     let mut follow = Follow {
         depth: 0,
@@ -417,7 +433,7 @@ pub fn start(terrain: &Terrain<'_>, source: u16, path: &[Frame]) -> Follow
         asked: None,
         waiting: 0,
     };
-    follow.asked = next_asked(terrain.roots, path, &mut follow);
+    follow.asked = next_asked(terrain.roots, path, waits, &mut follow);
     follow
 }
 
@@ -426,17 +442,18 @@ pub fn start(terrain: &Terrain<'_>, source: u16, path: &[Frame]) -> Follow
 pub fn first_wrong(
     terrain: &Terrain<'_>,
     path: &mut [Frame],
+    waits: &mut [Wait],
     reached: &mut Table,
     tree: &Tree,
 ) -> Option<u64>
     ensures sectors { reached.new.n ≡ reached.old.n }
     ensures whole { IfNone result (IsWholeFrom terrain.now.edges.now terrain.now.roots.now.roots.items (first_at terrain.now.roots.now.first.items tree.now.source) tree.now reached.old reached.new) }
-    ensures wrong { length tree.now.nodes ≤ length path.old → IfSome result (IsFirstWrongFrom terrain.now.edges.now terrain.now.roots.now.roots.items (first_at terrain.now.roots.now.first.items tree.now.source) tree.now) }
+    ensures wrong { length tree.now.nodes ≤ length path.old → length tree.now.nodes ≤ length waits.old → IfSome result (IsFirstWrongFrom terrain.now.edges.now terrain.now.roots.now.roots.items (first_at terrain.now.roots.now.first.items tree.now.source) tree.now) }
 {
-    let mut follow = start(terrain, tree.source, path);
+    let mut follow = start(terrain, tree.source, path, waits);
     let count = tree.nodes.len();
     for (number, node) in tree.nodes.iter().enumerate() {
-        if !answer(terrain, reached, tree.source, path, &mut follow, node) {
+        if !answer(terrain, reached, tree.source, path, waits, &mut follow, node) {
             return Some(number as u64);
         }
     }

@@ -10,7 +10,7 @@ ghost use Rattle.tree_judge.specs.Whole.{IsWholeFrom, IsFirstWrongFrom};
 ghost use Rattle.cert_parts.specs.Nodes.{TakesNodes};
 ghost use Rattle.tree_judge.specs.Walked.{begun, with_node, FollowsAt, Follows, IsWalked};
 
-use crate::trees::{Follow, Frame, Terrain, answer, make_room, start};
+use crate::trees::{Follow, Frame, Terrain, Wait, answer, make_room, make_wait, start};
 use cert_parts::usual_node;
 use reject_bits::Table;
 use sight_names::Memory;
@@ -22,6 +22,7 @@ use std::alloc::Global;
 pub struct TreeWalk {
     source: u16,
     path: Vec<Frame>,
+    waits: Vec<Wait>,
     follow: Follow,
 }
 
@@ -41,12 +42,21 @@ fn follow_nodes<'a>(
     reached: &mut Table,
     source: u16,
     path: &mut [Frame],
+    waits: &mut [Wait],
     follow: &mut Follow,
     bytes: &'a [u8],
     count: u64,
 ) -> Followed<'a>
-    ensures { TakesNodes bytes.now count result.rest.now result.left (FollowsAt terrain.now.edges.now terrain.now.roots.now.roots.items terrain.now.roots.now.first.items source path.old follow.old reached.old path.new follow.new reached.new result.wrong) }
+    ensures { TakesNodes bytes.now count result.rest.now result.left (FollowsAt terrain.now.edges.now terrain.now.roots.now.roots.items terrain.now.roots.now.first.items source path.old waits.old follow.old reached.old path.new waits.new follow.new reached.new result.wrong) }
 {
+    // one length for both: one test of room for both
+    if waits.len() != path.len() {
+        return Followed {
+            rest: bytes,
+            left: count,
+            wrong: false,
+        };
+    }
     let mut at = *follow;
     let mut rest = bytes;
     let mut left = count;
@@ -55,7 +65,7 @@ fn follow_nodes<'a>(
         let Some((node, behind)) = usual_node(rest) else {
             break;
         };
-        wrong = !answer(terrain, reached, source, path, &mut at, node);
+        wrong = !answer(terrain, reached, source, path, waits, &mut at, node);
         rest = behind;
         left -= 1;
     }
@@ -69,6 +79,7 @@ impl TreeWalk {
         TreeWalk {
             source: 0,
             path: Vec::new(alloc),
+            waits: Vec::new(alloc),
             follow: Follow {
                 depth: 0,
                 root: None,
@@ -90,7 +101,7 @@ impl TreeWalk {
         ensures { (t : TableParts) → IsWalked terrain.now.edges.now terrain.now.roots.now.roots.items terrain.now.roots.now.first.items (begun source) t t self.new }
     {
         self.source = source;
-        self.follow = start(terrain, source, self.path.as_slice());
+        self.follow = start(terrain, source, self.path.as_slice(), self.waits.as_slice());
     }
 
     /// Whether the node answers for what is asked; then the walk stands behind it, and what it enters is noted.
@@ -104,12 +115,14 @@ impl TreeWalk {
         ensures answered { (t : WalkTree) (old : TableParts) → IsWalked terrain.now.edges.now terrain.now.roots.now.roots.items terrain.now.roots.now.first.items t old reached.old self.old → IfOk result (λ yes. yes ≡ true → IsWalked terrain.now.edges.now terrain.now.roots.now.roots.items terrain.now.roots.now.first.items (with_node node t) old reached.new self.new) }
         ensures refused { (t : WalkTree) (old : TableParts) → IsWalked terrain.now.edges.now terrain.now.roots.now.roots.items terrain.now.roots.now.first.items t old reached.old self.old → IfOk result (λ yes. yes ≡ false → IsFirstWrongFrom terrain.now.edges.now terrain.now.roots.now.roots.items (first_at terrain.now.roots.now.first.items t.source) (with_node node t) (length t.nodes)) }
     {
+        make_wait(&mut self.waits, self.follow.depth)?;
         make_room(&mut self.path, self.follow.depth)?;
         Ok(answer(
             terrain,
             reached,
             self.source,
             self.path.as_mut_slice(),
+            self.waits.as_mut_slice(),
             &mut self.follow,
             node,
         ))
@@ -131,6 +144,7 @@ impl TreeWalk {
             reached,
             self.source,
             self.path.as_mut_slice(),
+            self.waits.as_mut_slice(),
             &mut self.follow,
             bytes,
             count,

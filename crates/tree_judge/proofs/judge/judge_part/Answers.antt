@@ -9,7 +9,8 @@ pub returns-in-Some : goal.returns-in-Some
 returns-in-Some c = λ m ts size are low.
     let trees = c.args.trees.now in
     let long : longest_of trees ≤ length c.as_mut_slice-path.result.now = let e : length c.as_mut_slice-path.result.now ≡ length c.in_ok-path.path.items = ap length c.as_mut_slice-path.ensures.value in omega (arith, e, c.in_ok-path.ensures) in
-    c.in-Some.ensures.wrong long m ts are low
+    let wide : longest_of trees ≤ length c.as_mut_slice-waits.result.now = let e : length c.as_mut_slice-waits.result.now ≡ length c.in_ok-waits.waits.items = ap length c.as_mut_slice-waits.ensures.value in omega (arith, e, c.in_ok-path.ensures, c.in_ok-waits.ensures) in
+    c.in-Some.ensures.wrong long wide m ts are low
 
 pub returns : goal.returns
 returns c = λ m ts size are low.

@@ -26,12 +26,13 @@ pub returns-clause-whole : goal.returns-clause-whole
 returns-clause-whole c = λ m ts are low. all_whole m ts c.args.terrain.now.edges.now c.args.trees.now c.args.walked.now c.args.reached.now c.loop-tree.tree-index c.loop-tree.walked c.loop-tree.reached (omega arith) (c.loop-tree.invariant.whole m ts are low)
 
 pub returns-in-Some-clause-wrong : goal.returns-in-Some-clause-wrong
-returns-in-Some-clause-wrong c = λ long m ts are low.
+returns-in-Some-clause-wrong c = λ long wide m ts are low.
     let l = c.loop-tree in
     let t = c.tree-item.result in
     let trees = c.args.trees.now in
     let here : slice_get trees l.tree-index ≡ Some t = slice_get-get_or trees l.tree-index t c.loop-tree-test.true ∙ ap Some (sym c.tree-item.is) in
     let same : length l.path ≡ length c.args.path.now = l.auto.path in
+    let equal : length l.waits ≡ length c.args.waits.now = l.auto.waits in
     let few : length t.nodes ≤ longest_of trees = longest_has trees l.tree-index t here in
     wrong_tree m ts c.args.terrain.now.edges.now trees c.args.walked.now c.args.reached.now l.tree-index c.in-Some.node t c.args.terrain.now.roots.now.roots.items c.args.terrain.now.roots.now.first.items
-    l.walked l.reached are (low t (l.tree-index, c.loop-tree-test.true, sym c.tree-item.is)) here (l.invariant.whole m ts are low) (c.in-Some.ensures.wrong (omega (arith, long, same, few)))
+    l.walked l.reached are (low t (l.tree-index, c.loop-tree-test.true, sym c.tree-item.is)) here (l.invariant.whole m ts are low) (c.in-Some.ensures.wrong (omega (arith, long, same, few)) (omega (arith, wide, equal, few)))

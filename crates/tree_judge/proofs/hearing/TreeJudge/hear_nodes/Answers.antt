@@ -16,5 +16,5 @@ returns c =
     let roots = c.args.self.now.roots in
     let new = c.follow-followed.new.self in
     takes_then c.args.bytes.now c.args.count _ _ _ _ (λ ns counted w m ts front tree h. hear_right m ts c.args.edges.now front tree ns c.args.self.now _ h c.if-not-self.false
-    (λ t old v. subst (λ (s : ℕ). IsWalkedAt c.args.edges.now roots.roots.items roots.first.items (with_nodes ns t) old c.follow-followed.new.reached s new.path.items new.follow) (sym w.0) (w.1.on c.if-followed.false t old v))
+    (λ t old v. subst (λ (s : ℕ). IsWalkedAt c.args.edges.now roots.roots.items roots.first.items (with_nodes ns t) old c.follow-followed.new.reached s new.path.items new.waits.items new.follow) (sym w.0) (w.1.on c.if-followed.false t old v))
     (λ n e few. omega (arith, c.saturating_add-self.ensures, e, few, counted)) refl refl c.if-not-self.false refl) c.follow-followed.ensures
