@@ -13,7 +13,6 @@ use Rattle.std.proofs.lemmas.List.{take_all}
 use Rattle.std.specs.Prelude.{option_map}
 use Rattle.sight_names.specs.Splitting.{EndPoints, end_of}
 use Rattle.extreme_lines.proofs.EndsLemmas.{left_end, right_end}
-use Rattle.sight_names.specs.Points.{place}
 use Rattle.tree_judge.specs.declared.trees.Frame.{Frame}
 use Rattle.tree_judge.specs.Path.{portal_ends, path_ends, AreStuckEnds}
 use Rattle.block_evidence.specs.declared.Evidence.{Evidence}

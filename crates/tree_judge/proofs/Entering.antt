@@ -1,5 +1,5 @@
 -- What is asked behind a half-edge: its left way, its right way, and then what was still to be asked.
-use Rattle.std.proofs.Common.{◌≡◌, ℕ, ◌+◌, ◌<◌, ◌≤◌, List, [], ◌∷◌, ◌++◌, Option, Some, None, length, map, set, take, refl, sym, ◌∙◌, ap, subst, arith}
+use Rattle.std.proofs.Common.{◌≡◌, ℕ, ◌+◌, ◌<◌, ◌≤◌, List, ◌∷◌, ◌++◌, Option, Some, None, length, map, set, take, refl, sym, ap, subst, arith}
 use Rattle.std.proofs.lemmas.List.{take-set}
 use Rattle.sight_names.specs.Splitting.{EndPoints}
 use Rattle.half_edges.specs.declared.table.HalfEdge.{HalfEdge}
@@ -8,7 +8,7 @@ use Rattle.tree_judge.specs.declared.roots.Root.{Root}
 use Rattle.tree_judge.specs.declared.trees.Frame.{Frame}
 use Rattle.tree_judge.specs.declared.trees.Wait.{Wait}
 use Rattle.tree_judge.specs.declared.trees.Follow.{Follow}
-use Rattle.tree_judge.specs.Path.{path_ends, IsWaiting, Pending, pending_way, IsChain, root_pending, IsAt, with_asked, ways_behind, EntersThrough, TakesNext}
+use Rattle.tree_judge.specs.Path.{path_ends, IsWaiting, Pending, pending_way, root_pending, IsAt, with_asked, EntersThrough, TakesNext}
 use Rattle.tree_judge.proofs.Ways.{waiting_same, waits_at}
 use Rattle.list_base.proofs.Options.{some_is_not_none}
 

@@ -12,8 +12,8 @@ use Rattle.tree_judge.specs.declared.roots.Root.{Root}
 use Rattle.tree_judge.specs.declared.trees.Frame.{Frame}
 use Rattle.tree_judge.specs.declared.trees.Wait.{Wait}
 use Rattle.tree_judge.specs.declared.trees.Follow.{Follow}
-use Rattle.tree_judge.specs.Path.{list_of, path_ends, edge_ends, PutsAt, IsWaiting, Pending, pending_way, IsChain, root_pending, IsAt, with_asked, ways_behind, TakesNext, EntersThrough}
-use Rattle.tree_judge.specs.Whole.{ends_through, ways_through, Answers, Notes, HasAnswered, HasRefused, StandsBefore}
+use Rattle.tree_judge.specs.Path.{list_of, path_ends, edge_ends, PutsAt, Pending, pending_way, root_pending, IsAt, with_asked, ways_behind, TakesNext, EntersThrough}
+use Rattle.tree_judge.specs.Whole.{ends_through, ways_through, Notes, HasAnswered, HasRefused, StandsBefore}
 use Rattle.tree_judge.proofs.Ways.{waiting_same}
 use Rattle.tree_judge.proofs.Noting.{notes_none}
 use Rattle.list_base.proofs.Options.{some_is_not_none}

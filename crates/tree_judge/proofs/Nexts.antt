@@ -1,12 +1,12 @@
 -- What is asked next: a way that waits, or a root.
-use Rattle.std.proofs.Common.{◌≡◌, ℕ, ◌+◌, ◌<◌, ◌≤◌, List, [], ◌∷◌, ◌++◌, Option, Some, None, map, take, refl, sym, ◌∙◌, ap, subst, arith}
+use Rattle.std.proofs.Common.{◌≡◌, ℕ, ◌<◌, List, [], ◌∷◌, ◌++◌, Option, Some, None, map, take, refl, sym, ◌∙◌, ap, subst, arith}
 use Rattle.std.specs.List.{slice_get}
 use Rattle.std.specs.Prelude.{option_and_then}
 use Rattle.tree_judge.specs.declared.roots.Root.{Root}
 use Rattle.tree_judge.specs.declared.trees.Frame.{Frame}
 use Rattle.tree_judge.specs.declared.trees.Wait.{Wait}
 use Rattle.tree_judge.specs.declared.trees.Follow.{Follow}
-use Rattle.tree_judge.specs.Path.{AsksRoot, path_ends, StandsAt, IsWaiting, Pending, pending_way, IsChain, root_pending, IsAt, with_asked, TakesNext}
+use Rattle.tree_judge.specs.Path.{AsksRoot, path_ends, StandsAt, IsWaiting, Pending, IsChain, root_pending, IsAt, with_asked, TakesNext}
 use Rattle.list_base.proofs.Options.{some_is_not_none}
 
 one_some : {A : Type 0} (x y : A) (o : Option A) → o ≡ Some x → o ≡ Some y → x ≡ y

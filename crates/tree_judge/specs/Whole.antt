@@ -1,5 +1,5 @@
 -- Trees as answers to a walk: each node answers the first of the half-edges that are still to be asked.
-use Rattle.std.specs.Prelude.{◌≡◌, ◌≢◌, ℕ, ◌+◌, ◌<◌, ◌≤◌, ◌⊎◌, ◌↔◌, List, [], ◌∷◌, ◌++◌, Option, Some, None, map, take, length, slice_get, Contains, Bool}
+use Rattle.std.specs.Prelude.{◌≡◌, ◌≢◌, ℕ, ◌+◌, ◌<◌, ◌≤◌, ◌⊎◌, ◌↔◌, List, [], ◌∷◌, ◌++◌, Option, Some, map, take, length, slice_get, Contains, Bool}
 use Rattle.sight_names.specs.Map.{Map}
 use Rattle.sight_names.specs.Splitting.{EndPoints}
 use Rattle.sight_tree.specs.declared.Node.{Node}

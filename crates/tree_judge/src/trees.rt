@@ -453,7 +453,15 @@ pub fn first_wrong(
     let mut follow = start(terrain, tree.source, path, waits);
     let count = tree.nodes.len();
     for (number, node) in tree.nodes.iter().enumerate() {
-        if !answer(terrain, reached, tree.source, path, waits, &mut follow, node) {
+        if !answer(
+            terrain,
+            reached,
+            tree.source,
+            path,
+            waits,
+            &mut follow,
+            node,
+        ) {
             return Some(number as u64);
         }
     }

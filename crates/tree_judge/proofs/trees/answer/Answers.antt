@@ -2,7 +2,7 @@ use Rattle.std.proofs.Common.{refl, sym, subst}
 use Rattle.sight_tree.specs.declared.Node.{Node}
 use Rattle.tree_judge.specs.Path.{with_asked}
 use Rattle.tree_judge.specs.Whole.{HasAnswered, HasRefused}
-use Rattle.tree_judge.proofs.Following.{opened, blocked, refused_all, refused_edge, refused_ends}
+use Rattle.tree_judge.proofs.Following.{opened, blocked, refused_ends}
 use Rattle.tree_judge.proofs.trees.answer.Goals as goal
 
 pub returns-then-not-is_blocked-clause-refused : goal.returns-then-not-is_blocked-clause-refused

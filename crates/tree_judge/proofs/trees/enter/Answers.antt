@@ -1,5 +1,5 @@
 use Rattle.std.proofs.Common.{refl, sym, ◌∙◌}
-use Rattle.tree_judge.proofs.Entering.{enters_both, enters_left, enters_right, enters_none}
+use Rattle.tree_judge.proofs.Entering.{enters_both}
 use Rattle.tree_judge.proofs.trees.enter.Goals as goal
 
 pub returns-in-Some-Some-clause-enters : goal.returns-in-Some-Some-clause-enters

@@ -1,4 +1,4 @@
-use Rattle.std.proofs.Common.{◌≡◌, ◌∙◌, ℕ, suc, ◌+◌, ◌<◌, ◌∷◌, List, Option, Some, None, length, map, true, refl, sym, ap, subst, arith}
+use Rattle.std.proofs.Common.{◌≡◌, ◌∙◌, ℕ, suc, ◌+◌, ◌∷◌, List, Option, Some, None, length, map, true, refl, sym, ap, subst, arith}
 use Rattle.sight_tree.specs.declared.Node.{Node}
 use Rattle.std.specs.Option.{is_some}
 use Rattle.list_base.proofs.Options.{none_where_not_some}

@@ -1,8 +1,5 @@
-use Rattle.std.proofs.Common.{◌≡◌, ◌++◌, List, length, take, drop, refl, sym, ◌∙◌, subst}
+use Rattle.std.proofs.Common.{◌≡◌, ◌++◌, length, take, drop, refl, ◌∙◌}
 use Rattle.cert_parts.proofs.Stretches.{takes_weaker}
-use Rattle.tree_judge.specs.declared.trees.Frame.{Frame}
-use Rattle.tree_judge.specs.declared.trees.Wait.{Wait}
-use Rattle.tree_judge.specs.Walked.{FollowsAt}
 use Rattle.tree_judge.proofs.Noting.{stored}
 use Rattle.tree_judge.proofs.Walking.{same_buffers}
 use Rattle.tree_judge.proofs.walk.TreeWalk.follow.Goals as goal
