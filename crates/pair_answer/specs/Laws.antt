@@ -1,0 +1,57 @@
+-- Laws of the answer for two sectors.
+use Rattle.std.specs.Prelude.{⊤}
+use Rattle.sight_names.specs.declared.names.Ask.{Ask}
+use Rattle.sight_names.specs.declared.names.Pair.{Pair}
+use Rattle.sight_names.specs.declared.names.Ray.{Ray}
+use Rattle.sight_names.specs.Groups.{HasClosedFaces}
+use Rattle.sight_names.specs.Map.{Map, map_of}
+use Rattle.sight_names.specs.Plan.{PlanParts, IsPlan}
+use Rattle.sight_names.specs.Ray.{IsSightRay}
+use Rattle.sight_names.specs.Sees.{Sees}
+use Rattle.sight_names.specs.Sound.{IsSound}
+use Rattle.reject_bits.specs.Parts.{Rejects}
+use Rattle.group_job.specs.declared.build.GroupBuilt.{GroupBuilt}
+use Rattle.group_job.specs.Built.{DecidesByGroups}
+use Rattle.group_job.specs.Sectors.{AreListed}
+use Rattle.pair_answer.specs.declared.answer.PairAnswer.{PairAnswer}
+use Rattle.pair_answer.specs.declared.answer.PairAnswer.TheVariants as answer
+use Rattle.pair_answer.specs.Answer.{IsAnswerFor}
+
+-- what the answer tells of sight
+abbrev pub TellsSight : Map → Pair → PairAnswer → Type 0
+TellsSight m pair (answer.Sight ray) = Sees m pair.a pair.b
+TellsSight m pair answer.Blind = ¬ Sees m pair.a pair.b
+TellsSight m pair answer.Touch = Sees m pair.a pair.b
+TellsSight m pair answer.Listed = ⊤
+TellsSight m pair (answer.NoSector k) = ⊤
+
+abbrev pub AnswersTellSight : Type 0
+AnswersTellSight = (p : PlanParts) (ask : Ask) (pair : Pair) (given : PairAnswer) → IsPlan p → HasClosedFaces (map_of p) → IsAnswerFor (map_of p) ask pair given → TellsSight (map_of p) pair given
+
+-- the bit of the pair is set, and it isn't listed
+abbrev pub IsSetPair : GroupBuilt → Pair → Type 0
+IsSetPair b pair = Rejects b.table pair.a pair.b × ¬ AreListed b.listed pair.a pair.b
+
+-- the bit is clear, and the pair isn't listed
+abbrev pub IsClearPair : GroupBuilt → Pair → Type 0
+IsClearPair b pair = ¬ Rejects b.table pair.a pair.b × ¬ AreListed b.listed pair.a pair.b
+
+-- the bit is clear, and the pair is listed
+abbrev pub IsListedPair : GroupBuilt → Pair → Type 0
+IsListedPair b pair = ¬ Rejects b.table pair.a pair.b × AreListed b.listed pair.a pair.b
+
+-- what a build says of the pair
+abbrev pub IsSaidOf : GroupBuilt → Pair → PairAnswer → Type 0
+IsSaidOf b pair (answer.Sight ray) = IsClearPair b pair
+IsSaidOf b pair answer.Blind = IsSetPair b pair
+IsSaidOf b pair answer.Touch = IsClearPair b pair
+IsSaidOf b pair answer.Listed = IsListedPair b pair
+IsSaidOf b pair (answer.NoSector k) = ⊤
+
+-- The answer is what a build with the same budget says of the pair.
+abbrev pub AnswersAreOfBuilds : Type 0
+AnswersAreOfBuilds = (p : PlanParts) (ask : Ask) (pair : Pair) (given : PairAnswer) (b : GroupBuilt) → IsPlan p → HasClosedFaces (map_of p) → DecidesByGroups (map_of p) ask b → IsAnswerFor (map_of p) ask pair given → IsSaidOf b pair given
+
+-- In a sound map each face has one name, and the ray is a sight ray of the two sectors.
+abbrev pub RaysAreOfSectors : Type 0
+RaysAreOfSectors = (p : PlanParts) (ask : Ask) (pair : Pair) (ray : Ray) → IsPlan p → IsSound (map_of p) → IsAnswerFor (map_of p) ask pair (answer.Sight ray) → IsSightRay (map_of p) ray pair.a pair.b

@@ -1,0 +1,15 @@
+//! Over what the sources are walked.
+
+use half_edges::HalfEdges;
+use mesh_shape::{Labels, Mesh};
+use sight_names::{Budget, Plan};
+
+/// A plan with its mesh, the labels of its triangles and its half-edges, and the budget of each source.
+#[derive(Clone, Copy)]
+pub struct Ground<'a> {
+    pub plan: &'a Plan,
+    pub mesh: &'a Mesh,
+    pub labels: &'a Labels,
+    pub edges: &'a HalfEdges,
+    pub budget: Budget,
+}

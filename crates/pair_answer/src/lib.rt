@@ -1,0 +1,16 @@
+//! The answer for two sectors: whether they see each other, within a budget, by the walks of their groups alone.
+//!
+//! It is what a build with the same budget says of the pair.
+#![tactic(auto)]
+
+mod answer;
+mod answering;
+mod between;
+mod ground;
+pub mod laws;
+mod places;
+mod seeker;
+mod walks;
+
+pub use answer::PairAnswer;
+pub use answering::pair_answer;
