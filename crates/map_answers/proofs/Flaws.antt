@@ -2,8 +2,10 @@
 use Rattle.std.proofs.Common.{◌≡◌, ◌⊎◌, inl, inr, ℕ, ◌<◌, Option, Some, None, Result, Ok, Err, Bool, true, false, sym, ◌∙◌, refl, ap, arith}
 use Rattle.sight_names.specs.declared.faults.LineFault.{LineFault}
 use Rattle.sight_names.specs.declared.names.Side.{Side}
+use Rattle.sight_names.specs.Groups.{HasClosedFaces}
 use Rattle.sight_names.specs.Map.{Map}
 use Rattle.mesh_shape.specs.Faults.{IsFirstSideAgainst, IsSideBefore}
+use Rattle.sight_status.specs.declared.status.Flaw.{Flaw}
 use Rattle.sight_status.specs.declared.status.Flaw.TheVariants as flaw
 use Rattle.sight_status.specs.declared.status.Status.{Status}
 use Rattle.sight_status.specs.declared.status.Status.TheVariants as status
@@ -59,3 +61,10 @@ gives_refused m Sole (status.BadMap (flaw.Line f)) h = record { called = h.is; o
 gives_refused m Sole (status.BadMap (flaw.Open side)) h = record { called = (h.0.meet, h.1); only = λ sole. only_open m side h.0 h.1 }
 gives_refused m Sole status.Memory h = tt
 gives_refused m Sole s h = absurd h
+
+-- the refusal of an audit is the one answer, where each other that is called for of a map that isn't sound is one too
+pub gives_unsound : (m : Map) (Called : Result Answer Status → Type 0) → ((which : Flaw) → IsFlaw m (Err (status.BadMap which)) → Called (Err (status.BadMap which))) → (¬ HasClosedFaces m → (other : Result Answer Status) → Called other → IsFlaw m other)
+    → (s : Status) → IsAuditRefusal m s → Gives (¬ HasClosedFaces m) Called (Err s)
+gives_unsound m Called called each (status.BadMap which) h = let g = gives_refused m (¬ HasClosedFaces m) (status.BadMap which) h in record { called = called which g.called; only = λ flawed other q. g.only flawed other (each flawed other q) }
+gives_unsound m Called called each status.Memory h = tt
+gives_unsound m Called called each s h = absurd h
