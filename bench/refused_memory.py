@@ -20,8 +20,8 @@ And certificates whose counts no bytes bear out: `check` asks for fewer bytes, a
 they were made of.
 The status is 1 where anything is otherwise.
 
-Found on 2026-11-29: the runs of fifteen orders make 3,692 requests (a build of U by three workers with certificate and
-report 388, one of a made map 528; a check of U 182, of a row of rooms 522, of a certificate longer than a piece 173).
+Found on 2026-11-29, before `why` came: the runs of fifteen orders make 3,692 requests (a build of U by three workers
+with certificate and report 388, one of a made map 528; a check of U 182, of a row of rooms 522, of a certificate longer than a piece 173).
 With one refused the run ended by memory 2,957 times and was done 666 times, among them where the list of a sweep over
 lines was refused, which then looks at each pair; 16 times it ended by a read fault and 51 times by a write fault, where
 opening a file, or the name beside an output, got no memory. (Threads make two requests more or fewer from run to run.)
@@ -119,6 +119,8 @@ ORDERS = [
     ("ray u.wad MAP01 5L,5R,-1,0,32", []),
     ("sound u.wad MAP01", []),
     ("sound u.wad MAP01 0 2", []),
+    ("why u.wad MAP01 0 1", []),
+    ("why u.wad MAP01 0 2 --budget 1", []),
     ("paint u.wad MAP01 out.wad", ["out.wad"]),
 ]
 
