@@ -21,6 +21,7 @@ a=U | trace a MAP01 5L,5R,-1,0,32 | 0 | a a
 a=LINE3 | need a MAP01 | 0 | a a
 a=U | sound a MAP01 | 0 | a a
 a=U | sound a MAP01 0 2 | 0 | a a
+a=U | why a MAP01 0 1 | 0 | a a
 a=U =4400, c=#U-CERT | check a MAP01 c | 0 | a a c c
 a=U | build a MAP01 b --cert c --workers 1 | 0 | a a | b c | b c
 a=U, b=PAIR, c=PAIR | build a MAP01 b --cert c --workers 1 | 0 | a a | b c | b c
@@ -39,6 +40,7 @@ a=SQUARE | zero a MAP01 a | 11
 a=PAIR | ray a MAP01 2L,2R,0,1,-32 | 1 | a a
 a=OPEN | audit a MAP01 | 10 | a a
 a=U | sound a MAP01 0 9 | 1 | a a
+a=U | why a MAP01 0 9 | 1 | a a
 a=U =4400 | check a MAP01 c | 3 | a a
 a=U, c=#U-CERT | check a MAP01 c | 1 | a a
 a=U =4600, c=#U-CERT | check a MAP01 c | 1 | a a c c

@@ -332,6 +332,52 @@ a=U, reads=0 | sound a MAP01 0 1 | 4 | refused: read fault wad
 a=SQUARE @14:1:09 | sound a MAP01 0 0 | 8 | refused: bad lump: vertex of line 0
 ";
 
+/// The order `why`.
+const WHY: &str = "\
+a=U | why a MAP01 0 1 | 0 | sight 0 1 by 5L,5R,-128,0,1 | a=U
+a=U | why a map01 00 01 --budget full | 0 | sight 0 1 by 5L,5R,-128,0,1
+a=U | why a MAP01 0 2 | 0 | blind 0 2
+a=U | why a MAP01 2 0 --budget=enough | 0 | blind 2 0
+a=U | why a MAP01 1 1 | 0 | touch 1 1
+a=U .1 hexen +6:BEHAVIOR | why a MAP01 0 2 | 0 | blind 0 2
+a=U | why a MAP01 --large 0 2 | 0 | blind 0 2
+# what a build with the same budget lists, sets and leaves clear
+a=U | why a MAP01 0 2 --budget 1 | 0 | listed 0 2
+a=U | why a MAP01 2 0 --budget 1 | 0 | listed 2 0
+a=U | why a MAP01 0 1 --budget 1 | 0 | sight 0 1 by 5L,5R,-128,0,1
+a=LINE3 | why a MAP01 0 2 --budget 1 | 0 | listed 0 2
+a=SHUT-PAIR | why a MAP01 0 1 --budget 1 | 0 | blind 0 1
+a=RINGS | why a MAP01 1 0 | 0 | blind 1 0
+# no side names the sector
+a=NO-LINES | why a MAP01 0 1 | 0 | blind 0 1
+a=NO-LINES | why a MAP01 0 0 | 0 | blind 0 0
+# a face belongs to both
+a=ISLAND | why a MAP01 0 1 | 0 | touch 0 1
+a=SELFREF | why a MAP01 1 0 | 0 | touch 1 0
+# no sector; the audit comes first
+a=U | why a MAP01 0 9 | 1 | no sector 9
+a=U | why a MAP01 9 8 | 1 | no sector 9
+a=U | why a MAP01 3 0 | 1 | no sector 3
+a=TOUCHED | why a MAP01 0 9 | 10 | refused: bad map: touch 0 4
+a=OPEN | why a MAP01 0 0 | 10 | refused: bad map: open 0R
+# words
+a=U | why a MAP01 0 | 2 | refused: usage
+a=U | why a MAP01 0 1 2 | 2 | refused: usage
+a=U | why a MAP01 0 65536 | 2 | refused: usage
+a=U | why a MAP01 0 1 --workers 2 | 2 | refused: usage
+a=U | why a MAP01 0 1 --cert c | 2 | refused: usage
+a=U | why a MAP01 0 1 --report c | 2 | refused: usage
+a=U | why a MAP01 0 1 --only MAP01 | 2 | refused: usage
+a=U | why a MAP01 0 1 --hexen | 2 | refused: usage
+a=U | why a MAP01 0 1 --budget 0 | 2 | refused: usage
+# what fails
+a=U | why b MAP01 0 1 | 3 | refused: no file wad
+a=U, reads=0 | why a MAP01 0 1 | 4 | refused: read fault wad
+a=U, puts=0 | why a MAP01 0 2 | 5 | blind ~
+a=U | why a MAP02 0 1 | 7 | refused: no map: no marker
+a=SQUARE @14:1:09 | why a MAP01 0 0 | 8 | refused: bad lump: vertex of line 0
+";
+
 /// The order `all`: what it writes and reports, what it refuses, and what stands where something fails.
 const ALL: &str = "\
 # two maps that are built, and one that is refused and keeps its REJECT
@@ -411,7 +457,7 @@ a=LINE3 | build a MAP01 b --cert c --budget enough | 0 | built MAP01 sectors 3 s
 
 #[test]
 fn each_row_comes_out_as_it_says(rt: HostRuntime) -> Result<(), Fail> {
-    for rows in [ZERO, JUDGED, CHECK, BUILD, ALL, NEED, SOUND] {
+    for rows in [ZERO, JUDGED, CHECK, BUILD, ALL, NEED, SOUND, WHY] {
         assert_eq!(rt; first_wrong(&rt, rt.alloc(), rows)?.as_str(), "");
     }
     Ok(())
