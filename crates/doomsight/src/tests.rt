@@ -78,6 +78,14 @@ sound a MAP01 --large | -
 sound a MAP01 0 65536 | 5
 sound a MAP01 000000 1 | 4
 sound a MAP01 0 1 2 | 6
+why a MAP01 0 1 | -
+why a MAP01 0 1 --budget full --large | -
+why a MAP01 0 | end
+why a MAP01 | end
+why a MAP01 0 65536 | 5
+why a MAP01 0 1 2 | 6
+why a MAP01 0 1 --workers 2 | 6
+--report r why | 3
 build a MAP01 b --cert c --report r --budget full --workers 8 | -
 build a MAP01 b --cert c --report r --budget full --workers 8 --large | -
 build a MAP01 b --large c | 6
@@ -158,6 +166,7 @@ const QUESTIONS: &str = "\
 paint --help | doomsight 1.0.0: 
 build a --version --help | doomsight 1.0.0
 audit a MAP01 -h | doomsight audit WAD MAP
+why --help | doomsight why WAD MAP A B [--budget N|full|enough] [--large]
 grid --help | doomsight grid N [--budget N|full|enough] [--workers N] [--hexen]
 sound -- --help | 
 zero a MAP01 b | 

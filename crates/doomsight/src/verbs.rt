@@ -49,7 +49,7 @@ pub struct Verb {
 }
 
 /// All verbs.
-pub static VERBS: [Verb; 10] = [
+pub static VERBS: [Verb; 11] = [
     Verb {
         name: "all",
         places: &[Place::File, Place::File],
@@ -101,6 +101,14 @@ pub static VERBS: [Verb; 10] = [
         choices: &[Choice::Large],
         synopsis: "doomsight need WAD MAP [--large]",
         about: "Says how many sequences of portals the sector that needs most has, and a number that is enough for any map of this size.",
+    },
+    Verb {
+        name: "why",
+        places: &[Place::File, Place::Map, Place::Sector, Place::Sector],
+        spare: 0,
+        choices: &[Choice::Budget, Choice::Large],
+        synopsis: "doomsight why WAD MAP A B [--budget N|full|enough] [--large]",
+        about: "Says whether the sectors A and B see each other, and by which ray, by walks of these two alone.",
     },
     Verb {
         name: "sound",
