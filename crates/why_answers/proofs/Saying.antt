@@ -1,5 +1,5 @@
 -- What is said of an answer: its line is made, and it is what `why` calls for.
-use Rattle.std.proofs.Common.{◌≡◌, ℕ, List, Result, Ok, Err, String, string_bytes, ap, sym, ◌∙◌, subst}
+use Rattle.std.proofs.Common.{◌≡◌, ℕ, List, Result, Ok, Err, String, ap, sym, ◌∙◌, subst}
 use Rattle.std.specs.Prelude.{IfErr}
 use Rattle.std.specs.declared.alloc.Global.{Global}
 use Rattle.sight_names.specs.declared.names.Ask.{Ask}
