@@ -1,5 +1,5 @@
 use Rattle.run_laws.proofs.Done.{build_is_done}
-use Rattle.sight_run.proofs.laws.build_is_done.Goals as goal
+use Rattle.run_laws.proofs.laws.build_is_done.Goals as goal
 
 pub returns : goal.returns
 returns c = build_is_done

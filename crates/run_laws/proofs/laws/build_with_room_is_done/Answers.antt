@@ -1,5 +1,5 @@
 use Rattle.run_laws.proofs.Room.{build_with_room_is_done}
-use Rattle.sight_run.proofs.laws.build_with_room_is_done.Goals as goal
+use Rattle.run_laws.proofs.laws.build_with_room_is_done.Goals as goal
 
 pub returns : goal.returns
 returns c = build_with_room_is_done
