@@ -373,7 +373,7 @@ a=U | why a MAP01 0 1 --budget 0 | 2 | refused: usage
 # what fails
 a=U | why b MAP01 0 1 | 3 | refused: no file wad
 a=U, reads=0 | why a MAP01 0 1 | 4 | refused: read fault wad
-a=U, puts=0 | why a MAP01 0 2 | 5 | blind ~
+a=U, puts=0 | why a MAP01 0 2 | 5 | blind~
 a=U | why a MAP02 0 1 | 7 | refused: no map: no marker
 a=SQUARE @14:1:09 | why a MAP01 0 0 | 8 | refused: bad lump: vertex of line 0
 ";
