@@ -5,10 +5,13 @@
  *
  * docs/C-LIBRARY.md says what is proved of these calls, and what the caller owes.
  *
- * - No call keeps anything: there is no handle, no global state, nothing to free. All outputs are buffers of the caller.
- * - Calls may run in several threads at once, on buffers that they don't share (inputs may be shared, if nobody writes them).
- * - No call starts a thread, reads or writes a file, prints, or calls back. Each takes its memory by malloc and gives all of it
- *   back by free before it returns. Don't call from a signal handler, or in the child of a fork of a process with threads.
+ * - All outputs are buffers of the caller. There is no global state, and one thing to free: what doomsight_keep leaves behind a
+ *   handle is freed by doomsight_free.
+ * - Calls may run in several threads at once, on buffers and handles that they don't share (inputs may be shared, if nobody writes
+ *   them).
+ * - No call starts a thread, reads or writes a file, prints, or calls back. Each takes its memory by malloc and, but for what
+ *   doomsight_keep keeps, gives all of it back by free before it returns. Don't call from a signal handler, or in the child of a
+ *   fork of a process with threads.
  *   For a build in several threads run the program (doomsight build --workers N), and check what it made by doomsight_check.
  * - A call needs some stack: see DOOMSIGHT_STACK.
  * - Buffers of one call must not overlap one another, but inputs may.
@@ -123,7 +126,7 @@ typedef struct doomsight_counts {
 #else
 #define DOOMSIGHT_HOLDS(fact) typedef char doomsight_holds[(fact) ? 1 : -1]
 #endif
-DOOMSIGHT_HOLDS(sizeof(doomsight_fault) == 32 && sizeof(doomsight_counts) == 40);
+DOOMSIGHT_HOLDS(sizeof(doomsight_fault) == 32 && sizeof(doomsight_counts) == 40 && sizeof(void *) == 8);
 #undef DOOMSIGHT_HOLDS
 
 /* Budgets: 1 to 4294967296, or one of these. The program's default is 16384. */
@@ -152,6 +155,15 @@ typedef struct doomsight_options {
     uint32_t flags;  /* 0, or DOOMSIGHT_LARGE */
 } doomsight_options;
 
+/* The handle of a build that the library keeps. It keeps nothing where `at` is NULL, and so begins as DOOMSIGHT_NOTHING_KEPT, or as
+ * zero bytes. Whoever has one that keeps something owes one call, doomsight_free. Its owner may move it, also to another thread, but
+ * may not use two copies of one, and gives it to one call at a time. Nobody but the library writes `at`, or follows it. */
+typedef struct doomsight_kept {
+    void *at;
+} doomsight_kept;
+
+#define DOOMSIGHT_NOTHING_KEPT {NULL}
+
 /* How many bytes the table of a SECTORS lump of so many bytes has; 0 where it has none, or more than 16384 sectors. */
 static inline size_t doomsight_table_size(size_t sectors_size)
 {
@@ -170,6 +182,14 @@ int32_t doomsight_check_buffers(const uint8_t *linedefs, size_t linedefs_size, c
     const uint8_t *vertexes, size_t vertexes_size, const uint8_t *sectors, size_t sectors_size, uint32_t format, uint32_t flags,
     const uint8_t *reject, size_t reject_size, const uint8_t *cert, size_t cert_size, doomsight_counts *counts,
     doomsight_fault *fault);
+
+int32_t doomsight_keep_buffers(const uint8_t *linedefs, size_t linedefs_size, const uint8_t *sidedefs, size_t sidedefs_size,
+    const uint8_t *vertexes, size_t vertexes_size, const uint8_t *sectors, size_t sectors_size, uint32_t format, uint32_t flags,
+    uint64_t budget, doomsight_kept *kept, doomsight_counts *counts, doomsight_fault *fault);
+
+size_t doomsight_kept_table_buffer(doomsight_kept *kept, size_t offset, uint8_t *bytes, size_t room);
+
+size_t doomsight_kept_cert_buffer(doomsight_kept *kept, size_t offset, uint8_t *bytes, size_t room);
 
 size_t doomsight_line_buffer(const doomsight_fault *fault, uint8_t *text, size_t room);
 
@@ -191,7 +211,8 @@ static inline const uint8_t *doomsight_some(const void *bytes)
  * NULL the budget is 16384 and no flag is set.
  *
  * `cert` is a buffer for the certificate, of `cert_room` bytes; NULL and 0 where none is wanted. The certificate is whole where
- * counts->cert_size <= cert_room; else its front stands there, and a second call with so much room gives it whole.
+ * counts->cert_size <= cert_room; else its front stands there. Where its size isn't known before, doomsight_keep builds once for
+ * whatever room there will be.
  *
  * The answer is DOOMSIGHT_OK, or the code of the fault; then nothing but *fault was written. */
 static inline int32_t doomsight_build(const doomsight_map *map, const doomsight_options *options, void *reject, size_t reject_size,
@@ -204,6 +225,49 @@ static inline int32_t doomsight_build(const doomsight_map *map, const doomsight_
         reject ? (uint8_t *)reject : nothing,
         reject ? reject_size : 0, cert ? (uint8_t *)cert : nothing, cert ? cert_room : 0, counts, fault);
 }
+
+/* Builds as doomsight_build does, and keeps the table and the whole certificate, which has counts->cert_size bytes, behind the
+ * handle `kept`; what that kept before is freed. The caller copies what it wants, and then calls doomsight_free:
+ *
+ *     doomsight_kept kept = DOOMSIGHT_NOTHING_KEPT;
+ *     if (!doomsight_keep(&map, NULL, &kept, &counts, &fault)) {
+ *         cert = malloc(doomsight_kept_cert_size(&kept));
+ *         if (cert) doomsight_kept_cert(&kept, 0, cert, doomsight_kept_cert_size(&kept));
+ *     }
+ *     doomsight_free(&kept);
+ *
+ * The answer is DOOMSIGHT_OK, or the code of the fault, never of the kind DOOMSIGHT_BAD_TABLE_SIZE; then nothing but *fault was
+ * written, and the handle keeps what it kept. */
+static inline int32_t doomsight_keep(const doomsight_map *map, const doomsight_options *options, doomsight_kept *kept,
+    doomsight_counts *counts, doomsight_fault *fault)
+{
+    return doomsight_keep_buffers(doomsight_some(map->linedefs.bytes), map->linedefs.size, doomsight_some(map->sidedefs.bytes),
+        map->sidedefs.size, doomsight_some(map->vertexes.bytes), map->vertexes.size, doomsight_some(map->sectors.bytes),
+        map->sectors.size, map->format, options ? options->flags : 0, options ? options->budget : 16384, kept, counts, fault);
+}
+
+/* How many bytes the kept table has, and the kept certificate; 0 where nothing is kept. Neither builds, copies or frees. */
+size_t doomsight_kept_table_size(doomsight_kept *kept);
+size_t doomsight_kept_cert_size(doomsight_kept *kept);
+
+/* Copies the bytes of the kept table from `offset` on to the front of `buffer`, as many as there are and as `room` has place for:
+ * the answer is how many, 0 at its end and behind it. What is behind them in the buffer stays. Nothing is built or freed, so pieces
+ * of any size, in any order, are those of one table. */
+static inline size_t doomsight_kept_table(doomsight_kept *kept, size_t offset, void *buffer, size_t room)
+{
+    uint8_t nothing[1];
+    return doomsight_kept_table_buffer(kept, offset, buffer ? (uint8_t *)buffer : nothing, buffer ? room : 0);
+}
+
+/* The same of the bytes of the kept certificate. */
+static inline size_t doomsight_kept_cert(doomsight_kept *kept, size_t offset, void *buffer, size_t room)
+{
+    uint8_t nothing[1];
+    return doomsight_kept_cert_buffer(kept, offset, buffer ? (uint8_t *)buffer : nothing, buffer ? room : 0);
+}
+
+/* Frees what the handle keeps: afterwards it keeps nothing, and nothing is owed. One that keeps nothing stays as it is. */
+void doomsight_free(doomsight_kept *kept);
 
 /* Whether the table is right for the map, by the certificate: DOOMSIGHT_OK and the counts for yes; else the code of the fault,
  * DOOMSIGHT_NO where the table or the certificate is wrong; then nothing but *fault was written. `options` may be NULL. */

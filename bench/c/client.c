@@ -1,5 +1,6 @@
 /* client WAD MAP [BUDGET [FLAGS [TABLE-WAD CERT]]]: builds the table of a map by the library and prints its counts, or the line of
- * the fault. Where the program's outputs are named it compares table and certificate with them, and provokes faults. */
+ * the fault. Where the program's outputs are named it compares table and certificate with them, those of a kept build too, and
+ * provokes faults. */
 #include "doomsight.h"
 #include "wadio.h"
 #include <inttypes.h>
@@ -67,6 +68,56 @@ static void provoke(doomsight_map map, const doomsight_options *options, uint8_t
     tell("build, the first line less", doomsight_build(&cut, options, table, size, NULL, 0, &c, &f), &f);
 }
 
+/* Copies the table or the certificate of a kept build in pieces of `step` bytes, and compares it with what the call into buffers
+ * gave: no byte behind a piece may change, and there is none behind the end. */
+static void copy_pieces(const char *what, size_t (*copy)(doomsight_kept *, size_t, void *, size_t), doomsight_kept *kept, size_t step,
+    const uint8_t *want, size_t size)
+{
+    uint8_t *piece = (uint8_t *)malloc(step + 1);
+    size_t at = 0, n = 0;
+    int is = 1;
+    do {
+        memset(piece, 0xEE, step + 1);
+        n = copy(kept, at, piece, step);
+        if (n != (size - at < step ? size - at : step) || memcmp(piece, want + at, n) || piece[n] != 0xEE) is = 0;
+        at += n;
+    } while (n != 0 && is);
+    if (at != size || copy(kept, size + 7, piece, step) != 0 || copy(kept, SIZE_MAX, piece, step) != 0) is = 0;
+    if (copy(kept, 0, NULL, 0) != 0) is = 0;
+    same(what, is);
+    free(piece);
+}
+
+/* Keeps a build, and compares it with what the call into buffers gave. A refused call and a second build over the first leave no
+ * memory behind, as memcheck sees; a handle that is freed is empty, and may be freed again. */
+static void keep(doomsight_map map, const doomsight_options *options, const uint8_t *table, size_t size, const uint8_t *cert,
+    const doomsight_counts *want)
+{
+    doomsight_kept kept = DOOMSIGHT_NOTHING_KEPT, moved;
+    doomsight_options other = *options;
+    doomsight_counts c;
+    doomsight_fault f;
+    size_t cert_size = (size_t)want->cert_size;
+    same("sizes of nothing", doomsight_kept_table_size(&kept) == 0 && doomsight_kept_cert_size(&kept) == 0 && kept.at == NULL);
+    if (doomsight_keep(&map, options, &kept, &c, &f)) {
+        tell("keep", f.code, &f);
+        wrong = 1;
+        return;
+    }
+    same("kept counts", !memcmp(&c, want, sizeof c) && kept.at != NULL);
+    other.budget = UINT64_C(1) << 40;
+    expect("keep, budget", doomsight_keep(&map, &other, &kept, &c, &f), &f, 2, 14);
+    same("kept sizes", doomsight_kept_table_size(&kept) == size && doomsight_kept_cert_size(&kept) == cert_size);
+    if (doomsight_keep(&map, options, &kept, &c, &f)) wrong = 1;
+    moved = kept;
+    copy_pieces("kept table", doomsight_kept_table, &moved, size / 3 + 1, table, size);
+    copy_pieces("kept cert, whole", doomsight_kept_cert, &moved, cert_size, cert, cert_size);
+    copy_pieces("kept cert, in pieces", doomsight_kept_cert, &moved, 1021, cert, cert_size);
+    doomsight_free(&moved);
+    same("freed", moved.at == NULL && doomsight_kept_cert_size(&moved) == 0 && doomsight_kept_cert(&moved, 0, &other, 8) == 0);
+    doomsight_free(&moved);
+}
+
 /* Builds again with room for the certificate, and compares both with the program's. */
 static int compare(doomsight_map map, const doomsight_options *options, uint8_t *table, size_t size, size_t room, char **names)
 {
@@ -84,6 +135,7 @@ static int compare(doomsight_map map, const doomsight_options *options, uint8_t 
     printf("yes sectors %" PRIu64 " set %" PRIu64 " clear %" PRIu64 " listed %" PRIu64 "\n", yes.sectors, yes.set,
         yes.clear, yes.listed);
     same("counts", !memcmp(&counts, &yes, sizeof yes));
+    keep(map, options, table, size, cert, &counts);
     provoke(map, options, table, size, cert, room);
     free(cert);
     free(out.at);

@@ -1,5 +1,5 @@
 /* layout: whether the structs lie as the library lays them out. The library writes numbers into the fields, which are read back by
- * their names; and nothing may be written behind the structs. Compiled as C99, C11 and C++17. */
+ * their names; and nothing may be written behind the structs, nor behind a handle. Compiled as C99, C11 and C++17. */
 #include "doomsight.h"
 #include <stdio.h>
 #include <string.h>
@@ -20,13 +20,16 @@ HOLDS(IS(doomsight_fault, code, 0, 2) && IS(doomsight_fault, kind, 2, 2) && IS(d
     && IS(doomsight_fault, b, 6, 2) && IS(doomsight_fault, line, 8, 2) && IS(doomsight_fault, left, 10, 2)
     && IS(doomsight_fault, at, 16, 8) && IS(doomsight_fault, more, 24, 8) && sizeof(doomsight_fault) == 32
     && IS(doomsight_counts, sectors, 0, 8) && IS(doomsight_counts, set, 8, 8) && IS(doomsight_counts, clear, 16, 8)
-    && IS(doomsight_counts, listed, 24, 8) && IS(doomsight_counts, cert_size, 32, 8) && sizeof(doomsight_counts) == 40);
+    && IS(doomsight_counts, listed, 24, 8) && IS(doomsight_counts, cert_size, 32, 8) && sizeof(doomsight_counts) == 40
+    && IS(doomsight_kept, at, 0, 8) && sizeof(doomsight_kept) == 8);
 
 struct guarded {
     doomsight_fault fault;
     unsigned char behind_fault[64];
     doomsight_counts counts;
     unsigned char behind_counts[64];
+    doomsight_kept kept;
+    unsigned char behind_kept[64];
 };
 
 int main(void)
@@ -35,8 +38,13 @@ int main(void)
     size_t i;
     memset(&g, 0xEE, sizeof g);
     doomsight_layout(&g.fault, &g.counts);
+    memset(&g.kept, 0, sizeof g.kept);
+    if (doomsight_kept_table_size(&g.kept) != 0 || doomsight_kept_cert_size(&g.kept) != 0 || g.kept.at != NULL) return 1;
+    if (doomsight_kept_table(&g.kept, 0, &i, sizeof i) != 0 || doomsight_kept_cert(&g.kept, 0, &i, sizeof i) != 0) return 1;
+    doomsight_free(&g.kept);
+    if (g.kept.at != NULL) return 1;
     for (i = 0; i < 64; i++)
-        if (g.behind_fault[i] != 0xEE || g.behind_counts[i] != 0xEE) return 1;
+        if (g.behind_fault[i] != 0xEE || g.behind_counts[i] != 0xEE || g.behind_kept[i] != 0xEE) return 1;
     if (g.fault.code != 1 || g.fault.kind != 2 || g.fault.a != 3 || g.fault.b != 4 || g.fault.line != 5) return 1;
     if (g.fault.left != 6 || g.fault.at != 7 || g.fault.more != 8) return 1;
     if (g.counts.sectors != 1 || g.counts.set != 2 || g.counts.clear != 3 || g.counts.listed != 4) return 1;

@@ -1,5 +1,6 @@
-/* refused WAD MAP [STEP]: every STEP-th allocation of a build and of a check refused, each in a call of its own. Linked with this heap
- * in the place of doomsight_heap.c: each such call has to answer MEMORY, give all back and leave the table alone. */
+/* refused WAD MAP [STEP]: every STEP-th allocation of a build, of a kept one and of a check refused, each in a call of its own. Linked
+ * with this heap in the place of doomsight_heap.c: each such call has to answer MEMORY, give all back and leave the table alone, or
+ * what the handle keeps. */
 #include "doomsight.h"
 #include "wadio.h"
 
@@ -47,6 +48,37 @@ void rattle_dealloc(void *at)
 
 #define MANY 1000000000L
 
+/* Refuses every STEP-th allocation of a kept build, over an empty handle and over one that keeps a build, and how many there are. */
+static long refuse_kept(const doomsight_map *map, size_t cert_size, long step, long *tried, long *bad)
+{
+    doomsight_kept kept = DOOMSIGHT_NOTHING_KEPT;
+    doomsight_counts c;
+    doomsight_fault f;
+    uint8_t byte;
+    long keeps, i, held;
+    left = MANY;
+    if (doomsight_keep(map, NULL, &kept, &c, &f) || c.cert_size != cert_size) ++*bad;
+    keeps = MANY - left;
+    held = live;
+    left = 0;
+    if (doomsight_kept_cert_size(&kept) != cert_size || doomsight_kept_cert(&kept, cert_size - 1, &byte, 1) != 1) ++*bad;
+    if (held < 1 || live != held) ++*bad;
+    for (i = 0; i < keeps; i += step, ++*tried) {
+        left = i;
+        if (doomsight_keep(map, NULL, &kept, &c, &f) != DOOMSIGHT_MEMORY || f.code != DOOMSIGHT_MEMORY || live != held) ++*bad;
+        if (i == 0 && doomsight_kept_cert_size(&kept) != cert_size) ++*bad;
+        if (i > keeps / 2 && kept.at != NULL) {
+            doomsight_free(&kept);
+            if (live != 0) ++*bad;
+            held = 0;
+        }
+    }
+    left = 0;
+    doomsight_free(&kept);
+    if (live != 0 || kept.at != NULL) ++*bad;
+    return keeps;
+}
+
 int main(int argc, char **argv)
 {
     if (argc < 3) return 64;
@@ -54,7 +86,7 @@ int main(int argc, char **argv)
     doomsight_map map = map_of(wad, argv[2]);
     size_t size = doomsight_table_size(map.sectors.size), room = (size_t)64 << 20, cert_size;
     uint8_t *table = (uint8_t *)malloc(size), *other = (uint8_t *)malloc(size), *cert = (uint8_t *)malloc(room);
-    long step = argc > 3 ? atol(argv[3]) : 1, builds, checks, i, bad = 0, tried = 0;
+    long step = argc > 3 ? atol(argv[3]) : 1, builds, keeps, checks, i, bad = 0, tried = 0;
     doomsight_counts c;
     doomsight_fault f;
     char text[DOOMSIGHT_LINE_ROOM];
@@ -71,6 +103,7 @@ int main(int argc, char **argv)
         if (doomsight_build(&map, NULL, other, size, NULL, 0, &c, &f) != DOOMSIGHT_MEMORY) bad++;
         if (f.code != DOOMSIGHT_MEMORY || live != 0 || other[0] != 0xAA || other[size - 1] != 0xAA) bad++;
     }
+    keeps = refuse_kept(&map, cert_size, step, &tried, &bad);
     for (i = 0; i < checks; i += step, tried++) {
         left = i;
         if (doomsight_check(&map, NULL, table, size, cert, cert_size, &c, &f) != DOOMSIGHT_MEMORY || live != 0) bad++;
@@ -82,7 +115,7 @@ int main(int argc, char **argv)
     if (doomsight_line(&f, text, sizeof text) != DOOMSIGHT_NO_LINE || live != 0) bad++;
     left = -1;
     if (doomsight_line(&f, text, sizeof text) != strlen(text)) bad++;
-    printf("allocations: build %ld check %ld, refused %ld, wrong %ld, line %s", builds, checks, tried, bad, text);
+    printf("allocations: build %ld keep %ld check %ld, refused %ld, wrong %ld, line %s", builds, keeps, checks, tried, bad, text);
     free(table);
     free(other);
     free(cert);

@@ -1,5 +1,5 @@
 /* threads WAD MAP COUNT [STACK]: so many builds and checks of the map at once, each in a thread with DOOMSIGHT_STACK bytes of stack,
- * or with so many. */
+ * or with so many. Each keeps a build, too, which the first thread copies and frees. */
 #include "doomsight.h"
 #include "wadio.h"
 #include <pthread.h>
@@ -7,17 +7,19 @@
 static doomsight_map map;
 static size_t size;
 static uint8_t *first;
+static doomsight_kept handles[64];
 static pthread_mutex_t lock = PTHREAD_MUTEX_INITIALIZER;
 static int wrong;
 
-/* Builds, checks, and checks a table with a bit turned: 0 where all is as it should be. */
-static int try_all(uint8_t *table, uint8_t *cert, size_t room)
+/* Builds, keeps, checks, and checks a table with a bit turned: 0 where all is as it should be. */
+static int try_all(uint8_t *table, uint8_t *cert, size_t room, doomsight_kept *kept)
 {
     doomsight_counts counts, yes;
     doomsight_fault fault;
     char text[DOOMSIGHT_LINE_ROOM];
     int bad;
     if (doomsight_build(&map, NULL, table, size, cert, room, &counts, &fault) || counts.cert_size > room) return 1;
+    if (doomsight_keep(&map, NULL, kept, &yes, &fault) || yes.cert_size != counts.cert_size) return 1;
     if (doomsight_check(&map, NULL, table, size, cert, (size_t)counts.cert_size, &yes, &fault)) return 1;
     if (yes.set != counts.set) return 1;
     table[0] ^= 2;
@@ -31,8 +33,7 @@ static void *work(void *arg)
 {
     size_t room = (size_t)64 << 20;
     uint8_t *table = (uint8_t *)malloc(size), *cert = (uint8_t *)malloc(room);
-    int bad = try_all(table, cert, room);
-    (void)arg;
+    int bad = try_all(table, cert, room, (doomsight_kept *)arg);
     pthread_mutex_lock(&lock);
     if (!first) {
         first = table;
@@ -45,6 +46,16 @@ static void *work(void *arg)
     free(table);
     free(cert);
     return NULL;
+}
+
+/* Copies the table that another thread kept, compares it with the first, and frees it: 0 where all is as it should be. */
+static int take(doomsight_kept *kept)
+{
+    uint8_t *table = (uint8_t *)malloc(size);
+    int bad = doomsight_kept_table(kept, 0, table, size) != size || memcmp(first, table, size);
+    doomsight_free(kept);
+    free(table);
+    return bad;
 }
 
 int main(int argc, char **argv)
@@ -61,8 +72,9 @@ int main(int argc, char **argv)
     pthread_attr_init(&attr);
     if (pthread_attr_setstacksize(&attr, argc > 4 ? strtoul(argv[4], NULL, 10) : DOOMSIGHT_STACK)) return 65;
     for (i = 0; i < count; i++)
-        if (pthread_create(&t[i], &attr, work, NULL)) return 66;
+        if (pthread_create(&t[i], &attr, work, &handles[i])) return 66;
     for (i = 0; i < count; i++) pthread_join(t[i], NULL);
+    for (i = 0; i < count; i++) wrong += take(&handles[i]);
     free(first);
     free(wad.at);
     printf("%d threads, %d wrong\n", count, wrong);

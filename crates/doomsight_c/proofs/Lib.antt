@@ -1,2 +1,4 @@
 pub mod Giving
 pub mod Judging
+pub mod Handles
+pub mod KeptBuilds

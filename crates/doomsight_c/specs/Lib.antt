@@ -3,3 +3,7 @@ pub mod Asked
 pub mod Lines
 pub mod Built
 pub mod Checked
+pub mod Handle
+pub mod Piece
+pub mod Whole
+pub mod Keeping

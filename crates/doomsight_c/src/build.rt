@@ -50,7 +50,7 @@ fn build_sound(alloc: Global, plan: &Plan, ask: Ask) -> Result<GroupBuilt, Statu
 }
 
 /// What `whole_wad::build` builds by one worker, without a thread.
-fn build_alone(alloc: Global, plan: &Plan, ask: Ask) -> Result<GroupBuilt, Status>
+pub fn build_alone(alloc: Global, plan: &Plan, ask: Ask) -> Result<GroupBuilt, Status>
     ensures built { Builds (map_of plan.now) ask result }
 {
     audit_lines_of(alloc, plan)?;

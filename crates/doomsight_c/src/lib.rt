@@ -1,5 +1,5 @@
-//! Tables built and judged for C programs, over buffers that the caller owns. No call keeps anything, starts a thread or reads
-//! a file.
+//! Tables built and judged for C programs, over buffers that the caller owns. No call starts a thread or reads a file, and none
+//! keeps anything but the build that a handle of the caller's owns.
 #![tactic(auto)]
 
 mod asked;
@@ -8,9 +8,17 @@ mod check;
 mod counts;
 mod exports;
 mod fault;
+mod handle;
+mod keep;
+mod keeping;
+mod kept;
 mod line;
+mod loose;
+mod piece;
 mod spell;
 
 pub use counts::DoomsightCounts;
 pub use fault::DoomsightFault;
+pub use handle::DoomsightKept;
+pub use keep::kept_is_given;
 pub use line::faults_tell_statuses;

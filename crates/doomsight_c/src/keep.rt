@@ -1,0 +1,92 @@
+//! The build that is kept.
+
+ghost use Rattle.std.specs.Prelude.{◌≡◌, ◌≢◌, IfErr, IfOk, Ok, Some};
+ghost use Rattle.sight_names.specs.Map.{map_of};
+ghost use Rattle.cert_groups.specs.Grammar.{IsAnyInOrder};
+ghost use Rattle.map_answers.specs.Input.{of_four_lumps};
+ghost use Rattle.map_answers.specs.Sound.{IsAuditRefusal};
+ghost use Rattle.doomsight_c.specs.Keeping.{HoldsWhole, IsCalledFor, IsKept, KeptIsGiven};
+
+use crate::build::build_alone;
+use crate::counts::DoomsightCounts;
+use crate::fault::{DoomsightFault, fault_of};
+use crate::handle::DoomsightKept;
+use crate::kept::spell_whole;
+use crate::line::faults_tell_statuses;
+use group_job::GroupBuilt;
+use map_answers::plan_of;
+use sight_names::{Ask, Memory, Plan, Reading};
+use sight_status::Status;
+use std::alloc::Global;
+
+/// Puts the whole of what was built behind a handle.
+fn hold(alloc: Global, built: GroupBuilt) -> Result<(DoomsightKept, DoomsightCounts), Memory>
+    requires in_order { IsAnyInOrder built.cert }
+    ensures whole { IfOk result (λ r. HoldsWhole built r.0.value r.1) }
+{
+    let (kept, counts) = spell_whole(alloc, built)?;
+    match Box::new(alloc, kept) {
+        Ok(kept) => Ok((DoomsightKept::of(kept), counts)),
+        Err(_) => Err(Memory),
+    }
+}
+
+/// Builds and keeps, or tells why the map has no table.
+#[tactic(auto, using(crate::proofs::KeptBuilds::in_order_of, crate::proofs::KeptBuilds::kept_of))]
+fn keep_audited(
+    alloc: Global,
+    plan: &Plan,
+    ask: Ask,
+) -> Result<(DoomsightKept, DoomsightCounts), Status>
+    ensures kept { IfOk result (λ r. IsKept (Ok (map_of plan.now)) ask r.0.value r.1) }
+    ensures refused { IfErr result (IsAuditRefusal (map_of plan.now)) }
+{
+    let built = build_alone(alloc, plan, ask)?;
+    match hold(alloc, built) {
+        Ok(held) => Ok(held),
+        Err(_) => Err(Status::Memory),
+    }
+}
+
+fn keep_plan(
+    alloc: Global,
+    plan: &Plan,
+    ask: Ask,
+) -> Result<(DoomsightKept, DoomsightCounts), DoomsightFault>
+    ensures kept { IfOk result (λ r. IsKept (Ok (map_of plan.now)) ask r.0.value r.1) }
+    ensures refused { IfErr result (IsCalledFor (Ok (map_of plan.now))) }
+    ensures code { IfErr result (λ f. f.code ≢ 0) }
+{
+    faults_tell_statuses();
+    match keep_audited(alloc, plan, ask) {
+        Ok(held) => Ok(held),
+        Err(status) => Err(fault_of(&status)),
+    }
+}
+
+/// The handle and the counts of the build of the map that the lumps spell, or why there is none.
+pub fn keep_lumps(
+    alloc: Global,
+    reading: Reading,
+    linedefs: &[u8],
+    sidedefs: &[u8],
+    vertexes: &[u8],
+    sectors: &[u8],
+    ask: Ask,
+) -> Result<(DoomsightKept, DoomsightCounts), DoomsightFault>
+    ensures kept { IfOk result (λ r. IsKept (of_four_lumps reading linedefs.now sidedefs.now vertexes.now sectors.now) ask r.0.value r.1) }
+    ensures refused { IfErr result (IsCalledFor (of_four_lumps reading linedefs.now sidedefs.now vertexes.now sectors.now)) }
+    ensures code { IfErr result (λ f. f.code ≢ 0) }
+{
+    faults_tell_statuses();
+    match plan_of(alloc, reading, linedefs, sidedefs, vertexes, sectors) {
+        Ok(plan) => keep_plan(alloc, &plan, ask),
+        Err(status) => Err(fault_of(&status)),
+    }
+}
+
+/// A kept build that is copied out is what the build into buffers gives: the table, the counts and, as far as there is room, the
+/// certificate.
+pub fn kept_is_given()
+    ensures { KeptIsGiven }
+{}
