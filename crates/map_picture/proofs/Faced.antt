@@ -1,0 +1,271 @@
+-- The faces of a row's picture: which there are, what their triangles are, and what their tints tell.
+use Rattle.std.proofs.Common.{◌≡◌, ◌≢◌, ◌∙◌, ℕ, zero, suc, ◌+◌, ◌*◌, ◌<◌, ◌==◌, ◌&&◌, ◌||◌, ◌⊎◌, ⊎_elim, ◌↔◌, List, [], ◌∷◌, ◌++◌, map, Option, Some, None, Bool, true, false, cond, slice_get, Contains, refl, sym, ap, subst, eq-eqb, arith}
+use Rattle.std.specs.List.{AllByRecursion, list_all, list_any}
+use Rattle.std.proofs.lemmas.Bool.{true≢false, eqb-true, eqb-false}
+use Rattle.std.proofs.lemmas.Option.{none-some, same_Some}
+use Rattle.list_base.proofs.Lists.{all_join, all_at, contains_here, contains_there, contains_none, contains_cons}
+use Rattle.sight_names.specs.declared.names.Triangle.{Triangle}
+use Rattle.sight_names.specs.Map.{Map, MapLine}
+use Rattle.sight_names.specs.Mesh.{IsAbove, label_of}
+use Rattle.sight_names.specs.Order.{Ascends}
+use Rattle.sight_names.specs.Table.{table_bit}
+use Rattle.reject_bits.specs.Parts.{TableParts}
+use Rattle.map_picture.specs.declared.tint.Tint.{Tint}
+use Rattle.map_picture.specs.declared.tint.Tint.TheVariants as tint
+use Rattle.map_picture.specs.Picture.{Element, Head, Style, Paper, Face, Line, Foot, entry_if, faces_from, has_label, labelled_with, line_elements, line_if, lines_from, picture_of, row_picture, row_tint}
+use Rattle.map_picture.specs.Laws.{Has, HasNoLine, ShowsRow, TellsRow}
+
+record SameFace (k p : Tint) (g n : ℕ) (names others : List ℕ) (shown more : List Triangle) : Type 0 where
+  tints : k ≡ p
+  groups : g ≡ n
+  sectors : names ≡ others
+  triangles : shown ≡ more
+
+same_face : (k p : Tint) (g n : ℕ) (names others : List ℕ) (shown more : List Triangle) → Face k g names shown ≡ Face p n others more → SameFace k p g n names others shown more
+same_face k p g n names others shown more e = record { tints = cc; groups = cc; sectors = cc; triangles = cc }
+
+abbrev NoFace : Element → Type 0
+NoFace e = (k : Tint) (g : ℕ) (names : List ℕ) (shown : List Triangle) → e ≡ Face k g names shown → ⊥
+
+-- ---- what is no face
+
+line_is_none : (i : ℕ) (l : MapLine) → NoFace (Line i l)
+line_is_none i l k g names shown e = cc
+
+none_if : (solid : Bool) (i : ℕ) (l : MapLine) → AllByRecursion NoFace (line_if solid i l)
+none_if true i l = go l.solid
+  where
+    go : (b : Bool) → AllByRecursion NoFace (cond b (Line i l ∷ []) [])
+    go true = (line_is_none i l, tt)
+    go false = tt
+none_if false i l = go l.solid
+  where
+    go : (b : Bool) → AllByRecursion NoFace (cond b [] (Line i l ∷ []))
+    go true = tt
+    go false = (line_is_none i l, tt)
+
+none_in_entry : (solid : Bool) (i : ℕ) (o : Option MapLine) → AllByRecursion NoFace (entry_if solid i o)
+none_in_entry solid i None = tt
+none_in_entry solid i (Some l) = none_if solid i l
+
+none_in_lines : (solid : Bool) (i : ℕ) (es : List (Option MapLine)) → AllByRecursion NoFace (lines_from solid i es)
+none_in_lines solid i [] = tt
+none_in_lines solid i (o ∷ es) = all_join NoFace (entry_if solid i o) (lines_from solid (i + 1) es) (none_in_entry solid i o) (none_in_lines solid (i + 1) es)
+
+none_in_elements : (m : Map) → AllByRecursion NoFace (line_elements m)
+none_in_elements m = all_join NoFace (lines_from false 0 m.lines) (lines_from true 0 m.lines) (none_in_lines false 0 m.lines) (none_in_lines true 0 m.lines)
+
+head_is_none : NoFace Head
+head_is_none k g names shown e = cc
+
+style_is_none : NoFace Style
+style_is_none k g names shown e = cc
+
+paper_is_none : NoFace Paper
+paper_is_none k g names shown e = cc
+
+foot_is_none : NoFace Foot
+foot_is_none k g names shown e = cc
+
+-- ---- where the faces are
+
+in_front : (xs ys : List Element) (p : ℕ) (k : Tint) (g : ℕ) (names : List ℕ) (shown : List Triangle) → AllByRecursion NoFace ys → slice_get (xs ++ ys) p ≡ Some (Face k g names shown) → slice_get xs p ≡ Some (Face k g names shown)
+in_front [] ys p k g names shown h at = absurd (all_at NoFace ys h p (Face k g names shown) at k g names shown refl)
+in_front (x ∷ xs) ys zero k g names shown h at = at
+in_front (x ∷ xs) ys (suc p) k g names shown h at = in_front xs ys p k g names shown h at
+
+still_there : (xs ys : List Element) (p : ℕ) (e : Element) → slice_get xs p ≡ Some e → slice_get (xs ++ ys) p ≡ Some e
+still_there [] ys p e at = absurd (none-some e at)
+still_there (x ∷ xs) ys zero e at = at
+still_there (x ∷ xs) ys (suc p) e at = still_there xs ys p e at
+
+-- the place of a face is three behind its place among the faces
+behind_sheet : (faces : List Element) (p : ℕ) (k : Tint) (g : ℕ) (names : List ℕ) (shown : List Triangle) → slice_get (Head ∷ Style ∷ Paper ∷ [] ++ faces) p ≡ Some (Face k g names shown) → (q : ℕ) × (p ≡ suc (suc (suc q))) × (slice_get faces q ≡ Some (Face k g names shown))
+behind_sheet faces zero k g names shown at = absurd (head_is_none k g names shown (same_Some Head _ at))
+behind_sheet faces (suc zero) k g names shown at = absurd (style_is_none k g names shown (same_Some Style _ at))
+behind_sheet faces (suc (suc zero)) k g names shown at = absurd (paper_is_none k g names shown (same_Some Paper _ at))
+behind_sheet faces (suc (suc (suc q))) k g names shown at = (q, refl, at)
+
+pub at_place : (m : Map) (faces : List Element) (p : ℕ) (k : Tint) (g : ℕ) (names : List ℕ) (shown : List Triangle) → slice_get (picture_of m faces []) p ≡ Some (Face k g names shown) → (q : ℕ) × (p ≡ suc (suc (suc q))) × (slice_get faces q ≡ Some (Face k g names shown))
+at_place m faces p k g names shown at =
+    let sheet = Head ∷ Style ∷ Paper ∷ [] in
+    let no_foot = in_front (sheet ++ faces ++ line_elements m ++ []) (Foot ∷ []) p k g names shown (foot_is_none, tt) at in
+    let no_over = in_front (sheet ++ faces ++ line_elements m) [] p k g names shown tt no_foot in
+    behind_sheet faces p k g names shown (in_front (sheet ++ faces) (line_elements m) p k g names shown (none_in_elements m) no_over)
+
+has_face : (m : Map) (faces : List Element) (q : ℕ) (e : Element) → slice_get faces q ≡ Some e → Has (picture_of m faces []) e
+has_face m faces q e at =
+    let sheet = Head ∷ Style ∷ Paper ∷ [] in (
+      suc (suc (suc q)),
+      still_there (sheet ++ faces ++ line_elements m ++ []) (Foot ∷ []) (suc (suc (suc q))) e
+          (still_there (sheet ++ faces ++ line_elements m) [] (suc (suc (suc q))) e (still_there (sheet ++ faces) (line_elements m) (suc (suc (suc q))) e at)),
+    )
+
+-- ---- which faces there are
+
+module _ (f : List ℕ → Tint) (ts : List Triangle) (labels : List (Option ℕ)) where
+  record IsGroupAt (g : ℕ) (groups : List (List ℕ)) (q : ℕ) (k : Tint) (n : ℕ) (names : List ℕ) (shown : List Triangle) : Type 0 where
+    number : n ≡ g + q
+    group : slice_get groups q ≡ Some names
+    tint : f names ≡ k
+    triangles : labelled_with n ts labels ≡ shown
+
+  face_at : (g : ℕ) (groups : List (List ℕ)) (q : ℕ) (k : Tint) (n : ℕ) (names : List ℕ) (shown : List Triangle) → slice_get (faces_from ts labels g (map f groups) groups) q ≡ Some (Face k n names shown) → IsGroupAt g groups q k n names shown
+  face_at g [] q k n names shown at = absurd (none-some (Face k n names shown) at)
+  face_at g (x ∷ xs) zero k n names shown at =
+      let s = same_face (f x) k g n x names (labelled_with g ts labels) shown (same_Some (Face (f x) g x (labelled_with g ts labels)) (Face k n names shown) at) in
+      record {
+        number = omega (arith, s.groups);
+        group = ap (λ (y : List ℕ). Some y) s.sectors;
+        tint = ap f (sym s.sectors) ∙ s.tints;
+        triangles = ap (λ (j : ℕ). labelled_with j ts labels) (sym s.groups) ∙ s.triangles;
+      }
+  face_at g (x ∷ xs) (suc q) k n names shown at =
+      let h = face_at (g + 1) xs q k n names shown at in
+      record { number = omega (arith, h.number); group = h.group; tint = h.tint; triangles = h.triangles }
+
+  face_there : (g : ℕ) (groups : List (List ℕ)) (q : ℕ) (names : List ℕ) (n : ℕ) → n ≡ g + q → slice_get groups q ≡ Some names → slice_get (faces_from ts labels g (map f groups) groups) q ≡ Some (Face (f names) n names (labelled_with n ts labels))
+  face_there g [] q names n e at = absurd (none-some names at)
+  face_there g (x ∷ xs) zero names n e at =
+      let same : g ≡ n = omega (arith, e) in
+      ap (λ (y : List ℕ). Some (Face (f y) g y (labelled_with g ts labels))) (same_Some x names at) ∙ ap (λ (j : ℕ). Some (Face (f names) j names (labelled_with j ts labels))) same
+  face_there g (x ∷ xs) (suc q) names n e at = face_there (g + 1) xs q names n (omega (arith, e)) at
+
+pub no_line_in_faces : (f : List ℕ → Tint) (ts : List Triangle) (labels : List (Option ℕ)) (g : ℕ) (groups : List (List ℕ)) → HasNoLine (faces_from ts labels g (map f groups) groups)
+no_line_in_faces f ts labels g [] i l (q, at) = none-some (Line i l) at
+no_line_in_faces f ts labels g (x ∷ xs) i l (zero, at) = line_is_none i l (f x) g x (labelled_with g ts labels) (sym (same_Some _ (Line i l) at))
+no_line_in_faces f ts labels g (x ∷ xs) i l (suc q, at) = no_line_in_faces f ts labels (g + 1) xs i l (q, at)
+
+-- ---- which triangles a face has
+
+label_told : (g : ℕ) (l : Option ℕ) → has_label g l ≡ true → l ≡ Some g
+label_told g None e = absurd (true≢false (sym e))
+label_told g (Some k) e = ap (λ (n : ℕ). Some n) (eqb-true k g e)
+
+labelled_more : (t : Triangle) (ts : List Triangle) (l : Option ℕ) (labels : List (Option ℕ)) (g : ℕ) (u : Triangle) → (n : ℕ) × (slice_get ts n ≡ Some u) × (label_of labels n ≡ Some g) → (n : ℕ) × (slice_get (t ∷ ts) n ≡ Some u) × (label_of (l ∷ labels) n ≡ Some g)
+labelled_more t ts l labels g u (n, at, label) = (suc n, at, label)
+
+is_labelled : (g : ℕ) (ts : List Triangle) (labels : List (Option ℕ)) (u : Triangle) → Contains (labelled_with g ts labels) u → (n : ℕ) × (slice_get ts n ≡ Some u) × (label_of labels n ≡ Some g)
+is_labelled g [] labels u c = absurd (contains_none u c)
+is_labelled g (t ∷ ts) [] u c = absurd (contains_none u c)
+is_labelled g (t ∷ ts) (l ∷ labels) u c = go (has_label g l) refl c (λ r. labelled_more t ts l labels g u (is_labelled g ts labels u r))
+  where
+    go : (b : Bool) → has_label g l ≡ b → Contains (cond b (t ∷ labelled_with g ts labels) (labelled_with g ts labels)) u
+        → (Contains (labelled_with g ts labels) u → (n : ℕ) × (slice_get (t ∷ ts) n ≡ Some u) × (label_of (l ∷ labels) n ≡ Some g)) → (n : ℕ) × (slice_get (t ∷ ts) n ≡ Some u) × (label_of (l ∷ labels) n ≡ Some g)
+    go true e d rest = ⊎_elim (λ same. (zero, ap (λ (x : Triangle). Some x) same, label_told g l e)) rest (contains_cons u t (labelled_with g ts labels) d)
+    go false e d rest = rest d
+
+has_labelled : (g : ℕ) (ts : List Triangle) (labels : List (Option ℕ)) (u : Triangle) (n : ℕ) → slice_get ts n ≡ Some u → label_of labels n ≡ Some g → Contains (labelled_with g ts labels) u
+has_labelled g [] labels u n at label = absurd (none-some u at)
+has_labelled g (t ∷ ts) [] u n at label = absurd (none-some g label)
+has_labelled g (t ∷ ts) (l ∷ labels) u zero at label =
+    subst (λ (b : Bool). Contains (cond b (t ∷ labelled_with g ts labels) (labelled_with g ts labels)) u) (sym (ap (λ (o : Option ℕ). has_label g o) label ∙ eq-eqb g g refl))
+    (subst (λ (x : Triangle). Contains (t ∷ labelled_with g ts labels) x) (same_Some t u at) (contains_here t (labelled_with g ts labels)))
+has_labelled g (t ∷ ts) (l ∷ labels) u (suc n) at label = go (has_label g l) (has_labelled g ts labels u n at label)
+  where
+    go : (b : Bool) → Contains (labelled_with g ts labels) u → Contains (cond b (t ∷ labelled_with g ts labels) (labelled_with g ts labels)) u
+    go true r = contains_there u t (labelled_with g ts labels) r
+    go false r = r
+
+from_labelled : (g : ℕ) (ts : List Triangle) (labels : List (Option ℕ)) (j : ℕ) (u : Triangle) → slice_get (labelled_with g ts labels) j ≡ Some u → (n : ℕ) × (slice_get ts n ≡ Some u)
+from_labelled g [] labels j u at = absurd (none-some u at)
+from_labelled g (t ∷ ts) [] j u at = absurd (none-some u at)
+from_labelled g (t ∷ ts) (l ∷ labels) j u at = go (has_label g l) j at (from_labelled g ts labels)
+  where
+    go : (b : Bool) (j : ℕ) → slice_get (cond b (t ∷ labelled_with g ts labels) (labelled_with g ts labels)) j ≡ Some u
+        → ((j : ℕ) (u : Triangle) → slice_get (labelled_with g ts labels) j ≡ Some u → (n : ℕ) × (slice_get ts n ≡ Some u)) → (n : ℕ) × (slice_get (t ∷ ts) n ≡ Some u)
+    go true zero at rest = (zero, at)
+    go true (suc j) at rest = let h = rest j u at in (suc h.0, h.1)
+    go false j at rest = let h = rest j u at in (suc h.0, h.1)
+
+-- they keep the order
+ordered : (g : ℕ) (ts : List Triangle) (labels : List (Option ℕ)) → Ascends IsAbove ts → Ascends IsAbove (labelled_with g ts labels)
+ordered g [] labels h i j t u lt at there = absurd (none-some t at)
+ordered g (x ∷ ts) [] h i j t u lt at there = absurd (none-some t at)
+ordered g (x ∷ ts) (l ∷ labels) h i j t u lt at there = go (has_label g l) i j lt at there (ordered g ts labels (λ p q v w less a b. h (suc p) (suc q) v w (omega arith) a b))
+  where
+    go : (b : Bool) (i j : ℕ) → i < j → slice_get (cond b (x ∷ labelled_with g ts labels) (labelled_with g ts labels)) i ≡ Some t → slice_get (cond b (x ∷ labelled_with g ts labels) (labelled_with g ts labels)) j ≡ Some u
+        → Ascends IsAbove (labelled_with g ts labels) → IsAbove t u
+    go true zero zero lt at there rest = absurd (omega arith)
+    go true zero (suc j) lt at there rest = let k = from_labelled g ts labels j u there in h zero (suc k.0) t u (omega arith) at k.1
+    go true (suc i) zero lt at there rest = absurd (omega arith)
+    go true (suc i) (suc j) lt at there rest = rest i j t u (omega arith) at there
+    go false i j lt at there rest = rest i j t u lt at there
+
+-- ---- what tints tell
+
+any_in : (a : ℕ) (names : List ℕ) → list_any (λ b. b == a) names ≡ true → Contains names a
+any_in a [] e = absurd (true≢false (sym e))
+any_in a (x ∷ xs) e = go (x == a) refl e (any_in a xs)
+  where
+    go : (b : Bool) → (x == a) ≡ b → (b || list_any (λ y. y == a) xs) ≡ true → (list_any (λ y. y == a) xs ≡ true → Contains xs a) → Contains (x ∷ xs) a
+    go true q r rest = subst (λ (y : ℕ). Contains (x ∷ xs) y) (eqb-true x a q) (contains_here x xs)
+    go false q r rest = contains_there a x xs (rest r)
+
+any_not : (a : ℕ) (names : List ℕ) → list_any (λ b. b == a) names ≡ false → Contains names a → ⊥
+any_not a [] e c = contains_none a c
+any_not a (x ∷ xs) e c = go (x == a) refl e (any_not a xs)
+  where
+    go : (b : Bool) → (x == a) ≡ b → (b || list_any (λ y. y == a) xs) ≡ false → (list_any (λ y. y == a) xs ≡ false → Contains xs a → ⊥) → ⊥
+    go true q r rest = true≢false r
+    go false q r rest = ⊎_elim (eqb-false x a q) (rest r) (contains_cons a x xs c)
+
+all_in : (p : ℕ → Bool) (names : List ℕ) → list_all p names ≡ true → (b : ℕ) → Contains names b → p b ≡ true
+all_in p [] e b c = absurd (contains_none b c)
+all_in p (x ∷ xs) e b c = go (p x) refl e (λ r. all_in p xs r b)
+  where
+    go : (t : Bool) → p x ≡ t → (t && list_all p xs) ≡ true → (list_all p xs ≡ true → Contains xs b → p b ≡ true) → p b ≡ true
+    go true q r rest = ⊎_elim (λ same. ap p (sym same) ∙ q) (rest r) (contains_cons b x xs c)
+    go false q r rest = absurd (true≢false (sym r))
+
+all_not : (p : ℕ → Bool) (names : List ℕ) → list_all p names ≡ false → (b : ℕ) × Contains names b × (p b ≡ false)
+all_not p [] e = absurd (true≢false e)
+all_not p (x ∷ xs) e = go (p x) refl e (all_not p xs)
+  where
+    go : (t : Bool) → p x ≡ t → (t && list_all p xs) ≡ false → (list_all p xs ≡ false → (b : ℕ) × Contains xs b × (p b ≡ false)) → (b : ℕ) × Contains (x ∷ xs) b × (p b ≡ false)
+    go true q r rest = let h = rest r in (h.0, contains_there h.0 x xs h.1, h.2)
+    go false q r rest = (x, contains_here x xs, q)
+
+told_other : (t : TableParts) (a : ℕ) (names : List ℕ) (s : Bool) → list_all (λ b. table_bit t.bytes (a * t.n + b) == 1) names ≡ s → (Contains names a → ⊥) → TellsRow t a names (cond s tint.Set tint.Clear)
+told_other t a names true e none = (none, λ b c. eqb-true _ 1 (all_in (λ b. table_bit t.bytes (a * t.n + b) == 1) names e b c))
+told_other t a names false e none = let h = all_not (λ b. table_bit t.bytes (a * t.n + b) == 1) names e in (none, (h.0, h.1, eqb-false _ 1 h.2))
+
+told : (t : TableParts) (a : ℕ) (names : List ℕ) → TellsRow t a names (row_tint t a names)
+told t a names = go (list_any (λ b. b == a) names) refl
+  where
+    go : (s : Bool) → list_any (λ b. b == a) names ≡ s → TellsRow t a names (cond s tint.Source (cond (list_all (λ b. table_bit t.bytes (a * t.n + b) == 1) names) tint.Set tint.Clear))
+    go true e = any_in a names e
+    go false e = told_other t a names (list_all (λ b. table_bit t.bytes (a * t.n + b) == 1) names) refl (any_not a names e)
+
+-- ---- the whole
+
+pub row_shown : (m : Map) (groups : List (List ℕ)) (ts : List Triangle) (labels : List (Option ℕ)) (t : TableParts) (a : ℕ) → ShowsRow groups ts labels t a (row_picture m groups ts labels t a)
+row_shown m groups ts labels t a = record { each = each; group = group; row = row; triangles = triangles; order = order; once = once }
+  where
+    each : (g : ℕ) (names : List ℕ) → slice_get groups g ≡ Some names → (k : Tint) × (shown : List Triangle) × Has (row_picture m groups ts labels t a) (Face k g names shown)
+    each g names at = (row_tint t a names, labelled_with g ts labels, has_face m (faces_from ts labels 0 (map (row_tint t a) groups) groups) g _ (face_there (row_tint t a) ts labels 0 groups g names g (omega arith) at))
+
+    placed : (p : ℕ) (k : Tint) (g : ℕ) (names : List ℕ) (shown : List Triangle) → slice_get (row_picture m groups ts labels t a) p ≡ Some (Face k g names shown) → (q : ℕ) × (p ≡ suc (suc (suc q))) × IsGroupAt (row_tint t a) ts labels 0 groups q k g names shown
+    placed p k g names shown at = let h = at_place m (faces_from ts labels 0 (map (row_tint t a) groups) groups) p k g names shown at in (h.0, h.1, face_at (row_tint t a) ts labels 0 groups h.0 k g names shown h.2)
+
+    group : (k : Tint) (g : ℕ) (names : List ℕ) (shown : List Triangle) → Has (row_picture m groups ts labels t a) (Face k g names shown) → slice_get groups g ≡ Some names
+    group k g names shown (p, at) = let h = placed p k g names shown at in let same : h.0 ≡ g = omega (arith, h.2.number) in subst (λ (j : ℕ). slice_get groups j ≡ Some names) same h.2.group
+
+    row : (k : Tint) (g : ℕ) (names : List ℕ) (shown : List Triangle) → Has (row_picture m groups ts labels t a) (Face k g names shown) → TellsRow t a names k
+    row k g names shown (p, at) = let h = placed p k g names shown at in subst (λ (s : Tint). TellsRow t a names s) h.2.tint (told t a names)
+
+    triangles : (k : Tint) (g : ℕ) (names : List ℕ) (shown : List Triangle) → Has (row_picture m groups ts labels t a) (Face k g names shown) → (u : Triangle) → Contains shown u ↔ ((n : ℕ) × (slice_get ts n ≡ Some u) × (label_of labels n ≡ Some g))
+    triangles k g names shown (p, at) u =
+        let h = placed p k g names shown at in (
+          (λ c. is_labelled g ts labels u (subst (λ (us : List Triangle). Contains us u) (sym h.2.triangles) c)),
+          (λ r. subst (λ (us : List Triangle). Contains us u) h.2.triangles (has_labelled g ts labels u r.0 r.1 r.2)),
+        )
+
+    order : (k : Tint) (g : ℕ) (names : List ℕ) (shown : List Triangle) → Has (row_picture m groups ts labels t a) (Face k g names shown) → Ascends IsAbove ts → Ascends IsAbove shown
+    order k g names shown (p, at) up = let h = placed p k g names shown at in subst (λ (us : List Triangle). Ascends IsAbove us) h.2.triangles (ordered g ts labels up)
+
+    once : (i j g : ℕ) (k p : Tint) (names others : List ℕ) (shown more : List Triangle) → slice_get (row_picture m groups ts labels t a) i ≡ Some (Face k g names shown) → slice_get (row_picture m groups ts labels t a) j ≡ Some (Face p g others more) → i ≡ j
+    once i j g k p names others shown more at there =
+        let h = placed i k g names shown at in
+        let r = placed j p g others more there in
+        omega (arith, h.1, r.1, h.2.number, r.2.number)

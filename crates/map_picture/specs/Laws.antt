@@ -1,0 +1,86 @@
+-- What a picture shows: its lines are those of the map, its faces those of the groups, and their tints the table's row.
+use Rattle.std.specs.Prelude.{◌≡◌, ◌≢◌, ℕ, ◌^◌, ◌<◌, ◌≤◌, ◌⊎◌, ◌↔◌, List, [], Option, Some, true, false, Contains, length, slice_get, pos, ◌+ℤ◌, ◌-ℤ◌}
+use Rattle.sight_names.specs.declared.names.Pt.{Pt}
+use Rattle.sight_names.specs.declared.names.Triangle.{Triangle}
+use Rattle.sight_names.specs.Map.{Map, MapLine, line_at}
+use Rattle.sight_names.specs.Mesh.{IsAbove, label_of}
+use Rattle.sight_names.specs.Order.{Ascends}
+use Rattle.reject_bits.specs.Parts.{Rejects, TableParts}
+use Rattle.map_picture.specs.declared.frame.Frame.{Frame}
+use Rattle.map_picture.specs.declared.tint.Tint.{Tint}
+use Rattle.map_picture.specs.declared.tint.Tint.TheVariants as tint
+use Rattle.map_picture.specs.Bytes.{id_of}
+use Rattle.map_picture.specs.Frame.{across, down, frame_of, height_of, width_of}
+use Rattle.map_picture.specs.Picture.{Element, Face, Line, picture_of, plan_picture, row_picture}
+
+-- the picture has this element
+abbrev pub Has : List Element → Element → Type 0
+Has picture e = (k : ℕ) × (slice_get picture k ≡ Some e)
+
+abbrev pub HasNoLine : List Element → Type 0
+HasNoLine elements = (i : ℕ) (l : MapLine) → ¬ Has elements (Line i l)
+
+-- passable lines come before solid ones, and those of one kind by their record numbers
+abbrev pub IsLineBefore : ℕ → MapLine → ℕ → MapLine → Type 0
+IsLineBefore i l n o = ((l.solid ≡ false) × (o.solid ≡ true)) ⊎ ((l.solid ≡ o.solid) × (i < n))
+
+-- ---- lines
+
+-- each line of the map is there with its record number, its two ends and whether it is solid; nothing else is there as a
+-- line, and none is there twice
+pub record ShowsLines (m : Map) (picture : List Element) : Type 0 where
+  pub exactly : (i : ℕ) (l : MapLine) → Has picture (Line i l) ↔ (line_at m i ≡ Some l)
+  pub order : (j k i n : ℕ) (l o : MapLine) → j < k → slice_get picture j ≡ Some (Line i l) → slice_get picture k ≡ Some (Line n o) → IsLineBefore i l n o
+  pub once : (j k i : ℕ) (l o : MapLine) → slice_get picture j ≡ Some (Line i l) → slice_get picture k ≡ Some (Line i o) → j ≡ k
+
+-- every picture of a map shows its lines, whatever further elements it has, if none of these is a line
+abbrev pub LinesAreShown : Type 0
+LinesAreShown = (m : Map) (under over : List Element) → HasNoLine under → HasNoLine over → ShowsLines m (picture_of m under over)
+
+-- ---- the row
+
+-- a group that names the sector is painted as the source; another one as set where each of its bits is, and else as clear
+abbrev pub TellsRow : TableParts → ℕ → List ℕ → Tint → Type 0
+TellsRow t a names tint.Source = Contains names a
+TellsRow t a names tint.Set = ¬ Contains names a × ((b : ℕ) → Contains names b → Rejects t a b)
+TellsRow t a names tint.Clear = ¬ Contains names a × ((b : ℕ) × Contains names b × ¬ Rejects t a b)
+
+-- each face of a row's picture is a group's, with its names, and its tint tells what the table has
+pub record ShowsRow (groups : List (List ℕ)) (ts : List Triangle) (labels : List (Option ℕ)) (t : TableParts) (a : ℕ) (picture : List Element) : Type 0 where
+  pub each : (g : ℕ) (names : List ℕ) → slice_get groups g ≡ Some names → (k : Tint) × (shown : List Triangle) × Has picture (Face k g names shown)
+  pub group : (k : Tint) (g : ℕ) (names : List ℕ) (shown : List Triangle) → Has picture (Face k g names shown) → slice_get groups g ≡ Some names
+  pub row : (k : Tint) (g : ℕ) (names : List ℕ) (shown : List Triangle) → Has picture (Face k g names shown) → TellsRow t a names k
+  -- its triangles are those that the group labels
+  pub triangles : (k : Tint) (g : ℕ) (names : List ℕ) (shown : List Triangle) → Has picture (Face k g names shown) → (u : Triangle) → Contains shown u ↔ ((n : ℕ) × (slice_get ts n ≡ Some u) × (label_of labels n ≡ Some g))
+  -- .. each once, in the order of the mesh
+  pub order : (k : Tint) (g : ℕ) (names : List ℕ) (shown : List Triangle) → Has picture (Face k g names shown) → Ascends IsAbove ts → Ascends IsAbove shown
+  -- and each group has one face
+  pub once : (i j g : ℕ) (k p : Tint) (names others : List ℕ) (shown more : List Triangle) → slice_get picture i ≡ Some (Face k g names shown) → slice_get picture j ≡ Some (Face p g others more) → i ≡ j
+
+abbrev pub RowIsShown : Type 0
+RowIsShown = (m : Map) (groups : List (List ℕ)) (ts : List Triangle) (labels : List (Option ℕ)) (t : TableParts) (a : ℕ) → ShowsRow groups ts labels t a (row_picture m groups ts labels t a)
+
+-- ---- ids
+
+-- no two elements have one id
+abbrev pub IdsAreOnce : List Element → Type 0
+IdsAreOnce picture = (j k : ℕ) (e f : Element) → slice_get picture j ≡ Some e → slice_get picture k ≡ Some f → id_of e ≢ [] → id_of e ≡ id_of f → j ≡ k
+
+-- In either picture; so a line's id, which is its record number, is that of no other element. A map has fewer lines and groups.
+abbrev pub PlanIdsAreOnce : Type 0
+PlanIdsAreOnce = (m : Map) → length m.lines ≤ 2 ^ 64 → IdsAreOnce (plan_picture m)
+
+abbrev pub RowIdsAreOnce : Type 0
+RowIdsAreOnce = (m : Map) (groups : List (List ℕ)) (ts : List Triangle) (labels : List (Option ℕ)) (t : TableParts) (a : ℕ) → length m.lines ≤ 2 ^ 64 → length groups ≤ 2 ^ 64 → IdsAreOnce (row_picture m groups ts labels t a)
+
+-- ---- places
+
+-- The point's coordinates can be read back from its place, and the place is on the picture.
+pub record IsReadBack (f : Frame) (p : Pt) : Type 0 where
+  pub x : p.x ≡ f.left +ℤ pos (across f p)
+  pub y : p.y ≡ f.top -ℤ pos (down f p)
+  pub wide : across f p ≤ width_of f
+  pub high : down f p ≤ height_of f
+
+abbrev pub PointsAreReadBack : Type 0
+PointsAreReadBack = (points : List Pt) (p : Pt) → Contains points p → IsReadBack (frame_of points) p

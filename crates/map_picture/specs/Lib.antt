@@ -1,0 +1,5 @@
+pub mod Frame
+pub mod Picture
+pub mod Bytes
+pub mod Chains
+pub mod Laws

@@ -1,0 +1,141 @@
+//! The frame of a picture, and the sizes that follow from it.
+
+ghost use Rattle.std.specs.Prelude.{◌≡◌, ◌^◌, ◌<◌, ◌≤◌};
+ghost use Rattle.std.specs.Int.{int_max, int_min};
+ghost use Rattle.map_picture.specs.Frame.{across as the_across, down as the_down, frame_of as the_frame_of, height_of, sizes_for as the_sizes_for, sizes_of as the_sizes_of, widened as widened_of, widened_by as the_widened_by, width_of};
+
+use sight_names::Pt;
+
+/// The least and greatest coordinates of the points, in map units.
+#[derive(Clone, Copy, Debug, PartialEq, Eq)]
+pub struct Frame {
+    pub left: i16,
+    pub right: i16,
+    pub bottom: i16,
+    pub top: i16,
+}
+
+fn lesser(a: i16, b: i16) -> i16
+    ensures { result ≡ int_min a b }
+{
+    a.min(b)
+}
+
+fn greater(a: i16, b: i16) -> i16
+    ensures { result ≡ int_max a b }
+{
+    a.max(b)
+}
+
+fn widened(frame: Frame, p: Pt) -> Frame
+    ensures { result ≡ widened_of frame p }
+{
+    Frame {
+        left: lesser(frame.left, p.x),
+        right: greater(frame.right, p.x),
+        bottom: lesser(frame.bottom, p.y),
+        top: greater(frame.top, p.y),
+    }
+}
+
+fn widened_by(frame: Frame, points: &[Pt]) -> Frame
+    ensures { result ≡ the_widened_by frame points.now }
+{
+    let mut all = frame;
+    for p in points {
+        all = widened(all, *p);
+    }
+    all
+}
+
+/// The least frame that has all the points; where there is none, that of the origin.
+pub fn frame_of(points: &[Pt]) -> Frame
+    ensures { result ≡ the_frame_of points.now }
+{
+    if points.is_empty() {
+        return Frame {
+            left: 0,
+            right: 0,
+            bottom: 0,
+            top: 0,
+        };
+    }
+    let p = points[0];
+    let one = Frame {
+        left: p.x,
+        right: p.x,
+        bottom: p.y,
+        top: p.y,
+    };
+    widened_by(one, &points[1..])
+}
+
+/// From the left to the right.
+fn width(frame: Frame) -> u64
+    ensures width { result ≡ width_of frame }
+    ensures short { result < 2 ^ 16 }
+{
+    u64::from(frame.right.abs_diff(frame.left))
+}
+
+/// From the bottom to the top.
+fn height(frame: Frame) -> u64
+    ensures height { result ≡ height_of frame }
+    ensures short { result < 2 ^ 16 }
+{
+    u64::from(frame.top.abs_diff(frame.bottom))
+}
+
+/// The sizes of a picture, in map units, and its sides in pixels.
+#[derive(Clone, Copy)]
+pub struct Sizes {
+    pub margin: u64,
+    pub stroke: u64,
+    pub wide: u64,
+    pub high: u64,
+    pub wide_pixels: u64,
+    pub high_pixels: u64,
+}
+
+fn sizes_for(width: u64, height: u64) -> Sizes
+    requires width { width < 2 ^ 16 }
+    requires height { height < 2 ^ 16 }
+    ensures sizes { result ≡ the_sizes_for width height }
+    ensures thin { result.stroke ≤ 110 }
+{
+    let longer = width.max(height);
+    let margin = longer / 50 + 1;
+    let wide = width + 2 * margin;
+    let high = height + 2 * margin;
+    let all = longer + 2 * margin;
+    Sizes {
+        margin,
+        stroke: longer / 600 + 1,
+        wide,
+        high,
+        wide_pixels: 1000 * wide / all,
+        high_pixels: 1000 * high / all,
+    }
+}
+
+/// The sizes of a picture with this frame.
+pub fn sizes_of(frame: Frame) -> Sizes
+    ensures sizes { result ≡ the_sizes_of frame }
+    ensures thin { result.stroke ≤ 110 }
+{
+    sizes_for(width(frame), height(frame))
+}
+
+/// How far the point is from the left edge.
+pub fn across(frame: Frame, p: Pt) -> u64
+    ensures { result ≡ the_across frame p }
+{
+    u64::from(p.x.abs_diff(frame.left))
+}
+
+/// How far the point is below the upper edge.
+pub fn down(frame: Frame, p: Pt) -> u64
+    ensures { result ≡ the_down frame p }
+{
+    u64::from(frame.top.abs_diff(p.y))
+}

@@ -1,0 +1,77 @@
+//! How the faces of a group are painted.
+
+ghost use Rattle.std.specs.Prelude.{◌≡◌, ◌<◌, ◌*◌, ◌+◌, ◌==◌, All, IfOk, map};
+ghost use Rattle.std.specs.List.{list_all};
+ghost use Rattle.sight_names.specs.Table.{table_bit};
+ghost use Rattle.map_picture.specs.Picture.{row_tint as the_row_tint};
+
+use reject_bits::Table;
+use sight_names::{Items, Memory};
+use std::alloc::Global;
+
+/// What a picture of a row tells of a group of sectors.
+#[derive(Clone, Copy, Debug, PartialEq, Eq)]
+pub enum Tint {
+    /// It names the sector whose row it is.
+    Source,
+    /// The table has a clear bit for one of its sectors.
+    Clear,
+    /// The table has a set bit for each of its sectors.
+    Set,
+}
+
+/// Whether the bit of the pair is set.
+fn is_set(table: &Table, a: u16, b: u16) -> bool
+    requires row { a < table.now.n }
+    requires name { b < table.now.n }
+    ensures { result ≡ (table_bit table.now.bytes (a * table.now.n + b) == 1) }
+{
+    table.rejects(a, b)
+}
+
+/// Whether the bit of each of these sectors is set in the row.
+fn are_set(table: &Table, a: u16, names: &[u16]) -> bool
+    requires row { a < table.now.n }
+    requires names { All (λ b. b < table.now.n) names.now }
+    ensures { result ≡ list_all (λ b. table_bit table.now.bytes (a * table.now.n + b) == 1) names.now }
+{
+    for b in names {
+        if !is_set(table, a, *b) {
+            return false;
+        }
+    }
+    true
+}
+
+/// What the row of sector `a` says of a group.
+fn row_tint(table: &Table, a: u16, names: &[u16]) -> Tint
+    requires row { a < table.now.n }
+    requires names { All (λ b. b < table.now.n) names.now }
+    ensures { result ≡ the_row_tint table.now a names.now }
+{
+    if names.contains(&a) {
+        Tint::Source
+    } else if are_set(table, a, names) {
+        Tint::Set
+    } else {
+        Tint::Clear
+    }
+}
+
+/// What the row of sector `a` says of each group.
+pub fn row_tints(
+    alloc: Global,
+    groups: &[Items<u16>],
+    table: &Table,
+    a: u16,
+) -> Result<Vec<Tint>, Memory>
+    requires row { a < table.now.n }
+    requires names { All (All (λ b. b < table.now.n)) groups.now }
+    ensures { IfOk result (λ v. v.items ≡ map (the_row_tint table.now a) groups.now) }
+{
+    let mut tints = Vec::with_capacity(alloc, groups.len())?;
+    for group in groups {
+        tints.push(row_tint(table, a, group.as_slice()))?;
+    }
+    Ok(tints)
+}
