@@ -1,6 +1,6 @@
 -- The pieces of a picture put together.
 use Rattle.std.proofs.Common.{◌≡◌, ◌∙◌, ℕ, ◌+◌, ◌<◌, List, [], ◌∷◌, ◌++◌, Option, codes, length, drop, get_or, sym, ap}
-use Rattle.std.proofs.lemmas.List.{drop_more}
+use Rattle.std.proofs.lemmas.List.{append-nil, drop_more}
 use Rattle.std.proofs.lemmas.List.Concat.{flat_map-append}
 use Rattle.sight_names.specs.declared.names.Pt.{Pt}
 use Rattle.sight_names.specs.declared.names.Triangle.{Triangle}
@@ -45,6 +45,25 @@ drawn f m under over none a b c d e empty sheet first lines second foot =
     let lines' = one_more f m (Head ∷ Style ∷ Paper ∷ [] ++ under) (line_elements m) b c first' lines in
     let second' = one_more f m (Head ∷ Style ∷ Paper ∷ [] ++ under ++ line_elements m) over c d lines' second in
     one_more f m (Head ∷ Style ∷ Paper ∷ [] ++ under ++ line_elements m ++ over) (Foot ∷ []) d e second' foot
+
+-- .. in two parts: as far as what lies under the lines, and from there
+pub begun : (f : Frame) (m : Map) (under : List Element) (none a b : List ℕ) → none ≡ [] → a ≡ none ++ spelled f m (Head ∷ Style ∷ Paper ∷ []) → b ≡ a ++ spelled f m under → b ≡ spelled f m (Head ∷ Style ∷ Paper ∷ [] ++ under)
+begun f m under none a b empty sheet first = one_more f m (Head ∷ Style ∷ Paper ∷ []) under a b (one_more f m [] (Head ∷ Style ∷ Paper ∷ []) none a empty sheet) first
+
+pub drawn_on : (f : Frame) (m : Map) (under over : List Element) (b c d e : List ℕ) → b ≡ spelled f m (Head ∷ Style ∷ Paper ∷ [] ++ under)
+    → c ≡ b ++ spelled f m (line_elements m) → d ≡ c ++ spelled f m over → e ≡ d ++ spelled f m (Foot ∷ []) → e ≡ spelled f m (picture_of m under over)
+drawn_on f m under over b c d e ground lines second foot =
+    let lines' = one_more f m (Head ∷ Style ∷ Paper ∷ [] ++ under) (line_elements m) b c ground lines in
+    let second' = one_more f m (Head ∷ Style ∷ Paper ∷ [] ++ under ++ line_elements m) over c d lines' second in
+    one_more f m (Head ∷ Style ∷ Paper ∷ [] ++ under ++ line_elements m ++ over) (Foot ∷ []) d e second' foot
+
+-- one element alone
+pub alone : (f : Frame) (m : Map) (x : Element) (a b : List ℕ) → b ≡ a ++ bytes_of f m x → b ≡ a ++ spelled f m (x ∷ [])
+alone f m x a b made = made ∙ ap (λ (l : List ℕ). a ++ l) (sym (append-nil (bytes_of f m x)))
+
+-- .. behind the faces
+pub entered_on : (f : Frame) (m : Map) (faces : List Element) (x : Element) (a b : List ℕ) → a ≡ spelled f m (Head ∷ Style ∷ Paper ∷ [] ++ faces) → b ≡ a ++ bytes_of f m x → b ≡ spelled f m (Head ∷ Style ∷ Paper ∷ [] ++ (faces ++ x ∷ []))
+entered_on f m faces x a b ground made = one_more f m (Head ∷ Style ∷ Paper ∷ [] ++ faces) (x ∷ []) a b ground (alone f m x a b made)
 
 -- in the frame of the map
 pub framed : (p : PlanParts) (f : Frame) (points : List Pt) (es : List Element) (bytes : List ℕ) → IsPlan p → f ≡ frame_of points → points ≡ p.points → bytes ≡ spelled f (map_of p) es → bytes ≡ svg_of (map_of p) es

@@ -1,19 +1,23 @@
--- The faces of a row's picture: which there are, what their triangles are, and what their tints tell.
-use Rattle.std.proofs.Common.{◌≡◌, ◌≢◌, ◌∙◌, ℕ, zero, suc, ◌+◌, ◌*◌, ◌<◌, ◌==◌, ◌&&◌, ◌||◌, ◌⊎◌, ⊎_elim, ◌↔◌, List, [], ◌∷◌, ◌++◌, map, Option, Some, None, Bool, true, false, cond, slice_get, Contains, refl, sym, ap, subst, eq-eqb, arith}
+-- The faces of a picture: which there are, what their triangles are, and what their tints tell.
+use Rattle.std.proofs.Common.{◌≡◌, ◌∙◌, ℕ, zero, suc, ◌+◌, ◌*◌, ◌<◌, ◌==◌, ◌&&◌, ◌||◌, ⊎_elim, ◌↔◌, List, [], ◌∷◌, ◌++◌, map, Option, Some, None, Bool, true, false, cond, slice_get, Contains, refl, sym, ap, subst, eq-eqb, arith}
 use Rattle.std.specs.List.{AllByRecursion, list_all, list_any}
 use Rattle.std.proofs.lemmas.Bool.{true≢false, eqb-true, eqb-false}
 use Rattle.std.proofs.lemmas.Option.{none-some, same_Some}
-use Rattle.list_base.proofs.Lists.{all_join, all_at, contains_here, contains_there, contains_none, contains_cons}
+use Rattle.std.proofs.lemmas.List.{append-nil}
+use Rattle.list_base.proofs.Lists.{all_so, contains_here, contains_there, contains_none, contains_cons}
+use Rattle.sight_names.specs.declared.names.Ray.{Ray}
 use Rattle.sight_names.specs.declared.names.Triangle.{Triangle}
-use Rattle.sight_names.specs.Map.{Map, MapLine}
+use Rattle.sight_names.specs.Map.{Map, MapLine, line_at}
 use Rattle.sight_names.specs.Mesh.{IsAbove, label_of}
 use Rattle.sight_names.specs.Order.{Ascends}
 use Rattle.sight_names.specs.Table.{table_bit}
 use Rattle.reject_bits.specs.Parts.{TableParts}
+use Rattle.map_picture.specs.declared.pair.Stop.{Stop}
 use Rattle.map_picture.specs.declared.tint.Tint.{Tint}
 use Rattle.map_picture.specs.declared.tint.Tint.TheVariants as tint
-use Rattle.map_picture.specs.Picture.{Element, Head, Style, Paper, Face, Line, Foot, entry_if, faces_from, has_label, labelled_with, line_elements, line_if, lines_from, picture_of, row_picture, row_tint}
-use Rattle.map_picture.specs.Laws.{Has, HasNoLine, ShowsRow, TellsRow}
+use Rattle.map_picture.specs.Picture.{Element, Head, Style, Paper, Face, Line, Entered, Stops, Foot, blind_picture, faces_from, has_label, labelled_with, numbered, pair_faces, pair_tint, picture_of, row_picture, row_tint, sight_between, sight_elements, sight_picture}
+use Rattle.map_picture.specs.Laws.{Has, HasNoLine, ShowsFaces, TellsPair, TellsRow}
+use Rattle.map_picture.proofs.Pieces.{NotSo, at_under, has_under, in_front, still_there}
 
 record SameFace (k p : Tint) (g n : ℕ) (names others : List ℕ) (shown more : List Triangle) : Type 0 where
   tints : k ≡ p
@@ -32,29 +36,6 @@ NoFace e = (k : Tint) (g : ℕ) (names : List ℕ) (shown : List Triangle) → e
 line_is_none : (i : ℕ) (l : MapLine) → NoFace (Line i l)
 line_is_none i l k g names shown e = cc
 
-none_if : (solid : Bool) (i : ℕ) (l : MapLine) → AllByRecursion NoFace (line_if solid i l)
-none_if true i l = go l.solid
-  where
-    go : (b : Bool) → AllByRecursion NoFace (cond b (Line i l ∷ []) [])
-    go true = (line_is_none i l, tt)
-    go false = tt
-none_if false i l = go l.solid
-  where
-    go : (b : Bool) → AllByRecursion NoFace (cond b [] (Line i l ∷ []))
-    go true = tt
-    go false = (line_is_none i l, tt)
-
-none_in_entry : (solid : Bool) (i : ℕ) (o : Option MapLine) → AllByRecursion NoFace (entry_if solid i o)
-none_in_entry solid i None = tt
-none_in_entry solid i (Some l) = none_if solid i l
-
-none_in_lines : (solid : Bool) (i : ℕ) (es : List (Option MapLine)) → AllByRecursion NoFace (lines_from solid i es)
-none_in_lines solid i [] = tt
-none_in_lines solid i (o ∷ es) = all_join NoFace (entry_if solid i o) (lines_from solid (i + 1) es) (none_in_entry solid i o) (none_in_lines solid (i + 1) es)
-
-none_in_elements : (m : Map) → AllByRecursion NoFace (line_elements m)
-none_in_elements m = all_join NoFace (lines_from false 0 m.lines) (lines_from true 0 m.lines) (none_in_lines false 0 m.lines) (none_in_lines true 0 m.lines)
-
 head_is_none : NoFace Head
 head_is_none k g names shown e = cc
 
@@ -69,37 +50,20 @@ foot_is_none k g names shown e = cc
 
 -- ---- where the faces are
 
-in_front : (xs ys : List Element) (p : ℕ) (k : Tint) (g : ℕ) (names : List ℕ) (shown : List Triangle) → AllByRecursion NoFace ys → slice_get (xs ++ ys) p ≡ Some (Face k g names shown) → slice_get xs p ≡ Some (Face k g names shown)
-in_front [] ys p k g names shown h at = absurd (all_at NoFace ys h p (Face k g names shown) at k g names shown refl)
-in_front (x ∷ xs) ys zero k g names shown h at = at
-in_front (x ∷ xs) ys (suc p) k g names shown h at = in_front xs ys p k g names shown h at
+abbrev IsFace : Element → Type 0
+IsFace e = (k : Tint) × (g : ℕ) × (names : List ℕ) × (shown : List Triangle) × (e ≡ Face k g names shown)
 
-still_there : (xs ys : List Element) (p : ℕ) (e : Element) → slice_get xs p ≡ Some e → slice_get (xs ++ ys) p ≡ Some e
-still_there [] ys p e at = absurd (none-some e at)
-still_there (x ∷ xs) ys zero e at = at
-still_there (x ∷ xs) ys (suc p) e at = still_there xs ys p e at
+not_face : (e : Element) → NoFace e → IsFace e → ⊥
+not_face e h (k, g, names, shown, is) = h k g names shown is
 
--- the place of a face is three behind its place among the faces
-behind_sheet : (faces : List Element) (p : ℕ) (k : Tint) (g : ℕ) (names : List ℕ) (shown : List Triangle) → slice_get (Head ∷ Style ∷ Paper ∷ [] ++ faces) p ≡ Some (Face k g names shown) → (q : ℕ) × (p ≡ suc (suc (suc q))) × (slice_get faces q ≡ Some (Face k g names shown))
-behind_sheet faces zero k g names shown at = absurd (head_is_none k g names shown (same_Some Head _ at))
-behind_sheet faces (suc zero) k g names shown at = absurd (style_is_none k g names shown (same_Some Style _ at))
-behind_sheet faces (suc (suc zero)) k g names shown at = absurd (paper_is_none k g names shown (same_Some Paper _ at))
-behind_sheet faces (suc (suc (suc q))) k g names shown at = (q, refl, at)
+not_faces : (es : List Element) → AllByRecursion NoFace es → AllByRecursion (NotSo IsFace) es
+not_faces es h = all_so NoFace (NotSo IsFace) es not_face h
 
-pub at_place : (m : Map) (faces : List Element) (p : ℕ) (k : Tint) (g : ℕ) (names : List ℕ) (shown : List Triangle) → slice_get (picture_of m faces []) p ≡ Some (Face k g names shown) → (q : ℕ) × (p ≡ suc (suc (suc q))) × (slice_get faces q ≡ Some (Face k g names shown))
-at_place m faces p k g names shown at =
-    let sheet = Head ∷ Style ∷ Paper ∷ [] in
-    let no_foot = in_front (sheet ++ faces ++ line_elements m ++ []) (Foot ∷ []) p k g names shown (foot_is_none, tt) at in
-    let no_over = in_front (sheet ++ faces ++ line_elements m) [] p k g names shown tt no_foot in
-    behind_sheet faces p k g names shown (in_front (sheet ++ faces) (line_elements m) p k g names shown (none_in_elements m) no_over)
-
-has_face : (m : Map) (faces : List Element) (q : ℕ) (e : Element) → slice_get faces q ≡ Some e → Has (picture_of m faces []) e
-has_face m faces q e at =
-    let sheet = Head ∷ Style ∷ Paper ∷ [] in (
-      suc (suc (suc q)),
-      still_there (sheet ++ faces ++ line_elements m ++ []) (Foot ∷ []) (suc (suc (suc q))) e
-          (still_there (sheet ++ faces ++ line_elements m) [] (suc (suc (suc q))) e (still_there (sheet ++ faces) (line_elements m) (suc (suc (suc q))) e at)),
-    )
+-- the place of a face is three behind its place among what lies under the lines
+pub at_place : (m : Map) (under over : List Element) → AllByRecursion NoFace over → (p : ℕ) (k : Tint) (g : ℕ) (names : List ℕ) (shown : List Triangle) → slice_get (picture_of m under over) p ≡ Some (Face k g names shown) → (q : ℕ) × (p ≡ 3 + q) × (slice_get under q ≡ Some (Face k g names shown))
+at_place m under over none p k g names shown at =
+    at_under IsFace m (not_face Head head_is_none) (not_face Style style_is_none) (not_face Paper paper_is_none) (not_face Foot foot_is_none) (λ i l. not_face (Line i l) (line_is_none i l))
+    under over (not_faces over none) p (Face k g names shown) (k, g, names, shown, refl) at
 
 -- ---- which faces there are
 
@@ -237,35 +201,76 @@ told t a names = go (list_any (λ b. b == a) names) refl
     go true e = any_in a names e
     go false e = told_other t a names (list_all (λ b. table_bit t.bytes (a * t.n + b) == 1) names) refl (any_not a names e)
 
+told_pair : (a b : ℕ) (names : List ℕ) → TellsPair a b names (pair_tint a b names)
+told_pair a b names = go (list_any (λ s. s == a) names) refl
+  where
+    other : (s : Bool) → list_any (λ c. c == b) names ≡ s → (Contains names a → ⊥) → TellsPair a b names (cond s tint.Target tint.Other)
+    other true e none = (none, any_in b names e)
+    other false e none = (none, any_not b names e)
+
+    go : (s : Bool) → list_any (λ c. c == a) names ≡ s → TellsPair a b names (cond s tint.Source (cond (list_any (λ c. c == b) names) tint.Target tint.Other))
+    go true e = any_in a names e
+    go false e = other (list_any (λ c. c == b) names) refl (any_not a names e)
+
 -- ---- the whole
 
-pub row_shown : (m : Map) (groups : List (List ℕ)) (ts : List Triangle) (labels : List (Option ℕ)) (t : TableParts) (a : ℕ) → ShowsRow groups ts labels t a (row_picture m groups ts labels t a)
-row_shown m groups ts labels t a = record { each = each; group = group; row = row; triangles = triangles; order = order; once = once }
-  where
-    each : (g : ℕ) (names : List ℕ) → slice_get groups g ≡ Some names → (k : Tint) × (shown : List Triangle) × Has (row_picture m groups ts labels t a) (Face k g names shown)
-    each g names at = (row_tint t a names, labelled_with g ts labels, has_face m (faces_from ts labels 0 (map (row_tint t a) groups) groups) g _ (face_there (row_tint t a) ts labels 0 groups g names g (omega arith) at))
+module _ (m : Map) (groups : List (List ℕ)) (ts : List Triangle) (labels : List (Option ℕ)) (Tells : List ℕ → Tint → Type 0) (f : List ℕ → Tint) (tells : (names : List ℕ) → Tells names (f names))
+    (more over : List Element) (no_more : AllByRecursion NoFace more) (no_over : AllByRecursion NoFace over) where
+  abbrev faces : List Element
+  faces = faces_from ts labels 0 (map f groups) groups
 
-    placed : (p : ℕ) (k : Tint) (g : ℕ) (names : List ℕ) (shown : List Triangle) → slice_get (row_picture m groups ts labels t a) p ≡ Some (Face k g names shown) → (q : ℕ) × (p ≡ suc (suc (suc q))) × IsGroupAt (row_tint t a) ts labels 0 groups q k g names shown
-    placed p k g names shown at = let h = at_place m (faces_from ts labels 0 (map (row_tint t a) groups) groups) p k g names shown at in (h.0, h.1, face_at (row_tint t a) ts labels 0 groups h.0 k g names shown h.2)
+  abbrev whole : List Element
+  whole = picture_of m (faces ++ more) over
 
-    group : (k : Tint) (g : ℕ) (names : List ℕ) (shown : List Triangle) → Has (row_picture m groups ts labels t a) (Face k g names shown) → slice_get groups g ≡ Some names
-    group k g names shown (p, at) = let h = placed p k g names shown at in let same : h.0 ≡ g = omega (arith, h.2.number) in subst (λ (j : ℕ). slice_get groups j ≡ Some names) same h.2.group
+  each : (g : ℕ) (names : List ℕ) → slice_get groups g ≡ Some names → (k : Tint) × (shown : List Triangle) × Has whole (Face k g names shown)
+  each g names at = (f names, labelled_with g ts labels, has_under m (faces ++ more) over _ (g, still_there faces more g _ (face_there f ts labels 0 groups g names g (omega arith) at)))
 
-    row : (k : Tint) (g : ℕ) (names : List ℕ) (shown : List Triangle) → Has (row_picture m groups ts labels t a) (Face k g names shown) → TellsRow t a names k
-    row k g names shown (p, at) = let h = placed p k g names shown at in subst (λ (s : Tint). TellsRow t a names s) h.2.tint (told t a names)
+  placed : (p : ℕ) (k : Tint) (g : ℕ) (names : List ℕ) (shown : List Triangle) → slice_get whole p ≡ Some (Face k g names shown) → (q : ℕ) × (p ≡ 3 + q) × IsGroupAt f ts labels 0 groups q k g names shown
+  placed p k g names shown at =
+      let h = at_place m (faces ++ more) over no_over p k g names shown at in
+      (h.0, h.1, face_at f ts labels 0 groups h.0 k g names shown (in_front IsFace faces more h.0 _ (not_faces more no_more) (k, g, names, shown, refl) h.2))
 
-    triangles : (k : Tint) (g : ℕ) (names : List ℕ) (shown : List Triangle) → Has (row_picture m groups ts labels t a) (Face k g names shown) → (u : Triangle) → Contains shown u ↔ ((n : ℕ) × (slice_get ts n ≡ Some u) × (label_of labels n ≡ Some g))
-    triangles k g names shown (p, at) u =
-        let h = placed p k g names shown at in (
-          (λ c. is_labelled g ts labels u (subst (λ (us : List Triangle). Contains us u) (sym h.2.triangles) c)),
-          (λ r. subst (λ (us : List Triangle). Contains us u) h.2.triangles (has_labelled g ts labels u r.0 r.1 r.2)),
-        )
+  group : (k : Tint) (g : ℕ) (names : List ℕ) (shown : List Triangle) → Has whole (Face k g names shown) → slice_get groups g ≡ Some names
+  group k g names shown (p, at) = let h = placed p k g names shown at in let same : h.0 ≡ g = omega (arith, h.2.number) in subst (λ (j : ℕ). slice_get groups j ≡ Some names) same h.2.group
 
-    order : (k : Tint) (g : ℕ) (names : List ℕ) (shown : List Triangle) → Has (row_picture m groups ts labels t a) (Face k g names shown) → Ascends IsAbove ts → Ascends IsAbove shown
-    order k g names shown (p, at) up = let h = placed p k g names shown at in subst (λ (us : List Triangle). Ascends IsAbove us) h.2.triangles (ordered g ts labels up)
+  told_by : (k : Tint) (g : ℕ) (names : List ℕ) (shown : List Triangle) → Has whole (Face k g names shown) → Tells names k
+  told_by k g names shown (p, at) = let h = placed p k g names shown at in subst (λ (s : Tint). Tells names s) h.2.tint (tells names)
 
-    once : (i j g : ℕ) (k p : Tint) (names others : List ℕ) (shown more : List Triangle) → slice_get (row_picture m groups ts labels t a) i ≡ Some (Face k g names shown) → slice_get (row_picture m groups ts labels t a) j ≡ Some (Face p g others more) → i ≡ j
-    once i j g k p names others shown more at there =
-        let h = placed i k g names shown at in
-        let r = placed j p g others more there in
-        omega (arith, h.1, r.1, h.2.number, r.2.number)
+  triangles : (k : Tint) (g : ℕ) (names : List ℕ) (shown : List Triangle) → Has whole (Face k g names shown) → (u : Triangle) → Contains shown u ↔ ((n : ℕ) × (slice_get ts n ≡ Some u) × (label_of labels n ≡ Some g))
+  triangles k g names shown (p, at) u =
+      let h = placed p k g names shown at in (
+        (λ c. is_labelled g ts labels u (subst (λ (us : List Triangle). Contains us u) (sym h.2.triangles) c)),
+        (λ r. subst (λ (us : List Triangle). Contains us u) h.2.triangles (has_labelled g ts labels u r.0 r.1 r.2)),
+      )
+
+  order : (k : Tint) (g : ℕ) (names : List ℕ) (shown : List Triangle) → Has whole (Face k g names shown) → Ascends IsAbove ts → Ascends IsAbove shown
+  order k g names shown (p, at) up = let h = placed p k g names shown at in subst (λ (us : List Triangle). Ascends IsAbove us) h.2.triangles (ordered g ts labels up)
+
+  once : (i j g : ℕ) (k p : Tint) (names others : List ℕ) (shown more : List Triangle) → slice_get whole i ≡ Some (Face k g names shown) → slice_get whole j ≡ Some (Face p g others more) → i ≡ j
+  once i j g k p names others shown more at there =
+      let h = placed i k g names shown at in
+      let r = placed j p g others more there in
+      omega (arith, h.1, r.1, h.2.number, r.2.number)
+
+  faces_shown : ShowsFaces groups ts labels Tells whole
+  faces_shown = record { each = each; group = group; told = told_by; triangles = triangles; order = order; once = once }
+
+pub row_shown : (m : Map) (groups : List (List ℕ)) (ts : List Triangle) (labels : List (Option ℕ)) (t : TableParts) (a : ℕ) → ShowsFaces groups ts labels (TellsRow t a) (row_picture m groups ts labels t a)
+row_shown m groups ts labels t a =
+    subst (λ (under : List Element). ShowsFaces groups ts labels (TellsRow t a) (picture_of m under [])) (append-nil (faces_from ts labels 0 (map (row_tint t a) groups) groups))
+    (faces_shown m groups ts labels (TellsRow t a) (row_tint t a) (told t a) [] [] tt tt)
+
+sight_is_none : (r : Ray) (o p : Option MapLine) → AllByRecursion NoFace (sight_between r o p)
+sight_is_none r None p = tt
+sight_is_none r (Some first) None = tt
+sight_is_none r (Some first) (Some last) = ((λ k g names shown e. cc), tt)
+
+pub sight_faces : (m : Map) (groups : List (List ℕ)) (ts : List Triangle) (labels : List (Option ℕ)) (a b : ℕ) (r : Ray) → ShowsFaces groups ts labels (TellsPair a b) (sight_picture m groups ts labels a b r)
+sight_faces m groups ts labels a b r =
+    subst (λ (under : List Element). ShowsFaces groups ts labels (TellsPair a b) (picture_of m under (sight_elements m r))) (append-nil (pair_faces groups ts labels a b))
+    (faces_shown m groups ts labels (TellsPair a b) (pair_tint a b) (told_pair a b) [] (sight_elements m r) tt (sight_is_none r (line_at m r.first.line) (line_at m r.last.line)))
+
+pub blind_faces : (m : Map) (groups : List (List ℕ)) (ts : List Triangle) (labels : List (Option ℕ)) (a b : ℕ) (entered : List ℕ) (stops : List Stop) → ShowsFaces groups ts labels (TellsPair a b) (blind_picture m groups ts labels a b entered stops)
+blind_faces m groups ts labels a b entered stops =
+    faces_shown m groups ts labels (TellsPair a b) (pair_tint a b) (told_pair a b) (Entered (numbered ts entered) ∷ []) (Stops stops ∷ [])
+    ((λ k g names shown e. cc), tt) ((λ k g names shown e. cc), tt)

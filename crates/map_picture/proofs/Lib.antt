@@ -3,6 +3,12 @@ pub mod Following
 pub mod Drawn
 pub mod FirstElements
 pub mod Ordered
+pub mod Pieces
 pub mod Faced
 pub mod Ids
 pub mod Framed
+pub mod Extras
+pub mod Entries
+pub mod MapEnds
+pub mod Spots
+pub mod Sights

@@ -1,18 +1,23 @@
 -- The bytes of a picture: SVG, one element a line. A picture has no texts to be set in a font, but each face and each line
 -- has a title, which a browser shows under the pointer.
-use Rattle.std.specs.Prelude.{ℕ, ◌+◌, ◌*◌, List, [], ◌++◌, Option, Some, None, Bool, true, false, codes}
-use Rattle.std.specs.Fmt.{decimal}
+use Rattle.std.specs.Prelude.{ℕ, ◌*◌, ◌/◌, ◌%◌, List, [], ◌++◌, Option, Some, None, Bool, true, false, ℤ, codes}
+use Rattle.std.specs.Fmt.{decimal, signed_decimal}
 use Rattle.std.specs.List.{flat_map}
 use Rattle.sight_names.specs.declared.names.Pt.{Pt}
+use Rattle.sight_names.specs.declared.names.Ray.{Ray}
+use Rattle.sight_names.specs.declared.names.Side.{Side}
 use Rattle.sight_names.specs.declared.names.Triangle.{Triangle}
 use Rattle.sight_names.specs.Map.{Map, MapLine}
 use Rattle.sight_names.specs.Points.{place, points_of}
 use Rattle.map_picture.specs.declared.frame.Frame.{Frame}
 use Rattle.map_picture.specs.declared.frame.Sizes.{Sizes}
+use Rattle.map_picture.specs.declared.crossings.Spot.{Spot}
+use Rattle.map_picture.specs.declared.pair.Stop.{Stop}
 use Rattle.map_picture.specs.declared.tint.Tint.{Tint}
 use Rattle.map_picture.specs.declared.tint.Tint.TheVariants as tint
 use Rattle.map_picture.specs.Frame.{across, down, frame_of, sizes_of}
-use Rattle.map_picture.specs.Picture.{Element, Head, Style, Paper, Face, Line, Foot}
+use Rattle.map_picture.specs.Crossings.{crossing_spot}
+use Rattle.map_picture.specs.Picture.{Element, Head, Style, Paper, Face, Line, Entered, Stops, Sight, Foot}
 
 -- a text, and a number behind it
 unfoldable pub count_text : List ℕ → ℕ → List ℕ
@@ -58,6 +63,9 @@ line_id i = count_text (codes "L") i
 abbrev pub id_of : Element → List ℕ
 id_of (Face t g names ts) = face_id g
 id_of (Line i l) = line_id i
+id_of (Entered us) = codes "open"
+id_of (Stops ss) = codes "stops"
+id_of (Sight r first last) = codes "ray"
 id_of e = []
 
 -- a path of a class as far as its points
@@ -70,6 +78,8 @@ abbrev pub tint_class : Tint → List ℕ
 tint_class tint.Source = codes "a"
 tint_class tint.Clear = codes "c"
 tint_class tint.Set = codes "s"
+tint_class tint.Target = codes "b"
+tint_class tint.Other = codes "s"
 
 unfoldable pub triangle_text : Frame → Map → Triangle → List ℕ
 triangle_text f m t = step_text f (codes "M") (place m t.p) ++ step_text f (codes "L") (place m t.q) ++ step_text f (codes "L") (place m t.r) ++ codes "z"
@@ -108,6 +118,52 @@ line_title i right left = count_text (codes "\"><title>") i ++ side_words (codes
 unfoldable pub line_text : Frame → ℕ → MapLine → List ℕ
 line_text f i l = path_text (line_class l.solid) (line_id i) ++ ends_text f l.first l.second ++ line_title i l.right l.left
 
+-- ---- a pair of sectors
+
+unfoldable pub entered_text : Frame → Map → List Triangle → List ℕ
+entered_text f m us = path_text (codes "f") (codes "open") ++ triangles_text f m us ++ codes "\"/>\n"
+
+abbrev pub stop_text : Frame → Map → Stop → List ℕ
+stop_text f m s = ends_text f (place m s.from) (place m s.to)
+
+abbrev pub stop_texts : Frame → Map → List Stop → List ℕ
+stop_texts f m ss = flat_map (stop_text f m) ss
+
+unfoldable pub stops_text : Frame → Map → List Stop → List ℕ
+stops_text f m ss = path_text (codes "k") (codes "stops") ++ stop_texts f m ss ++ codes "\"/>\n"
+
+-- so many thousandths, with three digits behind the point
+unfoldable pub thousandths_text : ℕ → List ℕ
+thousandths_text t = decimal (t / 1000) ++ count_text (codes ".") (t / 100 % 10) ++ decimal (t / 10 % 10) ++ decimal (t % 10)
+
+unfoldable pub spot_text : List ℕ → Spot → List ℕ
+spot_text word s = word ++ thousandths_text s.across ++ codes " " ++ thousandths_text s.down
+
+-- a side as an order names it, as 5L
+abbrev pub side_letter : Bool → List ℕ
+side_letter true = codes "L"
+side_letter false = codes "R"
+
+unfoldable pub side_text : List ℕ → Side → List ℕ
+side_text word s = count_text word s.line ++ side_letter s.left
+
+unfoldable pub sides_text : Ray → List ℕ
+sides_text r = side_text (codes "\"><title>") r.first ++ side_text (codes ",") r.last
+
+unfoldable pub coefficient_text : ℤ → List ℕ
+coefficient_text z = codes "," ++ signed_decimal z
+
+unfoldable pub coefficients_text : Ray → List ℕ
+coefficients_text r = coefficient_text r.a ++ coefficient_text r.b ++ coefficient_text r.c
+
+-- a ray as an order names it, as its title, which ends the path
+unfoldable pub ray_title : Ray → List ℕ
+ray_title r = sides_text r ++ coefficients_text r ++ codes "</title></path>\n"
+
+unfoldable pub sight_text : Frame → Ray → MapLine → MapLine → List ℕ
+sight_text f r first last = path_text (codes "r") (codes "ray") ++ spot_text (codes "M") (crossing_spot f r first.first first.second)
+    ++ spot_text (codes "L") (crossing_spot f r last.first last.second) ++ ray_title r
+
 -- ---- the whole
 
 abbrev pub bytes_of : Frame → Map → Element → List ℕ
@@ -116,6 +172,9 @@ bytes_of f m Style = style_text (sizes_of f).stroke
 bytes_of f m Paper = paper_text (sizes_of f)
 bytes_of f m (Face t g names ts) = face_text f m t g names ts
 bytes_of f m (Line i l) = line_text f i l
+bytes_of f m (Entered us) = entered_text f m us
+bytes_of f m (Stops ss) = stops_text f m ss
+bytes_of f m (Sight r first last) = sight_text f r first last
 bytes_of f m Foot = codes "</svg>\n"
 
 abbrev pub spelled : Frame → Map → List Element → List ℕ

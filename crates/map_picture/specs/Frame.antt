@@ -33,7 +33,7 @@ height_of f = unsigned_abs (f.top -ℤ f.bottom)
 abbrev pub margin_for : ℕ → ℕ
 margin_for longer = longer / 50 + 1
 
--- The size of a picture of so many map units. A passable line is about a six-hundredth of the longer side thick. The longer
+-- The size of a picture of so many map units. A passable line is about a 1,200th of the longer side thick. The longer
 -- side is 1000 pixels, and the other one 38 at least, since its two margins alone are that much.
 abbrev pub sizes_for : ℕ → ℕ → Sizes
 sizes_for width height =
@@ -41,7 +41,7 @@ sizes_for width height =
     let around = 2 * margin_for longer in
     record {
       margin = margin_for longer;
-      stroke = longer / 600 + 1;
+      stroke = longer / 1200 + 1;
       wide = width + around;
       high = height + around;
       wide_pixels = 1000 * (width + around) / (longer + around);

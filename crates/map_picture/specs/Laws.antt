@@ -1,17 +1,23 @@
 -- What a picture shows: its lines are those of the map, its faces those of the groups, and their tints the table's row.
-use Rattle.std.specs.Prelude.{◌≡◌, ◌≢◌, ℕ, ◌^◌, ◌<◌, ◌≤◌, ◌⊎◌, ◌↔◌, List, [], Option, Some, true, false, Contains, length, slice_get, pos, ◌+ℤ◌, ◌-ℤ◌}
+use Rattle.std.specs.Prelude.{◌≡◌, ◌≢◌, ℕ, ◌^◌, ◌<◌, ◌≤◌, ◌⊎◌, ◌↔◌, List, [], Option, Some, true, false, All, Contains, length, slice_get, pos, ◌+ℤ◌, ◌-ℤ◌}
 use Rattle.sight_names.specs.declared.names.Pt.{Pt}
+use Rattle.sight_names.specs.declared.names.Ray.{Ray}
 use Rattle.sight_names.specs.declared.names.Triangle.{Triangle}
 use Rattle.sight_names.specs.Map.{Map, MapLine, line_at}
 use Rattle.sight_names.specs.Mesh.{IsAbove, label_of}
 use Rattle.sight_names.specs.Order.{Ascends}
+use Rattle.sight_names.specs.Point.{Point}
+use Rattle.sight_names.specs.Points.{points_of}
+use Rattle.sight_names.specs.Ray.{IsCrossing, IsSightRay}
 use Rattle.reject_bits.specs.Parts.{Rejects, TableParts}
 use Rattle.map_picture.specs.declared.frame.Frame.{Frame}
+use Rattle.map_picture.specs.declared.pair.Stop.{Stop}
 use Rattle.map_picture.specs.declared.tint.Tint.{Tint}
 use Rattle.map_picture.specs.declared.tint.Tint.TheVariants as tint
 use Rattle.map_picture.specs.Bytes.{id_of}
+use Rattle.map_picture.specs.Crossings.{IsSpotOf, crossing_spot}
 use Rattle.map_picture.specs.Frame.{across, down, frame_of, height_of, width_of}
-use Rattle.map_picture.specs.Picture.{Element, Face, Line, picture_of, plan_picture, row_picture}
+use Rattle.map_picture.specs.Picture.{Element, Face, Line, Entered, Stops, Sight, blind_picture, picture_of, plan_picture, row_picture, sight_picture}
 
 -- the picture has this element
 abbrev pub Has : List Element → Element → Type 0
@@ -44,12 +50,14 @@ abbrev pub TellsRow : TableParts → ℕ → List ℕ → Tint → Type 0
 TellsRow t a names tint.Source = Contains names a
 TellsRow t a names tint.Set = ¬ Contains names a × ((b : ℕ) → Contains names b → Rejects t a b)
 TellsRow t a names tint.Clear = ¬ Contains names a × ((b : ℕ) × Contains names b × ¬ Rejects t a b)
+TellsRow t a names tint.Target = ⊥
+TellsRow t a names tint.Other = ⊥
 
--- each face of a row's picture is a group's, with its names, and its tint tells what the table has
-pub record ShowsRow (groups : List (List ℕ)) (ts : List Triangle) (labels : List (Option ℕ)) (t : TableParts) (a : ℕ) (picture : List Element) : Type 0 where
+-- each face of the picture is a group's, with its names, and its tint tells what the group is
+pub record ShowsFaces (groups : List (List ℕ)) (ts : List Triangle) (labels : List (Option ℕ)) (Tells : List ℕ → Tint → Type 0) (picture : List Element) : Type 0 where
   pub each : (g : ℕ) (names : List ℕ) → slice_get groups g ≡ Some names → (k : Tint) × (shown : List Triangle) × Has picture (Face k g names shown)
   pub group : (k : Tint) (g : ℕ) (names : List ℕ) (shown : List Triangle) → Has picture (Face k g names shown) → slice_get groups g ≡ Some names
-  pub row : (k : Tint) (g : ℕ) (names : List ℕ) (shown : List Triangle) → Has picture (Face k g names shown) → TellsRow t a names k
+  pub told : (k : Tint) (g : ℕ) (names : List ℕ) (shown : List Triangle) → Has picture (Face k g names shown) → Tells names k
   -- its triangles are those that the group labels
   pub triangles : (k : Tint) (g : ℕ) (names : List ℕ) (shown : List Triangle) → Has picture (Face k g names shown) → (u : Triangle) → Contains shown u ↔ ((n : ℕ) × (slice_get ts n ≡ Some u) × (label_of labels n ≡ Some g))
   -- .. each once, in the order of the mesh
@@ -57,8 +65,60 @@ pub record ShowsRow (groups : List (List ℕ)) (ts : List Triangle) (labels : Li
   -- and each group has one face
   pub once : (i j g : ℕ) (k p : Tint) (names others : List ℕ) (shown more : List Triangle) → slice_get picture i ≡ Some (Face k g names shown) → slice_get picture j ≡ Some (Face p g others more) → i ≡ j
 
+-- a row's faces tell what the table has
 abbrev pub RowIsShown : Type 0
-RowIsShown = (m : Map) (groups : List (List ℕ)) (ts : List Triangle) (labels : List (Option ℕ)) (t : TableParts) (a : ℕ) → ShowsRow groups ts labels t a (row_picture m groups ts labels t a)
+RowIsShown = (m : Map) (groups : List (List ℕ)) (ts : List Triangle) (labels : List (Option ℕ)) (t : TableParts) (a : ℕ) → ShowsFaces groups ts labels (TellsRow t a) (row_picture m groups ts labels t a)
+
+-- ---- a pair
+
+-- a group that names the first sector is painted as the source, another one that names the second as the target
+abbrev pub TellsPair : ℕ → ℕ → List ℕ → Tint → Type 0
+TellsPair a b names tint.Source = Contains names a
+TellsPair a b names tint.Target = ¬ Contains names a × Contains names b
+TellsPair a b names tint.Other = ¬ Contains names a × ¬ Contains names b
+TellsPair a b names tint.Set = ⊥
+TellsPair a b names tint.Clear = ⊥
+
+-- a pair's faces tell which of the two sectors a group names
+abbrev pub SightFacesAreShown : Type 0
+SightFacesAreShown = (m : Map) (groups : List (List ℕ)) (ts : List Triangle) (labels : List (Option ℕ)) (a b : ℕ) (r : Ray) → ShowsFaces groups ts labels (TellsPair a b) (sight_picture m groups ts labels a b r)
+
+abbrev pub BlindFacesAreShown : Type 0
+BlindFacesAreShown = (m : Map) (groups : List (List ℕ)) (ts : List Triangle) (labels : List (Option ℕ)) (a b : ℕ) (entered : List ℕ) (stops : List Stop) → ShowsFaces groups ts labels (TellsPair a b) (blind_picture m groups ts labels a b entered stops)
+
+-- the ray is there once, from its first side's line to its last side's, and its two spots are where it crosses them
+pub record ShowsRay (m : Map) (r : Ray) (picture : List Element) : Type 0 where
+  pub first : MapLine
+  pub last : MapLine
+  pub is_first : line_at m r.first.line ≡ Some first
+  pub is_last : line_at m r.last.line ≡ Some last
+  pub has : Has picture (Sight r first last)
+  pub once : (i j : ℕ) (p q : Ray) (k l n o : MapLine) → slice_get picture i ≡ Some (Sight p k l) → slice_get picture j ≡ Some (Sight q n o) → i ≡ j
+  pub start : (z : Point) → IsCrossing r first z → IsSpotOf (frame_of (points_of m)) z (crossing_spot (frame_of (points_of m)) r first.first first.second)
+  pub stop : (z : Point) → IsCrossing r last z → IsSpotOf (frame_of (points_of m)) z (crossing_spot (frame_of (points_of m)) r last.first last.second)
+
+abbrev pub RayIsDrawn : Type 0
+RayIsDrawn = (m : Map) (groups : List (List ℕ)) (ts : List Triangle) (labels : List (Option ℕ)) (a b : ℕ) (r : Ray) → IsSightRay m r a b → ShowsRay m r (sight_picture m groups ts labels a b r)
+
+-- exactly the triangles with these numbers are there as entered, in one element
+pub record ShowsEntered (ts : List Triangle) (entered : List ℕ) (picture : List Element) : Type 0 where
+  pub shown : List Triangle
+  pub has : Has picture (Entered shown)
+  pub once : (i j : ℕ) (us vs : List Triangle) → slice_get picture i ≡ Some (Entered us) → slice_get picture j ≡ Some (Entered vs) → i ≡ j
+  pub exactly : (u : Triangle) → Contains shown u ↔ ((k : ℕ) × Contains entered k × (slice_get ts k ≡ Some u))
+  -- .. each once, in the order of the mesh
+  pub order : Ascends (λ i k. i < k) entered → Ascends IsAbove ts → Ascends IsAbove shown
+
+-- these stops are there, in one element
+pub record ShowsStops (stops : List Stop) (picture : List Element) : Type 0 where
+  pub has : Has picture (Stops stops)
+  pub once : (i j : ℕ) (ss us : List Stop) → slice_get picture i ≡ Some (Stops ss) → slice_get picture j ≡ Some (Stops us) → i ≡ j
+
+abbrev pub EnteredIsShown : Type 0
+EnteredIsShown = (m : Map) (groups : List (List ℕ)) (ts : List Triangle) (labels : List (Option ℕ)) (a b : ℕ) (entered : List ℕ) (stops : List Stop) → All (λ k. k < length ts) entered → ShowsEntered ts entered (blind_picture m groups ts labels a b entered stops)
+
+abbrev pub StopsAreShown : Type 0
+StopsAreShown = (m : Map) (groups : List (List ℕ)) (ts : List Triangle) (labels : List (Option ℕ)) (a b : ℕ) (entered : List ℕ) (stops : List Stop) → ShowsStops stops (blind_picture m groups ts labels a b entered stops)
 
 -- ---- ids
 
@@ -66,12 +126,18 @@ RowIsShown = (m : Map) (groups : List (List ℕ)) (ts : List Triangle) (labels :
 abbrev pub IdsAreOnce : List Element → Type 0
 IdsAreOnce picture = (j k : ℕ) (e f : Element) → slice_get picture j ≡ Some e → slice_get picture k ≡ Some f → id_of e ≢ [] → id_of e ≡ id_of f → j ≡ k
 
--- In either picture; so a line's id, which is its record number, is that of no other element. A map has fewer lines and groups.
+-- In each kind of picture; so a line's id, which is its record number, is that of no other element. A map has fewer lines and groups.
 abbrev pub PlanIdsAreOnce : Type 0
 PlanIdsAreOnce = (m : Map) → length m.lines ≤ 2 ^ 64 → IdsAreOnce (plan_picture m)
 
 abbrev pub RowIdsAreOnce : Type 0
 RowIdsAreOnce = (m : Map) (groups : List (List ℕ)) (ts : List Triangle) (labels : List (Option ℕ)) (t : TableParts) (a : ℕ) → length m.lines ≤ 2 ^ 64 → length groups ≤ 2 ^ 64 → IdsAreOnce (row_picture m groups ts labels t a)
+
+abbrev pub SightIdsAreOnce : Type 0
+SightIdsAreOnce = (m : Map) (groups : List (List ℕ)) (ts : List Triangle) (labels : List (Option ℕ)) (a b : ℕ) (r : Ray) → length m.lines ≤ 2 ^ 64 → length groups ≤ 2 ^ 64 → IdsAreOnce (sight_picture m groups ts labels a b r)
+
+abbrev pub BlindIdsAreOnce : Type 0
+BlindIdsAreOnce = (m : Map) (groups : List (List ℕ)) (ts : List Triangle) (labels : List (Option ℕ)) (a b : ℕ) (entered : List ℕ) (stops : List Stop) → length m.lines ≤ 2 ^ 64 → length groups ≤ 2 ^ 64 → IdsAreOnce (blind_picture m groups ts labels a b entered stops)
 
 -- ---- places
 

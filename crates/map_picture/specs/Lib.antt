@@ -1,4 +1,5 @@
 pub mod Frame
+pub mod Crossings
 pub mod Picture
 pub mod Bytes
 pub mod Chains

@@ -1,11 +1,13 @@
 -- The picture of a map as a list of elements. Each kind of picture has the same paper and the same lines; what it tells
 -- besides stands in further elements, under the lines or over them.
-use Rattle.std.specs.Prelude.{ℕ, ◌+◌, ◌*◌, ◌==◌, List, [], ◌∷◌, ◌++◌, Option, Some, None, Bool, true, false, map, if◌then◌else◌}
+use Rattle.std.specs.Prelude.{ℕ, ◌+◌, ◌*◌, ◌==◌, List, [], ◌∷◌, ◌++◌, Option, Some, None, Bool, true, false, map, slice_index_or, if◌then◌else◌}
 use Rattle.std.specs.List.{list_all, list_any}
+use Rattle.sight_names.specs.declared.names.Ray.{Ray}
 use Rattle.sight_names.specs.declared.names.Triangle.{Triangle}
-use Rattle.sight_names.specs.Map.{Map, MapLine}
+use Rattle.sight_names.specs.Map.{Map, MapLine, line_at}
 use Rattle.sight_names.specs.Table.{table_bit}
 use Rattle.reject_bits.specs.Parts.{TableParts}
+use Rattle.map_picture.specs.declared.pair.Stop.{Stop}
 use Rattle.map_picture.specs.declared.tint.Tint.{Tint}
 use Rattle.map_picture.specs.declared.tint.Tint.TheVariants as tint
 
@@ -20,6 +22,12 @@ pub data Element : Type 0 where
   Face : Tint → ℕ → List ℕ → List Triangle → Element
   -- a line, with its record number
   Line : ℕ → MapLine → Element
+  -- the triangles that sight out of a source enters
+  Entered : List Triangle → Element
+  -- where the last ways of such sight end
+  Stops : List Stop → Element
+  -- a ray from the first of these lines to the second, which are those of its sides
+  Sight : Ray → MapLine → MapLine → Element
   -- the end
   Foot : Element
 
@@ -81,3 +89,33 @@ row_tint t a names =
 -- the row of sector a in a table, over the groups of the map
 abbrev pub row_picture : Map → List (List ℕ) → List Triangle → List (Option ℕ) → TableParts → ℕ → List Element
 row_picture m groups ts labels t a = picture_of m (faces_from ts labels 0 (map (row_tint t a) groups) groups) []
+
+-- ---- a pair of sectors
+
+-- a group that names a is painted as the source, and else one that names b as the target
+abbrev pub pair_tint : ℕ → ℕ → List ℕ → Tint
+pair_tint a b names = if list_any (λ s. s == a) names then tint.Source else if list_any (λ s. s == b) names then tint.Target else tint.Other
+
+abbrev pub pair_faces : List (List ℕ) → List Triangle → List (Option ℕ) → ℕ → ℕ → List Element
+pair_faces groups ts labels a b = faces_from ts labels 0 (map (pair_tint a b) groups) groups
+
+-- the triangles with these numbers
+abbrev pub numbered : List Triangle → List ℕ → List Triangle
+numbered ts entered = map (λ k. slice_index_or ts k (record { p = 0; q = 0; r = 0 })) entered
+
+-- two sectors of which none sees the other: the triangles that sight out of the first enters, and where it ends
+abbrev pub blind_picture : Map → List (List ℕ) → List Triangle → List (Option ℕ) → ℕ → ℕ → List ℕ → List Stop → List Element
+blind_picture m groups ts labels a b entered stops = picture_of m (pair_faces groups ts labels a b ++ Entered (numbered ts entered) ∷ []) (Stops stops ∷ [])
+
+-- the ray between two lines, if there are both
+abbrev pub sight_between : Ray → Option MapLine → Option MapLine → List Element
+sight_between r None last = []
+sight_between r (Some first) None = []
+sight_between r (Some first) (Some last) = Sight r first last ∷ []
+
+abbrev pub sight_elements : Map → Ray → List Element
+sight_elements m r = sight_between r (line_at m r.first.line) (line_at m r.last.line)
+
+-- two sectors that see each other along the ray
+abbrev pub sight_picture : Map → List (List ℕ) → List Triangle → List (Option ℕ) → ℕ → ℕ → Ray → List Element
+sight_picture m groups ts labels a b r = picture_of m (pair_faces groups ts labels a b) (sight_elements m r)

@@ -30,11 +30,13 @@ fn class_of(tint: Tint) -> &'static str
         Tint::Source => "a",
         Tint::Clear => "c",
         Tint::Set => "s",
+        Tint::Target => "b",
+        Tint::Other => "s",
     }
 }
 
 #[tactic(auto, unfolding(crate::specs::Bytes::triangle_text))]
-fn push_triangle(
+pub fn push_triangle(
     out: &mut Vec<u8>,
     frame: Frame,
     plan: &Plan,

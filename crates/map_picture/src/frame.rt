@@ -101,7 +101,7 @@ fn sizes_for(width: u64, height: u64) -> Sizes
     requires width { width < 2 ^ 16 }
     requires height { height < 2 ^ 16 }
     ensures sizes { result ≡ the_sizes_for width height }
-    ensures thin { result.stroke ≤ 110 }
+    ensures thin { result.stroke ≤ 55 }
 {
     let longer = width.max(height);
     let margin = longer / 50 + 1;
@@ -110,7 +110,7 @@ fn sizes_for(width: u64, height: u64) -> Sizes
     let all = longer + 2 * margin;
     Sizes {
         margin,
-        stroke: longer / 600 + 1,
+        stroke: longer / 1200 + 1,
         wide,
         high,
         wide_pixels: 1000 * wide / all,
@@ -121,21 +121,23 @@ fn sizes_for(width: u64, height: u64) -> Sizes
 /// The sizes of a picture with this frame.
 pub fn sizes_of(frame: Frame) -> Sizes
     ensures sizes { result ≡ the_sizes_of frame }
-    ensures thin { result.stroke ≤ 110 }
+    ensures thin { result.stroke ≤ 55 }
 {
     sizes_for(width(frame), height(frame))
 }
 
 /// How far the point is from the left edge.
 pub fn across(frame: Frame, p: Pt) -> u64
-    ensures { result ≡ the_across frame p }
+    ensures place { result ≡ the_across frame p }
+    ensures short { result < 2 ^ 16 }
 {
     u64::from(p.x.abs_diff(frame.left))
 }
 
 /// How far the point is below the upper edge.
 pub fn down(frame: Frame, p: Pt) -> u64
-    ensures { result ≡ the_down frame p }
+    ensures place { result ≡ the_down frame p }
+    ensures short { result < 2 ^ 16 }
 {
     u64::from(frame.top.abs_diff(p.y))
 }

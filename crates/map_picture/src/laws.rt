@@ -1,6 +1,6 @@
 //! What pictures show, by their definition. The calls do nothing: their clauses are laws.
 
-ghost use Rattle.map_picture.specs.Laws.{LinesAreShown, PlanIdsAreOnce, PointsAreReadBack, RowIdsAreOnce, RowIsShown};
+ghost use Rattle.map_picture.specs.Laws.{BlindFacesAreShown, BlindIdsAreOnce, EnteredIsShown, LinesAreShown, PlanIdsAreOnce, PointsAreReadBack, RayIsDrawn, RowIdsAreOnce, RowIsShown, SightFacesAreShown, SightIdsAreOnce, StopsAreShown};
 
 /// Every picture of a map has its lines, each once, and no other line.
 pub fn lines_are_shown()
@@ -16,6 +16,29 @@ pub fn row_is_shown()
 pub fn ids_are_once()
     ensures plan { PlanIdsAreOnce }
     ensures row { RowIdsAreOnce }
+    ensures sight { SightIdsAreOnce }
+    ensures blind { BlindIdsAreOnce }
+{}
+
+/// A pair's picture has one face for each group, with the triangles that the group labels, and its tint tells which of the two
+/// sectors the group names.
+pub fn pair_is_shown()
+    ensures sight { SightFacesAreShown }
+    ensures blind { BlindFacesAreShown }
+{}
+
+/// The picture of two sectors that see each other has the ray once. Of each of its two spots, in thousandths of map units, the
+/// distances from the left edge and from the upper one are those of the exact crossing, cut down: a spot is never to the right of
+/// the crossing or below it, and less than a thousandth from it each way.
+pub fn ray_is_drawn()
+    ensures { RayIsDrawn }
+{}
+
+/// The picture of two sectors that don't see each other shows as entered exactly the triangles that it was given, each once, and
+/// the stops that it was given.
+pub fn entered_is_shown()
+    ensures triangles { EnteredIsShown }
+    ensures stops { StopsAreShown }
 {}
 
 /// The coordinates of each point of a map can be read back from a picture.

@@ -1,16 +1,23 @@
-//! The picture of a map as bytes of SVG: the plan alone, or with its faces as a table's row of a sector has them.
+//! The picture of a map as bytes of SVG: the plan alone, with its faces as a table's row of a sector has them, or with what
+//! there is to see of a pair of sectors.
 #![tactic(auto)]
 
 mod chains;
+mod crossings;
 mod faces;
 mod frame;
 mod laws;
 mod lines;
+mod pair;
 mod picture;
 mod sheet;
 mod tint;
 mod words;
 
-pub use laws::{ids_are_once, lines_are_shown, points_are_read_back, row_is_shown};
-pub use picture::{plan_picture, row_picture};
+pub use laws::{
+    entered_is_shown, ids_are_once, lines_are_shown, pair_is_shown, points_are_read_back,
+    ray_is_drawn, row_is_shown,
+};
+pub use pair::Stop;
+pub use picture::{blind_picture, plan_picture, row_picture, sight_picture};
 pub use tint::Tint;

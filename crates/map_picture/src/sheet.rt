@@ -36,7 +36,7 @@ fn push_head(out: &mut Vec<u8>, sizes: Sizes) -> Result<(), AllocError>
 
 #[tactic(auto, unfolding(crate::specs::Bytes::style_text))]
 fn push_style(out: &mut Vec<u8>, stroke: u64) -> Result<(), AllocError>
-    requires { stroke ≤ 110 }
+    requires { stroke ≤ 55 }
     ensures { OnOk result (out.new.items ≡ out.old.items ++ style_text stroke) }
 {
     push_count(

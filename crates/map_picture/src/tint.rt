@@ -3,21 +3,25 @@
 ghost use Rattle.std.specs.Prelude.{◌≡◌, ◌<◌, ◌*◌, ◌+◌, ◌==◌, All, IfOk, map};
 ghost use Rattle.std.specs.List.{list_all};
 ghost use Rattle.sight_names.specs.Table.{table_bit};
-ghost use Rattle.map_picture.specs.Picture.{row_tint as the_row_tint};
+ghost use Rattle.map_picture.specs.Picture.{pair_tint as the_pair_tint, row_tint as the_row_tint};
 
 use reject_bits::Table;
 use sight_names::{Items, Memory};
 use std::alloc::Global;
 
-/// What a picture of a row tells of a group of sectors.
+/// What a picture of a row or of a pair tells of a group of sectors.
 #[derive(Clone, Copy, Debug, PartialEq, Eq)]
 pub enum Tint {
-    /// It names the sector whose row it is.
+    /// It names the sector whose row it is, or the first of a pair.
     Source,
     /// The table has a clear bit for one of its sectors.
     Clear,
     /// The table has a set bit for each of its sectors.
     Set,
+    /// It names the second sector of a pair, and not the first, which is the source.
+    Target,
+    /// It names none of a pair.
+    Other,
 }
 
 /// Whether the bit of the pair is set.
@@ -72,6 +76,30 @@ pub fn row_tints(
     let mut tints = Vec::with_capacity(alloc, groups.len())?;
     for group in groups {
         tints.push(row_tint(table, a, group.as_slice()))?;
+    }
+    Ok(tints)
+}
+
+/// What a pair says of a group.
+fn pair_tint(a: u16, b: u16, names: &[u16]) -> Tint
+    ensures { result ≡ the_pair_tint a b names.now }
+{
+    if names.contains(&a) {
+        Tint::Source
+    } else if names.contains(&b) {
+        Tint::Target
+    } else {
+        Tint::Other
+    }
+}
+
+/// What a pair says of each group.
+pub fn pair_tints(alloc: Global, groups: &[Items<u16>], a: u16, b: u16) -> Result<Vec<Tint>, Memory>
+    ensures { IfOk result (λ v. v.items ≡ map (the_pair_tint a b) groups.now) }
+{
+    let mut tints = Vec::with_capacity(alloc, groups.len())?;
+    for group in groups {
+        tints.push(pair_tint(a, b, group.as_slice()))?;
     }
     Ok(tints)
 }

@@ -56,6 +56,18 @@ pub fn push_ends(out: &mut Vec<u8>, frame: Frame, first: Pt, second: Pt) -> Resu
     push_step(out, frame, "L", second)
 }
 
+/// A path of this class and id as far as its points.
+#[tactic(auto, unfolding(crate::specs::Bytes::path_text))]
+pub fn push_named_path(out: &mut Vec<u8>, class: &str, id: &str) -> Result<(), AllocError>
+    ensures { OnOk result (out.new.items ≡ out.old.items ++ path_text class.now id.now) }
+{
+    push_text(out, "<path class=\"")?;
+    push_text(out, class)?;
+    push_text(out, "\" id=\"")?;
+    push_text(out, id)?;
+    push_text(out, "\" d=\"")
+}
+
 /// A path of this class as far as its points; its id is a word and a number.
 #[tactic(auto, unfolding(crate::specs::Bytes::path_text))]
 pub fn push_path(out: &mut Vec<u8>, class: &str, word: &str, n: u64) -> Result<(), AllocError>

@@ -1,4 +1,4 @@
-use Rattle.map_picture.proofs.Ids.{plan_ids, row_ids}
+use Rattle.map_picture.proofs.Ids.{blind_ids, plan_ids, row_ids, sight_ids}
 use Rattle.map_picture.proofs.laws.ids_are_once.Goals as goal
 
 pub returns-clause-plan : goal.returns-clause-plan
@@ -6,3 +6,9 @@ returns-clause-plan c = plan_ids
 
 pub returns-clause-row : goal.returns-clause-row
 returns-clause-row c = row_ids
+
+pub returns-clause-sight : goal.returns-clause-sight
+returns-clause-sight c = sight_ids
+
+pub returns-clause-blind : goal.returns-clause-blind
+returns-clause-blind c = blind_ids
