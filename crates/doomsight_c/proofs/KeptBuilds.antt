@@ -1,5 +1,5 @@
 -- What is kept is what was built, why nothing is kept, and what is copied out is what is given.
-use Rattle.std.proofs.Common.{◌≡◌, ◌-◌, ◌∙◌, ℕ, List, Option, Some, None, Result, Ok, Err, refl, sym, ap, subst, length, min, take, drop, arith}
+use Rattle.std.proofs.Common.{◌≡◌, ◌∙◌, ℕ, List, Option, Some, Result, Ok, Err, refl, sym, ap, subst, length, min, take, drop, arith}
 use Rattle.sight_names.specs.declared.names.Ask.{Ask}
 use Rattle.sight_names.specs.Map.{Map, map_of}
 use Rattle.cert_groups.specs.Grammar.{IsAnyInOrder}
@@ -13,7 +13,7 @@ use Rattle.whole_wad.specs.Built.{IsBuiltOf}
 use Rattle.doomsight_c.specs.declared.counts.DoomsightCounts.{DoomsightCounts}
 use Rattle.doomsight_c.specs.declared.fault.DoomsightFault.{DoomsightFault}
 use Rattle.doomsight_c.specs.declared.kept.Kept.{Kept}
-use Rattle.doomsight_c.specs.Built.{IsGiven, SpellsInto, counts_view}
+use Rattle.doomsight_c.specs.Built.{SpellsInto, counts_view}
 use Rattle.doomsight_c.specs.Faults.{fault_view}
 use Rattle.doomsight_c.specs.Keeping.{HoldsWhole, IsCalledFor, IsKept, KeptIsGiven, cert_of, table_of}
 use Rattle.doomsight_c.specs.Lines.{IsOfLibrary, status_in}

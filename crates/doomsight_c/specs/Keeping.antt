@@ -1,5 +1,5 @@
 -- What a build that is kept gives, and what is copied out of it.
-use Rattle.std.specs.Prelude.{◌≡◌, ℕ, List, [], Option, Some, None, Result, Ok, Err}
+use Rattle.std.specs.Prelude.{◌≡◌, ℕ, List, [], Option, Some, None, Result, Ok}
 use Rattle.sight_names.specs.declared.names.Ask.{Ask}
 use Rattle.sight_names.specs.Map.{Map}
 use Rattle.group_job.specs.declared.build.GroupBuilt.{GroupBuilt}

@@ -1,6 +1,5 @@
 -- What a handle owns says the same to every thread.
 use Rattle.std.specs.Prelude.{Option, Some, None}
-use mathlib.Core.List.{[], ◌∷◌}
 use mir.Raw.{raw}
 use base.Fraction.{full_share}
 use base.Shift.{Keyless}
