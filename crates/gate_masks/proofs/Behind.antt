@@ -1,24 +1,22 @@
 -- A half-edge of a good mesh finds the mask of its portal.
-use Rattle.std.proofs.Common.{◌≡◌, ℕ, List, Option, Some, None, Bool, true, false, not, refl, sym, ap, ◌∙◌, subst}
+use Rattle.std.proofs.Common.{◌≡◌, ℕ, List, Option, Some, None, Bool, false, not, refl, sym, ap, ◌∙◌, subst}
 use Rattle.std.specs.Prelude.{option_and_then}
 use Rattle.sight_names.specs.declared.names.Side.{Side}
 use Rattle.sight_names.specs.declared.names.Triangle.{Triangle}
 use Rattle.sight_names.specs.Map.{Map, MapLine, IsMap, line_at, map_of, sector_on}
 use Rattle.sight_names.specs.Mesh.{IsGoodMesh, label_of, side_edge, triangle_at}
-use Rattle.sight_names.specs.Plan.{PlanParts, IsPlan}
-use Rattle.sight_names.specs.Points.{Edge, reverse_of}
+use Rattle.sight_names.specs.Points.{reverse_of}
 use Rattle.sight_names.specs.Sequence.{Portal, entry_edge}
 use Rattle.sight_names.proofs.PlanMap.{plan_is_map}
 use Rattle.sight_lift.proofs.Doors.{has_name, named_is, other_edge}
 use Rattle.list_base.proofs.Bools.{not_not}
 use Rattle.list_base.proofs.Options.{some_is_same}
-use Rattle.half_edges.specs.declared.table.HalfEdge.{HalfEdge}
-use Rattle.half_edges.specs.HalfEdges.{IsHalfEdge, portal_of}
-use Rattle.half_edges.specs.Kinds.{IsEnteredAt, IsPassableAt}
-use Rattle.gate_floods.specs.Gates.{IsGate, IsInMask, other_side}
+use Rattle.half_edges.specs.HalfEdges.{portal_of}
+use Rattle.half_edges.specs.Kinds.{IsEnteredAt}
+use Rattle.gate_floods.specs.Gates.{IsGate, other_side}
 use Rattle.gate_masks.specs.declared.masks.Row.{Row}
 use Rattle.gate_masks.specs.Masks.{AreMasks, IsLeftOut, IsMaskAt, mask_at}
-use Rattle.gate_masks.specs.Behind.{IsMaskBehind, MasksAreFoundBehind, mask_behind}
+use Rattle.gate_masks.specs.Behind.{IsMaskBehind, MasksAreFoundBehind}
 use Rattle.gate_masks.proofs.AtSide.{GateLine, gate_of_line, line_of_gate}
 
 module _ (m : Map) (is_map : IsMap m) (ts : List Triangle) (ls : List (Option ℕ)) (good : IsGoodMesh m ts ls) where

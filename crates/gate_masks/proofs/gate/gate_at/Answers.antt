@@ -1,6 +1,5 @@
 use Rattle.std.proofs.Common.{◌≡◌, Some, sym, ◌∙◌}
 use Rattle.std.proofs.lemmas.Option.{none-some}
-use Rattle.sight_names.specs.Points.{place}
 use Rattle.gate_masks.specs.Gates.{crossing_of}
 use Rattle.gate_masks.proofs.AtSide.{entry_of, tells_gate, tells_no_crossing}
 use Rattle.gate_masks.proofs.gate.gate_at.Goals as goal
