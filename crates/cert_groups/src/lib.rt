@@ -14,8 +14,9 @@ mod reading;
 mod writing;
 
 pub use cert::{AnyCert, CertTwo, FrontTwo, Group};
-pub use fields::version_of;
+pub use fields::{group_count, version_of};
+pub use groups::groups_of;
 pub use laws::one_spelling;
 pub use printer::AnyPrinter;
-pub use reading::{front_two_of, read_any};
+pub use reading::{behind_sizes, front_two_of, read_any};
 pub use writing::print_any;

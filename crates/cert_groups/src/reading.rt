@@ -19,7 +19,7 @@ use std::alloc::Global;
 
 /// The bytes behind the three sizes.
 #[tactic(auto, unfolding(crate::specs::Reading::sizes_at))]
-fn behind_sizes(sizes: Sizes, total: usize, bytes: &[u8]) -> Result<&[u8], CertFault>
+pub fn behind_sizes(sizes: Sizes, total: usize, bytes: &[u8]) -> Result<&[u8], CertFault>
     ensures { GivesExactly (λ x. x.now) result (sizes_at sizes total bytes.now) }
 {
     let rest = u16_known(sizes.sectors, total, bytes)?;

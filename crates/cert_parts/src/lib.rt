@@ -12,4 +12,4 @@ mod records;
 pub use beginning::{Beginning, beginning_of};
 pub use part::Part;
 pub use reader::Reader;
-pub use records::{pass_nodes, usual_node};
+pub use records::{node_of, pass_nodes, usual_node};

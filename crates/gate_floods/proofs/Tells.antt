@@ -28,7 +28,7 @@ use Rattle.list_base.proofs.Numbers.{either_order}
 use Rattle.gate_floods.specs.Rows.{KeepsByRows}
 use Rattle.gate_floods.specs.Exact.{IsClaimed, RanksBefore, IsOwned, IsExactOver}
 use Rattle.gate_floods.specs.Bits.{rank_of}
-use Rattle.gate_floods.specs.Grammar.{as_two}
+use Rattle.cert_exact.specs.Grammar.{as_two}
 use Rattle.gate_floods.specs.Laws.{ExactTells, VersionThreeTells}
 use Rattle.gate_floods.proofs.Blind.{claims_are_right}
 

@@ -12,6 +12,9 @@ use Rattle.cert_format.specs.Accepted.{triangles_of, labels_of}
 use Rattle.cert_groups.specs.declared.cert.CertTwo.{CertTwo}
 use Rattle.groups_base.specs.Table.{IsTableFor, NamesTheLabels}
 use Rattle.accepted_groups.specs.Accepted.{AreGroupsJoined, IsGroupedSeen}
+use Rattle.cert_exact.specs.declared.cert.ExactParts.{ExactParts}
+use Rattle.cert_exact.specs.Grammar.{as_two}
+use Rattle.gate_floods.specs.Bits.{rank_of}
 use Rattle.gate_floods.specs.Rows.{KeepsByRows}
 
 -- claimed not to see each other: different groups of one component without a ray
@@ -47,3 +50,8 @@ pub record IsExactOver (rank : ℕ → ℕ) (m : Map) (table : List ℕ) (c : Ce
 -- accepted: the map of groups has the same lines, and its sides name the labels of their triangles
 abbrev pub IsAcceptedExact : (ℕ → ℕ) → Map → List ℕ → CertTwo → Type 0
 IsAcceptedExact rank m table c = (g : Map) × NamesTheLabels m (triangles_of c.cert) c.groups (labels_of c.cert) g × IsExactOver rank m table c g
+
+-- a certificate of version 3 is accepted: claims are owned by the group of the two that is joined with fewer groups, of equal ones by
+-- that with the smaller number
+abbrev pub IsAcceptedThree : Map → List ℕ → ExactParts → Type 0
+IsAcceptedThree m table c = IsAcceptedExact (rank_of c.rays (length c.groups)) m table (as_two c)

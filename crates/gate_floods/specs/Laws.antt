@@ -17,8 +17,8 @@ use Rattle.cert_groups.specs.declared.cert.CertTwo.{CertTwo}
 use Rattle.gate_floods.specs.Gates.{IsGate, IsBeyond, IsInMask, MayFollow}
 use Rattle.gate_floods.specs.Rows.{IsInRow, IsEmptyRow, HasRow, KeepsByRows}
 use Rattle.turned_trees.specs.Exact.{TellsAll}
-use Rattle.gate_floods.specs.Exact.{IsClaimed, IsOwned, IsAcceptedExact}
-use Rattle.gate_floods.specs.Grammar.{ExactParts, IsAcceptedThree}
+use Rattle.cert_exact.specs.declared.cert.ExactParts.{ExactParts}
+use Rattle.gate_floods.specs.Exact.{IsClaimed, IsOwned, IsAcceptedExact, IsAcceptedThree}
 use Rattle.gate_floods.specs.Bits.{IsRowOf, both_rows, has_bit, joined_row, owned_row}
 
 -- where a line splits the portals of a sequence, each later one may follow each earlier one

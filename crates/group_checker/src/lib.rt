@@ -15,4 +15,5 @@ mod verdict;
 
 pub use grouping::{GroupedMesh, MeshVerdict, judge_mesh};
 pub use judge::{check_any, check_two, judge_sectors};
+pub use members::members_of;
 pub use verdict::{AnyFault, AnyVerdict, any_of};

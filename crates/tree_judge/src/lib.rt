@@ -12,4 +12,4 @@ pub use hearing::TreeJudge;
 pub use judge::{Reach, TreeVerdict, judge_part, judge_trees, unmarked, unreached};
 pub use marks::mark;
 pub use roots::Roots;
-pub use trees::Terrain;
+pub use trees::{Frame, Terrain, is_blocked, make_room, put};

@@ -1,6 +1,6 @@
 //! The roots of all sources: passable lines that lead out of the source, by the side that names it.
 
-ghost use Rattle.std.specs.Prelude.{◌≡◌, option_and_then, slice_get, IfOk};
+ghost use Rattle.std.specs.Prelude.{◌≡◌, option_and_then, slice_get, length, IfOk};
 ghost use Rattle.sight_names.specs.Map.{map_of};
 ghost use Rattle.half_edges.specs.Numbers.{edge};
 ghost use Rattle.tree_judge.specs.Roots.{first_at, side_edges, line_edges, PutsFirst, PutsBefore, AreRoots};
@@ -106,6 +106,13 @@ impl Roots {
             Some(place) => *place,
             None => None,
         }
+    }
+
+    /// How many there are of all sources.
+    pub fn len(&self) -> usize
+        ensures { result ≡ length self.now.roots.items }
+    {
+        self.roots.len()
     }
 
     /// The root at this place.

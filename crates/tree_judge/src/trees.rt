@@ -238,7 +238,7 @@ fn is_shown_blocked(path: &[Frame], evidence: Evidence) -> bool
 
 /// The same; most often it is seen at once.
 #[inline(always)]
-fn is_blocked(path: &[Frame], evidence: Evidence) -> bool
+pub fn is_blocked(path: &[Frame], evidence: Evidence) -> bool
     ensures { IsTrue result ↔ Blocks (path_ends path.now) evidence }
 {
     is_seen_blocked(path, evidence) || is_shown_blocked(path, evidence)
@@ -246,7 +246,7 @@ fn is_blocked(path: &[Frame], evidence: Evidence) -> bool
 
 /// Puts the portal of this half-edge behind the open ones, and says whether there was room.
 #[inline(always)]
-fn put(path: &mut [Frame], depth: usize, edge: &HalfEdge) -> bool
+pub fn put(path: &mut [Frame], depth: usize, edge: &HalfEdge) -> bool
     ensures room { IsTrue result ↔ (depth < length path.old) }
     ensures put { IsTrue result → PutsAt path.old depth (edge_ends edge.now) path.new }
 {

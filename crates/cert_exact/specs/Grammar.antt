@@ -1,27 +1,14 @@
 -- The grammar of version 3: certificates that list no pair, their ranges and orders, and their one spelling.
 use Rattle.std.specs.Prelude.{◌≡◌, ℕ, suc, ◌<◌, ◌^◌, List, [], ◌∷◌, ◌++◌, length, flat_map, codes}
 use Rattle.std.specs.List.{AllByRecursion}
-use Rattle.sight_names.specs.declared.names.PairRay.{PairRay}
-use Rattle.sight_names.specs.Map.{Map}
 use Rattle.sight_tree.specs.declared.Node.{Node}
 use Rattle.sight_tree.specs.declared.Tree.{Tree}
 use Rattle.sight_tree.specs.Spelling.{u16, node_bytes}
 use Rattle.cert_format.specs.declared.cert.Sizes.{Sizes}
-use Rattle.cert_format.specs.declared.cert.Labelled.{Labelled}
 use Rattle.cert_format.specs.Grammar.{FitsFields, u32, u64, triangle_bytes, ray_bytes}
 use Rattle.cert_groups.specs.declared.cert.CertTwo.{CertTwo}
 use Rattle.cert_groups.specs.Grammar.{IsTwoInOrder, grouped_sizes, group_bytes}
-use Rattle.gate_floods.specs.Bits.{rank_of}
-use Rattle.gate_floods.specs.Exact.{IsAcceptedExact}
-
--- a certificate for a map of these sizes: groups of sectors, triangles labelled with groups, rays for pairs of groups, and the nodes
--- of each group's tree
-pub record ExactParts : Type 0 where
-  pub sizes : Sizes
-  pub groups : List (List ℕ)
-  pub triangles : List Labelled
-  pub rays : List PairRay
-  pub trees : List (List Node)
+use Rattle.cert_exact.specs.declared.cert.ExactParts.{ExactParts}
 
 -- the trees of the groups from one on
 abbrev pub trees_from : ℕ → List (List Node) → List Tree
@@ -36,15 +23,15 @@ as_two c = record {
   listed = [];
 }
 
--- accepted: claims are owned by the group of the two that is joined with fewer groups, of equal ones by that with the smaller number
-abbrev pub IsAcceptedThree : Map → List ℕ → ExactParts → Type 0
-IsAcceptedThree m table c = IsAcceptedExact (rank_of c.rays (length c.groups)) m table (as_two c)
-
 -- ---- the spelling
 
--- the magic, version 3, the map's sizes, and how many groups, triangles and rays there are
+-- the magic, version 3, the map's sizes, and how many groups there are
+abbrev pub front_bytes : Sizes → ℕ → List ℕ
+front_bytes sizes groups = codes "DSCT" ++ u16 3 ++ u16 sizes.sectors ++ u16 sizes.points ++ u16 sizes.lines ++ u16 groups
+
+-- and how many triangles and rays
 abbrev pub header_bytes : ExactParts → List ℕ
-header_bytes c = codes "DSCT" ++ u16 3 ++ u16 c.sizes.sectors ++ u16 c.sizes.points ++ u16 c.sizes.lines ++ u16 (length c.groups) ++ u32 (length c.triangles) ++ u32 (length c.rays)
+header_bytes c = front_bytes c.sizes (length c.groups) ++ u32 (length c.triangles) ++ u32 (length c.rays)
 
 abbrev pub nodes_bytes : List Node → List ℕ
 nodes_bytes ns = flat_map node_bytes ns

@@ -1,0 +1,13 @@
+use Rattle.std.proofs.Common.{◌≡◌, ◌+◌, ◌++◌, List, length}
+use Rattle.sight_tree.specs.declared.Node.{Node}
+use Rattle.row_judge.specs.Judged.{IsWalked}
+use Rattle.row_judge.proofs.judge.first_wrong.Given as goal
+
+abbrev pub invariant-loop-number : goal.invariant-loop-number
+invariant-loop-number l = record {
+  counted : l.number + length l.node-iterator ≡ length l.tree.nodes;
+  done : List Node;
+  split : l.tree.nodes ≡ done ++ l.node-iterator;
+  told : length done ≡ l.number;
+  walked : IsWalked l.terrain.edges.now l.masks l.row l.terrain.roots.now.roots.items l.terrain.roots.now.first.items (record { source = l.tree.source; nodes = done }) l.walk;
+}

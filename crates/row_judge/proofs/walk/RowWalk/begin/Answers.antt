@@ -1,0 +1,21 @@
+use Rattle.std.proofs.Common.{◌≡◌, ℕ, List, length, refl, ◌∙◌, ap, subst, arith}
+use Rattle.std.proofs.lemmas.List.{take_all}
+use Rattle.tree_judge.specs.Roots.{first_at}
+use Rattle.row_judge.specs.Words.{row_at}
+use Rattle.row_judge.specs.Path.{StandsBefore}
+use Rattle.row_judge.proofs.Walking.{walk_begun}
+use Rattle.row_judge.proofs.walk.RowWalk.begin.Goals as goal
+
+pub returns : goal.returns
+returns c =
+    let ms = c.args.masks.now in
+    let row = c.args.row.now in
+    let roots = c.args.terrain.now.roots.now.roots.items in
+    let firsts = c.args.terrain.now.roots.now.first.items in
+    let rows = c.put_first.new.rows.items in
+    let path = c.args.self.now.path.items in
+    let long : length rows ≡ length row = ap (λ (us : List ℕ). length us) c.in_ok-put_first.ensures in
+    walk_begun c.args.terrain.now.edges.now ms row roots firsts _ c.args.source refl
+    (ap (λ (us : List ℕ). row_at us ms.width 0) c.in_ok-put_first.ensures ∙ take_all ms.width row (omega (arith, c.requires)))
+    (omega (arith, long, c.requires))
+    (subst (λ (us : List ℕ). StandsBefore ms row roots (first_at firsts c.args.source) path us c.start-self.new.waits.items c.start-self.result) c.as_slice.ensures.value (c.start-self.ensures row path))

@@ -1,0 +1,30 @@
+-- A tree as far as its nodes have come, and a walk with a row that all of them have answered for.
+use Rattle.std.specs.Prelude.{◌≡◌, ℕ, List, [], Option, Some, None}
+use Rattle.sight_tree.specs.declared.Tree.{Tree}
+use Rattle.half_edges.specs.declared.table.HalfEdge.{HalfEdge}
+use Rattle.tree_judge.specs.declared.roots.Root.{Root}
+use Rattle.tree_judge.specs.Roots.{first_at}
+use Rattle.tree_judge.specs.Path.{IsChain}
+use Rattle.row_judge.specs.declared.masks.Masks.{Masks}
+use Rattle.row_judge.specs.declared.walk.RowWalk.{RowWalk}
+use Rattle.row_judge.specs.Asked.{Pending, pending_roots, AreAnswered, IsFirstWrong}
+use Rattle.row_judge.specs.Path.{IsAt}
+
+module _ (xs : List HalfEdge) (ms : Masks) (first : List ℕ) (roots : List Root) (firsts : List (Option ℕ)) where
+  -- all nodes that have come have answered, and the walk stands behind them
+  pub record IsWalked (t : Tree) (w : RowWalk) : Type 0 where
+    pub source_is : w.source ≡ t.source
+    pub each : (es : List ℕ) → IsChain roots (first_at firsts t.source) es → (ps : List Pending) × AreAnswered xs ms t.source (pending_roots ms first es) t.nodes ps × IsAt ms first roots w.path.items w.rows.items w.waits.items w.follow ps
+
+  -- the nodes answer for the source's roots and all that follows them, with none missing and none left over
+  pub record IsWholeFrom (t : Tree) : Type 0 where
+    pub whole : (es : List ℕ) → IsChain roots (first_at firsts t.source) es → AreAnswered xs ms t.source (pending_roots ms first es) t.nodes []
+
+  -- node k is the first that doesn't answer, or that is missing
+  pub record IsFirstWrongFrom (t : Tree) (k : ℕ) : Type 0 where
+    pub wrong : (es : List ℕ) → IsChain roots (first_at firsts t.source) es → IsFirstWrong xs ms t.source (pending_roots ms first es) t.nodes k
+
+  -- all nodes answer, and nothing else is asked; or the first that doesn't, or that is missing, is told
+  abbrev pub TellsTree : Tree → Option ℕ → Type 0
+  TellsTree t None = IsWholeFrom t
+  TellsTree t (Some k) = IsFirstWrongFrom t k

@@ -1,0 +1,5 @@
+pub mod Words
+pub mod Asked
+pub mod Path
+pub mod Judged
+pub mod Laws

@@ -1,0 +1,31 @@
+-- Rows of numbers as bits in words of 64, the least bit of each word first.
+use Rattle.std.specs.Prelude.{◌≡◌, ℕ, ◌/◌, ◌%◌, ◌^◌, ◌==◌, ◌||◌, not, Bool, true, false, ◌↔◌, List, [], ◌∷◌, Option, Some, None, take, drop, slice_index, bit_and}
+use Rattle.std.specs.Int.{bit_at}
+
+-- the number is in the row
+abbrev pub is_in : List ℕ → ℕ → Bool
+is_in row c = bit_at (slice_index row (c / 64)) (c % 64) == 1
+
+-- the row is that of the numbers of which P holds
+abbrev pub AreBitsOf : List ℕ → (ℕ → Type 0) → Type 0
+AreBitsOf row P = (c : ℕ) → (bit_at (slice_index row (c / 64)) (c % 64) ≡ 1) ↔ P c
+
+-- what both rows have; as long as the first
+abbrev pub both_words : List ℕ → List ℕ → List ℕ
+both_words [] ys = []
+both_words (x ∷ xs) [] = 0 ∷ both_words xs []
+both_words (x ∷ xs) (y ∷ ys) = bit_and x y ∷ both_words xs ys
+
+-- a bit of some word is set
+abbrev pub has_bit : List ℕ → Bool
+has_bit [] = false
+has_bit (x ∷ xs) = not (x % 2 ^ 64 == 0) || has_bit xs
+
+-- the row of so many words at this place
+abbrev pub row_at : List ℕ → ℕ → ℕ → List ℕ
+row_at words width at = take width (drop at words)
+
+-- the sector isn't in the row; none never is
+abbrev pub is_away : List ℕ → Option ℕ → Bool
+is_away row None = true
+is_away row (Some c) = not (is_in row c)

@@ -1,0 +1,106 @@
+//! A walk with a row that is asked node by node.
+
+ghost use Rattle.std.specs.Prelude.{◌≡◌, ◌≤◌, ℕ, List, Option, length, true, false, IfNone, IfOk, IfSome};
+ghost use Rattle.sight_tree.specs.declared.Tree.{Tree as WalkTree};
+ghost use Rattle.tree_judge.specs.Walked.{begun, with_node};
+ghost use Rattle.row_judge.specs.Judged.{IsFirstWrongFrom, IsWalked, IsWholeFrom};
+ghost use Rattle.row_judge.specs.Words.{row_at};
+
+use crate::follow::{RowFollow, Wait, answer, start};
+use crate::masks::Masks;
+use sight_names::Memory;
+use sight_tree::{Node, Tree};
+use std::alloc::Global;
+use tree_judge::{Frame, Terrain, make_room};
+
+/// A walk of a source whose nodes come one by one. Its path grows with its depth, and its rows with the gates on the
+/// path.
+#[derive(Drop)]
+pub struct RowWalk {
+    source: u16,
+    path: Vec<Frame>,
+    rows: Vec<u64>,
+    waits: Vec<Wait>,
+    follow: RowFollow,
+}
+
+/// Puts the row in place of all rows.
+fn put_first(rows: &mut Vec<u64>, row: &[u64]) -> Result<(), Memory>
+    ensures { IfOk result (λ _. rows.new.items ≡ row.now) }
+{
+    rows.clear();
+    rows.extend_from_slice(row)?;
+    Ok(())
+}
+
+impl RowWalk {
+    /// A walk that asks for nothing.
+    pub fn new(alloc: Global) -> RowWalk {
+        RowWalk {
+            source: 0,
+            path: Vec::new(alloc),
+            rows: Vec::new(alloc),
+            waits: Vec::new(alloc),
+            follow: RowFollow {
+                depth: 0,
+                row: 0,
+                root: None,
+                asked: None,
+            },
+        }
+    }
+
+    /// Goes back before the first root, now of this source, with this row, which is as long as the masks.
+    pub fn begin(
+        &mut self,
+        terrain: &Terrain<'_>,
+        masks: &Masks<'_>,
+        source: u16,
+        row: &[u64],
+    ) -> Result<(), Memory>
+        requires { length row.now ≡ masks.now.width }
+        ensures { IfOk result (λ _. IsWalked terrain.now.edges.now masks.now row.now terrain.now.roots.now.roots.items terrain.now.roots.now.first.items (begun source) self.new) }
+    {
+        put_first(&mut self.rows, row)?;
+        self.source = source;
+        self.follow = start(
+            terrain,
+            masks,
+            source,
+            self.rows.as_slice(),
+            &mut self.waits,
+        );
+        Ok(())
+    }
+
+    /// Whether the node answers for what is asked; then the walk stands behind it.
+    pub fn step(
+        &mut self,
+        terrain: &Terrain<'_>,
+        masks: &Masks<'_>,
+        node: Node,
+    ) -> Result<bool, Memory>
+        ensures answered { (row : List ℕ) (t : WalkTree) → IsWalked terrain.now.edges.now masks.now row terrain.now.roots.now.roots.items terrain.now.roots.now.first.items t self.old → IfOk result (λ yes. yes ≡ true → IsWalked terrain.now.edges.now masks.now row terrain.now.roots.now.roots.items terrain.now.roots.now.first.items (with_node node t) self.new) }
+        ensures refused { (row : List ℕ) (t : WalkTree) → IsWalked terrain.now.edges.now masks.now row terrain.now.roots.now.roots.items terrain.now.roots.now.first.items t self.old → IfOk result (λ yes. yes ≡ false → IsFirstWrongFrom terrain.now.edges.now masks.now row terrain.now.roots.now.roots.items terrain.now.roots.now.first.items (with_node node t) (length t.nodes)) }
+    {
+        make_room(&mut self.path, self.follow.depth)?;
+        answer(
+            terrain,
+            masks,
+            self.source,
+            self.path.as_mut_slice(),
+            &mut self.rows,
+            &mut self.waits,
+            &mut self.follow,
+            node,
+        )
+    }
+
+    /// Whether nothing is asked any more.
+    pub fn is_done(&self, terrain: &Terrain<'_>, masks: &Masks<'_>) -> bool
+        ensures whole { (row : List ℕ) (t : WalkTree) → IsWalked terrain.now.edges.now masks.now row terrain.now.roots.now.roots.items terrain.now.roots.now.first.items t self.now → result ≡ true → IsWholeFrom terrain.now.edges.now masks.now row terrain.now.roots.now.roots.items terrain.now.roots.now.first.items t }
+        ensures missing { (row : List ℕ) (t : WalkTree) → IsWalked terrain.now.edges.now masks.now row terrain.now.roots.now.roots.items terrain.now.roots.now.first.items t self.now → result ≡ false → IsFirstWrongFrom terrain.now.edges.now masks.now row terrain.now.roots.now.roots.items terrain.now.roots.now.first.items t (length t.nodes) }
+    {
+        self.follow.asked.is_none()
+    }
+}
