@@ -42,6 +42,7 @@ abbrev pub role_words : Role → List ℕ
 role_words role.Wad = codes "wad\n"
 role_words role.Cert = codes "cert\n"
 role_words role.Report = codes "report\n"
+role_words role.Picture = codes "picture\n"
 role_words role.Text = codes "text\n"
 
 abbrev pub lump_words : Lump → List ℕ

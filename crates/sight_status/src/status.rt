@@ -14,6 +14,7 @@ pub enum Role {
     Wad,
     Cert,
     Report,
+    Picture,
     Text,
 }
 

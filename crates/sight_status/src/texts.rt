@@ -31,6 +31,7 @@ fn write_line(role: Role) -> &'static str
         Role::Wad => "refused: write fault wad\n",
         Role::Cert => "refused: write fault cert\n",
         Role::Report => "refused: write fault report\n",
+        Role::Picture => "refused: write fault picture\n",
         Role::Text => "refused: write fault text\n",
     }
 }
@@ -42,6 +43,7 @@ fn role_name(role: Role) -> &'static str
         Role::Wad => "wad\n",
         Role::Cert => "cert\n",
         Role::Report => "report\n",
+        Role::Picture => "picture\n",
         Role::Text => "text\n",
     }
 }
