@@ -1,5 +1,5 @@
 -- Some names of others, in their order.
-use Rattle.std.proofs.Common.{◌≡◌, ℕ, ◌⊎◌, inl, inr, List, [], ◌∷◌, filter, Bool, true, false, cond, refl, sym, ◌∙◌, subst, IsTrue}
+use Rattle.std.proofs.Common.{ℕ, inl, inr, List, [], ◌∷◌, filter, Bool, true, false, cond, refl, sym, ◌∙◌, subst, IsTrue}
 use Rattle.std.specs.List.{All, AllByRecursion}
 use Rattle.std.proofs.lemmas.List.Elements.{All-from_recursion, recursion_from_All}
 use Rattle.all_maps.specs.All.{HasInOrder}

@@ -1,9 +1,9 @@
 -- The lumps of a map end before the marker of the next map.
-use Rattle.std.proofs.Common.{◌≡◌, ℕ, zero, suc, ◌+◌, ◌-◌, ◌<◌, ◌≤◌, ◌⊎◌, inl, inr, List, [], ◌∷◌, length, get_or, drop, slice_get, Bool, true, false, not, ◌&&◌, if◌then◌else◌, is_ok, Option, Some, None, Result, Ok, Err, refl, sym, ap, ◌∙◌, subst, arith, IsOk, IsTrue, append-nil, ◌++◌}
+use Rattle.std.proofs.Common.{◌≡◌, ℕ, zero, suc, ◌+◌, ◌-◌, ◌<◌, ◌≤◌, ◌⊎◌, inl, inr, List, [], ◌∷◌, length, get_or, drop, slice_get, Bool, true, false, not, ◌&&◌, if◌then◌else◌, is_ok, Option, Some, None, Result, Ok, Err, refl, sym, ap, ◌∙◌, subst, arith, IsOk, IsTrue, ◌++◌}
 use Rattle.std.specs.Prelude.{bytes_eq, codes}
 use Rattle.std.specs.List.{All, list_all, list_any}
 use Rattle.std.proofs.lemmas.Bool.{false≢true}
-use Rattle.std.proofs.lemmas.List.{drop_all, get_or-drop, length-drop}
+use Rattle.std.proofs.lemmas.List.{get_or-drop, length-drop}
 use Rattle.std.proofs.lemmas.Option.{get_or_from_slice_get, slice_get_within}
 use Rattle.std.proofs.lemmas.Slice.Eq.{bytes_eq-Decides}
 use Rattle.sight_names.specs.declared.faults.MapFault.{MapFault}

@@ -10,6 +10,7 @@ use Rattle.wad_dir.specs.Map.{key_of, same_name}
 use Rattle.all_maps.specs.Maps.{is_map_name, is_visible}
 use Rattle.all_maps.specs.Names.{word_of}
 use Rattle.list_base.proofs.Numbers.{tells_other, tells_same}
+use Rattle.list_base.proofs.Bools.{first_true as first_of_both, second_true as second_of_both}
 
 -- ---- the bytes up to the first NUL
 
@@ -38,14 +39,6 @@ word_at_end name k ge e =
 
 below : (c : ℕ) → is_visible (to_ascii_uppercase c) ≡ true → c < 128
 below c e = grind (arith, nat_tests)
-
-first_of_both : (a b : Bool) → (a && b) ≡ true → a ≡ true
-first_of_both true b e = refl
-first_of_both false b e = e
-
-second_of_both : (a b : Bool) → (a && b) ≡ true → b ≡ true
-second_of_both true b e = e
-second_of_both false b e = absurd cc
 
 word_ascii : (name : List ℕ) → list_all is_visible (key_of name) ≡ true → IsAscii (word_of name)
 word_ascii [] e i = omega arith

@@ -1,12 +1,12 @@
 -- What an answer on ends tells.
-use Rattle.std.proofs.Common.{◌≡◌, ℕ, zero, suc, ◌-◌, List, [], ◌∷◌, Option, Some, None, Bool, true, false, refl, sym, ap, ◌∙◌, subst, ℤ, pos, ◌<ℤ◌, IsTrue, ◌↔◌}
+use Rattle.std.proofs.Common.{◌≡◌, ℕ, ◌-◌, List, [], ◌∷◌, Option, Some, None, Bool, true, false, refl, sym, ap, ◌∙◌, subst, ℤ, pos, ◌<ℤ◌, IsTrue, ◌↔◌}
 use Rattle.std.specs.Prelude.{slice_get, MatchOption, filter_map, is_some, not, option_map, nat_lt, if◌then◌else◌}
 use Rattle.std.specs.List.{cons_option}
 use Rattle.sight_names.specs.declared.limits.TheConstants.{RIGHT_END}
 use Rattle.sight_names.specs.declared.names.Pt.{Pt}
 use Rattle.sight_names.specs.declared.names.EndAt.{EndAt}
 use Rattle.sight_names.specs.Point.{point_of, value_at}
-use Rattle.sight_names.specs.Splitting.{EndPoints, IsParted, SplitsEnds, IsSplittable, end_of}
+use Rattle.sight_names.specs.Splitting.{EndPoints, SplitsEnds, IsSplittable, end_of}
 use Rattle.extreme_lines.specs.declared.cut.Cut.{Cut}
 use Rattle.extreme_lines.proofs.EndsLemmas.{left_place, right_place}
 use Rattle.block_evidence.specs.declared.Evidence.{Evidence}

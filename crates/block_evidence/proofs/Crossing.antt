@@ -1,10 +1,9 @@
 -- Points that two segments, or a triangle and a point, have in common, by their weights.
-use Rattle.std.proofs.Common.{◌≡◌, ℕ, ◌+◌, ◌<◌, ◌≤◌, List, [], ◌∷◌, sum, Some, None, Bool, refl, sym, ap, ◌∙◌, arith, subst, subst₂, ℤ, pos, negsuc, ◌+ℤ◌, ◌-ℤ◌, ◌*ℤ◌, neg_ℤ, ◌≤ℤ◌, ◌<ℤ◌}
+use Rattle.std.proofs.Common.{◌≡◌, ℕ, ◌+◌, ◌<◌, ◌≤◌, List, [], ◌∷◌, Some, None, Bool, refl, sym, ap, ◌∙◌, arith, subst, subst₂, ℤ, pos, negsuc, ◌+ℤ◌, ◌-ℤ◌, ◌*ℤ◌, neg_ℤ, ◌≤ℤ◌, ◌<ℤ◌}
 use Rattle.std.specs.Prelude.{if◌then◌else◌}
 use Rattle.std.specs.List.{cons_option}
 use Rattle.std.proofs.lemmas.Bool.{lt-ltb, le-ltb}
 use Rattle.std.proofs.lemmas.Int.{ints}
-use Rattle.std.proofs.lemmas.List.Sums.{sum_by-cons}
 use Rattle.exact_ring.proofs.Quoting.{quoting, by_ring, ring_at, combine1}
 use Rattle.sight_names.specs.declared.limits.TheConstants.{RIGHT_END}
 use Rattle.sight_names.specs.declared.names.Pt.{Pt}

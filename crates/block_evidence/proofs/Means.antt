@@ -1,5 +1,5 @@
 -- Hulls that meet and lines that part ends exclude each other; balanced pairs of ends show that the hulls meet.
-use Rattle.std.proofs.Common.{◌≡◌, ℕ, zero, suc, ◌+◌, ◌<◌, ◌≤◌, List, [], ◌∷◌, length, sum, Option, Some, None, Bool, true, false, refl, sym, ap, ◌∙◌, arith, ◌⊎◌, inl, inr, subst, subst₂, ℤ, pos, ◌+ℤ◌, ◌-ℤ◌, ◌*ℤ◌, neg_ℤ, ◌≤ℤ◌, ◌<ℤ◌}
+use Rattle.std.proofs.Common.{◌≡◌, ℕ, zero, suc, ◌+◌, ◌<◌, ◌≤◌, List, [], ◌∷◌, length, sum, Some, None, Bool, true, false, refl, sym, ap, ◌∙◌, arith, ◌⊎◌, inl, inr, subst, subst₂, ℤ, pos, ◌+ℤ◌, ◌-ℤ◌, ◌*ℤ◌, neg_ℤ, ◌≤ℤ◌, ◌<ℤ◌}
 use Rattle.std.specs.List.{cons_option}
 use Rattle.std.specs.Prelude.{slice_get, nat_lt, if◌then◌else◌, map}
 use Rattle.std.specs.List.{AllByRecursion}
@@ -7,7 +7,7 @@ use Rattle.std.proofs.lemmas.Int.{ints}
 use Rattle.std.proofs.lemmas.List.Sums.{sum_by-cons}
 use Rattle.std.proofs.lemmas.Bool.{lt-ltb, le-ltb, ltb-true, ltb-false}
 use Rattle.exact_ring.proofs.Quoting.{quoting, by_ring}
-use Rattle.exact_ring.proofs.Signs.{mul-pos, mul-nonneg, pos-of-mul}
+use Rattle.exact_ring.proofs.Signs.{mul-pos, pos-of-mul}
 use lib.IntN.{*ℤ_comm}
 use Rattle.sight_names.specs.declared.limits.TheConstants.{RIGHT_END}
 use Rattle.sight_names.specs.declared.names.Pt.{Pt}
@@ -18,7 +18,7 @@ use Rattle.sight_names.specs.Splitting.{AreBalanced, across, up, weighed}
 use Rattle.block_evidence.specs.Stuck.{weighed_x, weighed_y, IsMeanOf, HullsMeet, left_ends, right_ends, AreStuck}
 use Rattle.block_evidence.specs.Parted.{PartsEnds, AreParted}
 use Rattle.list_base.proofs.Options.{none_is_not_some, some_is_same}
-use Rattle.exact_ring.proofs.Small.{negated_sum, weighed_pos, weighed_nonneg}
+use Rattle.exact_ring.proofs.Small.{weighed_pos, weighed_nonneg}
 use Rattle.sight_names.proofs.Affine.{neg_value}
 
 -- ---- a line's value at a mean

@@ -1,8 +1,6 @@
 //! Whether the hulls of left and right ends meet.
 
 ghost use Rattle.std.specs.Prelude.{◌≡◌, ℕ, ◌<◌, ◌≤◌, length, Some as Given, slice_get, MatchOption, IfSome, IfNone};
-ghost use Rattle.extreme_lines.specs.Differences.{difference};
-ghost use Rattle.extreme_lines.specs.Spans.{Spans};
 ghost use Rattle.block_evidence.specs.Stuck.{AreStuck};
 ghost use Rattle.block_evidence.specs.Parted.{PartsEnds};
 ghost use Rattle.block_evidence.specs.Pairs.{IsLeftIn, IsRightIn, IsConeIn, Keeps, HasAt, HasAllAt};

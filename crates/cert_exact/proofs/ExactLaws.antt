@@ -5,7 +5,6 @@ use Rattle.std.proofs.lemmas.Bool.{eqb-true}
 use Rattle.std.proofs.lemmas.List.{append-nil, nil_from_length}
 use Rattle.sight_names.specs.Limits.{most_triangles}
 use Rattle.sight_names.specs.declared.faults.CertFault.{CertFault}
-use Rattle.sight_names.specs.Order.{Ascends, PairBefore}
 use Rattle.sight_tree.specs.declared.Node.{Node}
 use Rattle.sight_tree.specs.Spelling.{u16}
 use Rattle.cert_format.specs.declared.cert.Sizes.{Sizes}
@@ -28,9 +27,7 @@ use Rattle.cert_exact.specs.Reading.{with_sectors, lengths_at, parts_at, exact_a
 use Rattle.cert_exact.proofs.TreesLaws.{sizes_spelled, many_sizes, fit_sizes, lengths_take, lengths_again, trees_take, trees_again}
 use Rattle.cert_exact.proofs.HeaderLaws.{FitCounts, count_bytes, version_takes, version_again, counts_take, counts_again}
 use Rattle.cert_exact.proofs.GroupTrees.{tree_ranges, sources_ascend, trees_fit, nodes_fit, all_in_order}
-
-none_ascend : Ascends PairBefore []
-none_ascend i j x y lt h g = absurd cc
+use Rattle.cert_groups.proofs.PartLaws.{none_ascend}
 
 counts_same : (k : CountsThree) (a b c : ℕ) → k.groups ≡ a → k.triangles ≡ b → k.rays ≡ c → k ≡ record { groups = a; triangles = b; rays = c }
 counts_same k a b c p q r = rw (← p, ← q, ← r) refl

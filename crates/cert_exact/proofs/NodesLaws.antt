@@ -135,10 +135,6 @@ count_read total count bytes ns fits e is =
     let x = bind_ok (nodes_to_end (length bytes) total bytes) (λ ns. Ok (length ns)) count e in
     subst (λ (ms : List Node). nodes_to_end (length bytes) total bytes ≡ Ok ms) (one_list bytes x.0 ns (spelled_of total bytes x.0 fits x.1) is) x.1
 
-pub count_fails : (read : Result (List Node) CertFault) (f : CertFault) → how_many read ≡ Err f → read ≡ Err f
-count_fails (Ok ns) f e = absurd cc
-count_fails (Err g) f e = cc
-
 -- ---- the laws
 
 pub nodes_taken : (total : ℕ) (bytes : List ℕ) (ns : List Node) → IsBytes bytes → nodes_to_end (length bytes) total bytes ≡ Ok ns → (bytes ≡ nodes_bytes ns) × AllByRecursion FitsInOrder ns

@@ -1,14 +1,14 @@
 -- Lengths and trees: what is read is spelled so and in order, and what is spelled so is read.
-use Rattle.std.proofs.Common.{◌≡◌, ℕ, suc, ◌+◌, ◌^◌, ◌<◌, ◌≤◌, List, [], ◌∷◌, ◌++◌, length, map, take, drop, false, not, ltb, Ok, refl, sym, ap, subst, ◌∙◌, append_assoc, arith, inl, inr}
+use Rattle.std.proofs.Common.{◌≡◌, ℕ, suc, ◌+◌, ◌^◌, ◌<◌, ◌≤◌, List, [], ◌∷◌, ◌++◌, length, map, take, drop, false, not, ltb, Ok, refl, sym, ap, subst, ◌∙◌, append_assoc, arith}
 use Rattle.std.specs.List.{flat_map, AllByRecursion}
 use Rattle.std.specs.Int.{w64}
-use Rattle.std.proofs.lemmas.Bool.{cases_lt, ltb-false, le-ltb, not-true}
-use Rattle.std.proofs.lemmas.List.{take_at, drop_at, take-append-drop, length-append, length-take, get_or-drop, get_or-take, get_or_past}
+use Rattle.std.proofs.lemmas.Bool.{ltb-false, le-ltb, not-true}
+use Rattle.std.proofs.lemmas.List.{take_at, drop_at, take-append-drop, length-append, length-take}
 use Rattle.sight_names.specs.declared.faults.CertFault.TheVariants as faults
 use Rattle.sight_tree.specs.declared.Node.{Node}
 use Rattle.cert_format.specs.Grammar.{u64}
 use Rattle.cert_format.specs.Reading.{◌>>=◌, begins_at, number_at, passed}
-use Rattle.cert_format.proofs.FieldLaws.{IsBytes, bind_ok, passed_ok, ok_is, Takes, Takes-then, wide64, number_takes, number_again}
+use Rattle.cert_format.proofs.FieldLaws.{IsBytes, bind_ok, passed_ok, ok_is, Takes, Takes-then, wide64, number_takes, number_again, IsBytes-take as front_fits, IsBytes-drop as back_fits}
 use Rattle.cert_format.proofs.RecordLaws.{IsChain, records_take, records_again}
 use Rattle.cert_format.proofs.TreeLaws.{FitsInOrder}
 use Rattle.cert_exact.specs.Grammar.{nodes_bytes, length_bytes}
@@ -68,16 +68,6 @@ lengths_again total trees rest fits =
     ∙ lengths_read total (sizes_in trees) rest (sizes_fit trees fits)
 
 -- ---- trees
-
-front_fits : (n : ℕ) (bytes : List ℕ) → IsBytes bytes → IsBytes (take n bytes)
-front_fits n bytes h i =
-    elim (cases_lt i n) [
-      | inl lt ↦ rw (get_or-take n bytes i 0 lt) (h i)
-      | inr le ↦ rw (get_or_past (take n bytes) i 0 (omega (arith, length-take n bytes))) (omega arith)
-    ]
-
-back_fits : (n : ℕ) (bytes : List ℕ) → IsBytes bytes → IsBytes (drop n bytes)
-back_fits n bytes h i = rw get_or-drop (h (n + i))
 
 record IsTreeTaken (many : ℕ) (bytes : List ℕ) (ns : List Node) (rest : List ℕ) : Type 0 where
   takes : Takes bytes (nodes_bytes ns) rest

@@ -1,6 +1,5 @@
 //! The fields of the header that other versions don't have: version 3, and the counts of its records.
 
-ghost use Rattle.std.specs.Prelude.{◌≡◌};
 ghost use Rattle.cert_format.specs.Reading.{GivesExactly, triangle_count_at};
 ghost use Rattle.cert_exact.specs.Reading.{version_at, counts_at};
 

@@ -1,6 +1,6 @@
 //! The nodes of a tree whose bytes are known.
 
-ghost use Rattle.std.specs.Prelude.{◌≡◌, length};
+ghost use Rattle.std.specs.Prelude.{length};
 ghost use Rattle.cert_format.specs.Reading.{Gives, GivesExactly, behind, node_at};
 ghost use Rattle.cert_exact.specs.Reading.{nodes_to_end, how_many};
 

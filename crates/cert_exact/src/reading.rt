@@ -1,6 +1,6 @@
 //! The certificate of version 3 that bytes spell.
 
-ghost use Rattle.std.specs.Prelude.{◌≡◌, Ok, IfOk};
+ghost use Rattle.std.specs.Prelude.{Ok, IfOk};
 ghost use Rattle.cert_format.specs.Grammar.{AreSmall};
 ghost use Rattle.cert_format.specs.Reading.{Gives};
 ghost use Rattle.cert_groups.specs.Grammar.{IsTwoInOrder};

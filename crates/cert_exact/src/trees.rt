@@ -1,6 +1,5 @@
 //! How many bytes each tree takes, and the trees.
 
-ghost use Rattle.std.specs.Prelude.{◌≡◌};
 ghost use Rattle.cert_format.specs.Reading.{Gives};
 ghost use Rattle.cert_exact.specs.Reading.{lengths_at, tree_at, trees_at};
 

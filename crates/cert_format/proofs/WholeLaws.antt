@@ -1,5 +1,5 @@
 -- The two laws of the grammar: what is read is spelled so, and what is spelled so is read.
-use Rattle.std.proofs.Common.{◌≡◌, ℕ, zero, suc, ◌^◌, ◌<◌, ◌≤◌, eqb, List, [], ◌∷◌, ◌++◌, length, map, slice_get, Option, Some, None, Result, Ok, refl, sym, ap, subst, ◌∙◌, append_assoc, arith, inl, inr, codes, ◌-◌}
+use Rattle.std.proofs.Common.{◌≡◌, ℕ, zero, suc, ◌^◌, ◌<◌, ◌≤◌, eqb, List, [], ◌∷◌, ◌++◌, length, map, slice_get, Some, None, Result, Ok, refl, sym, ap, subst, ◌∙◌, append_assoc, arith, inl, inr, codes, ◌-◌}
 use Rattle.std.specs.List.{flat_map, AllByRecursion}
 use Rattle.std.specs.Int.{w16, w32}
 use Rattle.std.proofs.lemmas.Bool.{ltb-false, le-ltb, eqb-true, not-true}
@@ -16,7 +16,7 @@ use Rattle.cert_format.specs.declared.cert.Sizes.{Sizes}
 use Rattle.cert_format.specs.declared.cert.Labelled.{Labelled}
 use Rattle.cert_format.specs.Parts.{CertParts}
 use Rattle.sight_tree.specs.Spelling.{u16}
-use Rattle.cert_format.specs.Grammar.{AreSmall, IsPairInRange, IsRayInRange, IsTreeInRange, IsInOrder, FitsRay, FitsFields, Spells, u32, triangle_bytes, ray_bytes, pair_bytes, tree_bytes, front_bytes, header_bytes, spelling}
+use Rattle.cert_format.specs.Grammar.{AreSmall, IsPairInRange, IsRayInRange, IsTreeInRange, IsInOrder, FitsRay, FitsFields, Spells, u32, triangle_bytes, ray_bytes, pair_bytes, tree_bytes, front_bytes, spelling}
 use Rattle.sight_names.specs.Order.{Ascends, PairBefore}
 use Rattle.cert_format.specs.Grammar as fields
 use Rattle.cert_format.specs.Reading.{◌>>=◌, passed, magic, magic_at, version_at, front_at, triangle_count_at, Counts, counts_at, triangle_at, ray_at, pair_at, tree_at, triangles_at, rays_at, pairs_at, trees_at, reading}
@@ -178,18 +178,6 @@ trees_fit sizes [] h g = tt
 trees_fit sizes (t ∷ ts) h g = (record { source = h.0.0; count = g.0.count; nodes = fit_in_order t.nodes h.0.1 g.0.nodes }, trees_fit sizes ts h.1 g.1)
 
 -- ---- the laws
-
-abbrev FirstTriangle : Option Labelled
-FirstTriangle = None
-
-abbrev FirstRay : Option PairRay
-FirstRay = None
-
-abbrev FirstPair : Option Pair
-FirstPair = None
-
-abbrev FirstSource : Option ℕ
-FirstSource = None
 
 pub reading_takes : (sizes : Sizes) (bytes : List ℕ) (c : CertParts) → AreSmall sizes → IsBytes bytes → reading sizes bytes ≡ Ok c → Spells sizes bytes c
 unfolding reading spelling

@@ -1,6 +1,6 @@
 //! The certificate that bytes spell.
 
-ghost use Rattle.std.specs.Prelude.{◌≡◌, Some, None, Ok, IfOk};
+ghost use Rattle.std.specs.Prelude.{Some, None, Ok, IfOk};
 ghost use Rattle.cert_format.specs.Parts.{CertParts};
 ghost use Rattle.cert_format.specs.Grammar.{AreSmall, Spells};
 ghost use Rattle.cert_format.specs.Reading.{Gives, GivesExactly, triangle_count_at, front_at, counts_at, triangles_at, rays_at, pairs_at, trees_at, reading};

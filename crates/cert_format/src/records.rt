@@ -2,7 +2,7 @@
 //! their own fields have passed their ranges, a tree once its source has.
 
 ghost use Rattle.std.specs.Prelude.{◌≡◌, Some, None};
-ghost use Rattle.cert_format.specs.Reading.{Gives, GivesExactly, behind, comes_after, pair_after, pair_of, triangle_after, triangle_at, sight_line_at, ray_at, pair_at, two_ends_at, three_ends_at, four_ends_at, node_at, nodes_at, tree_at};
+ghost use Rattle.cert_format.specs.Reading.{Gives, GivesExactly, behind, pair_after, pair_of, triangle_after, triangle_at, sight_line_at, ray_at, pair_at, two_ends_at, three_ends_at, four_ends_at, node_at, nodes_at, tree_at};
 
 use crate::cert::{Labelled, Sizes};
 use crate::fields::{end_of, i32_at, i64_at, place, point_at, side_of, u16_at, u16_below, u64_at};

@@ -37,7 +37,7 @@ pub record AreSpelledParts (sizes : Sizes) (bytes : List ℕ) (c : CertTwo) : Ty
   pub fits : FitsFields c.cert
   pub spelled : bytes ≡ tail_bytes sizes c
 
-none_ascend : Ascends PairBefore []
+pub none_ascend : Ascends PairBefore []
 none_ascend i j x y lt h g = absurd cc
 
 counts_same : (k : Counts) (a b c d : ℕ) → k.triangles ≡ a → k.rays ≡ b → k.listed ≡ c → k.trees ≡ d → k ≡ record { triangles = a; rays = b; listed = c; trees = d }

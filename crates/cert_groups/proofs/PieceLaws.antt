@@ -20,9 +20,6 @@ gave at n old new x after a b p q =
 
 -- ---- a front, and what is behind it
 
-pub front_gave : (piece front after behind : List ℕ) → front ≡ piece ++ after → front ++ behind ≡ piece ++ (after ++ behind)
-front_gave piece front after behind e = ap (λ (t : List ℕ). t ++ behind) e ∙ append_assoc piece after behind
-
 -- the buffer isn't full, so that the front was given whole
 pub front_ended : (g room : ℕ) (buf front after : List ℕ) → front ≡ take g buf ++ after → g ≡ min room (length front) → g < room → room ≤ length buf → after ≡ []
 front_ended g room buf front after e is lt long =
@@ -32,20 +29,6 @@ front_ended g room buf front after e is lt long =
 -- then the rest of the buffer has what comes next
 pub both_gave : (piece front after behind more left : List ℕ) → front ≡ piece ++ after → after ≡ [] → behind ≡ more ++ left → front ++ behind ≡ (piece ++ more) ++ (after ++ left)
 both_gave piece front after behind more left e none f = rw (e, f, none) (simp (append_assoc, append-nil))
-
-pub both_filled : (g m room : ℕ) (front behind : List ℕ) → g ≡ min room (length front) → g < room → m + g ≡ min room (length behind + g) → g + m ≡ min room (length (front ++ behind))
-both_filled g m room front behind is lt more =
-    let some : g ≡ length front = omega (arith, is, lt) in
-    omega (arith, more, length-append front behind, some)
-
-pub full_filled : (g room : ℕ) (front behind : List ℕ) → g ≡ min room (length front) → g ≡ room → g ≡ min room (length (front ++ behind))
-full_filled g room front behind is full = omega (arith, is, full, length-append front behind)
-
-pub filled_ends : (n room : ℕ) (all : List ℕ) → n ≡ min room (length all) → 0 < room → n ≡ 0 → all ≡ []
-filled_ends n room all is some none = nil_from_length all (omega (arith, is, some, none))
-
-pub ends_filled : (n room : ℕ) (all : List ℕ) → n ≡ min room (length all) → all ≡ [] → n ≡ 0
-ends_filled n room all is none = omega (arith, is, ap length none)
 
 -- what the rest of a buffer was given stands behind what the buffer had
 pub take_both : (g m : ℕ) (buf sub post : List ℕ) → g ≤ length buf → m ≤ length sub → take (g + m) (take g buf ++ (sub ++ post)) ≡ take g buf ++ take m sub

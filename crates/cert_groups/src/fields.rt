@@ -1,7 +1,6 @@
 //! The fields that version 2 adds: the version itself, how many groups there are, how many sectors a group has, and a
 //! sector of a group.
 
-ghost use Rattle.std.specs.Prelude.{◌≡◌};
 ghost use Rattle.cert_format.specs.Reading.{GivesExactly};
 ghost use Rattle.cert_groups.specs.Reading.{version_at, group_count_at, size_at, sector_at};
 

@@ -1,9 +1,9 @@
 //! The front of a certificate of version 2, its header and its groups, in pieces of any size. Nothing here takes memory.
 
-ghost use Rattle.std.specs.Prelude.{◌≡◌, ◌+◌, ◌<◌, ◌≤◌, [], ◌++◌, length, take, drop, min, false, flat_map, IsTrue};
+ghost use Rattle.std.specs.Prelude.{◌≡◌, ◌+◌, ◌<◌, ◌≤◌, [], ◌++◌, length, take, drop, min, false, IsTrue};
 ghost use Rattle.sight_tree.specs.Spelling.{u16};
 ghost use Rattle.cert_format.specs.Grammar.{AreSmall};
-ghost use Rattle.cert_groups.specs.Grammar.{IsTwoInOrder, front_bytes, header_bytes, group_bytes};
+ghost use Rattle.cert_groups.specs.Grammar.{IsTwoInOrder, front_bytes, header_bytes};
 ghost use Rattle.cert_groups.specs.Pieces.{front_left};
 
 use crate::cert::{CertTwo, Group};

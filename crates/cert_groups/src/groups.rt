@@ -1,7 +1,7 @@
 //! The table of groups.
 
 ghost use Rattle.std.specs.Prelude.{◌≡◌, None};
-ghost use Rattle.cert_format.specs.Reading.{Gives, GivesExactly};
+ghost use Rattle.cert_format.specs.Reading.{Gives};
 ghost use Rattle.cert_groups.specs.Reading.{group_after, last_of, sectors_at, group_at, groups_at};
 
 use crate::cert::Group;

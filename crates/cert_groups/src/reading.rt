@@ -1,6 +1,6 @@
 //! The certificate of either version that bytes spell.
 
-ghost use Rattle.std.specs.Prelude.{◌≡◌, Ok, IfOk};
+ghost use Rattle.std.specs.Prelude.{Ok, IfOk};
 ghost use Rattle.cert_format.specs.Grammar.{AreSmall};
 ghost use Rattle.cert_format.specs.Reading.{Gives, GivesExactly};
 ghost use Rattle.cert_groups.specs.declared.cert.AnyCert.{AnyCert};

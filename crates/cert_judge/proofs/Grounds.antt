@@ -31,6 +31,7 @@ use Rattle.group_checker.proofs.Ending.{grouped_judged}
 use Rattle.cert_judge.specs.OnGround.{HasTriangles, IsFaultOfMesh, IsGroundOf}
 use Rattle.cert_judge.specs.Version.{Groups, core_of, TellsPairsAny}
 use Rattle.cert_judge.specs.Whole.{HasReached, IsEarlyFault, IsFirstEarly}
+use Rattle.cert_checker.proofs.Judging.{later_at_pairs as pair_later}
 
 -- ---- version 1
 
@@ -99,15 +100,6 @@ early_pairs m t (Two c sizes) (OfTree s n) k = tt
 early_pairs m t c (ListedSet a b) k = absurd k
 early_pairs m t c (Unproved a b) k = absurd k
 early_pairs m t c (Uncovered a b) k = absurd k
-
-pair_later : (v : Verdict) → IsPairVerdict v → IsLaterVerdict v
-pair_later (Yes totals) k = tt
-pair_later (No (Mesh f)) k = absurd k
-pair_later (No (Ray a b why)) k = tt
-pair_later (No (OfTree s n)) k = tt
-pair_later (No (ListedSet a b)) k = tt
-pair_later (No (Unproved a b)) k = tt
-pair_later (No (Uncovered a b)) k = tt
 
 module _ (m : Map) (c : CertParts) (reach : Reach) (w : HasReached m c reach) where
   pair_rays : (v : Verdict) → IsPairVerdict v → JudgesRays m c v

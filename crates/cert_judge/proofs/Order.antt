@@ -10,15 +10,7 @@ use Rattle.cert_checker.specs.Apart.{triangles_in}
 use Rattle.list_base.proofs.Lists.{get_there}
 use Rattle.list_base.proofs.Numbers.{below_or_at, is_next}
 use Rattle.cert_judge.specs.InOrder.{IsNextAt}
-
-above_through : (t u v : Triangle) → IsAbove t u → IsAbove u v → IsAbove t v
-above_through t u v (inl a) (inl b) = inl (omega (arith, a, b))
-above_through t u v (inl a) (inr (e, b)) = inl (omega (arith, a, e))
-above_through t u v (inr (e, a)) (inl b) = inl (omega (arith, e, b))
-above_through t u v (inr (e, inl a)) (inr (f, inl b)) = inr (e ∙ f, inl (omega (arith, a, b)))
-above_through t u v (inr (e, inl a)) (inr (f, inr (g, b))) = inr (e ∙ f, inl (omega (arith, a, g)))
-above_through t u v (inr (e, inr (g, a))) (inr (f, inl b)) = inr (e ∙ f, inl (omega (arith, g, b)))
-above_through t u v (inr (e, inr (g, a))) (inr (f, inr (h, b))) = inr (e ∙ f, inr (g ∙ h, omega (arith, a, b)))
+use Rattle.cert_format.proofs.WholeLaws.{above_carries as above_through}
 
 module _ (points : ℕ) (ts : List Triangle) where
   ascending : ((k : ℕ) → k < length ts → IsNextAt points ts k) → (j i : ℕ) (t u : Triangle) → i < j → slice_get ts i ≡ Some t → slice_get ts j ≡ Some u → IsAbove t u

@@ -42,13 +42,6 @@ module _ (p : PlanParts) (gs : Groups) (h : Heard) where
   stays_closed (Broken f) other k = (refl, k.1)
   stays_closed (Good g) other k = (refl, k.1)
 
--- where mesh and groups aren't right, it is the same whatever else has come
-pub elsewhere : (p : PlanParts) (gs : Groups) (h g : Heard) (s : Stage) → ((on : OnGround) → s ≡ Good on → ⊥) → h.closed ≡ true → g.closed ≡ true → g.triangles ≡ h.triangles → IsStage p gs h s → IsStage p gs g s
-elsewhere p gs h g Gathering other e f same k = absurd (let n : h.closed ≡ false = k.closed in cc)
-elsewhere p gs h g Lost other e f same k = (f, subst (λ (ls : List Labelled). IsClosed p gs ls g.rays g.front g.tree Lost) (sym same) k.1)
-elsewhere p gs h g (Broken b) other e f same k = (f, subst (λ (ls : List Labelled). IsClosed p gs ls g.rays g.front g.tree (Broken b)) (sym same) k.1)
-elsewhere p gs h g (Good on) other e f same k = absurd (other on refl)
-
 -- ---- nodes of the last tree come
 
 module _ (p : PlanParts) (gs : Groups) (h : Heard) (ns : List Node) where

@@ -1,6 +1,6 @@
 //! A certificate judged part by part.
 
-ghost use Rattle.std.specs.Prelude.{◌≡◌, [], ◌∷◌, ◌++◌, List, IfOk};
+ghost use Rattle.std.specs.Prelude.{[], ◌∷◌, ◌++◌, List, IfOk};
 ghost use Rattle.sight_names.specs.Plan.{PlanParts};
 ghost use Rattle.cert_parts.specs.declared.part.Part.{Part as PartOf};
 ghost use Rattle.cert_groups.specs.declared.cert.AnyCert.{AnyCert};

@@ -29,6 +29,7 @@ use Rattle.cert_parts.specs.Left.{ReaderState, triangles_left, left_at, parts_le
 use Rattle.cert_parts.specs.Steps.{two_awaited}
 use Rattle.cert_parts.specs.Beginning.{cut_at, parts_from, IsBegun}
 use Rattle.cert_parts.proofs.FromBeginning.{behind_triangles, by_triangles}
+use Rattle.cert_format.proofs.Loop.{fails}
 
 -- ---- faults
 
@@ -40,10 +41,6 @@ told_again f g read e s = cc
 pub cut_is : (f : CertFault) (at : ℕ) → Ok at ≡ cut_at f → f ≡ faults.Short at
 cut_is (faults.Short at) k e = cc
 cut_is f k e = absurd cc
-
-fails : {A : Type 0} (f : CertFault) (read : Result A CertFault) → read ≡ Err f → Fails f read
-fails faults.Memory read h = tt
-fails f read h = h
 
 -- of memory nothing is told; of another fault all that is told is told of what is read
 by_fault : {A B : Type 0} (f g : CertFault) (read : Result A CertFault) (again : Result A CertFault) (made : Result B CertFault) → Err g ≡ cut_at f → Fails f read → ((h : CertFault) → read ≡ Err h → IsToldAgain h again) → ((h : CertFault) → again ≡ Err h → made ≡ Err h) → Fails g made

@@ -19,18 +19,9 @@ use Rattle.tree_judge.specs.Marks.{IsMarked}
 use Rattle.tree_judge.specs.Part.{TellsPart}
 use Rattle.tree_judge.specs.Whole.{IsFirstWrongTree, IsWholeOver, HasTreeAway, HasTreeInto}
 use Rattle.check_workers.specs.Joined.{TakesIn}
+use Rattle.half_edges.proofs.EachTriangle.{get_front, get_back as get_behind}
 
 -- ---- places in two lists, one behind the other
-
-get_behind : {X : Type 0} (xs ys : List X) (k n : ℕ) → n ≡ length xs + k → slice_get (xs ++ ys) n ≡ slice_get ys k
-get_behind [] ys k n e = ap (slice_get ys) (omega (arith, e))
-get_behind (x ∷ xs) ys k zero e = absurd (omega (arith, e))
-get_behind (x ∷ xs) ys k (suc n) e = get_behind xs ys k n (omega (arith, e))
-
-get_front : {X : Type 0} (xs ys : List X) (k : ℕ) → k < length xs → slice_get (xs ++ ys) k ≡ slice_get xs k
-get_front [] ys k l = absurd (omega (arith, l))
-get_front (x ∷ xs) ys zero l = refl
-get_front (x ∷ xs) ys (suc k) l = get_front xs ys k (omega (arith, l))
 
 split_at : (n i : ℕ) → n ≤ i → (j : ℕ) × (i ≡ n + j)
 split_at zero i l = (i, omega arith)

@@ -1,6 +1,6 @@
 //! What was found of parts of the trees, put together in their order.
 
-ghost use Rattle.std.specs.Prelude.{◌≡◌, ◌<◌, ◌↔◌, List, [], length, flat_map, min, IsTrue, IfOk, MatchOption};
+ghost use Rattle.std.specs.Prelude.{◌≡◌, ◌<◌, ◌↔◌, List, [], flat_map, min, IsTrue, IfOk, MatchOption};
 ghost use Rattle.std.specs.List.{AllZip};
 ghost use Rattle.sight_names.specs.Map.{Map};
 ghost use Rattle.sight_names.specs.declared.names.Triangle.{Triangle};

@@ -1,6 +1,6 @@
 //! The build that is kept.
 
-ghost use Rattle.std.specs.Prelude.{◌≡◌, ◌≢◌, IfErr, IfOk, Ok, Some};
+ghost use Rattle.std.specs.Prelude.{◌≢◌, IfErr, IfOk, Ok};
 ghost use Rattle.sight_names.specs.Map.{map_of};
 ghost use Rattle.cert_groups.specs.Grammar.{IsAnyInOrder};
 ghost use Rattle.map_answers.specs.Input.{of_four_lumps};

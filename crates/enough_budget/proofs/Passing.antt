@@ -1,5 +1,5 @@
 -- The passable lines of a plan are those of its map, and their product with points and triangles fits.
-use Rattle.std.proofs.Common.{◌≡◌, ℕ, ◌+◌, ◌*◌, ◌^◌, ◌≤◌, max, arith, refl, sym, ap, ◌∙◌, List, [], ◌∷◌, length, map, filter, Bool, true, false, cond, Option, Some, None, option_map, mul-le-mul}
+use Rattle.std.proofs.Common.{◌≡◌, ℕ, ◌*◌, ◌≤◌, max, arith, refl, sym, ◌∙◌, List, [], ◌∷◌, length, map, filter, Bool, true, false, cond, Option, Some, None, option_map}
 use Rattle.sight_names.specs.declared.names.Pt.{Pt}
 use Rattle.sight_names.specs.declared.plan.Line.{Line}
 use Rattle.sight_names.specs.Map.{looked_up}

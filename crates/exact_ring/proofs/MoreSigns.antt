@@ -1,5 +1,5 @@
 -- More on signs: negative factors, strict orders, weighted sums.
-use Rattle.std.proofs.Common.{ℤ, pos, ◌+ℤ◌, ◌-ℤ◌, ◌*ℤ◌, neg_ℤ, ◌≡◌, ◌≤ℤ◌, ◌<ℤ◌, [], ◌∷◌, arith, inl, inr}
+use Rattle.std.proofs.Common.{ℤ, pos, ◌+ℤ◌, ◌*ℤ◌, neg_ℤ, ◌≡◌, ◌≤ℤ◌, ◌<ℤ◌, [], ◌∷◌, arith, inl, inr}
 use Rattle.std.proofs.lemmas.Int.{ints}
 use Rattle.exact_ring.proofs.Signs.{mul-nonneg, mul-pos, pos-of-mul, nonneg-of-mul, sign_cases, le_or_lt}
 use Rattle.exact_ring.proofs.Quoting.{quoting, ring_at}

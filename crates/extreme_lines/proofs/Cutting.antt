@@ -17,10 +17,10 @@ above_less v m e h = omega (arith, ints)
 below_less : (v m : ℤ) → v ≡ pos 2 *ℤ m +ℤ negsuc 0 → m ≤ℤ pos 0 → v <ℤ pos 0
 below_less v m e h = omega (arith, ints)
 
-above_more : (v m : ℤ) → v ≡ pos 2 *ℤ m +ℤ pos 1 → pos 0 ≤ℤ m → pos 0 <ℤ v
+pub above_more : (v m : ℤ) → v ≡ pos 2 *ℤ m +ℤ pos 1 → pos 0 ≤ℤ m → pos 0 <ℤ v
 above_more v m e h = omega (arith, ints)
 
-below_more : (v m : ℤ) → v ≡ pos 2 *ℤ m +ℤ pos 1 → m <ℤ pos 0 → v <ℤ pos 0
+pub below_more : (v m : ℤ) → v ≡ pos 2 *ℤ m +ℤ pos 1 → m <ℤ pos 0 → v <ℤ pos 0
 below_more v m e h = omega (arith, ints)
 
 module _ (w : Wedge) (a b c : ℤ) where

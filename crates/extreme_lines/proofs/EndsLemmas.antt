@@ -9,7 +9,6 @@ use Rattle.sight_names.specs.declared.names.EndAt.{EndAt}
 use Rattle.sight_names.specs.declared.names.EndPair.{EndPair}
 use Rattle.sight_names.specs.Splitting.{EndPoints, IsPairOf, end_of}
 use Rattle.list_base.proofs.Options.{some_is_same, none_is_not_some}
-use Rattle.list_base.proofs.Lists.{get_pushed}
 
 pub get_append : {X : Type 0} (xs ys : List X) (k : ℕ) (x : X) → slice_get xs k ≡ Some x → slice_get (xs ++ ys) k ≡ Some x
 get_append [] ys k x h = absurd (none_is_not_some x h)

@@ -1,5 +1,5 @@
 -- A cone that is widened by a line has in it what it had; a line that can't be added meets the extreme ones.
-use Rattle.std.proofs.Common.{◌-ℤ◌, ◌≡◌, ◌<◌, ℤ, pos, ◌+ℤ◌, ◌*ℤ◌, neg_ℤ, nat_abs, refl, sym, ap, ap₂, ◌∙◌, [], ◌∷◌, arith, ◌≤ℤ◌, ◌<ℤ◌, inl, inr, subst, subst₂, sum}
+use Rattle.std.proofs.Common.{◌≡◌, ◌<◌, ℤ, pos, ◌+ℤ◌, ◌*ℤ◌, neg_ℤ, nat_abs, refl, sym, ap, ap₂, ◌∙◌, [], ◌∷◌, arith, ◌≤ℤ◌, ◌<ℤ◌, inl, inr, subst, subst₂, sum}
 use Rattle.std.proofs.lemmas.Int.{ints}
 use Rattle.exact_ring.proofs.Signs.{sign_cases, le_or_lt}
 use Rattle.sight_names.specs.declared.names.Pt.{Pt}

@@ -1,11 +1,10 @@
 //! The extreme lines of a set of differences.
 
-ghost use Rattle.std.specs.Prelude.{◌≡◌, ℤ, pos, ◌<ℤ◌, ◌≤ℤ◌, ◌≤◌, ◌^◌, nat_abs, IsTrue, MatchOption};
+ghost use Rattle.std.specs.Prelude.{◌≡◌, IsTrue, MatchOption};
 ghost use Rattle.sight_names.specs.declared.names.Pt.{Pt as Place};
 ghost use Rattle.sight_names.specs.Splitting.{AreBalanced};
-ghost use Rattle.splitting_base.specs.Arrows.{cross, dot};
 ghost use Rattle.extreme_lines.specs.Differences.{difference};
-ghost use Rattle.extreme_lines.specs.Spans.{arrow_of, Spans, first_of, second_of, IsWidened, IsCutOf, three_pairs};
+ghost use Rattle.extreme_lines.specs.Spans.{Spans, first_of, second_of, IsWidened, IsCutOf, three_pairs};
 
 use crate::cut::{Cut, middle_cut, ray_cut};
 use crate::extreme::Extreme;

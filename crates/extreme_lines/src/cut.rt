@@ -1,6 +1,6 @@
 //! The line between the ends.
 
-ghost use Rattle.std.specs.Prelude.{◌≡◌, pos, ◌+ℤ◌, ◌*ℤ◌, ◌<ℤ◌, ◌≤◌, ◌*◌, ◌+◌, nat_abs};
+ghost use Rattle.std.specs.Prelude.{◌≡◌, pos, ◌+ℤ◌, ◌*ℤ◌, ◌≤◌, ◌*◌, ◌+◌, nat_abs};
 ghost use Rattle.sight_names.specs.declared.names.Pt.{Pt as Place};
 ghost use Rattle.sight_names.specs.Point.{point_of, value_at};
 ghost use Rattle.splitting_base.specs.Arrows.{dot};

@@ -7,13 +7,14 @@ use Rattle.sight_names.specs.declared.names.Triangle.{Triangle}
 use Rattle.sight_names.specs.declared.plan.Line.{Line}
 use Rattle.sight_names.specs.Plan.{PlanParts, IsPlan, IsPlanLine}
 use Rattle.sight_names.specs.Points.{Edge, reverse_of}
-use Rattle.sight_names.specs.Map.{MapLine, line_at, sector_on, map_of, looked_up}
+use Rattle.sight_names.specs.Map.{MapLine, sector_on, map_of, looked_up}
 use Rattle.sight_names.specs.Mesh.{label_of, side_edge, triangle_at}
 use Rattle.sight_names.specs.Groups.{unnamed}
 use Rattle.sight_names.proofs.PlanMap.{line_of_plan}
 use Rattle.sight_names.proofs.PlanNumbers.{line_edge_of_plan}
 use Rattle.groups_base.specs.Table.{NamesLabels, NamesTheLabels, NamedAreLabelled}
 use Rattle.face_groups.specs.Regrouped.{label_at_edge, regrouped, regrouped_plan}
+use Rattle.mesh_shape.proofs.RuleLemmas.{plan_line_at as line_there}
 
 module _ (ts : List Triangle) (ls : List (Option ℕ)) where
   abbrev renew : Option Line → Option Line
@@ -46,9 +47,6 @@ edge_on k false = record { from = k.b; to = k.a }
 edge_at : (p : PlanParts) → IsPlan p → (i : ℕ) (k : Line) → slice_get p.lines i ≡ Some (Some k) → (left : Bool) → side_edge (map_of p) (looked_up p.points k) left ≡ edge_on k left
 edge_at p is i k at true = line_edge_of_plan p is i k at
 edge_at p is i k at false = ap reverse_of (line_edge_of_plan p is i k at)
-
-line_there : (p : PlanParts) (i : ℕ) (k : Line) → slice_get p.lines i ≡ Some (Some k) → line_at (map_of p) i ≡ Some (looked_up p.points k)
-line_there p i k is = ap (option_and_then (λ (o : Option MapLine). o)) (slice_get-map (option_map (looked_up p.points)) p.lines i ∙ ap (option_map (option_map (looked_up p.points))) is)
 
 same_unnamed : (points : List Pt) (ts : List Triangle) (ls : List (Option ℕ)) (lines : List (Option Line)) → map unnamed (map (option_map (looked_up points)) (map (option_map (regrouped ts ls)) lines)) ≡ map unnamed (map (option_map (looked_up points)) lines)
 same_unnamed points ts ls [] = refl

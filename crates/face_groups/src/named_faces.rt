@@ -1,6 +1,6 @@
 //! The faces of which some side names a sector, in the order of their lists.
 
-ghost use Rattle.std.specs.Prelude.{◌≡◌, ◌≤◌, IfOk, OnOk, length};
+ghost use Rattle.std.specs.Prelude.{◌≤◌, IfOk, OnOk, length};
 ghost use Rattle.std.specs.List.Sorted.{IsPermutation};
 ghost use Rattle.sight_names.specs.Order.{Ascends};
 ghost use Rattle.face_groups.specs.Namings.{NamingBefore};

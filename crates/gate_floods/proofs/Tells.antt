@@ -23,7 +23,7 @@ use Rattle.groups_base.specs.Table.{NamesTheLabels}
 use Rattle.groups_base.proofs.CheckedGroups.{table_is_good, table_is_map, table_is_sound, table_sees, table_one_group}
 use Rattle.accepted_groups.specs.Accepted.{AreGroupsJoined}
 use Rattle.sight_lift.proofs.LiftLaws.{sight_connects}
-use Rattle.turned_trees.proofs.Blind.{connected_back}
+use Rattle.cert_checker.proofs.Components.{connected_back}
 use Rattle.list_base.proofs.Numbers.{either_order}
 use Rattle.gate_floods.specs.Rows.{KeepsByRows}
 use Rattle.gate_floods.specs.Exact.{IsClaimed, RanksBefore, IsOwned, IsExactOver}

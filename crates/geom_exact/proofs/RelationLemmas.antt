@@ -57,11 +57,11 @@ pub apart_on_other_side : (p q r s : Pt) → AreOnOneSide (turn_of r s p) (turn_
 apart_on_other_side p q r s h z c = apart_on_side r s p q h z (c.1, c.0)
 
 -- ---- lines that meet
-turn_at_first : (p q : Pt) → turn_of p q p ≡ pos 0
+pub turn_at_first : (p q : Pt) → turn_of p q p ≡ pos 0
 unfolding turn_of
 turn_at_first p q = by_ring (p.x ∷ p.y ∷ q.x ∷ q.y ∷ []) _ _ (search quoting depth 40 fits 100000) (search quoting depth 40 fits 100000) tt
 
-turn_at_second : (p q : Pt) → turn_of p q q ≡ pos 0
+pub turn_at_second : (p q : Pt) → turn_of p q q ≡ pos 0
 unfolding turn_of
 turn_at_second p q = by_ring (p.x ∷ p.y ∷ q.x ∷ q.y ∷ []) _ _ (search quoting depth 40 fits 100000) (search quoting depth 40 fits 100000) tt
 
@@ -279,7 +279,7 @@ same_as_point p q v z l e h f = same_reach p q z (point_of v) l (straight p q z 
 same_points : (p q u v : Pt) → pos 0 <ℤ square_of p q → turn_of p q u ≡ pos 0 → turn_of p q v ≡ pos 0 → reach_of p q u ≡ reach_of p q v → SamePoint (point_of u) (point_of v)
 same_points p q u v l e f g = same_reach p q (point_of u) (point_of v) l (beside-at p q u ∙ e) (beside-at p q v ∙ f) (ap (λ (a : ℤ). a *ℤ pos 1) (along-at p q u ∙ g ∙ sym (along-at p q v)))
 
-reach_first : (p q : Pt) → reach_of p q p ≡ pos 0
+pub reach_first : (p q : Pt) → reach_of p q p ≡ pos 0
 unfolding reach_of
 reach_first p q = by_ring (p.x ∷ p.y ∷ q.x ∷ q.y ∷ []) _ _ (search quoting depth 40 fits 100000) (search quoting depth 40 fits 100000) tt
 

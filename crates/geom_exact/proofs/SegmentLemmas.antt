@@ -1,8 +1,8 @@
 -- The points of a segment by two numbers: how far left of its line, and how far along it.
-use Rattle.std.proofs.Common.{ℕ, ◌+◌, ◌<◌, ℤ, pos, negsuc, ◌+ℤ◌, ◌-ℤ◌, ◌*ℤ◌, neg_ℤ, nat_abs, ◌<ℤ◌, ◌≤ℤ◌, ◌≡◌, [], ◌∷◌, arith, refl, sym, ap, ap₂, ◌∙◌, subst, ◌⊎◌, inl, inr}
+use Rattle.std.proofs.Common.{ℕ, ◌+◌, ◌<◌, ℤ, pos, negsuc, ◌+ℤ◌, ◌-ℤ◌, ◌*ℤ◌, neg_ℤ, nat_abs, ◌<ℤ◌, ◌≤ℤ◌, ◌≡◌, [], ◌∷◌, arith, refl, sym, ap, ◌∙◌, subst, inl, inr}
 use Rattle.std.proofs.lemmas.Int.{ints}
 use Rattle.exact_ring.proofs.Quoting.{quoting, by_ring, combine1, combine2, combine3}
-use Rattle.exact_ring.proofs.Signs.{mul-nonneg, mul-pos, square-nonneg, zero-of-mul, nonneg-of-mul, same-of-mul, same-of-factor, sign_cases}
+use Rattle.exact_ring.proofs.Signs.{mul-nonneg, mul-pos, square-nonneg, zero-of-mul, nonneg-of-mul, same-of-mul, same-of-factor}
 use Rattle.sight_names.specs.declared.names.Pt.{Pt}
 use Rattle.sight_names.specs.Point.{Point, point_of, SamePoint, IsMean, OnSegment, turn_at}
 use Rattle.geom_exact.specs.Formulas.{turn_of, reach_of}

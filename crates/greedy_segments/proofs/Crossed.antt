@@ -1,8 +1,8 @@
 -- Neighbours and kept segments: a pair is crossed by one that shares more with it than ends.
-use Rattle.std.proofs.Common.{◌+◌, not, ◌≡◌, ℕ, ◌<◌, ◌≤◌, ◌⊎◌, inl, inr, List, length, get_or, slice_get, Contains, map, Bool, true, false, ◌==◌, ◌||◌, cond, Option, Some, option_map, refl, sym, ap, ◌∙◌, subst, arith, eqb-true, eq-eqb}
+use Rattle.std.proofs.Common.{not, ◌≡◌, ℕ, ◌<◌, ◌≤◌, ◌⊎◌, inl, inr, List, length, get_or, slice_get, Contains, map, Bool, true, false, ◌==◌, cond, Option, Some, option_map, refl, sym, ap, ◌∙◌, subst, arith, eqb-true}
 use Rattle.std.proofs.lemmas.Option.{slice_get-get_or, slice_get-map, slice_get_within, get_or_from_slice_get, same_Some, none-some}
-use Rattle.std.specs.Bool.{OnTrue, OnFalse}
-use Rattle.std.proofs.lemmas.Bool.{cases_eq, true≢false}
+use Rattle.std.specs.Bool.{OnTrue}
+use Rattle.std.proofs.lemmas.Bool.{cases_eq}
 use Rattle.sight_names.specs.Map.{Map, map_of}
 use Rattle.sight_names.specs.Plan.{PlanParts, IsPlan}
 use Rattle.sight_names.specs.Point.{Point}
@@ -19,7 +19,6 @@ use Rattle.incident_segments.specs.Neighbours.{IsNeighbour}
 use Rattle.greedy_segments.specs.Crossed.{SegmentsMeet, IsCrossedAt, MayReach}
 use Rattle.incident_segments.proofs.KeptEdges.{any_segment}
 use Rattle.incident_segments.proofs.Chains.{end_cases, other_from, end_to, end_from}
-use Rattle.list_base.proofs.Bools.{true_by_second, true_by_first}
 
 abbrev pub edge : ℕ → ℕ → Edge
 edge u v = record { from = u; to = v }

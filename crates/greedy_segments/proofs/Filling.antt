@@ -17,6 +17,7 @@ use Rattle.greedy_segments.specs.declared.saturated.Heights.{Heights}
 use Rattle.greedy_segments.specs.Saturated.{turn_between, IsBetween, IsEmptyTriangle, HasNoneLeft}
 use Rattle.list_base.proofs.Numbers.{below_or_last}
 use Rattle.exact_ring.proofs.Small.{pos_not_zero}
+use Rattle.geom_exact.proofs.RelationLemmas.{turn_at_first as turn_ends, turn_at_second as turn_second}
 
 -- ---- on the left
 
@@ -83,14 +84,6 @@ inside_within a b c p h ha hb hc inside = (
 turn_first : (a c : Pt) → turn_of a a c ≡ pos 0
 unfolding turn_of
 turn_first a c = by_ring (a.x ∷ a.y ∷ c.x ∷ c.y ∷ []) _ _ (search quoting depth 60 fits 200000) (search quoting depth 60 fits 200000) tt
-
-turn_second : (a c : Pt) → turn_of a c c ≡ pos 0
-unfolding turn_of
-turn_second a c = by_ring (a.x ∷ a.y ∷ c.x ∷ c.y ∷ []) _ _ (search quoting depth 60 fits 200000) (search quoting depth 60 fits 200000) tt
-
-turn_ends : (a c : Pt) → turn_of a c a ≡ pos 0
-unfolding turn_of
-turn_ends a c = by_ring (a.x ∷ a.y ∷ c.x ∷ c.y ∷ []) _ _ (search quoting depth 60 fits 200000) (search quoting depth 60 fits 200000) tt
 
 -- the corners of a triangle have different numbers
 corners_differ : (m : Map) (a b c : ℕ) → pos 0 <ℤ turn_between m a b c → ¬ (a ≡ b) × ¬ (b ≡ c) × ¬ (a ≡ c)

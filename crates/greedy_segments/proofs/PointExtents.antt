@@ -1,17 +1,13 @@
 -- Extents of points: how they are made and widened, and what may be passed over by them.
-use Rattle.std.proofs.Common.{◌≡◌, ℕ, ◌+◌, ◌*◌, ◌/◌, ◌<◌, ◌≤◌, ◌⊎◌, inl, inr, List, [], ◌∷◌, ◌++◌, length, get_or, set, take, add-one, ℤ, ◌≤ℤ◌, ◌<ℤ◌, pos, sym, ap, ◌∙◌, subst, arith}
-use Rattle.std.proofs.Math.Nat.{div-mul-le_self, div-eq_of_lt-le, lt-div-mul-add}
+use Rattle.std.proofs.Common.{◌≡◌, ℕ, ◌+◌, ◌/◌, ◌<◌, ◌≤◌, ◌⊎◌, inl, inr, List, [], ◌∷◌, ◌++◌, length, get_or, set, take, add-one, ℤ, ◌≤ℤ◌, ◌<ℤ◌, pos, sym, ap, ◌∙◌, subst, arith}
 use Rattle.std.proofs.Math.Seq.{take-suc}
-use Rattle.std.proofs.lemmas.Nat.{le-div}
 use Rattle.std.proofs.lemmas.Int.{ints}
-use Rattle.std.proofs.lemmas.List.{get_or_default, get_or_append_left, get_or_at, get_or-set_same, get_or-set_other, length-set}
+use Rattle.std.proofs.lemmas.List.{get_or_default, get_or-set_same, get_or-set_other, length-set}
 use Rattle.std.proofs.lemmas.Bool.{cases_eq}
-use Rattle.sight_names.specs.declared.names.Pt.{Pt}
 use Rattle.sight_names.specs.Map.{Map, map_of}
 use Rattle.sight_names.specs.Plan.{PlanParts, IsPlan}
 use Rattle.sight_names.proofs.PlanNumbers.{count_of_plan}
 use Rattle.sight_names.specs.Points.{points_of, place}
-use Rattle.sight_names.specs.Greedy.{EdgesMeetAtEnds}
 use Rattle.mesh_shape.proofs.Separate.{below_apart, apart_at_ends, common_swapped}
 use Rattle.incident_segments.specs.declared.segments.Segment.{Segment}
 use Rattle.greedy_segments.specs.declared.extents.Extent.{Extent}
@@ -19,7 +15,7 @@ use Rattle.greedy_segments.specs.declared.extents.PairExtent.{PairExtent}
 use Rattle.incident_segments.specs.Incident.{has_end, other_end}
 use Rattle.incident_segments.specs.Neighbours.{IsNeighbour}
 use Rattle.greedy_segments.specs.Crossed.{SegmentsMeet, MayReach}
-use Rattle.greedy_segments.specs.Extents.{IsInRange, IsInExtent, IsWithinExtent, HasNoEnds, AreExtents, AreBlocks, Widens, IsPairExtent, AreApartInY, CannotMeet}
+use Rattle.greedy_segments.specs.Extents.{IsInRange, IsInExtent, IsWithinExtent, HasNoEnds, AreExtents, AreBlocks, Widens, IsPairExtent, CannotMeet}
 use Rattle.incident_segments.proofs.KeptEdges.{any_segment}
 use Rattle.incident_segments.proofs.Chains.{end_cases, other_from, old_at, new_at}
 use Rattle.greedy_segments.proofs.Crossed.{edge, other_not_from}

@@ -15,7 +15,7 @@ use Rattle.geom_exact.specs.Formulas.{turn_of, reach_of, AreOnOneSide}
 use Rattle.geom_exact.proofs.SegmentLemmas.{square_of, square_of-pos}
 use Rattle.sight_names.proofs.PlanNumbers.{count_of_plan}
 use Rattle.mesh_shape.proofs.RuleLemmas.{places_differ}
-use Rattle.geom_exact.proofs.RelationLemmas.{meets, no_end_of_second, overlap_inside, laid}
+use Rattle.geom_exact.proofs.RelationLemmas.{meets, no_end_of_second, overlap_inside, laid, reach_first as reach_none}
 use Rattle.mesh_shape.proofs.MeetLemmas.{overlap_not}
 use Rattle.incident_segments.specs.declared.segments.Segment.{Segment}
 use Rattle.incident_segments.specs.Incident.{has_end, other_end}
@@ -73,10 +73,6 @@ cross_bars a j u c uc uj jc beyond h =
 along_ray : (a j c u : Pt) → turn_of a u c *ℤ square_of a j -ℤ turn_of a u j *ℤ reach_of a j c ≡ turn_of a j c *ℤ reach_of a u j
 unfolding turn_of reach_of
 along_ray a j c u = by_ring (a.x ∷ a.y ∷ j.x ∷ j.y ∷ c.x ∷ c.y ∷ u.x ∷ u.y ∷ []) _ _ (search quoting depth 80 fits 1000000) (search quoting depth 80 fits 1000000) tt
-
-reach_none : (a j : Pt) → reach_of a j a ≡ pos 0
-unfolding reach_of
-reach_none a j = by_ring (a.x ∷ a.y ∷ j.x ∷ j.y ∷ []) _ _ (search quoting depth 60 fits 200000) (search quoting depth 60 fits 200000) tt
 
 turn_none : (a j : Pt) → turn_of a j a ≡ pos 0
 unfolding turn_of

@@ -1,12 +1,10 @@
 -- Greedy so far: what trying one more pair, and a whole round of pairs, adds.
-use Rattle.std.proofs.Common.{◌≡◌, ◌≢◌, ℕ, zero, suc, ◌+◌, ◌*◌, ◌<◌, ◌≤◌, ◌⊎◌, inl, inr, List, [], ◌∷◌, ◌++◌, length, slice_get, Contains, Some, ℤ, pos, ◌*ℤ◌, refl, sym, ap, ◌∙◌, subst, arith, IsPermutation}
-use Rattle.std.proofs.lemmas.Int.{ints}
+use Rattle.std.proofs.Common.{◌≡◌, ◌≢◌, ℕ, ◌+◌, ◌*◌, ◌<◌, ◌≤◌, ◌⊎◌, inl, inr, List, [], ◌∷◌, ◌++◌, length, slice_get, Contains, Some, refl, sym, ap, ◌∙◌, subst, arith, IsPermutation}
 use Rattle.std.proofs.lemmas.Bool.{cases_lt}
 use Rattle.std.proofs.lemmas.List.{append_assoc}
 use Rattle.std.proofs.lemmas.List.Elements.{Contains-push, Contains-push_cases, Contains-append_left, Contains-append_right, Contains-append_cases}
 use Rattle.std.proofs.lemmas.List.Sorted.{Contains-permutation, IsPermutation-sym}
 use Rattle.std.proofs.lemmas.Option.{same_Some, none-some, slice_get_within}
-use Rattle.sight_names.specs.declared.names.Pt.{Pt}
 use Rattle.sight_names.specs.Map.{Map}
 use Rattle.sight_names.specs.Point.{point_of}
 use Rattle.sight_names.specs.Points.{Edge, place, points_of}
@@ -19,11 +17,11 @@ use Rattle.incident_segments.specs.Kept.{MeetsEach, IsCrossedBy}
 use Rattle.greedy_segments.specs.Pairs.{pair_edge, HasPair, IsPairBetween, ArePairsBetween, AreInOrder, IsNotAfter}
 use Rattle.greedy_segments.specs.Rounds.{IsEarlier, IsGreedySoFar, IsShorter, IsSaturated, KeepsIfClear, KeepsClear}
 use Rattle.greedy_segments.proofs.Crossed.{edge, same_edge}
-use Rattle.list_base.proofs.Numbers.{below_or_last, one_order_of_three}
+use Rattle.list_base.proofs.Numbers.{below_or_last}
 use Rattle.list_base.proofs.Lists.{pushed_at, contains_none}
 use Rattle.exact_ring.proofs.Small.{same_without_one}
 use Rattle.sight_names.proofs.OneGreedy.{before_asymmetric, before_irreflexive}
-use Rattle.sight_names.proofs.Records.{pt_of_numbers, same_pt}
+use Rattle.sight_names.proofs.Records.{same_pt}
 
 -- ---- a segment and itself
 

@@ -15,7 +15,7 @@ use Rattle.greedy_segments.specs.Pairs.{AreNumbers}
 use Rattle.greedy_segments.specs.Rounds.{AddsIfUnsaturated, IsSaturated, edges_of_line}
 use Rattle.greedy_segments.proofs.Crossed.{edge, same_edge}
 use Rattle.list_base.proofs.Numbers.{below_or_last}
-use Rattle.list_base.proofs.Lists.{length_pushed, get_pushed, get_before_pushed, pushed_at, contains_none}
+use Rattle.list_base.proofs.Lists.{pushed_at, contains_none}
 
 -- ---- lines
 

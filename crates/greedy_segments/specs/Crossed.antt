@@ -1,5 +1,5 @@
 -- What the segments at a point are to a further one.
-use Rattle.std.specs.Prelude.{◌≡◌, ℕ, ◌<◌, ◌≤◌, ◌⊎◌, List}
+use Rattle.std.specs.Prelude.{ℕ, ◌<◌, ◌≤◌, ◌⊎◌, List}
 use Rattle.sight_names.specs.Map.{Map}
 use Rattle.sight_names.specs.Points.{Edge}
 use Rattle.sight_names.specs.Greedy.{EdgesMeetAtEnds}

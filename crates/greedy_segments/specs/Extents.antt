@@ -1,5 +1,5 @@
 -- What the segments at each point span.
-use Rattle.std.specs.Prelude.{◌≡◌, ◌≢◌, ℕ, ◌/◌, ◌<◌, ◌≤◌, ◌⊎◌, ℤ, ◌≤ℤ◌, ◌<ℤ◌, List, length, slice_index_or}
+use Rattle.std.specs.Prelude.{◌≡◌, ℕ, ◌/◌, ◌<◌, ◌≤◌, ◌⊎◌, ℤ, ◌≤ℤ◌, ◌<ℤ◌, List, length, slice_index_or}
 use Rattle.sight_names.specs.Map.{Map}
 use Rattle.sight_names.specs.Points.{points_of, place}
 use Rattle.incident_segments.specs.declared.segments.Segment.{Segment}

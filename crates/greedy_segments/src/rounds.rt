@@ -1,7 +1,7 @@
 //! The greedy segments, in rounds of rising length. A point whose neighbours leave no room is in no further segment, so its
 //! pairs aren't made.
 
-ghost use Rattle.std.specs.Prelude.{ℕ, ◌≡◌, ◌≢◌, ◌<◌, ◌≤◌, ◌⊎◌, ◌↔◌, ◌++◌, ◌*◌, ◌^◌, ◌-ℤ◌, nat_abs, IsTrue, IfSome, IfOk, OnOk, Contains, length};
+ghost use Rattle.std.specs.Prelude.{ℕ, ◌≡◌, ◌<◌, ◌≤◌, ◌⊎◌, ◌↔◌, ◌++◌, ◌*◌, ◌^◌, ◌-ℤ◌, nat_abs, IsTrue, IfSome, IfOk, OnOk, Contains, length};
 ghost use Rattle.std.specs.List.Sorted.{IsPermutation};
 ghost use Rattle.sight_names.specs.Map.{map_of};
 ghost use Rattle.sight_names.specs.Plan.{IsPlan, IsPlanLine};

@@ -1,6 +1,6 @@
 //! The check in the order of its faults: mesh, groups, rays, trees, pairs.
 
-ghost use Rattle.std.specs.Prelude.{◌≡◌, ◌↔◌, ℕ, IfOk, length};
+ghost use Rattle.std.specs.Prelude.{◌≡◌, ◌↔◌, IfOk, length};
 ghost use Rattle.sight_names.specs.Map.{Map, map_of};
 ghost use Rattle.sight_names.specs.Mesh.{IsGoodMesh};
 ghost use Rattle.sight_names.specs.Plan.{IsPlan};

@@ -1,7 +1,7 @@
 //! The table of groups against the faces, and against the labels.
 
 ghost use Rattle.std.specs.Prelude.{◌≡◌, ◌≤◌, ◌<◌, ◌↔◌, ℕ, Some, IfOk, IsTrue, length, slice_get};
-ghost use Rattle.sight_names.specs.Mesh.{IsPlainMesh, label_of};
+ghost use Rattle.sight_names.specs.Mesh.{IsPlainMesh};
 ghost use Rattle.sight_names.specs.Map.{map_of};
 ghost use Rattle.mesh_shape.specs.Search.{IsSearch};
 ghost use Rattle.tree_judge.specs.Marks.{IsMarked};

@@ -1,9 +1,8 @@
 //! Each pair of sectors judged by what the certificate shows of their groups.
 
-ghost use Rattle.std.specs.Prelude.{◌≡◌, ◌+◌, ◌-◌, ◌<◌, ◌≤◌, ◌^◌, ◌↔◌, ℕ, Some, Contains, IfNone, IfOk, IsTrue, MatchOption, MatchResult, length, slice_get};
+ghost use Rattle.std.specs.Prelude.{◌≡◌, ◌+◌, ◌-◌, ◌<◌, ◌^◌, ◌↔◌, ℕ, Some, IfNone, IfOk, IsTrue, MatchOption, MatchResult, length, slice_get};
 ghost use Rattle.sight_names.specs.Order.{Ascends, PairBefore};
 ghost use Rattle.sight_names.specs.declared.names.PairRay.{PairRay as RayOf};
-ghost use Rattle.tree_judge.specs.Marks.{IsMarked};
 ghost use Rattle.cert_checker.specs.Pairs.{AreTotals, HasCountedRow, IsPlaceOf, IsWithin, one_if, total_of};
 ghost use Rattle.group_checker.specs.Pairs.{facts_of, known_of, AreAllApart, AreBelow, ArePairsFine, AreShownApart, AreShownJoined, AreSomeJoined, Describes, IsApartFromAll, IsFaultAt, IsFine, IsFirstInRow, IsFirstPairFault, IsJoinedWithOne, IsKnown, IsRowFine, IsShownBlind, IsShownSeen, KeepsAway, MarksRays};
 

@@ -14,6 +14,7 @@ use Rattle.tri_sectors.specs.Classes.{class_of, AreLeast, AreSingles, AreMerged,
 use Rattle.tri_sectors.specs.Faces.{edge_pq, edge_qr, edge_rp, HasMarks, IsWall, AreWalls, AreFaces, IsCrossed}
 use Rattle.tri_sectors.proofs.FaceLemmas.{AreLinkedBefore, none_linked, triangle_linked, all_linked, any_walls}
 use Rattle.tri_sectors.proofs.FaceRegion.{Ground}
+use Rattle.tri_sectors.proofs.ClassLemmas.{merged_back, renamed_cases}
 
 -- ---- marked edges
 
@@ -74,9 +75,6 @@ numbers_from s (suc n) = let r = numbers_from (suc s) n in (s ∷ r.0, (ap suc r
 
 pub singles_exist : (n : ℕ) → (cs : List ℕ) × AreSingles n cs
 singles_exist n = let r = numbers_from 0 n in (r.0, record { len = r.1.0; alone = λ k lt. let e = r.1.1 k lt in omega (arith, e) })
-
-renamed_cases : (from to c : ℕ) → ((c ≡ from) × (renamed from to c ≡ to)) ⊎ ((c ≡ from → ⊥) × (renamed from to c ≡ c))
-renamed_cases from to c = grind arith
 
 -- the class from gets the name of the class to, which is less
 rename : (a b : ℕ) (old : List ℕ) → a < length old → b < length old → AreLeast old → class_of old a < class_of old b → (new : List ℕ) × AreMerged a b old new
@@ -148,11 +146,6 @@ rename a b old ha hb least lt =
           λ h. elim h as (λ _. nk ≡ nj) [ inl q ↦ x.1 ∙ q ∙ sym y.1 | inr (inl q) ↦ absurd (y.0 q.1) | inr (inr q) ↦ absurd (x.0 q.0) ],
         )
 
-merged_back : (a b : ℕ) (old new : List ℕ) → AreMerged b a old new → AreMerged a b old new
-merged_back a b old new h = record {
-  len = h.len;
-  named = h.named;
-  exactly = λ k j hk hj. let x = h.exactly k j hk hj in (λ e. turned a b k j (x.0 e), λ w. x.1 (turned b a k j w));
 }
   where
     turned : (a b k j : ℕ) → WillBeOne old b a k j → WillBeOne old a b k j

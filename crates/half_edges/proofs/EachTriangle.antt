@@ -23,12 +23,12 @@ use Rattle.half_edges.proofs.Numbers.{IsNumber, number_is, IsCornerEdge, corner_
 use Rattle.list_base.proofs.Numbers.{below_differs, tells_other, tells_same}
 use Rattle.list_base.proofs.Lists.{item_there}
 
-get_front : {X : Type 0} (xs ys : List X) (i : ℕ) → i < length xs → slice_get (xs ++ ys) i ≡ slice_get xs i
+pub get_front : {X : Type 0} (xs ys : List X) (i : ℕ) → i < length xs → slice_get (xs ++ ys) i ≡ slice_get xs i
 get_front [] ys i l = absurd (omega arith)
 get_front (x ∷ xs) ys zero l = refl
 get_front (x ∷ xs) ys (suc i) l = get_front xs ys i (omega arith)
 
-get_back : {X : Type 0} (xs ys : List X) (i j : ℕ) → j ≡ length xs + i → slice_get (xs ++ ys) j ≡ slice_get ys i
+pub get_back : {X : Type 0} (xs ys : List X) (i j : ℕ) → j ≡ length xs + i → slice_get (xs ++ ys) j ≡ slice_get ys i
 get_back [] ys i j e = ap (slice_get ys) (let h : j ≡ i = omega arith in h)
 get_back (x ∷ xs) ys i zero e = absurd (omega arith)
 get_back (x ∷ xs) ys i (suc j) e = get_back xs ys i j (omega arith)

@@ -1,7 +1,6 @@
 -- The number of a half-edge tells its edge, and the edge its number.
-use Rattle.std.proofs.Common.{◌≡◌, ◌≢◌, ℕ, ◌+◌, ◌*◌, ◌<◌, ◌⊎◌, inl, inr, List, Option, Some, None, length, Bool, true, false, refl, sym, ◌∙◌, ap, subst, arith, if◌then◌else◌, ◌==◌, option_and_then, option_map, slice_get}
-use Rattle.std.proofs.lemmas.Bool.Decides.{eqb_tells}
-use Rattle.std.proofs.lemmas.Option.{none-some, same_Some, slice_get_within}
+use Rattle.std.proofs.Common.{◌≡◌, ℕ, ◌+◌, ◌*◌, ◌<◌, ◌⊎◌, inl, inr, List, Option, Some, None, Bool, true, false, refl, sym, ◌∙◌, ap, subst, arith, if◌then◌else◌, ◌==◌, option_and_then, option_map, slice_get}
+use Rattle.std.proofs.lemmas.Option.{none-some, same_Some}
 use Rattle.sight_names.specs.declared.names.Triangle.{Triangle}
 use Rattle.sight_names.specs.Points.{Edge}
 use Rattle.sight_names.specs.Mesh.{triangle_at, HasEdge, IsTriangle, AreTriangles}

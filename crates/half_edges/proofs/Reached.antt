@@ -1,24 +1,19 @@
 -- What is known of the half-edge that one enters by, of one that no way leads to, and of its two ends.
-use Rattle.std.proofs.Common.{◌≡◌, ◌≢◌, ℕ, ◌<◌, ◌⊎◌, inl, inr, List, Option, Some, None, length, Bool, true, false, refl, sym, ◌∙◌, ap, subst, arith, if◌then◌else◌, option_and_then, slice_get}
+use Rattle.std.proofs.Common.{◌≡◌, ◌≢◌, ℕ, ◌⊎◌, inl, inr, List, Option, Some, None, Bool, true, false, refl, sym, ◌∙◌, ap, subst, if◌then◌else◌, option_and_then, slice_get}
 use Rattle.std.proofs.lemmas.Bool.{true≢false}
 use Rattle.std.proofs.lemmas.Option.{none-some, same_Some}
 use Rattle.sight_names.specs.declared.names.Triangle.{Triangle}
-use Rattle.sight_names.specs.Plan.{PlanParts, IsPlan}
+use Rattle.sight_names.specs.Plan.{PlanParts}
 use Rattle.sight_names.specs.Map.{map_of}
 use Rattle.sight_names.specs.Points.{Edge}
-use Rattle.sight_names.specs.Mesh.{AreTriangles, HasEdge, triangle_at}
-use Rattle.sight_names.specs.Sequence.{Portal, names_it, third_point, IsSolidLine}
-use Rattle.sight_names.proofs.PlanMap.{points_differ}
-use Rattle.sight_names.proofs.PlanNumbers.{place_of_plan}
-use Rattle.mesh_shape.proofs.RuleLemmas.{edge_cases}
+use Rattle.sight_names.specs.Mesh.{HasEdge, triangle_at}
+use Rattle.sight_names.specs.Sequence.{names_it, third_point, IsSolidLine}
 use Rattle.mesh_base.proofs.CleanMesh.{IsTurnedTo, turned_to_third, edge_rp, edge_qr, edge_pq}
 use Rattle.half_edges.specs.declared.table.HalfEdge.{HalfEdge}
 use Rattle.half_edges.specs.Numbers.{edge, number_of}
 use Rattle.half_edges.specs.Kinds.{portal_on}
 use Rattle.half_edges.specs.HalfEdges.{portal_of, entering, way_outside, IsHalfEdge, AreHalfEdges}
 use Rattle.half_edges.proofs.Numbers.{no_number}
-use Rattle.list_base.proofs.Numbers.{below_differs}
-use Rattle.mesh_base.proofs.GoodMesh.{found_at}
 
 -- the half-edge behind a way
 pub record IsReached (p : PlanParts) (ts : List Triangle) (labels : List (Option ℕ)) (xs : List HalfEdge) (e : Edge) (i : ℕ) : Type 0 where

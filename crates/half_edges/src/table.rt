@@ -1,7 +1,7 @@
 //! The half-edges of a mesh in one table.
 
-ghost use Rattle.std.specs.Prelude.{◌≡◌, ◌<◌, ◌++◌, Some, length, slice_get, slice_index_or, option_copied, IsTrue, IfOk};
-ghost use Rattle.sight_names.specs.Map.{map_of, origin};
+ghost use Rattle.std.specs.Prelude.{◌≡◌, ◌<◌, ◌++◌, Some, length, slice_get, slice_index_or, option_copied, IfOk};
+ghost use Rattle.sight_names.specs.Map.{origin};
 ghost use Rattle.sight_names.specs.Mesh.{label_of};
 ghost use Rattle.sight_names.specs.Sequence.{names_it};
 ghost use Rattle.half_edges.specs.Numbers.{edge};

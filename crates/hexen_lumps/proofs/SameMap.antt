@@ -1,19 +1,19 @@
 -- Four lumps, and the same with LINEDEFS turned, spell one map, and the same check of them fails first.
-use Rattle.std.proofs.Common.{◌≡◌, ℕ, zero, suc, ◌+◌, ◌*◌, ◌/◌, ◌%◌, ◌<◌, ◌≤◌, ◌⊎◌, inl, inr, List, [], ◌∷◌, length, map, Bool, true, false, ◌==◌, ◌||◌, not, if◌then◌else◌, is_none, nat_lt, nat_le, Option, Some, None, Result, Ok, Err, IfOk, refl, sym, ap, ap₂, ◌∙◌, subst, arith}
+use Rattle.std.proofs.Common.{◌≡◌, ℕ, zero, suc, ◌+◌, ◌*◌, ◌/◌, ◌%◌, ◌<◌, ◌≤◌, ◌⊎◌, inl, inr, List, ◌∷◌, length, map, Bool, true, false, ◌==◌, ◌||◌, not, if◌then◌else◌, is_none, nat_lt, nat_le, Option, Some, None, Result, Ok, Err, IfOk, refl, sym, ap, ap₂, ◌∙◌, subst, arith}
 use Rattle.std.specs.Int.{bit_at}
 use Rattle.sight_names.specs.declared.faults.Lump.TheVariants.{Linedefs, Sidedefs, Vertexes, Sectors}
 use Rattle.sight_names.specs.declared.faults.LumpFault.{LumpFault}
 use Rattle.sight_names.specs.declared.faults.LumpFault.TheVariants.{BadSize, TooManySectors, TooManyLines, BadVertex, BadSide, BadSector, TooManyPoints, Memory}
 use Rattle.sight_names.specs.declared.names.MapFormat.TheVariants.{Doom, Hexen}
 use Rattle.sight_names.specs.Limits.{most_lines, most_points, most_sectors}
-use Rattle.sight_names.specs.Lumps.{first_of, fault_if, is_bad_sector, is_bad_side, linedef, line_fault, lines_fault, lump_fault, map_of_lumps, numbers_from, numbers_below, side_sector, u16_at, vertex}
+use Rattle.sight_names.specs.Lumps.{first_of, fault_if, is_bad_sector, is_bad_side, linedef, line_fault, lines_fault, lump_fault, map_of_lumps, numbers_from, numbers_below, side_sector, vertex}
 use Rattle.sight_names.specs.Map.{Map, MapLine, map_of}
 use Rattle.sight_names.specs.Plan.{PlanParts, IsPlan}
 use Rattle.sight_names.specs.Points.{points_of, pt_eq}
 use Rattle.sight_names.proofs.OnePlan.{one_plan}
 use Rattle.map_lumps.specs.Answers.{AnswersFirstFault}
 use Rattle.hexen_lumps.specs.Turned.{hexen_of}
-use Rattle.hexen_lumps.specs.Laws.{IsReadOf, IsReadTheSame, SpellsTheSame, as_doom, as_hexen}
+use Rattle.hexen_lumps.specs.Laws.{IsReadTheSame, SpellsTheSame, as_doom, as_hexen}
 use Rattle.hexen_lumps.proofs.Records.{HasSameNumbers, first_length, same_numbers}
 
 -- ---- one record

@@ -1,8 +1,7 @@
 -- The chains of a incident.
-use Rattle.std.proofs.Common.{◌≡◌, ◌≢◌, ℕ, ◌+◌, ◌<◌, ◌≤◌, ◌⊎◌, inl, inr, List, [], ◌∷◌, ◌++◌, length, get_or, set, Bool, true, false, ◌==◌, ◌||◌, cond, refl, sym, ap, ◌∙◌, subst, arith, eqb-true, eq-eqb, max}
+use Rattle.std.proofs.Common.{◌≡◌, ◌≢◌, ℕ, ◌+◌, ◌<◌, ◌≤◌, ◌⊎◌, inl, inr, List, [], ◌∷◌, ◌++◌, length, get_or, set, Bool, true, false, ◌==◌, ◌||◌, cond, refl, sym, ap, ◌∙◌, subst, arith, eqb-true, eq-eqb}
 use Rattle.std.proofs.lemmas.List.{get_or_default, get_or-set_same, get_or-set_other, get_or_append_left, get_or_at, length-set}
-use Rattle.std.proofs.Math.Nat.{le-max_left, le-max_right}
-use Rattle.std.proofs.lemmas.Bool.{false≢true, true≢false, cases_eq}
+use Rattle.std.proofs.lemmas.Bool.{false≢true, cases_eq}
 use Rattle.incident_segments.specs.declared.segments.Segment.{Segment}
 use Rattle.incident_segments.specs.declared.incident.Links.{Links}
 use Rattle.incident_segments.specs.Incident.{has_end, other_end, IsLastAt, IsLinked, IsSegment, IncidentParts, AreIncident}

@@ -1,8 +1,5 @@
 -- The neighbours of a point: the other ends of the segments there.
-use Rattle.std.specs.Prelude.{◌≡◌, ℕ, ◌<◌, ◌≤◌, ◌⊎◌, List, length, slice_index_or, true}
-use Rattle.sight_names.specs.Map.{Map}
-use Rattle.sight_names.specs.Points.{Edge}
-use Rattle.sight_names.specs.Greedy.{EdgesMeetAtEnds}
+use Rattle.std.specs.Prelude.{◌≡◌, ℕ, ◌<◌, List, length, slice_index_or, true}
 use Rattle.incident_segments.specs.declared.segments.Segment.{Segment}
 use Rattle.incident_segments.specs.Incident.{has_end, other_end}
 

@@ -1,6 +1,6 @@
 //! The kept segments, and at each point the chain of the segments that end there, from the latest back.
 
-ghost use Rattle.std.specs.Prelude.{ℕ, ◌≡◌, ◌≢◌, ◌+◌, ◌<◌, ◌≤◌, [], ◌∷◌, ◌++◌, IfOk, OnOk, OnErr, length, slice_get, Some, true, slice_index_or};
+ghost use Rattle.std.specs.Prelude.{◌≡◌, ◌≢◌, ◌+◌, ◌<◌, [], ◌∷◌, ◌++◌, IfOk, OnOk, length, true, slice_index_or};
 ghost use Rattle.incident_segments.specs.declared.segments.Segment.{Segment};
 ghost use Rattle.incident_segments.specs.Incident.{IsLastAt, AreSegments, has_end, other_end};
 

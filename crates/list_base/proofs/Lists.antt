@@ -1,5 +1,5 @@
 -- Lists: what they contain, what stands at a place, the first ones of them, and one more at the end.
-use Rattle.std.proofs.Common.{◌≡◌, ◌⊎◌, inl, inr, ⊎_elim, ℕ, zero, suc, ◌+◌, ◌<◌, List, [], ◌∷◌, ◌++◌, length, take, drop, get_or, map, filter, slice_get, refl, sym, ap, ◌∙◌, subst, arith, zero-lt-suc, Bool, true, false, cond, Option, Some, None, Contains}
+use Rattle.std.proofs.Common.{◌≡◌, ◌⊎◌, inl, inr, ⊎_elim, ℕ, zero, suc, ◌+◌, ◌<◌, List, [], ◌∷◌, ◌++◌, length, take, drop, get_or, map, filter, slice_get, refl, sym, ap, ◌∙◌, subst, arith, zero-lt-suc, Bool, true, false, cond, Option, Some, Contains}
 use Rattle.std.specs.List.{AllByRecursion, last_or}
 use Rattle.std.proofs.Math.Seq.{drop-nil}
 use Rattle.std.proofs.lemmas.Bool.{true≢false}

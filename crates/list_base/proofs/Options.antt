@@ -1,5 +1,5 @@
 -- Values that may be missing.
-use Rattle.std.proofs.Common.{◌≡◌, ℕ, Option, Some, None, false, refl}
+use Rattle.std.proofs.Common.{◌≡◌, Option, Some, None, false, refl}
 use Rattle.std.specs.Option.{is_some}
 use Rattle.std.specs.Prelude.{IsSome}
 use Rattle.std.proofs.lemmas.Option.{none-some, same_Some}

@@ -4,7 +4,7 @@ use Rattle.std.specs.List.{AllZip}
 use Rattle.std.proofs.lemmas.List.{append-nil}
 use Rattle.listeners.specs.declared.finding.Finding.{Finding}
 use Rattle.listeners.specs.Listening.{ListenerState, listener_text}
-use Rattle.listeners.specs.Reporters.{lines_state, new_reporters, totals_state}
+use Rattle.listeners.specs.Reporters.{new_reporters}
 use Rattle.listeners.specs.Texts.{finding_lines, totals_line}
 use Rattle.listeners.specs.Told.{AreTold, HeardMore, texts}
 

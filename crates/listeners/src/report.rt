@@ -1,7 +1,7 @@
 //! The texts of a list of listeners as one.
 
 ghost use Rattle.std.specs.Prelude.{◌≡◌, ◌-◌, ◌<◌, ◌^◌, map, length, nat_lt};
-ghost use Rattle.listeners.specs.Listening.{AreWordsAt, ListenerState, listener_text};
+ghost use Rattle.listeners.specs.Listening.{AreWordsAt, listener_text};
 ghost use Rattle.listeners.specs.Told.{texts};
 
 use crate::listener::Listener;

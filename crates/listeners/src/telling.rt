@@ -1,8 +1,8 @@
 //! A finding told to a list of listeners.
 
-ghost use Rattle.std.specs.Prelude.{◌≡◌, ◌<◌, ◌∷◌, ◌++◌, [], map, length, IfOk, OnOk, OnErr};
-ghost use Rattle.listeners.specs.Listening.{ListenerState, keep_of};
-ghost use Rattle.listeners.specs.Told.{HeardMore, IsTold, IsToldInPart, TellsOk, TellsInPart};
+ghost use Rattle.std.specs.Prelude.{◌≡◌, ◌<◌, ◌∷◌, [], map, IfOk, OnOk, OnErr};
+ghost use Rattle.listeners.specs.Listening.{keep_of};
+ghost use Rattle.listeners.specs.Told.{HeardMore, TellsOk, TellsInPart};
 
 use crate::finding::{Finding, Keep};
 use crate::listener::Listener;

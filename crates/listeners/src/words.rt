@@ -1,6 +1,6 @@
 //! Lines put together in a buffer on the stack, from their ends to their beginnings, and texts copied out in pieces.
 
-ghost use Rattle.std.specs.Prelude.{◌≡◌, ◌+◌, ◌-◌, ◌≤◌, ◌++◌, ◌∷◌, [], length, take, drop, min, decimal, OnOk, OnErr};
+ghost use Rattle.std.specs.Prelude.{◌≡◌, ◌+◌, ◌-◌, ◌≤◌, ◌++◌, ◌∷◌, [], length, drop, min, decimal, OnOk, OnErr};
 ghost use Rattle.listeners.specs.Listening.{AreWordsAt};
 ghost use Rattle.listeners.specs.Texts.{finding_line, pair_line as the_pair_line, set_line as the_set_line, total_line as the_total_line};
 

@@ -1,5 +1,5 @@
 -- The answers of the whole audit of a map whose faces may have several names: a flaw is the only one, and over the map's groups there is only one.
-use Rattle.std.proofs.Common.{◌≡◌, Result, Ok, Err, ap, ◌∙◌, subst}
+use Rattle.std.proofs.Common.{◌≡◌, Result, Ok, Err, ap, subst}
 use Rattle.std.specs.Prelude.{⊤}
 use Rattle.sight_names.specs.declared.names.Side.{Side}
 use Rattle.sight_names.specs.Map.{Map, map_of}

@@ -1,5 +1,5 @@
 -- The flaw of a map is the only one.
-use Rattle.std.proofs.Common.{◌≡◌, ◌⊎◌, inl, inr, ℕ, ◌<◌, Option, Some, None, Result, Ok, Err, Bool, true, false, sym, ◌∙◌, refl, ap, arith}
+use Rattle.std.proofs.Common.{◌≡◌, ◌⊎◌, inl, inr, ℕ, Result, Ok, Err, Bool, true, false, sym, ◌∙◌, refl, ap}
 use Rattle.sight_names.specs.declared.faults.LineFault.{LineFault}
 use Rattle.sight_names.specs.declared.names.Side.{Side}
 use Rattle.sight_names.specs.Groups.{HasClosedFaces}

@@ -1,5 +1,5 @@
 -- A map has one list of groups, one map of groups, and one mesh with one list of labels.
-use Rattle.std.proofs.Common.{◌≡◌, ℕ, List, Option, sym, subst}
+use Rattle.std.proofs.Common.{◌≡◌, ℕ, List, subst}
 use Rattle.sight_names.specs.declared.names.Triangle.{Triangle}
 use Rattle.sight_names.specs.Map.{Map, map_of}
 use Rattle.sight_names.specs.Groups.{IsGroupedMap}

@@ -1,5 +1,5 @@
 -- The answer of `ray`, the only one.
-use Rattle.std.proofs.Common.{◌≡◌, ℕ, List, [], Result, Ok, Err, sym, ◌∙◌, ap, subst}
+use Rattle.std.proofs.Common.{◌≡◌, ℕ, Result, Ok, Err, sym, ◌∙◌, ap, subst}
 use Rattle.std.specs.Prelude.{⊤}
 use Rattle.sight_names.specs.declared.names.Ray.{Ray}
 use Rattle.sight_names.specs.declared.faults.RayFault.{RayFault}
@@ -9,8 +9,8 @@ use Rattle.sight_ray.specs.RayFault.{IsRayFault}
 use Rattle.sight_status.specs.declared.status.Why.TheVariants as why
 use Rattle.sight_status.specs.declared.status.Status.{Status}
 use Rattle.sight_status.specs.declared.status.Status.TheVariants as status
-use Rattle.sight_status.specs.Answer.{Answer, IsTheAnswer, only_line}
-use Rattle.map_answers.specs.Ray.{RayCalls, sight_line}
+use Rattle.sight_status.specs.Answer.{Answer, IsTheAnswer}
+use Rattle.map_answers.specs.Ray.{RayCalls}
 
 -- an Ok is no Err
 abbrev IsAnOk : {A B : Type 0} → Result A B → Type 0
@@ -25,10 +25,6 @@ clash r x e ok err = subst IsAnOk (sym ok ∙ err) tt
 abbrev Judged : Type 0
 Judged = Result (ℕ × ℕ) RayFault
 
-abbrev pair_line : Judged → List ℕ
-pair_line (Ok p) = sight_line p.0 p.1
-pair_line (Err fault) = []
-
 abbrev as_no : Judged → Result Answer Status
 as_no (Ok p) = Err status.Memory
 as_no (Err fault) = Err (status.No (why.Ray fault))
@@ -38,15 +34,6 @@ pub record IsExact (m : Map) (ray : Ray) (r : Judged) : Type 0 where
   pub sight : (a b : ℕ) → IsSightRay m ray a b → r ≡ Ok (a, b)
   pub fault : (f : RayFault) → IsRayFault m ray f → r ≡ Err f
 
-other_sight : (m : Map) (ray : Ray) (r : Judged) (a b : ℕ) (line : List ℕ) → IsExact m ray r → r ≡ Ok (a, b) → line ≡ sight_line a b → (other : Result Answer Status) → RayCalls ray m other → other ≡ Ok (only_line line)
-other_sight m ray r a b line exact is said (Ok answer) q = ap Ok (q.is ∙ ap only_line (ap pair_line (sym (exact.sight q.from q.to q.sight) ∙ is) ∙ sym said))
-other_sight m ray r a b line exact is said (Err (status.No (why.Ray f))) q = absurd (clash r (a, b) f is (exact.fault f q))
-other_sight m ray r a b line exact is said (Err s) q = absurd q
-
-pub sight_is_the_answer : (m : Map) (ray : Ray) (r : Judged) (a b : ℕ) (line : List ℕ) → IsExact m ray r → IsSightRay m ray a b → line ≡ sight_line a b → IsTheAnswer ⊤ (RayCalls ray m) (Ok (only_line line))
-sight_is_the_answer m ray r a b line exact sight said = record {
-  called = record { from = a; to = b; sight = sight; is = ap only_line said };
-  only = λ sole. other_sight m ray r a b line exact (exact.sight a b sight) said;
 }
 
 other_fault : (m : Map) (ray : Ray) (r : Judged) (f : RayFault) → IsExact m ray r → r ≡ Err f → (other : Result Answer Status) → RayCalls ray m other → other ≡ Err (status.No (why.Ray f))

@@ -1,6 +1,5 @@
 -- What the audit of a map says whose faces may have several names: of its lines, and then whether its faces are closed.
 use Rattle.std.specs.Prelude.{◌≡◌, ℕ, List, Option, Result, Err, length, ⊤}
-use Rattle.sight_names.specs.declared.names.Side.{Side}
 use Rattle.sight_names.specs.declared.names.Triangle.{Triangle}
 use Rattle.sight_names.specs.Map.{Map, map_of}
 use Rattle.sight_names.specs.Groups.{AreGroups, HasClosedFaces, IsGroupedMap}

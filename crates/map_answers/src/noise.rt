@@ -3,10 +3,8 @@
 ghost use Rattle.std.specs.Prelude.{◌≡◌, ◌++◌, ◌<◌, IfErr, IfOk, MatchOption, OnOk, length, option_map, string_bytes, ⊤};
 ghost use Rattle.std.specs.List.{flat_map};
 ghost use Rattle.sight_names.specs.Map.{map_of};
-ghost use Rattle.sight_names.specs.Texts.{side_text};
 ghost use Rattle.sight_status.specs.Answer.{Gives, line_answer};
 ghost use Rattle.sight_status.specs.Status.{IsOfSoundTest};
-ghost use Rattle.sight_status.specs.Texts.{two};
 ghost use Rattle.map_answers.specs.Noise.{CountCalls, HasLinedefs, IsMissing, PairCalls, SoundCalls, heard_line, no_noise_line, noise_line, path_line, path_words, side_word};
 ghost use Rattle.map_answers.specs.Views.{found, IsWhole};
 

@@ -1,5 +1,5 @@
 -- Steps of the search for the first fault, and that there is one at most.
-use Rattle.std.proofs.Common.{◌≡◌, ◌≢◌, ℕ, ◌<◌, ◌≤◌, ◌⊎◌, inl, inr, List, length, slice_get, slice_index_or, Option, Some, None, refl, sym, ◌∙◌, ap, subst, subst₂, arith, option_and_then, ◌<ℤ◌, MatchOption, Result, Ok, Err, ◌↔◌}
+use Rattle.std.proofs.Common.{◌≡◌, ◌≢◌, ℕ, ◌<◌, ◌≤◌, inl, inr, List, length, slice_get, slice_index_or, Option, Some, None, refl, sym, ◌∙◌, ap, subst, subst₂, arith, option_and_then, ◌<ℤ◌, MatchOption, Result, Ok, Err, ◌↔◌}
 use Rattle.std.proofs.lemmas.Option.{slice_get-get_or, none-some}
 use Rattle.sight_names.specs.declared.names.Pt.{Pt}
 use Rattle.sight_names.specs.declared.plan.Line.{Line}

@@ -1,7 +1,7 @@
 //! The audit of a map's lines: any two may share one end of both, and nothing else.
 #![tactic(auto)]
 
-ghost use Rattle.std.specs.Prelude.{◌≡◌, ℕ, ◌+◌, ◌<◌, Some, length, slice_get, option_and_then, MatchOption, IsOk, IsTrue, ◌↔◌, ◌<ℤ◌};
+ghost use Rattle.std.specs.Prelude.{◌≡◌, ◌+◌, ◌<◌, Some, length, slice_get, option_and_then, MatchOption, IsOk, IsTrue, ◌↔◌, ◌<ℤ◌};
 ghost use Rattle.sight_names.specs.Map.{map_of, looked_up};
 ghost use Rattle.sight_names.specs.Plan.{IsPlan, IsPlanLine};
 ghost use Rattle.sight_names.specs.Sound.{LinesMeetAtEnds};

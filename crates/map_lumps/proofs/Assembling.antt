@@ -1,5 +1,5 @@
 -- The plan of points in order and of lines between their numbers is a plan of the map.
-use Rattle.std.proofs.Common.{◌≡◌, ℕ, zero, suc, ◌+◌, ◌<◌, ◌≤◌, ◌⊎◌, inl, inr, List, [], ◌∷◌, ◌++◌, length, take, slice_get, slice_index_or, Contains, Option, Some, None, IfSome, refl, sym, ap, ap₂, ◌∙◌, subst, arith, map, option_map, option_and_then}
+use Rattle.std.proofs.Common.{◌≡◌, ℕ, zero, suc, ◌+◌, ◌<◌, ◌≤◌, ◌⊎◌, inl, inr, List, [], ◌∷◌, ◌++◌, length, take, slice_get, slice_index_or, Contains, Option, Some, None, IfSome, sym, ap, ap₂, ◌∙◌, subst, arith, map, option_map, option_and_then}
 use Rattle.std.proofs.lemmas.List.{take_more}
 use Rattle.sight_names.specs.declared.limits.TheConstants.{LARGE_LINES, LARGE_POINTS}
 use Rattle.sight_names.specs.declared.names.Pt.{Pt}

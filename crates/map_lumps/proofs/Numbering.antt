@@ -1,5 +1,5 @@
 -- Points in order: what sorting leaves, and what a search finds.
-use Rattle.std.proofs.Common.{◌≡◌, ℕ, zero, suc, ◌+◌, ◌<◌, ◌≤◌, ◌⊎◌, inl, inr, List, [], ◌∷◌, length, slice_get, slice_index_or, Contains, Some, Err, true, false, ◌&&◌, ℤ, ◌<ℤ◌, refl, sym, ap₂, ◌∙◌, subst, arith, IsPermutation, Ordering, Less, Equal, Greater}
+use Rattle.std.proofs.Common.{◌≡◌, ℕ, zero, suc, ◌+◌, ◌<◌, ◌⊎◌, inl, inr, List, [], ◌∷◌, length, slice_get, slice_index_or, Contains, Some, Err, true, false, ◌&&◌, ℤ, ◌<ℤ◌, refl, sym, ap₂, ◌∙◌, subst, arith, IsPermutation, Ordering, Less, Equal, Greater}
 use Rattle.std.specs.Ordering.{int_cmp, int_eq, ordering_then, is_lt, is_eq}
 use Rattle.std.specs.Cmp.{IsTotalOrder, IsEquivalence}
 use Rattle.std.specs.List.{AllByRecursion, HoldsAt, dedup}

@@ -1,13 +1,9 @@
 -- Lists by record number, and the line of a record.
-use Rattle.std.proofs.Common.{◌≡◌, ℕ, zero, suc, ◌+◌, ◌*◌, ◌<◌, List, [], ◌∷◌, ◌++◌, map, Option, Some, None, Bool, true, false, ◌==◌, ◌||◌, not, cond, is_none, is_some, bit_and, refl, sym, ap, ap₂, ◌∙◌, subst, arith}
+use Rattle.std.proofs.Common.{◌≡◌, ℕ, zero, suc, ◌+◌, ◌*◌, ◌<◌, List, [], ◌∷◌, ◌++◌, map, Option, Some, None, true, false, ◌==◌, not, is_some, bit_and, refl, sym, ap, ap₂, ◌∙◌, subst, arith}
 use Rattle.std.specs.Int.{bit_at}
 use Rattle.std.proofs.lemmas.Nat.Bits.{and_pow, bit_at-lt}
-use Rattle.sight_names.specs.declared.names.Pt.{Pt}
 use Rattle.sight_names.specs.declared.faults.LumpFault.{LumpFault}
-use Rattle.sight_names.specs.Map.{MapLine}
-use Rattle.sight_names.specs.Points.{pt_eq}
-use Rattle.sight_names.specs.declared.names.MapFormat.{MapFormat}
-use Rattle.sight_names.specs.Lumps.{linedef_len, right_at, left_at, numbers_from, numbers_below, lines_fault, first_of, linedef, vertex, side_sector, u16_at}
+use Rattle.sight_names.specs.Lumps.{numbers_from, numbers_below, lines_fault, first_of}
 use Rattle.list_base.proofs.Lists.{map_pushed}
 
 -- one number more

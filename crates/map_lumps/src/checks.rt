@@ -1,6 +1,6 @@
 //! The checks of the four lumps, in their order, up to the number of points.
 
-ghost use Rattle.std.specs.Prelude.{◌≡◌, ◌/◌, ◌<◌, ◌≤◌, false, None, Some, IfSome, IfNone, length};
+ghost use Rattle.std.specs.Prelude.{◌≡◌, ◌/◌, ◌<◌, ◌≤◌, false, None, Some, IfSome, IfNone};
 ghost use Rattle.sight_names.specs.Lumps.{is_bad_side as is_bad_side_lem, is_bad_sector as is_bad_sector_lem, count_linedefs as count_linedefs_lem, line_fault as line_fault_lem, lines_fault, lump_fault, numbers_below};
 ghost use Rattle.sight_names.specs.declared.limits.TheConstants.{LARGE_LINES};
 ghost use Rattle.map_lumps.specs.Records.{AllSound};

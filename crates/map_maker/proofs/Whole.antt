@@ -1,5 +1,5 @@
 -- LINEDEFS of a made map has whole records.
-use Rattle.std.proofs.Common.{◌≡◌, ℕ, ◌+◌, ◌%◌, ◌++◌, List, [], ◌∷◌, length, refl, arith}
+use Rattle.std.proofs.Common.{◌≡◌, ℕ, ◌+◌, ◌%◌, List, [], ◌∷◌, length, refl, arith}
 use Rattle.std.proofs.lemmas.List.{length-append}
 use Rattle.map_maker.specs.declared.lines.Spot.{Spot}
 use Rattle.map_maker.specs.declared.lines.Line.{Line}

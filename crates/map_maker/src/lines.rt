@@ -1,7 +1,7 @@
 //! The lines of a made map.
 
 ghost use Rattle.std.specs.Prelude.{◌≡◌, ◌≤◌, ◌<◌, ◌-◌, ◌++◌, ◌∷◌, [], OnOk, IfOk};
-ghost use Rattle.map_maker.specs.Lines.{at_place, line, wall_lines, room_sector, east_sector, north_sector, west_end, north_end, east_end, south_end, room_lines, east_lines, north_lines, part_lines, row, rows, lines_of};
+ghost use Rattle.map_maker.specs.Lines.{at_place, line, wall_lines, room_sector, east_sector, north_sector, room_lines, east_lines, north_lines, part_lines, row, rows, lines_of};
 
 use std::alloc::{AllocError, Global};
 

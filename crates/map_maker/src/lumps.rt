@@ -1,7 +1,7 @@
 //! The records of a made map.
 
-ghost use Rattle.std.specs.Prelude.{◌≡◌, ◌≤◌, ◌+◌, ◌*◌, ◌^◌, ◌++◌, ◌∷◌, [], OnOk, IfOk, replicate};
-ghost use Rattle.map_maker.specs.Lumps.{short, linedef, linedefs_from, sidedef, sidedefs_of, vertexes_of, texture, side_count, flags_of, left_side, left_sidedef};
+ghost use Rattle.std.specs.Prelude.{◌≡◌, ◌≤◌, ◌+◌, ◌*◌, ◌^◌, ◌++◌, OnOk, IfOk, replicate};
+ghost use Rattle.map_maker.specs.Lumps.{short, linedef, linedefs_from, sidedef, sidedefs_of, vertexes_of, side_count, flags_of, left_side, left_sidedef};
 
 use crate::lines::{Line, Spot};
 use crate::points::place;

@@ -1,7 +1,6 @@
 //! A made map as a WAD.
 
 ghost use Rattle.std.specs.Prelude.{◌≡◌, ◌≤◌, ◌++◌, ◌∷◌, [], IfOk, codes, replicate, ◌*◌};
-ghost use Rattle.hexen_lumps.specs.Turned.{hexen_of};
 ghost use Rattle.wad_dir.specs.Print.{print};
 ghost use Rattle.wad_dir.specs.declared.parts.Kind.TheVariants.{Pwad};
 ghost use Rattle.wad_rewrite.specs.Lumps.{views};

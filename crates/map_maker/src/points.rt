@@ -1,6 +1,6 @@
 //! The points of a made map.
 
-ghost use Rattle.std.specs.Prelude.{◌≡◌, ◌≤◌, [], length, OnOk, IfOk};
+ghost use Rattle.std.specs.Prelude.{◌≡◌, [], OnOk, IfOk};
 ghost use Rattle.std.specs.List.{list_any};
 ghost use Rattle.map_maker.specs.Lumps.{same_spot, with_point, points_after, place_of};
 

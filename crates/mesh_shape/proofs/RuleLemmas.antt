@@ -1,9 +1,9 @@
 -- Steps of the searches for a broken rule.
-use Rattle.std.proofs.Common.{◌≡◌, ◌≢◌, ℕ, ◌<◌, ◌≤◌, ◌⊎◌, inl, inr, List, length, get_or, slice_get, Bool, true, false, ◌==◌, ◌&&◌, ◌||◌, Option, Some, None, refl, sym, ap, ◌∙◌, subst, arith, option_map, option_and_then, IsTrue, eqb-true, eq-eqb, ltb, cond, ℤ, pos, ◌<ℤ◌}
+use Rattle.std.proofs.Common.{◌≡◌, ◌≢◌, ℕ, ◌<◌, ◌≤◌, ◌⊎◌, inl, inr, List, length, get_or, slice_get, Bool, true, false, ◌==◌, ◌&&◌, ◌||◌, Option, Some, None, refl, sym, ap, ◌∙◌, subst, arith, option_map, option_and_then, IsTrue, eqb-true, ltb, cond, ℤ, pos, ◌<ℤ◌}
 use Rattle.std.specs.Bool.{OnTrue}
 use Rattle.std.specs.List.{position, position_or_len}
 use Rattle.std.proofs.lemmas.List.Sums.{fails_before_first}
-use Rattle.std.proofs.lemmas.Option.{slice_get-get_or, slice_get_within, slice_get_past, none-some, get_or_from_slice_get, slice_get-map, same_Some}
+use Rattle.std.proofs.lemmas.Option.{slice_get_within, slice_get_past, none-some, get_or_from_slice_get, slice_get-map, same_Some}
 use Rattle.std.proofs.lemmas.List.Quantifiers.{position-Some}
 use Rattle.std.proofs.lemmas.Bool.{false≢true}
 use Rattle.sight_names.specs.declared.names.Side.{Side}
@@ -17,7 +17,7 @@ use Rattle.sight_names.specs.Sound.{IsCommon, MeetAtEnds}
 use Rattle.mesh_shape.proofs.Separate.{apart_at_ends, numbers_apart, below_apart, common_swapped, inside_numbers}
 use Rattle.sight_names.specs.Points.{Edge, reverse_of, points_of, place, line_edge}
 use Rattle.sight_names.specs.Mesh.{IsGoodMesh, HasEdge, has_edge, IsLineEdge, InsideTriangle, MeetsFairly, IsTriangle, AreTriangles, triangle_at, label_of, side_edge}
-use Rattle.sight_names.proofs.PlanMap.{line_of_plan, points_differ}
+use Rattle.sight_names.proofs.PlanMap.{points_differ}
 use Rattle.sight_names.proofs.PlanNumbers.{line_edge_of_plan, number_of_plan, place_of_plan, count_of_plan}
 use Rattle.geom_exact.specs.Formulas.{turn_of}
 use Rattle.geom_exact.proofs.SegmentLemmas.{turn_is_at}
@@ -26,7 +26,6 @@ use Rattle.mesh_shape.specs.Search.{IsEdgeOf, IsUnfitLine, IsUnfitSide, IsFittin
 use Rattle.mesh_shape.specs.Faults.{TurnsAt, IsNewAt, HasMate, HasMatesAt, FitsAt, IsFairAt, IsEmptyAt, IsFirstAgainst, IsFirstSideAgainst, IsFirstPairAgainst}
 use Rattle.list_base.proofs.Numbers.{below_or_above, same_or_below, below_or_not}
 use Rattle.mesh_base.proofs.GoodMesh.{found_at}
-use Rattle.mesh_base.proofs.CleanMesh.{edge_rp, edge_qr, edge_pq}
 use Rattle.sight_names.proofs.Records.{same_edge}
 use Rattle.list_base.proofs.Lists.{item_there}
 
@@ -55,10 +54,6 @@ edge_from e = ap (λ (x : Edge). x.from) e
 
 edge_to : {a b c d : ℕ} → ◌≡◌ {A = Edge} (record { from = a; to = b }) (record { from = c; to = d }) → b ≡ d
 edge_to e = ap (λ (x : Edge). x.to) e
-
--- the edge is the line of this record
-abbrev pub IsLineAt : Map → Edge → ℕ → MapLine → Type 0
-IsLineAt m e i l = (left : Bool) × (e ≡ side_edge m l left)
 
 pub joined_edge : (p : PlanParts) → IsPlan p → (i : ℕ) (l : Line) (u v : ℕ) → slice_get p.lines i ≡ Some (Some l) → Joins l u v
     → (left : Bool) × (record { from = u; to = v } ≡ side_edge (map_of p) (looked_up p.points l) left)

@@ -2,7 +2,7 @@
 
 ghost use Rattle.std.specs.Prelude.{◌≡◌, ◌++◌, ℕ, List, OnErr, OnOk, Option, map};
 ghost use Rattle.std.specs.Option.{option_map};
-ghost use Rattle.listeners.specs.Listening.{ListenerState, listener_text};
+ghost use Rattle.listeners.specs.Listening.{listener_text};
 ghost use Rattle.listeners.specs.Told.{texts};
 ghost use Rattle.output_pieces.specs.UnderWay.{IsUnderWay};
 ghost use Rattle.shelf_io.specs.Shelf.{Files, MayHoldFront, NoneFell, Rose, SameCounts, put};

@@ -45,6 +45,3 @@ module _ (n : ℕ) (xs : List ℕ) where
 
   pub none_all : (P : ℕ → Type 0) → length xs ≤ n → ((f : ℕ) → IsAmong n xs f → ¬ P f) → (f : ℕ) → Contains xs f → ¬ P f
   none_all P le none f c = none f (contains_among f le c)
-
-pub none_first : (P : ℕ → Type 0) (xs : List ℕ) (f : ℕ) → IsAmong 0 xs f → ¬ P f
-none_first P xs f h p = let l = h.1 in omega (arith, l)

@@ -1,8 +1,6 @@
 //! The notice that ends a walk once it found one of those for which it is made.
 
-ghost use Rattle.std.specs.Prelude.{◌≡◌, ◌++◌, ◌∷◌, [], ◌⊎◌, ℕ, Bool, true, List, MatchOption, Some, slice_get, ⊤};
-ghost use Rattle.std.specs.List.{Contains};
-ghost use Rattle.pair_budget.specs.Notes.{ordered, Grows};
+ghost use Rattle.std.specs.Prelude.{◌≡◌, [], true, MatchOption, Some, slice_get, ⊤};
 
 use pair_budget::Notice;
 

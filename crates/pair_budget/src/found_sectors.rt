@@ -1,6 +1,6 @@
 //! The sectors that the walk of a source has found so far.
 
-ghost use Rattle.std.specs.Prelude.{◌≡◌, ◌⊎◌, [], IfOk, true};
+ghost use Rattle.std.specs.Prelude.{◌≡◌, ◌⊎◌, ◌↔◌, [], IfOk, IsTrue, true};
 ghost use Rattle.std.specs.List.{Contains};
 ghost use Rattle.pair_budget.specs.FoundSectors.{Extends};
 ghost use Rattle.pair_budget.specs.Walked.{AreReached, IsReachedFrom};
@@ -62,7 +62,7 @@ impl<'a> FoundSectors<'a> {
 
     /// Whether the sector was found.
     pub fn has(&self, sector: u16) -> bool
-        ensures { result ≡ true → IsFound self.now.found sector }
+        ensures { IsTrue result ↔ IsFound self.now.found sector }
     {
         match self.seen.as_slice().get(sector as usize) {
             Some(seen) => *seen,

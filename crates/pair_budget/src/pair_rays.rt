@@ -1,6 +1,6 @@
 //! The pairs of which one found the other, each once, with a ray from its smaller sector to its larger one.
 
-ghost use Rattle.std.specs.Prelude.{◌≡◌, ◌<◌, ◌↔◌, IsTrue, IfOk, OnOk, [], ◌++◌, ◌∷◌};
+ghost use Rattle.std.specs.Prelude.{◌≡◌, ◌<◌, ◌↔◌, IsTrue, IfOk, OnOk, []};
 ghost use Rattle.pair_budget.specs.PairRays.{HasRayFor, IsNoted};
 
 use reject_bits::Table;

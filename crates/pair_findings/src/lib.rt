@@ -5,7 +5,6 @@ ghost use Rattle.std.specs.Prelude.{◌≡◌, ◌+◌, ◌*◌, ◌<◌, ◌==�
 ghost use Rattle.std.specs.List.{AllByRecursion};
 ghost use Rattle.sight_names.specs.Order.{Ascends, PairBefore};
 ghost use Rattle.sight_names.specs.Table.{table_bit};
-ghost use Rattle.listeners.specs.Listening.{ListenerState};
 ghost use Rattle.listeners.specs.Told.{AreTold, HeardFronts, StopsAmong, TellsAll, texts};
 ghost use Rattle.pair_findings.specs.Counted.{FindingsAreCounted};
 ghost use Rattle.pair_findings.specs.Found.{FindingsTellPairs, IsPairOf, findings_of, is_listed, is_pair as is_the_pair, kind_by, row_from};

@@ -1,9 +1,7 @@
 -- What holds of each member of a list.
-use Rattle.std.proofs.Common.{◌≡◌, ℕ, zero, suc, List, [], ◌∷◌, ◌++◌, Some, slice_get, inl, inr, subst}
+use Rattle.std.proofs.Common.{List, [], ◌∷◌, inl, inr, subst}
 use Rattle.std.specs.List.{AllByRecursion}
-use Rattle.std.proofs.lemmas.Option.{none-some, same_Some}
 use Rattle.plane_base.proofs.Search.{In}
-use Rattle.list_base.proofs.Lists.{all_at, all_front, all_join}
 
 pub all_weaker : {A : Type 0} (P Q : A → Type 0) → ((x : A) → P x → Q x) → (xs : List A) → AllByRecursion P xs → AllByRecursion Q xs
 all_weaker P Q f [] h = tt

@@ -3,8 +3,6 @@ use Rattle.std.proofs.Common.{◌≡◌, ℤ, pos, ◌+ℤ◌, ◌*ℤ◌, ◌-�
 use borrow.Author.Differences.{ints}
 use lib.IntN.{*ℤ-zero, zero-*ℤ}
 use Rattle.exact_ring.proofs.Quoting.{quoting, by_ring}
-use Rattle.exact_ring.proofs.Small.{zero_by_second}
-use Rattle.exact_ring.proofs.MoreSigns.{mul-neg_ℤ}
 
 pub record V : Type 0 where
   pub x : ℤ

@@ -6,7 +6,7 @@ use Rattle.exact_ring.proofs.Quoting.{quoting, by_ring}
 use Rattle.exact_ring.proofs.IntLaws.{neg-*ℤ}
 use Rattle.exact_ring.proofs.Signs.{mul-pos, mul-nonneg, pos-of-mul}
 use Rattle.plane_base.proofs.Vec.{V, Lin, at, edge, det, IsComb, On, sum3, value, mean, bary, det-cycle, comb_of_bary}
-use Rattle.exact_ring.proofs.MoreSigns.{mul-nonpos, mul-neg}
+use Rattle.exact_ring.proofs.MoreSigns.{mul-neg}
 
 -- ---- products with a factor that isn't positive
 pub mul_np : (a b : ℤ) → a ≤ℤ pos 0 → pos 0 ≤ℤ b → (a *ℤ b) ≤ℤ pos 0

@@ -1,6 +1,6 @@
 //! The portals that a walk has entered, with their ends.
 
-ghost use Rattle.std.specs.Prelude.{◌≡◌, ◌≢◌, ◌+◌, ◌-◌, ◌<◌, ◌++◌, ◌∷◌, [], length, slice_get, slice_set, take, IfNone, IfSome};
+ghost use Rattle.std.specs.Prelude.{◌≡◌, ◌≢◌, ◌+◌, ◌-◌, ◌<◌, [], length, slice_get, slice_set, take, IfNone, IfSome};
 ghost use Rattle.sight_names.specs.Splitting.{SplitsEnds, IsSplittable};
 ghost use Rattle.stab_hull.specs.Answer.{IsLineInRange};
 ghost use Rattle.portal_walk.specs.Frames.{Passes, ways_left};

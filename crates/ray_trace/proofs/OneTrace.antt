@@ -1,7 +1,7 @@
 -- A ray has one walk over a mesh, and one end of it: its trace, the wall or the point that it meets, or its own fault.
-use Rattle.std.proofs.Common.{◌≡◌, ℕ, ◌+◌, ◌<◌, ◌≤◌, ◌⊎◌, inl, inr, pos, List, [], ◌∷◌, ◌++◌, length, length-append, Option, Some, None, IsSome, not, Result, Ok, Err, refl, sym, ap, ap₂, ◌∙◌, subst, arith}
+use Rattle.std.proofs.Common.{◌≡◌, ℕ, ◌+◌, ◌<◌, ◌≤◌, inl, inr, pos, List, [], ◌∷◌, ◌++◌, length, length-append, Option, not, Result, Ok, Err, refl, sym, ap, ap₂, ◌∙◌, subst, arith}
 use borrow.Author.Differences.{ints}
-use Rattle.std.proofs.lemmas.Option.{none-some, same_Some}
+use Rattle.std.proofs.lemmas.Option.{same_Some}
 use Rattle.sight_names.specs.declared.names.Ray.{Ray}
 use Rattle.sight_names.specs.declared.names.Triangle.{Triangle}
 use Rattle.sight_names.specs.declared.faults.RayFault.{RayFault}

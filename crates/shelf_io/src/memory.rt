@@ -1,8 +1,8 @@
 //! A shelf and a sink in memory, whose calls fail where a test says so.
 
-ghost use Rattle.std.specs.Prelude.{◌≡◌, ◌≤◌, ◌<◌, ◌-◌, ◌++◌, ◌/◌, take, if◌then◌else◌, min, [], OnOk, OnErr, IfOk, IfSome, IfNone, length, string_bytes, slice_get, Some, None};
+ghost use Rattle.std.specs.Prelude.{◌≡◌, ◌≤◌, ◌<◌, ◌-◌, ◌++◌, ◌/◌, take, if◌then◌else◌, min, [], OnOk, OnErr, IfOk, IfSome, length, Some, None};
 ghost use Rattle.std.specs.Option.{option_map, option_copied};
-ghost use Rattle.shelf_io.specs.Shelf.{Files, ShelfState, IsReadAt, put, append_to, ReadsFile, ReadCause, Rose, NoneFell, SameCounts, MayBeEmpty, MayHaveFront};
+ghost use Rattle.shelf_io.specs.Shelf.{Files, IsReadAt, put, append_to, ReadsFile, ReadCause, Rose, NoneFell, SameCounts, MayBeEmpty, MayHaveFront};
 ghost use Rattle.shelf_io.specs.Sink.{HasFront};
 ghost use Rattle.shelf_io.specs.Fakes.{files_of, place_in, files_in, shelf_of, fails_of, calls_of, starved_of, is_listed, next, read_answer, CreatesIn, AppendsIn, held_in, sink_of, failing_puts, puts_of, sink_starved, PutsIn};
 

@@ -1,6 +1,6 @@
 //! What is outside the program, as it sees it.
 
-ghost use Rattle.std.specs.Prelude.{◌≡◌, ◌≤◌, ◌++◌, List, [], length, IfOk, OnOk, OnErr, Some, None};
+ghost use Rattle.std.specs.Prelude.{◌≡◌, ◌≤◌, ◌++◌, [], length, IfOk, OnOk, OnErr, Some, None};
 ghost use Rattle.std.specs.Option.{option_map};
 ghost use Rattle.shelf_io.specs.Shelf.{ShelfState, Files, Rose, NoneFell, SameCounts, ReadsFile, ReadCause, MayBeEmpty, MayHaveFront, put, append_to};
 ghost use Rattle.shelf_io.specs.Sink.{SinkState, HasFront};

@@ -1,5 +1,5 @@
 -- From points and whole weights to vectors, and back.
-use Rattle.std.proofs.Common.{◌≡◌, ℕ, ◌+◌, ◌*◌, ◌<◌, ℤ, pos, ◌+ℤ◌, ◌*ℤ◌, ◌-ℤ◌, ◌≤ℤ◌, ◌<ℤ◌, neg_ℤ, nat_abs, arith, refl, sym, ap, ◌∙◌, subst, [], ◌∷◌}
+use Rattle.std.proofs.Common.{◌≡◌, ℕ, ◌+◌, ◌*◌, ◌<◌, ℤ, pos, ◌+ℤ◌, ◌*ℤ◌, ◌-ℤ◌, ◌<ℤ◌, neg_ℤ, nat_abs, arith, refl, sym, ap, ◌∙◌, subst, [], ◌∷◌}
 use borrow.Author.Differences.{ints}
 use Rattle.exact_ring.proofs.Quoting.{quoting, by_ring, combine1, combine2}
 use Rattle.exact_ring.proofs.Signs.{mul-pos, mul-nonneg}

@@ -1,5 +1,5 @@
 -- What a sight ray tells about its sectors.
-use Rattle.std.proofs.Common.{◌≡◌, ℕ, ℤ, pos, ◌+ℤ◌, ◌*ℤ◌, ◌-ℤ◌, ◌≤ℤ◌, ◌<ℤ◌, neg_ℤ, nat_abs, ◌≤◌, arith, refl, sym, subst, inl, inr, [], ◌∷◌, Some, None, Option, option_and_then, ◌↔◌, Bool, true, false, not}
+use Rattle.std.proofs.Common.{◌≡◌, ℕ, ℤ, pos, ◌+ℤ◌, ◌*ℤ◌, ◌-ℤ◌, ◌≤ℤ◌, ◌<ℤ◌, neg_ℤ, ◌≤◌, arith, refl, sym, subst, inl, inr, [], ◌∷◌, Some, None, Option, option_and_then, ◌↔◌, Bool, true, false, not}
 use borrow.Author.Differences.{ints}
 use Rattle.exact_ring.proofs.Quoting.{quoting, by_ring, combine2}
 use Rattle.exact_ring.proofs.Signs.{mul-le, le-of-mul, same-of-mul}

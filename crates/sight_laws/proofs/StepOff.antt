@@ -1,5 +1,5 @@
 -- A little before its crossing with a line a ray is on no line, and touches the side of that line from which it comes.
-use Rattle.std.proofs.Common.{◌≡◌, ◌≢◌, ℕ, zero, suc, ◌+◌, ◌*◌, ◌<◌, ◌≤◌, ℤ, pos, ◌+ℤ◌, ◌*ℤ◌, ◌-ℤ◌, ◌≤ℤ◌, ◌<ℤ◌, neg_ℤ, nat_abs, arith, refl, sym, ap, ap₂, subst, ◌∙◌, ◌⊎◌, inl, inr, List, [], ◌∷◌, Option, Some, None, Bool, true, false, not, option_and_then, slice_get}
+use Rattle.std.proofs.Common.{◌≡◌, ◌≢◌, ℕ, zero, suc, ◌+◌, ◌*◌, ◌<◌, ◌≤◌, ℤ, pos, ◌+ℤ◌, ◌*ℤ◌, ◌-ℤ◌, ◌≤ℤ◌, ◌<ℤ◌, neg_ℤ, nat_abs, arith, refl, sym, ap, ap₂, subst, ◌∙◌, inl, inr, List, [], ◌∷◌, Option, Some, None, Bool, true, false, not, option_and_then, slice_get}
 use borrow.Author.Differences.{ints}
 use lib.IntN.{*ℤ-zero, *ℤ_comm}
 use Rattle.exact_ring.proofs.Quoting.{quoting, by_ring}
@@ -15,7 +15,7 @@ use Rattle.sight_names.specs.Ray.{ray_value, along, SplitsLine, IsCrossing}
 use Rattle.sight_names.proofs.Affine.{parted_misses}
 use Rattle.sight_names.proofs.Laws.{start_on, on_segment_sym, same_point_refl}
 use Rattle.sight_laws.proofs.Rays.{Behind, HasDirection, order, on_stretch, stretch_on_ray, split_direction, split_once, split_inside, along_same, before_turn, turn_swap}
-use Rattle.list_base.proofs.Numbers.{below_same_or_above, same_or_not}
+use Rattle.list_base.proofs.Numbers.{same_or_not}
 use Rattle.list_base.proofs.Options.{none_is_not_some}
 use Rattle.exact_ring.proofs.Small.{times_one, pos_of_negated_neg, nonpos_of_zero, negated_sum, pos_not_zero, neg_not_zero}
 use Rattle.exact_ring.proofs.Ring.{same_of_difference}

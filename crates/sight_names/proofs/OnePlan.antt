@@ -1,9 +1,9 @@
 -- A map has one plan at most.
-use Rattle.std.proofs.Common.{◌≡◌, ◌≢◌, ℕ, zero, suc, ◌<◌, ◌⊎◌, inl, inr, List, [], ◌∷◌, length, slice_get, slice_index_or, Option, Some, None, Bool, refl, sym, ap, ◌∙◌, subst, arith, map, option_map}
+use Rattle.std.proofs.Common.{◌≡◌, ℕ, zero, suc, ◌<◌, inl, inr, List, [], ◌∷◌, length, slice_get, Option, Some, None, Bool, refl, sym, ap, ◌∙◌, subst, map, option_map}
 use Rattle.sight_names.specs.declared.names.Pt.{Pt}
 use Rattle.sight_names.specs.declared.plan.Line.{Line}
 use Rattle.sight_names.specs.Plan.{PlanParts, IsPlan}
-use Rattle.sight_names.specs.Map.{Map, MapLine, map_of, looked_up, origin}
+use Rattle.sight_names.specs.Map.{Map, MapLine, map_of, looked_up}
 use Rattle.sight_names.specs.Points.{points_of}
 use Rattle.sight_names.proofs.PlanPoints.{at, plan_points}
 use Rattle.sight_names.proofs.PlanMap.{points_differ}

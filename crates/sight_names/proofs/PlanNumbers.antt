@@ -9,7 +9,7 @@ use Rattle.sight_names.specs.declared.names.Pt.{Pt}
 use Rattle.sight_names.specs.declared.plan.Line.{Line}
 use Rattle.sight_names.specs.Plan.{PlanParts, IsPlan}
 use Rattle.sight_names.specs.Map.{map_of, looked_up, origin}
-use Rattle.sight_names.specs.Points.{pt_eq, points_of, place, number_of, line_edge, Edge}
+use Rattle.sight_names.specs.Points.{pt_eq, points_of, place, number_of, line_edge}
 use Rattle.sight_names.proofs.PlanPoints.{plan_points, index_any}
 use Rattle.sight_names.proofs.PlanMap.{points_differ}
 use Rattle.sight_names.proofs.Records.{same_edge, pt_of_numbers}

@@ -1,5 +1,5 @@
 -- Triangles by their edges, portals and their ends, taken one by one.
-use Rattle.std.proofs.Common.{◌≡◌, ℕ, zero, suc, ◌<◌, List, [], ◌∷◌, ◌++◌, length, slice_get, Option, Some, None, subst, ℤ, pos, ◌<ℤ◌, arith}
+use Rattle.std.proofs.Common.{◌≡◌, ℕ, zero, suc, ◌<◌, List, [], ◌∷◌, ◌++◌, length, slice_get, Some, subst, ℤ, pos, ◌<ℤ◌, arith}
 use Rattle.std.proofs.lemmas.Int.{ints}
 use Rattle.std.proofs.lemmas.List.Quantifiers.{position-Some}
 use Rattle.list_base.proofs.Options.{none_is_not_some, some_is_same}

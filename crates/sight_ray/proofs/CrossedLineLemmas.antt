@@ -1,21 +1,19 @@
 -- CrossedLines, the lines of a ray's two sides, and the ways in which the ray crosses them.
-use Rattle.std.proofs.Common.{◌≡◌, ℕ, Bool, true, false, not, ℤ, pos, ◌<ℤ◌, arith, refl, sym, subst, ◌∙◌, inl, inr, if◌then◌else◌, Option, Some, None, MatchOption}
-use borrow.Author.Differences.{ints}
+use Rattle.std.proofs.Common.{◌≡◌, ℕ, Bool, true, false, not, ℤ, pos, ◌<ℤ◌, refl, sym, subst, ◌∙◌, inl, inr, if◌then◌else◌, Option, Some, None, MatchOption}
 use mathlib.Core.Bool.{beq}
 use Rattle.sight_names.specs.declared.names.Pt.{Pt}
 use Rattle.sight_names.specs.declared.names.Side.{Side}
 use Rattle.sight_names.specs.declared.names.Ray.{Ray}
 use Rattle.sight_names.specs.Point.{Point, point_of, OnSegment}
 use Rattle.sight_names.specs.Map.{Map, MapLine, line_at}
-use Rattle.sight_names.specs.Ray.{ray_value, SplitsLine, IsCrossing}
+use Rattle.sight_names.specs.Ray.{ray_value, SplitsLine}
 use Rattle.sight_names.proofs.Laws.{on_segment_sym}
 use Rattle.geom_exact.specs.Formulas.{side_value, AreOnTwoSides}
 use Rattle.sight_ray.specs.declared.crossed_line.CrossedLine.{CrossedLine}
 use Rattle.sight_ray.specs.CrossedLine.{AreParted, IsCrossedLineBetween, IsCrossedLineOf, CrossingOfLine}
 use Rattle.sight_ray.specs.RayFault.{Splits, IsSplit, Crosses}
-use Rattle.list_base.proofs.Bools.{false_of_not}
 use Rattle.exact_ring.proofs.Small.{pos_not_neg}
-use Rattle.list_base.proofs.Options.{some_is_same, none_is_not_some}
+use Rattle.list_base.proofs.Options.{some_is_same}
 
 -- ---- a crossed line from the two values
 pub crossed_line_forward : (r : Ray) (p q : Pt) → AreParted (side_value r p) (side_value r q) → IsCrossedLineBetween r p q (record { left = p; right = q; first_left = true })

@@ -1,5 +1,5 @@
 -- A ray has one first fault, or it is a sight ray.
-use Rattle.std.proofs.Common.{◌≡◌, ℕ, ◌<◌, Bool, true, false, not, arith, refl, sym, ap, ap₂, subst, ◌∙◌, ◌⊎◌, inl, inr, Option, Some, None, Result, Ok, Err, IsSome, MatchResult, length, lit<}
+use Rattle.std.proofs.Common.{◌≡◌, ℕ, ◌<◌, Bool, true, false, not, arith, refl, sym, ap, ap₂, subst, ◌∙◌, inl, inr, Result, Ok, Err, MatchResult, length, lit<}
 use Rattle.sight_names.specs.declared.names.Side.{Side}
 use Rattle.sight_names.specs.declared.names.Ray.{Ray}
 use Rattle.sight_names.specs.declared.faults.RayFault.{RayFault}

@@ -1,5 +1,5 @@
 -- Whether a segment has a point of the stretch between two crossings.
-use Rattle.std.proofs.Common.{◌≡◌, ℕ, Some, None, IsTrue, true≢false, ap, Bool, true, false, not, MatchBool, ℤ, pos, neg_ℤ, ◌≤ℤ◌, ◌<ℤ◌, arith, sym, subst, ◌∙◌, inl, inr}
+use Rattle.std.proofs.Common.{◌≡◌, ℕ, Some, None, IsTrue, Bool, true, false, not, MatchBool, ℤ, pos, neg_ℤ, ◌≤ℤ◌, ◌<ℤ◌, arith, sym, subst, ◌∙◌, inl, inr}
 use borrow.Author.Differences.{ints}
 use Rattle.exact_ring.proofs.Signs.{sign_cases}
 use Rattle.sight_names.specs.declared.names.Pt.{Pt}

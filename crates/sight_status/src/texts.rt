@@ -1,6 +1,6 @@
 //! The one line that a run puts.
 
-ghost use Rattle.std.specs.Prelude.{◌≡◌, ◌++◌, List, ℕ, string_bytes, codes, OnOk, IfOk};
+ghost use Rattle.std.specs.Prelude.{◌≡◌, ◌++◌, string_bytes, codes, OnOk, IfOk};
 ghost use Rattle.std.specs.Fmt.{decimal};
 ghost use Rattle.sight_names.specs.Texts.{side_text};
 ghost use Rattle.sight_status.specs.Texts.{bound_words, cert_words, check_words, clash_words, flaw_words, lump_words, lumps_words, map_words, mesh_words, no_words, ray_words, reason_words, role_words, table_words, text_of, trace_words, two, wad_words, why_words};

@@ -1,16 +1,15 @@
 -- What nodes are spelled in is read back as these nodes, one after the other.
-use Rattle.std.proofs.Common.{◌≡◌, ℕ, zero, suc, ◌+◌, ◌-◌, ◌*◌, ◌^◌, ◌<◌, ◌≤◌, List, [], ◌∷◌, ◌++◌, take, drop, length, get_or, refl, sym, ap, subst, ◌∙◌, append_assoc, arith}
+use Rattle.std.proofs.Common.{◌≡◌, ℕ, zero, suc, ◌+◌, ◌-◌, ◌*◌, ◌^◌, ◌<◌, ◌≤◌, List, [], ◌∷◌, ◌++◌, take, drop, length, get_or, refl, sym, ap, subst, ◌∙◌, arith}
 use Rattle.std.specs.Prelude.{replicate}
 use Rattle.std.specs.List.{flat_map, AllByRecursion}
-use Rattle.std.specs.Int.{from_le_bytes, w16}
+use Rattle.std.specs.Int.{from_le_bytes}
 use Rattle.std.proofs.lemmas.List.{append-nil, take-append-drop, length-append, length-take, take_at, drop_at}
-use Rattle.std.proofs.lemmas.List.Concat.{flat_map-append, flat_map-cons}
+use Rattle.std.proofs.lemmas.List.Concat.{flat_map-append}
 use Rattle.std.proofs.lemmas.Nat.{from_le_bytes-to_le_bytes_2}
-use Rattle.block_evidence.specs.declared.Evidence.{Evidence}
 use Rattle.block_evidence.specs.Stuck.{end_codes}
 use Rattle.sight_tree.specs.declared.Node.{Node}
 use Rattle.sight_tree.specs.declared.Node.TheVariants.{Open, Blocked}
-use Rattle.sight_tree.specs.Spelling.{u16, node_bytes, IsPackable, FitsNode, SpellNodes, SpellSoMany, first_ends, first_node, nodes_within, nodes_of}
+use Rattle.sight_tree.specs.Spelling.{u16, node_bytes, IsPackable, FitsNode, SpellNodes, first_ends, first_node, nodes_within, nodes_of}
 
 -- ---- one node
 

@@ -1,5 +1,5 @@
 -- What a walk finds and marks.
-use Rattle.std.proofs.Common.{◌≡◌, ◌≢◌, inl, inr, ⊎_elim, ℕ, zero, suc, ◌<◌, List, [], ◌∷◌, ◌++◌, Contains, Bool, cond, ltb, false, true, length, get_or, map, refl, sym, ap, subst, arith, pos, Result, Ok, Err, IfOk}
+use Rattle.std.proofs.Common.{◌≡◌, ◌≢◌, inl, inr, ⊎_elim, ℕ, zero, suc, ◌<◌, List, [], ◌∷◌, ◌++◌, Contains, Bool, cond, ltb, false, true, length, get_or, map, refl, sym, subst, arith, pos, Result, Ok, Err, IfOk}
 use Rattle.pair_budget.specs.declared.results.Reached.{Reached}
 use Rattle.pair_budget.specs.declared.results.SourceResult.{SourceResult}
 use Rattle.pair_budget.specs.Notes.{ordered}

@@ -1,5 +1,5 @@
 -- The doors of a map: gathered line by line, and found by their sectors.
-use Rattle.std.proofs.Common.{◌≡◌, ℕ, zero, suc, ◌+◌, ◌-◌, ◌<◌, ◌≤◌, ◌⊎◌, ◌↔◌, inl, inr, List, [], ◌∷◌, ◌++◌, length, slice_get, slice_index_or, get_or, take, drop, Option, Some, None, Bool, true, false, not, refl, sym, ap, ◌∙◌, subst, arith, Contains, map, option_map, option_and_then, IfSome, get_or-take, get_or-drop, length-take, length-drop, ltb}
+use Rattle.std.proofs.Common.{◌≡◌, ℕ, zero, suc, ◌+◌, ◌-◌, ◌<◌, ◌≤◌, ◌⊎◌, ◌↔◌, inl, inr, List, [], ◌∷◌, length, slice_get, slice_index_or, get_or, take, drop, Option, Some, None, Bool, true, false, not, refl, sym, ap, ◌∙◌, subst, arith, Contains, map, option_map, option_and_then, IfSome, get_or-take, get_or-drop, length-take, length-drop, ltb}
 use Rattle.std.proofs.lemmas.Bool.{ltb-true, ltb-false}
 use Rattle.std.proofs.lemmas.Option.{slice_get_within, slice_get-map, get_or_from_slice_get}
 use Rattle.std.specs.List.Sorted.{IsPartitionPoint, IsPermutation}
@@ -11,8 +11,7 @@ use Rattle.sight_names.specs.Map.{MapLine, IsMapLine, line_at, looked_up, map_of
 use Rattle.sight_names.proofs.Lists.{get_of_contains}
 use Rattle.sight_names.proofs.PlanMap.{line_of_plan, plan_is_map}
 use Rattle.sound_reach.specs.declared.doors.Door.{Door}
-use Rattle.sound_reach.specs.Doors.{AreAdded, AreDoors, AreDoorsFrom, AreStarts, IsDoor, IsDoorOf, IsStart, sector_of}
-use Rattle.list_base.proofs.Lists.{contains_none, pushed_at}
+use Rattle.sound_reach.specs.Doors.{AreAdded, AreDoors, AreDoorsFrom, IsDoor, IsDoorOf, IsStart, sector_of}
 use Rattle.list_base.proofs.Numbers.{below_or_not, below_or_last}
 use Rattle.sight_names.proofs.Records.{none_is_no_line}
 

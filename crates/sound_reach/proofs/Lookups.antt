@@ -1,14 +1,12 @@
 -- Lists that grow at their end, and lists with two entries for each sector.
-use Rattle.std.proofs.Common.{◌≡◌, ◌≢◌, ℕ, zero, suc, ◌*◌, ◌<◌, ◌⊎◌, inl, inr, List, [], ◌∷◌, ◌++◌, length, slice_get, slice_index_or, Option, Some, None, Bool, true, false, refl, sym, ap, ◌∙◌, subst, arith, set, get_or-set_other, get_or-set_same, replicate, get_or, Contains}
-use Rattle.std.proofs.lemmas.Option.{slice_get-get_or, get_or_from_slice_get, same_Some}
+use Rattle.std.proofs.Common.{◌≡◌, ℕ, zero, suc, ◌*◌, ◌<◌, ◌⊎◌, inl, inr, List, [], ◌∷◌, length, slice_get, slice_index_or, Option, Some, None, Bool, true, false, refl, sym, ap, ◌∙◌, subst, arith, set, get_or-set_other, get_or-set_same, replicate, get_or, Contains}
+use Rattle.std.proofs.lemmas.Option.{slice_get-get_or, get_or_from_slice_get}
 use Rattle.sight_names.proofs.Lists.{contains_of_get}
 use Rattle.sound_reach.specs.declared.doors.Door.{Door}
 use Rattle.sound_reach.specs.declared.state.State.{State}
 use Rattle.sound_reach.specs.State.{place_of}
 use Rattle.sound_reach.specs.Routes.{distance_at}
-use Rattle.list_base.proofs.Lists.{item_there, get_before_pushed, get_pushed, pushed_at}
 use Rattle.list_base.proofs.Numbers.{same_or_not}
-use Rattle.list_base.proofs.Options.{none_is_not_some}
 
 pub none_some : {X : Type 0} (o : Option X) (x : X) → o ≡ None → o ≡ Some x → ⊥
 none_some o x e f = cc

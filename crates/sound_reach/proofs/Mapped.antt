@@ -46,9 +46,6 @@ abbrev pub allowance : Bool → ℕ
 allowance true = 1
 allowance false = 0
 
-pub passed : List Bool → List Side → ℕ
-passed d ss = count_by (is_damped d) ss
-
 more_damped : (d : List Bool) (s : Side) (ss : List Side) (b : Bool) → is_damped d s ≡ b → count_by (is_damped d) (s ∷ ss) ≡ cond b 1 0 + count_by (is_damped d) ss
 more_damped d s ss b e = sum_by-cons (λ (t : Side). cond (is_damped d t) 1 0) s ss ∙ ap (λ (c : Bool). cond c 1 0 + count_by (is_damped d) ss) e
 

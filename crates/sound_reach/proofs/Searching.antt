@@ -1,5 +1,5 @@
 -- A search by breadth finds the least number of sides from each state.
-use Rattle.std.proofs.Common.{◌≡◌, ℕ, zero, suc, ◌+◌, ◌*◌, ◌<◌, ◌≤◌, ◌⊎◌, inl, inr, List, [], ◌∷◌, ◌++◌, length, slice_get, slice_index_or, Option, Some, None, Bool, true, false, cond, refl, sym, ap, ◌∙◌, subst, arith, set, length-set, length-append, get_or-set_same, replicate, Contains}
+use Rattle.std.proofs.Common.{◌≡◌, ℕ, zero, suc, ◌+◌, ◌*◌, ◌<◌, ◌≤◌, inl, inr, List, [], ◌∷◌, ◌++◌, length, slice_get, slice_index_or, Option, Some, None, Bool, true, false, cond, refl, sym, ap, ◌∙◌, subst, arith, set, length-set, length-append, get_or-set_same, replicate, Contains}
 use Rattle.std.specs.Prelude.{is_none}
 use Rattle.std.specs.List.{count_by}
 use Rattle.std.proofs.lemmas.List.{length-replicate}

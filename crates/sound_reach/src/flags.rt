@@ -1,9 +1,9 @@
 //! The lines that block sound.
 
-ghost use Rattle.std.specs.Prelude.{◌≡◌, ◌+◌, ◌*◌, ◌/◌, ◌%◌, ◌<◌, ◌≤◌, ◌==◌, Bool, IfOk, IsTrue, length};
+ghost use Rattle.std.specs.Prelude.{◌≡◌, ◌+◌, ◌*◌, ◌/◌, ◌%◌, ◌<◌, ◌≤◌, ◌==◌, IfOk, length};
 ghost use Rattle.std.specs.Int.{bit_at};
 ghost use Rattle.sight_names.specs.Lumps.{linedef_len as linedef_len_lem, u16_at};
-ghost use Rattle.sound_reach.specs.Dampers.{dampers_of, is_damper};
+ghost use Rattle.sound_reach.specs.Dampers.{dampers_of};
 
 use sight_names::{MapFormat, Memory};
 use std::alloc::Global;

@@ -1,6 +1,6 @@
 //! How few sides lead to a sector, by a search in breadth.
 
-ghost use Rattle.std.specs.Prelude.{◌≡◌, ◌+◌, ◌*◌, ◌<◌, ◌≤◌, IfOk, OnOk, List, length};
+ghost use Rattle.std.specs.Prelude.{◌≡◌, ◌+◌, ◌*◌, ◌<◌, IfOk, OnOk, List, length};
 ghost use Rattle.sound_reach.specs.declared.doors.Door.{Door};
 ghost use Rattle.sound_reach.specs.State.{place_of};
 ghost use Rattle.sound_reach.specs.Doors.{IsIndexed};

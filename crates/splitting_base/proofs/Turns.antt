@@ -1,10 +1,10 @@
 -- An angle that is widened by an arrow has in it what it had.
 use Rattle.std.proofs.Common.{ℤ, pos, ◌+ℤ◌, ◌-ℤ◌, ◌*ℤ◌, neg_ℤ, ◌≡◌, sym, ap, ◌∙◌, [], ◌∷◌, arith, ◌≤ℤ◌, ◌<ℤ◌, inl, inr}
 use Rattle.std.proofs.lemmas.Int.{ints}
-use lib.IntN.{zero-*ℤ, *ℤ-zero, *ℤ_comm}
+use lib.IntN.{*ℤ-zero, *ℤ_comm}
 use Rattle.exact_ring.proofs.IntLaws.{neg-*ℤ}
 use Rattle.exact_ring.proofs.Quoting.{quoting, by_ring}
-use Rattle.exact_ring.proofs.Signs.{mul-pos, mul-nonneg, pos-of-mul, nonneg-of-mul, zero-of-mul, mul-le, le-of-mul, sign_cases, le_or_lt, square-nonneg}
+use Rattle.exact_ring.proofs.Signs.{mul-pos, mul-nonneg, pos-of-mul, nonneg-of-mul, zero-of-mul, mul-le, le-of-mul, le_or_lt, square-nonneg}
 use Rattle.exact_ring.proofs.MoreSigns.{sum-pos}
 use Rattle.splitting_base.specs.Arrows.{Arrow, cross, dot, IsOnRay, IsBetween}
 use Rattle.exact_ring.proofs.Small.{zero_by_second, zero_by_first, zero_of_square}

@@ -104,9 +104,6 @@ module _ (es : List EndPoints) (w : Wedge) (h : IsConeOf es (Open w)) where
 pub last_cone : (fs : List Frame) (top : Frame) (d : Cone) (ls rs : List EndAt) (cs : List Cone) → IsHistory fs ls rs cs None → slice_get fs (length fs - 1) ≡ Some top → d ≡ get_or cs (top.cones - 1) d → IsConeOf (portals_of fs) d
 last_cone fs top d ls rs cs h t i = subst (λ (c : Cone). IsConeOf (portals_of fs) c) (sym i) ((frame_cone (portals_of fs) ls rs cs top (last_frame fs top ls rs cs h t)).2 d)
 
-pub last_cone_in : (fs : List Frame) (top : Frame) (ls rs : List EndAt) (cs : List Cone) → IsHistory fs ls rs cs None → slice_get fs (length fs - 1) ≡ Some top → (top.cones - 1 < length cs) × (0 < top.cones)
-last_cone_in fs top ls rs cs h t = let f = frame_cone (portals_of fs) ls rs cs top (last_frame fs top ls rs cs h t) in (f.0, f.1)
-
 pub some_so : (P Q : Evidence → Type 0) (o : Option Evidence) → ((e : Evidence) → P e → Q e) → IfSome o P → IfSome o Q
 some_so P Q None f h = tt
 some_so P Q (Some e) f h = f e h

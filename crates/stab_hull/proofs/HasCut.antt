@@ -1,5 +1,5 @@
 -- A cone of ends has a line that cuts between them.
-use Rattle.std.proofs.Common.{◌≡◌, ◌≤◌, ◌^◌, ◌*◌, ℤ, pos, negsuc, zero, suc, ◌+ℤ◌, ◌-ℤ◌, ◌*ℤ◌, nat_abs, arith, ◌≤ℤ◌, ◌<ℤ◌, ◌⊎◌, inl, inr, refl}
+use Rattle.std.proofs.Common.{◌≡◌, ◌≤◌, ◌^◌, ◌*◌, ℤ, pos, negsuc, zero, suc, ◌+ℤ◌, ◌-ℤ◌, ◌*ℤ◌, nat_abs, arith, ◌<ℤ◌, ◌⊎◌, inl, inr, refl}
 use Rattle.std.proofs.lemmas.Int.{ints}
 use Rattle.sight_names.specs.declared.names.Pt.{Pt}
 use Rattle.sight_names.specs.Point.{point_of, value_at}
@@ -12,7 +12,7 @@ use Rattle.extreme_lines.specs.declared.wedge.Wedge.{Wedge}
 use Rattle.extreme_lines.specs.declared.cone.Cone.{Cone}
 use Rattle.extreme_lines.specs.declared.cone.Cone.TheVariants.{Ray, Open}
 use Rattle.extreme_lines.proofs.Values.{value_is, middle_is, ray_is}
-use Rattle.extreme_lines.proofs.Cutting.{cut_near, cut_away}
+use Rattle.extreme_lines.proofs.Cutting.{cut_near, cut_away, above_more as above, below_more as below}
 
 -- what a cut of the cone says of ends, whatever its range
 pub record Cuts (cone : Cone) (a b c : ℤ) : Type 0 where
@@ -35,12 +35,6 @@ twice_small x y h k = omega (arith, ints)
 
 shifted_small : (x y s : ℤ) → nat_abs x ≤ 2 * (65535 * 32768) → nat_abs y ≤ 2 * (65535 * 32768) → nat_abs s ≤ 1 → nat_abs (pos 2 *ℤ (x -ℤ y) +ℤ s) ≤ 2 ^ 37
 shifted_small x y s h k l = omega (arith, ints)
-
-above : (v m : ℤ) → v ≡ pos 2 *ℤ m +ℤ pos 1 → pos 0 ≤ℤ m → pos 0 <ℤ v
-above v m e h = omega (arith, ints)
-
-below : (v m : ℤ) → v ≡ pos 2 *ℤ m +ℤ pos 1 → m <ℤ pos 0 → v <ℤ pos 0
-below v m e h = omega (arith, ints)
 
 form_is : (e : Extreme) (p : Pt) → (e.a *ℤ p.x +ℤ e.b *ℤ p.y) -ℤ e.c ≡ form_at e p
 form_is e p = value_is e.left.at e.right.at p e.a e.b e.c e.a_is e.b_is e.c_is

@@ -1,7 +1,7 @@
 //! A new end that bars what passes between the two extreme lines: where no line splits it from an end of one of them, one turn tells
 //! four stuck ends. In a walk this is so of each portal that no line passes.
 
-ghost use Rattle.std.specs.Prelude.{◌≡◌, ◌<◌, ◌≤◌, ◌+◌, ◌++◌, ◌∷◌, [], None, length, IfSome};
+ghost use Rattle.std.specs.Prelude.{◌≡◌, ◌<◌, ◌+◌, ◌++◌, ◌∷◌, [], None, length, IfSome};
 ghost use Rattle.block_evidence.specs.OneTurn.{AreLines, BarsRight, BarsLeft};
 ghost use Rattle.block_evidence.specs.Picked.{Picks};
 ghost use Rattle.extreme_lines.specs.Spans.{pair_of};

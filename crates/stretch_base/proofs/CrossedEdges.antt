@@ -5,7 +5,7 @@ use Rattle.sight_names.specs.declared.names.Ray.{Ray}
 use Rattle.sight_names.specs.declared.names.Triangle.{Triangle}
 use Rattle.sight_names.specs.Point.{Point, point_of}
 use Rattle.sight_names.specs.Map.{Map, MapLine, line_at}
-use Rattle.sight_names.specs.Points.{Edge, points_of, place, number_of}
+use Rattle.sight_names.specs.Points.{points_of, place, number_of}
 use Rattle.sight_names.specs.Mesh.{HasEdge, IsPlainMesh}
 use Rattle.sight_names.specs.Sequence.{Portal, entry_edge, third_point, IsSolidLine}
 use Rattle.sight_names.specs.Ray.{SplitsLine, IsCrossing}

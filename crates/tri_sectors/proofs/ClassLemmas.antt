@@ -4,7 +4,7 @@ use Rattle.tri_sectors.specs.Classes.{class_of, renamed, AreLeast, AreMerged, Ar
 use Rattle.tri_sectors.specs.Forest.{IsForest, classes_in}
 use Rattle.tri_sectors.proofs.Forests.{classes_many, forest_named}
 
-renamed_cases : (from to c : ℕ) → ((c ≡ from) × (renamed from to c ≡ to)) ⊎ ((c ≡ from → ⊥) × (renamed from to c ≡ c))
+pub renamed_cases : (from to c : ℕ) → ((c ≡ from) × (renamed from to c ≡ to)) ⊎ ((c ≡ from → ⊥) × (renamed from to c ≡ c))
 renamed_cases from to c = grind arith
 
 -- the class of b gets the name of the class of a

@@ -1,5 +1,5 @@
 -- Paths through linked triangles, and out of the hull at an edge that has no triangle.
-use Rattle.std.proofs.Common.{◌≡◌, ◌≢◌, ℕ, ◌<◌, ℤ, pos, neg_ℤ, ◌+ℤ◌, ◌-ℤ◌, ◌*ℤ◌, ◌≤ℤ◌, ◌<ℤ◌, arith, refl, sym, ap, ◌∙◌, subst, inl, inr, List, [], ◌∷◌, length, Some, lit<}
+use Rattle.std.proofs.Common.{◌≡◌, ◌≢◌, ℕ, ◌<◌, ℤ, pos, neg_ℤ, ◌+ℤ◌, ◌-ℤ◌, ◌*ℤ◌, ◌≤ℤ◌, ◌<ℤ◌, arith, sym, ap, ◌∙◌, subst, inl, inr, List, [], ◌∷◌, length, Some, lit<}
 use borrow.Author.Differences.{ints}
 use lib.IntN.{*ℤ-zero}
 use Rattle.exact_ring.proofs.Quoting.{quoting, by_ring, combine3}
@@ -12,7 +12,7 @@ use Rattle.sight_names.specs.Path.{MissesAll, OnNoLine, OnLine, IsPath, Leads}
 use Rattle.sight_names.specs.Points.{Edge, points_of, place, number_of}
 use Rattle.sight_names.specs.Sound.{IsOutside}
 use Rattle.sight_names.proofs.Laws.{same_point_refl, same_point_sym}
-use Rattle.plane_base.proofs.Vec.{V, Lin, at, edge, det, IsComb, On, value, det-first, det-last, det-cycle, comb_back}
+use Rattle.plane_base.proofs.Vec.{V, Lin, at, edge, det, IsComb, value, det-first, det-last, det-cycle, comb_back}
 use Rattle.plane_base.proofs.Walk.{Tri, turned, side, Closed}
 use Rattle.sight_laws.proofs.Bridge.{vec, value_at_is, turn_at_is, on_of_segment, segment_of_on}
 use Rattle.sight_laws.proofs.Paths.{same_on, on_same, same_value, misses_all_sym, path_back}
@@ -20,7 +20,7 @@ use Rattle.sight_laws.proofs.StepOff.{distance, distance_pos}
 use Rattle.mesh_base.proofs.Face.{SameSegment}
 use Rattle.mesh_base.proofs.GoodMesh.{PointFacts}
 use Rattle.mesh_shape.specs.Fills.{HasLeft}
-use Rattle.mesh_base.proofs.Joined.{Strict, CleanAll, whole, tri, free_inside, free_side, inside_free, joined, strict_mean, centre_strict, centre, middle, middle_value}
+use Rattle.mesh_base.proofs.Joined.{Strict, CleanAll, whole, tri, free_inside, free_side, inside_free, joined, strict_mean, centre_strict, centre, middle, middle_value, middle_on}
 use Rattle.exact_ring.proofs.Small.{zero_times}
 use Rattle.geom_exact.proofs.Uniqueness.{same_trans}
 
@@ -77,10 +77,6 @@ middle_sides a b c h =
     let v2 = middle_value (edge B C) a b in let v3 = middle_value (edge C A) a b in
     let x2 = det-first B C in let y3 = det-last C A in
     (omega (arith, ints), omega (arith, ints))
-
-pub middle_on : (a b : Pt) → On (whole a) (whole b) (vec (middle a b))
-unfolding middle
-middle_on a b = (pos 1, pos 1, pos 1, record { left = omega (arith, ints); right = omega (arith, ints); scale = omega (arith, ints); x = omega (arith, ints); y = omega (arith, ints); d = refl })
 
 pub middle_flat : (a b : Pt) → det (whole a) (whole b) (vec (middle a b)) ≡ pos 0
 middle_flat a b = let v = middle_value (edge (whole a) (whole b)) a b in let x = det-first (whole a) (whole b) in let y = det-last (whole a) (whole b) in omega (arith, ints)

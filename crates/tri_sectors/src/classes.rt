@@ -1,7 +1,7 @@
 //! Numbers sorted into classes, each named by its least member. They stand in trees, and two trees are put together at their
 //! roots, so that no step goes over all numbers.
 
-ghost use Rattle.std.specs.Prelude.{◌≡◌, ◌≢◌, ◌<◌, IfOk, length};
+ghost use Rattle.std.specs.Prelude.{◌≡◌, ◌<◌, IfOk, length};
 ghost use Rattle.tri_sectors.specs.Classes.{class_of, AreMerged, AreRenamed, AreSingles};
 ghost use Rattle.tri_sectors.specs.Forest.{classes_in, IsForest};
 

@@ -2,27 +2,26 @@
 use Rattle.std.proofs.Common.{◌≡◌, ◌≢◌, ℤ, pos, ◌+ℤ◌, ◌-ℤ◌, ◌*ℤ◌, ◌<ℤ◌, neg_ℤ, arith, refl, sym, ap, ◌∙◌, subst, ◌⊎◌, inl, inr, [], ◌∷◌}
 use borrow.Author.Differences.{ints}
 use lib.IntN.{zero-*ℤ, *ℤ_comm}
-use Rattle.exact_ring.proofs.IntLaws.{neg-*ℤ}
 use Rattle.exact_ring.proofs.Quoting.{quoting, by_ring}
-use Rattle.exact_ring.proofs.Signs.{le_or_lt, sign_cases, mul-pos, pos-of-mul, same-of-mul, square-nonneg}
-use Rattle.exact_ring.proofs.MoreSigns.{square-pos}
+use Rattle.exact_ring.proofs.Signs.{le_or_lt, mul-pos, pos-of-mul, same-of-mul}
 use Rattle.sight_names.specs.declared.names.Pt.{Pt}
 use Rattle.sight_names.specs.Point.{Point, point_of, SamePoint}
 use Rattle.sight_names.specs.Sound.{IsCommon, IsEndOf, MeetAtEnds}
-use Rattle.plane_base.proofs.Vec.{V, Lin, at, det, On, value, mean, bary_x, bary_y, bary_d, det-swap, det-cycle, on_back, on_last}
+use Rattle.plane_base.proofs.Vec.{V, Lin, at, det, On, value, det-swap, on_back, on_last}
 use Rattle.plane_base.proofs.Wedge.{Inside}
-use Rattle.plane_base.proofs.Near.{det-flip, on_first, on_inside, unit, height}
+use Rattle.plane_base.proofs.Near.{on_first, on_inside, unit, height}
 use Rattle.sight_laws.proofs.Bridge.{vec, segment_of_on, on_of_segment}
 use Rattle.sight_laws.proofs.Paths.{point_at}
 use Rattle.mesh_base.proofs.Net.{IsAt}
-use Rattle.mesh_base.proofs.Face.{Apart, not_at_end}
-use Rattle.mesh_base.proofs.Clash.{along, along_first, Differ, differ_back, MeetsFairly, fair, end_in_first, end_in_second, same_ends, cross_right, cross_left, meeting}
+use Rattle.mesh_base.proofs.Face.{not_at_end}
+use Rattle.mesh_base.proofs.Clash.{Differ, differ_back, MeetsFairly, fair, end_in_first, end_in_second, same_ends, cross_right, cross_left, meeting}
 use Rattle.geom_exact.proofs.Uniqueness.{same_trans}
 use Rattle.exact_ring.proofs.Small.{same_where_no_difference, some_square}
 use Rattle.mesh_base.proofs.MakeNet.{crossing, apart_of}
 use Rattle.sight_names.proofs.Meets.{same_whole}
 use Rattle.sight_names.proofs.Records.{pt_of_numbers, whole_same}
 use Rattle.sight_names.proofs.Laws.{same_point_sym}
+use Rattle.mesh_base.proofs.MapFacts.{far_is}
 
 abbrev pub at_pt : Pt → V
 at_pt p = vec (point_of p)
@@ -62,10 +61,6 @@ same_of_at p r h = record {
 }
 
 -- ---- two whole points that differ
-
-far_is : (px py qx qy : ℤ) → at (along (record { x = px; y = py; d = pos 1 }) (record { x = qx; y = qy; d = pos 1 })) (record { x = qx; y = qy; d = pos 1 }) ≡ (qx -ℤ px) *ℤ (qx -ℤ px) +ℤ (qy -ℤ py) *ℤ (qy -ℤ py)
-unfolding at along
-far_is px py qx qy = by_ring (px ∷ py ∷ qx ∷ qy ∷ []) _ _ (search quoting depth 80 fits 1000000) (search quoting depth 80 fits 1000000) tt
 
 pub differ_of : (p q : Pt) → p ≢ q → Differ (at_pt p) (at_pt q)
 differ_of p q n = record {

@@ -7,7 +7,7 @@ use Rattle.sight_names.specs.Map.{Map, MapLine, line_at}
 use Rattle.sight_names.specs.Points.{Edge, points_of, place, number_of, reverse_of}
 use Rattle.sight_names.specs.Sound.{LinesMeetAtEnds}
 use Rattle.sight_names.specs.Greedy.{IsGreedy}
-use Rattle.sight_names.specs.Mesh.{IsAbove, IsTriangle, AreTriangles, HasEdge, IsKept, IsMeshTriangle, IsMeshOf, IsPlainMesh, MeetsFairly, IsLineEdge, side_edge}
+use Rattle.sight_names.specs.Mesh.{IsTriangle, AreTriangles, HasEdge, IsKept, IsMeshTriangle, IsMeshOf, IsPlainMesh, MeetsFairly, IsLineEdge, side_edge}
 use Rattle.sight_names.proofs.Lists.{get_of_contains, contains_of_get}
 use Rattle.plane_base.proofs.Vec.{V, det, det-cycle}
 use Rattle.sight_laws.proofs.Bridge.{turn_at_is}

@@ -5,10 +5,9 @@ use Rattle.sight_names.specs.Map.{Map, IsMap}
 use Rattle.sight_names.specs.Mesh.{IsGoodMesh}
 use Rattle.sight_names.specs.Sees.{Sees}
 use Rattle.sight_names.specs.Sound.{LinesMeetAtEnds}
-use Rattle.sight_names.specs.Found.{AreNeighbours, IsChain, AreConnected}
+use Rattle.sight_names.specs.Found.{AreNeighbours, IsChain}
 use Rattle.sight_names.specs.Sequence.{Portal, reached, roots}
 use Rattle.sight_names.proofs.Lists.{contains_cases, contains_tail}
-use Rattle.sight_names.proofs.Neighbours.{neighbours_back}
 use Rattle.sight_tree.specs.declared.Tree.{Tree}
 use Rattle.list_base.proofs.Numbers.{same_or_not}
 use Rattle.list_base.proofs.Lists.{contains_none, contains_left, contains_here}
@@ -134,7 +133,3 @@ module _ (m : Map) (ts : List Triangle) (ls : List (Option ℕ)) (Claims : ℕ �
 pub chain_on : (m : Map) (a b c : ℕ) (cs : List ℕ) → IsChain m a cs b → AreNeighbours m b c → IsChain m a (cs ++ c ∷ []) c
 chain_on m a b c [] e n = (subst (λ (x : ℕ). AreNeighbours m x c) (sym e) n, refl)
 chain_on m a b c (d ∷ cs) h n = (h.0, chain_on m d b c cs h.1 n)
-
-pub connected_back : (m : Map) (a b : ℕ) (cs : List ℕ) → IsChain m a cs b → AreConnected m b a
-connected_back m a b [] e = ([], sym e)
-connected_back m a b (c ∷ cs) h = let r = connected_back m c b cs h.1 in (r.0 ++ a ∷ [], chain_on m b c a r.0 r.1 (neighbours_back m a c h.0))

@@ -16,7 +16,7 @@ use Rattle.list_base.proofs.Options.{none_is_not_some, some_is_same}
 use Rattle.list_base.proofs.Lists.{contains_none, contains_left, contains_right, contains_here}
 use Rattle.turned_trees.specs.Turned.{AnswersUpTo, no_node, blocked, turned, open_node, RootsUpTo, EntersNone, MayTurn, MustGoOn, KeepsUpTo}
 use Rattle.turned_trees.specs.Exact.{sources_of, ComesFirst}
-use Rattle.turned_trees.proofs.Cutting.{all_at}
+use Rattle.cert_checker.proofs.Seeing.{all_at}
 use Rattle.turned_trees.proofs.Telling.{Told, tells}
 use Rattle.turned_trees.proofs.Loose.{IsAllowed, enters_none}
 

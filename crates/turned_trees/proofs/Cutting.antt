@@ -12,20 +12,12 @@ use Rattle.sight_names.proofs.Affine.{neg_value}
 use Rattle.mesh_base.proofs.GoodMesh.{PointFacts, same_or_not}
 use Rattle.mesh_base.proofs.MapFacts.{map_facts}
 use Rattle.list_base.proofs.Options.{some_is_same}
-use Rattle.list_base.proofs.Lists.{contains_none}
-use Rattle.sight_names.proofs.Lists.{contains_cases}
 use Rattle.sight_lift.proofs.Behind.{Third, Behind, behind, behind_third, third_turned}
 use Rattle.sight_lift.proofs.Doors.{Door, Link, way_over, other_edge, named_is}
-use Rattle.sight_lift.proofs.Sequences.{next_portals, begun, begun_door}
+use Rattle.sight_lift.proofs.Sequences.{next_portals, begun, begun_door, cons_same as tail_same}
 use Rattle.sight_lift.proofs.Tails.{IsCrossed, root_listed, root_portal_is}
 use Rattle.turned_trees.specs.Laws.{ReachesWithin}
-
-pub all_at : {X : Type 0} (P : X → Type 0) (x : X) (xs : List X) → AllByRecursion P xs → Contains xs x → P x
-all_at P x [] all h = absurd (contains_none x h)
-all_at P x (y ∷ xs) all h = elim (contains_cases y x xs h) as (λ _. P x) [ inl e ↦ subst P e all.0 | inr k ↦ all_at P x xs all.1 k ]
-
-pub tail_same : (p q : Portal) (ps qs : List Portal) → p ∷ ps ≡ q ∷ qs → ps ≡ qs
-tail_same p q ps qs e = cc
+use Rattle.cert_checker.proofs.Seeing.{all_at}
 
 pub alone : (ts : List Triangle) (p : Portal) (qs : List Portal) → portals_from ts (Some p) [] ≡ Some (p ∷ qs) → [] ≡ qs
 alone ts p qs e = tail_same p p [] qs (some_is_same (p ∷ []) (p ∷ qs) e)

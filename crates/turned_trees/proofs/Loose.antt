@@ -1,6 +1,6 @@
 -- Trees that turn back exactly where they may, and whole trees, which never do, are loosely whole.
-use Rattle.std.proofs.Common.{◌≡◌, ◌≢◌, ℕ, List, [], ◌∷◌, ◌++◌, Option, Some, None, Contains, sym, ap, ◌∙◌, subst}
-use Rattle.std.specs.List.{AllByRecursion, last_or}
+use Rattle.std.proofs.Common.{◌≡◌, ℕ, List, [], ◌∷◌, ◌++◌, Option, Some, None, Contains, sym, ap, ◌∙◌, subst}
+use Rattle.std.specs.List.{last_or}
 use Rattle.std.specs.Prelude.{option_and_then}
 use Rattle.sight_names.specs.declared.names.Side.{Side}
 use Rattle.sight_names.specs.declared.names.Triangle.{Triangle}
@@ -9,11 +9,10 @@ use Rattle.sight_names.specs.Mesh.{label_of, triangle_at}
 use Rattle.sight_names.specs.Sequence.{Portal, Left, Right, way_out, entry_edge, roots, reached}
 use Rattle.sight_tree.specs.declared.Node.{Node}
 use Rattle.sight_tree.specs.declared.Tree.{Tree}
-use Rattle.sight_tree.specs.WholeTree.{Answers, AnswersRoots, IsWholeTree, no_node as no_node_of, blocked as blocked_of, open_node as open_node_of}
+use Rattle.sight_tree.specs.WholeTree.{Answers, AnswersRoots, no_node as no_node_of, blocked as blocked_of, open_node as open_node_of}
 use Rattle.list_base.proofs.Lists.{contains_left, contains_right, contains_here}
 use Rattle.sight_names.proofs.Lists.{contains_tail}
 use Rattle.turned_trees.specs.Turned.{AnswersUpTo, no_node, blocked, turned, open_node, RootsUpTo, EntersNone, MayTurn, MustGoOn, KeepsUpTo, KeepsLoosely}
-use Rattle.turned_trees.proofs.Cutting.{all_at}
 
 module _ (m : Map) (ts : List Triangle) (ls : List (Option ℕ)) (a : ℕ) (Turns GoesOn Wherever : List Portal → Type 0) (may : (ps : List Portal) → GoesOn ps → Wherever ps) where
   loose : (ps : List Portal) (ns : List Node) → AnswersUpTo m ts ls a Turns GoesOn ps ns → AnswersUpTo m ts ls a Turns Wherever ps ns
@@ -59,7 +58,3 @@ module _ (m : Map) (ts : List Triangle) (ls : List (Option ℕ)) (a : ℕ) (Clai
   roots_whole (s ∷ ss) ns opened (p, front, back, via_front, via_back, is, f, g, here, behind) all =
       let at : (j : ℕ) → Contains (via_front ++ via_back) j → IsAllowed ls Keeps j = λ j c. all j (subst (λ (ks : List ℕ). Contains ks j) (sym g) c) in
       (p, front, back, is, f, whole (p ∷ []) front via_front here (λ j c. at j (contains_left j via_front via_back c)), roots_whole ss back via_back behind (λ j c. at j (contains_right j via_front via_back c)))
-
--- so a whole tree that enters nothing that it is to keep from keeps it, whatever is claimed
-pub whole_keeps : (m : Map) (ts : List Triangle) (ls : List (Option ℕ)) (Claims : ℕ → ℕ → Type 0) (Keeps : ℕ → Type 0) (t : Tree) (opened : List ℕ) → IsWholeTree m ts ls t opened → ((c : ℕ) → Keeps c → AllByRecursion (λ k. label_of ls k ≢ Some c) opened) → KeepsLoosely m ts ls Claims Keeps t
-whole_keeps m ts ls Claims Keeps t opened h none = roots_whole m ts ls t.source Claims Keeps (roots m t.source) t.nodes opened h (λ k there c e keeps. all_at (λ j. label_of ls j ≢ Some c) k opened (none c keeps) there e)

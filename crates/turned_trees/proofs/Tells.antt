@@ -14,7 +14,8 @@ use Rattle.list_base.proofs.Numbers.{either_order}
 use Rattle.sight_lift.proofs.LiftLaws.{sight_connects}
 use Rattle.turned_trees.specs.Exact.{IsClaimed, HasTree, IsClaimKept, IsAcceptedExact}
 use Rattle.turned_trees.specs.Laws.{ExactTells}
-use Rattle.turned_trees.proofs.Blind.{kept_claims, connected_back}
+use Rattle.turned_trees.proofs.Blind.{kept_claims}
+use Rattle.cert_checker.proofs.Components.{connected_back}
 
 other_way : (m : Map) (table : List ℕ) (a b : ℕ) → IsClaimed m table a b → IsClaimed m table b a
 other_way m table a b h = record {

@@ -23,7 +23,8 @@ use Rattle.sight_lift.proofs.LiftLaws.{sight_connects}
 use Rattle.turned_trees.specs.Exact.{HasTree}
 use Rattle.turned_trees.specs.ExactGroups.{SomeAreSet, IsGroupClaimed, IsExactOver}
 use Rattle.turned_trees.specs.Laws.{ExactTwoTells}
-use Rattle.turned_trees.proofs.Blind.{kept_claims, connected_back}
+use Rattle.turned_trees.proofs.Blind.{kept_claims}
+use Rattle.cert_checker.proofs.Components.{connected_back}
 
 turned_set : (n : ℕ) (table : List ℕ) (a b : ℕ) → EitherSet n table a b → EitherSet n table b a
 turned_set n table a b (inl x) = inr x

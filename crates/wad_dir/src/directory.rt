@@ -1,6 +1,6 @@
 //! Reading the directory of a WAD.
 
-ghost use Rattle.std.specs.Prelude.{◌≡◌, ◌+◌, ◌*◌, ◌≤◌, ◌^◌, ◌<◌, ◌↔◌, length, take, drop, map, vec_len, IfOk, IfSome, IfNone, All, OnOk, IsTrue, not, IfSome};
+ghost use Rattle.std.specs.Prelude.{◌≡◌, ◌+◌, ◌*◌, ◌≤◌, ◌<◌, length, take, drop, map, vec_len, IfOk, IfSome, IfNone, All, IsTrue, not, IfSome};
 ghost use Rattle.std.specs.List.{position_from};
 ghost use Rattle.wad_dir.specs.Wad.{Reads, directory_of, wad_of, file_of, parts_of, names_of, word_at, entry_of, slot_at, slots_at, lies_within, kind_of, checked};
 ghost use Rattle.wad_dir.specs.Map.{entry_names};

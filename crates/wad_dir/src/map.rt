@@ -1,6 +1,6 @@
 //! The place of a map in a directory.
 
-ghost use Rattle.std.specs.Prelude.{◌≡◌, ◌+◌, ◌≤◌, ◌<◌, List, [], length, take, drop, IfOk, IfSome, None};
+ghost use Rattle.std.specs.Prelude.{◌≡◌, ◌+◌, ◌≤◌, ◌<◌, [], length, take, IfOk, IfSome, None};
 ghost use Rattle.wad_dir.specs.Map.{same_name, last_from, run_from, is_run_name, has_name, place_in, needed_in, format_behind, spot_in, spot_behind, spot_of, name_of, entry_names};
 
 use crate::parts::{Entry, MapSpot, Wad};

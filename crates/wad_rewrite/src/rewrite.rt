@@ -1,9 +1,9 @@
 //! A WAD written anew.
 
-ghost use Rattle.std.specs.Prelude.{◌≡◌, ◌+◌, ◌*◌, ◌≤◌, ◌^◌, ◌<◌, nat_le, List, ◌++◌, length, map, vec_len, IfOk, OnOk, All};
+ghost use Rattle.std.specs.Prelude.{◌≡◌, ◌+◌, ◌*◌, ◌≤◌, ◌^◌, ◌<◌, nat_le, ◌++◌, length, map, vec_len, IfOk, OnOk, All};
 ghost use Rattle.std.specs.Option.{ForSome};
 ghost use Rattle.std.specs.Int.{w32, to_le_bytes};
-ghost use Rattle.wad_dir.specs.Wad.{WadFile, file_of, lump_under, magic};
+ghost use Rattle.wad_dir.specs.Wad.{file_of, lump_under, magic};
 ghost use Rattle.wad_dir.specs.Print.{body, directory_from, lumps_with_reject, printed_len, reject_lump, with_reject};
 ghost use Rattle.wad_rewrite.specs.Rewrite.{Writes, printed};
 ghost use Rattle.wad_rewrite.specs.Lumps.{view, views};

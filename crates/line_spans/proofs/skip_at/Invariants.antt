@@ -1,4 +1,3 @@
-use Rattle.std.proofs.Common.{ℕ, ◌<◌, ◌≤◌, get_or}
 use Rattle.line_spans.specs.Spans.{IsSkip}
 use Rattle.line_spans.proofs.skip_at.Given as goal
 

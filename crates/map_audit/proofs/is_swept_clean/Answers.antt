@@ -1,4 +1,4 @@
-use Rattle.std.proofs.Common.{◌≡◌, length, ap, ◌∙◌}
+use Rattle.std.proofs.Common.{length, ap, ◌∙◌}
 use Rattle.map_audit.proofs.is_swept_clean.Goals as goal
 
 pub put_spans-requires : goal.put_spans-requires

@@ -1,9 +1,9 @@
-use Rattle.std.proofs.Common.{◌≡◌, ℕ, ◌+◌, List, Bool, true, false, not, drop, Some, None, nat_cmp, refl, sym, ap, ◌∙◌, arith}
+use Rattle.std.proofs.Common.{◌≡◌, ℕ, ◌+◌, List, true, false, not, drop, Some, None, nat_cmp, refl, sym, ap, ◌∙◌, arith}
 use Rattle.std.specs.BTreeMap.{get}
 use Rattle.std.specs.Cmp.Lexicographic.{slice_cmp}
 use Rattle.std.proofs.lemmas.Option.{slice_get_within}
 use Rattle.wad_dir.specs.declared.parts.Entry.{Entry}
-use Rattle.wad_dir.specs.Map.{entry_names, has_name, last_from}
+use Rattle.wad_dir.specs.Map.{entry_names}
 use Rattle.wad_dir.proofs.Names.{names_drop, names_length}
 use Rattle.list_base.proofs.Numbers.{tells_other, tells_same}
 use Rattle.all_maps.specs.Maps.{begins_with_textmap}

@@ -26,10 +26,6 @@ loop-low-init c =
       closed = λ k lt. inl (c.in_ok-unsaturated.ensures.all k lt);
     }
 
--- the list that is sorted and handed on
-sorted_pairs : (P : List PointPair → Type 0) (xs ys : List PointPair) → xs ≡ ys → P ys → P xs
-sorted_pairs P xs ys e h = subst P (sym e) h
-
 pub keep_clear_pairs-requires-clause-pairs : goal.keep_clear_pairs-requires-clause-pairs
 keep_clear_pairs-requires-clause-pairs c = λ p k.
     (c.in_ok-pairs.ensures.each p (Contains-permutation _ _ p (IsPermutation-sym _ _ c.in_ok-sort_pairs.ensures.same) (subst (λ (ps : List PointPair). Contains ps p) c.as_slice-in-loop-low-2.ensures.value k))).pair

@@ -1,4 +1,4 @@
-use Rattle.std.proofs.Common.{◌≡◌, ◌≤◌, length, ap, ◌∙◌, arith}
+use Rattle.std.proofs.Common.{length, ap, ◌∙◌, arith}
 use Rattle.mesh_shape.proofs.rules.is_swept_fairly.Goals as goal
 
 pub put_spans-requires : goal.put_spans-requires

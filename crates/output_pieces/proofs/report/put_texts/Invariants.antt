@@ -1,4 +1,4 @@
-use Rattle.std.proofs.Common.{◌≡◌, ℕ, List, ◌++◌, Option, drop, map}
+use Rattle.std.proofs.Common.{ℕ, List, ◌++◌, Option, drop, map}
 use Rattle.listeners.specs.Told.{texts}
 use Rattle.shelf_io.specs.Shelf.{Files, NoneFell, SameCounts}
 use Rattle.output_pieces.specs.UnderWay.{IsUnderWay}

@@ -1,4 +1,4 @@
-use Rattle.std.proofs.Common.{rules, arith, sym, subst, take, List, ℕ}
+use Rattle.std.proofs.Common.{rules, sym, subst, take, List, ℕ}
 use Rattle.std.proofs.lemmas.Result.{err_from_is_err_and}
 use Rattle.output_pieces.specs.Spelled.{spelling}
 use Rattle.output_pieces.specs.UnderWay.{IsUnderWay}

@@ -1,5 +1,4 @@
 use Rattle.std.proofs.Common.{[], ◌++◌}
-use Rattle.cert_judge.specs.Judge.{IsFed}
 use Rattle.piece_tests.proofs.verdicts.judged_cut.Goals as goal
 
 pub end-requires : goal.end-requires

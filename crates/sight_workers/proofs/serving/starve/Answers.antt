@@ -1,4 +1,4 @@
-use Rattle.std.proofs.Common.{ℕ, ap, sym, subst}
+use Rattle.std.proofs.Common.{ap, sym, subst}
 use Rattle.std.specs.List.{Contains}
 use Rattle.sight_workers.specs.declared.view.View.{View}
 use Rattle.sight_workers.proofs.serving.starve.Goals as goal

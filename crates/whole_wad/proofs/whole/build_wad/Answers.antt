@@ -1,4 +1,4 @@
-use Rattle.std.proofs.Common.{◌≡◌, ◌∙◌, ℕ, List, length, arith, ap, map, subst, sym}
+use Rattle.std.proofs.Common.{◌≡◌, ◌∙◌, ℕ, List, length, arith, ap, subst, sym}
 use Rattle.wad_dir.specs.Map.{entry_names}
 use Rattle.wad_dir.specs.Wad.{file_of}
 use Rattle.wad_rewrite.specs.Rewrite.{printed}

@@ -1,4 +1,4 @@
-use Rattle.std.proofs.Common.{rules, ◌≡◌, ℕ, ◌+◌, [], ◌∷◌, List, ◌++◌, length, ap, ◌∙◌, sym, subst, arith}
+use Rattle.std.proofs.Common.{rules, ◌≡◌, ℕ, ◌+◌, [], ◌∷◌, List, ◌++◌, length, ap, ◌∙◌, sym, arith}
 use Rattle.sight_tree.specs.declared.Node.{Node}
 use Rattle.sight_tree.specs.Spelling.{SpellNodes, nodes_of, node_bytes, IsPackable, FitsNode}
 use Rattle.sight_tree.proofs.ReadBack.{read_back, spelled_more, spelled_themselves, no_more_than_bytes, many_more}
