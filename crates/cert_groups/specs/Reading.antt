@@ -11,7 +11,7 @@ use Rattle.sight_names.specs.declared.names.PairRay.{PairRay}
 use Rattle.sight_tree.specs.declared.Tree.{Tree}
 use Rattle.cert_format.specs.declared.cert.Sizes.{Sizes}
 use Rattle.cert_format.specs.declared.cert.Labelled.{Labelled}
-use Rattle.cert_format.specs.Reading.{begins_at, passed, number_at, number_below, number_known, magic_at, comes_after, counts_at, records_at, triangles_at, rays_at, pairs_at, trees_at, reading}
+use Rattle.cert_format.specs.Reading.{◌>>=◌, begins_at, passed, number_at, number_below, number_known, magic_at, comes_after, counts_at, records_at, triangles_at, rays_at, pairs_at, trees_at, reading}
 use Rattle.cert_groups.specs.declared.cert.FrontTwo.{FrontTwo}
 use Rattle.cert_groups.specs.declared.cert.CertTwo.{CertTwo}
 use Rattle.cert_groups.specs.declared.cert.AnyCert.{AnyCert}

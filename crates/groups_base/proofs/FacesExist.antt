@@ -146,11 +146,6 @@ rename a b old ha hb least lt =
           λ h. elim h as (λ _. nk ≡ nj) [ inl q ↦ x.1 ∙ q ∙ sym y.1 | inr (inl q) ↦ absurd (y.0 q.1) | inr (inr q) ↦ absurd (x.0 q.0) ],
         )
 
-}
-  where
-    turned : (a b k j : ℕ) → WillBeOne old b a k j → WillBeOne old a b k j
-    turned a b k j w = elim w as (λ _. WillBeOne old a b k j) [ inl q ↦ inl q | inr (inl q) ↦ inr (inr q) | inr (inr q) ↦ inr (inl q) ]
-
 pub merge_exists : (a b : ℕ) (old : List ℕ) → a < length old → b < length old → AreLeast old → (new : List ℕ) × AreMerged a b old new
 merge_exists a b old ha hb least = elim (below_above_or_same (class_of old a) (class_of old b)) as (λ _. (new : List ℕ) × AreMerged a b old new) [
   | inl lt ↦ rename a b old ha hb least lt

@@ -34,8 +34,6 @@ pub record IsExact (m : Map) (ray : Ray) (r : Judged) : Type 0 where
   pub sight : (a b : ℕ) → IsSightRay m ray a b → r ≡ Ok (a, b)
   pub fault : (f : RayFault) → IsRayFault m ray f → r ≡ Err f
 
-}
-
 other_fault : (m : Map) (ray : Ray) (r : Judged) (f : RayFault) → IsExact m ray r → r ≡ Err f → (other : Result Answer Status) → RayCalls ray m other → other ≡ Err (status.No (why.Ray f))
 other_fault m ray r f exact is (Ok answer) q = absurd (clash r (q.from, q.to) f (exact.sight q.from q.to q.sight) is)
 other_fault m ray r f exact is (Err (status.No (why.Ray g))) q = ap as_no (sym (exact.fault g q) ∙ is)

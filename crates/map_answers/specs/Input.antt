@@ -14,7 +14,7 @@ use Rattle.wad_dir.specs.Map.{spot_of}
 use Rattle.sight_status.specs.declared.status.Bound.TheVariants as bound
 use Rattle.sight_status.specs.declared.status.Status.{Status}
 use Rattle.sight_status.specs.declared.status.Status.TheVariants as status
-use Rattle.sight_status.specs.Answer.{Answer}
+use Rattle.sight_status.specs.Answer.{◌>>=◌, Answer}
 
 -- the WAD of a file, where the map's lumps stand in it, and the map
 pub record LocatedMap : Type 0 where

@@ -9,7 +9,7 @@ use Rattle.sight_names.specs.declared.faults.MapFault.{MapFault}
 use Rattle.sight_names.specs.declared.faults.MapFault.TheVariants as fault
 use Rattle.sight_names.specs.declared.names.MapFormat.{MapFormat}
 use Rattle.wad_dir.specs.declared.parts.MapSpot.{MapSpot}
-use Rattle.wad_dir.specs.Map.{format_behind, last_from, place_in, same_name, shifted, spot_behind, spot_in, spot_of}
+use Rattle.wad_dir.specs.Map.{◌>>=◌, format_behind, last_from, place_in, same_name, shifted, spot_behind, spot_in, spot_of}
 use Rattle.wad_dir.proofs.Inserted.{more, run_is}
 
 -- the first of the names that is this one
