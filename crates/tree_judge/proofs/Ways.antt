@@ -2,7 +2,7 @@
 use Rattle.std.proofs.Common.{◌≡◌, ℕ, zero, suc, ◌+◌, ◌<◌, ◌≤◌, List, [], ◌∷◌, ◌++◌, length, get_or, max, set, take, refl, sym, ◌∙◌, ap, subst, arith}
 use Rattle.std.proofs.Common.{Some, map, min, get_or-set_same}
 use Rattle.std.proofs.lemmas.List.{take_more, take_more_set, take-set, length-set, length-take, map-append}
-use Rattle.std.proofs.lemmas.Option.{slice_get-get_or}
+use Rattle.std.proofs.lemmas.Option.{slice_get_within, slice_get-get_or}
 use Rattle.std.specs.List.{slice_get}
 use Rattle.sight_names.specs.Splitting.{EndPoints}
 use Rattle.sight_tree.specs.declared.Tree.{Tree}
@@ -70,6 +70,18 @@ at_same roots path other waits others f ps e i a = record {
 }
 
 -- ---- none waits
+
+pub none_waits : (path : List Frame) (waits : List Wait) (count : ℕ) (ws : List Pending) → count ≡ 0 → IsWaiting path waits count ws → ws ≡ []
+none_waits path waits count [] e h = refl
+none_waits path waits count (p ∷ ws) e (w, (k, q, is), leads, first, less, more) = absurd (omega (arith, e, q))
+
+pub none_stands : (path : List Frame) (waits : List Wait) (count : ℕ) (ws : List Pending) → length waits < count → IsWaiting path waits count ws → ws ≡ []
+none_stands path waits count [] l h = refl
+none_stands path waits count (p ∷ ws) l (w, (k, q, is), leads, first, less, more) = absurd (let n : k < length waits = slice_get_within waits k w is in omega (arith, l, q, n))
+
+pub none_leads : (path : List Frame) (waits : List Wait) (count : ℕ) (ws : List Pending) → length path < count → IsWaiting path waits count ws → ws ≡ []
+none_leads path waits count [] l h = refl
+none_leads path waits count (p ∷ ws) l (w, at, leads, first, less, more) = absurd (omega (arith, l, leads))
 
 -- ---- a portal that is put, and a way that waits behind one
 
