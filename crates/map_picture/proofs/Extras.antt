@@ -50,6 +50,9 @@ stops_word = record { first = 115; rest = codes "tops"; is = refl; face = λ (e 
 pub ray_word : IsWord (codes "ray")
 ray_word = record { first = 114; rest = codes "ay"; is = refl; face = λ (e : 114 ≡ 71). omega (arith, e); line = λ (e : 114 ≡ 76). omega (arith, e) }
 
+pub fault_word : IsWord (codes "fault")
+fault_word = record { first = 102; rest = codes "ault"; is = refl; face = λ (e : 102 ≡ 71). omega (arith, e); line = λ (e : 102 ≡ 76). omega (arith, e) }
+
 pub open_not_stops : codes "open" ≡ codes "stops" → ⊥
 open_not_stops e = let q : 111 ≡ 115 = heads 111 115 (codes "pen") (codes "tops") e in omega (arith, q)
 
@@ -58,6 +61,9 @@ open_not_ray e = let q : 111 ≡ 114 = heads 111 114 (codes "pen") (codes "ay") 
 
 pub stops_not_ray : codes "stops" ≡ codes "ray" → ⊥
 stops_not_ray e = let q : 115 ≡ 114 = heads 115 114 (codes "tops") (codes "ay") e in omega (arith, q)
+
+pub open_not_fault : codes "open" ≡ codes "fault" → ⊥
+open_not_fault e = let q : 111 ≡ 102 = heads 111 102 (codes "pen") (codes "ault") e in omega (arith, q)
 
 module _ (w : List ℕ) (word : IsWord w) where
   none_in_faces : (ts : List Triangle) (labels : List (Option ℕ)) (g : ℕ) (tints : List Tint) (groups : List (List ℕ)) → AllByRecursion (NotSo (HasId w)) (faces_from ts labels g tints groups)
@@ -71,11 +77,12 @@ module _ (w : List ℕ) (word : IsWord w) where
   pub word_over : (m : Map) (under over : List Element) → AllByRecursion (NotSo (HasId w)) under → AtMostOne (HasId w) over → AtMostOne (HasId w) (picture_of m under over)
   word_over m under over none once = once_over (HasId w) m (no_empty w word) (no_empty w word) (no_empty w word) (no_empty w word) (λ i l. no_line_id w i word) under over none once
 
--- each of the three words is the id of at most one element
+-- each of the four words is the id of at most one element
 pub record WordsAreOnce (picture : List Element) : Type 0 where
   pub open_once : AtMostOne (HasId (codes "open")) picture
   pub stops_once : AtMostOne (HasId (codes "stops")) picture
   pub ray_once : AtMostOne (HasId (codes "ray")) picture
+  pub fault_once : AtMostOne (HasId (codes "fault")) picture
 
 none_of_one : (w : List ℕ) → AtMostOne (HasId w) []
 none_of_one w = λ i j e f at there so too. absurd (gone i e at)
@@ -89,6 +96,16 @@ faces_words m ts labels tints groups = record {
   open_once = word_over (codes "open") open_word m (faces_from ts labels 0 tints groups) [] (none_in_faces (codes "open") open_word ts labels 0 tints groups) (none_of_one (codes "open"));
   stops_once = word_over (codes "stops") stops_word m (faces_from ts labels 0 tints groups) [] (none_in_faces (codes "stops") stops_word ts labels 0 tints groups) (none_of_one (codes "stops"));
   ray_once = word_over (codes "ray") ray_word m (faces_from ts labels 0 tints groups) [] (none_in_faces (codes "ray") ray_word ts labels 0 tints groups) (none_of_one (codes "ray"));
+  fault_once = word_over (codes "fault") fault_word m (faces_from ts labels 0 tints groups) [] (none_in_faces (codes "fault") fault_word ts labels 0 tints groups) (none_of_one (codes "fault"));
+}
+
+-- a picture with one element over the lines
+pub one_over : (m : Map) (x : Element) → WordsAreOnce (picture_of m [] (x ∷ []))
+one_over m x = record {
+  open_once = word_over (codes "open") open_word m [] (x ∷ []) tt (once_alone (HasId (codes "open")) x);
+  stops_once = word_over (codes "stops") stops_word m [] (x ∷ []) tt (once_alone (HasId (codes "stops")) x);
+  ray_once = word_over (codes "ray") ray_word m [] (x ∷ []) tt (once_alone (HasId (codes "ray")) x);
+  fault_once = word_over (codes "fault") fault_word m [] (x ∷ []) tt (once_alone (HasId (codes "fault")) x);
 }
 
 -- .. with triangles entered and stops
@@ -105,6 +122,9 @@ blind_words m ts labels tints groups us ss =
       ray_once = word_over (codes "ray") ray_word m (faces ++ Entered us ∷ []) (Stops ss ∷ [])
           (all_join (NotSo (HasId (codes "ray"))) faces (Entered us ∷ []) (none_in_faces (codes "ray") ray_word ts labels 0 tints groups) (open_not_ray, tt))
           (λ i j e f at there so too. once_alone (HasId (codes "ray")) (Stops ss) i j e f at there so too);
+      fault_once = word_over (codes "fault") fault_word m (faces ++ Entered us ∷ []) (Stops ss ∷ [])
+          (all_join (NotSo (HasId (codes "fault"))) faces (Entered us ∷ []) (none_in_faces (codes "fault") fault_word ts labels 0 tints groups) (open_not_fault, tt))
+          (λ i j e f at there so too. once_alone (HasId (codes "fault")) (Stops ss) i j e f at there so too);
     }
 
 ray_alone : (w : List ℕ) (r : Ray) (o p : Option MapLine) → AtMostOne (HasId w) (sight_between r o p)
@@ -122,4 +142,5 @@ sight_words m ts labels tints groups r =
       open_once = word_over (codes "open") open_word m faces (sight_between r first last) (none_in_faces (codes "open") open_word ts labels 0 tints groups) (ray_alone (codes "open") r first last);
       stops_once = word_over (codes "stops") stops_word m faces (sight_between r first last) (none_in_faces (codes "stops") stops_word ts labels 0 tints groups) (ray_alone (codes "stops") r first last);
       ray_once = word_over (codes "ray") ray_word m faces (sight_between r first last) (none_in_faces (codes "ray") ray_word ts labels 0 tints groups) (ray_alone (codes "ray") r first last);
+      fault_once = word_over (codes "fault") fault_word m faces (sight_between r first last) (none_in_faces (codes "fault") fault_word ts labels 0 tints groups) (ray_alone (codes "fault") r first last);
     }

@@ -15,7 +15,7 @@ use Rattle.reject_bits.specs.Parts.{TableParts}
 use Rattle.map_picture.specs.declared.pair.Stop.{Stop}
 use Rattle.map_picture.specs.declared.tint.Tint.{Tint}
 use Rattle.map_picture.specs.declared.tint.Tint.TheVariants as tint
-use Rattle.map_picture.specs.Picture.{Element, Head, Style, Paper, Face, Line, Entered, Stops, Foot, blind_picture, faces_from, has_label, labelled_with, numbered, pair_faces, pair_tint, picture_of, row_picture, row_tint, sight_between, sight_elements, sight_picture}
+use Rattle.map_picture.specs.Picture.{Element, Head, Style, Paper, Face, Line, Entered, Stops, Foot, blind_picture, faces_from, has_label, labelled_with, numbered, pair_faces, pair_picture, pair_tint, picture_of, row_picture, row_tint, sight_between, sight_elements, sight_picture}
 use Rattle.map_picture.specs.Laws.{Has, HasNoLine, ShowsFaces, TellsPair, TellsRow}
 use Rattle.map_picture.proofs.Pieces.{NotSo, at_under, has_under, in_front, still_there}
 
@@ -28,7 +28,7 @@ record SameFace (k p : Tint) (g n : ℕ) (names others : List ℕ) (shown more :
 same_face : (k p : Tint) (g n : ℕ) (names others : List ℕ) (shown more : List Triangle) → Face k g names shown ≡ Face p n others more → SameFace k p g n names others shown more
 same_face k p g n names others shown more e = record { tints = cc; groups = cc; sectors = cc; triangles = cc }
 
-abbrev NoFace : Element → Type 0
+abbrev pub NoFace : Element → Type 0
 NoFace e = (k : Tint) (g : ℕ) (names : List ℕ) (shown : List Triangle) → e ≡ Face k g names shown → ⊥
 
 -- ---- what is no face
@@ -259,6 +259,11 @@ pub row_shown : (m : Map) (groups : List (List ℕ)) (ts : List Triangle) (label
 row_shown m groups ts labels t a =
     subst (λ (under : List Element). ShowsFaces groups ts labels (TellsRow t a) (picture_of m under [])) (append-nil (faces_from ts labels 0 (map (row_tint t a) groups) groups))
     (faces_shown m groups ts labels (TellsRow t a) (row_tint t a) (told t a) [] [] tt tt)
+
+pub pair_shown : (m : Map) (groups : List (List ℕ)) (ts : List Triangle) (labels : List (Option ℕ)) (a b : ℕ) → ShowsFaces groups ts labels (TellsPair a b) (pair_picture m groups ts labels a b)
+pair_shown m groups ts labels a b =
+    subst (λ (under : List Element). ShowsFaces groups ts labels (TellsPair a b) (picture_of m under [])) (append-nil (pair_faces groups ts labels a b))
+    (faces_shown m groups ts labels (TellsPair a b) (pair_tint a b) (told_pair a b) [] [] tt tt)
 
 sight_is_none : (r : Ray) (o p : Option MapLine) → AllByRecursion NoFace (sight_between r o p)
 sight_is_none r None p = tt

@@ -1,6 +1,7 @@
 -- The ids of a picture's elements.
 use Rattle.std.proofs.Common.{◌≡◌, ◌≢◌, ◌∙◌, ℕ, zero, suc, ◌^◌, ◌<◌, ◌≤◌, ◌⊎◌, inl, inr, List, [], ◌∷◌, ◌++◌, Option, Some, None, map, codes, length, slice_get, option_and_then, refl, sym, ap, arith}
 use Rattle.std.specs.Fmt.{decimal}
+use Rattle.std.specs.List.{AllByRecursion}
 use Rattle.std.proofs.lemmas.Fmt.{decimal_injective}
 use Rattle.std.proofs.lemmas.Option.{none-some, slice_get_within}
 use Rattle.sight_names.specs.declared.names.Ray.{Ray}
@@ -10,12 +11,12 @@ use Rattle.reject_bits.specs.Parts.{TableParts}
 use Rattle.map_picture.specs.declared.pair.Stop.{Stop}
 use Rattle.map_picture.specs.declared.tint.Tint.{Tint}
 use Rattle.map_picture.specs.Bytes.{count_text, face_id, id_of, line_id}
-use Rattle.map_picture.specs.Picture.{Element, Head, Style, Paper, Face, Line, Entered, Stops, Sight, Foot, blind_picture, numbered, pair_faces, pair_tint, plan_picture, row_picture, row_tint, sight_between, sight_elements, sight_picture}
+use Rattle.map_picture.specs.Picture.{Element, Head, Style, Paper, Face, Line, Entered, Stops, Sight, Marked, Foot, blind_picture, marked_picture, numbered, pair_faces, pair_picture, pair_tint, plan_picture, row_picture, row_tint, sight_between, sight_elements, sight_picture}
 use Rattle.map_picture.specs.Laws.{Has, HasNoLine, IdsAreOnce, ShowsFaces, ShowsLines, TellsPair, TellsRow}
 use Rattle.map_picture.proofs.Ordered.{lines_shown}
 use Rattle.map_picture.proofs.Pieces.{AtMostOne}
-use Rattle.map_picture.proofs.Extras.{HasId, WordsAreOnce, blind_words, faces_words, sight_words}
-use Rattle.map_picture.proofs.Faced.{at_place, blind_faces, no_line_in_faces, row_shown, sight_faces}
+use Rattle.map_picture.proofs.Extras.{HasId, WordsAreOnce, blind_words, faces_words, one_over, sight_words}
+use Rattle.map_picture.proofs.Faced.{NoFace, at_place, blind_faces, no_line_in_faces, pair_shown, row_shown, sight_faces}
 
 tails : (x y : ℕ) (xs ys : List ℕ) → ◌≡◌ {A = List ℕ} (x ∷ xs) (y ∷ ys) → xs ≡ ys
 tails x y xs ys e = cc
@@ -58,6 +59,7 @@ with_id picture words (Line i l) h = inr (inl (record { i = i; l = l; is = refl 
 with_id picture words (Entered us) h = inr (inr (record { w = codes "open"; is = refl; once = words.open_once }))
 with_id picture words (Stops ss) h = inr (inr (record { w = codes "stops"; is = refl; once = words.stops_once }))
 with_id picture words (Sight r first last) h = inr (inr (record { w = codes "ray"; is = refl; once = words.ray_once }))
+with_id picture words (Marked marks) h = inr (inr (record { w = codes "fault"; is = refl; once = words.fault_once }))
 with_id picture words Foot h = absurd (h refl)
 
 record FacesAreOnce (picture : List Element) : Type 0 where
@@ -125,6 +127,27 @@ pub row_ids : (m : Map) (groups : List (List ℕ)) (ts : List Triangle) (labels 
 row_ids m groups ts labels t a few some =
     ids_once m (row_picture m groups ts labels t a) (lines_shown m _ [] (no_line_in_faces (row_tint t a) ts labels 0 groups) no_line) few
     (faces_once groups ts labels (TellsRow t a) _ some (row_shown m groups ts labels t a)) (faces_words m ts labels (map (row_tint t a) groups) groups)
+
+pub pair_ids : (m : Map) (groups : List (List ℕ)) (ts : List Triangle) (labels : List (Option ℕ)) (a b : ℕ) → length m.lines ≤ 2 ^ 64 → length groups ≤ 2 ^ 64 → IdsAreOnce (pair_picture m groups ts labels a b)
+pair_ids m groups ts labels a b few some =
+    ids_once m (pair_picture m groups ts labels a b) (lines_shown m _ [] (no_line_in_faces (pair_tint a b) ts labels 0 groups) no_line) few
+    (faces_once groups ts labels (TellsPair a b) _ some (pair_shown m groups ts labels a b)) (faces_words m ts labels (map (pair_tint a b) groups) groups)
+
+no_line_marked : (marks : List ℕ) → HasNoLine (Marked marks ∷ [])
+no_line_marked marks i l (zero, at) = cc
+no_line_marked marks i l (suc k, at) = none-some (Line i l) at
+
+pub marked_ids : (m : Map) (marks : List ℕ) → length m.lines ≤ 2 ^ 64 → IdsAreOnce (marked_picture m marks)
+marked_ids m marks few =
+    ids_once m (marked_picture m marks) (lines_shown m [] (Marked marks ∷ []) no_line (no_line_marked marks)) few
+    (record {
+      few = λ k g names shown h. absurd (none-some (Face k g names shown) (at_place m [] (Marked marks ∷ []) no_face h.0 k g names shown h.1).2);
+      once = λ i j g k p names others shown more at there. absurd (none-some (Face k g names shown) (at_place m [] (Marked marks ∷ []) no_face i k g names shown at).2);
+    })
+    (one_over m (Marked marks))
+  where
+    no_face : AllByRecursion NoFace (Marked marks ∷ [])
+    no_face = ((λ k g names shown e. cc), tt)
 
 no_line_between : (r : Ray) (o p : Option MapLine) → HasNoLine (sight_between r o p)
 no_line_between r None p = no_line

@@ -12,3 +12,4 @@ pub mod Entries
 pub mod MapEnds
 pub mod Spots
 pub mod Sights
+pub mod Marking

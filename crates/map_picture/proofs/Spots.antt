@@ -158,8 +158,8 @@ module _ (m : Map) (r : Ray) where
       subst (λ (x : Option MapLine). Has (sight_between r x p) (Sight r first last)) (sym is)
       (subst (λ (x : Option MapLine). Has (sight_between r (Some first) x) (Sight r first last)) (sym is_too) (zero, refl))
 
-pub ray_drawn : (m : Map) (groups : List (List ℕ)) (ts : List Triangle) (labels : List (Option ℕ)) (a b : ℕ) (r : Ray) → IsSightRay m r a b → ShowsRay m r (sight_picture m groups ts labels a b r)
-ray_drawn m groups ts labels a b r s = record {
+pub ray_drawn : (m : Map) (groups : List (List ℕ)) (ts : List Triangle) (labels : List (Option ℕ)) (a b f k : ℕ) (r : Ray) → IsSightRay m r f k → ShowsRay m r (sight_picture m groups ts labels a b r)
+ray_drawn m groups ts labels a b f k r s = record {
   first = s.first;
   last = s.last;
   is_first = s.is_first;

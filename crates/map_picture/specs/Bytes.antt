@@ -7,7 +7,7 @@ use Rattle.sight_names.specs.declared.names.Pt.{Pt}
 use Rattle.sight_names.specs.declared.names.Ray.{Ray}
 use Rattle.sight_names.specs.declared.names.Side.{Side}
 use Rattle.sight_names.specs.declared.names.Triangle.{Triangle}
-use Rattle.sight_names.specs.Map.{Map, MapLine}
+use Rattle.sight_names.specs.Map.{Map, MapLine, line_at}
 use Rattle.sight_names.specs.Points.{place, points_of}
 use Rattle.map_picture.specs.declared.frame.Frame.{Frame}
 use Rattle.map_picture.specs.declared.frame.Sizes.{Sizes}
@@ -17,7 +17,7 @@ use Rattle.map_picture.specs.declared.tint.Tint.{Tint}
 use Rattle.map_picture.specs.declared.tint.Tint.TheVariants as tint
 use Rattle.map_picture.specs.Frame.{across, down, frame_of, sizes_of}
 use Rattle.map_picture.specs.Crossings.{crossing_spot}
-use Rattle.map_picture.specs.Picture.{Element, Head, Style, Paper, Face, Line, Entered, Stops, Sight, Foot}
+use Rattle.map_picture.specs.Picture.{Element, Head, Style, Paper, Face, Line, Entered, Stops, Sight, Marked, Foot}
 
 -- a text, and a number behind it
 unfoldable pub count_text : List ℕ → ℕ → List ℕ
@@ -66,6 +66,7 @@ id_of (Line i l) = line_id i
 id_of (Entered us) = codes "open"
 id_of (Stops ss) = codes "stops"
 id_of (Sight r first last) = codes "ray"
+id_of (Marked marks) = codes "fault"
 id_of e = []
 
 -- a path of a class as far as its points
@@ -164,6 +165,22 @@ unfoldable pub sight_text : Frame → Ray → MapLine → MapLine → List ℕ
 sight_text f r first last = path_text (codes "r") (codes "ray") ++ spot_text (codes "M") (crossing_spot f r first.first first.second)
     ++ spot_text (codes "L") (crossing_spot f r last.first last.second) ++ ray_title r
 
+-- ---- marks
+
+-- over a line, where there is one
+abbrev pub mark_over : Frame → Option MapLine → List ℕ
+mark_over f None = []
+mark_over f (Some l) = ends_text f l.first l.second
+
+abbrev pub mark_text : Frame → Map → ℕ → List ℕ
+mark_text f m i = mark_over f (line_at m i)
+
+abbrev pub mark_texts : Frame → Map → List ℕ → List ℕ
+mark_texts f m marks = flat_map (mark_text f m) marks
+
+unfoldable pub marked_text : Frame → Map → List ℕ → List ℕ
+marked_text f m marks = path_text (codes "k") (codes "fault") ++ mark_texts f m marks ++ codes "\"/>\n"
+
 -- ---- the whole
 
 abbrev pub bytes_of : Frame → Map → Element → List ℕ
@@ -175,6 +192,7 @@ bytes_of f m (Line i l) = line_text f i l
 bytes_of f m (Entered us) = entered_text f m us
 bytes_of f m (Stops ss) = stops_text f m ss
 bytes_of f m (Sight r first last) = sight_text f r first last
+bytes_of f m (Marked marks) = marked_text f m marks
 bytes_of f m Foot = codes "</svg>\n"
 
 abbrev pub spelled : Frame → Map → List Element → List ℕ

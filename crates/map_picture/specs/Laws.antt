@@ -17,7 +17,7 @@ use Rattle.map_picture.specs.declared.tint.Tint.TheVariants as tint
 use Rattle.map_picture.specs.Bytes.{id_of}
 use Rattle.map_picture.specs.Crossings.{IsSpotOf, crossing_spot}
 use Rattle.map_picture.specs.Frame.{across, down, frame_of, height_of, width_of}
-use Rattle.map_picture.specs.Picture.{Element, Face, Line, Entered, Stops, Sight, blind_picture, picture_of, plan_picture, row_picture, sight_picture}
+use Rattle.map_picture.specs.Picture.{Element, Face, Line, Entered, Stops, Sight, Marked, blind_picture, marked_picture, pair_picture, picture_of, plan_picture, row_picture, sight_picture}
 
 -- the picture has this element
 abbrev pub Has : List Element → Element → Type 0
@@ -83,6 +83,9 @@ TellsPair a b names tint.Clear = ⊥
 abbrev pub SightFacesAreShown : Type 0
 SightFacesAreShown = (m : Map) (groups : List (List ℕ)) (ts : List Triangle) (labels : List (Option ℕ)) (a b : ℕ) (r : Ray) → ShowsFaces groups ts labels (TellsPair a b) (sight_picture m groups ts labels a b r)
 
+abbrev pub PairFacesAreShown : Type 0
+PairFacesAreShown = (m : Map) (groups : List (List ℕ)) (ts : List Triangle) (labels : List (Option ℕ)) (a b : ℕ) → ShowsFaces groups ts labels (TellsPair a b) (pair_picture m groups ts labels a b)
+
 abbrev pub BlindFacesAreShown : Type 0
 BlindFacesAreShown = (m : Map) (groups : List (List ℕ)) (ts : List Triangle) (labels : List (Option ℕ)) (a b : ℕ) (entered : List ℕ) (stops : List Stop) → ShowsFaces groups ts labels (TellsPair a b) (blind_picture m groups ts labels a b entered stops)
 
@@ -98,7 +101,7 @@ pub record ShowsRay (m : Map) (r : Ray) (picture : List Element) : Type 0 where
   pub stop : (z : Point) → IsCrossing r last z → IsSpotOf (frame_of (points_of m)) z (crossing_spot (frame_of (points_of m)) r last.first last.second)
 
 abbrev pub RayIsDrawn : Type 0
-RayIsDrawn = (m : Map) (groups : List (List ℕ)) (ts : List Triangle) (labels : List (Option ℕ)) (a b : ℕ) (r : Ray) → IsSightRay m r a b → ShowsRay m r (sight_picture m groups ts labels a b r)
+RayIsDrawn = (m : Map) (groups : List (List ℕ)) (ts : List Triangle) (labels : List (Option ℕ)) (a b f k : ℕ) (r : Ray) → IsSightRay m r f k → ShowsRay m r (sight_picture m groups ts labels a b r)
 
 -- exactly the triangles with these numbers are there as entered, in one element
 pub record ShowsEntered (ts : List Triangle) (entered : List ℕ) (picture : List Element) : Type 0 where
@@ -120,6 +123,16 @@ EnteredIsShown = (m : Map) (groups : List (List ℕ)) (ts : List Triangle) (labe
 abbrev pub StopsAreShown : Type 0
 StopsAreShown = (m : Map) (groups : List (List ℕ)) (ts : List Triangle) (labels : List (Option ℕ)) (a b : ℕ) (entered : List ℕ) (stops : List Stop) → ShowsStops stops (blind_picture m groups ts labels a b entered stops)
 
+-- ---- marks
+
+-- these lines are marked, in one element
+pub record ShowsMarks (marks : List ℕ) (picture : List Element) : Type 0 where
+  pub has : Has picture (Marked marks)
+  pub once : (i j : ℕ) (ms ns : List ℕ) → slice_get picture i ≡ Some (Marked ms) → slice_get picture j ≡ Some (Marked ns) → i ≡ j
+
+abbrev pub MarksAreShown : Type 0
+MarksAreShown = (m : Map) (marks : List ℕ) → ShowsMarks marks (marked_picture m marks)
+
 -- ---- ids
 
 -- no two elements have one id
@@ -135,6 +148,12 @@ RowIdsAreOnce = (m : Map) (groups : List (List ℕ)) (ts : List Triangle) (label
 
 abbrev pub SightIdsAreOnce : Type 0
 SightIdsAreOnce = (m : Map) (groups : List (List ℕ)) (ts : List Triangle) (labels : List (Option ℕ)) (a b : ℕ) (r : Ray) → length m.lines ≤ 2 ^ 64 → length groups ≤ 2 ^ 64 → IdsAreOnce (sight_picture m groups ts labels a b r)
+
+abbrev pub PairIdsAreOnce : Type 0
+PairIdsAreOnce = (m : Map) (groups : List (List ℕ)) (ts : List Triangle) (labels : List (Option ℕ)) (a b : ℕ) → length m.lines ≤ 2 ^ 64 → length groups ≤ 2 ^ 64 → IdsAreOnce (pair_picture m groups ts labels a b)
+
+abbrev pub MarkedIdsAreOnce : Type 0
+MarkedIdsAreOnce = (m : Map) (marks : List ℕ) → length m.lines ≤ 2 ^ 64 → IdsAreOnce (marked_picture m marks)
 
 abbrev pub BlindIdsAreOnce : Type 0
 BlindIdsAreOnce = (m : Map) (groups : List (List ℕ)) (ts : List Triangle) (labels : List (Option ℕ)) (a b : ℕ) (entered : List ℕ) (stops : List Stop) → length m.lines ≤ 2 ^ 64 → length groups ≤ 2 ^ 64 → IdsAreOnce (blind_picture m groups ts labels a b entered stops)

@@ -5,6 +5,7 @@ use Rattle.std.specs.List.{list_all, list_any}
 use Rattle.sight_names.specs.declared.names.Ray.{Ray}
 use Rattle.sight_names.specs.declared.names.Triangle.{Triangle}
 use Rattle.sight_names.specs.Map.{Map, MapLine, line_at}
+use Rattle.sight_names.specs.Ray.{IsSightRay}
 use Rattle.sight_names.specs.Table.{table_bit}
 use Rattle.reject_bits.specs.Parts.{TableParts}
 use Rattle.map_picture.specs.declared.pair.Stop.{Stop}
@@ -28,6 +29,8 @@ pub data Element : Type 0 where
   Stops : List Stop → Element
   -- a ray from the first of these lines to the second, which are those of its sides
   Sight : Ray → MapLine → MapLine → Element
+  -- the lines with these record numbers, marked
+  Marked : List ℕ → Element
   -- the end
   Foot : Element
 
@@ -79,6 +82,10 @@ picture_of m under over = Head ∷ Style ∷ Paper ∷ [] ++ under ++ line_eleme
 abbrev pub plan_picture : Map → List Element
 plan_picture m = picture_of m [] []
 
+-- the plan, with marks over the lines with these record numbers
+abbrev pub marked_picture : Map → List ℕ → List Element
+marked_picture m marks = picture_of m [] (Marked marks ∷ [])
+
 -- what the table's row of sector a says of a group: set only if it is so for each sector that the group names
 abbrev pub row_tint : TableParts → ℕ → List ℕ → Tint
 row_tint t a names =
@@ -99,6 +106,10 @@ pair_tint a b names = if list_any (λ s. s == a) names then tint.Source else if 
 abbrev pub pair_faces : List (List ℕ) → List Triangle → List (Option ℕ) → ℕ → ℕ → List Element
 pair_faces groups ts labels a b = faces_from ts labels 0 (map (pair_tint a b) groups) groups
 
+-- the plan with the faces of two sectors
+abbrev pub pair_picture : Map → List (List ℕ) → List Triangle → List (Option ℕ) → ℕ → ℕ → List Element
+pair_picture m groups ts labels a b = picture_of m (pair_faces groups ts labels a b) []
+
 -- the triangles with these numbers
 abbrev pub numbered : List Triangle → List ℕ → List Triangle
 numbered ts entered = map (λ k. slice_index_or ts k (record { p = 0; q = 0; r = 0 })) entered
@@ -115,6 +126,11 @@ sight_between r (Some first) (Some last) = Sight r first last ∷ []
 
 abbrev pub sight_elements : Map → Ray → List Element
 sight_elements m r = sight_between r (line_at m r.first.line) (line_at m r.last.line)
+
+-- Some sectors see each other along the ray. These are those of its two sides, which needn't be the pair that is drawn: where a face
+-- has several names, its sides may bear others.
+abbrev pub JoinsSectors : Map → Ray → Type 0
+JoinsSectors m r = (f : ℕ) × (k : ℕ) × IsSightRay m r f k
 
 -- two sectors that see each other along the ray
 abbrev pub sight_picture : Map → List (List ℕ) → List Triangle → List (Option ℕ) → ℕ → ℕ → Ray → List Element

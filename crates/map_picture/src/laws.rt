@@ -1,6 +1,6 @@
 //! What pictures show, by their definition. The calls do nothing: their clauses are laws.
 
-ghost use Rattle.map_picture.specs.Laws.{BlindFacesAreShown, BlindIdsAreOnce, EnteredIsShown, LinesAreShown, PlanIdsAreOnce, PointsAreReadBack, RayIsDrawn, RowIdsAreOnce, RowIsShown, SightFacesAreShown, SightIdsAreOnce, StopsAreShown};
+ghost use Rattle.map_picture.specs.Laws.{BlindFacesAreShown, BlindIdsAreOnce, EnteredIsShown, LinesAreShown, MarkedIdsAreOnce, MarksAreShown, PairFacesAreShown, PairIdsAreOnce, PlanIdsAreOnce, PointsAreReadBack, RayIsDrawn, RowIdsAreOnce, RowIsShown, SightFacesAreShown, SightIdsAreOnce, StopsAreShown};
 
 /// Every picture of a map has its lines, each once, and no other line.
 pub fn lines_are_shown()
@@ -15,7 +15,9 @@ pub fn row_is_shown()
 /// No two elements of a picture have one id.
 pub fn ids_are_once()
     ensures plan { PlanIdsAreOnce }
+    ensures marked { MarkedIdsAreOnce }
     ensures row { RowIdsAreOnce }
+    ensures pair { PairIdsAreOnce }
     ensures sight { SightIdsAreOnce }
     ensures blind { BlindIdsAreOnce }
 {}
@@ -23,6 +25,7 @@ pub fn ids_are_once()
 /// A pair's picture has one face for each group, with the triangles that the group labels, and its tint tells which of the two
 /// sectors the group names.
 pub fn pair_is_shown()
+    ensures pair { PairFacesAreShown }
     ensures sight { SightFacesAreShown }
     ensures blind { BlindFacesAreShown }
 {}
@@ -39,6 +42,11 @@ pub fn ray_is_drawn()
 pub fn entered_is_shown()
     ensures triangles { EnteredIsShown }
     ensures stops { StopsAreShown }
+{}
+
+/// A picture with marks has them over the lines that it was given, and over no other.
+pub fn marks_are_shown()
+    ensures { MarksAreShown }
 {}
 
 /// The coordinates of each point of a map can be read back from a picture.

@@ -3,11 +3,11 @@
 ghost use Rattle.std.specs.Prelude.{◌≡◌, ◌<◌, ◌++◌, ◌∷◌, [], All, OnOk, length};
 ghost use Rattle.sight_names.specs.Map.{looked_up, map_of};
 ghost use Rattle.sight_names.specs.Plan.{IsPlanLine};
-ghost use Rattle.sight_names.specs.Ray.{IsInRange, IsSightRay};
+ghost use Rattle.sight_names.specs.Ray.{IsInRange};
 ghost use Rattle.geom_exact.specs.Formulas.{AreOnTwoSides, side_value};
 ghost use Rattle.map_picture.specs.Bytes.{coefficient_text, coefficients_text, entered_text, ray_title, side_letter, side_text, sides_text, sight_text, spelled, spot_text, stop_text, stop_texts, stops_text, thousandths_text, triangles_text};
 ghost use Rattle.map_picture.specs.Crossings.{crossing_spot as the_crossing_spot};
-ghost use Rattle.map_picture.specs.Picture.{Entered, Stops, numbered, sight_elements};
+ghost use Rattle.map_picture.specs.Picture.{Entered, JoinsSectors, Stops, numbered, sight_elements};
 
 use crate::crossings::{Spot, crossing_spot};
 use crate::faces::push_triangle;
@@ -16,7 +16,7 @@ use crate::lines::point_at;
 use crate::words::{push_count, push_ends, push_named_path, push_text};
 use itoa::{Buffer, Integer};
 use mesh_shape::Mesh;
-use sight_names::{Line, Pair, Plan, Ray, Side};
+use sight_names::{Line, Plan, Ray, Side};
 use std::alloc::AllocError;
 
 /// A segment at which sight ends, by the numbers of its points.
@@ -224,10 +224,9 @@ pub fn push_sight(
     out: &mut Vec<u8>,
     frame: Frame,
     plan: &Plan,
-    pair: Pair,
     ray: &Ray,
 ) -> Result<(), AllocError>
-    requires { IsSightRay (map_of plan.now) ray.now pair.a pair.b }
+    requires { JoinsSectors (map_of plan.now) ray.now }
     ensures { OnOk result (out.new.items ≡ out.old.items ++ spelled frame (map_of plan.now) (sight_elements (map_of plan.now) ray.now)) }
 {
     let Some(first) = plan.line(ray.first.line) else {

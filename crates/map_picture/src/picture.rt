@@ -2,15 +2,15 @@
 
 ghost use Rattle.std.specs.Prelude.{◌≡◌, ◌<◌, ◌^◌, ◌∷◌, ◌++◌, [], All, IfOk, length, map};
 ghost use Rattle.sight_names.specs.Map.{map_of};
-ghost use Rattle.sight_names.specs.Ray.{IsSightRay};
 ghost use Rattle.map_picture.specs.Bytes.{spelled, svg_of};
 ghost use Rattle.map_picture.specs.Chains.{AreChains};
-ghost use Rattle.map_picture.specs.Picture.{Head, Paper, Style, pair_faces as the_pair_faces, pair_tint, row_tint, blind_picture as the_blind_picture, plan_picture as the_plan_picture, row_picture as the_row_picture, sight_picture as the_sight_picture};
+ghost use Rattle.map_picture.specs.Picture.{Head, JoinsSectors, Paper, Style, pair_faces as the_pair_faces, pair_tint, row_tint, blind_picture as the_blind_picture, marked_picture as the_marked_picture, pair_picture as the_pair_picture, plan_picture as the_plan_picture, row_picture as the_row_picture, sight_picture as the_sight_picture};
 
 use crate::chains::chains_of;
 use crate::faces::{Faces, push_faces};
 use crate::frame::{Frame, frame_of};
 use crate::lines::push_lines;
+use crate::marks::push_marks;
 use crate::pair::{Stop, push_entered, push_sight, push_stops};
 use crate::sheet::{push_foot, push_sheet};
 use crate::tint::{pair_tints, row_tints};
@@ -27,6 +27,19 @@ pub fn plan_picture(alloc: Global, plan: &Plan) -> Result<Vec<u8>, Memory>
     let mut out = Vec::new(alloc);
     push_sheet(&mut out, frame)?;
     push_lines(&mut out, frame, plan)?;
+    push_foot(&mut out)?;
+    Ok(out)
+}
+
+/// The plan, with marks over the lines with these record numbers.
+pub fn marked_picture(alloc: Global, plan: &Plan, marks: &[u16]) -> Result<Vec<u8>, Memory>
+    ensures { IfOk result (λ v. v.items ≡ svg_of (map_of plan.now) (the_marked_picture (map_of plan.now) marks.now)) }
+{
+    let frame = frame_of(plan.points());
+    let mut out = Vec::new(alloc);
+    push_sheet(&mut out, frame)?;
+    push_lines(&mut out, frame, plan)?;
+    push_marks(&mut out, frame, plan, marks)?;
     push_foot(&mut out)?;
     Ok(out)
 }
@@ -131,6 +144,26 @@ fn pair_ground(
     Ok(out)
 }
 
+/// The plan with the faces of two sectors.
+pub fn pair_picture(
+    alloc: Global,
+    plan: &Plan,
+    mesh: &Mesh,
+    labels: &Labels,
+    groups: &[Items<u16>],
+    pair: Pair,
+) -> Result<Vec<u8>, Memory>
+    requires points { mesh.now.points ≡ length plan.now.points }
+    requires one_each { length labels.now ≡ length mesh.now.triangles }
+    ensures { IfOk result (λ v. v.items ≡ svg_of (map_of plan.now) (the_pair_picture (map_of plan.now) groups.now mesh.now.triangles labels.now pair.a pair.b)) }
+{
+    let frame = frame_of(plan.points());
+    let mut out = pair_ground(alloc, frame, plan, mesh, labels, groups, pair)?;
+    push_lines(&mut out, frame, plan)?;
+    push_foot(&mut out)?;
+    Ok(out)
+}
+
 /// The plan with the faces of two sectors that see each other, and with the ray along which they do.
 pub fn sight_picture(
     alloc: Global,
@@ -143,13 +176,13 @@ pub fn sight_picture(
 ) -> Result<Vec<u8>, Memory>
     requires points { mesh.now.points ≡ length plan.now.points }
     requires one_each { length labels.now ≡ length mesh.now.triangles }
-    requires sight { IsSightRay (map_of plan.now) ray.now pair.a pair.b }
+    requires sight { JoinsSectors (map_of plan.now) ray.now }
     ensures { IfOk result (λ v. v.items ≡ svg_of (map_of plan.now) (the_sight_picture (map_of plan.now) groups.now mesh.now.triangles labels.now pair.a pair.b ray.now)) }
 {
     let frame = frame_of(plan.points());
     let mut out = pair_ground(alloc, frame, plan, mesh, labels, groups, pair)?;
     push_lines(&mut out, frame, plan)?;
-    push_sight(&mut out, frame, plan, pair, ray)?;
+    push_sight(&mut out, frame, plan, ray)?;
     push_foot(&mut out)?;
     Ok(out)
 }
