@@ -1,4 +1,5 @@
 pub mod Built
+pub mod Grouped
 pub mod Marks
 pub mod Rows
 pub mod Sectors

@@ -12,11 +12,12 @@ ghost use Rattle.group_job.specs.Built.{IsGroupFault, IsSymmetric, TellsSectors,
 ghost use Rattle.group_job.specs.Walked.{AreWalkedGroups};
 
 use crate::build::{GroupBuilt, map_sizes, without_list};
+use crate::grouped::{MapOfGroups, map_of_groups};
 use crate::sectors::{copied, sector_table};
 use crate::walked::WalkedGroups;
 use cert_groups::{AnyCert, CertTwo};
-use face_groups::{GroupFault, Grouped, group_map};
-use sight_job::{Faces, build_alone_over, triangles_of};
+use face_groups::GroupFault;
+use sight_job::build_alone_over;
 use sight_names::{Ask, Plan};
 use sight_workers::Gate;
 use std::alloc::Global;
@@ -36,15 +37,12 @@ pub fn walk_groups_alone<G: Gate>(
     ensures walked { IfOk result (λ w. AreWalkedGroups plan.now w.plan ask w.groups w.built) }
     ensures fault { IfErr result (IsGroupFault (map_of plan.now)) }
 {
-    let _ = plan.lines();
-    let mesh = triangles_of(alloc, plan)?;
-    let Grouped {
+    let MapOfGroups {
         groups,
         plan: grouped,
-        labels,
-    } = group_map(alloc, plan, &mesh)?;
-    let shape = Faces { mesh, labels };
-    let built = build_alone_over(alloc, &grouped, &shape, ask, gate)?;
+        faces,
+    } = map_of_groups(alloc, plan)?;
+    let built = build_alone_over(alloc, &grouped, &faces, ask, gate)?;
     let _ = built.cert.triangles();
     Ok(WalkedGroups {
         groups,

@@ -6,8 +6,10 @@
 
 mod alone;
 mod build;
+mod grouped;
 mod sectors;
 mod walked;
 
 pub use alone::build_table_alone;
 pub use build::{GroupBuilt, build_table};
+pub use grouped::{MapOfGroups, map_of_groups};

@@ -6,9 +6,10 @@ ghost use Rattle.sight_names.specs.Sound.{LinesMeetAtEnds};
 ghost use Rattle.group_job.specs.Built.{IsGroupFault};
 ghost use Rattle.group_job.specs.Walked.{AreWalkedGroups};
 
+use crate::grouped::{MapOfGroups, map_of_groups};
 use cert_groups::Group;
-use face_groups::{GroupFault, Grouped, group_map};
-use sight_job::{Built, Faces, build_over, triangles_of};
+use face_groups::GroupFault;
+use sight_job::{Built, build_over};
 use sight_names::{Ask, Items, Plan};
 use sight_workers::Gate;
 use std::alloc::Global;
@@ -40,15 +41,12 @@ pub fn walk_groups<R: Threads + Sync, G: Gate + Sync>(
     ensures walked { IfOk result (λ w. AreWalkedGroups plan.now w.plan ask w.groups w.built) }
     ensures fault { IfErr result (IsGroupFault (map_of plan.now)) }
 {
-    let _ = plan.lines();
-    let mesh = triangles_of(alloc, plan)?;
-    let Grouped {
+    let MapOfGroups {
         groups,
         plan: grouped,
-        labels,
-    } = group_map(alloc, plan, &mesh)?;
-    let shape = Faces { mesh, labels };
-    let built = build_over(rt, alloc, &grouped, &shape, workers, ask, gate)?;
+        faces,
+    } = map_of_groups(alloc, plan)?;
+    let built = build_over(rt, alloc, &grouped, &faces, workers, ask, gate)?;
     let _ = built.cert.triangles();
     Ok(WalkedGroups {
         groups,

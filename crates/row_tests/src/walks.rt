@@ -4,10 +4,11 @@ ghost use Rattle.sight_names.specs.Map.{map_of};
 ghost use Rattle.sight_names.specs.Sound.{LinesMeetAtEnds};
 
 use crate::table::part;
+use cert_groups::AnyCert;
+use group_job::{build_table, map_of_groups};
 use map_audit::audit_lines;
 use pair_budget::{Alone, Outcome, walk_source};
 use portal_walk::{Step, Walker};
-use sight_job::{build_table, faces_of};
 use sight_names::{Ask, Budget, Memory, Plan};
 use sight_tree::{Node, Nodes};
 use sight_workers::OpenGate;
@@ -54,7 +55,8 @@ fn count_open(nodes: &Nodes) -> usize {
 }
 
 // How many sectors a source of a map finds within a budget, and how many open nodes and how many nodes its tree has, None
-// where the budget is spent. Nothing where the map isn't sound.
+// where the budget is spent. Nothing where a face is open. The map of groups is walked, whose sectors are those of the map where
+// each has one face or more, and each face one of them.
 fn walk_of(
     alloc: Global,
     plan: &Plan,
@@ -63,13 +65,13 @@ fn walk_of(
 ) -> Result<Option<(usize, Option<(usize, usize)>)>, Memory>
     requires { LinesMeetAtEnds (map_of plan.now) }
 {
-    let Ok(faces) = faces_of(alloc, plan) else {
+    let Ok(map) = map_of_groups(alloc, plan) else {
         return Ok(None);
     };
+    let (plan, mesh, labels) = (&map.plan, &map.faces.mesh, &map.faces.labels);
     if source >= plan.sectors {
         return Ok(None);
     }
-    let (mesh, labels) = (&faces.mesh, &faces.labels);
     let result = walk_source(alloc, plan, mesh, labels, source, budget, &mut Alone)?;
     let nodes = match &result.outcome {
         Outcome::Complete(tree) => Some((count_open(&tree.nodes), tree.nodes.len())),
@@ -110,19 +112,19 @@ fn each_of_three_rooms_in_a_row_has_four_sequences(rt: HostRuntime) -> Result<()
     Ok(())
 }
 
-// The steps of a walk of a source of a map, of which there are few, before its end. None where the map isn't sound.
+// The steps of a walk of a source of a map, of which there are few, before its end. None where a face is open.
 fn steps_of(alloc: Global, plan: &Plan, source: u16) -> Result<Vec<Step>, Memory> {
     let mut steps = Vec::new(alloc);
     let Ok(()) = audit_lines(alloc, plan) else {
         return Ok(steps);
     };
-    let Ok(faces) = faces_of(alloc, plan) else {
+    let Ok(map) = map_of_groups(alloc, plan) else {
         return Ok(steps);
     };
-    if source >= plan.sectors {
+    if source >= map.plan.sectors {
         return Ok(steps);
     }
-    let mut walker = Walker::new(alloc, plan, &faces.mesh, &faces.labels, source)?;
+    let mut walker = Walker::new(alloc, &map.plan, &map.faces.mesh, &map.faces.labels, source)?;
     for _ in 0..100 {
         match walker.next()? {
             Step::End => break,
@@ -161,13 +163,13 @@ fn a_walk_of_u_stops_where_a_right_end_is_between_two_left_ones(
     Ok(())
 }
 
-/// A map; the table that a build of it makes, or why it makes none; and how many triangles and rays its certificate of version 1 has.
+/// A map; the table that a build of it makes, or why it makes none; and how many triangles and rays its certificate has.
 const TABLES: &str = "\
 U | 4400 | 8 | 2
 PAIR | 00 | 4 | 1
 LONE | 0e | 2 | 0
 OPEN | open 0R
-ISLAND | mixed 0R 4R
+ISLAND | 00 | 8 | 0
 ";
 
 // Whether a build of the row's map by two workers comes to what the row says.
@@ -179,11 +181,14 @@ fn is_built<R: Threads + Sync>(rt: &R, alloc: Global, row: &str) -> Result<bool,
     match build_table(rt, alloc, &plan, 2, Ask::Full, &OpenGate) {
         Ok(built) => {
             let table = bytes_of_digits(alloc, part(row, 1))?;
+            let AnyCert::Two(two, _) = &built.cert else {
+                return Ok(false);
+            };
             Ok(
                 built.table.as_bytes() == table.as_slice()
                     && built.listed.as_slice().is_empty()
-                    && built.cert.triangles().len() == number(part(row, 2))
-                    && built.cert.rays().len() == number(part(row, 3)),
+                    && two.cert.triangles().len() == number(part(row, 2))
+                    && two.cert.rays().len() == number(part(row, 3)),
             )
         }
         Err(fault) => {
@@ -194,9 +199,7 @@ fn is_built<R: Threads + Sync>(rt: &R, alloc: Global, row: &str) -> Result<bool,
 }
 
 #[test]
-fn tables_whose_faces_have_one_name_each_are_as_their_rows_say(
-    rt: HostRuntime,
-) -> Result<(), Fail> {
+fn tables_of_worked_maps_are_as_their_rows_say(rt: HostRuntime) -> Result<(), Fail> {
     for row in TABLES.lines() {
         assert!(rt; is_built(&rt, rt.alloc(), row)?, "{row}");
     }

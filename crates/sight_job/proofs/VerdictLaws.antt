@@ -1,7 +1,6 @@
 -- What a build promises of its table, its list and its certificate, from what the walks decide.
-use Rattle.std.proofs.Common.{◌≡◌, ◌≢◌, ℕ, zero, suc, ◌<◌, ◌⊎◌, ◌↔◌, inl, inr, List, [], ◌∷◌, length, get_or, slice_get, Contains, Option, Some, refl, sym, ap, ◌∙◌, subst, arith, Bool, true, false}
-use Rattle.std.specs.Prelude.{Result, Ok, Err, IfOk, not}
-use Rattle.std.specs.List.{AllByRecursion}
+use Rattle.std.proofs.Common.{◌≡◌, ◌≢◌, ℕ, zero, suc, ◌<◌, ◌⊎◌, ◌↔◌, inl, inr, List, [], ◌∷◌, length, get_or, slice_get, Contains, Option, Some, refl, sym, ap, ◌∙◌, subst, arith, true}
+use Rattle.std.specs.Prelude.{Result, Ok, Err, IfOk}
 use Rattle.std.proofs.lemmas.List.Elements.{Contains-append_left, Contains-append_right}
 use Rattle.std.proofs.lemmas.Option.{slice_get-get_or, same_Some}
 use Rattle.sight_names.proofs.Lists.{contains_cases, contains_tail}
@@ -10,9 +9,9 @@ use Rattle.sight_names.specs.declared.names.Budget.TheVariants.{Full}
 use Rattle.sight_names.specs.declared.names.Memory.{Memory}
 use Rattle.sight_names.specs.declared.names.Pair.{Pair}
 use Rattle.sight_names.specs.declared.names.PairRay.{PairRay}
-use Rattle.sight_names.specs.Map.{Map, map_of, sector_on}
+use Rattle.sight_names.specs.Map.{Map, map_of}
 use Rattle.sight_names.specs.declared.names.Triangle.{Triangle}
-use Rattle.sight_names.specs.Found.{AreNeighbours, IsChain, AreConnected, IsListedOver, IsListed, Spent}
+use Rattle.sight_names.specs.Found.{IsChain, AreConnected, IsListedOver, IsListed, Spent}
 use Rattle.sight_names.specs.Mesh.{IsMeshOf, AreLabelsOf, label_of}
 use Rattle.sight_names.specs.Sound.{NamesAgree}
 use Rattle.sight_names.proofs.OneMesh.{one_mesh, one_labels}

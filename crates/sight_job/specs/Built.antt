@@ -1,13 +1,10 @@
 -- What a build gives.
-use Rattle.std.specs.Prelude.{◌≡◌, ◌≢◌, ℕ, ◌<◌, ◌⊎◌, ◌↔◌, List, [], Option, Some, length, slice_get, Contains, true, ⊤}
+use Rattle.std.specs.Prelude.{◌≡◌, ◌≢◌, ℕ, ◌<◌, ◌⊎◌, ◌↔◌, List, [], Option, Some, length, slice_get, Contains, true}
 use Rattle.std.specs.List.{AllByRecursion}
 use Rattle.sight_names.specs.declared.names.Ask.{Ask}
 use Rattle.sight_names.specs.declared.names.Budget.{Budget}
 use Rattle.sight_names.specs.declared.names.Pair.{Pair}
 use Rattle.sight_names.specs.declared.names.PairRay.{PairRay}
-use Rattle.sight_names.specs.declared.faults.BuildFault.{BuildFault}
-use Rattle.sight_names.specs.declared.faults.BuildFault.TheVariants as build
-use Rattle.sight_names.specs.declared.faults.LabelFault.TheVariants as label
 use Rattle.sight_names.specs.declared.names.Triangle.{Triangle}
 use Rattle.sight_names.specs.Map.{Map, Names, map_of}
 use Rattle.sight_names.specs.Ray.{IsInRange}
@@ -28,14 +25,7 @@ use Rattle.pair_budget.specs.Decided.{DecidesOver}
 use Rattle.pair_budget.specs.Walked.{IsOutcome}
 use Rattle.pair_budget.specs.Whole.{IsShown}
 use Rattle.sight_job.specs.declared.build.Built.{Built}
-use Rattle.sight_job.specs.Faces.{IsFaceFault}
 use Rattle.pair_budget.specs.Decide.{AreResults, IsSettled, DecidesTable, DecidesList, DecidesRays, trees_of}
-
--- why a map gets no table: its faces, as their audit tells
-abbrev pub IsBuildFault : Map → BuildFault → Type 0
-IsBuildFault m (build.Open s) = IsFaceFault m (label.Open s)
-IsBuildFault m (build.Mixed s t) = IsFaceFault m (label.Mixed s t)
-IsBuildFault m build.Memory = ⊤
 
 -- the certificate has the labelled triangles of the map's mesh
 pub record HasTrianglesOf (m : Map) (c : CertParts) : Type 0 where

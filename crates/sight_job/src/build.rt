@@ -1,26 +1,26 @@
 //! The build of one map.
 
-ghost use Rattle.std.specs.Prelude.{◌≡◌, ◌≤◌, [], IfErr, IfOk};
+ghost use Rattle.std.specs.Prelude.{◌≡◌, ◌≤◌, [], IfOk};
 ghost use Rattle.sight_names.specs.declared.names.Ask.TheVariants.{Enough, Full};
 ghost use Rattle.sight_names.specs.Enough.{IsBudgetOf};
 ghost use Rattle.sight_names.specs.Map.{map_of};
 ghost use Rattle.sight_names.specs.Mesh.{IsGoodMesh, IsMeshOf};
-ghost use Rattle.sight_names.specs.Sound.{IsSound, LinesMeetAtEnds};
+ghost use Rattle.sight_names.specs.Sound.{LinesMeetAtEnds};
 ghost use Rattle.cert_format.specs.Accepted.{IsAccepted, triangles_of, labels_of};
 ghost use Rattle.sight_job.specs.Faces.{AreFacesOf};
 ghost use Rattle.cert_format.specs.Sizes.{sizes_of};
-ghost use Rattle.sight_job.specs.Built.{IsBuildFault, AreVerdicts, HasRaysOfClear, RaysJoinPairs, ListsClear, IsSymmetric, HasDiagonal, HasTreesOfSet, HasTrianglesOf, HasWholeTrees, AreSetApart, AreTreesOfUnspent, AreWholeTrees, HasTreesOfUnspent, IsWhole, DecidesByMesh, ListsSpent};
+ghost use Rattle.sight_job.specs.Built.{AreVerdicts, HasRaysOfClear, RaysJoinPairs, ListsClear, IsSymmetric, HasDiagonal, HasTreesOfSet, HasTrianglesOf, HasWholeTrees, AreSetApart, AreTreesOfUnspent, AreWholeTrees, HasTreesOfUnspent, IsWhole, DecidesByMesh, ListsSpent};
 ghost use Rattle.sight_job.specs.Sight.{AreRaysAlong, HasSightRays, TellsWhoSees};
 ghost use Rattle.pair_budget.specs.Decided.{DecidesOver};
 
 use crate::certificate::{cert_of, labelled};
-use crate::faces::{Faces, faces_of};
+use crate::faces::Faces;
 use cert_format::{Cert, Sizes};
 use enough_budget::enough;
 use mesh_shape::Mesh;
 use pair_budget::{Verdicts, decide};
 use reject_bits::Table;
-use sight_names::{Ask, Budget, BuildFault, Items, LabelFault, Memory, Pair, Plan};
+use sight_names::{Ask, Budget, Items, Memory, Pair, Plan};
 use sight_tree::Tree;
 use sight_workers::{Gate, Job, walk_all};
 use std::alloc::Global;
@@ -35,52 +35,8 @@ pub struct Built {
     pub cert: Cert,
 }
 
-/// The table of a map whose lines meet at ends, by the walks of all its sectors within the budget that is asked for, which
-/// 1 to 64 workers share. The table and the list are those of one worker.
-///
-/// # Errors
-///
-/// `Open` at the least side that names a sector and whose face reaches outside the hull of the points; else `Mixed` at the
-/// least pair of sides on one face that don't name the same sector.
-pub fn build_table<R: Threads + Sync, G: Gate + Sync>(
-    rt: &R,
-    alloc: Global,
-    plan: &Plan,
-    workers: u16,
-    ask: Ask,
-    gate: &G,
-) -> Result<Built, BuildFault>
-    requires audited { LinesMeetAtEnds (map_of plan.now) }
-    requires workers { (1 ≤ workers) × (workers ≤ 64) }
-    ensures sound { IfOk result (λ _. IsSound (map_of plan.now)) }
-    ensures fault { IfErr result (IsBuildFault (map_of plan.now)) }
-    ensures sectors { IfOk result (λ b. b.table.n ≡ plan.now.sectors) }
-    ensures sizes { IfOk result (λ b. b.cert.sizes ≡ sizes_of plan.now) }
-    ensures listed { IfOk result (λ b. b.listed ≡ b.cert.listed) }
-    ensures triangles { IfOk result (λ b. HasTrianglesOf (map_of plan.now) b.cert) }
-    ensures mesh { IfOk result (λ b. IsGoodMesh (map_of plan.now) (triangles_of b.cert) (labels_of b.cert)) }
-    ensures rays { IfOk result HasRaysOfClear }
-    ensures joined { IfOk result (λ b. RaysJoinPairs (map_of plan.now) b.cert) }
-    ensures clear { IfOk result ListsClear }
-    ensures symmetric { IfOk result IsSymmetric }
-    ensures diagonal { IfOk result (HasDiagonal plan.now) }
-    ensures set { IfOk result (HasTreesOfSet plan.now) }
-    ensures trees { IfOk result (λ b. HasWholeTrees (map_of plan.now) b.cert) }
-    ensures whole { ask ≡ Full → IfOk result (IsWhole plan.now) }
-    ensures unspent { IfOk result (HasTreesOfUnspent plan.now ask) }
-    ensures enough { ask ≡ Enough → IfOk result (λ b. b.listed ≡ []) }
-    ensures decided { IfOk result (DecidesByMesh plan.now ask) }
-    ensures spent { IfOk result (ListsSpent plan.now ask) }
-    ensures sight_rays { IfOk result (λ b. HasSightRays (map_of plan.now) b.cert) }
-    ensures sight { IfOk result (λ b. TellsWhoSees (map_of plan.now) b.table b.cert) }
-    ensures accepted { IfOk result (λ b. IsAccepted (map_of plan.now) b.table.bytes b.cert) }
-{
-    let shape = sound_faces(alloc, plan)?;
-    let built = build_over(rt, alloc, plan, &shape, workers, ask, gate)?;
-    Ok(built)
-}
-
-/// The same over faces that are known: the mesh of a sound map with its labels.
+/// The table of a sound map whose mesh and labels are known, by the walks of all its sectors within the budget that is asked
+/// for, which 1 to 64 workers share. The table and the list are those of one worker.
 pub fn build_over<R: Threads + Sync, G: Gate + Sync>(
     rt: &R,
     alloc: Global,
@@ -135,20 +91,6 @@ pub fn build_over<R: Threads + Sync, G: Gate + Sync>(
         listed: verdicts.listed,
         cert,
     })
-}
-
-/// The faces of the map, or why it isn't sound.
-fn sound_faces(alloc: Global, plan: &Plan) -> Result<Faces, BuildFault>
-    requires audited { LinesMeetAtEnds (map_of plan.now) }
-    ensures faces { IfOk result (AreFacesOf plan.now) }
-    ensures fault { IfErr result (IsBuildFault (map_of plan.now)) }
-{
-    match faces_of(alloc, plan) {
-        Ok(faces) => Ok(faces),
-        Err(LabelFault::Open { side }) => Err(BuildFault::Open { side }),
-        Err(LabelFault::Mixed { first, second }) => Err(BuildFault::Mixed { first, second }),
-        Err(LabelFault::Memory) => Err(BuildFault::Memory),
-    }
 }
 
 /// The budget that is asked for.
