@@ -1,5 +1,5 @@
 -- The marks of a picture.
-use Rattle.std.proofs.Common.{◌≡◌, ℕ, zero, List, [], ◌∷◌, refl}
+use Rattle.std.proofs.Common.{ℕ, zero, List, [], ◌∷◌, refl}
 use Rattle.sight_names.specs.Map.{Map}
 use Rattle.map_picture.specs.Picture.{Marked, marked_picture}
 use Rattle.map_picture.specs.Laws.{ShowsMarks}

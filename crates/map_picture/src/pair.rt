@@ -1,13 +1,13 @@
 //! What a picture shows of a pair of sectors, besides its faces.
 
-ghost use Rattle.std.specs.Prelude.{◌≡◌, ◌<◌, ◌++◌, ◌∷◌, [], All, OnOk, length};
+ghost use Rattle.std.specs.Prelude.{◌≡◌, ◌<◌, ◌++◌, All, OnOk, length};
 ghost use Rattle.sight_names.specs.Map.{looked_up, map_of};
 ghost use Rattle.sight_names.specs.Plan.{IsPlanLine};
 ghost use Rattle.sight_names.specs.Ray.{IsInRange};
 ghost use Rattle.geom_exact.specs.Formulas.{AreOnTwoSides, side_value};
 ghost use Rattle.map_picture.specs.Bytes.{coefficient_text, coefficients_text, entered_text, ray_title, side_letter, side_text, sides_text, sight_text, spelled, spot_text, stop_text, stop_texts, stops_text, thousandths_text, triangles_text};
 ghost use Rattle.map_picture.specs.Crossings.{crossing_spot as the_crossing_spot};
-ghost use Rattle.map_picture.specs.Picture.{Entered, JoinsSectors, Stops, numbered, sight_elements};
+ghost use Rattle.map_picture.specs.Picture.{JoinsSectors, numbered, sight_elements};
 
 use crate::crossings::{Spot, crossing_spot};
 use crate::faces::push_triangle;
@@ -220,12 +220,7 @@ fn push_ray(
 }
 
 /// The ray from its first side's line to its last side's.
-pub fn push_sight(
-    out: &mut Vec<u8>,
-    frame: Frame,
-    plan: &Plan,
-    ray: &Ray,
-) -> Result<(), AllocError>
+pub fn push_sight(out: &mut Vec<u8>, frame: Frame, plan: &Plan, ray: &Ray) -> Result<(), AllocError>
     requires { JoinsSectors (map_of plan.now) ray.now }
     ensures { OnOk result (out.new.items ≡ out.old.items ++ spelled frame (map_of plan.now) (sight_elements (map_of plan.now) ray.now)) }
 {
