@@ -53,9 +53,19 @@ module _ (m : Map) (is_map : IsMap m) (ts : List Triangle) (ls : List (Option �
       }
 
   module _ (Claims : ℕ → ℕ → Type 0) (masks : List (Option Row)) (are : AreMasks m Claims masks) (q : Portal) (s : Side) (l : MapLine) (at : line_at m s.line ≡ Some l) (passes : l.solid ≡ false) (edge : side_edge m l s.left ≡ entry_edge q) where
+    -- a gate at that side is this portal
+    same_portal : (b d : ℕ) (r : Portal) → GateLine m b d r (other_side s) → r ≡ q
+    same_portal b d r h =
+        let line : h.line ≡ l = some_is_same h.line l (sym h.is ∙ at) in
+        let e : entry_edge r ≡ entry_edge q = h.edge ∙ ap (λ (k : MapLine). side_edge m k (not (not s.left))) line ∙ ap (side_edge m l) (not_not s.left) ∙ edge in
+        λ i. record { left = (e i).from; right = (e i).to }
+
     behind_side : (o : Option Row) → IsMaskAt m Claims (other_side s) o → IsMaskBehind m Claims q o
     behind_side None none = λ b d gate. none b d q (gate_of_line m b d q (other_side s) (gate_here b d q gate s l at passes edge)) refl
-    behind_side (Some row) some = λ b d gate. some.1 b d q (gate_of_line m b d q (other_side s) (gate_here b d q gate s l at passes edge)) refl
+    behind_side (Some row) ((b, d, r, gate, same), bits) = (
+      (b, d, subst (IsGate m b d) (same_portal b d r (subst (GateLine m b d r) same (line_of_gate m b d r gate))) gate),
+      (λ x y g. bits x y q (gate_of_line m x y q (other_side s) (gate_here x y q g s l at passes edge)) refl),
+    )
 
 pub masks_behind : MasksAreFoundBehind
 masks_behind p ts labels xs joined masks e x is good are h open_edge = at x.entered (h.entered open_edge)

@@ -17,10 +17,10 @@ use Rattle.gate_masks.specs.Masks.{AreMasks, IsLeftOut, mask_at}
 abbrev pub mask_behind : List (Option Row) → HalfEdge → Option Row
 mask_behind masks x = option_and_then (λ s. mask_at masks (other_side s)) x.entered
 
--- the row is the mask of the portal, whatever gate it is; without a row the portal is no gate
+-- the portal is a gate, and the row is its mask, whatever gate it is; without a row the portal is no gate
 abbrev pub IsMaskBehind : Map → (ℕ → ℕ → Type 0) → Portal → Option Row → Type 0
 IsMaskBehind m Claims p None = (b d : ℕ) → ¬ IsGate m b d p
-IsMaskBehind m Claims p (Some row) = (b d : ℕ) → IsGate m b d p → AreBitsOf row.words.items (IsInMask m Claims b d p)
+IsMaskBehind m Claims p (Some row) = ((b : ℕ) × (d : ℕ) × IsGate m b d p) × ((b d : ℕ) → IsGate m b d p → AreBitsOf row.words.items (IsInMask m Claims b d p))
 
 -- what a half-edge of a good mesh finds is the mask of its portal
 abbrev pub MasksAreFoundBehind : Type 0

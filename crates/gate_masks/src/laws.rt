@@ -9,7 +9,7 @@ pub fn masks_are_those_of_claims()
     ensures { MasksAreThoseOfClaims }
 {}
 
-/// A half-edge of a good mesh finds the mask of the portal by which one enters it.
+/// A half-edge of a good mesh finds the mask of the portal by which one enters it, and none where that is no gate.
 pub fn masks_are_found_behind()
     ensures { MasksAreFoundBehind }
 {}

@@ -1,5 +1,6 @@
 -- A tree as far as its nodes have come, and a walk with a row that all of them have answered for.
 use Rattle.std.specs.Prelude.{◌≡◌, ℕ, List, [], Option, Some, None}
+use Rattle.sight_tree.specs.declared.Node.{Node}
 use Rattle.sight_tree.specs.declared.Tree.{Tree}
 use Rattle.half_edges.specs.declared.table.HalfEdge.{HalfEdge}
 use Rattle.tree_judge.specs.declared.roots.Root.{Root}
@@ -9,6 +10,10 @@ use Rattle.row_judge.specs.declared.masks.Masks.{Masks}
 use Rattle.row_judge.specs.declared.walk.RowWalk.{RowWalk}
 use Rattle.row_judge.specs.Asked.{Pending, pending_roots, AreAnswered, IsFirstWrong}
 use Rattle.row_judge.specs.Path.{IsAt}
+
+-- the tree of a source with these nodes
+abbrev pub tree_of : ℕ → List Node → Tree
+tree_of source nodes = record { source = source; nodes = nodes }
 
 module _ (xs : List HalfEdge) (ms : Masks) (first : List ℕ) (roots : List Root) (firsts : List (Option ℕ)) where
   -- all nodes that have come have answered, and the walk stands behind them

@@ -1,11 +1,11 @@
 //! A walk with a row that follows a tree.
 
-ghost use Rattle.std.specs.Prelude.{◌≡◌, ◌+◌, ◌<◌, ◌≤◌, ℕ, List, IsTrue, IfOk, length, not, true, false};
+ghost use Rattle.std.specs.Prelude.{◌≡◌, ◌+◌, ◌<◌, ℕ, List, IfOk, length, not, true, false};
 ghost use Rattle.tree_judge.specs.Path.{IsChain};
 ghost use Rattle.tree_judge.specs.Roots.{first_at};
-ghost use Rattle.row_judge.specs.Asked.{mask_at, way_asked as way_asked_of};
+ghost use Rattle.row_judge.specs.Asked.{way_asked as way_asked_of};
 ghost use Rattle.row_judge.specs.Path.{AsksRoot, EntersThrough, HasAnswered, HasPassedTo, HasRefused, StandsBefore, TakesNext};
-ghost use Rattle.row_judge.specs.Words.{is_away, row_at};
+ghost use Rattle.row_judge.specs.Words.{is_away};
 
 use crate::masks::{Masks, leaves, place_of};
 use crate::words::{has, part, put_both};

@@ -6,30 +6,31 @@ ghost use Rattle.sight_names.specs.Map.{map_of};
 ghost use Rattle.sight_names.specs.declared.names.Triangle.{Triangle};
 ghost use Rattle.cert_format.specs.Parts.{CertParts};
 ghost use Rattle.gate_floods.specs.Exact.{IsClaimed, IsOwned};
-ghost use Rattle.row_judge.specs.Judged.{TellsTree};
+ghost use Rattle.row_judge.specs.Judged.{tree_of, TellsTree};
 ghost use Rattle.row_judge.specs.Laws.{IsGround, TellsByRows};
 
 use crate::masks::Masks;
 use crate::walk::RowWalk;
 use sight_names::Memory;
-use sight_tree::Tree;
+use sight_tree::Nodes;
 use tree_judge::Terrain;
 
-/// The least node of the tree that is missing, superfluous, blocked by ends that aren't ends of its sequence or
-/// aren't stuck, or open though it enters what the row still has.
+/// The least node of the source's tree that is missing, superfluous, blocked by ends that aren't ends of its sequence
+/// or aren't stuck, or open though it enters what the row still has.
 fn first_wrong(
     walk: &mut RowWalk,
     terrain: &Terrain<'_>,
     masks: &Masks<'_>,
     row: &[u64],
-    tree: &Tree,
+    source: u16,
+    nodes: &Nodes,
 ) -> Result<Option<u64>, Memory>
     requires { length row.now ≡ masks.now.width }
-    ensures { IfOk result (TellsTree terrain.now.edges.now masks.now row.now terrain.now.roots.now.roots.items terrain.now.roots.now.first.items tree.now) }
+    ensures { IfOk result (TellsTree terrain.now.edges.now masks.now row.now terrain.now.roots.now.roots.items terrain.now.roots.now.first.items (tree_of source nodes.now)) }
 {
-    walk.begin(terrain, masks, tree.source, row)?;
-    let count = tree.nodes.len();
-    for (number, node) in tree.nodes.iter().enumerate() {
+    walk.begin(terrain, masks, source, row)?;
+    let count = nodes.len();
+    for (number, node) in nodes.iter().enumerate() {
         if !walk.step(terrain, masks, node)? {
             return Ok(Some(number as u64));
         }
@@ -40,17 +41,18 @@ fn first_wrong(
     Ok(Some(count as u64))
 }
 
-/// None where the tree keeps by rows from what its source owns, which is what its first row has; else its first wrong
-/// node. The walk's buffers are used again from tree to tree.
+/// None where the source's tree keeps by rows from what the source owns, which is what its first row has; else its first
+/// wrong node. The walk's buffers are used again from tree to tree.
 pub fn judge_by_rows(
     walk: &mut RowWalk,
     terrain: &Terrain<'_>,
     masks: &Masks<'_>,
     row: &[u64],
-    tree: &Tree,
+    source: u16,
+    nodes: &Nodes,
 ) -> Result<Option<u64>, Memory>
     requires { length row.now ≡ masks.now.width }
-    ensures { (p : PlanParts) (ts : List Triangle) (ls : List (Option ℕ)) (rank : ℕ → ℕ) (cert : CertParts) → IsGround p ts ls terrain.now.edges.now terrain.now.roots.now.roots.items terrain.now.roots.now.first.items masks.now (IsClaimed (map_of p) cert) (IsOwned rank (IsClaimed (map_of p) cert) tree.now.source) row.now → tree.now.source < p.sectors → IfOk result (TellsByRows (map_of p) ts ls terrain.now.edges.now masks.now (IsClaimed (map_of p) cert) (IsOwned rank (IsClaimed (map_of p) cert) tree.now.source) row.now tree.now) }
+    ensures { (p : PlanParts) (ts : List Triangle) (ls : List (Option ℕ)) (rank : ℕ → ℕ) (cert : CertParts) → IsGround p ts ls terrain.now.edges.now terrain.now.roots.now.roots.items terrain.now.roots.now.first.items masks.now (IsClaimed (map_of p) cert) (IsOwned rank (IsClaimed (map_of p) cert) source) row.now → source < p.sectors → IfOk result (TellsByRows (map_of p) ts ls terrain.now.edges.now masks.now (IsClaimed (map_of p) cert) (IsOwned rank (IsClaimed (map_of p) cert) source) row.now (tree_of source nodes.now)) }
 {
-    first_wrong(walk, terrain, masks, row, tree)
+    first_wrong(walk, terrain, masks, row, source, nodes)
 }

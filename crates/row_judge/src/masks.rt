@@ -1,7 +1,6 @@
 //! The masks of gates, by half-edges.
 
 ghost use Rattle.std.specs.Prelude.{◌≡◌};
-ghost use Rattle.row_judge.specs.Words.{has_bit};
 ghost use Rattle.row_judge.specs.Asked.{leaves as leaves_of, mask_at, place_at};
 
 use crate::words::{meet, part};

@@ -1,10 +1,9 @@
 //! A walk with a row that is asked node by node.
 
-ghost use Rattle.std.specs.Prelude.{◌≡◌, ◌≤◌, ℕ, List, Option, length, true, false, IfNone, IfOk, IfSome};
+ghost use Rattle.std.specs.Prelude.{◌≡◌, ℕ, List, length, true, false, IfOk};
 ghost use Rattle.sight_tree.specs.declared.Tree.{Tree as WalkTree};
 ghost use Rattle.tree_judge.specs.Walked.{begun, with_node};
 ghost use Rattle.row_judge.specs.Judged.{IsFirstWrongFrom, IsWalked, IsWholeFrom};
-ghost use Rattle.row_judge.specs.Words.{row_at};
 
 use crate::follow::{RowFollow, Wait, answer, start};
 use crate::masks::Masks;

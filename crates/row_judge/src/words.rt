@@ -1,6 +1,6 @@
 //! Rows of bits in words, the least bit of each word first.
 
-ghost use Rattle.std.specs.Prelude.{◌≡◌, ◌+◌, ◌≤◌, ◌++◌, take, drop, length, slice_index, OnOk};
+ghost use Rattle.std.specs.Prelude.{◌≡◌, ◌+◌, ◌≤◌, ◌++◌, take, length, slice_index, OnOk};
 ghost use Rattle.row_judge.specs.Words.{both_words, has_bit, is_in, row_at};
 
 use sight_names::Memory;

@@ -1,8 +1,9 @@
-use Rattle.std.proofs.Common.{◌≡◌, suc, ◌+◌, ◌∷◌, [], ◌++◌, List, length, sym, ◌∙◌, ap, arith}
+use Rattle.std.proofs.Common.{◌≡◌, ℕ, suc, ◌+◌, ◌∷◌, [], ◌++◌, List, length, sym, ◌∙◌, ap, subst, arith}
 use Rattle.std.proofs.lemmas.List.{append_assoc, length-append}
 use Rattle.sight_tree.specs.declared.Node.{Node}
 use Rattle.sight_tree.specs.declared.Tree.{Tree}
-use Rattle.row_judge.proofs.Walking.{wrong_of}
+use Rattle.row_judge.specs.Judged.{IsFirstWrongFrom}
+use Rattle.row_judge.proofs.Walking.{wrong_of, missing_of}
 use Rattle.row_judge.proofs.judge.first_wrong.Goals as goal
 
 one_longer : (n : Node) (rest ns : List Node) → ns ≡ n ∷ rest → length ns ≡ length rest + 1
@@ -10,7 +11,7 @@ one_longer n rest ns e = let h : length ns ≡ suc (length rest) = ap (λ (us : 
 
 pub returns-then-not-branch : goal.returns-then-not-branch
 returns-then-not-branch c =
-    let t = c.args.tree.now in
+    let t : Tree = record { source = c.args.source; nodes = c.args.nodes.now } in
     let i = c.loop-number.invariant in
     let part : Tree = record { source = t.source; nodes = i.done } in
     wrong_of c.args.terrain.now.edges.now c.args.masks.now c.args.row.now c.args.terrain.now.roots.now.roots.items c.args.terrain.now.roots.now.first.items t i.done c.next.new.self c.in-Some.node c.loop-number.number
@@ -18,7 +19,7 @@ returns-then-not-branch c =
 
 pub loop-number-preserved : goal.loop-number-preserved
 loop-number-preserved c =
-    let t = c.args.tree.now in
+    let t : Tree = record { source = c.args.source; nodes = c.args.nodes.now } in
     let i = c.loop-number.invariant in
     let n = c.in-Some.node in
     let part : Tree = record { source = t.source; nodes = i.done } in
@@ -29,3 +30,12 @@ loop-number-preserved c =
       told = let e : length (i.done ++ n ∷ []) ≡ length i.done + 1 = length-append i.done (n ∷ []) in omega (arith, e, i.told);
       walked = c.in_ok-step.ensures.answered c.args.row.now part i.walked c.if-not-branch.false;
     }
+
+pub returns : goal.returns
+returns c =
+    let t : Tree = record { source = c.args.source; nodes = c.args.nodes.now } in
+    let i = c.loop-number.invariant in
+    let part : Tree = record { source = t.source; nodes = i.done } in
+    subst (λ (k : ℕ). IsFirstWrongFrom c.args.terrain.now.edges.now c.args.masks.now c.args.row.now c.args.terrain.now.roots.now.roots.items c.args.terrain.now.roots.now.first.items t k) (sym c.len-count.ensures)
+    (missing_of c.args.terrain.now.edges.now c.args.masks.now c.args.row.now c.args.terrain.now.roots.now.roots.items c.args.terrain.now.roots.now.first.items t i.done c.loop-number.node-iterator i.split c.in-None.ensures.steps.0
+    (c.is_done.ensures.missing c.args.row.now part i.walked c.if-is_done.false))

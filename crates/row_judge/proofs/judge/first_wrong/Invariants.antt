@@ -5,9 +5,9 @@ use Rattle.row_judge.proofs.judge.first_wrong.Given as goal
 
 abbrev pub invariant-loop-number : goal.invariant-loop-number
 invariant-loop-number l = record {
-  counted : l.number + length l.node-iterator ≡ length l.tree.nodes;
+  counted : l.number + length l.node-iterator ≡ length l.nodes;
   done : List Node;
-  split : l.tree.nodes ≡ done ++ l.node-iterator;
+  split : l.nodes ≡ done ++ l.node-iterator;
   told : length done ≡ l.number;
-  walked : IsWalked l.terrain.edges.now l.masks l.row l.terrain.roots.now.roots.items l.terrain.roots.now.first.items (record { source = l.tree.source; nodes = done }) l.walk;
+  walked : IsWalked l.terrain.edges.now l.masks l.row l.terrain.roots.now.roots.items l.terrain.roots.now.first.items (record { source = l.source; nodes = done }) l.walk;
 }

@@ -1,0 +1,49 @@
+use Rattle.std.proofs.Common.{◌∙◌, List, length, ap, sym, subst}
+use Rattle.sight_names.specs.declared.names.Triangle.{Triangle}
+use Rattle.sight_names.specs.Map.{map_of}
+use Rattle.sight_names.specs.Mesh.{IsGoodMesh}
+use Rattle.sight_names.specs.Plan.{PlanParts}
+use Rattle.cert_format.specs.Accepted.{labels_of}
+use Rattle.cert_exact.specs.Grammar.{as_two}
+use Rattle.group_checker.specs.declared.grouping.MeshVerdict.TheVariants.{Good, Broken}
+use Rattle.group_checker.proofs.Ending.{own_told}
+use Rattle.group_checker.proofs.OneMap.{few_groups, few_triangles, sectors_below, triangles_between}
+use Rattle.exact_checker.proofs.Accepting.{broken_three, grouped_judged}
+use Rattle.exact_checker.proofs.judge.judge_three.Goals as goal
+
+pub judge_mesh-requires-clause-triangles : goal.judge_mesh-requires-clause-triangles
+judge_mesh-requires-clause-triangles c = triangles_between c.args.plan.now (as_two c.args.exact.now) c.requires.cert.two c.as_slice.result.now c.as_slice.ensures
+
+pub judge_mesh-requires-clause-few : goal.judge_mesh-requires-clause-few
+judge_mesh-requires-clause-few c = few_triangles c.args.plan.now (as_two c.args.exact.now) c.requires.cert.two c.as_slice.result.now c.as_slice.ensures
+
+pub judge_mesh-requires-clause-few_groups : goal.judge_mesh-requires-clause-few_groups
+judge_mesh-requires-clause-few_groups c = few_groups c.args.plan.now (as_two c.args.exact.now) c.requires.cert.two c.as_slice-2.result.now c.as_slice-2.ensures
+
+pub judge_mesh-requires-clause-sectors : goal.judge_mesh-requires-clause-sectors
+judge_mesh-requires-clause-sectors c = sectors_below c.args.plan.now (as_two c.args.exact.now) c.requires.cert.two (length c.as_slice-2.result.now) (ap length c.as_slice-2.ensures) c.as_slice.result.now c.as_slice.ensures
+
+pub returns-in-Broken : goal.returns-in-Broken
+returns-in-Broken c =
+    let told = own_told c.args.plan.now (as_two c.args.exact.now) c.as_slice.result.now c.as_slice-2.result.now c.in_ok-judged.judged (Broken c.in-Broken.fault) c.as_slice.ensures c.as_slice-2.ensures c.in-Broken.is c.in_ok-judged.ensures in
+    broken_three c.args.plan.now c.lines.ensures.plan c.args.table.now c.args.exact.now c.requires.table c.requires.cert c.in-Broken.fault told
+
+pub judge_grouped-requires : goal.judge_grouped-requires
+judge_grouped-requires c =
+    let two = as_two c.args.exact.now in
+    let told = own_told c.args.plan.now two c.as_slice.result.now c.as_slice-2.result.now c.in_ok-judged.judged (Good c.in-Good.over) c.as_slice.ensures c.as_slice-2.ensures c.in-Good.is c.in_ok-judged.ensures in
+    record {
+      cert = record { two = (c.requires.cert.two.sizes, c.requires.cert.two.in_order, c.requires.cert.two.sectors ∙ sym c.requires.table); one_each = c.requires.cert.one_each };
+      triangles = told.0;
+      labels = told.1;
+      sectors = ap (λ (x : PlanParts). x.sectors) told.2.grouped_is;
+      plan = told.2.plan;
+      good = subst (λ (ts : List Triangle). IsGoodMesh (map_of c.in-Good.over.plan) ts (labels_of two.cert)) (sym told.0) told.2.good;
+    }
+
+pub returns-in_ok-verdict-in-Good : goal.returns-in_ok-verdict-in-Good
+returns-in_ok-verdict-in-Good c =
+    let two = as_two c.args.exact.now in
+    let told = own_told c.args.plan.now two c.as_slice.result.now c.as_slice-2.result.now c.in_ok-judged.judged (Good c.in-Good.over) c.as_slice.ensures c.as_slice-2.ensures c.in-Good.is c.in_ok-judged.ensures in
+    let e = c.in_ok-verdict-in-Good.ensures in
+    rw c.any_of.ensures (grouped_judged c.args.plan.now c.lines.ensures.plan c.args.table.now c.args.exact.now c.requires.table c.requires.cert c.in-Good.over.plan told.2 c.in_ok-verdict-in-Good.verdict e.later e.rays e.trees e.pairs)

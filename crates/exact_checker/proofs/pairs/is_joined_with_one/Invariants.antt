@@ -1,0 +1,7 @@
+use Rattle.std.proofs.Common.{ℕ}
+use Rattle.gate_masks.specs.Masks.{IsIn}
+use Rattle.group_checker.proofs.Each.{EachBelow}
+use Rattle.exact_checker.proofs.pairs.is_joined_with_one.Given as goal
+
+abbrev pub invariant-loop-other : goal.invariant-loop-other
+invariant-loop-other l = EachBelow (λ (k : ℕ). ¬ IsIn l.joined l.one k) l.others l.other-index

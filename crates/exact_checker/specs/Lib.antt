@@ -1,0 +1,6 @@
+pub mod Rows
+pub mod Owning
+pub mod Masking
+pub mod Pairs
+pub mod Accepted
+pub mod Judged

@@ -1,0 +1,36 @@
+-- The masks of gates by half-edges.
+use Rattle.std.specs.Prelude.{◌≡◌, ℕ, zero, suc, List, [], ◌∷◌, Option, Some, option_and_then, option_map, slice_get, slice_index}
+use Rattle.sight_names.specs.Map.{Map}
+use Rattle.half_edges.specs.declared.table.HalfEdge.{HalfEdge}
+use Rattle.gate_masks.specs.declared.masks.Row.{Row}
+use Rattle.gate_masks.specs.Masks.{AreMasks}
+use Rattle.gate_masks.specs.Behind.{mask_behind}
+use Rattle.row_judge.specs.Asked.{place_at}
+use Rattle.row_judge.specs.Words.{row_at}
+
+-- the mask of the gate by which one comes in at the half-edge, if it is one
+abbrev pub mask_at_edge : List (Option Row) → Option HalfEdge → Option Row
+mask_at_edge masks edge = option_and_then (mask_behind masks) edge
+
+-- n words of the row from place k on, 0 for each that it doesn't have
+abbrev pub words_of : List ℕ → ℕ → ℕ → List ℕ
+words_of row k zero = []
+words_of row k (suc n) = slice_index row k ∷ words_of row (suc k) n
+
+-- so many words of the mask, if there is one
+abbrev pub fitted : ℕ → Option Row → Option (List ℕ)
+fitted width mask = option_map (λ (r : Row). words_of r.words.items 0 width) mask
+
+-- the words of the mask at a half-edge, by the place where they begin
+abbrev pub words_at : ℕ → List (Option ℕ) → List ℕ → ℕ → Option (List ℕ)
+words_at width places words i = option_map (row_at words width) (place_at places i)
+
+-- each half-edge has the mask of the gate by which one comes in there
+abbrev pub HaveMasksOf : List (Option Row) → List HalfEdge → ℕ → List (Option ℕ) → List ℕ → Type 0
+HaveMasksOf masks xs width places words = (i : ℕ) (x : HalfEdge) → slice_get xs i ≡ Some x → words_at width places words i ≡ fitted width (mask_behind masks x)
+
+-- the masks are those of the map's gates, where claims are these
+pub record AreEdgeMasks (m : Map) (Claims : ℕ → ℕ → Type 0) (xs : List HalfEdge) (width : ℕ) (places : List (Option ℕ)) (words : List ℕ) : Type 0 where
+  pub masks : List (Option Row)
+  pub are : AreMasks m Claims masks
+  pub have : HaveMasksOf masks xs width places words

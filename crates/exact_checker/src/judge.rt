@@ -1,0 +1,151 @@
+//! The check in the order of its faults: mesh, groups, rays, trees, pairs.
+
+ghost use Rattle.std.specs.Prelude.{◌≡◌, ◌≤◌, ◌↔◌, IfOk, length};
+ghost use Rattle.sight_names.specs.Map.{map_of};
+ghost use Rattle.sight_names.specs.Mesh.{IsGoodMesh};
+ghost use Rattle.sight_names.specs.Plan.{IsPlan};
+ghost use Rattle.sight_names.specs.Sound.{LinesMeetAtEnds};
+ghost use Rattle.cert_format.specs.Accepted.{triangles_of, labels_of};
+ghost use Rattle.cert_checker.specs.Judged.{IsLaterVerdict, IsPairVerdict, JudgesRays};
+ghost use Rattle.cert_exact.specs.declared.cert.ExactParts.{ExactParts as PartsOf};
+ghost use Rattle.cert_exact.specs.Grammar.{as_two};
+ghost use Rattle.group_checker.specs.Judged.{IsYesAny};
+ghost use Rattle.turned_trees.specs.Exact.{TellsAll};
+ghost use Rattle.exact_checker.specs.Accepted.{IsAcceptedThree};
+ghost use Rattle.exact_checker.specs.Rows.{AreJoinedRows};
+ghost use Rattle.exact_checker.specs.Pairs.{known_of, IsKnown};
+ghost use Rattle.exact_checker.specs.Judged.{IsAbout, IsThreeFor, IsThreeOf, JudgesThree, JudgesTrees, TellsPairs};
+
+use crate::joining::joined_rows;
+use crate::pairs::{Known, judge_pairs};
+use crate::trees::judge_trees;
+use cert_checker::{Verdict, ray_fault};
+use cert_exact::ExactParts;
+use face_groups::Group;
+use gate_masks::Row;
+use group_checker::{AnyVerdict, GroupedMesh, MeshVerdict, any_of, judge_mesh, members_of};
+use half_edges::HalfEdges;
+use reject_bits::Table;
+use sight_names::{CheckFault, MOST_TRIANGLES, Memory, Plan};
+use std::alloc::Global;
+
+/// Judges the pairs of sectors, by what is known.
+fn judge_each_pair(known: Known<'_>, sectors: u16) -> Verdict
+    requires known { IsKnown (known_of known) sectors }
+    ensures kind { IsPairVerdict result }
+    ensures pairs { (c : PartsOf) → IsAbout c (known_of known.entry) → TellsPairs known.entry.table.now (as_two c) result }
+{
+    match judge_pairs(known, sectors) {
+        Ok(totals) => Verdict::Yes(totals),
+        Err(fault) => Verdict::No(fault),
+    }
+}
+
+/// Judges the pairs of sectors, by groups and by the rows of what is joined with each.
+fn judge_sectors(
+    alloc: Global,
+    table: &Table,
+    groups: &[Group],
+    joined: &[Row],
+) -> Result<Verdict, Memory>
+    requires few { length groups.now ≤ MOST_TRIANGLES }
+    ensures kind { IfOk result IsPairVerdict }
+    ensures pairs { (c : PartsOf) → c.groups ≡ groups.now → AreJoinedRows (length c.groups) c.rays joined.now → IfOk result (TellsPairs table.now (as_two c)) }
+{
+    let sectors = table.sectors();
+    let members = members_of(alloc, groups, sectors)?;
+    let known = Known {
+        table,
+        members: members.as_slice(),
+        joined,
+    };
+    Ok(judge_each_pair(known, sectors))
+}
+
+/// Judges rays and trees over the map of groups, and then the pairs of sectors.
+fn judge_grouped(
+    alloc: Global,
+    table: &Table,
+    exact: &ExactParts,
+    over: &GroupedMesh,
+) -> Result<Verdict, Memory>
+    requires cert { IsThreeOf table.now.n exact.now }
+    requires triangles { over.now.mesh.triangles ≡ triangles_of (as_two exact.now).cert }
+    requires labels { over.now.labels ≡ labels_of (as_two exact.now).cert }
+    requires sectors { over.now.plan.sectors ≡ length exact.now.groups }
+    requires plan { IsPlan over.now.plan }
+    requires good { IsGoodMesh (map_of over.now.plan) over.now.mesh.triangles (labels_of (as_two exact.now).cert) }
+    ensures later { IfOk result IsLaterVerdict }
+    ensures rays { IfOk result (JudgesRays (map_of over.now.plan) (as_two exact.now).cert) }
+    ensures trees { IfOk result (JudgesTrees (map_of over.now.plan) exact.now) }
+    ensures pairs { IfOk result (TellsPairs table.now (as_two exact.now)) }
+{
+    let edges = HalfEdges::of(alloc, &over.plan, &over.mesh, &over.labels)?;
+    let rays = exact.rays.as_slice();
+    if let Some(fault) = ray_fault(&over.plan, &over.mesh, &edges, rays) {
+        return Ok(Verdict::No(fault));
+    }
+    let joined = joined_rows(alloc, over.plan.sectors, rays)?;
+    let wrong = judge_trees(
+        alloc,
+        over,
+        &edges,
+        joined.as_slice(),
+        exact.trees.as_slice(),
+    )?;
+    match wrong {
+        Some(wrong) => Ok(Verdict::No(CheckFault::Tree {
+            source: wrong.source,
+            node: wrong.node,
+        })),
+        None => judge_sectors(alloc, table, exact.groups.as_slice(), joined.as_slice()),
+    }
+}
+
+/// The first fault in the order of mesh, groups, rays, trees and pairs, or yes.
+fn judge_three(
+    alloc: Global,
+    plan: &Plan,
+    table: &Table,
+    exact: &ExactParts,
+) -> Result<AnyVerdict, Memory>
+    requires table { table.now.n ≡ plan.now.sectors }
+    requires cert { IsThreeFor plan.now exact.now }
+    ensures { IfOk result (JudgesThree plan.now table.now exact.now) }
+{
+    let _ = plan.lines();
+    let judged = judge_mesh(
+        alloc,
+        plan,
+        exact.triangles.as_slice(),
+        exact.groups.as_slice(),
+    )?;
+    match judged {
+        MeshVerdict::Broken(fault) => Ok(AnyVerdict::No(fault)),
+        MeshVerdict::Good(over) => {
+            let verdict = judge_grouped(alloc, table, exact, &over)?;
+            Ok(any_of(verdict))
+        }
+    }
+}
+
+/// Judges the table by a certificate of version 3: yes with the totals exactly where the certificate is accepted, or
+/// the first fault in order. On yes the table tells of each two sectors whether they see each other. A set bit of two
+/// sectors some groups of which are joined is `Unproved`, a clear one of two no groups of which are joined is
+/// `Uncovered`; no pair is `ListedSet`, as none is listed.
+pub fn check_exact(
+    alloc: Global,
+    plan: &Plan,
+    table: &Table,
+    exact: &ExactParts,
+) -> Result<AnyVerdict, Memory>
+    requires audited { LinesMeetAtEnds (map_of plan.now) }
+    requires table { table.now.n ≡ plan.now.sectors }
+    requires cert { IsThreeFor plan.now exact.now }
+    ensures exact { IfOk result (JudgesThree plan.now table.now exact.now) }
+    ensures accepted { IfOk result (λ v. IsYesAny v ↔ IsAcceptedThree (map_of plan.now) table.now.bytes exact.now) }
+    ensures sight { IfOk result (λ v. IsYesAny v → TellsAll (map_of plan.now) table.now) }
+{
+    let _ = plan.lines();
+    judge_three(alloc, plan, table, exact)
+}

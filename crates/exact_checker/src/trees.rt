@@ -1,0 +1,90 @@
+//! The trees of all groups, one after another, each by the row of what its group owns.
+
+ghost use Rattle.std.specs.Prelude.{◌≡◌, ◌*◌, ◌≤◌, IfOk, length};
+ghost use Rattle.sight_names.specs.Map.{map_of};
+ghost use Rattle.cert_exact.specs.declared.cert.ExactParts.{ExactParts as PartsOf};
+ghost use Rattle.exact_checker.specs.Owning.{IsSized};
+ghost use Rattle.exact_checker.specs.Judged.{AnswersForEach, AreTreesOf, TellsTrees};
+
+use crate::masking::edge_masks;
+use crate::owning::{Owning, owned_row};
+use crate::ranking::ranks_of;
+use gate_masks::Row;
+use group_checker::GroupedMesh;
+use half_edges::HalfEdges;
+use row_judge::{Masks, RowWalk, judge_by_rows};
+use sight_names::Memory;
+use sight_tree::Nodes;
+use std::alloc::Global;
+use tree_judge::{Roots, Terrain};
+use tri_sectors::components;
+
+/// The first node of the first tree that is wrong, and the tree's group.
+#[derive(Clone, Copy)]
+pub struct WrongNode {
+    pub source: u16,
+    pub node: u64,
+}
+
+/// The first wrong node of the first tree that doesn't answer for all that is asked with the row of what its group
+/// owns.
+fn wrong_node(
+    alloc: Global,
+    known: Owning<'_>,
+    terrain: &Terrain<'_>,
+    masks: &Masks<'_>,
+    trees: &[Nodes],
+) -> Result<Option<WrongNode>, Memory>
+    requires sized { IsSized known }
+    requires room { known.count ≤ 64 * masks.now.width }
+    requires one_each { length trees.now ≡ known.count }
+    ensures { IfOk result (AnswersForEach terrain.now.edges.now masks.now terrain.now.roots.now.roots.items terrain.now.roots.now.first.items known.entry trees.now) }
+{
+    let mut walk = RowWalk::new(alloc);
+    for (number, nodes) in trees.iter().enumerate() {
+        let source = number as u16;
+        let row = owned_row(alloc, known, masks.width, source)?;
+        let row = row.as_slice();
+        if let Some(node) = judge_by_rows(&mut walk, terrain, masks, row, source, nodes)? {
+            return Ok(Some(WrongNode { source, node }));
+        }
+    }
+    Ok(None)
+}
+
+/// None where the tree of each group keeps from all that the group owns; else the first wrong node of the first tree
+/// that doesn't.
+pub fn judge_trees(
+    alloc: Global,
+    over: &GroupedMesh,
+    edges: &HalfEdges,
+    joined: &[Row],
+    trees: &[Nodes],
+) -> Result<Option<WrongNode>, Memory>
+    requires one_each { length trees.now ≡ over.now.plan.sectors }
+    requires rows { length joined.now ≡ over.now.plan.sectors }
+    requires few { length edges.now ≤ 3 * 65535 }
+    ensures { (c : PartsOf) → AreTreesOf c over.now.plan over.now.mesh.triangles edges.now joined.now trees.now → IfOk result (TellsTrees (map_of over.now.plan) c) }
+{
+    let plan = &over.plan;
+    let components = components(alloc, plan)?;
+    let ranks = ranks_of(alloc, plan.sectors, joined)?;
+    let roots = Roots::of(alloc, plan, &over.mesh, edges)?;
+    let kept = edge_masks(alloc, plan, edges, joined)?;
+    let terrain = Terrain {
+        edges,
+        roots: &roots,
+    };
+    let masks = Masks {
+        width: kept.width,
+        places: kept.places.as_slice(),
+        words: kept.words.as_slice(),
+    };
+    let known = Owning {
+        count: plan.sectors,
+        components: components.as_slice(),
+        ranks: ranks.as_slice(),
+        joined,
+    };
+    wrong_node(alloc, known, &terrain, &masks, trees)
+}
