@@ -45,11 +45,10 @@ use Rattle.group_checker.proofs.Ending.{its_own}
 use Rattle.group_checker.proofs.OneMap.{each_at, label_within, one_label_each, has_label, names_grouped, one_map}
 use Rattle.turned_trees.specs.Exact.{TellsAll}
 use Rattle.gate_floods.specs.Bits.{rank_of}
-use Rattle.gate_floods.specs.Exact.{IsClaimed, IsExactOver}
+use Rattle.gate_floods.specs.Exact.{IsAcceptedThree, IsClaimed, IsExactOver}
 use Rattle.gate_floods.specs.Rows.{KeepsByRows}
-use Rattle.gate_floods.proofs.Tells.{exact_tells}
+use Rattle.gate_floods.proofs.Tells.{version_three_tells}
 use Rattle.row_judge.specs.Judged.{tree_of}
-use Rattle.exact_checker.specs.Accepted.{IsAcceptedThree}
 use Rattle.exact_checker.specs.Judged.{IsThreeFor, JudgesThree, JudgesTrees, Owns, TellsPairs}
 
 -- ---- trees in order
@@ -203,7 +202,7 @@ module _ (p : PlanParts) (is : IsPlan p) (t : TableParts) (c : ExactParts) (size
   yes_exactly_three (No f) h = (λ y. absurd y, λ a. absurd (refused (over_it a) f h))
 
   pub yes_tells : LinesMeetAtEnds (map_of p) → (v : AnyVerdict) → JudgesThree p t c v → IsYesAny v → TellsAll (map_of p) t
-  yes_tells ends v h y = exact_tells (rank_of c.rays (length c.groups)) p t (as_two c) is ends size ((yes_exactly_three v h).0 y)
+  yes_tells ends v h y = version_three_tells p t c is ends size ((yes_exactly_three v h).0 y)
 
   -- ---- the answer at each end
 

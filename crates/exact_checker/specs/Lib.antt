@@ -2,5 +2,4 @@ pub mod Rows
 pub mod Owning
 pub mod Masking
 pub mod Pairs
-pub mod Accepted
 pub mod Judged

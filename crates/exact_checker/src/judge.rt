@@ -11,7 +11,7 @@ ghost use Rattle.cert_exact.specs.declared.cert.ExactParts.{ExactParts as PartsO
 ghost use Rattle.cert_exact.specs.Grammar.{as_two};
 ghost use Rattle.group_checker.specs.Judged.{IsYesAny};
 ghost use Rattle.turned_trees.specs.Exact.{TellsAll};
-ghost use Rattle.exact_checker.specs.Accepted.{IsAcceptedThree};
+ghost use Rattle.gate_floods.specs.Exact.{IsAcceptedThree};
 ghost use Rattle.exact_checker.specs.Rows.{AreJoinedRows};
 ghost use Rattle.exact_checker.specs.Pairs.{known_of, IsKnown};
 ghost use Rattle.exact_checker.specs.Judged.{IsAbout, IsThreeFor, IsThreeOf, JudgesThree, JudgesTrees, TellsPairs};

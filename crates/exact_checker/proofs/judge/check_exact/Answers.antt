@@ -3,7 +3,7 @@ use Rattle.std.proofs.lemmas.Result.{IfOk-weaker}
 use Rattle.sight_names.specs.Map.{map_of}
 use Rattle.turned_trees.specs.Exact.{TellsAll}
 use Rattle.group_checker.specs.Judged.{IsYesAny}
-use Rattle.exact_checker.specs.Accepted.{IsAcceptedThree}
+use Rattle.gate_floods.specs.Exact.{IsAcceptedThree}
 use Rattle.exact_checker.specs.Judged.{JudgesThree}
 use Rattle.exact_checker.proofs.Accepting.{yes_exactly_three, yes_tells}
 use Rattle.exact_checker.proofs.judge.check_exact.Goals as goal
