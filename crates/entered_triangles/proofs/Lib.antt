@@ -1,0 +1,11 @@
+pub mod Near
+pub mod Strolling
+pub mod Told
+pub mod Marking
+pub mod Walking
+pub mod AllWalks
+pub mod StopOrder
+pub mod Leaving
+pub mod Stopping
+pub mod Together
+pub mod Within
