@@ -29,8 +29,8 @@ use Rattle.groups_base.proofs.Ordered.{empty_has_none, same_groups}
 use Rattle.groups_base.proofs.SameLines.{HaveSameLines, line_of, lines_alike}
 use Rattle.groups_base.proofs.SamePoints.{mesh_alike, no_line_edge, plain_alike, side_edge_alike}
 use Rattle.cert_format.specs.declared.cert.Labelled.{Labelled}
-use Rattle.sight_job.specs.Labelled.{labelled_of}
-use Rattle.sight_job.proofs.GoodLabelled.{triangle_list, label_list, kept, placed, label_at, label_there, found_too, labelled_are_good}
+use Rattle.group_job.specs.Labelled.{labelled_of}
+use Rattle.group_job.proofs.GoodLabelled.{triangle_list, label_list, kept, placed, label_at, label_there, found_too, labelled_are_good}
 
 module _ (p : PlanParts) (plan : IsPlan p) (faces : HasClosedFaces (map_of p)) (groups : List (List ℕ)) (are : AreGroups (map_of p) groups) (g : Map) (is : IsGroupedMap (map_of p) groups g)
     (ts : List Triangle) (mesh : IsMeshOf g ts) (ls : List (Option ℕ)) (labelled : AreLabelsOf g ts ls) where

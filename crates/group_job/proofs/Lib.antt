@@ -1,3 +1,11 @@
+pub mod LabelledLaws
+pub mod LabelledTrees
+pub mod BuildLaws
+pub mod VerdictLaws
+pub mod GoodLabelled
+pub mod Seeing
+pub mod KeptTrees
+pub mod Building
 pub mod Marks
 pub mod Following
 pub mod Steps
@@ -7,6 +15,7 @@ pub mod OneWalk
 pub mod Finding
 pub mod GroupPairs
 pub mod SectorPairs
+pub mod BudgetLaws
 pub mod Certifying
 pub mod Walking
 pub mod TwoSizes

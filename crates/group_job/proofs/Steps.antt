@@ -7,8 +7,8 @@ use Rattle.groups_base.proofs.Ordered.{at_contains, contains_at}
 use Rattle.pair_budget.proofs.FoundSectorsLaws.{pair_is}
 use Rattle.reject_bits.specs.Parts.{TableParts, Rejects}
 use Rattle.group_job.specs.Marks.{SetsMore, OfSteps, HasSteps}
-use Rattle.group_job.specs.Sectors.{AreListed, HasClearPairs, HasOtherBits}
-use Rattle.group_job.proofs.Marks.{sets_as}
+use Rattle.group_job.specs.Sectors.{AreListed, AreListedByGroups, HasClearPairs, HasOtherBits}
+use Rattle.group_job.proofs.Marks.{sets_as, sets_then}
 use Rattle.group_job.proofs.Following.{in_table}
 
 -- ---- one sector with the i-th of some
@@ -100,6 +100,43 @@ pairs_set pairs old new = sets_as (OfSteps (PairStep pairs) (length pairs)) (Are
     back : (c d : ℕ) → AreListed pairs c d → OfSteps (PairStep pairs) (length pairs) c d
     back c d (inl h) = let x = contains_at pairs (record { a = c; b = d }) h in (x.0, slice_get_within pairs x.0 (record { a = c; b = d }) x.1, inl x.1)
     back c d (inr h) = let x = contains_at pairs (record { a = d; b = c }) h in (x.0, slice_get_within pairs x.0 (record { a = d; b = c }) x.1, inr x.1)
+
+-- ---- the sectors of the groups of the i-th pair, both ways
+
+abbrev pub ListedStep : List (List ℕ) → List Pair → ℕ → ℕ → ℕ → Type 0
+ListedStep groups pairs i c d = (f k : ℕ) × IsInGroup groups c f × IsInGroup groups d k × PairStep pairs i f k
+
+pub listed_step : (groups : List (List ℕ)) (pairs : List Pair) (i : ℕ) (q : Pair) (from to : List ℕ) (old mid new : TableParts) → slice_get pairs i ≡ Some q → slice_get groups q.a ≡ Some from → slice_get groups q.b ≡ Some to
+    → SetsMore (λ c d. Contains from c × Contains to d) old mid → SetsMore (λ c d. Contains to c × Contains from d) mid new → SetsMore (ListedStep groups pairs i) old new
+listed_step groups pairs i q from to old mid new at at_a at_b before more =
+    sets_as (λ c d. (Contains from c × Contains to d) ⊎ (Contains to c × Contains from d)) (ListedStep groups pairs i) old new forth back (sets_then (λ c d. Contains from c × Contains to d) (λ c d. Contains to c × Contains from d) old mid new before more)
+  where
+    own : slice_get pairs i ≡ Some (record { a = q.a; b = q.b })
+    own = at ∙ ap (λ (r : Pair). Some r) (pair_is q q.a q.b refl refl)
+
+    forth : (c d : ℕ) → (Contains from c × Contains to d) ⊎ (Contains to c × Contains from d) → ListedStep groups pairs i c d
+    forth c d (inl h) = (q.a, q.b, (from, at_a, h.0), (to, at_b, h.1), inl own)
+    forth c d (inr h) = (q.b, q.a, (to, at_b, h.0), (from, at_a, h.1), inr own)
+
+    in_this : (n f c : ℕ) (xs : List ℕ) → slice_get groups n ≡ Some xs → f ≡ n → IsInGroup groups c f → Contains xs c
+    in_this n f c xs there e h = subst (λ (ys : List ℕ). Contains ys c) (same_Some h.0 xs (sym h.1 ∙ (ap (slice_get groups) e ∙ there))) h.2
+
+    back : (c d : ℕ) → ListedStep groups pairs i c d → (Contains from c × Contains to d) ⊎ (Contains to c × Contains from d)
+    back c d (f, k, hc, hd, inl x) = let e = same_Some (record { a = f; b = k }) q (sym x ∙ at) in inl (in_this q.a f c from at_a (ap (λ (r : Pair). r.a) e) hc, in_this q.b k d to at_b (ap (λ (r : Pair). r.b) e) hd)
+    back c d (f, k, hc, hd, inr x) = let e = same_Some (record { a = k; b = f }) q (sym x ∙ at) in inr (in_this q.b f c to at_b (ap (λ (r : Pair). r.b) e) hc, in_this q.a k d from at_a (ap (λ (r : Pair). r.a) e) hd)
+
+pub listed_set : (groups : List (List ℕ)) (pairs : List Pair) (old new : TableParts) → SetsMore (OfSteps (ListedStep groups pairs) (length pairs)) old new → SetsMore (AreListedByGroups pairs groups) old new
+listed_set groups pairs old new = sets_as (OfSteps (ListedStep groups pairs) (length pairs)) (AreListedByGroups pairs groups) old new
+    (λ c d w. (w.2.0, w.2.1, w.2.2, w.2.3, listed_of (length pairs) w.2.0 w.2.1 (w.0, w.1, w.2.4)))
+    (λ c d h. let w = of_listed h.0 h.1 h.4 in (w.0, w.1, (h.0, h.1, h.2, h.3, w.2)))
+  where
+    listed_of : (n f k : ℕ) → OfSteps (PairStep pairs) n f k → AreListed pairs f k
+    listed_of n f k (i, lt, inl x) = inl (at_contains pairs (record { a = f; b = k }) (i, x))
+    listed_of n f k (i, lt, inr x) = inr (at_contains pairs (record { a = k; b = f }) (i, x))
+
+    of_listed : (f k : ℕ) → AreListed pairs f k → OfSteps (PairStep pairs) (length pairs) f k
+    of_listed f k (inl x) = let y = contains_at pairs (record { a = f; b = k }) x in (y.0, slice_get_within pairs y.0 (record { a = f; b = k }) y.1, inl y.1)
+    of_listed f k (inr x) = let y = contains_at pairs (record { a = k; b = f }) x in (y.0, slice_get_within pairs y.0 (record { a = k; b = f }) y.1, inr y.1)
 
 -- ---- the bits that another table hasn't
 

@@ -7,9 +7,9 @@ use Rattle.sight_names.specs.Map.{map_of}
 use Rattle.sight_names.specs.Mesh.{IsMeshOf}
 use Rattle.sight_names.specs.Sound.{LinesMeetAtEnds}
 use Rattle.groups_base.specs.Found.{AreFoundGroups}
-use Rattle.sight_job.specs.declared.faces.Faces.{Faces}
-use Rattle.sight_job.specs.Faces.{AreFacesOf}
-use Rattle.sight_job.proofs.GoodLabelled.{label_there}
+use Rattle.group_job.specs.declared.faces.Faces.{Faces}
+use Rattle.group_job.specs.Faces.{AreFacesOf}
+use Rattle.group_job.proofs.GoodLabelled.{label_there}
 
 pub faces_of_groups : (p gp : PlanParts) (groups : List (List ℕ)) (f : Faces) → LinesMeetAtEnds (map_of p) → f.mesh.points ≡ length p.points → IsMeshOf (map_of p) f.mesh.triangles → gp.points ≡ p.points → gp.sectors ≡ length groups
     → AreFoundGroups (map_of p) f.mesh.triangles groups (map_of gp) f.labels → AreFacesOf gp f

@@ -1,21 +1,26 @@
 -- What a build of a map with closed faces gives: of its sectors, and of its groups.
-use Rattle.std.specs.Prelude.{◌≡◌, ◌≢◌, ℕ, ◌<◌, ◌⊎◌, ◌↔◌, List, Option, length, Contains, ⊤}
+use Rattle.std.specs.Prelude.{◌≡◌, ◌≢◌, ℕ, ◌<◌, ◌⊎◌, ◌↔◌, List, [], Option, length, Contains, ⊤}
 use Rattle.sight_names.specs.declared.names.Ask.{Ask}
+use Rattle.sight_names.specs.declared.names.Ask.TheVariants.{Enough, Full}
 use Rattle.sight_names.specs.declared.names.Budget.{Budget}
 use Rattle.sight_names.specs.declared.names.Pair.{Pair}
 use Rattle.sight_names.specs.declared.names.Triangle.{Triangle}
-use Rattle.sight_names.specs.Map.{Map}
+use Rattle.sight_names.specs.Map.{Map, map_of}
+use Rattle.sight_names.specs.Plan.{PlanParts}
 use Rattle.sight_names.specs.Sees.{Sees}
 use Rattle.sight_names.specs.Mesh.{IsMeshOf, AreLabelsOf}
 use Rattle.sight_names.specs.Enough.{IsBudgetOf}
 use Rattle.sight_names.specs.Found.{AreConnected, Found, Spent}
-use Rattle.sight_names.specs.Groups.{IsGroupedMap, IsListedByGroups}
+use Rattle.sight_names.specs.Groups.{AreGroups, IsGroupedMap, IsListedByGroups}
 use Rattle.sight_tree.specs.declared.Tree.{Tree}
 use Rattle.reject_bits.specs.Parts.{Rejects}
 use Rattle.mesh_shape.specs.Faults.{IsFirstSideAgainst}
 use Rattle.tri_sectors.specs.Verdict.{IsClosedSide}
 use Rattle.cert_format.specs.declared.cert.Sizes.{Sizes}
 use Rattle.cert_format.specs.Accepted.{HasRay}
+use Rattle.cert_format.specs.Sizes.{sizes_of}
+use Rattle.cert_groups.specs.Grammar.{IsAnyInOrder}
+use Rattle.accepted_groups.specs.Accepted.{IsAcceptedAny}
 use Rattle.cert_groups.specs.declared.cert.CertTwo.{CertTwo}
 use Rattle.cert_groups.specs.declared.cert.AnyCert.{AnyCert}
 use Rattle.cert_groups.specs.declared.cert.AnyCert.TheVariants.{One, Two}
@@ -89,3 +94,21 @@ FindsConnected {m} {ask} {groups} w f = (k : ℕ) → k < length groups → f �
 -- each group whose budget isn't spent has its tree, but for those that need none
 abbrev pub HasTreesOfUnspent : Map → Ask → CertTwo → Type 0
 HasTreesOfUnspent m ask c = (w : WalkedMap m ask c.groups) (f : ℕ) → f < length c.groups → ¬ Spent w.g w.triangles w.labels f w.budget → HasTreeOf c f ⊎ FindsConnected w f
+
+-- ---- all of it
+
+-- what is known of the build of a map within the budget that was asked for
+pub record IsGroupBuild (p : PlanParts) (ask : Ask) (b : GroupBuilt) : Type 0 where
+  pub sectors : b.table.n ≡ p.sectors
+  pub sizes : IsTwoOf (sizes_of p) b.cert
+  pub in_order : IsAnyInOrder b.cert
+  pub groups : OfTwo (λ c. AreGroups (map_of p) c.groups) b.cert
+  pub listed : OfTwo (λ c. c.listed ≡ b.listed) b.cert
+  pub symmetric : IsSymmetric b
+  pub sight : TellsSectors (map_of p) b
+  pub by_groups : DecidesByGroups (map_of p) ask b
+  pub rays : OfTwo (HasRaysOfFound (map_of p) ask) b.cert
+  pub trees : OfTwo (HasTreesOfUnspent (map_of p) ask) b.cert
+  pub enough : ask ≡ Enough → b.listed ≡ []
+  pub whole : ask ≡ Full → b.listed ≡ []
+  pub accepted : IsAcceptedAny (map_of p) b.table.bytes b.cert

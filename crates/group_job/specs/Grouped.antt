@@ -4,7 +4,7 @@ use Rattle.sight_names.specs.Groups.{AreGroups, HasClosedFaces, IsGroupedMap}
 use Rattle.sight_names.specs.Limits.{most_triangles}
 use Rattle.sight_names.specs.Map.{map_of}
 use Rattle.sight_names.specs.Plan.{IsPlan, PlanParts}
-use Rattle.sight_job.specs.Faces.{AreFacesOf}
+use Rattle.group_job.specs.Faces.{AreFacesOf}
 use Rattle.group_job.specs.declared.grouped.MapOfGroups.{MapOfGroups}
 
 -- the map has closed faces; these are its groups, and this is its map of groups with its faces, over the same points

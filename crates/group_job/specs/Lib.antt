@@ -1,6 +1,10 @@
 pub mod Built
+pub mod Faces
 pub mod Grouped
+pub mod Labelled
 pub mod Marks
+pub mod Results
 pub mod Rows
 pub mod Sectors
+pub mod Sight
 pub mod Walked

@@ -13,7 +13,15 @@ AreListed pairs a b = Contains pairs (record { a = a; b = b }) ⊎ Contains pair
 abbrev pub AreClearByGroups : TableParts → List (List ℕ) → ℕ → ℕ → Type 0
 AreClearByGroups t groups a b = (f k : ℕ) × IsInGroup groups a f × IsInGroup groups b k × ¬ Rejects t f k
 
--- the same of groups that aren't listed either: they see each other
+-- some groups that contain the two sectors are listed
+abbrev pub AreListedByGroups : List Pair → List (List ℕ) → ℕ → ℕ → Type 0
+AreListedByGroups pairs groups a b = (f k : ℕ) × IsInGroup groups a f × IsInGroup groups b k × AreListed pairs f k
+
+-- the bits of these pairs are clear
+abbrev pub AreClear : TableParts → List Pair → Type 0
+AreClear t pairs = (q : Pair) → Contains pairs q → ¬ Rejects t q.a q.b × ¬ Rejects t q.b q.a
+
+-- the bit of some groups that contain the two sectors is clear, and they aren't listed: they see each other
 abbrev pub AreSeenByGroups : TableParts → List Pair → List (List ℕ) → ℕ → ℕ → Type 0
 AreSeenByGroups t pairs groups a b = (f k : ℕ) × IsInGroup groups a f × IsInGroup groups b k × (¬ Rejects t f k × ¬ AreListed pairs f k)
 

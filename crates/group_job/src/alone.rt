@@ -9,47 +9,15 @@ ghost use Rattle.cert_format.specs.Sizes.{sizes_of};
 ghost use Rattle.cert_groups.specs.Grammar.{IsAnyInOrder};
 ghost use Rattle.accepted_groups.specs.Accepted.{IsAcceptedAny};
 ghost use Rattle.group_job.specs.Built.{IsGroupFault, IsSymmetric, TellsSectors, DecidesByGroups, IsTwoOf, OfTwo, HasRaysOfFound, HasTreesOfUnspent};
-ghost use Rattle.group_job.specs.Walked.{AreWalkedGroups};
 
-use crate::build::{GroupBuilt, map_sizes, without_list};
-use crate::grouped::{MapOfGroups, map_of_groups};
-use crate::sectors::{copied, sector_table};
-use crate::walked::WalkedGroups;
-use cert_groups::{AnyCert, CertTwo};
+use crate::build::{GroupBuilt, by_sectors};
+use crate::grouped::map_of_groups;
+use crate::walked::{budget_for, built_of};
 use face_groups::GroupFault;
-use sight_job::build_alone_over;
 use sight_names::{Ask, Plan};
-use sight_workers::Gate;
+use sight_workers::{Gate, Job, walk_alone};
 use std::alloc::Global;
-
-/// The build of the map of groups by one worker, without a thread.
-///
-/// # Errors
-///
-/// `Open` at the least side that names a sector and whose face reaches outside the convex hull of the points.
-pub fn walk_groups_alone<G: Gate>(
-    alloc: Global,
-    plan: &Plan,
-    ask: Ask,
-    gate: &G,
-) -> Result<WalkedGroups, GroupFault>
-    requires audited { LinesMeetAtEnds (map_of plan.now) }
-    ensures walked { IfOk result (λ w. AreWalkedGroups plan.now w.plan ask w.groups w.built) }
-    ensures fault { IfErr result (IsGroupFault (map_of plan.now)) }
-{
-    let MapOfGroups {
-        groups,
-        plan: grouped,
-        faces,
-    } = map_of_groups(alloc, plan)?;
-    let built = build_alone_over(alloc, &grouped, &faces, ask, gate)?;
-    let _ = built.cert.triangles();
-    Ok(WalkedGroups {
-        groups,
-        plan: grouped,
-        built,
-    })
-}
+use tri_sectors::components;
 
 /// The table of a map whose lines meet at ends, by the walks of all its groups within the budget that is asked for, without
 /// a thread. A bit is set where the bits of all groups that contain the two sectors are.
@@ -80,19 +48,17 @@ pub fn build_table_alone<G: Gate>(
     ensures whole { ask ≡ Full → IfOk result (λ b. b.listed ≡ []) }
     ensures accepted { IfOk result (λ b. IsAcceptedAny (map_of plan.now) b.table.bytes b.cert) }
 {
-    let sizes = map_sizes(plan);
-    let WalkedGroups { groups, built, .. } = walk_groups_alone(alloc, plan, ask, gate)?;
-    let cert = without_list(alloc, built.cert);
-    let sectors = sector_table(alloc, sizes.sectors, &groups, built.table, &built.listed)?;
-    let listed = copied(alloc, &sectors.listed)?;
-    let two = CertTwo {
-        groups,
-        cert,
-        listed,
+    let map = map_of_groups(alloc, plan)?;
+    let components = components(alloc, &map.plan)?;
+    let job = Job {
+        plan: &map.plan,
+        mesh: &map.faces.mesh,
+        labels: &map.faces.labels,
+        components: components.as_slice(),
+        budget: budget_for(ask, &map.plan, &map.faces.mesh),
     };
-    Ok(GroupBuilt {
-        table: sectors.table,
-        listed: sectors.listed,
-        cert: AnyCert::Two(two, sizes),
-    })
+    let gathered = walk_alone(alloc, job, gate)?;
+    let built = built_of(alloc, job, gathered.results.into_vec())?;
+    let told = by_sectors(alloc, plan, map, built)?;
+    Ok(told)
 }

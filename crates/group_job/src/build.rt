@@ -1,26 +1,31 @@
 //! The build of one map with closed faces.
 
-ghost use Rattle.std.specs.Prelude.{◌≡◌, ◌≤◌, [], IfErr, IfOk};
+ghost use Rattle.std.specs.Prelude.{◌≡◌, ◌≤◌, [], IfErr, IfOk, length};
+ghost use Rattle.sight_names.specs.declared.names.Ask.{Ask as AskOf};
 ghost use Rattle.sight_names.specs.declared.names.Ask.TheVariants.{Enough, Full};
+ghost use Rattle.sight_names.specs.declared.names.Budget.{Budget as BudgetOf};
 ghost use Rattle.sight_names.specs.Groups.{AreGroups, HasClosedFaces};
 ghost use Rattle.sight_names.specs.Map.{map_of};
 ghost use Rattle.sight_names.specs.Sound.{LinesMeetAtEnds};
 ghost use Rattle.cert_format.specs.Sizes.{sizes_of};
 ghost use Rattle.cert_groups.specs.Grammar.{IsAnyInOrder};
 ghost use Rattle.accepted_groups.specs.Accepted.{IsAcceptedAny};
-ghost use Rattle.group_job.specs.Built.{IsGroupFault, IsSymmetric, TellsSectors, DecidesByGroups, IsTwoOf, OfTwo, HasRaysOfFound, HasTreesOfUnspent};
+ghost use Rattle.group_job.specs.Built.{IsGroupFault, IsSymmetric, TellsSectors, DecidesByGroups, IsGroupBuild, IsTwoOf, OfTwo, HasRaysOfFound, HasTreesOfUnspent};
+ghost use Rattle.group_job.specs.Sectors.{AreClear, AreOfSectors, ArePairsBelow};
+ghost use Rattle.group_job.specs.Walked.{AreWalkedGroups};
 
+use crate::certificate::map_sizes;
+use crate::grouped::{MapOfGroups, map_of_groups};
 use crate::sectors::{copied, sector_table};
-use crate::walked::{WalkedGroups, walk_groups};
-use cert_format::{Cert, Sizes};
+use crate::walked::{Built, budget_for, built_of};
 use cert_groups::{AnyCert, CertTwo};
 use face_groups::GroupFault;
 use reject_bits::Table;
-use sight_job::cert_of;
-use sight_names::{Ask, Items, Pair, Plan};
-use sight_workers::Gate;
+use sight_names::{Ask, Items, Memory, Pair, Plan};
+use sight_workers::{Gate, Job, walk_all};
 use std::alloc::Global;
 use std::thread::Threads;
+use tri_sectors::components;
 
 /// The table of a map's sectors, the pairs that aren't decided within the budgets, and the certificate of both, which is of
 /// version 2.
@@ -31,36 +36,38 @@ pub struct GroupBuilt {
     pub cert: AnyCert,
 }
 
-/// The sizes of the map of a plan.
-pub(crate) fn map_sizes(plan: &Plan) -> Sizes
-    ensures { result ≡ sizes_of plan.now }
+/// The table, the list and the certificate of a map's sectors, from those of its groups.
+pub(crate) fn by_sectors(
+    alloc: Global,
+    plan: &Plan,
+    map: MapOfGroups,
+    built: Built,
+) -> Result<GroupBuilt, Memory>
+    requires count { built.table.n ≡ length map.groups }
+    requires below { AreOfSectors plan.now.sectors map.groups }
+    requires pairs { ArePairsBelow built.table.n built.listed }
+    requires clear { AreClear built.table built.listed }
+    ensures { (ask : AskOf) (budget : BudgetOf) → AreWalkedGroups plan.now ask map budget built → IfOk result (IsGroupBuild plan.now ask) }
 {
-    Sizes {
-        sectors: plan.sectors,
-        points: plan.points().len() as u16,
-        lines: plan.lines().len() as u16,
-    }
-}
-
-/// The certificate without its listed pairs.
-pub(crate) fn without_list(alloc: Global, cert: Cert) -> Cert
-    ensures is { result ≡ record { sizes = cert.sizes; triangles = cert.triangles; rays = cert.rays; listed = []; trees = cert.trees } }
-{
-    let _ = cert.triangles();
-    let Cert {
-        sizes,
-        triangles,
-        rays,
-        trees,
-        ..
-    } = cert;
-    cert_of(
-        sizes,
-        triangles.into_vec(),
-        rays.into_vec(),
-        Vec::new(alloc),
-        trees.into_vec(),
-    )
+    let sizes = map_sizes(plan);
+    let sectors = sector_table(
+        alloc,
+        sizes.sectors,
+        &map.groups,
+        built.table,
+        &built.listed,
+    )?;
+    let listed = copied(alloc, &sectors.listed)?;
+    let two = CertTwo {
+        groups: map.groups,
+        cert: built.cert,
+        listed,
+    };
+    Ok(GroupBuilt {
+        table: sectors.table,
+        listed: sectors.listed,
+        cert: AnyCert::Two(two, sizes),
+    })
 }
 
 /// The table of a map whose lines meet at ends, by the walks of all its groups within the budget that is asked for, which 1 to
@@ -95,19 +102,17 @@ pub fn build_table<R: Threads + Sync, G: Gate + Sync>(
     ensures whole { ask ≡ Full → IfOk result (λ b. b.listed ≡ []) }
     ensures accepted { IfOk result (λ b. IsAcceptedAny (map_of plan.now) b.table.bytes b.cert) }
 {
-    let sizes = map_sizes(plan);
-    let WalkedGroups { groups, built, .. } = walk_groups(rt, alloc, plan, workers, ask, gate)?;
-    let cert = without_list(alloc, built.cert);
-    let sectors = sector_table(alloc, sizes.sectors, &groups, built.table, &built.listed)?;
-    let listed = copied(alloc, &sectors.listed)?;
-    let two = CertTwo {
-        groups,
-        cert,
-        listed,
+    let map = map_of_groups(alloc, plan)?;
+    let components = components(alloc, &map.plan)?;
+    let job = Job {
+        plan: &map.plan,
+        mesh: &map.faces.mesh,
+        labels: &map.faces.labels,
+        components: components.as_slice(),
+        budget: budget_for(ask, &map.plan, &map.faces.mesh),
     };
-    Ok(GroupBuilt {
-        table: sectors.table,
-        listed: sectors.listed,
-        cert: AnyCert::Two(two, sizes),
-    })
+    let gathered = walk_all(rt, alloc, job, workers, gate)?;
+    let built = built_of(alloc, job, gathered.results.into_vec())?;
+    let told = by_sectors(alloc, plan, map, built)?;
+    Ok(told)
 }

@@ -6,9 +6,9 @@ ghost use Rattle.sight_names.specs.Sound.{LinesMeetAtEnds};
 ghost use Rattle.group_job.specs.Built.{IsGroupFault};
 ghost use Rattle.group_job.specs.Grouped.{IsMapOfGroups};
 
+use crate::faces::{Faces, triangles_of};
 use cert_groups::Group;
 use face_groups::{GroupFault, Grouped, group_map};
-use sight_job::{Faces, triangles_of};
 use sight_names::{Items, Plan};
 use std::alloc::Global;
 

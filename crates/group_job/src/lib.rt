@@ -6,10 +6,13 @@
 
 mod alone;
 mod build;
+mod certificate;
+mod faces;
 mod grouped;
 mod sectors;
 mod walked;
 
 pub use alone::build_table_alone;
 pub use build::{GroupBuilt, build_table};
+pub use faces::Faces;
 pub use grouped::{MapOfGroups, map_of_groups};

@@ -4,7 +4,7 @@ ghost use Rattle.std.specs.Prelude.{◌≡◌, ℕ, ◌+◌, ◌<◌, Contains, 
 ghost use Rattle.sight_names.specs.Groups.{IsInGroup};
 ghost use Rattle.reject_bits.specs.Parts.{Rejects};
 ghost use Rattle.group_job.specs.Marks.{SetsMore};
-ghost use Rattle.group_job.specs.Sectors.{AreListed, AreOfSectors, ArePairsBelow, HasClearPairs, HasOtherBits, ListsBetween, FollowGroups};
+ghost use Rattle.group_job.specs.Sectors.{AreClear, AreListed, AreListedByGroups, AreOfSectors, ArePairsBelow, HasClearPairs, HasOtherBits, ListsBetween, FollowGroups};
 ghost use Rattle.group_job.specs.Rows.{ListedBefore};
 
 use cert_groups::Group;
@@ -88,6 +88,20 @@ fn set_pairs(table: &mut Table, pairs: &[Pair])
     }
 }
 
+/// Sets the bits of each sector of one group with each sector of the other, both ways, for each of these pairs of groups.
+fn set_listed(marks: &mut Table, groups: &[Group], pairs: &[Pair])
+    requires below { AreOfSectors marks.old.n groups.now }
+    requires pairs { ArePairsBelow (length groups.now) pairs.now }
+    ensures { SetsMore (AreListedByGroups pairs.now groups.now) marks.old marks.new }
+{
+    for i in 0..pairs.len() {
+        let from = groups[pairs[i].a as usize].as_slice();
+        let to = groups[pairs[i].b as usize].as_slice();
+        set_block(marks, from, to);
+        set_block(marks, to, from);
+    }
+}
+
 /// Sets those bits of a row that the other table hasn't.
 fn set_other_row(table: &mut Table, marks: &Table, a: u16)
     requires sectors { table.old.n ≡ marks.now.n }
@@ -151,14 +165,19 @@ pub fn sector_table(
     requires groups { table.n ≡ length groups.now }
     requires below { AreOfSectors sectors groups.now }
     requires pairs { ArePairsBelow table.n pairs.now }
+    requires clear { AreClear table pairs.now }
     ensures { IfOk result (λ s. FollowGroups table pairs.now groups.now sectors s.table s.listed) }
 {
-    let clear = clear_pairs(alloc, sectors, groups.as_slice(), &table)?;
+    let (groups, pairs) = (groups.as_slice(), pairs.as_slice());
     let mut unseen = table;
-    set_pairs(&mut unseen, pairs.as_slice());
-    let seen = clear_pairs(alloc, sectors, groups.as_slice(), &unseen)?;
-    let listed = listed_between(alloc, &clear, &seen)?;
-    let table = other_bits(alloc, &clear)?;
+    set_pairs(&mut unseen, pairs);
+    let mut seen = clear_pairs(alloc, sectors, groups, &unseen)?;
+    let mut marks = Table::clear(alloc, sectors)?;
+    set_listed(&mut marks, groups, pairs);
+    let listed = listed_between(alloc, &marks, &seen)?;
+    // the bits of listed groups are clear, so these are all clear pairs then
+    set_listed(&mut seen, groups, pairs);
+    let table = other_bits(alloc, &seen)?;
     Ok(SectorTable {
         table,
         listed: Items::of(listed),

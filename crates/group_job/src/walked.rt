@@ -1,56 +1,67 @@
-//! The walks over the map of groups.
+//! The table and the certificate that the walks of all sources of a map come to.
 
-ghost use Rattle.std.specs.Prelude.{◌≤◌, IfErr, IfOk};
+ghost use Rattle.std.specs.Prelude.{◌≡◌, IfOk, length};
+ghost use Rattle.sight_names.specs.Enough.{IsBudgetOf};
 ghost use Rattle.sight_names.specs.Map.{map_of};
-ghost use Rattle.sight_names.specs.Sound.{LinesMeetAtEnds};
-ghost use Rattle.group_job.specs.Built.{IsGroupFault};
-ghost use Rattle.group_job.specs.Walked.{AreWalkedGroups};
+ghost use Rattle.sight_names.specs.Mesh.{IsMeshOf};
+ghost use Rattle.tri_sectors.specs.Components.{AreComponents};
+ghost use Rattle.group_job.specs.Faces.{AreFacesOf, faces_of_job};
+ghost use Rattle.group_job.specs.Results.{AreResultsOf, IsBuiltOver};
 
-use crate::grouped::{MapOfGroups, map_of_groups};
-use cert_groups::Group;
-use face_groups::GroupFault;
-use sight_job::{Built, build_over};
-use sight_names::{Ask, Items, Plan};
-use sight_workers::Gate;
+use crate::certificate::{cert_of, labelled, map_sizes};
+use cert_format::Cert;
+use enough_budget::enough;
+use mesh_shape::Mesh;
+use pair_budget::{SourceResult, decide};
+use reject_bits::Table;
+use sight_names::{Ask, Budget, Items, Memory, Pair, Plan};
+use sight_workers::Job;
 use std::alloc::Global;
-use std::thread::Threads;
 
-/// The groups of a map, its map of groups, and what was built over that.
+/// A map's table, the pairs whose budgets ran out, and a certificate of the others, which lists no pair.
 #[derive(Drop)]
-pub struct WalkedGroups {
-    pub groups: Items<Group>,
-    pub plan: Plan,
-    pub built: Built,
+pub struct Built {
+    pub table: Table,
+    pub listed: Items<Pair>,
+    pub cert: Cert,
 }
 
-/// The build of the map of groups.
-///
-/// # Errors
-///
-/// `Open` at the least side that names a sector and whose face reaches outside the convex hull of the points.
-pub fn walk_groups<R: Threads + Sync, G: Gate + Sync>(
-    rt: &R,
-    alloc: Global,
-    plan: &Plan,
-    workers: u16,
-    ask: Ask,
-    gate: &G,
-) -> Result<WalkedGroups, GroupFault>
-    requires audited { LinesMeetAtEnds (map_of plan.now) }
-    requires workers { (1 ≤ workers) × (workers ≤ 64) }
-    ensures walked { IfOk result (λ w. AreWalkedGroups plan.now w.plan ask w.groups w.built) }
-    ensures fault { IfErr result (IsGroupFault (map_of plan.now)) }
+/// The budget that is asked for.
+pub(crate) fn budget_for(ask: Ask, plan: &Plan, mesh: &Mesh) -> Budget
+    requires { IsMeshOf (map_of plan.now) mesh.now.triangles }
+    ensures { IsBudgetOf (map_of plan.now) ask result }
 {
-    let MapOfGroups {
-        groups,
-        plan: grouped,
-        faces,
-    } = map_of_groups(alloc, plan)?;
-    let built = build_over(rt, alloc, &grouped, &faces, workers, ask, gate)?;
-    let _ = built.cert.triangles();
-    Ok(WalkedGroups {
-        groups,
-        plan: grouped,
-        built,
+    match ask {
+        Ask::Of(n) => Budget::Of(n),
+        Ask::Full => Budget::Full,
+        Ask::Enough => Budget::Of(enough(plan, mesh)),
+    }
+}
+
+/// What the results of all sources of a job come to, over the faces of a sound map.
+pub(crate) fn built_of(
+    alloc: Global,
+    job: Job<'_>,
+    results: Vec<SourceResult>,
+) -> Result<Built, Memory>
+    requires faces { AreFacesOf job.plan.now (faces_of_job job) }
+    requires components { AreComponents (map_of job.plan.now) job.components.now }
+    requires len { length job.components.now ≡ job.plan.now.sectors }
+    requires results { AreResultsOf job results.items }
+    ensures { IfOk result (IsBuiltOver job.entry.plan.now (faces_of_job job.entry) job.entry.budget) }
+{
+    let verdicts = decide(alloc, job.plan, job.components, results)?;
+    let triangles = labelled(alloc, job.mesh, job.labels)?;
+    let cert = cert_of(
+        map_sizes(job.plan),
+        triangles,
+        verdicts.rays.into_vec(),
+        Vec::new(alloc),
+        verdicts.trees.into_vec(),
+    );
+    Ok(Built {
+        table: verdicts.table,
+        listed: verdicts.listed,
+        cert,
     })
 }

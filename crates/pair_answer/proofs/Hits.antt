@@ -19,8 +19,8 @@ use Rattle.pair_budget.specs.Exact.{IsExact}
 use Rattle.pair_budget.specs.Notes.{ordered}
 use Rattle.pair_budget.specs.Through.{AreThrough}
 use Rattle.pair_budget.specs.Walked.{AreReached, IsReachedFrom, MarksFound}
-use Rattle.sight_job.specs.Sight.{IsFoundAlong}
-use Rattle.sight_job.proofs.Seeing.{sight_ray_along}
+use Rattle.group_job.specs.Sight.{IsFoundAlong}
+use Rattle.group_job.proofs.Seeing.{sight_ray_along}
 use Rattle.pair_answer.specs.Seeking.{hits, pair_once, pair_with, told}
 use Rattle.pair_answer.specs.Walks.{HasNoTarget, IsFoundTarget, IsRayTo, MissesAll}
 

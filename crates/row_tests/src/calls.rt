@@ -1,7 +1,6 @@
 //! Calls of the crates below that no row reaches, and a run on a real disk.
 
 ghost use Rattle.std.specs.Prelude.{◌<◌, length};
-ghost use Rattle.board_core.specs.Machine.{State, Worker, CanStep, IsActive, idle, start, after};
 
 use crate::table::ran;
 use block_evidence::{Evidence, four};

@@ -121,10 +121,11 @@ fn steps_of(alloc: Global, plan: &Plan, source: u16) -> Result<Vec<Step>, Memory
     let Ok(map) = map_of_groups(alloc, plan) else {
         return Ok(steps);
     };
-    if source >= map.plan.sectors {
+    let (plan, mesh, labels) = (&map.plan, &map.faces.mesh, &map.faces.labels);
+    if source >= plan.sectors {
         return Ok(steps);
     }
-    let mut walker = Walker::new(alloc, &map.plan, &map.faces.mesh, &map.faces.labels, source)?;
+    let mut walker = Walker::new(alloc, plan, mesh, labels, source)?;
     for _ in 0..100 {
         match walker.next()? {
             Step::End => break,

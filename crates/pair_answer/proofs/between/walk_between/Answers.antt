@@ -5,7 +5,7 @@ use Rattle.pair_answer.specs.Numbers.{AreBelow}
 use Rattle.pair_answer.specs.Walks.{AreMissed, AreSought}
 use Rattle.std.specs.Prelude.{IfOk}
 use Rattle.sight_names.proofs.PlanMap.{plan_is_map}
-use Rattle.sight_job.proofs.VerdictLaws.{tells_connected}
+use Rattle.group_job.proofs.VerdictLaws.{tells_connected}
 use Rattle.group_job.proofs.Finding.{found_sees}
 use Rattle.pair_answer.specs.Between.{IsBack, IsBetween}
 use Rattle.pair_answer.specs.Places.{AreJoined}

@@ -1,5 +1,5 @@
 -- Pairs that no line splits are pairs of ends of the same portals, so ends with one code are one end.
-use Rattle.std.proofs.Common.{◌≡◌, List, All, Some, refl, sym, ap, ◌∙◌}
+use Rattle.std.proofs.Common.{◌≡◌, List, All, Some, sym, ap, ◌∙◌}
 use Rattle.std.proofs.lemmas.List.Elements.{All-contains}
 use Rattle.std.proofs.lemmas.Option.{same_Some}
 use Rattle.sight_names.specs.declared.names.EndAt.{EndAt}
