@@ -1,0 +1,90 @@
+-- The answer of a pair's picture.
+use Rattle.std.proofs.Common.{◌≡◌, inl, inr, ℕ, ◌<◌, List, All, Option, Some, None, Result, Ok, Err, codes, length, refl, sym, subst}
+use Rattle.std.specs.Prelude.{IfOk}
+use Rattle.sight_names.specs.declared.names.Ask.{Ask}
+use Rattle.sight_names.specs.declared.names.Budget.{Budget}
+use Rattle.sight_names.specs.declared.names.Memory.{Memory}
+use Rattle.sight_names.specs.declared.names.Pair.{Pair}
+use Rattle.sight_names.specs.declared.names.Triangle.{Triangle}
+use Rattle.sight_names.specs.Enough.{IsBudgetOf}
+use Rattle.sight_names.specs.Groups.{HasClosedFaces}
+use Rattle.sight_names.specs.Map.{Map}
+use Rattle.sight_names.specs.Mesh.{AreTriangles}
+use Rattle.map_picture.specs.declared.pair.Stop.{Stop}
+use Rattle.sight_status.specs.declared.status.Status.{Status}
+use Rattle.sight_status.specs.declared.status.Status.TheVariants as status
+use Rattle.sight_status.specs.declared.status.Why.TheVariants as why
+use Rattle.sight_status.specs.Answer.{Gives}
+use Rattle.map_answers.specs.Groups.{IsOverGroups, MapGroups}
+use Rattle.map_answers.specs.Sound.{HasSoundLines}
+use Rattle.pair_answer.specs.declared.answer.PairAnswer.{PairAnswer}
+use Rattle.pair_answer.specs.Answer.{IsAnswerFor}
+use Rattle.pair_answer.specs.Places.{ArePlacesOf}
+use Rattle.entered_triangles.specs.declared.entered.Entered.{Entered}
+use Rattle.entered_triangles.specs.Answer.{IsEnteredWithin}
+use Rattle.entered_triangles.proofs.Within.{stops_from_within, stops_to_within, triangles_within}
+use Rattle.draw_answers.specs.declared.drawn.Drawn.{Drawn}
+use Rattle.draw_answers.specs.Drawn.{IsMadeOf, drawing, drawn_answer}
+use Rattle.draw_answers.specs.Pair.{DrawPairCalls, IsEnteredFrom, IsEnteredOfPair, IsEnteredOver, IsPairIfMade, ShowsBlind, ShowsPair, entered_drawing, word_drawing}
+
+-- ---- what is entered
+
+module _ (g : MapGroups) (budget : Budget) where
+  is_from : (sector : ℕ) (sources : List ℕ) → ArePlacesOf g.groups sector sources → (o : Option Entered) → IsEnteredWithin g.grouped g.triangles g.labels budget sources o → IsEnteredFrom g budget sector o
+  is_from sector sources places (Some e) h = record { sources = sources; places = places; within = h }
+  is_from sector sources places None h = (sources, places, h)
+
+  pub entered_from_places : (sector : ℕ) (sources : List ℕ) → ArePlacesOf g.groups sector sources → (r : Result (Option Entered) Memory) → IfOk r (IsEnteredWithin g.grouped g.triangles g.labels budget sources) → IfOk r (IsEnteredFrom g budget sector)
+  entered_from_places sector sources places (Ok o) h = is_from sector sources places o h
+  entered_from_places sector sources places (Err m) h = tt
+
+-- ---- it can be drawn
+
+pub record Fits (ts : List Triangle) (n : ℕ) (e : Entered) : Type 0 where
+  pub triangles : All (λ (k : ℕ). k < length ts) e.triangles.items
+  pub from : All (λ (s : Stop). s.from < n) e.stops.items
+  pub to : All (λ (s : Stop). s.to < n) e.stops.items
+
+module _ (g : MapGroups) (budget : Budget) (n : ℕ) (triangles : AreTriangles n g.triangles) where
+  fits_over : (sector : ℕ) (e : Entered) → IsEnteredOver g budget sector e → Fits g.triangles n e
+  fits_over sector e h =
+      let are = h.within.entered in record {
+        triangles = triangles_within g.grouped g.triangles g.labels h.sources e are;
+        from = stops_from_within g.grouped g.triangles g.labels n h.sources e triangles are;
+        to = stops_to_within g.grouped g.triangles g.labels n h.sources e triangles are;
+      }
+
+  pub fits_pair : (pair : Pair) (e : Entered) → IsEnteredOfPair g budget pair (Some e) → Fits g.triangles n e
+  fits_pair pair e (inl h) = fits_over pair.a e h
+  fits_pair pair e (inr (out, h)) = fits_over pair.b e h
+
+-- ---- what an answer calls for
+
+module _ (name : List ℕ) (m : Map) (pair : Pair) (g : MapGroups) (ask : Ask) where
+  pub shows_entered : (budget : Budget) (e : Entered) → IsBudgetOf g.grouped ask budget → IsEnteredOfPair g budget pair (Some e) → (r : Result Drawn Memory)
+      → IfOk r (λ d. drawing d ≡ entered_drawing name m pair g e.triangles.items e.stops.items) → IfOk r (λ d. ShowsBlind name m pair g ask (drawing d))
+  shows_entered budget e is (inl h) (Ok d) same = (budget, is, inl (record { entered = e; over = h; is = same }))
+  shows_entered budget e is (inr (out, h)) (Ok d) same = (budget, is, inr (inl (out, record { entered = e; over = h; is = same })))
+  shows_entered budget e is h (Err x) same = tt
+
+  pub shows_none : (budget : Budget) → IsBudgetOf g.grouped ask budget → IsEnteredOfPair g budget pair None → (r : Result Drawn Memory)
+      → IfOk r (λ d. drawing d ≡ word_drawing name m pair g (codes " blind\n")) → IfOk r (λ d. ShowsBlind name m pair g ask (drawing d))
+  shows_none budget is h (Ok d) same = (budget, is, inr (inr (h.0, h.1, same)))
+  shows_none budget is h (Err x) same = tt
+
+  pub shown_made : (given : PairAnswer) (r : Result Drawn Memory) (s : Result Drawn Status) → IfOk r (λ d. ShowsPair name m pair g ask given (drawing d)) → IsMadeOf r s → IsPairIfMade name m pair g ask given s
+  shown_made given (Ok d) s h made = subst (λ (x : Result Drawn Status). IsPairIfMade name m pair g ask given x) (sym made) h
+  shown_made given (Err e) s h made = subst (λ (x : Result Drawn Status). IsPairIfMade name m pair g ask given x) (sym made) tt
+
+  module _ (out : List ℕ) (lines : HasSoundLines m) (over : IsOverGroups m g) where
+    pub gives_pair : (given : PairAnswer) → IsAnswerFor m ask pair given → (s : Result Drawn Status) → IsPairIfMade name m pair g ask given s → Gives (¬ HasClosedFaces m) (DrawPairCalls name out ask pair m) (drawn_answer out s)
+    gives_pair given is_answer (Ok d) h = record {
+      called = (lines.meet, record { groups = g; over = over; called = record { given = given; is_answer = is_answer; shown = drawing d; shows = h; is = refl } });
+      only = λ sole. absurd (sole over.faces);
+    }
+    gives_pair given is_answer (Err status.Memory) h = tt
+    gives_pair given is_answer (Err (status.No (why.NoSector k))) h = record {
+      called = (lines.meet, record { groups = g; over = over; called = subst (λ (x : PairAnswer). IsAnswerFor m ask pair x) h is_answer });
+      only = λ sole. absurd (sole over.faces);
+    }
+    gives_pair given is_answer (Err s) h = absurd h

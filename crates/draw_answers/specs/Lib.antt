@@ -1,0 +1,7 @@
+pub mod Drawn
+pub mod Lines
+pub mod Plan
+pub mod Row
+pub mod Faults
+pub mod Pair
+pub mod Laws

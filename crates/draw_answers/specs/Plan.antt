@@ -1,0 +1,21 @@
+-- What a picture of the plan alone calls for.
+use Rattle.std.specs.Prelude.{◌≡◌, ℕ, List, Result, Ok}
+use Rattle.sight_names.specs.Map.{Map}
+use Rattle.sight_status.specs.declared.status.Status.{Status}
+use Rattle.sight_status.specs.Answer.{Answer}
+use Rattle.map_picture.specs.Bytes.{svg_of}
+use Rattle.map_picture.specs.Picture.{plan_picture}
+use Rattle.map_answers.specs.Groups.{MapGroups, OnAudited}
+use Rattle.draw_answers.specs.Drawn.{Drawing, one_picture}
+use Rattle.draw_answers.specs.Lines.{plan_line}
+
+abbrev pub plan_drawing : List ℕ → Map → Drawing
+plan_drawing name m = record { bytes = svg_of m (plan_picture m); line = plan_line name m }
+
+-- of a map that is sound
+abbrev pub PlanCall : List ℕ → List ℕ → Map → MapGroups → Result Answer Status → Type 0
+PlanCall name out m g answer = answer ≡ Ok (one_picture out (plan_drawing name m))
+
+-- the answers that it calls for
+abbrev pub DrawPlanCalls : List ℕ → List ℕ → Map → Result Answer Status → Type 0
+DrawPlanCalls name out m answer = OnAudited m (PlanCall name out m) answer

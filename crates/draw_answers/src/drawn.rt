@@ -1,0 +1,26 @@
+//! What is drawn.
+
+ghost use Rattle.std.specs.Prelude.{◌≡◌, IfErr};
+ghost use Rattle.draw_answers.specs.Drawn.{IsMadeOf};
+ghost use Rattle.sight_status.specs.declared.status.Status.TheVariants as status;
+
+use sight_names::Memory;
+use sight_status::Status;
+
+/// The bytes of a picture, and the line that tells of it.
+#[derive(Drop)]
+pub struct Drawn {
+    pub picture: Vec<u8>,
+    pub line: String,
+}
+
+/// What was drawn, or the want of memory.
+pub fn made(drawn: Result<Drawn, Memory>) -> Result<Drawn, Status>
+    ensures made { IsMadeOf drawn result }
+    ensures refusals { IfErr result (λ s. s ≡ status.Memory) }
+{
+    match drawn {
+        Ok(drawn) => Ok(drawn),
+        Err(_) => Err(Status::Memory),
+    }
+}

@@ -1,0 +1,70 @@
+//! What sight out of the groups of a sector enters, and where it ends.
+
+ghost use Rattle.std.specs.Prelude.{IfOk};
+ghost use Rattle.sight_names.specs.Enough.{IsBudgetOf};
+ghost use Rattle.sight_names.specs.Map.{map_of};
+ghost use Rattle.sight_names.specs.Mesh.{IsMeshOf};
+ghost use Rattle.map_answers.specs.Groups.{AreGroupsOver, seen};
+ghost use Rattle.draw_answers.specs.Pair.{IsEnteredFrom, IsEnteredOfPair};
+
+use crate::audited::count_of;
+use crate::places::places_of;
+use enough_budget::enough;
+use entered_triangles::{Entered, entered_out_of};
+use map_answers::MeshGroups;
+use mesh_shape::Mesh;
+use sight_names::{Ask, Budget, Memory, Pair, Plan};
+use std::alloc::Global;
+
+/// The budget that is asked for.
+pub fn budget_for(ask: Ask, plan: &Plan, mesh: &Mesh) -> Budget
+    requires { IsMeshOf (map_of plan.now) mesh.now.triangles }
+    ensures { IsBudgetOf (map_of plan.now) ask result }
+{
+    match ask {
+        Ask::Of(n) => Budget::Of(n),
+        Ask::Full => Budget::Full,
+        Ask::Enough => Budget::Of(enough(plan, mesh)),
+    }
+}
+
+/// What sight out of the groups of a sector enters; nothing where the walk of one of them doesn't end within the budget.
+fn entered_from(
+    alloc: Global,
+    plan: &Plan,
+    groups: &MeshGroups,
+    budget: Budget,
+    sector: u16,
+) -> Result<Option<Entered>, Memory>
+    requires groups { AreGroupsOver plan.now groups.now }
+    ensures { IfOk result (IsEnteredFrom (seen groups.now) budget sector) }
+{
+    let grouped = &groups.grouped;
+    let count = count_of(&grouped.plan);
+    let sources = places_of(alloc, grouped.groups.as_slice(), count, sector)?;
+    entered_out_of(
+        alloc,
+        &grouped.plan,
+        &groups.mesh,
+        &grouped.labels,
+        budget,
+        sources.as_slice(),
+    )
+}
+
+/// The same of the first sector of a pair, or else of the second.
+pub fn entered_of_pair(
+    alloc: Global,
+    plan: &Plan,
+    groups: &MeshGroups,
+    budget: Budget,
+    pair: Pair,
+) -> Result<Option<Entered>, Memory>
+    requires groups { AreGroupsOver plan.now groups.now }
+    ensures { IfOk result (IsEnteredOfPair (seen groups.now) budget pair) }
+{
+    match entered_from(alloc, plan, groups, budget, pair.a)? {
+        Some(entered) => Ok(Some(entered)),
+        None => entered_from(alloc, plan, groups, budget, pair.b),
+    }
+}

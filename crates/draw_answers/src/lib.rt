@@ -1,0 +1,20 @@
+//! Pictures of a map that was read: the plan, the row of a table, what a pair of sectors sees, or the first fault of the map;
+//! each with the line that tells of it.
+#![tactic(auto)]
+
+mod audited;
+mod drawn;
+mod entering;
+mod faults;
+pub mod laws;
+mod lines;
+mod pair;
+mod places;
+mod plan;
+mod row;
+
+pub use drawn::Drawn;
+pub use faults::draw_faults;
+pub use pair::draw_pair;
+pub use plan::draw_plan;
+pub use row::draw_row;

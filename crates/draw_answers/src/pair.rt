@@ -1,0 +1,193 @@
+//! The picture of a pair of sectors.
+
+ghost use Rattle.std.specs.Prelude.{◌≡◌, ◌<◌, All, IfErr, IfOk, List, ℕ, length};
+ghost use Rattle.sight_names.specs.Groups.{HasClosedFaces};
+ghost use Rattle.sight_names.specs.Map.{map_of};
+ghost use Rattle.map_picture.specs.Picture.{JoinsSectors};
+ghost use Rattle.sight_status.specs.Answer.{Gives};
+ghost use Rattle.map_answers.specs.Groups.{AreGroupsOver, seen};
+ghost use Rattle.pair_answer.specs.Answer.{IsAnswerFor};
+ghost use Rattle.draw_answers.specs.Drawn.{IsOfDrawTest, drawing, drawn_answer};
+ghost use Rattle.draw_answers.specs.Pair.{DrawPairCalls, IsPairIfMade, ShowsBlind, entered_drawing, sight_drawing, word_drawing};
+
+use crate::audited::groups_of;
+use crate::drawn::{Drawn, made};
+use crate::entering::{budget_for, entered_of_pair};
+use crate::lines::{blind_line, word_line};
+use entered_triangles::Entered;
+use map_answers::MeshGroups;
+use map_picture::{blind_picture, pair_picture, sight_picture};
+use pair_answer::{PairAnswer, pair_answer};
+use sight_names::{Ask, Memory, Pair, Plan, Ray};
+use sight_status::{Status, Why};
+use std::alloc::Global;
+
+/// The faces of a pair, and its line that ends with this word.
+fn drawn_word(
+    alloc: Global,
+    plan: &Plan,
+    groups: &MeshGroups,
+    map: &str,
+    pair: Pair,
+    word: &str,
+) -> Result<Drawn, Memory>
+    requires groups { AreGroupsOver plan.now groups.now }
+    requires points { groups.now.mesh.points ≡ length plan.now.points }
+    ensures { IfOk result (λ d. drawing d ≡ word_drawing map.now (map_of plan.now) pair (seen groups.now) word.now) }
+{
+    let grouped = &groups.grouped;
+    let picture = pair_picture(
+        alloc,
+        plan,
+        &groups.mesh,
+        &grouped.labels,
+        grouped.groups.as_slice(),
+        pair,
+    )?;
+    let line = word_line(alloc, map, pair, word)?;
+    Ok(Drawn { picture, line })
+}
+
+/// A pair of which one sees the other, with the ray.
+fn drawn_sight(
+    alloc: Global,
+    plan: &Plan,
+    groups: &MeshGroups,
+    map: &str,
+    pair: Pair,
+    ray: &Ray,
+) -> Result<Drawn, Memory>
+    requires groups { AreGroupsOver plan.now groups.now }
+    requires points { groups.now.mesh.points ≡ length plan.now.points }
+    requires ray { JoinsSectors (map_of plan.now) ray.now }
+    ensures { IfOk result (λ d. drawing d ≡ sight_drawing map.now (map_of plan.now) pair (seen groups.now) ray.now) }
+{
+    let grouped = &groups.grouped;
+    let picture = sight_picture(
+        alloc,
+        plan,
+        &groups.mesh,
+        &grouped.labels,
+        grouped.groups.as_slice(),
+        pair,
+        ray,
+    )?;
+    let line = word_line(alloc, map, pair, " sight\n")?;
+    Ok(Drawn { picture, line })
+}
+
+/// A pair of which none sees the other, with what sight out of one of them enters.
+fn drawn_entered(
+    alloc: Global,
+    plan: &Plan,
+    groups: &MeshGroups,
+    map: &str,
+    pair: Pair,
+    entered: &Entered,
+) -> Result<Drawn, Memory>
+    requires groups { AreGroupsOver plan.now groups.now }
+    requires points { groups.now.mesh.points ≡ length plan.now.points }
+    requires triangles { All (λ k. k < length groups.now.mesh.triangles) entered.now.triangles.items }
+    requires from { All (λ s. s.from < length plan.now.points) entered.now.stops.items }
+    requires to { All (λ s. s.to < length plan.now.points) entered.now.stops.items }
+    ensures { IfOk result (λ d. drawing d ≡ entered_drawing map.now (map_of plan.now) pair (seen groups.now) entered.now.triangles.items entered.now.stops.items) }
+{
+    let grouped = &groups.grouped;
+    let picture = blind_picture(
+        alloc,
+        plan,
+        &groups.mesh,
+        &grouped.labels,
+        grouped.groups.as_slice(),
+        pair,
+        entered.triangles.as_slice(),
+        entered.stops.as_slice(),
+    )?;
+    let line = blind_line(
+        alloc,
+        map,
+        pair,
+        entered.triangles.len(),
+        entered.stops.len(),
+    )?;
+    Ok(Drawn { picture, line })
+}
+
+/// A pair of which none sees the other.
+fn drawn_blind(
+    alloc: Global,
+    plan: &Plan,
+    groups: &MeshGroups,
+    map: &str,
+    ask: Ask,
+    pair: Pair,
+) -> Result<Drawn, Memory>
+    requires groups { AreGroupsOver plan.now groups.now }
+    requires points { groups.now.mesh.points ≡ length plan.now.points }
+    ensures { IfOk result (λ d. ShowsBlind map.now (map_of plan.now) pair (seen groups.now) ask (drawing d)) }
+{
+    let budget = budget_for(ask, &groups.grouped.plan, &groups.mesh);
+    let shown = entered_of_pair(alloc, plan, groups, budget, pair)?;
+    match shown {
+        Some(entered) => drawn_entered(alloc, plan, groups, map, pair, &entered),
+        None => drawn_word(alloc, plan, groups, map, pair, " blind\n"),
+    }
+}
+
+/// What an answer for the pair calls for.
+fn drawn_answer_of(
+    alloc: Global,
+    plan: &Plan,
+    groups: &MeshGroups,
+    map: &str,
+    ask: Ask,
+    pair: Pair,
+    answer: PairAnswer,
+) -> Result<Drawn, Status>
+    requires groups { AreGroupsOver plan.now groups.now }
+    requires points { groups.now.mesh.points ≡ length plan.now.points }
+    requires answer { IsAnswerFor (map_of plan.now) ask pair answer }
+    ensures shown { IsPairIfMade map.now (map_of plan.now) pair (seen groups.now) ask answer result }
+    ensures refusals { IfErr result IsOfDrawTest }
+{
+    match answer {
+        PairAnswer::Sight(ray) => made(drawn_sight(alloc, plan, groups, map, pair, &ray)),
+        PairAnswer::Blind => made(drawn_blind(alloc, plan, groups, map, ask, pair)),
+        PairAnswer::Touch => made(drawn_word(alloc, plan, groups, map, pair, " touch\n")),
+        PairAnswer::Listed => made(drawn_word(alloc, plan, groups, map, pair, " listed\n")),
+        PairAnswer::NoSector(sector) => Err(Status::No(Why::NoSector(sector))),
+    }
+}
+
+/// The answer over the groups of a sound map.
+fn answer_over(
+    alloc: Global,
+    plan: &Plan,
+    groups: &MeshGroups,
+    ask: Ask,
+    pair: Pair,
+) -> Result<PairAnswer, Memory>
+    requires { AreGroupsOver plan.now groups.now }
+    ensures { IfOk result (IsAnswerFor (map_of plan.now) ask pair) }
+{
+    pair_answer(alloc, plan, &groups.mesh, &groups.grouped, ask, pair)
+}
+
+/// The picture of a sound map's plan with two sectors: the ray along which they see each other, or else what sight out of one of
+/// them enters, as far as the budget that is asked for tells.
+pub fn draw_pair(
+    alloc: Global,
+    plan: &Plan,
+    map: &str,
+    ask: Ask,
+    pair: Pair,
+) -> Result<Drawn, Status>
+    ensures judged { (out : List ℕ) → Gives (¬ HasClosedFaces (map_of plan.now)) (DrawPairCalls map.now out ask pair (map_of plan.now)) (drawn_answer out result) }
+    ensures refusals { IfErr result IsOfDrawTest }
+{
+    let groups = groups_of(alloc, plan)?;
+    match answer_over(alloc, plan, &groups, ask, pair) {
+        Ok(answer) => drawn_answer_of(alloc, plan, &groups, map, ask, pair, answer),
+        Err(_) => Err(Status::Memory),
+    }
+}

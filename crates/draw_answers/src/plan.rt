@@ -1,0 +1,55 @@
+//! The picture of the plan alone.
+
+ghost use Rattle.std.specs.Prelude.{◌≡◌, IfErr, IfOk, List, ℕ, filter_map, length, ⊤};
+ghost use Rattle.sight_names.specs.Map.{map_of};
+ghost use Rattle.sight_names.specs.Points.{lines_of};
+ghost use Rattle.sight_status.specs.Answer.{Gives};
+ghost use Rattle.sight_status.specs.Status.{IsOfMapTest};
+ghost use Rattle.draw_answers.specs.Drawn.{drawing, drawn_answer};
+ghost use Rattle.draw_answers.specs.Plan.{DrawPlanCalls, plan_drawing};
+
+use crate::audited::groups_of;
+use crate::drawn::{Drawn, made};
+use crate::lines::plan_line;
+use map_picture::plan_picture;
+use sight_names::{Line, Memory, Plan};
+use sight_status::Status;
+use std::alloc::Global;
+
+/// How many of the records are lines.
+fn count_of(lines: &[Option<Line>]) -> u64
+    ensures { result ≡ length (filter_map (λ line. line) lines.now) }
+{
+    let mut count = 0;
+    for line in lines {
+        if line.is_some() {
+            count += 1;
+        }
+    }
+    count
+}
+
+/// How many lines the map has.
+fn count_lines(plan: &Plan) -> u64
+    ensures { result ≡ length (lines_of (map_of plan.now)) }
+{
+    count_of(plan.lines())
+}
+
+/// The plan, and its line.
+fn drawn_plan(alloc: Global, plan: &Plan, map: &str) -> Result<Drawn, Memory>
+    ensures { IfOk result (λ d. drawing d ≡ plan_drawing map.now (map_of plan.now)) }
+{
+    let picture = plan_picture(alloc, plan)?;
+    let line = plan_line(alloc, map, count_lines(plan), plan.sectors)?;
+    Ok(Drawn { picture, line })
+}
+
+/// The picture of a sound map's plan.
+pub fn draw_plan(alloc: Global, plan: &Plan, map: &str) -> Result<Drawn, Status>
+    ensures judged { (out : List ℕ) → Gives ⊤ (DrawPlanCalls map.now out (map_of plan.now)) (drawn_answer out result) }
+    ensures refusals { IfErr result IsOfMapTest }
+{
+    let _groups = groups_of(alloc, plan)?;
+    made(drawn_plan(alloc, plan, map))
+}
