@@ -100,7 +100,7 @@ __attribute__((constructor)) static void begin(void) {
 """
 
 OLD = b"what was there before"
-ROLES = {"wad": "out.wad", "cert": "new.cert", "report": "report"}
+ROLES = {"wad": "out.wad", "cert": "new.cert", "report": "report", "picture": "out.svg"}
 
 # The words of each verb, and its outputs in order. `u.wad` has no table, `built.wad` and `u.cert` are those of a build of it. The certificate of
 # a row of rooms is longer than a piece that is read; that of U with bytes behind it has more than 500 pieces.
@@ -121,6 +121,11 @@ ORDERS = [
     ("sound u.wad MAP01 0 2", []),
     ("why u.wad MAP01 0 1", []),
     ("why u.wad MAP01 0 2 --budget 1", []),
+    ("draw u.wad MAP01 out.svg", ["out.svg"]),
+    ("draw u.wad MAP01 out.svg --faults", ["out.svg"]),
+    ("draw built.wad MAP01 out.svg 0", ["out.svg"]),
+    ("draw u.wad MAP01 out.svg 0 1", ["out.svg"]),
+    ("draw u.wad MAP01 out.svg 0 2", ["out.svg"]),
     ("paint u.wad MAP01 out.wad", ["out.wad"]),
 ]
 

@@ -6,7 +6,7 @@ use Rattle.order_words.specs.Words.{order_of}
 use Rattle.shelf_io.specs.Shelf.{Files, ShelfState}
 use Rattle.shelf_io.specs.Sink.{SinkState}
 use Rattle.sight_status.specs.declared.status.Status.{Status}
-use Rattle.sight_run.specs.Heard.{Heard, Hears, heard_as}
+use Rattle.sight_run.specs.Heard.{Hears, heard_as}
 use Rattle.sight_run.specs.Run.{RunEnds}
 use Rattle.sight_run.specs.Words.{asked_of}
 use Rattle.doomsight.specs.Words.{RunsHeard, RunsWords, is_reported, listeners_where}

@@ -7,4 +7,5 @@ use Rattle.doomsight.specs.declared.verbs.Choice.TheVariants as choice
 abbrev pub takes_no_value : Choice → Bool
 takes_no_value choice.Hexen = true
 takes_no_value choice.Large = true
+takes_no_value choice.Faults = true
 takes_no_value other = false

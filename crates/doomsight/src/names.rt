@@ -22,7 +22,7 @@ fn given(text: &Option<Text>) -> Option<&str> {
 
 fn names_in(order: &Order) -> Names<'_> {
     match order {
-        Order::Zero { wad, out, .. } => Names {
+        Order::Zero { wad, out, .. } | Order::Draw { wad, out, .. } => Names {
             wad: Some(wad.file.as_str()),
             out: Some(out.as_str()),
             cert: None,

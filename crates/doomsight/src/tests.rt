@@ -85,6 +85,27 @@ why a MAP01 | end
 why a MAP01 0 65536 | 5
 why a MAP01 0 1 2 | 6
 why a MAP01 0 1 --workers 2 | 6
+why a MAP01 0 1 --faults | 6
+draw a MAP01 | end
+draw a MAP01 b | -
+draw a MAP01 b --faults --large | -
+draw --faults a MAP01 b | -
+draw a MAP01 b --faults=1 | 5
+draw a MAP01 b 0 | -
+draw a MAP01 b 65536 | 5
+draw a MAP01 b 0 1 | -
+draw a MAP01 b 0 1 --budget full --large | -
+draw a MAP01 b 0 1 2 | 7
+draw a MAP01 b 0 1 --workers 2 | 7
+draw a MAP01 b --budget 5 | end
+draw a MAP01 b 0 --budget 5 | end
+draw --budget 5 a MAP01 b 0 1 | -
+draw --faults a MAP01 b 0 | 6
+draw a MAP01 b 0 --faults | 6
+draw a MAP01 b --faults --budget 5 | 6
+--faults --budget 5 | 2
+--faults zero | 2
+--faults grid | 2
 --report r why | 3
 build a MAP01 b --cert c --report r --budget full --workers 8 | -
 build a MAP01 b --cert c --report r --budget full --workers 8 --large | -
@@ -145,8 +166,9 @@ grid 2 --large | 3
 ";
 
 /// Words that are put together in every way.
-static SOME: [&str; 11] = [
+static SOME: [&str; 13] = [
     "build",
+    "draw",
     "grid",
     "sound",
     "MAP01",
@@ -155,6 +177,7 @@ static SOME: [&str; 11] = [
     "--budget=full",
     "--hexen",
     "--large",
+    "--faults",
     "--",
     "-x",
 ];
@@ -167,6 +190,7 @@ paint --help | doomsight 1.0.0:
 build a --version --help | doomsight 1.0.0
 audit a MAP01 -h | doomsight audit WAD MAP
 why --help | doomsight why WAD MAP A B [--budget N|full|enough] [--large]
+draw --help | doomsight draw WAD MAP OUT [A [B [--budget N|full|enough]] | --faults] [--large]
 grid --help | doomsight grid N [--budget N|full|enough] [--workers N] [--hexen]
 sound -- --help | 
 zero a MAP01 b | 
@@ -175,6 +199,8 @@ zero a MAP01 b |
 /// Files, words, and the exit code.
 const CODES: &str = "\
 a=U | audit a MAP01 | 0
+a=U | draw a MAP01 b 0 1 | 0
+a=TOUCHED | draw a MAP01 b --faults | 0
 a=PAIR | ray a MAP01 2L,2R,0,1,-32 | 1
 a=U | audit a | 2
 a=U | audit b MAP01 | 3
@@ -236,8 +262,8 @@ fn words_numbered(alloc: Global, count: usize, number: usize) -> Result<Vec<Stri
     let mut words = Vec::new(alloc);
     let mut left = number;
     for _ in 0..count {
-        words.push(String::from_str(alloc, SOME[left % 11])?)?;
-        left /= 11;
+        words.push(String::from_str(alloc, SOME[left % 13])?)?;
+        left /= 13;
     }
     Ok(words)
 }
@@ -246,7 +272,7 @@ fn words_numbered(alloc: Global, count: usize, number: usize) -> Result<Vec<Stri
 fn what_is_no_order_has_a_wrong_word(rt: HostRuntime) -> Result<(), Fail> {
     let alloc = rt.alloc();
     let mut orders = 0u32;
-    for (count, lists) in [(1, 11), (2, 121), (3, 1_331), (4, 14_641)] {
+    for (count, lists) in [(1, 13), (2, 169), (3, 2_197), (4, 28_561)] {
         for number in 0..lists {
             let words = words_numbered(alloc, count, number)?;
             let said = said_of(alloc, &words)?;

@@ -51,6 +51,7 @@ struct Given {
     workers: bool,
     hexen: bool,
     large: bool,
+    faults: bool,
 }
 
 impl Given {
@@ -63,6 +64,7 @@ impl Given {
             Choice::Workers => self.workers,
             Choice::Hexen => self.hexen,
             Choice::Large => self.large,
+            Choice::Faults => self.faults,
         }
     }
 
@@ -75,11 +77,12 @@ impl Given {
             Choice::Workers => self.workers = true,
             Choice::Hexen => self.hexen = true,
             Choice::Large => self.large = true,
+            Choice::Faults => self.faults = true,
         }
     }
 }
 
-const CHOICES: [Choice; 7] = [
+const CHOICES: [Choice; 8] = [
     Choice::Only,
     Choice::Cert,
     Choice::Report,
@@ -87,6 +90,7 @@ const CHOICES: [Choice; 7] = [
     Choice::Workers,
     Choice::Hexen,
     Choice::Large,
+    Choice::Faults,
 ];
 
 fn choice_named(name: &str) -> Option<Choice> {
@@ -98,12 +102,31 @@ fn choice_named(name: &str) -> Option<Choice> {
         "workers" => Some(Choice::Workers),
         "hexen" => Some(Choice::Hexen),
         "large" => Some(Choice::Large),
+        "faults" => Some(Choice::Faults),
         _ => None,
     }
 }
 
+// A budget is for two sectors and the faults are of the map alone, so no verb takes both.
 fn takes_all(verb: &Verb, given: Given) -> bool {
     CHOICES.iter().all(|choice| !given.has(*choice) || verb.choices.contains(choice))
+        && !(given.budget && given.faults)
+}
+
+// How many words may stand behind the verb: with the faults, none that may be left out.
+fn most_words(verb: &Verb, given: Given) -> usize {
+    let spare = if given.faults {
+        verb.spare.iter().copied().max().unwrap_or(0)
+    } else {
+        0
+    };
+    verb.places.len().saturating_sub(spare)
+}
+
+// So many words stand behind the verb, which may be all: a budget wants each of them.
+fn may_end(verb: &Verb, filled: usize, given: Given) -> bool {
+    let left = verb.places.len().saturating_sub(filled);
+    left == 0 || !given.budget && verb.spare.contains(&left)
 }
 
 fn unless(fits: bool, why: Why) -> Result<(), Why> {
@@ -130,7 +153,7 @@ fn fits_choice(choice: Choice, word: &str) -> Result<(), Why> {
         Choice::Cert | Choice::Report => unless(may_name_file(word), Why::NoFile),
         Choice::Budget => unless(budget(word).is_some(), Why::NoBudget),
         Choice::Workers => unless(workers(word).is_some(), Why::NoWorkers),
-        Choice::Hexen | Choice::Large => Err(Why::TakesNone),
+        Choice::Hexen | Choice::Large | Choice::Faults => Err(Why::TakesNone),
     }
 }
 
@@ -168,6 +191,7 @@ impl Reader {
                 workers: false,
                 hexen: false,
                 large: false,
+                faults: false,
             },
             waiting: None,
             is_closed: false,
@@ -178,7 +202,7 @@ impl Reader {
     fn check_options(&self) -> Result<(), Why> {
         let given = self.given;
         let is_taken = match self.verb {
-            Some(verb) => takes_all(verb, given),
+            Some(verb) => takes_all(verb, given) && self.filled <= most_words(verb, given),
             None => VERBS.iter().any(|verb| takes_all(verb, given)),
         };
         unless(is_taken, Why::NotTaken)
@@ -223,11 +247,11 @@ impl Reader {
                 self.check_options()
             }
             Some(verb) => match verb.places.get(self.filled) {
-                Some(place) => {
+                Some(place) if self.filled < most_words(verb, self.given) => {
                     self.filled = self.filled.saturating_add(1);
                     fits_place(*place, word)
                 }
-                None => Err(Why::TooMany),
+                _ => Err(Why::TooMany),
             },
         }
     }
@@ -247,10 +271,7 @@ impl Reader {
 
     fn is_complete(&self) -> bool {
         match self.verb {
-            Some(verb) => {
-                let left = verb.places.len().saturating_sub(self.filled);
-                self.waiting.is_none() && (left == 0 || left == verb.spare)
-            }
+            Some(verb) => self.waiting.is_none() && may_end(verb, self.filled, self.given),
             None => false,
         }
     }

@@ -13,7 +13,7 @@ pub enum Place {
     Rooms,
 }
 
-/// An option; the last two take no value.
+/// An option; the last three take no value.
 #[derive(Clone, Copy, PartialEq, Eq)]
 pub enum Choice {
     Only,
@@ -23,6 +23,7 @@ pub enum Choice {
     Workers,
     Hexen,
     Large,
+    Faults,
 }
 
 impl Choice {
@@ -30,7 +31,7 @@ impl Choice {
     pub fn is_flag(self) -> bool
         ensures { result ≡ takes_no_value self }
     {
-        matches!(self, Choice::Hexen | Choice::Large)
+        matches!(self, Choice::Hexen | Choice::Large | Choice::Faults)
     }
 }
 
@@ -39,8 +40,8 @@ pub struct Verb {
     pub name: &'static str,
     /// What stands behind it, in order.
     pub places: &'static [Place],
-    /// How many of these, the last ones, may be left out together.
-    pub spare: usize,
+    /// How many of these, the last ones, may be left out.
+    pub spare: &'static [usize],
     /// The options that it takes.
     pub choices: &'static [Choice],
     pub synopsis: &'static str,
@@ -49,11 +50,11 @@ pub struct Verb {
 }
 
 /// All verbs.
-pub static VERBS: [Verb; 11] = [
+pub static VERBS: [Verb; 12] = [
     Verb {
         name: "all",
         places: &[Place::File, Place::File],
-        spare: 0,
+        spare: &[],
         choices: &[
             Choice::Only,
             Choice::Report,
@@ -67,7 +68,7 @@ pub static VERBS: [Verb; 11] = [
     Verb {
         name: "build",
         places: &[Place::File, Place::Map, Place::File],
-        spare: 0,
+        spare: &[],
         choices: &[
             Choice::Cert,
             Choice::Report,
@@ -81,7 +82,7 @@ pub static VERBS: [Verb; 11] = [
     Verb {
         name: "check",
         places: &[Place::File, Place::Map, Place::File],
-        spare: 0,
+        spare: &[],
         choices: &[Choice::Large],
         synopsis: "doomsight check WAD MAP CERT [--large]",
         about: "Judges the map's REJECT by a certificate; a yes means that no rejected pair can see.",
@@ -89,7 +90,7 @@ pub static VERBS: [Verb; 11] = [
     Verb {
         name: "audit",
         places: &[Place::File, Place::Map],
-        spare: 0,
+        spare: &[],
         choices: &[Choice::Large],
         synopsis: "doomsight audit WAD MAP [--large]",
         about: "Says whether the map is sound: lines meet at ends alone, and each face is closed.",
@@ -97,7 +98,7 @@ pub static VERBS: [Verb; 11] = [
     Verb {
         name: "need",
         places: &[Place::File, Place::Map],
-        spare: 0,
+        spare: &[],
         choices: &[Choice::Large],
         synopsis: "doomsight need WAD MAP [--large]",
         about: "Says how many sequences of portals the sector that needs most has, and a number that is enough for any map of this size.",
@@ -105,15 +106,29 @@ pub static VERBS: [Verb; 11] = [
     Verb {
         name: "why",
         places: &[Place::File, Place::Map, Place::Sector, Place::Sector],
-        spare: 0,
+        spare: &[],
         choices: &[Choice::Budget, Choice::Large],
         synopsis: "doomsight why WAD MAP A B [--budget N|full|enough] [--large]",
         about: "Says whether the sectors A and B see each other, and by which ray, by walks of these two alone.",
     },
     Verb {
+        name: "draw",
+        places: &[
+            Place::File,
+            Place::Map,
+            Place::File,
+            Place::Sector,
+            Place::Sector,
+        ],
+        spare: &[1, 2],
+        choices: &[Choice::Budget, Choice::Large, Choice::Faults],
+        synopsis: "doomsight draw WAD MAP OUT [A [B [--budget N|full|enough]] | --faults] [--large]",
+        about: "Writes a picture (SVG) of the map to OUT: its plan, the row of sector A in its REJECT, whether A and B see each other, or what the audit refuses.",
+    },
+    Verb {
         name: "sound",
         places: &[Place::File, Place::Map, Place::Sector, Place::Sector],
-        spare: 2,
+        spare: &[2],
         choices: &[Choice::Large],
         synopsis: "doomsight sound WAD MAP [A B] [--large]",
         about: "Names the sides of the lines by which a noise gets from sector A to sector B; without them says how many pairs of sectors hear each other.",
@@ -121,7 +136,7 @@ pub static VERBS: [Verb; 11] = [
     Verb {
         name: "ray",
         places: &[Place::File, Place::Map, Place::Ray],
-        spare: 0,
+        spare: &[],
         choices: &[Choice::Large],
         synopsis: "doomsight ray WAD MAP RAY [--large]",
         about: "Says whether a ray is a line of sight, and between which sectors, or what is wrong with it.",
@@ -129,7 +144,7 @@ pub static VERBS: [Verb; 11] = [
     Verb {
         name: "trace",
         places: &[Place::File, Place::Map, Place::Ray],
-        spare: 0,
+        spare: &[],
         choices: &[Choice::Large],
         synopsis: "doomsight trace WAD MAP RAY [--large]",
         about: "Names the sectors that a ray passes, or what it hits first.",
@@ -137,7 +152,7 @@ pub static VERBS: [Verb; 11] = [
     Verb {
         name: "zero",
         places: &[Place::File, Place::Map, Place::File],
-        spare: 0,
+        spare: &[],
         choices: &[Choice::Large],
         synopsis: "doomsight zero WAD MAP OUT [--large]",
         about: "Writes the WAD with an all-clear REJECT for the map to OUT, without an audit.",
@@ -145,7 +160,7 @@ pub static VERBS: [Verb; 11] = [
     Verb {
         name: "grid",
         places: &[Place::Rooms],
-        spare: 0,
+        spare: &[],
         choices: &[Choice::Budget, Choice::Workers, Choice::Hexen],
         synopsis: "doomsight grid N [--budget N|full|enough] [--workers N] [--hexen]",
         about: "Makes a map of N by N rooms, and builds and checks it in memory.",

@@ -10,7 +10,8 @@ use std::test::Fail;
 use std::thread::Threads;
 
 /// What there is, the words, the exit code of a run of which nothing fails, and the calls that it makes: the file of each read in turn,
-/// of each create, and of each append. Each run puts once. `a` is the WAD that is read, `b` the one that is written; `c` is a certificate.
+/// of each create, and of each append. Each run puts once. `a` is the WAD that is read, `b` the one that is written; `c` is a certificate
+/// and `p` a picture.
 const RUNS: &str = "\
 a=SQUARE | zero a MAP01 b | 0 | a a | b | b
 a=SQUARE, b=PAIR | zero a MAP01 b | 0 | a a | b | b
@@ -22,6 +23,11 @@ a=LINE3 | need a MAP01 | 0 | a a
 a=U | sound a MAP01 | 0 | a a
 a=U | sound a MAP01 0 2 | 0 | a a
 a=U | why a MAP01 0 1 | 0 | a a
+a=U | draw a MAP01 p | 0 | a a | p | p
+a=TOUCHED, p=PAIR | draw a MAP01 p --faults | 0 | a a | p | p
+a=U =4400, p=PAIR | draw a MAP01 p 0 | 0 | a a | p | p
+a=U, p=PAIR | draw a MAP01 p 0 1 | 0 | a a | p | p
+a=U, p=PAIR | draw a MAP01 p 0 2 | 0 | a a | p | p
 a=U =4400, c=#U-CERT | check a MAP01 c | 0 | a a c c
 a=U | build a MAP01 b --cert c --workers 1 | 0 | a a | b c | b c
 a=U, b=PAIR, c=PAIR | build a MAP01 b --cert c --workers 1 | 0 | a a | b c | b c
@@ -41,6 +47,8 @@ a=PAIR | ray a MAP01 2L,2R,0,1,-32 | 1 | a a
 a=OPEN | audit a MAP01 | 10 | a a
 a=U | sound a MAP01 0 9 | 1 | a a
 a=U | why a MAP01 0 9 | 1 | a a
+a=U, p=PAIR | draw a MAP01 p 0 9 | 1 | a a
+a=U, p=PAIR | draw a MAP01 p 0 | 1 | a a
 a=U =4400 | check a MAP01 c | 3 | a a
 a=U, c=#U-CERT | check a MAP01 c | 1 | a a
 a=U =4600, c=#U-CERT | check a MAP01 c | 1 | a a c c
@@ -151,6 +159,7 @@ fn end_of(alloc: Global, kind: &str, name: &str) -> Result<(Status, Vec<u8>), Al
     let (role, word) = match name {
         "c" => (Role::Cert, "cert"),
         "r" => (Role::Report, "report"),
+        "p" => (Role::Picture, "picture"),
         _ => (Role::Wad, "wad"),
     };
     let (status, deed) = match kind {

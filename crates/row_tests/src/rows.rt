@@ -378,6 +378,67 @@ a=U | why a MAP02 0 1 | 7 | refused: no map: no marker
 a=SQUARE @14:1:09 | why a MAP01 0 0 | 8 | refused: bad lump: vertex of line 0
 ";
 
+/// The order `draw`.
+const DRAW: &str = "\
+# the plan
+a=U | draw a MAP01 b | 0 | drawn MAP01 lines 12 sectors 3 | a=U, b=%U-PLAN
+a=U .1 hexen +6:BEHAVIOR, b=PAIR | draw --large a map01 b | 0 | drawn MAP01 lines 12 sectors 3 | b=%U-PLAN
+a=FLAT | draw a MAP01 b | 0 | drawn MAP01 lines 4 sectors 1
+a=TOUCHED | draw a MAP01 b | 10 | refused: bad map: touch 0 4 | b=
+a=OPEN | draw a MAP01 b | 10 | refused: bad map: open 0R | b=
+# the plan with what refuses the map
+a=U | draw a MAP01 b --faults | 0 | drawn MAP01 faults none | b=%U-PLAN
+a=TOUCHED | draw a MAP01 b --faults | 0 | drawn MAP01 faults touch 0 4 | b=%TOUCHED-FAULTS
+a=CROSSED | draw --faults a MAP01 b | 0 | drawn MAP01 faults cross 3 4
+a=OVERLAPPED | draw a MAP01 --faults b | 0 | drawn MAP01 faults overlap 0 4
+a=OPEN | draw a MAP01 b --faults | 0 | drawn MAP01 faults open 0R
+# the row of a sector, in whatever table the map has; a bit alone is no pair
+a=U =4400 | draw a MAP01 b 0 | 0 | drawn MAP01 row 0 set 1 clear 2 | b=%U-ROW
+a=U =44fe | draw a MAP01 b 0 | 0 | drawn MAP01 row 0 set 1 clear 2 | b=%U-ROW
+a=U =0400 | draw a MAP01 b 2 | 0 | drawn MAP01 row 2 set 0 clear 3
+a=U =ffff | draw a MAP01 b 1 | 0 | drawn MAP01 row 1 set 3 clear 0
+a=U =4400 | draw a MAP01 b 3 | 1 | no sector 3 | b=
+a=U | draw a MAP01 b 0 | 1 | no table: 0 bytes, 2 expected | b=
+a=U =440000 | draw a MAP01 b 9 | 1 | no table: 3 bytes, 2 expected | b=
+a=TOUCHED =00 | draw a MAP01 b 9 | 10 | refused: bad map: touch 0 4 | b=
+a=TOUCHED =0000 | draw a MAP01 b 9 | 1 | no table: 2 bytes, 1 expected | b=
+# two sectors
+a=U | draw a MAP01 b 0 1 | 0 | drawn MAP01 pair 0 1 sight | b=%U-SIGHT
+a=U | draw a MAP01 b 0 2 | 0 | drawn MAP01 pair 0 2 blind 4 stops 1 | b=%U-BLIND
+a=U | draw a MAP01 b 0 2 --budget full --large | 0 | drawn MAP01 pair 0 2 blind 4 stops 1 | b=%U-BLIND
+a=U | draw a MAP01 b 1 1 | 0 | drawn MAP01 pair 1 1 touch
+a=U | draw a MAP01 b 0 2 --budget 1 | 0 | drawn MAP01 pair 0 2 listed
+a=ISLAND | draw a MAP01 b 0 1 | 0 | drawn MAP01 pair 0 1 touch
+a=U | draw a MAP01 b 0 9 | 1 | no sector 9 | b=
+a=U | draw a MAP01 b 9 8 | 1 | no sector 9 | b=
+a=TOUCHED | draw a MAP01 b 0 9 | 10 | refused: bad map: touch 0 4 | b=
+# words and names
+a=U | draw a MAP01 | 2 | refused: usage
+a=U | draw a MAP01 b 0 1 2 | 2 | refused: usage | b=
+a=U | draw a MAP01 b 65536 | 2 | refused: usage | b=
+a=U | draw a MAP01 b 0 --faults | 2 | refused: usage | b=
+a=U | draw a MAP01 b 0 1 --faults | 2 | refused: usage | b=
+a=U | draw a MAP01 b --budget 5 | 2 | refused: usage | b=
+a=U | draw a MAP01 b 0 --budget 5 | 2 | refused: usage | b=
+a=U | draw a MAP01 b 0 1 --budget 0 | 2 | refused: usage | b=
+a=U | draw a MAP01 b 0 1 --workers 2 | 2 | refused: usage | b=
+a=U | draw a MAP01 b --cert c | 2 | refused: usage | b=, c=
+a=U | draw a MAP01 b --hexen | 2 | refused: usage | b=
+a=U | zero a MAP01 b --faults | 2 | refused: usage | b=
+a=U | why a MAP01 0 1 --faults | 2 | refused: usage
+a=U | build a MAP01 b --faults | 2 | refused: usage | b=
+a=U | grid 2 --faults | 2 | refused: usage
+a=U | draw a MAP01 a | 11 | refused: same name | a=U
+a=TOUCHED | draw a MAP01 a --faults | 11 | refused: same name | a=TOUCHED
+# what fails
+b=PAIR | draw a MAP01 b | 3 | refused: no file wad | b=PAIR
+a=U, reads=0 | draw a MAP01 b | 4 | refused: read fault wad | b=
+a=U, creates=0 | draw a MAP01 b | 5 | refused: write fault picture | b=
+a=U, puts=0 | draw a MAP01 b | 5 | drawn MAP01 lin~ | b=%U-PLAN
+a=U | draw a MAP02 b | 7 | refused: no map: no marker | b=
+a=SQUARE @14:1:09 | draw a MAP01 b --faults | 8 | refused: bad lump: vertex of line 0 | b=
+";
+
 /// The order `all`: what it writes and reports, what it refuses, and what stands where something fails.
 const ALL: &str = "\
 # two maps that are built, and one that is refused and keeps its REJECT
@@ -457,7 +518,7 @@ a=LINE3 | build a MAP01 b --cert c --budget enough | 0 | built MAP01 sectors 3 s
 
 #[test]
 fn each_row_comes_out_as_it_says(rt: HostRuntime) -> Result<(), Fail> {
-    for rows in [ZERO, JUDGED, CHECK, BUILD, ALL, NEED, SOUND, WHY] {
+    for rows in [ZERO, JUDGED, CHECK, BUILD, ALL, NEED, SOUND, WHY, DRAW] {
         assert_eq!(rt; first_wrong(&rt, rt.alloc(), rows)?.as_str(), "");
     }
     Ok(())

@@ -32,6 +32,7 @@ refuses words files heard before after o n (status.WriteFault role.Text) quiet e
 refuses words files heard before after o n (status.WriteFault role.Wad) quiet ends cause = absurd (quiet.shelf.writes cause.0)
 refuses words files heard before after o n (status.WriteFault role.Cert) quiet ends cause = absurd (quiet.shelf.writes cause.0)
 refuses words files heard before after o n (status.WriteFault role.Report) quiet ends cause = absurd (quiet.shelf.writes cause.0)
+refuses words files heard before after o n (status.WriteFault role.Picture) quiet ends cause = absurd (quiet.shelf.writes cause.0)
 refuses words files heard before after o n (status.No k) quiet ends cause = inr (inr ends.ends.0.called)
 refuses words files heard before after o n status.Usage quiet ends cause = inr (inr ends.ends.0.called)
 refuses words files heard before after o n (status.NoFile k) quiet ends cause = inr (inr ends.ends.0.called)

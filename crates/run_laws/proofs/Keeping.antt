@@ -3,6 +3,7 @@ use Rattle.std.proofs.Common.{◌≡◌, ℕ, ◌*◌, List, ◌∷◌, ◌++◌
 use Rattle.std.specs.Int.{div_ceil}
 use Rattle.shelf_io.specs.Shelf.{Files, put}
 use Rattle.order_words.specs.declared.order.Order.TheVariants as order
+use Rattle.sight_status.specs.declared.status.Role.TheVariants as role
 use Rattle.sight_status.specs.declared.status.Status.{Status}
 use Rattle.sight_status.specs.Answer.{Answer}
 use Rattle.sight_run.specs.Build.{BuildCalls, build_writes, report_behind}
@@ -10,9 +11,10 @@ use Rattle.map_answers.specs.Input.{LocatedMap, OnFound}
 use Rattle.sight_run.specs.Reading.{found_of}
 use Rattle.run_laws.specs.Laws.{BuildKeepsLumps, HasTableLength, IsClearTable, KeepsLumps, ZeroKeepsLumps}
 use Rattle.sight_run.specs.Obeys.{AnswersAsked}
+use Rattle.sight_run.specs.Reply.{one_output}
 use Rattle.sight_run.specs.Run.{put_all}
 use Rattle.sight_run.specs.Words.{given, has_twice}
-use Rattle.sight_run.specs.Zero.{ZeroCalls, clear_table, one_wad, with_table, zero_line, zeroed}
+use Rattle.sight_run.specs.Zero.{ZeroCalls, clear_table, with_table, zero_line, zeroed}
 use Rattle.sight_run.proofs.Round.{passes, same_ok, written_again}
 use Rattle.run_laws.proofs.Stood.{IsOther, before_report, bytes_of, of_words, out_apart, under_out}
 use Rattle.shelf_io.proofs.FilesLemmas.{bytes_eq-refl}
@@ -27,8 +29,8 @@ zero_keeps_lumps words wad name out files heard answer asked other h = on (found
     made : (found : LocatedMap) → Ok answer ≡ zeroed name out found → found_of wad name files ≡ Ok found → KeepsLumps wad name out files (put_all files answer.writes) IsClearTable
     made found e q =
         let table : List ℕ = clear_table found.map.sectors in
-        let p = passes (with_table found table) (λ bytes. Ok (one_wad out bytes (zero_line name found.map.sectors))) answer (sym e) in
-        let is : one_wad out p.x (zero_line name found.map.sectors) ≡ answer = same_ok (one_wad out p.x (zero_line name found.map.sectors)) answer p.rest in
+        let p = passes (with_table found table) (λ bytes. Ok (one_output role.Wad out bytes (zero_line name found.map.sectors))) answer (sym e) in
+        let is : one_output role.Wad out p.x (zero_line name found.map.sectors) ≡ answer = same_ok (one_output role.Wad out p.x (zero_line name found.map.sectors)) answer p.rest in
         let old = bytes_of wad name files found q in
         record {
           found = found;

@@ -1,6 +1,7 @@
 pub mod Totals
 pub mod Stood
 pub mod Keeping
+pub mod Drawing
 pub mod Checked
 pub mod AllWritten
 pub mod Done

@@ -2,6 +2,7 @@
 use Rattle.std.specs.Prelude.{◌≡◌, ◌⊎◌, ◌≤◌, ◌<◌, ◌^◌, ℕ, Bool, false, List, ◌++◌, length, Contains, Option, Some, Result, Ok, Err, codes, ⊤}
 use Rattle.std.specs.List.{AllByRecursion}
 use Rattle.std.specs.Option.{option_map}
+use Rattle.std.specs.Str.{bytes_eq}
 use Rattle.sight_names.specs.declared.faults.RewriteFault.TheVariants as rewrite
 use Rattle.sight_names.specs.declared.names.Ask.{Ask}
 use Rattle.sight_names.specs.Groups.{HasClosedFaces}
@@ -19,6 +20,8 @@ use Rattle.all_maps.specs.Spliced.{spliced}
 use Rattle.group_job.specs.declared.build.GroupBuilt.{GroupBuilt}
 use Rattle.order_words.specs.declared.order.Order.TheVariants as order
 use Rattle.order_words.specs.declared.order.Source.{Source}
+use Rattle.order_words.specs.declared.order.View.{View}
+use Rattle.order_words.specs.declared.order.View.TheVariants as view
 use Rattle.order_words.specs.Words.{source_of}
 use Rattle.cert_checker.specs.declared.verdict.Totals.{Totals}
 use Rattle.map_answers.specs.declared.counts.Counts.{Counts}
@@ -35,8 +38,12 @@ use Rattle.whole_wad.specs.Tables.{IsFlawOf}
 use Rattle.whole_wad.specs.Whole.{IsAboveLimit}
 use Rattle.sight_run.specs.All.{maps_in, wad_in}
 use Rattle.sight_run.specs.Build.{ShowsLimit, build_line}
-use Rattle.sight_run.specs.Check.{yes_line}
+use Rattle.sight_run.specs.Check.{IsTableOf, reject_of, yes_line}
+use Rattle.map_answers.specs.Groups.{IsOverGroups, MapGroups}
 use Rattle.map_answers.specs.Input.{LocatedMap, map_named}
+use Rattle.map_picture.specs.Bytes.{svg_of}
+use Rattle.map_picture.specs.Picture.{row_picture}
+use Rattle.reject_bits.specs.Parts.{TableParts}
 use Rattle.sight_run.specs.Heard.{Heard}
 use Rattle.sight_run.specs.Reading.{found_of}
 use Rattle.sight_run.specs.Obeys.{IsAnswer}
@@ -136,6 +143,42 @@ abbrev pub BuildKeepsLumps : Type 0
 BuildKeepsLumps = (words : List (List ℕ)) (wad : Source) (name out : List ℕ) (asked report : Option (List ℕ)) (workers : ℕ) (budget : Ask) (files : Files) (heard : Heard) (answer : Answer)
     → asked_of words ≡ Ok (order.Build wad name out asked report workers budget) → same_name (codes "REJECT") name ≡ false → IsAnswer words files heard (Ok answer)
     → KeepsLumps wad name out files (put_all files answer.writes) HasTableLength
+
+-- ---- what `draw` writes
+
+-- under OUT stands a picture, and under each other name what stood there
+pub record LeavesPicture (out : List ℕ) (files stand : Files) (IsPicture : List ℕ → Type 0) : Type 0 where
+  pub bytes : List ℕ
+  pub is_picture : IsPicture bytes
+  pub stands : stand out ≡ Some bytes
+  pub others : (name : List ℕ) → bytes_eq out name ≡ false → stand name ≡ files name
+
+abbrev pub IsAnyPicture : List ℕ → Type 0
+IsAnyPicture bytes = ⊤
+
+-- Where `draw` is answered, OUT holds its picture, and all other files are as they were.
+abbrev pub DrawLeavesPicture : Type 0
+DrawLeavesPicture = (words : List (List ℕ)) (wad : Source) (name out : List ℕ) (view : View) (files : Files) (heard : Heard) (answer : Answer)
+    → asked_of words ≡ Ok (order.Draw wad name out view) → IsAnswer words files heard (Ok answer)
+    → LeavesPicture out files (put_all files answer.writes) IsAnyPicture
+
+-- The map is found, its audit accepts it, and the picture paints the faces of its groups by the row of sector a in a table that the bytes of
+-- its REJECT spell.
+pub record IsRowOfReject (wad : Source) (name : List ℕ) (files : Files) (a : ℕ) (bytes : List ℕ) : Type 0 where
+  pub found : LocatedMap
+  pub was : found_of wad name files ≡ Ok found
+  pub within : a < found.map.sectors
+  pub table : TableParts
+  pub spelled : IsTableOf found.map.sectors (reject_of found) table
+  pub groups : MapGroups
+  pub over : IsOverGroups found.map groups
+  pub is : bytes ≡ svg_of found.map (row_picture found.map groups.groups groups.triangles groups.labels table a)
+
+-- where `draw` is answered of a sector, that is the picture
+abbrev pub RowIsOfReject : Type 0
+RowIsOfReject = (words : List (List ℕ)) (wad : Source) (name out : List ℕ) (a : ℕ) (files : Files) (heard : Heard) (answer : Answer)
+    → asked_of words ≡ Ok (order.Draw wad name out (view.Row a)) → IsAnswer words files heard (Ok answer)
+    → LeavesPicture out files (put_all files answer.writes) (IsRowOfReject wad name files a)
 
 -- ---- what `all` writes
 

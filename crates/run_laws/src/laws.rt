@@ -1,7 +1,7 @@
 //! What holds of the orders together, and of what they write.
 
 ghost use Rattle.sight_run.specs.Build.{BuildsSayOneThing};
-ghost use Rattle.run_laws.specs.Laws.{AllIsAsBuild, AllIsDone, AllKeepsLumps, BuildIsDone, BuildKeepsLumps, BuildWithRoomIsDone, BuiltIsChecked, BuiltRunIsChecked, ZeroKeepsLumps};
+ghost use Rattle.run_laws.specs.Laws.{AllIsAsBuild, AllIsDone, AllKeepsLumps, BuildIsDone, BuildKeepsLumps, BuildWithRoomIsDone, BuiltIsChecked, BuiltRunIsChecked, DrawLeavesPicture, RowIsOfReject, ZeroKeepsLumps};
 
 /// Where `build` is answered, the one answer that `check` of OUT and FILE calls for is yes, with the same counts.
 pub fn built_is_checked()
@@ -29,6 +29,17 @@ pub fn zero_keeps_lumps()
 /// finds it there with the same four lumps, and every other lump has its name and its bytes, in order.
 pub fn build_keeps_lumps()
     ensures { BuildKeepsLumps }
+{}
+
+/// Where `draw` is answered, OUT holds its picture, and each other file what it held.
+pub fn draw_leaves_picture()
+    ensures { DrawLeavesPicture }
+{}
+
+/// Where `draw` is answered of one sector, the picture paints the faces of the map that was found by the row of the sector in the
+/// map's own REJECT.
+pub fn row_is_of_reject()
+    ensures { RowIsOfReject }
 {}
 
 /// Where `all` is answered, OUT is read as the WAD in which each map that got a table has it as its REJECT, found there by

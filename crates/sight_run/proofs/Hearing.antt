@@ -129,6 +129,7 @@ module _ (asked : Result Order Status) (files : Option Files) (heard : Heard) (o
   hears_refused before after (status.WriteFault role.Wad) r cause h said = hears_said (status.WriteFault role.Wad) r _ tt h said
   hears_refused before after (status.WriteFault role.Cert) r cause h said = hears_said (status.WriteFault role.Cert) r _ tt h said
   hears_refused before after (status.WriteFault role.Report) r cause h said = hears_said (status.WriteFault role.Report) r _ tt h said
+  hears_refused before after (status.WriteFault role.Picture) r cause h said = hears_said (status.WriteFault role.Picture) r _ tt h said
   hears_refused before after (status.ReadFault k) r cause h said = hears_made (status.ReadFault k) r tt tt h said
   hears_refused before after (status.No k) r cause h said = hears_made (status.No k) r tt tt h said
   hears_refused before after status.Usage r cause h said = hears_made status.Usage r tt tt h said

@@ -1,13 +1,12 @@
 //! The order `all`: the table of each map of a WAD, or of those that are named, in the place of its REJECT, and a line on each where a
 //! report is asked for.
 
-ghost use Rattle.std.specs.Prelude.{◌≡◌, ◌+◌, ◌≤◌, ℕ, List, IfErr, IfOk, OnErr, All, Some, length, string_bytes, ⊤};
+ghost use Rattle.std.specs.Prelude.{◌≡◌, ◌+◌, ◌≤◌, IfErr, IfOk, All, Some, length, string_bytes, ⊤};
 ghost use Rattle.shelf_io.specs.Shelf.{Files, NoneFell};
 ghost use Rattle.wad_dir.specs.Map.{entry_names};
-ghost use Rattle.wad_dir.specs.Wad.{WadFile, file_of, names_of};
+ghost use Rattle.wad_dir.specs.Wad.{file_of, names_of};
 ghost use Rattle.all_maps.specs.All.{HasInOrder};
 ghost use Rattle.all_maps.specs.Maps.{maps_of};
-ghost use Rattle.order_words.specs.declared.order.Order.TheVariants as order;
 ghost use Rattle.sight_status.specs.Answer.{Gives};
 ghost use Rattle.sight_run.specs.All.{AllCalls, MapsCall, OnRead, all_roles, all_writes, tally_line, wad_in};
 ghost use Rattle.sight_run.specs.Reply.{replied, reply_seen, roles_of, writes};

@@ -2,6 +2,7 @@
 
 use crate::certs::digits_named;
 use crate::maps::{Lines, NONE, RowLine, map_named};
+use crate::pictures::picture_named;
 use crate::rooms::made_rooms;
 use hexen_lumps::to_hexen;
 use map_lumps::read_lumps;
@@ -251,7 +252,18 @@ fn spliced(
     Ok(made)
 }
 
-// What a word makes of a file's bytes: `#` and digits are the bytes, or `#` and the name of a file; `grid:` and a number
+// The bytes of a picture, in which an apostrophe stands for a quotation mark.
+fn bytes_of_picture(alloc: Global, picture: &str) -> Result<Vec<u8>, AllocError> {
+    let mut bytes = picture.as_bytes().to_vec(alloc)?;
+    for byte in bytes.iter_mut() {
+        if *byte == b'\'' {
+            *byte = b'"';
+        }
+    }
+    Ok(bytes)
+}
+
+// What a word makes of a file's bytes: `#` and digits are the bytes, or `#` and the name of a file; `%` and a name are a picture; `grid:` and a number
 // make a map; `@`, a place, a colon, how many bytes are taken out there, a colon and digits change them; `&` and a number
 // repeat the last sixteen.
 fn edited(alloc: Global, file: Vec<u8>, word: &str) -> Result<Vec<u8>, AllocError> {
@@ -260,6 +272,9 @@ fn edited(alloc: Global, file: Vec<u8>, word: &str) -> Result<Vec<u8>, AllocErro
             "" => bytes_of_digits(alloc, digits),
             named => bytes_of_digits(alloc, named),
         };
+    }
+    if let Some(name) = word.strip_prefix('%') {
+        return bytes_of_picture(alloc, picture_named(name));
     }
     if let Some(size) = word.strip_prefix("grid:") {
         return match number(size) {

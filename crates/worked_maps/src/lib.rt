@@ -5,4 +5,5 @@ pub mod certs;
 pub mod dice;
 pub mod files;
 pub mod maps;
+pub mod pictures;
 pub mod rooms;

@@ -1,0 +1,193 @@
+#!/usr/bin/env python3
+"""Compares the pictures of the verb draw, byte for byte, with those that are put together here.
+
+    bench/draw.py [--program PATH] [--wads FOLDER] [--only E1M7,MAP22] [--rows 20] [--pairs 40] [--seed 1]
+
+Needs Debian's packages freedoom and freedm, or a folder with freedoom1.wad and freedoom2.wad. Of six maps, or of those
+that are named, it asks for the plan, the plan with --faults, the rows of some sectors in a REJECT that a build wrote,
+and some pairs of sectors. The triangles and the groups are those of the build's certificate, and so are the trees, by
+which it finds what sight out of a group enters (as bench/picture.py does); the ray of a pair is the one that `why`
+says. A pair is compared to its end where one of the first sector's groups has a tree and the sector has no other group.
+The status is 1 where anything differs.
+"""
+import argparse
+import os
+import random
+import subprocess
+import sys
+import tempfile
+from fractions import Fraction
+
+from picture import Plan, Proof, crossing, entered
+from wads import maps, rejects, wad
+
+MAPS = ("E1M1", "E1M7", "E2M9", "MAP01", "MAP19", "MAP22")
+STYLE = (".w,.p,.k,.r{fill:none;stroke-linecap:round}.w{stroke:#000;stroke-width:%d}.p{stroke:#9a9a9a;stroke-width:%d}"
+         ".k{stroke:#d62728;stroke-width:%d}.r{stroke:#d62728;stroke-width:%d}.a{fill:#1f77b4}.b{fill:#ff7f0e}"
+         ".c{fill:#9ecae1}.s{fill:#f2f2f2}.l{fill:#ffdd71}.f{fill:#c7e9c0}")
+
+
+class Sheet:
+    """The texts of a picture of a map, as docs/FORMATS.md has them."""
+
+    def __init__(self, plan):
+        self.plan = plan
+        xs, ys = zip(*plan.points)
+        self.west, self.north = min(xs), max(ys)
+        self.width, self.height = max(xs) - self.west, self.north - min(ys)
+
+    def head(self):
+        longer = max(self.width, self.height)
+        margin, stroke = longer // 50 + 1, longer // 1200 + 1
+        wide, high = self.width + 2 * margin, self.height + 2 * margin
+        shown = tuple(1000 * side // (longer + 2 * margin) for side in (wide, high))
+        yield ('<svg xmlns="http://www.w3.org/2000/svg" viewBox="-%d -%d %d %d" width="%d" height="%d">'
+               % ((margin, margin, wide, high) + shown))
+        yield "<style>%s</style>" % (STYLE % (2 * stroke, stroke, 4 * stroke, 3 * stroke))
+        yield ('<rect class="paper" fill="#fff" x="-%d" y="-%d" width="%d" height="%d"/>' % (margin, margin, wide, high))
+
+    def place(self, point):
+        return "%d %d" % (point[0] - self.west, self.north - point[1])
+
+    def spot(self, point):
+        """A point that need not be whole, cut down to thousandths."""
+        cut = [int(1000 * Fraction(v)) for v in (point[0] - self.west, self.north - point[1])]
+        return " ".join("%d.%03d" % divmod(t, 1000) for t in cut)
+
+    def outline(self, numbers):
+        return "M" + "L".join(self.place(self.plan.points[k]) for k in numbers)
+
+    def faces(self, proof, kind_of):
+        for group, names in enumerate(proof.groups):
+            shape = "".join(self.outline(t[:3]) + "z" for t in proof.corners if t[3] == group)
+            title = "sector" + "".join(" %d" % name for name in names)
+            yield '<path class="%s" id="G%d" d="%s"><title>%s</title></path>' % (kind_of(names), group, shape, title)
+
+    def lines(self):
+        for line in sorted(self.plan.lines, key=lambda line: line.solid):
+            title = str(line.number)
+            title += "" if line.right is None else " front %d" % line.right
+            title += "" if line.left is None else " back %d" % line.left
+            path = "M" + "L".join(self.place(p) for p in line.ends)
+            yield ('<path class="%s" id="L%d" d="%s"><title>%s</title></path>'
+                   % ("w" if line.solid else "p", line.number, path, title))
+
+    def whole(self, under, over):
+        return "\n".join([*self.head(), *under, *self.lines(), *over, "</svg>", ""])
+
+
+def row(sheet, proof, a):
+    """The picture of a row, and its line without the map's name."""
+    plan = sheet.plan
+    bits = [rejects(plan.table, plan.sectors, a, b) for b in range(plan.sectors)]
+
+    def kind_of(names):
+        return "a" if a in names else "s" if all(bits[b] for b in names) else "c"
+
+    return sheet.whole(sheet.faces(proof, kind_of), []), "row %d set %d clear %d" % (a, sum(bits), len(bits) - sum(bits))
+
+
+def pair_faces(sheet, proof, a, b):
+    return sheet.faces(proof, lambda names: "a" if a in names else "b" if b in names else "s")
+
+
+def sight(sheet, proof, a, b, ray):
+    ends = "M" + "L".join(sheet.spot(crossing(sheet.plan, ray, side)) for side in ray.split(",")[:2])
+    over = ['<path class="r" id="ray" d="%s"><title>%s</title></path>' % (ends, ray)]
+    return sheet.whole(pair_faces(sheet, proof, a, b), over), "pair %d %d sight" % (a, b)
+
+
+def leaving(proof, solid, within):
+    """The segments by which one could pass from these triangles to others."""
+    for (u, v), k in proof.on_edge.items():
+        beyond = proof.on_edge.get((v, u))
+        if k in within and beyond is not None and beyond not in within and (u, v) not in solid:
+            yield tuple(sorted((u, v)))
+
+
+def blind(sheet, proof, a, b, group):
+    plan = sheet.plan
+    solid = {e for line in plan.lines if line.solid for e in (plan.edge(line), plan.edge(line)[::-1])}
+    inside, _ = entered(plan, proof, group)
+    within = inside | {k for k, t in enumerate(proof.corners) if t[3] == group}
+    stops = sorted(set(leaving(proof, solid, within)))
+    shown = "".join(sheet.outline(proof.corners[k][:3]) + "z" for k in sorted(inside))
+    under = [*pair_faces(sheet, proof, a, b), '<path class="f" id="open" d="%s"/>' % shown]
+    over = ['<path class="k" id="stops" d="%s"/>' % "".join(sheet.outline(edge) for edge in stops)]
+    return sheet.whole(under, over), "pair %d %d blind %d stops %d" % (a, b, len(inside), len(stops))
+
+
+def said(words):
+    ran = subprocess.run(words, capture_output=True, text=True)
+    return ran.stdout.rstrip("\n")
+
+
+class Asked:
+    """The program on a map that it built, in a folder of its own."""
+
+    def __init__(self, program, folder, name, held):
+        self.program, self.name, self.wrong, self.count = program, name, 0, 0
+        self.source, self.built, self.cert, self.out = (os.path.join(folder, n) for n in ("a.wad", "b.wad", "b.cert", "b.svg"))
+        open(self.source, "wb").write(held)
+        print(said([program, "build", self.source, name, self.built, "--cert", self.cert]), flush=True)
+
+    def compare(self, words, wanted, line):
+        """Whether `draw` with these words writes this picture and says this line."""
+        got = said([self.program, "draw", self.built, self.name, self.out, *map(str, words)])
+        drawn = open(self.out, encoding="ascii", newline="").read()
+        self.count += 1
+        if got != "drawn %s %s" % (self.name, line) or drawn != wanted:
+            self.wrong += 1
+            print("%s draw %s: %s, not %s%s" % (self.name, words, got, line, "" if drawn == wanted else "; another picture"))
+
+    def why(self, a, b):
+        return said([self.program, "why", self.built, self.name, str(a), str(b)])
+
+
+def compare_map(asked, rows, pairs):
+    plan, proof = Plan(asked.built, asked.name), Proof(asked.cert)
+    sheet = Sheet(plan)
+    plain = sheet.whole([], [])
+    asked.compare([], plain, "lines %d sectors %d" % (len(plan.lines), plan.sectors))
+    asked.compare(["--faults"], plain, "faults none")
+    for a in random.sample(range(plan.sectors), min(rows, plan.sectors)):
+        asked.compare([a], *row(sheet, proof, a))
+    for _ in range(pairs):
+        a, b = random.randrange(plan.sectors), random.randrange(plan.sectors)
+        answer, groups = asked.why(a, b), proof.with_sector(a)
+        if answer.startswith("sight"):
+            asked.compare([a, b], *sight(sheet, proof, a, b, answer.split()[-1]))
+        elif answer.startswith("blind") and len(groups) == 1 and groups[0] in proof.places:
+            asked.compare([a, b], *blind(sheet, proof, a, b, groups[0]))
+
+
+def main():
+    words = argparse.ArgumentParser()
+    words.add_argument("--program", default="crates/doomsight/out/doomsight")
+    words.add_argument("--wads", default="/usr/share/games/doom")
+    words.add_argument("--only", default=",".join(MAPS))
+    words.add_argument("--rows", type=int, default=20)
+    words.add_argument("--pairs", type=int, default=40)
+    words.add_argument("--seed", type=int, default=1)
+    words = words.parse_args()
+    random.seed(words.seed)
+    program, only, wrong = os.path.abspath(words.program), words.only.split(","), 0
+    for file in ("freedoom1.wad", "freedoom2.wad"):
+        path = os.path.join(words.wads, file)
+        if not os.path.exists(path):
+            print("%s isn't here: passed over" % file)
+            continue
+        with open(path, "rb") as it:
+            held = it.read()
+        for name, lumps in maps(held):
+            if name in only:
+                with tempfile.TemporaryDirectory() as folder:
+                    asked = Asked(program, folder, name, wad(name, lumps))
+                    compare_map(asked, words.rows, words.pairs)
+                    print("%s: %d pictures, %d differ" % (name, asked.count, asked.wrong), flush=True)
+                    wrong += asked.wrong
+    return 1 if wrong else 0
+
+
+if __name__ == "__main__":
+    sys.exit(main())

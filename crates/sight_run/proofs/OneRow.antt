@@ -1,0 +1,65 @@
+-- Of the row of a sector in a map's own table there is one picture: its bits alone are drawn, and the bytes of the REJECT fix them.
+use Rattle.std.proofs.Common.{◌≡◌, ℕ, ◌+◌, ◌-◌, ◌*◌, ◌/◌, ◌%◌, ◌≤◌, ◌==◌, inl, inr, List, [], length, map, Result, Ok, Err, sym, ap, ◌∙◌, subst, arith, if◌then◌else◌}
+use Rattle.std.specs.Int.{bit_at}
+use Rattle.std.specs.List.{count_by, list_all, list_any, range_with_len}
+use Rattle.std.proofs.lemmas.List.{get_or_past}
+use Rattle.std.proofs.lemmas.Nat.Bits.{bit_at-zero}
+use Rattle.list_base.proofs.Numbers.{below_or_not}
+use Rattle.sight_names.specs.Map.{Map}
+use Rattle.sight_names.specs.Table.{table_bit}
+use Rattle.reject_bits.specs.Parts.{TableParts}
+use Rattle.map_picture.specs.declared.tint.Tint.TheVariants as tint
+use Rattle.map_picture.specs.Bytes.{svg_of}
+use Rattle.map_picture.specs.Picture.{faces_from, picture_of}
+use Rattle.sight_status.specs.declared.status.Flaw.TheVariants as flaw
+use Rattle.sight_status.specs.declared.status.Why.TheVariants as why
+use Rattle.sight_status.specs.declared.status.Status.TheVariants as status
+use Rattle.sight_status.specs.Answer.{Answer}
+use Rattle.sight_status.specs.declared.status.Status.{Status}
+use Rattle.map_answers.specs.Groups.{MapGroups}
+use Rattle.draw_answers.specs.Drawn.{Drawing, one_picture}
+use Rattle.draw_answers.specs.Lines.{row_line_of, set_in_row}
+use Rattle.draw_answers.specs.Row.{DrawRowCalls, RowCall, row_drawing}
+use Rattle.sight_run.specs.Check.{IsTableOf}
+
+past_bytes : (l k : ℕ) → 8 * l ≤ k → l ≤ k / 8
+past_bytes l k h = omega arith
+
+-- a bit past those of the pairs is clear
+spare_clear : (n : ℕ) (bytes : List ℕ) (t : TableParts) → IsTableOf n bytes t → (k : ℕ) → n * n ≤ k → table_bit t.bytes k ≡ 0
+spare_clear n bytes t is k h = elim (below_or_not k (8 * length t.bytes)) as (λ _. table_bit t.bytes k ≡ 0) [
+  | inl lt ↦ is.whole.no_spare k (subst (λ (x : ℕ). x * x ≤ k) (sym is.sectors) h) lt
+  | inr past ↦ ap (λ (x : ℕ). bit_at x (k % 8)) (get_or_past t.bytes (k / 8) 0 (past_bytes (length t.bytes) k past)) ∙ bit_at-zero (k % 8)
+]
+
+module _ (n : ℕ) (bytes : List ℕ) (t u : TableParts) (is : IsTableOf n bytes t) (other : IsTableOf n bytes u) where
+  sectors : t.n ≡ u.n
+  sectors = is.sectors ∙ sym other.sectors
+
+  bits : (k : ℕ) → table_bit t.bytes k ≡ table_bit u.bytes k
+  bits k = elim (below_or_not k (n * n)) as (λ _. table_bit t.bytes k ≡ table_bit u.bytes k) [
+    | inl lt ↦ is.bits k lt ∙ sym (other.bits k lt)
+    | inr past ↦ spare_clear n bytes t is k past ∙ sym (spare_clear n bytes u other k past)
+  ]
+
+  module _ (name out : List ℕ) (a : ℕ) (m : Map) where
+    one_row : (g : MapGroups) → row_drawing name m t a g ≡ row_drawing name m u a g
+    unfolding set_in_row
+    one_row g = λ i. record {
+      bytes = svg_of m (picture_of m
+          (faces_from g.triangles g.labels 0 (map (λ names. if list_any (λ b. b == a) names then tint.Source else if list_all (λ b. bits (a * sectors i + b) i == 1) names then tint.Set else tint.Clear) g.groups) g.groups) []);
+      line = row_line_of name a (count_by (λ b. bits (a * sectors i + b) i == 1) (range_with_len 0 (sectors i)))
+          (sectors i - count_by (λ b. bits (a * sectors i + b) i == 1) (range_with_len 0 (sectors i)));
+    }
+
+    call_too : (g : MapGroups) (r : Result Answer Status) → RowCall name out m u a g r → RowCall name out m t a g r
+    call_too g (Ok answer) q = (q.0, q.1 ∙ ap (λ (d : Drawing). one_picture out d) (sym (one_row g)))
+    call_too g (Err (status.No (why.NoSector k))) q = q
+    call_too g (Err s) q = absurd q
+
+    -- what one of two tables of these bytes calls for, the other calls for
+    pub calls_too : (r : Result Answer Status) → DrawRowCalls name out u a m r → DrawRowCalls name out t a m r
+    calls_too (Ok answer) q = (q.0, record { groups = q.1.groups; over = q.1.over; called = call_too q.1.groups (Ok answer) q.1.called })
+    calls_too (Err (status.BadMap (flaw.Line fault))) q = q
+    calls_too (Err (status.BadMap (flaw.Open side))) q = q
+    calls_too (Err s) q = (q.0, record { groups = q.1.groups; over = q.1.over; called = call_too q.1.groups (Err s) q.1.called })

@@ -1,0 +1,54 @@
+-- What the order `draw` makes of a map that was found: a picture and a line.
+use Rattle.std.specs.Prelude.{◌≡◌, ℕ, List, Result, Ok, Err, ⊤}
+use Rattle.sight_names.specs.Map.{Map}
+use Rattle.reject_bits.specs.Parts.{TableParts}
+use Rattle.order_words.specs.declared.order.View.{View}
+use Rattle.order_words.specs.declared.order.View.TheVariants as view
+use Rattle.sight_status.specs.declared.status.Status.{Status}
+use Rattle.sight_status.specs.declared.status.Status.TheVariants as status
+use Rattle.sight_status.specs.declared.status.Why.TheVariants as why
+use Rattle.sight_status.specs.Answer.{Answer}
+use Rattle.sight_status.specs.Status.{IsOfTableTest}
+use Rattle.map_answers.specs.Input.{LocatedMap}
+use Rattle.draw_answers.specs.Drawn.{IsOfDrawTest}
+use Rattle.draw_answers.specs.Faults.{DrawFaultsCalls}
+use Rattle.draw_answers.specs.Pair.{DrawPairCalls}
+use Rattle.draw_answers.specs.Plan.{DrawPlanCalls}
+use Rattle.draw_answers.specs.Row.{DrawRowCalls}
+use Rattle.sight_run.specs.Build.{IsUnbuildable}
+use Rattle.sight_run.specs.Check.{IsTableOf, of_length, reject_of}
+
+-- the answer is one to a row of the table that these bytes spell
+pub record IsRowIn (name out : List ℕ) (a : ℕ) (m : Map) (bytes : List ℕ) (answer : Result Answer Status) : Type 0 where
+  pub table : TableParts
+  pub spelled : IsTableOf m.sectors bytes table
+  pub called : DrawRowCalls name out table a m answer
+
+-- the answers to a row of a table, or the refusal where the bytes are none
+abbrev pub OnTable : List ℕ → List ℕ → ℕ → Map → Result (List ℕ) Status → Result Answer Status → Type 0
+OnTable name out a m (Ok bytes) answer = IsRowIn name out a m bytes answer
+OnTable name out a m (Err refusal) answer = answer ≡ Err refusal
+
+-- the answers to a row of the map's own table
+abbrev pub RowOfMap : List ℕ → List ℕ → ℕ → LocatedMap → Result Answer Status → Type 0
+RowOfMap name out a found answer = OnTable name out a found.map (of_length found.map.sectors (reject_of found)) answer
+
+-- the answers that `draw` calls for
+abbrev pub DrawCalls : List ℕ → List ℕ → View → LocatedMap → Result Answer Status → Type 0
+DrawCalls name out view.Plan found answer = DrawPlanCalls name out found.map answer
+DrawCalls name out view.Faults found answer = DrawFaultsCalls name out found.map answer
+DrawCalls name out (view.Row a) found answer = RowOfMap name out a found answer
+DrawCalls name out (view.Pair pair budget) found answer = DrawPairCalls name out budget pair found.map answer
+
+-- what drawing can end with once a map is found
+abbrev pub IsOfDrawing : Status → Type 0
+IsOfDrawing (status.No (why.Table fault)) = IsOfTableTest (status.No (why.Table fault))
+IsOfDrawing other = IsOfDrawTest other
+
+-- There is one picture, but for that of a pair, which may vary with the ray and with what is walked; where no map is found or the map isn't
+-- sound that has one answer too.
+abbrev pub HasOneDrawing : View → Result LocatedMap Status → Type 0
+HasOneDrawing view.Plan said = ⊤
+HasOneDrawing view.Faults said = ⊤
+HasOneDrawing (view.Row a) said = ⊤
+HasOneDrawing (view.Pair pair budget) said = IsUnbuildable said
