@@ -6,7 +6,7 @@
 Needs Debian's packages freedoom and freedm, or a folder with freedoom1.wad and freedoom2.wad. Of six maps, or of those
 that are named, it asks for the plan, the plan with --faults, the rows of some sectors in a REJECT that a build wrote,
 and some pairs of sectors. The triangles and the groups are those of the build's certificate, and so are the trees, by
-which it finds what sight out of a group enters (as bench/picture.py does); the ray of a pair is the one that `why`
+which it finds what sight out of a group enters; the ray of a pair is the one that `why`
 says. A pair is compared to its end where one of the first sector's groups has a tree and the sector has no other group.
 The status is 1 where anything differs.
 """
@@ -18,7 +18,7 @@ import sys
 import tempfile
 from fractions import Fraction
 
-from picture import Plan, Proof, crossing, entered
+from plans import Plan, Proof, crossing, entered
 from wads import maps, rejects, wad
 
 MAPS = ("E1M1", "E1M7", "E2M9", "MAP01", "MAP19", "MAP22")

@@ -48,7 +48,7 @@ put() {
     done
     for name in "$top"/docs/*.md; do install -m 644 "$name" "$3/docs"; done
     for name in "$top"/docs/pictures/*; do install -m 644 "$name" "$3/docs/pictures"; done
-    for name in rays.py picture.py wads.py; do install -m 644 "$top/bench/$name" "$3/bench"; done
+    for name in rays.py wads.py; do install -m 644 "$top/bench/$name" "$3/bench"; done
     install -m 644 "$top/crates/doomsight/data/u.wad" "$3/examples"
 }
 
