@@ -39,7 +39,7 @@ fn count_sequences(
         match walker.go()? {
             Went::End => return Ok(count),
             Went::Blocked => {}
-            Went::Open => count += 1,
+            Went::Open(_) => count += 1,
         }
     }
 }

@@ -41,7 +41,7 @@ fn walk_on(mut walker: Walker, budget: Budget, marks: &mut [bool]) -> Result<boo
         match walker.go()? {
             Went::End => return Ok(true),
             Went::Blocked => {}
-            Went::Open => {
+            Went::Open(_) => {
                 let Some(less) = with_one_less(left) else {
                     return Ok(false);
                 };

@@ -14,7 +14,7 @@ ghost use Rattle.half_edges.specs.declared.table.HalfEdge.{HalfEdge as HalfEdgeO
 ghost use Rattle.half_edges.specs.HalfEdges.{AreHalfEdges};
 ghost use Rattle.sequence_laws.specs.Ways.{root_alone};
 ghost use Rattle.portal_walk.specs.Sides.{ArrivesAt};
-ghost use Rattle.portal_walk.specs.Walk.{IsTop, pending};
+ghost use Rattle.portal_walk.specs.Walk.{IsTop, TellsLine, pending};
 ghost use Rattle.pair_budget.specs.declared.results.Outcome.TheVariants as outcome;
 ghost use Rattle.pair_budget.specs.declared.results.Reached.{Reached as ReachedSector};
 ghost use Rattle.pair_budget.specs.Exact.{IsExact, IsWholly};
@@ -168,12 +168,12 @@ fn walk_on<N: Notice>(
         match walker.go()? {
             Went::End => return Ok(Outcome::Complete(walker.tree())),
             Went::Blocked => {}
-            Went::Open => {
+            Went::Open(is_line) => {
                 let Some(less) = with_one_less(left) else {
                     return Ok(Outcome::Spent);
                 };
                 left = less;
-                let reached = newly_reached(&walker, labels, found_sectors);
+                let reached = newly_reached(&walker, labels, found_sectors, is_line);
                 if note(found_sectors, source, reached, notice)? {
                     return Ok(Outcome::All);
                 }
@@ -193,23 +193,29 @@ fn with_one_less(budget: Budget) -> Option<Budget>
     }
 }
 
-/// The sector of the triangle that a walk came to, with a sight ray to it. None where the last portal is no line, or the
-/// sector was found before: most sequences need no line.
+/// The sector of the triangle that a walk came to, with a sight ray to it. None where the last portal is no line of the map, or
+/// the sector was found before: most sequences need no line.
 // in line, since a call would take what it finds through memory
 #[inline(always)]
-fn newly_reached(walker: &Walker, labels: &Labels, found_sectors: &FoundSectors) -> Option<Reached>
+fn newly_reached(
+    walker: &Walker,
+    labels: &Labels,
+    found_sectors: &FoundSectors,
+    is_line: bool,
+) -> Option<Reached>
     requires labels { walker.now.labels ≡ labels.now }
     requires at { (edge : HalfEdgeOf) × IsAt walker.now edge }
     requires splittable { IsSplittable walker.now.ends }
+    requires line { TellsLine walker.now is_line }
     ensures reached { IfSome result (λ reached. IsReachedFrom walker.now.plan walker.now.source reached) }
     ensures label { (edge : HalfEdgeOf) → IsTop walker.now edge → IfSome result (λ reached. label_of labels.now edge.triangle ≡ Given reached.to) }
     ensures ray { (edge : HalfEdgeOf) → IsTop walker.now edge → IfSome result (IsRayTo walker.now edge.entered) }
     ensures given { (edge : HalfEdgeOf) (sector : ℕ) → IsTop walker.now edge → label_of labels.now edge.triangle ≡ Given sector → IsSome walker.now.root → IsSome edge.entered → IsSome result ⊎ IsFound found_sectors.now.found sector }
 {
-    let here = walker.here();
-    if here.entered.is_none() {
+    if !is_line {
         return None;
     }
+    let here = walker.here();
     let to = labels.get(here.triangle)?;
     if found_sectors.has(to) {
         return None;

@@ -168,7 +168,7 @@ pub whole_gone : (old new : WalkParts) (r : Result Went Memory) → SameWalk old
 whole_gone old new (Err m) same goes rests h = after old new h.opened same h.ground (answers_resting IsAnySector (all_roots old) old new h.opened h.so_far same rests)
 whole_gone old new (Ok went.End) same goes rests h = after old new h.opened same h.ground (answers_ended IsAnySector (all_roots old) old new h.opened h.so_far same goes)
 whole_gone old new (Ok went.Blocked) same goes rests h = after old new h.opened same h.ground (answers_blocked IsAnySector (all_roots old) old new h.opened h.so_far same goes.0 goes.1)
-whole_gone old new (Ok went.Open) same goes rests h = whole_open old new goes.opened.edge.triangle goes.opened.edge.entered same (leads_to old new goes goes.opened.edge goes.opened.top) h
+whole_gone old new (Ok (went.Open is_line)) same goes rests h = whole_open old new goes.0.opened.edge.triangle goes.0.opened.edge.entered same (leads_to old new goes.0 goes.0.opened.edge goes.0.opened.top) h
 
 pub whole_tree : (w : WalkParts) (t : Tree) → IsWholeSoFar w → remaining w ≡ 0 → t.source ≡ w.source → t.nodes ≡ w.nodes → (opened : List ℕ) × IsWholeTree (map_of w.plan) w.mesh.triangles w.labels t opened
 whole_tree w t h none source nodes = (h.opened, whole_at_end w IsAnySector h.opened h.so_far (none_pending w none) t source nodes)

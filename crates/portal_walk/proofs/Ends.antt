@@ -7,7 +7,7 @@ use Rattle.stab_hull.specs.Answer.{IsPassed}
 use Rattle.portal_walk.specs.declared.path.Frame.{Frame}
 use Rattle.portal_walk.specs.Frames.{PathParts, Passes}
 
-same_parts : (frames gs : List Frame) (ends es : List EndPoints) → frames ≡ gs → ends ≡ es → ◌≡◌ {A = PathParts} (record { frames = frames; ends = ends }) (record { frames = gs; ends = es })
+pub same_parts : (frames gs : List Frame) (ends es : List EndPoints) → frames ≡ gs → ends ≡ es → ◌≡◌ {A = PathParts} (record { frames = frames; ends = ends }) (record { frames = gs; ends = es })
 same_parts frames gs ends es g h = ap₂ (λ (fs : List Frame) (ds : List EndPoints). let w : PathParts = record { frames = fs; ends = ds } in w) g h
 
 -- the portal stands among the ends, and a line splits them

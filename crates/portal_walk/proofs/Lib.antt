@@ -12,6 +12,8 @@ pub mod Portals
 pub mod Sequences
 pub mod Paths
 pub mod Entering
+pub mod OnePortal
+pub mod Trying
 pub mod Gaps
 pub mod Covering
 pub mod Answering

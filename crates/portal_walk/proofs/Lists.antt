@@ -1,7 +1,8 @@
 -- Elements of lists by their places.
 use Rattle.std.proofs.Common.{◌≡◌, ℕ, zero, suc, ◌-◌, ◌<◌, ◌⊎◌, inl, inr, List, [], ◌∷◌, ◌++◌, length, take, slice_get, slice_set, Option, Some, None, IsSome, refl, sym, ap, ◌∙◌, subst, arith}
 use Rattle.std.proofs.lemmas.Bool.{false≢true}
-use Rattle.std.proofs.lemmas.List.{length-set, length-take-le, set-set, set_at}
+use Rattle.std.proofs.lemmas.List.{length_push, length-set, length-take-le, set-set, set_at, take-append-le, take_all}
+use Rattle.list_base.proofs.Lists.{get_pushed}
 use Rattle.std.proofs.lemmas.Option.{none-some, same_Some, slice_get_within}
 
 -- the element stays where it is when one more comes
@@ -54,6 +55,13 @@ front_back {X} (y ∷ z ∷ xs) x e =
 -- the last one written
 pub set_back : {X : Type 0} (xs : List X) (x y : X) → slice_get xs (length xs - 1) ≡ Some x → slice_set xs (length xs - 1) y ≡ take (length xs - 1) xs ++ y ∷ []
 set_back {X} xs x y e = ap (λ (zs : List X). slice_set zs (length xs - 1) y) (sym (front_back xs x e)) ∙ set_at (take (length xs - 1) xs) x [] y (length xs - 1) (length-take-le (length xs - 1) xs (omega arith))
+
+pub last_pushed : {X : Type 0} (xs : List X) (x : X) → slice_get (xs ++ x ∷ []) (length (xs ++ x ∷ []) - 1) ≡ Some x
+last_pushed {X} xs x = ap (λ (n : ℕ). slice_get (xs ++ x ∷ []) n) (let l = length_push xs x in omega (arith, l)) ∙ get_pushed xs x
+
+-- the first ones, of which there are no more
+pub take_front : {X : Type 0} (xs ys : List X) (n : ℕ) → n ≡ length xs → take n (xs ++ ys) ≡ xs
+take_front xs ys n e = take-append-le n xs ys (omega (arith, e)) ∙ take_all n xs (omega (arith, e))
 
 pub last_set : {X : Type 0} (xs : List X) (x y : X) → slice_get xs (length xs - 1) ≡ Some x → slice_get (slice_set xs (length xs - 1) y) (length (slice_set xs (length xs - 1) y) - 1) ≡ Some y
 last_set xs x y e = ap (λ (n : ℕ). slice_get (slice_set xs (length xs - 1) y) (n - 1)) (length-set xs (length xs - 1) y) ∙ get_set_same xs (length xs - 1) y (slice_get_within xs (length xs - 1) x e)

@@ -1,5 +1,5 @@
 -- The path of a walk: the portals that were entered, and the ways that each still has.
-use Rattle.std.specs.Prelude.{◌≡◌, ℕ, ◌+◌, ◌-◌, ◌*◌, ◌^◌, List, [], ◌∷◌, ◌++◌, Option, Some, None, Result, Ok, Err, length, slice_get}
+use Rattle.std.specs.Prelude.{◌≡◌, ℕ, ◌+◌, ◌-◌, ◌*◌, ◌^◌, ◌<◌, ◌≤◌, List, [], ◌∷◌, ◌++◌, Option, Some, None, Result, Ok, Err, length, take, slice_get, slice_set}
 use Rattle.sight_names.specs.declared.names.Memory.{Memory}
 use Rattle.sight_names.specs.Splitting.{EndPoints, IsSplittable}
 use Rattle.stab_hull.specs.declared.Passed.{Passed}
@@ -33,6 +33,25 @@ top_ways fs = ways_of (slice_get fs (length fs - 1))
 abbrev pub frames_weight : ℕ → List Frame → ℕ
 frames_weight d [] = 0
 frames_weight d (f ∷ fs) = ways_left f.ways * 3 ^ (d - 1) + frames_weight (d - 1) fs
+
+-- the portal is where it was, with these ways left
+abbrev pub with_ways : Frame → Ways → Frame
+with_ways f w = record { edge = f.edge; ways = w; under = f.under }
+
+-- the same path, but for the ways that the portal at place n has left
+abbrev pub HasWays : PathParts → ℕ → Ways → PathParts → Type 0
+HasWays old n w new = (f : Frame) → slice_get old.frames n ≡ Some f → new ≡ record { frames = slice_set old.frames n (with_ways f w); ends = old.ends }
+
+abbrev pub first_portals : ℕ → PathParts → PathParts
+first_portals n p = record { frames = take n p.frames; ends = take n p.ends }
+
+-- no portal from the n-th to before the k-th has a way left
+abbrev pub AreDone : List Frame → ℕ → ℕ → Type 0
+AreDone fs n k = (j : ℕ) (f : Frame) → n ≤ j → j < k → slice_get fs j ≡ Some f → ways_left f.ways ≡ 0
+
+-- of each portal: those before it that don't stay when it is left have no way left
+abbrev pub AreUnder : List Frame → Type 0
+AreUnder fs = (k : ℕ) (f : Frame) → slice_get fs k ≡ Some f → (f.under ≤ k) × AreDone fs f.under k
 
 -- the path, and one more portal with these ends
 abbrev pub with_portal : PathParts → Frame → EndPoints → PathParts

@@ -11,8 +11,6 @@ use Rattle.half_edges.specs.declared.table.HalfEdge.{HalfEdge}
 use Rattle.half_edges.specs.HalfEdges.{AreHalfEdges, portal_of}
 use Rattle.half_edges.specs.Kinds.{IsEnteredAt}
 use Rattle.half_edges.specs.Numbers.{number_of}
-use Rattle.portal_walk.specs.declared.scene.Kept.{Kept}
-use Rattle.portal_walk.specs.declared.scene.Kept.TheVariants.{Own, Lent}
 use Rattle.portal_walk.specs.declared.scene.Way.{Way as WayOut}
 use Rattle.portal_walk.specs.declared.scene.Way.TheVariants.{Left, Right}
 use Rattle.portal_walk.specs.Sides.{ArrivesAt}
@@ -24,11 +22,6 @@ pub record SceneParts : Type 0 where
   pub labels : List (Option ℕ)
   pub source : ℕ
   pub edges : List HalfEdge
-
--- the half-edges of a table, whoever owns it
-abbrev pub edges_in : Kept → List HalfEdge
-edges_in (Own table) = table
-edges_in (Lent table) = table.now
 
 -- the half-edges of a good mesh
 pub record IsScene (s : SceneParts) : Type 0 where

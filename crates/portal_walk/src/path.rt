@@ -1,14 +1,13 @@
 //! The portals that a walk has entered, with their ends.
 
-ghost use Rattle.std.specs.Prelude.{◌≡◌, ◌≢◌, ◌+◌, ◌-◌, ◌<◌, [], length, slice_get, slice_set, take, IfNone, IfSome};
+ghost use Rattle.std.specs.Prelude.{◌≡◌, ◌≢◌, ◌+◌, ◌-◌, ◌<◌, ◌≤◌, ◌++◌, ◌∷◌, [], length, slice_get, take, OnErr, OnOk};
 ghost use Rattle.sight_names.specs.Splitting.{SplitsEnds, IsSplittable};
 ghost use Rattle.stab_hull.specs.Answer.{IsLineInRange};
-ghost use Rattle.portal_walk.specs.Frames.{Passes, ways_left};
-ghost use Rattle.portal_walk.specs.Pending.{way_of, way_taken};
+ghost use Rattle.stab_hull.specs.Sleeves.{HasLastLeft, HasLastRight};
+ghost use Rattle.portal_walk.specs.Frames.{Passes, HasWays, first_portals};
 
-use crate::scene::Way;
 use sight_names::{Memory, Pt, RIGHT_END};
-use stab_hull::{Ends, Passed};
+use stab_hull::{Passed, Sleeve};
 use std::alloc::Global;
 use std::marker::Model;
 
@@ -20,30 +19,20 @@ pub enum Ways {
     Done,
 }
 
-/// The way that is tried next where these are left, and those that are left then; None where none is left.
-pub fn next_way(ways: Ways) -> Option<(Way, Ways)>
-    ensures some { IfSome result (λ next. (ways_left ways ≡ ways_left next.1 + 1) × (way_taken next.1 ≡ way_of next.0)) }
-    ensures none { IfNone result (ways_left ways ≡ 0) }
-{
-    match ways {
-        Ways::Both => Some((Way::Left, Ways::RightOnly)),
-        Ways::RightOnly => Some((Way::Right, Ways::Done)),
-        Ways::Done => None,
-    }
-}
-
 /// A portal that was entered, by the number of its half-edge.
 #[derive(Clone, Copy, Debug)]
 pub struct Frame {
     pub edge: u32,
     pub ways: Ways,
+    /// So many portals stay when it is left: up to the nearest one before it that has a way left.
+    pub under: u32,
 }
 
 /// The portals that were entered, in order, with their ends.
 #[derive(Drop)]
 pub struct Path {
     frames: Vec<Frame>,
-    ends: Ends,
+    ends: Sleeve,
 }
 
 impl Model for Path {
@@ -57,6 +46,24 @@ impl Model for Path {
     ghost invariant = { λ p. length p.ends ≡ length p.frames.items };
 }
 
+/// Notes a portal whose ends are there, or takes these away.
+#[inline(always)]
+fn note(frames: &mut Vec<Frame>, ends: &mut Sleeve, frame: Frame) -> Result<(), Memory>
+    requires { length ends.old ≡ length frames.old.items + 1 }
+    ensures ok { OnOk result (frames.new.items ≡ frames.old.items ++ frame ∷ []) }
+    ensures ok_ends { OnOk result (ends.new ≡ ends.old) }
+    ensures err { OnErr result (frames.new.items ≡ frames.old.items) }
+    ensures err_ends { OnErr result (ends.new ≡ take (length frames.old.items) ends.old) }
+{
+    match frames.push(frame) {
+        Ok(()) => Ok(()),
+        Err(_) => {
+            ends.cut(frames.len());
+            Err(Memory)
+        }
+    }
+}
+
 impl Path {
     /// The path of no portal.
     pub fn new(alloc: Global) -> Path
@@ -64,7 +71,7 @@ impl Path {
     {
         Path {
             frames: Vec::new(alloc),
-            ends: Ends::new(alloc),
+            ends: Sleeve::new(alloc),
         }
     }
 
@@ -83,35 +90,65 @@ impl Path {
     }
 
     /// Writes the ways that a portal has left.
-    pub fn set(&mut self, at: usize, frame: Frame)
-        requires { at < length self.old.frames }
-        ensures { self.new ≡ record { frames = slice_set self.old.frames at frame; ends = self.old.ends } }
-    {
-        self.frames[at] = frame;
-    }
-
-    /// Takes the last portal away.
-    pub fn leave(&mut self)
-        requires { 0 < length self.old.frames }
-        ensures { self.new ≡ record { frames = take (length self.old.frames - 1) self.old.frames; ends = take (length self.old.frames - 1) self.old.ends } }
-    {
-        let _ = self.frames.pop();
-        self.ends.pop();
-    }
-
-    /// Enters a portal with these ends where a line splits the ends of the whole path, else tells ends that show that none does.
-    // in line, since a call would take what comes of it through memory
     #[inline(always)]
-    pub fn pass(&mut self, frame: Frame, left: Pt, right: Pt) -> Result<Passed, Memory>
+    pub fn set_ways(&mut self, at: usize, ways: Ways)
+        requires { at < length self.old.frames }
+        ensures { HasWays self.old at ways self.new }
+    {
+        self.frames[at].ways = ways;
+    }
+
+    /// Takes the portals behind the first ones away.
+    #[inline(always)]
+    pub fn cut(&mut self, count: usize)
+        requires { count ≤ length self.old.frames }
+        ensures { self.new ≡ first_portals count self.old }
+    {
+        self.frames.truncate(count);
+        self.ends.cut(count);
+    }
+
+    /// Enters the portal of a root with these ends.
+    pub fn begin(&mut self, frame: Frame, left: Pt, right: Pt) -> Result<(), Memory>
+        requires first { self.old.frames ≡ [] }
         requires proper { left ≢ right }
-        requires room { length self.old.frames < RIGHT_END }
-        ensures each { length self.old.ends ≡ length self.old.frames }
-        ensures passes { Passes self.old self.new frame (record { left = left; right = right }) result }
+        ensures ok { OnOk result (self.new ≡ record { frames = frame ∷ []; ends = record { left = left; right = right } ∷ [] }) }
+        ensures err { OnErr result (self.new ≡ self.old) }
     {
         self.frames.reserve(1)?;
-        let passed = self.ends.pass(left, right)?;
+        self.ends.begin(left, right)?;
+        self.frames.push_reserved(frame);
+        Ok(())
+    }
+
+    /// Enters a portal from the last left end to this right end where a line splits the ends of the whole path, else tells
+    /// ends that show that none does.
+    // in line, since a call would take what comes of it through memory
+    #[inline(always)]
+    pub fn by_left(&mut self, frame: Frame, left: Pt, right: Pt) -> Result<Passed, Memory>
+        requires last { HasLastLeft self.old.ends left }
+        requires proper { left ≢ right }
+        requires room { length self.old.frames < RIGHT_END }
+        ensures passes { Passes self.old self.new frame (record { left = left; right = right }) result }
+    {
+        let passed = self.ends.by_left(left, right)?;
         if let Passed::Open = passed {
-            self.frames.push_reserved(frame);
+            note(&mut self.frames, &mut self.ends, frame)?;
+        }
+        Ok(passed)
+    }
+
+    /// The same from this left end to the last right end.
+    #[inline(always)]
+    pub fn by_right(&mut self, frame: Frame, left: Pt, right: Pt) -> Result<Passed, Memory>
+        requires last { HasLastRight self.old.ends right }
+        requires proper { left ≢ right }
+        requires room { length self.old.frames < RIGHT_END }
+        ensures passes { Passes self.old self.new frame (record { left = left; right = right }) result }
+    {
+        let passed = self.ends.by_right(left, right)?;
+        if let Passed::Open = passed {
+            note(&mut self.frames, &mut self.ends, frame)?;
         }
         Ok(passed)
     }

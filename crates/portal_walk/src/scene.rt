@@ -2,7 +2,7 @@
 
 ghost use Rattle.std.specs.Prelude.{◌≡◌, Some, slice_get};
 ghost use Rattle.half_edges.specs.HalfEdges.{AreHalfEdges};
-ghost use Rattle.portal_walk.specs.Scene.{Finds, FindsWay, IsNumber, IsScene, behind as behind_of, edges_in};
+ghost use Rattle.portal_walk.specs.Scene.{Finds, FindsWay, IsNumber, IsScene, behind as behind_of};
 ghost use Rattle.sight_names.specs.Map.{map_of};
 ghost use Rattle.sight_names.specs.Mesh.{IsGoodMesh};
 ghost use Rattle.sight_names.specs.Plan.{IsPlan};
@@ -19,13 +19,6 @@ pub enum Way {
     Right,
 }
 
-/// The half-edges of a map: made for one walk, or shared by many.
-#[derive(Drop)]
-pub enum Kept<'a> {
-    Own(HalfEdges),
-    Lent(&'a HalfEdges),
-}
-
 /// The half-edges over a plan, a mesh and its labels, and the source of a walk that enters those outside of it.
 #[derive(Drop)]
 pub struct Scene<'a> {
@@ -33,17 +26,17 @@ pub struct Scene<'a> {
     mesh: &'a Mesh,
     labels: &'a Labels,
     source: u16,
-    kept: Kept<'a>,
+    edges: &'a HalfEdges,
 }
 
 impl<'a> Model for Scene<'a> {
-    ghost use Rattle.portal_walk.specs.Scene.{SceneParts, IsScene, edges_in};
+    ghost use Rattle.portal_walk.specs.Scene.{SceneParts, IsScene};
 
     ghost Value = { SceneParts };
 
-    ghost view = { λ s. record { plan = s.plan.now; mesh = s.mesh.now; labels = s.labels.now; source = s.source; edges = edges_in s.kept } };
+    ghost view = { λ s. record { plan = s.plan.now; mesh = s.mesh.now; labels = s.labels.now; source = s.source; edges = s.edges.now } };
 
-    ghost invariant = { λ s. IsScene (record { plan = s.plan.now; mesh = s.mesh.now; labels = s.labels.now; source = s.source; edges = edges_in s.kept }) };
+    ghost invariant = { λ s. IsScene (record { plan = s.plan.now; mesh = s.mesh.now; labels = s.labels.now; source = s.source; edges = s.edges.now }) };
 }
 
 /// The half-edge behind a way out of the triangle.
@@ -62,20 +55,20 @@ impl<'a> Scene<'a> {
         plan: &'a Plan,
         mesh: &'a Mesh,
         labels: &'a Labels,
-        kept: Kept<'a>,
+        edges: &'a HalfEdges,
         source: u16,
     ) -> Scene<'a>
         requires rules { IsPlan plan.now }
         requires good { IsGoodMesh (map_of plan.now) mesh.now.triangles labels.now }
-        requires edges { AreHalfEdges plan.now mesh.now.triangles labels.now (edges_in kept) }
-        ensures { result ≡ record { plan = plan.now; mesh = mesh.now; labels = labels.now; source = source; edges = edges_in kept.entry } }
+        requires edges { AreHalfEdges plan.now mesh.now.triangles labels.now edges.now }
+        ensures { result ≡ record { plan = plan.now; mesh = mesh.now; labels = labels.now; source = source; edges = edges.now } }
     {
         Scene {
             plan,
             mesh,
             labels,
             source,
-            kept,
+            edges,
         }
     }
 
@@ -86,23 +79,12 @@ impl<'a> Scene<'a> {
         self.source
     }
 
-    /// The table.
-    fn edges(&self) -> &HalfEdges
-        ensures table { result.now ≡ self.now.edges }
-        ensures scene { IsScene self.now }
-    {
-        match &self.kept {
-            Kept::Own(table) => table,
-            Kept::Lent(table) => table,
-        }
-    }
-
     /// The half-edge with this number.
     pub fn get(&self, number: u32) -> &HalfEdge
         requires { IsNumber self.now.mesh.triangles number }
         ensures { slice_get self.now.edges number ≡ Some result.now }
     {
-        self.edges().get(number).unwrap()
+        self.edges.get(number).unwrap()
     }
 
     /// The number of the half-edge behind a way out of the triangle of this one; None where one can't leave by this way.
@@ -111,14 +93,14 @@ impl<'a> Scene<'a> {
         ensures { FindsWay self.now from way result }
     {
         let on = behind(self.get(from), way);
-        self.edges().outside(on, self.source)
+        self.edges.outside(on, self.source)
     }
 
     /// The number of the half-edge by the portal with these ends; None where one can't enter by it.
     pub fn at(&self, left: u16, right: u16) -> Option<u32>
         ensures { Finds self.now (record { left = left; right = right }) result }
     {
-        let edges = self.edges();
+        let edges = self.edges;
         edges.outside(edges.entering(self.mesh, left, right), self.source)
     }
 }

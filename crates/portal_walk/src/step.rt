@@ -24,8 +24,8 @@ pub enum Step {
 /// How a walk went on: the kind of its next step. The walk can be asked for the rest.
 #[derive(Clone, Copy, Debug, PartialEq, Eq)]
 pub enum Went {
-    /// To a sequence that a line passes through.
-    Open,
+    /// To a sequence that a line passes through, and whether its last portal is a line of the map.
+    Open(bool),
     /// To a sequence that no line passes through.
     Blocked,
     /// There is no further sequence.
@@ -35,7 +35,7 @@ pub enum Went {
 /// The same with the ends that block a sequence, which `next` tells.
 #[derive(Clone, Copy, Debug)]
 pub enum Came {
-    Open,
+    Open(bool),
     Blocked(Evidence),
     End,
 }

@@ -11,7 +11,6 @@ ghost use Rattle.stab_hull.specs.Answer.{IsLineInRange};
 ghost use Rattle.half_edges.specs.declared.table.HalfEdge.{HalfEdge as HalfEdgeOf};
 ghost use Rattle.half_edges.specs.HalfEdges.{AreHalfEdges};
 
-use crate::scene::Kept;
 use crate::step::{Step, Went};
 use crate::walk::Walk;
 use half_edges::{HalfEdge, HalfEdges};
@@ -46,33 +45,7 @@ impl<'a> Walker<'a> {
     ghost use Rattle.portal_walk.specs.Sides.{IsExit};
     ghost use Rattle.portal_walk.specs.Walk.{Goes, IsTop, Takes, Rests, SameWalk, pending, remaining};
 
-    /// A walk at its beginning. It makes the half-edges of the map for itself.
-    pub fn new(
-        alloc: Global,
-        plan: &'a Plan,
-        mesh: &'a Mesh,
-        labels: &'a Labels,
-        source: u16,
-    ) -> Result<Walker<'a>, Memory>
-        requires points { mesh.now.points ≡ length plan.now.points }
-        requires audited { LinesMeetAtEnds (map_of plan.now) }
-        requires good { IsGoodMesh (map_of plan.now) mesh.now.triangles labels.now }
-        requires source { source < plan.now.sectors }
-        ensures plan { IfOk result (λ w. w.plan ≡ plan.now) }
-        ensures rules { IfOk result (λ w. IsPlan w.plan) }
-        ensures mesh { IfOk result (λ w. w.mesh ≡ mesh.now) }
-        ensures labels { IfOk result (λ w. w.labels ≡ labels.now) }
-        ensures source { IfOk result (λ w. w.source ≡ source) }
-        ensures root { IfOk result (λ w. w.root ≡ None) }
-        ensures pending { IfOk result (λ w. pending w ≡ map root_alone (roots (map_of plan.now) source)) }
-        ensures nodes { IfOk result (λ w. w.nodes ≡ []) }
-    {
-        let edges = HalfEdges::of(alloc, plan, mesh, labels)?;
-        let walk = Walk::through(alloc, plan, mesh, labels, Kept::Own(edges), source)?;
-        Ok(Walker { walk })
-    }
-
-    /// The same over half-edges that were made before.
+    /// A walk at its beginning, over the half-edges of the map.
     pub fn over(
         alloc: Global,
         plan: &'a Plan,
@@ -95,7 +68,7 @@ impl<'a> Walker<'a> {
         ensures pending { IfOk result (λ w. pending w ≡ map root_alone (roots (map_of plan.now) source)) }
         ensures nodes { IfOk result (λ w. w.nodes ≡ []) }
     {
-        let walk = Walk::through(alloc, plan, mesh, labels, Kept::Lent(edges), source)?;
+        let walk = Walk::through(alloc, plan, mesh, labels, edges, source)?;
         Ok(Walker { walk })
     }
 

@@ -6,6 +6,7 @@ ghost use Rattle.sight_names.specs.Sound.{LinesMeetAtEnds};
 use crate::table::part;
 use cert_groups::AnyCert;
 use group_job::{build_table, map_of_groups};
+use half_edges::HalfEdges;
 use map_audit::audit_lines;
 use pair_budget::{Alone, Outcome, walk_source};
 use portal_walk::{Step, Walker};
@@ -125,7 +126,8 @@ fn steps_of(alloc: Global, plan: &Plan, source: u16) -> Result<Vec<Step>, Memory
     if source >= plan.sectors {
         return Ok(steps);
     }
-    let mut walker = Walker::new(alloc, plan, mesh, labels, source)?;
+    let edges = HalfEdges::of(alloc, plan, mesh, labels)?;
+    let mut walker = Walker::over(alloc, plan, mesh, labels, &edges, source)?;
     for _ in 0..100 {
         match walker.next()? {
             Step::End => break,

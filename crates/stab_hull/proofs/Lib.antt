@@ -7,3 +7,4 @@ pub mod TwoForms
 pub mod Barring
 pub mod Strip
 pub mod Tries
+pub mod Sleeves

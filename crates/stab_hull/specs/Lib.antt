@@ -3,3 +3,5 @@ pub mod Portals
 pub mod Stacks
 pub mod History
 pub mod Barred
+pub mod Turning
+pub mod Sleeves

@@ -16,6 +16,7 @@ use block_evidence::{Evidence, bar_left, bar_right};
 use extreme_lines::{Cone, Extreme, Wedge};
 use sight_names::{EndAt, EndPair, Pt, RIGHT_END};
 
+#[inline(always)]
 fn ends_of(line: &Extreme) -> EndPair
     ensures { result ≡ pair_of line.now }
 {
@@ -26,7 +27,8 @@ fn ends_of(line: &Extreme) -> EndPair
 }
 
 /// Evidence where no line splits a new right end from the left end of the first line.
-fn right_bars(wedge: &Wedge, new: EndAt) -> Option<Evidence>
+#[inline(always)]
+pub fn right_bars(wedge: &Wedge, new: EndAt) -> Option<Evidence>
     requires lines { AreLines (pair_of wedge.now.first) (pair_of wedge.now.second) }
     requires later { wedge.now.first.right.code < new.code }
     requires later_too { wedge.now.second.right.code < new.code }
@@ -46,7 +48,8 @@ fn right_bars(wedge: &Wedge, new: EndAt) -> Option<Evidence>
 }
 
 /// The same where no line splits a new left end from the right end of the second line.
-fn left_bars(wedge: &Wedge, new: EndAt) -> Option<Evidence>
+#[inline(always)]
+pub fn left_bars(wedge: &Wedge, new: EndAt) -> Option<Evidence>
     requires lines { AreLines (pair_of wedge.now.first) (pair_of wedge.now.second) }
     requires coded { new.code < RIGHT_END }
     requires later { wedge.now.first.left.code < new.code }

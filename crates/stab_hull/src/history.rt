@@ -45,6 +45,7 @@ pub fn add_portal(
 }
 
 /// The frame of a portal whose ends are the last ones on the stacks.
+#[inline(always)]
 pub fn frame_over(hull: &Hull, left: Pt, right: Pt) -> Frame
     ensures { result ≡ record { left = left; right = right; lefts = length hull.now.lefts.items; rights = length hull.now.rights.items; cones = length hull.now.cones.items } }
 {

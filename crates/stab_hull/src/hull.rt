@@ -111,4 +111,16 @@ impl Hull {
             None => self.add_right(right),
         }
     }
+
+    /// Drops what lies above the counts of the frame.
+    #[inline(always)]
+    pub fn cut(&mut self, frame: &Frame)
+        ensures lefts { self.new.lefts.items ≡ take frame.now.lefts self.old.lefts.items }
+        ensures rights { self.new.rights.items ≡ take frame.now.rights self.old.rights.items }
+        ensures cones { self.new.cones.items ≡ take frame.now.cones self.old.cones.items }
+    {
+        self.lefts.truncate(frame.lefts);
+        self.rights.truncate(frame.rights);
+        self.cones.truncate(frame.cones);
+    }
 }

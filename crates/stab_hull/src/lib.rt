@@ -10,8 +10,11 @@ mod conflict;
 mod frame;
 mod history;
 mod hull;
+mod onward;
 mod passing;
+mod sleeve;
 mod step;
+mod turning;
 
 use crate::bars::barred;
 use crate::conflict::Conflict;
@@ -21,6 +24,7 @@ use crate::hull::Hull;
 use crate::passing::pass_portal;
 use block_evidence::{Evidence, four};
 use sight_names::{EndPair, Memory, Pt, RIGHT_END};
+pub use sleeve::Sleeve;
 use std::alloc::Global;
 use std::marker::Model;
 

@@ -40,7 +40,7 @@ fn second_to_left(wedge: &Wedge, rights: &[EndAt], left: EndAt) -> Wedge
 }
 
 /// The same for a left end that is right of the second line, which stays.
-fn first_to_left(wedge: &Wedge, rights: &[EndAt], left: EndAt) -> Wedge
+pub fn first_to_left(wedge: &Wedge, rights: &[EndAt], left: EndAt) -> Wedge
     requires cone { (lefts : List End) × IsConeOfEnds lefts rights.now (Open wedge.now) }
     requires beyond { form_at wedge.now.second left.at <ℤ pos 0 }
     ensures { (lefts : List End) → IsConeOfEnds lefts rights.now (Open wedge.now) → IsConeOfEnds (lefts ++ left ∷ []) rights.now (Open result) }
@@ -58,7 +58,7 @@ fn first_to_left(wedge: &Wedge, rights: &[EndAt], left: EndAt) -> Wedge
 }
 
 /// The wedge with the lines from a new right end that is right of the first line, which stays, to all left ends.
-fn second_to_right(wedge: &Wedge, lefts: &[EndAt], right: EndAt) -> Wedge
+pub fn second_to_right(wedge: &Wedge, lefts: &[EndAt], right: EndAt) -> Wedge
     requires cone { (rights : List End) × IsConeOfEnds lefts.now rights (Open wedge.now) }
     requires beyond { form_at wedge.now.first right.at <ℤ pos 0 }
     ensures { (rights : List End) → IsConeOfEnds lefts.now rights (Open wedge.now) → IsConeOfEnds lefts.now (rights ++ right ∷ []) (Open result) }

@@ -42,7 +42,7 @@ pub loop-walker-preserved : goal.loop-walker-preserved
 loop-walker-preserved c =
     let i = c.loop-walker.invariant in
     let k = c.go.ensures.walk in
-    let opens : OpensTo c.loop-walker.walker c.go.new.self = subst (Goes c.loop-walker.walker c.go.new.self) c.in-Open.is c.in_ok-go.ensures.went in
+    let opens : OpensTo c.loop-walker.walker c.go.new.self = (subst (Goes c.loop-walker.walker c.go.new.self) c.in-Open.is c.in_ok-go.ensures.went).0 in
     record {
       plan = k.plan ∙ i.plan;
       mesh = k.mesh ∙ i.mesh;

@@ -30,7 +30,7 @@ returns-in_default-clause-walked c =
     let i = c.loop-walker.invariant in
     let old = c.loop-walker.walker in
     let new = c.go.new.self in
-    let opens : OpensTo old new = subst (Goes old new) c.in-Open.is c.in_ok-go.ensures.went in
+    let opens : OpensTo old new = (subst (Goes old new) c.in-Open.is c.in_ok-go.ensures.went).0 in
     let x = opens.opened.edge in
     marks_spent old new c.args.budget c.loop-walker.left c.args.marks.now c.loop-walker.marks i.marked x.triangle x.entered (leads_to old new opens x opens.opened.top) c.args.walker i.walk c.in_default.ensures
 
@@ -39,7 +39,7 @@ loop-walker-preserved c =
     let i = c.loop-walker.invariant in
     let old = c.loop-walker.walker in
     let new = c.go.new.self in
-    let opens : OpensTo old new = subst (Goes old new) c.in-Open.is c.in_ok-go.ensures.went in
+    let opens : OpensTo old new = (subst (Goes old new) c.in-Open.is c.in_ok-go.ensures.went).0 in
     let x = c.here.result.now in
     let leads = leads_to old new opens x c.here.ensures in
     let low = subst (λ (n : ℕ). x.triangle < n) (sym i.each) leads.opened.within in

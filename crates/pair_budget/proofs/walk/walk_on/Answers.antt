@@ -45,12 +45,15 @@ newly_reached-reached-requires-clause-at g c =
     let i = c.loop-walker.invariant in
     let old = c.loop-walker.walker in
     let new = c.go.new.self in
-    let opens : OpensTo old new = subst (Goes old new) c.in-Open.is c.in_ok-go.ensures.went in
+    let opens : OpensTo old new = (subst (Goes old new) c.in-Open.is c.in_ok-go.ensures.went).0 in
     (opens.opened.edge, is_at old new c.go.ensures.walk (ap length i.walk.labels ∙ c.requires.one_each ∙ sym (ap (λ (m : MeshParts). length m.triangles) i.walk.mesh)) opens)
 
 pub newly_reached-reached-requires-clause-splittable : goal.newly_reached-reached-requires-clause-splittable
 newly_reached-reached-requires-clause-splittable g c =
-    top_splittable c.loop-walker.walker c.go.new.self (subst (Goes c.loop-walker.walker c.go.new.self) c.in-Open.is c.in_ok-go.ensures.went)
+    top_splittable c.loop-walker.walker c.go.new.self (subst (Goes c.loop-walker.walker c.go.new.self) c.in-Open.is c.in_ok-go.ensures.went).0
+
+pub newly_reached-reached-requires-clause-line : goal.newly_reached-reached-requires-clause-line
+newly_reached-reached-requires-clause-line g c = (subst (Goes c.loop-walker.walker c.go.new.self) c.in-Open.is c.in_ok-go.ensures.went).1
 
 -- the sector that is noted is found within the budget
 pub note-requires-clause-hears : goal.note-requires-clause-hears
@@ -59,7 +62,7 @@ note-requires-clause-hears g c =
     let old = c.loop-walker.walker in
     let new = c.go.new.self in
     let labels : old.labels ≡ c.args.labels.now = i.walk.labels ∙ c.requires.labels in
-    let opens : OpensTo old new = subst (Goes old new) c.in-Open.is c.in_ok-go.ensures.went in
+    let opens : OpensTo old new = (subst (Goes old new) c.in-Open.is c.in_ok-go.ensures.went).0 in
     let x = opens.opened.edge in
     let leads = leads_to old new opens x opens.opened.top in
     let reached = c.newly_reached-reached in
@@ -143,7 +146,7 @@ loop-walker-preserved g c =
     let new = c.go.new.self in
     let later = c.note.new.found_sectors.found in
     let labels : old.labels ≡ c.args.labels.now = i.walk.labels ∙ c.requires.labels in
-    let opens : OpensTo old new = subst (Goes old new) c.in-Open.is c.in_ok-go.ensures.went in
+    let opens : OpensTo old new = (subst (Goes old new) c.in-Open.is c.in_ok-go.ensures.went).0 in
     let x = opens.opened.edge in
     let leads = leads_to old new opens x opens.opened.top in
     let reached = c.newly_reached-reached in
@@ -181,7 +184,7 @@ returns-in_default-clause-exact g c =
     let i = c.loop-walker.invariant in
     let old = c.loop-walker.walker in
     let new = c.go.new.self in
-    let opens : OpensTo old new = subst (Goes old new) c.in-Open.is c.in_ok-go.ensures.went in
+    let opens : OpensTo old new = (subst (Goes old new) c.in-Open.is c.in_ok-go.ensures.went).0 in
     let x = opens.opened.edge in
     finds_spent old new c.args.budget c.loop-walker.left c.loop-walker.found_sectors.found i.exact x.triangle x.entered (leads_to old new opens x opens.opened.top) c.args.walker i.walk c.in_default.ensures
 
@@ -192,7 +195,7 @@ returns-then-branch-clause-exact g c =
     let old = c.loop-walker.walker in
     let new = c.go.new.self in
     let labels : old.labels ≡ c.args.labels.now = i.walk.labels ∙ c.requires.labels in
-    let opens : OpensTo old new = subst (Goes old new) c.in-Open.is c.in_ok-go.ensures.went in
+    let opens : OpensTo old new = (subst (Goes old new) c.in-Open.is c.in_ok-go.ensures.went).0 in
     let x = opens.opened.edge in
     let leads = leads_to old new opens x opens.opened.top in
     let reached = c.newly_reached-reached in
@@ -215,7 +218,7 @@ returns-then-branch-clause-rays g c =
     let old = c.loop-walker.walker in
     let new = c.go.new.self in
     let labels : old.labels ≡ c.args.labels.now = i.walk.labels ∙ c.requires.labels in
-    let opens : OpensTo old new = subst (Goes old new) c.in-Open.is c.in_ok-go.ensures.went in
+    let opens : OpensTo old new = (subst (Goes old new) c.in-Open.is c.in_ok-go.ensures.went).0 in
     let x = opens.opened.edge in
     let leads = leads_to old new opens x opens.opened.top in
     let reached = c.newly_reached-reached in

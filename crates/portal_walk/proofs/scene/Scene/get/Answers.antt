@@ -1,8 +1,11 @@
-use Rattle.std.proofs.Common.{slice_get, ap, ◌∙◌}
+use Rattle.std.proofs.Common.{sym, ◌∙◌, subst}
+use Rattle.portal_walk.specs.Scene.{SceneParts, IsNumber}
 use Rattle.portal_walk.proofs.Portals.{numbered, copied_there}
 use Rattle.portal_walk.proofs.scene.Scene.get.Goals as goal
 
 pub unwrap-requires : goal.unwrap-requires
 unwrap-requires c =
-    let there = numbered c.args.self.now c.edges.ensures.scene c.args.number c.requires in
-    copied_there c.get.result there.0 (c.get.ensures ∙ ap (λ xs. slice_get xs c.args.number) c.edges.ensures.table ∙ there.1)
+    let i = c.self.inside in
+    let s : SceneParts = record { plan = i.plan.now; mesh = i.mesh.now; labels = i.labels.now; source = i.source; edges = i.edges.now } in
+    let there = numbered s c.self.invariant c.args.number (subst (λ (p : SceneParts). IsNumber p.mesh.triangles c.args.number) (sym c.self.view_is) c.requires) in
+    copied_there c.get.result there.0 (c.get.ensures ∙ there.1)

@@ -1,13 +1,14 @@
-use Rattle.std.proofs.Common.{◌≡◌, ℕ, List, ap, ◌∙◌}
-use Rattle.half_edges.specs.declared.table.HalfEdge.{HalfEdge}
+use Rattle.std.proofs.Common.{◌≡◌, Some, slice_get, sym, ap, ◌∙◌, subst}
 use Rattle.half_edges.specs.HalfEdges.{way_outside}
-use Rattle.portal_walk.specs.Scene.{SceneParts}
+use Rattle.portal_walk.specs.Scene.{SceneParts, FindsWay, IsNumber}
 use Rattle.portal_walk.proofs.Portals.{found_on}
 use Rattle.portal_walk.proofs.scene.Scene.way.Goals as goal
 
 pub returns : goal.returns
 returns c =
-    let s = c.args.self.now in
-    let source : c.self.inside.source ≡ s.source = ap (λ (p : SceneParts). p.source) c.self.view_is in
-    found_on s c.edges.ensures.scene c.args.from c.requires c.get.result.now c.get.ensures c.args.way c.outside.result
-    (c.outside.ensures ∙ ap (λ (xs : List HalfEdge). way_outside xs c.self.inside.source c.behind-on.result) c.edges.ensures.table ∙ ap (λ (a : ℕ). way_outside s.edges a c.behind-on.result) source ∙ ap (way_outside s.edges s.source) c.behind-on.ensures)
+    let i = c.self.inside in
+    let s : SceneParts = record { plan = i.plan.now; mesh = i.mesh.now; labels = i.labels.now; source = i.source; edges = i.edges.now } in
+    subst (λ (p : SceneParts). FindsWay p c.args.from c.args.way c.outside.result) c.self.view_is
+    (found_on s c.self.invariant c.args.from (subst (λ (p : SceneParts). IsNumber p.mesh.triangles c.args.from) (sym c.self.view_is) c.requires)
+    c.get.result.now (subst (λ (p : SceneParts). slice_get p.edges c.args.from ≡ Some c.get.result.now) (sym c.self.view_is) c.get.ensures) c.args.way c.outside.result
+    (c.outside.ensures ∙ ap (way_outside s.edges s.source) c.behind-on.ensures))

@@ -1,0 +1,82 @@
+use Rattle.std.proofs.Common.{◌≡◌, ℕ, ◌+◌, ◌-◌, Some, None, Ok, length, slice_get, slice_set, length-set, refl, sym, ap, subst, arith}
+use Rattle.std.proofs.lemmas.Result.{err_from_is_err_and}
+use Rattle.portal_walk.specs.declared.path.Ways.TheVariants.{Both, Done}
+use Rattle.portal_walk.specs.declared.scene.Way.TheVariants as out
+use Rattle.portal_walk.specs.Frames.{HasWays, with_ways, ways_left}
+use Rattle.portal_walk.specs.Walk.{WalkParts, Tries}
+use Rattle.portal_walk.proofs.Lists.{last_set}
+use Rattle.portal_walk.proofs.Paths.{walk_over, under_done, under_set}
+use Rattle.portal_walk.proofs.Trying.{entry, keeps, none_tried, none_walk, number_found, top_numbered, way_noted, way_rests, way_walk}
+use Rattle.portal_walk.proofs.walk.Walk.try_right.Goals as goal
+
+pub way-requires : goal.way-requires
+way-requires c =
+    let s = c.self.inside in
+    let at = subst (λ (w : WalkParts). slice_get w.frames (length w.frames - 1) ≡ Some c.args.top) (sym c.self.view_is) c.requires.top in
+    let less : ways_left c.args.top.ways ≡ ways_left Done + 1 = ap ways_left c.requires.right in
+    top_numbered s.scene s.roots.items s.root s.path s.nodes c.self.invariant c.args.top at out.Right Done refl less
+
+pub invariant_of-self : goal.invariant_of-self
+invariant_of-self c =
+    let s = c.self.inside in
+    let at = subst (λ (w : WalkParts). slice_get w.frames (length w.frames - 1) ≡ Some c.args.top) (sym c.self.view_is) c.requires.top in
+    let less : ways_left c.args.top.ways ≡ ways_left Done + 1 = ap ways_left c.requires.right in
+    let set = subst (λ (n : ℕ). HasWays s.path (n - 1) Done c.set_ways.new.self) c.len-count.ensures c.set_ways.ensures in
+    none_walk s.scene s.roots.items s.root s.path s.nodes c.self.invariant c.args.top at out.Right Done refl less c.way.result c.way.ensures c.set_ways.new.self set
+
+pub returns-in_default-clause-tries : goal.returns-in_default-clause-tries
+returns-in_default-clause-tries c =
+    let s = c.self.inside in
+    let at = subst (λ (w : WalkParts). slice_get w.frames (length w.frames - 1) ≡ Some c.args.top) (sym c.self.view_is) c.requires.top in
+    let less : ways_left c.args.top.ways ≡ ways_left Done + 1 = ap ways_left c.requires.right in
+    let set = subst (λ (n : ℕ). HasWays s.path (n - 1) Done c.set_ways.new.self) c.len-count.ensures c.set_ways.ensures in
+    subst (λ (w : WalkParts). Tries w (walk_over s.scene s.roots.items s.root c.set_ways.new.self.frames c.set_ways.new.self.ends s.nodes) (Ok None)) c.self.view_is (none_tried s.scene s.roots.items s.root s.path s.nodes c.self.invariant c.args.top at out.Right Done refl less c.way.result c.way.ensures c.in_default.is c.set_ways.new.self set)
+
+pub get-requires : goal.get-requires
+get-requires c =
+    let s = c.self.inside in
+    let at = subst (λ (w : WalkParts). slice_get w.frames (length w.frames - 1) ≡ Some c.args.top) (sym c.self.view_is) c.requires.top in
+    let less : ways_left c.args.top.ways ≡ ways_left Done + 1 = ap ways_left c.requires.right in
+    rw c.in-Some.is at (number_found s.scene s.roots.items s.root s.path s.nodes c.self.invariant c.args.top at out.Right Done refl less c.way.result c.way.ensures)
+
+pub by_right-requires-clause-last : goal.by_right-requires-clause-last
+by_right-requires-clause-last c =
+    let s = c.self.inside in
+    let at = subst (λ (w : WalkParts). slice_get w.frames (length w.frames - 1) ≡ Some c.args.top) (sym c.self.view_is) c.requires.top in
+    let less : ways_left c.args.top.ways ≡ ways_left Done + 1 = ap ways_left c.requires.right in
+    keeps s.scene s.roots.items s.root s.path s.nodes c.self.invariant c.args.top at out.Right Done refl less c.way.result c.way.ensures c.in-Some.number c.get.result.now c.in-Some.is c.get.ensures
+
+pub by_right-requires-clause-proper : goal.by_right-requires-clause-proper
+by_right-requires-clause-proper c =
+    let s = c.self.inside in
+    let at = subst (λ (w : WalkParts). slice_get w.frames (length w.frames - 1) ≡ Some c.args.top) (sym c.self.view_is) c.requires.top in
+    let less : ways_left c.args.top.ways ≡ ways_left Done + 1 = ap ways_left c.requires.right in
+    (entry s.scene s.roots.items s.root s.path s.nodes c.self.invariant c.args.top at out.Right Done refl less c.way.result c.way.ensures c.in-Some.number c.get.result.now c.in-Some.is c.get.ensures).proper
+
+pub returns-in_err-passed-clause-tries : goal.returns-in_err-passed-clause-tries
+returns-in_err-passed-clause-tries c =
+    let s = c.self.inside in
+    let at = subst (λ (w : WalkParts). slice_get w.frames (length w.frames - 1) ≡ Some c.args.top) (sym c.self.view_is) c.requires.top in
+    let less : ways_left c.args.top.ways ≡ ways_left Done + 1 = ap ways_left c.requires.right in
+    let new = walk_over s.scene s.roots.items s.root c.by_right.new.self.frames c.by_right.new.self.ends s.nodes in
+    let err = err_from_is_err_and c.from_residual.result c.from_residual.ensures.1 in
+    subst (λ (w : WalkParts). Tries w new c.from_residual.result) c.self.view_is (subst (Tries (walk_over s.scene s.roots.items s.root s.path.frames s.path.ends s.nodes) new) (sym err.1) (way_rests s.scene s.roots.items s.root s.path s.nodes c.self.invariant c.args.top at out.Right Done refl less c.way.result c.way.ensures c.in-Some.number c.get.result.now c.in-Some.is c.get.ensures c.by_right.new.self c.in_err-passed.ensures.passes err.0))
+
+pub invariant_of-self-2 : goal.invariant_of-self-2
+invariant_of-self-2 c =
+    let s = c.self.inside in
+    let at = subst (λ (w : WalkParts). slice_get w.frames (length w.frames - 1) ≡ Some c.args.top) (sym c.self.view_is) c.requires.top in
+    let less : ways_left c.args.top.ways ≡ ways_left Done + 1 = ap ways_left c.requires.right in
+    let long : length s.path.frames ≡ length (slice_set s.path.frames (length s.path.frames - 1) (with_ways c.args.top Done)) = sym (length-set s.path.frames (length s.path.frames - 1) (with_ways c.args.top Done)) in
+    let under = under_set s.path.frames c.args.top (with_ways c.args.top Done) c.self.invariant.under at refl in
+    way_walk s.scene s.roots.items s.root s.path s.nodes c.self.invariant c.args.top at out.Right Done refl less c.way.result c.way.ensures c.in-Some.number c.get.result.now c.in-Some.is c.get.ensures (record { edge = c.in-Some.number; ways = Both; under = c.args.top.under }) refl refl (let u = (c.self.invariant.under (length s.path.frames - 1) c.args.top at).0 in omega (arith, u, long)) (under_done (slice_set s.path.frames (length s.path.frames - 1) (with_ways c.args.top Done)) (with_ways c.args.top Done) under (last_set s.path.frames c.args.top (with_ways c.args.top Done) at) refl) c.len-count.result c.len-count.ensures c.by_right.new.self c.noted.new.path c.noted.new.nodes c.in_ok-passed.passed c.in_ok-passed.ensures.passes c.is_some-is_line.result c.is_some-is_line.ensures c.noted.result c.noted.ensures
+
+pub returns-clause-tries : goal.returns-clause-tries
+returns-clause-tries c =
+    let s = c.self.inside in
+    let at = subst (λ (w : WalkParts). slice_get w.frames (length w.frames - 1) ≡ Some c.args.top) (sym c.self.view_is) c.requires.top in
+    let less : ways_left c.args.top.ways ≡ ways_left Done + 1 = ap ways_left c.requires.right in
+    let long : length s.path.frames ≡ length (slice_set s.path.frames (length s.path.frames - 1) (with_ways c.args.top Done)) = sym (length-set s.path.frames (length s.path.frames - 1) (with_ways c.args.top Done)) in
+    let under = under_set s.path.frames c.args.top (with_ways c.args.top Done) c.self.invariant.under at refl in
+    let new = walk_over s.scene s.roots.items s.root c.noted.new.path.frames c.noted.new.path.ends c.noted.new.nodes in
+    subst (λ (w : WalkParts). Tries w new c.noted.result) c.self.view_is (way_noted s.scene s.roots.items s.root s.path s.nodes c.self.invariant c.args.top at out.Right Done refl less c.way.result c.way.ensures c.in-Some.number c.get.result.now c.in-Some.is c.get.ensures (record { edge = c.in-Some.number; ways = Both; under = c.args.top.under }) refl refl (let u = (c.self.invariant.under (length s.path.frames - 1) c.args.top at).0 in omega (arith, u, long)) (under_done (slice_set s.path.frames (length s.path.frames - 1) (with_ways c.args.top Done)) (with_ways c.args.top Done) under (last_set s.path.frames c.args.top (with_ways c.args.top Done) at) refl) c.len-count.result c.len-count.ensures c.by_right.new.self c.noted.new.path c.noted.new.nodes c.in_ok-passed.passed c.in_ok-passed.ensures.passes c.is_some-is_line.result c.is_some-is_line.ensures c.noted.result c.noted.ensures)

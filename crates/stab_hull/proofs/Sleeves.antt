@@ -1,0 +1,195 @@
+-- Portals that a line passes, with what is of them on the stacks: one more of them, and fewer.
+use Rattle.std.proofs.Common.{◌≡◌, ℕ, ◌+◌, ◌-◌, ◌<◌, ◌≤◌, List, [], ◌∷◌, ◌++◌, length, take, Some, None, Result, Ok, Err, get_or, refl, sym, ap, ◌∙◌, arith, inl, inr, subst, length-take-le}
+use Rattle.std.specs.Prelude.{slice_get, IfOk}
+use Rattle.std.proofs.lemmas.List.{take_all, take-take}
+use Rattle.std.proofs.lemmas.Option.{slice_get_within}
+use Rattle.sight_names.specs.declared.limits.TheConstants.{RIGHT_END}
+use Rattle.sight_names.specs.declared.names.Memory.{Memory}
+use Rattle.sight_names.specs.declared.names.Pt.{Pt}
+use Rattle.sight_names.specs.declared.names.EndAt.{EndAt}
+use Rattle.sight_names.specs.Splitting.{EndPoints}
+use Rattle.block_evidence.specs.declared.Evidence.{Evidence}
+use Rattle.extreme_lines.specs.declared.cone.Cone.{Cone}
+use Rattle.extreme_lines.specs.declared.cone.Cone.TheVariants.{Open}
+use Rattle.extreme_lines.specs.declared.wedge.Wedge.{Wedge}
+use Rattle.stab_hull.specs.declared.frame.Frame.{Frame}
+use Rattle.stab_hull.specs.declared.turning.Turn.{Turn}
+use Rattle.stab_hull.specs.declared.turning.Turn.TheVariants.{Same, Moves, Stuck, Unseen}
+use Rattle.stab_hull.specs.declared.Passed.TheVariants as passed
+use Rattle.stab_hull.specs.Answer.{IsBarredBy}
+use Rattle.stab_hull.specs.History.{IsHistory}
+use Rattle.stab_hull.specs.Portals.{portal_of, portals_of, IsConeOf}
+use Rattle.stab_hull.specs.Sleeves.{Counts, IsSleeve, HasLastLeft, HasLastRight, TellsRight, TellsLeft, GoesOn}
+use Rattle.stab_hull.specs.Stacks.{HasPoint, KeepsFirst, IsConeOfEnds, IsTopCone, IsHullOf}
+use Rattle.stab_hull.specs.Turning.{IsRightTurn, IsLeftTurn}
+use Rattle.stab_hull.proofs.Barring.{right_barred, left_barred}
+use Rattle.stab_hull.proofs.HistoryLemmas.{as_many, last_frame, pop_history, stacks_moved, first_stacked, enter_free, entered_list}
+use Rattle.stab_hull.proofs.HullLemmas.{cone_of, hull_more}
+use Rattle.stab_hull.proofs.StepLemmas.{top_is}
+use Rattle.stab_hull.proofs.Tries.{hull_splits}
+use Rattle.stab_hull.proofs.TwoForms.{right_same, left_same}
+use Rattle.list_base.proofs.Lists.{get_pushed, get_there, length_pushed}
+use Rattle.list_base.proofs.Options.{some_is_same, none_is_not_some}
+
+pub ok_part : {X E : Type 0} (P : X → Type 0) (r : Result X E) (x : X) → r ≡ Ok x → IfOk r P → P x
+ok_part P r x e h = subst (λ o. IfOk o P) e h
+
+same_hull : (es : List EndPoints) (ls rs ls' rs' : List EndAt) (cs cs' : List Cone) → ls' ≡ ls → rs' ≡ rs → cs' ≡ cs → IsHullOf es ls' rs' cs' → IsHullOf es ls rs cs
+same_hull es ls rs ls' rs' cs cs' a b c h = subst (λ (x : List EndAt). IsHullOf es x rs cs) a (subst (λ (x : List EndAt). IsHullOf es ls' x cs) b (subst (λ (x : List Cone). IsHullOf es ls' rs' x) c h))
+
+-- the stacks have the ends and the cone of all portals
+pub whole : (fs : List Frame) (ls rs : List EndAt) (cs : List Cone) → IsSleeve fs ls rs cs → 0 < length fs → IsHullOf (portals_of fs) ls rs cs
+whole fs ls rs cs h some =
+    let t = get_there fs (length fs - 1) (omega (arith, some)) in
+    let f : Frame = t.0 in
+    let n = h.exact f t.1 in
+    let a = n.lefts in
+    let b = n.rights in
+    let c = n.cones in
+    same_hull (portals_of fs) ls rs (take f.lefts ls) (take f.rights rs) cs (take f.cones cs) (take_all f.lefts ls (omega (arith, a))) (take_all f.rights rs (omega (arith, b))) (take_all f.cones cs (omega (arith, c))) (last_frame fs f ls rs cs h.history t.1).hull
+
+pub some_cone : (fs : List Frame) (ls rs : List EndAt) (cs : List Cone) → IsSleeve fs ls rs cs → 0 < length fs → 0 < length cs
+some_cone fs ls rs cs h some = let top = (whole fs ls rs cs h some).cone in let b = slice_get_within cs (length cs - 1) top.0 top.1 in omega (arith, b)
+
+-- the cone that is read
+pub read_cone : (fs : List Frame) (ls rs : List EndAt) (cs : List Cone) (n : ℕ) (d : Cone) → IsSleeve fs ls rs cs → 0 < length fs → n ≡ length cs → d ≡ get_or cs (n - 1) d → IsConeOf (portals_of fs) d
+read_cone fs ls rs cs n d h some k g =
+    let w = whole fs ls rs cs h some in
+    cone_of (portals_of fs) ls rs cs d w (w.cone.1 ∙ ap (λ (x : Cone). Some x) (top_is cs n d w.cone.0 k g w.cone.1))
+
+-- ---- what the lines tell
+module _ (es : List EndPoints) (ls rs : List EndAt) (cs : List Cone) (w : Wedge) (d : Cone) (n : ℕ) (hull : IsHullOf es ls rs cs) (k : n ≡ length cs) (g : d ≡ get_or cs (n - 1) d) (is : d ≡ Open w) where
+  last : slice_get cs (length cs - 1) ≡ Some (Open w)
+  last = hull.cone.1 ∙ ap (λ (x : Cone). Some x) (top_is cs n d hull.cone.0 k g hull.cone.1 ∙ is)
+
+  of_ends : IsConeOfEnds ls rs (Open w)
+  of_ends = subst (IsConeOfEnds ls rs) (top_is cs n d hull.cone.0 k g hull.cone.1 ∙ is) hull.cone.2
+
+  of_portals : IsConeOf es (Open w)
+  of_portals = cone_of es ls rs cs (Open w) hull last
+
+  pub right_tells : (left : Pt) (new : EndAt) → new.code ≡ length es + RIGHT_END → (t : Turn) → IsRightTurn w new t → TellsRight es ls rs cs left new t
+  right_tells left new e Same h = (Open w, last, right_same ls rs new (Open w) w refl h.0 h.1 of_ends)
+  right_tells left new e Moves h = record { wedge = w; last = last; rights = rs; cone = of_ends; beyond = h }
+  right_tells left new e (Stuck x) h = right_barred es w of_portals (record { left = left; right = new.at }) new x (ap (λ (c : ℕ). let v : EndAt = record { code = c; at = new.at } in v) e) h.0 h.1
+  right_tells left new e Unseen h = tt
+
+  pub left_tells : (right : Pt) (new : EndAt) → length es < RIGHT_END → new.code ≡ length es → (t : Turn) → IsLeftTurn w new t → TellsLeft es ls rs cs new right t
+  left_tells right new few e Same h = (Open w, last, left_same ls rs new (Open w) w refl h.0 h.1 of_ends)
+  left_tells right new few e Moves h = record { wedge = w; last = last; lefts = ls; cone = of_ends; beyond = h }
+  left_tells right new few e (Stuck x) h = left_barred es w of_portals (record { left = new.at; right = right }) new x few (ap (λ (c : ℕ). let v : EndAt = record { code = c; at = new.at } in v) e) h.0 h.1
+  left_tells right new few e Unseen h = tt
+
+-- the last cone, of which is known that it has these two lines
+pub open_top : (cs cs' : List Cone) (n : ℕ) (d : Cone) (v : Wedge) → cs' ≡ cs → n ≡ length cs' → d ≡ get_or cs' (n - 1) d → slice_get cs (length cs - 1) ≡ Some (Open v) → Open v ≡ d
+open_top cs cs' n d v e k g h = top_is cs' n d (Open v) k g (subst (λ (xs : List Cone). slice_get xs (length xs - 1) ≡ Some (Open v)) (sym e) h)
+
+pub same_wedge : (v w : Wedge) → Open v ≡ Open w → v ≡ w
+same_wedge v w h = cc
+
+-- ---- one more portal
+-- the frame of a portal whose ends are the last ones on the stacks
+abbrev pub framed : Pt → Pt → List EndAt → List EndAt → List Cone → Frame
+framed left right ls rs cs = record { left = left; right = right; lefts = length ls; rights = length rs; cones = length cs }
+
+exact_push : (fs : List Frame) (f : Frame) (ls rs : List EndAt) (cs : List Cone) → Counts ls rs cs f → (g : Frame) → slice_get (fs ++ f ∷ []) (length (fs ++ f ∷ []) - 1) ≡ Some g → Counts ls rs cs g
+exact_push fs f ls rs cs h g e = subst (Counts ls rs cs) (some_is_same f g (sym (get_pushed fs f) ∙ ap (slice_get (fs ++ f ∷ [])) (let n = length_pushed fs f in omega (arith, n)) ∙ e)) h
+
+frame_counts : (p : EndPoints) (f : Frame) (ls rs : List EndAt) (cs : List Cone) → f ≡ record { left = p.left; right = p.right; lefts = length ls; rights = length rs; cones = length cs } → Counts ls rs cs f
+frame_counts p f ls rs cs e = record { lefts = ap (λ (g : Frame). g.lefts) e; rights = ap (λ (g : Frame). g.rights) e; cones = ap (λ (g : Frame). g.cones) e }
+
+pub goes_open : (fs gs : List Frame) (p : EndPoints) (f : Frame) (ls rs : List EndAt) (cs : List Cone) → IsHistory fs ls rs cs None → IsHullOf (portals_of fs ++ p ∷ []) ls rs cs → f ≡ record { left = p.left; right = p.right; lefts = length ls; rights = length rs; cones = length cs } → gs ≡ fs ++ f ∷ []
+    → GoesOn (portals_of fs) p gs ls rs cs (Ok passed.Open)
+goes_open fs gs p f ls rs cs h u e g = record {
+  sleeve = subst (λ (xs : List Frame). IsSleeve xs ls rs cs) (sym g) (record { history = enter_free fs p f ls rs cs None refl h u e; exact = exact_push fs f ls rs cs (frame_counts p f ls rs cs e) });
+  passed = (entered_list fs gs (portals_of fs) p f refl g (ap portal_of e), hull_splits (portals_of fs ++ p ∷ []) ls rs cs u);
+}
+
+kept_same : {X : Type 0} (n : ℕ) (xs ys : List X) → n ≤ length xs → KeepsFirst (length xs) xs ys → KeepsFirst n xs ys
+kept_same n xs ys l h = (sym (take-take n (length xs) ys l) ∙ ap (take n) h.0 ∙ take-take n (length xs) xs l, let k = h.1 in omega (arith, k, l))
+
+kept_push : {X : Type 0} (n : ℕ) (xs : List X) (x : X) → n ≤ length xs → KeepsFirst n xs (xs ++ x ∷ [])
+kept_push n xs x l = kept_same n xs (xs ++ x ∷ []) l (front x xs, let k = length_pushed xs x in omega (arith, k))
+  where
+    front : {X : Type 0} (x : X) (ys : List X) → take (length ys) (ys ++ x ∷ []) ≡ take (length ys) ys
+    front x [] = refl
+    front x (y ∷ ys) = ap (λ zs. y ∷ zs) (front x ys)
+
+module _ (fs : List Frame) (ls rs : List EndAt) (cs cs' : List Cone) (h : IsSleeve fs ls rs cs) (few : length fs < RIGHT_END) (kept : KeepsFirst (length cs) cs cs') where
+  moved_by : (ls' rs' : List EndAt) (f : Frame) → slice_get fs (length fs - 1) ≡ Some f → (f.lefts ≤ length ls → KeepsFirst f.lefts ls ls') → (f.rights ≤ length rs → KeepsFirst f.rights rs rs') → IsHistory fs ls' rs' cs' None
+  moved_by ls' rs' f t kl kr =
+      let n = h.exact f t in
+      let a = n.lefts in
+      let b = n.rights in
+      let c = n.cones in
+      stacks_moved fs f ls rs ls' rs' cs cs' t (kl (omega (arith, a))) (kr (omega (arith, b))) (kept_same f.cones cs cs' (omega (arith, c)) kept) h.history
+
+  -- a portal by a new right end
+  pub goes_right : (gs : List Frame) (left : Pt) (new : EndAt) (f : Frame) (rs' : List EndAt) → HasLastLeft (portals_of fs) left → new.code ≡ length fs + RIGHT_END → rs' ≡ rs ++ new ∷ [] → IsTopCone ls (rs ++ new ∷ []) cs' → f ≡ record { left = left; right = new.at; lefts = length ls; rights = length rs'; cones = length cs' } → gs ≡ fs ++ f ∷ []
+      → GoesOn (portals_of fs) (record { left = left; right = new.at }) gs ls rs' cs' (Ok passed.Open)
+  goes_right gs left new f rs' last code e top is g =
+      let m = as_many fs in
+      let b = slice_get_within (portals_of fs) (length (portals_of fs) - 1) last.0 last.1 in
+      let some : 0 < length fs = omega (arith, b, m) in
+      let t = get_there fs (length fs - 1) (omega (arith, some)) in
+      let hull = whole fs ls rs cs h some in
+      let at : HasPoint ls left = subst (HasPoint ls) last.2 (hull.lefts_all (length (portals_of fs) - 1) last.0 last.1) in
+      let left_end : EndAt = record { code = length fs; at = left } in
+      goes_open fs gs (record { left = left; right = new.at }) f ls rs' cs' (moved_by ls rs' t.0 t.1 (λ l. (refl, l)) (λ l. subst (λ (xs : List EndAt). KeepsFirst t.0.rights rs xs) (sym e) (kept_push t.0.rights rs new l)))
+      (subst (λ (xs : List EndAt). IsHullOf (portals_of fs ++ record { left = left; right = new.at } ∷ []) ls xs cs') (sym e)
+      (hull_more (portals_of fs) left_end new ls rs ls (rs ++ new ∷ []) cs cs' (sym m) (omega (arith, few, m)) (omega (arith, code, m)) hull top (inr (refl, at)) (inl refl))) is g
+
+  -- a portal by a new left end
+  pub goes_left : (gs : List Frame) (right : Pt) (new : EndAt) (f : Frame) (ls' : List EndAt) → HasLastRight (portals_of fs) right → new.code ≡ length fs → ls' ≡ ls ++ new ∷ [] → IsTopCone (ls ++ new ∷ []) rs cs' → f ≡ record { left = new.at; right = right; lefts = length ls'; rights = length rs; cones = length cs' } → gs ≡ fs ++ f ∷ []
+      → GoesOn (portals_of fs) (record { left = new.at; right = right }) gs ls' rs cs' (Ok passed.Open)
+  goes_left gs right new f ls' last code e top is g =
+      let m = as_many fs in
+      let b = slice_get_within (portals_of fs) (length (portals_of fs) - 1) last.0 last.1 in
+      let some : 0 < length fs = omega (arith, b, m) in
+      let t = get_there fs (length fs - 1) (omega (arith, some)) in
+      let hull = whole fs ls rs cs h some in
+      let at : HasPoint rs right = subst (HasPoint rs) last.2 (hull.rights_all (length (portals_of fs) - 1) last.0 last.1) in
+      let right_end : EndAt = record { code = length fs + RIGHT_END; at = right } in
+      goes_open fs gs (record { left = new.at; right = right }) f ls' rs cs' (moved_by ls' rs t.0 t.1 (λ l. subst (λ (xs : List EndAt). KeepsFirst t.0.lefts ls xs) (sym e) (kept_push t.0.lefts ls new l)) (λ l. (refl, l)))
+      (subst (λ (xs : List EndAt). IsHullOf (portals_of fs ++ record { left = new.at; right = right } ∷ []) xs rs cs') (sym e)
+      (hull_more (portals_of fs) new right_end ls rs (ls ++ new ∷ []) rs cs cs' (omega (arith, code, m)) (omega (arith, few, m)) (ap (λ (k : ℕ). k + RIGHT_END) (sym m)) hull top (inl refl) (inr (refl, at)))) is g
+
+-- the first portal
+no_history : (ls rs : List EndAt) (cs : List Cone) → IsHistory [] ls rs cs None
+no_history ls rs cs = record {
+  frames = λ k f e g. absurd (none_is_not_some f e);
+  order = λ k m f g l e t u. absurd (none_is_not_some f e);
+  conflict = tt;
+}
+
+pub no_sleeve : (fs : List Frame) (ls rs : List EndAt) (cs : List Cone) → fs ≡ [] → IsSleeve fs ls rs cs
+no_sleeve fs ls rs cs e = subst (λ (xs : List Frame). IsSleeve xs ls rs cs) (sym e) (record { history = no_history ls rs cs; exact = λ f t. absurd (none_is_not_some f t) })
+
+pub first_sleeve : (gs : List Frame) (left right : EndAt) (f : Frame) (ls rs : List EndAt) (cs : List Cone) → left.code ≡ 0 → right.code ≡ RIGHT_END → ls ≡ left ∷ [] → rs ≡ right ∷ [] → IsTopCone (left ∷ []) (right ∷ []) cs
+    → f ≡ record { left = left.at; right = right.at; lefts = length ls; rights = length rs; cones = length cs } → gs ≡ f ∷ [] → IsSleeve gs ls rs cs
+first_sleeve gs left right f ls rs cs lc rc el er top is g = (goes_open [] gs (record { left = left.at; right = right.at }) f ls rs cs (no_history ls rs cs) (first_stacked [] left right ls rs cs refl lc (omega (arith, rc)) el er top) is g).sleeve
+
+-- ---- fewer portals
+pub cut_back : (fs gs : List Frame) (top : Frame) (ls rs ls' rs' : List EndAt) (cs cs' : List Cone) → IsHistory fs ls rs cs None → gs ≡ fs → slice_get fs (length fs - 1) ≡ Some top → ls' ≡ take top.lefts ls → rs' ≡ take top.rights rs → cs' ≡ take top.cones cs → IsSleeve gs ls' rs' cs'
+cut_back fs gs top ls rs ls' rs' cs cs' h g t el er ec =
+    let f = last_frame fs top ls rs cs h t in
+    subst (λ (xs : List Frame). IsSleeve xs ls' rs' cs') (sym g) (record {
+      history = stacks_moved fs top ls rs ls' rs' cs cs' t (keeps top.lefts ls ls' f.lefts_in el) (keeps top.rights rs rs' f.rights_in er) (keeps top.cones cs cs' f.cones_in ec) h;
+      exact = λ x e. subst (Counts ls' rs' cs') (some_is_same top x (sym t ∙ e)) (record { lefts = counts top.lefts ls ls' f.lefts_in el; rights = counts top.rights rs rs' f.rights_in er; cones = counts top.cones cs cs' f.cones_in ec });
+    })
+  where
+    counts : {X : Type 0} (n : ℕ) (xs ys : List X) → n ≤ length xs → ys ≡ take n xs → n ≡ length ys
+    counts n xs ys l e = sym (ap length e ∙ length-take-le n xs l)
+
+    keeps : {X : Type 0} (n : ℕ) (xs ys : List X) → n ≤ length xs → ys ≡ take n xs → KeepsFirst n xs ys
+    keeps n xs ys l e = (ap (take n) e ∙ take-take n n xs (omega arith), let k = counts n xs ys l e in omega (arith, k))
+
+pub cut_to : (fs gs : List Frame) (n : ℕ) (top : Frame) (ls rs ls' rs' : List EndAt) (cs cs' : List Cone) → IsSleeve fs ls rs cs → n ≤ length fs → gs ≡ take n fs → slice_get gs (length gs - 1) ≡ Some top → ls' ≡ take top.lefts ls → rs' ≡ take top.rights rs → cs' ≡ take top.cones cs → IsSleeve gs ls' rs' cs'
+cut_to fs gs n top ls rs ls' rs' cs cs' h l g t el er ec = cut_back gs gs top ls rs ls' rs' cs cs' (subst (λ (xs : List Frame). IsHistory xs ls rs cs None) (sym g) (pop_history fs n ls rs cs None None l h.history (λ k l e. e) tt)) refl t el er ec
+
+-- a portal that no line passes, or for which memory fails, leaves the others
+pub goes_stuck : (fs gs : List Frame) (p : EndPoints) (ls rs : List EndAt) (cs : List Cone) (e : Evidence) → IsSleeve gs ls rs cs → gs ≡ fs → IsBarredBy (portals_of fs ++ p ∷ []) e → GoesOn (portals_of fs) p gs ls rs cs (Ok (passed.Stuck e))
+goes_stuck fs gs p ls rs cs e h g b = record { sleeve = h; passed = (ap portals_of g, b) }
+
+pub goes_err : (fs gs : List Frame) (p : EndPoints) (ls rs : List EndAt) (cs : List Cone) (e : Memory) → IsSleeve gs ls rs cs → gs ≡ fs → GoesOn (portals_of fs) p gs ls rs cs (Err e)
+goes_err fs gs p ls rs cs e h g = record { sleeve = h; passed = ap portals_of g }

@@ -1,0 +1,49 @@
+use Rattle.std.proofs.Common.{arith, ◌≡◌, length, sym, ◌∙◌, subst}
+use Rattle.std.proofs.lemmas.Grind.{common_steps}
+use Rattle.extreme_lines.specs.declared.cone.Cone.{Cone}
+use Rattle.extreme_lines.specs.Spans.{pair_of}
+use Rattle.stab_hull.specs.Portals.{portals_of, IsConeOf}
+use Rattle.stab_hull.proofs.Barring.{lines, left_before}
+use Rattle.stab_hull.proofs.HistoryLemmas.{as_many}
+use Rattle.stab_hull.proofs.Sleeves.{whole, some_cone, read_cone, left_tells}
+use Rattle.stab_hull.proofs.onward.left_told.Goals as goal
+
+pub overflow_sub-len : goal.overflow_sub-len
+overflow_sub-len c =
+    let k : c.len.result ≡ length c.args.hull.now.cones.items = (let e = c.len.ensures in grind (arith, common_steps)) in
+    let b = some_cone c.args.frames.now c.args.hull.now.lefts.items c.args.hull.now.rights.items c.args.hull.now.cones.items c.requires.sleeve c.requires.there in
+    omega (arith, b, k)
+
+pub index-requires : goal.index-requires
+index-requires c =
+    let k : c.len.result ≡ length c.args.hull.now.cones.items = (let e = c.len.ensures in grind (arith, common_steps)) in
+    let b = some_cone c.args.frames.now c.args.hull.now.lefts.items c.args.hull.now.rights.items c.args.hull.now.cones.items c.requires.sleeve c.requires.there in
+    omega (arith, b, k)
+
+pub left_turn-requires-clause-lines : goal.left_turn-requires-clause-lines
+left_turn-requires-clause-lines c =
+    let k : c.len.result ≡ length c.args.hull.now.cones.items = (let e = c.len.ensures in grind (arith, common_steps)) in
+    lines (portals_of c.args.frames.now) c.in-Open.wedge (subst (λ (d : Cone). IsConeOf (portals_of c.args.frames.now) d) c.in-Open.is (read_cone c.args.frames.now c.args.hull.now.lefts.items c.args.hull.now.rights.items c.args.hull.now.cones.items c.len.result c.index.result.now c.requires.sleeve c.requires.there k c.index.ensures))
+
+pub left_turn-requires-clause-later : goal.left_turn-requires-clause-later
+left_turn-requires-clause-later c =
+    let k : c.len.result ≡ length c.args.hull.now.cones.items = (let e = c.len.ensures in grind (arith, common_steps)) in
+    let cone = subst (λ (d : Cone). IsConeOf (portals_of c.args.frames.now) d) c.in-Open.is (read_cone c.args.frames.now c.args.hull.now.lefts.items c.args.hull.now.rights.items c.args.hull.now.cones.items c.len.result c.index.result.now c.requires.sleeve c.requires.there k c.index.ensures) in
+    let b = left_before (portals_of c.args.frames.now) c.in-Open.wedge cone (pair_of c.in-Open.wedge.first) cone.pairs.first in
+    let m = as_many c.args.frames.now in
+    let e = c.requires.code in
+    omega (arith, b, m, e)
+
+pub left_turn-requires-clause-later_too : goal.left_turn-requires-clause-later_too
+left_turn-requires-clause-later_too c =
+    let k : c.len.result ≡ length c.args.hull.now.cones.items = (let e = c.len.ensures in grind (arith, common_steps)) in
+    let cone = subst (λ (d : Cone). IsConeOf (portals_of c.args.frames.now) d) c.in-Open.is (read_cone c.args.frames.now c.args.hull.now.lefts.items c.args.hull.now.rights.items c.args.hull.now.cones.items c.len.result c.index.result.now c.requires.sleeve c.requires.there k c.index.ensures) in
+    let b = left_before (portals_of c.args.frames.now) c.in-Open.wedge cone (pair_of c.in-Open.wedge.second) cone.pairs.second in
+    let m = as_many c.args.frames.now in
+    let e = c.requires.code in
+    omega (arith, b, m, e)
+
+pub returns-in-Open : goal.returns-in-Open
+returns-in-Open c =
+    let k : c.len.result ≡ length c.args.hull.now.cones.items = (let e = c.len.ensures in grind (arith, common_steps)) in
+    left_tells (portals_of c.args.frames.now) c.args.hull.now.lefts.items c.args.hull.now.rights.items c.args.hull.now.cones.items c.in-Open.wedge c.index.result.now c.len.result (whole c.args.frames.now c.args.hull.now.lefts.items c.args.hull.now.rights.items c.args.hull.now.cones.items c.requires.sleeve c.requires.there) k c.index.ensures c.in-Open.is c.args.right c.args.new (let m = as_many c.args.frames.now in let f = c.requires.few in omega (arith, m, f)) (c.requires.code ∙ sym (as_many c.args.frames.now)) c.left_turn.result c.left_turn.ensures

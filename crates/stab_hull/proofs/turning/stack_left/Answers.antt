@@ -1,0 +1,30 @@
+use Rattle.std.proofs.Common.{arith, ◌≡◌, ◌++◌, ◌∷◌, [], List, length, pos, ◌<ℤ◌, sym, ◌∙◌, subst}
+use Rattle.std.proofs.lemmas.Grind.{common_steps}
+use Rattle.extreme_lines.specs.declared.cone.Cone.{Cone}
+use Rattle.extreme_lines.specs.declared.cone.Cone.TheVariants.{Open}
+use Rattle.extreme_lines.specs.declared.wedge.Wedge.{Wedge}
+use Rattle.extreme_lines.specs.Spans.{form_at}
+use Rattle.stab_hull.specs.Stacks.{IsConeOfEnds, IsTopCone}
+use Rattle.stab_hull.proofs.StepLemmas.{top_cone, top_next}
+use Rattle.stab_hull.proofs.Sleeves.{open_top, same_wedge}
+use Rattle.stab_hull.proofs.turning.stack_left.Goals as goal
+
+pub first_to_left-wider-requires-clause-cone : goal.first_to_left-wider-requires-clause-cone
+first_to_left-wider-requires-clause-cone c =
+    let k : c.len.result ≡ length c.reserve.new.self.items = (let e = c.len.ensures in grind (arith, common_steps)) in
+    (c.requires.lefts, subst (λ (v : Wedge). IsConeOfEnds c.requires.lefts c.args.rights.now (Open v)) (same_wedge c.requires.wedge c.in-Open.wedge (open_top c.args.cones.now.items c.reserve.new.self.items c.len.result c.index.result.now c.requires.wedge c.reserve.ensures.items k c.index.ensures c.requires.last ∙ c.in-Open.is)) c.requires.cone)
+
+pub first_to_left-wider-requires-clause-beyond : goal.first_to_left-wider-requires-clause-beyond
+first_to_left-wider-requires-clause-beyond c =
+    let k : c.len.result ≡ length c.reserve.new.self.items = (let e = c.len.ensures in grind (arith, common_steps)) in
+    subst (λ (v : Wedge). form_at v.second c.args.left.at <ℤ pos 0) (same_wedge c.requires.wedge c.in-Open.wedge (open_top c.args.cones.now.items c.reserve.new.self.items c.len.result c.index.result.now c.requires.wedge c.reserve.ensures.items k c.index.ensures c.requires.last ∙ c.in-Open.is)) c.requires.beyond
+
+pub returns-in-Open-clause-top : goal.returns-in-Open-clause-top
+returns-in-Open-clause-top c = λ xs h.
+    let k : c.len.result ≡ length c.reserve.new.self.items = (let e = c.len.ensures in grind (arith, common_steps)) in
+    top_next (xs ++ c.args.left ∷ []) c.args.rights.now c.reserve.new.self.items c.push_reserved.new.self.items (Open c.first_to_left-wider.result) c.push_reserved.ensures.items (c.first_to_left-wider.ensures xs (subst (λ (d : Cone). IsConeOfEnds xs c.args.rights.now d) c.in-Open.is (top_cone xs c.args.rights.now c.reserve.new.self.items c.len.result c.index.result.now k c.index.ensures (subst (λ (cs : List Cone). IsTopCone xs c.args.rights.now cs) (sym c.reserve.ensures.items) h))))
+
+pub returns-in_default-clause-top : goal.returns-in_default-clause-top
+returns-in_default-clause-top c =
+    let k : c.len.result ≡ length c.reserve.new.self.items = (let e = c.len.ensures in grind (arith, common_steps)) in
+    absurd (c.in_default.not-Open c.requires.wedge (sym (open_top c.args.cones.now.items c.reserve.new.self.items c.len.result c.index.result.now c.requires.wedge c.reserve.ensures.items k c.index.ensures c.requires.last)))
