@@ -193,8 +193,8 @@ fn with_one_less(budget: Budget) -> Option<Budget>
     }
 }
 
-/// The sector of the triangle that a walk came to, with a sight ray to it. None where the last portal is no line of the map, or
-/// the sector was found before: most sequences need no line.
+/// The sector of the triangle that a walk came to, with a sight ray to it. None where the last portal is no line of the
+/// map, or the sector was found before: most sequences need no line.
 // in line, since a call would take what it finds through memory
 #[inline(always)]
 fn newly_reached(

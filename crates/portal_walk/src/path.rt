@@ -121,8 +121,8 @@ impl Path {
         Ok(())
     }
 
-    /// Enters a portal from the last left end to this right end where a line splits the ends of the whole path, else tells
-    /// ends that show that none does.
+    /// Enters a portal from the last left end to this right end where a line splits the ends of the whole path, else
+    /// tells ends that show that none does.
     // in line, since a call would take what comes of it through memory
     #[inline(always)]
     pub fn by_left(&mut self, frame: Frame, left: Pt, right: Pt) -> Result<Passed, Memory>

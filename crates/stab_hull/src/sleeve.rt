@@ -77,8 +77,8 @@ impl Sleeve {
         Ok(())
     }
 
-    /// Adds the portal from the last left end to this right end where a line splits its ends and all others; where none does,
-    /// the list stays as it was, and stuck ends show it.
+    /// Adds the portal from the last left end to this right end where a line splits its ends and all others; where none
+    /// does, the list stays as it was, and stuck ends show it.
     // in line, since a walk does this or the other at each node
     #[inline(always)]
     pub fn by_left(&mut self, left: Pt, right: Pt) -> Result<Passed, Memory>
