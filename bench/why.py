@@ -4,8 +4,8 @@
     bench/why.py [--program PATH] [--wads FOLDER] [--only E1M7,MAP22] [--budget N|full|enough] [--pairs 5000] [--seed 1]
                  [--threads 4]
 
-Six maps of Debian's package freedoom are built: E1M1, E1M7 and E2M9 of freedoom1.wad, MAP01, MAP19 and MAP22 of
-freedoom2.wad. Of a map with at most 20,000 pairs of sectors, a sector with itself counted too (E1M1 and MAP01), `why` is
+Six maps of Debian's package freedoom are built, or those that --only names: E1M1, E1M7 and E2M9 of freedoom1.wad,
+MAP01, MAP19 and MAP22 of freedoom2.wad. Of a map with at most 20,000 pairs of sectors, a sector with itself counted too (E1M1 and MAP01), `why` is
 asked for every pair; of a greater one for so many pairs (--pairs) drawn at random with a fixed seed, and for each that
 the build lists. Each pair is asked for once, in an order that is drawn too.
 
@@ -124,7 +124,7 @@ def main():
         with open(path, "rb") as it:
             held = it.read()
         for name, lumps in maps(held):
-            if name not in names or only and name not in only:
+            if name not in (only or names):
                 continue
             with tempfile.TemporaryDirectory() as folder:
                 built = Built(program, folder, name, lumps, budget)
