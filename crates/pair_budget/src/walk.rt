@@ -18,12 +18,13 @@ ghost use Rattle.portal_walk.specs.Walk.{IsTop, TellsLine, pending};
 ghost use Rattle.pair_budget.specs.declared.results.Outcome.TheVariants as outcome;
 ghost use Rattle.pair_budget.specs.declared.results.Reached.{Reached as ReachedSector};
 ghost use Rattle.pair_budget.specs.Exact.{IsExact, IsWholly};
-ghost use Rattle.pair_budget.specs.FoundSectors.{Extends, one_less};
+ghost use Rattle.pair_budget.specs.FoundSectors.{Extends};
 ghost use Rattle.pair_budget.specs.Notes.{ordered, Grows};
 ghost use Rattle.pair_budget.specs.Through.{AreThrough, IsAt, IsRayOfStep, IsRayTo};
 ghost use Rattle.pair_budget.specs.Walked.{AreReached, IsOutcome, IsReachedFrom, MarksFound};
 ghost use Rattle.pair_budget.specs.Whole.{IsFound, IsShown};
 
+use crate::budget_left::BudgetLeft;
 use crate::found_sectors::FoundSectors;
 use crate::notice::Notice;
 use crate::results::{Outcome, Reached, SourceResult};
@@ -163,13 +164,13 @@ fn walk_on<N: Notice>(
     ensures seen { Grows (N.seen notice.old) (N.seen notice.new) }
     ensures looks { Grows (N.looks notice.old) (N.looks notice.new) }
 {
-    let mut left = budget;
+    let mut left = BudgetLeft::of(budget);
     loop {
         match walker.go()? {
             Went::End => return Ok(Outcome::Complete(walker.tree())),
             Went::Blocked => {}
             Went::Open(is_line) => {
-                let Some(less) = with_one_less(left) else {
+                let Some(less) = left.with_one_less() else {
                     return Ok(Outcome::Spent);
                 };
                 left = less;
@@ -179,17 +180,6 @@ fn walk_on<N: Notice>(
                 }
             }
         }
-    }
-}
-
-/// The budget that is left after one more sequence, None where that is one too many.
-fn with_one_less(budget: Budget) -> Option<Budget>
-    ensures { result ≡ one_less budget }
-{
-    match budget {
-        Budget::Full => Some(Budget::Full),
-        Budget::Of(0) => None,
-        Budget::Of(n) => Some(Budget::Of(n - 1)),
     }
 }
 

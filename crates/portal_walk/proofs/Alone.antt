@@ -29,7 +29,7 @@ ends_on f l u v (inr h) = (
 )
 
 -- two records of which each is this edge are one record
-one_record : (p : PlanParts) → IsPlan p → LinesMeetAtEnds (map_of p) → (d : Portal) (i j : ℕ) (k l : MapLine) (a b : Bool) → line_at (map_of p) i ≡ Some k → line_at (map_of p) j ≡ Some l → side_edge (map_of p) k a ≡ entry_edge d → side_edge (map_of p) l b ≡ entry_edge d → i ≡ j
+pub one_record : (p : PlanParts) → IsPlan p → LinesMeetAtEnds (map_of p) → (d : Portal) (i j : ℕ) (k l : MapLine) (a b : Bool) → line_at (map_of p) i ≡ Some k → line_at (map_of p) j ≡ Some l → side_edge (map_of p) k a ≡ entry_edge d → side_edge (map_of p) l b ≡ entry_edge d → i ≡ j
 one_record p is ends d i j k l a b at_i at_j e f = elim (cases_eq i j) [
   | inl same ↦ same
   | inr differ ↦ absurd (clash (ends i j k l differ at_i at_j))

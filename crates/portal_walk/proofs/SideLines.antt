@@ -3,7 +3,7 @@ use Rattle.std.proofs.Common.{◌≡◌, ℕ, ◌<◌, List, slice_get, Option, 
 use Rattle.std.specs.Option.{option_eq}
 use lib.Dec.{eqb}
 use mathlib.Core.Bool.{beq}
-use Rattle.std.proofs.lemmas.Option.{none-some, same_Some, slice_get_within, get_or_from_slice_get}
+use Rattle.std.proofs.lemmas.Option.{same_Some, slice_get_within, get_or_from_slice_get}
 use Rattle.sight_names.specs.declared.names.Side.{Side}
 use Rattle.sight_names.specs.declared.names.Triangle.{Triangle}
 use Rattle.sight_names.specs.declared.plan.Line.{Line}
@@ -19,12 +19,6 @@ use Rattle.half_edges.specs.Kinds.{IsEnteredAt, IsPassableAt}
 use Rattle.portal_walk.specs.Sides.{IsRootOf, IsArrival, ArrivesAt}
 use Rattle.list_base.proofs.Bools.{only_middle}
 use Rattle.sight_names.proofs.Roots.{root_test}
-
--- the line of a record
-pub some_some : (o : Option (Option Line)) (l : Line) → option_and_then (λ k. k) o ≡ Some l → o ≡ Some (Some l)
-some_some None l e = absurd (none-some l e)
-some_some (Some None) l e = absurd (none-some l e)
-some_some (Some (Some j)) l e = cc
 
 -- ---- roots
 

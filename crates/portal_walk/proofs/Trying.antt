@@ -1,7 +1,7 @@
 -- What a walk is once a way or a root was tried, and its node noted.
-use Rattle.std.proofs.Common.{Bool, ◌≡◌, ◌≢◌, ℕ, ◌+◌, ◌-◌, ◌<◌, ◌≤◌, List, [], ◌∷◌, ◌++◌, length, take, slice_get, slice_set, Option, Some, None, Result, Ok, Err, IfSome, All, length-set, refl, sym, ap, ◌∙◌, subst, arith}
+use Rattle.std.proofs.Common.{Bool, ◌≡◌, ◌≢◌, ℕ, ◌+◌, ◌-◌, ◌<◌, ◌≤◌, List, [], ◌∷◌, ◌++◌, length, take, slice_get, slice_set, Option, Some, None, Result, Ok, Err, IfSome, length-set, refl, sym, ap, ◌∙◌, subst, arith}
 use Rattle.std.specs.Prelude.{is_some}
-use Rattle.std.proofs.lemmas.List.{nil_from_length, set-append_left}
+use Rattle.std.proofs.lemmas.List.{nil_from_length, set-append_left, take-set-le}
 use Rattle.std.proofs.lemmas.List.Elements.{All-same, All-take}
 use Rattle.std.proofs.lemmas.Option.{none-some, same_Some, slice_get_within}
 use Rattle.sight_names.specs.declared.names.Memory.{Memory}
@@ -29,9 +29,9 @@ use Rattle.portal_walk.specs.Walk.{WalkParts, IsWalk, ComesBy, IsBack, IsNoted, 
 use Rattle.portal_walk.proofs.Ends.{same_parts}
 use Rattle.portal_walk.proofs.Entering.{KeepsEnd, blocked_at, found_number, open_at, room, root_closed, root_comes, way_closed, way_comes, way_ends, way_entry, way_number}
 use Rattle.portal_walk.proofs.Lists.{get_front, last_pushed, last_set, some_of, take_front}
-use Rattle.portal_walk.proofs.Paths.{walk_over, walk_set, walk_opened, walk_blocked, walk_rooted}
+use Rattle.portal_walk.proofs.Paths.{under_done, walk_over, walk_cut, walk_set, walk_opened, walk_blocked, walk_rooted}
 use Rattle.portal_walk.proofs.SideLines.{all_at}
-use Rattle.portal_walk.proofs.Steps.{rests_of, root_ahead, root_tried, tells_at, way_ahead, way_tried}
+use Rattle.portal_walk.proofs.Steps.{blocked_back, left_done, none_back, rests_of, root_ahead, root_tried, tells_at, way_ahead, way_tried}
 use Rattle.portal_walk.proofs.OnePortal.{one_splittable}
 use Rattle.portal_walk.proofs.Sequences.{portal_at}
 
@@ -78,6 +78,28 @@ module _ (p : SceneParts) (roots : List Root) (root : Option Side) (path : PathP
   pub top_numbered : IsNumber p.mesh.triangles top.edge
   top_numbered = all_at (λ (f : Frame). IsNumber p.mesh.triangles f.edge) path.frames (length path.frames - 1) top i.numbered at
 
+  -- so many portals stay when it is left, which are as they were
+  under_in : top.under ≤ length path.frames - 1
+  under_in = (i.under (length path.frames - 1) top at).0
+
+  pub stays_in : top.under ≤ length path.frames
+  stays_in = omega (arith, under_in, there)
+
+  tried_under : top.under < length tried.frames
+  tried_under = omega (arith, under_in, there, as_long)
+
+  front_same : take top.under path.frames ≡ take top.under tried.frames
+  front_same = sym (take-set-le top.under path.frames (length path.frames - 1) (with_ways top left) under_in)
+
+  done_tried : ways_left left ≡ 0 → AreDone tried.frames top.under (length tried.frames)
+  done_tried none_left = under_done tried.frames (with_ways top left) mid_is.under (last_set path.frames top (with_ways top left) at) none_left
+
+  tried_ways : HasWays path (length path.frames - 1) left tried
+  tried_ways f here = ap (λ (g : Frame). let q : PathParts = record { frames = slice_set path.frames (length path.frames - 1) (with_ways g left); ends = path.ends } in q) (same_Some top f (sym at ∙ here))
+
+  pub left_walk : (q : PathParts) → q ≡ first_portals top.under path → IsWalk (walk_over p roots root q.frames q.ends nodes)
+  left_walk q is = walk_cut p roots root path nodes q top.under i is stays_in (omega (arith, there))
+
   module _ (found : Option ℕ) (finds : FindsWay p top.edge way found) where
     pub number_found : IfSome found (IsNumber p.mesh.triangles)
     number_found = way_number p roots root tried.frames tried.ends nodes mid_is top.edge way found says some finds side rooted.1
@@ -92,6 +114,11 @@ module _ (p : SceneParts) (roots : List Root) (root : Option Side) (path : PathP
     pub none_walk : (q : PathParts) → HasWays path (length path.frames - 1) left q → IsWalk (walk_over p roots root q.frames q.ends nodes)
     none_walk q is = walk_set p roots root path nodes q top (with_ways top left) i at refl refl (is top at)
 
+    -- one can't leave by the way, which is the last
+    pub none_left : found ≡ None → ways_left left ≡ 0 → (q : PathParts) → q ≡ first_portals top.under path → Tries old (walk_over p roots root q.frames q.ends nodes) (Ok None)
+    none_left none last q is = none_back old mid (walk_over p roots root q.frames q.ends nodes) (record { plan = refl; mesh = refl; labels = refl; source = refl }) (none_tried none tried tried_ways)
+        (left_done mid (walk_over p roots root q.frames q.ends nodes) top.under (record { plan = refl; mesh = refl; labels = refl; source = refl }) tried_under (done_tried last) (ap (λ (r : PathParts). r.frames) is ∙ front_same) refl refl refl)
+
     module _ (number : ℕ) (y : HalfEdge) (e : found ≡ Some number) (there_is : slice_get p.edges number ≡ Some y) where
       pub entry : IsEntry p.plan p.mesh.triangles p.labels p.source y
       entry = way_entry p roots root tried.frames tried.ends nodes mid_is top.edge way found says some finds side number y e there_is rooted.1
@@ -105,6 +132,36 @@ module _ (p : SceneParts) (roots : List Root) (root : Option Side) (path : PathP
       -- where there was no memory for it
       pub way_rests : (q : PathParts) → q ≡ path → (r : Memory) → Tries old (walk_over p roots root q.frames q.ends nodes) (Err r)
       way_rests q same r = (rests_of old (walk_over p roots root q.frames q.ends nodes) (record { plan = refl; mesh = refl; labels = refl; source = refl }) (record { roots = refl; root = refl; frames = ap (λ (s : PathParts). s.frames) same; nodes = refl }), way_ahead old top (with_ways top left) at less)
+
+      -- no line passes the portal, as these ends show
+      module _ (next : Frame) (evidence : Evidence) (between : PathParts) (passes : Passes path between next (ends_of y) (Ok (Stuck evidence))) (later : List Node) where
+        -- there was no memory for its node
+        pub stuck_still : later ≡ nodes → IsWalk (walk_over p roots root between.frames between.ends later)
+        stuck_still same = subst (λ (q : PathParts). IsWalk (walk_over p roots root q.frames q.ends later)) (sym passes.0) (subst (λ (ns : List Node). IsWalk (walk_over p roots root path.frames path.ends ns)) (sym same) i)
+
+        pub stuck_rests : later ≡ nodes → (r : Memory) → Tries old (walk_over p roots root between.frames between.ends later) (Err r)
+        stuck_rests same r = (
+          rests_of old (walk_over p roots root between.frames between.ends later) (record { plan = refl; mesh = refl; labels = refl; source = refl }) (record { roots = refl; root = refl; frames = ap (λ (q : PathParts). q.frames) passes.0; nodes = same }),
+          way_ahead old top (with_ways top left) at less,
+        )
+
+        -- its node is noted, and the portal before it is left
+        module _ (noted : later ≡ nodes ++ BlockedNode evidence ∷ []) (q : PathParts) (is : q ≡ first_portals top.under between) where
+          back_to : q ≡ first_portals top.under path
+          back_to = is ∙ ap (first_portals top.under) passes.0
+
+          pub stuck_walk : IsWalk (walk_over p roots root q.frames q.ends later)
+          stuck_walk = walk_cut p roots root path later q top.under
+              (walk_blocked p roots root path nodes root path later (BlockedNode evidence) i refl noted (passes.1.pairs, passes.1.evidence) (i.rooted (omega (arith, there))) i.exit (λ l. refl)) back_to stays_in (omega (arith, there))
+
+          pub stuck_left : ways_left left ≡ 0 → Tries old (walk_over p roots root q.frames q.ends later) (Ok (Some (came.Blocked evidence)))
+          stuck_left last = blocked_back old (walk_over p roots root tried.frames tried.ends later) (walk_over p roots root q.frames q.ends later) top.under evidence (record { plan = refl; mesh = refl; labels = refl; source = refl })
+              (way_tried old mid (walk_over p roots root tried.frames tried.ends later) top (with_ways top left) side (record { plan = refl; mesh = refl; labels = refl; source = refl }) (record { plan = refl; mesh = refl; labels = refl; source = refl }) at less rooted.1 refl refl refl refl (Some (came.Blocked evidence)) (
+                record { roots = refl; root = rooted.1; nodes = noted },
+                refl,
+                blocked_at mid side y evidence comes passes.1.no_line passes.1.blocks,
+              ))
+              (omega (arith, tried_under)) (done_tried last) (ap (λ (r : PathParts). r.frames) back_to ∙ front_same) refl refl refl
 
       -- the portal was tried, and its node noted
       module _ (next : Frame) (edge : next.edge ≡ number) (both : next.ways ≡ Both) (stays : next.under ≤ length tried.frames) (done : AreDone tried.frames next.under (length tried.frames))

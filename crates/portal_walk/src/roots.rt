@@ -1,12 +1,12 @@
 //! Where a walk leaves its source.
 
-ghost use Rattle.std.specs.Prelude.{◌≡◌, map, reverse, option_map, option_to_list, All, IfOk, IfSome};
+ghost use Rattle.std.specs.Prelude.{◌≡◌, Some, slice_get, map, reverse, option_map, option_to_list, All, IfOk, IfSome};
 ghost use Rattle.sight_names.specs.Map.{map_of};
 ghost use Rattle.sight_names.specs.Plan.{IsPlan};
 ghost use Rattle.sight_names.specs.Sequence.{roots as roots_in};
 ghost use Rattle.portal_walk.specs.Sides.{IsRootOf, roots_at};
 
-use sight_names::{Memory, Plan, Side};
+use sight_names::{Line, Memory, Plan, Side};
 use std::alloc::Global;
 
 /// A side that names the source, of a passable line whose other side doesn't, and the line's portal, walked out of the
@@ -25,8 +25,9 @@ pub fn roots_of(alloc: Global, plan: &Plan, source: u16) -> Result<Vec<Root>, Me
     ensures plan { IfOk result (λ _. IsPlan plan.now) }
 {
     let mut roots = Vec::new(alloc);
-    for k in 0..plan.lines().len() {
-        if let Some(root) = root_at(plan, k as u16, source) {
+    let lines = plan.lines();
+    for k in 0..lines.len() {
+        if let Some(root) = root_at(plan, lines[k], k as u16, source) {
             roots.push(root)?;
         }
     }
@@ -37,12 +38,13 @@ pub fn roots_of(alloc: Global, plan: &Plan, source: u16) -> Result<Vec<Root>, Me
 /// The root at a line, where one of its sides names the source and the other doesn't.
 // in line, since each source asks this of every line
 #[inline(always)]
-fn root_at(plan: &Plan, k: u16, source: u16) -> Option<Root>
+fn root_at(plan: &Plan, entry: Option<Line>, k: u16, source: u16) -> Option<Root>
     requires plan { IsPlan plan.now }
+    requires entry { slice_get plan.now.lines k ≡ Some entry }
     ensures root { IfSome result (λ root. IsRootOf plan.now source root) }
     ensures side { roots_at (map_of plan.now) source k ≡ option_to_list (option_map (λ root. root.side) result) }
 {
-    let line = plan.line(k)?;
+    let line = entry?;
     if line.solid {
         return None;
     }

@@ -3,6 +3,7 @@ pub mod HullLemmas
 pub mod HasCut
 pub mod HistoryLemmas
 pub mod OneLine
+pub mod Scanning
 pub mod TwoForms
 pub mod Barring
 pub mod Strip

@@ -57,20 +57,6 @@ pub record SecondToLeft (R : List EndAt) (left : EndAt) (w : Wedge) (n : ℕ) (w
   pub small : nat_abs value ≤ 4 * (65535 * 32768)
   pub part : (L : List EndAt) → IsConeOfEnds L R (Open w) → IsLeftPart L R left n (Open wide)
 
--- the first line, on its way to take in a left end that is right of the second line
-pub record FirstToLeft (R : List EndAt) (left : EndAt) (w : Wedge) (n : ℕ) (wide : Wedge) (value : ℤ) : Type 0 where
-  pub second : wide.second ≡ w.second
-  pub level : value ≡ form_at wide.first left.at
-  pub small : nat_abs value ≤ 4 * (65535 * 32768)
-  pub part : (L : List EndAt) → IsConeOfEnds L R (Open w) → IsLeftPart L R left n (Open wide)
-
--- the second line, on its way to take in a right end that is right of the first line
-pub record SecondToRight (L : List EndAt) (right : EndAt) (w : Wedge) (n : ℕ) (wide : Wedge) (value : ℤ) : Type 0 where
-  pub first : wide.first ≡ w.first
-  pub level : value ≡ form_at wide.second right.at
-  pub small : nat_abs value ≤ 4 * (65535 * 32768)
-  pub part : (R : List EndAt) → IsConeOfEnds L R (Open w) → IsRightPart L R right n (Open wide)
-
 -- the first line, on its way to take in a right end that is left of the second line
 pub record FirstToRight (L : List EndAt) (right : EndAt) (w : Wedge) (n : ℕ) (wide : Wedge) (value : ℤ) : Type 0 where
   pub second : wide.second ≡ w.second

@@ -13,6 +13,7 @@ mod hull;
 mod onward;
 mod passing;
 mod sleeve;
+mod slope;
 mod step;
 mod turning;
 

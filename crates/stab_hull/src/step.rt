@@ -6,6 +6,7 @@ ghost use Rattle.extreme_lines.specs.declared.cone.Cone.TheVariants.{Open};
 ghost use Rattle.stab_hull.specs.Stacks.{IsConeOfEnds, IsStepTo};
 ghost use Rattle.extreme_lines.specs.Spans.{form_at};
 
+use crate::slope::Slope;
 use extreme_lines::{Cone, Wedge, widen_first, widen_second};
 use sight_names::{EndAt, EndPair};
 
@@ -40,36 +41,46 @@ fn second_to_left(wedge: &Wedge, rights: &[EndAt], left: EndAt) -> Wedge
 }
 
 /// The same for a left end that is right of the second line, which stays.
+// in line, since the lines would go through memory
+#[inline(always)]
 pub fn first_to_left(wedge: &Wedge, rights: &[EndAt], left: EndAt) -> Wedge
     requires cone { (lefts : List End) × IsConeOfEnds lefts rights.now (Open wedge.now) }
     requires beyond { form_at wedge.now.second left.at <ℤ pos 0 }
     ensures { (lefts : List End) → IsConeOfEnds lefts rights.now (Open wedge.now) → IsConeOfEnds (lefts ++ left ∷ []) rights.now (Open result) }
 {
     let mut wide = *wedge;
-    let mut value = wide.first.value(left.at);
+    let mut slope = Slope::of(&wide.first);
+    let mut bound = slope.level(&left.at);
     for j in 0..rights.len() {
-        let right = rights[j];
-        let turn = value - wide.first.value(right.at);
-        if widen_first(&mut wide, left, right, turn) {
-            value = 0;
+        let level = slope.level(&rights[j].at);
+        if level >= bound {
+            if widen_first(&mut wide, left, rights[j], bound - level) {
+                slope = Slope::of(&wide.first);
+                bound = wide.first.c;
+            }
         }
     }
     wide
 }
 
 /// The wedge with the lines from a new right end that is right of the first line, which stays, to all left ends.
+// in line, since the lines would go through memory
+#[inline(always)]
 pub fn second_to_right(wedge: &Wedge, lefts: &[EndAt], right: EndAt) -> Wedge
     requires cone { (rights : List End) × IsConeOfEnds lefts.now rights (Open wedge.now) }
     requires beyond { form_at wedge.now.first right.at <ℤ pos 0 }
     ensures { (rights : List End) → IsConeOfEnds lefts.now rights (Open wedge.now) → IsConeOfEnds lefts.now (rights ++ right ∷ []) (Open result) }
 {
     let mut wide = *wedge;
-    let mut value = wide.second.value(right.at);
+    let mut slope = Slope::of(&wide.second);
+    let mut bound = slope.level(&right.at);
     for i in 0..lefts.len() {
-        let left = lefts[i];
-        let turn = wide.second.value(left.at) - value;
-        if widen_second(&mut wide, left, right, turn) {
-            value = 0;
+        let level = slope.level(&lefts[i].at);
+        if level >= bound {
+            if widen_second(&mut wide, lefts[i], right, level - bound) {
+                slope = Slope::of(&wide.second);
+                bound = wide.second.c;
+            }
         }
     }
     wide

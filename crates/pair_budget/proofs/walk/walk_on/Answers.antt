@@ -1,5 +1,6 @@
 use Rattle.std.proofs.Common.{◌≡◌, ◌≢◌, ℕ, ◌<◌, inl, List, Option, Some, None, IsSome, refl, sym, ap, ◌∙◌, subst, IfSome, length}
 use Rattle.pair_budget.specs.declared.results.Reached.{Reached}
+use Rattle.sight_names.specs.declared.names.Budget.{Budget}
 use Rattle.sight_names.specs.Mesh.{label_of}
 use Rattle.sight_names.specs.Plan.{PlanParts}
 use Rattle.mesh_shape.specs.Shape.{MeshParts}
@@ -7,7 +8,7 @@ use Rattle.portal_walk.specs.Walk.{Goes, OpensTo, pending}
 use Rattle.portal_walk.proofs.Steps.{same_walk_both, leads_to, top_splittable}
 use Rattle.pair_budget.specs.Whole.{IsFound}
 use Rattle.pair_budget.proofs.Marks.{told_more, extends_both, still_full}
-use Rattle.pair_budget.proofs.Exactly.{finds_begin, finds_blocked, finds_next, finds_noted, finds_end, finds_spent, finds_early}
+use Rattle.pair_budget.proofs.Exactly.{FindsOver, finds_begin, finds_blocked, finds_next, finds_noted, finds_end, finds_spent, finds_early}
 use Rattle.pair_budget.proofs.Through.{through_none, through_moved, through_back, through_open, is_at}
 use Rattle.portal_walk.proofs.Answering.{IsOver, over_moved}
 use Rattle.pair_budget.proofs.Walking.{begins, covers_blocked, covers_open, covers_end, noted_label, only_label}
@@ -21,9 +22,9 @@ loop-walker-init g c =
       found_sectors = record { plan = refl; source = refl; keeps = λ r h. h };
       over = over;
       covered = begins c.args.walker over c.requires.pending c.requires.no_nodes c.args.found_sectors.now.found c.requires.nothing;
-      exact = finds_begin c.args.walker c.args.budget c.args.found_sectors.now.found c.requires.pending c.requires.nothing;
+      exact = subst (λ (b : Budget). FindsOver c.args.walker c.args.budget b c.args.found_sectors.now.found) (sym c.of-left.ensures) (finds_begin c.args.walker c.args.budget c.args.found_sectors.now.found c.requires.pending c.requires.nothing);
       through = through_none c.args.walker c.args.found_sectors.now.found c.requires.nothing;
-      full = λ f. f;
+      full = λ f. c.of-left.ensures ∙ f;
       hears = c.requires.hears;
       tag = refl;
       kept = λ p h. h;

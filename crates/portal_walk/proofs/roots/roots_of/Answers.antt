@@ -12,7 +12,7 @@ loop-k-preserved c =
     let a = c.args.source in
     let rs = c.loop-k.roots.items in
     let qs = c.match-root_at.roots.items in
-    let lt : c.loop-k.k < length p.lines = omega (arith, ap length c.lines-k-end.ensures.list) in
+    let lt : c.loop-k.k < length p.lines = omega (arith, ap length c.lines-lines.ensures.list) in
     record {
       roots = elim c.match-root_at.branch [
         | in-Some+in_ok-push w ↦ All-same (IsRootOf p a) qs _ (ap (λ v. v.items) w.roots-is ∙ w.in_ok-push.ensures.items) (All-push (IsRootOf p a) rs w.in-Some.root c.loop-k.invariant.roots w.in-Some.ensures.root)
@@ -28,6 +28,6 @@ pub returns-clause-order : goal.returns-clause-order
 returns-clause-order c =
     let p = c.args.plan.now in
     let rs = c.loop-k.roots.items in
-    let k : c.loop-k.k ≡ length p.lines = omega (arith, ap length c.lines-k-end.ensures.list) in
+    let k : c.loop-k.k ≡ length p.lines = omega (arith, ap length c.lines-lines.ensures.list) in
     ap (map side_of) (turned rs c.reverse.new.self c.loop-k.roots.len (c.reverse.ensures.after ∙ ap reverse c.as_mut_slice.ensures.value) (omega (arith, c.loop-k.roots.ok)))
     ∙ c.loop-k.invariant.order ∙ ap (roots_below p c.args.source) k ∙ roots_all p c.args.source

@@ -1,12 +1,13 @@
-use Rattle.std.proofs.Common.{◌≡◌, ℕ, ◌+◌, ◌-◌, Some, None, Ok, length, slice_get, slice_set, length-set, refl, sym, ap, subst, arith}
+use Rattle.std.proofs.Common.{◌≡◌, ◌+◌, ◌-◌, Some, None, Ok, length, slice_get, slice_set, length-set, refl, sym, ap, subst, arith}
 use Rattle.std.proofs.lemmas.Result.{err_from_is_err_and}
 use Rattle.portal_walk.specs.declared.path.Ways.TheVariants.{Both, Done}
 use Rattle.portal_walk.specs.declared.scene.Way.TheVariants as out
-use Rattle.portal_walk.specs.Frames.{HasWays, with_ways, ways_left}
+use Rattle.portal_walk.specs.declared.step.Came.TheVariants as came
+use Rattle.portal_walk.specs.Frames.{with_ways, ways_left}
 use Rattle.portal_walk.specs.Walk.{WalkParts, Tries}
 use Rattle.portal_walk.proofs.Lists.{last_set}
 use Rattle.portal_walk.proofs.Paths.{walk_over, under_done, under_set}
-use Rattle.portal_walk.proofs.Trying.{entry, keeps, none_tried, none_walk, number_found, top_numbered, way_noted, way_rests, way_walk}
+use Rattle.portal_walk.proofs.Trying.{entry, keeps, left_walk, none_left, number_found, stays_in, stuck_left, stuck_rests, stuck_walk, top_numbered, way_noted, way_rests, way_walk}
 use Rattle.portal_walk.proofs.walk.Walk.try_right.Goals as goal
 
 pub way-requires : goal.way-requires
@@ -16,21 +17,26 @@ way-requires c =
     let less : ways_left c.args.top.ways ≡ ways_left Done + 1 = ap ways_left c.requires.right in
     top_numbered s.scene s.roots.items s.root s.path s.nodes c.self.invariant c.args.top at out.Right Done refl less
 
+pub cut-requires : goal.cut-requires
+cut-requires c =
+    let s = c.self.inside in
+    let at = subst (λ (w : WalkParts). slice_get w.frames (length w.frames - 1) ≡ Some c.args.top) (sym c.self.view_is) c.requires.top in
+    let less : ways_left c.args.top.ways ≡ ways_left Done + 1 = ap ways_left c.requires.right in
+    stays_in s.scene s.roots.items s.root s.path s.nodes c.self.invariant c.args.top at out.Right Done refl less
+
 pub invariant_of-self : goal.invariant_of-self
 invariant_of-self c =
     let s = c.self.inside in
     let at = subst (λ (w : WalkParts). slice_get w.frames (length w.frames - 1) ≡ Some c.args.top) (sym c.self.view_is) c.requires.top in
     let less : ways_left c.args.top.ways ≡ ways_left Done + 1 = ap ways_left c.requires.right in
-    let set = subst (λ (n : ℕ). HasWays s.path (n - 1) Done c.set_ways.new.self) c.len-count.ensures c.set_ways.ensures in
-    none_walk s.scene s.roots.items s.root s.path s.nodes c.self.invariant c.args.top at out.Right Done refl less c.way.result c.way.ensures c.set_ways.new.self set
+    left_walk s.scene s.roots.items s.root s.path s.nodes c.self.invariant c.args.top at out.Right Done refl less c.cut.new.self c.cut.ensures
 
 pub returns-in_default-clause-tries : goal.returns-in_default-clause-tries
 returns-in_default-clause-tries c =
     let s = c.self.inside in
     let at = subst (λ (w : WalkParts). slice_get w.frames (length w.frames - 1) ≡ Some c.args.top) (sym c.self.view_is) c.requires.top in
     let less : ways_left c.args.top.ways ≡ ways_left Done + 1 = ap ways_left c.requires.right in
-    let set = subst (λ (n : ℕ). HasWays s.path (n - 1) Done c.set_ways.new.self) c.len-count.ensures c.set_ways.ensures in
-    subst (λ (w : WalkParts). Tries w (walk_over s.scene s.roots.items s.root c.set_ways.new.self.frames c.set_ways.new.self.ends s.nodes) (Ok None)) c.self.view_is (none_tried s.scene s.roots.items s.root s.path s.nodes c.self.invariant c.args.top at out.Right Done refl less c.way.result c.way.ensures c.in_default.is c.set_ways.new.self set)
+    subst (λ (w : WalkParts). Tries w (walk_over s.scene s.roots.items s.root c.cut.new.self.frames c.cut.new.self.ends s.nodes) (Ok None)) c.self.view_is (none_left s.scene s.roots.items s.root s.path s.nodes c.self.invariant c.args.top at out.Right Done refl less c.way.result c.way.ensures c.in_default.is refl c.cut.new.self c.cut.ensures)
 
 pub get-requires : goal.get-requires
 get-requires c =
@@ -62,8 +68,8 @@ returns-in_err-passed-clause-tries c =
     let err = err_from_is_err_and c.from_residual.result c.from_residual.ensures.1 in
     subst (λ (w : WalkParts). Tries w new c.from_residual.result) c.self.view_is (subst (Tries (walk_over s.scene s.roots.items s.root s.path.frames s.path.ends s.nodes) new) (sym err.1) (way_rests s.scene s.roots.items s.root s.path s.nodes c.self.invariant c.args.top at out.Right Done refl less c.way.result c.way.ensures c.in-Some.number c.get.result.now c.in-Some.is c.get.ensures c.by_right.new.self c.in_err-passed.ensures.passes err.0))
 
-pub invariant_of-self-2 : goal.invariant_of-self-2
-invariant_of-self-2 c =
+pub invariant_of-self-in-Open : goal.invariant_of-self-in-Open
+invariant_of-self-in-Open c =
     let s = c.self.inside in
     let at = subst (λ (w : WalkParts). slice_get w.frames (length w.frames - 1) ≡ Some c.args.top) (sym c.self.view_is) c.requires.top in
     let less : ways_left c.args.top.ways ≡ ways_left Done + 1 = ap ways_left c.requires.right in
@@ -71,8 +77,8 @@ invariant_of-self-2 c =
     let under = under_set s.path.frames c.args.top (with_ways c.args.top Done) c.self.invariant.under at refl in
     way_walk s.scene s.roots.items s.root s.path s.nodes c.self.invariant c.args.top at out.Right Done refl less c.way.result c.way.ensures c.in-Some.number c.get.result.now c.in-Some.is c.get.ensures (record { edge = c.in-Some.number; ways = Both; under = c.args.top.under }) refl refl (let u = (c.self.invariant.under (length s.path.frames - 1) c.args.top at).0 in omega (arith, u, long)) (under_done (slice_set s.path.frames (length s.path.frames - 1) (with_ways c.args.top Done)) (with_ways c.args.top Done) under (last_set s.path.frames c.args.top (with_ways c.args.top Done) at) refl) c.len-count.result c.len-count.ensures c.by_right.new.self c.noted.new.path c.noted.new.nodes c.in_ok-passed.passed c.in_ok-passed.ensures.passes c.is_some-is_line.result c.is_some-is_line.ensures c.noted.result c.noted.ensures
 
-pub returns-clause-tries : goal.returns-clause-tries
-returns-clause-tries c =
+pub returns-in-Open-clause-tries : goal.returns-in-Open-clause-tries
+returns-in-Open-clause-tries c =
     let s = c.self.inside in
     let at = subst (λ (w : WalkParts). slice_get w.frames (length w.frames - 1) ≡ Some c.args.top) (sym c.self.view_is) c.requires.top in
     let less : ways_left c.args.top.ways ≡ ways_left Done + 1 = ap ways_left c.requires.right in
@@ -80,3 +86,30 @@ returns-clause-tries c =
     let under = under_set s.path.frames c.args.top (with_ways c.args.top Done) c.self.invariant.under at refl in
     let new = walk_over s.scene s.roots.items s.root c.noted.new.path.frames c.noted.new.path.ends c.noted.new.nodes in
     subst (λ (w : WalkParts). Tries w new c.noted.result) c.self.view_is (way_noted s.scene s.roots.items s.root s.path s.nodes c.self.invariant c.args.top at out.Right Done refl less c.way.result c.way.ensures c.in-Some.number c.get.result.now c.in-Some.is c.get.ensures (record { edge = c.in-Some.number; ways = Both; under = c.args.top.under }) refl refl (let u = (c.self.invariant.under (length s.path.frames - 1) c.args.top at).0 in omega (arith, u, long)) (under_done (slice_set s.path.frames (length s.path.frames - 1) (with_ways c.args.top Done)) (with_ways c.args.top Done) under (last_set s.path.frames c.args.top (with_ways c.args.top Done) at) refl) c.len-count.result c.len-count.ensures c.by_right.new.self c.noted.new.path c.noted.new.nodes c.in_ok-passed.passed c.in_ok-passed.ensures.passes c.is_some-is_line.result c.is_some-is_line.ensures c.noted.result c.noted.ensures)
+
+pub returns-in_err-push-in-Stuck-clause-tries : goal.returns-in_err-push-in-Stuck-clause-tries
+returns-in_err-push-in-Stuck-clause-tries c =
+    let s = c.self.inside in
+    let at = subst (λ (w : WalkParts). slice_get w.frames (length w.frames - 1) ≡ Some c.args.top) (sym c.self.view_is) c.requires.top in
+    let less : ways_left c.args.top.ways ≡ ways_left Done + 1 = ap ways_left c.requires.right in
+    let passes = rw c.in-Stuck.is at c.in_ok-passed.ensures.passes in
+    let new = walk_over s.scene s.roots.items s.root c.by_right.new.self.frames c.by_right.new.self.ends c.push.new.self in
+    let err = err_from_is_err_and c.from_residual-in_err-push-in-Stuck.result c.from_residual-in_err-push-in-Stuck.ensures.1 in
+    subst (λ (w : WalkParts). Tries w new c.from_residual-in_err-push-in-Stuck.result) c.self.view_is (subst (Tries (walk_over s.scene s.roots.items s.root s.path.frames s.path.ends s.nodes) new) (sym err.1) (stuck_rests s.scene s.roots.items s.root s.path s.nodes c.self.invariant c.args.top at out.Right Done refl less c.way.result c.way.ensures c.in-Some.number c.get.result.now c.in-Some.is c.get.ensures (record { edge = c.in-Some.number; ways = Both; under = c.args.top.under }) c.in-Stuck.evidence c.by_right.new.self passes c.push.new.self c.in_err-push-in-Stuck.ensures.err err.0))
+
+pub invariant_of-self-in-Stuck : goal.invariant_of-self-in-Stuck
+invariant_of-self-in-Stuck c =
+    let s = c.self.inside in
+    let at = subst (λ (w : WalkParts). slice_get w.frames (length w.frames - 1) ≡ Some c.args.top) (sym c.self.view_is) c.requires.top in
+    let less : ways_left c.args.top.ways ≡ ways_left Done + 1 = ap ways_left c.requires.right in
+    let passes = rw c.in-Stuck.is at c.in_ok-passed.ensures.passes in
+    stuck_walk s.scene s.roots.items s.root s.path s.nodes c.self.invariant c.args.top at out.Right Done refl less c.way.result c.way.ensures c.in-Some.number c.get.result.now c.in-Some.is c.get.ensures (record { edge = c.in-Some.number; ways = Both; under = c.args.top.under }) c.in-Stuck.evidence c.by_right.new.self passes c.push.new.self c.in_ok-push-in-Stuck.ensures.ok c.cut-in-Stuck.new.self c.cut-in-Stuck.ensures
+
+pub returns-in_ok-push-in-Stuck-clause-tries : goal.returns-in_ok-push-in-Stuck-clause-tries
+returns-in_ok-push-in-Stuck-clause-tries c =
+    let s = c.self.inside in
+    let at = subst (λ (w : WalkParts). slice_get w.frames (length w.frames - 1) ≡ Some c.args.top) (sym c.self.view_is) c.requires.top in
+    let less : ways_left c.args.top.ways ≡ ways_left Done + 1 = ap ways_left c.requires.right in
+    let passes = rw c.in-Stuck.is at c.in_ok-passed.ensures.passes in
+    let new = walk_over s.scene s.roots.items s.root c.cut-in-Stuck.new.self.frames c.cut-in-Stuck.new.self.ends c.push.new.self in
+    subst (λ (w : WalkParts). Tries w new (Ok (Some (came.Blocked c.in-Stuck.evidence)))) c.self.view_is (stuck_left s.scene s.roots.items s.root s.path s.nodes c.self.invariant c.args.top at out.Right Done refl less c.way.result c.way.ensures c.in-Some.number c.get.result.now c.in-Some.is c.get.ensures (record { edge = c.in-Some.number; ways = Both; under = c.args.top.under }) c.in-Stuck.evidence c.by_right.new.self passes c.push.new.self c.in_ok-push-in-Stuck.ensures.ok c.cut-in-Stuck.new.self c.cut-in-Stuck.ensures refl)
