@@ -4,4 +4,4 @@ pub mod TreesLaws
 pub mod HeaderLaws
 pub mod GroupTrees
 pub mod ExactLaws
-pub mod PutLaws
+pub mod PieceLaws

@@ -23,6 +23,11 @@ as_two c = record {
   listed = [];
 }
 
+-- the ranges and orders of version 3, with a tree for each group
+pub record IsThreeInOrder (c : ExactParts) : Type 0 where
+  pub two : IsTwoInOrder c.sizes (as_two c)
+  pub one_each : length c.trees ≡ length c.groups
+
 -- ---- the spelling
 
 -- the magic, version 3, the map's sizes, and how many groups there are

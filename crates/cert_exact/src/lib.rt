@@ -5,15 +5,18 @@
 #![tactic(auto)]
 
 mod cert;
-mod fields;
+pub mod fields;
+mod front;
 mod laws;
 mod nodes;
-mod printing;
+mod printer;
+mod ranges;
 mod reading;
 mod spelled;
+mod tree_pieces;
 mod trees;
 
-pub use cert::ExactParts;
+pub use cert::{CountsThree, ExactParts};
 pub use laws::one_spelling;
-pub use printing::print_exact;
+pub use printer::ExactPrinter;
 pub use reading::read_exact;

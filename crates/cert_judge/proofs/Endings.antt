@@ -8,6 +8,7 @@ use Rattle.sight_names.specs.Plan.{PlanParts, IsPlan}
 use Rattle.sight_names.specs.Sound.{LinesMeetAtEnds}
 use Rattle.reject_bits.specs.Parts.{TableParts}
 use Rattle.cert_format.specs.declared.cert.Sizes.{Sizes}
+use Rattle.cert_format.specs.Reading.{◌>>=◌}
 use Rattle.cert_format.specs.Sizes.{sizes_of}
 use Rattle.cert_groups.specs.declared.cert.AnyCert.{AnyCert}
 use Rattle.cert_groups.specs.Reading.{any_at}
@@ -28,21 +29,21 @@ with_cert p t c (Ok v) cert judges = record { cert = cert; judges = judges }
 with_cert p t c (Err e) cert judges = tt
 
 -- the fault of the reading
-pub unread_told : (p : PlanParts) (bytes : List ℕ) (f : CertFault) (P : AnyCert → AnyVerdict → Type 0) → reading_any_parts (sizes_of p) bytes ≡ Err f → JudgedBy (any_at (sizes_of p) bytes) P (judged.Unread f)
-unread_told p bytes f P e = subst (λ (read : Result AnyCert CertFault). JudgedBy read P (judged.Unread f)) (sym (fault_read (any_at (sizes_of p) bytes) f e)) refl
+pub unread_told : {C D : Type 0} (view : C → D) (read : Result C CertFault) (f : CertFault) (P : C → AnyVerdict → Type 0) → (read >>= λ c. Ok (view c)) ≡ Err f → JudgedBy read P (judged.Unread f)
+unread_told {C} view read f P e = subst (λ (other : Result C CertFault). JudgedBy other P (judged.Unread f)) (sym (fault_read view read f e)) refl
 
 -- a verdict on the certificate that was read
-pub verdict_told : (p : PlanParts) (bytes : List ℕ) (c : AnyCert) (v : AnyVerdict) (P : AnyCert → AnyVerdict → Type 0) → any_at (sizes_of p) bytes ≡ Ok c → P c v → JudgedBy (any_at (sizes_of p) bytes) P (judged.Verdict v)
-verdict_told p bytes c v P e h = subst (λ (read : Result AnyCert CertFault). JudgedBy read P (judged.Verdict v)) (sym e) h
+pub verdict_told : {C : Type 0} (read : Result C CertFault) (c : C) (v : AnyVerdict) (P : C → AnyVerdict → Type 0) → read ≡ Ok c → P c v → JudgedBy read P (judged.Verdict v)
+verdict_told {C} read c v P e h = subst (λ (other : Result C CertFault). JudgedBy other P (judged.Verdict v)) (sym e) h
 
-by : (P Q : AnyCert → AnyVerdict → Type 0) → ((c : AnyCert) (v : AnyVerdict) → P c v → Q c v) → (read : Result AnyCert CertFault) (j : Judged) → JudgedBy read P j → JudgedBy read Q j
+by : {C : Type 0} (P Q : C → AnyVerdict → Type 0) → ((c : C) (v : AnyVerdict) → P c v → Q c v) → (read : Result C CertFault) (j : Judged) → JudgedBy read P j → JudgedBy read Q j
 by P Q f (Ok c) (judged.Verdict v) h = f c v h
 by P Q f (Ok c) (judged.Unread g) h = absurd h
 by P Q f (Err g) (judged.Verdict v) h = absurd h
 by P Q f (Err g) (judged.Unread e) h = h
 
 -- what follows from a sentence on the verdict
-pub weaker : (P Q : AnyCert → AnyVerdict → Type 0) → ((c : AnyCert) (v : AnyVerdict) → P c v → Q c v) → (read : Result AnyCert CertFault) (r : Result Judged Memory) → IfOk r (JudgedBy read P) → IfOk r (JudgedBy read Q)
+pub weaker : {C : Type 0} (P Q : C → AnyVerdict → Type 0) → ((c : C) (v : AnyVerdict) → P c v → Q c v) → (read : Result C CertFault) (r : Result Judged Memory) → IfOk r (JudgedBy read P) → IfOk r (JudgedBy read Q)
 weaker P Q f read (Ok j) h = by P Q f read j h
 weaker P Q f read (Err e) h = tt
 

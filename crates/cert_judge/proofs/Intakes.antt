@@ -133,9 +133,9 @@ pub refused_whole : (p : PlanParts) (bytes : List ℕ) (f : CertFault) → AreRe
 refused_whole p bytes f w = ap (reading_any_parts (sizes_of p)) (sym (append-nil bytes)) ∙ w []
 
 -- a fault of the parts is one of the reading
-pub fault_read : (read : Result AnyCert CertFault) (f : CertFault) → (read >>= λ c. Ok (any_parts_of c)) ≡ Err f → read ≡ Err f
-fault_read (Ok c) f e = absurd cc
-fault_read (Err g) f e = cc
+pub fault_read : {C D : Type 0} (view : C → D) (read : Result C CertFault) (f : CertFault) → (read >>= λ c. Ok (view c)) ≡ Err f → read ≡ Err f
+fault_read view (Ok c) f e = absurd cc
+fault_read view (Err g) f e = cc
 
 trees_counted : (ts : List Tree) → AllByRecursion FitsTree ts → (u : Tree) → Contains ts u → length u.nodes < 2 ^ 64
 trees_counted [] all u h = absurd (contains_none u h)

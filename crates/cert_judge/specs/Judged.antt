@@ -10,8 +10,8 @@ use Rattle.cert_judge.specs.declared.judged.Judged.{Judged}
 use Rattle.cert_judge.specs.declared.judged.Judged.TheVariants as judged
 use Rattle.cert_judge.specs.Whole.{IsCertOf}
 
--- a verdict on the certificate that was read, of which this holds; or else the fault of the reading
-abbrev pub JudgedBy : Result AnyCert CertFault → (AnyCert → AnyVerdict → Type 0) → Judged → Type 0
+-- a verdict on the certificate that was read, of whatever version, of which this holds; or else the fault of the reading
+abbrev pub JudgedBy : {C : Type 0} → Result C CertFault → (C → AnyVerdict → Type 0) → Judged → Type 0
 JudgedBy (Ok c) P (judged.Verdict v) = P c v
 JudgedBy (Ok c) P (judged.Unread g) = ⊥
 JudgedBy (Err f) P (judged.Verdict v) = ⊥

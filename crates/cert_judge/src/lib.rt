@@ -2,7 +2,7 @@
 #![tactic(auto)]
 
 mod course;
-mod in_order;
+pub mod in_order;
 mod intake;
 mod judge;
 mod judged;

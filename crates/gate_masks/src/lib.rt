@@ -3,10 +3,10 @@
 //! told by them where nothing is left.
 #![tactic(auto)]
 
-mod flood;
+pub mod flood;
 mod following;
-mod gate;
-mod gates;
+pub mod gate;
+pub mod gates;
 pub mod laws;
 mod masks;
 pub mod words;

@@ -26,7 +26,7 @@ fn put(found: &mut Vec<Labelled>, triangle: Triangle, label: Option<u16>) -> Res
 
 /// The triangles that have a sector, with it, in their order.
 #[tactic(auto, using(crate::proofs::LabelledLaws::one_more_at))]
-pub(crate) fn labelled(alloc: Global, mesh: &Mesh, labels: &Labels) -> Result<Vec<Labelled>, Memory>
+pub fn labelled(alloc: Global, mesh: &Mesh, labels: &Labels) -> Result<Vec<Labelled>, Memory>
     requires { length labels.now ≡ length mesh.now.triangles }
     ensures list { IfOk result (λ v. v.items ≡ labelled_of mesh.now.triangles labels.now) }
     ensures few { IfOk result (λ v. length v.items ≤ length mesh.now.triangles) }

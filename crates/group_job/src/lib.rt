@@ -14,5 +14,6 @@ mod walked;
 
 pub use alone::build_table_alone;
 pub use build::{GroupBuilt, build_table};
+pub use certificate::labelled;
 pub use faces::Faces;
 pub use grouped::{MapOfGroups, map_of_groups};

@@ -1,2 +1,1 @@
 mod OnWay
-pub mod OneSpelling

@@ -1,2 +1,1 @@
 pub mod UnderWay
-pub mod Spelled

@@ -1,41 +1,41 @@
-//! A certificate of either version that has its ranges and orders.
+//! A certificate of any version that has its ranges and orders.
 
 ghost use Rattle.std.specs.Prelude.{◌≡◌};
-ghost use Rattle.cert_groups.specs.Grammar.{IsAnyInOrder, SpellsAny, sizes_of};
+ghost use Rattle.certificates.specs.Grammar.{IsInOrder, Spells, sizes_of};
 
-use cert_groups::{AnyCert, AnyPrinter};
+use certificates::{Certificate, Printer};
 use std::marker::Model;
 
-/// A certificate of either version, with numbers in range and records in order: it has its one spelling.
+/// A certificate of any version, with numbers in range and records in order: it has its one spelling.
 #[derive(Drop)]
 pub struct Spellable {
-    cert: AnyCert,
+    cert: Certificate,
 }
 
 impl Model for Spellable {
-    ghost use Rattle.cert_groups.specs.declared.cert.AnyCert.{AnyCert};
-    ghost use Rattle.cert_groups.specs.Grammar.{IsAnyInOrder};
+    ghost use Rattle.certificates.specs.declared.certificate.Certificate.{Certificate};
+    ghost use Rattle.certificates.specs.Grammar.{IsInOrder};
 
-    ghost Value = { AnyCert };
+    ghost Value = { Certificate };
 
     ghost view = { λ s. s.cert };
 
-    ghost invariant = { λ s. IsAnyInOrder s.cert };
+    ghost invariant = { λ s. IsInOrder s.cert };
 }
 
 impl Spellable {
     /// This certificate.
-    pub fn of(cert: AnyCert) -> Self
-        requires { IsAnyInOrder cert }
+    pub fn of(cert: Certificate) -> Self
+        requires { IsInOrder cert }
         ensures { result ≡ cert }
     {
         Spellable { cert }
     }
 
     /// Gives its spelling in pieces.
-    pub fn printer(&self) -> AnyPrinter<'_>
-        ensures { SpellsAny (sizes_of self.now) result self.now }
+    pub fn printer(&self) -> Printer<'_>
+        ensures { Spells (sizes_of self.now) result self.now }
     {
-        AnyPrinter::new(&self.cert)
+        Printer::new(&self.cert)
     }
 }

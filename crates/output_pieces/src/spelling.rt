@@ -2,7 +2,7 @@
 
 ghost use Rattle.std.specs.Prelude.{◌≡◌, OnErr, OnOk};
 ghost use Rattle.std.specs.Option.{option_map};
-ghost use Rattle.output_pieces.specs.Spelled.{spelling};
+ghost use Rattle.certificates.specs.Grammar.{spelling};
 ghost use Rattle.shelf_io.specs.Shelf.{MayHoldFront, NoneFell, Rose, SameCounts, put};
 
 use crate::spellable::Spellable;

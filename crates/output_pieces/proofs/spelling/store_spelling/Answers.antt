@@ -1,9 +1,9 @@
 use Rattle.std.proofs.Common.{rules, sym, subst, take, List, ℕ}
 use Rattle.std.proofs.lemmas.Result.{err_from_is_err_and}
-use Rattle.output_pieces.specs.Spelled.{spelling}
+use Rattle.certificates.specs.Grammar.{spelling}
 use Rattle.output_pieces.specs.UnderWay.{IsUnderWay}
 use Rattle.output_pieces.proofs.OnWay.{all_put, begun, piece_failed, piece_put}
-use Rattle.output_pieces.proofs.OneSpelling.{spelled_is}
+use Rattle.certificates.proofs.OneSpelling.{spelled_is}
 use Rattle.output_pieces.proofs.spelling.store_spelling.Goals as goal
 
 pub loop-printer-init : goal.loop-printer-init

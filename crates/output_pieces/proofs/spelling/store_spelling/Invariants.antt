@@ -1,5 +1,5 @@
 use Rattle.std.proofs.Common.{◌≡◌, length}
-use Rattle.output_pieces.specs.Spelled.{spelling}
+use Rattle.certificates.specs.Grammar.{spelling}
 use Rattle.shelf_io.specs.Shelf.{NoneFell, SameCounts}
 use Rattle.output_pieces.specs.UnderWay.{IsUnderWay}
 use Rattle.output_pieces.proofs.spelling.store_spelling.Given as goal

@@ -1,5 +1,8 @@
 use Rattle.std.proofs.Common.{[]}
 use Rattle.std.proofs.lemmas.Option.{MatchOption-at_none, MatchOption-at_some}
+use Rattle.cert_format.specs.Sizes.{sizes_of}
+use Rattle.cert_groups.specs.Reading.{any_at}
+use Rattle.cert_parts.specs.Parts.{any_parts_of}
 use Rattle.cert_judge.specs.Intake.{IsGoingOn, AreRefused}
 use Rattle.cert_judge.specs.Judged.{IsVerdictOf}
 use Rattle.cert_judge.proofs.Intakes.{refused_whole, same_fits, read_at_end}
@@ -9,7 +12,7 @@ use Rattle.cert_judge.proofs.intake.Intake.end.Goals as goal
 pub returns-in-Some : goal.returns-in-Some
 returns-in-Some c = λ p t bytes w.
     let f = c.in-Some.fault in
-    unread_told p bytes f (IsVerdictOf p t) (refused_whole p bytes f (MatchOption-at_some (IsGoingOn p t bytes [] c.args.self) (AreRefused p bytes) f c.in-Some.is w))
+    unread_told any_parts_of (any_at (sizes_of p) bytes) f (IsVerdictOf p t) (refused_whole p bytes f (MatchOption-at_some (IsGoingOn p t bytes [] c.args.self) (AreRefused p bytes) f c.in-Some.is w))
 
 pub verdict_of-requires : goal.verdict_of-requires
 verdict_of-requires c =
@@ -25,4 +28,4 @@ returns-in_ok-verdict_of-in-Ok c = λ p t bytes w.
     let known = MatchOption-at_none (IsGoingOn r.plan r.table r.bytes [] c.args.self) (AreRefused r.plan r.bytes) c.in_default.is r.taken in
     let fits = same_fits p r.plan t r.table bytes r.bytes c.args.self on known r.fits in
     let read = read_at_end p t bytes c.args.self on fits c.in-Ok.ensures.whole in
-    verdict_told p bytes read.0 c.in_ok-verdict_of-in-Ok.field-0 (IsVerdictOf p t) read.1 (c.in_ok-verdict_of-in-Ok.ensures p t read.0 read.2)
+    verdict_told (any_at (sizes_of p) bytes) read.0 c.in_ok-verdict_of-in-Ok.field-0 (IsVerdictOf p t) read.1 (c.in_ok-verdict_of-in-Ok.ensures p t read.0 read.2)

@@ -1,0 +1,13 @@
+//! A certificate of any version.
+
+use cert_exact::ExactParts;
+use cert_groups::AnyCert;
+
+/// A certificate of any version.
+#[derive(Drop)]
+pub enum Certificate {
+    /// One that lists the pairs whose budgets ran out, of version 1 or 2.
+    Listing(AnyCert),
+    /// One in which every pair is decided, of version 3.
+    Exact(ExactParts),
+}

@@ -1,0 +1,7 @@
+pub mod Settling
+pub mod OneNode
+pub mod Order
+pub mod First
+pub mod State
+pub mod MoreBytes
+pub mod FromFront

@@ -1,0 +1,5 @@
+pub mod Parts
+pub mod Left
+pub mod Steps
+pub mod Front
+pub mod Beginning
