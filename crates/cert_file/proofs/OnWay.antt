@@ -5,8 +5,8 @@ use Rattle.sight_names.specs.Plan.{PlanParts}
 use Rattle.shelf_io.specs.Shelf.{Files, ReadsFile, content_of}
 use Rattle.shelf_io.proofs.FetchLemmas.{ReadSoFar, end_is, goes_on, starts}
 use Rattle.reject_bits.specs.Parts.{TableParts}
-use Rattle.cert_judge.specs.declared.judge.Judge.{Judge}
-use Rattle.cert_judge.specs.Judge.{HasBeenFed, IsFed, MayBeFed}
+use Rattle.any_judge.specs.declared.judge.Judge.{Judge}
+use Rattle.any_judge.specs.Judge.{HasBeenFed, IsFed, MayBeFed}
 use Rattle.cert_judge.specs.declared.judged.Judged.{Judged}
 use Rattle.cert_file.specs.Judgement.{IsJudgement, JudgesContent}
 

@@ -6,27 +6,28 @@ use Rattle.sight_names.specs.declared.names.Memory.{Memory}
 use Rattle.sight_names.specs.Map.{map_of}
 use Rattle.sight_names.specs.Plan.{PlanParts}
 use Rattle.reject_bits.specs.Parts.{TableParts}
-use Rattle.cert_groups.specs.declared.cert.AnyCert.{AnyCert}
-use Rattle.accepted_groups.specs.Accepted.{IsAcceptedAny}
+use Rattle.certificates.specs.declared.certificate.Certificate.{Certificate}
 use Rattle.group_checker.specs.declared.verdict.AnyVerdict.{AnyVerdict}
-use Rattle.group_checker.specs.Judged.{IsYesAny, JudgesAny, TellsSightAny}
+use Rattle.group_checker.specs.Judged.{IsYesAny}
 use Rattle.cert_judge.specs.declared.judged.Judged.{Judged}
 use Rattle.cert_judge.specs.declared.judged.Judged.TheVariants as judged
 use Rattle.cert_judge.specs.Judged.{JudgedBy}
+use Rattle.any_judge.specs.Accepted.{IsAccepted, TellsSight}
+use Rattle.any_judge.specs.Judged.{Judges}
 use Rattle.cert_file.specs.Judgement.{IsJudged}
 
 module _ (p : PlanParts) (t : TableParts) where
-  abbrev Saying : (AnyCert → AnyVerdict → Type 0) → Result AnyCert CertFault → Judged → Type 0
+  abbrev Saying : (Certificate → AnyVerdict → Type 0) → Result Certificate CertFault → Judged → Type 0
   Saying P r j = JudgedBy r P j
 
-  one_promise : (r : Result AnyCert CertFault) (j : Judged) → Saying (λ c v. JudgesAny p t c v) r j → Saying (λ c v. IsYesAny v ↔ IsAcceptedAny (map_of p) t.bytes c) r j
-      → Saying (λ c v. IsYesAny v → TellsSightAny (map_of p) t c) r j → Saying (λ c v. IsJudged p t c v) r j
+  one_promise : (r : Result Certificate CertFault) (j : Judged) → Saying (λ c v. Judges p t c v) r j → Saying (λ c v. IsYesAny v ↔ IsAccepted (map_of p) t.bytes c) r j
+      → Saying (λ c v. IsYesAny v → TellsSight (map_of p) t c) r j → Saying (λ c v. IsJudged p t c v) r j
   one_promise (Ok c) (judged.Verdict v) exact accepted sight = record { exact = exact; accepted = accepted; sight = sight }
   one_promise (Ok c) (judged.Unread g) exact accepted sight = absurd exact
   one_promise (Err f) (judged.Verdict v) exact accepted sight = absurd exact
   one_promise (Err f) (judged.Unread g) exact accepted sight = exact
 
-  pub promised : (r : Result AnyCert CertFault) (given : Result Judged Memory) → IfOk given (Saying (λ c v. JudgesAny p t c v) r) → IfOk given (Saying (λ c v. IsYesAny v ↔ IsAcceptedAny (map_of p) t.bytes c) r)
-      → IfOk given (Saying (λ c v. IsYesAny v → TellsSightAny (map_of p) t c) r) → IfOk given (JudgedBy r (IsJudged p t))
+  pub promised : (r : Result Certificate CertFault) (given : Result Judged Memory) → IfOk given (Saying (λ c v. Judges p t c v) r) → IfOk given (Saying (λ c v. IsYesAny v ↔ IsAccepted (map_of p) t.bytes c) r)
+      → IfOk given (Saying (λ c v. IsYesAny v → TellsSight (map_of p) t c) r) → IfOk given (JudgedBy r (IsJudged p t))
   promised r (Ok j) exact accepted sight = one_promise r j exact accepted sight
   promised r (Err e) exact accepted sight = tt

@@ -6,24 +6,25 @@ use Rattle.sight_names.specs.Map.{map_of}
 use Rattle.sight_names.specs.Plan.{PlanParts}
 use Rattle.reject_bits.specs.Parts.{TableParts}
 use Rattle.cert_format.specs.Sizes.{sizes_of}
-use Rattle.cert_groups.specs.declared.cert.AnyCert.{AnyCert}
-use Rattle.cert_groups.specs.Reading.{any_at}
-use Rattle.accepted_groups.specs.Accepted.{IsAcceptedAny}
+use Rattle.certificates.specs.declared.certificate.Certificate.{Certificate}
+use Rattle.certificates.specs.Reading.{certificate_at}
 use Rattle.group_checker.specs.declared.verdict.AnyVerdict.{AnyVerdict}
-use Rattle.group_checker.specs.Judged.{IsYesAny, JudgesAny, TellsSightAny}
+use Rattle.group_checker.specs.Judged.{IsYesAny}
 use Rattle.cert_judge.specs.declared.judged.Judged.{Judged}
 use Rattle.cert_judge.specs.Judged.{JudgedBy}
+use Rattle.any_judge.specs.Accepted.{IsAccepted, TellsSight}
+use Rattle.any_judge.specs.Judged.{Judges}
 
--- what is promised of a verdict on a table by a certificate of either version
-pub record IsJudged (p : PlanParts) (table : TableParts) (cert : AnyCert) (verdict : AnyVerdict) : Type 0 where
-  pub exact : JudgesAny p table cert verdict
+-- what is promised of a verdict on a table by a certificate of any version
+pub record IsJudged (p : PlanParts) (table : TableParts) (cert : Certificate) (verdict : AnyVerdict) : Type 0 where
+  pub exact : Judges p table cert verdict
   -- it is yes exactly where the certificate is accepted for the table, and then no rejected pair sees
-  pub accepted : IsYesAny verdict ↔ IsAcceptedAny (map_of p) table.bytes cert
-  pub sight : IsYesAny verdict → TellsSightAny (map_of p) table cert
+  pub accepted : IsYesAny verdict ↔ IsAccepted (map_of p) table.bytes cert
+  pub sight : IsYesAny verdict → TellsSight (map_of p) table cert
 
 -- the verdict by the certificate that the bytes spell for the plan, or the first fault where they spell none
 abbrev pub IsJudgement : PlanParts → TableParts → List ℕ → Judged → Type 0
-IsJudgement p table bytes given = JudgedBy (any_at (sizes_of p) bytes) (IsJudged p table) given
+IsJudgement p table bytes given = JudgedBy (certificate_at (sizes_of p) bytes) (IsJudged p table) given
 
 -- the content is these bytes, and this is what they give
 pub record JudgesContent (p : PlanParts) (table : TableParts) (given : Judged) (content : Result (List ℕ) FetchFault) : Type 0 where

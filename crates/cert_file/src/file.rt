@@ -5,10 +5,11 @@ ghost use Rattle.sight_names.specs.Map.{map_of};
 ghost use Rattle.sight_names.specs.Sound.{LinesMeetAtEnds};
 ghost use Rattle.shelf_io.specs.Shelf.{Files, FetchCause, NoneFell, content_of};
 ghost use Rattle.reject_bits.specs.Parts.{TableParts};
-ghost use Rattle.cert_judge.specs.Judge.{HasBeenFed, IsFed};
+ghost use Rattle.any_judge.specs.Judge.{HasBeenFed, IsFed};
 ghost use Rattle.cert_file.specs.Judgement.{IsJudgement, JudgesFile};
 
-use cert_judge::{Judge, Judged};
+use any_judge::Judge;
+use cert_judge::Judged;
 use reject_bits::Table;
 use shelf_io::{PIECE, Shelf};
 use sight_names::{FetchFault, Memory, Plan, ShelfFault};

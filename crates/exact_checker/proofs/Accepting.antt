@@ -58,12 +58,12 @@ tree_there j f [] ns h = absurd (none-some ns h)
 tree_there j zero (us ∷ trees) ns h = let e : j ≡ j + 0 = omega arith in λ i. Some (tree_of (e i) (same_Some us ns h i))
 tree_there j (suc f) (us ∷ trees) ns h = let e : suc j + f ≡ j + suc f = omega arith in tree_there (suc j) f trees ns h ∙ ap (λ (k : ℕ). Some (tree_of k ns)) e
 
-there_tree : (j f : ℕ) (trees : List (List Node)) (t : Tree) → slice_get (trees_from j trees) f ≡ Some t → (ns : List Node) × (slice_get trees f ≡ Some ns) × (tree_of (j + f) ns ≡ t)
+pub there_tree : (j f : ℕ) (trees : List (List Node)) (t : Tree) → slice_get (trees_from j trees) f ≡ Some t → (ns : List Node) × (slice_get trees f ≡ Some ns) × (tree_of (j + f) ns ≡ t)
 there_tree j f [] t h = absurd (none-some t h)
 there_tree j zero (ns ∷ trees) t h = let e : j + 0 ≡ j = omega arith in (ns, refl, ap (λ (k : ℕ). tree_of k ns) e ∙ same_Some (tree_of j ns) t h)
 there_tree j (suc f) (us ∷ trees) t h = let e : j + suc f ≡ suc j + f = omega arith in let r = there_tree (suc j) f trees t h in (r.0, r.1, ap (λ (k : ℕ). tree_of k r.0) e ∙ r.2)
 
-as_many : (j : ℕ) (trees : List (List Node)) → length (trees_from j trees) ≡ length trees
+pub as_many : (j : ℕ) (trees : List (List Node)) → length (trees_from j trees) ≡ length trees
 as_many j [] = refl
 as_many j (ns ∷ trees) = ap suc (as_many (suc j) trees)
 

@@ -29,7 +29,7 @@ use Rattle.gate_masks.specs.Masks.{IsLeftOut}
 use Rattle.gate_masks.specs.Behind.{mask_behind, IsMaskBehind}
 use Rattle.gate_masks.proofs.Behind.{masks_behind}
 use Rattle.gate_masks.proofs.Claiming.{masks_of_claims}
-use Rattle.row_judge.specs.declared.masks.Masks.{Masks}
+use Rattle.row_judge.specs.Masks.{MaskRows}
 use Rattle.row_judge.specs.Asked as asked
 use Rattle.row_judge.specs.Laws.{AreMasks, IsMaskOf}
 use Rattle.row_judge.specs.Words.{row_at}
@@ -116,7 +116,7 @@ module _ (p : PlanParts) (is : IsPlan p) (ts : List Triangle) (ls : List (Option
         let half : IsHalfEdge p ts ls xs e.0 x = subst (IsHalfEdge p ts ls xs e.0) (same_Some h.0 x (sym h.1 ∙ at)) h.2 in
         fits width room (portal_of x) (mask_behind masks x) (masks_behind p ts ls xs rows masks e.0 x is good by half (by_value x.solid (λ t. absurd (open_ (half.solid.0 t))) (λ f. f)))
 
-    masks_there : (places : List (Option ℕ)) (words : List ℕ) → HaveMasksOf masks xs width places words → (ms : Masks) → ms.width ≡ width → ms.places.now ≡ places → ms.words.now ≡ words → AreMasks (map_of p) (IsLeftOut rows) xs ms
+    masks_there : (places : List (Option ℕ)) (words : List ℕ) → HaveMasksOf masks xs width places words → (ms : MaskRows) → ms.width ≡ width → ms.places ≡ places → ms.words ≡ words → AreMasks (map_of p) (IsLeftOut rows) xs ms
     masks_there places words have ms w e f i x at open_ =
         let told : asked.mask_at ms i ≡ fitted width (mask_behind masks x) = (λ j. option_map (row_at (f j) (w j)) (asked.place_at (e j) i)) ∙ have i x at in
         subst (IsMaskOf (map_of p) (IsLeftOut rows) (portal_of x)) (sym told) (mask_there i x at open_)
@@ -130,11 +130,11 @@ module _ (g : Map) (is_map : IsMap g) (cert : CertParts) (rows : List Row) (join
       let same = masks_of_claims g cert rows is_map (in_joined g.sectors cert rows joined) b d q gate in
       (b, d, gate, (λ c. ((λ h. (same c).0 ((bits c).0 h)), (λ k. (bits c).1 ((same c).1 k)))))
 
-  pub masks_of_joined : (xs : List HalfEdge) (ms : Masks) → AreMasks g (IsLeftOut rows) xs ms → AreMasks g (IsClaimed g cert) xs ms
+  pub masks_of_joined : (xs : List HalfEdge) (ms : MaskRows) → AreMasks g (IsLeftOut rows) xs ms → AreMasks g (IsClaimed g cert) xs ms
   masks_of_joined xs ms are i x at open_ = claims_moved (portal_of x) (asked.mask_at ms i) (are i x at open_)
 
 -- what is put by half-edges is what a walk with a row asks
 pub edge_masks_are : (p : PlanParts) → IsPlan p → (ts : List Triangle) (ls : List (Option ℕ)) → IsGoodMesh (map_of p) ts ls → (xs : List HalfEdge) → AreHalfEdges p ts ls xs → (cert : CertParts) (rows : List Row) → AreJoinedRows p.sectors cert.rays rows
-    → (width : ℕ) → p.sectors ≤ 64 * width → (places : List (Option ℕ)) (words : List ℕ) → AreEdgeMasks (map_of p) (IsLeftOut rows) xs width places words → (ms : Masks) → ms.width ≡ width → ms.places.now ≡ places → ms.words.now ≡ words → AreMasks (map_of p) (IsClaimed (map_of p) cert) xs ms
+    → (width : ℕ) → p.sectors ≤ 64 * width → (places : List (Option ℕ)) (words : List ℕ) → AreEdgeMasks (map_of p) (IsLeftOut rows) xs width places words → (ms : MaskRows) → ms.width ≡ width → ms.places ≡ places → ms.words ≡ words → AreMasks (map_of p) (IsClaimed (map_of p) cert) xs ms
 edge_masks_are p is ts ls good xs are cert rows joined width room places words put ms w e f =
     masks_of_joined (map_of p) (plan_is_map p is) cert rows joined xs ms (masks_there p is ts ls good rows xs are put.masks put.are width room places words put.have ms w e f)

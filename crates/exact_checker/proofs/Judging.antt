@@ -25,13 +25,12 @@ use Rattle.gate_floods.specs.Bits.{is_owned, owned_row, rank_of}
 use Rattle.gate_floods.specs.Exact.{IsClaimed, IsOwned}
 use Rattle.gate_floods.proofs.RowBits.{bit_is, bit_low}
 use Rattle.gate_floods.proofs.Owned.{owned_rows_tell}
-use Rattle.row_judge.specs.declared.masks.Masks.{Masks}
+use Rattle.row_judge.specs.Masks.{MaskRows}
 use Rattle.row_judge.specs.Judged.{tree_of}
 use Rattle.row_judge.specs.Laws.{AreMasks, IsGround, TellsByRows}
 use Rattle.row_judge.specs.Words.{AreBitsOf}
-use Rattle.exact_checker.specs.declared.owning.Owning.{Owning}
 use Rattle.exact_checker.specs.declared.trees.WrongNode.{WrongNode}
-use Rattle.exact_checker.specs.Owning.{IsOwnedBit, KnowsOwning}
+use Rattle.exact_checker.specs.Owning.{OwningParts, IsOwnedBit, KnowsOwning}
 use Rattle.exact_checker.specs.Judged.{AnswersFor, AnswersForEach, Owns, TellsTrees}
 
 -- each triangle of a certificate has a label
@@ -41,22 +40,22 @@ all_named (x ∷ xs) zero t h = (x.sector, refl)
 all_named (x ∷ xs) (suc k) t h = all_named xs k t h
 
 module _ (p : PlanParts) (is : IsPlan p) (c : ExactParts) (count : p.sectors ≡ length c.groups) (xs : List HalfEdge) (good : IsGoodMesh (map_of p) (triangles_of (as_two c).cert) (labels_of (as_two c).cert)) (are : AreHalfEdges p (triangles_of (as_two c).cert) (labels_of (as_two c).cert) xs)
-    (roots : List Root) (firsts : List (Option ℕ)) (begin : AreRoots (map_of p) (triangles_of (as_two c).cert) xs roots firsts) (ms : Masks) (masks : AreMasks (map_of p) (IsClaimed (map_of p) (as_two c).cert) xs ms)
-    (known : Owning) (sized : known.count ≡ p.sectors) (components : AreComponents (map_of p) known.components.now) (knows : KnowsOwning c.rays known) where
+    (roots : List Root) (firsts : List (Option ℕ)) (begin : AreRoots (map_of p) (triangles_of (as_two c).cert) xs roots firsts) (ms : MaskRows) (masks : AreMasks (map_of p) (IsClaimed (map_of p) (as_two c).cert) xs ms)
+    (known : OwningParts) (sized : known.count ≡ p.sectors) (components : AreComponents (map_of p) known.components) (knows : KnowsOwning c.rays known) where
   -- the bits of what a group owns
-  owned_is : (f k : ℕ) → f < p.sectors → IsOwnedBit c.rays known.components.now known.count f k ↔ Owns (map_of p) c f k
-  owned_is f k low = subst (λ (n : ℕ). IsOwnedBit c.rays known.components.now n f k ↔ Owns (map_of p) c f k) (sym sized) (subst (λ (n : ℕ). IsOwnedBit c.rays known.components.now p.sectors f k ↔ IsOwned (rank_of c.rays n) (IsClaimed (map_of p) (as_two c).cert) f k) count told)
+  owned_is : (f k : ℕ) → f < p.sectors → IsOwnedBit c.rays known.components known.count f k ↔ Owns (map_of p) c f k
+  owned_is f k low = subst (λ (n : ℕ). IsOwnedBit c.rays known.components n f k ↔ Owns (map_of p) c f k) (sym sized) (subst (λ (n : ℕ). IsOwnedBit c.rays known.components p.sectors f k ↔ IsOwned (rank_of c.rays n) (IsClaimed (map_of p) (as_two c).cert) f k) count told)
     where
-      law : (slice_get (owned_row c.rays known.components.now (rank_of c.rays p.sectors) p.sectors f) k ≡ Some true) ↔ IsOwned (rank_of c.rays p.sectors) (IsClaimed (map_of p) (as_two c).cert) f k
-      law = owned_rows_tell (rank_of c.rays p.sectors) (map_of p) (as_two c).cert known.components.now f components low k
+      law : (slice_get (owned_row c.rays known.components (rank_of c.rays p.sectors) p.sectors f) k ≡ Some true) ↔ IsOwned (rank_of c.rays p.sectors) (IsClaimed (map_of p) (as_two c).cert) f k
+      law = owned_rows_tell (rank_of c.rays p.sectors) (map_of p) (as_two c).cert known.components f components low k
 
-      told : IsOwnedBit c.rays known.components.now p.sectors f k ↔ IsOwned (rank_of c.rays p.sectors) (IsClaimed (map_of p) (as_two c).cert) f k
+      told : IsOwnedBit c.rays known.components p.sectors f k ↔ IsOwned (rank_of c.rays p.sectors) (IsClaimed (map_of p) (as_two c).cert) f k
       told = (
-        (λ h. law.0 (bit_is (is_owned c.rays known.components.now (rank_of c.rays p.sectors) f) p.sectors k h.0 ∙ ap Some h.1)),
-        (λ o. let b = law.1 o in let l = bit_low (is_owned c.rays known.components.now (rank_of c.rays p.sectors) f) 0 p.sectors k true b in (l, some_is_same _ true (sym (bit_is (is_owned c.rays known.components.now (rank_of c.rays p.sectors) f) p.sectors k l) ∙ b))),
+        (λ h. law.0 (bit_is (is_owned c.rays known.components (rank_of c.rays p.sectors) f) p.sectors k h.0 ∙ ap Some h.1)),
+        (λ o. let b = law.1 o in let l = bit_low (is_owned c.rays known.components (rank_of c.rays p.sectors) f) 0 p.sectors k true b in (l, some_is_same _ true (sym (bit_is (is_owned c.rays known.components (rank_of c.rays p.sectors) f) p.sectors k l) ∙ b))),
       )
 
-  bits_of : (f : ℕ) (row : List ℕ) → f < p.sectors → AreBitsOf row (IsOwnedBit c.rays known.components.now known.count f) → AreBitsOf row (Owns (map_of p) c f)
+  bits_of : (f : ℕ) (row : List ℕ) → f < p.sectors → AreBitsOf row (IsOwnedBit c.rays known.components known.count f) → AreBitsOf row (Owns (map_of p) c f)
   bits_of f row low bits k = let o = owned_is f k low in ((λ h. o.0 ((bits k).0 h)), (λ h. (bits k).1 (o.1 h)))
 
   told_for : (f : ℕ) (ns : List Node) (o : Option ℕ) → f < p.sectors → (a : AnswersFor xs ms roots firsts known f ns o) → TellsByRows (map_of p) (triangles_of (as_two c).cert) (labels_of (as_two c).cert) xs ms (IsClaimed (map_of p) (as_two c).cert) (Owns (map_of p) c f) a.row (tree_of f ns) o
@@ -89,14 +88,14 @@ module _ (p : PlanParts) (is : IsPlan p) (c : ExactParts) (count : p.sectors ≡
       low f us at = let l = slice_get_within trees f us at in omega (arith, l, each)
 
 -- what the judge of one tree tells, with the row that it was given
-module _ (xs : List HalfEdge) (ms : Masks) (roots : List Root) (firsts : List (Option ℕ)) (known : Owning) (f : ℕ) (owned row : List ℕ) (same : row ≡ owned) (bits : (rays : List PairRay) → KnowsOwning rays known → AreBitsOf owned (IsOwnedBit rays known.components.now known.count f)) where
+module _ (xs : List HalfEdge) (ms : MaskRows) (roots : List Root) (firsts : List (Option ℕ)) (known : OwningParts) (f : ℕ) (owned row : List ℕ) (same : row ≡ owned) (bits : (rays : List PairRay) → KnowsOwning rays known → AreBitsOf owned (IsOwnedBit rays known.components known.count f)) where
   pub answers_for : (ns : List Node) (o wrong : Option ℕ) → o ≡ wrong
       → ((p : PlanParts) (ts : List Triangle) (ls : List (Option ℕ)) (rank : ℕ → ℕ) (cert : CertParts) → IsGround p ts ls xs roots firsts ms (IsClaimed (map_of p) cert) (IsOwned rank (IsClaimed (map_of p) cert) f) row → f < p.sectors
       → TellsByRows (map_of p) ts ls xs ms (IsClaimed (map_of p) cert) (IsOwned rank (IsClaimed (map_of p) cert) f) row (tree_of f ns) o)
       → AnswersFor xs ms roots firsts known f ns wrong
   answers_for ns o wrong is tells = subst (AnswersFor xs ms roots firsts known f ns) is (record {
     row = row;
-    bits = λ rays knows. subst (λ (ws : List ℕ). AreBitsOf ws (IsOwnedBit rays known.components.now known.count f)) (sym same) (bits rays knows);
+    bits = λ rays knows. subst (λ (ws : List ℕ). AreBitsOf ws (IsOwnedBit rays known.components known.count f)) (sym same) (bits rays knows);
     tells = tells;
   })
 

@@ -28,16 +28,15 @@ use Rattle.gate_floods.specs.Bits.{rank_of}
 use Rattle.gate_floods.specs.Exact.{IsClaimed, IsOwned}
 use Rattle.gate_floods.specs.Rows.{KeepsByRows}
 use Rattle.gate_masks.specs.declared.masks.Row.{Row}
-use Rattle.row_judge.specs.declared.masks.Masks.{Masks}
+use Rattle.row_judge.specs.Masks.{MaskRows}
 use Rattle.row_judge.specs.Asked.{pending_roots, IsFirstWrong}
 use Rattle.row_judge.specs.Judged.{tree_of}
 use Rattle.row_judge.specs.Laws.{AreMasks, IsGround, TellsByRows}
 use Rattle.row_judge.specs.Words.{AreBitsOf}
 use Rattle.cert_exact.specs.declared.cert.ExactParts.{ExactParts}
 use Rattle.cert_exact.specs.Grammar.{as_two}
-use Rattle.exact_checker.specs.declared.owning.Owning.{Owning}
 use Rattle.exact_checker.specs.declared.trees.WrongNode.{WrongNode}
-use Rattle.exact_checker.specs.Owning.{IsOwnedBit, KnowsOwning}
+use Rattle.exact_checker.specs.Owning.{OwningParts, IsOwnedBit, KnowsOwning}
 use Rattle.exact_checker.specs.Rows.{AreJoinedRows}
 use Rattle.exact_checker.specs.Pairs.{KnownParts}
 
@@ -77,7 +76,7 @@ pub record IsFirstTreeWrong (g : Map) (c : ExactParts) (source k : ℕ) : Type 0
   pub of_map : map_of plan ≡ g
   pub edges : List HalfEdge
   pub are_edges : AreHalfEdges plan (triangles_of (as_two c).cert) (labels_of (as_two c).cert) edges
-  pub masks : Masks
+  pub masks : MaskRows
   pub are_masks : AreMasks g (IsClaimed g (as_two c).cert) edges masks
   pub row : List ℕ
   pub kept : AreBitsOf row (Owns g c source)
@@ -106,10 +105,10 @@ pub record AreTreesOf (c : ExactParts) (p : PlanParts) (ts : List Triangle) (xs 
   pub trees_are : trees ≡ c.trees
 
 -- by half-edges, masks and roots: what the nodes of a group's tree answer, with a row of what the group owns
-module _ (xs : List HalfEdge) (ms : Masks) (roots : List Root) (firsts : List (Option ℕ)) (known : Owning) where
+module _ (xs : List HalfEdge) (ms : MaskRows) (roots : List Root) (firsts : List (Option ℕ)) (known : OwningParts) where
   pub record AnswersFor (f : ℕ) (ns : List Node) (wrong : Option ℕ) : Type 0 where
     pub row : List ℕ
-    pub bits : (rays : List PairRay) → KnowsOwning rays known → AreBitsOf row (IsOwnedBit rays known.components.now known.count f)
+    pub bits : (rays : List PairRay) → KnowsOwning rays known → AreBitsOf row (IsOwnedBit rays known.components known.count f)
     pub tells : (p : PlanParts) (ts : List Triangle) (ls : List (Option ℕ)) (rank : ℕ → ℕ) (cert : CertParts) → IsGround p ts ls xs roots firsts ms (IsClaimed (map_of p) cert) (IsOwned rank (IsClaimed (map_of p) cert) f) row → f < p.sectors
         → TellsByRows (map_of p) ts ls xs ms (IsClaimed (map_of p) cert) (IsOwned rank (IsClaimed (map_of p) cert) f) row (tree_of f ns) wrong
 

@@ -2,8 +2,19 @@
 use Rattle.std.specs.Prelude.{◌≡◌, ℕ, ◌<◌, List, Some, get_or, length, slice_get, true}
 use Rattle.sight_names.specs.declared.names.PairRay.{PairRay}
 use Rattle.gate_floods.specs.Bits.{is_owned, rank_of}
+use Rattle.gate_masks.specs.declared.masks.Row.{Row}
 use Rattle.exact_checker.specs.declared.owning.Owning.{Owning}
 use Rattle.exact_checker.specs.Rows.{AreJoinedRows}
+
+-- as plain lists
+pub record OwningParts : Type 0 where
+  pub count : ℕ
+  pub components : List ℕ
+  pub ranks : List ℕ
+  pub joined : List Row
+
+abbrev pub owning_of : Owning → OwningParts
+owning_of k = record { count = k.count; components = k.components.now; ranks = k.ranks.now; joined = k.joined.now }
 
 -- the rank of a group, by the list of all
 abbrev pub rank_at : List ℕ → ℕ → ℕ
@@ -15,15 +26,15 @@ pub record AreRanks (n : ℕ) (rays : List PairRay) (ranks : List ℕ) : Type 0 
   pub each : (f : ℕ) → f < n → slice_get ranks f ≡ Some (rank_of rays n f)
 
 -- each list has an item for each group
-pub record IsSized (known : Owning) : Type 0 where
-  pub components : length known.components.now ≡ known.count
-  pub ranks : length known.ranks.now ≡ known.count
-  pub joined : length known.joined.now ≡ known.count
+pub record IsSized (known : OwningParts) : Type 0 where
+  pub components : length known.components ≡ known.count
+  pub ranks : length known.ranks ≡ known.count
+  pub joined : length known.joined ≡ known.count
 
 -- ranks and rows are by these rays
-pub record KnowsOwning (rays : List PairRay) (known : Owning) : Type 0 where
-  pub ranks : AreRanks known.count rays known.ranks.now
-  pub joined : AreJoinedRows known.count rays known.joined.now
+pub record KnowsOwning (rays : List PairRay) (known : OwningParts) : Type 0 where
+  pub ranks : AreRanks known.count rays known.ranks
+  pub joined : AreJoinedRows known.count rays known.joined
 
 -- of n groups those that one owns
 abbrev pub IsOwnedBit : List PairRay → List ℕ → ℕ → ℕ → ℕ → Type 0

@@ -75,7 +75,7 @@ pub fn joined_rows(alloc: Global, count: u16, rays: &[PairRay]) -> Result<Vec<Ro
 }
 
 /// The words of the group's row, none where there is none.
-fn words_of(joined: &[Row], group: u16) -> &[u64]
+pub fn words_of(joined: &[Row], group: u16) -> &[u64]
     ensures { (c : ℕ) → HasBit result.now c ↔ IsIn joined.now group c }
 {
     match joined.get(group as usize) {

@@ -18,7 +18,7 @@ ghost use Rattle.exact_checker.specs.Judged.{IsAbout, IsThreeFor, IsThreeOf, Jud
 
 use crate::joining::joined_rows;
 use crate::pairs::{Known, judge_pairs};
-use crate::trees::judge_trees;
+use crate::trees::{OneJudge, TreeJudges, judge_trees};
 use cert_checker::{Verdict, ray_fault};
 use cert_exact::ExactParts;
 use face_groups::Group;
@@ -42,7 +42,7 @@ fn judge_each_pair(known: Known<'_>, sectors: u16) -> Verdict
 }
 
 /// Judges the pairs of sectors, by groups and by the rows of what is joined with each.
-fn judge_sectors(
+pub fn judge_sectors(
     alloc: Global,
     table: &Table,
     groups: &[Group],
@@ -63,12 +63,14 @@ fn judge_sectors(
 }
 
 /// Judges rays and trees over the map of groups, and then the pairs of sectors.
-fn judge_grouped(
+fn judge_grouped<J: TreeJudges>(
+    judges: &J,
     alloc: Global,
     table: &Table,
     exact: &ExactParts,
     over: &GroupedMesh,
 ) -> Result<Verdict, Memory>
+    requires can { J.can_judge judges.now }
     requires cert { IsThreeOf table.now.n exact.now }
     requires triangles { over.now.mesh.triangles ≡ triangles_of (as_two exact.now).cert }
     requires labels { over.now.labels ≡ labels_of (as_two exact.now).cert }
@@ -87,6 +89,7 @@ fn judge_grouped(
     }
     let joined = joined_rows(alloc, over.plan.sectors, rays)?;
     let wrong = judge_trees(
+        judges,
         alloc,
         over,
         &edges,
@@ -103,12 +106,14 @@ fn judge_grouped(
 }
 
 /// The first fault in the order of mesh, groups, rays, trees and pairs, or yes.
-fn judge_three(
+fn judge_three<J: TreeJudges>(
+    judges: &J,
     alloc: Global,
     plan: &Plan,
     table: &Table,
     exact: &ExactParts,
 ) -> Result<AnyVerdict, Memory>
+    requires can { J.can_judge judges.now }
     requires table { table.now.n ≡ plan.now.sectors }
     requires cert { IsThreeFor plan.now exact.now }
     ensures { IfOk result (JudgesThree plan.now table.now exact.now) }
@@ -123,10 +128,30 @@ fn judge_three(
     match judged {
         MeshVerdict::Broken(fault) => Ok(AnyVerdict::No(fault)),
         MeshVerdict::Good(over) => {
-            let verdict = judge_grouped(alloc, table, exact, &over)?;
+            let verdict = judge_grouped(judges, alloc, table, exact, &over)?;
             Ok(any_of(verdict))
         }
     }
+}
+
+/// What `check_exact` tells, the trees judged by these.
+pub fn check_exact_by<J: TreeJudges>(
+    judges: &J,
+    alloc: Global,
+    plan: &Plan,
+    table: &Table,
+    exact: &ExactParts,
+) -> Result<AnyVerdict, Memory>
+    requires can { J.can_judge judges.now }
+    requires audited { LinesMeetAtEnds (map_of plan.now) }
+    requires table { table.now.n ≡ plan.now.sectors }
+    requires cert { IsThreeFor plan.now exact.now }
+    ensures exact { IfOk result (JudgesThree plan.now table.now exact.now) }
+    ensures accepted { IfOk result (λ v. IsYesAny v ↔ IsAcceptedThree (map_of plan.now) table.now.bytes exact.now) }
+    ensures sight { IfOk result (λ v. IsYesAny v → TellsAll (map_of plan.now) table.now) }
+{
+    let _ = plan.lines();
+    judge_three(judges, alloc, plan, table, exact)
 }
 
 /// Judges the table by a certificate of version 3: yes with the totals exactly where the certificate is accepted, or
@@ -146,6 +171,5 @@ pub fn check_exact(
     ensures accepted { IfOk result (λ v. IsYesAny v ↔ IsAcceptedThree (map_of plan.now) table.now.bytes exact.now) }
     ensures sight { IfOk result (λ v. IsYesAny v → TellsAll (map_of plan.now) table.now) }
 {
-    let _ = plan.lines();
-    judge_three(alloc, plan, table, exact)
+    check_exact_by(&OneJudge, alloc, plan, table, exact)
 }

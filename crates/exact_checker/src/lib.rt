@@ -15,4 +15,9 @@ mod pairs;
 mod ranking;
 mod trees;
 
-pub use judge::check_exact;
+pub use joining::{joined_rows, words_of};
+pub use judge::{check_exact, check_exact_by, judge_sectors};
+pub use masking::{EdgeMasks, edge_masks};
+pub use owning::{Owning, owned_row};
+pub use ranking::ranks_of;
+pub use trees::{OneJudge, TreeJudges, WrongNode};

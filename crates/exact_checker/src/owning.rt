@@ -4,7 +4,7 @@ ghost use Rattle.std.specs.Prelude.{◌≡◌, ◌*◌, ◌<◌, ◌≤◌, ◌=
 ghost use Rattle.sight_names.specs.declared.names.PairRay.{PairRay as RayOf};
 ghost use Rattle.gate_floods.specs.Bits.{is_owned as is_owned_of, rank_of, ranks_before as ranks_before_of};
 ghost use Rattle.gate_masks.specs.Words.{HasBit, AreBitsOf};
-ghost use Rattle.exact_checker.specs.Owning.{rank_at, IsOwnedBit, IsSized, KnowsOwning};
+ghost use Rattle.exact_checker.specs.Owning.{rank_at, owning_of, IsOwnedBit, IsSized, KnowsOwning};
 
 use crate::joining::is_in;
 use gate_masks::Row;
@@ -45,8 +45,8 @@ fn are_connected(components: &[u16], one: u16, other: u16) -> bool
 fn is_owned(known: Owning<'_>, one: u16, other: u16) -> bool
     requires one { one < known.count }
     requires other { other < known.count }
-    requires sized { IsSized known }
-    ensures { (rays : List RayOf) → KnowsOwning rays known.entry → result ≡ is_owned_of rays known.entry.components.now (rank_of rays known.entry.count) one other }
+    requires sized { IsSized (owning_of known) }
+    ensures { (rays : List RayOf) → KnowsOwning rays (owning_of known.entry) → result ≡ is_owned_of rays known.entry.components.now (rank_of rays known.entry.count) one other }
 {
     if !are_connected(known.components, one, other) {
         return false;
@@ -58,9 +58,9 @@ fn is_owned(known: Owning<'_>, one: u16, other: u16) -> bool
 fn put_owned(words: &mut [u64], known: Owning<'_>, source: u16)
     requires source { source < known.count }
     requires room { known.count ≤ 64 * length words.old }
-    requires sized { IsSized known }
+    requires sized { IsSized (owning_of known) }
     requires none { (c : ℕ) → ¬ HasBit words.old c }
-    ensures { (rays : List RayOf) → KnowsOwning rays known.entry → AreBitsOf words.new (IsOwnedBit rays known.entry.components.now known.entry.count source) }
+    ensures { (rays : List RayOf) → KnowsOwning rays (owning_of known.entry) → AreBitsOf words.new (IsOwnedBit rays known.entry.components.now known.entry.count source) }
 {
     for other in 0..known.count {
         if is_owned(known, source, other) {
@@ -78,9 +78,9 @@ pub fn owned_row(
 ) -> Result<Vec<u64>, Memory>
     requires source { source < known.count }
     requires room { known.count ≤ 64 * width }
-    requires sized { IsSized known }
+    requires sized { IsSized (owning_of known) }
     ensures len { IfOk result (λ v. length v.items ≡ width) }
-    ensures bits { (rays : List RayOf) → KnowsOwning rays known.entry → IfOk result (λ v. AreBitsOf v.items (IsOwnedBit rays known.entry.components.now known.entry.count source)) }
+    ensures bits { (rays : List RayOf) → KnowsOwning rays (owning_of known.entry) → IfOk result (λ v. AreBitsOf v.items (IsOwnedBit rays known.entry.components.now known.entry.count source)) }
 {
     let mut words = vec![in alloc; 0; width]?;
     put_owned(words.as_mut_slice(), known, source);

@@ -3,7 +3,8 @@
 ghost use Rattle.std.specs.Prelude.{◌≡◌, ◌*◌, ◌≤◌, IfOk, length};
 ghost use Rattle.sight_names.specs.Map.{map_of};
 ghost use Rattle.cert_exact.specs.declared.cert.ExactParts.{ExactParts as PartsOf};
-ghost use Rattle.exact_checker.specs.Owning.{IsSized};
+ghost use Rattle.row_judge.specs.Masks.{rows_of};
+ghost use Rattle.exact_checker.specs.Owning.{owning_of, IsSized};
 ghost use Rattle.exact_checker.specs.Judged.{AnswersForEach, AreTreesOf, TellsTrees};
 
 use crate::masking::edge_masks;
@@ -35,10 +36,10 @@ fn wrong_node(
     masks: &Masks<'_>,
     trees: &[Nodes],
 ) -> Result<Option<WrongNode>, Memory>
-    requires sized { IsSized known }
+    requires sized { IsSized (owning_of known) }
     requires room { known.count ≤ 64 * masks.now.width }
     requires one_each { length trees.now ≡ known.count }
-    ensures { IfOk result (AnswersForEach terrain.now.edges.now masks.now terrain.now.roots.now.roots.items terrain.now.roots.now.first.items known.entry trees.now) }
+    ensures { IfOk result (AnswersForEach terrain.now.edges.now (rows_of masks.now) terrain.now.roots.now.roots.items terrain.now.roots.now.first.items (owning_of known.entry) trees.now) }
 {
     let mut walk = RowWalk::new(alloc);
     for (number, nodes) in trees.iter().enumerate() {
@@ -52,15 +53,57 @@ fn wrong_node(
     Ok(None)
 }
 
+/// Those who judge trees. What they tell doesn't depend on who they are.
+pub trait TreeJudges {
+    /// Whether they can judge: threads share what all of them may look at.
+    ghost can_judge: { Self → Type 0 };
+
+    /// The first wrong node of the first tree that doesn't answer for all that is asked with the row of what its group owns.
+    fn find_wrong(
+        &self,
+        alloc: Global,
+        known: Owning<'_>,
+        terrain: &Terrain<'_>,
+        masks: &Masks<'_>,
+        trees: &[Nodes],
+    ) -> Result<Option<WrongNode>, Memory>
+        requires can { can_judge self.now }
+        requires sized { IsSized (owning_of known) }
+        requires room { known.count ≤ 64 * masks.now.width }
+        requires one_each { length trees.now ≡ known.count }
+        ensures { IfOk result (AnswersForEach terrain.now.edges.now (rows_of masks.now) terrain.now.roots.now.roots.items terrain.now.roots.now.first.items (owning_of known.entry) trees.now) };
+}
+
+/// One judge, who takes the trees one after another.
+#[derive(Drop)]
+pub struct OneJudge;
+
+impl TreeJudges for OneJudge {
+    ghost can_judge = { λ j. Unit {0} };
+
+    fn find_wrong(
+        &self,
+        alloc: Global,
+        known: Owning<'_>,
+        terrain: &Terrain<'_>,
+        masks: &Masks<'_>,
+        trees: &[Nodes],
+    ) -> Result<Option<WrongNode>, Memory> {
+        wrong_node(alloc, known, terrain, masks, trees)
+    }
+}
+
 /// None where the tree of each group keeps from all that the group owns; else the first wrong node of the first tree
 /// that doesn't.
-pub fn judge_trees(
+pub fn judge_trees<J: TreeJudges>(
+    judges: &J,
     alloc: Global,
     over: &GroupedMesh,
     edges: &HalfEdges,
     joined: &[Row],
     trees: &[Nodes],
 ) -> Result<Option<WrongNode>, Memory>
+    requires can { J.can_judge judges.now }
     requires one_each { length trees.now ≡ over.now.plan.sectors }
     requires rows { length joined.now ≡ over.now.plan.sectors }
     requires few { length edges.now ≤ 3 * 65535 }
@@ -86,5 +129,5 @@ pub fn judge_trees(
         ranks: ranks.as_slice(),
         joined,
     };
-    wrong_node(alloc, known, &terrain, &masks, trees)
+    judges.find_wrong(alloc, known, &terrain, &masks, trees)
 }

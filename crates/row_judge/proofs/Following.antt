@@ -14,7 +14,7 @@ use Rattle.tree_judge.specs.declared.trees.Frame.{Frame}
 use Rattle.tree_judge.specs.Path.{path_ends, edge_ends, PutsAt}
 use Rattle.list_base.proofs.Options.{some_is_not_none}
 use Rattle.list_base.proofs.Bools.{not_both_values}
-use Rattle.row_judge.specs.declared.masks.Masks.{Masks}
+use Rattle.row_judge.specs.Masks.{MaskRows}
 use Rattle.row_judge.specs.declared.follow.Wait.{Wait}
 use Rattle.row_judge.specs.declared.follow.RowFollow.{RowFollow}
 use Rattle.row_judge.specs.Words.{row_at, both_words, is_away}
@@ -25,19 +25,19 @@ use Rattle.row_judge.proofs.Waiting.{row_same, waiting_same, waiting_more, put_r
 
 -- ---- the row behind a half-edge
 
-pub passed_over : (ms : Masks) (rows : List ℕ) (row edge : ℕ) → place_at ms.places.now edge ≡ None → HasPassed ms rows row edge rows row
+pub passed_over : (ms : MaskRows) (rows : List ℕ) (row edge : ℕ) → place_at ms.places edge ≡ None → HasPassed ms rows row edge rows row
 passed_over ms rows row edge none = record {
-  there = ap (λ (o : Option ℕ). left_of (row_at rows ms.width row) (option_map (row_at ms.words.now ms.width) o)) (sym none);
+  there = ap (λ (o : Option ℕ). left_of (row_at rows ms.width row) (option_map (row_at ms.words ms.width) o)) (sym none);
   kept = refl;
   after = omega arith;
   room = λ l. l;
 }
 
-pub passed_gate : (ms : Masks) (rows new : List ℕ) (row edge place : ℕ) → place_at ms.places.now edge ≡ Some place → row + ms.width ≤ length rows
-    → new ≡ take (row + ms.width) rows ++ both_words (row_at rows ms.width row) (row_at ms.words.now ms.width place) → HasPassed ms rows row edge new (row + ms.width)
+pub passed_gate : (ms : MaskRows) (rows new : List ℕ) (row edge place : ℕ) → place_at ms.places edge ≡ Some place → row + ms.width ≤ length rows
+    → new ≡ take (row + ms.width) rows ++ both_words (row_at rows ms.width row) (row_at ms.words ms.width place) → HasPassed ms rows row edge new (row + ms.width)
 passed_gate ms rows new row edge place is room put = record {
   there = ap (λ (us : List ℕ). row_at us ms.width (row + ms.width)) put ∙ ap (take ms.width) (drop_at front both (row + ms.width) long) ∙ take_all ms.width both (let l : length both ≡ ms.width = long_too in omega (arith, l))
-      ∙ ap (λ (o : Option ℕ). left_of (row_at rows ms.width row) (option_map (row_at ms.words.now ms.width) o)) (sym is);
+      ∙ ap (λ (o : Option ℕ). left_of (row_at rows ms.width row) (option_map (row_at ms.words ms.width) o)) (sym is);
   kept = ap (take (row + ms.width)) put ∙ take_at front both (row + ms.width) long;
   after = omega arith;
   room = λ l. let n : length new ≡ length front + length both = ap (λ (us : List ℕ). length us) put ∙ length-append front both in let a : length front ≡ row + ms.width = long in let b : length both ≡ ms.width = long_too in omega (arith, n, a, b);
@@ -47,13 +47,13 @@ passed_gate ms rows new row edge place is room put = record {
     front = take (row + ms.width) rows
 
     both : List ℕ
-    both = both_words (row_at rows ms.width row) (row_at ms.words.now ms.width place)
+    both = both_words (row_at rows ms.width row) (row_at ms.words ms.width place)
 
     long : length (take (row + ms.width) rows) ≡ row + ms.width
     long = length-take-le (row + ms.width) rows room
 
-    long_too : length (both_words (row_at rows ms.width row) (row_at ms.words.now ms.width place)) ≡ ms.width
-    long_too = length_of_both (row_at rows ms.width row) (row_at ms.words.now ms.width place) ∙ length-take-le ms.width (drop row rows) (let d : length (drop row rows) ≡ length rows - row = length-drop row rows in omega (arith, d, room))
+    long_too : length (both_words (row_at rows ms.width row) (row_at ms.words ms.width place)) ≡ ms.width
+    long_too = length_of_both (row_at rows ms.width row) (row_at ms.words ms.width place) ∙ length-take-le ms.width (drop row rows) (let d : length (drop row rows) ≡ length rows - row = length-drop row rows in omega (arith, d, room))
 
 -- ---- nodes
 
@@ -63,7 +63,7 @@ same_first p q ps qs us e f = cc
 no_first : (p : Pending) (ps us : List Pending) → us ≡ [] → us ≡ p ∷ ps → ⊥
 no_first p ps us e f = cc
 
-module _ (xs : List HalfEdge) (ms : Masks) (source : ℕ) (first : List ℕ) (roots : List Root) (path : List Frame) (rows : List ℕ) (waits : List Wait) (f : RowFollow) where
+module _ (xs : List HalfEdge) (ms : MaskRows) (source : ℕ) (first : List ℕ) (roots : List Root) (path : List Frame) (rows : List ℕ) (waits : List Wait) (f : RowFollow) where
   -- the half-edge that is asked, behind the present path
   abbrev present : ℕ → Pending
   present place = record { path = path_ends (take f.depth path); row = row_at rows ms.width f.row; edge = place }

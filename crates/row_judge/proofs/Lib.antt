@@ -5,3 +5,4 @@ pub mod Following
 pub mod Walking
 pub mod Trees
 pub mod Telling
+pub mod Answered

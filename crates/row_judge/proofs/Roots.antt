@@ -9,7 +9,7 @@ use Rattle.list_base.proofs.Numbers.{is_told_same}
 use Rattle.list_base.proofs.Options.{some_is_same, none_is_not_some, some_is_not_none}
 use Rattle.tree_judge.specs.declared.roots.Root.{Root}
 use Rattle.tree_judge.specs.Path.{IsChain}
-use Rattle.row_judge.specs.declared.masks.Masks.{Masks}
+use Rattle.row_judge.specs.Masks.{MaskRows}
 use Rattle.row_judge.specs.Asked.{pending_way, pending_roots, with_rest, leaves, mask_at}
 use Rattle.row_judge.specs.Path.{AsksRoot}
 
@@ -68,7 +68,7 @@ module _ (roots : List Root) where
 
 -- ---- roots that are left out
 
-module _ (ms : Masks) (row : List ℕ) (roots : List Root) where
+module _ (ms : MaskRows) (row : List ℕ) (roots : List Root) where
   -- so many roots of the chain are left out, and the rest is from this place on
   pub record HasSkipped (es : List ℕ) (count : ℕ) (at : Option ℕ) : Type 0 where
     pub rest : List ℕ

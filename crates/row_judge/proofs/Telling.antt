@@ -12,13 +12,13 @@ use Rattle.half_edges.specs.declared.table.HalfEdge.{HalfEdge}
 use Rattle.half_edges.specs.HalfEdges.{AreOfGoodMesh}
 use Rattle.tree_judge.specs.declared.roots.Root.{Root}
 use Rattle.tree_judge.specs.Roots.{root_edges}
-use Rattle.row_judge.specs.declared.masks.Masks.{Masks}
+use Rattle.row_judge.specs.Masks.{MaskRows}
 use Rattle.row_judge.specs.Asked.{Pending, pending_roots, ways_through, Answers, AreAnswered, IsFirstWrong}
 use Rattle.row_judge.specs.Judged.{TellsTree}
 use Rattle.row_judge.specs.Laws.{IsGround, TellsByRows}
 use Rattle.row_judge.proofs.Trees.{keeps, kept_answers}
 
-module _ (xs : List HalfEdge) (ms : Masks) (source : ℕ) where
+module _ (xs : List HalfEdge) (ms : MaskRows) (source : ℕ) where
   first_same : (p q : Pending) (ps qs us : List Pending) → us ≡ p ∷ ps → us ≡ q ∷ qs → p ≡ q
   first_same p q ps qs us e f = cc
 
@@ -29,7 +29,7 @@ module _ (xs : List HalfEdge) (ms : Masks) (source : ℕ) where
   one_same x y o e f = cc
 
   -- what is asked behind a node is one
-  one_answer : (n : Node) (ps qs us : List Pending) → Answers xs ms source ps n qs → Answers xs ms source ps n us → qs ≡ us
+  pub one_answer : (n : Node) (ps qs us : List Pending) → Answers xs ms source ps n qs → Answers xs ms source ps n us → qs ≡ us
   one_answer Open ps qs us (p, rest, x, first, is, away, e) (q, more, y, also, this, away_too, g) = e ∙ (λ i. ways_through xs ms source (same i) (found i) ++ rest_same p q rest more ps first also i) ∙ sym g
     where
       same : p ≡ q
@@ -48,7 +48,7 @@ module _ (xs : List HalfEdge) (ms : Masks) (source : ℕ) where
   not_whole : (ps : List Pending) (ns : List Node) (k : ℕ) → IsFirstWrong xs ms source ps ns k → AreAnswered xs ms source ps ns [] → ⊥
   not_whole ps ns k w all = refuted ns k ps w.left w.within w.before all w.wrong w.missing
 
-module _ (p : PlanParts) (ts : List Triangle) (ls : List (Option ℕ)) (xs : List HalfEdge) (roots : List Root) (firsts : List (Option ℕ)) (ms : Masks) (Claims : ℕ → ℕ → Type 0) (Keeps : ℕ → Type 0) (row : List ℕ) (g : IsGround p ts ls xs roots firsts ms Claims Keeps row) where
+module _ (p : PlanParts) (ts : List Triangle) (ls : List (Option ℕ)) (xs : List HalfEdge) (roots : List Root) (firsts : List (Option ℕ)) (ms : MaskRows) (Claims : ℕ → ℕ → Type 0) (Keeps : ℕ → Type 0) (row : List ℕ) (g : IsGround p ts ls xs roots firsts ms Claims Keeps row) where
   abbrev mesh : AreOfGoodMesh p ts xs
   mesh = record { labels = ls; plan = g.plan; good = g.good; edges = g.edges }
 

@@ -30,7 +30,7 @@ use Rattle.tree_judge.proofs.Meshed.{AreAllNamed, Enters, IsInner, IsAsked, aske
 use Rattle.gate_floods.specs.Gates.{IsGate}
 use Rattle.gate_floods.specs.Rows.{IsInRow, IsEmptyRow, HasRow, EntersNone, AnswersAsked, no_node, skipped, blocked, open_node, RootsAsked}
 use Rattle.gate_floods.proofs.RowsOn.{row_none, row_same, row_behind, row_masked, goes_on}
-use Rattle.row_judge.specs.declared.masks.Masks.{Masks}
+use Rattle.row_judge.specs.Masks.{MaskRows}
 use Rattle.row_judge.specs.Words.{AreBitsOf, both_words, has_bit, is_away, is_in}
 use Rattle.row_judge.specs.Asked.{mask_at, left_of, leaves, with_rest, Pending, pending_way, pending_roots, ends_through, row_through, ways_through, Answers, AreAnswered}
 use Rattle.row_judge.specs.Laws.{IsMaskOf, AreMasks}
@@ -46,7 +46,7 @@ first_same p q ps qs e = cc
 rest_same : (p q : Pending) (ps qs : List Pending) → p ∷ ps ≡ q ∷ qs → ps ≡ qs
 rest_same p q ps qs e = cc
 
-module _ (p : PlanParts) (ts : List Triangle) (xs : List HalfEdge) (w : AreOfGoodMesh p ts xs) (named : AreAllNamed ts w.labels) (ms : Masks) (Claims : ℕ → ℕ → Type 0) (Keeps : ℕ → Type 0) (masks : AreMasks (map_of p) Claims xs ms) (a : ℕ) where
+module _ (p : PlanParts) (ts : List Triangle) (xs : List HalfEdge) (w : AreOfGoodMesh p ts xs) (named : AreAllNamed ts w.labels) (ms : MaskRows) (Claims : ℕ → ℕ → Type 0) (Keeps : ℕ → Type 0) (masks : AreMasks (map_of p) Claims xs ms) (a : ℕ) where
   -- the sectors of the triangles
   abbrev ls : List (Option ℕ)
   ls = w.labels

@@ -7,7 +7,7 @@ use Rattle.tree_judge.specs.declared.roots.Root.{Root}
 use Rattle.tree_judge.specs.declared.trees.Frame.{Frame}
 use Rattle.tree_judge.specs.Path.{portal_ends, path_ends, PutsAt, IsChain}
 use Rattle.list_base.proofs.Options.{some_is_not_none}
-use Rattle.row_judge.specs.declared.masks.Masks.{Masks}
+use Rattle.row_judge.specs.Masks.{MaskRows}
 use Rattle.row_judge.specs.declared.follow.Wait.{Wait}
 use Rattle.row_judge.specs.declared.follow.RowFollow.{RowFollow}
 use Rattle.row_judge.specs.Words.{row_at}
@@ -67,7 +67,7 @@ last_same [] (z ∷ ys) x y e = absurd (not_nil ys y (tail_same x z [] (ys ++ y 
 last_same (z ∷ xs) [] x y e = absurd (not_nil xs x (sym (tail_same z y (xs ++ x ∷ []) [] e)))
 last_same (z ∷ xs) (u ∷ ys) x y e = let r = last_same xs ys x y (tail_same z u (xs ++ x ∷ []) (ys ++ y ∷ []) e) in ((λ i. head_same z u (xs ++ x ∷ []) (ys ++ y ∷ []) e i ∷ r.0 i), r.1)
 
-module _ (ms : Masks) (first : List ℕ) (roots : List Root) (path : List Frame) (rows : List ℕ) where
+module _ (ms : MaskRows) (first : List ℕ) (roots : List Root) (path : List Frame) (rows : List ℕ) where
   -- ---- a way is asked
 
   abbrev pub on_way : RowFollow → Wait → RowFollow

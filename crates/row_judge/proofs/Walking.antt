@@ -13,7 +13,7 @@ use Rattle.tree_judge.specs.declared.trees.Frame.{Frame}
 use Rattle.tree_judge.specs.Roots.{first_at}
 use Rattle.tree_judge.specs.Path.{path_ends, IsChain}
 use Rattle.tree_judge.specs.Walked.{begun, with_node}
-use Rattle.row_judge.specs.declared.masks.Masks.{Masks}
+use Rattle.row_judge.specs.Masks.{MaskRows}
 use Rattle.row_judge.specs.declared.follow.Wait.{Wait}
 use Rattle.row_judge.specs.declared.follow.RowFollow.{RowFollow}
 use Rattle.row_judge.specs.declared.walk.RowWalk.{RowWalk}
@@ -24,12 +24,12 @@ use Rattle.row_judge.specs.Judged.{IsWalked, IsWholeFrom, IsFirstWrongFrom}
 use Rattle.row_judge.proofs.Waiting.{waiting_same}
 
 -- one more node answers
-answered_more : (xs : List HalfEdge) (ms : Masks) (source : ℕ) (ns : List Node) (n : Node) (ps qs rs : List Pending) → AreAnswered xs ms source ps ns qs → Answers xs ms source qs n rs → AreAnswered xs ms source ps (ns ++ n ∷ []) rs
+answered_more : (xs : List HalfEdge) (ms : MaskRows) (source : ℕ) (ns : List Node) (n : Node) (ps qs rs : List Pending) → AreAnswered xs ms source ps ns qs → Answers xs ms source qs n rs → AreAnswered xs ms source ps (ns ++ n ∷ []) rs
 answered_more xs ms source [] n ps qs rs e answer = (rs, subst (λ (os : List Pending). Answers xs ms source os n rs) e answer, refl)
 answered_more xs ms source (k ∷ ns) n ps qs rs (os, first, rest) answer = (os, first, answered_more xs ms source ns n os qs rs rest answer)
 
 -- what is still to be asked depends on the open portals of the path alone
-at_same : (ms : Masks) (first : List ℕ) (roots : List Root) (path other : List Frame) (rows : List ℕ) (waits : List Wait) (f : RowFollow) (ps : List Pending) → f.depth ≤ length other → take f.depth other ≡ take f.depth path → IsAt ms first roots path rows waits f ps → IsAt ms first roots other rows waits f ps
+pub at_same : (ms : MaskRows) (first : List ℕ) (roots : List Root) (path other : List Frame) (rows : List ℕ) (waits : List Wait) (f : RowFollow) (ps : List Pending) → f.depth ≤ length other → take f.depth other ≡ take f.depth path → IsAt ms first roots path rows waits f ps → IsAt ms first roots other rows waits f ps
 at_same ms first roots path other rows waits f ps l e a = record {
   es = a.es;
   ways = a.ways;
@@ -49,7 +49,7 @@ node_behind (k ∷ done) n = node_behind done n
 one_node : (n k : Node) → ◌≡◌ {A = Option Node} (Some n) (Some k) → n ≡ k
 one_node n k h = cc
 
-module _ (xs : List HalfEdge) (ms : Masks) (first : List ℕ) (roots : List Root) (firsts : List (Option ℕ)) where
+module _ (xs : List HalfEdge) (ms : MaskRows) (first : List ℕ) (roots : List Root) (firsts : List (Option ℕ)) where
   -- before the first node
   pub walk_begun : (w : RowWalk) (source : ℕ) → w.source ≡ source → row_at w.rows.items ms.width 0 ≡ first → ms.width ≤ length w.rows.items → StandsBefore ms first roots (first_at firsts source) w.path.items w.rows.items w.waits.items w.follow → IsWalked xs ms first roots firsts (begun source) w
   walk_begun w source is base room stands = record {
@@ -142,7 +142,7 @@ node_there (k ∷ done) rest n = node_there done rest n
 longer : (done rest : List Node) (n : Node) → length (done ++ n ∷ rest) ≡ length done + length rest + 1
 longer done rest n = let l : length (done ++ n ∷ rest) ≡ length done + length (n ∷ rest) = length-append done (n ∷ rest) in omega (arith, l)
 
-module _ (xs : List HalfEdge) (ms : Masks) (first : List ℕ) (roots : List Root) (firsts : List (Option ℕ)) (t : Tree) where
+module _ (xs : List HalfEdge) (ms : MaskRows) (first : List ℕ) (roots : List Root) (firsts : List (Option ℕ)) (t : Tree) where
   abbrev Part : List Node → Tree
   Part done = record { source = t.source; nodes = done }
 

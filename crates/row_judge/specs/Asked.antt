@@ -7,7 +7,7 @@ use Rattle.block_evidence.specs.Stuck.{Blocks}
 use Rattle.half_edges.specs.declared.table.HalfEdge.{HalfEdge}
 use Rattle.half_edges.specs.HalfEdges.{way_outside}
 use Rattle.tree_judge.specs.Path.{edge_ends}
-use Rattle.row_judge.specs.declared.masks.Masks.{Masks}
+use Rattle.row_judge.specs.Masks.{MaskRows}
 use Rattle.row_judge.specs.Words.{both_words, has_bit, is_away, row_at}
 
 -- where the mask of a half-edge begins, if it is a gate
@@ -15,8 +15,8 @@ abbrev pub place_at : List (Option ℕ) → ℕ → Option ℕ
 place_at places i = option_and_then (λ (o : Option ℕ). o) (slice_get places i)
 
 -- the mask of a half-edge, if it is a gate
-abbrev pub mask_at : Masks → ℕ → Option (List ℕ)
-mask_at ms i = option_map (row_at ms.words.now ms.width) (place_at ms.places.now i)
+abbrev pub mask_at : MaskRows → ℕ → Option (List ℕ)
+mask_at ms i = option_map (row_at ms.words ms.width) (place_at ms.places i)
 
 -- what is left of the row behind a half-edge with this mask
 abbrev pub left_of : List ℕ → Option (List ℕ) → List ℕ
@@ -42,7 +42,7 @@ pending_way path row (Some i) = record { path = path; row = row; edge = i } ∷ 
 abbrev pub ends_through : Pending → HalfEdge → List EndPoints
 ends_through p x = p.path ++ edge_ends x ∷ []
 
-module _ (ms : Masks) where
+module _ (ms : MaskRows) where
   -- the half-edge, if something is left behind it
   abbrev pub with_rest : List ℕ → ℕ → Option ℕ
   with_rest row i = if leaves row (mask_at ms i) then Some i else None
@@ -56,7 +56,7 @@ module _ (ms : Masks) where
   abbrev pub row_through : Pending → List ℕ
   row_through p = left_of p.row (mask_at ms p.edge)
 
-module _ (xs : List HalfEdge) (ms : Masks) (source : ℕ) where
+module _ (xs : List HalfEdge) (ms : MaskRows) (source : ℕ) where
   -- the way, if it leads out of the source and something is left behind it
   abbrev pub way_asked : List ℕ → Option ℕ → Option ℕ
   way_asked row way = option_and_then (with_rest ms row) (way_outside xs source way)

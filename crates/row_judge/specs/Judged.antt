@@ -6,7 +6,7 @@ use Rattle.half_edges.specs.declared.table.HalfEdge.{HalfEdge}
 use Rattle.tree_judge.specs.declared.roots.Root.{Root}
 use Rattle.tree_judge.specs.Roots.{first_at}
 use Rattle.tree_judge.specs.Path.{IsChain}
-use Rattle.row_judge.specs.declared.masks.Masks.{Masks}
+use Rattle.row_judge.specs.Masks.{MaskRows}
 use Rattle.row_judge.specs.declared.walk.RowWalk.{RowWalk}
 use Rattle.row_judge.specs.Asked.{Pending, pending_roots, AreAnswered, IsFirstWrong}
 use Rattle.row_judge.specs.Path.{IsAt}
@@ -15,7 +15,11 @@ use Rattle.row_judge.specs.Path.{IsAt}
 abbrev pub tree_of : ℕ → List Node → Tree
 tree_of source nodes = record { source = source; nodes = nodes }
 
-module _ (xs : List HalfEdge) (ms : Masks) (first : List ℕ) (roots : List Root) (firsts : List (Option ℕ)) where
+-- whatever the nodes were: all this is still to be asked by the walk
+abbrev pub StandsAt : MaskRows → List ℕ → List Root → RowWalk → List Pending → Type 0
+StandsAt ms first roots w ps = IsAt ms first roots w.path.items w.rows.items w.waits.items w.follow ps
+
+module _ (xs : List HalfEdge) (ms : MaskRows) (first : List ℕ) (roots : List Root) (firsts : List (Option ℕ)) where
   -- all nodes that have come have answered, and the walk stands behind them
   pub record IsWalked (t : Tree) (w : RowWalk) : Type 0 where
     pub source_is : w.source ≡ t.source

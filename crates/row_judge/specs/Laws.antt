@@ -12,7 +12,7 @@ use Rattle.tree_judge.specs.declared.roots.Root.{Root}
 use Rattle.tree_judge.specs.Roots.{root_edges, AreRoots}
 use Rattle.gate_floods.specs.Gates.{IsGate, IsInMask}
 use Rattle.gate_floods.specs.Rows.{KeepsByRows}
-use Rattle.row_judge.specs.declared.masks.Masks.{Masks}
+use Rattle.row_judge.specs.Masks.{MaskRows}
 use Rattle.row_judge.specs.Words.{AreBitsOf}
 use Rattle.row_judge.specs.Asked.{mask_at, pending_roots, IsFirstWrong}
 
@@ -22,11 +22,11 @@ IsMaskOf m Claims p None = (b d : ℕ) → ¬ IsGate m b d p
 IsMaskOf m Claims p (Some mask) = (b : ℕ) × (d : ℕ) × IsGate m b d p × AreBitsOf mask (IsInMask m Claims b d p)
 
 -- each half-edge that can be walked through has its mask
-abbrev pub AreMasks : Map → (ℕ → ℕ → Type 0) → List HalfEdge → Masks → Type 0
+abbrev pub AreMasks : Map → (ℕ → ℕ → Type 0) → List HalfEdge → MaskRows → Type 0
 AreMasks m Claims xs ms = (i : ℕ) (x : HalfEdge) → slice_get xs i ≡ Some x → ¬ IsSolidLine m (portal_of x) → IsMaskOf m Claims (portal_of x) (mask_at ms i)
 
 -- over a good mesh each of whose triangles has a sector: half-edges, roots and masks, and the row of what is kept from
-pub record IsGround (p : PlanParts) (ts : List Triangle) (ls : List (Option ℕ)) (xs : List HalfEdge) (roots : List Root) (firsts : List (Option ℕ)) (ms : Masks) (Claims : ℕ → ℕ → Type 0) (Keeps : ℕ → Type 0) (row : List ℕ) : Type 0 where
+pub record IsGround (p : PlanParts) (ts : List Triangle) (ls : List (Option ℕ)) (xs : List HalfEdge) (roots : List Root) (firsts : List (Option ℕ)) (ms : MaskRows) (Claims : ℕ → ℕ → Type 0) (Keeps : ℕ → Type 0) (row : List ℕ) : Type 0 where
   pub plan : IsPlan p
   pub good : IsGoodMesh (map_of p) ts ls
   pub edges : AreHalfEdges p ts ls xs
@@ -36,11 +36,11 @@ pub record IsGround (p : PlanParts) (ts : List Triangle) (ls : List (Option ℕ)
   pub kept : AreBitsOf row Keeps
 
 -- the tree doesn't keep by rows, and node k is the first that doesn't answer, or that is missing
-pub record IsWrongByRows (m : Map) (ts : List Triangle) (ls : List (Option ℕ)) (xs : List HalfEdge) (ms : Masks) (Claims : ℕ → ℕ → Type 0) (Keeps : ℕ → Type 0) (row : List ℕ) (t : Tree) (k : ℕ) : Type 0 where
+pub record IsWrongByRows (m : Map) (ts : List Triangle) (ls : List (Option ℕ)) (xs : List HalfEdge) (ms : MaskRows) (Claims : ℕ → ℕ → Type 0) (Keeps : ℕ → Type 0) (row : List ℕ) (t : Tree) (k : ℕ) : Type 0 where
   pub not_kept : ¬ KeepsByRows m ts ls Claims Keeps t
   pub node : IsFirstWrong xs ms t.source (pending_roots ms row (root_edges ts xs m t.source)) t.nodes k
 
 -- the tree keeps by rows, or its first wrong node is told
-abbrev pub TellsByRows : Map → List Triangle → List (Option ℕ) → List HalfEdge → Masks → (ℕ → ℕ → Type 0) → (ℕ → Type 0) → List ℕ → Tree → Option ℕ → Type 0
+abbrev pub TellsByRows : Map → List Triangle → List (Option ℕ) → List HalfEdge → MaskRows → (ℕ → ℕ → Type 0) → (ℕ → Type 0) → List ℕ → Tree → Option ℕ → Type 0
 TellsByRows m ts ls xs ms Claims Keeps row t None = KeepsByRows m ts ls Claims Keeps t
 TellsByRows m ts ls xs ms Claims Keeps row t (Some k) = IsWrongByRows m ts ls xs ms Claims Keeps row t k

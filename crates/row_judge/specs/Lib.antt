@@ -1,4 +1,5 @@
 pub mod Words
+pub mod Masks
 pub mod Asked
 pub mod Path
 pub mod Judged

@@ -5,7 +5,7 @@ use Rattle.tree_judge.specs.declared.roots.Root.{Root}
 use Rattle.tree_judge.specs.declared.trees.Frame.{Frame}
 use Rattle.tree_judge.specs.Path.{path_ends, IsChain}
 use Rattle.sight_tree.specs.declared.Node.{Node}
-use Rattle.row_judge.specs.declared.masks.Masks.{Masks}
+use Rattle.row_judge.specs.Masks.{MaskRows}
 use Rattle.row_judge.specs.declared.follow.Wait.{Wait}
 use Rattle.row_judge.specs.declared.follow.RowFollow.{RowFollow}
 use Rattle.row_judge.specs.Words.{row_at}
@@ -13,19 +13,19 @@ use Rattle.row_judge.specs.Asked.{Pending, pending_way, pending_roots, ways_behi
 
 -- The row behind a half-edge is at this place: behind a gate it is put there, elsewhere it is the row before. The
 -- rows as far as the one before are as they were.
-pub record HasPassed (ms : Masks) (old : List ℕ) (row edge : ℕ) (new : List ℕ) (at : ℕ) : Type 0 where
+pub record HasPassed (ms : MaskRows) (old : List ℕ) (row edge : ℕ) (new : List ℕ) (at : ℕ) : Type 0 where
   pub there : row_at new ms.width at ≡ left_of (row_at old ms.width row) (mask_at ms edge)
   pub kept : take (row + ms.width) new ≡ take (row + ms.width) old
   pub after : row ≤ at
   pub room : row + ms.width ≤ length old → at + ms.width ≤ length new
 
 -- so it is, if a place is told; none is told only where there is no row before
-abbrev pub HasPassedTo : Masks → List ℕ → ℕ → ℕ → List ℕ → Option ℕ → Type 0
+abbrev pub HasPassedTo : MaskRows → List ℕ → ℕ → ℕ → List ℕ → Option ℕ → Type 0
 HasPassedTo ms old row edge new (Some at) = HasPassed ms old row edge new at
 HasPassedTo ms old row edge new None = length old < row + ms.width
 
 -- the first of these roots behind which something is left, if there is one, and the place behind it
-pub record AsksRoot (ms : Masks) (row : List ℕ) (roots : List Root) (es : List ℕ) (asked next : Option ℕ) : Type 0 where
+pub record AsksRoot (ms : MaskRows) (row : List ℕ) (roots : List Root) (es : List ℕ) (asked next : Option ℕ) : Type 0 where
   pub rest : List ℕ
   pub chain : IsChain roots next rest
   pub all : pending_roots ms row es ≡ pending_way [] row asked ++ pending_roots ms row rest
@@ -42,7 +42,7 @@ AreWaiting path rows width waits depth row [] = waits ≡ []
 AreWaiting path rows width waits depth row (p ∷ ps) = (front : List Wait) × (w : Wait) × (waits ≡ front ++ w ∷ []) × (w.depth ≤ depth) × (w.row ≤ row) × (p ≡ waiting_way path rows width w) × AreWaiting path rows width front w.depth w.row ps
 
 -- all that is still to be asked by the walk: the present half-edge, the right ways that wait, the roots behind its own
-pub record IsAt (ms : Masks) (first : List ℕ) (roots : List Root) (path : List Frame) (rows : List ℕ) (waits : List Wait) (f : RowFollow) (ps : List Pending) : Type 0 where
+pub record IsAt (ms : MaskRows) (first : List ℕ) (roots : List Root) (path : List Frame) (rows : List ℕ) (waits : List Wait) (f : RowFollow) (ps : List Pending) : Type 0 where
   pub es : List ℕ
   pub ways : List Pending
   pub chain : IsChain roots f.root es
@@ -58,23 +58,23 @@ abbrev pub with_asked : RowFollow → Option ℕ → RowFollow
 with_asked f asked = record f { asked = asked }
 
 -- the first of the ways that wait and of the roots is asked, and the others remain; None only where nothing was left
-pub record TakesNext (ms : Masks) (first : List ℕ) (roots : List Root) (path : List Frame) (rows : List ℕ) (waits : List Wait) (old : RowFollow) (waits_new : List Wait) (new : RowFollow) (asked : Option ℕ) : Type 0 where
+pub record TakesNext (ms : MaskRows) (first : List ℕ) (roots : List Root) (path : List Frame) (rows : List ℕ) (waits : List Wait) (old : RowFollow) (waits_new : List Wait) (new : RowFollow) (asked : Option ℕ) : Type 0 where
   pub next : (es : List ℕ) (ways : List Pending) → IsChain roots old.root es → row_at rows ms.width 0 ≡ first → AreWaiting path rows ms.width waits old.depth old.row ways → old.depth ≤ length path → old.row + ms.width ≤ length rows
       → IsAt ms first roots path rows waits_new (with_asked new asked) (ways ++ pending_roots ms first es)
 
 -- whoever is behind the half-edge has its two ways to ask before all that is still to be asked; the first is asked
-pub record EntersThrough (xs : List HalfEdge) (ms : Masks) (source : ℕ) (first : List ℕ) (roots : List Root) (path : List Frame) (rows : List ℕ) (waits : List Wait) (old : RowFollow) (x : HalfEdge) (waits_new : List Wait) (new : RowFollow) (asked : Option ℕ) : Type 0 where
+pub record EntersThrough (xs : List HalfEdge) (ms : MaskRows) (source : ℕ) (first : List ℕ) (roots : List Root) (path : List Frame) (rows : List ℕ) (waits : List Wait) (old : RowFollow) (x : HalfEdge) (waits_new : List Wait) (new : RowFollow) (asked : Option ℕ) : Type 0 where
   pub next : (es : List ℕ) (ways : List Pending) → IsChain roots old.root es → row_at rows ms.width 0 ≡ first → AreWaiting path rows ms.width waits old.depth old.row ways → old.depth ≤ length path → old.row + ms.width ≤ length rows
       → IsAt ms first roots path rows waits_new (with_asked new asked) (ways_behind xs ms source (path_ends (take old.depth path)) (row_at rows ms.width old.row) x ++ (ways ++ pending_roots ms first es))
 
 -- whatever is still to be asked: the node answers for it, and the walk stands behind it
-pub record HasAnswered (xs : List HalfEdge) (ms : Masks) (source : ℕ) (first : List ℕ) (roots : List Root) (n : Node) (path : List Frame) (rows : List ℕ) (waits : List Wait) (f : RowFollow) (path_new : List Frame) (rows_new : List ℕ) (waits_new : List Wait) (f_new : RowFollow) : Type 0 where
+pub record HasAnswered (xs : List HalfEdge) (ms : MaskRows) (source : ℕ) (first : List ℕ) (roots : List Root) (n : Node) (path : List Frame) (rows : List ℕ) (waits : List Wait) (f : RowFollow) (path_new : List Frame) (rows_new : List ℕ) (waits_new : List Wait) (f_new : RowFollow) : Type 0 where
   pub next : (ps : List Pending) → IsAt ms first roots path rows waits f ps → (qs : List Pending) × Answers xs ms source ps n qs × IsAt ms first roots path_new rows_new waits_new f_new qs
 
 -- whatever is still to be asked: the node doesn't answer for it
-pub record HasRefused (xs : List HalfEdge) (ms : Masks) (source : ℕ) (first : List ℕ) (roots : List Root) (n : Node) (path : List Frame) (rows : List ℕ) (waits : List Wait) (f : RowFollow) : Type 0 where
+pub record HasRefused (xs : List HalfEdge) (ms : MaskRows) (source : ℕ) (first : List ℕ) (roots : List Root) (n : Node) (path : List Frame) (rows : List ℕ) (waits : List Wait) (f : RowFollow) : Type 0 where
   pub none : (ps qs : List Pending) → IsAt ms first roots path rows waits f ps → ¬ Answers xs ms source ps n qs
 
 -- over these rows the walk stands before these roots
-pub record StandsBefore (ms : Masks) (first : List ℕ) (roots : List Root) (root : Option ℕ) (path : List Frame) (rows : List ℕ) (waits : List Wait) (f : RowFollow) : Type 0 where
+pub record StandsBefore (ms : MaskRows) (first : List ℕ) (roots : List Root) (root : Option ℕ) (path : List Frame) (rows : List ℕ) (waits : List Wait) (f : RowFollow) : Type 0 where
   pub start : (es : List ℕ) → IsChain roots root es → row_at rows ms.width 0 ≡ first → ms.width ≤ length rows → IsAt ms first roots path rows waits f (pending_roots ms first es)

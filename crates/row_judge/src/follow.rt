@@ -3,6 +3,7 @@
 ghost use Rattle.std.specs.Prelude.{◌≡◌, ◌+◌, ◌<◌, ℕ, List, IfOk, length, not, true, false};
 ghost use Rattle.tree_judge.specs.Path.{IsChain};
 ghost use Rattle.tree_judge.specs.Roots.{first_at};
+ghost use Rattle.row_judge.specs.Masks.{rows_of};
 ghost use Rattle.row_judge.specs.Asked.{way_asked as way_asked_of};
 ghost use Rattle.row_judge.specs.Path.{AsksRoot, EntersThrough, HasAnswered, HasPassedTo, HasRefused, StandsBefore, TakesNext};
 ghost use Rattle.row_judge.specs.Words.{is_away};
@@ -44,7 +45,7 @@ fn way_asked(
     row: &[u64],
     way: Option<u32>,
 ) -> Option<u32>
-    ensures { result ≡ way_asked_of terrain.now.edges.now masks.now source row.now way }
+    ensures { result ≡ way_asked_of terrain.now.edges.now (rows_of masks.now) source row.now way }
 {
     let number = terrain.edges.outside(way, source)?;
     if leaves(masks, row, number) {
@@ -62,7 +63,7 @@ fn next_root(
     row: &[u64],
     root: Option<usize>,
 ) -> (Option<u32>, Option<usize>)
-    ensures { (es : List ℕ) → IsChain roots.now.roots.items root es → AsksRoot masks.now row.now roots.now.roots.items es result.0 result.1 }
+    ensures { (es : List ℕ) → IsChain roots.now.roots.items root es → AsksRoot (rows_of masks.now) row.now roots.now.roots.items es result.0 result.1 }
 {
     let mut at = root;
     for _ in 0..roots.len() {
@@ -79,14 +80,14 @@ fn next_root(
 
 /// The half-edge that is asked next: the right way that waits last, or else the next root.
 #[inline(always)]
-fn next_asked(
+pub fn next_asked(
     roots: &Roots,
     masks: &Masks<'_>,
     rows: &[u64],
     waits: &mut Vec<Wait>,
     follow: &mut RowFollow,
 ) -> Option<u32>
-    ensures { (first : List ℕ) (path : List Frame) → TakesNext masks.now first roots.now.roots.items path rows.now waits.old.items follow.old waits.new.items follow.new result }
+    ensures { (first : List ℕ) (path : List Frame) → TakesNext (rows_of masks.now) first roots.now.roots.items path rows.now waits.old.items follow.old waits.new.items follow.new result }
 {
     match waits.pop() {
         Some(wait) => {
@@ -117,7 +118,7 @@ fn enter(
     follow: &mut RowFollow,
     edge: &HalfEdge,
 ) -> Result<Option<u32>, Memory>
-    ensures { (first : List ℕ) (path : List Frame) → IfOk result (λ asked. EntersThrough terrain.now.edges.now masks.now source first terrain.now.roots.now.roots.items path rows.now waits.old.items follow.old edge.now waits.new.items follow.new asked) }
+    ensures { (first : List ℕ) (path : List Frame) → IfOk result (λ asked. EntersThrough terrain.now.edges.now (rows_of masks.now) source first terrain.now.roots.now.roots.items path rows.now waits.old.items follow.old edge.now waits.new.items follow.new asked) }
 {
     let row = part(rows, follow.row, masks.width);
     let right = way_asked(terrain, masks, source, row, edge.right_way);
@@ -146,7 +147,7 @@ fn pass(
     row: usize,
     edge: u32,
 ) -> Result<Option<usize>, Memory>
-    ensures { IfOk result (λ at. HasPassedTo masks.now rows.old.items row edge rows.new.items at) }
+    ensures { IfOk result (λ at. HasPassedTo (rows_of masks.now) rows.old.items row edge rows.new.items at) }
 {
     let Some(place) = place_of(masks, edge) else {
         return Ok(Some(row));
@@ -185,8 +186,8 @@ pub fn answer(
     follow: &mut RowFollow,
     node: Node,
 ) -> Result<bool, Memory>
-    ensures answered { (first : List ℕ) → IfOk result (λ yes. yes ≡ true → HasAnswered terrain.now.edges.now masks.now source first terrain.now.roots.now.roots.items node path.old rows.old.items waits.old.items follow.old path.new rows.new.items waits.new.items follow.new) }
-    ensures refused { (first : List ℕ) → IfOk result (λ yes. yes ≡ false → follow.old.depth < length path.old → HasRefused terrain.now.edges.now masks.now source first terrain.now.roots.now.roots.items node path.old rows.old.items waits.old.items follow.old) }
+    ensures answered { (first : List ℕ) → IfOk result (λ yes. yes ≡ true → HasAnswered terrain.now.edges.now (rows_of masks.now) source first terrain.now.roots.now.roots.items node path.old rows.old.items waits.old.items follow.old path.new rows.new.items waits.new.items follow.new) }
+    ensures refused { (first : List ℕ) → IfOk result (λ yes. yes ≡ false → follow.old.depth < length path.old → HasRefused terrain.now.edges.now (rows_of masks.now) source first terrain.now.roots.now.roots.items node path.old rows.old.items waits.old.items follow.old) }
 {
     let Some(place) = follow.asked else {
         return Ok(false);
@@ -228,7 +229,7 @@ pub fn start(
     rows: &[u64],
     waits: &mut Vec<Wait>,
 ) -> RowFollow
-    ensures { (first : List ℕ) (path : List Frame) → StandsBefore masks.now first terrain.now.roots.now.roots.items (first_at terrain.now.roots.now.first.items source) path rows.now waits.new.items result }
+    ensures { (first : List ℕ) (path : List Frame) → StandsBefore (rows_of masks.now) first terrain.now.roots.now.roots.items (first_at terrain.now.roots.now.first.items source) path rows.now waits.new.items result }
 {
     waits.clear();
     let mut follow = RowFollow {

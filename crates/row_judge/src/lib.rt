@@ -7,8 +7,9 @@ mod follow;
 mod judge;
 mod masks;
 mod walk;
-mod words;
+pub mod words;
 
+pub use follow::{RowFollow, Wait, next_asked};
 pub use judge::judge_by_rows;
-pub use masks::Masks;
+pub use masks::{Masks, leaves};
 pub use walk::RowWalk;

@@ -1,6 +1,7 @@
 //! The masks of gates, by half-edges.
 
 ghost use Rattle.std.specs.Prelude.{◌≡◌};
+ghost use Rattle.row_judge.specs.Masks.{rows_of};
 ghost use Rattle.row_judge.specs.Asked.{leaves as leaves_of, mask_at, place_at};
 
 use crate::words::{meet, part};
@@ -27,7 +28,7 @@ pub fn place_of(masks: &Masks<'_>, edge: u32) -> Option<u32>
 /// Whether something is left of the row behind the half-edge. Only a gate's mask is looked at.
 #[inline(always)]
 pub fn leaves(masks: &Masks<'_>, row: &[u64], edge: u32) -> bool
-    ensures { result ≡ leaves_of row.now (mask_at masks.now edge) }
+    ensures { result ≡ leaves_of row.now (mask_at (rows_of masks.now) edge) }
 {
     match place_of(masks, edge) {
         Some(place) => meet(row, part(masks.words, place as usize, masks.width)),

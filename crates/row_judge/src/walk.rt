@@ -3,7 +3,9 @@
 ghost use Rattle.std.specs.Prelude.{◌≡◌, ℕ, List, length, true, false, IfOk};
 ghost use Rattle.sight_tree.specs.declared.Tree.{Tree as WalkTree};
 ghost use Rattle.tree_judge.specs.Walked.{begun, with_node};
-ghost use Rattle.row_judge.specs.Judged.{IsFirstWrongFrom, IsWalked, IsWholeFrom};
+ghost use Rattle.row_judge.specs.Masks.{rows_of};
+ghost use Rattle.row_judge.specs.Asked.{Answers, Pending};
+ghost use Rattle.row_judge.specs.Judged.{IsFirstWrongFrom, IsWalked, IsWholeFrom, StandsAt};
 
 use crate::follow::{RowFollow, Wait, answer, start};
 use crate::masks::Masks;
@@ -16,11 +18,11 @@ use tree_judge::{Frame, Terrain, make_room};
 /// path.
 #[derive(Drop)]
 pub struct RowWalk {
-    source: u16,
-    path: Vec<Frame>,
-    rows: Vec<u64>,
-    waits: Vec<Wait>,
-    follow: RowFollow,
+    pub source: u16,
+    pub path: Vec<Frame>,
+    pub rows: Vec<u64>,
+    pub waits: Vec<Wait>,
+    pub follow: RowFollow,
 }
 
 /// Puts the row in place of all rows.
@@ -58,7 +60,7 @@ impl RowWalk {
         row: &[u64],
     ) -> Result<(), Memory>
         requires { length row.now ≡ masks.now.width }
-        ensures { IfOk result (λ _. IsWalked terrain.now.edges.now masks.now row.now terrain.now.roots.now.roots.items terrain.now.roots.now.first.items (begun source) self.new) }
+        ensures { IfOk result (λ _. IsWalked terrain.now.edges.now (rows_of masks.now) row.now terrain.now.roots.now.roots.items terrain.now.roots.now.first.items (begun source) self.new) }
     {
         put_first(&mut self.rows, row)?;
         self.source = source;
@@ -72,15 +74,17 @@ impl RowWalk {
         Ok(())
     }
 
-    /// Whether the node answers for what is asked; then the walk stands behind it.
+    /// Whether the node answers for what is asked; then the walk stands behind it. A node that answers isn't refused.
     pub fn step(
         &mut self,
         terrain: &Terrain<'_>,
         masks: &Masks<'_>,
         node: Node,
     ) -> Result<bool, Memory>
-        ensures answered { (row : List ℕ) (t : WalkTree) → IsWalked terrain.now.edges.now masks.now row terrain.now.roots.now.roots.items terrain.now.roots.now.first.items t self.old → IfOk result (λ yes. yes ≡ true → IsWalked terrain.now.edges.now masks.now row terrain.now.roots.now.roots.items terrain.now.roots.now.first.items (with_node node t) self.new) }
-        ensures refused { (row : List ℕ) (t : WalkTree) → IsWalked terrain.now.edges.now masks.now row terrain.now.roots.now.roots.items terrain.now.roots.now.first.items t self.old → IfOk result (λ yes. yes ≡ false → IsFirstWrongFrom terrain.now.edges.now masks.now row terrain.now.roots.now.roots.items terrain.now.roots.now.first.items (with_node node t) (length t.nodes)) }
+        ensures answered { (row : List ℕ) (t : WalkTree) → IsWalked terrain.now.edges.now (rows_of masks.now) row terrain.now.roots.now.roots.items terrain.now.roots.now.first.items t self.old → IfOk result (λ yes. yes ≡ true → IsWalked terrain.now.edges.now (rows_of masks.now) row terrain.now.roots.now.roots.items terrain.now.roots.now.first.items (with_node node t) self.new) }
+        ensures refused { (row : List ℕ) (t : WalkTree) → IsWalked terrain.now.edges.now (rows_of masks.now) row terrain.now.roots.now.roots.items terrain.now.roots.now.first.items t self.old → IfOk result (λ yes. yes ≡ false → IsFirstWrongFrom terrain.now.edges.now (rows_of masks.now) row terrain.now.roots.now.roots.items terrain.now.roots.now.first.items (with_node node t) (length t.nodes)) }
+        ensures stands { (first : List ℕ) (ps qs : List Pending) → StandsAt (rows_of masks.now) first terrain.now.roots.now.roots.items self.old ps → Answers terrain.now.edges.now (rows_of masks.now) self.old.source ps node qs → IfOk result (λ yes. (yes ≡ true) × StandsAt (rows_of masks.now) first terrain.now.roots.now.roots.items self.new qs) }
+        ensures source { self.new.source ≡ self.old.source }
     {
         make_room(&mut self.path, self.follow.depth)?;
         answer(
@@ -97,8 +101,8 @@ impl RowWalk {
 
     /// Whether nothing is asked any more.
     pub fn is_done(&self, terrain: &Terrain<'_>, masks: &Masks<'_>) -> bool
-        ensures whole { (row : List ℕ) (t : WalkTree) → IsWalked terrain.now.edges.now masks.now row terrain.now.roots.now.roots.items terrain.now.roots.now.first.items t self.now → result ≡ true → IsWholeFrom terrain.now.edges.now masks.now row terrain.now.roots.now.roots.items terrain.now.roots.now.first.items t }
-        ensures missing { (row : List ℕ) (t : WalkTree) → IsWalked terrain.now.edges.now masks.now row terrain.now.roots.now.roots.items terrain.now.roots.now.first.items t self.now → result ≡ false → IsFirstWrongFrom terrain.now.edges.now masks.now row terrain.now.roots.now.roots.items terrain.now.roots.now.first.items t (length t.nodes) }
+        ensures whole { (row : List ℕ) (t : WalkTree) → IsWalked terrain.now.edges.now (rows_of masks.now) row terrain.now.roots.now.roots.items terrain.now.roots.now.first.items t self.now → result ≡ true → IsWholeFrom terrain.now.edges.now (rows_of masks.now) row terrain.now.roots.now.roots.items terrain.now.roots.now.first.items t }
+        ensures missing { (row : List ℕ) (t : WalkTree) → IsWalked terrain.now.edges.now (rows_of masks.now) row terrain.now.roots.now.roots.items terrain.now.roots.now.first.items t self.now → result ≡ false → IsFirstWrongFrom terrain.now.edges.now (rows_of masks.now) row terrain.now.roots.now.roots.items terrain.now.roots.now.first.items t (length t.nodes) }
     {
         self.follow.asked.is_none()
     }

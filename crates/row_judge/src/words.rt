@@ -56,9 +56,10 @@ pub fn put_both(rows: &mut Vec<u64>, at: usize, width: usize, mask: &[u64]) -> R
     ensures { OnOk result (rows.new.items ≡ take (at + width) rows.old.items ++ both_words (row_at rows.old.items width at) mask.now) }
 {
     rows.truncate(at + width);
+    rows.reserve(width)?;
     for k in 0..width {
         let word = rows[at + k] & word_at(mask, k);
-        rows.push(word)?;
+        rows.push_reserved(word);
     }
     Ok(())
 }

@@ -12,27 +12,28 @@ use Rattle.exact_checker.proofs.Accepting.{broken_three, grouped_judged}
 use Rattle.exact_checker.proofs.judge.judge_three.Goals as goal
 
 pub judge_mesh-requires-clause-triangles : goal.judge_mesh-requires-clause-triangles
-judge_mesh-requires-clause-triangles c = triangles_between c.args.plan.now (as_two c.args.exact.now) c.requires.cert.two c.as_slice.result.now c.as_slice.ensures
+judge_mesh-requires-clause-triangles g c = triangles_between c.args.plan.now (as_two c.args.exact.now) c.requires.cert.two c.as_slice.result.now c.as_slice.ensures
 
 pub judge_mesh-requires-clause-few : goal.judge_mesh-requires-clause-few
-judge_mesh-requires-clause-few c = few_triangles c.args.plan.now (as_two c.args.exact.now) c.requires.cert.two c.as_slice.result.now c.as_slice.ensures
+judge_mesh-requires-clause-few g c = few_triangles c.args.plan.now (as_two c.args.exact.now) c.requires.cert.two c.as_slice.result.now c.as_slice.ensures
 
 pub judge_mesh-requires-clause-few_groups : goal.judge_mesh-requires-clause-few_groups
-judge_mesh-requires-clause-few_groups c = few_groups c.args.plan.now (as_two c.args.exact.now) c.requires.cert.two c.as_slice-2.result.now c.as_slice-2.ensures
+judge_mesh-requires-clause-few_groups g c = few_groups c.args.plan.now (as_two c.args.exact.now) c.requires.cert.two c.as_slice-2.result.now c.as_slice-2.ensures
 
 pub judge_mesh-requires-clause-sectors : goal.judge_mesh-requires-clause-sectors
-judge_mesh-requires-clause-sectors c = sectors_below c.args.plan.now (as_two c.args.exact.now) c.requires.cert.two (length c.as_slice-2.result.now) (ap length c.as_slice-2.ensures) c.as_slice.result.now c.as_slice.ensures
+judge_mesh-requires-clause-sectors g c = sectors_below c.args.plan.now (as_two c.args.exact.now) c.requires.cert.two (length c.as_slice-2.result.now) (ap length c.as_slice-2.ensures) c.as_slice.result.now c.as_slice.ensures
 
 pub returns-in-Broken : goal.returns-in-Broken
-returns-in-Broken c =
+returns-in-Broken g c =
     let told = own_told c.args.plan.now (as_two c.args.exact.now) c.as_slice.result.now c.as_slice-2.result.now c.in_ok-judged.judged (Broken c.in-Broken.fault) c.as_slice.ensures c.as_slice-2.ensures c.in-Broken.is c.in_ok-judged.ensures in
     broken_three c.args.plan.now c.lines.ensures.plan c.args.table.now c.args.exact.now c.requires.table c.requires.cert c.in-Broken.fault told
 
 pub judge_grouped-requires : goal.judge_grouped-requires
-judge_grouped-requires c =
+judge_grouped-requires g c =
     let two = as_two c.args.exact.now in
     let told = own_told c.args.plan.now two c.as_slice.result.now c.as_slice-2.result.now c.in_ok-judged.judged (Good c.in-Good.over) c.as_slice.ensures c.as_slice-2.ensures c.in-Good.is c.in_ok-judged.ensures in
     record {
+      can = c.requires.can;
       cert = record { two = (c.requires.cert.two.sizes, c.requires.cert.two.in_order, c.requires.cert.two.sectors ∙ sym c.requires.table); one_each = c.requires.cert.one_each };
       triangles = told.0;
       labels = told.1;
@@ -42,7 +43,7 @@ judge_grouped-requires c =
     }
 
 pub returns-in_ok-verdict-in-Good : goal.returns-in_ok-verdict-in-Good
-returns-in_ok-verdict-in-Good c =
+returns-in_ok-verdict-in-Good g c =
     let two = as_two c.args.exact.now in
     let told = own_told c.args.plan.now two c.as_slice.result.now c.as_slice-2.result.now c.in_ok-judged.judged (Good c.in-Good.over) c.as_slice.ensures c.as_slice-2.ensures c.in-Good.is c.in_ok-judged.ensures in
     let e = c.in_ok-verdict-in-Good.ensures in

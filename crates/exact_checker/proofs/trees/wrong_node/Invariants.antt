@@ -2,7 +2,9 @@ use Rattle.std.proofs.Common.{◌≡◌, ℕ, ◌<◌, List, Some, None}
 use Rattle.std.specs.List.{slice_get}
 use Rattle.sight_tree.specs.declared.Node.{Node}
 use Rattle.exact_checker.specs.Judged.{AnswersFor}
+use Rattle.row_judge.specs.Masks.{rows_of}
+use Rattle.exact_checker.specs.Owning.{owning_of}
 use Rattle.exact_checker.proofs.trees.wrong_node.Given as goal
 
 abbrev pub invariant-loop-number : goal.invariant-loop-number
-invariant-loop-number l = (f : ℕ) (ns : List Node) → f < l.number → slice_get l.trees f ≡ Some ns → AnswersFor l.terrain.edges.now l.masks l.terrain.roots.now.roots.items l.terrain.roots.now.first.items l.known f ns None
+invariant-loop-number l = (f : ℕ) (ns : List Node) → f < l.number → slice_get l.trees f ≡ Some ns → AnswersFor l.terrain.edges.now (rows_of l.masks) l.terrain.roots.now.roots.items l.terrain.roots.now.first.items (owning_of l.known) f ns None

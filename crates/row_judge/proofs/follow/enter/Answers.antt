@@ -1,12 +1,13 @@
 use Rattle.std.proofs.Common.{ℕ, List, sym, ◌∙◌, ap}
 use Rattle.row_judge.specs.Asked.{way_asked}
 use Rattle.row_judge.proofs.Waiting.{enters_both, enters_none}
+use Rattle.row_judge.specs.Masks.{rows_of}
 use Rattle.row_judge.proofs.follow.enter.Goals as goal
 
 pub returns-in_ok-push-in-Some-Some : goal.returns-in_ok-push-in-Some-Some
 returns-in_ok-push-in-Some-Some c = λ first path.
     let xs = c.args.terrain.now.edges.now in
-    let ms = c.args.masks.now in
+    let ms = rows_of c.args.masks.now in
     let x = c.args.edge.now in
     enters_both ms first c.args.terrain.now.roots.now.roots.items path c.args.rows.now xs c.args.source c.args.follow.now x c.args.waits.now.items c.push.new.self.items c.in-Some-Some.left c.in-Some-Some.right c.in_ok-push-in-Some-Some.ensures.items
     (sym c.in-Some-Some.is-0 ∙ c.way_asked-left.ensures ∙ ap (λ (us : List ℕ). way_asked xs ms c.args.source us x.left_way) c.part-row.ensures)
@@ -15,7 +16,7 @@ returns-in_ok-push-in-Some-Some c = λ first path.
 pub returns-in-None-None : goal.returns-in-None-None
 returns-in-None-None c = λ first path.
     let xs = c.args.terrain.now.edges.now in
-    let ms = c.args.masks.now in
+    let ms = rows_of c.args.masks.now in
     let x = c.args.edge.now in
     enters_none ms first c.args.terrain.now.roots.now.roots.items path c.args.rows.now xs c.args.source c.args.follow.now x c.args.waits.now.items c.next_asked.new.waits.items c.next_asked.new.follow c.next_asked.result
     (sym c.in-None-None.is-0 ∙ c.way_asked-left.ensures ∙ ap (λ (us : List ℕ). way_asked xs ms c.args.source us x.left_way) c.part-row.ensures)

@@ -1,11 +1,12 @@
 use Rattle.std.proofs.Common.{◌+◌, ◌++◌, take, sym, ◌∙◌, ap, List, ℕ, arith}
 use Rattle.row_judge.specs.Words.{both_words, row_at}
 use Rattle.row_judge.proofs.Following.{passed_gate}
+use Rattle.row_judge.specs.Masks.{rows_of}
 use Rattle.row_judge.proofs.follow.pass.Goals as goal
 
 pub returns : goal.returns
 returns c =
-    let ms = c.args.masks.now in
+    let ms = rows_of c.args.masks.now in
     let rows = c.args.rows.now.items in
     let row = c.args.row in
     passed_gate ms rows c.put_both.new.rows.items row c.args.edge c.in-Some.place (sym c.in-Some.ensures) (omega arith)

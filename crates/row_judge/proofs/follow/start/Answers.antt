@@ -1,11 +1,12 @@
 use Rattle.std.proofs.Common.{ℕ, Option, subst}
 use Rattle.row_judge.specs.Path.{TakesNext}
 use Rattle.row_judge.proofs.Waiting.{stands, at_first}
+use Rattle.row_judge.specs.Masks.{rows_of}
 use Rattle.row_judge.proofs.follow.start.Goals as goal
 
 pub returns : goal.returns
 returns c = λ first path.
-    let ms = c.args.masks.now in
+    let ms = rows_of c.args.masks.now in
     let roots = c.args.terrain.now.roots.now.roots.items in
     let rows = c.args.rows.now in
     stands ms first roots path rows c.clear.new.self.items c.next_asked-follow.new.waits.items c.next_asked-follow.new.follow _ c.next_asked-follow.result c.clear.ensures.items

@@ -4,6 +4,7 @@ use Rattle.sight_tree.specs.declared.Node.{Node}
 use Rattle.sight_tree.specs.declared.Tree.{Tree}
 use Rattle.row_judge.specs.Judged.{IsFirstWrongFrom}
 use Rattle.row_judge.proofs.Walking.{wrong_of, missing_of}
+use Rattle.row_judge.specs.Masks.{rows_of}
 use Rattle.row_judge.proofs.judge.first_wrong.Goals as goal
 
 one_longer : (n : Node) (rest ns : List Node) → ns ≡ n ∷ rest → length ns ≡ length rest + 1
@@ -14,7 +15,7 @@ returns-then-not-branch c =
     let t : Tree = record { source = c.args.source; nodes = c.args.nodes.now } in
     let i = c.loop-number.invariant in
     let part : Tree = record { source = t.source; nodes = i.done } in
-    wrong_of c.args.terrain.now.edges.now c.args.masks.now c.args.row.now c.args.terrain.now.roots.now.roots.items c.args.terrain.now.roots.now.first.items t i.done c.next.new.self c.in-Some.node c.loop-number.number
+    wrong_of c.args.terrain.now.edges.now (rows_of c.args.masks.now) c.args.row.now c.args.terrain.now.roots.now.roots.items c.args.terrain.now.roots.now.first.items t i.done c.next.new.self c.in-Some.node c.loop-number.number
     (i.split ∙ ap (λ (ns : List Node). i.done ++ ns) c.in-Some.ensures.steps) i.told (c.in_ok-step.ensures.refused c.args.row.now part i.walked c.if-not-branch.true)
 
 pub loop-number-preserved : goal.loop-number-preserved
@@ -36,6 +37,6 @@ returns c =
     let t : Tree = record { source = c.args.source; nodes = c.args.nodes.now } in
     let i = c.loop-number.invariant in
     let part : Tree = record { source = t.source; nodes = i.done } in
-    subst (λ (k : ℕ). IsFirstWrongFrom c.args.terrain.now.edges.now c.args.masks.now c.args.row.now c.args.terrain.now.roots.now.roots.items c.args.terrain.now.roots.now.first.items t k) (sym c.len-count.ensures)
-    (missing_of c.args.terrain.now.edges.now c.args.masks.now c.args.row.now c.args.terrain.now.roots.now.roots.items c.args.terrain.now.roots.now.first.items t i.done c.loop-number.node-iterator i.split c.in-None.ensures.steps.0
+    subst (λ (k : ℕ). IsFirstWrongFrom c.args.terrain.now.edges.now (rows_of c.args.masks.now) c.args.row.now c.args.terrain.now.roots.now.roots.items c.args.terrain.now.roots.now.first.items t k) (sym c.len-count.ensures)
+    (missing_of c.args.terrain.now.edges.now (rows_of c.args.masks.now) c.args.row.now c.args.terrain.now.roots.now.roots.items c.args.terrain.now.roots.now.first.items t i.done c.loop-number.node-iterator i.split c.in-None.ensures.steps.0
     (c.is_done.ensures.missing c.args.row.now part i.walked c.if-is_done.false))

@@ -1,6 +1,7 @@
 use Rattle.std.proofs.Common.{◌≡◌, ◌+◌, ◌++◌, List, length}
 use Rattle.sight_tree.specs.declared.Node.{Node}
 use Rattle.row_judge.specs.Judged.{IsWalked}
+use Rattle.row_judge.specs.Masks.{rows_of}
 use Rattle.row_judge.proofs.judge.first_wrong.Given as goal
 
 abbrev pub invariant-loop-number : goal.invariant-loop-number
@@ -9,5 +10,5 @@ invariant-loop-number l = record {
   done : List Node;
   split : l.nodes ≡ done ++ l.node-iterator;
   told : length done ≡ l.number;
-  walked : IsWalked l.terrain.edges.now l.masks l.row l.terrain.roots.now.roots.items l.terrain.roots.now.first.items (record { source = l.source; nodes = done }) l.walk;
+  walked : IsWalked l.terrain.edges.now (rows_of l.masks) l.row l.terrain.roots.now.roots.items l.terrain.roots.now.first.items (record { source = l.source; nodes = done }) l.walk;
 }

@@ -3,6 +3,7 @@ use Rattle.gate_floods.specs.Exact.{IsClaimed, IsOwned}
 use Rattle.row_judge.specs.Judged.{tree_of, TellsTree}
 use Rattle.row_judge.specs.Laws.{TellsByRows}
 use Rattle.row_judge.proofs.Telling.{all_ok, tells_by_rows}
+use Rattle.row_judge.specs.Masks.{rows_of}
 use Rattle.row_judge.proofs.judge.judge_by_rows.Goals as goal
 
 pub returns : goal.returns
@@ -10,7 +11,7 @@ returns c = λ p ts ls rank cert g low.
     let xs = c.args.terrain.now.edges.now in
     let roots = c.args.terrain.now.roots.now.roots.items in
     let firsts = c.args.terrain.now.roots.now.first.items in
-    let ms = c.args.masks.now in
+    let ms = rows_of c.args.masks.now in
     let row = c.args.row.now in
     let t = tree_of c.args.source c.args.nodes.now in
     all_ok (TellsTree xs ms row roots firsts t) (TellsByRows (map_of p) ts ls xs ms (IsClaimed (map_of p) cert) (IsOwned rank (IsClaimed (map_of p) cert) t.source) row t) c.first_wrong.result c.first_wrong.ensures

@@ -13,7 +13,7 @@ loop-k-preserved c =
     let l : at + k < length rows = long_enough old mask at w c.requires rows k (omega arith) c.loop-k.invariant in
     let any : get_or rows (at + k) c.index.result.now ≡ slice_index rows (at + k) = at_any rows (at + k) c.index.result.now l in
     let value : c.index.result.now ≡ slice_index rows (at + k) = grind (arith, c.index.ensures, any) in
-    put_more old mask at w c.requires rows c.push.new.self.items k _ (omega arith) c.loop-k.invariant (λ i. bit_and (value i) (c.word_at.ensures i)) c.in_ok-push.ensures.items
+    put_more old mask at w c.requires rows c.push_reserved.new.self.items k _ (omega arith) c.loop-k.invariant (λ i. bit_and (value i) (c.word_at.ensures i)) c.push_reserved.ensures.items
 
 pub returns : goal.returns
 returns c = put_all c.args.rows.now.items c.args.mask.now c.args.at c.args.width c.requires c.loop-k.rows.items c.loop-k.k (omega arith) c.loop-k.invariant

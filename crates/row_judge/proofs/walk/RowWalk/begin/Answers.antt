@@ -4,11 +4,12 @@ use Rattle.tree_judge.specs.Roots.{first_at}
 use Rattle.row_judge.specs.Words.{row_at}
 use Rattle.row_judge.specs.Path.{StandsBefore}
 use Rattle.row_judge.proofs.Walking.{walk_begun}
+use Rattle.row_judge.specs.Masks.{rows_of}
 use Rattle.row_judge.proofs.walk.RowWalk.begin.Goals as goal
 
 pub returns : goal.returns
 returns c =
-    let ms = c.args.masks.now in
+    let ms = rows_of c.args.masks.now in
     let row = c.args.row.now in
     let roots = c.args.terrain.now.roots.now.roots.items in
     let firsts = c.args.terrain.now.roots.now.first.items in

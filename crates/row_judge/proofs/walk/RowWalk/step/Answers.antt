@@ -2,6 +2,8 @@ use Rattle.std.proofs.Common.{◌≡◌, ◌<◌, ◌++◌, List, length, take, 
 use Rattle.tree_judge.specs.declared.trees.Frame.{Frame}
 use Rattle.tree_judge.proofs.Noting.{stored}
 use Rattle.row_judge.proofs.Walking.{if_answered, if_refused}
+use Rattle.row_judge.proofs.Answered.{if_right}
+use Rattle.row_judge.specs.Masks.{rows_of}
 use Rattle.row_judge.proofs.walk.RowWalk.step.Goals as goal
 
 pub returns-clause-answered : goal.returns-clause-answered
@@ -14,7 +16,7 @@ returns-clause-answered c = λ row t w.
     let value : c.as_mut_slice.result.now ≡ c.make_room.new.path.items = c.as_mut_slice.ensures.value in
     let same : length c.answer.new.path ≡ length c.as_mut_slice.result.now = c.answer.auto.path in
     let back : take c.make_room.new.path.len (c.answer.new.path ++ drop (length c.answer.new.path) c.make_room.new.path.items) ≡ c.answer.new.path = stored c.answer.new.path _ c.make_room.new.path.len (same ∙ c.as_mut_slice.ensures.len) in
-    if_answered xs c.args.masks.now row roots firsts t self w c.as_mut_slice.result.now
+    if_answered xs (rows_of c.args.masks.now) row roots firsts t self w c.as_mut_slice.result.now
     (λ l. (subst (λ (fs : List Frame). f.depth < length fs) (sym value) (c.in_ok-make_room.ensures.room l), subst (λ (fs : List Frame). take f.depth fs ≡ take f.depth self.path.items) (sym value) (c.in_ok-make_room.ensures.kept l)))
     c.args.node _ c.answer.new.path c.answer.result refl back (c.answer.ensures.answered row)
 
@@ -26,6 +28,19 @@ returns-clause-refused c = λ row t w.
     let self = c.args.self.now in
     let f = self.follow in
     let value : c.as_mut_slice.result.now ≡ c.make_room.new.path.items = c.as_mut_slice.ensures.value in
-    if_refused xs c.args.masks.now row roots firsts t self w c.as_mut_slice.result.now
+    if_refused xs (rows_of c.args.masks.now) row roots firsts t self w c.as_mut_slice.result.now
     (λ l. (subst (λ (fs : List Frame). f.depth < length fs) (sym value) (c.in_ok-make_room.ensures.room l), subst (λ (fs : List Frame). take f.depth fs ≡ take f.depth self.path.items) (sym value) (c.in_ok-make_room.ensures.kept l)))
     c.args.node c.answer.result (c.answer.ensures.refused row)
+
+pub returns-clause-stands : goal.returns-clause-stands
+returns-clause-stands c = λ first ps qs.
+    let xs = c.args.terrain.now.edges.now in
+    let roots = c.args.terrain.now.roots.now.roots.items in
+    let self = c.args.self.now in
+    let f = self.follow in
+    let value : c.as_mut_slice.result.now ≡ c.make_room.new.path.items = c.as_mut_slice.ensures.value in
+    let same : length c.answer.new.path ≡ length c.as_mut_slice.result.now = c.answer.auto.path in
+    let back : take c.make_room.new.path.len (c.answer.new.path ++ drop (length c.answer.new.path) c.make_room.new.path.items) ≡ c.answer.new.path = stored c.answer.new.path _ c.make_room.new.path.len (same ∙ c.as_mut_slice.ensures.len) in
+    if_right xs (rows_of c.args.masks.now) first roots self c.as_mut_slice.result.now
+    (λ l. (subst (λ (fs : List Frame). f.depth < length fs) (sym value) (c.in_ok-make_room.ensures.room l), subst (λ (fs : List Frame). take f.depth fs ≡ take f.depth self.path.items) (sym value) (c.in_ok-make_room.ensures.kept l)))
+    c.args.node _ c.answer.new.rows.items c.answer.new.waits.items c.answer.new.follow c.answer.new.path c.answer.result back (c.answer.ensures.answered first) (c.answer.ensures.refused first) ps qs

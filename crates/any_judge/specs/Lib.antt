@@ -1,0 +1,6 @@
+pub mod Accepted
+pub mod Judged
+pub mod Version
+pub mod Versed
+pub mod Course
+pub mod Judge

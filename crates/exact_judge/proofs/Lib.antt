@@ -1,0 +1,9 @@
+pub mod Begun
+pub mod Walked
+pub mod Told
+pub mod AllHeard
+pub mod Stages
+pub mod Keeping
+pub mod Intakes
+pub mod Openings
+pub mod Endings

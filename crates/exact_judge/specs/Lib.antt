@@ -1,0 +1,9 @@
+pub mod Heard
+pub mod Ground
+pub mod Trees
+pub mod Stage
+pub mod Judging
+pub mod Judged
+pub mod Intake
+pub mod Course
+pub mod Judge
