@@ -1,0 +1,11 @@
+pub mod Counting
+pub mod Ordering
+pub mod Making
+pub mod InOrder
+pub mod Front
+pub mod Grounds
+pub mod Tables
+pub mod Accepting
+pub mod Walks
+pub mod Rounds
+pub mod Waves

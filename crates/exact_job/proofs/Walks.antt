@@ -1,0 +1,68 @@
+-- From walks with what groups own to the certificate: what is found wasn't joined, and where nothing is found the nodes are trees.
+use Rattle.std.proofs.Common.{◌≡◌, ℕ, ◌*◌, ◌<◌, ◌≤◌, List, Option, None, Some, length, map, refl, sym, ◌∙◌, ap, subst, arith}
+use Rattle.std.specs.Prelude.{option_map}
+use Rattle.std.specs.List.{slice_get}
+use Rattle.std.proofs.lemmas.List.{length-map}
+use Rattle.std.proofs.lemmas.Option.{none-some, same_Some, slice_get-map}
+use Rattle.sight_names.specs.declared.names.PairRay.{PairRay}
+use Rattle.sight_names.specs.declared.names.Triangle.{Triangle}
+use Rattle.sight_names.specs.Map.{map_of}
+use Rattle.sight_names.specs.Plan.{PlanParts}
+use Rattle.sight_tree.specs.declared.Node.{Node}
+use Rattle.half_edges.specs.declared.table.HalfEdge.{HalfEdge}
+use Rattle.tree_judge.specs.declared.roots.Root.{Root}
+use Rattle.tree_judge.specs.Roots.{AreRoots}
+use Rattle.tri_sectors.specs.Components.{AreComponents}
+use Rattle.cert_exact.specs.declared.cert.ExactParts.{ExactParts}
+use Rattle.cert_exact.specs.Grammar.{as_two}
+use Rattle.gate_floods.specs.Exact.{IsClaimed}
+use Rattle.gate_masks.specs.declared.masks.Row.{Row}
+use Rattle.row_judge.specs.Masks.{MaskRows}
+use Rattle.row_judge.specs.Laws.{AreMasks}
+use Rattle.row_trees.specs.declared.made.Made.{Made}
+use Rattle.row_trees.specs.Walkable.{Ground, IsWalkable}
+use Rattle.exact_checker.specs.Owning.{AreRanks, KnowsOwning, OwningParts}
+use Rattle.exact_checker.specs.Rows.{AreJoinedRows}
+use Rattle.exact_checker.specs.Judged.{AnswersFor, AreTreesOf}
+use Rattle.exact_checker.proofs.Judging.{trees_told}
+use Rattle.exact_job.specs.Ground.{IsGround}
+use Rattle.exact_job.specs.Trees.{AreWalks, AreWalksOf, HasFoundNothing, nodes_of}
+use Rattle.exact_job.proofs.Making.{unjoined}
+
+pub few_edges : (p : PlanParts) (ts : List Triangle) (ls : List (Option ℕ)) (xs : List HalfEdge) → IsGround p ts ls xs → length xs ≤ 3 * 65535
+few_edges p ts ls xs h = let e = h.edges.len in let l = h.few in omega (arith, e, l)
+
+-- each group can be walked
+pub walkable : (p : PlanParts) (ts : List Triangle) (ls : List (Option ℕ)) (xs : List HalfEdge) (roots : List Root) (firsts : List (Option ℕ)) → IsGround p ts ls xs → AreRoots (map_of p) ts xs roots firsts → (f : ℕ) → f < p.sectors
+    → IsWalkable (record { plan = p; triangles = ts; labels = ls }) xs roots firsts f
+walkable p ts ls xs roots firsts h begin f lt = record { plan = h.plan; audited = h.audited; good = h.good; few = h.few; edges = h.edges; roots_are = begin; within = lt }
+
+-- nodes of a walk
+pub nodes_at : (walks : List Made) (f : ℕ) (ns : List Node) → slice_get (nodes_of walks) f ≡ Some ns → (w : Made) × (slice_get walks f ≡ Some w) × (w.nodes ≡ ns)
+nodes_at walks f ns at = go (slice_get walks f) refl (sym (slice_get-map (λ (w : Made). w.nodes) walks f) ∙ at)
+  where
+    go : (o : Option Made) → slice_get walks f ≡ o → option_map (λ (w : Made). w.nodes) (slice_get walks f) ≡ Some ns → (w : Made) × (slice_get walks f ≡ Some w) × (w.nodes ≡ ns)
+    go None e h = absurd (none-some ns (sym (ap (option_map (λ (w : Made). w.nodes)) e) ∙ h))
+    go (Some w) e h = (w, e, same_Some w.nodes ns (sym (ap (option_map (λ (v : Made). v.nodes)) e) ∙ h))
+
+module _ (p : PlanParts) (ts : List Triangle) (xs : List HalfEdge) (rows : List Row) (roots : List Root) (firsts : List (Option ℕ)) (begin : AreRoots (map_of p) ts xs roots firsts) (ms : MaskRows) (known : OwningParts) (size : known.count ≡ p.sectors) (components : AreComponents (map_of p) known.components)
+    (ranks : (rays : List PairRay) → AreJoinedRows p.sectors rays rows → AreRanks p.sectors rays known.ranks) (same : known.joined ≡ rows) (walks : List Made) (masks : (c : ExactParts) → AreTreesOf c p ts xs rows (nodes_of walks) → AreMasks (map_of p) (IsClaimed (map_of p) (as_two c).cert) xs ms)
+    (all : AreWalksOf p xs ms roots firsts known walks) where
+  knows : (rays : List PairRay) → AreJoinedRows p.sectors rays rows → KnowsOwning rays known
+  knows rays joined = record {
+    ranks = subst (λ (n : ℕ). AreRanks n rays known.ranks) (sym size) (ranks rays joined);
+    joined = subst (λ (n : ℕ). AreJoinedRows n rays known.joined) (sym size) (subst (AreJoinedRows p.sectors rays) (sym same) joined);
+  }
+
+  answers : HasFoundNothing walks → (f : ℕ) (ns : List Node) → slice_get (nodes_of walks) f ≡ Some ns → AnswersFor xs ms roots firsts known f ns None
+  answers nothing f ns at = let w = nodes_at walks f ns at in subst (λ (us : List Node). AnswersFor xs ms roots firsts known f us None) w.2 ((all.each f w.0 w.1).answer (nothing f w.0 w.1))
+
+  pub are_walks : AreWalks p ts xs rows walks
+  are_walks = record {
+    one_each = all.one_each ∙ size;
+    nodes = λ f w at. (all.each f w at).nodes;
+    seen = λ f w at. (all.each f w at).seen;
+    unjoined = λ rays joined f w at. unjoined rays known f w.found.items ((all.each f w at).owned rays (knows rays joined));
+    keep = λ nothing c are. trees_told p are.plan c are.sectors xs are.good are.edges roots firsts (subst (λ (vs : List Triangle). AreRoots (map_of p) vs xs roots firsts) are.triangles begin) ms (masks c are) known size components (knows c.rays are.rows_are) (nodes_of walks) are.trees_are
+        (length-map walks (λ (w : Made). w.nodes) ∙ all.one_each ∙ size) None (answers nothing);
+  }

@@ -1,0 +1,79 @@
+-- What walks of all groups make, and the trees that they are where nothing is found.
+use Rattle.std.specs.Prelude.{◌≡◌, ◌≢◌, ℕ, List, [], Option, None, Some, All, length, map, slice_get, false}
+use Rattle.sight_names.specs.declared.names.PairRay.{PairRay}
+use Rattle.sight_names.specs.declared.names.Triangle.{Triangle}
+use Rattle.sight_names.specs.Plan.{PlanParts}
+use Rattle.sight_names.specs.Map.{map_of}
+use Rattle.sight_tree.specs.declared.Node.{Node}
+use Rattle.half_edges.specs.declared.table.HalfEdge.{HalfEdge}
+use Rattle.tree_judge.specs.declared.roots.Root.{Root}
+use Rattle.portal_walk.specs.Nodes.{IsAnswered}
+use Rattle.pair_budget.specs.declared.results.Reached.{Reached}
+use Rattle.gate_floods.specs.Bits.{is_joined}
+use Rattle.gate_masks.specs.declared.masks.Row.{Row}
+use Rattle.row_judge.specs.Masks.{MaskRows}
+use Rattle.row_trees.specs.declared.made.Made.{Made}
+use Rattle.row_trees.specs.Made.{AreSeen}
+use Rattle.row_trees.specs.Walkable.{Ground, IsWalkable}
+use Rattle.cert_exact.specs.declared.cert.ExactParts.{ExactParts}
+use Rattle.exact_checker.specs.Owning.{IsOwnedBit, KnowsOwning, OwningParts}
+use Rattle.exact_checker.specs.Rows.{AreJoinedRows}
+use Rattle.exact_checker.specs.Judged.{AnswersFor, AreTreesOf, TellsTrees}
+
+-- ---- walks
+
+-- what the walk of a group with what it owns made
+pub record IsWalkOf (p : PlanParts) (xs : List HalfEdge) (ms : MaskRows) (roots : List Root) (firsts : List (Option ℕ)) (known : OwningParts) (f : ℕ) (w : Made) : Type 0 where
+  pub nodes : All IsAnswered w.nodes
+  pub answer : w.found.items ≡ [] → AnswersFor xs ms roots firsts known f w.nodes None
+  pub seen : AreSeen p f w.found.items
+  pub owned : (rays : List PairRay) → KnowsOwning rays known → All (λ (r : Reached). IsOwnedBit rays known.components known.count f r.to) w.found.items
+
+-- the same of each group
+pub record AreWalksOf (p : PlanParts) (xs : List HalfEdge) (ms : MaskRows) (roots : List Root) (firsts : List (Option ℕ)) (known : OwningParts) (walks : List Made) : Type 0 where
+  pub one_each : length walks ≡ known.count
+  pub each : (f : ℕ) (w : Made) → slice_get walks f ≡ Some w → IsWalkOf p xs ms roots firsts known f w
+
+-- what may be made of the walk of each group, over whatever ground it can be walked
+abbrev pub IsOwnedWalk : List HalfEdge → MaskRows → List Root → List (Option ℕ) → OwningParts → ℕ → Made → Type 0
+IsOwnedWalk xs ms roots firsts known f w = (g : Ground) → IsWalkable g xs roots firsts f → IsWalkOf g.plan xs ms roots firsts known f w
+
+-- what may be made of the walk of this group with whatever is wanted, over whatever ground it can be walked
+abbrev pub IsWantedWalk : List HalfEdge → List Root → List (Option ℕ) → ℕ → Made → Type 0
+IsWantedWalk xs roots firsts f w = (g : Ground) → IsWalkable g xs roots firsts f → AreSeen g.plan f w.found.items
+
+-- some walk found something
+pub record HasFound (walks : List Made) : Type 0 where
+  pub f : ℕ
+  pub walk : Made
+  pub there : slice_get walks f ≡ Some walk
+  pub some : walk.found.items ≢ []
+
+-- none found anything
+abbrev pub HasFoundNothing : List Made → Type 0
+HasFoundNothing walks = (f : ℕ) (w : Made) → slice_get walks f ≡ Some w → w.found.items ≡ []
+
+abbrev pub nodes_of : List Made → List (List Node)
+nodes_of walks = map (λ (w : Made). w.nodes) walks
+
+-- A walk of each group of a map of groups with these triangles, half-edges and joined rows. Whatever was found wasn't joined. If
+-- nothing was, their nodes are trees: in every certificate that has all these, each tree keeps from all that its group owns.
+pub record AreWalks (p : PlanParts) (ts : List Triangle) (xs : List HalfEdge) (joined : List Row) (walks : List Made) : Type 0 where
+  pub one_each : length walks ≡ p.sectors
+  pub nodes : (f : ℕ) (w : Made) → slice_get walks f ≡ Some w → All IsAnswered w.nodes
+  pub seen : (f : ℕ) (w : Made) → slice_get walks f ≡ Some w → AreSeen p f w.found.items
+  pub unjoined : (rays : List PairRay) → AreJoinedRows p.sectors rays joined → (f : ℕ) (w : Made) → slice_get walks f ≡ Some w → All (λ (r : Reached). is_joined rays f r.to ≡ false) w.found.items
+  pub keep : HasFoundNothing walks → (c : ExactParts) → AreTreesOf c p ts xs joined (nodes_of walks) → TellsTrees (map_of p) c None
+
+-- ---- trees
+
+-- each tree has nodes as walks answer them
+abbrev pub AreNodesOfWalks : List (List Node) → Type 0
+AreNodesOfWalks trees = (f : ℕ) (ns : List Node) → slice_get trees f ≡ Some ns → All IsAnswered ns
+
+-- A tree for each group of a map of groups with these triangles, half-edges and joined rows: in every certificate that has all
+-- these, each tree keeps from all that its group owns.
+pub record AreTreesFor (p : PlanParts) (ts : List Triangle) (xs : List HalfEdge) (joined : List Row) (trees : List (List Node)) : Type 0 where
+  pub one_each : length trees ≡ p.sectors
+  pub nodes : AreNodesOfWalks trees
+  pub keep : (c : ExactParts) → AreTreesOf c p ts xs joined trees → TellsTrees (map_of p) c None

@@ -1,0 +1,18 @@
+//! The build of a map with closed faces that decides every pair, and lists none.
+//!
+//! A first walk of all groups finds rays, by bounds on what each group may see. Then each group is walked with what it owns
+//! of the pairs that have no ray: where none of these walks finds anything, their nodes show that no such pair sees.
+#![tactic(auto)]
+
+mod bounds;
+mod build;
+mod first;
+mod rays;
+mod settling;
+mod table;
+mod trees;
+mod walk_tasks;
+mod walkers;
+mod words;
+
+pub use build::{ExactBuilt, build_exact, build_exact_alone};

@@ -1,0 +1,101 @@
+//! Walks that any worker can do, since none depends on what another one finds.
+
+ghost use Rattle.std.specs.Prelude.{◌≡◌, ℕ, ◌*◌, ◌<◌, ◌≤◌, Some, All, slice_get, length};
+ghost use Rattle.exact_checker.specs.Owning.{IsSized, owning_of};
+ghost use Rattle.row_judge.specs.Masks.{rows_of};
+ghost use Rattle.row_trees.specs.Walkable.{Ground as GroundOf, IsWalkable};
+ghost use Rattle.exact_job.specs.declared.walk_tasks.Wanted.{Wanted as WantedOf};
+ghost use Rattle.exact_job.specs.Trees.{IsOwnedWalk, IsWantedWalk};
+
+use exact_checker::{Owning, owned_row};
+use row_judge::Masks;
+use row_trees::{Made, Walk, walk_by_row};
+use sight_names::Memory;
+use std::alloc::Global;
+use task_crew::Tasks;
+use tree_judge::Terrain;
+
+/// The group with this number, of so many.
+fn source_of(count: u16, number: usize) -> u16
+    requires { number < count }
+    ensures { result ≡ number }
+{
+    let _ = count;
+    number as u16
+}
+
+/// For each group the walk with what it owns.
+#[derive(Drop)]
+pub struct OwnedWalks<'a> {
+    pub known: Owning<'a>,
+    pub terrain: &'a Terrain<'a>,
+    pub masks: &'a Masks<'a>,
+}
+
+impl<'a> Tasks for OwnedWalks<'a> {
+    type Tools = Walk;
+
+    type Done = Made;
+
+    ghost can_do = { λ w i. (i < w.known.count) × IsSized (owning_of w.known) × (w.known.count ≤ 64 * w.masks.now.width) × ((g : GroundOf) × IsWalkable g w.terrain.now.edges.now w.terrain.now.roots.now.roots.items w.terrain.now.roots.now.first.items i) };
+
+    ghost is_done = { λ w i made. IsOwnedWalk w.terrain.now.edges.now (rows_of w.masks.now) w.terrain.now.roots.now.roots.items w.terrain.now.roots.now.first.items (owning_of w.known) i made };
+
+    fn tools(&self, alloc: Global) -> Walk {
+        Walk::new(alloc)
+    }
+
+    fn work(&self, alloc: Global, walk: &mut Walk, number: usize) -> Result<Made, Memory> {
+        let source = source_of(self.known.count, number);
+        let row = owned_row(alloc, self.known, self.masks.width, source)?;
+        walk_by_row(
+            alloc,
+            walk,
+            self.terrain,
+            self.masks,
+            source,
+            row.as_slice(),
+        )
+    }
+}
+
+/// A group, and the row of what is wanted of its walk.
+#[derive(Drop)]
+pub struct Wanted {
+    pub group: u16,
+    pub row: Vec<u64>,
+}
+
+/// The walks of some groups, each with its row.
+#[derive(Drop)]
+pub struct WantedWalks<'a> {
+    pub wanted: &'a [Wanted],
+    pub terrain: &'a Terrain<'a>,
+    pub masks: &'a Masks<'a>,
+}
+
+impl<'a> Tasks for WantedWalks<'a> {
+    type Tools = Walk;
+
+    type Done = Made;
+
+    ghost can_do = { λ w i. (i < length w.wanted.now) × All (λ x. length x.row.items ≡ w.masks.now.width) w.wanted.now × ((g : GroundOf) × All (λ x. IsWalkable g w.terrain.now.edges.now w.terrain.now.roots.now.roots.items w.terrain.now.roots.now.first.items x.group) w.wanted.now) };
+
+    ghost is_done = { λ w i made. (x : WantedOf) → slice_get w.wanted.now i ≡ Some x → IsWantedWalk w.terrain.now.edges.now w.terrain.now.roots.now.roots.items w.terrain.now.roots.now.first.items x.group made };
+
+    fn tools(&self, alloc: Global) -> Walk {
+        Walk::new(alloc)
+    }
+
+    fn work(&self, alloc: Global, walk: &mut Walk, number: usize) -> Result<Made, Memory> {
+        let wanted = &self.wanted[number];
+        walk_by_row(
+            alloc,
+            walk,
+            self.terrain,
+            self.masks,
+            wanted.group,
+            wanted.row.as_slice(),
+        )
+    }
+}

@@ -1,0 +1,75 @@
+//! Who walks.
+
+ghost use denote.Param.Send.{IsSync};
+ghost use Rattle.std.specs.Prelude.{◌≡◌, ℕ, ◌*◌, ◌<◌, ◌≤◌, Some, All, IfOk, length, slice_get};
+ghost use Rattle.exact_checker.specs.Owning.{IsSized, owning_of};
+ghost use Rattle.row_judge.specs.Masks.{rows_of};
+ghost use Rattle.row_trees.specs.Walkable.{Ground as GroundOf, IsWalkable};
+ghost use Rattle.task_crew.specs.Done.{AreDone};
+ghost use Rattle.exact_job.specs.declared.walk_tasks.Wanted.{Wanted as WantedOf};
+ghost use Rattle.exact_job.specs.Trees.{IsOwnedWalk, IsWantedWalk};
+
+use crate::walk_tasks::{OwnedWalks, WantedWalks};
+use row_trees::Made;
+use sight_names::Memory;
+use std::alloc::Global;
+use std::thread::Threads;
+use task_crew::{in_turn, shared};
+
+/// Those who walk. What they give doesn't depend on who they are.
+pub trait Walkers {
+    /// Whether they can walk: threads share what all of them may look at.
+    ghost can_walk: { Self → Type 0 };
+
+    /// What is made of each group's walk with what it owns.
+    fn walk_owned(&self, alloc: Global, walks: &OwnedWalks<'_>) -> Result<Vec<Made>, Memory>
+        requires can { can_walk self.now }
+        requires sized { IsSized (owning_of walks.now.known) }
+        requires room { walks.now.known.count ≤ 64 * walks.now.masks.now.width }
+        requires walkable { (g : GroundOf) × ((f : ℕ) → f < walks.now.known.count → IsWalkable g walks.now.terrain.now.edges.now walks.now.terrain.now.roots.now.roots.items walks.now.terrain.now.roots.now.first.items f) }
+        ensures { IfOk result (λ v. AreDone (IsOwnedWalk walks.now.terrain.now.edges.now (rows_of walks.now.masks.now) walks.now.terrain.now.roots.now.roots.items walks.now.terrain.now.roots.now.first.items (owning_of walks.now.known)) walks.now.known.count v.items) };
+
+    /// What is made of each of these walks.
+    fn walk_wanted(&self, alloc: Global, walks: &WantedWalks<'_>) -> Result<Vec<Made>, Memory>
+        requires can { can_walk self.now }
+        requires rows { All (λ x. length x.row.items ≡ walks.now.masks.now.width) walks.now.wanted.now }
+        requires walkable { (g : GroundOf) × All (λ x. IsWalkable g walks.now.terrain.now.edges.now walks.now.terrain.now.roots.now.roots.items walks.now.terrain.now.roots.now.first.items x.group) walks.now.wanted.now }
+        ensures { IfOk result (λ v. AreDone (λ i made. (x : WantedOf) → slice_get walks.now.wanted.now i ≡ Some x → IsWantedWalk walks.now.terrain.now.edges.now walks.now.terrain.now.roots.now.roots.items walks.now.terrain.now.roots.now.first.items x.group made) (length walks.now.wanted.now) v.items) };
+}
+
+/// One who walks in the thread that calls.
+#[derive(Drop)]
+pub struct Alone;
+
+impl Walkers for Alone {
+    ghost can_walk = { λ w. Unit {0} };
+
+    fn walk_owned(&self, alloc: Global, walks: &OwnedWalks<'_>) -> Result<Vec<Made>, Memory> {
+        in_turn(alloc, walks, usize::from(walks.known.count))
+    }
+
+    fn walk_wanted(&self, alloc: Global, walks: &WantedWalks<'_>) -> Result<Vec<Made>, Memory> {
+        in_turn(alloc, walks, walks.wanted.len())
+    }
+}
+
+/// So many workers, each in a thread where one can be had.
+#[derive(Drop)]
+pub struct InThreads<'a, R> {
+    pub rt: &'a R,
+    pub workers: u16,
+}
+
+impl<'a, R: Threads + Sync> Walkers for InThreads<'a, R> {
+    ghost can_walk = { λ w. IsSync R.row };
+
+    fn walk_owned(&self, alloc: Global, walks: &OwnedWalks<'_>) -> Result<Vec<Made>, Memory> {
+        let count = usize::from(walks.known.count);
+        shared(self.rt, alloc, walks, count, usize::from(self.workers))
+    }
+
+    fn walk_wanted(&self, alloc: Global, walks: &WantedWalks<'_>) -> Result<Vec<Made>, Memory> {
+        let count = walks.wanted.len();
+        shared(self.rt, alloc, walks, count, usize::from(self.workers))
+    }
+}

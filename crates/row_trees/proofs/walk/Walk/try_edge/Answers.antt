@@ -1,0 +1,30 @@
+use Rattle.std.proofs.Common.{◌++◌, ◌∷◌, [], ◌+◌, List, length, sym, subst}
+use Rattle.std.specs.Prelude.{IfOk, Ok}
+use Rattle.sight_names.specs.Splitting.{EndPoints, IsSplittable}
+use Rattle.stab_hull.specs.declared.Passed.{Passed}
+use Rattle.stab_hull.specs.Answer.{IsPassed, IsBarredBy}
+use Rattle.portal_walk.specs.Walk.{ends_of}
+use Rattle.row_trees.specs.Going.{IsAfter, IsTried}
+use Rattle.row_trees.specs.Walkable.{scene_of}
+use Rattle.row_trees.proofs.walk.Walk.try_edge.Goals as goal
+
+pub go_through-requires-clause-splittable : goal.go_through-requires-clause-splittable
+go_through-requires-clause-splittable c =
+    let o = subst (λ (p : Passed). IsPassed c.args.self.now.ends (ends_of c.args.edge.now) c.pass.new.self (Ok p)) c.in-Open.is c.in_ok-pass.ensures in
+    subst (λ (es : List EndPoints). IsSplittable es) (sym o.0) o.1
+
+pub returns-in-Open-clause-after : goal.returns-in-Open-clause-after
+returns-in-Open-clause-after c = λ s n t.
+    let o = subst (λ (p : Passed). IsPassed c.args.self.now.ends (ends_of c.args.edge.now) c.pass.new.self (Ok p)) c.in-Open.is c.in_ok-pass.ensures in
+    c.go_through.ensures.after s n c.args.self.now.ends o.0 t
+
+pub returns-in-Stuck-clause-after : goal.returns-in-Stuck-clause-after
+returns-in-Stuck-clause-after c = λ s n t.
+    let w = c.args.self.now in
+    let x = c.args.edge.now in
+    let found = c.args.made.now.found.items in
+    let k = scene_of c.args.terrain.now c.args.masks.now in
+    let v = c.turn_back.new in
+    let o = subst (λ (p : Passed). IsPassed c.args.self.now.ends (ends_of c.args.edge.now) c.pass.new.self (Ok p)) c.in-Stuck.is c.in_ok-pass.ensures in
+    subst (λ (es : List EndPoints). IsBarredBy (es ++ ends_of x ∷ []) c.in-Stuck.evidence → IsTried k s w.root es w.judged found x (n + 1) → IfOk c.turn_back.result (λ _. IsAfter k s v.self.root v.self.ends v.self.judged v.made.found.items n (length es)))
+    o.0 (c.turn_back.ensures.after s n x) o.1 t

@@ -1,0 +1,6 @@
+pub mod Walkable
+pub mod Finding
+pub mod Thinner
+pub mod Made
+pub mod Going
+pub mod Left

@@ -1,0 +1,248 @@
+//! A walk of a source by a row.
+
+ghost use Rattle.std.specs.Prelude.{◌≡◌, ◌≢◌, ◌⊎◌, ◌+◌, ◌<◌, ◌++◌, ◌∷◌, [], ℕ, List, Some as Given, All, length, true, false, IfOk, OnOk};
+ghost use Rattle.sight_names.specs.Splitting.{EndPoints, IsSplittable};
+ghost use Rattle.sight_tree.specs.declared.Node.TheVariants.{Blocked};
+ghost use Rattle.half_edges.specs.declared.table.HalfEdge.{HalfEdge as HalfEdgeOf};
+ghost use Rattle.portal_walk.specs.Nodes.{IsAnswered};
+ghost use Rattle.portal_walk.specs.Walk.{ends_of};
+ghost use Rattle.stab_hull.specs.Answer.{IsBarredBy};
+ghost use Rattle.row_judge.specs.Asked.{Answers, Pending};
+ghost use Rattle.row_judge.specs.Judged.{StandsAt};
+ghost use Rattle.row_judge.specs.Masks.{rows_of};
+ghost use Rattle.row_judge.specs.Words.{is_away, row_at};
+ghost use Rattle.row_trees.specs.Going.{CanAnswer, IsAfter, IsGoing, IsTried};
+ghost use Rattle.row_trees.specs.Made.{AreSeen, AreWanted, IsMade, IsMadeSoFar};
+ghost use Rattle.row_trees.specs.Thinner.{IsPresent};
+ghost use Rattle.row_trees.specs.Walkable.{Ground, IsWalkable, Search, scene_of};
+
+use crate::finding::{reached, wanted};
+use crate::hull::leave_to;
+use crate::made::Made;
+use crate::rows::{forget, skip, skip_unwanted};
+use block_evidence::Evidence;
+use half_edges::HalfEdge;
+use row_judge::{Masks, RowWalk};
+use sight_names::Memory;
+use sight_tree::{Node, Nodes};
+use stab_hull::{Ends, Passed};
+use std::alloc::Global;
+use tree_judge::Terrain;
+
+/// A walk of a source as its judge would walk, the hull of the ends of its path, and the half-edge by which it left the source.
+/// Its buffers are used again from source to source.
+#[derive(Drop)]
+pub struct Walk {
+    judged: RowWalk,
+    ends: Ends,
+    root: u32,
+}
+
+/// The half-edge by which one leaves the source who asks for a half-edge behind so many portals.
+fn root_at(depth: usize, number: u32, root: u32) -> u32
+    ensures { ((depth ≡ 0) × (result ≡ number)) ⊎ ((depth ≢ 0) × (result ≡ root)) }
+{
+    if depth == 0 { number } else { root }
+}
+
+/// Whether the walk's present row may have what was found since: a row with which it went on from behind so many portals
+/// is without that.
+#[inline(always)]
+fn may_have_found(judged: &RowWalk, depth: usize, made: &Made) -> bool
+    ensures some { result ≡ true → made.now.found.items ≢ [] }
+    ensures none { result ≡ false → (depth < judged.now.follow.depth) ⊎ (made.now.found.items ≡ []) }
+{
+    judged.follow.depth <= depth && !made.found.is_empty()
+}
+
+impl Walk {
+    /// A walk that asks for nothing.
+    pub fn new(alloc: Global) -> Walk {
+        Walk {
+            judged: RowWalk::new(alloc),
+            ends: Ends::new(alloc),
+            root: 0,
+        }
+    }
+
+    /// Gives the judge a node that answers for what is asked, and keeps it while nothing was found.
+    #[inline(always)]
+    fn answer(
+        &mut self,
+        terrain: &Terrain<'_>,
+        masks: &Masks<'_>,
+        node: Node,
+        made: &mut Made,
+    ) -> Result<(), Memory>
+        requires answered { IsAnswered node }
+        requires right { CanAnswer (scene_of terrain.now masks.now) node self.old.judged }
+        ensures stands { (first : List ℕ) (ps qs : List Pending) → StandsAt (rows_of masks.now) first terrain.now.roots.now.roots.items self.old.judged ps → Answers terrain.now.edges.now (rows_of masks.now) self.old.judged.source ps node qs → IfOk result (λ _. StandsAt (rows_of masks.now) first terrain.now.roots.now.roots.items self.new.judged qs) }
+        ensures source { self.new.judged.source ≡ self.old.judged.source }
+        ensures ends { self.new.ends ≡ self.old.ends }
+        ensures root { self.new.root ≡ self.old.root }
+        ensures found { made.new.found.items ≡ made.old.found.items }
+        ensures made { (row : List ℕ) (source : ℕ) → IsMadeSoFar terrain.now.edges.now (rows_of masks.now) row terrain.now.roots.now.roots.items terrain.now.roots.now.first.items source self.old.judged made.old → IfOk result (λ _. IsMadeSoFar terrain.now.edges.now (rows_of masks.now) row terrain.now.roots.now.roots.items terrain.now.roots.now.first.items source self.new.judged made.new) }
+        ensures answered { All IsAnswered made.old.nodes → IfOk result (λ _. All IsAnswered made.new.nodes) }
+    {
+        self.judged.step(terrain, masks, node)?;
+        if made.found.is_empty() {
+            made.nodes.push(node)?;
+        }
+        Ok(())
+    }
+
+    /// Finds the sector into which the half-edge leads whose portal is the last one of the hull, if it is wanted, and forgets it.
+    #[inline(always)]
+    fn find(
+        &mut self,
+        terrain: &Terrain<'_>,
+        masks: &Masks<'_>,
+        edge: &HalfEdge,
+        made: &mut Made,
+    ) -> Result<(), Memory>
+        requires splittable { IsSplittable self.old.ends }
+        requires tried { (s : Search) × (n : ℕ) × (before : List EndPoints) × (self.old.ends ≡ before ++ ends_of edge.now ∷ []) × IsTried (scene_of terrain.now masks.now) s self.old.root before self.old.judged made.old.found.items edge.now n }
+        ensures tried { (s : Search) (n : ℕ) (before : List EndPoints) → self.old.ends ≡ before ++ ends_of edge.now ∷ [] → IsTried (scene_of terrain.now masks.now) s self.old.root before self.old.judged made.old.found.items edge.now n → IfOk result (λ _. IsTried (scene_of terrain.now masks.now) s self.new.root before self.new.judged made.new.found.items edge.now n) }
+        ensures away { IfOk result (λ _. is_away (row_at self.new.judged.rows.items masks.now.width self.new.judged.follow.row) edge.now.sector ≡ true) }
+        ensures ends { self.new.ends ≡ self.old.ends }
+        ensures made { (row : List ℕ) (source : ℕ) → IsMadeSoFar terrain.now.edges.now (rows_of masks.now) row terrain.now.roots.now.roots.items terrain.now.roots.now.first.items source self.old.judged made.old → IfOk result (λ _. IsMadeSoFar terrain.now.edges.now (rows_of masks.now) row terrain.now.roots.now.roots.items terrain.now.roots.now.first.items source self.new.judged made.new) }
+        ensures answered { All IsAnswered made.old.nodes → IfOk result (λ _. All IsAnswered made.new.nodes) }
+    {
+        let Some(to) = wanted(&self.judged, masks.width, edge) else {
+            return Ok(());
+        };
+        let line = self.ends.line();
+        let reached = reached(terrain.edges, self.root, edge, to, line);
+        made.found.push(reached)?;
+        forget(&mut self.judged, masks.width, to);
+        Ok(())
+    }
+
+    /// Goes through the half-edge whose portal is the last one of the hull. A sector that is wanted is found there.
+    #[inline(always)]
+    fn go_through(
+        &mut self,
+        terrain: &Terrain<'_>,
+        masks: &Masks<'_>,
+        edge: &HalfEdge,
+        made: &mut Made,
+    ) -> Result<(), Memory>
+        requires splittable { IsSplittable self.old.ends }
+        requires tried { (s : Search) × (n : ℕ) × (before : List EndPoints) × (self.old.ends ≡ before ++ ends_of edge.now ∷ []) × IsTried (scene_of terrain.now masks.now) s self.old.root before self.old.judged made.old.found.items edge.now n }
+        ensures after { (s : Search) (n : ℕ) (before : List EndPoints) → self.old.ends ≡ before ++ ends_of edge.now ∷ [] → IsTried (scene_of terrain.now masks.now) s self.old.root before self.old.judged made.old.found.items edge.now (n + 1) → IfOk result (λ _. IsAfter (scene_of terrain.now masks.now) s self.new.root self.new.ends self.new.judged made.new.found.items n (length before)) }
+        ensures made { (row : List ℕ) (source : ℕ) → IsMadeSoFar terrain.now.edges.now (rows_of masks.now) row terrain.now.roots.now.roots.items terrain.now.roots.now.first.items source self.old.judged made.old → IfOk result (λ _. IsMadeSoFar terrain.now.edges.now (rows_of masks.now) row terrain.now.roots.now.roots.items terrain.now.roots.now.first.items source self.new.judged made.new) }
+        ensures answered { All IsAnswered made.old.nodes → IfOk result (λ _. All IsAnswered made.new.nodes) }
+    {
+        self.find(terrain, masks, edge, made)?;
+        self.answer(terrain, masks, Node::Open, made)
+    }
+
+    /// Turns back before what is asked, since these ends block it. Once something was found no judge needs to hear of them.
+    #[inline(always)]
+    fn turn_back(
+        &mut self,
+        terrain: &Terrain<'_>,
+        masks: &Masks<'_>,
+        evidence: Evidence,
+        made: &mut Made,
+    ) -> Result<(), Memory>
+        requires tried { (s : Search) × (n : ℕ) × (edge : HalfEdgeOf) × IsBarredBy (self.old.ends ++ ends_of edge ∷ []) evidence × IsTried (scene_of terrain.now masks.now) s self.old.root self.old.ends self.old.judged made.old.found.items edge n }
+        ensures after { (s : Search) (n : ℕ) (edge : HalfEdgeOf) → IsBarredBy (self.old.ends ++ ends_of edge ∷ []) evidence → IsTried (scene_of terrain.now masks.now) s self.old.root self.old.ends self.old.judged made.old.found.items edge (n + 1) → IfOk result (λ _. IsAfter (scene_of terrain.now masks.now) s self.new.root self.new.ends self.new.judged made.new.found.items n (length self.old.ends)) }
+        ensures made { (row : List ℕ) (source : ℕ) → IsMadeSoFar terrain.now.edges.now (rows_of masks.now) row terrain.now.roots.now.roots.items terrain.now.roots.now.first.items source self.old.judged made.old → IfOk result (λ _. IsMadeSoFar terrain.now.edges.now (rows_of masks.now) row terrain.now.roots.now.roots.items terrain.now.roots.now.first.items source self.new.judged made.new) }
+        ensures answered { All IsAnswered made.old.nodes → IfOk result (λ _. All IsAnswered made.new.nodes) }
+    {
+        if made.found.is_empty() {
+            return self.answer(terrain, masks, Node::Blocked(evidence), made);
+        }
+        skip(&mut self.judged, terrain, masks);
+        Ok(())
+    }
+
+    /// Goes through the half-edge, or turns back before it.
+    #[inline(always)]
+    fn try_edge(
+        &mut self,
+        terrain: &Terrain<'_>,
+        masks: &Masks<'_>,
+        edge: &HalfEdge,
+        made: &mut Made,
+    ) -> Result<(), Memory>
+        requires tried { (s : Search) × (n : ℕ) × IsTried (scene_of terrain.now masks.now) s self.old.root self.old.ends self.old.judged made.old.found.items edge.now n }
+        ensures after { (s : Search) (n : ℕ) → IsTried (scene_of terrain.now masks.now) s self.old.root self.old.ends self.old.judged made.old.found.items edge.now (n + 1) → IfOk result (λ _. IsAfter (scene_of terrain.now masks.now) s self.new.root self.new.ends self.new.judged made.new.found.items n (length self.old.ends)) }
+        ensures made { (row : List ℕ) (source : ℕ) → IsMadeSoFar terrain.now.edges.now (rows_of masks.now) row terrain.now.roots.now.roots.items terrain.now.roots.now.first.items source self.old.judged made.old → IfOk result (λ _. IsMadeSoFar terrain.now.edges.now (rows_of masks.now) row terrain.now.roots.now.roots.items terrain.now.roots.now.first.items source self.new.judged made.new) }
+        ensures answered { All IsAnswered made.old.nodes → IfOk result (λ _. All IsAnswered made.new.nodes) }
+    {
+        match self.ends.pass(edge.left_at, edge.right_at)? {
+            Passed::Open => self.go_through(terrain, masks, edge, made),
+            Passed::Stuck(evidence) => self.turn_back(terrain, masks, evidence, made),
+        }
+    }
+
+    /// Goes on where nothing that is still wanted is left behind what is asked, if something was found and the walk has come
+    /// back to so many portals at most: the row there may have what was found since.
+    #[inline(always)]
+    fn come_back(&mut self, terrain: &Terrain<'_>, masks: &Masks<'_>, depth: usize, made: &Made)
+        requires after { (s : Search) × (n : ℕ) × IsAfter (scene_of terrain.now masks.now) s self.old.root self.old.ends self.old.judged made.now.found.items n depth }
+        ensures going { (s : Search) (n : ℕ) → IsAfter (scene_of terrain.now masks.now) s self.old.root self.old.ends self.old.judged made.now.found.items n depth → IsGoing (scene_of terrain.now masks.now) s self.new.root self.new.ends self.new.judged made.now.found.items n }
+        ensures present { (k : ℕ) → self.new.judged.follow.asked ≡ Given k → IsPresent masks.now.width self.new.judged }
+        ensures made { (row : List ℕ) (source : ℕ) → IsMadeSoFar terrain.now.edges.now (rows_of masks.now) row terrain.now.roots.now.roots.items terrain.now.roots.now.first.items source self.old.judged made.now → IsMadeSoFar terrain.now.edges.now (rows_of masks.now) row terrain.now.roots.now.roots.items terrain.now.roots.now.first.items source self.new.judged made.now }
+    {
+        if may_have_found(&self.judged, depth, made) {
+            skip_unwanted(&mut self.judged, terrain, masks);
+        }
+    }
+
+    /// Answers for the half-edge that is asked.
+    #[inline(always)]
+    fn step(
+        &mut self,
+        terrain: &Terrain<'_>,
+        masks: &Masks<'_>,
+        number: u32,
+        made: &mut Made,
+    ) -> Result<(), Memory>
+        requires asked { self.old.judged.follow.asked ≡ Given number }
+        requires present { IsPresent masks.now.width self.old.judged }
+        requires going { (s : Search) × (n : ℕ) × IsGoing (scene_of terrain.now masks.now) s self.old.root self.old.ends self.old.judged made.old.found.items n }
+        ensures going { (s : Search) (n : ℕ) → IsGoing (scene_of terrain.now masks.now) s self.old.root self.old.ends self.old.judged made.old.found.items (n + 1) → IfOk result (λ _. IsGoing (scene_of terrain.now masks.now) s self.new.root self.new.ends self.new.judged made.new.found.items n) }
+        ensures present { IfOk result (λ _. (k : ℕ) → self.new.judged.follow.asked ≡ Given k → IsPresent masks.now.width self.new.judged) }
+        ensures made { (row : List ℕ) (source : ℕ) → IsMadeSoFar terrain.now.edges.now (rows_of masks.now) row terrain.now.roots.now.roots.items terrain.now.roots.now.first.items source self.old.judged made.old → IfOk result (λ _. IsMadeSoFar terrain.now.edges.now (rows_of masks.now) row terrain.now.roots.now.roots.items terrain.now.roots.now.first.items source self.new.judged made.new) }
+        ensures answered { All IsAnswered made.old.nodes → IfOk result (λ _. All IsAnswered made.new.nodes) }
+    {
+        let edge = terrain.edges.get(number).unwrap();
+        let depth = self.judged.follow.depth;
+        self.root = root_at(depth, number, self.root);
+        leave_to(&mut self.ends, depth);
+        self.try_edge(terrain, masks, edge, made)?;
+        self.come_back(terrain, masks, depth, made);
+        Ok(())
+    }
+}
+
+/// Walks the source with this row of what is wanted.
+pub fn walk_by_row(
+    alloc: Global,
+    walk: &mut Walk,
+    terrain: &Terrain<'_>,
+    masks: &Masks<'_>,
+    source: u16,
+    row: &[u64],
+) -> Result<Made, Memory>
+    requires width { length row.now ≡ masks.now.width }
+    requires walkable { (over : Ground) × IsWalkable over terrain.now.edges.now terrain.now.roots.now.roots.items terrain.now.roots.now.first.items source }
+    ensures answered { IfOk result (λ made. All IsAnswered made.nodes) }
+    ensures made { IfOk result (IsMade terrain.now.edges.now (rows_of masks.now) row.now terrain.now.roots.now.roots.items terrain.now.roots.now.first.items source) }
+    ensures found { (over : Ground) → IsWalkable over terrain.now.edges.now terrain.now.roots.now.roots.items terrain.now.roots.now.first.items source → IfOk result (λ made. AreSeen over.plan source made.found.items) }
+    ensures wanted { IfOk result (λ made. AreWanted row.now source made.found.items) }
+{
+    let mut made = Made {
+        nodes: Nodes::new(alloc),
+        found: Vec::new(alloc),
+    };
+    walk.judged.begin(terrain, masks, source, row)?;
+    'nodes: while let Some(number) = walk.judged.follow.asked {
+        walk.step(terrain, masks, number, &mut made)?;
+    }
+    made.nodes.shrink_to_fit();
+    Ok(made)
+}
