@@ -115,7 +115,7 @@ typedef struct doomsight_counts {
     uint64_t sectors;
     uint64_t set;       /* proved blind: their bit is set */
     uint64_t clear;     /* proved to see */
-    uint64_t listed;    /* clear, since the budget ran out; none with DOOMSIGHT_ENOUGH and DOOMSIGHT_FULL */
+    uint64_t listed;    /* clear, since the budget ran out; none with DOOMSIGHT_ENOUGH, DOOMSIGHT_FULL and DOOMSIGHT_EXACT */
     uint64_t cert_size; /* bytes of the whole certificate, whatever room the buffer has */
 } doomsight_counts;
 
@@ -132,6 +132,9 @@ DOOMSIGHT_HOLDS(sizeof(doomsight_fault) == 32 && sizeof(doomsight_counts) == 40 
 /* Budgets: 1 to 4294967296, or one of these. The program's default is 16384. */
 #define DOOMSIGHT_ENOUGH UINT64_C(0)    /* as much as this map needs */
 #define DOOMSIGHT_FULL UINT64_MAX       /* no bound */
+/* Not a budget, but the program's --exact: every pair is decided in another way, none is listed, and the certificate is of version
+ * 3. A library that doesn't know it refuses it with DOOMSIGHT_BAD_BUDGET. */
+#define DOOMSIGHT_EXACT (UINT64_MAX - 1)
 
 enum doomsight_format { DOOMSIGHT_DOOM = 0, DOOMSIGHT_HEXEN = 1 };
 
@@ -151,7 +154,7 @@ typedef struct doomsight_map {
 } doomsight_map;
 
 typedef struct doomsight_options {
-    uint64_t budget; /* of a build; a check doesn't look at it */
+    uint64_t budget; /* of a build, or DOOMSIGHT_EXACT; a check doesn't look at it */
     uint32_t flags;  /* 0, or DOOMSIGHT_LARGE */
 } doomsight_options;
 
@@ -269,8 +272,9 @@ static inline size_t doomsight_kept_cert(doomsight_kept *kept, size_t offset, vo
 /* Frees what the handle keeps: afterwards it keeps nothing, and nothing is owed. One that keeps nothing stays as it is. */
 void doomsight_free(doomsight_kept *kept);
 
-/* Whether the table is right for the map, by the certificate: DOOMSIGHT_OK and the counts for yes; else the code of the fault,
- * DOOMSIGHT_NO where the table or the certificate is wrong; then nothing but *fault was written. `options` may be NULL. */
+/* Whether the table is right for the map, by the certificate, which may be of version 1, 2 or 3: DOOMSIGHT_OK and the counts for
+ * yes; else the code of the fault, DOOMSIGHT_NO where the table or the certificate is wrong; then nothing but *fault was written.
+ * `options` may be NULL. */
 static inline int32_t doomsight_check(const doomsight_map *map, const doomsight_options *options, const void *reject,
     size_t reject_size, const void *cert, size_t cert_size, doomsight_counts *counts, doomsight_fault *fault)
 {

@@ -11,7 +11,7 @@ use Rattle.order_words.specs.declared.order.Order.TheVariants as order
 use Rattle.order_words.specs.declared.order.Source.{Source}
 use Rattle.shelf_io.specs.Shelf.{Files, ShelfState}
 use Rattle.shelf_io.specs.Sink.{SinkState}
-use Rattle.sight_names.specs.declared.names.Ask.{Ask}
+use Rattle.sight_names.specs.declared.names.Method.{Method}
 use Rattle.sight_status.specs.Answer.{Answer}
 use Rattle.sight_status.specs.declared.status.Status.{Status}
 use Rattle.sight_status.specs.declared.status.Status.TheVariants as status
@@ -24,13 +24,13 @@ use Rattle.sight_run.specs.Words.{asked_of}
 use Rattle.run_laws.proofs.Stood.{asked_is, under_report}
 use Rattle.doomsight.specs.Words.{HoldsReport, LeavesReport, Reports, RunsWords, is_reported, listeners_where}
 
-module _ (words : List (List ℕ)) (files : Files) (before after : ShelfState) (old new : SinkState) (wad : Source) (name out report : List ℕ) (cert : Option (List ℕ)) (workers : ℕ) (budget : Ask)
-    (h : RunsWords words files before after old new status.Done) (is_asked : asked_of words ≡ Ok (order.Build wad name out cert (Some report) workers budget)) where
+module _ (words : List (List ℕ)) (files : Files) (before after : ShelfState) (old new : SinkState) (wad : Source) (name out report : List ℕ) (cert : Option (List ℕ)) (workers : ℕ) (method : Method)
+    (h : RunsWords words files before after old new status.Done) (is_asked : asked_of words ≡ Ok (order.Build wad name out cert (Some report) workers method)) where
   given : h.heard.before ≡ new_reporters
-  given = h.given_are ∙ ap (λ (o : Option Order). listeners_where (is_reported o)) (asked_is words (order.Build wad name out cert (Some report) workers budget) is_asked)
+  given = h.given_are ∙ ap (λ (o : Option Order). listeners_where (is_reported o)) (asked_is words (order.Build wad name out cert (Some report) workers method) is_asked)
 
   -- the listeners heard the findings of the map
-  told : AllHeard (AreFindingsIn (Some files) wad name budget) h.heard
+  told : AllHeard (AreFindingsIn (Some files) wad name method) h.heard
   told = subst (λ (r : Result Order Status). Hears r (Some files) h.heard status.Done) is_asked h.hears
 
   told_both : (fs : List Finding) (text : List ℕ) → AreTold fs h.heard.before h.heard.after text → AreTold fs new_reporters h.heard.after text
@@ -39,7 +39,7 @@ module _ (words : List (List ℕ)) (files : Files) (before after : ShelfState) (
   abbrev answer : Answer
   answer = h.ends.ends.answer
 
-  on_found : (r : Result LocatedMap Status) → OnFound r (BuildCalls name out cert (Some report) budget h.heard) (Ok answer) → HoldsReport files after.files wad name report budget
+  on_found : (r : Result LocatedMap Status) → OnFound r (BuildCalls name out cert (Some report) method h.heard) (Ok answer) → HoldsReport files after.files wad name report method
   on_found (Err s) q = absurd cc
   on_found (Ok found) q = record {
     others = put_all files answer.writes;
@@ -53,14 +53,14 @@ module _ (words : List (List ℕ)) (files : Files) (before after : ShelfState) (
     };
   }
 
-  pub holds_report : HoldsReport files after.files wad name report budget
+  pub holds_report : HoldsReport files after.files wad name report method
   holds_report = on_found (found_of wad name files) (subst (λ (r : Result Order Status). AnswersAsked r files h.heard (Ok answer)) is_asked h.ends.ends.called.called)
 
 pub reports : (words : List (List ℕ)) (files : Files) (before after : ShelfState) (old new : SinkState) (s : Status) → RunsWords words files before after old new s → Reports words files after.files s
 reports words files before after old new status.Done h = by (asked_of words) refl
   where
     by : (r : Result Order Status) → asked_of words ≡ r → LeavesReport r files after.files
-    by (Ok (order.Build wad name out cert (Some report) workers budget)) e = holds_report words files before after old new wad name out report cert workers budget h e
+    by (Ok (order.Build wad name out cert (Some report) workers method)) e = holds_report words files before after old new wad name out report cert workers method h e
     by (Ok asked) e = tt
     by (Err refusal) e = tt
 reports words files before after old new s h = tt

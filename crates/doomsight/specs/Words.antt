@@ -10,7 +10,7 @@ use Rattle.order_words.specs.declared.order.Source.{Source}
 use Rattle.order_words.specs.Words.{order_of}
 use Rattle.shelf_io.specs.Shelf.{Files, ShelfState}
 use Rattle.shelf_io.specs.Sink.{SinkState}
-use Rattle.sight_names.specs.declared.names.Ask.{Ask}
+use Rattle.sight_names.specs.declared.names.Method.{Method}
 use Rattle.sight_status.specs.declared.status.Status.{Status}
 use Rattle.sight_status.specs.declared.status.Status.TheVariants as status
 use Rattle.sight_run.specs.Heard.{AreFindingsIn, Heard, Hears}
@@ -19,7 +19,7 @@ use Rattle.sight_run.specs.Words.{asked_of}
 
 -- the order is a build of one map with a report
 abbrev pub is_reported : Option Order → Bool
-is_reported (Some (order.Build wad name out cert (Some report) workers budget)) = true
+is_reported (Some (order.Build wad name out cert (Some report) workers method)) = true
 is_reported other = false
 
 -- its listeners write the lines and the totals of the report; other orders have none
@@ -40,23 +40,23 @@ RunsWords words files before after old new s = RunsHeard (listeners_where (is_re
 
 -- ---- what a report holds
 
--- the lines of the findings of the map within the budget that is asked for, and their totals
-pub record IsReportOf (files : Files) (wad : Source) (name : List ℕ) (budget : Ask) (report : List ℕ) : Type 0 where
+-- the lines of the findings of the map by this method, and their totals
+pub record IsReportOf (files : Files) (wad : Source) (name : List ℕ) (method : Method) (report : List ℕ) : Type 0 where
   pub findings : List Finding
-  pub are : AreFindingsIn (Some files) wad name budget findings
+  pub are : AreFindingsIn (Some files) wad name method findings
   pub is : report ≡ finding_lines findings ++ totals_line findings
 
 -- the file of this name is such a report
-pub record HoldsReport (files : Files) (after : Option Files) (wad : Source) (name report : List ℕ) (budget : Ask) : Type 0 where
+pub record HoldsReport (files : Files) (after : Option Files) (wad : Source) (name report : List ℕ) (method : Method) : Type 0 where
   pub others : Files
   pub told : after ≡ Some others
   pub bytes : List ℕ
   pub stands : others report ≡ Some bytes
-  pub is : IsReportOf files wad name budget bytes
+  pub is : IsReportOf files wad name method bytes
 
 -- where the order is a build of one map with a report, this stands in the report's file
 abbrev pub LeavesReport : Result Order Status → Files → Option Files → Type 0
-LeavesReport (Ok (order.Build wad name out cert (Some report) workers budget)) files after = HoldsReport files after wad name report budget
+LeavesReport (Ok (order.Build wad name out cert (Some report) workers method)) files after = HoldsReport files after wad name report method
 LeavesReport asked files after = ⊤
 
 -- .. where it is done

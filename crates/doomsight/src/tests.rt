@@ -126,6 +126,23 @@ build a MAP01 b --=c | 5
 build a MAP01 b --budget 0 | 6
 build a MAP01 b --budget=4294967296 | -
 build a MAP01 b --budget 4294967297 | 6
+build a MAP01 b --exact | -
+build a MAP01 b --exact --cert c --report r --workers 8 --large | -
+--exact build a MAP01 b | -
+build a MAP01 b --exact=1 | 5
+build a MAP01 b --exact --exact | 6
+build a MAP01 b --exact --budget 5 | 6
+build a MAP01 b --budget 5 --exact | 7
+--exact --budget 5 | 2
+--exact why | 2
+--exact draw | 2
+--exact --faults | 2
+check a MAP01 c --exact | 5
+all a b --exact | -
+all a b --only MAP01 --exact --report r | -
+all a b --exact --budget full | 5
+grid 4 --exact | -
+grid 4 --exact --hexen --workers 1 | -
 build a MAP01 b --workers 0 | 6
 build a MAP01 b --workers 65 | 6
 build a MAP01 b --hexen | 5
@@ -166,7 +183,7 @@ grid 2 --large | 3
 ";
 
 /// Words that are put together in every way.
-static SOME: [&str; 13] = [
+static SOME: [&str; 14] = [
     "build",
     "draw",
     "grid",
@@ -178,6 +195,7 @@ static SOME: [&str; 13] = [
     "--hexen",
     "--large",
     "--faults",
+    "--exact",
     "--",
     "-x",
 ];
@@ -191,7 +209,7 @@ build a --version --help | doomsight 1.0.0
 audit a MAP01 -h | doomsight audit WAD MAP
 why --help | doomsight why WAD MAP A B [--budget N|full|enough] [--large]
 draw --help | doomsight draw WAD MAP OUT [A [B [--budget N|full|enough]] | --faults] [--large]
-grid --help | doomsight grid N [--budget N|full|enough] [--workers N] [--hexen]
+grid --help | doomsight grid N [--exact | --budget N|full|enough] [--workers N] [--hexen]
 sound -- --help | 
 zero a MAP01 b | 
 ";
@@ -262,8 +280,8 @@ fn words_numbered(alloc: Global, count: usize, number: usize) -> Result<Vec<Stri
     let mut words = Vec::new(alloc);
     let mut left = number;
     for _ in 0..count {
-        words.push(String::from_str(alloc, SOME[left % 13])?)?;
-        left /= 13;
+        words.push(String::from_str(alloc, SOME[left % 14])?)?;
+        left /= 14;
     }
     Ok(words)
 }
@@ -272,7 +290,7 @@ fn words_numbered(alloc: Global, count: usize, number: usize) -> Result<Vec<Stri
 fn what_is_no_order_has_a_wrong_word(rt: HostRuntime) -> Result<(), Fail> {
     let alloc = rt.alloc();
     let mut orders = 0u32;
-    for (count, lists) in [(1, 13), (2, 169), (3, 2_197), (4, 28_561)] {
+    for (count, lists) in [(1, 14), (2, 196), (3, 2_744), (4, 38_416)] {
         for number in 0..lists {
             let words = words_numbered(alloc, count, number)?;
             let said = said_of(alloc, &words)?;

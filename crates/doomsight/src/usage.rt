@@ -52,6 +52,7 @@ struct Given {
     hexen: bool,
     large: bool,
     faults: bool,
+    exact: bool,
 }
 
 impl Given {
@@ -65,6 +66,7 @@ impl Given {
             Choice::Hexen => self.hexen,
             Choice::Large => self.large,
             Choice::Faults => self.faults,
+            Choice::Exact => self.exact,
         }
     }
 
@@ -78,11 +80,12 @@ impl Given {
             Choice::Hexen => self.hexen = true,
             Choice::Large => self.large = true,
             Choice::Faults => self.faults = true,
+            Choice::Exact => self.exact = true,
         }
     }
 }
 
-const CHOICES: [Choice; 8] = [
+const CHOICES: [Choice; 9] = [
     Choice::Only,
     Choice::Cert,
     Choice::Report,
@@ -91,6 +94,7 @@ const CHOICES: [Choice; 8] = [
     Choice::Hexen,
     Choice::Large,
     Choice::Faults,
+    Choice::Exact,
 ];
 
 fn choice_named(name: &str) -> Option<Choice> {
@@ -103,14 +107,16 @@ fn choice_named(name: &str) -> Option<Choice> {
         "hexen" => Some(Choice::Hexen),
         "large" => Some(Choice::Large),
         "faults" => Some(Choice::Faults),
+        "exact" => Some(Choice::Exact),
         _ => None,
     }
 }
 
-// A budget is for two sectors and the faults are of the map alone, so no verb takes both.
+// A budget is for two sectors and the faults are of the map alone, so no verb takes both; nor is there a budget where every pair
+// is decided.
 fn takes_all(verb: &Verb, given: Given) -> bool {
     CHOICES.iter().all(|choice| !given.has(*choice) || verb.choices.contains(choice))
-        && !(given.budget && given.faults)
+        && !(given.budget && (given.faults || given.exact))
 }
 
 // How many words may stand behind the verb: with the faults, none that may be left out.
@@ -153,7 +159,7 @@ fn fits_choice(choice: Choice, word: &str) -> Result<(), Why> {
         Choice::Cert | Choice::Report => unless(may_name_file(word), Why::NoFile),
         Choice::Budget => unless(budget(word).is_some(), Why::NoBudget),
         Choice::Workers => unless(workers(word).is_some(), Why::NoWorkers),
-        Choice::Hexen | Choice::Large | Choice::Faults => Err(Why::TakesNone),
+        Choice::Hexen | Choice::Large | Choice::Faults | Choice::Exact => { Err(Why::TakesNone) },
     }
 }
 
@@ -192,6 +198,7 @@ impl Reader {
                 hexen: false,
                 large: false,
                 faults: false,
+                exact: false,
             },
             waiting: None,
             is_closed: false,

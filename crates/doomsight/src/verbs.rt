@@ -13,7 +13,7 @@ pub enum Place {
     Rooms,
 }
 
-/// An option; the last three take no value.
+/// An option; the last four take no value.
 #[derive(Clone, Copy, PartialEq, Eq)]
 pub enum Choice {
     Only,
@@ -24,6 +24,7 @@ pub enum Choice {
     Hexen,
     Large,
     Faults,
+    Exact,
 }
 
 impl Choice {
@@ -31,7 +32,10 @@ impl Choice {
     pub fn is_flag(self) -> bool
         ensures { result ≡ takes_no_value self }
     {
-        matches!(self, Choice::Hexen | Choice::Large | Choice::Faults)
+        matches!(
+            self,
+            Choice::Hexen | Choice::Large | Choice::Faults | Choice::Exact
+        )
     }
 }
 
@@ -61,8 +65,9 @@ pub static VERBS: [Verb; 12] = [
             Choice::Budget,
             Choice::Workers,
             Choice::Large,
+            Choice::Exact,
         ],
-        synopsis: "doomsight all WAD OUT [--only MAP,MAP] [--report FILE] [--budget N|full|enough] [--workers N] [--large]",
+        synopsis: "doomsight all WAD OUT [--only MAP,MAP] [--report FILE] [--exact | --budget N|full|enough] [--workers N] [--large]",
         about: "Builds every map of the WAD, or those that are named, judges each table by its own certificate, and writes the WAD with these tables to OUT.",
     },
     Verb {
@@ -75,8 +80,9 @@ pub static VERBS: [Verb; 12] = [
             Choice::Budget,
             Choice::Workers,
             Choice::Large,
+            Choice::Exact,
         ],
-        synopsis: "doomsight build WAD MAP OUT [--cert FILE] [--report FILE] [--budget N|full|enough] [--workers N] [--large]",
+        synopsis: "doomsight build WAD MAP OUT [--cert FILE] [--report FILE] [--exact | --budget N|full|enough] [--workers N] [--large]",
         about: "Writes the WAD with the map's REJECT to OUT, and a certificate and a report of the pairs of sectors where they are asked for.",
     },
     Verb {
@@ -161,8 +167,13 @@ pub static VERBS: [Verb; 12] = [
         name: "grid",
         places: &[Place::Rooms],
         spare: &[],
-        choices: &[Choice::Budget, Choice::Workers, Choice::Hexen],
-        synopsis: "doomsight grid N [--budget N|full|enough] [--workers N] [--hexen]",
+        choices: &[
+            Choice::Budget,
+            Choice::Workers,
+            Choice::Hexen,
+            Choice::Exact,
+        ],
+        synopsis: "doomsight grid N [--exact | --budget N|full|enough] [--workers N] [--hexen]",
         about: "Makes a map of N by N rooms, and builds and checks it in memory.",
     },
 ];

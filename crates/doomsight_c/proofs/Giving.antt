@@ -3,9 +3,8 @@ use Rattle.std.proofs.Common.{◌≡◌, ◌≢◌, ◌∙◌, ℕ, List, Option
 use Rattle.std.specs.Prelude.{⊤}
 use Rattle.sight_names.specs.declared.faults.LumpFault.{LumpFault}
 use Rattle.sight_names.specs.declared.faults.LumpFault.TheVariants as lump
-use Rattle.sight_names.specs.declared.names.Ask.{Ask}
+use Rattle.sight_names.specs.declared.names.Method.{Method}
 use Rattle.sight_names.specs.Map.{Map, map_of}
-use Rattle.group_job.specs.declared.build.GroupBuilt.{GroupBuilt}
 use Rattle.map_answers.specs.Input.{of_lumps}
 use Rattle.map_answers.specs.Sound.{IsAuditRefusal}
 use Rattle.sight_status.specs.declared.status.Flaw.TheVariants as flaw
@@ -13,6 +12,7 @@ use Rattle.sight_status.specs.declared.status.Status.{Status}
 use Rattle.sight_status.specs.declared.status.Status.TheVariants as status
 use Rattle.sight_status.specs.Answer.{Makes}
 use Rattle.sight_status.specs.Status.{IsOfBytes}
+use Rattle.whole_wad.specs.declared.building.Built.{Built}
 use Rattle.whole_wad.specs.Built.{IsBuiltOf}
 use Rattle.doomsight_c.specs.declared.counts.DoomsightCounts.{DoomsightCounts}
 use Rattle.doomsight_c.specs.declared.fault.DoomsightFault.{DoomsightFault}
@@ -102,9 +102,9 @@ unfit m size other f is = inl (record { map = m; is_read = refl; other = other; 
 
 -- ---- what is given
 
-pub built_for : (m : Map) (ask : Ask) (size : ℕ) → size ≡ table_size m.sectors → (b : GroupBuilt) → IsBuiltOf m ask b → IsBuiltFor (Ok m) ask size b
-built_for m ask size fits b is = record { map = m; is_read = refl; is_built = is; fits = fits ∙ ap table_size (sym is.sectors) }
+pub built_for : (m : Map) (by : Method) (size : ℕ) → size ≡ table_size m.sectors → (b : Built) → IsBuiltOf m by b → IsBuiltFor (Ok m) by size b
+built_for m by size fits b is = record { map = m; is_read = refl; is_built = is; fits = fits ∙ ap table_size (sym is.sectors) }
 
-pub given : (read : Result Map Status) (ask : Ask) (size : ℕ) (b : GroupBuilt) → IsBuiltFor read ask size b → (reject before after : List ℕ) (counts : DoomsightCounts) → IsPut b reject before after counts
-    → IsGiven read ask reject before after counts
-given read ask size b is reject before after counts put = record { map = is.map; is_read = is.is_read; built = b; is_built = is.is_built; put = put }
+pub given : (read : Result Map Status) (by : Method) (size : ℕ) (b : Built) → IsBuiltFor read by size b → (reject before after : List ℕ) (counts : DoomsightCounts) → IsPut b reject before after counts
+    → IsGiven read by reject before after counts
+given read by size b is reject before after counts put = record { map = is.map; is_read = is.is_read; built = b; is_built = is.is_built; put = put }

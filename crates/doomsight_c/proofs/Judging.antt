@@ -11,13 +11,14 @@ use Rattle.sight_names.specs.Sound.{LinesMeetAtEnds}
 use Rattle.reject_bits.specs.Parts.{TableParts}
 use Rattle.cert_format.specs.Sizes.{sizes_of}
 use Rattle.cert_checker.specs.declared.verdict.Totals.{Totals}
-use Rattle.cert_groups.specs.declared.cert.AnyCert.{AnyCert}
-use Rattle.cert_groups.specs.Reading.{any_at}
-use Rattle.accepted_groups.specs.Accepted.{IsAcceptedAny}
+use Rattle.certificates.specs.declared.certificate.Certificate.{Certificate}
+use Rattle.certificates.specs.Reading.{certificate_at}
 use Rattle.group_checker.specs.declared.verdict.AnyFault.TheVariants as fault
 use Rattle.group_checker.specs.declared.verdict.AnyVerdict.{AnyVerdict}
 use Rattle.group_checker.specs.declared.verdict.AnyVerdict.TheVariants as verdict
-use Rattle.group_checker.specs.Judged.{IsYesAny, JudgesAny, TellsSightAny}
+use Rattle.group_checker.specs.Judged.{IsYesAny}
+use Rattle.any_judge.specs.Accepted.{IsAccepted, TellsSight}
+use Rattle.any_judge.specs.Judged.{Judges}
 use Rattle.cert_judge.specs.declared.judged.Judged.{Judged}
 use Rattle.cert_judge.specs.declared.judged.Judged.TheVariants as judged
 use Rattle.cert_judge.specs.Judged.{JudgedBy}
@@ -34,39 +35,39 @@ use Rattle.doomsight_c.specs.Lines.{IsOfLibrary, status_in}
 use Rattle.doomsight_c.proofs.Giving.{IsLibrarys, of_reading}
 
 module _ (p : PlanParts) (t : TableParts) where
-  abbrev Saying : (AnyCert → AnyVerdict → Type 0) → Result AnyCert CertFault → Judged → Type 0
+  abbrev Saying : (Certificate → AnyVerdict → Type 0) → Result Certificate CertFault → Judged → Type 0
   Saying P r j = JudgedBy r P j
 
-  one_promise : (r : Result AnyCert CertFault) (j : Judged) → Saying (λ c v. JudgesAny p t c v) r j → Saying (λ c v. IsYesAny v ↔ IsAcceptedAny (map_of p) t.bytes c) r j
-      → Saying (λ c v. IsYesAny v → TellsSightAny (map_of p) t c) r j → Saying (λ c v. IsJudged p t c v) r j
+  one_promise : (r : Result Certificate CertFault) (j : Judged) → Saying (λ c v. Judges p t c v) r j → Saying (λ c v. IsYesAny v ↔ IsAccepted (map_of p) t.bytes c) r j
+      → Saying (λ c v. IsYesAny v → TellsSight (map_of p) t c) r j → Saying (λ c v. IsJudged p t c v) r j
   one_promise (Ok c) (judged.Verdict v) exact accepted sight = record { exact = exact; accepted = accepted; sight = sight }
   one_promise (Ok c) (judged.Unread g) exact accepted sight = absurd exact
   one_promise (Err f) (judged.Verdict v) exact accepted sight = absurd exact
   one_promise (Err f) (judged.Unread g) exact accepted sight = exact
 
-  pub promised : (r : Result AnyCert CertFault) (given : Result Judged Memory) → IfOk given (Saying (λ c v. JudgesAny p t c v) r) → IfOk given (Saying (λ c v. IsYesAny v ↔ IsAcceptedAny (map_of p) t.bytes c) r)
-      → IfOk given (Saying (λ c v. IsYesAny v → TellsSightAny (map_of p) t c) r) → IfOk given (JudgedBy r (IsJudged p t))
+  pub promised : (r : Result Certificate CertFault) (given : Result Judged Memory) → IfOk given (Saying (λ c v. Judges p t c v) r) → IfOk given (Saying (λ c v. IsYesAny v ↔ IsAccepted (map_of p) t.bytes c) r)
+      → IfOk given (Saying (λ c v. IsYesAny v → TellsSight (map_of p) t c) r) → IfOk given (JudgedBy r (IsJudged p t))
   promised r (Ok j) exact accepted sight = one_promise r j exact accepted sight
   promised r (Err e) exact accepted sight = tt
 
 -- ---- a verdict was given, or the certificate wasn't read
 
-was_read : (P : AnyCert → AnyVerdict → Type 0) (r : Result AnyCert CertFault) (v : AnyVerdict) → JudgedBy r P (judged.Verdict v) → (c : AnyCert) × (r ≡ Ok c) × P c v
+was_read : (P : Certificate → AnyVerdict → Type 0) (r : Result Certificate CertFault) (v : AnyVerdict) → JudgedBy r P (judged.Verdict v) → (c : Certificate) × (r ≡ Ok c) × P c v
 was_read P (Ok c) v h = (c, refl, h)
 was_read P (Err f) v h = absurd h
 
-wasnt_read : (P : AnyCert → AnyVerdict → Type 0) (r : Result AnyCert CertFault) (f : CertFault) → JudgedBy r P (judged.Unread f) → r ≡ Err f
+wasnt_read : (P : Certificate → AnyVerdict → Type 0) (r : Result Certificate CertFault) (f : CertFault) → JudgedBy r P (judged.Unread f) → r ≡ Err f
 wasnt_read P (Ok c) f h = absurd h
 wasnt_read P (Err g) f h = ap Err h
 
 module _ (p : PlanParts) (meet : LinesMeetAtEnds (map_of p)) (reject cert : List ℕ) (t : TableParts) (spelled : IsTableOf p.sectors reject t) (j : Judged) (judgement : IsJudgement p t cert j) where
   verdict_on : (v : AnyVerdict) → j ≡ judged.Verdict v → IsVerdictOn (map_of p) reject cert v
   verdict_on v e =
-      let r = was_read (IsJudged p t) (any_at (sizes_of p) cert) v (subst (λ (i : Judged). IsJudgement p t cert i) e judgement) in
+      let r = was_read (IsJudged p t) (certificate_at (sizes_of p) cert) v (subst (λ (i : Judged). IsJudgement p t cert i) e judgement) in
       record { plan = p; map = refl; meet = meet; table = t; spelled = spelled; parts = r.0; read = r.1; judged = r.2 }
 
   unread : (f : CertFault) → j ≡ judged.Unread f → IsUnread (map_of p) cert f
-  unread f e = record { plan = p; map = refl; read = wasnt_read (IsJudged p t) (any_at (sizes_of p) cert) f (subst (λ (i : Judged). IsJudgement p t cert i) e judgement) }
+  unread f e = record { plan = p; map = refl; read = wasnt_read (IsJudged p t) (certificate_at (sizes_of p) cert) f (subst (λ (i : Judged). IsJudgement p t cert i) e judgement) }
 
   pub checks : (r : Result Totals Status) → VerdictOf j r → ChecksMap (map_of p) reject cert r
   checks (Ok totals) h = verdict_on (verdict.Yes totals) h

@@ -1,14 +1,14 @@
 -- What is kept is what was built, why nothing is kept, and what is copied out is what is given.
 use Rattle.std.proofs.Common.{◌≡◌, ◌∙◌, ℕ, List, Option, Some, Result, Ok, Err, refl, sym, ap, subst, length, min, take, drop, arith}
-use Rattle.sight_names.specs.declared.names.Ask.{Ask}
+use Rattle.sight_names.specs.declared.names.Method.{Method}
 use Rattle.sight_names.specs.Map.{Map, map_of}
-use Rattle.cert_groups.specs.Grammar.{IsAnyInOrder}
-use Rattle.group_job.specs.declared.build.GroupBuilt.{GroupBuilt}
+use Rattle.certificates.specs.Grammar.{IsInOrder}
 use Rattle.map_answers.specs.Counts.{counts_with}
 use Rattle.map_answers.specs.Sound.{IsAuditRefusal}
 use Rattle.sight_status.specs.declared.status.Status.{Status}
 use Rattle.sight_status.specs.Answer.{Makes}
 use Rattle.sight_status.specs.Status.{IsOfBytes}
+use Rattle.whole_wad.specs.declared.building.Built.{Built}
 use Rattle.whole_wad.specs.Built.{IsBuiltOf}
 use Rattle.doomsight_c.specs.declared.counts.DoomsightCounts.{DoomsightCounts}
 use Rattle.doomsight_c.specs.declared.fault.DoomsightFault.{DoomsightFault}
@@ -37,14 +37,14 @@ module _ (tells : (s : Status) → IsOfLibrary s → status_in (fault_view s) �
 
 -- ---- what is kept
 
-pub holds : (b : GroupBuilt) (kept : Kept) (held : Option Kept) → held ≡ Some kept → (counts : DoomsightCounts) → IsWholeOf b kept.table.bytes kept.cert.items counts → HoldsWhole b held counts
+pub holds : (b : Built) (kept : Kept) (held : Option Kept) → held ≡ Some kept → (counts : DoomsightCounts) → IsWholeOf b kept.table.bytes kept.cert.items counts → HoldsWhole b held counts
 holds b kept held is counts whole = record { kept = kept; is_held = is; whole = whole }
 
-pub in_order_of : (m : Map) (ask : Ask) (b : GroupBuilt) → IsBuiltOf m ask b → IsAnyInOrder b.cert
-in_order_of m ask b is = is.in_order
+pub in_order_of : (m : Map) (by : Method) (b : Built) → IsBuiltOf m by b → IsInOrder b.cert
+in_order_of m by b is = is.in_order
 
-pub kept_of : (m : Map) (ask : Ask) (b : GroupBuilt) → IsBuiltOf m ask b → (held : Option Kept) (counts : DoomsightCounts) → HoldsWhole b held counts → IsKept (Ok m) ask held counts
-kept_of m ask b is held counts h = record { map = m; is_read = refl; built = b; is_built = is; holds = h }
+pub kept_of : (m : Map) (by : Method) (b : Built) → IsBuiltOf m by b → (held : Option Kept) (counts : DoomsightCounts) → HoldsWhole b held counts → IsKept (Ok m) by held counts
+kept_of m by b is held counts h = record { map = m; is_read = refl; built = b; is_built = is; holds = h }
 
 -- ---- what is copied out of it
 
@@ -60,7 +60,7 @@ module _ (bytes before after : List ℕ) (count : ℕ) (from : CopiesFrom bytes 
   rest = subst (λ (n : ℕ). drop n after ≡ drop n before) many from.rest
 
 pub given_of_kept : KeptIsGiven
-given_of_kept read ask held counts k reject before after count same copied =
+given_of_kept read by held counts k reject before after count same copied =
     let b = k.built in let kept = k.holds.kept in let bytes = kept.cert.items in let whole = k.holds.whole in
     let from : CopiesFrom bytes 0 before after count = subst (λ (xs : List ℕ). CopiesFrom xs 0 before after count) (ap cert_of k.holds.is_held) copied in
     let size : counts.cert_size ≡ length bytes = ap (λ (n : DoomsightCounts). n.cert_size) whole.counted in

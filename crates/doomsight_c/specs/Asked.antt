@@ -1,9 +1,10 @@
 -- What the numbers of a call ask for, and which of them are out of order.
 use Rattle.std.specs.Prelude.{ℕ, Option, Some, None, ◌==◌, if◌then◌else◌, nat_lt}
-use Rattle.sight_names.specs.declared.names.Ask.{Ask}
 use Rattle.sight_names.specs.declared.names.Ask.TheVariants.{Of, Full, Enough}
 use Rattle.sight_names.specs.declared.names.MapFormat.{MapFormat}
 use Rattle.sight_names.specs.declared.names.MapFormat.TheVariants.{Doom, Hexen}
+use Rattle.sight_names.specs.declared.names.Method.{Method}
+use Rattle.sight_names.specs.declared.names.Method.TheVariants.{Within, Exact}
 use Rattle.sight_names.specs.declared.names.Reading.{Reading}
 use Rattle.doomsight_c.specs.declared.fault.DoomsightFault.{DoomsightFault}
 use Rattle.doomsight_c.specs.Faults.{wide}
@@ -16,16 +17,19 @@ format_of n = if n == 1 then Hexen else Doom
 abbrev pub reading_of : ℕ → ℕ → Reading
 reading_of format flags = record { format = format_of format; large = flags == 1 }
 
--- 0 is a budget that is enough for every source, the greatest number of 64 bits is none, and 1 to 2^32 are budgets
-abbrev pub ask_of : ℕ → Ask
-ask_of n =
-    if n == 0 then Enough
-    else if n == 18446744073709551615 then Full
-    else Of n
+-- 0 is a budget that is enough for every source, the greatest number of 64 bits is none, and 1 to 2^32 are budgets; the greatest
+-- number but one stands in the place of a budget where every pair is decided
+abbrev pub method_of : ℕ → Method
+method_of n =
+    if n == 0 then Within Enough
+    else if n == 18446744073709551615 then Within Full
+    else if n == 18446744073709551614 then Exact
+    else Within (Of n)
 
 abbrev pub budget_fault : ℕ → Option DoomsightFault
 budget_fault n =
     if n == 18446744073709551615 then None
+    else if n == 18446744073709551614 then None
     else if nat_lt 4294967296 n then Some (wide 2 14 n 0)
     else None
 

@@ -1,16 +1,16 @@
 -- What the build of four lumps gives.
 use Rattle.std.specs.Prelude.{◌≡◌, ◌≢◌, ◌<◌, ◌-◌, ◌*◌, ◌^◌, ◌⊎◌, ℕ, List, Option, Some, None, Result, Ok, Err, take, drop, min, length, ⊤}
 use Rattle.std.specs.Int.{div_ceil}
-use Rattle.sight_names.specs.declared.names.Ask.{Ask}
+use Rattle.sight_names.specs.declared.names.Method.{Method}
 use Rattle.sight_names.specs.Map.{Map}
-use Rattle.cert_groups.specs.declared.cert.AnyCert.{AnyCert}
-use Rattle.cert_groups.specs.Grammar.{SpellsAny, sizes_of}
-use Rattle.group_job.specs.declared.build.GroupBuilt.{GroupBuilt}
+use Rattle.certificates.specs.declared.certificate.Certificate.{Certificate}
+use Rattle.certificates.specs.Grammar.{Spells, sizes_of}
 use Rattle.map_answers.specs.declared.counts.Counts.{Counts}
 use Rattle.map_answers.specs.Counts.{counts_with}
 use Rattle.map_answers.specs.Sound.{IsAuditRefusal}
 use Rattle.sight_status.specs.declared.status.Status.{Status}
 use Rattle.sight_status.specs.declared.status.Status.TheVariants as status
+use Rattle.whole_wad.specs.declared.building.Built.{Built}
 use Rattle.whole_wad.specs.Built.{IsBuiltOf}
 use Rattle.doomsight_c.specs.declared.fault.DoomsightFault.{DoomsightFault}
 use Rattle.doomsight_c.specs.declared.counts.DoomsightCounts.{DoomsightCounts}
@@ -23,9 +23,9 @@ table_size n = div_ceil (n * n) 8
 
 -- the front of the spelling stands at the front of the buffer, as far as it goes; what is behind it stays; and the number is that of
 -- the bytes of the spelling, unless it is the greatest of 64 bits
-pub record SpellsInto (cert : AnyCert) (before after : List ℕ) (size : ℕ) : Type 0 where
+pub record SpellsInto (cert : Certificate) (before after : List ℕ) (size : ℕ) : Type 0 where
   pub bytes : List ℕ
-  pub spells : SpellsAny (sizes_of cert) bytes cert
+  pub spells : Spells (sizes_of cert) bytes cert
   pub front : take (min (length before) (length bytes)) after ≡ take (min (length before) (length bytes)) bytes
   pub rest : drop (min (length before) (length bytes)) after ≡ drop (min (length before) (length bytes)) before
   pub counted : size < 2 ^ 64 - 1 → size ≡ length bytes
@@ -35,17 +35,17 @@ abbrev pub counts_view : Counts → ℕ → DoomsightCounts
 counts_view c size = record { sectors = c.sectors; set = c.set; clear = c.clear; listed = c.listed; cert_size = size }
 
 -- what was built stands in the buffers
-pub record IsPut (b : GroupBuilt) (reject cert_before cert_after : List ℕ) (counts : DoomsightCounts) : Type 0 where
+pub record IsPut (b : Built) (reject cert_before cert_after : List ℕ) (counts : DoomsightCounts) : Type 0 where
   pub table : reject ≡ b.table.bytes
   pub cert : SpellsInto b.cert cert_before cert_after counts.cert_size
   pub counted : counts ≡ counts_view (counts_with b.table (length b.listed)) counts.cert_size
 
 -- the table, the counts and, as far as there is room, the certificate of the map that was read
-pub record IsGiven (read : Result Map Status) (ask : Ask) (reject cert_before cert_after : List ℕ) (counts : DoomsightCounts) : Type 0 where
+pub record IsGiven (read : Result Map Status) (by : Method) (reject cert_before cert_after : List ℕ) (counts : DoomsightCounts) : Type 0 where
   pub map : Map
   pub is_read : read ≡ Ok map
-  pub built : GroupBuilt
-  pub is_built : IsBuiltOf map ask built
+  pub built : Built
+  pub is_built : IsBuiltOf map by built
   pub put : IsPut built reject cert_before cert_after counts
 
 -- the lumps call for this refusal: they are no map, or the map isn't sound
@@ -82,8 +82,8 @@ IsNotBuilt None read size fault = IsNoTable read size fault
 -- ---- parts of it
 
 -- what was built of the map that was read, for a buffer of this length
-pub record IsBuiltFor (read : Result Map Status) (ask : Ask) (size : ℕ) (b : GroupBuilt) : Type 0 where
+pub record IsBuiltFor (read : Result Map Status) (by : Method) (size : ℕ) (b : Built) : Type 0 where
   pub map : Map
   pub is_read : read ≡ Ok map
-  pub is_built : IsBuiltOf map ask b
+  pub is_built : IsBuiltOf map by b
   pub fits : size ≡ table_size b.table.n

@@ -9,13 +9,14 @@ use Rattle.sight_names.specs.declared.faults.TableFault.TheVariants as length_of
 use Rattle.reject_bits.specs.Parts.{HasSameBits, IsWhole, TableParts, Takes}
 use Rattle.cert_format.specs.Sizes.{sizes_of}
 use Rattle.cert_checker.specs.declared.verdict.Totals.{Totals}
-use Rattle.cert_groups.specs.declared.cert.AnyCert.{AnyCert}
-use Rattle.cert_groups.specs.Reading.{any_at}
-use Rattle.accepted_groups.specs.Accepted.{IsAcceptedAny}
+use Rattle.certificates.specs.declared.certificate.Certificate.{Certificate}
+use Rattle.certificates.specs.Reading.{certificate_at}
 use Rattle.group_checker.specs.declared.verdict.AnyFault.TheVariants as fault
 use Rattle.group_checker.specs.declared.verdict.AnyVerdict.{AnyVerdict}
 use Rattle.group_checker.specs.declared.verdict.AnyVerdict.TheVariants as verdict
-use Rattle.group_checker.specs.Judged.{IsYesAny, JudgesAny, TellsSightAny}
+use Rattle.group_checker.specs.Judged.{IsYesAny}
+use Rattle.any_judge.specs.Accepted.{IsAccepted, TellsSight}
+use Rattle.any_judge.specs.Judged.{Judges}
 use Rattle.cert_judge.specs.declared.judged.Judged.{Judged}
 use Rattle.cert_judge.specs.declared.judged.Judged.TheVariants as judged
 use Rattle.cert_judge.specs.Judged.{JudgedBy}
@@ -32,15 +33,15 @@ use Rattle.doomsight_c.specs.Lines.{status_in}
 abbrev pub totals_view : Totals → ℕ → ℕ → DoomsightCounts
 totals_view t sectors size = record { sectors = sectors; set = t.set; clear = t.clear; listed = t.listed; cert_size = size }
 
--- what is promised of a verdict on a table by a certificate of either version
-pub record IsJudged (p : PlanParts) (table : TableParts) (cert : AnyCert) (v : AnyVerdict) : Type 0 where
-  pub exact : JudgesAny p table cert v
+-- what is promised of a verdict on a table by a certificate of any version
+pub record IsJudged (p : PlanParts) (table : TableParts) (cert : Certificate) (v : AnyVerdict) : Type 0 where
+  pub exact : Judges p table cert v
   -- it is yes exactly where the certificate is accepted for the table, and then no rejected pair sees
-  pub accepted : IsYesAny v ↔ IsAcceptedAny (map_of p) table.bytes cert
-  pub sight : IsYesAny v → TellsSightAny (map_of p) table cert
+  pub accepted : IsYesAny v ↔ IsAccepted (map_of p) table.bytes cert
+  pub sight : IsYesAny v → TellsSight (map_of p) table cert
 
 abbrev pub IsJudgement : PlanParts → TableParts → List ℕ → Judged → Type 0
-IsJudgement p table bytes given = JudgedBy (any_at (sizes_of p) bytes) (IsJudged p table) given
+IsJudgement p table bytes given = JudgedBy (certificate_at (sizes_of p) bytes) (IsJudged p table) given
 
 -- the table of n sectors that the bytes spell: their bits, with the spare ones clear
 pub record IsTableOf (n : ℕ) (bytes : List ℕ) (table : TableParts) : Type 0 where
@@ -55,15 +56,15 @@ pub record IsVerdictOn (m : Map) (reject cert : List ℕ) (v : AnyVerdict) : Typ
   pub meet : LinesMeetAtEnds m
   pub table : TableParts
   pub spelled : IsTableOf m.sectors reject table
-  pub parts : AnyCert
-  pub read : any_at (sizes_of plan) cert ≡ Ok parts
+  pub parts : Certificate
+  pub read : certificate_at (sizes_of plan) cert ≡ Ok parts
   pub judged : IsJudged plan table parts v
 
 -- the bytes spell no certificate of the map
 pub record IsUnread (m : Map) (cert : List ℕ) (f : CertFault) : Type 0 where
   pub plan : PlanParts
   pub map : map_of plan ≡ m
-  pub read : any_at (sizes_of plan) cert ≡ Err f
+  pub read : certificate_at (sizes_of plan) cert ≡ Err f
 
 -- the totals of a yes, or why it is none
 abbrev pub ChecksMap : Map → List ℕ → List ℕ → Result Totals Status → Type 0

@@ -1,9 +1,9 @@
 -- What a build that is kept gives, and what is copied out of it.
 use Rattle.std.specs.Prelude.{◌≡◌, ℕ, List, [], Option, Some, None, Result, Ok}
-use Rattle.sight_names.specs.declared.names.Ask.{Ask}
+use Rattle.sight_names.specs.declared.names.Method.{Method}
 use Rattle.sight_names.specs.Map.{Map}
-use Rattle.group_job.specs.declared.build.GroupBuilt.{GroupBuilt}
 use Rattle.sight_status.specs.declared.status.Status.{Status}
+use Rattle.whole_wad.specs.declared.building.Built.{Built}
 use Rattle.whole_wad.specs.Built.{IsBuiltOf}
 use Rattle.doomsight_c.specs.declared.fault.DoomsightFault.{DoomsightFault}
 use Rattle.doomsight_c.specs.declared.counts.DoomsightCounts.{DoomsightCounts}
@@ -24,17 +24,17 @@ cert_of None = []
 cert_of (Some kept) = kept.cert.items
 
 -- the handle keeps something, and that is the whole of what was built
-pub record HoldsWhole (b : GroupBuilt) (held : Option Kept) (counts : DoomsightCounts) : Type 0 where
+pub record HoldsWhole (b : Built) (held : Option Kept) (counts : DoomsightCounts) : Type 0 where
   pub kept : Kept
   pub is_held : held ≡ Some kept
   pub whole : IsWholeOf b kept.table.bytes kept.cert.items counts
 
 -- the handle keeps the table and the whole certificate of the map that was read, and these are their counts
-pub record IsKept (read : Result Map Status) (ask : Ask) (held : Option Kept) (counts : DoomsightCounts) : Type 0 where
+pub record IsKept (read : Result Map Status) (by : Method) (held : Option Kept) (counts : DoomsightCounts) : Type 0 where
   pub map : Map
   pub is_read : read ≡ Ok map
-  pub built : GroupBuilt
-  pub is_built : IsBuiltOf map ask built
+  pub built : Built
+  pub is_built : IsBuiltOf map by built
   pub holds : HoldsWhole built held counts
 
 -- the numbers are those of a refusal for which the lumps call, and tell it
@@ -52,5 +52,5 @@ IsNotKept None read fault = IsCalledFor read fault
 -- What is copied out of a kept build, the whole table and the front of the certificate, is what the build into buffers gives. So that
 -- is a build that is kept, copied and freed.
 abbrev pub KeptIsGiven : Type 0
-KeptIsGiven = (read : Result Map Status) (ask : Ask) (held : Option Kept) (counts : DoomsightCounts) → IsKept read ask held counts
-    → (reject before after : List ℕ) (count : ℕ) → reject ≡ table_of held → CopiesFrom (cert_of held) 0 before after count → IsGiven read ask reject before after counts
+KeptIsGiven = (read : Result Map Status) (by : Method) (held : Option Kept) (counts : DoomsightCounts) → IsKept read by held counts
+    → (reject before after : List ℕ) (count : ℕ) → reject ≡ table_of held → CopiesFrom (cert_of held) 0 before after count → IsGiven read by reject before after counts

@@ -1,10 +1,13 @@
 //! What the numbers of a call ask for.
 
 ghost use Rattle.std.specs.Prelude.{◌≡◌, ◌≢◌, IfSome};
-ghost use Rattle.doomsight_c.specs.Asked.{ask_of as ask_meant, budget_fault as budget_wrong, call_fault as call_wrong, format_of as format_meant, reading_fault as reading_wrong, reading_of as reading_meant};
+ghost use Rattle.doomsight_c.specs.Asked.{budget_fault as budget_wrong, call_fault as call_wrong, format_of as format_meant, method_of as method_meant, reading_fault as reading_wrong, reading_of as reading_meant};
 
 use crate::fault::{DoomsightFault, wide};
-use sight_names::{Ask, MapFormat, Reading};
+use sight_names::{Ask, MapFormat, Method, Reading};
+
+/// What stands in the place of a budget where every pair is to be decided: the greatest number but one.
+const EXACT: u64 = u64::MAX - 1;
 
 fn format_of(format: u32) -> MapFormat
     ensures { result ≡ format_meant format }
@@ -25,17 +28,20 @@ pub fn reading_of(format: u32, flags: u32) -> Reading
     }
 }
 
-/// The budget of a number: 0 is one that is enough, and the greatest number none.
-pub fn ask_of(budget: u64) -> Ask
-    ensures { result ≡ ask_meant budget }
+/// The method of a number: 0 is a budget that is enough, the greatest number none, and the one before it decides every pair.
+pub fn method_of(budget: u64) -> Method
+    ensures { result ≡ method_meant budget }
 {
     if budget == 0 {
-        return Ask::Enough;
+        return Method::Within(Ask::Enough);
     }
     if budget == u64::MAX {
-        return Ask::Full;
+        return Method::Within(Ask::Full);
     }
-    Ask::Of(budget)
+    if budget == EXACT {
+        return Method::Exact;
+    }
+    Method::Within(Ask::Of(budget))
 }
 
 /// The first number that doesn't tell how lumps are read.
@@ -56,7 +62,7 @@ fn budget_fault(budget: u64) -> Option<DoomsightFault>
     ensures is { result ≡ budget_wrong budget }
     ensures code { IfSome result (λ f. f.code ≢ 0) }
 {
-    if budget == u64::MAX {
+    if budget >= EXACT {
         return None;
     }
     if budget > 4_294_967_296 {

@@ -2,6 +2,7 @@
 
 ghost use Rattle.std.specs.Prelude.{◌≡◌, ◌≢◌, IfErr, IfOk, Ok};
 ghost use Rattle.sight_names.specs.Map.{map_of};
+ghost use Rattle.sight_names.specs.declared.names.Method.TheVariants.{Exact, Within};
 ghost use Rattle.map_answers.specs.Input.{of_four_lumps};
 ghost use Rattle.map_answers.specs.Sound.{HasSoundLines};
 ghost use Rattle.reject_bits.specs.Parts.{IsWhole};
@@ -10,15 +11,17 @@ ghost use Rattle.doomsight_c.specs.Built.{IsBuiltFor, IsNoTable, table_size as s
 
 use crate::fault::{DoomsightFault, fault_of, wide};
 use crate::line::faults_tell_statuses;
+use certificates::Certificate;
+use exact_job::build_exact_alone;
 use face_groups::GroupFault;
-use group_job::{GroupBuilt, build_table_alone};
+use group_job::build_table_alone;
 use map_answers::{audit_lines_of, plan_of};
 use reject_bits::Table;
-use sight_names::{Ask, Plan, Reading};
+use sight_names::{Ask, Items, Method, Plan, Reading};
 use sight_status::{Flaw, Status};
 use sight_workers::OpenGate;
 use std::alloc::Global;
-use whole_wad::has_sizes_of_map;
+use whole_wad::{Built, has_sizes_of_map};
 
 fn are_bytes(bytes: &[u8])
     ensures { AreBytes bytes.now }
@@ -34,27 +37,62 @@ fn is_whole(table: &Table)
     are_bytes(table.as_bytes());
 }
 
-fn build_sound(alloc: Global, plan: &Plan, ask: Ask) -> Result<GroupBuilt, Status>
+/// Within a budget.
+fn build_within(alloc: Global, plan: &Plan, budget: Ask) -> Result<Built, Status>
     requires audited { HasSoundLines (map_of plan.now) }
-    ensures built { Builds (map_of plan.now) ask result }
+    ensures built { Builds (map_of plan.now) (Within budget) result }
 {
     has_sizes_of_map(plan);
-    match build_table_alone(alloc, plan, ask, &OpenGate) {
+    match build_table_alone(alloc, plan, budget, &OpenGate) {
         Ok(built) => {
             is_whole(&built.table);
-            Ok(built)
+            Ok(Built {
+                table: built.table,
+                listed: built.listed,
+                cert: Certificate::Listing(built.cert),
+            })
         }
         Err(GroupFault::Open { side }) => Err(Status::BadMap(Flaw::Open(side))),
         Err(GroupFault::Memory) => Err(Status::Memory),
     }
 }
 
+/// Every pair decided.
+fn build_deciding(alloc: Global, plan: &Plan) -> Result<Built, Status>
+    requires audited { HasSoundLines (map_of plan.now) }
+    ensures built { Builds (map_of plan.now) Exact result }
+{
+    has_sizes_of_map(plan);
+    match build_exact_alone(alloc, plan) {
+        Ok(built) => {
+            is_whole(&built.table);
+            Ok(Built {
+                table: built.table,
+                listed: Items::of(Vec::new(alloc)),
+                cert: Certificate::Exact(built.cert),
+            })
+        }
+        Err(GroupFault::Open { side }) => Err(Status::BadMap(Flaw::Open(side))),
+        Err(GroupFault::Memory) => Err(Status::Memory),
+    }
+}
+
+fn build_sound(alloc: Global, plan: &Plan, method: Method) -> Result<Built, Status>
+    requires audited { HasSoundLines (map_of plan.now) }
+    ensures built { Builds (map_of plan.now) method result }
+{
+    match method {
+        Method::Within(budget) => build_within(alloc, plan, budget),
+        Method::Exact => build_deciding(alloc, plan),
+    }
+}
+
 /// What `whole_wad::build` builds by one worker, without a thread.
-pub fn build_alone(alloc: Global, plan: &Plan, ask: Ask) -> Result<GroupBuilt, Status>
-    ensures built { Builds (map_of plan.now) ask result }
+pub fn build_alone(alloc: Global, plan: &Plan, method: Method) -> Result<Built, Status>
+    ensures built { Builds (map_of plan.now) method result }
 {
     audit_lines_of(alloc, plan)?;
-    build_sound(alloc, plan, ask)
+    build_sound(alloc, plan, method)
 }
 
 /// How many bytes the table of so many sectors has.
@@ -78,17 +116,17 @@ fn unfit_for(plan: &Plan, room: usize) -> DoomsightFault
 fn build_fitting(
     alloc: Global,
     plan: &Plan,
-    ask: Ask,
+    method: Method,
     room: usize,
-) -> Result<GroupBuilt, DoomsightFault>
+) -> Result<Built, DoomsightFault>
     requires { room ≡ size_of_table plan.now.sectors }
-    ensures built { IfOk result (IsBuiltFor (Ok (map_of plan.now)) ask room) }
+    ensures built { IfOk result (IsBuiltFor (Ok (map_of plan.now)) method room) }
     ensures refused { IfErr result (IsNoTable (Ok (map_of plan.now)) room) }
     ensures code { IfErr result (λ f. f.code ≢ 0) }
 {
     let _ = room;
     faults_tell_statuses();
-    match build_alone(alloc, plan, ask) {
+    match build_alone(alloc, plan, method) {
         Ok(built) => Ok(built),
         Err(status) => Err(fault_of(&status)),
     }
@@ -97,17 +135,17 @@ fn build_fitting(
 fn build_plan(
     alloc: Global,
     plan: &Plan,
-    ask: Ask,
+    method: Method,
     room: usize,
-) -> Result<GroupBuilt, DoomsightFault>
-    ensures built { IfOk result (IsBuiltFor (Ok (map_of plan.now)) ask room) }
+) -> Result<Built, DoomsightFault>
+    ensures built { IfOk result (IsBuiltFor (Ok (map_of plan.now)) method room) }
     ensures refused { IfErr result (IsNoTable (Ok (map_of plan.now)) room) }
     ensures code { IfErr result (λ f. f.code ≢ 0) }
 {
     if room != table_size(plan.sectors) {
         return Err(unfit_for(plan, room));
     }
-    build_fitting(alloc, plan, ask, room)
+    build_fitting(alloc, plan, method, room)
 }
 
 /// The table and the certificate of the map that the lumps spell, for a buffer with room for so many bytes, or why there is
@@ -119,16 +157,16 @@ pub fn build_lumps(
     sidedefs: &[u8],
     vertexes: &[u8],
     sectors: &[u8],
-    ask: Ask,
+    method: Method,
     room: usize,
-) -> Result<GroupBuilt, DoomsightFault>
-    ensures built { IfOk result (IsBuiltFor (of_four_lumps reading linedefs.now sidedefs.now vertexes.now sectors.now) ask room) }
+) -> Result<Built, DoomsightFault>
+    ensures built { IfOk result (IsBuiltFor (of_four_lumps reading linedefs.now sidedefs.now vertexes.now sectors.now) method room) }
     ensures refused { IfErr result (IsNoTable (of_four_lumps reading linedefs.now sidedefs.now vertexes.now sectors.now) room) }
     ensures code { IfErr result (λ f. f.code ≢ 0) }
 {
     faults_tell_statuses();
     match plan_of(alloc, reading, linedefs, sidedefs, vertexes, sectors) {
-        Ok(plan) => build_plan(alloc, &plan, ask, room),
+        Ok(plan) => build_plan(alloc, &plan, method, room),
         Err(status) => Err(fault_of(&status)),
     }
 }

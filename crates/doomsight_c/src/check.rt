@@ -10,8 +10,9 @@ ghost use Rattle.doomsight_c.specs.Checked.{ChecksMap, IsJudgement, IsUnproved, 
 use crate::counts::{DoomsightCounts, counts_of_totals};
 use crate::fault::{DoomsightFault, fault_of};
 use crate::line::faults_tell_statuses;
+use any_judge::Judge;
 use cert_checker::Totals;
-use cert_judge::{Judge, Judged};
+use cert_judge::Judged;
 use group_checker::{AnyFault, AnyVerdict};
 use map_answers::{audit_lines_of, plan_of};
 use reject_bits::Table;
@@ -30,7 +31,7 @@ fn table_of(alloc: Global, n: u16, bytes: &[u8]) -> Result<Table, Status>
     }
 }
 
-/// What the bytes of a certificate give.
+/// What the bytes of a certificate of any version give.
 fn judge_bytes(alloc: Global, plan: &Plan, table: &Table, cert: &[u8]) -> Result<Judged, Memory>
     requires audited { LinesMeetAtEnds (map_of plan.now) }
     requires table { table.now.n ≡ plan.now.sectors }

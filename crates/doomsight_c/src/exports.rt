@@ -1,25 +1,25 @@
 //! The functions that C calls. `doomsight.h` declares them, and wraps each of those that take lumps.
 
 ghost use Rattle.std.specs.Prelude.{◌≡◌, ◌≢◌, IfErr, IfOk, None, OnErr, OnOk, length, pos};
-ghost use Rattle.cert_groups.specs.Grammar.{IsAnyInOrder};
+ghost use Rattle.certificates.specs.Grammar.{IsInOrder};
 ghost use Rattle.map_answers.specs.Input.{of_four_lumps};
 ghost use Rattle.sight_status.specs.Texts.{text_of};
-ghost use Rattle.doomsight_c.specs.Asked.{ask_of as ask_meant, call_fault as call_wrong, reading_fault as reading_wrong, reading_of as reading_meant};
+ghost use Rattle.doomsight_c.specs.Asked.{call_fault as call_wrong, method_of as method_meant, reading_fault as reading_wrong, reading_of as reading_meant};
 ghost use Rattle.doomsight_c.specs.Built.{IsGiven, IsNotBuilt, IsPut, table_size};
 ghost use Rattle.doomsight_c.specs.Checked.{IsNotProved, IsYes};
 ghost use Rattle.doomsight_c.specs.Lines.{PutsText, TellsText, status_in};
 
-use crate::asked::{ask_of, call_fault, reading_fault, reading_of};
+use crate::asked::{call_fault, method_of, reading_fault, reading_of};
 use crate::build::build_lumps;
 use crate::check::check_lumps;
 use crate::counts::{DoomsightCounts, counts_of};
 use crate::fault::{DoomsightFault, two};
 use crate::line::status_of;
 use crate::spell::spell;
-use group_job::GroupBuilt;
 use map_answers::counts_of as counts_in;
 use sight_status::line_of;
 use std::alloc::Global;
+use whole_wad::Built;
 
 /// The number of this interface.
 #[unsafe(no_mangle)]
@@ -63,8 +63,8 @@ pub extern "C" fn doomsight_layout(fault: &mut DoomsightFault, counts: &mut Doom
 }
 
 /// Puts what was built into the buffers.
-fn put(built: &GroupBuilt, reject: &mut [u8], cert: &mut [u8], counts: &mut DoomsightCounts)
-    requires in_order { IsAnyInOrder built.now.cert }
+fn put(built: &Built, reject: &mut [u8], cert: &mut [u8], counts: &mut DoomsightCounts)
+    requires in_order { IsInOrder built.now.cert }
     requires fits { length reject.old ≡ table_size built.now.table.n }
     ensures put { IsPut built.now reject.new cert.old cert.new counts.new }
 {
@@ -88,7 +88,7 @@ fn try_build(
     counts: &mut DoomsightCounts,
 ) -> Result<(), DoomsightFault>
     ensures asked { OnOk result (call_wrong format flags budget ≡ None) }
-    ensures given { OnOk result (IsGiven (of_four_lumps (reading_meant format flags) linedefs.now sidedefs.now vertexes.now sectors.now) (ask_meant budget) reject.new cert.old cert.new counts.new) }
+    ensures given { OnOk result (IsGiven (of_four_lumps (reading_meant format flags) linedefs.now sidedefs.now vertexes.now sectors.now) (method_meant budget) reject.new cert.old cert.new counts.new) }
     ensures refused { IfErr result (IsNotBuilt (call_wrong format flags budget) (of_four_lumps (reading_meant format flags) linedefs.now sidedefs.now vertexes.now sectors.now) (length reject.old)) }
     ensures code { IfErr result (λ f. f.code ≢ 0) }
     ensures kept { OnErr result ((reject.new ≡ reject.old) × (cert.new ≡ cert.old) × (counts.new ≡ counts.old)) }
@@ -103,7 +103,7 @@ fn try_build(
         sidedefs,
         vertexes,
         sectors,
-        ask_of(budget),
+        method_of(budget),
         reject.len(),
     )?;
     put(&built, reject, cert, counts);
@@ -128,7 +128,7 @@ pub extern "C" fn doomsight_build_buffers(
     fault: &mut DoomsightFault,
 ) -> i32
     ensures asked { result ≡ pos 0 → call_wrong format flags budget ≡ None }
-    ensures given { result ≡ pos 0 → IsGiven (of_four_lumps (reading_meant format flags) linedefs.now sidedefs.now vertexes.now sectors.now) (ask_meant budget) reject.new cert.old cert.new counts.new }
+    ensures given { result ≡ pos 0 → IsGiven (of_four_lumps (reading_meant format flags) linedefs.now sidedefs.now vertexes.now sectors.now) (method_meant budget) reject.new cert.old cert.new counts.new }
     ensures refused { result ≢ pos 0 → IsNotBuilt (call_wrong format flags budget) (of_four_lumps (reading_meant format flags) linedefs.now sidedefs.now vertexes.now sectors.now) (length reject.old) fault.new }
     ensures code { result ≢ pos 0 → result ≡ pos fault.new.code }
     ensures kept { result ≢ pos 0 → (reject.new ≡ reject.old) × (cert.new ≡ cert.old) × (counts.new ≡ counts.old) }

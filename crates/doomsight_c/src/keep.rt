@@ -2,7 +2,7 @@
 
 ghost use Rattle.std.specs.Prelude.{◌≢◌, IfErr, IfOk, Ok};
 ghost use Rattle.sight_names.specs.Map.{map_of};
-ghost use Rattle.cert_groups.specs.Grammar.{IsAnyInOrder};
+ghost use Rattle.certificates.specs.Grammar.{IsInOrder};
 ghost use Rattle.map_answers.specs.Input.{of_four_lumps};
 ghost use Rattle.map_answers.specs.Sound.{IsAuditRefusal};
 ghost use Rattle.doomsight_c.specs.Keeping.{HoldsWhole, IsCalledFor, IsKept, KeptIsGiven};
@@ -13,15 +13,15 @@ use crate::fault::{DoomsightFault, fault_of};
 use crate::handle::DoomsightKept;
 use crate::kept::spell_whole;
 use crate::line::faults_tell_statuses;
-use group_job::GroupBuilt;
 use map_answers::plan_of;
-use sight_names::{Ask, Memory, Plan, Reading};
+use sight_names::{Memory, Method, Plan, Reading};
 use sight_status::Status;
 use std::alloc::Global;
+use whole_wad::Built;
 
 /// Puts the whole of what was built behind a handle.
-fn hold(alloc: Global, built: GroupBuilt) -> Result<(DoomsightKept, DoomsightCounts), Memory>
-    requires in_order { IsAnyInOrder built.cert }
+fn hold(alloc: Global, built: Built) -> Result<(DoomsightKept, DoomsightCounts), Memory>
+    requires in_order { IsInOrder built.cert }
     ensures whole { IfOk result (λ r. HoldsWhole built r.0.value r.1) }
 {
     let (kept, counts) = spell_whole(alloc, built)?;
@@ -36,12 +36,12 @@ fn hold(alloc: Global, built: GroupBuilt) -> Result<(DoomsightKept, DoomsightCou
 fn keep_audited(
     alloc: Global,
     plan: &Plan,
-    ask: Ask,
+    method: Method,
 ) -> Result<(DoomsightKept, DoomsightCounts), Status>
-    ensures kept { IfOk result (λ r. IsKept (Ok (map_of plan.now)) ask r.0.value r.1) }
+    ensures kept { IfOk result (λ r. IsKept (Ok (map_of plan.now)) method r.0.value r.1) }
     ensures refused { IfErr result (IsAuditRefusal (map_of plan.now)) }
 {
-    let built = build_alone(alloc, plan, ask)?;
+    let built = build_alone(alloc, plan, method)?;
     match hold(alloc, built) {
         Ok(held) => Ok(held),
         Err(_) => Err(Status::Memory),
@@ -51,14 +51,14 @@ fn keep_audited(
 fn keep_plan(
     alloc: Global,
     plan: &Plan,
-    ask: Ask,
+    method: Method,
 ) -> Result<(DoomsightKept, DoomsightCounts), DoomsightFault>
-    ensures kept { IfOk result (λ r. IsKept (Ok (map_of plan.now)) ask r.0.value r.1) }
+    ensures kept { IfOk result (λ r. IsKept (Ok (map_of plan.now)) method r.0.value r.1) }
     ensures refused { IfErr result (IsCalledFor (Ok (map_of plan.now))) }
     ensures code { IfErr result (λ f. f.code ≢ 0) }
 {
     faults_tell_statuses();
-    match keep_audited(alloc, plan, ask) {
+    match keep_audited(alloc, plan, method) {
         Ok(held) => Ok(held),
         Err(status) => Err(fault_of(&status)),
     }
@@ -72,15 +72,15 @@ pub fn keep_lumps(
     sidedefs: &[u8],
     vertexes: &[u8],
     sectors: &[u8],
-    ask: Ask,
+    method: Method,
 ) -> Result<(DoomsightKept, DoomsightCounts), DoomsightFault>
-    ensures kept { IfOk result (λ r. IsKept (of_four_lumps reading linedefs.now sidedefs.now vertexes.now sectors.now) ask r.0.value r.1) }
+    ensures kept { IfOk result (λ r. IsKept (of_four_lumps reading linedefs.now sidedefs.now vertexes.now sectors.now) method r.0.value r.1) }
     ensures refused { IfErr result (IsCalledFor (of_four_lumps reading linedefs.now sidedefs.now vertexes.now sectors.now)) }
     ensures code { IfErr result (λ f. f.code ≢ 0) }
 {
     faults_tell_statuses();
     match plan_of(alloc, reading, linedefs, sidedefs, vertexes, sectors) {
-        Ok(plan) => keep_plan(alloc, &plan, ask),
+        Ok(plan) => keep_plan(alloc, &plan, method),
         Err(status) => Err(fault_of(&status)),
     }
 }

@@ -2,11 +2,11 @@
 
 ghost use Rattle.std.specs.Prelude.{◌≡◌, ◌≢◌, IfErr, IfOk, None, OnOk, length, pos};
 ghost use Rattle.map_answers.specs.Input.{of_four_lumps};
-ghost use Rattle.doomsight_c.specs.Asked.{ask_of as ask_meant, call_fault as call_wrong, reading_of as reading_meant};
+ghost use Rattle.doomsight_c.specs.Asked.{call_fault as call_wrong, method_of as method_meant, reading_of as reading_meant};
 ghost use Rattle.doomsight_c.specs.Keeping.{IsKept, IsNotKept, cert_of, table_of};
 ghost use Rattle.doomsight_c.specs.Piece.{CopiesFrom};
 
-use crate::asked::{ask_of, call_fault, reading_of};
+use crate::asked::{call_fault, method_of, reading_of};
 use crate::counts::DoomsightCounts;
 use crate::fault::{DoomsightFault, two};
 use crate::handle::DoomsightKept;
@@ -26,7 +26,7 @@ fn try_keep(
     budget: u64,
 ) -> Result<(DoomsightKept, DoomsightCounts), DoomsightFault>
     ensures asked { OnOk result (call_wrong format flags budget ≡ None) }
-    ensures kept { IfOk result (λ r. IsKept (of_four_lumps (reading_meant format flags) linedefs.now sidedefs.now vertexes.now sectors.now) (ask_meant budget) r.0.value r.1) }
+    ensures kept { IfOk result (λ r. IsKept (of_four_lumps (reading_meant format flags) linedefs.now sidedefs.now vertexes.now sectors.now) (method_meant budget) r.0.value r.1) }
     ensures refused { IfErr result (IsNotKept (call_wrong format flags budget) (of_four_lumps (reading_meant format flags) linedefs.now sidedefs.now vertexes.now sectors.now)) }
     ensures code { IfErr result (λ f. f.code ≢ 0) }
 {
@@ -40,7 +40,7 @@ fn try_keep(
         sidedefs,
         vertexes,
         sectors,
-        ask_of(budget),
+        method_of(budget),
     )
 }
 
@@ -61,7 +61,7 @@ pub extern "C" fn doomsight_keep_buffers(
     fault: &mut DoomsightFault,
 ) -> i32
     ensures asked { result ≡ pos 0 → call_wrong format flags budget ≡ None }
-    ensures kept { result ≡ pos 0 → IsKept (of_four_lumps (reading_meant format flags) linedefs.now sidedefs.now vertexes.now sectors.now) (ask_meant budget) kept.new.value counts.new }
+    ensures kept { result ≡ pos 0 → IsKept (of_four_lumps (reading_meant format flags) linedefs.now sidedefs.now vertexes.now sectors.now) (method_meant budget) kept.new.value counts.new }
     ensures refused { result ≢ pos 0 → IsNotKept (call_wrong format flags budget) (of_four_lumps (reading_meant format flags) linedefs.now sidedefs.now vertexes.now sectors.now) fault.new }
     ensures code { result ≢ pos 0 → result ≡ pos fault.new.code }
     ensures same { result ≢ pos 0 → (kept.new.value ≡ kept.old.value) × (counts.new ≡ counts.old) }

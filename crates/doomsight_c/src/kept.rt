@@ -1,16 +1,16 @@
 //! What a build leaves, whole.
 
 ghost use Rattle.std.specs.Prelude.{IfOk};
-ghost use Rattle.cert_groups.specs.Grammar.{IsAnyInOrder};
+ghost use Rattle.certificates.specs.Grammar.{IsInOrder};
 ghost use Rattle.doomsight_c.specs.Whole.{IsWholeOf};
 
 use crate::counts::{DoomsightCounts, counts_of};
-use cert_groups::print_any;
-use group_job::GroupBuilt;
+use crate::spell::print;
 use map_answers::counts_of as counts_in;
 use reject_bits::Table;
 use sight_names::Memory;
 use std::alloc::Global;
+use whole_wad::Built;
 
 /// The table of a map, and the bytes of its whole certificate.
 #[derive(Drop)]
@@ -20,11 +20,11 @@ pub struct Kept {
 }
 
 /// Spells the certificate beside its table, and counts both. What it was spelled from is freed.
-pub fn spell_whole(alloc: Global, built: GroupBuilt) -> Result<(Kept, DoomsightCounts), Memory>
-    requires in_order { IsAnyInOrder built.cert }
+pub fn spell_whole(alloc: Global, built: Built) -> Result<(Kept, DoomsightCounts), Memory>
+    requires in_order { IsInOrder built.cert }
     ensures whole { IfOk result (λ r. IsWholeOf built r.0.table.bytes r.0.cert.items r.1) }
 {
-    let cert = print_any(alloc, &built.cert)?;
+    let cert = print(alloc, &built.cert)?;
     let counts = counts_of(
         counts_in(&built.table, built.listed.as_slice().len()),
         cert.len() as u64,

@@ -22,6 +22,12 @@ build a MAP01 b --cert c
 
 const FULL: &str = "build a MAP01 full --cert c --budget full --workers 4";
 
+/// Builds that decide every pair, by some numbers of workers.
+const EXACT: &str = "\
+build a MAP01 e --cert d --exact --workers 1
+build a MAP01 e --cert d --exact --workers 5
+";
+
 /// What was tried: clear segments between two sectors, listed pairs, and changed certificates.
 #[derive(Clone, Copy)]
 struct Tally {
@@ -106,6 +112,31 @@ fn tried_budgets<R: Threads + Sync>(
     Ok("")
 }
 
+// Tries builds that decide every pair: the checker accepts, the table is the full one, and the certificate is one.
+fn tried_exact<R: Threads + Sync>(
+    rt: &R,
+    alloc: Global,
+    stage: &mut Stage,
+    full: &[u8],
+) -> Result<&'static str, AllocError> {
+    let mut before: Option<Vec<u8>> = None;
+    for words in EXACT.lines() {
+        let built = is_done(rt, alloc, stage, words)?;
+        if !built || !is_done(rt, alloc, stage, "check e MAP01 d")? {
+            return Ok("refused");
+        }
+        if file_of(alloc, stage, "e")?.as_slice() != full {
+            return Ok("another exact table");
+        }
+        let cert = file_of(alloc, stage, "d")?;
+        if before.is_some_and(|other| other.as_slice() != cert.as_slice()) {
+            return Ok("another exact certificate");
+        }
+        before = Some(cert);
+    }
+    Ok("")
+}
+
 // Tries a table with a pair too many, by certificates with a changed byte.
 fn tried_changes<R: Threads + Sync>(
     rt: &R,
@@ -155,6 +186,10 @@ fn tried<R: Threads + Sync>(
         return Ok("blind");
     }
     let wrong = tried_budgets(rt, alloc, &mut stage, &full, sectors, tally)?;
+    if !wrong.is_empty() {
+        return Ok(wrong);
+    }
+    let wrong = tried_exact(rt, alloc, &mut stage, &full)?;
     if !wrong.is_empty() {
         return Ok(wrong);
     }

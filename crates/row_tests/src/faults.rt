@@ -32,6 +32,7 @@ a=U =4400, c=#U-CERT | check a MAP01 c | 0 | a a c c
 a=U | build a MAP01 b --cert c --workers 1 | 0 | a a | b c | b c
 a=U, b=PAIR, c=PAIR | build a MAP01 b --cert c --workers 1 | 0 | a a | b c | b c
 a=U, b=PAIR, c=PAIR | build a MAP01 b --workers 1 | 0 | a a | b | b
+a=U, b=PAIR, c=PAIR | build a MAP01 b --exact --cert c --workers 1 | 0 | a a | b c | b c
 a=grid:7 | build a MAP01 b --cert c --workers 1 | 0 | a a | b c | b c c
 a=PAIR U .6 - +6:MAP02, b=PAIR | all a b --workers 1 | 0 | a a | b | b
 a=PAIR U .6 - +6:MAP02, b=PAIR | all a b --only MAP02 --workers 1 | 0 | a a | b | b

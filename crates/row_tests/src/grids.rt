@@ -37,6 +37,10 @@ a=SQUARE | grid 2 | 0 | grid 2 sectors 8 set 12 clear 24 listed 0 check yes
 | grid 2 --workers 64 | 0 | =
 | grid 2 --hexen | 0 | =
 | grid --hexen 2 --workers 1 | 0 | =
+| grid 2 --exact | 0 | =
+| grid 2 --exact --hexen --workers 1 | 0 | =
+| grid 4 --exact | 0 | grid 4 sectors 40 set 576 clear 244 listed 0 check yes
+| grid 4 --workers 1 | 0 | =
 | grid 6 --workers 1 | 0 | grid 6 sectors 96 .. check yes
 | grid 6 --workers 3 | 0 | =
 | grid 6 --workers 64 | 0 | =
@@ -84,6 +88,7 @@ a=PAIR | ray a MAP01 2R,2L,0,1,-32 --large | 0 | sight 0 1
 a=U | all a b --large | 0 | all maps 1 built 1 refused 0 | b=U =4400
 # words and names
 a=U | grid 2 --large | 2 | refused: usage
+a=U | grid 2 --exact --budget full | 2 | refused: usage
 a=U | zero a MAP01 b --large=true | 2 | refused: usage | b=
 a=U | zero a MAP01 b --large --large | 2 | refused: usage | b=
 a=U | zero a MAP01 a --large | 11 | refused: same name | a=U

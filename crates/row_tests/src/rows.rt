@@ -247,6 +247,32 @@ a=LINE3 | build a MAP01 b --cert c --budget 1 | 0 | built MAP01 sectors 3 set 0 
 | check b MAP01 c | 0 | yes sectors 3 set 0 clear 5 listed 1
 a=LINE3 | build a MAP01 --budget full b --cert=c | 0 | built MAP01 sectors 3 set 0 clear 6 listed 0 | b=LINE3 =0000
 | check b MAP01 c | 0 | yes sectors 3 set 0 clear 6 listed 0
+# every pair decided: the certificate is of version 3
+a=U | build a MAP01 b --exact --cert c | 0 | built MAP01 sectors 3 set 1 clear 5 listed 0 | b=U =4400, c<=#445343540300
+| check b MAP01 c | 0 | yes sectors 3 set 1 clear 5 listed 0
+a=LINE3 | build a MAP01 --exact b --cert=c --workers 1 | 0 | built MAP01 sectors 3 set 0 clear 6 listed 0 | b=LINE3 =0000, c<=#445343540300
+| check b MAP01 c | 0 | yes sectors 3 set 0 clear 6 listed 0
+a=DOORS | build a MAP01 b --cert c --exact --workers 64 | 0 | built MAP01 sectors 4 set 1 clear 9 listed 0 | b=DOORS =0810, c<=#445343540300
+| check b MAP01 c | 0 | yes sectors 4 set 1 clear 9 listed 0
+a=RINGS | build a MAP01 b --exact --cert c | 0 | built MAP01 sectors 2 set 1 clear 2 listed 0 | b=RINGS =06
+| check b MAP01 c | 0 | yes sectors 2 set 1 clear 2 listed 0
+a=ISLAND | build a MAP01 b --exact --cert c --report r | 0 | built MAP01 sectors 2 set 0 clear 3 listed 0 | b=ISLAND =00, r=#746f74616c20736574203020636c6561722033206c697374656420300a
+| check b MAP01 c | 0 | yes sectors 2 set 0 clear 3 listed 0
+a=U | build a MAP01 b --exact --report r | 0 | built MAP01 sectors 3 set 1 clear 5 listed 0 | b=U =4400, c=, r=#736574203020320a746f74616c20736574203120636c6561722035206c697374656420300a
+a=NO-LINES | build a MAP01 b --exact --cert c | 0 | built MAP01 sectors 2 set 3 clear 0 listed 0 | b=NO-LINES =0f
+| check b MAP01 c | 0 | yes sectors 2 set 3 clear 0 listed 0
+a=OPEN | build a MAP01 b --exact --cert c | 10 | refused: bad map: open 0R | b=, c=
+a=CROSSED | build a MAP01 b --exact --cert c | 10 | refused: bad map: cross 3 4 | b=, c=
+# .. which takes no budget
+a=U | build a MAP01 b --exact --budget 5 | 2 | refused: usage | b=
+a=U | build a MAP01 b --budget full --exact | 2 | refused: usage | b=
+a=U | build a MAP01 b --exact --exact | 2 | refused: usage | b=
+a=U | build a MAP01 b --exact=true | 2 | refused: usage | b=
+a=U | build a MAP01 b --exact --cert b | 11 | refused: same name | b=
+a=U | check a MAP01 c --exact | 2 | refused: usage
+a=U | why a MAP01 0 1 --exact | 2 | refused: usage
+a=U | draw a MAP01 b 0 1 --exact | 2 | refused: usage | b=
+a=U | zero a MAP01 b --exact | 2 | refused: usage | b=
 # a WAD as a node builder leaves it, and one without REJECT
 a=PAIR =06 .3 <40002000 +1:THINGS *20 +5:SEGS *96 +6:SSECTORS *8 +7:NODES *28 +10:BLOCKMAP *40 +11:D_RUNNIN *100 | build a MAP01 b --cert c | 0 | built MAP01 sectors 2 set 0 clear 3 listed 0 | b=PAIR =00 .3 <40002000 +1:THINGS *20 +5:SEGS *96 +6:SSECTORS *8 +7:NODES *28 +10:BLOCKMAP *40 +11:D_RUNNIN *100
 | check b MAP01 c | 0 | yes sectors 2 set 0 clear 3 listed 0
@@ -449,6 +475,10 @@ a=#50574144000000000c000000 | all a b --report r | 0 | all maps 0 built 0 refuse
 # a budget of one sequence, and one that is enough
 a=U | all a b --report r --budget 1 | 0 | all maps 1 built 1 refused 0 | b=U =0000, r=#4d4150303120736574203020636c6561722035206c697374656420310a
 a=LINE3 | all a b --budget enough | 0 | all maps 1 built 1 refused 0 | b=LINE3 =0000
+# every pair decided
+a=PAIR U .6 - +6:MAP02 OPEN =de .12 - +12:MAP03 | all a b --exact --report r | 0 | all maps 3 built 2 refused 1 | b=PAIR =00 U =4400 .6 - +6:MAP02 OPEN =de .12 - +12:MAP03, r=#4d4150303120736574203020636c6561722033206c697374656420300a4d4150303220736574203120636c6561722035206c697374656420300a4d41503033207265667573656420626164206d61703a206f70656e2030520a
+a=LINE3 | all a b --exact | 0 | all maps 1 built 1 refused 0 | b=LINE3 =0000
+a=LINE3 | all a b --exact --budget enough | 2 | refused: usage | b=
 # of two maps of one name the last; a map in Hexen's format; a map without REJECT, under a name in lower case
 a=SQUARE U | all a b | 0 | all maps 1 built 1 refused 0 | b=SQUARE U =4400
 a=PAIR .1 hexen +6:BEHAVIOR *3 U - .7 - +7:map02 | all a b --report r | 0 | all maps 2 built 2 refused 0 | b=PAIR =00 .1 hexen +6:BEHAVIOR *3 U =4400 .7 - +7:map02, r=#4d4150303120736574203020636c6561722033206c697374656420300a4d4150303220736574203120636c6561722035206c697374656420300a

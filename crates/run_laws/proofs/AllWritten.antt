@@ -6,7 +6,7 @@ use Rattle.std.proofs.lemmas.Option.{slice_get-get_or}
 use Rattle.list_base.proofs.Lists.{all_at, all_so}
 use Rattle.sight_names.specs.declared.limits.TheConstants.{MOST_BYTES}
 use Rattle.sight_names.specs.declared.faults.MapFault.{MapFault}
-use Rattle.sight_names.specs.declared.names.Ask.{Ask}
+use Rattle.sight_names.specs.declared.names.Method.{Method}
 use Rattle.sight_names.specs.Map.{Map}
 use Rattle.shelf_io.specs.Shelf.{Files, content_of}
 use Rattle.wad_dir.specs.declared.parts.MapSpot.{MapSpot}
@@ -75,19 +75,19 @@ named_there wad name files w found is_wad is_found =
 contained : {A : Type 0} (P : A → Type 0) (xs : List A) (x : A) → AllByRecursion P xs → Contains xs x → P x
 contained P xs x all c = all_at P xs all c.0 x (slice_get-get_or xs c.0 x c.1 ∙ ap (λ y. Some y) c.2)
 
-module _ (wad : Source) (name : List ℕ) (files : Files) (w : WadFile) (found : LocatedMap) (maps : List (List ℕ)) (budget : Ask) (outcomes : List MapOutcome) (is_wad : wad_in wad.file files ≡ Ok w) (is_found : found_of wad name files ≡ Ok found) (are : AreOutcomes w wad.large maps budget outcomes) where
-  got : (o : MapOutcome) → Contains outcomes o → word_of o.name ≡ name → Gets (Ok found.map) budget o.made
+module _ (wad : Source) (name : List ℕ) (files : Files) (w : WadFile) (found : LocatedMap) (maps : List (List ℕ)) (method : Method) (outcomes : List MapOutcome) (is_wad : wad_in wad.file files ≡ Ok w) (is_found : found_of wad name files ≡ Ok found) (are : AreOutcomes w wad.large maps method outcomes) where
+  got : (o : MapOutcome) → Contains outcomes o → word_of o.name ≡ name → Gets (Ok found.map) method o.made
   got o c e =
       let is : map_named wad.large w (word_of o.name) ≡ Ok found.map = ap (map_named wad.large w) e ∙ named_there wad name files w found is_wad is_found in
-      subst (λ (r : Result Map Status). Gets r budget o.made) is (contained (ComesOf w wad.large budget) outcomes o are.comes c)
+      subst (λ (r : Result Map Status). Gets r method o.made) is (contained (ComesOf w wad.large method) outcomes o are.comes c)
 
-  made_as : (o : MapOutcome) → Contains outcomes o → word_of o.name ≡ name → (made : Result MapTable Status) → Gets (Ok found.map) budget made → o.made ≡ made
-  made_as o c e made h = one_got (Ok found.map) budget o.made made (got o c e) h
+  made_as : (o : MapOutcome) → Contains outcomes o → word_of o.name ≡ name → (made : Result MapTable Status) → Gets (Ok found.map) method made → o.made ≡ made
+  made_as o c e made h = one_got (Ok found.map) method o.made made (got o c e) h
 
 pub all_is_as_build : AllIsAsBuild
-all_is_as_build wad name files w found maps budget outcomes is_wad is_found are = record {
-  tables = λ o c e built h. made_as wad name files w found maps budget outcomes is_wad is_found are o c e (Ok (table_built built)) (record { cert = built.cert; is_built = h });
-  flaws = λ o c e refusal h. made_as wad name files w found maps budget outcomes is_wad is_found are o c e (Err refusal) h;
+all_is_as_build wad name files w found maps method outcomes is_wad is_found are = record {
+  tables = λ o c e built h. made_as wad name files w found maps method outcomes is_wad is_found are o c e (Ok (table_built built)) (record { cert = built.cert; is_built = h });
+  flaws = λ o c e refusal h. made_as wad name files w found maps method outcomes is_wad is_found are o c e (Err refusal) h;
 }
 
 -- ---- what is written
@@ -97,15 +97,15 @@ names_all : (old new : WadFile) (cs : List Change) → IsAll old cs new → HasN
 names_all old new [] made h = subst (λ (x : WadFile). HasNames x.lumps) (sym made) h
 names_all old new (c ∷ cs) made h = names_all (with_reject old made.0 c.table) new cs made.2 (names_rewritten old made.0 c.table h)
 
-has_length : (said : Result Map Status) (budget : Ask) (made : Result MapTable Status) → Gets said budget made → HasLengthOf said made
-has_length (Ok m) budget (Ok made) h = h.is_built.table_is_whole.len ∙ ap (λ n. div_ceil (n * n) 8) h.is_built.sectors
-has_length (Ok m) budget (Err s) h = tt
-has_length (Err s) budget made h = tt
+has_length : (said : Result Map Status) (method : Method) (made : Result MapTable Status) → Gets said method made → HasLengthOf said made
+has_length (Ok m) method (Ok made) h = h.is_built.table_is_whole.len ∙ ap (λ n. div_ceil (n * n) 8) h.is_built.sectors
+has_length (Ok m) method (Err s) h = tt
+has_length (Err s) method made h = tt
 
 pub all_keeps_lumps : AllKeepsLumps
-all_keeps_lumps words wad out only report workers budget files heard answer is_asked h = on (wad_in wad.file files) refl (subst (λ r. AnswersAsked r files heard (Ok answer)) is_asked h)
+all_keeps_lumps words wad out only report workers method files heard answer is_asked h = on (wad_in wad.file files) refl (subst (λ r. AnswersAsked r files heard (Ok answer)) is_asked h)
   where
-    of_maps : (w : WadFile) (r : Result (List (List ℕ)) Status) → wad_in wad.file files ≡ Ok w → maps_in (names_of w) only ≡ r → OnRead r (λ maps. MapsCall out report wad.large maps budget w) (Ok answer) → KeepsAllLumps wad out only budget files (put_all files answer.writes)
+    of_maps : (w : WadFile) (r : Result (List (List ℕ)) Status) → wad_in wad.file files ≡ Ok w → maps_in (names_of w) only ≡ r → OnRead r (λ maps. MapsCall out report wad.large maps method w) (Ok answer) → KeepsAllLumps wad out only method files (put_all files answer.writes)
     of_maps w (Err s) e f q = absurd cc
     of_maps w (Ok maps) e f q =
         let cs = changes_of q.outcomes in
@@ -122,9 +122,9 @@ all_keeps_lumps words wad out only report workers budget files heard answer is_a
           asked = f;
           outcomes = q.outcomes;
           are = q.are;
-          lengths = all_so (ComesOf w wad.large budget) (λ (o : MapOutcome). HasLengthOf (map_named wad.large w (word_of o.name)) o.made) q.outcomes (λ o k. has_length (map_named wad.large w (word_of o.name)) budget o.made k) q.are.comes;
+          lengths = all_so (ComesOf w wad.large method) (λ (o : MapOutcome). HasLengthOf (map_named wad.large w (word_of o.name)) o.made) q.outcomes (λ o k. has_length (map_named wad.large w (word_of o.name)) method o.made k) q.are.comes;
           bytes = q.bytes;
-          stands = ap (λ (a : Answer). put_all files a.writes out) q.is ∙ before_report files (wad_output out q.bytes ∷ []) report (report_of q.outcomes) out (out_apart wad.file out None report (of_words words (order.All wad out only report workers budget) is_asked)).1 ∙ stored files out q.bytes;
+          stands = ap (λ (a : Answer). put_all files a.writes out) q.is ∙ before_report files (wad_output out q.bytes ∷ []) report (report_of q.outcomes) out (out_apart wad.file out None report (of_words words (order.All wad out only report workers method) is_asked)).1 ∙ stored files out q.bytes;
           short = printed.short;
           new = with_all w cs;
           read = printed.read;
@@ -133,6 +133,6 @@ all_keeps_lumps words wad out only report workers budget files heard answer is_a
           lumps = ap (λ (x : WadFile). x.lumps) (all_spliced w cs among);
         }
 
-    on : (r : Result WadFile Status) → wad_in wad.file files ≡ r → OnRead r (AllCalls out wad.large only report budget) (Ok answer) → KeepsAllLumps wad out only budget files (put_all files answer.writes)
+    on : (r : Result WadFile Status) → wad_in wad.file files ≡ r → OnRead r (AllCalls out wad.large only report method) (Ok answer) → KeepsAllLumps wad out only method files (put_all files answer.writes)
     on (Err s) e q = absurd cc
     on (Ok w) e q = of_maps w (maps_in (names_of w) only) e refl q

@@ -1,5 +1,5 @@
 -- The check of what a build wrote has one answer, and it is yes.
-use Rattle.std.proofs.Common.{◌≡◌, ℕ, ◌+◌, ◌*◌, ◌^◌, ◌<◌, ◌≤◌, inl, inr, List, ◌++◌, length, Bool, true, false, if◌then◌else◌, nat_lt, Option, Some, Result, Ok, Err, refl, sym, ap, ◌∙◌, subst, arith}
+use Rattle.std.proofs.Common.{◌≡◌, ℕ, ◌+◌, ◌*◌, ◌^◌, ◌<◌, ◌≤◌, inl, inr, List, [], ◌++◌, length, Bool, true, false, if◌then◌else◌, nat_lt, Option, Some, Result, Ok, Err, refl, sym, ap, ◌∙◌, subst, arith}
 use Rattle.std.specs.Prelude.{codes}
 use Rattle.std.specs.Option.{option_map}
 use Rattle.std.proofs.lemmas.Bool.{le-ltb}
@@ -7,7 +7,8 @@ use Rattle.std.proofs.lemmas.Bool.Decides.{Decides-eqb}
 use Rattle.sight_names.specs.declared.limits.TheConstants.{MOST_BYTES}
 use Rattle.sight_names.specs.declared.faults.FetchFault.TheVariants as fetch
 use Rattle.sight_names.specs.declared.faults.TableFault.TheVariants as table
-use Rattle.sight_names.specs.declared.names.Ask.{Ask}
+use Rattle.sight_names.specs.declared.names.Method.{Method}
+use Rattle.sight_names.specs.declared.names.Method.TheVariants as how
 use Rattle.sight_names.specs.declared.names.Pair.{Pair}
 use Rattle.sight_names.specs.Map.{Map}
 use Rattle.sight_names.specs.Sound.{LinesMeetAtEnds}
@@ -19,11 +20,17 @@ use Rattle.wad_dir.specs.Map.{same_name}
 use Rattle.cert_format.specs.Accepted.{EitherClear, EitherSet, IsAccepted}
 use Rattle.cert_format.specs.Parts.{CertParts}
 use Rattle.cert_groups.specs.declared.cert.CertTwo.{CertTwo}
-use Rattle.cert_groups.specs.declared.cert.AnyCert.{AnyCert}
 use Rattle.cert_groups.specs.declared.cert.AnyCert.TheVariants.{One, Two}
-use Rattle.cert_groups.specs.Grammar.{SpellsAny}
-use Rattle.cert_groups.proofs.AnyLaws.{any_again}
-use Rattle.accepted_groups.specs.Accepted.{IsAcceptedAny, IsAcceptedTwo}
+use Rattle.cert_exact.specs.declared.cert.ExactParts.{ExactParts}
+use Rattle.cert_exact.specs.Grammar.{as_two}
+use Rattle.certificates.specs.declared.certificate.Certificate.{Certificate}
+use Rattle.certificates.specs.declared.certificate.Certificate.TheVariants.{Listing, Exact}
+use Rattle.certificates.specs.Grammar.{Spells}
+use Rattle.certificates.proofs.Again.{certificate_again}
+use Rattle.gate_floods.specs.Exact.{IsAcceptedThree}
+use Rattle.any_judge.specs.Accepted.{IsAccepted as IsAcceptedBy}
+use Rattle.any_judge.proofs.OneExact.{told_same as told_same_of_three}
+use Rattle.accepted_groups.specs.Accepted.{IsAcceptedTwo}
 use Rattle.reject_bits.specs.Parts.{TableParts}
 use Rattle.cert_checker.specs.declared.verdict.Totals.{Totals}
 use Rattle.cert_checker.specs.Pairs.{AreTotals}
@@ -32,7 +39,9 @@ use Rattle.group_checker.specs.declared.verdict.AnyFault.{AnyFault}
 use Rattle.group_checker.specs.declared.verdict.AnyFault.TheVariants as fault
 use Rattle.group_checker.specs.declared.verdict.AnyVerdict.TheVariants as verdict
 use Rattle.group_checker.proofs.SameAnyBits.{told_same}
-use Rattle.group_job.specs.Built.{OfTwo}
+use Rattle.whole_wad.specs.declared.building.Built.{Built}
+use Rattle.whole_wad.specs.Built.{DecidedBy, IsBuiltOf, OfExact}
+use Rattle.sight_names.specs.Groups.{AreGroups}
 use Rattle.map_answers.specs.declared.counts.Counts.{Counts}
 use Rattle.map_answers.specs.Counts.{counts_with}
 use Rattle.order_words.specs.Words.{source_of}
@@ -45,7 +54,7 @@ use Rattle.sight_status.specs.declared.status.Why.TheVariants as why
 use Rattle.sight_status.specs.Answer.{Answer, ◌>>=◌, IsTheAnswer, Written, only_line}
 use Rattle.sight_run.specs.Build.{BuildCalls, ShowsBuild, build_writes, report_behind}
 use Rattle.sight_run.proofs.CheckInputs.{input_as, is_input}
-use Rattle.sight_run.specs.Judged.{IsJudged, JudgesOf, JudgesTwoOf}
+use Rattle.sight_run.specs.Judged.{IsJudged, JudgesOf, JudgesThreeOf, JudgesTwoOf}
 use Rattle.sight_run.specs.Check.{CheckInput, CheckCalls, IsVerdictOn, OnCheckInput, VerdictCalls, check_input, cert_in, of_cert_fetch, of_length, of_reading, reject_of, yes_line}
 use Rattle.map_answers.specs.Input.{LocatedMap, OnFound, found_in}
 use Rattle.sight_run.specs.Heard.{Heard}
@@ -101,9 +110,25 @@ module _ (m : Map) (t u : List ℕ) (bits : (k : ℕ) → k < m.sectors * m.sect
     },
   )
 
-  accepted_same : (c : AnyCert) → IsAcceptedAny m t c → IsAcceptedAny m u c
-  accepted_same (One c) h = one_accepted c h
-  accepted_same (Two c sizes) h = two_accepted c h
+  three_accepted : (c : ExactParts) → IsAcceptedThree m t c → IsAcceptedThree m u c
+  three_accepted c (g, names, h) = (
+    g,
+    names,
+    record {
+      table_for = h.table_for;
+      rays = h.rays;
+      one_each = h.one_each;
+      trees = h.trees;
+      listed = h.listed;
+      set = λ a b p q s. h.set a b p q (sym (bits (a * m.sectors + b) (place_within a b m.sectors p q)) ∙ s);
+      clear = λ a b p q n. h.clear a b p q (λ e. n (bits (a * m.sectors + b) (place_within a b m.sectors p q) ∙ e));
+    },
+  )
+
+  accepted_same : (c : Certificate) → IsAcceptedBy m t c → IsAcceptedBy m u c
+  accepted_same (Listing (One c)) h = one_accepted c h
+  accepted_same (Listing (Two c sizes)) h = two_accepted c h
+  accepted_same (Exact c) h = three_accepted c h
 
 -- ---- the table and the certificate
 
@@ -121,8 +146,8 @@ cert_fetched o bytes e le =
     by true q = absurd cc
     by false q = refl
 
-spelled_reads : (m : Map) (c : AnyCert) (bytes : List ℕ) → SpellsAny (sizes_of_map m) bytes c → cert_in m bytes ≡ Ok c
-spelled_reads m c bytes h = ap of_reading (any_again (sizes_of_map m) bytes c h)
+spelled_reads : (m : Map) (c : Certificate) (bytes : List ℕ) → Spells (sizes_of_map m) bytes c → cert_in m bytes ≡ Ok c
+spelled_reads m c bytes h = ap of_reading (certificate_again (sizes_of_map m) bytes c h)
 
 -- ---- the verdict
 
@@ -137,12 +162,37 @@ totals_of_two m t other c listed totals same e h =
     let told = (told_same m h.g c other t same (verdict.Yes totals) h.pairs).1 in
     subst (λ (ps : List Pair). AreTotals t ps m.sectors totals) e (subst (λ (n : ℕ). AreTotals t c.listed n totals) same.second told)
 
-totals_of_any : (m : Map) (t other : TableParts) (c : AnyCert) (listed : List Pair) (totals : Totals) → HaveOneBits m other t → OfTwo (λ x. x.listed ≡ listed) c → JudgesOf m other c (verdict.Yes totals) → AreTotals t listed m.sectors totals
-totals_of_any m t other (One c) listed totals same e h = absurd e
-totals_of_any m t other (Two c sizes) listed totals same e h = totals_of_two m t other c listed totals same e h
+totals_of_three : (m : Map) (t other : TableParts) (c : ExactParts) (listed : List Pair) (totals : Totals) → HaveOneBits m other t → [] ≡ listed → JudgesThreeOf m other c (verdict.Yes totals) → AreTotals t listed m.sectors totals
+totals_of_three m t other c listed totals same e h =
+    let told = (told_same_of_three m (as_two c) other t same (verdict.Yes totals) h.pairs).1 in
+    subst (λ (ps : List Pair). AreTotals t ps m.sectors totals) e (subst (λ (n : ℕ). AreTotals t [] n totals) same.second told)
+
+-- the certificate of a build has this list; one of version 3 has none
+abbrev HasList : Certificate → List Pair → Type 0
+HasList (Listing (One c)) listed = ⊥
+HasList (Listing (Two c sizes)) listed = c.listed ≡ listed
+HasList (Exact c) listed = [] ≡ listed
+
+list_of_build : (m : Map) (method : Method) (built : Built) → IsBuiltOf m method built → HasList built.cert built.listed
+list_of_build m (how.Within ask) built is = within built.cert is.by_method
+  where
+    within : (cert : Certificate) → DecidedBy m (how.Within ask) (record { table = built.table; listed = built.listed; cert = cert }) → HasList cert built.listed
+    within (Listing (One c)) d = absurd d
+    within (Listing (Two c sizes)) d = d.same_list
+    within (Exact c) d = absurd d
+list_of_build m how.Exact built is = deciding built.cert is.by_method.cert
+  where
+    deciding : (cert : Certificate) → OfExact (λ c. AreGroups m c.groups) cert → HasList cert built.listed
+    deciding (Listing c) d = absurd d
+    deciding (Exact c) d = sym is.by_method.none_listed
+
+totals_of_any : (m : Map) (t other : TableParts) (c : Certificate) (listed : List Pair) (totals : Totals) → HaveOneBits m other t → HasList c listed → JudgesOf m other c (verdict.Yes totals) → AreTotals t listed m.sectors totals
+totals_of_any m t other (Listing (One c)) listed totals same e h = absurd e
+totals_of_any m t other (Listing (Two c sizes)) listed totals same e h = totals_of_two m t other c listed totals same e h
+totals_of_any m t other (Exact c) listed totals same e h = totals_of_three m t other c listed totals same e h
 
 -- the bytes are those of a table whose certificate is accepted
-verdict_yes : (m : Map) (t : TableParts) (c : AnyCert) (listed : List Pair) (given : Result Answer Status) → t.n ≡ m.sectors → OfTwo (λ x. x.listed ≡ listed) c → IsAcceptedAny m t.bytes c → IsVerdictOn m (input_as t.bytes c) given → IsYesFor m t listed given
+verdict_yes : (m : Map) (t : TableParts) (c : Certificate) (listed : List Pair) (given : Result Answer Status) → t.n ≡ m.sectors → HasList c listed → IsAcceptedBy m t.bytes c → IsVerdictOn m (input_as t.bytes c) given → IsYesFor m t listed given
 verdict_yes m t c listed given n e h v = by given v.called
   where
     same : HaveOneBits m v.table t
@@ -174,9 +224,9 @@ wad_fetched large o name bytes found e lt h =
     by false q = refl
 
 -- the map was found in these bytes, and what was built of it is in these files
-module _ (large : Bool) (name out cert : List ℕ) (reported : Option (List ℕ)) (budget : Ask) (files others : Files) (heard : Heard) (found : LocatedMap) (answer : Answer) (given : Result Answer Status) where
+module _ (large : Bool) (name out cert : List ℕ) (reported : Option (List ℕ)) (method : Method) (files others : Files) (heard : Heard) (found : LocatedMap) (answer : Answer) (given : Result Answer Status) where
   checked : (old : List ℕ) → found_in large name old ≡ Ok found → same_name (codes "REJECT") name ≡ false → IsOther out (Some cert) × IsOther out reported → IsOther cert reported
-      → (shows : ShowsBuild name out (Some cert) reported budget found heard answer)
+      → (shows : ShowsBuild name out (Some cert) reported method found heard answer)
       → HaveBoth (put_all files answer.writes) others out cert → IsShort others cert
       → OnFound (found_of (source_of large out) name others) (CheckCalls cert others) given → IsYesFor found.map shows.built.table shows.built.listed given
   unfolding found_of
@@ -184,7 +234,7 @@ module _ (large : Bool) (name out cert : List ℕ) (reported : Option (List ℕ)
       let spelled : List ℕ = shows.spelled in
       let both : List Written = build_writes out shows.bytes (Some cert) spelled in
       let table : List ℕ = shows.built.table.bytes in
-      let c : AnyCert = shows.built.cert in
+      let c : Certificate = shows.built.cert in
       let again : IsFoundAgain large name found table shows.bytes = found_again large name old table shows.bytes found h other shows.made in
       let all : put_all files answer.writes ≡ put_all files (report_behind reported shows.report both) = ap (λ (x : Answer). put_all files x.writes) shows.is in
       let at_out : others out ≡ Some shows.bytes = have.at_out ∙ ap (λ (f : Files). f out) all ∙ before_report files both reported shows.report out apart.1 ∙ under_out files out cert shows.bytes spelled apart.0 in
@@ -195,7 +245,7 @@ module _ (large : Bool) (name out cert : List ℕ) (reported : Option (List ℕ)
       let reads : check_input cert (found_then found table) others ≡ Ok (input_as table c) =
       is_input cert (found_then found table) others table spelled c (right_length found.map.sectors (reject_of (found_then found table)) table again.reject len)
       (cert_fetched (others cert) spelled at_cert (short spelled at_cert)) (spelled_reads found.map c spelled shows.spells) in
-      verdict_yes found.map shows.built.table c shows.built.listed given shows.is_built.sectors shows.is_built.listed shows.is_built.accepted
+      verdict_yes found.map shows.built.table c shows.built.listed given shows.is_built.sectors (list_of_build found.map method shows.built shows.is_built) shows.is_built.accepted
       (past_lines found.map (input_as table c) given shows.is_built.fit.ends (subst (λ (r : Result CheckInput Status). OnSoundLines found.map (OnCheckInput found.map r) given) reads asked))
 
 pub built_is_checked : BuiltIsChecked
@@ -208,7 +258,7 @@ built_is_checked build check name out cert files others heard answer ask h have 
     other_report : IsOther cert ask.report
     other_report = cert_apart ask.wad.file out cert ask.report (of_words build _ ask.built)
 
-    on : (r : Result LocatedMap Status) → found_of ask.wad name files ≡ r → OnFound r (BuildCalls name out (Some cert) ask.report ask.budget heard) (Ok answer) → SaysYes check name others answer
+    on : (r : Result LocatedMap Status) → found_of ask.wad name files ≡ r → OnFound r (BuildCalls name out (Some cert) ask.report ask.method heard) (Ok answer) → SaysYes check name others answer
     on (Err s) e shows = absurd cc
     on (Ok found) e shows =
         let old = bytes_of ask.wad name files found e in
@@ -218,7 +268,7 @@ built_is_checked build check name out cert files others heard answer ask h have 
           built = ap (λ (x : Answer). x.line) shows.is;
           only = λ unheard given q.
               let asked = subst (λ r. AnswersAsked r others unheard given) ask.checked q in
-              let yes = checked ask.wad.large name out cert ask.report ask.budget files others heard found answer given old.bytes old.are ask.other apart other_report shows have short asked in
+              let yes = checked ask.wad.large name out cert ask.report ask.method files others heard found answer given old.bytes old.are ask.other apart other_report shows have short asked in
               let same = same_counts shows.built.table shows.built.listed found.map.sectors yes.totals shows.is_built.symmetric shows.is_built.sectors yes.are in
               yes.is ∙ ap (λ (k : Counts). Ok (only_line (yes_line k.sectors (totals_of k)))) same;
         }

@@ -1,6 +1,6 @@
 -- How `build` and `all` end where no count of faults rose.
 use Rattle.std.proofs.Common.{◌≡◌, ◌⊎◌, inl, inr, ℕ, Bool, List, Option, Result, Err, refl, sym, subst}
-use Rattle.sight_names.specs.declared.names.Ask.{Ask}
+use Rattle.sight_names.specs.declared.names.Method.{Method}
 use Rattle.sight_names.specs.Groups.{HasClosedFaces}
 use Rattle.map_audit.proofs.AuditLemmas.{not_sound}
 use Rattle.shelf_io.specs.Shelf.{Files, ShelfState}
@@ -45,8 +45,8 @@ refuses words files heard before after o n status.SameName quiet ends cause = in
 
 -- ---- build
 
-module _ (name out : List ℕ) (asked report : Option (List ℕ)) (budget : Ask) (heard : Heard) (found : LocatedMap) where
-  of_sound : HasClosedFaces found.map → (s : Status) → BuildCalls name out asked report budget heard found (Err s) → EndsBuild budget found s
+module _ (name out : List ℕ) (asked report : Option (List ℕ)) (method : Method) (heard : Heard) (found : LocatedMap) where
+  of_sound : HasClosedFaces found.map → (s : Status) → BuildCalls name out asked report method heard found (Err s) → EndsBuild method found s
   of_sound sound (status.BadMap (flaw.Line fault)) q = absurd (not_sound found.map fault q sound.ends)
   of_sound sound (status.BadMap (flaw.Open side)) q = absurd (q.1.against (sound.closed side))
   of_sound sound (status.Limit k) q = q
@@ -54,26 +54,26 @@ module _ (name out : List ℕ) (asked report : Option (List ℕ)) (budget : Ask)
 
 pub build_is_done : BuildIsDone
 unfolding Refuses
-build_is_done words wad name out asked report workers budget went found is_asked is_found sound well = elim (refuses words went.files went.heard went.before went.after went.sink.old went.sink.new went.status well.quiet well.ends well.cause) as (λ _. EndsBuild budget found went.status) [
-  | inl e ↦ subst (EndsBuild budget found) (sym e) tt
-  | inr (inl e) ↦ subst (EndsBuild budget found) (sym e) tt
-  | inr (inr q) ↦ of_sound name out asked report budget went.heard found sound went.status
-      (subst (λ (r : Result LocatedMap Status). OnFound r (BuildCalls name out asked report budget went.heard) (Err went.status)) is_found (subst (λ r. AnswersAsked r went.files went.heard (Err went.status)) is_asked q))
+build_is_done words wad name out asked report workers method went found is_asked is_found sound well = elim (refuses words went.files went.heard went.before went.after went.sink.old went.sink.new went.status well.quiet well.ends well.cause) as (λ _. EndsBuild method found went.status) [
+  | inl e ↦ subst (EndsBuild method found) (sym e) tt
+  | inr (inl e) ↦ subst (EndsBuild method found) (sym e) tt
+  | inr (inr q) ↦ of_sound name out asked report method went.heard found sound went.status
+      (subst (λ (r : Result LocatedMap Status). OnFound r (BuildCalls name out asked report method went.heard) (Err went.status)) is_found (subst (λ r. AnswersAsked r went.files went.heard (Err went.status)) is_asked q))
 ]
 
 -- ---- all
 
-of_wad : (out : List ℕ) (report : Option (List ℕ)) (large : Bool) (maps : List (List ℕ)) (budget : Ask) (w : WadFile) (s : Status) → MapsCall out report large maps budget w (Err s) → EndsAll large maps budget w s
-of_wad out report large maps budget w (status.Limit bound.Lumps) q = q
-of_wad out report large maps budget w (status.Limit bound.OutputBytes) q = q
-of_wad out report large maps budget w s q = absurd q
+of_wad : (out : List ℕ) (report : Option (List ℕ)) (large : Bool) (maps : List (List ℕ)) (method : Method) (w : WadFile) (s : Status) → MapsCall out report large maps method w (Err s) → EndsAll large maps method w s
+of_wad out report large maps method w (status.Limit bound.Lumps) q = q
+of_wad out report large maps method w (status.Limit bound.OutputBytes) q = q
+of_wad out report large maps method w s q = absurd q
 
 pub all_is_done : AllIsDone
 unfolding Refuses
-all_is_done words wad out only report workers budget went w maps is_asked is_wad is_found well = elim (refuses words went.files went.heard went.before went.after went.sink.old went.sink.new went.status well.quiet well.ends well.cause) as (λ _. EndsAll wad.large maps budget w went.status) [
-  | inl e ↦ subst (EndsAll wad.large maps budget w) (sym e) tt
-  | inr (inl e) ↦ subst (EndsAll wad.large maps budget w) (sym e) tt
-  | inr (inr q) ↦ of_wad out report wad.large maps budget w went.status
-      (subst (λ (r : Result (List (List ℕ)) Status). OnRead r (λ ms. MapsCall out report wad.large ms budget w) (Err went.status)) is_found
-      (subst (λ (r : Result WadFile Status). OnRead r (AllCalls out wad.large only report budget) (Err went.status)) is_wad (subst (λ r. AnswersAsked r went.files went.heard (Err went.status)) is_asked q)))
+all_is_done words wad out only report workers method went w maps is_asked is_wad is_found well = elim (refuses words went.files went.heard went.before went.after went.sink.old went.sink.new went.status well.quiet well.ends well.cause) as (λ _. EndsAll wad.large maps method w went.status) [
+  | inl e ↦ subst (EndsAll wad.large maps method w) (sym e) tt
+  | inr (inl e) ↦ subst (EndsAll wad.large maps method w) (sym e) tt
+  | inr (inr q) ↦ of_wad out report wad.large maps method w went.status
+      (subst (λ (r : Result (List (List ℕ)) Status). OnRead r (λ ms. MapsCall out report wad.large ms method w) (Err went.status)) is_found
+      (subst (λ (r : Result WadFile Status). OnRead r (AllCalls out wad.large only report method) (Err went.status)) is_wad (subst (λ r. AnswersAsked r went.files went.heard (Err went.status)) is_asked q)))
 ]

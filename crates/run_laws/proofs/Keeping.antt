@@ -59,9 +59,9 @@ built_stands files wad out bytes asked reported spelled report apart =
     before_report files (build_writes out bytes asked spelled) reported report out p.1 ∙ made_stands files out bytes asked spelled p.0
 
 pub build_keeps_lumps : BuildKeepsLumps
-build_keeps_lumps words wad name out asked report workers budget files heard answer is_asked other h = on (found_of wad name files) refl (subst (λ r. AnswersAsked r files heard (Ok answer)) is_asked h)
+build_keeps_lumps words wad name out asked report workers method files heard answer is_asked other h = on (found_of wad name files) refl (subst (λ r. AnswersAsked r files heard (Ok answer)) is_asked h)
   where
-    on : (r : Result LocatedMap Status) → found_of wad name files ≡ r → OnFound r (BuildCalls name out asked report budget heard) (Ok answer) → KeepsLumps wad name out files (put_all files answer.writes) HasTableLength
+    on : (r : Result LocatedMap Status) → found_of wad name files ≡ r → OnFound r (BuildCalls name out asked report method heard) (Ok answer) → KeepsLumps wad name out files (put_all files answer.writes) HasTableLength
     on (Err s) e q = absurd cc
     on (Ok found) e q =
         let old = bytes_of wad name files found e in
@@ -71,6 +71,6 @@ build_keeps_lumps words wad name out asked report workers budget files heard ans
           table = q.built.table.bytes;
           is_right = q.is_built.table_is_whole.len ∙ ap (λ n. div_ceil (n * n) 8) q.is_built.sectors;
           bytes = q.bytes;
-          stands = ap (λ (a : Answer). put_all files a.writes out) q.is ∙ built_stands files wad.file out q.bytes asked report q.spelled q.report (of_words words (order.Build wad name out asked report workers budget) is_asked);
+          stands = ap (λ (a : Answer). put_all files a.writes out) q.is ∙ built_stands files wad.file out q.bytes asked report q.spelled q.report (of_words words (order.Build wad name out asked report workers method) is_asked);
           again = written_again wad.large name old.bytes q.built.table.bytes q.bytes found old.are other q.made;
         }

@@ -5,14 +5,15 @@ use Rattle.std.specs.Int.{div_ceil}
 use Rattle.std.specs.Option.{option_map}
 use Rattle.std.proofs.lemmas.Bool.Decides.{Decides-eqb}
 use Rattle.list_base.proofs.Lists.{contains_none}
-use Rattle.list_base.proofs.Numbers.{below_or_above, below_or_not, place_within}
+use Rattle.list_base.proofs.Numbers.{below_or_above, below_or_not, place_within, same_or_not}
 use Rattle.sight_names.specs.declared.faults.CertFault.{CertFault}
 use Rattle.sight_names.specs.declared.faults.CertFault.TheVariants as cert_fault
 use Rattle.sight_names.specs.declared.faults.FetchFault.TheVariants as fetch
 use Rattle.sight_names.specs.declared.faults.TableFault.TheVariants as table_fault
-use Rattle.sight_names.specs.declared.names.Ask.{Ask}
+use Rattle.sight_names.specs.declared.names.Method.{Method}
 use Rattle.sight_names.specs.declared.names.Ask.TheVariants.{Enough, Full}
 use Rattle.sight_names.specs.declared.names.Budget.{Budget}
+use Rattle.sight_names.specs.declared.names.Method.TheVariants as how
 use Rattle.sight_names.specs.declared.names.Pair.{Pair}
 use Rattle.sight_names.specs.Found.{IsListedOver}
 use Rattle.sight_names.specs.Groups.{IsListedByGroups}
@@ -25,12 +26,12 @@ use Rattle.shelf_io.specs.Shelf.{Files, content_of}
 use Rattle.wad_dir.specs.Map.{same_name}
 use Rattle.reject_bits.specs.Parts.{Rejects, TableParts}
 use Rattle.cert_format.specs.Parts.{CertParts}
-use Rattle.cert_groups.specs.declared.cert.AnyCert.{AnyCert}
 use Rattle.cert_groups.specs.declared.cert.AnyCert.TheVariants.{One, Two}
-use Rattle.cert_groups.specs.Reading.{any_at}
+use Rattle.certificates.specs.declared.certificate.Certificate.{Certificate}
+use Rattle.certificates.specs.declared.certificate.Certificate.TheVariants.{Listing, Exact}
+use Rattle.certificates.specs.Reading.{certificate_at}
 use Rattle.cert_checker.specs.Sight.{TellsSight}
-use Rattle.group_checker.specs.Judged.{TellsSightAny, with_list}
-use Rattle.group_job.specs.declared.build.GroupBuilt.{GroupBuilt}
+use Rattle.group_checker.specs.Judged.{with_list}
 use Rattle.group_job.specs.Sectors.{AreListed}
 use Rattle.order_words.specs.declared.order.Order.TheVariants as order
 use Rattle.order_words.specs.declared.order.Source.{Source}
@@ -39,14 +40,18 @@ use Rattle.sight_status.specs.declared.status.Status.{Status}
 use Rattle.sight_status.specs.declared.status.Status.TheVariants as status
 use Rattle.sight_status.specs.declared.status.Why.TheVariants as why
 use Rattle.sight_status.specs.Answer.{Answer}
+use Rattle.map_answers.specs.Counts.{counts_with}
 use Rattle.map_answers.specs.Input.{LocatedMap, OnFound, found_in}
-use Rattle.whole_wad.specs.Built.{IsBuiltOf}
+use Rattle.turned_trees.specs.Exact.{TellsAll}
+use Rattle.any_judge.specs.Accepted.{TellsSight as TellsSightBy}
+use Rattle.whole_wad.specs.declared.building.Built.{Built}
+use Rattle.whole_wad.specs.Built.{IsBuiltOf, ask_of}
 use Rattle.whole_wad.specs.Sizes.{sizes_of_map}
 use Rattle.sight_run.specs.Build.{BuildCalls, ShowsBuild}
 use Rattle.sight_run.specs.Check.{CheckCalls, CheckInput, IsTableOf, IsVerdictOn, OnCheckInput, cert_in, check_input, of_cert_fetch, of_length, of_reading, reject_of}
-use Rattle.run_laws.specs.Headline.{BuildLeavesLumps, BuildsLeaveOneWad, BuiltIsRight, CheckedIsRight, HasRightReject, IsRightTable, LeavesRightReject, WasDone, listed_of}
+use Rattle.run_laws.specs.Headline.{BuildLeavesLumps, BuildsLeaveOneWad, BuiltIsRight, CheckedIsRight, ExactIsRight, HasRightReject, IsRightTable, LeavesExactReject, LeavesRightReject, WasDone, listed_of}
 use Rattle.sight_run.specs.Heard.{Heard}
-use Rattle.run_laws.specs.Laws.{HasTableLength, KeepsLumps}
+use Rattle.run_laws.specs.Laws.{HasTableLength, KeepsLumps, Sinks}
 use Rattle.sight_run.specs.Obeys.{AnswersAsked}
 use Rattle.sight_run.specs.Reading.{found_of}
 use Rattle.sight_run.specs.Run.{put_all}
@@ -81,8 +86,8 @@ was_fetched (Some file) bytes h = by (nat_lt 9223372036854775807 (length file)) 
     by true q = absurd cc
     by false q = ap (λ (x : List ℕ). Some x) (same_ok file bytes q)
 
-was_read : (r : Result AnyCert CertFault) (c : AnyCert) → of_reading r ≡ Ok c → r ≡ Ok c
-was_read (Ok d) c h = ap (λ (x : AnyCert). Ok x) (same_ok d c h)
+was_read : (r : Result Certificate CertFault) (c : Certificate) → of_reading r ≡ Ok c → r ≡ Ok c
+was_read (Ok d) c h = ap (λ (x : Certificate). Ok x) (same_ok d c h)
 was_read (Err cert_fault.Memory) c h = absurd cc
 was_read (Err fault) c h = absurd cc
 
@@ -92,7 +97,7 @@ record WasInput (name : List ℕ) (found : LocatedMap) (files : Files) (input : 
   long : IsTable found.map.sectors (reject_of found)
   bytes : List ℕ
   stands : files name ≡ Some bytes
-  spelled : any_at (sizes_of_map found.map) bytes ≡ Ok input.cert
+  spelled : certificate_at (sizes_of_map found.map) bytes ≡ Ok input.cert
 
 was_input : (name : List ℕ) (found : LocatedMap) (files : Files) (input : CheckInput) → check_input name found files ≡ Ok input → WasInput name found files input
 was_input name found files input h =
@@ -106,7 +111,7 @@ was_input name found files input h =
       long = taken.1;
       bytes = b.x;
       stands = was_fetched (files name) b.x b.step;
-      spelled = was_read (any_at (sizes_of_map found.map) b.x) c.x c.step ∙ ap (λ (i : CheckInput). Ok i.cert) is;
+      spelled = was_read (certificate_at (sizes_of_map found.map) b.x) c.x c.step ∙ ap (λ (i : CheckInput). Ok i.cert) is;
     }
 
 -- ---- what `check` tells of it
@@ -129,9 +134,18 @@ module _ (m : Map) (bytes : List ℕ) (t : TableParts) (spelled : IsTableOf m.se
     ];
   }
 
-  right_by_any : (c : AnyCert) → TellsSightAny m t c → IsRightTable m bytes (AreListed (listed_of c))
-  right_by_any (One c) h = right_by c h
-  right_by_any (Two c sizes) h = right_by (with_list c) h
+  -- where no pair is listed a bit tells of each two sectors
+  right_by_all : TellsAll m t → IsRightTable m bytes (AreListed [])
+  right_by_all h = record {
+    long = long;
+    blind = λ a b la lb set. h.blind a b la lb (bit a b la lb ∙ set);
+    seen = λ a b la lb clear none. h.seen a b la lb (is_clear a b la lb clear);
+  }
+
+  right_by_any : (c : Certificate) → TellsSightBy m t c → IsRightTable m bytes (AreListed (listed_of c))
+  right_by_any (Listing (One c)) h = right_by c h
+  right_by_any (Listing (Two c sizes)) h = right_by (with_list c) h
+  right_by_any (Exact c) h = right_by_all h
 
 module _ (wad : Source) (name cert : List ℕ) (files : Files) (answer : Answer) where
   right_verdict : (found : LocatedMap) (input : CheckInput) → found_of wad name files ≡ Ok found → check_input cert found files ≡ Ok input → IsVerdictOn found.map input (Ok answer) → HasRightReject wad name cert files
@@ -182,7 +196,7 @@ listed_back m budget a b h = record {
     over_back : (f k : ℕ) → IsListedOver h.grouped h.triangles h.labels budget f k → IsListedOver h.grouped h.triangles h.labels budget k f
     over_back f k l = record { differ = λ e. l.differ (sym e); connected = connected_back h.grouped f k l.connected; not_found = l.not_found_back; not_found_back = l.not_found; spent = l.spent_too; spent_too = l.spent }
 
-module _ (m : Map) (budget : Ask) (built : GroupBuilt) (is : IsBuiltOf m budget built) where
+module _ (m : Map) (method : Method) (built : Built) (is : IsBuiltOf m method built) where
   abbrev allowed : Budget
   allowed = is.decided.budget
 
@@ -190,7 +204,7 @@ module _ (m : Map) (budget : Ask) (built : GroupBuilt) (is : IsBuiltOf m budget 
   at_place a b = ap (λ (n : ℕ). table_bit built.table.bytes (a * n + b)) is.sectors
 
   in_list : (a b : ℕ) → Contains built.listed (record { a = a; b = b }) → IsListedByGroups m allowed a b
-  in_list a b c = ((is.decided.listed (record { a = a; b = b })).0 c).1
+  in_list a b c = ((is.decided.listed_are (record { a = a; b = b })).0 c).1
 
   right_built : IsRightTable m built.table.bytes (IsListedByGroups m allowed)
   right_built = record {
@@ -202,14 +216,14 @@ module _ (m : Map) (budget : Ask) (built : GroupBuilt) (is : IsBuiltOf m budget 
   clear_built : (a b : ℕ) → a < m.sectors → b < m.sectors → IsListedByGroups m allowed a b → ¬ Rejected m.sectors built.table.bytes a b
   clear_built a b la lb l set = ((is.decided.bits a b la lb).0 (at_place a b ∙ set)).1 l
 
-  no_list : (budget ≡ Enough) ⊎ (budget ≡ Full) → built.listed ≡ []
+  no_list : (ask_of method ≡ Enough) ⊎ (ask_of method ≡ Full) → built.listed ≡ []
   no_list (inl e) = is.none_listed e
   no_list (inr e) = is.none_listed_in_full e
 
   below_unlisted : (a b : ℕ) → built.listed ≡ [] → a < b → ¬ IsListedByGroups m allowed a b
-  below_unlisted a b none lt l = contains_none (record { a = a; b = b }) (subst (λ (ps : List Pair). Contains ps (record { a = a; b = b })) none ((is.decided.listed (record { a = a; b = b })).1 (lt, l)))
+  below_unlisted a b none lt l = contains_none (record { a = a; b = b }) (subst (λ (ps : List Pair). Contains ps (record { a = a; b = b })) none ((is.decided.listed_are (record { a = a; b = b })).1 (lt, l)))
 
-  none_built : (budget ≡ Enough) ⊎ (budget ≡ Full) → (a b : ℕ) → ¬ IsListedByGroups m allowed a b
+  none_built : (ask_of method ≡ Enough) ⊎ (ask_of method ≡ Full) → (a b : ℕ) → ¬ IsListedByGroups m allowed a b
   none_built all a b l = elim (below_or_above a b l.differ) as (λ _. ⊥) [
     | inl lt ↦ below_unlisted a b (no_list all) lt l
     | inr gt ↦ below_unlisted b a (no_list all) gt (listed_back m allowed a b l)
@@ -221,12 +235,12 @@ found_there : (large : Bool) (name out bytes : List ℕ) (stand : Files) (found 
 unfolding found_of
 found_there large name out bytes stand found there short is = wad_fetched large (stand out) name bytes found there short is
 
-module _ (wad : Source) (name out : List ℕ) (cert report : Option (List ℕ)) (budget : Ask) (files stand : Files) (heard : Heard) (found : LocatedMap) (answer : Answer) (apart : has_twice (wad.file ∷ out ∷ (given cert ++ given report)) ≡ false) (shows : ShowsBuild name out cert report budget found heard answer) (left : stand ≡ put_all files answer.writes) where
+module _ (wad : Source) (name out : List ℕ) (cert report : Option (List ℕ)) (method : Method) (files stand : Files) (heard : Heard) (found : LocatedMap) (answer : Answer) (apart : has_twice (wad.file ∷ out ∷ (given cert ++ given report)) ≡ false) (shows : ShowsBuild name out cert report method found heard answer) (left : stand ≡ put_all files answer.writes) where
   -- the WAD with the table stands under OUT
   wad_stands : stand out ≡ Some shows.bytes
   wad_stands = ap (λ (f : Files). f out) left ∙ ap (λ (a : Answer). put_all files a.writes out) shows.is ∙ built_stands files wad.file out shows.bytes cert report shows.spelled shows.report apart
 
-  right_left : found_of wad name files ≡ Ok found → same_name (codes "REJECT") name ≡ false → LeavesRightReject wad name out budget files stand
+  right_left : found_of wad name files ≡ Ok found → same_name (codes "REJECT") name ≡ false → LeavesRightReject wad name out method files stand
   right_left is other =
       let old = bytes_of wad name files found is in
       let table : List ℕ = shows.built.table.bytes in
@@ -241,49 +255,88 @@ module _ (wad : Source) (name out : List ℕ) (cert report : Option (List ℕ)) 
         same = refl;
         allowed = allowed;
         is_allowed = shows.is_built.decided.is_budget;
-        right = subst (λ (bs : List ℕ). IsRightTable found.map bs (IsListedByGroups found.map allowed)) reads (right_built found.map budget shows.built shows.is_built);
-        clear = λ a b la lb l. subst (λ (bs : List ℕ). ¬ Rejected found.map.sectors bs a b) reads (clear_built found.map budget shows.built shows.is_built a b la lb l);
-        exact = none_built found.map budget shows.built shows.is_built;
+        right = subst (λ (bs : List ℕ). IsRightTable found.map bs (IsListedByGroups found.map allowed)) reads (right_built found.map method shows.built shows.is_built);
+        clear = λ a b la lb l. subst (λ (bs : List ℕ). ¬ Rejected found.map.sectors bs a b) reads (clear_built found.map method shows.built shows.is_built a b la lb l);
+        exact = none_built found.map method shows.built shows.is_built;
       }
 
 pub built_is_right : BuiltIsRight
-built_is_right words wad name out cert report workers budget files stand asked other done =
+built_is_right words wad name out cert report workers method files stand asked other done =
     let e = was_answered words files stand done in
     on (found_of wad name files) e.answer refl e.stands (subst (λ r. AnswersAsked r files done.heard (Ok e.answer)) asked e.called)
   where
     apart : has_twice (wad.file ∷ out ∷ (given cert ++ given report)) ≡ false
-    apart = of_words words (order.Build wad name out cert report workers budget) asked
+    apart = of_words words (order.Build wad name out cert report workers method) asked
 
-    on : (r : Result LocatedMap Status) (answer : Answer) → found_of wad name files ≡ r → stand ≡ put_all files answer.writes → OnFound r (BuildCalls name out cert report budget done.heard) (Ok answer) → LeavesRightReject wad name out budget files stand
+    on : (r : Result LocatedMap Status) (answer : Answer) → found_of wad name files ≡ r → stand ≡ put_all files answer.writes → OnFound r (BuildCalls name out cert report method done.heard) (Ok answer) → LeavesRightReject wad name out method files stand
     on (Err s) answer is left h = absurd cc
-    on (Ok found) answer is left h = right_left wad name out cert report budget files stand done.heard found answer apart h left is other
+    on (Ok found) answer is left h = right_left wad name out cert report method files stand done.heard found answer apart h left is other
+
+-- what a build that decides every pair left
+module _ (wad : Source) (name out : List ℕ) (cert report : Option (List ℕ)) (files stand : Files) (heard : Heard) (sink : Sinks) (found : LocatedMap) (answer : Answer) (apart : has_twice (wad.file ∷ out ∷ (given cert ++ given report)) ≡ false) (shows : ShowsBuild name out cert report how.Exact found heard answer) (left : stand ≡ put_all files answer.writes) where
+  exact_left : found_of wad name files ≡ Ok found → same_name (codes "REJECT") name ≡ false → sink.new.held ≡ option_map (λ held. held ++ answer.line) sink.old.held → LeavesExactReject wad name out files stand sink
+  exact_left is other said =
+      let right = right_left wad name out cert report how.Exact files stand heard found answer apart shows left is other in
+      let none = right.exact (inr refl) in
+      record {
+        found = right.found;
+        is_found = right.is_found;
+        new = right.new;
+        is_new = right.is_new;
+        same = right.same;
+        long = right.right.long;
+        bits = λ a b la lb. (right.right.blind a b la lb, λ unseen. set_bit right.found.map right.new a b (λ clear. unseen (right.right.seen a b la lb clear (none a b))));
+        seen = λ a b la lb clear. right.right.seen a b la lb clear (none a b);
+        counts = counts_with shows.built.table (length shows.built.listed);
+        none_listed = ap length shows.is_built.by_method.none_listed;
+        said = said ∙ ap (λ (l : List ℕ). option_map (λ held. held ++ l) sink.old.held) (ap (λ (a : Answer). a.line) shows.is);
+      }
+    where
+      -- a bit that isn't clear is set
+      set_bit : (m : Map) (new : LocatedMap) (a b : ℕ) → ¬ ¬ Rejected m.sectors (reject_of new) a b → Rejected m.sectors (reject_of new) a b
+      set_bit m new a b h = elim (same_or_not (table_bit (reject_of new) (a * m.sectors + b)) 1) as (λ _. Rejected m.sectors (reject_of new) a b) [
+        | inl set ↦ set
+        | inr clear ↦ absurd (h clear)
+      ]
+
+pub exact_is_right : ExactIsRight
+exact_is_right words wad name out cert report workers files stand asked other done =
+    let e = was_answered words files stand done in
+    on (found_of wad name files) e.answer refl e.stands e.said (subst (λ r. AnswersAsked r files done.heard (Ok e.answer)) asked e.called)
+  where
+    apart : has_twice (wad.file ∷ out ∷ (given cert ++ given report)) ≡ false
+    apart = of_words words (order.Build wad name out cert report workers how.Exact) asked
+
+    on : (r : Result LocatedMap Status) (answer : Answer) → found_of wad name files ≡ r → stand ≡ put_all files answer.writes → done.sink.new.held ≡ option_map (λ held. held ++ answer.line) done.sink.old.held → OnFound r (BuildCalls name out cert report how.Exact done.heard) (Ok answer) → LeavesExactReject wad name out files stand done.sink
+    on (Err s) answer is left said h = absurd cc
+    on (Ok found) answer is left said h = exact_left wad name out cert report files stand done.heard done.sink found answer apart h left is other said
 
 pub build_leaves_lumps : BuildLeavesLumps
-build_leaves_lumps words wad name out cert report workers budget files stand asked other done =
+build_leaves_lumps words wad name out cert report workers method files stand asked other done =
     let e = was_answered words files stand done in
-    subst (λ (fs : Files). KeepsLumps wad name out files fs HasTableLength) (sym e.stands) (build_keeps_lumps words wad name out cert report workers budget files done.heard e.answer asked other e.called)
+    subst (λ (fs : Files). KeepsLumps wad name out files fs HasTableLength) (sym e.stands) (build_keeps_lumps words wad name out cert report workers method files done.heard e.answer asked other e.called)
 
 -- ---- two builds
 
 pub builds_leave_one_wad : BuildsLeaveOneWad
-builds_leave_one_wad words others wad name out cert report other_cert other_report workers other_workers budget files stand other_stand asked other_asked one other =
+builds_leave_one_wad words others wad name out cert report other_cert other_report workers other_workers method files stand other_stand asked other_asked one other =
     let a = was_answered words files stand one in
     let b = was_answered others files other_stand other in
     let same = on (found_of wad name files) a.answer b.answer a.stands b.stands (subst (λ r. AnswersAsked r files one.heard (Ok a.answer)) asked a.called) (subst (λ r. AnswersAsked r files other.heard (Ok b.answer)) other_asked b.called) in
     (same.0, (a.answer.line, a.said, b.said ∙ ap (λ (l : List ℕ). option_map (λ held. held ++ l) other.sink.old.held) (sym same.1)))
   where
     apart : has_twice (wad.file ∷ out ∷ (given cert ++ given report)) ≡ false
-    apart = of_words words (order.Build wad name out cert report workers budget) asked
+    apart = of_words words (order.Build wad name out cert report workers method) asked
 
     other_apart : has_twice (wad.file ∷ out ∷ (given other_cert ++ given other_report)) ≡ false
-    other_apart = of_words others (order.Build wad name out other_cert other_report other_workers budget) other_asked
+    other_apart = of_words others (order.Build wad name out other_cert other_report other_workers method) other_asked
 
     on : (r : Result LocatedMap Status) (x y : Answer) → stand ≡ put_all files x.writes → other_stand ≡ put_all files y.writes
-        → OnFound r (BuildCalls name out cert report budget one.heard) (Ok x) → OnFound r (BuildCalls name out other_cert other_report budget other.heard) (Ok y) → (stand out ≡ other_stand out) × (x.line ≡ y.line)
+        → OnFound r (BuildCalls name out cert report method one.heard) (Ok x) → OnFound r (BuildCalls name out other_cert other_report method other.heard) (Ok y) → (stand out ≡ other_stand out) × (x.line ≡ y.line)
     on (Err s) x y left other_left p q = absurd cc
     on (Ok found) x y left other_left p q = (
-      wad_stands wad name out cert report budget files stand one.heard found x apart p left
-          ∙ ap (λ (bs : List ℕ). Some bs) (one_wad name out cert report other_cert other_report budget found one.heard other.heard x y p q)
-          ∙ sym (wad_stands wad name out other_cert other_report budget files other_stand other.heard found y other_apart q other_left),
-      one_line name out cert report other_cert other_report budget found one.heard other.heard x y p q,
+      wad_stands wad name out cert report method files stand one.heard found x apart p left
+          ∙ ap (λ (bs : List ℕ). Some bs) (one_wad name out cert report other_cert other_report method found one.heard other.heard x y p q)
+          ∙ sym (wad_stands wad name out other_cert other_report method files other_stand other.heard found y other_apart q other_left),
+      one_line name out cert report other_cert other_report method found one.heard other.heard x y p q,
     )

@@ -7,7 +7,7 @@ use Rattle.std.proofs.lemmas.List.Sums.{sum_by-cons, sum_by-insert}
 use Rattle.sight_names.specs.declared.limits.TheConstants.{MOST_LUMPS}
 use Rattle.sight_names.specs.declared.faults.RewriteFault.{RewriteFault}
 use Rattle.sight_names.specs.declared.faults.RewriteFault.TheVariants as fault
-use Rattle.sight_names.specs.declared.names.Ask.{Ask}
+use Rattle.sight_names.specs.declared.names.Method.{Method}
 use Rattle.wad_dir.specs.declared.parts.MapSpot.{MapSpot}
 use Rattle.wad_dir.specs.Print.{body_len, lumps_with_reject, print, printed_len, reject_lump, with_bytes, with_reject}
 use Rattle.wad_dir.specs.Wad.{WadFile, WadLump}
@@ -84,8 +84,8 @@ was_limited : (r : Result (List ℕ) RewriteFault) (s : Status) → of_rewrite r
 was_limited (Ok bytes) s h = absurd cc
 was_limited (Err f) s h = record { fault = f; is = refl }
 
-no_limit : (budget : Ask) (found : LocatedMap) (bound : Bound) → HasRoom found → ShowsLimit budget found bound → ⊥
-no_limit budget found bound room h =
+no_limit : (method : Method) (found : LocatedMap) (bound : Bound) → HasRoom found → ShowsLimit method found bound → ⊥
+no_limit method found bound room h =
     let table : List ℕ = h.built.table.bytes in
     let clear : List ℕ = clear_table found.map.sectors in
     let len : length clear ≡ length table = length-replicate (table_len found.map.sectors) 0 ∙ sym (h.is_built.table_is_whole.len ∙ ap (λ (n : ℕ). div_ceil (n * n) 8) h.is_built.sectors) in
@@ -94,12 +94,12 @@ no_limit budget found bound room h =
     (many_same found.wad.lumps found.spot clear table) (body_same found.wad.lumps found.spot clear table len)
     (was_printed (printed (with_reject found.wad found.spot clear)) room.bytes room.clear) limited.is
 
-ends_well : (budget : Ask) (found : LocatedMap) (s : Status) → HasRoom found → EndsBuild budget found s → (s ≡ status.Done) ⊎ (s ≡ status.Memory)
-ends_well budget found status.Done room h = inl refl
-ends_well budget found status.Memory room h = inr refl
-ends_well budget found (status.Limit bound) room h = absurd (no_limit budget found bound room h)
-ends_well budget found s room h = absurd h
+ends_well : (method : Method) (found : LocatedMap) (s : Status) → HasRoom found → EndsBuild method found s → (s ≡ status.Done) ⊎ (s ≡ status.Memory)
+ends_well method found status.Done room h = inl refl
+ends_well method found status.Memory room h = inr refl
+ends_well method found (status.Limit bound) room h = absurd (no_limit method found bound room h)
+ends_well method found s room h = absurd h
 
 pub build_with_room_is_done : BuildWithRoomIsDone
-build_with_room_is_done words wad name out asked report workers budget went found is_asked is_found sound room well =
-    ends_well budget found went.status room (build_is_done words wad name out asked report workers budget went found is_asked is_found sound well)
+build_with_room_is_done words wad name out asked report workers method went found is_asked is_found sound room well =
+    ends_well method found went.status room (build_is_done words wad name out asked report workers method went found is_asked is_found sound well)

@@ -4,7 +4,7 @@ use Rattle.std.specs.List.{AllByRecursion}
 use Rattle.std.specs.Option.{option_map}
 use Rattle.std.specs.Str.{bytes_eq}
 use Rattle.sight_names.specs.declared.faults.RewriteFault.TheVariants as rewrite
-use Rattle.sight_names.specs.declared.names.Ask.{Ask}
+use Rattle.sight_names.specs.declared.names.Method.{Method}
 use Rattle.sight_names.specs.Groups.{HasClosedFaces}
 use Rattle.sight_names.specs.Map.{Map}
 use Rattle.sight_names.specs.Table.{IsTable}
@@ -17,7 +17,6 @@ use Rattle.all_maps.specs.declared.parts.Change.{Change}
 use Rattle.all_maps.specs.All.{HasReject, IsAll}
 use Rattle.all_maps.specs.Names.{word_of}
 use Rattle.all_maps.specs.Spliced.{spliced}
-use Rattle.group_job.specs.declared.build.GroupBuilt.{GroupBuilt}
 use Rattle.order_words.specs.declared.order.Order.TheVariants as order
 use Rattle.order_words.specs.declared.order.Source.{Source}
 use Rattle.order_words.specs.declared.order.View.{View}
@@ -30,6 +29,7 @@ use Rattle.sight_status.specs.declared.status.Role.TheVariants as role
 use Rattle.sight_status.specs.declared.status.Status.{Status}
 use Rattle.sight_status.specs.declared.status.Status.TheVariants as status
 use Rattle.sight_status.specs.Answer.{Answer, only_line}
+use Rattle.whole_wad.specs.declared.building.Built.{Built}
 use Rattle.whole_wad.specs.declared.outcomes.MapOutcome.{MapOutcome}
 use Rattle.whole_wad.specs.declared.tables.MapTable.{MapTable}
 use Rattle.whole_wad.specs.Built.{IsBuiltOf}
@@ -56,8 +56,8 @@ pub record AskBoth (build check : List (List ℕ)) (name out cert : List ℕ) : 
   pub wad : Source
   pub report : Option (List ℕ)
   pub workers : ℕ
-  pub budget : Ask
-  pub built : asked_of build ≡ Ok (order.Build wad name out (Some cert) report workers budget)
+  pub method : Method
+  pub built : asked_of build ≡ Ok (order.Build wad name out (Some cert) report workers method)
   pub checked : asked_of check ≡ Ok (order.Check (source_of wad.large out) name cert)
   -- the map isn't called REJECT
   pub other : same_name (codes "REJECT") name ≡ false
@@ -140,8 +140,8 @@ ZeroKeepsLumps = (words : List (List ℕ)) (wad : Source) (name out : List ℕ) 
 
 -- where `build` is answered, it holds the WAD with a table of the map's sectors and all other lumps as they were
 abbrev pub BuildKeepsLumps : Type 0
-BuildKeepsLumps = (words : List (List ℕ)) (wad : Source) (name out : List ℕ) (asked report : Option (List ℕ)) (workers : ℕ) (budget : Ask) (files : Files) (heard : Heard) (answer : Answer)
-    → asked_of words ≡ Ok (order.Build wad name out asked report workers budget) → same_name (codes "REJECT") name ≡ false → IsAnswer words files heard (Ok answer)
+BuildKeepsLumps = (words : List (List ℕ)) (wad : Source) (name out : List ℕ) (asked report : Option (List ℕ)) (workers : ℕ) (method : Method) (files : Files) (heard : Heard) (answer : Answer)
+    → asked_of words ≡ Ok (order.Build wad name out asked report workers method) → same_name (codes "REJECT") name ≡ false → IsAnswer words files heard (Ok answer)
     → KeepsLumps wad name out files (put_all files answer.writes) HasTableLength
 
 -- ---- what `draw` writes
@@ -183,17 +183,17 @@ RowIsOfReject = (words : List (List ℕ)) (wad : Source) (name out : List ℕ) (
 -- ---- what `all` writes
 
 -- what was built, without its certificate
-abbrev pub table_built : GroupBuilt → MapTable
+abbrev pub table_built : Built → MapTable
 table_built built = record { table = built.table; listed = built.listed }
 
--- What `all` makes of a map is what `build` makes of it within the same budget: the same table, byte for byte, and the same list, or the same flaw.
-pub record AreMadeAlike (found : LocatedMap) (name : List ℕ) (budget : Ask) (outcomes : List MapOutcome) : Type 0 where
-  pub tables : (o : MapOutcome) → Contains outcomes o → word_of o.name ≡ name → (built : GroupBuilt) → IsBuiltOf found.map budget built → o.made ≡ Ok (table_built built)
+-- What `all` makes of a map is what `build` makes of it by the same method: the same table, byte for byte, and the same list, or the same flaw.
+pub record AreMadeAlike (found : LocatedMap) (name : List ℕ) (method : Method) (outcomes : List MapOutcome) : Type 0 where
+  pub tables : (o : MapOutcome) → Contains outcomes o → word_of o.name ≡ name → (built : Built) → IsBuiltOf found.map method built → o.made ≡ Ok (table_built built)
   pub flaws : (o : MapOutcome) → Contains outcomes o → word_of o.name ≡ name → (refusal : Status) → IsFlawOf found.map refusal → o.made ≡ Err refusal
 
 abbrev pub AllIsAsBuild : Type 0
-AllIsAsBuild = (wad : Source) (name : List ℕ) (files : Files) (w : WadFile) (found : LocatedMap) (maps : List (List ℕ)) (budget : Ask) (outcomes : List MapOutcome)
-    → wad_in wad.file files ≡ Ok w → found_of wad name files ≡ Ok found → AreOutcomes w wad.large maps budget outcomes → AreMadeAlike found name budget outcomes
+AllIsAsBuild = (wad : Source) (name : List ℕ) (files : Files) (w : WadFile) (found : LocatedMap) (maps : List (List ℕ)) (method : Method) (outcomes : List MapOutcome)
+    → wad_in wad.file files ≡ Ok w → found_of wad name files ≡ Ok found → AreOutcomes w wad.large maps method outcomes → AreMadeAlike found name method outcomes
 
 -- a table has the length that the sectors of its map ask
 abbrev pub HasLengthOf : Result Map Status → Result MapTable Status → Type 0
@@ -202,13 +202,13 @@ HasLengthOf said other = ⊤
 
 -- Under OUT stands a WAD that is read as the one of the file in which each map that was to be built and got a table has it as its REJECT,
 -- and in which all other lumps are as they were, in order.
-pub record KeepsAllLumps (wad : Source) (out : List ℕ) (only : Option (List (List ℕ))) (budget : Ask) (files stand : Files) : Type 0 where
+pub record KeepsAllLumps (wad : Source) (out : List ℕ) (only : Option (List (List ℕ))) (method : Method) (files stand : Files) : Type 0 where
   pub w : WadFile
   pub was : wad_in wad.file files ≡ Ok w
   pub maps : List (List ℕ)
   pub asked : maps_in (names_of w) only ≡ Ok maps
   pub outcomes : List MapOutcome
-  pub are : AreOutcomes w wad.large maps budget outcomes
+  pub are : AreOutcomes w wad.large maps method outcomes
   pub lengths : AllByRecursion (λ (o : MapOutcome). HasLengthOf (map_named wad.large w (word_of o.name)) o.made) outcomes
   pub bytes : List ℕ
   pub stands : stand out ≡ Some bytes
@@ -223,9 +223,9 @@ pub record KeepsAllLumps (wad : Source) (out : List ℕ) (only : Option (List (L
 
 -- Where `all` is answered, OUT holds such a WAD.
 abbrev pub AllKeepsLumps : Type 0
-AllKeepsLumps = (words : List (List ℕ)) (wad : Source) (out : List ℕ) (only : Option (List (List ℕ))) (report : Option (List ℕ)) (workers : ℕ) (budget : Ask) (files : Files) (heard : Heard) (answer : Answer)
-    → asked_of words ≡ Ok (order.All wad out only report workers budget) → IsAnswer words files heard (Ok answer)
-    → KeepsAllLumps wad out only budget files (put_all files answer.writes)
+AllKeepsLumps = (words : List (List ℕ)) (wad : Source) (out : List ℕ) (only : Option (List (List ℕ))) (report : Option (List ℕ)) (workers : ℕ) (method : Method) (files : Files) (heard : Heard) (answer : Answer)
+    → asked_of words ≡ Ok (order.All wad out only report workers method) → IsAnswer words files heard (Ok answer)
+    → KeepsAllLumps wad out only method files (put_all files answer.writes)
 
 -- ---- where nothing failed
 
@@ -245,17 +245,17 @@ pub record WentWell (words : List (List ℕ)) (went : Went) : Type 0 where
   pub quiet : NothingRose went.before went.after went.sink.old went.sink.new
 
 -- it is done, unless memory ran out, or the WAD with the table is above that limit
-abbrev pub EndsBuild : Ask → LocatedMap → Status → Type 0
-EndsBuild budget found status.Done = ⊤
-EndsBuild budget found status.Memory = ⊤
-EndsBuild budget found (status.Limit bound) = ShowsLimit budget found bound
-EndsBuild budget found other = ⊥
+abbrev pub EndsBuild : Method → LocatedMap → Status → Type 0
+EndsBuild method found status.Done = ⊤
+EndsBuild method found status.Memory = ⊤
+EndsBuild method found (status.Limit bound) = ShowsLimit method found bound
+EndsBuild method found other = ⊥
 
 -- A build of a map that the audit accepts ends so.
 abbrev pub BuildIsDone : Type 0
-BuildIsDone = (words : List (List ℕ)) (wad : Source) (name out : List ℕ) (asked report : Option (List ℕ)) (workers : ℕ) (budget : Ask) (went : Went) (found : LocatedMap)
-    → asked_of words ≡ Ok (order.Build wad name out asked report workers budget) → found_of wad name went.files ≡ Ok found → HasClosedFaces found.map
-    → WentWell words went → EndsBuild budget found went.status
+BuildIsDone = (words : List (List ℕ)) (wad : Source) (name out : List ℕ) (asked report : Option (List ℕ)) (workers : ℕ) (method : Method) (went : Went) (found : LocatedMap)
+    → asked_of words ≡ Ok (order.Build wad name out asked report workers method) → found_of wad name went.files ≡ Ok found → HasClosedFaces found.map
+    → WentWell words went → EndsBuild method found went.status
 
 -- the WAD with a clear REJECT for the map, as `zero` writes it, is within the limits; so is the one with any other table of its sectors
 pub record HasRoom (found : LocatedMap) : Type 0 where
@@ -264,20 +264,20 @@ pub record HasRoom (found : LocatedMap) : Type 0 where
 
 -- Where there is room it ends with Done, or for want of memory.
 abbrev pub BuildWithRoomIsDone : Type 0
-BuildWithRoomIsDone = (words : List (List ℕ)) (wad : Source) (name out : List ℕ) (asked report : Option (List ℕ)) (workers : ℕ) (budget : Ask) (went : Went) (found : LocatedMap)
-    → asked_of words ≡ Ok (order.Build wad name out asked report workers budget) → found_of wad name went.files ≡ Ok found → HasClosedFaces found.map → HasRoom found
+BuildWithRoomIsDone = (words : List (List ℕ)) (wad : Source) (name out : List ℕ) (asked report : Option (List ℕ)) (workers : ℕ) (method : Method) (went : Went) (found : LocatedMap)
+    → asked_of words ≡ Ok (order.Build wad name out asked report workers method) → found_of wad name went.files ≡ Ok found → HasClosedFaces found.map → HasRoom found
     → WentWell words went → (went.status ≡ status.Done) ⊎ (went.status ≡ status.Memory)
 
 -- it is done, unless memory ran out, or the WAD with all tables is above that limit
-abbrev pub EndsAll : Bool → List (List ℕ) → Ask → WadFile → Status → Type 0
-EndsAll large maps budget w status.Done = ⊤
-EndsAll large maps budget w status.Memory = ⊤
-EndsAll large maps budget w (status.Limit bound.Lumps) = IsAboveLimit w large maps budget rewrite.TooManyLumps
-EndsAll large maps budget w (status.Limit bound.OutputBytes) = IsAboveLimit w large maps budget rewrite.TooLong
-EndsAll large maps budget w other = ⊥
+abbrev pub EndsAll : Bool → List (List ℕ) → Method → WadFile → Status → Type 0
+EndsAll large maps method w status.Done = ⊤
+EndsAll large maps method w status.Memory = ⊤
+EndsAll large maps method w (status.Limit bound.Lumps) = IsAboveLimit w large maps method rewrite.TooManyLumps
+EndsAll large maps method w (status.Limit bound.OutputBytes) = IsAboveLimit w large maps method rewrite.TooLong
+EndsAll large maps method w other = ⊥
 
 -- `all` of a WAD that is read ends so, where each name that is given is that of a map. Without names there is nothing to be found.
 abbrev pub AllIsDone : Type 0
-AllIsDone = (words : List (List ℕ)) (wad : Source) (out : List ℕ) (only : Option (List (List ℕ))) (report : Option (List ℕ)) (workers : ℕ) (budget : Ask) (went : Went) (w : WadFile) (maps : List (List ℕ))
-    → asked_of words ≡ Ok (order.All wad out only report workers budget) → wad_in wad.file went.files ≡ Ok w → maps_in (names_of w) only ≡ Ok maps
-    → WentWell words went → EndsAll wad.large maps budget w went.status
+AllIsDone = (words : List (List ℕ)) (wad : Source) (out : List ℕ) (only : Option (List (List ℕ))) (report : Option (List ℕ)) (workers : ℕ) (method : Method) (went : Went) (w : WadFile) (maps : List (List ℕ))
+    → asked_of words ≡ Ok (order.All wad out only report workers method) → wad_in wad.file went.files ≡ Ok w → maps_in (names_of w) only ≡ Ok maps
+    → WentWell words went → EndsAll wad.large maps method w went.status

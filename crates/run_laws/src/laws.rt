@@ -14,7 +14,7 @@ pub fn built_run_is_checked()
     ensures { BuiltRunIsChecked }
 {}
 
-/// All that `build` answers of a map within a budget says one line and writes one WAD, by how many workers ever.
+/// All that `build` answers of a map by a method says one line and writes one WAD, by how many workers ever.
 pub fn builds_say_one_thing()
     ensures { BuildsSayOneThing }
 {}
@@ -48,7 +48,7 @@ pub fn all_keeps_lumps()
     ensures { AllKeepsLumps }
 {}
 
-/// What `all` makes of a map of a WAD is what `build` makes of it within the same budget: the same table, byte for byte,
+/// What `all` makes of a map of a WAD is what `build` makes of it by the same method: the same table, byte for byte,
 /// and the same listed pairs, or the same flaw.
 pub fn all_is_as_build()
     ensures { AllIsAsBuild }

@@ -8,8 +8,8 @@ use Rattle.sight_names.specs.declared.faults.TableFault.TheVariants as table
 use Rattle.sight_names.specs.Map.{Map}
 use Rattle.shelf_io.specs.Shelf.{Files, content_of}
 use Rattle.reject_bits.specs.Parts.{TableParts}
-use Rattle.cert_groups.specs.declared.cert.AnyCert.{AnyCert}
-use Rattle.cert_groups.specs.Reading.{any_at}
+use Rattle.certificates.specs.declared.certificate.Certificate.{Certificate}
+use Rattle.certificates.specs.Reading.{certificate_at}
 use Rattle.group_checker.specs.declared.verdict.AnyFault.TheVariants as fault
 use Rattle.group_checker.specs.declared.verdict.AnyVerdict.TheVariants as verdict
 use Rattle.cert_judge.specs.declared.judged.Judged.{Judged}
@@ -31,10 +31,10 @@ use Rattle.sight_run.proofs.Checks.{gives_unread, gives_verdict}
 
 -- ---- the table and the certificate
 
-abbrev pub input_as : List ℕ → AnyCert → CheckInput
+abbrev pub input_as : List ℕ → Certificate → CheckInput
 input_as t c = record { table = t; cert = c }
 
-abbrev pub with_parts : List ℕ → Result AnyCert Status → Result CheckInput Status
+abbrev pub with_parts : List ℕ → Result Certificate Status → Result CheckInput Status
 with_parts t r = r >>= (λ parts. Ok (input_as t parts))
 
 abbrev pub with_cert : Map → List ℕ → Result (List ℕ) Status → Result CheckInput Status
@@ -47,7 +47,7 @@ pub input_by : (name : List ℕ) (found : LocatedMap) (files : Files) → check_
 unfolding check_input
 input_by name found files = refl
 
-pub is_input : (name : List ℕ) (found : LocatedMap) (files : Files) (t spelled : List ℕ) (c : AnyCert) → of_length found.map.sectors (reject_of found) ≡ Ok t → of_cert_fetch (content_of (files name) 9223372036854775807) ≡ Ok spelled → cert_in found.map spelled ≡ Ok c
+pub is_input : (name : List ℕ) (found : LocatedMap) (files : Files) (t spelled : List ℕ) (c : Certificate) → of_length found.map.sectors (reject_of found) ≡ Ok t → of_cert_fetch (content_of (files name) 9223372036854775807) ≡ Ok spelled → cert_in found.map spelled ≡ Ok c
     → check_input name found files ≡ Ok (input_as t c)
 is_input name found files t spelled c p q r = input_by name found files ∙ ap (with_bytes name found files) p ∙ ap (with_cert found.map t) q ∙ ap (with_parts t) r
 
@@ -82,7 +82,7 @@ module _ (name : List ℕ) (found : LocatedMap) (files : Files) (lines : HasSoun
     unread cert.Memory e = tt
     unread g e = gives_unread found.map ⊤ (λ (x : CheckInput). x) (check_input name found files) (status.No (why.Cert g)) lines tt e
 
-    by_reading : (t : TableParts) → IsTableOf found.map.sectors raw t → (r : Result AnyCert CertFault) (given : Judged) → check_input name found files ≡ with_parts raw (of_reading r) → JudgedBy r (IsJudged found.map t) given → Gives ⊤ (CheckCalls name files found) (answer_of found.map.sectors given)
+    by_reading : (t : TableParts) → IsTableOf found.map.sectors raw t → (r : Result Certificate CertFault) (given : Judged) → check_input name found files ≡ with_parts raw (of_reading r) → JudgedBy r (IsJudged found.map t) given → Gives ⊤ (CheckCalls name files found) (answer_of found.map.sectors given)
     by_reading t is (Ok c) (judged.Verdict (verdict.Yes totals)) e h =
         gives_verdict found.map (check_input name found files) (input_as raw c) t (Ok (only_line (yes_line found.map.sectors totals))) e is lines tt
         (record { called = record { totals = totals; judged = h; is = refl }; only = λ sole. absurd sole })
@@ -101,7 +101,7 @@ module _ (name : List ℕ) (found : LocatedMap) (files : Files) (lines : HasSoun
         → IsJudgement found.map t bytes given → Makes (λ line. only_line (string_bytes line)) r (answer_of n given) → Gives ⊤ (CheckCalls name files found) (line_answer r)
     judged_gives t bytes given r is whole h made = line_gives r made
         (subst (λ (k : ℕ). Gives ⊤ (CheckCalls name files found) (answer_of k given)) (sym size)
-        (by_reading t (subst (λ (k : ℕ). IsTableOf k raw t) size is) (any_at (sizes_of_map found.map) bytes) given (input_taken (Ok bytes) whole) h))
+        (by_reading t (subst (λ (k : ℕ). IsTableOf k raw t) size is) (certificate_at (sizes_of_map found.map) bytes) given (input_taken (Ok bytes) whole) h))
       where
         line_gives : (r : Result (String Global) Status) → Makes (λ line. only_line (string_bytes line)) r (answer_of n given) → Gives ⊤ (CheckCalls name files found) (answer_of n given) → Gives ⊤ (CheckCalls name files found) (line_answer r)
         line_gives (Ok line) e g = subst (λ (x : Result Answer Status). Gives ⊤ (CheckCalls name files found) x) e g

@@ -1,6 +1,6 @@
 -- What the listeners have heard where a call ends, by how far it came.
 use Rattle.std.proofs.Common.{◌≡◌, ℕ, inl, inr, List, Option, Some, None, Result, Ok, Err, refl, sym, subst}
-use Rattle.sight_names.specs.declared.names.Ask.{Ask}
+use Rattle.sight_names.specs.declared.names.Method.{Method}
 use Rattle.listeners.specs.declared.finding.Finding.{Finding}
 use Rattle.shelf_io.specs.Shelf.{Files, ShelfState}
 use Rattle.shelf_io.specs.Sink.{SinkState}
@@ -62,16 +62,16 @@ build_wider Are More heard status.Memory f (inr h) = inr (fronts_wider Are More 
 build_wider Are More heard s f h = h
 
 -- the findings of a map that was found are those that the files tell
-pub found_in_files : (files : Option Files) (wad : Source) (name : List ℕ) (budget : Ask) (found : LocatedMap) → ((told : Files) → files ≡ Some told → found_of wad name told ≡ Ok found)
-    → (fs : List Finding) → AreFindingsOf found.map budget fs → AreFindingsIn files wad name budget fs
-found_in_files None wad name budget found told fs h = tt
-found_in_files (Some files) wad name budget found told fs h = subst (λ (r : Result LocatedMap Status). AreOfFound r budget fs) (sym (told files refl)) h
+pub found_in_files : (files : Option Files) (wad : Source) (name : List ℕ) (method : Method) (found : LocatedMap) → ((told : Files) → files ≡ Some told → found_of wad name told ≡ Ok found)
+    → (fs : List Finding) → AreFindingsOf found.map method fs → AreFindingsIn files wad name method fs
+found_in_files None wad name method found told fs h = tt
+found_in_files (Some files) wad name method found told fs h = subst (λ (r : Result LocatedMap Status). AreOfFound r method fs) (sym (told files refl)) h
 
 -- ---- an output couldn't be stored
 
 fault_hears : (asked : Order) (files : Option Files) (heard : Heard) (k : Role) → OrderHears asked files heard status.Done → OrderHears asked files heard (status.WriteFault k)
-fault_hears (order.Build wad name out cert report workers budget) files heard role.Text h = inr h
-fault_hears (order.Build wad name out cert report workers budget) files heard k h = h
+fault_hears (order.Build wad name out cert report workers method) files heard role.Text h = inr h
+fault_hears (order.Build wad name out cert report workers method) files heard k h = h
 fault_hears asked files heard k h = h
 
 pub broken_hears : (asked : Order) (files : Option Files) (heard : Heard) (roles : List Role) (s : Status) → IsFaultOf roles s → OrderHears asked files heard status.Done → OrderHears asked files heard s
@@ -88,7 +88,7 @@ build_cut Are heard status.Memory has h = absurd has
 build_cut Are heard s has h = inl h
 
 order_cut : (asked : Order) (files : Option Files) (heard : Heard) (s : Status) → HasLine s → OrderHears asked files heard s → OrderHears asked files heard (status.WriteFault role.Text)
-order_cut (order.Build wad name out cert report workers budget) files heard s has h = build_cut (AreFindingsIn files wad name budget) heard s has h
+order_cut (order.Build wad name out cert report workers method) files heard s has h = build_cut (AreFindingsIn files wad name method) heard s has h
 order_cut asked files heard s has h = h
 
 line_cut : (asked : Result Order Status) (files : Option Files) (heard : Heard) (s : Status) → HasLine s → Hears asked files heard s → Hears asked files heard (status.WriteFault role.Text)
@@ -104,7 +104,7 @@ build_starved Are heard status.Memory early h = h
 build_starved Are heard s early h = inl h
 
 order_starved : (asked : Order) (files : Option Files) (heard : Heard) (s : Status) → IsUnstored s → OrderHears asked files heard s → OrderHears asked files heard status.Memory
-order_starved (order.Build wad name out cert report workers budget) files heard s early h = build_starved (AreFindingsIn files wad name budget) heard s early h
+order_starved (order.Build wad name out cert report workers method) files heard s early h = build_starved (AreFindingsIn files wad name method) heard s early h
 order_starved asked files heard s early h = h
 
 line_starved : (asked : Result Order Status) (files : Option Files) (heard : Heard) (s : Status) → IsUnstored s → Hears asked files heard s → Hears asked files heard status.Memory
@@ -146,6 +146,6 @@ pub hears_in : (asked : Result Order Status) (told : Option Files) (files : File
 hears_in asked told files heard s e h = subst (λ (o : Option Files). Hears asked o heard s) e h
 
 -- .. and by the same name
-pub build_named : (files : Option Files) (wad : Source) (name other_name : List ℕ) (budget : Ask) (heard : Heard) (s : Status) → name ≡ other_name
-    → BuildHears (AreFindingsIn files wad name budget) heard s → BuildHears (AreFindingsIn files wad other_name budget) heard s
-build_named files wad name other_name budget heard s e h = subst (λ (n : List ℕ). BuildHears (AreFindingsIn files wad n budget) heard s) e h
+pub build_named : (files : Option Files) (wad : Source) (name other_name : List ℕ) (method : Method) (heard : Heard) (s : Status) → name ≡ other_name
+    → BuildHears (AreFindingsIn files wad name method) heard s → BuildHears (AreFindingsIn files wad other_name method) heard s
+build_named files wad name other_name method heard s e h = subst (λ (n : List ℕ). BuildHears (AreFindingsIn files wad n method) heard s) e h

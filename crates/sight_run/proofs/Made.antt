@@ -2,7 +2,7 @@
 use Rattle.std.proofs.Common.{◌≡◌, ◌⊎◌, ◌∙◌, inl, inr, ℕ, Bool, List, [], ◌++◌, Result, Ok, Err, sym, ap, subst}
 use Rattle.std.specs.Prelude.{IfErr, IfOk, string_bytes, ⊤}
 use Rattle.std.specs.Option.{option_map}
-use Rattle.sight_names.specs.declared.names.Ask.{Ask}
+use Rattle.sight_names.specs.declared.names.Method.{Method}
 use Rattle.shelf_io.specs.Shelf.{ShelfState}
 use Rattle.shelf_io.specs.Sink.{SinkState}
 use Rattle.order_words.specs.declared.order.Order.{Order}
@@ -24,26 +24,26 @@ use Rattle.sight_run.specs.Run.{RefusalCause}
 -- ---- by the order
 
 -- the reply has no output, so its line is all that is answered
-pub grid_says : (n : ℕ) (hexen : Bool) (budget : Ask) (r : Result Reply Status) → Gives ⊤ (GridCalls n hexen budget) (reply_seen r) → IfOk r (λ reply. writes reply ≡ []) → IfErr r IsOfGrid → GridSays n hexen budget (status_of (reply_seen r)) (reply_line r)
-grid_says n hexen budget (Ok reply) h none of = subst (λ (ws : List Written). GridCalls n hexen budget (Ok (record { writes = ws; line = string_bytes reply.line }))) none h.called
-grid_says n hexen budget (Err status.Done) h none of = absurd of
-grid_says n hexen budget (Err status.Memory) h none of = tt
-grid_says n hexen budget (Err (status.WriteFault k)) h none of = tt
-grid_says n hexen budget (Err (status.ReadFault k)) h none of = absurd of
-grid_says n hexen budget (Err s) h none of = h.called
+pub grid_says : (n : ℕ) (hexen : Bool) (method : Method) (r : Result Reply Status) → Gives ⊤ (GridCalls n hexen method) (reply_seen r) → IfOk r (λ reply. writes reply ≡ []) → IfErr r IsOfGrid → GridSays n hexen method (status_of (reply_seen r)) (reply_line r)
+grid_says n hexen method (Ok reply) h none of = subst (λ (ws : List Written). GridCalls n hexen method (Ok (record { writes = ws; line = string_bytes reply.line }))) none h.called
+grid_says n hexen method (Err status.Done) h none of = absurd of
+grid_says n hexen method (Err status.Memory) h none of = tt
+grid_says n hexen method (Err (status.WriteFault k)) h none of = tt
+grid_says n hexen method (Err (status.ReadFault k)) h none of = absurd of
+grid_says n hexen method (Err s) h none of = h.called
 
 -- an order whose output can't be stored has made one
 pub broken_made : (asked : Order) (roles : List Role) (s : Status) (line : List ℕ) → IsFaultOf roles s → IsMadeBy asked s line
-broken_made (order.Grid n workers budget hexen) roles (status.WriteFault k) line h = tt
-broken_made (order.Grid n workers budget hexen) roles s line h = absurd h
+broken_made (order.Grid n workers method hexen) roles (status.WriteFault k) line h = tt
+broken_made (order.Grid n workers method hexen) roles s line h = absurd h
 broken_made asked roles s line h = tt
 
 starved_by : (asked : Order) (line : List ℕ) → IsMadeBy asked status.Memory line
-starved_by (order.Grid n workers budget hexen) line = tt
+starved_by (order.Grid n workers method hexen) line = tt
 starved_by asked line = tt
 
 unput_by : (asked : Order) (line : List ℕ) → IsMadeBy asked (status.WriteFault role.Text) line
-unput_by (order.Grid n workers budget hexen) line = tt
+unput_by (order.Grid n workers method hexen) line = tt
 unput_by asked line = tt
 
 -- ---- by the words

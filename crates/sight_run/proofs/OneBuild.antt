@@ -2,7 +2,7 @@
 use Rattle.std.proofs.Common.{◌≡◌, ℕ, List, [], Option, Some, None, Result, Ok, Err, sym, ap, ◌∙◌}
 use Rattle.std.specs.Prelude.{⊤}
 use Rattle.sight_names.specs.declared.faults.LineFault.{LineFault}
-use Rattle.sight_names.specs.declared.names.Ask.{Ask}
+use Rattle.sight_names.specs.declared.names.Method.{Method}
 use Rattle.sight_names.specs.declared.names.Side.{Side}
 use Rattle.map_audit.proofs.AuditLemmas.{not_sound, one_fault}
 use Rattle.reject_bits.specs.Parts.{TableParts}
@@ -24,24 +24,24 @@ use Rattle.sight_run.specs.Reading.{found_of}
 use Rattle.sight_run.specs.Zero.{with_table}
 use Rattle.sight_run.proofs.OneLine.{one_count, one_wad}
 
-module _ (name out : List ℕ) (budget : Ask) (heard : Heard) (found : LocatedMap) where
-  one_shown : (one other : Answer) → ShowsBuild name out None None budget found heard one → ShowsBuild name out None None budget found heard other → other ≡ one
+module _ (name out : List ℕ) (method : Method) (heard : Heard) (found : LocatedMap) where
+  one_shown : (one other : Answer) → ShowsBuild name out None None method found heard one → ShowsBuild name out None None method found heard other → other ≡ one
   one_shown one other p q =
-      let bytes = one_wad name out None None None None budget found heard heard one other p q in
-      let counts = one_count found.map budget p.built q.built p.is_built q.is_built in
+      let bytes = one_wad name out None None None None method found heard heard one other p q in
+      let counts = one_count found.map method p.built q.built p.is_built q.is_built in
       q.is ∙ sym (λ i. record { writes = build_writes out (bytes i) None []; line = build_line name (counts i) }) ∙ sym p.is
 
-  shown_and_limited : (one : Answer) (bound : Bound) → ShowsBuild name out None None budget found heard one → ShowsLimit budget found bound → ⊥
+  shown_and_limited : (one : Answer) (bound : Bound) → ShowsBuild name out None None method found heard one → ShowsLimit method found bound → ⊥
   shown_and_limited one bound p q =
-      let same = one_table found.map budget p.built q.built p.is_built q.is_built in
+      let same = one_table found.map method p.built q.built p.is_built q.is_built in
       let e : ◌≡◌ {A = Result (List ℕ) Status} (Ok p.bytes) (Err (status.Limit bound)) = sym p.made ∙ ap (λ (t : TableParts). with_table found t.bytes) same.table ∙ q.limit in absurd cc
 
-  one_limit : (one other : Bound) → ShowsLimit budget found one → ShowsLimit budget found other → other ≡ one
+  one_limit : (one other : Bound) → ShowsLimit method found one → ShowsLimit method found other → other ≡ one
   one_limit one other p q =
-      let same = one_table found.map budget p.built q.built p.is_built q.is_built in
+      let same = one_table found.map method p.built q.built p.is_built q.is_built in
       let e : ◌≡◌ {A = Result (List ℕ) Status} (Err (status.Limit one)) (Err (status.Limit other)) = sym p.limit ∙ ap (λ (t : TableParts). with_table found t.bytes) same.table ∙ q.limit in cc
 
-  one_answer : (one other : Result Answer Status) → BuildCalls name out None None budget heard found one → BuildCalls name out None None budget heard found other → other ≡ one
+  one_answer : (one other : Result Answer Status) → BuildCalls name out None None method heard found one → BuildCalls name out None None method heard found other → other ≡ one
   one_answer (Ok one) (Ok other) p q = ap (λ (a : Answer). Ok a) (one_shown one other p q)
   one_answer (Ok one) (Err (status.BadMap (flaw.Line f))) p q = absurd (not_sound found.map f q p.is_built.fit.ends)
   one_answer (Ok one) (Err (status.BadMap (flaw.Open side))) p q = absurd (q.1.against (p.is_built.fit.closed side))
@@ -64,19 +64,19 @@ module _ (name out : List ℕ) (budget : Ask) (heard : Heard) (found : LocatedMa
   one_answer (Err (status.Limit bound)) (Err s) p q = absurd q
   one_answer (Err s) other p q = absurd p
 
-one_of_found : (name out : List ℕ) (budget : Ask) (heard : Heard) (said : Result LocatedMap Status) (one other : Result Answer Status) → OnFound said (BuildCalls name out None None budget heard) one → OnFound said (BuildCalls name out None None budget heard) other → other ≡ one
-one_of_found name out budget heard (Ok found) one other p q = one_answer name out budget heard found one other p q
-one_of_found name out budget heard (Err s) one other p q = q ∙ sym p
+one_of_found : (name out : List ℕ) (method : Method) (heard : Heard) (said : Result LocatedMap Status) (one other : Result Answer Status) → OnFound said (BuildCalls name out None None method heard) one → OnFound said (BuildCalls name out None None method heard) other → other ≡ one
+one_of_found name out method heard (Ok found) one other p q = one_answer name out method heard found one other p q
+one_of_found name out method heard (Err s) one other p q = q ∙ sym p
 
-plain_gives : (name out : List ℕ) (budget : Ask) (heard : Heard) (said : Result LocatedMap Status) (r : Result Answer Status) → Gives (IsUnbuildable said) (OnFound said (BuildCalls name out None None budget heard)) r → Gives ⊤ (OnFound said (BuildCalls name out None None budget heard)) r
-plain_gives name out budget heard said (Err status.Memory) h = tt
-plain_gives name out budget heard said (Err (status.ReadFault k)) h = tt
-plain_gives name out budget heard said r h = record { called = h.called; only = λ sole other q. one_of_found name out budget heard said r other h.called q }
+plain_gives : (name out : List ℕ) (method : Method) (heard : Heard) (said : Result LocatedMap Status) (r : Result Answer Status) → Gives (IsUnbuildable said) (OnFound said (BuildCalls name out None None method heard)) r → Gives ⊤ (OnFound said (BuildCalls name out None None method heard)) r
+plain_gives name out method heard said (Err status.Memory) h = tt
+plain_gives name out method heard said (Err (status.ReadFault k)) h = tt
+plain_gives name out method heard said r h = record { called = h.called; only = λ sole other q. one_of_found name out method heard said r other h.called q }
 
 -- what is given for a build is given for its order
-pub gives_build : (wad : Source) (name out : List ℕ) (cert report : Option (List ℕ)) (workers : ℕ) (budget : Ask) (files : Files) (heard : Heard) (r : Result Answer Status)
-    → Gives (IsUnbuildable (found_of wad name files)) (OnFound (found_of wad name files) (BuildCalls name out cert report budget heard)) r
-    → Gives (IsDetermined (order.Build wad name out cert report workers budget) files) (Obeys (order.Build wad name out cert report workers budget) files heard) r
-gives_build wad name out None None workers budget files heard r h = plain_gives name out budget heard (found_of wad name files) r h
-gives_build wad name out None (Some report) workers budget files heard r h = h
-gives_build wad name out (Some cert) report workers budget files heard r h = h
+pub gives_build : (wad : Source) (name out : List ℕ) (cert report : Option (List ℕ)) (workers : ℕ) (method : Method) (files : Files) (heard : Heard) (r : Result Answer Status)
+    → Gives (IsUnbuildable (found_of wad name files)) (OnFound (found_of wad name files) (BuildCalls name out cert report method heard)) r
+    → Gives (IsDetermined (order.Build wad name out cert report workers method) files) (Obeys (order.Build wad name out cert report workers method) files heard) r
+gives_build wad name out None None workers method files heard r h = plain_gives name out method heard (found_of wad name files) r h
+gives_build wad name out None (Some report) workers method files heard r h = h
+gives_build wad name out (Some cert) report workers method files heard r h = h

@@ -5,7 +5,7 @@ use Rattle.sight_names.specs.declared.limits.TheConstants.{MOST_BYTES}
 use Rattle.sight_names.specs.declared.faults.MapFault.{MapFault}
 use Rattle.sight_names.specs.declared.faults.WadFault.{WadFault}
 use Rattle.sight_names.specs.declared.faults.WadFault.TheVariants as wad
-use Rattle.sight_names.specs.declared.names.Ask.{Ask}
+use Rattle.sight_names.specs.declared.names.Method.{Method}
 use Rattle.shelf_io.specs.Shelf.{Files, SameCounts, ShelfState, content_of}
 use Rattle.wad_dir.specs.Wad.{WadFile, wad_of}
 use Rattle.all_maps.specs.All.{HasInOrder}
@@ -111,26 +111,26 @@ names_cause only old new (status.NoMap fault) h same = same
 names_cause only old new status.Memory h same = tt
 names_cause only old new s h same = absurd h
 
-of_order : (wad : Source) (out : List ℕ) (only : Option (List (List ℕ))) (report : Option (List ℕ)) (workers : ℕ) (budget : Ask) (s : Status) → IsOfAll only s → IsOfOrder (order.All wad out only report workers budget) s
-of_order wad out only report workers budget (status.NoFile role.Wad) h = tt
-of_order wad out only report workers budget (status.ReadFault role.Wad) h = tt
-of_order wad out only report workers budget (status.NotWad fault) h = tt
-of_order wad out only report workers budget (status.NoMap fault) h = h
-of_order wad out only report workers budget (status.Limit bound.WadBytes) h = tt
-of_order wad out only report workers budget (status.Limit bound.Lumps) h = tt
-of_order wad out only report workers budget (status.Limit bound.OutputBytes) h = tt
-of_order wad out only report workers budget status.Memory h = tt
-of_order wad out only report workers budget s h = absurd h
+of_order : (wad : Source) (out : List ℕ) (only : Option (List (List ℕ))) (report : Option (List ℕ)) (workers : ℕ) (method : Method) (s : Status) → IsOfAll only s → IsOfOrder (order.All wad out only report workers method) s
+of_order wad out only report workers method (status.NoFile role.Wad) h = tt
+of_order wad out only report workers method (status.ReadFault role.Wad) h = tt
+of_order wad out only report workers method (status.NotWad fault) h = tt
+of_order wad out only report workers method (status.NoMap fault) h = h
+of_order wad out only report workers method (status.Limit bound.WadBytes) h = tt
+of_order wad out only report workers method (status.Limit bound.Lumps) h = tt
+of_order wad out only report workers method (status.Limit bound.OutputBytes) h = tt
+of_order wad out only report workers method status.Memory h = tt
+of_order wad out only report workers method s h = absurd h
 
-pub all_refusals : {V : Type 0} (wad : Source) (out : List ℕ) (only : Option (List (List ℕ))) (report : Option (List ℕ)) (workers : ℕ) (budget : Ask) (r : Result V Status) → IfErr r (IsOfAll only) → IfErr r (IsOfOrder (order.All wad out only report workers budget))
-all_refusals wad out only report workers budget (Ok v) h = tt
-all_refusals wad out only report workers budget (Err s) h = of_order wad out only report workers budget s h
+pub all_refusals : {V : Type 0} (wad : Source) (out : List ℕ) (only : Option (List (List ℕ))) (report : Option (List ℕ)) (workers : ℕ) (method : Method) (r : Result V Status) → IfErr r (IsOfAll only) → IfErr r (IsOfOrder (order.All wad out only report workers method))
+all_refusals wad out only report workers method (Ok v) h = tt
+all_refusals wad out only report workers method (Err s) h = of_order wad out only report workers method s h
 
-all_written : (wad : Source) (out : List ℕ) (only : Option (List (List ℕ))) (report : Option (List ℕ)) (workers : ℕ) (budget : Ask) → WritesEach (order.All wad out only report workers budget) (all_roles report)
-all_written wad out only None workers budget = (tt, tt)
-all_written wad out only (Some name) workers budget = (tt, (tt, tt))
+all_written : (wad : Source) (out : List ℕ) (only : Option (List (List ℕ))) (report : Option (List ℕ)) (workers : ℕ) (method : Method) → WritesEach (order.All wad out only report workers method) (all_roles report)
+all_written wad out only None workers method = (tt, tt)
+all_written wad out only (Some name) workers method = (tt, (tt, tt))
 
-pub each_written : (wad : Source) (out : List ℕ) (only : Option (List (List ℕ))) (report : Option (List ℕ)) (workers : ℕ) (budget : Ask) (r : Result Reply Status) → IfOk r (λ (reply : Reply). roles_of (writes reply) ≡ all_roles report)
-    → IfOk r (λ (reply : Reply). WritesEach (order.All wad out only report workers budget) (roles_of (writes reply)))
-each_written wad out only report workers budget (Ok reply) h = subst (WritesEach (order.All wad out only report workers budget)) (sym h) (all_written wad out only report workers budget)
-each_written wad out only report workers budget (Err s) h = tt
+pub each_written : (wad : Source) (out : List ℕ) (only : Option (List (List ℕ))) (report : Option (List ℕ)) (workers : ℕ) (method : Method) (r : Result Reply Status) → IfOk r (λ (reply : Reply). roles_of (writes reply) ≡ all_roles report)
+    → IfOk r (λ (reply : Reply). WritesEach (order.All wad out only report workers method) (roles_of (writes reply)))
+each_written wad out only report workers method (Ok reply) h = subst (WritesEach (order.All wad out only report workers method)) (sym h) (all_written wad out only report workers method)
+each_written wad out only report workers method (Err s) h = tt

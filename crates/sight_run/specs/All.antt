@@ -4,7 +4,7 @@ use Rattle.std.specs.Fmt.{decimal}
 use Rattle.sight_names.specs.declared.limits.TheConstants.{MOST_BYTES}
 use Rattle.sight_names.specs.declared.faults.MapFault.{MapFault}
 use Rattle.sight_names.specs.declared.faults.RewriteFault.TheVariants as rewrite
-use Rattle.sight_names.specs.declared.names.Ask.{Ask}
+use Rattle.sight_names.specs.declared.names.Method.{Method}
 use Rattle.shelf_io.specs.Shelf.{Files, content_of}
 use Rattle.wad_dir.specs.Wad.{WadFile, names_of, wad_of}
 use Rattle.all_maps.specs.Asked.{asked_maps_of}
@@ -56,9 +56,9 @@ all_roles reported = role.Wad ∷ report_roles reported
 
 -- A map gets its table exactly where it is within the limits that are asked for and sound, and else is refused by the first check that fails.
 -- OUT is the WAD with these tables, the report says of each map its counts or its refusal, and the line counts them.
-pub record ShowsAll (out : List ℕ) (reported : Option (List ℕ)) (large : Bool) (maps : List (List ℕ)) (budget : Ask) (w : WadFile) (answer : Answer) : Type 0 where
+pub record ShowsAll (out : List ℕ) (reported : Option (List ℕ)) (large : Bool) (maps : List (List ℕ)) (method : Method) (w : WadFile) (answer : Answer) : Type 0 where
   pub outcomes : List MapOutcome
-  pub are : AreOutcomes w large maps budget outcomes
+  pub are : AreOutcomes w large maps method outcomes
   pub bytes : List ℕ
   pub made : written_of w outcomes ≡ Ok bytes
   pub is : answer ≡ record {
@@ -67,12 +67,12 @@ pub record ShowsAll (out : List ℕ) (reported : Option (List ℕ)) (large : Boo
   }
 
 -- the answer that is called for where these maps are to be built
-abbrev pub MapsCall : List ℕ → Option (List ℕ) → Bool → List (List ℕ) → Ask → WadFile → Result Answer Status → Type 0
-MapsCall out reported large maps budget w (Ok answer) = ShowsAll out reported large maps budget w answer
-MapsCall out reported large maps budget w (Err (status.Limit bound.Lumps)) = IsAboveLimit w large maps budget rewrite.TooManyLumps
-MapsCall out reported large maps budget w (Err (status.Limit bound.OutputBytes)) = IsAboveLimit w large maps budget rewrite.TooLong
-MapsCall out reported large maps budget w (Err other) = ⊥
+abbrev pub MapsCall : List ℕ → Option (List ℕ) → Bool → List (List ℕ) → Method → WadFile → Result Answer Status → Type 0
+MapsCall out reported large maps method w (Ok answer) = ShowsAll out reported large maps method w answer
+MapsCall out reported large maps method w (Err (status.Limit bound.Lumps)) = IsAboveLimit w large maps method rewrite.TooManyLumps
+MapsCall out reported large maps method w (Err (status.Limit bound.OutputBytes)) = IsAboveLimit w large maps method rewrite.TooLong
+MapsCall out reported large maps method w (Err other) = ⊥
 
 -- The answer that `all` calls for. Where names are given, the maps of these names alone are built; all other lumps stay.
-abbrev pub AllCalls : List ℕ → Bool → Option (List (List ℕ)) → Option (List ℕ) → Ask → WadFile → Result Answer Status → Type 0
-AllCalls out large only reported budget w answer = OnRead (maps_in (names_of w) only) (λ maps. MapsCall out reported large maps budget w) answer
+abbrev pub AllCalls : List ℕ → Bool → Option (List (List ℕ)) → Option (List ℕ) → Method → WadFile → Result Answer Status → Type 0
+AllCalls out large only reported method w answer = OnRead (maps_in (names_of w) only) (λ maps. MapsCall out reported large maps method w) answer

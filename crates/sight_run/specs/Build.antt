@@ -1,6 +1,6 @@
 -- What the order `build` makes of a map that was found.
 use Rattle.std.specs.Prelude.{◌≡◌, ℕ, List, [], ◌∷◌, ◌++◌, Option, Some, None, Result, Ok, Err, codes, length, slice_get, ⊤}
-use Rattle.sight_names.specs.declared.names.Ask.{Ask}
+use Rattle.sight_names.specs.declared.names.Method.{Method}
 use Rattle.sight_names.specs.Groups.{HasClosedFaces}
 use Rattle.sight_names.specs.Sound.{LinesMeetAtEnds}
 use Rattle.map_audit.specs.Audit.{IsLineFault}
@@ -9,10 +9,8 @@ use Rattle.listeners.specs.Findings.{AreFindings}
 use Rattle.listeners.specs.Listening.{ListenerState, clears_in, lists_in, sets_in}
 use Rattle.listeners.specs.Told.{AreTold, AreToldInTurn, texts}
 use Rattle.reject_bits.specs.Parts.{TableParts}
-use Rattle.cert_groups.specs.declared.cert.AnyCert.{AnyCert}
-use Rattle.cert_groups.specs.Grammar.{SpellsAny}
-use Rattle.group_job.specs.declared.build.GroupBuilt.{GroupBuilt}
-use Rattle.output_pieces.specs.Spelled.{spelling}
+use Rattle.certificates.specs.declared.certificate.Certificate.{Certificate}
+use Rattle.certificates.specs.Grammar.{Spells, spelling}
 use Rattle.map_answers.specs.declared.counts.Counts.{Counts}
 use Rattle.sight_status.specs.declared.status.Bound.{Bound}
 use Rattle.sight_status.specs.declared.status.Bound.TheVariants as bound
@@ -25,6 +23,7 @@ use Rattle.sight_status.specs.Answer.{Answer, Written}
 use Rattle.map_answers.specs.Counts.{counts_with, counts_words}
 use Rattle.map_answers.specs.Input.{LocatedMap}
 use Rattle.sight_run.specs.Heard.{Heard}
+use Rattle.whole_wad.specs.declared.building.Built.{Built}
 use Rattle.whole_wad.specs.Built.{IsBuiltOf}
 use Rattle.whole_wad.specs.Sizes.{sizes_of_map}
 use Rattle.map_answers.specs.Sound.{HasOpenSide}
@@ -78,15 +77,15 @@ with_report reported report (Ok answer) = Ok (record { writes = report_behind re
 with_report reported report (Err refusal) = Err refusal
 
 -- The file's WAD with the table that was built, the certificate and the report where they are asked for, and a line with the counts of
--- the table and of the list. The listeners heard the findings of the map within the budget in turn, each that has a quota up to its last
+-- the table and of the list. The listeners heard the findings of the map by this method in turn, each that has a quota up to its last
 -- set pair; the report is the texts of those that ended, and then of those that are left.
-pub record ShowsBuild (name out : List ℕ) (asked reported : Option (List ℕ)) (budget : Ask) (found : LocatedMap) (heard : Heard) (answer : Answer) : Type 0 where
-  pub built : GroupBuilt
-  pub is_built : IsBuiltOf found.map budget built
+pub record ShowsBuild (name out : List ℕ) (asked reported : Option (List ℕ)) (method : Method) (found : LocatedMap) (heard : Heard) (answer : Answer) : Type 0 where
+  pub built : Built
+  pub is_built : IsBuiltOf found.map method built
   pub bytes : List ℕ
   pub made : with_table found built.table.bytes ≡ Ok bytes
   pub spelled : List ℕ
-  pub spells : SpellsAny (sizes_of_map found.map) spelled built.cert
+  pub spells : Spells (sizes_of_map found.map) spelled built.cert
   pub findings : List Finding
   pub are_findings : AreFindings found.map is_built.decided.budget findings
   pub ended : List ListenerState
@@ -99,9 +98,9 @@ pub record ShowsBuild (name out : List ℕ) (asked reported : Option (List ℕ))
   pub is : answer ≡ record { writes = report_behind reported report (build_writes out bytes asked spelled); line = build_line name (counts_with built.table (length built.listed)) }
 
 -- the WAD with the table that was built is above a limit
-pub record ShowsLimit (budget : Ask) (found : LocatedMap) (bound : Bound) : Type 0 where
-  pub built : GroupBuilt
-  pub is_built : IsBuiltOf found.map budget built
+pub record ShowsLimit (method : Method) (found : LocatedMap) (bound : Bound) : Type 0 where
+  pub built : Built
+  pub is_built : IsBuiltOf found.map method built
   pub limit : with_table found built.table.bytes ≡ Err (status.Limit bound)
 
 -- a refusal that comes once a map is found
@@ -118,23 +117,23 @@ IsUnbuildable (Err refusal) = ⊤
 IsUnbuildable (Ok found) = ¬ HasClosedFaces found.map
 
 -- The answer that `build` calls for. Where the map isn't sound it is the refusal of its audit.
-abbrev pub BuildCalls : List ℕ → List ℕ → Option (List ℕ) → Option (List ℕ) → Ask → Heard → LocatedMap → Result Answer Status → Type 0
-BuildCalls name out asked reported budget heard found (Ok answer) = ShowsBuild name out asked reported budget found heard answer
-BuildCalls name out asked reported budget heard found (Err (status.BadMap (flaw.Line fault))) = IsLineFault found.map fault
-BuildCalls name out asked reported budget heard found (Err (status.BadMap (flaw.Open side))) = LinesMeetAtEnds found.map × HasOpenSide found.map side
-BuildCalls name out asked reported budget heard found (Err (status.Limit bound)) = ShowsLimit budget found bound
-BuildCalls name out asked reported budget heard found (Err other) = ⊥
+abbrev pub BuildCalls : List ℕ → List ℕ → Option (List ℕ) → Option (List ℕ) → Method → Heard → LocatedMap → Result Answer Status → Type 0
+BuildCalls name out asked reported method heard found (Ok answer) = ShowsBuild name out asked reported method found heard answer
+BuildCalls name out asked reported method heard found (Err (status.BadMap (flaw.Line fault))) = IsLineFault found.map fault
+BuildCalls name out asked reported method heard found (Err (status.BadMap (flaw.Open side))) = LinesMeetAtEnds found.map × HasOpenSide found.map side
+BuildCalls name out asked reported method heard found (Err (status.Limit bound)) = ShowsLimit method found bound
+BuildCalls name out asked reported method heard found (Err other) = ⊥
 
 -- ---- parts of it
 
 -- what is made of a table, its list and its certificate before any listener is told: all but the report
-pub record ShowsMade (name out : List ℕ) (asked : Option (List ℕ)) (found : LocatedMap) (table : TableParts) (listed : ℕ) (cert : AnyCert) (answer : Answer) : Type 0 where
+pub record ShowsMade (name out : List ℕ) (asked : Option (List ℕ)) (found : LocatedMap) (table : TableParts) (listed : ℕ) (cert : Certificate) (answer : Answer) : Type 0 where
   pub bytes : List ℕ
   pub made : with_table found table.bytes ≡ Ok bytes
   pub is : answer ≡ record { writes = build_writes out bytes asked (spelling cert); line = build_line name (counts_with table listed) }
 
 -- .. or why it isn't
-abbrev pub BuildMakes : List ℕ → List ℕ → Option (List ℕ) → LocatedMap → TableParts → ℕ → AnyCert → Result Answer Status → Type 0
+abbrev pub BuildMakes : List ℕ → List ℕ → Option (List ℕ) → LocatedMap → TableParts → ℕ → Certificate → Result Answer Status → Type 0
 BuildMakes name out asked found table listed cert (Ok answer) = ShowsMade name out asked found table listed cert answer
 BuildMakes name out asked found table listed cert (Err (status.Limit bound)) = with_table found table.bytes ≡ Err (status.Limit bound)
 BuildMakes name out asked found table listed cert (Err status.Memory) = ⊤
@@ -142,11 +141,11 @@ BuildMakes name out asked found table listed cert (Err other) = ⊥
 
 -- ---- what all builds of a map have in common
 
--- All that `build` answers of a map within a budget says one line, and writes one WAD, byte for byte.
+-- All that `build` answers of a map by a method says one line, and writes one WAD, byte for byte.
 pub record SayOneThing (one other : Answer) : Type 0 where
   pub line : one.line ≡ other.line
   pub wad : slice_get one.writes 0 ≡ slice_get other.writes 0
 
 abbrev pub BuildsSayOneThing : Type 0
-BuildsSayOneThing = (name out : List ℕ) (asked reported : Option (List ℕ)) (budget : Ask) (found : LocatedMap) (heard others : Heard) (one other : Answer)
-    → BuildCalls name out asked reported budget heard found (Ok one) → BuildCalls name out asked reported budget others found (Ok other) → SayOneThing one other
+BuildsSayOneThing = (name out : List ℕ) (asked reported : Option (List ℕ)) (method : Method) (found : LocatedMap) (heard others : Heard) (one other : Answer)
+    → BuildCalls name out asked reported method heard found (Ok one) → BuildCalls name out asked reported method others found (Ok other) → SayOneThing one other

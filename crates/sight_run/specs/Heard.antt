@@ -1,6 +1,6 @@
 -- What the listeners of a run hear: the findings of a build, and else nothing.
 use Rattle.std.specs.Prelude.{◌≡◌, ◌⊎◌, ℕ, List, Option, Some, None, Result, Ok, Err, ⊤}
-use Rattle.sight_names.specs.declared.names.Ask.{Ask}
+use Rattle.sight_names.specs.declared.names.Method.{Method}
 use Rattle.sight_names.specs.declared.names.Budget.{Budget}
 use Rattle.sight_names.specs.Enough.{IsBudgetOf}
 use Rattle.sight_names.specs.Map.{Map}
@@ -16,6 +16,7 @@ use Rattle.sight_status.specs.declared.status.Role.TheVariants as role
 use Rattle.sight_status.specs.declared.status.Status.{Status}
 use Rattle.sight_status.specs.declared.status.Status.TheVariants as status
 use Rattle.map_answers.specs.Input.{LocatedMap}
+use Rattle.whole_wad.specs.Built.{ask_of}
 use Rattle.sight_run.specs.Reading.{found_of}
 
 -- the listeners before a call and after it
@@ -49,26 +50,26 @@ BuildHears Are heard other = IsUnheard heard
 
 -- ---- which findings
 
--- the findings of the map within the budget that is asked for
-pub record AreFindingsOf (m : Map) (budget : Ask) (findings : List Finding) : Type 0 where
+-- the findings of the map by this method
+pub record AreFindingsOf (m : Map) (method : Method) (findings : List Finding) : Type 0 where
   pub allowed : Budget
-  pub is_allowed : IsBudgetOf m budget allowed
+  pub is_allowed : IsBudgetOf m (ask_of method) allowed
   pub are : AreFindings m allowed findings
 
 -- .. where a map was found
-abbrev pub AreOfFound : Result LocatedMap Status → Ask → List Finding → Type 0
-AreOfFound (Ok found) budget findings = AreFindingsOf found.map budget findings
-AreOfFound (Err refusal) budget findings = ⊥
+abbrev pub AreOfFound : Result LocatedMap Status → Method → List Finding → Type 0
+AreOfFound (Ok found) method findings = AreFindingsOf found.map method findings
+AreOfFound (Err refusal) method findings = ⊥
 
 -- .. by the files. Where they aren't told, nothing is said of which findings were heard.
-abbrev pub AreFindingsIn : Option Files → Source → List ℕ → Ask → List Finding → Type 0
-AreFindingsIn None wad name budget findings = ⊤
-AreFindingsIn (Some files) wad name budget findings = AreOfFound (found_of wad name files) budget findings
+abbrev pub AreFindingsIn : Option Files → Source → List ℕ → Method → List Finding → Type 0
+AreFindingsIn None wad name method findings = ⊤
+AreFindingsIn (Some files) wad name method findings = AreOfFound (found_of wad name files) method findings
 
 -- ---- by the order, and by the words
 
 abbrev pub OrderHears : Order → Option Files → Heard → Status → Type 0
-OrderHears (order.Build wad name out cert report workers budget) files heard s = BuildHears (AreFindingsIn files wad name budget) heard s
+OrderHears (order.Build wad name out cert report workers method) files heard s = BuildHears (AreFindingsIn files wad name method) heard s
 OrderHears asked files heard s = IsUnheard heard
 
 -- the listeners of a run that ends with this status

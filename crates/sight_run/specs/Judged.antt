@@ -1,4 +1,4 @@
--- What is judged of a table by a certificate of either version.
+-- What is judged of a table by a certificate of any version.
 use Rattle.std.specs.Prelude.{◌↔◌, List, ℕ}
 use Rattle.sight_names.specs.Map.{Map}
 use Rattle.reject_bits.specs.Parts.{TableParts}
@@ -6,14 +6,19 @@ use Rattle.cert_format.specs.Accepted.{labels_of, triangles_of}
 use Rattle.cert_groups.specs.declared.cert.CertTwo.{CertTwo}
 use Rattle.cert_groups.specs.declared.cert.AnyCert.{AnyCert}
 use Rattle.cert_groups.specs.declared.cert.AnyCert.TheVariants.{One, Two}
-use Rattle.cert_groups.specs.Reading.{any_at}
+use Rattle.cert_exact.specs.declared.cert.ExactParts.{ExactParts}
+use Rattle.cert_exact.specs.Grammar.{as_two}
+use Rattle.certificates.specs.declared.certificate.Certificate.{Certificate}
+use Rattle.certificates.specs.declared.certificate.Certificate.TheVariants.{Listing, Exact}
+use Rattle.certificates.specs.Reading.{certificate_at}
 use Rattle.groups_base.specs.Table.{NamesTheLabels}
-use Rattle.accepted_groups.specs.Accepted.{IsAcceptedAny}
 use Rattle.cert_checker.specs.Judged.{JudgesRays, JudgesTrees}
 use Rattle.cert_judge.specs.declared.judged.Judged.{Judged}
 use Rattle.cert_judge.specs.Judged.{JudgedBy}
 use Rattle.group_checker.specs.declared.verdict.AnyVerdict.{AnyVerdict}
-use Rattle.group_checker.specs.Judged.{InWordsOfOne, IsYesAny, JudgesOne, TellsGroups, TellsMesh, TellsPairs, TellsSightAny}
+use Rattle.group_checker.specs.Judged.{InWordsOfOne, IsYesAny, JudgesOne, TellsGroups, TellsMesh, TellsPairs}
+use Rattle.exact_checker.specs.Judged.{JudgesTrees as JudgesTreesOfThree, TellsPairs as TellsPairsOfThree}
+use Rattle.any_judge.specs.Accepted.{IsAccepted, TellsSight}
 use Rattle.whole_wad.specs.Sizes.{sizes_of_map}
 
 -- Of a certificate of version 2: the first fault in the order of mesh, groups, rays, trees and pairs, over the map with the same
@@ -27,18 +32,33 @@ pub record JudgesTwoOf (m : Map) (t : TableParts) (c : CertTwo) (v : AnyVerdict)
   pub trees : InWordsOfOne (JudgesTrees g c.cert) v
   pub pairs : InWordsOfOne (TellsPairs g t c) v
 
--- .. of one of either version
-abbrev pub JudgesOf : Map → TableParts → AnyCert → AnyVerdict → Type 0
-JudgesOf m t (One c) v = JudgesOne m t c v
-JudgesOf m t (Two c sizes) v = JudgesTwoOf m t c v
+-- .. of one of version 3, in the same order
+pub record JudgesThreeOf (m : Map) (t : TableParts) (c : ExactParts) (v : AnyVerdict) : Type 0 where
+  pub g : Map
+  pub names : NamesTheLabels m (triangles_of (as_two c).cert) c.groups (labels_of (as_two c).cert) g
+  pub mesh : TellsMesh m g (as_two c) v
+  pub groups : TellsGroups m (as_two c) v
+  pub rays : InWordsOfOne (JudgesRays g (as_two c).cert) v
+  pub trees : InWordsOfOne (JudgesTreesOfThree g c) v
+  pub pairs : InWordsOfOne (TellsPairsOfThree t (as_two c)) v
+
+-- .. of one that lists pairs
+abbrev pub JudgesListingOf : Map → TableParts → AnyCert → AnyVerdict → Type 0
+JudgesListingOf m t (One c) v = JudgesOne m t c v
+JudgesListingOf m t (Two c sizes) v = JudgesTwoOf m t c v
+
+-- .. of one of any version
+abbrev pub JudgesOf : Map → TableParts → Certificate → AnyVerdict → Type 0
+JudgesOf m t (Listing c) v = JudgesListingOf m t c v
+JudgesOf m t (Exact c) v = JudgesThreeOf m t c v
 
 -- what is promised of a verdict on a table by a certificate
-pub record IsJudged (m : Map) (table : TableParts) (cert : AnyCert) (verdict : AnyVerdict) : Type 0 where
+pub record IsJudged (m : Map) (table : TableParts) (cert : Certificate) (verdict : AnyVerdict) : Type 0 where
   pub exact : JudgesOf m table cert verdict
   -- it is yes exactly where the certificate is accepted for the table, and then no rejected pair sees
-  pub accepted : IsYesAny verdict ↔ IsAcceptedAny m table.bytes cert
-  pub sight : IsYesAny verdict → TellsSightAny m table cert
+  pub accepted : IsYesAny verdict ↔ IsAccepted m table.bytes cert
+  pub sight : IsYesAny verdict → TellsSight m table cert
 
 -- the verdict by the certificate that the bytes spell for the map, or the first fault where they spell none
 abbrev pub IsJudgement : Map → TableParts → List ℕ → Judged → Type 0
-IsJudgement m table bytes given = JudgedBy (any_at (sizes_of_map m) bytes) (IsJudged m table) given
+IsJudgement m table bytes given = JudgedBy (certificate_at (sizes_of_map m) bytes) (IsJudged m table) given

@@ -1,7 +1,7 @@
 -- What `grid` ends with. It reads no file, so this is said whatever the shelf tells.
 use Rattle.std.specs.Prelude.{◌≡◌, ℕ, Bool, List, ◌++◌, Result, Ok, Err, ⊤}
 use Rattle.std.specs.Option.{option_map}
-use Rattle.sight_names.specs.declared.names.Ask.{Ask}
+use Rattle.sight_names.specs.declared.names.Method.{Method}
 use Rattle.shelf_io.specs.Sink.{SinkState}
 use Rattle.order_words.specs.declared.order.Order.{Order}
 use Rattle.order_words.specs.declared.order.Order.TheVariants as order
@@ -12,15 +12,15 @@ use Rattle.sight_status.specs.Texts.{text_of}
 use Rattle.sight_run.specs.Grid.{GridCalls}
 
 -- the line, or the refusal, is what the order calls for; memory may run out, and the line may not be put
-abbrev pub GridSays : ℕ → Bool → Ask → Status → List ℕ → Type 0
-GridSays n hexen budget status.Done line = GridCalls n hexen budget (Ok (only_line line))
-GridSays n hexen budget status.Memory line = ⊤
-GridSays n hexen budget (status.WriteFault role) line = ⊤
-GridSays n hexen budget refusal line = GridCalls n hexen budget (Err refusal)
+abbrev pub GridSays : ℕ → Bool → Method → Status → List ℕ → Type 0
+GridSays n hexen method status.Done line = GridCalls n hexen method (Ok (only_line line))
+GridSays n hexen method status.Memory line = ⊤
+GridSays n hexen method (status.WriteFault role) line = ⊤
+GridSays n hexen method refusal line = GridCalls n hexen method (Err refusal)
 
 -- so it is of an order that reads no file
 abbrev pub IsMadeBy : Order → Status → List ℕ → Type 0
-IsMadeBy (order.Grid n workers budget hexen) s line = GridSays n hexen budget s line
+IsMadeBy (order.Grid n workers method hexen) s line = GridSays n hexen method s line
 IsMadeBy asked s line = ⊤
 
 -- .. and of words that ask for it

@@ -19,7 +19,7 @@ use crate::reply::{Bytes, Reply, push_output};
 use map_answers::directory;
 use order_words::{Source, Text};
 use shelf_io::Shelf;
-use sight_names::{Ask, Items, RewriteFault};
+use sight_names::{Items, Method, RewriteFault};
 use sight_status::{Bound, Role, Status, push_count, push_count_line};
 use sight_workers::Gate;
 use std::alloc::{AllocError, Global};
@@ -79,7 +79,7 @@ fn make_reply<R: Threads + Sync, G: Gate + Sync, N: Notice>(
     out: &str,
     report: &Option<Text>,
     workers: u16,
-    budget: Ask,
+    method: Method,
     gate: &G,
     notice: &N,
 ) -> Result<Reply, Status>
@@ -87,12 +87,12 @@ fn make_reply<R: Threads + Sync, G: Gate + Sync, N: Notice>(
     requires names { names_of (file_of bytes.now wad.now) ≡ entry_names wad.now.entries }
     requires among { HasInOrder (maps_of (entry_names wad.now.entries)) maps.now }
     requires workers { (1 ≤ workers) × (workers ≤ 64) }
-    ensures called { Gives ⊤ (MapsCall out.now report.now large maps.now budget (file_of bytes.now wad.now)) (reply_seen result) }
+    ensures called { Gives ⊤ (MapsCall out.now report.now large maps.now method (file_of bytes.now wad.now)) (reply_seen result) }
     ensures refusals { IfErr result IsOfMaking }
     ensures roles { IfOk result (λ reply. roles_of (writes reply) ≡ all_roles report.now) }
 {
     let whole = match build_wad(
-        rt, alloc, bytes, wad, large, maps, workers, budget, gate, notice,
+        rt, alloc, bytes, wad, large, maps, workers, method, gate, notice,
     ) {
         Ok(whole) => whole,
         Err(RewriteFault::TooManyLumps) => return Err(Status::Limit(Bound::Lumps)),
@@ -115,12 +115,12 @@ pub fn do_all<R: Threads + Sync, S: Shelf, G: Gate + Sync, N: Notice>(
     only: &Option<Items<Text>>,
     report: &Option<Text>,
     workers: u16,
-    budget: Ask,
+    method: Method,
     gate: &G,
     notice: &N,
 ) -> Result<Reply, Status>
     requires workers { (1 ≤ workers) × (workers ≤ 64) }
-    ensures told { (files : Files) → (S.state shelf.old).files ≡ Some files → Gives ⊤ (OnRead (wad_in source.now.file files) (AllCalls out.now source.now.large only.now report.now budget)) (reply_seen result) }
+    ensures told { (files : Files) → (S.state shelf.old).files ≡ Some files → Gives ⊤ (OnRead (wad_in source.now.file files) (AllCalls out.now source.now.large only.now report.now method)) (reply_seen result) }
     ensures files { (S.state shelf.new).files ≡ (S.state shelf.old).files }
     ensures counts { NoneFell (S.state shelf.old) (S.state shelf.new) }
     ensures cause { Cause (S.state shelf.old) (S.state shelf.new) result }
@@ -140,7 +140,7 @@ pub fn do_all<R: Threads + Sync, S: Shelf, G: Gate + Sync, N: Notice>(
         out,
         report,
         workers,
-        budget,
+        method,
         gate,
         notice,
     )

@@ -5,16 +5,17 @@ ghost use Rattle.sight_names.specs.Map.{map_of};
 ghost use Rattle.sight_names.specs.Sound.{LinesMeetAtEnds};
 ghost use Rattle.shelf_io.specs.Shelf.{Files, NoneFell, content_of};
 ghost use Rattle.cert_format.specs.Sizes.{sizes_of};
-ghost use Rattle.cert_groups.specs.Grammar.{IsAnyInOrder, sizes_of as sizes_in};
+ghost use Rattle.certificates.specs.Grammar.{IsInOrder, sizes_of as sizes_in};
 ghost use Rattle.sight_status.specs.Status.{IsOfCertFetch};
 ghost use Rattle.sight_run.specs.Check.{JudgesFetched, of_cert_fetch};
 ghost use Rattle.sight_run.specs.Judged.{IsJudged, IsJudgement};
 ghost use Rattle.sight_run.specs.Run.{Cause};
 
+use any_judge::check;
 use cert_file::judge_file;
-use cert_groups::AnyCert;
 use cert_judge::Judged;
-use group_checker::{AnyVerdict, check_any};
+use certificates::Certificate;
+use group_checker::AnyVerdict;
 use reject_bits::Table;
 use shelf_io::Shelf;
 use sight_names::{FetchFault, Memory, Plan};
@@ -27,16 +28,16 @@ pub fn verdict_of(
     alloc: Global,
     plan: &Plan,
     table: &Table,
-    cert: &AnyCert,
+    cert: &Certificate,
 ) -> Result<AnyVerdict, Memory>
     requires audited { LinesMeetAtEnds (map_of plan.now) }
     requires table { table.now.n ≡ plan.now.sectors }
     requires sizes { sizes_in cert.now ≡ sizes_of plan.now }
-    requires in_order { IsAnyInOrder cert.now }
+    requires in_order { IsInOrder cert.now }
     ensures { IfOk result (IsJudged (map_of plan.now) table.now cert.now) }
 {
     let _points = plan.points();
-    match check_any(alloc, plan, table, cert) {
+    match check(alloc, plan, table, cert) {
         Ok(verdict) => Ok(verdict),
         Err(_) => Err(Memory),
     }

@@ -1,3 +1,4 @@
+pub mod Deciding
 pub mod PlanSizes
 pub mod OneTable
 pub mod OneOutcome

@@ -1,4 +1,4 @@
--- All builds of a map within one budget have one table, byte for byte, and one list: the sequences of the sources fix what is listed, and sight fixes each bit of a pair that isn't.
+-- All builds of a map by one method have one table, byte for byte, and one list: the sequences of the sources fix what is listed, and sight fixes each bit of a pair that isn't.
 use Rattle.std.proofs.Common.{◌≡◌, ℕ, zero, suc, ◌+◌, ◌*◌, ◌/◌, ◌%◌, ◌<◌, ◌≤◌, inl, inr, List, length, get_or, Contains, sym, ap, ◌∙◌, subst, arith, zero-lt-suc}
 use Rattle.std.specs.Int.{bit_at, div_ceil}
 use Rattle.std.proofs.Math.Nat.{div-lt_iff_lt-mul, mod-lt}
@@ -9,6 +9,8 @@ use Rattle.sight_names.specs.declared.names.Ask.{Ask}
 use Rattle.sight_names.specs.declared.names.Ask.TheVariants.{Of as AskOf, Full as AskFull, Enough}
 use Rattle.sight_names.specs.declared.names.Budget.{Budget}
 use Rattle.sight_names.specs.declared.names.Budget.TheVariants.{Of}
+use Rattle.sight_names.specs.declared.names.Method.{Method}
+use Rattle.sight_names.specs.declared.names.Method.TheVariants as method
 use Rattle.sight_names.specs.declared.names.Pair.{Pair}
 use Rattle.sight_names.specs.declared.names.Triangle.{Triangle}
 use Rattle.sight_names.specs.Enough.{IsBudgetOf, enough_of}
@@ -18,13 +20,14 @@ use Rattle.sight_names.specs.Table.{table_bit}
 use Rattle.sight_names.proofs.Lists.{same_ascending}
 use Rattle.sight_names.proofs.OneMesh.{one_mesh}
 use Rattle.reject_bits.specs.Parts.{IsWhole, Rejects, TableParts}
-use Rattle.cert_groups.specs.declared.cert.AnyCert.{AnyCert}
 use Rattle.cert_groups.specs.declared.cert.AnyCert.TheVariants.{One, Two}
-use Rattle.cert_groups.specs.Grammar.{IsAnyInOrder}
+use Rattle.cert_groups.proofs.PartLaws.{none_ascend}
+use Rattle.certificates.specs.declared.certificate.Certificate.{Certificate}
+use Rattle.certificates.specs.declared.certificate.Certificate.TheVariants.{Listing, Exact}
+use Rattle.certificates.specs.Grammar.{IsInOrder}
 use Rattle.sight_names.specs.Order.{Ascends, PairBefore}
-use Rattle.group_job.specs.declared.build.GroupBuilt.{GroupBuilt}
-use Rattle.group_job.specs.Built.{OfTwo}
-use Rattle.whole_wad.specs.Built.{AreBytes, HaveOneTable, IsBuiltOf}
+use Rattle.whole_wad.specs.declared.building.Built.{Built}
+use Rattle.whole_wad.specs.Built.{AreBytes, DecidedBy, HaveOneTable, IsBuiltOf, ask_of}
 use Rattle.list_base.proofs.Numbers.{same_bit, below_or_not}
 
 -- ---- numbers
@@ -79,26 +82,31 @@ one_budget m Enough b c h k = h.2 ∙ ap (λ (ts : List Triangle). Of (enough_of
 
 -- ---- two builds
 
--- the list of a certificate of version 2 ascends
-pub list_ascends : (cert : AnyCert) (listed : List Pair) → IsAnyInOrder cert → OfTwo (λ c. c.listed ≡ listed) cert → Ascends PairBefore listed
-list_ascends (One c) listed h is = absurd is
-list_ascends (Two c sizes) listed h is = subst (λ (ps : List Pair). Ascends PairBefore ps) is h.listed_ascend
+-- the list of what is built ascends
+pub list_ascends : (m : Map) (by : Method) (built : Built) → IsBuiltOf m by built → Ascends PairBefore built.listed
+list_ascends m (method.Within ask) built is = within built.cert is.in_order is.by_method
+  where
+    within : (cert : Certificate) → IsInOrder cert → DecidedBy m (method.Within ask) (record { table = built.table; listed = built.listed; cert = cert }) → Ascends PairBefore built.listed
+    within (Listing (One c)) order d = absurd d
+    within (Listing (Two c sizes)) order d = subst (λ (ps : List Pair). Ascends PairBefore ps) d.same_list order.listed_ascend
+    within (Exact c) order d = absurd d
+list_ascends m method.Exact built is = subst (λ (ps : List Pair). Ascends PairBefore ps) (sym is.by_method.none_listed) none_ascend
 
-module _ (m : Map) (budget : Ask) (one other : GroupBuilt) (is_one : IsBuiltOf m budget one) (is_other : IsBuiltOf m budget other) where
+module _ (m : Map) (by : Method) (one other : Built) (is_one : IsBuiltOf m by one) (is_other : IsBuiltOf m by other) where
   budgets : is_one.decided.budget ≡ is_other.decided.budget
-  budgets = one_budget m budget is_one.decided.budget is_other.decided.budget is_one.decided.is_budget is_other.decided.is_budget
+  budgets = one_budget m (ask_of by) is_one.decided.budget is_other.decided.budget is_one.decided.is_budget is_other.decided.is_budget
 
   listed_too : (q : Pair) → Contains one.listed q → Contains other.listed q
   listed_too q c =
-      let h = (is_one.decided.listed q).0 c in
-      (is_other.decided.listed q).1 (h.0, subst (λ (b : Budget). IsListedByGroups m b q.a q.b) budgets h.1)
+      let h = (is_one.decided.listed_are q).0 c in
+      (is_other.decided.listed_are q).1 (h.0, subst (λ (b : Budget). IsListedByGroups m b q.a q.b) budgets h.1)
 
   set_too : (a b : ℕ) → a < m.sectors → b < m.sectors → Rejects one.table a b → Rejects other.table a b
   set_too a b la lb bit =
       let h = (is_one.decided.bits a b la lb).0 bit in
       (is_other.decided.bits a b la lb).1 (h.0, λ l. h.1 (subst (λ (x : Budget). IsListedByGroups m x a b) (sym budgets) l))
 
-module _ (m : Map) (budget : Ask) (one other : GroupBuilt) (is_one : IsBuiltOf m budget one) (is_other : IsBuiltOf m budget other) where
+module _ (m : Map) (by : Method) (one other : Built) (is_one : IsBuiltOf m by one) (is_other : IsBuiltOf m by other) where
   -- the bit of a pair, by its place
   place_is : (t : TableParts) → t.n ≡ m.sectors → (a b k : ℕ) → a * m.sectors + b ≡ k → table_bit t.bytes (a * t.n + b) ≡ table_bit t.bytes k
   place_is t sectors a b k e = ap (λ (n : ℕ). table_bit t.bytes (a * n + b)) sectors ∙ ap (table_bit t.bytes) e
@@ -114,8 +122,8 @@ module _ (m : Map) (budget : Ask) (one other : GroupBuilt) (is_one : IsBuiltOf m
       let here = place_is one.table is_one.sectors a b k e in
       let there = place_is other.table is_other.sectors a b k e in
       same_bit _ _ (bit_at-lt _ _) (bit_at-lt _ _)
-      (λ bit. sym there ∙ set_too m budget one other is_one is_other a b la lb (here ∙ bit))
-      (λ bit. sym here ∙ set_too m budget other one is_other is_one a b la lb (there ∙ bit))
+      (λ bit. sym there ∙ set_too m by one other is_one is_other a b la lb (here ∙ bit))
+      (λ bit. sym here ∙ set_too m by other one is_other is_one a b la lb (there ∙ bit))
 
   one_bit : (k : ℕ) → table_bit one.table.bytes k ≡ table_bit other.table.bytes k
   one_bit k = elim (below_or_not k (m.sectors * m.sectors)) as (λ _. table_bit one.table.bytes k ≡ table_bit other.table.bytes k) [
@@ -127,8 +135,8 @@ module _ (m : Map) (budget : Ask) (one other : GroupBuilt) (is_one : IsBuiltOf m
   pub one_table : HaveOneTable one other
   one_table = record {
     table = λ i. record { n = sectors i; bytes = bytes i };
-    listed = same_ascending PairBefore not_before_itself not_both_before one.listed other.listed (list_ascends one.cert one.listed is_one.in_order is_one.listed) (list_ascends other.cert other.listed is_other.in_order is_other.listed)
-        (listed_too m budget one other is_one is_other) (listed_too m budget other one is_other is_one);
+    listed = same_ascending PairBefore not_before_itself not_both_before one.listed other.listed (list_ascends m by one is_one) (list_ascends m by other is_other)
+        (listed_too m by one other is_one is_other) (listed_too m by other one is_other is_one);
   }
     where
       sectors : one.table.n ≡ other.table.n

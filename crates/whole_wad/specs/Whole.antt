@@ -2,7 +2,7 @@
 use Rattle.std.specs.Prelude.{◌≡◌, ℕ, Bool, List, length, Result, Ok, Err, ⊤, string_bytes}
 use Rattle.sight_names.specs.declared.faults.RewriteFault.{RewriteFault}
 use Rattle.sight_names.specs.declared.faults.RewriteFault.TheVariants as rewrite
-use Rattle.sight_names.specs.declared.names.Ask.{Ask}
+use Rattle.sight_names.specs.declared.names.Method.{Method}
 use Rattle.wad_dir.specs.Wad.{WadFile}
 use Rattle.wad_rewrite.specs.Rewrite.{printed}
 use Rattle.all_maps.specs.All.{with_all}
@@ -16,9 +16,9 @@ abbrev pub written_of : WadFile → List MapOutcome → Result (List ℕ) Rewrit
 written_of w outcomes = printed (with_all w (changes_of outcomes))
 
 -- the bytes, the report and the counts are those of what comes of the maps
-pub record ShowsWhole (w : WadFile) (large : Bool) (names : List (List ℕ)) (budget : Ask) (whole : WholeWad) : Type 0 where
+pub record ShowsWhole (w : WadFile) (large : Bool) (names : List (List ℕ)) (by : Method) (whole : WholeWad) : Type 0 where
   pub outcomes : List MapOutcome
-  pub are : AreOutcomes w large names budget outcomes
+  pub are : AreOutcomes w large names by outcomes
   pub bytes : written_of w outcomes ≡ Ok whole.bytes.items
   pub report : string_bytes whole.report ≡ report_of outcomes
   pub maps : whole.maps ≡ length outcomes
@@ -26,13 +26,13 @@ pub record ShowsWhole (w : WadFile) (large : Bool) (names : List (List ℕ)) (bu
   pub refused : whole.refused ≡ length (refusals_of outcomes)
 
 -- the WAD with all tables is above a limit
-pub record IsAboveLimit (w : WadFile) (large : Bool) (names : List (List ℕ)) (budget : Ask) (fault : RewriteFault) : Type 0 where
+pub record IsAboveLimit (w : WadFile) (large : Bool) (names : List (List ℕ)) (by : Method) (fault : RewriteFault) : Type 0 where
   pub outcomes : List MapOutcome
-  pub are : AreOutcomes w large names budget outcomes
+  pub are : AreOutcomes w large names by outcomes
   pub limit : written_of w outcomes ≡ Err fault
 
 -- what is made of the WAD, unless memory ran out
-abbrev pub MakesWhole : WadFile → Bool → List (List ℕ) → Ask → Result WholeWad RewriteFault → Type 0
-MakesWhole w large names budget (Ok whole) = ShowsWhole w large names budget whole
-MakesWhole w large names budget (Err rewrite.Memory) = ⊤
-MakesWhole w large names budget (Err fault) = IsAboveLimit w large names budget fault
+abbrev pub MakesWhole : WadFile → Bool → List (List ℕ) → Method → Result WholeWad RewriteFault → Type 0
+MakesWhole w large names by (Ok whole) = ShowsWhole w large names by whole
+MakesWhole w large names by (Err rewrite.Memory) = ⊤
+MakesWhole w large names by (Err fault) = IsAboveLimit w large names by fault

@@ -1,7 +1,7 @@
 //! The build of a map, and maps of a WAD built, one by one: their tables, the new WAD, and the lines of the report.
 #![tactic(auto)]
 
-mod built;
+mod building;
 mod laws;
 mod notice;
 mod outcomes;
@@ -9,7 +9,7 @@ mod report;
 mod tables;
 mod whole;
 
-pub use built::{build, has_sizes_of_map};
+pub use building::{Built, build, has_sizes_of_map};
 pub use laws::{builds_have_one_table, outcomes_are_one};
 pub use notice::{NoNotice, Notice};
 pub use outcomes::MapOutcome;

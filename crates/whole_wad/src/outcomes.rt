@@ -11,7 +11,7 @@ ghost use Rattle.whole_wad.specs.Tables.{GetsOrMemory};
 use crate::tables::{MapTable, table_of};
 use all_maps::text_of;
 use map_answers::plan_named;
-use sight_names::{Ask, Memory};
+use sight_names::{Memory, Method};
 use sight_status::Status;
 use sight_workers::Gate;
 use std::alloc::Global;
@@ -34,16 +34,16 @@ fn table_named<R: Threads + Sync, G: Gate + Sync>(
     large: bool,
     name: &str,
     workers: u16,
-    budget: Ask,
+    method: Method,
     gate: &G,
 ) -> Result<MapTable, Status>
     requires inside { All (λ entry. entry.at + entry.size ≤ length bytes.now) wad.now.entries }
     requires names { names_of (file_of bytes.now wad.now) ≡ entry_names wad.now.entries }
     requires workers { (1 ≤ workers) × (workers ≤ 64) }
-    ensures { GetsOrMemory (map_named large (file_of bytes.now wad.now) name.now) budget result }
+    ensures { GetsOrMemory (map_named large (file_of bytes.now wad.now) name.now) method result }
 {
     let plan = plan_named(alloc, bytes, wad, large, name)?;
-    table_of(rt, alloc, &plan, workers, budget, gate)
+    table_of(rt, alloc, &plan, workers, method, gate)
 }
 
 /// What comes of the map of that name.
@@ -55,7 +55,7 @@ pub fn outcome_of<R: Threads + Sync, G: Gate + Sync>(
     large: bool,
     name: &[u8; 8],
     workers: u16,
-    budget: Ask,
+    method: Method,
     gate: &G,
 ) -> Result<MapOutcome, Memory>
     requires inside { All (λ entry. entry.at + entry.size ≤ length bytes.now) wad.now.entries }
@@ -63,7 +63,7 @@ pub fn outcome_of<R: Threads + Sync, G: Gate + Sync>(
     requires named { IsTrue (is_map_name name.now) }
     requires workers { (1 ≤ workers) × (workers ≤ 64) }
     ensures name { IfOk result (λ outcome. outcome.name ≡ name.now) }
-    ensures comes { IfOk result (ComesOf (file_of bytes.now wad.now) large budget) }
+    ensures comes { IfOk result (ComesOf (file_of bytes.now wad.now) large method) }
     ensures named { IfOk result (λ outcome. IsTrue (is_map_name outcome.name)) }
 {
     let name = *name;
@@ -75,7 +75,7 @@ pub fn outcome_of<R: Threads + Sync, G: Gate + Sync>(
         large,
         text_of(&name),
         workers,
-        budget,
+        method,
         gate,
     ) {
         Ok(made) => Ok(MapOutcome {

@@ -3,19 +3,17 @@
 ghost use Rattle.std.specs.Prelude.{◌≡◌, ◌≤◌, IfErr, IfOk, Ok};
 ghost use Rattle.sight_names.specs.Map.{map_of};
 ghost use Rattle.sight_names.specs.Sound.{LinesMeetAtEnds};
-ghost use Rattle.cert_groups.specs.Grammar.{IsAnyInOrder};
-ghost use Rattle.accepted_groups.specs.Accepted.{IsAcceptedAny};
-ghost use Rattle.group_job.specs.Built.{IsTwoOf};
+ghost use Rattle.certificates.specs.Grammar.{IsInOrder, sizes_of};
+ghost use Rattle.any_judge.specs.Accepted.{IsAccepted};
 ghost use Rattle.sight_status.specs.declared.status.Status.TheVariants as status;
 ghost use Rattle.whole_wad.specs.Sizes.{sizes_of_map};
 ghost use Rattle.whole_wad.specs.Tables.{GetsOrMemory};
 
-use crate::built::{build, has_sizes_of_map};
-use check_workers::check_any_par;
+use crate::building::{Built, build, has_sizes_of_map};
+use any_judge::check_par;
 use group_checker::AnyVerdict;
-use group_job::GroupBuilt;
 use reject_bits::Table;
-use sight_names::{Ask, Items, Pair, Plan};
+use sight_names::{Items, Method, Pair, Plan};
 use sight_status::Status;
 use sight_workers::Gate;
 use std::alloc::Global;
@@ -33,19 +31,19 @@ fn judged<R: Threads + Sync>(
     rt: &R,
     alloc: Global,
     plan: &Plan,
-    built: GroupBuilt,
+    built: Built,
 ) -> Result<MapTable, Status>
     requires audited { LinesMeetAtEnds (map_of plan.now) }
     requires sectors { built.table.n ≡ plan.now.sectors }
-    requires sizes { IsTwoOf (sizes_of_map (map_of plan.now)) built.cert }
-    requires in_order { IsAnyInOrder built.cert }
-    requires accepted { IsAcceptedAny (map_of plan.now) built.table.bytes built.cert }
+    requires sizes { sizes_of built.cert ≡ sizes_of_map (map_of plan.now) }
+    requires in_order { IsInOrder built.cert }
+    requires accepted { IsAccepted (map_of plan.now) built.table.bytes built.cert }
     ensures table { IfOk result (λ made. made.table ≡ built.table) }
     ensures listed { IfOk result (λ made. made.listed ≡ built.listed) }
     ensures refusals { IfErr result (λ s. s ≡ status.Memory) }
 {
     has_sizes_of_map(plan);
-    match check_any_par(rt, alloc, plan, &built.table, &built.cert) {
+    match check_par(rt, alloc, plan, &built.table, &built.cert) {
         Ok(AnyVerdict::Yes(_)) => Ok(MapTable {
             table: built.table,
             listed: built.listed,
@@ -56,18 +54,18 @@ fn judged<R: Threads + Sync>(
     }
 }
 
-/// The table of a map within the budget that is asked for, or the first flaw for which it gets none.
+/// The table of a map by this method, or the first flaw for which it gets none.
 pub fn table_of<R: Threads + Sync, G: Gate + Sync>(
     rt: &R,
     alloc: Global,
     plan: &Plan,
     workers: u16,
-    budget: Ask,
+    method: Method,
     gate: &G,
 ) -> Result<MapTable, Status>
     requires workers { (1 ≤ workers) × (workers ≤ 64) }
-    ensures { GetsOrMemory (Ok (map_of plan.now)) budget result }
+    ensures { GetsOrMemory (Ok (map_of plan.now)) method result }
 {
-    let built = build(rt, alloc, plan, workers, budget, gate)?;
+    let built = build(rt, alloc, plan, workers, method, gate)?;
     judged(rt, alloc, plan, built)
 }

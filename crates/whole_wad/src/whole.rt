@@ -14,7 +14,7 @@ use crate::notice::Notice;
 use crate::outcomes::{MapOutcome, outcome_of};
 use crate::report::line_of;
 use all_maps::{Change, text_of, udmf_maps, with_rejects};
-use sight_names::{Ask, Items, Memory, RewriteFault};
+use sight_names::{Items, Memory, Method, RewriteFault};
 use sight_workers::Gate;
 use std::alloc::{AllocError, Global};
 use std::thread::Threads;
@@ -56,7 +56,7 @@ fn tell_maps<R: Threads + Sync, G: Gate + Sync, N: Notice>(
     large: bool,
     names: &[[u8; 8]],
     workers: u16,
-    budget: Ask,
+    method: Method,
     gate: &G,
     notice: &N,
 ) -> Result<Told, Memory>
@@ -65,13 +65,13 @@ fn tell_maps<R: Threads + Sync, G: Gate + Sync, N: Notice>(
     requires named { All (λ name. IsTrue (is_map_name name)) names.now }
     requires workers { (1 ≤ workers) × (workers ≤ 64) }
     ensures each { IfOk result (λ told. map (λ (o : MapOutcome). o.name) told.outcomes.items ≡ names.now) }
-    ensures comes { IfOk result (λ told. AllByRecursion (ComesOf (file_of bytes.now wad.now) large budget) told.outcomes.items) }
+    ensures comes { IfOk result (λ told. AllByRecursion (ComesOf (file_of bytes.now wad.now) large method) told.outcomes.items) }
     ensures report { IfOk result (λ told. string_bytes told.report ≡ report_of told.outcomes.items) }
 {
     let mut outcomes = Vec::with_capacity(alloc, names.len())?;
     let mut report = String::new(alloc);
     for name in names {
-        let outcome = outcome_of(rt, alloc, bytes, wad, large, name, workers, budget, gate)?;
+        let outcome = outcome_of(rt, alloc, bytes, wad, large, name, workers, method, gate)?;
         let line = line_of(alloc, &outcome)?;
         notice.tell(&line);
         report.push_str(&line)?;
@@ -112,7 +112,7 @@ fn changes_in(alloc: Global, outcomes: &[MapOutcome]) -> Result<Vec<Change>, All
     Ok(changes)
 }
 
-/// The WAD in which each map of these names has its table within the budget as its REJECT, all other lumps as they were. A map that is
+/// The WAD in which each map of these names has its table by this method as its REJECT, all other lumps as they were. A map that is
 /// above a limit, of the usual ones or of the larger ones, or isn't sound keeps its REJECT, and the report says why. The maps of UDMF are told first, and then each line of the
 /// report as its map is done.
 ///
@@ -127,7 +127,7 @@ pub fn build_wad<R: Threads + Sync, G: Gate + Sync, N: Notice>(
     large: bool,
     names: &[[u8; 8]],
     workers: u16,
-    budget: Ask,
+    method: Method,
     gate: &G,
     notice: &N,
 ) -> Result<WholeWad, RewriteFault>
@@ -136,11 +136,11 @@ pub fn build_wad<R: Threads + Sync, G: Gate + Sync, N: Notice>(
     // They are some of the WAD's maps, in the order of their entries.
     requires among { HasInOrder (maps_of (entry_names wad.now.entries)) names.now }
     requires workers { (1 ≤ workers) × (workers ≤ 64) }
-    ensures { MakesWhole (file_of bytes.now wad.now) large names.now budget result }
+    ensures { MakesWhole (file_of bytes.now wad.now) large names.now method result }
 {
     tell_unread(alloc, wad, notice)?;
     let told = tell_maps(
-        rt, alloc, bytes, wad, large, names, workers, budget, gate, notice,
+        rt, alloc, bytes, wad, large, names, workers, method, gate, notice,
     )?;
     let changes = changes_in(alloc, &told.outcomes)?;
     let new = with_rejects(alloc, bytes, wad, &changes)?;

@@ -5,7 +5,7 @@ use Rattle.doomsight_c.proofs.Giving.{built_for, of_audit, refused_map}
 use Rattle.doomsight_c.proofs.build.build_fitting.Goals as goal
 
 pub returns-in-Ok-clause-built : goal.returns-in-Ok-clause-built
-returns-in-Ok-clause-built c = built_for (map_of c.args.plan.now) c.args.ask c.args.room c.requires c.in-Ok.built c.in-Ok.ensures.built
+returns-in-Ok-clause-built c = built_for (map_of c.args.plan.now) c.args.method c.args.room c.requires c.in-Ok.built c.in-Ok.ensures.built
 
 pub returns-in-Err-clause-refused : goal.returns-in-Err-clause-refused
 returns-in-Err-clause-refused c =

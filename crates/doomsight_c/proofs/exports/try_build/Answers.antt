@@ -1,8 +1,8 @@
 use Rattle.std.proofs.Common.{length, subst}
-use Rattle.sight_names.specs.declared.names.Ask.{Ask}
+use Rattle.sight_names.specs.declared.names.Method.{Method}
 use Rattle.sight_names.specs.declared.names.Reading.{Reading}
 use Rattle.map_answers.specs.Input.{of_four_lumps}
-use Rattle.doomsight_c.specs.Asked.{ask_of, reading_of}
+use Rattle.doomsight_c.specs.Asked.{method_of, reading_of}
 use Rattle.doomsight_c.specs.Built.{IsBuiltFor}
 use Rattle.doomsight_c.proofs.Giving.{given}
 use Rattle.doomsight_c.proofs.exports.try_build.Goals as goal
@@ -20,6 +20,6 @@ returns-clause-given c =
     let meant = reading_of a.format a.flags in
     let size = length a.reject.now in
     let b = c.in_ok-built.built in
-    let as_read = subst (λ (r : Reading). IsBuiltFor (read r) c.ask_of.result size b) c.reading_of.ensures c.in_ok-built.ensures.built in
-    let as_asked = subst (λ (k : Ask). IsBuiltFor (read meant) k size b) c.ask_of.ensures as_read in
-    given (read meant) (ask_of a.budget) size b as_asked c.put.new.reject a.cert.now c.put.new.cert c.put.new.counts c.put.ensures.put
+    let as_read = subst (λ (r : Reading). IsBuiltFor (read r) c.method_of.result size b) c.reading_of.ensures c.in_ok-built.ensures.built in
+    let as_asked = subst (λ (k : Method). IsBuiltFor (read meant) k size b) c.method_of.ensures as_read in
+    given (read meant) (method_of a.budget) size b as_asked c.put.new.reject a.cert.now c.put.new.cert c.put.new.counts c.put.ensures.put

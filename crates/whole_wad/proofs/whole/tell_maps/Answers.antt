@@ -10,6 +10,6 @@ loop-name-preserved g c =
     let written = c.in_ok-push_str.ensures.bytes ∙ ap (λ (xs : List ℕ). string_bytes c.loop-name.report ++ xs) c.deref-in-loop-name.ensures in
     record {
       each = name_more c.args.names.now c.loop-name.name-index _ c.loop-name.outcomes.items c.push.new.self.items c.in_ok-outcome.outcome c.loop-name-test.true c.loop-name.invariant.each c.in_ok-outcome.ensures.name pushed;
-      comes = comes_more (ComesOf (file_of c.args.bytes.now c.args.wad.now) c.args.large c.args.budget) c.loop-name.outcomes.items c.push.new.self.items c.in_ok-outcome.outcome c.loop-name.invariant.comes c.in_ok-outcome.ensures.comes pushed;
+      comes = comes_more (ComesOf (file_of c.args.bytes.now c.args.wad.now) c.args.large c.args.method) c.loop-name.outcomes.items c.push.new.self.items c.in_ok-outcome.outcome c.loop-name.invariant.comes c.in_ok-outcome.ensures.comes pushed;
       report = report_more c.loop-name.outcomes.items c.push.new.self.items c.in_ok-outcome.outcome (string_bytes c.loop-name.report) (string_bytes c.in_ok-line.line) (string_bytes c.push_str.new.self) c.loop-name.invariant.report c.in_ok-line.ensures written pushed;
     }

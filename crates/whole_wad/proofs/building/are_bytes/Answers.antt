@@ -1,5 +1,5 @@
 use Rattle.std.proofs.Common.{arith}
-use Rattle.whole_wad.proofs.built.are_bytes.Goals as goal
+use Rattle.whole_wad.proofs.building.are_bytes.Goals as goal
 
 pub returns : goal.returns
 returns c = λ i. omega (arith, c.type_inv.bytes i)
