@@ -4,8 +4,8 @@
 #     bench/c_library.sh ARCHIVE PROGRAM WAD...
 #
 # ARCHIVE is libdoomsight_c.a (rt lib in crates/doomsight_c), PROGRAM the program of the same version. Needs gcc, g++, clang, clang++
-# and valgrind. Stages can be named in STAGES, which is "header layout maps memory threads refused" where it isn't set; MAPS names the
-# maps to try. It ends with 1 where anything differs.
+# and valgrind. Stages can be named in STAGES, which is "header layout maps exact memory threads refused" where it isn't set; MAPS
+# names the maps to try. It ends with 1 where anything differs.
 set -u
 top=$(cd "$(dirname "$0")/.." && pwd)
 [ $# -ge 3 ] || {
@@ -17,7 +17,7 @@ program=$(realpath "$2")
 shift 2
 wads=()
 for wad in "$@"; do wads+=("$(realpath "$wad")"); done
-stages=${STAGES:-header layout maps memory threads refused}
+stages=${STAGES:-header layout maps exact memory threads refused}
 maps=${MAPS:-$(echo E{1,2,3,4}M{1,2,3,4,5,6,7,8,9} MAP{01..32})}
 work=$(mktemp -d)
 trap 'rm -rf "$work"' EXIT
@@ -69,9 +69,12 @@ try_layout() {
     grep -qx "#define DOOMSIGHT_VERSION $number" "$top/include/doomsight.h" || fail "the header's version isn't the program's"
 }
 
-# One map by both: table, certificate, counts, refusal and line are to be the same: one WAD MAP BUDGET FLAGS OPTIONS
+# One map by both: table, certificate, counts, refusal and line are to be the same: one WAD MAP BUDGET FLAGS METHOD [OPTION]; METHOD
+# is a budget of the program's, or exact
 one() {
-    line=$("$program" build "$1" "$2" out.wad --cert out.cert --workers 1 --budget "$5" ${6:-} 2>/dev/null)
+    method="--budget $5"
+    [ "$5" = exact ] && method=--exact
+    line=$("$program" build "$1" "$2" out.wad --cert out.cert --workers 1 $method ${6:-} 2>/dev/null)
     status=$?
     if [ $status = 7 ]; then return; fi
     if [ $status = 0 ]; then
@@ -113,6 +116,16 @@ try_maps() {
     echo "budgets and larger limits: $built built, $refused refused as by the program"
 }
 
+# Each map with every pair decided: the same table, the same certificate of version 3, and the library's check says yes to it.
+try_exact() {
+    built=0
+    refused=0
+    for wad in "${wads[@]}"; do
+        for map in $maps; do one "$wad" "$map" exact 0 exact; done
+    done
+    echo "every pair decided: $built built and $refused refused as by the program"
+}
+
 # The first map of the first WAD that is built, and is small enough for valgrind.
 small() {
     for map in $maps; do
@@ -127,6 +140,9 @@ try_memory() {
     small
     valgrind -q --leak-check=full --error-exitcode=9 --main-stacksize=8388608 ./client "${wads[0]}" "$map" 16384 0 out.wad \
         out.cert >said || fail "memcheck of $map"
+    "$program" build "${wads[0]}" "$map" out.wad --cert out.cert --workers 1 --exact >/dev/null 2>&1 || fail "$map with every pair decided"
+    valgrind -q --leak-check=full --error-exitcode=9 --main-stacksize=8388608 ./client "${wads[0]}" "$map" exact 0 out.wad \
+        out.cert >said || fail "memcheck of $map with every pair decided"
     echo "memcheck of $map: no error, nothing left"
 }
 

@@ -53,6 +53,37 @@ def row_of_rooms(count):
     return [(b"LINEDEFS", lines), (b"SIDEDEFS", sides), (b"VERTEXES", places), (b"SECTORS", bytes(26 * count))]
 
 
+def hall_of_pillars(side, thin=2):
+    """The lumps of a hall of `side` times `side` open cells, a sector each, with a pillar at each corner of a cell that reaches so far
+    along its walls."""
+    numbers, lines, sides, step = {}, b"", b"", 64000 // side
+
+    def line(first, second, *sectors):
+        nonlocal lines, sides
+        number = len(sides) // 30
+        sides += b"".join(struct.pack("<hh8s8s8sH", 0, 0, b"-", b"-", b"-", sector) for sector in sectors)
+        ends = [numbers.setdefault(point, len(numbers)) for point in (first, second)]
+        lines += struct.pack("<7H", *ends, 4 if len(sectors) == 2 else 1, 0, 0, number, number + 1 if len(sectors) == 2 else 0xFFFF)
+
+    for i, j in ((i, j) for j in range(side) for i in range(side)):
+        cell, x, y = j * side + i, step * i - 32000, step * j - 32000
+        at = lambda a, b, x=x, y=y: (x + a, y + b)
+        far, end = step - thin, step
+        # clockwise, so that the cell is on the right of each
+        line(at(0, thin), at(0, far), cell, *([cell - 1] if i else []))
+        line(at(0, far), at(thin, end), cell)
+        if j + 1 == side:
+            line(at(thin, end), at(far, end), cell)
+        line(at(far, end), at(end, far), cell)
+        if i + 1 == side:
+            line(at(end, far), at(end, thin), cell)
+        line(at(end, thin), at(far, 0), cell)
+        line(at(far, 0), at(thin, 0), cell, *([cell - side] if j else []))
+        line(at(thin, 0), at(0, thin), cell)
+    places = b"".join(struct.pack("<hh", *point) for point in numbers)
+    return [(b"LINEDEFS", lines), (b"SIDEDEFS", sides), (b"VERTEXES", places), (b"SECTORS", bytes(26 * side * side))]
+
+
 def hard_maps(count=4080):
     """The lines of each hard map, by its name."""
     turns = [2 * math.pi * k / count for k in range(count)]

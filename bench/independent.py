@@ -1,10 +1,10 @@
 #!/usr/bin/env python3
 """Tables compared, byte for byte, with those of an independent program (plain_table.rs, which rustc compiles).
 
-    bench/independent.py [--program PATH] [--wads FOLDER] [--only MAP ..] [--threads N]
+    bench/independent.py [--program PATH] [--wads FOLDER] [--only MAP ..] [--threads N] [--budget full]
 
-Each map of Debian's packages freedoom and freedm is built with `--budget full`, with `--large` where the usual limits
-refuse it. Where it is built nothing may be listed, and its REJECT has to be the table that the other program finds. What
+Each map of Debian's packages freedoom and freedm is built with `--exact`, or with the budget that is named, with `--large`
+where the usual limits refuse it. Where it is built nothing may be listed, and its REJECT has to be the table that the other program finds. What
 the program refuses is told with its line; plain_table makes no audit. The status is 1 where a table differs.
 """
 import argparse
@@ -18,11 +18,11 @@ from wads import FREEDOOM, directory, maps, wad
 HERE = os.path.dirname(os.path.abspath(__file__))
 
 
-def built(program, source, name, folder):
+def built(program, source, name, folder, how):
     """The line of the build with nothing left open, and its table, or None."""
     out = os.path.join(folder, "out.wad")
     for more in ([], ["--large"]):
-        words = [program, "build", source, name, out, "--budget", "full"] + more
+        words = [program, "build", source, name, out] + how + more
         line = subprocess.run(words, stdout=subprocess.PIPE, stderr=subprocess.DEVNULL, text=True).stdout.strip()
         if not line.startswith("refused: limit:"):
             break
@@ -38,7 +38,9 @@ def main():
     parser.add_argument("--wads", default="/usr/share/games/doom")
     parser.add_argument("--only", nargs="*", default=[])
     parser.add_argument("--threads", default="4")
+    parser.add_argument("--budget")
     words = parser.parse_args()
+    how = ["--budget", words.budget] if words.budget else ["--exact"]
     same = refused = 0
     wrong = []
     with tempfile.TemporaryDirectory() as folder:
@@ -53,7 +55,7 @@ def main():
                 source, found = os.path.join(folder, "map.wad"), os.path.join(folder, "table")
                 with open(source, "wb") as it:
                     it.write(wad(name, lumps))
-                line, table = built(words.program, source, name, folder)
+                line, table = built(words.program, source, name, folder, how)
                 if table is None:
                     refused += 1
                     print("%s %s refused: %s" % (label, name, line), flush=True)

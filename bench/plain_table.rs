@@ -26,25 +26,25 @@ fn in_circle(a: P, b: P, c: P, d: P) -> bool {
 
 // ---- the map
 
-struct Line {
-    a: usize,
-    b: usize,
-    solid: bool,
-    right: Option<usize>,
-    left: Option<usize>,
+pub struct Line {
+    pub a: usize,
+    pub b: usize,
+    pub solid: bool,
+    pub right: Option<usize>,
+    pub left: Option<usize>,
 }
 
-struct Map {
-    points: Vec<P>,
-    lines: Vec<Line>,
-    sectors: usize,
+pub struct Map {
+    pub points: Vec<P>,
+    pub lines: Vec<Line>,
+    pub sectors: usize,
 }
 
 fn u16_at(bytes: &[u8], at: usize) -> usize {
     bytes[at] as usize | (bytes[at + 1] as usize) << 8
 }
 
-fn read(wad: &[u8], name: &str) -> Map {
+pub fn read(wad: &[u8], name: &str) -> Map {
     let u32_at = |at: usize| u16_at(wad, at) | u16_at(wad, at + 2) << 16;
     let (count, directory) = (u32_at(4), u32_at(8));
     let entry = |k: usize| {
@@ -448,12 +448,10 @@ fn seen_from(scene: &Scene, source: usize) -> (Vec<bool>, u64) {
     (walk.seen, walk.nodes)
 }
 
-fn main() {
-    let words: Vec<String> = std::env::args().collect();
-    let wad = std::fs::read(&words[1]).expect("WAD");
-    let map = read(&wad, &words[2]);
+/// The exact table of a map of a WAD, and a line on it.
+pub fn table_of(wad: &[u8], name: &str, threads: usize) -> (Vec<u8>, String) {
+    let map = read(wad, name);
     let scene = scene_of(&map);
-    let threads = words.get(4).map_or(4, |w| w.parse().unwrap());
     let outside = scene.face[scene.mesh.at[map.points.len()]];
     assert!(scene.names[outside].is_empty(), "the outside has a sector");
     let n = map.sectors;
@@ -493,6 +491,14 @@ fn main() {
             set += 1;
         }
     }
+    let (points, triangles, faces, nodes) = (map.points.len(), scene.face.len(), scene.names.len(), nodes.into_inner());
+    (table, format!("{points} points {triangles} triangles {faces} faces {n} sectors: set {set} nodes {nodes} uneven {uneven}"))
+}
+
+fn main() {
+    let words: Vec<String> = std::env::args().collect();
+    let wad = std::fs::read(&words[1]).expect("WAD");
+    let (table, said) = table_of(&wad, &words[2], words.get(4).map_or(4, |w| w.parse().unwrap()));
     std::fs::write(&words[3], &table).expect("OUT");
-    println!("{} points {} triangles {} faces {} sectors: set {} nodes {} uneven {}", map.points.len(), scene.face.len(), scene.names.len(), n, set, nodes.into_inner(), uneven);
+    println!("{said}");
 }

@@ -77,16 +77,24 @@ class Run:
 
 
 class Certificate:
-    """The counts, the groups and the rays of a certificate of either version; in version 1 each sector is a group."""
+    """The counts, the groups and the rays of a certificate of any version; in version 1 each sector is a group. In version 3 no pair is
+    listed, and `trees` counts the groups whose tree has a byte."""
 
     def __init__(self, held):
         version, sectors = struct.unpack_from("<HH", held, 4)
-        count, at = (sectors, 28) if version == 1 else (struct.unpack_from("<H", held, 12)[0], 30)
-        self.triangles, rays, self.listed, self.trees = struct.unpack_from("<IIII", held, at - 16)
+        count, at = (sectors, 28) if version == 1 else (struct.unpack_from("<H", held, 12)[0], 22 if version == 3 else 30)
+        if version == 3:
+            self.triangles, rays = struct.unpack_from("<II", held, at - 8)
+            self.listed = 0
+        else:
+            self.triangles, rays, self.listed, self.trees = struct.unpack_from("<IIII", held, at - 16)
         self.groups = [(a,) for a in range(sectors)]
-        if version == 2:
+        if version > 1:
             self.groups, at = groups_from(held, count, at)
         self.by_groups = dict(rays_from(held, rays, at + 8 * self.triangles))
+        if version == 3:
+            lengths = struct.unpack_from("<%dQ" % count, held, at + 8 * self.triangles + 24 * rays)
+            self.trees = sum(1 for length in lengths if length)
 
     def seen(self):
         """Why two sectors see each other, for each pair of which that is shown: None where a face belongs to both, else a ray, as

@@ -1,5 +1,5 @@
 /* client WAD MAP [BUDGET [FLAGS [TABLE-WAD CERT]]]: builds the table of a map by the library and prints its counts, or the line of
- * the fault. Where the program's outputs are named it compares table and certificate with them, those of a kept build too, and
+ * the fault. BUDGET is a number, or `exact` for DOOMSIGHT_EXACT. Where the program's outputs are named it compares table and certificate with them, those of a kept build too, and
  * provokes faults. */
 #include "doomsight.h"
 #include "wadio.h"
@@ -48,6 +48,8 @@ static void provoke(doomsight_map map, const doomsight_options *options, uint8_t
     expect("check, version 9", doomsight_check(&map, options, table, size, cert, room, &c, &f), &f, 1, 22);
     expect("build, table short", doomsight_build(&map, options, table, size - 1, NULL, 0, &c, &f), &f, 2, 15);
     if (f.at != size) wrong = 1;
+    other.budget = DOOMSIGHT_EXACT - 1;
+    expect("build, budget before exact", doomsight_build(&map, &other, table, size, NULL, 0, &c, &f), &f, 2, 14);
     other.budget = UINT64_C(1) << 40;
     expect("build, budget", doomsight_build(&map, &other, table, size, NULL, 0, &c, &f), &f, 2, 14);
     other = *options;
@@ -128,6 +130,10 @@ static int compare(doomsight_map map, const doomsight_options *options, uint8_t 
     doomsight_fault fault;
     int32_t code = doomsight_build(&map, options, table, size, cert, room, &counts, &fault);
     if (code) return tell("build", code, &fault);
+    if (options->budget == DOOMSIGHT_EXACT) {
+        same("version 3", room > 5 && cert[4] == 3 && cert[5] == 0);
+        same("none listed", counts.listed == 0);
+    }
     same("table", want.size == size && !memcmp(want.bytes, table, size));
     same("cert", want_cert.size == room && !memcmp(want_cert.at, cert, room));
     code = doomsight_check(&map, options, table, size, want_cert.at, want_cert.size, &yes, &fault);
@@ -143,11 +149,16 @@ static int compare(doomsight_map map, const doomsight_options *options, uint8_t 
     return wrong;
 }
 
+static uint64_t budget_of(const char *word)
+{
+    return strcmp(word, "exact") ? strtoull(word, NULL, 10) : DOOMSIGHT_EXACT;
+}
+
 int main(int argc, char **argv)
 {
     if (argc < 3 || doomsight_abi() != DOOMSIGHT_ABI || doomsight_version() != DOOMSIGHT_VERSION) return 64;
     struct bytes wad = slurp(argv[1]);
-    doomsight_options options = {argc > 3 ? strtoull(argv[3], NULL, 10) : 16384, argc > 4 ? (uint32_t)atoi(argv[4]) : 0};
+    doomsight_options options = {argc > 3 ? budget_of(argv[3]) : 16384, argc > 4 ? (uint32_t)atoi(argv[4]) : 0};
     doomsight_map map = map_of(wad, argv[2]);
     size_t size = doomsight_table_size(map.sectors.size);
     uint8_t *table = (uint8_t *)malloc(size ? size : 1);
