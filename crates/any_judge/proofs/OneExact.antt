@@ -2,18 +2,18 @@
 -- promised goes by the bits of the table alone.
 use Rattle.std.proofs.Common.{◌≡◌, ℕ, ◌<◌, ◌≤◌, ◌⊎◌, inl, inr, List, [], Option, refl, sym, ◌∙◌, ap, arith, subst}
 use Rattle.std.proofs.lemmas.Option.{same_Some}
-use Rattle.list_base.proofs.Lists.{contains_none}
-use Rattle.list_base.proofs.Numbers.{below_same_or_above}
+use Rattle.math_base.proofs.Lists.{contains_none}
+use Rattle.math_base.proofs.Numbers.{below_same_or_above}
 use Rattle.sight_names.specs.declared.faults.CheckFault.TheVariants.{Mesh, Ray, Tree as OfTree, ListedSet, Unproved, Uncovered}
 use Rattle.sight_names.specs.declared.faults.CheckFault.{CheckFault}
 use Rattle.sight_names.specs.Map.{Map}
 use Rattle.sight_names.specs.Mesh.{IsGoodMesh}
 use Rattle.reject_bits.specs.Parts.{TableParts}
-use Rattle.sight_tree.specs.declared.Node.{Node}
+use Rattle.block_evidence.specs.declared.sight_tree.Node.{Node}
 use Rattle.cert_format.specs.Accepted.{EitherSet, labels_of, triangles_of}
-use Rattle.cert_groups.specs.declared.cert.CertTwo.{CertTwo}
-use Rattle.cert_exact.specs.declared.cert.ExactParts.{ExactParts}
-use Rattle.cert_exact.specs.Grammar.{as_two}
+use Rattle.cert_format.specs.declared.cert_groups.cert.CertTwo.{CertTwo}
+use Rattle.certificates.specs.declared.cert_exact.cert.ExactParts.{ExactParts}
+use Rattle.certificates.specs.CertExact.Grammar.{as_two}
 use Rattle.cert_checker.specs.declared.verdict.Totals.{Totals}
 use Rattle.cert_checker.specs.declared.verdict.Verdict.{Verdict}
 use Rattle.cert_checker.specs.declared.verdict.Verdict.TheVariants.{Yes as YesOne, No as NoOne}
@@ -27,10 +27,10 @@ use Rattle.group_checker.specs.declared.verdict.AnyVerdict.{AnyVerdict}
 use Rattle.group_checker.specs.declared.verdict.AnyVerdict.TheVariants.{Yes, No}
 use Rattle.group_checker.specs.Judged.{InWordsOfOne, TellsGroups, TellsMesh, TellsPairs as TellsPairsOfTwo}
 use Rattle.group_checker.proofs.OneAny.{IsPromised as IsPromisedOfTwo, one_two}
-use Rattle.accepted_groups.specs.Accepted.{IsGroupedSeen}
+use Rattle.cert_checker.specs.AcceptedGroups.Accepted.{IsGroupedSeen}
 use Rattle.gate_floods.specs.Exact.{IsClaimed}
-use Rattle.row_judge.specs.Asked.{IsFirstWrong, pending_roots}
-use Rattle.tree_judge.specs.Roots.{root_edges}
+use Rattle.gate_floods.specs.RowJudge.Asked.{IsFirstWrong, pending_roots}
+use Rattle.cert_checker.specs.TreeJudge.Roots.{root_edges}
 use Rattle.exact_checker.specs.Judged.{AreTreesKept, IsFirstTreeWrong, IsPairRight, IsReached, JudgesTrees, TellsPairs}
 use Rattle.any_judge.proofs.OneRow.{one_first_wrong}
 

@@ -4,8 +4,8 @@ use Rattle.std.specs.Prelude.{◌↔◌, option_and_then}
 use Rattle.std.specs.Int.{bit_at}
 use Rattle.std.specs.List.{slice_get, filter_map, cons_option}
 use Rattle.std.proofs.lemmas.Option.{none-some, same_Some}
-use Rattle.list_base.proofs.Bools.{not_both_values}
-use Rattle.list_base.proofs.Numbers.{below_same_or_above, is_told_same, tells_same}
+use Rattle.math_base.proofs.Bools.{not_both_values}
+use Rattle.math_base.proofs.Numbers.{below_same_or_above, is_told_same, tells_same}
 use Rattle.sight_names.specs.declared.names.Side.{Side}
 use Rattle.sight_names.specs.declared.names.Triangle.{Triangle}
 use Rattle.sight_names.specs.Map.{Map, map_of}
@@ -15,24 +15,24 @@ use Rattle.sight_names.specs.Points.{Edge, place, reverse_of}
 use Rattle.sight_names.specs.Sequence.{Portal, IsSolidLine, apex, entry_edge, names_it, root_portal, roots}
 use Rattle.sight_names.specs.Splitting.{EndPoints}
 use Rattle.sight_lift.proofs.Doors.{other_edge, named_is}
-use Rattle.list_base.proofs.Bools.{not_not}
-use Rattle.sight_tree.specs.declared.Node.{Node}
-use Rattle.sight_tree.specs.declared.Node.TheVariants.{Open, Blocked}
+use Rattle.math_base.proofs.Bools.{not_not}
+use Rattle.block_evidence.specs.declared.sight_tree.Node.{Node}
+use Rattle.block_evidence.specs.declared.sight_tree.Node.TheVariants.{Open, Blocked}
 use Rattle.block_evidence.specs.Stuck.{Blocks}
-use Rattle.half_edges.specs.declared.table.HalfEdge.{HalfEdge}
-use Rattle.half_edges.specs.Numbers.{edge, number_of}
-use Rattle.half_edges.specs.Kinds.{portal_on}
-use Rattle.half_edges.specs.HalfEdges.{portal_of, entering, way_outside, IsHalfEdge, AreHalfEdges}
-use Rattle.half_edges.proofs.Reached.{reached, not_reached, outside_is}
-use Rattle.tree_judge.specs.Path.{edge_ends}
-use Rattle.tree_judge.specs.Roots.{root_edge, root_edges, way_out_of}
+use Rattle.mesh_shape.specs.declared.half_edges.table.HalfEdge.{HalfEdge}
+use Rattle.mesh_shape.specs.HalfEdges.Numbers.{edge, number_of}
+use Rattle.mesh_shape.specs.HalfEdges.Kinds.{portal_on}
+use Rattle.mesh_shape.specs.HalfEdges.HalfEdges.{portal_of, entering, way_outside, IsHalfEdge, AreHalfEdges}
+use Rattle.mesh_shape.proofs.HalfEdges.Reached.{reached, not_reached, outside_is}
+use Rattle.cert_checker.specs.TreeJudge.Path.{edge_ends}
+use Rattle.cert_checker.specs.TreeJudge.Roots.{root_edge, root_edges, way_out_of}
 use Rattle.gate_floods.specs.Gates.{IsGate, IsInMask}
 use Rattle.gate_floods.proofs.Flooding.{door_of_gate}
-use Rattle.row_judge.specs.Masks.{MaskRows}
-use Rattle.row_judge.specs.Words.{both_words, has_bit, is_away, is_in}
-use Rattle.row_judge.specs.Asked.{Pending, Answers, AreAnswered, IsFirstWrong, ends_through, leaves, left_of, mask_at, pending_roots, pending_way, row_through, way_asked, ways_through, with_rest}
-use Rattle.row_judge.specs.Laws.{AreMasks, IsMaskOf}
-use Rattle.row_judge.proofs.Bits.{bit_found, found_bit, in_both, in_each}
+use Rattle.gate_floods.specs.RowJudge.Masks.{MaskRows}
+use Rattle.gate_floods.specs.RowJudge.Words.{both_words, has_bit, is_away, is_in}
+use Rattle.gate_floods.specs.RowJudge.Asked.{Pending, Answers, AreAnswered, IsFirstWrong, ends_through, leaves, left_of, mask_at, pending_roots, pending_way, row_through, way_asked, ways_through, with_rest}
+use Rattle.gate_floods.specs.RowJudge.Laws.{AreMasks, IsMaskOf}
+use Rattle.gate_floods.proofs.RowJudge.Bits.{bit_found, found_bit, in_both, in_each}
 
 -- ---- rows of the same bits
 

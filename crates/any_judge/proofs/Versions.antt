@@ -8,8 +8,8 @@ use Rattle.sight_names.specs.declared.faults.CertFault.{CertFault}
 use Rattle.sight_names.specs.declared.faults.CertFault.TheVariants as faults
 use Rattle.cert_format.specs.declared.cert.Sizes.{Sizes}
 use Rattle.cert_format.specs.Reading.{◌>>=◌, magic, magic_at, number_at, passed}
-use Rattle.cert_groups.specs.Reading.{any_at}
-use Rattle.cert_exact.specs.Reading.{exact_at, version_at}
+use Rattle.cert_format.specs.CertGroups.Reading.{any_at}
+use Rattle.certificates.specs.CertExact.Reading.{exact_at, version_at}
 use Rattle.certificates.specs.declared.certificate.Certificate.{Certificate}
 use Rattle.certificates.specs.Reading.{certificate_at, exact_of, listing_of, read_by}
 use Rattle.any_judge.specs.Version.{BeginsThree}

@@ -2,9 +2,9 @@
 use Rattle.std.specs.Prelude.{ℕ, List}
 use Rattle.sight_names.specs.Map.{Map}
 use Rattle.reject_bits.specs.Parts.{TableParts}
-use Rattle.accepted_groups.specs.Accepted.{IsAcceptedAny}
+use Rattle.cert_checker.specs.AcceptedGroups.Accepted.{IsAcceptedAny}
 use Rattle.group_checker.specs.Judged.{TellsSightAny}
-use Rattle.turned_trees.specs.Exact.{TellsAll}
+use Rattle.gate_floods.specs.TurnedTrees.Exact.{TellsAll}
 use Rattle.gate_floods.specs.Exact.{IsAcceptedThree}
 use Rattle.certificates.specs.declared.certificate.Certificate.{Certificate}
 use Rattle.certificates.specs.declared.certificate.Certificate.TheVariants.{Listing, Exact}

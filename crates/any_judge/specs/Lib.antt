@@ -4,3 +4,5 @@ pub mod Version
 pub mod Versed
 pub mod Course
 pub mod Judge
+pub mod ExactJudge
+pub mod CertFile

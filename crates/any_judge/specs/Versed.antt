@@ -3,7 +3,7 @@ use Rattle.std.specs.Prelude.{◌≡◌, ℕ, ◌+◌, ◌<◌, ◌^◌, List, l
 use Rattle.sight_names.specs.Plan.{PlanParts}
 use Rattle.reject_bits.specs.Parts.{TableParts}
 use Rattle.cert_judge.specs.Judge.{HasBeenFed as HasBeenFedListing, IsFed as IsFedListing, MayBeFed as MayBeFedListing}
-use Rattle.exact_judge.specs.Judge.{HasBeenFed as HasBeenFedExact, IsFed as IsFedExact, MayBeFed as MayBeFedExact}
+use Rattle.any_judge.specs.ExactJudge.Judge.{HasBeenFed as HasBeenFedExact, IsFed as IsFedExact, MayBeFed as MayBeFedExact}
 use Rattle.any_judge.specs.declared.versed.Versed.{Versed}
 use Rattle.any_judge.specs.declared.versed.Versed.TheVariants as versed
 use Rattle.any_judge.specs.Version.{BeginsThree}

@@ -1,7 +1,9 @@
 //! A REJECT table judged by a certificate of any version: by the whole certificate, or by its bytes in pieces.
 #![tactic(auto)]
 
+pub mod cert_file;
 mod course;
+pub mod exact_judge;
 mod judge;
 mod opening;
 mod versed;

@@ -14,8 +14,8 @@ ghost use Rattle.any_judge.specs.Judged.{Judges};
 ghost use Rattle.any_judge.specs.Version.{BeginsThree};
 ghost use Rattle.any_judge.specs.Versed.{HasTaken, IsFilled, IsVersed, MayTake};
 
-use cert_exact::fields::behind_version;
 use cert_judge::Judged;
+use certificates::cert_exact::fields::behind_version;
 use reject_bits::Table;
 use sight_names::{Memory, Plan};
 use std::alloc::Global;
@@ -31,7 +31,7 @@ pub fn begins_three(bytes: &[u8]) -> bool
 #[derive(Drop)]
 pub enum Versed<'a> {
     Listing(cert_judge::Judge<'a>),
-    Exact(exact_judge::Judge<'a>),
+    Exact(crate::exact_judge::Judge<'a>),
 }
 
 impl<'a> Versed<'a> {
@@ -41,7 +41,7 @@ impl<'a> Versed<'a> {
         ensures versed { IsVersed bytes.now result }
     {
         if begins_three(bytes) {
-            Versed::Exact(exact_judge::Judge::new(alloc, plan, table))
+            Versed::Exact(crate::exact_judge::Judge::new(alloc, plan, table))
         } else {
             Versed::Listing(cert_judge::Judge::new(alloc, plan, table))
         }

@@ -10,9 +10,9 @@ ghost use Rattle.any_judge.specs.Accepted.{IsAccepted, TellsSight};
 ghost use Rattle.any_judge.specs.Judged.{Judges};
 
 use certificates::Certificate;
-use check_workers::check_any_par;
 use exact_checker::check_exact;
-use exact_workers::check_exact_par;
+use exact_checker::exact_workers::check_exact_par;
+use group_checker::check_workers::check_any_par;
 use group_checker::{AnyVerdict, check_any};
 use reject_bits::Table;
 use sight_names::{Memory, Plan};

@@ -7,13 +7,13 @@ use Rattle.sight_names.specs.declared.names.Pt.{Pt}
 use Rattle.sight_names.specs.declared.names.EndAt.{EndAt}
 use Rattle.sight_names.specs.Point.{point_of, value_at}
 use Rattle.sight_names.specs.Splitting.{EndPoints, SplitsEnds, IsSplittable, end_of}
-use Rattle.extreme_lines.specs.declared.cut.Cut.{Cut}
-use Rattle.extreme_lines.proofs.EndsLemmas.{left_place, right_place}
+use Rattle.geom_exact.specs.declared.extreme_lines.cut.Cut.{Cut}
+use Rattle.geom_exact.proofs.ExtremeLines.EndsLemmas.{left_place, right_place}
 use Rattle.block_evidence.specs.declared.Evidence.{Evidence}
 use Rattle.block_evidence.specs.Stuck.{AreStuck, Blocks, end_codes}
 use Rattle.block_evidence.specs.Parted.{PartsEnd, PartsEnds}
 use Rattle.block_evidence.proofs.Means.{parted_not_stuck}
-use Rattle.list_base.proofs.Options.{some_is_same, none_is_not_some}
+use Rattle.math_base.proofs.Options.{some_is_same, none_is_not_some}
 use Rattle.sight_names.proofs.Portals.{parted_at}
 
 is_true : (b : Bool) → false ≡ not b → b ≡ true

@@ -15,8 +15,8 @@ use Rattle.block_evidence.specs.Parted.{PartsEnds, AreParted}
 use Rattle.block_evidence.specs.Picked.{IsIn, inserted, Ascends, left_out, IsChoice, Gathers, Shortens, Names}
 use Rattle.block_evidence.proofs.Means.{In, lefts, rights, balanced_meet}
 use Rattle.block_evidence.proofs.Ordered.{all_at, all_of, inserted_all, inserted_ascends, inserted_old, inserted_new, left_out_in, left_out_ascends, AreEnds, same_end, left_in, right_in, two_at_least, all_found, each_some}
-use Rattle.list_base.proofs.Numbers.{next_is, below_or_at}
-use Rattle.list_base.proofs.Options.{some_is_same}
+use Rattle.math_base.proofs.Numbers.{next_is, below_or_at}
+use Rattle.math_base.proofs.Options.{some_is_same}
 
 many_by : (e d : EndAt) (ds es : List EndAt) (b c : Bool) → length es ≤ suc (length ds) → length (if b then d ∷ es else if c then e ∷ d ∷ ds else d ∷ ds) ≤ suc (suc (length ds))
 many_by e d ds es true c h = omega (arith, h)

@@ -4,7 +4,7 @@ use Rattle.std.specs.Prelude.{if◌then◌else◌}
 use Rattle.std.specs.List.{cons_option}
 use Rattle.std.proofs.lemmas.Bool.{lt-ltb, le-ltb}
 use Rattle.std.proofs.lemmas.Int.{ints}
-use Rattle.exact_ring.proofs.Quoting.{quoting, by_ring, ring_at, combine1}
+use Rattle.math_base.proofs.Quoting.{quoting, by_ring, ring_at, combine1}
 use Rattle.sight_names.specs.declared.limits.TheConstants.{RIGHT_END}
 use Rattle.sight_names.specs.declared.names.Pt.{Pt}
 use Rattle.sight_names.specs.declared.names.EndAt.{EndAt}
@@ -13,7 +13,7 @@ use Rattle.geom_exact.proofs.SegmentLemmas.{four_turns, same_meeting_x, same_mee
 use Rattle.block_evidence.specs.Stuck.{HullsMeet, AreStuck, left_ends, right_ends}
 use Rattle.block_evidence.specs.SignTests.{AreWeights, AreOpposite, IsBetween}
 use Rattle.block_evidence.proofs.Means.{AsMean, means_meet, sum_cons}
-use Rattle.exact_ring.proofs.Small.{nonneg_of_nonpos, some_of_sum}
+use Rattle.math_base.proofs.Small.{nonneg_of_nonpos, some_of_sum}
 
 -- ---- weights as whole numbers that aren't below 0
 record Weight (w : ℤ) : Type 0 where

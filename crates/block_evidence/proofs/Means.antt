@@ -6,8 +6,8 @@ use Rattle.std.specs.List.{AllByRecursion}
 use Rattle.std.proofs.lemmas.Int.{ints}
 use Rattle.std.proofs.lemmas.List.Sums.{sum_by-cons}
 use Rattle.std.proofs.lemmas.Bool.{lt-ltb, le-ltb, ltb-true, ltb-false}
-use Rattle.exact_ring.proofs.Quoting.{quoting, by_ring}
-use Rattle.exact_ring.proofs.Signs.{mul-pos, pos-of-mul}
+use Rattle.math_base.proofs.Quoting.{quoting, by_ring}
+use Rattle.math_base.proofs.Signs.{mul-pos, pos-of-mul}
 use lib.IntN.{*ℤ_comm}
 use Rattle.sight_names.specs.declared.limits.TheConstants.{RIGHT_END}
 use Rattle.sight_names.specs.declared.names.Pt.{Pt}
@@ -17,8 +17,8 @@ use Rattle.sight_names.specs.Point.{Point, point_of, value_at}
 use Rattle.sight_names.specs.Splitting.{AreBalanced, across, up, weighed}
 use Rattle.block_evidence.specs.Stuck.{weighed_x, weighed_y, IsMeanOf, HullsMeet, left_ends, right_ends, AreStuck}
 use Rattle.block_evidence.specs.Parted.{PartsEnds, AreParted}
-use Rattle.list_base.proofs.Options.{none_is_not_some, some_is_same}
-use Rattle.exact_ring.proofs.Small.{weighed_pos, weighed_nonneg}
+use Rattle.math_base.proofs.Options.{none_is_not_some, some_is_same}
+use Rattle.math_base.proofs.Small.{weighed_pos, weighed_nonneg}
 use Rattle.sight_names.proofs.Affine.{neg_value}
 
 -- ---- a line's value at a mean

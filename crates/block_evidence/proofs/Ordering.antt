@@ -12,7 +12,7 @@ use Rattle.block_evidence.specs.Stuck.{HullsMeet, left_ends, right_ends, end_cod
 use Rattle.block_evidence.specs.Picked.{IsIn, Ascends, AreAmong, AreDistinct, Orders, Picks}
 use Rattle.block_evidence.proofs.Means.{In, mean_more}
 use Rattle.block_evidence.proofs.Ordered.{all_at, all_of, left_in, right_in}
-use Rattle.list_base.proofs.Lists.{all_join}
+use Rattle.math_base.proofs.Lists.{all_join}
 
 abbrev pub AreLeft : List EndAt → Type 0
 AreLeft ends = AllByRecursion (λ (d : EndAt). d.code < RIGHT_END) ends

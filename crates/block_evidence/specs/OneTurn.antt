@@ -4,8 +4,8 @@ use Rattle.sight_names.specs.declared.limits.TheConstants.{RIGHT_END}
 use Rattle.sight_names.specs.declared.names.Pt.{Pt}
 use Rattle.sight_names.specs.declared.names.EndAt.{EndAt}
 use Rattle.sight_names.specs.declared.names.EndPair.{EndPair}
-use Rattle.splitting_base.specs.Arrows.{cross}
-use Rattle.extreme_lines.specs.Differences.{difference}
+use Rattle.plane_base.specs.Arrows.{cross}
+use Rattle.geom_exact.specs.ExtremeLines.Differences.{difference}
 
 -- what the line from a pair's right end to its left end says of a point: above 0 on the line's left
 abbrev pub says : EndPair → Pt → ℤ

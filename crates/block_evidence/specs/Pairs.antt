@@ -2,10 +2,10 @@
 use Rattle.std.specs.Prelude.{◌≡◌, ℕ, ◌<◌, ◌≤◌, List, Some, slice_get}
 use Rattle.sight_names.specs.declared.limits.TheConstants.{RIGHT_END}
 use Rattle.sight_names.specs.declared.names.EndAt.{EndAt}
-use Rattle.splitting_base.specs.Arrows.{Arrow}
-use Rattle.extreme_lines.specs.declared.cone.Cone.{Cone}
-use Rattle.extreme_lines.specs.Differences.{difference}
-use Rattle.extreme_lines.specs.Spans.{Spans, first_of, second_of}
+use Rattle.plane_base.specs.Arrows.{Arrow}
+use Rattle.geom_exact.specs.declared.extreme_lines.cone.Cone.{Cone}
+use Rattle.geom_exact.specs.ExtremeLines.Differences.{difference}
+use Rattle.geom_exact.specs.ExtremeLines.Spans.{Spans, first_of, second_of}
 
 -- a left end of the list
 pub record IsLeftIn (ends : List EndAt) (e : EndAt) : Type 0 where

@@ -5,7 +5,7 @@ ghost use Rattle.block_evidence.specs.Stuck.{AreStuck};
 ghost use Rattle.block_evidence.specs.Parted.{PartsEnds};
 ghost use Rattle.block_evidence.specs.Pairs.{IsLeftIn, IsRightIn, IsConeIn, Keeps, HasAt, HasAllAt};
 
-use extreme_lines::{Cone, Cut, Extreme};
+use geom_exact::extreme_lines::{Cone, Cut, Extreme};
 use sight_names::{EndAt, RIGHT_END};
 
 /// The least code of a right end.

@@ -9,7 +9,7 @@ use Rattle.std.proofs.lemmas.Int.{to_z-of_z}
 use Rattle.sight_names.specs.declared.faults.CertFault.{CertFault}
 use Rattle.sight_names.specs.declared.faults.CertFault.TheVariants as faults
 use Rattle.sight_names.specs.declared.names.Side.{Side}
-use Rattle.sight_tree.specs.Spelling.{u16}
+use Rattle.block_evidence.specs.SightTree.Spelling.{u16}
 use Rattle.cert_format.specs.Grammar.{side_number}
 use Rattle.cert_format.specs.Reading.{◌>>=◌, begins_at, passed, number_at, signed_at, number_below, number_known, point_apart, side_at}
 

@@ -11,7 +11,7 @@ use Rattle.sight_names.specs.declared.names.Ray.{Ray}
 use Rattle.sight_names.specs.Mesh.{IsTriangle, IsAbove}
 use Rattle.cert_format.specs.declared.cert.Sizes.{Sizes}
 use Rattle.cert_format.specs.declared.cert.Labelled.{Labelled}
-use Rattle.sight_tree.specs.Spelling.{u16}
+use Rattle.block_evidence.specs.SightTree.Spelling.{u16}
 use Rattle.cert_format.specs.Grammar.{IsPairInRange, IsRayInRange, FitsRay, side_number, triangle_bytes, line_bytes, ray_bytes, pair_bytes}
 use Rattle.sight_names.specs.Order.{PairBefore}
 use Rattle.cert_format.specs.Reading.{triangle_after, pair_after, pair_of, triangle_at, sight_line_at, ray_at, pair_at, signed_at}

@@ -9,3 +9,4 @@ pub mod CountLaws
 pub mod LimitLaws
 pub mod WholeLaws
 pub mod PieceLaws
+pub mod CertGroups

@@ -4,10 +4,10 @@ use Rattle.std.specs.Prelude.{replicate}
 use Rattle.std.specs.List.{flat_map, AllByRecursion}
 use Rattle.std.proofs.lemmas.List.{length-append, length-drop, take_at}
 use Rattle.sight_names.specs.declared.faults.CertFault.{CertFault}
-use Rattle.sight_tree.specs.declared.Node.{Node}
-use Rattle.sight_tree.specs.declared.Node.TheVariants.{Open, Blocked}
-use Rattle.sight_tree.specs.Spelling.{node_bytes, IsPackable, SpellNodes}
-use Rattle.sight_tree.proofs.ReadBack.{one_list}
+use Rattle.block_evidence.specs.declared.sight_tree.Node.{Node}
+use Rattle.block_evidence.specs.declared.sight_tree.Node.TheVariants.{Open, Blocked}
+use Rattle.block_evidence.specs.SightTree.Spelling.{node_bytes, IsPackable, SpellNodes}
+use Rattle.block_evidence.proofs.SightTree.ReadBack.{one_list}
 use Rattle.cert_format.specs.Reading.{◌>>=◌, behind, node_at, nodes_at, records_at}
 use Rattle.cert_format.proofs.FieldLaws.{IsBytes, bind_ok, ok_is}
 use Rattle.cert_format.proofs.TreeLaws.{FitsInOrder, nodes_take, all_fit}

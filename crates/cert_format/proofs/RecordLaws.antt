@@ -7,7 +7,7 @@ use Rattle.sight_names.specs.declared.faults.CertFault.{CertFault}
 use Rattle.sight_names.specs.Order.{Ascends}
 use Rattle.cert_format.specs.Reading.{◌>>=◌, records_at}
 use Rattle.cert_format.proofs.FieldLaws.{IsBytes, bind_ok, ok_is, Takes, Takes-then}
-use Rattle.list_base.proofs.Options.{some_is_same}
+use Rattle.math_base.proofs.Options.{some_is_same}
 
 module _ {X K : Type 0} (one : K → List ℕ → Result (X × List ℕ) CertFault) (key : X → K) (text : X → List ℕ) (Fits : X → Type 0) (After : K → X → Type 0) where
   -- each comes after the one before it, the first after this key

@@ -5,11 +5,11 @@ use Rattle.std.specs.Int.{w16, w64}
 use Rattle.std.proofs.lemmas.Bool.{ltb-true, lt-ltb, eqb-true}
 use Rattle.sight_names.specs.declared.faults.CertFault.{CertFault}
 use Rattle.sight_names.specs.declared.faults.CertFault.TheVariants as faults
-use Rattle.sight_tree.specs.declared.Node.{Node}
-use Rattle.sight_tree.specs.declared.Node.TheVariants.{Open, Blocked}
-use Rattle.sight_tree.specs.declared.Tree.{Tree}
+use Rattle.block_evidence.specs.declared.sight_tree.Node.{Node}
+use Rattle.block_evidence.specs.declared.sight_tree.Node.TheVariants.{Open, Blocked}
+use Rattle.block_evidence.specs.declared.sight_tree.Tree.{Tree}
 use Rattle.cert_format.specs.declared.cert.Sizes.{Sizes}
-use Rattle.sight_tree.specs.Spelling.{u16, FitsNode, node_bytes}
+use Rattle.block_evidence.specs.SightTree.Spelling.{u16, FitsNode, node_bytes}
 use Rattle.cert_format.specs.Grammar.{u64, IsNodeInOrder, tree_bytes}
 use Rattle.sight_names.specs.Order.{Ascends}
 use Rattle.cert_format.specs.Reading.{begins_at, comes_after, end_at, two_ends_at, three_ends_at, four_ends_at, node_at, nodes_at, tree_at}

@@ -1,6 +1,6 @@
 -- The certificate of U has these 161 bytes.
 use Rattle.std.proofs.Common.{◌≡◌, ℕ, List, [], ◌∷◌, refl, pos, negsuc, true, false}
-use Rattle.sight_tree.proofs.UTree.{tree}
+use Rattle.block_evidence.proofs.SightTree.UTree.{tree}
 use Rattle.cert_format.specs.declared.cert.Labelled.{Labelled}
 use Rattle.cert_format.specs.Parts.{CertParts}
 use Rattle.cert_format.specs.Grammar.{spelling}

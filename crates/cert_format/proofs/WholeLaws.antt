@@ -11,11 +11,11 @@ use Rattle.sight_names.specs.declared.names.Pair.{Pair}
 use Rattle.sight_names.specs.declared.names.PairRay.{PairRay}
 use Rattle.sight_names.specs.declared.names.Triangle.{Triangle}
 use Rattle.sight_names.specs.Mesh.{IsTriangle, IsAbove, AreTriangles}
-use Rattle.sight_tree.specs.declared.Tree.{Tree}
+use Rattle.block_evidence.specs.declared.sight_tree.Tree.{Tree}
 use Rattle.cert_format.specs.declared.cert.Sizes.{Sizes}
 use Rattle.cert_format.specs.declared.cert.Labelled.{Labelled}
 use Rattle.cert_format.specs.Parts.{CertParts}
-use Rattle.sight_tree.specs.Spelling.{u16}
+use Rattle.block_evidence.specs.SightTree.Spelling.{u16}
 use Rattle.cert_format.specs.Grammar.{AreSmall, IsPairInRange, IsRayInRange, IsTreeInRange, IsInOrder, FitsRay, FitsFields, Spells, u32, triangle_bytes, ray_bytes, pair_bytes, tree_bytes, front_bytes, spelling}
 use Rattle.sight_names.specs.Order.{Ascends, PairBefore}
 use Rattle.cert_format.specs.Grammar as fields
@@ -26,7 +26,7 @@ use Rattle.cert_format.proofs.KindLaws.{FitsLabelled, TriangleAfter, triangle_ta
 use Rattle.cert_format.proofs.TreeLaws.{FitsTree, TreeAfter, tree_takes, tree_again, in_orders, all_fit, fit_in_order}
 use Rattle.cert_format.proofs.CountLaws.{few_pairs, few_rays, few_trees}
 use Rattle.cert_format.proofs.LimitLaws.{few_of}
-use Rattle.list_base.proofs.Options.{some_is_same}
+use Rattle.math_base.proofs.Options.{some_is_same}
 
 -- ---- the header
 

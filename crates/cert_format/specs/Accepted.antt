@@ -8,8 +8,8 @@ use Rattle.sight_names.specs.Table.{Rejected}
 use Rattle.sight_names.specs.Mesh.{IsGoodMesh}
 use Rattle.sight_names.specs.Found.{AreConnected}
 use Rattle.sight_names.specs.Ray.{IsSightRay}
-use Rattle.sight_tree.specs.declared.Tree.{Tree}
-use Rattle.sight_tree.specs.WholeTree.{IsWholeTree, KeepsFrom}
+use Rattle.block_evidence.specs.declared.sight_tree.Tree.{Tree}
+use Rattle.block_evidence.specs.SightTree.WholeTree.{IsWholeTree, KeepsFrom}
 use Rattle.cert_format.specs.declared.cert.Labelled.{Labelled}
 use Rattle.cert_format.specs.Parts.{CertParts}
 

@@ -10,11 +10,11 @@ use Rattle.sight_names.specs.declared.names.Side.{Side}
 use Rattle.sight_names.specs.Mesh.{AreTriangles}
 use Rattle.sight_names.specs.Order.{Ascends, PairBefore}
 use Rattle.block_evidence.specs.declared.Evidence.{Evidence}
-use Rattle.sight_tree.specs.declared.Node.{Node}
-use Rattle.sight_tree.specs.declared.Node.TheVariants.{Open, Blocked}
-use Rattle.sight_tree.specs.declared.Tree.{Tree}
+use Rattle.block_evidence.specs.declared.sight_tree.Node.{Node}
+use Rattle.block_evidence.specs.declared.sight_tree.Node.TheVariants.{Open, Blocked}
+use Rattle.block_evidence.specs.declared.sight_tree.Tree.{Tree}
 use Rattle.block_evidence.specs.Stuck.{end_codes}
-use Rattle.sight_tree.specs.Spelling.{u16, node_bytes, FitsNode}
+use Rattle.block_evidence.specs.SightTree.Spelling.{u16, node_bytes, FitsNode}
 use Rattle.cert_format.specs.declared.cert.Sizes.{Sizes}
 use Rattle.cert_format.specs.declared.cert.Labelled.{Labelled}
 use Rattle.cert_format.specs.Parts.{CertParts}

@@ -4,3 +4,4 @@ pub mod Grammar
 pub mod Reading
 pub mod Accepted
 pub mod Pieces
+pub mod CertGroups

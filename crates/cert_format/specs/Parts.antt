@@ -2,7 +2,7 @@
 use Rattle.std.specs.Prelude.{List}
 use Rattle.sight_names.specs.declared.names.Pair.{Pair}
 use Rattle.sight_names.specs.declared.names.PairRay.{PairRay}
-use Rattle.sight_tree.specs.declared.Tree.{Tree}
+use Rattle.block_evidence.specs.declared.sight_tree.Tree.{Tree}
 use Rattle.cert_format.specs.declared.cert.Sizes.{Sizes}
 use Rattle.cert_format.specs.declared.cert.Labelled.{Labelled}
 

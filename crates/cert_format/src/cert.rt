@@ -2,8 +2,8 @@
 
 ghost use Rattle.std.specs.Prelude.{◌≡◌};
 
+use block_evidence::sight_tree::Tree;
 use sight_names::{Items, Pair, PairRay, Triangle};
-use sight_tree::Tree;
 use std::marker::Model;
 
 /// The sizes of the map that a certificate is about: numbers of sectors, of points and of LINEDEFS records.

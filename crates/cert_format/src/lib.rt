@@ -3,6 +3,7 @@
 #![tactic(auto)]
 
 mod cert;
+pub mod cert_groups;
 pub mod fields;
 mod laws;
 mod limit;

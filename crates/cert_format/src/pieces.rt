@@ -7,8 +7,8 @@ ghost use Rattle.cert_format.specs.Pieces.{left_bytes};
 use crate::cert::{Cert, Labelled};
 use crate::ranges::{see_rays, see_trees};
 use crate::spelled::{head_of, header_of, pair_of, ray_of, triangle_of};
+use block_evidence::sight_tree::Tree;
 use sight_names::{Pair, PairRay};
-use sight_tree::Tree;
 use std::marker::Model;
 
 /// A record under way: a contract sees those of its bytes that are still to give.

@@ -3,8 +3,8 @@
 ghost use Rattle.std.specs.List.{AllByRecursion};
 ghost use Rattle.cert_format.specs.Grammar.{FitsPairRay, FitsTree};
 
+use block_evidence::sight_tree::Tree;
 use sight_names::PairRay;
-use sight_tree::Tree;
 
 /// A contract knows the range of a number only where it is read, so each ray is looked at.
 pub fn see_rays(rays: &[PairRay])

@@ -9,8 +9,8 @@ use crate::cert::{Cert, Counts, Labelled, Sizes};
 use crate::fields::{place, u16_at, u16_known, u32_at};
 use crate::limit::most_triangles;
 use crate::records::{listed_of, ray_of, tree_of, triangle_of};
+use block_evidence::sight_tree::Tree;
 use sight_names::{CertFault, Items, Pair, PairRay};
-use sight_tree::Tree;
 use std::alloc::Global;
 
 /// The number that the letters `DSCT` spell.

@@ -6,8 +6,8 @@ ghost use Rattle.cert_format.specs.Reading.{Gives, GivesExactly, behind, pair_af
 
 use crate::cert::{Labelled, Sizes};
 use crate::fields::{end_of, i32_at, i64_at, place, point_at, side_of, u16_at, u16_below, u64_at};
+use block_evidence::sight_tree::{Nodes, Tree};
 use sight_names::{CertFault, Pair, PairRay, Ray, Triangle};
-use sight_tree::{Nodes, Tree};
 use std::alloc::Global;
 
 fn is_triangle_behind(last: Option<Labelled>, t: Triangle) -> bool

@@ -1,7 +1,7 @@
 //! The bytes of each record.
 
 ghost use Rattle.std.specs.Prelude.{◌≡◌, ◌<◌, ◌^◌, ◌++◌};
-ghost use Rattle.sight_tree.specs.Spelling.{u16};
+ghost use Rattle.block_evidence.specs.SightTree.Spelling.{u16};
 ghost use Rattle.cert_format.specs.Grammar.{AreSmall, HasShortSides, side_number, u64, triangle_bytes, pair_bytes, line_bytes, ray_bytes, front_bytes, count_bytes, header_bytes};
 
 use crate::cert::{Cert, Counts, Labelled, Sizes};

@@ -6,16 +6,16 @@ use Rattle.std.specs.Prelude.{option_map}
 use Rattle.std.proofs.lemmas.List.{append-nil, append_assoc}
 use Rattle.sight_names.specs.declared.names.Pair.{Pair}
 use Rattle.sight_names.specs.declared.names.PairRay.{PairRay}
-use Rattle.sight_tree.specs.declared.Node.{Node}
-use Rattle.sight_tree.specs.declared.Tree.{Tree}
+use Rattle.block_evidence.specs.declared.sight_tree.Node.{Node}
+use Rattle.block_evidence.specs.declared.sight_tree.Tree.{Tree}
 use Rattle.cert_format.specs.declared.cert.Labelled.{Labelled}
-use Rattle.cert_parts.specs.declared.part.Part.{Part}
-use Rattle.cert_parts.specs.declared.part.Part.TheVariants.{Triangle, Ray, Listed, Node as OfNode}
+use Rattle.certificates.specs.declared.cert_parts.part.Part.{Part}
+use Rattle.certificates.specs.declared.cert_parts.part.Part.TheVariants.{Triangle, Ray, Listed, Node as OfNode}
 use Rattle.cert_format.specs.Parts.{CertParts}
-use Rattle.cert_groups.specs.declared.cert.AnyCert.{AnyCert}
-use Rattle.cert_groups.specs.declared.cert.AnyCert.TheVariants.{One, Two}
-use Rattle.cert_parts.specs.Parts.{tree_parts, parts_of, any_parts_of}
-use Rattle.tree_judge.specs.Walked.{with_node, with_nodes}
+use Rattle.cert_format.specs.declared.cert_groups.cert.AnyCert.{AnyCert}
+use Rattle.cert_format.specs.declared.cert_groups.cert.AnyCert.TheVariants.{One, Two}
+use Rattle.certificates.specs.CertParts.Parts.{tree_parts, parts_of, any_parts_of}
+use Rattle.cert_checker.specs.TreeJudge.Walked.{with_node, with_nodes}
 use Rattle.cert_judge.specs.Heard.{Heard, nothing, with_part, node_parts, heard_from}
 use Rattle.cert_judge.specs.Whole.{IsAllOf}
 

@@ -10,10 +10,10 @@ use Rattle.reject_bits.specs.Parts.{TableParts}
 use Rattle.cert_format.specs.declared.cert.Sizes.{Sizes}
 use Rattle.cert_format.specs.Reading.{◌>>=◌}
 use Rattle.cert_format.specs.Sizes.{sizes_of}
-use Rattle.cert_groups.specs.declared.cert.AnyCert.{AnyCert}
-use Rattle.cert_groups.specs.Reading.{any_at}
-use Rattle.accepted_groups.specs.Accepted.{IsAcceptedAny}
-use Rattle.cert_parts.specs.Parts.{reading_any_parts}
+use Rattle.cert_format.specs.declared.cert_groups.cert.AnyCert.{AnyCert}
+use Rattle.cert_format.specs.CertGroups.Reading.{any_at}
+use Rattle.cert_checker.specs.AcceptedGroups.Accepted.{IsAcceptedAny}
+use Rattle.certificates.specs.CertParts.Parts.{reading_any_parts}
 use Rattle.group_checker.specs.declared.verdict.AnyVerdict.{AnyVerdict}
 use Rattle.group_checker.specs.Judged.{IsYesAny, JudgesAny, TellsSightAny}
 use Rattle.group_checker.proofs.AnyTold.{any_exactly, accepted_any_tells}

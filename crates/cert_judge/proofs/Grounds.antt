@@ -13,11 +13,11 @@ use Rattle.mesh_shape.specs.Faults.{IsFirstFault}
 use Rattle.mesh_shape.specs.Shape.{MeshParts}
 use Rattle.cert_format.specs.declared.cert.Labelled.{Labelled}
 use Rattle.cert_format.specs.Parts.{CertParts}
-use Rattle.cert_groups.specs.declared.cert.AnyCert.{AnyCert}
-use Rattle.cert_groups.specs.declared.cert.AnyCert.TheVariants.{One, Two}
-use Rattle.cert_groups.specs.declared.cert.CertTwo.{CertTwo}
+use Rattle.cert_format.specs.declared.cert_groups.cert.AnyCert.{AnyCert}
+use Rattle.cert_format.specs.declared.cert_groups.cert.AnyCert.TheVariants.{One, Two}
+use Rattle.cert_format.specs.declared.cert_groups.cert.CertTwo.{CertTwo}
 use Rattle.reject_bits.specs.Parts.{TableParts}
-use Rattle.tree_judge.specs.declared.judge.Reach.{Reach}
+use Rattle.cert_checker.specs.declared.tree_judge.judge.Reach.{Reach}
 use Rattle.cert_checker.specs.declared.verdict.Verdict.{Verdict}
 use Rattle.cert_checker.specs.declared.verdict.Verdict.TheVariants.{Yes, No}
 use Rattle.cert_checker.specs.Apart.{triangles_in, labels_in}

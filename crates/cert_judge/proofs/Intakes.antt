@@ -2,28 +2,28 @@
 use Rattle.std.proofs.Common.{◌≡◌, ℕ, zero, suc, ◌+◌, ◌-◌, ◌<◌, ◌≤◌, ◌^◌, List, [], ◌∷◌, ◌++◌, length, Some, Result, Ok, Err, Contains, refl, sym, ap, subst, ◌∙◌, append_assoc, arith, inl, inr}
 use Rattle.std.specs.List.{AllByRecursion}
 use Rattle.std.proofs.lemmas.List.{append-nil, length-append}
-use Rattle.list_base.proofs.Lists.{contains_none}
+use Rattle.math_base.proofs.Lists.{contains_none}
 use Rattle.sight_names.proofs.Lists.{contains_cases}
 use Rattle.sight_names.specs.declared.faults.CertFault.{CertFault}
 use Rattle.sight_names.specs.Plan.{PlanParts}
-use Rattle.sight_tree.specs.declared.Node.{Node}
-use Rattle.sight_tree.specs.declared.Tree.{Tree}
+use Rattle.block_evidence.specs.declared.sight_tree.Node.{Node}
+use Rattle.block_evidence.specs.declared.sight_tree.Tree.{Tree}
 use Rattle.reject_bits.specs.Parts.{TableParts}
 use Rattle.cert_format.specs.declared.cert.Sizes.{Sizes}
 use Rattle.cert_format.specs.Grammar.{FitsTree}
 use Rattle.cert_format.specs.Reading.{◌>>=◌}
 use Rattle.cert_format.specs.Sizes.{sizes_of}
 use Rattle.cert_format.proofs.FieldLaws.{bind_ok, ok_is}
-use Rattle.cert_groups.specs.declared.cert.AnyCert.{AnyCert}
-use Rattle.cert_groups.specs.declared.cert.AnyCert.TheVariants.{One, Two}
-use Rattle.cert_groups.specs.Grammar.{IsTwoInOrder, SpellsAny}
-use Rattle.cert_groups.specs.Reading.{any_at}
-use Rattle.cert_groups.proofs.AnyLaws.{any_takes}
-use Rattle.cert_parts.specs.declared.part.Part.{Part}
-use Rattle.cert_parts.specs.Parts.{AnyParts, any_parts_of, reading_any_parts}
-use Rattle.cert_parts.specs.Left.{ReaderState, parts_left, put_before}
-use Rattle.cert_parts.specs.Nodes.{ReadsNodes, AwaitsNodes, behind_nodes}
-use Rattle.cert_parts.proofs.Stretches.{put_all as put_behind, reads_within, nodes_behind}
+use Rattle.cert_format.specs.declared.cert_groups.cert.AnyCert.{AnyCert}
+use Rattle.cert_format.specs.declared.cert_groups.cert.AnyCert.TheVariants.{One, Two}
+use Rattle.cert_format.specs.CertGroups.Grammar.{IsTwoInOrder, SpellsAny}
+use Rattle.cert_format.specs.CertGroups.Reading.{any_at}
+use Rattle.cert_format.proofs.CertGroups.AnyLaws.{any_takes}
+use Rattle.certificates.specs.declared.cert_parts.part.Part.{Part}
+use Rattle.certificates.specs.CertParts.Parts.{AnyParts, any_parts_of, reading_any_parts}
+use Rattle.certificates.specs.CertParts.Left.{ReaderState, parts_left, put_before}
+use Rattle.certificates.specs.CertParts.Nodes.{ReadsNodes, AwaitsNodes, behind_nodes}
+use Rattle.certificates.proofs.CertParts.Stretches.{put_all as put_behind, reads_within, nodes_behind}
 use Rattle.cert_judge.specs.declared.intake.Intake.{Intake}
 use Rattle.cert_judge.specs.Heard.{node_parts}
 use Rattle.cert_judge.specs.Whole.{IsCertOf}

@@ -10,12 +10,12 @@ use Rattle.sight_names.specs.Map.{Map, map_of}
 use Rattle.sight_names.specs.Mesh.{IsGoodMesh}
 use Rattle.sight_names.specs.Plan.{PlanParts}
 use Rattle.sight_names.specs.Ray.{IsSightRay}
-use Rattle.sight_tree.specs.declared.Tree.{Tree}
+use Rattle.block_evidence.specs.declared.sight_tree.Tree.{Tree}
 use Rattle.cert_format.specs.declared.cert.Labelled.{Labelled}
 use Rattle.mesh_shape.specs.Shape.{MeshParts}
-use Rattle.half_edges.specs.declared.table.HalfEdge.{HalfEdge}
-use Rattle.half_edges.specs.HalfEdges.{AreHalfEdges, AreOfGoodMesh}
-use Rattle.tree_judge.specs.Heard.{HasHeardTrees}
+use Rattle.mesh_shape.specs.declared.half_edges.table.HalfEdge.{HalfEdge}
+use Rattle.mesh_shape.specs.HalfEdges.HalfEdges.{AreHalfEdges, AreOfGoodMesh}
+use Rattle.cert_checker.specs.TreeJudge.Heard.{HasHeardTrees}
 use Rattle.cert_checker.specs.Apart.{triangles_in, labels_in}
 use Rattle.cert_checker.specs.Judged.{IsRayFaultOf}
 use Rattle.cert_checker.specs.Rays.{AreSightRaysBelow, IsFaultOf}

@@ -7,8 +7,8 @@ use Rattle.sight_names.specs.declared.names.Triangle.{Triangle}
 use Rattle.sight_names.specs.Mesh.{IsTriangle, IsAbove, AreTriangles}
 use Rattle.cert_format.specs.declared.cert.Labelled.{Labelled}
 use Rattle.cert_checker.specs.Apart.{triangles_in}
-use Rattle.list_base.proofs.Lists.{get_there}
-use Rattle.list_base.proofs.Numbers.{below_or_at, is_next}
+use Rattle.math_base.proofs.Lists.{get_there}
+use Rattle.math_base.proofs.Numbers.{below_or_at, is_next}
 use Rattle.cert_judge.specs.InOrder.{IsNextAt}
 use Rattle.cert_format.proofs.WholeLaws.{above_carries as above_through}
 

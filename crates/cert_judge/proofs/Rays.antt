@@ -10,7 +10,7 @@ use Rattle.sight_names.specs.Ray.{IsSightRay}
 use Rattle.cert_checker.specs.Judged.{IsRayFaultOf}
 use Rattle.cert_checker.specs.Rays.{AreSightRaysBelow, IsFaultOf}
 use Rattle.cert_judge.specs.OnMesh.{IsRayFaultIn}
-use Rattle.list_base.proofs.Lists.{get_pushed, get_before_pushed, pushed_at}
+use Rattle.math_base.proofs.Lists.{get_pushed, get_before_pushed, pushed_at}
 
 module _ (m : Map) (rays : List PairRay) (one : PairRay) where
   -- what stands before the last of the rays

@@ -3,14 +3,14 @@ use Rattle.std.specs.Prelude.{option_map}
 use Rattle.std.proofs.Common.{◌≡◌, List, [], Option, None, true, false, refl, sym, subst}
 use Rattle.sight_names.specs.declared.names.PairRay.{PairRay}
 use Rattle.sight_names.specs.Plan.{PlanParts}
-use Rattle.sight_tree.specs.declared.Tree.{Tree}
+use Rattle.block_evidence.specs.declared.sight_tree.Tree.{Tree}
 use Rattle.cert_format.specs.declared.cert.Labelled.{Labelled}
 use Rattle.group_checker.specs.declared.verdict.AnyFault.{AnyFault}
 use Rattle.cert_judge.specs.declared.on_ground.OnGround.{OnGround}
 use Rattle.cert_judge.specs.declared.stage.Stage.{Stage}
 use Rattle.cert_judge.specs.declared.stage.Stage.TheVariants.{Gathering, Lost, Broken, Good}
-use Rattle.sight_tree.specs.declared.Node.{Node}
-use Rattle.tree_judge.specs.Walked.{with_nodes}
+use Rattle.block_evidence.specs.declared.sight_tree.Node.{Node}
+use Rattle.cert_checker.specs.TreeJudge.Walked.{with_nodes}
 use Rattle.cert_judge.specs.Heard.{Heard, closed_at, node_parts, heard_from}
 use Rattle.cert_judge.specs.OnGround.{IsOnGround}
 use Rattle.cert_judge.proofs.AllHeard.{last_nodes_heard}

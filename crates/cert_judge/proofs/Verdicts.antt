@@ -5,10 +5,10 @@ use Rattle.sight_names.specs.declared.faults.CheckFault.TheVariants.{Mesh, Ray, 
 use Rattle.sight_names.specs.Map.{Map}
 use Rattle.sight_names.specs.Plan.{PlanParts}
 use Rattle.cert_format.specs.Parts.{CertParts}
-use Rattle.tree_judge.specs.declared.judge.Reach.{Reach}
-use Rattle.tree_judge.specs.declared.judge.TreeVerdict.TheVariants.{Whole}
-use Rattle.tree_judge.specs.Heard.{IsJudgeable}
-use Rattle.tree_judge.specs.Trees.{IsFirstTreeNotWhole, TellsTrees}
+use Rattle.cert_checker.specs.declared.tree_judge.judge.Reach.{Reach}
+use Rattle.cert_checker.specs.declared.tree_judge.judge.TreeVerdict.TheVariants.{Whole}
+use Rattle.cert_checker.specs.TreeJudge.Heard.{IsJudgeable}
+use Rattle.cert_checker.specs.TreeJudge.Trees.{IsFirstTreeNotWhole, TellsTrees}
 use Rattle.cert_checker.specs.Apart.{triangles_in}
 use Rattle.cert_checker.specs.Rays.{AreSightRaysBelow}
 use Rattle.cert_judge.specs.declared.on_mesh.OnMesh.{OnMesh}

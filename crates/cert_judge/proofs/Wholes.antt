@@ -8,11 +8,11 @@ use Rattle.sight_names.specs.Plan.{PlanParts}
 use Rattle.cert_format.specs.declared.cert.Labelled.{Labelled}
 use Rattle.cert_format.specs.declared.cert.Sizes.{Sizes}
 use Rattle.cert_format.specs.Parts.{CertParts}
-use Rattle.cert_groups.specs.declared.cert.AnyCert.{AnyCert}
-use Rattle.cert_groups.specs.declared.cert.AnyCert.TheVariants.{One, Two}
-use Rattle.cert_groups.specs.declared.cert.CertTwo.{CertTwo}
+use Rattle.cert_format.specs.declared.cert_groups.cert.AnyCert.{AnyCert}
+use Rattle.cert_format.specs.declared.cert_groups.cert.AnyCert.TheVariants.{One, Two}
+use Rattle.cert_format.specs.declared.cert_groups.cert.CertTwo.{CertTwo}
 use Rattle.reject_bits.specs.Parts.{TableParts}
-use Rattle.tree_judge.specs.declared.judge.Reach.{Reach}
+use Rattle.cert_checker.specs.declared.tree_judge.judge.Reach.{Reach}
 use Rattle.cert_checker.specs.Apart.{AreListsOf}
 use Rattle.group_checker.specs.Judged.{AreListsOfTwo}
 use Rattle.cert_judge.specs.declared.on_ground.OnGround.{OnGround}

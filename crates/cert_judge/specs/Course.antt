@@ -4,8 +4,8 @@ use Rattle.sight_names.specs.declared.faults.CertFault.TheVariants as faults
 use Rattle.sight_names.specs.Plan.{PlanParts}
 use Rattle.reject_bits.specs.Parts.{TableParts}
 use Rattle.cert_format.specs.Sizes.{sizes_of}
-use Rattle.cert_parts.specs.Left.{IsCountable}
-use Rattle.cert_parts.specs.Parts.{reading_any_parts}
+use Rattle.certificates.specs.CertParts.Left.{IsCountable}
+use Rattle.certificates.specs.CertParts.Parts.{reading_any_parts}
 use Rattle.cert_judge.specs.declared.course.Course.{Course}
 use Rattle.cert_judge.specs.declared.course.Course.TheVariants as course
 use Rattle.cert_judge.specs.declared.opening.Asked.{Asked}

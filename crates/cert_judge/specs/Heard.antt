@@ -3,12 +3,12 @@ use Rattle.std.specs.Prelude.{ℕ, List, [], ◌∷◌, ◌++◌, Option, Some, 
 use Rattle.std.specs.Option.{option_to_list}
 use Rattle.sight_names.specs.declared.names.Pair.{Pair}
 use Rattle.sight_names.specs.declared.names.PairRay.{PairRay}
-use Rattle.sight_tree.specs.declared.Node.{Node}
-use Rattle.sight_tree.specs.declared.Tree.{Tree}
+use Rattle.block_evidence.specs.declared.sight_tree.Node.{Node}
+use Rattle.block_evidence.specs.declared.sight_tree.Tree.{Tree}
 use Rattle.cert_format.specs.declared.cert.Labelled.{Labelled}
-use Rattle.cert_parts.specs.declared.part.Part.{Part}
-use Rattle.cert_parts.specs.declared.part.Part.TheVariants.{Triangle, Ray, Listed, Tree as OfTree, Node as OfNode}
-use Rattle.tree_judge.specs.Walked.{begun, with_node}
+use Rattle.certificates.specs.declared.cert_parts.part.Part.{Part}
+use Rattle.certificates.specs.declared.cert_parts.part.Part.TheVariants.{Triangle, Ray, Listed, Tree as OfTree, Node as OfNode}
+use Rattle.cert_checker.specs.TreeJudge.Walked.{begun, with_node}
 
 -- the triangles before any other part, whether another part has come, and the trees, the last one apart
 pub record Heard : Type 0 where

@@ -6,9 +6,9 @@ use Rattle.reject_bits.specs.Parts.{TableParts}
 use Rattle.cert_format.specs.Grammar.{AreSmall}
 use Rattle.cert_format.specs.Reading.{◌>>=◌}
 use Rattle.cert_format.specs.Sizes.{sizes_of}
-use Rattle.cert_parts.specs.declared.part.Part.{Part}
-use Rattle.cert_parts.specs.Parts.{AnyParts, reading_any_parts}
-use Rattle.cert_parts.specs.Left.{parts_left}
+use Rattle.certificates.specs.declared.cert_parts.part.Part.{Part}
+use Rattle.certificates.specs.CertParts.Parts.{AnyParts, reading_any_parts}
+use Rattle.certificates.specs.CertParts.Left.{parts_left}
 use Rattle.cert_judge.specs.declared.intake.Intake.{Intake}
 use Rattle.cert_judge.specs.Judging.{HasHeard}
 use Rattle.cert_judge.specs.Version.{Groups}

@@ -1,9 +1,9 @@
 -- A judging that has heard parts of a certificate of a plan and a table.
 use Rattle.std.specs.Prelude.{◌≡◌, List, false}
 use Rattle.sight_names.specs.Plan.{PlanParts}
-use Rattle.cert_groups.specs.declared.cert.AnyCert.{AnyCert}
-use Rattle.cert_parts.specs.declared.part.Part.{Part}
-use Rattle.cert_parts.specs.Parts.{any_parts_of}
+use Rattle.cert_format.specs.declared.cert_groups.cert.AnyCert.{AnyCert}
+use Rattle.certificates.specs.declared.cert_parts.part.Part.{Part}
+use Rattle.certificates.specs.CertParts.Parts.{any_parts_of}
 use Rattle.reject_bits.specs.Parts.{TableParts}
 use Rattle.cert_judge.specs.declared.judging.Judging.{Judging}
 use Rattle.cert_judge.specs.declared.kept.Kept.{Kept}

@@ -4,7 +4,7 @@ use Rattle.sight_names.specs.Limits.{most_triangles}
 use Rattle.sight_names.specs.declared.names.PairRay.{PairRay}
 use Rattle.sight_names.specs.Mesh.{AreTriangles}
 use Rattle.sight_names.specs.Plan.{PlanParts}
-use Rattle.sight_tree.specs.declared.Tree.{Tree}
+use Rattle.block_evidence.specs.declared.sight_tree.Tree.{Tree}
 use Rattle.cert_format.specs.declared.cert.Labelled.{Labelled}
 use Rattle.cert_checker.specs.Apart.{triangles_in}
 use Rattle.cert_judge.specs.declared.stage.Stage.{Stage}

@@ -5,8 +5,8 @@ use Rattle.sight_names.specs.Map.{Map}
 use Rattle.sight_names.specs.Plan.{PlanParts}
 use Rattle.cert_format.specs.declared.cert.Labelled.{Labelled}
 use Rattle.cert_format.specs.Parts.{CertParts}
-use Rattle.cert_groups.specs.declared.cert.AnyCert.{AnyCert}
-use Rattle.cert_groups.specs.declared.cert.AnyCert.TheVariants.{One, Two}
+use Rattle.cert_format.specs.declared.cert_groups.cert.AnyCert.{AnyCert}
+use Rattle.cert_format.specs.declared.cert_groups.cert.AnyCert.TheVariants.{One, Two}
 use Rattle.reject_bits.specs.Parts.{TableParts}
 use Rattle.face_groups.specs.Regrouped.{regrouped_plan}
 use Rattle.cert_checker.specs.declared.verdict.Verdict.{Verdict}

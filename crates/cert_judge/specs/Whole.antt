@@ -7,15 +7,15 @@ use Rattle.sight_names.specs.declared.names.Pair.{Pair}
 use Rattle.sight_names.specs.declared.names.PairRay.{PairRay}
 use Rattle.sight_names.specs.Map.{Map, map_of}
 use Rattle.sight_names.specs.Plan.{PlanParts}
-use Rattle.sight_tree.specs.declared.Tree.{Tree}
+use Rattle.block_evidence.specs.declared.sight_tree.Tree.{Tree}
 use Rattle.cert_format.specs.Grammar.{IsInOrder}
 use Rattle.cert_format.specs.Parts.{CertParts}
 use Rattle.cert_format.specs.Sizes.{sizes_of}
-use Rattle.cert_groups.specs.declared.cert.AnyCert.{AnyCert}
-use Rattle.cert_groups.specs.Grammar.{IsAnyInOrder, sizes_of as sizes_in}
+use Rattle.cert_format.specs.declared.cert_groups.cert.AnyCert.{AnyCert}
+use Rattle.cert_format.specs.CertGroups.Grammar.{IsAnyInOrder, sizes_of as sizes_in}
 use Rattle.reject_bits.specs.Parts.{TableParts}
-use Rattle.tree_judge.specs.declared.judge.Reach.{Reach}
-use Rattle.tree_judge.specs.Trees.{AreTreesWhole, TellsReach}
+use Rattle.cert_checker.specs.declared.tree_judge.judge.Reach.{Reach}
+use Rattle.cert_checker.specs.TreeJudge.Trees.{AreTreesWhole, TellsReach}
 use Rattle.cert_checker.specs.declared.verdict.Verdict.TheVariants.{No}
 use Rattle.cert_checker.specs.Judged.{JudgesRays, JudgesTrees}
 use Rattle.cert_checker.specs.Rays.{AreSightRaysBelow}

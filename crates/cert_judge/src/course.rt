@@ -4,7 +4,7 @@ ghost use Rattle.std.specs.Prelude.{ℕ, List, [], ◌++◌, IfOk};
 ghost use Rattle.sight_names.specs.Plan.{PlanParts, IsPlan};
 ghost use Rattle.reject_bits.specs.Parts.{TableParts};
 ghost use Rattle.cert_format.specs.Sizes.{sizes_of};
-ghost use Rattle.cert_groups.specs.Reading.{any_at};
+ghost use Rattle.cert_format.specs.CertGroups.Reading.{any_at};
 ghost use Rattle.cert_judge.specs.Course.{HasCourse, IsOnCourse, MayTake};
 ghost use Rattle.cert_judge.specs.Judged.{JudgedBy, IsVerdictOf};
 

@@ -2,18 +2,18 @@
 
 ghost use Rattle.std.specs.Prelude.{[], ◌∷◌, ◌++◌, List, IfOk};
 ghost use Rattle.sight_names.specs.Plan.{PlanParts};
-ghost use Rattle.cert_parts.specs.declared.part.Part.{Part as PartOf};
-ghost use Rattle.cert_groups.specs.declared.cert.AnyCert.{AnyCert};
+ghost use Rattle.certificates.specs.declared.cert_parts.part.Part.{Part as PartOf};
+ghost use Rattle.cert_format.specs.declared.cert_groups.cert.AnyCert.{AnyCert};
 ghost use Rattle.reject_bits.specs.Parts.{TableParts};
 ghost use Rattle.group_checker.specs.Judged.{JudgesAny};
-ghost use Rattle.cert_parts.specs.Nodes.{TakesNodes};
+ghost use Rattle.certificates.specs.CertParts.Nodes.{TakesNodes};
 ghost use Rattle.cert_judge.specs.Heard.{node_parts};
 ghost use Rattle.cert_judge.specs.Judging.{HasHeard, HasHeardAll, IsComplete};
 ghost use Rattle.cert_judge.specs.Version.{Groups as GroupsOf};
 
 use crate::kept::Kept;
 use crate::on_ground::Groups;
-use cert_parts::Part;
+use certificates::cert_parts::Part;
 use group_checker::AnyVerdict;
 use reject_bits::Table;
 use sight_names::{Memory, Plan};

@@ -2,21 +2,21 @@
 
 ghost use Rattle.std.specs.Prelude.{◌≡◌, true, IfOk};
 ghost use Rattle.sight_names.specs.Plan.{PlanParts};
-ghost use Rattle.cert_groups.specs.declared.cert.AnyCert.{AnyCert};
+ghost use Rattle.cert_format.specs.declared.cert_groups.cert.AnyCert.{AnyCert};
 ghost use Rattle.group_checker.specs.Judged.{JudgesAny};
-ghost use Rattle.cert_parts.specs.Nodes.{TakesNodes};
+ghost use Rattle.certificates.specs.CertParts.Nodes.{TakesNodes};
 ghost use Rattle.cert_judge.specs.Heard.{Heard, nothing, closed_at, heard_from, node_parts, with_part, with_triangle, with_ray, with_listed, with_tree, with_next};
 ghost use Rattle.cert_judge.specs.Judging.{IsKept, IsKeptWhole};
 ghost use Rattle.cert_judge.specs.Version.{Groups as GroupsOf};
 
 use crate::on_ground::Groups;
 use crate::stage::Stage;
+use block_evidence::sight_tree::Node;
 use cert_format::Labelled;
-use cert_parts::Part;
+use certificates::cert_parts::Part;
 use group_checker::{AnyVerdict, any_of};
 use reject_bits::Table;
 use sight_names::{Memory, Pair, PairRay, Plan};
-use sight_tree::Node;
 use std::alloc::Global;
 
 /// The groups, the triangles, the rays and the listed pairs so far, and how far they and the trees are judged.

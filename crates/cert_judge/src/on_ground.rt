@@ -5,11 +5,11 @@ ghost use Rattle.std.specs.Option.{option_to_list};
 ghost use Rattle.sight_names.specs.Map.{map_of};
 ghost use Rattle.sight_names.specs.Plan.{PlanParts};
 ghost use Rattle.sight_names.specs.declared.names.PairRay.{PairRay as RayOfPair};
-ghost use Rattle.sight_tree.specs.declared.Tree.{Tree};
+ghost use Rattle.block_evidence.specs.declared.sight_tree.Tree.{Tree};
 ghost use Rattle.cert_format.specs.declared.cert.Labelled.{Labelled as AtSector};
-ghost use Rattle.cert_groups.specs.declared.cert.AnyCert.{AnyCert};
-ghost use Rattle.cert_parts.specs.Nodes.{TakesNodes};
-ghost use Rattle.tree_judge.specs.Walked.{begun, with_node, with_nodes};
+ghost use Rattle.cert_format.specs.declared.cert_groups.cert.AnyCert.{AnyCert};
+ghost use Rattle.certificates.specs.CertParts.Nodes.{TakesNodes};
+ghost use Rattle.cert_checker.specs.TreeJudge.Walked.{begun, with_node, with_nodes};
 ghost use Rattle.cert_checker.specs.Judged.{IsPairVerdict};
 ghost use Rattle.group_checker.specs.Judged.{any_of, JudgesAny};
 ghost use Rattle.cert_judge.specs.OnGround.{IsOnGround};
@@ -17,14 +17,14 @@ ghost use Rattle.cert_judge.specs.Version.{Groups as GroupsOf, TellsPairsAny};
 ghost use Rattle.cert_judge.specs.Whole.{IsJudgedOn, IsReachedOn};
 
 use crate::on_mesh::OnMesh;
+use block_evidence::sight_tree::Node;
+use cert_checker::tree_judge::Reach;
 use cert_checker::{Verdict, judge_reached};
-use cert_groups::Group;
+use cert_format::cert_groups::Group;
 use group_checker::judge_sectors;
 use reject_bits::Table;
 use sight_names::{Items, Memory, Pair, PairRay, Plan};
-use sight_tree::Node;
 use std::alloc::Global;
-use tree_judge::Reach;
 
 /// The groups of a certificate of version 2; None in version 1.
 pub type Groups = Option<Items<Group>>;

@@ -6,23 +6,23 @@ ghost use Rattle.sight_names.specs.Map.{map_of};
 ghost use Rattle.sight_names.specs.Mesh.{IsGoodMesh};
 ghost use Rattle.sight_names.specs.Plan.{IsPlan, PlanParts};
 ghost use Rattle.sight_names.specs.declared.names.PairRay.{PairRay as RayOfPair};
-ghost use Rattle.sight_tree.specs.declared.Tree.{Tree};
+ghost use Rattle.block_evidence.specs.declared.sight_tree.Tree.{Tree};
 ghost use Rattle.cert_format.specs.declared.cert.Labelled.{Labelled as AtSector};
 ghost use Rattle.cert_format.specs.Parts.{CertParts};
-ghost use Rattle.cert_parts.specs.Nodes.{TakesNodes};
-ghost use Rattle.tree_judge.specs.Walked.{begun, with_node, with_nodes};
+ghost use Rattle.certificates.specs.CertParts.Nodes.{TakesNodes};
+ghost use Rattle.cert_checker.specs.TreeJudge.Walked.{begun, with_node, with_nodes};
 ghost use Rattle.cert_checker.specs.Apart.{triangles_in, labels_in};
 ghost use Rattle.cert_judge.specs.OnMesh.{IsOnMesh};
 ghost use Rattle.cert_judge.specs.Whole.{HasReached, IsFirstEarly, IsHeardOver};
 
+use block_evidence::sight_tree::Node;
 use cert_checker::fault_of_ray;
-use cert_parts::pass_nodes;
-use half_edges::HalfEdges;
+use cert_checker::tree_judge::{Reach, TreeJudge, TreeVerdict};
+use certificates::cert_parts::pass_nodes;
+use mesh_shape::half_edges::HalfEdges;
 use mesh_shape::{Labels, Mesh};
 use sight_names::{CheckFault, Memory, PairRay, Plan};
-use sight_tree::Node;
 use std::alloc::Global;
-use tree_judge::{Reach, TreeJudge, TreeVerdict};
 
 /// A good mesh, the fault of the first wrong ray, and a judge of the trees. Behind a wrong ray no tree is judged.
 #[derive(Drop)]

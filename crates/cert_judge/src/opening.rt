@@ -9,7 +9,7 @@ ghost use Rattle.cert_judge.specs.Course.{IsAsked, IsOpening};
 
 use crate::intake::Intake;
 use cert_format::Sizes;
-use cert_parts::{Beginning, beginning_of};
+use certificates::cert_parts::{Beginning, beginning_of};
 use reject_bits::Table;
 use sight_names::{CertFault, Memory, Plan};
 use std::alloc::Global;

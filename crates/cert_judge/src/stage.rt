@@ -2,7 +2,7 @@
 
 ghost use Rattle.std.specs.Prelude.{◌≡◌, [], Some, None, true, IfOk};
 ghost use Rattle.sight_names.specs.Plan.{PlanParts};
-ghost use Rattle.cert_parts.specs.Nodes.{TakesNodes};
+ghost use Rattle.certificates.specs.CertParts.Nodes.{TakesNodes};
 ghost use Rattle.cert_judge.specs.Heard.{Heard, closed_at, heard_from, node_parts, with_next, with_ray, with_tree};
 ghost use Rattle.cert_judge.specs.Stage.{IsClosed, IsStage};
 ghost use Rattle.cert_judge.specs.Version.{Groups as GroupsOf};
@@ -10,14 +10,14 @@ ghost use Rattle.cert_judge.specs.Version.{Groups as GroupsOf};
 use crate::in_order::{are_in_order, are_labelled_below};
 use crate::on_ground::{Groups, OnGround};
 use crate::on_mesh::OnMesh;
+use block_evidence::sight_tree::Node;
 use cert_checker::mesh_over;
 use cert_format::Labelled;
-use cert_groups::Group;
-use cert_parts::pass_nodes;
+use cert_format::cert_groups::Group;
+use certificates::cert_parts::pass_nodes;
 use group_checker::{AnyFault, GroupedMesh, MeshVerdict, judge_mesh};
 use mesh_shape::mesh_fault;
 use sight_names::{CheckFault, Memory, PairRay, Plan};
-use sight_tree::Node;
 use std::alloc::Global;
 
 /// The triangles come; or no certificate has such triangles; or they break a rule of a good mesh or of its groups; or they keep all.

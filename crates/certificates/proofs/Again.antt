@@ -7,11 +7,11 @@ use Rattle.sight_names.specs.declared.faults.CertFault.TheVariants as faults
 use Rattle.cert_format.specs.declared.cert.Sizes.{Sizes}
 use Rattle.cert_format.specs.Reading.{◌>>=◌, magic_at, number_at, passed}
 use Rattle.cert_format.proofs.FieldLaws.{bind_ok, passed_ok}
-use Rattle.cert_groups.specs.Reading.{any_at, version_at}
-use Rattle.cert_groups.proofs.AnyLaws.{any_again}
-use Rattle.cert_groups.proofs.Versions.{one_or_two}
-use Rattle.cert_exact.specs.Reading.{parts_at, version_at as version_three_at}
-use Rattle.cert_exact.proofs.ExactLaws.{exact_again}
+use Rattle.cert_format.specs.CertGroups.Reading.{any_at, version_at}
+use Rattle.cert_format.proofs.CertGroups.AnyLaws.{any_again}
+use Rattle.cert_format.proofs.CertGroups.Versions.{one_or_two}
+use Rattle.certificates.specs.CertExact.Reading.{parts_at, version_at as version_three_at}
+use Rattle.certificates.proofs.CertExact.ExactLaws.{exact_again}
 use Rattle.certificates.specs.declared.certificate.Certificate.{Certificate}
 use Rattle.certificates.specs.declared.certificate.Certificate.TheVariants.{Listing, Exact}
 use Rattle.certificates.specs.Grammar.{Spells}

@@ -1,2 +1,5 @@
 pub mod OneSpelling
 pub mod Again
+pub mod CertParts
+pub mod CertExact
+pub mod ExactParts

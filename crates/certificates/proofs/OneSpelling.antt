@@ -1,6 +1,6 @@
 -- What spells a certificate of any version is its spelling.
 use Rattle.std.proofs.Common.{◌≡◌, ℕ, List}
-use Rattle.cert_groups.specs.declared.cert.AnyCert.TheVariants.{One, Two}
+use Rattle.cert_format.specs.declared.cert_groups.cert.AnyCert.TheVariants.{One, Two}
 use Rattle.certificates.specs.declared.certificate.Certificate.{Certificate}
 use Rattle.certificates.specs.declared.certificate.Certificate.TheVariants.{Listing, Exact}
 use Rattle.certificates.specs.Grammar.{Spells, sizes_of, spelling}

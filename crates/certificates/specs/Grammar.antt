@@ -2,11 +2,11 @@
 use Rattle.std.specs.Prelude.{ℕ, List}
 use Rattle.cert_format.specs.declared.cert.Sizes.{Sizes}
 use Rattle.cert_format.specs.Grammar.{spelling as spelling_of_one}
-use Rattle.cert_groups.specs.declared.cert.AnyCert.{AnyCert}
-use Rattle.cert_groups.specs.declared.cert.AnyCert.TheVariants.{One, Two}
-use Rattle.cert_groups.specs.Grammar.{IsAnyInOrder, SpellsAny, sizes_of as sizes_of_listing, spelling as spelling_of_two}
-use Rattle.cert_exact.specs.Grammar.{SpellsThree, spelling as spelling_of_three}
-pub use Rattle.cert_exact.specs.Grammar.{IsThreeInOrder}
+use Rattle.cert_format.specs.declared.cert_groups.cert.AnyCert.{AnyCert}
+use Rattle.cert_format.specs.declared.cert_groups.cert.AnyCert.TheVariants.{One, Two}
+use Rattle.cert_format.specs.CertGroups.Grammar.{IsAnyInOrder, SpellsAny, sizes_of as sizes_of_listing, spelling as spelling_of_two}
+use Rattle.certificates.specs.CertExact.Grammar.{SpellsThree, spelling as spelling_of_three}
+pub use Rattle.certificates.specs.CertExact.Grammar.{IsThreeInOrder}
 use Rattle.certificates.specs.declared.certificate.Certificate.{Certificate}
 use Rattle.certificates.specs.declared.certificate.Certificate.TheVariants.{Listing, Exact}
 

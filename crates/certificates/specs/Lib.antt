@@ -1,3 +1,6 @@
 pub mod Grammar
 pub mod Reading
 pub mod Pieces
+pub mod CertParts
+pub mod CertExact
+pub mod ExactParts

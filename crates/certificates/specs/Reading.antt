@@ -2,10 +2,10 @@
 use Rattle.std.specs.Prelude.{ℕ, List, length, Result, Ok, Err}
 use Rattle.sight_names.specs.declared.faults.CertFault.{CertFault}
 use Rattle.cert_format.specs.declared.cert.Sizes.{Sizes}
-use Rattle.cert_groups.specs.declared.cert.AnyCert.{AnyCert}
-use Rattle.cert_groups.specs.Reading.{any_at}
-use Rattle.cert_exact.specs.declared.cert.ExactParts.{ExactParts}
-use Rattle.cert_exact.specs.Reading.{exact_at, version_at as version_three_at}
+use Rattle.cert_format.specs.declared.cert_groups.cert.AnyCert.{AnyCert}
+use Rattle.cert_format.specs.CertGroups.Reading.{any_at}
+use Rattle.certificates.specs.declared.cert_exact.cert.ExactParts.{ExactParts}
+use Rattle.certificates.specs.CertExact.Reading.{exact_at, version_at as version_three_at}
 use Rattle.certificates.specs.declared.certificate.Certificate.{Certificate}
 use Rattle.certificates.specs.declared.certificate.Certificate.TheVariants.{Listing, Exact}
 

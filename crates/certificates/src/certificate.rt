@@ -1,7 +1,7 @@
 //! A certificate of any version.
 
-use cert_exact::ExactParts;
-use cert_groups::AnyCert;
+use crate::cert_exact::ExactParts;
+use cert_format::cert_groups::AnyCert;
 
 /// A certificate of any version.
 #[derive(Drop)]

@@ -3,9 +3,9 @@
 ghost use Rattle.std.specs.Prelude.{◌≡◌, ◌↔◌, ◌<◌, [], ◌++◌, length, take, drop, min};
 ghost use Rattle.certificates.specs.Grammar.{IsInOrder, Spells, sizes_of};
 
+use crate::cert_exact::ExactPrinter;
 use crate::certificate::Certificate;
-use cert_exact::ExactPrinter;
-use cert_groups::AnyPrinter;
+use cert_format::cert_groups::AnyPrinter;
 use std::marker::Model;
 
 /// The printer of the certificate's version.

@@ -12,16 +12,16 @@ use Rattle.order_words.specs.declared.order.Source.{Source}
 use Rattle.shelf_io.specs.Shelf.{Files, ShelfState}
 use Rattle.shelf_io.specs.Sink.{SinkState}
 use Rattle.sight_names.specs.declared.names.Method.{Method}
-use Rattle.sight_status.specs.Answer.{Answer}
-use Rattle.sight_status.specs.declared.status.Status.{Status}
-use Rattle.sight_status.specs.declared.status.Status.TheVariants as status
+use Rattle.map_answers.specs.SightStatus.Answer.{Answer}
+use Rattle.map_answers.specs.declared.sight_status.status.Status.{Status}
+use Rattle.map_answers.specs.declared.sight_status.status.Status.TheVariants as status
 use Rattle.sight_run.specs.Build.{BuildCalls, build_writes}
 use Rattle.sight_run.specs.Heard.{AllHeard, AreFindingsIn, Hears}
 use Rattle.sight_run.specs.Obeys.{AnswersAsked}
 use Rattle.sight_run.specs.Reading.{found_of}
 use Rattle.sight_run.specs.Run.{put_all}
 use Rattle.sight_run.specs.Words.{asked_of}
-use Rattle.run_laws.proofs.Stood.{asked_is, under_report}
+use Rattle.sight_run.proofs.RunLaws.Stood.{asked_is, under_report}
 use Rattle.doomsight.specs.Words.{HoldsReport, LeavesReport, Reports, RunsWords, is_reported, listeners_where}
 
 module _ (words : List (List ℕ)) (files : Files) (before after : ShelfState) (old new : SinkState) (wad : Source) (name out report : List ℕ) (cert : Option (List ℕ)) (workers : ℕ) (method : Method)

@@ -5,7 +5,7 @@ use Rattle.listeners.specs.Reporters.{lines_state, new_reporters, totals_state}
 use Rattle.order_words.specs.Words.{order_of}
 use Rattle.shelf_io.specs.Shelf.{Files, ShelfState}
 use Rattle.shelf_io.specs.Sink.{SinkState}
-use Rattle.sight_status.specs.declared.status.Status.{Status}
+use Rattle.map_answers.specs.declared.sight_status.status.Status.{Status}
 use Rattle.sight_run.specs.Heard.{Hears, heard_as}
 use Rattle.sight_run.specs.Run.{RunEnds}
 use Rattle.sight_run.specs.Words.{asked_of}

@@ -7,12 +7,12 @@ ghost use Rattle.shelf_io.specs.Shelf.{Files};
 ghost use Rattle.sight_run.specs.Run.{StatusCause};
 ghost use Rattle.doomsight.specs.Words.{Reports, RunsHeard, RunsWords, is_reported};
 
+use group_job::sight_workers::OpenGate;
 use listeners::{Lines, Listener, Totals};
 use order_words::{Order, read_words};
 use shelf_io::{Shelf, Sink};
 use sight_names::OrderFault;
 use sight_run::{Notice, Status, run};
-use sight_workers::OpenGate;
 use std::alloc::{AllocError, Global};
 use std::thread::Threads;
 

@@ -22,11 +22,11 @@ use Rattle.any_judge.specs.Judged.{Judges}
 use Rattle.cert_judge.specs.declared.judged.Judged.{Judged}
 use Rattle.cert_judge.specs.declared.judged.Judged.TheVariants as judged
 use Rattle.cert_judge.specs.Judged.{JudgedBy}
-use Rattle.sight_status.specs.Answer.{Makes}
-use Rattle.sight_status.specs.Status.{IsOfBytes}
-use Rattle.sight_status.specs.declared.status.Why.TheVariants as why
-use Rattle.sight_status.specs.declared.status.Status.{Status}
-use Rattle.sight_status.specs.declared.status.Status.TheVariants as status
+use Rattle.map_answers.specs.SightStatus.Answer.{Makes}
+use Rattle.map_answers.specs.SightStatus.Status.{IsOfBytes}
+use Rattle.map_answers.specs.declared.sight_status.status.Why.TheVariants as why
+use Rattle.map_answers.specs.declared.sight_status.status.Status.{Status}
+use Rattle.map_answers.specs.declared.sight_status.status.Status.TheVariants as status
 use Rattle.doomsight_c.specs.declared.counts.DoomsightCounts.{DoomsightCounts}
 use Rattle.doomsight_c.specs.declared.fault.DoomsightFault.{DoomsightFault}
 use Rattle.doomsight_c.specs.Checked.{ChecksMap, Denies, IsJudged, IsJudgement, IsTableOf, IsUnproved, IsUnread, IsVerdictOn, IsYes, VerdictOf, totals_view}

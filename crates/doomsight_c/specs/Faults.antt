@@ -16,15 +16,15 @@ use Rattle.sight_names.specs.declared.faults.RayFault.{RayFault}
 use Rattle.sight_names.specs.declared.faults.RayFault.TheVariants as ray
 use Rattle.sight_names.specs.declared.faults.CheckFault.{CheckFault}
 use Rattle.sight_names.specs.declared.faults.CheckFault.TheVariants as check
-use Rattle.sight_status.specs.declared.status.Bound.{Bound}
-use Rattle.sight_status.specs.declared.status.Bound.TheVariants as bound
-use Rattle.sight_status.specs.declared.status.Flaw.{Flaw}
-use Rattle.sight_status.specs.declared.status.Flaw.TheVariants as flaw
-use Rattle.sight_status.specs.declared.status.Why.{Why}
-use Rattle.sight_status.specs.declared.status.Why.TheVariants as why
-use Rattle.sight_status.specs.declared.status.Status.{Status}
-use Rattle.sight_status.specs.declared.status.Status.TheVariants as status
-use Rattle.sight_status.specs.Status.{number_of}
+use Rattle.map_answers.specs.declared.sight_status.status.Bound.{Bound}
+use Rattle.map_answers.specs.declared.sight_status.status.Bound.TheVariants as bound
+use Rattle.map_answers.specs.declared.sight_status.status.Flaw.{Flaw}
+use Rattle.map_answers.specs.declared.sight_status.status.Flaw.TheVariants as flaw
+use Rattle.map_answers.specs.declared.sight_status.status.Why.{Why}
+use Rattle.map_answers.specs.declared.sight_status.status.Why.TheVariants as why
+use Rattle.map_answers.specs.declared.sight_status.status.Status.{Status}
+use Rattle.map_answers.specs.declared.sight_status.status.Status.TheVariants as status
+use Rattle.map_answers.specs.SightStatus.Status.{number_of}
 use Rattle.doomsight_c.specs.declared.fault.DoomsightFault.{DoomsightFault}
 
 -- a kind with two numbers of 16 bits

@@ -2,7 +2,7 @@
 use Rattle.std.specs.Prelude.{◌≡◌, ℕ, List, [], Option, Some, None, Result, Ok}
 use Rattle.sight_names.specs.declared.names.Method.{Method}
 use Rattle.sight_names.specs.Map.{Map}
-use Rattle.sight_status.specs.declared.status.Status.{Status}
+use Rattle.map_answers.specs.declared.sight_status.status.Status.{Status}
 use Rattle.whole_wad.specs.declared.building.Built.{Built}
 use Rattle.whole_wad.specs.Built.{IsBuiltOf}
 use Rattle.doomsight_c.specs.declared.fault.DoomsightFault.{DoomsightFault}

@@ -11,12 +11,12 @@ use Rattle.sight_names.specs.declared.faults.MeshFault.TheVariants as mesh
 use Rattle.sight_names.specs.declared.faults.RayFault.{RayFault}
 use Rattle.sight_names.specs.declared.faults.RayFault.TheVariants as ray
 use Rattle.sight_names.specs.declared.faults.CheckFault.TheVariants as check
-use Rattle.sight_status.specs.declared.status.Bound.TheVariants as bound
-use Rattle.sight_status.specs.declared.status.Flaw.TheVariants as flaw
-use Rattle.sight_status.specs.declared.status.Why.{Why}
-use Rattle.sight_status.specs.declared.status.Why.TheVariants as why
-use Rattle.sight_status.specs.declared.status.Status.{Status}
-use Rattle.sight_status.specs.declared.status.Status.TheVariants as status
+use Rattle.map_answers.specs.declared.sight_status.status.Bound.TheVariants as bound
+use Rattle.map_answers.specs.declared.sight_status.status.Flaw.TheVariants as flaw
+use Rattle.map_answers.specs.declared.sight_status.status.Why.{Why}
+use Rattle.map_answers.specs.declared.sight_status.status.Why.TheVariants as why
+use Rattle.map_answers.specs.declared.sight_status.status.Status.{Status}
+use Rattle.map_answers.specs.declared.sight_status.status.Status.TheVariants as status
 use Rattle.doomsight_c.specs.declared.fault.DoomsightFault.{DoomsightFault}
 
 abbrev pub side_in : DoomsightFault → Side

@@ -14,10 +14,10 @@ use any_judge::Judge;
 use cert_checker::Totals;
 use cert_judge::Judged;
 use group_checker::{AnyFault, AnyVerdict};
+use map_answers::sight_status::{Status, Why};
 use map_answers::{audit_lines_of, plan_of};
 use reject_bits::Table;
 use sight_names::{CertFault, Memory, Plan, Reading, TableFault};
-use sight_status::{Status, Why};
 use std::alloc::Global;
 
 /// The table that the bytes spell.

@@ -3,7 +3,7 @@
 ghost use Rattle.std.specs.Prelude.{◌≡◌, ◌≢◌, IfErr, IfOk, None, OnErr, OnOk, length, pos};
 ghost use Rattle.certificates.specs.Grammar.{IsInOrder};
 ghost use Rattle.map_answers.specs.Input.{of_four_lumps};
-ghost use Rattle.sight_status.specs.Texts.{text_of};
+ghost use Rattle.map_answers.specs.SightStatus.Texts.{text_of};
 ghost use Rattle.doomsight_c.specs.Asked.{call_fault as call_wrong, method_of as method_meant, reading_fault as reading_wrong, reading_of as reading_meant};
 ghost use Rattle.doomsight_c.specs.Built.{IsGiven, IsNotBuilt, IsPut, table_size};
 ghost use Rattle.doomsight_c.specs.Checked.{IsNotProved, IsYes};
@@ -17,7 +17,7 @@ use crate::fault::{DoomsightFault, two};
 use crate::line::status_of;
 use crate::spell::spell;
 use map_answers::counts_of as counts_in;
-use sight_status::line_of;
+use map_answers::sight_status::line_of;
 use std::alloc::Global;
 use whole_wad::Built;
 

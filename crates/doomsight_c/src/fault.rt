@@ -3,10 +3,10 @@
 ghost use Rattle.std.specs.Prelude.{◌≡◌};
 ghost use Rattle.doomsight_c.specs.Faults.{bit_of, bound_view, cert_view, check_view, fault_view, flaw_view, lump_number, lumps_view, mesh_view, no_view, of_ray as of_ray_lem, of_side as of_side_lem, ray_view, table_view, two as two_lem, wide as wide_lem};
 
+use map_answers::sight_status::{Bound, Flaw, Status, Why, code};
 use sight_names::{
     CertFault, CheckFault, LineFault, Lump, LumpFault, MeshFault, RayFault, Side, TableFault,
 };
-use sight_status::{Bound, Flaw, Status, Why, code};
 
 /// Why a call refused. `code` is the exit status of the program; what the other numbers tell stands in the header. To C the
 /// fields are at the bytes 0, 2, 4, 6, 8, 10, 16 and 24 of 32.

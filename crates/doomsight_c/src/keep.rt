@@ -14,8 +14,8 @@ use crate::handle::DoomsightKept;
 use crate::kept::spell_whole;
 use crate::line::faults_tell_statuses;
 use map_answers::plan_of;
+use map_answers::sight_status::Status;
 use sight_names::{Memory, Method, Plan, Reading};
-use sight_status::Status;
 use std::alloc::Global;
 use whole_wad::Built;
 

@@ -1,15 +1,15 @@
 //! The line that tells a fault.
 
 ghost use Rattle.std.specs.Prelude.{◌≡◌, ◌≢◌};
-ghost use Rattle.sight_status.specs.declared.status.Status.{Status as StatusOf};
+ghost use Rattle.map_answers.specs.declared.sight_status.status.Status.{Status as StatusOf};
 ghost use Rattle.doomsight_c.specs.Faults.{fault_view};
 ghost use Rattle.doomsight_c.specs.Lines.{IsOfLibrary, bound_in, cert_in, flaw_in, lump_in, lumps_in, mesh_in, no_in, pair_in, ray_in, ray_of as ray_meant, side_in, status_in};
 
 use crate::fault::DoomsightFault;
+use map_answers::sight_status::{Bound, Flaw, Status, Why};
 use sight_names::{
     CertFault, CheckFault, LineFault, Lump, LumpFault, MeshFault, RayFault, Side, TableFault,
 };
-use sight_status::{Bound, Flaw, Status, Why};
 
 fn side_of(fault: &DoomsightFault) -> Side
     ensures { result ≡ side_in fault.now }

@@ -13,14 +13,14 @@ use Rattle.sight_names.specs.Points.{place}
 use Rattle.sight_names.specs.Sound.{IsSound}
 use Rattle.sight_lift.specs.Lift.{InClosedTriangle, InLabelled}
 use Rattle.sight_lift.proofs.LiftLaws.{sectors_are_labels}
-use Rattle.groups_base.proofs.SameLines.{lines_alike, misses_solid_alike}
-use Rattle.groups_base.proofs.SamePoints.{mesh_alike, place_alike}
-use Rattle.group_laws.proofs.WholeLaws.{groups_are_map, groups_are_sound, in_sector_by_groups, sectors_see_by_groups}
+use Rattle.face_groups.proofs.GroupsBase.SameLines.{lines_alike, misses_solid_alike}
+use Rattle.face_groups.proofs.GroupsBase.SamePoints.{mesh_alike, place_alike}
+use Rattle.triangulate.proofs.GroupLaws.WholeLaws.{groups_are_map, groups_are_sound, in_sector_by_groups, sectors_see_by_groups}
 use Rattle.group_job.proofs.KeptFaces.{good_mesh}
 use Rattle.map_answers.specs.Groups.{IsOverGroups, MapGroups}
-use Rattle.entered_triangles.specs.declared.entered.Entered.{Entered}
-use Rattle.entered_triangles.specs.Laws.{InNumbered}
-use Rattle.entered_triangles.proofs.Told.{sight_stays, unseen_not_entered}
+use Rattle.pair_answer.specs.declared.entered_triangles.entered.Entered.{Entered}
+use Rattle.pair_answer.specs.EnteredTriangles.Laws.{InNumbered}
+use Rattle.pair_answer.proofs.EnteredTriangles.Told.{sight_stays, unseen_not_entered}
 use Rattle.draw_answers.specs.Pair.{IsEnteredOver}
 use Rattle.draw_answers.specs.Laws.{BlindIsClosed, InEntered, InFaceOf, UnseenIsNotShown}
 

@@ -4,11 +4,11 @@ use Rattle.std.specs.Prelude.{IfOk, ⊤}
 use Rattle.sight_names.specs.declared.names.Memory.{Memory}
 use Rattle.sight_names.specs.Groups.{HasClosedFaces}
 use Rattle.sight_names.specs.Map.{Map}
-use Rattle.sight_status.specs.declared.status.Flaw.{Flaw}
-use Rattle.sight_status.specs.declared.status.Flaw.TheVariants as flaw
-use Rattle.sight_status.specs.declared.status.Status.{Status}
-use Rattle.sight_status.specs.declared.status.Status.TheVariants as status
-use Rattle.sight_status.specs.Answer.{Answer, Gives}
+use Rattle.map_answers.specs.declared.sight_status.status.Flaw.{Flaw}
+use Rattle.map_answers.specs.declared.sight_status.status.Flaw.TheVariants as flaw
+use Rattle.map_answers.specs.declared.sight_status.status.Status.{Status}
+use Rattle.map_answers.specs.declared.sight_status.status.Status.TheVariants as status
+use Rattle.map_answers.specs.SightStatus.Answer.{Answer, Gives}
 use Rattle.map_answers.specs.Sound.{HasSoundLines, IsAuditRefusal, IsFlaw}
 use Rattle.map_answers.proofs.Flaws.{gives_refused}
 use Rattle.draw_answers.specs.declared.drawn.Drawn.{Drawn}

@@ -12,7 +12,7 @@ use Rattle.sight_names.specs.Point.{OnSegment, Point}
 use Rattle.sight_names.specs.Ray.{IsCrossing, IsSightRay, SplitsLine}
 use Rattle.sight_names.proofs.Laws.{on_segment_sym, start_on}
 use Rattle.sight_names.proofs.PlanMap.{plan_is_map}
-use Rattle.groups_base.proofs.SameLines.{HaveSameLines, IsSameLine, line_of, lines_alike, misses_solid_alike, same_lines_sym}
+use Rattle.face_groups.proofs.GroupsBase.SameLines.{HaveSameLines, IsSameLine, line_of, lines_alike, misses_solid_alike, same_lines_sym}
 use Rattle.map_picture.specs.Picture.{JoinsSectors}
 use Rattle.pair_answer.specs.declared.answer.PairAnswer.TheVariants as answer
 use Rattle.pair_answer.specs.Answer.{IsAnswerFor}

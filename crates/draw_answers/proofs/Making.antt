@@ -4,8 +4,8 @@ use Rattle.std.specs.Prelude.{IfOk, ⊤}
 use Rattle.sight_names.specs.declared.names.Memory.{Memory}
 use Rattle.sight_names.specs.Map.{map_of}
 use Rattle.sight_names.specs.Plan.{IsPlan, PlanParts}
-use Rattle.sight_status.specs.declared.status.Status.{Status}
-use Rattle.sight_status.specs.Answer.{Answer, Gives}
+use Rattle.map_answers.specs.declared.sight_status.status.Status.{Status}
+use Rattle.map_answers.specs.SightStatus.Answer.{Answer, Gives}
 use Rattle.map_answers.specs.Groups.{IsOverGroups, MapGroups, OnAudited}
 use Rattle.map_answers.specs.Sound.{HasSoundLines}
 use Rattle.map_answers.proofs.Closed.{gives_called}

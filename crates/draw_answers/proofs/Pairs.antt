@@ -11,18 +11,18 @@ use Rattle.sight_names.specs.Groups.{HasClosedFaces}
 use Rattle.sight_names.specs.Map.{Map}
 use Rattle.sight_names.specs.Mesh.{AreTriangles}
 use Rattle.map_picture.specs.declared.pair.Stop.{Stop}
-use Rattle.sight_status.specs.declared.status.Status.{Status}
-use Rattle.sight_status.specs.declared.status.Status.TheVariants as status
-use Rattle.sight_status.specs.declared.status.Why.TheVariants as why
-use Rattle.sight_status.specs.Answer.{Gives}
+use Rattle.map_answers.specs.declared.sight_status.status.Status.{Status}
+use Rattle.map_answers.specs.declared.sight_status.status.Status.TheVariants as status
+use Rattle.map_answers.specs.declared.sight_status.status.Why.TheVariants as why
+use Rattle.map_answers.specs.SightStatus.Answer.{Gives}
 use Rattle.map_answers.specs.Groups.{IsOverGroups, MapGroups}
 use Rattle.map_answers.specs.Sound.{HasSoundLines}
 use Rattle.pair_answer.specs.declared.answer.PairAnswer.{PairAnswer}
 use Rattle.pair_answer.specs.Answer.{IsAnswerFor}
 use Rattle.pair_answer.specs.Places.{ArePlacesOf}
-use Rattle.entered_triangles.specs.declared.entered.Entered.{Entered}
-use Rattle.entered_triangles.specs.Answer.{IsEnteredWithin}
-use Rattle.entered_triangles.proofs.Within.{stops_from_within, stops_to_within, triangles_within}
+use Rattle.pair_answer.specs.declared.entered_triangles.entered.Entered.{Entered}
+use Rattle.pair_answer.specs.EnteredTriangles.Answer.{IsEnteredWithin}
+use Rattle.pair_answer.proofs.EnteredTriangles.Within.{stops_from_within, stops_to_within, triangles_within}
 use Rattle.draw_answers.specs.declared.drawn.Drawn.{Drawn}
 use Rattle.draw_answers.specs.Drawn.{IsMadeOf, drawing, drawn_answer}
 use Rattle.draw_answers.specs.Pair.{DrawPairCalls, IsEnteredFrom, IsEnteredOfPair, IsEnteredOver, IsPairIfMade, ShowsBlind, ShowsPair, entered_drawing, word_drawing}

@@ -9,7 +9,7 @@ use Rattle.sight_names.specs.Map.{IsMap, IsMapLine, Map, MapLine, Names, line_at
 use Rattle.sight_names.specs.Mesh.{AreTriangles}
 use Rattle.sight_names.specs.Plan.{IsPlan, PlanParts}
 use Rattle.sight_names.proofs.PlanPoints.{plan_points}
-use Rattle.groups_base.proofs.SamePoints.{points_alike}
+use Rattle.face_groups.proofs.GroupsBase.SamePoints.{points_alike}
 use Rattle.map_answers.specs.declared.groups.MeshGroups.{MeshGroups}
 use Rattle.map_answers.specs.Groups.{AreGroupsOver}
 

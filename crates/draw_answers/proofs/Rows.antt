@@ -4,10 +4,10 @@ use Rattle.std.specs.Prelude.{⊤}
 use Rattle.sight_names.specs.Map.{Map, map_of}
 use Rattle.sight_names.specs.Plan.{IsPlan, PlanParts}
 use Rattle.reject_bits.specs.Parts.{TableParts}
-use Rattle.sight_status.specs.declared.status.Status.{Status}
-use Rattle.sight_status.specs.declared.status.Status.TheVariants as status
-use Rattle.sight_status.specs.declared.status.Why.TheVariants as why
-use Rattle.sight_status.specs.Answer.{Answer, Gives}
+use Rattle.map_answers.specs.declared.sight_status.status.Status.{Status}
+use Rattle.map_answers.specs.declared.sight_status.status.Status.TheVariants as status
+use Rattle.map_answers.specs.declared.sight_status.status.Why.TheVariants as why
+use Rattle.map_answers.specs.SightStatus.Answer.{Answer, Gives}
 use Rattle.map_answers.specs.Groups.{IsOverGroups, MapGroups}
 use Rattle.map_answers.specs.Sound.{HasSoundLines}
 use Rattle.map_answers.proofs.Closed.{gives_called}

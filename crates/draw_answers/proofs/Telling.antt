@@ -1,9 +1,9 @@
 -- What plans, faults, rows and pairs tell.
 use Rattle.std.proofs.Common.{◌≡◌, ℕ, zero, suc, List, [], ◌∷◌, map, Option, Some, None, Result, Ok, Err, ap}
 use Rattle.std.proofs.lemmas.Option.{none-some}
-use Rattle.sight_status.specs.declared.status.Flaw.{Flaw}
-use Rattle.sight_status.specs.declared.status.Status.{Status}
-use Rattle.sight_status.specs.Answer.{Answer}
+use Rattle.map_answers.specs.declared.sight_status.status.Flaw.{Flaw}
+use Rattle.map_answers.specs.declared.sight_status.status.Status.{Status}
+use Rattle.map_answers.specs.SightStatus.Answer.{Answer}
 use Rattle.map_picture.specs.Picture.{Line, Marked, faces_from, marked_picture, plan_picture, row_picture, row_tint}
 use Rattle.map_picture.specs.Laws.{HasNoLine}
 use Rattle.map_picture.proofs.Faced.{no_line_in_faces, row_shown}

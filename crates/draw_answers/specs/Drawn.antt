@@ -1,11 +1,11 @@
 -- What is drawn, as plain data, and as the answer of an order that writes it.
 use Rattle.std.specs.Prelude.{◌≡◌, ℕ, List, [], ◌∷◌, Result, Ok, Err, string_bytes, ⊤}
 use Rattle.sight_names.specs.declared.names.Memory.{Memory}
-use Rattle.sight_status.specs.declared.status.Role.TheVariants as role
-use Rattle.sight_status.specs.declared.status.Status.{Status}
-use Rattle.sight_status.specs.declared.status.Status.TheVariants as status
-use Rattle.sight_status.specs.declared.status.Why.TheVariants as why
-use Rattle.sight_status.specs.Answer.{Answer}
+use Rattle.map_answers.specs.declared.sight_status.status.Role.TheVariants as role
+use Rattle.map_answers.specs.declared.sight_status.status.Status.{Status}
+use Rattle.map_answers.specs.declared.sight_status.status.Status.TheVariants as status
+use Rattle.map_answers.specs.declared.sight_status.status.Why.TheVariants as why
+use Rattle.map_answers.specs.SightStatus.Answer.{Answer}
 use Rattle.draw_answers.specs.declared.drawn.Drawn.{Drawn}
 
 -- the bytes of a picture, and the line that tells of it

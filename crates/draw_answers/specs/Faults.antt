@@ -3,11 +3,11 @@ use Rattle.std.specs.Prelude.{◌≡◌, ℕ, List, [], ◌∷◌, Option, Some,
 use Rattle.sight_names.specs.declared.faults.LineFault.TheVariants as line
 use Rattle.sight_names.specs.Groups.{HasClosedFaces}
 use Rattle.sight_names.specs.Map.{Map}
-use Rattle.sight_status.specs.declared.status.Flaw.{Flaw}
-use Rattle.sight_status.specs.declared.status.Flaw.TheVariants as flaw
-use Rattle.sight_status.specs.declared.status.Status.{Status}
-use Rattle.sight_status.specs.declared.status.Status.TheVariants as status
-use Rattle.sight_status.specs.Answer.{Answer}
+use Rattle.map_answers.specs.declared.sight_status.status.Flaw.{Flaw}
+use Rattle.map_answers.specs.declared.sight_status.status.Flaw.TheVariants as flaw
+use Rattle.map_answers.specs.declared.sight_status.status.Status.{Status}
+use Rattle.map_answers.specs.declared.sight_status.status.Status.TheVariants as status
+use Rattle.map_answers.specs.SightStatus.Answer.{Answer}
 use Rattle.map_picture.specs.Bytes.{svg_of}
 use Rattle.map_picture.specs.Picture.{marked_picture, plan_picture}
 use Rattle.map_answers.specs.Sound.{HasSoundLines, IsAuditRefusal, IsFlaw}

@@ -13,9 +13,9 @@ use Rattle.sight_names.specs.Point.{OnSegment, Point}
 use Rattle.sight_names.specs.Sees.{Sees}
 use Rattle.reject_bits.specs.Parts.{TableParts}
 use Rattle.sight_lift.specs.Lift.{InClosedTriangle}
-use Rattle.sight_status.specs.declared.status.Flaw.{Flaw}
-use Rattle.sight_status.specs.declared.status.Role.TheVariants as role
-use Rattle.sight_status.specs.Answer.{Answer}
+use Rattle.map_answers.specs.declared.sight_status.status.Flaw.{Flaw}
+use Rattle.map_answers.specs.declared.sight_status.status.Role.TheVariants as role
+use Rattle.map_answers.specs.SightStatus.Answer.{Answer}
 use Rattle.group_job.specs.declared.build.GroupBuilt.{GroupBuilt}
 use Rattle.group_job.specs.Built.{DecidesByGroups}
 use Rattle.map_picture.specs.Bytes.{svg_of}
@@ -23,7 +23,7 @@ use Rattle.map_picture.specs.Picture.{Element}
 use Rattle.map_picture.specs.Laws.{ShowsFaces, ShowsLines, ShowsMarks, TellsRow}
 use Rattle.map_answers.specs.Groups.{IsOverGroups, MapGroups}
 use Rattle.pair_answer.specs.Laws.{IsSaidOf, TellsSight}
-use Rattle.entered_triangles.specs.declared.entered.Entered.{Entered}
+use Rattle.pair_answer.specs.declared.entered_triangles.entered.Entered.{Entered}
 use Rattle.draw_answers.specs.Faults.{DrawFaultsCalls, IsFaultOf, flaw_marks}
 use Rattle.draw_answers.specs.Pair.{DrawPairCalls, DrawsPair, IsEnteredOver}
 use Rattle.draw_answers.specs.Plan.{DrawPlanCalls}

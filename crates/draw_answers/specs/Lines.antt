@@ -6,8 +6,8 @@ use Rattle.sight_names.specs.declared.names.Pair.{Pair}
 use Rattle.sight_names.specs.Map.{Map}
 use Rattle.sight_names.specs.Points.{lines_of}
 use Rattle.reject_bits.specs.Parts.{TableParts}
-use Rattle.sight_status.specs.declared.status.Flaw.{Flaw}
-use Rattle.sight_status.specs.Texts.{flaw_words}
+use Rattle.map_answers.specs.declared.sight_status.status.Flaw.{Flaw}
+use Rattle.map_answers.specs.SightStatus.Texts.{flaw_words}
 use Rattle.map_answers.specs.Counts.{is_set}
 
 abbrev pub plan_line_of : List ℕ → ℕ → ℕ → List ℕ

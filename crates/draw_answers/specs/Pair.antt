@@ -9,18 +9,18 @@ use Rattle.sight_names.specs.Map.{Map}
 use Rattle.map_picture.specs.declared.pair.Stop.{Stop}
 use Rattle.map_picture.specs.Bytes.{svg_of}
 use Rattle.map_picture.specs.Picture.{blind_picture, pair_picture, sight_picture}
-use Rattle.sight_status.specs.declared.status.Status.{Status}
-use Rattle.sight_status.specs.declared.status.Status.TheVariants as status
-use Rattle.sight_status.specs.declared.status.Why.TheVariants as why
-use Rattle.sight_status.specs.Answer.{Answer}
+use Rattle.map_answers.specs.declared.sight_status.status.Status.{Status}
+use Rattle.map_answers.specs.declared.sight_status.status.Status.TheVariants as status
+use Rattle.map_answers.specs.declared.sight_status.status.Why.TheVariants as why
+use Rattle.map_answers.specs.SightStatus.Answer.{Answer}
 use Rattle.map_answers.specs.Groups.{MapGroups, OnAudited}
 use Rattle.pair_answer.specs.declared.answer.PairAnswer.{PairAnswer}
 use Rattle.pair_answer.specs.declared.answer.PairAnswer.TheVariants as answer
 use Rattle.pair_answer.specs.Answer.{IsAnswerFor, IsMissing}
 use Rattle.pair_answer.specs.Places.{ArePlacesOf}
-use Rattle.entered_triangles.specs.declared.entered.Entered.{Entered}
-use Rattle.entered_triangles.specs.Answer.{EndsWithin}
-use Rattle.entered_triangles.specs.Walks.{IsOneSpent}
+use Rattle.pair_answer.specs.declared.entered_triangles.entered.Entered.{Entered}
+use Rattle.pair_answer.specs.EnteredTriangles.Answer.{EndsWithin}
+use Rattle.pair_answer.specs.EnteredTriangles.Walks.{IsOneSpent}
 use Rattle.draw_answers.specs.declared.drawn.Drawn.{Drawn}
 use Rattle.draw_answers.specs.Drawn.{Drawing, drawing, one_picture}
 use Rattle.draw_answers.specs.Lines.{blind_line_of, pair_line}

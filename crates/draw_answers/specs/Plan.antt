@@ -1,8 +1,8 @@
 -- What a picture of the plan alone calls for.
 use Rattle.std.specs.Prelude.{◌≡◌, ℕ, List, Result, Ok}
 use Rattle.sight_names.specs.Map.{Map}
-use Rattle.sight_status.specs.declared.status.Status.{Status}
-use Rattle.sight_status.specs.Answer.{Answer}
+use Rattle.map_answers.specs.declared.sight_status.status.Status.{Status}
+use Rattle.map_answers.specs.SightStatus.Answer.{Answer}
 use Rattle.map_picture.specs.Bytes.{svg_of}
 use Rattle.map_picture.specs.Picture.{plan_picture}
 use Rattle.map_answers.specs.Groups.{MapGroups, OnAudited}

@@ -5,9 +5,9 @@ ghost use Rattle.sight_names.specs.Map.{map_of};
 ghost use Rattle.map_answers.specs.Groups.{AreGroupsOver};
 ghost use Rattle.map_answers.specs.Sound.{HasSoundLines, IsAuditRefusal};
 
+use map_answers::sight_status::Status;
 use map_answers::{MeshGroups, audit_map};
 use sight_names::Plan;
-use sight_status::Status;
 use std::alloc::Global;
 
 /// How many sectors the plan has.

@@ -2,10 +2,10 @@
 
 ghost use Rattle.std.specs.Prelude.{◌≡◌, IfErr};
 ghost use Rattle.draw_answers.specs.Drawn.{IsMadeOf};
-ghost use Rattle.sight_status.specs.declared.status.Status.TheVariants as status;
+ghost use Rattle.map_answers.specs.declared.sight_status.status.Status.TheVariants as status;
 
+use map_answers::sight_status::Status;
 use sight_names::Memory;
-use sight_status::Status;
 
 /// The bytes of a picture, and the line that tells of it.
 #[derive(Drop)]

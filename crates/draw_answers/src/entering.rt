@@ -9,10 +9,10 @@ ghost use Rattle.draw_answers.specs.Pair.{IsEnteredFrom, IsEnteredOfPair};
 
 use crate::audited::count_of;
 use crate::places::places_of;
-use enough_budget::enough;
-use entered_triangles::{Entered, entered_out_of};
 use map_answers::MeshGroups;
 use mesh_shape::Mesh;
+use pair_answer::entered_triangles::{Entered, entered_out_of};
+use portal_walk::enough_budget::enough;
 use sight_names::{Ask, Budget, Memory, Pair, Plan};
 use std::alloc::Global;
 

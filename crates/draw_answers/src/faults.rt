@@ -2,17 +2,17 @@
 
 ghost use Rattle.std.specs.Prelude.{◌≡◌, IfErr, IfOk, List, ℕ, ⊤};
 ghost use Rattle.sight_names.specs.Map.{map_of};
-ghost use Rattle.sight_status.specs.declared.status.Status.TheVariants as status;
-ghost use Rattle.sight_status.specs.Answer.{Gives};
+ghost use Rattle.map_answers.specs.declared.sight_status.status.Status.TheVariants as status;
+ghost use Rattle.map_answers.specs.SightStatus.Answer.{Gives};
 ghost use Rattle.draw_answers.specs.Drawn.{drawing, drawn_answer};
 ghost use Rattle.draw_answers.specs.Faults.{DrawFaultsCalls, IsFoundFault, fault_drawing, flaw_drawing, flaw_marks, plain_drawing};
 
 use crate::drawn::{Drawn, made};
 use crate::lines::{fault_line, no_fault_line};
 use map_answers::audit_map;
+use map_answers::sight_status::{Flaw, Status};
 use map_picture::{marked_picture, plan_picture};
 use sight_names::{LineFault, Memory, Plan};
-use sight_status::{Flaw, Status};
 use std::alloc::Global;
 
 /// The first fault of the map, if it has one.

@@ -2,11 +2,13 @@
 
 ghost use Rattle.std.specs.Prelude.{◌≡◌, ◌++◌, IfOk, OnOk, codes, string_bytes};
 ghost use Rattle.sight_names.specs.Texts.{side_text};
-ghost use Rattle.sight_status.specs.Texts.{clash_words, flaw_words, two};
+ghost use Rattle.map_answers.specs.SightStatus.Texts.{clash_words, flaw_words, two};
 ghost use Rattle.draw_answers.specs.Lines.{blind_line_of as the_blind_line, faultless_line, flaw_line, pair_front, pair_line, plan_line_of as the_plan_line, row_line_of as the_row_line};
 
+use map_answers::sight_status::{
+    Flaw, push_count, push_count_line, push_number, push_pair_line, push_text,
+};
 use sight_names::{LineFault, Pair, Side};
-use sight_status::{Flaw, push_count, push_count_line, push_number, push_pair_line, push_text};
 use std::alloc::{AllocError, Global};
 
 /// The line of a plan with so many lines and sectors.

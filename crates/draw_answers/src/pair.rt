@@ -4,7 +4,7 @@ ghost use Rattle.std.specs.Prelude.{◌≡◌, ◌<◌, All, IfErr, IfOk, List, 
 ghost use Rattle.sight_names.specs.Groups.{HasClosedFaces};
 ghost use Rattle.sight_names.specs.Map.{map_of};
 ghost use Rattle.map_picture.specs.Picture.{JoinsSectors};
-ghost use Rattle.sight_status.specs.Answer.{Gives};
+ghost use Rattle.map_answers.specs.SightStatus.Answer.{Gives};
 ghost use Rattle.map_answers.specs.Groups.{AreGroupsOver, seen};
 ghost use Rattle.pair_answer.specs.Answer.{IsAnswerFor};
 ghost use Rattle.draw_answers.specs.Drawn.{IsOfDrawTest, drawing, drawn_answer};
@@ -14,12 +14,12 @@ use crate::audited::groups_of;
 use crate::drawn::{Drawn, made};
 use crate::entering::{budget_for, entered_of_pair};
 use crate::lines::{blind_line, word_line};
-use entered_triangles::Entered;
 use map_answers::MeshGroups;
+use map_answers::sight_status::{Status, Why};
 use map_picture::{blind_picture, pair_picture, sight_picture};
+use pair_answer::entered_triangles::Entered;
 use pair_answer::{PairAnswer, pair_answer};
 use sight_names::{Ask, Memory, Pair, Plan, Ray};
-use sight_status::{Status, Why};
 use std::alloc::Global;
 
 /// The faces of a pair, and its line that ends with this word.

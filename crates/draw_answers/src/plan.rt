@@ -3,17 +3,17 @@
 ghost use Rattle.std.specs.Prelude.{◌≡◌, IfErr, IfOk, List, ℕ, filter_map, length, ⊤};
 ghost use Rattle.sight_names.specs.Map.{map_of};
 ghost use Rattle.sight_names.specs.Points.{lines_of};
-ghost use Rattle.sight_status.specs.Answer.{Gives};
-ghost use Rattle.sight_status.specs.Status.{IsOfMapTest};
+ghost use Rattle.map_answers.specs.SightStatus.Answer.{Gives};
+ghost use Rattle.map_answers.specs.SightStatus.Status.{IsOfMapTest};
 ghost use Rattle.draw_answers.specs.Drawn.{drawing, drawn_answer};
 ghost use Rattle.draw_answers.specs.Plan.{DrawPlanCalls, plan_drawing};
 
 use crate::audited::groups_of;
 use crate::drawn::{Drawn, made};
 use crate::lines::plan_line;
+use map_answers::sight_status::Status;
 use map_picture::plan_picture;
 use sight_names::{Line, Memory, Plan};
-use sight_status::Status;
 use std::alloc::Global;
 
 /// How many of the records are lines.

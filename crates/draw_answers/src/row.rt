@@ -2,7 +2,7 @@
 
 ghost use Rattle.std.specs.Prelude.{◌≡◌, ◌≤◌, ◌<◌, IfErr, IfOk, List, ℕ, length, ⊤};
 ghost use Rattle.sight_names.specs.Map.{map_of};
-ghost use Rattle.sight_status.specs.Answer.{Gives};
+ghost use Rattle.map_answers.specs.SightStatus.Answer.{Gives};
 ghost use Rattle.map_answers.specs.Groups.{AreGroupsOver, seen};
 ghost use Rattle.draw_answers.specs.Drawn.{drawing, drawn_answer, IsOfDrawTest};
 ghost use Rattle.draw_answers.specs.Lines.{row_line, set_in_row};
@@ -12,10 +12,10 @@ use crate::audited::{count_of, groups_of};
 use crate::drawn::{Drawn, made};
 use crate::lines::row_line;
 use map_answers::MeshGroups;
+use map_answers::sight_status::{Status, Why};
 use map_picture::row_picture;
 use reject_bits::Table;
 use sight_names::{Memory, Plan};
-use sight_status::{Status, Why};
 use std::alloc::Global;
 
 /// How many bits of the row are set.

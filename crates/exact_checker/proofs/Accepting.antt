@@ -2,7 +2,7 @@
 use Rattle.std.proofs.Common.{◌≡◌, ℕ, zero, suc, ◌+◌, ◌<◌, ◌↔◌, inl, inr, List, [], ◌∷◌, Some, get_or, length, refl, sym, ◌∙◌, ap, subst, arith}
 use Rattle.std.specs.List.{slice_get}
 use Rattle.std.proofs.lemmas.Option.{none-some, slice_get-get_or, slice_get_within, same_Some}
-use Rattle.list_base.proofs.Numbers.{either_order}
+use Rattle.math_base.proofs.Numbers.{either_order}
 use Rattle.sight_names.specs.declared.faults.CheckFault.TheVariants.{Mesh, Ray, Tree as OfTree, ListedSet, Unproved, Uncovered}
 use Rattle.sight_names.specs.declared.faults.MeshFault.{MeshFault}
 use Rattle.sight_names.specs.declared.faults.MeshFault.TheVariants.{Flat, Twice, NoMate, NoTriangle, Meets, Inside}
@@ -15,19 +15,19 @@ use Rattle.sight_names.proofs.Lists.{get_of_contains}
 use Rattle.mesh_base.proofs.PlanFacts.{plan_facts}
 use Rattle.mesh_shape.specs.Faults.{IsFirstFault}
 use Rattle.reject_bits.specs.Parts.{TableParts}
-use Rattle.sight_tree.specs.declared.Node.{Node}
-use Rattle.sight_tree.specs.declared.Tree.{Tree}
+use Rattle.block_evidence.specs.declared.sight_tree.Node.{Node}
+use Rattle.block_evidence.specs.declared.sight_tree.Tree.{Tree}
 use Rattle.cert_format.specs.Accepted.{triangles_of, labels_of, EitherSet, EitherClear}
 use Rattle.cert_format.specs.Parts.{CertParts}
-use Rattle.cert_groups.specs.declared.cert.CertTwo.{CertTwo}
-use Rattle.cert_groups.specs.Grammar.{IsGroupInOrder}
-use Rattle.cert_exact.specs.declared.cert.ExactParts.{ExactParts}
-use Rattle.cert_exact.specs.Grammar.{as_two, trees_from}
-use Rattle.groups_base.specs.Named.{AreNamedAt}
-use Rattle.groups_base.specs.Table.{IsTableFor, IsNamedByTable}
-use Rattle.groups_base.proofs.CheckedGroups.{table_is_good}
-use Rattle.groups_base.proofs.SamePoints.{plain_alike, no_line_edge}
-use Rattle.accepted_groups.specs.Accepted.{AreGroupsJoined, IsGroupedSeen}
+use Rattle.cert_format.specs.declared.cert_groups.cert.CertTwo.{CertTwo}
+use Rattle.cert_format.specs.CertGroups.Grammar.{IsGroupInOrder}
+use Rattle.certificates.specs.declared.cert_exact.cert.ExactParts.{ExactParts}
+use Rattle.certificates.specs.CertExact.Grammar.{as_two, trees_from}
+use Rattle.face_groups.specs.GroupsBase.Named.{AreNamedAt}
+use Rattle.face_groups.specs.GroupsBase.Table.{IsTableFor, IsNamedByTable}
+use Rattle.face_groups.proofs.GroupsBase.CheckedGroups.{table_is_good}
+use Rattle.face_groups.proofs.GroupsBase.SamePoints.{plain_alike, no_line_edge}
+use Rattle.cert_checker.specs.AcceptedGroups.Accepted.{AreGroupsJoined, IsGroupedSeen}
 use Rattle.cert_checker.specs.declared.verdict.Totals.{Totals}
 use Rattle.cert_checker.specs.declared.verdict.Verdict.{Verdict}
 use Rattle.cert_checker.specs.declared.verdict.Verdict.TheVariants.{Yes as YesOne, No as NoOne}
@@ -43,12 +43,12 @@ use Rattle.group_checker.specs.Meshes.{grouped_map, grouped_plan, IsFirstMeshFau
 use Rattle.group_checker.specs.Judged.{any_of, IsYesAny, JudgesTwo}
 use Rattle.group_checker.proofs.Ending.{its_own}
 use Rattle.group_checker.proofs.OneMap.{each_at, label_within, one_label_each, has_label, names_grouped, one_map}
-use Rattle.turned_trees.specs.Exact.{TellsAll}
+use Rattle.gate_floods.specs.TurnedTrees.Exact.{TellsAll}
 use Rattle.gate_floods.specs.Bits.{rank_of}
 use Rattle.gate_floods.specs.Exact.{IsAcceptedThree, IsClaimed, IsExactOver}
 use Rattle.gate_floods.specs.Rows.{KeepsByRows}
 use Rattle.gate_floods.proofs.Tells.{version_three_tells}
-use Rattle.row_judge.specs.Judged.{tree_of}
+use Rattle.gate_floods.specs.RowJudge.Judged.{tree_of}
 use Rattle.exact_checker.specs.Judged.{IsThreeFor, JudgesThree, JudgesTrees, Owns, TellsPairs}
 
 -- ---- trees in order

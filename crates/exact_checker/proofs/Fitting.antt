@@ -6,15 +6,15 @@ use Rattle.std.specs.Prelude.{option_and_then, option_map, MatchOption}
 use Rattle.std.proofs.lemmas.List.{append_assoc, length-append}
 use Rattle.std.proofs.lemmas.Nat.Bits.{bit_at-zero}
 use Rattle.std.proofs.lemmas.Option.{none-some, same_Some, slice_get_within}
-use Rattle.list_base.proofs.Lists.{get_there, length_pushed, pushed_at, get_pushed, get_before_pushed}
-use Rattle.list_base.proofs.Numbers.{below_or_not, below_or_last}
-use Rattle.half_edges.specs.declared.table.HalfEdge.{HalfEdge}
-use Rattle.gate_masks.specs.declared.masks.Row.{Row}
-use Rattle.gate_masks.specs.Masks.{HasWords}
-use Rattle.gate_masks.specs.Words.{HasBit, AreBitsOf}
-use Rattle.row_judge.specs.Asked.{place_at}
-use Rattle.row_judge.specs.Words.{row_at}
-use Rattle.gate_masks.specs.Behind.{mask_behind}
+use Rattle.math_base.proofs.Lists.{get_there, length_pushed, pushed_at, get_pushed, get_before_pushed}
+use Rattle.math_base.proofs.Numbers.{below_or_not, below_or_last}
+use Rattle.mesh_shape.specs.declared.half_edges.table.HalfEdge.{HalfEdge}
+use Rattle.gate_floods.specs.declared.gate_masks.masks.Row.{Row}
+use Rattle.gate_floods.specs.GateMasks.Masks.{HasWords}
+use Rattle.gate_floods.specs.GateMasks.Words.{HasBit, AreBitsOf}
+use Rattle.gate_floods.specs.RowJudge.Asked.{place_at}
+use Rattle.gate_floods.specs.RowJudge.Words.{row_at}
+use Rattle.gate_floods.specs.GateMasks.Behind.{mask_behind}
 use Rattle.exact_checker.specs.Masking.{words_of, fitted, words_at, HaveMasksOf}
 
 -- ---- the words of one row

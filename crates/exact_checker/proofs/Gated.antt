@@ -3,9 +3,9 @@ use Rattle.std.proofs.Common.{◌≡◌, ◌≢◌, ℕ, zero, suc, ◌+◌, ◌
 use Rattle.std.specs.List.{slice_get}
 use Rattle.std.specs.Prelude.{IfSome, option_map}
 use Rattle.std.proofs.lemmas.Option.{same_Some, slice_get_within}
-use Rattle.list_base.proofs.Bools.{by_value}
-use Rattle.list_base.proofs.Lists.{get_there}
-use Rattle.list_base.proofs.Numbers.{below_differs, tells_other, tells_same}
+use Rattle.math_base.proofs.Bools.{by_value}
+use Rattle.math_base.proofs.Lists.{get_there}
+use Rattle.math_base.proofs.Numbers.{below_differs, tells_other, tells_same}
 use Rattle.sight_names.specs.declared.names.Triangle.{Triangle}
 use Rattle.sight_names.specs.Plan.{PlanParts, IsPlan}
 use Rattle.sight_names.specs.Map.{Map, MapLine, IsMap, IsMapLine, map_of, sector_on}
@@ -15,24 +15,24 @@ use Rattle.sight_names.specs.Sequence.{Portal, IsSolidLine}
 use Rattle.sight_names.proofs.PlanMap.{plan_is_map}
 use Rattle.mesh_base.proofs.GoodMesh.{found_at, same_or_not, some_position}
 use Rattle.mesh_base.proofs.CleanMesh.{edge_pq, edge_qr, edge_rp}
-use Rattle.half_edges.specs.declared.table.HalfEdge.{HalfEdge}
-use Rattle.half_edges.specs.HalfEdges.{portal_of, AreHalfEdges, IsHalfEdge}
-use Rattle.half_edges.specs.Numbers.{edge, corner_of, number_of}
-use Rattle.half_edges.proofs.Numbers.{number_at}
+use Rattle.mesh_shape.specs.declared.half_edges.table.HalfEdge.{HalfEdge}
+use Rattle.mesh_shape.specs.HalfEdges.HalfEdges.{portal_of, AreHalfEdges, IsHalfEdge}
+use Rattle.mesh_shape.specs.HalfEdges.Numbers.{edge, corner_of, number_of}
+use Rattle.mesh_shape.proofs.HalfEdges.Numbers.{number_at}
 use Rattle.cert_format.specs.Parts.{CertParts}
 use Rattle.gate_floods.specs.Exact.{IsClaimed}
 use Rattle.gate_floods.specs.Gates.{IsGate, IsBeyond, here, further, IsInMask}
 use Rattle.gate_floods.proofs.Flooding.{door_of_gate}
-use Rattle.gate_masks.specs.declared.masks.Row.{Row}
-use Rattle.gate_masks.specs.Masks as by_side
-use Rattle.gate_masks.specs.Masks.{IsLeftOut}
-use Rattle.gate_masks.specs.Behind.{mask_behind, IsMaskBehind}
-use Rattle.gate_masks.proofs.Behind.{masks_behind}
-use Rattle.gate_masks.proofs.Claiming.{masks_of_claims}
-use Rattle.row_judge.specs.Masks.{MaskRows}
-use Rattle.row_judge.specs.Asked as asked
-use Rattle.row_judge.specs.Laws.{AreMasks, IsMaskOf}
-use Rattle.row_judge.specs.Words.{row_at}
+use Rattle.gate_floods.specs.declared.gate_masks.masks.Row.{Row}
+use Rattle.gate_floods.specs.GateMasks.Masks as by_side
+use Rattle.gate_floods.specs.GateMasks.Masks.{IsLeftOut}
+use Rattle.gate_floods.specs.GateMasks.Behind.{mask_behind, IsMaskBehind}
+use Rattle.gate_floods.proofs.GateMasks.Behind.{masks_behind}
+use Rattle.gate_floods.proofs.GateMasks.Claiming.{masks_of_claims}
+use Rattle.gate_floods.specs.RowJudge.Masks.{MaskRows}
+use Rattle.gate_floods.specs.RowJudge.Asked as asked
+use Rattle.gate_floods.specs.RowJudge.Laws.{AreMasks, IsMaskOf}
+use Rattle.gate_floods.specs.RowJudge.Words.{row_at}
 use Rattle.exact_checker.specs.Masking.{fitted, AreEdgeMasks, HaveMasksOf}
 use Rattle.exact_checker.specs.Rows.{AreJoinedRows}
 use Rattle.exact_checker.proofs.Fitting.{fitted_bits}

@@ -5,19 +5,19 @@ use Rattle.std.proofs.lemmas.List.{length-set}
 use Rattle.std.proofs.lemmas.Option.{same_Some, slice_get_within}
 use Rattle.sight_names.specs.declared.names.Pair.{Pair}
 use Rattle.sight_names.specs.declared.names.PairRay.{PairRay}
-use Rattle.list_base.proofs.Bools.{by_value}
-use Rattle.list_base.proofs.Lists.{get_there, length_pushed, pushed_at}
-use Rattle.list_base.proofs.Numbers.{same_or_not, below_or_last}
+use Rattle.math_base.proofs.Bools.{by_value}
+use Rattle.math_base.proofs.Lists.{get_there, length_pushed, pushed_at}
+use Rattle.math_base.proofs.Numbers.{same_or_not, below_or_last}
 use Rattle.cert_format.specs.Parts.{CertParts}
-use Rattle.accepted_groups.specs.Accepted.{AreGroupsJoined}
+use Rattle.cert_checker.specs.AcceptedGroups.Accepted.{AreGroupsJoined}
 use Rattle.cert_checker.specs.Pairs.{pair, IsWithin}
 use Rattle.group_checker.specs.Pairs.{HasRayBelow}
 use Rattle.group_checker.proofs.Judging.{ray_there, ray_below}
 use Rattle.gate_floods.specs.Bits.{is_joined}
 use Rattle.gate_floods.proofs.RowBits.{joined_told, not_joined}
-use Rattle.gate_masks.specs.declared.masks.Row.{Row}
-use Rattle.gate_masks.specs.Words.{HasBit, AreBitsOf}
-use Rattle.gate_masks.specs.Masks.{IsIn}
+use Rattle.gate_floods.specs.declared.gate_masks.masks.Row.{Row}
+use Rattle.gate_floods.specs.GateMasks.Words.{HasBit, AreBitsOf}
+use Rattle.gate_floods.specs.GateMasks.Masks.{IsIn}
 use Rattle.exact_checker.specs.Rows.{AreRowsOf, IsJoinedBit, AreJoinedRows, IsOwnRow, AreOwnRows, AddsBit, AddsAt}
 
 -- ---- rows with their own number

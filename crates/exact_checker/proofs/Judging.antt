@@ -8,27 +8,27 @@ use Rattle.sight_names.specs.declared.faults.CheckFault.TheVariants.{Mesh}
 use Rattle.sight_names.specs.Plan.{PlanParts, IsPlan}
 use Rattle.sight_names.specs.Map.{map_of}
 use Rattle.sight_names.specs.Mesh.{IsGoodMesh, label_of}
-use Rattle.list_base.proofs.Numbers.{below_or_last}
-use Rattle.list_base.proofs.Options.{some_is_same}
-use Rattle.sight_tree.specs.declared.Node.{Node}
-use Rattle.half_edges.specs.declared.table.HalfEdge.{HalfEdge}
-use Rattle.half_edges.specs.HalfEdges.{AreHalfEdges}
-use Rattle.tree_judge.specs.declared.roots.Root.{Root}
-use Rattle.tree_judge.specs.Roots.{AreRoots}
-use Rattle.tri_sectors.specs.Components.{AreComponents}
+use Rattle.math_base.proofs.Numbers.{below_or_last}
+use Rattle.math_base.proofs.Options.{some_is_same}
+use Rattle.block_evidence.specs.declared.sight_tree.Node.{Node}
+use Rattle.mesh_shape.specs.declared.half_edges.table.HalfEdge.{HalfEdge}
+use Rattle.mesh_shape.specs.HalfEdges.HalfEdges.{AreHalfEdges}
+use Rattle.cert_checker.specs.declared.tree_judge.roots.Root.{Root}
+use Rattle.cert_checker.specs.TreeJudge.Roots.{AreRoots}
+use Rattle.face_groups.specs.TriSectors.Components.{AreComponents}
 use Rattle.cert_format.specs.declared.cert.Labelled.{Labelled}
 use Rattle.cert_format.specs.Accepted.{triangles_of, labels_of}
 use Rattle.cert_format.specs.Parts.{CertParts}
-use Rattle.cert_exact.specs.declared.cert.ExactParts.{ExactParts}
-use Rattle.cert_exact.specs.Grammar.{as_two}
+use Rattle.certificates.specs.declared.cert_exact.cert.ExactParts.{ExactParts}
+use Rattle.certificates.specs.CertExact.Grammar.{as_two}
 use Rattle.gate_floods.specs.Bits.{is_owned, owned_row, rank_of}
 use Rattle.gate_floods.specs.Exact.{IsClaimed, IsOwned}
 use Rattle.gate_floods.proofs.RowBits.{bit_is, bit_low}
 use Rattle.gate_floods.proofs.Owned.{owned_rows_tell}
-use Rattle.row_judge.specs.Masks.{MaskRows}
-use Rattle.row_judge.specs.Judged.{tree_of}
-use Rattle.row_judge.specs.Laws.{AreMasks, IsGround, TellsByRows}
-use Rattle.row_judge.specs.Words.{AreBitsOf}
+use Rattle.gate_floods.specs.RowJudge.Masks.{MaskRows}
+use Rattle.gate_floods.specs.RowJudge.Judged.{tree_of}
+use Rattle.gate_floods.specs.RowJudge.Laws.{AreMasks, IsGround, TellsByRows}
+use Rattle.gate_floods.specs.RowJudge.Words.{AreBitsOf}
 use Rattle.exact_checker.specs.declared.trees.WrongNode.{WrongNode}
 use Rattle.exact_checker.specs.Owning.{OwningParts, IsOwnedBit, KnowsOwning}
 use Rattle.exact_checker.specs.Judged.{AnswersFor, AnswersForEach, Owns, TellsTrees}

@@ -6,3 +6,4 @@ pub mod Rows
 pub mod SectorPairs
 pub mod Judging
 pub mod Accepting
+pub mod ExactWorkers

@@ -5,14 +5,14 @@ use Rattle.std.specs.Int.{bit_at}
 use Rattle.std.specs.Prelude.{nat_lt}
 use Rattle.std.proofs.lemmas.Option.{get_or_from_slice_get}
 use Rattle.sight_names.specs.declared.names.PairRay.{PairRay}
-use Rattle.list_base.proofs.Bools.{not_both_values}
-use Rattle.list_base.proofs.Lists.{get_there, length_pushed, pushed_at}
-use Rattle.list_base.proofs.Numbers.{same_or_not, tells_same, is_told_same, below_or_last}
+use Rattle.math_base.proofs.Bools.{not_both_values}
+use Rattle.math_base.proofs.Lists.{get_there, length_pushed, pushed_at}
+use Rattle.math_base.proofs.Numbers.{same_or_not, tells_same, is_told_same, below_or_last}
 use Rattle.gate_floods.specs.Bits.{bits_from, count_bits, is_joined, is_owned, rank_of, ranks_before}
-use Rattle.gate_masks.specs.declared.masks.Row.{Row}
-use Rattle.gate_masks.specs.Words.{HasBit, AreBitsOf}
-use Rattle.gate_masks.specs.Masks.{IsIn}
-use Rattle.row_judge.specs.Words.{is_in}
+use Rattle.gate_floods.specs.declared.gate_masks.masks.Row.{Row}
+use Rattle.gate_floods.specs.GateMasks.Words.{HasBit, AreBitsOf}
+use Rattle.gate_floods.specs.GateMasks.Masks.{IsIn}
+use Rattle.gate_floods.specs.RowJudge.Words.{is_in}
 use Rattle.exact_checker.specs.Rows.{AreJoinedRows}
 use Rattle.exact_checker.specs.Owning.{rank_at, AreRanks}
 

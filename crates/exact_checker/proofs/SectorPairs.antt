@@ -6,13 +6,13 @@ use Rattle.sight_names.specs.declared.faults.CheckFault.{CheckFault}
 use Rattle.sight_names.specs.declared.faults.CheckFault.TheVariants.{Mesh, Ray, Tree as OfTree, ListedSet, Unproved, Uncovered}
 use Rattle.sight_names.specs.Groups.{IsInGroup}
 use Rattle.cert_format.specs.Accepted.{EitherSet, EitherClear}
-use Rattle.accepted_groups.specs.Accepted.{AreGroupsJoined, IsGroupedSeen}
+use Rattle.cert_checker.specs.AcceptedGroups.Accepted.{AreGroupsJoined, IsGroupedSeen}
 use Rattle.cert_checker.specs.declared.verdict.Totals.{Totals}
 use Rattle.cert_checker.specs.declared.verdict.Verdict.TheVariants.{Yes, No}
 use Rattle.cert_checker.specs.Pairs.{AreTotals}
-use Rattle.cert_exact.specs.declared.cert.ExactParts.{ExactParts}
-use Rattle.cert_exact.specs.Grammar.{as_two}
-use Rattle.gate_masks.specs.Masks.{IsIn}
+use Rattle.certificates.specs.declared.cert_exact.cert.ExactParts.{ExactParts}
+use Rattle.certificates.specs.CertExact.Grammar.{as_two}
+use Rattle.gate_floods.specs.GateMasks.Masks.{IsIn}
 use Rattle.exact_checker.specs.Pairs.{KnownParts, AreJoined, AreSomeJoined, IsFine, IsFaultAt, IsFirstPairFault, ArePairsFine}
 use Rattle.exact_checker.specs.Judged.{IsAbout, IsPairRight, IsReached, TellsPairs}
 use Rattle.exact_checker.proofs.JoinedRows.{in_joined}

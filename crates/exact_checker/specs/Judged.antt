@@ -7,19 +7,19 @@ use Rattle.sight_names.specs.Plan.{PlanParts, IsPlan}
 use Rattle.sight_names.specs.Map.{Map, map_of}
 use Rattle.sight_names.specs.Mesh.{IsGoodMesh}
 use Rattle.reject_bits.specs.Parts.{TableParts}
-use Rattle.sight_tree.specs.declared.Node.{Node}
-use Rattle.half_edges.specs.declared.table.HalfEdge.{HalfEdge}
-use Rattle.half_edges.specs.HalfEdges.{AreHalfEdges}
-use Rattle.tree_judge.specs.declared.roots.Root.{Root}
-use Rattle.tree_judge.specs.Roots.{root_edges}
+use Rattle.block_evidence.specs.declared.sight_tree.Node.{Node}
+use Rattle.mesh_shape.specs.declared.half_edges.table.HalfEdge.{HalfEdge}
+use Rattle.mesh_shape.specs.HalfEdges.HalfEdges.{AreHalfEdges}
+use Rattle.cert_checker.specs.declared.tree_judge.roots.Root.{Root}
+use Rattle.cert_checker.specs.TreeJudge.Roots.{root_edges}
 use Rattle.cert_format.specs.Accepted.{triangles_of, labels_of, EitherSet, EitherClear}
 use Rattle.cert_format.specs.Parts.{CertParts}
-use Rattle.cert_groups.specs.declared.cert.CertTwo.{CertTwo}
+use Rattle.cert_format.specs.declared.cert_groups.cert.CertTwo.{CertTwo}
 use Rattle.cert_checker.specs.declared.verdict.Verdict.{Verdict}
 use Rattle.cert_checker.specs.declared.verdict.Verdict.TheVariants.{Yes, No}
 use Rattle.cert_checker.specs.Pairs.{AreTotals}
 use Rattle.cert_checker.specs.Judged.{JudgesRays}
-use Rattle.accepted_groups.specs.Accepted.{IsGroupedSeen}
+use Rattle.cert_checker.specs.AcceptedGroups.Accepted.{IsGroupedSeen}
 use Rattle.group_checker.specs.declared.verdict.AnyVerdict.{AnyVerdict}
 use Rattle.group_checker.specs.Meshes.{grouped_map}
 use Rattle.group_checker.specs.Members.{AreMembers}
@@ -27,14 +27,14 @@ use Rattle.group_checker.specs.Judged.{InWordsOfOne, IsTwoFor, IsTwoOf, TellsGro
 use Rattle.gate_floods.specs.Bits.{rank_of}
 use Rattle.gate_floods.specs.Exact.{IsClaimed, IsOwned}
 use Rattle.gate_floods.specs.Rows.{KeepsByRows}
-use Rattle.gate_masks.specs.declared.masks.Row.{Row}
-use Rattle.row_judge.specs.Masks.{MaskRows}
-use Rattle.row_judge.specs.Asked.{pending_roots, IsFirstWrong}
-use Rattle.row_judge.specs.Judged.{tree_of}
-use Rattle.row_judge.specs.Laws.{AreMasks, IsGround, TellsByRows}
-use Rattle.row_judge.specs.Words.{AreBitsOf}
-use Rattle.cert_exact.specs.declared.cert.ExactParts.{ExactParts}
-use Rattle.cert_exact.specs.Grammar.{as_two}
+use Rattle.gate_floods.specs.declared.gate_masks.masks.Row.{Row}
+use Rattle.gate_floods.specs.RowJudge.Masks.{MaskRows}
+use Rattle.gate_floods.specs.RowJudge.Asked.{pending_roots, IsFirstWrong}
+use Rattle.gate_floods.specs.RowJudge.Judged.{tree_of}
+use Rattle.gate_floods.specs.RowJudge.Laws.{AreMasks, IsGround, TellsByRows}
+use Rattle.gate_floods.specs.RowJudge.Words.{AreBitsOf}
+use Rattle.certificates.specs.declared.cert_exact.cert.ExactParts.{ExactParts}
+use Rattle.certificates.specs.CertExact.Grammar.{as_two}
 use Rattle.exact_checker.specs.declared.trees.WrongNode.{WrongNode}
 use Rattle.exact_checker.specs.Owning.{OwningParts, IsOwnedBit, KnowsOwning}
 use Rattle.exact_checker.specs.Rows.{AreJoinedRows}

@@ -3,3 +3,5 @@ pub mod Owning
 pub mod Masking
 pub mod Pairs
 pub mod Judged
+pub mod ExactWorkers
+pub mod TaskCrew

@@ -1,12 +1,12 @@
 -- The masks of gates by half-edges.
 use Rattle.std.specs.Prelude.{◌≡◌, ℕ, zero, suc, List, [], ◌∷◌, Option, Some, option_and_then, option_map, slice_get, slice_index}
 use Rattle.sight_names.specs.Map.{Map}
-use Rattle.half_edges.specs.declared.table.HalfEdge.{HalfEdge}
-use Rattle.gate_masks.specs.declared.masks.Row.{Row}
-use Rattle.gate_masks.specs.Masks.{AreMasks}
-use Rattle.gate_masks.specs.Behind.{mask_behind}
-use Rattle.row_judge.specs.Asked.{place_at}
-use Rattle.row_judge.specs.Words.{row_at}
+use Rattle.mesh_shape.specs.declared.half_edges.table.HalfEdge.{HalfEdge}
+use Rattle.gate_floods.specs.declared.gate_masks.masks.Row.{Row}
+use Rattle.gate_floods.specs.GateMasks.Masks.{AreMasks}
+use Rattle.gate_floods.specs.GateMasks.Behind.{mask_behind}
+use Rattle.gate_floods.specs.RowJudge.Asked.{place_at}
+use Rattle.gate_floods.specs.RowJudge.Words.{row_at}
 
 -- the mask of the gate by which one comes in at the half-edge, if it is one
 abbrev pub mask_at_edge : List (Option Row) → Option HalfEdge → Option Row

@@ -2,7 +2,7 @@
 use Rattle.std.specs.Prelude.{◌≡◌, ℕ, ◌<◌, List, Some, get_or, length, slice_get, true}
 use Rattle.sight_names.specs.declared.names.PairRay.{PairRay}
 use Rattle.gate_floods.specs.Bits.{is_owned, rank_of}
-use Rattle.gate_masks.specs.declared.masks.Row.{Row}
+use Rattle.gate_floods.specs.declared.gate_masks.masks.Row.{Row}
 use Rattle.exact_checker.specs.declared.owning.Owning.{Owning}
 use Rattle.exact_checker.specs.Rows.{AreJoinedRows}
 

@@ -5,8 +5,8 @@ use Rattle.sight_names.specs.declared.faults.CheckFault.TheVariants.{Unproved, U
 use Rattle.reject_bits.specs.Parts.{TableParts}
 use Rattle.cert_format.specs.Accepted.{EitherSet, EitherClear}
 use Rattle.cert_checker.specs.declared.pairs.PairFacts.{PairFacts}
-use Rattle.gate_masks.specs.declared.masks.Row.{Row}
-use Rattle.gate_masks.specs.Masks.{IsIn}
+use Rattle.gate_floods.specs.declared.gate_masks.masks.Row.{Row}
+use Rattle.gate_floods.specs.GateMasks.Masks.{IsIn}
 use Rattle.exact_checker.specs.declared.pairs.Known.{Known}
 
 -- the table, the groups of each sector, and the rows of what is joined with each group

@@ -2,8 +2,8 @@
 use Rattle.std.specs.Prelude.{◌≡◌, ℕ, ◌*◌, ◌<◌, ◌≤◌, ◌⊎◌, ◌↔◌, List, Some, length, slice_get, slice_set, true}
 use Rattle.sight_names.specs.declared.names.PairRay.{PairRay}
 use Rattle.gate_floods.specs.Bits.{is_joined}
-use Rattle.gate_masks.specs.declared.masks.Row.{Row}
-use Rattle.gate_masks.specs.Words.{HasBit, AreBitsOf}
+use Rattle.gate_floods.specs.declared.gate_masks.masks.Row.{Row}
+use Rattle.gate_floods.specs.GateMasks.Words.{HasBit, AreBitsOf}
 
 -- rows of n groups, each with room for n numbers; that of group f has the numbers of which P f holds
 pub record AreRowsOf (n : ℕ) (P : ℕ → ℕ → Type 0) (rows : List Row) : Type 0 where

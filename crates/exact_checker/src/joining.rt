@@ -3,13 +3,13 @@
 ghost use Rattle.std.specs.Prelude.{◌≡◌, ◌*◌, ◌<◌, ◌↔◌, ℕ, Some, IfOk, IsTrue, length, slice_get};
 ghost use Rattle.sight_names.specs.declared.names.PairRay.{PairRay as RayOf};
 ghost use Rattle.cert_checker.specs.Pairs.{IsWithin};
-ghost use Rattle.gate_masks.specs.declared.masks.Row.{Row as RowOf};
-ghost use Rattle.gate_masks.specs.Words.{HasBit};
-ghost use Rattle.gate_masks.specs.Masks.{IsIn};
+ghost use Rattle.gate_floods.specs.declared.gate_masks.masks.Row.{Row as RowOf};
+ghost use Rattle.gate_floods.specs.GateMasks.Words.{HasBit};
+ghost use Rattle.gate_floods.specs.GateMasks.Masks.{IsIn};
 ghost use Rattle.exact_checker.specs.Rows.{AddsAt, AddsBit, AreJoinedRows, AreOwnRows, IsOwnRow};
 
-use gate_masks::Row;
-use gate_masks::words::{has_bit, no_bits, set_bit};
+use gate_floods::gate_masks::Row;
+use gate_floods::gate_masks::words::{has_bit, no_bits, set_bit};
 use sight_names::{Memory, PairRay};
 use std::alloc::Global;
 

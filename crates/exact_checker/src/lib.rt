@@ -7,12 +7,14 @@
 //! two sectors are joined.
 #![tactic(auto)]
 
+pub mod exact_workers;
 mod joining;
 mod judge;
 mod masking;
 mod owning;
 mod pairs;
 mod ranking;
+pub mod task_crew;
 mod trees;
 
 pub use joining::{joined_rows, words_of};

@@ -2,11 +2,11 @@
 
 ghost use Rattle.std.specs.Prelude.{◌≡◌, ◌*◌, ◌<◌, ◌≤◌, ◌^◌, ◌++◌, None, Some, IfOk, MatchOption, length, option_copied, slice_index};
 ghost use Rattle.sight_names.specs.Map.{map_of};
-ghost use Rattle.gate_masks.specs.Masks.{HasWords, IsLeftOut};
+ghost use Rattle.gate_floods.specs.GateMasks.Masks.{HasWords, IsLeftOut};
 ghost use Rattle.exact_checker.specs.Masking.{mask_at_edge, words_of, AreEdgeMasks, HaveMasksOf};
 
-use gate_masks::{Masks, Row};
-use half_edges::{HalfEdge, HalfEdges};
+use gate_floods::gate_masks::{Masks, Row};
+use mesh_shape::half_edges::{HalfEdge, HalfEdges};
 use sight_names::{Memory, Plan};
 use std::alloc::Global;
 

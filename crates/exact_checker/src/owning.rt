@@ -3,12 +3,12 @@
 ghost use Rattle.std.specs.Prelude.{◌≡◌, ◌*◌, ◌<◌, ◌≤◌, ◌==◌, ℕ, List, IfOk, get_or, length};
 ghost use Rattle.sight_names.specs.declared.names.PairRay.{PairRay as RayOf};
 ghost use Rattle.gate_floods.specs.Bits.{is_owned as is_owned_of, rank_of, ranks_before as ranks_before_of};
-ghost use Rattle.gate_masks.specs.Words.{HasBit, AreBitsOf};
+ghost use Rattle.gate_floods.specs.GateMasks.Words.{HasBit, AreBitsOf};
 ghost use Rattle.exact_checker.specs.Owning.{rank_at, owning_of, IsOwnedBit, IsSized, KnowsOwning};
 
 use crate::joining::is_in;
-use gate_masks::Row;
-use gate_masks::words::set_bit;
+use gate_floods::gate_masks::Row;
+use gate_floods::gate_masks::words::set_bit;
 use sight_names::Memory;
 use std::alloc::Global;
 

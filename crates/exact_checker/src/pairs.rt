@@ -8,7 +8,7 @@ use crate::joining::is_in;
 use cert_checker::Totals;
 use cert_checker::pairs::{PairFacts, count, either_clear, either_set};
 use face_groups::Group;
-use gate_masks::Row;
+use gate_floods::gate_masks::Row;
 use reject_bits::Table;
 use sight_names::CheckFault;
 

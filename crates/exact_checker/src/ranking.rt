@@ -3,12 +3,12 @@
 ghost use Rattle.std.specs.Prelude.{◌≡◌, List, IfOk, length};
 ghost use Rattle.sight_names.specs.declared.names.PairRay.{PairRay as RayOf};
 ghost use Rattle.gate_floods.specs.Bits.{bits_from, count_bits};
-ghost use Rattle.row_judge.specs.Words.{is_in};
+ghost use Rattle.gate_floods.specs.RowJudge.Words.{is_in};
 ghost use Rattle.exact_checker.specs.Rows.{AreJoinedRows};
 ghost use Rattle.exact_checker.specs.Owning.{AreRanks};
 
-use gate_masks::Row;
-use gate_masks::words::has_bit;
+use gate_floods::gate_masks::Row;
+use gate_floods::gate_masks::words::has_bit;
 use sight_names::Memory;
 use std::alloc::Global;
 

@@ -2,23 +2,23 @@
 
 ghost use Rattle.std.specs.Prelude.{◌≡◌, ◌*◌, ◌≤◌, IfOk, length};
 ghost use Rattle.sight_names.specs.Map.{map_of};
-ghost use Rattle.cert_exact.specs.declared.cert.ExactParts.{ExactParts as PartsOf};
-ghost use Rattle.row_judge.specs.Masks.{rows_of};
+ghost use Rattle.certificates.specs.declared.cert_exact.cert.ExactParts.{ExactParts as PartsOf};
+ghost use Rattle.gate_floods.specs.RowJudge.Masks.{rows_of};
 ghost use Rattle.exact_checker.specs.Owning.{owning_of, IsSized};
 ghost use Rattle.exact_checker.specs.Judged.{AnswersForEach, AreTreesOf, TellsTrees};
 
 use crate::masking::edge_masks;
 use crate::owning::{Owning, owned_row};
 use crate::ranking::ranks_of;
-use gate_masks::Row;
+use block_evidence::sight_tree::Nodes;
+use cert_checker::tree_judge::{Roots, Terrain};
+use face_groups::tri_sectors::components;
+use gate_floods::gate_masks::Row;
+use gate_floods::row_judge::{Masks, RowWalk, judge_by_rows};
 use group_checker::GroupedMesh;
-use half_edges::HalfEdges;
-use row_judge::{Masks, RowWalk, judge_by_rows};
+use mesh_shape::half_edges::HalfEdges;
 use sight_names::Memory;
-use sight_tree::Nodes;
 use std::alloc::Global;
-use tree_judge::{Roots, Terrain};
-use tri_sectors::components;
 
 /// The first node of the first tree that is wrong, and the tree's group.
 #[derive(Clone, Copy)]

@@ -8,18 +8,18 @@ use Rattle.sight_names.specs.Sound.{LinesMeetAtEnds}
 use Rattle.sight_names.specs.Table.{Rejected}
 use Rattle.sight_names.proofs.Lists.{get_of_contains}
 use Rattle.reject_bits.specs.Parts.{TableParts}
-use Rattle.sight_tree.specs.declared.Node.{Node}
-use Rattle.sight_tree.specs.declared.Tree.{Tree}
+use Rattle.block_evidence.specs.declared.sight_tree.Node.{Node}
+use Rattle.block_evidence.specs.declared.sight_tree.Tree.{Tree}
 use Rattle.cert_checker.specs.Apart.{triangles_in, labels_in}
 use Rattle.cert_checker.specs.Rays.{AreSightRaysBelow}
-use Rattle.cert_exact.specs.declared.cert.ExactParts.{ExactParts}
-use Rattle.cert_exact.specs.Grammar.{as_two}
+use Rattle.certificates.specs.declared.cert_exact.cert.ExactParts.{ExactParts}
+use Rattle.certificates.specs.CertExact.Grammar.{as_two}
 use Rattle.cert_format.specs.Accepted.{triangles_of, labels_of}
-use Rattle.turned_trees.specs.Exact.{TellsAll}
+use Rattle.gate_floods.specs.TurnedTrees.Exact.{TellsAll}
 use Rattle.gate_floods.specs.Exact.{IsAcceptedThree, IsClaimed}
 use Rattle.gate_floods.specs.Rows.{KeepsByRows}
 use Rattle.gate_floods.proofs.Tells.{version_three_tells}
-use Rattle.row_judge.specs.Judged.{tree_of}
+use Rattle.gate_floods.specs.RowJudge.Judged.{tree_of}
 use Rattle.exact_checker.specs.Judged.{AreTreesKept, Owns}
 use Rattle.exact_checker.proofs.Accepting.{as_many, there_tree}
 use Rattle.exact_job.specs.Built.{IsOverGroups}

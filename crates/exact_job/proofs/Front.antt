@@ -3,19 +3,19 @@ use Rattle.std.proofs.Common.{◌≡◌, ℕ, ◌<◌, ◌≤◌, ◌∙◌, Lis
 use Rattle.std.proofs.lemmas.List.{length-map}
 use Rattle.std.specs.Prelude.{map}
 use Rattle.std.specs.List.{AllByRecursion}
-use Rattle.list_base.proofs.Lists.{all_of}
+use Rattle.math_base.proofs.Lists.{all_of}
 use Rattle.sight_names.specs.declared.names.Pt.{Pt}
 use Rattle.sight_names.specs.Map.{MapLine, map_of}
 use Rattle.sight_names.specs.Mesh.{AreTriangles, IsGoodMesh}
 use Rattle.sight_names.specs.Plan.{PlanParts, IsPlan}
 use Rattle.sight_names.specs.Groups.{AreGroups, unnamed}
 use Rattle.triangulate.proofs.MeshBound.{few_in_plan}
-use Rattle.groups_base.proofs.Ordered.{contains_at}
+use Rattle.face_groups.proofs.GroupsBase.Ordered.{contains_at}
 use Rattle.cert_format.specs.declared.cert.Labelled.{Labelled}
 use Rattle.cert_format.specs.Sizes.{sizes_of}
 use Rattle.cert_format.proofs.LimitLaws.{twice_fits}
 use Rattle.cert_checker.specs.Apart.{triangles_in, labels_in}
-use Rattle.cert_groups.specs.Grammar.{IsGroupInOrder}
+use Rattle.cert_format.specs.CertGroups.Grammar.{IsGroupInOrder}
 use Rattle.group_job.specs.declared.grouped.MapOfGroups.{MapOfGroups}
 use Rattle.group_job.specs.Grouped.{IsMapOfGroups}
 use Rattle.group_job.specs.Labelled.{labelled_of}

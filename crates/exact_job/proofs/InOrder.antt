@@ -5,20 +5,20 @@ use Rattle.std.specs.List.{AllByRecursion}
 use Rattle.std.specs.List.Sorted.{IsStrictlyIncreasing}
 use Rattle.std.proofs.lemmas.List.Elements.{recursion_from_All}
 use Rattle.std.proofs.lemmas.Option.{none-some, slice_get_within, get_or_from_slice_get, same_Some}
-use Rattle.list_base.proofs.Numbers.{below_or_at}
+use Rattle.math_base.proofs.Numbers.{below_or_at}
 use Rattle.sight_names.specs.declared.names.PairRay.{PairRay}
 use Rattle.sight_names.specs.Order.{Ascends}
 use Rattle.sight_names.specs.Plan.{PlanParts}
-use Rattle.sight_tree.specs.declared.Node.{Node}
-use Rattle.sight_tree.specs.declared.Node.TheVariants.{Open, Blocked}
-use Rattle.sight_tree.specs.declared.Tree.{Tree}
+use Rattle.block_evidence.specs.declared.sight_tree.Node.{Node}
+use Rattle.block_evidence.specs.declared.sight_tree.Node.TheVariants.{Open, Blocked}
+use Rattle.block_evidence.specs.declared.sight_tree.Tree.{Tree}
 use Rattle.block_evidence.specs.Stuck.{end_codes}
 use Rattle.portal_walk.specs.Nodes.{IsAnswered}
 use Rattle.cert_format.specs.declared.cert.Labelled.{Labelled}
 use Rattle.cert_format.specs.declared.cert.Sizes.{Sizes}
 use Rattle.cert_format.specs.Grammar.{IsNodeInOrder, IsRayInRange, IsTreeInRange}
-use Rattle.cert_groups.specs.Grammar.{IsTwoInOrder, grouped_sizes}
-use Rattle.cert_exact.specs.Grammar.{as_two, trees_from}
+use Rattle.cert_format.specs.CertGroups.Grammar.{IsTwoInOrder, grouped_sizes}
+use Rattle.certificates.specs.CertExact.Grammar.{as_two, trees_from}
 use Rattle.cert_format.specs.Sizes.{sizes_of}
 use Rattle.exact_checker.specs.Judged.{IsThreeFor}
 use Rattle.exact_job.specs.Built.{AreInOrder}

@@ -4,30 +4,30 @@ use Rattle.std.specs.Int.{bit_at}
 use Rattle.std.specs.List.{slice_get}
 use Rattle.std.specs.Prelude.{All, IfOk, Result, Ok, Err}
 use Rattle.std.proofs.lemmas.List.Elements.{All-contains, All-from_recursion}
-use Rattle.list_base.proofs.Bools.{false_of_not, second_true}
-use Rattle.list_base.proofs.Lists.{all_of}
-use Rattle.list_base.proofs.Numbers.{is_told_same}
+use Rattle.math_base.proofs.Bools.{false_of_not, second_true}
+use Rattle.math_base.proofs.Lists.{all_of}
+use Rattle.math_base.proofs.Numbers.{is_told_same}
 use Rattle.std.specs.Global.{Vec}
 use Rattle.std.proofs.lemmas.Option.{slice_get_within}
 use Rattle.sight_names.specs.declared.names.Memory.{Memory}
 use Rattle.sight_names.specs.declared.names.PairRay.{PairRay}
-use Rattle.sight_tree.specs.declared.Node.{Node}
+use Rattle.block_evidence.specs.declared.sight_tree.Node.{Node}
 use Rattle.sight_names.specs.Map.{map_of}
-use Rattle.half_edges.specs.declared.table.HalfEdge.{HalfEdge}
-use Rattle.tree_judge.specs.declared.roots.Root.{Root}
+use Rattle.mesh_shape.specs.declared.half_edges.table.HalfEdge.{HalfEdge}
+use Rattle.cert_checker.specs.declared.tree_judge.roots.Root.{Root}
 use Rattle.pair_budget.specs.declared.results.Reached.{Reached}
 use Rattle.gate_floods.specs.Bits.{is_joined}
 use Rattle.gate_floods.specs.Exact.{IsClaimed, IsOwned}
-use Rattle.gate_masks.specs.Words.{AreBitsOf}
-use Rattle.row_judge.specs.Masks.{MaskRows}
-use Rattle.row_judge.specs.Judged.{tree_of, IsWholeFrom}
-use Rattle.row_judge.proofs.Telling.{tells_by_rows}
-use Rattle.row_judge.specs.Words.{is_in}
+use Rattle.gate_floods.specs.GateMasks.Words.{AreBitsOf}
+use Rattle.gate_floods.specs.RowJudge.Masks.{MaskRows}
+use Rattle.gate_floods.specs.RowJudge.Judged.{tree_of, IsWholeFrom}
+use Rattle.gate_floods.proofs.RowJudge.Telling.{tells_by_rows}
+use Rattle.gate_floods.specs.RowJudge.Words.{is_in}
 use Rattle.portal_walk.specs.Nodes.{IsAnswered}
 use Rattle.row_trees.specs.declared.made.Made.{Made}
 use Rattle.row_trees.specs.Made.{AreSeen, AreWanted, IsMade}
 use Rattle.row_trees.specs.Walkable.{Ground, IsWalkable}
-use Rattle.task_crew.specs.Done.{AreDone}
+use Rattle.exact_checker.specs.TaskCrew.Done.{AreDone}
 use Rattle.exact_job.specs.Trees.{AreWalksOf, IsOwnedWalk, IsWantedWalk}
 use Rattle.exact_checker.specs.Owning.{IsOwnedBit, KnowsOwning, OwningParts}
 use Rattle.exact_checker.specs.Judged.{AnswersFor}

@@ -7,8 +7,8 @@ use Rattle.std.proofs.lemmas.Bool.Decides.{nat_tests}
 use Rattle.std.proofs.lemmas.List.Elements.{Contains-append_left, Contains-append_right}
 use Rattle.std.proofs.lemmas.List.Sorted.{sorted_far, ranks_by, Contains-permutation, IsPermutation-sym}
 use Rattle.std.proofs.lemmas.Option.{none-some, same_Some, slice_get_within, get_or_from_slice_get}
-use Rattle.list_base.proofs.Lists.{pushed_at}
-use Rattle.list_base.proofs.Numbers.{below_or_last, same_or_below}
+use Rattle.math_base.proofs.Lists.{pushed_at}
+use Rattle.math_base.proofs.Numbers.{below_or_last, same_or_below}
 use Rattle.sight_names.proofs.Lists.{get_of_contains, contains_of_get}
 use Rattle.sight_names.specs.declared.names.Pair.{Pair}
 use Rattle.sight_names.specs.declared.names.PairRay.{PairRay}

@@ -5,9 +5,9 @@ use Rattle.std.specs.List.{AllByRecursion, slice_get}
 use Rattle.std.proofs.lemmas.List.{append_assoc, length-map, map_more, take_all}
 use Rattle.std.proofs.lemmas.List.Elements.{All-append, All-contains, All-from_recursion, Contains-append_left, Contains-append_right}
 use Rattle.std.proofs.lemmas.Option.{none-some, same_Some, slice_get-get_or, slice_get-map, slice_get_within}
-use Rattle.list_base.proofs.Bools.{not_both_values}
-use Rattle.list_base.proofs.Lists.{all_of, contains_map}
-use Rattle.list_base.proofs.Numbers.{below_or_above, below_or_last, below_same_or_above, place_within, row_within}
+use Rattle.math_base.proofs.Bools.{not_both_values}
+use Rattle.math_base.proofs.Lists.{all_of, contains_map}
+use Rattle.math_base.proofs.Numbers.{below_or_above, below_or_last, below_same_or_above, place_within, row_within}
 use Rattle.sight_names.proofs.Lists.{get_of_contains, contains_of_get}
 use Rattle.sight_names.proofs.PlanMap.{plan_is_map}
 use Rattle.sight_names.specs.declared.names.Pair.{Pair}
@@ -16,10 +16,10 @@ use Rattle.sight_names.specs.declared.names.Triangle.{Triangle}
 use Rattle.sight_names.specs.Map.{map_of}
 use Rattle.sight_names.specs.Plan.{PlanParts, IsPlan}
 use Rattle.sight_names.specs.Ray.{IsInRange, IsSightRay}
-use Rattle.sight_laws.proofs.SightLaws.{turned_sight}
-use Rattle.tri_sectors.proofs.GoodLabels.{label_below}
-use Rattle.half_edges.specs.declared.table.HalfEdge.{HalfEdge}
-use Rattle.sight_tree.specs.declared.Node.{Node}
+use Rattle.mesh_base.proofs.SightLaws.SightLaws.{turned_sight}
+use Rattle.face_groups.proofs.TriSectors.GoodLabels.{label_below}
+use Rattle.mesh_shape.specs.declared.half_edges.table.HalfEdge.{HalfEdge}
+use Rattle.block_evidence.specs.declared.sight_tree.Node.{Node}
 use Rattle.portal_walk.specs.Nodes.{IsAnswered}
 use Rattle.cert_format.specs.declared.cert.Sizes.{Sizes}
 use Rattle.cert_format.specs.Grammar.{IsRayInRange}
@@ -29,12 +29,12 @@ use Rattle.pair_budget.specs.declared.results.Reached.{Reached}
 use Rattle.pair_budget.specs.PairRays.{HasRayFor, toward}
 use Rattle.pair_budget.specs.Walked.{IsReachedFrom}
 use Rattle.pair_budget.proofs.FoundSectorsLaws.{pair_is, toward_down, toward_up}
-use Rattle.accepted_groups.specs.Accepted.{AreGroupsJoined}
+use Rattle.cert_checker.specs.AcceptedGroups.Accepted.{AreGroupsJoined}
 use Rattle.gate_floods.specs.Bits.{is_joined}
 use Rattle.gate_floods.proofs.RowBits.{not_joined}
 use Rattle.row_trees.specs.declared.made.Made.{Made}
 use Rattle.row_trees.specs.Made.{AreSeen}
-use Rattle.gate_masks.specs.declared.masks.Row.{Row}
+use Rattle.gate_floods.specs.declared.gate_masks.masks.Row.{Row}
 use Rattle.exact_checker.specs.Rows.{AreJoinedRows}
 use Rattle.exact_checker.proofs.JoinedRows.{cert_of}
 use Rattle.exact_job.specs.declared.settling.Round.{Round}

@@ -4,16 +4,16 @@ use Rattle.std.specs.Int.{bit_at}
 use Rattle.std.specs.List.{slice_get}
 use Rattle.std.proofs.lemmas.Nat.Bits.{bit_at_or, bit_at-lt, bit_at-zero}
 use Rattle.std.proofs.lemmas.Option.{none-some, same_Some, slice_get_within, slice_get-get_or}
-use Rattle.list_base.proofs.Numbers.{below_or_last, same_or_not, below_or_not, bit_of_left, bit_of_right, bit_of_none}
+use Rattle.math_base.proofs.Numbers.{below_or_last, same_or_not, below_or_not, bit_of_left, bit_of_right, bit_of_none}
 use Rattle.sight_names.proofs.Lists.{get_of_contains, contains_of_get}
 use Rattle.sight_names.specs.Groups.{IsInGroup}
 use Rattle.reject_bits.specs.Parts.{TableParts, Rejects, SetsPair, KeepsOtherPairs}
-use Rattle.accepted_groups.specs.Accepted.{AreGroupsJoined, IsGroupedSeen}
-use Rattle.cert_exact.specs.declared.cert.ExactParts.{ExactParts}
-use Rattle.cert_exact.specs.Grammar.{as_two}
-use Rattle.gate_masks.specs.declared.masks.Row.{Row}
-use Rattle.gate_masks.specs.Masks.{IsIn}
-use Rattle.gate_masks.specs.Words.{HasBit}
+use Rattle.cert_checker.specs.AcceptedGroups.Accepted.{AreGroupsJoined, IsGroupedSeen}
+use Rattle.certificates.specs.declared.cert_exact.cert.ExactParts.{ExactParts}
+use Rattle.certificates.specs.CertExact.Grammar.{as_two}
+use Rattle.gate_floods.specs.declared.gate_masks.masks.Row.{Row}
+use Rattle.gate_floods.specs.GateMasks.Masks.{IsIn}
+use Rattle.gate_floods.specs.GateMasks.Words.{HasBit}
 use Rattle.group_checker.specs.Members.{AreMembers}
 use Rattle.group_job.specs.Marks.{SetsMore, OfSteps, HasSteps}
 use Rattle.group_job.proofs.Marks.{sets_as, sets_next, sets_one, sets_skip}

@@ -3,9 +3,9 @@ use Rattle.std.proofs.Common.{◌≡◌, ℕ, ◌<◌, List, Option, Some}
 use Rattle.std.specs.List.{slice_get}
 use Rattle.std.specs.Prelude.{All}
 use Rattle.std.proofs.lemmas.List.Elements.{All-contains, All-from_recursion, recursion_from_All}
-use Rattle.list_base.proofs.Lists.{all_at, all_of}
-use Rattle.half_edges.specs.declared.table.HalfEdge.{HalfEdge}
-use Rattle.tree_judge.specs.declared.roots.Root.{Root}
+use Rattle.math_base.proofs.Lists.{all_at, all_of}
+use Rattle.mesh_shape.specs.declared.half_edges.table.HalfEdge.{HalfEdge}
+use Rattle.cert_checker.specs.declared.tree_judge.roots.Root.{Root}
 use Rattle.row_trees.specs.declared.made.Made.{Made}
 use Rattle.row_trees.specs.Walkable.{Ground, IsWalkable}
 use Rattle.exact_job.specs.declared.walk_tasks.Wanted.{Wanted}

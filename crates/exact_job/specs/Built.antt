@@ -9,11 +9,11 @@ use Rattle.sight_names.specs.Map.{map_of}
 use Rattle.sight_names.specs.Mesh.{AreTriangles, IsGoodMesh}
 use Rattle.sight_names.specs.Plan.{PlanParts, IsPlan}
 use Rattle.sight_names.specs.Sound.{LinesMeetAtEnds}
-use Rattle.half_edges.specs.declared.table.HalfEdge.{HalfEdge}
+use Rattle.mesh_shape.specs.declared.half_edges.table.HalfEdge.{HalfEdge}
 use Rattle.cert_format.specs.declared.cert.Labelled.{Labelled}
 use Rattle.cert_format.specs.declared.cert.Sizes.{Sizes}
-use Rattle.cert_groups.specs.Grammar.{IsGroupInOrder}
-use Rattle.groups_base.specs.Table.{IsTableFor, NamesTheLabels}
+use Rattle.cert_format.specs.CertGroups.Grammar.{IsGroupInOrder}
+use Rattle.face_groups.specs.GroupsBase.Table.{IsTableFor, NamesTheLabels}
 use Rattle.cert_checker.specs.Rays.{AreSightRaysBelow}
 use Rattle.exact_checker.specs.Rows.{AreJoinedRows}
 use Rattle.exact_job.specs.declared.settling.Settled.{Settled}

@@ -6,8 +6,8 @@ use Rattle.sight_names.specs.Map.{map_of}
 use Rattle.sight_names.specs.Mesh.{IsGoodMesh}
 use Rattle.sight_names.specs.Plan.{PlanParts, IsPlan}
 use Rattle.sight_names.specs.Sound.{LinesMeetAtEnds}
-use Rattle.half_edges.specs.declared.table.HalfEdge.{HalfEdge}
-use Rattle.half_edges.specs.HalfEdges.{AreHalfEdges}
+use Rattle.mesh_shape.specs.declared.half_edges.table.HalfEdge.{HalfEdge}
+use Rattle.mesh_shape.specs.HalfEdges.HalfEdges.{AreHalfEdges}
 
 -- the half-edges of a good mesh of a map whose lines meet at ends
 pub record IsGround (p : PlanParts) (ts : List Triangle) (ls : List (Option ℕ)) (xs : List HalfEdge) : Type 0 where

@@ -1,11 +1,11 @@
 -- The table of sectors, by which groups are joined.
 use Rattle.std.specs.Prelude.{◌≡◌, ℕ, ◌<◌, ◌↔◌, List, Some, slice_get, Contains}
 use Rattle.reject_bits.specs.Parts.{TableParts, Rejects}
-use Rattle.cert_groups.specs.declared.cert.CertTwo.{CertTwo}
-use Rattle.accepted_groups.specs.Accepted.{IsGroupedSeen}
-use Rattle.gate_masks.specs.declared.masks.Row.{Row}
-use Rattle.gate_masks.specs.Masks.{IsIn}
-use Rattle.gate_masks.specs.Words.{HasBit}
+use Rattle.cert_format.specs.declared.cert_groups.cert.CertTwo.{CertTwo}
+use Rattle.cert_checker.specs.AcceptedGroups.Accepted.{IsGroupedSeen}
+use Rattle.gate_floods.specs.declared.gate_masks.masks.Row.{Row}
+use Rattle.gate_floods.specs.GateMasks.Masks.{IsIn}
+use Rattle.gate_floods.specs.GateMasks.Words.{HasBit}
 
 -- ---- rows of groups
 

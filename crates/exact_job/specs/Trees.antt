@@ -4,18 +4,18 @@ use Rattle.sight_names.specs.declared.names.PairRay.{PairRay}
 use Rattle.sight_names.specs.declared.names.Triangle.{Triangle}
 use Rattle.sight_names.specs.Plan.{PlanParts}
 use Rattle.sight_names.specs.Map.{map_of}
-use Rattle.sight_tree.specs.declared.Node.{Node}
-use Rattle.half_edges.specs.declared.table.HalfEdge.{HalfEdge}
-use Rattle.tree_judge.specs.declared.roots.Root.{Root}
+use Rattle.block_evidence.specs.declared.sight_tree.Node.{Node}
+use Rattle.mesh_shape.specs.declared.half_edges.table.HalfEdge.{HalfEdge}
+use Rattle.cert_checker.specs.declared.tree_judge.roots.Root.{Root}
 use Rattle.portal_walk.specs.Nodes.{IsAnswered}
 use Rattle.pair_budget.specs.declared.results.Reached.{Reached}
 use Rattle.gate_floods.specs.Bits.{is_joined}
-use Rattle.gate_masks.specs.declared.masks.Row.{Row}
-use Rattle.row_judge.specs.Masks.{MaskRows}
+use Rattle.gate_floods.specs.declared.gate_masks.masks.Row.{Row}
+use Rattle.gate_floods.specs.RowJudge.Masks.{MaskRows}
 use Rattle.row_trees.specs.declared.made.Made.{Made}
 use Rattle.row_trees.specs.Made.{AreSeen}
 use Rattle.row_trees.specs.Walkable.{Ground, IsWalkable}
-use Rattle.cert_exact.specs.declared.cert.ExactParts.{ExactParts}
+use Rattle.certificates.specs.declared.cert_exact.cert.ExactParts.{ExactParts}
 use Rattle.exact_checker.specs.Owning.{IsOwnedBit, KnowsOwning, OwningParts}
 use Rattle.exact_checker.specs.Rows.{AreJoinedRows}
 use Rattle.exact_checker.specs.Judged.{AnswersFor, AreTreesOf, TellsTrees}

@@ -2,16 +2,16 @@
 //!
 //! Nothing is proved of these bounds: the first walk finds rays by them, and whatever it misses the rounds behind it find.
 
-ghost use Rattle.gate_masks.specs.Gates.{IsIndexed};
+ghost use Rattle.gate_floods.specs.GateMasks.Gates.{IsIndexed};
 
 use crate::words::{
     count_in, drop_at, has_at, join_at, meet_at, put_at, row_with, start_of, width_of, zeros,
 };
-use gate_masks::flood::beyond;
-use gate_masks::gate::Gate;
-use gate_masks::gates::Gates;
-use half_edges::HalfEdges;
+use gate_floods::gate_masks::flood::beyond;
+use gate_floods::gate_masks::gate::Gate;
+use gate_floods::gate_masks::gates::Gates;
 use mesh_shape::Mesh;
+use mesh_shape::half_edges::HalfEdges;
 use sight_names::{Memory, Plan, Side};
 use std::alloc::Global;
 

@@ -2,7 +2,7 @@
 
 ghost use Rattle.std.specs.Prelude.{◌≡◌, ℕ, ◌<◌, All, IfOk, OnOk, length};
 ghost use Rattle.sight_names.specs.Plan.{PlanParts as PlanOf};
-ghost use Rattle.gate_masks.specs.Gates.{IsIndexed};
+ghost use Rattle.gate_floods.specs.GateMasks.Gates.{IsIndexed};
 ghost use Rattle.row_trees.specs.Walkable.{Ground as GroundOf, IsWalkable};
 ghost use Rattle.exact_job.specs.Ground.{IsGround};
 ghost use Rattle.exact_job.specs.Rays.{IsFoundRay};
@@ -13,15 +13,15 @@ use crate::rays::note_found;
 use crate::walk_tasks::{Wanted, WantedWalks};
 use crate::walkers::Walkers;
 use crate::words::{drop_at, put_at, zeros};
-use gate_masks::gates::Gates;
+use cert_checker::tree_judge::{Roots, Terrain};
+use face_groups::tri_sectors::components;
+use gate_floods::gate_masks::gates::Gates;
+use gate_floods::row_judge::Masks;
 use group_checker::GroupedMesh;
-use half_edges::HalfEdges;
-use row_judge::Masks;
+use mesh_shape::half_edges::HalfEdges;
 use row_trees::Made;
 use sight_names::{Memory, PairRay};
 use std::alloc::Global;
-use tree_judge::{Roots, Terrain};
-use tri_sectors::components;
 
 /// How many groups are walked within the same bounds, before those are narrowed by what the walks found. It is the same for any
 /// number of workers, so that the rays are.

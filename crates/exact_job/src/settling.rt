@@ -5,7 +5,7 @@ ghost use Rattle.sight_names.specs.declared.names.PairRay.{PairRay as RayOf};
 ghost use Rattle.sight_names.specs.declared.names.Triangle.{Triangle as TriangleOf};
 ghost use Rattle.sight_names.specs.Plan.{IsPlan, PlanParts};
 ghost use Rattle.sight_names.specs.Ray.{IsInRange};
-ghost use Rattle.half_edges.specs.declared.table.HalfEdge.{HalfEdge as HalfEdgeOf};
+ghost use Rattle.mesh_shape.specs.declared.half_edges.table.HalfEdge.{HalfEdge as HalfEdgeOf};
 ghost use Rattle.row_trees.specs.declared.made.Made.{Made as MadeOf};
 ghost use Rattle.exact_job.specs.Built.{IsSettled};
 ghost use Rattle.exact_job.specs.Ground.{IsGround};
@@ -17,14 +17,14 @@ use crate::first::first_rays;
 use crate::rays::{in_order, note_found};
 use crate::trees::make_trees;
 use crate::walkers::Walkers;
+use block_evidence::sight_tree::Nodes;
 use cert_format::Sizes;
 use exact_checker::joined_rows;
-use gate_masks::Row;
+use gate_floods::gate_masks::Row;
 use group_checker::GroupedMesh;
-use half_edges::HalfEdges;
+use mesh_shape::half_edges::HalfEdges;
 use row_trees::Made;
 use sight_names::{Memory, PairRay};
-use sight_tree::Nodes;
 use std::alloc::Global;
 
 /// A ray for each pair of groups that see each other, the rows of what the rays join with each group, and the nodes of each

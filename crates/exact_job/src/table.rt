@@ -1,17 +1,17 @@
 //! The table of sectors, by which groups are joined.
 
 ghost use Rattle.std.specs.Prelude.{◌≡◌, ◌⊎◌, ◌↔◌, ◌*◌, ◌<◌, ◌≤◌, ℕ, Some, IfOk, IsTrue, length, slice_get};
-ghost use Rattle.cert_exact.specs.declared.cert.ExactParts.{ExactParts as PartsOf};
-ghost use Rattle.cert_exact.specs.Grammar.{as_two};
-ghost use Rattle.gate_masks.specs.Words.{HasBit};
+ghost use Rattle.certificates.specs.declared.cert_exact.cert.ExactParts.{ExactParts as PartsOf};
+ghost use Rattle.certificates.specs.CertExact.Grammar.{as_two};
+ghost use Rattle.gate_floods.specs.GateMasks.Words.{HasBit};
 ghost use Rattle.group_job.specs.Marks.{SetsMore};
 ghost use Rattle.exact_checker.specs.Rows.{AreJoinedRows};
 ghost use Rattle.exact_job.specs.Table.{HasNoneIn, HasSome, IsJoinedWithSome, IsRowOf, IsTableOf};
 
 use exact_checker::words_of;
 use face_groups::Group;
-use gate_masks::Row;
-use gate_masks::words::{has_bit, no_bits};
+use gate_floods::gate_masks::Row;
+use gate_floods::gate_masks::words::{has_bit, no_bits};
 use group_checker::members_of;
 use reject_bits::Table;
 use sight_names::{MOST_TRIANGLES, Memory};

@@ -2,23 +2,23 @@
 
 ghost use Rattle.std.specs.Prelude.{◌≡◌, ◌*◌, ◌<◌, ◌≤◌, ℕ, IfOk, length};
 ghost use Rattle.exact_checker.specs.Owning.{IsSized, owning_of};
-ghost use Rattle.row_judge.specs.Masks.{rows_of};
+ghost use Rattle.gate_floods.specs.RowJudge.Masks.{rows_of};
 ghost use Rattle.row_trees.specs.Walkable.{Ground as GroundOf, IsWalkable};
 ghost use Rattle.exact_job.specs.Ground.{IsGround};
 ghost use Rattle.exact_job.specs.Trees.{AreWalks, AreWalksOf};
 
 use crate::walk_tasks::OwnedWalks;
 use crate::walkers::Walkers;
+use cert_checker::tree_judge::{Roots, Terrain};
 use exact_checker::{Owning, edge_masks, ranks_of};
-use gate_masks::Row;
+use face_groups::tri_sectors::components;
+use gate_floods::gate_masks::Row;
+use gate_floods::row_judge::Masks;
 use group_checker::GroupedMesh;
-use half_edges::HalfEdges;
-use row_judge::Masks;
+use mesh_shape::half_edges::HalfEdges;
 use row_trees::Made;
 use sight_names::Memory;
 use std::alloc::Global;
-use tree_judge::{Roots, Terrain};
-use tri_sectors::components;
 
 /// What the walk of each group with what it owns makes.
 fn walk_each<W: Walkers>(

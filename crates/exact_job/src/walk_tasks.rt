@@ -2,18 +2,18 @@
 
 ghost use Rattle.std.specs.Prelude.{◌≡◌, ℕ, ◌*◌, ◌<◌, ◌≤◌, Some, All, slice_get, length};
 ghost use Rattle.exact_checker.specs.Owning.{IsSized, owning_of};
-ghost use Rattle.row_judge.specs.Masks.{rows_of};
+ghost use Rattle.gate_floods.specs.RowJudge.Masks.{rows_of};
 ghost use Rattle.row_trees.specs.Walkable.{Ground as GroundOf, IsWalkable};
 ghost use Rattle.exact_job.specs.declared.walk_tasks.Wanted.{Wanted as WantedOf};
 ghost use Rattle.exact_job.specs.Trees.{IsOwnedWalk, IsWantedWalk};
 
+use cert_checker::tree_judge::Terrain;
+use exact_checker::task_crew::Tasks;
 use exact_checker::{Owning, owned_row};
-use row_judge::Masks;
+use gate_floods::row_judge::Masks;
 use row_trees::{Made, Walk, walk_by_row};
 use sight_names::Memory;
 use std::alloc::Global;
-use task_crew::Tasks;
-use tree_judge::Terrain;
 
 /// The group with this number, of so many.
 fn source_of(count: u16, number: usize) -> u16

@@ -3,18 +3,18 @@
 ghost use denote.Param.Send.{IsSync};
 ghost use Rattle.std.specs.Prelude.{◌≡◌, ℕ, ◌*◌, ◌<◌, ◌≤◌, Some, All, IfOk, length, slice_get};
 ghost use Rattle.exact_checker.specs.Owning.{IsSized, owning_of};
-ghost use Rattle.row_judge.specs.Masks.{rows_of};
+ghost use Rattle.gate_floods.specs.RowJudge.Masks.{rows_of};
 ghost use Rattle.row_trees.specs.Walkable.{Ground as GroundOf, IsWalkable};
-ghost use Rattle.task_crew.specs.Done.{AreDone};
+ghost use Rattle.exact_checker.specs.TaskCrew.Done.{AreDone};
 ghost use Rattle.exact_job.specs.declared.walk_tasks.Wanted.{Wanted as WantedOf};
 ghost use Rattle.exact_job.specs.Trees.{IsOwnedWalk, IsWantedWalk};
 
 use crate::walk_tasks::{OwnedWalks, WantedWalks};
+use exact_checker::task_crew::{in_turn, shared};
 use row_trees::Made;
 use sight_names::Memory;
 use std::alloc::Global;
 use std::thread::Threads;
-use task_crew::{in_turn, shared};
 
 /// Those who walk. What they give doesn't depend on who they are.
 pub trait Walkers {

@@ -1,6 +1,6 @@
 //! Sets of groups as bits in words, many of them one behind the other. What lies outside of the words is left alone.
 
-use row_judge::words::part;
+use gate_floods::row_judge::words::part;
 use sight_names::Memory;
 use std::alloc::Global;
 

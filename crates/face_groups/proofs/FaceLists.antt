@@ -9,8 +9,8 @@ use Rattle.std.proofs.lemmas.Bool.Decides.{nat_tests}
 use Rattle.std.proofs.lemmas.Cmp.{then_total, on_total, nat_cmp_total, nat_list_cmp_total}
 use Rattle.std.proofs.lemmas.List.Sorted.{Contains-permutation, IsPermutation-sym, ranks_by, sorted_far}
 use Rattle.std.proofs.lemmas.Option.{slice_get_within, get_or_from_slice_get}
-use Rattle.list_base.proofs.Lists.{contains_left, contains_right, contains_here, contains_pushed, length_pushed}
-use Rattle.list_base.proofs.Numbers.{below_or_last}
+use Rattle.math_base.proofs.Lists.{contains_left, contains_right, contains_here, contains_pushed, length_pushed}
+use Rattle.math_base.proofs.Numbers.{below_or_last}
 use Rattle.sight_names.specs.Groups.{ListBefore}
 use Rattle.face_groups.specs.declared.namings.Naming.{Naming}
 use Rattle.face_groups.specs.declared.named_faces.NamedFace.{NamedFace}

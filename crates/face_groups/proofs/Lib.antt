@@ -4,3 +4,5 @@ pub mod Numbers
 pub mod RegroupedPlan
 pub mod Runs
 pub mod Verdicts
+pub mod TriSectors
+pub mod GroupsBase

@@ -10,15 +10,15 @@ use Rattle.std.proofs.lemmas.List.Filters.{dedup_is}
 use Rattle.std.proofs.lemmas.List.Kept.{Contains-dedup, Contains-from_dedup, IsStrictlySortedBy-dedup}
 use Rattle.std.proofs.lemmas.List.Sorted.{Contains-permutation, IsPermutation-sym}
 use Rattle.std.proofs.lemmas.Option.{same_Some, none-some}
-use Rattle.list_base.proofs.Lists.{all_at, contains_here, contains_there, contains_cons, contains_none}
+use Rattle.math_base.proofs.Lists.{all_at, contains_here, contains_there, contains_cons, contains_none}
 use Rattle.sight_names.specs.declared.names.Side.{Side}
 use Rattle.sight_names.specs.declared.names.Triangle.{Triangle}
 use Rattle.sight_names.specs.Map.{Map, MapLine, line_at, named}
 use Rattle.sight_names.specs.Mesh.{side_edge, triangle_at}
 use Rattle.sight_names.proofs.Lists.{get_of_contains}
-use Rattle.tri_sectors.specs.declared.sides.FacedSide.{FacedSide}
-use Rattle.tri_sectors.specs.Classes.{class_of}
-use Rattle.tri_sectors.specs.Sides.{AreFaced}
+use Rattle.face_groups.specs.declared.tri_sectors.sides.FacedSide.{FacedSide}
+use Rattle.face_groups.specs.TriSectors.Classes.{class_of}
+use Rattle.face_groups.specs.TriSectors.Sides.{AreFaced}
 use Rattle.face_groups.specs.declared.namings.Naming.{Naming}
 use Rattle.face_groups.specs.Namings.{NamingBefore, says, said_by, AreInOrder, IsNamedThere, AreNamings}
 

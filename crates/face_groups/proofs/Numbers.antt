@@ -2,15 +2,15 @@
 use Rattle.std.proofs.Common.{◌≡◌, ◌≢◌, ℕ, ◌+◌, ◌-◌, ◌<◌, ◌≤◌, ◌⊎◌, inl, inr, List, [], ◌∷◌, ◌++◌, length, take, set, slice_get, slice_index_or, Contains, Option, Some, None, MatchOption, All, refl, sym, ap, ◌∙◌, subst, arith}
 use Rattle.std.proofs.lemmas.Option.{slice_get_within, get_or_from_slice_get, same_Some, none-some}
 use Rattle.std.proofs.lemmas.List.{get_or-set_same, get_or-set_other, take_more}
-use Rattle.list_base.proofs.Lists.{contains_left, contains_right, contains_here, contains_pushed, length_pushed, get_pushed, get_before_pushed, pushed_at, get_there, get_take}
-use Rattle.list_base.proofs.Numbers.{same_or_not, same_or_below}
+use Rattle.math_base.proofs.Lists.{contains_left, contains_right, contains_here, contains_pushed, length_pushed, get_pushed, get_before_pushed, pushed_at, get_there, get_take}
+use Rattle.math_base.proofs.Numbers.{same_or_not, same_or_below}
 use Rattle.sight_names.specs.Mesh.{label_of}
 use Rattle.sight_names.specs.Groups.{ListBefore}
-use Rattle.groups_base.specs.Table.{AscendAsLists}
-use Rattle.groups_base.proofs.Ordered.{before_trans, before_cases, one_place_of, some_member, contains_at}
-use Rattle.tri_sectors.specs.Classes.{class_of, IsBelow}
-use Rattle.tri_sectors.specs.Sides.{AreLabelled}
-use Rattle.tri_sectors.proofs.GoodLabels.{label_name, label_within}
+use Rattle.face_groups.specs.GroupsBase.Table.{AscendAsLists}
+use Rattle.face_groups.proofs.GroupsBase.Ordered.{before_trans, before_cases, one_place_of, some_member, contains_at}
+use Rattle.face_groups.specs.TriSectors.Classes.{class_of, IsBelow}
+use Rattle.face_groups.specs.TriSectors.Sides.{AreLabelled}
+use Rattle.face_groups.proofs.TriSectors.GoodLabels.{label_name, label_within}
 use Rattle.face_groups.specs.declared.namings.Naming.{Naming}
 use Rattle.face_groups.specs.declared.named_faces.NamedFace.{NamedFace}
 use Rattle.face_groups.specs.Namings.{AreSectorsOn, AreOnFaces}

@@ -12,7 +12,7 @@ use Rattle.sight_names.specs.Mesh.{label_of, side_edge, triangle_at}
 use Rattle.sight_names.specs.Groups.{unnamed}
 use Rattle.sight_names.proofs.PlanMap.{line_of_plan}
 use Rattle.sight_names.proofs.PlanNumbers.{line_edge_of_plan}
-use Rattle.groups_base.specs.Table.{NamesLabels, NamesTheLabels, NamedAreLabelled}
+use Rattle.face_groups.specs.GroupsBase.Table.{NamesLabels, NamesTheLabels, NamedAreLabelled}
 use Rattle.face_groups.specs.Regrouped.{label_at_edge, regrouped, regrouped_plan}
 use Rattle.mesh_shape.proofs.RuleLemmas.{plan_line_at as line_there}
 

@@ -4,13 +4,13 @@ use Rattle.std.specs.List.Sorted.{IsPartitionPoint}
 use Rattle.std.proofs.lemmas.Bool.{ltb-true, ltb-false}
 use Rattle.std.proofs.lemmas.List.{get_or-take, get_or-drop}
 use Rattle.std.proofs.lemmas.Option.{slice_get_within, get_or_from_slice_get, slice_get-map, same_Some, none-some}
-use Rattle.list_base.proofs.Lists.{get_take, get_there, contains_map, length_pushed, pushed_at}
-use Rattle.list_base.proofs.Numbers.{below_or_not}
+use Rattle.math_base.proofs.Lists.{get_take, get_there, contains_map, length_pushed, pushed_at}
+use Rattle.math_base.proofs.Numbers.{below_or_not}
 use Rattle.sight_names.specs.Order.{Ascends}
 use Rattle.sight_names.proofs.Lists.{get_of_contains, contains_of_get}
-use Rattle.groups_base.proofs.Ordered.{contains_at, ascending_same}
+use Rattle.face_groups.proofs.GroupsBase.Ordered.{contains_at, ascending_same}
 use Rattle.face_groups.specs.declared.namings.Naming.{Naming}
-use Rattle.tri_sectors.specs.Classes.{class_of}
+use Rattle.face_groups.specs.TriSectors.Classes.{class_of}
 use Rattle.face_groups.specs.Namings.{NamingBefore, says, IsStart, IsRunOf, AreSectorsOn}
 use Rattle.face_groups.proofs.NamingOrder.{naming_of_numbers}
 

@@ -10,24 +10,24 @@ use Rattle.sight_names.proofs.Portals.{triangle_within}
 use Rattle.mesh_base.proofs.GoodMesh.{PointFacts}
 use Rattle.mesh_base.proofs.PlanFacts.{plan_facts}
 use Rattle.mesh_shape.specs.Fills.{FillsSides}
-use Rattle.tri_sectors.specs.declared.faces.Walls.{Walls}
-use Rattle.tri_sectors.specs.Classes.{class_of, AreLeast, IsBelow}
-use Rattle.tri_sectors.specs.Faces.{AreWalls, AreFaces, AreMarkedFaces}
-use Rattle.tri_sectors.specs.Sides.{IsSealedAt}
-use Rattle.tri_sectors.proofs.GoodLabels.{HasNamedSide}
-use Rattle.groups_base.specs.Table.{NamedAreLabelled}
-use Rattle.groups_base.proofs.Ordered.{empty_has_none}
-use Rattle.groups_base.proofs.FaceSectors.{AreNamedOn}
-use Rattle.groups_base.proofs.NamedLists.{names_on}
-use Rattle.groups_base.proofs.Named.{names_are}
-use Rattle.groups_base.proofs.GroupLabels.{AreGroupLabels}
-use Rattle.groups_base.proofs.BuiltGroups.{open_verdict, groups_verdict}
+use Rattle.face_groups.specs.declared.tri_sectors.faces.Walls.{Walls}
+use Rattle.face_groups.specs.TriSectors.Classes.{class_of, AreLeast, IsBelow}
+use Rattle.face_groups.specs.TriSectors.Faces.{AreWalls, AreFaces, AreMarkedFaces}
+use Rattle.face_groups.specs.TriSectors.Sides.{IsSealedAt}
+use Rattle.face_groups.proofs.TriSectors.GoodLabels.{HasNamedSide}
+use Rattle.face_groups.specs.GroupsBase.Table.{NamedAreLabelled}
+use Rattle.face_groups.proofs.GroupsBase.Ordered.{empty_has_none}
+use Rattle.face_groups.proofs.GroupsBase.FaceSectors.{AreNamedOn}
+use Rattle.face_groups.proofs.GroupsBase.NamedLists.{names_on}
+use Rattle.face_groups.proofs.GroupsBase.Named.{names_are}
+use Rattle.face_groups.proofs.GroupsBase.GroupLabels.{AreGroupLabels}
+use Rattle.face_groups.proofs.GroupsBase.BuiltGroups.{open_verdict, groups_verdict}
 use Rattle.face_groups.specs.declared.namings.Naming.{Naming}
 use Rattle.face_groups.specs.declared.fault.GroupFault.{GroupFault}
 use Rattle.face_groups.specs.declared.fault.GroupFault.TheVariants.{Open, Memory}
 use Rattle.face_groups.specs.declared.grouping.Grouped.{Grouped}
 use Rattle.face_groups.specs.Namings.{says, AreNamings, AreSectorsOn, AreListsOn, AreOnFaces}
-use Rattle.groups_base.specs.Found.{AreFoundGroups}
+use Rattle.face_groups.specs.GroupsBase.Found.{AreFoundGroups}
 use Rattle.face_groups.specs.NamedFaces.{AreListLabels}
 use Rattle.face_groups.specs.Regrouped.{regrouped_plan}
 use Rattle.face_groups.specs.Verdict.{AreFaceNames, IsFacesVerdict, IsGroupsVerdict}

@@ -2,8 +2,8 @@
 use Rattle.std.specs.Prelude.{◌≡◌, ◌≢◌, ℕ, ◌-◌, ◌<◌, ◌≤◌, ◌⊎◌, List, [], ◌∷◌, ◌++◌, Option, Some, None, Contains, length, slice_get, slice_index_or, MatchOption}
 use Rattle.sight_names.specs.Mesh.{label_of}
 use Rattle.sight_names.specs.Groups.{ListBefore}
-use Rattle.groups_base.specs.Table.{AscendAsLists}
-use Rattle.tri_sectors.specs.Classes.{class_of}
+use Rattle.face_groups.specs.GroupsBase.Table.{AscendAsLists}
+use Rattle.face_groups.specs.TriSectors.Classes.{class_of}
 use Rattle.face_groups.specs.declared.namings.Naming.{Naming}
 use Rattle.face_groups.specs.declared.named_faces.NamedFace.{NamedFace}
 use Rattle.face_groups.specs.Namings.{AreSectorsOn}

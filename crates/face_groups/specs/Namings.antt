@@ -6,8 +6,8 @@ use Rattle.sight_names.specs.Map.{Map, MapLine, line_at, Names}
 use Rattle.sight_names.specs.Mesh.{side_edge, triangle_at}
 use Rattle.sight_names.specs.Order.{Ascends}
 use Rattle.sight_names.specs.Groups.{AscendStrictly}
-use Rattle.tri_sectors.specs.declared.sides.FacedSide.{FacedSide}
-use Rattle.tri_sectors.specs.Classes.{class_of}
+use Rattle.face_groups.specs.declared.tri_sectors.sides.FacedSide.{FacedSide}
+use Rattle.face_groups.specs.TriSectors.Classes.{class_of}
 use Rattle.face_groups.specs.declared.namings.Naming.{Naming}
 
 -- by the face, then by the sector

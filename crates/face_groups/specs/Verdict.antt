@@ -5,10 +5,10 @@ use Rattle.sight_names.specs.declared.names.Triangle.{Triangle}
 use Rattle.sight_names.specs.Plan.{PlanParts}
 use Rattle.sight_names.specs.Map.{Map, map_of}
 use Rattle.mesh_shape.specs.Faults.{IsFirstSideAgainst}
-use Rattle.tri_sectors.specs.Sides.{IsSealedAt}
-use Rattle.tri_sectors.specs.Verdict.{IsClosedSide}
-use Rattle.groups_base.specs.Found.{AreFoundGroups}
-use Rattle.groups_base.specs.Named.{AreNamedAt}
+use Rattle.face_groups.specs.TriSectors.Sides.{IsSealedAt}
+use Rattle.face_groups.specs.TriSectors.Verdict.{IsClosedSide}
+use Rattle.face_groups.specs.GroupsBase.Found.{AreFoundGroups}
+use Rattle.face_groups.specs.GroupsBase.Named.{AreNamedAt}
 use Rattle.face_groups.specs.declared.namings.Naming.{Naming}
 use Rattle.face_groups.specs.declared.fault.GroupFault.{GroupFault}
 use Rattle.face_groups.specs.declared.fault.GroupFault.TheVariants.{Open, Memory}

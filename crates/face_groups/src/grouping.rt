@@ -5,8 +5,8 @@ ghost use Rattle.sight_names.specs.Map.{map_of};
 ghost use Rattle.sight_names.specs.Mesh.{IsPlainMesh};
 ghost use Rattle.sight_names.specs.Plan.{IsPlan};
 ghost use Rattle.mesh_shape.specs.Fills.{FillsSides};
-ghost use Rattle.tri_sectors.specs.Classes.{IsBelow};
-ghost use Rattle.tri_sectors.specs.Faces.{AreMarkedFaces};
+ghost use Rattle.face_groups.specs.TriSectors.Classes.{IsBelow};
+ghost use Rattle.face_groups.specs.TriSectors.Faces.{AreMarkedFaces};
 ghost use Rattle.face_groups.specs.Verdict.{IsFacesVerdict, IsGroupsVerdict};
 
 use crate::fault::GroupFault;
@@ -14,11 +14,11 @@ use crate::lists::Group;
 use crate::namings::namings_of;
 use crate::numbering::{LabelledGroups, labelled_groups};
 use crate::regrouping::regrouped_map;
+use crate::tri_sectors::faces::{faces_of, open_faces, walls_of};
+use crate::tri_sectors::sides::first_open;
 use mesh_shape::{Labels, Mesh};
 use sight_names::{Items, Plan};
 use std::alloc::Global;
-use tri_sectors::faces::{faces_of, open_faces, walls_of};
-use tri_sectors::sides::first_open;
 
 /// The groups of a map in order, the map of groups, and the label of each triangle for it: the place of a group, None
 /// where no side of the triangle's face names a sector.

@@ -6,12 +6,14 @@
 
 mod fault;
 mod grouping;
+pub mod groups_base;
 mod lists;
 mod named_faces;
 mod namings;
 mod numbering;
 mod regrouping;
 mod short_list;
+pub mod tri_sectors;
 
 pub use fault::GroupFault;
 pub use grouping::{Grouped, group_map};

@@ -9,10 +9,10 @@ ghost use Rattle.face_groups.specs.Verdict.{AreFaceNames};
 
 use crate::namings::{Naming, namings_of, sectors_on};
 use crate::short_list::ShortList;
+use crate::tri_sectors::faces::{faces_of, walls_of};
 use mesh_shape::Mesh;
 use sight_names::{Items, Memory, Plan};
 use std::alloc::Global;
-use tri_sectors::faces::{faces_of, walls_of};
 
 /// The sectors of a group, ascending.
 pub type Group = Items<u16>;

@@ -4,15 +4,15 @@ ghost use Rattle.std.specs.Prelude.{◌≡◌, IfOk, All, filter_map, length, ma
 ghost use Rattle.std.specs.List.Sorted.{IsNonDecreasingBy};
 ghost use Rattle.sight_names.specs.Map.{map_of};
 ghost use Rattle.sight_names.specs.Order.{Ascends};
-ghost use Rattle.tri_sectors.specs.Classes.{IsBelow};
+ghost use Rattle.face_groups.specs.TriSectors.Classes.{IsBelow};
 ghost use Rattle.face_groups.specs.declared.namings.Naming.{Naming};
 ghost use Rattle.face_groups.specs.Namings.{said_by, NamingBefore, AreInOrder, AreNamings, AreSectorsOn, IsRunOf, IsStart};
 
 use crate::short_list::FewNumbers;
+use crate::tri_sectors::sides::{FacedSide, faced_sides};
 use mesh_shape::Mesh;
 use sight_names::{Memory, Plan};
 use std::alloc::Global;
-use tri_sectors::sides::{FacedSide, faced_sides};
 
 /// A side of the face names the sector. A face is told by the number of its least triangle.
 #[derive(Clone, Copy, PartialEq, Eq, PartialOrd, Ord)]

@@ -2,7 +2,7 @@
 
 ghost use Rattle.std.specs.Prelude.{◌≡◌, ◌≤◌, ◌↔◌, ℕ, None, All, IfOk, IsTrue, OnOk, length, slice_index_or};
 ghost use Rattle.sight_names.specs.Order.{Ascends};
-ghost use Rattle.tri_sectors.specs.Classes.{IsBelow};
+ghost use Rattle.face_groups.specs.TriSectors.Classes.{IsBelow};
 ghost use Rattle.face_groups.specs.declared.named_faces.NamedFace.{NamedFace};
 ghost use Rattle.face_groups.specs.Namings.{NamingBefore, AreOnFaces};
 ghost use Rattle.face_groups.specs.NamedFaces.{RiseAsLists, AreFacesBelow, IsLast, IsPutBehind, AreNumbered, AreListLabels};
@@ -10,9 +10,9 @@ ghost use Rattle.face_groups.specs.NamedFaces.{RiseAsLists, AreFacesBelow, IsLas
 use crate::lists::Group;
 use crate::named_faces::{NamedFace, named_faces};
 use crate::namings::Naming;
+use crate::tri_sectors::labels_of;
 use sight_names::{Items, Memory};
 use std::alloc::Global;
-use tri_sectors::labels_of;
 
 /// Groups in order, and for each triangle the place of its face's group, None where no side names a sector.
 #[derive(Drop)]

@@ -3,7 +3,7 @@
 ghost use Rattle.std.specs.Prelude.{◌≡◌, ◌<◌, ℕ, Some, IfOk, length, map, option_map};
 ghost use Rattle.sight_names.specs.Map.{map_of};
 ghost use Rattle.sight_names.specs.Mesh.{label_of};
-ghost use Rattle.groups_base.specs.Table.{NamedAreLabelled};
+ghost use Rattle.face_groups.specs.GroupsBase.Table.{NamedAreLabelled};
 ghost use Rattle.face_groups.specs.Regrouped.{label_at_edge, regrouped, regrouped_plan};
 
 use mesh_shape::Mesh;

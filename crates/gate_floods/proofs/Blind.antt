@@ -6,13 +6,13 @@ use Rattle.sight_names.specs.Mesh.{IsGoodMesh}
 use Rattle.sight_names.specs.Sees.{Sees}
 use Rattle.sight_names.specs.Sound.{LinesMeetAtEnds}
 use Rattle.sight_names.specs.Sequence.{Portal, Splits, reached, roots}
-use Rattle.sight_tree.specs.declared.Tree.{Tree}
-use Rattle.list_base.proofs.Options.{none_is_not_some}
-use Rattle.list_base.proofs.Lists.{contains_left}
+use Rattle.block_evidence.specs.declared.sight_tree.Tree.{Tree}
+use Rattle.math_base.proofs.Options.{none_is_not_some}
+use Rattle.math_base.proofs.Lists.{contains_left}
 use Rattle.sight_lift.proofs.LiftLaws.{sight_is_lifted}
 use Rattle.sight_lift.proofs.Sequences.{begun}
-use Rattle.turned_trees.specs.Laws.{ReachesWithin}
-use Rattle.turned_trees.proofs.Cutting.{NoWalls, cut_behind, turned_back}
+use Rattle.gate_floods.specs.TurnedTrees.Laws.{ReachesWithin}
+use Rattle.gate_floods.proofs.TurnedTrees.Cutting.{NoWalls, cut_behind, turned_back}
 use Rattle.gate_floods.specs.Gates.{IsGate, IsBeyond}
 use Rattle.gate_floods.specs.Rows.{IsInRow, IsEmptyRow, HasRow, EntersNone, RootsAsked, KeepsByRows}
 use Rattle.gate_floods.specs.Laws.{ClaimsAreRight}

@@ -7,16 +7,16 @@ use Rattle.sight_names.specs.Map.{Map, MapLine, IsMap, line_at, sector_on}
 use Rattle.sight_names.specs.Mesh.{IsGoodMesh, triangle_at, label_of, side_edge}
 use Rattle.sight_names.specs.Sequence.{Portal, Way, Splits, IsSolidLine, way_out, entry_edge, apex, portals_from, reached}
 use Rattle.sight_names.proofs.Lists.{contains_cases}
-use Rattle.list_base.proofs.Options.{some_is_same}
-use Rattle.list_base.proofs.Lists.{contains_none, all_front}
+use Rattle.math_base.proofs.Options.{some_is_same}
+use Rattle.math_base.proofs.Lists.{contains_none, all_front}
 use Rattle.mesh_base.proofs.GoodMesh.{PointFacts, same_or_not}
 use Rattle.mesh_base.proofs.MapFacts.{map_facts}
 use Rattle.sight_lift.proofs.Behind.{behind}
 use Rattle.sight_lift.proofs.Doors.{Door, Link, way_over, named_is}
 use Rattle.sight_lift.proofs.Sequences.{next_portals, root_is}
 use Rattle.sight_lift.proofs.Tails.{IsCrossed, root_listed, root_portal_is}
-use Rattle.turned_trees.specs.Laws.{ReachesWithin}
-use Rattle.turned_trees.proofs.Cutting.{NoWalls, cut, rooted, last_label, alone}
+use Rattle.gate_floods.specs.TurnedTrees.Laws.{ReachesWithin}
+use Rattle.gate_floods.proofs.TurnedTrees.Cutting.{NoWalls, cut, rooted, last_label, alone}
 use Rattle.gate_floods.specs.Gates.{IsGate, IsBeyond, here, further, MayFollow}
 use Rattle.gate_floods.proofs.Fronts.{IsLater, IsFrom, may_follow, way_later, later_on}
 

@@ -11,10 +11,10 @@ use Rattle.sight_names.proofs.Lists.{contains_cases}
 use Rattle.block_evidence.specs.declared.Evidence.{Evidence}
 use Rattle.block_evidence.specs.Stuck.{BlocksSequence}
 use Rattle.block_evidence.proofs.Answering.{blocked_no_line}
-use Rattle.sight_tree.specs.declared.Node.{Node}
-use Rattle.sight_tree.specs.WholeTree.{HasNoNode}
-use Rattle.list_base.proofs.Options.{some_is_same}
-use Rattle.list_base.proofs.Lists.{last_pushed, contains_none}
+use Rattle.block_evidence.specs.declared.sight_tree.Node.{Node}
+use Rattle.block_evidence.specs.SightTree.WholeTree.{HasNoNode}
+use Rattle.math_base.proofs.Options.{some_is_same}
+use Rattle.math_base.proofs.Lists.{last_pushed, contains_none}
 use Rattle.sight_lift.proofs.Sequences.{begins, next_portals}
 use Rattle.cert_checker.proofs.Seeing.{front_stabbable}
 use Rattle.gate_floods.specs.Rows.{AnswersAsked, no_node, skipped, blocked, open_node, RootsAsked}

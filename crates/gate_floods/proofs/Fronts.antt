@@ -2,7 +2,7 @@
 use Rattle.std.proofs.Common.{◌≡◌, ℕ, ℤ, pos, ◌+ℤ◌, ◌*ℤ◌, neg_ℤ, ◌<ℤ◌, ◌⊎◌, inl, inr, List, arith, sym, subst}
 use Rattle.std.proofs.lemmas.Int.{ints}
 use lib.IntN.{*ℤ-zero}
-use Rattle.exact_ring.proofs.Signs.{mul-le, le_or_lt}
+use Rattle.math_base.proofs.Signs.{mul-le, le_or_lt}
 use Rattle.sight_names.specs.declared.names.Pt.{Pt}
 use Rattle.sight_names.specs.declared.names.Triangle.{Triangle}
 use Rattle.sight_names.specs.Point.{point_of, turn_at}
@@ -11,11 +11,11 @@ use Rattle.sight_names.specs.Map.{Map}
 use Rattle.sight_names.specs.Points.{place}
 use Rattle.sight_names.specs.Sequence.{Portal, Way, Left, Right, way_out}
 use Rattle.plane_base.proofs.Vec.{Lin, at, edge, det, det-swap}
-use Rattle.sight_laws.proofs.Bridge.{value_at_is, turn_at_is}
-use Rattle.sight_laws.proofs.Places.{norm}
-use Rattle.sight_laws.proofs.Crossings.{crossing_on, at_crossing, norm_above, turn_pos, before_turn}
+use Rattle.mesh_base.proofs.SightLaws.Bridge.{value_at_is, turn_at_is}
+use Rattle.mesh_base.proofs.SightLaws.Places.{norm}
+use Rattle.mesh_base.proofs.SightLaws.Crossings.{crossing_on, at_crossing, norm_above, turn_pos, before_turn}
 use Rattle.mesh_base.proofs.Joined.{whole}
-use Rattle.enough_base.proofs.Crossings.{line, cross, wide, Later, later_trans, crossed_left, crossed_right}
+use Rattle.sight_lift.proofs.EnoughBase.Crossings.{line, cross, wide, Later, later_trans, crossed_left, crossed_right}
 use Rattle.sight_lift.proofs.Behind.{Behind}
 use Rattle.sight_lift.proofs.Tails.{IsCrossed}
 use Rattle.gate_floods.specs.Gates.{MayFollow}

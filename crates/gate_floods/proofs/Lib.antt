@@ -9,3 +9,6 @@ pub mod RowBits
 pub mod Owned
 pub mod Masks
 pub mod Once
+pub mod TurnedTrees
+pub mod GateMasks
+pub mod RowJudge

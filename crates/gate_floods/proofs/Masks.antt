@@ -5,10 +5,10 @@ use Rattle.sight_names.specs.Map.{Map, MapLine, IsMap, IsMapLine, sector_on}
 use Rattle.sight_names.specs.Found.{AreConnected}
 use Rattle.sight_names.specs.Sequence.{Portal}
 use Rattle.cert_format.specs.Parts.{CertParts}
-use Rattle.accepted_groups.specs.Accepted.{AreGroupsJoined}
-use Rattle.list_base.proofs.Bools.{by_value}
+use Rattle.cert_checker.specs.AcceptedGroups.Accepted.{AreGroupsJoined}
+use Rattle.math_base.proofs.Bools.{by_value}
 use Rattle.sight_lift.proofs.Doors.{door_neighbours}
-use Rattle.turned_trees.proofs.Blind.{chain_on}
+use Rattle.gate_floods.proofs.TurnedTrees.Blind.{chain_on}
 use Rattle.gate_floods.specs.Gates.{IsGate, IsBeyond, here, further, IsInMask, MayFollow}
 use Rattle.gate_floods.specs.Exact.{IsClaimed}
 use Rattle.gate_floods.specs.Bits.{is_joined, both_rows, joined_row}

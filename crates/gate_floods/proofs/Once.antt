@@ -7,11 +7,11 @@ use Rattle.sight_names.specs.declared.names.Triangle.{Triangle}
 use Rattle.sight_names.specs.Map.{Map}
 use Rattle.sight_names.specs.Mesh.{label_of}
 use Rattle.sight_names.specs.Sequence.{Portal, Left, Right, way_out, apex, roots}
-use Rattle.sight_tree.specs.declared.Node.{Node}
-use Rattle.sight_tree.specs.declared.Node.TheVariants.{Open, Blocked}
-use Rattle.sight_tree.specs.WholeTree.{HasNoNode, HasNode}
-use Rattle.list_base.proofs.Options.{some_is_same}
-use Rattle.turned_trees.proofs.Once.{same_tail, same_head, not_blocked, both}
+use Rattle.block_evidence.specs.declared.sight_tree.Node.{Node}
+use Rattle.block_evidence.specs.declared.sight_tree.Node.TheVariants.{Open, Blocked}
+use Rattle.block_evidence.specs.SightTree.WholeTree.{HasNoNode, HasNode}
+use Rattle.math_base.proofs.Options.{some_is_same}
+use Rattle.gate_floods.proofs.TurnedTrees.Once.{same_tail, same_head, not_blocked, both}
 use Rattle.gate_floods.specs.Rows.{AnswersAsked, no_node, skipped, blocked, open_node, RootsAsked, IsEmptyRow, HasRow, EntersNone}
 use Rattle.gate_floods.specs.Exact.{IsClaimed, IsOwned}
 use Rattle.gate_floods.specs.Laws.{TreesAreReadOnce}

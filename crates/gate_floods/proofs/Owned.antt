@@ -4,12 +4,12 @@ use Rattle.std.proofs.lemmas.Bool.{ltb-true, lt-ltb}
 use Rattle.std.proofs.lemmas.Option.{slice_get-get_or, get_or_from_slice_get}
 use Rattle.std.specs.Prelude.{get_or, nat_lt}
 use Rattle.sight_names.specs.Map.{Map}
-use Rattle.tri_sectors.specs.Components.{AreComponents}
+use Rattle.face_groups.specs.TriSectors.Components.{AreComponents}
 use Rattle.cert_format.specs.Parts.{CertParts}
 use Rattle.cert_checker.proofs.Components.{one_component, one_number}
-use Rattle.list_base.proofs.Bools.{both_true, first_true, second_true, one_true, true_by_first, true_by_second, false_of_not, false_where_not_true}
-use Rattle.list_base.proofs.Numbers.{tells_same}
-use Rattle.list_base.proofs.Options.{some_is_same}
+use Rattle.math_base.proofs.Bools.{both_true, first_true, second_true, one_true, true_by_first, true_by_second, false_of_not, false_where_not_true}
+use Rattle.math_base.proofs.Numbers.{tells_same}
+use Rattle.math_base.proofs.Options.{some_is_same}
 use Rattle.gate_floods.specs.Exact.{IsClaimed, RanksBefore, IsOwned}
 use Rattle.gate_floods.specs.Bits.{is_joined, ranks_before, is_owned, owned_row}
 use Rattle.gate_floods.specs.Laws.{OwnedRowsTell}

@@ -4,11 +4,11 @@ use Rattle.sight_names.specs.declared.names.Pair.{Pair}
 use Rattle.sight_names.specs.declared.names.PairRay.{PairRay}
 use Rattle.sight_names.proofs.Lists.{contains_cases, contains_tail}
 use Rattle.cert_format.specs.Parts.{CertParts}
-use Rattle.accepted_groups.specs.Accepted.{AreGroupsJoined}
-use Rattle.list_base.proofs.Bools.{both_true, first_true, second_true, one_true, true_by_first, true_by_second, first_false, second_false, not_both_values}
-use Rattle.list_base.proofs.Lists.{contains_none, contains_here}
-use Rattle.list_base.proofs.Numbers.{same_or_not, tells_same, tells_other}
-use Rattle.list_base.proofs.Options.{none_is_not_some, some_is_same}
+use Rattle.cert_checker.specs.AcceptedGroups.Accepted.{AreGroupsJoined}
+use Rattle.math_base.proofs.Bools.{both_true, first_true, second_true, one_true, true_by_first, true_by_second, first_false, second_false, not_both_values}
+use Rattle.math_base.proofs.Lists.{contains_none, contains_here}
+use Rattle.math_base.proofs.Numbers.{same_or_not, tells_same, tells_other}
+use Rattle.math_base.proofs.Options.{none_is_not_some, some_is_same}
 use Rattle.gate_floods.specs.Exact.{IsClaimed, IsOwned}
 use Rattle.gate_floods.specs.Bits.{both_rows, has_bit, has_ray, is_joined, bits_from}
 use Rattle.gate_floods.specs.Laws.{RowsAreBits, JoinedRowsTell}

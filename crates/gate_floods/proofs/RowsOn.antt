@@ -7,10 +7,10 @@ use Rattle.sight_names.specs.Points.{Edge, reverse_of}
 use Rattle.sight_names.specs.Mesh.{IsGoodMesh, triangle_at, label_of, side_edge}
 use Rattle.sight_names.specs.Sequence.{Portal, entry_edge}
 use Rattle.sight_names.proofs.Lists.{contains_cases}
-use Rattle.list_base.proofs.Lists.{contains_none, contains_here, contains_left, contains_right, contains_append}
-use Rattle.list_base.proofs.Options.{some_is_same}
+use Rattle.math_base.proofs.Lists.{contains_none, contains_here, contains_left, contains_right, contains_append}
+use Rattle.math_base.proofs.Options.{some_is_same}
 use Rattle.sight_lift.proofs.Doors.{other_edge, named_is}
-use Rattle.list_base.proofs.Bools.{not_not}
+use Rattle.math_base.proofs.Bools.{not_not}
 use Rattle.gate_floods.specs.Gates.{IsGate, IsInMask}
 use Rattle.gate_floods.specs.Rows.{IsInRow}
 use Rattle.gate_floods.specs.Exact.{IsClaimed, IsOwned}

@@ -12,23 +12,23 @@ use Rattle.sight_names.specs.Ray.{IsSightRay}
 use Rattle.sight_names.specs.Groups.{IsInGroup}
 use Rattle.sight_names.proofs.Laws.{sees_sym}
 use Rattle.sight_names.proofs.PlanMap.{plan_is_map}
-use Rattle.sight_laws.proofs.SightLaws.{sight_sees}
+use Rattle.mesh_base.proofs.SightLaws.SightLaws.{sight_sees}
 use Rattle.mesh_base.proofs.GoodMesh.{PointFacts, same_or_not}
 use Rattle.mesh_base.proofs.PlanFacts.{plan_facts}
-use Rattle.sight_tree.specs.declared.Tree.{Tree}
+use Rattle.block_evidence.specs.declared.sight_tree.Tree.{Tree}
 use Rattle.cert_format.specs.Parts.{CertParts}
 use Rattle.cert_format.specs.Accepted.{triangles_of, labels_of, HasRay}
-use Rattle.cert_groups.specs.declared.cert.CertTwo.{CertTwo}
-use Rattle.groups_base.specs.Table.{NamesTheLabels}
-use Rattle.groups_base.proofs.CheckedGroups.{table_is_good, table_is_map, table_is_sound, table_sees, table_one_group}
-use Rattle.accepted_groups.specs.Accepted.{AreGroupsJoined}
+use Rattle.cert_format.specs.declared.cert_groups.cert.CertTwo.{CertTwo}
+use Rattle.face_groups.specs.GroupsBase.Table.{NamesTheLabels}
+use Rattle.face_groups.proofs.GroupsBase.CheckedGroups.{table_is_good, table_is_map, table_is_sound, table_sees, table_one_group}
+use Rattle.cert_checker.specs.AcceptedGroups.Accepted.{AreGroupsJoined}
 use Rattle.sight_lift.proofs.LiftLaws.{sight_connects}
 use Rattle.cert_checker.proofs.Components.{connected_back}
-use Rattle.list_base.proofs.Numbers.{either_order}
+use Rattle.math_base.proofs.Numbers.{either_order}
 use Rattle.gate_floods.specs.Rows.{KeepsByRows}
 use Rattle.gate_floods.specs.Exact.{IsClaimed, RanksBefore, IsOwned, IsExactOver}
 use Rattle.gate_floods.specs.Bits.{rank_of}
-use Rattle.cert_exact.specs.Grammar.{as_two}
+use Rattle.certificates.specs.CertExact.Grammar.{as_two}
 use Rattle.gate_floods.specs.Laws.{ExactTells, VersionThreeTells}
 use Rattle.gate_floods.proofs.Blind.{claims_are_right}
 

@@ -8,16 +8,16 @@ use Rattle.sight_names.specs.Sees.{Sees}
 use Rattle.sight_names.specs.Mesh.{IsGoodMesh}
 use Rattle.sight_names.specs.Sequence.{Portal, Sequence, IsSequence, IsStabbable}
 use Rattle.reject_bits.specs.Parts.{TableParts}
-use Rattle.sight_tree.specs.declared.Node.{Node}
-use Rattle.sight_tree.specs.declared.Tree.{Tree}
-use Rattle.tri_sectors.specs.Components.{AreComponents}
+use Rattle.block_evidence.specs.declared.sight_tree.Node.{Node}
+use Rattle.block_evidence.specs.declared.sight_tree.Tree.{Tree}
+use Rattle.face_groups.specs.TriSectors.Components.{AreComponents}
 use Rattle.cert_format.specs.Parts.{CertParts}
-use Rattle.accepted_groups.specs.Accepted.{AreGroupsJoined}
-use Rattle.cert_groups.specs.declared.cert.CertTwo.{CertTwo}
+use Rattle.cert_checker.specs.AcceptedGroups.Accepted.{AreGroupsJoined}
+use Rattle.cert_format.specs.declared.cert_groups.cert.CertTwo.{CertTwo}
 use Rattle.gate_floods.specs.Gates.{IsGate, IsBeyond, IsInMask, MayFollow}
 use Rattle.gate_floods.specs.Rows.{IsInRow, IsEmptyRow, HasRow, KeepsByRows}
-use Rattle.turned_trees.specs.Exact.{TellsAll}
-use Rattle.cert_exact.specs.declared.cert.ExactParts.{ExactParts}
+use Rattle.gate_floods.specs.TurnedTrees.Exact.{TellsAll}
+use Rattle.certificates.specs.declared.cert_exact.cert.ExactParts.{ExactParts}
 use Rattle.gate_floods.specs.Exact.{IsClaimed, IsOwned, IsAcceptedExact, IsAcceptedThree}
 use Rattle.gate_floods.specs.Bits.{IsRowOf, both_rows, has_bit, joined_row, owned_row}
 

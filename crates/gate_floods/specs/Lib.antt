@@ -3,3 +3,6 @@ pub mod Rows
 pub mod Exact
 pub mod Bits
 pub mod Laws
+pub mod TurnedTrees
+pub mod GateMasks
+pub mod RowJudge

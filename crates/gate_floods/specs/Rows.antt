@@ -7,10 +7,10 @@ use Rattle.sight_names.specs.Map.{Map}
 use Rattle.sight_names.specs.Sequence.{Portal, Left, Right, way_out, apex, root_portal, roots, reached}
 use Rattle.block_evidence.specs.declared.Evidence.{Evidence}
 use Rattle.block_evidence.specs.Stuck.{BlocksSequence}
-use Rattle.sight_tree.specs.declared.Node.{Node}
-use Rattle.sight_tree.specs.declared.Node.TheVariants.{Open, Blocked}
-use Rattle.sight_tree.specs.declared.Tree.{Tree}
-use Rattle.sight_tree.specs.WholeTree.{HasNoNode, HasNode}
+use Rattle.block_evidence.specs.declared.sight_tree.Node.{Node}
+use Rattle.block_evidence.specs.declared.sight_tree.Node.TheVariants.{Open, Blocked}
+use Rattle.block_evidence.specs.declared.sight_tree.Tree.{Tree}
+use Rattle.block_evidence.specs.SightTree.WholeTree.{HasNoNode, HasNode}
 use Rattle.gate_floods.specs.Gates.{IsGate, IsInMask}
 
 -- c is in the row behind these portals: the tree is to keep from it, and it is in the mask of each gate among them

@@ -5,4 +5,7 @@
 //! lemma that proves it.
 #![tactic(auto)]
 
+pub mod gate_masks;
 pub mod laws;
+pub mod row_judge;
+pub mod turned_trees;

@@ -1,8 +1,8 @@
 -- Where a ray's line crosses a segment, as a fraction along the ray.
 use Rattle.std.proofs.Common.{◌<◌, ℤ, pos, negsuc, nat_abs, ◌+ℤ◌, ◌-ℤ◌, ◌*ℤ◌, neg_ℤ, ◌<ℤ◌, ◌≤ℤ◌, ◌≡◌, [], ◌∷◌, arith, refl, sym, ap, ap₂, ◌∙◌, subst, inl, inr, int_cmp, Less, Equal, Greater}
 use Rattle.std.proofs.lemmas.Int.{ints}
-use Rattle.exact_ring.proofs.Quoting.{quoting, by_ring, combine1, combine2, combine3}
-use Rattle.exact_ring.proofs.Signs.{mul-pos, same-of-mul, sign_cases}
+use Rattle.math_base.proofs.Quoting.{quoting, by_ring, combine1, combine2, combine3}
+use Rattle.math_base.proofs.Signs.{mul-pos, same-of-mul, sign_cases}
 use Rattle.sight_names.specs.declared.names.Pt.{Pt}
 use Rattle.sight_names.specs.declared.names.Ray.{Ray}
 use Rattle.sight_names.specs.Point.{Point}
@@ -10,7 +10,7 @@ use Rattle.sight_names.specs.Ray.{ray_value, along}
 use Rattle.geom_exact.specs.Formulas.{side_value, forward, AreOnTwoSides}
 use Rattle.geom_exact.specs.Crossings.{IsCrossingOf, IsPlacedBy, IsCrossOrder}
 use Rattle.geom_exact.proofs.SegmentLemmas.{on, segment, other_way, IsWeighted}
-use Rattle.exact_ring.proofs.Small.{nonneg_of_pos, nonneg_of_neg, cross_weights, zero_by_second}
+use Rattle.math_base.proofs.Small.{nonneg_of_pos, nonneg_of_neg, cross_weights, zero_by_second}
 use Rattle.sight_names.proofs.Portals.{scale_above}
 
 -- the side of a mean is the mean of the sides

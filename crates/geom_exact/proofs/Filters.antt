@@ -1,15 +1,15 @@
 -- Segments that are apart since one lies below the other, or before it by x and then y.
 use Rattle.std.proofs.Common.{ℤ, pos, ◌+ℤ◌, ◌-ℤ◌, ◌*ℤ◌, neg_ℤ, nat_abs, ◌<ℤ◌, ◌≤ℤ◌, ◌≡◌, inl, inr, [], ◌∷◌, arith, sym, ap, subst}
 use Rattle.std.proofs.lemmas.Int.{ints}
-use Rattle.exact_ring.proofs.Quoting.{quoting, by_ring}
-use Rattle.exact_ring.proofs.Signs.{mul-le, le_or_lt}
+use Rattle.math_base.proofs.Quoting.{quoting, by_ring}
+use Rattle.math_base.proofs.Signs.{mul-le, le_or_lt}
 use Rattle.sight_names.specs.declared.names.Pt.{Pt}
 use Rattle.sight_names.specs.Point.{point_of, value_at}
 use Rattle.sight_names.specs.Plan.{IsBefore}
 use Rattle.sight_names.proofs.Affine.{value_pos, value_nonpos}
 use Rattle.geom_exact.specs.declared.Relation.TheVariants.{Apart}
 use Rattle.geom_exact.specs.Common.{IsRelation}
-use Rattle.exact_ring.proofs.Small.{le_of_lt, le_itself, pos_difference, nonpos_not_pos}
+use Rattle.math_base.proofs.Small.{le_of_lt, le_itself, pos_difference, nonpos_not_pos}
 
 -- a line a * x + b * y + c with the second segment strictly on the one side, and the first not on it
 pub parted : (a b c : ℤ) (p q r s : Pt) → value_at a b c (point_of p) ≤ℤ pos 0 → value_at a b c (point_of q) ≤ℤ pos 0 → pos 0 <ℤ value_at a b c (point_of r) → pos 0 <ℤ value_at a b c (point_of s) → IsRelation p q r s Apart

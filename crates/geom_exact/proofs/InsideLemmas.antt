@@ -1,6 +1,6 @@
 -- Strictly inside a triangle: the three turns are above 0 exactly where the point is a mean of the corners with three weights above 0.
 use Rattle.std.proofs.Common.{ℤ, pos, ◌+ℤ◌, ◌-ℤ◌, ◌*ℤ◌, ◌<ℤ◌, ◌≡◌, [], ◌∷◌}
-use Rattle.exact_ring.proofs.Quoting.{quoting, by_ring, ring_at, combine2}
+use Rattle.math_base.proofs.Quoting.{quoting, by_ring, ring_at, combine2}
 use Rattle.sight_names.specs.declared.names.Pt.{Pt}
 use Rattle.geom_exact.specs.Formulas.{turn_of}
 

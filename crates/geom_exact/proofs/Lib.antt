@@ -5,3 +5,5 @@ pub mod CrossingLemmas
 pub mod InsideLemmas
 pub mod Meeting
 pub mod Filters
+pub mod ExtremeLines
+pub mod LineSpans

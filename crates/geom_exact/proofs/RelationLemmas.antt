@@ -1,8 +1,8 @@
 -- From the signs of the four turns to what two segments have in common.
 use Rattle.std.proofs.Common.{ℤ, pos, negsuc, ◌+ℤ◌, ◌-ℤ◌, ◌*ℤ◌, neg_ℤ, ◌<ℤ◌, ◌≤ℤ◌, ◌≡◌, [], ◌∷◌, arith, refl, sym, ap, ap₂, ◌∙◌, subst, ◌⊎◌, inl, inr}
 use Rattle.std.proofs.lemmas.Int.{ints}
-use Rattle.exact_ring.proofs.Quoting.{quoting, by_ring, combine1, combine2}
-use Rattle.exact_ring.proofs.Signs.{mul-nonneg, mul-pos, zero-of-mul, nonneg-of-mul, sign_cases, le_or_lt}
+use Rattle.math_base.proofs.Quoting.{quoting, by_ring, combine1, combine2}
+use Rattle.math_base.proofs.Signs.{mul-nonneg, mul-pos, zero-of-mul, nonneg-of-mul, sign_cases, le_or_lt}
 use Rattle.sight_names.specs.declared.names.Pt.{Pt}
 use Rattle.sight_names.specs.Point.{Point, point_of, SamePoint, OnSegment}
 use Rattle.sight_names.specs.Sound.{IsCommon, IsEndOf}
@@ -11,8 +11,8 @@ use Rattle.geom_exact.specs.declared.Relation.{Relation}
 use Rattle.geom_exact.specs.declared.Relation.TheVariants.{Apart, Overlap, Ends, Touch, Cross}
 use Rattle.geom_exact.specs.Formulas.{turn_of, reach_of, AreOnOneSide}
 use Rattle.geom_exact.specs.Common.{IsOnlyCommon, IsRelation, AreLaid, IsMeeting}
-use Rattle.exact_ring.proofs.Small.{same_without_one, lt_of_zero, le_of_zero, le_of_lt, pos_difference, le_of_difference, pos_not_zero, neg_not_zero}
-use Rattle.exact_ring.proofs.MoreSigns.{sum-pos}
+use Rattle.math_base.proofs.Small.{same_without_one, lt_of_zero, le_of_zero, le_of_lt, pos_difference, le_of_difference, pos_not_zero, neg_not_zero}
+use Rattle.math_base.proofs.MoreSigns.{sum-pos}
 use Rattle.sight_names.proofs.Meets.{end_flip}
 use Rattle.sight_names.proofs.Laws.{same_point_refl}
 use Rattle.sight_names.proofs.Portals.{scale_above}

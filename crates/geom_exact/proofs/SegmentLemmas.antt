@@ -1,13 +1,13 @@
 -- The points of a segment by two numbers: how far left of its line, and how far along it.
 use Rattle.std.proofs.Common.{ℕ, ◌+◌, ◌<◌, ℤ, pos, negsuc, ◌+ℤ◌, ◌-ℤ◌, ◌*ℤ◌, neg_ℤ, nat_abs, ◌<ℤ◌, ◌≤ℤ◌, ◌≡◌, [], ◌∷◌, arith, refl, sym, ap, ◌∙◌, subst, inl, inr}
 use Rattle.std.proofs.lemmas.Int.{ints}
-use Rattle.exact_ring.proofs.Quoting.{quoting, by_ring, combine1, combine2, combine3}
-use Rattle.exact_ring.proofs.Signs.{mul-nonneg, mul-pos, square-nonneg, zero-of-mul, nonneg-of-mul, same-of-mul, same-of-factor}
+use Rattle.math_base.proofs.Quoting.{quoting, by_ring, combine1, combine2, combine3}
+use Rattle.math_base.proofs.Signs.{mul-nonneg, mul-pos, square-nonneg, zero-of-mul, nonneg-of-mul, same-of-mul, same-of-factor}
 use Rattle.sight_names.specs.declared.names.Pt.{Pt}
 use Rattle.sight_names.specs.Point.{Point, point_of, SamePoint, IsMean, OnSegment, turn_at}
 use Rattle.geom_exact.specs.Formulas.{turn_of, reach_of}
-use Rattle.exact_ring.proofs.Small.{zero_or_not, same_where_no_difference, nonneg_of_nonpos, cross_weights, abs_of_nonneg, some_of_sum, nat_nonneg}
-use Rattle.exact_ring.proofs.MoreSigns.{square-pos}
+use Rattle.math_base.proofs.Small.{zero_or_not, same_where_no_difference, nonneg_of_nonpos, cross_weights, abs_of_nonneg, some_of_sum, nat_nonneg}
+use Rattle.math_base.proofs.MoreSigns.{square-pos}
 use Rattle.sight_names.proofs.Records.{same_pt}
 use Rattle.sight_names.proofs.Portals.{scale_above}
 

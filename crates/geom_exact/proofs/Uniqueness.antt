@@ -1,7 +1,7 @@
 -- Two segments have one relation, and what it says of ends doesn't depend on the point that stands for the common one.
 use Rattle.std.proofs.Common.{ℤ, pos, ◌*ℤ◌, ◌<ℤ◌, ◌≡◌, [], ◌∷◌, refl, inl, inr}
-use Rattle.exact_ring.proofs.Quoting.{quoting, by_ring, combine2}
-use Rattle.exact_ring.proofs.Signs.{same-of-mul}
+use Rattle.math_base.proofs.Quoting.{quoting, by_ring, combine2}
+use Rattle.math_base.proofs.Signs.{same-of-mul}
 use Rattle.sight_names.specs.declared.names.Pt.{Pt}
 use Rattle.sight_names.specs.Point.{Point, point_of, SamePoint}
 use Rattle.sight_names.specs.Sound.{IsEndOf}

@@ -2,6 +2,9 @@
 //! stay inside i64 and i128.
 #![tactic(auto)]
 
+pub mod extreme_lines;
+pub mod line_spans;
+
 ghost use Rattle.std.specs.Prelude.{◌≡◌, ◌≢◌, ◌≤◌, ◌<◌, ◌*◌, ◌^◌, ◌-ℤ◌, ◌*ℤ◌, ◌<ℤ◌, unsigned_abs, IsTrue, ◌↔◌, ◌⊎◌, pos};
 ghost use Rattle.sight_names.specs.Ray.{IsInRange};
 ghost use Rattle.geom_exact.specs.Formulas.{turn_of, reach_of, side_value, forward, AreOnOneSide, AreOnTwoSides};

@@ -13,13 +13,13 @@ use Rattle.mesh_base.proofs.PlanFacts.{plan_facts}
 use Rattle.mesh_shape.specs.Faults.{IsFirstFault}
 use Rattle.reject_bits.specs.Parts.{TableParts}
 use Rattle.cert_format.specs.Accepted.{triangles_of, labels_of, EitherSet, EitherClear}
-use Rattle.cert_groups.specs.declared.cert.CertTwo.{CertTwo}
-use Rattle.cert_groups.specs.Grammar.{IsGroupInOrder}
-use Rattle.groups_base.specs.Named.{AreNamedAt}
-use Rattle.groups_base.specs.Table.{IsTableFor, IsNamedByTable}
-use Rattle.groups_base.proofs.CheckedGroups.{table_is_good}
-use Rattle.groups_base.proofs.SamePoints.{plain_alike, no_line_edge}
-use Rattle.accepted_groups.specs.Accepted.{IsPairOfList, IsGroupedBlind, IsGroupedSeen, IsAcceptedOver, IsAcceptedTwo}
+use Rattle.cert_format.specs.declared.cert_groups.cert.CertTwo.{CertTwo}
+use Rattle.cert_format.specs.CertGroups.Grammar.{IsGroupInOrder}
+use Rattle.face_groups.specs.GroupsBase.Named.{AreNamedAt}
+use Rattle.face_groups.specs.GroupsBase.Table.{IsTableFor, IsNamedByTable}
+use Rattle.face_groups.proofs.GroupsBase.CheckedGroups.{table_is_good}
+use Rattle.face_groups.proofs.GroupsBase.SamePoints.{plain_alike, no_line_edge}
+use Rattle.cert_checker.specs.AcceptedGroups.Accepted.{IsPairOfList, IsGroupedBlind, IsGroupedSeen, IsAcceptedOver, IsAcceptedTwo}
 use Rattle.cert_checker.specs.declared.verdict.Totals.{Totals}
 use Rattle.cert_checker.proofs.Accepting.{broken_rule, member_at, wrong_ray}
 use Rattle.group_checker.specs.declared.verdict.AnyFault.{AnyFault}

@@ -16,9 +16,9 @@ use Rattle.mesh_shape.specs.Shape.{MeshParts}
 use Rattle.reject_bits.specs.Parts.{TableParts}
 use Rattle.cert_format.specs.declared.cert.Labelled.{Labelled}
 use Rattle.cert_format.specs.Accepted.{triangles_of, labels_of}
-use Rattle.cert_groups.specs.declared.cert.CertTwo.{CertTwo}
-use Rattle.groups_base.specs.Table.{NamedAreLabelled, NamesTheLabels}
-use Rattle.groups_base.proofs.SamePoints.{plain_alike}
+use Rattle.cert_format.specs.declared.cert_groups.cert.CertTwo.{CertTwo}
+use Rattle.face_groups.specs.GroupsBase.Table.{NamedAreLabelled, NamesTheLabels}
+use Rattle.face_groups.proofs.GroupsBase.SamePoints.{plain_alike}
 use Rattle.face_groups.specs.Regrouped.{regrouped_plan}
 use Rattle.face_groups.proofs.RegroupedPlan.{names_the_labels}
 use Rattle.cert_checker.specs.Apart.{triangles_in, labels_in}

@@ -7,8 +7,8 @@ use Rattle.sight_names.specs.declared.names.Pair.{Pair}
 use Rattle.sight_names.specs.declared.names.PairRay.{PairRay}
 use Rattle.sight_names.specs.Groups.{IsInGroup}
 use Rattle.sight_names.proofs.Lists.{contains_cases, contains_tail}
-use Rattle.list_base.proofs.Lists.{contains_here, contains_left, contains_right}
-use Rattle.list_base.proofs.Numbers.{below_same_or_above}
+use Rattle.math_base.proofs.Lists.{contains_here, contains_left, contains_right}
+use Rattle.math_base.proofs.Numbers.{below_same_or_above}
 use Rattle.reject_bits.specs.Parts.{TableParts, Rejects, SetsPair, KeepsOtherPairs}
 use Rattle.cert_checker.specs.Pairs.{pair, IsWithin}
 use Rattle.group_checker.specs.Members.{added, AreGroupsWith, AreGroupsWithBelow, AreMembers}

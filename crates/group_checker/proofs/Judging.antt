@@ -11,14 +11,14 @@ use Rattle.sight_names.specs.Map.{Map}
 use Rattle.sight_names.specs.Groups.{IsInGroup}
 use Rattle.sight_names.specs.Order.{Ascends, PairBefore}
 use Rattle.sight_names.proofs.Lists.{get_of_contains, contains_of_get}
-use Rattle.tri_sectors.specs.Components.{AreComponents}
+use Rattle.face_groups.specs.TriSectors.Components.{AreComponents}
 use Rattle.cert_format.specs.Accepted.{EitherSet, EitherClear}
 use Rattle.cert_format.specs.Grammar.{IsPairInRange, IsRayInRange}
 use Rattle.cert_format.specs.declared.cert.Sizes.{Sizes}
 use Rattle.cert_format.proofs.LimitLaws.{few_of}
-use Rattle.cert_groups.specs.declared.cert.CertTwo.{CertTwo}
-use Rattle.tree_judge.specs.Trees.{TellsReach}
-use Rattle.accepted_groups.specs.Accepted.{IsPairOfList, AreGroupsApart, AreGroupsJoined, IsGroupedBlind, IsGroupedSeen}
+use Rattle.cert_format.specs.declared.cert_groups.cert.CertTwo.{CertTwo}
+use Rattle.cert_checker.specs.TreeJudge.Trees.{TellsReach}
+use Rattle.cert_checker.specs.AcceptedGroups.Accepted.{IsPairOfList, AreGroupsApart, AreGroupsJoined, IsGroupedBlind, IsGroupedSeen}
 use Rattle.cert_checker.specs.declared.verdict.Totals.{Totals}
 use Rattle.cert_checker.specs.declared.verdict.Verdict.TheVariants.{Yes, No}
 use Rattle.cert_checker.specs.Pairs.{pair, AreTotals, IsWithin}

@@ -11,3 +11,4 @@ pub mod Listing
 pub mod Ending
 pub mod OneAny
 pub mod SameAnyBits
+pub mod CheckWorkers

@@ -9,11 +9,11 @@ use Rattle.sight_names.specs.Map.{Map}
 use Rattle.sight_names.specs.Mesh.{label_of}
 use Rattle.mesh_shape.specs.Faults.{IsFirstAgainst}
 use Rattle.mesh_shape.specs.Search.{IsSearch, IsSideSearch}
-use Rattle.tri_sectors.specs.Classes.{class_of}
-use Rattle.tri_sectors.specs.Sides.{IsSealedAt}
-use Rattle.tree_judge.specs.Marks.{IsMarked, HasNoMark}
-use Rattle.groups_base.specs.Named.{AreNamedAt}
-use Rattle.groups_base.proofs.Ordered.{ascending_same}
+use Rattle.face_groups.specs.TriSectors.Classes.{class_of}
+use Rattle.face_groups.specs.TriSectors.Sides.{IsSealedAt}
+use Rattle.cert_checker.specs.TreeJudge.Marks.{IsMarked, HasNoMark}
+use Rattle.face_groups.specs.GroupsBase.Named.{AreNamedAt}
+use Rattle.face_groups.proofs.GroupsBase.Ordered.{ascending_same}
 use Rattle.face_groups.specs.Verdict.{AreFaceNames}
 use Rattle.group_checker.specs.Meshes.{HasTriangleAt}
 use Rattle.group_checker.specs.Lists.{AreGroupLabels, IsListRight, IsUsedGroup, IsUsedBelow, IsGroupOf, HasItsList}

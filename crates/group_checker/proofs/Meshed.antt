@@ -12,9 +12,9 @@ use Rattle.sight_names.specs.Map.{Map, named}
 use Rattle.sight_names.specs.Mesh.{IsGoodMesh, label_of, side_edge, triangle_at}
 use Rattle.sight_names.specs.Groups.{unnamed}
 use Rattle.mesh_shape.specs.Faults.{TurnsAt, HasMatesAt, FitsAt, IsFirstAgainst, IsFirstSideAgainst, IsFirstFault}
-use Rattle.groups_base.specs.Table.{NamesTheLabels}
-use Rattle.groups_base.proofs.SameLines.{lines_alike, line_of, same_lines_sym}
-use Rattle.groups_base.proofs.SamePoints.{place_alike, side_edge_alike, no_line_edge}
+use Rattle.face_groups.specs.GroupsBase.Table.{NamesTheLabels}
+use Rattle.face_groups.proofs.GroupsBase.SameLines.{lines_alike, line_of, same_lines_sym}
+use Rattle.face_groups.proofs.GroupsBase.SamePoints.{place_alike, side_edge_alike, no_line_edge}
 use Rattle.group_checker.specs.Meshes.{HasTriangleAt, IsFirstMeshFault, earlier_of}
 
 -- ---- the rules that don't speak of names, over two maps with the same lines

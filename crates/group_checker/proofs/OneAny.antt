@@ -12,10 +12,10 @@ use Rattle.sight_names.specs.Mesh.{IsGoodMesh}
 use Rattle.mesh_shape.specs.Faults.{IsFirstFault}
 use Rattle.reject_bits.specs.Parts.{TableParts}
 use Rattle.cert_format.specs.Accepted.{triangles_of, labels_of, EitherSet}
-use Rattle.cert_groups.specs.declared.cert.CertTwo.{CertTwo}
-use Rattle.accepted_groups.specs.Accepted.{IsPairOfList, IsGroupedBlind}
-use Rattle.tree_judge.specs.Trees.{AreTreesWhole}
-use Rattle.tree_judge.proofs.OneTree.{one_wrong_tree}
+use Rattle.cert_format.specs.declared.cert_groups.cert.CertTwo.{CertTwo}
+use Rattle.cert_checker.specs.AcceptedGroups.Accepted.{IsPairOfList, IsGroupedBlind}
+use Rattle.cert_checker.specs.TreeJudge.Trees.{AreTreesWhole}
+use Rattle.cert_checker.proofs.TreeJudge.OneTree.{one_wrong_tree}
 use Rattle.cert_checker.specs.Rays.{AreSightRaysBelow}
 use Rattle.cert_checker.specs.Judged.{JudgesRays, JudgesTrees}
 use Rattle.cert_checker.specs.declared.verdict.Totals.{Totals}
@@ -29,7 +29,7 @@ use Rattle.group_checker.specs.declared.verdict.AnyVerdict.TheVariants.{Yes, No}
 use Rattle.group_checker.specs.Judged.{InWordsOfOne, IsPairRight, IsReached, TellsGroups, TellsMesh, TellsPairs, with_list}
 use Rattle.group_checker.specs.Lists.{IsListRight, IsUsedGroup}
 use Rattle.group_checker.specs.Meshes.{HasTriangleAt, IsFirstMeshFault}
-use Rattle.list_base.proofs.Numbers.{below_same_or_above}
+use Rattle.math_base.proofs.Numbers.{below_same_or_above}
 
 -- ---- the mesh
 

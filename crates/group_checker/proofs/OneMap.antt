@@ -2,7 +2,7 @@
 use Rattle.std.proofs.Common.{◌≡◌, ℕ, zero, suc, ◌<◌, ◌≤◌, List, [], ◌∷◌, Option, Some, length, get_or, refl, sym, ◌∙◌, ap, subst, arith, zero-lt-suc, suc-le-suc, le_of_suc-le-suc}
 use Rattle.std.specs.List.{slice_get, All, AllByRecursion}
 use Rattle.std.proofs.lemmas.Option.{none-some, same_Some, slice_get-get_or}
-use Rattle.list_base.proofs.Lists.{all_at, all_of}
+use Rattle.math_base.proofs.Lists.{all_at, all_of}
 use Rattle.sight_names.specs.declared.limits.TheConstants.{MOST_TRIANGLES}
 use Rattle.sight_names.specs.declared.names.Triangle.{Triangle}
 use Rattle.sight_names.specs.Plan.{PlanParts, IsPlan}
@@ -14,14 +14,14 @@ use Rattle.cert_format.specs.declared.cert.Sizes.{Sizes}
 use Rattle.cert_format.specs.declared.cert.Labelled.{Labelled}
 use Rattle.cert_format.specs.Accepted.{triangles_of, labels_of}
 use Rattle.cert_format.proofs.LimitLaws.{few_of}
-use Rattle.cert_groups.specs.declared.cert.CertTwo.{CertTwo}
-use Rattle.groups_base.specs.Table.{IsTableFor, NamesTheLabels, NamedAreLabelled}
-use Rattle.groups_base.proofs.CheckedGroups.{table_has_groups, table_has_grouped}
-use Rattle.groups_base.proofs.FacesExist.{ground_exists}
-use Rattle.groups_base.proofs.GroupLaws.{HasLists}
-use Rattle.groups_base.proofs.GroupTable.{sealed_by_mates}
-use Rattle.groups_base.proofs.NamedLists.{lists_exist}
-use Rattle.groups_base.proofs.OneGrouped.{one_grouped}
+use Rattle.cert_format.specs.declared.cert_groups.cert.CertTwo.{CertTwo}
+use Rattle.face_groups.specs.GroupsBase.Table.{IsTableFor, NamesTheLabels, NamedAreLabelled}
+use Rattle.face_groups.proofs.GroupsBase.CheckedGroups.{table_has_groups, table_has_grouped}
+use Rattle.face_groups.proofs.GroupsBase.FacesExist.{ground_exists}
+use Rattle.face_groups.proofs.GroupsBase.GroupLaws.{HasLists}
+use Rattle.face_groups.proofs.GroupsBase.GroupTable.{sealed_by_mates}
+use Rattle.face_groups.proofs.GroupsBase.NamedLists.{lists_exist}
+use Rattle.face_groups.proofs.GroupsBase.OneGrouped.{one_grouped}
 use Rattle.face_groups.proofs.RegroupedPlan.{names_the_labels}
 use Rattle.cert_checker.specs.Apart.{triangles_in, labels_in}
 use Rattle.group_checker.specs.Lists.{AreGroupLabels}

@@ -3,7 +3,7 @@ use Rattle.std.proofs.Common.{◌≡◌, ℕ, ◌<◌, ◌≤◌, sym, ◌∙◌
 use Rattle.sight_names.specs.declared.faults.CheckFault.TheVariants.{Mesh, Ray, Tree as OfTree, ListedSet, Unproved, Uncovered}
 use Rattle.sight_names.specs.Map.{Map}
 use Rattle.reject_bits.specs.Parts.{TableParts}
-use Rattle.cert_groups.specs.declared.cert.CertTwo.{CertTwo}
+use Rattle.cert_format.specs.declared.cert_groups.cert.CertTwo.{CertTwo}
 use Rattle.cert_checker.specs.Pairs.{AreTotals, all_pairs, set_pairs}
 use Rattle.cert_checker.specs.declared.verdict.Totals.{Totals}
 use Rattle.cert_checker.specs.declared.verdict.Verdict.{Verdict}

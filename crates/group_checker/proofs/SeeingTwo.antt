@@ -1,7 +1,7 @@
 -- What an accepted certificate of version 2 shows: no rejected pair sees, and each clear pair that isn't listed does.
 use Rattle.std.proofs.Common.{◌≡◌, ◌≢◌, ℕ, ◌+◌, ◌*◌, ◌<◌, ◌≤◌, ◌⊎◌, inl, inr, List, sym, ap, subst}
 use Rattle.std.proofs.lemmas.Bool.Decides.{eqb_tells}
-use Rattle.list_base.proofs.Numbers.{either_order}
+use Rattle.math_base.proofs.Numbers.{either_order}
 use Rattle.sight_names.specs.declared.names.Pair.{Pair}
 use Rattle.sight_names.specs.Plan.{PlanParts, IsPlan}
 use Rattle.sight_names.specs.Map.{Map, IsMap, map_of}
@@ -13,15 +13,15 @@ use Rattle.sight_names.specs.Ray.{IsSightRay}
 use Rattle.sight_names.specs.Groups.{IsInGroup}
 use Rattle.sight_names.proofs.Laws.{sees_sym}
 use Rattle.sight_names.proofs.PlanMap.{plan_is_map}
-use Rattle.sight_laws.proofs.SightLaws.{sight_sees}
+use Rattle.mesh_base.proofs.SightLaws.SightLaws.{sight_sees}
 use Rattle.mesh_base.proofs.GoodMesh.{PointFacts}
 use Rattle.mesh_base.proofs.PlanFacts.{plan_facts}
 use Rattle.reject_bits.specs.Parts.{TableParts}
 use Rattle.cert_format.specs.Accepted.{triangles_of, labels_of, EitherSet, EitherClear, HasRay, HasTreeWithout}
-use Rattle.cert_groups.specs.declared.cert.CertTwo.{CertTwo}
-use Rattle.groups_base.specs.Table.{NamesTheLabels}
-use Rattle.groups_base.proofs.CheckedGroups.{table_is_good, table_is_map, table_is_sound, table_sees, table_one_group}
-use Rattle.accepted_groups.specs.Accepted.{IsPairOfList, AreGroupsApart, AreGroupsJoined, IsGroupedBlind, IsGroupedSeen, IsAcceptedOver, IsAcceptedTwo}
+use Rattle.cert_format.specs.declared.cert_groups.cert.CertTwo.{CertTwo}
+use Rattle.face_groups.specs.GroupsBase.Table.{NamesTheLabels}
+use Rattle.face_groups.proofs.GroupsBase.CheckedGroups.{table_is_good, table_is_map, table_is_sound, table_sees, table_one_group}
+use Rattle.cert_checker.specs.AcceptedGroups.Accepted.{IsPairOfList, AreGroupsApart, AreGroupsJoined, IsGroupedBlind, IsGroupedSeen, IsAcceptedOver, IsAcceptedTwo}
 use Rattle.cert_checker.specs.Sight.{TellsSight}
 use Rattle.cert_checker.proofs.Seeing.{SightIsFollowed, sight_followed, keeps_unreached}
 use Rattle.group_checker.specs.Judged.{with_list}

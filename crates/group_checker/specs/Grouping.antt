@@ -7,7 +7,7 @@ use Rattle.sight_names.specs.Map.{map_of}
 use Rattle.sight_names.specs.Mesh.{IsGoodMesh}
 use Rattle.reject_bits.specs.Parts.{TableParts}
 use Rattle.cert_format.specs.Accepted.{triangles_of, labels_of}
-use Rattle.cert_groups.specs.declared.cert.CertTwo.{CertTwo}
+use Rattle.cert_format.specs.declared.cert_groups.cert.CertTwo.{CertTwo}
 use Rattle.face_groups.specs.Regrouped.{regrouped_plan}
 use Rattle.group_checker.specs.declared.grouping.MeshVerdict.{MeshVerdict}
 use Rattle.group_checker.specs.declared.grouping.MeshVerdict.TheVariants.{Good, Broken}

@@ -8,16 +8,16 @@ use Rattle.sight_names.specs.Plan.{PlanParts}
 use Rattle.sight_names.specs.Map.{Map, map_of}
 use Rattle.sight_names.specs.Mesh.{IsGoodMesh}
 use Rattle.mesh_shape.specs.Faults.{IsFirstAgainst}
-use Rattle.tri_sectors.specs.Components.{AreComponents}
+use Rattle.face_groups.specs.TriSectors.Components.{AreComponents}
 use Rattle.reject_bits.specs.Parts.{TableParts, Rejects}
 use Rattle.cert_format.specs.Parts.{CertParts}
 use Rattle.cert_format.specs.declared.cert.Sizes.{Sizes}
 use Rattle.cert_format.specs.Accepted.{triangles_of, labels_of, EitherSet, EitherClear, HasRay, HasTreeWithout}
-use Rattle.cert_groups.specs.declared.cert.CertTwo.{CertTwo}
-use Rattle.cert_groups.specs.declared.cert.AnyCert.{AnyCert}
-use Rattle.cert_groups.specs.declared.cert.AnyCert.TheVariants.{One, Two}
-use Rattle.cert_groups.specs.Grammar.{IsTwoInOrder}
-use Rattle.accepted_groups.specs.Accepted.{IsPairOfList, IsGroupedBlind, IsGroupedSeen}
+use Rattle.cert_format.specs.declared.cert_groups.cert.CertTwo.{CertTwo}
+use Rattle.cert_format.specs.declared.cert_groups.cert.AnyCert.{AnyCert}
+use Rattle.cert_format.specs.declared.cert_groups.cert.AnyCert.TheVariants.{One, Two}
+use Rattle.cert_format.specs.CertGroups.Grammar.{IsTwoInOrder}
+use Rattle.cert_checker.specs.AcceptedGroups.Accepted.{IsPairOfList, IsGroupedBlind, IsGroupedSeen}
 use Rattle.cert_checker.specs.declared.verdict.Verdict.{Verdict}
 use Rattle.cert_checker.specs.declared.verdict.Verdict.TheVariants.{Yes as YesOne, No as NoOne}
 use Rattle.cert_checker.specs.Pairs.{AreTotals}

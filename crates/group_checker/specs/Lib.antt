@@ -4,3 +4,4 @@ pub mod Members
 pub mod Pairs
 pub mod Judged
 pub mod Grouping
+pub mod CheckWorkers

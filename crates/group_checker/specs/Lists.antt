@@ -4,7 +4,7 @@ use Rattle.sight_names.specs.declared.names.Triangle.{Triangle}
 use Rattle.sight_names.specs.Map.{Map}
 use Rattle.sight_names.specs.Mesh.{label_of}
 use Rattle.mesh_shape.specs.Faults.{IsFirstAgainst}
-use Rattle.groups_base.specs.Named.{AreNamedAt}
+use Rattle.face_groups.specs.GroupsBase.Named.{AreNamedAt}
 use Rattle.group_checker.specs.declared.verdict.AnyFault.{AnyFault}
 use Rattle.group_checker.specs.declared.verdict.AnyFault.TheVariants.{Check, Group, Unused}
 

@@ -9,7 +9,7 @@ use Rattle.sight_names.specs.Map.{Map, MapLine, line_at, map_of, Names}
 use Rattle.sight_names.specs.Mesh.{side_edge, triangle_at}
 use Rattle.mesh_shape.specs.Faults.{TurnsAt, IsNewAt, HasMatesAt, IsFirstSideAgainst, IsFirstFault}
 use Rattle.cert_format.specs.Accepted.{triangles_of, labels_of}
-use Rattle.cert_groups.specs.declared.cert.CertTwo.{CertTwo}
+use Rattle.cert_format.specs.declared.cert_groups.cert.CertTwo.{CertTwo}
 use Rattle.face_groups.specs.Regrouped.{regrouped_plan}
 
 -- the plan whose sectors are the groups: the same lines, and each side names the label of its triangle

@@ -7,7 +7,7 @@ use Rattle.sight_names.specs.declared.names.PairRay.{PairRay}
 use Rattle.sight_names.specs.Order.{Ascends, PairBefore}
 use Rattle.reject_bits.specs.Parts.{TableParts, Rejects}
 use Rattle.cert_format.specs.Accepted.{EitherSet, EitherClear}
-use Rattle.tree_judge.specs.Marks.{IsMarked}
+use Rattle.cert_checker.specs.TreeJudge.Marks.{IsMarked}
 use Rattle.cert_checker.specs.declared.pairs.PairFacts.{PairFacts}
 use Rattle.cert_checker.specs.Pairs.{pair, HaveSameNumber, IsWithin}
 use Rattle.group_checker.specs.declared.pairs.Known.{Known}

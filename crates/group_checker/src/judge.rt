@@ -6,12 +6,12 @@ ghost use Rattle.sight_names.specs.Mesh.{IsGoodMesh};
 ghost use Rattle.sight_names.specs.Plan.{IsPlan};
 ghost use Rattle.sight_names.specs.Sound.{LinesMeetAtEnds};
 ghost use Rattle.cert_format.specs.Accepted.{triangles_of, labels_of};
-ghost use Rattle.cert_groups.specs.declared.cert.CertTwo.{CertTwo as CertOf};
-ghost use Rattle.cert_groups.specs.Grammar.{IsAnyInOrder, sizes_of};
-ghost use Rattle.accepted_groups.specs.Accepted.{IsAcceptedAny, IsAcceptedTwo};
+ghost use Rattle.cert_format.specs.declared.cert_groups.cert.CertTwo.{CertTwo as CertOf};
+ghost use Rattle.cert_format.specs.CertGroups.Grammar.{IsAnyInOrder, sizes_of};
+ghost use Rattle.cert_checker.specs.AcceptedGroups.Accepted.{IsAcceptedAny, IsAcceptedTwo};
 ghost use Rattle.cert_checker.specs.Judged.{IsLaterVerdict, IsPairVerdict, JudgesRays, JudgesTrees};
 ghost use Rattle.cert_checker.specs.Sight.{TellsSight};
-ghost use Rattle.tree_judge.specs.Trees.{TellsReach};
+ghost use Rattle.cert_checker.specs.TreeJudge.Trees.{TellsReach};
 ghost use Rattle.group_checker.specs.Judged.{any_of as either, with_list, AreListsOfTwo, IsAbout, IsTwoFor, IsTwoOf, IsYesAny, JudgesAny, JudgesTwo, TellsPairs, TellsSightAny};
 ghost use Rattle.group_checker.specs.Pairs.{known_of, IsKnown};
 
@@ -19,15 +19,15 @@ use crate::grouping::{GroupedMesh, MeshVerdict, judge_mesh};
 use crate::members::members_of;
 use crate::pairs::{Known, judge_pairs, ray_table};
 use crate::verdict::{AnyVerdict, any_of};
+use cert_checker::tree_judge::{Reach, TreeVerdict, judge_trees};
 use cert_checker::{Verdict, check, ray_fault};
-use cert_groups::{AnyCert, CertTwo};
+use cert_format::cert_groups::{AnyCert, CertTwo};
 use face_groups::Group;
-use half_edges::HalfEdges;
+use face_groups::tri_sectors::components;
+use mesh_shape::half_edges::HalfEdges;
 use reject_bits::Table;
 use sight_names::{CheckFault, Memory, Pair, PairRay, Plan};
 use std::alloc::Global;
-use tree_judge::{Reach, TreeVerdict, judge_trees};
-use tri_sectors::components;
 
 /// Judges the pairs of sectors, by what is known.
 fn judge_each_pair(known: Known<'_>, sectors: u16) -> Verdict

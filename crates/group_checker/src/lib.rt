@@ -5,6 +5,7 @@
 //! rays and trees are judged there. Two sectors see each other where some groups that contain them do.
 #![tactic(auto)]
 
+pub mod check_workers;
 mod grouping;
 mod judge;
 mod lists;

@@ -4,15 +4,15 @@ ghost use Rattle.std.specs.Prelude.{◌≡◌, ◌≤◌, ◌<◌, ◌↔◌, �
 ghost use Rattle.sight_names.specs.Mesh.{IsPlainMesh};
 ghost use Rattle.sight_names.specs.Map.{map_of};
 ghost use Rattle.mesh_shape.specs.Search.{IsSearch};
-ghost use Rattle.tree_judge.specs.Marks.{IsMarked};
+ghost use Rattle.cert_checker.specs.TreeJudge.Marks.{IsMarked};
 ghost use Rattle.group_checker.specs.Lists.{AreGroupLabels, HasItsList, IsGroupFault, IsGroupOf, IsListRight, IsUsedBelow, IsUsedGroup};
 
 use crate::verdict::AnyFault;
+use cert_checker::tree_judge::{mark, unmarked};
 use face_groups::{Group, ShortList, faces};
 use mesh_shape::{Labels, Mesh};
 use sight_names::{MOST_TRIANGLES, Memory, Plan};
 use std::alloc::Global;
-use tree_judge::{mark, unmarked};
 
 /// Whether the group is this list.
 fn is_list(group: &Group, names: &[u16]) -> bool

@@ -6,11 +6,11 @@ ghost use Rattle.mesh_shape.specs.Faults.{IsFirstSideAgainst};
 ghost use Rattle.mesh_shape.specs.Search.{IsSideSearch};
 ghost use Rattle.group_checker.specs.Meshes.{HasTriangleAt, IsFirstMeshFault, earlier_of};
 
+use cert_checker::tree_judge::unmarked;
+use face_groups::tri_sectors::sides::first_open;
 use mesh_shape::{Labels, Mesh, mesh_fault};
 use sight_names::{Memory, MeshFault, Plan, Side};
 use std::alloc::Global;
-use tree_judge::unmarked;
-use tri_sectors::sides::first_open;
 
 /// The least side that names a sector and has no triangle: an open one, where no face counts as open.
 pub fn first_bare_side(alloc: Global, plan: &Plan, mesh: &Mesh) -> Result<Option<Side>, Memory>

@@ -10,11 +10,11 @@ use cert_checker::Totals;
 use cert_checker::pairs::{
     PairFacts, advanced, are_connected, count, either_clear, either_set, holds, is_listed_at,
 };
+use cert_checker::tree_judge::unreached;
 use face_groups::Group;
 use reject_bits::Table;
 use sight_names::{CheckFault, Memory, Pair, PairRay};
 use std::alloc::Global;
-use tree_judge::unreached;
 
 /// The table, the certificate's list, and the groups of each sector. And what lines, trees and rays show of groups: the
 /// component of each group, the groups that have a tree, for each of these the groups that its open nodes enter, and the

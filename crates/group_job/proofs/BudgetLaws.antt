@@ -1,6 +1,6 @@
 -- What the budget that is asked for means for the list: with none, or with one that is enough, no pair is listed.
 use Rattle.std.proofs.Common.{◌≡◌, ℕ, List, [], ◌∷◌, Contains, refl, subst}
-use Rattle.list_base.proofs.Lists.{contains_here}
+use Rattle.math_base.proofs.Lists.{contains_here}
 use Rattle.sight_names.specs.declared.names.Ask.{Ask}
 use Rattle.sight_names.specs.declared.names.Ask.TheVariants.{Full as AskFull, Enough}
 use Rattle.sight_names.specs.declared.names.Budget.{Budget}
@@ -10,7 +10,7 @@ use Rattle.sight_names.specs.Enough.{IsBudgetOf}
 use Rattle.sight_names.specs.Found.{IsListed}
 use Rattle.sight_names.specs.Map.{Map, map_of}
 use Rattle.sight_names.specs.Plan.{PlanParts}
-use Rattle.enough_base.proofs.Counts.{own_lists_none}
+use Rattle.sight_lift.proofs.EnoughBase.Counts.{own_lists_none}
 use Rattle.group_job.specs.declared.walked.Built.{Built}
 use Rattle.group_job.specs.declared.grouped.MapOfGroups.{MapOfGroups}
 use Rattle.group_job.specs.Walked.{AreWalkedGroups}

@@ -13,9 +13,9 @@ use Rattle.sight_names.specs.declared.names.PairRay.{PairRay}
 use Rattle.sight_names.specs.declared.names.Ray.{Ray}
 use Rattle.sight_names.specs.Mesh.{AreTriangles}
 use Rattle.sight_names.specs.Plan.{PlanParts, IsPlan}
-use Rattle.sight_tree.specs.declared.Node.{Node}
-use Rattle.sight_tree.specs.declared.Node.TheVariants.{Open, Blocked}
-use Rattle.sight_tree.specs.declared.Tree.{Tree}
+use Rattle.block_evidence.specs.declared.sight_tree.Node.{Node}
+use Rattle.block_evidence.specs.declared.sight_tree.Node.TheVariants.{Open, Blocked}
+use Rattle.block_evidence.specs.declared.sight_tree.Tree.{Tree}
 use Rattle.block_evidence.specs.Stuck.{end_codes}
 use Rattle.portal_walk.specs.Nodes.{IsAnswered}
 use Rattle.cert_format.specs.declared.cert.Labelled.{Labelled}
@@ -32,16 +32,16 @@ use Rattle.pair_budget.proofs.FoundSectorsLaws.{reached_by}
 use Rattle.pair_budget.proofs.NamedLaws.{trees_cons}
 use Rattle.sight_names.specs.declared.names.Triangle.{Triangle}
 use Rattle.sight_names.specs.Map.{map_of}
-use Rattle.sight_tree.specs.WholeTree.{IsWholeTree}
+use Rattle.block_evidence.specs.SightTree.WholeTree.{IsWholeTree}
 use Rattle.pair_budget.specs.Decided.{AreExact}
 use Rattle.pair_budget.specs.Whole.{IsShown}
-use Rattle.sight_workers.specs.declared.view.Task.{Task}
-use Rattle.sight_workers.specs.Teams.{AreWalked}
+use Rattle.group_job.specs.declared.sight_workers.view.Task.{Task}
+use Rattle.group_job.specs.SightWorkers.Teams.{AreWalked}
 use Rattle.cert_format.specs.declared.cert.Sizes.{Sizes}
 use Rattle.cert_format.specs.Sizes.{sizes_of}
 use Rattle.group_job.specs.Results.{AreWalks, AreVerdicts, AreShown, AreWholeTrees}
-use Rattle.list_base.proofs.Numbers.{below_or_at}
-use Rattle.list_base.proofs.Lists.{all_join}
+use Rattle.math_base.proofs.Numbers.{below_or_at}
+use Rattle.math_base.proofs.Lists.{all_join}
 
 -- ---- the walks
 

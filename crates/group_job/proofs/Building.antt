@@ -5,8 +5,8 @@ use Rattle.sight_names.specs.declared.names.Triangle.{Triangle}
 use Rattle.sight_names.specs.Map.{map_of}
 use Rattle.sight_names.specs.Mesh.{IsGoodMesh}
 use Rattle.sight_names.specs.Plan.{PlanParts, IsPlan}
-use Rattle.sight_tree.specs.declared.Tree.{Tree}
-use Rattle.tri_sectors.specs.Components.{AreComponents}
+use Rattle.block_evidence.specs.declared.sight_tree.Tree.{Tree}
+use Rattle.face_groups.specs.TriSectors.Components.{AreComponents}
 use Rattle.cert_format.specs.Grammar.{IsInOrder}
 use Rattle.cert_format.specs.Parts.{CertParts}
 use Rattle.cert_format.specs.Sizes.{sizes_of}
@@ -14,9 +14,9 @@ use Rattle.pair_budget.specs.declared.results.SourceResult.{SourceResult}
 use Rattle.pair_budget.specs.declared.results.Verdicts.{Verdicts}
 use Rattle.pair_budget.specs.Decide.{DecidesTable, DecidesList, DecidesRays, trees_of}
 use Rattle.pair_budget.specs.Decided.{AreExact, DecidesOver, TellsConnected}
-use Rattle.sight_workers.specs.declared.job.Job.{Job}
-use Rattle.sight_workers.specs.declared.view.Task.{Task}
-use Rattle.sight_workers.specs.Board.{task_for}
+use Rattle.group_job.specs.declared.sight_workers.job.Job.{Job}
+use Rattle.group_job.specs.declared.sight_workers.view.Task.{Task}
+use Rattle.group_job.specs.SightWorkers.Board.{task_for}
 use Rattle.group_job.specs.Results.{AreResultsOf, AreSetApart, AreShown, AreTreesOfUnspent, AreVerdicts, AreWholeTrees, IsBuiltOver}
 use Rattle.group_job.specs.Faces.{AreFacesOf, faces_of_job}
 use Rattle.group_job.specs.Labelled.{labelled_of}

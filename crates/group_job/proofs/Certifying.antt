@@ -1,8 +1,8 @@
 -- The certificate of a build by groups: it is in order and accepted, and has the rays and trees that it should.
 use Rattle.std.proofs.Common.{◌≡◌, ◌≢◌, ℕ, ◌<◌, ◌≤◌, ◌⊎◌, ◌↔◌, inl, inr, List, length, Contains, Option, refl, sym, ap, ◌∙◌, subst, arith}
 use Rattle.std.proofs.lemmas.List.{length-map}
-use Rattle.list_base.proofs.Lists.{all_of}
-use Rattle.list_base.proofs.Numbers.{same_below_or_above, same_or_below}
+use Rattle.math_base.proofs.Lists.{all_of}
+use Rattle.math_base.proofs.Numbers.{same_below_or_above, same_or_below}
 use Rattle.sight_names.specs.declared.names.Ask.{Ask}
 use Rattle.sight_names.specs.declared.names.Budget.{Budget}
 use Rattle.sight_names.specs.declared.names.Pair.{Pair}
@@ -15,12 +15,12 @@ use Rattle.reject_bits.specs.Parts.{TableParts, Rejects}
 use Rattle.cert_format.specs.Accepted.{EitherClear, EitherSet, HasRay}
 use Rattle.cert_format.specs.Grammar.{IsPairInRange}
 use Rattle.cert_format.specs.Sizes.{sizes_of}
-use Rattle.cert_groups.specs.declared.cert.CertTwo.{CertTwo}
-use Rattle.cert_groups.specs.declared.cert.AnyCert.{AnyCert}
-use Rattle.cert_groups.specs.declared.cert.AnyCert.TheVariants.{Two}
-use Rattle.cert_groups.specs.Grammar.{IsGroupInOrder, IsTwoInOrder, grouped_sizes}
-use Rattle.accepted_groups.specs.Accepted.{AreGroupsJoined, IsAcceptedTwo, IsGroupedBlind, IsGroupedSeen, IsPairOfList}
-use Rattle.groups_base.proofs.Ordered.{contains_at}
+use Rattle.cert_format.specs.declared.cert_groups.cert.CertTwo.{CertTwo}
+use Rattle.cert_format.specs.declared.cert_groups.cert.AnyCert.{AnyCert}
+use Rattle.cert_format.specs.declared.cert_groups.cert.AnyCert.TheVariants.{Two}
+use Rattle.cert_format.specs.CertGroups.Grammar.{IsGroupInOrder, IsTwoInOrder, grouped_sizes}
+use Rattle.cert_checker.specs.AcceptedGroups.Accepted.{AreGroupsJoined, IsAcceptedTwo, IsGroupedBlind, IsGroupedSeen, IsPairOfList}
+use Rattle.face_groups.proofs.GroupsBase.Ordered.{contains_at}
 use Rattle.group_job.specs.declared.walked.Built.{Built}
 use Rattle.group_job.specs.Built.{FindsConnected, FindsEither, HasRaysOfFound, HasTreeOf, HasTreesOfUnspent, IsGroupBuild, WalkedMap}
 use Rattle.group_job.specs.Walked.{AreWalkedGroups}

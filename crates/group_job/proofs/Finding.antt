@@ -1,7 +1,7 @@
 -- Whether a sector is found from another can be told, over a good mesh; and what is found is seen.
 use Rattle.std.proofs.Common.{◌≡◌, ℕ, zero, suc, ◌<◌, ◌⊎◌, inl, inr, List, length, slice_get, Contains, Option, Some, None, refl, sym, ap, ◌∙◌, subst, arith, option_and_then}
 use Rattle.std.proofs.lemmas.Option.{none-some, same_Some, slice_get_within}
-use Rattle.list_base.proofs.Numbers.{below_or_at, below_or_not, same_or_not}
+use Rattle.math_base.proofs.Numbers.{below_or_at, below_or_not, same_or_not}
 use Rattle.sight_names.specs.declared.names.Budget.{Budget}
 use Rattle.sight_names.specs.declared.names.Budget.TheVariants.{Of, Full}
 use Rattle.sight_names.specs.declared.names.Side.{Side}
@@ -13,11 +13,11 @@ use Rattle.sight_names.specs.Sound.{LinesMeetAtEnds}
 use Rattle.sight_names.specs.Sequence.{Portal, Sequence, reached, roots}
 use Rattle.sight_names.specs.Found.{Found, IsStabbableSequence, IsWithin, Reaches}
 use Rattle.sight_names.proofs.Lists.{contains_of_get}
-use Rattle.sight_laws.proofs.SightLaws.{sees_itself}
+use Rattle.mesh_base.proofs.SightLaws.SightLaws.{sees_itself}
 use Rattle.sight_lift.proofs.LiftLaws.{sight_is_lifted}
 use Rattle.sight_lift.proofs.Sequences.{root_is}
-use Rattle.sequence_laws.specs.InOrder.{IsInOrder}
-use Rattle.sequence_laws.proofs.All.{stand_in_order}
+use Rattle.sight_lift.specs.SequenceLaws.InOrder.{IsInOrder}
+use Rattle.sight_lift.proofs.SequenceLaws.All.{stand_in_order}
 
 module _ (m : Map) (ts : List Triangle) (ls : List (Option ℕ)) (good : IsGoodMesh m ts ls) (a b : ℕ) (budget : Budget) where
   order : IsInOrder m ts ls a

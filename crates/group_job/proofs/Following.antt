@@ -1,8 +1,8 @@
 -- The table of sectors and its list, from the marks of the pairs that are seen by groups and of those that are listed by groups.
 use Rattle.std.proofs.Common.{◌≡◌, ◌≢◌, ℕ, ◌+◌, ◌*◌, ◌<◌, ◌⊎◌, ◌↔◌, inl, inr, List, [], ◌∷◌, length, Contains, sym, ap, ◌∙◌, subst, arith}
 use Rattle.std.proofs.lemmas.Option.{slice_get_within}
-use Rattle.list_base.proofs.Lists.{contains_here, contains_none}
-use Rattle.list_base.proofs.Numbers.{same_or_not}
+use Rattle.math_base.proofs.Lists.{contains_here, contains_none}
+use Rattle.math_base.proofs.Numbers.{same_or_not}
 use Rattle.sight_names.specs.declared.names.Pair.{Pair}
 use Rattle.sight_names.specs.Groups.{IsInGroup}
 use Rattle.sight_names.specs.Table.{table_bit}

@@ -12,8 +12,8 @@ use Rattle.sight_names.specs.Mesh.{AreTriangles, IsAbove, IsPlainMesh, IsGoodMes
 use Rattle.cert_format.specs.declared.cert.Labelled.{Labelled}
 use Rattle.group_job.specs.Labelled.{labelled_of}
 use Rattle.group_job.proofs.LabelledLaws.{ascending}
-use Rattle.list_base.proofs.Numbers.{below_differs, below_or_above}
-use Rattle.list_base.proofs.Options.{none_is_not_some}
+use Rattle.math_base.proofs.Numbers.{below_differs, below_or_above}
+use Rattle.math_base.proofs.Options.{none_is_not_some}
 use Rattle.mesh_base.proofs.GoodMesh.{found_at}
 
 abbrev pub triangle_list : List Labelled → List Triangle

@@ -1,7 +1,7 @@
 -- What a build over the map of groups tells of pairs of groups.
 use Rattle.std.proofs.Common.{◌≡◌, ◌≢◌, ℕ, ◌<◌, ◌↔◌, inl, inr, List, [], length, slice_get, Option, Some, None, MatchOption, refl, sym, ap, ◌∙◌, subst, arith}
 use Rattle.std.proofs.lemmas.Option.{MatchOption-at_some, MatchOption-at_none}
-use Rattle.list_base.proofs.Numbers.{below_or_above}
+use Rattle.math_base.proofs.Numbers.{below_or_above}
 use Rattle.sight_names.specs.declared.names.Ask.{Ask}
 use Rattle.sight_names.specs.declared.names.Budget.{Budget}
 use Rattle.sight_names.specs.declared.names.Side.{Side}
@@ -16,10 +16,10 @@ use Rattle.sight_names.specs.Groups.{IsGroupedMap, IsInGroup}
 use Rattle.reject_bits.specs.Parts.{Rejects}
 use Rattle.cert_format.specs.Accepted.{IsNamed}
 use Rattle.pair_budget.proofs.Connected.{connected_back}
-use Rattle.groups_base.proofs.GroupLaws.{HasLists}
-use Rattle.groups_base.proofs.Ordered.{at_contains, one_place}
-use Rattle.groups_base.proofs.SamePoints.{mesh_alike}
-use Rattle.group_laws.proofs.WholeLaws.{each_has_list, groups_are_map, groups_are_sound}
+use Rattle.face_groups.proofs.GroupsBase.GroupLaws.{HasLists}
+use Rattle.face_groups.proofs.GroupsBase.Ordered.{at_contains, one_place}
+use Rattle.face_groups.proofs.GroupsBase.SamePoints.{mesh_alike}
+use Rattle.triangulate.proofs.GroupLaws.WholeLaws.{each_has_list, groups_are_map, groups_are_sound}
 use Rattle.group_job.specs.declared.walked.Built.{Built}
 use Rattle.group_job.specs.Sectors.{AreClear, AreListed}
 use Rattle.group_job.specs.Walked.{AreWalkedGroups}

@@ -13,21 +13,21 @@ use Rattle.sight_names.proofs.OneMesh.{one_labels}
 use Rattle.mesh_base.proofs.GoodMesh.{found_at}
 use Rattle.mesh_base.proofs.PlanFacts.{plan_facts}
 use Rattle.triangulate.proofs.MeshLaws.{mesh_plain, mesh_fills_sides}
-use Rattle.tri_sectors.specs.declared.faces.Walls.{Walls}
-use Rattle.tri_sectors.proofs.FaceRegion.{Ground, only_one}
-use Rattle.groups_base.specs.Named.{AreAcross, IsWay, IsNamedAt, AreNamedAt}
-use Rattle.groups_base.specs.Table.{AreUsed, IsNamedByTable, IsTableFor, NamesLabels, NamesTheLabels}
-use Rattle.groups_base.proofs.FacesExist.{ground_exists}
-use Rattle.groups_base.proofs.FaceSectors.{NamedAreSealed, sealed_where_closed}
-use Rattle.groups_base.proofs.GroupLabels.{AreGroupLabels, good_for_groups, labels_of_groups}
-use Rattle.groups_base.proofs.GroupLaws.{HasLists, grouped_agree}
-use Rattle.groups_base.proofs.GroupTable.{table_is_groups}
-use Rattle.groups_base.proofs.GroupsExist.{groups_exist}
-use Rattle.groups_base.proofs.Named.{names_are}
-use Rattle.groups_base.proofs.NamedLists.{lists_exist, names_on}
-use Rattle.groups_base.proofs.Ordered.{empty_has_none, same_groups}
-use Rattle.groups_base.proofs.SameLines.{HaveSameLines, line_of, lines_alike}
-use Rattle.groups_base.proofs.SamePoints.{mesh_alike, no_line_edge, plain_alike, side_edge_alike}
+use Rattle.face_groups.specs.declared.tri_sectors.faces.Walls.{Walls}
+use Rattle.face_groups.proofs.TriSectors.FaceRegion.{Ground, only_one}
+use Rattle.face_groups.specs.GroupsBase.Named.{AreAcross, IsWay, IsNamedAt, AreNamedAt}
+use Rattle.face_groups.specs.GroupsBase.Table.{AreUsed, IsNamedByTable, IsTableFor, NamesLabels, NamesTheLabels}
+use Rattle.face_groups.proofs.GroupsBase.FacesExist.{ground_exists}
+use Rattle.face_groups.proofs.GroupsBase.FaceSectors.{NamedAreSealed, sealed_where_closed}
+use Rattle.face_groups.proofs.GroupsBase.GroupLabels.{AreGroupLabels, good_for_groups, labels_of_groups}
+use Rattle.face_groups.proofs.GroupsBase.GroupLaws.{HasLists, grouped_agree}
+use Rattle.face_groups.proofs.GroupsBase.GroupTable.{table_is_groups}
+use Rattle.face_groups.proofs.GroupsBase.GroupsExist.{groups_exist}
+use Rattle.face_groups.proofs.GroupsBase.Named.{names_are}
+use Rattle.face_groups.proofs.GroupsBase.NamedLists.{lists_exist, names_on}
+use Rattle.face_groups.proofs.GroupsBase.Ordered.{empty_has_none, same_groups}
+use Rattle.face_groups.proofs.GroupsBase.SameLines.{HaveSameLines, line_of, lines_alike}
+use Rattle.face_groups.proofs.GroupsBase.SamePoints.{mesh_alike, no_line_edge, plain_alike, side_edge_alike}
 use Rattle.cert_format.specs.declared.cert.Labelled.{Labelled}
 use Rattle.group_job.specs.Labelled.{labelled_of}
 use Rattle.group_job.proofs.GoodLabelled.{triangle_list, label_list, kept, placed, label_at, label_there, found_too, labelled_are_good}

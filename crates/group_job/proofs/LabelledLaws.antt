@@ -7,7 +7,7 @@ use Rattle.sight_names.specs.declared.names.Triangle.{Triangle}
 use Rattle.sight_names.specs.Mesh.{IsAbove, AreTriangles, label_of}
 use Rattle.cert_format.specs.declared.cert.Labelled.{Labelled}
 use Rattle.group_job.specs.Labelled.{labelled_of, added}
-use Rattle.list_base.proofs.Options.{some_is_same}
+use Rattle.math_base.proofs.Options.{some_is_same}
 
 abbrev triangle_list : List Labelled → List Triangle
 triangle_list ls = map (λ (l : Labelled). l.triangle) ls

@@ -13,12 +13,12 @@ use Rattle.mesh_base.proofs.GoodMesh.{PointFacts}
 use Rattle.sight_lift.proofs.Behind.{Third, third_first, third_turned, behind}
 use Rattle.sight_lift.proofs.Doors.{has_name, named_is, step_over}
 use Rattle.sight_lift.proofs.Sequences.{IsRoot, root_is}
-use Rattle.sight_tree.specs.declared.Node.{Node}
-use Rattle.sight_tree.specs.declared.Tree.{Tree}
-use Rattle.sight_tree.specs.WholeTree.{HasNoNode, HasNode, Answers, no_node, blocked, open_node, AnswersRoots, IsWholeTree, KeepsFrom}
+use Rattle.block_evidence.specs.declared.sight_tree.Node.{Node}
+use Rattle.block_evidence.specs.declared.sight_tree.Tree.{Tree}
+use Rattle.block_evidence.specs.SightTree.WholeTree.{HasNoNode, HasNode, Answers, no_node, blocked, open_node, AnswersRoots, IsWholeTree, KeepsFrom}
 use Rattle.group_job.specs.Labelled.{labelled_of}
 use Rattle.group_job.proofs.GoodLabelled.{triangle_list, label_list, found_too}
-use Rattle.list_base.proofs.Lists.{contains_here, last_pushed}
+use Rattle.math_base.proofs.Lists.{contains_here, last_pushed}
 
 -- ---- lists of labels
 

@@ -19,3 +19,4 @@ pub mod BudgetLaws
 pub mod Certifying
 pub mod Walking
 pub mod TwoSizes
+pub mod SightWorkers

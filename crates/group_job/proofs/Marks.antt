@@ -3,7 +3,7 @@ use Rattle.std.proofs.Common.{◌≡◌, ℕ, zero, suc, ◌+◌, ◌<◌, ◌�
 use Rattle.std.specs.Prelude.{slice_index, replicate, ◌*◌, ◌/◌, ◌%◌}
 use Rattle.std.specs.Int.{bit_at}
 use Rattle.std.proofs.lemmas.Nat.Bits.{bit_at-zero}
-use Rattle.list_base.proofs.Numbers.{below_or_last}
+use Rattle.math_base.proofs.Numbers.{below_or_last}
 use Rattle.reject_bits.specs.Parts.{TableParts, Rejects, SetsPair, KeepsOtherPairs}
 use Rattle.pair_budget.proofs.FoundSectorsLaws.{same_or_other}
 use Rattle.group_job.specs.Marks.{SetsMore, OfSteps, HasSteps}

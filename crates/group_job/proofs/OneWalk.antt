@@ -11,10 +11,10 @@ use Rattle.sight_names.specs.Mesh.{IsMeshOf, AreLabelsOf}
 use Rattle.sight_names.specs.Enough.{IsBudgetOf, enough_of}
 use Rattle.sight_names.specs.Groups.{AreGroups, IsGroupedMap}
 use Rattle.sight_names.proofs.OneMesh.{one_mesh, one_labels}
-use Rattle.enough_base.proofs.SameLines.{enough_same}
-use Rattle.groups_base.proofs.GroupLaws.{HasLists}
-use Rattle.groups_base.proofs.OneGrouped.{one_grouped}
-use Rattle.groups_base.proofs.SamePoints.{mesh_alike}
+use Rattle.sight_lift.proofs.EnoughBase.SameLines.{enough_same}
+use Rattle.face_groups.proofs.GroupsBase.GroupLaws.{HasLists}
+use Rattle.face_groups.proofs.GroupsBase.OneGrouped.{one_grouped}
+use Rattle.face_groups.proofs.GroupsBase.SamePoints.{mesh_alike}
 use Rattle.group_job.specs.Built.{WalkedMap}
 
 same_budget : (g : Map) (ask : Ask) (b c : Budget) → IsBudgetOf g ask b → IsBudgetOf g ask c → b ≡ c

@@ -1,7 +1,7 @@
 -- From pairs of groups to pairs of sectors: what the table and the list that follow the groups tell of sight.
 use Rattle.std.proofs.Common.{◌≡◌, ◌≢◌, ℕ, ◌<◌, ◌⊎◌, ◌↔◌, inl, inr, List, [], ◌∷◌, Contains, refl, sym, subst, arith}
-use Rattle.list_base.proofs.Lists.{contains_here, contains_none}
-use Rattle.list_base.proofs.Numbers.{same_below_or_above}
+use Rattle.math_base.proofs.Lists.{contains_here, contains_none}
+use Rattle.math_base.proofs.Numbers.{same_below_or_above}
 use Rattle.sight_names.specs.declared.names.Ask.{Ask}
 use Rattle.sight_names.specs.declared.names.Budget.{Budget}
 use Rattle.sight_names.specs.declared.names.Pair.{Pair}
@@ -13,12 +13,12 @@ use Rattle.sight_names.specs.Groups.{AreGroups, IsInGroup, IsListedByGroups}
 use Rattle.sight_names.proofs.Laws.{sees_sym}
 use Rattle.sight_names.proofs.PlanMap.{plan_is_map}
 use Rattle.reject_bits.specs.Parts.{TableParts, Rejects}
-use Rattle.tri_sectors.proofs.GoodLabels.{label_below}
-use Rattle.cert_groups.specs.declared.cert.AnyCert.{AnyCert}
-use Rattle.groups_base.proofs.Listing.{IsListedOfGroups}
-use Rattle.groups_base.proofs.OneGrouped.{listed_is}
-use Rattle.groups_base.proofs.Ordered.{at_contains}
-use Rattle.group_laws.proofs.WholeLaws.{bits_by_groups, sectors_see_by_groups}
+use Rattle.face_groups.proofs.TriSectors.GoodLabels.{label_below}
+use Rattle.cert_format.specs.declared.cert_groups.cert.AnyCert.{AnyCert}
+use Rattle.face_groups.proofs.GroupsBase.Listing.{IsListedOfGroups}
+use Rattle.face_groups.proofs.GroupsBase.OneGrouped.{listed_is}
+use Rattle.face_groups.proofs.GroupsBase.Ordered.{at_contains}
+use Rattle.triangulate.proofs.GroupLaws.WholeLaws.{bits_by_groups, sectors_see_by_groups}
 use Rattle.group_job.specs.declared.walked.Built.{Built}
 use Rattle.group_job.specs.declared.build.GroupBuilt.{GroupBuilt}
 use Rattle.group_job.specs.Built.{DecidesByGroups, IsSymmetric, TellsSectors}

@@ -19,11 +19,11 @@ use Rattle.sight_names.specs.Sound.{LinesMeetAtEnds}
 use Rattle.sight_names.proofs.Laws.{sees_sym, sees_names}
 use Rattle.sight_names.proofs.Lists.{get_of_contains}
 use Rattle.sight_names.proofs.PlanMap.{plan_is_map}
-use Rattle.sight_laws.specs.Laws.{IsOpenRay}
-use Rattle.sight_laws.proofs.SightLaws.{sight_sees, sees_itself, turned_sight}
+use Rattle.mesh_base.specs.SightLaws.Laws.{IsOpenRay}
+use Rattle.mesh_base.proofs.SightLaws.SightLaws.{sight_sees, sees_itself, turned_sight}
 use Rattle.sight_lift.proofs.Back.{ray_of_sequence}
 use Rattle.sight_lift.proofs.LiftLaws.{sight_is_lifted, sight_connects}
-use Rattle.sequence_laws.proofs.All.{stand_in_order}
+use Rattle.sight_lift.proofs.SequenceLaws.All.{stand_in_order}
 use Rattle.reject_bits.specs.Parts.{Rejects}
 use Rattle.cert_format.specs.Parts.{CertParts}
 use Rattle.cert_format.specs.Accepted.{HasRay, IsNamed}
@@ -34,14 +34,14 @@ use Rattle.pair_budget.specs.Decide.{AreResults, IsFoundBy, IsRayOf, turned}
 use Rattle.pair_budget.specs.Decided.{DecidesOver, IsUnseen}
 use Rattle.pair_budget.specs.Through.{IsRayThrough}
 use Rattle.pair_budget.proofs.FoundSectorsLaws.{reached_by}
-use Rattle.sight_workers.specs.declared.view.Task.{Task}
-use Rattle.sight_workers.specs.Teams.{AreWalked}
+use Rattle.group_job.specs.declared.sight_workers.view.Task.{Task}
+use Rattle.group_job.specs.SightWorkers.Teams.{AreWalked}
 use Rattle.group_job.specs.Results.{AreVerdicts}
 use Rattle.group_job.specs.Sight.{AreAllThrough, IsFoundAlong, IsRayAlong, AreRaysAlong, HasSightRays, TellsWhoSees}
 use Rattle.group_job.proofs.VerdictLaws.{cert_rays, both_bits_of}
-use Rattle.list_base.proofs.Numbers.{same_below_or_above, below_or_not}
-use Rattle.list_base.proofs.Lists.{last_pushed}
-use Rattle.half_edges.proofs.EachLine.{same_or_not}
+use Rattle.math_base.proofs.Numbers.{same_below_or_above, below_or_not}
+use Rattle.math_base.proofs.Lists.{last_pushed}
+use Rattle.mesh_shape.proofs.HalfEdges.EachLine.{same_or_not}
 
 -- ---- the rays
 

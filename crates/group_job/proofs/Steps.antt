@@ -3,7 +3,7 @@ use Rattle.std.proofs.Common.{◌≡◌, ℕ, ◌<◌, ◌⊎◌, inl, inr, List
 use Rattle.std.proofs.lemmas.Option.{same_Some, slice_get_within}
 use Rattle.sight_names.specs.declared.names.Pair.{Pair}
 use Rattle.sight_names.specs.Groups.{IsInGroup}
-use Rattle.groups_base.proofs.Ordered.{at_contains, contains_at}
+use Rattle.face_groups.proofs.GroupsBase.Ordered.{at_contains, contains_at}
 use Rattle.pair_budget.proofs.FoundSectorsLaws.{pair_is}
 use Rattle.reject_bits.specs.Parts.{TableParts, Rejects}
 use Rattle.group_job.specs.Marks.{SetsMore, OfSteps, HasSteps}

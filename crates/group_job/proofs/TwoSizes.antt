@@ -1,9 +1,9 @@
 -- The sizes of a certificate that is of version 2.
 use Rattle.std.proofs.Common.{◌≡◌}
 use Rattle.cert_format.specs.declared.cert.Sizes.{Sizes}
-use Rattle.cert_groups.specs.declared.cert.AnyCert.{AnyCert}
-use Rattle.cert_groups.specs.declared.cert.AnyCert.TheVariants.{One, Two}
-use Rattle.cert_groups.specs.Grammar.{sizes_of}
+use Rattle.cert_format.specs.declared.cert_groups.cert.AnyCert.{AnyCert}
+use Rattle.cert_format.specs.declared.cert_groups.cert.AnyCert.TheVariants.{One, Two}
+use Rattle.cert_format.specs.CertGroups.Grammar.{sizes_of}
 use Rattle.group_job.specs.Built.{IsTwoOf}
 
 -- for a map of these sizes it has them

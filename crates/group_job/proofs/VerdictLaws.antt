@@ -11,10 +11,10 @@ use Rattle.sight_names.specs.Map.{Map, map_of}
 use Rattle.sight_names.specs.declared.names.Triangle.{Triangle}
 use Rattle.sight_names.specs.Found.{IsChain, AreConnected, Spent}
 use Rattle.sight_names.specs.Mesh.{label_of}
-use Rattle.tri_sectors.specs.Components.{AreComponents}
-use Rattle.tri_sectors.proofs.ComponentLemmas.{connected_joined}
+use Rattle.face_groups.specs.TriSectors.Components.{AreComponents}
+use Rattle.face_groups.proofs.TriSectors.ComponentLemmas.{connected_joined}
 use Rattle.sight_names.specs.Plan.{PlanParts}
-use Rattle.sight_tree.specs.declared.Tree.{Tree}
+use Rattle.block_evidence.specs.declared.sight_tree.Tree.{Tree}
 use Rattle.reject_bits.specs.Parts.{Rejects}
 use Rattle.cert_format.specs.Parts.{CertParts}
 use Rattle.cert_format.specs.Accepted.{HasRay, IsNamed}
@@ -33,8 +33,8 @@ use Rattle.pair_budget.proofs.FoundSectorsLaws.{found_of_ray, same_or_other, pai
 use Rattle.pair_budget.proofs.NamedLaws.{trees_cons}
 use Rattle.group_job.specs.Results.{AreShown, AreSetApart, AreTreesOfUnspent, AreVerdicts, HasTreeAway}
 use Rattle.group_job.proofs.BuildLaws.{tree_of_source}
-use Rattle.list_base.proofs.Lists.{all_so, all_at, contains_none, contains_here}
-use Rattle.list_base.proofs.Numbers.{same_or_not, below_or_above}
+use Rattle.math_base.proofs.Lists.{all_so, all_at, contains_none, contains_here}
+use Rattle.math_base.proofs.Numbers.{same_or_not, below_or_above}
 use Rattle.sight_names.proofs.Neighbours.{neighbours_back}
 
 -- a list of rays has one for the pair, or none

@@ -6,7 +6,7 @@ use Rattle.sight_names.specs.Plan.{PlanParts}
 use Rattle.sight_names.specs.Map.{map_of}
 use Rattle.sight_names.specs.Mesh.{IsMeshOf}
 use Rattle.sight_names.specs.Sound.{LinesMeetAtEnds}
-use Rattle.groups_base.specs.Found.{AreFoundGroups}
+use Rattle.face_groups.specs.GroupsBase.Found.{AreFoundGroups}
 use Rattle.group_job.specs.declared.faces.Faces.{Faces}
 use Rattle.group_job.specs.Faces.{AreFacesOf}
 use Rattle.group_job.proofs.GoodLabelled.{label_there}

@@ -12,18 +12,18 @@ use Rattle.sight_names.specs.Mesh.{IsMeshOf, AreLabelsOf}
 use Rattle.sight_names.specs.Enough.{IsBudgetOf}
 use Rattle.sight_names.specs.Found.{AreConnected, Found, Spent}
 use Rattle.sight_names.specs.Groups.{AreGroups, IsGroupedMap, IsListedByGroups}
-use Rattle.sight_tree.specs.declared.Tree.{Tree}
+use Rattle.block_evidence.specs.declared.sight_tree.Tree.{Tree}
 use Rattle.reject_bits.specs.Parts.{Rejects}
 use Rattle.mesh_shape.specs.Faults.{IsFirstSideAgainst}
-use Rattle.tri_sectors.specs.Verdict.{IsClosedSide}
+use Rattle.face_groups.specs.TriSectors.Verdict.{IsClosedSide}
 use Rattle.cert_format.specs.declared.cert.Sizes.{Sizes}
 use Rattle.cert_format.specs.Accepted.{HasRay}
 use Rattle.cert_format.specs.Sizes.{sizes_of}
-use Rattle.cert_groups.specs.Grammar.{IsAnyInOrder}
-use Rattle.accepted_groups.specs.Accepted.{IsAcceptedAny}
-use Rattle.cert_groups.specs.declared.cert.CertTwo.{CertTwo}
-use Rattle.cert_groups.specs.declared.cert.AnyCert.{AnyCert}
-use Rattle.cert_groups.specs.declared.cert.AnyCert.TheVariants.{One, Two}
+use Rattle.cert_format.specs.CertGroups.Grammar.{IsAnyInOrder}
+use Rattle.cert_checker.specs.AcceptedGroups.Accepted.{IsAcceptedAny}
+use Rattle.cert_format.specs.declared.cert_groups.cert.CertTwo.{CertTwo}
+use Rattle.cert_format.specs.declared.cert_groups.cert.AnyCert.{AnyCert}
+use Rattle.cert_format.specs.declared.cert_groups.cert.AnyCert.TheVariants.{One, Two}
 use Rattle.face_groups.specs.declared.fault.GroupFault.{GroupFault}
 use Rattle.face_groups.specs.declared.fault.GroupFault.TheVariants as fault
 use Rattle.group_job.specs.declared.build.GroupBuilt.{GroupBuilt}

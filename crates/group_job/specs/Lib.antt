@@ -8,3 +8,4 @@ pub mod Rows
 pub mod Sectors
 pub mod Sight
 pub mod Walked
+pub mod SightWorkers

@@ -8,9 +8,9 @@ use Rattle.sight_names.specs.declared.names.Triangle.{Triangle}
 use Rattle.sight_names.specs.Map.{Map, map_of}
 use Rattle.sight_names.specs.Plan.{PlanParts}
 use Rattle.sight_names.specs.Found.{AreConnected, Spent}
-use Rattle.tri_sectors.specs.Components.{AreComponents}
-use Rattle.sight_tree.specs.declared.Tree.{Tree}
-use Rattle.sight_tree.specs.WholeTree.{IsWholeTree, KeepsFrom}
+use Rattle.face_groups.specs.TriSectors.Components.{AreComponents}
+use Rattle.block_evidence.specs.declared.sight_tree.Tree.{Tree}
+use Rattle.block_evidence.specs.SightTree.WholeTree.{IsWholeTree, KeepsFrom}
 use Rattle.reject_bits.specs.Parts.{Rejects}
 use Rattle.cert_format.specs.Parts.{CertParts}
 use Rattle.cert_format.specs.Accepted.{HasRay, HasTreeWithout, IsNamed, triangles_of, labels_of}
@@ -22,9 +22,9 @@ use Rattle.pair_budget.specs.Decide.{AreResults, IsSettled, DecidesTable, Decide
 use Rattle.pair_budget.specs.Decided.{DecidesOver}
 use Rattle.pair_budget.specs.Walked.{IsOutcome}
 use Rattle.pair_budget.specs.Whole.{IsShown}
-use Rattle.sight_workers.specs.declared.job.Job.{Job}
-use Rattle.sight_workers.specs.Board.{task_for}
-use Rattle.sight_workers.specs.Teams.{AreWalked}
+use Rattle.group_job.specs.declared.sight_workers.job.Job.{Job}
+use Rattle.group_job.specs.SightWorkers.Board.{task_for}
+use Rattle.group_job.specs.SightWorkers.Teams.{AreWalked}
 use Rattle.group_job.specs.declared.walked.Built.{Built}
 use Rattle.group_job.specs.declared.faces.Faces.{Faces}
 use Rattle.group_job.specs.Labelled.{labelled_of}

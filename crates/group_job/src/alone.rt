@@ -6,18 +6,18 @@ ghost use Rattle.sight_names.specs.Groups.{AreGroups, HasClosedFaces};
 ghost use Rattle.sight_names.specs.Map.{map_of};
 ghost use Rattle.sight_names.specs.Sound.{LinesMeetAtEnds};
 ghost use Rattle.cert_format.specs.Sizes.{sizes_of};
-ghost use Rattle.cert_groups.specs.Grammar.{IsAnyInOrder};
-ghost use Rattle.accepted_groups.specs.Accepted.{IsAcceptedAny};
+ghost use Rattle.cert_format.specs.CertGroups.Grammar.{IsAnyInOrder};
+ghost use Rattle.cert_checker.specs.AcceptedGroups.Accepted.{IsAcceptedAny};
 ghost use Rattle.group_job.specs.Built.{IsGroupFault, IsSymmetric, TellsSectors, DecidesByGroups, IsTwoOf, OfTwo, HasRaysOfFound, HasTreesOfUnspent};
 
 use crate::build::{GroupBuilt, by_sectors};
 use crate::grouped::map_of_groups;
+use crate::sight_workers::{Gate, Job, walk_alone};
 use crate::walked::{budget_for, built_of};
 use face_groups::GroupFault;
+use face_groups::tri_sectors::components;
 use sight_names::{Ask, Plan};
-use sight_workers::{Gate, Job, walk_alone};
 use std::alloc::Global;
-use tri_sectors::components;
 
 /// The table of a map whose lines meet at ends, by the walks of all its groups within the budget that is asked for, without
 /// a thread. A bit is set where the bits of all groups that contain the two sectors are.

@@ -8,8 +8,8 @@ ghost use Rattle.sight_names.specs.Groups.{AreGroups, HasClosedFaces};
 ghost use Rattle.sight_names.specs.Map.{map_of};
 ghost use Rattle.sight_names.specs.Sound.{LinesMeetAtEnds};
 ghost use Rattle.cert_format.specs.Sizes.{sizes_of};
-ghost use Rattle.cert_groups.specs.Grammar.{IsAnyInOrder};
-ghost use Rattle.accepted_groups.specs.Accepted.{IsAcceptedAny};
+ghost use Rattle.cert_format.specs.CertGroups.Grammar.{IsAnyInOrder};
+ghost use Rattle.cert_checker.specs.AcceptedGroups.Accepted.{IsAcceptedAny};
 ghost use Rattle.group_job.specs.Built.{IsGroupFault, IsSymmetric, TellsSectors, DecidesByGroups, IsGroupBuild, IsTwoOf, OfTwo, HasRaysOfFound, HasTreesOfUnspent};
 ghost use Rattle.group_job.specs.Sectors.{AreClear, AreOfSectors, ArePairsBelow};
 ghost use Rattle.group_job.specs.Walked.{AreWalkedGroups};
@@ -17,15 +17,15 @@ ghost use Rattle.group_job.specs.Walked.{AreWalkedGroups};
 use crate::certificate::map_sizes;
 use crate::grouped::{MapOfGroups, map_of_groups};
 use crate::sectors::{copied, sector_table};
+use crate::sight_workers::{Gate, Job, walk_all};
 use crate::walked::{Built, budget_for, built_of};
-use cert_groups::{AnyCert, CertTwo};
+use cert_format::cert_groups::{AnyCert, CertTwo};
 use face_groups::GroupFault;
+use face_groups::tri_sectors::components;
 use reject_bits::Table;
 use sight_names::{Ask, Items, Memory, Pair, Plan};
-use sight_workers::{Gate, Job, walk_all};
 use std::alloc::Global;
 use std::thread::Threads;
-use tri_sectors::components;
 
 /// The table of a map's sectors, the pairs that aren't decided within the budgets, and the certificate of both, which is of
 /// version 2.

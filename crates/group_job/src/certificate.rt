@@ -8,10 +8,10 @@ ghost use Rattle.cert_format.specs.Sizes.{sizes_of};
 ghost use Rattle.sight_names.specs.Plan.{IsPlan};
 ghost use Rattle.group_job.specs.Labelled.{labelled_of, added};
 
+use block_evidence::sight_tree::Tree;
 use cert_format::{Cert, Labelled, Sizes};
 use mesh_shape::{Labels, Mesh};
 use sight_names::{Items, Memory, Pair, PairRay, Plan, Triangle};
-use sight_tree::Tree;
 use std::alloc::Global;
 
 /// Puts the triangle with its sector at the end, where it has one.

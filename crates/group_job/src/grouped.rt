@@ -7,7 +7,7 @@ ghost use Rattle.group_job.specs.Built.{IsGroupFault};
 ghost use Rattle.group_job.specs.Grouped.{IsMapOfGroups};
 
 use crate::faces::{Faces, triangles_of};
-use cert_groups::Group;
+use cert_format::cert_groups::Group;
 use face_groups::{GroupFault, Grouped, group_map};
 use sight_names::{Items, Plan};
 use std::alloc::Global;

@@ -7,7 +7,7 @@ ghost use Rattle.group_job.specs.Marks.{SetsMore};
 ghost use Rattle.group_job.specs.Sectors.{AreClear, AreListed, AreListedByGroups, AreOfSectors, ArePairsBelow, HasClearPairs, HasOtherBits, ListsBetween, FollowGroups};
 ghost use Rattle.group_job.specs.Rows.{ListedBefore};
 
-use cert_groups::Group;
+use cert_format::cert_groups::Group;
 use reject_bits::Table;
 use sight_names::{Items, Memory, Pair};
 use std::alloc::Global;

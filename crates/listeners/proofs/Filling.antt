@@ -5,7 +5,7 @@ use Rattle.std.proofs.Math.Seq.{drop-append_seam, take-append_seam, drop-append-
 use borrow.Rule.Slice.PartMut.{mid_of, post_of, put_mid}
 use Rattle.listeners.specs.Listening.{AreWordsAt, ListenerState, listener_text}
 use Rattle.listeners.specs.Told.{texts}
-use Rattle.list_base.proofs.Lists.{drop_more as drop-add}
+use Rattle.math_base.proofs.Lists.{drop_more as drop-add}
 
 -- so many bytes are written of all from a place on, and what is left of them is what is left of the rest from its own place on
 pub record IsFilling (all : List ℕ) (start : ℕ) (before now rest : List ℕ) (at filled : ℕ) : Type 0 where

@@ -5,8 +5,8 @@ use Rattle.std.specs.List.{AllZip}
 use Rattle.std.proofs.lemmas.List.{append-nil}
 use Rattle.std.proofs.lemmas.List.Sums.{sum_by-cons}
 use Rattle.std.proofs.lemmas.Bool.Decides.{nat_tests}
-use Rattle.list_base.proofs.Bools.{first_false, second_false}
-use Rattle.list_base.proofs.Numbers.{below_or_not, same_or_below, tells_below, tells_not_below, tells_other, tells_same}
+use Rattle.math_base.proofs.Bools.{first_false, second_false}
+use Rattle.math_base.proofs.Numbers.{below_or_not, same_or_below, tells_below, tells_not_below, tells_other, tells_same}
 use Rattle.listeners.specs.declared.finding.Finding.{Finding}
 use Rattle.listeners.specs.Listening.{ListenerState, is_quota, is_set_kind, sets_in}
 use Rattle.listeners.specs.Told.{AreTold, AreToldInTurn, HeardFront, HeardFronts, HeardMore, IsTold, StopsAmong, TellsAll, TellsInPart, ends_among, ends_with, ends_within, texts}

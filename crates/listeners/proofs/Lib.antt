@@ -4,3 +4,4 @@ mod InTurn
 pub mod Turns
 pub mod Heards
 pub mod Reports
+pub mod PairFindings

@@ -5,3 +5,4 @@ pub mod Listening
 pub mod Reporters
 pub mod Texts
 pub mod Told
+pub mod PairFindings

@@ -5,6 +5,7 @@ mod finding;
 mod first_set;
 mod lines;
 mod listener;
+pub mod pair_findings;
 mod report;
 mod telling;
 mod totals;

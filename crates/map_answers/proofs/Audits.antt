@@ -3,7 +3,7 @@ use Rattle.std.proofs.Common.{◌≡◌, ℕ, List, Ok, sym, ap, ◌∙◌}
 use Rattle.std.specs.Prelude.{⊤}
 use Rattle.sight_names.specs.Map.{map_of}
 use Rattle.sight_names.specs.Plan.{IsPlan, PlanParts}
-use Rattle.sight_status.specs.Answer.{Gives, only_line}
+use Rattle.map_answers.specs.SightStatus.Answer.{Gives, only_line}
 use Rattle.map_answers.specs.Audit.{AuditCalls, SoundCall, sound_line}
 use Rattle.map_answers.specs.Groups.{IsOverGroups, MapGroups}
 use Rattle.map_answers.specs.Sound.{HasSoundLines}

@@ -5,13 +5,13 @@ use Rattle.sight_names.specs.declared.names.Side.{Side}
 use Rattle.sight_names.specs.Groups.{HasClosedFaces}
 use Rattle.sight_names.specs.Map.{Map}
 use Rattle.mesh_shape.specs.Faults.{IsFirstSideAgainst, IsSideBefore}
-use Rattle.sight_status.specs.declared.status.Flaw.{Flaw}
-use Rattle.sight_status.specs.declared.status.Flaw.TheVariants as flaw
-use Rattle.sight_status.specs.declared.status.Status.{Status}
-use Rattle.sight_status.specs.declared.status.Status.TheVariants as status
-use Rattle.sight_status.specs.Answer.{Answer, Gives}
+use Rattle.map_answers.specs.declared.sight_status.status.Flaw.{Flaw}
+use Rattle.map_answers.specs.declared.sight_status.status.Flaw.TheVariants as flaw
+use Rattle.map_answers.specs.declared.sight_status.status.Status.{Status}
+use Rattle.map_answers.specs.declared.sight_status.status.Status.TheVariants as status
+use Rattle.map_answers.specs.SightStatus.Answer.{Answer, Gives}
 use Rattle.map_answers.specs.Sound.{HasLineFault, HasOpenSide, HasSoundLines, IsAuditRefusal, IsFlaw}
-use Rattle.list_base.proofs.Numbers.{below_above_or_same}
+use Rattle.math_base.proofs.Numbers.{below_above_or_same}
 
 -- ---- the least side is one
 

@@ -10,3 +10,4 @@ pub mod Counting
 pub mod Noises
 pub mod Linedefs
 pub mod Dampers
+pub mod SightStatus

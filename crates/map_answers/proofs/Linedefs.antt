@@ -10,7 +10,7 @@ use Rattle.sight_names.specs.Plan.{PlanParts}
 use Rattle.sight_names.specs.declared.names.MapFormat.{MapFormat}
 use Rattle.sight_names.specs.declared.names.Reading.{Reading}
 use Rattle.sight_names.specs.Lumps.{count_linedefs, fault_if, linedef, linedef_len, lump_fault, map_of_lumps, numbers_below, numbers_from}
-use Rattle.sight_status.specs.declared.status.Status.{Status}
+use Rattle.map_answers.specs.declared.sight_status.status.Status.{Status}
 use Rattle.map_answers.specs.Input.{of_four_lumps, of_lumps}
 
 clash : (e : Status) (m : Map) → ◌≡◌ {A = Result Map Status} (Err e) (Ok m) → ⊥

@@ -9,11 +9,11 @@ use Rattle.sight_names.specs.Enough.{enough_of}
 use Rattle.sight_names.specs.Map.{Map, map_of}
 use Rattle.sight_names.specs.Mesh.{IsGoodMesh}
 use Rattle.sight_names.specs.Plan.{IsPlan, PlanParts}
-use Rattle.sequence_laws.proofs.All.{stand_in_order}
-use Rattle.enough_budget.specs.Need.{HasSequences, greatest}
-use Rattle.sight_status.specs.declared.status.Status.{Status}
-use Rattle.sight_status.specs.declared.status.Status.TheVariants as status
-use Rattle.sight_status.specs.Answer.{Answer, Gives, line_answer, only_line}
+use Rattle.sight_lift.proofs.SequenceLaws.All.{stand_in_order}
+use Rattle.portal_walk.specs.EnoughBudget.Need.{HasSequences, greatest}
+use Rattle.map_answers.specs.declared.sight_status.status.Status.{Status}
+use Rattle.map_answers.specs.declared.sight_status.status.Status.TheVariants as status
+use Rattle.map_answers.specs.SightStatus.Answer.{Answer, Gives, line_answer, only_line}
 use Rattle.map_answers.specs.Groups.{IsOverGroups, MapGroups}
 use Rattle.map_answers.specs.Need.{AreNeeds, NeedCalls, NeedsOf, need_line}
 use Rattle.map_answers.specs.Sound.{HasSoundLines}

@@ -6,10 +6,10 @@ use Rattle.sight_names.specs.declared.names.Side.{Side}
 use Rattle.sight_names.specs.Map.{Map}
 use Rattle.sight_names.specs.Noise.{AreHeardCounts, Heard, IsFirstNoisePath}
 use Rattle.sound_reach.proofs.OneNoise.{one_count, one_first}
-use Rattle.sight_status.specs.declared.status.Why.TheVariants as why
-use Rattle.sight_status.specs.declared.status.Status.{Status}
-use Rattle.sight_status.specs.declared.status.Status.TheVariants as status
-use Rattle.sight_status.specs.Answer.{Answer, IsTheAnswer, only_line}
+use Rattle.map_answers.specs.declared.sight_status.status.Why.TheVariants as why
+use Rattle.map_answers.specs.declared.sight_status.status.Status.{Status}
+use Rattle.map_answers.specs.declared.sight_status.status.Status.TheVariants as status
+use Rattle.map_answers.specs.SightStatus.Answer.{Answer, IsTheAnswer, only_line}
 use Rattle.map_answers.specs.Noise.{CountCalls, IsMissing, PairCalls, heard_line, no_noise_line, noise_line, path_line}
 
 module _ (m : Map) (d : List Bool) (pair : Pair) where

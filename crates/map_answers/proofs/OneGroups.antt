@@ -6,9 +6,9 @@ use Rattle.sight_names.specs.Groups.{IsGroupedMap}
 use Rattle.sight_names.specs.Mesh.{AreLabelsOf}
 use Rattle.sight_names.specs.Plan.{IsPlan, PlanParts}
 use Rattle.sight_names.proofs.OneMesh.{one_labels, one_mesh}
-use Rattle.groups_base.proofs.OneGrouped.{one_grouped}
-use Rattle.groups_base.proofs.Ordered.{same_groups}
-use Rattle.group_laws.proofs.WholeLaws.{each_has_list, groups_are_sound, groups_have_mesh}
+use Rattle.face_groups.proofs.GroupsBase.OneGrouped.{one_grouped}
+use Rattle.face_groups.proofs.GroupsBase.Ordered.{same_groups}
+use Rattle.triangulate.proofs.GroupLaws.WholeLaws.{each_has_list, groups_are_sound, groups_have_mesh}
 use Rattle.map_answers.specs.Groups.{IsOverGroups, MapGroups}
 
 module _ (p : PlanParts) (plan : IsPlan p) (f g : MapGroups) (of_f : IsOverGroups (map_of p) f) (of_g : IsOverGroups (map_of p) g) where

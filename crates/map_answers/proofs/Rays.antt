@@ -6,10 +6,10 @@ use Rattle.sight_names.specs.declared.faults.RayFault.{RayFault}
 use Rattle.sight_names.specs.Map.{Map}
 use Rattle.sight_names.specs.Ray.{IsSightRay}
 use Rattle.sight_ray.specs.RayFault.{IsRayFault}
-use Rattle.sight_status.specs.declared.status.Why.TheVariants as why
-use Rattle.sight_status.specs.declared.status.Status.{Status}
-use Rattle.sight_status.specs.declared.status.Status.TheVariants as status
-use Rattle.sight_status.specs.Answer.{Answer, IsTheAnswer}
+use Rattle.map_answers.specs.declared.sight_status.status.Why.TheVariants as why
+use Rattle.map_answers.specs.declared.sight_status.status.Status.{Status}
+use Rattle.map_answers.specs.declared.sight_status.status.Status.TheVariants as status
+use Rattle.map_answers.specs.SightStatus.Answer.{Answer, IsTheAnswer}
 use Rattle.map_answers.specs.Ray.{RayCalls}
 
 -- an Ok is no Err

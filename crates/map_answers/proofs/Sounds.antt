@@ -5,10 +5,10 @@ use Rattle.sight_names.specs.declared.faults.LineFault.{LineFault}
 use Rattle.sight_names.specs.Map.{Map}
 use Rattle.sight_names.specs.Sound.{LinesMeetAtEnds}
 use Rattle.map_audit.specs.Audit.{IsLineFault}
-use Rattle.sight_status.specs.declared.status.Flaw.TheVariants as flaw
-use Rattle.sight_status.specs.declared.status.Status.{Status}
-use Rattle.sight_status.specs.declared.status.Status.TheVariants as status
-use Rattle.sight_status.specs.Answer.{Answer, Gives}
+use Rattle.map_answers.specs.declared.sight_status.status.Flaw.TheVariants as flaw
+use Rattle.map_answers.specs.declared.sight_status.status.Status.{Status}
+use Rattle.map_answers.specs.declared.sight_status.status.Status.TheVariants as status
+use Rattle.map_answers.specs.SightStatus.Answer.{Answer, Gives}
 use Rattle.map_answers.specs.Input.{LocatedMap, OnFound}
 use Rattle.map_answers.specs.Sound.{HasLineFault, HasSoundLines, OnSoundLines}
 

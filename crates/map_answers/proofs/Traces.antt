@@ -6,12 +6,12 @@ use Rattle.sight_names.specs.declared.faults.TraceFault.{TraceFault}
 use Rattle.sight_names.specs.declared.faults.TraceFault.TheVariants as trace
 use Rattle.sight_names.specs.Map.{map_of}
 use Rattle.sight_names.specs.Plan.{IsPlan, PlanParts}
-use Rattle.ray_trace.specs.Trace.{IsTrace}
-use Rattle.ray_trace.proofs.OneTrace.{IsTraced, one_answer}
-use Rattle.sight_status.specs.declared.status.Why.TheVariants as why
-use Rattle.sight_status.specs.declared.status.Status.{Status}
-use Rattle.sight_status.specs.declared.status.Status.TheVariants as status
-use Rattle.sight_status.specs.Answer.{Answer, Gives, only_line}
+use Rattle.sight_ray.specs.RayTrace.Trace.{IsTrace}
+use Rattle.sight_ray.proofs.RayTrace.OneTrace.{IsTraced, one_answer}
+use Rattle.map_answers.specs.declared.sight_status.status.Why.TheVariants as why
+use Rattle.map_answers.specs.declared.sight_status.status.Status.{Status}
+use Rattle.map_answers.specs.declared.sight_status.status.Status.TheVariants as status
+use Rattle.map_answers.specs.SightStatus.Answer.{Answer, Gives, only_line}
 use Rattle.map_answers.specs.Groups.{IsOverGroups, MapGroups}
 use Rattle.map_answers.specs.Sound.{HasSoundLines}
 use Rattle.map_answers.specs.Trace.{IsTraceRefusal, RayCallsFor, TraceCalls, places_of, trace_line}

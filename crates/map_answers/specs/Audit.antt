@@ -3,8 +3,8 @@ use Rattle.std.specs.Prelude.{◌≡◌, ℕ, List, ◌++◌, length, filter_map
 use Rattle.std.specs.Fmt.{decimal}
 use Rattle.sight_names.specs.Map.{Map}
 use Rattle.sight_names.specs.Points.{lines_of, points_of}
-use Rattle.sight_status.specs.declared.status.Status.{Status}
-use Rattle.sight_status.specs.Answer.{Answer, only_line}
+use Rattle.map_answers.specs.declared.sight_status.status.Status.{Status}
+use Rattle.map_answers.specs.SightStatus.Answer.{Answer, only_line}
 use Rattle.map_answers.specs.Groups.{MapGroups, OnAudited}
 
 -- how many lines, points and sectors the map has, and how many triangles are on faces that have a sector

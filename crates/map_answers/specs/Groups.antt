@@ -6,10 +6,10 @@ use Rattle.sight_names.specs.Groups.{AreGroups, HasClosedFaces, IsGroupedMap}
 use Rattle.sight_names.specs.Mesh.{AreLabelsOf, IsGoodMesh, IsMeshOf}
 use Rattle.sight_names.specs.Plan.{IsPlan, PlanParts}
 use Rattle.sight_names.specs.Sound.{IsSound}
-use Rattle.sight_status.specs.declared.status.Flaw.TheVariants as flaw
-use Rattle.sight_status.specs.declared.status.Status.{Status}
-use Rattle.sight_status.specs.declared.status.Status.TheVariants as status
-use Rattle.sight_status.specs.Answer.{Answer}
+use Rattle.map_answers.specs.declared.sight_status.status.Flaw.TheVariants as flaw
+use Rattle.map_answers.specs.declared.sight_status.status.Status.{Status}
+use Rattle.map_answers.specs.declared.sight_status.status.Status.TheVariants as status
+use Rattle.map_answers.specs.SightStatus.Answer.{Answer}
 use Rattle.map_answers.specs.declared.groups.MeshGroups.{MeshGroups}
 use Rattle.map_answers.specs.Sound.{HasOpenSide, OnSoundLines}
 

@@ -11,10 +11,10 @@ use Rattle.sight_names.specs.Lumps.{map_of_lumps, lump_fault}
 use Rattle.wad_dir.specs.declared.parts.MapSpot.{MapSpot}
 use Rattle.wad_dir.specs.Wad.{WadFile, names_of, wad_of}
 use Rattle.wad_dir.specs.Map.{spot_of}
-use Rattle.sight_status.specs.declared.status.Bound.TheVariants as bound
-use Rattle.sight_status.specs.declared.status.Status.{Status}
-use Rattle.sight_status.specs.declared.status.Status.TheVariants as status
-use Rattle.sight_status.specs.Answer.{◌>>=◌, Answer}
+use Rattle.map_answers.specs.declared.sight_status.status.Bound.TheVariants as bound
+use Rattle.map_answers.specs.declared.sight_status.status.Status.{Status}
+use Rattle.map_answers.specs.declared.sight_status.status.Status.TheVariants as status
+use Rattle.map_answers.specs.SightStatus.Answer.{◌>>=◌, Answer}
 
 -- the WAD of a file, where the map's lumps stand in it, and the map
 pub record LocatedMap : Type 0 where

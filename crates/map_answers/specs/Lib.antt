@@ -8,3 +8,4 @@ pub mod Trace
 pub mod Need
 pub mod Noise
 pub mod Counts
+pub mod SightStatus

@@ -4,9 +4,9 @@ use Rattle.std.specs.Fmt.{decimal}
 use Rattle.sight_names.specs.declared.names.Triangle.{Triangle}
 use Rattle.sight_names.specs.Enough.{enough_of}
 use Rattle.sight_names.specs.Map.{Map}
-use Rattle.enough_budget.specs.Need.{HasSequences, greatest}
-use Rattle.sight_status.specs.declared.status.Status.{Status}
-use Rattle.sight_status.specs.Answer.{Answer, only_line}
+use Rattle.portal_walk.specs.EnoughBudget.Need.{HasSequences, greatest}
+use Rattle.map_answers.specs.declared.sight_status.status.Status.{Status}
+use Rattle.map_answers.specs.SightStatus.Answer.{Answer, only_line}
 use Rattle.map_answers.specs.Groups.{MapGroups, OnAudited}
 
 -- for each sector the number of its stabbable sequences

@@ -11,11 +11,11 @@ use Rattle.sight_names.specs.Texts.{side_text}
 use Rattle.sound_reach.specs.Dampers.{dampers_of}
 use Rattle.wad_dir.specs.Wad.{WadFile, file_of}
 use Rattle.wad_dir.specs.declared.parts.MapSpot.{MapSpot}
-use Rattle.sight_status.specs.declared.status.Why.TheVariants as why
-use Rattle.sight_status.specs.declared.status.Status.{Status}
-use Rattle.sight_status.specs.declared.status.Status.TheVariants as status
-use Rattle.sight_status.specs.Answer.{Answer, only_line}
-use Rattle.sight_status.specs.Texts.{two}
+use Rattle.map_answers.specs.declared.sight_status.status.Why.TheVariants as why
+use Rattle.map_answers.specs.declared.sight_status.status.Status.{Status}
+use Rattle.map_answers.specs.declared.sight_status.status.Status.TheVariants as status
+use Rattle.map_answers.specs.SightStatus.Answer.{Answer, only_line}
+use Rattle.map_answers.specs.SightStatus.Texts.{two}
 use Rattle.map_answers.specs.declared.input.Input.{Input}
 use Rattle.map_answers.specs.Input.{LocatedMap, lump_at}
 

@@ -4,11 +4,11 @@ use Rattle.sight_names.specs.declared.names.Ray.{Ray}
 use Rattle.sight_names.specs.Map.{Map}
 use Rattle.sight_names.specs.Ray.{IsSightRay}
 use Rattle.sight_ray.specs.RayFault.{IsRayFault}
-use Rattle.sight_status.specs.declared.status.Why.TheVariants as why
-use Rattle.sight_status.specs.declared.status.Status.{Status}
-use Rattle.sight_status.specs.declared.status.Status.TheVariants as status
-use Rattle.sight_status.specs.Answer.{Answer, only_line}
-use Rattle.sight_status.specs.Texts.{two}
+use Rattle.map_answers.specs.declared.sight_status.status.Why.TheVariants as why
+use Rattle.map_answers.specs.declared.sight_status.status.Status.{Status}
+use Rattle.map_answers.specs.declared.sight_status.status.Status.TheVariants as status
+use Rattle.map_answers.specs.SightStatus.Answer.{Answer, only_line}
+use Rattle.map_answers.specs.SightStatus.Texts.{two}
 
 abbrev pub sight_line : ℕ → ℕ → List ℕ
 sight_line a b = codes "sight " ++ two a b ++ codes "\n"

@@ -6,11 +6,11 @@ use Rattle.sight_names.specs.Map.{Map}
 use Rattle.sight_names.specs.Sound.{LinesMeetAtEnds}
 use Rattle.map_audit.specs.Audit.{IsLineFault}
 use Rattle.mesh_shape.specs.Faults.{IsFirstSideAgainst}
-use Rattle.tri_sectors.specs.Verdict.{IsClosedSide}
-use Rattle.sight_status.specs.declared.status.Flaw.TheVariants as flaw
-use Rattle.sight_status.specs.declared.status.Status.{Status}
-use Rattle.sight_status.specs.declared.status.Status.TheVariants as status
-use Rattle.sight_status.specs.Answer.{Answer}
+use Rattle.face_groups.specs.TriSectors.Verdict.{IsClosedSide}
+use Rattle.map_answers.specs.declared.sight_status.status.Flaw.TheVariants as flaw
+use Rattle.map_answers.specs.declared.sight_status.status.Status.{Status}
+use Rattle.map_answers.specs.declared.sight_status.status.Status.TheVariants as status
+use Rattle.map_answers.specs.SightStatus.Answer.{Answer}
 
 -- the first pair of lines that share more than an end of both refuses the map; where there is none, the answer is another
 abbrev pub OnSoundLines : Map → (Result Answer Status → Type 0) → Result Answer Status → Type 0

@@ -7,11 +7,11 @@ use Rattle.sight_names.specs.declared.names.Triangle.{Triangle}
 use Rattle.sight_names.specs.declared.faults.TraceFault.TheVariants as trace
 use Rattle.sight_names.specs.Map.{Map}
 use Rattle.sight_names.specs.Mesh.{label_of}
-use Rattle.ray_trace.specs.Trace.{IsTrace, IsTraceFault}
-use Rattle.sight_status.specs.declared.status.Why.TheVariants as why
-use Rattle.sight_status.specs.declared.status.Status.{Status}
-use Rattle.sight_status.specs.declared.status.Status.TheVariants as status
-use Rattle.sight_status.specs.Answer.{Answer, only_line}
+use Rattle.sight_ray.specs.RayTrace.Trace.{IsTrace, IsTraceFault}
+use Rattle.map_answers.specs.declared.sight_status.status.Why.TheVariants as why
+use Rattle.map_answers.specs.declared.sight_status.status.Status.{Status}
+use Rattle.map_answers.specs.declared.sight_status.status.Status.TheVariants as status
+use Rattle.map_answers.specs.SightStatus.Answer.{Answer, only_line}
 use Rattle.map_answers.specs.Groups.{MapGroups, OnAudited}
 
 abbrev pub is_last : Option ℕ → ℕ → Bool

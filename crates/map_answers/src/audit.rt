@@ -4,14 +4,14 @@ ghost use Rattle.std.specs.Prelude.{◌≡◌, ◌++◌, IfErr, IfOk, Ok, codes,
 ghost use Rattle.std.specs.Fmt.{decimal};
 ghost use Rattle.sight_names.specs.Map.{map_of};
 ghost use Rattle.sight_names.specs.Points.{lines_of, points_of};
-ghost use Rattle.sight_status.specs.Answer.{Gives, line_answer};
+ghost use Rattle.map_answers.specs.SightStatus.Answer.{Gives, line_answer};
 ghost use Rattle.map_answers.specs.Audit.{AuditCalls, sound_line};
-ghost use Rattle.sight_status.specs.Status.{IsOfMapTest};
+ghost use Rattle.map_answers.specs.SightStatus.Status.{IsOfMapTest};
 
 use crate::groups::audit_map;
+use crate::sight_status::{Status, push_count, push_count_line};
 use mesh_shape::Labels;
 use sight_names::{Line, Plan};
-use sight_status::{Status, push_count, push_count_line};
 use std::alloc::{AllocError, Global};
 
 /// How many of the records are lines.

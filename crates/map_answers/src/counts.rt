@@ -3,8 +3,8 @@
 ghost use Rattle.std.specs.Prelude.{◌≡◌, ◌≤◌, ◌<◌, ◌*◌, ◌++◌, OnOk, string_bytes};
 ghost use Rattle.map_answers.specs.Counts.{counts_with, counts_words, pair_count, set_from, set_pairs};
 
+use crate::sight_status::push_number;
 use reject_bits::Table;
-use sight_status::push_number;
 use std::alloc::{AllocError, Global};
 
 /// How many sectors a table has, and how many pairs (a, b) with a <= b are set, clear or listed.

@@ -8,11 +8,11 @@ ghost use Rattle.mesh_shape.specs.Fills.{FillsSides};
 ghost use Rattle.map_answers.specs.Groups.{AreGroupsOver, IsClosedRefusal};
 ghost use Rattle.map_answers.specs.Sound.{HasSoundLines, IsAuditRefusal};
 
+use crate::sight_status::{Flaw, Status};
 use crate::sound::audit_lines_of;
 use face_groups::{GroupFault, Grouped, group_map};
 use mesh_shape::Mesh;
 use sight_names::{Memory, Plan};
-use sight_status::{Flaw, Status};
 use std::alloc::Global;
 use triangulate::{greedy, mesh_of};
 

@@ -5,15 +5,15 @@ ghost use Rattle.std.specs.Option.{ForSome};
 ghost use Rattle.sight_names.specs.Map.{map_of};
 ghost use Rattle.wad_dir.specs.Map.{entry_names, spot_of};
 ghost use Rattle.wad_dir.specs.Wad.{file_of, names_of, wad_of};
-ghost use Rattle.sight_status.specs.Answer.{Makes};
+ghost use Rattle.map_answers.specs.SightStatus.Answer.{Makes};
 ghost use Rattle.map_answers.specs.Input.{of_wad, of_spot, of_four_lumps, lump_at, map_at, map_named, found_in};
-ghost use Rattle.sight_status.specs.Status.{IsOfBytes};
+ghost use Rattle.map_answers.specs.SightStatus.Status.{IsOfBytes};
 ghost use Rattle.map_answers.specs.Noise.{HasLinedefs};
 ghost use Rattle.map_answers.specs.Views.{found, IsWhole};
 
+use crate::sight_status::{Bound, Status};
 use map_lumps::read_lumps;
 use sight_names::{LumpFault, Plan, Reading, WadFault};
-use sight_status::{Bound, Status};
 use std::alloc::Global;
 use wad_dir::{MapSpot, Wad, find_map, lump, read_wad};
 

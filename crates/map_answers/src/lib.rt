@@ -8,6 +8,7 @@ mod input;
 mod need;
 mod noise;
 mod ray;
+pub mod sight_status;
 mod sound;
 mod trace;
 

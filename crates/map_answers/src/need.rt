@@ -5,16 +5,16 @@ ghost use Rattle.sight_names.specs.Enough.{enough_of};
 ghost use Rattle.sight_names.specs.Map.{map_of};
 ghost use Rattle.sight_names.specs.Mesh.{IsGoodMesh, IsMeshOf};
 ghost use Rattle.sight_names.specs.Sound.{LinesMeetAtEnds};
-ghost use Rattle.enough_budget.specs.Need.{greatest};
-ghost use Rattle.sight_status.specs.Answer.{Gives, line_answer};
+ghost use Rattle.portal_walk.specs.EnoughBudget.Need.{greatest};
+ghost use Rattle.map_answers.specs.SightStatus.Answer.{Gives, line_answer};
 ghost use Rattle.map_answers.specs.Need.{AreNeeds, NeedCalls, need_line};
-ghost use Rattle.sight_status.specs.Status.{IsOfMapTest};
-ghost use Rattle.sight_status.specs.declared.status.Status.TheVariants.{Memory};
+ghost use Rattle.map_answers.specs.SightStatus.Status.{IsOfMapTest};
+ghost use Rattle.map_answers.specs.declared.sight_status.status.Status.TheVariants.{Memory};
 
 use crate::groups::{MeshGroups, audit_map};
-use enough_budget::{enough, most, need};
+use crate::sight_status::{Status, push_count, push_count_line};
+use portal_walk::enough_budget::{enough, most, need};
 use sight_names::Plan;
-use sight_status::{Status, push_count, push_count_line};
 use std::alloc::{AllocError, Global};
 
 fn line_of(alloc: Global, name: &str, most: u64, enough: u64) -> Result<String, AllocError>

@@ -3,16 +3,16 @@
 ghost use Rattle.std.specs.Prelude.{◌≡◌, ◌++◌, ◌<◌, IfErr, IfOk, MatchOption, OnOk, length, option_map, string_bytes, ⊤};
 ghost use Rattle.std.specs.List.{flat_map};
 ghost use Rattle.sight_names.specs.Map.{map_of};
-ghost use Rattle.sight_status.specs.Answer.{Gives, line_answer};
-ghost use Rattle.sight_status.specs.Status.{IsOfSoundTest};
+ghost use Rattle.map_answers.specs.SightStatus.Answer.{Gives, line_answer};
+ghost use Rattle.map_answers.specs.SightStatus.Status.{IsOfSoundTest};
 ghost use Rattle.map_answers.specs.Noise.{CountCalls, HasLinedefs, IsMissing, PairCalls, SoundCalls, heard_line, no_noise_line, noise_line, path_line, path_words, side_word};
 ghost use Rattle.map_answers.specs.Views.{found, IsWhole};
 
 use crate::input::{Input, lump_of};
-use sight_names::{Pair, Plan, Side};
-use sight_status::{
+use crate::sight_status::{
     Status, Why, push_count, push_count_line, push_number, push_pair_line, push_text,
 };
+use sight_names::{Pair, Plan, Side};
 use sound_reach::{Heard, count_heard, dampers, noise};
 use std::alloc::{AllocError, Global};
 

@@ -2,13 +2,13 @@
 
 ghost use Rattle.std.specs.Prelude.{◌≡◌, IfErr, IfOk, Ok, string_bytes, ⊤};
 ghost use Rattle.sight_names.specs.Map.{map_of};
-ghost use Rattle.sight_status.specs.Answer.{Gives, line_answer};
+ghost use Rattle.map_answers.specs.SightStatus.Answer.{Gives, line_answer};
 ghost use Rattle.map_answers.specs.Ray.{RayCalls, sight_line};
-ghost use Rattle.sight_status.specs.Status.{IsOfRayTest};
+ghost use Rattle.map_answers.specs.SightStatus.Status.{IsOfRayTest};
 
+use crate::sight_status::{Status, Why, push_pair_line};
 use sight_names::{Plan, Ray};
 use sight_ray::check_ray;
-use sight_status::{Status, Why, push_pair_line};
 use std::alloc::{AllocError, Global};
 
 fn make_sight_line(alloc: Global, from: u16, to: u16) -> Result<String, AllocError>

@@ -4,9 +4,9 @@ ghost use Rattle.std.specs.Prelude.{IfErr, OnOk};
 ghost use Rattle.sight_names.specs.Map.{map_of};
 ghost use Rattle.map_answers.specs.Sound.{HasSoundLines, IsLineRefusal};
 
+use crate::sight_status::{Flaw, Status};
 use map_audit::audit_lines;
 use sight_names::Plan;
-use sight_status::{Flaw, Status};
 use std::alloc::Global;
 
 /// Whether the lines of the map meet at ends alone.

@@ -4,17 +4,17 @@ ghost use Rattle.std.specs.Prelude.{◌≡◌, ◌++◌, IfErr, IfOk, MatchResul
 ghost use Rattle.std.specs.List.{flat_map};
 ghost use Rattle.sight_names.specs.Map.{map_of};
 ghost use Rattle.sight_names.specs.Mesh.{IsGoodMesh, label_of};
-ghost use Rattle.ray_trace.specs.Trace.{IsTrace};
-ghost use Rattle.sight_status.specs.Answer.{Gives, line_answer};
-ghost use Rattle.sight_status.specs.Status.{IsOfTraceTest};
+ghost use Rattle.sight_ray.specs.RayTrace.Trace.{IsTrace};
+ghost use Rattle.map_answers.specs.SightStatus.Answer.{Gives, line_answer};
+ghost use Rattle.map_answers.specs.SightStatus.Status.{IsOfTraceTest};
 ghost use Rattle.map_answers.specs.Trace.{IsTraceRefusal, TraceCalls, changes, group_text, places_of, plus_word, trace_line, word_of};
 
 use crate::groups::{MeshGroups, audit_map};
+use crate::sight_status::{Status, Why, push_count, push_number, push_text};
 use face_groups::Group;
 use mesh_shape::Labels;
-use ray_trace::trace;
 use sight_names::{Plan, Ray, TraceFault};
-use sight_status::{Status, Why, push_count, push_number, push_text};
+use sight_ray::ray_trace::trace;
 use std::alloc::{AllocError, Global};
 
 /// The label of a triangle, None where it has none or isn't there.

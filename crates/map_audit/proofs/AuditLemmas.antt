@@ -11,13 +11,13 @@ use Rattle.sight_names.specs.Sound.{LinesMeetAtEnds}
 use Rattle.sight_names.proofs.PlanMap.{points_differ}
 use Rattle.geom_exact.specs.declared.Relation.{Relation}
 use Rattle.geom_exact.specs.declared.Relation.TheVariants.{Apart, Ends, Cross as Crossing, Touch as Touching, Overlap as Overlapping}
-use Rattle.sight_laws.proofs.Plans.{line_there, no_line_there, line_below}
+use Rattle.mesh_base.proofs.SightLaws.Plans.{line_there, no_line_there, line_below}
 use Rattle.geom_exact.proofs.Uniqueness.{one_relation}
 use Rattle.geom_exact.proofs.Meeting.{apart_meet, ends_meet, no_meet_overlap, no_meet_touch, no_meet_cross, meet_swapped, apart_swapped}
 use Rattle.geom_exact.proofs.Filters.{apart_below, apart_before_all}
 use Rattle.map_audit.specs.Audit.{AreFine, FineAt, FineBelow, FineBefore, AreRelated, IsPair, IsFirstPair, IsLineFault, IsFaultOf, fault_by}
-use Rattle.list_base.proofs.Numbers.{below_differs, below_or_above}
-use Rattle.list_base.proofs.Options.{one_value}
+use Rattle.math_base.proofs.Numbers.{below_differs, below_or_above}
+use Rattle.math_base.proofs.Options.{one_value}
 
 -- ---- the two filters, and the ends of a line
 pub lines_before : (p : PlanParts) → IsPlan p → (one other : Line) → IsPlanLine p.sectors (length p.points) one → IsPlanLine p.sectors (length p.points) other

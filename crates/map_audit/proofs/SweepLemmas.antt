@@ -7,13 +7,13 @@ use Rattle.sight_names.specs.Plan.{PlanParts, IsPlan}
 use Rattle.sight_names.specs.Map.{Map, map_of}
 use Rattle.sight_names.specs.Sound.{LinesMeetAtEnds}
 use Rattle.sight_names.proofs.PlanMap.{line_of_plan}
-use Rattle.sight_laws.proofs.Plans.{line_below}
+use Rattle.mesh_base.proofs.SightLaws.Plans.{line_below}
 use Rattle.geom_exact.proofs.Meeting.{apart_meet, meet_swapped}
 use Rattle.geom_exact.proofs.Filters.{apart_below}
 use Rattle.std.proofs.lemmas.Int.{ints}
-use Rattle.line_spans.specs.declared.Span.{Span}
-use Rattle.line_spans.specs.Spans.{IsSpanIn, AreSpans}
-use Rattle.line_spans.proofs.Sweep.{ends_within, heights_within, all_behind, of_each_pair}
+use Rattle.geom_exact.specs.declared.line_spans.Span.{Span}
+use Rattle.geom_exact.specs.LineSpans.Spans.{IsSpanIn, AreSpans}
+use Rattle.geom_exact.proofs.LineSpans.Sweep.{ends_within, heights_within, all_behind, of_each_pair}
 use Rattle.map_audit.specs.Audit.{AreFine, FineAt, FineFrom}
 use Rattle.map_audit.proofs.AuditLemmas.{lines_before}
 

@@ -4,7 +4,7 @@ use Rattle.sight_names.specs.declared.faults.LineFault.{LineFault}
 use Rattle.sight_names.specs.declared.faults.LineFault.TheVariants.{Cross, Touch, Overlap}
 use Rattle.sight_names.specs.Map.{Map, MapLine, line_at}
 use Rattle.sight_names.specs.Sound.{MeetAtEnds}
-use Rattle.line_spans.specs.declared.Span.{Span}
+use Rattle.geom_exact.specs.declared.line_spans.Span.{Span}
 use Rattle.geom_exact.specs.declared.Relation.{Relation}
 use Rattle.geom_exact.specs.declared.Relation.TheVariants.{Apart, Ends, Cross as Crossing, Touch as Touching, Overlap as Overlapping}
 use Rattle.geom_exact.specs.Common.{IsRelation}

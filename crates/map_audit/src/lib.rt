@@ -5,11 +5,11 @@ ghost use Rattle.std.specs.Prelude.{◌≡◌, ◌+◌, ◌<◌, Some, length, s
 ghost use Rattle.sight_names.specs.Map.{map_of, looked_up};
 ghost use Rattle.sight_names.specs.Plan.{IsPlan, IsPlanLine};
 ghost use Rattle.sight_names.specs.Sound.{LinesMeetAtEnds};
-ghost use Rattle.line_spans.specs.Spans.{AreSpans, IsSpanIn};
+ghost use Rattle.geom_exact.specs.LineSpans.Spans.{AreSpans, IsSpanIn};
 ghost use Rattle.map_audit.specs.Audit.{AreRelated, FineAt, FineBefore, FineFrom, IsFaultOf, IsLineFault, fault_by};
 
+use geom_exact::line_spans::{NO_SPAN, Span, ends_below, put_spans};
 use geom_exact::{Relation, seg_relation};
-use line_spans::{NO_SPAN, Span, ends_below, put_spans};
 use sight_names::{Line, LineFault, Plan, Pt};
 use std::alloc::Global;
 

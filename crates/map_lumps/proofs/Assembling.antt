@@ -11,8 +11,8 @@ use Rattle.sight_names.proofs.PlanPoints.{before_irreflexive, the_ends, IsEnd, a
 use Rattle.sight_names.proofs.PlanMap.{get_at}
 use Rattle.map_lumps.specs.declared.records.PlacedLine.{PlacedLine}
 use Rattle.map_lumps.specs.Records.{placed_ends, EndsBelow, IsInOrder}
-use Rattle.list_base.proofs.Numbers.{same_below_or_above}
-use Rattle.list_base.proofs.Lists.{map_pushed, contains_none, contains_here}
+use Rattle.math_base.proofs.Numbers.{same_below_or_above}
+use Rattle.math_base.proofs.Lists.{map_pushed, contains_none, contains_here}
 
 -- ---- one line more
 

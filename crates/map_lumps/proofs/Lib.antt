@@ -3,3 +3,4 @@ pub mod Checking
 pub mod Numbering
 pub mod Assembling
 pub mod WholeMap
+pub mod HexenLumps

@@ -16,8 +16,8 @@ use Rattle.sight_names.specs.Points.{in_order, pt_eq}
 use Rattle.sight_names.proofs.Lists.{same_ascending, get_of_contains, contains_cases}
 use Rattle.sight_names.proofs.PlanPoints.{before_irreflexive, before_asymmetric, IsAscending, as_indices, in_order_ascends, in_order_from, in_order_has}
 use Rattle.map_lumps.specs.Records.{IsInOrder}
-use Rattle.list_base.proofs.Numbers.{below_or_not}
-use Rattle.list_base.proofs.Lists.{contains_none}
+use Rattle.math_base.proofs.Numbers.{below_or_not}
+use Rattle.math_base.proofs.Lists.{contains_none}
 
 -- by x, then by y
 abbrev pub pt_cmp : Pt → Pt → Ordering

@@ -4,7 +4,7 @@ use Rattle.std.specs.Int.{bit_at}
 use Rattle.std.proofs.lemmas.Nat.Bits.{and_pow, bit_at-lt}
 use Rattle.sight_names.specs.declared.faults.LumpFault.{LumpFault}
 use Rattle.sight_names.specs.Lumps.{numbers_from, numbers_below, lines_fault, first_of}
-use Rattle.list_base.proofs.Lists.{map_pushed}
+use Rattle.math_base.proofs.Lists.{map_pushed}
 
 -- one number more
 numbers_from_push : (k n : ℕ) → numbers_from k (suc n) ≡ numbers_from k n ++ (k + n) ∷ []

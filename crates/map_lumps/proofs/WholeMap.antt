@@ -20,7 +20,7 @@ use Rattle.map_lumps.specs.Answers.{Passes}
 use Rattle.map_lumps.proofs.Checking.{points_left}
 use Rattle.map_lumps.proofs.Numbering.{pt_eq_equiv, in_order_is}
 use Rattle.map_lumps.proofs.Assembling.{is_plan}
-use Rattle.list_base.proofs.Bools.{not_both_values}
+use Rattle.math_base.proofs.Bools.{not_both_values}
 
 -- ---- the larger limits
 

@@ -9,6 +9,7 @@ ghost use Rattle.sight_names.specs.Plan.{IsPlan};
 ghost use Rattle.map_lumps.specs.Answers.{AnswersFirstFault};
 
 mod checks;
+pub mod hexen_lumps;
 mod limits;
 mod points;
 mod records;

@@ -4,7 +4,7 @@ use Rattle.sight_names.specs.declared.faults.RewriteFault.{RewriteFault}
 use Rattle.sight_names.specs.declared.faults.RewriteFault.TheVariants as fault
 use Rattle.wad_dir.specs.Wad.{WadFile}
 use Rattle.wad_dir.specs.Print.{print, printed_len}
-use Rattle.wad_rewrite.specs.Rewrite.{printed}
+use Rattle.wad_dir.specs.WadRewrite.Rewrite.{printed}
 
 by_tests : (a b : Bool) (p q : RewriteFault) (x bs : List ℕ) → (if a then Err p else (if b then Err q else Ok x)) ≡ Ok bs → bs ≡ x
 by_tests true b p q x bs e = absurd cc

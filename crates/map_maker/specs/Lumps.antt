@@ -6,7 +6,7 @@ use Rattle.sight_names.specs.declared.names.MapFormat.{MapFormat}
 use Rattle.sight_names.specs.declared.names.MapFormat.TheVariants.{Doom, Hexen}
 use Rattle.wad_dir.specs.declared.parts.Kind.TheVariants.{Pwad}
 use Rattle.wad_dir.specs.Wad.{WadFile, WadLump}
-use Rattle.hexen_lumps.specs.Turned.{hexen_of}
+use Rattle.map_lumps.specs.HexenLumps.Turned.{hexen_of}
 use Rattle.map_maker.specs.declared.lines.Spot.{Spot}
 use Rattle.map_maker.specs.declared.lines.Line.{Line}
 use Rattle.map_maker.specs.Lines.{lines_of, sector_count}

@@ -3,18 +3,18 @@
 ghost use Rattle.std.specs.Prelude.{◌≡◌, ◌≤◌, ◌++◌, ◌∷◌, [], IfOk, codes, replicate, ◌*◌};
 ghost use Rattle.wad_dir.specs.Print.{print};
 ghost use Rattle.wad_dir.specs.declared.parts.Kind.TheVariants.{Pwad};
-ghost use Rattle.wad_rewrite.specs.Lumps.{views};
+ghost use Rattle.wad_dir.specs.WadRewrite.Lumps.{views};
 ghost use Rattle.map_maker.specs.Lines.{lines_of, sector_count};
 ghost use Rattle.map_maker.specs.Lumps.{doom_file, grid_file, hexen_file, linedefs_in, lumps_with, named, points_in, sidedefs_of, vertexes_of};
 
 use crate::lines::lines;
 use crate::lumps::{linedefs, sidedefs, vertexes, zeros};
 use crate::points::points;
-use hexen_lumps::to_hexen;
+use map_lumps::hexen_lumps::to_hexen;
 use sight_names::{MapFormat, Memory};
 use std::alloc::{AllocError, Global};
 use wad_dir::Kind;
-use wad_rewrite::{OutputLump, write_wad};
+use wad_dir::wad_rewrite::{OutputLump, write_wad};
 
 /// How many lumps a made map has in Doom's format.
 const DOOM_LUMPS: usize = 11;

@@ -1,7 +1,7 @@
 -- The triangles entered and the stops of a blind pair's picture.
 use Rattle.std.proofs.Common.{◌≡◌, ◌∙◌, ℕ, zero, ◌<◌, ⊎_elim, List, [], ◌∷◌, ◌++◌, Option, Some, None, All, Contains, map, option_map, length, get_or, slice_get, refl, sym, ap, subst}
 use Rattle.std.proofs.lemmas.Option.{get_or_from_slice_get, none-some, same_Some, slice_get-get_or, slice_get-map, slice_get_within}
-use Rattle.list_base.proofs.Lists.{contains_cons, contains_here, contains_map, contains_none, contains_there}
+use Rattle.math_base.proofs.Lists.{contains_cons, contains_here, contains_map, contains_none, contains_there}
 use Rattle.sight_names.specs.declared.names.Triangle.{Triangle}
 use Rattle.sight_names.specs.Map.{Map}
 use Rattle.sight_names.specs.Mesh.{IsAbove}

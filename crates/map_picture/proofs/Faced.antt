@@ -4,7 +4,7 @@ use Rattle.std.specs.List.{AllByRecursion, list_all, list_any}
 use Rattle.std.proofs.lemmas.Bool.{true≢false, eqb-true, eqb-false}
 use Rattle.std.proofs.lemmas.Option.{none-some, same_Some}
 use Rattle.std.proofs.lemmas.List.{append-nil}
-use Rattle.list_base.proofs.Lists.{all_so, contains_here, contains_there, contains_none, contains_cons}
+use Rattle.math_base.proofs.Lists.{all_so, contains_here, contains_there, contains_none, contains_cons}
 use Rattle.sight_names.specs.declared.names.Ray.{Ray}
 use Rattle.sight_names.specs.declared.names.Triangle.{Triangle}
 use Rattle.sight_names.specs.Map.{Map, MapLine, line_at}

@@ -2,7 +2,7 @@
 use Rattle.std.proofs.Common.{◌≡◌, ℕ, ◌≤◌, ⊎_elim, List, [], ◌∷◌, ℤ, pos, negsuc, ◌+ℤ◌, ◌-ℤ◌, ◌≤ℤ◌, Contains, refl, subst, arith}
 use Rattle.std.specs.Int.RustNames.{unsigned_abs}
 use Rattle.std.proofs.lemmas.Int.{ints, clamps}
-use Rattle.list_base.proofs.Lists.{contains_none, contains_cons}
+use Rattle.math_base.proofs.Lists.{contains_none, contains_cons}
 use Rattle.sight_names.specs.declared.names.Pt.{Pt}
 use Rattle.map_picture.specs.declared.frame.Frame.{Frame}
 use Rattle.map_picture.specs.Frame.{frame_at, frame_of, widened, widened_by}

@@ -1,7 +1,7 @@
 -- The ends of a map's lines are points of the map.
 use Rattle.std.proofs.Common.{◌≡◌, ℕ, zero, suc, List, [], ◌∷◌, Option, Some, None, Contains, option_and_then, filter_map, slice_get, ap, subst}
 use Rattle.std.proofs.lemmas.Option.{none-some, same_Some}
-use Rattle.list_base.proofs.Lists.{contains_here, contains_there}
+use Rattle.math_base.proofs.Lists.{contains_here, contains_there}
 use Rattle.sight_names.specs.declared.names.Pt.{Pt}
 use Rattle.sight_names.specs.Map.{Map, MapLine, line_at}
 use Rattle.sight_names.specs.Points.{ends_of, points_of}

@@ -3,8 +3,8 @@ use Rattle.std.proofs.Common.{◌≡◌, ◌∙◌, ℕ, zero, suc, ◌+◌, ◌
 use Rattle.std.specs.List.{AllByRecursion}
 use Rattle.std.proofs.lemmas.Bool.{true≢false}
 use Rattle.std.proofs.lemmas.Option.{none-some, same_Some}
-use Rattle.list_base.proofs.Lists.{all_join, all_so, all_at}
-use Rattle.list_base.proofs.Numbers.{below_same_or_above}
+use Rattle.math_base.proofs.Lists.{all_join, all_so, all_at}
+use Rattle.math_base.proofs.Numbers.{below_same_or_above}
 use Rattle.sight_names.specs.Map.{Map, MapLine, line_at}
 use Rattle.map_picture.specs.Picture.{Element, Head, Style, Paper, Line, Foot, entry_if, line_elements, line_if, lines_from, picture_of}
 use Rattle.map_picture.specs.Laws.{Has, HasNoLine, IsLineBefore, ShowsLines}

@@ -2,7 +2,7 @@
 use Rattle.std.proofs.Common.{◌≡◌, ℕ, zero, suc, ◌+◌, List, [], ◌∷◌, ◌++◌, length, Option, Some, None, Bool, true, false, cond, slice_get, refl, subst, arith}
 use Rattle.std.specs.List.{AllByRecursion}
 use Rattle.std.proofs.lemmas.Option.{none-some, same_Some}
-use Rattle.list_base.proofs.Lists.{all_join, all_at}
+use Rattle.math_base.proofs.Lists.{all_join, all_at}
 use Rattle.sight_names.specs.Map.{Map, MapLine}
 use Rattle.map_picture.specs.Picture.{Element, Head, Style, Paper, Line, Foot, entry_if, line_elements, line_if, lines_from, picture_of}
 use Rattle.map_picture.specs.Laws.{Has}

@@ -3,9 +3,9 @@ use Rattle.std.proofs.Common.{◌≡◌, ◌∙◌, ℕ, zero, ◌+◌, ◌*◌,
 use Rattle.std.specs.Int.RustNames.{unsigned_abs}
 use Rattle.std.proofs.lemmas.Int.{ints}
 use Rattle.std.proofs.Math.Nat.{div-mul-le_self, lt-div-mul-add}
-use Rattle.exact_ring.proofs.Quoting.{quoting, by_ring, combine1, combine2, combine3}
-use Rattle.exact_ring.proofs.Signs.{mul-nonneg, mul-pos, nonneg-of-mul, pos-of-mul, same-of-mul}
-use Rattle.exact_ring.proofs.Small.{le_of_difference, lt_of_difference, nat_nonneg, zero_by_second}
+use Rattle.math_base.proofs.Quoting.{quoting, by_ring, combine1, combine2, combine3}
+use Rattle.math_base.proofs.Signs.{mul-nonneg, mul-pos, nonneg-of-mul, pos-of-mul, same-of-mul}
+use Rattle.math_base.proofs.Small.{le_of_difference, lt_of_difference, nat_nonneg, zero_by_second}
 use Rattle.sight_names.specs.declared.names.Pt.{Pt}
 use Rattle.sight_names.specs.declared.names.Ray.{Ray}
 use Rattle.sight_names.specs.declared.names.Triangle.{Triangle}

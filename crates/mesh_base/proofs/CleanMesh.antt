@@ -3,7 +3,7 @@ use Rattle.std.proofs.Common.{◌≡◌, ℕ, ◌<◌, ℤ, pos, ◌+ℤ◌, ◌
 use borrow.Author.Differences.{ints}
 use lib.IntN.{zero-*ℤ, *ℤ_comm}
 use Rattle.std.proofs.lemmas.Bool.Decides.{nat_tests}
-use Rattle.exact_ring.proofs.Signs.{le_or_lt, mul-pos, pos-of-mul}
+use Rattle.math_base.proofs.Signs.{le_or_lt, mul-pos, pos-of-mul}
 use Rattle.sight_names.specs.declared.names.Pt.{Pt}
 use Rattle.sight_names.specs.declared.names.Triangle.{Triangle}
 use Rattle.sight_names.specs.Point.{Point, point_of, SamePoint}
@@ -15,8 +15,8 @@ use Rattle.sight_names.specs.Sequence.{third_point}
 use Rattle.plane_base.proofs.Vec.{V, Lin, at, det, On, value, det-cycle}
 use Rattle.plane_base.proofs.Search.{In}
 use Rattle.plane_base.proofs.Walk.{Tri, sides}
-use Rattle.sight_laws.proofs.Bridge.{vec, turn_at_is, segment_of_on}
-use Rattle.sight_laws.proofs.Paths.{point_at}
+use Rattle.mesh_base.proofs.SightLaws.Bridge.{vec, turn_at_is, segment_of_on}
+use Rattle.mesh_base.proofs.SightLaws.Paths.{point_at}
 use Rattle.mesh_base.proofs.Face.{Apart, Fair, Clean}
 use Rattle.mesh_base.proofs.Net.{IsAt}
 use Rattle.mesh_base.proofs.Joined.{whole}

@@ -11,7 +11,7 @@ use Rattle.sight_names.specs.Points.{Edge}
 use Rattle.sight_names.specs.Mesh.{AreTriangles, IsTriangle, has_edge, triangle_at}
 use Rattle.mesh_shape.specs.declared.mesh.Next.{Next}
 use Rattle.mesh_shape.specs.Index.{has_corner, IsNextAround, IsNext, IsPut, IsIndexed, entry_at}
-use Rattle.list_base.proofs.Bools.{by_value}
+use Rattle.math_base.proofs.Bools.{by_value}
 
 -- a triangle with the corner u is itself the next one
 pub next_here : (ts : List Triangle) (u k : ℕ) (t : Triangle) → k < length ts → get_or ts k t ≡ t → has_corner u t ≡ true → IsNextAround ts u k k

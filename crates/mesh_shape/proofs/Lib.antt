@@ -3,3 +3,4 @@ pub mod MeetLemmas
 pub mod Separate
 pub mod RuleLemmas
 pub mod SweepRules
+pub mod HalfEdges

@@ -24,10 +24,10 @@ use Rattle.geom_exact.proofs.SegmentLemmas.{turn_is_at}
 use Rattle.geom_exact.proofs.InsideLemmas.{inside_of_turns}
 use Rattle.mesh_shape.specs.Search.{IsEdgeOf, IsUnfitLine, IsUnfitSide, IsFitting, IsMetFairly, IsLineMetFairly, IsOutsideOf, AreBefore, AreBehind}
 use Rattle.mesh_shape.specs.Faults.{TurnsAt, IsNewAt, HasMate, HasMatesAt, FitsAt, IsFairAt, IsEmptyAt, IsFirstAgainst, IsFirstSideAgainst, IsFirstPairAgainst}
-use Rattle.list_base.proofs.Numbers.{below_or_above, same_or_below, below_or_not}
+use Rattle.math_base.proofs.Numbers.{below_or_above, same_or_below, below_or_not}
 use Rattle.mesh_base.proofs.GoodMesh.{found_at}
 use Rattle.sight_names.proofs.Records.{same_edge}
-use Rattle.list_base.proofs.Lists.{item_there}
+use Rattle.math_base.proofs.Lists.{item_there}
 
 -- what holds of the triangle that stands there holds of what stands there
 pub at_this : {X : Type 0} (P : X → Type 0) (xs : List X) (k : ℕ) (x : X) → slice_get xs k ≡ Some x → P x → (y : X) → slice_get xs k ≡ Some y → P y

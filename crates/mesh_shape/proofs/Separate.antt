@@ -2,9 +2,9 @@
 use Rattle.std.proofs.Common.{ℕ, ◌<◌, ◌≤◌, ◌⊎◌, inl, inr, ℤ, pos, ◌+ℤ◌, ◌-ℤ◌, ◌*ℤ◌, neg_ℤ, nat_abs, ◌<ℤ◌, ◌≤ℤ◌, ◌≡◌, [], ◌∷◌, length, slice_index_or, arith, sym, ap, ◌∙◌, subst}
 use Rattle.std.proofs.lemmas.Int.{ints}
 use Rattle.std.proofs.lemmas.Option.{slice_get-get_or}
-use Rattle.exact_ring.proofs.Quoting.{quoting, by_ring, combine2}
-use Rattle.exact_ring.proofs.Signs.{mul-pos, mul-nonneg, mul-le, le_or_lt, pos-of-mul}
-use Rattle.exact_ring.proofs.MoreSigns.{sum-nonpos, sum-pos, mul-nonpos, mul-neg}
+use Rattle.math_base.proofs.Quoting.{quoting, by_ring, combine2}
+use Rattle.math_base.proofs.Signs.{mul-pos, mul-nonneg, mul-le, le_or_lt, pos-of-mul}
+use Rattle.math_base.proofs.MoreSigns.{sum-nonpos, sum-pos, mul-nonpos, mul-neg}
 use Rattle.sight_names.specs.declared.names.Pt.{Pt}
 use Rattle.sight_names.specs.Plan.{PlanParts, IsPlan, IsBefore}
 use Rattle.sight_names.specs.Map.{map_of, origin}
@@ -14,8 +14,8 @@ use Rattle.sight_names.specs.Sound.{IsCommon, MeetAtEnds}
 use Rattle.sight_names.proofs.PlanNumbers.{place_of_plan}
 use Rattle.geom_exact.proofs.SegmentLemmas.{IsOn, IsWeighted, on, other_way}
 use Rattle.geom_exact.proofs.InsideLemmas.{IsInside}
-use Rattle.list_base.proofs.Numbers.{below_same_or_above, same_below_or_above}
-use Rattle.exact_ring.proofs.Small.{nonneg_of_pos, nonpos_of_neg, nonpos_of_zero, nonneg_sum}
+use Rattle.math_base.proofs.Numbers.{below_same_or_above, same_below_or_above}
+use Rattle.math_base.proofs.Small.{nonneg_of_pos, nonpos_of_neg, nonpos_of_zero, nonneg_sum}
 use Rattle.sight_names.proofs.Portals.{scale_above}
 
 -- a * x + b * y + c

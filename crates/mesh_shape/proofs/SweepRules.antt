@@ -12,10 +12,10 @@ use Rattle.sight_names.specs.Map.{Map, map_of}
 use Rattle.sight_names.specs.Points.{place}
 use Rattle.sight_names.specs.Mesh.{IsTriangle}
 use Rattle.sight_names.proofs.PlanMap.{line_of_plan}
-use Rattle.sight_laws.proofs.Plans.{line_below}
-use Rattle.line_spans.specs.declared.Span.{Span}
-use Rattle.line_spans.specs.Spans.{IsSpanIn, AreSpans, IsSkip}
-use Rattle.line_spans.proofs.Sweep.{ends_within, heights_within, at_place, of_each}
+use Rattle.mesh_base.proofs.SightLaws.Plans.{line_below}
+use Rattle.geom_exact.specs.declared.line_spans.Span.{Span}
+use Rattle.geom_exact.specs.LineSpans.Spans.{IsSpanIn, AreSpans, IsSkip}
+use Rattle.geom_exact.proofs.LineSpans.Sweep.{ends_within, heights_within, at_place, of_each}
 use Rattle.mesh_shape.specs.Search.{IsBand, IsMetFairly, IsLineMetFairly}
 use Rattle.mesh_shape.proofs.RuleLemmas.{numbered_apart, ends_of_line, IsUnder, IsOver, under_apart, over_apart}
 

@@ -3,3 +3,4 @@ pub mod Index
 pub mod Faults
 pub mod Search
 pub mod Fills
+pub mod HalfEdges

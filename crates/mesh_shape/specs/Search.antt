@@ -3,7 +3,7 @@ use Rattle.std.specs.Prelude.{◌≡◌, ℕ, ◌<◌, ◌≤◌, Option, Some, 
 use Rattle.sight_names.specs.declared.names.Side.{Side}
 use Rattle.sight_names.specs.declared.names.Triangle.{Triangle}
 use Rattle.sight_names.specs.declared.plan.Line.{Line}
-use Rattle.line_spans.specs.declared.Span.{Span}
+use Rattle.geom_exact.specs.declared.line_spans.Span.{Span}
 use Rattle.sight_names.specs.Point.{point_of}
 use Rattle.sight_names.specs.Map.{Map, MapLine, line_at}
 use Rattle.sight_names.specs.Points.{Edge, points_of, place}

@@ -2,6 +2,7 @@
 #![tactic(auto)]
 
 mod chains;
+pub mod half_edges;
 pub mod labels;
 pub mod laws;
 pub mod meets;

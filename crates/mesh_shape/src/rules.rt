@@ -9,7 +9,7 @@ ghost use Rattle.sight_names.specs.Map.{map_of, looked_up};
 ghost use Rattle.sight_names.specs.Plan.{IsPlan, IsPlanLine};
 ghost use Rattle.sight_names.specs.Points.{points_of};
 ghost use Rattle.sight_names.specs.Mesh.{AreTriangles, IsTriangle, IsCounterclockwise, IsLineEdge, MeetsFairly, triangle_at};
-ghost use Rattle.line_spans.specs.Spans.{IsSpanIn, AreSpans, AreSkips};
+ghost use Rattle.geom_exact.specs.LineSpans.Spans.{IsSpanIn, AreSpans, AreSkips};
 ghost use Rattle.mesh_shape.specs.Faults.{TurnsAt, IsNewAt, HasMate, HasMatesAt, FitsAt, IsFairAt, IsEmptyAt, IsMeshVerdict};
 ghost use Rattle.mesh_shape.specs.Search.{IsBand, IsSearch, IsSideSearch, IsPairSearch, IsFitting, IsEdgeOf, IsUnfitLine, IsUnfitSide, IsMetFairly, IsLineMetFairly, IsOutsideOf, AreBefore, AreBehind};
 
@@ -17,8 +17,8 @@ use crate::chains::{Chains, chains_of};
 use crate::labels::Labels;
 use crate::meets::meet_at_ends;
 use crate::mesh::Mesh;
+use geom_exact::line_spans::{NO_SPAN, Span, ends_below, first_behind, put_skips, put_spans};
 use geom_exact::{in_triangle, turn};
-use line_spans::{NO_SPAN, Span, ends_below, first_behind, put_skips, put_spans};
 use sight_names::{LARGE_LINES, Line, MOST_TRIANGLES, MeshFault, Plan, Pt, Side, Triangle};
 use std::alloc::Global;
 

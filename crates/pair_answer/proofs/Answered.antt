@@ -14,7 +14,7 @@ use Rattle.sight_names.specs.Plan.{PlanParts, IsPlan}
 use Rattle.sight_names.specs.Sound.{LinesMeetAtEnds}
 use Rattle.mesh_shape.specs.Shape.{MeshParts}
 use Rattle.face_groups.specs.declared.grouping.Grouped.{Grouped}
-use Rattle.groups_base.proofs.SamePoints.{mesh_alike}
+use Rattle.face_groups.proofs.GroupsBase.SamePoints.{mesh_alike}
 use Rattle.group_job.specs.Built.{WalkedMap}
 use Rattle.pair_answer.specs.declared.answer.PairAnswer.{PairAnswer}
 use Rattle.pair_answer.specs.declared.answer.PairAnswer.TheVariants as answer

@@ -13,7 +13,7 @@ use Rattle.sight_names.specs.Sees.{Sees}
 use Rattle.sight_names.specs.Sound.{LinesMeetAtEnds}
 use Rattle.sight_names.proofs.Laws.{sees_sym}
 use Rattle.sight_lift.proofs.LiftLaws.{sight_connects}
-use Rattle.groups_base.proofs.Ordered.{empty_has_none, some_member}
+use Rattle.face_groups.proofs.GroupsBase.Ordered.{empty_has_none, some_member}
 use Rattle.pair_budget.specs.Decided.{TellsConnected}
 use Rattle.pair_answer.specs.declared.answer.PairAnswer.{PairAnswer}
 use Rattle.pair_answer.specs.declared.answer.PairAnswer.TheVariants as answer

@@ -2,7 +2,7 @@
 -- budget is spent. It ends early just where it found one.
 use Rattle.std.proofs.Common.{◌≡◌, ◌≢◌, ℕ, ◌⊎◌, ◌↔◌, inl, inr, List, [], ◌∷◌, Bool, true, false, IsTrue, Option, Some, None, slice_get, Contains, map, refl, sym, ap, ◌∙◌, subst, ltb, cond}
 use Rattle.std.proofs.lemmas.List.Elements.{All-contains}
-use Rattle.list_base.proofs.Lists.{contains_cons, contains_here, contains_none, contains_there}
+use Rattle.math_base.proofs.Lists.{contains_cons, contains_here, contains_none, contains_there}
 use Rattle.sight_names.specs.declared.names.Budget.{Budget}
 use Rattle.sight_names.specs.declared.names.PairRay.{PairRay}
 use Rattle.sight_names.specs.declared.names.Triangle.{Triangle}
@@ -11,7 +11,7 @@ use Rattle.sight_names.specs.Map.{Map, map_of}
 use Rattle.sight_names.specs.Mesh.{IsGoodMesh}
 use Rattle.sight_names.specs.Plan.{PlanParts, IsPlan}
 use Rattle.sight_names.proofs.Lists.{contains_of_get}
-use Rattle.sight_tree.specs.declared.Tree.{Tree}
+use Rattle.block_evidence.specs.declared.sight_tree.Tree.{Tree}
 use Rattle.pair_budget.specs.declared.results.Outcome.{Outcome}
 use Rattle.pair_budget.specs.declared.results.Outcome.TheVariants as outcome
 use Rattle.pair_budget.specs.declared.results.Reached.{Reached}

@@ -1,7 +1,7 @@
 -- One more group, and what is known of those that contain a sector, and of those that are joined with others.
 use Rattle.std.proofs.Common.{◌≡◌, ℕ, ◌+◌, ◌<◌, ◌≤◌, ◌⊎◌, ◌↔◌, inl, inr, List, Bool, IsTrue, Some, slice_get, length, Contains, sym, ap, ◌∙◌, subst, arith}
 use Rattle.std.proofs.lemmas.Option.{same_Some, slice_get_within}
-use Rattle.list_base.proofs.Numbers.{below_or_last}
+use Rattle.math_base.proofs.Numbers.{below_or_last}
 use Rattle.sight_names.specs.Groups.{IsInGroup}
 use Rattle.pair_answer.specs.Numbers.{added, IsAmong}
 use Rattle.pair_answer.specs.Places.{AreJoined, AreJoinedBelow, ArePlacesBelow, ArePlacesOf, IsJoined}

@@ -6,3 +6,5 @@ pub mod Hits
 pub mod Sectors
 pub mod Answered
 pub mod OneName
+pub mod EnteredTriangles
+pub mod WhyAnswers

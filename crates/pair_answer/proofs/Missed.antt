@@ -1,8 +1,8 @@
 -- Where a source's walk doesn't find a sector that it sees, its budget is spent; one more source that found none of the targets.
 use Rattle.std.proofs.Common.{◌≡◌, ◌≢◌, ℕ, ◌+◌, ◌<◌, ◌≤◌, ◌⊎◌, ◌↔◌, inl, inr, List, [], Bool, IsTrue, Option, Some, slice_get, length, Contains, sym, ◌∙◌, subst, arith}
 use Rattle.std.proofs.lemmas.Option.{same_Some, slice_get_within}
-use Rattle.list_base.proofs.Lists.{contains_none}
-use Rattle.list_base.proofs.Numbers.{below_or_not}
+use Rattle.math_base.proofs.Lists.{contains_none}
+use Rattle.math_base.proofs.Numbers.{below_or_not}
 use Rattle.sight_names.specs.declared.names.Budget.{Budget}
 use Rattle.sight_names.specs.declared.names.Budget.TheVariants.{Of, Full}
 use Rattle.sight_names.specs.declared.names.Triangle.{Triangle}
@@ -14,8 +14,8 @@ use Rattle.sight_names.specs.Sequence.{Sequence}
 use Rattle.sight_names.specs.Sound.{LinesMeetAtEnds}
 use Rattle.sight_names.proofs.Lists.{get_of_contains}
 use Rattle.sight_lift.proofs.LiftLaws.{sight_is_lifted}
-use Rattle.sequence_laws.specs.InOrder.{IsInOrder}
-use Rattle.sequence_laws.proofs.All.{stand_in_order}
+use Rattle.sight_lift.specs.SequenceLaws.InOrder.{IsInOrder}
+use Rattle.sight_lift.proofs.SequenceLaws.All.{stand_in_order}
 use Rattle.pair_answer.specs.Numbers.{added, IsAmong}
 use Rattle.pair_answer.specs.Walks.{AreMissed, AreMissedBelow, MissesAll}
 use Rattle.pair_answer.proofs.Numbers.{added_is, among_contains, among_last, among_more, among_next, contains_among}

@@ -2,8 +2,8 @@
 use Rattle.std.proofs.Common.{◌≡◌, ℕ, ◌+◌, ◌≤◌, ◌⊎◌, ◌↔◌, inl, inr, List, [], ◌∷◌, ◌++◌, Bool, true, false, IsTrue, Some, slice_get, length, Contains, refl, sym, subst, arith, ◌∙◌}
 use Rattle.std.proofs.lemmas.Bool.{false≢true}
 use Rattle.std.proofs.lemmas.Option.{same_Some}
-use Rattle.list_base.proofs.Lists.{contains_here, contains_left, contains_pushed, contains_right}
-use Rattle.list_base.proofs.Numbers.{below_or_last}
+use Rattle.math_base.proofs.Lists.{contains_here, contains_left, contains_pushed, contains_right}
+use Rattle.math_base.proofs.Numbers.{below_or_last}
 use Rattle.sight_names.proofs.Lists.{contains_of_get, get_of_contains}
 use Rattle.pair_answer.specs.Numbers.{added, IsAmong}
 

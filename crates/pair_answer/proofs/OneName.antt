@@ -14,10 +14,10 @@ use Rattle.sight_names.specs.Plan.{PlanParts, IsPlan}
 use Rattle.sight_names.specs.Point.{Point}
 use Rattle.sight_names.specs.Ray.{IsCrossing, IsSightRay, SplitsLine}
 use Rattle.sight_names.specs.Sound.{IsSound, NamesAgree}
-use Rattle.groups_base.proofs.GroupLaws.{HasLists}
-use Rattle.groups_base.proofs.SameLines.{HaveSameLines, IsSameLine, line_of, lines_alike, misses_solid_alike, same_lines_sym}
-use Rattle.groups_base.proofs.SamePoints.{mesh_alike}
-use Rattle.group_laws.proofs.WholeLaws.{each_has_list}
+use Rattle.face_groups.proofs.GroupsBase.GroupLaws.{HasLists}
+use Rattle.face_groups.proofs.GroupsBase.SameLines.{HaveSameLines, IsSameLine, line_of, lines_alike, misses_solid_alike, same_lines_sym}
+use Rattle.face_groups.proofs.GroupsBase.SamePoints.{mesh_alike}
+use Rattle.triangulate.proofs.GroupLaws.WholeLaws.{each_has_list}
 use Rattle.pair_answer.specs.declared.answer.PairAnswer.TheVariants as answer
 use Rattle.pair_answer.specs.Answer.{IsAnswerFor}
 

@@ -1,7 +1,7 @@
 -- From groups to sectors: the answer over the map of groups tells of the sectors, and what a build of the map says of them.
 use Rattle.std.proofs.Common.{◌≡◌, ◌≢◌, ℕ, ◌<◌, ◌↔◌, inl, inr, List, [], Option, Some, None, MatchOption, slice_get, refl, sym, ap, ◌∙◌, subst}
 use Rattle.std.proofs.lemmas.Option.{MatchOption-at_none, MatchOption-at_some}
-use Rattle.list_base.proofs.Numbers.{below_or_above}
+use Rattle.math_base.proofs.Numbers.{below_or_above}
 use Rattle.sight_names.specs.declared.names.Ask.{Ask}
 use Rattle.sight_names.specs.declared.names.Ask.TheVariants.{Of as AskOf, Full as AskFull, Enough}
 use Rattle.sight_names.specs.declared.names.Budget.{Budget}
@@ -19,15 +19,15 @@ use Rattle.sight_names.specs.Plan.{PlanParts, IsPlan}
 use Rattle.sight_names.specs.Sees.{Sees}
 use Rattle.sight_names.specs.Sound.{IsSound}
 use Rattle.sight_names.proofs.OneMesh.{one_mesh}
-use Rattle.sight_laws.proofs.SightLaws.{sees_itself, sight_sees}
+use Rattle.mesh_base.proofs.SightLaws.SightLaws.{sees_itself, sight_sees}
 use Rattle.reject_bits.specs.Parts.{Rejects}
 use Rattle.pair_budget.proofs.Connected.{connected_back}
-use Rattle.groups_base.proofs.GroupLaws.{HasLists}
-use Rattle.groups_base.proofs.Listing.{IsListedOfGroups}
-use Rattle.groups_base.proofs.OneGrouped.{listed_is as listed_by_groups}
-use Rattle.groups_base.proofs.Ordered.{at_contains, one_place}
-use Rattle.groups_base.proofs.SamePoints.{mesh_alike}
-use Rattle.group_laws.proofs.WholeLaws.{each_has_list, groups_are_map, groups_are_sound, sectors_see_by_groups}
+use Rattle.face_groups.proofs.GroupsBase.GroupLaws.{HasLists}
+use Rattle.face_groups.proofs.GroupsBase.Listing.{IsListedOfGroups}
+use Rattle.face_groups.proofs.GroupsBase.OneGrouped.{listed_is as listed_by_groups}
+use Rattle.face_groups.proofs.GroupsBase.Ordered.{at_contains, one_place}
+use Rattle.face_groups.proofs.GroupsBase.SamePoints.{mesh_alike}
+use Rattle.triangulate.proofs.GroupLaws.WholeLaws.{each_has_list, groups_are_map, groups_are_sound, sectors_see_by_groups}
 use Rattle.group_job.specs.declared.build.GroupBuilt.{GroupBuilt}
 use Rattle.group_job.specs.Built.{DecidesByGroups, WalkedMap}
 use Rattle.group_job.specs.Sectors.{AreListed}

@@ -3,7 +3,7 @@ use Rattle.std.specs.Prelude.{◌≡◌, length}
 use Rattle.sight_names.specs.Map.{map_of}
 use Rattle.sight_names.specs.Mesh.{IsGoodMesh}
 use Rattle.sight_names.specs.Sound.{LinesMeetAtEnds}
-use Rattle.half_edges.specs.HalfEdges.{AreHalfEdges}
+use Rattle.mesh_shape.specs.HalfEdges.HalfEdges.{AreHalfEdges}
 use Rattle.pair_answer.specs.declared.ground.Ground.{Ground}
 
 -- a good labelled mesh of a map whose lines meet at ends, with its half-edges

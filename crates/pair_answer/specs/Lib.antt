@@ -6,3 +6,5 @@ pub mod Walks
 pub mod Between
 pub mod Answer
 pub mod Laws
+pub mod EnteredTriangles
+pub mod WhyAnswers

@@ -9,9 +9,9 @@ ghost use Rattle.pair_answer.specs.Answer.{AreGroupsOver, IsAnswerFor, IsMissing
 use crate::answer::PairAnswer;
 use crate::between::walk_between;
 use crate::places::{places_of, share_one};
-use enough_budget::enough;
 use face_groups::Grouped;
 use mesh_shape::Mesh;
+use portal_walk::enough_budget::enough;
 use sight_names::{Ask, Budget, Memory, Pair, Plan};
 use std::alloc::Global;
 

@@ -12,12 +12,12 @@ use crate::answer::PairAnswer;
 use crate::ground::Ground;
 use crate::places::joined;
 use crate::walks::{AllSought, seek_all};
-use half_edges::HalfEdges;
+use face_groups::tri_sectors::components;
+use mesh_shape::half_edges::HalfEdges;
 use mesh_shape::{Labels, Mesh};
 use sight_names::{Budget, Memory, Plan};
 use sight_ray::turn_round;
 use std::alloc::Global;
-use tri_sectors::components;
 
 /// The walks back: those of the groups that passable lines connect with sources whose budgets ran out, in search of these.
 fn walk_back(

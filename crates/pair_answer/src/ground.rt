@@ -1,6 +1,6 @@
 //! Over what the sources are walked.
 
-use half_edges::HalfEdges;
+use mesh_shape::half_edges::HalfEdges;
 use mesh_shape::{Labels, Mesh};
 use sight_names::{Budget, Plan};
 

@@ -6,11 +6,13 @@
 mod answer;
 mod answering;
 mod between;
+pub mod entered_triangles;
 mod ground;
 pub mod laws;
 mod places;
 mod seeker;
 mod walks;
+pub mod why_answers;
 
 pub use answer::PairAnswer;
 pub use answering::pair_answer;

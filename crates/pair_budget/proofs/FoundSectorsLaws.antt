@@ -16,8 +16,8 @@ use Rattle.pair_budget.specs.Walked.{IsReachedFrom}
 use Rattle.pair_budget.specs.Decide.{AreResults, AreFound, IsRayOf, turned}
 use Rattle.pair_budget.specs.PairRays.{PairRaysParts, HasRayFor, AreMarked, IsNoted, toward, all_rays, KeepsOneEach}
 use Rattle.pair_budget.specs.Rows.{KnowsFound}
-use Rattle.list_base.proofs.Numbers.{below_or_above}
-use Rattle.list_base.proofs.Lists.{pushed_at, contains_none, contains_here}
+use Rattle.math_base.proofs.Numbers.{below_or_above}
+use Rattle.math_base.proofs.Lists.{pushed_at, contains_none, contains_here}
 
 -- ---- two numbers are two others, or not
 

@@ -3,11 +3,11 @@
 ghost use Rattle.std.specs.Prelude.{◌≤◌, length};
 
 use crate::rows::part;
+use block_evidence::sight_tree::Tree;
+use cert_format::cert_groups::{AnyCert, read_any};
 use cert_format::{Cert, Sizes};
-use cert_groups::{AnyCert, read_any};
-use cert_parts::{Beginning, Part, Reader, beginning_of};
+use certificates::cert_parts::{Beginning, Part, Reader, beginning_of};
 use sight_names::{CertFault, Pair};
-use sight_tree::Tree;
 use std::alloc::{AllocError, Global};
 use std::test::Fail;
 use worked_maps::certs::digits_named;

@@ -4,13 +4,13 @@
 ghost use Rattle.std.specs.Prelude.{◌≡◌, ◌+◌, ◌<◌, ◌≤◌, ◌^◌, length, IsTrue};
 ghost use Rattle.sight_names.specs.Map.{map_of};
 ghost use Rattle.sight_names.specs.Sound.{LinesMeetAtEnds};
-ghost use Rattle.cert_groups.specs.Grammar.{IsAnyInOrder, sizes_of};
+ghost use Rattle.cert_format.specs.CertGroups.Grammar.{IsAnyInOrder, sizes_of};
 
 use crate::rows::part;
+use cert_format::cert_groups::{AnyCert, print_any, read_any};
 use cert_format::{Sizes, print};
-use cert_groups::{AnyCert, print_any, read_any};
 use cert_judge::{Judge, Judged};
-use check_workers::check_any_par;
+use group_checker::check_workers::check_any_par;
 use map_answers::find_in;
 use map_audit::audit_lines;
 use reject_bits::Table;

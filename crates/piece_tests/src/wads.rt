@@ -2,14 +2,14 @@
 
 ghost use Rattle.std.specs.Prelude.{◌≡◌, ◌+◌, ◌≤◌, length, All, IfOk};
 ghost use Rattle.wad_dir.specs.Map.{entry_names};
-ghost use Rattle.all_maps.specs.All.{HasInOrder, names_changed};
-ghost use Rattle.all_maps.specs.Maps.{maps_of};
+ghost use Rattle.wad_dir.specs.AllMaps.All.{HasInOrder, names_changed};
+ghost use Rattle.wad_dir.specs.AllMaps.Maps.{maps_of};
 
 use crate::rows::part;
-use all_maps::{Change, maps, with_rejects};
 use sight_names::{Items, RewriteFault};
 use std::alloc::{AllocError, Global};
 use std::test::Fail;
+use wad_dir::all_maps::{Change, maps, with_rejects};
 use wad_dir::{Wad, read_wad};
 use worked_maps::files::{bytes_of, bytes_of_digits};
 

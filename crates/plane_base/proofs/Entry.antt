@@ -2,12 +2,12 @@
 use Rattle.std.proofs.Common.{◌≡◌, ℤ, pos, ◌+ℤ◌, ◌*ℤ◌, ◌-ℤ◌, ◌≤ℤ◌, ◌<ℤ◌, neg_ℤ, arith, ap, ◌⊎◌, inl, inr, [], ◌∷◌}
 use borrow.Author.Differences.{ints}
 use lib.IntN.{*ℤ_comm}
-use Rattle.exact_ring.proofs.IntLaws.{neg-*ℤ}
-use Rattle.exact_ring.proofs.Quoting.{quoting, by_ring, combine2}
-use Rattle.exact_ring.proofs.Signs.{mul-pos, mul-nonneg, pos-of-mul, le_or_lt}
+use Rattle.math_base.proofs.IntLaws.{neg-*ℤ}
+use Rattle.math_base.proofs.Quoting.{quoting, by_ring, combine2}
+use Rattle.math_base.proofs.Signs.{mul-pos, mul-nonneg, pos-of-mul, le_or_lt}
 use Rattle.plane_base.proofs.Vec.{V, Lin, at, edge, det, On, value, mean, det-cycle, comb_of_bary}
 use Rattle.plane_base.proofs.Wedge.{mul_np, Inside}
-use Rattle.exact_ring.proofs.MoreSigns.{mul-nonpos}
+use Rattle.math_base.proofs.MoreSigns.{mul-nonpos}
 
 -- where the segment from y to p leaves: a point with H > 0 on a b or on a c
 pub record Leaves (a b c y p : V) : Type 0 where

@@ -6,3 +6,6 @@ pub mod Entry
 pub mod Search
 pub mod Every
 pub mod Walk
+pub mod Turns
+pub mod Middle
+pub mod Dependent

@@ -2,12 +2,12 @@
 use Rattle.std.proofs.Common.{◌≡◌, ℤ, pos, ◌+ℤ◌, ◌*ℤ◌, ◌-ℤ◌, ◌≤ℤ◌, ◌<ℤ◌, neg_ℤ, arith, sym, ap, ◌∙◌, [], ◌∷◌, inl, inr}
 use borrow.Author.Differences.{ints}
 use lib.IntN.{*ℤ-zero, zero-*ℤ, *ℤ_comm}
-use Rattle.exact_ring.proofs.Quoting.{quoting, by_ring}
-use Rattle.exact_ring.proofs.IntLaws.{neg-*ℤ, *ℤ_assoc}
-use Rattle.exact_ring.proofs.Signs.{mul-pos, mul-nonneg, pos-of-mul, nonneg-of-mul, zero-of-mul, sign_cases, le_or_lt}
+use Rattle.math_base.proofs.Quoting.{quoting, by_ring}
+use Rattle.math_base.proofs.IntLaws.{neg-*ℤ, *ℤ_assoc}
+use Rattle.math_base.proofs.Signs.{mul-pos, mul-nonneg, pos-of-mul, nonneg-of-mul, zero-of-mul, sign_cases, le_or_lt}
 use Rattle.plane_base.proofs.Vec.{V, Lin, at, edge, det, On, value, mean, bary, det-swap, det-cycle, det-first, det-last, comb_of_bary, fan}
 use Rattle.plane_base.proofs.Wedge.{mul_np, on_within, Inside, base_blocks}
-use Rattle.exact_ring.proofs.MoreSigns.{mul-nonpos, mul-neg}
+use Rattle.math_base.proofs.MoreSigns.{mul-nonpos, mul-neg}
 
 pub det-flip : (a x y : V) → det a y x ≡ neg_ℤ (det a x y)
 det-flip a x y = let p = det-cycle a x y in let q = det-swap x y a in let r = det-cycle a y x in omega (arith, ints)

@@ -2,9 +2,9 @@
 use Rattle.std.proofs.Common.{◌≡◌, ℤ, pos, ◌+ℤ◌, ◌*ℤ◌, ◌-ℤ◌, ◌≤ℤ◌, ◌<ℤ◌, neg_ℤ, arith, refl, sym, subst, ◌⊎◌, inl, inr, List, [], ◌∷◌, ◌++◌}
 use borrow.Author.Differences.{ints}
 use lib.IntN.{*ℤ_comm}
-use Rattle.exact_ring.proofs.IntLaws.{neg-*ℤ}
-use Rattle.exact_ring.proofs.Quoting.{quoting, by_ring}
-use Rattle.exact_ring.proofs.Signs.{mul-nonneg, nonneg-of-mul, le_or_lt}
+use Rattle.math_base.proofs.IntLaws.{neg-*ℤ}
+use Rattle.math_base.proofs.Quoting.{quoting, by_ring}
+use Rattle.math_base.proofs.Signs.{mul-nonneg, nonneg-of-mul, le_or_lt}
 
 abbrev pub In : {A : Type 0} → A → List A → Type 0
 In x [] = ⊥

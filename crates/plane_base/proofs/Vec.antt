@@ -2,7 +2,7 @@
 use Rattle.std.proofs.Common.{◌≡◌, ℤ, pos, ◌+ℤ◌, ◌*ℤ◌, ◌-ℤ◌, ◌≤ℤ◌, ◌<ℤ◌, neg_ℤ, arith, sym, ap, ◌∙◌, [], ◌∷◌}
 use borrow.Author.Differences.{ints}
 use lib.IntN.{*ℤ-zero, zero-*ℤ}
-use Rattle.exact_ring.proofs.Quoting.{quoting, by_ring}
+use Rattle.math_base.proofs.Quoting.{quoting, by_ring}
 
 pub record V : Type 0 where
   pub x : ℤ

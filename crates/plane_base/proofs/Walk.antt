@@ -2,12 +2,12 @@
 use Rattle.std.proofs.Common.{◌≡◌, ℤ, pos, ◌+ℤ◌, ◌*ℤ◌, ◌≤ℤ◌, ◌<ℤ◌, neg_ℤ, arith, refl, sym, ap, ◌∙◌, subst, ◌⊎◌, inl, inr, List, [], ◌∷◌}
 use borrow.Author.Differences.{ints}
 use lib.IntN.{*ℤ-zero, zero-*ℤ, *ℤ_comm}
-use Rattle.exact_ring.proofs.IntLaws.{neg-*ℤ}
-use Rattle.exact_ring.proofs.Quoting.{quoting, by_ring}
-use Rattle.exact_ring.proofs.Signs.{mul-pos, pos-of-mul, nonneg-of-mul, le-of-mul, mul-le, le_or_lt}
+use Rattle.math_base.proofs.IntLaws.{neg-*ℤ}
+use Rattle.math_base.proofs.Quoting.{quoting, by_ring}
+use Rattle.math_base.proofs.Signs.{mul-pos, pos-of-mul, nonneg-of-mul, le-of-mul, mul-le, le_or_lt}
 use Rattle.plane_base.proofs.Vec.{V, edge, det, IsComb, On, value, mean, det-swap, det-cycle, det-first, det-last, comb_of_bary}
 use Rattle.plane_base.proofs.Search.{In, find_or_none, Least, least_by, leave_first}
-use Rattle.exact_ring.proofs.MoreSigns.{mul-nonpos}
+use Rattle.math_base.proofs.MoreSigns.{mul-nonpos}
 
 pub record Tri : Type 0 where
   pub a : V

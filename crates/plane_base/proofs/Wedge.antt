@@ -2,11 +2,11 @@
 use Rattle.std.proofs.Common.{◌≡◌, ℤ, pos, ◌+ℤ◌, ◌*ℤ◌, ◌-ℤ◌, ◌≤ℤ◌, ◌<ℤ◌, neg_ℤ, arith, ap, ◌∙◌, [], ◌∷◌}
 use borrow.Author.Differences.{ints}
 use lib.IntN.{zero-*ℤ, *ℤ_comm}
-use Rattle.exact_ring.proofs.Quoting.{quoting, by_ring}
-use Rattle.exact_ring.proofs.IntLaws.{neg-*ℤ}
-use Rattle.exact_ring.proofs.Signs.{mul-pos, mul-nonneg, pos-of-mul}
+use Rattle.math_base.proofs.Quoting.{quoting, by_ring}
+use Rattle.math_base.proofs.IntLaws.{neg-*ℤ}
+use Rattle.math_base.proofs.Signs.{mul-pos, mul-nonneg, pos-of-mul}
 use Rattle.plane_base.proofs.Vec.{V, Lin, at, edge, det, IsComb, On, sum3, value, mean, bary, det-cycle, comb_of_bary}
-use Rattle.exact_ring.proofs.MoreSigns.{mul-neg}
+use Rattle.math_base.proofs.MoreSigns.{mul-neg}
 
 -- ---- products with a factor that isn't positive
 pub mul_np : (a b : ℤ) → a ≤ℤ pos 0 → pos 0 ≤ℤ b → (a *ℤ b) ≤ℤ pos 0

@@ -14,7 +14,7 @@ use Rattle.sight_names.specs.Sound.{LinesMeetAtEnds, MeetAtEnds}
 use Rattle.sight_names.proofs.Laws.{start_on, on_segment_sym}
 use Rattle.sight_names.proofs.PlanMap.{line_of_plan, points_differ}
 use Rattle.mesh_shape.proofs.RuleLemmas.{Joins, edge_joined}
-use Rattle.half_edges.specs.Kinds.{IsEnteredAt}
+use Rattle.mesh_shape.specs.HalfEdges.Kinds.{IsEnteredAt}
 use Rattle.sight_names.proofs.Records.{whole_same}
 
 -- both points are of the segment

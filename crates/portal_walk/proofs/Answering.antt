@@ -12,12 +12,12 @@ use Rattle.sight_names.specs.Sequence.{Portal, Sequence, entry_edge, IsSolidLine
 use Rattle.sight_names.specs.Sound.{LinesMeetAtEnds}
 use Rattle.mesh_shape.specs.Shape.{MeshParts}
 use Rattle.block_evidence.specs.declared.Evidence.{Evidence}
-use Rattle.sight_tree.specs.declared.Node.{Node}
-use Rattle.sight_tree.specs.declared.Node.TheVariants.{Open as OpenNode, Blocked as BlockedNode}
-use Rattle.sight_tree.specs.declared.Tree.{Tree}
-use Rattle.sight_tree.specs.WholeTree.{AnswersRoots, IsWholeTree}
-use Rattle.sequence_laws.specs.Ways.{root_alone, both_ways_on}
-use Rattle.half_edges.specs.Kinds.{IsEnteredAt}
+use Rattle.block_evidence.specs.declared.sight_tree.Node.{Node}
+use Rattle.block_evidence.specs.declared.sight_tree.Node.TheVariants.{Open as OpenNode, Blocked as BlockedNode}
+use Rattle.block_evidence.specs.declared.sight_tree.Tree.{Tree}
+use Rattle.block_evidence.specs.SightTree.WholeTree.{AnswersRoots, IsWholeTree}
+use Rattle.sight_lift.specs.SequenceLaws.Ways.{root_alone, both_ways_on}
+use Rattle.mesh_shape.specs.HalfEdges.Kinds.{IsEnteredAt}
 use Rattle.portal_walk.specs.declared.step.Step.{Step}
 use Rattle.portal_walk.specs.declared.step.Step.TheVariants.{Open, Blocked, End}
 use Rattle.portal_walk.specs.declared.step.Went.{Went}

@@ -13,15 +13,15 @@ use Rattle.sight_names.specs.Mesh.{triangle_at, label_of, HasEdge}
 use Rattle.sight_names.specs.Sequence.{Portal, Sequence, Way, Left, Right, IsSequence, IsSolidLine, LeadsOutside, entry_edge, way_out, apex, third_point, portals, portals_from, root_portal, roots, sides_of, is_root}
 use Rattle.sight_names.proofs.Lists.{contains_tail}
 use Rattle.block_evidence.specs.declared.Evidence.{Evidence}
-use Rattle.sight_tree.specs.declared.Node.{Node}
-use Rattle.sight_tree.specs.declared.Node.TheVariants.{Open, Blocked}
+use Rattle.block_evidence.specs.declared.sight_tree.Node.{Node}
+use Rattle.block_evidence.specs.declared.sight_tree.Node.TheVariants.{Open, Blocked}
 use Rattle.block_evidence.specs.Stuck.{BlocksSequence}
-use Rattle.sight_tree.specs.WholeTree.{Answers, HasNoNode, HasNode, no_node, blocked, open_node, AnswersRoots}
-use Rattle.sequence_laws.specs.Ways.{root_alone, one_way_on, both_ways_on}
+use Rattle.block_evidence.specs.SightTree.WholeTree.{Answers, HasNoNode, HasNode, no_node, blocked, open_node, AnswersRoots}
+use Rattle.sight_lift.specs.SequenceLaws.Ways.{root_alone, one_way_on, both_ways_on}
 use Rattle.portal_walk.proofs.Sequences.{portals_more, all_last}
 use Rattle.portal_walk.specs.Whole.{IsGround, IsOfKnown, AnswersPending, IsGap, EndsAtGap, AnswersSoFar}
 use Rattle.portal_walk.proofs.Gaps.{ways_end, root_gap}
-use Rattle.list_base.proofs.Lists.{all_so, all_front, all_join, last_pushed, contains_here as contains_head}
+use Rattle.math_base.proofs.Lists.{all_so, all_front, all_join, last_pushed, contains_here as contains_head}
 use Rattle.mesh_base.proofs.GoodMesh.{found_at}
 
 -- ---- lists

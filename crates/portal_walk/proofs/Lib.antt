@@ -17,3 +17,4 @@ pub mod Trying
 pub mod Gaps
 pub mod Covering
 pub mod Answering
+pub mod EnoughBudget

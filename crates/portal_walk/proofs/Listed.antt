@@ -6,7 +6,7 @@ use Rattle.sight_names.specs.Map.{MapLine, map_of, line_at}
 use Rattle.sight_names.specs.Plan.{PlanParts}
 use Rattle.sight_names.specs.Sequence.{roots, sides_of, is_root}
 use Rattle.portal_walk.specs.Sides.{IsExit}
-use Rattle.list_base.proofs.Lists.{contains_kept}
+use Rattle.math_base.proofs.Lists.{contains_kept}
 use Rattle.sight_names.proofs.Roots.{there_of, side_in}
 
 pub exit_listed : (p : PlanParts) (a : ℕ) (s : Side) → IsExit p a s → Contains (roots (map_of p) a) s

@@ -2,7 +2,7 @@
 use Rattle.std.proofs.Common.{◌≡◌, ℕ, zero, suc, ◌-◌, ◌<◌, ◌⊎◌, inl, inr, List, [], ◌∷◌, ◌++◌, length, take, slice_get, slice_set, Option, Some, None, IsSome, refl, sym, ap, ◌∙◌, subst, arith}
 use Rattle.std.proofs.lemmas.Bool.{false≢true}
 use Rattle.std.proofs.lemmas.List.{length_push, length-set, length-take-le, set-set, set_at, take-append-le, take_all}
-use Rattle.list_base.proofs.Lists.{get_pushed}
+use Rattle.math_base.proofs.Lists.{get_pushed}
 use Rattle.std.proofs.lemmas.Option.{none-some, same_Some, slice_get_within}
 
 -- the element stays where it is when one more comes

@@ -2,8 +2,8 @@
 use Rattle.std.proofs.Common.{◌≡◌, ◌≢◌, [], ◌∷◌, ℤ, pos, ◌+ℤ◌, ◌-ℤ◌, ◌*ℤ◌, neg_ℤ, ◌<ℤ◌, ap₂, sym, subst}
 use Rattle.sight_names.specs.declared.names.Pt.{Pt}
 use Rattle.sight_names.specs.Splitting.{EndPoints, IsSplittable}
-use Rattle.exact_ring.proofs.Quoting.{quoting, by_ring}
-use Rattle.exact_ring.proofs.Small.{neg_of_negated_pos, same_where_no_difference, some_square}
+use Rattle.math_base.proofs.Quoting.{quoting, by_ring}
+use Rattle.math_base.proofs.Small.{neg_of_negated_pos, same_where_no_difference, some_square}
 
 -- what the line says of a point (px, py): l is on its left and r on its right
 at_left : (lx ly rx ry : ℤ) → pos 2 *ℤ (lx -ℤ rx) *ℤ lx +ℤ pos 2 *ℤ (ly -ℤ ry) *ℤ ly +ℤ neg_ℤ ((lx -ℤ rx) *ℤ (lx +ℤ rx) +ℤ (ly -ℤ ry) *ℤ (ly +ℤ ry)) *ℤ pos 1 ≡ (lx -ℤ rx) *ℤ (lx -ℤ rx) +ℤ (ly -ℤ ry) *ℤ (ly -ℤ ry)

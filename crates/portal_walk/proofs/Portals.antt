@@ -10,15 +10,15 @@ use Rattle.sight_names.specs.Points.{Edge, place}
 use Rattle.sight_names.specs.Sequence.{Portal, IsSolidLine, entry_edge, names_it}
 use Rattle.sight_names.proofs.PlanMap.{points_differ}
 use Rattle.sight_names.proofs.PlanNumbers.{count_of_plan, place_of_plan}
-use Rattle.half_edges.specs.declared.table.HalfEdge.{HalfEdge}
-use Rattle.half_edges.specs.HalfEdges.{IsHalfEdge, entering, portal_of, way_outside}
-use Rattle.half_edges.specs.Numbers.{corner_of, number_of}
+use Rattle.mesh_shape.specs.declared.half_edges.table.HalfEdge.{HalfEdge}
+use Rattle.mesh_shape.specs.HalfEdges.HalfEdges.{IsHalfEdge, entering, portal_of, way_outside}
+use Rattle.mesh_shape.specs.HalfEdges.Numbers.{corner_of, number_of}
 use Rattle.portal_walk.specs.declared.scene.Way.{Way as WayOut}
 use Rattle.portal_walk.specs.declared.scene.Way.TheVariants.{Left, Right}
 use Rattle.portal_walk.specs.Scene.{SceneParts, IsScene, IsNumber, IsEntry, IsClosed, Finds, FindsWay, behind, exit_of}
 use Rattle.portal_walk.proofs.EdgeEnds.{edge_ends}
 use Rattle.portal_walk.proofs.SideLines.{arrives}
-use Rattle.list_base.proofs.Lists.{get_there}
+use Rattle.math_base.proofs.Lists.{get_there}
 use Rattle.sight_names.proofs.Roots.{names_true}
 use Rattle.sight_names.proofs.Portals.{triangle_within}
 

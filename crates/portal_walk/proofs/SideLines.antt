@@ -15,9 +15,9 @@ use Rattle.sight_names.specs.Sequence.{Portal, entry_edge, names_it}
 use Rattle.sight_names.proofs.PlanMap.{plan_is_map}
 use Rattle.sight_names.proofs.PlanNumbers.{line_edge_of_plan}
 use Rattle.mesh_shape.proofs.RuleLemmas.{plan_line_at}
-use Rattle.half_edges.specs.Kinds.{IsEnteredAt, IsPassableAt}
+use Rattle.mesh_shape.specs.HalfEdges.Kinds.{IsEnteredAt, IsPassableAt}
 use Rattle.portal_walk.specs.Sides.{IsRootOf, IsArrival, ArrivesAt}
-use Rattle.list_base.proofs.Bools.{only_middle}
+use Rattle.math_base.proofs.Bools.{only_middle}
 use Rattle.sight_names.proofs.Roots.{root_test}
 
 -- ---- roots

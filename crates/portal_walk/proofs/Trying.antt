@@ -10,10 +10,10 @@ use Rattle.sight_names.specs.Splitting.{IsSplittable}
 use Rattle.stab_hull.specs.declared.Passed.{Passed}
 use Rattle.stab_hull.specs.declared.Passed.TheVariants.{Open as PassedOpen, Stuck}
 use Rattle.stab_hull.specs.Answer.{IsBarredBy}
-use Rattle.half_edges.specs.declared.table.HalfEdge.{HalfEdge}
+use Rattle.mesh_shape.specs.declared.half_edges.table.HalfEdge.{HalfEdge}
 use Rattle.block_evidence.specs.declared.Evidence.{Evidence}
-use Rattle.sight_tree.specs.declared.Node.{Node}
-use Rattle.sight_tree.specs.declared.Node.TheVariants.{Open as OpenNode, Blocked as BlockedNode}
+use Rattle.block_evidence.specs.declared.sight_tree.Node.{Node}
+use Rattle.block_evidence.specs.declared.sight_tree.Node.TheVariants.{Open as OpenNode, Blocked as BlockedNode}
 use Rattle.portal_walk.specs.declared.path.Frame.{Frame}
 use Rattle.portal_walk.specs.declared.path.Ways.{Ways}
 use Rattle.portal_walk.specs.declared.path.Ways.TheVariants.{Both}

@@ -7,8 +7,8 @@ use Rattle.portal_walk.specs.declared.path.Ways.{Ways}
 use Rattle.portal_walk.specs.declared.path.Ways.TheVariants.{Both, RightOnly, Done}
 use Rattle.portal_walk.specs.Frames.{AreDone, ways_left, frames_weight, ways_of, top_ways}
 use Rattle.portal_walk.proofs.Lists.{get_front, get_set_same, last_down, front_back}
-use Rattle.list_base.proofs.Lists.{get_take, get_there}
-use Rattle.list_base.proofs.Options.{none_is_not_some}
+use Rattle.math_base.proofs.Lists.{get_take, get_there}
+use Rattle.math_base.proofs.Options.{none_is_not_some}
 
 pub three_pos : (k : ℕ) → 0 < 3 ^ k
 three_pos zero = omega arith

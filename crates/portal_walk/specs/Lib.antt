@@ -5,3 +5,4 @@ pub mod Scene
 pub mod Sides
 pub mod Walk
 pub mod Whole
+pub mod EnoughBudget

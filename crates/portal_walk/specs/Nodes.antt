@@ -1,8 +1,8 @@
 -- The nodes that a walk answers.
 use Rattle.std.specs.Prelude.{List}
 use Rattle.sight_names.specs.declared.names.EndPair.{EndPair}
-use Rattle.sight_tree.specs.declared.Node.{Node}
-use Rattle.sight_tree.specs.declared.Node.TheVariants.{Open, Blocked}
+use Rattle.block_evidence.specs.declared.sight_tree.Node.{Node}
+use Rattle.block_evidence.specs.declared.sight_tree.Node.TheVariants.{Open, Blocked}
 use Rattle.block_evidence.specs.Stuck.{IsEvidenceOf}
 
 -- an open node, or one that is blocked by ends of some pairs that are stuck

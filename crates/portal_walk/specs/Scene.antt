@@ -7,10 +7,10 @@ use Rattle.sight_names.specs.Mesh.{label_of, triangle_at, IsGoodMesh}
 use Rattle.sight_names.specs.Points.{Edge, place}
 use Rattle.sight_names.specs.Sequence.{Portal, apex, entry_edge, IsSolidLine}
 use Rattle.mesh_shape.specs.Shape.{MeshParts}
-use Rattle.half_edges.specs.declared.table.HalfEdge.{HalfEdge}
-use Rattle.half_edges.specs.HalfEdges.{AreHalfEdges, portal_of}
-use Rattle.half_edges.specs.Kinds.{IsEnteredAt}
-use Rattle.half_edges.specs.Numbers.{number_of}
+use Rattle.mesh_shape.specs.declared.half_edges.table.HalfEdge.{HalfEdge}
+use Rattle.mesh_shape.specs.HalfEdges.HalfEdges.{AreHalfEdges, portal_of}
+use Rattle.mesh_shape.specs.HalfEdges.Kinds.{IsEnteredAt}
+use Rattle.mesh_shape.specs.HalfEdges.Numbers.{number_of}
 use Rattle.portal_walk.specs.declared.scene.Way.{Way as WayOut}
 use Rattle.portal_walk.specs.declared.scene.Way.TheVariants.{Left, Right}
 use Rattle.portal_walk.specs.Sides.{ArrivesAt}

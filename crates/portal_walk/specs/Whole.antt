@@ -7,9 +7,9 @@ use Rattle.sight_names.specs.Mesh.{triangle_at, label_of, IsGoodMesh, IsLineEdge
 use Rattle.sight_names.specs.Plan.{PlanParts, IsPlan}
 use Rattle.sight_names.specs.Sequence.{Portal, Sequence, entry_edge, portals, roots, IsSolidLine, LeadsOutside}
 use Rattle.sight_names.specs.Sound.{LinesMeetAtEnds}
-use Rattle.sight_tree.specs.declared.Node.{Node}
-use Rattle.sight_tree.specs.WholeTree.{Answers}
-use Rattle.sequence_laws.specs.Ways.{root_alone}
+use Rattle.block_evidence.specs.declared.sight_tree.Node.{Node}
+use Rattle.block_evidence.specs.SightTree.WholeTree.{Answers}
+use Rattle.sight_lift.specs.SequenceLaws.Ways.{root_alone}
 use Rattle.portal_walk.specs.Walk.{WalkParts, pending}
 
 -- the triangles are a good mesh of a plan whose lines meet at ends alone

@@ -1,13 +1,13 @@
 //! What a walk goes through: the half-edges of a map, seen from one source.
 
 ghost use Rattle.std.specs.Prelude.{◌≡◌, Some, slice_get};
-ghost use Rattle.half_edges.specs.HalfEdges.{AreHalfEdges};
+ghost use Rattle.mesh_shape.specs.HalfEdges.HalfEdges.{AreHalfEdges};
 ghost use Rattle.portal_walk.specs.Scene.{Finds, FindsWay, IsNumber, IsScene, behind as behind_of};
 ghost use Rattle.sight_names.specs.Map.{map_of};
 ghost use Rattle.sight_names.specs.Mesh.{IsGoodMesh};
 ghost use Rattle.sight_names.specs.Plan.{IsPlan};
 
-use half_edges::{HalfEdge, HalfEdges};
+use mesh_shape::half_edges::{HalfEdge, HalfEdges};
 use mesh_shape::{Labels, Mesh};
 use sight_names::Plan;
 use std::marker::Model;

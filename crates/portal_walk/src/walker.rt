@@ -8,15 +8,15 @@ ghost use Rattle.sight_names.specs.Sequence.{roots};
 ghost use Rattle.sight_names.specs.Sound.{LinesMeetAtEnds};
 ghost use Rattle.sight_names.specs.Splitting.{SplitsEnds, IsSplittable};
 ghost use Rattle.stab_hull.specs.Answer.{IsLineInRange};
-ghost use Rattle.half_edges.specs.declared.table.HalfEdge.{HalfEdge as HalfEdgeOf};
-ghost use Rattle.half_edges.specs.HalfEdges.{AreHalfEdges};
+ghost use Rattle.mesh_shape.specs.declared.half_edges.table.HalfEdge.{HalfEdge as HalfEdgeOf};
+ghost use Rattle.mesh_shape.specs.HalfEdges.HalfEdges.{AreHalfEdges};
 
 use crate::step::{Step, Went};
 use crate::walk::Walk;
-use half_edges::{HalfEdge, HalfEdges};
+use block_evidence::sight_tree::Tree;
+use mesh_shape::half_edges::{HalfEdge, HalfEdges};
 use mesh_shape::{Labels, Mesh};
 use sight_names::{Memory, Plan, Side};
-use sight_tree::Tree;
 use std::alloc::Global;
 use std::marker::Model;
 
@@ -39,8 +39,8 @@ impl<'a> Model for Walker<'a> {
 }
 
 impl<'a> Walker<'a> {
-    ghost use Rattle.sequence_laws.specs.Ways.{root_alone};
-    ghost use Rattle.sight_tree.specs.WholeTree.{IsWholeTree};
+    ghost use Rattle.sight_lift.specs.SequenceLaws.Ways.{root_alone};
+    ghost use Rattle.block_evidence.specs.SightTree.WholeTree.{IsWholeTree};
     ghost use Rattle.portal_walk.specs.Nodes.{IsAnswered};
     ghost use Rattle.portal_walk.specs.Sides.{IsExit};
     ghost use Rattle.portal_walk.specs.Walk.{Goes, IsTop, Takes, Rests, SameWalk, pending, remaining};

@@ -4,9 +4,9 @@ ghost use Rattle.std.specs.Prelude.{◌<◌, length};
 
 use crate::table::ran;
 use block_evidence::{Evidence, four};
-use board_core::{Core, Event, Reply};
-use hexen_lumps::to_hexen;
 use listeners::Listener;
+use map_lumps::hexen_lumps::to_hexen;
+use pair_budget::board_core::{Core, Event, Reply};
 use run_cases::stage_of;
 use shelf_io::{DiskShelf, MemSink, fetch};
 use sight_names::{

@@ -2,9 +2,9 @@
 //! after it.
 
 use crate::table::part;
+use group_job::sight_workers::OpenGate;
 use run_cases::{Stage, run_on, stage_of};
 use sight_run::{Role, Status, code};
-use sight_workers::OpenGate;
 use std::alloc::{AllocError, Global};
 use std::test::Fail;
 use std::thread::Threads;

@@ -4,19 +4,19 @@ ghost use Rattle.sight_names.specs.Map.{map_of};
 ghost use Rattle.sight_names.specs.Sound.{LinesMeetAtEnds};
 
 use crate::table::part;
-use cert_groups::AnyCert;
+use block_evidence::sight_tree::{Node, Nodes};
+use cert_format::cert_groups::AnyCert;
+use face_groups::tri_sectors::components;
+use group_job::sight_workers::OpenGate;
 use group_job::{build_table, map_of_groups};
-use half_edges::HalfEdges;
 use map_audit::audit_lines;
+use mesh_shape::half_edges::HalfEdges;
 use pair_budget::{Alone, Outcome, walk_source};
 use portal_walk::{Step, Walker};
 use sight_names::{Ask, Budget, Memory, Plan};
-use sight_tree::{Node, Nodes};
-use sight_workers::OpenGate;
 use std::alloc::Global;
 use std::test::Fail;
 use std::thread::Threads;
-use tri_sectors::components;
 use triangulate::{Segments, greedy};
 use worked_maps::files::{bytes_of_digits, number, plan_named};
 

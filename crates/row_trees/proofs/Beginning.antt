@@ -3,19 +3,19 @@ use Rattle.std.proofs.Common.{◌≡◌, ℕ, ◌+◌, List, [], ◌∷◌, ◌+
 use Rattle.std.specs.List.{AllByRecursion}
 use Rattle.std.proofs.lemmas.Option.{none-some}
 use Rattle.std.proofs.lemmas.List.Elements.{All-nil}
-use Rattle.list_base.proofs.Lists.{contains_none}
+use Rattle.math_base.proofs.Lists.{contains_none}
 use Rattle.sight_names.specs.Map.{map_of}
 use Rattle.sight_names.specs.Ray.{IsSightRay}
 use Rattle.sight_names.specs.Sequence.{roots}
 use Rattle.sight_names.specs.Splitting.{EndPoints}
-use Rattle.tree_judge.specs.Roots.{root_edges}
-use Rattle.tree_judge.specs.Walked.{begun}
+use Rattle.cert_checker.specs.TreeJudge.Roots.{root_edges}
+use Rattle.cert_checker.specs.TreeJudge.Walked.{begun}
 use Rattle.pair_budget.specs.declared.results.Reached.{Reached}
 use Rattle.pair_budget.specs.Walked.{IsReachedFrom}
-use Rattle.row_judge.specs.declared.walk.RowWalk.{RowWalk}
-use Rattle.row_judge.specs.Words.{is_in}
-use Rattle.row_judge.specs.Asked.{Pending, pending_way, pending_roots, with_rest, leaves, mask_at}
-use Rattle.row_judge.specs.Judged.{IsWalked, StandsAt}
+use Rattle.gate_floods.specs.declared.row_judge.walk.RowWalk.{RowWalk}
+use Rattle.gate_floods.specs.RowJudge.Words.{is_in}
+use Rattle.gate_floods.specs.RowJudge.Asked.{Pending, pending_way, pending_roots, with_rest, leaves, mask_at}
+use Rattle.gate_floods.specs.RowJudge.Judged.{IsWalked, StandsAt}
 use Rattle.row_trees.specs.Made.{AreSeen, AreWanted}
 use Rattle.row_trees.specs.Walkable.{Scene, Search, IsWalkable}
 use Rattle.row_trees.specs.Left.{most, weight, remaining}

@@ -3,8 +3,8 @@ use Rattle.std.proofs.Common.{◌≡◌, ◌≢◌, ℕ, ◌≤◌, inl, inr, Li
 use Rattle.std.specs.List.{AllByRecursion, filter_map, cons_option}
 use Rattle.std.proofs.lemmas.List.{length-map}
 use Rattle.std.proofs.lemmas.Option.{same_Some}
-use Rattle.list_base.proofs.Lists.{contains_here}
-use Rattle.list_base.proofs.Numbers.{same_or_not}
+use Rattle.math_base.proofs.Lists.{contains_here}
+use Rattle.math_base.proofs.Numbers.{same_or_not}
 use Rattle.sight_names.proofs.Lists.{contains_tail}
 use Rattle.sight_names.specs.declared.names.Side.{Side}
 use Rattle.sight_names.specs.declared.names.Triangle.{Triangle}
@@ -14,19 +14,19 @@ use Rattle.sight_names.specs.Plan.{PlanParts}
 use Rattle.sight_names.specs.Points.{Edge, place, reverse_of}
 use Rattle.sight_names.specs.Sequence.{Portal, entry_edge, root_portal, roots, is_root, sides_of, third_point}
 use Rattle.sight_names.specs.Splitting.{EndPoints, IsSplittable}
-use Rattle.sight_laws.proofs.Plans.{line_below}
+use Rattle.mesh_base.proofs.SightLaws.Plans.{line_below}
 use Rattle.sight_lift.proofs.Sequences.{IsRoot, root_is, filter_passes}
 use Rattle.sight_lift.proofs.Doors.{named_is}
 use Rattle.mesh_base.proofs.GoodMesh.{found_at}
-use Rattle.sequence_laws.specs.Ways.{root_alone, one_way_on}
-use Rattle.sequence_laws.proofs.Depth.{few_portals}
-use Rattle.half_edges.specs.declared.table.HalfEdge.{HalfEdge}
-use Rattle.half_edges.specs.Numbers.{edge}
-use Rattle.half_edges.specs.Kinds.{IsEnteredAt, IsPassableAt}
-use Rattle.half_edges.specs.HalfEdges.{portal_of, way_outside, IsHalfEdge}
-use Rattle.half_edges.proofs.Reached.{other_edges}
+use Rattle.sight_lift.specs.SequenceLaws.Ways.{root_alone, one_way_on}
+use Rattle.sight_lift.proofs.SequenceLaws.Depth.{few_portals}
+use Rattle.mesh_shape.specs.declared.half_edges.table.HalfEdge.{HalfEdge}
+use Rattle.mesh_shape.specs.HalfEdges.Numbers.{edge}
+use Rattle.mesh_shape.specs.HalfEdges.Kinds.{IsEnteredAt, IsPassableAt}
+use Rattle.mesh_shape.specs.HalfEdges.HalfEdges.{portal_of, way_outside, IsHalfEdge}
+use Rattle.mesh_shape.proofs.HalfEdges.Reached.{other_edges}
 use Rattle.gate_floods.specs.Gates.{other_side}
-use Rattle.tree_judge.specs.Roots.{root_edge, way_out_of}
+use Rattle.cert_checker.specs.TreeJudge.Roots.{root_edge, way_out_of}
 use Rattle.portal_walk.specs.declared.scene.Way.{Way as WayOut}
 use Rattle.portal_walk.specs.declared.scene.Way.TheVariants.{Left, Right}
 use Rattle.portal_walk.specs.Pending.{way_of}
@@ -36,7 +36,7 @@ use Rattle.portal_walk.specs.Walk.{ends_of}
 use Rattle.portal_walk.proofs.Alone.{not_solid, one_record}
 use Rattle.portal_walk.proofs.Portals.{found_behind, found_on}
 use Rattle.portal_walk.proofs.Sequences.{comes_on, comes_first}
-use Rattle.row_judge.specs.Words.{is_away}
+use Rattle.gate_floods.specs.RowJudge.Words.{is_away}
 use Rattle.row_trees.specs.Going.{GoesOn}
 use Rattle.row_trees.specs.Walkable.{Scene, Search, IsWalkable}
 

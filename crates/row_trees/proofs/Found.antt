@@ -2,9 +2,9 @@
 use Rattle.std.proofs.Common.{◌≡◌, ◌≢◌, ℕ, ◌<◌, ◌≤◌, inl, inr, List, [], ◌∷◌, ◌++◌, Option, Some, None, Bool, true, false, not, IsSome, Contains, length, slice_get, if◌then◌else◌, refl, sym, ◌∙◌, ap, subst, arith, ℤ}
 use Rattle.std.proofs.lemmas.List.Elements.{All-push}
 use Rattle.std.proofs.lemmas.Option.{slice_get_within}
-use Rattle.list_base.proofs.Bools.{not_both_values}
-use Rattle.list_base.proofs.Lists.{last_pushed, contains_pushed}
-use Rattle.list_base.proofs.Options.{some_is_same, some_is_not_none, none_is_not_some}
+use Rattle.math_base.proofs.Bools.{not_both_values}
+use Rattle.math_base.proofs.Lists.{last_pushed, contains_pushed}
+use Rattle.math_base.proofs.Options.{some_is_same, some_is_not_none, none_is_not_some}
 use Rattle.sight_names.proofs.Lists.{contains_of_get}
 use Rattle.sight_names.proofs.PlanMap.{plan_is_map}
 use Rattle.sight_names.specs.declared.names.Side.{Side}
@@ -13,22 +13,22 @@ use Rattle.sight_names.specs.Mesh.{label_of}
 use Rattle.sight_names.specs.Ray.{IsSightRay}
 use Rattle.sight_names.specs.Sequence.{entry_edge}
 use Rattle.sight_names.specs.Splitting.{EndPoints, SplitsEnds}
-use Rattle.sight_laws.specs.Laws.{IsOpenRay}
+use Rattle.mesh_base.specs.SightLaws.Laws.{IsOpenRay}
 use Rattle.sight_lift.proofs.Back.{ray_of_sequence}
 use Rattle.stab_hull.specs.Answer.{IsLineInRange}
-use Rattle.half_edges.specs.declared.table.HalfEdge.{HalfEdge}
-use Rattle.half_edges.specs.HalfEdges.{portal_of}
-use Rattle.half_edges.specs.Kinds.{IsEnteredAt, IsPassableAt}
+use Rattle.mesh_shape.specs.declared.half_edges.table.HalfEdge.{HalfEdge}
+use Rattle.mesh_shape.specs.HalfEdges.HalfEdges.{portal_of}
+use Rattle.mesh_shape.specs.HalfEdges.Kinds.{IsEnteredAt, IsPassableAt}
 use Rattle.portal_walk.specs.Sides.{ArrivesAt, IsArrival}
 use Rattle.portal_walk.specs.Walk.{ends_of}
 use Rattle.portal_walk.proofs.Lists.{get_more}
 use Rattle.pair_budget.specs.declared.results.Reached.{Reached}
 use Rattle.pair_budget.specs.Walked.{IsReachedFrom}
-use Rattle.row_judge.specs.declared.follow.RowFollow.{RowFollow}
-use Rattle.row_judge.specs.declared.walk.RowWalk.{RowWalk}
-use Rattle.row_judge.specs.Words.{row_at, is_in, is_away}
-use Rattle.row_judge.specs.Asked.{Pending}
-use Rattle.row_judge.specs.Judged.{StandsAt}
+use Rattle.gate_floods.specs.declared.row_judge.follow.RowFollow.{RowFollow}
+use Rattle.gate_floods.specs.declared.row_judge.walk.RowWalk.{RowWalk}
+use Rattle.gate_floods.specs.RowJudge.Words.{row_at, is_in, is_away}
+use Rattle.gate_floods.specs.RowJudge.Asked.{Pending}
+use Rattle.gate_floods.specs.RowJudge.Judged.{StandsAt}
 use Rattle.row_trees.specs.Finding.{side_left, wanted_in, IsAlong}
 use Rattle.row_trees.specs.Walkable.{Scene, Search, IsWalkable}
 use Rattle.row_trees.specs.Thinner.{IsWithin, IsPresent, AreThinner, SameButRows, AreThinned}

@@ -2,28 +2,28 @@
 use Rattle.std.proofs.Common.{◌≡◌, ◌≢◌, ℕ, ◌+◌, ◌<◌, ◌≤◌, ◌⊎◌, inl, inr, min, List, [], ◌∷◌, ◌++◌, Option, Some, None, Bool, true, false, length, take, slice_get, if◌then◌else◌, option_and_then, refl, sym, ◌∙◌, ap, subst, arith}
 use Rattle.std.specs.List.{AllByRecursion}
 use Rattle.std.proofs.lemmas.List.{length-append, length-take, take-append-le, take-take, take_all}
-use Rattle.list_base.proofs.Lists.{all_join, all_so}
+use Rattle.math_base.proofs.Lists.{all_join, all_so}
 use Rattle.sight_names.specs.Splitting.{EndPoints, IsSplittable}
 use Rattle.block_evidence.specs.declared.Evidence.{Evidence}
 use Rattle.block_evidence.specs.Stuck.{Blocks}
 use Rattle.stab_hull.specs.Answer.{IsBarredBy}
-use Rattle.sight_tree.specs.declared.Node.TheVariants.{Open, Blocked}
-use Rattle.half_edges.specs.declared.table.HalfEdge.{HalfEdge}
-use Rattle.half_edges.specs.HalfEdges.{way_outside}
-use Rattle.tree_judge.specs.declared.roots.Root.{Root}
-use Rattle.tree_judge.specs.declared.trees.Frame.{Frame}
-use Rattle.tree_judge.specs.Path.{path_ends}
+use Rattle.block_evidence.specs.declared.sight_tree.Node.TheVariants.{Open, Blocked}
+use Rattle.mesh_shape.specs.declared.half_edges.table.HalfEdge.{HalfEdge}
+use Rattle.mesh_shape.specs.HalfEdges.HalfEdges.{way_outside}
+use Rattle.cert_checker.specs.declared.tree_judge.roots.Root.{Root}
+use Rattle.cert_checker.specs.declared.tree_judge.trees.Frame.{Frame}
+use Rattle.cert_checker.specs.TreeJudge.Path.{path_ends}
 use Rattle.portal_walk.specs.declared.scene.Way.TheVariants.{Left, Right}
 use Rattle.portal_walk.specs.Scene.{IsNumber}
 use Rattle.portal_walk.specs.Walk.{ends_of}
 use Rattle.pair_budget.specs.declared.results.Reached.{Reached}
-use Rattle.row_judge.specs.Masks.{MaskRows}
-use Rattle.row_judge.specs.declared.follow.Wait.{Wait}
-use Rattle.row_judge.specs.declared.walk.RowWalk.{RowWalk}
-use Rattle.row_judge.specs.Words.{row_at, is_away}
-use Rattle.row_judge.specs.Asked.{Pending, pending_way, pending_roots, with_rest, leaves, mask_at, row_through, way_asked, ways_behind, ways_through, ends_through, Answers}
-use Rattle.row_judge.specs.Path.{AreWaiting}
-use Rattle.row_judge.specs.Judged.{StandsAt}
+use Rattle.gate_floods.specs.RowJudge.Masks.{MaskRows}
+use Rattle.gate_floods.specs.declared.row_judge.follow.Wait.{Wait}
+use Rattle.gate_floods.specs.declared.row_judge.walk.RowWalk.{RowWalk}
+use Rattle.gate_floods.specs.RowJudge.Words.{row_at, is_away}
+use Rattle.gate_floods.specs.RowJudge.Asked.{Pending, pending_way, pending_roots, with_rest, leaves, mask_at, row_through, way_asked, ways_behind, ways_through, ends_through, Answers}
+use Rattle.gate_floods.specs.RowJudge.Path.{AreWaiting}
+use Rattle.gate_floods.specs.RowJudge.Judged.{StandsAt}
 use Rattle.row_trees.specs.Walkable.{Scene, Search, IsWalkable}
 use Rattle.row_trees.specs.Thinner.{IsWithin, IsPresent, IsThinned, AreThinned}
 use Rattle.row_trees.specs.Left.{most, weight, weight_at, remaining}

@@ -1,15 +1,15 @@
 -- A half-edge that is left without an answer.
 use Rattle.std.proofs.Common.{◌≡◌, ℕ, ◌+◌, ◌<◌, ◌≤◌, inr, List, ◌∷◌, ◌++◌, Option, Some, None, IsSome, length, take, refl, sym, ◌∙◌, ap, subst, arith}
-use Rattle.tree_judge.specs.declared.roots.Root.{Root}
-use Rattle.tree_judge.specs.Path.{path_ends}
-use Rattle.row_judge.specs.Masks.{MaskRows}
-use Rattle.row_judge.specs.declared.follow.Wait.{Wait}
-use Rattle.row_judge.specs.declared.follow.RowFollow.{RowFollow}
-use Rattle.row_judge.specs.declared.walk.RowWalk.{RowWalk}
-use Rattle.row_judge.specs.Words.{row_at}
-use Rattle.row_judge.specs.Asked.{Pending, pending_way, pending_roots}
-use Rattle.row_judge.specs.Path.{IsAt, TakesNext, with_asked}
-use Rattle.row_judge.specs.Judged.{StandsAt}
+use Rattle.cert_checker.specs.declared.tree_judge.roots.Root.{Root}
+use Rattle.cert_checker.specs.TreeJudge.Path.{path_ends}
+use Rattle.gate_floods.specs.RowJudge.Masks.{MaskRows}
+use Rattle.gate_floods.specs.declared.row_judge.follow.Wait.{Wait}
+use Rattle.gate_floods.specs.declared.row_judge.follow.RowFollow.{RowFollow}
+use Rattle.gate_floods.specs.declared.row_judge.walk.RowWalk.{RowWalk}
+use Rattle.gate_floods.specs.RowJudge.Words.{row_at}
+use Rattle.gate_floods.specs.RowJudge.Asked.{Pending, pending_way, pending_roots}
+use Rattle.gate_floods.specs.RowJudge.Path.{IsAt, TakesNext, with_asked}
+use Rattle.gate_floods.specs.RowJudge.Judged.{StandsAt}
 use Rattle.row_trees.specs.Walkable.{Scene}
 use Rattle.row_trees.specs.Thinner.{IsWithin, AreThinned}
 use Rattle.row_trees.specs.Left.{most, weight, weight_at, remaining}

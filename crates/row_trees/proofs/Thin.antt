@@ -4,11 +4,11 @@ use Rattle.std.specs.Int.{bit_at, bit_not, w64}
 use mir.Val.{bits}
 use Rattle.std.proofs.lemmas.Nat.Bits.{bit_at-lt, bit_at-zero, bit_at_and, bit_at_clear_same}
 use Rattle.std.proofs.lemmas.List.{length-take, get_or-take, get_or-drop, get_or-set_same, get_or-set_other}
-use Rattle.list_base.proofs.Numbers.{same_or_not, below_or_not, below_or_last, tells_same, tells_other, is_told_same}
-use Rattle.list_base.proofs.Bools.{false_of_not, not_both_values}
-use Rattle.row_judge.specs.Words.{is_in, is_away, row_at, both_words}
-use Rattle.row_judge.specs.Asked.{left_of, leaves}
-use Rattle.row_judge.proofs.Bits.{found_bit, bit_found, in_both, in_each}
+use Rattle.math_base.proofs.Numbers.{same_or_not, below_or_not, below_or_last, tells_same, tells_other, is_told_same}
+use Rattle.math_base.proofs.Bools.{false_of_not, not_both_values}
+use Rattle.gate_floods.specs.RowJudge.Words.{is_in, is_away, row_at, both_words}
+use Rattle.gate_floods.specs.RowJudge.Asked.{left_of, leaves}
+use Rattle.gate_floods.proofs.RowJudge.Bits.{found_bit, bit_found, in_both, in_each}
 use Rattle.row_trees.specs.Thinner.{IsPartOf, IsWithin, AreThinner}
 
 -- ---- one word

@@ -1,19 +1,19 @@
 -- What is still to be asked by a walk out of whose rows bits were taken.
 use Rattle.std.proofs.Common.{◌≡◌, ℕ, ◌+◌, ◌≤◌, inl, inr, List, [], ◌∷◌, ◌++◌, Option, Some, None, Bool, true, false, length, take, if◌then◌else◌, refl, sym, ◌∙◌, ap, subst, arith}
 use Rattle.std.specs.List.{AllByRecursion}
-use Rattle.list_base.proofs.Bools.{not_both_values}
+use Rattle.math_base.proofs.Bools.{not_both_values}
 use Rattle.sight_names.specs.Splitting.{EndPoints}
-use Rattle.tree_judge.specs.declared.roots.Root.{Root}
-use Rattle.tree_judge.specs.declared.trees.Frame.{Frame}
-use Rattle.tree_judge.specs.Path.{path_ends}
-use Rattle.row_judge.specs.Masks.{MaskRows}
-use Rattle.row_judge.specs.declared.follow.Wait.{Wait}
-use Rattle.row_judge.specs.declared.follow.RowFollow.{RowFollow}
-use Rattle.row_judge.specs.declared.walk.RowWalk.{RowWalk}
-use Rattle.row_judge.specs.Words.{row_at}
-use Rattle.row_judge.specs.Asked.{Pending, pending_way, pending_roots, with_rest, leaves, mask_at}
-use Rattle.row_judge.specs.Path.{waiting_way, AreWaiting, IsAt}
-use Rattle.row_judge.specs.Judged.{StandsAt}
+use Rattle.cert_checker.specs.declared.tree_judge.roots.Root.{Root}
+use Rattle.cert_checker.specs.declared.tree_judge.trees.Frame.{Frame}
+use Rattle.cert_checker.specs.TreeJudge.Path.{path_ends}
+use Rattle.gate_floods.specs.RowJudge.Masks.{MaskRows}
+use Rattle.gate_floods.specs.declared.row_judge.follow.Wait.{Wait}
+use Rattle.gate_floods.specs.declared.row_judge.follow.RowFollow.{RowFollow}
+use Rattle.gate_floods.specs.declared.row_judge.walk.RowWalk.{RowWalk}
+use Rattle.gate_floods.specs.RowJudge.Words.{row_at}
+use Rattle.gate_floods.specs.RowJudge.Asked.{Pending, pending_way, pending_roots, with_rest, leaves, mask_at}
+use Rattle.gate_floods.specs.RowJudge.Path.{waiting_way, AreWaiting, IsAt}
+use Rattle.gate_floods.specs.RowJudge.Judged.{StandsAt}
 use Rattle.row_trees.specs.Thinner.{IsWithin, AreThinner, SameButRows, IsThinned, AreThinned}
 use Rattle.row_trees.specs.Left.{weight, weight_at}
 use Rattle.row_trees.proofs.Thin.{thinner_row, leaves_more}

@@ -3,16 +3,16 @@ use Rattle.std.proofs.Common.{◌≡◌, ℕ, zero, suc, ◌+◌, ◌-◌, ◌*�
 use Rattle.std.proofs.lemmas.List.{length-map, length-take-le}
 use Rattle.std.proofs.Math.Nat.{pow-suc}
 use Rattle.sight_names.specs.Splitting.{EndPoints}
-use Rattle.tree_judge.specs.declared.roots.Root.{Root}
-use Rattle.tree_judge.specs.declared.trees.Frame.{Frame}
-use Rattle.tree_judge.specs.Path.{portal_ends, path_ends, IsChain}
-use Rattle.row_judge.specs.declared.follow.Wait.{Wait}
-use Rattle.row_judge.specs.declared.walk.RowWalk.{RowWalk}
-use Rattle.row_judge.specs.Words.{row_at}
-use Rattle.row_judge.specs.Asked.{Pending, pending_way, pending_roots}
-use Rattle.row_judge.specs.Path.{AreWaiting}
-use Rattle.row_judge.specs.Judged.{StandsAt}
-use Rattle.row_judge.proofs.Roots.{chain_short}
+use Rattle.cert_checker.specs.declared.tree_judge.roots.Root.{Root}
+use Rattle.cert_checker.specs.declared.tree_judge.trees.Frame.{Frame}
+use Rattle.cert_checker.specs.TreeJudge.Path.{portal_ends, path_ends, IsChain}
+use Rattle.gate_floods.specs.declared.row_judge.follow.Wait.{Wait}
+use Rattle.gate_floods.specs.declared.row_judge.walk.RowWalk.{RowWalk}
+use Rattle.gate_floods.specs.RowJudge.Words.{row_at}
+use Rattle.gate_floods.specs.RowJudge.Asked.{Pending, pending_way, pending_roots}
+use Rattle.gate_floods.specs.RowJudge.Path.{AreWaiting}
+use Rattle.gate_floods.specs.RowJudge.Judged.{StandsAt}
+use Rattle.gate_floods.proofs.RowJudge.Roots.{chain_short}
 use Rattle.row_trees.specs.Walkable.{Scene}
 use Rattle.row_trees.specs.Left.{most, weight, weight_at, weight_of_asked, weight_of_waits, root_then, root_at_then, chain_of, remaining}
 

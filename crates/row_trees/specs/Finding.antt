@@ -1,10 +1,10 @@
 -- What a walk by a row finds: a sector that its present row has, and the ray there.
 use Rattle.std.specs.Prelude.{◌≡◌, ℕ, List, Option, Some, None, option_and_then, option_map, slice_get, if◌then◌else◌}
 use Rattle.sight_names.specs.declared.names.Side.{Side}
-use Rattle.half_edges.specs.declared.table.HalfEdge.{HalfEdge}
+use Rattle.mesh_shape.specs.declared.half_edges.table.HalfEdge.{HalfEdge}
 use Rattle.gate_floods.specs.Gates.{other_side}
 use Rattle.pair_budget.specs.declared.results.Reached.{Reached}
-use Rattle.row_judge.specs.Words.{is_in, row_at}
+use Rattle.gate_floods.specs.RowJudge.Words.{is_in, row_at}
 
 -- the side by which one leaves who comes in by the half-edge with this number
 abbrev pub side_left : List HalfEdge → Option ℕ → Option Side

@@ -3,16 +3,16 @@ use Rattle.std.specs.Prelude.{◌≡◌, ℕ, ◌<◌, ◌≤◌, List, [], ◌�
 use Rattle.std.specs.List.{AllByRecursion}
 use Rattle.sight_names.specs.Sequence.{Sequence}
 use Rattle.sight_names.specs.Splitting.{EndPoints}
-use Rattle.sight_tree.specs.declared.Node.{Node}
-use Rattle.half_edges.specs.declared.table.HalfEdge.{HalfEdge}
+use Rattle.block_evidence.specs.declared.sight_tree.Node.{Node}
+use Rattle.mesh_shape.specs.declared.half_edges.table.HalfEdge.{HalfEdge}
 use Rattle.portal_walk.specs.Scene.{IsNumber}
 use Rattle.portal_walk.specs.Sides.{IsExit}
 use Rattle.portal_walk.specs.Walk.{ComesBy, ends_of}
 use Rattle.pair_budget.specs.declared.results.Reached.{Reached}
-use Rattle.row_judge.specs.Asked.{Pending, Answers}
-use Rattle.row_judge.specs.Judged.{StandsAt}
-use Rattle.row_judge.specs.Words.{is_in, is_away}
-use Rattle.row_judge.specs.declared.walk.RowWalk.{RowWalk}
+use Rattle.gate_floods.specs.RowJudge.Asked.{Pending, Answers}
+use Rattle.gate_floods.specs.RowJudge.Judged.{StandsAt}
+use Rattle.gate_floods.specs.RowJudge.Words.{is_in, is_away}
+use Rattle.gate_floods.specs.declared.row_judge.walk.RowWalk.{RowWalk}
 use Rattle.row_trees.specs.Finding.{side_left}
 use Rattle.row_trees.specs.Left.{most, weight}
 use Rattle.row_trees.specs.Made.{AreSeen, AreWanted}

@@ -1,10 +1,10 @@
 -- How much a walk may still try: each half-edge that is asked counts three times as much as one of those behind it.
 use Rattle.std.specs.Prelude.{ℕ, zero, suc, ◌+◌, ◌-◌, ◌^◌, List, [], ◌∷◌, Option, Some, None, length, slice_get}
-use Rattle.tree_judge.specs.declared.roots.Root.{Root}
-use Rattle.row_judge.specs.Asked.{Pending, pending_roots}
-use Rattle.row_judge.specs.Words.{row_at}
-use Rattle.row_judge.specs.declared.follow.Wait.{Wait}
-use Rattle.row_judge.specs.declared.walk.RowWalk.{RowWalk}
+use Rattle.cert_checker.specs.declared.tree_judge.roots.Root.{Root}
+use Rattle.gate_floods.specs.RowJudge.Asked.{Pending, pending_roots}
+use Rattle.gate_floods.specs.RowJudge.Words.{row_at}
+use Rattle.gate_floods.specs.declared.row_judge.follow.Wait.{Wait}
+use Rattle.gate_floods.specs.declared.row_judge.walk.RowWalk.{RowWalk}
 use Rattle.row_trees.specs.Walkable.{Scene}
 
 -- no path is longer than this

@@ -3,14 +3,14 @@ use Rattle.std.specs.Prelude.{◌≡◌, ◌≢◌, ℕ, ◌<◌, List, [], Opti
 use Rattle.sight_names.specs.Map.{map_of}
 use Rattle.sight_names.specs.Plan.{PlanParts}
 use Rattle.sight_names.specs.Ray.{IsSightRay}
-use Rattle.half_edges.specs.declared.table.HalfEdge.{HalfEdge}
-use Rattle.tree_judge.specs.declared.roots.Root.{Root}
+use Rattle.mesh_shape.specs.declared.half_edges.table.HalfEdge.{HalfEdge}
+use Rattle.cert_checker.specs.declared.tree_judge.roots.Root.{Root}
 use Rattle.pair_budget.specs.declared.results.Reached.{Reached}
 use Rattle.pair_budget.specs.Walked.{AreReached}
-use Rattle.row_judge.specs.Masks.{MaskRows}
-use Rattle.row_judge.specs.Words.{is_in}
-use Rattle.row_judge.specs.declared.walk.RowWalk.{RowWalk}
-use Rattle.row_judge.specs.Judged.{tree_of, IsWalked, IsWholeFrom}
+use Rattle.gate_floods.specs.RowJudge.Masks.{MaskRows}
+use Rattle.gate_floods.specs.RowJudge.Words.{is_in}
+use Rattle.gate_floods.specs.declared.row_judge.walk.RowWalk.{RowWalk}
+use Rattle.gate_floods.specs.RowJudge.Judged.{tree_of, IsWalked, IsWholeFrom}
 use Rattle.row_trees.specs.declared.made.Made.{Made}
 
 module _ (xs : List HalfEdge) (ms : MaskRows) (row : List ℕ) (roots : List Root) (firsts : List (Option ℕ)) (source : ℕ) where

@@ -1,9 +1,9 @@
 -- Rows out of which bits were taken, and what is still to be asked by a walk with such rows.
 use Rattle.std.specs.Prelude.{◌≡◌, ℕ, ◌⊎◌, List, [], ◌∷◌, length, slice_index, true}
 use Rattle.std.specs.Int.{bit_at}
-use Rattle.row_judge.specs.declared.walk.RowWalk.{RowWalk}
-use Rattle.row_judge.specs.Asked.{Pending}
-use Rattle.row_judge.specs.Words.{is_in, row_at}
+use Rattle.gate_floods.specs.declared.row_judge.walk.RowWalk.{RowWalk}
+use Rattle.gate_floods.specs.RowJudge.Asked.{Pending}
+use Rattle.gate_floods.specs.RowJudge.Words.{is_in, row_at}
 
 -- each bit of the one word is set in the other
 abbrev pub IsPartOf : ℕ → ℕ → Type 0

@@ -6,13 +6,13 @@ use Rattle.sight_names.specs.Map.{map_of}
 use Rattle.sight_names.specs.Mesh.{IsGoodMesh}
 use Rattle.sight_names.specs.Plan.{PlanParts, IsPlan}
 use Rattle.sight_names.specs.Sound.{LinesMeetAtEnds}
-use Rattle.half_edges.specs.declared.table.HalfEdge.{HalfEdge}
-use Rattle.half_edges.specs.HalfEdges.{AreHalfEdges}
-use Rattle.tree_judge.specs.declared.roots.Root.{Root}
-use Rattle.tree_judge.specs.declared.trees.Terrain.{Terrain}
-use Rattle.tree_judge.specs.Roots.{AreRoots}
-use Rattle.row_judge.specs.declared.masks.Masks.{Masks}
-use Rattle.row_judge.specs.Masks.{MaskRows, rows_of}
+use Rattle.mesh_shape.specs.declared.half_edges.table.HalfEdge.{HalfEdge}
+use Rattle.mesh_shape.specs.HalfEdges.HalfEdges.{AreHalfEdges}
+use Rattle.cert_checker.specs.declared.tree_judge.roots.Root.{Root}
+use Rattle.cert_checker.specs.declared.tree_judge.trees.Terrain.{Terrain}
+use Rattle.cert_checker.specs.TreeJudge.Roots.{AreRoots}
+use Rattle.gate_floods.specs.declared.row_judge.masks.Masks.{Masks}
+use Rattle.gate_floods.specs.RowJudge.Masks.{MaskRows, rows_of}
 
 -- a map, triangles and their labels
 pub record Ground : Type 0 where

@@ -3,10 +3,10 @@
 ghost use Rattle.std.specs.Prelude.{◌≡◌, Some as Given, IsSome, option_and_then};
 ghost use Rattle.row_trees.specs.Finding.{side_left as side_left_of, wanted_in, IsAlong};
 
-use half_edges::{HalfEdge, HalfEdges};
+use gate_floods::row_judge::RowWalk;
+use gate_floods::row_judge::words::{has, part};
+use mesh_shape::half_edges::{HalfEdge, HalfEdges};
 use pair_budget::Reached;
-use row_judge::RowWalk;
-use row_judge::words::{has, part};
 use sight_names::Side;
 use sight_ray::ray_of;
 

@@ -1,15 +1,15 @@
 //! The rows of a walk, out of which what was found is taken.
 
 ghost use Rattle.std.specs.Prelude.{◌≡◌, ◌+◌, ◌≤◌, ◌∷◌, ℕ, List, length, true, false, IsSome};
-ghost use Rattle.row_judge.specs.Asked.{Pending};
-ghost use Rattle.row_judge.specs.Judged.{StandsAt};
-ghost use Rattle.row_judge.specs.Masks.{rows_of};
-ghost use Rattle.row_judge.specs.Words.{is_in, row_at};
+ghost use Rattle.gate_floods.specs.RowJudge.Asked.{Pending};
+ghost use Rattle.gate_floods.specs.RowJudge.Judged.{StandsAt};
+ghost use Rattle.gate_floods.specs.RowJudge.Masks.{rows_of};
+ghost use Rattle.gate_floods.specs.RowJudge.Words.{is_in, row_at};
 ghost use Rattle.row_trees.specs.Thinner.{AreThinned, AreThinner, IsPresent, IsWithin, SameButRows};
 
-use row_judge::words::part;
-use row_judge::{Masks, RowWalk, leaves, next_asked};
-use tree_judge::Terrain;
+use cert_checker::tree_judge::Terrain;
+use gate_floods::row_judge::words::part;
+use gate_floods::row_judge::{Masks, RowWalk, leaves, next_asked};
 
 /// Takes the sector out of the first row.
 fn drop_first(rows: &mut [u64], sector: u16)

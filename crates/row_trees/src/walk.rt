@@ -2,15 +2,15 @@
 
 ghost use Rattle.std.specs.Prelude.{◌≡◌, ◌≢◌, ◌⊎◌, ◌+◌, ◌<◌, ◌++◌, ◌∷◌, [], ℕ, List, Some as Given, All, length, true, false, IfOk, OnOk};
 ghost use Rattle.sight_names.specs.Splitting.{EndPoints, IsSplittable};
-ghost use Rattle.sight_tree.specs.declared.Node.TheVariants.{Blocked};
-ghost use Rattle.half_edges.specs.declared.table.HalfEdge.{HalfEdge as HalfEdgeOf};
+ghost use Rattle.block_evidence.specs.declared.sight_tree.Node.TheVariants.{Blocked};
+ghost use Rattle.mesh_shape.specs.declared.half_edges.table.HalfEdge.{HalfEdge as HalfEdgeOf};
 ghost use Rattle.portal_walk.specs.Nodes.{IsAnswered};
 ghost use Rattle.portal_walk.specs.Walk.{ends_of};
 ghost use Rattle.stab_hull.specs.Answer.{IsBarredBy};
-ghost use Rattle.row_judge.specs.Asked.{Answers, Pending};
-ghost use Rattle.row_judge.specs.Judged.{StandsAt};
-ghost use Rattle.row_judge.specs.Masks.{rows_of};
-ghost use Rattle.row_judge.specs.Words.{is_away, row_at};
+ghost use Rattle.gate_floods.specs.RowJudge.Asked.{Answers, Pending};
+ghost use Rattle.gate_floods.specs.RowJudge.Judged.{StandsAt};
+ghost use Rattle.gate_floods.specs.RowJudge.Masks.{rows_of};
+ghost use Rattle.gate_floods.specs.RowJudge.Words.{is_away, row_at};
 ghost use Rattle.row_trees.specs.Going.{CanAnswer, IsAfter, IsGoing, IsTried};
 ghost use Rattle.row_trees.specs.Made.{AreSeen, AreWanted, IsMade, IsMadeSoFar};
 ghost use Rattle.row_trees.specs.Thinner.{IsPresent};
@@ -21,13 +21,13 @@ use crate::hull::leave_to;
 use crate::made::Made;
 use crate::rows::{forget, skip, skip_unwanted};
 use block_evidence::Evidence;
-use half_edges::HalfEdge;
-use row_judge::{Masks, RowWalk};
+use block_evidence::sight_tree::{Node, Nodes};
+use cert_checker::tree_judge::Terrain;
+use gate_floods::row_judge::{Masks, RowWalk};
+use mesh_shape::half_edges::HalfEdge;
 use sight_names::Memory;
-use sight_tree::{Node, Nodes};
 use stab_hull::{Ends, Passed};
 use std::alloc::Global;
-use tree_judge::Terrain;
 
 /// A walk of a source as its judge would walk, the hull of the ends of its path, and the half-edge by which it left the source.
 /// Its buffers are used again from source to source.

@@ -7,8 +7,8 @@ use Rattle.sight_names.specs.Map.{Map, MapLine, map_of, looked_up}
 use Rattle.sight_names.specs.Points.{points_of}
 use Rattle.sight_names.proofs.PlanPoints.{at, plan_points}
 use Rattle.sight_names.proofs.PlanMap.{points_differ}
-use Rattle.list_base.proofs.Numbers.{same_or_not}
-use Rattle.list_base.proofs.Options.{some_is_same}
+use Rattle.math_base.proofs.Numbers.{same_or_not}
+use Rattle.math_base.proofs.Options.{some_is_same}
 
 -- both ends of each line are below n
 abbrev EndsBelow : ℕ → List (Option Line) → Type 0

@@ -2,7 +2,7 @@
 use Rattle.std.proofs.Common.{◌≡◌, ℕ, zero, suc, ◌<◌, List, [], ◌∷◌, ◌++◌, length, slice_get, Some, subst, ℤ, pos, ◌<ℤ◌, arith}
 use Rattle.std.proofs.lemmas.Int.{ints}
 use Rattle.std.proofs.lemmas.List.Quantifiers.{position-Some}
-use Rattle.list_base.proofs.Options.{none_is_not_some, some_is_same}
+use Rattle.math_base.proofs.Options.{none_is_not_some, some_is_same}
 use Rattle.sight_names.specs.declared.names.Triangle.{Triangle}
 use Rattle.sight_names.specs.Map.{Map}
 use Rattle.sight_names.specs.Mesh.{triangle_at, has_edge}

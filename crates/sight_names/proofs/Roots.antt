@@ -4,8 +4,8 @@ use Rattle.std.specs.List.{flat_map, enumerate_from}
 use Rattle.std.proofs.lemmas.Bool.{true≢false}
 use Rattle.std.proofs.lemmas.List.Elements.{Contains-append_right}
 use Rattle.std.proofs.lemmas.Option.{none-some, same_Some}
-use Rattle.list_base.proofs.Lists.{contains_there}
-use Rattle.list_base.proofs.Numbers.{is_told_same, tells_same, tells_other}
+use Rattle.math_base.proofs.Lists.{contains_there}
+use Rattle.math_base.proofs.Numbers.{is_told_same, tells_same, tells_other}
 use Rattle.sight_names.specs.declared.names.Side.{Side}
 use Rattle.sight_names.specs.Map.{Map, MapLine, line_at, sector_on}
 use Rattle.sight_names.specs.Sequence.{both_sides, is_root, names_it}

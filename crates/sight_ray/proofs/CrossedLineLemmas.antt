@@ -12,8 +12,8 @@ use Rattle.geom_exact.specs.Formulas.{side_value, AreOnTwoSides}
 use Rattle.sight_ray.specs.declared.crossed_line.CrossedLine.{CrossedLine}
 use Rattle.sight_ray.specs.CrossedLine.{AreParted, IsCrossedLineBetween, IsCrossedLineOf, CrossingOfLine}
 use Rattle.sight_ray.specs.RayFault.{Splits, IsSplit, Crosses}
-use Rattle.exact_ring.proofs.Small.{pos_not_neg}
-use Rattle.list_base.proofs.Options.{some_is_same}
+use Rattle.math_base.proofs.Small.{pos_not_neg}
+use Rattle.math_base.proofs.Options.{some_is_same}
 
 -- ---- a crossed line from the two values
 pub crossed_line_forward : (r : Ray) (p q : Pt) → AreParted (side_value r p) (side_value r q) → IsCrossedLineBetween r p q (record { left = p; right = q; first_left = true })

@@ -9,15 +9,15 @@ use Rattle.sight_names.specs.Plan.{PlanParts}
 use Rattle.sight_names.specs.Map.{Map, MapLine, named, Names, map_of}
 use Rattle.sight_names.specs.Ray.{IsInRange, SplitsLine, NotBehind, IsCrossing, IsSightRay}
 use Rattle.sight_names.proofs.Laws.{on_segment_sym}
-use Rattle.sight_laws.proofs.Plans.{line_below}
-use Rattle.sight_laws.proofs.Rays.{crossing_there, crossing_only, not_both, not_behind_same, segment_same}
+use Rattle.mesh_base.proofs.SightLaws.Plans.{line_below}
+use Rattle.mesh_base.proofs.SightLaws.Rays.{crossing_there, crossing_only, not_both, not_behind_same, segment_same}
 use Rattle.sight_ray.specs.declared.crossed_line.CrossedLine.{CrossedLine}
 use Rattle.sight_ray.specs.CrossedLine.{IsCrossedLineOf, CrossingOfLine, AllBehind, AllInOrder, IsFirstHit, AreClearBelow}
 use Rattle.sight_ray.specs.RayFault.{Splits, IsSplit, Leaves, Arrives, Crosses, HasNames, HasSplits, HasCrossings, IsBehind, IsBlocked, IsRayFault}
 use Rattle.sight_ray.proofs.CrossedLineLemmas.{same_line, crossed_line_splits, one_split, line_crosses}
 use Rattle.sight_ray.proofs.HitLemmas.{parts_of}
-use Rattle.list_base.proofs.Options.{one_value, is_not_there, is_there}
-use Rattle.list_base.proofs.Numbers.{below_same_or_above}
+use Rattle.math_base.proofs.Options.{one_value, is_not_there, is_there}
+use Rattle.math_base.proofs.Numbers.{below_same_or_above}
 
 pub names_of : (m : Map) (r : Ray) (a b : ℕ) → IsInRange r → Names m r.first a → Names m r.last b → HasNames m r
 names_of m r a b h e f = record { range = h; from = is_there (named m r.first) a e; to = is_there (named m r.last) b f }

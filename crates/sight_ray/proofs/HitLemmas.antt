@@ -1,7 +1,7 @@
 -- Whether a segment has a point of the stretch between two crossings.
 use Rattle.std.proofs.Common.{◌≡◌, ℕ, Some, None, IsTrue, Bool, true, false, not, MatchBool, ℤ, pos, neg_ℤ, ◌≤ℤ◌, ◌<ℤ◌, arith, sym, subst, ◌∙◌, inl, inr}
 use borrow.Author.Differences.{ints}
-use Rattle.exact_ring.proofs.Signs.{sign_cases}
+use Rattle.math_base.proofs.Signs.{sign_cases}
 use Rattle.sight_names.specs.declared.names.Pt.{Pt}
 use Rattle.sight_names.specs.declared.names.Ray.{Ray}
 use Rattle.sight_names.specs.Point.{Point, point_of, OnSegment}
@@ -12,11 +12,11 @@ use Rattle.sight_names.proofs.Laws.{on_segment_sym, start_on}
 use Rattle.geom_exact.specs.Formulas.{turn_of, side_value, AreOnOneSide, AreOnTwoSides}
 use Rattle.geom_exact.proofs.SegmentLemmas.{turn_is_at}
 use Rattle.geom_exact.proofs.CrossingLemmas.{crossing_exists}
-use Rattle.sight_laws.proofs.Rays.{Behind, Parts, HasDirection, order, not_both, behind_not, parts_direction, on_stretch, stretch_on_ray, stretch_after, stretch_before, turn_not_before, turn_before, turn_not_behind, turn_behind, all_before, all_behind, alone_on, only_end}
+use Rattle.mesh_base.proofs.SightLaws.Rays.{Behind, Parts, HasDirection, order, not_both, behind_not, parts_direction, on_stretch, stretch_on_ray, stretch_after, stretch_before, turn_not_before, turn_before, turn_not_behind, turn_behind, all_before, all_behind, alone_on, only_end}
 use Rattle.sight_ray.specs.declared.crossed_line.CrossedLine.{CrossedLine}
 use Rattle.sight_ray.specs.CrossedLine.{IsCrossedLine, CrossingOfLine, IsForward, IsHit, IsClear, ReachesStart, ReachesStop, IsMet, IsPassed, AllBehind, AllInOrder, IsHitAt, IsClearAt}
 use Rattle.sight_ray.proofs.CrossedLineLemmas.{same_line}
-use Rattle.list_base.proofs.Options.{none_is_not_some}
+use Rattle.math_base.proofs.Options.{none_is_not_some}
 
 pub parts_of : (r : Ray) (g : CrossedLine) → IsCrossedLine r g → Parts r g.left g.right
 parts_of r g h = record { left = h.left; right = h.right }

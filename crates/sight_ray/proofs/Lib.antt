@@ -1,3 +1,4 @@
 pub mod CrossedLineLemmas
 pub mod HitLemmas
 pub mod FaultLemmas
+pub mod RayTrace

@@ -1,2 +1,3 @@
 pub mod RayFault
 pub mod CrossedLine
+pub mod RayTrace

@@ -8,6 +8,7 @@ ghost use Rattle.sight_ray.specs.CrossedLine.{IsCrossedLineOf};
 ghost use Rattle.sight_ray.specs.RayFault.{IsRayFault, HasNames, Leaves, Arrives};
 
 mod crossed_line;
+pub mod ray_trace;
 
 use crossed_line::{CrossedLine, crossed_line_of, first_hit, is_backwards};
 use geom_exact::in_range;

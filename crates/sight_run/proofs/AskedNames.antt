@@ -3,7 +3,7 @@ use Rattle.std.proofs.Common.{◌≡◌, ℕ, ◌+◌, ◌<◌, List, length, ge
 use Rattle.std.proofs.lemmas.List.{drop_more}
 use Rattle.sight_names.specs.declared.faults.MapFault.{MapFault}
 use Rattle.wad_dir.specs.Map.{has_name, same_name}
-use Rattle.all_maps.specs.Asked.{fault_of, first_fault}
+use Rattle.wad_dir.specs.AllMaps.Asked.{fault_of, first_fault}
 
 -- ---- the first name that is none of a map's
 

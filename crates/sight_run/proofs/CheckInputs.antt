@@ -15,13 +15,13 @@ use Rattle.group_checker.specs.declared.verdict.AnyVerdict.TheVariants as verdic
 use Rattle.cert_judge.specs.declared.judged.Judged.{Judged}
 use Rattle.cert_judge.specs.declared.judged.Judged.TheVariants as judged
 use Rattle.cert_judge.specs.Judged.{JudgedBy}
-use Rattle.sight_status.specs.declared.status.Bound.TheVariants as bound
-use Rattle.sight_status.specs.declared.status.Role.TheVariants as role
-use Rattle.sight_status.specs.declared.status.Why.TheVariants as why
-use Rattle.sight_status.specs.declared.status.Status.{Status}
-use Rattle.sight_status.specs.declared.status.Status.TheVariants as status
-use Rattle.sight_status.specs.Answer.{Answer, Gives, Makes, ◌>>=◌, line_answer, only_line}
-use Rattle.sight_status.specs.Status.{IsOfCertFetch, IsOfTableTest}
+use Rattle.map_answers.specs.declared.sight_status.status.Bound.TheVariants as bound
+use Rattle.map_answers.specs.declared.sight_status.status.Role.TheVariants as role
+use Rattle.map_answers.specs.declared.sight_status.status.Why.TheVariants as why
+use Rattle.map_answers.specs.declared.sight_status.status.Status.{Status}
+use Rattle.map_answers.specs.declared.sight_status.status.Status.TheVariants as status
+use Rattle.map_answers.specs.SightStatus.Answer.{Answer, Gives, Makes, ◌>>=◌, line_answer, only_line}
+use Rattle.map_answers.specs.SightStatus.Status.{IsOfCertFetch, IsOfTableTest}
 use Rattle.map_answers.specs.Input.{LocatedMap}
 use Rattle.map_answers.specs.Sound.{HasSoundLines}
 use Rattle.sight_run.specs.Judged.{IsJudged, IsJudgement}

@@ -7,13 +7,13 @@ use Rattle.shelf_io.specs.Sink.{SinkState}
 use Rattle.order_words.specs.declared.order.Order.{Order}
 use Rattle.order_words.specs.declared.order.Order.TheVariants as order
 use Rattle.order_words.specs.declared.order.Source.{Source}
-use Rattle.sight_status.specs.declared.status.Role.{Role}
-use Rattle.sight_status.specs.declared.status.Role.TheVariants as role
-use Rattle.sight_status.specs.declared.status.Status.{Status}
-use Rattle.sight_status.specs.declared.status.Status.TheVariants as status
-use Rattle.sight_status.specs.Say.{Refused, Said, SaidIfMade}
-use Rattle.sight_status.specs.Status.{IsOfMaking}
-use Rattle.sight_status.specs.Texts.{text_of}
+use Rattle.map_answers.specs.declared.sight_status.status.Role.{Role}
+use Rattle.map_answers.specs.declared.sight_status.status.Role.TheVariants as role
+use Rattle.map_answers.specs.declared.sight_status.status.Status.{Status}
+use Rattle.map_answers.specs.declared.sight_status.status.Status.TheVariants as status
+use Rattle.map_answers.specs.SightStatus.Say.{Refused, Said, SaidIfMade}
+use Rattle.map_answers.specs.SightStatus.Status.{IsOfMaking}
+use Rattle.map_answers.specs.SightStatus.Texts.{text_of}
 use Rattle.map_answers.specs.Input.{LocatedMap}
 use Rattle.whole_wad.specs.Built.{IsOfBuilding}
 use Rattle.sight_run.specs.Heard.{AllHeard, AreFindingsIn, AreFindingsOf, AreOfFound, BuildHears, FrontsHeard, Heard, Hears, IsUnheard, OrderHears}

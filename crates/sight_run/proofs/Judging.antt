@@ -7,11 +7,11 @@ use Rattle.reject_bits.specs.Parts.{TableParts}
 use Rattle.cert_format.specs.declared.cert.Sizes.{Sizes}
 use Rattle.cert_format.specs.Accepted.{labels_of, triangles_of}
 use Rattle.cert_format.specs.Sizes.{sizes_of}
-use Rattle.cert_groups.specs.declared.cert.CertTwo.{CertTwo}
-use Rattle.cert_groups.specs.declared.cert.AnyCert.{AnyCert}
-use Rattle.cert_groups.specs.declared.cert.AnyCert.TheVariants.{One, Two}
-use Rattle.cert_exact.specs.declared.cert.ExactParts.{ExactParts}
-use Rattle.cert_exact.specs.Grammar.{as_two}
+use Rattle.cert_format.specs.declared.cert_groups.cert.CertTwo.{CertTwo}
+use Rattle.cert_format.specs.declared.cert_groups.cert.AnyCert.{AnyCert}
+use Rattle.cert_format.specs.declared.cert_groups.cert.AnyCert.TheVariants.{One, Two}
+use Rattle.certificates.specs.declared.cert_exact.cert.ExactParts.{ExactParts}
+use Rattle.certificates.specs.CertExact.Grammar.{as_two}
 use Rattle.certificates.specs.declared.certificate.Certificate.{Certificate}
 use Rattle.certificates.specs.declared.certificate.Certificate.TheVariants.{Listing, Exact}
 use Rattle.certificates.specs.Reading.{certificate_at}
@@ -24,7 +24,7 @@ use Rattle.any_judge.specs.Judged.{Judges}
 use Rattle.cert_judge.specs.declared.judged.Judged.{Judged}
 use Rattle.cert_judge.specs.declared.judged.Judged.TheVariants as judged
 use Rattle.cert_judge.specs.Judged.{JudgedBy}
-use Rattle.cert_file.specs.Judgement.{IsJudged as IsJudgedOver, IsJudgement as IsJudgementOver}
+use Rattle.any_judge.specs.CertFile.Judgement.{IsJudged as IsJudgedOver, IsJudgement as IsJudgementOver}
 use Rattle.sight_run.specs.Judged.{IsJudged, IsJudgement, JudgesListingOf, JudgesOf, JudgesThreeOf, JudgesTwoOf}
 use Rattle.whole_wad.specs.Sizes.{sizes_of_map}
 

@@ -7,14 +7,14 @@ use Rattle.shelf_io.specs.Shelf.{ShelfState}
 use Rattle.shelf_io.specs.Sink.{SinkState}
 use Rattle.order_words.specs.declared.order.Order.{Order}
 use Rattle.order_words.specs.declared.order.Order.TheVariants as order
-use Rattle.sight_status.specs.declared.status.Role.{Role}
-use Rattle.sight_status.specs.declared.status.Role.TheVariants as role
-use Rattle.sight_status.specs.declared.status.Status.{Status}
-use Rattle.sight_status.specs.declared.status.Status.TheVariants as status
-use Rattle.sight_status.specs.Answer.{Gives, Makes, Written, status_of}
-use Rattle.sight_status.specs.Say.{Refused, Said, SaidIfMade}
-use Rattle.sight_status.specs.Status.{IsOfWords}
-use Rattle.sight_status.specs.Texts.{text_of}
+use Rattle.map_answers.specs.declared.sight_status.status.Role.{Role}
+use Rattle.map_answers.specs.declared.sight_status.status.Role.TheVariants as role
+use Rattle.map_answers.specs.declared.sight_status.status.Status.{Status}
+use Rattle.map_answers.specs.declared.sight_status.status.Status.TheVariants as status
+use Rattle.map_answers.specs.SightStatus.Answer.{Gives, Makes, Written, status_of}
+use Rattle.map_answers.specs.SightStatus.Say.{Refused, Said, SaidIfMade}
+use Rattle.map_answers.specs.SightStatus.Status.{IsOfWords}
+use Rattle.map_answers.specs.SightStatus.Texts.{text_of}
 use Rattle.sight_run.specs.declared.reply.Reply.{Reply}
 use Rattle.sight_run.specs.Grid.{GridCalls, IsOfGrid}
 use Rattle.sight_run.specs.Made.{GridSays, IsMade, IsMadeBy, PutsMade}

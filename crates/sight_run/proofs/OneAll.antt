@@ -5,10 +5,10 @@ use Rattle.sight_names.specs.declared.faults.RewriteFault.{RewriteFault}
 use Rattle.sight_names.specs.declared.faults.RewriteFault.TheVariants as rewrite
 use Rattle.sight_names.specs.declared.names.Method.{Method}
 use Rattle.wad_dir.specs.Wad.{WadFile}
-use Rattle.sight_status.specs.declared.status.Bound.TheVariants as bound
-use Rattle.sight_status.specs.declared.status.Status.{Status}
-use Rattle.sight_status.specs.declared.status.Status.TheVariants as status
-use Rattle.sight_status.specs.Answer.{Answer, IsTheAnswer}
+use Rattle.map_answers.specs.declared.sight_status.status.Bound.TheVariants as bound
+use Rattle.map_answers.specs.declared.sight_status.status.Status.{Status}
+use Rattle.map_answers.specs.declared.sight_status.status.Status.TheVariants as status
+use Rattle.map_answers.specs.SightStatus.Answer.{Answer, IsTheAnswer}
 use Rattle.whole_wad.specs.declared.outcomes.MapOutcome.{MapOutcome}
 use Rattle.whole_wad.specs.Outcomes.{AreOutcomes, changes_of, refusals_of}
 use Rattle.whole_wad.specs.Report.{report_of}

@@ -6,7 +6,7 @@ use Rattle.reject_bits.specs.Parts.{TableParts}
 use Rattle.whole_wad.specs.declared.building.Built.{Built}
 use Rattle.map_answers.specs.declared.counts.Counts.{Counts}
 use Rattle.map_answers.specs.Counts.{counts_with}
-use Rattle.sight_status.specs.Answer.{Answer, only_line}
+use Rattle.map_answers.specs.SightStatus.Answer.{Answer, only_line}
 use Rattle.whole_wad.specs.Built.{HaveOneTable, IsBuiltOf}
 use Rattle.whole_wad.proofs.OneTable.{one_table}
 use Rattle.map_answers.specs.Input.{LocatedMap}

@@ -5,8 +5,8 @@ use Rattle.sight_names.specs.declared.names.Side.{Side}
 use Rattle.sight_names.specs.declared.names.Triangle.{Triangle}
 use Rattle.sight_names.specs.Map.{Map, MapLine, line_at, named, sector_on}
 use Rattle.sight_names.specs.Groups.{unnamed}
-use Rattle.groups_base.specs.Table.{NamesTheLabels}
-use Rattle.groups_base.proofs.SameLines.{bare, same_lines_sym, lines_alike, line_of}
+use Rattle.face_groups.specs.GroupsBase.Table.{NamesTheLabels}
+use Rattle.face_groups.proofs.GroupsBase.SameLines.{bare, same_lines_sym, lines_alike, line_of}
 
 abbrev tail_of : List (Option MapLine) → List (Option MapLine)
 tail_of [] = []

@@ -4,18 +4,18 @@ use Rattle.std.specs.Int.{bit_at}
 use Rattle.std.specs.List.{count_by, list_all, list_any, range_with_len}
 use Rattle.std.proofs.lemmas.List.{get_or_past}
 use Rattle.std.proofs.lemmas.Nat.Bits.{bit_at-zero}
-use Rattle.list_base.proofs.Numbers.{below_or_not}
+use Rattle.math_base.proofs.Numbers.{below_or_not}
 use Rattle.sight_names.specs.Map.{Map}
 use Rattle.sight_names.specs.Table.{table_bit}
 use Rattle.reject_bits.specs.Parts.{TableParts}
 use Rattle.map_picture.specs.declared.tint.Tint.TheVariants as tint
 use Rattle.map_picture.specs.Bytes.{svg_of}
 use Rattle.map_picture.specs.Picture.{faces_from, picture_of}
-use Rattle.sight_status.specs.declared.status.Flaw.TheVariants as flaw
-use Rattle.sight_status.specs.declared.status.Why.TheVariants as why
-use Rattle.sight_status.specs.declared.status.Status.TheVariants as status
-use Rattle.sight_status.specs.Answer.{Answer}
-use Rattle.sight_status.specs.declared.status.Status.{Status}
+use Rattle.map_answers.specs.declared.sight_status.status.Flaw.TheVariants as flaw
+use Rattle.map_answers.specs.declared.sight_status.status.Why.TheVariants as why
+use Rattle.map_answers.specs.declared.sight_status.status.Status.TheVariants as status
+use Rattle.map_answers.specs.SightStatus.Answer.{Answer}
+use Rattle.map_answers.specs.declared.sight_status.status.Status.{Status}
 use Rattle.map_answers.specs.Groups.{MapGroups}
 use Rattle.draw_answers.specs.Drawn.{Drawing, one_picture}
 use Rattle.draw_answers.specs.Lines.{row_line_of, set_in_row}

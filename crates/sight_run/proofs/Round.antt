@@ -13,11 +13,11 @@ use Rattle.wad_dir.specs.Kept.{reject_then, spot_then}
 use Rattle.wad_dir.specs.Map.{same_name, spot_of}
 use Rattle.wad_dir.specs.Print.{with_reject}
 use Rattle.wad_dir.specs.Wad.{WadFile, WadLump, names_of, wad_of}
-use Rattle.wad_rewrite.specs.Again.{IsReadAgain}
-use Rattle.wad_rewrite.specs.Rewrite.{printed}
-use Rattle.wad_rewrite.proofs.Reading.{rewritten_is_read}
-use Rattle.sight_status.specs.declared.status.Status.{Status}
-use Rattle.sight_status.specs.Answer.{◌>>=◌}
+use Rattle.wad_dir.specs.WadRewrite.Again.{IsReadAgain}
+use Rattle.wad_dir.specs.WadRewrite.Rewrite.{printed}
+use Rattle.wad_dir.proofs.WadRewrite.Reading.{rewritten_is_read}
+use Rattle.map_answers.specs.declared.sight_status.status.Status.{Status}
+use Rattle.map_answers.specs.SightStatus.Answer.{◌>>=◌}
 use Rattle.map_answers.specs.Input.{LocatedMap, found_in, lump_at, map_at, of_four_lumps, of_spot, of_wad, reading_at}
 use Rattle.sight_run.specs.Zero.{of_rewrite, with_table}
 

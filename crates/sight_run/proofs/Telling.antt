@@ -3,8 +3,8 @@ use Rattle.std.proofs.Common.{◌≡◌, ◌∙◌, ℕ, ◌+◌, ◌-◌, ◌<�
 use Rattle.std.specs.List.{AllByRecursion}
 use Rattle.std.proofs.lemmas.List.Elements.{All-weaker}
 use Rattle.std.proofs.lemmas.Option.{slice_get-get_or}
-use Rattle.list_base.proofs.Lists.{all_at, all_so}
-use Rattle.list_base.proofs.Numbers.{same_or_below}
+use Rattle.math_base.proofs.Lists.{all_at, all_so}
+use Rattle.math_base.proofs.Numbers.{same_or_below}
 use Rattle.sight_names.specs.declared.names.Method.{Method}
 use Rattle.sight_names.specs.declared.names.Method.TheVariants as how
 use Rattle.sight_names.specs.declared.names.Pair.{Pair}
@@ -17,20 +17,20 @@ use Rattle.listeners.specs.declared.finding.Kind.TheVariants as kind
 use Rattle.listeners.specs.Findings.{AreFindings, IsKindOf, all_pairs}
 use Rattle.listeners.specs.Listening.{ListenerState, clears_in, lists_in, sets_in}
 use Rattle.listeners.specs.Told.{AreTold, AreToldInTurn, TellsAll, texts}
-use Rattle.pair_findings.specs.Counted.{AreCounted}
-use Rattle.pair_findings.specs.Found.{IsFindingBy, IsKindBy, IsPairOf, findings_of, pair}
-use Rattle.pair_findings.proofs.Counted.{findings_are_counted, sets_by_rows}
-use Rattle.pair_findings.proofs.Telling.{findings_tell_pairs}
+use Rattle.listeners.specs.PairFindings.Counted.{AreCounted}
+use Rattle.listeners.specs.PairFindings.Found.{IsFindingBy, IsKindBy, IsPairOf, findings_of, pair}
+use Rattle.listeners.proofs.PairFindings.Counted.{findings_are_counted, sets_by_rows}
+use Rattle.listeners.proofs.PairFindings.Telling.{findings_tell_pairs}
 use Rattle.reject_bits.specs.Parts.{Rejects, TableParts}
 use Rattle.cert_format.specs.declared.cert.Sizes.{Sizes}
 use Rattle.cert_format.specs.Grammar.{IsPairInRange}
-use Rattle.cert_groups.specs.declared.cert.AnyCert.TheVariants.{One, Two}
+use Rattle.cert_format.specs.declared.cert_groups.cert.AnyCert.TheVariants.{One, Two}
 use Rattle.certificates.specs.declared.certificate.Certificate.{Certificate}
 use Rattle.certificates.specs.declared.certificate.Certificate.TheVariants.{Listing, Exact}
 use Rattle.certificates.specs.Grammar.{IsInOrder, Spells, sizes_of, spelling}
-use Rattle.sight_status.specs.declared.status.Status.{Status}
-use Rattle.sight_status.specs.declared.status.Status.TheVariants as status
-use Rattle.sight_status.specs.Answer.{Answer, Gives}
+use Rattle.map_answers.specs.declared.sight_status.status.Status.{Status}
+use Rattle.map_answers.specs.declared.sight_status.status.Status.TheVariants as status
+use Rattle.map_answers.specs.SightStatus.Answer.{Answer, Gives}
 use Rattle.map_answers.specs.Counts.{counts_with, pair_count, set_from, set_pairs}
 use Rattle.map_answers.specs.Input.{LocatedMap}
 use Rattle.sight_run.specs.Build.{BuildCalls, BuildMakes, ShowsBuild, ShowsMade, finding_counts, report_behind, with_report}

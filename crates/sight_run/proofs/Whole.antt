@@ -8,18 +8,18 @@ use Rattle.sight_names.specs.declared.faults.WadFault.TheVariants as wad
 use Rattle.sight_names.specs.declared.names.Method.{Method}
 use Rattle.shelf_io.specs.Shelf.{Files, SameCounts, ShelfState, content_of}
 use Rattle.wad_dir.specs.Wad.{WadFile, wad_of}
-use Rattle.all_maps.specs.All.{HasInOrder}
-use Rattle.all_maps.specs.Asked.{asked_maps_of}
-use Rattle.all_maps.specs.Maps.{maps_of}
-use Rattle.all_maps.proofs.AskedMaps.{asked_in_order}
+use Rattle.wad_dir.specs.AllMaps.All.{HasInOrder}
+use Rattle.wad_dir.specs.AllMaps.Asked.{asked_maps_of}
+use Rattle.wad_dir.specs.AllMaps.Maps.{maps_of}
+use Rattle.wad_dir.proofs.AllMaps.AskedMaps.{asked_in_order}
 use Rattle.order_words.specs.declared.order.Order.TheVariants as order
 use Rattle.order_words.specs.declared.order.Source.{Source}
-use Rattle.sight_status.specs.declared.status.Bound.TheVariants as bound
-use Rattle.sight_status.specs.declared.status.Role.TheVariants as role
-use Rattle.sight_status.specs.declared.status.Status.{Status}
-use Rattle.sight_status.specs.declared.status.Status.TheVariants as status
-use Rattle.sight_status.specs.Answer.{Answer, Gives, IsTheAnswer, Makes, ◌>>=◌}
-use Rattle.sight_status.specs.Status.{IsOfBytes}
+use Rattle.map_answers.specs.declared.sight_status.status.Bound.TheVariants as bound
+use Rattle.map_answers.specs.declared.sight_status.status.Role.TheVariants as role
+use Rattle.map_answers.specs.declared.sight_status.status.Status.{Status}
+use Rattle.map_answers.specs.declared.sight_status.status.Status.TheVariants as status
+use Rattle.map_answers.specs.SightStatus.Answer.{Answer, Gives, IsTheAnswer, Makes, ◌>>=◌}
+use Rattle.map_answers.specs.SightStatus.Status.{IsOfBytes}
 use Rattle.map_answers.specs.Input.{of_wad}
 use Rattle.sight_run.specs.All.{OnRead, all_roles, maps_in, of_asked, wad_in}
 use Rattle.sight_run.specs.Asked.{IsOfNames}

@@ -12,14 +12,14 @@ use Rattle.reject_bits.specs.Parts.{TableParts}
 use Rattle.certificates.specs.declared.certificate.Certificate.{Certificate}
 use Rattle.certificates.specs.Grammar.{Spells, spelling}
 use Rattle.map_answers.specs.declared.counts.Counts.{Counts}
-use Rattle.sight_status.specs.declared.status.Bound.{Bound}
-use Rattle.sight_status.specs.declared.status.Bound.TheVariants as bound
-use Rattle.sight_status.specs.declared.status.Flaw.TheVariants as flaw
-use Rattle.sight_status.specs.declared.status.Role.{Role}
-use Rattle.sight_status.specs.declared.status.Role.TheVariants as role
-use Rattle.sight_status.specs.declared.status.Status.{Status}
-use Rattle.sight_status.specs.declared.status.Status.TheVariants as status
-use Rattle.sight_status.specs.Answer.{Answer, Written}
+use Rattle.map_answers.specs.declared.sight_status.status.Bound.{Bound}
+use Rattle.map_answers.specs.declared.sight_status.status.Bound.TheVariants as bound
+use Rattle.map_answers.specs.declared.sight_status.status.Flaw.TheVariants as flaw
+use Rattle.map_answers.specs.declared.sight_status.status.Role.{Role}
+use Rattle.map_answers.specs.declared.sight_status.status.Role.TheVariants as role
+use Rattle.map_answers.specs.declared.sight_status.status.Status.{Status}
+use Rattle.map_answers.specs.declared.sight_status.status.Status.TheVariants as status
+use Rattle.map_answers.specs.SightStatus.Answer.{Answer, Written}
 use Rattle.map_answers.specs.Counts.{counts_with, counts_words}
 use Rattle.map_answers.specs.Input.{LocatedMap}
 use Rattle.sight_run.specs.Heard.{Heard}

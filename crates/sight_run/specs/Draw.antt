@@ -4,11 +4,11 @@ use Rattle.sight_names.specs.Map.{Map}
 use Rattle.reject_bits.specs.Parts.{TableParts}
 use Rattle.order_words.specs.declared.order.View.{View}
 use Rattle.order_words.specs.declared.order.View.TheVariants as view
-use Rattle.sight_status.specs.declared.status.Status.{Status}
-use Rattle.sight_status.specs.declared.status.Status.TheVariants as status
-use Rattle.sight_status.specs.declared.status.Why.TheVariants as why
-use Rattle.sight_status.specs.Answer.{Answer}
-use Rattle.sight_status.specs.Status.{IsOfTableTest}
+use Rattle.map_answers.specs.declared.sight_status.status.Status.{Status}
+use Rattle.map_answers.specs.declared.sight_status.status.Status.TheVariants as status
+use Rattle.map_answers.specs.declared.sight_status.status.Why.TheVariants as why
+use Rattle.map_answers.specs.SightStatus.Answer.{Answer}
+use Rattle.map_answers.specs.SightStatus.Status.{IsOfTableTest}
 use Rattle.map_answers.specs.Input.{LocatedMap}
 use Rattle.draw_answers.specs.Drawn.{IsOfDrawTest}
 use Rattle.draw_answers.specs.Faults.{DrawFaultsCalls}

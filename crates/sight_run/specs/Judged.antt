@@ -3,15 +3,15 @@ use Rattle.std.specs.Prelude.{◌↔◌, List, ℕ}
 use Rattle.sight_names.specs.Map.{Map}
 use Rattle.reject_bits.specs.Parts.{TableParts}
 use Rattle.cert_format.specs.Accepted.{labels_of, triangles_of}
-use Rattle.cert_groups.specs.declared.cert.CertTwo.{CertTwo}
-use Rattle.cert_groups.specs.declared.cert.AnyCert.{AnyCert}
-use Rattle.cert_groups.specs.declared.cert.AnyCert.TheVariants.{One, Two}
-use Rattle.cert_exact.specs.declared.cert.ExactParts.{ExactParts}
-use Rattle.cert_exact.specs.Grammar.{as_two}
+use Rattle.cert_format.specs.declared.cert_groups.cert.CertTwo.{CertTwo}
+use Rattle.cert_format.specs.declared.cert_groups.cert.AnyCert.{AnyCert}
+use Rattle.cert_format.specs.declared.cert_groups.cert.AnyCert.TheVariants.{One, Two}
+use Rattle.certificates.specs.declared.cert_exact.cert.ExactParts.{ExactParts}
+use Rattle.certificates.specs.CertExact.Grammar.{as_two}
 use Rattle.certificates.specs.declared.certificate.Certificate.{Certificate}
 use Rattle.certificates.specs.declared.certificate.Certificate.TheVariants.{Listing, Exact}
 use Rattle.certificates.specs.Reading.{certificate_at}
-use Rattle.groups_base.specs.Table.{NamesTheLabels}
+use Rattle.face_groups.specs.GroupsBase.Table.{NamesTheLabels}
 use Rattle.cert_checker.specs.Judged.{JudgesRays, JudgesTrees}
 use Rattle.cert_judge.specs.declared.judged.Judged.{Judged}
 use Rattle.cert_judge.specs.Judged.{JudgedBy}

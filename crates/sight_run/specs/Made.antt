@@ -5,10 +5,10 @@ use Rattle.sight_names.specs.declared.names.Method.{Method}
 use Rattle.shelf_io.specs.Sink.{SinkState}
 use Rattle.order_words.specs.declared.order.Order.{Order}
 use Rattle.order_words.specs.declared.order.Order.TheVariants as order
-use Rattle.sight_status.specs.declared.status.Status.{Status}
-use Rattle.sight_status.specs.declared.status.Status.TheVariants as status
-use Rattle.sight_status.specs.Answer.{only_line}
-use Rattle.sight_status.specs.Texts.{text_of}
+use Rattle.map_answers.specs.declared.sight_status.status.Status.{Status}
+use Rattle.map_answers.specs.declared.sight_status.status.Status.TheVariants as status
+use Rattle.map_answers.specs.SightStatus.Answer.{only_line}
+use Rattle.map_answers.specs.SightStatus.Texts.{text_of}
 use Rattle.sight_run.specs.Grid.{GridCalls}
 
 -- the line, or the refusal, is what the order calls for; memory may run out, and the line may not be put

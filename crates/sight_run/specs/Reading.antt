@@ -5,11 +5,11 @@ use Rattle.sight_names.specs.declared.faults.FetchFault.{FetchFault}
 use Rattle.sight_names.specs.declared.faults.FetchFault.TheVariants as fetch
 use Rattle.shelf_io.specs.Shelf.{Files, content_of}
 use Rattle.order_words.specs.declared.order.Source.{Source}
-use Rattle.sight_status.specs.declared.status.Bound.TheVariants as bound
-use Rattle.sight_status.specs.declared.status.Role.TheVariants as role
-use Rattle.sight_status.specs.declared.status.Status.{Status}
-use Rattle.sight_status.specs.declared.status.Status.TheVariants as status
-use Rattle.sight_status.specs.Answer.{◌>>=◌}
+use Rattle.map_answers.specs.declared.sight_status.status.Bound.TheVariants as bound
+use Rattle.map_answers.specs.declared.sight_status.status.Role.TheVariants as role
+use Rattle.map_answers.specs.declared.sight_status.status.Status.{Status}
+use Rattle.map_answers.specs.declared.sight_status.status.Status.TheVariants as status
+use Rattle.map_answers.specs.SightStatus.Answer.{◌>>=◌}
 use Rattle.map_answers.specs.Input.{LocatedMap, found_in}
 
 -- the bytes of a WAD file, or the status of the fault of its fetch

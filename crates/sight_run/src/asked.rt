@@ -2,16 +2,16 @@
 
 ghost use Rattle.std.specs.Prelude.{◌≡◌, IfErr, IfOk, filter};
 ghost use Rattle.wad_dir.specs.Map.{entry_names, has_name};
-ghost use Rattle.all_maps.specs.Asked.{first_fault};
-ghost use Rattle.sight_status.specs.Answer.{Makes};
+ghost use Rattle.wad_dir.specs.AllMaps.Asked.{first_fault};
+ghost use Rattle.map_answers.specs.SightStatus.Answer.{Makes};
 ghost use Rattle.sight_run.specs.All.{maps_in};
 ghost use Rattle.sight_run.specs.Asked.{IsOfNames};
 
-use all_maps::{fault_of, maps};
+use map_answers::sight_status::Status;
 use order_words::Text;
 use sight_names::{Items, MapFault};
-use sight_status::Status;
 use std::alloc::{AllocError, Global};
+use wad_dir::all_maps::{fault_of, maps};
 use wad_dir::{Wad, is_same_name};
 
 /// Why the first of these names that is none of a map's isn't one.

@@ -6,7 +6,7 @@ ghost use Rattle.order_words.specs.declared.order.Order.TheVariants.{Draw};
 ghost use Rattle.draw_answers.specs.Drawn.{drawn_answer};
 ghost use Rattle.map_answers.specs.Input.{OnFound};
 ghost use Rattle.map_answers.specs.Views.{IsWhole, found};
-ghost use Rattle.sight_status.specs.Answer.{Gives};
+ghost use Rattle.map_answers.specs.SightStatus.Answer.{Gives};
 ghost use Rattle.sight_run.specs.Draw.{DrawCalls, HasOneDrawing, IsOfDrawing, RowOfMap};
 ghost use Rattle.sight_run.specs.Obeys.{WritesEach};
 ghost use Rattle.sight_run.specs.Reading.{found_of};
@@ -18,9 +18,9 @@ use crate::input::read_input;
 use crate::reply::{Reply, one_output};
 use draw_answers::{Drawn, draw_faults, draw_pair, draw_plan, draw_row};
 use map_answers::Input;
+use map_answers::sight_status::{Role, Status};
 use order_words::{Source, View};
 use shelf_io::Shelf;
-use sight_status::{Role, Status};
 use std::alloc::Global;
 
 /// The picture of the row of a sector in the map's own table.

@@ -6,20 +6,20 @@ ghost use Rattle.sight_names.specs.Sound.{LinesMeetAtEnds};
 ghost use Rattle.shelf_io.specs.Shelf.{Files, NoneFell, content_of};
 ghost use Rattle.cert_format.specs.Sizes.{sizes_of};
 ghost use Rattle.certificates.specs.Grammar.{IsInOrder, sizes_of as sizes_in};
-ghost use Rattle.sight_status.specs.Status.{IsOfCertFetch};
+ghost use Rattle.map_answers.specs.SightStatus.Status.{IsOfCertFetch};
 ghost use Rattle.sight_run.specs.Check.{JudgesFetched, of_cert_fetch};
 ghost use Rattle.sight_run.specs.Judged.{IsJudged, IsJudgement};
 ghost use Rattle.sight_run.specs.Run.{Cause};
 
+use any_judge::cert_file::judge_file;
 use any_judge::check;
-use cert_file::judge_file;
 use cert_judge::Judged;
 use certificates::Certificate;
 use group_checker::AnyVerdict;
+use map_answers::sight_status::{Bound, Role, Status};
 use reject_bits::Table;
 use shelf_io::Shelf;
 use sight_names::{FetchFault, Memory, Plan};
-use sight_status::{Bound, Role, Status};
 use std::alloc::Global;
 use whole_wad::has_sizes_of_map;
 

@@ -5,7 +5,7 @@ ghost use Rattle.shelf_io.specs.Shelf.{Files, NoneFell};
 ghost use Rattle.order_words.specs.declared.order.Order.TheVariants.{Need};
 ghost use Rattle.map_answers.specs.Need.{NeedCalls};
 ghost use Rattle.map_answers.specs.Input.{OnFound};
-ghost use Rattle.sight_status.specs.Answer.{Gives};
+ghost use Rattle.map_answers.specs.SightStatus.Answer.{Gives};
 ghost use Rattle.sight_run.specs.Obeys.{WritesEach};
 ghost use Rattle.sight_run.specs.Reading.{found_of};
 ghost use Rattle.sight_run.specs.Reply.{reply_seen, roles_of, writes};
@@ -14,9 +14,9 @@ ghost use Rattle.sight_run.specs.Run.{Cause, IsOfAudit};
 use crate::input::read_input;
 use crate::reply::{Reply, line_alone};
 use map_answers::judge_need;
+use map_answers::sight_status::Status;
 use order_words::Source;
 use shelf_io::Shelf;
-use sight_status::Status;
 use std::alloc::Global;
 
 /// What the order `need` calls for. All files stay.

@@ -4,22 +4,22 @@ ghost use Rattle.std.specs.Prelude.{◌≡◌, IfErr, IfOk, Some};
 ghost use Rattle.shelf_io.specs.Shelf.{Files, NoneFell};
 ghost use Rattle.order_words.specs.declared.order.Order.TheVariants.{Why};
 ghost use Rattle.map_answers.specs.Input.{OnFound};
-ghost use Rattle.sight_status.specs.Answer.{Gives};
+ghost use Rattle.map_answers.specs.SightStatus.Answer.{Gives};
 ghost use Rattle.sight_run.specs.Build.{IsUnbuildable};
 ghost use Rattle.sight_run.specs.Obeys.{WritesEach};
 ghost use Rattle.sight_run.specs.Reading.{found_of};
 ghost use Rattle.sight_run.specs.Reply.{reply_seen, roles_of, writes};
 ghost use Rattle.sight_run.specs.Run.{Cause, IsOfWhy};
-ghost use Rattle.why_answers.specs.Why.{WhyCalls};
+ghost use Rattle.pair_answer.specs.WhyAnswers.Why.{WhyCalls};
 
 use crate::input::read_input;
 use crate::reply::{Reply, line_alone};
+use map_answers::sight_status::Status;
 use order_words::Source;
+use pair_answer::why_answers::judge_why;
 use shelf_io::Shelf;
 use sight_names::{Ask, Pair};
-use sight_status::Status;
 use std::alloc::Global;
-use why_answers::judge_why;
 
 /// What the order `why` calls for. All files stay.
 pub fn do_why<S: Shelf>(

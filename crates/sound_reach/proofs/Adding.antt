@@ -12,7 +12,7 @@ use Rattle.sight_names.proofs.Lists.{get_of_contains}
 use Rattle.sight_names.proofs.PlanMap.{line_of_plan, plan_is_map}
 use Rattle.sound_reach.specs.declared.doors.Door.{Door}
 use Rattle.sound_reach.specs.Doors.{AreAdded, AreDoors, AreDoorsFrom, IsDoor, IsDoorOf, IsStart, sector_of}
-use Rattle.list_base.proofs.Numbers.{below_or_not, below_or_last}
+use Rattle.math_base.proofs.Numbers.{below_or_not, below_or_last}
 use Rattle.sight_names.proofs.Records.{none_is_no_line}
 
 -- ---- line by line

@@ -13,8 +13,8 @@ use Rattle.sound_reach.specs.State.{after_of}
 use Rattle.sound_reach.specs.Doors.{AreDoorsFrom, IsNet}
 use Rattle.sound_reach.specs.Routes.{AreDistances, IsRoute, IsStep, distance_at}
 use Rattle.sound_reach.specs.Steps.{Approaches, IsFirst, IsLeastStep, IsLesser, IsNotAfter, IsStepThrough}
-use Rattle.list_base.proofs.Options.{none_is_not_some}
-use Rattle.list_base.proofs.Numbers.{below_or_last}
+use Rattle.math_base.proofs.Options.{none_is_not_some}
+use Rattle.math_base.proofs.Numbers.{below_or_last}
 
 -- ---- the lesser of two sides
 

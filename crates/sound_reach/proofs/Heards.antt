@@ -14,7 +14,7 @@ use Rattle.sound_reach.specs.Routes.{AreDistances, distance_at}
 use Rattle.sound_reach.specs.Counts.{AreFilled, AreRows, IsRow, is_near, row_at}
 use Rattle.sound_reach.proofs.Lookups.{read_at, none_some}
 use Rattle.sound_reach.proofs.Mapped.{allowance, back, count_back, count_joined, heard_through, lead_back, lead_joined, leads_route, route_leads}
-use Rattle.list_base.proofs.Numbers.{below_or_not, below_or_last, same_or_not}
+use Rattle.math_base.proofs.Numbers.{below_or_not, below_or_last, same_or_not}
 
 -- ---- what one search tells
 

@@ -6,7 +6,7 @@ use Rattle.sound_reach.specs.declared.doors.Door.{Door}
 use Rattle.sound_reach.specs.declared.state.State.{State}
 use Rattle.sound_reach.specs.State.{place_of}
 use Rattle.sound_reach.specs.Routes.{distance_at}
-use Rattle.list_base.proofs.Numbers.{same_or_not}
+use Rattle.math_base.proofs.Numbers.{same_or_not}
 
 pub none_some : {X : Type 0} (o : Option X) (x : X) → o ≡ None → o ≡ Some x → ⊥
 none_some o x e f = cc

@@ -12,8 +12,8 @@ use Rattle.sound_reach.specs.State.{after_of}
 use Rattle.sound_reach.specs.Doors.{AreDoors, IsNet, turned, turned_side}
 use Rattle.sound_reach.specs.Routes.{AreDistances, IsRoute, IsStep, distance_at}
 use Rattle.sound_reach.specs.Steps.{IsFirst}
-use Rattle.list_base.proofs.Options.{none_is_not_some}
-use Rattle.list_base.proofs.Numbers.{same_or_not}
+use Rattle.math_base.proofs.Options.{none_is_not_some}
+use Rattle.math_base.proofs.Numbers.{same_or_not}
 use Rattle.sound_reach.proofs.Lookups.{none_some}
 
 -- ---- the two sides of a line

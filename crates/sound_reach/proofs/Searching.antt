@@ -15,9 +15,9 @@ use Rattle.sound_reach.specs.Doors.{AreDoorsFrom, IsNet, turned, turned_side}
 use Rattle.sound_reach.specs.Routes.{AreDistances, IsRoute, IsStep, distance_at}
 use Rattle.sound_reach.specs.Search.{AreKept, IsBegun, IsNoted, IsReached, IsSearch}
 use Rattle.sound_reach.proofs.Lookups.{below_place, distance_set, slice_of_replicate, none_some}
-use Rattle.list_base.proofs.Numbers.{below_or_last}
-use Rattle.list_base.proofs.Options.{none_is_not_some}
-use Rattle.list_base.proofs.Lists.{get_before_pushed, get_pushed, pushed_at}
+use Rattle.math_base.proofs.Numbers.{below_or_last}
+use Rattle.math_base.proofs.Options.{none_is_not_some}
+use Rattle.math_base.proofs.Lists.{get_before_pushed, get_pushed, pushed_at}
 
 -- ---- a state goes to the end of the queue
 

@@ -9,13 +9,13 @@ use Rattle.sight_names.specs.declared.names.Pt.{Pt}
 use Rattle.sight_names.specs.declared.names.EndAt.{EndAt}
 use Rattle.sight_names.specs.declared.names.EndPair.{EndPair}
 use Rattle.sight_names.specs.Splitting.{EndPoints, IsPairOf, AreBalanced, end_of}
-use Rattle.extreme_lines.specs.declared.cone.Cone.{Cone}
-use Rattle.extreme_lines.specs.declared.cone.Cone.TheVariants.{Open}
-use Rattle.extreme_lines.specs.declared.wedge.Wedge.{Wedge}
-use Rattle.extreme_lines.specs.Differences.{difference}
-use Rattle.extreme_lines.specs.Spans.{Spans, pair_of}
-use Rattle.extreme_lines.proofs.EndsLemmas.{pair_of_more, end_of_more, left_end, right_end, left_place, right_place, left_within, right_within}
-use Rattle.extreme_lines.proofs.Widening.{wedge_meets}
+use Rattle.geom_exact.specs.declared.extreme_lines.cone.Cone.{Cone}
+use Rattle.geom_exact.specs.declared.extreme_lines.cone.Cone.TheVariants.{Open}
+use Rattle.geom_exact.specs.declared.extreme_lines.wedge.Wedge.{Wedge}
+use Rattle.geom_exact.specs.ExtremeLines.Differences.{difference}
+use Rattle.geom_exact.specs.ExtremeLines.Spans.{Spans, pair_of}
+use Rattle.geom_exact.proofs.ExtremeLines.EndsLemmas.{pair_of_more, end_of_more, left_end, right_end, left_place, right_place, left_within, right_within}
+use Rattle.geom_exact.proofs.ExtremeLines.Widening.{wedge_meets}
 use Rattle.block_evidence.specs.declared.Evidence.{Evidence}
 use Rattle.block_evidence.specs.OneTurn.{AreLines, BarsRight, BarsLeft}
 use Rattle.block_evidence.specs.Picked.{Picks, both_ends}
@@ -27,7 +27,7 @@ use Rattle.stab_hull.specs.History.{IsHistory}
 use Rattle.stab_hull.specs.Portals.{portals_of, IsConeOf}
 use Rattle.stab_hull.proofs.HistoryLemmas.{shown, last_frame, frame_cone}
 use Rattle.stab_hull.proofs.OneLine.{turn_is, form_left, form_right, right_of_first, left_of_second}
-use Rattle.list_base.proofs.Lists.{get_pushed}
+use Rattle.math_base.proofs.Lists.{get_pushed}
 
 module _ (es : List EndPoints) (w : Wedge) (h : IsConeOf es (Open w)) where
   -- the cone has the difference of the left end of the first line and the right end of the second

@@ -3,16 +3,16 @@ use Rattle.std.proofs.Common.{◌≡◌, ◌≤◌, ◌^◌, ◌*◌, ℤ, pos, 
 use Rattle.std.proofs.lemmas.Int.{ints}
 use Rattle.sight_names.specs.declared.names.Pt.{Pt}
 use Rattle.sight_names.specs.Point.{point_of, value_at}
-use Rattle.splitting_base.specs.Arrows.{cross, dot}
-use Rattle.splitting_base.proofs.Middle.{ray_left, ray_right}
-use Rattle.extreme_lines.specs.Differences.{arrow, difference}
-use Rattle.extreme_lines.specs.Spans.{arrow_of, form_at, Spans, first_of, second_of, middle_at, IsCutOf}
-use Rattle.extreme_lines.specs.declared.extreme.Extreme.{Extreme}
-use Rattle.extreme_lines.specs.declared.wedge.Wedge.{Wedge}
-use Rattle.extreme_lines.specs.declared.cone.Cone.{Cone}
-use Rattle.extreme_lines.specs.declared.cone.Cone.TheVariants.{Ray, Open}
-use Rattle.extreme_lines.proofs.Values.{value_is, middle_is, ray_is}
-use Rattle.extreme_lines.proofs.Cutting.{cut_near, cut_away, above_more as above, below_more as below}
+use Rattle.plane_base.specs.Arrows.{cross, dot}
+use Rattle.plane_base.proofs.Middle.{ray_left, ray_right}
+use Rattle.geom_exact.specs.ExtremeLines.Differences.{arrow, difference}
+use Rattle.geom_exact.specs.ExtremeLines.Spans.{arrow_of, form_at, Spans, first_of, second_of, middle_at, IsCutOf}
+use Rattle.geom_exact.specs.declared.extreme_lines.extreme.Extreme.{Extreme}
+use Rattle.geom_exact.specs.declared.extreme_lines.wedge.Wedge.{Wedge}
+use Rattle.geom_exact.specs.declared.extreme_lines.cone.Cone.{Cone}
+use Rattle.geom_exact.specs.declared.extreme_lines.cone.Cone.TheVariants.{Ray, Open}
+use Rattle.geom_exact.proofs.ExtremeLines.Values.{value_is, middle_is, ray_is}
+use Rattle.geom_exact.proofs.ExtremeLines.Cutting.{cut_near, cut_away, above_more as above, below_more as below}
 
 -- what a cut of the cone says of ends, whatever its range
 pub record Cuts (cone : Cone) (a b c : ℤ) : Type 0 where

@@ -13,10 +13,10 @@ use Rattle.sight_names.specs.declared.names.EndPair.{EndPair}
 use Rattle.sight_names.specs.declared.names.Memory.{Memory}
 use Rattle.sight_names.specs.Point.{point_of, value_at}
 use Rattle.sight_names.specs.Splitting.{EndPoints, IsParted, SplitsEnds, IsSplittable, IsPairOf}
-use Rattle.extreme_lines.specs.declared.cone.Cone.{Cone}
-use Rattle.extreme_lines.specs.Differences.{difference}
-use Rattle.extreme_lines.specs.Spans.{Spans, first_of, second_of, pair_of, IsCutOf}
-use Rattle.extreme_lines.proofs.Balance.{PartsPair, no_line_parts}
+use Rattle.geom_exact.specs.declared.extreme_lines.cone.Cone.{Cone}
+use Rattle.geom_exact.specs.ExtremeLines.Differences.{difference}
+use Rattle.geom_exact.specs.ExtremeLines.Spans.{Spans, first_of, second_of, pair_of, IsCutOf}
+use Rattle.geom_exact.proofs.ExtremeLines.Balance.{PartsPair, no_line_parts}
 use Rattle.stab_hull.proofs.HasCut.{Cuts}
 use Rattle.stab_hull.specs.declared.frame.Frame.{Frame}
 use Rattle.stab_hull.specs.declared.conflict.Conflict.{Conflict}
@@ -26,9 +26,9 @@ use Rattle.stab_hull.specs.Stacks.{KeepsFirst, AreStuckAmong, IsTopCone, IsAdded
 use Rattle.stab_hull.specs.History.{IsFree, IsConflict, IsHistory, IsFrameOf, IsWithin}
 use Rattle.stab_hull.proofs.StepLemmas.{top_is}
 use Rattle.stab_hull.proofs.HullLemmas.{cone_of, hull_more, hull_stuck, hull_first}
-use Rattle.extreme_lines.proofs.EndsLemmas.{pair_of_more, left_place, right_place}
-use Rattle.list_base.proofs.Options.{some_is_not_none, some_is_same, none_is_not_some}
-use Rattle.list_base.proofs.Lists.{length_pushed, get_take}
+use Rattle.geom_exact.proofs.ExtremeLines.EndsLemmas.{pair_of_more, left_place, right_place}
+use Rattle.math_base.proofs.Options.{some_is_not_none, some_is_same, none_is_not_some}
+use Rattle.math_base.proofs.Lists.{length_pushed, get_take}
 use Rattle.sight_names.proofs.Portals.{parted_at}
 
 -- ---- lines and conflicts

@@ -7,14 +7,14 @@ use Rattle.sight_names.specs.declared.names.Pt.{Pt}
 use Rattle.sight_names.specs.declared.names.EndAt.{EndAt}
 use Rattle.sight_names.specs.declared.names.EndPair.{EndPair}
 use Rattle.sight_names.specs.Splitting.{EndPoints, IsPairOf, end_of}
-use Rattle.extreme_lines.specs.declared.cone.Cone.{Cone}
-use Rattle.extreme_lines.specs.Differences.{difference}
-use Rattle.extreme_lines.specs.Spans.{Spans, first_of, second_of, pair_of}
-use Rattle.extreme_lines.proofs.EndsLemmas.{get_append, get_cases, end_of_more, left_end, right_end}
+use Rattle.geom_exact.specs.declared.extreme_lines.cone.Cone.{Cone}
+use Rattle.geom_exact.specs.ExtremeLines.Differences.{difference}
+use Rattle.geom_exact.specs.ExtremeLines.Spans.{Spans, first_of, second_of, pair_of}
+use Rattle.geom_exact.proofs.ExtremeLines.EndsLemmas.{get_append, get_cases, end_of_more, left_end, right_end}
 use Rattle.stab_hull.specs.Portals.{with_ends, IsConeOf, ShowsNoLine}
 use Rattle.stab_hull.specs.Stacks.{HasPoint, IsPairAmong, AreStuckAmong, IsConeOfEnds, IsTopCone, IsAdded, IsLeftEnd, IsRightEnd, IsHullOf}
-use Rattle.list_base.proofs.Lists.{get_pushed}
-use Rattle.list_base.proofs.Options.{some_is_same}
+use Rattle.math_base.proofs.Lists.{get_pushed}
+use Rattle.math_base.proofs.Options.{some_is_same}
 
 abbrev pub AreLeftEnds : List EndPoints → List EndAt → Type 0
 AreLeftEnds es ends = (m : ℕ) (e : EndAt) → slice_get ends m ≡ Some e → IsLeftEnd es e

@@ -4,14 +4,14 @@ use Rattle.std.specs.Prelude.{slice_get}
 use Rattle.std.proofs.lemmas.Int.{ints}
 use Rattle.sight_names.specs.declared.names.Pt.{Pt}
 use Rattle.sight_names.specs.declared.names.EndAt.{EndAt}
-use Rattle.splitting_base.specs.Arrows.{cross}
-use Rattle.splitting_base.proofs.Middle.{cross_by}
-use Rattle.splitting_base.proofs.Turns.{turned, self}
-use Rattle.extreme_lines.specs.declared.extreme.Extreme.{Extreme}
-use Rattle.extreme_lines.specs.declared.wedge.Wedge.{Wedge}
-use Rattle.extreme_lines.specs.declared.cone.Cone.TheVariants.{Open}
-use Rattle.extreme_lines.specs.Differences.{arrow, difference}
-use Rattle.extreme_lines.specs.Spans.{arrow_of, form_at, Spans}
+use Rattle.plane_base.specs.Arrows.{cross}
+use Rattle.plane_base.proofs.Middle.{cross_by}
+use Rattle.plane_base.proofs.Turns.{turned, self}
+use Rattle.geom_exact.specs.declared.extreme_lines.extreme.Extreme.{Extreme}
+use Rattle.geom_exact.specs.declared.extreme_lines.wedge.Wedge.{Wedge}
+use Rattle.geom_exact.specs.declared.extreme_lines.cone.Cone.TheVariants.{Open}
+use Rattle.geom_exact.specs.ExtremeLines.Differences.{arrow, difference}
+use Rattle.geom_exact.specs.ExtremeLines.Spans.{arrow_of, form_at, Spans}
 use Rattle.stab_hull.specs.Stacks.{IsConeOfEnds}
 use Rattle.stab_hull.proofs.StepLemmas.{IsLeftPart, IsRightPart}
 

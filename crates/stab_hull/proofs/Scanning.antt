@@ -4,14 +4,14 @@ use Rattle.std.specs.Prelude.{slice_get}
 use Rattle.std.proofs.lemmas.Int.{ints}
 use Rattle.sight_names.specs.declared.names.Pt.{Pt}
 use Rattle.sight_names.specs.declared.names.EndAt.{EndAt}
-use Rattle.splitting_base.specs.Arrows.{cross}
-use Rattle.extreme_lines.specs.declared.extreme.Extreme.{Extreme}
-use Rattle.extreme_lines.specs.declared.wedge.Wedge.{Wedge}
-use Rattle.extreme_lines.specs.declared.cone.Cone.TheVariants.{Open}
-use Rattle.extreme_lines.specs.Differences.{difference}
-use Rattle.extreme_lines.specs.Spans.{arrow_of, form_at}
-use Rattle.extreme_lines.proofs.Values.{value_is}
-use Rattle.extreme_lines.proofs.Widening.{within_both}
+use Rattle.plane_base.specs.Arrows.{cross}
+use Rattle.geom_exact.specs.declared.extreme_lines.extreme.Extreme.{Extreme}
+use Rattle.geom_exact.specs.declared.extreme_lines.wedge.Wedge.{Wedge}
+use Rattle.geom_exact.specs.declared.extreme_lines.cone.Cone.TheVariants.{Open}
+use Rattle.geom_exact.specs.ExtremeLines.Differences.{difference}
+use Rattle.geom_exact.specs.ExtremeLines.Spans.{arrow_of, form_at}
+use Rattle.geom_exact.proofs.ExtremeLines.Values.{value_is}
+use Rattle.geom_exact.proofs.ExtremeLines.Widening.{within_both}
 use Rattle.stab_hull.specs.declared.slope.Slope.{Slope}
 use Rattle.stab_hull.specs.Stacks.{IsConeOfEnds}
 use Rattle.stab_hull.proofs.OneLine.{held, turn_is, beyond_first_right, beyond_second_left}

@@ -9,9 +9,9 @@ use Rattle.sight_names.specs.declared.names.Pt.{Pt}
 use Rattle.sight_names.specs.declared.names.EndAt.{EndAt}
 use Rattle.sight_names.specs.Splitting.{EndPoints}
 use Rattle.block_evidence.specs.declared.Evidence.{Evidence}
-use Rattle.extreme_lines.specs.declared.cone.Cone.{Cone}
-use Rattle.extreme_lines.specs.declared.cone.Cone.TheVariants.{Open}
-use Rattle.extreme_lines.specs.declared.wedge.Wedge.{Wedge}
+use Rattle.geom_exact.specs.declared.extreme_lines.cone.Cone.{Cone}
+use Rattle.geom_exact.specs.declared.extreme_lines.cone.Cone.TheVariants.{Open}
+use Rattle.geom_exact.specs.declared.extreme_lines.wedge.Wedge.{Wedge}
 use Rattle.stab_hull.specs.declared.frame.Frame.{Frame}
 use Rattle.stab_hull.specs.declared.turning.Turn.{Turn}
 use Rattle.stab_hull.specs.declared.turning.Turn.TheVariants.{Same, Moves, Stuck, Unseen}
@@ -28,8 +28,8 @@ use Rattle.stab_hull.proofs.HullLemmas.{cone_of, hull_more}
 use Rattle.stab_hull.proofs.StepLemmas.{top_is}
 use Rattle.stab_hull.proofs.Tries.{hull_splits}
 use Rattle.stab_hull.proofs.TwoForms.{right_same, left_same}
-use Rattle.list_base.proofs.Lists.{get_pushed, get_there, length_pushed}
-use Rattle.list_base.proofs.Options.{some_is_same, none_is_not_some}
+use Rattle.math_base.proofs.Lists.{get_pushed, get_there, length_pushed}
+use Rattle.math_base.proofs.Options.{some_is_same, none_is_not_some}
 
 pub ok_part : {X E : Type 0} (P : X → Type 0) (r : Result X E) (x : X) → r ≡ Ok x → IfOk r P → P x
 ok_part P r x e h = subst (λ o. IfOk o P) e h

@@ -8,18 +8,18 @@ use Rattle.sight_names.specs.declared.names.EndAt.{EndAt}
 use Rattle.sight_names.specs.declared.names.EndPair.{EndPair}
 use Rattle.sight_names.specs.declared.names.Memory.{Memory}
 use Rattle.sight_names.specs.Splitting.{AreBalanced}
-use Rattle.splitting_base.specs.Arrows.{Arrow, IsOnRay}
-use Rattle.splitting_base.proofs.Turns.{at_ray}
-use Rattle.extreme_lines.specs.declared.extreme.Extreme.{Extreme}
-use Rattle.extreme_lines.specs.declared.cone.Cone.{Cone}
-use Rattle.extreme_lines.specs.declared.cone.Cone.TheVariants.{Ray}
-use Rattle.extreme_lines.specs.Differences.{difference}
-use Rattle.extreme_lines.specs.Spans.{arrow_of, Spans, first_of, second_of, pair_of, IsWidened, three_pairs}
-use Rattle.extreme_lines.proofs.Widening.{made_arrow, stays}
-use Rattle.extreme_lines.proofs.EndsLemmas.{get_append, get_cases}
+use Rattle.plane_base.specs.Arrows.{Arrow, IsOnRay}
+use Rattle.plane_base.proofs.Turns.{at_ray}
+use Rattle.geom_exact.specs.declared.extreme_lines.extreme.Extreme.{Extreme}
+use Rattle.geom_exact.specs.declared.extreme_lines.cone.Cone.{Cone}
+use Rattle.geom_exact.specs.declared.extreme_lines.cone.Cone.TheVariants.{Ray}
+use Rattle.geom_exact.specs.ExtremeLines.Differences.{difference}
+use Rattle.geom_exact.specs.ExtremeLines.Spans.{arrow_of, Spans, first_of, second_of, pair_of, IsWidened, three_pairs}
+use Rattle.geom_exact.proofs.ExtremeLines.Widening.{made_arrow, stays}
+use Rattle.geom_exact.proofs.ExtremeLines.EndsLemmas.{get_append, get_cases}
 use Rattle.stab_hull.specs.Stacks.{IsAmong, IsPairAmong, SpansEnds, IsOfEnds, IsConeOfEnds, AreStuckAmong, IsTopCone, IsAdded}
-use Rattle.list_base.proofs.Lists.{get_pushed}
-use Rattle.list_base.proofs.Options.{some_is_same, none_is_not_some, some_is_not_none}
+use Rattle.math_base.proofs.Lists.{get_pushed}
+use Rattle.math_base.proofs.Options.{some_is_same, none_is_not_some, some_is_not_none}
 
 -- what stands for an end where there is none
 abbrev pub no_end : EndAt

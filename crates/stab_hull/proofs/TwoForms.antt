@@ -3,13 +3,13 @@ use Rattle.std.proofs.Common.{List, [], ◌∷◌, ◌++◌, pos, ◌≤ℤ◌, 
 use Rattle.std.proofs.lemmas.Int.{ints}
 use Rattle.sight_names.specs.declared.names.EndAt.{EndAt}
 use Rattle.sight_names.specs.declared.names.EndPair.{EndPair}
-use Rattle.splitting_base.proofs.Middle as middle
-use Rattle.extreme_lines.specs.declared.cone.Cone.{Cone}
-use Rattle.extreme_lines.specs.declared.cone.Cone.TheVariants.{Open}
-use Rattle.extreme_lines.specs.declared.wedge.Wedge.{Wedge}
-use Rattle.extreme_lines.specs.Differences.{arrow}
-use Rattle.extreme_lines.specs.Spans.{form_at, three_pairs}
-use Rattle.extreme_lines.proofs.Widening.{wedge_meets}
+use Rattle.plane_base.proofs.Middle as middle
+use Rattle.geom_exact.specs.declared.extreme_lines.cone.Cone.{Cone}
+use Rattle.geom_exact.specs.declared.extreme_lines.cone.Cone.TheVariants.{Open}
+use Rattle.geom_exact.specs.declared.extreme_lines.wedge.Wedge.{Wedge}
+use Rattle.geom_exact.specs.ExtremeLines.Differences.{arrow}
+use Rattle.geom_exact.specs.ExtremeLines.Spans.{form_at, three_pairs}
+use Rattle.geom_exact.proofs.ExtremeLines.Widening.{wedge_meets}
 use Rattle.stab_hull.specs.Stacks.{IsConeOfEnds, AreStuckAmong}
 use Rattle.stab_hull.proofs.StepLemmas.{left_outside, right_outside, left_meets, right_meets}
 use Rattle.stab_hull.proofs.OneLine.{turn_is, form_left, form_right}

@@ -2,7 +2,7 @@
 use Rattle.std.specs.Prelude.{◌≡◌, ℕ, ◌+◌, ◌<◌, ◌≤◌, List, Option, Some, None, length, take, slice_get}
 use Rattle.sight_names.specs.declared.names.EndAt.{EndAt}
 use Rattle.sight_names.specs.Splitting.{EndPoints}
-use Rattle.extreme_lines.specs.declared.cone.Cone.{Cone}
+use Rattle.geom_exact.specs.declared.extreme_lines.cone.Cone.{Cone}
 use Rattle.stab_hull.specs.declared.frame.Frame.{Frame}
 use Rattle.stab_hull.specs.declared.conflict.Conflict.{Conflict}
 use Rattle.stab_hull.specs.Portals.{portals_of, ShowsNoLine}

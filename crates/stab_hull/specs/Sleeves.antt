@@ -4,7 +4,7 @@ use Rattle.sight_names.specs.declared.names.Memory.{Memory}
 use Rattle.sight_names.specs.declared.names.Pt.{Pt}
 use Rattle.sight_names.specs.declared.names.EndAt.{EndAt}
 use Rattle.sight_names.specs.Splitting.{EndPoints}
-use Rattle.extreme_lines.specs.declared.cone.Cone.{Cone}
+use Rattle.geom_exact.specs.declared.extreme_lines.cone.Cone.{Cone}
 use Rattle.stab_hull.specs.declared.frame.Frame.{Frame}
 use Rattle.stab_hull.specs.declared.turning.Turn.{Turn}
 use Rattle.stab_hull.specs.declared.turning.Turn.TheVariants.{Same, Moves, Stuck, Unseen}

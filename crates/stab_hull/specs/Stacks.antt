@@ -5,9 +5,9 @@ use Rattle.sight_names.specs.declared.names.Pt.{Pt}
 use Rattle.sight_names.specs.declared.names.EndAt.{EndAt}
 use Rattle.sight_names.specs.declared.names.EndPair.{EndPair}
 use Rattle.sight_names.specs.Splitting.{EndPoints, AreBalanced, end_of}
-use Rattle.extreme_lines.specs.declared.cone.Cone.{Cone}
-use Rattle.extreme_lines.specs.Differences.{difference}
-use Rattle.extreme_lines.specs.Spans.{Spans, first_of, second_of, pair_of}
+use Rattle.geom_exact.specs.declared.extreme_lines.cone.Cone.{Cone}
+use Rattle.geom_exact.specs.ExtremeLines.Differences.{difference}
+use Rattle.geom_exact.specs.ExtremeLines.Spans.{Spans, first_of, second_of, pair_of}
 use Rattle.stab_hull.specs.declared.step.Step.{Step}
 use Rattle.stab_hull.specs.declared.step.Step.TheVariants.{Same, Wider, Stuck}
 

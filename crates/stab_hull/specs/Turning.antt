@@ -3,10 +3,10 @@ use Rattle.std.specs.Prelude.{◌≡◌, ◌-◌, List, Some, length, slice_get,
 use Rattle.sight_names.specs.declared.names.EndAt.{EndAt}
 use Rattle.block_evidence.specs.OneTurn.{BarsRight, BarsLeft}
 use Rattle.block_evidence.specs.Picked.{Picks}
-use Rattle.extreme_lines.specs.declared.cone.Cone.{Cone}
-use Rattle.extreme_lines.specs.declared.cone.Cone.TheVariants.{Open}
-use Rattle.extreme_lines.specs.declared.wedge.Wedge.{Wedge}
-use Rattle.extreme_lines.specs.Spans.{form_at, pair_of}
+use Rattle.geom_exact.specs.declared.extreme_lines.cone.Cone.{Cone}
+use Rattle.geom_exact.specs.declared.extreme_lines.cone.Cone.TheVariants.{Open}
+use Rattle.geom_exact.specs.declared.extreme_lines.wedge.Wedge.{Wedge}
+use Rattle.geom_exact.specs.ExtremeLines.Spans.{form_at, pair_of}
 use Rattle.stab_hull.specs.Barred.{ends_and}
 use Rattle.stab_hull.specs.Stacks.{IsConeOfEnds}
 use Rattle.stab_hull.specs.declared.turning.Turn.{Turn}

@@ -4,7 +4,7 @@
 ghost use Rattle.std.specs.Prelude.{◌≡◌, ◌<◌, ◌+◌, ◌++◌, ◌∷◌, [], None, length, IfSome};
 ghost use Rattle.block_evidence.specs.OneTurn.{AreLines, BarsRight, BarsLeft};
 ghost use Rattle.block_evidence.specs.Picked.{Picks};
-ghost use Rattle.extreme_lines.specs.Spans.{pair_of};
+ghost use Rattle.geom_exact.specs.ExtremeLines.Spans.{pair_of};
 ghost use Rattle.stab_hull.specs.Answer.{IsBarredBy};
 ghost use Rattle.stab_hull.specs.Barred.{ends_and};
 ghost use Rattle.stab_hull.specs.History.{IsHistory};
@@ -13,7 +13,7 @@ ghost use Rattle.stab_hull.specs.Portals.{portals_of};
 use crate::frame::Frame;
 use crate::hull::Hull;
 use block_evidence::{Evidence, bar_left, bar_right};
-use extreme_lines::{Cone, Extreme, Wedge};
+use geom_exact::extreme_lines::{Cone, Extreme, Wedge};
 use sight_names::{EndAt, EndPair, Pt, RIGHT_END};
 
 #[inline(always)]

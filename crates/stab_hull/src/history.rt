@@ -10,7 +10,7 @@ ghost use Rattle.stab_hull.specs.History.{IsFree, IsHistory};
 use crate::conflict::Conflict;
 use crate::frame::Frame;
 use crate::hull::Hull;
-use extreme_lines::Cone;
+use geom_exact::extreme_lines::Cone;
 use sight_names::{EndAt, EndPair, Memory, Pt, RIGHT_END};
 
 /// Stacks the ends of one more portal, or gives the pairs that show that no line splits all ends.

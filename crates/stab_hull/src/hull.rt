@@ -5,7 +5,7 @@ ghost use Rattle.stab_hull.specs.Stacks.{HasPoint, IsAdded, IsTopCone, AreStuckA
 
 use crate::frame::Frame;
 use crate::step::{Step, left_step, right_step};
-use extreme_lines::{Cone, Extreme};
+use geom_exact::extreme_lines::{Cone, Extreme};
 use sight_names::{EndAt, EndPair, Memory, Pt};
 
 /// The ends of portals, without those that repeat the point of the one before, and the cones of the ends so far. What

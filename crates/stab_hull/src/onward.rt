@@ -10,7 +10,7 @@ use crate::history::frame_over;
 use crate::hull::Hull;
 use crate::passing::pass_portal;
 use crate::turning::{Turn, left_turn, right_turn, stack_left, stack_right};
-use extreme_lines::Cone;
+use geom_exact::extreme_lines::Cone;
 use sight_names::{EndAt, Memory, Pt, RIGHT_END};
 
 /// What a new right end does, of a portal with this left end.

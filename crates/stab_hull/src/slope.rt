@@ -2,7 +2,7 @@
 
 ghost use Rattle.std.specs.Prelude.{◌≡◌, ◌+ℤ◌, ◌*ℤ◌, ◌≤◌, ◌*◌, nat_abs};
 
-use extreme_lines::Extreme;
+use geom_exact::extreme_lines::Extreme;
 use sight_names::Pt;
 
 /// The factors of a line's form, in the width of its values.

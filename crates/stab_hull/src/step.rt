@@ -2,12 +2,12 @@
 
 ghost use Rattle.std.specs.Prelude.{List, ◌++◌, ◌∷◌, [], pos, ◌<ℤ◌};
 ghost use Rattle.sight_names.specs.declared.names.EndAt.{EndAt as End};
-ghost use Rattle.extreme_lines.specs.declared.cone.Cone.TheVariants.{Open};
+ghost use Rattle.geom_exact.specs.declared.extreme_lines.cone.Cone.TheVariants.{Open};
 ghost use Rattle.stab_hull.specs.Stacks.{IsConeOfEnds, IsStepTo};
-ghost use Rattle.extreme_lines.specs.Spans.{form_at};
+ghost use Rattle.geom_exact.specs.ExtremeLines.Spans.{form_at};
 
 use crate::slope::Slope;
-use extreme_lines::{Cone, Wedge, widen_first, widen_second};
+use geom_exact::extreme_lines::{Cone, Wedge, widen_first, widen_second};
 use sight_names::{EndAt, EndPair};
 
 /// What one more end does to the cone of other ends.

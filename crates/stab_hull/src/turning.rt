@@ -3,14 +3,14 @@
 ghost use Rattle.std.specs.Prelude.{◌<◌, ◌++◌, ◌∷◌, [], length, List, OnErr, IfOk, ◌≡◌};
 ghost use Rattle.sight_names.specs.declared.names.EndAt.{EndAt as End};
 ghost use Rattle.block_evidence.specs.OneTurn.{AreLines};
-ghost use Rattle.extreme_lines.specs.Spans.{pair_of};
+ghost use Rattle.geom_exact.specs.ExtremeLines.Spans.{pair_of};
 ghost use Rattle.stab_hull.specs.Stacks.{IsTopCone, KeepsFirst};
 ghost use Rattle.stab_hull.specs.Turning.{IsRightTurn, IsLeftTurn, MovesRight, MovesLeft};
 
 use crate::bars::{left_bars, right_bars};
 use crate::step::{first_to_left, second_to_right};
 use block_evidence::Evidence;
-use extreme_lines::{Cone, Wedge};
+use geom_exact::extreme_lines::{Cone, Wedge};
 use sight_names::{EndAt, Memory, RIGHT_END};
 
 /// What one more end does to the two extreme lines.

@@ -2,21 +2,21 @@
 use Rattle.std.proofs.Common.{◌≡◌, ◌≢◌, ℤ, pos, ◌+ℤ◌, ◌-ℤ◌, ◌*ℤ◌, ◌<ℤ◌, neg_ℤ, arith, refl, sym, ap, ◌∙◌, subst, ◌⊎◌, inl, inr, [], ◌∷◌}
 use borrow.Author.Differences.{ints}
 use lib.IntN.{zero-*ℤ, *ℤ_comm}
-use Rattle.exact_ring.proofs.Quoting.{quoting, by_ring}
-use Rattle.exact_ring.proofs.Signs.{le_or_lt, mul-pos, pos-of-mul, same-of-mul}
+use Rattle.math_base.proofs.Quoting.{quoting, by_ring}
+use Rattle.math_base.proofs.Signs.{le_or_lt, mul-pos, pos-of-mul, same-of-mul}
 use Rattle.sight_names.specs.declared.names.Pt.{Pt}
 use Rattle.sight_names.specs.Point.{Point, point_of, SamePoint}
 use Rattle.sight_names.specs.Sound.{IsCommon, IsEndOf, MeetAtEnds}
 use Rattle.plane_base.proofs.Vec.{V, Lin, at, det, On, value, det-swap, on_back, on_last}
 use Rattle.plane_base.proofs.Wedge.{Inside}
 use Rattle.plane_base.proofs.Near.{on_first, on_inside, unit, height}
-use Rattle.sight_laws.proofs.Bridge.{vec, segment_of_on, on_of_segment}
-use Rattle.sight_laws.proofs.Paths.{point_at}
+use Rattle.mesh_base.proofs.SightLaws.Bridge.{vec, segment_of_on, on_of_segment}
+use Rattle.mesh_base.proofs.SightLaws.Paths.{point_at}
 use Rattle.mesh_base.proofs.Net.{IsAt}
 use Rattle.mesh_base.proofs.Face.{not_at_end}
 use Rattle.mesh_base.proofs.Clash.{Differ, differ_back, MeetsFairly, fair, end_in_first, end_in_second, same_ends, cross_right, cross_left, meeting}
 use Rattle.geom_exact.proofs.Uniqueness.{same_trans}
-use Rattle.exact_ring.proofs.Small.{same_where_no_difference, some_square}
+use Rattle.math_base.proofs.Small.{same_where_no_difference, some_square}
 use Rattle.mesh_base.proofs.MakeNet.{crossing, apart_of}
 use Rattle.sight_names.proofs.Meets.{same_whole}
 use Rattle.sight_names.proofs.Records.{pt_of_numbers, whole_same}

@@ -13,7 +13,7 @@ use Rattle.sight_names.specs.Greedy.{edge_length, ComesBefore, EdgesMeetAtEnds, 
 use Rattle.sight_names.specs.Mesh.{IsKept}
 use Rattle.sight_names.proofs.Lists.{contains_cases, contains_tail}
 use Rattle.sight_names.proofs.Meets.{flip_first, flip_second}
-use Rattle.sight_laws.proofs.Bridge.{vec}
+use Rattle.mesh_base.proofs.SightLaws.Bridge.{vec}
 use Rattle.plane_base.proofs.Vec.{at}
 use Rattle.plane_base.proofs.Search.{In}
 use Rattle.geom_exact.proofs.Meeting.{meet_swapped}
@@ -22,11 +22,11 @@ use Rattle.mesh_base.proofs.Net.{Pair, pair, SamePair, Net}
 use Rattle.mesh_base.proofs.MakeNet.{Maximal, net_of}
 use Rattle.mesh_base.proofs.Clash.{MeetsFairly}
 use Rattle.mesh_base.proofs.GoodMesh.{PointFacts, pv, same_or_not}
-use Rattle.incident_segments.specs.Kept.{IsEdgeBetween}
+use Rattle.triangulate.specs.IncidentSegments.Kept.{IsEdgeBetween}
 use Rattle.triangulate.proofs.FairPoints.{SameEnds, fair_of, differ_of, same_segment, met_at_ends, met_within, how_met}
-use Rattle.list_base.proofs.Numbers.{below_or_above, below_same_or_above}
-use Rattle.list_base.proofs.Lists.{contains_none, contains_here}
-use Rattle.list_base.proofs.Options.{none_is_not_some}
+use Rattle.math_base.proofs.Numbers.{below_or_above, below_same_or_above}
+use Rattle.math_base.proofs.Lists.{contains_none, contains_here}
+use Rattle.math_base.proofs.Options.{none_is_not_some}
 
 -- ---- the numbers of the points
 

@@ -9,17 +9,17 @@ use Rattle.sight_names.specs.Point.{point_of}
 use Rattle.sight_names.specs.Points.{place}
 use Rattle.sight_names.specs.Mesh.{IsTriangle}
 use Rattle.plane_base.proofs.Vec.{det-last}
-use Rattle.sight_laws.proofs.Bridge.{vec, turn_at_is}
+use Rattle.mesh_base.proofs.SightLaws.Bridge.{vec, turn_at_is}
 use Rattle.sight_names.proofs.Lists.{contains_cases}
-use Rattle.incident_segments.specs.declared.segments.Segment.{Segment}
-use Rattle.incident_segments.specs.Incident.{has_end, other_end, AreSegments}
-use Rattle.incident_segments.specs.Neighbours.{IsNeighbour}
-use Rattle.incident_segments.specs.Next.{IsLeftOf}
+use Rattle.triangulate.specs.declared.incident_segments.segments.Segment.{Segment}
+use Rattle.triangulate.specs.IncidentSegments.Incident.{has_end, other_end, AreSegments}
+use Rattle.triangulate.specs.IncidentSegments.Neighbours.{IsNeighbour}
+use Rattle.triangulate.specs.IncidentSegments.Next.{IsLeftOf}
 use Rattle.triangulate.specs.Left.{IsLeftTriangle, HasLeftTriangle, HasBothSides, IsLeftAdded, AreLeftTriangles}
-use Rattle.incident_segments.proofs.KeptEdges.{any_segment}
-use Rattle.incident_segments.proofs.Chains.{end_cases, other_from, other_to, end_to, end_from}
-use Rattle.list_base.proofs.Numbers.{below_or_last}
-use Rattle.list_base.proofs.Lists.{contains_none, contains_here}
+use Rattle.triangulate.proofs.IncidentSegments.KeptEdges.{any_segment}
+use Rattle.triangulate.proofs.IncidentSegments.Chains.{end_cases, other_from, other_to, end_to, end_from}
+use Rattle.math_base.proofs.Numbers.{below_or_last}
+use Rattle.math_base.proofs.Lists.{contains_none, contains_here}
 
 -- ---- the ends of a segment are neighbours of one another
 

@@ -6,3 +6,6 @@ pub mod MeshLaws
 pub mod MeshOf
 pub mod PlanMesh
 pub mod SortedMesh
+pub mod IncidentSegments
+pub mod GreedySegments
+pub mod GroupLaws

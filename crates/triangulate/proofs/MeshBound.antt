@@ -7,8 +7,8 @@ use lib.IntN.{*ℤ-zero}
 use Rattle.std.specs.List.{IsDistinct, AllByRecursion, list_any}
 use Rattle.std.proofs.lemmas.Bool.{false≢true}
 use Rattle.std.proofs.lemmas.Map.Steps.{length-le_from_distinct_below}
-use Rattle.exact_ring.proofs.Quoting.{quoting, by_ring}
-use Rattle.exact_ring.proofs.Signs.{mul-nonneg}
+use Rattle.math_base.proofs.Quoting.{quoting, by_ring}
+use Rattle.math_base.proofs.Signs.{mul-nonneg}
 use Rattle.sight_names.specs.declared.names.Pt.{Pt}
 use Rattle.sight_names.specs.declared.names.Triangle.{Triangle}
 use Rattle.sight_names.specs.Map.{Map, map_of, origin}
@@ -27,9 +27,9 @@ use Rattle.mesh_base.proofs.GoodMesh.{PointFacts, pv}
 use Rattle.mesh_base.proofs.PlanFacts.{plan_facts}
 use Rattle.triangulate.proofs.GreedyNet.{numbers, both, greedy_net}
 use Rattle.triangulate.proofs.MeshLaws.{NetTri, net_tri, turned_tri, same_place}
-use Rattle.list_base.proofs.Bools.{one_true}
-use Rattle.list_base.proofs.Numbers.{tells_other}
-use Rattle.exact_ring.proofs.Small.{neg_of_negated_pos}
+use Rattle.math_base.proofs.Bools.{one_true}
+use Rattle.math_base.proofs.Numbers.{tells_other}
+use Rattle.math_base.proofs.Small.{neg_of_negated_pos}
 
 -- ---- functionals that rise with the numbers of the points
 

@@ -10,7 +10,7 @@ use Rattle.sight_names.specs.Greedy.{IsGreedy}
 use Rattle.sight_names.specs.Mesh.{IsTriangle, AreTriangles, HasEdge, IsKept, IsMeshTriangle, IsMeshOf, IsPlainMesh, MeetsFairly, IsLineEdge, side_edge}
 use Rattle.sight_names.proofs.Lists.{get_of_contains, contains_of_get}
 use Rattle.plane_base.proofs.Vec.{V, det, det-cycle}
-use Rattle.sight_laws.proofs.Bridge.{turn_at_is}
+use Rattle.mesh_base.proofs.SightLaws.Bridge.{turn_at_is}
 use Rattle.mesh_base.proofs.Net.{Pair, Net}
 use Rattle.mesh_base.proofs.MeshRules.{MeshTri, one_each_edge}
 use Rattle.mesh_base.proofs.FirstSpoke.{fills}
@@ -18,7 +18,7 @@ use Rattle.mesh_base.proofs.GoodMesh.{PointFacts, pv}
 use Rattle.mesh_shape.proofs.RuleLemmas.{edge_cases, moved_ends}
 use Rattle.mesh_shape.specs.Fills.{FillsHull, FillsSides}
 use Rattle.triangulate.proofs.GreedyNet.{numbers, in_numbers, number_below, both, kept_of, in_kept, kept_back, kept_meet, each_line_kept, greedy_maximal, greedy_net}
-use Rattle.list_base.proofs.Numbers.{below_same_or_above}
+use Rattle.math_base.proofs.Numbers.{below_same_or_above}
 use Rattle.sight_names.proofs.OneMesh.{above_irreflexive}
 use Rattle.mesh_base.proofs.CleanMesh.{edge_rp, edge_qr, edge_pq}
 

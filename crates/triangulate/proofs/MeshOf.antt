@@ -1,7 +1,7 @@
 -- The triangles on the left of the greedy segments are those of the mesh.
 use Rattle.std.proofs.Common.{◌≡◌, ◌≢◌, ℕ, zero, suc, ◌<◌, pos, ◌≤ℤ◌, ◌<ℤ◌, arith, refl, sym, ap, ◌∙◌, subst, ◌⊎◌, inl, inr, ◌↔◌, List, [], ◌∷◌, length, slice_get, get_or, Contains, Some, map}
 use borrow.Author.Differences.{ints}
-use Rattle.exact_ring.proofs.Signs.{le_or_lt}
+use Rattle.math_base.proofs.Signs.{le_or_lt}
 use Rattle.std.proofs.lemmas.Option.{same_Some, slice_get-get_or}
 use Rattle.sight_names.specs.declared.names.Triangle.{Triangle}
 use Rattle.sight_names.specs.Point.{point_of, turn_at}
@@ -13,22 +13,22 @@ use Rattle.sight_names.specs.Mesh.{IsKept, IsMeshTriangle}
 use Rattle.sight_names.proofs.Lists.{contains_cases, contains_tail, contains_of_get}
 use Rattle.plane_base.proofs.Vec.{det, edge, det-cycle, det-first}
 use Rattle.plane_base.proofs.Near.{det-flip}
-use Rattle.sight_laws.proofs.Bridge.{turn_at_is}
+use Rattle.mesh_base.proofs.SightLaws.Bridge.{turn_at_is}
 use Rattle.plane_base.proofs.Search.{In}
 use Rattle.mesh_base.proofs.Net.{Pair, pair, Net, Neighbours, closing, wedge_empty}
 use Rattle.mesh_base.proofs.MeshRules.{no_spoke_inside, same_ray}
 use Rattle.mesh_base.proofs.GoodMesh.{PointFacts, pv}
-use Rattle.incident_segments.specs.declared.segments.Segment.{Segment}
-use Rattle.incident_segments.specs.Kept.{edge_of}
-use Rattle.incident_segments.specs.Neighbours.{IsNeighbour}
-use Rattle.incident_segments.specs.Next.{IsLeftOf, IsFirstLeft}
+use Rattle.triangulate.specs.declared.incident_segments.segments.Segment.{Segment}
+use Rattle.triangulate.specs.IncidentSegments.Kept.{edge_of}
+use Rattle.triangulate.specs.IncidentSegments.Neighbours.{IsNeighbour}
+use Rattle.triangulate.specs.IncidentSegments.Next.{IsLeftOf, IsFirstLeft}
 use Rattle.triangulate.specs.Left.{IsLeftTriangle, HasLeftTriangle, AreLeftTriangles}
-use Rattle.incident_segments.proofs.KeptEdges.{any_segment}
-use Rattle.incident_segments.proofs.Chains.{end_cases, other_from, other_to}
+use Rattle.triangulate.proofs.IncidentSegments.KeptEdges.{any_segment}
+use Rattle.triangulate.proofs.IncidentSegments.Chains.{end_cases, other_from, other_to}
 use Rattle.triangulate.proofs.LeftTriangles.{neighbour_out, neighbour_in}
 use Rattle.triangulate.proofs.GreedyNet.{numbers, number_below, both, kept_of, in_kept, kept_ends, greedy_net, greedy_maximal}
 use Rattle.triangulate.proofs.MeshLaws.{NetTri, net_tri, mesh_tri}
-use Rattle.list_base.proofs.Lists.{contains_none, contains_here}
+use Rattle.math_base.proofs.Lists.{contains_none, contains_here}
 
 -- ---- neighbours are kept segments
 

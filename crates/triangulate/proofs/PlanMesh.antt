@@ -10,8 +10,8 @@ use Rattle.sight_names.specs.Mesh.{AreTriangles, IsMeshTriangle, IsMeshOf, IsPla
 use Rattle.sight_names.proofs.Lists.{contains_of_get}
 use Rattle.sight_names.proofs.PlanNumbers.{count_of_plan}
 use Rattle.mesh_base.proofs.PlanFacts.{plan_facts}
-use Rattle.incident_segments.specs.declared.segments.Segment.{Segment}
-use Rattle.incident_segments.specs.Kept.{edge_of, IsEdgeBetween, AreEdges}
+use Rattle.triangulate.specs.declared.incident_segments.segments.Segment.{Segment}
+use Rattle.triangulate.specs.IncidentSegments.Kept.{edge_of, IsEdgeBetween, AreEdges}
 use Rattle.triangulate.specs.Left.{AreLeftTriangles, IsInOrder}
 use Rattle.mesh_shape.specs.Fills.{FillsHull, FillsSides}
 use Rattle.triangulate.proofs.GreedyNet.{kept_between}

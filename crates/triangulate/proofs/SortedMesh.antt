@@ -14,7 +14,7 @@ use Rattle.sight_names.specs.declared.names.Triangle.{Triangle}
 use Rattle.sight_names.specs.Mesh.{AreTriangles, IsTriangle, IsAbove}
 use Rattle.sight_names.proofs.Lists.{contains_cases, contains_of_get}
 use Rattle.triangulate.specs.Left.{IsInOrder}
-use Rattle.list_base.proofs.Lists.{contains_none}
+use Rattle.math_base.proofs.Lists.{contains_none}
 
 -- by the first number, then the second, then the third
 abbrev pub tri_cmp : Triangle → Triangle → Ordering

@@ -3,9 +3,9 @@ use Rattle.std.specs.Prelude.{◌≡◌, ℕ, ◌<◌, ◌⊎◌, List, [], ◌�
 use Rattle.sight_names.specs.declared.names.Triangle.{Triangle}
 use Rattle.sight_names.specs.Map.{Map}
 use Rattle.sight_names.specs.Mesh.{IsAbove}
-use Rattle.incident_segments.specs.declared.segments.Segment.{Segment}
-use Rattle.incident_segments.specs.Neighbours.{IsNeighbour}
-use Rattle.incident_segments.specs.Next.{IsFirstLeft, IsNextLeft}
+use Rattle.triangulate.specs.declared.incident_segments.segments.Segment.{Segment}
+use Rattle.triangulate.specs.IncidentSegments.Neighbours.{IsNeighbour}
+use Rattle.triangulate.specs.IncidentSegments.Next.{IsFirstLeft, IsNextLeft}
 
 -- from its least point, a neighbour to the second point, and the first neighbour on the left of it to the third
 pub record IsLeftTriangle (m : Map) (segs : List Segment) (t : Triangle) : Type 0 where

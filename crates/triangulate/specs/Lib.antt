@@ -1,1 +1,4 @@
 pub mod Left
+pub mod IncidentSegments
+pub mod GreedySegments
+pub mod GroupLaws

@@ -6,11 +6,11 @@ ghost use Rattle.sight_names.specs.Map.{map_of};
 ghost use Rattle.sight_names.specs.Sound.{LinesMeetAtEnds};
 ghost use Rattle.sight_names.specs.Greedy.{IsGreedy};
 ghost use Rattle.sight_names.specs.Mesh.{IsMeshOf, IsPlainMesh, IsTriangle};
-ghost use Rattle.incident_segments.specs.Kept.{AreEdges, edge_of};
+ghost use Rattle.triangulate.specs.IncidentSegments.Kept.{AreEdges, edge_of};
 ghost use Rattle.triangulate.specs.Left.{AreLeftTriangles, IsInOrder, IsLeftAdded};
 ghost use Rattle.mesh_shape.specs.Fills.{FillsHull, FillsSides};
 
-use incident_segments::{IncidentSegments, Segments, next_left};
+use crate::incident_segments::{IncidentSegments, Segments, next_left};
 use mesh_shape::Mesh;
 use sight_names::{Memory, Plan, Triangle};
 use std::alloc::Global;

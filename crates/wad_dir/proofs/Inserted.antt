@@ -6,7 +6,7 @@ use Rattle.std.proofs.lemmas.List.{append-nil}
 use Rattle.std.proofs.lemmas.List.Folds.{list_any-append}
 use Rattle.std.proofs.lemmas.Slice.Eq.{bytes_eq-Decides}
 use Rattle.wad_dir.specs.Map.{has_name, is_run_name, key_of, last_from, run_from, same_name}
-use Rattle.list_base.proofs.Bools.{second_false, first_false}
+use Rattle.math_base.proofs.Bools.{second_false, first_false}
 
 -- ---- an element put into a list
 

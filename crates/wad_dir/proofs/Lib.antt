@@ -7,3 +7,5 @@ pub mod Spots
 pub mod Rewritten
 pub mod Moved
 pub mod Eight
+pub mod WadRewrite
+pub mod AllMaps

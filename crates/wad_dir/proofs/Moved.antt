@@ -10,8 +10,8 @@ use Rattle.wad_dir.proofs.Inserted.{drop_behind, drop_insert, last_kept, last_wi
 use Rattle.wad_dir.proofs.Spots.{IsSpot, of_by, place, spot_at, spot_from, spot_of_by, spot_parts}
 use Rattle.std.proofs.lemmas.List.{length-drop}
 use Rattle.std.proofs.lemmas.Slice.Eq.{bytes_eq-Decides}
-use Rattle.list_base.proofs.Numbers.{is_next}
-use Rattle.list_base.proofs.Options.{none_is_not_some, some_is_same}
+use Rattle.math_base.proofs.Numbers.{is_next}
+use Rattle.math_base.proofs.Options.{none_is_not_some, some_is_same}
 
 -- ---- names that are the same
 

@@ -3,10 +3,10 @@ use Rattle.std.proofs.Common.{◌≡◌, ℕ, ◌+◌, ◌-◌, ◌<◌, ◌≤�
 use Rattle.std.specs.List.{cons_option}
 use Rattle.std.proofs.lemmas.List.{length-map, take_more}
 use Rattle.std.proofs.lemmas.List.Elements.{filter_map-append}
-use Rattle.all_maps.specs.declared.parts.Change.{Change}
-use Rattle.all_maps.specs.All.{HasInOrder, names_changed}
-use Rattle.all_maps.proofs.InOrder.{passed}
-use Rattle.sight_status.specs.declared.status.Status.{Status}
+use Rattle.wad_dir.specs.declared.all_maps.parts.Change.{Change}
+use Rattle.wad_dir.specs.AllMaps.All.{HasInOrder, names_changed}
+use Rattle.wad_dir.proofs.AllMaps.InOrder.{passed}
+use Rattle.map_answers.specs.declared.sight_status.status.Status.{Status}
 use Rattle.whole_wad.specs.declared.outcomes.MapOutcome.{MapOutcome}
 use Rattle.whole_wad.specs.declared.tables.MapTable.{MapTable}
 use Rattle.whole_wad.specs.Outcomes.{change_by, changes_of, refusal_in, refusals_of}

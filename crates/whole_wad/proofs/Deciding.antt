@@ -1,6 +1,6 @@
 -- What is built within a budget, and what is built that decides every pair, as both are told.
 use Rattle.std.proofs.Common.{◌≡◌, ℕ, ◌<◌, inl, inr, List, [], length, refl, sym, subst}
-use Rattle.list_base.proofs.Lists.{contains_none}
+use Rattle.math_base.proofs.Lists.{contains_none}
 use Rattle.sight_names.specs.declared.names.Ask.{Ask}
 use Rattle.sight_names.specs.declared.names.Ask.TheVariants as ask
 use Rattle.sight_names.specs.declared.names.Budget.TheVariants.{Full}
@@ -11,15 +11,15 @@ use Rattle.sight_names.specs.Sees.{Sees}
 use Rattle.sight_names.proofs.Laws.{sees_sym}
 use Rattle.reject_bits.specs.Parts.{Rejects, TableParts}
 use Rattle.cert_format.specs.declared.cert.Sizes.{Sizes}
-use Rattle.cert_groups.specs.declared.cert.AnyCert.{AnyCert}
-use Rattle.cert_groups.specs.declared.cert.AnyCert.TheVariants.{One, Two}
-use Rattle.cert_groups.specs.Grammar.{IsTwoInOrder}
-use Rattle.cert_exact.specs.declared.cert.ExactParts.{ExactParts}
-use Rattle.cert_exact.specs.Grammar.{as_two}
+use Rattle.cert_format.specs.declared.cert_groups.cert.AnyCert.{AnyCert}
+use Rattle.cert_format.specs.declared.cert_groups.cert.AnyCert.TheVariants.{One, Two}
+use Rattle.cert_format.specs.CertGroups.Grammar.{IsTwoInOrder}
+use Rattle.certificates.specs.declared.cert_exact.cert.ExactParts.{ExactParts}
+use Rattle.certificates.specs.CertExact.Grammar.{as_two}
 use Rattle.certificates.specs.Grammar.{IsThreeInOrder}
 use Rattle.group_job.specs.Built.{HasRaysOfFound, HasTreesOfUnspent, OfTwo}
 use Rattle.group_job.proofs.Following.{set_or_clear}
-use Rattle.turned_trees.specs.Exact.{TellsAll}
+use Rattle.gate_floods.specs.TurnedTrees.Exact.{TellsAll}
 use Rattle.whole_wad.specs.Built.{Decides, IsSymmetric, ListsWithin, TellsSight}
 
 -- ---- within a budget

@@ -7,14 +7,14 @@ use Rattle.sight_names.specs.declared.names.Side.{Side}
 use Rattle.sight_names.specs.Groups.{HasClosedFaces}
 use Rattle.sight_names.specs.Map.{Map}
 use Rattle.map_audit.proofs.AuditLemmas.{not_sound, one_fault}
-use Rattle.tri_sectors.specs.Verdict.{IsClosedSide}
+use Rattle.face_groups.specs.TriSectors.Verdict.{IsClosedSide}
 use Rattle.wad_dir.specs.Wad.{WadFile}
-use Rattle.sight_status.specs.declared.status.Flaw.TheVariants as flaw
-use Rattle.sight_status.specs.declared.status.Status.{Status}
-use Rattle.sight_status.specs.declared.status.Status.TheVariants as status
+use Rattle.map_answers.specs.declared.sight_status.status.Flaw.TheVariants as flaw
+use Rattle.map_answers.specs.declared.sight_status.status.Status.{Status}
+use Rattle.map_answers.specs.declared.sight_status.status.Status.TheVariants as status
 use Rattle.map_answers.specs.Input.{map_named}
 use Rattle.map_answers.proofs.Flaws.{one_side}
-use Rattle.all_maps.specs.Names.{word_of}
+use Rattle.wad_dir.specs.AllMaps.Names.{word_of}
 use Rattle.whole_wad.specs.declared.outcomes.MapOutcome.{MapOutcome}
 use Rattle.whole_wad.specs.declared.tables.MapTable.{MapTable}
 use Rattle.whole_wad.specs.Outcomes.{ComesOf, OutcomesAreOne}

@@ -20,15 +20,15 @@ use Rattle.sight_names.specs.Table.{table_bit}
 use Rattle.sight_names.proofs.Lists.{same_ascending}
 use Rattle.sight_names.proofs.OneMesh.{one_mesh}
 use Rattle.reject_bits.specs.Parts.{IsWhole, Rejects, TableParts}
-use Rattle.cert_groups.specs.declared.cert.AnyCert.TheVariants.{One, Two}
-use Rattle.cert_groups.proofs.PartLaws.{none_ascend}
+use Rattle.cert_format.specs.declared.cert_groups.cert.AnyCert.TheVariants.{One, Two}
+use Rattle.cert_format.proofs.CertGroups.PartLaws.{none_ascend}
 use Rattle.certificates.specs.declared.certificate.Certificate.{Certificate}
 use Rattle.certificates.specs.declared.certificate.Certificate.TheVariants.{Listing, Exact}
 use Rattle.certificates.specs.Grammar.{IsInOrder}
 use Rattle.sight_names.specs.Order.{Ascends, PairBefore}
 use Rattle.whole_wad.specs.declared.building.Built.{Built}
 use Rattle.whole_wad.specs.Built.{AreBytes, DecidedBy, HaveOneTable, IsBuiltOf, ask_of}
-use Rattle.list_base.proofs.Numbers.{same_bit, below_or_not}
+use Rattle.math_base.proofs.Numbers.{same_bit, below_or_not}
 
 -- ---- numbers
 

@@ -11,17 +11,17 @@ use Rattle.sight_names.specs.Groups.{AreGroups, HasClosedFaces, IsListedByGroups
 use Rattle.sight_names.specs.Map.{Map}
 use Rattle.sight_names.specs.Sees.{Sees}
 use Rattle.reject_bits.specs.Parts.{IsWhole, Rejects, TableParts}
-use Rattle.cert_groups.specs.declared.cert.AnyCert.{AnyCert}
-use Rattle.cert_groups.specs.declared.cert.CertTwo.{CertTwo}
-use Rattle.cert_exact.specs.declared.cert.ExactParts.{ExactParts}
+use Rattle.cert_format.specs.declared.cert_groups.cert.AnyCert.{AnyCert}
+use Rattle.cert_format.specs.declared.cert_groups.cert.CertTwo.{CertTwo}
+use Rattle.certificates.specs.declared.cert_exact.cert.ExactParts.{ExactParts}
 use Rattle.certificates.specs.declared.certificate.Certificate.{Certificate}
 use Rattle.certificates.specs.declared.certificate.Certificate.TheVariants.{Listing, Exact}
 use Rattle.certificates.specs.Grammar.{IsInOrder, sizes_of}
 use Rattle.group_job.specs.Built.{HasRaysOfFound, HasTreesOfUnspent, OfTwo}
-use Rattle.turned_trees.specs.Exact.{TellsAll}
+use Rattle.gate_floods.specs.TurnedTrees.Exact.{TellsAll}
 use Rattle.any_judge.specs.Accepted.{IsAccepted}
-use Rattle.sight_status.specs.declared.status.Status.{Status}
-use Rattle.sight_status.specs.declared.status.Status.TheVariants as status
+use Rattle.map_answers.specs.declared.sight_status.status.Status.{Status}
+use Rattle.map_answers.specs.declared.sight_status.status.Status.TheVariants as status
 use Rattle.map_answers.specs.Sound.{IsAuditRefusal}
 use Rattle.whole_wad.specs.declared.building.Built.{Built}
 use Rattle.whole_wad.specs.Sizes.{sizes_of_map}

@@ -3,12 +3,12 @@ use Rattle.std.specs.Prelude.{◌≡◌, ℕ, Bool, List, map, filter_map, Optio
 use Rattle.std.specs.List.{AllByRecursion}
 use Rattle.sight_names.specs.declared.names.Method.{Method}
 use Rattle.wad_dir.specs.Wad.{WadFile}
-use Rattle.all_maps.specs.declared.parts.Change.{Change}
-use Rattle.sight_status.specs.declared.status.Status.{Status}
+use Rattle.wad_dir.specs.declared.all_maps.parts.Change.{Change}
+use Rattle.map_answers.specs.declared.sight_status.status.Status.{Status}
 use Rattle.map_answers.specs.Input.{map_named}
 use Rattle.whole_wad.specs.declared.outcomes.MapOutcome.{MapOutcome}
 use Rattle.whole_wad.specs.declared.tables.MapTable.{MapTable}
-use Rattle.all_maps.specs.Names.{word_of}
+use Rattle.wad_dir.specs.AllMaps.Names.{word_of}
 use Rattle.whole_wad.specs.Tables.{Gets}
 
 -- what the map of a name gets by this method: its table exactly where it is within the limits, the larger ones or the usual

@@ -2,13 +2,13 @@
 use Rattle.std.specs.Prelude.{ℕ, List, ◌++◌, Result, Ok, Err, codes, length}
 use Rattle.std.specs.Fmt.{decimal}
 use Rattle.std.specs.List.{flat_map}
-use Rattle.sight_status.specs.declared.status.Status.{Status}
-use Rattle.sight_status.specs.Texts.{reason_words}
+use Rattle.map_answers.specs.declared.sight_status.status.Status.{Status}
+use Rattle.map_answers.specs.SightStatus.Texts.{reason_words}
 use Rattle.map_answers.specs.declared.counts.Counts.{Counts}
 use Rattle.map_answers.specs.Counts.{counts_with}
 use Rattle.whole_wad.specs.declared.outcomes.MapOutcome.{MapOutcome}
 use Rattle.whole_wad.specs.declared.tables.MapTable.{MapTable}
-use Rattle.all_maps.specs.Names.{word_of}
+use Rattle.wad_dir.specs.AllMaps.Names.{word_of}
 
 -- how many pairs are set, clear and listed
 abbrev pub totals_words : Counts → List ℕ

@@ -4,8 +4,8 @@ use Rattle.sight_names.specs.declared.faults.RewriteFault.{RewriteFault}
 use Rattle.sight_names.specs.declared.faults.RewriteFault.TheVariants as rewrite
 use Rattle.sight_names.specs.declared.names.Method.{Method}
 use Rattle.wad_dir.specs.Wad.{WadFile}
-use Rattle.wad_rewrite.specs.Rewrite.{printed}
-use Rattle.all_maps.specs.All.{with_all}
+use Rattle.wad_dir.specs.WadRewrite.Rewrite.{printed}
+use Rattle.wad_dir.specs.AllMaps.All.{with_all}
 use Rattle.whole_wad.specs.declared.outcomes.MapOutcome.{MapOutcome}
 use Rattle.whole_wad.specs.declared.whole.WholeWad.{WholeWad}
 use Rattle.whole_wad.specs.Outcomes.{AreOutcomes, changes_of, refusals_of}

@@ -3,20 +3,20 @@
 ghost use Rattle.std.specs.Prelude.{◌≡◌, ◌+◌, ◌≤◌, length, All, IfOk, IsTrue};
 ghost use Rattle.wad_dir.specs.Map.{entry_names};
 ghost use Rattle.wad_dir.specs.Wad.{file_of, names_of};
-ghost use Rattle.all_maps.specs.Maps.{is_map_name};
+ghost use Rattle.wad_dir.specs.AllMaps.Maps.{is_map_name};
 ghost use Rattle.map_answers.specs.Input.{map_named};
 ghost use Rattle.whole_wad.specs.Outcomes.{ComesOf};
 ghost use Rattle.whole_wad.specs.Tables.{GetsOrMemory};
 
 use crate::tables::{MapTable, table_of};
-use all_maps::text_of;
+use group_job::sight_workers::Gate;
 use map_answers::plan_named;
+use map_answers::sight_status::Status;
 use sight_names::{Memory, Method};
-use sight_status::Status;
-use sight_workers::Gate;
 use std::alloc::Global;
 use std::thread::Threads;
 use wad_dir::Wad;
+use wad_dir::all_maps::text_of;
 
 /// What comes of one map of a WAD: its table, or why it gets none. The name is in upper case, padded with NUL.
 #[derive(Drop)]

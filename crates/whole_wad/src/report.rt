@@ -1,15 +1,15 @@
 //! The report's line of one map.
 
 ghost use Rattle.std.specs.Prelude.{◌≡◌, ◌++◌, IfOk, OnOk, IsTrue, string_bytes};
-ghost use Rattle.all_maps.specs.Maps.{is_map_name};
+ghost use Rattle.wad_dir.specs.AllMaps.Maps.{is_map_name};
 ghost use Rattle.whole_wad.specs.Report.{made_words, map_line, totals_words};
 
 use crate::outcomes::MapOutcome;
 use crate::tables::MapTable;
-use all_maps::text_of;
+use map_answers::sight_status::{Status, push_count, push_count_line, push_reason, push_text};
 use map_answers::{Counts, counts_of};
-use sight_status::{Status, push_count, push_count_line, push_reason, push_text};
 use std::alloc::{AllocError, Global};
+use wad_dir::all_maps::text_of;
 
 /// Adds how many pairs are set, clear and listed.
 fn push_totals(alloc: Global, line: &mut String, counts: Counts) -> Result<(), AllocError>

@@ -5,17 +5,17 @@ ghost use Rattle.sight_names.specs.Map.{map_of};
 ghost use Rattle.sight_names.specs.Sound.{LinesMeetAtEnds};
 ghost use Rattle.certificates.specs.Grammar.{IsInOrder, sizes_of};
 ghost use Rattle.any_judge.specs.Accepted.{IsAccepted};
-ghost use Rattle.sight_status.specs.declared.status.Status.TheVariants as status;
+ghost use Rattle.map_answers.specs.declared.sight_status.status.Status.TheVariants as status;
 ghost use Rattle.whole_wad.specs.Sizes.{sizes_of_map};
 ghost use Rattle.whole_wad.specs.Tables.{GetsOrMemory};
 
 use crate::building::{Built, build, has_sizes_of_map};
 use any_judge::check_par;
 use group_checker::AnyVerdict;
+use group_job::sight_workers::Gate;
+use map_answers::sight_status::Status;
 use reject_bits::Table;
 use sight_names::{Items, Method, Pair, Plan};
-use sight_status::Status;
-use sight_workers::Gate;
 use std::alloc::Global;
 use std::thread::Threads;
 

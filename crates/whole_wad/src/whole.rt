@@ -4,8 +4,8 @@ ghost use Rattle.std.specs.Prelude.{◌≡◌, ◌+◌, ◌≤◌, ◌∷◌, �
 ghost use Rattle.std.specs.List.{AllByRecursion};
 ghost use Rattle.wad_dir.specs.Map.{entry_names};
 ghost use Rattle.wad_dir.specs.Wad.{file_of, names_of};
-ghost use Rattle.all_maps.specs.All.{HasInOrder};
-ghost use Rattle.all_maps.specs.Maps.{is_map_name, maps_of};
+ghost use Rattle.wad_dir.specs.AllMaps.All.{HasInOrder};
+ghost use Rattle.wad_dir.specs.AllMaps.Maps.{is_map_name, maps_of};
 ghost use Rattle.whole_wad.specs.Outcomes.{ComesOf, changes_of};
 ghost use Rattle.whole_wad.specs.Report.{report_of};
 ghost use Rattle.whole_wad.specs.Whole.{MakesWhole};
@@ -13,12 +13,12 @@ ghost use Rattle.whole_wad.specs.Whole.{MakesWhole};
 use crate::notice::Notice;
 use crate::outcomes::{MapOutcome, outcome_of};
 use crate::report::line_of;
-use all_maps::{Change, text_of, udmf_maps, with_rejects};
+use group_job::sight_workers::Gate;
 use sight_names::{Items, Memory, Method, RewriteFault};
-use sight_workers::Gate;
 use std::alloc::{AllocError, Global};
 use std::thread::Threads;
 use wad_dir::Wad;
+use wad_dir::all_maps::{Change, text_of, udmf_maps, with_rejects};
 
 /// A WAD with the tables of maps: its bytes, one line of text a map, and how many maps were asked for, have been built, and
 /// are refused.

@@ -4,7 +4,7 @@ use crate::certs::digits_named;
 use crate::maps::{Lines, NONE, RowLine, map_named};
 use crate::pictures::picture_named;
 use crate::rooms::made_rooms;
-use hexen_lumps::to_hexen;
+use map_lumps::hexen_lumps::to_hexen;
 use map_lumps::read_lumps;
 use map_maker::grid;
 use sight_names::{LumpFault, MapFormat, Plan, Reading};

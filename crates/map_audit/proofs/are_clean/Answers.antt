@@ -1,8 +1,8 @@
 use Rattle.std.proofs.Common.{◌+◌, below_more, arith}
 use Rattle.sight_names.specs.Map.{map_of}
-use Rattle.line_spans.specs.declared.Span.{Span}
+use Rattle.geom_exact.specs.declared.line_spans.Span.{Span}
 use Rattle.map_audit.specs.Audit.{FineFrom}
-use Rattle.line_spans.proofs.Sweep.{at_place}
+use Rattle.geom_exact.proofs.LineSpans.Sweep.{at_place}
 use Rattle.map_audit.proofs.SweepLemmas.{sound_of_sweep}
 use Rattle.map_audit.proofs.are_clean.Goals as goal
 

@@ -1,6 +1,6 @@
 use Rattle.std.proofs.Common.{ℕ, ◌<◌, ◌≤◌, get_or}
 use Rattle.sight_names.specs.Map.{map_of}
-use Rattle.line_spans.specs.declared.Span.{Span}
+use Rattle.geom_exact.specs.declared.line_spans.Span.{Span}
 use Rattle.map_audit.specs.Audit.{FineAt}
 use Rattle.map_audit.proofs.is_clean_from.Given as goal
 

@@ -2,7 +2,7 @@ use Rattle.sight_names.specs.Map.{map_of}
 use Rattle.sight_ray.proofs.CrossedLineLemmas.{beq_true, beq_false}
 use Rattle.sight_ray.proofs.FaultLemmas.{last_unsplit, wrong_first, wrong_last}
 use Rattle.sight_ray.proofs.crossed_lines_of.Goals as goal
-use Rattle.list_base.proofs.Bools.{false_of_not}
+use Rattle.math_base.proofs.Bools.{false_of_not}
 
 pub returns-in_default-crossed_line_of : goal.returns-in_default-crossed_line_of
 returns-in_default-crossed_line_of c = last_unsplit (map_of c.args.plan.now) c.args.ray.now c.in-Some.start c.requires c.in-Some.ensures c.in_default-crossed_line_of.ensures

@@ -1,7 +1,7 @@
 use Rattle.std.proofs.Common.{subst, sym}
 use Rattle.sight_names.specs.declared.names.Ray.{Ray}
 use Rattle.sight_names.specs.Ray.{IsSightRay}
-use Rattle.sight_laws.proofs.SightLaws.{turned_sight}
+use Rattle.mesh_base.proofs.SightLaws.SightLaws.{turned_sight}
 use Rattle.sight_ray.proofs.turn_round.Goals as goal
 
 pub returns-clause-sight : goal.returns-clause-sight

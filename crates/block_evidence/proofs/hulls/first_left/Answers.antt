@@ -4,7 +4,7 @@ use Rattle.sight_names.specs.declared.limits.TheConstants.{RIGHT_END}
 use Rattle.sight_names.specs.declared.names.EndAt.{EndAt}
 use Rattle.block_evidence.proofs.Pairs.{end_at_place}
 use Rattle.block_evidence.proofs.hulls.first_left.Goals as goal
-use Rattle.list_base.proofs.Options.{some_is_same}
+use Rattle.math_base.proofs.Options.{some_is_same}
 
 pub loop-k-preserved : goal.loop-k-preserved
 loop-k-preserved c = below_more (λ k. (e : EndAt) → slice_get c.args.ends.now k ≡ Some e → RIGHT_END ≤ e.code) c.loop-k.k c.loop-k.invariant (λ e g. let k = ap (λ (u : EndAt). u.code) (some_is_same (get_or c.args.ends.now c.loop-k.k (record { code = 0; at = record { x = pos 0; y = pos 0 } })) e (sym (end_at_place c.args.ends.now c.loop-k.k (record { code = 0; at = record { x = pos 0; y = pos 0 } }) c.loop-k-test.true) ∙ g)) in let l = c.if-end-lt-RIGHT_END.false in omega (arith, k, l))

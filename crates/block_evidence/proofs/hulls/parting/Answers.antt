@@ -1,5 +1,5 @@
 use Rattle.std.proofs.Common.{rules}
-use Rattle.extreme_lines.proofs.Widening.{long_of_different}
+use Rattle.geom_exact.proofs.ExtremeLines.Widening.{long_of_different}
 use Rattle.block_evidence.proofs.Pairs.{whole_parted, whole_corner, no_left, no_right, same_point, ray_in}
 use Rattle.block_evidence.proofs.hulls.parting.Goals as goal
 

@@ -1,9 +1,9 @@
 use Rattle.std.proofs.Common.{arith, Some, get_or, pos, sym, ap, ◌∙◌}
 use Rattle.sight_names.specs.declared.names.EndAt.{EndAt}
-use Rattle.extreme_lines.proofs.Widening.{stays}
+use Rattle.geom_exact.proofs.ExtremeLines.Widening.{stays}
 use Rattle.block_evidence.proofs.Pairs.{end_result, end_at_place}
 use Rattle.block_evidence.proofs.hulls.with_end.Goals as goal
-use Rattle.list_base.proofs.Options.{some_is_same}
+use Rattle.math_base.proofs.Options.{some_is_same}
 
 pub returns : goal.returns
 returns c = end_result c.args.ends.now c.args.cone.now c.args.left (get_or c.args.ends.now c.args.j (record { code = 0; at = record { x = pos 0; y = pos 0 } })) c.args.j c.with.result c.requires.cone c.requires.left (record { code = c.if-right-lt-RIGHT_END.false; place = c.args.j; is = end_at_place c.args.ends.now c.args.j (record { code = 0; at = record { x = pos 0; y = pos 0 } }) c.requires.place }) (end_at_place c.args.ends.now c.args.j (record { code = 0; at = record { x = pos 0; y = pos 0 } }) c.requires.place) c.with.ensures

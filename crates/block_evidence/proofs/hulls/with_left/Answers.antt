@@ -1,5 +1,5 @@
 use Rattle.std.proofs.Common.{arith, below_more}
-use Rattle.extreme_lines.specs.Differences.{difference}
+use Rattle.geom_exact.specs.ExtremeLines.Differences.{difference}
 use Rattle.block_evidence.specs.Pairs.{HasAt}
 use Rattle.block_evidence.proofs.hulls.with_left.Goals as goal
 

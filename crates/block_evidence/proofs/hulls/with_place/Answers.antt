@@ -2,7 +2,7 @@ use Rattle.std.proofs.Common.{arith, get_or, pos, sym, ap, ◌∙◌}
 use Rattle.sight_names.specs.declared.names.EndAt.{EndAt}
 use Rattle.block_evidence.proofs.Pairs.{end_at_place, place_result}
 use Rattle.block_evidence.proofs.hulls.with_place.Goals as goal
-use Rattle.list_base.proofs.Options.{some_is_same}
+use Rattle.math_base.proofs.Options.{some_is_same}
 
 pub returns : goal.returns
 returns c = place_result c.args.ends.now c.args.cone.now c.args.i (get_or c.args.ends.now c.args.i (record { code = 0; at = record { x = pos 0; y = pos 0 } })) c.with_left.result (end_at_place c.args.ends.now c.args.i (record { code = 0; at = record { x = pos 0; y = pos 0 } }) c.requires.place) c.with_left.ensures

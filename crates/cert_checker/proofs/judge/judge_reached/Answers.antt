@@ -1,6 +1,6 @@
 use Rattle.std.proofs.Common.{List, Bool, sym, ap, subst}
 use Rattle.sight_names.specs.Map.{map_of}
-use Rattle.tree_judge.specs.Trees.{TellsReach}
+use Rattle.cert_checker.specs.TreeJudge.Trees.{TellsReach}
 use Rattle.cert_checker.specs.Pairs.{pairs_of}
 use Rattle.cert_checker.proofs.Judging.{known_lists, is_about}
 use Rattle.cert_checker.proofs.judge.judge_reached.Goals as goal

@@ -1,7 +1,7 @@
 use Rattle.std.proofs.Common.{Some, sym, ◌∙◌, ap, subst}
 use Rattle.std.specs.Prelude.{IfOk}
 use Rattle.sight_names.specs.Map.{map_of}
-use Rattle.cert_groups.specs.declared.cert.AnyCert.{AnyCert}
+use Rattle.cert_format.specs.declared.cert_groups.cert.AnyCert.{AnyCert}
 use Rattle.cert_judge.specs.Version.{TellsPairsAny}
 use Rattle.cert_judge.proofs.Wholes.{of_one, of_two}
 use Rattle.cert_judge.proofs.on_ground.verdict_over.Goals as goal

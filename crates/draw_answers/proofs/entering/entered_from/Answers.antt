@@ -3,7 +3,7 @@ use Rattle.std.specs.Prelude.{IfOk}
 use Rattle.std.proofs.lemmas.Option.{slice_get_within}
 use Rattle.map_answers.specs.Groups.{seen}
 use Rattle.pair_answer.specs.Places.{ArePlacesOf}
-use Rattle.entered_triangles.specs.Answer.{IsEnteredWithin}
+use Rattle.pair_answer.specs.EnteredTriangles.Answer.{IsEnteredWithin}
 use Rattle.draw_answers.proofs.Pairs.{entered_from_places}
 use Rattle.draw_answers.proofs.entering.entered_from.Goals as goal
 

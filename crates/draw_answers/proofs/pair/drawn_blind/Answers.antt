@@ -1,7 +1,7 @@
 use Rattle.std.proofs.Common.{Option, length, subst}
 use Rattle.sight_names.specs.Map.{map_of}
 use Rattle.map_answers.specs.Groups.{seen}
-use Rattle.entered_triangles.specs.declared.entered.Entered.{Entered}
+use Rattle.pair_answer.specs.declared.entered_triangles.entered.Entered.{Entered}
 use Rattle.draw_answers.specs.Pair.{IsEnteredOfPair}
 use Rattle.draw_answers.proofs.Points.{triangles_over}
 use Rattle.draw_answers.proofs.Pairs.{fits_pair, shows_entered, shows_none}

@@ -1,5 +1,5 @@
 use Rattle.std.proofs.Common.{ℕ, List, length, sym, subst}
-use Rattle.gate_masks.specs.declared.masks.Row.{Row}
+use Rattle.gate_floods.specs.declared.gate_masks.masks.Row.{Row}
 use Rattle.exact_checker.specs.Rows.{AreOwnRows}
 use Rattle.exact_checker.proofs.joining.joined_rows.Goals as goal
 

@@ -1,4 +1,4 @@
-use Rattle.gate_masks.proofs.Masking.{words_absent, words_at}
+use Rattle.gate_floods.proofs.GateMasks.Masking.{words_absent, words_at}
 use Rattle.exact_checker.proofs.joining.words_of.Goals as goal
 
 pub returns-in-Some : goal.returns-in-Some

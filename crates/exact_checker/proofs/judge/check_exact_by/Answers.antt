@@ -1,7 +1,7 @@
 use Rattle.std.proofs.Common.{◌↔◌}
 use Rattle.std.proofs.lemmas.Result.{IfOk-weaker}
 use Rattle.sight_names.specs.Map.{map_of}
-use Rattle.turned_trees.specs.Exact.{TellsAll}
+use Rattle.gate_floods.specs.TurnedTrees.Exact.{TellsAll}
 use Rattle.group_checker.specs.Judged.{IsYesAny}
 use Rattle.gate_floods.specs.Exact.{IsAcceptedThree}
 use Rattle.exact_checker.specs.Judged.{JudgesThree}

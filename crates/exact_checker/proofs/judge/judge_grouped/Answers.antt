@@ -1,6 +1,6 @@
 use Rattle.std.proofs.lemmas.Result.{IfOk-weaker}
 use Rattle.sight_names.specs.Map.{map_of}
-use Rattle.cert_exact.specs.Grammar.{as_two}
+use Rattle.certificates.specs.CertExact.Grammar.{as_two}
 use Rattle.cert_checker.specs.Judged.{IsPairVerdict, JudgesRays}
 use Rattle.cert_checker.proofs.Judging.{rays_at_pairs, rays_at_tree}
 use Rattle.exact_checker.proofs.judge.judge_grouped.Goals as goal

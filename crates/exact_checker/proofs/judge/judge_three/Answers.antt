@@ -4,7 +4,7 @@ use Rattle.sight_names.specs.Map.{map_of}
 use Rattle.sight_names.specs.Mesh.{IsGoodMesh}
 use Rattle.sight_names.specs.Plan.{PlanParts}
 use Rattle.cert_format.specs.Accepted.{labels_of}
-use Rattle.cert_exact.specs.Grammar.{as_two}
+use Rattle.certificates.specs.CertExact.Grammar.{as_two}
 use Rattle.group_checker.specs.declared.grouping.MeshVerdict.TheVariants.{Good, Broken}
 use Rattle.group_checker.proofs.Ending.{own_told}
 use Rattle.group_checker.proofs.OneMap.{few_groups, few_triangles, sectors_below, triangles_between}

@@ -1,6 +1,6 @@
 use Rattle.std.proofs.Common.{◌≡◌, ◌++◌, ℕ, List, length, take, drop, sym, ◌∙◌, subst}
 use Rattle.std.proofs.lemmas.List.{take_at}
-use Rattle.gate_masks.specs.Words.{AreBitsOf}
+use Rattle.gate_floods.specs.GateMasks.Words.{AreBitsOf}
 use Rattle.exact_checker.specs.Owning.{IsOwnedBit}
 use Rattle.exact_checker.proofs.owning.owned_row.Goals as goal
 

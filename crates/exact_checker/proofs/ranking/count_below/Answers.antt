@@ -1,5 +1,5 @@
 use Rattle.std.proofs.Common.{◌≤◌, sym, ◌∙◌, arith}
-use Rattle.row_judge.specs.Words.{is_in}
+use Rattle.gate_floods.specs.RowJudge.Words.{is_in}
 use Rattle.exact_checker.proofs.Owned.{bit_is, count_more, count_same}
 use Rattle.exact_checker.proofs.ranking.count_below.Goals as goal
 use Rattle.exact_checker.proofs.ranking.count_below.Goals.{then-has_bit, else-has_bit}

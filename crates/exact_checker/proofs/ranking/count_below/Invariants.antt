@@ -1,6 +1,6 @@
 use Rattle.std.proofs.Common.{◌≡◌, ◌≤◌}
 use Rattle.gate_floods.specs.Bits.{bits_from, count_bits}
-use Rattle.row_judge.specs.Words.{is_in}
+use Rattle.gate_floods.specs.RowJudge.Words.{is_in}
 use Rattle.exact_checker.proofs.ranking.count_below.Given as goal
 
 abbrev pub invariant-loop-number : goal.invariant-loop-number

@@ -1,8 +1,8 @@
 use Rattle.std.proofs.Common.{List, ℕ, refl, ◌∙◌, ap, arith}
 use Rattle.std.proofs.lemmas.Option.{slice_get_read}
-use Rattle.list_base.proofs.Lists.{length_pushed}
+use Rattle.math_base.proofs.Lists.{length_pushed}
 use Rattle.gate_floods.specs.Bits.{bits_from, count_bits}
-use Rattle.row_judge.specs.Words.{is_in}
+use Rattle.gate_floods.specs.RowJudge.Words.{is_in}
 use Rattle.exact_checker.proofs.Owned.{rank_is, ranks_more, ranks_all}
 use Rattle.exact_checker.proofs.ranking.ranks_of.Goals as goal
 

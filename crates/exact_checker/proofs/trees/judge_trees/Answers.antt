@@ -3,11 +3,11 @@ use Rattle.std.proofs.lemmas.Result.{IfOk-weaker}
 use Rattle.sight_names.specs.declared.names.Triangle.{Triangle}
 use Rattle.sight_names.specs.Map.{map_of}
 use Rattle.sight_names.specs.Plan.{PlanParts}
-use Rattle.tree_judge.specs.Roots.{AreRoots}
-use Rattle.tri_sectors.specs.Components.{AreComponents}
+use Rattle.cert_checker.specs.TreeJudge.Roots.{AreRoots}
+use Rattle.face_groups.specs.TriSectors.Components.{AreComponents}
 use Rattle.cert_format.specs.Accepted.{triangles_of, labels_of}
-use Rattle.cert_exact.specs.Grammar.{as_two}
-use Rattle.row_judge.specs.Masks.{MaskRows}
+use Rattle.certificates.specs.CertExact.Grammar.{as_two}
+use Rattle.gate_floods.specs.RowJudge.Masks.{MaskRows}
 use Rattle.exact_checker.specs.Owning.{OwningParts, AreRanks}
 use Rattle.exact_checker.specs.Rows.{AreJoinedRows}
 use Rattle.exact_checker.specs.Judged.{AnswersForEach, TellsTrees}

@@ -2,7 +2,7 @@ use Rattle.std.proofs.Common.{Some, None, sym, arith}
 use Rattle.std.proofs.lemmas.Option.{slice_get_read, slice_get_within}
 use Rattle.exact_checker.specs.Judged.{AnswersFor}
 use Rattle.exact_checker.proofs.Judging.{answers_for, tree_more}
-use Rattle.row_judge.specs.Masks.{rows_of}
+use Rattle.gate_floods.specs.RowJudge.Masks.{rows_of}
 use Rattle.exact_checker.specs.Owning.{owning_of}
 use Rattle.exact_checker.proofs.trees.wrong_node.Goals as goal
 

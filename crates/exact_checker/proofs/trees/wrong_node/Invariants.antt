@@ -1,8 +1,8 @@
 use Rattle.std.proofs.Common.{◌≡◌, ℕ, ◌<◌, List, Some, None}
 use Rattle.std.specs.List.{slice_get}
-use Rattle.sight_tree.specs.declared.Node.{Node}
+use Rattle.block_evidence.specs.declared.sight_tree.Node.{Node}
 use Rattle.exact_checker.specs.Judged.{AnswersFor}
-use Rattle.row_judge.specs.Masks.{rows_of}
+use Rattle.gate_floods.specs.RowJudge.Masks.{rows_of}
 use Rattle.exact_checker.specs.Owning.{owning_of}
 use Rattle.exact_checker.proofs.trees.wrong_node.Given as goal
 

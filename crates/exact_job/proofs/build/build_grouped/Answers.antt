@@ -2,14 +2,14 @@ use Rattle.std.proofs.Common.{◌≡◌, ℕ, List, Option, None, length, refl, 
 use Rattle.std.proofs.lemmas.Result.{IfOk-weaker}
 use Rattle.sight_names.specs.declared.names.Triangle.{Triangle}
 use Rattle.sight_names.specs.Map.{map_of}
-use Rattle.half_edges.specs.HalfEdges.{AreHalfEdges}
+use Rattle.mesh_shape.specs.HalfEdges.HalfEdges.{AreHalfEdges}
 use Rattle.cert_format.specs.declared.cert.Sizes.{Sizes}
 use Rattle.cert_format.specs.Sizes.{sizes_of}
 use Rattle.cert_checker.specs.Apart.{labels_in, triangles_in}
 use Rattle.cert_checker.specs.Rays.{AreSightRaysBelow}
-use Rattle.cert_groups.specs.Grammar.{IsTwoInOrder}
-use Rattle.cert_exact.specs.declared.cert.ExactParts.{ExactParts}
-use Rattle.cert_exact.specs.Grammar.{as_two}
+use Rattle.cert_format.specs.CertGroups.Grammar.{IsTwoInOrder}
+use Rattle.certificates.specs.declared.cert_exact.cert.ExactParts.{ExactParts}
+use Rattle.certificates.specs.CertExact.Grammar.{as_two}
 use Rattle.exact_checker.specs.Judged.{IsThreeFor, TellsTrees}
 use Rattle.exact_checker.specs.Rows.{AreJoinedRows}
 use Rattle.exact_job.specs.declared.build.ExactBuilt.{ExactBuilt}

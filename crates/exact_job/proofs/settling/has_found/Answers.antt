@@ -1,7 +1,7 @@
 use Rattle.std.proofs.Common.{◌≡◌, ℕ, ◌<◌, inl, inr, [], Some, length, sym, ap, ◌∙◌, subst, arith}
 use Rattle.std.specs.List.{slice_get}
 use Rattle.std.proofs.lemmas.Option.{same_Some, slice_get_within}
-use Rattle.list_base.proofs.Numbers.{below_or_last}
+use Rattle.math_base.proofs.Numbers.{below_or_last}
 use Rattle.row_trees.specs.declared.made.Made.{Made}
 use Rattle.exact_job.proofs.Rounds.{item_at}
 use Rattle.exact_job.proofs.settling.has_found.Goals as goal

@@ -1,5 +1,5 @@
 use Rattle.std.proofs.Common.{ℕ}
-use Rattle.gate_masks.specs.Words.{HasBit}
+use Rattle.gate_floods.specs.GateMasks.Words.{HasBit}
 use Rattle.group_checker.proofs.Each.{EachBelow}
 use Rattle.exact_job.proofs.table.has_some.Given as goal
 

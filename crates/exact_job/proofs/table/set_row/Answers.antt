@@ -1,5 +1,5 @@
 use Rattle.std.proofs.Common.{sym, ◌∙◌, arith}
-use Rattle.list_base.proofs.Bools.{not_both_values}
+use Rattle.math_base.proofs.Bools.{not_both_values}
 use Rattle.group_job.proofs.Marks.{sets_next, sets_none, sets_one, sets_skip}
 use Rattle.exact_job.proofs.Tables.{RowStep, row_set, step_none, step_set}
 use Rattle.exact_job.proofs.table.set_row.Goals.{then-not-has_some, else-not-has_some}

@@ -3,13 +3,13 @@ use Rattle.std.proofs.lemmas.Result.{IfOk-weaker}
 use Rattle.sight_names.specs.declared.names.PairRay.{PairRay}
 use Rattle.sight_names.specs.Map.{map_of}
 use Rattle.sight_names.specs.Plan.{PlanParts}
-use Rattle.tri_sectors.specs.Components.{AreComponents}
-use Rattle.cert_exact.specs.declared.cert.ExactParts.{ExactParts}
-use Rattle.cert_exact.specs.Grammar.{as_two}
+use Rattle.face_groups.specs.TriSectors.Components.{AreComponents}
+use Rattle.certificates.specs.declared.cert_exact.cert.ExactParts.{ExactParts}
+use Rattle.certificates.specs.CertExact.Grammar.{as_two}
 use Rattle.cert_format.specs.Accepted.{triangles_of, labels_of}
 use Rattle.gate_floods.specs.Exact.{IsClaimed}
-use Rattle.row_judge.specs.Laws.{AreMasks}
-use Rattle.row_judge.specs.Masks.{MaskRows}
+use Rattle.gate_floods.specs.RowJudge.Laws.{AreMasks}
+use Rattle.gate_floods.specs.RowJudge.Masks.{MaskRows}
 use Rattle.row_trees.specs.declared.made.Made.{Made}
 use Rattle.row_trees.specs.Walkable.{Ground, IsWalkable}
 use Rattle.exact_checker.specs.Owning.{AreRanks, OwningParts}

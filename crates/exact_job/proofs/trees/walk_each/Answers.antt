@@ -1,6 +1,6 @@
 use Rattle.std.proofs.Common.{subst}
 use Rattle.exact_checker.specs.Owning.{owning_of}
-use Rattle.row_judge.specs.Masks.{rows_of}
+use Rattle.gate_floods.specs.RowJudge.Masks.{rows_of}
 use Rattle.exact_job.proofs.Making.{owned_walks}
 use Rattle.exact_job.proofs.trees.walk_each.Goals as goal
 

@@ -1,6 +1,6 @@
 use Rattle.std.proofs.Common.{◌≡◌, ℕ, List, length, vec_len, Option, sym, ap, ◌∙◌, subst, arith}
 use Rattle.sight_names.specs.Map.{map_of}
-use Rattle.groups_base.specs.Table.{NamedAreLabelled}
+use Rattle.face_groups.specs.GroupsBase.Table.{NamedAreLabelled}
 use Rattle.face_groups.specs.declared.namings.Naming.{Naming}
 use Rattle.face_groups.specs.Namings.{AreOnFaces}
 use Rattle.face_groups.specs.NamedFaces.{AreListLabels}

@@ -1,5 +1,5 @@
 use Rattle.sight_names.specs.Map.{map_of}
-use Rattle.tri_sectors.proofs.GoodLabels.{marked_faces}
+use Rattle.face_groups.proofs.TriSectors.GoodLabels.{marked_faces}
 use Rattle.face_groups.proofs.Verdicts.{groups_answer}
 use Rattle.face_groups.proofs.grouping.group_map.Goals as goal
 

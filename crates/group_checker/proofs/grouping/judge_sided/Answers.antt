@@ -1,7 +1,7 @@
 use Rattle.std.proofs.Common.{◌∙◌, List, Option, ℕ, length, ap, sym, subst}
 use Rattle.sight_names.specs.Map.{map_of}
 use Rattle.sight_names.specs.Mesh.{label_of}
-use Rattle.groups_base.specs.Table.{NamedAreLabelled}
+use Rattle.face_groups.specs.GroupsBase.Table.{NamedAreLabelled}
 use Rattle.face_groups.specs.Regrouped.{regrouped_plan}
 use Rattle.group_checker.specs.Lists.{IsGroupFault}
 use Rattle.group_checker.proofs.Ending.{fault_told, group_fault_told, named_labelled, plain_is}

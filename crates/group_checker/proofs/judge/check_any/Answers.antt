@@ -1,8 +1,8 @@
 use Rattle.std.proofs.Common.{◌↔◌, sym, subst}
 use Rattle.std.specs.Prelude.{IfOk}
 use Rattle.sight_names.specs.Map.{map_of}
-use Rattle.cert_groups.specs.declared.cert.AnyCert.{AnyCert}
-use Rattle.accepted_groups.specs.Accepted.{IsAcceptedAny}
+use Rattle.cert_format.specs.declared.cert_groups.cert.AnyCert.{AnyCert}
+use Rattle.cert_checker.specs.AcceptedGroups.Accepted.{IsAcceptedAny}
 use Rattle.group_checker.specs.Judged.{IsYesAny}
 use Rattle.group_checker.proofs.judge.check_any.Goals as goal
 

@@ -1,7 +1,7 @@
 use Rattle.std.proofs.Common.{◌↔◌}
 use Rattle.std.proofs.lemmas.Result.{IfOk-weaker}
 use Rattle.sight_names.specs.Map.{map_of}
-use Rattle.accepted_groups.specs.Accepted.{IsAcceptedTwo}
+use Rattle.cert_checker.specs.AcceptedGroups.Accepted.{IsAcceptedTwo}
 use Rattle.cert_checker.specs.Sight.{TellsSight}
 use Rattle.group_checker.specs.Judged.{with_list, IsYesAny, JudgesTwo}
 use Rattle.group_checker.proofs.AcceptingTwo.{yes_exactly_two}

@@ -1,7 +1,7 @@
 use Rattle.std.proofs.Common.{sym, subst}
 use Rattle.std.proofs.lemmas.Result.{IfOk-weaker}
 use Rattle.sight_names.specs.Map.{map_of}
-use Rattle.tree_judge.specs.Trees.{TellsTrees}
+use Rattle.cert_checker.specs.TreeJudge.Trees.{TellsTrees}
 use Rattle.cert_checker.specs.Judged.{IsPairVerdict, JudgesRays}
 use Rattle.cert_checker.proofs.Judging.{rays_at_pairs}
 use Rattle.group_checker.proofs.judge.judge_grouped.Goals as goal

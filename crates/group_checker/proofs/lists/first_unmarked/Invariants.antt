@@ -1,4 +1,4 @@
-use Rattle.tree_judge.specs.Marks.{IsMarked}
+use Rattle.cert_checker.specs.TreeJudge.Marks.{IsMarked}
 use Rattle.group_checker.proofs.Each.{AtEachBelow}
 use Rattle.group_checker.proofs.lists.first_unmarked.Given as goal
 

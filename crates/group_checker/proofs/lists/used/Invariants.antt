@@ -1,5 +1,5 @@
 use Rattle.std.proofs.Common.{◌≡◌, ◌<◌, ◌↔◌, ℕ, length}
-use Rattle.tree_judge.specs.Marks.{IsMarked}
+use Rattle.cert_checker.specs.TreeJudge.Marks.{IsMarked}
 use Rattle.group_checker.specs.Lists.{IsUsedBelow}
 use Rattle.group_checker.proofs.lists.used.Given as goal
 

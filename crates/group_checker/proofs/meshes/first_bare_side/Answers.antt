@@ -1,6 +1,6 @@
 use Rattle.std.proofs.Common.{sym, subst}
 use Rattle.sight_names.specs.Map.{map_of}
-use Rattle.tree_judge.specs.Marks.{HasNoMark}
+use Rattle.cert_checker.specs.TreeJudge.Marks.{HasNoMark}
 use Rattle.group_checker.proofs.Listing.{open_is_bare}
 use Rattle.group_checker.proofs.meshes.first_bare_side.Goals as goal
 

@@ -1,7 +1,7 @@
 use Rattle.std.proofs.Common.{ℕ, List, ap, sym, subst}
 use Rattle.sight_names.specs.declared.names.Pair.{Pair}
 use Rattle.cert_format.specs.declared.cert.Sizes.{Sizes}
-use Rattle.cert_groups.specs.declared.cert.AnyCert.TheVariants.{Two}
+use Rattle.cert_format.specs.declared.cert_groups.cert.AnyCert.TheVariants.{Two}
 use Rattle.group_job.specs.Built.{IsGroupBuild}
 use Rattle.group_job.specs.Sectors.{AreOfSectors, FollowGroups}
 use Rattle.group_job.proofs.Certifying.{is_group_build}

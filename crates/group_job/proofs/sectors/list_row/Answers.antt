@@ -1,5 +1,5 @@
 use Rattle.std.proofs.Common.{◌≡◌, ◌<◌, ℕ, refl, subst, arith}
-use Rattle.list_base.proofs.Bools.{not_both_values}
+use Rattle.math_base.proofs.Bools.{not_both_values}
 use Rattle.group_job.specs.Rows.{ListedBefore}
 use Rattle.group_job.proofs.Rows.{list_push, list_row_end, list_row_start, list_skip}
 use Rattle.group_job.proofs.sectors.list_row.Goals.{then-rejects+then-not-rejects+in_ok-push, else-rejects, else-rejects-via-then-rejects+else-not-rejects, else-rejects-via-else-rejects}

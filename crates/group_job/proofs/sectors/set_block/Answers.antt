@@ -1,7 +1,7 @@
 use Rattle.std.proofs.Common.{◌≡◌, ◌<◌, ℕ, length, get_or, sym, subst, arith}
 use Rattle.std.proofs.lemmas.Option.{slice_get-get_or}
 use Rattle.group_job.specs.Marks.{SetsMore, OfSteps}
-use Rattle.groups_base.proofs.Ordered.{at_contains}
+use Rattle.face_groups.proofs.GroupsBase.Ordered.{at_contains}
 use Rattle.group_job.proofs.Marks.{sets_next}
 use Rattle.group_job.proofs.Steps.{BlockStep, block_set, block_step}
 use Rattle.group_job.proofs.sectors.set_block.Goals as goal

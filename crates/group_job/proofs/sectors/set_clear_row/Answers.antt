@@ -1,6 +1,6 @@
 use Rattle.std.proofs.Common.{◌≡◌, ◌<◌, ◌∙◌, ℕ, List, length, slice_get, Some, Contains, sym, ap, subst, arith}
 use Rattle.std.proofs.lemmas.Option.{slice_get_read}
-use Rattle.list_base.proofs.Bools.{not_both_values}
+use Rattle.math_base.proofs.Bools.{not_both_values}
 use Rattle.group_job.proofs.Marks.{sets_next, sets_skip}
 use Rattle.group_job.proofs.Steps.{ClearStep, clear_row_set, clear_step}
 use Rattle.group_job.proofs.sectors.set_clear_row.Goals.{then-not-rejects, else-not-rejects}

@@ -1,7 +1,7 @@
 use Rattle.std.proofs.Common.{◌≡◌, ◌<◌, ◌∙◌, ℕ, List, length, get_or, slice_get, Some, refl, sym, ap, subst, arith}
 use Rattle.std.proofs.lemmas.Option.{slice_get-get_or, slice_get_read}
 use Rattle.sight_names.specs.declared.names.Pair.{Pair}
-use Rattle.groups_base.proofs.Ordered.{at_contains}
+use Rattle.face_groups.proofs.GroupsBase.Ordered.{at_contains}
 use Rattle.group_job.specs.Marks.{SetsMore, OfSteps}
 use Rattle.group_job.specs.Sectors.{ArePairsBelow}
 use Rattle.group_job.proofs.Marks.{sets_next}

@@ -1,5 +1,5 @@
 use Rattle.std.proofs.Common.{◌≡◌, ◌∙◌, sym, arith}
-use Rattle.list_base.proofs.Bools.{not_both_values}
+use Rattle.math_base.proofs.Bools.{not_both_values}
 use Rattle.group_job.proofs.Marks.{sets_next, sets_one, sets_skip}
 use Rattle.group_job.proofs.Steps.{OtherStep, other_none, other_row_set, other_step}
 use Rattle.group_job.proofs.sectors.set_other_row.Goals.{then-not-rejects, else-not-rejects}

@@ -2,7 +2,7 @@ use Rattle.std.proofs.Common.{◌≡◌, ◌<◌, ◌∙◌, ℕ, length, get_or
 use Rattle.std.proofs.lemmas.Option.{slice_get-get_or}
 use Rattle.group_job.specs.Marks.{SetsMore, OfSteps}
 use Rattle.sight_names.specs.declared.names.Pair.{Pair}
-use Rattle.groups_base.proofs.Ordered.{at_contains}
+use Rattle.face_groups.proofs.GroupsBase.Ordered.{at_contains}
 use Rattle.group_job.proofs.Marks.{sets_next, sets_one, sets_then}
 use Rattle.group_job.proofs.Steps.{PairStep, pair_step, pairs_set}
 use Rattle.group_job.proofs.sectors.set_pairs.Goals as goal

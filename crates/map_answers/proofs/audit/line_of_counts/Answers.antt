@@ -1,6 +1,6 @@
 use Rattle.std.proofs.Common.{codes}
 use Rattle.std.specs.Fmt.{decimal}
-use Rattle.sight_status.proofs.Lines.{four_counts}
+use Rattle.map_answers.proofs.SightStatus.Lines.{four_counts}
 use Rattle.map_answers.proofs.audit.line_of_counts.Goals as goal
 
 pub returns : goal.returns

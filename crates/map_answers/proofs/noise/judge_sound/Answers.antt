@@ -1,7 +1,7 @@
 use Rattle.std.proofs.Common.{List, Bool, subst}
 use Rattle.std.specs.Prelude.{⊤}
 use Rattle.sight_names.specs.Map.{map_of}
-use Rattle.sight_status.specs.Answer.{Gives, line_answer}
+use Rattle.map_answers.specs.SightStatus.Answer.{Gives, line_answer}
 use Rattle.map_answers.specs.Noise.{PairCalls}
 use Rattle.map_answers.proofs.Dampers.{dampers_are, one_each}
 use Rattle.map_answers.proofs.noise.judge_sound.Goals as goal

@@ -1,6 +1,6 @@
 use Rattle.std.proofs.Common.{◌∙◌, Option, option_map, ap, sym}
 use Rattle.sight_names.specs.Map.{MapLine, looked_up}
-use Rattle.sight_laws.proofs.Plans.{line_at_is}
+use Rattle.mesh_base.proofs.SightLaws.Plans.{line_at_is}
 use Rattle.map_picture.specs.Bytes.{mark_over}
 use Rattle.map_picture.proofs.FirstElements.{same_words}
 use Rattle.map_picture.proofs.marks.push_mark.Goals as goal

@@ -1,5 +1,5 @@
 use Rattle.sight_names.specs.Map.{looked_up, map_of}
-use Rattle.sight_laws.proofs.Plans.{line_there}
+use Rattle.mesh_base.proofs.SightLaws.Plans.{line_there}
 use Rattle.map_picture.proofs.FirstElements.{same_words}
 use Rattle.map_picture.proofs.Sights.{first_parted, last_parted, sight_spelled}
 use Rattle.map_picture.proofs.pair.push_sight.Goals as goal

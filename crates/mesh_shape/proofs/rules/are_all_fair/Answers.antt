@@ -4,7 +4,7 @@ use Rattle.mesh_shape.specs.Faults.{IsFairAt}
 use Rattle.mesh_shape.proofs.IndexLemmas.{any_triangle}
 use Rattle.mesh_shape.proofs.RuleLemmas.{behind, everywhere, fair_here}
 use Rattle.mesh_shape.proofs.rules.are_all_fair.Goals as goal
-use Rattle.list_base.proofs.Lists.{item_there}
+use Rattle.math_base.proofs.Lists.{item_there}
 
 pub loop-t-preserved : goal.loop-t-preserved
 loop-t-preserved c = below_more _ _ c.loop-t.invariant (fair_here (map_of c.args.plan.now) c.args.mesh.now.triangles c.loop-t.t-index _ (item_there c.triangles-t-items.result.now c.args.mesh.now.triangles c.loop-t.t-index any_triangle c.triangles-t-items.ensures.list c.loop-t-test.true) (c.is_fair_to_all.ensures c.if-not-is_fair_to_all.false))

@@ -5,7 +5,7 @@ use Rattle.mesh_shape.proofs.IndexLemmas.{any_triangle}
 use Rattle.mesh_shape.proofs.RuleLemmas.{behind, everywhere}
 use Rattle.mesh_shape.proofs.RuleLemmas.{inside_found, empty_here}
 use Rattle.mesh_shape.proofs.rules.first_inside.Goals as goal
-use Rattle.list_base.proofs.Lists.{item_there}
+use Rattle.math_base.proofs.Lists.{item_there}
 
 pub returns-in-Some : goal.returns-in-Some
 returns-in-Some c = inside_found (map_of c.args.plan.now) c.args.mesh.now.triangles c.loop-k.k c.in-Some.point _ (item_there c.triangles-t-items.result.now c.args.mesh.now.triangles c.loop-k.k any_triangle c.triangles-t-items.ensures.list c.loop-k-test.true) c.loop-k.invariant c.in-Some.ensures

@@ -4,7 +4,7 @@ use Rattle.std.proofs.Common.{Option}
 use Rattle.sight_names.specs.declared.plan.Line.{Line}
 use Rattle.mesh_shape.proofs.RuleLemmas.{plan_line_at, line_met}
 use Rattle.mesh_shape.proofs.rules.is_met_fairly.Goals as goal
-use Rattle.list_base.proofs.Lists.{item_there}
+use Rattle.math_base.proofs.Lists.{item_there}
 
 pub edges_meet_fairly-requires-clause-line : goal.edges_meet_fairly-requires-clause-line
 edges_meet_fairly-requires-clause-line c = let there = item_there c.lines.result.now c.args.plan.now.lines c.args.i None c.lines.ensures.list (let e = ap length c.lines.ensures.list in let lt = c.requires.record in omega arith) ∙ ap (λ (o : Option Line). Some o) c.in-Some.is in

@@ -4,7 +4,7 @@ use Rattle.std.proofs.Common.{Option}
 use Rattle.sight_names.specs.declared.plan.Line.{Line}
 use Rattle.mesh_shape.proofs.RuleLemmas.{unfit_side_of}
 use Rattle.mesh_shape.proofs.rules.unfit_side_at.Goals as goal
-use Rattle.list_base.proofs.Lists.{item_there}
+use Rattle.math_base.proofs.Lists.{item_there}
 
 pub returns-in-Some : goal.returns-in-Some
 returns-in-Some c = let there = item_there c.lines.result.now c.args.plan.now.lines c.args.i None c.lines.ensures.list (let e = ap length c.lines.ensures.list in let lt = c.requires.record in omega arith) ∙ ap (λ (o : Option Line). Some o) (c.in-Some.is) in

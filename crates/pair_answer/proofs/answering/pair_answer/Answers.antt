@@ -1,6 +1,6 @@
 use Rattle.std.proofs.Common.{◌∙◌, ℕ, List, Contains, length, ap, sym, subst}
 use Rattle.std.specs.Prelude.{IfOk}
-use Rattle.list_base.proofs.Bools.{not_both_values}
+use Rattle.math_base.proofs.Bools.{not_both_values}
 use Rattle.sight_names.specs.Map.{map_of}
 use Rattle.pair_answer.specs.Answer.{IsAnswerFor}
 use Rattle.pair_answer.specs.Between.{IsBetween}

@@ -1,7 +1,7 @@
 use Rattle.std.proofs.Common.{ℕ, ◌<◌, ◌∙◌, List, Contains, length, ap, sym, subst, eqb}
 use Rattle.std.proofs.lemmas.Bool.{eqb-true}
 use Rattle.std.proofs.lemmas.List.{nil_from_length}
-use Rattle.list_base.proofs.Bools.{not_both_values}
+use Rattle.math_base.proofs.Bools.{not_both_values}
 use Rattle.pair_answer.specs.Places.{AreJoined}
 use Rattle.sight_names.specs.Map.{map_of}
 use Rattle.pair_answer.specs.declared.walks.AllSought.{AllSought}

@@ -1,6 +1,6 @@
 use Rattle.std.proofs.Common.{◌≡◌, ◌∙◌, ℕ, get_or, slice_get, Some, false, refl, sym, ap, arith}
 use Rattle.std.proofs.lemmas.Option.{same_Some, slice_get-get_or}
-use Rattle.list_base.proofs.Bools.{not_both_values}
+use Rattle.math_base.proofs.Bools.{not_both_values}
 use Rattle.sight_names.proofs.Lists.{contains_of_get}
 use Rattle.pair_answer.proofs.Numbers.{none_all, none_next}
 use Rattle.pair_answer.proofs.places.is_joined.Goals as goal

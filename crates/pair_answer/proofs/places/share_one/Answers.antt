@@ -1,6 +1,6 @@
 use Rattle.std.proofs.Common.{ℕ, Contains, get_or, false, refl, arith}
 use Rattle.std.proofs.lemmas.Option.{slice_get-get_or}
-use Rattle.list_base.proofs.Bools.{not_both_values}
+use Rattle.math_base.proofs.Bools.{not_both_values}
 use Rattle.pair_answer.proofs.Numbers.{none_all, none_next}
 use Rattle.pair_answer.proofs.places.share_one.Goals as goal
 

@@ -1,7 +1,7 @@
 use Rattle.std.proofs.Common.{List, refl, sym, ap, ◌∙◌, subst, zero-lt-suc}
 use Rattle.sight_names.specs.declared.names.Pair.{Pair}
-use Rattle.board_core.specs.declared.event.Event.TheVariants.{Claim, Look, Mark, End}
-use Rattle.board_core.specs.Machine.{State, CanStep, after, idle, start, with_claim}
+use Rattle.pair_budget.specs.declared.board_core.event.Event.TheVariants.{Claim, Look, Mark, End}
+use Rattle.pair_budget.specs.BoardCore.Machine.{State, CanStep, after, idle, start, with_claim}
 use Rattle.row_tests.proofs.calls.two_workers_draw_two_sources_and_one_sees_what_the_other_marked.Goals as goal
 
 -- Each event is one that the machine can do: its state is the start after the events before it.

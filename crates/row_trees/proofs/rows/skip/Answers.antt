@@ -1,6 +1,6 @@
 use Rattle.std.proofs.Common.{List, ℕ, subst}
-use Rattle.row_judge.specs.Masks.{rows_of}
-use Rattle.row_judge.specs.Path.{TakesNext}
+use Rattle.gate_floods.specs.RowJudge.Masks.{rows_of}
+use Rattle.gate_floods.specs.RowJudge.Path.{TakesNext}
 use Rattle.row_trees.proofs.Skipping.{skipped}
 use Rattle.row_trees.proofs.rows.skip.Goals as goal
 

@@ -1,6 +1,6 @@
 use Rattle.std.proofs.Common.{◌∙◌, subst}
-use Rattle.row_judge.specs.Judged.{StandsAt}
-use Rattle.row_judge.specs.Masks.{rows_of}
+use Rattle.gate_floods.specs.RowJudge.Judged.{StandsAt}
+use Rattle.gate_floods.specs.RowJudge.Masks.{rows_of}
 use Rattle.row_trees.specs.Walkable.{scene_of}
 use Rattle.row_trees.proofs.Thinning.{stands_thinned}
 use Rattle.row_trees.proofs.Skipping.{some_asked, both_thinned, skip_thinned, less_left}

@@ -1,5 +1,5 @@
 use Rattle.std.specs.Prelude.{◌≡◌}
-use Rattle.row_judge.specs.Masks.{rows_of}
+use Rattle.gate_floods.specs.RowJudge.Masks.{rows_of}
 use Rattle.row_trees.specs.Left.{remaining}
 use Rattle.row_trees.specs.Thinner.{IsPresent}
 use Rattle.row_trees.specs.Walkable.{scene_of}

@@ -1,6 +1,6 @@
 use Rattle.std.specs.Prelude.{◌≡◌, ℕ, ◌+◌, Some, All}
 use Rattle.portal_walk.specs.Nodes.{IsAnswered}
-use Rattle.row_judge.specs.Masks.{rows_of}
+use Rattle.gate_floods.specs.RowJudge.Masks.{rows_of}
 use Rattle.row_trees.specs.Going.{IsGoing}
 use Rattle.row_trees.specs.Left.{remaining}
 use Rattle.row_trees.specs.Made.{IsMadeSoFar}

@@ -1,5 +1,5 @@
 use Rattle.sight_names.specs.Map.{map_of, looked_up}
-use Rattle.sight_laws.proofs.Plans.{line_there}
+use Rattle.mesh_base.proofs.SightLaws.Plans.{line_there}
 use Rattle.sight_ray.proofs.CrossedLineLemmas.{crossed_line_or_none}
 use Rattle.sight_ray.proofs.crossed_line.crossed_line_of.Goals as goal
 

@@ -1,5 +1,5 @@
 use Rattle.sight_names.specs.Map.{map_of, looked_up}
-use Rattle.sight_laws.proofs.Plans.{line_there, no_line_there}
+use Rattle.mesh_base.proofs.SightLaws.Plans.{line_there, no_line_there}
 use Rattle.sight_ray.proofs.HitLemmas.{hit_or_clear, none_clear}
 use Rattle.sight_ray.proofs.CrossedLineLemmas.{not_false}
 use Rattle.sight_ray.proofs.crossed_line.is_hit_at.Goals as goal

@@ -4,7 +4,7 @@ use Rattle.std.proofs.lemmas.Result.{err_from_is_err_and}
 use Rattle.wad_dir.specs.declared.parts.Wad.{Wad}
 use Rattle.wad_dir.specs.Map.{entry_names}
 use Rattle.wad_dir.specs.Wad.{WadFile, file_of, names_of}
-use Rattle.sight_status.specs.Answer.{Makes}
+use Rattle.map_answers.specs.SightStatus.Answer.{Makes}
 use Rattle.sight_run.proofs.Whole.{asked_are_maps, directory_refused, gives_read, gives_unread, names_cause, of_names, of_whole, wad_read, wad_refused, wad_unfetched}
 use Rattle.sight_run.specs.All.{AllCalls, MapsCall, maps_in, wad_in}
 use Rattle.sight_run.specs.Reply.{reply_seen}

@@ -1,6 +1,6 @@
 use Rattle.std.proofs.Common.{List, ℕ, ap, ◌∙◌}
 use Rattle.wad_dir.specs.Map.{entry_names}
-use Rattle.all_maps.specs.Asked.{fault_of}
+use Rattle.wad_dir.specs.AllMaps.Asked.{fault_of}
 use Rattle.sight_run.proofs.AskedNames.{fault_here, fault_more}
 use Rattle.sight_run.proofs.asked.first_fault.Goals as goal
 

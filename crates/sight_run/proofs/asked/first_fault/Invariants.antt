@@ -1,6 +1,6 @@
 use Rattle.std.proofs.Common.{◌≡◌, drop}
 use Rattle.wad_dir.specs.Map.{entry_names}
-use Rattle.all_maps.specs.Asked.{first_fault}
+use Rattle.wad_dir.specs.AllMaps.Asked.{first_fault}
 use Rattle.sight_run.proofs.asked.first_fault.Given as goal
 
 abbrev pub invariant-loop-name : goal.invariant-loop-name

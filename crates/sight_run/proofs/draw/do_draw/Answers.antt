@@ -1,6 +1,6 @@
 use Rattle.std.proofs.Common.{Ok, Err, sym, subst}
 use Rattle.std.proofs.lemmas.Result.{err_from_is_err_and}
-use Rattle.sight_status.specs.Answer.{Answer, Gives}
+use Rattle.map_answers.specs.SightStatus.Answer.{Answer, Gives}
 use Rattle.map_answers.specs.Input.{OnFound}
 use Rattle.map_answers.specs.Views.{found}
 use Rattle.draw_answers.specs.Drawn.{drawing, one_picture}

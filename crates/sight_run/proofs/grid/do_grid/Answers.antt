@@ -3,8 +3,8 @@ use Rattle.std.specs.Prelude.{⊤}
 use Rattle.std.specs.Result.{IsErr, IsErrAnd}
 use Rattle.sight_names.specs.Map.{Map}
 use Rattle.sight_names.specs.declared.names.Method.{Method}
-use Rattle.sight_status.specs.Answer.{Answer, Gives}
-use Rattle.sight_status.specs.declared.status.Status.{Status}
+use Rattle.map_answers.specs.SightStatus.Answer.{Answer, Gives}
+use Rattle.map_answers.specs.declared.sight_status.status.Status.{Status}
 use Rattle.sight_run.specs.Grid.{GridCalls, MadeMapCalls, made_map}
 use Rattle.map_answers.specs.Input.{LocatedMap, OnFound}
 use Rattle.sight_run.specs.declared.reply.Reply.{Reply}

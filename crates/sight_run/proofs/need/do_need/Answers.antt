@@ -1,7 +1,7 @@
 use Rattle.std.proofs.Common.{Ok, Err, sym, subst, string_bytes}
 use Rattle.std.specs.Prelude.{⊤}
 use Rattle.std.proofs.lemmas.Result.{err_from_is_err_and}
-use Rattle.sight_status.specs.Answer.{Answer, Gives, only_line}
+use Rattle.map_answers.specs.SightStatus.Answer.{Answer, Gives, only_line}
 use Rattle.map_answers.specs.Need.{NeedCalls}
 use Rattle.map_answers.specs.Input.{OnFound}
 use Rattle.sight_run.specs.Reading.{found_of}

@@ -1,9 +1,9 @@
 use Rattle.std.proofs.Common.{Ok, Err, sym, subst, string_bytes}
 use Rattle.std.proofs.lemmas.Result.{err_from_is_err_and}
-use Rattle.sight_status.specs.Answer.{Answer, Gives, only_line}
+use Rattle.map_answers.specs.SightStatus.Answer.{Answer, Gives, only_line}
 use Rattle.map_answers.specs.Input.{OnFound}
 use Rattle.map_answers.specs.Views.{found}
-use Rattle.why_answers.specs.Why.{WhyCalls}
+use Rattle.pair_answer.specs.WhyAnswers.Why.{WhyCalls}
 use Rattle.sight_run.specs.Build.{IsUnbuildable}
 use Rattle.sight_run.specs.Reading.{found_of}
 use Rattle.sight_run.proofs.Building.{gives_built}

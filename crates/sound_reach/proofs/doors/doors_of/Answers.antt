@@ -4,7 +4,7 @@ use Rattle.sound_reach.specs.declared.doors.Door.{Door}
 use Rattle.sound_reach.proofs.Adding.{AreDoorsBelow, all_doors, line_added, none_added}
 use Rattle.sound_reach.proofs.doors.doors_of.Goals as goal
 use Rattle.sound_reach.proofs.doors.doors_of.Goals.{in-Some+in_ok-add_doors, in_default}
-use Rattle.list_base.proofs.Lists.{item_there}
+use Rattle.math_base.proofs.Lists.{item_there}
 
 pub loop-i-preserved : goal.loop-i-preserved
 loop-i-preserved c =

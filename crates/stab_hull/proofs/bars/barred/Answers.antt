@@ -1,8 +1,8 @@
 use Rattle.std.proofs.Common.{ℕ, ◌+◌, ◌∷◌, ◌++◌, [], length, sym, ap, subst, arith}
 use Rattle.sight_names.specs.declared.limits.TheConstants.{RIGHT_END}
 use Rattle.sight_names.specs.declared.names.EndAt.{EndAt}
-use Rattle.extreme_lines.specs.declared.cone.Cone.{Cone}
-use Rattle.extreme_lines.specs.Spans.{pair_of}
+use Rattle.geom_exact.specs.declared.extreme_lines.cone.Cone.{Cone}
+use Rattle.geom_exact.specs.ExtremeLines.Spans.{pair_of}
 use Rattle.block_evidence.specs.OneTurn.{BarsRight, BarsLeft}
 use Rattle.block_evidence.specs.Picked.{Picks}
 use Rattle.stab_hull.specs.Answer.{IsBarredBy}

@@ -1,7 +1,7 @@
 use Rattle.std.proofs.Common.{arith, ◌≡◌, length, sym, ◌∙◌, subst}
 use Rattle.std.proofs.lemmas.Grind.{common_steps}
-use Rattle.extreme_lines.specs.declared.cone.Cone.{Cone}
-use Rattle.extreme_lines.specs.Spans.{pair_of}
+use Rattle.geom_exact.specs.declared.extreme_lines.cone.Cone.{Cone}
+use Rattle.geom_exact.specs.ExtremeLines.Spans.{pair_of}
 use Rattle.stab_hull.specs.Portals.{portals_of, IsConeOf}
 use Rattle.stab_hull.proofs.Barring.{lines, left_before}
 use Rattle.stab_hull.proofs.HistoryLemmas.{as_many}

@@ -1,8 +1,8 @@
 use Rattle.std.proofs.Common.{arith, ◌≡◌, ◌+◌, length, sym, ap, ◌∙◌, subst}
 use Rattle.std.proofs.lemmas.Grind.{common_steps}
 use Rattle.sight_names.specs.declared.limits.TheConstants.{RIGHT_END}
-use Rattle.extreme_lines.specs.declared.cone.Cone.{Cone}
-use Rattle.extreme_lines.specs.Spans.{pair_of}
+use Rattle.geom_exact.specs.declared.extreme_lines.cone.Cone.{Cone}
+use Rattle.geom_exact.specs.ExtremeLines.Spans.{pair_of}
 use Rattle.stab_hull.specs.Portals.{portals_of, IsConeOf}
 use Rattle.stab_hull.proofs.Barring.{lines, right_before}
 use Rattle.stab_hull.proofs.HistoryLemmas.{as_many}

@@ -1,9 +1,9 @@
 use Rattle.std.proofs.Common.{arith, get_or, refl, ap, sym, ◌∙◌}
 use Rattle.std.proofs.lemmas.Int.{ints}
 use Rattle.std.proofs.lemmas.Option.{slice_get-get_or}
-use Rattle.extreme_lines.specs.declared.extreme.Extreme.{Extreme}
-use Rattle.extreme_lines.specs.declared.cone.Cone.TheVariants.{Open}
-use Rattle.extreme_lines.specs.Spans.{form_at}
+use Rattle.geom_exact.specs.declared.extreme_lines.extreme.Extreme.{Extreme}
+use Rattle.geom_exact.specs.declared.extreme_lines.cone.Cone.TheVariants.{Open}
+use Rattle.geom_exact.specs.ExtremeLines.Spans.{form_at}
 use Rattle.stab_hull.proofs.StepLemmas.{no_end, right_start, right_more, right_whole}
 use Rattle.stab_hull.proofs.OneLine.{held, held_small, beyond_second_right, turn_is, level_right}
 use Rattle.stab_hull.proofs.step.first_to_right.Goals as goal

@@ -1,8 +1,8 @@
 use Rattle.std.proofs.Common.{arith, get_or, refl, sym, ◌∙◌, subst, to_z, w64}
 use Rattle.std.proofs.lemmas.Int.{ints}
 use Rattle.std.proofs.lemmas.Option.{slice_get-get_or}
-use Rattle.extreme_lines.specs.declared.extreme.Extreme.{Extreme}
-use Rattle.extreme_lines.specs.declared.cone.Cone.TheVariants.{Open}
+use Rattle.geom_exact.specs.declared.extreme_lines.extreme.Extreme.{Extreme}
+use Rattle.geom_exact.specs.declared.extreme_lines.cone.Cone.TheVariants.{Open}
 use Rattle.stab_hull.proofs.StepLemmas.{no_end, right_start, right_more, right_whole}
 use Rattle.stab_hull.proofs.OneLine.{beyond_first_right, level_right}
 use Rattle.stab_hull.proofs.Scanning.{IsSlopeOf, IsLevelAt, level_at, kept_level, level_on, turn_by, right_passed}

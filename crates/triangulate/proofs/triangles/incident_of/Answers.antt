@@ -1,9 +1,9 @@
 use Rattle.std.proofs.Common.{◌<◌, ◌++◌, ◌∷◌, [], ◌∙◌, subst, sym, ap, ℕ, List, get_or, map}
 use Rattle.std.proofs.lemmas.List.{take_more, take_all}
-use Rattle.incident_segments.specs.declared.segments.Segment.{Segment}
-use Rattle.incident_segments.specs.Kept.{edge_of}
-use Rattle.incident_segments.specs.Incident.{IncidentParts}
-use Rattle.incident_segments.proofs.KeptEdges.{edge_there, any_segment}
+use Rattle.triangulate.specs.declared.incident_segments.segments.Segment.{Segment}
+use Rattle.triangulate.specs.IncidentSegments.Kept.{edge_of}
+use Rattle.triangulate.specs.IncidentSegments.Incident.{IncidentParts}
+use Rattle.triangulate.proofs.IncidentSegments.KeptEdges.{edge_there, any_segment}
 use Rattle.triangulate.proofs.triangles.incident_of.Goals as goal
 
 pub push-requires-clause-from : goal.push-requires-clause-from

@@ -1,10 +1,10 @@
 use Rattle.std.proofs.Common.{arith, ap, length, List}
 use Rattle.sight_names.specs.Map.{map_of}
-use Rattle.incident_segments.specs.declared.segments.Segment.{Segment}
-use Rattle.incident_segments.proofs.KeptEdges.{any_segment}
+use Rattle.triangulate.specs.declared.incident_segments.segments.Segment.{Segment}
+use Rattle.triangulate.proofs.IncidentSegments.KeptEdges.{any_segment}
 use Rattle.triangulate.proofs.LeftTriangles.{left_more, left_all, left_numbers}
 use Rattle.triangulate.proofs.triangles.triangles_of.Goals as goal
-use Rattle.list_base.proofs.Lists.{item_there}
+use Rattle.math_base.proofs.Lists.{item_there}
 
 pub loop-segment-preserved : goal.loop-segment-preserved
 loop-segment-preserved c = left_more (map_of c.args.plan.now) c.args.incident.now.segments c.loop-segment.segment-index c.args.incident.now.points _ c.loop-segment.triangles.items c.add_left.new.triangles.items c.add_left-in-loop-segment.new.triangles.items

@@ -1,11 +1,11 @@
 use Rattle.std.proofs.Common.{◌≡◌, ◌∙◌, ℕ, List, length, arith, ap, subst, sym}
 use Rattle.wad_dir.specs.Map.{entry_names}
 use Rattle.wad_dir.specs.Wad.{file_of}
-use Rattle.wad_rewrite.specs.Rewrite.{printed}
-use Rattle.all_maps.specs.declared.parts.Change.{Change}
-use Rattle.all_maps.specs.All.{HasInOrder, names_changed, with_all}
-use Rattle.all_maps.specs.Maps.{maps_of}
-use Rattle.all_maps.proofs.InOrder.{in_order_through, named_in_order}
+use Rattle.wad_dir.specs.WadRewrite.Rewrite.{printed}
+use Rattle.wad_dir.specs.declared.all_maps.parts.Change.{Change}
+use Rattle.wad_dir.specs.AllMaps.All.{HasInOrder, names_changed, with_all}
+use Rattle.wad_dir.specs.AllMaps.Maps.{maps_of}
+use Rattle.wad_dir.proofs.AllMaps.InOrder.{in_order_through, named_in_order}
 use Rattle.whole_wad.specs.Outcomes.{changes_of}
 use Rattle.whole_wad.proofs.Changing.{as_many, changed_in_order, no_more, the_rest}
 use Rattle.whole_wad.proofs.whole.build_wad.Goals as goal

@@ -1,7 +1,7 @@
 use Rattle.std.proofs.Common.{refl, ◌∙◌, subst, List}
 use Rattle.std.specs.List.{AllByRecursion}
 use Rattle.sight_names.specs.declared.names.PairRay.{PairRay}
-use Rattle.sight_tree.specs.declared.Tree.{Tree}
+use Rattle.block_evidence.specs.declared.sight_tree.Tree.{Tree}
 use Rattle.cert_format.specs.Grammar.{FitsPairRay, FitsTree}
 use Rattle.cert_format.proofs.PieceLaws.{whole}
 use Rattle.cert_format.proofs.pieces.Printer.new.Goals as goal

@@ -1,7 +1,7 @@
 use Rattle.std.proofs.Common.{subst}
 use Rattle.cert_format.specs.Sizes.{sizes_of}
-use Rattle.cert_groups.specs.Reading.{any_at}
-use Rattle.cert_parts.specs.Parts.{any_parts_of}
+use Rattle.cert_format.specs.CertGroups.Reading.{any_at}
+use Rattle.certificates.specs.CertParts.Parts.{any_parts_of}
 use Rattle.cert_judge.specs.Course.{IsAsked, IsOnCourse}
 use Rattle.cert_judge.specs.Judged.{IsVerdictOf}
 use Rattle.cert_judge.proofs.Endings.{unread_told}

@@ -1,8 +1,8 @@
 use Rattle.std.proofs.Common.{[]}
 use Rattle.std.proofs.lemmas.Option.{MatchOption-at_none, MatchOption-at_some}
 use Rattle.cert_format.specs.Sizes.{sizes_of}
-use Rattle.cert_groups.specs.Reading.{any_at}
-use Rattle.cert_parts.specs.Parts.{any_parts_of}
+use Rattle.cert_format.specs.CertGroups.Reading.{any_at}
+use Rattle.certificates.specs.CertParts.Parts.{any_parts_of}
 use Rattle.cert_judge.specs.Intake.{IsGoingOn, AreRefused}
 use Rattle.cert_judge.specs.Judged.{IsVerdictOf}
 use Rattle.cert_judge.proofs.Intakes.{refused_whole, same_fits, read_at_end}

@@ -1,7 +1,7 @@
 use Rattle.std.proofs.Common.{◌≡◌, ℕ, List, None, length}
 use Rattle.sight_names.specs.Plan.{PlanParts}
 use Rattle.reject_bits.specs.Parts.{TableParts}
-use Rattle.cert_parts.specs.Left.{IsCountable}
+use Rattle.certificates.specs.CertParts.Left.{IsCountable}
 use Rattle.cert_judge.specs.Intake.{IsGoingOn}
 use Rattle.cert_judge.proofs.intake.Intake.take_all.Given as goal
 

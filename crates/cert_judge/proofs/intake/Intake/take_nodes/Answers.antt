@@ -1,6 +1,6 @@
 use Rattle.std.proofs.Common.{◌≡◌, ◌+◌, ◌-◌, ◌<◌, ◌≤◌, ◌^◌, length, ap, arith}
-use Rattle.cert_parts.specs.Left.{ReaderState}
-use Rattle.cert_parts.proofs.Stretches.{reads_within}
+use Rattle.certificates.specs.CertParts.Left.{ReaderState}
+use Rattle.certificates.proofs.CertParts.Stretches.{reads_within}
 use Rattle.cert_judge.proofs.Intakes.{nodes_taken}
 use Rattle.cert_judge.proofs.intake.Intake.take_nodes.Goals as goal
 

@@ -1,8 +1,8 @@
 use Rattle.std.proofs.Common.{◌++◌, [], Option, ap, refl, sym, subst, ◌∙◌}
 use Rattle.std.specs.Prelude.{MatchOption}
 use Rattle.sight_names.specs.declared.faults.CertFault.{CertFault}
-use Rattle.cert_parts.specs.declared.part.Part.{Part}
-use Rattle.cert_parts.specs.Left.{parts_left, put_before}
+use Rattle.certificates.specs.declared.cert_parts.part.Part.{Part}
+use Rattle.certificates.specs.CertParts.Left.{parts_left, put_before}
 use Rattle.cert_judge.specs.Intake.{AreRefused, IsGoingOn}
 use Rattle.cert_judge.proofs.Intakes.{all_taken, fault_taken, part_taken}
 use Rattle.cert_judge.proofs.intake.Intake.take_one.Goals as goal

@@ -1,8 +1,8 @@
 use Rattle.std.proofs.Common.{◌↔◌}
 use Rattle.sight_names.specs.Map.{map_of}
 use Rattle.cert_format.specs.Sizes.{sizes_of}
-use Rattle.cert_groups.specs.Reading.{any_at}
-use Rattle.accepted_groups.specs.Accepted.{IsAcceptedAny}
+use Rattle.cert_format.specs.CertGroups.Reading.{any_at}
+use Rattle.cert_checker.specs.AcceptedGroups.Accepted.{IsAcceptedAny}
 use Rattle.group_checker.specs.Judged.{IsYesAny, JudgesAny, TellsSightAny}
 use Rattle.cert_judge.specs.Judged.{IsVerdictOf}
 use Rattle.cert_judge.proofs.Endings.{weaker, accepted_by, tells_by}

@@ -1,7 +1,7 @@
 use Rattle.std.proofs.Common.{List, sym, subst}
 use Rattle.std.proofs.lemmas.List.{append-nil}
-use Rattle.cert_parts.specs.declared.part.Part.{Part}
-use Rattle.cert_parts.proofs.Stretches.{takes_none, takes_weaker}
+use Rattle.certificates.specs.declared.cert_parts.part.Part.{Part}
+use Rattle.certificates.proofs.CertParts.Stretches.{takes_none, takes_weaker}
 use Rattle.cert_judge.specs.Heard.{Heard, nothing, node_parts, heard_from}
 use Rattle.cert_judge.specs.Judging.{IsKept, HasHeard}
 use Rattle.cert_judge.proofs.AllHeard.{heard_both}

@@ -1,6 +1,6 @@
 use Rattle.std.proofs.Common.{refl, sym, subst}
 use Rattle.std.specs.Prelude.{IfOk}
-use Rattle.cert_parts.specs.declared.part.Part.{Part}
+use Rattle.certificates.specs.declared.cert_parts.part.Part.{Part}
 use Rattle.cert_judge.specs.Heard.{closed_at, with_part}
 use Rattle.cert_judge.specs.Judging.{IsKept}
 use Rattle.cert_judge.proofs.kept.Kept.hear.Goals as goal

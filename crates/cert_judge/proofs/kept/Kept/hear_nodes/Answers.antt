@@ -1,5 +1,5 @@
 use Rattle.std.proofs.Common.{sym, ◌∙◌}
-use Rattle.cert_parts.proofs.Stretches.{takes_weaker}
+use Rattle.certificates.proofs.CertParts.Stretches.{takes_weaker}
 use Rattle.cert_judge.proofs.AllHeard.{same_triangles, same_rays, same_listed}
 use Rattle.cert_judge.proofs.kept.Kept.hear_nodes.Goals as goal
 

@@ -1,6 +1,6 @@
 use Rattle.std.specs.Prelude.{option_map}
 use Rattle.std.proofs.lemmas.Result.{IfOk-weaker}
-use Rattle.tree_judge.specs.Walked.{with_node}
+use Rattle.cert_checker.specs.TreeJudge.Walked.{with_node}
 use Rattle.cert_judge.specs.OnGround.{IsOnGround, plan_under}
 use Rattle.cert_judge.specs.OnMesh.{IsOnMesh}
 use Rattle.cert_judge.proofs.on_ground.OnGround.hear_node.Goals as goal

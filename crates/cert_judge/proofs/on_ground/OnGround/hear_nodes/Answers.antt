@@ -1,4 +1,4 @@
-use Rattle.cert_parts.proofs.Stretches.{takes_weaker}
+use Rattle.certificates.proofs.CertParts.Stretches.{takes_weaker}
 use Rattle.cert_judge.specs.OnGround.{plan_under}
 use Rattle.cert_judge.proofs.on_ground.OnGround.hear_nodes.Goals as goal
 

@@ -1,9 +1,9 @@
-use Rattle.list_base.proofs.Options.{none_where_not_some}
+use Rattle.math_base.proofs.Options.{none_where_not_some}
 use Rattle.std.specs.Prelude.{option_map}
 use Rattle.std.proofs.lemmas.Result.{IfOk-weaker}
 use Rattle.sight_names.specs.Map.{map_of}
-use Rattle.tree_judge.specs.Heard.{HasHeardTrees}
-use Rattle.tree_judge.specs.Walked.{with_node}
+use Rattle.cert_checker.specs.TreeJudge.Heard.{HasHeardTrees}
+use Rattle.cert_checker.specs.TreeJudge.Walked.{with_node}
 use Rattle.cert_checker.specs.Apart.{triangles_in}
 use Rattle.cert_judge.specs.OnMesh.{IsOnMesh}
 use Rattle.cert_judge.proofs.on_mesh.OnMesh.hear_node.Goals as goal

@@ -1,7 +1,7 @@
 use Rattle.std.specs.Prelude.{option_map}
 use Rattle.sight_names.specs.Map.{map_of}
-use Rattle.tree_judge.specs.Walked.{with_nodes}
-use Rattle.cert_parts.proofs.Stretches.{takes_weaker}
+use Rattle.cert_checker.specs.TreeJudge.Walked.{with_nodes}
+use Rattle.certificates.proofs.CertParts.Stretches.{takes_weaker}
 use Rattle.cert_checker.specs.Apart.{triangles_in}
 use Rattle.cert_judge.proofs.OnMeshes.{with_nodes_behind_wrong}
 use Rattle.cert_judge.proofs.on_mesh.OnMesh.hear_nodes.Goals as goal

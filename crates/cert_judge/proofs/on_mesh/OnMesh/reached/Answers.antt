@@ -1,7 +1,7 @@
 use Rattle.std.proofs.Common.{length, sym, subst}
 use Rattle.std.proofs.lemmas.Option.{MatchOption-at_none}
 use Rattle.sight_names.specs.Map.{map_of}
-use Rattle.tree_judge.specs.Trees.{TellsTrees}
+use Rattle.cert_checker.specs.TreeJudge.Trees.{TellsTrees}
 use Rattle.cert_checker.specs.Apart.{triangles_in}
 use Rattle.cert_checker.specs.Rays.{AreSightRaysBelow}
 use Rattle.cert_judge.specs.OnMesh.{IsRayFaultIn}

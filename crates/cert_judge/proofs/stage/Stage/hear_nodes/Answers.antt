@@ -1,5 +1,5 @@
 use Rattle.std.proofs.Common.{sym, subst}
-use Rattle.cert_parts.proofs.Stretches.{takes_weaker}
+use Rattle.certificates.proofs.CertParts.Stretches.{takes_weaker}
 use Rattle.cert_judge.specs.Heard.{node_parts, heard_from}
 use Rattle.cert_judge.specs.Stage.{IsStage}
 use Rattle.cert_judge.proofs.Stages.{good_with_nodes, lost_with_nodes, broken_with_nodes}

@@ -1,7 +1,7 @@
 use Rattle.std.proofs.Common.{ℕ, sym, subst}
 use Rattle.std.specs.Prelude.{IfOk}
 use Rattle.exact_checker.specs.Owning.{owning_of}
-use Rattle.row_judge.specs.Masks.{rows_of}
+use Rattle.gate_floods.specs.RowJudge.Masks.{rows_of}
 use Rattle.row_trees.specs.Walkable.{IsWalkable}
 use Rattle.exact_job.specs.Trees.{IsOwnedWalk}
 use Rattle.exact_job.proofs.Making.{owned_walk}

@@ -8,7 +8,7 @@ use Rattle.pair_budget.specs.Walked.{IsReachedFrom}
 use Rattle.pair_budget.specs.Whole.{IsFound}
 use Rattle.pair_budget.proofs.OneMore.{with_one_more}
 use Rattle.pair_budget.proofs.found_sectors.FoundSectors.add.Goals as goal
-use Rattle.list_base.proofs.Lists.{contains_pushed}
+use Rattle.math_base.proofs.Lists.{contains_pushed}
 
 pub invariant_of-self-2 : goal.invariant_of-self-2
 invariant_of-self-2 c =

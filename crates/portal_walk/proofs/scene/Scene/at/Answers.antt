@@ -1,5 +1,5 @@
 use Rattle.std.proofs.Common.{ap, ◌∙◌, subst}
-use Rattle.half_edges.specs.HalfEdges.{way_outside}
+use Rattle.mesh_shape.specs.HalfEdges.HalfEdges.{way_outside}
 use Rattle.portal_walk.specs.Scene.{SceneParts, Finds}
 use Rattle.portal_walk.proofs.Portals.{found_behind}
 use Rattle.portal_walk.proofs.scene.Scene.at.Goals as goal

@@ -1,5 +1,5 @@
 use Rattle.std.proofs.Common.{◌≡◌, Some, slice_get, sym, ap, ◌∙◌, subst}
-use Rattle.half_edges.specs.HalfEdges.{way_outside}
+use Rattle.mesh_shape.specs.HalfEdges.HalfEdges.{way_outside}
 use Rattle.portal_walk.specs.Scene.{SceneParts, FindsWay, IsNumber}
 use Rattle.portal_walk.proofs.Portals.{found_on}
 use Rattle.portal_walk.proofs.scene.Scene.way.Goals as goal

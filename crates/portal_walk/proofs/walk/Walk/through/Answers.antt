@@ -1,5 +1,5 @@
 use Rattle.std.proofs.Common.{map, reverse, None, sym, ap, ◌∙◌, subst}
-use Rattle.sequence_laws.specs.Ways.{root_alone}
+use Rattle.sight_lift.specs.SequenceLaws.Ways.{root_alone}
 use Rattle.portal_walk.proofs.RootOrder.{alone_each}
 use Rattle.portal_walk.specs.Frames.{PathParts}
 use Rattle.portal_walk.specs.Scene.{SceneParts}

@@ -1,6 +1,6 @@
 use Rattle.std.proofs.Common.{◌≡◌, ◌-◌, List, Some, None, Ok, Err, refl, sym, ap, ◌∙◌, subst, arith, length, slice_get}
 use Rattle.std.proofs.lemmas.Result.{err_from_is_err_and}
-use Rattle.sight_tree.specs.declared.Node.{Node}
+use Rattle.block_evidence.specs.declared.sight_tree.Node.{Node}
 use Rattle.portal_walk.specs.declared.path.Frame.{Frame}
 use Rattle.portal_walk.specs.declared.path.Ways.TheVariants.{Both}
 use Rattle.portal_walk.specs.declared.roots.Root.{Root}

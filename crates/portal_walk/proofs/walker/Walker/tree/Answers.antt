@@ -1,6 +1,6 @@
 use Rattle.std.proofs.Common.{◌≡◌, ℕ, List, sym, subst}
 use Rattle.sight_names.specs.Map.{map_of}
-use Rattle.sight_tree.specs.WholeTree.{IsWholeTree}
+use Rattle.block_evidence.specs.SightTree.WholeTree.{IsWholeTree}
 use Rattle.portal_walk.specs.Walk.{WalkParts, remaining}
 use Rattle.portal_walk.proofs.Answering.{whole_tree}
 use Rattle.portal_walk.proofs.walker.Walker.tree.Goals as goal

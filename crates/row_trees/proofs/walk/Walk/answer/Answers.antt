@@ -1,9 +1,9 @@
 use Rattle.std.proofs.Common.{List, All, sym, subst}
 use Rattle.std.proofs.lemmas.List.Elements.{All-push}
-use Rattle.sight_tree.specs.declared.Node.{Node}
+use Rattle.block_evidence.specs.declared.sight_tree.Node.{Node}
 use Rattle.portal_walk.specs.Nodes.{IsAnswered}
-use Rattle.row_judge.specs.Judged.{tree_of, IsWalked}
-use Rattle.row_judge.specs.Masks.{rows_of}
+use Rattle.gate_floods.specs.RowJudge.Judged.{tree_of, IsWalked}
+use Rattle.gate_floods.specs.RowJudge.Masks.{rows_of}
 use Rattle.row_trees.proofs.walk.Walk.answer.Goals as goal
 
 pub returns-in_ok-push-clause-made : goal.returns-in_ok-push-clause-made

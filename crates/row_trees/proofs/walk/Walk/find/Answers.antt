@@ -1,6 +1,6 @@
 use Rattle.std.proofs.Common.{List, subst, sym, ◌∙◌}
 use Rattle.pair_budget.specs.declared.results.Reached.{Reached}
-use Rattle.row_judge.specs.Words.{row_at}
+use Rattle.gate_floods.specs.RowJudge.Words.{row_at}
 use Rattle.row_trees.specs.Going.{IsTried}
 use Rattle.row_trees.specs.Walkable.{scene_of}
 use Rattle.row_trees.proofs.Thin.{out_of}

@@ -1,8 +1,8 @@
 use Rattle.std.proofs.Common.{subst, ◌∙◌, length, ◌+◌, ◌++◌, ◌∷◌, []}
 use Rattle.portal_walk.specs.Walk.{ends_of}
 use Rattle.sight_names.specs.Splitting.{IsSplittable}
-use Rattle.row_judge.specs.Asked.{ways_through}
-use Rattle.row_judge.proofs.Telling.{all_ok}
+use Rattle.gate_floods.specs.RowJudge.Asked.{ways_through}
+use Rattle.gate_floods.proofs.RowJudge.Telling.{all_ok}
 use Rattle.row_trees.specs.Going.{IsAfter}
 use Rattle.row_trees.specs.Walkable.{scene_of}
 use Rattle.row_trees.proofs.Going.{head_of, open_right, opened, after_moved}

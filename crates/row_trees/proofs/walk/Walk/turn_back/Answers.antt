@@ -1,6 +1,6 @@
 use Rattle.std.proofs.Common.{subst, length, ◌+◌}
-use Rattle.row_judge.specs.Judged.{StandsAt}
-use Rattle.row_judge.proofs.Telling.{all_ok}
+use Rattle.gate_floods.specs.RowJudge.Judged.{StandsAt}
+use Rattle.gate_floods.proofs.RowJudge.Telling.{all_ok}
 use Rattle.row_trees.specs.Going.{IsAfter}
 use Rattle.row_trees.specs.Walkable.{scene_of}
 use Rattle.row_trees.proofs.Going.{head_of, blocked_right, turned, after_moved}

@@ -1,4 +1,4 @@
-use Rattle.extreme_lines.proofs.Widening.{long_of_different}
+use Rattle.geom_exact.proofs.ExtremeLines.Widening.{long_of_different}
 use Rattle.stab_hull.proofs.StepLemmas.{top_first}
 use Rattle.stab_hull.proofs.hull.Hull.begin.Goals as goal
 

@@ -1,2 +1,0 @@
-//! What an accepted certificate of version 2 is. Builder and checker both cite it.
-#![tactic(auto)]

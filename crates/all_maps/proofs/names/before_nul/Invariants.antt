@@ -1,6 +1,0 @@
-use Rattle.std.proofs.Common.{◌≡◌, ◌++◌, drop, take}
-use Rattle.all_maps.specs.Names.{word_of}
-use Rattle.all_maps.proofs.names.before_nul.Given as goal
-
-abbrev pub invariant-loop-k : goal.invariant-loop-k
-invariant-loop-k l = word_of l.name ≡ take l.k l.name ++ word_of (drop l.k l.name)

@@ -1,0 +1,120 @@
+-- What has become of the bytes, from part to part and from piece to piece, and what comes of them at the end.
+use Rattle.std.proofs.Common.{◌≡◌, ℕ, suc, ◌+◌, ◌<◌, ◌^◌, List, [], ◌∷◌, ◌++◌, length, Some, Result, Ok, Err, refl, sym, ap, subst, ◌∙◌, append_assoc, arith}
+use Rattle.std.specs.List.{AllByRecursion}
+use Rattle.std.proofs.lemmas.List.{append-nil, length-append}
+use Rattle.sight_names.specs.declared.faults.CertFault.{CertFault}
+use Rattle.sight_names.specs.Plan.{PlanParts}
+use Rattle.block_evidence.specs.declared.sight_tree.Node.{Node}
+use Rattle.reject_bits.specs.Parts.{TableParts}
+use Rattle.cert_format.specs.Grammar.{FitsTree}
+use Rattle.cert_format.specs.Sizes.{sizes_of}
+use Rattle.cert_format.proofs.FieldLaws.{bind_ok, ok_is}
+use Rattle.certificates.specs.declared.cert_exact.cert.ExactParts.{ExactParts}
+use Rattle.certificates.specs.CertExact.Grammar.{SpellsThree, trees_from}
+use Rattle.certificates.specs.CertExact.Reading.{exact_at}
+use Rattle.certificates.proofs.CertExact.ExactLaws.{exact_takes}
+use Rattle.cert_judge.specs.Intake.{AreBytes}
+use Rattle.cert_judge.proofs.Intakes.{bytes_more}
+use Rattle.certificates.specs.declared.exact_parts.part.Part.{Part}
+use Rattle.certificates.specs.ExactParts.Parts.{ThreeParts, three_parts_of, reading_three_parts}
+use Rattle.certificates.specs.ExactParts.Left.{parts_left, put_before}
+use Rattle.any_judge.specs.declared.exact_judge.intake.Intake.{Intake}
+use Rattle.any_judge.specs.ExactJudge.Heard.{Groups}
+use Rattle.any_judge.specs.ExactJudge.Judging.{HasHeard, HasHeardAll, IsCertOf}
+use Rattle.any_judge.specs.ExactJudge.Intake.{put_all, IsGoingOn, AreRefused}
+
+-- ---- parts, one behind the other
+
+abbrev all_read : Groups → List Part → Result ThreeParts CertFault
+all_read groups parts = Ok (groups, parts)
+
+put_one_more : (groups : Groups) (parts : List Part) (part : Part) (left : Result (List Part) CertFault) → put_all groups (parts ++ part ∷ []) left ≡ put_all groups parts (put_before (Some part) left)
+put_one_more groups parts part (Ok others) = ap (all_read groups) (append_assoc parts (part ∷ []) others)
+put_one_more groups parts part (Err f) = refl
+
+module _ (p : PlanParts) (t : TableParts) (bytes rest : List ℕ) (k : Intake) (w : IsGoingOn p t bytes rest k) where
+  -- the next part was read and heard
+  pub part_taken : (part : Part) (behind : List ℕ) (new : Intake) → ((more : List ℕ) → parts_left k.reader (rest ++ more) ≡ put_before (Some part) (parts_left new.reader (behind ++ more)))
+      → new.reader.given + length behind ≡ k.reader.given + length rest → HasHeard p t w.groups (w.parts ++ part ∷ []) new.judging → IsGoingOn p t bytes behind new
+  part_taken part behind new told given heard = record {
+    small = w.small;
+    fit = w.fit;
+    groups = w.groups;
+    parts = w.parts ++ part ∷ [];
+    heard = heard;
+    given = given ∙ w.given;
+    left = λ more. w.left more ∙ ap (put_all w.groups w.parts) (told more) ∙ sym (put_one_more w.groups w.parts part (parts_left new.reader (behind ++ more)));
+  }
+
+  -- or all bytes were taken
+  pub all_taken : (behind : List ℕ) (new : Intake) → ((more : List ℕ) → parts_left k.reader (rest ++ more) ≡ parts_left new.reader (behind ++ more)) → behind ≡ [] → new.reader.given + length behind ≡ k.reader.given + length rest → new.judging ≡ k.judging → IsGoingOn p t bytes [] new
+  all_taken behind new told none given same = record {
+    small = w.small;
+    fit = w.fit;
+    groups = w.groups;
+    parts = w.parts;
+    heard = subst (HasHeard p t w.groups w.parts) (sym same) w.heard;
+    given = ap (λ (b : List ℕ). new.reader.given + length b) (sym none) ∙ given ∙ w.given;
+    left = λ more. w.left more ∙ ap (put_all w.groups w.parts) (told more ∙ ap (λ (b : List ℕ). parts_left new.reader (b ++ more)) none);
+  }
+
+  -- or a fault was met
+  pub fault_taken : (f : CertFault) → ((more : List ℕ) → parts_left k.reader (rest ++ more) ≡ Err f) → AreRefused p bytes f
+  fault_taken f told more = w.left more ∙ ap (put_all w.groups w.parts) (told more)
+
+-- ---- a piece comes
+
+pub piece_comes : (p : PlanParts) (t : TableParts) (bytes piece : List ℕ) (k : Intake) → AreBytes piece → IsGoingOn p t bytes [] k → IsGoingOn p t (bytes ++ piece) piece k
+piece_comes p t bytes piece k fit w = record {
+  small = w.small;
+  fit = bytes_more bytes piece w.fit fit;
+  groups = w.groups;
+  parts = w.parts;
+  heard = w.heard;
+  given = omega (arith, w.given, length-append bytes piece);
+  left = λ more. ap (reading_three_parts (sizes_of p)) (append_assoc bytes piece more) ∙ w.left (piece ++ more);
+}
+
+-- ---- at the end
+
+-- what is said whatever bytes come is said of these
+pub refused_whole : (p : PlanParts) (bytes : List ℕ) (f : CertFault) → AreRefused p bytes f → reading_three_parts (sizes_of p) bytes ≡ Err f
+refused_whole p bytes f w = ap (reading_three_parts (sizes_of p)) (sym (append-nil bytes)) ∙ w []
+
+-- there is but one plan and one table
+pub same_fits : (p q : PlanParts) (t u : TableParts) (bytes others : List ℕ) (k : Intake) → IsGoingOn p t bytes [] k → IsGoingOn q u others [] k → u.n ≡ q.sectors → t.n ≡ p.sectors
+same_fits p q t u bytes others k w v fits =
+    sym (ap (λ (x : TableParts). x.n) w.heard.table) ∙ ap (λ (x : TableParts). x.n) v.heard.table ∙ fits ∙ sym (ap (λ (x : PlanParts). x.sectors) v.heard.plan) ∙ ap (λ (x : PlanParts). x.sectors) w.heard.plan
+
+-- the nodes of each tree fit their count
+counted : (f : ℕ) (trees : List (List Node)) → AllByRecursion FitsTree (trees_from f trees) → AllByRecursion (λ (ns : List Node). length ns < 2 ^ 64) trees
+counted f [] fit = tt
+counted f (ns ∷ trees) fit = (fit.0.count, counted (suc f) trees fit.1)
+
+-- what is read is a certificate of the plan, in order
+cert_of_plan : (p : PlanParts) (t : TableParts) (bytes : List ℕ) (c : ExactParts) → t.n ≡ p.sectors → SpellsThree (sizes_of p) bytes c → IsCertOf p t c
+cert_of_plan p t bytes c fits s = record {
+  cert = record { two = record { sizes = sizes_of p; in_order = s.in_order; sectors = refl; points = refl; lines = refl }; one_each = s.one_each };
+  table = fits;
+  counted = counted 0 c.trees s.fits.trees;
+}
+
+module _ (p : PlanParts) (t : TableParts) (bytes : List ℕ) (k : Intake) (w : IsGoingOn p t bytes [] k) where
+  whole : reading_three_parts (sizes_of p) bytes ≡ put_all w.groups w.parts (parts_left k.reader [])
+  whole = ap (reading_three_parts (sizes_of p)) (sym (append-nil bytes)) ∙ w.left []
+
+  -- a fault at the end is that of the reading
+  pub fault_at_end : (f : CertFault) → parts_left k.reader [] ≡ Err f → reading_three_parts (sizes_of p) bytes ≡ Err f
+  fault_at_end f e = whole ∙ ap (put_all w.groups w.parts) e
+
+  -- the certificate that was read was heard
+  pub read_at_end : t.n ≡ p.sectors → parts_left k.reader [] ≡ Ok [] → (c : ExactParts) × (exact_at (sizes_of p) bytes ≡ Ok c) × HasHeardAll p t c k.judging
+  read_at_end fits e =
+      let r = bind_ok (exact_at (sizes_of p) bytes) (λ c. Ok (three_parts_of c)) (w.groups, w.parts) (whole ∙ ap (put_all w.groups w.parts) e ∙ ap (all_read w.groups) (append-nil w.parts)) in (
+        r.0,
+        r.1,
+        record {
+          cert = cert_of_plan p t bytes r.0 fits (exact_takes (sizes_of p) bytes r.0 w.small w.fit r.1);
+          heard = subst (λ (ps : ThreeParts). HasHeard p t ps.0 ps.1 k.judging) (sym (ok_is (three_parts_of r.0) (w.groups, w.parts) r.2)) w.heard;
+        },
+      )

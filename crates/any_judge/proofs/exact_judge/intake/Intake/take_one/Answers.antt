@@ -1,0 +1,29 @@
+use Rattle.std.proofs.Common.{[], Option, ◌++◌, ap, refl, sym, subst, ◌∙◌}
+use Rattle.std.specs.Prelude.{MatchOption}
+use Rattle.sight_names.specs.declared.faults.CertFault.{CertFault}
+use Rattle.certificates.specs.declared.exact_parts.part.Part.{Part}
+use Rattle.certificates.specs.ExactParts.Left.{parts_left, put_before}
+use Rattle.any_judge.specs.ExactJudge.Intake.{AreRefused, IsGoingOn}
+use Rattle.any_judge.proofs.ExactJudge.Intakes.{all_taken, fault_taken, part_taken}
+use Rattle.any_judge.proofs.exact_judge.intake.Intake.take_one.Goals as goal
+
+pub returns-in_ok-hear-in-Ok-Some-default-clause-more : goal.returns-in_ok-hear-in-Ok-Some-default-clause-more
+returns-in_ok-hear-in-Ok-Some-default-clause-more c = λ p t bytes on.
+    let x = c.in-Ok-Some-default in
+    let new = record c.args.self.now { reader = c.next.new.self; judging = c.hear.new.self } in
+    part_taken p t bytes c.args.rest.now c.args.self.now on x.part x.behind.now new
+    (λ more. x.ensures.part c.requires.countable more ∙ ap (λ (o : Option Part). put_before o (parts_left c.next.new.self (x.behind.now ++ more))) x.field-0-0-is) (x.ensures.given c.requires.countable) (c.in_ok-hear-in-Ok-Some-default.ensures p t on.groups on.parts on.heard)
+
+pub returns-in_ok-told-in-Err-clause-all : goal.returns-in_ok-told-in-Err-clause-all
+returns-in_ok-told-in-Err-clause-all c = λ p t bytes on none.
+    let rest = c.args.rest.now in
+    fault_taken p t bytes rest c.args.self.now on c.in_ok-told-in-Err.told
+    (λ more. c.in_ok-told-in-Err.ensures (parts_left c.args.self.now.reader (rest ++ more)) (c.in-Err.ensures.fault c.requires.countable more))
+
+pub returns-in-Ok-None-default-clause-all : goal.returns-in-Ok-None-default-clause-all
+returns-in-Ok-None-default-clause-all c = λ p t bytes w none.
+    let x = c.in-Ok-None-default in
+    let new = record c.args.self.now { reader = c.next.new.self } in
+    let on : IsGoingOn p t bytes [] new = all_taken p t bytes c.args.rest.now c.args.self.now w x.field-0-1.now new
+    (λ more. x.ensures.part c.requires.countable more ∙ ap (λ (o : Option Part). put_before o (parts_left c.next.new.self (x.field-0-1.now ++ more))) x.field-0-0-is) (x.ensures.used x.field-0-0-is) (x.ensures.given c.requires.countable) refl in
+    subst (λ (o : Option CertFault). MatchOption o (IsGoingOn p t bytes [] new) (AreRefused p bytes)) (sym c.requires.on) on

@@ -1,0 +1,39 @@
+use Rattle.std.proofs.Common.{Some, false, length, refl, sym, subst}
+use Rattle.gate_floods.specs.RowJudge.Masks.{MaskRows}
+use Rattle.gate_floods.specs.RowJudge.Judged.{tree_of, IsFirstWrongFrom, IsWalked, IsWholeFrom}
+use Rattle.any_judge.proofs.ExactJudge.Begun.{counted_ended}
+use Rattle.any_judge.proofs.ExactJudge.Walked.{not_under_way, under_way, masks_same, ended_whole, ended_wrong}
+use Rattle.any_judge.proofs.exact_judge.trees.RowTrees.end.Goals as goal
+
+pub returns-then-not-self-clause-heard : goal.returns-then-not-self-clause-heard
+returns-then-not-self-clause-heard c = λ b w. record { sized = w.sized; judged = λ counted. not_under_way b.0 b.1 c.args.self.now.wrong c.args.self.now c.if-not-self.true (w.judged (counted_ended c.args.self.now.ground b counted)) }
+
+pub returns-then-not-is_done-clause-heard : goal.returns-then-not-is_done-clause-heard
+returns-then-not-is_done-clause-heard c = λ b w. record {
+  sized = w.sized;
+  judged = λ counted.
+      let j = c.args.self.now in
+      let g = j.ground in
+      let o = under_way b.0 b.1 j.wrong j c.if-not-self.false (w.judged (counted_ended g b counted)) in
+      let same = masks_same g c.as_slice.result.now c.as_slice-2.result.now c.as_slice.ensures.value c.as_slice-2.ensures.value in
+      let row = o.followed.row in
+      let tree = tree_of (length b.0) o.nodes in
+      let walked = subst (λ (ms : MaskRows). IsWalked g.edges ms row g.roots.roots.items g.roots.first.items tree j.walk) (sym same) o.followed.walked in
+      let first = subst (λ (ms : MaskRows). IsFirstWrongFrom g.edges ms row g.roots.roots.items g.roots.first.items tree (length o.nodes)) same (c.is_done.ensures.missing row tree walked c.if-not-is_done.true) in
+      ended_wrong b j.wrong j (record j { under_way = false; wrong = Some (record { source = j.source; node = j.nodes }) }) o refl refl refl refl first;
+}
+
+pub returns-else-not-is_done-clause-heard : goal.returns-else-not-is_done-clause-heard
+returns-else-not-is_done-clause-heard c = λ b w. record {
+  sized = w.sized;
+  judged = λ counted.
+      let j = c.args.self.now in
+      let g = j.ground in
+      let o = under_way b.0 b.1 j.wrong j c.if-not-self.false (w.judged (counted_ended g b counted)) in
+      let same = masks_same g c.as_slice.result.now c.as_slice-2.result.now c.as_slice.ensures.value c.as_slice-2.ensures.value in
+      let row = o.followed.row in
+      let tree = tree_of (length b.0) o.nodes in
+      let walked = subst (λ (ms : MaskRows). IsWalked g.edges ms row g.roots.roots.items g.roots.first.items tree j.walk) (sym same) o.followed.walked in
+      let whole = subst (λ (ms : MaskRows). IsWholeFrom g.edges ms row g.roots.roots.items g.roots.first.items tree) same (c.is_done.ensures.whole row tree walked c.if-not-is_done.false) in
+      ended_whole b j.wrong j (record j { under_way = false }) o refl refl refl refl whole;
+}

@@ -1,0 +1,65 @@
+//! Reading a file piece by piece, and judging what it holds.
+
+ghost use Rattle.std.specs.Prelude.{◌≡◌, ℕ, List, IfOk, Some};
+ghost use Rattle.sight_names.specs.Map.{map_of};
+ghost use Rattle.sight_names.specs.Sound.{LinesMeetAtEnds};
+ghost use Rattle.shelf_io.specs.Shelf.{Files, FetchCause, NoneFell, content_of};
+ghost use Rattle.reject_bits.specs.Parts.{TableParts};
+ghost use Rattle.any_judge.specs.Judge.{HasBeenFed, IsFed};
+ghost use Rattle.any_judge.specs.CertFile.Judgement.{IsJudgement, JudgesFile};
+
+use crate::Judge;
+use cert_judge::Judged;
+use reject_bits::Table;
+use shelf_io::{PIECE, Shelf};
+use sight_names::{FetchFault, Memory, Plan, ShelfFault};
+use std::alloc::Global;
+
+/// The most bytes that a certificate may have.
+const CERT_LIMIT: u64 = 9_223_372_036_854_775_807;
+
+/// What comes of the bytes that the judge was fed, once these are all.
+fn judgement_of(plan: &Plan, judge: Judge<'_>) -> Result<Judged, Memory>
+    requires audited { LinesMeetAtEnds (map_of plan.now) }
+    requires fed { IsFed judge }
+    ensures { (t : TableParts) (bytes : List ℕ) → HasBeenFed plan.now t bytes judge.entry → IfOk result (IsJudgement plan.now t bytes) }
+{
+    judge.end()
+}
+
+/// The verdict on the table by the certificate in the file of that name, or why its bytes spell none. Unless memory runs out, the file
+/// is read to its end in pieces of at most 65,536 bytes, whatever they hold: that it is missing, can't be read or is too long is told
+/// before anything of what it holds. No more of it than one piece is held. All files stay.
+pub fn judge_file<S: Shelf>(
+    alloc: Global,
+    shelf: &mut S,
+    name: &str,
+    plan: &Plan,
+    table: &Table,
+) -> Result<Judged, FetchFault>
+    requires audited { LinesMeetAtEnds (map_of plan.now) }
+    requires table { table.now.n ≡ plan.now.sectors }
+    ensures told { (files : Files) → (S.state shelf.old).files ≡ Some files → JudgesFile plan.now table.now result (content_of (files name.now) 9223372036854775807) }
+    ensures files { (S.state shelf.new).files ≡ (S.state shelf.old).files }
+    ensures counts { NoneFell (S.state shelf.old) (S.state shelf.new) }
+    ensures cause { FetchCause (S.state shelf.old) (S.state shelf.new) result }
+{
+    let mut judge = Judge::new(alloc, plan, table);
+    let mut piece = [0; PIECE];
+    let mut at = 0u64;
+    loop {
+        let taken = match shelf.read(name, at, &mut piece) {
+            Ok(taken) => taken,
+            Err(ShelfFault::Absent) => return Err(FetchFault::Absent),
+            Err(ShelfFault::Failed) => return Err(FetchFault::Failed),
+        };
+        if taken == 0 {
+            return Ok(judgement_of(plan, judge)?);
+        }
+        if taken as u64 > CERT_LIMIT - at {
+            return Err(FetchFault::TooLong);
+        }
+        judge.feed(&piece[..taken])?;
+        at += taken as u64;
+    }
+}

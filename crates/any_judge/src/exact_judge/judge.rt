@@ -1,0 +1,77 @@
+//! A certificate of version 3 judged while its bytes come in pieces.
+
+ghost use Rattle.std.specs.Prelude.{ℕ, ◌++◌, ◌↔◌, List, [], IsErr, IfOk, OnOk, OnErr};
+ghost use Rattle.sight_names.specs.Map.{map_of};
+ghost use Rattle.sight_names.specs.Plan.{PlanParts};
+ghost use Rattle.sight_names.specs.Sound.{LinesMeetAtEnds};
+ghost use Rattle.reject_bits.specs.Parts.{TableParts};
+ghost use Rattle.cert_format.specs.Sizes.{sizes_of};
+ghost use Rattle.certificates.specs.CertExact.Reading.{exact_at};
+ghost use Rattle.group_checker.specs.Judged.{IsYesAny};
+ghost use Rattle.gate_floods.specs.TurnedTrees.Exact.{TellsAll};
+ghost use Rattle.gate_floods.specs.Exact.{IsAcceptedThree};
+ghost use Rattle.exact_checker.specs.Judged.{JudgesThree};
+ghost use Rattle.cert_judge.specs.Judged.{JudgedBy};
+ghost use Rattle.any_judge.specs.ExactJudge.Judge.{HasBeenFed, MayBeFed, IsFed, IsSpent};
+
+use crate::exact_judge::course::Course;
+use cert_judge::Judged;
+use reject_bits::Table;
+use sight_names::{Memory, Plan};
+use std::alloc::Global;
+
+/// Judges a table by a certificate of version 3 that it is fed in pieces, however they are cut. It keeps neither the
+/// trees of the certificate nor its bytes, but those before the first part until they all have come.
+#[derive(Drop)]
+pub struct Judge<'a> {
+    course: Course<'a>,
+    /// Whether a piece found no memory.
+    spent: bool,
+}
+
+impl<'a> Judge<'a> {
+    /// Nothing was fed so far. Takes no memory.
+    pub fn new(alloc: Global, plan: &'a Plan, table: &'a Table) -> Judge<'a>
+        ensures fed { HasBeenFed plan.now table.now [] result }
+        ensures unspent { ¬ IsSpent result }
+    {
+        Judge {
+            course: Course::new(alloc, plan, table),
+            spent: false,
+        }
+    }
+
+    /// The next piece. All pieces together have at most 2^63 - 1 bytes. After an Err the judge is spent: each later call
+    /// answers Memory. What is behind a fault is not read.
+    pub fn feed(&mut self, piece: &[u8]) -> Result<(), Memory>
+        requires { MayBeFed piece.now self.old }
+        ensures fed { (p : PlanParts) (t : TableParts) (bytes : List ℕ) → HasBeenFed p t bytes self.old → HasBeenFed p t (bytes ++ piece.now) self.new }
+        ensures spent { OnErr result (IsSpent self.new) }
+        ensures unspent { OnOk result (¬ IsSpent self.new) }
+        ensures stays { IsSpent self.old → IsErr result × IsSpent self.new }
+    {
+        if self.spent {
+            return Err(Memory);
+        }
+        if let Err(memory) = self.course.feed(piece) {
+            self.spent = true;
+            return Err(memory);
+        }
+        Ok(())
+    }
+
+    /// What comes of all the pieces, one behind the other: the fault where they spell no certificate of version 3 of the
+    /// plan's map, and else the verdict that `check_exact` gives of the certificate.
+    pub fn end(self) -> Result<Judged, Memory>
+        requires { IsFed self }
+        ensures spent { IsSpent self.entry → IsErr result }
+        ensures exact { (p : PlanParts) (t : TableParts) (bytes : List ℕ) → HasBeenFed p t bytes self.entry → IfOk result (JudgedBy (exact_at (sizes_of p) bytes) (JudgesThree p t)) }
+        ensures accepted { (p : PlanParts) (t : TableParts) (bytes : List ℕ) → HasBeenFed p t bytes self.entry → IfOk result (JudgedBy (exact_at (sizes_of p) bytes) (λ c v. IsYesAny v ↔ IsAcceptedThree (map_of p) t.bytes c)) }
+        ensures sight { (p : PlanParts) (t : TableParts) (bytes : List ℕ) → HasBeenFed p t bytes self.entry → LinesMeetAtEnds (map_of p) → IfOk result (JudgedBy (exact_at (sizes_of p) bytes) (λ c v. IsYesAny v → TellsAll (map_of p) t)) }
+    {
+        if self.spent {
+            return Err(Memory);
+        }
+        self.course.end()
+    }
+}

@@ -1,0 +1,134 @@
+//! How far a certificate of version 3 is judged: its triangles and rays come, or they have come.
+
+ghost use Rattle.std.specs.Prelude.{◌≡◌, ◌↔◌, ℕ, List, [], None, true, All, IfOk, IsTrue};
+ghost use Rattle.sight_names.specs.Plan.{PlanParts};
+ghost use Rattle.sight_names.specs.declared.names.PairRay.{PairRay as RayOf};
+ghost use Rattle.cert_format.specs.declared.cert.Labelled.{Labelled as AtGroup};
+ghost use Rattle.cert_checker.specs.Pairs.{IsWithin};
+ghost use Rattle.any_judge.specs.ExactJudge.Heard.{Groups as GroupsOf, Heard, closed_at, with_node};
+ghost use Rattle.any_judge.specs.ExactJudge.Stage.{IsClosed, IsGroupedOver, IsStage};
+
+use crate::exact_judge::ground::Ground;
+use crate::exact_judge::trees::RowTrees;
+use block_evidence::sight_tree::Node;
+use cert_checker::ray_fault;
+use cert_format::Labelled;
+use cert_format::cert_groups::Group;
+use cert_judge::in_order::{are_in_order, are_labelled_below};
+use group_checker::{AnyFault, GroupedMesh, MeshVerdict, judge_mesh};
+use mesh_shape::half_edges::HalfEdges;
+use sight_names::{Memory, Pair, PairRay, Plan};
+use std::alloc::Global;
+
+/// Triangles and rays come; or no certificate has such; or they break a rule; or they keep all, and trees come.
+#[derive(Drop)]
+pub enum Stage {
+    Gathering,
+    Lost,
+    Broken(AnyFault),
+    Walking(RowTrees),
+}
+
+/// Whether the pair is of two of so many groups, the lesser first.
+fn is_within(count: u16, pair: Pair) -> bool
+    ensures { IsTrue result ↔ IsWithin count pair }
+{
+    pair.a < pair.b && pair.b < count
+}
+
+/// Whether each ray is for two of so many groups, the lesser first.
+fn are_within(count: u16, rays: &[PairRay]) -> bool
+    ensures { IsTrue result ↔ All (λ (r : RayOf). IsWithin count r.pair) rays.now }
+{
+    for one in rays {
+        if !is_within(count, one.pair) {
+            return false;
+        }
+    }
+    true
+}
+
+/// Judges the rays over the map of groups; trees come next.
+fn walking_stage(alloc: Global, over: &GroupedMesh, rays: &[PairRay]) -> Result<Stage, Memory>
+    requires over { (p : PlanParts) × (groups : GroupsOf) × (labelled : List AtGroup) × IsGroupedOver p groups labelled over.now }
+    requires within { All (λ (r : RayOf). IsWithin over.now.plan.sectors r.pair) rays.now }
+    ensures { (p : PlanParts) (groups : GroupsOf) (labelled : List AtGroup) → IsGroupedOver p groups labelled over.now → IfOk result (IsClosed p groups labelled rays.now ([], None)) }
+{
+    let edges = HalfEdges::of(alloc, &over.plan, &over.mesh, &over.labels)?;
+    if let Some(fault) = ray_fault(&over.plan, &over.mesh, &edges, rays) {
+        return Ok(Stage::Broken(AnyFault::Check(fault)));
+    }
+    let ground = Ground::new(alloc, over, edges, rays)?;
+    Ok(Stage::Walking(RowTrees::new(alloc, ground)))
+}
+
+/// Judges triangles, groups and rays, which all have come.
+fn stage_of(
+    alloc: Global,
+    plan: &Plan,
+    groups: &[Group],
+    labelled: &[Labelled],
+    rays: &[PairRay],
+) -> Result<Stage, Memory>
+    ensures { IfOk result (IsClosed plan.now groups.now labelled.now rays.now ([], None)) }
+{
+    let points = plan.points().len() as u16;
+    if !are_in_order(points, labelled) || !are_labelled_below(points, groups.len(), labelled) {
+        return Ok(Stage::Lost);
+    }
+    match judge_mesh(alloc, plan, labelled, groups)? {
+        MeshVerdict::Broken(fault) => Ok(Stage::Broken(fault)),
+        MeshVerdict::Good(over) => {
+            if !are_within(over.plan.sectors, rays) {
+                return Ok(Stage::Lost);
+            }
+            walking_stage(alloc, &over, rays)
+        }
+    }
+}
+
+impl Stage {
+    /// Judges triangles and rays, which all have come.
+    // apart from `close`, which comes with each node: what is judged here takes a frame of its own
+    #[inline(never)]
+    fn settle(
+        &mut self,
+        alloc: Global,
+        plan: &Plan,
+        groups: &[Group],
+        labelled: &[Labelled],
+        rays: &[PairRay],
+    ) -> Result<(), Memory>
+        ensures { IfOk result (λ _. IsClosed plan.now groups.now labelled.now rays.now ([], None) self.new) }
+    {
+        *self = stage_of(alloc, plan, groups, labelled, rays)?;
+        Ok(())
+    }
+
+    /// Another part than a triangle or a ray has come: those are judged, if they aren't yet.
+    pub fn close(
+        &mut self,
+        alloc: Global,
+        plan: &Plan,
+        groups: &[Group],
+        labelled: &[Labelled],
+        rays: &[PairRay],
+    ) -> Result<(), Memory>
+        ensures { (h : Heard) → labelled.now ≡ h.triangles → rays.now ≡ h.rays → IsStage plan.now groups.now h self.old → IfOk result (λ _. IsStage plan.now groups.now (closed_at h) self.new) }
+    {
+        if let Stage::Gathering = self {
+            self.settle(alloc, plan, groups, labelled, rays)?;
+        }
+        Ok(())
+    }
+
+    /// The next node of this group's tree.
+    pub fn hear_node(&mut self, alloc: Global, source: usize, node: Node) -> Result<(), Memory>
+        ensures { (p : PlanParts) (groups : GroupsOf) (h : Heard) → h.closed ≡ true → IsStage p groups h self.old → IfOk result (λ _. IsStage p groups (with_node source node h) self.new) }
+    {
+        if let Stage::Walking(trees) = self {
+            trees.hear(alloc, source, node)?;
+        }
+        Ok(())
+    }
+}

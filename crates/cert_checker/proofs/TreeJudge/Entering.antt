@@ -1,0 +1,86 @@
+-- What is asked behind a half-edge: its left way, its right way, and then what was still to be asked.
+use Rattle.std.proofs.Common.{◌≡◌, ℕ, ◌+◌, ◌<◌, ◌≤◌, List, ◌∷◌, ◌++◌, Option, Some, None, length, map, set, take, refl, sym, ap, subst, arith}
+use Rattle.std.proofs.lemmas.List.{take-set}
+use Rattle.sight_names.specs.Splitting.{EndPoints}
+use Rattle.mesh_shape.specs.declared.half_edges.table.HalfEdge.{HalfEdge}
+use Rattle.mesh_shape.specs.HalfEdges.HalfEdges.{way_outside}
+use Rattle.cert_checker.specs.declared.tree_judge.roots.Root.{Root}
+use Rattle.cert_checker.specs.declared.tree_judge.trees.Frame.{Frame}
+use Rattle.cert_checker.specs.declared.tree_judge.trees.Wait.{Wait}
+use Rattle.cert_checker.specs.declared.tree_judge.trees.Follow.{Follow}
+use Rattle.cert_checker.specs.TreeJudge.Path.{path_ends, IsWaiting, Pending, pending_way, root_pending, IsAt, with_asked, EntersThrough, TakesNext}
+use Rattle.cert_checker.proofs.TreeJudge.Ways.{waiting_same, waits_at}
+use Rattle.math_base.proofs.Options.{some_is_not_none}
+
+-- one portal more is open
+abbrev pub deeper : Follow → ℕ → Follow
+deeper f waiting = record { depth = f.depth + 1; root = f.root; asked = f.asked; waiting = waiting }
+
+module _ (xs : List HalfEdge) (roots : List Root) (source : ℕ) (path : List Frame) (waits : List Wait) (f : Follow) (x : HalfEdge) where
+  -- the ends of the open portals and of the half-edge's own
+  abbrev ends : List EndPoints
+  ends = path_ends (take (f.depth + 1) path)
+
+  -- with one of the ways, or none
+  abbrev behind : Option ℕ → Option ℕ → List Pending → List Pending
+  behind left right ps = (pending_way ends left ++ pending_way ends right) ++ ps
+
+  -- both lead on: the left one is asked, the right one waits
+  pub enters_both : (left right : ℕ) (w : Wait) → f.depth < length path → f.depth < length waits → w.way ≡ right → w.before ≡ f.waiting → Some left ≡ way_outside xs source x.left_way → Some right ≡ way_outside xs source x.right_way
+      → EntersThrough xs roots source path waits f x (set waits f.depth w) (deeper f (f.depth + 1)) (Some left)
+  enters_both left right w near room way before l r = record {
+    next = λ es ws c h n. record {
+      es = es;
+      ways = record { path = ends; edge = right } ∷ ws;
+      chain = c;
+      waiting = (
+        w,
+        (f.depth, refl, waits_at waits f.depth w room),
+        omega (arith, near),
+        ap (λ (e : ℕ). let u : Pending = record { path = ends; edge = e } in u) (sym way),
+        omega (arith, before, n),
+        subst (λ (k : ℕ). IsWaiting path (set waits f.depth w) k ws) (sym before) (waiting_same path path waits (set waits f.depth w) f.depth f.waiting ws refl (take-set waits f.depth w) n h),
+      );
+      nested = omega arith;
+      all = sym (λ i. behind (l i) (r i) (ws ++ map root_pending es));
+      last = λ e. absurd (some_is_not_none left e);
+    };
+    depth = λ _. omega arith;
+  }
+
+  -- the left one alone
+  pub enters_left : (way : ℕ) → Some way ≡ way_outside xs source x.left_way → None ≡ way_outside xs source x.right_way → EntersThrough xs roots source path waits f x waits (deeper f f.waiting) (Some way)
+  enters_left way l r = record {
+    next = λ es ws c h n. record {
+      es = es;
+      ways = ws;
+      chain = c;
+      waiting = h;
+      nested = omega (arith, n);
+      all = sym (λ i. behind (l i) (r i) (ws ++ map root_pending es));
+      last = λ e. absurd (some_is_not_none way e);
+    };
+    depth = λ _. omega arith;
+  }
+
+  -- the right one alone
+  pub enters_right : (way : ℕ) → None ≡ way_outside xs source x.left_way → Some way ≡ way_outside xs source x.right_way → EntersThrough xs roots source path waits f x waits (deeper f f.waiting) (Some way)
+  enters_right way l r = record {
+    next = λ es ws c h n. record {
+      es = es;
+      ways = ws;
+      chain = c;
+      waiting = h;
+      nested = omega (arith, n);
+      all = sym (λ i. behind (l i) (r i) (ws ++ map root_pending es));
+      last = λ e. absurd (some_is_not_none way e);
+    };
+    depth = λ _. omega arith;
+  }
+
+  -- none of them: what was still to be asked is asked
+  pub enters_none : (new : Follow) (asked : Option ℕ) → None ≡ way_outside xs source x.left_way → None ≡ way_outside xs source x.right_way → TakesNext roots path waits f new asked → EntersThrough xs roots source path waits f x waits new asked
+  enters_none new asked l r t = record {
+    next = λ es ws c h n. subst (IsAt roots path waits (with_asked new asked)) (λ i. behind (l i) (r i) (ws ++ map root_pending es)) (t.next es ws c h);
+    depth = λ n. let d : new.depth ≤ f.waiting = t.depth in omega (arith, d, n);
+  }

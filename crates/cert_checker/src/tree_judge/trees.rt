@@ -1,0 +1,472 @@
+//! Trees judged in one pass: each node is asked of the walk at its place.
+
+ghost use Rattle.std.specs.Prelude.{◌≡◌, ◌≤◌, ◌<◌, ◌↔◌, [], List, false, IsTrue, IfNone, IfSome, IfOk, length, take};
+ghost use Rattle.sight_names.specs.Splitting.{end_of as end_at};
+ghost use Rattle.block_evidence.specs.Stuck.{Blocks};
+ghost use Rattle.cert_checker.specs.TreeJudge.Path.{list_of, path_ends, edge_ends, longest_of, IsEndOf, AreStuckEnds, AsksRoot, Pending, IsWaiting, StandsAt, PutsAt, EntersThrough, TakesNext};
+ghost use Rattle.cert_checker.specs.TreeJudge.Roots.{first_at};
+ghost use Rattle.cert_checker.specs.TreeJudge.Whole.{Notes, HasAnswered, HasRefused, StandsBefore, IsWholeFrom, IsFirstWrongFrom};
+
+use crate::tree_judge::roots::Roots;
+use block_evidence::sight_tree::{Node, Tree};
+use block_evidence::{Evidence, are_stuck, stuck};
+use mesh_shape::half_edges::{HalfEdge, HalfEdges};
+use reject_bits::Table;
+use sight_names::{EndAt, Memory, Pt, RIGHT_END};
+use std::alloc::Global;
+
+const ORIGIN: Pt = Pt { x: 0, y: 0 };
+
+/// A portal on the way to the present node: its ends.
+#[derive(Clone, Copy)]
+pub struct Frame {
+    left: Pt,
+    right: Pt,
+}
+
+/// What stands at the place of a portal behind which both ways lead on, the left one being taken: the right one, which waits,
+/// and how many portals lead to the portal before it whose right way waits; 0 where there is none.
+#[derive(Clone, Copy)]
+pub struct Wait {
+    way: u32,
+    before: usize,
+}
+
+/// The mesh as a walk needs it.
+#[derive(Clone, Copy)]
+pub struct Terrain<'a> {
+    pub edges: &'a HalfEdges,
+    pub roots: &'a Roots,
+}
+
+/// The portal at a place of the path that no walk has come to.
+fn blank() -> Frame {
+    Frame {
+        left: ORIGIN,
+        right: ORIGIN,
+    }
+}
+
+/// What stands at the place of a portal that no right way waits behind.
+fn no_wait() -> Wait {
+    Wait { way: 0, before: 0 }
+}
+
+/// The path buffer, for trees of at most so many nodes.
+pub fn path_of(alloc: Global, trees: &[Tree]) -> Result<Vec<Frame>, Memory>
+    ensures { IfOk result (λ v. length v.items ≡ longest_of trees.now) }
+{
+    let mut longest: usize = 0;
+    for tree in trees {
+        longest = longest.max(tree.nodes.len());
+    }
+    Ok(vec![in alloc; blank(); longest]?)
+}
+
+/// The buffer of the ways that wait, for a path of so many portals.
+pub fn waits_of(alloc: Global, count: usize) -> Result<Vec<Wait>, Memory>
+    ensures { IfOk result (λ v. length v.items ≡ count) }
+{
+    Ok(vec![in alloc; no_wait(); count]?)
+}
+
+/// Makes the path longer by a place where it has none behind the open portals.
+pub fn make_room(path: &mut Vec<Frame>, depth: usize) -> Result<(), Memory>
+    ensures room { depth ≤ length path.old.items → IfOk result (λ _. depth < length path.new.items) }
+    ensures kept { depth ≤ length path.old.items → IfOk result (λ _. take depth path.new.items ≡ take depth path.old.items) }
+{
+    if depth >= path.len() {
+        path.push(blank())?;
+    }
+    Ok(())
+}
+
+/// The same of the ways that wait.
+pub fn make_wait(waits: &mut Vec<Wait>, depth: usize) -> Result<(), Memory>
+    ensures room { depth ≤ length waits.old.items → IfOk result (λ _. depth < length waits.new.items) }
+    ensures kept { depth ≤ length waits.old.items → IfOk result (λ _. take depth waits.new.items ≡ take depth waits.old.items) }
+{
+    if depth >= waits.len() {
+        waits.push(no_wait())?;
+    }
+    Ok(())
+}
+
+/// The end with this code: of the portal at its place.
+fn end_of(path: &[Frame], code: u16) -> Option<EndAt>
+    ensures { result ≡ end_at (path_ends path.now) code }
+{
+    let frame = path.get((code % RIGHT_END) as usize)?;
+    let at = if code < RIGHT_END {
+        frame.left
+    } else {
+        frame.right
+    };
+    Some(EndAt { code, at })
+}
+
+/// The left end with this code. None where it is a right end's, or its portal isn't there: one comparison tells both.
+#[inline(always)]
+fn left_end(path: &[Frame], code: u16) -> Option<EndAt>
+    requires { length path.now ≤ RIGHT_END }
+    ensures { IsEndOf (path_ends path.now) code result }
+{
+    let frame = path.get(code as usize)?;
+    // the code itself, as one that is seen to be a left end's
+    let code = code % RIGHT_END;
+    Some(EndAt {
+        code,
+        at: frame.left,
+    })
+}
+
+/// The right end with this code. None where it is a left end's, or its portal isn't there.
+#[inline(always)]
+fn right_end(path: &[Frame], code: u16) -> Option<EndAt>
+    requires { length path.now ≤ RIGHT_END }
+    ensures { IsEndOf (path_ends path.now) code result }
+{
+    let place = (code as usize + RIGHT_END as usize) % 65_536;
+    let frame = path.get(place)?;
+    let code = RIGHT_END + (place % RIGHT_END as usize) as u16;
+    Some(EndAt {
+        code,
+        at: frame.right,
+    })
+}
+
+/// Whether these are three left ends and a right one that are seen at once to be stuck. `false` says nothing.
+#[inline(always)]
+fn are_three_and_one(path: &[Frame], a: u16, b: u16, c: u16, d: u16) -> bool
+    requires { length path.now ≤ RIGHT_END }
+    ensures { IsTrue result → AreStuckEnds (path_ends path.now) a b c d }
+{
+    let Some(p) = left_end(path, a) else {
+        return false;
+    };
+    let Some(q) = left_end(path, b) else {
+        return false;
+    };
+    let Some(r) = left_end(path, c) else {
+        return false;
+    };
+    let Some(s) = right_end(path, d) else {
+        return false;
+    };
+    are_stuck(p, q, r, s)
+}
+
+/// The same of two left ends and two right ones.
+#[inline(always)]
+fn are_two_and_two(path: &[Frame], a: u16, b: u16, c: u16, d: u16) -> bool
+    requires { length path.now ≤ RIGHT_END }
+    ensures { IsTrue result → AreStuckEnds (path_ends path.now) a b c d }
+{
+    let Some(p) = left_end(path, a) else {
+        return false;
+    };
+    let Some(q) = left_end(path, b) else {
+        return false;
+    };
+    let Some(r) = right_end(path, c) else {
+        return false;
+    };
+    let Some(s) = right_end(path, d) else {
+        return false;
+    };
+    are_stuck(p, q, r, s)
+}
+
+/// The same of a left end and three right ones.
+#[inline(always)]
+fn are_one_and_three(path: &[Frame], a: u16, b: u16, c: u16, d: u16) -> bool
+    requires { length path.now ≤ RIGHT_END }
+    ensures { IsTrue result → AreStuckEnds (path_ends path.now) a b c d }
+{
+    let Some(p) = left_end(path, a) else {
+        return false;
+    };
+    let Some(q) = right_end(path, b) else {
+        return false;
+    };
+    let Some(r) = right_end(path, c) else {
+        return false;
+    };
+    let Some(s) = right_end(path, d) else {
+        return false;
+    };
+    are_stuck(p, q, r, s)
+}
+
+/// Whether the ends are four ends of these portals that are seen at once to be stuck. `false` says nothing. Which of them
+/// are left ones is told by their places: of so few portals no left end has the code of a right one.
+#[inline(always)]
+fn is_seen_blocked(path: &[Frame], evidence: Evidence) -> bool
+    ensures { IsTrue result → Blocks (path_ends path.now) evidence }
+{
+    let count = path.len();
+    if evidence.count != 4 || count > RIGHT_END as usize {
+        return false;
+    }
+    let [a, b, c, d] = evidence.ends;
+    match ((b as usize) < count, (c as usize) < count) {
+        (true, true) => are_three_and_one(path, a, b, c, d),
+        (true, false) => are_two_and_two(path, a, b, c, d),
+        (false, false) => are_one_and_three(path, a, b, c, d),
+        (false, true) => false,
+    }
+}
+
+/// Whether the ends are ends of these portals, and stuck.
+#[inline(never)]
+fn is_shown_blocked(path: &[Frame], evidence: Evidence) -> bool
+    ensures { IsTrue result ↔ Blocks (path_ends path.now) evidence }
+{
+    let mut ends = [EndAt {
+        code: 0,
+        at: ORIGIN,
+    }; 4];
+    let count = (evidence.count as usize).min(4);
+    for i in 0..count {
+        match end_of(path, evidence.ends[i]) {
+            Some(end) => ends[i] = end,
+            None => return false,
+        }
+    }
+    stuck(&ends[..count])
+}
+
+/// The same; most often it is seen at once.
+#[inline(always)]
+pub fn is_blocked(path: &[Frame], evidence: Evidence) -> bool
+    ensures { IsTrue result ↔ Blocks (path_ends path.now) evidence }
+{
+    is_seen_blocked(path, evidence) || is_shown_blocked(path, evidence)
+}
+
+/// Puts the portal of this half-edge behind the open ones, and says whether there was room.
+#[inline(always)]
+pub fn put(path: &mut [Frame], depth: usize, edge: &HalfEdge) -> bool
+    ensures room { IsTrue result ↔ (depth < length path.old) }
+    ensures put { IsTrue result → PutsAt path.old depth (edge_ends edge.now) path.new }
+{
+    if depth >= path.len() {
+        return false;
+    }
+    path[depth] = Frame {
+        left: edge.left_at,
+        right: edge.right_at,
+    };
+    true
+}
+
+/// A walk that follows a tree.
+#[derive(Clone, Copy)]
+pub struct Follow {
+    /// How many open nodes lead to the present one.
+    pub depth: usize,
+    /// The place of the next root.
+    pub root: Option<usize>,
+    /// The half-edge that is asked now.
+    pub asked: Option<u32>,
+    /// How many portals lead to the last one whose right way is still to come; 0 where there is none.
+    pub waiting: usize,
+}
+
+/// The half-edge of the root at this place, and the place of the next one.
+#[inline(always)]
+fn next_root(roots: &Roots, root: Option<usize>) -> (Option<u32>, Option<usize>)
+    ensures { AsksRoot roots.now.roots.items root result.0 result.1 }
+{
+    match roots.root(root) {
+        Some(found) => (Some(found.edge), found.next),
+        None => (None, root),
+    }
+}
+
+/// The last way that waits, where so many portals lead to the one that it is behind.
+#[inline(always)]
+#[tactic(auto, using(crate::proofs::TreeJudge::Ways::none_waits, crate::proofs::TreeJudge::Ways::none_stands, crate::proofs::TreeJudge::Ways::none_leads))]
+fn last_waiting(path: &[Frame], waits: &[Wait], waiting: usize) -> Option<Wait>
+    ensures some { IfSome result (λ w. StandsAt waits.now waiting w) }
+    ensures within { IfSome result (λ _. waiting ≤ length path.now) }
+    ensures none { IfNone result ((ws : List Pending) → IsWaiting path.now waits.now waiting ws → ws ≡ []) }
+{
+    if waiting == 0 || waiting > waits.len() || waiting > path.len() {
+        return None;
+    }
+    Some(waits[waiting - 1])
+}
+
+/// The half-edge that is asked next: the last way that waits, or else the next root.
+#[inline(always)]
+fn next_asked(roots: &Roots, path: &[Frame], waits: &[Wait], follow: &mut Follow) -> Option<u32>
+    ensures within { follow.new.depth ≤ length path.now }
+    ensures room { follow.new.depth ≤ length waits.now }
+    ensures next { TakesNext roots.now.roots.items path.now waits.now follow.old follow.new result }
+{
+    match last_waiting(path, waits, follow.waiting) {
+        Some(wait) => {
+            follow.depth = follow.waiting;
+            follow.waiting = wait.before;
+            Some(wait.way)
+        }
+        None => {
+            let (asked, next) = next_root(roots, follow.root);
+            follow.depth = 0;
+            follow.waiting = 0;
+            follow.root = next;
+            asked
+        }
+    }
+}
+
+/// Goes through the half-edge whose portal was put last, and gives what is asked next: its left way, its right way, or what comes
+/// behind both. Where both ways lead out of the source, the right one waits.
+#[inline(always)]
+fn enter(
+    terrain: &Terrain<'_>,
+    source: u16,
+    path: &[Frame],
+    waits: &mut [Wait],
+    follow: &mut Follow,
+    edge: &HalfEdge,
+) -> Option<u32>
+    requires path { follow.old.depth < length path.now }
+    requires waits { follow.old.depth < length waits.old }
+    ensures within { follow.new.depth ≤ length path.now }
+    ensures room { follow.new.depth ≤ length waits.new }
+    ensures enters { EntersThrough terrain.now.edges.now terrain.now.roots.now.roots.items source path.now waits.old follow.old edge.now waits.new follow.new result }
+{
+    let right = terrain.edges.outside(edge.right_way, source);
+    let left = terrain.edges.outside(edge.left_way, source);
+    match (left, right) {
+        (Some(left), Some(right)) => {
+            waits[follow.depth] = Wait {
+                way: right,
+                before: follow.waiting,
+            };
+            follow.depth += 1;
+            follow.waiting = follow.depth;
+            Some(left)
+        }
+        (Some(way), None) => {
+            follow.depth += 1;
+            Some(way)
+        }
+        (None, Some(way)) => {
+            follow.depth += 1;
+            Some(way)
+        }
+        (None, None) => next_asked(terrain.roots, path, waits, follow),
+    }
+}
+
+/// Notes that the source reaches the sector, where there is one.
+#[inline(always)]
+fn note(reached: &mut Table, source: u16, sector: Option<u16>)
+    ensures { Notes source (list_of sector) reached.old reached.new }
+{
+    let Some(sector) = sector else {
+        return;
+    };
+    let count = reached.sectors();
+    if source < count && sector < count {
+        reached.set(source, sector);
+    }
+}
+
+/// Whether the node answers for the half-edge that is asked: it goes through it, and the source reaches the sector behind it; or its ends show
+/// that no line passes the sequence through it. The next half-edge is asked then. False also where there is no room on the path.
+#[inline(always)]
+pub fn answer(
+    terrain: &Terrain<'_>,
+    reached: &mut Table,
+    source: u16,
+    path: &mut [Frame],
+    waits: &mut [Wait],
+    follow: &mut Follow,
+    node: Node,
+) -> bool
+    ensures within { follow.old.depth ≤ length path.old → follow.new.depth ≤ length path.new }
+    ensures room { follow.old.depth ≤ length waits.old → follow.new.depth ≤ length waits.new }
+    ensures sectors { reached.new.n ≡ reached.old.n }
+    ensures answered { IsTrue result → HasAnswered terrain.now.edges.now terrain.now.roots.now.roots.items source node path.old waits.old follow.old reached.old path.new waits.new follow.new reached.new }
+    ensures refused { result ≡ false → follow.old.depth < length path.old → follow.old.depth < length waits.old → HasRefused terrain.now.edges.now terrain.now.roots.now.roots.items source node path.old waits.old follow.old }
+{
+    let Some(place) = follow.asked else {
+        return false;
+    };
+    let Some(edge) = terrain.edges.get(place) else {
+        return false;
+    };
+    if !put(path, follow.depth, edge) {
+        return false;
+    }
+    match node {
+        Node::Open => {
+            if follow.depth >= waits.len() {
+                return false;
+            }
+            note(reached, source, edge.sector);
+            follow.asked = enter(terrain, source, path, waits, follow, edge);
+            true
+        }
+        Node::Blocked(evidence) => {
+            if !is_blocked(&path[..=follow.depth], evidence) {
+                return false;
+            }
+            follow.asked = next_asked(terrain.roots, path, waits, follow);
+            true
+        }
+    }
+}
+
+/// A walk of the source before its first root.
+pub fn start(terrain: &Terrain<'_>, source: u16, path: &[Frame], waits: &[Wait]) -> Follow
+    ensures depth { result.depth ≡ 0 }
+    ensures stands { StandsBefore terrain.now.roots.now.roots.items (first_at terrain.now.roots.now.first.items source) path.now waits.now result }
+{
+    let mut follow = Follow {
+        depth: 0,
+        root: terrain.roots.first_of(source),
+        asked: None,
+        waiting: 0,
+    };
+    follow.asked = next_asked(terrain.roots, path, waits, &mut follow);
+    follow
+}
+
+/// The least node of the tree that is missing, superfluous, or blocked by ends that aren't ends of its sequence or
+/// aren't stuck. The sectors that its open nodes reach are noted.
+pub fn first_wrong(
+    terrain: &Terrain<'_>,
+    path: &mut [Frame],
+    waits: &mut [Wait],
+    reached: &mut Table,
+    tree: &Tree,
+) -> Option<u64>
+    ensures sectors { reached.new.n ≡ reached.old.n }
+    ensures whole { IfNone result (IsWholeFrom terrain.now.edges.now terrain.now.roots.now.roots.items (first_at terrain.now.roots.now.first.items tree.now.source) tree.now reached.old reached.new) }
+    ensures wrong { length tree.now.nodes ≤ length path.old → length tree.now.nodes ≤ length waits.old → IfSome result (IsFirstWrongFrom terrain.now.edges.now terrain.now.roots.now.roots.items (first_at terrain.now.roots.now.first.items tree.now.source) tree.now) }
+{
+    let mut follow = start(terrain, tree.source, path, waits);
+    let count = tree.nodes.len();
+    for (number, node) in tree.nodes.iter().enumerate() {
+        if !answer(
+            terrain,
+            reached,
+            tree.source,
+            path,
+            waits,
+            &mut follow,
+            node,
+        ) {
+            return Some(number as u64);
+        }
+    }
+    if follow.asked.is_some() {
+        return Some(count as u64);
+    }
+    None
+}

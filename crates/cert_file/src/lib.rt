@@ -1,6 +1,0 @@
-//! The certificate in a file, judged while it is read in pieces, so that its bytes never stand in memory whole.
-#![tactic(auto)]
-
-mod file;
-
-pub use file::judge_file;

@@ -1,9 +1,0 @@
-use Rattle.std.specs.Prelude.{⊤}
-use Rattle.cert_parts.specs.Nodes.{TakesNodes}
-use Rattle.cert_parts.proofs.records.pass_nodes.Given as goal
-
-abbrev pub decreases-rest : goal.decreases-rest
-decreases-rest l = l.left
-
-abbrev pub invariant-rest : goal.invariant-rest
-invariant-rest l = TakesNodes l.bytes l.count l.rest l.left (λ _. ⊤)

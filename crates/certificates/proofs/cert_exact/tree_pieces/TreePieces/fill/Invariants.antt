@@ -1,0 +1,15 @@
+use Rattle.std.proofs.Common.{◌≡◌, ◌≤◌, ◌-◌, ◌++◌, length, take, drop}
+use Rattle.certificates.specs.CertExact.Pieces.{trees_left}
+use Rattle.certificates.proofs.cert_exact.tree_pieces.TreePieces.fill.Given as goal
+
+abbrev pub invariant-loop-given : goal.invariant-loop-given
+invariant-loop-given l =
+    record {
+      within : l.given ≤ length l.buf;
+      room : length l.buf ≡ length l.fn.buf;
+      spelled : trees_left l.fn.self ≡ take l.given l.buf ++ trees_left l.self;
+      others : drop l.given l.buf ≡ drop l.given l.fn.buf;
+    }
+
+abbrev pub decreases-loop-given : goal.decreases-loop-given
+decreases-loop-given l = length l.buf - l.given

@@ -1,0 +1,21 @@
+//! Certificates that list no pair: version 3 of the format.
+//!
+//! Behind the header and the groups of sectors come triangles and rays as in version 2, then how many bytes the tree of each
+//! group takes, and then the nodes of all trees. Each certificate has one spelling.
+
+mod cert;
+pub mod fields;
+mod front;
+mod laws;
+mod nodes;
+mod printer;
+mod ranges;
+mod reading;
+mod spelled;
+mod tree_pieces;
+mod trees;
+
+pub use cert::{CountsThree, ExactParts};
+pub use laws::one_spelling;
+pub use printer::ExactPrinter;
+pub use reading::read_exact;

@@ -1,5 +1,0 @@
-use Rattle.check_workers.specs.Joined.{TakesIn}
-use Rattle.check_workers.proofs.join.take_in.Given as goal
-
-abbrev pub invariant-loop-source : goal.invariant-loop-source
-invariant-loop-source l = TakesIn l.source l.part.walked.items l.part.reached l.fn.walked l.walked l.fn.reached l.reached

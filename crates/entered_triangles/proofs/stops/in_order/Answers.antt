@@ -1,5 +1,0 @@
-use Rattle.entered_triangles.proofs.StopOrder.{in_order_of}
-use Rattle.entered_triangles.proofs.stops.in_order.Goals as goal
-
-pub returns : goal.returns
-returns c = in_order_of c.args.found.items c.sort_unstable.new.self.items c.dedup.new.self.items c.sort_unstable.ensures.permutation c.sort_unstable.ensures.sorted c.dedup.ensures.filtered

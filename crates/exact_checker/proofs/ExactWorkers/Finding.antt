@@ -1,0 +1,39 @@
+-- From what was found of each tree to the first wrong one.
+use Rattle.std.proofs.Common.{◌≡◌, ℕ, suc, ◌<◌, ◌⊎◌, inl, inr, List, [], Option, None, Some, length, refl, sym, ◌∙◌, ap, subst, arith}
+use Rattle.std.specs.List.{slice_get}
+use Rattle.std.specs.Prelude.{IfOk, Result, Ok, Err, get_or}
+use Rattle.std.proofs.lemmas.Option.{same_Some, slice_get-get_or, slice_get_within}
+use Rattle.math_base.proofs.Numbers.{below_or_at}
+use Rattle.block_evidence.specs.declared.sight_tree.Node.{Node}
+use Rattle.mesh_shape.specs.declared.half_edges.table.HalfEdge.{HalfEdge}
+use Rattle.cert_checker.specs.declared.tree_judge.roots.Root.{Root}
+use Rattle.gate_floods.specs.RowJudge.Masks.{MaskRows}
+use Rattle.exact_checker.specs.declared.trees.WrongNode.{WrongNode}
+use Rattle.exact_checker.specs.Owning.{OwningParts}
+use Rattle.exact_checker.specs.Judged.{AnswersFor, AnswersForEach}
+use Rattle.exact_checker.specs.TaskCrew.Done.{AreDone}
+use Rattle.exact_checker.specs.ExactWorkers.Found.{HasNone, IsFirstFound}
+
+-- none of one more
+pub none_more : (found : List (Option ℕ)) (n : ℕ) (o : Option ℕ) → slice_get found n ≡ Some o → o ≡ None → HasNone found n → HasNone found (suc n)
+none_more found n o at none before f p lt there = go (below_or_at f n lt)
+  where
+    go : (f < n) ⊎ (f ≡ n) → p ≡ None
+    go (inl l) = before f p l there
+    go (inr e) = same_Some p o (sym there ∙ (ap (slice_get found) e ∙ at)) ∙ none
+
+module _ (xs : List HalfEdge) (ms : MaskRows) (roots : List Root) (firsts : List (Option ℕ)) (known : OwningParts) (trees : List (List Node)) (found : List (Option ℕ)) (one_each : length trees ≡ known.count) (count : ℕ) (same : count ≡ known.count)
+    (all : AreDone (λ i o. (ns : List Node) → slice_get trees i ≡ Some ns → AnswersFor xs ms roots firsts known i ns o) count found) where
+  right : (n : ℕ) → HasNone found n → (f : ℕ) (ns : List Node) → f < n → slice_get trees f ≡ Some ns → AnswersFor xs ms roots firsts known f ns None
+  right n none f ns lt at =
+      let l : f < length found = (let a = slice_get_within trees f ns at in let b = all.len in omega (arith, a, b, one_each, same)) in
+      let there = slice_get-get_or found f None l in
+      subst (AnswersFor xs ms roots firsts known f ns) (none f (get_or found f None) lt there) (all.each f (get_or found f None) there ns at)
+
+  pub answers_each : (wrong : Option WrongNode) → IsFirstFound found wrong → AnswersForEach xs ms roots firsts known trees wrong
+  answers_each None none = λ f ns at. right (suc f) (none (suc f)) f ns (omega arith) at
+  answers_each (Some w) h =
+      let l : w.source < length trees = (let a = slice_get_within found w.source (Some w.node) h.0 in let b = all.len in omega (arith, a, b, one_each, same)) in
+      let ns = get_or trees w.source [] in
+      let at = slice_get-get_or trees w.source [] l in
+      ((ns, at, all.each w.source (Some w.node) h.0 ns at), (λ f us lt there. right w.source h.1 f us lt there))

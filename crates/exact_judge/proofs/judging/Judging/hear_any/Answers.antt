@@ -1,9 +1,0 @@
-use Rattle.std.proofs.Common.{refl, sym, subst}
-use Rattle.std.specs.Prelude.{IfOk}
-use Rattle.exact_parts.specs.declared.part.Part.{Part}
-use Rattle.exact_judge.specs.Heard.{closed_at, with_part}
-use Rattle.exact_judge.specs.Judging.{IsKept}
-use Rattle.exact_judge.proofs.judging.Judging.hear_any.Goals as goal
-
-pub returns-in_ok-close-in-Node : goal.returns-in_ok-close-in-Node
-returns-in_ok-close-in-Node c = λ p t groups h k. subst (λ (part : Part). IfOk c.hear_node.result (λ _. IsKept p t groups (with_part h part) c.hear_node.new.self)) (sym c.in-Node.is) (c.hear_node.ensures p t groups (closed_at h) refl (c.in_ok-close-in-Node.ensures p t groups h k))

@@ -1,5 +1,0 @@
-use Rattle.exact_judge.proofs.Keeping.{triangle_late}
-use Rattle.exact_judge.proofs.judging.Judging.hear_triangle.Goals as goal
-
-pub returns-in_default : goal.returns-in_default
-returns-in_default c = λ p t groups h k. triangle_late p t groups h c.args.self.now c.in_default.not-Gathering k c.args.one

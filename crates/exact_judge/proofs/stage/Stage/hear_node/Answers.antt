@@ -1,9 +1,0 @@
-use Rattle.std.proofs.Common.{subst}
-use Rattle.exact_judge.specs.Stage.{IsStage}
-use Rattle.exact_judge.proofs.Stages.{node_walked}
-use Rattle.exact_judge.proofs.stage.Stage.hear_node.Goals as goal
-
-pub returns-in_ok-hear : goal.returns-in_ok-hear
-returns-in_ok-hear c = λ p groups h closed k.
-    let on = subst (IsStage p groups h) c.in-Walking.is k in
-    node_walked p groups h c.args.source c.args.node c.in-Walking.trees c.hear.new.self on c.hear.ensures.ground (c.in_ok-hear.ensures.heard h.trees on.1.heard)

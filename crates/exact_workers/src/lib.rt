@@ -1,8 +1,0 @@
-//! A table judged by a certificate of version 3 whose trees are judged in threads. The verdict is the one that `exact_checker`
-//! gives.
-#![tactic(auto)]
-
-mod check;
-mod judging;
-
-pub use check::check_exact_par;

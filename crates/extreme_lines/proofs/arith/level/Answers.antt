@@ -1,5 +1,0 @@
-use Rattle.std.proofs.Common.{to_z-of_z, arith}
-use Rattle.extreme_lines.proofs.arith.level.Goals as goal
-
-pub returns-clause-value : goal.returns-clause-value
-returns-clause-value c = grind (arith, to_z-of_z)

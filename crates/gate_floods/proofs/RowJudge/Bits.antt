@@ -1,0 +1,184 @@
+-- The bits of words: what both of two rows have, and whether a row has a bit.
+use Rattle.std.proofs.Common.{◌≡◌, ◌≢◌, ℕ, zero, suc, ◌+◌, ◌*◌, ◌/◌, ◌%◌, ◌^◌, ◌<◌, ◌≤◌, ◌-◌, min, inl, inr, List, [], ◌∷◌, ◌++◌, take, drop, Bool, true, false, not, ◌==◌, ◌||◌, length, slice_index, bit_and, get_or, refl, sym, ◌∙◌, ap, arith}
+use Rattle.std.specs.Int.{bit_at}
+use Rattle.std.proofs.lemmas.Nat.Bits.{bit_at-lt, bit_at_lowest, bit_at-suc, bit_at_and, bit_at_ones}
+use Rattle.std.proofs.lemmas.Nat.{and_le_l, and_le_r, and_mask, mod-pow-add}
+use Rattle.std.proofs.lemmas.List.{length-append, length-drop, length-take-le, get_or_append_left, get_or-take, get_or-drop, take_more, take_all, append_assoc}
+use Rattle.math_base.proofs.Numbers.{same_or_not, tells_same, tells_other}
+use Rattle.math_base.proofs.Bools.{one_true, true_by_first, true_by_second, not_both_values}
+use Rattle.gate_floods.specs.RowJudge.Words.{both_words, has_bit, row_at}
+
+-- ---- one word
+
+none_in : (w : ℕ) → w % 2 ^ 64 ≡ 0 → not (w % 2 ^ 64 == 0) ≡ false
+none_in w e = ap (λ (b : Bool). not b) (tells_same (w % 2 ^ 64) 0 e)
+
+some_in : (w : ℕ) → w % 2 ^ 64 ≢ 0 → not (w % 2 ^ 64 == 0) ≡ true
+some_in w n = ap (λ (b : Bool). not b) (tells_other (w % 2 ^ 64) 0 n)
+
+some_bit : (n w : ℕ) → w % 2 ^ n ≢ 0 → (i : ℕ) × (i < n) × (bit_at w i ≡ 1)
+some_bit zero w h = absurd (h (omega arith))
+some_bit (suc n) w h = elim (same_or_not (w % 2) 1) as (λ _. (i : ℕ) × (i < suc n) × (bit_at w i ≡ 1)) [
+  | inl e ↦ (0, omega arith, bit_at_lowest w ∙ e)
+  | inr other ↦ (let r = some_bit n (w / 2) (λ none. h (halves none other)) in (suc r.0, (let l : r.0 < n = r.1 in omega (arith, l)), bit_at-suc w r.0 ∙ r.2))
+]
+  where
+    halves : w / 2 % 2 ^ n ≡ 0 → w % 2 ≢ 1 → w % 2 ^ suc n ≡ 0
+    halves none other =
+        let parts : w % 2 ^ (n + 1) ≡ (w / 2 ^ 1 % 2 ^ n) * 2 ^ 1 + w % 2 ^ 1 = mod-pow-add w n 1 in
+        let even : w % 2 ≡ 0 = omega (arith, other) in
+        ap (λ (k : ℕ). w % 2 ^ k) (omega arith) ∙ parts ∙ (λ i. none i * 2 + even i)
+
+no_bit : (w i : ℕ) → w % 2 ^ 64 ≡ 0 → i < 64 → bit_at w i ≡ 0
+no_bit w i e l =
+    let a : bit_at (bit_and w (2 ^ 64 - 1)) i ≡ min (bit_at w i) (bit_at (2 ^ 64 - 1) i) = bit_at_and w (2 ^ 64 - 1) i in
+    let o : bit_at (2 ^ 64 - 1) i ≡ 1 = bit_at_ones 64 i l in
+    let z : bit_at (bit_and w (2 ^ 64 - 1)) i ≡ 0 = ap (λ (n : ℕ). bit_at n i) (and_mask w 64 ∙ e) ∙ empty i in
+    let s : bit_at w i < 2 = bit_at-lt w i in
+    small (bit_at w i) (bit_at (2 ^ 64 - 1) i) (sym a ∙ z) o s
+  where
+    empty : (i : ℕ) → bit_at 0 i ≡ 0
+    empty i = bit_at-zero_here i
+      where
+        bit_at-zero_here : (i : ℕ) → bit_at 0 i ≡ 0
+        bit_at-zero_here zero = bit_at_lowest 0
+        bit_at-zero_here (suc i) = bit_at-suc 0 i ∙ bit_at-zero_here i
+
+    small : (x y : ℕ) → min x y ≡ 0 → y ≡ 1 → x < 2 → x ≡ 0
+    small x y e f l = omega (arith, e, f, l)
+
+-- ---- a bit of a row
+
+pub found_bit : (ws : List ℕ) → has_bit ws ≡ true → (c : ℕ) × (bit_at (slice_index ws (c / 64)) (c % 64) ≡ 1)
+found_bit ws h = let r = found ws h in (r.0 * 64 + r.1, number ws r.0 r.1 r.2 r.3)
+  where
+    number : (ws : List ℕ) (k i : ℕ) → i < 64 → bit_at (slice_index ws k) i ≡ 1 → bit_at (slice_index ws ((k * 64 + i) / 64)) ((k * 64 + i) % 64) ≡ 1
+    number ws k i l e =
+        let q : (k * 64 + i) / 64 ≡ k = omega (arith, l) in
+        let r : (k * 64 + i) % 64 ≡ i = omega (arith, l) in
+        (λ j. bit_at (slice_index ws (q j)) (r j)) ∙ e
+
+    found : (ws : List ℕ) → has_bit ws ≡ true → (k : ℕ) × (i : ℕ) × (i < 64) × (bit_at (slice_index ws k) i ≡ 1)
+    found [] h = absurd (not_both_values false h refl)
+    found (w ∷ ws) h = elim (one_true (not (w % 2 ^ 64 == 0)) (has_bit ws) h) as (λ _. (k : ℕ) × (i : ℕ) × (i < 64) × (bit_at (slice_index (w ∷ ws) k) i ≡ 1)) [
+      | inl e ↦ (let r = some_bit 64 w (λ n. not_both_values (not (w % 2 ^ 64 == 0)) e (none_in w n)) in (0, r.0, r.1, r.2))
+      | inr e ↦ (let r = found ws e in (suc r.0, r.1, r.2, r.3))
+    ]
+
+pub bit_found : (ws : List ℕ) (c : ℕ) → bit_at (slice_index ws (c / 64)) (c % 64) ≡ 1 → has_bit ws ≡ true
+bit_found ws c e = found ws (c / 64) (c % 64) (omega arith) e
+  where
+    one_not_zero : (x : ℕ) → x ≡ 0 → x ≡ 1 → ⊥
+    one_not_zero x e f = omega (arith, e, f)
+
+    found : (ws : List ℕ) (k i : ℕ) → i < 64 → bit_at (slice_index ws k) i ≡ 1 → has_bit ws ≡ true
+    found [] k i l e = absurd (one_not_zero (bit_at 0 i) (no_bit 0 i refl l) e)
+    found (w ∷ ws) zero i l e = true_by_first (not (w % 2 ^ 64 == 0)) (has_bit ws) (some_in w (λ n. one_not_zero (bit_at w i) (no_bit w i n l) e))
+    found (w ∷ ws) (suc k) i l e = true_by_second (not (w % 2 ^ 64 == 0)) (has_bit ws) (found ws k i l e)
+
+-- ---- the words of both rows
+
+nothing_and : (y : ℕ) → 0 ≡ bit_and 0 y
+nothing_and y = let l : bit_and 0 y ≤ 0 = and_le_l 0 y in omega (arith, l)
+
+and_nothing : (x : ℕ) → 0 ≡ bit_and x 0
+and_nothing x = let l : bit_and x 0 ≤ 0 = and_le_r x 0 in omega (arith, l)
+
+pub word_of_both : (xs ys : List ℕ) (k : ℕ) → slice_index (both_words xs ys) k ≡ bit_and (slice_index xs k) (slice_index ys k)
+word_of_both [] ys k = nothing_and (slice_index ys k)
+word_of_both (x ∷ xs) [] zero = and_nothing x
+word_of_both (x ∷ xs) [] (suc k) = word_of_both xs [] k
+word_of_both (x ∷ xs) (y ∷ ys) zero = refl
+word_of_both (x ∷ xs) (y ∷ ys) (suc k) = word_of_both xs ys k
+
+pub length_of_both : (xs ys : List ℕ) → length (both_words xs ys) ≡ length xs
+length_of_both [] ys = refl
+length_of_both (x ∷ xs) [] = ap suc (length_of_both xs [])
+length_of_both (x ∷ xs) (y ∷ ys) = ap suc (length_of_both xs ys)
+
+abbrev bit_of : List ℕ → ℕ → ℕ
+bit_of ws c = bit_at (slice_index ws (c / 64)) (c % 64)
+
+bit_of_both : (xs ys : List ℕ) (c : ℕ) → bit_of (both_words xs ys) c ≡ min (bit_of xs c) (bit_of ys c)
+bit_of_both xs ys c = ap (λ (w : ℕ). bit_at w (c % 64)) (word_of_both xs ys (c / 64)) ∙ bit_at_and (slice_index xs (c / 64)) (slice_index ys (c / 64)) (c % 64)
+
+pub in_both : (xs ys : List ℕ) (c : ℕ) → bit_at (slice_index xs (c / 64)) (c % 64) ≡ 1 → bit_at (slice_index ys (c / 64)) (c % 64) ≡ 1 → bit_at (slice_index (both_words xs ys) (c / 64)) (c % 64) ≡ 1
+in_both xs ys c e f = let b = bit_of_both xs ys c in b ∙ least (bit_of xs c) (bit_of ys c) e f
+  where
+    least : (x y : ℕ) → x ≡ 1 → y ≡ 1 → min x y ≡ 1
+    least x y e f = omega (arith, e, f)
+
+pub in_each : (xs ys : List ℕ) (c : ℕ) → bit_at (slice_index (both_words xs ys) (c / 64)) (c % 64) ≡ 1 → (bit_at (slice_index xs (c / 64)) (c % 64) ≡ 1) × (bit_at (slice_index ys (c / 64)) (c % 64) ≡ 1)
+in_each xs ys c h =
+    let b : min (bit_of xs c) (bit_of ys c) ≡ 1 = sym (bit_of_both xs ys c) ∙ h in
+    (one (bit_of xs c) (bit_of ys c) b (bit_at-lt (slice_index xs (c / 64)) (c % 64)), one_too (bit_of xs c) (bit_of ys c) b (bit_at-lt (slice_index ys (c / 64)) (c % 64)))
+  where
+    one : (x y : ℕ) → min x y ≡ 1 → x < 2 → x ≡ 1
+    one x y e l = omega (arith, e, l)
+
+    one_too : (x y : ℕ) → min x y ≡ 1 → y < 2 → y ≡ 1
+    one_too x y e l = omega (arith, e, l)
+
+-- ---- whether the two have a bit in common, word by word
+
+pub they_meet : (xs ys : List ℕ) (k : ℕ) → bit_and (slice_index xs k) (slice_index ys k) % 2 ^ 64 ≢ 0 → has_bit (both_words xs ys) ≡ true
+they_meet xs ys k n = at (both_words xs ys) k (λ e. n (ap (λ (w : ℕ). w % 2 ^ 64) (sym (word_of_both xs ys k)) ∙ e))
+  where
+    at : (ws : List ℕ) (k : ℕ) → slice_index ws k % 2 ^ 64 ≢ 0 → has_bit ws ≡ true
+    at [] k n = absurd (n refl)
+    at (w ∷ ws) zero n = true_by_first (not (w % 2 ^ 64 == 0)) (has_bit ws) (some_in w n)
+    at (w ∷ ws) (suc k) n = true_by_second (not (w % 2 ^ 64 == 0)) (has_bit ws) (at ws k n)
+
+pub they_dont : (xs ys : List ℕ) (n : ℕ) → ((k : ℕ) → k < n → bit_and (slice_index xs k) (slice_index ys k) ≡ 0) → n ≡ min (length xs) (length ys) → has_bit (both_words xs ys) ≡ false
+they_dont [] ys n none e = refl
+they_dont (x ∷ xs) [] n none e = rest xs
+  where
+    both_none : (b c : Bool) → b ≡ false → c ≡ false → (b || c) ≡ false
+    both_none b c e f = cc
+
+    rest : (xs : List ℕ) → has_bit (both_words (0 ∷ xs) []) ≡ false
+    rest [] = refl
+    rest (x ∷ xs) = both_none false (has_bit (both_words (x ∷ xs) [])) refl (rest xs)
+they_dont (x ∷ xs) (y ∷ ys) zero none e = absurd (omega (arith, e))
+they_dont (x ∷ xs) (y ∷ ys) (suc n) none e = both_none (not (bit_and x y % 2 ^ 64 == 0)) (has_bit (both_words xs ys)) (none_in (bit_and x y) (let h : bit_and x y ≡ 0 = none 0 (omega arith) in omega (arith, h))) (they_dont xs ys n (λ k l. none (suc k) (omega (arith, l))) (omega (arith, e)))
+  where
+    both_none : (b c : Bool) → b ≡ false → c ≡ false → (b || c) ≡ false
+    both_none b c e f = cc
+
+-- ---- the row of both, put word by word
+
+pub at_any : (xs : List ℕ) (i d : ℕ) → i < length xs → get_or xs i d ≡ slice_index xs i
+at_any [] i d l = absurd (omega (arith, l))
+at_any (x ∷ xs) zero d l = refl
+at_any (x ∷ xs) (suc i) d l = at_any xs i d (omega (arith, l))
+
+module _ (old mask : List ℕ) (at w : ℕ) (room : at + w ≤ length old) where
+  abbrev front : List ℕ
+  front = take (at + w) old
+
+  abbrev both : List ℕ
+  both = both_words (row_at old w at) mask
+
+  length_both : length both ≡ w
+  length_both =
+      let d : length (drop at old) ≡ length old - at = length-drop at old in
+      length_of_both (row_at old w at) mask ∙ length-take-le w (drop at old) (omega (arith, d, room))
+
+  pub long_enough : (rows : List ℕ) (k : ℕ) → k < w → rows ≡ front ++ take k both → at + k < length rows
+  long_enough rows k l e =
+      let n : length rows ≡ length front + length (take k both) = ap (λ (us : List ℕ). length us) e ∙ length-append front (take k both) in
+      let f : length front ≡ at + w = length-take-le (at + w) old room in
+      omega (arith, n, f, l)
+
+  pub put_more : (rows new : List ℕ) (k x : ℕ) → k < w → rows ≡ front ++ take k both → x ≡ bit_and (slice_index rows (at + k)) (slice_index mask k) → new ≡ rows ++ x ∷ [] → new ≡ front ++ take (k + 1) both
+  put_more rows new k x l e f g = g ∙ ap (λ (us : List ℕ). us ++ x ∷ []) e ∙ append_assoc front (take k both) (x ∷ []) ∙ ap (λ (us : List ℕ). front ++ us) (ap (λ (y : ℕ). take k both ++ y ∷ []) value ∙ sym (take_more both k 0 (let b : length both ≡ w = length_both in omega (arith, b, l))))
+    where
+      here : slice_index rows (at + k) ≡ slice_index (row_at old w at) k
+      here = ap (λ (us : List ℕ). slice_index us (at + k)) e ∙ get_or_append_left front (take k both) 0 (at + k) (let n : length front ≡ at + w = length-take-le (at + w) old room in omega (arith, n, l))
+          ∙ get_or-take (at + w) old (at + k) 0 (omega (arith, l)) ∙ sym (get_or-drop at old k 0) ∙ sym (get_or-take w (drop at old) k 0 l)
+
+      value : x ≡ get_or both k 0
+      value = f ∙ ap (λ (y : ℕ). bit_and y (slice_index mask k)) here ∙ sym (word_of_both (row_at old w at) mask k)
+
+  pub put_all : (rows : List ℕ) (k : ℕ) → w ≤ k → rows ≡ front ++ take k both → rows ≡ front ++ both
+  put_all rows k l e = e ∙ ap (λ (us : List ℕ). front ++ us) (take_all k both (let b : length both ≡ w = length_both in omega (arith, b, l)))

@@ -1,0 +1,167 @@
+-- A walk with a row that follows a tree: what each node answers, and what is still to be asked behind it.
+use Rattle.std.proofs.Common.{◌≡◌, ◌↔◌, ℕ, ◌+◌, ◌<◌, ◌≤◌, ◌-◌, IsTrue, true, false, List, [], ◌∷◌, ◌++◌, Option, Some, None, take, drop, length, refl, sym, ◌∙◌, ap, subst, arith}
+use Rattle.std.specs.List.{slice_get}
+use Rattle.std.specs.Prelude.{option_map}
+use Rattle.std.proofs.lemmas.List.{take_at, drop_at, take_all, length-append, length-take-le, length-drop}
+use Rattle.sight_names.specs.Splitting.{EndPoints}
+use Rattle.block_evidence.specs.declared.Evidence.{Evidence}
+use Rattle.block_evidence.specs.Stuck.{Blocks}
+use Rattle.block_evidence.specs.declared.sight_tree.Node.{Node}
+use Rattle.block_evidence.specs.declared.sight_tree.Node.TheVariants.{Open, Blocked}
+use Rattle.mesh_shape.specs.declared.half_edges.table.HalfEdge.{HalfEdge}
+use Rattle.cert_checker.specs.declared.tree_judge.roots.Root.{Root}
+use Rattle.cert_checker.specs.declared.tree_judge.trees.Frame.{Frame}
+use Rattle.cert_checker.specs.TreeJudge.Path.{path_ends, edge_ends, PutsAt}
+use Rattle.math_base.proofs.Options.{some_is_not_none}
+use Rattle.math_base.proofs.Bools.{not_both_values}
+use Rattle.gate_floods.specs.RowJudge.Masks.{MaskRows}
+use Rattle.gate_floods.specs.declared.row_judge.follow.Wait.{Wait}
+use Rattle.gate_floods.specs.declared.row_judge.follow.RowFollow.{RowFollow}
+use Rattle.gate_floods.specs.RowJudge.Words.{row_at, both_words, is_away}
+use Rattle.gate_floods.specs.RowJudge.Asked.{place_at, left_of, Pending, pending_way, pending_roots, ends_through, row_through, ways_behind, ways_through}
+use Rattle.gate_floods.specs.RowJudge.Path.{HasPassed, AreWaiting, IsAt, with_asked, TakesNext, EntersThrough, HasAnswered, HasRefused}
+use Rattle.gate_floods.proofs.RowJudge.Bits.{length_of_both}
+use Rattle.gate_floods.proofs.RowJudge.Waiting.{row_same, waiting_same, waiting_more, put_room}
+
+-- ---- the row behind a half-edge
+
+pub passed_over : (ms : MaskRows) (rows : List ℕ) (row edge : ℕ) → place_at ms.places edge ≡ None → HasPassed ms rows row edge rows row
+passed_over ms rows row edge none = record {
+  there = ap (λ (o : Option ℕ). left_of (row_at rows ms.width row) (option_map (row_at ms.words ms.width) o)) (sym none);
+  kept = refl;
+  after = omega arith;
+  room = λ l. l;
+}
+
+pub passed_gate : (ms : MaskRows) (rows new : List ℕ) (row edge place : ℕ) → place_at ms.places edge ≡ Some place → row + ms.width ≤ length rows
+    → new ≡ take (row + ms.width) rows ++ both_words (row_at rows ms.width row) (row_at ms.words ms.width place) → HasPassed ms rows row edge new (row + ms.width)
+passed_gate ms rows new row edge place is room put = record {
+  there = ap (λ (us : List ℕ). row_at us ms.width (row + ms.width)) put ∙ ap (take ms.width) (drop_at front both (row + ms.width) long) ∙ take_all ms.width both (let l : length both ≡ ms.width = long_too in omega (arith, l))
+      ∙ ap (λ (o : Option ℕ). left_of (row_at rows ms.width row) (option_map (row_at ms.words ms.width) o)) (sym is);
+  kept = ap (take (row + ms.width)) put ∙ take_at front both (row + ms.width) long;
+  after = omega arith;
+  room = λ l. let n : length new ≡ length front + length both = ap (λ (us : List ℕ). length us) put ∙ length-append front both in let a : length front ≡ row + ms.width = long in let b : length both ≡ ms.width = long_too in omega (arith, n, a, b);
+}
+  where
+    front : List ℕ
+    front = take (row + ms.width) rows
+
+    both : List ℕ
+    both = both_words (row_at rows ms.width row) (row_at ms.words ms.width place)
+
+    long : length (take (row + ms.width) rows) ≡ row + ms.width
+    long = length-take-le (row + ms.width) rows room
+
+    long_too : length (both_words (row_at rows ms.width row) (row_at ms.words ms.width place)) ≡ ms.width
+    long_too = length_of_both (row_at rows ms.width row) (row_at ms.words ms.width place) ∙ length-take-le ms.width (drop row rows) (let d : length (drop row rows) ≡ length rows - row = length-drop row rows in omega (arith, d, room))
+
+-- ---- nodes
+
+same_first : (p q : Pending) (ps qs us : List Pending) → us ≡ p ∷ ps → us ≡ q ∷ qs → p ≡ q
+same_first p q ps qs us e f = cc
+
+no_first : (p : Pending) (ps us : List Pending) → us ≡ [] → us ≡ p ∷ ps → ⊥
+no_first p ps us e f = cc
+
+module _ (xs : List HalfEdge) (ms : MaskRows) (source : ℕ) (first : List ℕ) (roots : List Root) (path : List Frame) (rows : List ℕ) (waits : List Wait) (f : RowFollow) where
+  -- the half-edge that is asked, behind the present path
+  abbrev present : ℕ → Pending
+  present place = record { path = path_ends (take f.depth path); row = row_at rows ms.width f.row; edge = place }
+
+  abbrev At : List Pending → Type 0
+  At ps = IsAt ms first roots path rows waits f ps
+
+  -- what is to be asked behind it
+  abbrev others : {ps : List Pending} → IsAt ms first roots path rows waits f ps → List Pending
+  others a = a.ways ++ pending_roots ms first a.es
+
+  present_first : (ps : List Pending) (place : ℕ) → f.asked ≡ Some place → (a : At ps) → ps ≡ present place ∷ others a
+  present_first ps place e a = a.all ∙ ap (λ (o : Option ℕ). pending_way (path_ends (take f.depth path)) (row_at rows ms.width f.row) o ++ (a.ways ++ pending_roots ms first a.es)) e
+
+  -- behind the half-edge, the walk one portal further on
+  abbrev pub further : ℕ → RowFollow
+  further at = record { depth = f.depth + 1; row = at; root = f.root; asked = f.asked }
+
+  pub opened : (middle : List Frame) (rows' : List ℕ) (new : List Wait) (place at : ℕ) (f_new : RowFollow) (asked : Option ℕ) (x : HalfEdge) → f.asked ≡ Some place → slice_get xs place ≡ Some x → PutsAt path f.depth (edge_ends x) middle
+      → HasPassed ms rows f.row place rows' at → is_away (row_at rows' ms.width at) x.sector ≡ true → EntersThrough xs ms source first roots middle rows' waits (further at) x new f_new asked
+      → HasAnswered xs ms source first roots Open path rows waits f middle rows' new (with_asked f_new asked)
+  opened middle rows' new place at f_new asked x e is put passed away enters = record {
+    next = λ ps a. (
+      ways_through xs ms source (present place) x ++ others a,
+      (present place, others a, x, present_first ps place e a, is, subst (λ (us : List ℕ). is_away us x.sector ≡ true) passed.there away, refl),
+      subst (λ (us : List ℕ). IsAt ms first roots middle rows' new (with_asked f_new asked) (ways_behind xs ms source (ends_through (present place) x) us x ++ others a)) passed.there
+          (subst (λ (es : List EndPoints). IsAt ms first roots middle rows' new (with_asked f_new asked) (ways_behind xs ms source es (row_at rows' ms.width at) x ++ others a)) put.put
+          (enters.next a.es a.ways a.chain (base a) (waiting a) (put_room path middle f.depth (edge_ends x) a.depth_room put) (passed.room a.row_room))),
+    );
+  }
+    where
+      base : {ps : List Pending} → IsAt ms first roots path rows waits f ps → row_at rows' ms.width 0 ≡ first
+      base a = row_same rows rows' ms.width 0 f.row (omega arith) passed.kept ∙ a.base
+
+      waiting : {ps : List Pending} → (a : IsAt ms first roots path rows waits f ps) → AreWaiting middle rows' ms.width waits (f.depth + 1) at a.ways
+      waiting a = waiting_more middle rows' ms.width waits f.depth (f.depth + 1) f.row at a.ways (omega arith) passed.after (waiting_same path middle rows rows' ms.width waits f.depth f.row a.ways put.kept passed.kept a.waiting)
+
+  pub blocked : (middle : List Frame) (new : List Wait) (place : ℕ) (f_new : RowFollow) (asked : Option ℕ) (x : HalfEdge) (e : Evidence) → f.asked ≡ Some place → slice_get xs place ≡ Some x → PutsAt path f.depth (edge_ends x) middle
+      → Blocks (path_ends (take (f.depth + 1) middle)) e → TakesNext ms first roots middle rows waits f new f_new asked → HasAnswered xs ms source first roots (Blocked e) path rows waits f middle rows new (with_asked f_new asked)
+  blocked middle new place f_new asked x e h is put blocks takes = record {
+    next = λ ps a. (
+      others a,
+      (present place, others a, x, present_first ps place h a, is, subst (λ (es : List EndPoints). Blocks es e) put.put blocks, refl),
+      takes.next a.es a.ways a.chain a.base (waiting_same path middle rows rows ms.width waits f.depth f.row a.ways put.kept refl a.waiting)
+          (let l : f.depth + 1 ≤ length middle = put_room path middle f.depth (edge_ends x) a.depth_room put in omega (arith, l)) a.row_room,
+    );
+  }
+
+  -- ---- a node that doesn't answer
+
+  -- nothing is asked
+  pub refused_all : (n : Node) → f.asked ≡ None → HasRefused xs ms source first roots n path rows waits f
+  refused_all Open e = record { none = λ ps qs a (p, rest, x, first_is, is, away, left). no_first p rest ps (a.last e) first_is }
+  refused_all (Blocked d) e = record { none = λ ps qs a (p, rest, x, first_is, is, blocks, left). no_first p rest ps (a.last e) first_is }
+
+  -- there is no such half-edge
+  no_edge : (ps rest : List Pending) (place : ℕ) (p : Pending) (x : HalfEdge) → f.asked ≡ Some place → slice_get xs place ≡ None → At ps → ps ≡ p ∷ rest → slice_get xs p.edge ≡ Some x → ⊥
+  no_edge ps rest place p x e none a first_is is = some_is_not_none x (sym is ∙ ap (λ (q : Pending). slice_get xs q.edge) (same_first p (present place) rest (others a) ps first_is (present_first ps place e a)) ∙ none)
+
+  pub refused_edge : (n : Node) (place : ℕ) → f.asked ≡ Some place → slice_get xs place ≡ None → HasRefused xs ms source first roots n path rows waits f
+  refused_edge Open place e none = record { none = λ ps qs a (p, rest, x, first_is, is, away, left). no_edge ps rest place p x e none a first_is is }
+  refused_edge (Blocked d) place e none = record { none = λ ps qs a (p, rest, x, first_is, is, blocks, left). no_edge ps rest place p x e none a first_is is }
+
+  -- there is no row
+  pub refused_row : (n : Node) → length rows < f.row + ms.width → HasRefused xs ms source first roots n path rows waits f
+  refused_row n short = record { none = λ ps qs a answer. let l : f.row + ms.width ≤ length rows = a.row_room in omega (arith, l, short) }
+
+  one_edge : (x y : HalfEdge) (o : Option HalfEdge) → o ≡ Some x → o ≡ Some y → x ≡ y
+  one_edge x y o e f = cc
+
+  untrue : IsTrue false → ⊥
+  untrue e = cc
+
+  -- the ends show nothing
+  pub refused_ends : (middle : List Frame) (place : ℕ) (x : HalfEdge) (e : Evidence) → f.asked ≡ Some place → slice_get xs place ≡ Some x → PutsAt path f.depth (edge_ends x) middle → (IsTrue false ↔ Blocks (path_ends (take (f.depth + 1) middle)) e)
+      → HasRefused xs ms source first roots (Blocked e) path rows waits f
+  refused_ends middle place x e h is put fails = record { none = λ ps qs a (p, rest, y, first_is, at, blocks, left). go ps rest p y a first_is at blocks }
+    where
+      go : (ps rest : List Pending) (p : Pending) (y : HalfEdge) → IsAt ms first roots path rows waits f ps → ps ≡ p ∷ rest → slice_get xs p.edge ≡ Some y → Blocks (ends_through p y) e → ⊥
+      go ps rest p y a first_is at blocks = untrue (fails.1 (subst (λ (es : List EndPoints). Blocks es e) (sym put.put) (subst (λ (z : HalfEdge). Blocks (ends_through (present place) z) e) found (subst (λ (q : Pending). Blocks (ends_through q y) e) same blocks))))
+        where
+          same : p ≡ present place
+          same = same_first p (present place) rest (others a) ps first_is (present_first ps place h a)
+
+          found : y ≡ x
+          found = one_edge y x (slice_get xs place) (ap (λ (q : Pending). slice_get xs q.edge) (sym same) ∙ at) is
+
+  -- it enters what the row has
+  pub refused_entering : (rows' : List ℕ) (place at : ℕ) (x : HalfEdge) → f.asked ≡ Some place → slice_get xs place ≡ Some x → HasPassed ms rows f.row place rows' at → is_away (row_at rows' ms.width at) x.sector ≡ false → HasRefused xs ms source first roots Open path rows waits f
+  refused_entering rows' place at x h is passed near = record { none = λ ps qs a (p, rest, y, first_is, there, away, left). go ps rest p y a first_is there away }
+    where
+      go : (ps rest : List Pending) (p : Pending) (y : HalfEdge) → IsAt ms first roots path rows waits f ps → ps ≡ p ∷ rest → slice_get xs p.edge ≡ Some y → is_away (row_through ms p) y.sector ≡ true → ⊥
+      go ps rest p y a first_is there away = not_both_values (is_away (row_at rows' ms.width at) x.sector)
+          (subst (λ (us : List ℕ). is_away us x.sector ≡ true) (sym passed.there) (subst (λ (z : HalfEdge). is_away (row_through ms (present place)) z.sector ≡ true) found (subst (λ (q : Pending). is_away (row_through ms q) y.sector ≡ true) same away)))
+          near
+        where
+          same : p ≡ present place
+          same = same_first p (present place) rest (others a) ps first_is (present_first ps place h a)
+
+          found : y ≡ x
+          found = one_edge y x (slice_get xs place) (ap (λ (q : Pending). slice_get xs q.edge) (sym same) ∙ there) is

@@ -1,0 +1,39 @@
+-- A tree as far as its nodes have come, and a walk with a row that all of them have answered for.
+use Rattle.std.specs.Prelude.{◌≡◌, ℕ, List, [], Option, Some, None}
+use Rattle.block_evidence.specs.declared.sight_tree.Node.{Node}
+use Rattle.block_evidence.specs.declared.sight_tree.Tree.{Tree}
+use Rattle.mesh_shape.specs.declared.half_edges.table.HalfEdge.{HalfEdge}
+use Rattle.cert_checker.specs.declared.tree_judge.roots.Root.{Root}
+use Rattle.cert_checker.specs.TreeJudge.Roots.{first_at}
+use Rattle.cert_checker.specs.TreeJudge.Path.{IsChain}
+use Rattle.gate_floods.specs.RowJudge.Masks.{MaskRows}
+use Rattle.gate_floods.specs.declared.row_judge.walk.RowWalk.{RowWalk}
+use Rattle.gate_floods.specs.RowJudge.Asked.{Pending, pending_roots, AreAnswered, IsFirstWrong}
+use Rattle.gate_floods.specs.RowJudge.Path.{IsAt}
+
+-- the tree of a source with these nodes
+abbrev pub tree_of : ℕ → List Node → Tree
+tree_of source nodes = record { source = source; nodes = nodes }
+
+-- whatever the nodes were: all this is still to be asked by the walk
+abbrev pub StandsAt : MaskRows → List ℕ → List Root → RowWalk → List Pending → Type 0
+StandsAt ms first roots w ps = IsAt ms first roots w.path.items w.rows.items w.waits.items w.follow ps
+
+module _ (xs : List HalfEdge) (ms : MaskRows) (first : List ℕ) (roots : List Root) (firsts : List (Option ℕ)) where
+  -- all nodes that have come have answered, and the walk stands behind them
+  pub record IsWalked (t : Tree) (w : RowWalk) : Type 0 where
+    pub source_is : w.source ≡ t.source
+    pub each : (es : List ℕ) → IsChain roots (first_at firsts t.source) es → (ps : List Pending) × AreAnswered xs ms t.source (pending_roots ms first es) t.nodes ps × IsAt ms first roots w.path.items w.rows.items w.waits.items w.follow ps
+
+  -- the nodes answer for the source's roots and all that follows them, with none missing and none left over
+  pub record IsWholeFrom (t : Tree) : Type 0 where
+    pub whole : (es : List ℕ) → IsChain roots (first_at firsts t.source) es → AreAnswered xs ms t.source (pending_roots ms first es) t.nodes []
+
+  -- node k is the first that doesn't answer, or that is missing
+  pub record IsFirstWrongFrom (t : Tree) (k : ℕ) : Type 0 where
+    pub wrong : (es : List ℕ) → IsChain roots (first_at firsts t.source) es → IsFirstWrong xs ms t.source (pending_roots ms first es) t.nodes k
+
+  -- all nodes answer, and nothing else is asked; or the first that doesn't, or that is missing, is told
+  abbrev pub TellsTree : Tree → Option ℕ → Type 0
+  TellsTree t None = IsWholeFrom t
+  TellsTree t (Some k) = IsFirstWrongFrom t k

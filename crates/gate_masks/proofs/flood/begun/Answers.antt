@@ -1,7 +1,0 @@
-use Rattle.std.proofs.Common.{rules}
-use Rattle.gate_masks.specs.Words.{HasBit}
-use Rattle.gate_masks.proofs.Flooding.{begun_put}
-use Rattle.gate_masks.proofs.flood.begun.Goals as goal
-
-pub returns-clause-flood : goal.returns-clause-flood
-returns-clause-flood c = λ es seen. begun_put es (HasBit seen) c.args.gate c.args.sectors c.in_ok-marks.marks.items c.put.new.self.marks.items c.new.result.items c.put.new.self.queue.items c.requires (c.in_ok-marks.ensures.items_if_clones_equal (λ y h. search rules)) c.new.ensures.items c.in_ok-put.ensures

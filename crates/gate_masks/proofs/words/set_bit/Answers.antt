@@ -1,8 +1,0 @@
-use Rattle.gate_masks.proofs.Bits.{bit_set, bits_kept}
-use Rattle.gate_masks.proofs.words.set_bit.Goals as goal
-
-pub returns-clause-set : goal.returns-clause-set
-returns-clause-set c = bit_set c.args.words.now c.args.number c.requires
-
-pub returns-clause-others : goal.returns-clause-others
-returns-clause-others c = λ k differ. bits_kept c.args.words.now c.args.number k c.requires differ

@@ -1,0 +1,5 @@
+use Rattle.std.proofs.Common.{to_z-of_z, arith}
+use Rattle.geom_exact.proofs.extreme_lines.arith.level.Goals as goal
+
+pub returns-clause-value : goal.returns-clause-value
+returns-clause-value c = grind (arith, to_z-of_z)

@@ -1,6 +1,0 @@
-use Rattle.std.proofs.Common.{◌≤◌}
-use Rattle.greedy_segments.proofs.Reach.{ReachBefore}
-use Rattle.greedy_segments.proofs.rounds.reach_of.Given as goal
-
-abbrev pub invariant-loop-point : goal.invariant-loop-point
-invariant-loop-point l = record { bound : l.most ≤ 32768; before : ReachBefore l.plan.points l.point-index l.most }

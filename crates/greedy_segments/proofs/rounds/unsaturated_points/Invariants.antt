@@ -1,8 +1,0 @@
-use Rattle.std.proofs.Common.{length}
-use Rattle.sight_names.specs.Map.{map_of}
-use Rattle.incident_segments.specs.Kept.{edges_of}
-use Rattle.greedy_segments.proofs.Starting.{OpenUpTo}
-use Rattle.greedy_segments.proofs.rounds.unsaturated_points.Given as goal
-
-abbrev pub invariant-loop-k : goal.invariant-loop-k
-invariant-loop-k l = OpenUpTo (map_of l.plan) (edges_of l.incident.segments) (length l.plan.points) l.unsaturated l.k-index l.others.items

@@ -1,9 +1,0 @@
-use Rattle.std.proofs.Common.{ℕ}
-use Rattle.incident_segments.proofs.AroundPoint.{IsWalk}
-use Rattle.greedy_segments.proofs.saturated.has_triangle_at.Given as goal
-
-abbrev pub invariant-loop-at : goal.invariant-loop-at
-invariant-loop-at l = IsWalk l.incident.segments l.a (λ (v : ℕ). Unit {0}) l.at
-
-abbrev pub decreases-loop-at : goal.decreases-loop-at
-decreases-loop-at l = l.at

@@ -1,0 +1,32 @@
+use Rattle.std.proofs.Common.{ℕ, ap, ◌∙◌, subst}
+use Rattle.group_job.specs.declared.sight_workers.desk.Desk.{Desk}
+use Rattle.group_job.specs.declared.sight_workers.job.Terms.{Terms}
+use Rattle.group_job.specs.declared.sight_workers.view.Task.{Task}
+use Rattle.group_job.specs.SightWorkers.Board.{task_of, task_for}
+use Rattle.group_job.specs.SightWorkers.Hands.{IsAllWorked}
+use Rattle.group_job.proofs.SightWorkers.Claimants.{all_named}
+use Rattle.group_job.proofs.SightWorkers.Hands.{is_whole}
+use Rattle.group_job.proofs.sight_workers.alone.walk_in_turn.Goals as goal
+
+pub returns-clause-whole : goal.returns-clause-whole
+returns-clause-whole g c =
+    let made = c.in_ok-board.ensures in
+    let desk = c.in_ok-pool.ensures.board ∙ c.in_ok-hands.ensures.board in
+    let key = ap (λ (d : Desk). d.table.shared.key) desk ∙ made.0 in
+    let sectors = ap (λ (d : Desk). d.sectors) desk ∙ made.2 in
+    let v = c.gather.new.board.keeper.me.0 in
+    let task = c.gather.new.board.kept.0.1 ∙ ap task_of key in
+    let n = c.args.job.plan.now.sectors in
+    is_whole n c.args.components.now (task_for c.args.job 1) v c.in_ok-pool.pool.items (ap (λ (t : Task). t.plan.sectors) task)
+    (subst (λ (m : ℕ). IsAllWorked m c.args.components.now (task_for c.args.job 1) v c.in_ok-pool.pool.items) sectors
+    (subst (λ (k : Terms). IsAllWorked c.gather.new.board.desk.sectors c.args.components.now (task_of k) v c.in_ok-pool.pool.items) key c.in_ok-pool.ensures.ok.1))
+    c.close.ensures
+
+pub returns-clause-claimants : goal.returns-clause-claimants
+returns-clause-claimants g c =
+    let made = c.in_ok-board.ensures in
+    let desk = c.in_ok-pool.ensures.board ∙ c.in_ok-hands.ensures.board in
+    let key = ap (λ (d : Desk). d.table.shared.key) desk ∙ made.0 in
+    let sectors = ap (λ (d : Desk). d.sectors) desk ∙ made.2 in
+    all_named (task_for c.args.job 1) c.gather.new.board.desk.sectors c.gather.new.board.keeper.me.0 c.gather.new.claimed_by (c.gather.new.board.kept.0.1 ∙ ap task_of key) sectors
+    c.in_ok-pool.ensures.ok.0 c.close.ensures c.in_ok-pool.ensures.claimants

@@ -1,0 +1,94 @@
+//! All sources by one worker, in the thread that calls.
+
+ghost use Rattle.std.specs.Prelude.{◌≡◌, ◌<◌, All, length, IfOk};
+ghost use Rattle.mesh_shape.specs.HalfEdges.HalfEdges.{AreHalfEdges};
+ghost use Rattle.pair_budget.specs.Decide.{AreResults, IsSettled};
+ghost use Rattle.group_job.specs.SightWorkers.Board.{task_for};
+ghost use Rattle.group_job.specs.SightWorkers.Boards.{AreDoneOfDesk, AreFreshOfDesk};
+ghost use Rattle.group_job.specs.SightWorkers.Claimants.{AreClaimants};
+ghost use Rattle.group_job.specs.SightWorkers.Desks.{job_of_desk, sectors_of_desk};
+ghost use Rattle.group_job.specs.SightWorkers.Jobs.{IsJob};
+ghost use Rattle.group_job.specs.SightWorkers.Teams.{AreWalked, IsWhole};
+
+use crate::sight_workers::board::{Board, sectors_of};
+use crate::sight_workers::desk::Desk;
+use crate::sight_workers::gate::Gate;
+use crate::sight_workers::hand::{Hand, labour};
+use crate::sight_workers::job::Job;
+use crate::sight_workers::team::{Gathered, by_source, gather, hands_of, nobody};
+use mesh_shape::half_edges::HalfEdges;
+use pair_budget::SourceResult;
+use sight_names::{Items, Memory};
+use std::alloc::Global;
+
+/// The one hand works.
+fn work_alone<G: Gate>(
+    alloc: Global,
+    desk: &Desk<'_>,
+    hands: &mut [Hand],
+    components: &[u16],
+    job: &Job<'_>,
+    edges: &HalfEdges,
+    gate: &G,
+)
+    requires components { length components.now ≡ sectors_of_desk desk.now }
+    requires job { job.now ≡ job_of_desk desk.now }
+    requires made { IsJob job.now }
+    requires edges { AreHalfEdges job.now.plan.now job.now.mesh.now.triangles job.now.labels.now edges.now }
+    requires one { length hands.old ≡ 1 }
+    requires fresh { AreFreshOfDesk desk.now 1 hands.old }
+    ensures done { AreDoneOfDesk desk.now components.now 1 hands.new }
+{
+    labour(desk, alloc, &mut hands[0], components, job, edges, gate);
+}
+
+/// The results of all sectors, as the one worker gave them.
+fn walk_in_turn<G: Gate>(
+    alloc: Global,
+    job: Job<'_>,
+    components: &[u16],
+    gate: &G,
+    claimed_by: &mut [u16],
+) -> Result<Vec<SourceResult>, Memory>
+    requires components { length components.now ≡ job.plan.now.sectors }
+    requires job { IsJob job }
+    requires below { All (λ w. w < 1) claimed_by.old }
+    ensures whole { IfOk result (λ v. IsWhole job.entry.plan.now.sectors components.now (task_for job.entry 1) v.items) }
+    ensures len { IfOk result (λ _. length claimed_by.new ≡ length claimed_by.old) }
+    ensures below { IfOk result (λ _. All (λ w. w < 1) claimed_by.new) }
+    ensures claimants { IfOk result (λ _. AreClaimants (task_for job.entry 1) claimed_by.new) }
+{
+    let edges = HalfEdges::of(alloc, job.plan, job.mesh, job.labels)?;
+    let mut board = Board::new(alloc, job, 1)?;
+    let mut hands = hands_of(&mut board, alloc)?;
+    work_alone(
+        alloc,
+        &board.desk,
+        hands.as_mut_slice(),
+        components,
+        &job,
+        &edges,
+        gate,
+    );
+    let pool = gather(&mut board, alloc, hands, components, claimed_by)?;
+    board.close();
+    Ok(pool)
+}
+
+/// What `walk_all` gives with one worker, without a thread.
+pub fn walk_alone<G: Gate>(alloc: Global, job: Job<'_>, gate: &G) -> Result<Gathered, Memory>
+    requires job { IsJob job }
+    ensures results { IfOk result (λ g. AreResults job.entry.plan.now g.results) }
+    ensures walked { IfOk result (λ g. AreWalked (task_for job.entry 1) g.results) }
+    ensures settled { IfOk result (λ g. IsSettled g.results job.entry.components.now) }
+    ensures claimed_by { IfOk result (λ g. (length g.claimed_by ≡ job.entry.plan.now.sectors) × All (λ w. w < 1) g.claimed_by) }
+    ensures claimants { IfOk result (λ g. AreClaimants (task_for job.entry 1) g.claimed_by) }
+{
+    let mut claimed_by = nobody(alloc, usize::from(sectors_of(job.plan)), 1)?;
+    let pool = walk_in_turn(alloc, job, job.components, gate, claimed_by.as_mut_slice())?;
+    let results = by_source(pool)?;
+    Ok(Gathered {
+        results: Items::of(results),
+        claimed_by: Items::of(claimed_by),
+    })
+}

@@ -1,5 +1,0 @@
-use Rattle.group_laws.proofs.WholeLaws.{in_sector_by_groups}
-use Rattle.group_laws.proofs.laws.points_are_in_groups.Goals as goal
-
-pub returns : goal.returns
-returns c = λ p ts h groups g its. in_sector_by_groups p h.plan h.faces ts h.mesh groups its.are g its.is

@@ -1,5 +1,0 @@
-use Rattle.group_laws.proofs.WholeLaws.{list_is_named}
-use Rattle.group_laws.proofs.laws.sectors_are_named.Goals as goal
-
-pub returns : goal.returns
-returns c = λ p ts h. list_is_named p h.plan h.faces ts h.mesh

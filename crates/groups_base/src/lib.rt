@@ -1,2 +1,0 @@
-//! Proofs alone: the sectors of a face whose sides name several, and sight between groups of sectors.
-#![tactic(auto)]

@@ -1,4 +1,0 @@
-pub mod Bools
-pub mod Numbers
-pub mod Options
-pub mod Lists

@@ -1,0 +1,147 @@
+-- The numbers of the statuses, and what never stands in one.
+use Rattle.std.specs.Prelude.{ℕ, ⊤}
+use Rattle.sight_names.specs.declared.faults.WadFault.{WadFault}
+use Rattle.sight_names.specs.declared.faults.WadFault.TheVariants as wad
+use Rattle.sight_names.specs.declared.faults.LumpFault.{LumpFault}
+use Rattle.sight_names.specs.declared.faults.LumpFault.TheVariants as lump
+use Rattle.sight_names.specs.declared.faults.TraceFault.TheVariants as trace
+use Rattle.sight_names.specs.declared.faults.TableFault.TheVariants as table
+use Rattle.sight_names.specs.declared.faults.CertFault.TheVariants as cert
+use Rattle.map_answers.specs.declared.sight_status.status.Bound.TheVariants as bound
+use Rattle.map_answers.specs.declared.sight_status.status.Role.TheVariants as role
+use Rattle.map_answers.specs.declared.sight_status.status.Why.{Why}
+use Rattle.map_answers.specs.declared.sight_status.status.Why.TheVariants as why
+use Rattle.map_answers.specs.declared.sight_status.status.Status.{Status}
+use Rattle.map_answers.specs.declared.sight_status.status.Status.TheVariants as status
+
+-- the exit status of the program
+abbrev pub number_of : Status → ℕ
+number_of status.Done = 0
+number_of (status.No why) = 1
+number_of status.Usage = 2
+number_of (status.NoFile role) = 3
+number_of (status.ReadFault role) = 4
+number_of (status.WriteFault role) = 5
+number_of (status.NotWad fault) = 6
+number_of (status.NoMap fault) = 7
+number_of (status.BadLump fault) = 8
+number_of (status.Limit bound) = 9
+number_of (status.BadMap flaw) = 10
+number_of status.SameName = 11
+number_of status.Memory = 12
+
+-- too many lumps are a limit, and want of memory is a status of its own
+abbrev pub IsWadFault : WadFault → Type 0
+IsWadFault wad.TooManyLumps = ⊥
+IsWadFault wad.Memory = ⊥
+IsWadFault fault = ⊤
+
+-- too many lines, points or sectors are limits
+abbrev pub IsLumpFault : LumpFault → Type 0
+IsLumpFault (lump.TooManySectors count) = ⊥
+IsLumpFault (lump.TooManyLines count) = ⊥
+IsLumpFault (lump.TooManyPoints count) = ⊥
+IsLumpFault lump.Memory = ⊥
+IsLumpFault fault = ⊤
+
+-- want of memory is no reason for a no
+abbrev pub IsReason : Why → Type 0
+IsReason (why.Trace trace.Memory) = ⊥
+IsReason (why.Table table.Memory) = ⊥
+IsReason (why.Cert cert.Memory) = ⊥
+IsReason reason = ⊤
+
+-- no fault stands in a status where there is another status for it
+abbrev pub IsProper : Status → Type 0
+IsProper (status.NotWad fault) = IsWadFault fault
+IsProper (status.BadLump fault) = IsLumpFault fault
+IsProper (status.No reason) = IsReason reason
+IsProper other = ⊤
+
+-- a refusal that the bytes of a WAD and its map can call for
+abbrev pub IsOfBytes : Status → Type 0
+IsOfBytes (status.NotWad fault) = IsWadFault fault
+IsOfBytes (status.NoMap fault) = ⊤
+IsOfBytes (status.BadLump fault) = IsLumpFault fault
+IsOfBytes (status.Limit bound.WadBytes) = ⊥
+IsOfBytes (status.Limit bound.CertBytes) = ⊥
+IsOfBytes (status.Limit bound.OutputBytes) = ⊥
+IsOfBytes (status.Limit bound) = ⊤
+IsOfBytes status.Memory = ⊤
+IsOfBytes other = ⊥
+
+-- a refusal that making an output can call for
+abbrev pub IsOfMaking : Status → Type 0
+IsOfMaking (status.Limit bound.Lumps) = ⊤
+IsOfMaking (status.Limit bound.OutputBytes) = ⊤
+IsOfMaking status.Memory = ⊤
+IsOfMaking other = ⊥
+
+-- what the test of a ray can end with
+abbrev pub IsOfRayTest : Status → Type 0
+IsOfRayTest (status.No (why.Ray fault)) = ⊤
+IsOfRayTest status.Memory = ⊤
+IsOfRayTest other = ⊥
+
+-- what a question on a noise can end with
+abbrev pub IsOfSoundTest : Status → Type 0
+IsOfSoundTest (status.No (why.NoSector a)) = ⊤
+IsOfSoundTest status.Memory = ⊤
+IsOfSoundTest other = ⊥
+
+-- what taking bytes as a table can end with
+abbrev pub IsOfTableTest : Status → Type 0
+IsOfTableTest (status.No (why.Table table.Memory)) = ⊥
+IsOfTableTest (status.No (why.Table fault)) = ⊤
+IsOfTableTest status.Memory = ⊤
+IsOfTableTest other = ⊥
+
+-- what the fetch of a certificate can end with
+abbrev pub IsOfCertFetch : Status → Type 0
+IsOfCertFetch (status.NoFile role.Cert) = ⊤
+IsOfCertFetch (status.ReadFault role.Cert) = ⊤
+IsOfCertFetch (status.Limit bound.CertBytes) = ⊤
+IsOfCertFetch status.Memory = ⊤
+IsOfCertFetch other = ⊥
+
+-- what the reading of a certificate can end with
+abbrev pub IsOfCertTest : Status → Type 0
+IsOfCertTest (status.No (why.Cert cert.Memory)) = ⊥
+IsOfCertTest (status.No (why.Cert fault)) = ⊤
+IsOfCertTest status.Memory = ⊤
+IsOfCertTest other = ⊥
+
+-- what reading a table and a certificate can end with
+abbrev pub IsOfCheckInput : Status → Type 0
+IsOfCheckInput (status.No (why.Table table.Memory)) = ⊥
+IsOfCheckInput (status.No (why.Table fault)) = ⊤
+IsOfCheckInput (status.No (why.Cert cert.Memory)) = ⊥
+IsOfCheckInput (status.No (why.Cert fault)) = ⊤
+IsOfCheckInput other = IsOfCertFetch other
+
+-- what a verdict can end with
+abbrev pub IsOfVerdict : Status → Type 0
+IsOfVerdict (status.No (why.Check fault)) = ⊤
+IsOfVerdict (status.No (why.Group triangle)) = ⊤
+IsOfVerdict (status.No (why.Unused group)) = ⊤
+IsOfVerdict status.Memory = ⊤
+IsOfVerdict other = ⊥
+
+-- what the audit of a map can end with
+abbrev pub IsOfMapTest : Status → Type 0
+IsOfMapTest (status.BadMap flaw) = ⊤
+IsOfMapTest status.Memory = ⊤
+IsOfMapTest other = ⊥
+
+-- what the audit and the walk along a ray can end with
+abbrev pub IsOfTraceTest : Status → Type 0
+IsOfTraceTest (status.No (why.Trace trace.Memory)) = ⊥
+IsOfTraceTest (status.No (why.Trace fault)) = ⊤
+IsOfTraceTest other = IsOfMapTest other
+
+-- a refusal that words alone call for
+abbrev pub IsOfWords : Status → Type 0
+IsOfWords status.Usage = ⊤
+IsOfWords status.SameName = ⊤
+IsOfWords status.Memory = ⊤
+IsOfWords other = ⊥

@@ -1,0 +1,109 @@
+//! How a run ends.
+
+ghost use Rattle.std.specs.Prelude.{◌≡◌};
+ghost use Rattle.map_answers.specs.SightStatus.Status.{number_of};
+
+use sight_names::{
+    CertFault, CheckFault, LineFault, LumpFault, MapFault, RayFault, Side, TableFault, TraceFault,
+    WadFault,
+};
+
+/// What a file is to an order, or the text that is put.
+#[derive(Clone, Copy, Debug, PartialEq, Eq)]
+pub enum Role {
+    Wad,
+    Cert,
+    Report,
+    Picture,
+    Text,
+}
+
+/// What is above its limit.
+#[derive(Clone, Copy, Debug, PartialEq, Eq)]
+pub enum Bound {
+    WadBytes,
+    CertBytes,
+    Lumps,
+    Lines,
+    Points,
+    Sectors,
+    OutputBytes,
+}
+
+/// Why a map isn't sound.
+#[derive(Clone, Copy, Debug, PartialEq, Eq)]
+pub enum Flaw {
+    /// Two lines share more than an end of both.
+    Line(LineFault),
+    /// The face of this side isn't closed.
+    Open(Side),
+}
+
+/// Why the answer of an order that judges is no.
+#[derive(Clone, Copy, Debug, PartialEq, Eq)]
+pub enum Why {
+    Ray(RayFault),
+    Trace(TraceFault),
+    Table(TableFault),
+    Cert(CertFault),
+    Check(CheckFault),
+    /// The group that labels this triangle isn't the list of its face.
+    Group(u16),
+    /// No triangle is labelled with this group.
+    Unused(u16),
+    /// The map has no sector of this number.
+    NoSector(u16),
+}
+
+/// How a run ends. A fault for which there is another status, such as want of memory, never stands in `NotWad`,
+/// `BadLump` or `No`.
+#[derive(Clone, Copy, Debug, PartialEq, Eq)]
+pub enum Status {
+    /// What the words ask was done.
+    Done,
+    /// What was judged isn't so.
+    No(Why),
+    /// The words are no order.
+    Usage,
+    /// There is no file of that name.
+    NoFile(Role),
+    /// A read failed.
+    ReadFault(Role),
+    /// A create, an append or a put failed.
+    WriteFault(Role),
+    /// The bytes are no WAD.
+    NotWad(WadFault),
+    /// The WAD has no such map.
+    NoMap(MapFault),
+    /// The lumps are no map.
+    BadLump(LumpFault),
+    /// Something is above its limit.
+    Limit(Bound),
+    /// The map isn't sound.
+    BadMap(Flaw),
+    /// Two file names of the order are equal.
+    SameName,
+    /// A request for memory was refused.
+    Memory,
+}
+
+/// The exit status of the program.
+pub fn code(status: &Status) -> u8
+    ensures { result ≡ number_of status.now }
+{
+    match status {
+        Status::Done => 0,
+        Status::No(_) => 1,
+        Status::Usage => 2,
+        Status::NoFile(_) => 3,
+        Status::ReadFault(_) => 4,
+        Status::WriteFault(_) => 5,
+        Status::NotWad(_) => 6,
+        Status::NoMap(_) => 7,
+        Status::BadLump(_) => 8,
+        Status::Limit(_) => 9,
+        Status::BadMap(_) => 10,
+        Status::SameName => 11,
+        Status::Memory => 12,
+    }
+}

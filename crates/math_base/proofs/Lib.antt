@@ -1,0 +1,10 @@
+pub mod IntLaws
+pub mod Ring
+pub mod Signs
+pub mod Quoting
+pub mod MoreSigns
+pub mod Small
+pub mod Bools
+pub mod Numbers
+pub mod Options
+pub mod Lists

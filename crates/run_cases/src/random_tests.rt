@@ -1,0 +1,6 @@
+//! Trials of build and check over made-up maps.
+
+#[cfg(test)]
+mod bits;
+#[cfg(test)]
+mod trials;

@@ -1,5 +1,0 @@
-use Rattle.sight_names.proofs.FaceRows.{is_open}
-use Rattle.sight_laws.proofs.worked.open_square_is_open.Goals as goal
-
-pub returns : goal.returns
-returns c = is_open

@@ -1,5 +1,0 @@
-use Rattle.sight_names.proofs.PairRows.{wrong_way}
-use Rattle.sight_laws.proofs.worked.pair_ray_goes_the_wrong_way.Goals as goal
-
-pub returns : goal.returns
-returns c = wrong_way

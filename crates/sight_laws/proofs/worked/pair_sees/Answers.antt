@@ -1,5 +1,0 @@
-use Rattle.sight_names.proofs.PairRows.{pair_sees as seen}
-use Rattle.sight_laws.proofs.worked.pair_sees.Goals as goal
-
-pub returns : goal.returns
-returns c = seen

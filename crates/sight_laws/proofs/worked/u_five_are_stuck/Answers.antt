@@ -1,5 +1,0 @@
-use Rattle.sight_names.proofs.URows.{last_portals_are, enters, five_stuck}
-use Rattle.sight_laws.proofs.worked.u_five_are_stuck.Goals as goal
-
-pub returns : goal.returns
-returns c = (last_portals_are, enters.1, five_stuck)

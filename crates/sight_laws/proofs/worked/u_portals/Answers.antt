@@ -1,5 +1,0 @@
-use Rattle.sight_names.proofs.URows.{root_of_source, portals_are, enters}
-use Rattle.sight_laws.proofs.worked.u_portals.Goals as goal
-
-pub returns : goal.returns
-returns c = (root_of_source, portals_are, enters.0)

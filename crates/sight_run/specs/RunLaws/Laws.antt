@@ -1,0 +1,283 @@
+-- What holds of the orders together: the answer of `check` to what `build` wrote, what written WADs keep, and how runs end where nothing failed.
+use Rattle.std.specs.Prelude.{◌≡◌, ◌⊎◌, ◌≤◌, ◌<◌, ◌^◌, ℕ, Bool, false, List, ◌++◌, length, Contains, Option, Some, Result, Ok, Err, codes, ⊤}
+use Rattle.std.specs.List.{AllByRecursion}
+use Rattle.std.specs.Option.{option_map}
+use Rattle.std.specs.Str.{bytes_eq}
+use Rattle.sight_names.specs.declared.faults.RewriteFault.TheVariants as rewrite
+use Rattle.sight_names.specs.declared.names.Method.{Method}
+use Rattle.sight_names.specs.Groups.{HasClosedFaces}
+use Rattle.sight_names.specs.Map.{Map}
+use Rattle.sight_names.specs.Table.{IsTable}
+use Rattle.shelf_io.specs.Shelf.{Files, ShelfState}
+use Rattle.shelf_io.specs.Sink.{SinkState}
+use Rattle.wad_dir.specs.Map.{same_name}
+use Rattle.wad_dir.specs.Wad.{WadFile, names_of, wad_of}
+use Rattle.wad_dir.specs.WadRewrite.Again.{IsReadAgain}
+use Rattle.wad_dir.specs.declared.all_maps.parts.Change.{Change}
+use Rattle.wad_dir.specs.AllMaps.All.{HasReject, IsAll}
+use Rattle.wad_dir.specs.AllMaps.Names.{word_of}
+use Rattle.wad_dir.specs.AllMaps.Spliced.{spliced}
+use Rattle.order_words.specs.declared.order.Order.TheVariants as order
+use Rattle.order_words.specs.declared.order.Source.{Source}
+use Rattle.order_words.specs.declared.order.View.{View}
+use Rattle.order_words.specs.declared.order.View.TheVariants as view
+use Rattle.order_words.specs.Words.{source_of}
+use Rattle.cert_checker.specs.declared.verdict.Totals.{Totals}
+use Rattle.map_answers.specs.declared.counts.Counts.{Counts}
+use Rattle.map_answers.specs.declared.sight_status.status.Bound.TheVariants as bound
+use Rattle.map_answers.specs.declared.sight_status.status.Role.TheVariants as role
+use Rattle.map_answers.specs.declared.sight_status.status.Status.{Status}
+use Rattle.map_answers.specs.declared.sight_status.status.Status.TheVariants as status
+use Rattle.map_answers.specs.SightStatus.Answer.{Answer, only_line}
+use Rattle.whole_wad.specs.declared.building.Built.{Built}
+use Rattle.whole_wad.specs.declared.outcomes.MapOutcome.{MapOutcome}
+use Rattle.whole_wad.specs.declared.tables.MapTable.{MapTable}
+use Rattle.whole_wad.specs.Built.{IsBuiltOf}
+use Rattle.whole_wad.specs.Outcomes.{AreOutcomes, changes_of}
+use Rattle.whole_wad.specs.Tables.{IsFlawOf}
+use Rattle.whole_wad.specs.Whole.{IsAboveLimit}
+use Rattle.sight_run.specs.All.{maps_in, wad_in}
+use Rattle.sight_run.specs.Build.{ShowsLimit, build_line}
+use Rattle.sight_run.specs.Check.{IsTableOf, reject_of, yes_line}
+use Rattle.map_answers.specs.Groups.{IsOverGroups, MapGroups}
+use Rattle.map_answers.specs.Input.{LocatedMap, map_named}
+use Rattle.map_picture.specs.Bytes.{svg_of}
+use Rattle.map_picture.specs.Picture.{row_picture}
+use Rattle.reject_bits.specs.Parts.{TableParts}
+use Rattle.sight_run.specs.Heard.{Heard}
+use Rattle.sight_run.specs.Reading.{found_of}
+use Rattle.sight_run.specs.Obeys.{IsAnswer}
+use Rattle.sight_run.specs.Run.{NothingRose, RunEnds, StatusCause, put_all}
+use Rattle.sight_run.specs.Words.{asked_of}
+use Rattle.sight_run.specs.Zero.{clear_table, with_table}
+
+-- the words ask for a build of this map into OUT with its certificate in FILE, and the others for the check of just these by the same limits
+pub record AskBoth (build check : List (List ℕ)) (name out cert : List ℕ) : Type 0 where
+  pub wad : Source
+  pub report : Option (List ℕ)
+  pub workers : ℕ
+  pub method : Method
+  pub built : asked_of build ≡ Ok (order.Build wad name out (Some cert) report workers method)
+  pub checked : asked_of check ≡ Ok (order.Check (source_of wad.large out) name cert)
+  -- the map isn't called REJECT
+  pub other : same_name (codes "REJECT") name ≡ false
+
+-- some files have under these two names what others have
+pub record HaveBoth (files others : Files) (out cert : List ℕ) : Type 0 where
+  pub at_out : others out ≡ files out
+  pub at_cert : others cert ≡ files cert
+
+-- a file has no more bytes than a list in memory can have
+abbrev pub IsShort : Files → List ℕ → Type 0
+IsShort files name = (bytes : List ℕ) → files name ≡ Some bytes → length bytes ≤ 9223372036854775807
+
+-- the totals that these counts are
+abbrev pub totals_of : Counts → Totals
+totals_of counts = record { set = counts.set; clear = counts.clear; listed = counts.listed }
+
+-- the one answer to the check is yes, with the counts of the build's line
+pub record SaysYes (check : List (List ℕ)) (name : List ℕ) (others : Files) (answer : Answer) : Type 0 where
+  pub counts : Counts
+  pub built : answer.line ≡ build_line name counts
+  pub only : (heard : Heard) (given : Result Answer Status) → IsAnswer check others heard given → given ≡ Ok (only_line (yes_line counts.sectors (totals_of counts)))
+
+-- Where a build is answered, the one answer to the check of what it wrote is yes, with the same counts.
+abbrev pub BuiltIsChecked : Type 0
+BuiltIsChecked = (build check : List (List ℕ)) (name out cert : List ℕ) (files others : Files) (heard : Heard) (answer : Answer)
+    → AskBoth build check name out cert → IsAnswer build files heard (Ok answer)
+    → HaveBoth (put_all files answer.writes) others out cert → IsShort others cert
+    → SaysYes check name others answer
+
+-- The check ends with Done and the line of a yes with these counts. Want of memory and faults of reading or of the text can come too.
+abbrev pub ChecksYes : Counts → SinkState → SinkState → Status → Type 0
+ChecksYes counts old new status.Done = new.held ≡ option_map (λ held. held ++ yes_line counts.sectors (totals_of counts)) old.held
+ChecksYes counts old new status.Memory = ⊤
+ChecksYes counts old new (status.ReadFault role) = ⊤
+ChecksYes counts old new (status.WriteFault role.Text) = ⊤
+ChecksYes counts old new other = ⊥
+
+-- what a sink held and holds
+pub record Sinks : Type 0 where
+  pub old : SinkState
+  pub new : SinkState
+
+-- the line of the build has these counts, and so has that of the check
+pub record EndWithYes (name : List ℕ) (building checking : Sinks) (s : Status) : Type 0 where
+  pub counts : Counts
+  pub built : building.new.held ≡ option_map (λ held. held ++ build_line name counts) building.old.held
+  pub checked : ChecksYes counts checking.old checking.new s
+
+-- Where a run of `build` ends with Done, a run of `check` on what stands in its two files then ends with Done.
+abbrev pub BuiltRunIsChecked : Type 0
+BuiltRunIsChecked = (build check : List (List ℕ)) (name out cert : List ℕ) (files stand others : Files) (heard unheard : Heard) (before after first last : ShelfState) (building checking : Sinks) (s : Status)
+    → AskBoth build check name out cert → RunEnds build files heard before after building.old building.new status.Done
+    → after.files ≡ Some stand → HaveBoth stand others out cert → IsShort others cert
+    → RunEnds check others unheard first last checking.old checking.new s → EndWithYes name building checking s
+
+-- ---- what a written WAD keeps
+
+-- under OUT stands a WAD which is read as the one in which the map was found, with such a REJECT for it, and with all other lumps
+pub record KeepsLumps (wad : Source) (name out : List ℕ) (files stand : Files) (IsRight : Map → List ℕ → Type 0) : Type 0 where
+  pub found : LocatedMap
+  pub was : found_of wad name files ≡ Ok found
+  pub table : List ℕ
+  pub is_right : IsRight found.map table
+  pub bytes : List ℕ
+  pub stands : stand out ≡ Some bytes
+  pub again : IsReadAgain found.wad name found.spot table bytes
+
+abbrev pub IsClearTable : Map → List ℕ → Type 0
+IsClearTable m table = table ≡ clear_table m.sectors
+
+abbrev pub HasTableLength : Map → List ℕ → Type 0
+HasTableLength m table = IsTable m.sectors table
+
+-- Where `zero` is answered, OUT holds the WAD with a clear REJECT and all other lumps as they were. The map isn't called REJECT.
+abbrev pub ZeroKeepsLumps : Type 0
+ZeroKeepsLumps = (words : List (List ℕ)) (wad : Source) (name out : List ℕ) (files : Files) (heard : Heard) (answer : Answer)
+    → asked_of words ≡ Ok (order.Zero wad name out) → same_name (codes "REJECT") name ≡ false → IsAnswer words files heard (Ok answer)
+    → KeepsLumps wad name out files (put_all files answer.writes) IsClearTable
+
+-- where `build` is answered, it holds the WAD with a table of the map's sectors and all other lumps as they were
+abbrev pub BuildKeepsLumps : Type 0
+BuildKeepsLumps = (words : List (List ℕ)) (wad : Source) (name out : List ℕ) (asked report : Option (List ℕ)) (workers : ℕ) (method : Method) (files : Files) (heard : Heard) (answer : Answer)
+    → asked_of words ≡ Ok (order.Build wad name out asked report workers method) → same_name (codes "REJECT") name ≡ false → IsAnswer words files heard (Ok answer)
+    → KeepsLumps wad name out files (put_all files answer.writes) HasTableLength
+
+-- ---- what `draw` writes
+
+-- under OUT stands a picture, and under each other name what stood there
+pub record LeavesPicture (out : List ℕ) (files stand : Files) (IsPicture : List ℕ → Type 0) : Type 0 where
+  pub bytes : List ℕ
+  pub is_picture : IsPicture bytes
+  pub stands : stand out ≡ Some bytes
+  pub others : (name : List ℕ) → bytes_eq out name ≡ false → stand name ≡ files name
+
+abbrev pub IsAnyPicture : List ℕ → Type 0
+IsAnyPicture bytes = ⊤
+
+-- Where `draw` is answered, OUT holds its picture, and all other files are as they were.
+abbrev pub DrawLeavesPicture : Type 0
+DrawLeavesPicture = (words : List (List ℕ)) (wad : Source) (name out : List ℕ) (view : View) (files : Files) (heard : Heard) (answer : Answer)
+    → asked_of words ≡ Ok (order.Draw wad name out view) → IsAnswer words files heard (Ok answer)
+    → LeavesPicture out files (put_all files answer.writes) IsAnyPicture
+
+-- The map is found, its audit accepts it, and the picture paints the faces of its groups by the row of sector a in a table that the bytes of
+-- its REJECT spell.
+pub record IsRowOfReject (wad : Source) (name : List ℕ) (files : Files) (a : ℕ) (bytes : List ℕ) : Type 0 where
+  pub found : LocatedMap
+  pub was : found_of wad name files ≡ Ok found
+  pub within : a < found.map.sectors
+  pub table : TableParts
+  pub spelled : IsTableOf found.map.sectors (reject_of found) table
+  pub groups : MapGroups
+  pub over : IsOverGroups found.map groups
+  pub is : bytes ≡ svg_of found.map (row_picture found.map groups.groups groups.triangles groups.labels table a)
+
+-- where `draw` is answered of a sector, that is the picture
+abbrev pub RowIsOfReject : Type 0
+RowIsOfReject = (words : List (List ℕ)) (wad : Source) (name out : List ℕ) (a : ℕ) (files : Files) (heard : Heard) (answer : Answer)
+    → asked_of words ≡ Ok (order.Draw wad name out (view.Row a)) → IsAnswer words files heard (Ok answer)
+    → LeavesPicture out files (put_all files answer.writes) (IsRowOfReject wad name files a)
+
+-- ---- what `all` writes
+
+-- what was built, without its certificate
+abbrev pub table_built : Built → MapTable
+table_built built = record { table = built.table; listed = built.listed }
+
+-- What `all` makes of a map is what `build` makes of it by the same method: the same table, byte for byte, and the same list, or the same flaw.
+pub record AreMadeAlike (found : LocatedMap) (name : List ℕ) (method : Method) (outcomes : List MapOutcome) : Type 0 where
+  pub tables : (o : MapOutcome) → Contains outcomes o → word_of o.name ≡ name → (built : Built) → IsBuiltOf found.map method built → o.made ≡ Ok (table_built built)
+  pub flaws : (o : MapOutcome) → Contains outcomes o → word_of o.name ≡ name → (refusal : Status) → IsFlawOf found.map refusal → o.made ≡ Err refusal
+
+abbrev pub AllIsAsBuild : Type 0
+AllIsAsBuild = (wad : Source) (name : List ℕ) (files : Files) (w : WadFile) (found : LocatedMap) (maps : List (List ℕ)) (method : Method) (outcomes : List MapOutcome)
+    → wad_in wad.file files ≡ Ok w → found_of wad name files ≡ Ok found → AreOutcomes w wad.large maps method outcomes → AreMadeAlike found name method outcomes
+
+-- a table has the length that the sectors of its map ask
+abbrev pub HasLengthOf : Result Map Status → Result MapTable Status → Type 0
+HasLengthOf (Ok m) (Ok made) = IsTable m.sectors made.table.bytes
+HasLengthOf said other = ⊤
+
+-- Under OUT stands a WAD that is read as the one of the file in which each map that was to be built and got a table has it as its REJECT,
+-- and in which all other lumps are as they were, in order.
+pub record KeepsAllLumps (wad : Source) (out : List ℕ) (only : Option (List (List ℕ))) (method : Method) (files stand : Files) : Type 0 where
+  pub w : WadFile
+  pub was : wad_in wad.file files ≡ Ok w
+  pub maps : List (List ℕ)
+  pub asked : maps_in (names_of w) only ≡ Ok maps
+  pub outcomes : List MapOutcome
+  pub are : AreOutcomes w wad.large maps method outcomes
+  pub lengths : AllByRecursion (λ (o : MapOutcome). HasLengthOf (map_named wad.large w (word_of o.name)) o.made) outcomes
+  pub bytes : List ℕ
+  pub stands : stand out ≡ Some bytes
+  pub short : length bytes < 2 ^ 31
+  pub new : WadFile
+  pub read : wad_of bytes ≡ Ok new
+  -- each table is put in at the map that its name finds in what those before it left, and the name finds it there at the end
+  pub made : IsAll w (changes_of outcomes) new
+  pub tables : AllByRecursion (λ (c : Change). HasReject new c.name c.table) (changes_of outcomes)
+  -- what lies before, between and behind these REJECTs is what it was
+  pub lumps : new.lumps ≡ spliced (names_of w) w.lumps 0 (changes_of outcomes)
+
+-- Where `all` is answered, OUT holds such a WAD.
+abbrev pub AllKeepsLumps : Type 0
+AllKeepsLumps = (words : List (List ℕ)) (wad : Source) (out : List ℕ) (only : Option (List (List ℕ))) (report : Option (List ℕ)) (workers : ℕ) (method : Method) (files : Files) (heard : Heard) (answer : Answer)
+    → asked_of words ≡ Ok (order.All wad out only report workers method) → IsAnswer words files heard (Ok answer)
+    → KeepsAllLumps wad out only method files (put_all files answer.writes)
+
+-- ---- where nothing failed
+
+-- how a run went: the files, the shelf, the sink and the listeners before and after it, and its status
+pub record Went : Type 0 where
+  pub files : Files
+  pub heard : Heard
+  pub before : ShelfState
+  pub after : ShelfState
+  pub sink : Sinks
+  pub status : Status
+
+-- as `run` promises, and no count of faults rose
+pub record WentWell (words : List (List ℕ)) (went : Went) : Type 0 where
+  pub ends : RunEnds words went.files went.heard went.before went.after went.sink.old went.sink.new went.status
+  pub cause : StatusCause went.before went.after went.sink.old went.sink.new went.status
+  pub quiet : NothingRose went.before went.after went.sink.old went.sink.new
+
+-- it is done, unless memory ran out, or the WAD with the table is above that limit
+abbrev pub EndsBuild : Method → LocatedMap → Status → Type 0
+EndsBuild method found status.Done = ⊤
+EndsBuild method found status.Memory = ⊤
+EndsBuild method found (status.Limit bound) = ShowsLimit method found bound
+EndsBuild method found other = ⊥
+
+-- A build of a map that the audit accepts ends so.
+abbrev pub BuildIsDone : Type 0
+BuildIsDone = (words : List (List ℕ)) (wad : Source) (name out : List ℕ) (asked report : Option (List ℕ)) (workers : ℕ) (method : Method) (went : Went) (found : LocatedMap)
+    → asked_of words ≡ Ok (order.Build wad name out asked report workers method) → found_of wad name went.files ≡ Ok found → HasClosedFaces found.map
+    → WentWell words went → EndsBuild method found went.status
+
+-- the WAD with a clear REJECT for the map, as `zero` writes it, is within the limits; so is the one with any other table of its sectors
+pub record HasRoom (found : LocatedMap) : Type 0 where
+  pub bytes : List ℕ
+  pub clear : with_table found (clear_table found.map.sectors) ≡ Ok bytes
+
+-- Where there is room it ends with Done, or for want of memory.
+abbrev pub BuildWithRoomIsDone : Type 0
+BuildWithRoomIsDone = (words : List (List ℕ)) (wad : Source) (name out : List ℕ) (asked report : Option (List ℕ)) (workers : ℕ) (method : Method) (went : Went) (found : LocatedMap)
+    → asked_of words ≡ Ok (order.Build wad name out asked report workers method) → found_of wad name went.files ≡ Ok found → HasClosedFaces found.map → HasRoom found
+    → WentWell words went → (went.status ≡ status.Done) ⊎ (went.status ≡ status.Memory)
+
+-- it is done, unless memory ran out, or the WAD with all tables is above that limit
+abbrev pub EndsAll : Bool → List (List ℕ) → Method → WadFile → Status → Type 0
+EndsAll large maps method w status.Done = ⊤
+EndsAll large maps method w status.Memory = ⊤
+EndsAll large maps method w (status.Limit bound.Lumps) = IsAboveLimit w large maps method rewrite.TooManyLumps
+EndsAll large maps method w (status.Limit bound.OutputBytes) = IsAboveLimit w large maps method rewrite.TooLong
+EndsAll large maps method w other = ⊥
+
+-- `all` of a WAD that is read ends so, where each name that is given is that of a map. Without names there is nothing to be found.
+abbrev pub AllIsDone : Type 0
+AllIsDone = (words : List (List ℕ)) (wad : Source) (out : List ℕ) (only : Option (List (List ℕ))) (report : Option (List ℕ)) (workers : ℕ) (method : Method) (went : Went) (w : WadFile) (maps : List (List ℕ))
+    → asked_of words ≡ Ok (order.All wad out only report workers method) → wad_in wad.file went.files ≡ Ok w → maps_in (names_of w) only ≡ Ok maps
+    → WentWell words went → EndsAll wad.large maps method w went.status

@@ -1,9 +1,0 @@
-use Rattle.cert_parts.specs.Nodes.{TakesNodes}
-use Rattle.tree_judge.specs.Walked.{FollowsAt}
-use Rattle.tree_judge.proofs.walk.follow_nodes.Given as goal
-
-abbrev pub decreases-rest : goal.decreases-rest
-decreases-rest l = l.left
-
-abbrev pub invariant-rest : goal.invariant-rest
-invariant-rest l = TakesNodes l.bytes l.count l.rest l.left (FollowsAt l.terrain.edges.now l.terrain.roots.now.roots.items l.terrain.roots.now.first.items l.source l.initial.path l.initial.waits l.initial.at l.initial.reached l.path l.waits l.at l.reached l.wrong)

@@ -1,8 +1,0 @@
-use Rattle.tri_sectors.proofs.Forests.{IsOnWay}
-use Rattle.tri_sectors.proofs.classes.class_name.Given as goal
-
-abbrev pub invariant-loop-parents : goal.invariant-loop-parents
-invariant-loop-parents l = IsOnWay l.initial.parents l.parents l.k l.at
-
-abbrev pub decreases-loop-parents : goal.decreases-loop-parents
-decreases-loop-parents l = l.at

@@ -1,6 +1,0 @@
-use Rattle.std.proofs.Common.{◌≡◌, ◌<◌, ℕ, length}
-use Rattle.tri_sectors.specs.Classes.{class_of}
-use Rattle.tri_sectors.proofs.classes.singles.Given as goal
-
-abbrev pub invariant-loop-k : goal.invariant-loop-k
-invariant-loop-k l = record { len : length l.parents.items ≡ l.k; alone : (k : ℕ) → k < l.k → class_of l.parents.items k ≡ k }

@@ -1,6 +1,0 @@
-use Rattle.sight_names.specs.Map.{map_of}
-use Rattle.tri_sectors.specs.Faces.{AreMarked, IsWallBefore}
-use Rattle.tri_sectors.proofs.faces.mark_lines.Given as goal
-
-abbrev pub invariant-loop-line : goal.invariant-loop-line
-invariant-loop-line l = AreMarked (IsWallBefore (map_of l.plan) l.mesh.triangles l.line-index) l.mesh.triangles l.walls

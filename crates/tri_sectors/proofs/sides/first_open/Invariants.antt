@@ -1,7 +1,0 @@
-use Rattle.std.proofs.Common.{ℕ, ◌<◌, Bool}
-use Rattle.sight_names.specs.Map.{map_of}
-use Rattle.tri_sectors.specs.Sides.{IsSealedAt}
-use Rattle.tri_sectors.proofs.sides.first_open.Given as goal
-
-abbrev pub invariant-loop-i : goal.invariant-loop-i
-invariant-loop-i l = (j : ℕ) → j < l.i → (left : Bool) → IsSealedAt (map_of l.plan) l.mesh.triangles l.faces l.marks (record { line = j; left = left })

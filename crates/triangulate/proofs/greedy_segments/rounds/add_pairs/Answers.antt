@@ -1,0 +1,36 @@
+use Rattle.std.proofs.Common.{◌≡◌, ℕ, get_or, subst, ap₂, ◌∙◌, arith, nat_abs, ◌≤◌, ◌-ℤ◌, to_z-of_z}
+use Rattle.std.proofs.lemmas.Option.{slice_get-get_or}
+use Rattle.sight_names.specs.declared.names.Pt.{Pt}
+use Rattle.sight_names.specs.Map.{map_of}
+use Rattle.sight_names.specs.Greedy.{square_length}
+use Rattle.sight_names.specs.Points.{place}
+use Rattle.sight_names.proofs.Lists.{contains_of_get}
+use Rattle.triangulate.proofs.GreedySegments.Listed.{adds_none, adds_next, adds_rest, adds_all}
+use Rattle.triangulate.proofs.greedy_segments.rounds.add_pairs.Goals as goal
+
+pub loop-to-init : goal.loop-to-init
+loop-to-init c = adds_none (map_of c.args.plan.now) c.args.from c.args.later.now c.args.low c.args.high c.args.pairs.now.items
+
+pub place-end-requires : goal.place-end-requires
+place-end-requires c = c.requires.later.within (get_or c.args.later.now c.loop-to.to-index 0) (contains_of_get c.args.later.now (get_or c.args.later.now c.loop-to.to-index 0) c.loop-to.to-index (slice_get-get_or c.args.later.now c.loop-to.to-index 0 c.loop-to-test.true))
+
+pub returns-then-difference-high : goal.returns-then-difference-high
+returns-then-difference-high c =
+    let to = get_or c.args.later.now c.loop-to.to-index 0 in
+    let at = slice_get-get_or c.args.later.now c.loop-to.to-index 0 c.loop-to-test.true in
+    let same : c.difference.result ≡ nat_abs (c.place-end.result.x -ℤ c.place-start.result.x) = grind (arith, to_z-of_z, c.difference.ensures.value) in
+    let far : c.args.high ≤ nat_abs (c.place-end.result.x -ℤ c.place-start.result.x) = subst (λ (n : ℕ). c.args.high ≤ n) same c.if-difference-high.true in
+    adds_rest c.args.plan.now c.place-start.ensures.plan c.args.from to c.loop-to.to-index c.args.low c.args.high c.args.later.now c.args.pairs.now.items c.loop-to.pairs.items (c.requires.behind to (contains_of_get c.args.later.now to c.loop-to.to-index at)) c.requires.later at
+    (subst (λ (q : Pt). c.args.high ≤ nat_abs (q.x -ℤ (place (map_of c.args.plan.now) c.args.from).x)) c.place-end.ensures.place (subst (λ (q : Pt). c.args.high ≤ nat_abs (c.place-end.result.x -ℤ q.x)) c.place-start.ensures.place far))
+    c.loop-to.invariant
+
+pub loop-to-preserved : goal.loop-to-preserved
+loop-to-preserved c =
+    let to = get_or c.args.later.now c.loop-to.to-index 0 in
+    let at = slice_get-get_or c.args.later.now c.loop-to.to-index 0 c.loop-to-test.true in
+    adds_next c.args.plan.now c.place-start.ensures.plan c.args.from to c.loop-to.to-index c.args.low c.args.high c.square_of.result c.args.later.now c.args.pairs.now.items c.loop-to.pairs.items c.add_pair.new.pairs.items
+    (c.requires.behind to (contains_of_get c.args.later.now to c.loop-to.to-index at)) c.requires.later at
+    (c.square_of.ensures.value ∙ ap₂ square_length c.place-start.ensures.place c.place-end.ensures.place) c.in_ok-add_pair.ensures c.loop-to.invariant
+
+pub returns : goal.returns
+returns c = adds_all (map_of c.args.plan.now) c.args.from c.args.later.now c.args.low c.args.high c.loop-to.to-index c.args.pairs.now.items c.loop-to.pairs.items (omega (arith, c.loop-to-test.false)) c.loop-to.invariant

@@ -1,0 +1,9 @@
+//! The greedy segments of a map: its lines, then all pairs of points by length whose segments meet no kept segment but at an
+//! end of both.
+
+mod clear;
+mod extents;
+mod rounds;
+mod saturated;
+
+pub use rounds::greedy;

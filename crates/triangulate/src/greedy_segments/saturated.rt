@@ -1,0 +1,218 @@
+//! Points whose neighbours leave no room for a further segment.
+
+ghost use Rattle.std.specs.Prelude.{ℕ, ◌≡◌, ◌<◌, ◌⊎◌, ◌↔◌, pos, ◌<ℤ◌, IsTrue, length};
+ghost use Rattle.std.specs.Bool.{OnTrue, OnFalse};
+ghost use Rattle.geom_exact.specs.Formulas.{turn_of};
+ghost use Rattle.sight_names.specs.Map.{map_of};
+ghost use Rattle.sight_names.specs.Plan.{IsPlan};
+ghost use Rattle.triangulate.specs.GreedySegments.Saturated.{HasNoneLeft, HasTriangleLeft, HasTriangleRight, HasGapLeft, HasGapAt, IsBetween, IsEmptyTriangle, HasBothFaces};
+ghost use Rattle.triangulate.specs.IncidentSegments.Kept.{edges_of};
+ghost use Rattle.triangulate.specs.GreedySegments.Rounds.{IsSaturated};
+ghost use Rattle.triangulate.specs.IncidentSegments.Neighbours.{IsNeighbour};
+
+use crate::incident_segments::{IncidentSegments, are_joined, next_left, next_right};
+use geom_exact::{in_triangle, turn};
+use sight_names::{Plan, Pt};
+
+/// Whether a point of the map is strictly on the left of the way from `a` to `b`.
+fn has_left(plan: &Plan, a: u16, b: u16) -> bool
+    requires first { a < length plan.now.points }
+    requires second { b < length plan.now.points }
+    ensures { OnFalse result (HasNoneLeft (map_of plan.now) a b) }
+{
+    let (from, to) = (plan.place(a), plan.place(b));
+    for point in plan.points() {
+        if turn(from, to, *point) > 0 {
+            return true;
+        }
+    }
+    false
+}
+
+/// A range of y.
+#[derive(Clone, Copy)]
+struct Heights {
+    low: i16,
+    high: i16,
+}
+
+/// The range of y that the corners span.
+fn heights_of(a: Pt, b: Pt, c: Pt) -> Heights
+    ensures first { IsBetween a result }
+    ensures second { IsBetween b result }
+    ensures third { IsBetween c result }
+{
+    Heights {
+        low: a.y.min(b.y).min(c.y),
+        high: a.y.max(b.y).max(c.y),
+    }
+}
+
+/// Whether the point's y is in the range. Both sides are looked at: mostly one of them says no, and which one is a toss.
+fn is_between(p: Pt, heights: Heights) -> bool
+    ensures { IsTrue result ↔ IsBetween p heights }
+{
+    (heights.low <= p.y) & (p.y <= heights.high)
+}
+
+/// Whether the point is strictly inside the triangle, whose corners stand counterclockwise and span this range of y.
+fn is_inside(a: Pt, b: Pt, c: Pt, heights: Heights, p: Pt) -> bool
+    requires turn { pos 0 <ℤ turn_of a b c }
+    requires first { IsBetween a heights }
+    requires second { IsBetween b heights }
+    requires third { IsBetween c heights }
+    ensures { IsTrue result ↔ ((pos 0 <ℤ turn_of a b p) × (pos 0 <ℤ turn_of b c p) × (pos 0 <ℤ turn_of c a p)) }
+{
+    is_between(p, heights) && in_triangle(a, b, c, p)
+}
+
+/// Whether a point of the map is strictly inside the triangle, or its corners don't stand counterclockwise.
+fn is_filled(plan: &Plan, a: u16, b: u16, c: u16) -> bool
+    requires first { a < length plan.now.points }
+    requires second { b < length plan.now.points }
+    requires third { c < length plan.now.points }
+    ensures empty { OnFalse result (IsEmptyTriangle (map_of plan.now) a b c) }
+    ensures plan { IsPlan plan.now }
+{
+    let (p, q, r) = (plan.place(a), plan.place(b), plan.place(c));
+    if turn(p, q, r) <= 0 {
+        return true;
+    }
+    let heights = heights_of(p, q, r);
+    for k in a.min(b).min(c)..a.max(b).max(c) {
+        if is_inside(p, q, r, heights, plan.place(k)) {
+            return true;
+        }
+    }
+    false
+}
+
+/// Whether an empty triangle of kept segments lies on the left of the way from `a` to its neighbour `b`.
+fn has_triangle_left(plan: &Plan, incident: &IncidentSegments, a: u16, b: u16) -> bool
+    requires points { incident.now.points ≡ length plan.now.points }
+    requires first { a < incident.now.points }
+    requires second { b < incident.now.points }
+    ensures triangle { OnTrue result (HasTriangleLeft (map_of plan.now) incident.now.segments a b) }
+    ensures plan { OnTrue result (IsPlan plan.now) }
+{
+    match next_left(plan, incident, a, b) {
+        Some(c) => are_joined(incident, b, c) && !is_filled(plan, a, b, c),
+        None => false,
+    }
+}
+
+/// Whether an empty triangle of kept segments lies on the right of the way from `a` to its neighbour `b`.
+fn has_triangle_right(plan: &Plan, incident: &IncidentSegments, a: u16, b: u16) -> bool
+    requires points { incident.now.points ≡ length plan.now.points }
+    requires first { a < incident.now.points }
+    requires second { b < incident.now.points }
+    ensures { OnTrue result (HasTriangleRight (map_of plan.now) incident.now.segments a b) }
+{
+    match next_right(plan, incident, a, b) {
+        Some(c) => are_joined(incident, c, b) && !is_filled(plan, a, c, b),
+        None => false,
+    }
+}
+
+/// Whether there is no room on the left of the way from `a` to its neighbour `b`: an empty triangle lies there, or no point.
+fn has_face_left(plan: &Plan, incident: &IncidentSegments, a: u16, b: u16) -> bool
+    requires points { incident.now.points ≡ length plan.now.points }
+    requires first { a < incident.now.points }
+    requires second { b < incident.now.points }
+    ensures { OnTrue result (HasTriangleLeft (map_of plan.now) incident.now.segments a b ⊎ HasNoneLeft (map_of plan.now) a b) }
+{
+    has_triangle_left(plan, incident, a, b) || !has_left(plan, a, b)
+}
+
+/// The same on its right.
+fn has_face_right(plan: &Plan, incident: &IncidentSegments, a: u16, b: u16) -> bool
+    requires points { incident.now.points ≡ length plan.now.points }
+    requires first { a < incident.now.points }
+    requires second { b < incident.now.points }
+    ensures { OnTrue result (HasTriangleRight (map_of plan.now) incident.now.segments a b ⊎ HasNoneLeft (map_of plan.now) b a) }
+{
+    has_triangle_right(plan, incident, a, b) || !has_left(plan, b, a)
+}
+
+/// Whether the segment to each neighbour of the point has no room on either side.
+fn have_both_faces(plan: &Plan, incident: &IncidentSegments, a: u16) -> bool
+    requires points { incident.now.points ≡ length plan.now.points }
+    requires at { a < incident.now.points }
+    ensures { OnTrue result ((v : ℕ) → IsNeighbour incident.now.segments a v → HasBothFaces (map_of plan.now) incident.now.segments a v) }
+{
+    let mut at = incident.last(a);
+    while at > 0 {
+        let b = incident.other(at - 1, a);
+        if !has_face_left(plan, incident, a, b) {
+            return false;
+        }
+        if !has_face_right(plan, incident, a, b) {
+            return false;
+        }
+        at = incident.earlier(at - 1, a);
+    }
+    true
+}
+
+/// Whether the segment to some neighbour of the point has an empty triangle on its left.
+fn has_triangle_at(plan: &Plan, incident: &IncidentSegments, a: u16) -> bool
+    requires points { incident.now.points ≡ length plan.now.points }
+    requires at { a < incident.now.points }
+    ensures plan { OnTrue result (IsPlan plan.now) }
+    ensures triangle { OnTrue result ((v : ℕ) × IsNeighbour incident.now.segments a v × HasTriangleLeft (map_of plan.now) incident.now.segments a v) }
+{
+    let mut at = incident.last(a);
+    while at > 0 {
+        let b = incident.other(at - 1, a);
+        if has_triangle_left(plan, incident, a, b) {
+            return true;
+        }
+        at = incident.earlier(at - 1, a);
+    }
+    false
+}
+
+/// Whether the first neighbour of `a` on the left of the way to its neighbour `b` isn't joined with `b`.
+fn has_gap_left(plan: &Plan, incident: &IncidentSegments, a: u16, b: u16) -> bool
+    requires points { incident.now.points ≡ length plan.now.points }
+    requires first { a < incident.now.points }
+    requires second { b < incident.now.points }
+    ensures { OnTrue result (HasGapLeft (map_of plan.now) incident.now.segments a b) }
+{
+    match next_left(plan, incident, a, b) {
+        Some(c) => !are_joined(incident, b, c),
+        None => false,
+    }
+}
+
+/// Whether a neighbour of the point isn't joined with the first one on its left. Most points that aren't saturated show it here,
+/// before any triangle is searched.
+fn has_gap(plan: &Plan, incident: &IncidentSegments, a: u16) -> bool
+    requires points { incident.now.points ≡ length plan.now.points }
+    requires at { a < incident.now.points }
+    ensures { OnTrue result (HasGapAt (map_of plan.now) incident.now.segments a) }
+{
+    let mut at = incident.last(a);
+    while at > 0 {
+        if has_gap_left(plan, incident, a, incident.other(at - 1, a)) {
+            return true;
+        }
+        at = incident.earlier(at - 1, a);
+    }
+    false
+}
+
+/// Whether the segments to all neighbours of the point have no room on either side, and some have a triangle on the left.
+pub fn is_saturated(plan: &Plan, incident: &IncidentSegments, a: u16) -> bool
+    requires points { incident.now.points ≡ length plan.now.points }
+    requires at { a < incident.now.points }
+    ensures { OnTrue result (IsSaturated (map_of plan.now) (edges_of incident.now.segments) a) }
+{
+    if has_gap(plan, incident, a) {
+        return false;
+    }
+    if !have_both_faces(plan, incident, a) {
+        return false;
+    }
+    has_triangle_at(plan, incident, a)
+}

@@ -1,5 +1,0 @@
-use Rattle.turned_trees.proofs.Tells.{exact_tells as lemma_exact_tells}
-use Rattle.turned_trees.proofs.laws.exact_tells.Goals as goal
-
-pub returns : goal.returns
-returns c = lemma_exact_tells

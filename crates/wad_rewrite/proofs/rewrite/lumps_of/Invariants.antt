@@ -1,7 +1,0 @@
-use Rattle.std.proofs.Common.{◌≡◌, take, map}
-use Rattle.wad_dir.specs.Wad.{lump_under}
-use Rattle.wad_rewrite.specs.Lumps.{views}
-use Rattle.wad_rewrite.proofs.rewrite.lumps_of.Given as goal
-
-abbrev pub invariant-loop-entry : goal.invariant-loop-entry
-invariant-loop-entry l = views l.lumps.items ≡ map (lump_under l.bytes) (take l.entry-index l.entries)

@@ -1,4 +1,0 @@
-use Rattle.why_answers.proofs.said.answer_over.Goals as goal
-
-pub pair_answer-requires : goal.pair_answer-requires
-pair_answer-requires c = let o = c.requires.over in record { groups = record { faces = o.faces; groups = o.are; grouped = o.is; mesh = o.mesh; labelled = o.labelled; points = c.requires.points } }

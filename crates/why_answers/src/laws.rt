@@ -1,8 +1,0 @@
-//! Laws of what `why` says.
-
-ghost use Rattle.why_answers.specs.Laws.{WhysAreOfBuilds};
-
-/// What is said of a pair is what a build with the same budget says of it, and it tells whether the two sectors see each other.
-pub fn whys_are_of_builds()
-    ensures { WhysAreOfBuilds }
-{}

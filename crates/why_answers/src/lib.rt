@@ -1,8 +1,0 @@
-//! What `why` says of two sectors of a map: whether they see each other within a budget, and by which ray.
-#![tactic(auto)]
-
-pub mod laws;
-mod lines;
-mod said;
-
-pub use said::judge_why;
