@@ -5,7 +5,7 @@ use crate::progress::Progress;
 use crate::runs::run_words;
 use crate::usage::{Fault, diagnose};
 use order_words::read_words;
-use run_cases::{Stage, stage_of, words_in};
+use row_tests::run_cases::{Stage, stage_of, words_in};
 use shelf_io::MemSink;
 use sight_names::OrderFault;
 use sight_run::{NoNotice, Notice, Status, code};

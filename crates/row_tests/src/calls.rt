@@ -2,12 +2,12 @@
 
 ghost use Rattle.std.specs.Prelude.{◌<◌, length};
 
+use crate::run_cases::stage_of;
 use crate::table::ran;
 use block_evidence::{Evidence, four};
 use listeners::Listener;
 use map_lumps::hexen_lumps::to_hexen;
 use pair_budget::board_core::{Core, Event, Reply};
-use run_cases::stage_of;
 use shelf_io::{DiskShelf, MemSink, fetch};
 use sight_names::{
     BuildFault, FetchFault, LabelFault, Pair, Pt, RewriteFault, ShelfFault, Side, WadFault,

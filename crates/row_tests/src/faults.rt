@@ -1,9 +1,9 @@
 //! Each read, create, append and put of a run failed once, for every verb: how the run ends, what it puts, and what stands under each name
 //! after it.
 
+use crate::run_cases::{Stage, run_on, stage_of};
 use crate::table::part;
 use group_job::sight_workers::OpenGate;
-use run_cases::{Stage, run_on, stage_of};
 use sight_run::{Role, Status, code};
 use std::alloc::{AllocError, Global};
 use std::test::Fail;

@@ -9,9 +9,12 @@ mod faults;
 mod grids;
 #[cfg(test)]
 mod listening;
+pub mod random_tests;
 #[cfg(test)]
 mod rows;
+pub mod run_cases;
 #[cfg(test)]
 mod table;
+pub mod thread_rows;
 #[cfg(test)]
 mod walks;

@@ -1,8 +1,8 @@
 //! A listener that has heard enough before the end, and one that finds no memory; and what a notice is told of maps.
 
+use crate::run_cases::stage_of;
 use crate::table::ran;
 use listeners::{Finding, FirstSet, Keep, Lines, Listener, Totals, pieces, words_of};
-use run_cases::stage_of;
 use shelf_io::MemSink;
 use sight_names::Memory;
 use sight_run::{NoNotice, Notice, Status};

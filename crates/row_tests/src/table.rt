@@ -1,9 +1,9 @@
 //! How a row is run. A row has up to five parts between bars: what there is, the words, the exit code, the line, and what
 //! stands under some names after it. Where the first part is empty, the run goes on with what the row before left.
 
+use crate::run_cases::{Stage, stage_of, words_in};
 use group_job::sight_workers::OpenGate;
 use listeners::{Lines, Listener, Totals};
-use run_cases::{Stage, stage_of, words_in};
 use shelf_io::{MemSink, Shelf};
 use sight_names::{
     CheckFault, FetchFault, LabelFault, LumpFault, OrderFault, RewriteFault, WadFault,

@@ -4,8 +4,8 @@ ghost use Rattle.std.specs.Prelude.{◌≤◌};
 ghost use Rattle.sight_names.specs.Map.{map_of};
 ghost use Rattle.sight_names.specs.Sound.{LinesMeetAtEnds};
 
+use crate::run_cases::{run_on, stage_of};
 use crate::thread_rows::meeting::Meeting;
-use crate::{run_on, stage_of};
 use face_groups::tri_sectors::components;
 use group_job::map_of_groups;
 use group_job::sight_workers::{Gate, Gathered, Job, walk_all};

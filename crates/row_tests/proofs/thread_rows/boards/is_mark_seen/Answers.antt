@@ -9,7 +9,7 @@ use Rattle.group_job.specs.declared.sight_workers.job.Terms.{Terms}
 use Rattle.group_job.specs.SightWorkers.Board.{task_of, IsFindable}
 use Rattle.group_job.proofs.SightWorkers.Lists.{contains_at}
 use Rattle.group_job.proofs.SightWorkers.Walks.{spare}
-use Rattle.run_cases.proofs.thread_rows.boards.is_mark_seen.Goals as goal
+use Rattle.row_tests.proofs.thread_rows.boards.is_mark_seen.Goals as goal
 
 pub mark-requires-clause-pair : goal.mark-requires-clause-pair
 mark-requires-clause-pair c =

@@ -1,7 +1,7 @@
 //! What has to hold of each made-up map. All of it goes by the top call, over files in memory.
 
 use crate::random_tests::bits::{changed, is_listed, is_set, listed_count, set};
-use crate::{Stage, run_on, stage_of};
+use crate::run_cases::{Stage, run_on, stage_of};
 use group_job::sight_workers::OpenGate;
 use shelf_io::{Shelf, store};
 use sight_run::Status;
