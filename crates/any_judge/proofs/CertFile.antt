@@ -1,2 +1,2 @@
-mod OnWay
-mod Promises
+pub mod OnWay
+pub mod Promises

@@ -1,4 +1,4 @@
 pub mod Counted
-mod Places
-mod Rows
+pub mod Places
+pub mod Rows
 pub mod Telling

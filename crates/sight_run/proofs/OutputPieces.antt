@@ -1,1 +1,1 @@
-mod OnWay
+pub mod OnWay
