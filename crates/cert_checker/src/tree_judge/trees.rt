@@ -4,6 +4,8 @@ ghost use Rattle.std.specs.Prelude.{◌≡◌, ◌≤◌, ◌<◌, ◌↔◌, []
 ghost use Rattle.sight_names.specs.Splitting.{end_of as end_at};
 ghost use Rattle.block_evidence.specs.Stuck.{Blocks};
 ghost use Rattle.cert_checker.specs.TreeJudge.Path.{list_of, path_ends, edge_ends, longest_of, IsEndOf, AreStuckEnds, AsksRoot, Pending, IsWaiting, StandsAt, PutsAt, EntersThrough, TakesNext};
+ghost use Rattle.block_evidence.specs.declared.sight_tree.Node.TheVariants.{Open, Blocked};
+ghost use Rattle.reject_bits.specs.Parts.{TableParts};
 ghost use Rattle.cert_checker.specs.TreeJudge.Roots.{first_at};
 ghost use Rattle.cert_checker.specs.TreeJudge.Whole.{Notes, HasAnswered, HasRefused, StandsBefore, IsWholeFrom, IsFirstWrongFrom};
 
@@ -136,21 +138,22 @@ fn right_end(path: &[Frame], code: u16) -> Option<EndAt>
 }
 
 /// Whether these are three left ends and a right one that are seen at once to be stuck. `false` says nothing.
+// the greatest code of either side is looked up first: where codes ascend, the others of its side are then there
 #[inline(always)]
 fn are_three_and_one(path: &[Frame], a: u16, b: u16, c: u16, d: u16) -> bool
     requires { length path.now ≤ RIGHT_END }
     ensures { IsTrue result → AreStuckEnds (path_ends path.now) a b c d }
 {
-    let Some(p) = left_end(path, a) else {
-        return false;
-    };
-    let Some(q) = left_end(path, b) else {
+    let Some(s) = right_end(path, d) else {
         return false;
     };
     let Some(r) = left_end(path, c) else {
         return false;
     };
-    let Some(s) = right_end(path, d) else {
+    let Some(p) = left_end(path, a) else {
+        return false;
+    };
+    let Some(q) = left_end(path, b) else {
         return false;
     };
     are_stuck(p, q, r, s)
@@ -162,16 +165,16 @@ fn are_two_and_two(path: &[Frame], a: u16, b: u16, c: u16, d: u16) -> bool
     requires { length path.now ≤ RIGHT_END }
     ensures { IsTrue result → AreStuckEnds (path_ends path.now) a b c d }
 {
-    let Some(p) = left_end(path, a) else {
+    let Some(s) = right_end(path, d) else {
         return false;
     };
     let Some(q) = left_end(path, b) else {
         return false;
     };
-    let Some(r) = right_end(path, c) else {
+    let Some(p) = left_end(path, a) else {
         return false;
     };
-    let Some(s) = right_end(path, d) else {
+    let Some(r) = right_end(path, c) else {
         return false;
     };
     are_stuck(p, q, r, s)
@@ -183,6 +186,9 @@ fn are_one_and_three(path: &[Frame], a: u16, b: u16, c: u16, d: u16) -> bool
     requires { length path.now ≤ RIGHT_END }
     ensures { IsTrue result → AreStuckEnds (path_ends path.now) a b c d }
 {
+    let Some(s) = right_end(path, d) else {
+        return false;
+    };
     let Some(p) = left_end(path, a) else {
         return false;
     };
@@ -192,24 +198,19 @@ fn are_one_and_three(path: &[Frame], a: u16, b: u16, c: u16, d: u16) -> bool
     let Some(r) = right_end(path, c) else {
         return false;
     };
-    let Some(s) = right_end(path, d) else {
-        return false;
-    };
     are_stuck(p, q, r, s)
 }
 
-/// Whether the ends are four ends of these portals that are seen at once to be stuck. `false` says nothing. Which of them
-/// are left ones is told by their places: of so few portals no left end has the code of a right one.
+/// Whether the ends are four ends of these portals that are seen at once to be stuck. `false` says nothing.
 #[inline(always)]
 fn is_seen_blocked(path: &[Frame], evidence: Evidence) -> bool
     ensures { IsTrue result → Blocks (path_ends path.now) evidence }
 {
-    let count = path.len();
-    if evidence.count != 4 || count > RIGHT_END as usize {
+    if evidence.count != 4 || path.len() > RIGHT_END as usize {
         return false;
     }
     let [a, b, c, d] = evidence.ends;
-    match ((b as usize) < count, (c as usize) < count) {
+    match (b < RIGHT_END, c < RIGHT_END) {
         (true, true) => are_three_and_one(path, a, b, c, d),
         (true, false) => are_two_and_two(path, a, b, c, d),
         (false, false) => are_one_and_three(path, a, b, c, d),
@@ -274,7 +275,8 @@ pub struct Follow {
 }
 
 /// The half-edge of the root at this place, and the place of the next one.
-#[inline(always)]
+// out of line, where few nodes lead: what it needs would else take registers at each node
+#[inline(never)]
 fn next_root(roots: &Roots, root: Option<usize>) -> (Option<u32>, Option<usize>)
     ensures { AsksRoot roots.now.roots.items root result.0 result.1 }
 {
@@ -376,8 +378,76 @@ fn note(reached: &mut Table, source: u16, sector: Option<u16>)
     }
 }
 
-/// Whether the node answers for the half-edge that is asked: it goes through it, and the source reaches the sector behind it; or its ends show
-/// that no line passes the sequence through it. The next half-edge is asked then. False also where there is no room on the path.
+/// Whether an open node answers for the half-edge that is asked: then it goes through it, the source reaches the sector
+/// behind it, and the next half-edge is asked. False also where there is no room on the path.
+#[inline(always)]
+fn answer_open(
+    terrain: &Terrain<'_>,
+    reached: &mut Table,
+    source: u16,
+    path: &mut [Frame],
+    waits: &mut [Wait],
+    follow: &mut Follow,
+) -> bool
+    ensures within { follow.old.depth ≤ length path.old → follow.new.depth ≤ length path.new }
+    ensures room { follow.old.depth ≤ length waits.old → follow.new.depth ≤ length waits.new }
+    ensures sectors { reached.new.n ≡ reached.old.n }
+    ensures answered { IsTrue result → HasAnswered terrain.now.edges.now terrain.now.roots.now.roots.items source Open path.old waits.old follow.old reached.old path.new waits.new follow.new reached.new }
+    ensures refused { result ≡ false → follow.old.depth < length path.old → follow.old.depth < length waits.old → HasRefused terrain.now.edges.now terrain.now.roots.now.roots.items source Open path.old waits.old follow.old }
+{
+    let Some(place) = follow.asked else {
+        return false;
+    };
+    let Some(edge) = terrain.edges.get(place) else {
+        return false;
+    };
+    if !put(path, follow.depth, edge) {
+        return false;
+    }
+    if follow.depth >= waits.len() {
+        return false;
+    }
+    note(reached, source, edge.sector);
+    follow.asked = enter(terrain, source, path, waits, follow, edge);
+    true
+}
+
+/// Whether the ends of a blocked node show that no line passes the sequence through the half-edge that is asked; then the
+/// next one is. False also where there is no room on the path.
+#[inline(always)]
+fn answer_blocked(
+    terrain: &Terrain<'_>,
+    source: u16,
+    path: &mut [Frame],
+    waits: &[Wait],
+    follow: &mut Follow,
+    evidence: Evidence,
+) -> bool
+    ensures within { follow.old.depth ≤ length path.old → follow.new.depth ≤ length path.new }
+    ensures room { follow.old.depth ≤ length waits.now → follow.new.depth ≤ length waits.now }
+    ensures answered { IsTrue result → (t : TableParts) → HasAnswered terrain.now.edges.now terrain.now.roots.now.roots.items source (Blocked evidence) path.old waits.now follow.old t path.new waits.now follow.new t }
+    ensures refused { result ≡ false → follow.old.depth < length path.old → follow.old.depth < length waits.now → HasRefused terrain.now.edges.now terrain.now.roots.now.roots.items source (Blocked evidence) path.old waits.now follow.old }
+{
+    let Some(place) = follow.asked else {
+        return false;
+    };
+    let Some(edge) = terrain.edges.get(place) else {
+        return false;
+    };
+    if !put(path, follow.depth, edge) {
+        return false;
+    }
+    if !is_blocked(&path[..=follow.depth], evidence) {
+        return false;
+    }
+    follow.asked = next_asked(terrain.roots, path, waits, follow);
+    true
+}
+
+/// Whether the node answers for the half-edge that is asked: it goes through it, and the source reaches the sector behind it; or
+/// its ends show that no line passes the sequence through it. The next half-edge is asked then. False also where there is no
+/// room on the path.
+// each kind of node has the steps that both take on its own: so what the bytes tell is asked once, and no node is put together
 #[inline(always)]
 pub fn answer(
     terrain: &Terrain<'_>,
@@ -394,30 +464,10 @@ pub fn answer(
     ensures answered { IsTrue result → HasAnswered terrain.now.edges.now terrain.now.roots.now.roots.items source node path.old waits.old follow.old reached.old path.new waits.new follow.new reached.new }
     ensures refused { result ≡ false → follow.old.depth < length path.old → follow.old.depth < length waits.old → HasRefused terrain.now.edges.now terrain.now.roots.now.roots.items source node path.old waits.old follow.old }
 {
-    let Some(place) = follow.asked else {
-        return false;
-    };
-    let Some(edge) = terrain.edges.get(place) else {
-        return false;
-    };
-    if !put(path, follow.depth, edge) {
-        return false;
-    }
     match node {
-        Node::Open => {
-            if follow.depth >= waits.len() {
-                return false;
-            }
-            note(reached, source, edge.sector);
-            follow.asked = enter(terrain, source, path, waits, follow, edge);
-            true
-        }
+        Node::Open => answer_open(terrain, reached, source, path, waits, follow),
         Node::Blocked(evidence) => {
-            if !is_blocked(&path[..=follow.depth], evidence) {
-                return false;
-            }
-            follow.asked = next_asked(terrain.roots, path, waits, follow);
-            true
+            answer_blocked(terrain, source, path, waits, follow, evidence)
         }
     }
 }

@@ -36,7 +36,8 @@ pub struct Followed<'a> {
 
 /// Follows the usual nodes that come first in the bytes, of so many that are to come, up to the first wrong one and as far as
 /// the path has room.
-// the walk stands in locals here, and all that it calls is in line: a certificate has millions of nodes
+// the walk stands in locals here, and all that it calls is in line: a certificate has millions of nodes. The first wrong node
+// is told at once: a flag would be asked for at each
 fn follow_nodes<'a>(
     terrain: &Terrain<'_>,
     reached: &mut Table,
@@ -60,17 +61,27 @@ fn follow_nodes<'a>(
     let mut at = *follow;
     let mut rest = bytes;
     let mut left = count;
-    let mut wrong = false;
-    'rest: while left > 0 && !wrong && at.depth < path.len() {
+    'rest: while left > 0 && at.depth < path.len() {
         let Some((node, behind)) = usual_node(rest) else {
             break;
         };
-        wrong = !answer(terrain, reached, source, path, waits, &mut at, node);
         rest = behind;
         left -= 1;
+        if !answer(terrain, reached, source, path, waits, &mut at, node) {
+            *follow = at;
+            return Followed {
+                rest,
+                left,
+                wrong: true,
+            };
+        }
     }
     *follow = at;
-    Followed { rest, left, wrong }
+    Followed {
+        rest,
+        left,
+        wrong: false,
+    }
 }
 
 impl TreeWalk {
