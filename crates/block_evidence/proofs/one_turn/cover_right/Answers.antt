@@ -1,0 +1,12 @@
+use Rattle.std.proofs.Common.{inl, inr, refl, arith}
+use Rattle.std.proofs.lemmas.Int.{ints}
+use Rattle.block_evidence.proofs.OneTurn.{right_by_triangle}
+use Rattle.block_evidence.proofs.Picking.{of_five}
+use Rattle.block_evidence.proofs.one_turn.cover_right.Goals as goal
+
+pub returns : goal.returns
+returns c =
+    let v = c.turn.ensures.value in
+    let s = c.if-turn-le0.false in
+    of_five c.args.first c.args.second c.args.new c.args.first.left c.args.first.right c.args.second.right c.args.new _ (inl refl) (inr (inl refl)) (inr (inr (inr (inl refl)))) (inr (inr (inr (inr (inl refl)))))
+    (right_by_triangle c.args.first c.args.second c.args.new _ _ c.requires.lines c.requires.later c.requires.later_too c.requires.beyond (omega (arith, ints)) c.in_order-c.ensures)

@@ -1,0 +1,18 @@
+use Rattle.std.proofs.Common.{[], ◌∷◌, sym, arith, subst₂}
+use Rattle.std.proofs.lemmas.Int.{ints}
+use Rattle.sight_names.specs.declared.names.EndPair.{EndPair}
+use Rattle.block_evidence.specs.OneTurn.{BarsRight}
+use Rattle.block_evidence.specs.Picked.{Picks}
+use Rattle.stab_hull.proofs.bars.right_beyond.Goals as goal
+
+pub bar_right-requires-clause-bars : goal.bar_right-requires-clause-bars
+bar_right-requires-clause-bars c = subst₂ (λ (f s : EndPair). BarsRight f s c.args.new) (sym c.ends_of.ensures) (sym c.ends_of-2.ensures) (record {
+  later = c.requires.later;
+  later_too = c.requires.later_too;
+  beyond_first = c.requires.beyond;
+  beyond_second = (let v = c.value-of_new.ensures.value in let t = c.if-of_new-ge0.false in omega (arith, ints));
+  far = (let v = c.value-of_new.ensures.value in let u = c.value.ensures.value in let t = c.if-of_new-value.false in omega (arith, ints));
+})
+
+pub returns : goal.returns
+returns c = subst₂ (λ (f s : EndPair). Picks (f.left ∷ f.right ∷ s.left ∷ s.right ∷ c.args.new ∷ []) c.bar_right.result) c.ends_of.ensures c.ends_of-2.ensures c.bar_right.ensures
