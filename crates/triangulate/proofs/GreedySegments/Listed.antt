@@ -74,6 +74,12 @@ adds_all m from later low high i old new le before = record {
 far_square : (high a b : ℕ) → high ≤ a → high * high ≤ a * a + b
 far_square high a b h = let k : high * high ≤ a * a = mul-le-mul h h in omega arith
 
+pub far_up : (p q : Pt) (high : ℕ) → high ≤ nat_abs (q.y -ℤ p.y) → high * high ≤ square_length p q
+far_up p q high h = far_square_up high (nat_abs (q.x -ℤ p.x) * nat_abs (q.x -ℤ p.x)) (nat_abs (q.y -ℤ p.y)) h
+  where
+    far_square_up : (high a b : ℕ) → high ≤ b → high * high ≤ a + b * b
+    far_square_up high a b h = let k : high * high ≤ b * b = mul-le-mul h h in omega arith
+
 far_apart : (p q : Pt) (high : ℕ) → pos high ≤ℤ (q.x -ℤ p.x) → high * high ≤ square_length p q
 far_apart p q high h = far_square high (nat_abs (q.x -ℤ p.x)) (nat_abs (q.y -ℤ p.y) * nat_abs (q.y -ℤ p.y)) (wide (q.x -ℤ p.x) h)
   where

@@ -99,17 +99,17 @@ extent_wider extents at v y s low high last_neighbour lt e ls ly hs hy fs fv = e
 
 -- ---- blocks
 
-pub blocks_set : (extents : List Extent) (blocks : List ℕ) (at x : ℕ) (s : Extent) → at < length extents → AreBlocks extents blocks → s.last_neighbour ≤ x → ((e : ℕ) → get_or blocks (at / 64) e ≤ x) → AreBlocks (set extents at s) (set blocks (at / 64) x)
+pub blocks_set : (extents : List Extent) (blocks : List ℕ) (at x : ℕ) (s : Extent) → at < length extents → AreBlocks extents blocks → s.last_neighbour ≤ x → ((e : ℕ) → get_or blocks (at / 32) e ≤ x) → AreBlocks (set extents at s) (set blocks (at / 32) x)
 blocks_set extents blocks at x s lt old last_neighbour more = record {
-  each_block = λ u h. let a = length-set extents at s in let b = length-set blocks (at / 64) x in let g = old.each_block u (omega arith) in omega arith;
-  last_neighbour = λ u e d h. elim (cases_eq (at / 64) (u / 64)) [
-    | inl same ↦ subst (λ (k : ℕ). (get_or (set extents at s) u d).last_neighbour ≤ get_or (set blocks (at / 64) x) k e) same (subst (λ (k : ℕ). (get_or (set extents at s) u d).last_neighbour ≤ k) (sym (get_or-set_same blocks (at / 64) x e (old.each_block at lt))) (in_block u d e h same))
-    | inr other ↦ subst (λ (k : ℕ). (get_or (set extents at s) u d).last_neighbour ≤ k) (sym (get_or-set_other blocks (at / 64) (u / 64) x e (λ f. other (sym f))))
-        (subst (λ (t : Extent). t.last_neighbour ≤ get_or blocks (u / 64) e) (sym (get_or-set_other extents at u s d (λ f. other (ap (λ (k : ℕ). k / 64) (sym f))))) (old.last_neighbour u e d (let a = length-set extents at s in omega arith)))
+  each_block = λ u h. let a = length-set extents at s in let b = length-set blocks (at / 32) x in let g = old.each_block u (omega arith) in omega arith;
+  last_neighbour = λ u e d h. elim (cases_eq (at / 32) (u / 32)) [
+    | inl same ↦ subst (λ (k : ℕ). (get_or (set extents at s) u d).last_neighbour ≤ get_or (set blocks (at / 32) x) k e) same (subst (λ (k : ℕ). (get_or (set extents at s) u d).last_neighbour ≤ k) (sym (get_or-set_same blocks (at / 32) x e (old.each_block at lt))) (in_block u d e h same))
+    | inr other ↦ subst (λ (k : ℕ). (get_or (set extents at s) u d).last_neighbour ≤ k) (sym (get_or-set_other blocks (at / 32) (u / 32) x e (λ f. other (sym f))))
+        (subst (λ (t : Extent). t.last_neighbour ≤ get_or blocks (u / 32) e) (sym (get_or-set_other extents at u s d (λ f. other (ap (λ (k : ℕ). k / 32) (sym f))))) (old.last_neighbour u e d (let a = length-set extents at s in omega arith)))
   ];
 }
   where
-    in_block : (u : ℕ) (d : Extent) (e : ℕ) → u < length (set extents at s) → at / 64 ≡ u / 64 → (get_or (set extents at s) u d).last_neighbour ≤ x
+    in_block : (u : ℕ) (d : Extent) (e : ℕ) → u < length (set extents at s) → at / 32 ≡ u / 32 → (get_or (set extents at s) u d).last_neighbour ≤ x
     in_block u d e h same = elim (cases_eq at u) [
       | inl f ↦ subst (λ (t : Extent). t.last_neighbour ≤ x) (sym (ap (λ (k : ℕ). get_or (set extents at s) k d) (sym f) ∙ get_or-set_same extents at s d lt)) last_neighbour
       | inr n ↦ subst (λ (t : Extent). t.last_neighbour ≤ x) (sym (get_or-set_other extents at u s d (λ f. n (sym f))))

@@ -32,10 +32,10 @@ pub record AreExtents (m : Map) (segs : List Segment) (extents : List Extent) : 
   pub hub : (u : ℕ) (d : Extent) → u < length extents → IsInRange (place m u).y (slice_index_or extents u d)
   pub ends : (u v : ℕ) (d : Extent) → u < length extents → IsNeighbour segs u v → IsInExtent v (place m v).y (slice_index_or extents u d)
 
--- no extent of 64 points has an end with a greater number than their block has
+-- no extent of 32 points has an end with a greater number than their block has
 pub record AreBlocks (extents : List Extent) (blocks : List ℕ) : Type 0 where
-  pub each_block : (u : ℕ) → u < length extents → u / 64 < length blocks
-  pub last_neighbour : (u e : ℕ) (d : Extent) → u < length extents → (slice_index_or extents u d).last_neighbour ≤ slice_index_or blocks (u / 64) e
+  pub each_block : (u : ℕ) → u < length extents → u / 32 < length blocks
+  pub last_neighbour : (u e : ℕ) (d : Extent) → u < length extents → (slice_index_or extents u d).last_neighbour ≤ slice_index_or blocks (u / 32) e
 
 -- the extent of the point at also covers the end v at this y, and each covers what it did
 pub record Widens (at v : ℕ) (y : ℤ) (old new : List Extent) : Type 0 where

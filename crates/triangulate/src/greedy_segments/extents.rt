@@ -13,7 +13,7 @@ use sight_names::{Memory, Plan, Pt};
 use std::alloc::Global;
 
 /// How many points have one number in `Extents::blocks`.
-const BLOCK: usize = 64;
+const BLOCK: usize = 32;
 
 /// The range of y that a point and the other ends of its segments span, and no less than the greatest number among these
 /// ends.
@@ -83,7 +83,7 @@ fn next_block(u: u16, end: u16) -> u16
     requires { u < end }
     ensures behind { u < result }
     ensures within { result ≤ end }
-    ensures block { (w : ℕ) → u ≤ w → w < result → w / 64 ≡ u / 64 }
+    ensures block { (w : ℕ) → u ≤ w → w < result → w / 32 ≡ u / 32 }
 {
     let next = (u as u32 / BLOCK as u32 + 1) * BLOCK as u32;
     if next < end as u32 { next as u16 } else { end }
@@ -151,14 +151,48 @@ impl Extents {
     {
         let mut u = start;
         while u < pair_extent.from {
-            if self.blocks[u as usize / BLOCK] <= pair_extent.to {
-                u = next_block(u, pair_extent.from);
-            } else {
-                if reaches_over(self.extents[u as usize], pair_extent) {
-                    return u;
-                }
-                u += 1;
+            let end = next_block(u, pair_extent.from);
+            let found = self.next_in_block(u, end, pair_extent);
+            if found < end {
+                return found;
             }
+            u = end;
+        }
+        u
+    }
+
+    /// The first point from `start` on and before `end`, all of one block, whose extent reaches over the range of the pair; `end` where
+    /// there is none.
+    fn next_in_block(&self, start: u16, end: u16, pair_extent: PairExtent) -> u16
+        requires order { start < end }
+        requires before { end ≤ pair_extent.from }
+        requires within { end ≤ length self.now.extents.items }
+        requires block { (w : ℕ) → start ≤ w → w < end → w / 32 ≡ start / 32 }
+        ensures from { start ≤ result }
+        ensures to { result ≤ end }
+        ensures passed { (w : ℕ) (d : Extent) → start ≤ w → w < result → CannotMeet pair_extent w (slice_index_or self.now.extents.items w d) }
+    {
+        if self.blocks[start as usize / BLOCK] <= pair_extent.to {
+            return end;
+        }
+        self.next_over(start, end, pair_extent)
+    }
+
+    /// The first point from `start` on and before `end` whose extent reaches over the range of the pair; `end` where there is none.
+    fn next_over(&self, start: u16, end: u16, pair_extent: PairExtent) -> u16
+        requires order { start ≤ end }
+        requires before { end ≤ pair_extent.from }
+        requires within { end ≤ length self.now.extents.items }
+        ensures from { start ≤ result }
+        ensures to { result ≤ end }
+        ensures passed { (w : ℕ) (d : Extent) → start ≤ w → w < result → CannotMeet pair_extent w (slice_index_or self.now.extents.items w d) }
+    {
+        let mut u = start;
+        while u < end {
+            if reaches_over(self.extents[u as usize], pair_extent) {
+                return u;
+            }
+            u += 1;
         }
         u
     }

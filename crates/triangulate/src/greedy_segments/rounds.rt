@@ -42,7 +42,7 @@ pub fn greedy(alloc: Global, plan: &Plan) -> Result<Segments, Memory>
     while low < longest {
         unsaturated = unsaturated_points(alloc, plan, &incident, unsaturated.as_slice())?;
         let mut pairs = pairs_between(alloc, plan, unsaturated.as_slice(), low, high)?;
-        sort_pairs(&mut pairs)?;
+        sort_pairs(&mut pairs);
         keep_clear_pairs(plan, &mut incident, &mut extents, pairs.as_slice())?;
         low = high;
         high = 2 * high;
@@ -199,6 +199,7 @@ fn pairs_between(
 }
 
 /// Adds the pairs of `from` with those later points, which ascend by x.
+#[inline(never)]
 fn add_pairs(
     plan: &Plan,
     pairs: &mut Vec<PointPair>,
@@ -220,14 +221,31 @@ fn add_pairs(
         if difference(start.x, end.x) >= high as u64 {
             return Ok(());
         }
-        let pair = PointPair {
-            square: square_of(start, end),
-            from,
-            to: *to,
-        };
-        add_pair(pairs, pair, low, high)?;
+        add_near(pairs, start, end, from, *to, low, high)?;
     }
     Ok(())
+}
+
+/// Adds the pair of two points at these places, unless its length isn't in the range. Most that are near enough by x are too
+/// far by y.
+fn add_near(
+    pairs: &mut Vec<PointPair>,
+    start: Pt,
+    end: Pt,
+    from: u16,
+    to: u16,
+    low: u32,
+    high: u32,
+) -> Result<(), Memory>
+    requires low { low ≤ 2 ^ 17 }
+    requires high { high ≤ 2 ^ 18 }
+    ensures { OnOk result (AddsIfBetween low high (record { square = square_length start end; from = from; to = to }) pairs.old.items pairs.new.items) }
+{
+    if difference(start.y, end.y) >= high as u64 {
+        return Ok(());
+    }
+    let square = square_of(start, end);
+    add_pair(pairs, PointPair { square, from, to }, low, high)
 }
 
 /// Adds the pair, unless its length isn't in the range.
@@ -253,12 +271,11 @@ fn is_between(square: u64, low: u32, high: u32) -> bool
 }
 
 /// Sorts the pairs by length, then by the first number, then by the second.
-fn sort_pairs(pairs: &mut Vec<PointPair>) -> Result<(), Memory>
-    ensures same { OnOk result (IsPermutation pairs.old.items pairs.new.items) }
-    ensures order { OnOk result (AreInOrder pairs.new.items) }
+fn sort_pairs(pairs: &mut Vec<PointPair>)
+    ensures same { IsPermutation pairs.old.items pairs.new.items }
+    ensures order { AreInOrder pairs.new.items }
 {
-    pairs.sort()?;
-    Ok(())
+    pairs.sort_unstable();
 }
 
 /// Keeps each pair, in order, that meets all kept segments at ends of both alone.

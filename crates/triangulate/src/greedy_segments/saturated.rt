@@ -101,27 +101,18 @@ fn has_triangle_left(plan: &Plan, incident: &IncidentSegments, a: u16, b: u16) -
     }
 }
 
-/// Whether an empty triangle of kept segments lies on the right of the way from `a` to its neighbour `b`.
-fn has_triangle_right(plan: &Plan, incident: &IncidentSegments, a: u16, b: u16) -> bool
-    requires points { incident.now.points ≡ length plan.now.points }
-    requires first { a < incident.now.points }
-    requires second { b < incident.now.points }
-    ensures { OnTrue result (HasTriangleRight (map_of plan.now) incident.now.segments a b) }
-{
-    match next_right(plan, incident, a, b) {
-        Some(c) => are_joined(incident, c, b) && !is_filled(plan, a, c, b),
-        None => false,
-    }
-}
-
-/// Whether there is no room on the left of the way from `a` to its neighbour `b`: an empty triangle lies there, or no point.
+/// Whether there is no room on the left of the way from `a` to its neighbour `b`: an empty triangle lies there, or no point. A
+/// neighbour on the left is a point there, so points are searched only where there is none.
 fn has_face_left(plan: &Plan, incident: &IncidentSegments, a: u16, b: u16) -> bool
     requires points { incident.now.points ≡ length plan.now.points }
     requires first { a < incident.now.points }
     requires second { b < incident.now.points }
     ensures { OnTrue result (HasTriangleLeft (map_of plan.now) incident.now.segments a b ⊎ HasNoneLeft (map_of plan.now) a b) }
 {
-    has_triangle_left(plan, incident, a, b) || !has_left(plan, a, b)
+    match next_left(plan, incident, a, b) {
+        Some(c) => are_joined(incident, b, c) && !is_filled(plan, a, b, c),
+        None => !has_left(plan, a, b),
+    }
 }
 
 /// The same on its right.
@@ -131,7 +122,10 @@ fn has_face_right(plan: &Plan, incident: &IncidentSegments, a: u16, b: u16) -> b
     requires second { b < incident.now.points }
     ensures { OnTrue result (HasTriangleRight (map_of plan.now) incident.now.segments a b ⊎ HasNoneLeft (map_of plan.now) b a) }
 {
-    has_triangle_right(plan, incident, a, b) || !has_left(plan, b, a)
+    match next_right(plan, incident, a, b) {
+        Some(c) => are_joined(incident, c, b) && !is_filled(plan, a, c, b),
+        None => !has_left(plan, b, a),
+    }
 }
 
 /// Whether the segment to each neighbour of the point has no room on either side.

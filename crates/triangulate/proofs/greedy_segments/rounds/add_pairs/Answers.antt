@@ -1,4 +1,4 @@
-use Rattle.std.proofs.Common.{◌≡◌, ℕ, get_or, subst, ap₂, ◌∙◌, arith, nat_abs, ◌≤◌, ◌-ℤ◌, to_z-of_z}
+use Rattle.std.proofs.Common.{◌≡◌, ℕ, get_or, subst, ap₂, arith, nat_abs, ◌≤◌, ◌-ℤ◌, to_z-of_z}
 use Rattle.std.proofs.lemmas.Option.{slice_get-get_or}
 use Rattle.sight_names.specs.declared.names.Pt.{Pt}
 use Rattle.sight_names.specs.Map.{map_of}
@@ -28,9 +28,9 @@ pub loop-to-preserved : goal.loop-to-preserved
 loop-to-preserved c =
     let to = get_or c.args.later.now c.loop-to.to-index 0 in
     let at = slice_get-get_or c.args.later.now c.loop-to.to-index 0 c.loop-to-test.true in
-    adds_next c.args.plan.now c.place-start.ensures.plan c.args.from to c.loop-to.to-index c.args.low c.args.high c.square_of.result c.args.later.now c.args.pairs.now.items c.loop-to.pairs.items c.add_pair.new.pairs.items
+    adds_next c.args.plan.now c.place-start.ensures.plan c.args.from to c.loop-to.to-index c.args.low c.args.high (square_length c.place-start.result c.place-end.result) c.args.later.now c.args.pairs.now.items c.loop-to.pairs.items c.add_near.new.pairs.items
     (c.requires.behind to (contains_of_get c.args.later.now to c.loop-to.to-index at)) c.requires.later at
-    (c.square_of.ensures.value ∙ ap₂ square_length c.place-start.ensures.place c.place-end.ensures.place) c.in_ok-add_pair.ensures c.loop-to.invariant
+    (ap₂ square_length c.place-start.ensures.place c.place-end.ensures.place) c.in_ok-add_near.ensures c.loop-to.invariant
 
 pub returns : goal.returns
 returns c = adds_all (map_of c.args.plan.now) c.args.from c.args.later.now c.args.low c.args.high c.loop-to.to-index c.args.pairs.now.items c.loop-to.pairs.items (omega (arith, c.loop-to-test.false)) c.loop-to.invariant

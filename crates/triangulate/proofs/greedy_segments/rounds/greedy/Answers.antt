@@ -7,7 +7,7 @@ use Rattle.sight_names.proofs.PlanNumbers.{count_of_plan}
 use Rattle.triangulate.specs.declared.greedy_segments.rounds.PointPair.{PointPair}
 use Rattle.triangulate.specs.IncidentSegments.Incident.{AreSegments}
 use Rattle.triangulate.specs.IncidentSegments.Kept.{edges_of}
-use Rattle.triangulate.specs.GreedySegments.Pairs.{ArePairsBetween}
+use Rattle.triangulate.specs.GreedySegments.Pairs.{AreInOrder, ArePairsBetween}
 use Rattle.triangulate.specs.GreedySegments.Rounds.{IsGreedySoFar, IsShorter, IsSaturated, KeepsClear}
 use Rattle.triangulate.proofs.IncidentSegments.KeptEdges.{edges_of_segments}
 use Rattle.triangulate.proofs.GreedySegments.SoFar.{greedy_at_first, greedy_at_last, round_done, still_shut}
@@ -28,7 +28,10 @@ loop-low-init c =
 
 pub keep_clear_pairs-requires-clause-pairs : goal.keep_clear_pairs-requires-clause-pairs
 keep_clear_pairs-requires-clause-pairs c = λ p k.
-    (c.in_ok-pairs.ensures.each p (Contains-permutation _ _ p (IsPermutation-sym _ _ c.in_ok-sort_pairs.ensures.same) (subst (λ (ps : List PointPair). Contains ps p) c.as_slice-in-loop-low-2.ensures.value k))).pair
+    (c.in_ok-pairs.ensures.each p (Contains-permutation _ _ p (IsPermutation-sym _ _ c.sort_pairs.ensures.same) (subst (λ (ps : List PointPair). Contains ps p) c.as_slice-in-loop-low-2.ensures.value k))).pair
+
+pub keep_clear_pairs-requires-clause-order : goal.keep_clear_pairs-requires-clause-order
+keep_clear_pairs-requires-clause-order c = subst AreInOrder (sym c.as_slice-in-loop-low-2.ensures.value) c.sort_pairs.ensures.order
 
 rises : (low high : ℕ) → ((low ≡ 0) × (high ≡ 64)) ⊎ ((high ≡ 2 * low) × (1 ≤ low) × (low ≤ 196610)) → low * low ≤ high * high
 rises low high b = let h : low ≤ high = elim b [ inl k ↦ (let e = k.0 in omega arith) | inr k ↦ (let e = k.0 in omega arith) ] in mul-le-mul h h
@@ -50,7 +53,7 @@ loop-low-preserved c =
       bounds = inr (omega arith, omega arith, omega arith);
       so_far = round_done m c.loop-low.low c.loop-low.high c.in_ok-unsaturated-2.unsaturated.items c.in_ok-pairs.pairs.items c.sort_pairs.new.pairs.items old _ (rises c.loop-low.low c.loop-low.high c.loop-low.invariant.bounds) c.loop-low.invariant.so_far
           (subst (λ (ks : List ℕ). ArePairsBetween m ks c.loop-low.low c.loop-low.high c.in_ok-pairs.pairs.items) c.as_slice-in-loop-low.ensures.value c.in_ok-pairs.ensures)
-          c.in_ok-sort_pairs.ensures.same
+          c.sort_pairs.ensures.same
           (subst (λ (ps : List PointPair). KeepsClear m ps old (edges_of c.keep_clear_pairs.new.incident.segments)) c.as_slice-in-loop-low-2.ensures.value keeps)
           (λ k lt. closed k (subst (λ (n : ℕ). k < n) count lt));
       closed = λ k lt. elim (closed k lt) [ inl h ↦ inl h | inr h ↦ inr (still_shut m old _ k keeps.kept h) ];

@@ -9,7 +9,7 @@ pub invariant_of-self : goal.invariant_of-self
 invariant_of-self c = record {
   bounded = blocks_set c.args.self.now.extents.items c.args.self.now.blocks.items c.args.at c.max-2.result _ c.requires c.args.self.now.bounded
       (let e = c.max-2.ensures in let h = le-max_right c.index.result.now c.max-last_neighbour.result in omega arith)
-      (λ e. let f = c.max-2.ensures in let h = le-max_left c.index.result.now c.max-last_neighbour.result in let g = c.index.ensures in let d = get_or_default c.args.self.now.blocks.items (c.args.at / 64) c.index.result.now e (c.args.self.now.bounded.each_block c.args.at c.requires) in omega arith);
+      (λ e. let f = c.max-2.ensures in let h = le-max_left c.index.result.now c.max-last_neighbour.result in let g = c.index.ensures in let d = get_or_default c.args.self.now.blocks.items (c.args.at / 32) c.index.result.now e (c.args.self.now.bounded.each_block c.args.at c.requires) in omega arith);
 }
 
 pub returns : goal.returns
