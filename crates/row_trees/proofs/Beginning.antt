@@ -1,5 +1,5 @@
 -- A walk by a row before its first half-edge.
-use Rattle.std.proofs.Common.{◌≡◌, ℕ, ◌+◌, List, [], ◌∷◌, ◌++◌, Option, Some, None, Bool, true, false, Contains, if◌then◌else◌, refl, sym, ap, subst, arith}
+use Rattle.std.proofs.Common.{◌≡◌, ℕ, ◌+◌, List, [], ◌∷◌, ◌++◌, Option, Some, None, Bool, true, false, inl, Contains, if◌then◌else◌, refl, sym, ap, subst, arith}
 use Rattle.std.specs.List.{AllByRecursion}
 use Rattle.std.proofs.lemmas.Option.{none-some}
 use Rattle.std.proofs.lemmas.List.Elements.{All-nil}
@@ -30,6 +30,7 @@ module _ (c : Scene) (s : Search) (w : IsWalkable s.ground c.edges c.roots c.fir
     there = r.there;
     goes_on = r.goes_on;
     number_is = r.number_is;
+    joins = inl refl;
     front = refl;
     short = omega arith;
     away = λ none. absurd (r.lined none);

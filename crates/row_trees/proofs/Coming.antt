@@ -33,11 +33,13 @@ use Rattle.portal_walk.specs.Pending.{way_of}
 use Rattle.portal_walk.specs.Scene.{SceneParts, IsScene, IsEntry, IsNumber, EntersBy, behind, exit_of}
 use Rattle.portal_walk.specs.Sides.{IsExit}
 use Rattle.portal_walk.specs.Walk.{ends_of}
+use Rattle.portal_walk.proofs.Lists.{last_pushed}
 use Rattle.portal_walk.proofs.Alone.{not_solid, one_record}
 use Rattle.portal_walk.proofs.Portals.{found_behind, found_on}
 use Rattle.portal_walk.proofs.Sequences.{comes_on, comes_first}
 use Rattle.gate_floods.specs.RowJudge.Words.{is_away}
 use Rattle.row_trees.specs.Going.{GoesOn}
+use Rattle.row_trees.specs.Path.{HasEndOfLast}
 use Rattle.row_trees.specs.Walkable.{Scene, Search, IsWalkable}
 
 one_edge : (x y : HalfEdge) (o : Option HalfEdge) → o ≡ Some x → o ≡ Some y → x ≡ y
@@ -104,6 +106,7 @@ module _ (c : Scene) (s : Search) (w : IsWalkable s.ground c.edges c.roots c.fir
     pub there : slice_get c.edges number ≡ Some edge
     pub number_is : IsNumber s.ground.triangles number
     pub goes_on : GoesOn c s root ends edge
+    pub joins : HasEndOfLast ends edge.left_at edge.right_at
     pub away : edge.entered ≡ None → (row : List ℕ) → is_away row x.sector ≡ true → is_away row edge.sector ≡ true
 
   away_same : (x y : HalfEdge) (row : List ℕ) → ((a : ℕ) → y.sector ≡ Some a → x.sector ≡ Some a) → is_away row x.sector ≡ true → is_away row y.sector ≡ true
@@ -112,6 +115,11 @@ module _ (c : Scene) (s : Search) (w : IsWalkable s.ground c.edges c.roots c.fir
       by : (o : Option ℕ) → y.sector ≡ o → is_away row y.sector ≡ true
       by None e = ap (is_away row) e
       by (Some a) e = ap (is_away row) (e ∙ sym (same a e)) ∙ h
+
+  -- behind a portal the next one keeps one of its ends
+  joined : (ends : List EndPoints) (x y : HalfEdge) (way : WayOut) → IsEntry s.ground.plan s.ground.triangles s.ground.labels s.source x → IsEntry s.ground.plan s.ground.triangles s.ground.labels s.source y → portal_of y ≡ exit_of x way → HasEndOfLast (ends ++ ends_of x ∷ []) y.left_at y.right_at
+  joined ends x y Left ix iy by = inr (inl (ends_of x, last_pushed ends (ends_of x), ix.left_at ∙ sym (iy.left_at ∙ ap (λ (d : Portal). place (map_of s.ground.plan) d.left) by)))
+  joined ends x y Right ix iy by = inr (inr (ends_of x, last_pushed ends (ends_of x), ix.right_at ∙ sym (iy.right_at ∙ ap (λ (d : Portal). place (map_of s.ground.plan) d.right) by)))
 
   pub way_on : (k root : ℕ) (ends : List EndPoints) (x : HalfEdge) → slice_get c.edges k ≡ Some x → IsNumber s.ground.triangles k → GoesOn c s root ends x → (way : WayOut) (i : ℕ) → way_outside c.edges s.source (behind x way) ≡ Some i → OnBy i root (ends ++ ends_of x ∷ []) x
   way_on k root ends x there number on way i is = by (found_on parts is_scene k number x there way (Some i) (sym is) x there)
@@ -127,6 +135,7 @@ module _ (c : Scene) (s : Search) (w : IsWalkable s.ground c.edges c.roots c.fir
           exit = on.exit;
           leaves = on.leaves;
         };
+        joins = joined ends x f.edge way on.comes.entry f.entry f.portal;
         away = λ free row h. away_same x f.edge row (λ a e. sym (label_at k x number there) ∙ same_sector x f.edge way on.comes.entry f.entry f.portal free a (label_at i f.edge (entry_edge (exit_of x way), f.number) f.there ∙ e)) h;
       }
 

@@ -7,12 +7,15 @@ use Rattle.sight_names.specs.Splitting.{EndPoints, IsSplittable}
 use Rattle.block_evidence.specs.declared.Evidence.{Evidence}
 use Rattle.block_evidence.specs.Stuck.{Blocks}
 use Rattle.stab_hull.specs.Answer.{IsBarredBy}
+use Rattle.block_evidence.specs.declared.sight_tree.Node.{Node}
 use Rattle.block_evidence.specs.declared.sight_tree.Node.TheVariants.{Open, Blocked}
+use Rattle.block_evidence.specs.declared.sight_tree.Tree.{Tree}
 use Rattle.mesh_shape.specs.declared.half_edges.table.HalfEdge.{HalfEdge}
 use Rattle.mesh_shape.specs.HalfEdges.HalfEdges.{way_outside}
 use Rattle.cert_checker.specs.declared.tree_judge.roots.Root.{Root}
 use Rattle.cert_checker.specs.declared.tree_judge.trees.Frame.{Frame}
 use Rattle.cert_checker.specs.TreeJudge.Path.{path_ends}
+use Rattle.cert_checker.specs.TreeJudge.Walked.{with_node}
 use Rattle.portal_walk.specs.declared.scene.Way.TheVariants.{Left, Right}
 use Rattle.portal_walk.specs.Scene.{IsNumber}
 use Rattle.portal_walk.specs.Walk.{ends_of}
@@ -21,11 +24,12 @@ use Rattle.gate_floods.specs.RowJudge.Masks.{MaskRows}
 use Rattle.gate_floods.specs.declared.row_judge.follow.Wait.{Wait}
 use Rattle.gate_floods.specs.declared.row_judge.walk.RowWalk.{RowWalk}
 use Rattle.gate_floods.specs.RowJudge.Words.{row_at, is_away}
-use Rattle.gate_floods.specs.RowJudge.Asked.{Pending, pending_way, pending_roots, with_rest, leaves, mask_at, row_through, way_asked, ways_behind, ways_through, ends_through, Answers}
+use Rattle.gate_floods.specs.RowJudge.Asked.{Pending, pending_way, pending_roots, with_rest, leaves, mask_at, row_through, way_asked, ways_behind, ways_through, ends_through, Answers, AreAnswered}
 use Rattle.gate_floods.specs.RowJudge.Path.{AreWaiting}
-use Rattle.gate_floods.specs.RowJudge.Judged.{StandsAt}
+use Rattle.gate_floods.specs.RowJudge.Judged.{StandsAt, IsWalked}
 use Rattle.row_trees.specs.Walkable.{Scene, Search, IsWalkable}
 use Rattle.row_trees.specs.Thinner.{IsWithin, IsPresent, IsThinned, AreThinned}
+use Rattle.row_trees.specs.Path.{HasEndOfLast}
 use Rattle.row_trees.specs.Left.{most, weight, weight_at, remaining}
 use Rattle.row_trees.specs.Going.{root_of, GoesOn, IsToCome, IsGoing, IsTried, IsAfter}
 use Rattle.row_trees.proofs.Thin.{left_within, away_more, out_of, within_through}
@@ -76,6 +80,11 @@ pub root_of_more : (es : List EndPoints) (e : EndPoints) (i root : ℕ) → root
 root_of_more [] e i root = refl
 root_of_more (f ∷ es) e i root = refl
 
+-- one more node answers
+answered_behind : (xs : List HalfEdge) (ms : MaskRows) (source : ℕ) (ns : List Node) (n : Node) (ps qs rs : List Pending) → AreAnswered xs ms source ps ns qs → Answers xs ms source qs n rs → AreAnswered xs ms source ps (ns ++ n ∷ []) rs
+answered_behind xs ms source [] n ps qs rs e answer = (rs, subst (λ (os : List Pending). Answers xs ms source os n rs) e answer, refl)
+answered_behind xs ms source (k ∷ ns) n ps qs rs (os, first, rest) answer = (os, first, answered_behind xs ms source ns n os qs rs rest answer)
+
 one_edge : (x y : HalfEdge) (o : Option HalfEdge) → o ≡ Some x → o ≡ Some y → x ≡ y
 one_edge x y o e f = cc
 
@@ -91,6 +100,7 @@ module _ (c : Scene) (s : Search) where
     there = h.there;
     goes_on = h.goes_on;
     number_is = h.number_is;
+    joins = h.joins;
     front = h.front;
     short = h.short;
     away = λ free. away_more q.row p.row h.edge.sector t.row (h.away free);
@@ -107,6 +117,7 @@ module _ (c : Scene) (s : Search) where
     there = h.there;
     goes_on = h.goes_on;
     number_is = h.number_is;
+    joins = h.joins;
     front = h.front ∙ sym (take-append-le (length p.path) ends (e ∷ []) (front_length root ends p h));
     short = h.short;
     away = h.away;
@@ -125,6 +136,7 @@ module _ (c : Scene) (s : Search) where
     there = h.there;
     goes_on = subst (λ (r : ℕ). GoesOn c s r p.path h.edge) (sym (root_kept p.path p.edge root later d l same)) h.goes_on;
     number_is = h.number_is;
+    joins = h.joins;
     front = h.front ∙ sym (take-take (length p.path) d ends l);
     short = h.short;
     away = h.away;
@@ -146,6 +158,7 @@ module _ (c : Scene) (s : Search) where
     pub there : slice_get c.edges head.edge ≡ Some x
     pub number_is : IsNumber s.ground.triangles head.edge
     pub goes_on : GoesOn c s root ends x
+    pub joins : HasEndOfLast ends x.left_at x.right_at
     pub away : x.entered ≡ None → is_away head.row x.sector ≡ true
     pub short : length ends ≤ length s.ground.triangles
     pub within : IsWithin head.row s.row
@@ -162,6 +175,7 @@ module _ (c : Scene) (s : Search) where
     there = t.there;
     number_is = h.number_is;
     goes_on = subst (λ (y : HalfEdge). GoesOn c s root ends y) same (subst (λ (r : ℕ). GoesOn c s r ends h.edge) t.begun (subst (λ (es : List EndPoints). GoesOn c s (root_of es t.number root) es h.edge) path_is h.goes_on));
+    joins = subst (λ (y : HalfEdge). HasEndOfLast ends y.left_at y.right_at) same (subst (λ (es : List EndPoints). HasEndOfLast es h.edge.left_at h.edge.right_at) path_is h.joins);
     away = subst (λ (y : HalfEdge). y.entered ≡ None → is_away p.row y.sector ≡ true) same h.away;
     short = subst (λ (es : List EndPoints). length es ≤ length s.ground.triangles) path_is h.short;
     within = h.within;
@@ -224,6 +238,7 @@ module _ (c : Scene) (s : Search) where
       there = o.there;
       goes_on = subst (λ (r : ℕ). GoesOn c s r longer o.edge) (sym (root_of_more ends (ends_of x) i root)) o.goes_on;
       number_is = o.number_is;
+      joins = o.joins;
       front = sym (take_all (length longer) longer (omega arith));
       short = not_long c s w root ends x h.goes_on splits;
       away = λ none. o.away none behind_row away_behind;
@@ -463,6 +478,27 @@ module _ (c : Scene) (s : Search) where
       let h = head_of root ends w found x n t in
       (h.head, h.rest, x, h.all, h.there, subst (λ (es : List EndPoints). Blocks (es ++ ends_of x ∷ []) e) (sym h.path_is) bars.blocks, refl)
 
+  -- the judge's walk stands behind it, whose nodes that one blocks too
+  pub blocked_walked : (root : ℕ) (ends : List EndPoints) (w new : RowWalk) (found : List Reached) (x : HalfEdge) (n : ℕ) (e : Evidence) (t : IsTried c s root ends w found x n) → IsBarredBy (ends ++ ends_of x ∷ []) e → new.source ≡ w.source
+      → ((first : List ℕ) (p : Pending) (rest : List Pending) → StandsAt c.masks first c.roots w (p ∷ rest) → StandsAt c.masks first c.roots new rest) → (row : List ℕ) (firsts : List (Option ℕ)) (tree : Tree) → IsWalked c.edges c.masks row c.roots firsts tree w → IsWalked c.edges c.masks row c.roots firsts (with_node (Blocked e) tree) new
+  unfolding head_of
+  blocked_walked root ends w new found x n e t bars same moves row firsts tree walked = record {
+    source_is = same ∙ walked.source_is;
+    each = λ es chain. go es (walked.each es chain);
+  }
+    where
+      path_is : path_ends (take w.follow.depth w.path.items) ≡ ends
+      path_is = (head_of root ends w found x n t).path_is
+
+      blocks : Blocks (path_ends (take w.follow.depth w.path.items) ++ ends_of x ∷ []) e
+      blocks = subst (λ (es : List EndPoints). Blocks (es ++ ends_of x ∷ []) e) (sym path_is) bars.blocks
+
+      go : (es : List ℕ) → (ps : List Pending) × AreAnswered c.edges c.masks tree.source (pending_roots c.masks row es) tree.nodes ps × StandsAt c.masks row c.roots w ps
+          → (ps : List Pending) × AreAnswered c.edges c.masks tree.source (pending_roots c.masks row es) (tree.nodes ++ Blocked e ∷ []) ps × StandsAt c.masks row c.roots new ps
+      go es (ps, answered, at) =
+          let a = asks_first c.masks row c.roots w ps t.number at t.is_asked in
+          (a.rest, answered_behind c.edges c.masks tree.source tree.nodes (Blocked e) (pending_roots c.masks row es) ps a.rest answered (present c.masks w t.number, a.rest, x, a.all, t.there, blocks, refl), moves row (present c.masks w t.number) a.rest (subst (StandsAt c.masks row c.roots w) a.all at))
+
   pub open_right : (root : ℕ) (ends : List EndPoints) (w : RowWalk) (found : List Reached) (x : HalfEdge) (n : ℕ) (t : IsTried c s root ends w found x n) → is_away (row_at w.rows.items c.masks.width w.follow.row) x.sector ≡ true
       → Answers c.edges c.masks w.source t.going.asked Open (ways_through c.edges c.masks s.source (head_of root ends w found x n t).head x ++ (head_of root ends w found x n t).rest)
   open_right root ends w found x n t free =
@@ -486,9 +522,20 @@ module _ (c : Scene) (s : Search) where
       let h : IsToCome c s root ends (present c.masks w number) = (subst (AllByRecursion (IsToCome c s root ends)) a.all g.each).0 in
       (h.edge, h.there)
 
-  -- its ends are different, and there is room for its portal
+  -- so many portals are there as lead to it
+  pub depth_within : (root : ℕ) (ends : List EndPoints) (w : RowWalk) (found : List Reached) (n number : ℕ) → IsGoing c s root ends w found n → w.follow.asked ≡ Some number → w.follow.depth ≤ length ends
+  depth_within root ends w found n number g e =
+      let a = asks_first c.masks g.first c.roots w g.asked number g.at e in
+      let l : length (path_ends (take w.follow.depth w.path.items)) ≤ length ends = front_length root ends (present c.masks w number) (subst (AllByRecursion (IsToCome c s root ends)) a.all g.each).0 in
+      let m : length (path_ends (take w.follow.depth w.path.items)) ≡ w.follow.depth = a.long in
+      omega (arith, l, m)
+
+  -- its ends are different, it has one of the last portal's, and there is room for its portal
   pub proper_ends : (root : ℕ) (ends : List EndPoints) (w : RowWalk) (found : List Reached) (x : HalfEdge) (n : ℕ) → IsTried c s root ends w found x n → x.left_at ≢ x.right_at
   proper_ends root ends w found x n t = (head_of root ends w found x n t).goes_on.comes.entry.proper
+
+  pub joins_there : (root : ℕ) (ends : List EndPoints) (w : RowWalk) (found : List Reached) (x : HalfEdge) (n : ℕ) → IsTried c s root ends w found x n → HasEndOfLast ends x.left_at x.right_at
+  joins_there root ends w found x n t = (head_of root ends w found x n t).joins
 
   pub room_there : (root : ℕ) (ends : List EndPoints) (w : RowWalk) (found : List Reached) (x : HalfEdge) (n : ℕ) → IsTried c s root ends w found x n → length ends < 32768
   room_there root ends w found x n t = let l : length ends ≤ length s.ground.triangles = (head_of root ends w found x n t).short in let m : length s.ground.triangles ≤ 32766 = t.going.walkable.few in omega (arith, l, m)

@@ -6,3 +6,5 @@ pub mod Going
 pub mod Found
 pub mod Beginning
 pub mod Skipping
+pub mod Keeping
+pub mod Doors

@@ -16,6 +16,7 @@ use Rattle.gate_floods.specs.declared.row_judge.walk.RowWalk.{RowWalk}
 use Rattle.row_trees.specs.Finding.{side_left}
 use Rattle.row_trees.specs.Left.{most, weight}
 use Rattle.row_trees.specs.Made.{AreSeen, AreWanted}
+use Rattle.row_trees.specs.Path.{HasEndOfLast}
 use Rattle.row_trees.specs.Thinner.{IsPresent, IsWithin}
 use Rattle.row_trees.specs.Walkable.{Scene, Search, IsWalkable}
 
@@ -32,12 +33,14 @@ module _ (c : Scene) (s : Search) where
     pub exit : IsExit s.ground.plan s.source sequence.root
     pub leaves : side_left c.edges (Some root) ≡ Some sequence.root
 
-  -- so does what is still to be asked, behind a front of the path; where no line is, one doesn't come into what the row has
+  -- so does what is still to be asked, behind a front of the path, whose last portal shares an end with it; where no line
+  -- is, one doesn't come into what the row has
   pub record IsToCome (root : ℕ) (ends : List EndPoints) (p : Pending) : Type 0 where
     pub edge : HalfEdge
     pub there : slice_get c.edges p.edge ≡ Some edge
     pub goes_on : GoesOn (root_of p.path p.edge root) p.path edge
     pub number_is : IsNumber s.ground.triangles p.edge
+    pub joins : HasEndOfLast p.path edge.left_at edge.right_at
     pub front : p.path ≡ take (length p.path) ends
     pub short : length p.path ≤ length s.ground.triangles
     pub away : edge.entered ≡ None → is_away p.row edge.sector ≡ true

@@ -4,8 +4,8 @@
 #![tactic(auto)]
 
 mod finding;
-mod hull;
 mod made;
+mod path;
 mod rows;
 mod walk;
 

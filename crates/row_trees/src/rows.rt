@@ -47,6 +47,7 @@ pub fn forget(walk: &mut RowWalk, width: usize, sector: u16)
 }
 
 /// Goes on to the next way or root without an answer to what is asked.
+#[inline(always)]
 pub fn skip(walk: &mut RowWalk, terrain: &Terrain<'_>, masks: &Masks<'_>)
     ensures stands { (first : List ℕ) (p : Pending) (rest : List Pending) → StandsAt (rows_of masks.now) first terrain.now.roots.now.roots.items walk.old (p ∷ rest) → StandsAt (rows_of masks.now) first terrain.now.roots.now.roots.items walk.new rest }
     ensures source { walk.new.source ≡ walk.old.source }

@@ -2,7 +2,7 @@
 
 ghost use Rattle.std.specs.Prelude.{◌≡◌, ◌≢◌, ◌⊎◌, ◌+◌, ◌<◌, ◌++◌, ◌∷◌, [], ℕ, List, Some as Given, All, length, true, false, IfOk, OnOk};
 ghost use Rattle.sight_names.specs.Splitting.{EndPoints, IsSplittable};
-ghost use Rattle.block_evidence.specs.declared.sight_tree.Node.TheVariants.{Blocked};
+ghost use Rattle.block_evidence.specs.declared.sight_tree.Node.TheVariants.{Open};
 ghost use Rattle.mesh_shape.specs.declared.half_edges.table.HalfEdge.{HalfEdge as HalfEdgeOf};
 ghost use Rattle.portal_walk.specs.Nodes.{IsAnswered};
 ghost use Rattle.portal_walk.specs.Walk.{ends_of};
@@ -17,8 +17,8 @@ ghost use Rattle.row_trees.specs.Thinner.{IsPresent};
 ghost use Rattle.row_trees.specs.Walkable.{Ground, IsWalkable, Search, scene_of};
 
 use crate::finding::{reached, wanted};
-use crate::hull::leave_to;
 use crate::made::Made;
+use crate::path::Path;
 use crate::rows::{forget, skip, skip_unwanted};
 use block_evidence::Evidence;
 use block_evidence::sight_tree::{Node, Nodes};
@@ -26,7 +26,7 @@ use cert_checker::tree_judge::Terrain;
 use gate_floods::row_judge::{Masks, RowWalk};
 use mesh_shape::half_edges::HalfEdge;
 use sight_names::Memory;
-use stab_hull::{Ends, Passed};
+use stab_hull::Passed;
 use std::alloc::Global;
 
 /// A walk of a source as its judge would walk, the hull of the ends of its path, and the half-edge by which it left the source.
@@ -34,7 +34,7 @@ use std::alloc::Global;
 #[derive(Drop)]
 pub struct Walk {
     judged: RowWalk,
-    ends: Ends,
+    ends: Path,
     root: u32,
 }
 
@@ -55,28 +55,40 @@ fn may_have_found(judged: &RowWalk, depth: usize, made: &Made) -> bool
     judged.follow.depth <= depth && !made.found.is_empty()
 }
 
+/// Keeps the node while nothing was found.
+#[inline(always)]
+fn keep(made: &mut Made, node: Node) -> Result<(), Memory>
+    requires answered { IsAnswered node }
+    ensures found { made.new.found.items ≡ made.old.found.items }
+    ensures nodes { made.old.found.items ≡ [] → OnOk result (made.new.nodes ≡ made.old.nodes ++ node ∷ []) }
+    ensures answered { All IsAnswered made.old.nodes → IfOk result (λ _. All IsAnswered made.new.nodes) }
+{
+    if made.found.is_empty() {
+        made.nodes.push(node)?;
+    }
+    Ok(())
+}
+
 impl Walk {
     /// A walk that asks for nothing.
     pub fn new(alloc: Global) -> Walk {
         Walk {
             judged: RowWalk::new(alloc),
-            ends: Ends::new(alloc),
+            ends: Path::new(alloc),
             root: 0,
         }
     }
 
-    /// Gives the judge a node that answers for what is asked, and keeps it while nothing was found.
+    /// Goes through what is asked, as its judge would, and keeps the open node while nothing was found.
     #[inline(always)]
-    fn answer(
+    fn enter(
         &mut self,
         terrain: &Terrain<'_>,
         masks: &Masks<'_>,
-        node: Node,
         made: &mut Made,
     ) -> Result<(), Memory>
-        requires answered { IsAnswered node }
-        requires right { CanAnswer (scene_of terrain.now masks.now) node self.old.judged }
-        ensures stands { (first : List ℕ) (ps qs : List Pending) → StandsAt (rows_of masks.now) first terrain.now.roots.now.roots.items self.old.judged ps → Answers terrain.now.edges.now (rows_of masks.now) self.old.judged.source ps node qs → IfOk result (λ _. StandsAt (rows_of masks.now) first terrain.now.roots.now.roots.items self.new.judged qs) }
+        requires right { CanAnswer (scene_of terrain.now masks.now) Open self.old.judged }
+        ensures stands { (first : List ℕ) (ps qs : List Pending) → StandsAt (rows_of masks.now) first terrain.now.roots.now.roots.items self.old.judged ps → Answers terrain.now.edges.now (rows_of masks.now) self.old.judged.source ps Open qs → IfOk result (λ _. StandsAt (rows_of masks.now) first terrain.now.roots.now.roots.items self.new.judged qs) }
         ensures source { self.new.judged.source ≡ self.old.judged.source }
         ensures ends { self.new.ends ≡ self.old.ends }
         ensures root { self.new.root ≡ self.old.root }
@@ -84,11 +96,8 @@ impl Walk {
         ensures made { (row : List ℕ) (source : ℕ) → IsMadeSoFar terrain.now.edges.now (rows_of masks.now) row terrain.now.roots.now.roots.items terrain.now.roots.now.first.items source self.old.judged made.old → IfOk result (λ _. IsMadeSoFar terrain.now.edges.now (rows_of masks.now) row terrain.now.roots.now.roots.items terrain.now.roots.now.first.items source self.new.judged made.new) }
         ensures answered { All IsAnswered made.old.nodes → IfOk result (λ _. All IsAnswered made.new.nodes) }
     {
-        self.judged.step(terrain, masks, node)?;
-        if made.found.is_empty() {
-            made.nodes.push(node)?;
-        }
-        Ok(())
+        self.judged.step(terrain, masks, Node::Open)?;
+        keep(made, Node::Open)
     }
 
     /// Finds the sector into which the half-edge leads whose portal is the last one of the hull, if it is wanted, and forgets it.
@@ -100,7 +109,6 @@ impl Walk {
         edge: &HalfEdge,
         made: &mut Made,
     ) -> Result<(), Memory>
-        requires splittable { IsSplittable self.old.ends }
         requires tried { (s : Search) × (n : ℕ) × (before : List EndPoints) × (self.old.ends ≡ before ++ ends_of edge.now ∷ []) × IsTried (scene_of terrain.now masks.now) s self.old.root before self.old.judged made.old.found.items edge.now n }
         ensures tried { (s : Search) (n : ℕ) (before : List EndPoints) → self.old.ends ≡ before ++ ends_of edge.now ∷ [] → IsTried (scene_of terrain.now masks.now) s self.old.root before self.old.judged made.old.found.items edge.now n → IfOk result (λ _. IsTried (scene_of terrain.now masks.now) s self.new.root before self.new.judged made.new.found.items edge.now n) }
         ensures away { IfOk result (λ _. is_away (row_at self.new.judged.rows.items masks.now.width self.new.judged.follow.row) edge.now.sector ≡ true) }
@@ -134,10 +142,11 @@ impl Walk {
         ensures answered { All IsAnswered made.old.nodes → IfOk result (λ _. All IsAnswered made.new.nodes) }
     {
         self.find(terrain, masks, edge, made)?;
-        self.answer(terrain, masks, Node::Open, made)
+        self.enter(terrain, masks, made)
     }
 
-    /// Turns back before what is asked, since these ends block it. Once something was found no judge needs to hear of them.
+    /// Turns back before what is asked, since these ends block it. The judge needn't test them again, and once something was
+    /// found it won't hear of them.
     #[inline(always)]
     fn turn_back(
         &mut self,
@@ -151,9 +160,7 @@ impl Walk {
         ensures made { (row : List ℕ) (source : ℕ) → IsMadeSoFar terrain.now.edges.now (rows_of masks.now) row terrain.now.roots.now.roots.items terrain.now.roots.now.first.items source self.old.judged made.old → IfOk result (λ _. IsMadeSoFar terrain.now.edges.now (rows_of masks.now) row terrain.now.roots.now.roots.items terrain.now.roots.now.first.items source self.new.judged made.new) }
         ensures answered { All IsAnswered made.old.nodes → IfOk result (λ _. All IsAnswered made.new.nodes) }
     {
-        if made.found.is_empty() {
-            return self.answer(terrain, masks, Node::Blocked(evidence), made);
-        }
+        keep(made, Node::Blocked(evidence))?;
         skip(&mut self.judged, terrain, masks);
         Ok(())
     }
@@ -212,7 +219,7 @@ impl Walk {
         let edge = terrain.edges.get(number).unwrap();
         let depth = self.judged.follow.depth;
         self.root = root_at(depth, number, self.root);
-        leave_to(&mut self.ends, depth);
+        self.ends.cut(depth);
         self.try_edge(terrain, masks, edge, made)?;
         self.come_back(terrain, masks, depth, made);
         Ok(())

@@ -8,27 +8,27 @@ use Rattle.row_trees.specs.Walkable.{scene_of}
 use Rattle.row_trees.proofs.Going.{head_of, open_right, opened, after_moved}
 use Rattle.row_trees.proofs.walk.Walk.go_through.Goals as goal
 
-pub answer-requires-clause-right : goal.answer-requires-clause-right
-answer-requires-clause-right c =
+pub enter-requires : goal.enter-requires
+enter-requires c =
     let k = scene_of c.args.terrain.now c.args.masks.now in
     let r = c.requires.tried in
     let v = c.find.new in
     let t = c.in_ok-find.ensures.tried r.0 r.1 r.2 r.3 r.4 in
     let h = head_of k r.0 v.self.root r.2 v.self.judged v.made.found.items c.args.edge.now r.1 t in
-    (t.going.first, t.going.asked, _, t.going.at, open_right k r.0 v.self.root r.2 v.self.judged v.made.found.items c.args.edge.now r.1 t c.in_ok-find.ensures.away)
+    record { right = (t.going.first, t.going.asked, _, t.going.at, open_right k r.0 v.self.root r.2 v.self.judged v.made.found.items c.args.edge.now r.1 t c.in_ok-find.ensures.away) }
 
 pub returns-clause-after : goal.returns-clause-after
 returns-clause-after c = λ s n before e first.
     let k = scene_of c.args.terrain.now c.args.masks.now in
     let v = c.find.new in
-    let u = c.answer.new in
+    let u = c.enter.new in
     let x = c.args.edge.now in
     let t = c.in_ok-find.ensures.tried s (n + 1) before e first in
     let h = head_of k s v.self.root before v.self.judged v.made.found.items x (n + 1) t in
-    all_ok _ (λ _. IsAfter k s u.self.root u.self.ends u.self.judged u.made.found.items n (length before)) c.answer.result
-    (c.answer.ensures.stands t.going.first t.going.asked (ways_through k.edges k.masks s.source h.head x ++ h.rest) t.going.at (open_right k s v.self.root before v.self.judged v.made.found.items x (n + 1) t c.in_ok-find.ensures.away))
-    (λ _ at. after_moved k s v.self.root u.self.root (before ++ ends_of x ∷ []) u.self.ends u.self.judged v.made.found.items u.made.found.items n (length before) c.answer.ensures.root (c.answer.ensures.ends ∙ c.find.ensures.ends ∙ e) c.answer.ensures.found
-    (opened k s v.self.root before v.self.judged u.self.judged v.made.found.items x n t (subst IsSplittable e c.requires.splittable) c.in_ok-find.ensures.away c.answer.ensures.source at))
+    all_ok _ (λ _. IsAfter k s u.self.root u.self.ends u.self.judged u.made.found.items n (length before)) c.enter.result
+    (c.enter.ensures.stands t.going.first t.going.asked (ways_through k.edges k.masks s.source h.head x ++ h.rest) t.going.at (open_right k s v.self.root before v.self.judged v.made.found.items x (n + 1) t c.in_ok-find.ensures.away))
+    (λ _ at. after_moved k s v.self.root u.self.root (before ++ ends_of x ∷ []) u.self.ends u.self.judged v.made.found.items u.made.found.items n (length before) c.enter.ensures.root (c.enter.ensures.ends ∙ c.find.ensures.ends ∙ e) c.enter.ensures.found
+    (opened k s v.self.root before v.self.judged u.self.judged v.made.found.items x n t (subst IsSplittable e c.requires.splittable) c.in_ok-find.ensures.away c.enter.ensures.source at))
 
 pub returns-clause-made : goal.returns-clause-made
-returns-clause-made c = λ row source h. c.answer.ensures.made row source (c.in_ok-find.ensures.made row source h)
+returns-clause-made c = λ row source h. c.enter.ensures.made row source (c.in_ok-find.ensures.made row source h)

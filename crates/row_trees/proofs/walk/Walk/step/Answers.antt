@@ -2,8 +2,14 @@ use Rattle.std.proofs.Common.{ℕ, ◌+◌, option_copied, sym, ◌∙◌, ap, s
 use Rattle.row_trees.specs.Going.{IsAfter}
 use Rattle.row_trees.specs.Left.{remaining}
 use Rattle.row_trees.specs.Walkable.{scene_of}
-use Rattle.row_trees.proofs.Going.{tried, with_limit}
+use Rattle.row_trees.proofs.Going.{tried, with_limit, depth_within}
 use Rattle.row_trees.proofs.walk.Walk.step.Goals as goal
+
+pub cut-requires : goal.cut-requires
+cut-requires c =
+    let w = c.args.self.now in
+    let r = c.requires.going in
+    depth_within (scene_of c.args.terrain.now c.args.masks.now) r.0 w.root w.ends w.judged c.args.made.now.found.items r.1 c.args.number r.2 c.requires.asked
 
 pub try_edge-requires : goal.try_edge-requires
 try_edge-requires c =
@@ -13,8 +19,8 @@ try_edge-requires c =
       tried = (
         r.0,
         r.1,
-        tried (scene_of c.args.terrain.now c.args.masks.now) r.0 w.root c.root_at-self.result c.args.number w.ends c.leave_to.new.ends w.judged c.args.made.now.found.items c.unwrap-edge.result.now r.1 r.2 c.requires.asked c.requires.present
-            (sym c.get.ensures ∙ ap option_copied c.unwrap-edge.ensures) c.leave_to.ensures c.root_at-self.ensures,
+        tried (scene_of c.args.terrain.now c.args.masks.now) r.0 w.root c.root_at-self.result c.args.number w.ends c.cut.new.self w.judged c.args.made.now.found.items c.unwrap-edge.result.now r.1 r.2 c.requires.asked c.requires.present
+            (sym c.get.ensures ∙ ap option_copied c.unwrap-edge.ensures) c.cut.ensures c.root_at-self.ensures,
       );
     }
 
@@ -25,8 +31,8 @@ come_back-requires c =
     let found = c.args.made.now.found.items in
     let r = c.requires.going in
     let v = c.try_edge.new in
-    let t = tried k r.0 w.root c.root_at-self.result c.args.number w.ends c.leave_to.new.ends w.judged found c.unwrap-edge.result.now (remaining k w.judged + 1) (with_limit k r.0 w.root w.ends w.judged found r.1 r.2) c.requires.asked c.requires.present
-    (sym c.get.ensures ∙ ap option_copied c.unwrap-edge.ensures) c.leave_to.ensures c.root_at-self.ensures in
+    let t = tried k r.0 w.root c.root_at-self.result c.args.number w.ends c.cut.new.self w.judged found c.unwrap-edge.result.now (remaining k w.judged + 1) (with_limit k r.0 w.root w.ends w.judged found r.1 r.2) c.requires.asked c.requires.present
+    (sym c.get.ensures ∙ ap option_copied c.unwrap-edge.ensures) c.cut.ensures c.root_at-self.ensures in
     record {
       after = (r.0, remaining k w.judged, subst (λ (d : ℕ). IsAfter k r.0 v.self.root v.self.ends v.self.judged v.made.found.items (remaining k w.judged) d) (sym t.depth) (c.in_ok-try_edge.ensures.after r.0 (remaining k w.judged) t));
     }
@@ -37,8 +43,8 @@ returns-clause-going c = λ s n g.
     let k = scene_of c.args.terrain.now c.args.masks.now in
     let found = c.args.made.now.found.items in
     let v = c.try_edge.new in
-    let t = tried k s w.root c.root_at-self.result c.args.number w.ends c.leave_to.new.ends w.judged found c.unwrap-edge.result.now (n + 1) g c.requires.asked c.requires.present
-    (sym c.get.ensures ∙ ap option_copied c.unwrap-edge.ensures) c.leave_to.ensures c.root_at-self.ensures in
+    let t = tried k s w.root c.root_at-self.result c.args.number w.ends c.cut.new.self w.judged found c.unwrap-edge.result.now (n + 1) g c.requires.asked c.requires.present
+    (sym c.get.ensures ∙ ap option_copied c.unwrap-edge.ensures) c.cut.ensures c.root_at-self.ensures in
     c.come_back.ensures.going s n (subst (λ (d : ℕ). IsAfter k s v.self.root v.self.ends v.self.judged v.made.found.items n d) (sym t.depth) (c.in_ok-try_edge.ensures.after s n t))
 
 pub returns-clause-made : goal.returns-clause-made

@@ -6,7 +6,14 @@ use Rattle.stab_hull.specs.Answer.{IsPassed, IsBarredBy}
 use Rattle.portal_walk.specs.Walk.{ends_of}
 use Rattle.row_trees.specs.Going.{IsAfter, IsTried}
 use Rattle.row_trees.specs.Walkable.{scene_of}
+use Rattle.row_trees.proofs.Going.{joins_there}
 use Rattle.row_trees.proofs.walk.Walk.try_edge.Goals as goal
+
+pub pass-requires-clause-joins : goal.pass-requires-clause-joins
+pass-requires-clause-joins c =
+    let w = c.args.self.now in
+    let r = c.requires.tried in
+    joins_there (scene_of c.args.terrain.now c.args.masks.now) r.0 w.root w.ends w.judged c.args.made.now.found.items c.args.edge.now r.1 r.2
 
 pub go_through-requires-clause-splittable : goal.go_through-requires-clause-splittable
 go_through-requires-clause-splittable c =

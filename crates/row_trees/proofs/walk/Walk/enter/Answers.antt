@@ -1,0 +1,16 @@
+use Rattle.std.proofs.Common.{ℕ}
+use Rattle.block_evidence.specs.declared.sight_tree.Node.TheVariants.{Open}
+use Rattle.gate_floods.specs.RowJudge.Judged.{tree_of}
+use Rattle.gate_floods.specs.RowJudge.Masks.{rows_of}
+use Rattle.row_trees.proofs.Keeping.{always, kept_made}
+use Rattle.row_trees.proofs.walk.Walk.enter.Goals as goal
+
+pub returns-clause-stands : goal.returns-clause-stands
+returns-clause-stands c = λ first ps qs at answers. always c.keep.result (c.in_ok-step.ensures.stands first ps qs at answers).1
+
+pub returns-clause-made : goal.returns-clause-made
+returns-clause-made c = λ row source h.
+    let t = c.args.terrain.now in
+    let r = c.requires.right in
+    kept_made t.edges.now (rows_of c.args.masks.now) row t.roots.now.roots.items t.roots.now.first.items source c.step.new.self c.args.made.now c.keep.new.made Open c.keep.result c.keep.ensures.found c.keep.ensures.nodes
+    (λ none. c.in_ok-step.ensures.answered row (tree_of source c.args.made.now.nodes) (h none) (c.in_ok-step.ensures.stands r.0 r.1 r.2 r.3 r.4).0)
