@@ -3,13 +3,23 @@
 #
 #     bench/c_library.sh ARCHIVE PROGRAM WAD...
 #
-# ARCHIVE is libdoomsight_c.a (rt lib in crates/doomsight_c), PROGRAM the program of the same version. Needs gcc, g++, clang, clang++
-# and valgrind. Stages can be named in STAGES, which is "header layout maps exact memory threads refused" where it isn't set; MAPS
-# names the maps to try. It ends with 1 where anything differs.
+# ARCHIVE is libdoomsight_c.a (rt lib in crates/doomsight_c), PROGRAM the program of the same version. Needs gcc, g++, clang,
+# clang++, pkg-config and valgrind. STAGES names the stages, all of them where it isn't set; MAPS names the maps to try, STEP
+# which of the allocations are refused. It ends with 1 where anything differs.
+#
+#     header     the header and the clients by each compiler, and what the archive asks for
+#     layout     the structs and the versions of the header and the library
+#     install    a new prefix, pkg-config, and the example of docs/C-LIBRARY.md as it stands there
+#     maps       every map by both, within the default budget, within others, and with the larger limits, with 128 KiB of stack
+#     exact      every map by both, with every pair decided, with 128 KiB of stack
+#     stack      how much of it a call needs, over all maps
+#     memory     memcheck
+#     threads    eight threads at once, with the stack that the header names, and helgrind
+#     refused    one allocation refused in each call
 set -u
 top=$(cd "$(dirname "$0")/.." && pwd)
 [ $# -ge 3 ] || {
-    sed -n '2,9s/^# \{0,1\}//p' "$0"
+    sed -n '2,18s/^# \{0,1\}//p' "$0"
     exit 2
 }
 archive=$(realpath "$1")
@@ -17,7 +27,7 @@ program=$(realpath "$2")
 shift 2
 wads=()
 for wad in "$@"; do wads+=("$(realpath "$wad")"); done
-stages=${STAGES:-header layout maps exact memory threads refused}
+stages=${STAGES:-header layout install maps exact stack memory threads refused}
 maps=${MAPS:-$(echo E{1,2,3,4}M{1,2,3,4,5,6,7,8,9} MAP{01..32})}
 work=$(mktemp -d)
 trap 'rm -rf "$work"' EXIT
@@ -40,12 +50,23 @@ client() {
     }
 }
 
+# The program's build of a map: by_program WAD MAP [OPTION..]
+by_program() {
+    "$program" build "$1" "$2" out.wad --cert out.cert --workers 1 "${@:3}" 2>/dev/null
+}
+
 try_header() {
     echo '#include "doomsight.h"
 int main(void) { return 0; }' >header.c
     for compiler in "gcc -std=c99" "gcc -std=c11" "clang -std=c99" "clang -std=c17" "g++ -x c++ -std=c++17" \
         "clang++ -x c++ -std=c++17"; do
         $compiler $strict -c header.c -o header.o || fail "header by $compiler"
+        for file in "$top"/bench/c/*.c "$top/include/doomsight_heap.c"; do
+            case $compiler:$file in
+            *++*/refused.c | *++*/judge.c | *++*/doomsight_heap.c) continue ;; # C alone
+            esac
+            $compiler -O3 $strict -c "$file" -o client.o || fail "$file by $compiler"
+        done
     done
     undefined=$(nm -u "$archive" 2>/dev/null | awk '/ U /{ print $2 }' | sort -u | tr '\n' ' ')
     defined=$(nm --defined-only "$archive" 2>/dev/null | awk '{ print $3 }' | sort -u)
@@ -57,6 +78,11 @@ int main(void) { return 0; }' >header.c
         esac
     done
     [ -z "$others" ] || fail "the archive asks for$others"
+    shown=$(nm --defined-only --extern-only "$archive" 2>/dev/null | awk 'NF == 3 { print $3 }' | grep -v '^doomsight_' | tr '\n' ' ')
+    [ -z "$shown" ] || fail "the archive shows $shown"
+    for name in $(grep -o '^[a-z].* \**doomsight_[a-z_]*(' "$top/include/doomsight.h" | grep -v 'static inline' | grep -o 'doomsight_[a-z_]*(' | tr -d '('); do
+        echo "$defined" | grep -qx "$name" || fail "the archive has no $name"
+    done
     echo "archive $(stat -c %s "$archive") bytes, text $(size -t "$archive" | tail -1 | awk '{ print $1 }')"
 }
 
@@ -69,24 +95,77 @@ try_layout() {
     grep -qx "#define DOOMSIGHT_VERSION $number" "$top/include/doomsight.h" || fail "the header's version isn't the program's"
 }
 
-# One map by both: table, certificate, counts, refusal and line are to be the same: one WAD MAP BUDGET FLAGS METHOD [OPTION]; METHOD
-# is a budget of the program's, or exact
+# The example gives the program's table of a map that is built, and the program's line of one that isn't.
+try_example() {
+    told=0
+    for map in $maps; do
+        line=$(by_program "${wads[0]}" "$map")
+        case $? in
+        0)
+            [ $told = 1 ] || [ $told = 3 ] || ./example "${wads[0]}" "$map" out.wad || fail "the example's table of $map"
+            told=$((told | 1))
+            ;;
+        8 | 9 | 10)
+            [ "$(./example "${wads[0]}" "$map" 2>&1)" = "$line" ] || fail "the example's line of $map"
+            told=$((told | 2))
+            ;;
+        esac
+        [ $told = 3 ] && break
+    done
+    echo "the example: $([ $((told & 1)) = 1 ] && echo "a table") $([ $((told & 2)) = 2 ] && echo "a line") as the program's"
+}
+
+try_install() {
+    "$top/release/install_library.sh" "$work/prefix" "$archive" || fail "install_library.sh"
+    DESTDIR=$work/root "$top/release/install_library.sh" /usr "$archive" || fail "install_library.sh below DESTDIR"
+    [ -f root/usr/lib/libdoomsight_c.a ] || fail "nothing below DESTDIR"
+    diff -r -x doomsight.pc prefix root/usr || fail "another prefix, other files"
+    export PKG_CONFIG_PATH=$work/prefix/lib/pkgconfig
+    [ "$(pkg-config --modversion doomsight)" = "$("$program" --version | sed 's/^doomsight //')" ] || fail "pkg-config's version"
+    sed -n '/^    #include/,/^    }/s/^    //p' "$top/docs/C-LIBRARY.md" >builder.c
+    strict_alone="-Wall -Wextra -Werror -pedantic"
+    flags=$(pkg-config --cflags --libs doomsight)
+    for compiler in "gcc -std=c99" "clang -std=c99" "gcc -std=c17 -O3" "gcc -static" "clang"; do
+        $compiler $strict_alone "$top/bench/c/example.c" builder.c $flags -o example || fail "the example by $compiler"
+    done
+    gcc -shared -fPIC $strict_alone builder.c $flags -o libbuilder.so || fail "a shared library"
+    gcc $strict_alone "$top/bench/c/example.c" $(pkg-config --cflags doomsight) ./libbuilder.so -o example || fail "over a shared library"
+    try_example
+}
+
+# Runs a command with so many KiB of stack.
+with_stack() {
+    (ulimit -s "$1" && shift && exec "$@")
+}
+
+# One map by both: table, certificate, counts, refusal and line are to be the same: one WAD MAP BUDGET FLAGS METHOD [OPTION];
+# METHOD is a budget of the program's, or exact
 one() {
     method="--budget $5"
     [ "$5" = exact ] && method=--exact
-    line=$("$program" build "$1" "$2" out.wad --cert out.cert --workers 1 $method ${6:-} 2>/dev/null)
+    line=$(by_program "$1" "$2" $method ${6:-})
     status=$?
     if [ $status = 7 ]; then return; fi
     if [ $status = 0 ]; then
-        ./client "$1" "$2" "$3" "$4" out.wad out.cert >said || fail "$1 $2 budget $5: $(grep -m 1 'DIFFERS\|WRONG\|code' said)"
+        with_stack 128 ./client "$1" "$2" "$3" "$4" out.wad out.cert >said ||
+            fail "$1 $2 budget $5: $(grep -m 1 'DIFFERS\|WRONG\|code' said)"
         [ "$(head -1 said)" = "$line" ] || fail "$1 $2 budget $5: the line of the counts"
         built=$((built + 1))
     else
-        ./client "$1" "$2" "$3" "$4" >said
+        with_stack 128 ./client "$1" "$2" "$3" "$4" >said
         [ $? = $status ] || fail "$1 $2: another code than $status"
         [ "$(sed 's/^[^)]*): //' said)" = "$line" ] || fail "$1 $2: another line than $line"
         refused=$((refused + 1))
     fi
+}
+
+# The maps that are above the usual limits, by the larger ones: larger BUDGET METHOD
+larger() {
+    for wad in "${wads[@]}"; do
+        for map in $maps; do
+            "$program" audit "$wad" "$map" 2>/dev/null | grep -q '^refused: limit' && one "$wad" "$map" "$1" 1 "$2" --large
+        done
+    done
 }
 
 try_maps() {
@@ -105,14 +184,7 @@ try_maps() {
     map=${maps%% *}
     one "${wads[0]}" "$map" 1 0 1
     one "${wads[0]}" "$map" 18446744073709551615 0 full
-    if "$program" build --help 2>/dev/null | grep -q -- --large; then
-        for wad in "${wads[@]}"; do
-            for map in $maps; do
-                "$program" build "$wad" "$map" out.wad >said 2>/dev/null
-                if grep -q '^refused: limit' said; then one "$wad" "$map" 16384 1 16384 --large; fi
-            done
-        done
-    fi
+    larger 16384 16384
     echo "budgets and larger limits: $built built, $refused refused as by the program"
 }
 
@@ -123,48 +195,62 @@ try_exact() {
     for wad in "${wads[@]}"; do
         for map in $maps; do one "$wad" "$map" exact 0 exact; done
     done
+    larger exact exact
     echo "every pair decided: $built built and $refused refused as by the program"
 }
 
 # The first map of the first WAD that is built, and is small enough for valgrind.
 small() {
     for map in $maps; do
-        if "$program" build "${wads[0]}" "$map" out.wad --cert out.cert --workers 1 >/dev/null 2>&1; then
+        if by_program "${wads[0]}" "$map" >/dev/null; then
             [ "$(stat -c %s out.cert)" -lt 2000000 ] && return
         fi
     done
     fail "no map for valgrind"
 }
 
+try_stack() {
+    client stack heap.o -pthread
+    for wad in "${wads[@]}"; do
+        for map in $maps; do
+            "$program" audit "$wad" "$map" >said 2>/dev/null
+            [ $? = 7 ] && continue
+            for budget in 16384 exact; do ./stack "$wad" "$map" "$budget" 1 || fail "stack of $map"; done
+        done
+    done >stacks
+    most=$(awk '{ for (k = 5; k <= 9; k += 2) if ($k > most) { most = $k; of = $0 } } END { print of }' stacks)
+    need=$(echo "$most" | awk '{ for (k = 5; k <= 9; k += 2) if ($k > most) most = $k; print most }')
+    said=$(sed -n 's/^#define DOOMSIGHT_STACK (\([0-9]*\)u \* 1024u)/\1/p' "$top/include/doomsight.h")
+    echo "stack: a call touches at most $need bytes ($most), the header says $said KiB"
+    [ "$need" -le $((said * 1024 / 2)) ] || fail "stack"
+}
+
 try_memory() {
     small
-    valgrind -q --leak-check=full --error-exitcode=9 --main-stacksize=8388608 ./client "${wads[0]}" "$map" 16384 0 out.wad \
-        out.cert >said || fail "memcheck of $map"
-    "$program" build "${wads[0]}" "$map" out.wad --cert out.cert --workers 1 --exact >/dev/null 2>&1 || fail "$map with every pair decided"
-    valgrind -q --leak-check=full --error-exitcode=9 --main-stacksize=8388608 ./client "${wads[0]}" "$map" exact 0 out.wad \
-        out.cert >said || fail "memcheck of $map with every pair decided"
+    for method in 16384 exact; do
+        option="--budget $method"
+        [ $method = exact ] && option=--exact
+        by_program "${wads[0]}" "$map" $option >/dev/null || fail "$map by $option"
+        valgrind -q --leak-check=full --error-exitcode=9 --main-stacksize=8388608 ./client "${wads[0]}" "$map" $method 0 \
+            out.wad out.cert >said || fail "memcheck of $map by $option"
+    done
     echo "memcheck of $map: no error, nothing left"
 }
 
 try_threads() {
     small
-    ./threads "${wads[0]}" "$map" 8 || fail "eight threads"
-    valgrind -q --tool=helgrind --error-exitcode=9 ./threads "${wads[0]}" "$map" 3 || fail "helgrind"
-    low=16384
-    high=$((2 * 1024 * 1024))
-    while [ $((high - low)) -gt 4096 ]; do
-        middle=$(((low + high) / 8192 * 4096))
-        if ./threads "${wads[0]}" "$map" 1 $middle >/dev/null 2>&1; then high=$middle; else low=$middle; fi
+    for method in 16384 exact; do
+        ./threads "${wads[0]}" "$map" 8 $method || fail "eight threads, $method"
+        valgrind -q --tool=helgrind --error-exitcode=9 ./threads "${wads[0]}" "$map" 3 $method || fail "helgrind, $method"
     done
-    need=$(sed -n 's/^#define DOOMSIGHT_STACK (\([0-9]*\)u \* 1024u)/\1/p' "$top/include/doomsight.h")
-    echo "stack: a call on $map needs at most $((high / 1024)) KiB, the header says $need"
-    [ $((high / 1024)) -le "$need" ] || fail "stack"
 }
 
 try_refused() {
     small
     gcc -std=c99 -O2 -g $strict "$top/bench/c/refused.c" "$archive" -o refused || fail "compile refused"
-    ./refused "${wads[0]}" "$map" "${STEP:-7}" || fail "refused allocations"
+    for method in 16384 exact; do
+        ./refused "${wads[0]}" "$map" "${STEP:-7}" $method || fail "refused allocations, $method"
+    done
 }
 
 client client heap.o

@@ -1,6 +1,6 @@
-/* client WAD MAP [BUDGET [FLAGS [TABLE-WAD CERT]]]: builds the table of a map by the library and prints its counts, or the line of
- * the fault. BUDGET is a number, or `exact` for DOOMSIGHT_EXACT. Where the program's outputs are named it compares table and certificate with them, those of a kept build too, and
- * provokes faults. */
+/* client WAD MAP [BUDGET [FLAGS [TABLE-WAD CERT]]]: builds the table of a map by the library and prints its counts, or the
+ * line of the fault. BUDGET is a number, or `exact` for DOOMSIGHT_EXACT. Where the program's outputs are named it compares
+ * table and certificate with them, those of a kept build too, and provokes faults. */
 #include "doomsight.h"
 #include "wadio.h"
 #include <inttypes.h>
@@ -147,11 +147,6 @@ static int compare(doomsight_map map, const doomsight_options *options, uint8_t 
     free(out.at);
     free(want_cert.at);
     return wrong;
-}
-
-static uint64_t budget_of(const char *word)
-{
-    return strcmp(word, "exact") ? strtoull(word, NULL, 10) : DOOMSIGHT_EXACT;
 }
 
 int main(int argc, char **argv)

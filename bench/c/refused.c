@@ -1,6 +1,6 @@
-/* refused WAD MAP [STEP]: every STEP-th allocation of a build, of a kept one and of a check refused, each in a call of its own. Linked
- * with this heap in the place of doomsight_heap.c: each such call has to answer MEMORY, give all back and leave the table alone, or
- * what the handle keeps. */
+/* refused WAD MAP [STEP [BUDGET]]: every STEP-th allocation of a build, of a kept one and of a check refused, each in a call of
+ * its own. BUDGET is a number, or `exact`. Linked with this heap in the place of doomsight_heap.c: each such call has to answer
+ * MEMORY, give all back and leave the table and the certificate alone, or what the handle keeps. */
 #include "doomsight.h"
 #include "wadio.h"
 
@@ -11,6 +11,7 @@ struct rattle_block {
 
 static long left = -1, live = 0;
 static char nothing;
+static doomsight_options options = {16384, 0};
 
 static int refuses(void)
 {
@@ -57,7 +58,7 @@ static long refuse_kept(const doomsight_map *map, size_t cert_size, long step, l
     uint8_t byte;
     long keeps, i, held;
     left = MANY;
-    if (doomsight_keep(map, NULL, &kept, &c, &f) || c.cert_size != cert_size) ++*bad;
+    if (doomsight_keep(map, &options, &kept, &c, &f) || c.cert_size != cert_size) ++*bad;
     keeps = MANY - left;
     held = live;
     left = 0;
@@ -65,7 +66,7 @@ static long refuse_kept(const doomsight_map *map, size_t cert_size, long step, l
     if (held < 1 || live != held) ++*bad;
     for (i = 0; i < keeps; i += step, ++*tried) {
         left = i;
-        if (doomsight_keep(map, NULL, &kept, &c, &f) != DOOMSIGHT_MEMORY || f.code != DOOMSIGHT_MEMORY || live != held) ++*bad;
+        if (doomsight_keep(map, &options, &kept, &c, &f) != DOOMSIGHT_MEMORY || f.code != DOOMSIGHT_MEMORY || live != held) ++*bad;
         if (i == 0 && doomsight_kept_cert_size(&kept) != cert_size) ++*bad;
         if (i > keeps / 2 && kept.at != NULL) {
             doomsight_free(&kept);
@@ -85,28 +86,31 @@ int main(int argc, char **argv)
     struct bytes wad = slurp(argv[1]);
     doomsight_map map = map_of(wad, argv[2]);
     size_t size = doomsight_table_size(map.sectors.size), room = (size_t)64 << 20, cert_size;
-    uint8_t *table = (uint8_t *)malloc(size), *other = (uint8_t *)malloc(size), *cert = (uint8_t *)malloc(room);
+    uint8_t *table = (uint8_t *)malloc(size), *other = (uint8_t *)malloc(size), *cert = (uint8_t *)malloc(room), front[64];
     long step = argc > 3 ? atol(argv[3]) : 1, builds, keeps, checks, i, bad = 0, tried = 0;
     doomsight_counts c;
     doomsight_fault f;
     char text[DOOMSIGHT_LINE_ROOM];
+    if (argc > 4) options.budget = budget_of(argv[4]);
     left = MANY;
-    if (doomsight_build(&map, NULL, table, size, cert, room, &c, &f) || c.cert_size > room) return 1;
+    if (doomsight_build(&map, &options, table, size, cert, room, &c, &f) || c.cert_size > room) return 1;
     builds = MANY - left;
     cert_size = (size_t)c.cert_size;
     left = MANY;
-    if (doomsight_check(&map, NULL, table, size, cert, cert_size, &c, &f)) return 1;
+    if (doomsight_check(&map, &options, table, size, cert, cert_size, &c, &f)) return 1;
     checks = MANY - left;
     for (i = 0; i < builds; i += step, tried++) {
         left = i;
         memset(other, 0xAA, size);
-        if (doomsight_build(&map, NULL, other, size, NULL, 0, &c, &f) != DOOMSIGHT_MEMORY) bad++;
+        memset(front, 0xAA, sizeof front);
+        if (doomsight_build(&map, &options, other, size, front, sizeof front, &c, &f) != DOOMSIGHT_MEMORY) bad++;
         if (f.code != DOOMSIGHT_MEMORY || live != 0 || other[0] != 0xAA || other[size - 1] != 0xAA) bad++;
+        if (front[0] != 0xAA || front[sizeof front - 1] != 0xAA || c.cert_size != cert_size) bad++;
     }
     keeps = refuse_kept(&map, cert_size, step, &tried, &bad);
     for (i = 0; i < checks; i += step, tried++) {
         left = i;
-        if (doomsight_check(&map, NULL, table, size, cert, cert_size, &c, &f) != DOOMSIGHT_MEMORY || live != 0) bad++;
+        if (doomsight_check(&map, &options, table, size, cert, cert_size, &c, &f) != DOOMSIGHT_MEMORY || live != 0) bad++;
     }
     f.code = DOOMSIGHT_BAD_LUMP;
     f.kind = DOOMSIGHT_LUMP_VERTEX;

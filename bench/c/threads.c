@@ -1,10 +1,12 @@
-/* threads WAD MAP COUNT [STACK]: so many builds and checks of the map at once, each in a thread with DOOMSIGHT_STACK bytes of stack,
- * or with so many. Each keeps a build, too, which the first thread copies and frees. */
+/* threads WAD MAP COUNT [BUDGET [STACK]]: so many builds and checks of the map at once, each in a thread with DOOMSIGHT_STACK
+ * bytes of stack, or with so many. BUDGET is a number, or `exact`. Each keeps a build, too, which the first thread copies and
+ * frees. */
 #include "doomsight.h"
 #include "wadio.h"
 #include <pthread.h>
 
 static doomsight_map map;
+static doomsight_options options = {16384, 0};
 static size_t size;
 static uint8_t *first;
 static doomsight_kept handles[64];
@@ -18,8 +20,8 @@ static int try_all(uint8_t *table, uint8_t *cert, size_t room, doomsight_kept *k
     doomsight_fault fault;
     char text[DOOMSIGHT_LINE_ROOM];
     int bad;
-    if (doomsight_build(&map, NULL, table, size, cert, room, &counts, &fault) || counts.cert_size > room) return 1;
-    if (doomsight_keep(&map, NULL, kept, &yes, &fault) || yes.cert_size != counts.cert_size) return 1;
+    if (doomsight_build(&map, &options, table, size, cert, room, &counts, &fault) || counts.cert_size > room) return 1;
+    if (doomsight_keep(&map, &options, kept, &yes, &fault) || yes.cert_size != counts.cert_size) return 1;
     if (doomsight_check(&map, NULL, table, size, cert, (size_t)counts.cert_size, &yes, &fault)) return 1;
     if (yes.set != counts.set) return 1;
     table[0] ^= 2;
@@ -69,8 +71,9 @@ int main(int argc, char **argv)
     size = doomsight_table_size(map.sectors.size);
     count = atoi(argv[3]);
     if (count > 64) return 64;
+    if (argc > 4) options.budget = budget_of(argv[4]);
     pthread_attr_init(&attr);
-    if (pthread_attr_setstacksize(&attr, argc > 4 ? strtoul(argv[4], NULL, 10) : DOOMSIGHT_STACK)) return 65;
+    if (pthread_attr_setstacksize(&attr, argc > 5 ? strtoul(argv[5], NULL, 10) : DOOMSIGHT_STACK)) return 65;
     for (i = 0; i < count; i++)
         if (pthread_create(&t[i], &attr, work, &handles[i])) return 66;
     for (i = 0; i < count; i++) pthread_join(t[i], NULL);

@@ -72,4 +72,10 @@ static inline doomsight_map map_of(struct bytes wad, const char *name)
     map.format = map_lump(wad, name, "BEHAVIOR").bytes ? DOOMSIGHT_HEXEN : DOOMSIGHT_DOOM;
     return map;
 }
+
+/* The budget of a word: a number, or `exact` for DOOMSIGHT_EXACT. */
+static inline uint64_t budget_of(const char *word)
+{
+    return strcmp(word, "exact") ? strtoull(word, NULL, 10) : DOOMSIGHT_EXACT;
+}
 #endif

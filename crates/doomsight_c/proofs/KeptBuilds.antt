@@ -70,6 +70,7 @@ given_of_kept read by held counts k reject before after count same copied =
       front = front bytes before after count from;
       rest = rest bytes before after count from;
       counted = λ _. size;
+      not_more = λ _. size;
     } in
     record {
       map = k.map;

@@ -22,13 +22,14 @@ abbrev pub table_size : ℕ → ℕ
 table_size n = div_ceil (n * n) 8
 
 -- the front of the spelling stands at the front of the buffer, as far as it goes; what is behind it stays; and the number is that of
--- the bytes of the spelling, unless it is the greatest of 64 bits
+-- the bytes of the spelling, unless there are as many as the greatest number of 64 bits
 pub record SpellsInto (cert : Certificate) (before after : List ℕ) (size : ℕ) : Type 0 where
   pub bytes : List ℕ
   pub spells : Spells (sizes_of cert) bytes cert
   pub front : take (min (length before) (length bytes)) after ≡ take (min (length before) (length bytes)) bytes
   pub rest : drop (min (length before) (length bytes)) after ≡ drop (min (length before) (length bytes)) before
-  pub counted : size < 2 ^ 64 - 1 → size ≡ length bytes
+  pub counted : length bytes < 2 ^ 64 - 1 → size ≡ length bytes
+  pub not_more : size < 2 ^ 64 - 1 → size ≡ length bytes
 
 -- the counts of a table as C reads them, and the size of its certificate
 abbrev pub counts_view : Counts → ℕ → DoomsightCounts

@@ -31,6 +31,10 @@ use Rattle.doomsight_c.specs.declared.fault.DoomsightFault.{DoomsightFault}
 abbrev pub two : ℕ → ℕ → ℕ → ℕ → DoomsightFault
 two code kind a b = record { code = code; kind = kind; a = a; b = b; line = 0; left = 0; at = 0; more = 0 }
 
+-- the numbers of a call that has done what it was asked
+abbrev pub no_fault : DoomsightFault
+no_fault = two 0 0 0 0
+
 abbrev pub bit_of : Bool → ℕ
 bit_of true = 1
 bit_of false = 0

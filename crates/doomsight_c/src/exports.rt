@@ -7,6 +7,7 @@ ghost use Rattle.map_answers.specs.SightStatus.Texts.{text_of};
 ghost use Rattle.doomsight_c.specs.Asked.{call_fault as call_wrong, method_of as method_meant, reading_fault as reading_wrong, reading_of as reading_meant};
 ghost use Rattle.doomsight_c.specs.Built.{IsGiven, IsNotBuilt, IsPut, table_size};
 ghost use Rattle.doomsight_c.specs.Checked.{IsNotProved, IsYes};
+ghost use Rattle.doomsight_c.specs.Faults.{no_fault};
 ghost use Rattle.doomsight_c.specs.Lines.{PutsText, TellsText, status_in};
 
 use crate::asked::{call_fault, method_of, reading_fault, reading_of};
@@ -130,6 +131,7 @@ pub extern "C" fn doomsight_build_buffers(
     ensures asked { result ≡ pos 0 → call_wrong format flags budget ≡ None }
     ensures given { result ≡ pos 0 → IsGiven (of_four_lumps (reading_meant format flags) linedefs.now sidedefs.now vertexes.now sectors.now) (method_meant budget) reject.new cert.old cert.new counts.new }
     ensures refused { result ≢ pos 0 → IsNotBuilt (call_wrong format flags budget) (of_four_lumps (reading_meant format flags) linedefs.now sidedefs.now vertexes.now sectors.now) (length reject.old) fault.new }
+    ensures done { result ≡ pos 0 → fault.new ≡ no_fault }
     ensures code { result ≢ pos 0 → result ≡ pos fault.new.code }
     ensures kept { result ≢ pos 0 → (reject.new ≡ reject.old) × (cert.new ≡ cert.old) × (counts.new ≡ counts.old) }
 {
@@ -198,6 +200,7 @@ pub extern "C" fn doomsight_check_buffers(
     ensures asked { result ≡ pos 0 → reading_wrong format flags ≡ None }
     ensures yes { result ≡ pos 0 → IsYes (of_four_lumps (reading_meant format flags) linedefs.now sidedefs.now vertexes.now sectors.now) reject.now cert.now counts.new }
     ensures no { result ≢ pos 0 → IsNotProved (reading_wrong format flags) (of_four_lumps (reading_meant format flags) linedefs.now sidedefs.now vertexes.now sectors.now) reject.now cert.now fault.new }
+    ensures done { result ≡ pos 0 → fault.new ≡ no_fault }
     ensures code { result ≢ pos 0 → result ≡ pos fault.new.code }
     ensures kept { result ≢ pos 0 → counts.new ≡ counts.old }
 {

@@ -3,6 +3,7 @@
 ghost use Rattle.std.specs.Prelude.{◌≡◌, ◌≢◌, IfErr, IfOk, None, OnOk, length, pos};
 ghost use Rattle.map_answers.specs.Input.{of_four_lumps};
 ghost use Rattle.doomsight_c.specs.Asked.{call_fault as call_wrong, method_of as method_meant, reading_of as reading_meant};
+ghost use Rattle.doomsight_c.specs.Faults.{no_fault};
 ghost use Rattle.doomsight_c.specs.Keeping.{IsKept, IsNotKept, cert_of, table_of};
 ghost use Rattle.doomsight_c.specs.Piece.{CopiesFrom};
 
@@ -63,6 +64,7 @@ pub extern "C" fn doomsight_keep_buffers(
     ensures asked { result ≡ pos 0 → call_wrong format flags budget ≡ None }
     ensures kept { result ≡ pos 0 → IsKept (of_four_lumps (reading_meant format flags) linedefs.now sidedefs.now vertexes.now sectors.now) (method_meant budget) kept.new.value counts.new }
     ensures refused { result ≢ pos 0 → IsNotKept (call_wrong format flags budget) (of_four_lumps (reading_meant format flags) linedefs.now sidedefs.now vertexes.now sectors.now) fault.new }
+    ensures done { result ≡ pos 0 → fault.new ≡ no_fault }
     ensures code { result ≢ pos 0 → result ≡ pos fault.new.code }
     ensures same { result ≢ pos 0 → (kept.new.value ≡ kept.old.value) × (counts.new ≡ counts.old) }
 {

@@ -10,7 +10,8 @@ use std::alloc::Global;
 
 /// The sum, or the greatest number where there is none.
 fn sum(a: u64, b: u64) -> u64
-    ensures { result < 2 ^ 64 - 1 → result ≡ a + b }
+    ensures exact { a + b < 2 ^ 64 - 1 → result ≡ a + b }
+    ensures most { result < 2 ^ 64 - 1 → result ≡ a + b }
 {
     if b > u64::MAX - a {
         return u64::MAX;
@@ -20,7 +21,8 @@ fn sum(a: u64, b: u64) -> u64
 
 /// Adds the bytes that the printer has still to give to the count.
 fn count_rest(printer: &mut Printer<'_>, before: u64) -> u64
-    ensures { result < 2 ^ 64 - 1 → result ≡ before + length printer.old }
+    ensures exact { before + length printer.old < 2 ^ 64 - 1 → result ≡ before + length printer.old }
+    ensures most { result < 2 ^ 64 - 1 → result ≡ before + length printer.old }
 {
     let mut size = before;
     let mut piece = [0; 4096];
