@@ -35,7 +35,7 @@ uint32_t doomsight_abi(void);
 #define DOOMSIGHT_VERSION 10000
 uint32_t doomsight_version(void);
 
-/* Bytes of stack that a call has to find free, whatever the map: three times what one was seen to need. Tried by bench/c_library.sh,
+/* Bytes of stack that a call has to find free, whatever the map: three times what any was seen to touch. Tried by bench/c_library.sh,
  * not proved. Where there is less the thread ends by SIGSEGV at its guard page. A thread of musl has 128 KiB, one of macOS 512 KiB. */
 #define DOOMSIGHT_STACK (64u * 1024u)
 
@@ -102,6 +102,7 @@ enum doomsight_kind {
     DOOMSIGHT_UNUSED = 55            /* a: the group */
 };
 
+/* After DOOMSIGHT_OK all of its numbers are 0. */
 typedef struct doomsight_fault {
     uint16_t code;  /* an enum doomsight_code */
     uint16_t kind;  /* an enum doomsight_kind */
