@@ -3,12 +3,12 @@ use Rattle.std.specs.Prelude.{◌≡◌, length}
 use Rattle.sight_names.specs.Map.{map_of}
 use Rattle.sight_names.specs.Mesh.{IsGoodMesh}
 use Rattle.sight_names.specs.Sound.{LinesMeetAtEnds}
-use Rattle.mesh_shape.specs.HalfEdges.HalfEdges.{AreHalfEdges}
+use Rattle.portal_walk.specs.Terrain.{IsTerrain}
 use Rattle.pair_answer.specs.declared.ground.Ground.{Ground}
 
--- a good labelled mesh of a map whose lines meet at ends, with its half-edges
+-- a good labelled mesh of a map whose lines meet at ends, with its terrain
 pub record IsGround (j : Ground) : Type 0 where
   pub points : j.mesh.now.points ≡ length j.plan.now.points
   pub audited : LinesMeetAtEnds (map_of j.plan.now)
   pub good : IsGoodMesh (map_of j.plan.now) j.mesh.now.triangles j.labels.now
-  pub edges : AreHalfEdges j.plan.now j.mesh.now.triangles j.labels.now j.edges.now
+  pub terrain : IsTerrain j.plan.now j.mesh.now.triangles j.labels.now j.terrain.now

@@ -13,8 +13,8 @@ use crate::ground::Ground;
 use crate::places::joined;
 use crate::walks::{AllSought, seek_all};
 use face_groups::tri_sectors::components;
-use mesh_shape::half_edges::HalfEdges;
 use mesh_shape::{Labels, Mesh};
+use portal_walk::Terrain;
 use sight_names::{Budget, Memory, Plan};
 use sight_ray::turn_round;
 use std::alloc::Global;
@@ -68,12 +68,12 @@ pub fn walk_between(
 {
     let _ = plan.lines();
     let classes = components(alloc, plan)?;
-    let edges = HalfEdges::of(alloc, plan, mesh, labels)?;
+    let terrain = Terrain::of(alloc, plan, mesh, labels)?;
     let ground = Ground {
         plan,
         mesh,
         labels,
-        edges: &edges,
+        terrain: &terrain,
         budget,
     };
     let near = joined(alloc, classes.as_slice(), from, to)?;

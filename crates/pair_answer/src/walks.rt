@@ -68,7 +68,7 @@ fn seek(alloc: Global, ground: &Ground<'_>, source: u16, targets: &[u16]) -> Res
         ground.plan,
         ground.mesh,
         ground.labels,
-        ground.edges,
+        ground.terrain,
         source,
         ground.budget,
         &mut seeker,

@@ -11,7 +11,7 @@ ghost use Rattle.sight_names.specs.Sound.{LinesMeetAtEnds};
 ghost use Rattle.stab_hull.specs.Answer.{IsLineInRange};
 ghost use Rattle.sight_names.specs.Splitting.{IsSplittable};
 ghost use Rattle.mesh_shape.specs.declared.half_edges.table.HalfEdge.{HalfEdge as HalfEdgeOf};
-ghost use Rattle.mesh_shape.specs.HalfEdges.HalfEdges.{AreHalfEdges};
+ghost use Rattle.portal_walk.specs.Terrain.{IsTerrain};
 ghost use Rattle.sight_lift.specs.SequenceLaws.Ways.{root_alone};
 ghost use Rattle.portal_walk.specs.Sides.{ArrivesAt};
 ghost use Rattle.portal_walk.specs.Walk.{IsTop, TellsLine, pending};
@@ -28,9 +28,8 @@ use crate::budget_left::BudgetLeft;
 use crate::found_sectors::FoundSectors;
 use crate::notice::Notice;
 use crate::results::{Outcome, Reached, SourceResult};
-use mesh_shape::half_edges::HalfEdges;
 use mesh_shape::{Labels, Mesh};
-use portal_walk::{Walker, Went};
+use portal_walk::{Terrain, Walker, Went};
 use sight_names::{Budget, Memory, Plan, Side};
 use sight_ray::ray_of;
 use std::alloc::Global;
@@ -71,11 +70,11 @@ pub fn walk_source<N: Notice>(
     ensures seen { Grows (N.seen notice.old) (N.seen notice.new) }
     ensures looks { Grows (N.looks notice.old) (N.looks notice.new) }
 {
-    let edges = HalfEdges::of(alloc, plan, mesh, labels)?;
-    walk_source_over(alloc, plan, mesh, labels, &edges, source, budget, notice)
+    let terrain = Terrain::of(alloc, plan, mesh, labels)?;
+    walk_source_over(alloc, plan, mesh, labels, &terrain, source, budget, notice)
 }
 
-/// The same over the half-edges of the mesh, made before: many walks of one map can share them.
+/// The same over the terrain of the map, made before: many walks of one map can share it.
 ///
 /// # Errors
 ///
@@ -85,7 +84,7 @@ pub fn walk_source_over<N: Notice>(
     plan: &Plan,
     mesh: &Mesh,
     labels: &Labels,
-    edges: &HalfEdges,
+    terrain: &Terrain,
     source: u16,
     budget: Budget,
     notice: &mut N,
@@ -93,7 +92,7 @@ pub fn walk_source_over<N: Notice>(
     requires points { mesh.now.points ≡ length plan.now.points }
     requires audited { LinesMeetAtEnds (map_of plan.now) }
     requires good { IsGoodMesh (map_of plan.now) mesh.now.triangles labels.now }
-    requires edges { AreHalfEdges plan.now mesh.now.triangles labels.now edges.now }
+    requires terrain { IsTerrain plan.now mesh.now.triangles labels.now terrain.now }
     requires source { source < plan.now.sectors }
     requires hears { (b : ℕ) → b ≢ source → b < plan.now.sectors → Found (map_of plan.now) mesh.now.triangles labels.now source b budget → N.may_hear notice.old (ordered source b) }
     ensures source { IfOk result (λ r. r.source ≡ source) }
@@ -120,7 +119,7 @@ pub fn walk_source_over<N: Notice>(
             outcome: Outcome::All,
         });
     }
-    let walker = Walker::over(alloc, plan, mesh, labels, edges, source)?;
+    let walker = Walker::over(alloc, plan, mesh, labels, terrain, source)?;
     let outcome = walk_on(walker, labels, source, budget, &mut found_sectors, notice)?;
     Ok(SourceResult {
         source,

@@ -13,6 +13,7 @@ use Rattle.sight_names.proofs.PlanNumbers.{count_of_plan, place_of_plan}
 use Rattle.mesh_shape.specs.declared.half_edges.table.HalfEdge.{HalfEdge}
 use Rattle.mesh_shape.specs.HalfEdges.HalfEdges.{IsHalfEdge, entering, portal_of, way_outside}
 use Rattle.mesh_shape.specs.HalfEdges.Numbers.{corner_of, number_of}
+use Rattle.mesh_shape.proofs.HalfEdges.Reached.{reached}
 use Rattle.portal_walk.specs.declared.scene.Way.{Way as WayOut}
 use Rattle.portal_walk.specs.declared.scene.Way.TheVariants.{Left, Right}
 use Rattle.portal_walk.specs.Scene.{SceneParts, IsScene, IsNumber, IsEntry, IsClosed, Finds, FindsWay, behind, exit_of}
@@ -138,6 +139,14 @@ found_on s i from (e, number) x at way found is = λ y here.
     let same_x : x ≡ there.0 = same_Some x there.0 (sym at ∙ there.1) in
     let half : IsHalfEdge s.plan s.mesh.triangles s.labels s.edges e y = subst (IsHalfEdge s.plan s.mesh.triangles s.labels s.edges e) same there.2 in
     found_behind s i (exit_of y way) found (is ∙ ap (λ (z : HalfEdge). way_outside s.edges s.source (behind z way)) (same_x ∙ same) ∙ ap (way_outside s.edges s.source) (way_behind s e y way half))
+
+-- behind a way that isn't closed a half-edge has its number
+pub behind_number : (s : SceneParts) → IsScene s → (from : ℕ) → IsNumber s.mesh.triangles from → (x : HalfEdge) → slice_get s.edges from ≡ Some x → (way : WayOut) (k : ℕ) → behind x way ≡ Some k → IsNumber s.mesh.triangles k
+behind_number s i from (e, number) x at way k is =
+    let there = i.edges.each e from number in
+    let half : IsHalfEdge s.plan s.mesh.triangles s.labels s.edges e x = subst (IsHalfEdge s.plan s.mesh.triangles s.labels s.edges e) (same_Some there.0 x (sym there.1 ∙ at)) there.2 in
+    let way_edge = entry_edge (exit_of x way) in
+    (way_edge, (reached s.plan s.mesh.triangles s.labels s.edges i.edges way_edge k (sym (way_behind s e x way half) ∙ is)).number)
 
 -- what a number gives is there
 pub copied_there : (o : Option (Bor HalfEdge)) (x : HalfEdge) → option_copied o ≡ Some x → IsSome o

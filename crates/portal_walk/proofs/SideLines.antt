@@ -26,11 +26,11 @@ pub names_test : (o : Option ℕ) (a : ℕ) → names_it o a ≡ option_eq eqb o
 names_test None a = refl
 names_test (Some b) a = refl
 
-named_true : (o : Option ℕ) (a : ℕ) → option_eq eqb o (Some a) ≡ true → o ≡ Some a
+pub named_true : (o : Option ℕ) (a : ℕ) → option_eq eqb o (Some a) ≡ true → o ≡ Some a
 named_true None a e = absurd (true≢false (sym e))
 named_true (Some b) a e = ap Some (eqb-true b a e)
 
-root_by_right : (p : PlanParts) → IsPlan p → (k a : ℕ) (l : Line) → slice_get p.lines k ≡ Some (Some l) → l.solid ≡ false → option_eq eqb l.right (Some a) ≡ true → option_eq eqb l.left (Some a) ≡ false
+pub root_by_right : (p : PlanParts) → IsPlan p → (k a : ℕ) (l : Line) → slice_get p.lines k ≡ Some (Some l) → l.solid ≡ false → option_eq eqb l.right (Some a) ≡ true → option_eq eqb l.left (Some a) ≡ false
     → IsRootOf p a (record { side = record { line = k; left = false }; left = l.a; right = l.b })
 root_by_right p is k a l e solid right left = record {
   exit = record {
@@ -42,7 +42,7 @@ root_by_right p is k a l e solid right left = record {
       ∙ ap (λ (d : Edge). let q : Portal = record { left = d.from; right = d.to } in Some q) (line_edge_of_plan p is k l e);
 }
 
-root_by_left : (p : PlanParts) → IsPlan p → (k a : ℕ) (l : Line) → slice_get p.lines k ≡ Some (Some l) → l.solid ≡ false → option_eq eqb l.right (Some a) ≡ false → option_eq eqb l.left (Some a) ≡ true
+pub root_by_left : (p : PlanParts) → IsPlan p → (k a : ℕ) (l : Line) → slice_get p.lines k ≡ Some (Some l) → l.solid ≡ false → option_eq eqb l.right (Some a) ≡ false → option_eq eqb l.left (Some a) ≡ true
     → IsRootOf p a (record { side = record { line = k; left = true }; left = l.b; right = l.a })
 root_by_left p is k a l e solid right left = record {
   exit = record {
@@ -53,19 +53,6 @@ root_by_left p is k a l e solid right left = record {
   portal = ap (option_map (λ (x : MapLine). let q : Portal = record { left = (line_edge (map_of p) x).to; right = (line_edge (map_of p) x).from } in q)) (plan_line_at p k l e)
       ∙ ap (λ (d : Edge). let q : Portal = record { left = d.to; right = d.from } in Some q) (line_edge_of_plan p is k l e);
 }
-
--- where just one of the two sides names the source
-pub rooted_right : (p : PlanParts) → IsPlan p → (k a : ℕ) (l : Line) → slice_get p.lines k ≡ Some (Some l) → l.solid ≡ false → (right left : Bool) → right ≡ option_eq eqb l.right (Some a) → left ≡ option_eq eqb l.left (Some a) → beq right left ≡ false → right ≡ true
-    → IsRootOf p a (record { side = record { line = k; left = left }; left = l.a; right = l.b })
-rooted_right p is k a l e solid true false r f differ g = root_by_right p is k a l e solid (sym r) (sym f)
-rooted_right p is k a l e solid true true r f differ g = absurd (true≢false differ)
-rooted_right p is k a l e solid false left r f differ g = absurd (true≢false (sym g))
-
-pub rooted_left : (p : PlanParts) → IsPlan p → (k a : ℕ) (l : Line) → slice_get p.lines k ≡ Some (Some l) → l.solid ≡ false → (right left : Bool) → right ≡ option_eq eqb l.right (Some a) → left ≡ option_eq eqb l.left (Some a) → beq right left ≡ false → right ≡ false
-    → IsRootOf p a (record { side = record { line = k; left = left }; left = l.b; right = l.a })
-rooted_left p is k a l e solid false true r f differ g = root_by_left p is k a l e solid (sym r) (sym f)
-rooted_left p is k a l e solid false false r f differ g = absurd (true≢false differ)
-rooted_left p is k a l e solid true left r f differ g = absurd (true≢false g)
 
 -- ---- arrivals
 

@@ -1,8 +1,10 @@
 pub mod Frames
 pub mod Nodes
 pub mod Pending
+pub mod Roots
 pub mod Scene
 pub mod Sides
+pub mod Terrain
 pub mod Walk
 pub mod Whole
 pub mod EnoughBudget

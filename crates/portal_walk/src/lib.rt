@@ -7,8 +7,10 @@ mod path;
 mod roots;
 mod scene;
 mod step;
+mod terrain;
 mod walk;
 mod walker;
 
 pub use step::{Step, Went};
+pub use terrain::Terrain;
 pub use walker::Walker;

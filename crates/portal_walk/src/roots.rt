@@ -1,13 +1,12 @@
-//! Where a walk leaves its source.
+//! Where walks leave their sources.
 
-ghost use Rattle.std.specs.Prelude.{◌≡◌, Some, slice_get, map, reverse, option_map, option_to_list, All, IfOk, IfSome};
-ghost use Rattle.sight_names.specs.Map.{map_of};
+ghost use Rattle.std.specs.Prelude.{◌≡◌, ◌<◌, ℕ, [], Some, slice_get, slice_index_or, length, map, reverse, IfOk};
 ghost use Rattle.sight_names.specs.Plan.{IsPlan};
-ghost use Rattle.sight_names.specs.Sequence.{roots as roots_in};
-ghost use Rattle.portal_walk.specs.Sides.{IsRootOf, roots_at};
+ghost use Rattle.portal_walk.specs.Roots.{with_root, roots_in, AreRoots, PutsLine};
 
 use sight_names::{Line, Memory, Plan, Side};
 use std::alloc::Global;
+use std::marker::Model;
 
 /// A side that names the source, of a passable line whose other side doesn't, and the line's portal, walked out of the
 /// source.
@@ -18,50 +17,105 @@ pub struct Root {
     pub right: u16,
 }
 
-/// The roots of a source, the last one first.
-pub fn roots_of(alloc: Global, plan: &Plan, source: u16) -> Result<Vec<Root>, Memory>
-    ensures roots { IfOk result (λ found. All (IsRootOf plan.now source) found.items) }
-    ensures order { IfOk result (λ found. map (λ r. r.side) (reverse found.items) ≡ roots_in (map_of plan.now) source) }
-    ensures plan { IfOk result (λ _. IsPlan plan.now) }
-{
-    let mut roots = Vec::new(alloc);
-    let lines = plan.lines();
-    for k in 0..lines.len() {
-        if let Some(root) = root_at(plan, lines[k], k as u16, source) {
-            roots.push(root)?;
-        }
-    }
-    roots.as_mut_slice().reverse();
-    Ok(roots)
+/// The roots of all sectors, each as a source; a contract sees the list of those of each sector, in order.
+#[derive(Drop)]
+pub struct Roots {
+    of_sectors: Vec<Vec<Root>>,
 }
 
-/// The root at a line, where one of its sides names the source and the other doesn't.
-// in line, since each source asks this of every line
-#[inline(always)]
-fn root_at(plan: &Plan, entry: Option<Line>, k: u16, source: u16) -> Option<Root>
-    requires plan { IsPlan plan.now }
-    requires entry { slice_get plan.now.lines k ≡ Some entry }
-    ensures root { IfSome result (λ root. IsRootOf plan.now source root) }
-    ensures side { roots_at (map_of plan.now) source k ≡ option_to_list (option_map (λ root. root.side) result) }
+impl Model for Roots {
+    ghost use Rattle.std.specs.Prelude.{List, map};
+    ghost use Rattle.portal_walk.specs.declared.roots.Root.{Root};
+
+    ghost Value = { List (List Root) };
+
+    ghost view = { λ r. map (λ v. v.items) r.of_sectors.items };
+}
+
+/// Puts a root behind the others of the sector that a side names.
+fn put(of_sectors: &mut [Vec<Root>], sector: Option<u16>, root: Root) -> Result<(), Memory>
+    ensures { IfOk result (λ _. map (λ v. v.items) of_sectors.new ≡ with_root sector root (map (λ v. v.items) of_sectors.old)) }
 {
-    let line = entry?;
-    if line.solid {
-        return None;
+    let Some(sector) = sector else {
+        return Ok(());
+    };
+    if (sector as usize) < of_sectors.len() {
+        of_sectors[sector as usize].push(root)?;
     }
-    let right = line.right == Some(source);
-    let left = line.left == Some(source);
-    if right == left {
-        return None;
+    Ok(())
+}
+
+/// Puts the roots at a line behind the others: a passable one between two sectors is a root of both.
+fn put_line(
+    of_sectors: &mut [Vec<Root>],
+    plan: &Plan,
+    entry: Option<Line>,
+    number: u16,
+) -> Result<(), Memory>
+    requires rules { IsPlan plan.now }
+    requires entry { slice_get plan.now.lines number ≡ Some entry }
+    ensures { IfOk result (λ _. PutsLine plan.now number (map (λ v. v.items) of_sectors.old) (map (λ v. v.items) of_sectors.new)) }
+{
+    let Some(line) = entry else {
+        return Ok(());
+    };
+    if line.solid || line.left == line.right {
+        return Ok(());
     }
     // who leaves by the right side is in the triangle at the left side, with the directed edge from first to second
-    let (from, to) = if right {
-        (line.a, line.b)
-    } else {
-        (line.b, line.a)
+    let by_right = Root {
+        side: Side {
+            line: number,
+            left: false,
+        },
+        left: line.a,
+        right: line.b,
     };
-    Some(Root {
-        side: Side { line: k, left },
-        left: from,
-        right: to,
-    })
+    let by_left = Root {
+        side: Side {
+            line: number,
+            left: true,
+        },
+        left: line.b,
+        right: line.a,
+    };
+    put(of_sectors, line.right, by_right)?;
+    put(of_sectors, line.left, by_left)?;
+    Ok(())
+}
+
+/// So many empty lists.
+fn no_roots(alloc: Global, count: u16) -> Result<Vec<Vec<Root>>, Memory>
+    ensures len { IfOk result (λ v. length v.items ≡ count) }
+    ensures empty { IfOk result (λ v. (a : ℕ) → roots_in (map (λ w. w.items) v.items) a ≡ []) }
+{
+    let mut of_sectors = Vec::new(alloc);
+    for _ in 0..count {
+        of_sectors.push(Vec::new(alloc))?;
+    }
+    Ok(of_sectors)
+}
+
+impl Roots {
+    /// The roots of all sectors of a plan.
+    pub fn of(alloc: Global, plan: &Plan) -> Result<Roots, Memory>
+        ensures { IfOk result (AreRoots plan.now) }
+    {
+        let lines = plan.lines();
+        let mut of_sectors = no_roots(alloc, plan.sectors)?;
+        for k in 0..lines.len() {
+            put_line(of_sectors.as_mut_slice(), plan, lines[k], k as u16)?;
+        }
+        Ok(Roots { of_sectors })
+    }
+
+    /// The roots of a sector, the last one first.
+    pub fn of_source(&self, alloc: Global, source: u16) -> Result<Vec<Root>, Memory>
+        requires { source < length self.now }
+        ensures { IfOk result (λ found. found.items ≡ reverse (roots_in self.now source)) }
+    {
+        let mut roots = Vec::from_slice(alloc, self.of_sectors[source as usize].as_slice())?;
+        roots.as_mut_slice().reverse();
+        Ok(roots)
+    }
 }

@@ -9,12 +9,13 @@ ghost use Rattle.sight_names.specs.Sound.{LinesMeetAtEnds};
 ghost use Rattle.sight_names.specs.Splitting.{SplitsEnds, IsSplittable};
 ghost use Rattle.stab_hull.specs.Answer.{IsLineInRange};
 ghost use Rattle.mesh_shape.specs.declared.half_edges.table.HalfEdge.{HalfEdge as HalfEdgeOf};
-ghost use Rattle.mesh_shape.specs.HalfEdges.HalfEdges.{AreHalfEdges};
+ghost use Rattle.portal_walk.specs.Terrain.{IsTerrain};
 
 use crate::step::{Step, Went};
+use crate::terrain::Terrain;
 use crate::walk::Walk;
 use block_evidence::sight_tree::Tree;
-use mesh_shape::half_edges::{HalfEdge, HalfEdges};
+use mesh_shape::half_edges::HalfEdge;
 use mesh_shape::{Labels, Mesh};
 use sight_names::{Memory, Plan, Side};
 use std::alloc::Global;
@@ -45,20 +46,20 @@ impl<'a> Walker<'a> {
     ghost use Rattle.portal_walk.specs.Sides.{IsExit};
     ghost use Rattle.portal_walk.specs.Walk.{Goes, IsTop, Takes, Rests, SameWalk, pending, remaining};
 
-    /// A walk at its beginning, over the half-edges of the map.
+    /// A walk at its beginning, over the terrain of the map.
     pub fn over(
         alloc: Global,
         plan: &'a Plan,
         mesh: &'a Mesh,
         labels: &'a Labels,
-        edges: &'a HalfEdges,
+        terrain: &'a Terrain,
         source: u16,
     ) -> Result<Walker<'a>, Memory>
         requires points { mesh.now.points ≡ length plan.now.points }
         requires audited { LinesMeetAtEnds (map_of plan.now) }
         requires good { IsGoodMesh (map_of plan.now) mesh.now.triangles labels.now }
         requires source { source < plan.now.sectors }
-        requires edges { AreHalfEdges plan.now mesh.now.triangles labels.now edges.now }
+        requires terrain { IsTerrain plan.now mesh.now.triangles labels.now terrain.now }
         ensures plan { IfOk result (λ w. w.plan ≡ plan.now) }
         ensures rules { IfOk result (λ w. IsPlan w.plan) }
         ensures mesh { IfOk result (λ w. w.mesh ≡ mesh.now) }
@@ -68,7 +69,7 @@ impl<'a> Walker<'a> {
         ensures pending { IfOk result (λ w. pending w ≡ map root_alone (roots (map_of plan.now) source)) }
         ensures nodes { IfOk result (λ w. w.nodes ≡ []) }
     {
-        let walk = Walk::through(alloc, plan, mesh, labels, edges, source)?;
+        let walk = Walk::through(alloc, plan, mesh, labels, terrain, source)?;
         Ok(Walker { walk })
     }
 

@@ -10,9 +10,8 @@ use face_groups::tri_sectors::components;
 use group_job::sight_workers::OpenGate;
 use group_job::{build_table, map_of_groups};
 use map_audit::audit_lines;
-use mesh_shape::half_edges::HalfEdges;
 use pair_budget::{Alone, Outcome, walk_source};
-use portal_walk::{Step, Walker};
+use portal_walk::{Step, Terrain, Walker};
 use sight_names::{Ask, Budget, Memory, Plan};
 use std::alloc::Global;
 use std::test::Fail;
@@ -126,8 +125,8 @@ fn steps_of(alloc: Global, plan: &Plan, source: u16) -> Result<Vec<Step>, Memory
     if source >= plan.sectors {
         return Ok(steps);
     }
-    let edges = HalfEdges::of(alloc, plan, mesh, labels)?;
-    let mut walker = Walker::over(alloc, plan, mesh, labels, &edges, source)?;
+    let terrain = Terrain::of(alloc, plan, mesh, labels)?;
+    let mut walker = Walker::over(alloc, plan, mesh, labels, &terrain, source)?;
     for _ in 0..100 {
         match walker.next()? {
             Step::End => break,

@@ -1,7 +1,7 @@
 //! All sources by one worker, in the thread that calls.
 
 ghost use Rattle.std.specs.Prelude.{◌≡◌, ◌<◌, All, length, IfOk};
-ghost use Rattle.mesh_shape.specs.HalfEdges.HalfEdges.{AreHalfEdges};
+ghost use Rattle.portal_walk.specs.Terrain.{IsTerrain};
 ghost use Rattle.pair_budget.specs.Decide.{AreResults, IsSettled};
 ghost use Rattle.group_job.specs.SightWorkers.Board.{task_for};
 ghost use Rattle.group_job.specs.SightWorkers.Boards.{AreDoneOfDesk, AreFreshOfDesk};
@@ -16,8 +16,8 @@ use crate::sight_workers::gate::Gate;
 use crate::sight_workers::hand::{Hand, labour};
 use crate::sight_workers::job::Job;
 use crate::sight_workers::team::{Gathered, by_source, gather, hands_of, nobody};
-use mesh_shape::half_edges::HalfEdges;
 use pair_budget::SourceResult;
+use portal_walk::Terrain;
 use sight_names::{Items, Memory};
 use std::alloc::Global;
 
@@ -28,18 +28,18 @@ fn work_alone<G: Gate>(
     hands: &mut [Hand],
     components: &[u16],
     job: &Job<'_>,
-    edges: &HalfEdges,
+    terrain: &Terrain,
     gate: &G,
 )
     requires components { length components.now ≡ sectors_of_desk desk.now }
     requires job { job.now ≡ job_of_desk desk.now }
     requires made { IsJob job.now }
-    requires edges { AreHalfEdges job.now.plan.now job.now.mesh.now.triangles job.now.labels.now edges.now }
+    requires terrain { IsTerrain job.now.plan.now job.now.mesh.now.triangles job.now.labels.now terrain.now }
     requires one { length hands.old ≡ 1 }
     requires fresh { AreFreshOfDesk desk.now 1 hands.old }
     ensures done { AreDoneOfDesk desk.now components.now 1 hands.new }
 {
-    labour(desk, alloc, &mut hands[0], components, job, edges, gate);
+    labour(desk, alloc, &mut hands[0], components, job, terrain, gate);
 }
 
 /// The results of all sectors, as the one worker gave them.
@@ -58,7 +58,7 @@ fn walk_in_turn<G: Gate>(
     ensures below { IfOk result (λ _. All (λ w. w < 1) claimed_by.new) }
     ensures claimants { IfOk result (λ _. AreClaimants (task_for job.entry 1) claimed_by.new) }
 {
-    let edges = HalfEdges::of(alloc, job.plan, job.mesh, job.labels)?;
+    let terrain = Terrain::of(alloc, job.plan, job.mesh, job.labels)?;
     let mut board = Board::new(alloc, job, 1)?;
     let mut hands = hands_of(&mut board, alloc)?;
     work_alone(
@@ -67,7 +67,7 @@ fn walk_in_turn<G: Gate>(
         hands.as_mut_slice(),
         components,
         &job,
-        &edges,
+        &terrain,
         gate,
     );
     let pool = gather(&mut board, alloc, hands, components, claimed_by)?;

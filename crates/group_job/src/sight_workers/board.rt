@@ -16,8 +16,8 @@ use crate::sight_workers::job::{Job, Terms};
 use crate::sight_workers::rule::{NewWorker, TableSeat, WorkerEnds};
 use crate::sight_workers::serving::{serve, starve};
 use atomic_table::Table;
-use mesh_shape::half_edges::HalfEdges;
 use pair_budget::SourceResult;
+use portal_walk::Terrain;
 use sight_names::{Memory, Plan};
 use std::alloc::Global;
 
@@ -147,7 +147,7 @@ impl<'a> Board<'a> {
     }
 
     /// One turn of a worker: one claim, then the work on the source that it gave. None where it gave none. It makes the
-    /// half-edges of the mesh for this turn alone.
+    /// terrain of the map for this turn alone.
     ///
     /// # Errors
     ///
@@ -167,8 +167,8 @@ impl<'a> Board<'a> {
         ensures ok { IfOk result (λ o. MatchOption o (IsDrained (sectors_of_board self.now) (view_of_seat seat.old) (view_of_seat seat.new)) (λ r. IsTurned (sectors_of_board self.now) job.now.components.now (task_of_board self.now) r (view_of_seat seat.old) (view_of_seat seat.new))) }
     {
         let desk = &self.desk;
-        match HalfEdges::of(alloc, job.plan, job.mesh, job.labels) {
-            Ok(edges) => serve(desk, alloc, seat, job.components, job, &edges, gate),
+        match Terrain::of(alloc, job.plan, job.mesh, job.labels) {
+            Ok(terrain) => serve(desk, alloc, seat, job.components, job, &terrain, gate),
             Err(_) => starve(desk, seat, gate),
         }
     }

@@ -1,6 +1,6 @@
 //! A worker with its seat, its results so far, and whether memory ran out.
 ghost use Rattle.std.specs.Prelude.{◌≡◌, ◌-◌, ◌<◌, true, false, length};
-ghost use Rattle.mesh_shape.specs.HalfEdges.HalfEdges.{AreHalfEdges};
+ghost use Rattle.portal_walk.specs.Terrain.{IsTerrain};
 ghost use Rattle.group_job.specs.SightWorkers.Desks.{IsSeatOfDesk, job_of_desk, sectors_of_desk, task_of_desk, view_of_seat, worker_of_seat};
 ghost use Rattle.group_job.specs.SightWorkers.Board.{has_over};
 ghost use Rattle.group_job.specs.SightWorkers.Hands.{IsAllWorked};
@@ -11,8 +11,8 @@ use crate::sight_workers::desk::{BoardSeat, Desk};
 use crate::sight_workers::gate::Gate;
 use crate::sight_workers::job::Job;
 use crate::sight_workers::serving::serve;
-use mesh_shape::half_edges::HalfEdges;
 use pair_budget::SourceResult;
+use portal_walk::Terrain;
 use std::alloc::Global;
 
 /// A worker under way.
@@ -30,21 +30,21 @@ fn turn<G: Gate>(
     hand: &mut Hand,
     components: &[u16],
     job: &Job<'_>,
-    edges: &HalfEdges,
+    terrain: &Terrain,
     gate: &G,
 ) -> bool
     requires seat { IsSeatOfDesk desk.now hand.old.seat }
     requires components { length components.now ≡ sectors_of_desk desk.now }
     requires job { job.now ≡ job_of_desk desk.now }
     requires made { IsJob job.now }
-    requires edges { AreHalfEdges job.now.plan.now job.now.mesh.now.triangles job.now.labels.now edges.now }
+    requires terrain { IsTerrain job.now.plan.now job.now.mesh.now.triangles job.now.labels.now terrain.now }
     requires worked { IsAllWorked (sectors_of_desk desk.now) components.now (task_of_desk desk.now) (view_of_seat hand.old.seat) hand.old.results.items }
     requires ample { hand.old.starved ≡ false }
     ensures seat { IsSeatOfDesk desk.now hand.new.seat × (worker_of_seat hand.new.seat ≡ worker_of_seat hand.old.seat) }
     ensures on { result ≡ true → (hand.new.starved ≡ false) × IsAllWorked (sectors_of_desk desk.now) components.now (task_of_desk desk.now) (view_of_seat hand.new.seat) hand.new.results.items × ((sectors_of_desk desk.now) - next_of (view_of_seat hand.new.seat).claims < sectors_of_desk desk.now - next_of (view_of_seat hand.old.seat).claims) }
     ensures over { result ≡ false → hand.new.starved ≡ false → IsAllWorked (sectors_of_desk desk.now) components.now (task_of_desk desk.now) (view_of_seat hand.new.seat) hand.new.results.items × (has_over (view_of_seat hand.new.seat) ≡ true) }
 {
-    match serve(desk, alloc, &mut hand.seat, components, job, edges, gate) {
+    match serve(desk, alloc, &mut hand.seat, components, job, terrain, gate) {
         Ok(Some(result)) => {
             let Ok(()) = hand.results.push(result) else {
                 hand.starved = true;
@@ -67,18 +67,18 @@ pub fn labour<G: Gate>(
     hand: &mut Hand,
     components: &[u16],
     job: &Job<'_>,
-    edges: &HalfEdges,
+    terrain: &Terrain,
     gate: &G,
 )
     requires seat { IsSeatOfDesk desk.now hand.old.seat }
     requires components { length components.now ≡ sectors_of_desk desk.now }
     requires job { job.now ≡ job_of_desk desk.now }
     requires made { IsJob job.now }
-    requires edges { AreHalfEdges job.now.plan.now job.now.mesh.now.triangles job.now.labels.now edges.now }
+    requires terrain { IsTerrain job.now.plan.now job.now.mesh.now.triangles job.now.labels.now terrain.now }
     requires worked { IsAllWorked (sectors_of_desk desk.now) components.now (task_of_desk desk.now) (view_of_seat hand.old.seat) hand.old.results.items }
     requires ample { hand.old.starved ≡ false }
     ensures seat { IsSeatOfDesk desk.now hand.new.seat × (worker_of_seat hand.new.seat ≡ worker_of_seat hand.old.seat) }
     ensures over { hand.new.starved ≡ false → IsAllWorked (sectors_of_desk desk.now) components.now (task_of_desk desk.now) (view_of_seat hand.new.seat) hand.new.results.items × (has_over (view_of_seat hand.new.seat) ≡ true) }
 {
-    'turns: while turn(desk, alloc, hand, components, job, edges, gate) {}
+    'turns: while turn(desk, alloc, hand, components, job, terrain, gate) {}
 }

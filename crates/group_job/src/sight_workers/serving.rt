@@ -1,7 +1,7 @@
 //! One turn of a worker.
 ghost use Rattle.std.specs.Prelude.{◌≡◌, ℕ, ◌<◌, None, length, IfErr, IfOk, MatchOption};
 ghost use Rattle.std.specs.List.{Contains};
-ghost use Rattle.mesh_shape.specs.HalfEdges.HalfEdges.{AreHalfEdges};
+ghost use Rattle.portal_walk.specs.Terrain.{IsTerrain};
 ghost use Rattle.pair_budget.specs.declared.results.Outcome.TheVariants as outcome;
 ghost use Rattle.pair_budget.specs.declared.results.Reached.{Reached as ReachedSector};
 ghost use Rattle.pair_budget.specs.Notes.{ordered, Grows};
@@ -18,8 +18,8 @@ use crate::sight_workers::desk::{BoardSeat, Desk};
 use crate::sight_workers::gate::Gate;
 use crate::sight_workers::job::Job;
 use crate::sight_workers::watch::{Watch, in_order, look_round};
-use mesh_shape::half_edges::HalfEdges;
 use pair_budget::{Outcome, Reached, SourceResult, walk_source_over};
+use portal_walk::Terrain;
 use sight_names::{Items, Memory};
 use std::alloc::Global;
 
@@ -30,14 +30,14 @@ fn walk_watched(
     seat: &mut BoardSeat,
     components: &[u16],
     job: &Job<'_>,
-    edges: &HalfEdges,
+    terrain: &Terrain,
     source: u16,
 ) -> Result<SourceResult, Memory>
     requires seat { IsSeatOfDesk desk.now seat.old }
     requires components { (length components.now ≡ sectors_of_desk desk.now) × (source < sectors_of_desk desk.now) }
     requires job { job.now ≡ job_of_desk desk.now }
     requires made { IsJob job.now }
-    requires edges { AreHalfEdges job.now.plan.now job.now.mesh.now.triangles job.now.labels.now edges.now }
+    requires terrain { IsTerrain job.now.plan.now job.now.mesh.now.triangles job.now.labels.now terrain.now }
     ensures seat { IsSeatOfDesk desk.now seat.new × (worker_of_seat seat.new ≡ worker_of_seat seat.old) }
     ensures claims { (view_of_seat seat.new).claims ≡ (view_of_seat seat.old).claims }
     ensures seen { Grows (view_of_seat seat.old).seen (view_of_seat seat.new).seen }
@@ -55,7 +55,7 @@ fn walk_watched(
         next: 0,
     };
     let result = walk_source_over(
-        alloc, job.plan, job.mesh, job.labels, edges, source, job.budget, &mut watch,
+        alloc, job.plan, job.mesh, job.labels, terrain, source, job.budget, &mut watch,
     );
     let Watch {
         desk: _,
@@ -106,14 +106,14 @@ fn work(
     seat: &mut BoardSeat,
     components: &[u16],
     job: &Job<'_>,
-    edges: &HalfEdges,
+    terrain: &Terrain,
     source: u16,
 ) -> Result<SourceResult, Memory>
     requires seat { IsSeatOfDesk desk.now seat.old }
     requires components { (length components.now ≡ sectors_of_desk desk.now) × (source < sectors_of_desk desk.now) }
     requires job { job.now ≡ job_of_desk desk.now }
     requires made { IsJob job.now }
-    requires edges { AreHalfEdges job.now.plan.now job.now.mesh.now.triangles job.now.labels.now edges.now }
+    requires terrain { IsTerrain job.now.plan.now job.now.mesh.now.triangles job.now.labels.now terrain.now }
     ensures seat { IsSeatOfDesk desk.now seat.new × (worker_of_seat seat.new ≡ worker_of_seat seat.old) }
     ensures claims { (view_of_seat seat.new).claims ≡ (view_of_seat seat.old).claims }
     ensures kept { IsLater (view_of_seat seat.old) (view_of_seat seat.new) }
@@ -126,7 +126,7 @@ fn work(
             outcome: Outcome::All,
         });
     }
-    let result = walk_watched(desk, alloc, seat, components, job, edges, source)?;
+    let result = walk_watched(desk, alloc, seat, components, job, terrain, source)?;
     mark_found(desk, seat, source, result.found.as_slice());
     Ok(result)
 }
@@ -138,14 +138,14 @@ pub fn serve<G: Gate>(
     seat: &mut BoardSeat,
     components: &[u16],
     job: &Job<'_>,
-    edges: &HalfEdges,
+    terrain: &Terrain,
     gate: &G,
 ) -> Result<Option<SourceResult>, Memory>
     requires seat { IsSeatOfDesk desk.now seat.old }
     requires components { length components.now ≡ sectors_of_desk desk.now }
     requires job { job.now ≡ job_of_desk desk.now }
     requires made { IsJob job.now }
-    requires edges { AreHalfEdges job.now.plan.now job.now.mesh.now.triangles job.now.labels.now edges.now }
+    requires terrain { IsTerrain job.now.plan.now job.now.mesh.now.triangles job.now.labels.now terrain.now }
     ensures seat { IsSeatOfDesk desk.now seat.new × (worker_of_seat seat.new ≡ worker_of_seat seat.old) }
     ensures memory { IfErr result (λ _. IsStarved (sectors_of_desk desk.now) (view_of_seat seat.old) (view_of_seat seat.new)) }
     ensures ok { IfOk result (λ o. MatchOption o (IsDrained (sectors_of_desk desk.now) (view_of_seat seat.old) (view_of_seat seat.new)) (λ r. IsTurned (sectors_of_desk desk.now) components.now (task_of_desk desk.now) r (view_of_seat seat.old) (view_of_seat seat.new))) }
@@ -154,7 +154,7 @@ pub fn serve<G: Gate>(
         return Ok(None);
     };
     gate.pass(seat.worker, source);
-    let result = work(desk, alloc, seat, components, job, edges, source)?;
+    let result = work(desk, alloc, seat, components, job, terrain, source)?;
     Ok(Some(result))
 }
 

@@ -7,7 +7,7 @@ ghost use Rattle.group_job.specs.SightWorkers.Board.{task_for};
 ghost use Rattle.group_job.specs.SightWorkers.Given.{keeper_after};
 ghost use Rattle.group_job.specs.SightWorkers.Plays.{keeper_joined};
 ghost use Rattle.group_job.specs.SightWorkers.Ends.{IsOver};
-ghost use Rattle.mesh_shape.specs.HalfEdges.HalfEdges.{AreHalfEdges};
+ghost use Rattle.portal_walk.specs.Terrain.{IsTerrain};
 ghost use Rattle.pair_budget.specs.declared.results.SourceResult.{SourceResult as ResultOf};
 ghost use Rattle.pair_budget.specs.Decide.{AreResults, IsSettled};
 ghost use Rattle.group_job.specs.SightWorkers.Claimants.{AreClaimants, NamesClaimants};
@@ -21,8 +21,8 @@ use crate::sight_workers::desk::{BoardSeat, Desk};
 use crate::sight_workers::gate::Gate;
 use crate::sight_workers::hand::{Hand, labour};
 use crate::sight_workers::job::Job;
-use mesh_shape::half_edges::HalfEdges;
 use pair_budget::SourceResult;
+use portal_walk::Terrain;
 use sight_names::{Items, Memory};
 use std::alloc::Global;
 use std::thread;
@@ -62,13 +62,13 @@ fn set_to_work<R: Threads + Sync, G: Gate + Sync>(
     hands: &mut [Hand],
     components: &[u16],
     job: &Job<'_>,
-    edges: &HalfEdges,
+    terrain: &Terrain,
     gate: &G,
 )
     requires components { length components.now ≡ sectors_of_desk desk.now }
     requires job { job.now ≡ job_of_desk desk.now }
     requires made { IsJob job.now }
-    requires edges { AreHalfEdges job.now.plan.now job.now.mesh.now.triangles job.now.labels.now edges.now }
+    requires terrain { IsTerrain job.now.plan.now job.now.mesh.now.triangles job.now.labels.now terrain.now }
     requires fresh { AreFreshOfDesk desk.now (length hands.old) hands.old }
     ensures done { AreDoneOfDesk desk.now components.now (length hands.old) hands.new }
 {
@@ -80,7 +80,7 @@ fn set_to_work<R: Threads + Sync, G: Gate + Sync>(
         rt,
         hands,
         threads,
-        &|_, hand: &mut Hand| labour(desk, alloc, hand, components, job, edges, gate),
+        &|_, hand: &mut Hand| labour(desk, alloc, hand, components, job, terrain, gate),
     );
 }
 
@@ -234,7 +234,7 @@ fn walk_each<R: Threads + Sync, G: Gate + Sync>(
     ensures below { IfOk result (λ _. All (λ w. w < workers) claimed_by.new) }
     ensures claimants { IfOk result (λ _. AreClaimants (task_for job.entry workers) claimed_by.new) }
 {
-    let edges = HalfEdges::of(alloc, job.plan, job.mesh, job.labels)?;
+    let terrain = Terrain::of(alloc, job.plan, job.mesh, job.labels)?;
     let mut board = Board::new(alloc, job, workers)?;
     let mut hands = hands_of(&mut board, alloc)?;
     set_to_work(
@@ -244,7 +244,7 @@ fn walk_each<R: Threads + Sync, G: Gate + Sync>(
         hands.as_mut_slice(),
         components,
         &job,
-        &edges,
+        &terrain,
         gate,
     );
     let pool = gather(&mut board, alloc, hands, components, claimed_by)?;

@@ -10,8 +10,8 @@ use crate::entered_triangles::marks::{mark_sources, numbers_of};
 use crate::entered_triangles::stops::stops_of;
 use crate::entered_triangles::walks::walk_all;
 use map_picture::Stop;
-use mesh_shape::half_edges::HalfEdges;
 use mesh_shape::{Labels, Mesh};
+use portal_walk::Terrain;
 use sight_names::{Budget, Memory, Plan};
 use std::alloc::Global;
 
@@ -40,12 +40,12 @@ pub fn entered_out_of(
     ensures entered { IfOk result (IsEnteredWithin (map_of plan.now) mesh.now.triangles labels.now budget sources.now) }
 {
     let _ = mesh.triangles();
-    let edges = HalfEdges::of(alloc, plan, mesh, labels)?;
-    let Some(mut marks) = walk_all(alloc, plan, mesh, labels, &edges, budget, sources)? else {
+    let terrain = Terrain::of(alloc, plan, mesh, labels)?;
+    let Some(mut marks) = walk_all(alloc, plan, mesh, labels, &terrain, budget, sources)? else {
         return Ok(None);
     };
     let triangles = numbers_of(alloc, marks.as_slice())?;
     mark_sources(alloc, plan.sectors, labels, sources, marks.as_mut_slice())?;
-    let stops = stops_of(alloc, plan, mesh, labels, &edges, marks.as_slice())?;
+    let stops = stops_of(alloc, plan, mesh, labels, terrain.edges(), marks.as_slice())?;
     Ok(Some(Entered { triangles, stops }))
 }

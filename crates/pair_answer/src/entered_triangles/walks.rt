@@ -5,16 +5,15 @@ ghost use Rattle.sight_names.specs.Map.{map_of};
 ghost use Rattle.sight_names.specs.Mesh.{IsGoodMesh};
 ghost use Rattle.sight_names.specs.Sequence.{roots};
 ghost use Rattle.sight_names.specs.Sound.{LinesMeetAtEnds};
-ghost use Rattle.mesh_shape.specs.HalfEdges.HalfEdges.{AreHalfEdges};
+ghost use Rattle.portal_walk.specs.Terrain.{IsTerrain};
 ghost use Rattle.sight_lift.specs.SequenceLaws.Ways.{root_alone};
 ghost use Rattle.portal_walk.specs.Walk.{pending};
 ghost use Rattle.pair_budget.specs.FoundSectors.{one_less};
 ghost use Rattle.pair_answer.specs.EnteredTriangles.Walks.{AllEnded, IsOneSpent, IsWalked};
 
 use crate::entered_triangles::marks::mark;
-use mesh_shape::half_edges::HalfEdges;
 use mesh_shape::{Labels, Mesh};
-use portal_walk::{Walker, Went};
+use portal_walk::{Terrain, Walker, Went};
 use sight_names::{Budget, Memory, Plan};
 use std::alloc::Global;
 
@@ -58,7 +57,7 @@ fn walk_source(
     plan: &Plan,
     mesh: &Mesh,
     labels: &Labels,
-    edges: &HalfEdges,
+    terrain: &Terrain,
     budget: Budget,
     source: u16,
     marks: &mut [bool],
@@ -66,13 +65,13 @@ fn walk_source(
     requires points { mesh.now.points ≡ length plan.now.points }
     requires audited { LinesMeetAtEnds (map_of plan.now) }
     requires good { IsGoodMesh (map_of plan.now) mesh.now.triangles labels.now }
-    requires edges { AreHalfEdges plan.now mesh.now.triangles labels.now edges.now }
+    requires terrain { IsTerrain plan.now mesh.now.triangles labels.now terrain.now }
     requires source { source < plan.now.sectors }
     requires each { length marks.old ≡ length mesh.now.triangles }
     ensures each { length marks.new ≡ length marks.old }
     ensures walked { IfOk result (IsWalked (map_of plan.now) mesh.now.triangles labels.now budget source marks.old marks.new) }
 {
-    let walker = Walker::over(alloc, plan, mesh, labels, edges, source)?;
+    let walker = Walker::over(alloc, plan, mesh, labels, terrain, source)?;
     walk_on(walker, budget, marks)
 }
 
@@ -82,14 +81,14 @@ pub fn walk_all(
     plan: &Plan,
     mesh: &Mesh,
     labels: &Labels,
-    edges: &HalfEdges,
+    terrain: &Terrain,
     budget: Budget,
     sources: &[u16],
 ) -> Result<Option<Vec<bool>>, Memory>
     requires points { mesh.now.points ≡ length plan.now.points }
     requires audited { LinesMeetAtEnds (map_of plan.now) }
     requires good { IsGoodMesh (map_of plan.now) mesh.now.triangles labels.now }
-    requires edges { AreHalfEdges plan.now mesh.now.triangles labels.now edges.now }
+    requires terrain { IsTerrain plan.now mesh.now.triangles labels.now terrain.now }
     requires sources { (a : ℕ) → Contains sources.now a → a < plan.now.sectors }
     ensures { IfOk result (λ walked. MatchOption walked (IsOneSpent (map_of plan.now) mesh.now.triangles labels.now budget sources.now) (λ marks. AllEnded (map_of plan.now) mesh.now.triangles labels.now budget sources.now marks.items)) }
 {
@@ -100,7 +99,7 @@ pub fn walk_all(
             plan,
             mesh,
             labels,
-            edges,
+            terrain,
             budget,
             sources[i],
             marks.as_mut_slice(),

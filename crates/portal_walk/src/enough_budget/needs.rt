@@ -7,11 +7,10 @@ ghost use Rattle.sight_names.specs.Found.{Spent};
 ghost use Rattle.sight_names.specs.Map.{map_of};
 ghost use Rattle.sight_names.specs.Mesh.{IsGoodMesh};
 ghost use Rattle.sight_names.specs.Sound.{LinesMeetAtEnds};
-ghost use Rattle.mesh_shape.specs.HalfEdges.HalfEdges.{AreHalfEdges};
+ghost use Rattle.portal_walk.specs.Terrain.{IsTerrain};
 ghost use Rattle.portal_walk.specs.EnoughBudget.Need.{HasSequences, greatest};
 
-use crate::{Walker, Went};
-use mesh_shape::half_edges::HalfEdges;
+use crate::{Terrain, Walker, Went};
 use mesh_shape::{Labels, Mesh};
 use sight_names::{Memory, Plan};
 use std::alloc::Global;
@@ -22,18 +21,18 @@ fn count_sequences(
     plan: &Plan,
     mesh: &Mesh,
     labels: &Labels,
-    edges: &HalfEdges,
+    terrain: &Terrain,
     source: u16,
 ) -> Result<u64, Memory>
     requires points { mesh.now.points ≡ length plan.now.points }
     requires audited { LinesMeetAtEnds (map_of plan.now) }
     requires good { IsGoodMesh (map_of plan.now) mesh.now.triangles labels.now }
-    requires edges { AreHalfEdges plan.now mesh.now.triangles labels.now edges.now }
+    requires terrain { IsTerrain plan.now mesh.now.triangles labels.now terrain.now }
     requires source { source < plan.now.sectors }
     ensures number { IfOk result (HasSequences (map_of plan.now) mesh.now.triangles labels.now source) }
 {
     enough_fits(plan, mesh);
-    let mut walker = Walker::over(alloc, plan, mesh, labels, edges, source)?;
+    let mut walker = Walker::over(alloc, plan, mesh, labels, terrain, source)?;
     let mut count = 0u64;
     loop {
         match walker.go()? {
@@ -62,10 +61,10 @@ pub fn need(alloc: Global, plan: &Plan, mesh: &Mesh, labels: &Labels) -> Result<
     ensures few { IfOk result (λ ns. (a n : ℕ) → slice_get ns.items a ≡ Some n → n ≤ enough_of (map_of plan.now) mesh.now.triangles) }
     ensures spent { IfOk result (λ ns. (a n budget : ℕ) → slice_get ns.items a ≡ Some n → Spent (map_of plan.now) mesh.now.triangles labels.now a (Of budget) ↔ (budget < n)) }
 {
-    let edges = HalfEdges::of(alloc, plan, mesh, labels)?;
+    let terrain = Terrain::of(alloc, plan, mesh, labels)?;
     let mut numbers = Vec::new(alloc);
     for source in 0..plan.sectors {
-        numbers.push(count_sequences(alloc, plan, mesh, labels, &edges, source)?)?;
+        numbers.push(count_sequences(alloc, plan, mesh, labels, &terrain, source)?)?;
     }
     Ok(numbers)
 }
