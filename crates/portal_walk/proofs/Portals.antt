@@ -1,6 +1,8 @@
 -- The half-edge behind a portal is one by which one comes in; where there is none, the portal is closed.
 use Rattle.std.proofs.Common.{◌≡◌, ◌≢◌, ℕ, ◌+◌, ◌*◌, ◌<◌, inl, inr, List, Option, Some, None, Bool, true, false, IsSome, length, option_and_then, option_map, option_copied, slice_get, refl, sym, ap, ◌∙◌, subst, true≢false, Bor, arith}
 use Rattle.std.specs.Prelude.{if◌then◌else◌}
+use Rattle.std.specs.Option.{option_eq}
+use lib.Dec.{eqb}
 use Rattle.std.proofs.lemmas.Option.{none-some, same_Some}
 use Rattle.sight_names.specs.declared.names.Triangle.{Triangle}
 use Rattle.sight_names.specs.Map.{map_of}
@@ -18,7 +20,7 @@ use Rattle.portal_walk.specs.declared.scene.Way.{Way as WayOut}
 use Rattle.portal_walk.specs.declared.scene.Way.TheVariants.{Left, Right}
 use Rattle.portal_walk.specs.Scene.{SceneParts, IsScene, IsNumber, IsEntry, IsClosed, Finds, FindsWay, behind, exit_of}
 use Rattle.portal_walk.proofs.EdgeEnds.{edge_ends}
-use Rattle.portal_walk.proofs.SideLines.{arrives}
+use Rattle.portal_walk.proofs.SideLines.{arrives, names_test}
 use Rattle.math_base.proofs.Lists.{get_there}
 use Rattle.sight_names.proofs.Roots.{names_true}
 use Rattle.sight_names.proofs.Portals.{triangle_within}
@@ -47,6 +49,10 @@ entering_some ts xs e i x h at = ap (option_and_then (λ (i : ℕ). option_and_t
 
 outside_some : (xs : List HalfEdge) (source i : ℕ) (x : HalfEdge) → slice_get xs i ≡ Some x → way_outside xs source (Some i) ≡ (if names_it x.sector source then None else Some i)
 outside_some xs source i x at = ap (option_and_then (λ (x : HalfEdge). if names_it x.sector source then None else Some i)) at
+
+-- the same by the test of the half-edge's sector
+pub outside_by : (xs : List HalfEdge) (source k : ℕ) (y : HalfEdge) (way : Option ℕ) (b : Bool) → slice_get xs k ≡ Some y → way ≡ Some k → option_eq eqb y.sector (Some source) ≡ b → ◌≡◌ {A = Option ℕ} (if b then None else Some k) (way_outside xs source way)
+outside_by xs source k y way b at is named = ap (λ (c : Bool). let o : Option ℕ = if c then None else Some k in o) (sym named ∙ sym (names_test y.sector source)) ∙ sym (outside_some xs source k y at) ∙ ap (way_outside xs source) (sym is)
 
 -- ---- one half-edge
 

@@ -92,8 +92,13 @@ impl<'a> Scene<'a> {
         requires { IsNumber self.now.mesh.triangles from }
         ensures { FindsWay self.now from way result }
     {
-        let on = behind(self.get(from), way);
-        self.edges.outside(on, self.source)
+        let source = self.source;
+        let number = behind(self.get(from), way)?;
+        if self.get(number).sector == Some(source) {
+            None
+        } else {
+            Some(number)
+        }
     }
 
     /// The number of the half-edge by the portal with these ends; None where one can't enter by it.

@@ -1,4 +1,4 @@
-use Rattle.std.proofs.Common.{◌≡◌, ◌<◌, List, All, length, map, reverse, None, sym, ap, ◌∙◌, subst, arith}
+use Rattle.std.proofs.Common.{List, All, length, map, reverse, None, sym, ap, ◌∙◌, subst, arith}
 use Rattle.std.proofs.lemmas.List.{reverse-reverse}
 use Rattle.sight_lift.specs.SequenceLaws.Ways.{root_alone}
 use Rattle.portal_walk.specs.declared.roots.Root.{Root}
