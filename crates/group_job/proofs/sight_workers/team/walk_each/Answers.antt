@@ -1,8 +1,11 @@
-use Rattle.std.proofs.Common.{ℕ, ap, ◌∙◌, subst}
+use Rattle.std.proofs.Common.{ℕ, ◌≡◌, ◌++◌, List, length, take, drop, sym, ap, ◌∙◌, subst}
+use Rattle.std.proofs.Math.Seq.{take-append_seam}
 use Rattle.group_job.specs.declared.sight_workers.desk.Desk.{Desk}
+use Rattle.group_job.specs.declared.sight_workers.hand.Hand.{Hand}
 use Rattle.group_job.specs.declared.sight_workers.job.Terms.{Terms}
 use Rattle.group_job.specs.declared.sight_workers.view.Task.{Task}
 use Rattle.group_job.specs.SightWorkers.Board.{task_of, task_for}
+use Rattle.group_job.specs.SightWorkers.Boards.{AreDoneOfBoard, AreDoneOfDesk, workers_of_board}
 use Rattle.group_job.specs.SightWorkers.Hands.{IsAllWorked}
 use Rattle.group_job.proofs.SightWorkers.Claimants.{all_named}
 use Rattle.group_job.proofs.SightWorkers.Hands.{is_whole}
@@ -30,3 +33,13 @@ returns-clause-claimants g c =
     let sectors = ap (λ (d : Desk). d.sectors) desk ∙ made.2 in
     all_named (task_for c.args.job c.args.workers) c.gather.new.board.desk.sectors c.gather.new.board.keeper.me.0 c.gather.new.claimed_by (c.gather.new.board.kept.0.1 ∙ ap task_of key) sectors
     c.in_ok-pool.ensures.ok.0 c.close.ensures c.in_ok-pool.ensures.claimants
+
+-- what the workers wrote through the slice is the list
+pub gather-requires-clause-done : goal.gather-requires-clause-done
+gather-requires-clause-done g c =
+    let new = c.set_to_work.new.hands in
+    let held = new ++ drop (length new) c.in_ok-hands.hands.items in
+    let back : take c.in_ok-hands.hands.len held ≡ new = subst (λ (k : ℕ). take k held ≡ new) (c.set_to_work.auto.hands ∙ c.as_mut_slice.ensures.len) (take-append_seam new _) in
+    let workers : length c.as_mut_slice.result.now ≡ workers_of_board c.hands_of.new.board = ap (λ (hs : List Hand). length hs) c.as_mut_slice.ensures.value ∙ c.in_ok-hands.ensures.ok.0.0 in
+    let done : AreDoneOfBoard c.hands_of.new.board c.args.components.now (workers_of_board c.hands_of.new.board) new = subst (λ (k : ℕ). AreDoneOfDesk c.hands_of.new.board.desk c.args.components.now k new) workers c.set_to_work.ensures.done in
+    subst (λ (hs : List Hand). AreDoneOfBoard c.hands_of.new.board c.args.components.now (workers_of_board c.hands_of.new.board) hs) (sym back) done
