@@ -9,3 +9,4 @@ pub mod Accepting
 pub mod Walks
 pub mod Rounds
 pub mod Waves
+pub mod FewLines

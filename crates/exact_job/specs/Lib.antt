@@ -5,3 +5,4 @@ pub mod Rounds
 pub mod Table
 pub mod Built
 pub mod Waves
+pub mod Lines

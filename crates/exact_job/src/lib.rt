@@ -7,6 +7,7 @@
 mod bounds;
 mod build;
 mod first;
+mod lines;
 mod rays;
 mod settling;
 mod table;

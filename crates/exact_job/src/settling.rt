@@ -14,6 +14,7 @@ ghost use Rattle.exact_job.specs.Rounds.{AreNoted, HasMore, IsRound};
 ghost use Rattle.exact_job.specs.Trees.{HasFound, HasFoundNothing, nodes_of};
 
 use crate::first::first_rays;
+use crate::lines::on_few_lines;
 use crate::rays::{in_order, note_found};
 use crate::trees::make_trees;
 use crate::walkers::Walkers;
@@ -156,7 +157,8 @@ fn first_round<W: Walkers>(
     ensures { IfOk result (IsRound over.now.plan over.now.mesh.triangles edges.now) }
 {
     let found = first_rays(walkers, alloc, over, edges)?;
-    let rays = in_order(alloc, found)?;
+    let each = in_order(alloc, found)?;
+    let rays = on_few_lines(alloc, over, edges, each)?;
     round_of(walkers, alloc, over, edges, rays)
 }
 
