@@ -90,3 +90,10 @@ blocks_four es e a b c d n l fa fb fc fd stuck = record { ends = f.1; stuck = su
 -- the same by the codes alone
 pub blocks_ends : (es : List EndPoints) (e : Evidence) → e.count ≡ 4 → length e.ends ≡ 4 → AreStuckEnds es (get_or e.ends 0 0) (get_or e.ends 1 0) (get_or e.ends 2 0) (get_or e.ends 3 0) → Blocks es e
 blocks_ends es e n l (w, x, y, z, fw, fx, fy, fz, stuck) = blocks_four es e w x y z n l (sym fw) (sym fx) (sym fy) (sym fz) stuck
+
+-- evidence by its parts
+pub by_parts : (es : List EndPoints) (count : ℕ) (ends : List ℕ) (b : Bool) → (IsTrue b ↔ Blocks es (record { count = count; ends = ends })) → (e : Evidence) → e.count ≡ count → e.ends ≡ ends → IsTrue b ↔ Blocks es e
+by_parts es count ends b h e n m = subst (λ (k : ℕ). IsTrue b ↔ Blocks es (record { count = k; ends = e.ends })) (sym n) (subst (λ (xs : List ℕ). IsTrue b ↔ Blocks es (record { count = count; ends = xs })) (sym m) h)
+
+pub of_four : (es : List EndPoints) (e : Evidence) (b : Bool) → length e.ends ≡ 4 → ((g : Evidence) → g.count ≡ e.count → g.ends ≡ get_or e.ends 0 0 ∷ get_or e.ends 1 0 ∷ get_or e.ends 2 0 ∷ get_or e.ends 3 0 ∷ [] → IsTrue b ↔ Blocks es g) → IsTrue b ↔ Blocks es e
+of_four es e b l h = h e refl (in_places e.ends l)

@@ -111,6 +111,20 @@ module _ (xs : List HalfEdge) (roots : List Root) (firsts : List (Option ℕ)) (
         (λ e. subst (λ (s : ℕ). HasRefused xs roots s n path_now waits_now f_now) e (refused refl room (omega (arith, room, equal))))));
   }
 
+  -- the same of one of the steps that a node may take
+  pub follows_step : (ns : List Node) (n : Node) (path_now path_new path_last : List Frame) (waits_now waits_new waits_last : List Wait) (f_now f_new f_last : Follow) (new more last : TableParts) (result answers told : Bool)
+      → path_last ≡ path_new → waits_last ≡ waits_new → f_last ≡ f_new → last ≡ more → answers ≡ result → answers ≡ told → FollowsAt xs roots firsts source path waits f old path_now waits_now f_now new false ns
+      → f_now.depth < length path_now → length waits_now ≡ length path_now → (f_now.depth ≤ length path_now → f_new.depth ≤ length path_new) → (f_now.depth ≤ length waits_now → f_new.depth ≤ length waits_new)
+      → (IsTrue result → HasAnswered xs roots source n path_now waits_now f_now new path_new waits_new f_new more) → (result ≡ false → f_now.depth < length path_now → f_now.depth < length waits_now → HasRefused xs roots source n path_now waits_now f_now)
+      → FollowsAt xs roots firsts source path waits f old path_last waits_last f_last last (not told) (ns ++ n ∷ [])
+  follows_step ns n path_now path_new path_last waits_now waits_new waits_last f_now f_new f_last new more last result answers told e g h k is here w room equal within to_wait answered refused =
+      subst (λ (t : TableParts). FollowsAt xs roots firsts source path waits f old path_last waits_last f_last t (not told) (ns ++ n ∷ [])) (sym k)
+      (subst (λ (d : Follow). FollowsAt xs roots firsts source path waits f old path_last waits_last d more (not told) (ns ++ n ∷ [])) (sym h)
+      (subst (λ (us : List Wait). FollowsAt xs roots firsts source path waits f old path_last us f_new more (not told) (ns ++ n ∷ [])) (sym g)
+      (subst (λ (fs : List Frame). FollowsAt xs roots firsts source path waits f old fs waits_new f_new more (not told) (ns ++ n ∷ [])) (sym e)
+      (subst (λ (b : Bool). FollowsAt xs roots firsts source path waits f old path_new waits_new f_new more (not b) (ns ++ n ∷ [])) (sym is ∙ here)
+      (follows_next ns n path_now path_new waits_now waits_new f_now f_new new more false result refl w room equal within to_wait answered refused)))))
+
 -- buffers that are equal
 pub same_buffers : (xs : List HalfEdge) (roots : List Root) (firsts : List (Option ℕ)) (source : ℕ) (path other : List Frame) (waits others : List Wait) (f : Follow) (old : TableParts) (path_new other_new : List Frame) (waits_new others_new : List Wait) (f_new : Follow) (new : TableParts) (wrong : Bool) (ns : List Node)
     → path ≡ other → waits ≡ others → other_new ≡ path_new → others_new ≡ waits_new → FollowsAt xs roots firsts source path waits f old path_new waits_new f_new new wrong ns → FollowsAt xs roots firsts source other others f old other_new others_new f_new new wrong ns

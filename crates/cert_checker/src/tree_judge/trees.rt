@@ -1,8 +1,9 @@
 //! Trees judged in one pass: each node is asked of the walk at its place.
 
-ghost use Rattle.std.specs.Prelude.{◌≡◌, ◌≤◌, ◌<◌, ◌↔◌, [], List, false, IsTrue, IfNone, IfSome, IfOk, length, take};
+ghost use Rattle.std.specs.Prelude.{◌≡◌, ◌≤◌, ◌<◌, ◌↔◌, [], ◌∷◌, List, false, IsTrue, IfNone, IfSome, IfOk, length, take};
 ghost use Rattle.sight_names.specs.Splitting.{end_of as end_at};
 ghost use Rattle.block_evidence.specs.Stuck.{Blocks};
+ghost use Rattle.block_evidence.specs.declared.Evidence.{Evidence as EvidenceOf};
 ghost use Rattle.cert_checker.specs.TreeJudge.Path.{list_of, path_ends, edge_ends, longest_of, IsEndOf, AreStuckEnds, AsksRoot, Pending, IsWaiting, StandsAt, PutsAt, EntersThrough, TakesNext};
 ghost use Rattle.block_evidence.specs.declared.sight_tree.Node.TheVariants.{Open, Blocked};
 ghost use Rattle.reject_bits.specs.Parts.{TableParts};
@@ -219,7 +220,6 @@ fn is_seen_blocked(path: &[Frame], evidence: Evidence) -> bool
 }
 
 /// Whether the ends are ends of these portals, and stuck.
-#[inline(never)]
 fn is_shown_blocked(path: &[Frame], evidence: Evidence) -> bool
     ensures { IsTrue result ↔ Blocks (path_ends path.now) evidence }
 {
@@ -237,12 +237,23 @@ fn is_shown_blocked(path: &[Frame], evidence: Evidence) -> bool
     stuck(&ends[..count])
 }
 
-/// The same; most often it is seen at once.
+/// The same of evidence in its parts.
+// out of line, and by its parts: whole evidence would be put into memory for it at each blocked node
+#[inline(never)]
+fn are_shown_blocked(path: &[Frame], count: u8, a: u16, b: u16, c: u16, d: u16) -> bool
+    ensures { (e : EvidenceOf) → e.count ≡ count → e.ends ≡ a ∷ b ∷ c ∷ d ∷ [] → IsTrue result ↔ Blocks (path_ends path.now) e }
+{
+    let ends = [a, b, c, d];
+    is_shown_blocked(path, Evidence { count, ends })
+}
+
+/// The same of evidence; most often it is seen at once.
 #[inline(always)]
 pub fn is_blocked(path: &[Frame], evidence: Evidence) -> bool
     ensures { IsTrue result ↔ Blocks (path_ends path.now) evidence }
 {
-    is_seen_blocked(path, evidence) || is_shown_blocked(path, evidence)
+    let [a, b, c, d] = evidence.ends;
+    is_seen_blocked(path, evidence) || are_shown_blocked(path, evidence.count, a, b, c, d)
 }
 
 /// Puts the portal of this half-edge behind the open ones, and says whether there was room.
@@ -294,10 +305,12 @@ fn last_waiting(path: &[Frame], waits: &[Wait], waiting: usize) -> Option<Wait>
     ensures within { IfSome result (λ _. waiting ≤ length path.now) }
     ensures none { IfNone result ((ws : List Pending) → IsWaiting path.now waits.now waiting ws → ws ≡ []) }
 {
-    if waiting == 0 || waiting > waits.len() || waiting > path.len() {
+    // 0 becomes the greatest number: so one test tells whether there is a way, and whether its place is there
+    let place = waiting.wrapping_sub(1);
+    if place >= path.len() || place >= waits.len() {
         return None;
     }
-    Some(waits[waiting - 1])
+    Some(waits[place])
 }
 
 /// The half-edge that is asked next: the last way that waits, or else the next root.
@@ -325,6 +338,7 @@ fn next_asked(roots: &Roots, path: &[Frame], waits: &[Wait], follow: &mut Follow
 
 /// Goes through the half-edge whose portal was put last, and gives what is asked next: its left way, its right way, or what comes
 /// behind both. Where both ways lead out of the source, the right one waits.
+// each outcome returns on its own: else what one look-up gave is kept as a flag while the other is made
 #[inline(always)]
 fn enter(
     terrain: &Terrain<'_>,
@@ -340,28 +354,24 @@ fn enter(
     ensures room { follow.new.depth ≤ length waits.new }
     ensures enters { EntersThrough terrain.now.edges.now terrain.now.roots.now.roots.items source path.now waits.old follow.old edge.now waits.new follow.new result }
 {
-    let right = terrain.edges.outside(edge.right_way, source);
-    let left = terrain.edges.outside(edge.left_way, source);
-    match (left, right) {
-        (Some(left), Some(right)) => {
-            waits[follow.depth] = Wait {
-                way: right,
-                before: follow.waiting,
-            };
-            follow.depth += 1;
-            follow.waiting = follow.depth;
-            Some(left)
-        }
-        (Some(way), None) => {
-            follow.depth += 1;
-            Some(way)
-        }
-        (None, Some(way)) => {
-            follow.depth += 1;
-            Some(way)
-        }
-        (None, None) => next_asked(terrain.roots, path, waits, follow),
-    }
+    let Some(left) = terrain.edges.outside(edge.left_way, source) else {
+        let Some(right) = terrain.edges.outside(edge.right_way, source) else {
+            return next_asked(terrain.roots, path, waits, follow);
+        };
+        follow.depth += 1;
+        return Some(right);
+    };
+    let Some(right) = terrain.edges.outside(edge.right_way, source) else {
+        follow.depth += 1;
+        return Some(left);
+    };
+    waits[follow.depth] = Wait {
+        way: right,
+        before: follow.waiting,
+    };
+    follow.depth += 1;
+    follow.waiting = follow.depth;
+    Some(left)
 }
 
 /// Notes that the source reaches the sector, where there is one.
@@ -381,7 +391,7 @@ fn note(reached: &mut Table, source: u16, sector: Option<u16>)
 /// Whether an open node answers for the half-edge that is asked: then it goes through it, the source reaches the sector
 /// behind it, and the next half-edge is asked. False also where there is no room on the path.
 #[inline(always)]
-fn answer_open(
+pub fn answer_open(
     terrain: &Terrain<'_>,
     reached: &mut Table,
     source: u16,
@@ -415,7 +425,7 @@ fn answer_open(
 /// Whether the ends of a blocked node show that no line passes the sequence through the half-edge that is asked; then the
 /// next one is. False also where there is no room on the path.
 #[inline(always)]
-fn answer_blocked(
+pub fn answer_blocked(
     terrain: &Terrain<'_>,
     source: u16,
     path: &mut [Frame],

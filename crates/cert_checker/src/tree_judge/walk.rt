@@ -10,7 +10,9 @@ ghost use Rattle.cert_checker.specs.TreeJudge.Whole.{IsWholeFrom, IsFirstWrongFr
 ghost use Rattle.certificates.specs.CertParts.Nodes.{TakesNodes};
 ghost use Rattle.cert_checker.specs.TreeJudge.Walked.{begun, with_node, FollowsAt, Follows, IsWalked};
 
-use crate::tree_judge::trees::{Follow, Frame, Terrain, Wait, answer, make_room, make_wait, start};
+use crate::tree_judge::trees::{
+    Follow, Frame, Terrain, Wait, answer, answer_blocked, answer_open, make_room, make_wait, start,
+};
 use block_evidence::sight_tree::Node;
 use certificates::cert_parts::usual_node;
 use reject_bits::Table;
@@ -67,7 +69,13 @@ fn follow_nodes<'a>(
         };
         rest = behind;
         left -= 1;
-        if !answer(terrain, reached, source, path, waits, &mut at, node) {
+        let answers = match node {
+            Node::Open => answer_open(terrain, reached, source, path, waits, &mut at),
+            Node::Blocked(evidence) => {
+                answer_blocked(terrain, source, path, waits, &mut at, evidence)
+            }
+        };
+        if !answers {
             *follow = at;
             return Followed {
                 rest,
