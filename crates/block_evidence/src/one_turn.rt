@@ -4,55 +4,14 @@
 //! and `l1`: by its sense the segments from `l1` to `l2` and from `r2` to `t` share a point, or the triangle of the three right ends
 //! has `l1`. So it is with a new left end that can't be split from `r2`, the other way round.
 
-ghost use Rattle.std.specs.Prelude.{◌<◌, ◌∷◌, [], ◌≤ℤ◌, pos, IfSome};
-ghost use Rattle.block_evidence.specs.OneTurn.{AreLines, BarsRight, BarsLeft, says};
+ghost use Rattle.std.specs.Prelude.{◌∷◌, []};
+ghost use Rattle.block_evidence.specs.OneTurn.{AreLines, BarsRight, BarsLeft};
 ghost use Rattle.block_evidence.specs.Picked.{Picks};
 
 use crate::Evidence;
 use crate::candidates::in_order;
 use geom_exact::turn;
-use sight_names::{EndAt, EndPair, RIGHT_END};
-
-/// Four stuck ends of two extreme lines and a new right end that isn't right of the first line, where the left end of that
-/// line lies in the triangle of the right ends.
-#[inline(always)]
-pub fn cover_right(first: EndPair, second: EndPair, new: EndAt) -> Option<Evidence>
-    requires lines { AreLines first second }
-    requires later { first.right.code < new.code }
-    requires later_too { second.right.code < new.code }
-    requires beyond { pos 0 ≤ℤ says first new.at }
-    ensures { IfSome result (λ e. Picks (first.left ∷ first.right ∷ second.left ∷ second.right ∷ new ∷ []) e) }
-{
-    if turn(second.right.at, new.at, first.left.at) <= 0 {
-        return None;
-    }
-    let (c, d) = in_order(first.right, second.right);
-    Some(Evidence {
-        count: 4,
-        ends: [first.left.code, c, d, new.code],
-    })
-}
-
-/// Four stuck ends of two extreme lines and a new left end that isn't right of the second line, where the right end of that
-/// line lies in the triangle of the left ends.
-#[inline(always)]
-pub fn cover_left(first: EndPair, second: EndPair, new: EndAt) -> Option<Evidence>
-    requires lines { AreLines first second }
-    requires coded { new.code < RIGHT_END }
-    requires later { first.left.code < new.code }
-    requires later_too { second.left.code < new.code }
-    requires beyond { pos 0 ≤ℤ says second new.at }
-    ensures { IfSome result (λ e. Picks (first.left ∷ first.right ∷ second.left ∷ second.right ∷ new ∷ []) e) }
-{
-    if turn(second.right.at, new.at, first.left.at) <= 0 {
-        return None;
-    }
-    let (a, b) = in_order(first.left, second.left);
-    Some(Evidence {
-        count: 4,
-        ends: [a, b, new.code, second.right.code],
-    })
-}
+use sight_names::{EndAt, EndPair};
 
 /// Four stuck ends of two extreme lines and a new right end that bars what passes between them.
 #[inline(always)]

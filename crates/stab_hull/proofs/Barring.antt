@@ -1,32 +1,32 @@
 -- A new end that can't be split from an end of an extreme line shows that no line splits the ends.
 use Rattle.std.proofs.Common.{◌≡◌, ℕ, ◌+◌, ◌-◌, ◌<◌, List, [], ◌∷◌, ◌++◌, length, get_or, Some, None, All, refl, sym, ap, ◌∙◌, arith, inl, inr, subst, subst₂}
 use Rattle.std.specs.Prelude.{slice_get, Option, IfSome}
+use Rattle.std.proofs.lemmas.Int.{ints}
 use Rattle.std.proofs.lemmas.Option.{same_Some}
 use Rattle.std.proofs.lemmas.List.Elements.{All-nil, All-cons}
 use Rattle.sight_names.specs.declared.limits.TheConstants.{RIGHT_END}
 use Rattle.sight_names.specs.declared.names.Pt.{Pt}
 use Rattle.sight_names.specs.declared.names.EndAt.{EndAt}
 use Rattle.sight_names.specs.declared.names.EndPair.{EndPair}
-use Rattle.sight_names.specs.Splitting.{EndPoints, IsPairOf, end_of}
+use Rattle.sight_names.specs.Splitting.{EndPoints, IsPairOf, AreBalanced, end_of}
 use Rattle.geom_exact.specs.declared.extreme_lines.cone.Cone.{Cone}
 use Rattle.geom_exact.specs.declared.extreme_lines.cone.Cone.TheVariants.{Open}
 use Rattle.geom_exact.specs.declared.extreme_lines.wedge.Wedge.{Wedge}
 use Rattle.geom_exact.specs.ExtremeLines.Differences.{difference}
 use Rattle.geom_exact.specs.ExtremeLines.Spans.{Spans, pair_of}
 use Rattle.geom_exact.proofs.ExtremeLines.EndsLemmas.{pair_of_more, end_of_more, left_end, right_end, left_place, right_place, left_within, right_within}
+use Rattle.geom_exact.proofs.ExtremeLines.Widening.{wedge_meets}
 use Rattle.block_evidence.specs.declared.Evidence.{Evidence}
-use Rattle.block_evidence.specs.OneTurn.{AreLines}
+use Rattle.block_evidence.specs.OneTurn.{AreLines, BarsRight, BarsLeft}
 use Rattle.block_evidence.specs.Picked.{Picks, both_ends}
-use Rattle.block_evidence.specs.Stuck.{Blocks}
-use Rattle.block_evidence.proofs.Answering.{blocked_no_line}
 use Rattle.block_evidence.proofs.Picking.{some_more, five_among, picks_evidence, picks_block, no_pair}
 use Rattle.stab_hull.specs.Answer.{IsBarredBy}
 use Rattle.stab_hull.specs.Barred.{ends_and}
 use Rattle.stab_hull.specs.declared.frame.Frame.{Frame}
 use Rattle.stab_hull.specs.History.{IsHistory}
 use Rattle.stab_hull.specs.Portals.{portals_of, IsConeOf}
-use Rattle.stab_hull.proofs.HistoryLemmas.{last_frame, frame_cone}
-use Rattle.stab_hull.proofs.OneLine.{right_of_first, left_of_second}
+use Rattle.stab_hull.proofs.HistoryLemmas.{shown, last_frame, frame_cone}
+use Rattle.stab_hull.proofs.OneLine.{turn_is, form_left, form_right, right_of_first, left_of_second}
 use Rattle.math_base.proofs.Lists.{get_pushed}
 
 module _ (es : List EndPoints) (w : Wedge) (h : IsConeOf es (Open w)) where
@@ -59,10 +59,10 @@ module _ (es : List EndPoints) (w : Wedge) (h : IsConeOf es (Open w)) where
   pub right_before : (p : EndPair) → IsPairOf es p → p.right.code < length es + RIGHT_END
   right_before p i = right_within es p.right i.right_code i.right
 
-  barred : (q : EndPoints) (new : EndAt) (third : EndPair) (e : Evidence) → IsPairOf (es ++ q ∷ []) third → Picks (both_ends (pair_of w.first ∷ pair_of w.second ∷ third ∷ [])) e → IsBarredBy (es ++ q ∷ []) e
-  barred q new third e i p = record {
-    no_line = blocked_no_line (es ++ q ∷ []) e blocks;
-    blocks = blocks;
+  barred : (q : EndPoints) (new : EndAt) (third : EndPair) (e : Evidence) → IsPairOf (es ++ q ∷ []) third → AreBalanced (pair_of w.first ∷ pair_of w.second ∷ third ∷ []) → Picks (both_ends (pair_of w.first ∷ pair_of w.second ∷ third ∷ [])) e → IsBarredBy (es ++ q ∷ []) e
+  barred q new third e i b p = record {
+    no_line = shown (es ++ q ∷ []) pairs (record { ends = ends; balanced = b });
+    blocks = picks_block pairs e p (es ++ q ∷ []) ends;
     pairs = pairs;
     evidence = picks_evidence pairs e p;
   }
@@ -75,28 +75,29 @@ module _ (es : List EndPoints) (w : Wedge) (h : IsConeOf es (Open w)) where
           (All-cons (IsPairOf (es ++ q ∷ [])) (pair_of w.second) (third ∷ []) (pair_of_more es (q ∷ []) (pair_of w.second) h.pairs.second)
           (All-cons (IsPairOf (es ++ q ∷ [])) third [] i (All-nil (IsPairOf (es ++ q ∷ [])))))
 
-      blocks : Blocks (es ++ q ∷ []) e
-      blocks = picks_block pairs e p (es ++ q ∷ []) ends
-
-  pub right_barred : (q : EndPoints) (new : EndAt) (e : Evidence) → new ≡ record { code = length es + RIGHT_END; at = q.right } → Picks (ends_and w new) e → IsBarredBy (es ++ q ∷ []) e
-  right_barred q new e n p = barred q new (record { left = w.first.left; right = new }) e (record {
+  pub right_barred : (q : EndPoints) (new : EndAt) (e : Evidence) → new ≡ record { code = length es + RIGHT_END; at = q.right } → BarsRight (pair_of w.first) (pair_of w.second) new → Picks (ends_and w new) e → IsBarredBy (es ++ q ∷ []) e
+  right_barred q new e n b p = barred q new (record { left = w.first.left; right = new }) e (record {
     left_code = h.pairs.first.left_code;
     right_code = (let c = ap (λ (d : EndAt). d.code) n in omega (arith, c));
     left = end_of_more es (q ∷ []) w.first.left.code w.first.left h.pairs.first.left;
     right = there;
-  })
+  }) (wedge_meets w w.first.left new
+      (let t = turn_is w.first w.first.left.at new.at in let z = form_left w.first in let k = b.beyond_first in omega (arith, ints))
+      (let t = turn_is w.second w.first.left.at new.at in let k = b.far in omega (arith, ints)))
       (some_more (ends_and w new) (both_ends (pair_of w.first ∷ pair_of w.second ∷ record { left = w.first.left; right = new } ∷ [])) (Some e) (five_among (pair_of w.first ∷ pair_of w.second ∷ record { left = w.first.left; right = new } ∷ []) no_pair new refl (inr refl)) p)
     where
       there : end_of (es ++ q ∷ []) new.code ≡ Some new
       there = subst (λ (d : EndAt). end_of (es ++ q ∷ []) d.code ≡ Some d) (sym n) (subst (λ (k : ℕ). end_of (es ++ q ∷ []) k ≡ Some (record { code = k; at = q.right })) (omega arith) (right_end (es ++ q ∷ []) (length es) q (get_pushed es q)))
 
-  pub left_barred : (q : EndPoints) (new : EndAt) (e : Evidence) → length es < RIGHT_END → new ≡ record { code = length es; at = q.left } → Picks (ends_and w new) e → IsBarredBy (es ++ q ∷ []) e
-  left_barred q new e few n p = barred q new (record { left = new; right = w.second.right }) e (record {
-    left_code = (let c = ap (λ (d : EndAt). d.code) n in omega (arith, c, few));
+  pub left_barred : (q : EndPoints) (new : EndAt) (e : Evidence) → length es < RIGHT_END → new ≡ record { code = length es; at = q.left } → BarsLeft (pair_of w.first) (pair_of w.second) new → Picks (ends_and w new) e → IsBarredBy (es ++ q ∷ []) e
+  left_barred q new e few n b p = barred q new (record { left = new; right = w.second.right }) e (record {
+    left_code = b.coded;
     right_code = h.pairs.second.right_code;
     left = subst (λ (d : EndAt). end_of (es ++ q ∷ []) d.code ≡ Some d) (sym n) (left_end (es ++ q ∷ []) (length es) q few (get_pushed es q));
     right = end_of_more es (q ∷ []) w.second.right.code w.second.right h.pairs.second.right;
-  })
+  }) (wedge_meets w new w.second.right
+      (let t = turn_is w.first new.at w.second.right.at in let k = b.far in omega (arith, ints))
+      (let t = turn_is w.second new.at w.second.right.at in let z = form_right w.second in let k = b.beyond_second in omega (arith, ints)))
       (some_more (ends_and w new) (both_ends (pair_of w.first ∷ pair_of w.second ∷ record { left = new; right = w.second.right } ∷ [])) (Some e) (five_among (pair_of w.first ∷ pair_of w.second ∷ record { left = new; right = w.second.right } ∷ []) no_pair new refl (inl refl)) p)
 
 -- the cone of the last frame

@@ -71,13 +71,13 @@ module _ (es : List EndPoints) (ls rs : List EndAt) (cs : List Cone) (w : Wedge)
   pub right_tells : (left : Pt) (new : EndAt) → new.code ≡ length es + RIGHT_END → (t : Turn) → IsRightTurn w new t → TellsRight es ls rs cs left new t
   right_tells left new e Same h = (Open w, last, right_same ls rs new (Open w) w refl h.0 h.1 of_ends)
   right_tells left new e Moves h = record { wedge = w; last = last; rights = rs; cone = of_ends; beyond = h }
-  right_tells left new e (Stuck x) h = right_barred es w of_portals (record { left = left; right = new.at }) new x (ap (λ (c : ℕ). let v : EndAt = record { code = c; at = new.at } in v) e) h
+  right_tells left new e (Stuck x) h = right_barred es w of_portals (record { left = left; right = new.at }) new x (ap (λ (c : ℕ). let v : EndAt = record { code = c; at = new.at } in v) e) h.0 h.1
   right_tells left new e Unseen h = tt
 
   pub left_tells : (right : Pt) (new : EndAt) → length es < RIGHT_END → new.code ≡ length es → (t : Turn) → IsLeftTurn w new t → TellsLeft es ls rs cs new right t
   left_tells right new few e Same h = (Open w, last, left_same ls rs new (Open w) w refl h.0 h.1 of_ends)
   left_tells right new few e Moves h = record { wedge = w; last = last; lefts = ls; cone = of_ends; beyond = h }
-  left_tells right new few e (Stuck x) h = left_barred es w of_portals (record { left = new.at; right = right }) new x few (ap (λ (c : ℕ). let v : EndAt = record { code = c; at = new.at } in v) e) h
+  left_tells right new few e (Stuck x) h = left_barred es w of_portals (record { left = new.at; right = right }) new x few (ap (λ (c : ℕ). let v : EndAt = record { code = c; at = new.at } in v) e) h.0 h.1
   left_tells right new few e Unseen h = tt
 
 -- the last cone, of which is known that it has these two lines

@@ -1,11 +1,12 @@
 -- What a new end does to two extreme lines.
 use Rattle.std.specs.Prelude.{◌≡◌, ◌-◌, List, Some, length, slice_get, pos, ◌<ℤ◌}
 use Rattle.sight_names.specs.declared.names.EndAt.{EndAt}
+use Rattle.block_evidence.specs.OneTurn.{BarsRight, BarsLeft}
 use Rattle.block_evidence.specs.Picked.{Picks}
 use Rattle.geom_exact.specs.declared.extreme_lines.cone.Cone.{Cone}
 use Rattle.geom_exact.specs.declared.extreme_lines.cone.Cone.TheVariants.{Open}
 use Rattle.geom_exact.specs.declared.extreme_lines.wedge.Wedge.{Wedge}
-use Rattle.geom_exact.specs.ExtremeLines.Spans.{form_at}
+use Rattle.geom_exact.specs.ExtremeLines.Spans.{form_at, pair_of}
 use Rattle.stab_hull.specs.Barred.{ends_and}
 use Rattle.stab_hull.specs.Stacks.{IsConeOfEnds}
 use Rattle.stab_hull.specs.declared.turning.Turn.{Turn}
@@ -15,14 +16,14 @@ use Rattle.stab_hull.specs.declared.turning.Turn.TheVariants.{Same, Moves, Stuck
 abbrev pub IsRightTurn : Wedge → EndAt → Turn → Type 0
 IsRightTurn w new Same = (form_at w.first new.at <ℤ pos 0) × (pos 0 <ℤ form_at w.second new.at)
 IsRightTurn w new Moves = form_at w.first new.at <ℤ pos 0
-IsRightTurn w new (Stuck e) = Picks (ends_and w new) e
+IsRightTurn w new (Stuck e) = BarsRight (pair_of w.first) (pair_of w.second) new × Picks (ends_and w new) e
 IsRightTurn w new Unseen = Unit {0}
 
 -- of a left end, the other way round
 abbrev pub IsLeftTurn : Wedge → EndAt → Turn → Type 0
 IsLeftTurn w new Same = (pos 0 <ℤ form_at w.first new.at) × (form_at w.second new.at <ℤ pos 0)
 IsLeftTurn w new Moves = form_at w.second new.at <ℤ pos 0
-IsLeftTurn w new (Stuck e) = Picks (ends_and w new) e
+IsLeftTurn w new (Stuck e) = BarsLeft (pair_of w.first) (pair_of w.second) new × Picks (ends_and w new) e
 IsLeftTurn w new Unseen = Unit {0}
 
 -- the last of the cones has two lines, and the new right end is right of the first one

@@ -1,10 +1,10 @@
 //! A new end that bars what passes between the two extreme lines: where no line splits it from an end of one of them, one turn tells
 //! four stuck ends. In a walk this is so of each portal that no line passes.
 
-ghost use Rattle.std.specs.Prelude.{◌≡◌, ◌<◌, ◌+◌, ◌++◌, ◌∷◌, [], None, length, IfSome, pos, ◌≤ℤ◌};
-ghost use Rattle.block_evidence.specs.OneTurn.{AreLines};
+ghost use Rattle.std.specs.Prelude.{◌≡◌, ◌<◌, ◌+◌, ◌++◌, ◌∷◌, [], None, length, IfSome};
+ghost use Rattle.block_evidence.specs.OneTurn.{AreLines, BarsRight, BarsLeft};
 ghost use Rattle.block_evidence.specs.Picked.{Picks};
-ghost use Rattle.geom_exact.specs.ExtremeLines.Spans.{form_at, pair_of};
+ghost use Rattle.geom_exact.specs.ExtremeLines.Spans.{pair_of};
 ghost use Rattle.stab_hull.specs.Answer.{IsBarredBy};
 ghost use Rattle.stab_hull.specs.Barred.{ends_and};
 ghost use Rattle.stab_hull.specs.History.{IsHistory};
@@ -12,7 +12,7 @@ ghost use Rattle.stab_hull.specs.Portals.{portals_of};
 
 use crate::frame::Frame;
 use crate::hull::Hull;
-use block_evidence::{Evidence, bar_left, bar_right, cover_left, cover_right};
+use block_evidence::{Evidence, bar_left, bar_right};
 use geom_exact::extreme_lines::{Cone, Extreme, Wedge};
 use sight_names::{EndAt, EndPair, Pt, RIGHT_END};
 
@@ -26,16 +26,17 @@ fn ends_of(line: &Extreme) -> EndPair
     }
 }
 
-/// Evidence where a new right end isn't right of the first line, and the second line tells that no line splits it from the
-/// left end of the first.
+/// Evidence where no line splits a new right end from the left end of the first line.
 #[inline(always)]
-fn right_beyond(wedge: &Wedge, new: EndAt) -> Option<Evidence>
+pub fn right_bars(wedge: &Wedge, new: EndAt) -> Option<Evidence>
     requires lines { AreLines (pair_of wedge.now.first) (pair_of wedge.now.second) }
     requires later { wedge.now.first.right.code < new.code }
     requires later_too { wedge.now.second.right.code < new.code }
-    requires beyond { pos 0 ≤ℤ form_at wedge.now.first new.at }
-    ensures { IfSome result (λ e. Picks (ends_and wedge.now new) e) }
+    ensures { IfSome result (λ e. BarsRight (pair_of wedge.now.first) (pair_of wedge.now.second) new × Picks (ends_and wedge.now new) e) }
 {
+    if wedge.first.value(new.at) < 0 {
+        return None;
+    }
     let of_new = wedge.second.value(new.at);
     if of_new >= 0 {
         return None;
@@ -46,16 +47,18 @@ fn right_beyond(wedge: &Wedge, new: EndAt) -> Option<Evidence>
     Some(bar_right(ends_of(&wedge.first), ends_of(&wedge.second), new))
 }
 
-/// The same of a new left end that isn't right of the second line, and the right end of that line.
+/// The same where no line splits a new left end from the right end of the second line.
 #[inline(always)]
-fn left_beyond(wedge: &Wedge, new: EndAt) -> Option<Evidence>
+pub fn left_bars(wedge: &Wedge, new: EndAt) -> Option<Evidence>
     requires lines { AreLines (pair_of wedge.now.first) (pair_of wedge.now.second) }
     requires coded { new.code < RIGHT_END }
     requires later { wedge.now.first.left.code < new.code }
     requires later_too { wedge.now.second.left.code < new.code }
-    requires beyond { pos 0 ≤ℤ form_at wedge.now.second new.at }
-    ensures { IfSome result (λ e. Picks (ends_and wedge.now new) e) }
+    ensures { IfSome result (λ e. BarsLeft (pair_of wedge.now.first) (pair_of wedge.now.second) new × Picks (ends_and wedge.now new) e) }
 {
+    if wedge.second.value(new.at) < 0 {
+        return None;
+    }
     let of_new = wedge.first.value(new.at);
     if of_new >= 0 {
         return None;
@@ -64,42 +67,6 @@ fn left_beyond(wedge: &Wedge, new: EndAt) -> Option<Evidence>
         return None;
     }
     Some(bar_left(ends_of(&wedge.first), ends_of(&wedge.second), new))
-}
-
-/// Evidence where no line splits a new right end from the left end of the first line.
-// of three such ends two have that left end in the triangle of right ends, which one turn alone tells
-#[inline(always)]
-pub fn right_bars(wedge: &Wedge, new: EndAt) -> Option<Evidence>
-    requires lines { AreLines (pair_of wedge.now.first) (pair_of wedge.now.second) }
-    requires later { wedge.now.first.right.code < new.code }
-    requires later_too { wedge.now.second.right.code < new.code }
-    ensures { IfSome result (λ e. Picks (ends_and wedge.now new) e) }
-{
-    if wedge.first.value(new.at) < 0 {
-        return None;
-    }
-    match cover_right(ends_of(&wedge.first), ends_of(&wedge.second), new) {
-        Some(evidence) => Some(evidence),
-        None => right_beyond(wedge, new),
-    }
-}
-
-/// The same where no line splits a new left end from the right end of the second line.
-#[inline(always)]
-pub fn left_bars(wedge: &Wedge, new: EndAt) -> Option<Evidence>
-    requires lines { AreLines (pair_of wedge.now.first) (pair_of wedge.now.second) }
-    requires coded { new.code < RIGHT_END }
-    requires later { wedge.now.first.left.code < new.code }
-    requires later_too { wedge.now.second.left.code < new.code }
-    ensures { IfSome result (λ e. Picks (ends_and wedge.now new) e) }
-{
-    if wedge.second.value(new.at) < 0 {
-        return None;
-    }
-    match cover_left(ends_of(&wedge.first), ends_of(&wedge.second), new) {
-        Some(evidence) => Some(evidence),
-        None => left_beyond(wedge, new),
-    }
 }
 
 /// Evidence that no line splits the ends of these portals and one more, where that one has an end of the last and its other end bars.

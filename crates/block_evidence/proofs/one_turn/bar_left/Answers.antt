@@ -16,4 +16,4 @@ returns c =
     let v = c.turn.ensures.value in
     let s = c.if-turn-le0.false in
     of_five c.args.first c.args.second c.args.new c.args.first.left c.args.second.left c.args.new c.args.second.right _ (inl refl) (inr (inr (inl refl))) (inr (inr (inr (inr (inl refl))))) (inr (inr (inr (inl refl))))
-    (left_by_triangle c.args.first c.args.second c.args.new _ _ c.requires.lines c.requires.bars.coded c.requires.bars.later c.requires.bars.later_too c.requires.bars.beyond_second (omega (arith, ints)) c.in_order-a.ensures)
+    (left_by_triangle c.args.first c.args.second c.args.new _ _ c.requires.lines c.requires.bars (omega (arith, ints)) c.in_order-a.ensures)

@@ -1,22 +1,29 @@
-use Rattle.std.proofs.Common.{[], ◌∷◌, Option, pos, ◌≤ℤ◌, sym, arith, subst, subst₂}
-use Rattle.std.specs.Prelude.{IfSome}
+use Rattle.std.proofs.Common.{[], ◌∷◌, sym, arith, subst₂}
 use Rattle.std.proofs.lemmas.Int.{ints}
 use Rattle.sight_names.specs.declared.names.EndPair.{EndPair}
-use Rattle.block_evidence.specs.declared.Evidence.{Evidence}
-use Rattle.block_evidence.specs.OneTurn.{AreLines, says}
+use Rattle.block_evidence.specs.OneTurn.{BarsLeft}
 use Rattle.block_evidence.specs.Picked.{Picks}
-use Rattle.stab_hull.specs.Barred.{ends_and}
 use Rattle.stab_hull.proofs.bars.left_bars.Goals as goal
 
-pub cover_left-requires-clause-lines : goal.cover_left-requires-clause-lines
-cover_left-requires-clause-lines c = subst₂ (λ (f s : EndPair). AreLines f s) (sym c.ends_of.ensures) (sym c.ends_of-2.ensures) c.requires.lines
+pub bar_left-requires-clause-bars : goal.bar_left-requires-clause-bars
+bar_left-requires-clause-bars c = subst₂ (λ (f s : EndPair). BarsLeft f s c.args.new) (sym c.ends_of.ensures) (sym c.ends_of-2.ensures) (record {
+  coded = c.requires.coded;
+  later = c.requires.later;
+  later_too = c.requires.later_too;
+  beyond_second = (let v = c.value.ensures.value in let t = c.if-value-lt0.false in omega (arith, ints));
+  beyond_first = (let v = c.value-of_new.ensures.value in let t = c.if-of_new-ge0.false in omega (arith, ints));
+  far = (let v = c.value-of_new.ensures.value in let u = c.value-2.ensures.value in let t = c.if-of_new-value.false in omega (arith, ints));
+})
 
-pub cover_left-requires-clause-beyond : goal.cover_left-requires-clause-beyond
-cover_left-requires-clause-beyond c = subst (λ (f : EndPair). pos 0 ≤ℤ says f c.args.new.at) (sym c.ends_of-2.ensures) (let v = c.value.ensures.value in let t = c.if-value-lt0.false in omega (arith, ints))
-
-pub left_beyond-requires-clause-beyond : goal.left_beyond-requires-clause-beyond
-left_beyond-requires-clause-beyond c = let v = c.value.ensures.value in let t = c.if-value-lt0.false in omega (arith, ints)
-
-pub returns-in-Some : goal.returns-in-Some
-returns-in-Some c = subst (λ (o : Option Evidence). IfSome o (λ e. Picks (ends_and c.args.wedge.now c.args.new) e)) c.in-Some.is
-    (subst₂ (λ (f s : EndPair). IfSome c.cover_left.result (λ e. Picks (f.left ∷ f.right ∷ s.left ∷ s.right ∷ c.args.new ∷ []) e)) c.ends_of.ensures c.ends_of-2.ensures c.cover_left.ensures)
+pub returns : goal.returns
+returns c = (
+  record {
+    coded = c.requires.coded;
+    later = c.requires.later;
+    later_too = c.requires.later_too;
+    beyond_second = (let v = c.value.ensures.value in let t = c.if-value-lt0.false in omega (arith, ints));
+    beyond_first = (let v = c.value-of_new.ensures.value in let t = c.if-of_new-ge0.false in omega (arith, ints));
+    far = (let v = c.value-of_new.ensures.value in let u = c.value-2.ensures.value in let t = c.if-of_new-value.false in omega (arith, ints));
+  },
+  subst₂ (λ (f s : EndPair). Picks (f.left ∷ f.right ∷ s.left ∷ s.right ∷ c.args.new ∷ []) c.bar_left.result) c.ends_of.ensures c.ends_of-2.ensures c.bar_left.ensures,
+)
