@@ -1,6 +1,6 @@
 -- The answers of the orders that audit a map.
 use Rattle.std.proofs.Common.{◌≡◌, ◌↔◌, List, [], ◌∷◌, Result, Ok, Err, sym, ◌∙◌, refl, ap, suc, subst, length, filter_map, map, option_map, Option, Some, None, Bool, true, false}
-use Rattle.std.specs.Prelude.{IsOk, ⊤}
+use Rattle.std.specs.Prelude.{IsOk}
 use Rattle.sight_names.specs.declared.faults.LineFault.{LineFault}
 use Rattle.sight_names.specs.Map.{Map}
 use Rattle.sight_names.specs.Sound.{LinesMeetAtEnds}
@@ -9,7 +9,6 @@ use Rattle.map_answers.specs.declared.sight_status.status.Flaw.TheVariants as fl
 use Rattle.map_answers.specs.declared.sight_status.status.Status.{Status}
 use Rattle.map_answers.specs.declared.sight_status.status.Status.TheVariants as status
 use Rattle.map_answers.specs.SightStatus.Answer.{Answer, Gives}
-use Rattle.map_answers.specs.Input.{LocatedMap, OnFound}
 use Rattle.map_answers.specs.Sound.{HasLineFault, HasSoundLines, OnSoundLines}
 
 -- ---- the exact audit of lines
@@ -58,10 +57,6 @@ gives_line_fault m Sole Called f h = record { called = h.is; only = λ sole. onl
 abbrev pub IsPastAudit : Result Answer Status → Type 0
 IsPastAudit (Err (status.BadMap fault)) = ⊥
 IsPastAudit answer = Unit {0}
-
--- an answer to the map that was found
-pub gives_found : (Called : LocatedMap → Result Answer Status → Type 0) (found : LocatedMap) (said : Result LocatedMap Status) (r : Result Answer Status) → said ≡ Ok found → Gives ⊤ (Called found) r → Gives ⊤ (OnFound said Called) r
-gives_found Called found said r e h = rw e h
 
 -- ---- the number of lines
 

@@ -33,39 +33,11 @@ making_unstored status.Done h = absurd h
 making_unstored (status.WriteFault k) h = absurd h
 making_unstored s h = tt
 
-pub reading_unstored : (s : Status) → IsOfReading s → IsUnstored s
-reading_unstored status.Done h = absurd h
-reading_unstored (status.WriteFault k) h = absurd h
-reading_unstored s h = tt
-
 pub build_unheard : (Are : List Finding → Type 0) (heard : Heard) (s : Status) → IsUnheard heard → IsUnstored s → BuildHears Are heard s
 build_unheard Are heard status.Done h early = absurd early
 build_unheard Are heard (status.WriteFault k) h early = absurd early
 build_unheard Are heard status.Memory h early = inl h
 build_unheard Are heard s h early = h
-
--- ---- findings of a narrower kind
-
-all_wider : (Are More : List Finding → Type 0) (heard : Heard) → ((fs : List Finding) → Are fs → More fs) → AllHeard Are heard → AllHeard More heard
-all_wider Are More heard f h = (h.0, f h.0 h.1, h.2, h.3)
-
-fronts_wider : (Are More : List Finding → Type 0) (heard : Heard) → ((fs : List Finding) → Are fs → More fs) → FrontsHeard Are heard → FrontsHeard More heard
-fronts_wider Are More heard f h = (h.0, f h.0 h.1, h.2)
-
-pub build_wider : (Are More : List Finding → Type 0) (heard : Heard) (s : Status) → ((fs : List Finding) → Are fs → More fs) → BuildHears Are heard s → BuildHears More heard s
-build_wider Are More heard status.Done f h = all_wider Are More heard f h
-build_wider Are More heard (status.WriteFault role.Text) f (inl h) = inl h
-build_wider Are More heard (status.WriteFault role.Text) f (inr h) = inr (all_wider Are More heard f h)
-build_wider Are More heard (status.WriteFault k) f h = all_wider Are More heard f h
-build_wider Are More heard status.Memory f (inl h) = inl h
-build_wider Are More heard status.Memory f (inr h) = inr (fronts_wider Are More heard f h)
-build_wider Are More heard s f h = h
-
--- the findings of a map that was found are those that the files tell
-pub found_in_files : (files : Option Files) (wad : Source) (name : List ℕ) (method : Method) (found : LocatedMap) → ((told : Files) → files ≡ Some told → found_of wad name told ≡ Ok found)
-    → (fs : List Finding) → AreFindingsOf found.map method fs → AreFindingsIn files wad name method fs
-found_in_files None wad name method found told fs h = tt
-found_in_files (Some files) wad name method found told fs h = subst (λ (r : Result LocatedMap Status). AreOfFound r method fs) (sym (told files refl)) h
 
 -- ---- an output couldn't be stored
 
@@ -144,8 +116,3 @@ module _ (asked : Result Order Status) (files : Option Files) (heard : Heard) (o
 -- .. where the files are told
 pub hears_in : (asked : Result Order Status) (told : Option Files) (files : Files) (heard : Heard) (s : Status) → told ≡ Some files → Hears asked told heard s → Hears asked (Some files) heard s
 hears_in asked told files heard s e h = subst (λ (o : Option Files). Hears asked o heard s) e h
-
--- .. and by the same name
-pub build_named : (files : Option Files) (wad : Source) (name other_name : List ℕ) (method : Method) (heard : Heard) (s : Status) → name ≡ other_name
-    → BuildHears (AreFindingsIn files wad name method) heard s → BuildHears (AreFindingsIn files wad other_name method) heard s
-build_named files wad name other_name method heard s e h = subst (λ (n : List ℕ). BuildHears (AreFindingsIn files wad n method) heard s) e h

@@ -14,13 +14,12 @@ use Rattle.map_answers.specs.declared.sight_status.status.Flaw.TheVariants as fl
 use Rattle.map_answers.specs.declared.sight_status.status.Status.{Status}
 use Rattle.map_answers.specs.declared.sight_status.status.Status.TheVariants as status
 use Rattle.map_answers.specs.SightStatus.Answer.{Answer, Gives}
-use Rattle.map_answers.specs.Input.{LocatedMap, OnFound}
+use Rattle.map_answers.specs.Input.{LocatedMap}
 use Rattle.map_answers.proofs.Flaws.{one_side}
 use Rattle.whole_wad.proofs.OneTable.{one_table}
 use Rattle.sight_run.specs.Build.{BuildCalls, IsUnbuildable, ShowsBuild, ShowsLimit, build_line, build_writes}
 use Rattle.sight_run.specs.Heard.{Heard}
-use Rattle.sight_run.specs.Obeys.{IsDetermined, Obeys}
-use Rattle.sight_run.specs.Reading.{found_of}
+use Rattle.sight_run.specs.Obeys.{CallsOn, HasOneOn}
 use Rattle.sight_run.specs.Zero.{with_table}
 use Rattle.sight_run.proofs.OneLine.{one_count, one_wad}
 
@@ -64,19 +63,16 @@ module _ (name out : List ℕ) (method : Method) (heard : Heard) (found : Locate
   one_answer (Err (status.Limit bound)) (Err s) p q = absurd q
   one_answer (Err s) other p q = absurd p
 
-one_of_found : (name out : List ℕ) (method : Method) (heard : Heard) (said : Result LocatedMap Status) (one other : Result Answer Status) → OnFound said (BuildCalls name out None None method heard) one → OnFound said (BuildCalls name out None None method heard) other → other ≡ one
-one_of_found name out method heard (Ok found) one other p q = one_answer name out method heard found one other p q
-one_of_found name out method heard (Err s) one other p q = q ∙ sym p
+module _ (name out : List ℕ) (method : Method) (heard : Heard) (found : LocatedMap) where
+  plain_gives : (r : Result Answer Status) → Gives (IsUnbuildable (Ok found)) (BuildCalls name out None None method heard found) r → Gives ⊤ (BuildCalls name out None None method heard found) r
+  plain_gives (Err status.Memory) h = tt
+  plain_gives (Err (status.ReadFault k)) h = tt
+  plain_gives r h = record { called = h.called; only = λ sole other q. one_answer name out method heard found r other h.called q }
 
-plain_gives : (name out : List ℕ) (method : Method) (heard : Heard) (said : Result LocatedMap Status) (r : Result Answer Status) → Gives (IsUnbuildable said) (OnFound said (BuildCalls name out None None method heard)) r → Gives ⊤ (OnFound said (BuildCalls name out None None method heard)) r
-plain_gives name out method heard said (Err status.Memory) h = tt
-plain_gives name out method heard said (Err (status.ReadFault k)) h = tt
-plain_gives name out method heard said r h = record { called = h.called; only = λ sole other q. one_of_found name out method heard said r other h.called q }
-
--- what is given for a build is given for its order
-pub gives_build : (wad : Source) (name out : List ℕ) (cert report : Option (List ℕ)) (workers : ℕ) (method : Method) (files : Files) (heard : Heard) (r : Result Answer Status)
-    → Gives (IsUnbuildable (found_of wad name files)) (OnFound (found_of wad name files) (BuildCalls name out cert report method heard)) r
-    → Gives (IsDetermined (order.Build wad name out cert report workers method) files) (Obeys (order.Build wad name out cert report workers method) files heard) r
-gives_build wad name out None None workers method files heard r h = plain_gives name out method heard (found_of wad name files) r h
-gives_build wad name out None (Some report) workers method files heard r h = h
-gives_build wad name out (Some cert) report workers method files heard r h = h
+-- what is given for a build of a map is given for its order
+pub gives_build : (wad : Source) (name out : List ℕ) (cert report : Option (List ℕ)) (workers : ℕ) (method : Method) (files : Files) (heard : Heard) (found : LocatedMap) (r : Result Answer Status)
+    → Gives (IsUnbuildable (Ok found)) (BuildCalls name out cert report method heard found) r
+    → Gives (HasOneOn (order.Build wad name out cert report workers method) (Ok found)) (CallsOn (order.Build wad name out cert report workers method) files heard found) r
+gives_build wad name out None None workers method files heard found r h = plain_gives name out method heard found r h
+gives_build wad name out None (Some report) workers method files heard found r h = h
+gives_build wad name out (Some cert) report workers method files heard found r h = h

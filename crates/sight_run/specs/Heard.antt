@@ -72,6 +72,11 @@ abbrev pub OrderHears : Order → Option Files → Heard → Status → Type 0
 OrderHears (order.Build wad name out cert report workers method) files heard s = BuildHears (AreFindingsIn files wad name method) heard s
 OrderHears asked files heard s = IsUnheard heard
 
+-- what an order's listeners heard once its map was found
+abbrev pub HearsOn : Order → LocatedMap → Heard → Status → Type 0
+HearsOn (order.Build wad name out cert report workers method) found heard s = BuildHears (AreFindingsOf found.map method) heard s
+HearsOn asked found heard s = IsUnheard heard
+
 -- the listeners of a run that ends with this status
 abbrev pub Hears : Result Order Status → Option Files → Heard → Status → Type 0
 Hears (Ok asked) files heard s = OrderHears asked files heard s

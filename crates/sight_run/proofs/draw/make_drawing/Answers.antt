@@ -1,0 +1,15 @@
+use Rattle.std.proofs.Common.{Ok, sym, subst}
+use Rattle.std.proofs.lemmas.Result.{err_from_is_err_and}
+use Rattle.map_answers.specs.SightStatus.Answer.{Answer, Gives}
+use Rattle.map_answers.specs.Views.{found}
+use Rattle.sight_run.specs.Draw.{DrawCalls, HasOneDrawing}
+use Rattle.sight_run.proofs.draw.make_drawing.Goals as goal
+
+pub returns-in_err-drawn-clause-called : goal.returns-in_err-drawn-clause-called
+returns-in_err-drawn-clause-called c =
+    let p = err_from_is_err_and c.from_residual.result c.from_residual.ensures.1 in
+    rw (p.1, p.2) (c.in_err-drawn.ensures.judged c.args.out.now)
+
+pub returns-in-Ok-clause-called : goal.returns-in-Ok-clause-called
+returns-in-Ok-clause-called c =
+    subst (λ (answer : Answer). Gives (HasOneDrawing c.args.view (Ok (found c.args.input.now))) (DrawCalls c.args.name.now c.args.out.now c.args.view (found c.args.input.now)) (Ok answer)) (sym c.in-Ok.ensures) (c.in_ok-drawn.ensures.judged c.args.out.now)

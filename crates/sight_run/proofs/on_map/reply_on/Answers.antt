@@ -1,0 +1,28 @@
+use native.Mathlib.Omega.{arith}
+use Rattle.std.proofs.Common.{[], refl}
+use Rattle.map_answers.specs.Views.{found}
+use Rattle.sight_run.proofs.Building.{gives_plain}
+use Rattle.sight_run.proofs.OnMap.{alone_of, gives_alone, past_cause, past_unstored, unheard_alone}
+use Rattle.sight_run.proofs.OneBuild.{gives_build}
+use Rattle.sight_run.proofs.on_map.reply_on.Goals as goal
+
+pub returns-in-Check-clause-told : goal.returns-in-Check-clause-told
+returns-in-Check-clause-told g c = rw c.in-Check.is (λ files e. gives_plain _ _ [] _ ((rw c.as_str.ensures at c.check_on.ensures.told) files e))
+
+pub returns-in-Build-clause-told : goal.returns-in-Build-clause-told
+returns-in-Build-clause-told g c = rw c.in-Build.is (λ files e. gives_build c.in-Build.wad _ _ _ _ c.in-Build.workers _ files _ _ _ ((rw (c.as_str-in-Build.ensures, c.as_str-in-Build-2.ensures) at c.build_on.ensures.called) _))
+
+pub returns-in_default : goal.returns-in_default
+returns-in_default g c =
+    let alone = alone_of c.args.order.now c.requires.asks (λ wad name cert e. c.in_default.not-Check wad name cert e) (λ wad name out cert report workers method e. c.in_default.not-Build wad name out cert report workers method e) in
+    record {
+      told = λ files e. gives_alone c.args.order.now _ _ _ _ alone (c.answer_on.ensures.called files _);
+      heard = unheard_alone c.args.order.now (found c.args.input.now) _ _ alone refl;
+      files = refl;
+      counts = record { read_faults = omega arith; write_faults = omega arith; absents = omega arith };
+      cause = past_cause _ c.answer_on.result c.answer_on.ensures.past;
+      refusals = c.answer_on.ensures.refusals;
+      early = past_unstored c.answer_on.result c.answer_on.ensures.past;
+      proper = c.answer_on.ensures.proper;
+      roles = c.answer_on.ensures.roles;
+    }
