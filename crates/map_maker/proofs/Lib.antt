@@ -1,3 +1,4 @@
 pub mod Small
 pub mod Printing
 pub mod Whole
+pub mod Hashed

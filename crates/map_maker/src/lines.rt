@@ -6,7 +6,7 @@ ghost use Rattle.map_maker.specs.Lines.{at_place, line, wall_lines, room_sector,
 use std::alloc::{AllocError, Global};
 
 /// A point of the map.
-#[derive(Clone, Copy, Debug, PartialEq, Eq)]
+#[derive(Clone, Copy, Debug, PartialEq, Eq, Hash)]
 pub struct Spot {
     pub x: usize,
     pub y: usize,

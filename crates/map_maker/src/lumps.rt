@@ -6,6 +6,7 @@ ghost use Rattle.map_maker.specs.Lumps.{short, linedef, linedefs_from, sidedef, 
 use crate::lines::{Line, Spot};
 use crate::points::place;
 use byteorder::{ByteOrder, LittleEndian};
+use indexmap::IndexSet;
 use std::alloc::{AllocError, Global};
 
 const TEXTURE: [u8; 8] = *b"-\0\0\0\0\0\0\0";
@@ -50,12 +51,12 @@ fn left_number(side: usize, left: Option<usize>) -> usize
 #[tactic(auto, unfolding(crate::specs::Lumps::linedef))]
 fn push_linedef(
     out: &mut Vec<u8>,
-    points: &[Spot],
+    points: &IndexSet<Spot>,
     side: usize,
     line: &Line,
 ) -> Result<(), AllocError>
     requires { side ≤ 2 ^ 62 }
-    ensures { OnOk result (out.new.items ≡ out.old.items ++ linedef points.now side line.now) }
+    ensures { OnOk result (out.new.items ≡ out.old.items ++ linedef points.now.keys side line.now) }
 {
     push_short(out, place(points, line.from))?;
     push_short(out, place(points, line.to))?;
@@ -67,8 +68,12 @@ fn push_linedef(
 }
 
 /// The records of the lines, whose sides are numbered in their order.
-pub fn linedefs(alloc: Global, points: &[Spot], lines: &[Line]) -> Result<Vec<u8>, AllocError>
-    ensures { IfOk result (λ v. v.items ≡ linedefs_from points.now 0 lines.now) }
+pub fn linedefs(
+    alloc: Global,
+    points: &IndexSet<Spot>,
+    lines: &[Line],
+) -> Result<Vec<u8>, AllocError>
+    ensures { IfOk result (λ v. v.items ≡ linedefs_from points.now.keys 0 lines.now) }
 {
     let mut out = Vec::new(alloc);
     let mut side = 0;

@@ -122,7 +122,7 @@ fn parts_of(alloc: Global, n: usize) -> Result<Parts, AllocError>
     Ok(Parts {
         linedefs: linedefs(alloc, &points, &lines)?,
         sidedefs: sidedefs(alloc, &lines)?,
-        vertexes: vertexes(alloc, &points)?,
+        vertexes: vertexes(alloc, points.as_slice())?,
         sectors: zeros(alloc, 26 * sectors(n))?,
     })
 }
