@@ -4,7 +4,6 @@ pub mod FieldLaws
 pub mod RecordLaws
 pub mod KindLaws
 pub mod TreeLaws
-pub mod NodeStretch
 pub mod CountLaws
 pub mod LimitLaws
 pub mod WholeLaws

@@ -45,10 +45,6 @@ begins_at total bytes = total - length bytes
 abbrev pub passed : {X : Type 0} → Bool → CertFault → X → Result X CertFault
 passed b fault x = if b then Ok x else Err fault
 
--- what is left behind what was read
-abbrev pub behind : {X : Type 0} → Result (X × List ℕ) CertFault → Result (List ℕ) CertFault
-behind read = read >>= λ x. Ok x.1
-
 -- ---- fields: a value, and the bytes behind it
 
 abbrev pub number_at : Width → ℕ → List ℕ → Result (ℕ × List ℕ) CertFault

@@ -17,5 +17,6 @@ pub use fields::{group_count, version_of};
 pub use groups::groups_of;
 pub use laws::one_spelling;
 pub use printer::AnyPrinter;
-pub use reading::{behind_sizes, front_two_of, read_any};
+pub use reading::{behind_sizes, front_two_of};
 pub use writing::print_any;
+pub(crate) use writing::{all_pieces, room_of};

@@ -18,5 +18,4 @@ pub use cert::{Cert, Counts, Labelled, Sizes};
 pub use laws::one_spelling;
 pub use limit::most_triangles;
 pub use pieces::Printer;
-pub use reading::read;
 pub use writing::print;

@@ -1,5 +1,4 @@
 pub mod NodesLaws
-pub mod TreesLoop
 pub mod TreesLaws
 pub mod HeaderLaws
 pub mod GroupTrees

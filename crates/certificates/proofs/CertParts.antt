@@ -9,3 +9,4 @@ pub mod State
 pub mod Stretches
 pub mod FromBeginning
 pub mod EitherVersion
+pub mod Gathering

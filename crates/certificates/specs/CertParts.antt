@@ -3,3 +3,4 @@ pub mod Left
 pub mod Steps
 pub mod Nodes
 pub mod Beginning
+pub mod Gathered

@@ -7,15 +7,11 @@ mod cert;
 pub mod fields;
 mod front;
 mod laws;
-mod nodes;
 mod printer;
 mod ranges;
-mod reading;
 mod spelled;
 mod tree_pieces;
-mod trees;
 
 pub use cert::{CountsThree, ExactParts};
-pub use laws::one_spelling;
+pub use laws::{one_spelling, reads_what_is_spelled};
 pub use printer::ExactPrinter;
-pub use reading::read_exact;

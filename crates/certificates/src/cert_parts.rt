@@ -3,12 +3,14 @@
 
 mod awaited;
 mod beginning;
+mod gathered;
 mod kept;
 mod part;
 mod reader;
 mod records;
 
 pub use beginning::{Beginning, beginning_of};
+pub(crate) use gathered::{Gathered, gather};
 pub use part::Part;
 pub use reader::Reader;
 pub use records::{node_of, pass_nodes, usual_node};

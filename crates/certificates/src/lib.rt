@@ -6,6 +6,8 @@ pub mod cert_parts;
 mod certificate;
 pub mod exact_parts;
 mod printer;
+mod reading;
 
 pub use certificate::Certificate;
 pub use printer::Printer;
+pub use reading::{read, read_any};

@@ -4,9 +4,10 @@ ghost use Rattle.std.specs.Prelude.{◌≤◌, length};
 
 use crate::rows::part;
 use block_evidence::sight_tree::Tree;
-use cert_format::cert_groups::{AnyCert, read_any};
+use cert_format::cert_groups::AnyCert;
 use cert_format::{Cert, Sizes};
 use certificates::cert_parts::{Beginning, Part, Reader, beginning_of};
+use certificates::read_any;
 use sight_names::{CertFault, Pair};
 use std::alloc::{AllocError, Global};
 use std::test::Fail;

@@ -7,9 +7,10 @@ ghost use Rattle.sight_names.specs.Sound.{LinesMeetAtEnds};
 ghost use Rattle.cert_format.specs.CertGroups.Grammar.{IsAnyInOrder, sizes_of};
 
 use crate::rows::part;
-use cert_format::cert_groups::{AnyCert, print_any, read_any};
+use cert_format::cert_groups::{AnyCert, print_any};
 use cert_format::{Sizes, print};
 use cert_judge::{Judge, Judged};
+use certificates::read_any;
 use group_checker::check_workers::check_any_par;
 use map_answers::find_in;
 use map_audit::audit_lines;

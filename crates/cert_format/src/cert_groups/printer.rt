@@ -29,7 +29,7 @@ impl<'a> Model for AnyPrinter<'a> {
 
 impl<'a> AnyPrinter<'a> {
     /// Before the first piece of a certificate of version 1: all is behind an empty front.
-    fn of_one(cert: &'a Cert) -> AnyPrinter<'a>
+    pub fn of_one(cert: &'a Cert) -> AnyPrinter<'a>
         ensures { SpellsAny cert.now.sizes result (One cert.now) }
     {
         let front = Front {

@@ -1,6 +1,6 @@
 //! The whole spelling of a certificate of either version.
 
-ghost use Rattle.std.specs.Prelude.{◌≡◌, [], IfOk};
+ghost use Rattle.std.specs.Prelude.{◌≡◌, IfOk};
 ghost use Rattle.cert_format.specs.CertGroups.Grammar.{IsAnyInOrder, SpellsAny, sizes_of};
 
 use crate::Cert;
@@ -10,7 +10,7 @@ use sight_names::Memory;
 use std::alloc::Global;
 
 /// How many bytes the records of this part take, at most; without the groups and pairs of version 2.
-fn room_of(cert: &Cert) -> usize {
+pub fn room_of(cert: &Cert) -> usize {
     let records = cert.triangles().len() + cert.rays().len() + cert.listed().len();
     let mut room = records.saturating_mul(24).saturating_add(30);
     for tree in cert.trees() {
@@ -36,11 +36,20 @@ fn room_for(cert: &AnyCert) -> usize {
     }
 }
 
-/// An empty list with room for the spelling. A list that grows would leave holes of its former sizes behind.
-fn with_room(alloc: Global, cert: &AnyCert) -> Result<Vec<u8>, Memory>
-    ensures { IfOk result (λ v. v.items ≡ []) }
+/// All pieces, one behind the other, which take so many bytes at most. A list that grows would leave holes of its former
+/// sizes behind.
+pub fn all_pieces(alloc: Global, room: usize, printer: AnyPrinter<'_>) -> Result<Vec<u8>, Memory>
+    ensures { IfOk result (λ v. v.items ≡ printer.entry) }
 {
-    Ok(Vec::with_capacity(alloc, room_for(cert))?)
+    let mut out = Vec::with_capacity(alloc, room)?;
+    let mut left = printer;
+    let mut piece = [0; 4096];
+    let mut count = left.next(&mut piece);
+    while count > 0 {
+        out.extend_from_slice(&piece[..count])?;
+        count = left.next(&mut piece);
+    }
+    Ok(out)
 }
 
 /// The one spelling of the certificate. One of version 2 has its ranges and orders.
@@ -48,13 +57,5 @@ pub fn print_any(alloc: Global, cert: &AnyCert) -> Result<Vec<u8>, Memory>
     requires { IsAnyInOrder cert.now }
     ensures { IfOk result (λ v. SpellsAny (sizes_of cert.now) v.items cert.now) }
 {
-    let mut out = with_room(alloc, cert)?;
-    let mut printer = AnyPrinter::new(cert);
-    let mut piece = [0; 4096];
-    let mut count = printer.next(&mut piece);
-    while count > 0 {
-        out.extend_from_slice(&piece[..count])?;
-        count = printer.next(&mut piece);
-    }
-    Ok(out)
+    all_pieces(alloc, room_for(cert), AnyPrinter::new(cert))
 }

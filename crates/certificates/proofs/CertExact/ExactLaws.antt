@@ -1,15 +1,14 @@
 -- The two laws of the grammar of version 3: what is read is spelled so, and what is spelled so is read.
-use Rattle.std.proofs.Common.{◌≡◌, ℕ, ◌+◌, ◌<◌, ◌≤◌, ◌^◌, List, [], ◌++◌, length, Some, None, Result, Ok, Err, IfOk, refl, sym, ap, subst, ◌∙◌, append_assoc, arith, codes}
+use Rattle.std.proofs.Common.{◌≡◌, ℕ, ◌+◌, ◌<◌, ◌≤◌, ◌^◌, List, [], ◌++◌, length, Some, None, Ok, refl, sym, ap, subst, ◌∙◌, append_assoc, arith, codes}
 use Rattle.std.specs.List.{flat_map, AllByRecursion}
 use Rattle.std.proofs.lemmas.Bool.{eqb-true}
 use Rattle.std.proofs.lemmas.List.{append-nil, nil_from_length}
 use Rattle.sight_names.specs.Limits.{most_triangles}
-use Rattle.sight_names.specs.declared.faults.CertFault.{CertFault}
 use Rattle.block_evidence.specs.declared.sight_tree.Node.{Node}
 use Rattle.block_evidence.specs.SightTree.Spelling.{u16}
 use Rattle.cert_format.specs.declared.cert.Sizes.{Sizes}
 use Rattle.cert_format.specs.Grammar.{AreSmall, IsInOrder, FitsFields, u64, triangle_bytes, ray_bytes}
-use Rattle.cert_format.specs.Reading.{Gives, triangle_at, ray_at}
+use Rattle.cert_format.specs.Reading.{triangle_at, ray_at}
 use Rattle.cert_format.proofs.FieldLaws.{IsBytes, bind_ok, passed_ok, Takes, Takes-then}
 use Rattle.cert_format.proofs.RecordLaws.{records_take, records_again, ascends_of_chain, chain_of_ascends}
 use Rattle.cert_format.proofs.KindLaws.{FitsLabelled, TriangleAfter, triangle_takes, triangle_again, FitsPairRay, RayAfter, ray_takes, ray_again}
@@ -161,14 +160,3 @@ exact_again sizes bytes c s =
     subst (λ (z : Sizes). exact_at z bytes ≡ Ok c) s.sized (subst (λ (b : List ℕ). exact_at c.sizes b ≡ Ok c) (sym s.spelled) here)
 
 -- ---- what the call answers
-
-pub found_of : (sizes : Sizes) (bytes : List ℕ) (r : Result ExactParts CertFault) → AreSmall sizes → IsBytes bytes → Gives (λ c. c) r (exact_at sizes bytes) → IfOk r (λ c. SpellsThree sizes bytes c)
-found_of sizes bytes (Ok c) small fits h = exact_takes sizes bytes c small fits h
-found_of sizes bytes (Err e) small fits h = tt
-
-pub only_of : (sizes : Sizes) (bytes : List ℕ) (r : Result ExactParts CertFault) (c : ExactParts) → Gives (λ d. d) r (exact_at sizes bytes) → SpellsThree sizes bytes c → Gives (λ d. d) r (Ok c)
-only_of sizes bytes r c h s = subst (λ (x : Result ExactParts CertFault). Gives (λ d. d) r x) (exact_again sizes bytes c s) h
-
-pub in_order_of : (sizes : Sizes) (bytes : List ℕ) (r : Result ExactParts CertFault) → IfOk r (λ c. SpellsThree sizes bytes c) → IfOk r (λ c. IsTwoInOrder c.sizes (as_two c))
-in_order_of sizes bytes (Ok c) h = subst (λ (z : Sizes). IsTwoInOrder z (as_two c)) (sym h.sized) h.in_order
-in_order_of sizes bytes (Err e) h = tt

@@ -42,10 +42,6 @@ nodes_to_end (suc n) total (b ∷ bytes) = do
   others ← nodes_to_end n total node.1
   Ok (node.0 ∷ others)
 
--- how many nodes were read
-abbrev pub how_many : Result (List Node) CertFault → Result ℕ CertFault
-how_many read = read >>= λ ns. Ok (length ns)
-
 -- the nodes in so many bytes. One that reaches past the end of its tree isn't whole, nor is the one behind the last byte of all, where
 -- the tree takes more bytes than there are
 unfoldable pub tree_at : ℕ → ℕ → List ℕ → Result (List Node × List ℕ) CertFault

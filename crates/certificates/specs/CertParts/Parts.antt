@@ -2,6 +2,7 @@
 use Rattle.std.specs.Prelude.{ℕ, List, ◌∷◌, ◌++◌, map, length, flat_map, Option, Some, None, Result, Ok}
 use Rattle.sight_names.specs.declared.faults.CertFault.{CertFault}
 use Rattle.block_evidence.specs.declared.sight_tree.Tree.{Tree}
+use Rattle.block_evidence.specs.SightTree.Spelling.{IsPackable}
 use Rattle.cert_format.specs.declared.cert.Sizes.{Sizes}
 use Rattle.cert_format.specs.Parts.{CertParts}
 use Rattle.cert_format.specs.Reading.{◌>>=◌, reading}
@@ -23,6 +24,11 @@ parts_of c = map (λ t. parts.Triangle t) c.triangles ++ (map (λ r. parts.Ray r
 -- the parts of the certificate that all of the bytes spell, or the first fault
 abbrev pub reading_parts : Sizes → List ℕ → Result (List Part) CertFault
 reading_parts sizes bytes = reading sizes bytes >>= λ c. Ok (parts_of c)
+
+-- nothing of a node is lost where it is kept as its spelling
+abbrev pub IsPackablePart : Part → Type 0
+IsPackablePart (parts.Node n) = IsPackable n
+IsPackablePart part = Unit {0}
 
 -- ---- of either version
 

@@ -1,13 +1,12 @@
 //! The fields of the header that other versions don't have: version 3, and the counts of its records.
 
-ghost use Rattle.cert_format.specs.Reading.{GivesExactly, triangle_count_at};
+ghost use Rattle.cert_format.specs.Reading.{GivesExactly};
 ghost use Rattle.certificates.specs.CertExact.Reading.{version_at, counts_at};
 
 use crate::cert_exact::cert::CountsThree;
 use cert_format::cert_groups::group_count;
-use cert_format::fields::{place, u16_at, u32_at};
-use cert_format::most_triangles;
-use cert_format::reading::MAGIC;
+use cert_format::fields::{u16_at, u32_at};
+use cert_format::reading::{MAGIC, triangle_count};
 use sight_names::CertFault;
 
 /// The bytes behind the magic and the version, which is 3.
@@ -24,21 +23,6 @@ pub fn behind_version(total: usize, bytes: &[u8]) -> Result<&[u8], CertFault>
         return Err(CertFault::BadVersion);
     }
     Ok(rest)
-}
-
-/// How many triangles there are, at most as many as a map of so many points may have.
-#[tactic(auto, unfolding(cert_format::specs::Reading::triangle_count_at))]
-fn triangle_count(points: u16, total: usize, bytes: &[u8]) -> Result<(u32, &[u8]), CertFault>
-    ensures { GivesExactly (λ x. (x.0, x.1.now)) result (triangle_count_at points total bytes.now) }
-{
-    let (number, rest) = u32_at(total, bytes)?;
-    if number as usize <= most_triangles(points) {
-        Ok((number, rest))
-    } else {
-        Err(CertFault::OutOfRange {
-            at: place(total, bytes),
-        })
-    }
 }
 
 /// How many records there are of each kind, for a map of so many points.

@@ -1,6 +1,6 @@
 //! What the types of a tree's nodes say of them: that they fit their fields, and how many bytes there are at most.
 
-ghost use Rattle.std.specs.Prelude.{ℕ, ◌<◌, ◌^◌, List, length};
+ghost use Rattle.std.specs.Prelude.{◌<◌, ◌^◌, List, length};
 ghost use Rattle.std.specs.List.{AllByRecursion};
 ghost use Rattle.block_evidence.specs.declared.sight_tree.Node.{Node};
 ghost use Rattle.block_evidence.specs.SightTree.Spelling.{FitsNode};

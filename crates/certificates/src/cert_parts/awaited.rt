@@ -1,7 +1,8 @@
 //! The records that are still to come, and the one that comes first taken from its bytes.
 
-ghost use Rattle.std.specs.Prelude.{◌≡◌, ◌<◌, ◌++◌, OnErr};
+ghost use Rattle.std.specs.Prelude.{◌≡◌, ◌<◌, ◌++◌, IfOk, IfSome, OnErr};
 ghost use Rattle.cert_format.specs.Reading.{GivesExactly};
+ghost use Rattle.certificates.specs.CertParts.Parts.{IsPackablePart};
 ghost use Rattle.certificates.specs.CertParts.Steps.{none_read, two_awaited, is_done, is_in_tree, header_step, triangle_step, ray_step, pair_step, node_step, head_step, first_at, first_width, width_at};
 
 use crate::cert_parts::part::Part;
@@ -137,6 +138,7 @@ impl Awaited {
         bytes: &'a [u8],
     ) -> Result<(Option<Part>, &'a [u8]), CertFault>
         ensures read { GivesExactly (λ x. ((x.0, self.new), x.1.now)) result (header_step self.old total bytes.now) }
+        ensures node { IfOk result (λ x. IfSome x.0 IsPackablePart) }
         ensures err { OnErr result (self.new ≡ self.old) }
     {
         let rest = front_of(self.sizes, total, bytes)?;
@@ -166,6 +168,7 @@ impl Awaited {
     ) -> Result<(Option<Part>, &'a [u8]), CertFault>
         requires { 0 < self.old.triangles }
         ensures read { GivesExactly (λ x. ((x.0, self.new), x.1.now)) result (triangle_step self.old total bytes.now) }
+        ensures node { IfOk result (λ x. IfSome x.0 IsPackablePart) }
         ensures err { OnErr result (self.new ≡ self.old) }
     {
         let (triangle, rest) = triangle_of(self.sizes, total, self.last_triangle, bytes)?;
@@ -182,6 +185,7 @@ impl Awaited {
     ) -> Result<(Option<Part>, &'a [u8]), CertFault>
         requires { 0 < self.old.rays }
         ensures read { GivesExactly (λ x. ((x.0, self.new), x.1.now)) result (ray_step self.old total bytes.now) }
+        ensures node { IfOk result (λ x. IfSome x.0 IsPackablePart) }
         ensures err { OnErr result (self.new ≡ self.old) }
     {
         let (ray, rest) = ray_of(self.sizes, total, self.last_ray, bytes)?;
@@ -198,6 +202,7 @@ impl Awaited {
     ) -> Result<(Option<Part>, &'a [u8]), CertFault>
         requires { 0 < self.old.listed }
         ensures read { GivesExactly (λ x. ((x.0, self.new), x.1.now)) result (pair_step self.old total bytes.now) }
+        ensures node { IfOk result (λ x. IfSome x.0 IsPackablePart) }
         ensures err { OnErr result (self.new ≡ self.old) }
     {
         let (pair, rest) = listed_of(self.map_sizes, total, self.last_pair, bytes)?;
@@ -214,6 +219,7 @@ impl Awaited {
     ) -> Result<(Option<Part>, &'a [u8]), CertFault>
         requires { 0 < self.old.nodes }
         ensures read { GivesExactly (λ x. ((x.0, self.new), x.1.now)) result (node_step self.old total bytes.now) }
+        ensures node { IfOk result (λ x. IfSome x.0 IsPackablePart) }
         ensures err { OnErr result (self.new ≡ self.old) }
     {
         let (node, rest) = node_of(total, bytes)?;
@@ -230,6 +236,7 @@ impl Awaited {
     ) -> Result<(Option<Part>, &'a [u8]), CertFault>
         requires { 0 < self.old.trees }
         ensures read { GivesExactly (λ x. ((x.0, self.new), x.1.now)) result (head_step self.old total bytes.now) }
+        ensures node { IfOk result (λ x. IfSome x.0 IsPackablePart) }
         ensures err { OnErr result (self.new ≡ self.old) }
     {
         let ((source, nodes), rest) = head_of(self.sizes, total, self.last_source, bytes)?;
@@ -248,6 +255,7 @@ impl Awaited {
         bytes: &'a [u8],
     ) -> Result<(Option<Part>, &'a [u8]), CertFault>
         ensures read { GivesExactly (λ x. ((x.0, self.new), x.1.now)) result (first_at self.old total bytes.now) }
+        ensures node { IfOk result (λ x. IfSome x.0 IsPackablePart) }
         ensures err { OnErr result (self.new ≡ self.old) }
     {
         if !self.begun {

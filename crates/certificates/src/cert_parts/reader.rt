@@ -1,7 +1,7 @@
 //! The reader: it is given the bytes of a certificate in pieces, and gives its parts.
 
-ghost use Rattle.std.specs.Prelude.{◌≡◌, ◌+◌, ◌^◌, ◌<◌, ◌≤◌, ℕ, List, [], ◌++◌, length, None, Ok, Err, true, false, IsSome, IfOk, IfErr, OnOk, OnErr};
-ghost use Rattle.certificates.specs.CertParts.Parts.{reading_parts};
+ghost use Rattle.std.specs.Prelude.{◌≡◌, ◌+◌, ◌^◌, ◌<◌, ◌≤◌, ℕ, List, [], ◌++◌, length, None, Ok, Err, true, false, IsSome, IfOk, IfErr, IfSome, OnOk, OnErr};
+ghost use Rattle.certificates.specs.CertParts.Parts.{IsPackablePart, reading_parts};
 ghost use Rattle.certificates.specs.CertParts.Left.{IsCountable, parts_left, put_before};
 ghost use Rattle.certificates.specs.CertParts.Nodes.{AwaitsNodes, behind_nodes};
 ghost use Rattle.certificates.specs.CertParts.Steps.{two_awaited};
@@ -80,6 +80,7 @@ impl Reader {
         ensures given { IsCountable self.old piece.now → IfOk result (λ x. self.new.given + length x.1.now ≡ self.old.given + length piece.now) }
         ensures rest { IfOk result (λ x. (front : List ℕ) × (piece.now ≡ front ++ x.1.now)) }
         ensures header { self.old.awaited.begun ≡ false → IfOk result (λ x. x.0 ≡ None) }
+        ensures node { IfOk result (λ x. IfSome x.0 IsPackablePart) }
         ensures less { IfOk result (λ x. IsSome x.0 → length x.1.now < length piece.now) }
         ensures used { self.old.awaited.begun ≡ true → IfOk result (λ x. x.0 ≡ None → x.1.now ≡ []) }
         ensures cut { self.new.awaited.begun ≡ false → IfOk result (λ x. x.1.now ≡ []) }
@@ -111,6 +112,7 @@ impl Reader {
         ensures fault { IsCountable self.old piece.now → IfErr result (λ f. (more : List ℕ) → parts_left self.old (piece.now ++ more) ≡ Err f) }
         ensures given { IsCountable self.old piece.now → IfOk result (λ x. self.new.given + length x.1.now ≡ self.old.given + length piece.now) }
         ensures rest { IfOk result (λ x. (front : List ℕ) × (piece.now ≡ front ++ x.1.now)) }
+        ensures node { IfOk result (λ x. IfSome x.0 IsPackablePart) }
         ensures less { IfOk result (λ x. length x.1.now < length piece.now) }
         ensures some { IfOk result (λ x. IsSome x.0) }
         ensures err { OnErr result (self.new ≡ self.old) }
@@ -156,6 +158,8 @@ impl Reader {
         ensures rest { IfOk result (λ x. (front : List ℕ) × (piece.now ≡ front ++ x.1.now)) }
         // A part takes bytes of the piece.
         ensures less { IfOk result (λ x. IsSome x.0 → length x.1.now < length piece.now) }
+        // Nothing of a node is lost where it is kept as its spelling.
+        ensures node { IfOk result (λ x. IfSome x.0 IsPackablePart) }
         // Without a part the piece is used up.
         ensures used { IfOk result (λ x. x.0 ≡ None → x.1.now ≡ []) }
         ensures err { OnErr result (self.new ≡ self.old) }

@@ -1,7 +1,8 @@
 //! The records that a whole certificate has no reader for: a node as a value, and the head of a tree. Both take no
 //! memory.
 
-ghost use Rattle.std.specs.Prelude.{◌≡◌, ◌<◌, ℕ, length, Ok, IfSome, ⊤};
+ghost use Rattle.std.specs.Prelude.{◌≡◌, ◌<◌, ℕ, length, Ok, IfOk, IfSome, ⊤};
+ghost use Rattle.block_evidence.specs.SightTree.Spelling.{IsPackable};
 ghost use Rattle.cert_format.specs.Reading.{GivesExactly, two_ends_at, three_ends_at, four_ends_at, node_at};
 ghost use Rattle.certificates.specs.CertParts.Nodes.{TakesNodes};
 ghost use Rattle.certificates.specs.CertParts.Steps.{head_at, node_width};
@@ -14,7 +15,8 @@ use sight_names::CertFault;
 
 #[tactic(auto, unfolding(cert_format::specs::Reading::two_ends_at))]
 fn two_ends(total: usize, bytes: &[u8]) -> Result<(Node, &[u8]), CertFault>
-    ensures { GivesExactly (λ x. (x.0, x.1.now)) result (two_ends_at total bytes.now) }
+    ensures read { GivesExactly (λ x. (x.0, x.1.now)) result (two_ends_at total bytes.now) }
+    ensures packable { IfOk result (λ x. IsPackable x.0) }
 {
     let (a, rest) = end_of(total, None, bytes)?;
     let (b, rest) = end_of(total, Some(a), rest)?;
@@ -24,7 +26,8 @@ fn two_ends(total: usize, bytes: &[u8]) -> Result<(Node, &[u8]), CertFault>
 
 #[tactic(auto, unfolding(cert_format::specs::Reading::three_ends_at))]
 fn three_ends(total: usize, bytes: &[u8]) -> Result<(Node, &[u8]), CertFault>
-    ensures { GivesExactly (λ x. (x.0, x.1.now)) result (three_ends_at total bytes.now) }
+    ensures read { GivesExactly (λ x. (x.0, x.1.now)) result (three_ends_at total bytes.now) }
+    ensures packable { IfOk result (λ x. IsPackable x.0) }
 {
     let (a, rest) = end_of(total, None, bytes)?;
     let (b, rest) = end_of(total, Some(a), rest)?;
@@ -35,7 +38,8 @@ fn three_ends(total: usize, bytes: &[u8]) -> Result<(Node, &[u8]), CertFault>
 
 #[tactic(auto, unfolding(cert_format::specs::Reading::four_ends_at))]
 fn four_ends(total: usize, bytes: &[u8]) -> Result<(Node, &[u8]), CertFault>
-    ensures { GivesExactly (λ x. (x.0, x.1.now)) result (four_ends_at total bytes.now) }
+    ensures read { GivesExactly (λ x. (x.0, x.1.now)) result (four_ends_at total bytes.now) }
+    ensures packable { IfOk result (λ x. IsPackable x.0) }
 {
     let (a, rest) = end_of(total, None, bytes)?;
     let (b, rest) = end_of(total, Some(a), rest)?;
@@ -48,7 +52,9 @@ fn four_ends(total: usize, bytes: &[u8]) -> Result<(Node, &[u8]), CertFault>
 /// The node that comes first.
 #[tactic(auto, unfolding(cert_format::specs::Reading::node_at))]
 pub fn node_of(total: usize, bytes: &[u8]) -> Result<(Node, &[u8]), CertFault>
-    ensures { GivesExactly (λ x. (x.0, x.1.now)) result (node_at total bytes.now) }
+    ensures read { GivesExactly (λ x. (x.0, x.1.now)) result (node_at total bytes.now) }
+    // Nothing of it is lost where it is kept as its spelling.
+    ensures packable { IfOk result (λ x. IsPackable x.0) }
 {
     match bytes {
         [] => Err(CertFault::Short {
