@@ -79,13 +79,15 @@ fn follow_nodes<'a>(
         };
         rest = behind;
         left -= 1;
-        put_step(path, at.depth, step);
+        // each kind puts the portal on its own: so no node is put together
         match node {
             Node::Open => {
+                put_step(path, at.depth, step);
                 note_code(reached, seen, source, step.sector);
                 asked = enter_step(roots, source, path, waits, &mut at, step);
             }
             Node::Blocked(evidence) => {
+                put_step(path, at.depth, step);
                 if !is_shown(&path[..=at.depth], evidence) {
                     return Followed {
                         rest,
