@@ -1,5 +1,5 @@
 -- Half-edges as steps of a walk: each has beside its ways the sectors that they lead into.
-use Rattle.std.specs.Prelude.{◌≡◌, ℕ, ◌+◌, ◌<◌, ◌≤◌, ◌++◌, ◌^◌, nat_lt, length, take, ◌==◌, ⊤, ⊥, Bool, true, List, [], ◌∷◌, Option, Some, None, slice_get, if◌then◌else◌, IfSome}
+use Rattle.std.specs.Prelude.{◌≡◌, ℕ, ◌+◌, ◌<◌, ◌≤◌, ◌++◌, ◌^◌, nat_lt, length, take, ◌==◌, ⊤, Bool, true, List, [], ◌∷◌, Option, Some, None, slice_get, if◌then◌else◌, IfSome}
 use Rattle.sight_names.specs.Splitting.{EndPoints}
 use Rattle.reject_bits.specs.Parts.{TableParts}
 use Rattle.mesh_shape.specs.declared.half_edges.table.HalfEdge.{HalfEdge}

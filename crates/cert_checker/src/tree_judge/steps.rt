@@ -71,7 +71,10 @@ pub fn steps_of(alloc: Global, edges: &HalfEdges) -> Result<Vec<Step>, Memory>
     let mut steps = Vec::new(alloc);
     for number in 0..edges.len() {
         // there is none that is out of its type's range
-        let Some(edge) = edges.get(number as u32) else {
+        let Ok(number) = u32::try_from(number) else {
+            return Err(Memory);
+        };
+        let Some(edge) = edges.get(number) else {
             return Err(Memory);
         };
         steps.push(step_of(edges, edge))?;

@@ -1,6 +1,6 @@
 //! Trees judged in one pass: each node is asked of the walk at its place.
 
-ghost use Rattle.std.specs.Prelude.{◌≡◌, ◌≤◌, ◌<◌, ◌↔◌, [], ◌∷◌, List, false, IsTrue, IfNone, IfSome, IfOk, length, take};
+ghost use Rattle.std.specs.Prelude.{◌≡◌, ◌+◌, ◌≤◌, ◌<◌, ◌↔◌, [], ◌∷◌, List, false, IsTrue, IfNone, IfSome, IfOk, length, take};
 ghost use Rattle.sight_names.specs.Splitting.{end_of as end_at};
 ghost use Rattle.block_evidence.specs.Stuck.{Blocks};
 ghost use Rattle.block_evidence.specs.declared.Evidence.{Evidence as EvidenceOf};
@@ -109,17 +109,16 @@ fn end_of(path: &[Frame], code: u16) -> Option<EndAt>
 }
 
 /// The left end of the portal at this place.
-// its coordinates one by one: a point in one piece would be taken apart again. The code is seen to be a left end's
+// the code is seen to be a left end's
 #[inline(always)]
 fn left_at(path: &[Frame], place: u16) -> EndAt
     requires within { place < length path.now }
     requires few { length path.now ≤ RIGHT_END }
     ensures { end_at (path_ends path.now) place ≡ Some result }
 {
-    let end = &path[place as usize].left;
     EndAt {
         code: place % RIGHT_END,
-        at: Pt { x: end.x, y: end.y },
+        at: path[place as usize].left,
     }
 }
 
@@ -131,10 +130,9 @@ fn right_at(path: &[Frame], code: u16) -> EndAt
     ensures { end_at (path_ends path.now) code ≡ Some result }
 {
     let place = code - RIGHT_END;
-    let end = &path[place as usize].right;
     EndAt {
         code: RIGHT_END + place % RIGHT_END,
-        at: Pt { x: end.x, y: end.y },
+        at: path[place as usize].right,
     }
 }
 

@@ -1,4 +1,4 @@
-use Rattle.std.proofs.Common.{◌≡◌, ◌<◌, ◌×◌, List, length, true, false}
+use Rattle.std.proofs.Common.{List, false}
 use Rattle.block_evidence.specs.declared.sight_tree.Node.{Node}
 use Rattle.mesh_shape.specs.declared.half_edges.table.HalfEdge.{HalfEdge}
 use Rattle.certificates.specs.CertParts.Nodes.{TakesNodes}
