@@ -1,4 +1,5 @@
 pub mod Noting
+pub mod Stepping
 pub mod Chains
 pub mod Ends
 pub mod Ways
@@ -13,6 +14,7 @@ pub mod Refuting
 pub mod AllTrees
 pub mod OneTree
 pub mod Walking
+pub mod StepAnswers
 pub mod TreesSoFar
 pub mod TreesTold
 pub mod PartsTold

@@ -1,5 +1,6 @@
 pub mod Marks
 pub mod Path
+pub mod Steps
 pub mod Roots
 pub mod Whole
 pub mod Trees

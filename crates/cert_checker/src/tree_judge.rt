@@ -4,6 +4,8 @@ mod hearing;
 mod judge;
 mod marks;
 mod roots;
+mod stepping;
+mod steps;
 mod trees;
 mod walk;
 

@@ -1,5 +1,5 @@
 -- Ends of the portals on a path, one code after another.
-use Rattle.std.proofs.Common.{◌≡◌, ℕ, ◌+◌, ◌<◌, ◌≤◌, ◌↔◌, List, [], ◌∷◌, ◌++◌, Option, Some, length, get_or, map, take, IsTrue, Bool, refl, sym, ◌∙◌, ap, subst, arith}
+use Rattle.std.proofs.Common.{◌≡◌, ℕ, ◌+◌, ◌-◌, ◌<◌, ◌≤◌, ◌↔◌, List, [], ◌∷◌, ◌++◌, Option, Some, length, get_or, map, take, IsTrue, Bool, refl, sym, ◌∙◌, ap, subst, arith}
 use Rattle.std.specs.List.{AllByRecursion, filter_map, slice_get}
 use Rattle.std.specs.Prelude.{IsSome}
 use Rattle.std.proofs.Common.{set}
@@ -43,6 +43,18 @@ found_more es codes ends i x l h e f = ap (map Some) (take_more_set ends i x h) 
 
 at_code : (path : List Frame) (k : ℕ) (f : Frame) → k < length path → f ≡ get_or path k f → slice_get (path_ends path) k ≡ Some (portal_ends f)
 at_code path k f l e = slice_get-map portal_ends path k ∙ ap (λ (o : Option Frame). option_map portal_ends o) (slice_get-get_or path k f l ∙ ap Some (sym e))
+
+there_at : (path : List Frame) (k : ℕ) (f : Frame) → slice_get path k ≡ Some f → slice_get (path_ends path) k ≡ Some (portal_ends f)
+there_at path k f is = slice_get-map portal_ends path k ∙ ap (λ (o : Option Frame). option_map portal_ends o) is
+
+pub left_there : (path : List Frame) (code : ℕ) (f : Frame) → code < RIGHT_END → slice_get path code ≡ Some f → ◌≡◌ {A = Option EndAt} (end_of (path_ends path) code) (Some (record { code = code; at = f.left }))
+left_there path code f few is = left_end (path_ends path) code (portal_ends f) few (there_at path code f is)
+
+pub right_there : (path : List Frame) (code : ℕ) (f : Frame) → RIGHT_END ≤ code → slice_get path (code - RIGHT_END) ≡ Some f → ◌≡◌ {A = Option EndAt} (end_of (path_ends path) code) (Some (record { code = code; at = f.right }))
+right_there path code f many is = subst (λ (n : ℕ). ◌≡◌ {A = Option EndAt} (end_of (path_ends path) n) (Some (record { code = n; at = f.right }))) same (right_end (path_ends path) (code - RIGHT_END) (portal_ends f) (there_at path (code - RIGHT_END) f is))
+  where
+    same : RIGHT_END + (code - RIGHT_END) ≡ code
+    same = omega (arith, many)
 
 pub left_of : (path : List Frame) (code : ℕ) (f : Frame) → code < RIGHT_END → code % RIGHT_END < length path → f ≡ get_or path (code % RIGHT_END) f → ◌≡◌ {A = Option EndAt} (Some (record { code = code; at = f.left })) (end_of (path_ends path) code)
 left_of path code f few l e = sym (left_end (path_ends path) code (portal_ends f) few (subst (λ (k : ℕ). slice_get (path_ends path) k ≡ Some (portal_ends f)) same (at_code path (code % RIGHT_END) f l e)))

@@ -20,6 +20,7 @@ use Rattle.cert_checker.specs.TreeJudge.Heard.{IsTreeCounted, AreTreesCounted, A
 use Rattle.cert_checker.specs.TreeJudge.Marks.{IsMarked, Marks, HasNoMark}
 use Rattle.cert_checker.specs.TreeJudge.Path.{Pending, root_pending}
 use Rattle.cert_checker.specs.TreeJudge.Roots.{first_at, root_edges, AreRoots}
+use Rattle.cert_checker.specs.TreeJudge.Steps.{AreSteps}
 use Rattle.cert_checker.specs.TreeJudge.Walked.{begun, with_nodes, IsWalked}
 use Rattle.cert_checker.specs.TreeJudge.Whole.{Answers, AreAnswered, IsFirstWrong, Notes, IsFirstWrongFrom, IsFirstWrongTree, IsWholeFrom, IsWholeOver, HasTreeAway, HasTreeInto, HasNoBit}
 
@@ -205,7 +206,7 @@ module _ (m : Map) (ts : List Triangle) (xs : List HalfEdge) where
   stays_judged front (Some t) ns j None ended h = absurd (let e : j.under_way ≡ true = h.going in cc)
 
   pub stays_with_nodes : (front : List Tree) (o : Option Tree) (ns : List Node) (j : TreeJudge) → j.under_way ≡ false → HasHeardTrees m ts xs front o j → HasHeardTrees m ts xs front (option_map (with_nodes ns) o) j
-  stays_with_nodes front o ns j ended h = record { roots = h.roots; judged = λ all. stays_judged front o ns j j.wrong ended (h.judged (counted_less m.sectors front ns o all)) }
+  stays_with_nodes front o ns j ended h = record { roots = h.roots; steps = h.steps; judged = λ all. stays_judged front o ns j j.wrong ended (h.judged (counted_less m.sectors front ns o all)) }
 
   -- nothing was under way, and a tree begins behind a wrong one
   pub begins_behind_wrong : (front : List Tree) (t : Tree) (j : TreeJudge) (w : ℕ × ℕ) → IsJudged m ts xs front None j (Some w) → IsJudged m ts xs front (Some t) j (Some w)
@@ -275,9 +276,10 @@ module _ (m : Map) (ts : List Triangle) (xs : List HalfEdge) where
   pub end_whole : (front : List Tree) (o : Option Tree) (j k : TreeJudge) (source : ℕ) (now flags : List Bool) → HasHeardTrees m ts xs front o j → j.under_way ≡ true
       → ((t : Tree) (old : TableParts) → IsWalked xs j.roots.roots.items j.roots.first.items t old j.reached j.walk → IsWholeFrom xs j.roots.roots.items (first_at j.roots.first.items t.source) t old j.reached)
       → source ≡ j.walk.source → now ≡ j.walked.items → Marks (Some source) now flags
-      → k.roots ≡ j.roots → k.walked.items ≡ flags → k.reached ≡ j.reached → k.under_way ≡ false → k.wrong ≡ j.wrong → HasHeardTrees m ts xs (front ++ option_to_list o) None k
-  end_whole front o j k source now flags h going whole e f marks same_roots same_flags same_bits ended same_wrong = record {
+      → k.roots ≡ j.roots → k.steps.items ≡ j.steps.items → k.walked.items ≡ flags → k.reached ≡ j.reached → k.under_way ≡ false → k.wrong ≡ j.wrong → HasHeardTrees m ts xs (front ++ option_to_list o) None k
+  end_whole front o j k source now flags h going whole e f marks same_roots same_steps same_flags same_bits ended same_wrong = record {
     roots = subst (λ (r : Roots). AreRoots m ts xs r.roots.items r.first.items) (sym same_roots) h.roots;
+    steps = subst (AreSteps xs) (sym same_steps) h.steps;
     judged = λ all. go (under_way_now front o j h going (counted_ended m.sectors front o all));
   }
     where
@@ -291,9 +293,10 @@ module _ (m : Map) (ts : List Triangle) (xs : List HalfEdge) where
   -- a node of it is missing
   pub end_wrong : (front : List Tree) (o : Option Tree) (j k : TreeJudge) (source number : ℕ) → HasHeardTrees m ts xs front o j → j.under_way ≡ true
       → ((t : Tree) (old : TableParts) → IsWalked xs j.roots.roots.items j.roots.first.items t old j.reached j.walk → IsFirstWrongFrom xs j.roots.roots.items (first_at j.roots.first.items t.source) t (length t.nodes))
-      → source ≡ j.walk.source → number ≡ j.number → k.roots ≡ j.roots → k.under_way ≡ false → k.wrong ≡ Some (source, number) → HasHeardTrees m ts xs (front ++ option_to_list o) None k
-  end_wrong front o j k source number h going wrong e f same_roots ended is_wrong = record {
+      → source ≡ j.walk.source → number ≡ j.number → k.roots ≡ j.roots → k.steps.items ≡ j.steps.items → k.under_way ≡ false → k.wrong ≡ Some (source, number) → HasHeardTrees m ts xs (front ++ option_to_list o) None k
+  end_wrong front o j k source number h going wrong e f same_roots same_steps ended is_wrong = record {
     roots = subst (λ (r : Roots). AreRoots m ts xs r.roots.items r.first.items) (sym same_roots) h.roots;
+    steps = subst (AreSteps xs) (sym same_steps) h.steps;
     judged = λ all. go (under_way_now front o j h going (counted_ended m.sectors front o all));
   }
     where
@@ -306,9 +309,10 @@ module _ (m : Map) (ts : List Triangle) (xs : List HalfEdge) where
   -- the next nodes answer
   pub hear_right : (front : List Tree) (o : Option Tree) (ns : List Node) (j k : TreeJudge) → HasHeardTrees m ts xs front o j → j.under_way ≡ true
       → ((t : Tree) (old : TableParts) → IsWalked xs j.roots.roots.items j.roots.first.items t old j.reached j.walk → IsWalked xs j.roots.roots.items j.roots.first.items (with_nodes ns t) old k.reached k.walk)
-      → ((n : ℕ) → j.number ≡ n → n + length ns < 2 ^ 64 → k.number ≡ n + length ns) → k.roots ≡ j.roots → k.walked.items ≡ j.walked.items → k.under_way ≡ true → k.wrong ≡ j.wrong → HasHeardTrees m ts xs front (option_map (with_nodes ns) o) k
-  hear_right front o ns j k h going walked count same_roots marks goes same_wrong = record {
+      → ((n : ℕ) → j.number ≡ n → n + length ns < 2 ^ 64 → k.number ≡ n + length ns) → k.roots ≡ j.roots → k.steps.items ≡ j.steps.items → k.walked.items ≡ j.walked.items → k.under_way ≡ true → k.wrong ≡ j.wrong → HasHeardTrees m ts xs front (option_map (with_nodes ns) o) k
+  hear_right front o ns j k h going walked count same_roots same_steps marks goes same_wrong = record {
     roots = subst (λ (r : Roots). AreRoots m ts xs r.roots.items r.first.items) (sym same_roots) h.roots;
+    steps = subst (AreSteps xs) (sym same_steps) h.steps;
     judged = λ all. go all (under_way_now front o j h going (counted_less m.sectors front ns o all));
   }
     where
@@ -328,9 +332,10 @@ module _ (m : Map) (ts : List Triangle) (xs : List HalfEdge) where
   -- the last of them doesn't
   pub hear_wrong : (front : List Tree) (o : Option Tree) (ns : List Node) (j k : TreeJudge) (source number : ℕ) → HasHeardTrees m ts xs front o j → j.under_way ≡ true → 0 < length ns
       → ((t : Tree) (old : TableParts) → IsWalked xs j.roots.roots.items j.roots.first.items t old j.reached j.walk → IsFirstWrongFrom xs j.roots.roots.items (first_at j.roots.first.items t.source) (with_nodes ns t) (length t.nodes + length ns - 1))
-      → source ≡ j.walk.source → ((n : ℕ) → j.number ≡ n → n + length ns < 2 ^ 64 → number ≡ n + length ns - 1) → k.roots ≡ j.roots → k.under_way ≡ false → k.wrong ≡ Some (source, number) → HasHeardTrees m ts xs front (option_map (with_nodes ns) o) k
-  hear_wrong front o ns j k source number h going some wrong e f same_roots ended is_wrong = record {
+      → source ≡ j.walk.source → ((n : ℕ) → j.number ≡ n → n + length ns < 2 ^ 64 → number ≡ n + length ns - 1) → k.roots ≡ j.roots → k.steps.items ≡ j.steps.items → k.under_way ≡ false → k.wrong ≡ Some (source, number) → HasHeardTrees m ts xs front (option_map (with_nodes ns) o) k
+  hear_wrong front o ns j k source number h going some wrong e f same_roots same_steps ended is_wrong = record {
     roots = subst (λ (r : Roots). AreRoots m ts xs r.roots.items r.first.items) (sym same_roots) h.roots;
+    steps = subst (AreSteps xs) (sym same_steps) h.steps;
     judged = λ all. go all (under_way_now front o j h going (counted_less m.sectors front ns o all));
   }
     where
@@ -347,9 +352,10 @@ module _ (m : Map) (ts : List Triangle) (xs : List HalfEdge) where
   -- a tree begins behind trees none of which is wrong
   pub begin_right : (front : List Tree) (source : ℕ) (j k : TreeJudge) → HasHeardTrees m ts xs front None j → j.wrong ≡ None
       → ((old : TableParts) → IsWalked xs j.roots.roots.items j.roots.first.items (begun source) old old k.walk)
-      → k.number ≡ 0 → k.roots ≡ j.roots → k.walked.items ≡ j.walked.items → k.reached ≡ j.reached → k.under_way ≡ true → k.wrong ≡ j.wrong → HasHeardTrees m ts xs front (Some (begun source)) k
-  begin_right front source j k h none walked zero same_roots marks bits goes same_wrong = record {
+      → k.number ≡ 0 → k.roots ≡ j.roots → k.steps.items ≡ j.steps.items → k.walked.items ≡ j.walked.items → k.reached ≡ j.reached → k.under_way ≡ true → k.wrong ≡ j.wrong → HasHeardTrees m ts xs front (Some (begun source)) k
+  begin_right front source j k h none walked zero same_roots same_steps marks bits goes same_wrong = record {
     roots = subst (λ (r : Roots). AreRoots m ts xs r.roots.items r.first.items) (sym same_roots) h.roots;
+    steps = subst (AreSteps xs) (sym same_steps) h.steps;
     judged = λ all. judged_under_way front (begun source) k k.wrong (same_wrong ∙ none) (record {
       going = goes;
       begun = j.reached;
@@ -366,5 +372,6 @@ module _ (m : Map) (ts : List Triangle) (xs : List HalfEdge) where
   pub begin_wrong : (front : List Tree) (source : ℕ) (j : TreeJudge) → HasHeardTrees m ts xs front None j → true ≡ is_some j.wrong → HasHeardTrees m ts xs front (Some (begun source)) j
   begin_wrong front source j h some = record {
     roots = h.roots;
+    steps = h.steps;
     judged = λ all. begins_where_wrong front (begun source) j j.wrong some (h.judged (subst (AreTreesCounted m.sectors) (sym (append-nil front)) (counted_front m.sectors front (begun source) all)));
   }

@@ -16,6 +16,7 @@ use Rattle.cert_checker.specs.declared.tree_judge.hearing.TreeJudge.{TreeJudge}
 use Rattle.cert_checker.specs.TreeJudge.Marks.{HasNoMark}
 use Rattle.cert_checker.specs.TreeJudge.Path.{root_pending}
 use Rattle.cert_checker.specs.TreeJudge.Roots.{root_edges, AreRoots}
+use Rattle.cert_checker.specs.TreeJudge.Steps.{AreSteps}
 use Rattle.cert_checker.specs.TreeJudge.Walked.{IsWalked}
 use Rattle.cert_checker.specs.TreeJudge.Whole.{IsFirstWrong, IsWholeOver, AreWholeOver, IsFirstWrongTree, HasNoBit}
 
@@ -65,6 +66,7 @@ module _ (m : Map) (ts : List Triangle) (xs : List HalfEdge) where
   -- the judge has heard these trees and the nodes of the open one that have come so far
   pub record HasHeardTrees (front : List Tree) (o : Option Tree) (j : TreeJudge) : Type 0 where
     pub roots : AreRoots m ts xs j.roots.roots.items j.roots.first.items
+    pub steps : AreSteps xs j.steps.items
     pub judged : AreTreesCounted m.sectors (front ++ option_to_list o) → IsJudged front o j j.wrong
 
 -- over the good mesh of a certificate in order, whose trees have these half-edges

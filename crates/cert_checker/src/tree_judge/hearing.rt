@@ -16,6 +16,7 @@ ghost use Rattle.cert_checker.specs.TreeJudge.Walked.{begun, with_node, with_nod
 use crate::tree_judge::judge::{Reach, TreeVerdict, unmarked, unreached};
 use crate::tree_judge::marks::mark;
 use crate::tree_judge::roots::Roots;
+use crate::tree_judge::steps::{Step, steps_of};
 use crate::tree_judge::trees::Terrain;
 use crate::tree_judge::walk::TreeWalk;
 use block_evidence::sight_tree::Node;
@@ -31,8 +32,11 @@ use std::alloc::Global;
 #[derive(Drop)]
 pub struct TreeJudge {
     roots: Roots,
+    steps: Vec<Step>,
     walked: Vec<bool>,
     reached: Table,
+    /// Room for what a source has seen.
+    seen: Vec<bool>,
     walk: TreeWalk,
     /// Whether a tree is open that has no wrong node so far.
     under_way: bool,
@@ -53,12 +57,16 @@ impl TreeJudge {
         ensures { IfOk result (HasHeardTrees (map_of plan.now) mesh.now.triangles edges.now [] None) }
     {
         let roots = Roots::of(alloc, plan, mesh, edges)?;
+        let steps = steps_of(alloc, edges)?;
         let walked = unmarked(alloc, plan.sectors)?;
         let reached = unreached(alloc, plan.sectors)?;
+        let seen = unmarked(alloc, plan.sectors)?;
         Ok(TreeJudge {
             roots,
+            steps,
             walked,
             reached,
+            seen,
             walk: TreeWalk::new(alloc),
             under_way: false,
             number: 0,
@@ -112,11 +120,14 @@ impl TreeJudge {
         if !self.under_way {
             return pass_nodes(bytes, count);
         }
-        let terrain = Terrain {
-            edges,
-            roots: &self.roots,
-        };
-        let followed = self.walk.follow(&terrain, &mut self.reached, bytes, count);
+        let followed = self.walk.follow(
+            &self.roots,
+            self.steps.as_slice(),
+            &mut self.reached,
+            self.seen.as_mut_slice(),
+            bytes,
+            count,
+        );
         let taken = count - followed.left;
         if followed.wrong {
             self.under_way = false;

@@ -1,6 +1,6 @@
 //! Trees judged in one pass: each node is asked of the walk at its place.
 
-ghost use Rattle.std.specs.Prelude.{◌≡◌, ◌≤◌, ◌<◌, ◌↔◌, [], ◌∷◌, List, false, IsTrue, IfNone, IfSome, IfOk, length, take};
+ghost use Rattle.std.specs.Prelude.{◌≡◌, ◌+◌, ◌≤◌, ◌<◌, ◌↔◌, [], ◌∷◌, List, false, IsTrue, IfNone, IfSome, IfOk, length, take};
 ghost use Rattle.sight_names.specs.Splitting.{end_of as end_at};
 ghost use Rattle.block_evidence.specs.Stuck.{Blocks};
 ghost use Rattle.block_evidence.specs.declared.Evidence.{Evidence as EvidenceOf};
@@ -23,16 +23,16 @@ const ORIGIN: Pt = Pt { x: 0, y: 0 };
 /// A portal on the way to the present node: its ends.
 #[derive(Clone, Copy)]
 pub struct Frame {
-    left: Pt,
-    right: Pt,
+    pub left: Pt,
+    pub right: Pt,
 }
 
 /// What stands at the place of a portal behind which both ways lead on, the left one being taken: the right one, which waits,
 /// and how many portals lead to the portal before it whose right way waits; 0 where there is none.
 #[derive(Clone, Copy)]
 pub struct Wait {
-    way: u32,
-    before: usize,
+    pub way: u32,
+    pub before: usize,
 }
 
 /// The mesh as a walk needs it.
@@ -108,115 +108,107 @@ fn end_of(path: &[Frame], code: u16) -> Option<EndAt>
     Some(EndAt { code, at })
 }
 
-/// The left end with this code. None where it is a right end's, or its portal isn't there: one comparison tells both.
+/// The left end of the portal at this place.
+// the code is seen to be a left end's
 #[inline(always)]
-fn left_end(path: &[Frame], code: u16) -> Option<EndAt>
-    requires { length path.now ≤ RIGHT_END }
-    ensures { IsEndOf (path_ends path.now) code result }
+fn left_at(path: &[Frame], place: u16) -> EndAt
+    requires within { place < length path.now }
+    requires few { length path.now ≤ RIGHT_END }
+    ensures { end_at (path_ends path.now) place ≡ Some result }
 {
-    let frame = path.get(code as usize)?;
-    // the code itself, as one that is seen to be a left end's
-    let code = code % RIGHT_END;
-    Some(EndAt {
-        code,
-        at: frame.left,
-    })
+    EndAt {
+        code: place % RIGHT_END,
+        at: path[place as usize].left,
+    }
 }
 
-/// The right end with this code. None where it is a left end's, or its portal isn't there.
+/// The right end with this code.
 #[inline(always)]
-fn right_end(path: &[Frame], code: u16) -> Option<EndAt>
-    requires { length path.now ≤ RIGHT_END }
-    ensures { IsEndOf (path_ends path.now) code result }
+fn right_at(path: &[Frame], code: u16) -> EndAt
+    requires right { RIGHT_END ≤ code }
+    requires within { code < RIGHT_END + length path.now }
+    ensures { end_at (path_ends path.now) code ≡ Some result }
 {
-    let place = (code as usize + RIGHT_END as usize) % 65_536;
-    let frame = path.get(place)?;
-    let code = RIGHT_END + (place % RIGHT_END as usize) as u16;
-    Some(EndAt {
-        code,
-        at: frame.right,
-    })
+    let place = code - RIGHT_END;
+    EndAt {
+        code: RIGHT_END + place % RIGHT_END,
+        at: path[place as usize].right,
+    }
 }
 
-/// Whether these are three left ends and a right one that are seen at once to be stuck. `false` says nothing.
-// the greatest code of either side is looked up first: where codes ascend, the others of its side are then there
+/// Whether three left ends and a right one, by ascending codes, are seen at once to be stuck. `false` says nothing.
 #[inline(always)]
 fn are_three_and_one(path: &[Frame], a: u16, b: u16, c: u16, d: u16) -> bool
-    requires { length path.now ≤ RIGHT_END }
+    requires few { length path.now ≤ RIGHT_END }
+    requires left { c < length path.now }
+    requires first { a < b }
+    requires second { b < c }
+    requires right { RIGHT_END ≤ d }
+    requires last { d < RIGHT_END + length path.now }
     ensures { IsTrue result → AreStuckEnds (path_ends path.now) a b c d }
 {
-    let Some(s) = right_end(path, d) else {
-        return false;
-    };
-    let Some(r) = left_end(path, c) else {
-        return false;
-    };
-    let Some(p) = left_end(path, a) else {
-        return false;
-    };
-    let Some(q) = left_end(path, b) else {
-        return false;
-    };
-    are_stuck(p, q, r, s)
+    let (p, q, r) = (left_at(path, a), left_at(path, b), left_at(path, c));
+    are_stuck(p, q, r, right_at(path, d))
 }
 
 /// The same of two left ends and two right ones.
 #[inline(always)]
 fn are_two_and_two(path: &[Frame], a: u16, b: u16, c: u16, d: u16) -> bool
-    requires { length path.now ≤ RIGHT_END }
+    requires few { length path.now ≤ RIGHT_END }
+    requires left { b < length path.now }
+    requires first { a < b }
+    requires right { RIGHT_END ≤ c }
+    requires third { c < d }
+    requires last { d < RIGHT_END + length path.now }
     ensures { IsTrue result → AreStuckEnds (path_ends path.now) a b c d }
 {
-    let Some(s) = right_end(path, d) else {
-        return false;
-    };
-    let Some(q) = left_end(path, b) else {
-        return false;
-    };
-    let Some(p) = left_end(path, a) else {
-        return false;
-    };
-    let Some(r) = right_end(path, c) else {
-        return false;
-    };
-    are_stuck(p, q, r, s)
+    let (p, q) = (left_at(path, a), left_at(path, b));
+    are_stuck(p, q, right_at(path, c), right_at(path, d))
 }
 
 /// The same of a left end and three right ones.
 #[inline(always)]
 fn are_one_and_three(path: &[Frame], a: u16, b: u16, c: u16, d: u16) -> bool
-    requires { length path.now ≤ RIGHT_END }
+    requires few { length path.now ≤ RIGHT_END }
+    requires left { a < length path.now }
+    requires right { RIGHT_END ≤ b }
+    requires second { b < c }
+    requires third { c < d }
+    requires last { d < RIGHT_END + length path.now }
     ensures { IsTrue result → AreStuckEnds (path_ends path.now) a b c d }
 {
-    let Some(s) = right_end(path, d) else {
-        return false;
-    };
-    let Some(p) = left_end(path, a) else {
-        return false;
-    };
-    let Some(q) = right_end(path, b) else {
-        return false;
-    };
-    let Some(r) = right_end(path, c) else {
-        return false;
-    };
-    are_stuck(p, q, r, s)
+    let (q, r, s) = (right_at(path, b), right_at(path, c), right_at(path, d));
+    are_stuck(left_at(path, a), q, r, s)
 }
 
 /// Whether the ends are four ends of these portals that are seen at once to be stuck. `false` says nothing.
+// the greatest code of either side is looked up alone: codes ascend, which whoever read them has found just before
 #[inline(always)]
-fn is_seen_blocked(path: &[Frame], evidence: Evidence) -> bool
+pub fn is_seen_blocked(path: &[Frame], evidence: Evidence) -> bool
+    requires { length path.now ≤ RIGHT_END }
     ensures { IsTrue result → Blocks (path_ends path.now) evidence }
 {
-    if evidence.count != 4 || path.len() > RIGHT_END as usize {
+    let [a, b, c, d] = evidence.ends;
+    if evidence.count != 4 || a >= b || b >= c || c >= d {
         return false;
     }
-    let [a, b, c, d] = evidence.ends;
-    match (b < RIGHT_END, c < RIGHT_END) {
-        (true, true) => are_three_and_one(path, a, b, c, d),
-        (true, false) => are_two_and_two(path, a, b, c, d),
-        (false, false) => are_one_and_three(path, a, b, c, d),
-        (false, true) => false,
+    let last = d.wrapping_sub(RIGHT_END);
+    if last as usize >= path.len() {
+        return false;
     }
+    if (b as usize) < path.len() {
+        if (c as usize) < path.len() {
+            return are_three_and_one(path, a, b, c, d);
+        }
+        if c < RIGHT_END {
+            return false;
+        }
+        return are_two_and_two(path, a, b, c, d);
+    }
+    if b < RIGHT_END || a as usize >= path.len() {
+        return false;
+    }
+    are_one_and_three(path, a, b, c, d)
 }
 
 /// Whether the ends are ends of these portals, and stuck.
@@ -240,7 +232,7 @@ fn is_shown_blocked(path: &[Frame], evidence: Evidence) -> bool
 /// The same of evidence in its parts.
 // out of line, and by its parts: whole evidence would be put into memory for it at each blocked node
 #[inline(never)]
-fn are_shown_blocked(path: &[Frame], count: u8, a: u16, b: u16, c: u16, d: u16) -> bool
+pub fn are_shown_blocked(path: &[Frame], count: u8, a: u16, b: u16, c: u16, d: u16) -> bool
     ensures { (e : EvidenceOf) → e.count ≡ count → e.ends ≡ a ∷ b ∷ c ∷ d ∷ [] → IsTrue result ↔ Blocks (path_ends path.now) e }
 {
     let ends = [a, b, c, d];
@@ -253,7 +245,8 @@ pub fn is_blocked(path: &[Frame], evidence: Evidence) -> bool
     ensures { IsTrue result ↔ Blocks (path_ends path.now) evidence }
 {
     let [a, b, c, d] = evidence.ends;
-    is_seen_blocked(path, evidence) || are_shown_blocked(path, evidence.count, a, b, c, d)
+    (path.len() <= RIGHT_END as usize && is_seen_blocked(path, evidence))
+        || are_shown_blocked(path, evidence.count, a, b, c, d)
 }
 
 /// Puts the portal of this half-edge behind the open ones, and says whether there was room.
@@ -315,7 +308,7 @@ fn last_waiting(path: &[Frame], waits: &[Wait], waiting: usize) -> Option<Wait>
 
 /// The half-edge that is asked next: the last way that waits, or else the next root.
 #[inline(always)]
-fn next_asked(roots: &Roots, path: &[Frame], waits: &[Wait], follow: &mut Follow) -> Option<u32>
+pub fn next_asked(roots: &Roots, path: &[Frame], waits: &[Wait], follow: &mut Follow) -> Option<u32>
     ensures within { follow.new.depth ≤ length path.now }
     ensures room { follow.new.depth ≤ length waits.now }
     ensures next { TakesNext roots.now.roots.items path.now waits.now follow.old follow.new result }
@@ -376,7 +369,7 @@ fn enter(
 
 /// Notes that the source reaches the sector, where there is one.
 #[inline(always)]
-fn note(reached: &mut Table, source: u16, sector: Option<u16>)
+pub fn note(reached: &mut Table, source: u16, sector: Option<u16>)
     ensures { Notes source (list_of sector) reached.old reached.new }
 {
     let Some(sector) = sector else {

@@ -1,22 +1,28 @@
 //! A walk that is asked node by node, without the tree.
 
-ghost use Rattle.std.specs.Prelude.{◌≡◌, ℕ, List, Option, length, true, false, IfOk};
+ghost use Rattle.std.specs.Prelude.{◌≡◌, ◌<◌, ◌≤◌, ℕ, List, Option, length, true, false, IfOk};
 ghost use Rattle.reject_bits.specs.Parts.{TableParts};
 ghost use Rattle.block_evidence.specs.declared.sight_tree.Tree.{Tree as WalkTree};
 ghost use Rattle.mesh_shape.specs.declared.half_edges.table.HalfEdge.{HalfEdge as EdgeOf};
 ghost use Rattle.cert_checker.specs.declared.tree_judge.roots.Root.{Root as RootOf};
 ghost use Rattle.cert_checker.specs.TreeJudge.Roots.{first_at};
+ghost use Rattle.sight_names.specs.declared.limits.TheConstants.{RIGHT_END};
+ghost use Rattle.cert_checker.specs.TreeJudge.Steps.{AreSeen, AreSteps};
+ghost use Rattle.cert_checker.specs.declared.tree_judge.stepping.TheConstants.{NO_PLACE};
 ghost use Rattle.cert_checker.specs.TreeJudge.Whole.{IsWholeFrom, IsFirstWrongFrom};
 ghost use Rattle.certificates.specs.CertParts.Nodes.{TakesNodes};
 ghost use Rattle.cert_checker.specs.TreeJudge.Walked.{begun, with_node, FollowsAt, Follows, IsWalked};
 
-use crate::tree_judge::trees::{
-    Follow, Frame, Terrain, Wait, answer, answer_blocked, answer_open, make_room, make_wait, start,
+use crate::tree_judge::roots::Roots;
+use crate::tree_judge::stepping::{
+    NO_PLACE, asked_at, enter_step, is_shown, next_place, note_code, place_of, put_step,
 };
+use crate::tree_judge::steps::Step;
+use crate::tree_judge::trees::{Follow, Frame, Terrain, Wait, answer, make_room, make_wait, start};
 use block_evidence::sight_tree::Node;
 use certificates::cert_parts::usual_node;
 use reject_bits::Table;
-use sight_names::Memory;
+use sight_names::{Memory, RIGHT_END};
 use std::alloc::Global;
 
 /// A walk of a source whose nodes come one by one. Its path grows with its depth.
@@ -36,13 +42,16 @@ pub struct Followed<'a> {
     pub wrong: bool,
 }
 
-/// Follows the usual nodes that come first in the bytes, of so many that are to come, up to the first wrong one and as far as
-/// the path has room.
-// the walk stands in locals here, and all that it calls is in line: a certificate has millions of nodes. The first wrong node
-// is told at once: a flag would be asked for at each
+/// Follows the usual nodes that come first in the bytes, of so many that are to come, up to the first wrong one, as far as
+/// the path has room and something is asked.
+// the walk stands in locals here, and all that a node mostly takes is in line: a certificate has millions of nodes. Out of line
+// itself: its registers are its own
+#[inline(never)]
 fn follow_nodes<'a>(
-    terrain: &Terrain<'_>,
+    roots: &Roots,
+    steps: &[Step],
     reached: &mut Table,
+    seen: &mut [bool],
     source: u16,
     path: &mut [Frame],
     waits: &mut [Wait],
@@ -50,40 +59,47 @@ fn follow_nodes<'a>(
     bytes: &'a [u8],
     count: u64,
 ) -> Followed<'a>
-    ensures { TakesNodes bytes.now count result.rest.now result.left (FollowsAt terrain.now.edges.now terrain.now.roots.now.roots.items terrain.now.roots.now.first.items source path.old waits.old follow.old reached.old path.new waits.new follow.new reached.new result.wrong) }
+    requires path { length path.old ≤ RIGHT_END }
+    requires waits { length waits.old ≡ length path.old }
+    requires steps { length steps.now ≤ NO_PLACE }
+    requires seen { AreSeen source seen.old reached.old }
+    ensures { TakesNodes bytes.now count result.rest.now result.left (λ nodes. (result.wrong ≡ true → 0 < length nodes) × ((xs : List EdgeOf) → AreSteps xs steps.now → FollowsAt xs roots.now.roots.items roots.now.first.items source path.old waits.old follow.old reached.old path.new waits.new follow.new reached.new result.wrong nodes)) }
 {
-    // one length for both: one test of room for both
-    if waits.len() != path.len() {
-        return Followed {
-            rest: bytes,
-            left: count,
-            wrong: false,
-        };
-    }
     let mut at = *follow;
+    let mut asked = place_of(follow.asked);
     let mut rest = bytes;
     let mut left = count;
-    'rest: while left > 0 && at.depth < path.len() {
+    // no node takes more than nine bytes
+    'rest: while left > 0 && rest.len() >= 9 && at.depth < path.len() {
+        let Some(step) = steps.get(asked) else {
+            break;
+        };
         let Some((node, behind)) = usual_node(rest) else {
             break;
         };
         rest = behind;
         left -= 1;
-        let answers = match node {
-            Node::Open => answer_open(terrain, reached, source, path, waits, &mut at),
-            Node::Blocked(evidence) => {
-                answer_blocked(terrain, source, path, waits, &mut at, evidence)
+        // each kind puts the portal on its own: so no node is put together
+        match node {
+            Node::Open => {
+                put_step(path, at.depth, step);
+                note_code(reached, seen, source, step.sector);
+                asked = enter_step(roots, source, path, waits, &mut at, step);
             }
-        };
-        if !answers {
-            *follow = at;
-            return Followed {
-                rest,
-                left,
-                wrong: true,
-            };
+            Node::Blocked(evidence) => {
+                put_step(path, at.depth, step);
+                if !is_shown(&path[..=at.depth], evidence) {
+                    return Followed {
+                        rest,
+                        left,
+                        wrong: true,
+                    };
+                }
+                asked = next_place(roots, path, waits, &mut at);
+            }
         }
     }
+    at.asked = asked_at(asked);
     *follow = at;
     Followed {
         rest,
@@ -151,16 +167,33 @@ impl TreeWalk {
     /// those that find no room are left to `step`.
     pub fn follow<'a>(
         &mut self,
-        terrain: &Terrain<'_>,
+        roots: &Roots,
+        steps: &[Step],
         reached: &mut Table,
+        seen: &mut [bool],
         bytes: &'a [u8],
         count: u64,
     ) -> Followed<'a>
-        ensures { TakesNodes bytes.now count result.rest.now result.left (Follows terrain.now.edges.now terrain.now.roots.now.roots.items terrain.now.roots.now.first.items self.old reached.old self.new reached.new result.wrong) }
+        ensures { TakesNodes bytes.now count result.rest.now result.left (λ nodes. (result.wrong ≡ true → 0 < length nodes) × ((xs : List EdgeOf) → AreSteps xs steps.now → Follows xs roots.now.roots.items roots.now.first.items self.old reached.old self.new reached.new result.wrong nodes)) }
     {
+        // one length for both buffers, one test of room for both; and each code is that of one end
+        if self.waits.len() != self.path.len()
+            || self.path.len() > RIGHT_END as usize
+            || steps.len() > NO_PLACE
+        {
+            return Followed {
+                rest: bytes,
+                left: count,
+                wrong: false,
+            };
+        }
+        // what the source has seen in these nodes: its bits are set
+        seen.fill(false);
         follow_nodes(
-            terrain,
+            roots,
+            steps,
             reached,
+            seen,
             self.source,
             self.path.as_mut_slice(),
             self.waits.as_mut_slice(),

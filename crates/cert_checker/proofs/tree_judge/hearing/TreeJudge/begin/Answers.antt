@@ -9,4 +9,4 @@ returns-then-is_some c = λ m ts front tree h. begin_wrong m ts c.args.edges.now
 
 pub returns : goal.returns
 returns c = λ m ts front tree h. begin_right m ts c.args.edges.now (front ++ option_to_list tree) c.args.source c.end.new.self _ (c.end.ensures m ts c.args.edges.now front tree h) (none_where_not_some c.end.new.self.wrong c.if-is_some.ensures)
-    c.begin.ensures refl refl refl refl refl refl
+    c.begin.ensures refl refl refl refl refl refl refl

@@ -10,11 +10,11 @@ returns-then-not-self c = λ m ts front tree h. stays_with_nodes m ts c.args.edg
 
 pub returns-then-branch : goal.returns-then-branch
 returns-then-branch c = λ m ts front tree h. hear_right m ts c.args.edges.now front tree (c.args.node ∷ []) c.args.self.now _ h c.if-not-self.false
-    (λ t old w. c.in_ok-step.ensures.answered t old w c.if-branch.true) (λ n e few. omega (arith, c.saturating_add-self.ensures, e, few)) refl refl c.if-not-self.false refl
+    (λ t old w. c.in_ok-step.ensures.answered t old w c.if-branch.true) (λ n e few. omega (arith, c.saturating_add-self.ensures, e, few)) refl refl refl c.if-not-self.false refl
 
 pub returns-else-branch : goal.returns-else-branch
 returns-else-branch c = λ m ts front tree h.
     let roots = c.args.self.now.roots in
     hear_wrong m ts c.args.edges.now front tree (c.args.node ∷ []) c.args.self.now _ c.source-source.result c.args.self.now.number h c.if-not-self.false (omega arith)
     (λ t old w. let k : length t.nodes ≡ length t.nodes + 1 - 1 = omega arith in
-    subst (IsFirstWrongFrom c.args.edges.now roots.roots.items (first_at roots.first.items t.source) (with_node c.args.node t)) k (c.in_ok-step.ensures.refused t old w c.if-branch.false)) c.source-source.ensures (λ n e few. omega (arith, e)) refl refl refl
+    subst (IsFirstWrongFrom c.args.edges.now roots.roots.items (first_at roots.first.items t.source) (with_node c.args.node t)) k (c.in_ok-step.ensures.refused t old w c.if-branch.false)) c.source-source.ensures (λ n e few. omega (arith, e)) refl refl refl refl

@@ -11,6 +11,7 @@ returns c =
     let same : c.plan.inside.sectors ≡ p.sectors = ap (λ (x : PlanParts). x.sectors) c.plan.view_is in
     record {
       roots = c.in_ok-roots.ensures;
+      steps = c.in_ok-steps.ensures;
       judged = λ _. (
         refl,
         none_noted (map_of p) c.args.mesh.now.triangles c.args.edges.now c.in_ok-walked.walked.items c.in_ok-reached.reached
