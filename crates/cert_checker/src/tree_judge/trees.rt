@@ -108,6 +108,20 @@ fn end_of(path: &[Frame], code: u16) -> Option<EndAt>
     Some(EndAt { code, at })
 }
 
+/// The point.
+// its coordinates one by one: a point in one piece would be taken apart again. It is read as a whole for the proof alone, which
+// has the ranges of its coordinates from there
+#[inline(always)]
+fn point_of(point: &Pt) -> Pt
+    ensures { result ≡ point.now }
+{
+    let _whole = *point;
+    Pt {
+        x: point.x,
+        y: point.y,
+    }
+}
+
 /// The left end of the portal at this place.
 // the code is seen to be a left end's
 #[inline(always)]
@@ -118,7 +132,7 @@ fn left_at(path: &[Frame], place: u16) -> EndAt
 {
     EndAt {
         code: place % RIGHT_END,
-        at: path[place as usize].left,
+        at: point_of(&path[place as usize].left),
     }
 }
 
@@ -132,7 +146,7 @@ fn right_at(path: &[Frame], code: u16) -> EndAt
     let place = code - RIGHT_END;
     EndAt {
         code: RIGHT_END + place % RIGHT_END,
-        at: path[place as usize].right,
+        at: point_of(&path[place as usize].right),
     }
 }
 

@@ -2,6 +2,7 @@ use Rattle.std.proofs.Common.{◌≡◌, ℕ, ◌<◌, ◌%◌, Option, Some, ge
 use Rattle.std.proofs.lemmas.Option.{slice_get-get_or}
 use Rattle.sight_names.specs.declared.limits.TheConstants.{RIGHT_END}
 use Rattle.sight_names.specs.declared.names.EndAt.{EndAt}
+use Rattle.sight_names.specs.declared.names.Pt.{Pt}
 use Rattle.sight_names.specs.Splitting.{end_of}
 use Rattle.cert_checker.specs.declared.tree_judge.trees.Frame.{Frame}
 use Rattle.cert_checker.specs.TreeJudge.Path.{path_ends}
@@ -17,5 +18,6 @@ returns c =
     let place = c.args.place in
     let few : place < RIGHT_END = omega (arith, c.requires.within, c.requires.few) in
     let same : place % RIGHT_END ≡ place = omega (arith, few) in
-    subst (λ (k : ℕ). ◌≡◌ {A = Option EndAt} (end_of (path_ends path) place) (Some (record { code = k; at = (get_or path place none).left }))) (sym same)
-    (left_there path place (get_or path place none) few (slice_get-get_or path place none c.requires.within))
+    subst (λ (at : Pt). ◌≡◌ {A = Option EndAt} (end_of (path_ends path) place) (Some (record { code = place % RIGHT_END; at = at }))) (sym c.point_of.ensures)
+    (subst (λ (k : ℕ). ◌≡◌ {A = Option EndAt} (end_of (path_ends path) place) (Some (record { code = k; at = (get_or path place none).left }))) (sym same)
+    (left_there path place (get_or path place none) few (slice_get-get_or path place none c.requires.within)))

@@ -2,6 +2,7 @@ use Rattle.std.proofs.Common.{◌≡◌, ℕ, ◌+◌, ◌-◌, ◌<◌, ◌%◌
 use Rattle.std.proofs.lemmas.Option.{slice_get-get_or}
 use Rattle.sight_names.specs.declared.limits.TheConstants.{RIGHT_END}
 use Rattle.sight_names.specs.declared.names.EndAt.{EndAt}
+use Rattle.sight_names.specs.declared.names.Pt.{Pt}
 use Rattle.sight_names.specs.Splitting.{end_of}
 use Rattle.cert_checker.specs.declared.tree_judge.trees.Frame.{Frame}
 use Rattle.cert_checker.specs.TreeJudge.Path.{path_ends}
@@ -17,5 +18,6 @@ returns c =
     let code = c.args.code in
     let fits : code < 65536 = c.ranges.code.fits in
     let same : RIGHT_END + (code - RIGHT_END) % RIGHT_END ≡ code = omega (arith, fits, c.requires.right) in
-    subst (λ (k : ℕ). ◌≡◌ {A = Option EndAt} (end_of (path_ends path) code) (Some (record { code = k; at = (get_or path (code - RIGHT_END) none).right }))) (sym same)
-    (right_there path code (get_or path (code - RIGHT_END) none) c.requires.right (slice_get-get_or path (code - RIGHT_END) none (omega (arith, c.requires.right, c.requires.within))))
+    subst (λ (at : Pt). ◌≡◌ {A = Option EndAt} (end_of (path_ends path) code) (Some (record { code = RIGHT_END + (code - RIGHT_END) % RIGHT_END; at = at }))) (sym c.point_of.ensures)
+    (subst (λ (k : ℕ). ◌≡◌ {A = Option EndAt} (end_of (path_ends path) code) (Some (record { code = k; at = (get_or path (code - RIGHT_END) none).right }))) (sym same)
+    (right_there path code (get_or path (code - RIGHT_END) none) c.requires.right (slice_get-get_or path (code - RIGHT_END) none (omega (arith, c.requires.right, c.requires.within)))))
