@@ -1,8 +1,10 @@
 pub mod Bits
+pub mod Meeting
 pub mod Roots
 pub mod Waiting
 pub mod Following
 pub mod Walking
+pub mod Nodes
 pub mod Trees
 pub mod Telling
 pub mod Answered

@@ -11,4 +11,4 @@ pub mod words;
 pub use follow::{RowFollow, Wait, next_asked};
 pub use judge::judge_by_rows;
 pub use masks::{Masks, leaves};
-pub use walk::RowWalk;
+pub use walk::{Followed, RowWalk};

@@ -1,9 +1,9 @@
 -- The bits of words: what both of two rows have, and whether a row has a bit.
-use Rattle.std.proofs.Common.{◌≡◌, ◌≢◌, ℕ, zero, suc, ◌+◌, ◌*◌, ◌/◌, ◌%◌, ◌^◌, ◌<◌, ◌≤◌, ◌-◌, min, inl, inr, List, [], ◌∷◌, ◌++◌, take, drop, Bool, true, false, not, ◌==◌, ◌||◌, length, slice_index, bit_and, get_or, refl, sym, ◌∙◌, ap, arith}
+use Rattle.std.proofs.Common.{◌≡◌, ◌≢◌, ℕ, zero, suc, ◌+◌, ◌*◌, ◌/◌, ◌%◌, ◌^◌, ◌<◌, ◌≤◌, ◌-◌, min, inl, inr, List, [], ◌∷◌, drop, Bool, true, false, not, ◌==◌, ◌||◌, length, slice_index, bit_and, get_or, refl, sym, ◌∙◌, ap, arith}
 use Rattle.std.specs.Int.{bit_at}
 use Rattle.std.proofs.lemmas.Nat.Bits.{bit_at-lt, bit_at_lowest, bit_at-suc, bit_at_and, bit_at_ones}
 use Rattle.std.proofs.lemmas.Nat.{and_le_l, and_le_r, and_mask, mod-pow-add}
-use Rattle.std.proofs.lemmas.List.{length-append, length-drop, length-take-le, get_or_append_left, get_or-take, get_or-drop, take_more, take_all, append_assoc}
+use Rattle.std.proofs.lemmas.List.{get_or-take, get_or-drop}
 use Rattle.math_base.proofs.Numbers.{same_or_not, tells_same, tells_other}
 use Rattle.math_base.proofs.Bools.{one_true, true_by_first, true_by_second, not_both_values}
 use Rattle.gate_floods.specs.RowJudge.Words.{both_words, has_bit, row_at}
@@ -81,7 +81,7 @@ bit_found ws c e = found ws (c / 64) (c % 64) (omega arith) e
 nothing_and : (y : ℕ) → 0 ≡ bit_and 0 y
 nothing_and y = let l : bit_and 0 y ≤ 0 = and_le_l 0 y in omega (arith, l)
 
-and_nothing : (x : ℕ) → 0 ≡ bit_and x 0
+pub and_nothing : (x : ℕ) → 0 ≡ bit_and x 0
 and_nothing x = let l : bit_and x 0 ≤ 0 = and_le_r x 0 in omega (arith, l)
 
 pub word_of_both : (xs ys : List ℕ) (k : ℕ) → slice_index (both_words xs ys) k ≡ bit_and (slice_index xs k) (slice_index ys k)
@@ -145,40 +145,17 @@ they_dont (x ∷ xs) (y ∷ ys) (suc n) none e = both_none (not (bit_and x y % 2
     both_none : (b c : Bool) → b ≡ false → c ≡ false → (b || c) ≡ false
     both_none b c e f = cc
 
--- ---- the row of both, put word by word
+-- ---- the words of a row
 
 pub at_any : (xs : List ℕ) (i d : ℕ) → i < length xs → get_or xs i d ≡ slice_index xs i
 at_any [] i d l = absurd (omega (arith, l))
 at_any (x ∷ xs) zero d l = refl
 at_any (x ∷ xs) (suc i) d l = at_any xs i d (omega (arith, l))
 
-module _ (old mask : List ℕ) (at w : ℕ) (room : at + w ≤ length old) where
-  abbrev front : List ℕ
-  front = take (at + w) old
+pub word_of_row : (xs : List ℕ) (w at i : ℕ) → i < w → slice_index (row_at xs w at) i ≡ slice_index xs (at + i)
+word_of_row xs w at i l = get_or-take w (drop at xs) i 0 l ∙ get_or-drop at xs i 0
 
-  abbrev both : List ℕ
-  both = both_words (row_at old w at) mask
-
-  length_both : length both ≡ w
-  length_both =
-      let d : length (drop at old) ≡ length old - at = length-drop at old in
-      length_of_both (row_at old w at) mask ∙ length-take-le w (drop at old) (omega (arith, d, room))
-
-  pub long_enough : (rows : List ℕ) (k : ℕ) → k < w → rows ≡ front ++ take k both → at + k < length rows
-  long_enough rows k l e =
-      let n : length rows ≡ length front + length (take k both) = ap (λ (us : List ℕ). length us) e ∙ length-append front (take k both) in
-      let f : length front ≡ at + w = length-take-le (at + w) old room in
-      omega (arith, n, f, l)
-
-  pub put_more : (rows new : List ℕ) (k x : ℕ) → k < w → rows ≡ front ++ take k both → x ≡ bit_and (slice_index rows (at + k)) (slice_index mask k) → new ≡ rows ++ x ∷ [] → new ≡ front ++ take (k + 1) both
-  put_more rows new k x l e f g = g ∙ ap (λ (us : List ℕ). us ++ x ∷ []) e ∙ append_assoc front (take k both) (x ∷ []) ∙ ap (λ (us : List ℕ). front ++ us) (ap (λ (y : ℕ). take k both ++ y ∷ []) value ∙ sym (take_more both k 0 (let b : length both ≡ w = length_both in omega (arith, b, l))))
-    where
-      here : slice_index rows (at + k) ≡ slice_index (row_at old w at) k
-      here = ap (λ (us : List ℕ). slice_index us (at + k)) e ∙ get_or_append_left front (take k both) 0 (at + k) (let n : length front ≡ at + w = length-take-le (at + w) old room in omega (arith, n, l))
-          ∙ get_or-take (at + w) old (at + k) 0 (omega (arith, l)) ∙ sym (get_or-drop at old k 0) ∙ sym (get_or-take w (drop at old) k 0 l)
-
-      value : x ≡ get_or both k 0
-      value = f ∙ ap (λ (y : ℕ). bit_and y (slice_index mask k)) here ∙ sym (word_of_both (row_at old w at) mask k)
-
-  pub put_all : (rows : List ℕ) (k : ℕ) → w ≤ k → rows ≡ front ++ take k both → rows ≡ front ++ both
-  put_all rows k l e = e ∙ ap (λ (us : List ℕ). front ++ us) (take_all k both (let b : length both ≡ w = length_both in omega (arith, b, l)))
+pub beyond : (xs : List ℕ) (i : ℕ) → length xs ≤ i → slice_index xs i ≡ 0
+beyond [] i l = refl
+beyond (x ∷ xs) zero l = absurd (omega (arith, l))
+beyond (x ∷ xs) (suc i) l = beyond xs i (omega (arith, l))

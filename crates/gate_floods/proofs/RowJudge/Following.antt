@@ -1,8 +1,7 @@
 -- A walk with a row that follows a tree: what each node answers, and what is still to be asked behind it.
-use Rattle.std.proofs.Common.{◌≡◌, ◌↔◌, ℕ, ◌+◌, ◌<◌, ◌≤◌, ◌-◌, IsTrue, true, false, List, [], ◌∷◌, ◌++◌, Option, Some, None, take, drop, length, refl, sym, ◌∙◌, ap, subst, arith}
+use Rattle.std.proofs.Common.{◌≡◌, ◌↔◌, ℕ, ◌+◌, ◌<◌, ◌≤◌, IsTrue, true, false, List, [], ◌∷◌, ◌++◌, Option, Some, None, take, length, refl, sym, ◌∙◌, ap, subst, arith}
 use Rattle.std.specs.List.{slice_get}
 use Rattle.std.specs.Prelude.{option_map}
-use Rattle.std.proofs.lemmas.List.{take_at, drop_at, take_all, length-append, length-take-le, length-drop}
 use Rattle.sight_names.specs.Splitting.{EndPoints}
 use Rattle.block_evidence.specs.declared.Evidence.{Evidence}
 use Rattle.block_evidence.specs.Stuck.{Blocks}
@@ -19,8 +18,7 @@ use Rattle.gate_floods.specs.declared.row_judge.follow.Wait.{Wait}
 use Rattle.gate_floods.specs.declared.row_judge.follow.RowFollow.{RowFollow}
 use Rattle.gate_floods.specs.RowJudge.Words.{row_at, both_words, is_away}
 use Rattle.gate_floods.specs.RowJudge.Asked.{place_at, left_of, Pending, pending_way, pending_roots, ends_through, row_through, ways_behind, ways_through}
-use Rattle.gate_floods.specs.RowJudge.Path.{HasPassed, AreWaiting, IsAt, with_asked, TakesNext, EntersThrough, HasAnswered, HasRefused}
-use Rattle.gate_floods.proofs.RowJudge.Bits.{length_of_both}
+use Rattle.gate_floods.specs.RowJudge.Path.{HasPassed, HasRoomFor, AreWaiting, IsAt, with_asked, TakesNext, EntersThrough, HasAnswered, HasRefused}
 use Rattle.gate_floods.proofs.RowJudge.Waiting.{row_same, waiting_same, waiting_more, put_room}
 
 -- ---- the row behind a half-edge
@@ -33,27 +31,15 @@ passed_over ms rows row edge none = record {
   room = λ l. l;
 }
 
-pub passed_gate : (ms : MaskRows) (rows new : List ℕ) (row edge place : ℕ) → place_at ms.places edge ≡ Some place → row + ms.width ≤ length rows
-    → new ≡ take (row + ms.width) rows ++ both_words (row_at rows ms.width row) (row_at ms.words ms.width place) → HasPassed ms rows row edge new (row + ms.width)
-passed_gate ms rows new row edge place is room put = record {
-  there = ap (λ (us : List ℕ). row_at us ms.width (row + ms.width)) put ∙ ap (take ms.width) (drop_at front both (row + ms.width) long) ∙ take_all ms.width both (let l : length both ≡ ms.width = long_too in omega (arith, l))
+pub passed_gate : (ms : MaskRows) (rows mid new : List ℕ) (row edge place : ℕ) → place_at ms.places edge ≡ Some place → HasRoomFor rows row ms.width mid true → length new ≡ length mid → take (row + ms.width) new ≡ take (row + ms.width) mid
+    → row_at new ms.width (row + ms.width) ≡ both_words (row_at mid ms.width row) (row_at ms.words ms.width place) → HasPassed ms rows row edge new (row + ms.width)
+passed_gate ms rows mid new row edge place is (there, room, before) len kept put = record {
+  there = put ∙ ap (λ (us : List ℕ). both_words us (row_at ms.words ms.width place)) (row_same rows mid ms.width row row (omega arith) before)
       ∙ ap (λ (o : Option ℕ). left_of (row_at rows ms.width row) (option_map (row_at ms.words ms.width) o)) (sym is);
-  kept = ap (take (row + ms.width)) put ∙ take_at front both (row + ms.width) long;
+  kept = kept ∙ before;
   after = omega arith;
-  room = λ l. let n : length new ≡ length front + length both = ap (λ (us : List ℕ). length us) put ∙ length-append front both in let a : length front ≡ row + ms.width = long in let b : length both ≡ ms.width = long_too in omega (arith, n, a, b);
+  room = λ l. omega (arith, room, len);
 }
-  where
-    front : List ℕ
-    front = take (row + ms.width) rows
-
-    both : List ℕ
-    both = both_words (row_at rows ms.width row) (row_at ms.words ms.width place)
-
-    long : length (take (row + ms.width) rows) ≡ row + ms.width
-    long = length-take-le (row + ms.width) rows room
-
-    long_too : length (both_words (row_at rows ms.width row) (row_at ms.words ms.width place)) ≡ ms.width
-    long_too = length_of_both (row_at rows ms.width row) (row_at ms.words ms.width place) ∙ length-take-le ms.width (drop row rows) (let d : length (drop row rows) ≡ length rows - row = length-drop row rows in omega (arith, d, room))
 
 -- ---- nodes
 

@@ -24,7 +24,7 @@ use Rattle.gate_floods.specs.RowJudge.Judged.{IsWalked, IsWholeFrom, IsFirstWron
 use Rattle.gate_floods.proofs.RowJudge.Waiting.{waiting_same}
 
 -- one more node answers
-answered_more : (xs : List HalfEdge) (ms : MaskRows) (source : ℕ) (ns : List Node) (n : Node) (ps qs rs : List Pending) → AreAnswered xs ms source ps ns qs → Answers xs ms source qs n rs → AreAnswered xs ms source ps (ns ++ n ∷ []) rs
+pub answered_more : (xs : List HalfEdge) (ms : MaskRows) (source : ℕ) (ns : List Node) (n : Node) (ps qs rs : List Pending) → AreAnswered xs ms source ps ns qs → Answers xs ms source qs n rs → AreAnswered xs ms source ps (ns ++ n ∷ []) rs
 answered_more xs ms source [] n ps qs rs e answer = (rs, subst (λ (os : List Pending). Answers xs ms source os n rs) e answer, refl)
 answered_more xs ms source (k ∷ ns) n ps qs rs (os, first, rest) answer = (os, first, answered_more xs ms source ns n os qs rs rest answer)
 
@@ -42,11 +42,11 @@ at_same ms first roots path other rows waits f ps l e a = record {
   last = a.last;
 }
 
-node_behind : (done : List Node) (n : Node) → slice_get (done ++ n ∷ []) (length done) ≡ Some n
+pub node_behind : (done : List Node) (n : Node) → slice_get (done ++ n ∷ []) (length done) ≡ Some n
 node_behind [] n = refl
 node_behind (k ∷ done) n = node_behind done n
 
-one_node : (n k : Node) → ◌≡◌ {A = Option Node} (Some n) (Some k) → n ≡ k
+pub one_node : (n k : Node) → ◌≡◌ {A = Option Node} (Some n) (Some k) → n ≡ k
 one_node n k h = cc
 
 module _ (xs : List HalfEdge) (ms : MaskRows) (first : List ℕ) (roots : List Root) (firsts : List (Option ℕ)) where

@@ -1,5 +1,5 @@
 -- The path of a walk with a row: its portals, its rows, and the ways that are still to come.
-use Rattle.std.specs.Prelude.{◌≡◌, ℕ, ◌+◌, ◌<◌, ◌≤◌, List, [], ◌∷◌, ◌++◌, Option, Some, None, take, length}
+use Rattle.std.specs.Prelude.{◌≡◌, ℕ, ◌+◌, ◌<◌, ◌≤◌, Bool, true, false, List, [], ◌∷◌, ◌++◌, Option, Some, None, take, length}
 use Rattle.mesh_shape.specs.declared.half_edges.table.HalfEdge.{HalfEdge}
 use Rattle.cert_checker.specs.declared.tree_judge.roots.Root.{Root}
 use Rattle.cert_checker.specs.declared.tree_judge.trees.Frame.{Frame}
@@ -18,6 +18,11 @@ pub record HasPassed (ms : MaskRows) (old : List ℕ) (row edge : ℕ) (new : Li
   pub kept : take (row + ms.width) new ≡ take (row + ms.width) old
   pub after : row ≤ at
   pub room : row + ms.width ≤ length old → at + ms.width ≤ length new
+
+-- there is a row at this place, and room for one behind it, the rows up to there being as they were; or there is none
+abbrev pub HasRoomFor : List ℕ → ℕ → ℕ → List ℕ → Bool → Type 0
+HasRoomFor old row width new true = (row + width ≤ length old) × (row + width + width ≤ length new) × (take (row + width) new ≡ take (row + width) old)
+HasRoomFor old row width new false = length old < row + width
 
 -- so it is, if a place is told; none is told only where there is no row before
 abbrev pub HasPassedTo : MaskRows → List ℕ → ℕ → ℕ → List ℕ → Option ℕ → Type 0

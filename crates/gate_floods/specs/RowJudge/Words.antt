@@ -1,5 +1,5 @@
 -- Rows of numbers as bits in words of 64, the least bit of each word first.
-use Rattle.std.specs.Prelude.{◌≡◌, ℕ, ◌/◌, ◌%◌, ◌^◌, ◌==◌, ◌||◌, not, Bool, true, false, ◌↔◌, List, [], ◌∷◌, Option, Some, None, take, drop, slice_index, bit_and}
+use Rattle.std.specs.Prelude.{◌≡◌, ℕ, ◌+◌, ◌/◌, ◌%◌, ◌^◌, ◌<◌, ◌≤◌, ◌⊎◌, ◌==◌, ◌||◌, not, Bool, true, false, ◌↔◌, List, [], ◌∷◌, Option, Some, None, take, drop, length, slice_index, bit_and}
 use Rattle.std.specs.Int.{bit_at}
 
 -- the number is in the row
@@ -29,3 +29,15 @@ row_at words width at = take width (drop at words)
 abbrev pub is_away : List ℕ → Option ℕ → Bool
 is_away row None = true
 is_away row (Some c) = not (is_in row c)
+
+-- so many words from the one place on were met with those of the mask, and put from the other place on; all others stayed
+pub record HasMet (old mask : List ℕ) (at to k : ℕ) (new : List ℕ) : Type 0 where
+  pub len : length new ≡ length old
+  pub met : (j : ℕ) → j < k → slice_index new (to + j) ≡ bit_and (slice_index old (at + j)) (slice_index mask j)
+  pub others : (j : ℕ) → (j < to) ⊎ (to + k ≤ j) → slice_index new j ≡ slice_index old j
+
+-- there is no bit in so many words from this place on; all others stayed
+pub record IsCleared (old : List ℕ) (from k : ℕ) (new : List ℕ) : Type 0 where
+  pub len : length new ≡ length old
+  pub none : (j : ℕ) → j < k → slice_index new (from + j) ≡ 0
+  pub others : (j : ℕ) → (j < from) ⊎ (from + k ≤ j) → slice_index new j ≡ slice_index old j

@@ -1,15 +1,17 @@
 //! A walk with a row that follows a tree.
 
-ghost use Rattle.std.specs.Prelude.{◌≡◌, ◌+◌, ◌<◌, ℕ, List, IfOk, length, not, true, false};
+ghost use Rattle.std.specs.Prelude.{◌≡◌, ◌↔◌, ◌+◌, ◌<◌, ◌≤◌, ◌++◌, [], ◌∷◌, ℕ, List, IfOk, OnOk, IsTrue, length, not, true, false};
+ghost use Rattle.block_evidence.specs.declared.sight_tree.Node.TheVariants.{Open, Blocked};
 ghost use Rattle.cert_checker.specs.TreeJudge.Path.{IsChain};
 ghost use Rattle.cert_checker.specs.TreeJudge.Roots.{first_at};
 ghost use Rattle.gate_floods.specs.RowJudge.Masks.{rows_of};
 ghost use Rattle.gate_floods.specs.RowJudge.Asked.{way_asked as way_asked_of};
-ghost use Rattle.gate_floods.specs.RowJudge.Path.{AsksRoot, EntersThrough, HasAnswered, HasPassedTo, HasRefused, StandsBefore, TakesNext};
+ghost use Rattle.gate_floods.specs.RowJudge.Path.{AsksRoot, EntersThrough, HasAnswered, HasPassedTo, HasRefused, HasRoomFor, StandsBefore, TakesNext};
 ghost use Rattle.gate_floods.specs.RowJudge.Words.{is_away};
 
 use crate::row_judge::masks::{Masks, leaves, place_of};
 use crate::row_judge::words::{has, part, put_both};
+use block_evidence::Evidence;
 use block_evidence::sight_tree::Node;
 use cert_checker::tree_judge::{Frame, Roots, Terrain, is_blocked, put};
 use mesh_shape::half_edges::HalfEdge;
@@ -57,6 +59,8 @@ fn way_asked(
 
 /// The half-edge of the first root from this place on behind which something is left of the row, and the place of the
 /// root behind it.
+// out of line, where few nodes lead: what it needs would else take registers at each node
+#[inline(never)]
 fn next_root(
     roots: &Roots,
     masks: &Masks<'_>,
@@ -106,6 +110,20 @@ pub fn next_asked(
     }
 }
 
+/// Puts a way behind those that wait.
+// most often there is room, and then nothing is called
+#[inline(always)]
+fn put_wait(waits: &mut Vec<Wait>, wait: Wait) -> Result<(), Memory>
+    ensures { OnOk result (waits.new.items ≡ waits.old.items ++ wait ∷ []) }
+{
+    if waits.len() < waits.capacity() {
+        waits.push_reserved(wait);
+        return Ok(());
+    }
+    waits.push(wait)?;
+    Ok(())
+}
+
 /// What is asked next behind the half-edge to whose far side the walk has come: its left way, its right way, or what
 /// comes behind both. Where both are asked, the right one waits.
 #[inline(always)]
@@ -125,17 +143,53 @@ fn enter(
     let left = way_asked(terrain, masks, source, row, edge.left_way);
     match (left, right) {
         (Some(left), Some(right)) => {
-            waits.push(Wait {
+            let wait = Wait {
                 depth: follow.depth,
                 row: follow.row,
                 way: right,
-            })?;
+            };
+            put_wait(waits, wait)?;
             Ok(Some(left))
         }
         (Some(way), None) => Ok(Some(way)),
         (None, Some(way)) => Ok(Some(way)),
         (None, None) => Ok(next_asked(terrain.roots, masks, rows, waits, follow)),
     }
+}
+
+/// Makes the rows longer where they have no place for a row behind the one at this place. False where there is no row there.
+// out of line: it is seldom called
+#[inline(never)]
+fn make_row(rows: &mut Vec<u64>, row: usize, width: usize) -> Result<bool, Memory>
+    ensures { IfOk result (HasRoomFor rows.old.items row width rows.new.items) }
+{
+    let count = rows.len();
+    if count < width || count - width < row {
+        return Ok(false);
+    }
+    if count - width - row < width {
+        rows.resize(row + width + width, 0)?;
+    }
+    Ok(true)
+}
+
+/// Whether the rows have a place for a row behind the one at this place.
+#[inline(always)]
+fn has_place(rows: &[u64], row: usize, width: usize) -> bool
+    ensures { IsTrue result ↔ (row + width + width ≤ length rows.now) }
+{
+    row <= rows.len() && width <= (rows.len() - row) / 2
+}
+
+/// The same of rows that may be made longer. False where there is no row at this place.
+#[inline(always)]
+fn has_room(rows: &mut Vec<u64>, row: usize, width: usize) -> Result<bool, Memory>
+    ensures { IfOk result (HasRoomFor rows.old.items row width rows.new.items) }
+{
+    if has_place(rows.as_slice(), row, width) {
+        return Ok(true);
+    }
+    make_row(rows, row, width)
 }
 
 /// Where the row behind the half-edge is: behind a gate it is put behind the one before, elsewhere it is that one. None
@@ -152,12 +206,11 @@ fn pass(
     let Some(place) = place_of(masks, edge) else {
         return Ok(Some(row));
     };
-    let count = rows.len();
-    if count < masks.width || count - masks.width < row {
+    if !has_room(rows, row, masks.width)? {
         return Ok(None);
     }
     let mask = part(masks.words, place as usize, masks.width);
-    put_both(rows, row, masks.width, mask)?;
+    put_both(rows.as_mut_slice(), row, masks.width, mask);
     Ok(Some(row + masks.width))
 }
 
@@ -170,6 +223,73 @@ fn holds(row: &[u64], sector: Option<u16>) -> bool
         Some(sector) => has(row, sector),
         None => false,
     }
+}
+
+/// Whether an open node answers for the half-edge that is asked: it goes through it, and enters no sector that the row still has.
+/// The next half-edge is asked then. False also where there is no room on the path.
+#[inline(always)]
+pub fn answer_open(
+    terrain: &Terrain<'_>,
+    masks: &Masks<'_>,
+    source: u16,
+    path: &mut [Frame],
+    rows: &mut Vec<u64>,
+    waits: &mut Vec<Wait>,
+    follow: &mut RowFollow,
+) -> Result<bool, Memory>
+    ensures answered { (first : List ℕ) → IfOk result (λ yes. yes ≡ true → HasAnswered terrain.now.edges.now (rows_of masks.now) source first terrain.now.roots.now.roots.items Open path.old rows.old.items waits.old.items follow.old path.new rows.new.items waits.new.items follow.new) }
+    ensures refused { (first : List ℕ) → IfOk result (λ yes. yes ≡ false → follow.old.depth < length path.old → HasRefused terrain.now.edges.now (rows_of masks.now) source first terrain.now.roots.now.roots.items Open path.old rows.old.items waits.old.items follow.old) }
+{
+    let Some(place) = follow.asked else {
+        return Ok(false);
+    };
+    let Some(edge) = terrain.edges.get(place) else {
+        return Ok(false);
+    };
+    if !put(path, follow.depth, edge) {
+        return Ok(false);
+    }
+    let Some(row) = pass(masks, rows, follow.row, place)? else {
+        return Ok(false);
+    };
+    if holds(part(rows, row, masks.width), edge.sector) {
+        return Ok(false);
+    }
+    follow.depth += 1;
+    follow.row = row;
+    follow.asked = enter(terrain, masks, source, rows, waits, follow, edge)?;
+    Ok(true)
+}
+
+/// Whether the ends of a blocked node show that no line passes the sequence through the half-edge that is asked; then the next
+/// one is. False also where there is no room on the path.
+#[inline(always)]
+pub fn answer_blocked(
+    terrain: &Terrain<'_>,
+    masks: &Masks<'_>,
+    path: &mut [Frame],
+    rows: &[u64],
+    waits: &mut Vec<Wait>,
+    follow: &mut RowFollow,
+    evidence: Evidence,
+) -> bool
+    ensures answered { (source : ℕ) (first : List ℕ) → IsTrue result → HasAnswered terrain.now.edges.now (rows_of masks.now) source first terrain.now.roots.now.roots.items (Blocked evidence) path.old rows.now waits.old.items follow.old path.new rows.now waits.new.items follow.new }
+    ensures refused { (source : ℕ) (first : List ℕ) → result ≡ false → follow.old.depth < length path.old → HasRefused terrain.now.edges.now (rows_of masks.now) source first terrain.now.roots.now.roots.items (Blocked evidence) path.old rows.now waits.old.items follow.old }
+{
+    let Some(place) = follow.asked else {
+        return false;
+    };
+    let Some(edge) = terrain.edges.get(place) else {
+        return false;
+    };
+    if !put(path, follow.depth, edge) {
+        return false;
+    }
+    if !is_blocked(&path[..=follow.depth], evidence) {
+        return false;
+    }
+    follow.asked = next_asked(terrain.roots, masks, rows, waits, follow);
+    true
 }
 
 /// Whether the node answers for the half-edge that is asked: it goes through it and enters no sector that the row still
@@ -189,35 +309,17 @@ pub fn answer(
     ensures answered { (first : List ℕ) → IfOk result (λ yes. yes ≡ true → HasAnswered terrain.now.edges.now (rows_of masks.now) source first terrain.now.roots.now.roots.items node path.old rows.old.items waits.old.items follow.old path.new rows.new.items waits.new.items follow.new) }
     ensures refused { (first : List ℕ) → IfOk result (λ yes. yes ≡ false → follow.old.depth < length path.old → HasRefused terrain.now.edges.now (rows_of masks.now) source first terrain.now.roots.now.roots.items node path.old rows.old.items waits.old.items follow.old) }
 {
-    let Some(place) = follow.asked else {
-        return Ok(false);
-    };
-    let Some(edge) = terrain.edges.get(place) else {
-        return Ok(false);
-    };
-    if !put(path, follow.depth, edge) {
-        return Ok(false);
-    }
     match node {
-        Node::Open => {
-            let Some(row) = pass(masks, rows, follow.row, place)? else {
-                return Ok(false);
-            };
-            if holds(part(rows, row, masks.width), edge.sector) {
-                return Ok(false);
-            }
-            follow.depth += 1;
-            follow.row = row;
-            follow.asked = enter(terrain, masks, source, rows, waits, follow, edge)?;
-            Ok(true)
-        }
-        Node::Blocked(evidence) => {
-            if !is_blocked(&path[..=follow.depth], evidence) {
-                return Ok(false);
-            }
-            follow.asked = next_asked(terrain.roots, masks, rows, waits, follow);
-            Ok(true)
-        }
+        Node::Open => answer_open(terrain, masks, source, path, rows, waits, follow),
+        Node::Blocked(evidence) => Ok(answer_blocked(
+            terrain,
+            masks,
+            path,
+            rows.as_slice(),
+            waits,
+            follow,
+            evidence,
+        )),
     }
 }
 

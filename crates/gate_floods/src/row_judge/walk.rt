@@ -5,12 +5,14 @@ ghost use Rattle.block_evidence.specs.declared.sight_tree.Tree.{Tree as WalkTree
 ghost use Rattle.cert_checker.specs.TreeJudge.Walked.{begun, with_node};
 ghost use Rattle.gate_floods.specs.RowJudge.Masks.{rows_of};
 ghost use Rattle.gate_floods.specs.RowJudge.Asked.{Answers, Pending};
-ghost use Rattle.gate_floods.specs.RowJudge.Judged.{IsFirstWrongFrom, IsWalked, IsWholeFrom, StandsAt};
+ghost use Rattle.certificates.specs.CertParts.Nodes.{TakesNodes};
+ghost use Rattle.gate_floods.specs.RowJudge.Judged.{Follows, FollowsAt, IsFirstWrongFrom, IsWalked, IsWholeFrom, StandsAt};
 
-use crate::row_judge::follow::{RowFollow, Wait, answer, start};
+use crate::row_judge::follow::{RowFollow, Wait, answer, answer_blocked, answer_open, start};
 use crate::row_judge::masks::Masks;
 use block_evidence::sight_tree::{Node, Tree};
 use cert_checker::tree_judge::{Frame, Terrain, make_room};
+use certificates::cert_parts::usual_node;
 use sight_names::Memory;
 use std::alloc::Global;
 
@@ -32,6 +34,69 @@ fn put_first(rows: &mut Vec<u64>, row: &[u64]) -> Result<(), Memory>
     rows.clear();
     rows.extend_from_slice(row)?;
     Ok(())
+}
+
+/// What comes of nodes that a walk has followed: the bytes behind them, how many are left, and whether the last one is wrong.
+#[derive(Clone, Copy)]
+pub struct Followed<'a> {
+    pub rest: &'a [u8],
+    pub left: u64,
+    pub wrong: bool,
+}
+
+/// Follows the usual nodes that come first in the bytes, of so many that are to come, up to the first wrong one and as far as
+/// the path has room.
+// the walk stands in locals here, and all that it calls is in line. The first wrong node is told at once: a flag would be asked
+// for at each
+fn follow_nodes<'a>(
+    terrain: &Terrain<'_>,
+    masks: &Masks<'_>,
+    source: u16,
+    path: &mut [Frame],
+    rows: &mut Vec<u64>,
+    waits: &mut Vec<Wait>,
+    follow: &mut RowFollow,
+    bytes: &'a [u8],
+    count: u64,
+) -> Result<Followed<'a>, Memory>
+    ensures { IfOk result (λ f. TakesNodes bytes.now count f.rest.now f.left (FollowsAt terrain.now.edges.now (rows_of masks.now) terrain.now.roots.now.roots.items terrain.now.roots.now.first.items source path.old rows.old.items waits.old.items follow.old path.new rows.new.items waits.new.items follow.new f.wrong)) }
+{
+    let mut at = *follow;
+    let mut rest = bytes;
+    let mut left = count;
+    'rest: while left > 0 && at.depth < path.len() {
+        let Some((node, behind)) = usual_node(rest) else {
+            break;
+        };
+        rest = behind;
+        left -= 1;
+        let answers = match node {
+            Node::Open => answer_open(terrain, masks, source, path, rows, waits, &mut at)?,
+            Node::Blocked(evidence) => answer_blocked(
+                terrain,
+                masks,
+                path,
+                rows.as_slice(),
+                waits,
+                &mut at,
+                evidence,
+            ),
+        };
+        if !answers {
+            *follow = at;
+            return Ok(Followed {
+                rest,
+                left,
+                wrong: true,
+            });
+        }
+    }
+    *follow = at;
+    Ok(Followed {
+        rest,
+        left,
+        wrong: false,
+    })
 }
 
 impl RowWalk {
@@ -75,6 +140,7 @@ impl RowWalk {
     }
 
     /// Whether the node answers for what is asked; then the walk stands behind it. A node that answers isn't refused.
+    #[inline(always)]
     pub fn step(
         &mut self,
         terrain: &Terrain<'_>,
@@ -96,6 +162,30 @@ impl RowWalk {
             &mut self.waits,
             &mut self.follow,
             node,
+        )
+    }
+
+    /// Follows the usual nodes that come first in the bytes, of so many that are to come, up to the first wrong one; others and
+    /// those that find no room on the path are left to `step`.
+    pub fn follow<'a>(
+        &mut self,
+        terrain: &Terrain<'_>,
+        masks: &Masks<'_>,
+        bytes: &'a [u8],
+        count: u64,
+    ) -> Result<Followed<'a>, Memory>
+        ensures { IfOk result (λ f. TakesNodes bytes.now count f.rest.now f.left (Follows terrain.now.edges.now (rows_of masks.now) terrain.now.roots.now.roots.items terrain.now.roots.now.first.items self.old self.new f.wrong)) }
+    {
+        follow_nodes(
+            terrain,
+            masks,
+            self.source,
+            self.path.as_mut_slice(),
+            &mut self.rows,
+            &mut self.waits,
+            &mut self.follow,
+            bytes,
+            count,
         )
     }
 

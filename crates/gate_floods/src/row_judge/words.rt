@@ -1,9 +1,7 @@
 //! Rows of bits in words, the least bit of each word first.
 
-ghost use Rattle.std.specs.Prelude.{◌≡◌, ◌+◌, ◌≤◌, ◌++◌, take, length, slice_index, OnOk};
-ghost use Rattle.gate_floods.specs.RowJudge.Words.{both_words, has_bit, is_in, row_at};
-
-use sight_names::Memory;
+ghost use Rattle.std.specs.Prelude.{◌≡◌, ◌+◌, ◌≤◌, take, length};
+ghost use Rattle.gate_floods.specs.RowJudge.Words.{both_words, has_bit, is_in, row_at, HasMet, IsCleared};
 
 /// Whether the number is in the row.
 #[inline(always)]
@@ -38,28 +36,42 @@ pub fn part(words: &[u64], at: usize, width: usize) -> &[u64]
     &behind[..width.min(behind.len())]
 }
 
-/// The word at this place; 0 where there is none.
+/// Meets the words from the one place on with those of the mask, and puts what both have from the other place on.
 #[inline(always)]
-fn word_at(words: &[u64], at: usize) -> u64
-    ensures { result ≡ slice_index words.now at }
+fn meet_words(rows: &mut [u64], at: usize, to: usize, mask: &[u64])
+    requires apart { at + length mask.now ≤ to }
+    requires room { to + length mask.now ≤ length rows.old }
+    ensures { HasMet rows.old mask.now at to (length mask.now) rows.new }
 {
-    match words.get(at) {
-        Some(word) => *word,
-        None => 0,
+    for k in 0..mask.len() {
+        rows[to + k] = rows[at + k] & mask[k];
     }
 }
 
-/// Puts behind the row at this place, in place of all that is there, the row of what the mask has too.
-#[inline(always)]
-pub fn put_both(rows: &mut Vec<u64>, at: usize, width: usize, mask: &[u64]) -> Result<(), Memory>
-    requires { at + width ≤ length rows.old.items }
-    ensures { OnOk result (rows.new.items ≡ take (at + width) rows.old.items ++ both_words (row_at rows.old.items width at) mask.now) }
+/// Leaves no bit in so many words from this place on.
+#[inline(never)]
+fn clear_words(rows: &mut [u64], from: usize, count: usize)
+    requires { from + count ≤ length rows.old }
+    ensures { IsCleared rows.old from count rows.new }
 {
-    rows.truncate(at + width);
-    rows.reserve(width)?;
-    for k in 0..width {
-        let word = rows[at + k] & word_at(mask, k);
-        rows.push_reserved(word);
+    for k in 0..count {
+        rows[from + k] = 0;
     }
-    Ok(())
+}
+
+/// Puts behind the row at this place, in place of what is there, the row of what the mask has too. All else stays.
+// no length changes: so more than one word is met at a time
+#[inline(always)]
+pub fn put_both(rows: &mut [u64], at: usize, width: usize, mask: &[u64])
+    requires mask { length mask.now ≤ width }
+    requires room { at + width + width ≤ length rows.old }
+    ensures len { length rows.new ≡ length rows.old }
+    ensures kept { take (at + width) rows.new ≡ take (at + width) rows.old }
+    ensures put { row_at rows.new width (at + width) ≡ both_words (row_at rows.old width at) mask.now }
+{
+    let to = at + width;
+    meet_words(rows, at, to, mask);
+    if mask.len() < width {
+        clear_words(rows, to + mask.len(), width - mask.len());
+    }
 }
