@@ -45,7 +45,7 @@ module _ (a : Awaited) (t : TreesLeft) (total : ℕ) (bytes : List ℕ) where
   at_lengths : a.triangles ≡ 0 → a.rays ≡ 0 → left_at a t total bytes ≡ lengths_left a t total bytes
   at_lengths z y = no_triangle z ∙ no_ray y
 
-  at_trees : a.triangles ≡ 0 → a.rays ≡ 0 → a.lengths ≡ 0 → left_at a t total bytes ≡ trees_left t.source t.lengths total bytes
+  pub at_trees : a.triangles ≡ 0 → a.rays ≡ 0 → a.lengths ≡ 0 → left_at a t total bytes ≡ trees_left t.source t.lengths total bytes
   at_trees z y x = at_lengths z y ∙ no_length x
 
 -- ---- steps

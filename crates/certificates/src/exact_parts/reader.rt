@@ -1,8 +1,9 @@
 //! The reader: it is given the bytes behind the groups in pieces, and gives the parts.
 
-ghost use Rattle.std.specs.Prelude.{◌≡◌, ◌+◌, ◌<◌, ℕ, List, [], ◌++◌, length, Some, None, Ok, IsSome, IfOk, IfErr, OnErr};
+ghost use Rattle.std.specs.Prelude.{◌≡◌, ◌+◌, ◌<◌, ◌^◌, ℕ, List, [], ◌++◌, length, Some, None, Ok, IsSome, IfOk, IfErr, OnErr};
 ghost use Rattle.cert_format.specs.Reading.{Fails, Gives};
 ghost use Rattle.certificates.specs.ExactParts.Left.{IsCountable, parts_left, put_before};
+ghost use Rattle.certificates.specs.ExactParts.Nodes.{AwaitsTree, behind_bytes};
 ghost use Rattle.certificates.specs.ExactParts.Steps.{all_awaited, first_at, width_at, without_rest};
 
 use crate::exact_parts::awaited::Awaited;
@@ -116,6 +117,40 @@ impl Reader {
         self.kept.clear();
         self.given = total;
         taken
+    }
+
+    /// How many bytes are left of the tree that comes next, none of whose bytes is kept; 0 says nothing.
+    #[inline(always)]
+    pub fn tree_awaited(&self) -> u64
+        ensures { 0 < result → AwaitsTree self.now result }
+    {
+        if self.kept.len() != 0
+            || self.awaited.triangles > 0
+            || self.awaited.rays > 0
+            || self.awaited.lengths > 0
+        {
+            return 0;
+        }
+        self.trees.first()
+    }
+
+    /// The number of the tree that comes next.
+    #[inline(always)]
+    pub fn tree(&self) -> usize
+        ensures { result ≡ self.now.trees.source }
+    {
+        self.trees.source()
+    }
+
+    /// Goes behind nodes that were taken by `usual_node`, of so many bytes.
+    #[inline(always)]
+    pub fn nodes_taken(&mut self, bytes: usize)
+        requires { self.old.kept ≡ [] }
+        ensures { self.old.given + bytes < 2 ^ 64 → self.new ≡ behind_bytes self.old bytes }
+    {
+        self.trees.take(bytes);
+        self.trees.settle();
+        self.given = self.given.saturating_add(bytes);
     }
 
     /// The next part and what of the piece is behind it; None where the piece is used up. Bytes of a part that is cut are

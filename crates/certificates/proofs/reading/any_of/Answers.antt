@@ -1,4 +1,4 @@
-use Rattle.std.proofs.Common.{Ok, arith, rules, subst}
+use Rattle.std.proofs.Common.{arith, rules, subst}
 use Rattle.std.proofs.lemmas.Result.{err_from_is_err_and}
 use Rattle.cert_format.specs.Grammar.{AreSmall}
 use Rattle.cert_format.proofs.CertGroups.AnyLaws.{any_takes}

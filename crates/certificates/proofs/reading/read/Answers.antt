@@ -1,4 +1,4 @@
-use Rattle.std.proofs.Common.{None, Ok, Err, Result, arith, subst, sym, ◌∙◌}
+use Rattle.std.proofs.Common.{Ok, Err, Result, arith, subst, sym, ◌∙◌}
 use Rattle.std.proofs.lemmas.Result.{err_from_is_err_and}
 use Rattle.sight_names.specs.declared.faults.CertFault.{CertFault}
 use Rattle.cert_format.specs.Reading.{Fails}
