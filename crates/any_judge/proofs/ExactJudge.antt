@@ -1,6 +1,5 @@
 pub mod Begun
 pub mod Walked
-pub mod Nodes
 pub mod Told
 pub mod AllHeard
 pub mod Stages

@@ -16,7 +16,7 @@ pub heard_one_more : (h : Heard) (parts : List Part) (part : Part) → heard_fro
 heard_one_more h [] part = refl
 heard_one_more h (first ∷ parts) part = heard_one_more (with_part h first) parts part
 
-pub heard_both : (h : Heard) (parts more : List Part) → heard_from h (parts ++ more) ≡ heard_from (heard_from h parts) more
+heard_both : (h : Heard) (parts more : List Part) → heard_from h (parts ++ more) ≡ heard_from (heard_from h parts) more
 heard_both h [] more = refl
 heard_both h (part ∷ parts) more = heard_both (with_part h part) parts more
 
@@ -125,8 +125,3 @@ all_heard c = record {
         ∙ heard_both (made c.triangles false c.rays no_trees) (map (λ (ns : List Node). Length) c.trees) (tree_parts 0 c.trees)
         ∙ ap (λ (h : Heard). heard_from h (tree_parts 0 c.trees)) lengths.1
         ∙ nodes.is
-
--- nodes change the trees alone
-pub same_but_trees : (h : Heard) (f : ℕ) (ns : List Node) → ((heard_from h (node_parts f ns)).triangles ≡ h.triangles) × ((heard_from h (node_parts f ns)).rays ≡ h.rays)
-same_but_trees h f [] = (refl, refl)
-same_but_trees h f (n ∷ ns) = same_but_trees (with_part h (OfNode f n)) f ns

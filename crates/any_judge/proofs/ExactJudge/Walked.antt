@@ -57,7 +57,7 @@ module _ (g : Ground) where
     tells = record { wrong = λ es chain. wrong_stays g.edges (masks_in g) f _ ns (n ∷ []) k lt (t.tells.wrong es chain) };
   }
 
-  pub told_front : (front : List (List Node)) (ns : List Node) (m : ℕ) → m ≤ length front → AreTold g front m → AreTold g (front ++ ns ∷ []) m
+  told_front : (front : List (List Node)) (ns : List Node) (m : ℕ) → m ≤ length front → AreTold g front m → AreTold g (front ++ ns ∷ []) m
   told_front front ns m le t f us lt there = t f us lt (sym (get_front front ns f (omega (arith, lt, le))) ∙ there)
 
   told_back : (front : List (List Node)) (ns : List Node) (m : ℕ) → m ≤ length front → AreTold g (front ++ ns ∷ []) m → AreTold g front m

@@ -1,11 +1,10 @@
 //! Trees that are judged by rows as they come, node by node. No tree is kept.
 
-ghost use Rattle.std.specs.Prelude.{◌≡◌, ◌+◌, ℕ, List, [], ◌++◌, Option, Some, None, option_map, false, IfOk};
+ghost use Rattle.std.specs.Prelude.{◌≡◌, ◌+◌, ℕ, List, [], ◌++◌, Option, Some, None, option_map, IfOk};
 ghost use Rattle.std.specs.Option.{option_to_list};
 ghost use Rattle.block_evidence.specs.declared.sight_tree.Node.{Node as OneNode};
-ghost use Rattle.certificates.specs.CertParts.Nodes.{TakesNodes};
 ghost use Rattle.any_judge.specs.ExactJudge.Ground.{IsSizedGround};
-ghost use Rattle.any_judge.specs.ExactJudge.Trees.{Begun, HasHeardTrees, at_source, begun_all, heard_nodes, one_node};
+ghost use Rattle.any_judge.specs.ExactJudge.Trees.{Begun, HasHeardTrees, at_source, begun_all, one_node};
 
 use crate::exact_judge::ground::Ground;
 use block_evidence::sight_tree::Node;
@@ -144,54 +143,6 @@ impl RowTrees {
             });
         }
         Ok(())
-    }
-
-    /// The node with this number is the first wrong one of the open tree.
-    fn stop(&mut self, node: u64)
-        ensures wrong { self.new.wrong ≡ Some (record { source = self.old.source; node = node }) }
-        ensures ended { self.new.under_way ≡ false }
-        ensures ground { self.new.ground ≡ self.old.ground }
-    {
-        self.under_way = false;
-        self.wrong = Some(WrongNode {
-            source: self.source,
-            node,
-        });
-    }
-
-    /// The next nodes of this group's tree, of so many that are to come, from the bytes: what of those is behind them, and how many
-    /// are left. Others than the usual ones, and now and then one that needs room or is its tree's first, are left to `hear`.
-    pub fn hear_nodes<'a>(
-        &mut self,
-        source: usize,
-        bytes: &'a [u8],
-        count: u64,
-    ) -> Result<(&'a [u8], u64), Memory>
-        ensures heard { IfOk result (λ r. TakesNodes bytes.now count r.0.now r.1 (λ nodes. (b : Begun) → HasHeardTrees b self.old → HasHeardTrees (heard_nodes source nodes b) self.new)) }
-        ensures ground { self.new.ground ≡ self.old.ground }
-    {
-        if !self.under_way || self.begun <= source || self.begun - source != 1 {
-            return Ok((bytes, count));
-        }
-        let ground = &self.ground;
-        let terrain = Terrain {
-            edges: &ground.edges,
-            roots: &ground.roots,
-        };
-        let masks = Masks {
-            width: ground.masks.width,
-            places: ground.masks.places.as_slice(),
-            words: ground.masks.words.as_slice(),
-        };
-        let followed = self.walk.follow(&terrain, &masks, bytes, count)?;
-        let taken = count - followed.left;
-        if followed.wrong {
-            let node = self.nodes.saturating_add(taken - 1);
-            self.stop(node);
-            return Ok((followed.rest, followed.left));
-        }
-        self.nodes = self.nodes.saturating_add(taken);
-        Ok((followed.rest, followed.left))
     }
 
     /// Begins trees until so many have begun.
