@@ -1,10 +1,10 @@
 -- One bit of a table: what a write to one byte changes.
-use Rattle.std.proofs.Common.{◌≡◌, ◌≢◌, ℕ, zero, suc, ◌+◌, ◌-◌, ◌*◌, ◌/◌, ◌%◌, ◌^◌, ◌<◌, ◌≤◌, ◌⊎◌, inl, inr, List, length, min, refl, sym, ◌∙◌, ap, subst, arith, slice_set, slice_index, get_or-set_same, get_or-set_other, length-set, bit_and, bit_or}
+use Rattle.std.proofs.Common.{◌≡◌, ◌≢◌, ℕ, zero, suc, ◌+◌, ◌-◌, ◌*◌, ◌/◌, ◌%◌, ◌^◌, ◌<◌, ◌≤◌, ◌⊎◌, inl, inr, List, length, min, refl, sym, ◌∙◌, ap, subst, arith, slice_set, slice_index, ◌↔◌, get_or-set_same, get_or-set_other, length-set, bit_and, bit_or, bit_xor}
 use Rattle.std.specs.Int.{bit_at, div_ceil, w8}
-use Rattle.std.proofs.lemmas.Nat.Bits.{bit_at_and, bit_at_ones, bit_at_ones_above, bit_at-lt, bit_at_set_same, bit_at_set_other}
-use Rattle.std.proofs.lemmas.Nat.{same_from_place}
+use Rattle.std.proofs.lemmas.Nat.Bits.{bit_at_xor, bit_at_and, bit_at_ones, bit_at_ones_above, bit_at-lt, bit_at_set_same, bit_at_set_other}
+use Rattle.std.proofs.lemmas.Nat.{mul-add-lt, same_from_place}
 use Rattle.sight_names.specs.Table.{table_bit, IsTable, HasNoSpareBit}
-use Rattle.reject_bits.specs.Parts.{TableParts, HasSameBits, SetsPair, KeepsOtherPairs}
+use Rattle.reject_bits.specs.Parts.{TableParts, HasSameBits, HasOtherBits, SetsPair, KeepsOtherPairs}
 
 -- a bit of another byte
 pub table_bit_other : (t : List ℕ) (i v k : ℕ) → k / 8 ≢ i → table_bit (slice_set t i v) k ≡ table_bit t k
@@ -91,3 +91,56 @@ keeps_of_sets old new a b hb h c d hc hd differ =
   where
     apart : (c ≡ a) × (d ≡ b) → (c ≢ a) ⊎ (d ≢ b) → ⊥
     apart same differ = elim differ [ inl x ↦ x same.0 | inr y ↦ y same.1 ]
+
+-- ---- all bits turned round
+
+pub turned_bit : (x i : ℕ) → i < 8 → bit_at (bit_xor x 255) i ≡ 1 - bit_at x i
+turned_bit x i lt = bit_at_xor x 255 i ∙ other (bit_at x i) (bit_at 255 i) (bit_at-lt x i) (bit_at_ones 8 i lt)
+  where
+    other : (a b : ℕ) → a < 2 → b ≡ 1 → (a + b) % 2 ≡ 1 - a
+    other a b h e = omega (arith, h, e)
+
+-- the bits of the first i bytes are turned round
+pub record TurnedUpTo (i : ℕ) (old new : List ℕ) : Type 0 where
+  pub len : length new ≡ length old
+  pub done : (k : ℕ) → k < 8 * i → k < 8 * length old → table_bit new k ≡ 1 - table_bit old k
+  pub rest : (k : ℕ) → 8 * i ≤ k → table_bit new k ≡ table_bit old k
+
+pub turned_none : (t : List ℕ) → TurnedUpTo 0 t t
+turned_none t = record { len = refl; done = λ k lt l. absurd (omega arith); rest = λ k le. refl }
+
+pub turned_more : (i v : ℕ) (old new : List ℕ) → i < length new → TurnedUpTo i old new → ((j : ℕ) → j < 8 → bit_at v j ≡ 1 - bit_at (slice_index new i) j) → TurnedUpTo (i + 1) old (slice_set new i v)
+turned_more i v old new lt before turns = record {
+  len = length-set new i v ∙ before.len;
+  done = λ k less l. elim (where_is k i less) [
+    | inl h ↦ table_bit_other new i v k h.1 ∙ before.done k h.0 l
+    | inr here ↦ table_bit_same new i v k here.0 lt ∙ (turns (k % 8) (omega arith) ∙ ap (λ (b : ℕ). 1 - b) (ap (λ (j : ℕ). bit_at (slice_index new j) (k % 8)) (sym here.0) ∙ before.rest k here.1))
+  ];
+  rest = λ k le. table_bit_other new i v k (behind k i le) ∙ before.rest k (omega arith);
+}
+  where
+    where_is : (k i : ℕ) → k < 8 * (i + 1) → ((k < 8 * i) × (k / 8 ≢ i)) ⊎ ((k / 8 ≡ i) × (8 * i ≤ k))
+    where_is k i less = grind arith
+
+    behind : (k i : ℕ) → 8 * (i + 1) ≤ k → k / 8 ≢ i
+    behind k i le = omega arith
+
+pub turned_all : (i : ℕ) (old new : List ℕ) → length old ≤ i → TurnedUpTo i old new → (k : ℕ) → k < 8 * length old → table_bit new k ≡ 1 - table_bit old k
+turned_all i old new le h k lt = h.done k (omega arith) lt
+
+-- where all bits are turned round, the bits of the pairs are the other ones
+pub others_of : (n : ℕ) (old mid new : List ℕ) → IsTable n old → ((k : ℕ) → k < 8 * length old → table_bit mid k ≡ 1 - table_bit old k) → HasSameBits n mid new
+    → HasOtherBits (record { n = n; bytes = old }) (record { n = n; bytes = new })
+others_of n old mid new whole turns same = record { sectors_are = refl; bits = λ a b la lb. at (a * n + b) (mul-add-lt a n b n la lb) }
+  where
+    within : (k l m : ℕ) → l ≡ div_ceil m 8 → k < m → k < 8 * l
+    within k l m e lt = omega arith
+
+    other : (a b : ℕ) → b < 2 → a ≡ 1 - b → (a ≡ 1) ↔ (¬ (b ≡ 1))
+    other a b h e = ((λ one is. let x : 1 ≡ 1 - 1 = sym one ∙ (e ∙ ap (λ (c : ℕ). 1 - c) is) in omega (arith, x)), (λ not_one. zero_or_one a b h e not_one))
+      where
+        zero_or_one : (a b : ℕ) → b < 2 → a ≡ 1 - b → b ≢ 1 → a ≡ 1
+        zero_or_one a b h e differ = omega arith
+
+    at : (k : ℕ) → k < n * n → (table_bit new k ≡ 1) ↔ (¬ (table_bit old k ≡ 1))
+    at k lt = other (table_bit new k) (table_bit old k) (bit_at-lt (slice_index old (k / 8)) (k % 8)) (same k lt ∙ turns k (within k (length old) (n * n) whole lt))

@@ -38,3 +38,8 @@ pub record SetsPair (old new : TableParts) (a b : ℕ) : Type 0 where
 -- pairs of sectors other than (a, b) are rejected as before
 abbrev pub KeepsOtherPairs : TableParts → TableParts → ℕ → ℕ → Type 0
 KeepsOtherPairs old new a b = (c d : ℕ) → c < old.n → d < old.n → (c ≢ a) ⊎ (d ≢ b) → (Rejects new c d ↔ Rejects old c d)
+
+-- a table of the same sectors, with the bits that the other hasn't
+pub record HasOtherBits (marks t : TableParts) : Type 0 where
+  pub sectors_are : t.n ≡ marks.n
+  pub bits : (a b : ℕ) → a < marks.n → b < marks.n → Rejects t a b ↔ (¬ Rejects marks a b)

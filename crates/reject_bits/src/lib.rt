@@ -2,8 +2,8 @@
 //! Doom Specs describe the lump and linuxdoom's `P_CheckSight` reads it.
 #![tactic(auto)]
 
-ghost use Rattle.std.specs.Prelude.{◌≡◌, ◌≢◌, ℕ, length, ◌+◌, ◌*◌, ◌<◌, ◌↔◌, IfOk, IsTrue, replicate};
-ghost use Rattle.std.specs.Int.{div_ceil};
+ghost use Rattle.std.specs.Prelude.{◌≡◌, ◌≢◌, ℕ, length, ◌+◌, ◌-◌, ◌*◌, ◌<◌, ◌↔◌, IfOk, IsTrue, replicate};
+ghost use Rattle.std.specs.Int.{bit_at, div_ceil};
 ghost use Rattle.sight_names.specs.Table.{table_bit, IsTable, HasNoSpareBit};
 ghost use Rattle.reject_bits.specs.Parts.{HasSameBits};
 
@@ -30,7 +30,7 @@ impl Model for Table {
 }
 
 impl Table {
-    ghost use Rattle.reject_bits.specs.Parts.{Rejects, Takes, SetsPair, KeepsOtherPairs, IsWhole};
+    ghost use Rattle.reject_bits.specs.Parts.{HasOtherBits, Rejects, Takes, SetsPair, KeepsOtherPairs, IsWhole};
 
     /// The table in which no bit is set.
     pub fn clear(alloc: Global, n: u16) -> Result<Table, Memory>
@@ -90,6 +90,19 @@ impl Table {
         set_bit(self.bytes.as_mut_slice(), bit);
     }
 
+    /// The table with the bits that this one hasn't, byte by byte.
+    pub fn others(self) -> Table
+        ensures bits { HasOtherBits self result }
+        ensures whole { IsWhole result }
+    {
+        let Table { n, bytes: old } = self;
+        let mut bytes = old;
+        let slice = bytes.as_mut_slice();
+        turn_bits(slice);
+        clear_spare(n, slice);
+        Table { n, bytes }
+    }
+
     /// Whether the bit of the pair (a, b) is set: no monster in sector a sees a player in sector b.
     pub fn rejects(&self, a: u16, b: u16) -> bool
         requires from { a < self.now.n }
@@ -98,6 +111,23 @@ impl Table {
     {
         let bit = place(self.n, a, b);
         (self.bytes[bit / 8] >> (bit % 8)) & 1 == 1
+    }
+}
+
+/// The byte in which each bit is turned round.
+fn turned(byte: u8) -> u8
+    ensures { (i : ℕ) → i < 8 → bit_at result i ≡ 1 - bit_at byte i }
+{
+    byte ^ 255
+}
+
+/// Turns each bit round.
+fn turn_bits(bytes: &mut [u8])
+    ensures len { length bytes.new ≡ length bytes.old }
+    ensures bits { (k : ℕ) → k < 8 * length bytes.old → table_bit bytes.new k ≡ 1 - table_bit bytes.old k }
+{
+    for i in 0..bytes.len() {
+        bytes[i] = turned(bytes[i]);
     }
 }
 
