@@ -7,7 +7,7 @@ use Rattle.math_base.proofs.Signs.{le_or_lt, mul-pos, pos-of-mul, same-of-mul}
 use Rattle.sight_names.specs.declared.names.Pt.{Pt}
 use Rattle.sight_names.specs.Point.{Point, point_of, SamePoint}
 use Rattle.sight_names.specs.Sound.{IsCommon, IsEndOf, MeetAtEnds}
-use Rattle.plane_base.proofs.Vec.{V, Lin, at, det, On, value, det-swap, on_back, on_last}
+use Rattle.plane_base.proofs.Vec.{V, Lin, at, On, value, det-swap, on_back, on_last}
 use Rattle.plane_base.proofs.Wedge.{Inside}
 use Rattle.plane_base.proofs.Near.{on_first, on_inside, unit, height}
 use Rattle.mesh_base.proofs.SightLaws.Bridge.{vec, segment_of_on, on_of_segment}

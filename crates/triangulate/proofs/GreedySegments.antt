@@ -6,5 +6,6 @@ pub mod Measured
 pub mod Ordering
 pub mod Reach
 pub mod Saturation
+pub mod Searches
 pub mod SoFar
 pub mod Starting

@@ -1,6 +1,6 @@
 -- A mesh has at most twice as many triangles as the map has points: each point is the middle one of at most one triangle on
 -- either side of it.
-use Rattle.std.proofs.Common.{◌≡◌, ℕ, zero, suc, ◌+◌, ◌*◌, ◌<◌, ◌≤◌, ℤ, pos, ◌+ℤ◌, ◌-ℤ◌, ◌*ℤ◌, ◌<ℤ◌, neg_ℤ, nat_abs, arith, refl, sym, ap, ◌∙◌, subst, ◌⊎◌, inl, inr, List, [], ◌∷◌, length, slice_get, slice_index_or, Some, map, false, Bool, true, eqb-true}
+use Rattle.std.proofs.Common.{◌≡◌, ℕ, zero, suc, ◌+◌, ◌*◌, ◌<◌, ◌≤◌, ℤ, pos, ◌+ℤ◌, ◌-ℤ◌, ◌*ℤ◌, ◌<ℤ◌, neg_ℤ, nat_abs, arith, refl, sym, ap, ◌∙◌, subst, ◌⊎◌, inl, inr, List, [], ◌∷◌, length, slice_get, slice_index_or, Some, map, false, true, eqb-true}
 use borrow.Author.Differences.{ints}
 use lib.Dec.{eqb}
 use lib.IntN.{*ℤ-zero}

@@ -3,3 +3,4 @@ pub mod Extents
 pub mod Pairs
 pub mod Rounds
 pub mod Saturated
+pub mod Searched

@@ -5,5 +5,6 @@ mod clear;
 mod extents;
 mod rounds;
 mod saturated;
+mod searched;
 
 pub use rounds::greedy;

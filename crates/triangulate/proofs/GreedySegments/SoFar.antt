@@ -16,7 +16,7 @@ use Rattle.triangulate.specs.declared.greedy_segments.rounds.PointPair.{PointPai
 use Rattle.triangulate.specs.IncidentSegments.Kept.{MeetsEach, IsCrossedBy}
 use Rattle.triangulate.specs.GreedySegments.Pairs.{pair_edge, HasPair, IsPairBetween, ArePairsBetween, AreInOrder, IsNotAfter}
 use Rattle.triangulate.specs.GreedySegments.Rounds.{IsEarlier, IsGreedySoFar, IsShorter, IsSaturated, KeepsIfClear, KeepsClear}
-use Rattle.triangulate.proofs.GreedySegments.Crossed.{edge, same_edge}
+use Rattle.triangulate.proofs.GreedySegments.Crossed.{same_edge}
 use Rattle.math_base.proofs.Numbers.{below_or_last}
 use Rattle.math_base.proofs.Lists.{pushed_at, contains_none}
 use Rattle.math_base.proofs.Small.{same_without_one}

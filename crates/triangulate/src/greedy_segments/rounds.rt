@@ -10,11 +10,13 @@ ghost use Rattle.triangulate.specs.declared.greedy_segments.rounds.PointPair.{Po
 ghost use Rattle.triangulate.specs.IncidentSegments.Kept.{AreEdges, edges_of};
 ghost use Rattle.triangulate.specs.GreedySegments.Pairs.{AreNumbers, AreInOrder, ArePairsBetween, AddsIfBetween, AddsPairs, IsReach, IsSquareBetween, IsWithin, pair_edge};
 ghost use Rattle.triangulate.specs.GreedySegments.Extents.{AreExtents};
+ghost use Rattle.triangulate.specs.GreedySegments.Searched.{AreSearched};
 ghost use Rattle.triangulate.specs.GreedySegments.Rounds.{AddsIfUnsaturated, IsSaturated, KeepsClear, KeepsIfClear, edges_of_line};
 
 use crate::greedy_segments::clear::{is_clear, is_crossed};
 use crate::greedy_segments::extents::Extents;
 use crate::greedy_segments::saturated::is_saturated;
+use crate::greedy_segments::searched::Searched;
 use crate::incident_segments::{IncidentSegments, Segments};
 use sight_names::{Line, Memory, Plan, Pt};
 use std::alloc::Global;
@@ -35,12 +37,19 @@ pub fn greedy(alloc: Global, plan: &Plan) -> Result<Segments, Memory>
 {
     let mut incident = lines_of(alloc, plan)?;
     let mut extents = extents_of(alloc, plan, &incident)?;
+    let mut searched = Searched::nothing(alloc)?;
     let mut unsaturated = all_points(alloc, plan)?;
     let longest = 3 * reach_of(plan) + 1;
     let mut low = 0u32;
     let mut high = 64u32;
     while low < longest {
-        unsaturated = unsaturated_points(alloc, plan, &incident, unsaturated.as_slice())?;
+        unsaturated = unsaturated_points(
+            alloc,
+            plan,
+            &incident,
+            &mut searched,
+            unsaturated.as_slice(),
+        )?;
         let mut pairs = pairs_between(alloc, plan, unsaturated.as_slice(), low, high)?;
         sort_pairs(&mut pairs);
         keep_clear_pairs(plan, &mut incident, &mut extents, pairs.as_slice())?;
@@ -128,16 +137,19 @@ fn unsaturated_points(
     alloc: Global,
     plan: &Plan,
     incident: &IncidentSegments,
+    searched: &mut Searched,
     unsaturated: &[u16],
 ) -> Result<Vec<u16>, Memory>
     requires points { incident.now.points ≡ length plan.now.points }
+    requires searched { AreSearched (map_of plan.now) searched.old.triangles.items }
     requires unsaturated { AreNumbers (length plan.now.points) unsaturated.now }
+    ensures searched { AreSearched (map_of plan.now) searched.new.triangles.items }
     ensures numbers { IfOk result (λ v. AreNumbers (length plan.now.points) v.items) }
     ensures closed { IfOk result (λ v. (k : ℕ) → Contains unsaturated.now k → Contains v.items k ⊎ IsSaturated (map_of plan.now) (edges_of incident.now.segments) k) }
 {
     let mut others = Vec::new(alloc);
     for k in unsaturated {
-        push_if_unsaturated(plan, incident, &mut others, *k)?;
+        push_if_unsaturated(plan, incident, searched, &mut others, *k)?;
     }
     Ok(others)
 }
@@ -146,14 +158,17 @@ fn unsaturated_points(
 fn push_if_unsaturated(
     plan: &Plan,
     incident: &IncidentSegments,
+    searched: &mut Searched,
     others: &mut Vec<u16>,
     k: u16,
 ) -> Result<(), Memory>
     requires points { incident.now.points ≡ length plan.now.points }
     requires within { k < incident.now.points }
-    ensures { OnOk result (AddsIfUnsaturated (map_of plan.now) (edges_of incident.now.segments) k others.old.items others.new.items) }
+    requires searched { AreSearched (map_of plan.now) searched.old.triangles.items }
+    ensures searched { AreSearched (map_of plan.now) searched.new.triangles.items }
+    ensures adds { OnOk result (AddsIfUnsaturated (map_of plan.now) (edges_of incident.now.segments) k others.old.items others.new.items) }
 {
-    if is_saturated(plan, incident, k) {
+    if is_saturated(plan, incident, searched, k) {
         return Ok(());
     }
     others.push(k)?;

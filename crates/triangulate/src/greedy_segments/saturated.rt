@@ -9,7 +9,10 @@ ghost use Rattle.triangulate.specs.GreedySegments.Saturated.{HasNoneLeft, HasTri
 ghost use Rattle.triangulate.specs.IncidentSegments.Kept.{edges_of};
 ghost use Rattle.triangulate.specs.GreedySegments.Rounds.{IsSaturated};
 ghost use Rattle.triangulate.specs.IncidentSegments.Neighbours.{IsNeighbour};
+ghost use Rattle.triangulate.specs.GreedySegments.Searched.{AreSearched};
+ghost use Rattle.sight_names.specs.Map.{Map};
 
+use crate::greedy_segments::searched::{Corners, Searched};
 use crate::incident_segments::{IncidentSegments, are_joined, next_left, next_right};
 use geom_exact::{in_triangle, turn};
 use sight_names::{Plan, Pt};
@@ -87,60 +90,133 @@ fn is_filled(plan: &Plan, a: u16, b: u16, c: u16) -> bool
     false
 }
 
+/// The corners of a triangle, turned so that the least comes first.
+fn corners_of(a: u16, b: u16, c: u16) -> Corners
+    ensures there { (m : Map) → IsEmptyTriangle m a b c → IsEmptyTriangle m result.a result.b result.c }
+    ensures back { (m : Map) → IsEmptyTriangle m result.a result.b result.c → IsEmptyTriangle m a b c }
+{
+    if a < b && a < c {
+        Corners { a, b, c }
+    } else if b < c {
+        Corners { a: b, b: c, c: a }
+    } else {
+        Corners { a: c, b: a, c: b }
+    }
+}
+
+/// Whether the triangle is known to be empty, or a search shows it.
+fn is_empty(plan: &Plan, searched: &Searched, a: u16, b: u16, c: u16) -> bool
+    requires first { a < length plan.now.points }
+    requires second { b < length plan.now.points }
+    requires third { c < length plan.now.points }
+    requires searched { AreSearched (map_of plan.now) searched.now.triangles.items }
+    ensures empty { OnTrue result (IsEmptyTriangle (map_of plan.now) a b c) }
+    ensures plan { IsPlan plan.now }
+{
+    let _lines = plan.lines();
+    searched.has_triangle(corners_of(a, b, c)) || !is_filled(plan, a, b, c)
+}
+
+/// The same, and an empty one is kept.
+fn finds_empty(plan: &Plan, searched: &mut Searched, a: u16, b: u16, c: u16) -> bool
+    requires first { a < length plan.now.points }
+    requires second { b < length plan.now.points }
+    requires third { c < length plan.now.points }
+    requires searched { AreSearched (map_of plan.now) searched.old.triangles.items }
+    ensures empty { OnTrue result (IsEmptyTriangle (map_of plan.now) a b c) }
+    ensures searched { AreSearched (map_of plan.now) searched.new.triangles.items }
+{
+    if !is_empty(plan, searched, a, b, c) {
+        return false;
+    }
+    searched.keep_triangle(corners_of(a, b, c));
+    true
+}
+
 /// Whether an empty triangle of kept segments lies on the left of the way from `a` to its neighbour `b`.
-fn has_triangle_left(plan: &Plan, incident: &IncidentSegments, a: u16, b: u16) -> bool
+fn has_triangle_left(
+    plan: &Plan,
+    incident: &IncidentSegments,
+    searched: &Searched,
+    a: u16,
+    b: u16,
+) -> bool
     requires points { incident.now.points ≡ length plan.now.points }
     requires first { a < incident.now.points }
     requires second { b < incident.now.points }
+    requires searched { AreSearched (map_of plan.now) searched.now.triangles.items }
     ensures triangle { OnTrue result (HasTriangleLeft (map_of plan.now) incident.now.segments a b) }
     ensures plan { OnTrue result (IsPlan plan.now) }
 {
     match next_left(plan, incident, a, b) {
-        Some(c) => are_joined(incident, b, c) && !is_filled(plan, a, b, c),
+        Some(c) => are_joined(incident, b, c) && is_empty(plan, searched, a, b, c),
         None => false,
     }
 }
 
 /// Whether there is no room on the left of the way from `a` to its neighbour `b`: an empty triangle lies there, or no point. A
 /// neighbour on the left is a point there, so points are searched only where there is none.
-fn has_face_left(plan: &Plan, incident: &IncidentSegments, a: u16, b: u16) -> bool
+fn has_face_left(
+    plan: &Plan,
+    incident: &IncidentSegments,
+    searched: &mut Searched,
+    a: u16,
+    b: u16,
+) -> bool
     requires points { incident.now.points ≡ length plan.now.points }
     requires first { a < incident.now.points }
     requires second { b < incident.now.points }
-    ensures { OnTrue result (HasTriangleLeft (map_of plan.now) incident.now.segments a b ⊎ HasNoneLeft (map_of plan.now) a b) }
+    requires searched { AreSearched (map_of plan.now) searched.old.triangles.items }
+    ensures searched { AreSearched (map_of plan.now) searched.new.triangles.items }
+    ensures face { OnTrue result (HasTriangleLeft (map_of plan.now) incident.now.segments a b ⊎ HasNoneLeft (map_of plan.now) a b) }
 {
     match next_left(plan, incident, a, b) {
-        Some(c) => are_joined(incident, b, c) && !is_filled(plan, a, b, c),
+        Some(c) => are_joined(incident, b, c) && finds_empty(plan, searched, a, b, c),
         None => !has_left(plan, a, b),
     }
 }
 
 /// The same on its right.
-fn has_face_right(plan: &Plan, incident: &IncidentSegments, a: u16, b: u16) -> bool
+fn has_face_right(
+    plan: &Plan,
+    incident: &IncidentSegments,
+    searched: &mut Searched,
+    a: u16,
+    b: u16,
+) -> bool
     requires points { incident.now.points ≡ length plan.now.points }
     requires first { a < incident.now.points }
     requires second { b < incident.now.points }
-    ensures { OnTrue result (HasTriangleRight (map_of plan.now) incident.now.segments a b ⊎ HasNoneLeft (map_of plan.now) b a) }
+    requires searched { AreSearched (map_of plan.now) searched.old.triangles.items }
+    ensures searched { AreSearched (map_of plan.now) searched.new.triangles.items }
+    ensures face { OnTrue result (HasTriangleRight (map_of plan.now) incident.now.segments a b ⊎ HasNoneLeft (map_of plan.now) b a) }
 {
     match next_right(plan, incident, a, b) {
-        Some(c) => are_joined(incident, c, b) && !is_filled(plan, a, c, b),
+        Some(c) => are_joined(incident, c, b) && finds_empty(plan, searched, a, c, b),
         None => !has_left(plan, b, a),
     }
 }
 
 /// Whether the segment to each neighbour of the point has no room on either side.
-fn have_both_faces(plan: &Plan, incident: &IncidentSegments, a: u16) -> bool
+fn have_both_faces(
+    plan: &Plan,
+    incident: &IncidentSegments,
+    searched: &mut Searched,
+    a: u16,
+) -> bool
     requires points { incident.now.points ≡ length plan.now.points }
     requires at { a < incident.now.points }
-    ensures { OnTrue result ((v : ℕ) → IsNeighbour incident.now.segments a v → HasBothFaces (map_of plan.now) incident.now.segments a v) }
+    requires searched { AreSearched (map_of plan.now) searched.old.triangles.items }
+    ensures searched { AreSearched (map_of plan.now) searched.new.triangles.items }
+    ensures faces { OnTrue result ((v : ℕ) → IsNeighbour incident.now.segments a v → HasBothFaces (map_of plan.now) incident.now.segments a v) }
 {
     let mut at = incident.last(a);
     while at > 0 {
         let b = incident.other(at - 1, a);
-        if !has_face_left(plan, incident, a, b) {
+        if !has_face_left(plan, incident, searched, a, b) {
             return false;
         }
-        if !has_face_right(plan, incident, a, b) {
+        if !has_face_right(plan, incident, searched, a, b) {
             return false;
         }
         at = incident.earlier(at - 1, a);
@@ -149,16 +225,17 @@ fn have_both_faces(plan: &Plan, incident: &IncidentSegments, a: u16) -> bool
 }
 
 /// Whether the segment to some neighbour of the point has an empty triangle on its left.
-fn has_triangle_at(plan: &Plan, incident: &IncidentSegments, a: u16) -> bool
+fn has_triangle_at(plan: &Plan, incident: &IncidentSegments, searched: &Searched, a: u16) -> bool
     requires points { incident.now.points ≡ length plan.now.points }
     requires at { a < incident.now.points }
+    requires searched { AreSearched (map_of plan.now) searched.now.triangles.items }
     ensures plan { OnTrue result (IsPlan plan.now) }
     ensures triangle { OnTrue result ((v : ℕ) × IsNeighbour incident.now.segments a v × HasTriangleLeft (map_of plan.now) incident.now.segments a v) }
 {
     let mut at = incident.last(a);
     while at > 0 {
         let b = incident.other(at - 1, a);
-        if has_triangle_left(plan, incident, a, b) {
+        if has_triangle_left(plan, incident, searched, a, b) {
             return true;
         }
         at = incident.earlier(at - 1, a);
@@ -197,16 +274,23 @@ fn has_gap(plan: &Plan, incident: &IncidentSegments, a: u16) -> bool
 }
 
 /// Whether the segments to all neighbours of the point have no room on either side, and some have a triangle on the left.
-pub fn is_saturated(plan: &Plan, incident: &IncidentSegments, a: u16) -> bool
+pub fn is_saturated(
+    plan: &Plan,
+    incident: &IncidentSegments,
+    searched: &mut Searched,
+    a: u16,
+) -> bool
     requires points { incident.now.points ≡ length plan.now.points }
     requires at { a < incident.now.points }
-    ensures { OnTrue result (IsSaturated (map_of plan.now) (edges_of incident.now.segments) a) }
+    requires searched { AreSearched (map_of plan.now) searched.old.triangles.items }
+    ensures searched { AreSearched (map_of plan.now) searched.new.triangles.items }
+    ensures saturated { OnTrue result (IsSaturated (map_of plan.now) (edges_of incident.now.segments) a) }
 {
     if has_gap(plan, incident, a) {
         return false;
     }
-    if !have_both_faces(plan, incident, a) {
+    if !have_both_faces(plan, incident, searched, a) {
         return false;
     }
-    has_triangle_at(plan, incident, a)
+    has_triangle_at(plan, incident, searched, a)
 }

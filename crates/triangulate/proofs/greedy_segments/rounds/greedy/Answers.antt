@@ -20,6 +20,7 @@ loop-low-init c =
     record {
       points = c.in_ok-incident.ensures.points;
       extents = c.in_ok-extents.ensures;
+      searched = c.in_ok-searched.ensures m;
       numbers = c.in_ok-unsaturated.ensures.numbers;
       bounds = inl (omega arith, omega arith);
       so_far = subst (IsGreedySoFar m (IsShorter m 0)) (sym c.in_ok-incident.ensures.lines) (greedy_at_first m (IsShorter m 0) (λ e h. omega arith));
@@ -49,6 +50,7 @@ loop-low-preserved c =
     record {
       points = c.in_ok-keep_clear_pairs.ensures.points;
       extents = c.in_ok-keep_clear_pairs.ensures.extents;
+      searched = c.in_ok-unsaturated-2.ensures.searched;
       numbers = c.in_ok-unsaturated-2.ensures.numbers;
       bounds = inr (omega arith, omega arith, omega arith);
       so_far = round_done m c.loop-low.low c.loop-low.high c.in_ok-unsaturated-2.unsaturated.items c.in_ok-pairs.pairs.items c.sort_pairs.new.pairs.items old _ (rises c.loop-low.low c.loop-low.high c.loop-low.invariant.bounds) c.loop-low.invariant.so_far

@@ -4,12 +4,14 @@ use Rattle.triangulate.specs.IncidentSegments.Kept.{edges_of}
 use Rattle.triangulate.specs.GreedySegments.Pairs.{AreNumbers}
 use Rattle.triangulate.specs.GreedySegments.Rounds.{IsGreedySoFar, IsShorter, IsSaturated}
 use Rattle.triangulate.specs.GreedySegments.Extents.{AreExtents}
+use Rattle.triangulate.specs.GreedySegments.Searched.{AreSearched}
 use Rattle.triangulate.proofs.greedy_segments.rounds.greedy.Given as goal
 
 abbrev pub invariant-loop-low : goal.invariant-loop-low
 invariant-loop-low l = record {
   points : l.incident.points ≡ length l.plan.points;
   extents : AreExtents (map_of l.plan) l.incident.segments l.extents.extents.items;
+  searched : AreSearched (map_of l.plan) l.searched.triangles.items;
   numbers : AreNumbers (length l.plan.points) l.unsaturated.items;
   bounds : ((l.low ≡ 0) × (l.high ≡ 64)) ⊎ ((l.high ≡ 2 * l.low) × (1 ≤ l.low) × (l.low ≤ 196610));
   so_far : IsGreedySoFar (map_of l.plan) (IsShorter (map_of l.plan) l.low) (edges_of l.incident.segments);

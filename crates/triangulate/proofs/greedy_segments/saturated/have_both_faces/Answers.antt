@@ -7,15 +7,21 @@ use Rattle.triangulate.proofs.IncidentSegments.AroundPoint.{walk_start, walk_ste
 use Rattle.triangulate.proofs.greedy_segments.saturated.have_both_faces.Goals as goal
 
 pub loop-at-init : goal.loop-at-init
-loop-at-init c = walk_start c.args.incident.now.segments c.args.a (λ (v : ℕ). HasBothFaces (map_of c.args.plan.now) c.args.incident.now.segments c.args.a v) _ c.last-at.ensures
+loop-at-init c = record {
+  faces = walk_start c.args.incident.now.segments c.args.a (λ (v : ℕ). HasBothFaces (map_of c.args.plan.now) c.args.incident.now.segments c.args.a v) _ c.last-at.ensures;
+  searched = c.requires.searched;
+}
 
 pub loop-at-preserved : goal.loop-at-preserved
 loop-at-preserved c =
     let m = map_of c.args.plan.now in
     let segs = c.args.incident.now.segments in
-    let shut : HasBothFaces m segs c.args.a c.other-b.result = record { left = OnTrue_at c.if-not-has_face_left.false c.has_face_left.ensures; right = OnTrue_at c.if-not-has_face_right.false c.has_face_right.ensures } in
-    walk_step segs c.args.a (λ (v : ℕ). HasBothFaces m segs c.args.a v) (λ (v : ℕ). HasBothFaces m segs c.args.a v) c.loop-at.at (c.loop-at.at - 1) _ c.loop-at.invariant (omega arith) (λ v h. h)
-    (λ v e. subst (λ (v : ℕ). HasBothFaces m segs c.args.a v) (c.other-b.ensures.end any_segment ∙ sym (e any_segment)) shut) c.earlier-at.ensures
+    let shut : HasBothFaces m segs c.args.a c.other-b.result = record { left = OnTrue_at c.if-not-has_face_left.false c.has_face_left.ensures.face; right = OnTrue_at c.if-not-has_face_right.false c.has_face_right.ensures.face } in
+    record {
+      faces = walk_step segs c.args.a (λ (v : ℕ). HasBothFaces m segs c.args.a v) (λ (v : ℕ). HasBothFaces m segs c.args.a v) c.loop-at.at (c.loop-at.at - 1) _ c.loop-at.invariant.faces (omega arith) (λ v h. h)
+          (λ v e. subst (λ (v : ℕ). HasBothFaces m segs c.args.a v) (c.other-b.ensures.end any_segment ∙ sym (e any_segment)) shut) c.earlier-at.ensures;
+      searched = c.has_face_right.ensures.searched;
+    }
 
-pub returns : goal.returns
-returns c = λ v s. walk_end c.args.incident.now.segments c.args.a (λ (v : ℕ). HasBothFaces (map_of c.args.plan.now) c.args.incident.now.segments c.args.a v) c.loop-at.at c.loop-at.invariant (omega arith) v s
+pub returns-clause-faces : goal.returns-clause-faces
+returns-clause-faces c = λ v s. walk_end c.args.incident.now.segments c.args.a (λ (v : ℕ). HasBothFaces (map_of c.args.plan.now) c.args.incident.now.segments c.args.a v) c.loop-at.at c.loop-at.invariant.faces (omega arith) v s

@@ -3,5 +3,5 @@ use Rattle.std.proofs.lemmas.Bool.{OnTrue_at, OnTrue_from}
 use Rattle.triangulate.proofs.GreedySegments.Saturation.{shut_off}
 use Rattle.triangulate.proofs.greedy_segments.saturated.is_saturated.Goals as goal
 
-pub returns : goal.returns
-returns c = OnTrue_from _ _ (λ e. shut_off c.args.plan.now (OnTrue_at e c.has_triangle_at.ensures.plan) c.args.incident.now.segments c.args.a (let h = c.requires.at in let p = c.requires.points in omega arith) (OnTrue_at c.if-not-have_both_faces.false c.have_both_faces.ensures) (OnTrue_at e c.has_triangle_at.ensures.triangle))
+pub returns-clause-saturated : goal.returns-clause-saturated
+returns-clause-saturated c = OnTrue_from _ _ (λ e. shut_off c.args.plan.now (OnTrue_at e c.has_triangle_at.ensures.plan) c.args.incident.now.segments c.args.a (let h = c.requires.at in let p = c.requires.points in omega arith) (OnTrue_at c.if-not-have_both_faces.false c.have_both_faces.ensures.faces) (OnTrue_at e c.has_triangle_at.ensures.triangle))
