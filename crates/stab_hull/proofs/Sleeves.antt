@@ -1,8 +1,8 @@
 -- Portals that a line passes, with what is of them on the stacks: one more of them, and fewer.
 use Rattle.std.proofs.Common.{◌≡◌, ℕ, ◌+◌, ◌-◌, ◌<◌, ◌≤◌, List, [], ◌∷◌, ◌++◌, length, take, Some, None, Result, Ok, Err, get_or, refl, sym, ap, ◌∙◌, arith, inl, inr, subst, length-take-le}
-use Rattle.std.specs.Prelude.{slice_get, IfOk}
-use Rattle.std.proofs.lemmas.List.{take_all, take-take}
-use Rattle.std.proofs.lemmas.Option.{slice_get_within}
+use Rattle.std.specs.Prelude.{map, option_map, slice_get, IfOk}
+use Rattle.std.proofs.lemmas.List.{length-map, take-map, take_all, take-take}
+use Rattle.std.proofs.lemmas.Option.{slice_get-get_or, slice_get-map, slice_get_within}
 use Rattle.sight_names.specs.declared.limits.TheConstants.{RIGHT_END}
 use Rattle.sight_names.specs.declared.names.Memory.{Memory}
 use Rattle.sight_names.specs.declared.names.Pt.{Pt}
@@ -15,11 +15,12 @@ use Rattle.geom_exact.specs.declared.extreme_lines.wedge.Wedge.{Wedge}
 use Rattle.stab_hull.specs.declared.frame.Frame.{Frame}
 use Rattle.stab_hull.specs.declared.turning.Turn.{Turn}
 use Rattle.stab_hull.specs.declared.turning.Turn.TheVariants.{Same, Moves, Stuck, Unseen}
-use Rattle.stab_hull.specs.declared.Passed.TheVariants as passed
+use Rattle.stab_hull.specs.declared.frame.Noted.{Noted}
+use Rattle.stab_hull.specs.declared.onward.Told.TheVariants as told
 use Rattle.stab_hull.specs.Answer.{IsBarredBy}
 use Rattle.stab_hull.specs.History.{IsHistory}
 use Rattle.stab_hull.specs.Portals.{portal_of, portals_of, IsConeOf}
-use Rattle.stab_hull.specs.Sleeves.{Counts, IsSleeve, HasLastLeft, HasLastRight, TellsRight, TellsLeft, GoesOn}
+use Rattle.stab_hull.specs.Sleeves.{Counts, IsSleeve, HasLastLeft, HasLastRight, TellsRight, TellsLeft, GoesBy, GoesOn, frame_of, note_of, frames_of, tells_of}
 use Rattle.stab_hull.specs.Stacks.{HasPoint, KeepsFirst, IsConeOfEnds, IsTopCone, IsHullOf}
 use Rattle.stab_hull.specs.Turning.{IsRightTurn, IsLeftTurn}
 use Rattle.stab_hull.proofs.Barring.{right_barred, left_barred}
@@ -28,7 +29,7 @@ use Rattle.stab_hull.proofs.HullLemmas.{cone_of, hull_more}
 use Rattle.stab_hull.proofs.StepLemmas.{top_is}
 use Rattle.stab_hull.proofs.Tries.{hull_splits}
 use Rattle.stab_hull.proofs.TwoForms.{right_same, left_same}
-use Rattle.math_base.proofs.Lists.{get_pushed, get_there, length_pushed}
+use Rattle.math_base.proofs.Lists.{get_pushed, get_there, length_pushed, map_pushed}
 use Rattle.math_base.proofs.Options.{some_is_same, none_is_not_some}
 
 pub ok_part : {X E : Type 0} (P : X → Type 0) (r : Result X E) (x : X) → r ≡ Ok x → IfOk r P → P x
@@ -68,13 +69,13 @@ module _ (es : List EndPoints) (ls rs : List EndAt) (cs : List Cone) (w : Wedge)
   of_portals : IsConeOf es (Open w)
   of_portals = cone_of es ls rs cs (Open w) hull last
 
-  pub right_tells : (left : Pt) (new : EndAt) → new.code ≡ length es + RIGHT_END → (t : Turn) → IsRightTurn w new t → TellsRight es ls rs cs left new t
+  pub right_tells : (left : Pt) (new : EndAt) → new.code ≡ length es + RIGHT_END → (t : Turn) → IsRightTurn w new t → TellsRight es ls rs cs left new (tells_of t)
   right_tells left new e Same h = (Open w, last, right_same ls rs new (Open w) w refl h.0 h.1 of_ends)
   right_tells left new e Moves h = record { wedge = w; last = last; rights = rs; cone = of_ends; beyond = h }
   right_tells left new e (Stuck x) h = right_barred es w of_portals (record { left = left; right = new.at }) new x (ap (λ (c : ℕ). let v : EndAt = record { code = c; at = new.at } in v) e) h.0 h.1
   right_tells left new e Unseen h = tt
 
-  pub left_tells : (right : Pt) (new : EndAt) → length es < RIGHT_END → new.code ≡ length es → (t : Turn) → IsLeftTurn w new t → TellsLeft es ls rs cs new right t
+  pub left_tells : (right : Pt) (new : EndAt) → length es < RIGHT_END → new.code ≡ length es → (t : Turn) → IsLeftTurn w new t → TellsLeft es ls rs cs new right (tells_of t)
   left_tells right new few e Same h = (Open w, last, left_same ls rs new (Open w) w refl h.0 h.1 of_ends)
   left_tells right new few e Moves h = record { wedge = w; last = last; lefts = ls; cone = of_ends; beyond = h }
   left_tells right new few e (Stuck x) h = left_barred es w of_portals (record { left = new.at; right = right }) new x few (ap (λ (c : ℕ). let v : EndAt = record { code = c; at = new.at } in v) e) h.0 h.1
@@ -99,10 +100,10 @@ frame_counts : (p : EndPoints) (f : Frame) (ls rs : List EndAt) (cs : List Cone)
 frame_counts p f ls rs cs e = record { lefts = ap (λ (g : Frame). g.lefts) e; rights = ap (λ (g : Frame). g.rights) e; cones = ap (λ (g : Frame). g.cones) e }
 
 pub goes_open : (fs gs : List Frame) (p : EndPoints) (f : Frame) (ls rs : List EndAt) (cs : List Cone) → IsHistory fs ls rs cs None → IsHullOf (portals_of fs ++ p ∷ []) ls rs cs → f ≡ record { left = p.left; right = p.right; lefts = length ls; rights = length rs; cones = length cs } → gs ≡ fs ++ f ∷ []
-    → GoesOn (portals_of fs) p gs ls rs cs (Ok passed.Open)
+    → GoesBy (portals_of fs) p gs ls rs cs (Ok told.Open)
 goes_open fs gs p f ls rs cs h u e g = record {
   sleeve = subst (λ (xs : List Frame). IsSleeve xs ls rs cs) (sym g) (record { history = enter_free fs p f ls rs cs None refl h u e; exact = exact_push fs f ls rs cs (frame_counts p f ls rs cs e) });
-  passed = (entered_list fs gs (portals_of fs) p f refl g (ap portal_of e), hull_splits (portals_of fs ++ p ∷ []) ls rs cs u);
+  told = (entered_list fs gs (portals_of fs) p f refl g (ap portal_of e), hull_splits (portals_of fs ++ p ∷ []) ls rs cs u);
 }
 
 kept_same : {X : Type 0} (n : ℕ) (xs ys : List X) → n ≤ length xs → KeepsFirst (length xs) xs ys → KeepsFirst n xs ys
@@ -126,7 +127,7 @@ module _ (fs : List Frame) (ls rs : List EndAt) (cs cs' : List Cone) (h : IsSlee
 
   -- a portal by a new right end
   pub goes_right : (gs : List Frame) (left : Pt) (new : EndAt) (f : Frame) (rs' : List EndAt) → HasLastLeft (portals_of fs) left → new.code ≡ length fs + RIGHT_END → rs' ≡ rs ++ new ∷ [] → IsTopCone ls (rs ++ new ∷ []) cs' → f ≡ record { left = left; right = new.at; lefts = length ls; rights = length rs'; cones = length cs' } → gs ≡ fs ++ f ∷ []
-      → GoesOn (portals_of fs) (record { left = left; right = new.at }) gs ls rs' cs' (Ok passed.Open)
+      → GoesBy (portals_of fs) (record { left = left; right = new.at }) gs ls rs' cs' (Ok told.Open)
   goes_right gs left new f rs' last code e top is g =
       let m = as_many fs in
       let b = slice_get_within (portals_of fs) (length (portals_of fs) - 1) last.0 last.1 in
@@ -141,7 +142,7 @@ module _ (fs : List Frame) (ls rs : List EndAt) (cs cs' : List Cone) (h : IsSlee
 
   -- a portal by a new left end
   pub goes_left : (gs : List Frame) (right : Pt) (new : EndAt) (f : Frame) (ls' : List EndAt) → HasLastRight (portals_of fs) right → new.code ≡ length fs → ls' ≡ ls ++ new ∷ [] → IsTopCone (ls ++ new ∷ []) rs cs' → f ≡ record { left = new.at; right = right; lefts = length ls'; rights = length rs; cones = length cs' } → gs ≡ fs ++ f ∷ []
-      → GoesOn (portals_of fs) (record { left = new.at; right = right }) gs ls' rs cs' (Ok passed.Open)
+      → GoesBy (portals_of fs) (record { left = new.at; right = right }) gs ls' rs cs' (Ok told.Open)
   goes_left gs right new f ls' last code e top is g =
       let m = as_many fs in
       let b = slice_get_within (portals_of fs) (length (portals_of fs) - 1) last.0 last.1 in
@@ -188,8 +189,61 @@ pub cut_to : (fs gs : List Frame) (n : ℕ) (top : Frame) (ls rs ls' rs' : List 
 cut_to fs gs n top ls rs ls' rs' cs cs' h l g t el er ec = cut_back gs gs top ls rs ls' rs' cs cs' (subst (λ (xs : List Frame). IsHistory xs ls rs cs None) (sym g) (pop_history fs n ls rs cs None None l h.history (λ k l e. e) tt)) refl t el er ec
 
 -- a portal that no line passes, or for which memory fails, leaves the others
-pub goes_stuck : (fs gs : List Frame) (p : EndPoints) (ls rs : List EndAt) (cs : List Cone) (e : Evidence) → IsSleeve gs ls rs cs → gs ≡ fs → IsBarredBy (portals_of fs ++ p ∷ []) e → GoesOn (portals_of fs) p gs ls rs cs (Ok (passed.Stuck e))
-goes_stuck fs gs p ls rs cs e h g b = record { sleeve = h; passed = (ap portals_of g, b) }
+pub goes_stuck : (fs gs : List Frame) (p : EndPoints) (ls rs : List EndAt) (cs : List Cone) (e : Evidence) → IsSleeve gs ls rs cs → gs ≡ fs → IsBarredBy (portals_of fs ++ p ∷ []) e → GoesBy (portals_of fs) p gs ls rs cs (Ok (told.Stuck e))
+goes_stuck fs gs p ls rs cs e h g b = record { sleeve = h; told = (ap portals_of g, b) }
 
-pub goes_err : (fs gs : List Frame) (p : EndPoints) (ls rs : List EndAt) (cs : List Cone) (e : Memory) → IsSleeve gs ls rs cs → gs ≡ fs → GoesOn (portals_of fs) p gs ls rs cs (Err e)
-goes_err fs gs p ls rs cs e h g = record { sleeve = h; passed = ap portals_of g }
+pub goes_err : (fs gs : List Frame) (p : EndPoints) (ls rs : List EndAt) (cs : List Cone) (e : Memory) → IsSleeve gs ls rs cs → gs ≡ fs → GoesBy (portals_of fs) p gs ls rs cs (Err e)
+goes_err fs gs p ls rs cs e h g = record { sleeve = h; told = ap portals_of g }
+
+-- ---- portals with notes
+pub as_many_frames : {N : Type 0} (xs : List (Noted N)) → length (frames_of xs) ≡ length xs
+as_many_frames xs = length-map xs frame_of
+
+pub frames_pushed : {N : Type 0} (xs : List (Noted N)) (x : Noted N) → frames_of (xs ++ x ∷ []) ≡ frames_of xs ++ x.frame ∷ []
+frames_pushed xs x = map_pushed frame_of xs x
+
+pub notes_pushed : {N : Type 0} (xs : List (Noted N)) (x : Noted N) → map note_of (xs ++ x ∷ []) ≡ map note_of xs ++ x.note ∷ []
+notes_pushed xs x = map_pushed note_of xs x
+
+-- the last frame is that of the last portal
+pub frame_there : {N : Type 0} (xs : List (Noted N)) (x : Noted N) → slice_get xs (length xs - 1) ≡ Some x → slice_get (frames_of xs) (length (frames_of xs) - 1) ≡ Some x.frame
+frame_there xs x at = ap (λ (n : ℕ). slice_get (frames_of xs) (n - 1)) (as_many_frames xs) ∙ slice_get-map frame_of xs (length xs - 1) ∙ ap (option_map frame_of) at
+
+-- the last portal, as it is read
+pub last_noted : {N : Type 0} (xs ys : List (Noted N)) (n : ℕ) (x : Noted N) → ys ≡ xs → n ≡ length ys → 0 < length xs → x ≡ get_or ys (n - 1) x → slice_get (frames_of xs) (length (frames_of xs) - 1) ≡ Some x.frame
+last_noted xs ys n x e k some g =
+    let m : length ys ≡ length xs = ap length e in
+    frame_there xs x (subst (λ zs. slice_get zs (length zs - 1) ≡ Some x) e (ap (slice_get ys) (omega (arith, k)) ∙ slice_get-get_or ys (n - 1) x (omega (arith, k, m, some)) ∙ ap (λ y. Some y) (sym g)))
+
+-- the place of one more
+pub placed : {N : Type 0} (xs ys : List (Noted N)) (n : ℕ) → ys ≡ xs → n ≡ length ys → n ≡ length (frames_of xs)
+placed xs ys n e k = k ∙ ap length e ∙ sym (as_many_frames xs)
+
+abbrev pub noted : {N : Type 0} → Frame → N → Noted N
+noted f n = record { frame = f; note = n }
+
+-- fewer of them have fewer ends and notes
+pub fewer_ends : {N : Type 0} (xs ys : List (Noted N)) (n : ℕ) → ys ≡ take n xs → portals_of (frames_of ys) ≡ take n (portals_of (frames_of xs))
+fewer_ends xs ys n e = ap (λ zs. portals_of (frames_of zs)) e ∙ ap portals_of (sym (take-map frame_of n xs)) ∙ sym (take-map portal_of n (frames_of xs))
+
+pub fewer_notes : {N : Type 0} (xs ys : List (Noted N)) (n : ℕ) → ys ≡ take n xs → map note_of ys ≡ take n (map note_of xs)
+fewer_notes xs ys n e = ap (map note_of) e ∙ sym (take-map note_of n xs)
+
+-- the note stands with the portal
+pub goes_noted : {N : Type 0} (old new : List (Noted N)) (x : Noted N) (p : EndPoints) (ls rs : List EndAt) (cs : List Cone) → new ≡ old ++ x ∷ [] → GoesBy (portals_of (frames_of old)) p (frames_of new) ls rs cs (Ok told.Open) → GoesOn old x.note p new ls rs cs (Ok told.Open)
+goes_noted old new x p ls rs cs is g = record { sleeve = g.sleeve; told = g.told; noted = ap (map note_of) is ∙ notes_pushed old x }
+
+pub stays_stuck : {N : Type 0} (old new : List (Noted N)) (n : N) (p : EndPoints) (ls rs : List EndAt) (cs : List Cone) (e : Evidence) → new ≡ old → GoesBy (portals_of (frames_of old)) p (frames_of new) ls rs cs (Ok (told.Stuck e)) → GoesOn old n p new ls rs cs (Ok (told.Stuck e))
+stays_stuck old new n p ls rs cs e is g = record { sleeve = g.sleeve; told = g.told; noted = ap (map note_of) is }
+
+pub stays_err : {N : Type 0} (old new : List (Noted N)) (n : N) (p : EndPoints) (ls rs : List EndAt) (cs : List Cone) (e : Memory) → new ≡ old → IsSleeve (frames_of new) ls rs cs → GoesOn old n p new ls rs cs (Err e)
+stays_err old new n p ls rs cs e is h = record { sleeve = h; told = ap (λ xs. portals_of (frames_of xs)) is; noted = ap (map note_of) is }
+
+pub stays_unseen : {N : Type 0} (old : List (Noted N)) (n : N) (p : EndPoints) (ls rs : List EndAt) (cs : List Cone) → IsSleeve (frames_of old) ls rs cs → GoesOn old n p old ls rs cs (Ok told.Unseen)
+stays_unseen old n p ls rs cs h = record { sleeve = h; told = refl; noted = refl }
+
+pub no_last_frame : {N : Type 0} (xs : List (Noted N)) → slice_get xs (length xs - 1) ≡ None → frames_of xs ≡ []
+no_last_frame [] e = refl
+no_last_frame (x ∷ xs) e =
+    let t = get_there (x ∷ xs) (length (x ∷ xs) - 1) (omega arith) in
+    absurd (none_is_not_some t.0 (sym e ∙ t.1))

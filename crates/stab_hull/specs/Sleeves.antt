@@ -1,14 +1,21 @@
 -- Portals that a line passes, with what is of them on the stacks, and what comes of one more that has an end of the last.
-use Rattle.std.specs.Prelude.{◌≡◌, ◌-◌, Bool, true, false, List, [], ◌∷◌, ◌++◌, Some, None, Result, length, slice_get}
+use Rattle.std.specs.Prelude.{◌≡◌, ◌-◌, Bool, true, false, List, [], ◌∷◌, ◌++◌, Some, None, Result, Ok, Err, length, map, slice_get}
 use Rattle.sight_names.specs.declared.names.Memory.{Memory}
 use Rattle.sight_names.specs.declared.names.Pt.{Pt}
 use Rattle.sight_names.specs.declared.names.EndAt.{EndAt}
 use Rattle.sight_names.specs.Splitting.{EndPoints}
 use Rattle.geom_exact.specs.declared.extreme_lines.cone.Cone.{Cone}
 use Rattle.stab_hull.specs.declared.frame.Frame.{Frame}
+use Rattle.stab_hull.specs.declared.frame.Noted.{Noted}
+use Rattle.stab_hull.specs.declared.onward.Tells.{Tells}
+use Rattle.stab_hull.specs.declared.onward.Tells.TheVariants.{Takes, Stuck, Unseen}
+use Rattle.stab_hull.specs.declared.onward.Told.{Told}
+use Rattle.stab_hull.specs.declared.onward.Told.TheVariants as told
+use Rattle.stab_hull.specs.declared.track.Track.{Track}
 use Rattle.stab_hull.specs.declared.turning.Turn.{Turn}
-use Rattle.stab_hull.specs.declared.turning.Turn.TheVariants.{Same, Moves, Stuck, Unseen}
+use Rattle.stab_hull.specs.declared.turning.Turn.TheVariants as turn
 use Rattle.stab_hull.specs.declared.Passed.{Passed}
+use Rattle.stab_hull.specs.declared.Passed.TheVariants as passed
 use Rattle.stab_hull.specs.Answer.{IsPassed, IsBarredBy}
 use Rattle.stab_hull.specs.History.{IsHistory}
 use Rattle.stab_hull.specs.Portals.{portals_of}
@@ -45,20 +52,77 @@ TakesLeft ls rs cs new false = IsTopCone (ls ++ new ∷ []) rs cs
 TakesLeft ls rs cs new true = MovesLeft rs cs new
 
 -- what a new right end does to the cone of these portals, which the next one has with this left end
-abbrev pub TellsRight : List EndPoints → List EndAt → List EndAt → List Cone → Pt → EndAt → Turn → Type 0
-TellsRight es ls rs cs left new Same = TakesRight ls rs cs new false
-TellsRight es ls rs cs left new Moves = TakesRight ls rs cs new true
+abbrev pub TellsRight : List EndPoints → List EndAt → List EndAt → List Cone → Pt → EndAt → Tells → Type 0
+TellsRight es ls rs cs left new (Takes moves) = TakesRight ls rs cs new moves
 TellsRight es ls rs cs left new (Stuck e) = IsBarredBy (es ++ record { left = left; right = new.at } ∷ []) e
 TellsRight es ls rs cs left new Unseen = Unit {0}
 
 -- what a new left end does, which the next portal has with this right end
-abbrev pub TellsLeft : List EndPoints → List EndAt → List EndAt → List Cone → EndAt → Pt → Turn → Type 0
-TellsLeft es ls rs cs new right Same = TakesLeft ls rs cs new false
-TellsLeft es ls rs cs new right Moves = TakesLeft ls rs cs new true
+abbrev pub TellsLeft : List EndPoints → List EndAt → List EndAt → List Cone → EndAt → Pt → Tells → Type 0
+TellsLeft es ls rs cs new right (Takes moves) = TakesLeft ls rs cs new moves
 TellsLeft es ls rs cs new right (Stuck e) = IsBarredBy (es ++ record { left = new.at; right = right } ∷ []) e
 TellsLeft es ls rs cs new right Unseen = Unit {0}
 
+-- what a new end does to the lines, as what it does to the stacks
+abbrev pub tells_of : Turn → Tells
+tells_of turn.Same = Takes false
+tells_of turn.Moves = Takes true
+tells_of (turn.Stuck e) = Stuck e
+tells_of turn.Unseen = Unseen
+
+-- what a search tells of a portal, as what is told without one
+abbrev pub told_of : Result Passed Memory → Result Told Memory
+told_of (Ok passed.Open) = Ok told.Open
+told_of (Ok (passed.Stuck e)) = Ok (told.Stuck e)
+told_of (Err m) = Err m
+
+-- the list has the portal where a line splits its ends and all others; else it is as it was, and stuck ends show that none
+-- does, or nothing is told
+abbrev pub IsTold : List EndPoints → EndPoints → List EndPoints → Result Told Memory → Type 0
+IsTold old e new (Ok told.Open) = IsPassed old e new (Ok passed.Open)
+IsTold old e new (Ok (told.Stuck evidence)) = IsPassed old e new (Ok (passed.Stuck evidence))
+IsTold old e new (Ok told.Unseen) = new ≡ old
+IsTold old e new (Err m) = new ≡ old
+
+-- and the note of the portal where it has the portal
+abbrev pub IsNotedOn : {N : Type 0} → List N → N → List N → Result Told Memory → Type 0
+IsNotedOn old n new (Ok told.Open) = new ≡ old ++ n ∷ []
+IsNotedOn old n new (Ok (told.Stuck evidence)) = new ≡ old
+IsNotedOn old n new (Ok told.Unseen) = new ≡ old
+IsNotedOn old n new (Err m) = new ≡ old
+
+-- ---- portals with notes
+
+abbrev pub frame_of : {N : Type 0} → Noted N → Frame
+frame_of x = x.frame
+
+abbrev pub note_of : {N : Type 0} → Noted N → N
+note_of x = x.note
+
+abbrev pub frames_of : {N : Type 0} → List (Noted N) → List Frame
+frames_of xs = map frame_of xs
+
 -- the portal is stacked with its ends where a line passes it and all before
-pub record GoesOn (old : List EndPoints) (e : EndPoints) (fs : List Frame) (ls rs : List EndAt) (cs : List Cone) (r : Result Passed Memory) : Type 0 where
+pub record GoesBy (old : List EndPoints) (e : EndPoints) (fs : List Frame) (ls rs : List EndAt) (cs : List Cone) (r : Result Told Memory) : Type 0 where
   pub sleeve : IsSleeve fs ls rs cs
-  pub passed : IsPassed old e (portals_of fs) r
+  pub told : IsTold old e (portals_of fs) r
+
+-- and with its note
+pub record GoesOn {N : Type 0} (old : List (Noted N)) (n : N) (e : EndPoints) (new : List (Noted N)) (ls rs : List EndAt) (cs : List Cone) (r : Result Told Memory) : Type 0 where
+  pub sleeve : IsSleeve (frames_of new) ls rs cs
+  pub told : IsTold (portals_of (frames_of old)) e (portals_of (frames_of new)) r
+  pub noted : IsNotedOn (map note_of old) n (map note_of new) r
+
+abbrev pub IsTrack : {N : Type 0} → Track N → Type 0
+IsTrack t = IsSleeve (frames_of t.portals.items) t.hull.lefts.items t.hull.rights.items t.hull.cones.items
+
+abbrev pub ends_of : {N : Type 0} → Track N → List EndPoints
+ends_of t = portals_of (frames_of t.portals.items)
+
+abbrev pub notes_of : {N : Type 0} → Track N → List N
+notes_of t = map note_of t.portals.items
+
+-- the same of a whole track
+pub record GoesOnTo {N : Type 0} (old : Track N) (n : N) (e : EndPoints) (new : Track N) (r : Result Told Memory) : Type 0 where
+  pub told : IsTold (ends_of old) e (ends_of new) r
+  pub noted : IsNotedOn (notes_of old) n (notes_of new) r

@@ -11,3 +11,10 @@ pub struct Frame {
     pub rights: usize,
     pub cones: usize,
 }
+
+/// A portal with what is noted of it by whoever goes through it, so that one list has both.
+#[derive(Clone, Copy)]
+pub struct Noted<N> {
+    pub frame: Frame,
+    pub note: N,
+}

@@ -15,6 +15,7 @@ mod passing;
 mod sleeve;
 mod slope;
 mod step;
+mod track;
 mod turning;
 
 use crate::bars::barred;
@@ -24,10 +25,12 @@ use crate::history::{add_portal, forget_beyond, frame_over, line_of};
 use crate::hull::Hull;
 use crate::passing::pass_portal;
 use block_evidence::{Evidence, four};
+pub use onward::Told;
 use sight_names::{EndPair, Memory, Pt, RIGHT_END};
 pub use sleeve::Sleeve;
 use std::alloc::Global;
 use std::marker::Model;
+pub use track::Track;
 
 /// The ends of a list of portals.
 #[derive(Drop)]

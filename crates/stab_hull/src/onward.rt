@@ -2,118 +2,173 @@
 
 ghost use Rattle.std.specs.Prelude.{◌≡◌, ◌≢◌, ◌+◌, ◌<◌, length};
 ghost use Rattle.stab_hull.specs.Portals.{portals_of};
-ghost use Rattle.stab_hull.specs.Sleeves.{IsSleeve, HasLastLeft, HasLastRight, TakesRight, TakesLeft, TellsRight, TellsLeft, GoesOn};
+ghost use Rattle.stab_hull.specs.Sleeves.{IsSleeve, HasLastLeft, HasLastRight, TakesRight, TakesLeft, TellsRight, TellsLeft, GoesOn, frames_of, tells_of, told_of};
 
 use crate::Passed;
-use crate::frame::Frame;
+use crate::frame::Noted;
 use crate::history::frame_over;
 use crate::hull::Hull;
-use crate::passing::pass_portal;
 use crate::turning::{Turn, left_turn, right_turn, stack_left, stack_right};
+use block_evidence::{Evidence, four};
 use geom_exact::extreme_lines::Cone;
 use sight_names::{EndAt, Memory, Pt, RIGHT_END};
 
+/// What comes of one more portal.
+#[derive(Clone, Copy, Debug)]
+pub enum Told {
+    /// It is stacked: a line passes it and all before.
+    Open,
+    /// No line does, as these ends show.
+    Stuck(Evidence),
+    /// The two extreme lines don't tell, and it has to be searched for.
+    Unseen,
+}
+
+/// What one more end does to the stacks.
+#[derive(Clone, Copy, Debug)]
+enum Tells {
+    /// It is stacked, and one of the lines may move to it or none.
+    Takes(bool),
+    Stuck(Evidence),
+    Unseen,
+}
+
+/// What it does to the lines, as what it does to the stacks.
+#[inline(always)]
+fn of_turn(turn: Turn) -> Tells
+    ensures { result ≡ tells_of turn }
+{
+    match turn {
+        Turn::Same => Tells::Takes(false),
+        Turn::Moves => Tells::Takes(true),
+        Turn::Stuck(evidence) => Tells::Stuck(evidence),
+        Turn::Unseen => Tells::Unseen,
+    }
+}
+
 /// What a new right end does, of a portal with this left end.
 #[inline(always)]
-fn right_told(frames: &[Frame], hull: &Hull, left: Pt, new: EndAt) -> Turn
-    requires sleeve { IsSleeve frames.now hull.now.lefts.items hull.now.rights.items hull.now.cones.items }
-    requires there { 0 < length frames.now }
-    requires code { new.code ≡ length frames.now + RIGHT_END }
-    ensures { TellsRight (portals_of frames.now) hull.now.lefts.items hull.now.rights.items hull.now.cones.items left new result }
+fn right_told<N: Copy>(portals: &[Noted<N>], hull: &Hull, left: Pt, new: EndAt) -> Tells
+    requires sleeve { IsSleeve (frames_of portals.now) hull.now.lefts.items hull.now.rights.items hull.now.cones.items }
+    requires there { 0 < length portals.now }
+    requires code { new.code ≡ length portals.now + RIGHT_END }
+    ensures { TellsRight (portals_of (frames_of portals.now)) hull.now.lefts.items hull.now.rights.items hull.now.cones.items left new result }
 {
     match &hull.cones[hull.cones.len() - 1] {
-        Cone::Ray(_) => Turn::Unseen,
-        Cone::Open(wedge) => right_turn(wedge, new),
+        Cone::Ray(_) => Tells::Unseen,
+        Cone::Open(wedge) => of_turn(right_turn(wedge, new)),
     }
 }
 
 /// What a new left end does, of a portal with this right end.
 #[inline(always)]
-fn left_told(frames: &[Frame], hull: &Hull, new: EndAt, right: Pt) -> Turn
-    requires sleeve { IsSleeve frames.now hull.now.lefts.items hull.now.rights.items hull.now.cones.items }
-    requires there { 0 < length frames.now }
-    requires few { length frames.now < RIGHT_END }
-    requires code { new.code ≡ length frames.now }
-    ensures { TellsLeft (portals_of frames.now) hull.now.lefts.items hull.now.rights.items hull.now.cones.items new right result }
+fn left_told<N: Copy>(portals: &[Noted<N>], hull: &Hull, new: EndAt, right: Pt) -> Tells
+    requires sleeve { IsSleeve (frames_of portals.now) hull.now.lefts.items hull.now.rights.items hull.now.cones.items }
+    requires there { 0 < length portals.now }
+    requires few { length portals.now < RIGHT_END }
+    requires code { new.code ≡ length portals.now }
+    ensures { TellsLeft (portals_of (frames_of portals.now)) hull.now.lefts.items hull.now.rights.items hull.now.cones.items new right result }
 {
     match &hull.cones[hull.cones.len() - 1] {
-        Cone::Ray(_) => Turn::Unseen,
-        Cone::Open(wedge) => left_turn(wedge, new),
+        Cone::Ray(_) => Tells::Unseen,
+        Cone::Open(wedge) => of_turn(left_turn(wedge, new)),
     }
 }
 
 /// Stacks a portal from the last left end to a new right end.
 #[inline(always)]
-fn add_right(
-    frames: &mut Vec<Frame>,
+fn add_right<N: Copy>(
+    portals: &mut Vec<Noted<N>>,
     hull: &mut Hull,
     left: Pt,
     new: EndAt,
     moves: bool,
-) -> Result<Passed, Memory>
-    requires sleeve { IsSleeve frames.old.items hull.old.lefts.items hull.old.rights.items hull.old.cones.items }
-    requires last { HasLastLeft (portals_of frames.old.items) left }
-    requires few { length frames.old.items < RIGHT_END }
-    requires code { new.code ≡ length frames.old.items + RIGHT_END }
+    note: N,
+) -> Result<Told, Memory>
+    requires sleeve { IsSleeve (frames_of portals.old.items) hull.old.lefts.items hull.old.rights.items hull.old.cones.items }
+    requires last { HasLastLeft (portals_of (frames_of portals.old.items)) left }
+    requires few { length portals.old.items < RIGHT_END }
+    requires code { new.code ≡ length portals.old.items + RIGHT_END }
     requires takes { TakesRight hull.old.lefts.items hull.old.rights.items hull.old.cones.items new moves }
-    ensures { GoesOn (portals_of frames.old.items) (record { left = left; right = new.at }) frames.new.items hull.new.lefts.items hull.new.rights.items hull.new.cones.items result }
+    ensures { GoesOn portals.old.items note (record { left = left; right = new.at }) portals.new.items hull.new.lefts.items hull.new.rights.items hull.new.cones.items result }
 {
-    frames.reserve(1)?;
+    portals.reserve(1)?;
     hull.rights.reserve(1)?;
     if moves {
-        stack_right(&mut hull.cones, hull.lefts.as_slice(), new)?;
+        // a copy, since the end itself then needn't stand in memory
+        let copy = EndAt {
+            code: new.code,
+            at: new.at,
+        };
+        stack_right(&mut hull.cones, hull.lefts.as_slice(), copy)?;
     }
     hull.rights.push_reserved(new);
     let frame = frame_over(hull, left, new.at);
-    frames.push_reserved(frame);
-    Ok(Passed::Open)
+    portals.push_reserved(Noted { frame, note });
+    Ok(Told::Open)
 }
 
 /// Stacks a portal from a new left end to the last right end.
 #[inline(always)]
-fn add_left(
-    frames: &mut Vec<Frame>,
+fn add_left<N: Copy>(
+    portals: &mut Vec<Noted<N>>,
     hull: &mut Hull,
     new: EndAt,
     right: Pt,
     moves: bool,
-) -> Result<Passed, Memory>
-    requires sleeve { IsSleeve frames.old.items hull.old.lefts.items hull.old.rights.items hull.old.cones.items }
-    requires last { HasLastRight (portals_of frames.old.items) right }
-    requires few { length frames.old.items < RIGHT_END }
-    requires code { new.code ≡ length frames.old.items }
+    note: N,
+) -> Result<Told, Memory>
+    requires sleeve { IsSleeve (frames_of portals.old.items) hull.old.lefts.items hull.old.rights.items hull.old.cones.items }
+    requires last { HasLastRight (portals_of (frames_of portals.old.items)) right }
+    requires few { length portals.old.items < RIGHT_END }
+    requires code { new.code ≡ length portals.old.items }
     requires takes { TakesLeft hull.old.lefts.items hull.old.rights.items hull.old.cones.items new moves }
-    ensures { GoesOn (portals_of frames.old.items) (record { left = new.at; right = right }) frames.new.items hull.new.lefts.items hull.new.rights.items hull.new.cones.items result }
+    ensures { GoesOn portals.old.items note (record { left = new.at; right = right }) portals.new.items hull.new.lefts.items hull.new.rights.items hull.new.cones.items result }
 {
-    frames.reserve(1)?;
+    portals.reserve(1)?;
     hull.lefts.reserve(1)?;
     if moves {
-        stack_left(&mut hull.cones, hull.rights.as_slice(), new)?;
+        // a copy, since the end itself then needn't stand in memory
+        let copy = EndAt {
+            code: new.code,
+            at: new.at,
+        };
+        stack_left(&mut hull.cones, hull.rights.as_slice(), copy)?;
     }
     hull.lefts.push_reserved(new);
     let frame = frame_over(hull, new.at, right);
-    frames.push_reserved(frame);
-    Ok(Passed::Open)
+    portals.push_reserved(Noted { frame, note });
+    Ok(Told::Open)
 }
 
 /// Adds a portal by a search over all ends, which the first portals need.
 #[inline(never)]
-fn add_by_search(
-    frames: &mut Vec<Frame>,
+pub fn add_by_search<N: Copy>(
+    portals: &mut Vec<Noted<N>>,
     hull: &mut Hull,
     left: Pt,
     right: Pt,
+    note: N,
 ) -> Result<Passed, Memory>
-    requires sleeve { IsSleeve frames.old.items hull.old.lefts.items hull.old.rights.items hull.old.cones.items }
-    requires there { 0 < length frames.old.items }
-    requires few { length frames.old.items < RIGHT_END }
+    requires sleeve { IsSleeve (frames_of portals.old.items) hull.old.lefts.items hull.old.rights.items hull.old.cones.items }
+    requires there { 0 < length portals.old.items }
+    requires few { length portals.old.items < RIGHT_END }
     requires proper { left ≢ right }
-    ensures { GoesOn (portals_of frames.old.items) (record { left = left; right = right }) frames.new.items hull.new.lefts.items hull.new.rights.items hull.new.cones.items result }
+    ensures { GoesOn portals.old.items note (record { left = left; right = right }) portals.new.items hull.new.lefts.items hull.new.rights.items hull.new.cones.items (told_of result) }
 {
-    frames.reserve(1)?;
-    let top = frames[frames.len() - 1];
-    let passed = pass_portal(hull, frames.as_slice(), left, right);
-    let stuck = match passed {
+    portals.reserve(1)?;
+    let top = portals[portals.len() - 1].frame;
+    let place = portals.len() as u16;
+    let left_end = EndAt {
+        code: place,
+        at: left,
+    };
+    let right_end = EndAt {
+        code: place + RIGHT_END,
+        at: right,
+    };
+    let added = hull.add(&top, left_end, right_end);
+    let stuck = match added {
         Ok(stuck) => stuck,
         Err(memory) => {
             hull.cut(&top);
@@ -123,64 +178,64 @@ fn add_by_search(
     match stuck {
         None => {
             let frame = frame_over(hull, left, right);
-            frames.push_reserved(frame);
+            portals.push_reserved(Noted { frame, note });
             Ok(Passed::Open)
         }
-        Some(evidence) => {
+        Some(pairs) => {
             hull.cut(&top);
-            Ok(Passed::Stuck(evidence))
+            Ok(Passed::Stuck(four(&pairs)))
         }
     }
 }
 
 /// Adds the portal from the last left end to this right end, where a line passes it and all others.
 #[inline(always)]
-pub fn go_left(
-    frames: &mut Vec<Frame>,
+pub fn go_left<N: Copy>(
+    portals: &mut Vec<Noted<N>>,
     hull: &mut Hull,
     left: Pt,
     right: Pt,
-) -> Result<Passed, Memory>
-    requires sleeve { IsSleeve frames.old.items hull.old.lefts.items hull.old.rights.items hull.old.cones.items }
-    requires last { HasLastLeft (portals_of frames.old.items) left }
-    requires few { length frames.old.items < RIGHT_END }
+    note: N,
+) -> Result<Told, Memory>
+    requires sleeve { IsSleeve (frames_of portals.old.items) hull.old.lefts.items hull.old.rights.items hull.old.cones.items }
+    requires last { HasLastLeft (portals_of (frames_of portals.old.items)) left }
+    requires few { length portals.old.items < RIGHT_END }
     requires proper { left ≢ right }
-    ensures { GoesOn (portals_of frames.old.items) (record { left = left; right = right }) frames.new.items hull.new.lefts.items hull.new.rights.items hull.new.cones.items result }
+    ensures { GoesOn portals.old.items note (record { left = left; right = right }) portals.new.items hull.new.lefts.items hull.new.rights.items hull.new.cones.items result }
 {
     let new = EndAt {
-        code: frames.len() as u16 + RIGHT_END,
+        code: portals.len() as u16 + RIGHT_END,
         at: right,
     };
-    match right_told(frames.as_slice(), hull, left, new) {
-        Turn::Same => add_right(frames, hull, left, new, false),
-        Turn::Moves => add_right(frames, hull, left, new, true),
-        Turn::Stuck(evidence) => Ok(Passed::Stuck(evidence)),
-        Turn::Unseen => add_by_search(frames, hull, left, right),
+    match right_told(portals.as_slice(), hull, left, new) {
+        Tells::Takes(moves) => add_right(portals, hull, left, new, moves, note),
+        Tells::Stuck(evidence) => Ok(Told::Stuck(evidence)),
+        Tells::Unseen => Ok(Told::Unseen),
     }
 }
 
 /// Adds the portal from this left end to the last right end, where a line passes it and all others.
 #[inline(always)]
-pub fn go_right(
-    frames: &mut Vec<Frame>,
+pub fn go_right<N: Copy>(
+    portals: &mut Vec<Noted<N>>,
     hull: &mut Hull,
     left: Pt,
     right: Pt,
-) -> Result<Passed, Memory>
-    requires sleeve { IsSleeve frames.old.items hull.old.lefts.items hull.old.rights.items hull.old.cones.items }
-    requires last { HasLastRight (portals_of frames.old.items) right }
-    requires few { length frames.old.items < RIGHT_END }
+    note: N,
+) -> Result<Told, Memory>
+    requires sleeve { IsSleeve (frames_of portals.old.items) hull.old.lefts.items hull.old.rights.items hull.old.cones.items }
+    requires last { HasLastRight (portals_of (frames_of portals.old.items)) right }
+    requires few { length portals.old.items < RIGHT_END }
     requires proper { left ≢ right }
-    ensures { GoesOn (portals_of frames.old.items) (record { left = left; right = right }) frames.new.items hull.new.lefts.items hull.new.rights.items hull.new.cones.items result }
+    ensures { GoesOn portals.old.items note (record { left = left; right = right }) portals.new.items hull.new.lefts.items hull.new.rights.items hull.new.cones.items result }
 {
     let new = EndAt {
-        code: frames.len() as u16,
+        code: portals.len() as u16,
         at: left,
     };
-    match left_told(frames.as_slice(), hull, new, right) {
-        Turn::Same => add_left(frames, hull, new, right, false),
-        Turn::Moves => add_left(frames, hull, new, right, true),
-        Turn::Stuck(evidence) => Ok(Passed::Stuck(evidence)),
-        Turn::Unseen => add_by_search(frames, hull, left, right),
+    match left_told(portals.as_slice(), hull, new, right) {
+        Tells::Takes(moves) => add_left(portals, hull, new, right, moves, note),
+        Tells::Stuck(evidence) => Ok(Told::Stuck(evidence)),
+        Tells::Unseen => Ok(Told::Unseen),
     }
 }

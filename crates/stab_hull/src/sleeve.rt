@@ -6,19 +6,16 @@ ghost use Rattle.stab_hull.specs.Answer.{IsPassed, IsLineInRange};
 ghost use Rattle.stab_hull.specs.Sleeves.{HasLastLeft, HasLastRight};
 
 use crate::Passed;
-use crate::frame::Frame;
-use crate::history::{frame_over, line_of};
-use crate::hull::Hull;
-use crate::onward::{go_left, go_right};
-use sight_names::{EndAt, Memory, Pt, RIGHT_END};
+use crate::onward::Told;
+use crate::track::Track;
+use sight_names::{Memory, Pt, RIGHT_END};
 use std::alloc::Global;
 use std::marker::Model;
 
 /// Portals that a line passes. The stacks have no more than what is of them.
 #[derive(Drop)]
 pub struct Sleeve {
-    frames: Vec<Frame>,
-    hull: Hull,
+    track: Track<()>,
 }
 
 impl Model for Sleeve {
@@ -27,12 +24,11 @@ impl Model for Sleeve {
 
     ghost Value = { List EndPoints };
 
-    ghost use Rattle.stab_hull.specs.Portals.{portals_of};
-    ghost use Rattle.stab_hull.specs.Sleeves.{IsSleeve};
+    ghost use Rattle.stab_hull.specs.Sleeves.{IsTrack, ends_of};
 
-    ghost view = { λ s. portals_of s.frames.items };
+    ghost view = { λ s. ends_of s.track };
 
-    ghost invariant = { λ s. IsSleeve s.frames.items s.hull.lefts.items s.hull.rights.items s.hull.cones.items };
+    ghost invariant = { λ s. IsTrack s.track };
 }
 
 impl Sleeve {
@@ -41,12 +37,7 @@ impl Sleeve {
         ensures { result ≡ [] }
     {
         Sleeve {
-            frames: Vec::new(alloc),
-            hull: Hull {
-                lefts: Vec::new(alloc),
-                rights: Vec::new(alloc),
-                cones: Vec::new(alloc),
-            },
+            track: Track::new(alloc),
         }
     }
 
@@ -54,7 +45,7 @@ impl Sleeve {
     pub fn len(&self) -> usize
         ensures { result ≡ length self.now }
     {
-        self.frames.len()
+        self.track.portals.len()
     }
 
     /// Has this portal alone.
@@ -64,17 +55,7 @@ impl Sleeve {
         ensures ok { OnOk result (self.new ≡ record { left = left; right = right } ∷ []) }
         ensures err { OnErr result (self.new ≡ []) }
     {
-        self.frames.clear();
-        self.frames.reserve(1)?;
-        let left_end = EndAt { code: 0, at: left };
-        let right_end = EndAt {
-            code: RIGHT_END,
-            at: right,
-        };
-        self.hull.begin(left_end, right_end)?;
-        let frame = frame_over(&self.hull, left, right);
-        self.frames.push_reserved(frame);
-        Ok(())
+        self.track.begin((), left, right)
     }
 
     /// Adds the portal from the last left end to this right end where a line splits its ends and all others; where none
@@ -87,7 +68,11 @@ impl Sleeve {
         requires proper { left ≢ right }
         ensures { IsPassed self.old (record { left = left; right = right }) self.new result }
     {
-        go_left(&mut self.frames, &mut self.hull, left, right)
+        match self.track.by_left((), left, right)? {
+            Told::Open => Ok(Passed::Open),
+            Told::Stuck(evidence) => Ok(Passed::Stuck(evidence)),
+            Told::Unseen => self.track.by_search((), left, right),
+        }
     }
 
     /// The same from this left end to the last right end.
@@ -98,7 +83,11 @@ impl Sleeve {
         requires proper { left ≢ right }
         ensures { IsPassed self.old (record { left = left; right = right }) self.new result }
     {
-        go_right(&mut self.frames, &mut self.hull, left, right)
+        match self.track.by_right((), left, right)? {
+            Told::Open => Ok(Passed::Open),
+            Told::Stuck(evidence) => Ok(Passed::Stuck(evidence)),
+            Told::Unseen => self.track.by_search((), left, right),
+        }
     }
 
     /// Takes the portals behind the first ones away.
@@ -107,11 +96,7 @@ impl Sleeve {
         requires { count ≤ length self.old }
         ensures { self.new ≡ take count self.old }
     {
-        self.frames.truncate(count);
-        match self.frames.as_slice().last() {
-            Some(top) => self.hull.cut(top),
-            None => {}
-        }
+        self.track.cut(count);
     }
 
     /// A line that splits the ends. |a| and |b| are at most 2^20, |c| is at most 2^37.
@@ -120,6 +105,6 @@ impl Sleeve {
         ensures splits { SplitsEnds self.now result.0 result.1 result.2 }
         ensures range { IsLineInRange result.0 result.1 result.2 }
     {
-        line_of(&self.hull.cones[self.hull.cones.len() - 1])
+        self.track.line()
     }
 }

@@ -2,7 +2,6 @@
 use Rattle.std.proofs.Common.{◌≡◌, ℕ, zero, suc, ◌+◌, ◌-◌, ◌*◌, ◌^◌, ◌<◌, ◌≤◌, List, [], ◌∷◌, ◌++◌, take, drop, length, get_or, refl, sym, ap, subst, ◌∙◌, arith}
 use Rattle.std.specs.Prelude.{replicate}
 use Rattle.std.specs.List.{flat_map, AllByRecursion}
-use Rattle.std.specs.Int.{from_le_bytes}
 use Rattle.std.proofs.lemmas.List.{append-nil, take-append-drop, length-append, length-take, take_at, drop_at}
 use Rattle.std.proofs.lemmas.List.Concat.{flat_map-append}
 use Rattle.std.proofs.lemmas.Nat.{from_le_bytes-to_le_bytes_2}
@@ -161,3 +160,7 @@ first_taken k rest (n ∷ ns) s =
 
 pub many_more : (ns : List Node) (n : Node) → length (ns ++ n ∷ []) ≡ length ns + 1
 many_more ns n = omega (arith, length-append ns (n ∷ []))
+
+-- one node more, in the bytes that are there now
+pub more_bytes : (old new : List ℕ) (n : Node) → SpellNodes old (nodes_of old) → new ≡ old ++ node_bytes n → IsPackable n → FitsNode n → SpellNodes new (nodes_of old ++ n ∷ [])
+more_bytes old new n s is p f = rw is (spelled_more old (nodes_of old) n s p f)

@@ -11,6 +11,9 @@ use sight_names::Memory;
 use std::alloc::Global;
 use std::marker::Model;
 
+/// So many bytes have the nodes of most trees.
+const ROOM: usize = 32768;
+
 /// The nodes of a walk, in order; a contract sees the list of them. A node takes a byte and two more for each end.
 #[derive(Drop)]
 pub struct Nodes {
@@ -43,6 +46,17 @@ impl Nodes {
         }
     }
 
+    /// No node, and room for those of most trees: as bytes come one node after the other, they would be moved each time that
+    /// there is none left.
+    pub fn with_room(alloc: Global) -> Result<Nodes, Memory>
+        ensures { IfOk result (λ ns. ns ≡ []) }
+    {
+        Ok(Nodes {
+            bytes: Vec::with_capacity(alloc, ROOM)?,
+            count: 0,
+        })
+    }
+
     /// The nodes that these bytes spell, of which there are so many.
     pub fn of_bytes(alloc: Global, bytes: &[u8], count: usize) -> Result<Nodes, Memory>
         requires { SpellSoMany bytes.now count }
@@ -69,14 +83,38 @@ impl Nodes {
     }
 
     /// Adds a node behind the others.
-    // in line with what it calls: a walk notes a node for each sequence that it comes to
     #[inline(always)]
     pub fn push(&mut self, node: Node) -> Result<(), Memory>
         requires { IsPackable node }
         ensures ok { OnOk result (self.new ≡ self.old ++ node ∷ []) }
         ensures err { OnErr result (self.new ≡ self.old) }
     {
-        put_node(&mut self.bytes, &node)?;
+        match node {
+            Node::Open => self.push_open(),
+            Node::Blocked(evidence) => self.push_blocked(evidence),
+        }
+    }
+
+    /// Adds an open node behind the others.
+    // in line with what it calls, as is the next one: a walk notes a node for each sequence that it comes to
+    #[inline(always)]
+    pub fn push_open(&mut self) -> Result<(), Memory>
+        ensures ok { OnOk result (self.new ≡ self.old ++ Node.Open ∷ []) }
+        ensures err { OnErr result (self.new ≡ self.old) }
+    {
+        self.bytes.push(0)?;
+        self.count += 1;
+        Ok(())
+    }
+
+    /// Adds a node that these ends block behind the others.
+    #[inline(always)]
+    pub fn push_blocked(&mut self, evidence: Evidence) -> Result<(), Memory>
+        requires { IsPackable (Blocked evidence) }
+        ensures ok { OnOk result (self.new ≡ self.old ++ Blocked evidence ∷ []) }
+        ensures err { OnErr result (self.new ≡ self.old) }
+    {
+        put_ends(&mut self.bytes, evidence)?;
         self.count += 1;
         Ok(())
     }
@@ -98,29 +136,46 @@ impl Nodes {
     }
 }
 
+/// Adds the spelling of a node that these ends block.
 #[inline(always)]
-fn put_node(bytes: &mut Vec<u8>, node: &Node) -> Result<(), Memory>
-    requires { IsPackable node.now }
-    ensures ok { OnOk result (bytes.new.items ≡ bytes.old.items ++ node_bytes node.now) }
+fn put_ends(bytes: &mut Vec<u8>, evidence: Evidence) -> Result<(), Memory>
+    requires { evidence.count ≤ 4 }
+    ensures ok { OnOk result (bytes.new.items ≡ bytes.old.items ++ node_bytes (Blocked evidence)) }
     ensures err { OnErr result (bytes.new.items ≡ bytes.old.items) }
-    ensures fits { FitsNode node.now }
+    ensures fits { FitsNode (Blocked evidence) }
 {
-    match node {
-        Node::Open => {
-            bytes.push(0)?;
-            Ok(())
-        }
-        Node::Blocked(evidence) => put_ends(bytes, evidence),
+    // nearly all name four ends, and nine bytes are copied without a call
+    if evidence.count == 4 {
+        put_four(bytes, evidence)
+    } else {
+        put_few(bytes, evidence)
     }
 }
 
-/// Adds the spelling of a node that these ends block.
+/// The same of four ends.
 #[inline(always)]
-fn put_ends(bytes: &mut Vec<u8>, evidence: &Evidence) -> Result<(), Memory>
-    requires { evidence.now.count ≤ 4 }
-    ensures ok { OnOk result (bytes.new.items ≡ bytes.old.items ++ node_bytes (Blocked evidence.now)) }
+fn put_four(bytes: &mut Vec<u8>, evidence: Evidence) -> Result<(), Memory>
+    requires { evidence.count ≡ 4 }
+    ensures ok { OnOk result (bytes.new.items ≡ bytes.old.items ++ node_bytes (Blocked evidence)) }
     ensures err { OnErr result (bytes.new.items ≡ bytes.old.items) }
-    ensures fits { FitsNode (Blocked evidence.now) }
+    ensures fits { FitsNode (Blocked evidence) }
+{
+    let [a, b, c, d] = evidence.ends;
+    let [a, a_high] = a.to_le_bytes();
+    let [b, b_high] = b.to_le_bytes();
+    let [c, c_high] = c.to_le_bytes();
+    let [d, d_high] = d.to_le_bytes();
+    bytes.extend_from_slice(&[4, a, a_high, b, b_high, c, c_high, d, d_high])?;
+    Ok(())
+}
+
+/// The same of fewer ends, which are rare.
+#[inline(never)]
+fn put_few(bytes: &mut Vec<u8>, evidence: Evidence) -> Result<(), Memory>
+    requires { evidence.count ≤ 4 }
+    ensures ok { OnOk result (bytes.new.items ≡ bytes.old.items ++ node_bytes (Blocked evidence)) }
+    ensures err { OnErr result (bytes.new.items ≡ bytes.old.items) }
+    ensures fits { FitsNode (Blocked evidence) }
 {
     let [a, b, c, d] = evidence.ends;
     let [a, a_high] = a.to_le_bytes();
@@ -128,11 +183,6 @@ fn put_ends(bytes: &mut Vec<u8>, evidence: &Evidence) -> Result<(), Memory>
     let [c, c_high] = c.to_le_bytes();
     let [d, d_high] = d.to_le_bytes();
     let spelled = [evidence.count, a, a_high, b, b_high, c, c_high, d, d_high];
-    // nearly all name four ends, and nine bytes are copied without a call
-    if evidence.count == 4 {
-        bytes.extend_from_slice(&spelled)?;
-        return Ok(());
-    }
     bytes.extend_from_slice(&spelled[..1 + 2 * evidence.count as usize])?;
     Ok(())
 }

@@ -1,0 +1,16 @@
+use Rattle.std.proofs.Common.{rules, arith, ◌≡◌, ℕ, ◌+◌, ◌*◌, List, [], ◌∷◌, ◌++◌, take, get_or, sym, ap, ◌∙◌}
+use Rattle.block_evidence.proofs.SightTree.ReadBack.{put_together}
+use Rattle.block_evidence.proofs.sight_tree.nodes.put_four.Goals as goal
+
+pub returns-clause-ok : goal.returns-clause-ok
+returns-clause-ok c =
+    let k = c.args.evidence.count in
+    let a = c.to_le_bytes.result in
+    let b = c.to_le_bytes-2.result in
+    let d = c.to_le_bytes-3.result in
+    let e = c.to_le_bytes-4.result in
+    let rest : List ℕ = get_or a 0 0 ∷ get_or a 1 0 ∷ get_or b 0 0 ∷ get_or b 1 0 ∷ get_or d 0 0 ∷ get_or d 1 0 ∷ get_or e 0 0 ∷ get_or e 1 0 ∷ [] in
+    let added : c.extend_from_slice.new.self.items ≡ c.args.bytes.now.items ++ (4 ∷ rest) = search rules in
+    let four : k ≡ 4 = c.requires in
+    let whole : (4 ∷ rest) ≡ take (1 + 2 * k) (k ∷ rest) = sym (ap (λ (n : ℕ). take (1 + 2 * n) (n ∷ rest)) four) in
+    added ∙ ap (λ (t : List ℕ). c.args.bytes.now.items ++ t) (whole ∙ put_together k c.args.evidence.ends a b d e (omega (arith, four)) (search rules) c.to_le_bytes.ensures c.to_le_bytes-2.ensures c.to_le_bytes-3.ensures c.to_le_bytes-4.ensures)
