@@ -18,9 +18,8 @@ use Rattle.cert_checker.specs.declared.verdict.Totals.{Totals}
 use Rattle.cert_checker.specs.declared.verdict.Verdict.{Verdict}
 use Rattle.cert_checker.specs.declared.verdict.Verdict.TheVariants.{Yes as YesOne, No as NoOne}
 use Rattle.cert_checker.specs.Judged.{JudgesRays}
-use Rattle.cert_checker.specs.Pairs.{AreTotals, all_pairs, set_pairs}
 use Rattle.cert_checker.proofs.OneVerdict.{one_totals}
-use Rattle.cert_checker.proofs.SameBits.{HaveOneBits, clear_back, clear_same, pairs_same, set_back, set_same}
+use Rattle.cert_checker.proofs.SameBits.{HaveOneBits, clear_back, clear_same, in_first, in_map, in_other, low, set_back, set_same, totals_same}
 use Rattle.group_checker.specs.declared.verdict.AnyFault.{AnyFault}
 use Rattle.group_checker.specs.declared.verdict.AnyFault.TheVariants.{Check, Group, Unused}
 use Rattle.group_checker.specs.declared.verdict.AnyVerdict.{AnyVerdict}
@@ -175,7 +174,7 @@ module _ (m g : Map) (t : TableParts) (c : ExactParts) where
   late_yes x (No (Check (ListedSet a b))) l p q = absurd q.pairs
   late_yes x (No (Check (Unproved a b))) l p q = absurd (wrong_with_right t (as_two c) a b x (unproved_wrong t (as_two c) a b q.pairs) p.pairs)
   late_yes x (No (Check (Uncovered a b))) l p q = absurd (wrong_with_right t (as_two c) a b x (uncovered_wrong t (as_two c) a b q.pairs) p.pairs)
-  late_yes x (Yes y) l p q = ap Yes (one_totals g t (as_two c).cert t.n x y p.pairs.1 q.pairs.1)
+  late_yes x (Yes y) l p q = ap Yes (one_totals t [] t.n x y p.pairs.1 q.pairs.1)
   late_yes x w l p q = absurd l
 
   seen_with_not : (a b d e : ℕ) → TellsPairs t (as_two c) (NoOne (Unproved a b)) → TellsPairs t (as_two c) (NoOne (Uncovered d e)) → ⊥
@@ -223,49 +222,31 @@ module _ (m g : Map) (t : TableParts) (c : ExactParts) where
 -- ---- tables of the same bits
 
 module _ (m : Map) (c : CertTwo) (t u : TableParts) (same : HaveOneBits m t u) where
-  in_map : (b : ℕ) → b < t.n → b < m.sectors
-  in_map b l = subst (λ (n : ℕ). b < n) same.first l
-
-  in_other : (b : ℕ) → b < t.n → b < u.n
-  in_other b l = subst (λ (n : ℕ). b < n) (same.first ∙ sym same.second) l
-
-  in_first : (b : ℕ) → b < u.n → b < t.n
-  in_first b l = subst (λ (n : ℕ). b < n) (same.second ∙ sym same.first) l
-
-  low : (a b : ℕ) → a ≤ b → b < t.n → a < m.sectors
-  low a b l h = let w = in_map b h in omega (arith, l, w)
-
   right_same : (a b : ℕ) → a ≤ b → b < t.n → IsPairRight t c a b → IsPairRight u c a b
   right_same a b l h r = record {
-    set = λ s. r.set (set_back m c.cert t u same a b (low a b l h) (in_map b h) s);
-    clear = λ s. r.clear (clear_back m c.cert t u same a b (low a b l h) (in_map b h) s);
+    set = λ s. r.set (set_back m t u same a b (low m t u same a b l h) (in_map m t u same b h) s);
+    clear = λ s. r.clear (clear_back m t u same a b (low m t u same a b l h) (in_map m t u same b h) s);
   }
 
   reached_same : (a b : ℕ) → IsReached t c a b → IsReached u c a b
   reached_same a b r = record {
     order = r.order;
-    within = in_other b r.within;
+    within = in_other m t u same b r.within;
     row = λ e l h. right_same a e l (let w = r.within in omega (arith, h, w)) (r.row e l h);
-    rows = λ d e l h k. right_same d e h (in_first e k) (r.rows d e l h (in_first e k));
+    rows = λ d e l h k. right_same d e h (in_first m t u same e k) (r.rows d e l h (in_first m t u same e k));
   }
-
-  sets_same : set_pairs t t.n ≡ set_pairs u u.n
-  sets_same = ap (set_pairs t) same.first ∙ pairs_same m c.cert t u same ∙ ap (set_pairs u) (sym same.second)
-
-  totals_same : (totals : Totals) → AreTotals t [] t.n totals → AreTotals u [] u.n totals
-  totals_same totals h = record { set = h.set ∙ sets_same; listed = h.listed; all = h.all ∙ ap all_pairs (same.first ∙ sym same.second) }
 
   pairs_told : (v : Verdict) → TellsPairs t c v → TellsPairs u c v
   pairs_told (YesOne totals) h = (
-    (λ a b l k. right_same a b l (in_first b k) (h.0 a b l (in_first b k))),
-    totals_same totals h.1,
+    (λ a b l k. right_same a b l (in_first m t u same b k) (h.0 a b l (in_first m t u same b k))),
+    totals_same m t u same [] totals h.1,
   )
   pairs_told (NoOne (Mesh f)) h = h
   pairs_told (NoOne (Ray a b why)) h = h
   pairs_told (NoOne (OfTree s k)) h = h
   pairs_told (NoOne (ListedSet a b)) h = h
-  pairs_told (NoOne (Unproved a b)) h = (reached_same a b h.0, set_same m c.cert t u same a b (low a b h.0.order h.0.within) (in_map b h.0.within) h.1, h.2)
-  pairs_told (NoOne (Uncovered a b)) h = (reached_same a b h.0, clear_same m c.cert t u same a b (low a b h.0.order h.0.within) (in_map b h.0.within) h.1, h.2)
+  pairs_told (NoOne (Unproved a b)) h = (reached_same a b h.0, set_same m t u same a b (low m t u same a b h.0.order h.0.within) (in_map m t u same b h.0.within) h.1, h.2)
+  pairs_told (NoOne (Uncovered a b)) h = (reached_same a b h.0, clear_same m t u same a b (low m t u same a b h.0.order h.0.within) (in_map m t u same b h.0.within) h.1, h.2)
 
   -- the same is promised of both
   pub told_same : (v : AnyVerdict) → InWordsOfOne (TellsPairs t c) v → InWordsOfOne (TellsPairs u c) v

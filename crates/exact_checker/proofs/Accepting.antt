@@ -42,7 +42,8 @@ use Rattle.group_checker.specs.Grouping.{IsGroupedMesh, TellsGrouping}
 use Rattle.group_checker.specs.Meshes.{grouped_map, grouped_plan, IsFirstMeshFault}
 use Rattle.group_checker.specs.Judged.{any_of, IsYesAny, JudgesTwo}
 use Rattle.group_checker.proofs.Ending.{its_own}
-use Rattle.group_checker.proofs.OneMap.{each_at, label_within, one_label_each, has_label, names_grouped, one_map}
+use Rattle.cert_checker.proofs.Lists.{each_at}
+use Rattle.group_checker.proofs.OneMap.{label_within, one_label_each, has_label, names_grouped, one_map}
 use Rattle.gate_floods.specs.TurnedTrees.Exact.{TellsAll}
 use Rattle.gate_floods.specs.Bits.{rank_of}
 use Rattle.gate_floods.specs.Exact.{IsAcceptedThree, IsClaimed, IsExactOver}

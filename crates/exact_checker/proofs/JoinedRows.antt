@@ -10,9 +10,8 @@ use Rattle.math_base.proofs.Lists.{get_there, length_pushed, pushed_at}
 use Rattle.math_base.proofs.Numbers.{same_or_not, below_or_last}
 use Rattle.cert_format.specs.Parts.{CertParts}
 use Rattle.cert_checker.specs.AcceptedGroups.Accepted.{AreGroupsJoined}
-use Rattle.cert_checker.specs.Pairs.{pair, IsWithin}
-use Rattle.group_checker.specs.Pairs.{HasRayBelow}
-use Rattle.group_checker.proofs.Judging.{ray_there, ray_below}
+use Rattle.cert_checker.specs.Pairs.{pair, HasRayBelow, IsWithin}
+use Rattle.cert_checker.proofs.Judging.{ray_there, ray_below}
 use Rattle.gate_floods.specs.Bits.{is_joined}
 use Rattle.gate_floods.proofs.RowBits.{joined_told, not_joined}
 use Rattle.gate_floods.specs.declared.gate_masks.masks.Row.{Row}

@@ -64,7 +64,7 @@ fn are_joined(known: Known<'_>, a: u16, b: u16) -> bool
     are_some_joined(known.joined, ones, others)
 }
 
-/// What the table has for the pair. No pair is listed, and sectors have no rays.
+/// What the table has for the pair. No pair is listed.
 fn given_of(known: Known<'_>, a: u16, b: u16) -> PairFacts
     requires from { a < known.table.now.n }
     requires to { b < known.table.now.n }
@@ -74,7 +74,6 @@ fn given_of(known: Known<'_>, a: u16, b: u16) -> PairFacts
         set: either_set(known.table, a, b),
         clear: either_clear(known.table, a, b),
         listed: false,
-        ray: false,
     }
 }
 

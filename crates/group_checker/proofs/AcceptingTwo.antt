@@ -2,33 +2,37 @@
 use Rattle.std.proofs.Common.{◌≡◌, ℕ, ◌<◌, ◌↔◌, List, [], Some, get_or, length, refl, sym, ◌∙◌, ap, subst, arith}
 use Rattle.std.specs.List.{slice_get}
 use Rattle.std.proofs.lemmas.Option.{slice_get-get_or, slice_get_within, same_Some}
+use Rattle.sight_names.specs.declared.faults.CheckFault.{CheckFault}
 use Rattle.sight_names.specs.declared.faults.CheckFault.TheVariants.{Mesh, Ray, Tree as OfTree, ListedSet, Unproved, Uncovered}
 use Rattle.sight_names.specs.declared.faults.MeshFault.{MeshFault}
 use Rattle.sight_names.specs.declared.faults.MeshFault.TheVariants.{Flat, Twice, NoMate, NoTriangle, Meets, Inside}
 use Rattle.sight_names.specs.Plan.{PlanParts, IsPlan}
+use Rattle.sight_names.specs.Groups.{IsInGroup}
 use Rattle.sight_names.specs.Map.{Map, map_of}
 use Rattle.sight_names.specs.Mesh.{label_of, IsGoodMesh}
-use Rattle.sight_names.proofs.Lists.{get_of_contains}
 use Rattle.mesh_base.proofs.PlanFacts.{plan_facts}
 use Rattle.mesh_shape.specs.Faults.{IsFirstFault}
 use Rattle.reject_bits.specs.Parts.{TableParts}
-use Rattle.cert_format.specs.Accepted.{triangles_of, labels_of, EitherSet, EitherClear}
+use Rattle.cert_format.specs.Accepted.{triangles_of, labels_of}
 use Rattle.cert_format.specs.declared.cert_groups.cert.CertTwo.{CertTwo}
 use Rattle.cert_format.specs.CertGroups.Grammar.{IsGroupInOrder}
 use Rattle.face_groups.specs.GroupsBase.Named.{AreNamedAt}
 use Rattle.face_groups.specs.GroupsBase.Table.{IsTableFor, IsNamedByTable}
 use Rattle.face_groups.proofs.GroupsBase.CheckedGroups.{table_is_good}
 use Rattle.face_groups.proofs.GroupsBase.SamePoints.{plain_alike, no_line_edge}
-use Rattle.cert_checker.specs.AcceptedGroups.Accepted.{IsPairOfList, IsGroupedBlind, IsGroupedSeen, IsAcceptedOver, IsAcceptedTwo}
+use Rattle.cert_checker.specs.AcceptedGroups.Accepted.{IsAcceptedOver, IsAcceptedTwo}
 use Rattle.cert_checker.specs.declared.verdict.Totals.{Totals}
-use Rattle.cert_checker.proofs.Accepting.{broken_rule, member_at, wrong_ray}
+use Rattle.cert_checker.specs.declared.verdict.Verdict.TheVariants.{No as NoOne}
+use Rattle.cert_checker.specs.Judged.{IsLaterVerdict}
+use Rattle.cert_checker.proofs.Accepting.{broken_rule, no_on, yes_on}
 use Rattle.group_checker.specs.declared.verdict.AnyFault.{AnyFault}
 use Rattle.group_checker.specs.declared.verdict.AnyFault.TheVariants.{Check, Group, Unused}
 use Rattle.group_checker.specs.declared.verdict.AnyVerdict.{AnyVerdict}
 use Rattle.group_checker.specs.declared.verdict.AnyVerdict.TheVariants.{Yes, No}
 use Rattle.group_checker.specs.Meshes.{grouped_map, IsFirstMeshFault}
 use Rattle.group_checker.specs.Judged.{IsTwoFor, IsYesAny, JudgesTwo}
-use Rattle.group_checker.proofs.OneMap.{each_at, label_within, one_label_each, has_label, names_grouped, one_map}
+use Rattle.cert_checker.proofs.Lists.{each_at}
+use Rattle.group_checker.proofs.OneMap.{label_within, one_label_each, has_label, names_grouped, one_map}
 
 module _ (p : PlanParts) (is : IsPlan p) (t : TableParts) (c : CertTwo) (size : t.n ≡ p.sectors) (two : IsTwoFor p c) where
   -- ---- yes
@@ -59,14 +63,7 @@ module _ (p : PlanParts) (is : IsPlan p) (t : TableParts) (c : CertTwo) (size : 
   yes_accepted totals h = (
     grouped_map p c,
     names_grouped p is c,
-    record {
-      table_for = table_for totals h;
-      rays = λ r there. h.rays there.0 r there.1 (get_of_contains c.cert.rays r there.0 there.1 there.2);
-      trees = h.trees;
-      listed = λ a b order within n. subst (λ (x : ℕ). EitherSet x t.bytes a b → ⊥) size ((h.pairs.0 a b order (omega (arith, within, size))).listed n);
-      set = λ a b order within. subst (λ (x : ℕ). EitherSet x t.bytes a b → IsGroupedBlind (grouped_map p c) c a b) size (h.pairs.0 a b order (omega (arith, within, size))).set;
-      clear = λ a b order within. subst (λ (x : ℕ). EitherClear x t.bytes a b → ¬ IsPairOfList c a b → IsGroupedSeen c a b) size (h.pairs.0 a b order (omega (arith, within, size))).clear;
-    },
+    record { table_for = table_for totals h; on = yes_on (grouped_map p c) (IsInGroup c.groups) p.sectors t c.listed c.cert size totals h.rays h.trees h.pairs },
   )
 
   -- ---- no
@@ -100,18 +97,18 @@ module _ (p : PlanParts) (is : IsPlan p) (t : TableParts) (c : CertTwo) (size : 
     is_used : (f : ℕ) → f < length c.groups → (k : ℕ) × (k < length (labels_of c.cert)) × (label_of (labels_of c.cert) k ≡ Some f)
     is_used f lt = let u = (all.table_for.used f (get_or c.groups f []) (slice_get-get_or c.groups f [] lt)).1 in let n = one_label_each c in let l = u.1 in (u.0, omega (arith, l, n), u.2)
 
-    below : (b : ℕ) → b < t.n → b < p.sectors
-    below b l = omega (arith, l, size)
+    refused_on : (f : CheckFault) → IsLaterVerdict (NoOne f) → JudgesTwo p t c (No (Check f)) → ⊥
+    refused_on f later h = no_on (grouped_map p c) (IsInGroup c.groups) p.sectors t c.listed c.cert size f later h.rays h.trees h.pairs all.on
 
     refused : (f : AnyFault) → JudgesTwo p t c (No f) → ⊥
     refused (Group k) h = h.groups.against (named_right k)
     refused (Unused f) h = h.groups.1.against (is_used f)
     refused (Check (Mesh f)) h = no_mesh_fault f h.mesh
-    refused (Check (Ray a b why)) h = let f = h.rays in wrong_ray (grouped_map p c) a b why f.ray (all.rays f.ray (member_at c.cert.rays f.place f.ray f.is)) f.fault
-    refused (Check (OfTree s n)) h = let f = h.trees in let w = all.trees f.tree (member_at c.cert.trees f.place f.tree f.is) in f.not_whole w.0 w.1
-    refused (Check (ListedSet a b)) h = let f = h.pairs in all.listed a b f.0.order (below b f.0.within) f.1 (subst (λ (n : ℕ). EitherSet n t.bytes a b) size f.2)
-    refused (Check (Unproved a b)) h = let f = h.pairs in f.3 (all.set a b f.0.order (below b f.0.within) (subst (λ (n : ℕ). EitherSet n t.bytes a b) size f.2))
-    refused (Check (Uncovered a b)) h = let f = h.pairs in f.4 (all.clear a b f.0.order (below b f.0.within) (subst (λ (n : ℕ). EitherClear n t.bytes a b) size f.3) f.1)
+    refused (Check (Ray a b why)) h = refused_on (Ray a b why) tt h
+    refused (Check (OfTree s n)) h = refused_on (OfTree s n) tt h
+    refused (Check (ListedSet a b)) h = refused_on (ListedSet a b) tt h
+    refused (Check (Unproved a b)) h = refused_on (Unproved a b) tt h
+    refused (Check (Uncovered a b)) h = refused_on (Uncovered a b) tt h
 
   pub yes_exactly_two : (v : AnyVerdict) → JudgesTwo p t c v → IsYesAny v ↔ IsAcceptedTwo (map_of p) t.bytes c
   yes_exactly_two (Yes totals) h = (λ y. yes_accepted totals h, λ a. tt)

@@ -6,11 +6,10 @@ use Rattle.sight_names.specs.Sound.{LinesMeetAtEnds}
 use Rattle.sight_names.proofs.PlanMap.{plan_is_map}
 use Rattle.reject_bits.specs.Parts.{TableParts}
 use Rattle.cert_format.specs.Parts.{CertParts}
-use Rattle.cert_format.specs.Accepted.{IsAccepted}
 use Rattle.cert_format.specs.declared.cert_groups.cert.AnyCert.{AnyCert}
 use Rattle.cert_format.specs.declared.cert_groups.cert.AnyCert.TheVariants.{One, Two}
 use Rattle.cert_format.specs.CertGroups.Grammar.{IsAnyInOrder, sizes_of}
-use Rattle.cert_checker.specs.AcceptedGroups.Accepted.{IsAcceptedAny}
+use Rattle.cert_checker.specs.AcceptedGroups.Accepted.{IsAccepted, IsAcceptedAny}
 use Rattle.cert_checker.specs.declared.verdict.Verdict.{Verdict}
 use Rattle.cert_checker.specs.declared.verdict.Verdict.TheVariants.{Yes, No}
 use Rattle.cert_checker.specs.Judged.{IsYes}

@@ -1,10 +1,8 @@
-pub mod Each
 pub mod Meshed
 pub mod OneMap
 pub mod AcceptingTwo
 pub mod SeeingTwo
 pub mod AnyTold
-pub mod Rows
 pub mod Growing
 pub mod Judging
 pub mod Listing

@@ -7,26 +7,25 @@ use Rattle.sight_names.specs.declared.faults.CheckFault.{CheckFault}
 use Rattle.sight_names.specs.declared.faults.CheckFault.TheVariants.{Mesh, Ray, Tree as OfTree, ListedSet, Unproved, Uncovered}
 use Rattle.sight_names.specs.declared.faults.MeshFault.{MeshFault}
 use Rattle.sight_names.specs.declared.faults.MeshFault.TheVariants.{Flat, Twice, NoMate, NoTriangle, Meets, Inside}
+use Rattle.sight_names.specs.Groups.{IsInGroup}
 use Rattle.sight_names.specs.Map.{Map}
 use Rattle.sight_names.specs.Mesh.{IsGoodMesh}
 use Rattle.mesh_shape.specs.Faults.{IsFirstFault}
 use Rattle.reject_bits.specs.Parts.{TableParts}
-use Rattle.cert_format.specs.Accepted.{triangles_of, labels_of, EitherSet}
+use Rattle.cert_format.specs.Accepted.{triangles_of, labels_of}
 use Rattle.cert_format.specs.declared.cert_groups.cert.CertTwo.{CertTwo}
-use Rattle.cert_checker.specs.AcceptedGroups.Accepted.{IsPairOfList, IsGroupedBlind}
 use Rattle.cert_checker.specs.TreeJudge.Trees.{AreTreesWhole}
 use Rattle.cert_checker.proofs.TreeJudge.OneTree.{one_wrong_tree}
 use Rattle.cert_checker.specs.Rays.{AreSightRaysBelow}
 use Rattle.cert_checker.specs.Judged.{JudgesRays, JudgesTrees}
 use Rattle.cert_checker.specs.declared.verdict.Totals.{Totals}
-use Rattle.cert_checker.specs.declared.verdict.Verdict.TheVariants.{Yes as YesOne, No as NoOne}
 use Rattle.cert_checker.proofs.Accepting.{broken_rule, member_at, wrong_ray}
-use Rattle.cert_checker.proofs.OneVerdict.{one_first, one_side, one_mesh_fault, one_ray_fault, one_totals}
+use Rattle.cert_checker.proofs.OneVerdict.{listed_wrong, one_first, one_side, one_mesh_fault, one_pair_fault, one_ray_fault, one_totals, uncovered_wrong, unproved_wrong, wrong_with_right}
 use Rattle.group_checker.specs.declared.verdict.AnyFault.{AnyFault}
 use Rattle.group_checker.specs.declared.verdict.AnyFault.TheVariants.{Check, Group, Unused}
 use Rattle.group_checker.specs.declared.verdict.AnyVerdict.{AnyVerdict}
 use Rattle.group_checker.specs.declared.verdict.AnyVerdict.TheVariants.{Yes, No}
-use Rattle.group_checker.specs.Judged.{InWordsOfOne, IsPairRight, IsReached, TellsGroups, TellsMesh, TellsPairs, with_list}
+use Rattle.group_checker.specs.Judged.{InWordsOfOne, TellsGroups, TellsMesh, TellsPairs}
 use Rattle.group_checker.specs.Lists.{IsListRight, IsUsedGroup}
 use Rattle.group_checker.specs.Meshes.{HasTriangleAt, IsFirstMeshFault}
 use Rattle.math_base.proofs.Numbers.{below_same_or_above}
@@ -74,36 +73,6 @@ module _ (m g : Map) (ts : List Triangle) (ls : List (Option ℕ)) where
       by (inl x) (inr o) = absurd (side_with_other x.0 h o (as_side f x.0 x.1 a) b)
       by (inr o) (inl y) = absurd (side_with_other y.0 f o (as_side h y.0 y.1 b) a)
       by (inr o) (inr q) = one_mesh_fault g ts ls f h (other_fault f o a) (other_fault h q b)
-
--- ---- pairs
-
-module _ (g : Map) (t : TableParts) (c : CertTwo) where
-  -- the pair isn't right, and all before it are
-  record IsWrongAt (a b : ℕ) : Type 0 where
-    reached : IsReached g t c a b
-    wrong : ¬ IsPairRight g t c a b
-
-  one_wrong_pair : (a b d e : ℕ) → IsWrongAt a b → IsWrongAt d e → (a ≡ d) × (b ≡ e)
-  one_wrong_pair a b d e f h = by (below_same_or_above a d)
-    where
-      by : (a < d) ⊎ (a ≡ d) ⊎ (d < a) → (a ≡ d) × (b ≡ e)
-      by (inl l) = absurd (f.wrong (h.reached.rows a b l f.reached.order f.reached.within))
-      by (inr (inr l)) = absurd (h.wrong (f.reached.rows d e l h.reached.order h.reached.within))
-      by (inr (inl q)) = (q, second (below_same_or_above b e))
-        where
-          second : (b < e) ⊎ (b ≡ e) ⊎ (e < b) → b ≡ e
-          second (inl l) = absurd (f.wrong (subst (λ (n : ℕ). IsPairRight g t c n b) (sym q) (h.reached.row b (let o = f.reached.order in omega (arith, o, q)) l)))
-          second (inr (inl r)) = r
-          second (inr (inr l)) = absurd (h.wrong (subst (λ (n : ℕ). IsPairRight g t c n e) q (f.reached.row e (let o = h.reached.order in omega (arith, o, q)) l)))
-
-  listed_wrong : (a b : ℕ) → TellsPairs g t c (NoOne (ListedSet a b)) → IsWrongAt a b
-  listed_wrong a b h = record { reached = h.0; wrong = λ r. r.listed h.1 h.2 }
-
-  unproved_wrong : (a b : ℕ) → TellsPairs g t c (NoOne (Unproved a b)) → IsWrongAt a b
-  unproved_wrong a b h = record { reached = h.0; wrong = λ r. h.3 (r.set h.2) }
-
-  uncovered_wrong : (a b : ℕ) → TellsPairs g t c (NoOne (Uncovered a b)) → IsWrongAt a b
-  uncovered_wrong a b h = record { reached = h.0; wrong = λ r. h.4 (r.clear h.3 h.1) }
 
 -- ---- one answer
 
@@ -220,25 +189,19 @@ module _ (m g : Map) (t : TableParts) (c : CertTwo) where
       by (inl x) = (subst (λ (y : MeshFault). IsFirstMeshFault m g (triangles_of c.cert) (labels_of c.cert) y) x.1 h).3.against (right.0 x.0)
       by (inr o) = broken_rule g (record { n = g.sectors; bytes = [] }) c.cert refl (triangles_of c.cert) (labels_of c.cert) f right.1 (other_fault m g (triangles_of c.cert) (labels_of c.cert) f o h)
 
-  wrong_with_right : (a b : ℕ) (totals : Totals) → IsWrongAt g t c a b → TellsPairs g t c (YesOne totals) → ⊥
-  wrong_with_right a b totals w h = w.wrong (h.0 a b w.reached.order w.reached.within)
-
   earlier_stage : (v w : AnyVerdict) → stage v < stage w → IsPromised v → IsPromised w → ⊥
   earlier_stage (No (Check (Mesh f))) w l p q = broken f (mesh_later w l q.mesh) p.mesh
   earlier_stage (No (Group k)) w l p q = p.groups.against (lists_later w l q.groups k)
   earlier_stage (No (Unused f)) w l p q = p.groups.1.against (used_later w l q.groups f)
   earlier_stage (No (Check (Ray a b why))) w l p q = let s = sights_later w l q.rays in let f = p.rays in wrong_ray g a b why f.ray (s f.place f.ray (slice_get_within c.cert.rays f.place f.ray f.is) f.is) f.fault
   earlier_stage (No (Check (OfTree s k))) w l p q = let f = p.trees in let x = whole_later w l q.trees f.tree (member_at c.cert.trees f.place f.tree f.is) in f.not_whole x.0 x.1
-  earlier_stage (No (Check (ListedSet a b))) (Yes totals) l p q = wrong_with_right a b totals (listed_wrong g t c a b p.pairs) q.pairs
-  earlier_stage (No (Check (Unproved a b))) (Yes totals) l p q = wrong_with_right a b totals (unproved_wrong g t c a b p.pairs) q.pairs
-  earlier_stage (No (Check (Uncovered a b))) (Yes totals) l p q = wrong_with_right a b totals (uncovered_wrong g t c a b p.pairs) q.pairs
+  earlier_stage (No (Check (ListedSet a b))) (Yes totals) l p q = wrong_with_right g (IsInGroup c.groups) t c.listed c.cert a b totals (listed_wrong g (IsInGroup c.groups) t c.listed c.cert a b p.pairs) q.pairs
+  earlier_stage (No (Check (Unproved a b))) (Yes totals) l p q = wrong_with_right g (IsInGroup c.groups) t c.listed c.cert a b totals (unproved_wrong g (IsInGroup c.groups) t c.listed c.cert a b p.pairs) q.pairs
+  earlier_stage (No (Check (Uncovered a b))) (Yes totals) l p q = wrong_with_right g (IsInGroup c.groups) t c.listed c.cert a b totals (uncovered_wrong g (IsInGroup c.groups) t c.listed c.cert a b p.pairs) q.pairs
   earlier_stage (No (Check (ListedSet a b))) (No f) l p q = absurd (omega (arith, l, no_yes f))
   earlier_stage (No (Check (Unproved a b))) (No f) l p q = absurd (omega (arith, l, no_yes f))
   earlier_stage (No (Check (Uncovered a b))) (No f) l p q = absurd (omega (arith, l, no_yes f))
   earlier_stage (Yes totals) w l p q = absurd (omega (arith, l, stage_below w))
-
-  moved_pair : (P : ℕ → ℕ → Type 0) (a b d e : ℕ) → (a ≡ d) × (b ≡ e) → P d e → P a b
-  moved_pair P a b d e (f, h) x = subst (λ (n : ℕ). P n b) (sym f) (subst (λ (n : ℕ). P d n) (sym h) x)
 
   not_group : (f : CheckFault) → stage (No (Check f)) ≡ 1 → ⊥
   not_group (Mesh f) e = omega (arith, e)
@@ -260,28 +223,22 @@ module _ (m g : Map) (t : TableParts) (c : CertTwo) where
   same_check (Mesh f) (Mesh h) e p q = ap (λ (x : MeshFault). No (Check (Mesh x))) (one_rule m g (triangles_of c.cert) (labels_of c.cert) f h p.mesh q.mesh)
   same_check (Ray a b x) (Ray d f y) e p q = ap (λ (r : CheckFault). No (Check r)) (one_ray_fault g c.cert.rays a b d f x y p.rays q.rays)
   same_check (OfTree s k) (OfTree u j) e p q = let o = one_wrong_tree g c.cert p.mesh.1 s k u j p.trees q.trees in (λ i. No (Check (OfTree (o.0 i) (o.1 i))))
-  same_check (ListedSet a b) (ListedSet d f) e p q = let o = one_wrong_pair g t c a b d f (listed_wrong g t c a b p.pairs) (listed_wrong g t c d f q.pairs) in (λ i. No (Check (ListedSet (o.0 i) (o.1 i))))
-  same_check (Unproved a b) (Unproved d f) e p q = let o = one_wrong_pair g t c a b d f (unproved_wrong g t c a b p.pairs) (unproved_wrong g t c d f q.pairs) in (λ i. No (Check (Unproved (o.0 i) (o.1 i))))
-  same_check (Uncovered a b) (Uncovered d f) e p q = let o = one_wrong_pair g t c a b d f (uncovered_wrong g t c a b p.pairs) (uncovered_wrong g t c d f q.pairs) in (λ i. No (Check (Uncovered (o.0 i) (o.1 i))))
-  same_check (ListedSet a b) (Unproved d f) e p q =
-      let o = one_wrong_pair g t c a b d f (listed_wrong g t c a b p.pairs) (unproved_wrong g t c d f q.pairs) in absurd (moved_pair (λ x y. ¬ IsPairOfList c x y) a b d f o q.pairs.1 p.pairs.1)
-  same_check (Unproved d f) (ListedSet a b) e p q =
-      let o = one_wrong_pair g t c a b d f (listed_wrong g t c a b q.pairs) (unproved_wrong g t c d f p.pairs) in absurd (moved_pair (λ x y. ¬ IsPairOfList c x y) a b d f o p.pairs.1 q.pairs.1)
-  same_check (ListedSet a b) (Uncovered d f) e p q =
-      let o = one_wrong_pair g t c a b d f (listed_wrong g t c a b p.pairs) (uncovered_wrong g t c d f q.pairs) in absurd (moved_pair (λ x y. ¬ IsPairOfList c x y) a b d f o q.pairs.1 p.pairs.1)
-  same_check (Uncovered d f) (ListedSet a b) e p q =
-      let o = one_wrong_pair g t c a b d f (listed_wrong g t c a b q.pairs) (uncovered_wrong g t c d f p.pairs) in absurd (moved_pair (λ x y. ¬ IsPairOfList c x y) a b d f o p.pairs.1 q.pairs.1)
-  same_check (Unproved a b) (Uncovered d f) e p q =
-      let o = one_wrong_pair g t c a b d f (unproved_wrong g t c a b p.pairs) (uncovered_wrong g t c d f q.pairs) in absurd (p.pairs.3 (moved_pair (λ x y. EitherSet t.n t.bytes x y → IsGroupedBlind g c x y) a b d f o q.pairs.2 p.pairs.2))
-  same_check (Uncovered d f) (Unproved a b) e p q =
-      let o = one_wrong_pair g t c a b d f (unproved_wrong g t c a b q.pairs) (uncovered_wrong g t c d f p.pairs) in absurd (q.pairs.3 (moved_pair (λ x y. EitherSet t.n t.bytes x y → IsGroupedBlind g c x y) a b d f o p.pairs.2 q.pairs.2))
+  same_check (ListedSet a b) (ListedSet d f) e p q = ap (λ (r : CheckFault). No (Check r)) (one_pair_fault g (IsInGroup c.groups) t c.listed c.cert (ListedSet a b) (ListedSet d f) tt tt p.pairs q.pairs)
+  same_check (ListedSet a b) (Unproved d f) e p q = ap (λ (r : CheckFault). No (Check r)) (one_pair_fault g (IsInGroup c.groups) t c.listed c.cert (ListedSet a b) (Unproved d f) tt tt p.pairs q.pairs)
+  same_check (ListedSet a b) (Uncovered d f) e p q = ap (λ (r : CheckFault). No (Check r)) (one_pair_fault g (IsInGroup c.groups) t c.listed c.cert (ListedSet a b) (Uncovered d f) tt tt p.pairs q.pairs)
+  same_check (Unproved a b) (ListedSet d f) e p q = ap (λ (r : CheckFault). No (Check r)) (one_pair_fault g (IsInGroup c.groups) t c.listed c.cert (Unproved a b) (ListedSet d f) tt tt p.pairs q.pairs)
+  same_check (Unproved a b) (Unproved d f) e p q = ap (λ (r : CheckFault). No (Check r)) (one_pair_fault g (IsInGroup c.groups) t c.listed c.cert (Unproved a b) (Unproved d f) tt tt p.pairs q.pairs)
+  same_check (Unproved a b) (Uncovered d f) e p q = ap (λ (r : CheckFault). No (Check r)) (one_pair_fault g (IsInGroup c.groups) t c.listed c.cert (Unproved a b) (Uncovered d f) tt tt p.pairs q.pairs)
+  same_check (Uncovered a b) (ListedSet d f) e p q = ap (λ (r : CheckFault). No (Check r)) (one_pair_fault g (IsInGroup c.groups) t c.listed c.cert (Uncovered a b) (ListedSet d f) tt tt p.pairs q.pairs)
+  same_check (Uncovered a b) (Unproved d f) e p q = ap (λ (r : CheckFault). No (Check r)) (one_pair_fault g (IsInGroup c.groups) t c.listed c.cert (Uncovered a b) (Unproved d f) tt tt p.pairs q.pairs)
+  same_check (Uncovered a b) (Uncovered d f) e p q = ap (λ (r : CheckFault). No (Check r)) (one_pair_fault g (IsInGroup c.groups) t c.listed c.cert (Uncovered a b) (Uncovered d f) tt tt p.pairs q.pairs)
   same_check f h e p q = absurd (omega (arith, e))
 
   same_stage : (v w : AnyVerdict) → stage v ≡ stage w → IsPromised v → IsPromised w → v ≡ w
   same_stage (No (Check f)) (No (Check h)) e p q = same_check f h e p q
   same_stage (No (Group k)) (No (Group j)) e p q = ap (λ (x : ℕ). No (Group x)) (one_first _ k j p.groups q.groups)
   same_stage (No (Unused f)) (No (Unused h)) e p q = ap (λ (x : ℕ). No (Unused x)) (one_first _ f h p.groups.1 q.groups.1)
-  same_stage (Yes x) (Yes y) e p q = ap Yes (one_totals g t (with_list c) t.n x y p.pairs.1 q.pairs.1)
+  same_stage (Yes x) (Yes y) e p q = ap Yes (one_totals t c.listed t.n x y p.pairs.1 q.pairs.1)
   same_stage (No (Check f)) (No (Group k)) e p q = absurd (not_group f e)
   same_stage (No (Group k)) (No (Check f)) e p q = absurd (not_group f (sym e))
   same_stage (No (Check f)) (No (Unused u)) e p q = absurd (not_unused f e)

@@ -30,11 +30,6 @@ use Rattle.group_checker.specs.Judged.{IsTwoFor}
 
 -- ---- lists
 
-pub each_at : {X : Type 0} (P : X → Type 0) (xs : List X) (i : ℕ) (x : X) → AllByRecursion P xs → slice_get xs i ≡ Some x → P x
-each_at P [] i x all e = absurd (none-some x e)
-each_at P (y ∷ xs) zero x all e = subst P (same_Some y x e) all.0
-each_at P (y ∷ xs) (suc i) x all e = each_at P xs i x all.1 e
-
 pub label_within : (ls : List (Option ℕ)) (k f : ℕ) → label_of ls k ≡ Some f → k < length ls
 label_within [] k f e = absurd (none-some f e)
 label_within (x ∷ ls) zero f e = zero-lt-suc _

@@ -1,35 +1,31 @@
 -- What the answer says of a certificate of version 2, and of one of either version.
-use Rattle.std.specs.Prelude.{◌≡◌, ◌<◌, ◌≤◌, ◌↔◌, ℕ, List, length}
+use Rattle.std.specs.Prelude.{◌≡◌, ℕ, List, length}
 use Rattle.sight_names.specs.declared.names.Pair.{Pair}
 use Rattle.sight_names.specs.declared.names.PairRay.{PairRay}
 use Rattle.sight_names.specs.declared.names.Side.{Side}
-use Rattle.sight_names.specs.declared.faults.CheckFault.TheVariants.{Mesh, ListedSet, Unproved, Uncovered}
+use Rattle.sight_names.specs.declared.faults.CheckFault.TheVariants.{Mesh}
 use Rattle.sight_names.specs.Plan.{PlanParts}
 use Rattle.sight_names.specs.Map.{Map, map_of}
+use Rattle.sight_names.specs.Groups.{IsInGroup}
 use Rattle.sight_names.specs.Mesh.{IsGoodMesh}
 use Rattle.mesh_shape.specs.Faults.{IsFirstAgainst}
-use Rattle.face_groups.specs.TriSectors.Components.{AreComponents}
-use Rattle.reject_bits.specs.Parts.{TableParts, Rejects}
+use Rattle.reject_bits.specs.Parts.{TableParts}
 use Rattle.cert_format.specs.Parts.{CertParts}
 use Rattle.cert_format.specs.declared.cert.Sizes.{Sizes}
-use Rattle.cert_format.specs.Accepted.{triangles_of, labels_of, EitherSet, EitherClear, HasRay, HasTreeWithout}
+use Rattle.cert_format.specs.Accepted.{triangles_of, labels_of}
 use Rattle.cert_format.specs.declared.cert_groups.cert.CertTwo.{CertTwo}
 use Rattle.cert_format.specs.declared.cert_groups.cert.AnyCert.{AnyCert}
 use Rattle.cert_format.specs.declared.cert_groups.cert.AnyCert.TheVariants.{One, Two}
 use Rattle.cert_format.specs.CertGroups.Grammar.{IsTwoInOrder}
-use Rattle.cert_checker.specs.AcceptedGroups.Accepted.{IsPairOfList, IsGroupedBlind, IsGroupedSeen}
 use Rattle.cert_checker.specs.declared.verdict.Verdict.{Verdict}
 use Rattle.cert_checker.specs.declared.verdict.Verdict.TheVariants.{Yes as YesOne, No as NoOne}
-use Rattle.cert_checker.specs.Pairs.{AreTotals}
-use Rattle.cert_checker.specs.Judged.{JudgesMesh, JudgesRays, JudgesTrees, JudgesPairs}
+use Rattle.cert_checker.specs.Judged.{JudgesMesh, JudgesRays, JudgesTrees, JudgesPairs, JudgesPairsBy}
 use Rattle.cert_checker.specs.Sight.{TellsSight}
 use Rattle.group_checker.specs.declared.verdict.AnyFault.TheVariants.{Check, Group, Unused}
 use Rattle.group_checker.specs.declared.verdict.AnyVerdict.{AnyVerdict}
 use Rattle.group_checker.specs.declared.verdict.AnyVerdict.TheVariants.{Yes, No}
 use Rattle.group_checker.specs.Meshes.{grouped_map, HasTriangleAt, IsFirstMeshFault}
 use Rattle.group_checker.specs.Lists.{IsListRight, IsUsedGroup}
-use Rattle.group_checker.specs.Members.{AreMembers}
-use Rattle.group_checker.specs.Pairs.{KnownParts, KeepsAway}
 
 -- the answer is yes
 abbrev pub IsYesAny : AnyVerdict → Type 0
@@ -64,26 +60,8 @@ TellsGroups m c _ = ((k : ℕ) → IsListRight m (triangles_of c.cert) c.groups 
 
 -- ---- pairs of sectors
 
--- a listed pair is clear, a clear one that isn't listed is proved to see, and a set one to be blind
-pub record IsPairRight (g : Map) (t : TableParts) (c : CertTwo) (a b : ℕ) : Type 0 where
-  pub listed : IsPairOfList c a b → ¬ EitherSet t.n t.bytes a b
-  pub set : EitherSet t.n t.bytes a b → IsGroupedBlind g c a b
-  pub clear : EitherClear t.n t.bytes a b → ¬ IsPairOfList c a b → IsGroupedSeen c a b
-
--- it is a pair of the table, and all pairs before it are right
-pub record IsReached (g : Map) (t : TableParts) (c : CertTwo) (a b : ℕ) : Type 0 where
-  pub order : a ≤ b
-  pub within : b < t.n
-  pub row : (e : ℕ) → a ≤ e → e < b → IsPairRight g t c a e
-  pub rows : (d e : ℕ) → d < a → d ≤ e → e < t.n → IsPairRight g t c d e
-
--- with yes each pair is right, and the totals are those of the table and the list; a fault of a pair is one, and the first of its kind
 abbrev pub TellsPairs : Map → TableParts → CertTwo → Verdict → Type 0
-TellsPairs g t c (YesOne totals) = ((a b : ℕ) → a ≤ b → b < t.n → IsPairRight g t c a b) × AreTotals t c.listed t.n totals
-TellsPairs g t c (NoOne (ListedSet a b)) = IsReached g t c a b × IsPairOfList c a b × EitherSet t.n t.bytes a b
-TellsPairs g t c (NoOne (Unproved a b)) = IsReached g t c a b × ¬ IsPairOfList c a b × EitherSet t.n t.bytes a b × ¬ IsGroupedBlind g c a b
-TellsPairs g t c (NoOne (Uncovered a b)) = IsReached g t c a b × ¬ IsPairOfList c a b × (EitherSet t.n t.bytes a b → IsGroupedBlind g c a b) × EitherClear t.n t.bytes a b × ¬ IsGroupedSeen c a b
-TellsPairs g t c _ = Unit {0}
+TellsPairs g t c v = JudgesPairsBy g (IsInGroup c.groups) t c.listed c.cert v
 
 -- ---- the whole
 
@@ -121,15 +99,6 @@ pub record IsTwoFor (p : PlanParts) (c : CertTwo) : Type 0 where
 -- the same, for a map of so many sectors
 abbrev pub IsTwoOf : ℕ → CertTwo → Type 0
 IsTwoOf n c = (sizes : Sizes) × IsTwoInOrder sizes c × (sizes.sectors ≡ n)
-
--- the judge of pairs goes by this map of groups, and by the trees, the rays, the list and the groups of this certificate
-pub record IsAbout (g : Map) (c : CertTwo) (k : KnownParts) : Type 0 where
-  pub groups : g.sectors ≡ length c.groups
-  pub components : AreComponents g k.facts.components
-  pub walked : (f h : ℕ) → f < g.sectors → h < g.sectors → KeepsAway k.facts f h ↔ HasTreeWithout g c.cert f h
-  pub rays : (f h : ℕ) → f < g.sectors → h < g.sectors → Rejects k.facts.rays f h ↔ HasRay c.cert f h
-  pub members : AreMembers c.groups k.table.n k.members
-  pub listed : k.listed ≡ c.listed
 
 -- the groups, the list and the rays of some certificate of version 2 in order, of a map with so many sectors
 pub record AreListsOfTwo (n : ℕ) (groups : List (List ℕ)) (listed : List Pair) (rays : List PairRay) : Type 0 where

@@ -1,7 +1,6 @@
 pub mod Meshes
 pub mod Lists
 pub mod Members
-pub mod Pairs
 pub mod Judged
 pub mod Grouping
 pub mod CheckWorkers

@@ -1,7 +1,7 @@
 //! The check in the order of its faults: mesh, groups, rays, trees, pairs.
 
 ghost use Rattle.std.specs.Prelude.{◌≡◌, ◌↔◌, IfOk, length};
-ghost use Rattle.sight_names.specs.Map.{Map, map_of};
+ghost use Rattle.sight_names.specs.Map.{map_of};
 ghost use Rattle.sight_names.specs.Mesh.{IsGoodMesh};
 ghost use Rattle.sight_names.specs.Plan.{IsPlan};
 ghost use Rattle.sight_names.specs.Sound.{LinesMeetAtEnds};
@@ -12,34 +12,18 @@ ghost use Rattle.cert_checker.specs.AcceptedGroups.Accepted.{IsAcceptedAny, IsAc
 ghost use Rattle.cert_checker.specs.Judged.{IsLaterVerdict, IsPairVerdict, JudgesRays, JudgesTrees};
 ghost use Rattle.cert_checker.specs.Sight.{TellsSight};
 ghost use Rattle.cert_checker.specs.TreeJudge.Trees.{TellsReach};
-ghost use Rattle.group_checker.specs.Judged.{any_of as either, with_list, AreListsOfTwo, IsAbout, IsTwoFor, IsTwoOf, IsYesAny, JudgesAny, JudgesTwo, TellsPairs, TellsSightAny};
-ghost use Rattle.group_checker.specs.Pairs.{known_of, IsKnown};
+ghost use Rattle.group_checker.specs.Judged.{any_of as either, with_list, AreListsOfTwo, IsTwoFor, IsTwoOf, IsYesAny, JudgesAny, JudgesTwo, TellsPairs, TellsSightAny};
 
 use crate::grouping::{GroupedMesh, MeshVerdict, judge_mesh};
 use crate::members::members_of;
-use crate::pairs::{Known, judge_pairs, ray_table};
 use crate::verdict::{AnyVerdict, any_of};
-use cert_checker::tree_judge::{Reach, TreeVerdict, judge_trees};
-use cert_checker::{Verdict, check, ray_fault};
+use cert_checker::tree_judge::{OneJudge, Reach, TreeJudges};
+use cert_checker::{Verdict, Walked, check, judge_members, judge_walks};
 use cert_format::cert_groups::{AnyCert, CertTwo};
 use face_groups::Group;
-use face_groups::tri_sectors::components;
-use mesh_shape::half_edges::HalfEdges;
 use reject_bits::Table;
-use sight_names::{CheckFault, Memory, Pair, PairRay, Plan};
+use sight_names::{Memory, Pair, PairRay, Plan};
 use std::alloc::Global;
-
-/// Judges the pairs of sectors, by what is known.
-fn judge_each_pair(known: Known<'_>, sectors: u16) -> Verdict
-    requires known { IsKnown (known_of known) sectors }
-    ensures kind { IsPairVerdict result }
-    ensures pairs { (g : Map) (c : CertOf) → IsAbout g c (known_of known.entry) → TellsPairs g known.entry.table.now c result }
-{
-    match judge_pairs(known, sectors) {
-        Ok(totals) => Verdict::Yes(totals),
-        Err(fault) => Verdict::No(fault),
-    }
-}
 
 /// Judges the pairs of sectors by groups, and by a list and rays in order, once it is known what the trees of groups keep from.
 pub fn judge_sectors(
@@ -57,30 +41,27 @@ pub fn judge_sectors(
     ensures kind { IfOk result IsPairVerdict }
     ensures pairs { (c : CertOf) → c.groups ≡ groups.now → c.listed ≡ listed.now → c.cert.rays ≡ rays.now → TellsReach (map_of grouped.now) c.cert reach.now.walked.items reach.now.reached → IfOk result (TellsPairs (map_of grouped.now) table.now c) }
 {
-    let sectors = table.sectors();
-    let count = reach.reached.sectors();
-    let components = components(alloc, grouped)?;
-    let rays = ray_table(alloc, count, rays)?;
-    let members = members_of(alloc, groups, sectors)?;
-    let known = Known {
+    let members = members_of(alloc, groups, table.sectors())?;
+    judge_members(
+        alloc,
+        grouped,
         table,
+        members.as_slice(),
         listed,
-        members: members.as_slice(),
-        components: components.as_slice(),
-        walked: reach.walked.as_slice(),
-        reached: &reach.reached,
-        rays: &rays,
-    };
-    Ok(judge_each_pair(known, sectors))
+        rays,
+        reach,
+    )
 }
 
 /// Judges rays and trees over the map of groups, and then the pairs of sectors.
-fn judge_grouped(
+fn judge_grouped<J: TreeJudges>(
+    judges: &J,
     alloc: Global,
     table: &Table,
     two: &CertTwo,
     over: &GroupedMesh,
 ) -> Result<Verdict, Memory>
+    requires can { J.can_judge judges.now }
     requires cert { IsTwoOf table.now.n two.now }
     requires triangles { over.now.mesh.triangles ≡ triangles_of two.now.cert }
     requires labels { over.now.labels ≡ labels_of two.now.cert }
@@ -92,23 +73,33 @@ fn judge_grouped(
     ensures trees { IfOk result (JudgesTrees (map_of over.now.plan) two.now.cert) }
     ensures pairs { IfOk result (TellsPairs (map_of over.now.plan) table.now two.now) }
 {
-    let edges = HalfEdges::of(alloc, &over.plan, &over.mesh, &over.labels)?;
-    let rays = two.cert.rays();
-    if let Some(fault) = ray_fault(&over.plan, &over.mesh, &edges, rays) {
-        return Ok(Verdict::No(fault));
-    }
-    let reach = match judge_trees(alloc, &over.plan, &two.cert, &over.mesh, &edges)? {
-        TreeVerdict::Whole(reach) => reach,
-        TreeVerdict::Wrong { source, node } => {
-            return Ok(Verdict::No(CheckFault::Tree { source, node }));
+    let walked = judge_walks(
+        judges,
+        alloc,
+        &over.plan,
+        &two.cert,
+        &over.mesh,
+        &over.labels,
+    )?;
+    match walked {
+        Walked::Wrong(fault) => Ok(Verdict::No(fault)),
+        Walked::Right(reach) => {
+            let (groups, listed) = (two.groups.as_slice(), two.listed.as_slice());
+            let rays = two.cert.rays();
+            judge_sectors(alloc, &over.plan, table, groups, listed, rays, &reach)
         }
-    };
-    let (groups, listed) = (two.groups.as_slice(), two.listed.as_slice());
-    judge_sectors(alloc, &over.plan, table, groups, listed, rays, &reach)
+    }
 }
 
 /// The first fault in the order of mesh, groups, rays, trees and pairs, or yes.
-fn judge_two(alloc: Global, plan: &Plan, table: &Table, two: &CertTwo) -> Result<AnyVerdict, Memory>
+fn judge_two<J: TreeJudges>(
+    judges: &J,
+    alloc: Global,
+    plan: &Plan,
+    table: &Table,
+    two: &CertTwo,
+) -> Result<AnyVerdict, Memory>
+    requires can { J.can_judge judges.now }
     requires table { table.now.n ≡ plan.now.sectors }
     requires cert { IsTwoFor plan.now two.now }
     ensures { IfOk result (JudgesTwo plan.now table.now two.now) }
@@ -117,7 +108,7 @@ fn judge_two(alloc: Global, plan: &Plan, table: &Table, two: &CertTwo) -> Result
     match judged {
         MeshVerdict::Broken(fault) => Ok(AnyVerdict::No(fault)),
         MeshVerdict::Good(over) => {
-            let verdict = judge_grouped(alloc, table, two, &over)?;
+            let verdict = judge_grouped(judges, alloc, table, two, &over)?;
             Ok(any_of(verdict))
         }
     }
@@ -125,12 +116,14 @@ fn judge_two(alloc: Global, plan: &Plan, table: &Table, two: &CertTwo) -> Result
 
 /// Judges the table by a certificate of version 2: yes with the totals exactly where the certificate is accepted, or the
 /// first fault in order.
-pub fn check_two(
+fn check_two<J: TreeJudges>(
+    judges: &J,
     alloc: Global,
     plan: &Plan,
     table: &Table,
     two: &CertTwo,
 ) -> Result<AnyVerdict, Memory>
+    requires can { J.can_judge judges.now }
     requires audited { LinesMeetAtEnds (map_of plan.now) }
     requires table { table.now.n ≡ plan.now.sectors }
     requires cert { IsTwoFor plan.now two.now }
@@ -139,7 +132,35 @@ pub fn check_two(
     ensures sight { IfOk result (λ v. IsYesAny v → TellsSight (map_of plan.now) table.now (with_list two.now)) }
 {
     let _ = plan.lines();
-    judge_two(alloc, plan, table, two)
+    judge_two(judges, alloc, plan, table, two)
+}
+
+/// What `check_any` tells, the trees judged by these.
+pub fn check_any_by<J: TreeJudges>(
+    judges: &J,
+    alloc: Global,
+    plan: &Plan,
+    table: &Table,
+    cert: &AnyCert,
+) -> Result<AnyVerdict, Memory>
+    requires can { J.can_judge judges.now }
+    requires audited { LinesMeetAtEnds (map_of plan.now) }
+    requires table { table.now.n ≡ plan.now.sectors }
+    requires sectors { (sizes_of cert.now).sectors ≡ plan.now.sectors }
+    requires points { (sizes_of cert.now).points ≡ length plan.now.points }
+    requires lines { (sizes_of cert.now).lines ≡ length plan.now.lines }
+    requires in_order { IsAnyInOrder cert.now }
+    ensures exact { IfOk result (JudgesAny plan.now table.now cert.now) }
+    ensures accepted { IfOk result (λ v. IsYesAny v ↔ IsAcceptedAny (map_of plan.now) table.now.bytes cert.now) }
+    ensures sight { IfOk result (λ v. IsYesAny v → TellsSightAny (map_of plan.now) table.now cert.now) }
+{
+    match cert {
+        AnyCert::One(one) => {
+            let verdict = check(judges, alloc, plan, table, one)?;
+            Ok(any_of(verdict))
+        }
+        AnyCert::Two(two, _) => check_two(judges, alloc, plan, table, two),
+    }
 }
 
 /// Judges the table by a certificate of either version: yes with the totals exactly where the certificate is accepted, or the
@@ -160,11 +181,5 @@ pub fn check_any(
     ensures accepted { IfOk result (λ v. IsYesAny v ↔ IsAcceptedAny (map_of plan.now) table.now.bytes cert.now) }
     ensures sight { IfOk result (λ v. IsYesAny v → TellsSightAny (map_of plan.now) table.now cert.now) }
 {
-    match cert {
-        AnyCert::One(one) => {
-            let verdict = check(alloc, plan, table, one)?;
-            Ok(any_of(verdict))
-        }
-        AnyCert::Two(two, _) => check_two(alloc, plan, table, two),
-    }
+    check_any_by(&OneJudge, alloc, plan, table, cert)
 }

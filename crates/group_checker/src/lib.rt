@@ -11,10 +11,9 @@ mod judge;
 mod lists;
 mod members;
 mod meshes;
-mod pairs;
 mod verdict;
 
 pub use grouping::{GroupedMesh, MeshVerdict, judge_mesh};
-pub use judge::{check_any, check_two, judge_sectors};
+pub use judge::{check_any, check_any_by, judge_sectors};
 pub use members::members_of;
 pub use verdict::{AnyFault, AnyVerdict, any_of};

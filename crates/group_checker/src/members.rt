@@ -1,8 +1,9 @@
 //! The groups of each sector.
 
-ghost use Rattle.std.specs.Prelude.{◌≡◌, ◌≤◌, ◌↔◌, Contains, IfOk, IsTrue, OnOk, length};
-ghost use Rattle.group_checker.specs.Members.{added, AreGroupsWith, AreMembers};
+ghost use Rattle.std.specs.Prelude.{◌≤◌, ◌↔◌, Contains, IfOk, IsTrue, length};
+ghost use Rattle.group_checker.specs.Members.{AreGroupsWith, AreMembers};
 
+use cert_checker::add_if;
 use face_groups::Group;
 use sight_names::{Items, MOST_TRIANGLES, Memory};
 use std::alloc::Global;
@@ -14,16 +15,6 @@ fn has_sector(group: &Group, sector: u16) -> bool
     group.as_slice().contains(&sector)
 }
 
-/// Adds the place, if the group there contains the sector.
-fn add_place(places: &mut Vec<u16>, place: u16, contains: bool) -> Result<(), Memory>
-    ensures { OnOk result (places.new.items ≡ added contains place places.old.items) }
-{
-    if contains {
-        places.push(place)?;
-    }
-    Ok(())
-}
-
 /// The places of the groups that contain the sector.
 fn groups_with(alloc: Global, groups: &[Group], sector: u16) -> Result<Vec<u16>, Memory>
     requires { length groups.now ≤ MOST_TRIANGLES }
@@ -31,7 +22,7 @@ fn groups_with(alloc: Global, groups: &[Group], sector: u16) -> Result<Vec<u16>,
 {
     let mut places = Vec::new(alloc);
     for (place, group) in groups.iter().enumerate() {
-        add_place(&mut places, place as u16, has_sector(group, sector))?;
+        add_if(&mut places, place as u16, has_sector(group, sector))?;
     }
     Ok(places)
 }

@@ -126,11 +126,7 @@ module _ (p : PlanParts) (ask : Ask) (mg : MapOfGroups) (budget : Budget) (b : B
     kept_names p h.grouped.plan h.grouped.closed mg.groups h.grouped.groups (map_of mg.plan) h.grouped.map mg.faces.mesh.triangles h.grouped.faces.mesh mg.faces.labels h.grouped.faces.labels b.cert.triangles h.built.kept,
     record {
       table_for = kept_table p h.grouped.plan h.grouped.closed mg.groups h.grouped.groups (map_of mg.plan) h.grouped.map mg.faces.mesh.triangles h.grouped.faces.mesh mg.faces.labels h.grouped.faces.labels b.cert.triangles h.built.kept;
-      rays = h.built.sight_rays;
-      trees = h.built.trees;
-      listed = accepted_listed;
-      set = accepted_set;
-      clear = accepted_clear;
+      on = record { rays = h.built.sight_rays; trees = h.built.trees; listed = accepted_listed; set = accepted_set; clear = accepted_clear };
     },
   )
 

@@ -105,14 +105,51 @@ pub fn judge_part(
     }
 }
 
+/// Those who judge trees. What they tell doesn't depend on who they are.
+pub trait TreeJudges {
+    /// Whether they can judge: threads share what all of them may look at.
+    ghost can_judge: { Self → Type 0 };
+
+    /// Whether these trees of a map with so many sectors are whole, and what they keep from; or the first that isn't.
+    fn judge_all(
+        &self,
+        alloc: Global,
+        sectors: u16,
+        terrain: &Terrain<'_>,
+        trees: &[Tree],
+    ) -> Result<TreeVerdict, Memory>
+        requires can { can_judge self.now }
+        ensures { (m : Map) (ts : List Triangle) → m.sectors ≡ sectors → AreRootsOf m ts terrain.now.edges.now terrain.now.roots.now → HaveSourcesBelow m.sectors trees.now → IfOk result (TellsPart m ts terrain.now.edges.now trees.now) };
+}
+
+/// One judge, who takes the trees one after another.
+#[derive(Drop)]
+pub struct OneJudge;
+
+impl TreeJudges for OneJudge {
+    ghost can_judge = { λ j. Unit {0} };
+
+    fn judge_all(
+        &self,
+        alloc: Global,
+        sectors: u16,
+        terrain: &Terrain<'_>,
+        trees: &[Tree],
+    ) -> Result<TreeVerdict, Memory> {
+        judge_part(alloc, sectors, terrain, trees)
+    }
+}
+
 /// Whether all trees of the certificate are whole over its triangles, and what they keep from; or the first that isn't.
-pub fn judge_trees(
+pub fn judge_trees<J: TreeJudges>(
+    judges: &J,
     alloc: Global,
     plan: &Plan,
     cert: &Cert,
     mesh: &Mesh,
     edges: &HalfEdges,
 ) -> Result<TreeVerdict, Memory>
+    requires can { J.can_judge judges.now }
     requires plan { IsPlan plan.now }
     requires sectors { cert.now.sizes.sectors ≡ plan.now.sectors }
     requires triangles { mesh.now.triangles ≡ triangles_of cert.now }
@@ -125,5 +162,5 @@ pub fn judge_trees(
         edges,
         roots: &roots,
     };
-    judge_part(alloc, plan.sectors, &terrain, cert.trees())
+    judges.judge_all(alloc, plan.sectors, &terrain, cert.trees())
 }

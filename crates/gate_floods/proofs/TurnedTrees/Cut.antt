@@ -1,15 +1,17 @@
 -- The trees of an accepted certificate without listed pairs, cut down to such that turn back: what the table lets them is told in finitely many steps.
-use Rattle.std.proofs.Common.{◌≡◌, ◌≢◌, ℕ, ◌+◌, ◌*◌, inl, inr, List, [], ◌∷◌, Some, Contains, sym, subst, arith}
+use Rattle.std.proofs.Common.{◌≡◌, ◌≢◌, ℕ, ◌+◌, ◌*◌, ◌⊎◌, inl, inr, List, [], ◌∷◌, Some, Contains, sym, subst, arith}
 use Rattle.sight_names.specs.declared.names.Pair.{Pair}
 use Rattle.sight_names.specs.Map.{Map}
 use Rattle.sight_names.specs.Table.{table_bit}
+use Rattle.sight_names.specs.Found.{AreConnected}
 use Rattle.sight_names.specs.Mesh.{label_of}
 use Rattle.sight_names.specs.Sequence.{Portal}
 use Rattle.sight_names.proofs.Lists.{contains_cases}
 use Rattle.block_evidence.specs.declared.sight_tree.Tree.{Tree}
 use Rattle.face_groups.specs.TriSectors.Components.{AreComponents}
 use Rattle.cert_format.specs.Parts.{CertParts}
-use Rattle.cert_format.specs.Accepted.{triangles_of, labels_of, EitherSet, IsPairListed, HasTreeWithout, IsProvedBlind, IsAccepted}
+use Rattle.cert_format.specs.Accepted.{triangles_of, labels_of, EitherSet, HasTreeWithout}
+use Rattle.cert_checker.specs.AcceptedGroups.Accepted.{AreGroupsApart, HasPair, IsAccepted, IsAlone, IsBlindBy}
 use Rattle.cert_checker.proofs.Components.{one_component, one_number, same_or}
 use Rattle.math_base.proofs.Numbers.{below_or_not, same_or_not}
 use Rattle.math_base.proofs.Lists.{contains_none, contains_here, contains_map, contains_left, contains_right, contains_append, all_of}
@@ -87,13 +89,15 @@ module _ (m : Map) (table : List ℕ) (c : CertParts) (components : List ℕ) (a
     has_tree : (a b : ℕ) → HasTreeWithout m c a b → HasTree cut.trees a
     has_tree a b (t, there, source, k) = subst (λ (xs : List ℕ). Contains xs a) (sym cut.sources) (subst (λ (x : ℕ). Contains all_sources x) source (contains_map (λ (u : Tree). u.source) c.trees t there))
 
-    claim_kept : (a b : ℕ) → IsProvedBlind m c a b → IsClaimKept m (with_trees c cut.trees) a b
-    claim_kept a b (inl same) = inl same
-    claim_kept a b (inr (differ, inl apart)) = inr (differ, inl apart)
-    claim_kept a b (inr (differ, inr (inl tree))) = inr (differ, inr (inl (has_tree a b tree)))
-    claim_kept a b (inr (differ, inr (inr tree))) = inr (differ, inr (inr (has_tree b a tree)))
+    claim_kept : (a b : ℕ) → IsBlindBy m (IsAlone m) c a b → IsClaimKept m (with_trees c cut.trees) a b
+    claim_kept a b blind f k in_f in_k = kept f k (blind f k in_f in_k)
+      where
+        kept : (f k : ℕ) → AreGroupsApart m c f k → (f ≢ k) × (¬ AreConnected m f k ⊎ HasTree cut.trees f ⊎ HasTree cut.trees k)
+        kept f k (differ, inl apart) = (differ, inl apart)
+        kept f k (differ, inr (inl tree)) = (differ, inr (inl (has_tree f k tree)))
+        kept f k (differ, inr (inr tree)) = (differ, inr (inr (has_tree k f tree)))
 
-    none_listed : (a b : ℕ) → ¬ IsPairListed c a b
+    none_listed : (a b : ℕ) → ¬ HasPair c.listed a b
     none_listed a b there = let p : Pair = record { a = a; b = b } in contains_none p (subst (λ (ps : List Pair). Contains ps p) unlisted there)
 
     pub has_cut : HasCutTrees m table c
@@ -103,11 +107,11 @@ module _ (m : Map) (table : List ℕ) (c : CertParts) (components : List ℕ) (a
       fewer = cut.fewer;
       accepted = record {
         mesh = accepted.mesh;
-        rays = accepted.rays;
+        rays = accepted.on.rays;
         trees = λ t there. subst (λ (ss : List ℕ). KeepsUpTo m (triangles_of c) (labels_of c) (IsClaimed m table) (λ b. IsClaimed m table t.source b × ComesFirst ss t.source b) t) (sym cut.sources) (cut.kept t there);
         listed = unlisted;
-        set = λ a b order low set. claim_kept a b (accepted.set a b order low set);
-        clear = λ a b order low clear. accepted.clear a b order low clear (none_listed a b);
+        set = λ a b order low set. claim_kept a b (accepted.on.set a b order low set);
+        clear = λ a b order low clear. accepted.on.clear a b order low clear (none_listed a b);
       };
     }
 

@@ -121,11 +121,11 @@ module _ (m : Map) (table : List ℕ) (c : CertTwo) (g : Map) (components : List
     fewer = cut.fewer;
     accepted = record {
       table_for = accepted.table_for;
-      rays = accepted.rays;
+      rays = accepted.on.rays;
       trees = λ t there. subst (λ (ss : List ℕ). KeepsUpTo g (triangles_of c.cert) (labels_of c.cert) (IsGroupClaimed m table c.groups g) (λ k. IsGroupClaimed m table c.groups g t.source k × ComesFirst ss t.source k) t) (sym cut.sources) (cut.kept t there);
       listed = unlisted;
-      set = λ a b order low set f k in_f in_k. apart_kept f k (accepted.set a b order low set f k in_f in_k);
-      clear = λ a b order low clear. accepted.clear a b order low clear (none_listed a b);
+      set = λ a b order low set f k in_f in_k. apart_kept f k (accepted.on.set a b order low set f k in_f in_k);
+      clear = λ a b order low clear. accepted.on.clear a b order low clear (none_listed a b);
     };
   }
 

@@ -1,5 +1,5 @@
 -- An accepted certificate without listed pairs tells all of sight.
-use Rattle.std.proofs.Common.{ℕ, ◌+◌, ◌*◌, ◌<◌, ◌≤◌, ◌⊎◌, inl, inr, List, sym, ap, subst, arith}
+use Rattle.std.proofs.Common.{◌≡◌, ℕ, ◌+◌, ◌*◌, ◌<◌, ◌≤◌, ◌⊎◌, inl, inr, List, refl, sym, ap, subst, arith}
 use Rattle.std.proofs.lemmas.Bool.Decides.{eqb_tells}
 use Rattle.sight_names.specs.Map.{Map, IsMap}
 use Rattle.sight_names.specs.Ray.{IsSightRay}
@@ -9,13 +9,14 @@ use Rattle.sight_names.specs.Table.{table_bit, Rejected}
 use Rattle.sight_names.proofs.Laws.{sees_sym, sees_names}
 use Rattle.mesh_base.proofs.SightLaws.SightLaws.{sight_sees, sees_itself}
 use Rattle.cert_format.specs.Parts.{CertParts}
-use Rattle.cert_format.specs.Accepted.{triangles_of, labels_of, EitherSet, EitherClear, IsProvedSeen}
+use Rattle.cert_format.specs.Accepted.{triangles_of, labels_of, EitherSet, EitherClear, HasRay, IsNamed}
+use Rattle.cert_checker.specs.AcceptedGroups.Accepted.{AreGroupsJoined}
 use Rattle.math_base.proofs.Numbers.{either_order}
 use Rattle.sight_lift.proofs.LiftLaws.{sight_connects}
 use Rattle.gate_floods.specs.TurnedTrees.Exact.{IsClaimed, HasTree, IsClaimKept, IsAcceptedExact}
 use Rattle.gate_floods.specs.TurnedTrees.Laws.{ExactTells}
 use Rattle.gate_floods.proofs.TurnedTrees.Blind.{kept_claims}
-use Rattle.cert_checker.proofs.Components.{connected_back}
+use Rattle.cert_checker.proofs.Components.{connected_back, connected_names}
 
 other_way : (m : Map) (table : List ℕ) (a b : ℕ) → IsClaimed m table a b → IsClaimed m table b a
 other_way m table a b h = record {
@@ -29,10 +30,9 @@ other_way m table a b h = record {
 module _ (m : Map) (table : List ℕ) (c : CertParts) (is_map : IsMap m) (ends : LinesMeetAtEnds m) (accepted : IsAcceptedExact m table c) where
   -- a pair that is set and connected has a tree
   has_tree : (a b : ℕ) → a ≤ b → IsClaimed m table a b → HasTree c.trees a ⊎ HasTree c.trees b
-  has_tree a b order h = elim (accepted.set a b order h.within_too h.set) as (λ _. HasTree c.trees a ⊎ HasTree c.trees b) [
-    | inl same ↦ absurd (h.differ same.0)
-    | inr other ↦ elim other.1 as (λ _. HasTree c.trees a ⊎ HasTree c.trees b) [ inl apart ↦ absurd (apart h.connected) | inr trees ↦ trees ]
-  ]
+  has_tree a b order h =
+      let names = connected_names m a b h.differ h.connected in
+      elim (accepted.set a b order h.within_too h.set a b (refl, names.0) (refl, names.1)).1 as (λ _. HasTree c.trees a ⊎ HasTree c.trees b) [ inl apart ↦ absurd (apart h.connected) | inr trees ↦ trees ]
 
   some_tree : (a b : ℕ) → IsClaimed m table a b → HasTree c.trees a ⊎ HasTree c.trees b
   some_tree a b h = elim (either_order a b) as (λ _. HasTree c.trees a ⊎ HasTree c.trees b) [
@@ -44,19 +44,25 @@ module _ (m : Map) (table : List ℕ) (c : CertParts) (is_map : IsMap m) (ends :
   claimed_blind = kept_claims m (triangles_of c) (labels_of c) (IsClaimed m table) c.trees is_map ends accepted.mesh (λ a b h. h.differ) (other_way m table) some_tree accepted.trees
 
   kept_blind : (a b : ℕ) → a < m.sectors → b < m.sectors → EitherSet m.sectors table a b → IsClaimKept m c a b → Sees m a b → ⊥
-  kept_blind a b low_a low_b set (inl (same, none)) sees = none (sees_names m a b sees)
-  kept_blind a b low_a low_b set (inr (differ, reason)) sees =
-      claimed_blind a b (record { within = low_a; within_too = low_b; differ = differ; connected = sight_connects m (triangles_of c) (labels_of c) a b is_map accepted.mesh sees; set = set }) sees
+  kept_blind a b low_a low_b set reason sees =
+      let kept = reason a b (refl, sees_names m a b sees) (refl, sees_names m b a (sees_sym m a b sees)) in
+      claimed_blind a b (record { within = low_a; within_too = low_b; differ = kept.0; connected = sight_connects m (triangles_of c) (labels_of c) a b is_map accepted.mesh sees; set = set }) sees
 
   set_is_blind : (a b : ℕ) → a ≤ b → b < m.sectors → EitherSet m.sectors table a b → ¬ Sees m a b
   set_is_blind a b order low set = kept_blind a b (omega arith) low set (accepted.set a b order low set)
 
+  ray_sees : (f k : ℕ) → HasRay c f k → Sees m f k
+  ray_sees f k (r, there, pair) = sight_sees m r.ray f k is_map ends (subst (λ (x : ℕ). IsSightRay m r.ray x k) (ap (λ (p : _). p.a) pair) (subst (λ (x : ℕ). IsSightRay m r.ray r.pair.a x) (ap (λ (p : _). p.b) pair) (accepted.rays r there)))
+
+  joined_see : (f k : ℕ) → IsNamed m f → AreGroupsJoined c f k → Sees m f k
+  joined_see f k named (inl same) = subst (Sees m f) same ((sees_itself m f is_map ends).1 named)
+  joined_see f k named (inr (inl ray)) = ray_sees f k ray
+  joined_see f k named (inr (inr ray)) = sees_sym m k f (ray_sees k f ray)
+
   clear_sees : (a b : ℕ) → a ≤ b → b < m.sectors → EitherClear m.sectors table a b → Sees m a b
-  clear_sees a b order low clear = by (accepted.clear a b order low clear)
-    where
-      by : IsProvedSeen m c a b → Sees m a b
-      by (inl (same, named)) = subst (Sees m a) same ((sees_itself m a is_map ends).1 named)
-      by (inr (r, there, pair)) = sight_sees m r.ray a b is_map ends (subst (λ (k : ℕ). IsSightRay m r.ray k b) (ap (λ (p : _). p.a) pair) (subst (λ (k : ℕ). IsSightRay m r.ray r.pair.a k) (ap (λ (p : _). p.b) pair) (accepted.rays r there)))
+  clear_sees a b order low clear =
+      let w = accepted.clear a b order low clear in
+      subst (λ (x : ℕ). Sees m x b) (sym w.2.0) (subst (Sees m w.0) (sym w.3.0) (joined_see w.0 w.1 (subst (IsNamed m) w.2.0 w.2.1) w.4))
 
   rejected_is_blind : (a b : ℕ) → a < m.sectors → b < m.sectors → Rejected m.sectors table a b → ¬ Sees m a b
   rejected_is_blind a b low_a low_b bit sees = by (either_order a b)

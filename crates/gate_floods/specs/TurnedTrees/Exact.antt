@@ -12,7 +12,8 @@ use Rattle.reject_bits.specs.Parts.{TableParts, Rejects}
 use Rattle.block_evidence.specs.declared.sight_tree.Tree.{Tree}
 use Rattle.block_evidence.specs.SightTree.WholeTree.{IsWholeTree}
 use Rattle.cert_format.specs.Parts.{CertParts}
-use Rattle.cert_format.specs.Accepted.{triangles_of, labels_of, EitherSet, EitherClear, IsNamed, IsProvedSeen}
+use Rattle.cert_format.specs.Accepted.{triangles_of, labels_of, EitherSet, EitherClear}
+use Rattle.cert_checker.specs.AcceptedGroups.Accepted.{IsAlone, IsSeenBy}
 use Rattle.gate_floods.specs.TurnedTrees.Turned.{KeepsUpTo}
 
 -- the table claims of two different sectors of one component that they don't see each other
@@ -39,7 +40,7 @@ IsOwed Claims trees a b = Claims a b × ComesFirst (sources_of trees) a b
 
 -- why a set bit is right
 abbrev pub IsClaimKept : Map → CertParts → ℕ → ℕ → Type 0
-IsClaimKept m c a b = ((a ≡ b) × ¬ IsNamed m a) ⊎ ((a ≢ b) × (¬ AreConnected m a b ⊎ HasTree c.trees a ⊎ HasTree c.trees b))
+IsClaimKept m c a b = (f k : ℕ) → IsAlone m a f → IsAlone m b k → (f ≢ k) × (¬ AreConnected m f k ⊎ HasTree c.trees f ⊎ HasTree c.trees k)
 
 pub record IsAcceptedExact (m : Map) (table : List ℕ) (c : CertParts) : Type 0 where
   -- its triangles are a good mesh
@@ -52,7 +53,7 @@ pub record IsAcceptedExact (m : Map) (table : List ℕ) (c : CertParts) : Type 0
   pub listed : c.listed ≡ []
   -- each pair has its reason
   pub set : (a b : ℕ) → a ≤ b → b < m.sectors → EitherSet m.sectors table a b → IsClaimKept m c a b
-  pub clear : (a b : ℕ) → a ≤ b → b < m.sectors → EitherClear m.sectors table a b → IsProvedSeen m c a b
+  pub clear : (a b : ℕ) → a ≤ b → b < m.sectors → EitherClear m.sectors table a b → IsSeenBy (IsAlone m) c a b
 
 -- the table tells of each two sectors, and of each one, whether they see each other
 pub record TellsAll (m : Map) (t : TableParts) : Type 0 where

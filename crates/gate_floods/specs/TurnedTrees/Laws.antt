@@ -13,9 +13,9 @@ use Rattle.block_evidence.specs.declared.sight_tree.Tree.{Tree}
 use Rattle.block_evidence.specs.SightTree.WholeTree.{IsWholeTree}
 use Rattle.face_groups.specs.TriSectors.Components.{AreComponents}
 use Rattle.cert_format.specs.Parts.{CertParts}
-use Rattle.cert_format.specs.Accepted.{triangles_of, labels_of, IsAccepted}
+use Rattle.cert_format.specs.Accepted.{triangles_of, labels_of}
 use Rattle.face_groups.specs.GroupsBase.Table.{NamesTheLabels}
-use Rattle.cert_checker.specs.AcceptedGroups.Accepted.{IsAcceptedOver}
+use Rattle.cert_checker.specs.AcceptedGroups.Accepted.{IsAccepted, IsAcceptedOver}
 use Rattle.cert_checker.specs.Sight.{TellsSight}
 use Rattle.gate_floods.specs.TurnedTrees.Turned.{KeepsUpTo, KeepsLoosely, EntersBlind, IsPending, MayTurn, MustGoOn}
 use Rattle.cert_format.specs.declared.cert_groups.cert.CertTwo.{CertTwo}

@@ -1,31 +1,21 @@
 //! What was found of parts of the trees, put together in their order.
 
-ghost use Rattle.std.specs.Prelude.{◌≡◌, ◌<◌, ◌↔◌, List, [], flat_map, min, IsTrue, IfOk, MatchOption};
+ghost use Rattle.std.specs.Prelude.{◌≡◌, ◌<◌, List, [], flat_map, min, IfOk, MatchOption};
 ghost use Rattle.std.specs.List.{AllZip};
 ghost use Rattle.sight_names.specs.Map.{Map};
 ghost use Rattle.sight_names.specs.declared.names.Triangle.{Triangle};
 ghost use Rattle.block_evidence.specs.declared.sight_tree.Tree.{Tree as WalkTree};
 ghost use Rattle.mesh_shape.specs.declared.half_edges.table.HalfEdge.{HalfEdge as EdgeOf};
 ghost use Rattle.cert_checker.specs.TreeJudge.Heard.{AreNoted};
-ghost use Rattle.cert_checker.specs.TreeJudge.Marks.{IsMarked};
 ghost use Rattle.cert_checker.specs.TreeJudge.Part.{TellsPart};
 ghost use Rattle.cert_checker.specs.TreeJudge.Whole.{IsFirstWrongTree};
 ghost use Rattle.group_checker.specs.CheckWorkers.Joined.{CopiesBit, SetsRow, TakesSource, TakesIn};
 
+use cert_checker::pairs::holds;
 use cert_checker::tree_judge::{Reach, TreeVerdict, mark, unmarked, unreached};
 use reject_bits::Table;
 use sight_names::Memory;
 use std::alloc::Global;
-
-/// Whether the flag of the sector is set.
-fn is_marked(flags: &[bool], sector: u16) -> bool
-    ensures { IsTrue result ↔ IsMarked flags.now sector }
-{
-    match flags.get(sector as usize) {
-        Some(flag) => *flag,
-        None => false,
-    }
-}
 
 /// Sets the bit of the pair where it is set in the other table.
 fn copy_bit(table: &mut Table, more: &Table, a: u16, b: u16)
@@ -57,7 +47,7 @@ fn take_source(walked: &mut [bool], reached: &mut Table, part: &Reach, source: u
     requires there { source < part.now.reached.n }
     ensures { TakesSource source part.now.walked.items part.now.reached walked.old walked.new reached.old reached.new }
 {
-    if is_marked(part.walked.as_slice(), source) {
+    if holds(part.walked.as_slice(), source) {
         mark(walked, Some(source));
         set_row(reached, &part.reached, source);
     }

@@ -17,7 +17,7 @@ use Rattle.map_audit.proofs.AuditLemmas.{not_sound}
 use Rattle.shelf_io.specs.Shelf.{Files, ShelfState, content_of}
 use Rattle.shelf_io.specs.Sink.{SinkState}
 use Rattle.wad_dir.specs.Map.{same_name}
-use Rattle.cert_format.specs.Accepted.{EitherClear, EitherSet, IsAccepted}
+use Rattle.cert_format.specs.Accepted.{EitherClear, EitherSet}
 use Rattle.cert_format.specs.Parts.{CertParts}
 use Rattle.cert_format.specs.declared.cert_groups.cert.CertTwo.{CertTwo}
 use Rattle.cert_format.specs.declared.cert_groups.cert.AnyCert.TheVariants.{One, Two}
@@ -30,7 +30,7 @@ use Rattle.certificates.proofs.Again.{certificate_again}
 use Rattle.gate_floods.specs.Exact.{IsAcceptedThree}
 use Rattle.any_judge.specs.Accepted.{IsAccepted as IsAcceptedBy}
 use Rattle.any_judge.proofs.OneExact.{told_same as told_same_of_three}
-use Rattle.cert_checker.specs.AcceptedGroups.Accepted.{IsAcceptedTwo}
+use Rattle.cert_checker.specs.AcceptedGroups.Accepted.{IsAccepted, IsAcceptedOn, IsAcceptedTwo, IsAlone}
 use Rattle.reject_bits.specs.Parts.{TableParts}
 use Rattle.cert_checker.specs.declared.verdict.Totals.{Totals}
 use Rattle.cert_checker.specs.Pairs.{AreTotals}
@@ -41,7 +41,7 @@ use Rattle.group_checker.specs.declared.verdict.AnyVerdict.TheVariants as verdic
 use Rattle.group_checker.proofs.SameAnyBits.{told_same}
 use Rattle.whole_wad.specs.declared.building.Built.{Built}
 use Rattle.whole_wad.specs.Built.{DecidedBy, IsBuiltOf, OfExact}
-use Rattle.sight_names.specs.Groups.{AreGroups}
+use Rattle.sight_names.specs.Groups.{AreGroups, IsInGroup}
 use Rattle.map_answers.specs.declared.counts.Counts.{Counts}
 use Rattle.map_answers.specs.Counts.{counts_with}
 use Rattle.order_words.specs.Words.{source_of}
@@ -86,9 +86,9 @@ module _ (m : Map) (t u : List ℕ) (bits : (k : ℕ) → k < m.sectors * m.sect
   clear_in_first a b p q (inl n) = inl (λ e. n (bits (a * m.sectors + b) (place_within a b m.sectors p q) ∙ e))
   clear_in_first a b p q (inr n) = inr (λ e. n (bits (b * m.sectors + a) (place_within b a m.sectors q p) ∙ e))
 
-  one_accepted : (c : CertParts) → IsAccepted m t c → IsAccepted m u c
-  one_accepted c h = record {
-    mesh = h.mesh;
+  -- the rule, by groups over any map
+  on_accepted : (g : Map) (In : ℕ → ℕ → Type 0) (pairs : List Pair) (c : CertParts) → IsAcceptedOn g In m.sectors t pairs c → IsAcceptedOn g In m.sectors u pairs c
+  on_accepted g In pairs c h = record {
     rays = h.rays;
     trees = h.trees;
     listed = λ a b l w n s. h.listed a b l w n (set_in_first a b (low a b l w) w s);
@@ -96,19 +96,11 @@ module _ (m : Map) (t u : List ℕ) (bits : (k : ℕ) → k < m.sectors * m.sect
     clear = λ a b l w s n. h.clear a b l w (clear_in_first a b (low a b l w) w s) n;
   }
 
+  one_accepted : (c : CertParts) → IsAccepted m t c → IsAccepted m u c
+  one_accepted c h = record { mesh = h.mesh; on = on_accepted m (IsAlone m) c.listed c h.on }
+
   two_accepted : (c : CertTwo) → IsAcceptedTwo m t c → IsAcceptedTwo m u c
-  two_accepted c (g, names, h) = (
-    g,
-    names,
-    record {
-      table_for = h.table_for;
-      rays = h.rays;
-      trees = h.trees;
-      listed = λ a b l w n s. h.listed a b l w n (set_in_first a b (low a b l w) w s);
-      set = λ a b l w s. h.set a b l w (set_in_first a b (low a b l w) w s);
-      clear = λ a b l w s n. h.clear a b l w (clear_in_first a b (low a b l w) w s) n;
-    },
-  )
+  two_accepted c (g, names, h) = (g, names, record { table_for = h.table_for; on = on_accepted g (IsInGroup c.groups) c.listed c.cert h.on })
 
   three_accepted : (c : ExactParts) → IsAcceptedThree m t c → IsAcceptedThree m u c
   three_accepted c (g, names, h) = (

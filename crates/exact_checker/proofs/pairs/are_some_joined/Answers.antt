@@ -1,7 +1,7 @@
 use Rattle.std.proofs.Common.{ℕ, arith}
 use Rattle.std.proofs.lemmas.Option.{slice_get-get_or}
 use Rattle.exact_checker.specs.Pairs.{IsJoinedWithOne, AreSomeJoined}
-use Rattle.group_checker.proofs.Each.{each_more, each_all, no_true, refuses}
+use Rattle.cert_checker.proofs.Each.{each_more, each_all, no_true, refuses}
 use Rattle.exact_checker.proofs.pairs.are_some_joined.Goals as goal
 
 pub loop-one-preserved : goal.loop-one-preserved

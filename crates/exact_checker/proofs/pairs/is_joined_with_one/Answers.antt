@@ -2,7 +2,7 @@ use Rattle.std.proofs.Common.{ℕ, arith}
 use Rattle.std.proofs.lemmas.Option.{slice_get-get_or}
 use Rattle.gate_floods.specs.GateMasks.Masks.{IsIn}
 use Rattle.exact_checker.specs.Pairs.{IsJoinedWithOne}
-use Rattle.group_checker.proofs.Each.{each_more, each_all, no_true, refuses}
+use Rattle.cert_checker.proofs.Each.{each_more, each_all, no_true, refuses}
 use Rattle.exact_checker.proofs.pairs.is_joined_with_one.Goals as goal
 
 pub loop-other-preserved : goal.loop-other-preserved

@@ -1,6 +1,6 @@
 use Rattle.std.proofs.Common.{ℕ}
 use Rattle.gate_floods.specs.GateMasks.Words.{HasBit}
-use Rattle.group_checker.proofs.Each.{EachBelow}
+use Rattle.cert_checker.proofs.Each.{EachBelow}
 use Rattle.exact_job.proofs.table.has_some.Given as goal
 
 abbrev pub invariant-loop-group : goal.invariant-loop-group

@@ -9,9 +9,9 @@ use Rattle.group_checker.proofs.SeeingTwo.{accepted_two_tells}
 use Rattle.group_checker.proofs.judge.check_two.Goals as goal
 
 pub returns-clause-accepted : goal.returns-clause-accepted
-returns-clause-accepted c = IfOk-weaker c.judge_two.result (JudgesTwo c.args.plan.now c.args.table.now c.args.two.now) (λ v. IsYesAny v ↔ IsAcceptedTwo (map_of c.args.plan.now) c.args.table.now.bytes c.args.two.now)
+returns-clause-accepted g c = IfOk-weaker c.judge_two.result (JudgesTwo c.args.plan.now c.args.table.now c.args.two.now) (λ v. IsYesAny v ↔ IsAcceptedTwo (map_of c.args.plan.now) c.args.table.now.bytes c.args.two.now)
     (λ v h. yes_exactly_two c.args.plan.now c.lines.ensures.plan c.args.table.now c.args.two.now c.requires.table c.requires.cert v h) c.judge_two.ensures
 
 pub returns-clause-sight : goal.returns-clause-sight
-returns-clause-sight c = IfOk-weaker c.judge_two.result (JudgesTwo c.args.plan.now c.args.table.now c.args.two.now) (λ v. IsYesAny v → TellsSight (map_of c.args.plan.now) c.args.table.now (with_list c.args.two.now))
+returns-clause-sight g c = IfOk-weaker c.judge_two.result (JudgesTwo c.args.plan.now c.args.table.now c.args.two.now) (λ v. IsYesAny v → TellsSight (map_of c.args.plan.now) c.args.table.now (with_list c.args.two.now))
     (λ v h y. accepted_two_tells c.args.plan.now c.lines.ensures.plan c.requires.audited c.args.table.now c.args.two.now c.requires.table ((yes_exactly_two c.args.plan.now c.lines.ensures.plan c.args.table.now c.args.two.now c.requires.table c.requires.cert v h).0 y)) c.judge_two.ensures

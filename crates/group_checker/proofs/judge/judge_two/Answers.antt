@@ -10,27 +10,28 @@ use Rattle.group_checker.proofs.OneMap.{few_groups, few_triangles, sectors_below
 use Rattle.group_checker.proofs.judge.judge_two.Goals as goal
 
 pub judge_mesh-requires-clause-triangles : goal.judge_mesh-requires-clause-triangles
-judge_mesh-requires-clause-triangles c = triangles_between c.args.plan.now c.args.two.now c.requires.cert c.triangles.result.now c.triangles.ensures.list
+judge_mesh-requires-clause-triangles g c = triangles_between c.args.plan.now c.args.two.now c.requires.cert c.triangles.result.now c.triangles.ensures.list
 
 pub judge_mesh-requires-clause-few : goal.judge_mesh-requires-clause-few
-judge_mesh-requires-clause-few c = few_triangles c.args.plan.now c.args.two.now c.requires.cert c.triangles.result.now c.triangles.ensures.list
+judge_mesh-requires-clause-few g c = few_triangles c.args.plan.now c.args.two.now c.requires.cert c.triangles.result.now c.triangles.ensures.list
 
 pub judge_mesh-requires-clause-few_groups : goal.judge_mesh-requires-clause-few_groups
-judge_mesh-requires-clause-few_groups c = few_groups c.args.plan.now c.args.two.now c.requires.cert c.as_slice.result.now c.as_slice.ensures
+judge_mesh-requires-clause-few_groups g c = few_groups c.args.plan.now c.args.two.now c.requires.cert c.as_slice.result.now c.as_slice.ensures
 
 pub judge_mesh-requires-clause-sectors : goal.judge_mesh-requires-clause-sectors
-judge_mesh-requires-clause-sectors c = sectors_below c.args.plan.now c.args.two.now c.requires.cert (length c.as_slice.result.now) (ap length c.as_slice.ensures) c.triangles.result.now c.triangles.ensures.list
+judge_mesh-requires-clause-sectors g c = sectors_below c.args.plan.now c.args.two.now c.requires.cert (length c.as_slice.result.now) (ap length c.as_slice.ensures) c.triangles.result.now c.triangles.ensures.list
 
 pub returns-in-Broken : goal.returns-in-Broken
-returns-in-Broken c =
+returns-in-Broken g c =
     let told = own_told c.args.plan.now c.args.two.now c.triangles.result.now c.as_slice.result.now c.in_ok-judged.judged (Broken c.in-Broken.fault) c.triangles.ensures.list c.as_slice.ensures c.in-Broken.is c.in_ok-judged.ensures in
     told c.args.table.now c.args.two.now (its_own c.args.two.now)
 
 pub judge_grouped-requires : goal.judge_grouped-requires
-judge_grouped-requires c =
+judge_grouped-requires g c =
     let two = c.args.two.now in
     let told = own_told c.args.plan.now two c.triangles.result.now c.as_slice.result.now c.in_ok-judged.judged (Good c.in-Good.over) c.triangles.ensures.list c.as_slice.ensures c.in-Good.is c.in_ok-judged.ensures in
     record {
+      can = c.requires.can;
       cert = (c.requires.cert.sizes, c.requires.cert.in_order, c.requires.cert.sectors ∙ sym c.requires.table);
       triangles = told.0;
       labels = told.1;
@@ -40,7 +41,7 @@ judge_grouped-requires c =
     }
 
 pub returns-in_ok-verdict-in-Good : goal.returns-in_ok-verdict-in-Good
-returns-in_ok-verdict-in-Good c =
+returns-in_ok-verdict-in-Good g c =
     let two = c.args.two.now in
     let told = own_told c.args.plan.now two c.triangles.result.now c.as_slice.result.now c.in_ok-judged.judged (Good c.in-Good.over) c.triangles.ensures.list c.as_slice.ensures c.in-Good.is c.in_ok-judged.ensures in
     let e = c.in_ok-verdict-in-Good.ensures in

@@ -1,5 +1,5 @@
 use Rattle.group_checker.specs.Lists.{HasItsList}
-use Rattle.group_checker.proofs.Each.{AtEachBelow}
+use Rattle.cert_checker.proofs.Each.{AtEachBelow}
 use Rattle.group_checker.proofs.lists.first_other_list.Given as goal
 
 abbrev pub invariant-loop-k : goal.invariant-loop-k

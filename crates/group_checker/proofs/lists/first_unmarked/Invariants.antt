@@ -1,5 +1,5 @@
 use Rattle.cert_checker.specs.TreeJudge.Marks.{IsMarked}
-use Rattle.group_checker.proofs.Each.{AtEachBelow}
+use Rattle.cert_checker.proofs.Each.{AtEachBelow}
 use Rattle.group_checker.proofs.lists.first_unmarked.Given as goal
 
 abbrev pub invariant-loop-f : goal.invariant-loop-f

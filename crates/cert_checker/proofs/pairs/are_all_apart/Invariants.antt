@@ -1,0 +1,7 @@
+use Rattle.std.proofs.Common.{ℕ}
+use Rattle.cert_checker.specs.Pairs.{facts_of, IsApartFromAll}
+use Rattle.cert_checker.proofs.Each.{EachBelow}
+use Rattle.cert_checker.proofs.pairs.are_all_apart.Given as goal
+
+abbrev pub invariant-loop-one : goal.invariant-loop-one
+invariant-loop-one l = EachBelow (λ (f : ℕ). IsApartFromAll (facts_of l.known) f l.others) l.ones l.one-index

@@ -1,7 +1,0 @@
-use Rattle.std.proofs.Common.{ℕ}
-use Rattle.group_checker.specs.Pairs.{facts_of, IsJoinedWithOne}
-use Rattle.group_checker.proofs.Each.{EachBelow}
-use Rattle.group_checker.proofs.pairs.are_some_joined.Given as goal
-
-abbrev pub invariant-loop-one : goal.invariant-loop-one
-invariant-loop-one l = EachBelow (λ (f : ℕ). ¬ IsJoinedWithOne (facts_of l.known) f l.others) l.ones l.one-index
