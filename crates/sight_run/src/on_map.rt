@@ -98,20 +98,20 @@ pub fn reply_on<R: Threads + Sync, S: Shelf, G: Gate + Sync>(
     alloc: Global,
     shelf: &mut S,
     order: &Order,
-    input: &Input,
+    input: Input,
     listeners: &mut Vec<Box<dyn Listener>>,
     ended: &mut Vec<Box<dyn Listener>>,
     gate: &G,
 ) -> Result<Reply, Status>
     requires built { IsTrue (is_built order.now) }
     requires asks { IsSome (map_asked order.now) }
-    requires whole { IsWhole input.now }
-    requires linedefs { HasLinedefs input.now }
+    requires whole { IsWhole input }
+    requires linedefs { HasLinedefs input }
     requires none { ended.old.items ≡ [] }
     ensures told { (files : Files) → (S.state shelf.old).files ≡ Some files →
-        Gives (HasOneOn order.now (Ok (found input.now))) (CallsOn order.now files (heard_as (map (λ b. listener_state b) listeners.old.items) (map (λ b. listener_state b) listeners.new.items)) (found input.now))
+        Gives (HasOneOn order.now (Ok (found input))) (CallsOn order.now files (heard_as (map (λ b. listener_state b) listeners.old.items) (map (λ b. listener_state b) listeners.new.items)) (found input))
         (with_report (report_of order.now) (texts (map (λ b. listener_state b) ended.new.items) ++ texts (map (λ b. listener_state b) listeners.new.items)) (reply_seen result)) }
-    ensures heard { HearsOn order.now (found input.now) (heard_as (map (λ b. listener_state b) listeners.old.items) (map (λ b. listener_state b) listeners.new.items)) (status_of (reply_seen result)) }
+    ensures heard { HearsOn order.now (found input) (heard_as (map (λ b. listener_state b) listeners.old.items) (map (λ b. listener_state b) listeners.new.items)) (status_of (reply_seen result)) }
     ensures files { (S.state shelf.new).files ≡ (S.state shelf.old).files }
     ensures counts { NoneFell (S.state shelf.old) (S.state shelf.new) }
     ensures cause { Cause (S.state shelf.old) (S.state shelf.new) result }
@@ -132,7 +132,7 @@ pub fn reply_on<R: Threads + Sync, S: Shelf, G: Gate + Sync>(
         } => build_on(
             rt,
             alloc,
-            input,
+            &input,
             map.as_str(),
             out.as_str(),
             cert,
@@ -142,6 +142,6 @@ pub fn reply_on<R: Threads + Sync, S: Shelf, G: Gate + Sync>(
             ended,
             gate,
         ),
-        _ => answer_on(alloc, order, input),
+        _ => answer_on(alloc, order, &input),
     }
 }

@@ -17,7 +17,7 @@ returns-in_default g c =
     let alone = alone_of c.args.order.now c.requires.asks (λ wad name cert e. c.in_default.not-Check wad name cert e) (λ wad name out cert report workers method e. c.in_default.not-Build wad name out cert report workers method e) in
     record {
       told = λ files e. gives_alone c.args.order.now _ _ _ _ alone (c.answer_on.ensures.called files _);
-      heard = unheard_alone c.args.order.now (found c.args.input.now) _ _ alone refl;
+      heard = unheard_alone c.args.order.now (found c.args.input) _ _ alone refl;
       files = refl;
       counts = record { read_faults = omega arith; write_faults = omega arith; absents = omega arith };
       cause = past_cause _ c.answer_on.result c.answer_on.ensures.past;
