@@ -7,12 +7,12 @@ use Rattle.sight_names.specs.Splitting.{EndPoints}
 use Rattle.geom_exact.specs.declared.extreme_lines.cone.Cone.{Cone}
 use Rattle.stab_hull.specs.declared.frame.Frame.{Frame}
 use Rattle.stab_hull.specs.declared.turning.Turn.{Turn}
-use Rattle.stab_hull.specs.declared.turning.Turn.TheVariants.{Same, Moves, Stuck, Unseen}
+use Rattle.stab_hull.specs.declared.turning.Turn.TheVariants.{Covered, Same, Moves, Stuck, Unseen}
 use Rattle.stab_hull.specs.declared.Passed.{Passed}
 use Rattle.stab_hull.specs.Answer.{IsPassed, IsBarredBy}
 use Rattle.stab_hull.specs.History.{IsHistory}
 use Rattle.stab_hull.specs.Portals.{portals_of}
-use Rattle.stab_hull.specs.Stacks.{IsTopCone}
+use Rattle.stab_hull.specs.Stacks.{CoversLeft, CoversRight, IsTopCone}
 use Rattle.stab_hull.specs.Turning.{MovesRight, MovesLeft}
 
 -- so much of the stacks is of the portals up to the last frame
@@ -34,6 +34,14 @@ HasLastLeft es p = (e : EndPoints) × (slice_get es (length es - 1) ≡ Some e) 
 abbrev pub HasLastRight : List EndPoints → Pt → Type 0
 HasLastRight es p = (e : EndPoints) × (slice_get es (length es - 1) ≡ Some e) × (e.right ≡ p)
 
+-- a right end covers the point, in the last cone
+abbrev pub IsCoveredRight : List EndAt → List Cone → Pt → Type 0
+IsCoveredRight rs cs p = (c : Cone) × (slice_get cs (length cs - 1) ≡ Some c) × CoversRight rs c p
+
+-- a left end does
+abbrev pub IsCoveredLeft : List EndAt → List Cone → Pt → Type 0
+IsCoveredLeft ls cs p = (c : Cone) × (slice_get cs (length cs - 1) ≡ Some c) × CoversLeft ls c p
+
 -- The last cone is that of the ends and the new right one; or a line of it may move to that one.
 abbrev pub TakesRight : List EndAt → List EndAt → List Cone → EndAt → Bool → Type 0
 TakesRight ls rs cs new false = IsTopCone ls (rs ++ new ∷ []) cs
@@ -46,6 +54,7 @@ TakesLeft ls rs cs new true = MovesLeft rs cs new
 
 -- what a new right end does to the cone of these portals, which the next one has with this left end
 abbrev pub TellsRight : List EndPoints → List EndAt → List EndAt → List Cone → Pt → EndAt → Turn → Type 0
+TellsRight es ls rs cs left new Covered = IsCoveredRight rs cs new.at
 TellsRight es ls rs cs left new Same = TakesRight ls rs cs new false
 TellsRight es ls rs cs left new Moves = TakesRight ls rs cs new true
 TellsRight es ls rs cs left new (Stuck e) = IsBarredBy (es ++ record { left = left; right = new.at } ∷ []) e
@@ -53,6 +62,7 @@ TellsRight es ls rs cs left new Unseen = Unit {0}
 
 -- what a new left end does, which the next portal has with this right end
 abbrev pub TellsLeft : List EndPoints → List EndAt → List EndAt → List Cone → EndAt → Pt → Turn → Type 0
+TellsLeft es ls rs cs new right Covered = IsCoveredLeft ls cs new.at
 TellsLeft es ls rs cs new right Same = TakesLeft ls rs cs new false
 TellsLeft es ls rs cs new right Moves = TakesLeft ls rs cs new true
 TellsLeft es ls rs cs new right (Stuck e) = IsBarredBy (es ++ record { left = new.at; right = right } ∷ []) e

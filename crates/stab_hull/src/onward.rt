@@ -2,7 +2,7 @@
 
 ghost use Rattle.std.specs.Prelude.{◌≡◌, ◌≢◌, ◌+◌, ◌<◌, length};
 ghost use Rattle.stab_hull.specs.Portals.{portals_of};
-ghost use Rattle.stab_hull.specs.Sleeves.{IsSleeve, HasLastLeft, HasLastRight, TakesRight, TakesLeft, TellsRight, TellsLeft, GoesOn};
+ghost use Rattle.stab_hull.specs.Sleeves.{IsSleeve, IsCoveredLeft, IsCoveredRight, HasLastLeft, HasLastRight, TakesRight, TakesLeft, TellsRight, TellsLeft, GoesOn};
 
 use crate::Passed;
 use crate::frame::Frame;
@@ -40,6 +40,38 @@ fn left_told(frames: &[Frame], hull: &Hull, new: EndAt, right: Pt) -> Turn
         Cone::Ray(_) => Turn::Unseen,
         Cone::Open(wedge) => left_turn(wedge, new),
     }
+}
+
+/// Stacks a portal from the last left end to a new right end that another one covers, so that it isn't kept.
+#[inline(always)]
+fn pass_right(frames: &mut Vec<Frame>, hull: &Hull, left: Pt, new: EndAt) -> Result<Passed, Memory>
+    requires sleeve { IsSleeve frames.old.items hull.now.lefts.items hull.now.rights.items hull.now.cones.items }
+    requires last { HasLastLeft (portals_of frames.old.items) left }
+    requires few { length frames.old.items < RIGHT_END }
+    requires code { new.code ≡ length frames.old.items + RIGHT_END }
+    requires covered { IsCoveredRight hull.now.rights.items hull.now.cones.items new.at }
+    ensures { GoesOn (portals_of frames.old.items) (record { left = left; right = new.at }) frames.new.items hull.now.lefts.items hull.now.rights.items hull.now.cones.items result }
+{
+    frames.reserve(1)?;
+    let frame = frame_over(hull, left, new.at);
+    frames.push_reserved(frame);
+    Ok(Passed::Open)
+}
+
+/// Stacks a portal from a new left end that another one covers to the last right end.
+#[inline(always)]
+fn pass_left(frames: &mut Vec<Frame>, hull: &Hull, new: EndAt, right: Pt) -> Result<Passed, Memory>
+    requires sleeve { IsSleeve frames.old.items hull.now.lefts.items hull.now.rights.items hull.now.cones.items }
+    requires last { HasLastRight (portals_of frames.old.items) right }
+    requires few { length frames.old.items < RIGHT_END }
+    requires code { new.code ≡ length frames.old.items }
+    requires covered { IsCoveredLeft hull.now.lefts.items hull.now.cones.items new.at }
+    ensures { GoesOn (portals_of frames.old.items) (record { left = new.at; right = right }) frames.new.items hull.now.lefts.items hull.now.rights.items hull.now.cones.items result }
+{
+    frames.reserve(1)?;
+    let frame = frame_over(hull, new.at, right);
+    frames.push_reserved(frame);
+    Ok(Passed::Open)
 }
 
 /// Stacks a portal from the last left end to a new right end.
@@ -152,6 +184,7 @@ pub fn go_left(
         at: right,
     };
     match right_told(frames.as_slice(), hull, left, new) {
+        Turn::Covered => pass_right(frames, hull, left, new),
         Turn::Same => add_right(frames, hull, left, new, false),
         Turn::Moves => add_right(frames, hull, left, new, true),
         Turn::Stuck(evidence) => Ok(Passed::Stuck(evidence)),
@@ -178,6 +211,7 @@ pub fn go_right(
         at: left,
     };
     match left_told(frames.as_slice(), hull, new, right) {
+        Turn::Covered => pass_left(frames, hull, new, right),
         Turn::Same => add_left(frames, hull, new, right, false),
         Turn::Moves => add_left(frames, hull, new, right, true),
         Turn::Stuck(evidence) => Ok(Passed::Stuck(evidence)),
