@@ -25,7 +25,7 @@ use Rattle.stab_hull.specs.Answer.{IsLineInRange}
 use Rattle.stab_hull.specs.Stacks.{KeepsFirst, AreStuckAmong, IsTopCone, IsAdded, IsHullOf}
 use Rattle.stab_hull.specs.History.{IsFree, IsConflict, IsHistory, IsFrameOf, IsWithin}
 use Rattle.stab_hull.proofs.StepLemmas.{top_is}
-use Rattle.stab_hull.proofs.HullLemmas.{cone_of, hull_more, hull_stuck, hull_first}
+use Rattle.stab_hull.proofs.HullLemmas.{cone_of, hull_more, hull_stuck, hull_first, taken_left, taken_right}
 use Rattle.geom_exact.proofs.ExtremeLines.EndsLemmas.{pair_of_more, left_place, right_place}
 use Rattle.math_base.proofs.Options.{some_is_not_none, some_is_same, none_is_not_some}
 use Rattle.math_base.proofs.Lists.{length_pushed, get_take}
@@ -290,7 +290,7 @@ pub more_stacked : (fs : List Frame) (left right : EndAt) (ls rs ls' rs' : List 
     → IsHullOf (portals_of fs) ls rs cs
     → IfOk r (λ stuck. MatchOption stuck (IsTopCone ls' rs' cs' × IsAdded ls left ls' × IsAdded rs right rs') (λ pairs. AreStuckAmong (ls ++ left ∷ []) (rs ++ right ∷ []) pairs))
     → IfOk r (λ stuck. MatchOption stuck (IsHullOf (with_ends (portals_of fs) left right) ls' rs' cs') (λ pairs. ShowsNoLine (with_ends (portals_of fs) left right) pairs))
-more_stacked fs left right ls rs ls' rs' cs cs' (Ok None) lc few rc h k = let m = as_many fs in hull_more (portals_of fs) left right ls rs ls' rs' cs cs' (omega (arith, lc, m)) (omega (arith, few, m)) (omega (arith, rc, m)) h k.0 k.1 k.2
+more_stacked fs left right ls rs ls' rs' cs cs' (Ok None) lc few rc h k = let m = as_many fs in hull_more (portals_of fs) left right ls rs ls' rs' cs cs' (omega (arith, lc, m)) (omega (arith, few, m)) (omega (arith, rc, m)) h k.0 (taken_left k.0.0 ls ls' left k.1) (taken_right k.0.0 rs rs' right k.2)
 more_stacked fs left right ls rs ls' rs' cs cs' (Ok (Some pairs)) lc few rc h k = let m = as_many fs in hull_stuck (portals_of fs) left right ls rs pairs (omega (arith, lc, m)) (omega (arith, few, m)) (omega (arith, rc, m)) h.left_ends h.right_ends k
 more_stacked fs left right ls rs ls' rs' cs cs' (Err e) lc few rc h k = tt
 

@@ -7,12 +7,15 @@ use Rattle.sight_names.specs.declared.names.Pt.{Pt}
 use Rattle.sight_names.specs.declared.names.EndAt.{EndAt}
 use Rattle.sight_names.specs.declared.names.EndPair.{EndPair}
 use Rattle.sight_names.specs.Splitting.{EndPoints, IsPairOf, end_of}
+use Rattle.plane_base.specs.Arrows.{Arrow}
 use Rattle.geom_exact.specs.declared.extreme_lines.cone.Cone.{Cone}
 use Rattle.geom_exact.specs.ExtremeLines.Differences.{difference}
 use Rattle.geom_exact.specs.ExtremeLines.Spans.{Spans, first_of, second_of, pair_of}
-use Rattle.geom_exact.proofs.ExtremeLines.EndsLemmas.{get_append, get_cases, end_of_more, left_end, right_end}
+use Rattle.geom_exact.proofs.ExtremeLines.EndsLemmas.{get_cases, end_of_more, left_end, right_end}
 use Rattle.stab_hull.specs.Portals.{with_ends, IsConeOf, ShowsNoLine}
-use Rattle.stab_hull.specs.Stacks.{HasPoint, IsPairAmong, AreStuckAmong, IsConeOfEnds, IsTopCone, IsAdded, IsLeftEnd, IsRightEnd, IsHullOf}
+use Rattle.stab_hull.specs.Stacks.{IsAmong, IsInAngle, CoversLeft, CoversRight, IsPairAmong, AreStuckAmong, IsConeOfEnds, IsTopCone, IsAdded, IsLeftEnd, IsRightEnd, IsHullOf}
+use Rattle.stab_hull.proofs.Hiding.{same_angle, wider_angle, left_covered_spans, right_covered_spans}
+use Rattle.stab_hull.proofs.StepLemmas.{among_more}
 use Rattle.math_base.proofs.Lists.{get_pushed}
 use Rattle.math_base.proofs.Options.{some_is_same}
 
@@ -22,19 +25,48 @@ AreLeftEnds es ends = (m : ℕ) (e : EndAt) → slice_get ends m ≡ Some e → 
 abbrev pub AreRightEnds : List EndPoints → List EndAt → Type 0
 AreRightEnds es ends = (m : ℕ) (e : EndAt) → slice_get ends m ≡ Some e → IsRightEnd es e
 
-has_more : (xs ys : List EndAt) (p : Pt) → HasPoint xs p → HasPoint (xs ++ ys) p
-has_more xs ys p h = (h.0, h.1, get_append xs ys h.0 h.1 h.2, h.3)
+-- an end comes to the list, but where one of the list covers it
+abbrev pub IsTakenLeft : Cone → List EndAt → EndAt → List EndAt → Type 0
+IsTakenLeft c old e new = (new ≡ old ++ e ∷ []) ⊎ ((new ≡ old) × CoversLeft old c e.at)
 
-has_last : (xs : List EndAt) (e : EndAt) → HasPoint (xs ++ e ∷ []) e.at
-has_last xs e = (length xs, e, get_pushed xs e, refl)
+abbrev pub IsTakenRight : Cone → List EndAt → EndAt → List EndAt → Type 0
+IsTakenRight c old e new = (new ≡ old ++ e ∷ []) ⊎ ((new ≡ old) × CoversRight old c e.at)
 
-added_old : (xs ys : List EndAt) (e : EndAt) (p : Pt) → IsAdded xs e ys → HasPoint xs p → HasPoint ys p
-added_old xs ys e p (inl a) h = subst (λ (zs : List EndAt). HasPoint zs p) (sym a) (has_more xs (e ∷ []) p h)
-added_old xs ys e p (inr a) h = subst (λ (zs : List EndAt). HasPoint zs p) (sym a.0) h
+pub taken_left : (c : Cone) (xs ys : List EndAt) (e : EndAt) → IsAdded xs e ys → IsTakenLeft c xs e ys
+taken_left c xs ys e (inl a) = inl a
+taken_left c xs ys e (inr a) = inr (a.0, (a.1.0, a.1.1, a.1.2, same_angle c e.at a.1.1.at (sym a.1.3)))
 
-added_new : (xs ys : List EndAt) (e : EndAt) → IsAdded xs e ys → HasPoint ys e.at
-added_new xs ys e (inl a) = subst (λ (zs : List EndAt). HasPoint zs e.at) (sym a) (has_last xs e)
-added_new xs ys e (inr a) = subst (λ (zs : List EndAt). HasPoint zs e.at) (sym a.0) a.1
+pub taken_right : (c : Cone) (xs ys : List EndAt) (e : EndAt) → IsAdded xs e ys → IsTakenRight c xs e ys
+taken_right c xs ys e (inl a) = inl a
+taken_right c xs ys e (inr a) = inr (a.0, (a.1.0, a.1.1, a.1.2, same_angle c a.1.1.at e.at a.1.3))
+
+among_left : (c : Cone) (xs ys : List EndAt) (d e : EndAt) → IsTakenLeft c xs d ys → IsAmong xs e → IsAmong ys e
+among_left c xs ys d e (inl a) h = subst (λ (zs : List EndAt). IsAmong zs e) (sym a) (among_more xs (d ∷ []) e h)
+among_left c xs ys d e (inr a) h = subst (λ (zs : List EndAt). IsAmong zs e) (sym a.0) h
+
+among_right : (c : Cone) (xs ys : List EndAt) (d e : EndAt) → IsTakenRight c xs d ys → IsAmong xs e → IsAmong ys e
+among_right c xs ys d e (inl a) h = subst (λ (zs : List EndAt). IsAmong zs e) (sym a) (among_more xs (d ∷ []) e h)
+among_right c xs ys d e (inr a) h = subst (λ (zs : List EndAt). IsAmong zs e) (sym a.0) h
+
+-- the angle of the cone of more ends is wider
+pub cone_wider : (ls rs ls' rs' : List EndAt) (c c' : Cone) → IsConeOfEnds ls rs c → IsConeOfEnds ls' rs' c' → ((e : EndAt) → IsAmong ls e → IsAmong ls' e) → ((e : EndAt) → IsAmong rs e → IsAmong rs' e) → (x : Arrow) → IsInAngle c x → IsInAngle c' x
+cone_wider ls rs ls' rs' c c' k k' il ir x h = wider_angle c c' x
+    (k'.spans (first_of c).left (first_of c).right (il (first_of c).left k.ends.first.0) (ir (first_of c).right k.ends.first.1))
+    (k'.spans (second_of c).left (second_of c).right (il (second_of c).left k.ends.second.0) (ir (second_of c).right k.ends.second.1)) h
+
+left_old : (c c' : Cone) (xs ys : List EndAt) (e : EndAt) (p : Pt) → ((x : Arrow) → IsInAngle c x → IsInAngle c' x) → IsTakenLeft c' xs e ys → CoversLeft xs c p → CoversLeft ys c' p
+left_old c c' xs ys e p w t h = let m = among_left c' xs ys e h.1 t (h.0, h.2) in (m.0, h.1, m.1, w (difference p h.1.at) h.3)
+
+right_old : (c c' : Cone) (xs ys : List EndAt) (e : EndAt) (p : Pt) → ((x : Arrow) → IsInAngle c x → IsInAngle c' x) → IsTakenRight c' xs e ys → CoversRight xs c p → CoversRight ys c' p
+right_old c c' xs ys e p w t h = let m = among_right c' xs ys e h.1 t (h.0, h.2) in (m.0, h.1, m.1, w (difference h.1.at p) h.3)
+
+left_new : (c : Cone) (xs ys : List EndAt) (e : EndAt) → IsTakenLeft c xs e ys → CoversLeft ys c e.at
+left_new c xs ys e (inl a) = subst (λ (zs : List EndAt). CoversLeft zs c e.at) (sym a) (length xs, e, get_pushed xs e, same_angle c e.at e.at refl)
+left_new c xs ys e (inr a) = subst (λ (zs : List EndAt). CoversLeft zs c e.at) (sym a.0) a.1
+
+right_new : (c : Cone) (xs ys : List EndAt) (e : EndAt) → IsTakenRight c xs e ys → CoversRight ys c e.at
+right_new c xs ys e (inl a) = subst (λ (zs : List EndAt). CoversRight zs c e.at) (sym a) (length xs, e, get_pushed xs e, same_angle c e.at e.at refl)
+right_new c xs ys e (inr a) = subst (λ (zs : List EndAt). CoversRight zs c e.at) (sym a.0) a.1
 
 module _ (es : List EndPoints) (left right : EndAt) where
   new_left : left.code ≡ length es → length es < RIGHT_END → IsLeftEnd (with_ends es left right) left
@@ -69,32 +101,42 @@ module _ (es : List EndPoints) (left right : EndAt) where
       case (inl g) = right_longer e (h m e g)
       case (inr g) = subst (IsRightEnd (with_ends es left right)) g (new_right rc)
 
-  lefts_added : (xs ys : List EndAt) → left.code ≡ length es → length es < RIGHT_END → AreLeftEnds es xs → IsAdded xs left ys → AreLeftEnds (with_ends es left right) ys
-  lefts_added xs ys lc few h (inl a) = subst (AreLeftEnds (with_ends es left right)) (sym a) (lefts_next xs lc few h)
-  lefts_added xs ys lc few h (inr a) = subst (AreLeftEnds (with_ends es left right)) (sym a.0) (λ m e k. left_longer e (h m e k))
+  lefts_added : (c : Cone) (xs ys : List EndAt) → left.code ≡ length es → length es < RIGHT_END → AreLeftEnds es xs → IsTakenLeft c xs left ys → AreLeftEnds (with_ends es left right) ys
+  lefts_added c xs ys lc few h (inl a) = subst (AreLeftEnds (with_ends es left right)) (sym a) (lefts_next xs lc few h)
+  lefts_added c xs ys lc few h (inr a) = subst (AreLeftEnds (with_ends es left right)) (sym a.0) (λ m e k. left_longer e (h m e k))
 
-  rights_added : (xs ys : List EndAt) → right.code ≡ length es + RIGHT_END → AreRightEnds es xs → IsAdded xs right ys → AreRightEnds (with_ends es left right) ys
-  rights_added xs ys rc h (inl a) = subst (AreRightEnds (with_ends es left right)) (sym a) (rights_next xs rc h)
-  rights_added xs ys rc h (inr a) = subst (AreRightEnds (with_ends es left right)) (sym a.0) (λ m e k. right_longer e (h m e k))
+  rights_added : (c : Cone) (xs ys : List EndAt) → right.code ≡ length es + RIGHT_END → AreRightEnds es xs → IsTakenRight c xs right ys → AreRightEnds (with_ends es left right) ys
+  rights_added c xs ys rc h (inl a) = subst (AreRightEnds (with_ends es left right)) (sym a) (rights_next xs rc h)
+  rights_added c xs ys rc h (inr a) = subst (AreRightEnds (with_ends es left right)) (sym a.0) (λ m e k. right_longer e (h m e k))
 
-  all_added : (side : EndPoints → Pt) (e : EndAt) (xs ys : List EndAt) → side (record { left = left.at; right = right.at }) ≡ e.at → ((i : ℕ) (p : EndPoints) → slice_get es i ≡ Some p → HasPoint xs (side p)) → IsAdded xs e ys
-      → (i : ℕ) (p : EndPoints) → slice_get (with_ends es left right) i ≡ Some p → HasPoint ys (side p)
-  all_added side e xs ys s h a i p k = case (get_cases es _ i p k)
+  lefts_next_all : (c c' : Cone) (xs ys : List EndAt) → ((x : Arrow) → IsInAngle c x → IsInAngle c' x) → ((i : ℕ) (p : EndPoints) → slice_get es i ≡ Some p → CoversLeft xs c p.left) → IsTakenLeft c' xs left ys
+      → (i : ℕ) (p : EndPoints) → slice_get (with_ends es left right) i ≡ Some p → CoversLeft ys c' p.left
+  lefts_next_all c c' xs ys w h a i p k = case (get_cases es _ i p k)
     where
-      case : (slice_get es i ≡ Some p) ⊎ (record { left = left.at; right = right.at } ≡ p) → HasPoint ys (side p)
-      case (inl g) = added_old xs ys e (side p) a (h i p g)
-      case (inr g) = subst (λ (q : EndPoints). HasPoint ys (side q)) g (subst (HasPoint ys) (sym s) (added_new xs ys e a))
+      case : (slice_get es i ≡ Some p) ⊎ (record { left = left.at; right = right.at } ≡ p) → CoversLeft ys c' p.left
+      case (inl g) = left_old c c' xs ys left p.left w a (h i p g)
+      case (inr g) = subst (λ (q : EndPoints). CoversLeft ys c' q.left) g (left_new c' xs ys left a)
+
+  rights_next_all : (c c' : Cone) (xs ys : List EndAt) → ((x : Arrow) → IsInAngle c x → IsInAngle c' x) → ((i : ℕ) (p : EndPoints) → slice_get es i ≡ Some p → CoversRight xs c p.right) → IsTakenRight c' xs right ys
+      → (i : ℕ) (p : EndPoints) → slice_get (with_ends es left right) i ≡ Some p → CoversRight ys c' p.right
+  rights_next_all c c' xs ys w h a i p k = case (get_cases es _ i p k)
+    where
+      case : (slice_get es i ≡ Some p) ⊎ (record { left = left.at; right = right.at } ≡ p) → CoversRight ys c' p.right
+      case (inl g) = right_old c c' xs ys right p.right w a (h i p g)
+      case (inr g) = subst (λ (q : EndPoints). CoversRight ys c' q.right) g (right_new c' xs ys right a)
 
   -- one more portal
   pub hull_more : (ls rs ls' rs' : List EndAt) (cs cs' : List Cone) → left.code ≡ length es → length es < RIGHT_END → right.code ≡ length es + RIGHT_END
-      → IsHullOf es ls rs cs → IsTopCone ls' rs' cs' → IsAdded ls left ls' → IsAdded rs right rs' → IsHullOf (with_ends es left right) ls' rs' cs'
-  hull_more ls rs ls' rs' cs cs' lc few rc h t al ar = record {
-    left_ends = lefts_added ls ls' lc few h.left_ends al;
-    right_ends = rights_added rs rs' rc h.right_ends ar;
-    lefts_all = all_added (λ (p : EndPoints). p.left) left ls ls' refl h.lefts_all al;
-    rights_all = all_added (λ (p : EndPoints). p.right) right rs rs' refl h.rights_all ar;
-    cone = t;
-  }
+      → IsHullOf es ls rs cs → (t : IsTopCone ls' rs' cs') → IsTakenLeft t.0 ls left ls' → IsTakenRight t.0 rs right rs' → IsHullOf (with_ends es left right) ls' rs' cs'
+  hull_more ls rs ls' rs' cs cs' lc few rc h t al ar =
+      let w = cone_wider ls rs ls' rs' h.cone.0 t.0 h.cone.2 t.2 (λ e. among_left t.0 ls ls' left e al) (λ e. among_right t.0 rs rs' right e ar) in
+      record {
+        left_ends = lefts_added t.0 ls ls' lc few h.left_ends al;
+        right_ends = rights_added t.0 rs rs' rc h.right_ends ar;
+        cone = t;
+        lefts_all = lefts_next_all h.cone.0 t.0 ls ls' w h.lefts_all al;
+        rights_all = rights_next_all h.cone.0 t.0 rs rs' w h.rights_all ar;
+      }
 
   -- pairs of ends of the portals and of one more
   pub hull_stuck : (ls rs : List EndAt) (pairs : List EndPair) → left.code ≡ length es → length es < RIGHT_END → right.code ≡ length es + RIGHT_END
@@ -113,10 +155,10 @@ module _ (es : List EndPoints) (left right : EndAt) where
 -- the first portal
 pub hull_first : (left right : EndAt) (cs : List Cone) → left.code ≡ 0 → right.code ≡ RIGHT_END → IsTopCone (left ∷ []) (right ∷ []) cs → IsHullOf (with_ends [] left right) (left ∷ []) (right ∷ []) cs
 hull_first left right cs lc rc t = record {
-  left_ends = lefts_added [] left right [] (left ∷ []) lc (omega arith) (λ m e k. absurd (none m e k)) (inl refl);
-  right_ends = rights_added [] left right [] (right ∷ []) (omega (arith, rc)) (λ m e k. absurd (none m e k)) (inl refl);
-  lefts_all = all_added [] left right (λ (p : EndPoints). p.left) left [] (left ∷ []) refl (λ i p k. absurd (no_portal i p k)) (inl refl);
-  rights_all = all_added [] left right (λ (p : EndPoints). p.right) right [] (right ∷ []) refl (λ i p k. absurd (no_portal i p k)) (inl refl);
+  left_ends = lefts_added [] left right t.0 [] (left ∷ []) lc (omega arith) (λ m e k. absurd (none m e k)) (inl refl);
+  right_ends = rights_added [] left right t.0 [] (right ∷ []) (omega (arith, rc)) (λ m e k. absurd (none m e k)) (inl refl);
+  lefts_all = lefts_next_all [] left right t.0 t.0 [] (left ∷ []) (λ x h. h) (λ i p k. absurd (no_portal i p k)) (inl refl);
+  rights_all = rights_next_all [] left right t.0 t.0 [] (right ∷ []) (λ x h. h) (λ i p k. absurd (no_portal i p k)) (inl refl);
   cone = t;
 }
   where
@@ -136,11 +178,14 @@ cone_of es ls rs cs c h e = of_top (some_is_same h.cone.0 c (sym h.cone.1 ∙ e)
         let b = h.right_ends m.1.0 p.right m.1.1 in
         record { left_code = a.code; right_code = b.code; left = a.end; right = b.end }
 
+    angle : (p q : Pt) → IsInAngle h.cone.0 (difference p q) → IsInAngle c (difference p q)
+    angle p q a = subst (λ (d : Cone). IsInAngle d (difference p q)) (some_is_same h.cone.0 c (sym h.cone.1 ∙ e)) a
+
     spans : IsConeOfEnds ls rs c → (i j : ℕ) (p q : EndPoints) → slice_get es i ≡ Some p → slice_get es j ≡ Some q → Spans c (difference p.left q.right)
     spans k i j p q hi hj =
         let l = h.lefts_all i p hi in
         let r = h.rights_all j q hj in
-        subst (λ (u : Pt). Spans c (difference u q.right)) l.3 (subst (λ (u : Pt). Spans c (difference l.1.at u)) r.3 (k.spans l.1 r.1 (l.0, l.2) (r.0, r.2)))
+        right_covered_spans c p.left r.1.at q.right (angle r.1.at q.right r.3) (left_covered_spans c p.left l.1.at r.1.at (angle p.left l.1.at l.3) (k.spans l.1 r.1 (l.0, l.2) (r.0, r.2)))
 
     of_cone : IsConeOfEnds ls rs c → IsConeOf es c
     of_cone k = record { spans = spans k; pairs = record { first = pair (pair_of (first_of c)) k.ends.first; second = pair (pair_of (second_of c)) k.ends.second } }

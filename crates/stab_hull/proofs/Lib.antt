@@ -1,4 +1,5 @@
 pub mod StepLemmas
+pub mod Hiding
 pub mod HullLemmas
 pub mod HasCut
 pub mod HistoryLemmas

@@ -1,6 +1,7 @@
 -- Portals that a line passes, with what is of them on the stacks: one more of them, and fewer.
 use Rattle.std.proofs.Common.{◌≡◌, ℕ, ◌+◌, ◌-◌, ◌<◌, ◌≤◌, List, [], ◌∷◌, ◌++◌, length, take, Some, None, Result, Ok, Err, get_or, refl, sym, ap, ◌∙◌, arith, inl, inr, subst, length-take-le}
 use Rattle.std.specs.Prelude.{map, option_map, slice_get, IfOk}
+use Rattle.std.proofs.lemmas.Int.{ints}
 use Rattle.std.proofs.lemmas.List.{length-map, take-map, take_all, take-take}
 use Rattle.std.proofs.lemmas.Option.{slice_get-get_or, slice_get-map, slice_get_within}
 use Rattle.sight_names.specs.declared.limits.TheConstants.{RIGHT_END}
@@ -9,24 +10,28 @@ use Rattle.sight_names.specs.declared.names.Pt.{Pt}
 use Rattle.sight_names.specs.declared.names.EndAt.{EndAt}
 use Rattle.sight_names.specs.Splitting.{EndPoints}
 use Rattle.block_evidence.specs.declared.Evidence.{Evidence}
+use Rattle.plane_base.proofs.Turns.{turned}
 use Rattle.geom_exact.specs.declared.extreme_lines.cone.Cone.{Cone}
 use Rattle.geom_exact.specs.declared.extreme_lines.cone.Cone.TheVariants.{Open}
 use Rattle.geom_exact.specs.declared.extreme_lines.wedge.Wedge.{Wedge}
+use Rattle.geom_exact.specs.ExtremeLines.Differences.{difference}
+use Rattle.geom_exact.specs.ExtremeLines.Spans.{arrow_of}
 use Rattle.stab_hull.specs.declared.frame.Frame.{Frame}
 use Rattle.stab_hull.specs.declared.turning.Turn.{Turn}
-use Rattle.stab_hull.specs.declared.turning.Turn.TheVariants.{Same, Moves, Stuck, Unseen}
+use Rattle.stab_hull.specs.declared.turning.Turn.TheVariants.{Covered, Same, Moves, Stuck, Unseen}
 use Rattle.stab_hull.specs.declared.frame.Noted.{Noted}
 use Rattle.stab_hull.specs.declared.onward.Told.TheVariants as told
 use Rattle.stab_hull.specs.Answer.{IsBarredBy}
 use Rattle.stab_hull.specs.History.{IsHistory}
 use Rattle.stab_hull.specs.Portals.{portal_of, portals_of, IsConeOf}
-use Rattle.stab_hull.specs.Sleeves.{Counts, IsSleeve, HasLastLeft, HasLastRight, TellsRight, TellsLeft, GoesBy, GoesOn, frame_of, note_of, frames_of, tells_of}
-use Rattle.stab_hull.specs.Stacks.{HasPoint, KeepsFirst, IsConeOfEnds, IsTopCone, IsHullOf}
+use Rattle.stab_hull.specs.Sleeves.{Counts, IsSleeve, IsCoveredLeft, IsCoveredRight, HasLastLeft, HasLastRight, TellsRight, TellsLeft, GoesBy, GoesOn, frame_of, note_of, frames_of, tells_of}
+use Rattle.stab_hull.specs.Stacks.{CoversLeft, CoversRight, KeepsFirst, IsConeOfEnds, IsTopCone, IsHullOf}
 use Rattle.stab_hull.specs.Turning.{IsRightTurn, IsLeftTurn}
 use Rattle.stab_hull.proofs.Barring.{right_barred, left_barred}
 use Rattle.stab_hull.proofs.HistoryLemmas.{as_many, last_frame, pop_history, stacks_moved, first_stacked, enter_free, entered_list}
-use Rattle.stab_hull.proofs.HullLemmas.{cone_of, hull_more}
-use Rattle.stab_hull.proofs.StepLemmas.{top_is}
+use Rattle.stab_hull.proofs.HullLemmas.{cone_of, hull_more, cone_wider}
+use Rattle.stab_hull.proofs.OneLine.{turn_is, form_left, form_right}
+use Rattle.stab_hull.proofs.StepLemmas.{top_is, among_more}
 use Rattle.stab_hull.proofs.Tries.{hull_splits}
 use Rattle.stab_hull.proofs.TwoForms.{right_same, left_same}
 use Rattle.math_base.proofs.Lists.{get_pushed, get_there, length_pushed, map_pushed}
@@ -70,12 +75,30 @@ module _ (es : List EndPoints) (ls rs : List EndAt) (cs : List Cone) (w : Wedge)
   of_portals = cone_of es ls rs cs (Open w) hull last
 
   pub right_tells : (left : Pt) (new : EndAt) → new.code ≡ length es + RIGHT_END → (t : Turn) → IsRightTurn w new t → TellsRight es ls rs cs left new (tells_of t)
+  right_tells left new e Covered h =
+      let m = of_ends.ends.first.1 in
+      let a = turn_is w.first w.first.right.at new.at in
+      let z = form_right w.first in
+      let b = turn_is w.second w.first.right.at new.at in
+      let t = turned (difference w.first.right.at new.at) (arrow_of w.second) in
+      let f = h.0 in
+      let s = h.1 in
+      (Open w, last, (m.0, w.first.right, m.1, (omega (arith, ints, a, z, f), omega (arith, ints, b, t, s))))
   right_tells left new e Same h = (Open w, last, right_same ls rs new (Open w) w refl h.0 h.1 of_ends)
   right_tells left new e Moves h = record { wedge = w; last = last; rights = rs; cone = of_ends; beyond = h }
   right_tells left new e (Stuck x) h = right_barred es w of_portals (record { left = left; right = new.at }) new x (ap (λ (c : ℕ). let v : EndAt = record { code = c; at = new.at } in v) e) h.0 h.1
   right_tells left new e Unseen h = tt
 
   pub left_tells : (right : Pt) (new : EndAt) → length es < RIGHT_END → new.code ≡ length es → (t : Turn) → IsLeftTurn w new t → TellsLeft es ls rs cs new right (tells_of t)
+  left_tells right new few e Covered h =
+      let m = of_ends.ends.second.0 in
+      let a = turn_is w.first new.at w.second.left.at in
+      let b = turn_is w.second new.at w.second.left.at in
+      let z = form_left w.second in
+      let t = turned (difference new.at w.second.left.at) (arrow_of w.second) in
+      let f = h.0 in
+      let s = h.1 in
+      (Open w, last, (m.0, w.second.left, m.1, (omega (arith, ints, a, s), omega (arith, ints, b, z, t, f))))
   left_tells right new few e Same h = (Open w, last, left_same ls rs new (Open w) w refl h.0 h.1 of_ends)
   left_tells right new few e Moves h = record { wedge = w; last = last; lefts = ls; cone = of_ends; beyond = h }
   left_tells right new few e (Stuck x) h = left_barred es w of_portals (record { left = new.at; right = right }) new x few (ap (λ (c : ℕ). let v : EndAt = record { code = c; at = new.at } in v) e) h.0 h.1
@@ -134,7 +157,8 @@ module _ (fs : List Frame) (ls rs : List EndAt) (cs cs' : List Cone) (h : IsSlee
       let some : 0 < length fs = omega (arith, b, m) in
       let t = get_there fs (length fs - 1) (omega (arith, some)) in
       let hull = whole fs ls rs cs h some in
-      let at : HasPoint ls left = subst (HasPoint ls) last.2 (hull.lefts_all (length (portals_of fs) - 1) last.0 last.1) in
+      let old : CoversLeft ls hull.cone.0 left = subst (CoversLeft ls hull.cone.0) last.2 (hull.lefts_all (length (portals_of fs) - 1) last.0 last.1) in
+      let at : CoversLeft ls top.0 left = (old.0, old.1, old.2, cone_wider ls rs ls (rs ++ new ∷ []) hull.cone.0 top.0 hull.cone.2 top.2 (λ e m. m) (λ e m. among_more rs (new ∷ []) e m) (difference left old.1.at) old.3) in
       let left_end : EndAt = record { code = length fs; at = left } in
       goes_open fs gs (record { left = left; right = new.at }) f ls rs' cs' (moved_by ls rs' t.0 t.1 (λ l. (refl, l)) (λ l. subst (λ (xs : List EndAt). KeepsFirst t.0.rights rs xs) (sym e) (kept_push t.0.rights rs new l)))
       (subst (λ (xs : List EndAt). IsHullOf (portals_of fs ++ record { left = left; right = new.at } ∷ []) ls xs cs') (sym e)
@@ -149,11 +173,38 @@ module _ (fs : List Frame) (ls rs : List EndAt) (cs cs' : List Cone) (h : IsSlee
       let some : 0 < length fs = omega (arith, b, m) in
       let t = get_there fs (length fs - 1) (omega (arith, some)) in
       let hull = whole fs ls rs cs h some in
-      let at : HasPoint rs right = subst (HasPoint rs) last.2 (hull.rights_all (length (portals_of fs) - 1) last.0 last.1) in
+      let old : CoversRight rs hull.cone.0 right = subst (CoversRight rs hull.cone.0) last.2 (hull.rights_all (length (portals_of fs) - 1) last.0 last.1) in
+      let at : CoversRight rs top.0 right = (old.0, old.1, old.2, cone_wider ls rs (ls ++ new ∷ []) rs hull.cone.0 top.0 hull.cone.2 top.2 (λ e m. among_more ls (new ∷ []) e m) (λ e m. m) (difference old.1.at right) old.3) in
       let right_end : EndAt = record { code = length fs + RIGHT_END; at = right } in
       goes_open fs gs (record { left = new.at; right = right }) f ls' rs cs' (moved_by ls' rs t.0 t.1 (λ l. subst (λ (xs : List EndAt). KeepsFirst t.0.lefts ls xs) (sym e) (kept_push t.0.lefts ls new l)) (λ l. (refl, l)))
       (subst (λ (xs : List EndAt). IsHullOf (portals_of fs ++ record { left = new.at; right = right } ∷ []) xs rs cs') (sym e)
       (hull_more (portals_of fs) new right_end ls rs (ls ++ new ∷ []) rs cs cs' (omega (arith, code, m)) (omega (arith, few, m)) (ap (λ (k : ℕ). k + RIGHT_END) (sym m)) hull top (inl refl) (inr (refl, at)))) is g
+
+-- a portal whose new end another one covers
+module _ (fs : List Frame) (ls rs : List EndAt) (cs : List Cone) (h : IsSleeve fs ls rs cs) (few : length fs < RIGHT_END) where
+  pub goes_covered_right : (gs : List Frame) (left : Pt) (new : EndAt) (f : Frame) → HasLastLeft (portals_of fs) left → new.code ≡ length fs + RIGHT_END → IsCoveredRight rs cs new.at → f ≡ framed left new.at ls rs cs → gs ≡ fs ++ f ∷ []
+      → GoesBy (portals_of fs) (record { left = left; right = new.at }) gs ls rs cs (Ok told.Open)
+  goes_covered_right gs left new f last code cover is g =
+      let m = as_many fs in
+      let b = slice_get_within (portals_of fs) (length (portals_of fs) - 1) last.0 last.1 in
+      let hull = whole fs ls rs cs h (omega (arith, b, m)) in
+      let at : CoversLeft ls hull.cone.0 left = subst (CoversLeft ls hull.cone.0) last.2 (hull.lefts_all (length (portals_of fs) - 1) last.0 last.1) in
+      let new_at : CoversRight rs hull.cone.0 new.at = subst (λ (c : Cone). CoversRight rs c new.at) (some_is_same cover.0 hull.cone.0 (sym cover.1 ∙ hull.cone.1)) cover.2 in
+      let left_end : EndAt = record { code = length fs; at = left } in
+      goes_open fs gs (record { left = left; right = new.at }) f ls rs cs h.history
+      (hull_more (portals_of fs) left_end new ls rs ls rs cs cs (sym m) (omega (arith, few, m)) (omega (arith, code, m)) hull hull.cone (inr (refl, at)) (inr (refl, new_at))) is g
+
+  pub goes_covered_left : (gs : List Frame) (right : Pt) (new : EndAt) (f : Frame) → HasLastRight (portals_of fs) right → new.code ≡ length fs → IsCoveredLeft ls cs new.at → f ≡ framed new.at right ls rs cs → gs ≡ fs ++ f ∷ []
+      → GoesBy (portals_of fs) (record { left = new.at; right = right }) gs ls rs cs (Ok told.Open)
+  goes_covered_left gs right new f last code cover is g =
+      let m = as_many fs in
+      let b = slice_get_within (portals_of fs) (length (portals_of fs) - 1) last.0 last.1 in
+      let hull = whole fs ls rs cs h (omega (arith, b, m)) in
+      let at : CoversRight rs hull.cone.0 right = subst (CoversRight rs hull.cone.0) last.2 (hull.rights_all (length (portals_of fs) - 1) last.0 last.1) in
+      let new_at : CoversLeft ls hull.cone.0 new.at = subst (λ (c : Cone). CoversLeft ls c new.at) (some_is_same cover.0 hull.cone.0 (sym cover.1 ∙ hull.cone.1)) cover.2 in
+      let right_end : EndAt = record { code = length fs + RIGHT_END; at = right } in
+      goes_open fs gs (record { left = new.at; right = right }) f ls rs cs h.history
+      (hull_more (portals_of fs) new right_end ls rs ls rs cs cs (omega (arith, code, m)) (omega (arith, few, m)) (ap (λ (k : ℕ). k + RIGHT_END) (sym m)) hull hull.cone (inr (refl, new_at)) (inr (refl, at))) is g
 
 -- the first portal
 no_history : (ls rs : List EndAt) (cs : List Cone) → IsHistory [] ls rs cs None

@@ -8,7 +8,7 @@ use Rattle.geom_exact.specs.declared.extreme_lines.cone.Cone.{Cone}
 use Rattle.stab_hull.specs.declared.frame.Frame.{Frame}
 use Rattle.stab_hull.specs.declared.frame.Noted.{Noted}
 use Rattle.stab_hull.specs.declared.onward.Tells.{Tells}
-use Rattle.stab_hull.specs.declared.onward.Tells.TheVariants.{Takes, Stuck, Unseen}
+use Rattle.stab_hull.specs.declared.onward.Tells.TheVariants.{Covered, Takes, Stuck, Unseen}
 use Rattle.stab_hull.specs.declared.onward.Told.{Told}
 use Rattle.stab_hull.specs.declared.onward.Told.TheVariants as told
 use Rattle.stab_hull.specs.declared.track.Track.{Track}
@@ -19,7 +19,7 @@ use Rattle.stab_hull.specs.declared.Passed.TheVariants as passed
 use Rattle.stab_hull.specs.Answer.{IsPassed, IsBarredBy}
 use Rattle.stab_hull.specs.History.{IsHistory}
 use Rattle.stab_hull.specs.Portals.{portals_of}
-use Rattle.stab_hull.specs.Stacks.{IsTopCone}
+use Rattle.stab_hull.specs.Stacks.{CoversLeft, CoversRight, IsTopCone}
 use Rattle.stab_hull.specs.Turning.{MovesRight, MovesLeft}
 
 -- so much of the stacks is of the portals up to the last frame
@@ -41,6 +41,14 @@ HasLastLeft es p = (e : EndPoints) × (slice_get es (length es - 1) ≡ Some e) 
 abbrev pub HasLastRight : List EndPoints → Pt → Type 0
 HasLastRight es p = (e : EndPoints) × (slice_get es (length es - 1) ≡ Some e) × (e.right ≡ p)
 
+-- a right end covers the point, in the last cone
+abbrev pub IsCoveredRight : List EndAt → List Cone → Pt → Type 0
+IsCoveredRight rs cs p = (c : Cone) × (slice_get cs (length cs - 1) ≡ Some c) × CoversRight rs c p
+
+-- a left end does
+abbrev pub IsCoveredLeft : List EndAt → List Cone → Pt → Type 0
+IsCoveredLeft ls cs p = (c : Cone) × (slice_get cs (length cs - 1) ≡ Some c) × CoversLeft ls c p
+
 -- The last cone is that of the ends and the new right one; or a line of it may move to that one.
 abbrev pub TakesRight : List EndAt → List EndAt → List Cone → EndAt → Bool → Type 0
 TakesRight ls rs cs new false = IsTopCone ls (rs ++ new ∷ []) cs
@@ -53,18 +61,21 @@ TakesLeft ls rs cs new true = MovesLeft rs cs new
 
 -- what a new right end does to the cone of these portals, which the next one has with this left end
 abbrev pub TellsRight : List EndPoints → List EndAt → List EndAt → List Cone → Pt → EndAt → Tells → Type 0
+TellsRight es ls rs cs left new Covered = IsCoveredRight rs cs new.at
 TellsRight es ls rs cs left new (Takes moves) = TakesRight ls rs cs new moves
 TellsRight es ls rs cs left new (Stuck e) = IsBarredBy (es ++ record { left = left; right = new.at } ∷ []) e
 TellsRight es ls rs cs left new Unseen = Unit {0}
 
 -- what a new left end does, which the next portal has with this right end
 abbrev pub TellsLeft : List EndPoints → List EndAt → List EndAt → List Cone → EndAt → Pt → Tells → Type 0
+TellsLeft es ls rs cs new right Covered = IsCoveredLeft ls cs new.at
 TellsLeft es ls rs cs new right (Takes moves) = TakesLeft ls rs cs new moves
 TellsLeft es ls rs cs new right (Stuck e) = IsBarredBy (es ++ record { left = new.at; right = right } ∷ []) e
 TellsLeft es ls rs cs new right Unseen = Unit {0}
 
 -- what a new end does to the lines, as what it does to the stacks
 abbrev pub tells_of : Turn → Tells
+tells_of turn.Covered = Covered
 tells_of turn.Same = Takes false
 tells_of turn.Moves = Takes true
 tells_of (turn.Stuck e) = Stuck e

@@ -1,13 +1,15 @@
 -- What a cone says of lists of left and of right ends.
-use Rattle.std.specs.Prelude.{◌≡◌, ◌⊎◌, ℕ, ◌-◌, ◌<◌, ◌≤◌, List, [], ◌∷◌, ◌++◌, Some, All, length, take, slice_get}
+use Rattle.std.specs.Prelude.{◌≡◌, ◌⊎◌, ℕ, ◌-◌, ◌<◌, ◌≤◌, List, [], ◌∷◌, ◌++◌, Some, All, length, take, slice_get, pos, ◌≤ℤ◌}
 use Rattle.sight_names.specs.declared.limits.TheConstants.{RIGHT_END}
 use Rattle.sight_names.specs.declared.names.Pt.{Pt}
 use Rattle.sight_names.specs.declared.names.EndAt.{EndAt}
 use Rattle.sight_names.specs.declared.names.EndPair.{EndPair}
 use Rattle.sight_names.specs.Splitting.{EndPoints, AreBalanced, end_of}
+use Rattle.plane_base.specs.Arrows.{Arrow, cross}
 use Rattle.geom_exact.specs.declared.extreme_lines.cone.Cone.{Cone}
+use Rattle.geom_exact.specs.declared.extreme_lines.cone.Cone.TheVariants.{Ray, Open}
 use Rattle.geom_exact.specs.ExtremeLines.Differences.{difference}
-use Rattle.geom_exact.specs.ExtremeLines.Spans.{Spans, first_of, second_of, pair_of}
+use Rattle.geom_exact.specs.ExtremeLines.Spans.{Spans, arrow_of, first_of, second_of, pair_of}
 use Rattle.stab_hull.specs.declared.step.Step.{Step}
 use Rattle.stab_hull.specs.declared.step.Step.TheVariants.{Same, Wider, Stuck}
 
@@ -69,10 +71,23 @@ pub record IsRightEnd (es : List EndPoints) (e : EndAt) : Type 0 where
   pub code : RIGHT_END ≤ e.code
   pub end : end_of es e.code ≡ Some e
 
--- the ends of these portals, each point at least once, and their cone
+-- the arrow lies in the angle of the two lines; where all have one direction, it is none
+abbrev pub IsInAngle : Cone → Arrow → Type 0
+IsInAngle (Ray e) a = (a.x ≡ pos 0) × (a.y ≡ pos 0)
+IsInAngle (Open w) a = (pos 0 ≤ℤ cross (arrow_of w.first) a) × (pos 0 ≤ℤ cross a (arrow_of w.second))
+
+-- from one of the left ends this point lies in the angle of the lines, so that no line comes to it before that end
+abbrev pub CoversLeft : List EndAt → Cone → Pt → Type 0
+CoversLeft lefts c p = (m : ℕ) × (e : EndAt) × (slice_get lefts m ≡ Some e) × IsInAngle c (difference p e.at)
+
+-- the same of a right end
+abbrev pub CoversRight : List EndAt → Cone → Pt → Type 0
+CoversRight rights c p = (m : ℕ) × (e : EndAt) × (slice_get rights m ≡ Some e) × IsInAngle c (difference e.at p)
+
+-- ends of these portals from which all lie in the angle of the lines, and the cone of these ends
 pub record IsHullOf (es : List EndPoints) (lefts rights : List EndAt) (cones : List Cone) : Type 0 where
   pub left_ends : (m : ℕ) (e : EndAt) → slice_get lefts m ≡ Some e → IsLeftEnd es e
   pub right_ends : (m : ℕ) (e : EndAt) → slice_get rights m ≡ Some e → IsRightEnd es e
-  pub lefts_all : (i : ℕ) (p : EndPoints) → slice_get es i ≡ Some p → HasPoint lefts p.left
-  pub rights_all : (i : ℕ) (p : EndPoints) → slice_get es i ≡ Some p → HasPoint rights p.right
   pub cone : IsTopCone lefts rights cones
+  pub lefts_all : (i : ℕ) (p : EndPoints) → slice_get es i ≡ Some p → CoversLeft lefts cone.0 p.left
+  pub rights_all : (i : ℕ) (p : EndPoints) → slice_get es i ≡ Some p → CoversRight rights cone.0 p.right

@@ -1,4 +1,4 @@
-//! The distinct ends of portals, and their cones.
+//! The distinct ends of portals that a line may come to, and their cones.
 
 ghost use Rattle.std.specs.Prelude.{◌≡◌, ◌<◌, ◌≤◌, ◌+◌, ◌++◌, ◌∷◌, [], length, take, IsTrue, IfOk, MatchOption, ◌≢◌};
 ghost use Rattle.stab_hull.specs.Stacks.{HasPoint, IsAdded, IsTopCone, AreStuckAmong, KeepsFirst};
@@ -8,8 +8,8 @@ use crate::step::{Step, left_step, right_step};
 use geom_exact::extreme_lines::{Cone, Extreme};
 use sight_names::{EndAt, EndPair, Memory, Pt};
 
-/// The ends of portals, without those that repeat the point of the one before, and the cones of the ends so far. What
-/// lies above the counts of the last frame is of portals that were taken away.
+/// The ends of portals, without those that repeat the point of the one before and those that another one covers, and the
+/// cones of the ends so far. What lies above the counts of the last frame is of portals that were taken away.
 #[derive(Drop)]
 pub struct Hull {
     pub lefts: Vec<EndAt>,

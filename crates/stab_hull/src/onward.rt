@@ -2,7 +2,7 @@
 
 ghost use Rattle.std.specs.Prelude.{◌≡◌, ◌≢◌, ◌+◌, ◌<◌, length};
 ghost use Rattle.stab_hull.specs.Portals.{portals_of};
-ghost use Rattle.stab_hull.specs.Sleeves.{IsSleeve, HasLastLeft, HasLastRight, TakesRight, TakesLeft, TellsRight, TellsLeft, GoesOn, frames_of, tells_of, told_of};
+ghost use Rattle.stab_hull.specs.Sleeves.{IsSleeve, IsCoveredLeft, IsCoveredRight, HasLastLeft, HasLastRight, TakesRight, TakesLeft, TellsRight, TellsLeft, GoesOn, frames_of, tells_of, told_of};
 
 use crate::Passed;
 use crate::frame::Noted;
@@ -27,6 +27,8 @@ pub enum Told {
 /// What one more end does to the stacks.
 #[derive(Clone, Copy, Debug)]
 enum Tells {
+    /// The portal is stacked and the end isn't kept, since another one covers it.
+    Covered,
     /// It is stacked, and one of the lines may move to it or none.
     Takes(bool),
     Stuck(Evidence),
@@ -39,6 +41,7 @@ fn of_turn(turn: Turn) -> Tells
     ensures { result ≡ tells_of turn }
 {
     match turn {
+        Turn::Covered => Tells::Covered,
         Turn::Same => Tells::Takes(false),
         Turn::Moves => Tells::Takes(true),
         Turn::Stuck(evidence) => Tells::Stuck(evidence),
@@ -73,6 +76,50 @@ fn left_told<N: Copy>(portals: &[Noted<N>], hull: &Hull, new: EndAt, right: Pt) 
         Cone::Ray(_) => Tells::Unseen,
         Cone::Open(wedge) => of_turn(left_turn(wedge, new)),
     }
+}
+
+/// Stacks a portal from the last left end to a new right end that another one covers, so that it isn't kept.
+#[inline(always)]
+fn pass_right<N: Copy>(
+    portals: &mut Vec<Noted<N>>,
+    hull: &Hull,
+    left: Pt,
+    new: EndAt,
+    note: N,
+) -> Result<Told, Memory>
+    requires sleeve { IsSleeve (frames_of portals.old.items) hull.now.lefts.items hull.now.rights.items hull.now.cones.items }
+    requires last { HasLastLeft (portals_of (frames_of portals.old.items)) left }
+    requires few { length portals.old.items < RIGHT_END }
+    requires code { new.code ≡ length portals.old.items + RIGHT_END }
+    requires covered { IsCoveredRight hull.now.rights.items hull.now.cones.items new.at }
+    ensures { GoesOn portals.old.items note (record { left = left; right = new.at }) portals.new.items hull.now.lefts.items hull.now.rights.items hull.now.cones.items result }
+{
+    portals.reserve(1)?;
+    let frame = frame_over(hull, left, new.at);
+    portals.push_reserved(Noted { frame, note });
+    Ok(Told::Open)
+}
+
+/// Stacks a portal from a new left end that another one covers to the last right end.
+#[inline(always)]
+fn pass_left<N: Copy>(
+    portals: &mut Vec<Noted<N>>,
+    hull: &Hull,
+    new: EndAt,
+    right: Pt,
+    note: N,
+) -> Result<Told, Memory>
+    requires sleeve { IsSleeve (frames_of portals.old.items) hull.now.lefts.items hull.now.rights.items hull.now.cones.items }
+    requires last { HasLastRight (portals_of (frames_of portals.old.items)) right }
+    requires few { length portals.old.items < RIGHT_END }
+    requires code { new.code ≡ length portals.old.items }
+    requires covered { IsCoveredLeft hull.now.lefts.items hull.now.cones.items new.at }
+    ensures { GoesOn portals.old.items note (record { left = new.at; right = right }) portals.new.items hull.now.lefts.items hull.now.rights.items hull.now.cones.items result }
+{
+    portals.reserve(1)?;
+    let frame = frame_over(hull, new.at, right);
+    portals.push_reserved(Noted { frame, note });
+    Ok(Told::Open)
 }
 
 /// Stacks a portal from the last left end to a new right end.
@@ -208,6 +255,7 @@ pub fn go_left<N: Copy>(
         at: right,
     };
     match right_told(portals.as_slice(), hull, left, new) {
+        Tells::Covered => pass_right(portals, hull, left, new, note),
         Tells::Takes(moves) => add_right(portals, hull, left, new, moves, note),
         Tells::Stuck(evidence) => Ok(Told::Stuck(evidence)),
         Tells::Unseen => Ok(Told::Unseen),
@@ -234,6 +282,7 @@ pub fn go_right<N: Copy>(
         at: left,
     };
     match left_told(portals.as_slice(), hull, new, right) {
+        Tells::Covered => pass_left(portals, hull, new, right, note),
         Tells::Takes(moves) => add_left(portals, hull, new, right, moves, note),
         Tells::Stuck(evidence) => Ok(Told::Stuck(evidence)),
         Tells::Unseen => Ok(Told::Unseen),

@@ -16,6 +16,8 @@ use sight_names::{EndAt, Memory, RIGHT_END};
 /// What one more end does to the two extreme lines.
 #[derive(Clone, Copy, Debug)]
 pub enum Turn {
+    /// Both stay, and none will come to it, since an end of its side covers it.
+    Covered,
     /// Both stay.
     Same,
     /// One of them may move to it, and the other one stays.
@@ -35,7 +37,11 @@ pub fn right_turn(wedge: &Wedge, new: EndAt) -> Turn
     ensures { IsRightTurn wedge.now new result }
 {
     if wedge.first.value(new.at) < 0 {
-        if wedge.second.value(new.at) > 0 {
+        let of_second = wedge.second.value(new.at);
+        if of_second > 0 {
+            if of_second >= wedge.second.value(wedge.first.right.at) {
+                return Turn::Covered;
+            }
             return Turn::Same;
         }
         return Turn::Moves;
@@ -56,7 +62,11 @@ pub fn left_turn(wedge: &Wedge, new: EndAt) -> Turn
     ensures { IsLeftTurn wedge.now new result }
 {
     if wedge.second.value(new.at) < 0 {
-        if wedge.first.value(new.at) > 0 {
+        let of_first = wedge.first.value(new.at);
+        if of_first > 0 {
+            if of_first >= wedge.first.value(wedge.second.left.at) {
+                return Turn::Covered;
+            }
             return Turn::Same;
         }
         return Turn::Moves;

@@ -9,7 +9,7 @@ use Rattle.stab_hull.specs.Answer.{IsBarredBy}
 use Rattle.stab_hull.specs.Barred.{ends_and}
 use Rattle.stab_hull.specs.Portals.{portals_of, IsConeOf}
 use Rattle.stab_hull.proofs.Barring.{lines, left_before, right_before, right_barred, left_barred, last_cone, some_so}
-use Rattle.stab_hull.proofs.HistoryLemmas.{as_many}
+use Rattle.stab_hull.proofs.HistoryLemmas.{as_many, frame_cone, last_frame}
 use Rattle.stab_hull.proofs.bars.barred.Goals as goal
 
 pub right_bars-requires-clause-lines : goal.right_bars-requires-clause-lines
@@ -57,3 +57,9 @@ returns-then-eq-2 c =
     let few = c.requires.few in
     some_so (λ e. BarsLeft (pair_of c.in-Open.wedge.first) (pair_of c.in-Open.wedge.second) new × Picks (ends_and c.in-Open.wedge new) e) (λ e. IsBarredBy ((portals_of c.args.old.now) ++ record { left = c.args.left; right = c.args.right } ∷ []) e) c.left_bars.result
     (λ e h. left_barred (portals_of c.args.old.now) c.in-Open.wedge cone (record { left = c.args.left; right = c.args.right }) new e (omega (arith, few, m)) (ap (λ (k : ℕ). let v : EndAt = record { code = k; at = c.args.left } in v) (sym m)) h.0 h.1) c.left_bars.ensures
+
+pub overflow_sub-top : goal.overflow_sub-top
+overflow_sub-top c = let b = (frame_cone (portals_of c.args.old.now) c.args.hull.now.lefts.items c.args.hull.now.rights.items c.args.hull.now.cones.items c.in_ok-top.top.now (last_frame c.args.old.now c.in_ok-top.top.now c.args.hull.now.lefts.items c.args.hull.now.rights.items c.args.hull.now.cones.items c.requires.history (sym c.in_ok-top.ensures.value))).1 in omega (arith, b)
+
+pub index-requires : goal.index-requires
+index-requires c = let b = (frame_cone (portals_of c.args.old.now) c.args.hull.now.lefts.items c.args.hull.now.rights.items c.args.hull.now.cones.items c.in_ok-top.top.now (last_frame c.args.old.now c.in_ok-top.top.now c.args.hull.now.lefts.items c.args.hull.now.rights.items c.args.hull.now.cones.items c.requires.history (sym c.in_ok-top.ensures.value))).0 in omega (arith, b)

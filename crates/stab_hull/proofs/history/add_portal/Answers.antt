@@ -15,3 +15,12 @@ returns-in-Some-clause-free c = more_stacked c.args.old.now (record { code = len
 
 pub returns-in_ok-begin-in-None-clause-free : goal.returns-in_ok-begin-in-None-clause-free
 returns-in_ok-begin-in-None-clause-free c = first_stacked c.args.old.now (record { code = length c.args.old.now; at = c.args.left }) (record { code = length c.args.old.now + RIGHT_END; at = c.args.right }) c.begin.new.self.lefts.items c.begin.new.self.rights.items c.begin.new.self.cones.items (no_last c.args.old.now (sym c.in-None.ensures.value)) refl refl c.in_ok-begin-in-None.ensures.lefts c.in_ok-begin-in-None.ensures.rights c.in_ok-begin-in-None.ensures.cone
+
+pub add-requires-clause-lefts : goal.add-requires-clause-lefts
+add-requires-clause-lefts c = (last_frame c.args.old.now c.in-Some.top.now c.args.hull.now.lefts.items c.args.hull.now.rights.items c.args.hull.now.cones.items c.requires.history (sym c.in-Some.ensures.value)).lefts_in
+
+pub add-requires-clause-rights : goal.add-requires-clause-rights
+add-requires-clause-rights c = (last_frame c.args.old.now c.in-Some.top.now c.args.hull.now.lefts.items c.args.hull.now.rights.items c.args.hull.now.cones.items c.requires.history (sym c.in-Some.ensures.value)).rights_in
+
+pub add-requires-clause-cones : goal.add-requires-clause-cones
+add-requires-clause-cones c = (last_frame c.args.old.now c.in-Some.top.now c.args.hull.now.lefts.items c.args.hull.now.rights.items c.args.hull.now.cones.items c.requires.history (sym c.in-Some.ensures.value)).cones_in
