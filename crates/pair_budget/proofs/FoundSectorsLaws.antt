@@ -161,6 +161,10 @@ pub found_of_ray : (rs : List SourceResult) (r : PairRay) → IsRayOf rs r → A
 found_of_ray rs r (inl h) = inl (r.ray, h)
 found_of_ray rs r (inr h) = inr (h.0, h.1)
 
+pub turned_found : (rs : List SourceResult) (a b : ℕ) → AreFound rs a b → AreFound rs b a
+turned_found rs a b (inl h) = inr h
+turned_found rs a b (inr h) = inl h
+
 module _ (p : PlanParts) (rs : List SourceResult) (are : AreResults p rs) (rays : List PairRay) (g : KeepsOneEach (all_rays rs) rays) where
   -- a find is gathered under its pair
   pub pair_of_find : (a b : ℕ) → a < b → AreFound rs a b → HasRayFor rays a b
