@@ -10,8 +10,9 @@ mod trees;
 mod walk;
 
 pub use hearing::TreeJudge;
-use judge::judge_trees;
-pub use judge::{OneJudge, Reach, TreeJudges, TreeVerdict, judge_part, unmarked, unreached};
+pub use judge::{
+    OneJudge, Reach, TreeJudges, TreeVerdict, judge_part, judge_trees, unmarked, unreached,
+};
 pub use marks::mark;
 pub use roots::Roots;
 pub use trees::{Frame, Terrain, is_blocked, make_room, put};

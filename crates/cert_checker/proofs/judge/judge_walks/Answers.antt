@@ -15,7 +15,7 @@ ray_fault-requires g c =
     }
 
 pub judge_trees-requires-clause-edges : goal.judge_trees-requires-clause-edges
-judge_trees-requires-clause-edges g c κs within = subst (λ (ls : List (Option ℕ)). AreHalfEdges c.args.plan.now c.args.mesh.now.triangles ls c.in_ok-edges.edges) c.requires.labels c.in_ok-edges.ensures
+judge_trees-requires-clause-edges g c = subst (λ (ls : List (Option ℕ)). AreHalfEdges c.args.plan.now c.args.mesh.now.triangles ls c.in_ok-edges.edges) c.requires.labels c.in_ok-edges.ensures
 
 pub returns-in-Some : goal.returns-in-Some
 returns-in-Some g c = ray_told (map_of c.args.plan.now) c.args.cert.now c.rays.result.now c.rays.ensures.list c.in-Some.fault c.in-Some.ensures.kind c.in-Some.ensures.fault
