@@ -18,7 +18,6 @@ use Rattle.cert_checker.specs.TreeJudge.Trees.{AreTreesWhole}
 use Rattle.cert_checker.proofs.TreeJudge.OneTree.{one_wrong_tree}
 use Rattle.cert_checker.specs.Rays.{AreSightRaysBelow}
 use Rattle.cert_checker.specs.Judged.{JudgesRays, JudgesTrees}
-use Rattle.cert_checker.specs.declared.verdict.Totals.{Totals}
 use Rattle.cert_checker.proofs.Accepting.{broken_rule, member_at, wrong_ray}
 use Rattle.cert_checker.proofs.OneVerdict.{listed_wrong, one_first, one_side, one_mesh_fault, one_pair_fault, one_ray_fault, one_totals, uncovered_wrong, unproved_wrong, wrong_with_right}
 use Rattle.group_checker.specs.declared.verdict.AnyFault.{AnyFault}

@@ -1,7 +1,7 @@
 -- What an accepted certificate of version 2 shows: no rejected pair sees, and each clear pair that isn't listed does.
-use Rattle.std.proofs.Common.{◌≡◌, List}
+use Rattle.std.proofs.Common.{◌≡◌}
 use Rattle.sight_names.specs.Plan.{PlanParts, IsPlan}
-use Rattle.sight_names.specs.Map.{Map, IsMap, map_of}
+use Rattle.sight_names.specs.Map.{Map, map_of}
 use Rattle.sight_names.specs.Sound.{LinesMeetAtEnds}
 use Rattle.sight_names.specs.Groups.{IsInGroup}
 use Rattle.sight_names.proofs.PlanMap.{plan_is_map}

@@ -21,9 +21,9 @@ pub judge_sectors-requires-clause-reached : goal.judge_sectors-requires-clause-r
 judge_sectors-requires-clause-reached g c = let told = subst (TellsWalked (map_of c.args.over.now.plan) c.args.two.now.cert) c.in-Right.is c.in_ok-walked.ensures in told.1.1
 
 pub judge_sectors-requires-clause-lists : goal.judge_sectors-requires-clause-lists
-judge_sectors-requires-clause-lists g c = record { cert = c.args.two.now; two = c.requires.cert; groups_are = c.as_slice-groups.ensures; listed_is = c.as_slice-listed.ensures; rays_are = c.rays.ensures.list }
+judge_sectors-requires-clause-lists g c = record { cert = c.args.two.now; two = c.requires.cert; groups_are = c.as_slice-groups.ensures; listed_is = c.as_slice-listed.ensures; rays_are = c.rays-rays.ensures.list }
 
 pub returns-in-Right-clause-pairs : goal.returns-in-Right-clause-pairs
 returns-in-Right-clause-pairs g c =
     let told = subst (TellsWalked (map_of c.args.over.now.plan) c.args.two.now.cert) c.in-Right.is c.in_ok-walked.ensures in
-    c.judge_sectors.ensures.pairs c.args.two.now (sym c.as_slice-groups.ensures) (sym c.as_slice-listed.ensures) (sym c.rays.ensures.list) told.1.2
+    c.judge_sectors.ensures.pairs c.args.two.now (sym c.as_slice-groups.ensures) (sym c.as_slice-listed.ensures) (sym c.rays-rays.ensures.list) told.1.2

@@ -1,4 +1,4 @@
-use Rattle.std.proofs.Common.{ℕ, ◌<◌, List, length, sym, ◌∙◌, subst}
+use Rattle.std.proofs.Common.{ℕ, ◌<◌, List, sym, subst}
 use Rattle.std.proofs.lemmas.Result.{IfOk-weaker}
 use Rattle.sight_names.specs.declared.names.Pair.{Pair}
 use Rattle.sight_names.specs.Groups.{IsInGroup}
@@ -8,7 +8,6 @@ use Rattle.cert_checker.specs.Members.{AreMembersBelow, IsMember}
 use Rattle.cert_checker.proofs.Judging.{pairs_moved}
 use Rattle.cert_checker.proofs.Alone.{member_is}
 use Rattle.group_checker.specs.Judged.{TellsPairs}
-use Rattle.group_checker.specs.Members.{AreMembers}
 use Rattle.group_checker.proofs.Judging.{few_are, fit_lists, members_below, members_moved}
 use Rattle.group_checker.proofs.judge.judge_sectors.Goals as goal
 
