@@ -1,5 +1,6 @@
 pub mod Begun
 pub mod Walked
+pub mod Nodes
 pub mod Told
 pub mod AllHeard
 pub mod Stages

@@ -1,16 +1,15 @@
 -- The checker has one answer for a certificate of version 3: two that meet what is promised over one map of groups are equal. And what is
 -- promised goes by the bits of the table alone.
-use Rattle.std.proofs.Common.{◌≡◌, ℕ, ◌<◌, ◌≤◌, ◌⊎◌, inl, inr, List, [], Option, refl, sym, ◌∙◌, ap, arith, subst}
+use Rattle.std.proofs.Common.{◌≡◌, ℕ, ◌<◌, ◌≤◌, ◌⊎◌, inl, inr, List, [], refl, sym, ◌∙◌, ap, arith, subst}
 use Rattle.std.proofs.lemmas.Option.{same_Some}
 use Rattle.math_base.proofs.Lists.{contains_none}
 use Rattle.math_base.proofs.Numbers.{below_same_or_above}
 use Rattle.sight_names.specs.declared.faults.CheckFault.TheVariants.{Mesh, Ray, Tree as OfTree, ListedSet, Unproved, Uncovered}
-use Rattle.sight_names.specs.declared.faults.CheckFault.{CheckFault}
 use Rattle.sight_names.specs.Map.{Map}
 use Rattle.sight_names.specs.Mesh.{IsGoodMesh}
 use Rattle.reject_bits.specs.Parts.{TableParts}
 use Rattle.block_evidence.specs.declared.sight_tree.Node.{Node}
-use Rattle.cert_format.specs.Accepted.{EitherSet, labels_of, triangles_of}
+use Rattle.cert_format.specs.Accepted.{labels_of, triangles_of}
 use Rattle.cert_format.specs.declared.cert_groups.cert.CertTwo.{CertTwo}
 use Rattle.certificates.specs.declared.cert_exact.cert.ExactParts.{ExactParts}
 use Rattle.certificates.specs.CertExact.Grammar.{as_two}

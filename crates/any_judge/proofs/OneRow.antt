@@ -1,5 +1,5 @@
 -- The first wrong node of a tree that is judged by a row is one, by whatever half-edges and masks of one mesh, and by whatever rows of the same bits.
-use Rattle.std.proofs.Common.{◌≡◌, ℕ, zero, suc, ◌<◌, ◌≤◌, ◌/◌, ◌%◌, ◌⊎◌, inl, inr, List, [], ◌∷◌, ◌++◌, Option, Some, None, Bool, true, false, not, length, take, slice_index, refl, sym, ◌∙◌, ap, subst, arith, if◌then◌else◌, ◌==◌}
+use Rattle.std.proofs.Common.{◌≡◌, ℕ, zero, suc, ◌<◌, ◌≤◌, ◌/◌, ◌%◌, ◌⊎◌, inl, inr, List, [], ◌∷◌, ◌++◌, Option, Some, None, Bool, true, false, not, length, take, slice_index, refl, sym, ◌∙◌, ap, subst, arith, if◌then◌else◌}
 use Rattle.std.specs.Prelude.{◌↔◌, option_and_then}
 use Rattle.std.specs.Int.{bit_at}
 use Rattle.std.specs.List.{slice_get, filter_map, cons_option}
@@ -20,9 +20,9 @@ use Rattle.block_evidence.specs.declared.sight_tree.Node.{Node}
 use Rattle.block_evidence.specs.declared.sight_tree.Node.TheVariants.{Open, Blocked}
 use Rattle.block_evidence.specs.Stuck.{Blocks}
 use Rattle.mesh_shape.specs.declared.half_edges.table.HalfEdge.{HalfEdge}
-use Rattle.mesh_shape.specs.HalfEdges.Numbers.{edge, number_of}
+use Rattle.mesh_shape.specs.HalfEdges.Numbers.{edge}
 use Rattle.mesh_shape.specs.HalfEdges.Kinds.{portal_on}
-use Rattle.mesh_shape.specs.HalfEdges.HalfEdges.{portal_of, entering, way_outside, IsHalfEdge, AreHalfEdges}
+use Rattle.mesh_shape.specs.HalfEdges.HalfEdges.{portal_of, entering, IsHalfEdge, AreHalfEdges}
 use Rattle.mesh_shape.proofs.HalfEdges.Reached.{reached, not_reached, outside_is}
 use Rattle.cert_checker.specs.TreeJudge.Path.{edge_ends}
 use Rattle.cert_checker.specs.TreeJudge.Roots.{root_edge, root_edges, way_out_of}

@@ -1,5 +1,5 @@
 -- What is said of a verdict by the judge of a version is said of one by a certificate of any version.
-use Rattle.std.proofs.Common.{◌≡◌, List, ℕ, Result, Ok, Err, sym, subst}
+use Rattle.std.proofs.Common.{List, ℕ, Result, Ok, Err, sym, subst}
 use Rattle.std.specs.Prelude.{IfOk}
 use Rattle.sight_names.specs.declared.faults.CertFault.{CertFault}
 use Rattle.sight_names.specs.declared.names.Memory.{Memory}

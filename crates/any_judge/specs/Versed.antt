@@ -1,5 +1,5 @@
 -- A judge of one version or the other, and the bytes that it was fed.
-use Rattle.std.specs.Prelude.{◌≡◌, ℕ, ◌+◌, ◌<◌, ◌^◌, List, length}
+use Rattle.std.specs.Prelude.{ℕ, List}
 use Rattle.sight_names.specs.Plan.{PlanParts}
 use Rattle.reject_bits.specs.Parts.{TableParts}
 use Rattle.cert_judge.specs.Judge.{HasBeenFed as HasBeenFedListing, IsFed as IsFedListing, MayBeFed as MayBeFedListing}

@@ -1,5 +1,5 @@
 -- Whether bytes begin as a certificate of version 3 does. The first six tell it.
-use Rattle.std.specs.Prelude.{◌≡◌, ℕ, ◌<◌, ◌≤◌, List, length, Ok}
+use Rattle.std.specs.Prelude.{◌≡◌, ℕ, List, length, Ok}
 use Rattle.certificates.specs.CertExact.Reading.{version_at}
 
 -- the magic and version 3

@@ -6,7 +6,7 @@ use Rattle.block_evidence.specs.declared.sight_tree.Node.{Node}
 use Rattle.cert_format.specs.declared.cert.Labelled.{Labelled}
 use Rattle.certificates.specs.declared.cert_exact.cert.ExactParts.{ExactParts}
 use Rattle.certificates.specs.declared.exact_parts.part.Part.{Part}
-use Rattle.certificates.specs.declared.exact_parts.part.Part.TheVariants.{Triangle, Ray, Length}
+use Rattle.certificates.specs.declared.exact_parts.part.Part.TheVariants.{Triangle, Ray, Length, Node as OfNode}
 use Rattle.certificates.specs.ExactParts.Parts.{node_parts, tree_parts, parts_of}
 use Rattle.any_judge.specs.ExactJudge.Heard.{Heard, nothing, with_part, heard_from}
 use Rattle.any_judge.specs.ExactJudge.Trees.{Begun, all_begun, next_begun, many_begun, begun_all, put_node}
@@ -16,7 +16,7 @@ pub heard_one_more : (h : Heard) (parts : List Part) (part : Part) → heard_fro
 heard_one_more h [] part = refl
 heard_one_more h (first ∷ parts) part = heard_one_more (with_part h first) parts part
 
-heard_both : (h : Heard) (parts more : List Part) → heard_from h (parts ++ more) ≡ heard_from (heard_from h parts) more
+pub heard_both : (h : Heard) (parts more : List Part) → heard_from h (parts ++ more) ≡ heard_from (heard_from h parts) more
 heard_both h [] more = refl
 heard_both h (part ∷ parts) more = heard_both (with_part h part) parts more
 
@@ -125,3 +125,8 @@ all_heard c = record {
         ∙ heard_both (made c.triangles false c.rays no_trees) (map (λ (ns : List Node). Length) c.trees) (tree_parts 0 c.trees)
         ∙ ap (λ (h : Heard). heard_from h (tree_parts 0 c.trees)) lengths.1
         ∙ nodes.is
+
+-- nodes change the trees alone
+pub same_but_trees : (h : Heard) (f : ℕ) (ns : List Node) → ((heard_from h (node_parts f ns)).triangles ≡ h.triangles) × ((heard_from h (node_parts f ns)).rays ≡ h.rays)
+same_but_trees h f [] = (refl, refl)
+same_but_trees h f (n ∷ ns) = same_but_trees (with_part h (OfNode f n)) f ns

@@ -1,14 +1,14 @@
 -- What has become of the bytes, from part to part and from piece to piece, and what comes of them at the end.
-use Rattle.std.proofs.Common.{◌≡◌, ℕ, suc, ◌+◌, ◌<◌, ◌^◌, List, [], ◌∷◌, ◌++◌, length, Some, Result, Ok, Err, refl, sym, ap, subst, ◌∙◌, append_assoc, arith}
+use Rattle.std.proofs.Common.{◌≡◌, ℕ, suc, ◌+◌, ◌-◌, ◌<◌, ◌≤◌, ◌^◌, List, [], ◌∷◌, ◌++◌, drop, length, Some, Result, Ok, Err, refl, sym, ap, subst, ◌∙◌, append_assoc, arith}
 use Rattle.std.specs.List.{AllByRecursion}
-use Rattle.std.proofs.lemmas.List.{append-nil, length-append}
+use Rattle.std.proofs.lemmas.List.{append-nil, drop_at, length-append}
 use Rattle.sight_names.specs.declared.faults.CertFault.{CertFault}
 use Rattle.sight_names.specs.Plan.{PlanParts}
 use Rattle.block_evidence.specs.declared.sight_tree.Node.{Node}
 use Rattle.reject_bits.specs.Parts.{TableParts}
 use Rattle.cert_format.specs.Grammar.{FitsTree}
 use Rattle.cert_format.specs.Sizes.{sizes_of}
-use Rattle.cert_format.proofs.FieldLaws.{bind_ok, ok_is}
+use Rattle.cert_format.proofs.FieldLaws.{IsBytes, bind_ok, ok_is}
 use Rattle.certificates.specs.declared.cert_exact.cert.ExactParts.{ExactParts}
 use Rattle.certificates.specs.CertExact.Grammar.{SpellsThree, trees_from}
 use Rattle.certificates.specs.CertExact.Reading.{exact_at}
@@ -16,8 +16,12 @@ use Rattle.certificates.proofs.CertExact.ExactLaws.{exact_takes}
 use Rattle.cert_judge.specs.Intake.{AreBytes}
 use Rattle.cert_judge.proofs.Intakes.{bytes_more}
 use Rattle.certificates.specs.declared.exact_parts.part.Part.{Part}
-use Rattle.certificates.specs.ExactParts.Parts.{ThreeParts, three_parts_of, reading_three_parts}
-use Rattle.certificates.specs.ExactParts.Left.{parts_left, put_before}
+use Rattle.certificates.specs.ExactParts.Parts.{ThreeParts, node_parts, three_parts_of, reading_three_parts}
+use Rattle.certificates.specs.CertParts.Nodes.{ReadsNodes}
+use Rattle.certificates.specs.ExactParts.Left.{ReaderState, parts_left, put_before}
+use Rattle.certificates.specs.ExactParts.Nodes.{AwaitsTree, behind_bytes}
+use Rattle.certificates.proofs.CertParts.Stretches.{reads_within}
+use Rattle.certificates.proofs.ExactParts.Stretches.{nodes_behind, reads_front, put_all as put_behind}
 use Rattle.any_judge.specs.declared.exact_judge.intake.Intake.{Intake}
 use Rattle.any_judge.specs.ExactJudge.Heard.{Groups}
 use Rattle.any_judge.specs.ExactJudge.Judging.{HasHeard, HasHeardAll, IsCertOf}
@@ -61,6 +65,50 @@ module _ (p : PlanParts) (t : TableParts) (bytes rest : List ℕ) (k : Intake) (
   -- or a fault was met
   pub fault_taken : (f : CertFault) → ((more : List ℕ) → parts_left k.reader (rest ++ more) ≡ Err f) → AreRefused p bytes f
   fault_taken f told more = w.left more ∙ ap (put_all w.groups w.parts) (told more)
+
+-- ---- nodes of a tree, one behind the other
+
+put_both : (groups : Groups) (parts more : List Part) (left : Result (List Part) CertFault) → put_all groups parts (put_behind more left) ≡ put_all groups (parts ++ more) left
+put_both groups parts more (Ok others) = ap (all_read groups) (sym (append_assoc parts more others))
+put_both groups parts more (Err f) = refl
+
+module _ (p : PlanParts) (t : TableParts) (bytes ahead : List ℕ) (k : Intake) (left : ℕ) (awaits : AwaitsTree k.reader left) (some : 0 < left) (w : IsGoingOn p t bytes ahead k) where
+  -- they were read and heard
+  pub nodes_taken : (ns : List Node) (here rest back behind : List ℕ) (new : Intake) → ahead ≡ here ++ back → length here ≤ left → IsBytes here → ReadsNodes here ns rest → behind ≡ drop (length here - length rest) ahead
+      → HasHeard p t w.groups (w.parts ++ node_parts k.reader.trees.source ns) new.judging → new.reader ≡ behind_bytes k.reader (length here - length rest) → IsGoingOn p t bytes behind new
+  nodes_taken ns here rest back behind new split le fit read from heard reader = record {
+    small = w.small;
+    fit = w.fit;
+    groups = w.groups;
+    parts = w.parts ++ node_parts k.reader.trees.source ns;
+    heard = heard;
+    given = omega (arith, given, within, w.given, ap length split, length-append here back, ap length rest_is, length-append rest back);
+    left = λ more. w.left more ∙ ap (put_all w.groups w.parts) (told more) ∙ put_both w.groups w.parts (node_parts k.reader.trees.source ns) (parts_left new.reader (behind ++ more));
+  }
+    where
+      used : ℕ
+      used = length here - length rest
+
+      within : length rest ≤ length here
+      within = reads_within here ns rest read
+
+      given : new.reader.given ≡ k.reader.given + used
+      given = ap (λ (s : ReaderState). s.given) reader
+
+      cut : (front : List ℕ) × (here ≡ front ++ rest)
+      cut = reads_front here ns rest fit read
+
+      rest_is : behind ≡ rest ++ back
+      rest_is =
+          let long : length cut.0 ≡ used = omega (arith, ap length cut.1, length-append cut.0 rest) in
+          from ∙ ap (drop used) (split ∙ ap (λ (h : List ℕ). h ++ back) cut.1 ∙ append_assoc cut.0 rest back) ∙ drop_at cut.0 (rest ++ back) used long
+
+      told : (more : List ℕ) → parts_left k.reader (ahead ++ more) ≡ put_behind (node_parts k.reader.trees.source ns) (parts_left new.reader (behind ++ more))
+      told more =
+          ap (parts_left k.reader) (ap (λ (b : List ℕ). b ++ more) split ∙ append_assoc here back more)
+          ∙ nodes_behind k.reader left awaits some ns here rest (back ++ more) le read
+          ∙ ap (λ (s : ReaderState). put_behind (node_parts k.reader.trees.source ns) (parts_left s (rest ++ (back ++ more)))) (sym reader)
+          ∙ ap (λ (b : List ℕ). put_behind (node_parts k.reader.trees.source ns) (parts_left new.reader b)) (sym (append_assoc rest back more) ∙ ap (λ (b : List ℕ). b ++ more) (sym rest_is))
 
 -- ---- a piece comes
 

@@ -1,5 +1,5 @@
 -- What a judge of trees has heard, from tree to tree and from node to node.
-use Rattle.std.proofs.Common.{◌≡◌, ℕ, zero, suc, ◌+◌, ◌-◌, ◌<◌, ◌≤◌, inl, inr, List, [], ◌∷◌, ◌++◌, Option, Some, None, is_some, length, true, false, refl, sym, ◌∙◌, ap, subst, arith}
+use Rattle.std.proofs.Common.{◌≡◌, ℕ, zero, suc, ◌+◌, ◌-◌, ◌<◌, ◌≤◌, ◌^◌, inl, inr, List, [], ◌∷◌, ◌++◌, Option, Some, None, is_some, length, true, false, refl, sym, ◌∙◌, ap, subst, arith}
 use Rattle.std.specs.List.{slice_get}
 use Rattle.std.specs.Option.{option_to_list}
 use Rattle.std.specs.Prelude.{option_map}
@@ -22,7 +22,7 @@ use Rattle.any_judge.specs.declared.exact_judge.ground.Ground.{Ground}
 use Rattle.any_judge.specs.declared.exact_judge.trees.RowTrees.{RowTrees}
 use Rattle.any_judge.specs.ExactJudge.Ground.{masks_in, owning_in}
 use Rattle.any_judge.specs.ExactJudge.Trees.{Begun, all_begun, one_node, next_begun, many_begun, begun_all, put_node, IsOwnRow, IsTold, AreTold, IsWrongIn, IsFollowed, AreEnded, IsJudged, AreCounted, HasHeardTrees}
-use Rattle.any_judge.proofs.ExactJudge.Begun.{one_more, as_many, counted_many, counted_less}
+use Rattle.any_judge.proofs.ExactJudge.Begun.{one_more, as_many, counted_many, counted_less, last_counted}
 
 -- ---- places in a list with one more behind
 
@@ -155,21 +155,17 @@ under_way front o (Some w) j e h = absurd (let clash : true ≡ false = sym e �
 under_way front None None j e h = absurd (let clash : true ≡ false = sym e ∙ h.going in cc)
 under_way front (Some ns) None j e h = record { nodes = ns; is = refl; none = refl; followed = h }
 
--- the masks that a call is given
-pub masks_same : (g : Ground) (places : List (Option ℕ)) (words : List ℕ) → places ≡ g.masks.places.items → words ≡ g.masks.words.items → (let ms : MaskRows = record { width = g.masks.width; places = places; words = words } in ms) ≡ masks_in g
-masks_same g places words p q = rw (p, q) refl
-
 -- ---- the open tree ends
 
-module _ (b : Begun) (r : Option WrongNode) (j k : RowTrees) (o : IsOpen b r j) (ground : k.ground ≡ j.ground) (begun : k.begun ≡ j.begun) (going : k.under_way ≡ false) where
+module _ (b : Begun) (r : Option WrongNode) (j k : RowTrees) (o : IsOpen b r j) (ground : k.ground ≡ j.ground) (going : k.under_way ≡ false) where
   abbrev tree : Tree
   tree = tree_of (length b.0) o.nodes
 
   last_is : all_begun b ≡ b.0 ++ o.nodes ∷ []
   last_is = ap (λ (x : Option (List Node)). b.0 ++ option_to_list x) o.is
 
-  pub ended_whole : k.wrong ≡ r → IsWholeFrom j.ground.edges (masks_in j.ground) o.followed.row j.ground.roots.roots.items j.ground.roots.first.items tree → IsJudged (all_begun b, None) k.wrong k
-  ended_whole wrong whole =
+  pub ended_whole : k.begun ≡ j.begun → k.wrong ≡ r → IsWholeFrom j.ground.edges (masks_in j.ground) o.followed.row j.ground.roots.roots.items j.ground.roots.first.items tree → IsJudged (all_begun b, None) k.wrong k
+  ended_whole begun wrong whole =
       let f = o.followed in
       let last : IsTold j.ground (length b.0) o.nodes None = record { row = f.row; own = f.own; tells = whole } in
       let all : AreTold j.ground (b.0 ++ o.nodes ∷ []) (length (b.0 ++ o.nodes ∷ [])) = told_more j.ground b.0 o.nodes f.told last in
@@ -199,48 +195,58 @@ module _ (b : Begun) (r : Option WrongNode) (j k : RowTrees) (o : IsOpen b r j) 
       let moved : IsWrongIn k.ground (all_begun b, None) found = subst (λ (x : WrongNode). IsWrongIn k.ground (all_begun b, None) x) same (subst (λ (g : Ground). IsWrongIn g (all_begun b, None) w) (sym ground) here) in
       subst (λ (x : Option WrongNode). IsJudged (all_begun b, None) x k) (sym wrong) (going, moved)
 
--- ---- another node of it comes
+-- ---- more nodes of it come
 
-pub opened : (b : Begun) (r : Option WrongNode) (j : RowTrees) (o : IsOpen b r j) (n : Node) → option_map (one_node n) b.1 ≡ Some (o.nodes ++ n ∷ [])
-opened b r j o n = ap (option_map (one_node n)) o.is
+-- these nodes behind those of the open tree
+abbrev pub put_nodes : List Node → Begun → Begun
+put_nodes ns b = (b.0, option_map (λ (os : List Node). os ++ ns) b.1)
 
-module _ (b : Begun) (r : Option WrongNode) (j k : RowTrees) (o : IsOpen b r j) (n : Node) (ground : k.ground ≡ j.ground) (begun : k.begun ≡ j.begun) where
+module _ (b : Begun) (r : Option WrongNode) (j : RowTrees) (o : IsOpen b r j) (ns : List Node) where
   abbrev longer : List Node
-  longer = o.nodes ++ n ∷ []
+  longer = o.nodes ++ ns
 
-  abbrev longer_tree : Tree
-  longer_tree = tree_of (length b.0) longer
+  opened : put_nodes ns b ≡ (b.0, Some longer)
+  opened = ap (λ (x : Option (List Node)). let c : Begun = (b.0, x) in put_nodes ns c) o.is
 
-  pub node_followed : k.under_way ≡ true → k.source ≡ j.source → k.wrong ≡ r → k.nodes ≡ length o.nodes + 1 → IsWalked j.ground.edges (masks_in j.ground) o.followed.row j.ground.roots.roots.items j.ground.roots.first.items longer_tree k.walk → IsJudged (b.0, option_map (one_node n) b.1) k.wrong k
-  node_followed going source wrong number walked =
-      let f = o.followed in
-      let here : IsFollowed b.0 longer k = record {
-        going = going;
-        begun = begun ∙ f.begun;
-        source = source ∙ f.source;
-        told = subst (λ (g : Ground). AreTold g b.0 (length b.0)) (sym ground) f.told;
-        row = f.row;
-        own = subst (λ (g : Ground). IsOwnRow g (length b.0) f.row) (sym ground) f.own;
-        walked = subst (λ (g : Ground). IsWalked g.edges (masks_in g) f.row g.roots.roots.items g.roots.first.items longer_tree k.walk) (sym ground) walked;
-        number = number ∙ sym (length-append o.nodes (n ∷ []));
-      } in
-      subst (λ (x : Option WrongNode). IsJudged (b.0, option_map (one_node n) b.1) x k) (sym (wrong ∙ o.none)) (subst (λ (x : Option (List Node)). IsJudged (b.0, x) None k) (sym (opened b r j o n)) here)
+  -- fewer than their count can tell
+  pub few : AreCounted j.ground (put_nodes ns b) → length o.nodes + length ns < 2 ^ 64
+  few counted = let l : length longer < 2 ^ 64 = last_counted j.ground b.0 longer (subst (AreCounted j.ground) opened counted) in omega (arith, l, length-append o.nodes ns)
 
-  pub node_refused : k.under_way ≡ false → k.wrong ≡ Some (record { source = j.source; node = j.nodes }) → IsFirstWrongFrom j.ground.edges (masks_in j.ground) o.followed.row j.ground.roots.roots.items j.ground.roots.first.items longer_tree (length o.nodes) → IsJudged (b.0, option_map (one_node n) b.1) k.wrong k
-  node_refused going wrong first =
-      let f = o.followed in
-      let w : WrongNode = record { source = length b.0; node = length o.nodes } in
-      let found : WrongNode = record { source = j.source; node = j.nodes } in
-      let same : w ≡ found = rw (f.source, f.number) refl in
-      let here : IsWrongIn j.ground (b.0, Some longer) w = record {
-        nodes = longer;
-        there = get_pushed b.0 longer;
-        told = record { row = f.row; own = f.own; tells = first };
-        before = told_front j.ground b.0 longer (length b.0) (omega arith) f.told;
-        ended = inr (omega (arith, length-append o.nodes (n ∷ [])));
-      } in
-      let moved : IsWrongIn k.ground (b.0, option_map (one_node n) b.1) found = subst (λ (x : Option (List Node)). IsWrongIn k.ground (b.0, x) found) (sym (opened b r j o n)) (subst (λ (x : WrongNode). IsWrongIn k.ground (b.0, Some longer) x) same (subst (λ (g : Ground). IsWrongIn g (b.0, Some longer) w) (sym ground) here)) in
-      subst (λ (x : Option WrongNode). IsJudged (b.0, option_map (one_node n) b.1) x k) (sym wrong) (going, moved)
+  module _ (k : RowTrees) (ground : k.ground ≡ j.ground) where
+    -- all of them answer
+    pub nodes_followed : k.begun ≡ j.begun → k.under_way ≡ true → k.source ≡ j.source → k.wrong ≡ r → k.nodes ≡ length o.nodes + length ns
+        → IsWalked j.ground.edges (masks_in j.ground) o.followed.row j.ground.roots.roots.items j.ground.roots.first.items (tree_of (length b.0) longer) k.walk → IsJudged (put_nodes ns b) k.wrong k
+    nodes_followed begun going source wrong number walked =
+        let f = o.followed in
+        let here : IsFollowed b.0 longer k = record {
+          going = going;
+          begun = begun ∙ f.begun;
+          source = source ∙ f.source;
+          told = subst (λ (g : Ground). AreTold g b.0 (length b.0)) (sym ground) f.told;
+          row = f.row;
+          own = subst (λ (g : Ground). IsOwnRow g (length b.0) f.row) (sym ground) f.own;
+          walked = subst (λ (g : Ground). IsWalked g.edges (masks_in g) f.row g.roots.roots.items g.roots.first.items (tree_of (length b.0) longer) k.walk) (sym ground) walked;
+          number = number ∙ sym (length-append o.nodes ns);
+        } in
+        subst (λ (c : Begun). IsJudged c k.wrong k) (sym opened) (subst (λ (x : Option WrongNode). IsJudged (b.0, Some longer) x k) (sym (wrong ∙ o.none)) here)
+
+    -- one of them doesn't
+    pub nodes_refused : (at node : ℕ) → node ≡ at → at < length o.nodes + length ns → k.under_way ≡ false → k.wrong ≡ Some (record { source = j.source; node = node })
+        → IsFirstWrongFrom j.ground.edges (masks_in j.ground) o.followed.row j.ground.roots.roots.items j.ground.roots.first.items (tree_of (length b.0) longer) at → IsJudged (put_nodes ns b) k.wrong k
+    nodes_refused at node node_is within going wrong first =
+        let f = o.followed in
+        let w : WrongNode = record { source = length b.0; node = at } in
+        let found : WrongNode = record { source = j.source; node = node } in
+        let same : w ≡ found = rw (f.source, node_is) refl in
+        let here : IsWrongIn j.ground (b.0, Some longer) w = record {
+          nodes = longer;
+          there = get_pushed b.0 longer;
+          told = record { row = f.row; own = f.own; tells = first };
+          before = told_front j.ground b.0 longer (length b.0) (omega arith) f.told;
+          ended = inr (omega (arith, within, length-append o.nodes ns));
+        } in
+        let moved : IsWrongIn k.ground (b.0, Some longer) found = subst (λ (g : Ground). IsWrongIn g (b.0, Some longer) found) (sym ground) (subst (λ (x : WrongNode). IsWrongIn j.ground (b.0, Some longer) x) same here) in
+        subst (λ (c : Begun). IsJudged c k.wrong k) (sym opened) (subst (λ (x : Option WrongNode). IsJudged (b.0, Some longer) x k) (sym wrong) (going, moved))
 
 -- ---- another tree begins
 

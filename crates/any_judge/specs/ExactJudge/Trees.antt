@@ -43,6 +43,11 @@ put_node n b = (b.0, option_map (one_node n) b.1)
 abbrev pub at_source : ℕ → Node → Begun → Begun
 at_source f n b = put_node n (begun_all (suc f) b)
 
+-- nodes of this tree, one behind the other
+abbrev pub heard_nodes : ℕ → List Node → Begun → Begun
+heard_nodes f [] b = b
+heard_nodes f (n ∷ ns) b = heard_nodes f ns (at_source f n b)
+
 -- ---- what is told of them
 
 module _ (g : Ground) where

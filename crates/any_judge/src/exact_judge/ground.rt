@@ -4,12 +4,14 @@ ghost use Rattle.std.specs.Prelude.{◌≡◌, ◌*◌, ◌≤◌, ◌↔◌, �
 ghost use Rattle.sight_names.specs.declared.names.PairRay.{PairRay as RayOf};
 ghost use Rattle.cert_checker.specs.Pairs.{IsWithin};
 ghost use Rattle.certificates.specs.declared.cert_exact.cert.ExactParts.{ExactParts as PartsOf};
-ghost use Rattle.any_judge.specs.ExactJudge.Ground.{IsGroundOf, IsOver, IsSizedGround};
+ghost use Rattle.gate_floods.specs.RowJudge.Masks.{rows_of};
+ghost use Rattle.any_judge.specs.ExactJudge.Ground.{IsGroundOf, IsOver, IsSizedGround, masks_in};
 
 use cert_checker::tree_judge::Roots;
 use exact_checker::{EdgeMasks, edge_masks, joined_rows, ranks_of};
 use face_groups::tri_sectors::components;
 use gate_floods::gate_masks::Row;
+use gate_floods::row_judge::Masks;
 use group_checker::GroupedMesh;
 use mesh_shape::half_edges::HalfEdges;
 use sight_names::{Memory, PairRay};
@@ -55,6 +57,18 @@ impl Ground {
             ranks,
             joined,
         })
+    }
+
+    /// The masks as a walk looks at them.
+    #[inline(always)]
+    pub fn mask_rows(&self) -> Masks<'_>
+        ensures { rows_of result ≡ masks_in self.now }
+    {
+        Masks {
+            width: self.masks.width,
+            places: self.masks.places.as_slice(),
+            words: self.masks.words.as_slice(),
+        }
     }
 
     /// Whether there is what each group needs, as there always is.

@@ -1,6 +1,6 @@
 //! The bytes of a certificate of version 3 behind its groups, read and judged as they come.
 
-ghost use Rattle.std.specs.Prelude.{◌≡◌, ◌<◌, ℕ, List, [], ◌++◌, Result, Err, None, length, IsSome, IfSome, IfOk};
+ghost use Rattle.std.specs.Prelude.{◌≡◌, ◌<◌, ◌≤◌, ℕ, List, [], ◌++◌, Result, Err, None, length, IsSome, IfSome, IfOk};
 ghost use Rattle.sight_names.specs.Plan.{PlanParts};
 ghost use Rattle.reject_bits.specs.Parts.{TableParts};
 ghost use Rattle.sight_names.specs.declared.faults.CertFault.{CertFault as FaultOf};
@@ -61,8 +61,31 @@ impl<'a> Intake<'a> {
         }
     }
 
-    /// The part that comes first in the rest of a piece: what of the piece is behind it, or None where nothing of it is to be
-    /// read any more.
+    /// The nodes of one tree that come first in the rest of a piece: what of the piece is behind them. Others than the usual ones,
+    /// and now and then one of these, are left to `take_one`.
+    fn take_nodes<'b>(&mut self, ahead: &'b [u8]) -> Result<&'b [u8], Memory>
+        requires countable { IsCountable self.old.reader ahead.now }
+        ensures heard { (p : PlanParts) (t : TableParts) (bytes : List ℕ) → IsGoingOn p t bytes ahead.now self.old → IfOk result (λ rest. IsGoingOn p t bytes rest.now self.new) }
+        ensures still { self.new.fault ≡ self.old.fault }
+        ensures countable { IfOk result (λ rest. IsCountable self.new.reader rest.now) }
+        ensures within { IfOk result (λ rest. length rest.now ≤ length ahead.now) }
+    {
+        let awaited = self.reader.tree_awaited();
+        if awaited == 0 {
+            return Ok(ahead);
+        }
+        // a node takes a byte at least
+        let count = awaited.min(ahead.len() as u64);
+        let (bytes, _) = ahead.split_at(count as usize);
+        let (rest, _) = self.judging.hear_nodes(self.reader.tree(), bytes, count)?;
+        let taken = bytes.len() - rest.len();
+        self.reader.nodes_taken(taken);
+        let (_, behind) = ahead.split_at(taken);
+        Ok(behind)
+    }
+
+    /// The nodes and the part behind them that come first in the rest of a piece: what of the piece is behind them, or None
+    /// where nothing of it is to be read any more.
     fn take_one<'b>(&mut self, rest: &'b [u8]) -> Result<Option<&'b [u8]>, Memory>
         requires on { self.old.fault ≡ None }
         requires countable { IsCountable self.old.reader rest.now }
@@ -72,6 +95,7 @@ impl<'a> Intake<'a> {
         ensures countable { IfOk result (λ o. IfSome o (λ behind. IsCountable self.new.reader behind.now)) }
         ensures less { IfOk result (λ o. IfSome o (λ behind. length behind.now < length rest.now)) }
     {
+        let rest = self.take_nodes(rest)?;
         match self.reader.next(rest) {
             Ok((Some(part), behind)) => {
                 self.judging.hear(part)?;

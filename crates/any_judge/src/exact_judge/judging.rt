@@ -5,6 +5,8 @@ ghost use Rattle.sight_names.specs.Plan.{PlanParts};
 ghost use Rattle.reject_bits.specs.Parts.{TableParts};
 ghost use Rattle.certificates.specs.declared.cert_exact.cert.ExactParts.{ExactParts as PartsOf};
 ghost use Rattle.certificates.specs.declared.exact_parts.part.Part.{Part as PartOf};
+ghost use Rattle.certificates.specs.CertParts.Nodes.{TakesNodes};
+ghost use Rattle.certificates.specs.ExactParts.Parts.{node_parts};
 ghost use Rattle.exact_checker.specs.Judged.{JudgesThree};
 ghost use Rattle.group_checker.specs.Judged.{any_of};
 ghost use Rattle.any_judge.specs.ExactJudge.Stage.{IsRightOver};
@@ -112,6 +114,19 @@ impl<'a> Judging<'a> {
         ensures { (p : PlanParts) (t : TableParts) (groups : GroupsOf) (h : Heard) → h.closed ≡ true → IsKept p t groups h self.old → IfOk result (λ _. IsKept p t groups (with_node source node h) self.new) }
     {
         self.stage.hear_node(self.alloc, source, node)
+    }
+
+    /// The next nodes of this group's tree, of so many that are to come, from the bytes: what of those is behind them, and how many
+    /// are left. Others than the usual ones, and now and then one of these, are left to `hear`.
+    pub fn hear_nodes<'b>(
+        &mut self,
+        source: usize,
+        bytes: &'b [u8],
+        count: u64,
+    ) -> Result<(&'b [u8], u64), Memory>
+        ensures { IfOk result (λ r. TakesNodes bytes.now count r.0.now r.1 (λ nodes. (p : PlanParts) (t : TableParts) (groups : GroupsOf) (parts : List PartOf) → HasHeard p t groups parts self.old → HasHeard p t groups (parts ++ node_parts source nodes) self.new)) }
+    {
+        self.stage.hear_nodes(source, bytes, count)
     }
 
     /// The next part, whichever it is.

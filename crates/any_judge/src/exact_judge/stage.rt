@@ -5,7 +5,9 @@ ghost use Rattle.sight_names.specs.Plan.{PlanParts};
 ghost use Rattle.sight_names.specs.declared.names.PairRay.{PairRay as RayOf};
 ghost use Rattle.cert_format.specs.declared.cert.Labelled.{Labelled as AtGroup};
 ghost use Rattle.cert_checker.specs.Pairs.{IsWithin};
-ghost use Rattle.any_judge.specs.ExactJudge.Heard.{Groups as GroupsOf, Heard, closed_at, with_node};
+ghost use Rattle.certificates.specs.CertParts.Nodes.{TakesNodes};
+ghost use Rattle.certificates.specs.ExactParts.Parts.{node_parts};
+ghost use Rattle.any_judge.specs.ExactJudge.Heard.{Groups as GroupsOf, Heard, closed_at, heard_from, with_node};
 ghost use Rattle.any_judge.specs.ExactJudge.Stage.{IsClosed, IsGroupedOver, IsStage};
 
 use crate::exact_judge::ground::Ground;
@@ -120,6 +122,22 @@ impl Stage {
             self.settle(alloc, plan, groups, labelled, rays)?;
         }
         Ok(())
+    }
+
+    /// The next nodes of this group's tree, of so many that are to come, from the bytes: what of those is behind them, and how many
+    /// are left. Others than the usual ones, and now and then one of these, are left to `hear_node`.
+    pub fn hear_nodes<'a>(
+        &mut self,
+        source: usize,
+        bytes: &'a [u8],
+        count: u64,
+    ) -> Result<(&'a [u8], u64), Memory>
+        ensures { IfOk result (λ r. TakesNodes bytes.now count r.0.now r.1 (λ nodes. (p : PlanParts) (groups : GroupsOf) (h : Heard) → IsStage p groups h self.old → IsStage p groups (heard_from h (node_parts source nodes)) self.new)) }
+    {
+        match self {
+            Stage::Walking(trees) => trees.hear_nodes(source, bytes, count),
+            _ => Ok((bytes, count)),
+        }
     }
 
     /// The next node of this group's tree.

@@ -1,17 +1,18 @@
 //! Trees that are judged by rows as they come, node by node. No tree is kept.
 
-ghost use Rattle.std.specs.Prelude.{◌≡◌, ◌+◌, ℕ, List, [], ◌++◌, Option, Some, None, option_map, IfOk};
+ghost use Rattle.std.specs.Prelude.{◌≡◌, ◌+◌, ℕ, List, [], ◌++◌, Option, Some, None, option_map, false, IfOk};
 ghost use Rattle.std.specs.Option.{option_to_list};
 ghost use Rattle.block_evidence.specs.declared.sight_tree.Node.{Node as OneNode};
+ghost use Rattle.certificates.specs.CertParts.Nodes.{TakesNodes};
 ghost use Rattle.any_judge.specs.ExactJudge.Ground.{IsSizedGround};
-ghost use Rattle.any_judge.specs.ExactJudge.Trees.{Begun, HasHeardTrees, at_source, begun_all, one_node};
+ghost use Rattle.any_judge.specs.ExactJudge.Trees.{Begun, HasHeardTrees, at_source, begun_all, heard_nodes, one_node};
 
 use crate::exact_judge::ground::Ground;
 use block_evidence::sight_tree::Node;
 use cert_checker::tree_judge::Terrain;
 use exact_checker::{Owning, WrongNode, owned_row};
 use gate_floods::gate_masks::Row;
-use gate_floods::row_judge::{Masks, RowWalk};
+use gate_floods::row_judge::RowWalk;
 use sight_names::Memory;
 use std::alloc::Global;
 
@@ -50,6 +51,19 @@ impl RowTrees {
         }
     }
 
+    /// The node with this number is the first wrong one of the open tree.
+    fn stop(&mut self, node: u64)
+        ensures wrong { self.new.wrong ≡ Some (record { source = self.old.source; node = node }) }
+        ensures ended { self.new.under_way ≡ false }
+        ensures ground { self.new.ground ≡ self.old.ground }
+    {
+        self.under_way = false;
+        self.wrong = Some(WrongNode {
+            source: self.source,
+            node,
+        });
+    }
+
     /// Ends the open tree, if there is one.
     fn end(&mut self)
         ensures heard { (b : Begun) → HasHeardTrees b self.old → HasHeardTrees (b.0 ++ option_to_list b.1, None) self.new }
@@ -58,22 +72,16 @@ impl RowTrees {
         if !self.under_way {
             return;
         }
-        self.under_way = false;
         let ground = &self.ground;
         let terrain = Terrain {
             edges: &ground.edges,
             roots: &ground.roots,
         };
-        let masks = Masks {
-            width: ground.masks.width,
-            places: ground.masks.places.as_slice(),
-            words: ground.masks.words.as_slice(),
-        };
-        if !self.walk.is_done(&terrain, &masks) {
-            self.wrong = Some(WrongNode {
-                source: self.source,
-                node: self.nodes,
-            });
+        let masks = ground.mask_rows();
+        if self.walk.is_done(&terrain, &masks) {
+            self.under_way = false;
+        } else {
+            self.stop(self.nodes);
         }
     }
 
@@ -101,11 +109,7 @@ impl RowTrees {
             edges: &ground.edges,
             roots: &ground.roots,
         };
-        let masks = Masks {
-            width: ground.masks.width,
-            places: ground.masks.places.as_slice(),
-            words: ground.masks.words.as_slice(),
-        };
+        let masks = ground.mask_rows();
         let row = owned_row(alloc, known, masks.width, source)?;
         self.walk.begin(&terrain, &masks, source, row.as_slice())?;
         self.begun += 1;
@@ -128,21 +132,43 @@ impl RowTrees {
             edges: &ground.edges,
             roots: &ground.roots,
         };
-        let masks = Masks {
-            width: ground.masks.width,
-            places: ground.masks.places.as_slice(),
-            words: ground.masks.words.as_slice(),
-        };
+        let masks = ground.mask_rows();
         if self.walk.step(&terrain, &masks, node)? {
             self.nodes = self.nodes.saturating_add(1);
         } else {
-            self.under_way = false;
-            self.wrong = Some(WrongNode {
-                source: self.source,
-                node: self.nodes,
-            });
+            self.stop(self.nodes);
         }
         Ok(())
+    }
+
+    /// The next nodes of this group's tree, of so many that are to come, from the bytes: what of those is behind them, and how many
+    /// are left. Others than the usual ones, and now and then one that needs room or is its tree's first, are left to `hear`.
+    pub fn hear_nodes<'a>(
+        &mut self,
+        source: usize,
+        bytes: &'a [u8],
+        count: u64,
+    ) -> Result<(&'a [u8], u64), Memory>
+        ensures heard { IfOk result (λ r. TakesNodes bytes.now count r.0.now r.1 (λ nodes. (b : Begun) → HasHeardTrees b self.old → HasHeardTrees (heard_nodes source nodes b) self.new)) }
+        ensures ground { self.new.ground ≡ self.old.ground }
+    {
+        if !self.under_way || source != self.source as usize {
+            return Ok((bytes, count));
+        }
+        let ground = &self.ground;
+        let terrain = Terrain {
+            edges: &ground.edges,
+            roots: &ground.roots,
+        };
+        let masks = ground.mask_rows();
+        let followed = self.walk.follow(&terrain, &masks, bytes, count)?;
+        let taken = count - followed.left;
+        if followed.wrong {
+            self.stop(self.nodes.saturating_add(taken - 1));
+            return Ok((followed.rest, followed.left));
+        }
+        self.nodes = self.nodes.saturating_add(taken);
+        Ok((followed.rest, followed.left))
     }
 
     /// Begins trees until so many have begun.

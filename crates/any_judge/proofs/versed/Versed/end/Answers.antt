@@ -4,7 +4,7 @@ use Rattle.cert_format.specs.Sizes.{sizes_of}
 use Rattle.group_checker.specs.Judged.{IsYesAny}
 use Rattle.any_judge.specs.Accepted.{IsAccepted, TellsSight}
 use Rattle.any_judge.specs.Judged.{Judges}
-use Rattle.any_judge.specs.Versed.{HasTaken, IsFilled, IsVersed}
+use Rattle.any_judge.specs.Versed.{HasTaken, IsVersed}
 use Rattle.any_judge.proofs.Promises.{exact_told, listing_told}
 use Rattle.any_judge.proofs.versed.Versed.end.Goals as goal
 

@@ -4,7 +4,7 @@ use Rattle.gate_floods.specs.RowJudge.Masks.{MaskRows}
 use Rattle.gate_floods.specs.RowJudge.Judged.{tree_of, IsWalked}
 use Rattle.any_judge.specs.ExactJudge.Trees.{all_begun}
 use Rattle.any_judge.proofs.ExactJudge.Begun.{counted_none}
-use Rattle.any_judge.proofs.ExactJudge.Walked.{masks_same, own_row, wrong_begins, ended_where, tree_begins, all_there}
+use Rattle.any_judge.proofs.ExactJudge.Walked.{own_row, wrong_begins, ended_where, tree_begins, all_there}
 use Rattle.any_judge.proofs.exact_judge.trees.RowTrees.begin.Goals as goal
 use Rattle.any_judge.proofs.exact_judge.trees.RowTrees.begin.Goals.{then-is_some-via-then-is_some, then-is_some-via-else-is_some+then-self, then-is_some-via-else-is_some+else-self+then-not-is_sized}
 
@@ -37,9 +37,9 @@ returns-clause-heard c = λ b w.
           let before = w1.judged (counted_none g b counted) in
           let fine = sym c.is_some.ensures ∙ c.if-is_some.false in
           let e = ended_where (all_begun b) s.wrong s fine before in
-          let row = c.as_slice-6.result.now in
-          let own = own_row g s.begun c.as_slice.result.now c.as_slice-2.result.now c.in_ok-row.row.items row c.as_slice-3.result.now c.as_slice.ensures.value c.as_slice-2.ensures.value c.as_slice-3.ensures.value c.as_slice-6.ensures.value c.in_ok-row.ensures.bits in
-          let same = masks_same g c.as_slice-4.result.now c.as_slice-5.result.now c.as_slice-4.ensures.value c.as_slice-5.ensures.value in
+          let row = c.as_slice-4.result.now in
+          let own = own_row g s.begun c.as_slice.result.now c.as_slice-2.result.now c.in_ok-row.row.items row c.as_slice-3.result.now c.as_slice.ensures.value c.as_slice-2.ensures.value c.as_slice-3.ensures.value c.as_slice-4.ensures.value c.in_ok-row.ensures.bits in
+          let same = c.mask_rows-masks.ensures in
           let walked = subst (λ (ms : MaskRows). IsWalked g.edges ms row g.roots.roots.items g.roots.first.items (tree_of s.begun []) c.begin.new.self) same c.in_ok-begin.ensures in
           tree_begins b s (record s { walk = c.begin.new.self; begun = s.begun + 1; under_way = true; source = s.begun; nodes = 0 }) row e refl refl refl refl refl (none_where_not_some s.wrong (sym fine)) own walked;
     }

@@ -1,11 +1,11 @@
-use Rattle.std.proofs.Common.{List, [], ◌∷◌, Option, Some, false, length, refl, sym, subst, arith}
-use Rattle.std.proofs.lemmas.List.{length-append}
-use Rattle.block_evidence.specs.declared.sight_tree.Node.{Node}
+use Rattle.std.proofs.Common.{[], ◌∷◌, length, refl, sym, subst, arith}
 use Rattle.gate_floods.specs.RowJudge.Masks.{MaskRows}
 use Rattle.gate_floods.specs.RowJudge.Judged.{tree_of, IsFirstWrongFrom, IsWalked}
-use Rattle.any_judge.proofs.ExactJudge.Begun.{counted_less, last_counted}
-use Rattle.any_judge.proofs.ExactJudge.Walked.{node_not_under_way, under_way, masks_same, opened, node_followed, node_refused}
-use Rattle.any_judge.specs.ExactJudge.Trees.{one_node, AreCounted}
+use Rattle.any_judge.proofs.ExactJudge.Begun.{counted_less}
+use Rattle.any_judge.proofs.ExactJudge.Walked.{node_not_under_way, under_way, few, nodes_followed, nodes_refused}
+use Rattle.any_judge.specs.ExactJudge.Ground.{IsSizedGround}
+use Rattle.any_judge.specs.ExactJudge.Trees.{one_node, put_node, AreCounted}
+use Rattle.any_judge.specs.declared.exact_judge.ground.Ground.{Ground}
 use Rattle.any_judge.proofs.exact_judge.trees.RowTrees.step.Goals as goal
 
 pub returns-then-not-self-clause-heard : goal.returns-then-not-self-clause-heard
@@ -22,29 +22,30 @@ returns-then-branch-clause-heard c = λ b w. record {
       let g = j.ground in
       let n = c.args.node in
       let o = under_way b.0 b.1 j.wrong j c.if-not-self.false (w.judged (counted_less g b.0 b.1 n counted)) in
-      let same = masks_same g c.as_slice.result.now c.as_slice-2.result.now c.as_slice.ensures.value c.as_slice-2.ensures.value in
+      let same = c.mask_rows-masks.ensures in
       let row = o.followed.row in
       let tree = tree_of (length b.0) o.nodes in
       let longer = tree_of (length b.0) (one_node n o.nodes) in
       let walked = subst (λ (ms : MaskRows). IsWalked g.edges ms row g.roots.roots.items g.roots.first.items tree j.walk) (sym same) o.followed.walked in
       let after = subst (λ (ms : MaskRows). IsWalked g.edges ms row g.roots.roots.items g.roots.first.items longer c.step.new.self) same (c.in_ok-step.ensures.answered row tree walked c.if-branch.true) in
-      let short = last_counted g b.0 (one_node n o.nodes) (subst (λ (x : Option (List Node)). AreCounted g (b.0, x)) (opened b j.wrong j o n) counted) in
-      node_followed b j.wrong j (record j { walk = c.step.new.self; nodes = c.saturating_add-self.result }) o n refl refl o.followed.going refl refl (omega (arith, c.saturating_add-self.ensures, o.followed.number, short, length-append o.nodes (n ∷ []))) after;
+      nodes_followed b j.wrong j o (n ∷ []) (record j { walk = c.step.new.self; nodes = c.saturating_add-self.result }) refl refl o.followed.going refl refl
+      (omega (arith, c.saturating_add-self.ensures, o.followed.number, few b j.wrong j o (n ∷ []) counted)) after;
 }
 
 pub returns-else-branch-clause-heard : goal.returns-else-branch-clause-heard
 returns-else-branch-clause-heard c = λ b w. record {
-  sized = w.sized;
-  judged = λ counted.
+  sized = subst IsSizedGround (sym c.stop.ensures.ground) w.sized;
+  judged = λ enough.
       let j = c.args.self.now in
       let g = j.ground in
       let n = c.args.node in
+      let counted = subst (λ (k : Ground). AreCounted k (put_node n b)) c.stop.ensures.ground enough in
       let o = under_way b.0 b.1 j.wrong j c.if-not-self.false (w.judged (counted_less g b.0 b.1 n counted)) in
-      let same = masks_same g c.as_slice.result.now c.as_slice-2.result.now c.as_slice.ensures.value c.as_slice-2.ensures.value in
+      let same = c.mask_rows-masks.ensures in
       let row = o.followed.row in
       let tree = tree_of (length b.0) o.nodes in
       let longer = tree_of (length b.0) (one_node n o.nodes) in
       let walked = subst (λ (ms : MaskRows). IsWalked g.edges ms row g.roots.roots.items g.roots.first.items tree j.walk) (sym same) o.followed.walked in
       let first = subst (λ (ms : MaskRows). IsFirstWrongFrom g.edges ms row g.roots.roots.items g.roots.first.items longer (length o.nodes)) same (c.in_ok-step.ensures.refused row tree walked c.if-branch.false) in
-      node_refused b j.wrong j (record j { walk = c.step.new.self; under_way = false; wrong = Some (record { source = j.source; node = j.nodes }) }) o n refl refl refl refl first;
+      nodes_refused b j.wrong j o (n ∷ []) c.stop.new.self c.stop.ensures.ground (length o.nodes) j.nodes o.followed.number (omega arith) c.stop.ensures.ended c.stop.ensures.wrong first;
 }
