@@ -8,9 +8,9 @@ use Rattle.sight_names.specs.Groups.{IsInGroup}
 use Rattle.sight_names.specs.Table.{table_bit}
 use Rattle.sight_names.proofs.Lists.{contains_cases, contains_tail}
 use Rattle.pair_budget.proofs.FoundSectorsLaws.{same_or_other, pair_is}
-use Rattle.reject_bits.specs.Parts.{TableParts, Rejects}
+use Rattle.reject_bits.specs.Parts.{HasOtherBits, TableParts, Rejects}
 use Rattle.group_job.specs.Marks.{SetsMore}
-use Rattle.group_job.specs.Sectors.{AreClear, AreListed, AreListedByGroups, AreClearByGroups, AreSeenByGroups, HasClearPairs, HasOtherBits, ListsBetween, FollowGroups}
+use Rattle.group_job.specs.Sectors.{AreClear, AreListed, AreListedByGroups, AreClearByGroups, AreSeenByGroups, HasClearPairs, ListsBetween, FollowGroups}
 
 -- whether a bit is set can be told
 pub set_or_clear : (t : TableParts) (a b : ℕ) → Rejects t a b ⊎ ¬ Rejects t a b

@@ -1,5 +1,5 @@
 -- The steps by which tables of sectors are made.
-use Rattle.std.proofs.Common.{◌≡◌, ℕ, ◌<◌, ◌⊎◌, inl, inr, List, length, slice_get, Contains, Some, refl, sym, ap, ◌∙◌, subst}
+use Rattle.std.proofs.Common.{◌≡◌, ℕ, ◌⊎◌, inl, inr, List, length, slice_get, Contains, Some, refl, sym, ap, ◌∙◌, subst}
 use Rattle.std.proofs.lemmas.Option.{same_Some, slice_get_within}
 use Rattle.sight_names.specs.declared.names.Pair.{Pair}
 use Rattle.sight_names.specs.Groups.{IsInGroup}
@@ -7,7 +7,7 @@ use Rattle.face_groups.proofs.GroupsBase.Ordered.{at_contains, contains_at}
 use Rattle.pair_budget.proofs.FoundSectorsLaws.{pair_is}
 use Rattle.reject_bits.specs.Parts.{TableParts, Rejects}
 use Rattle.group_job.specs.Marks.{SetsMore, OfSteps, HasSteps}
-use Rattle.group_job.specs.Sectors.{AreListed, AreListedByGroups, HasClearPairs, HasOtherBits}
+use Rattle.group_job.specs.Sectors.{AreListed, AreListedByGroups, HasClearPairs}
 use Rattle.group_job.proofs.Marks.{sets_as, sets_then}
 use Rattle.group_job.proofs.Following.{in_table}
 
@@ -137,37 +137,3 @@ listed_set groups pairs old new = sets_as (OfSteps (ListedStep groups pairs) (le
     of_listed : (f k : ℕ) → AreListed pairs f k → OfSteps (PairStep pairs) (length pairs) f k
     of_listed f k (inl x) = let y = contains_at pairs (record { a = f; b = k }) x in (y.0, slice_get_within pairs y.0 (record { a = f; b = k }) y.1, inl y.1)
     of_listed f k (inr x) = let y = contains_at pairs (record { a = k; b = f }) x in (y.0, slice_get_within pairs y.0 (record { a = k; b = f }) y.1, inr y.1)
-
--- ---- the bits that another table hasn't
-
-abbrev pub OtherStep : TableParts → ℕ → ℕ → ℕ → ℕ → Type 0
-OtherStep marks a b c d = (c ≡ a) × (d ≡ b) × (¬ Rejects marks c d)
-
-pub other_step : (marks : TableParts) (a b : ℕ) (old new : TableParts) → ¬ Rejects marks a b → SetsMore (λ c d. (c ≡ a) × (d ≡ b)) old new → SetsMore (OtherStep marks a b) old new
-other_step marks a b old new clear = sets_as (λ c d. (c ≡ a) × (d ≡ b)) (OtherStep marks a b) old new
-    (λ c d h. (h.0, h.1, subst (λ (u : ℕ). ¬ Rejects marks u d) (sym h.0) (subst (λ (u : ℕ). ¬ Rejects marks a u) (sym h.1) clear)))
-    (λ c d h. (h.0, h.1))
-
-pub other_none : (marks : TableParts) (a b : ℕ) → Rejects marks a b → (c d : ℕ) → ¬ OtherStep marks a b c d
-other_none marks a b set c d h = h.2 (subst (λ (u : ℕ). Rejects marks u d) (sym h.0) (subst (λ (u : ℕ). Rejects marks a u) (sym h.1) set))
-
-abbrev pub OtherRowStep : TableParts → ℕ → ℕ → ℕ → Type 0
-OtherRowStep marks a c d = (c ≡ a) × (¬ Rejects marks c d)
-
-pub other_row_set : (marks : TableParts) (a n : ℕ) (old new : TableParts) → old.n ≡ n → SetsMore (OfSteps (OtherStep marks a) n) old new → SetsMore (OtherRowStep marks a) old new
-other_row_set marks a n old new size h = record {
-  sectors = h.sectors;
-  bits = λ c d lc ld. let x = h.bits c d lc ld in (
-    λ r. elim (x.0 r) as (λ _. Rejects old c d ⊎ OtherRowStep marks a c d) [ inl o ↦ inl o | inr w ↦ inr (w.2.0, w.2.2) ],
-    λ k. x.1 (elim k as (λ _. Rejects old c d ⊎ OfSteps (OtherStep marks a) n c d) [ inl o ↦ inl o | inr w ↦ inr (d, subst (λ (u : ℕ). d < u) size ld, (w.0, refl, w.1)) ]),
-  );
-}
-
-pub other_set : (marks : TableParts) (n : ℕ) (t : TableParts) → n ≡ marks.n → HasSteps (OtherRowStep marks) n n t → HasOtherBits marks t
-other_set marks n t same h = record {
-  sectors_are = h.sectors_are ∙ same;
-  bits = λ a b la lb. let x = h.bits a b (subst (λ (u : ℕ). a < u) (sym same) la) (subst (λ (u : ℕ). b < u) (sym same) lb) in (
-    λ r. (x.0 r).2.1,
-    λ c. x.1 (a, subst (λ (u : ℕ). a < u) (sym same) la, (refl, c)),
-  );
-}

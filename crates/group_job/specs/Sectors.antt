@@ -37,11 +37,6 @@ pub record HasClearPairs (t : TableParts) (groups : List (List ℕ)) (sectors : 
   pub sectors_are : marks.n ≡ sectors
   pub bits : (a b : ℕ) → a < sectors → b < sectors → Rejects marks a b ↔ AreClearByGroups t groups a b
 
--- a table of the same sectors, with the bits that the other hasn't
-pub record HasOtherBits (marks t : TableParts) : Type 0 where
-  pub sectors_are : t.n ≡ marks.n
-  pub bits : (a b : ℕ) → a < marks.n → b < marks.n → Rejects t a b ↔ (¬ Rejects marks a b)
-
 -- the pairs that have their bit in the one table and not in the other, the smaller sector first
 pub record ListsBetween (these others : TableParts) (listed : List Pair) : Type 0 where
   pub exactly : (q : Pair) → Contains listed q ↔ ((q.a < q.b) × (q.b < these.n) × Rejects these q.a q.b × (¬ Rejects others q.a q.b))

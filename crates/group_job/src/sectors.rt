@@ -4,7 +4,7 @@ ghost use Rattle.std.specs.Prelude.{◌≡◌, ℕ, ◌+◌, ◌<◌, Contains, 
 ghost use Rattle.sight_names.specs.Groups.{IsInGroup};
 ghost use Rattle.reject_bits.specs.Parts.{Rejects};
 ghost use Rattle.group_job.specs.Marks.{SetsMore};
-ghost use Rattle.group_job.specs.Sectors.{AreClear, AreListed, AreListedByGroups, AreOfSectors, ArePairsBelow, HasClearPairs, HasOtherBits, ListsBetween, FollowGroups};
+ghost use Rattle.group_job.specs.Sectors.{AreClear, AreListed, AreListedByGroups, AreOfSectors, ArePairsBelow, HasClearPairs, ListsBetween, FollowGroups};
 ghost use Rattle.group_job.specs.Rows.{ListedBefore};
 
 use cert_format::cert_groups::Group;
@@ -102,30 +102,6 @@ fn set_listed(marks: &mut Table, groups: &[Group], pairs: &[Pair])
     }
 }
 
-/// Sets those bits of a row that the other table hasn't.
-fn set_other_row(table: &mut Table, marks: &Table, a: u16)
-    requires sectors { table.old.n ≡ marks.now.n }
-    requires row { a < marks.now.n }
-    ensures { SetsMore (λ c d. (c ≡ a) × (¬ Rejects marks.now c d)) table.old table.new }
-{
-    for b in 0..marks.sectors() {
-        if !marks.rejects(a, b) {
-            table.set(a, b);
-        }
-    }
-}
-
-/// The table with the bits that this one hasn't.
-fn other_bits(alloc: Global, marks: &Table) -> Result<Table, Memory>
-    ensures { IfOk result (HasOtherBits marks.now) }
-{
-    let mut table = Table::clear(alloc, marks.sectors())?;
-    for a in 0..marks.sectors() {
-        set_other_row(&mut table, marks, a);
-    }
-    Ok(table)
-}
-
 /// Puts the pairs of one smaller sector at the end that have their bit in the one table and not in the other.
 fn list_row(listed: &mut Vec<Pair>, these: &Table, others: &Table, a: u16) -> Result<(), Memory>
     requires sectors { others.now.n ≡ these.now.n }
@@ -177,7 +153,7 @@ pub fn sector_table(
     let listed = listed_between(alloc, &marks, &seen)?;
     // the bits of listed groups are clear, so these are all clear pairs then
     set_listed(&mut seen, groups, pairs);
-    let table = other_bits(alloc, &seen)?;
+    let table = seen.others();
     Ok(SectorTable {
         table,
         listed: Items::of(listed),

@@ -36,8 +36,8 @@ returns c =
     let gs = c.as_slice-groups.result.now in
     let qs = c.as_slice-pairs.result.now in
     let follow = follow_groups t qs gs c.args.sectors (c.requires.groups ∙ ap (λ (ks : List (List ℕ)). length ks) (sym c.as_slice-groups.ensures)) (subst (AreClear t) (sym c.as_slice-pairs.ensures) c.requires.clear)
-    c.set_pairs.new.table c.in_ok-seen.seen c.in_ok-marks.marks c.set_listed.new.marks c.set_listed-2.new.marks c.in_ok-table.table c.in_ok-listed.listed.items
-    c.set_pairs.ensures c.in_ok-seen.ensures c.in_ok-marks.ensures.sectors (clear_has_none c.in_ok-marks.marks _ c.in_ok-marks.ensures.zero) c.set_listed.ensures c.in_ok-listed.ensures c.set_listed-2.ensures c.in_ok-table.ensures in
-    subst (λ (l : List Pair). FollowGroups t c.args.pairs.now c.args.groups.now c.args.sectors c.in_ok-table.table l) (sym c.of.ensures)
-    (subst (λ (ps : List Pair). FollowGroups t ps c.args.groups.now c.args.sectors c.in_ok-table.table c.in_ok-listed.listed.items) c.as_slice-pairs.ensures
-    (subst (λ (ks : List (List ℕ)). FollowGroups t qs ks c.args.sectors c.in_ok-table.table c.in_ok-listed.listed.items) c.as_slice-groups.ensures follow))
+    c.set_pairs.new.table c.in_ok-seen.seen c.in_ok-marks.marks c.set_listed.new.marks c.set_listed-2.new.marks c.others-table.result c.in_ok-listed.listed.items
+    c.set_pairs.ensures c.in_ok-seen.ensures c.in_ok-marks.ensures.sectors (clear_has_none c.in_ok-marks.marks _ c.in_ok-marks.ensures.zero) c.set_listed.ensures c.in_ok-listed.ensures c.set_listed-2.ensures c.others-table.ensures.bits in
+    subst (λ (l : List Pair). FollowGroups t c.args.pairs.now c.args.groups.now c.args.sectors c.others-table.result l) (sym c.of.ensures)
+    (subst (λ (ps : List Pair). FollowGroups t ps c.args.groups.now c.args.sectors c.others-table.result c.in_ok-listed.listed.items) c.as_slice-pairs.ensures
+    (subst (λ (ks : List (List ℕ)). FollowGroups t qs ks c.args.sectors c.others-table.result c.in_ok-listed.listed.items) c.as_slice-groups.ensures follow))
