@@ -129,6 +129,8 @@ pub fn walk_source_over<N: Notice>(
 }
 
 /// Goes on with a walk until it ends, the budget is spent, or nothing that it could still find matters.
+// by a call, so that the walk, which is in line here, has the registers to itself
+#[inline(never)]
 fn walk_on<N: Notice>(
     mut walker: Walker,
     labels: &Labels,

@@ -13,6 +13,7 @@ pub mod Sequences
 pub mod Paths
 pub mod Entering
 pub mod OnePortal
+pub mod Tracks
 pub mod Trying
 pub mod Gaps
 pub mod Covering

@@ -21,7 +21,7 @@ use Rattle.portal_walk.specs.declared.roots.Root.{Root}
 use Rattle.portal_walk.specs.declared.scene.Way.{Way as WayOut}
 use Rattle.portal_walk.specs.declared.step.Came.{Came}
 use Rattle.portal_walk.specs.declared.step.Came.TheVariants as came
-use Rattle.portal_walk.specs.Frames.{AreDone, HasWays, PathParts, Passes, first_portals, with_portal, with_ways, ways_left}
+use Rattle.portal_walk.specs.Frames.{AreDone, HasWay, HasWays, IsReady, PathParts, Passes, first_portals, with_portal, with_ways, ways_left}
 use Rattle.portal_walk.specs.Pending.{way_of, way_taken}
 use Rattle.portal_walk.specs.Scene.{SceneParts, Finds, FindsWay, IsEntry, IsNumber}
 use Rattle.portal_walk.specs.Sides.{IsRootOf}
@@ -29,7 +29,7 @@ use Rattle.portal_walk.specs.Walk.{WalkParts, IsWalk, ComesBy, IsBack, IsNoted, 
 use Rattle.portal_walk.proofs.Ends.{same_parts}
 use Rattle.portal_walk.proofs.Entering.{KeepsEnd, blocked_at, found_number, open_at, room, root_closed, root_comes, way_closed, way_comes, way_ends, way_entry, way_number}
 use Rattle.portal_walk.proofs.Lists.{get_front, last_pushed, last_set, some_of, take_front}
-use Rattle.portal_walk.proofs.Paths.{under_done, walk_over, walk_cut, walk_set, walk_opened, walk_blocked, walk_rooted}
+use Rattle.portal_walk.proofs.Paths.{no_way_before, ready_by, ready_take, under_done, walk_over, walk_cut, walk_set, walk_opened, walk_blocked, walk_rooted}
 use Rattle.portal_walk.proofs.SideLines.{all_at}
 use Rattle.portal_walk.proofs.Steps.{blocked_back, left_done, none_back, rests_of, root_ahead, root_tried, tells_at, way_ahead, way_tried}
 use Rattle.portal_walk.proofs.OnePortal.{one_splittable}
@@ -97,6 +97,19 @@ module _ (p : SceneParts) (roots : List Root) (root : Option Side) (path : PathP
   tried_ways : HasWays path (length path.frames - 1) left tried
   tried_ways f here = ap (λ (g : Frame). let q : PathParts = record { frames = slice_set path.frames (length path.frames - 1) (with_ways g left); ends = path.ends } in q) (same_Some top f (sym at ∙ here))
 
+  pub tried_ready : 0 < ways_left left → IsReady tried.frames
+  tried_ready some_left = ready_by tried.frames (with_ways top left) (last_set path.frames top (with_ways top left) at) some_left
+
+  -- the portal before one that is entered, and the last one that stays when it is left
+  pub under_left : (n : ℕ) → n ≡ length path.frames → 0 < ways_left left → HasWay tried.frames n
+  under_left n is some_left j f next here = tried_ready some_left j f (as_long ∙ sym is ∙ next) here
+
+  pub under_right : HasWay tried.frames top.under
+  under_right = (mid_is.under (length tried.frames - 1) (with_ways top left) (last_set path.frames top (with_ways top left) at)).2
+
+  pub left_ready : (q : PathParts) → q ≡ first_portals top.under path → IsReady q.frames
+  left_ready q is = subst (λ (r : PathParts). IsReady r.frames) (sym is) (ready_take path.frames top.under stays_in (i.under (length path.frames - 1) top at).2)
+
   pub left_walk : (q : PathParts) → q ≡ first_portals top.under path → IsWalk (walk_over p roots root q.frames q.ends nodes)
   left_walk q is = walk_cut p roots root path nodes q top.under i is stays_in (omega (arith, there))
 
@@ -113,6 +126,12 @@ module _ (p : SceneParts) (roots : List Root) (root : Option Side) (path : PathP
 
     pub none_walk : (q : PathParts) → HasWays path (length path.frames - 1) left q → IsWalk (walk_over p roots root q.frames q.ends nodes)
     none_walk q is = walk_set p roots root path nodes q top (with_ways top left) i at refl refl (is top at)
+
+    pub none_top : (q : PathParts) → HasWays path (length path.frames - 1) left q → slice_get q.frames (length q.frames - 1) ≡ Some (with_ways top left)
+    none_top q is = ap (λ (r : PathParts). slice_get r.frames (length r.frames - 1)) (is top at) ∙ last_set path.frames top (with_ways top left) at
+
+    pub none_ready : (q : PathParts) → HasWays path (length path.frames - 1) left q → 0 < ways_left left → IsReady q.frames
+    none_ready q is some_left = ready_by q.frames (with_ways top left) (none_top q is) some_left
 
     -- one can't leave by the way, which is the last
     pub none_left : found ≡ None → ways_left left ≡ 0 → (q : PathParts) → q ≡ first_portals top.under path → Tries old (walk_over p roots root q.frames q.ends nodes) (Ok None)
@@ -150,6 +169,9 @@ module _ (p : SceneParts) (roots : List Root) (root : Option Side) (path : PathP
           back_to : q ≡ first_portals top.under path
           back_to = is ∙ ap (first_portals top.under) passes.0
 
+          pub stuck_ready : IsReady q.frames
+          stuck_ready = left_ready q back_to
+
           pub stuck_walk : IsWalk (walk_over p roots root q.frames q.ends later)
           stuck_walk = walk_cut p roots root path later q top.under
               (walk_blocked p roots root path nodes root path later (BlockedNode evidence) i refl noted (passes.1.pairs, passes.1.evidence) (i.rooted (omega (arith, there))) i.exit (λ l. refl)) back_to stays_in (omega (arith, there))
@@ -164,7 +186,7 @@ module _ (p : SceneParts) (roots : List Root) (root : Option Side) (path : PathP
               (omega (arith, tried_under)) (done_tried last) (ap (λ (r : PathParts). r.frames) back_to ∙ front_same) refl refl refl
 
       -- the portal was tried, and its node noted
-      module _ (next : Frame) (edge : next.edge ≡ number) (both : next.ways ≡ Both) (stays : next.under ≤ length tried.frames) (done : AreDone tried.frames next.under (length tried.frames))
+      module _ (next : Frame) (edge : next.edge ≡ number) (both : next.ways ≡ Both) (stays : next.under ≤ length tried.frames) (done : AreDone tried.frames next.under (length tried.frames)) (has : HasWay tried.frames next.under)
           (count : ℕ) (counts : count ≡ length path.frames) (between after : PathParts) (later : List Node) (passed : Passed) (passes : Passes path between next (ends_of y) (Ok passed)) (is_line : Bool) (tells : is_line ≡ is_some y.entered) where
         abbrev pub new : WalkParts
         new = walk_over p roots root after.frames after.ends later
@@ -210,7 +232,7 @@ module _ (p : SceneParts) (roots : List Root) (root : Option Side) (path : PathP
         way_walk (Ok (Some came.End)) h = absurd h
         way_walk (Ok (Some (came.Open told))) h =
             let set = set_open h.0 h.3 in
-            walk_opened p roots root tried nodes root after later OpenNode next y mid_is set.0 h.2 tt (i.rooted (omega (arith, there))) i.exit (λ l. refl) stays done (room mid side y mid_is comes set.1) next_number next_there
+            walk_opened p roots root tried nodes root after later OpenNode next y mid_is set.0 h.2 tt (i.rooted (omega (arith, there))) i.exit (λ l. refl) stays done has (room mid side y mid_is comes set.1) next_number next_there
             (λ d r. subst (λ (s : Side). ComesBy p.plan p.mesh.triangles p.labels p.source (tried_by mid s) y (path.ends ++ ends_of y ∷ [])) (same_Some side d (sym rooted.1 ∙ r)) comes)
         way_walk (Ok (Some (came.Blocked evidence))) h =
             let set = set_stuck evidence h.0 h.2 in
@@ -240,6 +262,26 @@ module _ (p : SceneParts) (roots : List Root) (root : Option Side) (path : PathP
               ap (λ (q : PathParts). q.frames) set.0,
               blocked_at mid side y evidence comes set.1.no_line set.1.blocks,
             )
+
+        -- the last portal has a way left, where this is so of the one before a portal that no line passes
+        pub way_ready : IsReady path.frames → ((evidence : Evidence) → passed ≡ Stuck evidence → 0 < ways_left left) → (result : Result (Option Came) Memory) → IsNoted count left is_line between after nodes later passed result → IsReady after.frames
+        way_ready ready stuck (Err r) h = subst (λ (q : PathParts). IsReady q.frames) (sym (back passed passes h.1)) ready
+        way_ready ready stuck (Ok None) h = absurd h
+        way_ready ready stuck (Ok (Some came.End)) h = absurd h
+        way_ready ready stuck (Ok (Some (came.Open told))) h =
+            let set = set_open h.0 h.3 in
+            let frames = ap (λ (q : PathParts). q.frames) set.0 in
+            ready_by after.frames next (ap (λ (fs : List Frame). slice_get fs (length fs - 1)) frames ∙ last_pushed tried.frames next) (subst (λ (w : Ways). 0 < ways_left w) (sym both) (omega arith))
+        way_ready ready stuck (Ok (Some (came.Blocked evidence))) h =
+            let set = set_stuck evidence h.0 h.2 in
+            subst (λ (q : PathParts). IsReady q.frames) (sym set.0) (tried_ready (stuck evidence h.0))
+
+pub open_not_stuck : (e : Evidence) → ¬ (PassedOpen ≡ Stuck e)
+open_not_stuck e same = cc
+
+-- a node that is noted is told
+pub noted_told : (n : ℕ) (w : Ways) (b : Bool) (old new : PathParts) (ms ns : List Node) (passed : Passed) (r : Result (Option Came) Memory) → IsNoted n w b old new ms ns passed r → ¬ (r ≡ Ok None)
+noted_told n w b old new ms ns passed r h e = subst (IsNoted n w b old new ms ns passed) e h
 
 -- a portal behind the left way is left for the one before it
 pub left_done_under : (fs : List Frame) (n : ℕ) → n ≡ length fs → AreDone fs n (length fs)
@@ -303,7 +345,7 @@ module _ (p : SceneParts) (roots : List Root) (root : Option Side) (path : PathP
 
       pub root_walk : (less : List Root) → less ≡ popped_roots → IsWalk (walk_over p less (Some r.side) q.frames q.ends later)
       root_walk less fewer = walk_rooted p roots (Some r.side) q later less
-          (walk_opened p roots root path nodes (Some r.side) q later OpenNode first y i grown noted tt refl is_root.exit (λ l. absurd (not_there l)) (omega (arith, under)) none_before (room start r.side y i comes_first split)
+          (walk_opened p roots root path nodes (Some r.side) q later OpenNode first y i grown noted tt refl is_root.exit (λ l. absurd (not_there l)) (omega (arith, under)) none_before (no_way_before path.frames first.under under) (room start r.side y i comes_first split)
           (subst (IsNumber p.mesh.triangles) (sym edge) (rw e at root_number)) first_there
           (λ d h. subst (λ (s : Side). ComesBy p.plan p.mesh.triangles p.labels p.source (tried_by start s) y (path.ends ++ ends_of y ∷ [])) (same_Some r.side d h) comes_first))
           (All-same (IsRootOf p.plan p.source) less popped_roots fewer (All-take (IsRootOf p.plan p.source) (length roots - 1) roots i.exits))
@@ -313,6 +355,9 @@ module _ (p : SceneParts) (roots : List Root) (root : Option Side) (path : PathP
             where
               nothing : (n : ℕ) → n ≡ 0 → 0 < n → ⊥
               nothing n e l = omega arith
+
+      pub root_ready : IsReady q.frames
+      root_ready = ready_by q.frames first (ap (λ (s : PathParts). slice_get s.frames (length s.frames - 1)) grown ∙ last_pushed path.frames first) (subst (λ (w : Ways). 0 < ways_left w) (sym both) (omega arith))
 
       pub root_opened : (less : List Root) → less ≡ popped_roots → (is_line : Bool) → is_line ≡ is_some y.entered → Tries start (walk_over p less (Some r.side) q.frames q.ends later) (Ok (Some (came.Open is_line)))
       root_opened less fewer is_line tells =

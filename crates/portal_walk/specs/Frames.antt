@@ -4,6 +4,8 @@ use Rattle.sight_names.specs.declared.names.Memory.{Memory}
 use Rattle.sight_names.specs.Splitting.{EndPoints, IsSplittable}
 use Rattle.stab_hull.specs.declared.Passed.{Passed}
 use Rattle.stab_hull.specs.declared.Passed.TheVariants.{Open, Stuck}
+use Rattle.stab_hull.specs.declared.onward.Told.{Told}
+use Rattle.stab_hull.specs.declared.onward.Told.TheVariants as told
 use Rattle.stab_hull.specs.Answer.{IsBarredBy}
 use Rattle.portal_walk.specs.declared.path.Frame.{Frame}
 use Rattle.portal_walk.specs.declared.path.Ways.{Ways}
@@ -49,9 +51,17 @@ first_portals n p = record { frames = take n p.frames; ends = take n p.ends }
 abbrev pub AreDone : List Frame → ℕ → ℕ → Type 0
 AreDone fs n k = (j : ℕ) (f : Frame) → n ≤ j → j < k → slice_get fs j ≡ Some f → ways_left f.ways ≡ 0
 
--- of each portal: those before it that don't stay when it is left have no way left
+-- of the first n portals the last one, if any, has a way left
+abbrev pub HasWay : List Frame → ℕ → Type 0
+HasWay fs n = (j : ℕ) (f : Frame) → n ≡ j + 1 → slice_get fs j ≡ Some f → 0 < ways_left f.ways
+
+-- of each portal: those before it that don't stay when it is left have no way left, and the last one that stays has one
 abbrev pub AreUnder : List Frame → Type 0
-AreUnder fs = (k : ℕ) (f : Frame) → slice_get fs k ≡ Some f → (f.under ≤ k) × AreDone fs f.under k
+AreUnder fs = (k : ℕ) (f : Frame) → slice_get fs k ≡ Some f → (f.under ≤ k) × AreDone fs f.under k × HasWay fs f.under
+
+-- the last portal has a way left
+abbrev pub IsReady : List Frame → Type 0
+IsReady fs = HasWay fs (length fs)
 
 -- the path, and one more portal with these ends
 abbrev pub with_portal : PathParts → Frame → EndPoints → PathParts
@@ -62,3 +72,10 @@ abbrev pub Passes : PathParts → PathParts → Frame → EndPoints → Result P
 Passes old new f e (Ok Open) = (new ≡ with_portal old f e) × IsSplittable (old.ends ++ e ∷ [])
 Passes old new f e (Ok (Stuck evidence)) = (new ≡ old) × IsBarredBy (old.ends ++ e ∷ []) evidence
 Passes old new f e (Err r) = new ≡ old
+
+-- the same of a portal that may have to be searched for: then the path is as before
+abbrev pub Tells : PathParts → PathParts → Frame → EndPoints → Result Told Memory → Type 0
+Tells old new f e (Ok told.Open) = Passes old new f e (Ok Open)
+Tells old new f e (Ok (told.Stuck evidence)) = Passes old new f e (Ok (Stuck evidence))
+Tells old new f e (Ok told.Unseen) = new ≡ old
+Tells old new f e (Err r) = new ≡ old

@@ -4,10 +4,10 @@ ghost use Rattle.std.specs.Prelude.{◌≡◌, ◌≢◌, ◌+◌, ◌-◌, ◌<
 ghost use Rattle.sight_names.specs.Splitting.{SplitsEnds, IsSplittable};
 ghost use Rattle.stab_hull.specs.Answer.{IsLineInRange};
 ghost use Rattle.stab_hull.specs.Sleeves.{HasLastLeft, HasLastRight};
-ghost use Rattle.portal_walk.specs.Frames.{Passes, HasWays, first_portals};
+ghost use Rattle.portal_walk.specs.Frames.{Passes, Tells, HasWays, first_portals};
 
 use sight_names::{Memory, Pt, RIGHT_END};
-use stab_hull::{Passed, Sleeve};
+use stab_hull::{Passed, Told, Track};
 use std::alloc::Global;
 use std::marker::Model;
 
@@ -31,37 +31,18 @@ pub struct Frame {
 /// The portals that were entered, in order, with their ends.
 #[derive(Drop)]
 pub struct Path {
-    frames: Vec<Frame>,
-    ends: Sleeve,
+    track: Track<Frame>,
 }
 
 impl Model for Path {
-    ghost use Rattle.std.specs.Prelude.{◌≡◌, length};
+    ghost use Rattle.stab_hull.specs.Sleeves.{IsTrack, ends_of, notes_of};
     ghost use Rattle.portal_walk.specs.Frames.{PathParts};
 
     ghost Value = { PathParts };
 
-    ghost view = { λ p. record { frames = p.frames.items; ends = p.ends } };
+    ghost view = { λ p. record { frames = notes_of p.track; ends = ends_of p.track } };
 
-    ghost invariant = { λ p. length p.ends ≡ length p.frames.items };
-}
-
-/// Notes a portal whose ends are there, or takes these away.
-#[inline(always)]
-fn note(frames: &mut Vec<Frame>, ends: &mut Sleeve, frame: Frame) -> Result<(), Memory>
-    requires { length ends.old ≡ length frames.old.items + 1 }
-    ensures ok { OnOk result (frames.new.items ≡ frames.old.items ++ frame ∷ []) }
-    ensures ok_ends { OnOk result (ends.new ≡ ends.old) }
-    ensures err { OnErr result (frames.new.items ≡ frames.old.items) }
-    ensures err_ends { OnErr result (ends.new ≡ take (length frames.old.items) ends.old) }
-{
-    match frames.push(frame) {
-        Ok(()) => Ok(()),
-        Err(_) => {
-            ends.cut(frames.len());
-            Err(Memory)
-        }
-    }
+    ghost invariant = { λ p. IsTrack p.track };
 }
 
 impl Path {
@@ -70,8 +51,7 @@ impl Path {
         ensures { result ≡ record { frames = []; ends = [] } }
     {
         Path {
-            frames: Vec::new(alloc),
-            ends: Sleeve::new(alloc),
+            track: Track::new(alloc),
         }
     }
 
@@ -79,14 +59,17 @@ impl Path {
     pub fn len(&self) -> usize
         ensures { result ≡ length self.now.frames }
     {
-        self.frames.len()
+        self.track.portals.len()
     }
 
     /// The last portal.
     pub fn top(&self) -> Option<Frame>
         ensures { result ≡ slice_get self.now.frames (length self.now.frames - 1) }
     {
-        self.frames.as_slice().last().copied()
+        match self.track.portals.as_slice().last() {
+            Some(portal) => Some(portal.note),
+            None => None,
+        }
     }
 
     /// Writes the ways that a portal has left.
@@ -95,7 +78,7 @@ impl Path {
         requires { at < length self.old.frames }
         ensures { HasWays self.old at ways self.new }
     {
-        self.frames[at].ways = ways;
+        self.track.portals[at].note.ways = ways;
     }
 
     /// Takes the portals behind the first ones away.
@@ -104,8 +87,7 @@ impl Path {
         requires { count ≤ length self.old.frames }
         ensures { self.new ≡ first_portals count self.old }
     {
-        self.frames.truncate(count);
-        self.ends.cut(count);
+        self.track.cut(count);
     }
 
     /// Enters the portal of a root with these ends.
@@ -115,42 +97,41 @@ impl Path {
         ensures ok { OnOk result (self.new ≡ record { frames = frame ∷ []; ends = record { left = left; right = right } ∷ [] }) }
         ensures err { OnErr result (self.new ≡ self.old) }
     {
-        self.frames.reserve(1)?;
-        self.ends.begin(left, right)?;
-        self.frames.push_reserved(frame);
-        Ok(())
+        self.track.begin(frame, left, right)
     }
 
     /// Enters a portal from the last left end to this right end where a line splits the ends of the whole path, else
-    /// tells ends that show that none does.
+    /// tells ends that show that none does, or that it has to be searched for.
     // in line, since a call would take what comes of it through memory
     #[inline(always)]
-    pub fn by_left(&mut self, frame: Frame, left: Pt, right: Pt) -> Result<Passed, Memory>
+    pub fn by_left(&mut self, frame: Frame, left: Pt, right: Pt) -> Result<Told, Memory>
         requires last { HasLastLeft self.old.ends left }
         requires proper { left ≢ right }
         requires room { length self.old.frames < RIGHT_END }
-        ensures passes { Passes self.old self.new frame (record { left = left; right = right }) result }
+        ensures tells { Tells self.old self.new frame (record { left = left; right = right }) result }
     {
-        let passed = self.ends.by_left(left, right)?;
-        if let Passed::Open = passed {
-            note(&mut self.frames, &mut self.ends, frame)?;
-        }
-        Ok(passed)
+        self.track.by_left(frame, left, right)
     }
 
     /// The same from this left end to the last right end.
     #[inline(always)]
-    pub fn by_right(&mut self, frame: Frame, left: Pt, right: Pt) -> Result<Passed, Memory>
+    pub fn by_right(&mut self, frame: Frame, left: Pt, right: Pt) -> Result<Told, Memory>
         requires last { HasLastRight self.old.ends right }
+        requires proper { left ≢ right }
+        requires room { length self.old.frames < RIGHT_END }
+        ensures tells { Tells self.old self.new frame (record { left = left; right = right }) result }
+    {
+        self.track.by_right(frame, left, right)
+    }
+
+    /// The same of either by a search, which the first portals need.
+    pub fn by_search(&mut self, frame: Frame, left: Pt, right: Pt) -> Result<Passed, Memory>
+        requires there { 0 < length self.old.frames }
         requires proper { left ≢ right }
         requires room { length self.old.frames < RIGHT_END }
         ensures passes { Passes self.old self.new frame (record { left = left; right = right }) result }
     {
-        let passed = self.ends.by_right(left, right)?;
-        if let Passed::Open = passed {
-            note(&mut self.frames, &mut self.ends, frame)?;
-        }
-        Ok(passed)
+        self.track.by_search(frame, left, right)
     }
 
     /// A line that splits the ends.
@@ -160,6 +141,6 @@ impl Path {
         ensures splits { SplitsEnds self.now.ends result.0 result.1 result.2 }
         ensures range { IsLineInRange result.0 result.1 result.2 }
     {
-        self.ends.line()
+        self.track.line()
     }
 }

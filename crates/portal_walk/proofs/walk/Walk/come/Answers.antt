@@ -1,6 +1,8 @@
-use Rattle.std.proofs.Common.{sym, ap, ◌∙◌}
+use Rattle.std.proofs.Common.{Some, arith, sym, ap, ◌∙◌}
+use Rattle.portal_walk.specs.declared.path.Frame.{Frame}
 use Rattle.portal_walk.specs.Walk.{WalkParts}
 use Rattle.portal_walk.proofs.Steps.{on_err, rests_both, same_walk_both, comes_after}
+use Rattle.portal_walk.proofs.Paths.{ready_top}
 use Rattle.portal_walk.proofs.Weights.{no_top}
 use Rattle.portal_walk.proofs.walk.Walk.come.Goals as goal
 
@@ -26,48 +28,56 @@ loop-self-preserved-in_default c =
       rests = rests_both c.args.self.now c.loop-self.self c.try_root.new.self i.walk i.rests tries.0;
     }
 
-pub returns-in_err-came-in-Both-clause-memory : goal.returns-in_err-came-in-Both-clause-memory
-returns-in_err-came-in-Both-clause-memory c =
+pub returns-in_err-came-in-Some-clause-memory : goal.returns-in_err-came-in-Some-clause-memory
+returns-in_err-came-in-Some-clause-memory c =
     let i = c.loop-self.invariant in
-    on_err c.from_residual-in_err-came-in-Both.result (rests_both c.args.self.now c.loop-self.self c.try_left.new.self i.walk i.rests c.in_err-came-in-Both.ensures.tries.0)
+    on_err c.from_residual-in_err-came-in-Some.result (rests_both c.args.self.now c.loop-self.self c.left_first.new.self i.walk i.rests c.in_err-came-in-Some.ensures.tries.0)
 
 pub returns-in-Some-3-clause-came : goal.returns-in-Some-3-clause-came
 returns-in-Some-3-clause-came c =
     let i = c.loop-self.invariant in
-    comes_after c.args.self.now c.loop-self.self c.try_left.new.self c.in-Some-3.came i.walk i.rests (rw c.in-Some-3.is at c.in_ok-came-in-Both.ensures.tries)
+    comes_after c.args.self.now c.loop-self.self c.left_first.new.self c.in-Some-3.came i.walk i.rests (rw c.in-Some-3.is at c.in_ok-came-in-Some.ensures.tries)
 
-pub loop-self-preserved-in_default-2 : goal.loop-self-preserved-in_default-2
-loop-self-preserved-in_default-2 c =
-    let i = c.loop-self.invariant in
-    let tries = rw c.in_default-2.is at c.in_ok-came-in-Both.ensures.tries in
-    record {
-      walk = same_walk_both c.args.self.now c.loop-self.self c.try_left.new.self i.walk c.in_ok-came-in-Both.ensures.walk;
-      rests = rests_both c.args.self.now c.loop-self.self c.try_left.new.self i.walk i.rests tries.0;
-    }
+pub left_first-requires-clause-ready : goal.left_first-requires-clause-ready
+left_first-requires-clause-ready c = ready_top c.self.inside.path.frames c.in-Some.frame c.self.invariant.ready (sym c.in-Some.ensures)
 
-pub returns-in_err-came-in-RightOnly-clause-memory : goal.returns-in_err-came-in-RightOnly-clause-memory
-returns-in_err-came-in-RightOnly-clause-memory c =
+pub try_right-requires-clause-top : goal.try_right-requires-clause-top
+try_right-requires-clause-top c =
+    let left = rw c.in_default-2.is at c.in_ok-came-in-Some.ensures.tries in
+    left.2 ∙ ap (λ (f : Frame). Some f) (sym c.right_only.ensures)
+
+pub returns-in_err-came-in-Some-2-clause-memory : goal.returns-in_err-came-in-Some-2-clause-memory
+returns-in_err-came-in-Some-2-clause-memory c =
     let i = c.loop-self.invariant in
-    on_err c.from_residual-in_err-came-in-RightOnly.result (rests_both c.args.self.now c.loop-self.self c.try_right.new.self i.walk i.rests c.in_err-came-in-RightOnly.ensures.tries.0)
+    let left = rw c.in_default-2.is at c.in_ok-came-in-Some.ensures.tries in
+    let walk = same_walk_both c.args.self.now c.loop-self.self c.left_first.new.self i.walk c.in_ok-came-in-Some.ensures.walk in
+    let rests = rests_both c.args.self.now c.loop-self.self c.left_first.new.self i.walk i.rests left.0 in
+    on_err c.from_residual-in_err-came-in-Some-2.result (rests_both c.args.self.now c.left_first.new.self c.try_right.new.self walk rests c.in_err-came-in-Some-2.ensures.tries.0)
 
 pub returns-in-Some-4-clause-came : goal.returns-in-Some-4-clause-came
 returns-in-Some-4-clause-came c =
     let i = c.loop-self.invariant in
-    comes_after c.args.self.now c.loop-self.self c.try_right.new.self c.in-Some-4.came i.walk i.rests (rw c.in-Some-4.is at c.in_ok-came-in-RightOnly.ensures.tries)
-
-pub loop-self-preserved-in_default-3 : goal.loop-self-preserved-in_default-3
-loop-self-preserved-in_default-3 c =
-    let i = c.loop-self.invariant in
-    let tries = rw c.in_default-3.is at c.in_ok-came-in-RightOnly.ensures.tries in
-    record {
-      walk = same_walk_both c.args.self.now c.loop-self.self c.try_right.new.self i.walk c.in_ok-came-in-RightOnly.ensures.walk;
-      rests = rests_both c.args.self.now c.loop-self.self c.try_right.new.self i.walk i.rests tries.0;
-    }
+    let left = rw c.in_default-2.is at c.in_ok-came-in-Some.ensures.tries in
+    let walk = same_walk_both c.args.self.now c.loop-self.self c.left_first.new.self i.walk c.in_ok-came-in-Some.ensures.walk in
+    let rests = rests_both c.args.self.now c.loop-self.self c.left_first.new.self i.walk i.rests left.0 in
+    comes_after c.args.self.now c.left_first.new.self c.try_right.new.self c.in-Some-4.came walk rests (rw c.in-Some-4.is at c.in_ok-came-in-Some-2.ensures.tries)
 
 pub loop-self-preserved : goal.loop-self-preserved
 loop-self-preserved c =
     let i = c.loop-self.invariant in
+    let left = rw c.in_default-2.is at c.in_ok-came-in-Some.ensures.tries in
+    let walk = same_walk_both c.args.self.now c.loop-self.self c.left_first.new.self i.walk c.in_ok-came-in-Some.ensures.walk in
+    let rests = rests_both c.args.self.now c.loop-self.self c.left_first.new.self i.walk i.rests left.0 in
+    let right = rw c.in_default-3.is at c.in_ok-came-in-Some-2.ensures.tries in
     record {
-      walk = same_walk_both c.args.self.now c.loop-self.self c.go_back.new.self i.walk c.go_back.ensures.walk;
-      rests = rests_both c.args.self.now c.loop-self.self c.go_back.new.self i.walk i.rests c.go_back.ensures.tries.0;
+      walk = same_walk_both c.args.self.now c.left_first.new.self c.try_right.new.self walk c.in_ok-came-in-Some-2.ensures.walk;
+      rests = rests_both c.args.self.now c.left_first.new.self c.try_right.new.self walk rests right.0;
     }
+
+pub loop-self-smaller : goal.loop-self-smaller
+loop-self-smaller c =
+    let left = rw c.in_default-2.is at c.in_ok-came-in-Some.ensures.tries in
+    let right = rw c.in_default-3.is at c.in_ok-came-in-Some-2.ensures.tries in
+    let less = right.1 in
+    let no_more = left.1 in
+    omega (arith, less, no_more)

@@ -11,7 +11,7 @@ unwrap-requires c = subst IsSome (sym (c.top.ensures ∙ ap (λ (w : WalkParts).
 pub get-requires : goal.get-requires
 get-requires c =
     let s = c.self.inside in
-    all_at (λ (f : Frame). IsNumber s.scene.mesh.triangles f.edge) s.path.frames (length s.path.frames - 1) c.unwrap.result c.self.invariant.numbered (sym c.top.ensures ∙ c.unwrap.ensures)
+    all_at (λ (f : Frame). IsNumber s.scene.mesh.triangles f.edge) s.path.frames (length s.path.frames - 1) c.unwrap.result c.self.invariant.walk.numbered (sym c.top.ensures ∙ c.unwrap.ensures)
 
 pub returns : goal.returns
 returns c = subst (λ (w : WalkParts). IsTop w c.get.result.now) c.self.view_is (c.unwrap.result, sym c.top.ensures ∙ c.unwrap.ensures, c.get.ensures)

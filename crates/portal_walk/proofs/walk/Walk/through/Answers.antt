@@ -8,7 +8,7 @@ use Rattle.portal_walk.specs.Roots.{roots_in, side_of}
 use Rattle.portal_walk.specs.Scene.{SceneParts}
 use Rattle.portal_walk.specs.Sides.{IsRootOf}
 use Rattle.portal_walk.specs.Walk.{IsWalk}
-use Rattle.portal_walk.proofs.Paths.{walk_over, walk_begins}
+use Rattle.portal_walk.proofs.Paths.{ready_none, walk_over, walk_begins}
 use Rattle.portal_walk.proofs.walk.Walk.through.Goals as goal
 
 pub of_source-requires : goal.of_source-requires
@@ -20,8 +20,11 @@ invariant_of-result c =
     let roots = c.in_ok-roots.roots.items in
     let is = c.in_ok-roots.ensures ∙ ap (λ (xs : List (List Root)). reverse (roots_in xs c.args.source)) c.roots.ensures in
     let exits = subst (All (IsRootOf c.args.plan.now c.args.source)) (sym is) (all_reversed (IsRootOf c.args.plan.now c.args.source) (roots_in c.args.terrain.now.roots c.args.source) (c.requires.terrain.roots.exits c.args.source c.requires.source)) in
-    subst (λ (q : SceneParts). IsWalk (walk_over q roots None c.new.result.frames c.new.result.ends c.new-2.result)) (sym c.of.ensures)
-    (walk_begins p roots c.new.result.frames c.new.result.ends c.new-2.result c.requires.audited c.lines-lines.ensures.plan c.requires.good c.requires.source c.few_triangles.ensures exits (ap (λ (q : PathParts). q.frames) c.new.ensures) (ap (λ (q : PathParts). q.ends) c.new.ensures) c.new-2.ensures)
+    record {
+      walk = subst (λ (q : SceneParts). IsWalk (walk_over q roots None c.new.result.frames c.new.result.ends c.in_ok-nodes.nodes)) (sym c.of.ensures)
+          (walk_begins p roots c.new.result.frames c.new.result.ends c.in_ok-nodes.nodes c.requires.audited c.lines-lines.ensures.plan c.requires.good c.requires.source c.few_triangles.ensures exits (ap (λ (q : PathParts). q.frames) c.new.ensures) (ap (λ (q : PathParts). q.ends) c.new.ensures) c.in_ok-nodes.ensures);
+      ready = ready_none c.new.result.frames (ap (λ (q : PathParts). q.frames) c.new.ensures);
+    }
 
 pub returns-clause-pending : goal.returns-clause-pending
 returns-clause-pending c =
