@@ -1,6 +1,6 @@
 //! What is kept of the parts that have come.
 
-ghost use Rattle.std.specs.Prelude.{◌≡◌, true, IfOk};
+ghost use Rattle.std.specs.Prelude.{◌≡◌, ◌∷◌, ◌++◌, [], true, IfOk, OnOk};
 ghost use Rattle.sight_names.specs.Plan.{PlanParts};
 ghost use Rattle.cert_format.specs.declared.cert_groups.cert.AnyCert.{AnyCert};
 ghost use Rattle.group_checker.specs.Judged.{JudgesAny};
@@ -19,6 +19,9 @@ use reject_bits::Table;
 use sight_names::{Memory, Pair, PairRay, Plan};
 use std::alloc::Global;
 
+/// So many rays have room from the first one on, as far as a map has pairs: those of most maps.
+const MANY_RAYS: usize = 32_768;
+
 /// The groups, the triangles, the rays and the listed pairs so far, and how far they and the trees are judged.
 #[derive(Drop)]
 pub struct Kept {
@@ -27,6 +30,19 @@ pub struct Kept {
     rays: Vec<PairRay>,
     listed: Vec<Pair>,
     stage: Stage,
+}
+
+/// Keeps one ray more, of a map of so many sectors.
+// rays are many, and a list that is moved while it grows leaves holes as large behind: room that none takes is never touched
+fn keep_ray(rays: &mut Vec<PairRay>, sectors: u16, ray: PairRay) -> Result<(), Memory>
+    ensures { OnOk result (rays.new.items ≡ rays.old.items ++ ray ∷ []) }
+{
+    if rays.is_empty() {
+        let pairs = sectors as usize * sectors as usize / 2;
+        rays.reserve(pairs.min(MANY_RAYS))?;
+    }
+    rays.push(ray)?;
+    Ok(())
 }
 
 impl Kept {
@@ -66,7 +82,7 @@ impl Kept {
         ensures { (groups : GroupsOf) (h : Heard) → h.closed ≡ true → IsKept plan.now groups h self.old → IfOk result (λ _. IsKept plan.now groups (with_ray ray h) self.new) }
     {
         self.stage.hear_ray(plan, &ray);
-        self.rays.push(ray)?;
+        keep_ray(&mut self.rays, plan.sectors, ray)?;
         Ok(())
     }
 
