@@ -7,14 +7,10 @@ use Rattle.reject_bits.specs.Parts.{TableParts}
 use Rattle.any_judge.specs.Course.{IsTold}
 use Rattle.any_judge.specs.declared.versed.Versed.{Versed}
 use Rattle.any_judge.specs.declared.versed.Versed.TheVariants as versed
-use Rattle.any_judge.specs.Versed.{HasTaken, IsFilled, IsVersed, MayTake}
+use Rattle.any_judge.specs.Versed.{HasTaken, IsVersed, MayTake}
 use Rattle.any_judge.proofs.Versions.{begins_on, begins_only}
 
 module _ (p : PlanParts) (t : TableParts) (bytes : List ℕ) where
-  pub filled : (v : Versed) → HasTaken p t bytes v → t.n ≡ p.sectors → IsFilled v
-  filled (versed.Listing j) h fits = record { plan = p; table = t; bytes = bytes; fed = h; fits = fits }
-  filled (versed.Exact j) h fits = record { plan = p; table = t; bytes = bytes; fed = h; fits = fits }
-
   pub may_take : (v : Versed) (piece : List ℕ) → HasTaken p t bytes v → length bytes + length piece < 2 ^ 63 → MayTake piece v
   may_take (versed.Listing j) piece h few = record { plan = p; table = t; bytes = bytes; fed = h; few = few }
   may_take (versed.Exact j) piece h few = record { plan = p; table = t; bytes = bytes; fed = h; few = few }

@@ -33,6 +33,7 @@ use Rattle.gate_floods.specs.RowJudge.Words.{both_words, has_bit, is_away, is_in
 use Rattle.gate_floods.specs.RowJudge.Asked.{Pending, Answers, AreAnswered, IsFirstWrong, ends_through, leaves, left_of, mask_at, pending_roots, pending_way, row_through, way_asked, ways_through, with_rest}
 use Rattle.gate_floods.specs.RowJudge.Laws.{AreMasks, IsMaskOf}
 use Rattle.gate_floods.proofs.RowJudge.Bits.{bit_found, found_bit, in_both, in_each}
+use Rattle.exact_checker.proofs.Owned.{same_values}
 
 -- ---- rows of the same bits
 
@@ -45,11 +46,6 @@ HaveSameBits r s = (c : ℕ) → (bit_of r c ≡ 1) ↔ (bit_of s c ≡ 1)
 turned : (r s : List ℕ) → HaveSameBits r s → HaveSameBits s r
 turned r s h = λ c. ((h c).1, (h c).0)
 
-same_bool : (b c : Bool) → (b ≡ true → c ≡ true) → (c ≡ true → b ≡ true) → b ≡ c
-same_bool true c f g = sym (f refl)
-same_bool false true f g = g refl
-same_bool false false f g = refl
-
 both_to : (r s a b : List ℕ) → HaveSameBits r s → HaveSameBits a b → (c : ℕ) → bit_of (both_words r a) c ≡ 1 → bit_of (both_words s b) c ≡ 1
 both_to r s a b h m c e = let x = in_each r a c e in in_both s b c ((h c).0 x.0) ((m c).0 x.1)
 
@@ -60,14 +56,14 @@ has_to : (r s : List ℕ) → HaveSameBits r s → has_bit r ≡ true → has_bi
 has_to r s h e = let f = found_bit r e in bit_found s f.0 ((h f.0).0 f.1)
 
 has_same : (r s : List ℕ) → HaveSameBits r s → has_bit r ≡ has_bit s
-has_same r s h = same_bool (has_bit r) (has_bit s) (has_to r s h) (has_to s r (turned r s h))
+has_same r s h = same_values (has_bit r) (has_bit s) (has_to r s h) (has_to s r (turned r s h))
 
 in_to : (r s : List ℕ) (c : ℕ) → HaveSameBits r s → is_in r c ≡ true → is_in s c ≡ true
 in_to r s c h e = tells_same (bit_of s c) 1 ((h c).0 (is_told_same (bit_of r c) 1 e))
 
 away_same : (r s : List ℕ) (o : Option ℕ) → HaveSameBits r s → is_away r o ≡ is_away s o
 away_same r s None h = refl
-away_same r s (Some c) h = ap (λ (b : Bool). not b) (same_bool (is_in r c) (is_in s c) (in_to r s c h) (in_to s r c (turned r s h)))
+away_same r s (Some c) h = ap (λ (b : Bool). not b) (same_values (is_in r c) (is_in s c) (in_to r s c h) (in_to s r c (turned r s h)))
 
 -- both are no gate's, or both are of the same bits
 abbrev AreSameMasks : Option (List ℕ) → Option (List ℕ) → Type 0

@@ -20,17 +20,16 @@ pub fn bar_right(first: EndPair, second: EndPair, new: EndAt) -> Evidence
     requires bars { BarsRight first second new }
     ensures { Picks (first.left ∷ first.right ∷ second.left ∷ second.right ∷ new ∷ []) result }
 {
-    if turn(second.right.at, new.at, first.left.at) <= 0 {
+    let (a, b, c, d) = if turn(second.right.at, new.at, first.left.at) <= 0 {
         let (a, b) = in_order(first.left, second.left);
-        return Evidence {
-            count: 4,
-            ends: [a, b, second.right.code, new.code],
-        };
-    }
-    let (c, d) = in_order(first.right, second.right);
+        (a, b, second.right.code, new.code)
+    } else {
+        let (c, d) = in_order(first.right, second.right);
+        (first.left.code, c, d, new.code)
+    };
     Evidence {
         count: 4,
-        ends: [first.left.code, c, d, new.code],
+        ends: [a, b, c, d],
     }
 }
 
@@ -41,16 +40,15 @@ pub fn bar_left(first: EndPair, second: EndPair, new: EndAt) -> Evidence
     requires bars { BarsLeft first second new }
     ensures { Picks (first.left ∷ first.right ∷ second.left ∷ second.right ∷ new ∷ []) result }
 {
-    if turn(second.right.at, new.at, first.left.at) <= 0 {
+    let (a, b, c, d) = if turn(second.right.at, new.at, first.left.at) <= 0 {
         let (c, d) = in_order(first.right, second.right);
-        return Evidence {
-            count: 4,
-            ends: [first.left.code, new.code, c, d],
-        };
-    }
-    let (a, b) = in_order(first.left, second.left);
+        (first.left.code, new.code, c, d)
+    } else {
+        let (a, b) = in_order(first.left, second.left);
+        (a, b, new.code, second.right.code)
+    };
     Evidence {
         count: 4,
-        ends: [a, b, new.code, second.right.code],
+        ends: [a, b, c, d],
     }
 }

@@ -7,7 +7,6 @@ use Rattle.sight_names.specs.declared.faults.CheckFault.TheVariants.{Mesh, Ray, 
 use Rattle.sight_names.specs.declared.faults.MeshFault.{MeshFault}
 use Rattle.sight_names.specs.declared.names.Memory.{Memory}
 use Rattle.sight_names.specs.Map.{Map, map_of}
-use Rattle.sight_names.specs.Mesh.{IsGoodMesh}
 use Rattle.sight_names.specs.Plan.{PlanParts}
 use Rattle.mesh_shape.specs.Faults.{IsFirstFault}
 use Rattle.mesh_shape.specs.Shape.{MeshParts}
@@ -21,7 +20,7 @@ use Rattle.cert_checker.specs.declared.tree_judge.judge.Reach.{Reach}
 use Rattle.cert_checker.specs.declared.verdict.Verdict.{Verdict}
 use Rattle.cert_checker.specs.declared.verdict.Verdict.TheVariants.{Yes, No}
 use Rattle.cert_checker.specs.Apart.{triangles_in, labels_in}
-use Rattle.cert_checker.specs.Judged.{IsLaterVerdict, IsPairVerdict, JudgesMesh, JudgesRays, JudgesTrees}
+use Rattle.cert_checker.specs.Judged.{IsLaterVerdict, IsPairVerdict, JudgesRays, JudgesTrees}
 use Rattle.group_checker.specs.declared.grouping.MeshVerdict.TheVariants.{Broken}
 use Rattle.group_checker.specs.declared.verdict.AnyFault.{AnyFault}
 use Rattle.group_checker.specs.declared.verdict.AnyFault.TheVariants.{Check}
@@ -35,26 +34,7 @@ use Rattle.cert_checker.proofs.Judging.{later_at_pairs as pair_later}
 
 -- ---- version 1
 
-mesh_later : (m : Map) (c : CertParts) (ls : List Labelled) (v : Verdict) → c.triangles ≡ ls → IsGoodMesh m (triangles_in ls) (labels_in ls) → IsLaterVerdict v → JudgesMesh m c v
-mesh_later m c ls v e good later = at v later
-  where
-    own : IsGoodMesh m (triangles_in c.triangles) (labels_in c.triangles)
-    own = subst (λ (xs : List Labelled). IsGoodMesh m (triangles_in xs) (labels_in xs)) (sym e) good
-
-    at : (w : Verdict) → IsLaterVerdict w → JudgesMesh m c w
-    at (Yes totals) k = own
-    at (No (Mesh f)) k = absurd k
-    at (No (Ray a b why)) k = own
-    at (No (OfTree s n)) k = own
-    at (No (ListedSet a b)) k = own
-    at (No (Unproved a b)) k = own
-    at (No (Uncovered a b)) k = own
-
 module _ (p : PlanParts) (ls : List Labelled) where
-  pub plain_ground : IsGoodMesh (map_of p) (triangles_in ls) (labels_in ls) → IsGroundOf p p None ls
-  plain_ground good t (One c) v has later rays trees pairs = record { verdict = v; is = refl; mesh = mesh_later (map_of p) c ls v has.triangles good later; rays = rays; trees = trees; pairs = pairs }
-  plain_ground good t (Two c sizes) v has later rays trees pairs = absurd (none-some c.groups (sym has.groups_are))
-
   pub plain_fault : (f : MeshFault) → IsFirstFault (map_of p) (triangles_in ls) (labels_in ls) f → IsFaultOfMesh p None ls (Check (Mesh f))
   plain_fault f first t (One c) has = record {
     verdict = No (Mesh f);

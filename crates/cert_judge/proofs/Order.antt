@@ -30,9 +30,6 @@ module _ (points : ℕ) (ts : List Triangle) where
     ascend = λ i j t u l e f. ascending next j i t u l e f;
   }
 
-  pub each_next : AreTriangles points ts → (k : ℕ) → IsNextAt points ts k
-  each_next are k = record { triangle = λ t e. are.each k t e; above = λ j t u q e f. are.ascend j k t u (omega (arith, q)) e f }
-
 -- ---- triangles with their sectors
 
 at_place : (ls : List Labelled) (k : ℕ) (d : Labelled) → k < length ls → slice_get (triangles_in ls) k ≡ Some (get_or ls k d).triangle

@@ -1,34 +1,18 @@
 -- What rays and trees tell over a good mesh, once all have come.
-use Rattle.std.proofs.Common.{ℕ, length, refl}
-use Rattle.sight_names.specs.declared.faults.CheckFault.{CheckFault}
-use Rattle.sight_names.specs.declared.faults.CheckFault.TheVariants.{Mesh, Ray, Tree as OfTree, ListedSet, Unproved, Uncovered}
+use Rattle.std.proofs.Common.{length, refl}
 use Rattle.sight_names.specs.Map.{Map}
 use Rattle.sight_names.specs.Plan.{PlanParts}
 use Rattle.cert_format.specs.Parts.{CertParts}
 use Rattle.cert_checker.specs.declared.tree_judge.judge.Reach.{Reach}
 use Rattle.cert_checker.specs.declared.tree_judge.judge.TreeVerdict.TheVariants.{Whole}
 use Rattle.cert_checker.specs.TreeJudge.Heard.{IsJudgeable}
-use Rattle.cert_checker.specs.TreeJudge.Trees.{IsFirstTreeNotWhole, TellsTrees}
+use Rattle.cert_checker.specs.TreeJudge.Trees.{TellsTrees}
 use Rattle.cert_checker.specs.Apart.{triangles_in}
 use Rattle.cert_checker.specs.Rays.{AreSightRaysBelow}
 use Rattle.cert_judge.specs.declared.on_mesh.OnMesh.{OnMesh}
-use Rattle.cert_judge.specs.OnMesh.{IsRayFaultIn}
-use Rattle.cert_judge.specs.Whole.{HasReached, IsFirstEarly, IsHeardOver}
+use Rattle.cert_judge.specs.Whole.{HasReached, IsHeardOver}
 
 module _ (m : Map) (c : CertParts) where
-  -- a wrong ray
-  pub early_at_ray : (f : CheckFault) → IsRayFaultIn m c.rays f → IsFirstEarly m c f
-  early_at_ray (Mesh f) w = absurd w.kind
-  early_at_ray (Ray a b why) w = record { kind = tt; rays = w.first; trees = tt }
-  early_at_ray (OfTree s n) w = absurd w.kind
-  early_at_ray (ListedSet a b) w = absurd w.kind
-  early_at_ray (Unproved a b) w = absurd w.kind
-  early_at_ray (Uncovered a b) w = absurd w.kind
-
-  -- a wrong tree, where no ray is wrong
-  pub early_at_tree : (s n : ℕ) → AreSightRaysBelow m c.rays (length c.rays) → IsFirstTreeNotWhole m c s n → IsFirstEarly m c (OfTree s n)
-  early_at_tree s n rays w = record { kind = tt; rays = rays; trees = w }
-
   -- none is wrong
   pub all_reached : (reach : Reach) → AreSightRaysBelow m c.rays (length c.rays) → TellsTrees m c (Whole reach) → HasReached m c reach
   all_reached reach rays w = record { rays = rays; trees = w.0; sectors = w.1; tells = w.2 }

@@ -18,7 +18,6 @@ use Rattle.reject_bits.specs.Parts.{TableParts}
 use Rattle.block_evidence.specs.declared.sight_tree.Node.{Node}
 use Rattle.block_evidence.specs.declared.sight_tree.Tree.{Tree}
 use Rattle.cert_format.specs.Accepted.{triangles_of, labels_of, EitherSet, EitherClear}
-use Rattle.cert_format.specs.Parts.{CertParts}
 use Rattle.cert_format.specs.declared.cert_groups.cert.CertTwo.{CertTwo}
 use Rattle.cert_format.specs.CertGroups.Grammar.{IsGroupInOrder}
 use Rattle.certificates.specs.declared.cert_exact.cert.ExactParts.{ExactParts}
@@ -27,7 +26,8 @@ use Rattle.face_groups.specs.GroupsBase.Named.{AreNamedAt}
 use Rattle.face_groups.specs.GroupsBase.Table.{IsTableFor, IsNamedByTable}
 use Rattle.face_groups.proofs.GroupsBase.CheckedGroups.{table_is_good}
 use Rattle.face_groups.proofs.GroupsBase.SamePoints.{plain_alike, no_line_edge}
-use Rattle.cert_checker.specs.AcceptedGroups.Accepted.{AreGroupsJoined, IsGroupedSeen}
+use Rattle.face_groups.proofs.TriSectors.GoodLabels.{label_within}
+use Rattle.cert_checker.specs.AcceptedGroups.Accepted.{IsGroupedSeen}
 use Rattle.cert_checker.specs.declared.verdict.Totals.{Totals}
 use Rattle.cert_checker.specs.declared.verdict.Verdict.{Verdict}
 use Rattle.cert_checker.specs.declared.verdict.Verdict.TheVariants.{Yes as YesOne, No as NoOne}
@@ -43,12 +43,12 @@ use Rattle.group_checker.specs.Meshes.{grouped_map, grouped_plan, IsFirstMeshFau
 use Rattle.group_checker.specs.Judged.{any_of, IsYesAny, JudgesTwo}
 use Rattle.group_checker.proofs.Ending.{its_own}
 use Rattle.cert_checker.proofs.Lists.{each_at}
-use Rattle.group_checker.proofs.OneMap.{label_within, one_label_each, has_label, names_grouped, one_map}
+use Rattle.group_checker.proofs.OneMap.{one_label_each, has_label, names_grouped, one_map}
 use Rattle.gate_floods.specs.TurnedTrees.Exact.{TellsAll}
 use Rattle.gate_floods.specs.Bits.{rank_of}
 use Rattle.gate_floods.specs.Exact.{IsAcceptedThree, IsClaimed, IsExactOver}
 use Rattle.gate_floods.specs.Rows.{KeepsByRows}
-use Rattle.gate_floods.proofs.Tells.{version_three_tells}
+use Rattle.gate_floods.proofs.Tells.{version_three_tells, joined_back}
 use Rattle.gate_floods.specs.RowJudge.Judged.{tree_of}
 use Rattle.exact_checker.specs.Judged.{IsThreeFor, JudgesThree, JudgesTrees, Owns, TellsPairs}
 
@@ -69,11 +69,6 @@ as_many j [] = refl
 as_many j (ns ∷ trees) = ap suc (as_many (suc j) trees)
 
 -- ---- either order
-
-joined_back : (c : CertParts) (f k : ℕ) → AreGroupsJoined c f k → AreGroupsJoined c k f
-joined_back c f k (inl e) = inl (sym e)
-joined_back c f k (inr (inl r)) = inr (inr r)
-joined_back c f k (inr (inr r)) = inr (inl r)
 
 seen_back : (c : CertTwo) (a b : ℕ) → IsGroupedSeen c a b → IsGroupedSeen c b a
 seen_back c a b (f, k, in_f, in_k, joined) = (k, f, in_k, in_f, joined_back c.cert f k joined)

@@ -179,8 +179,5 @@ module _ (masks : List (Option Row)) (xs : List HalfEdge) (width n : ℕ) (narro
       ];
     }
 
-pub none_put : (masks : List (Option Row)) (xs : List HalfEdge) (width : ℕ) → MasksBelow masks xs width 0 [] []
-none_put masks xs width = record { len = refl; few = omega arith; room = λ i at h. absurd (none-some (Some at) h); have = λ i x lt at. absurd (omega (arith, lt)) }
-
 pub all_put : (masks : List (Option Row)) (xs : List HalfEdge) (width n : ℕ) (places : List (Option ℕ)) (words : List ℕ) → n ≡ length xs → MasksBelow masks xs width n places words → HaveMasksOf masks xs width places words
 all_put masks xs width n places words e below i x at = below.have i x (let l = slice_get_within xs i x at in omega (arith, l, e)) at

@@ -1,24 +1,17 @@
 -- The masks by half-edges are those of the gates of the map, with what the certificate claims.
-use Rattle.std.proofs.Common.{◌≡◌, ◌≢◌, ℕ, zero, suc, ◌+◌, ◌*◌, ◌/◌, ◌%◌, ◌<◌, ◌≤◌, ◌⊎◌, inl, inr, List, Option, Some, None, Bool, true, false, not, length, ◌==◌, if◌then◌else◌, refl, sym, ◌∙◌, ap, subst, arith}
+use Rattle.std.proofs.Common.{◌≡◌, ℕ, ◌*◌, ◌<◌, ◌≤◌, List, Option, Some, None, Bool, true, false, not, sym, ◌∙◌, subst, arith}
 use Rattle.std.specs.List.{slice_get}
 use Rattle.std.specs.Prelude.{IfSome, option_map}
 use Rattle.std.proofs.lemmas.Option.{same_Some, slice_get_within}
 use Rattle.math_base.proofs.Bools.{by_value}
-use Rattle.math_base.proofs.Lists.{get_there}
-use Rattle.math_base.proofs.Numbers.{below_differs, tells_other, tells_same}
 use Rattle.sight_names.specs.declared.names.Triangle.{Triangle}
 use Rattle.sight_names.specs.Plan.{PlanParts, IsPlan}
 use Rattle.sight_names.specs.Map.{Map, MapLine, IsMap, IsMapLine, map_of, sector_on}
-use Rattle.sight_names.specs.Points.{Edge}
-use Rattle.sight_names.specs.Mesh.{HasEdge, IsGoodMesh, triangle_at}
+use Rattle.sight_names.specs.Mesh.{IsGoodMesh}
 use Rattle.sight_names.specs.Sequence.{Portal, IsSolidLine}
 use Rattle.sight_names.proofs.PlanMap.{plan_is_map}
-use Rattle.mesh_base.proofs.GoodMesh.{found_at, same_or_not, some_position}
-use Rattle.mesh_base.proofs.CleanMesh.{edge_pq, edge_qr, edge_rp}
 use Rattle.mesh_shape.specs.declared.half_edges.table.HalfEdge.{HalfEdge}
 use Rattle.mesh_shape.specs.HalfEdges.HalfEdges.{portal_of, AreHalfEdges, IsHalfEdge}
-use Rattle.mesh_shape.specs.HalfEdges.Numbers.{edge, corner_of, number_of}
-use Rattle.mesh_shape.proofs.HalfEdges.Numbers.{number_at}
 use Rattle.cert_format.specs.Parts.{CertParts}
 use Rattle.gate_floods.specs.Exact.{IsClaimed}
 use Rattle.gate_floods.specs.Gates.{IsGate, IsBeyond, here, further, IsInMask}
@@ -37,6 +30,7 @@ use Rattle.exact_checker.specs.Masking.{fitted, AreEdgeMasks, HaveMasksOf}
 use Rattle.exact_checker.specs.Rows.{AreJoinedRows}
 use Rattle.exact_checker.proofs.Fitting.{fitted_bits}
 use Rattle.exact_checker.proofs.JoinedRows.{in_joined}
+use Rattle.cert_checker.proofs.TreeJudge.OneTree.{edge_of_number}
 
 -- ---- what lies beyond a gate is a sector of the map
 
@@ -55,48 +49,6 @@ module _ (m : Map) (is_map : IsMap m) where
   beyond_below Claims b d p gate c (here e) = subst (λ (x : ℕ). x < m.sectors) (sym e) (far_below b d p gate)
   beyond_below Claims b d p gate c (further x q h none through may) = far_below x c q through
 
--- ---- each number of a half-edge is that of an edge
-
-module _ (m : Map) (ts : List Triangle) (ls : List (Option ℕ)) (good : IsGoodMesh m ts ls) where
-  least_is : (e : Edge) (k : ℕ) (t : Triangle) → slice_get ts k ≡ Some t → HasEdge t e → triangle_at ts e ≡ Some k
-  least_is e k t at has =
-      let j = some_position ts e k t at has in
-      let u = found_at ts e j.0 j.1 in
-      elim (same_or_not j.0 k) as (λ _. triangle_at ts e ≡ Some k) [ inl q ↦ j.1 ∙ ap (λ (n : ℕ). Some n) q | inr n ↦ absurd (good.plain.once j.0 k u.0 t e n u.1 at u.2 has) ]
-
-  numbered : (e : Edge) (k : ℕ) (t : Triangle) → slice_get ts k ≡ Some t → HasEdge t e → number_of ts e ≡ Some (k * 3 + corner_of e t)
-  numbered e k t at has = number_at ts e k t (least_is e k t at has) at
-
-  three : (x : ℕ) → x < 3 → (x ≡ 0) ⊎ (x ≡ 1) ⊎ (x ≡ 2)
-  three zero l = inl refl
-  three (suc zero) l = inr (inl refl)
-  three (suc (suc zero)) l = inr (inr refl)
-  three (suc (suc (suc x))) l = absurd (omega (arith, l))
-
-  first_corner : (t : Triangle) → corner_of (edge t.p t.q) t ≡ 0
-  first_corner t = ap (λ (b : Bool). let n : ℕ = if b then 0 else (if t.q == t.p then 1 else 2) in n) (tells_same t.p t.p refl)
-
-  second_corner : (t : Triangle) → t.p < t.q → corner_of (edge t.q t.r) t ≡ 1
-  second_corner t l = ap (λ (b : Bool). let n : ℕ = if b then 0 else (if t.q == t.q then 1 else 2) in n) (tells_other t.p t.q (below_differs t.p t.q l)) ∙ ap (λ (b : Bool). let n : ℕ = if b then 1 else 2 in n) (tells_same t.q t.q refl)
-
-  third_corner : (t : Triangle) → t.p < t.r → t.q ≢ t.r → corner_of (edge t.r t.p) t ≡ 2
-  third_corner t l n = ap (λ (b : Bool). let n : ℕ = if b then 0 else (if t.q == t.r then 1 else 2) in n) (tells_other t.p t.r (below_differs t.p t.r l)) ∙ ap (λ (b : Bool). let n : ℕ = if b then 1 else 2 in n) (tells_other t.q t.r n)
-
-  edge_of : (i : ℕ) → i < length ts * 3 → (e : Edge) × (number_of ts e ≡ Some i)
-  edge_of i lt = by (get_there ts (i / 3) (omega (arith, lt)))
-    where
-      numbered_so : (e : Edge) (t : Triangle) (c : ℕ) → slice_get ts (i / 3) ≡ Some t → HasEdge t e → corner_of e t ≡ c → i % 3 ≡ c → (f : Edge) × (number_of ts f ≡ Some i)
-      numbered_so e t c at has corner h =
-          let same : i / 3 * 3 + corner_of e t ≡ i = omega (arith, corner, h) in
-          (e, numbered e (i / 3) t at has ∙ ap (λ (n : ℕ). Some n) same)
-
-      by : (t : Triangle) × (slice_get ts (i / 3) ≡ Some t) → (e : Edge) × (number_of ts e ≡ Some i)
-      by (t, at) = let order = good.plain.triangles.each (i / 3) t at in elim (three (i % 3) (omega arith)) as (λ _. (e : Edge) × (number_of ts e ≡ Some i)) [
-        | inl h ↦ numbered_so (edge t.p t.q) t 0 at (edge_pq t) (first_corner t) h
-        | inr (inl h) ↦ numbered_so (edge t.q t.r) t 1 at (edge_qr t) (second_corner t order.least) h
-        | inr (inr h) ↦ numbered_so (edge t.r t.p) t 2 at (edge_rp t) (third_corner t order.least_too order.differ) h
-      ]
-
 -- ---- the mask of the gate by which one comes in
 
 module _ (p : PlanParts) (is : IsPlan p) (ts : List Triangle) (ls : List (Option ℕ)) (good : IsGoodMesh (map_of p) ts ls) (rows : List Row) where
@@ -111,7 +63,7 @@ module _ (p : PlanParts) (is : IsPlan p) (ts : List Triangle) (ls : List (Option
   module _ (xs : List HalfEdge) (are : AreHalfEdges p ts ls xs) (masks : List (Option Row)) (by : by_side.AreMasks (map_of p) (IsLeftOut rows) masks) (width : ℕ) (room : p.sectors ≤ 64 * width) where
     mask_there : (i : ℕ) (x : HalfEdge) → slice_get xs i ≡ Some x → ¬ IsSolidLine (map_of p) (portal_of x) → IsMaskOf (map_of p) (IsLeftOut rows) (portal_of x) (fitted width (mask_behind masks x))
     mask_there i x at open_ =
-        let e = edge_of (map_of p) ts ls good i (let l = slice_get_within xs i x at in let n = are.len in omega (arith, l, n)) in
+        let e = edge_of_number (map_of p) ts ls good i (let l = slice_get_within xs i x at in let n = are.len in omega (arith, l, n)) in
         let h = are.each e.0 i e.1 in
         let half : IsHalfEdge p ts ls xs e.0 x = subst (IsHalfEdge p ts ls xs e.0) (same_Some h.0 x (sym h.1 ∙ at)) h.2 in
         fits width room (portal_of x) (mask_behind masks x) (masks_behind p ts ls xs rows masks e.0 x is good by half (by_value x.solid (λ t. absurd (open_ (half.solid.0 t))) (λ f. f)))

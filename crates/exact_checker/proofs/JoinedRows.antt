@@ -1,31 +1,23 @@
 -- The rows of what rays join, one ray after another.
-use Rattle.std.proofs.Common.{◌≡◌, ◌≢◌, ℕ, zero, suc, ◌+◌, ◌*◌, ◌<◌, ◌≤◌, ◌⊎◌, ◌↔◌, inl, inr, List, [], ◌∷◌, ◌++◌, length, slice_set, Some, true, refl, sym, ◌∙◌, ap, subst, arith}
+use Rattle.std.proofs.Common.{◌≡◌, ◌≢◌, ℕ, zero, suc, ◌+◌, ◌*◌, ◌<◌, ◌≤◌, ◌⊎◌, ◌↔◌, inl, inr, List, [], ◌∷◌, ◌++◌, length, slice_set, Some, refl, sym, ◌∙◌, ap, subst, arith}
 use Rattle.std.specs.List.{slice_get}
 use Rattle.std.proofs.lemmas.List.{length-set}
 use Rattle.std.proofs.lemmas.Option.{same_Some, slice_get_within}
 use Rattle.sight_names.specs.declared.names.Pair.{Pair}
 use Rattle.sight_names.specs.declared.names.PairRay.{PairRay}
-use Rattle.math_base.proofs.Bools.{by_value}
 use Rattle.math_base.proofs.Lists.{get_there, length_pushed, pushed_at}
 use Rattle.math_base.proofs.Numbers.{same_or_not, below_or_last}
 use Rattle.cert_format.specs.Parts.{CertParts}
 use Rattle.cert_checker.specs.AcceptedGroups.Accepted.{AreGroupsJoined}
 use Rattle.cert_checker.specs.Pairs.{pair, HasRayBelow, IsWithin}
 use Rattle.cert_checker.proofs.Judging.{ray_there, ray_below}
-use Rattle.gate_floods.specs.Bits.{is_joined}
-use Rattle.gate_floods.proofs.RowBits.{joined_told, not_joined}
+use Rattle.gate_floods.proofs.RowBits.{joined_told, joined_tells}
 use Rattle.gate_floods.specs.declared.gate_masks.masks.Row.{Row}
 use Rattle.gate_floods.specs.GateMasks.Words.{HasBit, AreBitsOf}
 use Rattle.gate_floods.specs.GateMasks.Masks.{IsIn}
-use Rattle.exact_checker.specs.Rows.{AreRowsOf, IsJoinedBit, AreJoinedRows, IsOwnRow, AreOwnRows, AddsBit, AddsAt}
+use Rattle.exact_checker.specs.Rows.{AreRowsOf, IsJoinedBit, AreJoinedRows, IsOwnRow, AreOwnRows, AddsAt}
 
 -- ---- rows with their own number
-
-pub own_bits : (k : ℕ) (none new : List ℕ) → ((c : ℕ) → ¬ HasBit none c) → HasBit new k → ((c : ℕ) → c ≢ k → HasBit new c ↔ HasBit none c) → AreBitsOf new (λ c. c ≡ k)
-own_bits k none new empty set others c = (
-  (λ h. elim (same_or_not c k) as (λ _. c ≡ k) [ inl e ↦ e | inr n ↦ absurd (empty c ((others c n).0 h)) ]),
-  (λ e. subst (HasBit new) (sym e) set),
-)
 
 pub own_more : (n m : ℕ) (rows : List Row) (r : Row) → AreOwnRows n m rows → IsOwnRow n m r → AreOwnRows n (m + 1) (rows ++ r ∷ [])
 own_more n m rows r all own = record {
@@ -35,19 +27,6 @@ own_more n m rows r all own = record {
     | inr (e, same) ↦ subst (λ (x : ℕ). IsOwnRow n x s) (sym (e ∙ all.len)) (subst (IsOwnRow n m) same own)
   ];
 }
-
-pub adds_bit : (k : ℕ) (old new : Row) → length new.words.items ≡ length old.words.items → HasBit new.words.items k → ((c : ℕ) → c ≢ k → HasBit new.words.items c ↔ HasBit old.words.items c) → AddsBit k old new
-adds_bit k old new len set others = record {
-  len = len;
-  bits = λ c. (
-    (λ h. elim (same_or_not c k) as (λ _. HasBit old.words.items c ⊎ (c ≡ k)) [ inl e ↦ inr e | inr n ↦ inl ((others c n).0 h) ]),
-    (λ h. elim (same_or_not c k) as (λ _. HasBit new.words.items c) [ inl e ↦ subst (HasBit new.words.items) (sym e) set | inr n ↦ (others c n).1 (old_one c n h) ]),
-  );
-}
-  where
-    old_one : (c : ℕ) → c ≢ k → HasBit old.words.items c ⊎ (c ≡ k) → HasBit old.words.items c
-    old_one c n (inl h) = h
-    old_one c n (inr e) = absurd (n e)
 
 -- ---- one bit more
 
@@ -172,9 +151,6 @@ module _ (n i : ℕ) (rays : List PairRay) (r : PairRay) (at : slice_get rays i 
 -- a certificate with these rays
 abbrev pub cert_of : List PairRay → CertParts
 cert_of rays = record { sizes = record { sectors = 0; points = 0; lines = 0 }; triangles = []; rays = rays; listed = []; trees = [] }
-
-pub joined_tells : (c : CertParts) (f k : ℕ) → AreGroupsJoined c f k → is_joined c.rays f k ≡ true
-joined_tells c f k h = by_value (is_joined c.rays f k) (λ e. e) (λ e. absurd (not_joined c f k e h))
 
 pub all_joined : (n i : ℕ) (rays : List PairRay) (rows : List Row) → length rays ≡ i → AreRowsOf n (JoinedBelow i rays n) rows → AreJoinedRows n rays rows
 all_joined n i rays rows e all = rows_same n (JoinedBelow i rays n) (IsJoinedBit rays n) rows (λ f k lt. ((λ h. (h.0, joined_tells (cert_of rays) f k (to f k h.1))), (λ h. (h.0, back f k (joined_told (cert_of rays) f k h.1))))) all

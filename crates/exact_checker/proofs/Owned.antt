@@ -68,7 +68,7 @@ is_in_of ws c h = tells_same (bit_at (slice_index ws (c / 64)) (c % 64)) 1 h
 pub of_is_in : (ws : List ℕ) (c : ℕ) → is_in ws c ≡ true → HasBit ws c
 of_is_in ws c h = is_told_same (bit_at (slice_index ws (c / 64)) (c % 64)) 1 h
 
-same_values : (b c : Bool) → (b ≡ true → c ≡ true) → (c ≡ true → b ≡ true) → b ≡ c
+pub same_values : (b c : Bool) → (b ≡ true → c ≡ true) → (c ≡ true → b ≡ true) → b ≡ c
 same_values true c to back = sym (to refl)
 same_values false true to back = back refl
 same_values false false to back = refl

@@ -1,22 +1,17 @@
 -- The parts of a certificate are in range and in order.
-use Rattle.std.proofs.Common.{◌≡◌, ℕ, zero, suc, ◌+◌, ◌-◌, ◌<◌, ◌≤◌, ◌⊎◌, inl, inr, List, [], ◌∷◌, length, slice_get, Some, refl, sym, ap, ◌∙◌, subst, arith, add-one}
-use Rattle.std.specs.Prelude.{slice_index, replicate}
+use Rattle.std.proofs.Common.{◌≡◌, ℕ, zero, suc, ◌+◌, ◌-◌, ◌<◌, ◌≤◌, List, [], ◌∷◌, length, slice_get, Some, refl, sym, ap, ◌∙◌, arith}
 use Rattle.std.specs.List.{AllByRecursion}
-use Rattle.std.specs.List.Sorted.{IsStrictlyIncreasing}
 use Rattle.std.proofs.lemmas.List.Elements.{recursion_from_All}
-use Rattle.std.proofs.lemmas.Option.{none-some, slice_get_within, get_or_from_slice_get, same_Some}
-use Rattle.math_base.proofs.Numbers.{below_or_at}
+use Rattle.std.proofs.lemmas.Option.{none-some, same_Some}
 use Rattle.sight_names.specs.declared.names.PairRay.{PairRay}
 use Rattle.sight_names.specs.Order.{Ascends}
 use Rattle.sight_names.specs.Plan.{PlanParts}
 use Rattle.block_evidence.specs.declared.sight_tree.Node.{Node}
-use Rattle.block_evidence.specs.declared.sight_tree.Node.TheVariants.{Open, Blocked}
 use Rattle.block_evidence.specs.declared.sight_tree.Tree.{Tree}
-use Rattle.block_evidence.specs.Stuck.{end_codes}
 use Rattle.portal_walk.specs.Nodes.{IsAnswered}
 use Rattle.cert_format.specs.declared.cert.Labelled.{Labelled}
 use Rattle.cert_format.specs.declared.cert.Sizes.{Sizes}
-use Rattle.cert_format.specs.Grammar.{IsNodeInOrder, IsRayInRange, IsTreeInRange}
+use Rattle.cert_format.specs.Grammar.{IsRayInRange, IsTreeInRange}
 use Rattle.cert_format.specs.CertGroups.Grammar.{IsTwoInOrder, grouped_sizes}
 use Rattle.certificates.specs.CertExact.Grammar.{as_two, trees_from}
 use Rattle.cert_format.specs.Sizes.{sizes_of}
@@ -24,43 +19,7 @@ use Rattle.exact_checker.specs.Judged.{IsThreeFor}
 use Rattle.exact_job.specs.Built.{AreInOrder}
 use Rattle.exact_job.specs.Rays.{AreRaysInOrder}
 use Rattle.exact_job.specs.Trees.{AreNodesOfWalks}
-
--- ---- nodes
-
-increasing_far : (xs : List ℕ) → IsStrictlyIncreasing xs → (i j : ℕ) → i < j → j < length xs → slice_index xs i < slice_index xs j
-increasing_far xs up i zero lt in' = absurd (omega arith)
-increasing_far xs up i (suc j) lt in' = at (below_or_at i j lt) (λ h. increasing_far xs up i j h (omega arith))
-  where
-    next : slice_index xs j < slice_index xs (suc j)
-    next = subst (λ (m : ℕ). slice_index xs j < slice_index xs m) (add-one j) (up j (omega arith))
-
-    at : (i < j) ⊎ (i ≡ j) → (i < j → slice_index xs i < slice_index xs j) → slice_index xs i < slice_index xs (suc j)
-    at (inl h) before = let k = before h in let n = next in omega arith
-    at (inr e) before = subst (λ (m : ℕ). slice_index xs m < slice_index xs (suc j)) (sym e) next
-
-ascending_codes : (xs : List ℕ) → IsStrictlyIncreasing xs → (i j x y : ℕ) → i < j → slice_get xs i ≡ Some x → slice_get xs j ≡ Some y → x < y
-ascending_codes xs up i j x y lt h k =
-    let far = increasing_far xs up i j lt (slice_get_within xs j y k) in
-    let e : slice_index xs i ≡ x = get_or_from_slice_get xs i x 0 h in
-    let f : slice_index xs j ≡ y = get_or_from_slice_get xs j y 0 k in
-    omega arith
-
-all_zero : (n : ℕ) → AllByRecursion (λ (x : ℕ). x ≡ 0) (replicate n 0)
-all_zero zero = tt
-all_zero (suc n) = (refl, all_zero n)
-
-node_in_order : (n : Node) → IsAnswered n → IsNodeInOrder n
-node_in_order Open h = tt
-node_in_order (Blocked e) (pairs, v) = record {
-  least = v.two;
-  most = v.four;
-  ascend = ascending_codes (end_codes e) v.ascending;
-  unused = subst (λ (xs : List ℕ). AllByRecursion (λ (x : ℕ). x ≡ 0) xs) (sym v.unused) (all_zero (4 - e.count));
-}
-
-nodes_in_order : (ns : List Node) → AllByRecursion IsAnswered ns → AllByRecursion IsNodeInOrder ns
-nodes_in_order [] h = tt
-nodes_in_order (n ∷ ns) h = (node_in_order n h.0, nodes_in_order ns h.1)
+use Rattle.group_job.proofs.BuildLaws.{nodes_in_order}
 
 -- ---- trees
 

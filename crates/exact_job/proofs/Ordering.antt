@@ -6,41 +6,18 @@ use Rattle.std.specs.Ordering.{nat_cmp, ordering_then, is_lt}
 use Rattle.std.proofs.lemmas.Bool.Decides.{nat_tests}
 use Rattle.std.proofs.lemmas.List.Elements.{Contains-append_left, Contains-append_right}
 use Rattle.std.proofs.lemmas.List.Sorted.{sorted_far, ranks_by, Contains-permutation, IsPermutation-sym}
-use Rattle.std.proofs.lemmas.Option.{none-some, same_Some, slice_get_within, get_or_from_slice_get}
+use Rattle.std.proofs.lemmas.Option.{same_Some, slice_get_within, get_or_from_slice_get}
 use Rattle.math_base.proofs.Lists.{pushed_at}
-use Rattle.math_base.proofs.Numbers.{below_or_last, same_or_below}
+use Rattle.math_base.proofs.Numbers.{below_or_last}
 use Rattle.sight_names.proofs.Lists.{get_of_contains, contains_of_get}
-use Rattle.sight_names.specs.declared.names.Pair.{Pair}
 use Rattle.sight_names.specs.declared.names.PairRay.{PairRay}
 use Rattle.sight_names.specs.Order.{Ascends, PairBefore}
 use Rattle.pair_budget.specs.PairRays.{HasRayFor, pair_cmp}
 use Rattle.pair_budget.proofs.FoundSectorsLaws.{pair_is}
 use Rattle.pair_budget.proofs.RayLaws.{pair_cmp_total}
-use Rattle.exact_job.specs.Rays.{AreOneEach, IsAdded, IsBehindAll, IsBehindNot, RayBefore}
-
-before_both : (p q r : Pair) → PairBefore p q → PairBefore q r → PairBefore p r
-before_both p q r (inl l) (inl m) = inl (omega (arith, l, m))
-before_both p q r (inl l) (inr (e, m)) = inl (omega (arith, l, e))
-before_both p q r (inr (e, l)) (inl m) = inl (omega (arith, e, m))
-before_both p q r (inr (e, l)) (inr (f, m)) = inr (e ∙ f, omega (arith, l, m))
+use Rattle.exact_job.specs.Rays.{AreOneEach, IsAdded, IsBehindAll, RayBefore}
 
 -- ---- the last one
-
--- behind no rays
-pub behind_none : (rays : List PairRay) (r : PairRay) → rays ≡ [] → IsBehindAll rays r
-behind_none rays r e i s at = absurd (none-some s (sym (ap (λ (xs : List PairRay). slice_get xs i) e) ∙ at))
-
--- behind the last one, and so behind all
-pub behind_last : (rays : List PairRay) (last r : PairRay) → Ascends RayBefore rays → slice_get rays (length rays - 1) ≡ Some last → PairBefore last.pair r.pair → IsBehindAll rays r
-behind_last rays last r up end before i s at = go (same_or_below i (length rays - 1) (let l : i < length rays = slice_get_within rays i s at in omega (arith, l)))
-  where
-    go : (i ≡ length rays - 1) ⊎ (i < length rays - 1) → PairBefore s.pair r.pair
-    go (inl e) = let same : last ≡ s = same_Some last s (sym end ∙ (ap (slice_get rays) (sym e) ∙ at)) in subst (λ (x : PairRay). PairBefore x.pair r.pair) same before
-    go (inr l) = before_both s.pair last.pair r.pair (up i (length rays - 1) s last l at end) before
-
--- not behind the last one
-pub behind_not : (rays : List PairRay) (last r : PairRay) → slice_get rays (length rays - 1) ≡ Some last → ¬ PairBefore last.pair r.pair → IsBehindNot rays r
-behind_not rays last r end none = (last, contains_of_get rays last (length rays - 1) end, none)
 
 ascend_more : (rays : List PairRay) (r : PairRay) → Ascends RayBefore rays → IsBehindAll rays r → Ascends RayBefore (rays ++ r ∷ [])
 ascend_more rays r up behind i j x y lt at_x at_y = go (pushed_at rays r x i at_x) (pushed_at rays r y j at_y)
@@ -58,13 +35,6 @@ pub record ArePicked (all : List PairRay) (n : ℕ) (rays : List PairRay) : Type
   pub ascend : Ascends RayBefore rays
   pub from : (r : PairRay) → Contains rays r → (j : ℕ) × (j < n) × (slice_get all j ≡ Some r)
   pub pairs : (j : ℕ) (r : PairRay) → j < n → slice_get all j ≡ Some r → HasRayFor rays r.pair.a r.pair.b
-
-pub none_picked : (all rays : List PairRay) → rays ≡ [] → ArePicked all 0 rays
-none_picked all rays e = subst (ArePicked all 0) (sym e) (record {
-  ascend = λ i j x y lt at too. absurd (none-some x at);
-  from = λ r c. let l = c.1 in absurd (omega (arith, l));
-  pairs = λ j r lt at. absurd (omega (arith, lt));
-})
 
 rising : (a b c d : ℕ) → is_lt (ordering_then (nat_cmp c a) (nat_cmp d b)) ≡ false → ((a < c) ⊎ ((a ≡ c) × (b < d))) ⊎ ((a ≡ c) × (b ≡ d))
 rising a b c d h = grind (arith, nat_tests)

@@ -1,10 +1,10 @@
 -- Rounds: what walks found is noted, each round has more rays than the one before, and there are no more than pairs.
-use Rattle.std.proofs.Common.{◌≡◌, ◌≢◌, ℕ, ◌+◌, ◌*◌, ◌^◌, ◌<◌, ◌≤◌, ◌⊎◌, inl, inr, List, [], ◌∷◌, ◌++◌, Option, None, Some, Contains, length, map, take, get_or, refl, sym, ap, ◌∙◌, subst, arith}
-use Rattle.std.specs.Prelude.{All, Bool, MatchBool, option_map, true, false}
+use Rattle.std.proofs.Common.{◌≡◌, ◌≢◌, ℕ, ◌+◌, ◌*◌, ◌^◌, ◌<◌, ◌≤◌, ◌⊎◌, inl, inr, List, [], ◌∷◌, ◌++◌, Some, Contains, length, map, take, get_or, refl, sym, ap, ◌∙◌, subst, arith}
+use Rattle.std.specs.Prelude.{All, Bool, MatchBool, true, false}
 use Rattle.std.specs.List.{AllByRecursion, slice_get}
 use Rattle.std.proofs.lemmas.List.{append_assoc, length-map, map_more, take_all}
 use Rattle.std.proofs.lemmas.List.Elements.{All-append, All-contains, All-from_recursion, Contains-append_left, Contains-append_right}
-use Rattle.std.proofs.lemmas.Option.{none-some, same_Some, slice_get-get_or, slice_get-map, slice_get_within}
+use Rattle.std.proofs.lemmas.Option.{same_Some, slice_get-get_or, slice_get_within}
 use Rattle.math_base.proofs.Bools.{not_both_values}
 use Rattle.math_base.proofs.Lists.{all_of, contains_map}
 use Rattle.math_base.proofs.Numbers.{below_or_above, below_or_last, below_same_or_above, place_within, row_within}
@@ -45,15 +45,9 @@ use Rattle.exact_job.specs.Rounds.{AreNoted, HasMore, IsRound}
 use Rattle.exact_job.specs.Trees.{AreTreesFor, AreWalks, HasFound, HasFoundNothing, nodes_of}
 use Rattle.exact_job.proofs.Walks.{nodes_at}
 use Rattle.exact_job.proofs.Counting.{Rise, HasKey, few, less}
+use Rattle.group_job.proofs.SightWorkers.Walks.{from_map}
 
 -- ---- what one walk found
-
-from_map : {A B : Type 0} (f : A → B) (xs : List A) (y : B) → Contains (map f xs) y → (x : A) × Contains xs x × (f x ≡ y)
-from_map {A} {B} f xs y c = go (slice_get xs c.0) refl
-  where
-    go : (o : Option A) → slice_get xs c.0 ≡ o → (x : A) × Contains xs x × (f x ≡ y)
-    go None e = absurd (none-some y (sym (slice_get-map f xs c.0 ∙ ap (option_map f) e) ∙ get_of_contains (map f xs) y c.0 c.1 c.2))
-    go (Some x) e = (x, contains_of_get xs x c.0 e, same_Some (f x) y (sym (slice_get-map f xs c.0 ∙ ap (option_map f) e) ∙ get_of_contains (map f xs) y c.0 c.1 c.2))
 
 pub is_found : (p : PlanParts) (f : ℕ) (found : List Reached) (x : Reached) → AreSeen p f found → Contains found x → IsFoundRay p (toward f x)
 is_found p f found x s c =
@@ -91,9 +85,6 @@ pub record AreNotedBelow (walks : List Made) (n : ℕ) (old new : List PairRay) 
   pub kept : (r : PairRay) → Contains old r → Contains new r
   pub noted : (f : ℕ) (w : Made) (r : Reached) → f < n → slice_get walks f ≡ Some w → Contains w.found.items r → Contains new (toward f r)
   pub found : (p : PlanParts) → ((f : ℕ) (w : Made) → slice_get walks f ≡ Some w → AreSeen p f w.found.items) → All (IsFoundRay p) old → All (IsFoundRay p) new
-
-pub none_noted : (walks : List Made) (rays : List PairRay) → AreNotedBelow walks 0 rays rays
-none_noted walks rays = record { kept = λ r c. c; noted = λ f w r lt at c. absurd (omega (arith, lt)); found = λ p seen old. old }
 
 pub walk_noted : (walks : List Made) (n : ℕ) (w : Made) (old mid new : List PairRay) → slice_get walks n ≡ Some w → AreNotedBelow walks n old mid → new ≡ mid ++ map (toward n) w.found.items → AreNotedBelow walks (n + 1) old new
 walk_noted walks n w old mid new at h is = subst (AreNotedBelow walks (n + 1) old) (sym is) (record {

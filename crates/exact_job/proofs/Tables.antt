@@ -14,6 +14,7 @@ use Rattle.certificates.specs.CertExact.Grammar.{as_two}
 use Rattle.gate_floods.specs.declared.gate_masks.masks.Row.{Row}
 use Rattle.gate_floods.specs.GateMasks.Masks.{IsIn}
 use Rattle.gate_floods.specs.GateMasks.Words.{HasBit}
+use Rattle.gate_floods.proofs.RowJudge.Bits.{beyond}
 use Rattle.group_checker.specs.Members.{AreMembers}
 use Rattle.group_job.specs.Marks.{SetsMore, OfSteps, HasSteps}
 use Rattle.group_job.proofs.Marks.{sets_as, sets_next, sets_one, sets_skip}
@@ -52,11 +53,6 @@ word_put old other row n within h = record {
   rest = λ j l. get_or-set_other row n j (bit_or (slice_index row n) (slice_index other n)) 0 (λ e. omega (arith, l, e)) ∙ h.rest j (omega (arith, l));
 }
 
-none_behind : (xs : List ℕ) (k : ℕ) → length xs ≤ k → slice_index xs k ≡ 0
-none_behind [] k l = refl
-none_behind (x ∷ xs) zero l = absurd (omega (arith, l))
-none_behind (x ∷ xs) (suc k) l = none_behind xs k (omega (arith, l))
-
 pub words_put : (old other row : List ℕ) (n : ℕ) → AreWordsPut old other n row → min (length row) (length other) ≤ n → (c : ℕ) → c < 64 * length old → HasBit row c ↔ (HasBit old c ⊎ HasBit other c)
 words_put old other row n h end c l = go (below_or_not (c / 64) n)
   where
@@ -65,7 +61,7 @@ words_put old other row n h end c l = go (below_or_not (c / 64) n)
     go (inr more) =
         let e = h.rest (c / 64) more in
         let len = h.len in
-        let none = none_behind other (c / 64) (grind (arith, more, end, l, len)) in (
+        let none = beyond other (c / 64) (grind (arith, more, end, l, len)) in (
           (λ b. inl (ap (λ (w : ℕ). bit_at w (c % 64)) (sym e) ∙ b)),
           (λ s. elim s as (λ _. HasBit row c) [
             | inl b ↦ ap (λ (w : ℕ). bit_at w (c % 64)) e ∙ b
@@ -114,13 +110,6 @@ module _ (joined : List Row) (groups old : List ℕ) where
     where
       first : IsJoinedWithSome joined groups c → IsJoinedWithFirst joined groups n c
       first w = let k = w.1 in let lt = k.1 in (k.0, w.0, omega (arith, lt, end), get_of_contains groups w.0 k.0 k.1 k.2, w.2)
-
--- a row that had nothing
-pub own_row : (joined : List Row) (groups none row : List ℕ) (n : ℕ) → n ≤ 64 * length none → ((c : ℕ) → ¬ HasBit none c) → ((c : ℕ) → c < 64 * length none → HasBit row c ↔ (HasBit none c ⊎ IsJoinedWithSome joined groups c)) → IsRowOf joined groups n row
-own_row joined groups none row n room empty put k l = let x = put k (omega (arith, l, room)) in (
-  (λ b. elim (x.0 b) as (λ _. IsJoinedWithSome joined groups k) [ inl o ↦ absurd (empty k o) | inr w ↦ w ]),
-  (λ w. x.1 (inr w)),
-)
 
 -- ---- a row of the table
 

@@ -91,7 +91,7 @@ joined_told c f k h = elim (one_true (f == k) (has_ray c.rays f k || has_ray c.r
   | inr rays ↦ elim (one_true (has_ray c.rays f k) (has_ray c.rays k f) rays) as (λ _. AreGroupsJoined c f k) [ inl e ↦ inr (inl (ray_told c.rays f k e)) | inr e ↦ inr (inr (ray_told c.rays k f e)) ]
 ]
 
-joined_tells : (c : CertParts) (f k : ℕ) → AreGroupsJoined c f k → is_joined c.rays f k ≡ true
+pub joined_tells : (c : CertParts) (f k : ℕ) → AreGroupsJoined c f k → is_joined c.rays f k ≡ true
 joined_tells c f k (inl e) = true_by_first (f == k) (has_ray c.rays f k || has_ray c.rays k f) (tells_same f k e)
 joined_tells c f k (inr (inl r)) = true_by_second (f == k) (has_ray c.rays f k || has_ray c.rays k f) (true_by_first (has_ray c.rays f k) (has_ray c.rays k f) (ray_tells c.rays f k r))
 joined_tells c f k (inr (inr r)) = true_by_second (f == k) (has_ray c.rays f k || has_ray c.rays k f) (true_by_second (has_ray c.rays f k) (has_ray c.rays k f) (ray_tells c.rays k f r))

@@ -24,7 +24,7 @@ use Rattle.face_groups.proofs.GroupsBase.CheckedGroups.{table_is_good, table_is_
 use Rattle.cert_checker.specs.AcceptedGroups.Accepted.{AreGroupsJoined}
 use Rattle.sight_lift.proofs.LiftLaws.{sight_connects}
 use Rattle.cert_checker.proofs.Components.{connected_back}
-use Rattle.math_base.proofs.Numbers.{either_order}
+use Rattle.math_base.proofs.Numbers.{below_or_above}
 use Rattle.gate_floods.specs.Rows.{KeepsByRows}
 use Rattle.gate_floods.specs.Exact.{IsClaimed, RanksBefore, IsOwned, IsExactOver}
 use Rattle.gate_floods.specs.Bits.{rank_of}
@@ -34,7 +34,7 @@ use Rattle.gate_floods.proofs.Blind.{claims_are_right}
 
 -- ---- claims
 
-joined_back : (c : CertParts) (f k : ℕ) → AreGroupsJoined c f k → AreGroupsJoined c k f
+pub joined_back : (c : CertParts) (f k : ℕ) → AreGroupsJoined c f k → AreGroupsJoined c k f
 joined_back c f k (inl same) = inl (sym same)
 joined_back c f k (inr (inl ray)) = inr (inr ray)
 joined_back c f k (inr (inr ray)) = inr (inl ray)
@@ -42,14 +42,11 @@ joined_back c f k (inr (inr ray)) = inr (inl ray)
 claimed_back : (g : Map) (c : CertParts) (f k : ℕ) → IsClaimed g c f k → IsClaimed g c k f
 claimed_back g c f k h = record { within = h.within_too; within_too = h.within; connected = connected_back g f k h.connected.0 h.connected.1; apart = λ j. h.apart (joined_back c k f j) }
 
-below_or_not : (i j : ℕ) → i ≢ j → (i < j) ⊎ (j < i)
-below_or_not i j differ = elim (either_order i j) as (λ _. (i < j) ⊎ (j < i)) [ inl l ↦ inl (omega (arith, l, differ)) | inr l ↦ inr (omega (arith, l, differ)) ]
-
 -- of two different groups one ranks before the other
 one_ranks : (rank : ℕ → ℕ) (f k : ℕ) → f ≢ k → RanksBefore rank f k ⊎ RanksBefore rank k f
 one_ranks rank f k differ = elim (same_or_not (rank f) (rank k)) as (λ _. RanksBefore rank f k ⊎ RanksBefore rank k f) [
-  | inl same ↦ elim (below_or_not f k differ) as (λ _. RanksBefore rank f k ⊎ RanksBefore rank k f) [ inl l ↦ inl (inr (same, l)) | inr l ↦ inr (inr (sym same, l)) ]
-  | inr other ↦ elim (below_or_not (rank f) (rank k) other) as (λ _. RanksBefore rank f k ⊎ RanksBefore rank k f) [ inl l ↦ inl (inl l) | inr l ↦ inr (inl l) ]
+  | inl same ↦ elim (below_or_above f k differ) as (λ _. RanksBefore rank f k ⊎ RanksBefore rank k f) [ inl l ↦ inl (inr (same, l)) | inr l ↦ inr (inr (sym same, l)) ]
+  | inr other ↦ elim (below_or_above (rank f) (rank k) other) as (λ _. RanksBefore rank f k ⊎ RanksBefore rank k f) [ inl l ↦ inl (inl l) | inr l ↦ inr (inl l) ]
 ]
 
 owned_by_one : (rank : ℕ → ℕ) (g : Map) (c : CertParts) (f k : ℕ) → IsClaimed g c f k → (f ≢ k) × (IsOwned rank (IsClaimed g c) f k ⊎ IsOwned rank (IsClaimed g c) k f)

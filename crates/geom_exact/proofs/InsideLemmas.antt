@@ -1,6 +1,6 @@
 -- Strictly inside a triangle: the three turns are above 0 exactly where the point is a mean of the corners with three weights above 0.
-use Rattle.std.proofs.Common.{ℤ, pos, ◌+ℤ◌, ◌-ℤ◌, ◌*ℤ◌, ◌<ℤ◌, ◌≡◌, [], ◌∷◌}
-use Rattle.math_base.proofs.Quoting.{quoting, by_ring, ring_at, combine2}
+use Rattle.std.proofs.Common.{ℤ, pos, ◌+ℤ◌, ◌*ℤ◌, ◌<ℤ◌, ◌≡◌, [], ◌∷◌}
+use Rattle.math_base.proofs.Quoting.{quoting, ring_at}
 use Rattle.sight_names.specs.declared.names.Pt.{Pt}
 use Rattle.geom_exact.specs.Formulas.{turn_of}
 
@@ -26,9 +26,3 @@ inside_of_turns a b c p h k g = record {
   x = ring_at (a.x ∷ a.y ∷ b.x ∷ b.y ∷ c.x ∷ c.y ∷ p.x ∷ p.y ∷ []) (search quoting depth 60 fits 200000) tt;
   y = ring_at (a.x ∷ a.y ∷ b.x ∷ b.y ∷ c.x ∷ c.y ∷ p.x ∷ p.y ∷ []) (search quoting depth 60 fits 200000) tt;
 }
-
-turn_of_weights : (a b c p : Pt) (l m n : ℤ) → (l +ℤ m +ℤ n) *ℤ p.x ≡ l *ℤ a.x +ℤ m *ℤ b.x +ℤ n *ℤ c.x → (l +ℤ m +ℤ n) *ℤ p.y ≡ l *ℤ a.y +ℤ m *ℤ b.y +ℤ n *ℤ c.y → (l +ℤ m +ℤ n) *ℤ turn_of a b p ≡ n *ℤ turn_of a b c
-unfolding turn_of
-turn_of_weights a b c p l m n h k =
-    combine2 (a.y -ℤ b.y) (b.x -ℤ a.x) h k
-    (by_ring (a.x ∷ a.y ∷ b.x ∷ b.y ∷ c.x ∷ c.y ∷ p.x ∷ p.y ∷ l ∷ m ∷ n ∷ []) _ _ (search quoting depth 60 fits 200000) (search quoting depth 60 fits 200000) tt)

@@ -20,6 +20,7 @@ use Rattle.face_groups.specs.GroupsBase.Named.{AreNamedAt}
 use Rattle.face_groups.specs.GroupsBase.Table.{IsTableFor, IsNamedByTable}
 use Rattle.face_groups.proofs.GroupsBase.CheckedGroups.{table_is_good}
 use Rattle.face_groups.proofs.GroupsBase.SamePoints.{plain_alike, no_line_edge}
+use Rattle.face_groups.proofs.TriSectors.GoodLabels.{label_within}
 use Rattle.cert_checker.specs.AcceptedGroups.Accepted.{IsAcceptedOver, IsAcceptedTwo}
 use Rattle.cert_checker.specs.declared.verdict.Totals.{Totals}
 use Rattle.cert_checker.specs.declared.verdict.Verdict.TheVariants.{No as NoOne}
@@ -32,7 +33,7 @@ use Rattle.group_checker.specs.declared.verdict.AnyVerdict.TheVariants.{Yes, No}
 use Rattle.group_checker.specs.Meshes.{grouped_map, IsFirstMeshFault}
 use Rattle.group_checker.specs.Judged.{IsTwoFor, IsYesAny, JudgesTwo}
 use Rattle.cert_checker.proofs.Lists.{each_at}
-use Rattle.group_checker.proofs.OneMap.{label_within, one_label_each, has_label, names_grouped, one_map}
+use Rattle.group_checker.proofs.OneMap.{one_label_each, has_label, names_grouped, one_map}
 
 module _ (p : PlanParts) (is : IsPlan p) (t : TableParts) (c : CertTwo) (size : t.n ≡ p.sectors) (two : IsTwoFor p c) where
   -- ---- yes

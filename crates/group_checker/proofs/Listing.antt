@@ -15,9 +15,9 @@ use Rattle.cert_checker.specs.TreeJudge.Marks.{IsMarked, HasNoMark}
 use Rattle.face_groups.specs.GroupsBase.Named.{AreNamedAt}
 use Rattle.face_groups.proofs.GroupsBase.Ordered.{ascending_same}
 use Rattle.face_groups.specs.Verdict.{AreFaceNames}
+use Rattle.face_groups.proofs.TriSectors.GoodLabels.{label_within}
 use Rattle.group_checker.specs.Meshes.{HasTriangleAt}
 use Rattle.group_checker.specs.Lists.{AreGroupLabels, IsListRight, IsUsedGroup, IsUsedBelow, IsGroupOf, HasItsList}
-use Rattle.group_checker.proofs.OneMap.{label_within}
 
 -- ---- searches in other words
 

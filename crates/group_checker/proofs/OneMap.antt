@@ -1,5 +1,5 @@
 -- What the ranges and orders of a certificate of version 2 give, and its one map of groups.
-use Rattle.std.proofs.Common.{◌≡◌, ℕ, zero, suc, ◌<◌, ◌≤◌, List, [], ◌∷◌, Option, Some, length, get_or, refl, sym, ◌∙◌, ap, subst, arith, zero-lt-suc, suc-le-suc, le_of_suc-le-suc}
+use Rattle.std.proofs.Common.{◌≡◌, ℕ, zero, suc, ◌<◌, ◌≤◌, List, [], ◌∷◌, Option, Some, length, get_or, refl, sym, ◌∙◌, ap, subst, arith, le_of_suc-le-suc}
 use Rattle.std.specs.List.{slice_get, All, AllByRecursion}
 use Rattle.std.proofs.lemmas.Option.{none-some, same_Some, slice_get-get_or}
 use Rattle.math_base.proofs.Lists.{all_at, all_of}
@@ -29,11 +29,6 @@ use Rattle.group_checker.specs.Meshes.{grouped_map}
 use Rattle.group_checker.specs.Judged.{IsTwoFor}
 
 -- ---- lists
-
-pub label_within : (ls : List (Option ℕ)) (k f : ℕ) → label_of ls k ≡ Some f → k < length ls
-label_within [] k f e = absurd (none-some f e)
-label_within (x ∷ ls) zero f e = zero-lt-suc _
-label_within (x ∷ ls) (suc k) f e = suc-le-suc (label_within ls k f e)
 
 has_label_in : (xs : List Labelled) (k : ℕ) → k < length xs → (f : ℕ) × (label_of (labels_in xs) k ≡ Some f)
 has_label_in [] k lt = absurd (omega (arith, lt))

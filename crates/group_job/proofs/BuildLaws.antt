@@ -111,7 +111,7 @@ node_in_order (Blocked e) (pairs, v) = record {
   unused = subst (λ (xs : List ℕ). AllByRecursion (λ (x : ℕ). x ≡ 0) xs) (sym v.unused) (all_zero (4 - e.count));
 }
 
-nodes_in_order : (ns : List Node) → AllByRecursion IsAnswered ns → AllByRecursion IsNodeInOrder ns
+pub nodes_in_order : (ns : List Node) → AllByRecursion IsAnswered ns → AllByRecursion IsNodeInOrder ns
 nodes_in_order [] h = tt
 nodes_in_order (n ∷ ns) h = (node_in_order n h.0, nodes_in_order ns h.1)
 

@@ -1,9 +1,9 @@
 -- Bits that are set step by step.
-use Rattle.std.proofs.Common.{◌≡◌, ℕ, zero, suc, ◌+◌, ◌<◌, ◌⊎◌, ◌↔◌, inl, inr, List, refl, sym, ap, ◌∙◌, subst, arith}
+use Rattle.std.proofs.Common.{◌≡◌, ℕ, zero, suc, ◌+◌, ◌<◌, ◌≤◌, ◌⊎◌, ◌↔◌, inl, inr, List, refl, sym, ap, ◌∙◌, subst, arith}
 use Rattle.std.specs.Prelude.{slice_index, replicate, ◌*◌, ◌/◌, ◌%◌}
 use Rattle.std.specs.Int.{bit_at}
 use Rattle.std.proofs.lemmas.Nat.Bits.{bit_at-zero}
-use Rattle.math_base.proofs.Numbers.{below_or_last}
+use Rattle.math_base.proofs.Numbers.{below_or_last, below_or_not}
 use Rattle.reject_bits.specs.Parts.{TableParts, Rejects, SetsPair, KeepsOtherPairs}
 use Rattle.pair_budget.proofs.FoundSectorsLaws.{same_or_other}
 use Rattle.group_job.specs.Marks.{SetsMore, OfSteps, HasSteps}
@@ -81,6 +81,12 @@ module _ (step : ℕ → ℕ → ℕ → Type 0) where
 
   pub sets_skip : (n : ℕ) (old mid : TableParts) → SetsMore (OfSteps step n) old mid → ((a b : ℕ) → ¬ step n a b) → SetsMore (OfSteps step (n + 1)) old mid
   sets_skip n old mid before none = sets_next n old mid mid before (sets_nothing (step n) mid none)
+
+  pub sets_past : (n m : ℕ) (old mid : TableParts) → n ≤ m → SetsMore (OfSteps step n) old mid → ((i : ℕ) → n ≤ i → i < m → (a b : ℕ) → ¬ step i a b) → SetsMore (OfSteps step m) old mid
+  sets_past n m old mid le before none = sets_as (OfSteps step n) (OfSteps step m) old mid (λ a b w. (w.0, (let lt = w.1 in omega (arith, lt, le)), w.2)) back before
+    where
+      back : (a b : ℕ) → OfSteps step m a b → OfSteps step n a b
+      back a b w = elim (below_or_not w.0 n) as (λ _. OfSteps step n a b) [ inl lt ↦ (w.0, lt, w.2) | inr past ↦ absurd (none w.0 past w.1 a b w.2) ]
 
   -- the same from a table without a bit
   pub steps_none : (sectors n : ℕ) (t : TableParts) → t.n ≡ sectors → t.bytes ≡ replicate n 0 → HasSteps step 0 sectors t

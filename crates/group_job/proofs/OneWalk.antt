@@ -17,7 +17,7 @@ use Rattle.face_groups.proofs.GroupsBase.OneGrouped.{one_grouped}
 use Rattle.face_groups.proofs.GroupsBase.SamePoints.{mesh_alike}
 use Rattle.group_job.specs.Built.{WalkedMap}
 
-same_budget : (g : Map) (ask : Ask) (b c : Budget) → IsBudgetOf g ask b → IsBudgetOf g ask c → b ≡ c
+pub same_budget : (g : Map) (ask : Ask) (b c : Budget) → IsBudgetOf g ask b → IsBudgetOf g ask c → b ≡ c
 same_budget g (AskOf n) b c h k = h ∙ sym k
 same_budget g AskFull b c h k = h ∙ sym k
 same_budget g Enough b c h k = h.2 ∙ (ap (λ (ts : List Triangle). Of (enough_of g ts)) (one_mesh g h.0 k.0 h.1 k.1) ∙ sym k.2)

@@ -1,8 +1,9 @@
 -- The list of pairs, one pair after the other.
-use Rattle.std.proofs.Common.{◌≡◌, ◌≢◌, ℕ, ◌+◌, ◌<◌, ◌⊎◌, inl, inr, List, [], ◌∷◌, ◌++◌, length, slice_get, Contains, Some, sym, subst, arith}
+use Rattle.std.proofs.Common.{◌≡◌, ◌≢◌, ℕ, ◌+◌, ◌<◌, ◌≤◌, ◌⊎◌, inl, inr, List, [], ◌∷◌, ◌++◌, length, slice_get, Contains, Some, sym, subst, arith}
 use Rattle.std.proofs.lemmas.List.Elements.{Contains-append_left, Contains-push, Contains-push_cases}
 use Rattle.std.proofs.lemmas.Option.{slice_get_within}
 use Rattle.math_base.proofs.Lists.{contains_none, pushed_at}
+use Rattle.math_base.proofs.Numbers.{below_or_not}
 use Rattle.sight_names.proofs.Lists.{contains_of_get}
 use Rattle.sight_names.specs.declared.names.Pair.{Pair}
 use Rattle.sight_names.specs.Order.{PairBefore}
@@ -24,18 +25,25 @@ module _ (these others : TableParts) where
       nothing : (x : Pair) (i : ℕ) → ¬ (slice_get [] i ≡ Some x)
       nothing x i h = let w = slice_get_within [] i x h in omega (arith, w)
 
-  pub list_skip : (a b : ℕ) (xs : List Pair) → ListedBefore these others a b xs → ¬ IsBetween these others a b → ListedBefore these others a (b + 1) xs
-  list_skip a b xs before none = record {
+  pub list_skip : (a b m : ℕ) (xs : List Pair) → b ≤ m → ListedBefore these others a b xs → ((d : ℕ) → b ≤ d → d < m → ¬ IsBetween these others a d) → ListedBefore these others a m xs
+  list_skip a b m xs le before none = record {
     exactly = λ q. (
-      (λ c. let h = (before.exactly q).0 c in (h.0, later q.a q.b a b h.1)),
-      (λ h. (before.exactly q).1 (h.0, earlier q.a q.b a b (other q.a q.b h.0 (same_or_other q.a q.b a b)) h.1)),
+      (λ c. let h = (before.exactly q).0 c in (h.0, further q.a q.b h.1)),
+      (λ h. (before.exactly q).1 (h.0, nearer q.a q.b h.0 h.1)),
     );
     ascend = before.ascend;
   }
     where
-      other : (c d : ℕ) → IsBetween these others c d → ((c ≡ a) × (d ≡ b)) ⊎ ((c ≢ a) ⊎ (d ≢ b)) → (c ≢ a) ⊎ (d ≢ b)
-      other c d l (inl same) = absurd (none (subst (λ (u : ℕ). IsBetween these others a u) same.1 (subst (λ (u : ℕ). IsBetween these others u d) same.0 l)))
-      other c d l (inr o) = o
+      further : (c d : ℕ) → IsEarlier c d a b → IsEarlier c d a m
+      further c d (inl h) = inl h
+      further c d (inr h) = inr (h.0, (let lt = h.1 in omega (arith, lt, le)))
+
+      nearer : (c d : ℕ) → IsBetween these others c d → IsEarlier c d a m → IsEarlier c d a b
+      nearer c d l (inl h) = inl h
+      nearer c d l (inr h) = elim (below_or_not d b) [
+        | inl lt ↦ inr (h.0, lt)
+        | inr past ↦ absurd (none d past h.1 (subst (λ (u : ℕ). IsBetween these others u d) h.0 l))
+      ]
 
   pub list_push : (a b : ℕ) (xs : List Pair) → ListedBefore these others a b xs → IsBetween these others a b → ListedBefore these others a (b + 1) (xs ++ record { a = a; b = b } ∷ [])
   list_push a b xs before l = record {

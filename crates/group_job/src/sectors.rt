@@ -48,14 +48,15 @@ fn set_clear_row(marks: &mut Table, groups: &[Group], table: &Table, f: u16)
     requires below { AreOfSectors marks.old.n groups.now }
     ensures { SetsMore (λ c d. (k : ℕ) × IsInGroup groups.now c f × IsInGroup groups.now d k × (¬ Rejects table.now f k)) marks.old marks.new }
 {
-    for k in 0..table.sectors() {
-        if !table.rejects(f, k) {
-            set_block(
-                marks,
-                groups[f as usize].as_slice(),
-                groups[k as usize].as_slice(),
-            );
-        }
+    let end = table.sectors();
+    let mut k = table.next_clear(f, 0);
+    while k < end {
+        set_block(
+            marks,
+            groups[f as usize].as_slice(),
+            groups[k as usize].as_slice(),
+        );
+        k = table.next_clear(f, k + 1);
     }
 }
 
@@ -110,10 +111,12 @@ fn list_row(listed: &mut Vec<Pair>, these: &Table, others: &Table, a: u16) -> Re
     ensures { OnOk result (ListedBefore these.now others.now (a + 1) 0 listed.new.items) }
 {
     let end = these.sectors();
-    for b in a + 1..end {
-        if these.rejects(a, b) && !others.rejects(a, b) {
+    let mut b = these.next_set(a, a + 1);
+    while b < end {
+        if !others.rejects(a, b) {
             listed.push(Pair { a, b })?;
         }
+        b = these.next_set(a, b + 1);
     }
     Ok(())
 }

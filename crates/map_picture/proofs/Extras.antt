@@ -59,9 +59,6 @@ open_not_stops e = let q : 111 ≡ 115 = heads 111 115 (codes "pen") (codes "top
 pub open_not_ray : codes "open" ≡ codes "ray" → ⊥
 open_not_ray e = let q : 111 ≡ 114 = heads 111 114 (codes "pen") (codes "ay") e in omega (arith, q)
 
-pub stops_not_ray : codes "stops" ≡ codes "ray" → ⊥
-stops_not_ray e = let q : 115 ≡ 114 = heads 115 114 (codes "tops") (codes "ay") e in omega (arith, q)
-
 pub open_not_fault : codes "open" ≡ codes "fault" → ⊥
 open_not_fault e = let q : 111 ≡ 102 = heads 111 102 (codes "pen") (codes "ault") e in omega (arith, q)
 

@@ -8,6 +8,7 @@ use Rattle.math_base.proofs.Numbers.{below_same_or_above}
 use Rattle.sight_names.specs.Map.{Map, MapLine, line_at}
 use Rattle.map_picture.specs.Picture.{Element, Head, Style, Paper, Line, Foot, entry_if, line_elements, line_if, lines_from, picture_of}
 use Rattle.map_picture.specs.Laws.{Has, HasNoLine, IsLineBefore, ShowsLines}
+use Rattle.map_picture.proofs.Pieces.{has_before, has_behind}
 
 same_line : (i n : ℕ) (l o : MapLine) → Line i l ≡ Line n o → (i ≡ n) × (l ≡ o)
 same_line i n l o e = (number i n l o e, line i n l o e)
@@ -167,15 +168,6 @@ order_picture m under over h k =
 
 -- ---- which there are
 
-has_left : (xs ys : List Element) (e : Element) → Has xs e → Has (xs ++ ys) e
-has_left [] ys e (k, at) = absurd (none-some e at)
-has_left (x ∷ xs) ys e (zero, at) = (zero, at)
-has_left (x ∷ xs) ys e (suc k, at) = let h = has_left xs ys e (k, at) in (suc h.0, h.1)
-
-has_right : (xs ys : List Element) (e : Element) → Has ys e → Has (xs ++ ys) e
-has_right [] ys e h = h
-has_right (x ∷ xs) ys e h = let k = has_right xs ys e h in (suc k.0, k.1)
-
 has_either : (xs ys : List Element) (e : Element) → Has (xs ++ ys) e → Has xs e ⊎ Has ys e
 has_either [] ys e h = inr h
 has_either (x ∷ xs) ys e (zero, at) = inl (zero, at)
@@ -222,10 +214,10 @@ found_in solid i (e ∷ es) n o h = ⊎_elim
 there_in : (i : ℕ) (es : List (Option MapLine)) (k n : ℕ) (o : MapLine) → n ≡ i + k → slice_get es k ≡ Some (Some o) → Has (lines_from o.solid i es) (Line n o)
 there_in i [] k n o e at = absurd (none-some (Some o) at)
 there_in i (x ∷ es) zero n o e at =
-    has_left (entry_if o.solid i x) (lines_from o.solid (i + 1) es) (Line n o)
+    has_before (entry_if o.solid i x) (lines_from o.solid (i + 1) es) (Line n o)
     (let same : i ≡ n = omega (arith, e) in
     subst (λ (y : Option MapLine). Has (entry_if o.solid i y) (Line n o)) (sym (same_Some x (Some o) at)) (subst (λ (j : ℕ). Has (line_if o.solid i o) (Line j o)) same (there_if i o)))
-there_in i (x ∷ es) (suc k) n o e at = has_right (entry_if o.solid i x) (lines_from o.solid (i + 1) es) (Line n o) (there_in (i + 1) es k n o (omega (arith, e)) at)
+there_in i (x ∷ es) (suc k) n o e at = has_behind (entry_if o.solid i x) (lines_from o.solid (i + 1) es) (Line n o) (there_in (i + 1) es k n o (omega (arith, e)) at)
 
 -- the record has a line
 entry_at : (es : List (Option MapLine)) (i : ℕ) (l : MapLine) → option_and_then (λ o. o) (slice_get es i) ≡ Some l → slice_get es i ≡ Some (Some l)
@@ -251,8 +243,8 @@ of_lines m i l e = go l.solid refl
     there = there_in 0 m.lines i i l (omega arith) (entry_at m.lines i l e)
 
     go : (b : Bool) → l.solid ≡ b → Has (line_elements m) (Line i l)
-    go true q = has_right (lines_from false 0 m.lines) (lines_from true 0 m.lines) (Line i l) (subst (λ (b : Bool). Has (lines_from b 0 m.lines) (Line i l)) q there)
-    go false q = has_left (lines_from false 0 m.lines) (lines_from true 0 m.lines) (Line i l) (subst (λ (b : Bool). Has (lines_from b 0 m.lines) (Line i l)) q there)
+    go true q = has_behind (lines_from false 0 m.lines) (lines_from true 0 m.lines) (Line i l) (subst (λ (b : Bool). Has (lines_from b 0 m.lines) (Line i l)) q there)
+    go false q = has_before (lines_from false 0 m.lines) (lines_from true 0 m.lines) (Line i l) (subst (λ (b : Bool). Has (lines_from b 0 m.lines) (Line i l)) q there)
 
 in_picture : (m : Map) (under over : List Element) → HasNoLine under → HasNoLine over → (i : ℕ) (l : MapLine) → Has (picture_of m under over) (Line i l) → line_at m i ≡ Some l
 in_picture m under over h k i l has =
@@ -272,8 +264,8 @@ in_picture m under over h k i l has =
 of_picture : (m : Map) (under over : List Element) (i : ℕ) (l : MapLine) → line_at m i ≡ Some l → Has (picture_of m under over) (Line i l)
 of_picture m under over i l e =
     let front = Head ∷ Style ∷ Paper ∷ [] ++ under in
-    has_left (front ++ line_elements m ++ over) (Foot ∷ []) (Line i l)
-    (has_left (front ++ line_elements m) over (Line i l) (has_right front (line_elements m) (Line i l) (of_lines m i l e)))
+    has_before (front ++ line_elements m ++ over) (Foot ∷ []) (Line i l)
+    (has_before (front ++ line_elements m) over (Line i l) (has_behind front (line_elements m) (Line i l) (of_lines m i l e)))
 
 never_before_itself : (i : ℕ) (l : MapLine) → IsLineBefore i l i l → ⊥
 never_before_itself i l (inl h) = true≢false (sym h.1 ∙ h.0)

@@ -77,9 +77,6 @@ module _ (P : Element → Type 0) where
   behind (x ∷ xs) ys zero e h so at = absurd (subst (λ (y : Element). NotSo y) (same_Some x e at) h.0 so)
   behind (x ∷ xs) ys (suc p) e h so at = let r = behind xs ys p e h.1 so at in let same = r.1 in (r.0, omega (arith, same), r.2)
 
-  none_once : (xs : List Element) → AllByRecursion NotSo xs → AtMostOne xs
-  none_once xs h i j e f at there so too = absurd (all_at NotSo xs h i e at so)
-
   pub once_alone : (e : Element) → AtMostOne (e ∷ [])
   once_alone e zero zero f g at there so too = refl
   once_alone e zero (suc j) f g at there so too = absurd (none-some g there)

@@ -1,7 +1,6 @@
 -- Where a source's walk doesn't find a sector that it sees, its budget is spent; one more source that found none of the targets.
-use Rattle.std.proofs.Common.{◌≡◌, ◌≢◌, ℕ, ◌+◌, ◌<◌, ◌≤◌, ◌⊎◌, ◌↔◌, inl, inr, List, [], Bool, IsTrue, Option, Some, slice_get, length, Contains, sym, ◌∙◌, subst, arith}
+use Rattle.std.proofs.Common.{◌≡◌, ◌≢◌, ℕ, ◌+◌, ◌<◌, ◌≤◌, ◌⊎◌, ◌↔◌, inl, inr, List, Bool, IsTrue, Option, Some, slice_get, length, Contains, sym, ◌∙◌, subst, arith}
 use Rattle.std.proofs.lemmas.Option.{same_Some, slice_get_within}
-use Rattle.math_base.proofs.Lists.{contains_none}
 use Rattle.math_base.proofs.Numbers.{below_or_not}
 use Rattle.sight_names.specs.declared.names.Budget.{Budget}
 use Rattle.sight_names.specs.declared.names.Budget.TheVariants.{Of, Full}
@@ -42,12 +41,6 @@ module _ (m : Map) (ts : List Triangle) (ls : List (Option ℕ)) (good : IsGoodM
 -- ---- one more source
 
 module _ (m : Map) (ts : List Triangle) (ls : List (Option ℕ)) (budget : Budget) (sources targets : List ℕ) where
-  pub missed_none : AreMissedBelow m ts ls budget 0 sources targets []
-  missed_none = record { missed = λ f h. absurd (nowhere f h); ran_out = λ f. (λ c. absurd (contains_none f c), λ h. absurd (nowhere f h.0)) }
-    where
-      nowhere : (f : ℕ) → ¬ IsAmong 0 sources f
-      nowhere f h = let l = h.1 in omega (arith, l)
-
   pub missed_more : (n x : ℕ) (old new : List ℕ) (b : Bool) → slice_get sources n ≡ Some x → AreMissedBelow m ts ls budget n sources targets old → MissesAll m ts ls budget x targets × (IsTrue b ↔ Spent m ts ls x budget) → new ≡ added b x old
       → AreMissedBelow m ts ls budget (n + 1) sources targets new
   missed_more n x old new b there all is e = record {

@@ -3,22 +3,18 @@ use Rattle.std.proofs.Common.{◌≡◌, ◌≢◌, ℕ, ◌<◌, ◌↔◌, inl
 use Rattle.std.proofs.lemmas.Option.{MatchOption-at_none, MatchOption-at_some}
 use Rattle.math_base.proofs.Numbers.{below_or_above}
 use Rattle.sight_names.specs.declared.names.Ask.{Ask}
-use Rattle.sight_names.specs.declared.names.Ask.TheVariants.{Of as AskOf, Full as AskFull, Enough}
 use Rattle.sight_names.specs.declared.names.Budget.{Budget}
-use Rattle.sight_names.specs.declared.names.Budget.TheVariants.{Of}
 use Rattle.sight_names.specs.declared.names.Pair.{Pair}
 use Rattle.sight_names.specs.declared.names.Ray.{Ray}
 use Rattle.sight_names.specs.declared.names.Side.{Side}
 use Rattle.sight_names.specs.declared.names.Triangle.{Triangle}
-use Rattle.sight_names.specs.Enough.{IsBudgetOf, enough_of}
-use Rattle.sight_names.specs.Found.{Found, IsListedOver}
+use Rattle.sight_names.specs.Found.{IsListedOver}
 use Rattle.sight_names.specs.Groups.{AreGroups, HasClosedFaces, IsInGroup, IsListedByGroups}
 use Rattle.sight_names.specs.Map.{Map, IsMap, Names, map_of, named}
 use Rattle.sight_names.specs.Mesh.{IsGoodMesh, IsMeshOf}
 use Rattle.sight_names.specs.Plan.{PlanParts, IsPlan}
 use Rattle.sight_names.specs.Sees.{Sees}
 use Rattle.sight_names.specs.Sound.{IsSound}
-use Rattle.sight_names.proofs.OneMesh.{one_mesh}
 use Rattle.mesh_base.proofs.SightLaws.SightLaws.{sees_itself, sight_sees}
 use Rattle.reject_bits.specs.Parts.{Rejects}
 use Rattle.pair_budget.proofs.Connected.{connected_back}
@@ -31,9 +27,8 @@ use Rattle.triangulate.proofs.GroupLaws.WholeLaws.{each_has_list, groups_are_map
 use Rattle.group_job.specs.declared.build.GroupBuilt.{GroupBuilt}
 use Rattle.group_job.specs.Built.{DecidesByGroups, WalkedMap}
 use Rattle.group_job.specs.Sectors.{AreListed}
-use Rattle.group_job.proofs.Finding.{found_sees}
 use Rattle.group_job.proofs.KeptFaces.{good_mesh}
-use Rattle.group_job.proofs.OneWalk.{budget_of_map}
+use Rattle.group_job.proofs.OneWalk.{budget_of_map, same_budget}
 use Rattle.pair_answer.specs.declared.answer.PairAnswer.{PairAnswer}
 use Rattle.pair_answer.specs.declared.answer.PairAnswer.TheVariants as answer
 use Rattle.pair_answer.specs.Answer.{AnswersPair, AreTouching, IsAnswerFor, IsAnswerOver, IsRayOf}
@@ -61,12 +56,6 @@ listed_back m budget a b l = record {
   none = λ f k hf hk. let n = l.none k f hk hf in (λ e. n.0 (sym e), n.2, n.1);
 }
 
--- a map has one budget that is asked for
-one_budget : (m : Map) (ask : Ask) (b c : Budget) → IsBudgetOf m ask b → IsBudgetOf m ask c → b ≡ c
-one_budget m (AskOf n) b c h k = h ∙ sym k
-one_budget m AskFull b c h k = h ∙ sym k
-one_budget m Enough b c h k = h.2 ∙ ap (λ (ts : List Triangle). Of (enough_of m ts)) (one_mesh m h.0 k.0 h.1 k.1) ∙ sym k.2
-
 module _ (p : PlanParts) (plan : IsPlan p) (faces : HasClosedFaces (map_of p)) (ask : Ask) (groups : List (List ℕ)) (are : AreGroups (map_of p) groups) (w : WalkedMap (map_of p) ask groups) where
   mesh : IsMeshOf (map_of p) w.triangles
   mesh = mesh_alike w.g (map_of p) (sym w.grouped.lines) w.triangles w.mesh
@@ -79,9 +68,6 @@ module _ (p : PlanParts) (plan : IsPlan p) (faces : HasClosedFaces (map_of p)) (
 
   pub good : IsGoodMesh w.g w.triangles w.labels
   good = good_mesh p plan faces groups are w.g w.grouped w.triangles w.mesh w.labels w.labelled
-
-  pub seen : (f k : ℕ) → Found w.g w.triangles w.labels f k w.budget → Sees w.g f k
-  seen f k = found_sees w.g w.triangles w.labels good f k w.budget is_map sound.ends
 
   lists : HasLists (map_of p)
   lists = each_has_list p plan faces w.triangles mesh
@@ -136,7 +122,7 @@ module _ (p : PlanParts) (plan : IsPlan p) (faces : HasClosedFaces (map_of p)) (
 
     module _ (built : GroupBuilt) (d : DecidesByGroups (map_of p) ask built) where
       same : w.budget ≡ d.budget
-      same = one_budget (map_of p) ask w.budget d.budget (budget_of_map (map_of p) groups w.g w.grouped ask w.budget w.is_budget) d.is_budget
+      same = same_budget (map_of p) ask w.budget d.budget (budget_of_map (map_of p) groups w.g w.grouped ask w.budget w.is_budget) d.is_budget
 
       theirs : IsListedByGroups (map_of p) w.budget a b → IsListedByGroups (map_of p) d.budget a b
       theirs l = subst (λ (x : Budget). IsListedByGroups (map_of p) x a b) same l

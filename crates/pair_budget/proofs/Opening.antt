@@ -84,29 +84,6 @@ module _ (named : List Bool) where
   pub named_none : (t : TableParts) → ((a b : ℕ) → ¬ Rejects t a b) → OpensNamed named 0 t t
   named_none t none = record { sectors = refl; bits = λ c d lc ld. (λ r. absurd (none c d r), λ h. let lt = h.1 in absurd (omega (arith, lt))) }
 
-  pub named_skip : (a : ℕ) (old mid : TableParts) → ¬ IsMarked named a → OpensNamed named a old mid → OpensNamed named (a + 1) old mid
-  named_skip a old mid unmarked before = record {
-    sectors = before.sectors;
-    bits = λ c d lc ld. let b = before.bits c d lc ld in (
-      λ r. let h = b.0 r in (h.0, (let lt = h.1 in omega (arith, lt)), h.2),
-      λ h. elim (below_or_last c a h.1) as (λ _. Rejects mid c d) [ inl lt ↦ b.1 (h.0, lt, h.2) | inr e ↦ absurd (unmarked (subst (IsMarked named) e h.2)) ],
-    );
-  }
-
-  pub named_set : (a : ℕ) (old mid new : TableParts) → IsMarked named a → OpensNamed named a old mid → SetsPair mid new a a → KeepsOtherPairs mid new a a → OpensNamed named (a + 1) old new
-  named_set a old mid new marked before sets keeps = record {
-    sectors = sets.sectors ∙ before.sectors;
-    bits = λ c d lc ld.
-        let b = before.bits c d lc ld in
-        let o = set_one mid new a a sets keeps c d (subst (λ (u : ℕ). c < u) (sym before.sectors) lc) (subst (λ (u : ℕ). d < u) (sym before.sectors) ld) in (
-          λ r. elim (o.0 r) as (λ _. (c ≡ d) × (c < a + 1) × IsMarked named c) [
-            | inl m ↦ (let h = b.0 m in (h.0, (let lt = h.1 in omega (arith, lt)), h.2))
-            | inr w ↦ (w.0 ∙ sym w.1, (let e = w.0 in omega (arith, e)), subst (IsMarked named) (sym w.0) marked)
-          ],
-          λ h. elim (below_or_last c a h.1) as (λ _. Rejects new c d) [ inl lt ↦ o.1 (inl (b.1 (h.0, lt, h.2))) | inr e ↦ o.1 (inr (e, sym h.0 ∙ e)) ],
-        );
-  }
-
 -- ---- all
 
 module _ (p : PlanParts) (named : List Bool) (rays : List PairRay) (listed : List Pair) (zero_table first second third t : TableParts) (size : zero_table.n ≡ p.sectors) (marked : AreNamed p named)

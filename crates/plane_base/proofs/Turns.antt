@@ -17,10 +17,6 @@ pub self : (u : Arrow) → cross u u ≡ pos 0
 unfolding cross
 self u = by_ring (u.x ∷ u.y ∷ []) _ _ (search quoting depth 40 fits 100000) (search quoting depth 40 fits 100000) tt
 
-pub dot_swap : (u v : Arrow) → dot u v ≡ dot v u
-unfolding dot
-dot_swap u v = by_ring (u.x ∷ u.y ∷ v.x ∷ v.y ∷ []) _ _ (search quoting depth 40 fits 100000) (search quoting depth 40 fits 100000) tt
-
 -- the turn from e to g, by the two ends of an angle
 pub split_by : (d f e g : Arrow) → cross d f *ℤ cross e g ≡ cross e f *ℤ cross d g +ℤ cross d e *ℤ cross f g
 unfolding cross

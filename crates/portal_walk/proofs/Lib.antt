@@ -7,6 +7,7 @@ pub mod EdgeEnds
 pub mod SideLines
 pub mod RootOrder
 pub mod Listed
+pub mod Aheads
 pub mod Alone
 pub mod Portals
 pub mod Sequences

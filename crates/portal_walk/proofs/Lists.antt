@@ -1,7 +1,7 @@
 -- Elements of lists by their places.
 use Rattle.std.proofs.Common.{◌≡◌, ℕ, zero, suc, ◌-◌, ◌<◌, ◌⊎◌, inl, inr, List, [], ◌∷◌, ◌++◌, length, take, slice_get, slice_set, Option, Some, None, IsSome, refl, sym, ap, ◌∙◌, subst, arith}
 use Rattle.std.proofs.lemmas.Bool.{false≢true}
-use Rattle.std.proofs.lemmas.List.{length_push, length-set, length-take-le, set-set, set_at, take-append-le, take_all}
+use Rattle.std.proofs.lemmas.List.{length_push, length-set, length-take-le, set_at, take-append-le, take_all}
 use Rattle.math_base.proofs.Lists.{get_pushed}
 use Rattle.std.proofs.lemmas.Option.{none-some, same_Some, slice_get_within}
 
@@ -65,10 +65,6 @@ take_front xs ys n e = take-append-le n xs ys (omega (arith, e)) ∙ take_all n 
 
 pub last_set : {X : Type 0} (xs : List X) (x y : X) → slice_get xs (length xs - 1) ≡ Some x → slice_get (slice_set xs (length xs - 1) y) (length (slice_set xs (length xs - 1) y) - 1) ≡ Some y
 last_set xs x y e = ap (λ (n : ℕ). slice_get (slice_set xs (length xs - 1) y) (n - 1)) (length-set xs (length xs - 1) y) ∙ get_set_same xs (length xs - 1) y (slice_get_within xs (length xs - 1) x e)
-
--- written, and written back
-pub set_again : {X : Type 0} (xs : List X) (x y : X) → slice_get xs (length xs - 1) ≡ Some x → slice_set (slice_set xs (length xs - 1) y) (length xs - 1) x ≡ xs
-set_again xs x y e = set-set xs (length xs - 1) y x ∙ set_back xs x x e ∙ front_back xs x e
 
 pub some_of : {X : Type 0} (o : Option X) → IsSome o → (x : X) × (o ≡ Some x)
 some_of None h = absurd (false≢true h)

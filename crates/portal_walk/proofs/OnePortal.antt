@@ -1,7 +1,8 @@
 -- One portal with different ends is split by a line: the one across its middle.
-use Rattle.std.proofs.Common.{◌≡◌, ◌≢◌, [], ◌∷◌, ℤ, pos, ◌+ℤ◌, ◌-ℤ◌, ◌*ℤ◌, neg_ℤ, ◌<ℤ◌, ap₂, sym, subst}
+use Rattle.std.proofs.Common.{◌≡◌, ◌≢◌, [], ◌∷◌, ℤ, pos, ◌+ℤ◌, ◌-ℤ◌, ◌*ℤ◌, neg_ℤ, ◌<ℤ◌, sym, subst}
 use Rattle.sight_names.specs.declared.names.Pt.{Pt}
 use Rattle.sight_names.specs.Splitting.{EndPoints, IsSplittable}
+use Rattle.sight_names.proofs.Records.{same_pt}
 use Rattle.math_base.proofs.Quoting.{quoting, by_ring}
 use Rattle.math_base.proofs.Small.{neg_of_negated_pos, same_where_no_difference, some_square}
 
@@ -12,14 +13,11 @@ at_left lx ly rx ry = by_ring (lx ∷ ly ∷ rx ∷ ry ∷ []) _ _ (search quoti
 at_right : (lx ly rx ry : ℤ) → pos 2 *ℤ (lx -ℤ rx) *ℤ rx +ℤ pos 2 *ℤ (ly -ℤ ry) *ℤ ry +ℤ neg_ℤ ((lx -ℤ rx) *ℤ (lx +ℤ rx) +ℤ (ly -ℤ ry) *ℤ (ly +ℤ ry)) *ℤ pos 1 ≡ neg_ℤ ((lx -ℤ rx) *ℤ (lx -ℤ rx) +ℤ (ly -ℤ ry) *ℤ (ly -ℤ ry))
 at_right lx ly rx ry = by_ring (lx ∷ ly ∷ rx ∷ ry ∷ []) _ _ (search quoting depth 60 fits 1000000) (search quoting depth 60 fits 1000000) tt
 
-same_points : (p q : Pt) → p.x ≡ q.x → p.y ≡ q.y → p ≡ q
-same_points p q e f = ap₂ (λ (x y : ℤ). let r : Pt = record { x = x; y = y } in r) e f
-
 pub one_splittable : (e : EndPoints) → e.left ≢ e.right → IsSplittable (e ∷ [])
 one_splittable e differ =
     let l : Pt = e.left in
     let r : Pt = e.right in
-    let positive : pos 0 <ℤ ((l.x -ℤ r.x) *ℤ (l.x -ℤ r.x) +ℤ (l.y -ℤ r.y) *ℤ (l.y -ℤ r.y)) = some_square (l.x -ℤ r.x) (l.y -ℤ r.y) (λ h. differ (sym (same_points r l (same_where_no_difference r.x l.x h.0) (same_where_no_difference r.y l.y h.1)))) in (
+    let positive : pos 0 <ℤ ((l.x -ℤ r.x) *ℤ (l.x -ℤ r.x) +ℤ (l.y -ℤ r.y) *ℤ (l.y -ℤ r.y)) = some_square (l.x -ℤ r.x) (l.y -ℤ r.y) (λ h. differ (sym (same_pt r l (same_where_no_difference r.x l.x h.0) (same_where_no_difference r.y l.y h.1)))) in (
       pos 2 *ℤ (l.x -ℤ r.x),
       pos 2 *ℤ (l.y -ℤ r.y),
       neg_ℤ ((l.x -ℤ r.x) *ℤ (l.x +ℤ r.x) +ℤ (l.y -ℤ r.y) *ℤ (l.y +ℤ r.y)),

@@ -47,7 +47,7 @@ entering_none ts xs e h = ap (option_and_then (λ (i : ℕ). option_and_then (λ
 entering_some : (ts : List Triangle) (xs : List HalfEdge) (e : Edge) (i : ℕ) (x : HalfEdge) → number_of ts e ≡ Some i → slice_get xs i ≡ Some x → entering ts xs e ≡ (if x.solid then None else Some i)
 entering_some ts xs e i x h at = ap (option_and_then (λ (i : ℕ). option_and_then (λ (x : HalfEdge). if x.solid then None else Some i) (slice_get xs i))) h ∙ ap (option_and_then (λ (x : HalfEdge). if x.solid then None else Some i)) at
 
-outside_some : (xs : List HalfEdge) (source i : ℕ) (x : HalfEdge) → slice_get xs i ≡ Some x → way_outside xs source (Some i) ≡ (if names_it x.sector source then None else Some i)
+pub outside_some : (xs : List HalfEdge) (source i : ℕ) (x : HalfEdge) → slice_get xs i ≡ Some x → way_outside xs source (Some i) ≡ (if names_it x.sector source then None else Some i)
 outside_some xs source i x at = ap (option_and_then (λ (x : HalfEdge). if names_it x.sector source then None else Some i)) at
 
 -- the same by the test of the half-edge's sector

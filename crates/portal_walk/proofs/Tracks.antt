@@ -1,23 +1,19 @@
 -- The path of a walk as a track of portals, each with its frame for a note.
-use Rattle.std.proofs.Common.{◌≡◌, ℕ, ◌-◌, ◌<◌, List, [], ◌∷◌, ◌++◌, length, take, slice_get, slice_set, get_or, Option, Some, Result, Ok, Err, refl, sym, ap, ◌∙◌}
+use Rattle.std.proofs.Common.{◌≡◌, ℕ, ◌-◌, ◌<◌, List, length, take, slice_get, slice_set, get_or, Some, sym, ap, ◌∙◌}
 use Rattle.std.specs.Prelude.{map, option_map}
 use Rattle.std.proofs.lemmas.List.{length-map, map-set}
 use Rattle.std.proofs.Math.Seq.{map-set_same}
 use Rattle.std.proofs.lemmas.Option.{slice_get-map, slice_get-get_or, same_Some}
-use Rattle.sight_names.specs.declared.names.Memory.{Memory}
 use Rattle.sight_names.specs.Splitting.{EndPoints}
 use Rattle.stab_hull.specs.declared.frame.Noted.{Noted}
-use Rattle.stab_hull.specs.declared.onward.Told.{Told}
 use Rattle.stab_hull.specs.declared.onward.Told.TheVariants as told
-use Rattle.stab_hull.specs.declared.track.Track.{Track}
-use Rattle.stab_hull.specs.declared.Passed.{Passed}
 use Rattle.stab_hull.specs.declared.Passed.TheVariants as passed
 use Rattle.stab_hull.specs.Portals.{portals_of}
-use Rattle.stab_hull.specs.Sleeves.{GoesOnTo, ends_of, frame_of, frames_of, note_of, notes_of, told_of}
+use Rattle.stab_hull.specs.Sleeves.{frame_of, frames_of, note_of}
 use Rattle.stab_hull.proofs.Sleeves.{fewer_ends, fewer_notes}
 use Rattle.portal_walk.specs.declared.path.Frame.{Frame}
 use Rattle.portal_walk.specs.declared.path.Ways.{Ways}
-use Rattle.portal_walk.specs.Frames.{PathParts, Passes, Tells, HasWays, first_portals, with_ways}
+use Rattle.portal_walk.specs.Frames.{PathParts, HasWays, first_portals, with_ways}
 
 abbrev pub parts_of : List (Noted Frame) → PathParts
 parts_of xs = record { frames = map note_of xs; ends = portals_of (frames_of xs) }
@@ -25,34 +21,13 @@ parts_of xs = record { frames = map note_of xs; ends = portals_of (frames_of xs)
 joined : (fs gs : List Frame) (es hs : List EndPoints) → fs ≡ gs → es ≡ hs → let p : PathParts = record { frames = fs; ends = es } in let q : PathParts = record { frames = gs; ends = hs } in p ≡ q
 joined fs gs es hs e h = cc
 
--- what comes of one more portal
-pub path_tells : (old new : Track Frame) (f : Frame) (e : EndPoints) (r : Result Told Memory) → GoesOnTo old f e new r → Tells (parts_of old.portals.items) (parts_of new.portals.items) f e r
-path_tells old new f e (Ok told.Open) g = (joined (notes_of new) (notes_of old ++ f ∷ []) (ends_of new) (ends_of old ++ e ∷ []) g.noted g.told.0, g.told.1)
-path_tells old new f e (Ok (told.Stuck x)) g = (joined (notes_of new) (notes_of old) (ends_of new) (ends_of old) g.noted g.told.0, g.told.1)
-path_tells old new f e (Ok told.Unseen) g = joined (notes_of new) (notes_of old) (ends_of new) (ends_of old) g.noted g.told
-path_tells old new f e (Err m) g = joined (notes_of new) (notes_of old) (ends_of new) (ends_of old) g.noted g.told
-
-pub path_passes : (old new : Track Frame) (f : Frame) (e : EndPoints) (r : Result Passed Memory) → GoesOnTo old f e new (told_of r) → Passes (parts_of old.portals.items) (parts_of new.portals.items) f e r
-path_passes old new f e (Ok passed.Open) g = path_tells old new f e (Ok told.Open) g
-path_passes old new f e (Ok (passed.Stuck x)) g = path_tells old new f e (Ok (told.Stuck x)) g
-path_passes old new f e (Err m) g = path_tells old new f e (Err m) g
-
 -- fewer portals
 pub path_cut : (xs ys : List (Noted Frame)) (n : ℕ) → ys ≡ take n xs → parts_of ys ≡ first_portals n (parts_of xs)
 path_cut xs ys n e = joined (map note_of ys) (take n (map note_of xs)) (portals_of (frames_of ys)) (take n (portals_of (frames_of xs))) (fewer_notes xs ys n e) (fewer_ends xs ys n e)
 
--- no portal
-pub no_portals : (xs : List (Noted Frame)) → map note_of xs ≡ [] → xs ≡ []
-no_portals [] e = refl
-no_portals (x ∷ xs) e = absurd cc
-
 -- as many notes as portals
 pub as_many_notes : (xs : List (Noted Frame)) → length (map note_of xs) ≡ length xs
 as_many_notes xs = length-map xs note_of
-
--- the note of the last portal
-pub last_note : (xs : List (Noted Frame)) (o : Option (Noted Frame)) → slice_get xs (length xs - 1) ≡ o → slice_get (map note_of xs) (length (map note_of xs) - 1) ≡ option_map note_of o
-last_note xs o e = ap (λ (n : ℕ). slice_get (map note_of xs) (n - 1)) (as_many_notes xs) ∙ slice_get-map note_of xs (length xs - 1) ∙ ap (option_map note_of) e
 
 -- a portal with other ways left
 abbrev pub renoted : Noted Frame → Ways → Noted Frame

@@ -25,7 +25,7 @@ use Rattle.portal_walk.specs.Frames.{AreDone, HasWay, HasWays, IsReady, PathPart
 use Rattle.portal_walk.specs.Pending.{way_of, way_taken}
 use Rattle.portal_walk.specs.Scene.{SceneParts, Finds, FindsWay, IsEntry, IsNumber}
 use Rattle.portal_walk.specs.Sides.{IsRootOf}
-use Rattle.portal_walk.specs.Walk.{WalkParts, IsWalk, ComesBy, IsBack, IsNoted, IsTop, SameWalk, Tries, ends_of, tried_by}
+use Rattle.portal_walk.specs.Walk.{WalkParts, IsWalk, ComesBy, IsBack, IsNoted, IsTop, Tries, ends_of, tried_by}
 use Rattle.portal_walk.proofs.Ends.{same_parts}
 use Rattle.portal_walk.proofs.Entering.{KeepsEnd, blocked_at, found_number, open_at, room, root_closed, root_comes, way_closed, way_comes, way_ends, way_entry, way_number}
 use Rattle.portal_walk.proofs.Lists.{get_front, last_pushed, last_set, some_of, take_front}
@@ -34,9 +34,6 @@ use Rattle.portal_walk.proofs.SideLines.{all_at}
 use Rattle.portal_walk.proofs.Steps.{blocked_back, left_done, none_back, rests_of, root_ahead, root_tried, tells_at, way_ahead, way_tried}
 use Rattle.portal_walk.proofs.OnePortal.{one_splittable}
 use Rattle.portal_walk.proofs.Sequences.{portal_at}
-
-same_self : (w : WalkParts) → SameWalk w w
-same_self w = record { plan = refl; mesh = refl; labels = refl; source = refl }
 
 -- ---- by a way
 
@@ -154,10 +151,6 @@ module _ (p : SceneParts) (roots : List Root) (root : Option Side) (path : PathP
 
       -- no line passes the portal, as these ends show
       module _ (next : Frame) (evidence : Evidence) (between : PathParts) (passes : Passes path between next (ends_of y) (Ok (Stuck evidence))) (later : List Node) where
-        -- there was no memory for its node
-        pub stuck_still : later ≡ nodes → IsWalk (walk_over p roots root between.frames between.ends later)
-        stuck_still same = subst (λ (q : PathParts). IsWalk (walk_over p roots root q.frames q.ends later)) (sym passes.0) (subst (λ (ns : List Node). IsWalk (walk_over p roots root path.frames path.ends ns)) (sym same) i)
-
         pub stuck_rests : later ≡ nodes → (r : Memory) → Tries old (walk_over p roots root between.frames between.ends later) (Err r)
         stuck_rests same r = (
           rests_of old (walk_over p roots root between.frames between.ends later) (record { plan = refl; mesh = refl; labels = refl; source = refl }) (record { roots = refl; root = refl; frames = ap (λ (q : PathParts). q.frames) passes.0; nodes = same }),

@@ -1,3 +1,4 @@
+pub mod Ahead
 pub mod Frames
 pub mod Nodes
 pub mod Pending

@@ -2,6 +2,7 @@
 //! left way first.
 #![tactic(auto)]
 
+mod ahead;
 pub mod enough_budget;
 mod path;
 mod roots;

@@ -1,12 +1,16 @@
 //! What a walk goes through: the half-edges of a map, seen from one source.
 
 ghost use Rattle.std.specs.Prelude.{◌≡◌, Some, slice_get};
-ghost use Rattle.mesh_shape.specs.HalfEdges.HalfEdges.{AreHalfEdges};
-ghost use Rattle.portal_walk.specs.Scene.{Finds, FindsWay, IsNumber, IsScene, behind as behind_of};
+ghost use Rattle.mesh_shape.specs.declared.half_edges.table.HalfEdge.{HalfEdge as HalfEdgeOf};
+ghost use Rattle.portal_walk.specs.Ahead.{FindsAhead, ahead_by};
+ghost use Rattle.portal_walk.specs.Scene.{Finds, IsNumber, behind as behind_of};
+ghost use Rattle.portal_walk.specs.Terrain.{IsTerrain};
 ghost use Rattle.sight_names.specs.Map.{map_of};
 ghost use Rattle.sight_names.specs.Mesh.{IsGoodMesh};
 ghost use Rattle.sight_names.specs.Plan.{IsPlan};
 
+use crate::ahead::Ahead;
+use crate::terrain::Terrain;
 use mesh_shape::half_edges::{HalfEdge, HalfEdges};
 use mesh_shape::{Labels, Mesh};
 use sight_names::Plan;
@@ -27,20 +31,24 @@ pub struct Scene<'a> {
     labels: &'a Labels,
     source: u16,
     edges: &'a HalfEdges,
+    lefts: &'a [Option<Ahead>],
+    rights: &'a [Option<Ahead>],
 }
 
 impl<'a> Model for Scene<'a> {
+    ghost use Rattle.portal_walk.specs.Ahead.{AreAhead};
     ghost use Rattle.portal_walk.specs.Scene.{SceneParts, IsScene};
+    ghost use Rattle.portal_walk.specs.declared.scene.Way.TheVariants.{Left, Right};
 
     ghost Value = { SceneParts };
 
     ghost view = { λ s. record { plan = s.plan.now; mesh = s.mesh.now; labels = s.labels.now; source = s.source; edges = s.edges.now } };
 
-    ghost invariant = { λ s. IsScene (record { plan = s.plan.now; mesh = s.mesh.now; labels = s.labels.now; source = s.source; edges = s.edges.now }) };
+    ghost invariant = { λ s. IsScene (record { plan = s.plan.now; mesh = s.mesh.now; labels = s.labels.now; source = s.source; edges = s.edges.now }) × AreAhead s.edges.now Left s.lefts.now × AreAhead s.edges.now Right s.rights.now };
 }
 
 /// The half-edge behind a way out of the triangle.
-fn behind(edge: &HalfEdge, way: Way) -> Option<u32>
+pub fn behind(edge: &HalfEdge, way: Way) -> Option<u32>
     ensures { result ≡ behind_of edge.now way }
 {
     match way {
@@ -55,20 +63,22 @@ impl<'a> Scene<'a> {
         plan: &'a Plan,
         mesh: &'a Mesh,
         labels: &'a Labels,
-        edges: &'a HalfEdges,
+        terrain: &'a Terrain,
         source: u16,
     ) -> Scene<'a>
         requires rules { IsPlan plan.now }
         requires good { IsGoodMesh (map_of plan.now) mesh.now.triangles labels.now }
-        requires edges { AreHalfEdges plan.now mesh.now.triangles labels.now edges.now }
-        ensures { result ≡ record { plan = plan.now; mesh = mesh.now; labels = labels.now; source = source; edges = edges.now } }
+        requires terrain { IsTerrain plan.now mesh.now.triangles labels.now terrain.now }
+        ensures { result ≡ record { plan = plan.now; mesh = mesh.now; labels = labels.now; source = source; edges = terrain.now.edges } }
     {
         Scene {
             plan,
             mesh,
             labels,
             source,
-            edges,
+            edges: terrain.edges(),
+            lefts: terrain.lefts(),
+            rights: terrain.rights(),
         }
     }
 
@@ -87,17 +97,31 @@ impl<'a> Scene<'a> {
         self.edges.get(number).unwrap()
     }
 
-    /// The number of the half-edge behind a way out of the triangle of this one; None where one can't leave by this way.
-    pub fn way(&self, from: u32, way: Way) -> Option<u32>
+    /// What is ahead by a way out of the triangle of the half-edge with this number, be it a triangle of the source or not.
+    #[inline(always)]
+    fn ahead_in(&self, from: u32, way: Way) -> Option<Ahead>
         requires { IsNumber self.now.mesh.triangles from }
-        ensures { FindsWay self.now from way result }
+        ensures { (x : HalfEdgeOf) → slice_get self.now.edges from ≡ Some x → result ≡ ahead_by self.now.edges (behind_of x way) }
+    {
+        match way {
+            Way::Left => self.lefts[from as usize],
+            Way::Right => self.rights[from as usize],
+        }
+    }
+
+    /// The same; None where one can't leave by this way.
+    // all that a step needs is read in one place: the half-edges themselves would be looked up twice
+    #[inline(always)]
+    pub fn ahead(&self, from: u32, way: Way) -> Option<Ahead>
+        requires { IsNumber self.now.mesh.triangles from }
+        ensures { FindsAhead self.now from way result }
     {
         let source = self.source;
-        let number = behind(self.get(from), way)?;
-        if self.get(number).sector == Some(source) {
+        let ahead = self.ahead_in(from, way)?;
+        if ahead.sector == source as u32 {
             None
         } else {
-            Some(number)
+            Some(ahead)
         }
     }
 

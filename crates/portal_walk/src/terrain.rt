@@ -3,7 +3,9 @@
 ghost use Rattle.std.specs.Prelude.{◌≡◌, ◌<◌, length, IfOk, reverse};
 ghost use Rattle.portal_walk.specs.Terrain.{IsTerrain};
 
+use crate::ahead::{Ahead, all_ahead};
 use crate::roots::Roots;
+use crate::scene::Way;
 use mesh_shape::half_edges::HalfEdges;
 use mesh_shape::{Labels, Mesh};
 use sight_names::{Memory, Plan};
@@ -14,6 +16,8 @@ use std::marker::Model;
 #[derive(Drop)]
 pub struct Terrain {
     edges: HalfEdges,
+    lefts: Vec<Option<Ahead>>,
+    rights: Vec<Option<Ahead>>,
     roots: Roots,
 }
 
@@ -22,7 +26,7 @@ impl Model for Terrain {
 
     ghost Value = { TerrainParts };
 
-    ghost view = { λ t. record { edges = t.edges; roots = t.roots } };
+    ghost view = { λ t. record { edges = t.edges; lefts = t.lefts.items; rights = t.rights.items; roots = t.roots } };
 }
 
 impl Terrain {
@@ -35,8 +39,31 @@ impl Terrain {
         ensures { IfOk result (IsTerrain plan.now mesh.now.triangles labels.now) }
     {
         let edges = HalfEdges::of(alloc, plan, mesh, labels)?;
+        // a mesh has few triangles
+        let _triangles = mesh.triangles();
+        let lefts = all_ahead(alloc, &edges, Way::Left)?;
+        let rights = all_ahead(alloc, &edges, Way::Right)?;
         let roots = Roots::of(alloc, plan)?;
-        Ok(Terrain { edges, roots })
+        Ok(Terrain {
+            edges,
+            lefts,
+            rights,
+            roots,
+        })
+    }
+
+    /// What is ahead by the left way out of each half-edge's triangle.
+    pub(crate) fn lefts(&self) -> &[Option<Ahead>]
+        ensures { result.now ≡ self.now.lefts }
+    {
+        self.lefts.as_slice()
+    }
+
+    /// The same of the right way.
+    pub(crate) fn rights(&self) -> &[Option<Ahead>]
+        ensures { result.now ≡ self.now.rights }
+    {
+        self.rights.as_slice()
     }
 
     /// The half-edges.

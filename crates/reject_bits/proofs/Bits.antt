@@ -144,3 +144,10 @@ others_of n old mid new whole turns same = record { sectors_are = refl; bits = �
 
     at : (k : ℕ) → k < n * n → (table_bit new k ≡ 1) ↔ (¬ (table_bit old k ≡ 1))
     at k lt = other (table_bit new k) (table_bit old k) (bit_at-lt (slice_index old (k / 8)) (k % 8)) (same k lt ∙ turns k (within k (length old) (n * n) whole lt))
+
+-- ---- the next bit that is set, or clear
+
+pub none_in_byte : (byte bit k : ℕ) → bit < 2 → k < 8 → byte ≡ 255 * (1 - bit) → bit_at byte k ≡ 1 - bit
+none_in_byte byte zero k lt in' e = subst (λ (x : ℕ). bit_at x k ≡ 1) (sym e) (bit_at_ones 8 k in')
+none_in_byte byte (suc zero) k lt in' e = subst (λ (x : ℕ). bit_at x k ≡ 0) (sym e) (bit_at_ones_above 0 k (omega arith))
+none_in_byte byte (suc (suc bit)) k lt in' e = absurd (omega (arith, lt))

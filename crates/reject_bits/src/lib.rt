@@ -2,7 +2,7 @@
 //! Doom Specs describe the lump and linuxdoom's `P_CheckSight` reads it.
 #![tactic(auto)]
 
-ghost use Rattle.std.specs.Prelude.{◌≡◌, ◌≢◌, ℕ, length, ◌+◌, ◌-◌, ◌*◌, ◌<◌, ◌↔◌, IfOk, IsTrue, replicate};
+ghost use Rattle.std.specs.Prelude.{◌≡◌, ◌≢◌, ℕ, length, ◌+◌, ◌-◌, ◌*◌, ◌<◌, ◌≤◌, ◌↔◌, IfOk, IsTrue, replicate};
 ghost use Rattle.std.specs.Int.{bit_at, div_ceil};
 ghost use Rattle.sight_names.specs.Table.{table_bit, IsTable, HasNoSpareBit};
 ghost use Rattle.reject_bits.specs.Parts.{HasSameBits};
@@ -103,6 +103,28 @@ impl Table {
         Table { n, bytes }
     }
 
+    /// The first sector from `from` on whose bit with `a` is set, or the number of sectors where there is none.
+    pub fn next_set(&self, a: u16, from: u16) -> u16
+        requires row { a < self.now.n }
+        requires from { from ≤ self.now.n }
+        ensures range { (from ≤ result) × (result ≤ self.now.n) }
+        ensures set { result < self.now.n → Rejects self.now a result }
+        ensures clear { (b : ℕ) → from ≤ b → b < result → ¬ Rejects self.now a b }
+    {
+        next_bit(self.bytes.as_slice(), self.n, a, from, 1)
+    }
+
+    /// The first sector from `from` on whose bit with `a` is clear, or the number of sectors where there is none.
+    pub fn next_clear(&self, a: u16, from: u16) -> u16
+        requires row { a < self.now.n }
+        requires from { from ≤ self.now.n }
+        ensures range { (from ≤ result) × (result ≤ self.now.n) }
+        ensures clear { result < self.now.n → ¬ Rejects self.now a result }
+        ensures set { (b : ℕ) → from ≤ b → b < result → Rejects self.now a b }
+    {
+        next_bit(self.bytes.as_slice(), self.n, a, from, 0)
+    }
+
     /// Whether the bit of the pair (a, b) is set: no monster in sector a sees a player in sector b.
     pub fn rejects(&self, a: u16, b: u16) -> bool
         requires from { a < self.now.n }
@@ -112,6 +134,43 @@ impl Table {
         let bit = place(self.n, a, b);
         (self.bytes[bit / 8] >> (bit % 8)) & 1 == 1
     }
+}
+
+/// How many bits of the byte, from the one at `from` on, are passed because they are other than asked: none where that one is
+/// as asked, all that are left where none of the byte is, which is so of most bytes of a table.
+fn passed(byte: u8, from: usize, bit: u8) -> usize
+    requires from { from < 8 }
+    requires bit { bit < 2 }
+    ensures within { from + result ≤ 8 }
+    ensures here { result ≡ 0 → bit_at byte from ≡ bit }
+    ensures others { (k : ℕ) → from ≤ k → k < from + result → bit_at byte k ≡ 1 - bit }
+{
+    if byte == 255 * (1 - bit) {
+        return 8 - from;
+    }
+    if (byte >> from) & 1 == bit { 0 } else { 1 }
+}
+
+/// The first place of the row, from this one on, whose bit is as asked, or the row's end.
+fn next_bit(bytes: &[u8], n: u16, a: u16, from: u16, bit: u8) -> u16
+    requires table { IsTable n bytes.now }
+    requires row { a < n }
+    requires from { from ≤ n }
+    requires bit { bit < 2 }
+    ensures range { (from ≤ result) × (result ≤ n) }
+    ensures here { result < n → table_bit bytes.now (a * n + result) ≡ bit }
+    ensures others { (b : ℕ) → from ≤ b → b < result → table_bit bytes.now (a * n + b) ≡ 1 - bit }
+{
+    let mut b = from as usize;
+    while b < n as usize {
+        let at = place(n, a, b as u16);
+        let more = passed(bytes[at / 8], at % 8, bit);
+        if more == 0 {
+            return b as u16;
+        }
+        b += more;
+    }
+    n
 }
 
 /// The byte in which each bit is turned round.

@@ -27,6 +27,7 @@ use Rattle.mesh_shape.specs.HalfEdges.HalfEdges.{portal_of, way_outside, IsHalfE
 use Rattle.mesh_shape.proofs.HalfEdges.Reached.{other_edges}
 use Rattle.gate_floods.specs.Gates.{other_side}
 use Rattle.cert_checker.specs.TreeJudge.Roots.{root_edge, way_out_of}
+use Rattle.cert_checker.proofs.TreeJudge.OneTree.{same_some}
 use Rattle.portal_walk.specs.declared.scene.Way.{Way as WayOut}
 use Rattle.portal_walk.specs.declared.scene.Way.TheVariants.{Left, Right}
 use Rattle.portal_walk.specs.Pending.{way_of}
@@ -42,18 +43,9 @@ use Rattle.row_trees.specs.Going.{GoesOn}
 use Rattle.row_trees.specs.Path.{HasEndOfLast}
 use Rattle.row_trees.specs.Walkable.{Scene, Search, IsWalkable}
 
-one_edge : (x y : HalfEdge) (o : Option HalfEdge) → o ≡ Some x → o ≡ Some y → x ≡ y
-one_edge x y o e f = cc
-
 module _ (c : Scene) (s : Search) (w : IsWalkable s.ground c.edges c.roots c.firsts s.source) where
   abbrev p : PlanParts
   p = s.ground.plan
-
-  abbrev ts : List Triangle
-  ts = s.ground.triangles
-
-  abbrev ls : List (Option ℕ)
-  ls = s.ground.labels
 
   abbrev parts : SceneParts
   parts = record { plan = s.ground.plan; mesh = record { points = 0; triangles = s.ground.triangles }; labels = s.ground.labels; source = s.source; edges = c.edges }
@@ -63,7 +55,7 @@ module _ (c : Scene) (s : Search) (w : IsWalkable s.ground c.edges c.roots c.fir
 
   -- what stands at a number is a half-edge
   half_at : (k : ℕ) (x : HalfEdge) → IsNumber s.ground.triangles k → slice_get c.edges k ≡ Some x → (e : Edge) × IsHalfEdge s.ground.plan s.ground.triangles s.ground.labels c.edges e x
-  half_at k x (e, number) there = let h = w.edges.each e k number in (e, subst (IsHalfEdge s.ground.plan s.ground.triangles s.ground.labels c.edges e) (one_edge h.0 x (slice_get c.edges k) h.1 there) h.2)
+  half_at k x (e, number) there = let h = w.edges.each e k number in (e, subst (IsHalfEdge s.ground.plan s.ground.triangles s.ground.labels c.edges e) (same_some h.0 x (slice_get c.edges k) h.1 there) h.2)
 
   pub label_at : (k : ℕ) (x : HalfEdge) → IsNumber s.ground.triangles k → slice_get c.edges k ≡ Some x → label_of s.ground.labels x.triangle ≡ x.sector
   label_at k x number there = (half_at k x number there).1.label

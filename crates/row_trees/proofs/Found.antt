@@ -1,10 +1,10 @@
 -- What is found: a sight ray leads there, and the row that was wanted has it.
-use Rattle.std.proofs.Common.{◌≡◌, ◌≢◌, ℕ, ◌<◌, ◌≤◌, inl, inr, List, [], ◌∷◌, ◌++◌, Option, Some, None, Bool, true, false, not, IsSome, Contains, length, slice_get, if◌then◌else◌, refl, sym, ◌∙◌, ap, subst, arith, ℤ}
+use Rattle.std.proofs.Common.{◌≡◌, ◌≢◌, ℕ, ◌<◌, ◌≤◌, inl, inr, List, [], ◌∷◌, ◌++◌, Option, Some, None, Bool, true, false, Contains, length, slice_get, if◌then◌else◌, refl, sym, ◌∙◌, ap, subst, arith, ℤ}
 use Rattle.std.proofs.lemmas.List.Elements.{All-push}
 use Rattle.std.proofs.lemmas.Option.{slice_get_within}
 use Rattle.math_base.proofs.Bools.{not_both_values}
 use Rattle.math_base.proofs.Lists.{last_pushed, contains_pushed}
-use Rattle.math_base.proofs.Options.{some_is_same, some_is_not_none, none_is_not_some}
+use Rattle.math_base.proofs.Options.{some_is_same, none_is_not_some}
 use Rattle.sight_names.proofs.Lists.{contains_of_get}
 use Rattle.sight_names.proofs.PlanMap.{plan_is_map}
 use Rattle.sight_names.specs.declared.names.Side.{Side}
@@ -29,7 +29,7 @@ use Rattle.gate_floods.specs.declared.row_judge.walk.RowWalk.{RowWalk}
 use Rattle.gate_floods.specs.RowJudge.Words.{row_at, is_in, is_away}
 use Rattle.gate_floods.specs.RowJudge.Asked.{Pending}
 use Rattle.gate_floods.specs.RowJudge.Judged.{StandsAt}
-use Rattle.row_trees.specs.Finding.{side_left, wanted_in, IsAlong}
+use Rattle.row_trees.specs.Finding.{wanted_in, IsAlong}
 use Rattle.row_trees.specs.Walkable.{Scene, Search, IsWalkable}
 use Rattle.row_trees.specs.Thinner.{IsWithin, IsPresent, AreThinner, SameButRows, AreThinned}
 use Rattle.row_trees.specs.Left.{most, weight}
@@ -41,9 +41,9 @@ use Rattle.row_trees.proofs.Going.{HeadOf, head_of, come_thinned}
 
 -- ---- the sector that is wanted
 
-in_row : (rows : List ℕ) (w at : ℕ) (o : Option ℕ) (to : ℕ) → wanted_in rows w at o ≡ Some to → (o ≡ Some to) × (is_in (row_at rows w at) to ≡ true)
-in_row rows w at None to e = absurd (none_is_not_some to e)
-in_row rows w at (Some b) to e = by (is_in (row_at rows w at) b) refl
+pub wanted_some : (rows : List ℕ) (w at : ℕ) (o : Option ℕ) (to : ℕ) → wanted_in rows w at o ≡ Some to → (o ≡ Some to) × (is_in (row_at rows w at) to ≡ true)
+wanted_some rows w at None to e = absurd (none_is_not_some to e)
+wanted_some rows w at (Some b) to e = by (is_in (row_at rows w at) b) refl
   where
     by : (t : Bool) → is_in (row_at rows w at) b ≡ t → ◌≡◌ {A = Option ℕ} (Some b) (Some to) × (is_in (row_at rows w at) to ≡ true)
     by true h =
@@ -51,29 +51,8 @@ in_row rows w at (Some b) to e = by (is_in (row_at rows w at) b) refl
         (ap (λ (n : ℕ). let o : Option ℕ = Some n in o) same, subst (λ (n : ℕ). is_in (row_at rows w at) n ≡ true) same h)
     by false h = absurd (none_is_not_some to (sym (ap (λ (d : Bool). let o : Option ℕ = if d then Some b else None in o) h) ∙ e))
 
-pub wanted_some : (rows : List ℕ) (w at : ℕ) (o : Option ℕ) (to : ℕ) → wanted_in rows w at o ≡ Some to → (o ≡ Some to) × (is_in (row_at rows w at) to ≡ true)
-wanted_some rows w at o to e = in_row rows w at o to e
-
-pub wanted_none : (rows : List ℕ) (w at : ℕ) (o : Option ℕ) → wanted_in rows w at o ≡ None → is_away (row_at rows w at) o ≡ true
-wanted_none rows w at None e = refl
-wanted_none rows w at (Some b) e = by (is_in (row_at rows w at) b) refl
-  where
-    by : (t : Bool) → is_in (row_at rows w at) b ≡ t → is_away (row_at rows w at) (Some b) ≡ true
-    by false h = away_of (row_at rows w at) b h
-    by true h = absurd (some_is_not_none b (sym (ap (λ (d : Bool). let o : Option ℕ = if d then Some b else None in o) h) ∙ e))
-
 pub away_in : (row : List ℕ) (o : Option ℕ) (c : ℕ) → o ≡ Some c → is_in row c ≡ false → is_away row o ≡ true
 away_in row o c e h = ap (is_away row) e ∙ away_of row c h
-
-not_away : (row : List ℕ) (o : Option ℕ) (c : ℕ) → o ≡ Some c → is_in row c ≡ true → is_away row o ≡ true → ⊥
-not_away row o c e h away = not_both_values (is_away row (Some c)) (sym (ap (is_away row) e) ∙ away) (ap (λ (b : Bool). not b) h)
-
-some_there : {A : Type 0} (o : Option A) → (o ≡ None → ⊥) → IsSome o
-some_there None h = absurd (h refl)
-some_there (Some a) h = refl
-
-is_some_of : {A : Type 0} (o : Option A) (a : A) → o ≡ Some a → IsSome o
-is_some_of o a e = subst IsSome (sym e) refl
 
 -- ---- none is found twice
 
@@ -149,12 +128,6 @@ module _ (c : Scene) (s : Search) where
     }
 
   -- ---- what is needed for the ray
-
-  pub root_there : (root : ℕ) (ends : List EndPoints) (x : HalfEdge) → GoesOn c s root ends x → IsSome (side_left c.edges (Some root))
-  root_there root ends x on = is_some_of (side_left c.edges (Some root)) on.sequence.root on.leaves
-
-  pub line_there : (root : ℕ) (ends : List EndPoints) (w : RowWalk) (x : HalfEdge) (ps : List Pending) (to : ℕ) → HeadOf c s root ends w x ps → (x.sector ≡ Some to) × (is_in (row_at w.rows.items c.masks.width w.follow.row) to ≡ true) → IsSome x.entered
-  line_there root ends w x ps to h (e, has) = some_there x.entered (λ none. not_away h.head.row x.sector to e (subst (λ (row : List ℕ). is_in row to ≡ true) (sym h.row_is) has) (h.away none))
 
   -- ---- what was found before, and this sector
 

@@ -7,7 +7,6 @@ use Rattle.sight_names.specs.Splitting.{EndPoints, IsSplittable}
 use Rattle.block_evidence.specs.declared.Evidence.{Evidence}
 use Rattle.block_evidence.specs.Stuck.{Blocks}
 use Rattle.stab_hull.specs.Answer.{IsBarredBy}
-use Rattle.block_evidence.specs.declared.sight_tree.Node.{Node}
 use Rattle.block_evidence.specs.declared.sight_tree.Node.TheVariants.{Open, Blocked}
 use Rattle.block_evidence.specs.declared.sight_tree.Tree.{Tree}
 use Rattle.mesh_shape.specs.declared.half_edges.table.HalfEdge.{HalfEdge}
@@ -16,6 +15,7 @@ use Rattle.cert_checker.specs.declared.tree_judge.roots.Root.{Root}
 use Rattle.cert_checker.specs.declared.tree_judge.trees.Frame.{Frame}
 use Rattle.cert_checker.specs.TreeJudge.Path.{path_ends}
 use Rattle.cert_checker.specs.TreeJudge.Walked.{with_node}
+use Rattle.cert_checker.proofs.TreeJudge.OneTree.{same_some}
 use Rattle.portal_walk.specs.declared.scene.Way.TheVariants.{Left, Right}
 use Rattle.portal_walk.specs.Scene.{IsNumber}
 use Rattle.portal_walk.specs.Walk.{ends_of}
@@ -27,6 +27,7 @@ use Rattle.gate_floods.specs.RowJudge.Words.{row_at, is_away}
 use Rattle.gate_floods.specs.RowJudge.Asked.{Pending, pending_way, pending_roots, with_rest, leaves, mask_at, row_through, way_asked, ways_behind, ways_through, ends_through, Answers, AreAnswered}
 use Rattle.gate_floods.specs.RowJudge.Path.{AreWaiting}
 use Rattle.gate_floods.specs.RowJudge.Judged.{StandsAt, IsWalked}
+use Rattle.gate_floods.proofs.RowJudge.Walking.{answered_more}
 use Rattle.row_trees.specs.Walkable.{Scene, Search, IsWalkable}
 use Rattle.row_trees.specs.Thinner.{IsWithin, IsPresent, IsThinned, AreThinned}
 use Rattle.row_trees.specs.Path.{HasEndOfLast}
@@ -80,18 +81,7 @@ pub root_of_more : (es : List EndPoints) (e : EndPoints) (i root : ℕ) → root
 root_of_more [] e i root = refl
 root_of_more (f ∷ es) e i root = refl
 
--- one more node answers
-answered_behind : (xs : List HalfEdge) (ms : MaskRows) (source : ℕ) (ns : List Node) (n : Node) (ps qs rs : List Pending) → AreAnswered xs ms source ps ns qs → Answers xs ms source qs n rs → AreAnswered xs ms source ps (ns ++ n ∷ []) rs
-answered_behind xs ms source [] n ps qs rs e answer = (rs, subst (λ (os : List Pending). Answers xs ms source os n rs) e answer, refl)
-answered_behind xs ms source (k ∷ ns) n ps qs rs (os, first, rest) answer = (os, first, answered_behind xs ms source ns n os qs rs rest answer)
-
-one_edge : (x y : HalfEdge) (o : Option HalfEdge) → o ≡ Some x → o ≡ Some y → x ≡ y
-one_edge x y o e f = cc
-
 module _ (c : Scene) (s : Search) where
-  abbrev ToCome : ℕ → List EndPoints → Pending → Type 0
-  ToCome root ends p = IsToCome c s root ends p
-
   -- ---- what is still to be asked, while path, root and rows change
 
   pub come_thinned : (root : ℕ) (ends : List EndPoints) (p q : Pending) → IsThinned p q → IsToCome c s root ends p → IsToCome c s root ends q
@@ -199,7 +189,7 @@ module _ (c : Scene) (s : Search) where
       path_is = h.front ∙ ap (λ (k : ℕ). take k ends) (a.long ∙ t.depth) ∙ take_all (length ends) ends (omega arith)
 
       same : h.edge ≡ x
-      same = one_edge h.edge x (slice_get c.edges t.number) h.there t.there
+      same = same_some h.edge x (slice_get c.edges t.number) h.there t.there
 
   -- ---- the ways behind it
 
@@ -473,11 +463,6 @@ module _ (c : Scene) (s : Search) where
 
   -- ---- answers
 
-  pub blocked_right : (root : ℕ) (ends : List EndPoints) (w : RowWalk) (found : List Reached) (x : HalfEdge) (n : ℕ) (e : Evidence) (t : IsTried c s root ends w found x n) → IsBarredBy (ends ++ ends_of x ∷ []) e → Answers c.edges c.masks w.source t.going.asked (Blocked e) (head_of root ends w found x n t).rest
-  blocked_right root ends w found x n e t bars =
-      let h = head_of root ends w found x n t in
-      (h.head, h.rest, x, h.all, h.there, subst (λ (es : List EndPoints). Blocks (es ++ ends_of x ∷ []) e) (sym h.path_is) bars.blocks, refl)
-
   -- the judge's walk stands behind it, whose nodes that one blocks too
   pub blocked_walked : (root : ℕ) (ends : List EndPoints) (w new : RowWalk) (found : List Reached) (x : HalfEdge) (n : ℕ) (e : Evidence) (t : IsTried c s root ends w found x n) → IsBarredBy (ends ++ ends_of x ∷ []) e → new.source ≡ w.source
       → ((first : List ℕ) (p : Pending) (rest : List Pending) → StandsAt c.masks first c.roots w (p ∷ rest) → StandsAt c.masks first c.roots new rest) → (row : List ℕ) (firsts : List (Option ℕ)) (tree : Tree) → IsWalked c.edges c.masks row c.roots firsts tree w → IsWalked c.edges c.masks row c.roots firsts (with_node (Blocked e) tree) new
@@ -497,7 +482,7 @@ module _ (c : Scene) (s : Search) where
           → (ps : List Pending) × AreAnswered c.edges c.masks tree.source (pending_roots c.masks row es) (tree.nodes ++ Blocked e ∷ []) ps × StandsAt c.masks row c.roots new ps
       go es (ps, answered, at) =
           let a = asks_first c.masks row c.roots w ps t.number at t.is_asked in
-          (a.rest, answered_behind c.edges c.masks tree.source tree.nodes (Blocked e) (pending_roots c.masks row es) ps a.rest answered (present c.masks w t.number, a.rest, x, a.all, t.there, blocks, refl), moves row (present c.masks w t.number) a.rest (subst (StandsAt c.masks row c.roots w) a.all at))
+          (a.rest, answered_more c.edges c.masks tree.source tree.nodes (Blocked e) (pending_roots c.masks row es) ps a.rest answered (present c.masks w t.number, a.rest, x, a.all, t.there, blocks, refl), moves row (present c.masks w t.number) a.rest (subst (StandsAt c.masks row c.roots w) a.all at))
 
   pub open_right : (root : ℕ) (ends : List EndPoints) (w : RowWalk) (found : List Reached) (x : HalfEdge) (n : ℕ) (t : IsTried c s root ends w found x n) → is_away (row_at w.rows.items c.masks.width w.follow.row) x.sector ≡ true
       → Answers c.edges c.masks w.source t.going.asked Open (ways_through c.edges c.masks s.source (head_of root ends w found x n t).head x ++ (head_of root ends w found x n t).rest)
@@ -515,13 +500,6 @@ module _ (c : Scene) (s : Search) where
   pub after_moved : (root later : ℕ) (ends other : List EndPoints) (w : RowWalk) (found more : List Reached) (n d : ℕ) → later ≡ root → other ≡ ends → more ≡ found → IsAfter c s root ends w found n d → IsAfter c s later other w more n d
   after_moved root later ends other w found more n d e f g h = rw (e, f, g) h
 
-  -- the half-edge that is asked is there
-  pub edge_asked : (root : ℕ) (ends : List EndPoints) (w : RowWalk) (found : List Reached) (n number : ℕ) → IsGoing c s root ends w found n → w.follow.asked ≡ Some number → (x : HalfEdge) × (slice_get c.edges number ≡ Some x)
-  edge_asked root ends w found n number g e =
-      let a = asks_first c.masks g.first c.roots w g.asked number g.at e in
-      let h : IsToCome c s root ends (present c.masks w number) = (subst (AllByRecursion (IsToCome c s root ends)) a.all g.each).0 in
-      (h.edge, h.there)
-
   -- so many portals are there as lead to it
   pub depth_within : (root : ℕ) (ends : List EndPoints) (w : RowWalk) (found : List Reached) (n number : ℕ) → IsGoing c s root ends w found n → w.follow.asked ≡ Some number → w.follow.depth ≤ length ends
   depth_within root ends w found n number g e =
@@ -530,15 +508,8 @@ module _ (c : Scene) (s : Search) where
       let m : length (path_ends (take w.follow.depth w.path.items)) ≡ w.follow.depth = a.long in
       omega (arith, l, m)
 
-  -- its ends are different, it has one of the last portal's, and there is room for its portal
-  pub proper_ends : (root : ℕ) (ends : List EndPoints) (w : RowWalk) (found : List Reached) (x : HalfEdge) (n : ℕ) → IsTried c s root ends w found x n → x.left_at ≢ x.right_at
-  proper_ends root ends w found x n t = (head_of root ends w found x n t).goes_on.comes.entry.proper
-
   pub joins_there : (root : ℕ) (ends : List EndPoints) (w : RowWalk) (found : List Reached) (x : HalfEdge) (n : ℕ) → IsTried c s root ends w found x n → HasEndOfLast ends x.left_at x.right_at
   joins_there root ends w found x n t = (head_of root ends w found x n t).joins
-
-  pub room_there : (root : ℕ) (ends : List EndPoints) (w : RowWalk) (found : List Reached) (x : HalfEdge) (n : ℕ) → IsTried c s root ends w found x n → length ends < 32768
-  room_there root ends w found x n t = let l : length ends ≤ length s.ground.triangles = (head_of root ends w found x n t).short in let m : length s.ground.triangles ≤ 32766 = t.going.walkable.few in omega (arith, l, m)
 
   -- it came back to no row that may have what was found
   pub after_present : (root : ℕ) (ends : List EndPoints) (w : RowWalk) (found : List Reached) (n d : ℕ) → IsAfter c s root ends w found n d → (d < w.follow.depth) ⊎ (found ≡ []) → (k : ℕ) → w.follow.asked ≡ Some k → IsPresent c.masks.width w

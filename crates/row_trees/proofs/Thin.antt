@@ -1,20 +1,17 @@
 -- Words and rows out of which bits were taken.
-use Rattle.std.proofs.Common.{◌≡◌, ℕ, zero, suc, ◌+◌, ◌*◌, ◌/◌, ◌%◌, ◌^◌, ◌<◌, ◌≤◌, ◌⊎◌, inl, inr, min, List, [], ◌∷◌, drop, Option, Some, None, Bool, true, false, not, length, slice_index, slice_set, bit_and, refl, sym, ◌∙◌, ap, subst, arith, length-set}
+use Rattle.std.proofs.Common.{◌≡◌, ℕ, zero, ◌+◌, ◌*◌, ◌/◌, ◌%◌, ◌^◌, ◌<◌, ◌≤◌, ◌⊎◌, inl, inr, min, List, drop, Option, Some, None, Bool, true, false, not, length, slice_index, slice_set, bit_and, refl, sym, ◌∙◌, ap, subst, arith, length-set}
 use Rattle.std.specs.Int.{bit_at, bit_not, w64}
 use mir.Val.{bits}
 use Rattle.std.proofs.lemmas.Nat.Bits.{bit_at-lt, bit_at-zero, bit_at_and, bit_at_clear_same}
-use Rattle.std.proofs.lemmas.List.{length-take, get_or-take, get_or-drop, get_or-set_same, get_or-set_other}
+use Rattle.std.proofs.lemmas.List.{length-take, get_or-set_same, get_or-set_other}
 use Rattle.math_base.proofs.Numbers.{same_or_not, below_or_not, below_or_last, tells_same, tells_other, is_told_same}
 use Rattle.math_base.proofs.Bools.{false_of_not, not_both_values}
 use Rattle.gate_floods.specs.RowJudge.Words.{is_in, is_away, row_at, both_words}
 use Rattle.gate_floods.specs.RowJudge.Asked.{left_of, leaves}
-use Rattle.gate_floods.proofs.RowJudge.Bits.{found_bit, bit_found, in_both, in_each}
+use Rattle.gate_floods.proofs.RowJudge.Bits.{found_bit, bit_found, in_both, in_each, beyond, word_of_row}
 use Rattle.row_trees.specs.Thinner.{IsPartOf, IsWithin, AreThinner}
 
 -- ---- one word
-
-pub part_same : (x : ℕ) → IsPartOf x x
-part_same x = λ k h. h
 
 pub and_left : (x y : ℕ) → IsPartOf (bit_and x y) x
 and_left x y = λ k h. one (bit_at x k) (bit_at y k) (sym (bit_at_and x y k) ∙ h) (bit_at-lt x k)
@@ -30,9 +27,6 @@ and_right x y = λ k h. one (bit_at x k) (bit_at y k) (sym (bit_at_and x y k) �
 
 -- ---- words
 
-pub thinner_same : (xs : List ℕ) → AreThinner xs xs
-thinner_same xs = record { len = refl; words = λ j. part_same (slice_index xs j) }
-
 pub thinner_through : (xs ys zs : List ℕ) → AreThinner xs ys → AreThinner ys zs → AreThinner xs zs
 thinner_through xs ys zs t u = record { len = u.len ∙ t.len; words = λ j k h. t.words j k (u.words j k h) }
 
@@ -44,14 +38,6 @@ thinner_set xs i v l part = record { len = length-set xs i v; words = λ j. at j
     at j (inr n) = λ k h. sym (ap (λ (w : ℕ). bit_at w k) (get_or-set_other xs i j v 0 n)) ∙ h
 
 -- ---- a row of words
-
-pub word_of_row : (xs : List ℕ) (w at i : ℕ) → i < w → slice_index (row_at xs w at) i ≡ slice_index xs (at + i)
-word_of_row xs w at i l = get_or-take w (drop at xs) i 0 l ∙ get_or-drop at xs i 0
-
-beyond : (xs : List ℕ) (i : ℕ) → length xs ≤ i → slice_index xs i ≡ 0
-beyond [] i l = refl
-beyond (x ∷ xs) zero l = absurd (omega (arith, l))
-beyond (x ∷ xs) (suc i) l = beyond xs i (omega (arith, l))
 
 pub in_bit : (xs : List ℕ) (c : ℕ) → is_in xs c ≡ true → bit_at (slice_index xs (c / 64)) (c % 64) ≡ 1
 in_bit xs c h = is_told_same (bit_at (slice_index xs (c / 64)) (c % 64)) 1 h
@@ -82,16 +68,6 @@ row_within xs ys w at to parts = λ c h.
 
 pub thinner_row : (xs ys : List ℕ) → AreThinner xs ys → (w at : ℕ) → IsWithin (row_at ys w at) (row_at xs w at)
 thinner_row xs ys t w at = row_within ys xs w at at (λ k l. t.words (at + k))
-
-pub thinner_in : (xs ys : List ℕ) → AreThinner xs ys → IsWithin ys xs
-thinner_in xs ys t = λ c h. bit_in xs c (t.words (c / 64) (c % 64) (in_bit ys c h))
-
--- a row is within all words
-pub first_within : (xs : List ℕ) (w : ℕ) → IsWithin (row_at xs w 0) xs
-first_within xs w = λ c h.
-    let l : c / 64 < w = in_width xs w 0 c h in
-    let z : 0 + c / 64 ≡ c / 64 = omega arith in
-    bit_in xs c (sym (ap (λ (n : ℕ). bit_at n (c % 64)) (word_of_row xs w 0 (c / 64) l ∙ ap (λ (k : ℕ). slice_index xs k) z)) ∙ in_bit (row_at xs w 0) c h)
 
 -- ---- what is left behind a mask
 
@@ -133,22 +109,12 @@ bit_gone xs c l = tells_other _ 1 (λ h. no (bit_at (bit_and (slice_index xs (c 
     no : (b : ℕ) → b ≡ 0 → b ≡ 1 → ⊥
     no b e f = omega (arith, e, f)
 
--- no word is there for it
-pub bit_beyond : (xs : List ℕ) (c : ℕ) → length xs ≤ c / 64 → is_in xs c ≡ false
-bit_beyond xs c l = tells_other _ 1 (λ h. no (bit_at (slice_index xs (c / 64)) (c % 64)) (ap (λ (n : ℕ). bit_at n (c % 64)) (beyond xs (c / 64) l) ∙ bit_at-zero (c % 64)) h)
-  where
-    no : (b : ℕ) → b ≡ 0 → b ≡ 1 → ⊥
-    no b e f = omega (arith, e, f)
-
 -- ---- word by word, a row becomes what the first has too
 
 -- so many words of the row are done
 pub record HasMet (old new : List ℕ) (at count : ℕ) : Type 0 where
   pub thinner : AreThinner old new
   pub done : (k : ℕ) → k < count → IsPartOf (slice_index new (at + k)) (slice_index new k)
-
-pub none_met : (xs : List ℕ) (at : ℕ) → HasMet xs xs at 0
-none_met xs at = record { thinner = thinner_same xs; done = λ k l. absurd (omega (arith, l)) }
 
 pub one_met : (old xs : List ℕ) (at count : ℕ) → at + count < length xs → HasMet old xs at count → HasMet old (slice_set xs (at + count) (bit_and (slice_index xs (at + count)) (slice_index xs count))) at (count + 1)
 one_met old xs at count l h = record {

@@ -27,9 +27,6 @@ thinned_same (p ∷ ps) = inl (p, ps, refl, record { path = refl; edge = refl; r
 one_through : (p q r : Pending) → IsThinned p q → IsThinned q r → IsThinned p r
 one_through p q r f g = record { path = g.path ∙ f.path; edge = g.edge ∙ f.edge; row = λ c h. f.row c (g.row c h) }
 
-pub head_same : (p q : Pending) (ps qs us : List Pending) → us ≡ p ∷ ps → us ≡ q ∷ qs → p ≡ q
-head_same p q ps qs us e f = cc
-
 pub tail_same : (p q : Pending) (ps qs us : List Pending) → us ≡ p ∷ ps → us ≡ q ∷ qs → ps ≡ qs
 tail_same p q ps qs us e f = cc
 

@@ -7,6 +7,5 @@ pub mod OneLine
 pub mod Scanning
 pub mod TwoForms
 pub mod Barring
-pub mod Strip
 pub mod Tries
 pub mod Sleeves

@@ -243,9 +243,6 @@ cut_to fs gs n top ls rs ls' rs' cs cs' h l g t el er ec = cut_back gs gs top ls
 pub goes_stuck : (fs gs : List Frame) (p : EndPoints) (ls rs : List EndAt) (cs : List Cone) (e : Evidence) → IsSleeve gs ls rs cs → gs ≡ fs → IsBarredBy (portals_of fs ++ p ∷ []) e → GoesBy (portals_of fs) p gs ls rs cs (Ok (told.Stuck e))
 goes_stuck fs gs p ls rs cs e h g b = record { sleeve = h; told = (ap portals_of g, b) }
 
-pub goes_err : (fs gs : List Frame) (p : EndPoints) (ls rs : List EndAt) (cs : List Cone) (e : Memory) → IsSleeve gs ls rs cs → gs ≡ fs → GoesBy (portals_of fs) p gs ls rs cs (Err e)
-goes_err fs gs p ls rs cs e h g = record { sleeve = h; told = ap portals_of g }
-
 -- ---- portals with notes
 pub as_many_frames : {N : Type 0} (xs : List (Noted N)) → length (frames_of xs) ≡ length xs
 as_many_frames xs = length-map xs frame_of
@@ -289,9 +286,6 @@ stays_stuck old new n p ls rs cs e is g = record { sleeve = g.sleeve; told = g.t
 
 pub stays_err : {N : Type 0} (old new : List (Noted N)) (n : N) (p : EndPoints) (ls rs : List EndAt) (cs : List Cone) (e : Memory) → new ≡ old → IsSleeve (frames_of new) ls rs cs → GoesOn old n p new ls rs cs (Err e)
 stays_err old new n p ls rs cs e is h = record { sleeve = h; told = ap (λ xs. portals_of (frames_of xs)) is; noted = ap (map note_of) is }
-
-pub stays_unseen : {N : Type 0} (old : List (Noted N)) (n : N) (p : EndPoints) (ls rs : List EndAt) (cs : List Cone) → IsSleeve (frames_of old) ls rs cs → GoesOn old n p old ls rs cs (Ok told.Unseen)
-stays_unseen old n p ls rs cs h = record { sleeve = h; told = refl; noted = refl }
 
 pub no_last_frame : {N : Type 0} (xs : List (Noted N)) → slice_get xs (length xs - 1) ≡ None → frames_of xs ≡ []
 no_last_frame [] e = refl

@@ -75,12 +75,6 @@ place_moved test xs c k x h other = by (nat_lt c k) refl
 
 -- ---- the REJECT is put in
 
--- what a spot is where there is no REJECT, or one in the run
-record HasSpot (ns : List (List ℕ)) (name : List ℕ) (spot : MapSpot) : Type 0 where
-  spot_there : MapSpot
-  found : spot_of ns name ≡ Ok spot_there
-  is : spot_there ≡ spot_then spot
-
 module _ (ns : List (List ℕ)) (name : List ℕ) (spot : MapSpot) (p : IsSpot ns name spot) where
   abbrev after : List (List ℕ)
   after = drop (p.marker + 1) ns

@@ -1,18 +1,16 @@
 -- What a map gets where a check of it fails.
-use Rattle.std.proofs.Common.{◌≡◌, Result, Ok, Err, refl, sym, subst}
+use Rattle.std.proofs.Common.{◌≡◌, Result, Ok, Err, sym, subst}
 use Rattle.std.specs.Prelude.{IfErr, IfOk}
 use Rattle.sight_names.specs.declared.names.Method.{Method}
 use Rattle.sight_names.specs.Map.{Map}
 use Rattle.map_answers.specs.declared.sight_status.status.Flaw.TheVariants as flaw
 use Rattle.map_answers.specs.declared.sight_status.status.Status.{Status}
 use Rattle.map_answers.specs.declared.sight_status.status.Status.TheVariants as status
-use Rattle.map_answers.specs.SightStatus.Answer.{Makes}
-use Rattle.map_answers.specs.SightStatus.Status.{IsOfBytes}
 use Rattle.map_answers.specs.Sound.{IsAuditRefusal}
 use Rattle.whole_wad.specs.declared.building.Built.{Built}
 use Rattle.whole_wad.specs.declared.tables.MapTable.{MapTable}
 use Rattle.whole_wad.specs.Built.{IsBuiltOf}
-use Rattle.whole_wad.specs.Tables.{Gets, GetsOrMemory, IsTableOf, built_with}
+use Rattle.whole_wad.specs.Tables.{GetsOrMemory, IsTableOf, built_with}
 
 -- its lines are at fault, or a face isn't closed
 pub refused_build : (m : Map) (by : Method) (s : Status) → IsAuditRefusal m s → GetsOrMemory (Ok m) by (Err s)
@@ -20,16 +18,6 @@ refused_build m by (status.BadMap (flaw.Line fault)) h = h.is
 refused_build m by (status.BadMap (flaw.Open side)) h = (h.0.meet, h.1)
 refused_build m by status.Memory h = tt
 refused_build m by s h = absurd h
-
--- it isn't read
-pub unread : {V : Type 0} (view : V → Map) (said : Result Map Status) (by : Method) (s : Status) → IsOfBytes s → Makes view (Err s) said → GetsOrMemory said by (Err s)
-unread view said by status.Memory of made = tt
-unread view said by (status.ReadFault role) of made = absurd of
-unread view said by s of made = subst (λ (r : Result Map Status). Gets r by (Err s)) (sym made) refl
-
--- it is read
-pub read : (said : Result Map Status) (m : Map) (by : Method) (r : Result MapTable Status) → said ≡ Ok m → GetsOrMemory (Ok m) by r → GetsOrMemory said by r
-read said m by r e h = rw e h
 
 -- it is built, and its table is judged
 table_kept : (m : Map) (by : Method) (built : Built) (made : MapTable) → IsBuiltOf m by built → made.table ≡ built.table → made.listed ≡ built.listed → IsTableOf m by made

@@ -1,5 +1,5 @@
 -- How a stage stands to what was heard, and what triangles, groups and rays tell once they all have come.
-use Rattle.std.proofs.Common.{◌≡◌, ℕ, ◌*◌, ◌≤◌, List, [], Option, Some, None, length, true, false, refl, sym, ◌∙◌, ap, subst, arith}
+use Rattle.std.proofs.Common.{◌≡◌, ℕ, ◌*◌, ◌≤◌, List, [], Option, Some, None, length, true, refl, sym, ◌∙◌, ap, subst, arith}
 use Rattle.std.specs.List.{slice_get}
 use Rattle.std.specs.Prelude.{All}
 use Rattle.std.proofs.lemmas.List.{length-map}
@@ -58,20 +58,6 @@ module _ (p : PlanParts) (gs : Groups) (h : Heard) where
   pub closes : (labelled : List Labelled) (rays : List PairRay) (s : Stage) → labelled ≡ h.triangles → rays ≡ h.rays → IsFresh h → IsClosed p gs labelled rays ([], None) s → IsStage p gs (closed_at h) s
   closes labelled rays s e f fresh k = stage_of_closed p gs (closed_at h) s refl
       (subst (λ (ls : List Labelled). IsClosed p gs ls h.rays h.trees s) e (subst (λ (rs : List PairRay). IsClosed p gs labelled rs h.trees s) f (subst (λ (b : Begun). IsClosed p gs labelled rays b s) (sym fresh.trees) k)))
-
-  -- they were judged before
-  pub stays_closed : (s : Stage) → (s ≡ Gathering → ⊥) → IsStage p gs h s → IsStage p gs (closed_at h) s
-  stays_closed Gathering other k = absurd (other refl)
-  stays_closed Lost other k = (refl, k.1)
-  stays_closed (Broken f) other k = (refl, k.1)
-  stays_closed (Walking j) other k = (refl, k.1)
-
-  -- a node comes where no tree is judged
-  pub node_passed : (f : ℕ) (n : Node) (s : Stage) → ((j : RowTrees) → s ≡ Walking j → ⊥) → h.closed ≡ true → IsStage p gs h s → IsStage p gs (with_node f n h) s
-  node_passed f n Gathering other e k = absurd (let clash : false ≡ true = sym k.closed ∙ e in cc)
-  node_passed f n Lost other e k = k
-  node_passed f n (Broken fault) other e k = k
-  node_passed f n (Walking j) other e k = absurd (other j refl)
 
   -- or where trees are
   pub node_walked : (f : ℕ) (n : Node) (j new : RowTrees) → IsStage p gs h (Walking j) → new.ground ≡ j.ground → HasHeardTrees (at_source f n h.trees) new → IsStage p gs (with_node f n h) (Walking new)

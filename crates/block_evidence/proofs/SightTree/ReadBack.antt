@@ -106,10 +106,6 @@ nodes_back bytes (n ∷ ns) (suc limit) s le =
 pub read_back : (bytes : List ℕ) (ns : List Node) → SpellNodes bytes ns → nodes_of bytes ≡ ns
 read_back bytes ns s = nodes_back bytes ns (length bytes) s (omega arith)
 
--- bytes spell one list of nodes
-pub one_list : (bytes : List ℕ) (ns ms : List Node) → SpellNodes bytes ns → SpellNodes bytes ms → ns ≡ ms
-one_list bytes ns ms s t = sym (read_back bytes ns s) ∙ read_back bytes ms t
-
 pub spelled_themselves : (bytes : List ℕ) (ns : List Node) → SpellNodes bytes ns → SpellNodes bytes (nodes_of bytes)
 spelled_themselves bytes ns s = subst (λ (ms : List Node). SpellNodes bytes ms) (sym (read_back bytes ns s)) s
 

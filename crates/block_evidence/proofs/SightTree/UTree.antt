@@ -12,7 +12,7 @@ use Rattle.block_evidence.specs.declared.Evidence.{Evidence}
 use Rattle.block_evidence.specs.declared.sight_tree.Node.TheVariants.{Open, Blocked}
 use Rattle.block_evidence.specs.declared.sight_tree.Tree.{Tree}
 use Rattle.block_evidence.specs.Stuck.{BlocksSequence}
-use Rattle.block_evidence.specs.SightTree.WholeTree.{Answers, no_node, blocked, open_node, KeepsFrom}
+use Rattle.block_evidence.specs.SightTree.WholeTree.{Answers, no_node, blocked, open_node}
 use Rattle.math_base.proofs.Options.{some_is_same}
 
 abbrev pub evidence : Evidence
@@ -104,11 +104,3 @@ answers =
     (no_node (portal 6 4) refl (inl (4, wall_line 128 64 64 64 1, true, refl, refl, refl)) refl refl)
     refl refl)
     refl refl
-
--- the tree is whole, and none of its open nodes leads into sector 2
-pub keeps : KeepsFrom u_map mesh labels tree 2
-unfolding points_of
-keeps = (2 ∷ 3 ∷ 4 ∷ 7 ∷ [], (portal 1 4, tree.nodes, [], 2 ∷ 3 ∷ 4 ∷ 7 ∷ [], [], refl, refl, refl, answers, (refl, refl)), (one_not_two, (one_not_two, (one_not_two, (one_not_two, tt)))))
-  where
-    one_not_two : ◌≢◌ {A = Option ℕ} (Some 1) (Some 2)
-    one_not_two h = not_same 1 2 (some_is_same 1 2 h) refl

@@ -49,43 +49,6 @@ module _ (xs : List HalfEdge) (roots : List Root) (source : ℕ) (path : List Fr
     depth = λ _. omega arith;
   }
 
-  -- the left one alone
-  pub enters_left : (way : ℕ) → Some way ≡ way_outside xs source x.left_way → None ≡ way_outside xs source x.right_way → EntersThrough xs roots source path waits f x waits (deeper f f.waiting) (Some way)
-  enters_left way l r = record {
-    next = λ es ws c h n. record {
-      es = es;
-      ways = ws;
-      chain = c;
-      waiting = h;
-      nested = omega (arith, n);
-      all = sym (λ i. behind (l i) (r i) (ws ++ map root_pending es));
-      last = λ e. absurd (some_is_not_none way e);
-    };
-    depth = λ _. omega arith;
-  }
-
-  -- the right one alone
-  pub enters_right : (way : ℕ) → None ≡ way_outside xs source x.left_way → Some way ≡ way_outside xs source x.right_way → EntersThrough xs roots source path waits f x waits (deeper f f.waiting) (Some way)
-  enters_right way l r = record {
-    next = λ es ws c h n. record {
-      es = es;
-      ways = ws;
-      chain = c;
-      waiting = h;
-      nested = omega (arith, n);
-      all = sym (λ i. behind (l i) (r i) (ws ++ map root_pending es));
-      last = λ e. absurd (some_is_not_none way e);
-    };
-    depth = λ _. omega arith;
-  }
-
-  -- none of them: what was still to be asked is asked
-  pub enters_none : (new : Follow) (asked : Option ℕ) → None ≡ way_outside xs source x.left_way → None ≡ way_outside xs source x.right_way → TakesNext roots path waits f new asked → EntersThrough xs roots source path waits f x waits new asked
-  enters_none new asked l r t = record {
-    next = λ es ws c h n. subst (IsAt roots path waits (with_asked new asked)) (λ i. behind (l i) (r i) (ws ++ map root_pending es)) (t.next es ws c h);
-    depth = λ n. let d : new.depth ≤ f.waiting = t.depth in omega (arith, d, n);
-  }
-
 -- ---- by a step: the right way waits first
 
 module _ (xs : List HalfEdge) (source : ℕ) (waits : List Wait) (f : Follow) (x : HalfEdge) where
@@ -100,14 +63,6 @@ module _ (xs : List HalfEdge) (source : ℕ) (waits : List Wait) (f : Follow) (x
       subst (λ (k : ℕ). IsWaiting path (set waits f.depth w) k ws) (sym before) (waiting_same path path waits (set waits f.depth w) f.depth f.waiting ws refl (take-set waits f.depth w) n h),
     );
     nested = λ _. omega arith;
-    depth = refl;
-    root = refl;
-  }
-
-  pub lets_none : None ≡ way_outside xs source x.right_way → LetsWait xs source x waits f waits f
-  lets_none r = record {
-    waiting = λ path ws near n h. subst (λ (o : Option ℕ). IsWaiting path waits f.waiting (pending_way (path_ends (take (f.depth + 1) path)) o ++ ws)) r h;
-    nested = λ n. omega (arith, n);
     depth = refl;
     root = refl;
   }

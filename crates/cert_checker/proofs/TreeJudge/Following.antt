@@ -4,7 +4,6 @@ use Rattle.std.specs.List.{slice_get}
 use Rattle.sight_names.specs.Splitting.{EndPoints}
 use Rattle.block_evidence.specs.declared.Evidence.{Evidence}
 use Rattle.block_evidence.specs.Stuck.{Blocks}
-use Rattle.block_evidence.specs.declared.sight_tree.Node.{Node}
 use Rattle.block_evidence.specs.declared.sight_tree.Node.TheVariants.{Open, Blocked}
 use Rattle.reject_bits.specs.Parts.{TableParts}
 use Rattle.mesh_shape.specs.declared.half_edges.table.HalfEdge.{HalfEdge}
@@ -16,7 +15,6 @@ use Rattle.cert_checker.specs.TreeJudge.Path.{list_of, path_ends, edge_ends, Put
 use Rattle.cert_checker.specs.TreeJudge.Whole.{ends_through, ways_through, Notes, HasAnswered, HasRefused, StandsBefore}
 use Rattle.cert_checker.proofs.TreeJudge.Ways.{waiting_same}
 use Rattle.cert_checker.proofs.TreeJudge.Noting.{notes_none}
-use Rattle.math_base.proofs.Options.{some_is_not_none}
 
 abbrev pub at_first : Option ℕ → Follow
 at_first first = record { depth = 0; root = first; asked = None; waiting = 0 }
@@ -26,9 +24,6 @@ stands roots path waits new first asked t = record { start = λ es c. t.next es 
 
 same_first : (p q : Pending) (ps qs us : List Pending) → us ≡ p ∷ ps → us ≡ q ∷ qs → p ≡ q
 same_first p q ps qs us e f = cc
-
-no_first : (p : Pending) (ps us : List Pending) → us ≡ [] → us ≡ p ∷ ps → ⊥
-no_first p ps us e f = cc
 
 module _ (xs : List HalfEdge) (roots : List Root) (source : ℕ) (path : List Frame) (waits : List Wait) (f : Follow) where
   -- the half-edge that is asked, behind the present path
@@ -72,19 +67,6 @@ module _ (xs : List HalfEdge) (roots : List Root) (source : ℕ) (path : List Fr
   }
 
   -- ---- a node that doesn't
-
-  -- nothing is asked
-  pub refused_all : (n : Node) → f.asked ≡ None → HasRefused xs roots source n path waits f
-  refused_all Open e = record { none = λ ps qs sectors a (p, rest, x, first, is, left, here). no_first p rest ps (a.last e) first }
-  refused_all (Blocked d) e = record { none = λ ps qs sectors a (p, rest, x, first, is, blocks, left, here). no_first p rest ps (a.last e) first }
-
-  -- there is no such half-edge
-  no_edge : (ps rest : List Pending) (place : ℕ) (p : Pending) (x : HalfEdge) → f.asked ≡ Some place → slice_get xs place ≡ None → IsAt roots path waits f ps → ps ≡ p ∷ rest → slice_get xs p.edge ≡ Some x → ⊥
-  no_edge ps rest place p x e none a first is = some_is_not_none x (sym is ∙ ap (λ (q : Pending). slice_get xs q.edge) (same_first p (present place) rest (others a) ps first (present_first ps place e a)) ∙ none)
-
-  pub refused_edge : (n : Node) (place : ℕ) → f.asked ≡ Some place → slice_get xs place ≡ None → HasRefused xs roots source n path waits f
-  refused_edge Open place e none = record { none = λ ps qs sectors a (p, rest, x, first, is, left, here). no_edge ps rest place p x e none a first is }
-  refused_edge (Blocked d) place e none = record { none = λ ps qs sectors a (p, rest, x, first, is, blocks, left, here). no_edge ps rest place p x e none a first is }
 
   -- the ends show nothing
   one_edge : (x y : HalfEdge) (o : Option HalfEdge) → o ≡ Some x → o ≡ Some y → x ≡ y

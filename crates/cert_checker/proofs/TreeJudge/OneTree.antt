@@ -69,7 +69,7 @@ module _ (m : Map) (ts : List Triangle) (ls : List (Option ℕ)) (good : IsGoodM
   parts_of : (i n : ℕ) → i < n * 3 → (k : ℕ) × (c : ℕ) × (k < n) × (c < 3) × (i ≡ k * 3 + c)
   parts_of i n l = (i / 3, i % 3, omega arith, omega arith, omega arith)
 
-  edge_of_number : (i : ℕ) → i < length ts * 3 → (e : Edge) × (number_of ts e ≡ Some i)
+  pub edge_of_number : (i : ℕ) → i < length ts * 3 → (e : Edge) × (number_of ts e ≡ Some i)
   edge_of_number i l =
       let p = parts_of i (length ts) l in
       let t = get_there ts p.0 p.2 in

@@ -1,5 +1,5 @@
 -- A node that is answered by a step: it answers for the half-edge that the step is.
-use Rattle.std.proofs.Common.{◌≡◌, ◌↔◌, ℕ, ◌+◌, ◌<◌, ◌≤◌, List, [], ◌∷◌, ◌++◌, Option, Some, true, false, IsTrue, length, take, refl, sym, subst, arith}
+use Rattle.std.proofs.Common.{◌≡◌, ◌↔◌, ℕ, ◌+◌, ◌<◌, ◌≤◌, List, [], ◌∷◌, ◌++◌, Option, Some, true, false, IsTrue, length, take, refl, subst, arith}
 use Rattle.std.specs.List.{slice_get}
 use Rattle.std.proofs.lemmas.Option.{slice_get_within}
 use Rattle.sight_names.specs.Splitting.{EndPoints}
@@ -60,12 +60,3 @@ module _ (xs : List HalfEdge) (roots : List Root) (firsts : List (Option ℕ)) (
     where
       told_wrong : FollowsAt xs roots firsts source path waits f old path_now waits_now f_now new true (ns ++ n ∷ [])
       told_wrong = follows_next xs roots firsts source path waits f old ns n path_now path_now waits_now waits_now f_now f_now new new false false refl so_far room equal (λ h. h) (λ h. h) (λ e. absurd (cc)) (λ _ _ _. refused)
-
--- the state by other names
-pub same_state : (xs : List HalfEdge) (roots : List Root) (firsts : List (Option ℕ)) (source : ℕ) (path : List Frame) (waits : List Wait) (f : Follow) (old : TableParts) (path_new : List Frame) (waits_new waits_last : List Wait) (g g_last : Follow) (next next_last : ℕ) (more last : TableParts) (ns : List Node)
-    → waits_last ≡ waits_new → g_last ≡ g → next_last ≡ next → last ≡ more → FollowsAt xs roots firsts source path waits f old path_new waits_new (with_asked g (told next)) more false ns → FollowsAt xs roots firsts source path waits f old path_new waits_last (with_asked g_last (told next_last)) last false ns
-same_state xs roots firsts source path waits f old path_new waits_new waits_last g g_last next next_last more last ns e h k q w =
-    subst (λ (us : List Wait). FollowsAt xs roots firsts source path waits f old path_new us (with_asked g_last (told next_last)) last false ns) (sym e)
-    (subst (λ (d : Follow). FollowsAt xs roots firsts source path waits f old path_new waits_new (with_asked d (told next_last)) last false ns) (sym h)
-    (subst (λ (n : ℕ). FollowsAt xs roots firsts source path waits f old path_new waits_new (with_asked g (told n)) last false ns) (sym k)
-    (subst (λ (t : TableParts). FollowsAt xs roots firsts source path waits f old path_new waits_new (with_asked g (told next)) t false ns) (sym q) w)))

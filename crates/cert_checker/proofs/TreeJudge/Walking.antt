@@ -1,5 +1,5 @@
 -- A walk whose nodes come one by one: what it says of the nodes so far, and of the next one.
-use Rattle.std.proofs.Common.{◌≡◌, ℕ, ◌+◌, ◌-◌, ◌<◌, ◌≤◌, List, [], ◌∷◌, ◌++◌, Option, Some, None, length, map, take, Bool, true, false, not, IsTrue, refl, sym, ◌∙◌, ap, subst, arith}
+use Rattle.std.proofs.Common.{◌≡◌, ℕ, ◌+◌, ◌-◌, ◌<◌, ◌≤◌, List, [], ◌∷◌, ◌++◌, Option, length, map, take, Bool, true, false, not, IsTrue, refl, sym, ◌∙◌, ap, subst, arith}
 use Rattle.std.proofs.lemmas.List.{append-nil, append_assoc, length-append, length_push}
 use Rattle.block_evidence.specs.declared.sight_tree.Node.{Node}
 use Rattle.block_evidence.specs.declared.sight_tree.Tree.{Tree}
@@ -11,29 +11,14 @@ use Rattle.cert_checker.specs.declared.tree_judge.trees.Wait.{Wait}
 use Rattle.cert_checker.specs.declared.tree_judge.trees.Follow.{Follow}
 use Rattle.cert_checker.specs.TreeJudge.Roots.{first_at}
 use Rattle.cert_checker.specs.TreeJudge.Path.{Pending, root_pending, IsAt}
-use Rattle.cert_checker.specs.TreeJudge.Whole.{AreAnswered, Notes, HasAnswered, HasRefused, StandsBefore, IsWholeFrom, IsFirstWrongFrom}
+use Rattle.cert_checker.specs.TreeJudge.Whole.{AreAnswered, Notes, HasAnswered, HasRefused, IsFirstWrongFrom}
 use Rattle.cert_checker.specs.TreeJudge.Walked.{with_node, with_nodes, IsWalkedAt, FollowsAt}
-use Rattle.cert_checker.proofs.TreeJudge.Noting.{notes_none}
 use Rattle.cert_checker.proofs.TreeJudge.Ways.{at_same}
-use Rattle.cert_checker.proofs.TreeJudge.Answering.{IsFollowed, follows_more, wrong_node, missing_node, all_answered}
+use Rattle.cert_checker.proofs.TreeJudge.Answering.{IsFollowed, follows_more, wrong_node}
 
 module _ (xs : List HalfEdge) (roots : List Root) (firsts : List (Option ℕ)) (t : Tree) (old : TableParts) where
   abbrev first : Option ℕ
   first = first_at firsts t.source
-
-  -- before the first root
-  pub walk_begins : (path : List Frame) (waits : List Wait) (f : Follow) → t.nodes ≡ [] → f.depth ≡ 0 → StandsBefore roots first path waits f → IsWalkedAt xs roots firsts t old old t.source path waits f
-  walk_begins path waits f none zero stands = record {
-    source_is = refl;
-    room = omega (arith, zero);
-    room_to_wait = omega (arith, zero);
-    depth = λ _ _. omega (arith, zero);
-    each = λ es c. (map root_pending es, [], subst (λ (ns : List Node). AreAnswered xs t.source (map root_pending es) ns (map root_pending es) []) (sym none) (refl, refl), stands.start es c, notes_none t.source old);
-  }
-
-  -- in the words of a loop over a whole tree
-  at_end : (new : TableParts) (source : ℕ) (path : List Frame) (waits : List Wait) (f : Follow) → IsWalkedAt xs roots firsts t old new source path waits f → IsFollowed xs roots first t.source t.nodes [] (length t.nodes) path waits f old new
-  at_end new source path waits f w = record { done = t.nodes; split = sym (append-nil t.nodes); count = refl; depth = w.depth; each = w.each }
 
   before_node : (n : Node) (new : TableParts) (source : ℕ) (path other : List Frame) (waits others : List Wait) (f : Follow) → take f.depth other ≡ take f.depth path → take f.depth others ≡ take f.depth waits → IsWalkedAt xs roots firsts t old new source path waits f
       → IsFollowed xs roots first t.source (t.nodes ++ n ∷ []) (n ∷ []) (length t.nodes) other others f old new
@@ -67,13 +52,6 @@ module _ (xs : List HalfEdge) (roots : List Root) (firsts : List (Option ℕ)) (
       → (f.depth ≤ length path → take f.depth other ≡ take f.depth path) → (f.depth ≤ length waits → take f.depth others ≡ take f.depth waits) → (source ≡ t.source → HasRefused xs roots t.source n other others f) → IsFirstWrongFrom xs roots first (with_node n t) (length t.nodes)
   walk_refuses n new source path other waits others f w kept kept_waits refused = record { wrong = wrong_node xs roots first t.source (t.nodes ++ n ∷ []) old n [] (length t.nodes) other others f new (before_node n new source path other waits others f (kept w.room) (kept_waits w.room_to_wait) w) (λ _. refused w.source_is) }
 
-  -- nothing is asked any more, or something is
-  pub walk_is_done : (new : TableParts) (source : ℕ) (path : List Frame) (waits : List Wait) (f : Follow) → IsWalkedAt xs roots firsts t old new source path waits f → f.asked ≡ None → IsWholeFrom xs roots first t old new
-  walk_is_done new source path waits f w none = record { whole = all_answered xs roots first t.source t.nodes old [] (length t.nodes) path waits f new refl (at_end new source path waits f w) none }
-
-  pub walk_is_not_done : (new : TableParts) (source place : ℕ) (path : List Frame) (waits : List Wait) (f : Follow) → IsWalkedAt xs roots firsts t old new source path waits f → f.asked ≡ Some place → IsFirstWrongFrom xs roots first t (length t.nodes)
-  walk_is_not_done new source place path waits f w some = record { wrong = missing_node xs roots first t.source t.nodes old [] (length t.nodes) place path waits f new refl (at_end new source path waits f w) some }
-
 -- ---- nodes one behind the other
 
 with_none : (t : Tree) → with_nodes [] t ≡ t
@@ -83,10 +61,6 @@ with_more : (t : Tree) (ns : List Node) (n : Node) → with_node n (with_nodes n
 with_more t ns n = ap (λ (us : List Node). let u : Tree = record { source = t.source; nodes = us } in u) (append_assoc t.nodes ns (n ∷ []))
 
 module _ (xs : List HalfEdge) (roots : List Root) (firsts : List (Option ℕ)) (source : ℕ) (path : List Frame) (waits : List Wait) (f : Follow) (old : TableParts) where
-  -- before the first of them
-  pub follows_none : FollowsAt xs roots firsts source path waits f old path waits f old false []
-  follows_none = record { on = λ _ t begun w. subst (λ (u : Tree). IsWalkedAt xs roots firsts u begun old source path waits f) (sym (with_none t)) w; some = λ e. absurd (cc); refused = λ e. absurd (cc) }
-
   -- the next one answers, or it doesn't
   pub follows_next : (ns : List Node) (n : Node) (path_now path_new : List Frame) (waits_now waits_new : List Wait) (f_now f_new : Follow) (new more : TableParts) (wrong yes : Bool) → wrong ≡ false → FollowsAt xs roots firsts source path waits f old path_now waits_now f_now new wrong ns
       → f_now.depth < length path_now → length waits_now ≡ length path_now → (f_now.depth ≤ length path_now → f_new.depth ≤ length path_new) → (f_now.depth ≤ length waits_now → f_new.depth ≤ length waits_new)
@@ -110,20 +84,6 @@ module _ (xs : List HalfEdge) (roots : List Root) (firsts : List (Option ℕ)) (
         (walk_refuses xs roots firsts (with_nodes ns t) begun n new source path_now path_now waits_now waits_now f_now (w.on so_far t begun v) (λ _. refl) (λ _. refl)
         (λ e. subst (λ (s : ℕ). HasRefused xs roots s n path_now waits_now f_now) e (refused refl room (omega (arith, room, equal))))));
   }
-
-  -- the same of one of the steps that a node may take
-  pub follows_step : (ns : List Node) (n : Node) (path_now path_new path_last : List Frame) (waits_now waits_new waits_last : List Wait) (f_now f_new f_last : Follow) (new more last : TableParts) (result answers told : Bool)
-      → path_last ≡ path_new → waits_last ≡ waits_new → f_last ≡ f_new → last ≡ more → answers ≡ result → answers ≡ told → FollowsAt xs roots firsts source path waits f old path_now waits_now f_now new false ns
-      → f_now.depth < length path_now → length waits_now ≡ length path_now → (f_now.depth ≤ length path_now → f_new.depth ≤ length path_new) → (f_now.depth ≤ length waits_now → f_new.depth ≤ length waits_new)
-      → (IsTrue result → HasAnswered xs roots source n path_now waits_now f_now new path_new waits_new f_new more) → (result ≡ false → f_now.depth < length path_now → f_now.depth < length waits_now → HasRefused xs roots source n path_now waits_now f_now)
-      → FollowsAt xs roots firsts source path waits f old path_last waits_last f_last last (not told) (ns ++ n ∷ [])
-  follows_step ns n path_now path_new path_last waits_now waits_new waits_last f_now f_new f_last new more last result answers told e g h k is here w room equal within to_wait answered refused =
-      subst (λ (t : TableParts). FollowsAt xs roots firsts source path waits f old path_last waits_last f_last t (not told) (ns ++ n ∷ [])) (sym k)
-      (subst (λ (d : Follow). FollowsAt xs roots firsts source path waits f old path_last waits_last d more (not told) (ns ++ n ∷ [])) (sym h)
-      (subst (λ (us : List Wait). FollowsAt xs roots firsts source path waits f old path_last us f_new more (not told) (ns ++ n ∷ [])) (sym g)
-      (subst (λ (fs : List Frame). FollowsAt xs roots firsts source path waits f old fs waits_new f_new more (not told) (ns ++ n ∷ [])) (sym e)
-      (subst (λ (b : Bool). FollowsAt xs roots firsts source path waits f old path_new waits_new f_new more (not b) (ns ++ n ∷ [])) (sym is ∙ here)
-      (follows_next ns n path_now path_new waits_now waits_new f_now f_new new more false result refl w room equal within to_wait answered refused)))))
 
 -- buffers that are equal
 pub same_buffers : (xs : List HalfEdge) (roots : List Root) (firsts : List (Option ℕ)) (source : ℕ) (path other : List Frame) (waits others : List Wait) (f : Follow) (old : TableParts) (path_new other_new : List Frame) (waits_new others_new : List Wait) (f_new : Follow) (new : TableParts) (wrong : Bool) (ns : List Node)

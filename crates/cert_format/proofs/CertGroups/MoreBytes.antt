@@ -52,7 +52,7 @@ test_stays turned false fault x y e = fault_stays fault (Err fault) refl
 -- ---- fields
 
 module _ (more : List ℕ) where
-  number_stays : (w : Width) (total : ℕ) (bytes : List ℕ) → Stays (with_longer more) (number_at w total bytes) (number_at w (total + length more) (bytes ++ more))
+  pub number_stays : (w : Width) (total : ℕ) (bytes : List ℕ) → Stays (with_longer more) (number_at w total bytes) (number_at w (total + length more) (bytes ++ more))
   number_stays w total bytes = elim (cases_lt (length bytes) (byte_len w)) [
     | inl lt ↦ rw (lt-ltb _ _ lt) tt
     | inr le ↦
@@ -74,7 +74,7 @@ module _ (more : List ℕ) where
         (stays_then (with_longer more) turned (number_at w total bytes) (number_at w (total + length more) (bytes ++ more)) next next (number_stays w total bytes) (λ n. test_stays turned (test n.0) (fault at) (made n) (made (n.0, n.1 ++ more)) (is_made n)))
 
   -- only the bytes behind it are given
-  known_field : (w : Width) (test : ℕ → Bool) (fault : ℕ → CertFault) (total : ℕ) (bytes : List ℕ)
+  pub known_field : (w : Width) (test : ℕ → Bool) (fault : ℕ → CertFault) (total : ℕ) (bytes : List ℕ)
       → Stays (longer more) (field (longer more) w test fault (λ n. n.1) (λ n. refl) (begins_at total bytes) total bytes)
       (field (longer more) w test fault (λ n. n.1) (λ n. refl) (begins_at (total + length more) (bytes ++ more)) (total + length more) (bytes ++ more))
   known_field w test fault = field_stays (longer more) w test fault (λ n. n.1) (λ n. refl)
@@ -86,7 +86,7 @@ module _ (more : List ℕ) where
 
   -- ---- the header
 
-  magic_stays : (total : ℕ) (bytes : List ℕ) → Stays (longer more) (magic_at total bytes) (magic_at (total + length more) (bytes ++ more))
+  pub magic_stays : (total : ℕ) (bytes : List ℕ) → Stays (longer more) (magic_at total bytes) (magic_at (total + length more) (bytes ++ more))
   unfolding magic_at
   magic_stays total bytes = known_field w32 (λ n. n == magic) (λ at. faults.BadMagic) total bytes
 
@@ -105,7 +105,7 @@ module _ (more : List ℕ) where
       stays_then (longer more) (with_longer more) (magic_at total bytes) (magic_at (total + length more) (bytes ++ more)) (next total) (next (total + length more)) (magic_stays total bytes)
       (λ m. number_field w16 (λ n. n == 1 || n == 2) (λ at. faults.BadVersion) total m)
 
-  sizes_stay : (sizes : Sizes) (total : ℕ) (bytes : List ℕ) → Stays (longer more) (sizes_at sizes total bytes) (sizes_at sizes (total + length more) (bytes ++ more))
+  pub sizes_stay : (sizes : Sizes) (total : ℕ) (bytes : List ℕ) → Stays (longer more) (sizes_at sizes total bytes) (sizes_at sizes (total + length more) (bytes ++ more))
   unfolding sizes_at
   sizes_stay sizes total bytes =
       let last : ℕ → List ℕ → Result (List ℕ) CertFault = λ n rest. number_known sizes.lines n rest in
@@ -114,11 +114,11 @@ module _ (more : List ℕ) where
       stays_then (longer more) (longer more) (number_known sizes.sectors total bytes) (number_known sizes.sectors long (bytes ++ more)) (next total) (next long) (known_stays sizes.sectors total bytes)
       (λ a. stays_then (longer more) (longer more) (number_known sizes.points total a) (number_known sizes.points long (a ++ more)) (last total) (last long) (known_stays sizes.points total a) (λ b. known_stays sizes.lines total b))
 
-  group_count_stays : (points total : ℕ) (bytes : List ℕ) → Stays (with_longer more) (group_count_at points total bytes) (group_count_at points (total + length more) (bytes ++ more))
+  pub group_count_stays : (points total : ℕ) (bytes : List ℕ) → Stays (with_longer more) (group_count_at points total bytes) (group_count_at points (total + length more) (bytes ++ more))
   unfolding group_count_at
   group_count_stays points total bytes = number_field w16 (λ n. not (ltb (most_triangles points) n)) (λ at. faults.OutOfRange at) total bytes
 
-  triangle_count_stays : (points total : ℕ) (bytes : List ℕ) → Stays (with_longer more) (triangle_count_at points total bytes) (triangle_count_at points (total + length more) (bytes ++ more))
+  pub triangle_count_stays : (points total : ℕ) (bytes : List ℕ) → Stays (with_longer more) (triangle_count_at points total bytes) (triangle_count_at points (total + length more) (bytes ++ more))
   unfolding triangle_count_at
   triangle_count_stays points total bytes = number_field w32 (λ n. not (ltb (most_triangles points) n)) (λ at. faults.OutOfRange at) total bytes
 
@@ -145,7 +145,7 @@ module _ (more : List ℕ) where
 
   -- ---- records one behind the other
 
-  records_stay : {X K : Type 0} (one other : K → List ℕ → Result (X × List ℕ) CertFault) (key : X → K) → ((k : K) (bytes : List ℕ) → Stays (with_longer more) (one k bytes) (other k (bytes ++ more))) → (k : K) (n : ℕ) (bytes : List ℕ)
+  pub records_stay : {X K : Type 0} (one other : K → List ℕ → Result (X × List ℕ) CertFault) (key : X → K) → ((k : K) (bytes : List ℕ) → Stays (with_longer more) (one k bytes) (other k (bytes ++ more))) → (k : K) (n : ℕ) (bytes : List ℕ)
       → Stays (with_longer more) (records_at one key k n bytes) (records_at other key k n (bytes ++ more))
   unfolding records_at
   records_stay one other key h k zero bytes = refl
@@ -173,7 +173,7 @@ module _ (more : List ℕ) where
   sector_stays sectors total before bytes =
       sorted_stays (λ n. comes_after before n) (number_below sectors total bytes) (number_below sectors (total + length more) (bytes ++ more)) total bytes (below_stays sectors total bytes)
 
-  group_stays : (sectors total : ℕ) (before : Option (List ℕ)) (bytes : List ℕ) → Stays (with_longer more) (group_at sectors total before bytes) (group_at sectors (total + length more) before (bytes ++ more))
+  pub group_stays : (sectors total : ℕ) (before : Option (List ℕ)) (bytes : List ℕ) → Stays (with_longer more) (group_at sectors total before bytes) (group_at sectors (total + length more) before (bytes ++ more))
   unfolding group_at
   group_stays sectors total before bytes =
       let long = total + length more in

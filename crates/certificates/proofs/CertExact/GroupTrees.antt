@@ -6,13 +6,13 @@ use Rattle.std.proofs.lemmas.List.Concat.{flat_map-cons}
 use Rattle.math_base.proofs.Options.{some_is_same}
 use Rattle.sight_names.specs.Order.{Ascends}
 use Rattle.block_evidence.specs.declared.sight_tree.Node.{Node}
-use Rattle.block_evidence.specs.declared.sight_tree.Node.TheVariants.{Open, Blocked}
 use Rattle.block_evidence.specs.declared.sight_tree.Tree.{Tree}
 use Rattle.block_evidence.specs.SightTree.Spelling.{FitsNode, node_bytes}
 use Rattle.cert_format.specs.declared.cert.Sizes.{Sizes}
 use Rattle.cert_format.specs.Grammar.{IsTreeInRange, FitsTree}
 use Rattle.cert_format.proofs.TreeLaws.{FitsInOrder, in_orders, all_fit, fit_in_order}
 use Rattle.certificates.specs.CertExact.Grammar.{trees_from, nodes_bytes}
+use Rattle.certificates.proofs.CertExact.NodesLaws.{node_long}
 
 abbrev AllFit : List (List Node) → Type 0
 AllFit trees = AllByRecursion (λ ns. AllByRecursion FitsInOrder ns) trees
@@ -31,10 +31,6 @@ source_at f (ns ∷ trees) (suc i) t e = source_at (suc f) trees i t e ∙ omega
 
 pub sources_ascend : (f : ℕ) (trees : List (List Node)) → Ascends (λ (t u : Tree). t.source < u.source) (trees_from f trees)
 sources_ascend f trees i j t u lt h g = omega (arith, lt, source_at f trees i t h, source_at f trees j u g)
-
-node_long : (n : Node) → 1 ≤ length (node_bytes n)
-node_long Open = omega arith
-node_long (Blocked e) = omega arith
 
 few_nodes : (ns : List Node) → length ns ≤ length (nodes_bytes ns)
 few_nodes [] = omega arith

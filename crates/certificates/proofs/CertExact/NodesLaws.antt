@@ -28,7 +28,7 @@ some_byte : (n : Node) (rest : List ℕ) → node_bytes n ++ rest ≢ []
 some_byte Open rest = λ e. absurd cc
 some_byte (Blocked e) rest = λ e. absurd cc
 
-node_long : (n : Node) → 1 ≤ length (node_bytes n)
+pub node_long : (n : Node) → 1 ≤ length (node_bytes n)
 node_long Open = omega arith
 node_long (Blocked e) = omega arith
 

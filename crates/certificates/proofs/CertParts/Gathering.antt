@@ -116,14 +116,6 @@ module _ (g : GatheredParts) (s t : ReaderState) (rest : List ℕ) where
   pub fault_taken : (f : CertFault) → ((more : List ℕ) → parts_left s (rest ++ more) ≡ Err f) → Fails f (gathered_from g s rest)
   fault_taken f told = fails f (gathered_from g s rest) (ap (of_state g s) (sym (append-nil rest)) ∙ ap (all_with g) (told []))
 
--- all were taken, and the last tree has ended
-pub taken_whole : (all : Result GatheredParts CertFault) (g : GatheredParts) (s : ReaderState) → all ≡ gathered_from g s [] → parts_left s [] ≡ Ok [] → all ≡ Ok (tree_ended g)
-taken_whole all g s e none = e ∙ rw none refl
-
--- bytes are missing, or are too many
-pub taken_short : (all : Result GatheredParts CertFault) (g : GatheredParts) (s : ReaderState) (f : CertFault) → all ≡ gathered_from g s [] → parts_left s [] ≡ Err f → Fails f all
-taken_short all g s f e short = fails f all (e ∙ rw short refl)
-
 -- ---- the certificate
 
 -- a fault of what is made of what is read is one of the reading

@@ -1,7 +1,6 @@
 -- Passing trees of which nothing is left: what is left to come stays the same.
-use Rattle.std.proofs.Common.{◌≡◌, ℕ, zero, suc, ◌+◌, ◌<◌, ◌≤◌, List, [], ◌∷◌, ◌++◌, length, get_or, drop, false, ltb, ◌==◌, Result, Ok, Err, refl, sym, ap, ◌∙◌, arith}
+use Rattle.std.proofs.Common.{◌≡◌, ℕ, zero, suc, ◌+◌, List, [], ◌∷◌, ◌++◌, length, false, ltb, ◌==◌, Result, Ok, Err, refl, ◌∙◌, arith}
 use Rattle.std.proofs.lemmas.Bool.{le-ltb}
-use Rattle.std.proofs.lemmas.List.{drop_more, drop_all}
 use Rattle.sight_names.specs.declared.faults.CertFault.{CertFault}
 use Rattle.sight_names.specs.declared.faults.CertFault.TheVariants as faults
 use Rattle.block_evidence.specs.declared.sight_tree.Node.{Node}
@@ -9,7 +8,7 @@ use Rattle.cert_format.specs.Reading.{◌>>=◌, begins_at, passed}
 use Rattle.certificates.specs.CertExact.Reading.{nodes_to_end, tree_at, trees_at}
 use Rattle.certificates.specs.declared.exact_parts.part.Part.{Part}
 use Rattle.certificates.specs.ExactParts.Parts.{tree_parts}
-use Rattle.certificates.specs.ExactParts.Left.{TreesLeft, first_of, settled_from, IsSettled, trees_left}
+use Rattle.certificates.specs.ExactParts.Left.{first_of, settled_from, IsSettled, trees_left}
 
 abbrev Trees : Type 0
 Trees = Result (List (List Node) × List ℕ) CertFault
@@ -41,27 +40,7 @@ settled_is f [] = tt
 settled_is f (zero ∷ lengths) = settled_is (suc f) lengths
 settled_is f (suc n ∷ lengths) = omega arith
 
--- the first tree of which something is left
-pub some_first : (f n : ℕ) (lengths : List ℕ) → 0 < n → settled_from f (n ∷ lengths) ≡ record { source = f; lengths = n ∷ lengths }
-some_first f zero lengths some = absurd (omega (arith, some))
-some_first f (suc n) lengths some = refl
-
 -- with nothing left of the first, none is left
 pub none_first : (lengths : List ℕ) → IsSettled lengths → first_of lengths ≡ 0 → lengths ≡ []
 none_first [] is none = refl
 none_first (n ∷ lengths) is none = absurd (omega (arith, is, none))
-
--- ---- as a loop does
-
-pub pass_one : (i : ℕ) (lengths : List ℕ) → i < length lengths → get_or lengths i 0 ≡ 0 → settled_from i (drop i lengths) ≡ settled_from (i + 1) (drop (i + 1) lengths)
-pass_one i lengths lt none =
-    let next : suc i ≡ i + 1 = omega arith in
-    ap (settled_from i) (drop_more lengths i 0 lt) ∙ ap (λ (n : ℕ). settled_from i (n ∷ drop (i + 1) lengths)) none ∙ ap (λ (k : ℕ). settled_from k (drop (i + 1) lengths)) next
-
-pub stops_at : (i : ℕ) (lengths : List ℕ) → i < length lengths → 0 < get_or lengths i 0 → settled_from i (drop i lengths) ≡ record { source = i; lengths = drop i lengths }
-stops_at i lengths lt some =
-    let there = drop_more lengths i 0 lt in
-    ap (settled_from i) there ∙ some_first i (get_or lengths i 0) (drop (i + 1) lengths) some ∙ ap (λ (ls : List ℕ). let t : TreesLeft = record { source = i; lengths = ls } in t) (sym there)
-
-pub all_passed : (i : ℕ) (lengths : List ℕ) → length lengths ≤ i → settled_from i (drop i lengths) ≡ record { source = i; lengths = drop i lengths }
-all_passed i lengths le = let none = drop_all i lengths le in rw none refl

@@ -1,9 +1,8 @@
 -- From what was found of each tree to the first wrong one.
-use Rattle.std.proofs.Common.{◌≡◌, ℕ, suc, ◌<◌, ◌⊎◌, inl, inr, List, [], Option, None, Some, length, refl, sym, ◌∙◌, ap, subst, arith}
+use Rattle.std.proofs.Common.{◌≡◌, ℕ, suc, ◌<◌, List, [], Option, None, Some, length, refl, subst, arith}
 use Rattle.std.specs.List.{slice_get}
 use Rattle.std.specs.Prelude.{IfOk, Result, Ok, Err, get_or}
-use Rattle.std.proofs.lemmas.Option.{same_Some, slice_get-get_or, slice_get_within}
-use Rattle.math_base.proofs.Numbers.{below_or_at}
+use Rattle.std.proofs.lemmas.Option.{slice_get-get_or, slice_get_within}
 use Rattle.block_evidence.specs.declared.sight_tree.Node.{Node}
 use Rattle.mesh_shape.specs.declared.half_edges.table.HalfEdge.{HalfEdge}
 use Rattle.cert_checker.specs.declared.tree_judge.roots.Root.{Root}
@@ -13,14 +12,6 @@ use Rattle.exact_checker.specs.Owning.{OwningParts}
 use Rattle.exact_checker.specs.Judged.{AnswersFor, AnswersForEach}
 use Rattle.exact_checker.specs.TaskCrew.Done.{AreDone}
 use Rattle.exact_checker.specs.ExactWorkers.Found.{HasNone, IsFirstFound}
-
--- none of one more
-pub none_more : (found : List (Option ℕ)) (n : ℕ) (o : Option ℕ) → slice_get found n ≡ Some o → o ≡ None → HasNone found n → HasNone found (suc n)
-none_more found n o at none before f p lt there = go (below_or_at f n lt)
-  where
-    go : (f < n) ⊎ (f ≡ n) → p ≡ None
-    go (inl l) = before f p l there
-    go (inr e) = same_Some p o (sym there ∙ (ap (slice_get found) e ∙ at)) ∙ none
 
 module _ (xs : List HalfEdge) (ms : MaskRows) (roots : List Root) (firsts : List (Option ℕ)) (known : OwningParts) (trees : List (List Node)) (found : List (Option ℕ)) (one_each : length trees ≡ known.count) (count : ℕ) (same : count ≡ known.count)
     (all : AreDone (λ i o. (ns : List Node) → slice_get trees i ≡ Some ns → AnswersFor xs ms roots firsts known i ns o) count found) where

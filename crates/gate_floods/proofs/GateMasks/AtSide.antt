@@ -210,9 +210,6 @@ module _ (p : PlanParts) (is : IsPlan p) (s : Side) where
           let all : gate_by q ends left_at right_at ≡ e = λ i. record { near = (cross i).a; far = (cross i).b; side = sym same i; left = (both i).a; right = (both i).b; left_at = at_left i; right_at = at_right i } in
           ap (λ (x : Gate). Some x) all
 
-  pub tells_no_line : entry_of p s.line ≡ None → (e : Gate) → ¬ (IsGateOf (map_of p) e × (e.side ≡ s))
-  tells_no_line none e (g, same) = let f = gate_found e g same in none-some f.line (sym none ∙ f.entry)
-
   pub tells_no_crossing : (l : Line) → entry_of p s.line ≡ Some l → crossing_of l s.left ≡ None → (e : Gate) → ¬ (IsGateOf (map_of p) e × (e.side ≡ s))
   tells_no_crossing l entry none e (g, same) =
       let f = gate_found e g same in

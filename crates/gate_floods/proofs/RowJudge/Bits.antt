@@ -147,11 +147,6 @@ they_dont (x ∷ xs) (y ∷ ys) (suc n) none e = both_none (not (bit_and x y % 2
 
 -- ---- the words of a row
 
-pub at_any : (xs : List ℕ) (i d : ℕ) → i < length xs → get_or xs i d ≡ slice_index xs i
-at_any [] i d l = absurd (omega (arith, l))
-at_any (x ∷ xs) zero d l = refl
-at_any (x ∷ xs) (suc i) d l = at_any xs i d (omega (arith, l))
-
 pub word_of_row : (xs : List ℕ) (w at i : ℕ) → i < w → slice_index (row_at xs w at) i ≡ slice_index xs (at + i)
 word_of_row xs w at i l = get_or-take w (drop at xs) i 0 l ∙ get_or-drop at xs i 0
 

@@ -1,35 +1,24 @@
 -- A walk with a row that follows a tree: what each node answers, and what is still to be asked behind it.
-use Rattle.std.proofs.Common.{◌≡◌, ◌↔◌, ℕ, ◌+◌, ◌<◌, ◌≤◌, IsTrue, true, false, List, [], ◌∷◌, ◌++◌, Option, Some, None, take, length, refl, sym, ◌∙◌, ap, subst, arith}
+use Rattle.std.proofs.Common.{◌≡◌, ◌↔◌, ℕ, ◌+◌, ◌≤◌, IsTrue, true, false, List, ◌∷◌, ◌++◌, Option, Some, take, length, refl, sym, ◌∙◌, ap, subst, arith}
 use Rattle.std.specs.List.{slice_get}
 use Rattle.std.specs.Prelude.{option_map}
 use Rattle.sight_names.specs.Splitting.{EndPoints}
 use Rattle.block_evidence.specs.declared.Evidence.{Evidence}
 use Rattle.block_evidence.specs.Stuck.{Blocks}
-use Rattle.block_evidence.specs.declared.sight_tree.Node.{Node}
 use Rattle.block_evidence.specs.declared.sight_tree.Node.TheVariants.{Open, Blocked}
 use Rattle.mesh_shape.specs.declared.half_edges.table.HalfEdge.{HalfEdge}
 use Rattle.cert_checker.specs.declared.tree_judge.roots.Root.{Root}
 use Rattle.cert_checker.specs.declared.tree_judge.trees.Frame.{Frame}
 use Rattle.cert_checker.specs.TreeJudge.Path.{path_ends, edge_ends, PutsAt}
-use Rattle.math_base.proofs.Options.{some_is_not_none}
-use Rattle.math_base.proofs.Bools.{not_both_values}
 use Rattle.gate_floods.specs.RowJudge.Masks.{MaskRows}
 use Rattle.gate_floods.specs.declared.row_judge.follow.Wait.{Wait}
 use Rattle.gate_floods.specs.declared.row_judge.follow.RowFollow.{RowFollow}
 use Rattle.gate_floods.specs.RowJudge.Words.{row_at, both_words, is_away}
-use Rattle.gate_floods.specs.RowJudge.Asked.{place_at, left_of, Pending, pending_way, pending_roots, ends_through, row_through, ways_behind, ways_through}
+use Rattle.gate_floods.specs.RowJudge.Asked.{place_at, left_of, Pending, pending_way, pending_roots, ends_through, ways_behind, ways_through}
 use Rattle.gate_floods.specs.RowJudge.Path.{HasPassed, HasRoomFor, AreWaiting, IsAt, with_asked, TakesNext, EntersThrough, HasAnswered, HasRefused}
 use Rattle.gate_floods.proofs.RowJudge.Waiting.{row_same, waiting_same, waiting_more, put_room}
 
 -- ---- the row behind a half-edge
-
-pub passed_over : (ms : MaskRows) (rows : List ℕ) (row edge : ℕ) → place_at ms.places edge ≡ None → HasPassed ms rows row edge rows row
-passed_over ms rows row edge none = record {
-  there = ap (λ (o : Option ℕ). left_of (row_at rows ms.width row) (option_map (row_at ms.words ms.width) o)) (sym none);
-  kept = refl;
-  after = omega arith;
-  room = λ l. l;
-}
 
 pub passed_gate : (ms : MaskRows) (rows mid new : List ℕ) (row edge place : ℕ) → place_at ms.places edge ≡ Some place → HasRoomFor rows row ms.width mid true → length new ≡ length mid → take (row + ms.width) new ≡ take (row + ms.width) mid
     → row_at new ms.width (row + ms.width) ≡ both_words (row_at mid ms.width row) (row_at ms.words ms.width place) → HasPassed ms rows row edge new (row + ms.width)
@@ -45,9 +34,6 @@ passed_gate ms rows mid new row edge place is (there, room, before) len kept put
 
 same_first : (p q : Pending) (ps qs us : List Pending) → us ≡ p ∷ ps → us ≡ q ∷ qs → p ≡ q
 same_first p q ps qs us e f = cc
-
-no_first : (p : Pending) (ps us : List Pending) → us ≡ [] → us ≡ p ∷ ps → ⊥
-no_first p ps us e f = cc
 
 module _ (xs : List HalfEdge) (ms : MaskRows) (source : ℕ) (first : List ℕ) (roots : List Root) (path : List Frame) (rows : List ℕ) (waits : List Wait) (f : RowFollow) where
   -- the half-edge that is asked, behind the present path
@@ -100,23 +86,6 @@ module _ (xs : List HalfEdge) (ms : MaskRows) (source : ℕ) (first : List ℕ) 
 
   -- ---- a node that doesn't answer
 
-  -- nothing is asked
-  pub refused_all : (n : Node) → f.asked ≡ None → HasRefused xs ms source first roots n path rows waits f
-  refused_all Open e = record { none = λ ps qs a (p, rest, x, first_is, is, away, left). no_first p rest ps (a.last e) first_is }
-  refused_all (Blocked d) e = record { none = λ ps qs a (p, rest, x, first_is, is, blocks, left). no_first p rest ps (a.last e) first_is }
-
-  -- there is no such half-edge
-  no_edge : (ps rest : List Pending) (place : ℕ) (p : Pending) (x : HalfEdge) → f.asked ≡ Some place → slice_get xs place ≡ None → At ps → ps ≡ p ∷ rest → slice_get xs p.edge ≡ Some x → ⊥
-  no_edge ps rest place p x e none a first_is is = some_is_not_none x (sym is ∙ ap (λ (q : Pending). slice_get xs q.edge) (same_first p (present place) rest (others a) ps first_is (present_first ps place e a)) ∙ none)
-
-  pub refused_edge : (n : Node) (place : ℕ) → f.asked ≡ Some place → slice_get xs place ≡ None → HasRefused xs ms source first roots n path rows waits f
-  refused_edge Open place e none = record { none = λ ps qs a (p, rest, x, first_is, is, away, left). no_edge ps rest place p x e none a first_is is }
-  refused_edge (Blocked d) place e none = record { none = λ ps qs a (p, rest, x, first_is, is, blocks, left). no_edge ps rest place p x e none a first_is is }
-
-  -- there is no row
-  pub refused_row : (n : Node) → length rows < f.row + ms.width → HasRefused xs ms source first roots n path rows waits f
-  refused_row n short = record { none = λ ps qs a answer. let l : f.row + ms.width ≤ length rows = a.row_room in omega (arith, l, short) }
-
   one_edge : (x y : HalfEdge) (o : Option HalfEdge) → o ≡ Some x → o ≡ Some y → x ≡ y
   one_edge x y o e f = cc
 
@@ -136,18 +105,3 @@ module _ (xs : List HalfEdge) (ms : MaskRows) (source : ℕ) (first : List ℕ) 
 
           found : y ≡ x
           found = one_edge y x (slice_get xs place) (ap (λ (q : Pending). slice_get xs q.edge) (sym same) ∙ at) is
-
-  -- it enters what the row has
-  pub refused_entering : (rows' : List ℕ) (place at : ℕ) (x : HalfEdge) → f.asked ≡ Some place → slice_get xs place ≡ Some x → HasPassed ms rows f.row place rows' at → is_away (row_at rows' ms.width at) x.sector ≡ false → HasRefused xs ms source first roots Open path rows waits f
-  refused_entering rows' place at x h is passed near = record { none = λ ps qs a (p, rest, y, first_is, there, away, left). go ps rest p y a first_is there away }
-    where
-      go : (ps rest : List Pending) (p : Pending) (y : HalfEdge) → IsAt ms first roots path rows waits f ps → ps ≡ p ∷ rest → slice_get xs p.edge ≡ Some y → is_away (row_through ms p) y.sector ≡ true → ⊥
-      go ps rest p y a first_is there away = not_both_values (is_away (row_at rows' ms.width at) x.sector)
-          (subst (λ (us : List ℕ). is_away us x.sector ≡ true) (sym passed.there) (subst (λ (z : HalfEdge). is_away (row_through ms (present place)) z.sector ≡ true) found (subst (λ (q : Pending). is_away (row_through ms q) y.sector ≡ true) same away)))
-          near
-        where
-          same : p ≡ present place
-          same = same_first p (present place) rest (others a) ps first_is (present_first ps place h a)
-
-          found : y ≡ x
-          found = one_edge y x (slice_get xs place) (ap (λ (q : Pending). slice_get xs q.edge) (sym same) ∙ there) is

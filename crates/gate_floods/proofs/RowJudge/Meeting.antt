@@ -1,63 +1,15 @@
 -- A row that is met with a mask and put behind, word by word: all else stays.
-use Rattle.std.proofs.Common.{◌≡◌, ◌≢◌, ℕ, ◌+◌, ◌-◌, ◌<◌, ◌≤◌, ◌⊎◌, inl, inr, List, take, drop, length, slice_index, slice_set, bit_and, refl, sym, ◌∙◌, ap, subst, arith, length-set}
-use Rattle.std.proofs.lemmas.List.{length-drop, length-take-le, get_or-take, get_or-set_same, get_or-set_other, ext_get_or}
-use Rattle.math_base.proofs.Numbers.{same_or_not, below_or_not}
+use Rattle.std.proofs.Common.{◌≡◌, ℕ, ◌+◌, ◌-◌, ◌<◌, ◌≤◌, ◌⊎◌, inl, inr, List, take, drop, length, slice_index, bit_and, refl, sym, ◌∙◌, ap, subst, arith}
+use Rattle.std.proofs.lemmas.List.{length-drop, length-take-le, get_or-take, ext_get_or}
+use Rattle.math_base.proofs.Numbers.{below_or_not}
 use Rattle.gate_floods.specs.RowJudge.Words.{both_words, row_at, HasMet, IsCleared}
 use Rattle.gate_floods.proofs.RowJudge.Bits.{word_of_both, length_of_both, word_of_row, beyond, and_nothing}
 
 -- ---- word by word
 
-module _ (old mask : List ℕ) (at to : ℕ) where
-  pub met_none : HasMet old mask at to 0 old
-  met_none = record { len = refl; met = λ j l. absurd (omega (arith, l)); others = λ j s. refl }
-
-  pub met_more : (rows : List ℕ) (k x : ℕ) → at + k < to → to + k < length old → x ≡ bit_and (slice_index rows (at + k)) (slice_index mask k) → HasMet old mask at to k rows → HasMet old mask at to (k + 1) (slice_set rows (to + k) x)
-  met_more rows k x below room value h = record {
-    len = length-set rows (to + k) x ∙ h.len;
-    met = λ j l. at_word j l (same_or_not j k);
-    others = λ j side. get_or-set_other rows (to + k) j x 0 (apart j side) ∙ h.others j (before j side);
-  }
-    where
-      there : to + k < length rows
-      there = omega (arith, room, h.len)
-
-      at_word : (j : ℕ) → j < k + 1 → (j ≡ k) ⊎ (j ≢ k) → slice_index (slice_set rows (to + k) x) (to + j) ≡ bit_and (slice_index old (at + j)) (slice_index mask j)
-      at_word j l (inl e) = rw e (get_or-set_same rows (to + k) x 0 there ∙ value ∙ ap (λ (w : ℕ). bit_and w (slice_index mask k)) (h.others (at + k) (inl below)))
-      at_word j l (inr n) = get_or-set_other rows (to + k) (to + j) x 0 (λ e. n (omega (arith, e))) ∙ h.met j (omega (arith, l, n))
-
-      apart : (j : ℕ) → (j < to) ⊎ (to + (k + 1) ≤ j) → j ≢ to + k
-      apart j (inl l) = λ e. omega (arith, l, e)
-      apart j (inr l) = λ e. omega (arith, l, e)
-
-      before : (j : ℕ) → (j < to) ⊎ (to + (k + 1) ≤ j) → (j < to) ⊎ (to + k ≤ j)
-      before j (inl l) = inl l
-      before j (inr l) = inr (omega (arith, l))
-
 module _ (old : List ℕ) (from : ℕ) where
   pub cleared_none : IsCleared old from 0 old
   cleared_none = record { len = refl; none = λ j l. absurd (omega (arith, l)); others = λ j s. refl }
-
-  pub cleared_more : (rows : List ℕ) (k : ℕ) → from + k < length old → IsCleared old from k rows → IsCleared old from (k + 1) (slice_set rows (from + k) 0)
-  cleared_more rows k room h = record {
-    len = length-set rows (from + k) 0 ∙ h.len;
-    none = λ j l. at_word j l (same_or_not j k);
-    others = λ j side. get_or-set_other rows (from + k) j 0 0 (apart j side) ∙ h.others j (before j side);
-  }
-    where
-      there : from + k < length rows
-      there = omega (arith, room, h.len)
-
-      at_word : (j : ℕ) → j < k + 1 → (j ≡ k) ⊎ (j ≢ k) → slice_index (slice_set rows (from + k) 0) (from + j) ≡ 0
-      at_word j l (inl e) = rw e (get_or-set_same rows (from + k) 0 0 there)
-      at_word j l (inr n) = get_or-set_other rows (from + k) (from + j) 0 0 (λ e. n (omega (arith, e))) ∙ h.none j (omega (arith, l, n))
-
-      apart : (j : ℕ) → (j < from) ⊎ (from + (k + 1) ≤ j) → j ≢ from + k
-      apart j (inl l) = λ e. omega (arith, l, e)
-      apart j (inr l) = λ e. omega (arith, l, e)
-
-      before : (j : ℕ) → (j < from) ⊎ (from + (k + 1) ≤ j) → (j < from) ⊎ (from + k ≤ j)
-      before j (inl l) = inl l
-      before j (inr l) = inr (omega (arith, l))
 
 pub cleared_short : (old : List ℕ) (from w n : ℕ) → w ≤ n → IsCleared old from (w - n) old
 cleared_short old from w n l = let none : 0 ≡ w - n = omega (arith, l) in subst (λ (k : ℕ). IsCleared old from k old) none (cleared_none old from)

@@ -76,9 +76,6 @@ module _ (ms : MaskRows) (row : List ℕ) (roots : List Root) where
     pub counted : length es ≡ count + length rest
     pub same : pending_roots ms row es ≡ pending_roots ms row rest
 
-  pub none_skipped : (es : List ℕ) (at : Option ℕ) → IsChain roots at es → HasSkipped es 0 at
-  none_skipped es at c = record { rest = es; chain = c; counted = omega arith; same = refl }
-
   -- the root at this place, and the chain behind it
   next_of : (r : Root) (at : Option ℕ) (rest : List ℕ) → option_and_then (slice_get roots) at ≡ Some r → IsChain roots at rest → (more : List ℕ) × (rest ≡ r.edge ∷ more) × IsChain roots r.next more
   next_of r at [] is c = absurd (none_is_not_some r (sym (ap (λ (o : Option ℕ). option_and_then (slice_get roots) o) c) ∙ is))

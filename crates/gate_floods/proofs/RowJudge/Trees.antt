@@ -11,7 +11,7 @@ use Rattle.sight_names.specs.declared.names.Side.{Side}
 use Rattle.sight_names.specs.declared.names.Triangle.{Triangle}
 use Rattle.sight_names.specs.Plan.{PlanParts}
 use Rattle.sight_names.specs.Points.{place}
-use Rattle.sight_names.specs.Map.{Map, MapLine, IsMap, map_of}
+use Rattle.sight_names.specs.Map.{MapLine, IsMap, map_of}
 use Rattle.sight_names.specs.Mesh.{label_of, triangle_at, side_edge}
 use Rattle.sight_names.specs.Splitting.{EndPoints}
 use Rattle.sight_names.specs.Sequence.{Portal, Left, Right, entry_edge, way_out, apex, third_point, root_portal, roots, reached, end_points, IsSolidLine}
@@ -51,23 +51,11 @@ module _ (p : PlanParts) (ts : List Triangle) (xs : List HalfEdge) (w : AreOfGoo
   abbrev ls : List (Option ℕ)
   ls = w.labels
 
-  abbrev m : Map
-  m = map_of p
-
   is_map : IsMap (map_of p)
   is_map = plan_is_map p w.plan
 
   abbrev In : List Portal → ℕ → Type 0
   In ps c = IsInRow (map_of p) Claims Keeps ps c
-
-  abbrev Skips : List Portal → Type 0
-  Skips ps = IsEmptyRow (map_of p) Claims Keeps ps
-
-  abbrev Asks : List Portal → Type 0
-  Asks ps = HasRow (map_of p) Claims Keeps ps
-
-  abbrev Enters_ : List Portal → Type 0
-  Enters_ ps = EntersNone (map_of p) ts w.labels Claims Keeps ps
 
   abbrev Answered : List Portal → List Node → Type 0
   Answered ps ns = AnswersAsked (map_of p) ts w.labels a (λ qs. IsEmptyRow (map_of p) Claims Keeps qs) (λ qs. HasRow (map_of p) Claims Keeps qs) (λ qs. EntersNone (map_of p) ts w.labels Claims Keeps qs) ps ns
@@ -193,12 +181,6 @@ module _ (p : PlanParts) (ts : List Triangle) (xs : List HalfEdge) (w : AreOfGoo
   SplitsAll n = (front : List Portal) (row : List ℕ) (q : Portal) (rest : List Pending) (ns : List Node) → IsInner p ts xs w q → AreBitsOf row (In front) → Begins front q → length ns ≤ n → AreAnswered xs ms a (asks front row q ++ rest) ns [] → Splits front q rest ns
 
   module _ (front : List Portal) (row : List ℕ) (q : Portal) (i : ℕ) (rest : List Pending) (n : IsAsked p ts xs w a q i) (tells : AreBitsOf row (In front)) (left : HasRow (map_of p) Claims Keeps (front ++ q ∷ [])) where
-    abbrev through_it : Enters p ts w.labels xs q i
-    through_it = n.enters
-
-    abbrev onward : List Portal
-    onward = front ++ q ∷ []
-
     abbrev further : List ℕ
     further = left_of row (mask_at ms i)
 

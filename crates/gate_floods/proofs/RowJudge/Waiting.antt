@@ -19,9 +19,6 @@ use Rattle.gate_floods.specs.RowJudge.Path.{AsksRoot, waiting_way, AreWaiting, I
 pub row_same : (rows other : List ℕ) (w at r : ℕ) → at ≤ r → take (r + w) other ≡ take (r + w) rows → row_at other w at ≡ row_at rows w at
 row_same rows other w at r l e = sym (drop-take at w other) ∙ ap (drop at) (sym (take-take (at + w) (r + w) other (omega (arith, l))) ∙ ap (take (at + w)) e ∙ take-take (at + w) (r + w) rows (omega (arith, l))) ∙ drop-take at w rows
 
-pub ends_same : (path other : List Frame) (d e : ℕ) → d ≤ e → take e other ≡ take e path → path_ends (take d other) ≡ path_ends (take d path)
-ends_same path other d e l h = ap path_ends (sym (take-take d e other l) ∙ ap (take d) h ∙ take-take d e path l)
-
 pub waiting_same : (path other : List Frame) (rows rows' : List ℕ) (w : ℕ) (waits : List Wait) (d r : ℕ) (ps : List Pending) → take d other ≡ take d path → take (r + w) rows' ≡ take (r + w) rows → AreWaiting path rows w waits d r ps → AreWaiting other rows' w waits d r ps
 waiting_same path other rows rows' w waits d r [] e f h = h
 waiting_same path other rows rows' w waits d r (p ∷ ps) e f (front, x, split, low, low_too, this, more) = (front, x, split, low, low_too, this ∙ same, waiting_same path other rows rows' w front x.depth x.row ps fewer fewer_rows more)
@@ -151,36 +148,6 @@ module _ (ms : MaskRows) (first : List ℕ) (roots : List Root) (path : List Fra
         row_room = room;
         all = sym (λ i. behind (l i) (r i) (ws ++ pending_roots ms first es));
         last = λ e. absurd (some_is_not_none left e);
-      };
-    }
-
-    pub enters_left : (way : ℕ) → Some way ≡ way_asked xs ms source row x.left_way → None ≡ way_asked xs ms source row x.right_way → EntersThrough xs ms source first roots path rows waits f x waits f (Some way)
-    enters_left way l r = record {
-      next = λ es ws c base h d room. record {
-        es = es;
-        ways = ws;
-        chain = c;
-        base = base;
-        waiting = h;
-        depth_room = d;
-        row_room = room;
-        all = sym (λ i. behind (l i) (r i) (ws ++ pending_roots ms first es));
-        last = λ e. absurd (some_is_not_none way e);
-      };
-    }
-
-    pub enters_right : (way : ℕ) → None ≡ way_asked xs ms source row x.left_way → Some way ≡ way_asked xs ms source row x.right_way → EntersThrough xs ms source first roots path rows waits f x waits f (Some way)
-    enters_right way l r = record {
-      next = λ es ws c base h d room. record {
-        es = es;
-        ways = ws;
-        chain = c;
-        base = base;
-        waiting = h;
-        depth_room = d;
-        row_room = room;
-        all = sym (λ i. behind (l i) (r i) (ws ++ pending_roots ms first es));
-        last = λ e. absurd (some_is_not_none way e);
       };
     }
 

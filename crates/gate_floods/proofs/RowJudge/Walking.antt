@@ -1,9 +1,8 @@
 -- A walk with a row whose nodes come one by one.
-use Rattle.std.proofs.Common.{◌≡◌, ℕ, ◌+◌, ◌<◌, ◌≤◌, List, [], ◌∷◌, ◌++◌, Option, Some, None, length, take, Bool, true, false, refl, sym, ◌∙◌, ap, subst, arith}
+use Rattle.std.proofs.Common.{◌≡◌, ℕ, ◌+◌, ◌<◌, ◌≤◌, List, [], ◌∷◌, ◌++◌, Option, Some, length, take, Bool, true, false, refl, sym, ◌∙◌, ap, subst, arith}
 use Rattle.std.specs.List.{slice_get}
 use Rattle.std.specs.Prelude.{IfOk, Result, Ok, Err}
-use Rattle.std.proofs.lemmas.List.{append-nil, length-append, take_all}
-use Rattle.std.proofs.lemmas.Option.{slice_get_within}
+use Rattle.std.proofs.lemmas.List.{append-nil, length-append}
 use Rattle.std.proofs.Math.Seq.{take-append_seam}
 use Rattle.block_evidence.specs.declared.sight_tree.Node.{Node}
 use Rattle.block_evidence.specs.declared.sight_tree.Tree.{Tree}
@@ -20,7 +19,7 @@ use Rattle.gate_floods.specs.declared.row_judge.walk.RowWalk.{RowWalk}
 use Rattle.gate_floods.specs.RowJudge.Words.{row_at}
 use Rattle.gate_floods.specs.RowJudge.Asked.{Pending, pending_way, pending_roots, Answers, AreAnswered, IsFirstWrong}
 use Rattle.gate_floods.specs.RowJudge.Path.{IsAt, HasAnswered, HasRefused, StandsBefore}
-use Rattle.gate_floods.specs.RowJudge.Judged.{IsWalked, IsWholeFrom, IsFirstWrongFrom}
+use Rattle.gate_floods.specs.RowJudge.Judged.{IsWalked, IsFirstWrongFrom}
 use Rattle.gate_floods.proofs.RowJudge.Waiting.{waiting_same}
 
 -- one more node answers
@@ -109,30 +108,6 @@ module _ (xs : List HalfEdge) (ms : MaskRows) (first : List ℕ) (roots : List R
     if_refused n (Ok b) h = λ wrong. walk_refused n (h wrong)
     if_refused n (Err e) h = h
 
-  -- nothing is asked any more
-  pub walk_whole : (t : Tree) (w : RowWalk) → IsWalked xs ms first roots firsts t w → w.follow.asked ≡ None → IsWholeFrom xs ms first roots firsts t
-  walk_whole t w walked none = record { whole = λ es c. go es (walked.each es c) }
-    where
-      go : (es : List ℕ) → (ps : List Pending) × AreAnswered xs ms t.source (pending_roots ms first es) t.nodes ps × IsAt ms first roots w.path.items w.rows.items w.waits.items w.follow ps → AreAnswered xs ms t.source (pending_roots ms first es) t.nodes []
-      go es (ps, answered, at) = subst (λ (qs : List Pending). AreAnswered xs ms t.source (pending_roots ms first es) t.nodes qs) (at.last none) answered
-
-  -- something is
-  pub walk_missing : (t : Tree) (w : RowWalk) (place : ℕ) → IsWalked xs ms first roots firsts t w → w.follow.asked ≡ Some place → IsFirstWrongFrom xs ms first roots firsts t (length t.nodes)
-  walk_missing t w place walked some = record { wrong = λ es c. go es (walked.each es c) }
-    where
-      nothing : (p : Pending) (qs : List Pending) → ◌≡◌ {A = List Pending} (p ∷ qs) [] → ⊥
-      nothing p qs q = cc
-
-      go : (es : List ℕ) → (ps : List Pending) × AreAnswered xs ms t.source (pending_roots ms first es) t.nodes ps × IsAt ms first roots w.path.items w.rows.items w.waits.items w.follow ps → IsFirstWrong xs ms t.source (pending_roots ms first es) t.nodes (length t.nodes)
-      go es (ps, answered, at) = record {
-        left = ps;
-        within = omega arith;
-        before = subst (λ (ns : List Node). AreAnswered xs ms t.source (pending_roots ms first es) ns ps) (sym (take_all (length t.nodes) t.nodes (omega arith))) answered;
-        wrong = λ k h qs answer. absurd (let l : length t.nodes < length t.nodes = slice_get_within t.nodes (length t.nodes) k h in omega (arith, l));
-        missing = λ e h. nothing (record { path = path_ends (take w.follow.depth w.path.items); row = row_at w.rows.items ms.width w.follow.row; edge = place }) (at.ways ++ pending_roots ms first at.es)
-            (sym (ap (λ (o : Option ℕ). pending_way (path_ends (take w.follow.depth w.path.items)) (row_at w.rows.items ms.width w.follow.row) o ++ (at.ways ++ pending_roots ms first at.es)) some) ∙ sym at.all ∙ h);
-      }
-
 -- ---- a tree whose first nodes have come
 
 node_there : (done rest : List Node) (n : Node) → slice_get (done ++ n ∷ rest) (length done) ≡ Some n
@@ -143,9 +118,6 @@ longer : (done rest : List Node) (n : Node) → length (done ++ n ∷ rest) ≡ 
 longer done rest n = let l : length (done ++ n ∷ rest) ≡ length done + length (n ∷ rest) = length-append done (n ∷ rest) in omega (arith, l)
 
 module _ (xs : List HalfEdge) (ms : MaskRows) (first : List ℕ) (roots : List Root) (firsts : List (Option ℕ)) (t : Tree) where
-  abbrev Part : List Node → Tree
-  Part done = record { source = t.source; nodes = done }
-
   wrong_longer : (ps : List Pending) (done rest : List Node) (n : Node) → IsFirstWrong xs ms t.source ps (done ++ n ∷ []) (length done) → IsFirstWrong xs ms t.source ps (done ++ n ∷ rest) (length done)
   wrong_longer ps done rest n f = record {
     left = f.left;
@@ -164,9 +136,6 @@ module _ (xs : List HalfEdge) (ms : MaskRows) (first : List ℕ) (roots : List R
   -- all nodes have come
   all_come : (done rest : List Node) → t.nodes ≡ done ++ rest → rest ≡ [] → done ≡ t.nodes
   all_come done rest split none = sym (split ∙ ap (λ (ns : List Node). done ++ ns) none ∙ append-nil done)
-
-  pub whole_of : (done rest : List Node) → t.nodes ≡ done ++ rest → rest ≡ [] → IsWholeFrom xs ms first roots firsts (record { source = t.source; nodes = done }) → IsWholeFrom xs ms first roots firsts t
-  whole_of done rest split none f = record { whole = λ es c. subst (λ (ns : List Node). AreAnswered xs ms t.source (pending_roots ms first es) ns []) (all_come done rest split none) (f.whole es c) }
 
   pub missing_of : (done rest : List Node) → t.nodes ≡ done ++ rest → rest ≡ [] → IsFirstWrongFrom xs ms first roots firsts (record { source = t.source; nodes = done }) (length done) → IsFirstWrongFrom xs ms first roots firsts t (length t.nodes)
   missing_of done rest split none f = record { wrong = λ es c. subst (λ (ns : List Node). IsFirstWrong xs ms t.source (pending_roots ms first es) ns (length ns)) (all_come done rest split none) (f.wrong es c) }

@@ -9,7 +9,7 @@ use Rattle.sight_names.specs.Mesh.{label_of, triangle_at}
 use Rattle.sight_names.specs.Sequence.{Portal, Left, Right, way_out, entry_edge, roots, reached}
 use Rattle.block_evidence.specs.declared.sight_tree.Node.{Node}
 use Rattle.block_evidence.specs.declared.sight_tree.Tree.{Tree}
-use Rattle.block_evidence.specs.SightTree.WholeTree.{Answers, AnswersRoots, no_node as no_node_of, blocked as blocked_of, open_node as open_node_of}
+use Rattle.block_evidence.specs.SightTree.WholeTree.{Answers, no_node as no_node_of, blocked as blocked_of, open_node as open_node_of}
 use Rattle.math_base.proofs.Lists.{contains_left, contains_right, contains_here}
 use Rattle.sight_names.proofs.Lists.{contains_tail}
 use Rattle.gate_floods.specs.TurnedTrees.Turned.{AnswersUpTo, no_node, blocked, turned, open_node, RootsUpTo, EntersNone, MayTurn, MustGoOn, KeepsUpTo, KeepsLoosely}
@@ -52,9 +52,3 @@ module _ (m : Map) (ts : List Triangle) (ls : List (Option ℕ)) (a : ℕ) (Clai
       open_node p k t left right has (enters_none ps p k has.last has.entered (at k (contains_here k (via_left ++ via_right)))) third
       (whole (ps ++ way_out p Left t ∷ []) left via_left in_left (λ j c. at j (contains_tail k j (via_left ++ via_right) (contains_left j via_left via_right c))))
       (whole (ps ++ way_out p Right t ∷ []) right via_right in_right (λ j c. at j (contains_tail k j (via_left ++ via_right) (contains_right j via_left via_right c)))) f
-
-  pub roots_whole : (ss : List Side) (ns : List Node) (opened : List ℕ) → AnswersRoots m ts ls a ss ns opened → ((k : ℕ) → Contains opened k → IsAllowed ls Keeps k) → RootsUpTo m ts ls a (λ qs. EntersNone ts ls Claims Keeps qs × MayTurn ts ls Claims Keeps qs) (EntersNone ts ls Claims Keeps) ss ns
-  roots_whole [] ns opened h all = h.0
-  roots_whole (s ∷ ss) ns opened (p, front, back, via_front, via_back, is, f, g, here, behind) all =
-      let at : (j : ℕ) → Contains (via_front ++ via_back) j → IsAllowed ls Keeps j = λ j c. all j (subst (λ (ks : List ℕ). Contains ks j) (sym g) c) in
-      (p, front, back, is, f, whole (p ∷ []) front via_front here (λ j c. at j (contains_left j via_front via_back c)), roots_whole ss back via_back behind (λ j c. at j (contains_right j via_front via_back c)))

@@ -56,9 +56,6 @@ module _ {S : Type 0} (t : Task) (s : State S View) (r : Holds t s) where
   abbrev pub FitsAt : List ℕ → ℕ → View → Type 0
   FitsAt ws = Fits t ws r.home r.keeper r.kept.made r.kept.joined
 
-  abbrev pub RoleAt : ℕ → View → SeatRole → Type 0
-  RoleAt seat v = FitsRole t s.words r.home r.keeper r.kept.made r.kept.joined seat v
-
   pub apart : (id w : ℕ) (v : View) → get_elem? s.views id ≡ some v → v.role ≡ Worker w → r.keeper ≢ id
   apart id w v at is same =
       let e : r.kept ≡ v = some-injective r.kept v (sym r.kept_at ∙ (ap (get_elem? s.views) same ∙ at)) in

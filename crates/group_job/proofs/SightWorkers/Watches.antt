@@ -1,5 +1,5 @@
 -- What a look, or a round of them, does to a view.
-use Rattle.std.proofs.Common.{◌≡◌, ◌≢◌, ◌⊎◌, inl, inr, ℕ, ◌+◌, ◌<◌, Bool, true, cond, ltb, ◌&&◌, List, [], ◌∷◌, length, set, refl, sym, ap, ◌∙◌, subst, arith}
+use Rattle.std.proofs.Common.{◌≡◌, ◌≢◌, ◌⊎◌, inl, inr, ℕ, ◌+◌, ◌<◌, ◌≤◌, Bool, true, cond, ltb, ◌&&◌, List, [], ◌∷◌, length, set, refl, sym, ap, ◌∙◌, subst, arith}
 use Rattle.std.proofs.Math.Logic.{∥∥₁_elim, ∥∥₁_map}
 use Rattle.std.specs.List.{Contains}
 use Rattle.std.specs.Int.{bit_at}
@@ -50,18 +50,39 @@ look_only_then u v w a b = record {
   looks = λ p h. b.looks p (a.looks p h);
 }
 
-pub round_more : (n : ℕ) (components : List ℕ) (a b : ℕ) (all set : Bool) (u v w : View) → IsLookOnly u v → IsLookOnly v w → IsRound n components a b all u v → IsTurn n components a b set v w
-    → IsRound n components a (b + 1) (all && set) u w
-round_more n components a b all set u v w before step r t = record {
-  looks = λ x l m. dite (ℕ_discrete x b)
+pub round_more : (n : ℕ) (components : List ℕ) (a from b : ℕ) (all set : Bool) (u v w : View) → IsLookOnly u v → IsLookOnly v w → IsRound n components a from b all u v → IsTurn n components a b set v w
+    → IsRound n components a from (b + 1) (all && set) u w
+round_more n components a from b all set u v w before step r t = record {
+  looks = λ x le l m. dite (ℕ_discrete x b)
       (λ e. subst (λ (y : ℕ). Contains w.looks (word_of n (ordered a y), length u.claims)) (sym e)
       (subst (λ (cs : List (ℕ × ℕ)). Contains w.looks (word_of n (ordered a b), length cs)) before.claims (t.looks (subst (IsMate components a) e m))))
-      (λ e. step.looks _ (r.looks x (omega arith) m));
-  seen = λ h x l m. dite (ℕ_discrete x b)
+      (λ e. step.looks _ (r.looks x le (omega arith) m));
+  seen = λ h x le l m. dite (ℕ_discrete x b)
       (λ e. subst (λ (y : ℕ). Contains w.seen (ordered a y)) (sym e) (t.seen (second_true all set h) (subst (IsMate components a) e m)))
-      (λ e. step.seen _ (r.seen (first_true all set h) x (omega arith) m));
+      (λ e. step.seen _ (r.seen (first_true all set h) x le (omega arith) m));
   answer = λ h. both_true all set (r.answer h) (t.answer (λ m. before.seen _ (h b m)));
 }
+
+-- a round below the source, and then one above it
+pub rounds_joined : (n : ℕ) (components : List ℕ) (a : ℕ) (below above all : Bool) (u v w : View) → IsLookOnly u v → IsLookOnly v w
+    → IsRound n components a 0 a below u v → IsRound n components a (a + 1) n above v w → all ≡ (below && above) → IsRound n components a 0 n all u w
+rounds_joined n components a below above all u v w before step r s e = record {
+  looks = λ x le l m. elim (below_or_past x m) as (λ _. Contains w.looks (word_of n (ordered a x), length u.claims)) [
+    | inl lt ↦ step.looks _ (r.looks x le lt m)
+    | inr past ↦ subst (λ (cs : List (ℕ × ℕ)). Contains w.looks (word_of n (ordered a x), length cs)) before.claims (s.looks x past l m)
+  ];
+  seen = λ h x le l m. elim (below_or_past x m) as (λ _. Contains w.seen (ordered a x)) [
+    | inl lt ↦ step.seen _ (r.seen (first_true below above (sym e ∙ h)) x le lt m)
+    | inr past ↦ s.seen (second_true below above (sym e ∙ h)) x past l m
+  ];
+  answer = λ h. e ∙ both_true below above (r.answer h) (s.answer (λ x m. before.seen _ (h x m)));
+}
+  where
+    other_side : (x : ℕ) → x ≢ a → (x < a) ⊎ (a + 1 ≤ x)
+    other_side x apart = grind arith
+
+    below_or_past : (x : ℕ) → IsMate components a x → (x < a) ⊎ (a + 1 ≤ x)
+    below_or_past x m = other_side x m.1
 
 -- ---- the looks of a walk, which go on where they stood
 

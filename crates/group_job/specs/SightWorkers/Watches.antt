@@ -1,5 +1,5 @@
 -- How a seat's view grows by looks.
-use Rattle.std.specs.Prelude.{◌≡◌, ℕ, ◌<◌, Bool, true, List, length}
+use Rattle.std.specs.Prelude.{◌≡◌, ℕ, ◌<◌, ◌≤◌, Bool, true, List, length}
 use Rattle.std.specs.List.{Contains}
 use Rattle.group_job.specs.SightWorkers.Board.{word_of}
 use Rattle.group_job.specs.declared.sight_workers.view.View.{View}
@@ -25,8 +25,8 @@ pub record IsTurn (n : ℕ) (components : List ℕ) (a b : ℕ) (set : Bool) (v 
 abbrev pub AreSeenBelow : List ℕ → ℕ → ℕ → List (ℕ × ℕ) → Type 0
 AreSeenBelow components a n seen = (x : ℕ) → x < n → IsMate components a x → Contains seen (ordered a x)
 
--- what a round of looks over the sectors below `b` has done, and answers
-pub record IsRound (n : ℕ) (components : List ℕ) (a b : ℕ) (all : Bool) (v w : View) : Type 0 where
-  pub looks : (x : ℕ) → x < b → IsMate components a x → Contains w.looks (word_of n (ordered a x), length v.claims)
-  pub seen : all ≡ true → (x : ℕ) → x < b → IsMate components a x → Contains w.seen (ordered a x)
+-- what a round of looks over the sectors from `from` on and below `b` has done, and answers
+pub record IsRound (n : ℕ) (components : List ℕ) (a from b : ℕ) (all : Bool) (v w : View) : Type 0 where
+  pub looks : (x : ℕ) → from ≤ x → x < b → IsMate components a x → Contains w.looks (word_of n (ordered a x), length v.claims)
+  pub seen : all ≡ true → (x : ℕ) → from ≤ x → x < b → IsMate components a x → Contains w.seen (ordered a x)
   pub answer : ((x : ℕ) → IsMate components a x → Contains v.seen (ordered a x)) → all ≡ true

@@ -1,12 +1,12 @@
 //! The board's notice.
-ghost use Rattle.std.specs.Prelude.{◌≡◌, ◌≢◌, ℕ, ◌<◌, true, List, length};
+ghost use Rattle.std.specs.Prelude.{◌≡◌, ◌≢◌, ℕ, ◌<◌, ◌≤◌, true, List, length};
 ghost use Rattle.std.specs.List.{Contains};
 ghost use Rattle.group_job.specs.SightWorkers.Desks.{IsSeatOfDesk, sectors_of_desk, view_of_seat, worker_of_seat};
 ghost use Rattle.group_job.specs.SightWorkers.Board.{task_of, word_of, IsPair, IsFindable};
 ghost use Rattle.group_job.specs.SightWorkers.Seats.{IsSeatOf};
 ghost use Rattle.pair_budget.specs.Notes.{ordered};
 ghost use Rattle.group_job.specs.SightWorkers.Mates.{IsMate};
-ghost use Rattle.group_job.specs.SightWorkers.Watches.{AreSeenBelow, IsLookOnly, IsTurn};
+ghost use Rattle.group_job.specs.SightWorkers.Watches.{AreSeenBelow, IsLookOnly, IsRound, IsTurn};
 
 use crate::sight_workers::desk::{BoardSeat, Desk};
 use pair_budget::Notice;
@@ -20,8 +20,29 @@ pub fn look_round(desk: &Desk<'_>, seat: &mut BoardSeat, components: &[u16], a: 
     ensures seen { result ≡ true → (b : ℕ) → IsMate components.now a b → Contains (view_of_seat seat.new).seen (ordered a b) }
     ensures answer { ((b : ℕ) → IsMate components.now a b → Contains (view_of_seat seat.old).seen (ordered a b)) → result ≡ true }
 {
+    let below = look_between(desk, seat, components, a, 0, a);
+    let end = desk.sectors;
+    let above = look_between(desk, seat, components, a, a + 1, end);
+    below & above
+}
+
+/// The same over a range of sectors. Of those below the source and of those above it the order in each pair is known.
+fn look_between(
+    desk: &Desk<'_>,
+    seat: &mut BoardSeat,
+    components: &[u16],
+    a: u16,
+    from: u16,
+    to: u16,
+) -> bool
+    requires seat { IsSeatOfDesk desk.now seat.old }
+    requires components { (length components.now ≡ sectors_of_desk desk.now) × (a < sectors_of_desk desk.now) }
+    requires range { (from ≤ to) × (to ≤ sectors_of_desk desk.now) }
+    ensures seat { IsSeatOfDesk desk.now seat.new × IsLookOnly (view_of_seat seat.old) (view_of_seat seat.new) × (worker_of_seat seat.new ≡ worker_of_seat seat.old) }
+    ensures round { IsRound (sectors_of_desk desk.now) components.now a from to result (view_of_seat seat.old) (view_of_seat seat.new) }
+{
     let mut all = true;
-    for b in 0..desk.sectors {
+    for b in from..to {
         let set = look_if_mate(desk, seat, components, a, b);
         all = all && set;
     }

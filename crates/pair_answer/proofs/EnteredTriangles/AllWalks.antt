@@ -1,6 +1,6 @@
 -- The walks of sources one by one, and what they have marked.
-use Rattle.std.proofs.Common.{◌≡◌, ℕ, ◌+◌, ◌<◌, ◌≤◌, ◌⊎◌, inl, inr, List, Bool, true, false, Option, Some, slice_get, length, sym, ap, ◌∙◌, subst, arith}
-use Rattle.std.specs.Prelude.{Result, IfOk, replicate}
+use Rattle.std.proofs.Common.{◌≡◌, ℕ, ◌+◌, ◌<◌, ◌≤◌, ◌⊎◌, inl, inr, List, Bool, true, Option, Some, slice_get, length, sym, ap, ◌∙◌, subst, arith}
+use Rattle.std.specs.Prelude.{Result, IfOk}
 use Rattle.std.proofs.lemmas.Option.{same_Some}
 use Rattle.math_base.proofs.Numbers.{below_or_last}
 use Rattle.sight_names.specs.declared.names.Budget.{Budget}
@@ -14,8 +14,7 @@ use Rattle.mesh_shape.specs.Shape.{MeshParts}
 use Rattle.portal_walk.specs.Walk.{WalkParts}
 use Rattle.pair_answer.specs.EnteredTriangles.Entered.{Enters, IsEntered}
 use Rattle.pair_answer.specs.EnteredTriangles.Marks.{IsMarked}
-use Rattle.pair_answer.specs.EnteredTriangles.Walks.{AllEnded, EndedBelow, IsOneSpent, IsWalked}
-use Rattle.pair_answer.proofs.EnteredTriangles.Marking.{no_mark}
+use Rattle.pair_answer.specs.EnteredTriangles.Walks.{AllEnded, EndedBelow, IsWalked}
 
 -- over the map, mesh and labels of the walk
 pub walked_at : (w : WalkParts) (p : PlanParts) (mesh : MeshParts) (ls : List (Option ℕ)) (a : ℕ) (budget : Budget) (old new : List Bool) (r : Result Bool Memory) → w.plan ≡ p → w.mesh ≡ mesh → w.labels ≡ ls → w.source ≡ a → IfOk r (IsWalked (map_of w.plan) w.mesh.triangles w.labels budget w.source old new)
@@ -23,13 +22,6 @@ pub walked_at : (w : WalkParts) (p : PlanParts) (mesh : MeshParts) (ls : List (O
 walked_at w p mesh ls a budget old new r e f g h x = rw (sym e, sym f, sym g, sym h) x
 
 module _ (m : Map) (ts : List Triangle) (ls : List (Option ℕ)) (budget : Budget) where
-  pub ended_none : (sources : List ℕ) (marks : List Bool) (count : ℕ) → marks ≡ replicate count false → length marks ≡ length ts → EndedBelow m ts ls budget 0 sources marks
-  ended_none sources marks count e len = record {
-    each = len;
-    unspent = λ i a l. absurd (omega (arith, l));
-    marked = λ k. (λ c. absurd (no_mark count k marks e c), λ h. absurd (let l = h.2 in omega (arith, l)));
-  }
-
   pub ended_more : (n x : ℕ) (sources : List ℕ) (old new : List Bool) (b : Bool) → slice_get sources n ≡ Some x → EndedBelow m ts ls budget n sources old → length new ≡ length old → IsWalked m ts ls budget x old new b → b ≡ true → EndedBelow m ts ls budget (n + 1) sources new
   ended_more n x sources old new b at h len walked ended = by (subst (IsWalked m ts ls budget x old new) ended walked)
     where
@@ -54,9 +46,6 @@ module _ (m : Map) (ts : List Triangle) (ls : List (Option ℕ)) (budget : Budge
 
           back : (k : ℕ) → (i a : ℕ) × (i < n + 1) × (slice_get sources i ≡ Some a) × Enters m ts ls a k → IsMarked old k ⊎ Enters m ts ls x k
           back k c = cases k c.0 c.1 (below_or_last c.0 n c.2) c.3 c.4
-
-  pub one_spent : (n x : ℕ) (sources : List ℕ) (old new : List Bool) (b : Bool) → slice_get sources n ≡ Some x → IsWalked m ts ls budget x old new b → b ≡ false → IsOneSpent m ts ls budget sources
-  one_spent n x sources old new b at walked spent = (x, contains_of_get sources x n at, subst (IsWalked m ts ls budget x old new) spent walked)
 
   pub ended_all : (n : ℕ) (sources : List ℕ) (marks : List Bool) → length sources ≤ n → EndedBelow m ts ls budget n sources marks → AllEnded m ts ls budget sources marks
   ended_all n sources marks le h = record {

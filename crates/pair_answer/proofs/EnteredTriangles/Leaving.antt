@@ -1,7 +1,7 @@
 -- Whether one could pass into an unmarked triangle by a directed edge, from the half-edge there.
-use Rattle.std.proofs.Common.{◌≡◌, ℕ, ◌<◌, ◌⊎◌, ◌↔◌, inl, inr, List, Bool, true, false, not, IsTrue, Option, Some, None, slice_get, length, refl, sym, ◌∙◌, subst}
+use Rattle.std.proofs.Common.{◌≡◌, ℕ, ◌<◌, ◌↔◌, List, Bool, true, false, not, IsTrue, Option, Some, slice_get, length, refl, sym, ◌∙◌, subst}
 use Rattle.std.proofs.lemmas.Bool.{true≢false}
-use Rattle.std.proofs.lemmas.Option.{none-some, same_Some}
+use Rattle.std.proofs.lemmas.Option.{same_Some}
 use Rattle.sight_names.specs.declared.names.Triangle.{Triangle}
 use Rattle.sight_names.specs.Map.{map_of}
 use Rattle.sight_names.specs.Mesh.{triangle_at}
@@ -10,19 +10,11 @@ use Rattle.sight_names.specs.Points.{Edge}
 use Rattle.sight_names.specs.Sequence.{Portal, IsSolidLine}
 use Rattle.mesh_shape.specs.declared.half_edges.table.HalfEdge.{HalfEdge}
 use Rattle.mesh_shape.specs.HalfEdges.HalfEdges.{AreHalfEdges, entering}
-use Rattle.mesh_shape.specs.HalfEdges.Kinds.{portal_on}
-use Rattle.mesh_shape.proofs.HalfEdges.Reached.{not_reached, reached}
+use Rattle.mesh_shape.proofs.HalfEdges.Reached.{reached}
 use Rattle.pair_answer.specs.EnteredTriangles.Marks.{IsMarked}
 use Rattle.pair_answer.specs.EnteredTriangles.Stops.{LeavesAt}
 
 module _ (p : PlanParts) (ts : List Triangle) (labels : List (Option ℕ)) (xs : List HalfEdge) (are : AreHalfEdges p ts labels xs) (marks : List Bool) where
-  pub none_leaves : (e : Edge) → entering ts xs e ≡ None → ¬ LeavesAt (map_of p) ts (IsMarked marks) e
-  none_leaves e h l = by (not_reached p ts labels xs are e h)
-    where
-      by : (triangle_at ts e ≡ None) ⊎ IsSolidLine (map_of p) (portal_on e) → ⊥
-      by (inl n) = none-some l.beyond (sym n ∙ l.is)
-      by (inr s) = l.free s
-
   -- the half-edge behind the way is of a triangle with its place in the mesh
   pub behind_within : (e : Edge) (i : ℕ) (x : HalfEdge) → entering ts xs e ≡ Some i → slice_get xs i ≡ Some x → x.triangle < length ts
   behind_within e i x h at =

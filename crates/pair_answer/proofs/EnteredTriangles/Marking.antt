@@ -1,10 +1,10 @@
 -- Marks by number: one more, and those of lists.
-use Rattle.std.proofs.Common.{◌≡◌, ℕ, zero, suc, ◌+◌, ◌<◌, ◌≤◌, ◌⊎◌, ◌↔◌, inl, inr, List, [], ◌∷◌, ◌++◌, Bool, true, false, Option, Some, slice_get, length, Contains, refl, sym, ap, ◌∙◌, subst, arith}
+use Rattle.std.proofs.Common.{◌≡◌, ℕ, zero, suc, ◌+◌, ◌<◌, ◌≤◌, ◌⊎◌, ◌↔◌, inl, inr, List, [], ◌∷◌, ◌++◌, Bool, true, false, Option, Some, slice_get, length, Contains, sym, ap, ◌∙◌, subst, arith}
 use Rattle.std.specs.Prelude.{replicate, take, drop}
 use Rattle.std.proofs.Math.Seq.{take-append_seam}
 use Rattle.std.proofs.lemmas.Bool.{true≢false}
 use Rattle.std.proofs.lemmas.Option.{none-some, same_Some, slice_get_within}
-use Rattle.math_base.proofs.Lists.{contains_here, contains_left, contains_none, contains_pushed, contains_right, pushed_at}
+use Rattle.math_base.proofs.Lists.{contains_here, contains_left, contains_pushed, contains_right, pushed_at}
 use Rattle.math_base.proofs.Numbers.{below_or_last}
 use Rattle.sight_names.proofs.Lists.{contains_of_get, get_of_contains}
 use Rattle.sight_names.specs.Order.{Ascends}
@@ -29,12 +29,6 @@ marked_too k old new low h j = (λ c. let l = slice_get_within new j true c in l
 pub record ListsBelow (n : ℕ) (marks : List Bool) (ks : List ℕ) : Type 0 where
   pub ascend : Ascends ◌<◌ ks
   pub exactly : (k : ℕ) → Contains ks k ↔ ((k < n) × IsMarked marks k)
-
-pub lists_none : (marks : List Bool) (ks : List ℕ) → ks ≡ [] → ListsBelow 0 marks ks
-lists_none marks ks e = record {
-  ascend = λ i j x y lt f g. absurd (contains_none x (subst (λ (xs : List ℕ). Contains xs x) e (contains_of_get ks x i f)));
-  exactly = λ k. (λ c. absurd (contains_none k (subst (λ (xs : List ℕ). Contains xs k) e c)), λ h. absurd (let l = h.0 in omega (arith, l)));
-}
 
 module _ (n : ℕ) (marks : List Bool) (ks new : List ℕ) (h : ListsBelow n marks ks) where
   pub lists_more : slice_get marks n ≡ Some true → new ≡ ks ++ n ∷ [] → ListsBelow (n + 1) marks new
@@ -89,9 +83,6 @@ no_mark (suc n) k marks e c = at n k (sym (ap (λ (bs : List Bool). slice_get bs
     at zero (suc k) h = none-some true h
     at (suc n) (suc k) h = at n k h
 
-pub marks_none : (count : ℕ) (ks : List ℕ) (marks : List Bool) → marks ≡ replicate count false → length marks ≡ count → MarksBelow 0 count ks marks
-marks_none count ks marks e len = record { len = len; exactly = λ k. (λ c. absurd (no_mark count k marks e c), λ h. absurd (let l = h.1 in omega (arith, l))) }
-
 pub marks_more : (n count x : ℕ) (ks : List ℕ) (old new : List Bool) → slice_get ks n ≡ Some x → MarksBelow n count ks old → x < length old → IsMarkedToo x old new → MarksBelow (n + 1) count ks new
 marks_more n count x ks old new at h low too = record { len = too.len ∙ h.len; exactly = λ k. (λ c. to k ((marked_too x old new low too k).0 c), λ c. (marked_too x old new low too k).1 (back k c.0 (below_or_last c.0 n c.1) c.2)) }
   where
@@ -115,13 +106,6 @@ marks_all n count ks marks le h = record {
 pub record NamedBelow (n : ℕ) (ls : List (Option ℕ)) (sources : List ℕ) (old marks : List Bool) : Type 0 where
   pub len : length marks ≡ length old
   pub exactly : (k : ℕ) → k < length old → IsMarked marks k ↔ (((k < n) × IsOfSource ls sources k) ⊎ IsMarked old k)
-
-pub named_none : (ls : List (Option ℕ)) (sources : List ℕ) (old : List Bool) → NamedBelow 0 ls sources old old
-named_none ls sources old = record { len = refl; exactly = λ k low. (λ c. inr c, back k) }
-  where
-    back : (k : ℕ) → ((k < 0) × IsOfSource ls sources k) ⊎ IsMarked old k → IsMarked old k
-    back k (inl c) = absurd (let l = c.0 in omega (arith, l))
-    back k (inr c) = c
 
 named_source : (ls : List (Option ℕ)) (sources : List ℕ) (named : List Bool) (count k : ℕ) → HasMarksOf count sources named → IsNamedBy ls named k ↔ IsOfSource ls sources k
 named_source ls sources named count k h = (λ c. (c.0, (h.exactly c.0).0 c.2, c.1), λ c. (c.0, c.2, (h.exactly c.0).1 c.1))
@@ -148,14 +132,3 @@ module _ (n : ℕ) (ls : List (Option ℕ)) (sources : List ℕ) (old marks new 
       back : (k : ℕ) → ((k < n + 1) × IsOfSource ls sources k) ⊎ IsMarked old k → ((k < n) × IsOfSource ls sources k) ⊎ IsMarked old k
       back k (inl c) = elim (below_or_last k n c.0) as (λ _. ((k < n) × IsOfSource ls sources k) ⊎ IsMarked old k) [ inl l ↦ inl (l, c.1) | inr q ↦ absurd (none ((named_source ls sources named count n of).1 (subst (IsOfSource ls sources) q c.1))) ]
       back k (inr c) = inr c
-
-pub named_all : (n : ℕ) (ls : List (Option ℕ)) (sources : List ℕ) (old marks : List Bool) → length old ≤ n → NamedBelow n ls sources old marks → (k : ℕ) → k < length old → IsMarked marks k ↔ (IsOfSource ls sources k ⊎ IsMarked old k)
-named_all n ls sources old marks le h k low = (λ c. to ((h.exactly k low).0 c), λ c. (h.exactly k low).1 (back c))
-  where
-    to : ((k < n) × IsOfSource ls sources k) ⊎ IsMarked old k → IsOfSource ls sources k ⊎ IsMarked old k
-    to (inl c) = inl c.1
-    to (inr c) = inr c
-
-    back : IsOfSource ls sources k ⊎ IsMarked old k → ((k < n) × IsOfSource ls sources k) ⊎ IsMarked old k
-    back (inl c) = inl (omega (arith, le, low), c)
-    back (inr c) = inr c

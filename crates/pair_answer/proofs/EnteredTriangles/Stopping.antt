@@ -1,8 +1,7 @@
 -- The segments through which one could pass out of marked triangles, gathered triangle by triangle.
-use Rattle.std.proofs.Common.{◌≡◌, ℕ, ◌+◌, ◌<◌, ◌≤◌, ◌⊎◌, ◌↔◌, inl, inr, List, [], ◌∷◌, ◌++◌, Option, Some, slice_get, length, Contains, sym, ap, ◌∙◌, subst, arith}
+use Rattle.std.proofs.Common.{◌≡◌, ℕ, ◌+◌, ◌<◌, ◌≤◌, ◌⊎◌, ◌↔◌, inl, inr, List, Option, Some, slice_get, length, Contains, sym, ap, ◌∙◌, subst, arith}
 use Rattle.std.specs.Prelude.{Result, Ok, Err, OnOk}
 use Rattle.std.proofs.lemmas.Option.{same_Some, slice_get_within}
-use Rattle.math_base.proofs.Lists.{contains_here, contains_left, contains_none, contains_pushed, contains_right}
 use Rattle.math_base.proofs.Numbers.{below_or_last}
 use Rattle.sight_names.specs.declared.names.Triangle.{Triangle}
 use Rattle.sight_names.specs.Map.{Map}
@@ -18,24 +17,6 @@ use Rattle.pair_answer.specs.EnteredTriangles.Stops.{AreInOrder, ArePut, AreStop
 
 module _ (m : Map) (ts : List Triangle) (Inside : ℕ → Type 0) where
   -- ---- one segment more
-
-  pub put_there : (u v : ℕ) (old new : List Stop) → LeavesAt m ts Inside (edge v u) → new ≡ old ++ segment u v ∷ [] → IsPut m ts Inside u v old new
-  put_there u v old new leaves e s = (λ c. to (contains_pushed old (segment u v) s (subst (λ (xs : List Stop). Contains xs s) e c)), λ c. subst (λ (xs : List Stop). Contains xs s) (sym e) (back c))
-    where
-      to : Contains old s ⊎ (segment u v ≡ s) → Contains old s ⊎ ((s ≡ segment u v) × LeavesAt m ts Inside (edge v u))
-      to (inl c) = inl c
-      to (inr q) = inr (sym q, leaves)
-
-      back : Contains old s ⊎ ((s ≡ segment u v) × LeavesAt m ts Inside (edge v u)) → Contains (old ++ segment u v ∷ []) s
-      back (inl c) = contains_left s old (segment u v ∷ []) c
-      back (inr q) = contains_right s old (segment u v ∷ []) (subst (λ (x : Stop). Contains (segment u v ∷ []) x) (sym q.0) (contains_here (segment u v) []))
-
-  pub put_not : (u v : ℕ) (old new : List Stop) → ¬ LeavesAt m ts Inside (edge v u) → new ≡ old → IsPut m ts Inside u v old new
-  put_not u v old new none e s = (λ c. inl (subst (λ (xs : List Stop). Contains xs s) e c), λ c. subst (λ (xs : List Stop). Contains xs s) (sym e) (back c))
-    where
-      back : Contains old s ⊎ ((s ≡ segment u v) × LeavesAt m ts Inside (edge v u)) → Contains old s
-      back (inl c) = c
-      back (inr q) = absurd (none q.1)
 
   -- ---- those of one triangle
 
@@ -75,9 +56,6 @@ module _ (m : Map) (ts : List Triangle) (Inside : ℕ → Type 0) where
 
   longer : (n : ℕ) (s : Stop) → IsOfOne n s → IsOfOne (n + 1) s
   longer n s h = record { k = h.k; t = h.t; low = (let l = h.low in omega (arith, l)); inside = h.inside; is = h.is; one = h.one }
-
-  pub below_none : (ss : List Stop) → ss ≡ [] → StopsBelow 0 ss
-  below_none ss e s = (λ c. absurd (contains_none s (subst (λ (xs : List Stop). Contains xs s) e c)), λ h. absurd (let l = h.low in omega (arith, l)))
 
   pub below_more : (n : ℕ) (t : Triangle) (old new : List Stop) → slice_get ts n ≡ Some t → Inside n → StopsBelow n old → ArePut m ts Inside t old new → StopsBelow (n + 1) new
   below_more n t old new at inside h put s = (λ c. to ((put s).0 c), λ x. (put s).1 (back x (below_or_last x.k n x.low)))

@@ -1,10 +1,9 @@
 -- What a walk has marked so far are the triangles that the sequences enter which it has opened; at its end these are all.
-use Rattle.std.proofs.Common.{◌≡◌, ℕ, zero, suc, ◌+◌, ◌-◌, ◌<◌, ◌⊎◌, ◌↔◌, inl, inr, Bool, true, false, if◌then◌else◌, List, [], ◌∷◌, ◌++◌, length, length-append, map, Contains, Option, Some, None, sym, ap, ◌∙◌, subst, arith}
+use Rattle.std.proofs.Common.{◌≡◌, ℕ, ◌+◌, ◌-◌, ◌<◌, ◌⊎◌, ◌↔◌, inl, inr, Bool, true, false, List, [], ◌∷◌, ◌++◌, length, length-append, map, Contains, Option, Some, None, sym, ap, ◌∙◌, subst, arith}
 use Rattle.std.specs.List.{last_or}
 use Rattle.std.proofs.lemmas.List.{append-nil}
 use Rattle.std.proofs.lemmas.List.Elements.{Contains-append_left, Contains-push}
-use Rattle.std.proofs.lemmas.Option.{none-some, same_Some}
-use Rattle.std.proofs.Math.Dec.{eqb-suc-zero}
+use Rattle.std.proofs.lemmas.Option.{same_Some}
 use Rattle.math_base.proofs.Lists.{contains_none, contains_pushed, last_pushed}
 use Rattle.sight_names.specs.declared.names.Budget.{Budget}
 use Rattle.sight_names.specs.declared.names.Budget.TheVariants.{Of, Full}
@@ -23,37 +22,10 @@ use Rattle.sight_lift.proofs.SequenceLaws.Roots.{begins}
 use Rattle.sight_lift.proofs.SequenceLaws.UnderWay.{IsUnderWay, passes_all, passes_blocked, place_now, opens, all_opened, none_beyond}
 use Rattle.portal_walk.specs.Walk.{WalkParts, SameWalk, Answers, Blocks, Leads, Ends, pending}
 use Rattle.pair_budget.specs.FoundSectors.{one_less}
-use Rattle.pair_budget.proofs.Exactly.{IsLeft}
+use Rattle.pair_budget.proofs.Exactly.{IsLeft, all_gone, all_left, less_left}
 use Rattle.pair_answer.specs.EnteredTriangles.Entered.{Enters, EntersBy}
 use Rattle.pair_answer.specs.EnteredTriangles.Marks.{IsMarked}
 use Rattle.pair_answer.specs.EnteredTriangles.Walks.{IsWalked}
-
--- ---- the budget that is left
-
-all_left : (budget : Budget) → IsLeft budget budget 0
-all_left (Of n) = omega arith
-all_left Full = tt
-
-one_less_of : (r : ℕ) → one_less (Of (suc r)) ≡ Some (Of r)
-one_less_of r = ap (λ (b : Bool). if b then None else Some (Of (suc r - 1))) (eqb-suc-zero r) ∙ ap (λ (n : ℕ). Some (Of n)) (omega arith)
-
-less_left : (budget left less : Budget) (k : ℕ) → IsLeft budget left k → Some less ≡ one_less left → IsLeft budget less (k + 1)
-less_left (Of n) (Of zero) less k h e = absurd (none-some less (sym e))
-less_left (Of n) (Of (suc r)) less k h e = by less (same_Some less (Of r) (e ∙ one_less_of r))
-  where
-    by : (less : Budget) → less ≡ Of r → IsLeft (Of n) less (k + 1)
-    by less f = subst (λ (b : Budget). IsLeft (Of n) b (k + 1)) (sym f) (omega arith)
-less_left (Of n) Full less k h e = absurd h
-less_left Full (Of r) less k h e = absurd h
-less_left Full Full less k h e = subst (λ (b : Budget). IsLeft Full b (k + 1)) (sym (same_Some less Full e)) tt
-
--- where nothing is left, the budget is as many as were opened
-all_gone : (budget left : Budget) (k : ℕ) → IsLeft budget left k → ◌≡◌ {A = Option Budget} None (one_less left) → budget ≡ Of k
-all_gone (Of n) (Of zero) k h e = ap (λ (x : ℕ). Of x) (omega arith)
-all_gone (Of n) (Of (suc r)) k h e = absurd (none-some (Of r) (e ∙ one_less_of r))
-all_gone (Of n) Full k h e = absurd h
-all_gone Full (Of r) k h e = absurd h
-all_gone Full Full k h e = absurd (none-some Full e)
 
 -- ---- what is marked
 

@@ -16,9 +16,6 @@ use Rattle.math_base.proofs.Lists.{contains_pushed, pushed_at}
 -- ---- lists
 
 module _ (m : Map) (ts : List Triangle) (ls : List (Option ℕ)) (a : ℕ) where
-  abbrev Stabs : Sequence → Type 0
-  Stabs = IsStabbableSequence m ts ls a
-
   -- all that is under a sequence of the list comes before all that is under a later one
   abbrev pub AreApart : List Sequence → Type 0
   AreApart [] = Unit {0}

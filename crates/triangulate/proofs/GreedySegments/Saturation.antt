@@ -15,7 +15,7 @@ use Rattle.geom_exact.specs.Formulas.{turn_of, reach_of, AreOnOneSide}
 use Rattle.geom_exact.proofs.SegmentLemmas.{square_of, square_of-pos}
 use Rattle.sight_names.proofs.PlanNumbers.{count_of_plan}
 use Rattle.mesh_shape.proofs.RuleLemmas.{places_differ}
-use Rattle.geom_exact.proofs.RelationLemmas.{meets, no_end_of_second, overlap_inside, laid, reach_first as reach_none}
+use Rattle.geom_exact.proofs.RelationLemmas.{meets, no_end_of_second, overlap_inside, laid, reach_first as reach_none, turn_at_first}
 use Rattle.mesh_shape.proofs.MeetLemmas.{overlap_not}
 use Rattle.triangulate.specs.declared.incident_segments.segments.Segment.{Segment}
 use Rattle.triangulate.specs.IncidentSegments.Incident.{has_end, other_end}
@@ -74,23 +74,15 @@ along_ray : (a j c u : Pt) → turn_of a u c *ℤ square_of a j -ℤ turn_of a u
 unfolding turn_of reach_of
 along_ray a j c u = by_ring (a.x ∷ a.y ∷ j.x ∷ j.y ∷ c.x ∷ c.y ∷ u.x ∷ u.y ∷ []) _ _ (search quoting depth 80 fits 1000000) (search quoting depth 80 fits 1000000) tt
 
-turn_none : (a j : Pt) → turn_of a j a ≡ pos 0
-unfolding turn_of
-turn_none a j = by_ring (a.x ∷ a.y ∷ j.x ∷ j.y ∷ []) _ _ (search quoting depth 60 fits 200000) (search quoting depth 60 fits 200000) tt
-
-sum_of_squares : (a j u : Pt) → turn_of a u j *ℤ turn_of a u j +ℤ reach_of a u j *ℤ reach_of a u j ≡ square_of a u *ℤ square_of a j
-unfolding turn_of reach_of
-sum_of_squares a j u = by_ring (a.x ∷ a.y ∷ j.x ∷ j.y ∷ u.x ∷ u.y ∷ []) _ _ (search quoting depth 80 fits 1000000) (search quoting depth 80 fits 1000000) tt
-
 apart_of_turn : (a u c : Pt) → pos 0 <ℤ turn_of a u c → ¬ (a ≡ c)
-apart_of_turn a u c h e = let z : turn_of a u c ≡ pos 0 = ap (λ (k : Pt). turn_of a u k) (sym e) ∙ turn_none a u in omega (arith, ints)
+apart_of_turn a u c h e = let z : turn_of a u c ≡ pos 0 = ap (λ (k : Pt). turn_of a u k) (sym e) ∙ turn_at_first a u in omega (arith, ints)
 
 -- c and j are on one ray from a
 ray_bars : (a j c : Pt) (p q : ℤ) → ¬ (a ≡ j) → ¬ (a ≡ c) → turn_of a j c ≡ pos 0 → pos 0 <ℤ p → pos 0 <ℤ q → p *ℤ square_of a j ≡ q *ℤ reach_of a j c → ¬ MeetAtEnds a j a c
 ray_bars a j c p q nj nc straight hp hq e =
     let long = square_of-pos a j nj in
     let forward : pos 0 <ℤ reach_of a j c = pos-of-mul q (reach_of a j c) hq (subst (λ (t : ℤ). pos 0 <ℤ t) e (mul-pos p (square_of a j) hp long)) in
-    let l = laid a j a c nj nc (turn_none a j) straight (lt_of_zero (reach_of a j a) (reach_of a j c) (reach_none a j) forward) in
+    let l = laid a j a c nj nc (turn_at_first a j) straight (lt_of_zero (reach_of a j a) (reach_of a j c) (reach_none a j) forward) in
     overlap_not a j a c (overlap_inside a j a c l forward (lt_of_zero (reach_of a j a) (square_of a j) (reach_none a j) long))
 
 no_product : (x y z w : ℤ) → x -ℤ y ≡ z *ℤ w → z ≡ pos 0 → x ≡ y
@@ -110,7 +102,7 @@ apart_of_first : (a c u : Pt) → pos 0 <ℤ turn_of a c u → ¬ (a ≡ c)
 apart_of_first a c u h e = apart_of_turn a u a (absurd_side h e) refl
   where
     absurd_side : pos 0 <ℤ turn_of a c u → a ≡ c → pos 0 <ℤ turn_of a u a
-    absurd_side h e = absurd (let z : turn_of a c u ≡ pos 0 = turn_back a u c ∙ ap (λ (k : Pt). neg_ℤ (turn_of a u k)) (sym e) ∙ ap neg_ℤ (turn_none a u) in omega (arith, ints))
+    absurd_side h e = absurd (let z : turn_of a c u ≡ pos 0 = turn_back a u c ∙ ap (λ (k : Pt). neg_ℤ (turn_of a u k)) (sym e) ∙ ap neg_ℤ (turn_at_first a u) in omega (arith, ints))
 
 right_ray_bars : (a j c u : Pt) → turn_of a j c ≡ pos 0 → pos 0 <ℤ turn_of a c u → pos 0 <ℤ turn_of a j u → ¬ MeetAtEnds a j a c
 right_ray_bars a j c u straight hc hj =

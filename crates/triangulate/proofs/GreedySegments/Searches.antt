@@ -56,8 +56,3 @@ triangle_kept m ts i t lt are new = record {
     | inr before ↦ are.empty k u before
   ];
 }
-
--- what is found among the triangles
-pub triangle_known : (m : Map) (ts : List (Option Corners)) (k : ℕ) (t u : Corners) → AreSearched m ts → get_or ts k None ≡ Some t → (t.a ≡ u.a) × (t.b ≡ u.b) × (t.c ≡ u.c) → IsEmptyTriangle m u.a u.b u.c
-triangle_known m ts k t u are at same =
-    subst (λ (x : ℕ). IsEmptyTriangle m x u.b u.c) same.0 (subst (λ (y : ℕ). IsEmptyTriangle m t.a y u.c) same.1 (subst (λ (z : ℕ). IsEmptyTriangle m t.a t.b z) same.2 (are.empty k t at)))

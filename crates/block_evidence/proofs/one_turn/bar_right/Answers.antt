@@ -11,8 +11,8 @@ returns-then-turn-le0 c =
     of_five c.args.first c.args.second c.args.new c.args.first.left c.args.second.left c.args.second.right c.args.new _ (inl refl) (inr (inr (inl refl))) (inr (inr (inr (inl refl)))) (inr (inr (inr (inr (inl refl)))))
     (right_by_segments c.args.first c.args.second c.args.new _ _ c.requires.lines c.requires.bars (omega (arith, ints)) c.in_order-a.ensures)
 
-pub returns : goal.returns
-returns c =
+pub returns-else-turn-le0 : goal.returns-else-turn-le0
+returns-else-turn-le0 c =
     let v = c.turn.ensures.value in
     let s = c.if-turn-le0.false in
     of_five c.args.first c.args.second c.args.new c.args.first.left c.args.first.right c.args.second.right c.args.new _ (inl refl) (inr (inl refl)) (inr (inr (inr (inl refl)))) (inr (inr (inr (inr (inl refl)))))

@@ -16,7 +16,7 @@ of_source-requires c = omega (arith, ap length c.roots.ensures, c.requires.terra
 
 pub invariant_of-result : goal.invariant_of-result
 invariant_of-result c =
-    let p : SceneParts = record { plan = c.args.plan.now; mesh = c.args.mesh.now; labels = c.args.labels.now; source = c.args.source; edges = c.edges.result.now } in
+    let p : SceneParts = record { plan = c.args.plan.now; mesh = c.args.mesh.now; labels = c.args.labels.now; source = c.args.source; edges = c.args.terrain.now.edges } in
     let roots = c.in_ok-roots.roots.items in
     let is = c.in_ok-roots.ensures ∙ ap (λ (xs : List (List Root)). reverse (roots_in xs c.args.source)) c.roots.ensures in
     let exits = subst (All (IsRootOf c.args.plan.now c.args.source)) (sym is) (all_reversed (IsRootOf c.args.plan.now c.args.source) (roots_in c.args.terrain.now.roots c.args.source) (c.requires.terrain.roots.exits c.args.source c.requires.source)) in

@@ -2,12 +2,12 @@ use Rattle.std.proofs.Common.{◌≡◌}
 use Rattle.group_job.specs.SightWorkers.Board.{task_of}
 use Rattle.group_job.specs.SightWorkers.Seats.{IsSeatOf}
 use Rattle.group_job.specs.SightWorkers.Watches.{IsLookOnly, IsRound}
-use Rattle.group_job.proofs.sight_workers.watch.look_round.Given as goal
+use Rattle.group_job.proofs.sight_workers.watch.look_between.Given as goal
 
 abbrev pub invariant-loop-b : goal.invariant-loop-b
 invariant-loop-b l = record {
   seat : IsSeatOf l.desk.table.shared.table_id (task_of l.desk.table.shared.key) l.seat.seat;
   only : IsLookOnly l.initial.seat.seat.me.0 l.seat.seat.me.0;
   worker : l.seat.worker ≡ l.initial.seat.worker;
-  round : IsRound l.desk.sectors l.components l.a l.b l.all l.initial.seat.seat.me.0 l.seat.seat.me.0;
+  round : IsRound l.desk.sectors l.components l.a l.from l.b l.all l.initial.seat.seat.me.0 l.seat.seat.me.0;
 }

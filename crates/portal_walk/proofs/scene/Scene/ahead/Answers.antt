@@ -1,0 +1,34 @@
+use Rattle.std.proofs.Common.{◌≡◌, ◌<◌, Option, Some, None, slice_get, sym, subst, arith}
+use Rattle.mesh_shape.specs.declared.half_edges.table.HalfEdge.{HalfEdge}
+use Rattle.portal_walk.specs.declared.ahead.Ahead.{Ahead}
+use Rattle.portal_walk.specs.Ahead.{FindsAhead, ahead_by}
+use Rattle.portal_walk.specs.Scene.{SceneParts, IsNumber, behind}
+use Rattle.portal_walk.proofs.Aheads.{finds_edge, finds_none, finds_source}
+use Rattle.portal_walk.proofs.scene.Scene.ahead.Goals as goal
+
+pub returns-in_err-ahead : goal.returns-in_err-ahead
+returns-in_err-ahead c =
+    let i = c.self.inside in
+    let s : SceneParts = record { plan = i.plan.now; mesh = i.mesh.now; labels = i.labels.now; source = i.source; edges = i.edges.now } in
+    let number = subst (λ (p : SceneParts). IsNumber p.mesh.triangles c.args.from) (sym c.self.view_is) c.requires in
+    let is = subst (λ (p : SceneParts). (x : HalfEdge) → slice_get p.edges c.args.from ≡ Some x → c.ahead_in.result ≡ ahead_by p.edges (behind x c.args.way)) (sym c.self.view_is) c.ahead_in.ensures in
+    subst (λ (p : SceneParts). FindsAhead p c.args.from c.args.way c.from_residual.result) c.self.view_is
+    (subst (λ (o : Option Ahead). FindsAhead s c.args.from c.args.way o) (sym c.from_residual.ensures) (finds_none s c.self.invariant.0 c.args.from number c.args.way c.ahead_in.result is c.in_err-ahead.was))
+
+pub returns-then-ahead-source : goal.returns-then-ahead-source
+returns-then-ahead-source c =
+    let i = c.self.inside in
+    let s : SceneParts = record { plan = i.plan.now; mesh = i.mesh.now; labels = i.labels.now; source = i.source; edges = i.edges.now } in
+    let number = subst (λ (p : SceneParts). IsNumber p.mesh.triangles c.args.from) (sym c.self.view_is) c.requires in
+    let fits : i.source < 65536 = omega arith in
+    let is = subst (λ (p : SceneParts). (x : HalfEdge) → slice_get p.edges c.args.from ≡ Some x → c.ahead_in.result ≡ ahead_by p.edges (behind x c.args.way)) (sym c.self.view_is) c.ahead_in.ensures in
+    subst (λ (p : SceneParts). FindsAhead p c.args.from c.args.way None) c.self.view_is (finds_source s c.self.invariant.0 c.args.from number c.args.way c.ahead_in.result is c.in_ok-ahead.ahead c.in_ok-ahead.was fits c.if-ahead-source.true)
+
+pub returns-else-ahead-source : goal.returns-else-ahead-source
+returns-else-ahead-source c =
+    let i = c.self.inside in
+    let s : SceneParts = record { plan = i.plan.now; mesh = i.mesh.now; labels = i.labels.now; source = i.source; edges = i.edges.now } in
+    let number = subst (λ (p : SceneParts). IsNumber p.mesh.triangles c.args.from) (sym c.self.view_is) c.requires in
+    let fits : i.source < 65536 = omega arith in
+    let is = subst (λ (p : SceneParts). (x : HalfEdge) → slice_get p.edges c.args.from ≡ Some x → c.ahead_in.result ≡ ahead_by p.edges (behind x c.args.way)) (sym c.self.view_is) c.ahead_in.ensures in
+    subst (λ (p : SceneParts). FindsAhead p c.args.from c.args.way (Some c.in_ok-ahead.ahead)) c.self.view_is (finds_edge s c.self.invariant.0 c.args.from number c.args.way c.ahead_in.result is c.in_ok-ahead.ahead c.in_ok-ahead.was fits c.if-ahead-source.false)
