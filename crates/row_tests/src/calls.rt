@@ -1,19 +1,18 @@
 //! Calls of the crates below that no row reaches, and a run on a real disk.
 
-ghost use Rattle.std.specs.Prelude.{◌<◌, length};
-
 use crate::run_cases::stage_of;
 use crate::table::ran;
-use block_evidence::{Evidence, four};
+use block_evidence::Evidence;
 use listeners::Listener;
 use map_lumps::hexen_lumps::to_hexen;
 use pair_budget::board_core::{Core, Event, Reply};
 use shelf_io::{DiskShelf, MemSink, fetch};
 use sight_names::{
-    BuildFault, FetchFault, LabelFault, Pair, Pt, RewriteFault, ShelfFault, Side, WadFault,
+    BuildFault, FetchFault, LabelFault, Memory, Pair, Pt, RewriteFault, ShelfFault, Side, WadFault,
 };
 use sight_run::{NoNotice, Status};
-use stab_hull::{Ends, Split};
+use stab_hull::{Passed, Sleeve};
+use std::alloc::Global;
 use std::fs;
 use std::test::Fail;
 use worked_maps::files::bytes_of;
@@ -117,38 +116,39 @@ fn faults_of_one_meaning_have_the_same_words(rt: HostRuntime) -> Result<(), Fail
     Ok(())
 }
 
-// Ends that show that no line splits the ends; None where one does.
-fn evidence_of(ends: &Ends) -> Option<Evidence>
-    requires { 0 < length ends.now }
-{
-    match ends.split() {
-        Split::Line { .. } => None,
-        Split::Stuck(pairs) => Some(four(&pairs)),
+// What comes of a portal whose left end has the right end of the one before between it and the left end of that one.
+fn between(alloc: Global) -> Result<Passed, Memory> {
+    let right = Pt { x: 1, y: 1 };
+    let mut sleeve = Sleeve::new(alloc);
+    sleeve.begin(Pt { x: 0, y: 1 }, right)?;
+    sleeve.by_right(Pt { x: 2, y: 1 }, right)
+}
+
+// And of one by which the segment between the left ends crosses the one between the right ends.
+fn crossed(alloc: Global) -> Result<Passed, Memory> {
+    let left = Pt { x: 0, y: 0 };
+    let right = Pt { x: 2, y: 0 };
+    let mut sleeve = Sleeve::new(alloc);
+    sleeve.begin(left, Pt { x: 0, y: 2 })?;
+    match sleeve.by_left(left, right)? {
+        Passed::Open => sleeve.by_right(Pt { x: 2, y: 2 }, right),
+        Passed::Stuck(evidence) => Ok(Passed::Stuck(evidence)),
     }
 }
 
 #[test]
 fn a_right_end_between_two_left_ends_is_stuck(rt: HostRuntime) -> Result<(), Fail> {
-    let mut one = Ends::new(rt.alloc());
-    one.push(Pt { x: 0, y: 64 }, Pt { x: 64, y: 64 })?;
-    assert!(rt; matches!(one.split(), Split::Line { .. }));
-    // the first right end is between the left ends, so these two and it are all that is needed
-    let mut two = Ends::new(rt.alloc());
-    two.push(Pt { x: 0, y: 1 }, Pt { x: 1, y: 1 })?;
-    two.push(Pt { x: 2, y: 1 }, Pt { x: 1, y: 0 })?;
+    // these three ends are all that is needed
     let three = Evidence {
         count: 3,
         ends: [0, 1, 32_768, 0],
     };
-    assert_eq!(rt; evidence_of(&two), Some(three));
-    // the segment between the left ends crosses the one between the right ends, so all four are needed
-    let mut crossed = Ends::new(rt.alloc());
-    crossed.push(Pt { x: 0, y: 0 }, Pt { x: 0, y: 2 })?;
-    crossed.push(Pt { x: 2, y: 2 }, Pt { x: 2, y: 0 })?;
+    assert_eq!(rt; between(rt.alloc())?, Passed::Stuck(three));
+    // all four are needed
     let all = Evidence {
         count: 4,
-        ends: [0, 1, 32_768, 32_769],
+        ends: [0, 2, 32_768, 32_769],
     };
-    assert_eq!(rt; evidence_of(&crossed), Some(all));
+    assert_eq!(rt; crossed(rt.alloc())?, Passed::Stuck(all));
     Ok(())
 }

@@ -1,15 +1,12 @@
 -- A new end that can't be split from an end of an extreme line shows that no line splits the ends.
-use Rattle.std.proofs.Common.{◌≡◌, ℕ, ◌+◌, ◌-◌, ◌<◌, List, [], ◌∷◌, ◌++◌, length, get_or, Some, None, All, refl, sym, ap, ◌∙◌, arith, inl, inr, subst, subst₂}
-use Rattle.std.specs.Prelude.{slice_get, Option, IfSome}
+use Rattle.std.proofs.Common.{◌≡◌, ℕ, ◌+◌, ◌<◌, List, [], ◌∷◌, ◌++◌, length, Some, All, refl, sym, ap, arith, inl, inr, subst, subst₂}
 use Rattle.std.proofs.lemmas.Int.{ints}
-use Rattle.std.proofs.lemmas.Option.{same_Some}
 use Rattle.std.proofs.lemmas.List.Elements.{All-nil, All-cons}
 use Rattle.sight_names.specs.declared.limits.TheConstants.{RIGHT_END}
 use Rattle.sight_names.specs.declared.names.Pt.{Pt}
 use Rattle.sight_names.specs.declared.names.EndAt.{EndAt}
 use Rattle.sight_names.specs.declared.names.EndPair.{EndPair}
 use Rattle.sight_names.specs.Splitting.{EndPoints, IsPairOf, AreBalanced, end_of}
-use Rattle.geom_exact.specs.declared.extreme_lines.cone.Cone.{Cone}
 use Rattle.geom_exact.specs.declared.extreme_lines.cone.Cone.TheVariants.{Open}
 use Rattle.geom_exact.specs.declared.extreme_lines.wedge.Wedge.{Wedge}
 use Rattle.geom_exact.specs.ExtremeLines.Differences.{difference}
@@ -22,10 +19,8 @@ use Rattle.block_evidence.specs.Picked.{Picks, both_ends}
 use Rattle.block_evidence.proofs.Picking.{some_more, five_among, picks_evidence, picks_block, no_pair}
 use Rattle.stab_hull.specs.Answer.{IsBarredBy}
 use Rattle.stab_hull.specs.Barred.{ends_and}
-use Rattle.stab_hull.specs.declared.frame.Frame.{Frame}
-use Rattle.stab_hull.specs.History.{IsHistory}
-use Rattle.stab_hull.specs.Portals.{portals_of, IsConeOf}
-use Rattle.stab_hull.proofs.HistoryLemmas.{shown, last_frame, frame_cone}
+use Rattle.stab_hull.specs.Portals.{IsConeOf}
+use Rattle.stab_hull.proofs.Lines.{same_end, shown}
 use Rattle.stab_hull.proofs.OneLine.{turn_is, form_left, form_right, right_of_first, left_of_second}
 use Rattle.math_base.proofs.Lists.{get_pushed}
 
@@ -37,17 +32,14 @@ module _ (es : List EndPoints) (w : Wedge) (h : IsConeOf es (Open w)) where
       let u = right_place es w.second.right h.pairs.second.right_code h.pairs.second.right in
       subst₂ (λ (p q : Pt). Spans (Open w) (difference p q)) t.3 u.3 (h.spans t.0 u.0 t.1 u.1 t.2 u.2)
 
-  same : (x y : EndAt) → end_of es x.code ≡ Some x → end_of es y.code ≡ Some y → x.code ≡ y.code → x ≡ y
-  same x y i j e = same_Some x y (sym i ∙ ap (end_of es) e ∙ j)
-
   pub lines : AreLines (pair_of w.first) (pair_of w.second)
   lines = record {
     first_left = h.pairs.first.left_code;
     second_left = h.pairs.second.left_code;
     first_right = h.pairs.first.right_code;
     second_right = h.pairs.second.right_code;
-    same_left = same w.first.left w.second.left h.pairs.first.left h.pairs.second.left;
-    same_right = same w.first.right w.second.right h.pairs.first.right h.pairs.second.right;
+    same_left = same_end es w.first.left w.second.left h.pairs.first.left h.pairs.second.left;
+    same_right = same_end es w.first.right w.second.right h.pairs.first.right h.pairs.second.right;
     right = right_of_first w w.second.right.at corner;
     left = left_of_second w w.first.left.at corner;
   }
@@ -99,11 +91,3 @@ module _ (es : List EndPoints) (w : Wedge) (h : IsConeOf es (Open w)) where
       (let t = turn_is w.first new.at w.second.right.at in let k = b.far in omega (arith, ints))
       (let t = turn_is w.second new.at w.second.right.at in let z = form_right w.second in let k = b.beyond_second in omega (arith, ints)))
       (some_more (ends_and w new) (both_ends (pair_of w.first ∷ pair_of w.second ∷ record { left = new; right = w.second.right } ∷ [])) (Some e) (five_among (pair_of w.first ∷ pair_of w.second ∷ record { left = new; right = w.second.right } ∷ []) no_pair new refl (inl refl)) p)
-
--- the cone of the last frame
-pub last_cone : (fs : List Frame) (top : Frame) (d : Cone) (ls rs : List EndAt) (cs : List Cone) → IsHistory fs ls rs cs None → slice_get fs (length fs - 1) ≡ Some top → d ≡ get_or cs (top.cones - 1) d → IsConeOf (portals_of fs) d
-last_cone fs top d ls rs cs h t i = subst (λ (c : Cone). IsConeOf (portals_of fs) c) (sym i) ((frame_cone (portals_of fs) ls rs cs top (last_frame fs top ls rs cs h t)).2 d)
-
-pub some_so : (P Q : Evidence → Type 0) (o : Option Evidence) → ((e : Evidence) → P e → Q e) → IfSome o P → IfSome o Q
-some_so P Q None f h = tt
-some_so P Q (Some e) f h = f e h

@@ -1,11 +1,14 @@
 pub mod StepLemmas
+pub mod Between
+pub mod Chains
 pub mod Hiding
 pub mod HullLemmas
 pub mod HasCut
 pub mod HistoryLemmas
 pub mod OneLine
+pub mod Looking
 pub mod Scanning
 pub mod TwoForms
 pub mod Barring
-pub mod Tries
+pub mod Lines
 pub mod Sleeves

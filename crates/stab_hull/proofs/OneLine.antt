@@ -13,7 +13,7 @@ use Rattle.geom_exact.specs.declared.extreme_lines.cone.Cone.TheVariants.{Open}
 use Rattle.geom_exact.specs.ExtremeLines.Differences.{arrow, difference}
 use Rattle.geom_exact.specs.ExtremeLines.Spans.{arrow_of, form_at, Spans}
 use Rattle.stab_hull.specs.Stacks.{IsConeOfEnds}
-use Rattle.stab_hull.proofs.StepLemmas.{IsLeftPart, IsRightPart}
+use Rattle.stab_hull.proofs.StepLemmas.{Before, IsLeftPart, IsRightPart}
 
 -- its turn is the difference of its values
 pub turn_is : (e : Extreme) (l r : Pt) → cross (arrow_of e) (difference l r) ≡ form_at e l -ℤ form_at e r
@@ -55,14 +55,14 @@ pub record SecondToLeft (R : List EndAt) (left : EndAt) (w : Wedge) (n : ℕ) (w
   pub first : wide.first ≡ w.first
   pub level : value ≡ form_at wide.second left.at
   pub small : nat_abs value ≤ 4 * (65535 * 32768)
-  pub part : (L : List EndAt) → IsConeOfEnds L R (Open w) → IsLeftPart L R left n (Open wide)
+  pub part : (L : List EndAt) → IsConeOfEnds L R (Open w) → IsLeftPart L R left (Before n) (Open wide)
 
 -- the first line, on its way to take in a right end that is left of the second line
 pub record FirstToRight (L : List EndAt) (right : EndAt) (w : Wedge) (n : ℕ) (wide : Wedge) (value : ℤ) : Type 0 where
   pub second : wide.second ≡ w.second
   pub level : value ≡ form_at wide.first right.at
   pub small : nat_abs value ≤ 4 * (65535 * 32768)
-  pub part : (R : List EndAt) → IsConeOfEnds L R (Open w) → IsRightPart L R right n (Open wide)
+  pub part : (R : List EndAt) → IsConeOfEnds L R (Open w) → IsRightPart L R right (Before n) (Open wide)
 
 pub beyond_first_left : (L R : List EndAt) (left r : EndAt) (w wide : Wedge) (n : ℕ) → IsConeOfEnds L R (Open w) → slice_get R n ≡ Some r → pos 0 <ℤ form_at w.first left.at → wide.first ≡ w.first → pos 0 <ℤ cross (arrow_of wide.first) (difference left.at r.at)
 beyond_first_left L R left r w wide n k e h s = subst (λ (d : Extreme). pos 0 <ℤ cross (arrow_of d) (difference left.at r.at)) (sym s)

@@ -1,5 +1,5 @@
 -- The search over all ends for those that a line may move to: what it says of each is told by one value, without its constant.
-use Rattle.std.proofs.Common.{◌≡◌, ℕ, ◌+◌, ◌≤◌, ◌*◌, List, Some, ℤ, nat_abs, pos, ◌+ℤ◌, ◌-ℤ◌, ◌*ℤ◌, ◌<ℤ◌, ap₂, sym, ◌∙◌, subst, arith, w64, to_z, of_z}
+use Rattle.std.proofs.Common.{◌≡◌, ℕ, ◌-◌, ◌<◌, ◌≤◌, ◌*◌, List, ◌∷◌, [], ◌++◌, Some, ℤ, nat_abs, pos, ◌+ℤ◌, ◌-ℤ◌, ◌*ℤ◌, ◌<ℤ◌, ap₂, sym, ◌∙◌, subst, arith, w64, to_z, of_z}
 use Rattle.std.specs.Prelude.{slice_get}
 use Rattle.std.proofs.lemmas.Int.{ints}
 use Rattle.sight_names.specs.declared.names.Pt.{Pt}
@@ -9,13 +9,16 @@ use Rattle.geom_exact.specs.declared.extreme_lines.extreme.Extreme.{Extreme}
 use Rattle.geom_exact.specs.declared.extreme_lines.wedge.Wedge.{Wedge}
 use Rattle.geom_exact.specs.declared.extreme_lines.cone.Cone.TheVariants.{Open}
 use Rattle.geom_exact.specs.ExtremeLines.Differences.{difference}
-use Rattle.geom_exact.specs.ExtremeLines.Spans.{arrow_of, form_at}
+use Rattle.geom_exact.specs.ExtremeLines.Spans.{arrow_of, form_at, IsWidened}
 use Rattle.geom_exact.proofs.ExtremeLines.Values.{value_is}
-use Rattle.geom_exact.proofs.ExtremeLines.Widening.{within_both}
+use Rattle.geom_exact.proofs.ExtremeLines.Widening.{within_both, stays}
+use Rattle.stab_hull.specs.declared.chain.Kept.{Kept}
 use Rattle.stab_hull.specs.declared.slope.Slope.{Slope}
+use Rattle.stab_hull.specs.Chains.{HasSteps, kept_ends}
 use Rattle.stab_hull.specs.Stacks.{IsConeOfEnds}
 use Rattle.stab_hull.proofs.OneLine.{held, turn_is, beyond_first_right, beyond_second_left}
-use Rattle.stab_hull.proofs.StepLemmas.{IsLeftPart, IsRightPart, left_covered, right_covered}
+use Rattle.stab_hull.proofs.StepLemmas.{From, IsLeftPart, IsRightPart, left_whole, right_whole}
+use Rattle.stab_hull.proofs.Looking.{LooksBack, next_of, next_at, look_on, left_back, right_back}
 
 -- the factors are those of the line
 pub record IsSlopeOf (e : Extreme) (s : Slope) : Type 0 where
@@ -67,25 +70,59 @@ higher : (u v c x y t : ℤ) → u ≡ x +ℤ c → v ≡ y +ℤ c → t ≡ x -
 higher u v c x y t h k l m = omega (arith, ints)
 
 -- the second line, on its way to take in a right end that is right of the first line
-pub record SecondToRight (L : List EndAt) (right : EndAt) (w : Wedge) (n : ℕ) (wide : Wedge) (s : Slope) (bound : ℤ) : Type 0 where
+pub record SecondToRight (ks : List Kept) (right : EndAt) (w : Wedge) (rest : ℕ) (wide : Wedge) (s : Slope) (bound : ℤ) : Type 0 where
   pub first : wide.first ≡ w.first
   pub slope : IsSlopeOf wide.second s
   pub level : IsLevelAt wide.second right.at bound
-  pub part : (R : List EndAt) → IsConeOfEnds L R (Open w) → IsRightPart L R right n (Open wide)
+  pub top : ℕ
+  pub look : LooksBack (kept_ends ks) rest top
+  pub part : (R : List EndAt) → IsConeOfEnds (kept_ends ks) R (Open w) → IsRightPart (kept_ends ks) R right (From top) (Open wide)
 
 -- the first line, on its way to take in a left end that is right of the second line
-pub record FirstToLeft (R : List EndAt) (left : EndAt) (w : Wedge) (n : ℕ) (wide : Wedge) (s : Slope) (bound : ℤ) : Type 0 where
+pub record FirstToLeft (ks : List Kept) (left : EndAt) (w : Wedge) (rest : ℕ) (wide : Wedge) (s : Slope) (bound : ℤ) : Type 0 where
   pub second : wide.second ≡ w.second
   pub slope : IsSlopeOf wide.first s
   pub level : IsLevelAt wide.first left.at bound
-  pub part : (L : List EndAt) → IsConeOfEnds L R (Open w) → IsLeftPart L R left n (Open wide)
+  pub top : ℕ
+  pub look : LooksBack (kept_ends ks) rest top
+  pub part : (L : List EndAt) → IsConeOfEnds L (kept_ends ks) (Open w) → IsLeftPart L (kept_ends ks) left (From top) (Open wide)
 
 -- an end with a lesser value moves nothing
-pub right_passed : (L R : List EndAt) (right l : EndAt) (w wide : Wedge) (n : ℕ) (u v : ℤ) → IsConeOfEnds L R (Open w) → form_at w.first right.at <ℤ pos 0 → wide.first ≡ w.first → slice_get L n ≡ Some l → IsLevelAt wide.second l.at u → IsLevelAt wide.second right.at v → u <ℤ v → IsRightPart L R right n (Open wide) → IsRightPart L R right (n + 1) (Open wide)
-right_passed L R right l w wide n u v cone beyond same at h k less part = right_covered L R right n l (Open wide) at (within_both wide l right (beyond_first_right L R right l w wide n cone at beyond same)
-    (lower u v wide.second.c (form_at wide.second l.at) (form_at wide.second right.at) (cross (arrow_of wide.second) (difference l.at right.at)) h.level k.level (turn_is wide.second l.at right.at) less)) part
+pub right_passed : (L R : List EndAt) (right l : EndAt) (w wide : Wedge) (n : ℕ) (u v : ℤ) → IsConeOfEnds L R (Open w) → form_at w.first right.at <ℤ pos 0 → wide.first ≡ w.first → slice_get L n ≡ Some l → IsLevelAt wide.second l.at u → IsLevelAt wide.second right.at v → u <ℤ v → IsWidened (Open wide) l right (Open wide)
+right_passed L R right l w wide n u v cone beyond same at h k less = stays (Open wide) l right (within_both wide l right (beyond_first_right L R right l w wide n cone at beyond same)
+    (lower u v wide.second.c (form_at wide.second l.at) (form_at wide.second right.at) (cross (arrow_of wide.second) (difference l.at right.at)) h.level k.level (turn_is wide.second l.at right.at) less))
 
-pub left_passed : (L R : List EndAt) (left r : EndAt) (w wide : Wedge) (n : ℕ) (u v : ℤ) → IsConeOfEnds L R (Open w) → form_at w.second left.at <ℤ pos 0 → wide.second ≡ w.second → slice_get R n ≡ Some r → IsLevelAt wide.first r.at u → IsLevelAt wide.first left.at v → u <ℤ v → IsLeftPart L R left n (Open wide) → IsLeftPart L R left (n + 1) (Open wide)
-left_passed L R left r w wide n u v cone beyond same at h k less part = left_covered L R left n r (Open wide) at (within_both wide left r
+pub left_passed : (L R : List EndAt) (left r : EndAt) (w wide : Wedge) (n : ℕ) (u v : ℤ) → IsConeOfEnds L R (Open w) → form_at w.second left.at <ℤ pos 0 → wide.second ≡ w.second → slice_get R n ≡ Some r → IsLevelAt wide.first r.at u → IsLevelAt wide.first left.at v → u <ℤ v → IsWidened (Open wide) left r (Open wide)
+left_passed L R left r w wide n u v cone beyond same at h k less = stays (Open wide) left r (within_both wide left r
     (higher v u wide.first.c (form_at wide.first left.at) (form_at wide.first r.at) (cross (arrow_of wide.first) (difference left.at r.at)) k.level h.level (turn_is wide.first left.at r.at) less)
-    (beyond_second_left L R left r w wide n cone at beyond same)) part
+    (beyond_second_left L R left r w wide n cone at beyond same))
+
+-- the look goes on from an end
+module _ (ks : List Kept) (new : EndAt) (w wide wider : Wedge) (rest : ℕ) (s s' : Slope) (bound bound' : ℤ) where
+  pub right_looks : HasSteps ks → 0 < rest → SecondToRight ks new w rest wide s bound → IsWidened (Open wide) (next_of ks rest).end new (Open wider) → wider.first ≡ wide.first → IsSlopeOf wider.second s' → IsLevelAt wider.second new.at bound' → SecondToRight ks new w (rest - (next_of ks rest).step) wider s' bound'
+  right_looks steps some h more same slope level = record {
+    first = same ∙ h.first;
+    slope = slope;
+    level = level;
+    top = rest - 1;
+    look = look_on ks rest h.top steps h.look some;
+    part = λ R c. right_back (kept_ends ks) R rest h.top (Open wide) wider new (next_of ks rest).end h.look some (next_at ks rest h.top h.look some) more (h.part R c);
+  }
+
+  pub left_looks : HasSteps ks → 0 < rest → FirstToLeft ks new w rest wide s bound → IsWidened (Open wide) new (next_of ks rest).end (Open wider) → wider.second ≡ wide.second → IsSlopeOf wider.first s' → IsLevelAt wider.first new.at bound' → FirstToLeft ks new w (rest - (next_of ks rest).step) wider s' bound'
+  left_looks steps some h more same slope level = record {
+    second = same ∙ h.second;
+    slope = slope;
+    level = level;
+    top = rest - 1;
+    look = look_on ks rest h.top steps h.look some;
+    part = λ L c. left_back L (kept_ends ks) rest h.top (Open wide) wider new (next_of ks rest).end h.look some (next_at ks rest h.top h.look some) more (h.part L c);
+  }
+
+-- nothing is left
+module _ (ks : List Kept) (new : EndAt) (w wide : Wedge) (rest : ℕ) (s : Slope) (bound : ℤ) (others : List EndAt) where
+  pub right_looked : rest ≡ 0 → SecondToRight ks new w rest wide s bound → IsConeOfEnds (kept_ends ks) others (Open w) → IsConeOfEnds (kept_ends ks) (others ++ new ∷ []) (Open wide)
+  right_looked z h c = right_whole (kept_ends ks) others new (From h.top) (Open wide) (λ k l. let t = h.look.done z in omega (arith, t)) (h.part others c)
+
+  pub left_looked : rest ≡ 0 → FirstToLeft ks new w rest wide s bound → IsConeOfEnds others (kept_ends ks) (Open w) → IsConeOfEnds (others ++ new ∷ []) (kept_ends ks) (Open wide)
+  left_looked z h c = left_whole others (kept_ends ks) new (From h.top) (Open wide) (λ k l. let t = h.look.done z in omega (arith, t)) (h.part others c)

@@ -2,7 +2,7 @@
 use Rattle.std.proofs.Common.{◌≡◌, ℕ, ◌+◌, ◌-◌, ◌<◌, ◌≤◌, List, [], ◌∷◌, ◌++◌, length, take, Some, None, Result, Ok, Err, get_or, refl, sym, ap, ◌∙◌, arith, inl, inr, subst, length-take-le}
 use Rattle.std.specs.Prelude.{map, option_map, slice_get, IfOk}
 use Rattle.std.proofs.lemmas.Int.{ints}
-use Rattle.std.proofs.lemmas.List.{length-map, take-map, take_all, take-take}
+use Rattle.std.proofs.lemmas.List.{length-map, take-map, take_all, take-take, take-append-le}
 use Rattle.std.proofs.lemmas.Option.{slice_get-get_or, slice_get-map, slice_get_within}
 use Rattle.sight_names.specs.declared.limits.TheConstants.{RIGHT_END}
 use Rattle.sight_names.specs.declared.names.Memory.{Memory}
@@ -22,26 +22,23 @@ use Rattle.stab_hull.specs.declared.turning.Turn.TheVariants.{Covered, Same, Mov
 use Rattle.stab_hull.specs.declared.frame.Noted.{Noted}
 use Rattle.stab_hull.specs.declared.onward.Told.TheVariants as told
 use Rattle.stab_hull.specs.Answer.{IsBarredBy}
-use Rattle.stab_hull.specs.History.{IsHistory}
-use Rattle.stab_hull.specs.Portals.{portal_of, portals_of, IsConeOf}
-use Rattle.stab_hull.specs.Sleeves.{Counts, IsSleeve, IsCoveredLeft, IsCoveredRight, HasLastLeft, HasLastRight, TellsRight, TellsLeft, GoesBy, GoesOn, frame_of, note_of, frames_of, tells_of}
+use Rattle.stab_hull.specs.History.{Counts, IsHistory}
+use Rattle.stab_hull.specs.Portals.{portal_of, portals_of, with_ends, IsConeOf}
+use Rattle.stab_hull.specs.Sleeves.{IsSleeve, IsCoveredLeft, IsCoveredRight, HasLastLeft, HasLastRight, TellsRight, TellsLeft, GoesBy, GoesOn, frame_of, note_of, frames_of, tells_of}
 use Rattle.stab_hull.specs.Stacks.{CoversLeft, CoversRight, KeepsFirst, IsConeOfEnds, IsTopCone, IsHullOf}
 use Rattle.stab_hull.specs.Turning.{IsRightTurn, IsLeftTurn}
 use Rattle.stab_hull.proofs.Barring.{right_barred, left_barred}
-use Rattle.stab_hull.proofs.HistoryLemmas.{as_many, last_frame, pop_history, stacks_moved, first_stacked, enter_free, entered_list}
-use Rattle.stab_hull.proofs.HullLemmas.{cone_of, hull_more, cone_wider}
+use Rattle.stab_hull.proofs.HistoryLemmas.{as_many, hull_same, keeps_less, last_frame, pop_history, portals_next, push_history, stacks_moved}
+use Rattle.stab_hull.proofs.HullLemmas.{cone_of, hull_first, hull_more, cone_wider}
 use Rattle.stab_hull.proofs.OneLine.{turn_is, form_left, form_right}
 use Rattle.stab_hull.proofs.StepLemmas.{top_is, among_more}
-use Rattle.stab_hull.proofs.Tries.{hull_splits}
+use Rattle.stab_hull.proofs.Lines.{hull_splits}
 use Rattle.stab_hull.proofs.TwoForms.{right_same, left_same}
 use Rattle.math_base.proofs.Lists.{get_pushed, get_there, length_pushed, map_pushed}
 use Rattle.math_base.proofs.Options.{some_is_same, none_is_not_some}
 
 pub ok_part : {X E : Type 0} (P : X → Type 0) (r : Result X E) (x : X) → r ≡ Ok x → IfOk r P → P x
 ok_part P r x e h = subst (λ o. IfOk o P) e h
-
-same_hull : (es : List EndPoints) (ls rs ls' rs' : List EndAt) (cs cs' : List Cone) → ls' ≡ ls → rs' ≡ rs → cs' ≡ cs → IsHullOf es ls' rs' cs' → IsHullOf es ls rs cs
-same_hull es ls rs ls' rs' cs cs' a b c h = subst (λ (x : List EndAt). IsHullOf es x rs cs) a (subst (λ (x : List EndAt). IsHullOf es ls' x cs) b (subst (λ (x : List Cone). IsHullOf es ls' rs' x) c h))
 
 -- the stacks have the ends and the cone of all portals
 pub whole : (fs : List Frame) (ls rs : List EndAt) (cs : List Cone) → IsSleeve fs ls rs cs → 0 < length fs → IsHullOf (portals_of fs) ls rs cs
@@ -52,7 +49,7 @@ whole fs ls rs cs h some =
     let a = n.lefts in
     let b = n.rights in
     let c = n.cones in
-    same_hull (portals_of fs) ls rs (take f.lefts ls) (take f.rights rs) cs (take f.cones cs) (take_all f.lefts ls (omega (arith, a))) (take_all f.rights rs (omega (arith, b))) (take_all f.cones cs (omega (arith, c))) (last_frame fs f ls rs cs h.history t.1).hull
+    hull_same (portals_of fs) (take f.lefts ls) (take f.rights rs) ls rs (take f.cones cs) cs (sym (take_all f.lefts ls (omega (arith, a)))) (sym (take_all f.rights rs (omega (arith, b)))) (sym (take_all f.cones cs (omega (arith, c)))) (last_frame fs f ls rs cs h.history t.1).hull
 
 pub some_cone : (fs : List Frame) (ls rs : List EndAt) (cs : List Cone) → IsSleeve fs ls rs cs → 0 < length fs → 0 < length cs
 some_cone fs ls rs cs h some = let top = (whole fs ls rs cs h some).cone in let b = slice_get_within cs (length cs - 1) top.0 top.1 in omega (arith, b)
@@ -122,32 +119,26 @@ exact_push fs f ls rs cs h g e = subst (Counts ls rs cs) (some_is_same f g (sym 
 frame_counts : (p : EndPoints) (f : Frame) (ls rs : List EndAt) (cs : List Cone) → f ≡ record { left = p.left; right = p.right; lefts = length ls; rights = length rs; cones = length cs } → Counts ls rs cs f
 frame_counts p f ls rs cs e = record { lefts = ap (λ (g : Frame). g.lefts) e; rights = ap (λ (g : Frame). g.rights) e; cones = ap (λ (g : Frame). g.cones) e }
 
-pub goes_open : (fs gs : List Frame) (p : EndPoints) (f : Frame) (ls rs : List EndAt) (cs : List Cone) → IsHistory fs ls rs cs None → IsHullOf (portals_of fs ++ p ∷ []) ls rs cs → f ≡ record { left = p.left; right = p.right; lefts = length ls; rights = length rs; cones = length cs } → gs ≡ fs ++ f ∷ []
+pub goes_open : (fs gs : List Frame) (p : EndPoints) (f : Frame) (ls rs : List EndAt) (cs : List Cone) → IsHistory fs ls rs cs → IsHullOf (portals_of fs ++ p ∷ []) ls rs cs → f ≡ record { left = p.left; right = p.right; lefts = length ls; rights = length rs; cones = length cs } → gs ≡ fs ++ f ∷ []
     → GoesBy (portals_of fs) p gs ls rs cs (Ok told.Open)
 goes_open fs gs p f ls rs cs h u e g = record {
-  sleeve = subst (λ (xs : List Frame). IsSleeve xs ls rs cs) (sym g) (record { history = enter_free fs p f ls rs cs None refl h u e; exact = exact_push fs f ls rs cs (frame_counts p f ls rs cs e) });
-  told = (entered_list fs gs (portals_of fs) p f refl g (ap portal_of e), hull_splits (portals_of fs ++ p ∷ []) ls rs cs u);
+  sleeve = subst (λ (xs : List Frame). IsSleeve xs ls rs cs) (sym g) (record { history = push_history fs f ls rs cs h (frame_counts p f ls rs cs e) (subst (λ q. IsHullOf (portals_of fs ++ q ∷ []) ls rs cs) (sym (ap portal_of e)) u); exact = exact_push fs f ls rs cs (frame_counts p f ls rs cs e) });
+  told = (ap portals_of g ∙ portals_next fs f ∙ ap (λ q. portals_of fs ++ q ∷ []) (ap portal_of e), hull_splits (portals_of fs ++ p ∷ []) ls rs cs u);
 }
 
-kept_same : {X : Type 0} (n : ℕ) (xs ys : List X) → n ≤ length xs → KeepsFirst (length xs) xs ys → KeepsFirst n xs ys
-kept_same n xs ys l h = (sym (take-take n (length xs) ys l) ∙ ap (take n) h.0 ∙ take-take n (length xs) xs l, let k = h.1 in omega (arith, k, l))
+kept_push : {X : Type 0} (xs : List X) (x : X) → KeepsFirst (length xs) xs (xs ++ x ∷ [])
+kept_push xs x = (take-append-le (length xs) xs (x ∷ []) (omega arith), let k = length_pushed xs x in omega (arith, k))
 
-kept_push : {X : Type 0} (n : ℕ) (xs : List X) (x : X) → n ≤ length xs → KeepsFirst n xs (xs ++ x ∷ [])
-kept_push n xs x l = kept_same n xs (xs ++ x ∷ []) l (front x xs, let k = length_pushed xs x in omega (arith, k))
-  where
-    front : {X : Type 0} (x : X) (ys : List X) → take (length ys) (ys ++ x ∷ []) ≡ take (length ys) ys
-    front x [] = refl
-    front x (y ∷ ys) = ap (λ zs. y ∷ zs) (front x ys)
+-- the stacks may grow
+pub grown_history : (fs : List Frame) (f : Frame) (ls rs ls' rs' : List EndAt) (cs cs' : List Cone) → IsSleeve fs ls rs cs → slice_get fs (length fs - 1) ≡ Some f → KeepsFirst (length ls) ls ls' → KeepsFirst (length rs) rs rs' → KeepsFirst (length cs) cs cs' → IsHistory fs ls' rs' cs'
+grown_history fs f ls rs ls' rs' cs cs' h t kl kr kc =
+    let n = h.exact f t in
+    let a = n.lefts in
+    let b = n.rights in
+    let c = n.cones in
+    stacks_moved fs f ls rs ls' rs' cs cs' t (keeps_less f.lefts (length ls) ls ls' (omega (arith, a)) kl) (keeps_less f.rights (length rs) rs rs' (omega (arith, b)) kr) (keeps_less f.cones (length cs) cs cs' (omega (arith, c)) kc) h.history
 
 module _ (fs : List Frame) (ls rs : List EndAt) (cs cs' : List Cone) (h : IsSleeve fs ls rs cs) (few : length fs < RIGHT_END) (kept : KeepsFirst (length cs) cs cs') where
-  moved_by : (ls' rs' : List EndAt) (f : Frame) → slice_get fs (length fs - 1) ≡ Some f → (f.lefts ≤ length ls → KeepsFirst f.lefts ls ls') → (f.rights ≤ length rs → KeepsFirst f.rights rs rs') → IsHistory fs ls' rs' cs' None
-  moved_by ls' rs' f t kl kr =
-      let n = h.exact f t in
-      let a = n.lefts in
-      let b = n.rights in
-      let c = n.cones in
-      stacks_moved fs f ls rs ls' rs' cs cs' t (kl (omega (arith, a))) (kr (omega (arith, b))) (kept_same f.cones cs cs' (omega (arith, c)) kept) h.history
-
   -- a portal by a new right end
   pub goes_right : (gs : List Frame) (left : Pt) (new : EndAt) (f : Frame) (rs' : List EndAt) → HasLastLeft (portals_of fs) left → new.code ≡ length fs + RIGHT_END → rs' ≡ rs ++ new ∷ [] → IsTopCone ls (rs ++ new ∷ []) cs' → f ≡ record { left = left; right = new.at; lefts = length ls; rights = length rs'; cones = length cs' } → gs ≡ fs ++ f ∷ []
       → GoesBy (portals_of fs) (record { left = left; right = new.at }) gs ls rs' cs' (Ok told.Open)
@@ -160,7 +151,7 @@ module _ (fs : List Frame) (ls rs : List EndAt) (cs cs' : List Cone) (h : IsSlee
       let old : CoversLeft ls hull.cone.0 left = subst (CoversLeft ls hull.cone.0) last.2 (hull.lefts_all (length (portals_of fs) - 1) last.0 last.1) in
       let at : CoversLeft ls top.0 left = (old.0, old.1, old.2, cone_wider ls rs ls (rs ++ new ∷ []) hull.cone.0 top.0 hull.cone.2 top.2 (λ e m. m) (λ e m. among_more rs (new ∷ []) e m) (difference left old.1.at) old.3) in
       let left_end : EndAt = record { code = length fs; at = left } in
-      goes_open fs gs (record { left = left; right = new.at }) f ls rs' cs' (moved_by ls rs' t.0 t.1 (λ l. (refl, l)) (λ l. subst (λ (xs : List EndAt). KeepsFirst t.0.rights rs xs) (sym e) (kept_push t.0.rights rs new l)))
+      goes_open fs gs (record { left = left; right = new.at }) f ls rs' cs' (grown_history fs t.0 ls rs ls rs' cs cs' h t.1 (refl, omega arith) (subst (KeepsFirst (length rs) rs) (sym e) (kept_push rs new)) kept)
       (subst (λ (xs : List EndAt). IsHullOf (portals_of fs ++ record { left = left; right = new.at } ∷ []) ls xs cs') (sym e)
       (hull_more (portals_of fs) left_end new ls rs ls (rs ++ new ∷ []) cs cs' (sym m) (omega (arith, few, m)) (omega (arith, code, m)) hull top (inr (refl, at)) (inl refl))) is g
 
@@ -176,7 +167,7 @@ module _ (fs : List Frame) (ls rs : List EndAt) (cs cs' : List Cone) (h : IsSlee
       let old : CoversRight rs hull.cone.0 right = subst (CoversRight rs hull.cone.0) last.2 (hull.rights_all (length (portals_of fs) - 1) last.0 last.1) in
       let at : CoversRight rs top.0 right = (old.0, old.1, old.2, cone_wider ls rs (ls ++ new ∷ []) rs hull.cone.0 top.0 hull.cone.2 top.2 (λ e m. among_more ls (new ∷ []) e m) (λ e m. m) (difference old.1.at right) old.3) in
       let right_end : EndAt = record { code = length fs + RIGHT_END; at = right } in
-      goes_open fs gs (record { left = new.at; right = right }) f ls' rs cs' (moved_by ls' rs t.0 t.1 (λ l. subst (λ (xs : List EndAt). KeepsFirst t.0.lefts ls xs) (sym e) (kept_push t.0.lefts ls new l)) (λ l. (refl, l)))
+      goes_open fs gs (record { left = new.at; right = right }) f ls' rs cs' (grown_history fs t.0 ls rs ls' rs cs cs' h t.1 (subst (KeepsFirst (length ls) ls) (sym e) (kept_push ls new)) (refl, omega arith) kept)
       (subst (λ (xs : List EndAt). IsHullOf (portals_of fs ++ record { left = new.at; right = right } ∷ []) xs rs cs') (sym e)
       (hull_more (portals_of fs) new right_end ls rs (ls ++ new ∷ []) rs cs cs' (omega (arith, code, m)) (omega (arith, few, m)) (ap (λ (k : ℕ). k + RIGHT_END) (sym m)) hull top (inl refl) (inr (refl, at)))) is g
 
@@ -207,11 +198,10 @@ module _ (fs : List Frame) (ls rs : List EndAt) (cs : List Cone) (h : IsSleeve f
       (hull_more (portals_of fs) new right_end ls rs ls rs cs cs (omega (arith, code, m)) (omega (arith, few, m)) (ap (λ (k : ℕ). k + RIGHT_END) (sym m)) hull hull.cone (inr (refl, new_at)) (inr (refl, at))) is g
 
 -- the first portal
-no_history : (ls rs : List EndAt) (cs : List Cone) → IsHistory [] ls rs cs None
+no_history : (ls rs : List EndAt) (cs : List Cone) → IsHistory [] ls rs cs
 no_history ls rs cs = record {
-  frames = λ k f e g. absurd (none_is_not_some f e);
-  order = λ k m f g l e t u. absurd (none_is_not_some f e);
-  conflict = tt;
+  frames = λ k f e. absurd (none_is_not_some f e);
+  order = λ k m f g l e t. absurd (none_is_not_some f e);
 }
 
 pub no_sleeve : (fs : List Frame) (ls rs : List EndAt) (cs : List Cone) → fs ≡ [] → IsSleeve fs ls rs cs
@@ -219,10 +209,10 @@ no_sleeve fs ls rs cs e = subst (λ (xs : List Frame). IsSleeve xs ls rs cs) (sy
 
 pub first_sleeve : (gs : List Frame) (left right : EndAt) (f : Frame) (ls rs : List EndAt) (cs : List Cone) → left.code ≡ 0 → right.code ≡ RIGHT_END → ls ≡ left ∷ [] → rs ≡ right ∷ [] → IsTopCone (left ∷ []) (right ∷ []) cs
     → f ≡ record { left = left.at; right = right.at; lefts = length ls; rights = length rs; cones = length cs } → gs ≡ f ∷ [] → IsSleeve gs ls rs cs
-first_sleeve gs left right f ls rs cs lc rc el er top is g = (goes_open [] gs (record { left = left.at; right = right.at }) f ls rs cs (no_history ls rs cs) (first_stacked [] left right ls rs cs refl lc (omega (arith, rc)) el er top) is g).sleeve
+first_sleeve gs left right f ls rs cs lc rc el er top is g = (goes_open [] gs (record { left = left.at; right = right.at }) f ls rs cs (no_history ls rs cs) (hull_same (with_ends [] left right) (left ∷ []) (right ∷ []) ls rs cs cs el er refl (hull_first left right cs lc rc top)) is g).sleeve
 
 -- ---- fewer portals
-pub cut_back : (fs gs : List Frame) (top : Frame) (ls rs ls' rs' : List EndAt) (cs cs' : List Cone) → IsHistory fs ls rs cs None → gs ≡ fs → slice_get fs (length fs - 1) ≡ Some top → ls' ≡ take top.lefts ls → rs' ≡ take top.rights rs → cs' ≡ take top.cones cs → IsSleeve gs ls' rs' cs'
+pub cut_back : (fs gs : List Frame) (top : Frame) (ls rs ls' rs' : List EndAt) (cs cs' : List Cone) → IsHistory fs ls rs cs → gs ≡ fs → slice_get fs (length fs - 1) ≡ Some top → ls' ≡ take top.lefts ls → rs' ≡ take top.rights rs → cs' ≡ take top.cones cs → IsSleeve gs ls' rs' cs'
 cut_back fs gs top ls rs ls' rs' cs cs' h g t el er ec =
     let f = last_frame fs top ls rs cs h t in
     subst (λ (xs : List Frame). IsSleeve xs ls' rs' cs') (sym g) (record {
@@ -236,8 +226,8 @@ cut_back fs gs top ls rs ls' rs' cs cs' h g t el er ec =
     keeps : {X : Type 0} (n : ℕ) (xs ys : List X) → n ≤ length xs → ys ≡ take n xs → KeepsFirst n xs ys
     keeps n xs ys l e = (ap (take n) e ∙ take-take n n xs (omega arith), let k = counts n xs ys l e in omega (arith, k))
 
-pub cut_to : (fs gs : List Frame) (n : ℕ) (top : Frame) (ls rs ls' rs' : List EndAt) (cs cs' : List Cone) → IsSleeve fs ls rs cs → n ≤ length fs → gs ≡ take n fs → slice_get gs (length gs - 1) ≡ Some top → ls' ≡ take top.lefts ls → rs' ≡ take top.rights rs → cs' ≡ take top.cones cs → IsSleeve gs ls' rs' cs'
-cut_to fs gs n top ls rs ls' rs' cs cs' h l g t el er ec = cut_back gs gs top ls rs ls' rs' cs cs' (subst (λ (xs : List Frame). IsHistory xs ls rs cs None) (sym g) (pop_history fs n ls rs cs None None l h.history (λ k l e. e) tt)) refl t el er ec
+pub cut_to : (fs gs : List Frame) (n : ℕ) (top : Frame) (ls rs ls' rs' : List EndAt) (cs cs' : List Cone) → IsSleeve fs ls rs cs → gs ≡ take n fs → slice_get gs (length gs - 1) ≡ Some top → ls' ≡ take top.lefts ls → rs' ≡ take top.rights rs → cs' ≡ take top.cones cs → IsSleeve gs ls' rs' cs'
+cut_to fs gs n top ls rs ls' rs' cs cs' h g t el er ec = cut_back gs gs top ls rs ls' rs' cs cs' (subst (λ (xs : List Frame). IsHistory xs ls rs cs) (sym g) (pop_history fs n ls rs cs h.history)) refl t el er ec
 
 -- a portal that no line passes, or for which memory fails, leaves the others
 pub goes_stuck : (fs gs : List Frame) (p : EndPoints) (ls rs : List EndAt) (cs : List Cone) (e : Evidence) → IsSleeve gs ls rs cs → gs ≡ fs → IsBarredBy (portals_of fs ++ p ∷ []) e → GoesBy (portals_of fs) p gs ls rs cs (Ok (told.Stuck e))
@@ -246,6 +236,9 @@ goes_stuck fs gs p ls rs cs e h g b = record { sleeve = h; told = (ap portals_of
 -- ---- portals with notes
 pub as_many_frames : {N : Type 0} (xs : List (Noted N)) → length (frames_of xs) ≡ length xs
 as_many_frames xs = length-map xs frame_of
+
+pub some_frames : {N : Type 0} (xs : List (Noted N)) → 0 < length xs → 0 < length (frames_of xs)
+some_frames xs l = let m = as_many_frames xs in omega (arith, l, m)
 
 pub frames_pushed : {N : Type 0} (xs : List (Noted N)) (x : Noted N) → frames_of (xs ++ x ∷ []) ≡ frames_of xs ++ x.frame ∷ []
 frames_pushed xs x = map_pushed frame_of xs x

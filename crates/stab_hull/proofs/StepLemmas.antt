@@ -15,8 +15,9 @@ use Rattle.geom_exact.specs.declared.extreme_lines.cone.Cone.{Cone}
 use Rattle.geom_exact.specs.declared.extreme_lines.cone.Cone.TheVariants.{Ray}
 use Rattle.geom_exact.specs.ExtremeLines.Differences.{difference}
 use Rattle.geom_exact.specs.ExtremeLines.Spans.{arrow_of, Spans, first_of, second_of, pair_of, IsWidened, three_pairs}
-use Rattle.geom_exact.proofs.ExtremeLines.Widening.{made_arrow, stays}
+use Rattle.geom_exact.proofs.ExtremeLines.Widening.{made_arrow}
 use Rattle.geom_exact.proofs.ExtremeLines.EndsLemmas.{get_append, get_cases}
+use Rattle.stab_hull.specs.declared.chain.Kept.{Kept}
 use Rattle.stab_hull.specs.Stacks.{IsAmong, IsPairAmong, SpansEnds, IsOfEnds, IsConeOfEnds, AreStuckAmong, IsTopCone, IsAdded}
 use Rattle.math_base.proofs.Lists.{get_pushed}
 use Rattle.math_base.proofs.Options.{some_is_same, none_is_not_some, some_is_not_none}
@@ -25,25 +26,32 @@ use Rattle.math_base.proofs.Options.{some_is_same, none_is_not_some, some_is_not
 abbrev pub no_end : EndAt
 no_end = record { code = 0; at = record { x = pos 0; y = pos 0 } }
 
--- the cone has the differences of this left end and the first right ends
-abbrev pub HasFirstRights : List EndAt → EndAt → ℕ → Cone → Type 0
-HasFirstRights rights left n c = (k : ℕ) → k < n → (r : EndAt) → slice_get rights k ≡ Some r → Spans c (difference left.at r.at)
+abbrev pub no_kept : Kept
+no_kept = record { end = no_end; step = 0 }
 
--- the cone has the differences of the first left ends and this right end
-abbrev pub HasFirstLefts : List EndAt → EndAt → ℕ → Cone → Type 0
-HasFirstLefts lefts right n c = (k : ℕ) → k < n → (l : EndAt) → slice_get lefts k ≡ Some l → Spans c (difference l.at right.at)
+-- the places of the first n ends
+abbrev pub Before : ℕ → ℕ → Type 0
+Before n k = k < n
 
--- the cone of the ends, on its way to take in a left end
-pub record IsLeftPart (lefts rights : List EndAt) (left : EndAt) (n : ℕ) (c : Cone) : Type 0 where
+-- the places from this one on
+abbrev pub From : ℕ → ℕ → Type 0
+From n k = n ≤ k
+
+-- the cone of the ends, on its way to take in a left end: it has the differences of that one and the right ends at these places
+pub record IsLeftPart (lefts rights : List EndAt) (left : EndAt) (P : ℕ → Type 0) (c : Cone) : Type 0 where
   pub spans : SpansEnds lefts rights c
   pub ends : IsOfEnds (lefts ++ left ∷ []) rights c
-  pub has : HasFirstRights rights left n c
+  pub has : (k : ℕ) → P k → (r : EndAt) → slice_get rights k ≡ Some r → Spans c (difference left.at r.at)
 
 -- the same for a right end
-pub record IsRightPart (lefts rights : List EndAt) (right : EndAt) (n : ℕ) (c : Cone) : Type 0 where
+pub record IsRightPart (lefts rights : List EndAt) (right : EndAt) (P : ℕ → Type 0) (c : Cone) : Type 0 where
   pub spans : SpansEnds lefts rights c
   pub ends : IsOfEnds lefts (rights ++ right ∷ []) c
-  pub has : HasFirstLefts lefts right n c
+  pub has : (k : ℕ) → P k → (l : EndAt) → slice_get lefts k ≡ Some l → Spans c (difference l.at right.at)
+
+-- ---- a place more
+pub next_place : (n k : ℕ) → Before (n + 1) k → Before n k ⊎ (k ≡ n)
+next_place n k = below_more (λ (j : ℕ). Before n j ⊎ (j ≡ n)) n (λ j l. inl l) (inr refl) k
 
 pub among_more : (xs ys : List EndAt) (e : EndAt) → IsAmong xs e → IsAmong (xs ++ ys) e
 among_more xs ys e h = (h.0, get_append xs ys h.0 e h.1)
@@ -75,22 +83,22 @@ module _ (L R : List EndAt) (left : EndAt) where
     second = (among_more L (left ∷ []) (second_of c).left h.second.0, h.second.1);
   }
 
-  pub left_start : (c : Cone) → IsConeOfEnds L R c → IsLeftPart L R left 0 c
-  left_start c h = record { spans = h.spans; ends = left_ends c h.ends; has = λ k l. absurd (omega (arith, l)) }
+  pub left_start : (P : ℕ → Type 0) (c : Cone) → ((k : ℕ) → P k → length R ≤ k) → IsConeOfEnds L R c → IsLeftPart L R left P c
+  left_start P c f h = record { spans = h.spans; ends = left_ends c h.ends; has = λ k p r e. let b = slice_get_within R k r e in let o = f k p in absurd (omega (arith, b, o)) }
 
-  pub left_more : (n : ℕ) (r : EndAt) (c d : Cone) → slice_get R n ≡ Some r → IsWidened c left r d → IsLeftPart L R left n c → IsLeftPart L R left (n + 1) d
-  left_more n r c d e w h = record {
+  pub left_more : (P Q : ℕ → Type 0) (n : ℕ) (r : EndAt) (c d : Cone) → ((k : ℕ) → Q k → P k ⊎ (k ≡ n)) → slice_get R n ≡ Some r → IsWidened c left r d → IsLeftPart L R left P c → IsLeftPart L R left Q d
+  left_more P Q n r c d f e w h = record {
     spans = λ l r hl hr. w.keeps (difference l.at r.at) (h.spans l r hl hr);
     ends = ends_widened (L ++ left ∷ []) R c d left r w h.ends (among_last L left) (n, e);
-    has = below_more (λ k. (r : EndAt) → slice_get R k ≡ Some r → Spans d (difference left.at r.at)) n (λ k l r g. w.keeps (difference left.at r.at) (h.has k l r g)) (λ s g. subst (λ (u : EndAt). Spans d (difference left.at u.at)) (some_is_same r s (sym e ∙ g)) w.has);
+    has = λ k q s g. case k s g (f k q);
   }
+    where
+      case : (k : ℕ) (s : EndAt) → slice_get R k ≡ Some s → P k ⊎ (k ≡ n) → Spans d (difference left.at s.at)
+      case k s g (inl p) = w.keeps (difference left.at s.at) (h.has k p s g)
+      case k s g (inr i) = subst (λ (u : EndAt). Spans d (difference left.at u.at)) (some_is_same r s (sym e ∙ ap (λ (j : ℕ). slice_get R j) (sym i) ∙ g)) w.has
 
-  -- the cone has the line already
-  pub left_covered : (n : ℕ) (r : EndAt) (c : Cone) → slice_get R n ≡ Some r → Spans c (difference left.at r.at) → IsLeftPart L R left n c → IsLeftPart L R left (n + 1) c
-  left_covered n r c e s h = left_more n r c c e (stays c left r s) h
-
-  pub left_stuck : (n : ℕ) (r : EndAt) (c : Cone) (pairs : List EndPair) → slice_get R n ≡ Some r → IsLeftPart L R left n c → pairs ≡ three_pairs c left r → AreBalanced (three_pairs c left r) → AreStuckAmong (L ++ left ∷ []) R pairs
-  left_stuck n r c pairs e h t b = stuck_among (L ++ left ∷ []) R c left r pairs h.ends (among_last L left) (n, e) t b
+  pub left_stuck : (P : ℕ → Type 0) (n : ℕ) (r : EndAt) (c : Cone) (pairs : List EndPair) → slice_get R n ≡ Some r → IsLeftPart L R left P c → pairs ≡ three_pairs c left r → AreBalanced (three_pairs c left r) → AreStuckAmong (L ++ left ∷ []) R pairs
+  left_stuck P n r c pairs e h t b = stuck_among (L ++ left ∷ []) R c left r pairs h.ends (among_last L left) (n, e) t b
 
   left_spans : (c : Cone) → SpansEnds L R c → ((r : EndAt) → IsAmong R r → Spans c (difference left.at r.at)) → SpansEnds (L ++ left ∷ []) R c
   left_spans c h k l r hl hr = case (get_cases L left hl.0 l hl.1)
@@ -99,9 +107,9 @@ module _ (L R : List EndAt) (left : EndAt) where
       case (inl e) = h l r (hl.0, e) hr
       case (inr e) = subst (λ (u : EndAt). Spans c (difference u.at r.at)) e (k r hr)
 
-  pub left_whole : (n : ℕ) (c : Cone) → length R ≤ n → IsLeftPart L R left n c → IsConeOfEnds (L ++ left ∷ []) R c
-  left_whole n c l h = record {
-    spans = left_spans c h.spans (λ r m. h.has m.0 (let b = slice_get_within R m.0 r m.1 in omega (arith, b, l)) r m.1);
+  pub left_whole : (P : ℕ → Type 0) (c : Cone) → ((k : ℕ) → k < length R → P k) → IsLeftPart L R left P c → IsConeOfEnds (L ++ left ∷ []) R c
+  left_whole P c f h = record {
+    spans = left_spans c h.spans (λ r m. h.has m.0 (f m.0 (slice_get_within R m.0 r m.1)) r m.1);
     ends = h.ends;
   }
 
@@ -122,21 +130,22 @@ module _ (L R : List EndAt) (right : EndAt) where
     second = (h.second.0, among_more R (right ∷ []) (second_of c).right h.second.1);
   }
 
-  pub right_start : (c : Cone) → IsConeOfEnds L R c → IsRightPart L R right 0 c
-  right_start c h = record { spans = h.spans; ends = right_ends c h.ends; has = λ k l. absurd (omega (arith, l)) }
+  pub right_start : (P : ℕ → Type 0) (c : Cone) → ((k : ℕ) → P k → length L ≤ k) → IsConeOfEnds L R c → IsRightPart L R right P c
+  right_start P c f h = record { spans = h.spans; ends = right_ends c h.ends; has = λ k p l e. let b = slice_get_within L k l e in let o = f k p in absurd (omega (arith, b, o)) }
 
-  pub right_more : (n : ℕ) (l : EndAt) (c d : Cone) → slice_get L n ≡ Some l → IsWidened c l right d → IsRightPart L R right n c → IsRightPart L R right (n + 1) d
-  right_more n l c d e w h = record {
+  pub right_more : (P Q : ℕ → Type 0) (n : ℕ) (l : EndAt) (c d : Cone) → ((k : ℕ) → Q k → P k ⊎ (k ≡ n)) → slice_get L n ≡ Some l → IsWidened c l right d → IsRightPart L R right P c → IsRightPart L R right Q d
+  right_more P Q n l c d f e w h = record {
     spans = λ l r hl hr. w.keeps (difference l.at r.at) (h.spans l r hl hr);
     ends = ends_widened L (R ++ right ∷ []) c d l right w h.ends (n, e) (among_last R right);
-    has = below_more (λ k. (l : EndAt) → slice_get L k ≡ Some l → Spans d (difference l.at right.at)) n (λ k b l g. w.keeps (difference l.at right.at) (h.has k b l g)) (λ s g. subst (λ (u : EndAt). Spans d (difference u.at right.at)) (some_is_same l s (sym e ∙ g)) w.has);
+    has = λ k q s g. case k s g (f k q);
   }
+    where
+      case : (k : ℕ) (s : EndAt) → slice_get L k ≡ Some s → P k ⊎ (k ≡ n) → Spans d (difference s.at right.at)
+      case k s g (inl p) = w.keeps (difference s.at right.at) (h.has k p s g)
+      case k s g (inr i) = subst (λ (u : EndAt). Spans d (difference u.at right.at)) (some_is_same l s (sym e ∙ ap (λ (j : ℕ). slice_get L j) (sym i) ∙ g)) w.has
 
-  pub right_covered : (n : ℕ) (l : EndAt) (c : Cone) → slice_get L n ≡ Some l → Spans c (difference l.at right.at) → IsRightPart L R right n c → IsRightPart L R right (n + 1) c
-  right_covered n l c e s h = right_more n l c c e (stays c l right s) h
-
-  pub right_stuck : (n : ℕ) (l : EndAt) (c : Cone) (pairs : List EndPair) → slice_get L n ≡ Some l → IsRightPart L R right n c → pairs ≡ three_pairs c l right → AreBalanced (three_pairs c l right) → AreStuckAmong L (R ++ right ∷ []) pairs
-  right_stuck n l c pairs e h t b = stuck_among L (R ++ right ∷ []) c l right pairs h.ends (n, e) (among_last R right) t b
+  pub right_stuck : (P : ℕ → Type 0) (n : ℕ) (l : EndAt) (c : Cone) (pairs : List EndPair) → slice_get L n ≡ Some l → IsRightPart L R right P c → pairs ≡ three_pairs c l right → AreBalanced (three_pairs c l right) → AreStuckAmong L (R ++ right ∷ []) pairs
+  right_stuck P n l c pairs e h t b = stuck_among L (R ++ right ∷ []) c l right pairs h.ends (n, e) (among_last R right) t b
 
   right_spans : (c : Cone) → SpansEnds L R c → ((l : EndAt) → IsAmong L l → Spans c (difference l.at right.at)) → SpansEnds L (R ++ right ∷ []) c
   right_spans c h k l r hl hr = case (get_cases R right hr.0 r hr.1)
@@ -145,9 +154,9 @@ module _ (L R : List EndAt) (right : EndAt) where
       case (inl e) = h l r hl (hr.0, e)
       case (inr e) = subst (λ (u : EndAt). Spans c (difference l.at u.at)) e (k l hl)
 
-  pub right_whole : (n : ℕ) (c : Cone) → length L ≤ n → IsRightPart L R right n c → IsConeOfEnds L (R ++ right ∷ []) c
-  right_whole n c l h = record {
-    spans = right_spans c h.spans (λ l' m. h.has m.0 (let b = slice_get_within L m.0 l' m.1 in omega (arith, b, l)) l' m.1);
+  pub right_whole : (P : ℕ → Type 0) (c : Cone) → ((k : ℕ) → k < length L → P k) → IsRightPart L R right P c → IsConeOfEnds L (R ++ right ∷ []) c
+  right_whole P c f h = record {
+    spans = right_spans c h.spans (λ l m. h.has m.0 (f m.0 (slice_get_within L m.0 l m.1)) l m.1);
     ends = h.ends;
   }
 

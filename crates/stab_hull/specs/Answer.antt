@@ -1,31 +1,18 @@
--- What a split of portals is.
-use Rattle.std.specs.Prelude.{◌≡◌, ◌≤◌, ◌^◌, List, [], ◌∷◌, ◌++◌, All, ℤ, Result, Ok, Err, nat_abs}
+-- What is told of portals: a line that splits their ends, or stuck ends that show that none does.
+use Rattle.std.specs.Prelude.{◌≡◌, ◌≤◌, ◌^◌, List, [], ◌∷◌, ◌++◌, ℤ, Result, Ok, Err, nat_abs}
 use Rattle.sight_names.specs.declared.names.Memory.{Memory}
-use Rattle.sight_names.specs.Splitting.{EndPoints, SplitsEnds, IsSplittable, IsPairOf, AreBalanced}
+use Rattle.sight_names.specs.Splitting.{EndPoints, IsSplittable}
 use Rattle.sight_names.specs.declared.names.EndPair.{EndPair}
 use Rattle.block_evidence.specs.declared.Evidence.{Evidence}
 use Rattle.block_evidence.specs.Stuck.{Blocks, IsEvidenceOf}
-use Rattle.stab_hull.specs.declared.Split.{Split}
-use Rattle.stab_hull.specs.declared.Split.TheVariants.{Line, Stuck}
 use Rattle.stab_hull.specs.declared.Passed.{Passed}
-use Rattle.stab_hull.specs.declared.Passed.TheVariants.{Open, Stuck as StuckBy}
+use Rattle.stab_hull.specs.declared.Passed.TheVariants.{Open, Stuck}
 
 -- the line has the range of rays
 pub record IsLineInRange (a b c : ℤ) : Type 0 where
   pub a_in : nat_abs a ≤ 2 ^ 20
   pub b_in : nat_abs b ≤ 2 ^ 20
   pub c_in : nat_abs c ≤ 2 ^ 37
-
--- a line in range that splits the ends strictly; or no line does, and three pairs of ends show it
-abbrev pub IsSplitOf : List EndPoints → Split → Type 0
-IsSplitOf es (Line a b c) = SplitsEnds es a b c × IsLineInRange a b c
-IsSplitOf es (Stuck pairs) = (¬ IsSplittable es) × All (IsPairOf es) pairs × AreBalanced pairs
-
--- the list has the portal where a line splits its ends and all others, else it is as it was
-abbrev pub IsEntered : List EndPoints → EndPoints → List EndPoints → Result Split Memory → Type 0
-IsEntered old e new (Ok (Line a b c)) = new ≡ old ++ e ∷ []
-IsEntered old e new (Ok (Stuck pairs)) = new ≡ old
-IsEntered old e new (Err r) = new ≡ old
 
 -- no line splits the ends, as two to four of them show
 pub record IsBarredBy (es : List EndPoints) (e : Evidence) : Type 0 where
@@ -37,5 +24,5 @@ pub record IsBarredBy (es : List EndPoints) (e : Evidence) : Type 0 where
 -- the list has the portal where a line splits its ends and all others; else it is as it was, and stuck ends show that none does
 abbrev pub IsPassed : List EndPoints → EndPoints → List EndPoints → Result Passed Memory → Type 0
 IsPassed old e new (Ok Open) = (new ≡ old ++ e ∷ []) × IsSplittable (old ++ e ∷ [])
-IsPassed old e new (Ok (StuckBy evidence)) = (new ≡ old) × IsBarredBy (old ++ e ∷ []) evidence
+IsPassed old e new (Ok (Stuck evidence)) = (new ≡ old) × IsBarredBy (old ++ e ∷ []) evidence
 IsPassed old e new (Err r) = new ≡ old

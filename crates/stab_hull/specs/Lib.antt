@@ -1,4 +1,5 @@
 pub mod Answer
+pub mod Chains
 pub mod Portals
 pub mod Stacks
 pub mod History

@@ -1,5 +1,5 @@
 -- Portals that a line passes, with what is of them on the stacks, and what comes of one more that has an end of the last.
-use Rattle.std.specs.Prelude.{◌≡◌, ◌-◌, Bool, true, false, List, [], ◌∷◌, ◌++◌, Some, None, Result, Ok, Err, length, map, slice_get}
+use Rattle.std.specs.Prelude.{◌≡◌, ◌-◌, Bool, true, false, List, [], ◌∷◌, ◌++◌, Some, Result, Ok, Err, length, map, slice_get}
 use Rattle.sight_names.specs.declared.names.Memory.{Memory}
 use Rattle.sight_names.specs.declared.names.Pt.{Pt}
 use Rattle.sight_names.specs.declared.names.EndAt.{EndAt}
@@ -17,20 +17,14 @@ use Rattle.stab_hull.specs.declared.turning.Turn.TheVariants as turn
 use Rattle.stab_hull.specs.declared.Passed.{Passed}
 use Rattle.stab_hull.specs.declared.Passed.TheVariants as passed
 use Rattle.stab_hull.specs.Answer.{IsPassed, IsBarredBy}
-use Rattle.stab_hull.specs.History.{IsHistory}
+use Rattle.stab_hull.specs.History.{Counts, IsHistory}
 use Rattle.stab_hull.specs.Portals.{portals_of}
 use Rattle.stab_hull.specs.Stacks.{CoversLeft, CoversRight, IsTopCone}
 use Rattle.stab_hull.specs.Turning.{MovesRight, MovesLeft}
 
--- so much of the stacks is of the portals up to the last frame
-pub record Counts (ls rs : List EndAt) (cs : List Cone) (f : Frame) : Type 0 where
-  pub lefts : f.lefts ≡ length ls
-  pub rights : f.rights ≡ length rs
-  pub cones : f.cones ≡ length cs
-
 -- the stacks have what is of these portals alone
 pub record IsSleeve (fs : List Frame) (ls rs : List EndAt) (cs : List Cone) : Type 0 where
-  pub history : IsHistory fs ls rs cs None
+  pub history : IsHistory fs ls rs cs
   pub exact : (f : Frame) → slice_get fs (length fs - 1) ≡ Some f → Counts ls rs cs f
 
 -- the last portal has this left end
@@ -125,7 +119,7 @@ pub record GoesOn {N : Type 0} (old : List (Noted N)) (n : N) (e : EndPoints) (n
   pub noted : IsNotedOn (map note_of old) n (map note_of new) r
 
 abbrev pub IsTrack : {N : Type 0} → Track N → Type 0
-IsTrack t = IsSleeve (frames_of t.portals.items) t.hull.lefts.items t.hull.rights.items t.hull.cones.items
+IsTrack t = IsSleeve (frames_of t.portals.items) t.hull.lefts t.hull.rights t.hull.cones.items
 
 abbrev pub ends_of : {N : Type 0} → Track N → List EndPoints
 ends_of t = portals_of (frames_of t.portals.items)

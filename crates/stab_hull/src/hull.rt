@@ -1,29 +1,45 @@
 //! The distinct ends of portals that a line may come to, and their cones.
 
-ghost use Rattle.std.specs.Prelude.{◌≡◌, ◌<◌, ◌≤◌, ◌+◌, ◌++◌, ◌∷◌, [], length, take, IsTrue, IfOk, MatchOption, ◌≢◌};
+ghost use Rattle.std.specs.Prelude.{◌≡◌, ◌++◌, ◌∷◌, [], length, take, IsTrue, IfOk, MatchOption, ◌≢◌};
+ghost use Rattle.stab_hull.specs.Chains.{kept_ends};
 ghost use Rattle.stab_hull.specs.Stacks.{HasPoint, IsAdded, IsTopCone, AreStuckAmong, KeepsFirst};
 
+use crate::chain::{Chain, Kept};
 use crate::frame::Frame;
 use crate::step::{Step, left_step, right_step};
 use geom_exact::extreme_lines::{Cone, Extreme};
 use sight_names::{EndAt, EndPair, Memory, Pt};
 
 /// The ends of portals, without those that repeat the point of the one before and those that another one covers, and the
-/// cones of the ends so far. What lies above the counts of the last frame is of portals that were taken away.
+/// cones of the ends so far.
 #[derive(Drop)]
 pub struct Hull {
-    pub lefts: Vec<EndAt>,
-    pub rights: Vec<EndAt>,
+    pub lefts: Chain,
+    pub rights: Chain,
     pub cones: Vec<Cone>,
 }
 
 /// Whether the last end is at this point.
-fn repeats(ends: &[EndAt], at: Pt) -> bool
-    ensures { IsTrue result → HasPoint ends.now at }
+fn repeats(ends: &[Kept], at: Pt) -> bool
+    ensures { IsTrue result → HasPoint (kept_ends ends.now) at }
 {
     match ends.last() {
-        Some(end) => end.at == at,
+        Some(kept) => kept.end.at == at,
         None => false,
+    }
+}
+
+/// The frame of a portal whose ends are the last ones on the stacks.
+#[inline(always)]
+pub fn frame_over(hull: &Hull, left: Pt, right: Pt) -> Frame
+    ensures { result ≡ record { left = left; right = right; lefts = length hull.now.lefts; rights = length hull.now.rights; cones = length hull.now.cones.items } }
+{
+    Frame {
+        left,
+        right,
+        lefts: hull.lefts.len(),
+        rights: hull.rights.len(),
+        cones: hull.cones.len(),
     }
 }
 
@@ -31,8 +47,8 @@ impl Hull {
     /// Has the ends of one portal alone.
     pub fn begin(&mut self, left: EndAt, right: EndAt) -> Result<(), Memory>
         requires proper { left.at ≢ right.at }
-        ensures lefts { IfOk result (λ _. self.new.lefts.items ≡ left ∷ []) }
-        ensures rights { IfOk result (λ _. self.new.rights.items ≡ right ∷ []) }
+        ensures lefts { IfOk result (λ _. self.new.lefts ≡ left ∷ []) }
+        ensures rights { IfOk result (λ _. self.new.rights ≡ right ∷ []) }
         ensures cone { IfOk result (λ _. IsTopCone (left ∷ []) (right ∷ []) self.new.cones.items) }
     {
         self.lefts.clear();
@@ -46,11 +62,11 @@ impl Hull {
 
     /// Adds a left end, or gives the pairs that show that no line splits it and the others.
     fn add_left(&mut self, left: EndAt) -> Result<Option<[EndPair; 3]>, Memory>
-        requires top { IsTopCone self.old.lefts.items self.old.rights.items self.old.cones.items }
-        ensures lefts { KeepsFirst (length self.old.lefts.items) self.old.lefts.items self.new.lefts.items }
-        ensures rights { self.new.rights.items ≡ self.old.rights.items }
+        requires top { IsTopCone self.old.lefts self.old.rights self.old.cones.items }
+        ensures lefts { KeepsFirst (length self.old.lefts) self.old.lefts self.new.lefts }
+        ensures rights { self.new.rights ≡ self.old.rights }
         ensures cones { KeepsFirst (length self.old.cones.items) self.old.cones.items self.new.cones.items }
-        ensures free { IfOk result (λ stuck. MatchOption stuck (IsTopCone self.new.lefts.items self.old.rights.items self.new.cones.items × IsAdded self.old.lefts.items left self.new.lefts.items) (λ pairs. AreStuckAmong (self.old.lefts.items ++ left ∷ []) self.old.rights.items pairs)) }
+        ensures free { IfOk result (λ stuck. MatchOption stuck (IsTopCone self.new.lefts self.old.rights self.new.cones.items × IsAdded self.old.lefts left self.new.lefts) (λ pairs. AreStuckAmong (self.old.lefts ++ left ∷ []) self.old.rights pairs)) }
     {
         if repeats(self.lefts.as_slice(), left.at) {
             return Ok(None);
@@ -67,11 +83,11 @@ impl Hull {
 
     /// Adds a right end, or gives the pairs that show that no line splits it and the others.
     fn add_right(&mut self, right: EndAt) -> Result<Option<[EndPair; 3]>, Memory>
-        requires top { IsTopCone self.old.lefts.items self.old.rights.items self.old.cones.items }
-        ensures lefts { self.new.lefts.items ≡ self.old.lefts.items }
-        ensures rights { KeepsFirst (length self.old.rights.items) self.old.rights.items self.new.rights.items }
+        requires top { IsTopCone self.old.lefts self.old.rights self.old.cones.items }
+        ensures lefts { self.new.lefts ≡ self.old.lefts }
+        ensures rights { KeepsFirst (length self.old.rights) self.old.rights self.new.rights }
         ensures cones { KeepsFirst (length self.old.cones.items) self.old.cones.items self.new.cones.items }
-        ensures free { IfOk result (λ stuck. MatchOption stuck (IsTopCone self.old.lefts.items self.new.rights.items self.new.cones.items × IsAdded self.old.rights.items right self.new.rights.items) (λ pairs. AreStuckAmong self.old.lefts.items (self.old.rights.items ++ right ∷ []) pairs)) }
+        ensures free { IfOk result (λ stuck. MatchOption stuck (IsTopCone self.old.lefts self.new.rights self.new.cones.items × IsAdded self.old.rights right self.new.rights) (λ pairs. AreStuckAmong self.old.lefts (self.old.rights ++ right ∷ []) pairs)) }
     {
         if repeats(self.rights.as_slice(), right.at) {
             return Ok(None);
@@ -86,37 +102,25 @@ impl Hull {
         Ok(None)
     }
 
-    /// Drops what lies above the counts of the frame, and adds the ends of one more portal, or gives the pairs that show
-    /// that no line splits all ends.
-    pub fn add(
-        &mut self,
-        top: &Frame,
-        left: EndAt,
-        right: EndAt,
-    ) -> Result<Option<[EndPair; 3]>, Memory>
-        requires lefts { top.now.lefts ≤ length self.old.lefts.items }
-        requires rights { top.now.rights ≤ length self.old.rights.items }
-        requires cones { top.now.cones ≤ length self.old.cones.items }
-        requires top { IsTopCone (take top.now.lefts self.old.lefts.items) (take top.now.rights self.old.rights.items) (take top.now.cones self.old.cones.items) }
-        ensures lefts { KeepsFirst top.now.lefts self.old.lefts.items self.new.lefts.items }
-        ensures rights { KeepsFirst top.now.rights self.old.rights.items self.new.rights.items }
-        ensures cones { KeepsFirst top.now.cones self.old.cones.items self.new.cones.items }
-        ensures free { IfOk result (λ stuck. MatchOption stuck (IsTopCone self.new.lefts.items self.new.rights.items self.new.cones.items × IsAdded (take top.now.lefts self.old.lefts.items) left self.new.lefts.items × IsAdded (take top.now.rights self.old.rights.items) right self.new.rights.items) (λ pairs. AreStuckAmong (take top.now.lefts self.old.lefts.items ++ left ∷ []) (take top.now.rights self.old.rights.items ++ right ∷ []) pairs)) }
+    /// Adds the ends of one more portal, or gives the pairs that show that no line splits all ends.
+    pub fn add(&mut self, left: EndAt, right: EndAt) -> Result<Option<[EndPair; 3]>, Memory>
+        requires top { IsTopCone self.old.lefts self.old.rights self.old.cones.items }
+        ensures lefts { KeepsFirst (length self.old.lefts) self.old.lefts self.new.lefts }
+        ensures rights { KeepsFirst (length self.old.rights) self.old.rights self.new.rights }
+        ensures cones { KeepsFirst (length self.old.cones.items) self.old.cones.items self.new.cones.items }
+        ensures free { IfOk result (λ stuck. MatchOption stuck (IsTopCone self.new.lefts self.new.rights self.new.cones.items × IsAdded self.old.lefts left self.new.lefts × IsAdded self.old.rights right self.new.rights) (λ pairs. AreStuckAmong (self.old.lefts ++ left ∷ []) (self.old.rights ++ right ∷ []) pairs)) }
     {
-        self.lefts.truncate(top.lefts);
-        self.rights.truncate(top.rights);
-        self.cones.truncate(top.cones);
         match self.add_left(left)? {
             Some(pairs) => Ok(Some(pairs)),
             None => self.add_right(right),
         }
     }
 
-    /// Drops what lies above the counts of the frame.
+    /// Drops what is of the portals behind that of the frame.
     #[inline(always)]
     pub fn cut(&mut self, frame: &Frame)
-        ensures lefts { self.new.lefts.items ≡ take frame.now.lefts self.old.lefts.items }
-        ensures rights { self.new.rights.items ≡ take frame.now.rights self.old.rights.items }
+        ensures lefts { self.new.lefts ≡ take frame.now.lefts self.old.lefts }
+        ensures rights { self.new.rights ≡ take frame.now.rights self.old.rights }
         ensures cones { self.new.cones.items ≡ take frame.now.cones self.old.cones.items }
     {
         self.lefts.truncate(frame.lefts);

@@ -6,8 +6,7 @@ ghost use Rattle.stab_hull.specs.Sleeves.{IsSleeve, IsCoveredLeft, IsCoveredRigh
 
 use crate::Passed;
 use crate::frame::Noted;
-use crate::history::frame_over;
-use crate::hull::Hull;
+use crate::hull::{Hull, frame_over};
 use crate::turning::{Turn, left_turn, right_turn, stack_left, stack_right};
 use block_evidence::{Evidence, four};
 use geom_exact::extreme_lines::Cone;
@@ -52,10 +51,10 @@ fn of_turn(turn: Turn) -> Tells
 /// What a new right end does, of a portal with this left end.
 #[inline(always)]
 fn right_told<N: Copy>(portals: &[Noted<N>], hull: &Hull, left: Pt, new: EndAt) -> Tells
-    requires sleeve { IsSleeve (frames_of portals.now) hull.now.lefts.items hull.now.rights.items hull.now.cones.items }
+    requires sleeve { IsSleeve (frames_of portals.now) hull.now.lefts hull.now.rights hull.now.cones.items }
     requires there { 0 < length portals.now }
     requires code { new.code ≡ length portals.now + RIGHT_END }
-    ensures { TellsRight (portals_of (frames_of portals.now)) hull.now.lefts.items hull.now.rights.items hull.now.cones.items left new result }
+    ensures { TellsRight (portals_of (frames_of portals.now)) hull.now.lefts hull.now.rights hull.now.cones.items left new result }
 {
     match &hull.cones[hull.cones.len() - 1] {
         Cone::Ray(_) => Tells::Unseen,
@@ -66,11 +65,11 @@ fn right_told<N: Copy>(portals: &[Noted<N>], hull: &Hull, left: Pt, new: EndAt) 
 /// What a new left end does, of a portal with this right end.
 #[inline(always)]
 fn left_told<N: Copy>(portals: &[Noted<N>], hull: &Hull, new: EndAt, right: Pt) -> Tells
-    requires sleeve { IsSleeve (frames_of portals.now) hull.now.lefts.items hull.now.rights.items hull.now.cones.items }
+    requires sleeve { IsSleeve (frames_of portals.now) hull.now.lefts hull.now.rights hull.now.cones.items }
     requires there { 0 < length portals.now }
     requires few { length portals.now < RIGHT_END }
     requires code { new.code ≡ length portals.now }
-    ensures { TellsLeft (portals_of (frames_of portals.now)) hull.now.lefts.items hull.now.rights.items hull.now.cones.items new right result }
+    ensures { TellsLeft (portals_of (frames_of portals.now)) hull.now.lefts hull.now.rights hull.now.cones.items new right result }
 {
     match &hull.cones[hull.cones.len() - 1] {
         Cone::Ray(_) => Tells::Unseen,
@@ -87,12 +86,12 @@ fn pass_right<N: Copy>(
     new: EndAt,
     note: N,
 ) -> Result<Told, Memory>
-    requires sleeve { IsSleeve (frames_of portals.old.items) hull.now.lefts.items hull.now.rights.items hull.now.cones.items }
+    requires sleeve { IsSleeve (frames_of portals.old.items) hull.now.lefts hull.now.rights hull.now.cones.items }
     requires last { HasLastLeft (portals_of (frames_of portals.old.items)) left }
     requires few { length portals.old.items < RIGHT_END }
     requires code { new.code ≡ length portals.old.items + RIGHT_END }
-    requires covered { IsCoveredRight hull.now.rights.items hull.now.cones.items new.at }
-    ensures { GoesOn portals.old.items note (record { left = left; right = new.at }) portals.new.items hull.now.lefts.items hull.now.rights.items hull.now.cones.items result }
+    requires covered { IsCoveredRight hull.now.rights hull.now.cones.items new.at }
+    ensures { GoesOn portals.old.items note (record { left = left; right = new.at }) portals.new.items hull.now.lefts hull.now.rights hull.now.cones.items result }
 {
     portals.reserve(1)?;
     let frame = frame_over(hull, left, new.at);
@@ -109,12 +108,12 @@ fn pass_left<N: Copy>(
     right: Pt,
     note: N,
 ) -> Result<Told, Memory>
-    requires sleeve { IsSleeve (frames_of portals.old.items) hull.now.lefts.items hull.now.rights.items hull.now.cones.items }
+    requires sleeve { IsSleeve (frames_of portals.old.items) hull.now.lefts hull.now.rights hull.now.cones.items }
     requires last { HasLastRight (portals_of (frames_of portals.old.items)) right }
     requires few { length portals.old.items < RIGHT_END }
     requires code { new.code ≡ length portals.old.items }
-    requires covered { IsCoveredLeft hull.now.lefts.items hull.now.cones.items new.at }
-    ensures { GoesOn portals.old.items note (record { left = new.at; right = right }) portals.new.items hull.now.lefts.items hull.now.rights.items hull.now.cones.items result }
+    requires covered { IsCoveredLeft hull.now.lefts hull.now.cones.items new.at }
+    ensures { GoesOn portals.old.items note (record { left = new.at; right = right }) portals.new.items hull.now.lefts hull.now.rights hull.now.cones.items result }
 {
     portals.reserve(1)?;
     let frame = frame_over(hull, new.at, right);
@@ -132,24 +131,30 @@ fn add_right<N: Copy>(
     moves: bool,
     note: N,
 ) -> Result<Told, Memory>
-    requires sleeve { IsSleeve (frames_of portals.old.items) hull.old.lefts.items hull.old.rights.items hull.old.cones.items }
+    requires sleeve { IsSleeve (frames_of portals.old.items) hull.old.lefts hull.old.rights hull.old.cones.items }
     requires last { HasLastLeft (portals_of (frames_of portals.old.items)) left }
     requires few { length portals.old.items < RIGHT_END }
     requires code { new.code ≡ length portals.old.items + RIGHT_END }
-    requires takes { TakesRight hull.old.lefts.items hull.old.rights.items hull.old.cones.items new moves }
-    ensures { GoesOn portals.old.items note (record { left = left; right = new.at }) portals.new.items hull.new.lefts.items hull.new.rights.items hull.new.cones.items result }
+    requires takes { TakesRight hull.old.lefts hull.old.rights hull.old.cones.items new moves }
+    ensures { GoesOn portals.old.items note (record { left = left; right = new.at }) portals.new.items hull.new.lefts hull.new.rights hull.new.cones.items result }
 {
     portals.reserve(1)?;
-    hull.rights.reserve(1)?;
+    let count = hull.rights.len();
+    hull.rights.push(new)?;
     if moves {
         // a copy, since the end itself then needn't stand in memory
         let copy = EndAt {
             code: new.code,
             at: new.at,
         };
-        stack_right(&mut hull.cones, hull.lefts.as_slice(), copy)?;
+        match stack_right(&mut hull.cones, hull.lefts.as_slice(), copy) {
+            Ok(()) => {}
+            Err(memory) => {
+                hull.rights.truncate(count);
+                return Err(memory);
+            }
+        }
     }
-    hull.rights.push_reserved(new);
     let frame = frame_over(hull, left, new.at);
     portals.push_reserved(Noted { frame, note });
     Ok(Told::Open)
@@ -165,24 +170,30 @@ fn add_left<N: Copy>(
     moves: bool,
     note: N,
 ) -> Result<Told, Memory>
-    requires sleeve { IsSleeve (frames_of portals.old.items) hull.old.lefts.items hull.old.rights.items hull.old.cones.items }
+    requires sleeve { IsSleeve (frames_of portals.old.items) hull.old.lefts hull.old.rights hull.old.cones.items }
     requires last { HasLastRight (portals_of (frames_of portals.old.items)) right }
     requires few { length portals.old.items < RIGHT_END }
     requires code { new.code ≡ length portals.old.items }
-    requires takes { TakesLeft hull.old.lefts.items hull.old.rights.items hull.old.cones.items new moves }
-    ensures { GoesOn portals.old.items note (record { left = new.at; right = right }) portals.new.items hull.new.lefts.items hull.new.rights.items hull.new.cones.items result }
+    requires takes { TakesLeft hull.old.lefts hull.old.rights hull.old.cones.items new moves }
+    ensures { GoesOn portals.old.items note (record { left = new.at; right = right }) portals.new.items hull.new.lefts hull.new.rights hull.new.cones.items result }
 {
     portals.reserve(1)?;
-    hull.lefts.reserve(1)?;
+    let count = hull.lefts.len();
+    hull.lefts.push(new)?;
     if moves {
         // a copy, since the end itself then needn't stand in memory
         let copy = EndAt {
             code: new.code,
             at: new.at,
         };
-        stack_left(&mut hull.cones, hull.rights.as_slice(), copy)?;
+        match stack_left(&mut hull.cones, hull.rights.as_slice(), copy) {
+            Ok(()) => {}
+            Err(memory) => {
+                hull.lefts.truncate(count);
+                return Err(memory);
+            }
+        }
     }
-    hull.lefts.push_reserved(new);
     let frame = frame_over(hull, new.at, right);
     portals.push_reserved(Noted { frame, note });
     Ok(Told::Open)
@@ -197,11 +208,11 @@ pub fn add_by_search<N: Copy>(
     right: Pt,
     note: N,
 ) -> Result<Passed, Memory>
-    requires sleeve { IsSleeve (frames_of portals.old.items) hull.old.lefts.items hull.old.rights.items hull.old.cones.items }
+    requires sleeve { IsSleeve (frames_of portals.old.items) hull.old.lefts hull.old.rights hull.old.cones.items }
     requires there { 0 < length portals.old.items }
     requires few { length portals.old.items < RIGHT_END }
     requires proper { left ≢ right }
-    ensures { GoesOn portals.old.items note (record { left = left; right = right }) portals.new.items hull.new.lefts.items hull.new.rights.items hull.new.cones.items (told_of result) }
+    ensures { GoesOn portals.old.items note (record { left = left; right = right }) portals.new.items hull.new.lefts hull.new.rights hull.new.cones.items (told_of result) }
 {
     portals.reserve(1)?;
     let top = portals[portals.len() - 1].frame;
@@ -214,23 +225,19 @@ pub fn add_by_search<N: Copy>(
         code: place + RIGHT_END,
         at: right,
     };
-    let added = hull.add(&top, left_end, right_end);
-    let stuck = match added {
-        Ok(stuck) => stuck,
-        Err(memory) => {
-            hull.cut(&top);
-            return Err(memory);
-        }
-    };
-    match stuck {
-        None => {
+    match hull.add(left_end, right_end) {
+        Ok(None) => {
             let frame = frame_over(hull, left, right);
             portals.push_reserved(Noted { frame, note });
             Ok(Passed::Open)
         }
-        Some(pairs) => {
+        Ok(Some(pairs)) => {
             hull.cut(&top);
             Ok(Passed::Stuck(four(&pairs)))
+        }
+        Err(memory) => {
+            hull.cut(&top);
+            Err(memory)
         }
     }
 }
@@ -244,11 +251,11 @@ pub fn go_left<N: Copy>(
     right: Pt,
     note: N,
 ) -> Result<Told, Memory>
-    requires sleeve { IsSleeve (frames_of portals.old.items) hull.old.lefts.items hull.old.rights.items hull.old.cones.items }
+    requires sleeve { IsSleeve (frames_of portals.old.items) hull.old.lefts hull.old.rights hull.old.cones.items }
     requires last { HasLastLeft (portals_of (frames_of portals.old.items)) left }
     requires few { length portals.old.items < RIGHT_END }
     requires proper { left ≢ right }
-    ensures { GoesOn portals.old.items note (record { left = left; right = right }) portals.new.items hull.new.lefts.items hull.new.rights.items hull.new.cones.items result }
+    ensures { GoesOn portals.old.items note (record { left = left; right = right }) portals.new.items hull.new.lefts hull.new.rights hull.new.cones.items result }
 {
     let new = EndAt {
         code: portals.len() as u16 + RIGHT_END,
@@ -271,11 +278,11 @@ pub fn go_right<N: Copy>(
     right: Pt,
     note: N,
 ) -> Result<Told, Memory>
-    requires sleeve { IsSleeve (frames_of portals.old.items) hull.old.lefts.items hull.old.rights.items hull.old.cones.items }
+    requires sleeve { IsSleeve (frames_of portals.old.items) hull.old.lefts hull.old.rights hull.old.cones.items }
     requires last { HasLastRight (portals_of (frames_of portals.old.items)) right }
     requires few { length portals.old.items < RIGHT_END }
     requires proper { left ≢ right }
-    ensures { GoesOn portals.old.items note (record { left = left; right = right }) portals.new.items hull.new.lefts.items hull.new.rights.items hull.new.cones.items result }
+    ensures { GoesOn portals.old.items note (record { left = left; right = right }) portals.new.items hull.new.lefts hull.new.rights hull.new.cones.items result }
 {
     let new = EndAt {
         code: portals.len() as u16,

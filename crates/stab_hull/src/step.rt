@@ -3,9 +3,11 @@
 ghost use Rattle.std.specs.Prelude.{List, ◌++◌, ◌∷◌, [], pos, ◌<ℤ◌};
 ghost use Rattle.sight_names.specs.declared.names.EndAt.{EndAt as End};
 ghost use Rattle.geom_exact.specs.declared.extreme_lines.cone.Cone.TheVariants.{Open};
+ghost use Rattle.stab_hull.specs.Chains.{HasSteps, kept_ends};
 ghost use Rattle.stab_hull.specs.Stacks.{IsConeOfEnds, IsStepTo};
 ghost use Rattle.geom_exact.specs.ExtremeLines.Spans.{form_at};
 
+use crate::chain::Kept;
 use crate::slope::Slope;
 use geom_exact::extreme_lines::{Cone, Wedge, widen_first, widen_second};
 use sight_names::{EndAt, EndPair};
@@ -23,15 +25,15 @@ pub enum Step {
 
 /// The wedge with the lines from all right ends to a new left end that is left of the first line, so that the first line
 /// stays, and one value tells of each of the others.
-fn second_to_left(wedge: &Wedge, rights: &[EndAt], left: EndAt) -> Wedge
-    requires cone { (lefts : List End) × IsConeOfEnds lefts rights.now (Open wedge.now) }
+fn second_to_left(wedge: &Wedge, rights: &[Kept], left: EndAt) -> Wedge
+    requires cone { (lefts : List End) × IsConeOfEnds lefts (kept_ends rights.now) (Open wedge.now) }
     requires beyond { pos 0 <ℤ form_at wedge.now.first left.at }
-    ensures { (lefts : List End) → IsConeOfEnds lefts rights.now (Open wedge.now) → IsConeOfEnds (lefts ++ left ∷ []) rights.now (Open result) }
+    ensures { (lefts : List End) → IsConeOfEnds lefts (kept_ends rights.now) (Open wedge.now) → IsConeOfEnds (lefts ++ left ∷ []) (kept_ends rights.now) (Open result) }
 {
     let mut wide = *wedge;
     let mut value = wide.second.value(left.at);
     for j in 0..rights.len() {
-        let right = rights[j];
+        let right = rights[j].end;
         let turn = value - wide.second.value(right.at);
         if widen_second(&mut wide, left, right, turn) {
             value = 0;
@@ -43,22 +45,26 @@ fn second_to_left(wedge: &Wedge, rights: &[EndAt], left: EndAt) -> Wedge
 /// The same for a left end that is right of the second line, which stays.
 // in line, since the lines would go through memory
 #[inline(always)]
-pub fn first_to_left(wedge: &Wedge, rights: &[EndAt], left: EndAt) -> Wedge
-    requires cone { (lefts : List End) × IsConeOfEnds lefts rights.now (Open wedge.now) }
+pub fn first_to_left(wedge: &Wedge, rights: &[Kept], left: EndAt) -> Wedge
+    requires steps { HasSteps rights.now }
+    requires cone { (lefts : List End) × IsConeOfEnds lefts (kept_ends rights.now) (Open wedge.now) }
     requires beyond { form_at wedge.now.second left.at <ℤ pos 0 }
-    ensures { (lefts : List End) → IsConeOfEnds lefts rights.now (Open wedge.now) → IsConeOfEnds (lefts ++ left ∷ []) rights.now (Open result) }
+    ensures { (lefts : List End) → IsConeOfEnds lefts (kept_ends rights.now) (Open wedge.now) → IsConeOfEnds (lefts ++ left ∷ []) (kept_ends rights.now) (Open result) }
 {
     let mut wide = *wedge;
     let mut slope = Slope::of(&wide.first);
     let mut bound = slope.level(&left.at);
-    for j in 0..rights.len() {
-        let level = slope.level(&rights[j].at);
+    let mut rest = rights.len();
+    while rest > 0 {
+        let kept = &rights[rest - 1];
+        let level = slope.level(&kept.end.at);
         if level >= bound {
-            if widen_first(&mut wide, left, rights[j], bound - level) {
+            if widen_first(&mut wide, left, kept.end, bound - level) {
                 slope = Slope::of(&wide.first);
                 bound = wide.first.c;
             }
         }
+        rest -= kept.step as usize;
     }
     wide
 }
@@ -66,36 +72,40 @@ pub fn first_to_left(wedge: &Wedge, rights: &[EndAt], left: EndAt) -> Wedge
 /// The wedge with the lines from a new right end that is right of the first line, which stays, to all left ends.
 // in line, since the lines would go through memory
 #[inline(always)]
-pub fn second_to_right(wedge: &Wedge, lefts: &[EndAt], right: EndAt) -> Wedge
-    requires cone { (rights : List End) × IsConeOfEnds lefts.now rights (Open wedge.now) }
+pub fn second_to_right(wedge: &Wedge, lefts: &[Kept], right: EndAt) -> Wedge
+    requires steps { HasSteps lefts.now }
+    requires cone { (rights : List End) × IsConeOfEnds (kept_ends lefts.now) rights (Open wedge.now) }
     requires beyond { form_at wedge.now.first right.at <ℤ pos 0 }
-    ensures { (rights : List End) → IsConeOfEnds lefts.now rights (Open wedge.now) → IsConeOfEnds lefts.now (rights ++ right ∷ []) (Open result) }
+    ensures { (rights : List End) → IsConeOfEnds (kept_ends lefts.now) rights (Open wedge.now) → IsConeOfEnds (kept_ends lefts.now) (rights ++ right ∷ []) (Open result) }
 {
     let mut wide = *wedge;
     let mut slope = Slope::of(&wide.second);
     let mut bound = slope.level(&right.at);
-    for i in 0..lefts.len() {
-        let level = slope.level(&lefts[i].at);
+    let mut rest = lefts.len();
+    while rest > 0 {
+        let kept = &lefts[rest - 1];
+        let level = slope.level(&kept.end.at);
         if level >= bound {
-            if widen_second(&mut wide, lefts[i], right, level - bound) {
+            if widen_second(&mut wide, kept.end, right, level - bound) {
                 slope = Slope::of(&wide.second);
                 bound = wide.second.c;
             }
         }
+        rest -= kept.step as usize;
     }
     wide
 }
 
 /// The same for a right end that is left of the second line, which stays.
-fn first_to_right(wedge: &Wedge, lefts: &[EndAt], right: EndAt) -> Wedge
-    requires cone { (rights : List End) × IsConeOfEnds lefts.now rights (Open wedge.now) }
+fn first_to_right(wedge: &Wedge, lefts: &[Kept], right: EndAt) -> Wedge
+    requires cone { (rights : List End) × IsConeOfEnds (kept_ends lefts.now) rights (Open wedge.now) }
     requires beyond { pos 0 <ℤ form_at wedge.now.second right.at }
-    ensures { (rights : List End) → IsConeOfEnds lefts.now rights (Open wedge.now) → IsConeOfEnds lefts.now (rights ++ right ∷ []) (Open result) }
+    ensures { (rights : List End) → IsConeOfEnds (kept_ends lefts.now) rights (Open wedge.now) → IsConeOfEnds (kept_ends lefts.now) (rights ++ right ∷ []) (Open result) }
 {
     let mut wide = *wedge;
     let mut value = wide.first.value(right.at);
     for i in 0..lefts.len() {
-        let left = lefts[i];
+        let left = lefts[i].end;
         let turn = wide.first.value(left.at) - value;
         if widen_first(&mut wide, left, right, turn) {
             value = 0;
@@ -105,12 +115,12 @@ fn first_to_right(wedge: &Wedge, lefts: &[EndAt], right: EndAt) -> Wedge
 }
 
 /// The cone with the lines from all right ends to the new left end.
-fn left_against_each(cone: &Cone, rights: &[EndAt], left: EndAt) -> Step
-    ensures { (lefts : List End) → IsConeOfEnds lefts rights.now cone.now → IsStepTo (lefts ++ left ∷ []) rights.now cone.now result }
+fn left_against_each(cone: &Cone, rights: &[Kept], left: EndAt) -> Step
+    ensures { (lefts : List End) → IsConeOfEnds lefts (kept_ends rights.now) cone.now → IsStepTo (lefts ++ left ∷ []) (kept_ends rights.now) cone.now result }
 {
     let mut wide = *cone;
     for j in 0..rights.len() {
-        let right = rights[j];
+        let right = rights[j].end;
         if !wide.covers(left.at, right.at) {
             match wide.with(left, right) {
                 Some(wider) => wide = wider,
@@ -122,12 +132,12 @@ fn left_against_each(cone: &Cone, rights: &[EndAt], left: EndAt) -> Step
 }
 
 /// The cone with the lines from the new right end to all left ends.
-fn right_against_each(cone: &Cone, lefts: &[EndAt], right: EndAt) -> Step
-    ensures { (rights : List End) → IsConeOfEnds lefts.now rights cone.now → IsStepTo lefts.now (rights ++ right ∷ []) cone.now result }
+fn right_against_each(cone: &Cone, lefts: &[Kept], right: EndAt) -> Step
+    ensures { (rights : List End) → IsConeOfEnds (kept_ends lefts.now) rights cone.now → IsStepTo (kept_ends lefts.now) (rights ++ right ∷ []) cone.now result }
 {
     let mut wide = *cone;
     for i in 0..lefts.len() {
-        let left = lefts[i];
+        let left = lefts[i].end;
         if !wide.covers(left.at, right.at) {
             match wide.with(left, right) {
                 Some(wider) => wide = wider,
@@ -139,9 +149,10 @@ fn right_against_each(cone: &Cone, lefts: &[EndAt], right: EndAt) -> Step
 }
 
 /// The cone with the lines from all right ends to the new left end.
-fn left_against_all(cone: &Cone, rights: &[EndAt], left: EndAt) -> Step
-    requires { (lefts : List End) × IsConeOfEnds lefts rights.now cone.now }
-    ensures { (lefts : List End) → IsConeOfEnds lefts rights.now cone.now → IsStepTo (lefts ++ left ∷ []) rights.now cone.now result }
+fn left_against_all(cone: &Cone, rights: &[Kept], left: EndAt) -> Step
+    requires steps { HasSteps rights.now }
+    requires cone { (lefts : List End) × IsConeOfEnds lefts (kept_ends rights.now) cone.now }
+    ensures { (lefts : List End) → IsConeOfEnds lefts (kept_ends rights.now) cone.now → IsStepTo (lefts ++ left ∷ []) (kept_ends rights.now) cone.now result }
 {
     if let Cone::Open(wedge) = cone {
         if wedge.first.value(left.at) > 0 {
@@ -155,9 +166,10 @@ fn left_against_all(cone: &Cone, rights: &[EndAt], left: EndAt) -> Step
 }
 
 /// The cone with the lines from the new right end to all left ends.
-fn right_against_all(cone: &Cone, lefts: &[EndAt], right: EndAt) -> Step
-    requires { (rights : List End) × IsConeOfEnds lefts.now rights cone.now }
-    ensures { (rights : List End) → IsConeOfEnds lefts.now rights cone.now → IsStepTo lefts.now (rights ++ right ∷ []) cone.now result }
+fn right_against_all(cone: &Cone, lefts: &[Kept], right: EndAt) -> Step
+    requires steps { HasSteps lefts.now }
+    requires cone { (rights : List End) × IsConeOfEnds (kept_ends lefts.now) rights cone.now }
+    ensures { (rights : List End) → IsConeOfEnds (kept_ends lefts.now) rights cone.now → IsStepTo (kept_ends lefts.now) (rights ++ right ∷ []) cone.now result }
 {
     if let Cone::Open(wedge) = cone {
         if wedge.first.value(right.at) < 0 {
@@ -172,9 +184,10 @@ fn right_against_all(cone: &Cone, lefts: &[EndAt], right: EndAt) -> Step
 
 /// What a new left end does. In a walk it lies right of the second line, where that line stays and the first one may move;
 /// or no line splits it from the right end of the second line. Only other left ends are looked at against all right ends.
-pub fn left_step(cone: &Cone, rights: &[EndAt], left: EndAt) -> Step
-    requires { (lefts : List End) × IsConeOfEnds lefts rights.now cone.now }
-    ensures { (lefts : List End) → IsConeOfEnds lefts rights.now cone.now → IsStepTo (lefts ++ left ∷ []) rights.now cone.now result }
+pub fn left_step(cone: &Cone, rights: &[Kept], left: EndAt) -> Step
+    requires steps { HasSteps rights.now }
+    requires cone { (lefts : List End) × IsConeOfEnds lefts (kept_ends rights.now) cone.now }
+    ensures { (lefts : List End) → IsConeOfEnds lefts (kept_ends rights.now) cone.now → IsStepTo (lefts ++ left ∷ []) (kept_ends rights.now) cone.now result }
 {
     if let Cone::Open(wedge) = cone {
         let of_first = wedge.first.value(left.at);
@@ -193,9 +206,10 @@ pub fn left_step(cone: &Cone, rights: &[EndAt], left: EndAt) -> Step
 
 /// What a new right end does. In a walk it lies right of the first line, where that line stays and the second one may move;
 /// or no line splits it from the left end of the first line. Only other right ends are looked at against all left ends.
-pub fn right_step(cone: &Cone, lefts: &[EndAt], right: EndAt) -> Step
-    requires { (rights : List End) × IsConeOfEnds lefts.now rights cone.now }
-    ensures { (rights : List End) → IsConeOfEnds lefts.now rights cone.now → IsStepTo lefts.now (rights ++ right ∷ []) cone.now result }
+pub fn right_step(cone: &Cone, lefts: &[Kept], right: EndAt) -> Step
+    requires steps { HasSteps lefts.now }
+    requires cone { (rights : List End) × IsConeOfEnds (kept_ends lefts.now) rights cone.now }
+    ensures { (rights : List End) → IsConeOfEnds (kept_ends lefts.now) rights cone.now → IsStepTo (kept_ends lefts.now) (rights ++ right ∷ []) cone.now result }
 {
     if let Cone::Open(wedge) = cone {
         let of_second = wedge.second.value(right.at);

@@ -1,16 +1,17 @@
 //! Portals that a line passes, each with an end of the one before and a note of whoever goes through them.
 
-ghost use Rattle.std.specs.Prelude.{◌≡◌, ◌≢◌, ◌++◌, ◌∷◌, [], ◌<◌, ◌≤◌, length, take, OnOk, OnErr};
-ghost use Rattle.sight_names.specs.Splitting.{SplitsEnds};
+ghost use Rattle.std.specs.Prelude.{◌≡◌, ◌≢◌, ◌∷◌, [], ◌<◌, ◌≤◌, List, length, take, OnOk, OnErr};
+ghost use Rattle.sight_names.specs.Splitting.{EndPoints, SplitsEnds};
 ghost use Rattle.stab_hull.specs.Answer.{IsLineInRange};
-ghost use Rattle.stab_hull.specs.Portals.{portals_of};
+ghost use Rattle.stab_hull.specs.Portals.{IsConeOf};
 ghost use Rattle.stab_hull.specs.Sleeves.{GoesOnTo, HasLastLeft, HasLastRight, IsTrack, ends_of, notes_of, told_of};
 
 use crate::Passed;
+use crate::chain::Chain;
 use crate::frame::Noted;
-use crate::history::{frame_over, line_of};
-use crate::hull::Hull;
+use crate::hull::{Hull, frame_over};
 use crate::onward::{Told, add_by_search, go_left, go_right};
+use geom_exact::extreme_lines::Cone;
 use sight_names::{EndAt, Memory, Pt, RIGHT_END};
 use std::alloc::Global;
 
@@ -22,6 +23,16 @@ pub struct Track<N> {
     pub hull: Hull,
 }
 
+/// The line in the middle of the cone of some portals.
+fn line_of(cone: &Cone) -> (i32, i32, i64)
+    requires { (es : List EndPoints) × IsConeOf es cone.now }
+    ensures splits { (es : List EndPoints) → IsConeOf es cone.now → SplitsEnds es result.0 result.1 result.2 }
+    ensures range { IsLineInRange result.0 result.1 result.2 }
+{
+    let cut = cone.cut();
+    (cut.a, cut.b, cut.c)
+}
+
 impl<N: Copy> Track<N> {
     /// No portal.
     pub fn new(alloc: Global) -> Track<N>
@@ -31,8 +42,8 @@ impl<N: Copy> Track<N> {
         Track {
             portals: Vec::new(alloc),
             hull: Hull {
-                lefts: Vec::new(alloc),
-                rights: Vec::new(alloc),
+                lefts: Chain::new(alloc),
+                rights: Chain::new(alloc),
                 cones: Vec::new(alloc),
             },
         }

@@ -4,10 +4,12 @@ ghost use Rattle.std.specs.Prelude.{◌<◌, ◌++◌, ◌∷◌, [], length, Li
 ghost use Rattle.sight_names.specs.declared.names.EndAt.{EndAt as End};
 ghost use Rattle.block_evidence.specs.OneTurn.{AreLines};
 ghost use Rattle.geom_exact.specs.ExtremeLines.Spans.{pair_of};
+ghost use Rattle.stab_hull.specs.Chains.{HasSteps, kept_ends};
 ghost use Rattle.stab_hull.specs.Stacks.{IsTopCone, KeepsFirst};
 ghost use Rattle.stab_hull.specs.Turning.{IsRightTurn, IsLeftTurn, MovesRight, MovesLeft};
 
 use crate::bars::{left_bars, right_bars};
+use crate::chain::Kept;
 use crate::step::{first_to_left, second_to_right};
 use block_evidence::Evidence;
 use geom_exact::extreme_lines::{Cone, Wedge};
@@ -79,11 +81,12 @@ pub fn left_turn(wedge: &Wedge, new: EndAt) -> Turn
 
 /// Stacks the lines of the last cone with a new right end, which is right of the first one.
 #[inline(never)]
-pub fn stack_right(cones: &mut Vec<Cone>, lefts: &[EndAt], right: EndAt) -> Result<(), Memory>
-    requires { MovesRight lefts.now cones.old.items right }
+pub fn stack_right(cones: &mut Vec<Cone>, lefts: &[Kept], right: EndAt) -> Result<(), Memory>
+    requires steps { HasSteps lefts.now }
+    requires moves { MovesRight (kept_ends lefts.now) cones.old.items right }
     ensures kept { KeepsFirst (length cones.old.items) cones.old.items cones.new.items }
     ensures err { OnErr result (cones.new.items ≡ cones.old.items) }
-    ensures top { IfOk result (λ _. (rights : List End) → IsTopCone lefts.now rights cones.old.items → IsTopCone lefts.now (rights ++ right ∷ []) cones.new.items) }
+    ensures top { IfOk result (λ _. (rights : List End) → IsTopCone (kept_ends lefts.now) rights cones.old.items → IsTopCone (kept_ends lefts.now) (rights ++ right ∷ []) cones.new.items) }
 {
     cones.reserve(1)?;
     if let Cone::Open(wedge) = &cones[cones.len() - 1] {
@@ -95,11 +98,12 @@ pub fn stack_right(cones: &mut Vec<Cone>, lefts: &[EndAt], right: EndAt) -> Resu
 
 /// Stacks the lines of the last cone with a new left end, which is right of the second one.
 #[inline(never)]
-pub fn stack_left(cones: &mut Vec<Cone>, rights: &[EndAt], left: EndAt) -> Result<(), Memory>
-    requires { MovesLeft rights.now cones.old.items left }
+pub fn stack_left(cones: &mut Vec<Cone>, rights: &[Kept], left: EndAt) -> Result<(), Memory>
+    requires steps { HasSteps rights.now }
+    requires moves { MovesLeft (kept_ends rights.now) cones.old.items left }
     ensures kept { KeepsFirst (length cones.old.items) cones.old.items cones.new.items }
     ensures err { OnErr result (cones.new.items ≡ cones.old.items) }
-    ensures top { IfOk result (λ _. (lefts : List End) → IsTopCone lefts rights.now cones.old.items → IsTopCone (lefts ++ left ∷ []) rights.now cones.new.items) }
+    ensures top { IfOk result (λ _. (lefts : List End) → IsTopCone lefts (kept_ends rights.now) cones.old.items → IsTopCone (lefts ++ left ∷ []) (kept_ends rights.now) cones.new.items) }
 {
     cones.reserve(1)?;
     if let Cone::Open(wedge) = &cones[cones.len() - 1] {

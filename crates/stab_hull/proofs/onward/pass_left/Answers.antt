@@ -8,8 +8,8 @@ pub returns : goal.returns
 returns g c =
     let xs = c.args.portals.now.items in
     let fs = frames_of xs in
-    let ls = c.args.hull.now.lefts.items in
-    let rs = c.args.hull.now.rights.items in
+    let ls = c.args.hull.now.lefts in
+    let rs = c.args.hull.now.rights in
     let cs = c.args.hull.now.cones.items in
     let x = noted c.frame_over-frame.result c.args.note in
     let many = as_many_frames xs in

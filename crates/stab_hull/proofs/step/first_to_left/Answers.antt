@@ -1,49 +1,49 @@
-use Rattle.std.proofs.Common.{arith, get_or, refl, sym, ◌∙◌, subst, to_z, w64}
+use Rattle.std.proofs.Common.{arith, length, refl, sym, ◌-◌, subst, to_z, w64}
 use Rattle.std.proofs.lemmas.Int.{ints}
-use Rattle.std.proofs.lemmas.Option.{slice_get-get_or}
 use Rattle.geom_exact.specs.declared.extreme_lines.extreme.Extreme.{Extreme}
 use Rattle.geom_exact.specs.declared.extreme_lines.cone.Cone.TheVariants.{Open}
-use Rattle.stab_hull.proofs.StepLemmas.{no_end, left_start, left_more, left_whole}
+use Rattle.stab_hull.specs.Chains.{kept_ends}
+use Rattle.stab_hull.proofs.StepLemmas.{From, left_start}
 use Rattle.stab_hull.proofs.OneLine.{beyond_second_left, level_left}
-use Rattle.stab_hull.proofs.Scanning.{IsSlopeOf, IsLevelAt, level_at, kept_level, level_on, turn_by, left_passed}
+use Rattle.stab_hull.proofs.Looking.{kept_from, look_start, next_of, next_at, step_fits, step_falls}
+use Rattle.stab_hull.proofs.Scanning.{IsSlopeOf, IsLevelAt, level_at, kept_level, level_on, turn_by, left_passed, left_looks, left_looked}
 use Rattle.stab_hull.proofs.step.first_to_left.Goals as goal
 use Rattle.stab_hull.proofs.step.first_to_left.Goals.{then-level-bound+then-widen_first, then-level-bound+else-widen_first, else-level-bound}
 
-pub loop-j-init : goal.loop-j-init
-loop-j-init c = record {
+pub loop-rest-init : goal.loop-rest-init
+loop-rest-init c = record {
   second = refl;
   slope = record { a = c.of-slope.ensures.a; b = c.of-slope.ensures.b };
   level = kept_level c.args.wedge.now.first c.args.left.at c.level-bound.result (level_at c.args.wedge.now.first c.of-slope.result c.args.left.at c.level-bound.result (record { a = c.of-slope.ensures.a; b = c.of-slope.ensures.b }) c.level-bound.ensures.value c.level-bound.ensures.bound);
-  part = λ lefts h. left_start lefts c.args.rights.now c.args.left (Open c.args.wedge.now) h;
+  top = length c.args.rights.now;
+  look = look_start c.args.rights.now;
+  part = λ lefts h. left_start lefts (kept_ends c.args.rights.now) c.args.left (From (length c.args.rights.now)) (Open c.args.wedge.now) (kept_from c.args.rights.now) h;
 }
 
 pub widen_first-requires-clause-within : goal.widen_first-requires-clause-within
-widen_first-requires-clause-within c = beyond_second_left c.requires.cone.0 c.args.rights.now c.args.left (get_or c.args.rights.now c.loop-j.j no_end) c.args.wedge.now c.loop-j.wide c.loop-j.j c.requires.cone.1 (slice_get-get_or c.args.rights.now c.loop-j.j no_end c.loop-j-test.true) c.requires.beyond c.loop-j.invariant.second
+widen_first-requires-clause-within c = beyond_second_left c.requires.cone.0 (kept_ends c.args.rights.now) c.args.left (next_of c.args.rights.now c.loop-rest.rest).end c.args.wedge.now c.loop-rest.wide (c.loop-rest.rest - 1) c.requires.cone.1 (next_at c.args.rights.now c.loop-rest.rest c.loop-rest.invariant.top c.loop-rest.invariant.look c.loop-rest-test.true) c.requires.beyond c.loop-rest.invariant.second
 
 pub widen_first-requires-clause-turn : goal.widen_first-requires-clause-turn
-widen_first-requires-clause-turn c = turn_by c.loop-j.wide.first c.args.left.at (get_or c.args.rights.now c.loop-j.j no_end).at _ _ c.loop-j.invariant.level (kept_level c.loop-j.wide.first (get_or c.args.rights.now c.loop-j.j no_end).at c.level-level.result (level_at c.loop-j.wide.first c.loop-j.slope (get_or c.args.rights.now c.loop-j.j no_end).at c.level-level.result c.loop-j.invariant.slope c.level-level.ensures.value c.level-level.ensures.bound))
+widen_first-requires-clause-turn c = turn_by c.loop-rest.wide.first c.args.left.at (next_of c.args.rights.now c.loop-rest.rest).end.at _ _ c.loop-rest.invariant.level (kept_level c.loop-rest.wide.first (next_of c.args.rights.now c.loop-rest.rest).end.at c.level-level.result (level_at c.loop-rest.wide.first c.loop-rest.slope (next_of c.args.rights.now c.loop-rest.rest).end.at c.level-level.result c.loop-rest.invariant.slope c.level-level.ensures.value c.level-level.ensures.bound))
 
-pub loop-j-preserved : goal.loop-j-preserved
-loop-j-preserved c = elim c.if-level-bound.branch [
-  | then-level-bound+then-widen_first w ↦ rw (w.wide-is, w.slope-is, w.bound-is) (record {
-    second = w.widen_first.ensures.second ∙ c.loop-j.invariant.second;
-    slope = record { a = w.of-slope-then-widen_first.ensures.a; b = w.of-slope-then-widen_first.ensures.b };
-    level = level_on w.widen_first.new.wedge.first c.args.left.at (level_left w.widen_first.new.wedge.first c.args.left w.if-widen_first.ensures.yes.0);
-    part = λ lefts h. left_more lefts c.args.rights.now c.args.left c.loop-j.j (get_or c.args.rights.now c.loop-j.j no_end) (Open c.loop-j.wide) (Open w.widen_first.new.wedge) (slice_get-get_or c.args.rights.now c.loop-j.j no_end c.loop-j-test.true) w.widen_first.ensures.wider (c.loop-j.invariant.part lefts h);
-  })
-  | then-level-bound+else-widen_first w ↦ rw (w.wide-is, w.slope-is, w.bound-is) (record {
-    second = w.widen_first.ensures.second ∙ c.loop-j.invariant.second;
-    slope = subst (λ (e : Extreme). IsSlopeOf e c.loop-j.slope) (sym w.if-widen_first.ensures.no) c.loop-j.invariant.slope;
-    level = subst (λ (e : Extreme). IsLevelAt e c.args.left.at (to_z w64 c.loop-j.bound-bits)) (sym w.if-widen_first.ensures.no) c.loop-j.invariant.level;
-    part = λ lefts h. left_more lefts c.args.rights.now c.args.left c.loop-j.j (get_or c.args.rights.now c.loop-j.j no_end) (Open c.loop-j.wide) (Open w.widen_first.new.wedge) (slice_get-get_or c.args.rights.now c.loop-j.j no_end c.loop-j-test.true) w.widen_first.ensures.wider (c.loop-j.invariant.part lefts h);
-  })
-  | else-level-bound w ↦ rw (w.wide-is, w.slope-is, w.bound-is) (record {
-    second = c.loop-j.invariant.second;
-    slope = c.loop-j.invariant.slope;
-    level = c.loop-j.invariant.level;
-    part = λ lefts h. left_passed lefts c.args.rights.now c.args.left (get_or c.args.rights.now c.loop-j.j no_end) c.args.wedge.now c.loop-j.wide c.loop-j.j _ _ h c.requires.beyond c.loop-j.invariant.second (slice_get-get_or c.args.rights.now c.loop-j.j no_end c.loop-j-test.true) (kept_level c.loop-j.wide.first (get_or c.args.rights.now c.loop-j.j no_end).at c.level-level.result (level_at c.loop-j.wide.first c.loop-j.slope (get_or c.args.rights.now c.loop-j.j no_end).at c.level-level.result c.loop-j.invariant.slope c.level-level.ensures.value c.level-level.ensures.bound)) c.loop-j.invariant.level (let f = w.if-level-bound.false in omega (arith, ints)) (c.loop-j.invariant.part lefts h);
-  })
+pub overflow_sub-rest : goal.overflow_sub-rest
+overflow_sub-rest c = step_fits c.args.rights.now c.loop-rest.rest c.loop-rest.invariant.top c.requires.steps c.loop-rest.invariant.look c.loop-rest-test.true
+
+pub loop-rest-smaller : goal.loop-rest-smaller
+loop-rest-smaller c = step_falls c.args.rights.now c.loop-rest.rest c.loop-rest.invariant.top c.requires.steps c.loop-rest.invariant.look c.loop-rest-test.true
+
+pub loop-rest-preserved : goal.loop-rest-preserved
+loop-rest-preserved c = elim c.if-level-bound.branch [
+  | then-level-bound+then-widen_first w ↦ rw (w.wide-is, w.slope-is, w.bound-is) (left_looks c.args.rights.now c.args.left c.args.wedge.now c.loop-rest.wide w.widen_first.new.wedge c.loop-rest.rest _ _ _ _ c.requires.steps c.loop-rest-test.true c.loop-rest.invariant w.widen_first.ensures.wider w.widen_first.ensures.second
+      (record { a = w.of-slope-then-widen_first.ensures.a; b = w.of-slope-then-widen_first.ensures.b })
+      (level_on w.widen_first.new.wedge.first c.args.left.at (level_left w.widen_first.new.wedge.first c.args.left w.if-widen_first.ensures.yes.0)))
+  | then-level-bound+else-widen_first w ↦ rw (w.wide-is, w.slope-is, w.bound-is) (left_looks c.args.rights.now c.args.left c.args.wedge.now c.loop-rest.wide w.widen_first.new.wedge c.loop-rest.rest _ _ _ _ c.requires.steps c.loop-rest-test.true c.loop-rest.invariant w.widen_first.ensures.wider w.widen_first.ensures.second
+      (subst (λ (e : Extreme). IsSlopeOf e c.loop-rest.slope) (sym w.if-widen_first.ensures.no) c.loop-rest.invariant.slope)
+      (subst (λ (e : Extreme). IsLevelAt e c.args.left.at (to_z w64 c.loop-rest.bound-bits)) (sym w.if-widen_first.ensures.no) c.loop-rest.invariant.level))
+  | else-level-bound w ↦ rw (w.wide-is, w.slope-is, w.bound-is) (left_looks c.args.rights.now c.args.left c.args.wedge.now c.loop-rest.wide c.loop-rest.wide c.loop-rest.rest _ _ _ _ c.requires.steps c.loop-rest-test.true c.loop-rest.invariant
+      (left_passed c.requires.cone.0 (kept_ends c.args.rights.now) c.args.left (next_of c.args.rights.now c.loop-rest.rest).end c.args.wedge.now c.loop-rest.wide (c.loop-rest.rest - 1) _ _ c.requires.cone.1 c.requires.beyond c.loop-rest.invariant.second (next_at c.args.rights.now c.loop-rest.rest c.loop-rest.invariant.top c.loop-rest.invariant.look c.loop-rest-test.true) (kept_level c.loop-rest.wide.first (next_of c.args.rights.now c.loop-rest.rest).end.at c.level-level.result (level_at c.loop-rest.wide.first c.loop-rest.slope (next_of c.args.rights.now c.loop-rest.rest).end.at c.level-level.result c.loop-rest.invariant.slope c.level-level.ensures.value c.level-level.ensures.bound)) c.loop-rest.invariant.level (let f = w.if-level-bound.false in omega (arith, ints)))
+      refl c.loop-rest.invariant.slope c.loop-rest.invariant.level)
 ]
 
 pub returns : goal.returns
-returns c = λ lefts h. left_whole lefts c.args.rights.now c.args.left c.loop-j.j (Open c.loop-j.wide) c.loop-j-test.false (c.loop-j.invariant.part lefts h)
+returns c = λ lefts h. left_looked c.args.rights.now c.args.left c.args.wedge.now c.loop-rest.wide c.loop-rest.rest _ _ lefts (let t = c.loop-rest-test.false in omega (arith, t)) c.loop-rest.invariant h

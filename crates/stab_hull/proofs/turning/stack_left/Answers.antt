@@ -4,6 +4,7 @@ use Rattle.geom_exact.specs.declared.extreme_lines.cone.Cone.{Cone}
 use Rattle.geom_exact.specs.declared.extreme_lines.cone.Cone.TheVariants.{Open}
 use Rattle.geom_exact.specs.declared.extreme_lines.wedge.Wedge.{Wedge}
 use Rattle.geom_exact.specs.ExtremeLines.Spans.{form_at}
+use Rattle.stab_hull.specs.Chains.{kept_ends}
 use Rattle.stab_hull.specs.Stacks.{IsConeOfEnds, IsTopCone}
 use Rattle.stab_hull.proofs.StepLemmas.{top_cone, top_next}
 use Rattle.stab_hull.proofs.Sleeves.{open_top, same_wedge}
@@ -12,19 +13,19 @@ use Rattle.stab_hull.proofs.turning.stack_left.Goals as goal
 pub first_to_left-wider-requires-clause-cone : goal.first_to_left-wider-requires-clause-cone
 first_to_left-wider-requires-clause-cone c =
     let k : c.len.result ≡ length c.reserve.new.self.items = (let e = c.len.ensures in grind (arith, common_steps)) in
-    (c.requires.lefts, subst (λ (v : Wedge). IsConeOfEnds c.requires.lefts c.args.rights.now (Open v)) (same_wedge c.requires.wedge c.in-Open.wedge (open_top c.args.cones.now.items c.reserve.new.self.items c.len.result c.index.result.now c.requires.wedge c.reserve.ensures.items k c.index.ensures c.requires.last ∙ c.in-Open.is)) c.requires.cone)
+    (c.requires.moves.lefts, subst (λ (v : Wedge). IsConeOfEnds c.requires.moves.lefts (kept_ends c.args.rights.now) (Open v)) (same_wedge c.requires.moves.wedge c.in-Open.wedge (open_top c.args.cones.now.items c.reserve.new.self.items c.len.result c.index.result.now c.requires.moves.wedge c.reserve.ensures.items k c.index.ensures c.requires.moves.last ∙ c.in-Open.is)) c.requires.moves.cone)
 
 pub first_to_left-wider-requires-clause-beyond : goal.first_to_left-wider-requires-clause-beyond
 first_to_left-wider-requires-clause-beyond c =
     let k : c.len.result ≡ length c.reserve.new.self.items = (let e = c.len.ensures in grind (arith, common_steps)) in
-    subst (λ (v : Wedge). form_at v.second c.args.left.at <ℤ pos 0) (same_wedge c.requires.wedge c.in-Open.wedge (open_top c.args.cones.now.items c.reserve.new.self.items c.len.result c.index.result.now c.requires.wedge c.reserve.ensures.items k c.index.ensures c.requires.last ∙ c.in-Open.is)) c.requires.beyond
+    subst (λ (v : Wedge). form_at v.second c.args.left.at <ℤ pos 0) (same_wedge c.requires.moves.wedge c.in-Open.wedge (open_top c.args.cones.now.items c.reserve.new.self.items c.len.result c.index.result.now c.requires.moves.wedge c.reserve.ensures.items k c.index.ensures c.requires.moves.last ∙ c.in-Open.is)) c.requires.moves.beyond
 
 pub returns-in-Open-clause-top : goal.returns-in-Open-clause-top
 returns-in-Open-clause-top c = λ xs h.
     let k : c.len.result ≡ length c.reserve.new.self.items = (let e = c.len.ensures in grind (arith, common_steps)) in
-    top_next (xs ++ c.args.left ∷ []) c.args.rights.now c.reserve.new.self.items c.push_reserved.new.self.items (Open c.first_to_left-wider.result) c.push_reserved.ensures.items (c.first_to_left-wider.ensures xs (subst (λ (d : Cone). IsConeOfEnds xs c.args.rights.now d) c.in-Open.is (top_cone xs c.args.rights.now c.reserve.new.self.items c.len.result c.index.result.now k c.index.ensures (subst (λ (cs : List Cone). IsTopCone xs c.args.rights.now cs) (sym c.reserve.ensures.items) h))))
+    top_next (xs ++ c.args.left ∷ []) (kept_ends c.args.rights.now) c.reserve.new.self.items c.push_reserved.new.self.items (Open c.first_to_left-wider.result) c.push_reserved.ensures.items (c.first_to_left-wider.ensures xs (subst (λ (d : Cone). IsConeOfEnds xs (kept_ends c.args.rights.now) d) c.in-Open.is (top_cone xs (kept_ends c.args.rights.now) c.reserve.new.self.items c.len.result c.index.result.now k c.index.ensures (subst (λ (cs : List Cone). IsTopCone xs (kept_ends c.args.rights.now) cs) (sym c.reserve.ensures.items) h))))
 
 pub returns-in_default-clause-top : goal.returns-in_default-clause-top
 returns-in_default-clause-top c =
     let k : c.len.result ≡ length c.reserve.new.self.items = (let e = c.len.ensures in grind (arith, common_steps)) in
-    absurd (c.in_default.not-Open c.requires.wedge (sym (open_top c.args.cones.now.items c.reserve.new.self.items c.len.result c.index.result.now c.requires.wedge c.reserve.ensures.items k c.index.ensures c.requires.last)))
+    absurd (c.in_default.not-Open c.requires.moves.wedge (sym (open_top c.args.cones.now.items c.reserve.new.self.items c.len.result c.index.result.now c.requires.moves.wedge c.reserve.ensures.items k c.index.ensures c.requires.moves.last)))

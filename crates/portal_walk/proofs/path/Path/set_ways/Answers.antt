@@ -9,7 +9,7 @@ pub invariant_of-self : goal.invariant_of-self
 invariant_of-self c =
     let t = c.self.inside.track in
     let x = c.index_mut.result.now in
-    subst (λ (fs : List Stacked). IsSleeve fs t.hull.lefts.items t.hull.rights.items t.hull.cones.items) (sym (track_set t.portals.items (slice_set t.portals.items c.args.at (renoted x c.args.ways)) c.args.at x c.args.ways c.index_mut.ensures.value refl)) c.self.invariant
+    subst (λ (fs : List Stacked). IsSleeve fs t.hull.lefts t.hull.rights t.hull.cones.items) (sym (track_set t.portals.items (slice_set t.portals.items c.args.at (renoted x c.args.ways)) c.args.at x c.args.ways c.index_mut.ensures.value refl)) c.self.invariant
 
 pub returns : goal.returns
 returns c =

@@ -11,4 +11,4 @@ returns-clause-track g c =
     let right : EndAt = record { code = RIGHT_END; at = c.args.right } in
     let x = noted c.frame_over-frame.result c.args.note in
     let one = c.push_reserved.ensures.items ∙ ap (λ ys. ys ++ x ∷ []) (c.reserve.ensures.items ∙ c.requires.first) in
-    first_sleeve (frames_of c.push_reserved.new.self.items) left right c.frame_over-frame.result c.begin.new.self.lefts.items c.begin.new.self.rights.items c.begin.new.self.cones.items refl refl c.in_ok-begin.ensures.lefts c.in_ok-begin.ensures.rights c.in_ok-begin.ensures.cone c.frame_over-frame.ensures (ap frames_of one)
+    first_sleeve (frames_of c.push_reserved.new.self.items) left right c.frame_over-frame.result c.begin.new.self.lefts c.begin.new.self.rights c.begin.new.self.cones.items refl refl c.in_ok-begin.ensures.lefts c.in_ok-begin.ensures.rights c.in_ok-begin.ensures.cone c.frame_over-frame.ensures (ap frames_of one)

@@ -1,7 +1,7 @@
-use Rattle.std.proofs.Common.{arith, ◌≡◌, ◌-◌, Some, None, length, slice_get, sym, ap, ◌∙◌, subst}
+use Rattle.std.proofs.Common.{◌≡◌, ◌-◌, Some, None, length, slice_get, sym, ap, ◌∙◌, subst}
 use Rattle.std.proofs.lemmas.List.{take-map}
 use Rattle.stab_hull.specs.Sleeves.{frame_of, frames_of}
-use Rattle.stab_hull.proofs.Sleeves.{as_many_frames, cut_to, frame_there, no_last_frame, no_sleeve}
+use Rattle.stab_hull.proofs.Sleeves.{cut_to, frame_there, no_last_frame, no_sleeve}
 use Rattle.stab_hull.proofs.track.Track.cut.Goals as goal
 
 pub returns-in-Some-clause-track : goal.returns-in-Some-clause-track
@@ -9,15 +9,13 @@ returns-in-Some-clause-track g c =
     let t = c.args.self.now in
     let xs = t.portals.items in
     let ys = c.truncate.new.self.items in
-    let m = as_many_frames xs in
-    let r = c.requires.there in
     let shorter = ap frames_of c.truncate.ensures.items ∙ sym (take-map frame_of c.args.count xs) in
     let top = frame_there ys c.in-Some.top.now (subst (λ zs. slice_get zs (length zs - 1) ≡ Some c.in-Some.top.now) c.as_slice.ensures.value (sym c.in-Some.ensures.value)) in
-    cut_to (frames_of xs) (frames_of ys) c.args.count c.in-Some.top.now.frame t.hull.lefts.items t.hull.rights.items c.cut.new.self.lefts.items c.cut.new.self.rights.items t.hull.cones.items c.cut.new.self.cones.items c.requires.track (omega (arith, m, r)) shorter top c.cut.ensures.lefts c.cut.ensures.rights c.cut.ensures.cones
+    cut_to (frames_of xs) (frames_of ys) c.args.count c.in-Some.top.now.frame t.hull.lefts t.hull.rights c.cut.new.self.lefts c.cut.new.self.rights t.hull.cones.items c.cut.new.self.cones.items c.requires.track shorter top c.cut.ensures.lefts c.cut.ensures.rights c.cut.ensures.cones
 
 pub returns-in-None-clause-track : goal.returns-in-None-clause-track
 returns-in-None-clause-track g c =
     let t = c.args.self.now in
     let ys = c.truncate.new.self.items in
     let none = subst (λ zs. slice_get zs (length zs - 1) ≡ None) c.as_slice.ensures.value (sym c.in-None.ensures.value) in
-    no_sleeve (frames_of ys) t.hull.lefts.items t.hull.rights.items t.hull.cones.items (no_last_frame ys none)
+    no_sleeve (frames_of ys) t.hull.lefts t.hull.rights t.hull.cones.items (no_last_frame ys none)

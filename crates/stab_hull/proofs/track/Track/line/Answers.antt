@@ -10,7 +10,7 @@ overflow_sub-len g c =
     let t = c.args.self.now in
     let k : c.len.result ≡ length t.hull.cones.items = (let e = c.len.ensures in grind (arith, common_steps)) in
     let some : 0 < length (frames_of t.portals.items) = (let m = as_many_frames t.portals.items in let r = c.requires.there in omega (arith, m, r)) in
-    let b = some_cone (frames_of t.portals.items) t.hull.lefts.items t.hull.rights.items t.hull.cones.items c.requires.track some in
+    let b = some_cone (frames_of t.portals.items) t.hull.lefts t.hull.rights t.hull.cones.items c.requires.track some in
     omega (arith, b, k)
 
 pub index-requires : goal.index-requires
@@ -18,7 +18,7 @@ index-requires g c =
     let t = c.args.self.now in
     let k : c.len.result ≡ length t.hull.cones.items = (let e = c.len.ensures in grind (arith, common_steps)) in
     let some : 0 < length (frames_of t.portals.items) = (let m = as_many_frames t.portals.items in let r = c.requires.there in omega (arith, m, r)) in
-    let b = some_cone (frames_of t.portals.items) t.hull.lefts.items t.hull.rights.items t.hull.cones.items c.requires.track some in
+    let b = some_cone (frames_of t.portals.items) t.hull.lefts t.hull.rights t.hull.cones.items c.requires.track some in
     omega (arith, b, k)
 
 pub line_of-requires : goal.line_of-requires
@@ -26,11 +26,11 @@ line_of-requires g c =
     let t = c.args.self.now in
     let k : c.len.result ≡ length t.hull.cones.items = (let e = c.len.ensures in grind (arith, common_steps)) in
     let some : 0 < length (frames_of t.portals.items) = (let m = as_many_frames t.portals.items in let r = c.requires.there in omega (arith, m, r)) in
-    (portals_of (frames_of t.portals.items), read_cone (frames_of t.portals.items) t.hull.lefts.items t.hull.rights.items t.hull.cones.items c.len.result c.index.result.now c.requires.track some k c.index.ensures)
+    (portals_of (frames_of t.portals.items), read_cone (frames_of t.portals.items) t.hull.lefts t.hull.rights t.hull.cones.items c.len.result c.index.result.now c.requires.track some k c.index.ensures)
 
 pub returns-clause-splits : goal.returns-clause-splits
 returns-clause-splits g c =
     let t = c.args.self.now in
     let k : c.len.result ≡ length t.hull.cones.items = (let e = c.len.ensures in grind (arith, common_steps)) in
     let some : 0 < length (frames_of t.portals.items) = (let m = as_many_frames t.portals.items in let r = c.requires.there in omega (arith, m, r)) in
-    c.line_of.ensures.splits (portals_of (frames_of t.portals.items)) (read_cone (frames_of t.portals.items) t.hull.lefts.items t.hull.rights.items t.hull.cones.items c.len.result c.index.result.now c.requires.track some k c.index.ensures)
+    c.line_of.ensures.splits (portals_of (frames_of t.portals.items)) (read_cone (frames_of t.portals.items) t.hull.lefts t.hull.rights t.hull.cones.items c.len.result c.index.result.now c.requires.track some k c.index.ensures)

@@ -1,6 +1,6 @@
 use Rattle.std.proofs.Common.{sym, to_z-of_z}
-use Rattle.stab_hull.proofs.HistoryLemmas.{line_splits, has_corner, fits_a, fits_c, line_is}
-use Rattle.stab_hull.proofs.history.line_of.Goals as goal
+use Rattle.stab_hull.proofs.Lines.{line_splits, has_corner, fits_a, fits_c, line_is}
+use Rattle.stab_hull.proofs.track.line_of.Goals as goal
 
 pub cut-cut-requires : goal.cut-cut-requires
 cut-cut-requires c = has_corner c.requires.0 c.args.cone.now c.requires.1
