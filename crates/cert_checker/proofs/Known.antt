@@ -7,7 +7,7 @@ use Rattle.sight_names.specs.declared.names.Pair.{Pair}
 use Rattle.sight_names.specs.declared.names.PairRay.{PairRay}
 use Rattle.math_base.proofs.Numbers.{below_same_or_above}
 use Rattle.reject_bits.specs.Parts.{TableParts, Rejects, SetsPair, KeepsOtherPairs}
-use Rattle.cert_checker.specs.Pairs.{pair, IsWithin, KnownParts, HasRayBelow, MarksRays, AreAllApart, AreSomeJoined, IsShownBlind, IsShownSeen}
+use Rattle.cert_checker.specs.Pairs.{pair, IsWithin, KnownParts, HasRayBelow, MarksRays, AreAllApart, AreSectorsJoined, AreSomeJoined, IsShownBlind}
 
 -- ---- rays
 
@@ -63,8 +63,8 @@ blind_told k a b fs gs r ones others is = (
   λ h. is.1 (h.apart fs gs ones others),
 )
 
-pub seen_told : (k : KnownParts) (a b : ℕ) (fs gs : List ℕ) (r : Bool) → slice_get k.members a ≡ Some fs → slice_get k.members b ≡ Some gs → (IsTrue r ↔ AreSomeJoined k.facts fs gs) → IsTrue r ↔ IsShownSeen k a b
-seen_told k a b fs gs r ones others is = (
+pub joined_told : (joins : ℕ → ℕ → Type 0) (members : List (List ℕ)) (a b : ℕ) (fs gs : List ℕ) (r : Bool) → slice_get members a ≡ Some fs → slice_get members b ≡ Some gs → (IsTrue r ↔ AreSomeJoined joins fs gs) → IsTrue r ↔ AreSectorsJoined joins members a b
+joined_told joins members a b fs gs r ones others is = (
   λ t. record { fs = fs; gs = gs; ones = ones; others = others; joined = is.0 t },
-  λ h. is.1 (subst (λ (zs : List ℕ). AreSomeJoined k.facts zs gs) (same_Some h.fs fs (sym h.ones ∙ ones)) (subst (λ (zs : List ℕ). AreSomeJoined k.facts h.fs zs) (same_Some h.gs gs (sym h.others ∙ others)) h.joined)),
+  λ h. is.1 (subst (λ (zs : List ℕ). AreSomeJoined joins zs gs) (same_Some h.fs fs (sym h.ones ∙ ones)) (subst (λ (zs : List ℕ). AreSomeJoined joins h.fs zs) (same_Some h.gs gs (sym h.others ∙ others)) h.joined)),
 )

@@ -16,8 +16,10 @@ each_at P (y ∷ xs) (suc i) x all e = each_at P xs i x all.1 e
 
 pub fit_lists : (c : CertParts) (n : ℕ) (pairs : List Pair) (rays : List PairRay) → IsInOrder c → c.sizes.sectors ≡ n → pairs ≡ c.listed → rays ≡ c.rays → AreFitLists n n pairs rays
 fit_lists c n pairs rays order size e f = record {
-  ascend = subst (Ascends PairBefore) (sym e) order.listed_ascend;
-  pairs_within = λ i p at. within p (each_at (IsPairInRange c.sizes) c.listed i p order.listed (subst (λ (ps : List Pair). slice_get ps i ≡ Some p) e at));
+  listed = record {
+    ascend = subst (Ascends PairBefore) (sym e) order.listed_ascend;
+    within = λ i p at. within p (each_at (IsPairInRange c.sizes) c.listed i p order.listed (subst (λ (ps : List Pair). slice_get ps i ≡ Some p) e at));
+  };
   rays_within = λ i r at. within r.pair (each_at (IsRayInRange c.sizes) c.rays i r order.rays (subst (λ (rs : List PairRay). slice_get rs i ≡ Some r) f at)).0;
 }
   where

@@ -2,7 +2,6 @@ pub mod JoinedRows
 pub mod Owned
 pub mod Fitting
 pub mod Gated
-pub mod Rows
 pub mod SectorPairs
 pub mod Judging
 pub mod Accepting

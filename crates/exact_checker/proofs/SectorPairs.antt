@@ -9,11 +9,11 @@ use Rattle.cert_format.specs.Accepted.{EitherSet, EitherClear}
 use Rattle.cert_checker.specs.AcceptedGroups.Accepted.{AreGroupsJoined, IsGroupedSeen}
 use Rattle.cert_checker.specs.declared.verdict.Totals.{Totals}
 use Rattle.cert_checker.specs.declared.verdict.Verdict.TheVariants.{Yes, No}
-use Rattle.cert_checker.specs.Pairs.{AreTotals}
+use Rattle.cert_checker.specs.Pairs.{ArePairsFine, AreSomeJoined, AreTotals, IsFirstPairFault}
 use Rattle.certificates.specs.declared.cert_exact.cert.ExactParts.{ExactParts}
 use Rattle.certificates.specs.CertExact.Grammar.{as_two}
 use Rattle.gate_floods.specs.GateMasks.Masks.{IsIn}
-use Rattle.exact_checker.specs.Pairs.{KnownParts, AreJoined, AreSomeJoined, IsFine, IsFaultAt, IsFirstPairFault, ArePairsFine}
+use Rattle.exact_checker.specs.Pairs.{KnownParts, AreJoined, IsFine, IsFaultAt}
 use Rattle.exact_checker.specs.Judged.{IsAbout, IsPairRight, IsReached, TellsPairs}
 use Rattle.exact_checker.proofs.JoinedRows.{in_joined}
 
@@ -34,7 +34,7 @@ module _ (c : ExactParts) (k : KnownParts) (about : IsAbout c k) where
   seen : (a b : ℕ) → AreJoined k a b → IsGroupedSeen (as_two c) a b
   seen a b s = by s.joined
     where
-      by : AreSomeJoined k.joined s.fs s.gs → IsGroupedSeen (as_two c) a b
+      by : AreSomeJoined (IsIn k.joined) s.fs s.gs → IsGroupedSeen (as_two c) a b
       by (f, has_f, (h, has_h, joined)) =
           let in_f = (about.members.each a s.fs s.ones f).0 has_f in
           let in_h = (about.members.each b s.gs s.others h).0 has_h in
@@ -55,24 +55,18 @@ module _ (c : ExactParts) (k : KnownParts) (about : IsAbout c k) where
     clear = λ n. seen a b (fine.clear n);
   }
 
-  pub all_right : (n : ℕ) (totals : Totals) → n ≡ k.table.n → ArePairsFine k n → AreTotals k.table [] n totals → TellsPairs k.table (as_two c) (Yes totals)
-  all_right n totals e fine are = ((λ a b l h. right_of a b l h (fine a (omega (arith, l, h, e)) b l (omega (arith, h, e)))), subst (λ (j : ℕ). AreTotals k.table [] j totals) e are)
+  pub all_right : (totals : Totals) → ArePairsFine (IsFine k) k.table.n → AreTotals k.table [] k.table.n totals → TellsPairs k.table (as_two c) (Yes totals)
+  all_right totals fine are = ((λ a b l h. right_of a b l h (fine a (omega (arith, l, h)) b h l)), are)
 
-  pub first_wrong : (n : ℕ) (f : CheckFault) → n ≡ k.table.n → IsFirstPairFault k n f → TellsPairs k.table (as_two c) (No f)
-  first_wrong n f e first = at f first.row.fault
+  pub first_wrong : (f : CheckFault) → IsFirstPairFault (IsFine k) (IsFaultAt k) k.table.n f → TellsPairs k.table (as_two c) (No f)
+  first_wrong f first = at f first.row.fault
     where
-      within : first.row.b < k.table.n
-      within = let w = first.row.within in omega (arith, w, e)
-
-      low : first.a < k.table.n
-      low = let w = first.within in omega (arith, w, e)
-
       reached : IsReached k.table (as_two c) first.a first.row.b
       reached = record {
         order = first.row.order;
-        within = within;
-        row = λ d l h. right_of first.a d l (let w = first.row.within in omega (arith, h, w, e)) (first.row.before d l h);
-        rows = λ d x l h i. right_of d x h i (first.before d l x h (omega (arith, i, e)));
+        within = first.row.within;
+        row = λ d l h. right_of first.a d l (let w = first.row.within in omega (arith, h, w)) (first.row.before d h l);
+        rows = λ d x l h i. right_of d x h i (first.before d l x i h);
       }
 
       move : (P : ℕ → ℕ → Type 0) (x y : ℕ) → x ≡ first.a → y ≡ first.row.b → P first.a first.row.b → P x y
@@ -80,7 +74,7 @@ module _ (c : ExactParts) (k : KnownParts) (about : IsAbout c k) where
 
       at : (x : CheckFault) → IsFaultAt k first.a first.row.b x → TellsPairs k.table (as_two c) (No x)
       at (Unproved x y) h = move (λ a b. IsReached k.table (as_two c) a b × EitherSet k.table.n k.table.bytes a b × IsGroupedSeen (as_two c) a b) x y h.0 h.1 (reached, h.2, seen first.a first.row.b h.3)
-      at (Uncovered x y) h = move (λ a b. IsReached k.table (as_two c) a b × EitherClear k.table.n k.table.bytes a b × ¬ IsGroupedSeen (as_two c) a b) x y h.0 h.1 (reached, h.2, (λ n. h.3 (shown first.a first.row.b low within n)))
+      at (Uncovered x y) h = move (λ a b. IsReached k.table (as_two c) a b × EitherClear k.table.n k.table.bytes a b × ¬ IsGroupedSeen (as_two c) a b) x y h.0 h.1 (reached, h.2, (λ n. h.3 (shown first.a first.row.b first.within first.row.within n)))
       at (ListedSet x y) h = absurd h
       at (Mesh x) h = absurd h
       at (Ray x y z) h = absurd h

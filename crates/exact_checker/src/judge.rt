@@ -13,12 +13,13 @@ ghost use Rattle.group_checker.specs.Judged.{IsYesAny};
 ghost use Rattle.gate_floods.specs.TurnedTrees.Exact.{TellsAll};
 ghost use Rattle.gate_floods.specs.Exact.{IsAcceptedThree};
 ghost use Rattle.exact_checker.specs.Rows.{AreJoinedRows};
-ghost use Rattle.exact_checker.specs.Pairs.{known_of, IsKnown};
+ghost use Rattle.exact_checker.specs.Pairs.{known_of};
 ghost use Rattle.exact_checker.specs.Judged.{IsAbout, IsThreeFor, IsThreeOf, JudgesThree, JudgesTrees, TellsPairs};
 
 use crate::joining::joined_rows;
-use crate::pairs::{Known, judge_pairs};
+use crate::pairs::Known;
 use crate::trees::{OneJudge, TreeJudges, judge_trees};
+use cert_checker::pairs::judge_pairs;
 use cert_checker::{Verdict, ray_fault};
 use certificates::cert_exact::ExactParts;
 use face_groups::Group;
@@ -30,12 +31,12 @@ use sight_names::{CheckFault, MOST_TRIANGLES, Memory, Plan};
 use std::alloc::Global;
 
 /// Judges the pairs of sectors, by what is known.
-fn judge_each_pair(known: Known<'_>, sectors: u16) -> Verdict
-    requires known { IsKnown (known_of known) sectors }
+fn judge_each_pair(known: Known<'_>) -> Verdict
+    requires { length known.members.now ≡ known.table.now.n }
     ensures kind { IsPairVerdict result }
     ensures pairs { (c : PartsOf) → IsAbout c (known_of known.entry) → TellsPairs known.entry.table.now (as_two c) result }
 {
-    match judge_pairs(known, sectors) {
+    match judge_pairs(&known, known.table, &[]) {
         Ok(totals) => Verdict::Yes(totals),
         Err(fault) => Verdict::No(fault),
     }
@@ -59,7 +60,7 @@ pub fn judge_sectors(
         members: members.as_slice(),
         joined,
     };
-    Ok(judge_each_pair(known, sectors))
+    Ok(judge_each_pair(known))
 }
 
 /// Judges rays and trees over the map of groups, and then the pairs of sectors.

@@ -9,6 +9,7 @@ use Rattle.sight_names.proofs.Lists.{get_of_contains, contains_of_get}
 use Rattle.sight_names.specs.Groups.{IsInGroup}
 use Rattle.reject_bits.specs.Parts.{TableParts, Rejects, SetsPair, KeepsOtherPairs}
 use Rattle.cert_checker.specs.AcceptedGroups.Accepted.{AreGroupsJoined, IsGroupedSeen}
+use Rattle.cert_checker.specs.Pairs.{AreSomeJoined}
 use Rattle.certificates.specs.declared.cert_exact.cert.ExactParts.{ExactParts}
 use Rattle.certificates.specs.CertExact.Grammar.{as_two}
 use Rattle.gate_floods.specs.declared.gate_masks.masks.Row.{Row}
@@ -18,7 +19,6 @@ use Rattle.gate_floods.proofs.RowJudge.Bits.{beyond}
 use Rattle.group_checker.specs.Members.{AreMembers}
 use Rattle.group_job.specs.Marks.{SetsMore, OfSteps, HasSteps}
 use Rattle.group_job.proofs.Marks.{sets_as, sets_next, sets_one, sets_skip}
-use Rattle.exact_checker.specs.Pairs.{AreSomeJoined}
 use Rattle.exact_checker.specs.Rows.{AreJoinedRows}
 use Rattle.exact_checker.proofs.JoinedRows.{in_joined}
 use Rattle.exact_job.specs.Table.{HasNoneIn, HasSome, IsJoinedWithSome, IsRowOf, IsTableOf}
@@ -138,7 +138,7 @@ row_set row members sector n old new all h = record {
 
 -- no groups of the two sectors are joined
 abbrev pub AreApart : List Row → List (List ℕ) → ℕ → ℕ → Type 0
-AreApart joined members c d = (fs gs : List ℕ) × (slice_get members c ≡ Some fs) × (slice_get members d ≡ Some gs) × ¬ AreSomeJoined joined fs gs
+AreApart joined members c d = (fs gs : List ℕ) × (slice_get members c ≡ Some fs) × (slice_get members d ≡ Some gs) × ¬ AreSomeJoined (IsIn joined) fs gs
 
 abbrev pub TableStep : List Row → List (List ℕ) → ℕ → ℕ → ℕ → Type 0
 TableStep joined members i c d = (c ≡ i) × AreApart joined members c d
@@ -183,7 +183,7 @@ module _ (joined : List Row) (groups : List (List ℕ)) (sectors : ℕ) (members
           go k p zero e = n (subst P (sym (same_Some x k e)) p)
           go k p (suc i) e = m (k, contains_of_get xs k i e, p)
 
-  told_joined : (fs gs : List ℕ) → AreSomeJoined joined fs gs ⊎ ¬ AreSomeJoined joined fs gs
+  told_joined : (fs gs : List ℕ) → AreSomeJoined (IsIn joined) fs gs ⊎ ¬ AreSomeJoined (IsIn joined) fs gs
   told_joined fs gs = some_of (λ f. some_of (told_in f) gs) fs
 
   -- ---- what the bits tell
@@ -198,13 +198,13 @@ module _ (joined : List Row) (groups : List (List ℕ)) (sectors : ℕ) (members
     in_range : (a f : ℕ) → IsInGroup c.groups a f → f < length c.groups
     in_range a f there = slice_get_within c.groups f there.0 there.1
 
-    seen_of : (a b : ℕ) (fs gs : List ℕ) → slice_get members a ≡ Some fs → slice_get members b ≡ Some gs → AreSomeJoined joined fs gs → IsGroupedSeen (as_two c) a b
+    seen_of : (a b : ℕ) (fs gs : List ℕ) → slice_get members a ≡ Some fs → slice_get members b ≡ Some gs → AreSomeJoined (IsIn joined) fs gs → IsGroupedSeen (as_two c) a b
     seen_of a b fs gs ones others w =
         let in_f = group_of a w.0 fs ones w.1 in
         let in_k = group_of b w.2.0 gs others w.2.1 in
         (w.0, w.2.0, in_f, in_k, (in_joined (length c.groups) (as_two c).cert joined rows w.0 w.2.0 (in_range a w.0 in_f) (in_range b w.2.0 in_k)).0 w.2.2)
 
-    joined_of : (a b : ℕ) (fs gs : List ℕ) → slice_get members a ≡ Some fs → slice_get members b ≡ Some gs → IsGroupedSeen (as_two c) a b → AreSomeJoined joined fs gs
+    joined_of : (a b : ℕ) (fs gs : List ℕ) → slice_get members a ≡ Some fs → slice_get members b ≡ Some gs → IsGroupedSeen (as_two c) a b → AreSomeJoined (IsIn joined) fs gs
     joined_of a b fs gs ones others s =
         (s.0, has_group a s.0 fs ones s.2, (s.1, has_group b s.1 gs others s.3, (in_joined (length c.groups) (as_two c).cert joined rows s.0 s.1 (in_range a s.0 s.2) (in_range b s.1 s.3)).1 s.4))
 

@@ -33,8 +33,10 @@ members_below groups n count lists size all = record {
 pub fit_lists : (n count : ℕ) (groups : List (List ℕ)) (pairs : List Pair) (rays : List PairRay) → count ≡ length groups → AreListsOfTwo n groups pairs rays → AreFitLists n count pairs rays
 fit_lists n count groups pairs rays size w =
     let c = w.cert in record {
-      ascend = subst (Ascends PairBefore) (sym w.listed_is) w.two.1.listed_ascend;
-      pairs_within = λ i q at. subst (λ (x : ℕ). IsWithin x q) w.two.2 (each_at (IsPairInRange w.two.0) c.listed i q w.two.1.listed (subst (λ (ps : List Pair). slice_get ps i ≡ Some q) w.listed_is at));
+      listed = record {
+        ascend = subst (Ascends PairBefore) (sym w.listed_is) w.two.1.listed_ascend;
+        within = λ i q at. subst (λ (x : ℕ). IsWithin x q) w.two.2 (each_at (IsPairInRange w.two.0) c.listed i q w.two.1.listed (subst (λ (ps : List Pair). slice_get ps i ≡ Some q) w.listed_is at));
+      };
       rays_within = λ i r at.
           let h : IsRayInRange c.cert.sizes r = each_at (IsRayInRange c.cert.sizes) c.cert.rays i r w.two.1.in_order.rays (subst (λ (rs : List PairRay). slice_get rs i ≡ Some r) w.rays_are at) in
           subst (λ (x : ℕ). IsWithin x r.pair) (ap (λ (s : Sizes). s.sectors) w.two.1.grouped ∙ sym (size ∙ ap length w.groups_are)) h.0;

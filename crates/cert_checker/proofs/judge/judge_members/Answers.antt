@@ -1,7 +1,6 @@
 use Rattle.std.proofs.Common.{ℕ, sym, ◌∙◌, subst}
 use Rattle.sight_names.specs.Map.{map_of}
-use Rattle.cert_checker.specs.Members.{AreMembersBelow}
-use Rattle.cert_checker.specs.Pairs.{AreFitLists, IsWithin}
+use Rattle.cert_checker.specs.Pairs.{IsWithin}
 use Rattle.cert_checker.proofs.Judging.{known_is, about_is}
 use Rattle.cert_checker.proofs.judge.judge_members.Goals as goal
 
@@ -10,9 +9,8 @@ ray_table-requires c = λ i r at. subst (λ (n : ℕ). IsWithin n r.pair) (sym (
 
 pub judge_each_pair-requires : goal.judge_each_pair-requires
 judge_each_pair-requires c = record {
-  known = known_is c.sectors-sectors.result c.args.grouped.now.sectors _ c.args.rays.now (sym c.sectors-sectors.ensures) c.requires.reached (c.in_ok-rays.ensures.sectors ∙ c.sectors-count.ensures ∙ c.requires.reached)
-      (subst (λ (n : ℕ). AreMembersBelow c.args.grouped.now.sectors n c.args.members.now) (sym c.sectors-sectors.ensures) c.requires.members)
-      (subst (λ (n : ℕ). AreFitLists n c.args.grouped.now.sectors c.args.listed.now c.args.rays.now) (sym c.sectors-sectors.ensures) c.requires.lists);
+  known = known_is c.args.grouped.now.sectors _ c.requires.reached (c.in_ok-rays.ensures.sectors ∙ c.sectors-count.ensures ∙ c.requires.reached) c.requires.members;
+  listed = c.requires.lists.listed;
 }
 
 pub returns-clause-pairs : goal.returns-clause-pairs
