@@ -6,5 +6,3 @@ pub mod AllHeard
 pub mod Stages
 pub mod Keeping
 pub mod Intakes
-pub mod Openings
-pub mod Endings

@@ -5,5 +5,3 @@ pub mod Stage
 pub mod Judging
 pub mod Judged
 pub mod Intake
-pub mod Course
-pub mod Judge

@@ -1,29 +1,36 @@
--- A judge of one version or the other, and the bytes that it was fed.
-use Rattle.std.specs.Prelude.{ℕ, List}
+-- The bytes of a certificate whose version they tell.
+use Rattle.std.specs.Prelude.{◌≡◌, ℕ, ◌+◌, ◌<◌, ◌^◌, ◌⊎◌, List, length}
+use Rattle.sight_names.specs.declared.faults.CertFault.{CertFault}
 use Rattle.sight_names.specs.Plan.{PlanParts}
 use Rattle.reject_bits.specs.Parts.{TableParts}
-use Rattle.cert_judge.specs.Judge.{HasBeenFed as HasBeenFedListing, IsFed as IsFedListing, MayBeFed as MayBeFedListing}
-use Rattle.any_judge.specs.ExactJudge.Judge.{HasBeenFed as HasBeenFedExact, IsFed as IsFedExact, MayBeFed as MayBeFedExact}
+use Rattle.cert_judge.specs.Intake.{AreRefused as AreRefusedListing, HasTaken as HasTakenListing}
+use Rattle.any_judge.specs.ExactJudge.Intake.{AreRefused as AreRefusedExact, HasTaken as HasTakenExact}
 use Rattle.any_judge.specs.declared.versed.Versed.{Versed}
 use Rattle.any_judge.specs.declared.versed.Versed.TheVariants as versed
 use Rattle.any_judge.specs.Version.{BeginsThree}
 
--- it was made for this plan and this table, and these are the bytes of all pieces
+-- whatever bytes come behind, they are no certificate of the plan, by the version that these tell
+abbrev pub AreRefused : PlanParts → List ℕ → CertFault → Type 0
+AreRefused p bytes f = ((¬ BeginsThree bytes) × AreRefusedListing p bytes f) ⊎ (BeginsThree bytes × AreRefusedExact p bytes f)
+
+-- these are all bytes so far, for this plan and this table, and they are read by their version
 abbrev pub HasTaken : PlanParts → TableParts → List ℕ → Versed → Type 0
-HasTaken p t bytes (versed.Listing j) = HasBeenFedListing p t bytes j
-HasTaken p t bytes (versed.Exact j) = HasBeenFedExact p t bytes j
+HasTaken p t bytes (versed.Refused f) = AreRefused p bytes f
+HasTaken p t bytes (versed.Listing k) = (¬ BeginsThree bytes) × HasTakenListing p t bytes k
+HasTaken p t bytes (versed.Exact k) = BeginsThree bytes × HasTakenExact p t bytes k
 
--- it judges what begins so
-abbrev pub IsVersed : List ℕ → Versed → Type 0
-IsVersed bytes (versed.Listing j) = ¬ BeginsThree bytes
-IsVersed bytes (versed.Exact j) = BeginsThree bytes
+-- the same of some bytes, which are fewer than 2^63 with the piece
+pub record MayTake (piece : List ℕ) (v : Versed) : Type 0 where
+  pub plan : PlanParts
+  pub table : TableParts
+  pub bytes : List ℕ
+  pub taken : HasTaken plan table bytes v
+  pub few : length bytes + length piece < 2 ^ 63
 
--- with the piece there are fewer than 2^63 bytes
-abbrev pub MayTake : List ℕ → Versed → Type 0
-MayTake piece (versed.Listing j) = MayBeFedListing piece j
-MayTake piece (versed.Exact j) = MayBeFedExact piece j
-
--- the table has as many sectors as the plan
-abbrev pub IsFilled : Versed → Type 0
-IsFilled (versed.Listing j) = IsFedListing j
-IsFilled (versed.Exact j) = IsFedExact j
+-- the same of some bytes, for a plan and a table of as many sectors
+pub record IsFilled (v : Versed) : Type 0 where
+  pub plan : PlanParts
+  pub table : TableParts
+  pub bytes : List ℕ
+  pub taken : HasTaken plan table bytes v
+  pub fits : table.n ≡ plan.sectors

@@ -1,13 +1,10 @@
 //! A REJECT table judged by a certificate of version 3 whose bytes come in pieces. No tree is kept: each node is judged
 //! as it comes, by the row of what its group owns.
 
-mod course;
 mod ground;
 mod intake;
-mod judge;
 mod judging;
-mod opening;
 mod stage;
 mod trees;
 
-pub use judge::Judge;
+pub use intake::Intake;

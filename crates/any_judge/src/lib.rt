@@ -3,7 +3,7 @@
 
 pub mod cert_file;
 mod course;
-pub mod exact_judge;
+mod exact_judge;
 mod judge;
 mod opening;
 mod versed;

@@ -1,5 +1,5 @@
 -- What the answer says at the end.
-use Rattle.std.proofs.Common.{◌≡◌, ℕ, ◌↔◌, List, Result, Ok, Err, refl, sym, ap, subst}
+use Rattle.std.proofs.Common.{◌≡◌, ◌↔◌, Result, Ok, Err, refl, sym, ap, subst}
 use Rattle.std.specs.Prelude.{IfOk}
 use Rattle.sight_names.specs.declared.faults.CertFault.{CertFault}
 use Rattle.sight_names.specs.declared.names.Memory.{Memory}
@@ -9,15 +9,11 @@ use Rattle.sight_names.specs.Sound.{LinesMeetAtEnds}
 use Rattle.reject_bits.specs.Parts.{TableParts}
 use Rattle.cert_format.specs.declared.cert.Sizes.{Sizes}
 use Rattle.cert_format.specs.Reading.{◌>>=◌}
-use Rattle.cert_format.specs.Sizes.{sizes_of}
 use Rattle.cert_format.specs.declared.cert_groups.cert.AnyCert.{AnyCert}
-use Rattle.cert_format.specs.CertGroups.Reading.{any_at}
 use Rattle.cert_checker.specs.AcceptedGroups.Accepted.{IsAcceptedAny}
-use Rattle.certificates.specs.CertParts.Parts.{reading_any_parts}
 use Rattle.group_checker.specs.declared.verdict.AnyVerdict.{AnyVerdict}
 use Rattle.group_checker.specs.Judged.{IsYesAny, JudgesAny, TellsSightAny}
 use Rattle.group_checker.proofs.AnyTold.{any_exactly, accepted_any_tells}
-use Rattle.cert_judge.specs.declared.judged.Judged.{Judged}
 use Rattle.cert_judge.specs.declared.judged.Judged.TheVariants as judged
 use Rattle.cert_judge.specs.Judged.{JudgedBy, IsVerdictOf}
 use Rattle.cert_judge.specs.Whole.{IsCertOf}
@@ -35,17 +31,6 @@ unread_told {C} view read f P e = subst (λ (other : Result C CertFault). Judged
 -- a verdict on the certificate that was read
 pub verdict_told : {C : Type 0} (read : Result C CertFault) (c : C) (v : AnyVerdict) (P : C → AnyVerdict → Type 0) → read ≡ Ok c → P c v → JudgedBy read P (judged.Verdict v)
 verdict_told {C} read c v P e h = subst (λ (other : Result C CertFault). JudgedBy other P (judged.Verdict v)) (sym e) h
-
-by : {C : Type 0} (P Q : C → AnyVerdict → Type 0) → ((c : C) (v : AnyVerdict) → P c v → Q c v) → (read : Result C CertFault) (j : Judged) → JudgedBy read P j → JudgedBy read Q j
-by P Q f (Ok c) (judged.Verdict v) h = f c v h
-by P Q f (Ok c) (judged.Unread g) h = absurd h
-by P Q f (Err g) (judged.Verdict v) h = absurd h
-by P Q f (Err g) (judged.Unread e) h = h
-
--- what follows from a sentence on the verdict
-pub weaker : {C : Type 0} (P Q : C → AnyVerdict → Type 0) → ((c : C) (v : AnyVerdict) → P c v → Q c v) → (read : Result C CertFault) (r : Result Judged Memory) → IfOk r (JudgedBy read P) → IfOk r (JudgedBy read Q)
-weaker P Q f read (Ok j) h = by P Q f read j h
-weaker P Q f read (Err e) h = tt
 
 module _ (p : PlanParts) (is : IsPlan p) (t : TableParts) (c : AnyCert) (v : AnyVerdict) (w : IsVerdictOf p t c v) where
   pub accepted_by : IsYesAny v ↔ IsAcceptedAny (map_of p) t.bytes c

@@ -8,5 +8,4 @@ pub mod Grounds
 pub mod Wholes
 pub mod Keeping
 pub mod Intakes
-pub mod Openings
 pub mod Endings

@@ -8,5 +8,3 @@ pub mod Whole
 pub mod Judging
 pub mod Judged
 pub mod Intake
-pub mod Course
-pub mod Judge

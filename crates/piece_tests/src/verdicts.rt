@@ -7,9 +7,10 @@ ghost use Rattle.sight_names.specs.Sound.{LinesMeetAtEnds};
 ghost use Rattle.cert_format.specs.CertGroups.Grammar.{IsAnyInOrder, sizes_of};
 
 use crate::rows::part;
+use any_judge::Judge;
 use cert_format::cert_groups::{AnyCert, print_any};
 use cert_format::{Sizes, print};
-use cert_judge::{Judge, Judged};
+use cert_judge::Judged;
 use certificates::read_any;
 use group_checker::check_workers::check_any_par;
 use map_answers::find_in;
@@ -37,7 +38,7 @@ U | 0000 | #U-GROUPS @22:1:01 @154:0:00000200 | Verdict(Yes(Totals { set: 0, cle
 U | 4400 | #U-CERT @24:1:03 @161:0:0100_0400000000000000_00000000_0200_0500000000000000_00000000_03_0000_0080_0480 | Verdict(Yes(Totals { set: 1, clear: 5, listed: 0 }))
 U | 4400 | #U-GROUPS @26:1:03 @175:0:0100_0400000000000000_00000000_0200_0500000000000000_00000000_03_0000_0080_0480 | Verdict(Yes(Totals { set: 1, clear: 5, listed: 0 }))
 # no bytes of a certificate
-U | 4400 | #U-CERT @4:1:03 | Unread(BadVersion)
+U | 4400 | #U-CERT @4:1:04 | Unread(BadVersion)
 U | 4400 | #U-CERT @160:1: | Unread(Short { at: 159 })
 U | 4400 | #U-CERT @161:0:00 | Unread(Trailing { at: 161 })
 U | 4400 | #U-GROUPS @174:1: | Unread(Short { at: 173 })

@@ -1,5 +1,5 @@
 use Rattle.std.proofs.Common.{◌≡◌, ℕ, List, length}
-use Rattle.cert_judge.specs.Judge.{HasBeenFed}
+use Rattle.any_judge.specs.Judge.{HasBeenFed}
 use Rattle.piece_tests.proofs.verdicts.judged_singly.Given as goal
 
 -- the judge was fed as many bytes as there were

@@ -1,13 +1,29 @@
-use Rattle.std.proofs.Common.{ℕ, List, subst}
-use Rattle.any_judge.specs.Course.{IsOnCourse}
-use Rattle.any_judge.specs.Versed.{HasTaken, IsVersed}
+use Rattle.std.proofs.Common.{subst}
+use Rattle.sight_names.specs.declared.faults.CertFault.TheVariants as faults
+use Rattle.any_judge.specs.Course.{IsAsked, IsOnCourse}
+use Rattle.any_judge.proofs.Courses.{unread}
 use Rattle.any_judge.proofs.course.Course.end.Goals as goal
 
-pub returns-in-Told-clause-exact : goal.returns-in-Told-clause-exact
-returns-in-Told-clause-exact c = λ p t bytes w. let h = subst (IsOnCourse p t bytes) c.in-Told.is w in c.end.ensures.exact p t bytes h.taken h.versed
+pub end-requires : goal.end-requires
+end-requires c = let r = c.requires in record { plan = r.plan; table = r.table; bytes = r.bytes; taken = (subst (IsOnCourse r.plan r.table r.bytes) c.in-Told.is r.course).1; fits = r.fits }
 
-pub returns-in_ok-versed-in-Opening-clause-exact : goal.returns-in_ok-versed-in-Opening-clause-exact
-returns-in_ok-versed-in-Opening-clause-exact c = λ p t bytes w.
-    let o = subst (IsOnCourse p t bytes) c.in-Opening.is w in
-    let told = c.in_ok-versed-in-Opening.ensures p t o.plan o.table in
-    c.end-in-Opening.ensures.exact p t bytes (subst (λ (us : List ℕ). HasTaken p t us c.in_ok-versed-in-Opening.versed) o.bytes_are told.0) (subst (λ (us : List ℕ). IsVersed us c.in_ok-versed-in-Opening.versed) o.bytes_are told.1)
+pub returns-in-Told : goal.returns-in-Told
+returns-in-Told c = λ p t bytes w. c.end.ensures p t bytes (subst (IsOnCourse p t bytes) c.in-Told.is w).1
+
+pub returns-in-Cut : goal.returns-in-Cut
+returns-in-Cut c = λ p t bytes w.
+    unread p bytes (faults.Short c.in-Cut.at) t (subst (IsAsked p t bytes) c.in-Cut.is (c.in_ok-at-in-Opening.ensures p t bytes (subst (IsOnCourse p t bytes) c.in-Opening.is w)))
+
+pub end-requires-in-Told-2 : goal.end-requires-in-Told-2
+end-requires-in-Told-2 c =
+    let r = c.requires in
+    record {
+      plan = r.plan;
+      table = r.table;
+      bytes = r.bytes;
+      taken = subst (IsAsked r.plan r.table r.bytes) c.in-Told-2.is (c.in_ok-at-in-Opening.ensures r.plan r.table r.bytes (subst (IsOnCourse r.plan r.table r.bytes) c.in-Opening.is r.course));
+      fits = r.fits;
+    }
+
+pub returns : goal.returns
+returns c = λ p t bytes w. c.end-in-Told-2.ensures p t bytes (subst (IsAsked p t bytes) c.in-Told-2.is (c.in_ok-at-in-Opening.ensures p t bytes (subst (IsOnCourse p t bytes) c.in-Opening.is w)))

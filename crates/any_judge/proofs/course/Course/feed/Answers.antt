@@ -1,21 +1,24 @@
-use Rattle.std.proofs.Common.{◌++◌, Option, subst}
-use Rattle.std.specs.Prelude.{MatchOption}
-use Rattle.any_judge.specs.declared.versed.Versed.{Versed}
-use Rattle.any_judge.specs.Course.{IsOnCourse, IsOpening, IsTold}
-use Rattle.any_judge.proofs.Courses.{always, told_on}
+use Rattle.std.proofs.Common.{◌≤◌, ◌++◌, Option, length, arith, subst}
+use Rattle.std.specs.Prelude.{IfSome}
+use Rattle.std.proofs.lemmas.List.{length-append}
+use Rattle.std.proofs.lemmas.Result.{IfOk-weaker}
+use Rattle.any_judge.specs.declared.opening.Asked.{Asked}
+use Rattle.any_judge.specs.Course.{IsAsked, IsOnCourse}
 use Rattle.any_judge.proofs.course.Course.feed.Goals as goal
 
-pub returns-in-Some : goal.returns-in-Some
-returns-in-Some c = λ p t bytes w.
-    subst (λ (x : Option Versed). MatchOption x (IsOpening p t (bytes ++ c.args.piece.now) c.feed.new.self) (IsTold p t (bytes ++ c.args.piece.now))) c.in-Some.is
-    (c.in_ok-versed-in-Opening.ensures p t bytes (subst (IsOnCourse p t bytes) c.in-Opening.is w))
-
-pub returns-in_default : goal.returns-in_default
-returns-in_default c = λ p t bytes w.
-    subst (λ (x : Option Versed). MatchOption x (IsOpening p t (bytes ++ c.args.piece.now) c.feed.new.self) (IsTold p t (bytes ++ c.args.piece.now))) c.in_default.is
-    (c.in_ok-versed-in-Opening.ensures p t bytes (subst (IsOnCourse p t bytes) c.in-Opening.is w))
+pub feed-requires-in-Told : goal.feed-requires-in-Told
+feed-requires-in-Told c = let m = c.requires in record { plan = m.plan; table = m.table; bytes = m.bytes; taken = (subst (IsOnCourse m.plan m.table m.bytes) c.in-Told.is m.course).1; few = m.few }
 
 pub returns-in-Told : goal.returns-in-Told
 returns-in-Told c = λ p t bytes w.
     let h = subst (IsOnCourse p t bytes) c.in-Told.is w in
-    always c.feed-in-Told.result _ (told_on p t bytes c.feed-in-Told.new.self c.args.piece.now h.enough (c.feed-in-Told.ensures.taken p t bytes h.taken) (c.feed-in-Told.ensures.versed bytes h.versed))
+    IfOk-weaker c.feed-in-Told.result _ _ (λ x taken. (omega (arith, h.0, length-append bytes c.args.piece.now), taken)) (c.feed-in-Told.ensures p t bytes h.0 h.1)
+
+pub returns-in-Some-Told : goal.returns-in-Some-Told
+returns-in-Some-Told c = λ p t bytes w.
+    let o = subst (IsOnCourse p t bytes) c.in-Opening.is w in
+    let told = c.in_ok-versed-in-Opening.ensures in
+    let x = c.in-Some-Told in
+    let enough = subst (λ (a : Option Asked). IfSome a (λ _. 6 ≤ length (bytes ++ c.args.piece.now))) x.is (told.enough p t bytes o) in
+    let taken = subst (λ (a : Option Asked). IfSome a (IsAsked p t (bytes ++ c.args.piece.now))) x.is (told.asked p t bytes o) in
+    (enough, subst (IsAsked p t (bytes ++ c.args.piece.now)) x.field-0-is taken)

@@ -1,27 +1,22 @@
-use Rattle.std.proofs.Common.{◌↔◌, subst}
-use Rattle.sight_names.specs.Map.{map_of}
+use Rattle.std.proofs.Common.{subst}
 use Rattle.cert_format.specs.Sizes.{sizes_of}
-use Rattle.group_checker.specs.Judged.{IsYesAny}
-use Rattle.any_judge.specs.Accepted.{IsAccepted, TellsSight}
-use Rattle.any_judge.specs.Judged.{Judges}
-use Rattle.any_judge.specs.Versed.{HasTaken, IsVersed}
+use Rattle.any_judge.specs.Judged.{IsVerdictOf}
+use Rattle.any_judge.specs.Versed.{HasTaken}
+use Rattle.any_judge.proofs.Courses.{refused_at_end}
 use Rattle.any_judge.proofs.Promises.{exact_told, listing_told}
 use Rattle.any_judge.proofs.versed.Versed.end.Goals as goal
 
-pub returns-in-Listing-clause-exact : goal.returns-in-Listing-clause-exact
-returns-in-Listing-clause-exact c = λ p t bytes taken versed. listing_told (Judges p t) (sizes_of p) bytes c.end.result (subst (IsVersed bytes) c.in-Listing.is versed) (c.end.ensures.exact p t bytes (subst (HasTaken p t bytes) c.in-Listing.is taken))
+pub returns-in-Refused : goal.returns-in-Refused
+returns-in-Refused c = λ p t bytes w. refused_at_end p bytes c.in-Refused.fault t (subst (HasTaken p t bytes) c.in-Refused.is w)
 
-pub returns-in-Listing-clause-accepted : goal.returns-in-Listing-clause-accepted
-returns-in-Listing-clause-accepted c = λ p t bytes taken versed. listing_told (λ d v. IsYesAny v ↔ IsAccepted (map_of p) t.bytes d) (sizes_of p) bytes c.end.result (subst (IsVersed bytes) c.in-Listing.is versed) (c.end.ensures.accepted p t bytes (subst (HasTaken p t bytes) c.in-Listing.is taken))
+pub end-requires : goal.end-requires
+end-requires c = let r = c.requires in record { plan = r.plan; table = r.table; bytes = r.bytes; taken = (subst (HasTaken r.plan r.table r.bytes) c.in-Listing.is r.taken).1; fits = r.fits }
 
-pub returns-in-Listing-clause-sight : goal.returns-in-Listing-clause-sight
-returns-in-Listing-clause-sight c = λ p t bytes taken versed ends. listing_told (λ d v. IsYesAny v → TellsSight (map_of p) t d) (sizes_of p) bytes c.end.result (subst (IsVersed bytes) c.in-Listing.is versed) (c.end.ensures.sight p t bytes (subst (HasTaken p t bytes) c.in-Listing.is taken) ends)
+pub returns-in-Listing : goal.returns-in-Listing
+returns-in-Listing c = λ p t bytes w. let h = subst (HasTaken p t bytes) c.in-Listing.is w in listing_told (IsVerdictOf p t) (sizes_of p) bytes c.end.result h.0 (c.end.ensures p t bytes h.1)
 
-pub returns-in-Exact-clause-exact : goal.returns-in-Exact-clause-exact
-returns-in-Exact-clause-exact c = λ p t bytes taken versed. exact_told (Judges p t) (sizes_of p) bytes c.end-in-Exact.result (subst (IsVersed bytes) c.in-Exact.is versed) (c.end-in-Exact.ensures.exact p t bytes (subst (HasTaken p t bytes) c.in-Exact.is taken))
+pub end-requires-in-Exact : goal.end-requires-in-Exact
+end-requires-in-Exact c = let r = c.requires in record { plan = r.plan; table = r.table; bytes = r.bytes; taken = (subst (HasTaken r.plan r.table r.bytes) c.in-Exact.is r.taken).1; fits = r.fits }
 
-pub returns-in-Exact-clause-accepted : goal.returns-in-Exact-clause-accepted
-returns-in-Exact-clause-accepted c = λ p t bytes taken versed. exact_told (λ d v. IsYesAny v ↔ IsAccepted (map_of p) t.bytes d) (sizes_of p) bytes c.end-in-Exact.result (subst (IsVersed bytes) c.in-Exact.is versed) (c.end-in-Exact.ensures.accepted p t bytes (subst (HasTaken p t bytes) c.in-Exact.is taken))
-
-pub returns-in-Exact-clause-sight : goal.returns-in-Exact-clause-sight
-returns-in-Exact-clause-sight c = λ p t bytes taken versed ends. exact_told (λ d v. IsYesAny v → TellsSight (map_of p) t d) (sizes_of p) bytes c.end-in-Exact.result (subst (IsVersed bytes) c.in-Exact.is versed) (c.end-in-Exact.ensures.sight p t bytes (subst (HasTaken p t bytes) c.in-Exact.is taken) ends)
+pub returns-in-Exact : goal.returns-in-Exact
+returns-in-Exact c = λ p t bytes w. let h = subst (HasTaken p t bytes) c.in-Exact.is w in exact_told (IsVerdictOf p t) (sizes_of p) bytes c.end-in-Exact.result h.0 (c.end-in-Exact.ensures p t bytes h.1)

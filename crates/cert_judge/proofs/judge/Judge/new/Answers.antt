@@ -1,4 +1,0 @@
-use Rattle.cert_judge.proofs.judge.Judge.new.Goals as goal
-
-pub returns-clause-fed : goal.returns-clause-fed
-returns-clause-fed c = record { plan = c.new.ensures.plan; course = λ _. c.new.ensures.course }
