@@ -75,6 +75,9 @@ impl<'a> FoundSectors<'a> {
         ensures list { result ≡ self.entry.found }
         ensures reached { AreReached self.entry.plan self.entry.source result }
     {
-        Items::of(self.found)
+        let mut found = self.found;
+        // all results of a map are kept, so each without spare room
+        found.shrink_to_fit();
+        Items::of(found)
     }
 }
