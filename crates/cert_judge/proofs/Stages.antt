@@ -5,20 +5,14 @@ use Rattle.sight_names.specs.Plan.{PlanParts}
 use Rattle.group_checker.specs.declared.verdict.AnyFault.{AnyFault}
 use Rattle.cert_judge.specs.declared.on_ground.OnGround.{OnGround}
 use Rattle.cert_judge.specs.declared.stage.Stage.{Stage}
-use Rattle.cert_judge.specs.declared.stage.Stage.TheVariants.{Gathering, Lost, Broken, Good}
+use Rattle.cert_judge.specs.declared.stage.Stage.TheVariants.{Lost, Broken, Good}
 use Rattle.block_evidence.specs.declared.sight_tree.Node.{Node}
 use Rattle.cert_checker.specs.TreeJudge.Walked.{with_nodes}
 use Rattle.cert_judge.specs.Heard.{Heard, node_parts, heard_from}
 use Rattle.cert_judge.specs.OnGround.{IsOnGround}
 use Rattle.cert_judge.proofs.AllHeard.{last_nodes_heard}
-use Rattle.cert_judge.specs.Stage.{IsClosed, IsStage}
+use Rattle.cert_judge.specs.Stage.{IsStage}
 use Rattle.cert_judge.specs.Version.{Groups}
-
-pub stage_of_closed : (p : PlanParts) (gs : Groups) (h : Heard) (s : Stage) → h.closed ≡ true → IsClosed p gs h.triangles h.rays h.front h.tree s → IsStage p gs h s
-stage_of_closed p gs h Gathering e k = absurd k
-stage_of_closed p gs h Lost e k = (e, k)
-stage_of_closed p gs h (Broken f) e k = (e, k)
-stage_of_closed p gs h (Good g) e k = (e, k)
 
 -- ---- nodes of the last tree come
 

@@ -11,7 +11,7 @@ use Rattle.block_evidence.specs.declared.sight_tree.Tree.{Tree}
 use Rattle.portal_walk.specs.Nodes.{IsAnswered}
 use Rattle.cert_format.specs.declared.cert.Labelled.{Labelled}
 use Rattle.cert_format.specs.declared.cert.Sizes.{Sizes}
-use Rattle.cert_format.specs.Grammar.{IsRayInRange, IsTreeInRange}
+use Rattle.cert_format.specs.Grammar.{IsTreeInRange}
 use Rattle.cert_format.specs.CertGroups.Grammar.{IsTwoInOrder, grouped_sizes}
 use Rattle.certificates.specs.CertExact.Grammar.{as_two, trees_from}
 use Rattle.cert_format.specs.Sizes.{sizes_of}

@@ -1,7 +1,6 @@
 -- What walks of all groups make.
-use Rattle.std.proofs.Common.{◌≡◌, ◌≢◌, ℕ, ◌<◌, ◌/◌, ◌%◌, List, Option, Some, None, Contains, true, false, refl, sym, subst, slice_index, arith}
+use Rattle.std.proofs.Common.{◌≡◌, ◌≢◌, ℕ, ◌<◌, ◌/◌, ◌%◌, List, Option, None, true, false, refl, subst, slice_index, arith}
 use Rattle.std.specs.Int.{bit_at}
-use Rattle.std.specs.List.{slice_get}
 use Rattle.std.specs.Prelude.{All, IfOk, Result, Ok, Err}
 use Rattle.std.proofs.lemmas.List.Elements.{All-contains, All-from_recursion}
 use Rattle.math_base.proofs.Bools.{false_of_not, second_true}
@@ -28,7 +27,7 @@ use Rattle.row_trees.specs.declared.made.Made.{Made}
 use Rattle.row_trees.specs.Made.{AreSeen, AreWanted, IsMade}
 use Rattle.row_trees.specs.Walkable.{Ground, IsWalkable}
 use Rattle.exact_checker.specs.TaskCrew.Done.{AreDone}
-use Rattle.exact_job.specs.Trees.{AreWalksOf, IsOwnedWalk, IsWantedWalk}
+use Rattle.exact_job.specs.Trees.{AreWalksOf, IsOwnedWalk}
 use Rattle.exact_checker.specs.Owning.{IsOwnedBit, KnowsOwning, OwningParts}
 use Rattle.exact_checker.specs.Judged.{AnswersFor}
 use Rattle.exact_checker.proofs.Judging.{answers_for}

@@ -1,7 +1,7 @@
 -- Rounds: what walks found is noted, each round has more rays than the one before, and there are no more than pairs.
 use Rattle.std.proofs.Common.{◌≡◌, ◌≢◌, ℕ, ◌+◌, ◌*◌, ◌^◌, ◌<◌, ◌≤◌, ◌⊎◌, inl, inr, List, [], ◌∷◌, ◌++◌, Some, Contains, length, map, take, get_or, refl, sym, ap, ◌∙◌, subst, arith}
 use Rattle.std.specs.Prelude.{All, Bool, MatchBool, true, false}
-use Rattle.std.specs.List.{AllByRecursion, slice_get}
+use Rattle.std.specs.List.{slice_get}
 use Rattle.std.proofs.lemmas.List.{append_assoc, length-map, map_more, take_all}
 use Rattle.std.proofs.lemmas.List.Elements.{All-append, All-contains, All-from_recursion, Contains-append_left, Contains-append_right}
 use Rattle.std.proofs.lemmas.Option.{same_Some, slice_get-get_or, slice_get_within}
@@ -26,7 +26,7 @@ use Rattle.cert_format.specs.Grammar.{IsRayInRange}
 use Rattle.cert_checker.specs.Pairs.{IsWithin}
 use Rattle.cert_checker.specs.Rays.{AreSightRaysBelow}
 use Rattle.pair_budget.specs.declared.results.Reached.{Reached}
-use Rattle.pair_budget.specs.PairRays.{HasRayFor, toward}
+use Rattle.pair_budget.specs.PairRays.{toward}
 use Rattle.pair_budget.specs.Walked.{IsReachedFrom}
 use Rattle.pair_budget.proofs.FoundSectorsLaws.{pair_is, toward_down, toward_up}
 use Rattle.cert_checker.specs.AcceptedGroups.Accepted.{AreGroupsJoined}

@@ -7,8 +7,8 @@ use Rattle.std.proofs.lemmas.Option.{none-some, same_Some, slice_get_within, sli
 use Rattle.math_base.proofs.Numbers.{below_or_last, same_or_not, below_or_not, bit_of_left, bit_of_right, bit_of_none}
 use Rattle.sight_names.proofs.Lists.{get_of_contains, contains_of_get}
 use Rattle.sight_names.specs.Groups.{IsInGroup}
-use Rattle.reject_bits.specs.Parts.{TableParts, Rejects, SetsPair, KeepsOtherPairs}
-use Rattle.cert_checker.specs.AcceptedGroups.Accepted.{AreGroupsJoined, IsGroupedSeen}
+use Rattle.reject_bits.specs.Parts.{TableParts, Rejects}
+use Rattle.cert_checker.specs.AcceptedGroups.Accepted.{IsGroupedSeen}
 use Rattle.cert_checker.specs.Pairs.{AreSomeJoined}
 use Rattle.certificates.specs.declared.cert_exact.cert.ExactParts.{ExactParts}
 use Rattle.certificates.specs.CertExact.Grammar.{as_two}
@@ -18,7 +18,7 @@ use Rattle.gate_floods.specs.GateMasks.Words.{HasBit}
 use Rattle.gate_floods.proofs.RowJudge.Bits.{beyond}
 use Rattle.group_checker.specs.Members.{AreMembers}
 use Rattle.group_job.specs.Marks.{SetsMore, OfSteps, HasSteps}
-use Rattle.group_job.proofs.Marks.{sets_as, sets_next, sets_one, sets_skip}
+use Rattle.group_job.proofs.Marks.{sets_as}
 use Rattle.exact_checker.specs.Rows.{AreJoinedRows}
 use Rattle.exact_checker.proofs.JoinedRows.{in_joined}
 use Rattle.exact_job.specs.Table.{HasNoneIn, HasSome, IsJoinedWithSome, IsRowOf, IsTableOf}

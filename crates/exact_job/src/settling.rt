@@ -1,7 +1,6 @@
 //! Rounds of walks with what each group owns, until none of them finds anything.
 
-ghost use Rattle.std.specs.Prelude.{◌≡◌, ◌≢◌, ◌<◌, ◌≤◌, ℕ, List, [], Some, All, IfOk, true, false, MatchBool, OnOk, length, slice_get};
-ghost use Rattle.sight_names.specs.declared.names.PairRay.{PairRay as RayOf};
+ghost use Rattle.std.specs.Prelude.{◌≡◌, ◌≢◌, ◌<◌, ℕ, List, [], Some, All, IfOk, true, false, MatchBool, OnOk, length, slice_get};
 ghost use Rattle.sight_names.specs.declared.names.Triangle.{Triangle as TriangleOf};
 ghost use Rattle.sight_names.specs.Plan.{IsPlan, PlanParts};
 ghost use Rattle.sight_names.specs.Ray.{IsInRange};

@@ -2,7 +2,7 @@
 use Rattle.std.proofs.Common.{◌≡◌, ◌≢◌, ℕ, ◌+◌, ◌<◌, ◌≤◌, ◌⊎◌, inl, inr, List, [], ◌∷◌, ◌++◌, length, slice_get, Contains, Some, sym, subst, arith}
 use Rattle.std.proofs.lemmas.List.Elements.{Contains-append_left, Contains-push, Contains-push_cases}
 use Rattle.std.proofs.lemmas.Option.{slice_get_within}
-use Rattle.math_base.proofs.Lists.{contains_none, pushed_at}
+use Rattle.math_base.proofs.Lists.{pushed_at}
 use Rattle.math_base.proofs.Numbers.{below_or_not}
 use Rattle.sight_names.proofs.Lists.{contains_of_get}
 use Rattle.sight_names.specs.declared.names.Pair.{Pair}
@@ -15,16 +15,6 @@ use Rattle.group_job.specs.Rows.{IsBetween, ListedBefore}
 use Rattle.group_job.specs.Sectors.{ListsBetween}
 
 module _ (these others : TableParts) where
-  pub list_none : ListedBefore these others 0 0 []
-  list_none = record { exactly = λ q. (λ c. absurd (contains_none q c), λ h. absurd (nowhere q h.1)); ascend = λ i j x y lt h k. absurd (nothing x i h) }
-    where
-      nowhere : (q : Pair) → ¬ IsEarlier q.a q.b 0 0
-      nowhere q (inl h) = omega (arith, h)
-      nowhere q (inr h) = let k = h.1 in omega (arith, k)
-
-      nothing : (x : Pair) (i : ℕ) → ¬ (slice_get [] i ≡ Some x)
-      nothing x i h = let w = slice_get_within [] i x h in omega (arith, w)
-
   pub list_skip : (a b m : ℕ) (xs : List Pair) → b ≤ m → ListedBefore these others a b xs → ((d : ℕ) → b ≤ d → d < m → ¬ IsBetween these others a d) → ListedBefore these others a m xs
   list_skip a b m xs le before none = record {
     exactly = λ q. (

@@ -3,7 +3,7 @@ use Rattle.std.specs.Prelude.{◌≡◌, ℕ, ◌+◌, ◌*◌, ◌<◌, List, O
 use Rattle.sight_names.specs.declared.names.Pt.{Pt}
 use Rattle.sight_names.specs.declared.plan.Line.{Line}
 use Rattle.sight_names.specs.Plan.{IsBefore}
-use Rattle.sight_names.specs.Map.{Map, MapLine}
+use Rattle.sight_names.specs.Map.{MapLine}
 use Rattle.sight_names.specs.Points.{ends_of}
 use Rattle.sight_names.specs.declared.names.MapFormat.{MapFormat}
 use Rattle.sight_names.specs.Lumps.{u16_at, linedef_len, right_at, left_at, count_linedefs, line_fault}
@@ -33,10 +33,6 @@ linedef_at format linedefs k = record {
 -- a placed line is a line of the map
 abbrev pub as_map_line : PlacedLine → MapLine
 as_map_line l = record { first = l.first; second = l.second; solid = l.solid; right = l.right; left = l.left }
-
--- the map of so many sectors and of these lines
-abbrev pub map_of_placed : ℕ → List (Option PlacedLine) → Map
-map_of_placed sectors lines = record { sectors = sectors; lines = map (option_map as_map_line) lines }
 
 -- each record names vertices, sides and sectors that are there
 abbrev pub AllSound : MapFormat → List ℕ → List ℕ → List ℕ → List ℕ → Type 0

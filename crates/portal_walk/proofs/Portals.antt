@@ -1,8 +1,6 @@
 -- The half-edge behind a portal is one by which one comes in; where there is none, the portal is closed.
 use Rattle.std.proofs.Common.{◌≡◌, ◌≢◌, ℕ, ◌+◌, ◌*◌, ◌<◌, inl, inr, List, Option, Some, None, Bool, true, false, IsSome, length, option_and_then, option_map, option_copied, slice_get, refl, sym, ap, ◌∙◌, subst, true≢false, Bor, arith}
 use Rattle.std.specs.Prelude.{if◌then◌else◌}
-use Rattle.std.specs.Option.{option_eq}
-use lib.Dec.{eqb}
 use Rattle.std.proofs.lemmas.Option.{none-some, same_Some}
 use Rattle.sight_names.specs.declared.names.Triangle.{Triangle}
 use Rattle.sight_names.specs.Map.{map_of}
@@ -15,12 +13,11 @@ use Rattle.sight_names.proofs.PlanNumbers.{count_of_plan, place_of_plan}
 use Rattle.mesh_shape.specs.declared.half_edges.table.HalfEdge.{HalfEdge}
 use Rattle.mesh_shape.specs.HalfEdges.HalfEdges.{IsHalfEdge, entering, portal_of, way_outside}
 use Rattle.mesh_shape.specs.HalfEdges.Numbers.{corner_of, number_of}
-use Rattle.mesh_shape.proofs.HalfEdges.Reached.{reached}
 use Rattle.portal_walk.specs.declared.scene.Way.{Way as WayOut}
 use Rattle.portal_walk.specs.declared.scene.Way.TheVariants.{Left, Right}
 use Rattle.portal_walk.specs.Scene.{SceneParts, IsScene, IsNumber, IsEntry, IsClosed, Finds, FindsWay, behind, exit_of}
 use Rattle.portal_walk.proofs.EdgeEnds.{edge_ends}
-use Rattle.portal_walk.proofs.SideLines.{arrives, names_test}
+use Rattle.portal_walk.proofs.SideLines.{arrives}
 use Rattle.math_base.proofs.Lists.{get_there}
 use Rattle.sight_names.proofs.Roots.{names_true}
 use Rattle.sight_names.proofs.Portals.{triangle_within}
@@ -49,10 +46,6 @@ entering_some ts xs e i x h at = ap (option_and_then (λ (i : ℕ). option_and_t
 
 pub outside_some : (xs : List HalfEdge) (source i : ℕ) (x : HalfEdge) → slice_get xs i ≡ Some x → way_outside xs source (Some i) ≡ (if names_it x.sector source then None else Some i)
 outside_some xs source i x at = ap (option_and_then (λ (x : HalfEdge). if names_it x.sector source then None else Some i)) at
-
--- the same by the test of the half-edge's sector
-pub outside_by : (xs : List HalfEdge) (source k : ℕ) (y : HalfEdge) (way : Option ℕ) (b : Bool) → slice_get xs k ≡ Some y → way ≡ Some k → option_eq eqb y.sector (Some source) ≡ b → ◌≡◌ {A = Option ℕ} (if b then None else Some k) (way_outside xs source way)
-outside_by xs source k y way b at is named = ap (λ (c : Bool). let o : Option ℕ = if c then None else Some k in o) (sym named ∙ sym (names_test y.sector source)) ∙ sym (outside_some xs source k y at) ∙ ap (way_outside xs source) (sym is)
 
 -- ---- one half-edge
 
@@ -145,14 +138,6 @@ found_on s i from (e, number) x at way found is = λ y here.
     let same_x : x ≡ there.0 = same_Some x there.0 (sym at ∙ there.1) in
     let half : IsHalfEdge s.plan s.mesh.triangles s.labels s.edges e y = subst (IsHalfEdge s.plan s.mesh.triangles s.labels s.edges e) same there.2 in
     found_behind s i (exit_of y way) found (is ∙ ap (λ (z : HalfEdge). way_outside s.edges s.source (behind z way)) (same_x ∙ same) ∙ ap (way_outside s.edges s.source) (way_behind s e y way half))
-
--- behind a way that isn't closed a half-edge has its number
-pub behind_number : (s : SceneParts) → IsScene s → (from : ℕ) → IsNumber s.mesh.triangles from → (x : HalfEdge) → slice_get s.edges from ≡ Some x → (way : WayOut) (k : ℕ) → behind x way ≡ Some k → IsNumber s.mesh.triangles k
-behind_number s i from (e, number) x at way k is =
-    let there = i.edges.each e from number in
-    let half : IsHalfEdge s.plan s.mesh.triangles s.labels s.edges e x = subst (IsHalfEdge s.plan s.mesh.triangles s.labels s.edges e) (same_Some there.0 x (sym there.1 ∙ at)) there.2 in
-    let way_edge = entry_edge (exit_of x way) in
-    (way_edge, (reached s.plan s.mesh.triangles s.labels s.edges i.edges way_edge k (sym (way_behind s e x way half) ∙ is)).number)
 
 -- what a number gives is there
 pub copied_there : (o : Option (Bor HalfEdge)) (x : HalfEdge) → option_copied o ≡ Some x → IsSome o

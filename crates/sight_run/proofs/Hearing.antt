@@ -1,12 +1,10 @@
 -- What the listeners have heard where a call ends, by how far it came.
-use Rattle.std.proofs.Common.{◌≡◌, ℕ, inl, inr, List, Option, Some, None, Result, Ok, Err, refl, sym, subst}
-use Rattle.sight_names.specs.declared.names.Method.{Method}
+use Rattle.std.proofs.Common.{◌≡◌, ℕ, inl, inr, List, Option, Some, Result, Ok, Err, sym, subst}
 use Rattle.listeners.specs.declared.finding.Finding.{Finding}
 use Rattle.shelf_io.specs.Shelf.{Files, ShelfState}
 use Rattle.shelf_io.specs.Sink.{SinkState}
 use Rattle.order_words.specs.declared.order.Order.{Order}
 use Rattle.order_words.specs.declared.order.Order.TheVariants as order
-use Rattle.order_words.specs.declared.order.Source.{Source}
 use Rattle.map_answers.specs.declared.sight_status.status.Role.{Role}
 use Rattle.map_answers.specs.declared.sight_status.status.Role.TheVariants as role
 use Rattle.map_answers.specs.declared.sight_status.status.Status.{Status}
@@ -14,12 +12,10 @@ use Rattle.map_answers.specs.declared.sight_status.status.Status.TheVariants as 
 use Rattle.map_answers.specs.SightStatus.Say.{Refused, Said, SaidIfMade}
 use Rattle.map_answers.specs.SightStatus.Status.{IsOfMaking}
 use Rattle.map_answers.specs.SightStatus.Texts.{text_of}
-use Rattle.map_answers.specs.Input.{LocatedMap}
 use Rattle.whole_wad.specs.Built.{IsOfBuilding}
-use Rattle.sight_run.specs.Heard.{AllHeard, AreFindingsIn, AreFindingsOf, AreOfFound, BuildHears, FrontsHeard, Heard, Hears, IsUnheard, OrderHears}
-use Rattle.sight_run.specs.Reading.{found_of}
+use Rattle.sight_run.specs.Heard.{AreFindingsIn, BuildHears, Heard, Hears, IsUnheard, OrderHears}
 use Rattle.sight_run.specs.Reply.{IsFaultOf}
-use Rattle.sight_run.specs.Run.{HasLine, IsOfReading, IsUnstored, RefusalCause}
+use Rattle.sight_run.specs.Run.{HasLine, IsUnstored, RefusalCause}
 
 -- ---- nothing was told
 

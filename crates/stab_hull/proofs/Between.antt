@@ -18,9 +18,6 @@ use Rattle.stab_hull.specs.Chains.{LiesBetween}
 pub further : (a i b c : Pt) → LiesBetween a i b → LiesBetween a b c → LiesBetween a i c
 further a i b c h k = λ p q m l r. h p q m l (k p q m l r)
 
-pub at_end : (a c : Pt) → LiesBetween a c c
-at_end a c = λ p q m l r. r
-
 -- what a linear form says of a point
 abbrev pub form : ℤ → ℤ → Pt → ℤ
 form p q u = p *ℤ u.x +ℤ q *ℤ u.y

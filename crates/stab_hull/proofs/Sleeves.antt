@@ -1,6 +1,6 @@
 -- Portals that a line passes, with what is of them on the stacks: one more of them, and fewer.
-use Rattle.std.proofs.Common.{◌≡◌, ℕ, ◌+◌, ◌-◌, ◌<◌, ◌≤◌, List, [], ◌∷◌, ◌++◌, length, take, Some, None, Result, Ok, Err, get_or, refl, sym, ap, ◌∙◌, arith, inl, inr, subst, length-take-le}
-use Rattle.std.specs.Prelude.{map, option_map, slice_get, IfOk}
+use Rattle.std.proofs.Common.{◌≡◌, ℕ, ◌+◌, ◌-◌, ◌<◌, ◌≤◌, List, [], ◌∷◌, ◌++◌, length, take, Some, None, Ok, Err, get_or, refl, sym, ap, ◌∙◌, arith, inl, inr, subst, length-take-le}
+use Rattle.std.specs.Prelude.{map, option_map, slice_get}
 use Rattle.std.proofs.lemmas.Int.{ints}
 use Rattle.std.proofs.lemmas.List.{length-map, take-map, take_all, take-take, take-append-le}
 use Rattle.std.proofs.lemmas.Option.{slice_get-get_or, slice_get-map, slice_get_within}
@@ -36,9 +36,6 @@ use Rattle.stab_hull.proofs.Lines.{hull_splits}
 use Rattle.stab_hull.proofs.TwoForms.{right_same, left_same}
 use Rattle.math_base.proofs.Lists.{get_pushed, get_there, length_pushed, map_pushed}
 use Rattle.math_base.proofs.Options.{some_is_same, none_is_not_some}
-
-pub ok_part : {X E : Type 0} (P : X → Type 0) (r : Result X E) (x : X) → r ≡ Ok x → IfOk r P → P x
-ok_part P r x e h = subst (λ o. IfOk o P) e h
 
 -- the stacks have the ends and the cone of all portals
 pub whole : (fs : List Frame) (ls rs : List EndAt) (cs : List Cone) → IsSleeve fs ls rs cs → 0 < length fs → IsHullOf (portals_of fs) ls rs cs

@@ -1,4 +1,4 @@
-use Rattle.std.proofs.Common.{◌≡◌, ℕ, ◌<◌, ap, arith}
+use Rattle.std.proofs.Common.{◌≡◌, ap, arith}
 use Rattle.sight_names.specs.Plan.{PlanParts}
 use Rattle.row_trees.specs.Walkable.{Ground}
 use Rattle.exact_job.proofs.Walks.{walkable}

@@ -1,7 +1,5 @@
-use Rattle.std.proofs.Common.{◌≡◌, ℕ, ◌<◌, List, Some, length, ap, sym, ◌∙◌, subst}
-use Rattle.std.specs.List.{slice_get}
+use Rattle.std.proofs.Common.{◌<◌, List, sym, ◌∙◌, subst}
 use Rattle.std.specs.Prelude.{All}
-use Rattle.row_trees.specs.declared.made.Made.{Made}
 use Rattle.row_trees.specs.Walkable.{IsWalkable}
 use Rattle.exact_job.specs.declared.walk_tasks.Wanted.{Wanted}
 use Rattle.exact_job.specs.Waves.{AreSeenOf}

@@ -1,4 +1,4 @@
-use Rattle.std.proofs.Common.{◌≡◌, List, sym, subst, arith}
+use Rattle.std.proofs.Common.{List, sym, subst, arith}
 use Rattle.std.specs.Prelude.{All}
 use Rattle.sight_names.specs.declared.names.PairRay.{PairRay}
 use Rattle.pair_budget.specs.PairRays.{toward}

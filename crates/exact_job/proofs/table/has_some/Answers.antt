@@ -1,7 +1,7 @@
-use Rattle.std.proofs.Common.{ℕ, refl, arith}
+use Rattle.std.proofs.Common.{ℕ, arith}
 use Rattle.std.proofs.lemmas.Option.{slice_get-get_or}
 use Rattle.gate_floods.specs.GateMasks.Words.{HasBit}
-use Rattle.cert_checker.proofs.Each.{at_place, each_more, each_all, no_true, yes_true, refuses}
+use Rattle.cert_checker.proofs.Each.{each_more, each_all, no_true, refuses}
 use Rattle.exact_job.specs.Table.{HasSome}
 use Rattle.exact_job.proofs.table.has_some.Goals as goal
 

@@ -1,4 +1,4 @@
-use Rattle.std.proofs.Common.{ℕ, refl, arith}
+use Rattle.std.proofs.Common.{refl, arith}
 use Rattle.exact_job.proofs.Tables.{word_put, words_put}
 use Rattle.exact_job.proofs.table.join.Goals as goal
 

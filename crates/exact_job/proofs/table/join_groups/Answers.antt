@@ -1,4 +1,4 @@
-use Rattle.std.proofs.Common.{ℕ, arith}
+use Rattle.std.proofs.Common.{arith}
 use Rattle.std.proofs.lemmas.Option.{slice_get-get_or}
 use Rattle.exact_job.proofs.Tables.{no_groups_put, group_put, groups_put}
 use Rattle.exact_job.proofs.table.join_groups.Goals as goal

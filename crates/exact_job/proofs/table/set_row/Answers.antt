@@ -1,4 +1,4 @@
-use Rattle.std.proofs.Common.{sym, ◌∙◌, arith}
+use Rattle.std.proofs.Common.{arith}
 use Rattle.math_base.proofs.Bools.{not_both_values}
 use Rattle.group_job.proofs.Marks.{sets_next, sets_none, sets_one, sets_skip}
 use Rattle.exact_job.proofs.Tables.{RowStep, row_set, step_none, step_set}

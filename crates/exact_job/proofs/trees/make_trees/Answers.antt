@@ -11,7 +11,7 @@ use Rattle.gate_floods.specs.Exact.{IsClaimed}
 use Rattle.gate_floods.specs.RowJudge.Laws.{AreMasks}
 use Rattle.gate_floods.specs.RowJudge.Masks.{MaskRows}
 use Rattle.row_trees.specs.declared.made.Made.{Made}
-use Rattle.row_trees.specs.Walkable.{Ground, IsWalkable}
+use Rattle.row_trees.specs.Walkable.{IsWalkable}
 use Rattle.exact_checker.specs.Owning.{AreRanks, OwningParts}
 use Rattle.exact_checker.specs.Rows.{AreJoinedRows}
 use Rattle.exact_checker.specs.Judged.{AreTreesOf}

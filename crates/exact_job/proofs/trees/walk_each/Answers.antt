@@ -1,4 +1,3 @@
-use Rattle.std.proofs.Common.{subst}
 use Rattle.exact_checker.specs.Owning.{owning_of}
 use Rattle.gate_floods.specs.RowJudge.Masks.{rows_of}
 use Rattle.exact_job.proofs.Making.{owned_walks}
