@@ -1,16 +1,14 @@
 -- The path of a walk as a track of portals, each with its frame for a note.
-use Rattle.std.proofs.Common.{◌≡◌, ℕ, ◌-◌, ◌<◌, List, length, take, slice_get, slice_set, get_or, Some, sym, ap, ◌∙◌}
+use Rattle.std.proofs.Common.{◌≡◌, ℕ, ◌-◌, ◌<◌, List, length, take, slice_get, slice_set, get_or, Some, refl, sym, ap, ◌∙◌}
 use Rattle.std.specs.Prelude.{map, option_map}
 use Rattle.std.proofs.lemmas.List.{length-map, map-set}
 use Rattle.std.proofs.Math.Seq.{map-set_same}
 use Rattle.std.proofs.lemmas.Option.{slice_get-map, slice_get-get_or, same_Some}
 use Rattle.sight_names.specs.Splitting.{EndPoints}
 use Rattle.stab_hull.specs.declared.frame.Noted.{Noted}
-use Rattle.stab_hull.specs.declared.onward.Told.TheVariants as told
-use Rattle.stab_hull.specs.declared.Passed.TheVariants as passed
-use Rattle.stab_hull.specs.Portals.{portals_of}
-use Rattle.stab_hull.specs.Sleeves.{frame_of, frames_of, note_of}
-use Rattle.stab_hull.proofs.Sleeves.{fewer_ends, fewer_notes}
+use Rattle.stab_hull.specs.Portals.{portal_of, portals_of}
+use Rattle.stab_hull.specs.Sleeves.{HasLastLeft, HasLastRight, frame_of, frames_of, note_of}
+use Rattle.stab_hull.proofs.Sleeves.{fewer_ends, fewer_notes, last_noted}
 use Rattle.portal_walk.specs.declared.path.Frame.{Frame}
 use Rattle.portal_walk.specs.declared.path.Ways.{Ways}
 use Rattle.portal_walk.specs.Frames.{PathParts, HasWays, first_portals, with_ways}
@@ -44,3 +42,14 @@ path_set xs ys n x w l g e f at =
     joined (map note_of ys) (slice_set (map note_of xs) n (with_ways f w)) (portals_of (frames_of ys)) (portals_of (frames_of xs))
     (ap (map note_of) e ∙ map-set note_of xs n (renoted x w) ∙ ap (λ (h : Frame). slice_set (map note_of xs) n (with_ways h w)) same)
     (ap portals_of (track_set xs ys n x w g e))
+
+-- ---- the last ends, as they are read
+module _ (xs : List (Noted Frame)) (x : Noted Frame) (n : ℕ) (k : n ≡ length xs) (some : 0 < length xs) (g : x ≡ get_or xs (n - 1) x) where
+  last_ends : slice_get (portals_of (frames_of xs)) (length (portals_of (frames_of xs)) - 1) ≡ Some (portal_of x.frame)
+  last_ends = ap (λ (m : ℕ). slice_get (portals_of (frames_of xs)) (m - 1)) (length-map (frames_of xs) portal_of) ∙ slice_get-map portal_of (frames_of xs) (length (frames_of xs) - 1) ∙ ap (option_map portal_of) (last_noted xs xs n x refl k some g)
+
+  pub last_left : HasLastLeft (portals_of (frames_of xs)) x.frame.left
+  last_left = (portal_of x.frame, last_ends, refl)
+
+  pub last_right : HasLastRight (portals_of (frames_of xs)) x.frame.right
+  last_right = (portal_of x.frame, last_ends, refl)

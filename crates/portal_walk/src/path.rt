@@ -72,6 +72,24 @@ impl Path {
         }
     }
 
+    /// The left end of the last portal.
+    #[inline(always)]
+    pub fn last_left(&self) -> Pt
+        requires { 0 < length self.now.frames }
+        ensures { HasLastLeft self.now.ends result }
+    {
+        self.track.portals[self.track.portals.len() - 1].frame.left
+    }
+
+    /// The right one.
+    #[inline(always)]
+    pub fn last_right(&self) -> Pt
+        requires { 0 < length self.now.frames }
+        ensures { HasLastRight self.now.ends result }
+    {
+        self.track.portals[self.track.portals.len() - 1].frame.right
+    }
+
     /// Writes the ways that a portal has left.
     #[inline(always)]
     pub fn set_ways(&mut self, at: usize, ways: Ways)

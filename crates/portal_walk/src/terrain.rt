@@ -16,8 +16,8 @@ use std::marker::Model;
 #[derive(Drop)]
 pub struct Terrain {
     edges: HalfEdges,
-    lefts: Vec<Option<Ahead>>,
-    rights: Vec<Option<Ahead>>,
+    lefts: Vec<Ahead>,
+    rights: Vec<Ahead>,
     roots: Roots,
 }
 
@@ -53,14 +53,14 @@ impl Terrain {
     }
 
     /// What is ahead by the left way out of each half-edge's triangle.
-    pub(crate) fn lefts(&self) -> &[Option<Ahead>]
+    pub(crate) fn lefts(&self) -> &[Ahead]
         ensures { result.now ≡ self.now.lefts }
     {
         self.lefts.as_slice()
     }
 
     /// The same of the right way.
-    pub(crate) fn rights(&self) -> &[Option<Ahead>]
+    pub(crate) fn rights(&self) -> &[Ahead]
         ensures { result.now ≡ self.now.rights }
     {
         self.rights.as_slice()

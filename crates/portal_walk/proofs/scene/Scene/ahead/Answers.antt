@@ -1,4 +1,4 @@
-use Rattle.std.proofs.Common.{◌≡◌, ◌<◌, Option, Some, None, slice_get, sym, subst, arith}
+use Rattle.std.proofs.Common.{◌≡◌, Bor, Option, Some, None, option_copied, slice_get, sym, ap, subst, ◌∙◌}
 use Rattle.mesh_shape.specs.declared.half_edges.table.HalfEdge.{HalfEdge}
 use Rattle.portal_walk.specs.declared.ahead.Ahead.{Ahead}
 use Rattle.portal_walk.specs.Ahead.{FindsAhead, ahead_by}
@@ -11,24 +11,22 @@ returns-in_err-ahead c =
     let i = c.self.inside in
     let s : SceneParts = record { plan = i.plan.now; mesh = i.mesh.now; labels = i.labels.now; source = i.source; edges = i.edges.now } in
     let number = subst (λ (p : SceneParts). IsNumber p.mesh.triangles c.args.from) (sym c.self.view_is) c.requires in
-    let is = subst (λ (p : SceneParts). (x : HalfEdge) → slice_get p.edges c.args.from ≡ Some x → c.ahead_in.result ≡ ahead_by p.edges (behind x c.args.way)) (sym c.self.view_is) c.ahead_in.ensures in
-    subst (λ (p : SceneParts). FindsAhead p c.args.from c.args.way c.from_residual.result) c.self.view_is
-    (subst (λ (o : Option Ahead). FindsAhead s c.args.from c.args.way o) (sym c.from_residual.ensures) (finds_none s c.self.invariant.0 c.args.from number c.args.way c.ahead_in.result is c.in_err-ahead.was))
+    let is = subst (λ (p : SceneParts). (x : HalfEdge) → slice_get p.edges c.args.from ≡ Some x → option_copied c.ahead_in.result ≡ ahead_by p.edges c.args.way (behind x c.args.way)) (sym c.self.view_is) c.ahead_in.ensures in
+    subst (λ (p : SceneParts). FindsAhead p c.args.from c.args.way (option_copied c.from_residual.result)) c.self.view_is
+    (subst (λ (o : Option (Bor Ahead)). FindsAhead s c.args.from c.args.way (option_copied o)) (sym c.from_residual.ensures) (finds_none s c.self.invariant.0 c.args.from number c.args.way (option_copied c.ahead_in.result) is (ap (λ (o : Option (Bor Ahead)). option_copied o) c.in_err-ahead.was)))
 
-pub returns-then-ahead-source : goal.returns-then-ahead-source
-returns-then-ahead-source c =
+pub returns-then-is_in : goal.returns-then-is_in
+returns-then-is_in c =
     let i = c.self.inside in
     let s : SceneParts = record { plan = i.plan.now; mesh = i.mesh.now; labels = i.labels.now; source = i.source; edges = i.edges.now } in
     let number = subst (λ (p : SceneParts). IsNumber p.mesh.triangles c.args.from) (sym c.self.view_is) c.requires in
-    let fits : i.source < 65536 = omega arith in
-    let is = subst (λ (p : SceneParts). (x : HalfEdge) → slice_get p.edges c.args.from ≡ Some x → c.ahead_in.result ≡ ahead_by p.edges (behind x c.args.way)) (sym c.self.view_is) c.ahead_in.ensures in
-    subst (λ (p : SceneParts). FindsAhead p c.args.from c.args.way None) c.self.view_is (finds_source s c.self.invariant.0 c.args.from number c.args.way c.ahead_in.result is c.in_ok-ahead.ahead c.in_ok-ahead.was fits c.if-ahead-source.true)
+    let is = subst (λ (p : SceneParts). (x : HalfEdge) → slice_get p.edges c.args.from ≡ Some x → option_copied c.ahead_in.result ≡ ahead_by p.edges c.args.way (behind x c.args.way)) (sym c.self.view_is) c.ahead_in.ensures in
+    subst (λ (p : SceneParts). FindsAhead p c.args.from c.args.way None) c.self.view_is (finds_source s c.self.invariant.0 c.args.from number c.args.way (option_copied c.ahead_in.result) is c.in_ok-ahead.ahead.now (ap (λ (o : Option (Bor Ahead)). option_copied o) c.in_ok-ahead.was) (sym c.is_in.ensures ∙ c.if-is_in.true))
 
-pub returns-else-ahead-source : goal.returns-else-ahead-source
-returns-else-ahead-source c =
+pub returns-else-is_in : goal.returns-else-is_in
+returns-else-is_in c =
     let i = c.self.inside in
     let s : SceneParts = record { plan = i.plan.now; mesh = i.mesh.now; labels = i.labels.now; source = i.source; edges = i.edges.now } in
     let number = subst (λ (p : SceneParts). IsNumber p.mesh.triangles c.args.from) (sym c.self.view_is) c.requires in
-    let fits : i.source < 65536 = omega arith in
-    let is = subst (λ (p : SceneParts). (x : HalfEdge) → slice_get p.edges c.args.from ≡ Some x → c.ahead_in.result ≡ ahead_by p.edges (behind x c.args.way)) (sym c.self.view_is) c.ahead_in.ensures in
-    subst (λ (p : SceneParts). FindsAhead p c.args.from c.args.way (Some c.in_ok-ahead.ahead)) c.self.view_is (finds_edge s c.self.invariant.0 c.args.from number c.args.way c.ahead_in.result is c.in_ok-ahead.ahead c.in_ok-ahead.was fits c.if-ahead-source.false)
+    let is = subst (λ (p : SceneParts). (x : HalfEdge) → slice_get p.edges c.args.from ≡ Some x → option_copied c.ahead_in.result ≡ ahead_by p.edges c.args.way (behind x c.args.way)) (sym c.self.view_is) c.ahead_in.ensures in
+    subst (λ (p : SceneParts). FindsAhead p c.args.from c.args.way (Some c.in_ok-ahead.ahead.now)) c.self.view_is (finds_edge s c.self.invariant.0 c.args.from number c.args.way (option_copied c.ahead_in.result) is c.in_ok-ahead.ahead.now (ap (λ (o : Option (Bor Ahead)). option_copied o) c.in_ok-ahead.was) (sym c.is_in.ensures ∙ c.if-is_in.false))
