@@ -8,7 +8,7 @@ use Rattle.sight_names.specs.Splitting.{EndPoints}
 use Rattle.stab_hull.specs.declared.frame.Noted.{Noted}
 use Rattle.stab_hull.specs.Portals.{portal_of, portals_of}
 use Rattle.stab_hull.specs.Sleeves.{HasLastLeft, HasLastRight, frame_of, frames_of, note_of}
-use Rattle.stab_hull.proofs.Sleeves.{fewer_ends, fewer_notes, last_noted}
+use Rattle.stab_hull.proofs.Sleeves.{fewer_ends, fewer_notes, last_ends}
 use Rattle.portal_walk.specs.declared.path.Frame.{Frame}
 use Rattle.portal_walk.specs.declared.path.Ways.{Ways}
 use Rattle.portal_walk.specs.Frames.{PathParts, HasWays, first_portals, with_ways}
@@ -45,11 +45,8 @@ path_set xs ys n x w l g e f at =
 
 -- ---- the last ends, as they are read
 module _ (xs : List (Noted Frame)) (x : Noted Frame) (n : ℕ) (k : n ≡ length xs) (some : 0 < length xs) (g : x ≡ get_or xs (n - 1) x) where
-  last_ends : slice_get (portals_of (frames_of xs)) (length (portals_of (frames_of xs)) - 1) ≡ Some (portal_of x.frame)
-  last_ends = ap (λ (m : ℕ). slice_get (portals_of (frames_of xs)) (m - 1)) (length-map (frames_of xs) portal_of) ∙ slice_get-map portal_of (frames_of xs) (length (frames_of xs) - 1) ∙ ap (option_map portal_of) (last_noted xs xs n x refl k some g)
-
   pub last_left : HasLastLeft (portals_of (frames_of xs)) x.frame.left
-  last_left = (portal_of x.frame, last_ends, refl)
+  last_left = (portal_of x.frame, last_ends xs x n k some g, refl)
 
   pub last_right : HasLastRight (portals_of (frames_of xs)) x.frame.right
-  last_right = (portal_of x.frame, last_ends, refl)
+  last_right = (portal_of x.frame, last_ends xs x n k some g, refl)

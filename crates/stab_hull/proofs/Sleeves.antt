@@ -3,7 +3,7 @@ use Rattle.std.proofs.Common.{◌≡◌, ℕ, ◌+◌, ◌-◌, ◌<◌, ◌≤�
 use Rattle.std.specs.Prelude.{map, option_map, slice_get}
 use Rattle.std.proofs.lemmas.Int.{ints}
 use Rattle.std.proofs.lemmas.List.{length-map, take-map, take_all, take-take, take-append-le}
-use Rattle.std.proofs.lemmas.Option.{slice_get-get_or, slice_get-map, slice_get_within}
+use Rattle.std.proofs.lemmas.Option.{same_Some, slice_get-get_or, slice_get-map, slice_get_within}
 use Rattle.sight_names.specs.declared.limits.TheConstants.{RIGHT_END}
 use Rattle.sight_names.specs.declared.names.Memory.{Memory}
 use Rattle.sight_names.specs.declared.names.Pt.{Pt}
@@ -252,6 +252,17 @@ pub last_noted : {N : Type 0} (xs ys : List (Noted N)) (n : ℕ) (x : Noted N) �
 last_noted xs ys n x e k some g =
     let m : length ys ≡ length xs = ap length e in
     frame_there xs x (subst (λ zs. slice_get zs (length zs - 1) ≡ Some x) e (ap (slice_get ys) (omega (arith, k)) ∙ slice_get-get_or ys (n - 1) x (omega (arith, k, m, some)) ∙ ap (λ y. Some y) (sym g)))
+
+-- the ends of the last portal, as they are read
+pub last_ends : {N : Type 0} (xs : List (Noted N)) (x : Noted N) (n : ℕ) → n ≡ length xs → 0 < length xs → x ≡ get_or xs (n - 1) x → slice_get (portals_of (frames_of xs)) (length (portals_of (frames_of xs)) - 1) ≡ Some (portal_of x.frame)
+last_ends xs x n k some g = ap (λ (m : ℕ). slice_get (portals_of (frames_of xs)) (m - 1)) (as_many (frames_of xs)) ∙ slice_get-map portal_of (frames_of xs) (length (frames_of xs) - 1) ∙ ap (option_map portal_of) (last_noted xs xs n x refl k some g)
+
+pub ends_of_last : {N : Type 0} (xs : List (Noted N)) (e : EndPoints) (x : Noted N) → slice_get (portals_of (frames_of xs)) (length (portals_of (frames_of xs)) - 1) ≡ Some e → x ≡ get_or xs (length xs - 1) x → portal_of x.frame ≡ e
+ends_of_last xs e x at g =
+    let within = slice_get_within (portals_of (frames_of xs)) _ e at in
+    let ends = as_many (frames_of xs) in
+    let frames = as_many_frames xs in
+    same_Some (portal_of x.frame) e (sym (last_ends xs x (length xs) refl (omega (arith, within, ends, frames)) g) ∙ at)
 
 -- the place of one more
 pub placed : {N : Type 0} (xs ys : List (Noted N)) (n : ℕ) → ys ≡ xs → n ≡ length ys → n ≡ length (frames_of xs)

@@ -5,7 +5,7 @@ ghost use Rattle.stab_hull.specs.Portals.{portals_of};
 ghost use Rattle.stab_hull.specs.Sleeves.{IsSleeve, IsCoveredLeft, IsCoveredRight, HasLastLeft, HasLastRight, TakesRight, TakesLeft, TellsRight, TellsLeft, GoesOn, frames_of, tells_of, told_of};
 
 use crate::Passed;
-use crate::frame::Noted;
+use crate::frame::{Frame, Noted};
 use crate::hull::{Hull, frame_over};
 use crate::turning::{Turn, left_turn, right_turn, stack_left, stack_right};
 use block_evidence::{Evidence, four};
@@ -77,6 +77,39 @@ fn left_told<N: Copy>(portals: &[Noted<N>], hull: &Hull, new: EndAt, right: Pt) 
     }
 }
 
+/// The frame of a portal from the last left end to a new right end, over these stacks.
+// the last portal's end is copied from there: as a value it would be taken apart into its coordinates
+#[inline(always)]
+fn frame_to_right<N: Copy>(portals: &[Noted<N>], hull: &Hull, left: Pt, right: Pt) -> Frame
+    requires last { HasLastLeft (portals_of (frames_of portals.now)) left }
+    ensures { result ≡ record { left = left; right = right; lefts = length hull.now.lefts; rights = length hull.now.rights; cones = length hull.now.cones.items } }
+{
+    let last = &portals[portals.len() - 1].frame;
+    Frame {
+        left: last.left,
+        right,
+        lefts: hull.lefts.len(),
+        rights: hull.rights.len(),
+        cones: hull.cones.len(),
+    }
+}
+
+/// The same from a new left end to the last right end.
+#[inline(always)]
+fn frame_to_left<N: Copy>(portals: &[Noted<N>], hull: &Hull, left: Pt, right: Pt) -> Frame
+    requires last { HasLastRight (portals_of (frames_of portals.now)) right }
+    ensures { result ≡ record { left = left; right = right; lefts = length hull.now.lefts; rights = length hull.now.rights; cones = length hull.now.cones.items } }
+{
+    let last = &portals[portals.len() - 1].frame;
+    Frame {
+        left,
+        right: last.right,
+        lefts: hull.lefts.len(),
+        rights: hull.rights.len(),
+        cones: hull.cones.len(),
+    }
+}
+
 /// Stacks a portal from the last left end to a new right end that another one covers, so that it isn't kept.
 #[inline(always)]
 fn pass_right<N: Copy>(
@@ -94,7 +127,7 @@ fn pass_right<N: Copy>(
     ensures { GoesOn portals.old.items note (record { left = left; right = new.at }) portals.new.items hull.now.lefts hull.now.rights hull.now.cones.items result }
 {
     portals.reserve(1)?;
-    let frame = frame_over(hull, left, new.at);
+    let frame = frame_to_right(portals.as_slice(), hull, left, new.at);
     portals.push_reserved(Noted { frame, note });
     Ok(Told::Open)
 }
@@ -116,7 +149,7 @@ fn pass_left<N: Copy>(
     ensures { GoesOn portals.old.items note (record { left = new.at; right = right }) portals.new.items hull.now.lefts hull.now.rights hull.now.cones.items result }
 {
     portals.reserve(1)?;
-    let frame = frame_over(hull, new.at, right);
+    let frame = frame_to_left(portals.as_slice(), hull, new.at, right);
     portals.push_reserved(Noted { frame, note });
     Ok(Told::Open)
 }
@@ -147,7 +180,8 @@ fn add_right<N: Copy>(
             code: new.code,
             at: new.at,
         };
-        match stack_right(&mut hull.cones, hull.lefts.as_slice(), copy) {
+        let lefts = hull.lefts.as_slice();
+        match stack_right(&mut hull.cones, lefts, lefts, copy) {
             Ok(()) => {}
             Err(memory) => {
                 hull.rights.truncate(count);
@@ -155,7 +189,7 @@ fn add_right<N: Copy>(
             }
         }
     }
-    let frame = frame_over(hull, left, new.at);
+    let frame = frame_to_right(portals.as_slice(), hull, left, new.at);
     portals.push_reserved(Noted { frame, note });
     Ok(Told::Open)
 }
@@ -186,7 +220,8 @@ fn add_left<N: Copy>(
             code: new.code,
             at: new.at,
         };
-        match stack_left(&mut hull.cones, hull.rights.as_slice(), copy) {
+        let rights = hull.rights.as_slice();
+        match stack_left(&mut hull.cones, rights, rights, copy) {
             Ok(()) => {}
             Err(memory) => {
                 hull.lefts.truncate(count);
@@ -194,7 +229,7 @@ fn add_left<N: Copy>(
             }
         }
     }
-    let frame = frame_over(hull, new.at, right);
+    let frame = frame_to_left(portals.as_slice(), hull, new.at, right);
     portals.push_reserved(Noted { frame, note });
     Ok(Told::Open)
 }

@@ -1,6 +1,6 @@
 //! What one more end does to a cone.
 
-ghost use Rattle.std.specs.Prelude.{List, ◌++◌, ◌∷◌, [], pos, ◌<ℤ◌};
+ghost use Rattle.std.specs.Prelude.{List, ◌≡◌, ◌++◌, ◌∷◌, [], pos, ◌<ℤ◌};
 ghost use Rattle.sight_names.specs.declared.names.EndAt.{EndAt as End};
 ghost use Rattle.geom_exact.specs.declared.extreme_lines.cone.Cone.TheVariants.{Open};
 ghost use Rattle.stab_hull.specs.Chains.{HasSteps, kept_ends};
@@ -42,10 +42,12 @@ fn second_to_left(wedge: &Wedge, rights: &[Kept], left: EndAt) -> Wedge
     wide
 }
 
-/// The same for a left end that is right of the second line, which stays.
+/// The same for a left end that is right of the second line, which stays. The right ends are lent twice: what is seldom
+/// asked for is read by the second loan, so that the loop doesn't hold it.
 // in line, since the lines would go through memory
 #[inline(always)]
-pub fn first_to_left(wedge: &Wedge, rights: &[Kept], left: EndAt) -> Wedge
+pub fn first_to_left(wedge: &Wedge, rights: &[Kept], again: &[Kept], left: EndAt) -> Wedge
+    requires again { again.now ≡ rights.now }
     requires steps { HasSteps rights.now }
     requires cone { (lefts : List End) × IsConeOfEnds lefts (kept_ends rights.now) (Open wedge.now) }
     requires beyond { form_at wedge.now.second left.at <ℤ pos 0 }
@@ -56,10 +58,11 @@ pub fn first_to_left(wedge: &Wedge, rights: &[Kept], left: EndAt) -> Wedge
     let mut bound = slope.level(&left.at);
     let mut rest = rights.len();
     while rest > 0 {
-        let kept = &rights[rest - 1];
+        let at = rest - 1;
+        let kept = &rights[at];
         let level = slope.level(&kept.end.at);
         if level >= bound {
-            if widen_first(&mut wide, left, kept.end, bound - level) {
+            if widen_first(&mut wide, left, again[at].end, bound - level) {
                 slope = Slope::of(&wide.first);
                 bound = wide.first.c;
             }
@@ -69,10 +72,12 @@ pub fn first_to_left(wedge: &Wedge, rights: &[Kept], left: EndAt) -> Wedge
     wide
 }
 
-/// The wedge with the lines from a new right end that is right of the first line, which stays, to all left ends.
+/// The wedge with the lines from a new right end that is right of the first line, which stays, to all left ends, which
+/// are lent twice as well.
 // in line, since the lines would go through memory
 #[inline(always)]
-pub fn second_to_right(wedge: &Wedge, lefts: &[Kept], right: EndAt) -> Wedge
+pub fn second_to_right(wedge: &Wedge, lefts: &[Kept], again: &[Kept], right: EndAt) -> Wedge
+    requires again { again.now ≡ lefts.now }
     requires steps { HasSteps lefts.now }
     requires cone { (rights : List End) × IsConeOfEnds (kept_ends lefts.now) rights (Open wedge.now) }
     requires beyond { form_at wedge.now.first right.at <ℤ pos 0 }
@@ -83,10 +88,11 @@ pub fn second_to_right(wedge: &Wedge, lefts: &[Kept], right: EndAt) -> Wedge
     let mut bound = slope.level(&right.at);
     let mut rest = lefts.len();
     while rest > 0 {
-        let kept = &lefts[rest - 1];
+        let at = rest - 1;
+        let kept = &lefts[at];
         let level = slope.level(&kept.end.at);
         if level >= bound {
-            if widen_second(&mut wide, kept.end, right, level - bound) {
+            if widen_second(&mut wide, again[at].end, right, level - bound) {
                 slope = Slope::of(&wide.second);
                 bound = wide.second.c;
             }
@@ -159,7 +165,7 @@ fn left_against_all(cone: &Cone, rights: &[Kept], left: EndAt) -> Step
             return Step::Wider(Cone::Open(second_to_left(wedge, rights, left)));
         }
         if wedge.second.value(left.at) < 0 {
-            return Step::Wider(Cone::Open(first_to_left(wedge, rights, left)));
+            return Step::Wider(Cone::Open(first_to_left(wedge, rights, rights, left)));
         }
     }
     left_against_each(cone, rights, left)
@@ -173,7 +179,7 @@ fn right_against_all(cone: &Cone, lefts: &[Kept], right: EndAt) -> Step
 {
     if let Cone::Open(wedge) = cone {
         if wedge.first.value(right.at) < 0 {
-            return Step::Wider(Cone::Open(second_to_right(wedge, lefts, right)));
+            return Step::Wider(Cone::Open(second_to_right(wedge, lefts, lefts, right)));
         }
         if wedge.second.value(right.at) > 0 {
             return Step::Wider(Cone::Open(first_to_right(wedge, lefts, right)));
@@ -195,7 +201,7 @@ pub fn left_step(cone: &Cone, rights: &[Kept], left: EndAt) -> Step
             if of_first > 0 {
                 return Step::Same;
             }
-            return Step::Wider(Cone::Open(first_to_left(wedge, rights, left)));
+            return Step::Wider(Cone::Open(first_to_left(wedge, rights, rights, left)));
         }
         if of_first <= wedge.first.value(wedge.second.right.at) {
             return Step::Stuck(cone.pairs(left, wedge.second.right));
@@ -217,7 +223,7 @@ pub fn right_step(cone: &Cone, lefts: &[Kept], right: EndAt) -> Step
             if of_second > 0 {
                 return Step::Same;
             }
-            return Step::Wider(Cone::Open(second_to_right(wedge, lefts, right)));
+            return Step::Wider(Cone::Open(second_to_right(wedge, lefts, lefts, right)));
         }
         if of_second <= wedge.second.value(wedge.first.left.at) {
             return Step::Stuck(cone.pairs(wedge.first.left, right));

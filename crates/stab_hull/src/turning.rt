@@ -79,9 +79,16 @@ pub fn left_turn(wedge: &Wedge, new: EndAt) -> Turn
     }
 }
 
-/// Stacks the lines of the last cone with a new right end, which is right of the first one.
+/// Stacks the lines of the last cone with a new right end, which is right of the first one. The left ends are lent twice,
+/// for `second_to_right`.
 #[inline(never)]
-pub fn stack_right(cones: &mut Vec<Cone>, lefts: &[Kept], right: EndAt) -> Result<(), Memory>
+pub fn stack_right(
+    cones: &mut Vec<Cone>,
+    lefts: &[Kept],
+    again: &[Kept],
+    right: EndAt,
+) -> Result<(), Memory>
+    requires again { again.now ≡ lefts.now }
     requires steps { HasSteps lefts.now }
     requires moves { MovesRight (kept_ends lefts.now) cones.old.items right }
     ensures kept { KeepsFirst (length cones.old.items) cones.old.items cones.new.items }
@@ -90,15 +97,22 @@ pub fn stack_right(cones: &mut Vec<Cone>, lefts: &[Kept], right: EndAt) -> Resul
 {
     cones.reserve(1)?;
     if let Cone::Open(wedge) = &cones[cones.len() - 1] {
-        let wider = second_to_right(wedge, lefts, right);
+        let wider = second_to_right(wedge, lefts, again, right);
         cones.push_reserved(Cone::Open(wider));
     }
     Ok(())
 }
 
-/// Stacks the lines of the last cone with a new left end, which is right of the second one.
+/// Stacks the lines of the last cone with a new left end, which is right of the second one. The right ends are lent twice,
+/// for `first_to_left`.
 #[inline(never)]
-pub fn stack_left(cones: &mut Vec<Cone>, rights: &[Kept], left: EndAt) -> Result<(), Memory>
+pub fn stack_left(
+    cones: &mut Vec<Cone>,
+    rights: &[Kept],
+    again: &[Kept],
+    left: EndAt,
+) -> Result<(), Memory>
+    requires again { again.now ≡ rights.now }
     requires steps { HasSteps rights.now }
     requires moves { MovesLeft (kept_ends rights.now) cones.old.items left }
     ensures kept { KeepsFirst (length cones.old.items) cones.old.items cones.new.items }
@@ -107,7 +121,7 @@ pub fn stack_left(cones: &mut Vec<Cone>, rights: &[Kept], left: EndAt) -> Result
 {
     cones.reserve(1)?;
     if let Cone::Open(wedge) = &cones[cones.len() - 1] {
-        let wider = first_to_left(wedge, rights, left);
+        let wider = first_to_left(wedge, rights, again, left);
         cones.push_reserved(Cone::Open(wider));
     }
     Ok(())

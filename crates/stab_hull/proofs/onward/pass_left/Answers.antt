@@ -1,8 +1,12 @@
-use Rattle.std.proofs.Common.{arith, ◌<◌, ◌++◌, ◌∷◌, [], length, sym, ap, ◌∙◌}
+use Rattle.std.proofs.Common.{arith, ◌<◌, ◌++◌, ◌∷◌, [], length, sym, ap, ◌∙◌, subst}
 use Rattle.sight_names.specs.declared.limits.TheConstants.{RIGHT_END}
-use Rattle.stab_hull.specs.Sleeves.{frames_of}
+use Rattle.stab_hull.specs.Portals.{portals_of}
+use Rattle.stab_hull.specs.Sleeves.{HasLastRight, frames_of}
 use Rattle.stab_hull.proofs.Sleeves.{goes_covered_left, noted, goes_noted, as_many_frames, frames_pushed}
 use Rattle.stab_hull.proofs.onward.pass_left.Goals as goal
+
+pub frame_to_left-frame-requires : goal.frame_to_left-frame-requires
+frame_to_left-frame-requires g c = record { last = subst (λ xs. HasLastRight (portals_of (frames_of xs)) c.args.right) (sym (c.as_slice.ensures.value ∙ c.reserve.ensures.items)) c.requires.last }
 
 pub returns : goal.returns
 returns g c =
@@ -11,9 +15,9 @@ returns g c =
     let ls = c.args.hull.now.lefts in
     let rs = c.args.hull.now.rights in
     let cs = c.args.hull.now.cones.items in
-    let x = noted c.frame_over-frame.result c.args.note in
+    let x = noted c.frame_to_left-frame.result c.args.note in
     let many = as_many_frames xs in
     let longer = c.push_reserved.ensures.items ∙ ap (λ ys. ys ++ x ∷ []) c.reserve.ensures.items in
     let few : length fs < RIGHT_END = (let l = c.requires.few in omega (arith, many, l)) in
     goes_noted xs c.push_reserved.new.self.items x (record { left = c.args.new.at; right = c.args.right }) ls rs cs longer
-    (goes_covered_left fs ls rs cs c.requires.sleeve few (frames_of c.push_reserved.new.self.items) c.args.right c.args.new c.frame_over-frame.result c.requires.last (c.requires.code ∙ sym many) c.requires.covered c.frame_over-frame.ensures (ap frames_of longer ∙ frames_pushed xs x))
+    (goes_covered_left fs ls rs cs c.requires.sleeve few (frames_of c.push_reserved.new.self.items) c.args.right c.args.new c.frame_to_left-frame.result c.requires.last (c.requires.code ∙ sym many) c.requires.covered c.frame_to_left-frame.ensures (ap frames_of longer ∙ frames_pushed xs x))

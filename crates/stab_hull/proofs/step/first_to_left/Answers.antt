@@ -21,10 +21,10 @@ loop-rest-init c = record {
 }
 
 pub widen_first-requires-clause-within : goal.widen_first-requires-clause-within
-widen_first-requires-clause-within c = beyond_second_left c.requires.cone.0 (kept_ends c.args.rights.now) c.args.left (next_of c.args.rights.now c.loop-rest.rest).end c.args.wedge.now c.loop-rest.wide (c.loop-rest.rest - 1) c.requires.cone.1 (next_at c.args.rights.now c.loop-rest.rest c.loop-rest.invariant.top c.loop-rest.invariant.look c.loop-rest-test.true) c.requires.beyond c.loop-rest.invariant.second
+widen_first-requires-clause-within c = rw (sym c.requires.again) at (beyond_second_left c.requires.cone.0 (kept_ends c.args.rights.now) c.args.left (next_of c.args.rights.now c.loop-rest.rest).end c.args.wedge.now c.loop-rest.wide (c.loop-rest.rest - 1) c.requires.cone.1 (next_at c.args.rights.now c.loop-rest.rest c.loop-rest.invariant.top c.loop-rest.invariant.look c.loop-rest-test.true) c.requires.beyond c.loop-rest.invariant.second)
 
 pub widen_first-requires-clause-turn : goal.widen_first-requires-clause-turn
-widen_first-requires-clause-turn c = turn_by c.loop-rest.wide.first c.args.left.at (next_of c.args.rights.now c.loop-rest.rest).end.at _ _ c.loop-rest.invariant.level (kept_level c.loop-rest.wide.first (next_of c.args.rights.now c.loop-rest.rest).end.at c.level-level.result (level_at c.loop-rest.wide.first c.loop-rest.slope (next_of c.args.rights.now c.loop-rest.rest).end.at c.level-level.result c.loop-rest.invariant.slope c.level-level.ensures.value c.level-level.ensures.bound))
+widen_first-requires-clause-turn c = rw (sym c.requires.again) at (turn_by c.loop-rest.wide.first c.args.left.at (next_of c.args.rights.now c.loop-rest.rest).end.at _ _ c.loop-rest.invariant.level (kept_level c.loop-rest.wide.first (next_of c.args.rights.now c.loop-rest.rest).end.at c.level-level.result (level_at c.loop-rest.wide.first c.loop-rest.slope (next_of c.args.rights.now c.loop-rest.rest).end.at c.level-level.result c.loop-rest.invariant.slope c.level-level.ensures.value c.level-level.ensures.bound)))
 
 pub overflow_sub-rest : goal.overflow_sub-rest
 overflow_sub-rest c = step_fits c.args.rights.now c.loop-rest.rest c.loop-rest.invariant.top c.requires.steps c.loop-rest.invariant.look c.loop-rest-test.true
@@ -34,10 +34,10 @@ loop-rest-smaller c = step_falls c.args.rights.now c.loop-rest.rest c.loop-rest.
 
 pub loop-rest-preserved : goal.loop-rest-preserved
 loop-rest-preserved c = elim c.if-level-bound.branch [
-  | then-level-bound+then-widen_first w ↦ rw (w.wide-is, w.slope-is, w.bound-is) (left_looks c.args.rights.now c.args.left c.args.wedge.now c.loop-rest.wide w.widen_first.new.wedge c.loop-rest.rest _ _ _ _ c.requires.steps c.loop-rest-test.true c.loop-rest.invariant w.widen_first.ensures.wider w.widen_first.ensures.second
+  | then-level-bound+then-widen_first w ↦ rw (w.wide-is, w.slope-is, w.bound-is) (left_looks c.args.rights.now c.args.left c.args.wedge.now c.loop-rest.wide w.widen_first.new.wedge c.loop-rest.rest _ _ _ _ c.requires.steps c.loop-rest-test.true c.loop-rest.invariant (rw c.requires.again at w.widen_first.ensures.wider) w.widen_first.ensures.second
       (record { a = w.of-slope-then-widen_first.ensures.a; b = w.of-slope-then-widen_first.ensures.b })
       (level_on w.widen_first.new.wedge.first c.args.left.at (level_left w.widen_first.new.wedge.first c.args.left w.if-widen_first.ensures.yes.0)))
-  | then-level-bound+else-widen_first w ↦ rw (w.wide-is, w.slope-is, w.bound-is) (left_looks c.args.rights.now c.args.left c.args.wedge.now c.loop-rest.wide w.widen_first.new.wedge c.loop-rest.rest _ _ _ _ c.requires.steps c.loop-rest-test.true c.loop-rest.invariant w.widen_first.ensures.wider w.widen_first.ensures.second
+  | then-level-bound+else-widen_first w ↦ rw (w.wide-is, w.slope-is, w.bound-is) (left_looks c.args.rights.now c.args.left c.args.wedge.now c.loop-rest.wide w.widen_first.new.wedge c.loop-rest.rest _ _ _ _ c.requires.steps c.loop-rest-test.true c.loop-rest.invariant (rw c.requires.again at w.widen_first.ensures.wider) w.widen_first.ensures.second
       (subst (λ (e : Extreme). IsSlopeOf e c.loop-rest.slope) (sym w.if-widen_first.ensures.no) c.loop-rest.invariant.slope)
       (subst (λ (e : Extreme). IsLevelAt e c.args.left.at (to_z w64 c.loop-rest.bound-bits)) (sym w.if-widen_first.ensures.no) c.loop-rest.invariant.level))
   | else-level-bound w ↦ rw (w.wide-is, w.slope-is, w.bound-is) (left_looks c.args.rights.now c.args.left c.args.wedge.now c.loop-rest.wide c.loop-rest.wide c.loop-rest.rest _ _ _ _ c.requires.steps c.loop-rest-test.true c.loop-rest.invariant

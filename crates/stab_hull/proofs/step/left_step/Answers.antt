@@ -1,4 +1,4 @@
-use Rattle.std.proofs.Common.{arith, subst}
+use Rattle.std.proofs.Common.{refl, arith, subst}
 use Rattle.std.proofs.lemmas.Int.{ints}
 use Rattle.geom_exact.specs.declared.extreme_lines.cone.Cone.{Cone}
 use Rattle.stab_hull.specs.Chains.{kept_ends}
@@ -7,7 +7,7 @@ use Rattle.stab_hull.proofs.TwoForms.{left_same, left_no_line}
 use Rattle.stab_hull.proofs.step.left_step.Goals as goal
 
 pub first_to_left-requires : goal.first_to_left-requires
-first_to_left-requires c = record { steps = c.requires.steps; cone = (c.requires.cone.0, subst (λ (d : Cone). IsConeOfEnds c.requires.cone.0 (kept_ends c.args.rights.now) d) c.in-Open.is c.requires.cone.1); beyond = (let v = c.value.ensures.value in let t = c.if-value-lt0.true in omega (arith, ints)) }
+first_to_left-requires c = record { again = refl; steps = c.requires.steps; cone = (c.requires.cone.0, subst (λ (d : Cone). IsConeOfEnds c.requires.cone.0 (kept_ends c.args.rights.now) d) c.in-Open.is c.requires.cone.1); beyond = (let v = c.value.ensures.value in let t = c.if-value-lt0.true in omega (arith, ints)) }
 
 pub returns-then-of_first-gt0 : goal.returns-then-of_first-gt0
 returns-then-of_first-gt0 c = λ lefts h.

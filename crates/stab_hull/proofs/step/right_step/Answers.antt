@@ -1,4 +1,4 @@
-use Rattle.std.proofs.Common.{arith, subst}
+use Rattle.std.proofs.Common.{refl, arith, subst}
 use Rattle.std.proofs.lemmas.Int.{ints}
 use Rattle.geom_exact.specs.declared.extreme_lines.cone.Cone.{Cone}
 use Rattle.stab_hull.specs.Chains.{kept_ends}
@@ -7,7 +7,7 @@ use Rattle.stab_hull.proofs.TwoForms.{right_same, right_no_line}
 use Rattle.stab_hull.proofs.step.right_step.Goals as goal
 
 pub second_to_right-requires : goal.second_to_right-requires
-second_to_right-requires c = record { steps = c.requires.steps; cone = (c.requires.cone.0, subst (λ (d : Cone). IsConeOfEnds (kept_ends c.args.lefts.now) c.requires.cone.0 d) c.in-Open.is c.requires.cone.1); beyond = (let v = c.value.ensures.value in let t = c.if-value-lt0.true in omega (arith, ints)) }
+second_to_right-requires c = record { again = refl; steps = c.requires.steps; cone = (c.requires.cone.0, subst (λ (d : Cone). IsConeOfEnds (kept_ends c.args.lefts.now) c.requires.cone.0 d) c.in-Open.is c.requires.cone.1); beyond = (let v = c.value.ensures.value in let t = c.if-value-lt0.true in omega (arith, ints)) }
 
 pub returns-then-of_second-gt0 : goal.returns-then-of_second-gt0
 returns-then-of_second-gt0 c = λ rights h.

@@ -1,0 +1,14 @@
+use Rattle.std.proofs.Common.{◌≡◌, sym, ap, ◌∙◌}
+use Rattle.sight_names.specs.Splitting.{EndPoints}
+use Rattle.stab_hull.proofs.Sleeves.{ends_of_last}
+use Rattle.stab_hull.proofs.onward.frame_to_right.Goals as goal
+
+pub returns : goal.returns
+returns g c =
+    let last = c.index-portals-portals in
+    let left : last.result.frame.left ≡ c.args.left = ap (λ (e : EndPoints). e.left) (ends_of_last c.args.portals.now c.requires.last.0 last.result c.requires.last.1 last.is) ∙ c.requires.last.2 in
+    let read = last.is in
+    let lefts = c.len.ensures in
+    let rights = c.len-2.ensures in
+    let cones = c.len-3.ensures in
+    cc
