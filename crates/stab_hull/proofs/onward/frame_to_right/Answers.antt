@@ -1,4 +1,4 @@
-use Rattle.std.proofs.Common.{◌≡◌, sym, ap, ◌∙◌}
+use Rattle.std.proofs.Common.{◌≡◌, ap, ◌∙◌}
 use Rattle.sight_names.specs.Splitting.{EndPoints}
 use Rattle.stab_hull.proofs.Sleeves.{ends_of_last}
 use Rattle.stab_hull.proofs.onward.frame_to_right.Goals as goal
