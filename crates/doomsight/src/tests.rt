@@ -5,13 +5,13 @@ use crate::progress::Progress;
 use crate::runs::run_words;
 use crate::usage::{Fault, diagnose};
 use order_words::read_words;
-use row_tests::run_cases::{Stage, stage_of, words_in};
 use shelf_io::MemSink;
 use sight_names::OrderFault;
 use sight_run::{NoNotice, Notice, Status, code};
 use std::alloc::{AllocError, Global};
 use std::test::Fail;
 use std::thread::Threads;
+use worked_maps::stages::{Stage, stage_of, words_in};
 
 /// Words, and the number of the first wrong one, `end` where one is missing, or `-` where they are an order. The word `''` is
 /// empty.

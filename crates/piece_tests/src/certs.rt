@@ -2,7 +2,6 @@
 
 ghost use Rattle.std.specs.Prelude.{◌≤◌, length};
 
-use crate::rows::part;
 use block_evidence::sight_tree::Tree;
 use cert_format::cert_groups::AnyCert;
 use cert_format::{Cert, Sizes};
@@ -13,6 +12,7 @@ use std::alloc::{AllocError, Global};
 use std::test::Fail;
 use worked_maps::certs::digits_named;
 use worked_maps::files::{bytes_of_digits, number};
+use worked_maps::rows::part;
 
 /// A certificate, how many sectors, points and lines its map has, and how many parts it has itself. The first two have eight triangles,
 /// two rays, and a tree of five nodes.

@@ -4,7 +4,6 @@
 ghost use Rattle.sight_names.specs.Map.{map_of};
 ghost use Rattle.sight_names.specs.Sound.{LinesMeetAtEnds};
 
-use crate::rows::part;
 use face_groups::{Grouped, ShortList, faces, group_map};
 use map_answers::find_in;
 use map_audit::audit_lines;
@@ -14,6 +13,7 @@ use std::alloc::{AllocError, Global};
 use std::test::Fail;
 use triangulate::{greedy, mesh_of};
 use worked_maps::files::bytes_of;
+use worked_maps::rows::part;
 
 /// The words of a map; how many triangles there are inside the pillar, and the sectors that sides name on their faces; the same of the
 /// other triangles; the groups; and the group of the right and of the left side of each line. A hyphen is no sector and no group.

@@ -7,8 +7,6 @@ mod certs;
 #[cfg(test)]
 mod groups;
 #[cfg(test)]
-mod rows;
-#[cfg(test)]
 mod verdicts;
 #[cfg(test)]
 mod wads;

@@ -6,7 +6,6 @@ ghost use Rattle.sight_names.specs.Map.{map_of};
 ghost use Rattle.sight_names.specs.Sound.{LinesMeetAtEnds};
 ghost use Rattle.cert_format.specs.CertGroups.Grammar.{IsAnyInOrder, sizes_of};
 
-use crate::rows::part;
 use any_judge::Judge;
 use cert_format::cert_groups::{AnyCert, print_any};
 use cert_format::{Sizes, print};
@@ -21,6 +20,7 @@ use std::alloc::Global;
 use std::test::Fail;
 use std::thread::Threads;
 use worked_maps::files::{bytes_of, bytes_of_digits};
+use worked_maps::rows::part;
 
 /// The words of a map, its table, the words of a certificate, and what is said of them.
 ///

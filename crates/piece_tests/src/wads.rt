@@ -5,13 +5,13 @@ ghost use Rattle.wad_dir.specs.Map.{entry_names};
 ghost use Rattle.wad_dir.specs.AllMaps.All.{HasInOrder, names_changed};
 ghost use Rattle.wad_dir.specs.AllMaps.Maps.{maps_of};
 
-use crate::rows::part;
 use sight_names::{Items, RewriteFault};
 use std::alloc::{AllocError, Global};
 use std::test::Fail;
 use wad_dir::all_maps::{Change, maps, with_rejects};
 use wad_dir::{Wad, read_wad};
 use worked_maps::files::{bytes_of, bytes_of_digits};
+use worked_maps::rows::part;
 
 /// The words of a WAD, the names of its maps, some of these with `=` and the bytes of another REJECT, and the words of the WAD that comes of it.
 const ROWS: &str = "\

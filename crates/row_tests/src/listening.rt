@@ -1,6 +1,5 @@
 //! A listener that has heard enough before the end, and one that finds no memory; and what a notice is told of maps.
 
-use crate::run_cases::stage_of;
 use crate::table::ran;
 use listeners::{Finding, FirstSet, Keep, Lines, Listener, Totals, pieces, words_of};
 use shelf_io::MemSink;
@@ -8,6 +7,7 @@ use sight_names::Memory;
 use sight_run::{NoNotice, Notice, Status};
 use std::cell::RefCell;
 use std::test::Fail;
+use worked_maps::stages::stage_of;
 
 /// Hears two findings, and finds no memory for a third.
 #[derive(Drop)]

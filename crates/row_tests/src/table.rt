@@ -1,7 +1,6 @@
 //! How a row is run. A row has up to five parts between bars: what there is, the words, the exit code, the line, and what
 //! stands under some names after it. Where the first part is empty, the run goes on with what the row before left.
 
-use crate::run_cases::{Stage, stage_of, words_in};
 use group_job::sight_workers::OpenGate;
 use listeners::{Lines, Listener, Totals};
 use shelf_io::{MemSink, Shelf};
@@ -12,11 +11,8 @@ use sight_run::{Bound, Flaw, NoNotice, Notice, Status, Why, code, run};
 use std::alloc::{AllocError, Global};
 use std::thread::Threads;
 use worked_maps::files::bytes_of;
-
-/// The part of a row behind so many bars.
-pub fn part(row: &str, k: usize) -> &str {
-    row.split('|').nth(k).unwrap_or("").trim()
-}
+use worked_maps::rows::part;
+use worked_maps::stages::{Stage, stage_of, words_in};
 
 /// Runs the words of a line. It says nothing of what `run` promises, so that the proof of no test carries that along.
 pub fn ran<R: Threads + Sync, S: Shelf, N: Notice>(

@@ -1,4 +1,4 @@
-//! Worked maps and certificates as whole files, and made-up maps. For the tests of the crates beside it.
+//! Worked maps and certificates as whole files, made-up maps, and what stands where a run is tried. For the tests of the crates beside it.
 #![tactic(auto)]
 
 pub mod certs;
@@ -7,3 +7,5 @@ pub mod files;
 pub mod maps;
 pub mod pictures;
 pub mod rooms;
+pub mod rows;
+pub mod stages;

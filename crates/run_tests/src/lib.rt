@@ -1,0 +1,13 @@
+//! Runs that no row tells whole: of which each call fails once, of made-up maps, and by workers that wait for each other.
+#![tactic(auto)]
+
+#[cfg(test)]
+mod bits;
+#[cfg(test)]
+mod faults;
+#[cfg(test)]
+mod running;
+#[cfg(test)]
+mod threads;
+#[cfg(test)]
+mod trials;

@@ -1,0 +1,218 @@
+//! What has to hold of each made-up map. All of it goes by the top call, over files in memory.
+
+use crate::bits::{changed, is_listed, is_set, listed_count, set};
+use crate::running::run_on;
+use group_job::sight_workers::OpenGate;
+use shelf_io::{Shelf, store};
+use sight_run::Status;
+use std::alloc::{AllocError, Global};
+use std::test::Fail;
+use std::thread::Threads;
+use worked_maps::dice::Dice;
+use worked_maps::rooms::{Rooms, inside, is_clear, made_rooms};
+use worked_maps::stages::{Stage, stage_of};
+
+/// Builds with small budgets by some numbers of workers.
+const BUILDS: &str = "\
+build a MAP01 b --cert c --budget 1 --workers 1
+build a MAP01 b --cert c --budget 2 --workers 3
+build a MAP01 b --cert c --budget 3 --workers 64
+build a MAP01 b --cert c --budget 7 --workers 2
+build a MAP01 b --cert c
+";
+
+const FULL: &str = "build a MAP01 full --cert c --budget full --workers 4";
+
+/// Builds that decide every pair, by some numbers of workers.
+const EXACT: &str = "\
+build a MAP01 e --cert d --exact --workers 1
+build a MAP01 e --cert d --exact --workers 5
+";
+
+/// What was tried: clear segments between two sectors, listed pairs, and changed certificates.
+#[derive(Clone, Copy)]
+struct Tally {
+    sights: usize,
+    listed: usize,
+    changed: usize,
+}
+
+fn is_done<R: Threads + Sync>(
+    rt: &R,
+    alloc: Global,
+    stage: &mut Stage,
+    words: &str,
+) -> Result<bool, AllocError> {
+    Ok(run_on(rt, alloc, stage, words, &OpenGate)? == Status::Done)
+}
+
+fn file_of(alloc: Global, stage: &Stage, name: &str) -> Result<Vec<u8>, AllocError> {
+    stage.shelf.bytes(name).unwrap_or(&[]).to_vec(alloc)
+}
+
+// Whether a table is the full one, but that its listed pairs are clear.
+fn agrees(file: &[u8], cert: &[u8], full: &[u8], sectors: usize) -> bool {
+    (0..sectors).all(|a| {
+        (0..sectors).all(|b| {
+            is_set(file, sectors, a, b) == (is_set(full, sectors, a, b) && !is_listed(cert, a, b))
+        })
+    })
+}
+
+// Whether no segment of some that are clear of solid lines joins two sectors whose pair is set.
+fn spares_sight(made: &Rooms, full: &[u8], dice: &mut Dice, tally: &mut Tally) -> bool {
+    for _ in 0..400 {
+        let (Some((p, a)), Some((q, b))) = (inside(made, dice), inside(made, dice)) else {
+            continue;
+        };
+        if is_clear(&made.lines, p, q) {
+            if is_set(full, made.sectors as usize, a as usize, b as usize) {
+                return false;
+            }
+            tally.sights = tally.sights.wrapping_add((a != b) as usize);
+        }
+    }
+    true
+}
+
+// The file with the bits of the first pair that is clear set, None where each pair of different sectors is set.
+fn overset(alloc: Global, full: &[u8], sectors: usize) -> Result<Option<Vec<u8>>, AllocError> {
+    for a in 0..sectors {
+        for b in 0..a {
+            if !is_set(full, sectors, a, b) {
+                let mut made = full.to_vec(alloc)?;
+                set(&mut made, sectors, a, b);
+                set(&mut made, sectors, b, a);
+                return Ok(Some(made));
+            }
+        }
+    }
+    Ok(None)
+}
+
+// Tries small budgets: the checker accepts, and the table is the full one but for listed pairs.
+fn tried_budgets<R: Threads + Sync>(
+    rt: &R,
+    alloc: Global,
+    stage: &mut Stage,
+    full: &[u8],
+    sectors: usize,
+    tally: &mut Tally,
+) -> Result<&'static str, AllocError> {
+    for words in BUILDS.lines() {
+        let built = is_done(rt, alloc, stage, words)?;
+        if !built || !is_done(rt, alloc, stage, "check b MAP01 c")? {
+            return Ok("refused");
+        }
+        let (file, cert) = (file_of(alloc, stage, "b")?, file_of(alloc, stage, "c")?);
+        tally.listed = tally.listed.wrapping_add(listed_count(&cert));
+        if !agrees(&file, &cert, full, sectors) {
+            return Ok("another table");
+        }
+    }
+    Ok("")
+}
+
+// Tries builds that decide every pair: the checker accepts, the table is the full one, and the certificate is one.
+fn tried_exact<R: Threads + Sync>(
+    rt: &R,
+    alloc: Global,
+    stage: &mut Stage,
+    full: &[u8],
+) -> Result<&'static str, AllocError> {
+    let mut before: Option<Vec<u8>> = None;
+    for words in EXACT.lines() {
+        let built = is_done(rt, alloc, stage, words)?;
+        if !built || !is_done(rt, alloc, stage, "check e MAP01 d")? {
+            return Ok("refused");
+        }
+        if file_of(alloc, stage, "e")?.as_slice() != full {
+            return Ok("another exact table");
+        }
+        let cert = file_of(alloc, stage, "d")?;
+        if before.is_some_and(|other| other.as_slice() != cert.as_slice()) {
+            return Ok("another exact certificate");
+        }
+        before = Some(cert);
+    }
+    Ok("")
+}
+
+// Tries a table with a pair too many, by certificates with a changed byte.
+fn tried_changes<R: Threads + Sync>(
+    rt: &R,
+    alloc: Global,
+    stage: &mut Stage,
+    cert: &[u8],
+    dice: &mut Dice,
+    tally: &mut Tally,
+) -> Result<&'static str, AllocError> {
+    for _ in 0..40 {
+        let other = changed(alloc, cert, dice)?;
+        if store(&mut stage.shelf, "c", &other).is_err() {
+            return Ok("no memory");
+        }
+        if is_done(rt, alloc, stage, "check b MAP01 c")? {
+            return Ok("fooled");
+        }
+        tally.changed = tally
+            .changed
+            .wrapping_add(!stage.text.starts_with(b"no cert") as usize);
+    }
+    Ok("")
+}
+
+// Tries the made map of one seed, and says what doesn't hold; nothing where all does.
+fn tried<R: Threads + Sync>(
+    rt: &R,
+    alloc: Global,
+    seed: u64,
+    tally: &mut Tally,
+) -> Result<&'static str, AllocError> {
+    let made = made_rooms(alloc, seed)?;
+    let sectors = made.sectors as usize;
+    let mut dice = Dice::new(seed);
+    let mut stage = stage_of(alloc, &format!(in alloc; "a=rooms:{seed}")?)?;
+    if !is_done(rt, alloc, &mut stage, FULL)? {
+        return Ok("unsound");
+    }
+    if !is_done(rt, alloc, &mut stage, "check full MAP01 c")? {
+        return Ok("refused");
+    }
+    let (full, cert) = (
+        file_of(alloc, &stage, "full")?,
+        file_of(alloc, &stage, "c")?,
+    );
+    if !spares_sight(&made, &full, &mut dice, tally) {
+        return Ok("blind");
+    }
+    let wrong = tried_budgets(rt, alloc, &mut stage, &full, sectors, tally)?;
+    if !wrong.is_empty() {
+        return Ok(wrong);
+    }
+    let wrong = tried_exact(rt, alloc, &mut stage, &full)?;
+    if !wrong.is_empty() {
+        return Ok(wrong);
+    }
+    let Some(wrong) = overset(alloc, &full, sectors)? else {
+        return Ok("");
+    };
+    if store(&mut stage.shelf, "b", &wrong).is_err() {
+        return Ok("no memory");
+    }
+    tried_changes(rt, alloc, &mut stage, &cert, &mut dice, tally)
+}
+
+#[test]
+fn built_tables_are_accepted_and_wrong_ones_never(rt: HostRuntime) -> Result<(), Fail> {
+    let mut tally = Tally {
+        sights: 0,
+        listed: 0,
+        changed: 0,
+    };
+    for seed in 0..24u64 {
+        assert_eq!(rt; tried(&rt, rt.alloc(), seed, &mut tally)?, "", "at {seed}");
+    }
+    assert!(rt; tally.sights > 200 && tally.listed > 200 && tally.changed > 200);
+    Ok(())
+}
