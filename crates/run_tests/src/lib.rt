@@ -1,4 +1,5 @@
-//! Runs that no row tells whole: of which each call fails once, of made-up maps, and by workers that wait for each other.
+//! Runs that no row tells whole: of which each call fails once, of made-up maps, by workers that wait for each other, and by the
+//! program's own words.
 #![tactic(auto)]
 
 #[cfg(test)]
@@ -11,3 +12,5 @@ mod running;
 mod threads;
 #[cfg(test)]
 mod trials;
+#[cfg(test)]
+mod words;

@@ -1,10 +1,10 @@
 //! What no clause says: which word is the first wrong one, what the program says of itself, and runs on files in memory.
 
-use crate::answers::{answer, question_in};
-use crate::progress::Progress;
-use crate::runs::run_words;
-use crate::usage::{Fault, diagnose};
 use order_words::read_words;
+use program::answers::{answer, question_in};
+use program::progress::Progress;
+use program::runs::run_words;
+use program::usage::{Fault, diagnose};
 use shelf_io::MemSink;
 use sight_names::OrderFault;
 use sight_run::{NoNotice, Notice, Status, code};

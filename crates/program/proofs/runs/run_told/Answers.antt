@@ -1,6 +1,6 @@
 use Rattle.std.proofs.Common.{rules, map, string_bytes}
-use Rattle.doomsight.proofs.Running.{both_given, runs, runs_as}
-use Rattle.doomsight.proofs.runs.run_told.Goals as goal
+use Rattle.program.proofs.Running.{both_given, runs, runs_as}
+use Rattle.program.proofs.runs.run_told.Goals as goal
 
 pub returns-clause-ends : goal.returns-clause-ends
 returns-clause-ends g c = λ files e.

@@ -5,7 +5,7 @@ ghost use Rattle.listeners.specs.Reporters.{lines_state, new_reporters, totals_s
 ghost use Rattle.order_words.specs.Words.{order_of};
 ghost use Rattle.shelf_io.specs.Shelf.{Files};
 ghost use Rattle.sight_run.specs.Run.{StatusCause};
-ghost use Rattle.doomsight.specs.Words.{Reports, RunsHeard, RunsWords, is_reported};
+ghost use Rattle.program.specs.Words.{Reports, RunsHeard, RunsWords, is_reported};
 
 use group_job::sight_workers::OpenGate;
 use listeners::{Lines, Listener, Totals};

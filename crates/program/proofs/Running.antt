@@ -9,7 +9,7 @@ use Rattle.map_answers.specs.declared.sight_status.status.Status.{Status}
 use Rattle.sight_run.specs.Heard.{Hears, heard_as}
 use Rattle.sight_run.specs.Run.{RunEnds}
 use Rattle.sight_run.specs.Words.{asked_of}
-use Rattle.doomsight.specs.Words.{RunsHeard, RunsWords, is_reported, listeners_where}
+use Rattle.program.specs.Words.{RunsHeard, RunsWords, is_reported, listeners_where}
 
 pub runs : (words : List (List ℕ)) (files : Files) (told : Option Files) (given left : List ListenerState) (before after : ShelfState) (old new : SinkState) (s : Status) → told ≡ Some files
     → RunEnds words files (heard_as given left) before after old new s → Hears (asked_of words) told (heard_as given left) s → RunsHeard given words files before after old new s

@@ -1,7 +1,7 @@
 //! The verbs: what each takes, and what is said of it.
 
 ghost use Rattle.std.specs.Prelude.{◌≡◌};
-ghost use Rattle.doomsight.specs.Options.{takes_no_value};
+ghost use Rattle.program.specs.Options.{takes_no_value};
 
 /// What a word behind a verb has to be.
 #[derive(Clone, Copy)]

@@ -1,7 +1,7 @@
 -- The options of a command line.
 use Rattle.std.specs.Prelude.{Bool, true, false}
-use Rattle.doomsight.specs.declared.verbs.Choice.{Choice}
-use Rattle.doomsight.specs.declared.verbs.Choice.TheVariants as choice
+use Rattle.program.specs.declared.verbs.Choice.{Choice}
+use Rattle.program.specs.declared.verbs.Choice.TheVariants as choice
 
 -- no value stands behind it
 abbrev pub takes_no_value : Choice → Bool

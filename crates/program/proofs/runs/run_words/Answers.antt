@@ -1,7 +1,7 @@
 use Rattle.std.proofs.Common.{rules, map, string_bytes}
-use Rattle.doomsight.proofs.Running.{runs, runs_as, runs_reported}
-use Rattle.doomsight.proofs.Reporting.{reports, reports_if_ok}
-use Rattle.doomsight.proofs.runs.run_words.Goals as goal
+use Rattle.program.proofs.Running.{runs, runs_as, runs_reported}
+use Rattle.program.proofs.Reporting.{reports, reports_if_ok}
+use Rattle.program.proofs.runs.run_words.Goals as goal
 
 pub returns-then-not-branch-clause-ends : goal.returns-then-not-branch-clause-ends
 returns-then-not-branch-clause-ends g c = λ files e.

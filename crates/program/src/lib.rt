@@ -1,0 +1,132 @@
+//! The program: what the words of a command line ask, of files of the machine or of the program itself, and the exit code.
+#![tactic(auto)]
+
+ghost use Rattle.std.specs.Prelude.{◌≡◌};
+ghost use Rattle.std.specs.Process.{exit_status};
+ghost use Rattle.map_answers.specs.SightStatus.Status.{number_of};
+
+pub mod answers;
+mod names;
+pub mod progress;
+pub mod runs;
+pub mod usage;
+pub mod verbs;
+mod words;
+
+use answers::{answer, question_in};
+use map_answers::sight_status::put_refusal;
+use names::names_one_file_twice;
+use order_words::{Order, Source, read_words};
+use progress::Progress;
+use runs::run_words;
+use shelf_io::{DiskShelf, Sink, StdSink};
+use sight_run::{Bound, Status, code};
+use std::alloc::{AllocError, Global};
+use std::env::Env;
+use std::io::IsTerminal;
+use std::process::ExitCode;
+use std::rt::Files;
+use std::thread::Threads;
+use usage::{print_diagnosis, print_synopsis};
+use words::{NoWords, words_of};
+
+fn exit_code(status: &Status) -> ExitCode
+    ensures { exit_status result ≡ number_of status.now }
+{
+    ExitCode::from(code(status))
+}
+
+/// The WAD that the order reads, nothing where it makes one.
+fn source_of(order: &Order) -> Option<&Source> {
+    match order {
+        Order::Zero { wad, .. }
+        | Order::Ray { wad, .. }
+        | Order::Audit { wad, .. }
+        | Order::Trace { wad, .. }
+        | Order::Check { wad, .. }
+        | Order::Build { wad, .. }
+        | Order::Need { wad, .. }
+        | Order::Sound { wad, .. }
+        | Order::Why { wad, .. }
+        | Order::Draw { wad, .. }
+        | Order::All { wad, .. } => Some(wad),
+        Order::Grid { .. } => None,
+    }
+}
+
+/// Whether a limit of a map's size refused it.
+fn refuses_size(status: &Status) -> bool {
+    matches!(
+        status,
+        Status::Limit(Bound::Points | Bound::Lines | Bound::Sectors)
+    )
+}
+
+/// Does what the words ask of the files of the machine. Where a limit of a map's size refused it, standard error names the option of
+/// the larger ones, unless it was given.
+fn obey<R: Files + Threads + Sync + AllocGlobal, O: Sink, P: Print>(
+    rt: &R,
+    alloc: Global,
+    words: &[String],
+    out: &mut O,
+    progress: &Progress<P>,
+) -> Status {
+    let mut is_all = false;
+    let mut may_be_large = false;
+    if let Ok(order) = read_words(alloc, words) {
+        if names_one_file_twice(rt, &order) {
+            return put_refusal(alloc, out, Status::SameName);
+        }
+        is_all = matches!(&order, Order::All { .. });
+        may_be_large = source_of(&order).is_some_and(|wad| !wad.large);
+    }
+    let mut shelf = DiskShelf::new(rt);
+    let status = match run_words(rt, alloc, words, &mut shelf, out, progress) {
+        Ok(status) => status,
+        Err(AllocError) => Status::Memory,
+    };
+    shelf.discard();
+    if is_all && status == Status::Done {
+        progress.end();
+    }
+    if may_be_large && (refuses_size(&status) || progress.has_refused_size()) {
+        progress.name_larger_limits();
+    }
+    status
+}
+
+/// Does what the words ask of the program itself or of files, and gives the exit code. It says the same as what is said of wrong
+/// words to `err`, so a fault of standard error changes nothing.
+pub fn run_order<R: Files + Print + Threads + Sync + AllocGlobal, E: Print + IsTerminal>(
+    rt: &R,
+    err: &E,
+    words: &[String],
+) -> ExitCode {
+    let mut out = StdSink::new(rt);
+    if let Some(question) = question_in(words) {
+        return exit_code(&answer(&mut out, &question));
+    }
+    let progress = Progress::new(err, err.is_terminal());
+    let status = obey(rt, rt.alloc(), words, &mut out, &progress);
+    if status == Status::Usage {
+        let _ = print_diagnosis(err, words);
+    }
+    exit_code(&status)
+}
+
+/// Does what the words behind the program's name ask, and gives the exit code.
+pub fn run_program<R: Env + Files + Print + Threads + Sync + AllocGlobal, E: Print + IsTerminal>(
+    rt: &R,
+    err: &E,
+) -> ExitCode {
+    match words_of(rt) {
+        Ok(words) => run_order(rt, err, &words),
+        Err(NoWords::Memory) => exit_code(&Status::Memory),
+        Err(NoWords::NotText) => {
+            let status = put_refusal(rt.alloc(), &mut StdSink::new(rt), Status::Usage);
+            let _ = err.println("a word isn't UTF-8");
+            let _ = print_synopsis(err, None);
+            exit_code(&status)
+        }
+    }
+}
