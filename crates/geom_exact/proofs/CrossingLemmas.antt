@@ -1,17 +1,22 @@
--- Where a ray's line crosses a segment, as a fraction along the ray.
-use Rattle.std.proofs.Common.{◌<◌, ℤ, pos, negsuc, nat_abs, ◌+ℤ◌, ◌-ℤ◌, ◌*ℤ◌, neg_ℤ, ◌<ℤ◌, ◌≤ℤ◌, ◌≡◌, [], ◌∷◌, arith, refl, sym, ap, ap₂, ◌∙◌, subst, inl, inr, int_cmp, Less, Equal, Greater}
+-- Where a ray's line crosses a segment, and which of two crossings comes first.
+use Rattle.std.proofs.Common.{◌<◌, ℤ, pos, negsuc, nat_abs, ◌+ℤ◌, ◌-ℤ◌, ◌*ℤ◌, neg_ℤ, ◌<ℤ◌, ◌≡◌, [], ◌∷◌, arith, refl, sym, ap, ◌∙◌, subst, inl, inr, int_cmp, Less, Equal, Greater}
 use Rattle.std.proofs.lemmas.Int.{ints}
 use Rattle.math_base.proofs.Quoting.{quoting, by_ring, combine1, combine2, combine3}
-use Rattle.math_base.proofs.Signs.{mul-pos, same-of-mul, sign_cases}
+use Rattle.math_base.proofs.Signs.{mul-pos, same-of-mul, sign_cases, zero-of-mul, pos-of-mul}
+use Rattle.math_base.proofs.MoreSigns.{mul-neg, mul-both_neg, neg-of-mul}
 use Rattle.sight_names.specs.declared.names.Pt.{Pt}
 use Rattle.sight_names.specs.declared.names.Ray.{Ray}
-use Rattle.sight_names.specs.Point.{Point}
+use Rattle.sight_names.specs.Point.{Point, point_of}
 use Rattle.sight_names.specs.Ray.{ray_value, along}
-use Rattle.geom_exact.specs.Formulas.{side_value, forward, AreOnTwoSides}
-use Rattle.geom_exact.specs.Crossings.{IsCrossingOf, IsPlacedBy, IsCrossOrder}
+use Rattle.geom_exact.specs.Formulas.{turn_of, side_value, AreOnOneSide, AreOnTwoSides}
+use Rattle.geom_exact.specs.Crossings.{IsCrossingOf, IsCrossOrder}
 use Rattle.geom_exact.proofs.SegmentLemmas.{on, segment, other_way, IsWeighted}
-use Rattle.math_base.proofs.Small.{nonneg_of_pos, nonneg_of_neg, cross_weights, zero_by_second}
+use Rattle.math_base.proofs.Small.{nonneg_of_pos, nonneg_of_neg, cross_weights, zero_by_second, some_square}
 use Rattle.sight_names.proofs.Portals.{scale_above}
+
+-- b * x - a * y at the point: how far along the ray it is
+unfoldable forward : Ray → Pt → ℤ
+forward ray p = along ray (point_of p)
 
 -- the side of a mean is the mean of the sides
 mean_side : (ray : Ray) (p q : Pt) (m n : ℤ) (z : Point) → IsWeighted p q m n z → (m +ℤ n) *ℤ ray_value ray z ≡ pos z.d *ℤ (m *ℤ side_value ray p +ℤ n *ℤ side_value ray q)
@@ -38,30 +43,39 @@ crossing_place ray p q z h =
     (sym (mean_side ray p q m n z k) ∙ zero_by_second (m +ℤ n) (ray_value ray z) h.1)
     (mean_advance ray p q m n z k))
 
-pub placed_left : (ray : Ray) (p q : Pt) (place weight : ℤ) → AreOnTwoSides (side_value ray p) (side_value ray q) → pos 0 <ℤ side_value ray p → place ≡ side_value ray p *ℤ forward ray q -ℤ side_value ray q *ℤ forward ray p → weight ≡ side_value ray p -ℤ side_value ray q → IsPlacedBy ray p q place weight
-placed_left ray p q place weight two h e f = record {
-  positive = subst (λ (t : ℤ). pos 0 <ℤ t) (sym f) (apart (side_value ray p) (side_value ray q) two h);
-  value = λ z c. ap (λ (t : ℤ). along ray z *ℤ t) f ∙ crossing_place ray p q z c ∙ ap (λ (t : ℤ). pos z.d *ℤ t) (sym e);
-}
+-- the side of l1 times the turn of l2
+abbrev pub turned : Ray → Pt → Pt → Pt → Pt → ℤ
+turned ray m1 m2 l1 l2 = side_value ray l1 *ℤ turn_of m1 m2 l2
+
+-- the two places, p / k and q / l, are as far apart as the turns say
+places_apart : (ray : Ray) (l1 l2 m1 m2 : Pt) → (side_value ray l1 *ℤ forward ray l2 -ℤ side_value ray l2 *ℤ forward ray l1) *ℤ (side_value ray m1 -ℤ side_value ray m2) -ℤ (side_value ray m1 *ℤ forward ray m2 -ℤ side_value ray m2 *ℤ forward ray m1) *ℤ (side_value ray l1 -ℤ side_value ray l2)
+    ≡ (ray.a *ℤ ray.a +ℤ ray.b *ℤ ray.b) *ℤ (turned ray m1 m2 l1 l2 -ℤ turned ray m1 m2 l2 l1)
+unfolding side_value forward turn_of
+places_apart ray l1 l2 m1 m2 =
+    by_ring (ray.a ∷ ray.b ∷ ray.c ∷ l1.x ∷ l1.y ∷ l2.x ∷ l2.y ∷ m1.x ∷ m1.y ∷ m2.x ∷ m2.y ∷ []) _ _ (search quoting depth 60 fits 200000) (search quoting depth 60 fits 200000) tt
+
+apart : (v w d e p q k l r x y : ℤ) → v *ℤ k ≡ d *ℤ p → w *ℤ l ≡ e *ℤ q → p *ℤ l -ℤ q *ℤ k ≡ r *ℤ (x -ℤ y) → (k *ℤ l) *ℤ (v *ℤ e -ℤ w *ℤ d) ≡ (d *ℤ e *ℤ r) *ℤ (x -ℤ y)
+apart v w d e p q k l r x y f g h = combine3 (l *ℤ e) (neg_ℤ (k *ℤ d)) (d *ℤ e) f g h (by_ring (v ∷ w ∷ d ∷ e ∷ p ∷ q ∷ k ∷ l ∷ r ∷ x ∷ y ∷ []) _ _ (search quoting depth 60 fits 200000) (search quoting depth 60 fits 200000) tt)
+
+crossings_apart : (ray : Ray) (l1 l2 m1 m2 : Pt) (z w : Point) → IsCrossingOf ray l1 l2 z → IsCrossingOf ray m1 m2 w → ((side_value ray l1 -ℤ side_value ray l2) *ℤ (side_value ray m1 -ℤ side_value ray m2)) *ℤ (along ray z *ℤ pos w.d -ℤ along ray w *ℤ pos z.d)
+    ≡ (pos z.d *ℤ pos w.d *ℤ (ray.a *ℤ ray.a +ℤ ray.b *ℤ ray.b)) *ℤ (turned ray m1 m2 l1 l2 -ℤ turned ray m1 m2 l2 l1)
+crossings_apart ray l1 l2 m1 m2 z w c d =
+    apart (along ray z) (along ray w) (pos z.d) (pos w.d) _ _ _ _ (ray.a *ℤ ray.a +ℤ ray.b *ℤ ray.b) (turned ray m1 m2 l1 l2) (turned ray m1 m2 l2 l1)
+    (crossing_place ray l1 l2 z c) (crossing_place ray m1 m2 w d) (places_apart ray l1 l2 m1 m2)
+
+-- a ray with points on both sides has a direction
+level : (ray : Ray) (p q : Pt) → ray.a ≡ pos 0 → ray.b ≡ pos 0 → side_value ray p -ℤ side_value ray q ≡ pos 0
+unfolding side_value
+level ray p q e f = combine2 (p.x -ℤ q.x) (p.y -ℤ q.y) e f (by_ring (ray.a ∷ ray.b ∷ ray.c ∷ p.x ∷ p.y ∷ q.x ∷ q.y ∷ []) _ _ (search quoting depth 60 fits 200000) (search quoting depth 60 fits 200000) tt)
+
+some_way : (ray : Ray) (p q : Pt) → AreOnTwoSides (side_value ray p) (side_value ray q) → pos 0 <ℤ (ray.a *ℤ ray.a +ℤ ray.b *ℤ ray.b)
+some_way ray p q two = some_square ray.a ray.b (λ h. not_level _ _ two (level ray p q h.0 h.1))
   where
-    apart : (a b : ℤ) → AreOnTwoSides a b → pos 0 <ℤ a → pos 0 <ℤ (a -ℤ b)
-    apart a b (inl k) h = let g = k.1 in omega (arith, ints)
-    apart a b (inr k) h = let g = k.0 in omega (arith, ints)
+    not_level : (s t : ℤ) → AreOnTwoSides s t → s -ℤ t ≡ pos 0 → ⊥
+    not_level s t (inl h) e = omega (arith, ints, h.0, h.1)
+    not_level s t (inr h) e = omega (arith, ints, h.0, h.1)
 
-pub placed_right : (ray : Ray) (p q : Pt) (place weight : ℤ) → AreOnTwoSides (side_value ray p) (side_value ray q) → side_value ray p ≤ℤ pos 0 → place ≡ side_value ray q *ℤ forward ray p -ℤ side_value ray p *ℤ forward ray q → weight ≡ side_value ray q -ℤ side_value ray p → IsPlacedBy ray p q place weight
-placed_right ray p q place weight two h e f = record {
-  positive = subst (λ (t : ℤ). pos 0 <ℤ t) (sym f) (apart (side_value ray p) (side_value ray q) two h);
-  value = λ z c. turned (along ray z) weight (side_value ray q) (side_value ray p) (pos z.d) place (forward ray p) (forward ray q) f e (crossing_place ray p q z c);
-}
-  where
-    apart : (a b : ℤ) → AreOnTwoSides a b → a ≤ℤ pos 0 → pos 0 <ℤ (b -ℤ a)
-    apart a b (inl k) h = let g = k.0 in omega (arith, ints)
-    apart a b (inr k) h = let g = k.1 in omega (arith, ints)
-
-    turned : (v w b a d u g h : ℤ) → w ≡ b -ℤ a → u ≡ b *ℤ g -ℤ a *ℤ h → v *ℤ (a -ℤ b) ≡ d *ℤ (a *ℤ h -ℤ b *ℤ g) → v *ℤ w ≡ d *ℤ u
-    turned v w b a d u g h e f k = combine3 v (neg_ℤ d) (negsuc 0) e f k (by_ring (v ∷ w ∷ b ∷ a ∷ d ∷ u ∷ g ∷ h ∷ []) _ _ (search quoting depth 60 fits 200000) (search quoting depth 60 fits 200000) tt)
-
--- ---- comparisons of fractions
+-- ---- the order of two numbers, by another two that are as far apart but for a factor
 less : (a b : ℤ) → a <ℤ b → int_cmp a b ≡ Less
 less a b h = grind (arith, ints)
 
@@ -71,42 +85,59 @@ greater a b h = grind (arith, ints)
 equal : (a b : ℤ) → a ≡ b → int_cmp a b ≡ Equal
 equal a b h = grind (arith, ints)
 
--- a positive factor keeps the order
-scaled_order : (k a b : ℤ) → pos 0 <ℤ k → int_cmp (k *ℤ a) (k *ℤ b) ≡ int_cmp a b
-scaled_order k a b h = elim (sign_cases (a -ℤ b)) as (λ _. int_cmp (k *ℤ a) (k *ℤ b) ≡ int_cmp a b) [
-  | inl g ↦ less (k *ℤ a) (k *ℤ b) (grown k a b h g) ∙ sym (less a b (omega (arith, ints)))
-  | inr c ↦ elim c as (λ _. int_cmp (k *ℤ a) (k *ℤ b) ≡ int_cmp a b) [
-    | inl e ↦
-        let f : a ≡ b = omega (arith, ints) in
-        equal (k *ℤ a) (k *ℤ b) (ap (λ (t : ℤ). k *ℤ t) f) ∙ sym (equal a b f)
-    | inr g ↦ greater (k *ℤ a) (k *ℤ b) (grown k b a h (flipped a b g)) ∙ sym (greater a b (omega (arith, ints)))
-  ]
+same_order : (k q a b x y : ℤ) → pos 0 <ℤ k → pos 0 <ℤ q → k *ℤ (a -ℤ b) ≡ q *ℤ (x -ℤ y) → int_cmp x y ≡ int_cmp a b
+same_order k q a b x y hk hq e = elim (sign_cases (a -ℤ b)) as (λ _. int_cmp x y ≡ int_cmp a b) [
+  | inl g ↦
+      let n = neg-of-mul q (x -ℤ y) hq (subst (λ (t : ℤ). t <ℤ pos 0) e (mul-neg k (a -ℤ b) hk g)) in
+      less x y (omega (arith, ints)) ∙ sym (less a b (omega (arith, ints)))
+  | inr (inl g) ↦
+      let n = zero-of-mul q (x -ℤ y) hq (sym e ∙ zero_by_second k (a -ℤ b) g) in
+      equal x y (omega (arith, ints)) ∙ sym (equal a b (omega (arith, ints)))
+  | inr (inr g) ↦
+      let n = pos-of-mul q (x -ℤ y) hq (subst (λ (t : ℤ). pos 0 <ℤ t) e (mul-pos k (a -ℤ b) hk g)) in
+      greater x y (omega (arith, ints)) ∙ sym (greater a b (omega (arith, ints)))
 ]
+
+-- with a, b on two sides and s, t too
+one_way : (a b s t q u v x y : ℤ) → AreOnTwoSides a b → AreOnTwoSides s t → AreOnOneSide a s → pos 0 <ℤ q → ((a -ℤ b) *ℤ (s -ℤ t)) *ℤ (u -ℤ v) ≡ q *ℤ (x -ℤ y) → int_cmp x y ≡ int_cmp u v
+one_way a b s t q u v x y l m one h = same_order ((a -ℤ b) *ℤ (s -ℤ t)) q u v x y (above l m one) h
   where
-    flipped : (a b : ℤ) → pos 0 <ℤ (a -ℤ b) → (b -ℤ a) <ℤ pos 0
-    flipped a b h = omega (arith, ints)
+    above : AreOnTwoSides a b → AreOnTwoSides s t → AreOnOneSide a s → pos 0 <ℤ ((a -ℤ b) *ℤ (s -ℤ t))
+    above (inl h) (inl k) one = mul-pos (a -ℤ b) (s -ℤ t) (omega (arith, ints, h.0, h.1)) (omega (arith, ints, k.0, k.1))
+    above (inr h) (inr k) one = mul-both_neg (a -ℤ b) (s -ℤ t) (omega (arith, ints, h.0, h.1)) (omega (arith, ints, k.0, k.1))
+    above (inl h) (inr k) (inl o) = absurd (omega (arith, ints, k.0, o.1))
+    above (inl h) (inr k) (inr o) = absurd (omega (arith, ints, h.0, o.0))
+    above (inr h) (inl k) (inl o) = absurd (omega (arith, ints, h.0, o.0))
+    above (inr h) (inl k) (inr o) = absurd (omega (arith, ints, k.0, o.1))
 
-    grown : (k a b : ℤ) → pos 0 <ℤ k → (a -ℤ b) <ℤ pos 0 → (k *ℤ a) <ℤ (k *ℤ b)
-    grown k a b h g =
-        let p : pos 0 <ℤ (k *ℤ (b -ℤ a)) = mul-pos k (b -ℤ a) h (omega (arith, ints)) in
-        let e : k *ℤ (b -ℤ a) ≡ k *ℤ b -ℤ k *ℤ a = by_ring (k ∷ a ∷ b ∷ []) _ _ (search quoting depth 60 fits 200000) (search quoting depth 60 fits 200000) tt in
-        omega (arith, ints)
-
--- two fractions that stand for one value compare as those
-pub fraction_order : (v w d e u k t l : ℤ) → pos 0 <ℤ d → pos 0 <ℤ e → pos 0 <ℤ k → pos 0 <ℤ l → v *ℤ k ≡ d *ℤ u → w *ℤ l ≡ e *ℤ t → int_cmp (u *ℤ l) (t *ℤ k) ≡ int_cmp (v *ℤ e) (w *ℤ d)
-fraction_order v w d e u k t l hd he hk hl f g =
-    sym (scaled_order (d *ℤ e) (u *ℤ l) (t *ℤ k) (mul-pos d e hd he))
-    ∙ ap₂ (λ (x y : ℤ). int_cmp x y) (first d e u k l v f) (second d e t k l w g)
-    ∙ scaled_order (k *ℤ l) (v *ℤ e) (w *ℤ d) (mul-pos k l hk hl)
+two_ways : (a b s t q u v x y : ℤ) → AreOnTwoSides a b → AreOnTwoSides s t → ¬ AreOnOneSide a s → pos 0 <ℤ q → ((a -ℤ b) *ℤ (s -ℤ t)) *ℤ (u -ℤ v) ≡ q *ℤ (x -ℤ y) → int_cmp y x ≡ int_cmp u v
+two_ways a b s t q u v x y l m one h e = same_order ((a -ℤ b) *ℤ (t -ℤ s)) q u v y x (above l m one) h (flipped e)
   where
-    first : (d e u k l v : ℤ) → v *ℤ k ≡ d *ℤ u → (d *ℤ e) *ℤ (u *ℤ l) ≡ (k *ℤ l) *ℤ (v *ℤ e)
-    first d e u k l v f = combine1 (neg_ℤ (e *ℤ l)) f (by_ring (d ∷ e ∷ u ∷ k ∷ l ∷ v ∷ []) _ _ (search quoting depth 60 fits 200000) (search quoting depth 60 fits 200000) tt)
+    above : AreOnTwoSides a b → AreOnTwoSides s t → ¬ AreOnOneSide a s → pos 0 <ℤ ((a -ℤ b) *ℤ (t -ℤ s))
+    above (inl h) (inr k) one = mul-pos (a -ℤ b) (t -ℤ s) (omega (arith, ints, h.0, h.1)) (omega (arith, ints, k.0, k.1))
+    above (inr h) (inl k) one = mul-both_neg (a -ℤ b) (t -ℤ s) (omega (arith, ints, h.0, h.1)) (omega (arith, ints, k.0, k.1))
+    above (inl h) (inl k) one = absurd (one (inl (h.0, k.0)))
+    above (inr h) (inr k) one = absurd (one (inr (h.0, k.0)))
 
-    second : (d e t k l w : ℤ) → w *ℤ l ≡ e *ℤ t → (d *ℤ e) *ℤ (t *ℤ k) ≡ (k *ℤ l) *ℤ (w *ℤ d)
-    second d e t k l w g = combine1 (neg_ℤ (d *ℤ k)) g (by_ring (d ∷ e ∷ t ∷ k ∷ l ∷ w ∷ []) _ _ (search quoting depth 60 fits 200000) (search quoting depth 60 fits 200000) tt)
+    flipped : ((a -ℤ b) *ℤ (s -ℤ t)) *ℤ (u -ℤ v) ≡ q *ℤ (x -ℤ y) → ((a -ℤ b) *ℤ (t -ℤ s)) *ℤ (u -ℤ v) ≡ q *ℤ (y -ℤ x)
+    flipped e = combine1 (negsuc 0) e (by_ring (a ∷ b ∷ s ∷ t ∷ q ∷ u ∷ v ∷ x ∷ y ∷ []) _ _ (search quoting depth 60 fits 200000) (search quoting depth 60 fits 200000) tt)
 
-pub crossings_in_order : (ray : Ray) (l1 l2 m1 m2 : Pt) (u k t l : ℤ) → IsPlacedBy ray l1 l2 u k → IsPlacedBy ray m1 m2 t l → IsCrossOrder ray l1 l2 m1 m2 (int_cmp (u *ℤ l) (t *ℤ k))
-crossings_in_order ray l1 l2 m1 m2 u k t l a b z w c d = fraction_order (along ray z) (along ray w) (pos z.d) (pos w.d) u k t l (scale_above z) (scale_above w) a.positive b.positive (a.value z c) (b.value w d)
+scale : (ray : Ray) (p q : Pt) (z w : Point) → AreOnTwoSides (side_value ray p) (side_value ray q) → pos 0 <ℤ (pos z.d *ℤ pos w.d *ℤ (ray.a *ℤ ray.a +ℤ ray.b *ℤ ray.b))
+scale ray p q z w two = mul-pos (pos z.d *ℤ pos w.d) (ray.a *ℤ ray.a +ℤ ray.b *ℤ ray.b) (mul-pos (pos z.d) (pos w.d) (scale_above z) (scale_above w)) (some_way ray p q two)
+
+-- the ray finds l1 and m1 on one side
+pub order_one_way : (ray : Ray) (l1 l2 m1 m2 : Pt) → AreOnTwoSides (side_value ray l1) (side_value ray l2) → AreOnTwoSides (side_value ray m1) (side_value ray m2) → AreOnOneSide (side_value ray l1) (side_value ray m1)
+    → IsCrossOrder ray l1 l2 m1 m2 (int_cmp (turned ray m1 m2 l1 l2) (turned ray m1 m2 l2 l1))
+order_one_way ray l1 l2 m1 m2 l m one z w c d =
+    one_way (side_value ray l1) (side_value ray l2) (side_value ray m1) (side_value ray m2) (pos z.d *ℤ pos w.d *ℤ (ray.a *ℤ ray.a +ℤ ray.b *ℤ ray.b)) (along ray z *ℤ pos w.d) (along ray w *ℤ pos z.d) (turned ray m1 m2 l1 l2) (turned ray m1 m2 l2 l1)
+    l m one (scale ray l1 l2 z w l) (crossings_apart ray l1 l2 m1 m2 z w c d)
+
+-- the ray finds them on two sides
+pub order_two_ways : (ray : Ray) (l1 l2 m1 m2 : Pt) → AreOnTwoSides (side_value ray l1) (side_value ray l2) → AreOnTwoSides (side_value ray m1) (side_value ray m2) → ¬ AreOnOneSide (side_value ray l1) (side_value ray m1)
+    → IsCrossOrder ray l1 l2 m1 m2 (int_cmp (turned ray m1 m2 l2 l1) (turned ray m1 m2 l1 l2))
+order_two_ways ray l1 l2 m1 m2 l m one z w c d =
+    two_ways (side_value ray l1) (side_value ray l2) (side_value ray m1) (side_value ray m2) (pos z.d *ℤ pos w.d *ℤ (ray.a *ℤ ray.a +ℤ ray.b *ℤ ray.b)) (along ray z *ℤ pos w.d) (along ray w *ℤ pos z.d) (turned ray m1 m2 l1 l2) (turned ray m1 m2 l2 l1)
+    l m one (scale ray l1 l2 z w l) (crossings_apart ray l1 l2 m1 m2 z w c d)
 
 cross_straight : (a b c px py qx qy s t d : ℤ) → s ≡ a *ℤ px +ℤ b *ℤ py +ℤ c *ℤ pos 1 → t ≡ a *ℤ qx +ℤ b *ℤ qy +ℤ c *ℤ pos 1 → d ≡ s -ℤ t → a *ℤ (s *ℤ qx -ℤ t *ℤ px) +ℤ b *ℤ (s *ℤ qy -ℤ t *ℤ py) +ℤ c *ℤ d ≡ pos 0
 cross_straight a b c px py qx qy s t d h k e =

@@ -1,5 +1,5 @@
 -- The order of two crossings along a ray.
-use Rattle.std.specs.Prelude.{ℤ, pos, ◌*ℤ◌, ◌<ℤ◌, ◌≡◌}
+use Rattle.std.specs.Prelude.{pos, ◌*ℤ◌, ◌≡◌}
 use Rattle.std.specs.Ordering.{int_cmp}
 use Rattle.std.specs.declared.cmp.Ordering.{Ordering}
 use Rattle.sight_names.specs.declared.names.Pt.{Pt}
@@ -18,8 +18,3 @@ IsCrossed ray p q = (z : Point) × IsCrossingOf ray p q z
 -- the answer is the order of b * x - a * y at the crossings, whichever points stand for them
 abbrev pub IsCrossOrder : Ray → Pt → Pt → Pt → Pt → Ordering → Type 0
 IsCrossOrder ray l1 l2 m1 m2 order = (z w : Point) → IsCrossingOf ray l1 l2 z → IsCrossingOf ray m1 m2 w → order ≡ int_cmp (along ray z *ℤ pos w.d) (along ray w *ℤ pos z.d)
-
--- each crossing of the segment is place / weight along the ray
-pub record IsPlacedBy (ray : Ray) (p q : Pt) (place weight : ℤ) : Type 0 where
-  pub positive : pos 0 <ℤ weight
-  pub value : (z : Point) → IsCrossingOf ray p q z → along ray z *ℤ weight ≡ pos z.d *ℤ place

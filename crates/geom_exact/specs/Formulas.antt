@@ -3,7 +3,7 @@ use Rattle.std.specs.Prelude.{ℤ, pos, ◌+ℤ◌, ◌-ℤ◌, ◌*ℤ◌, ◌<
 use Rattle.sight_names.specs.declared.names.Pt.{Pt}
 use Rattle.sight_names.specs.declared.names.Ray.{Ray}
 use Rattle.sight_names.specs.Point.{point_of}
-use Rattle.sight_names.specs.Ray.{ray_value, along}
+use Rattle.sight_names.specs.Ray.{ray_value}
 
 -- twice the signed area of the triangle a, b, c: above 0 where they stand counterclockwise
 unfoldable pub turn_of : Pt → Pt → Pt → ℤ
@@ -16,10 +16,6 @@ reach_of p q v = (q.x -ℤ p.x) *ℤ (v.x -ℤ p.x) +ℤ (q.y -ℤ p.y) *ℤ (v.
 -- a * x + b * y + c at the point: above 0 on the ray's left, below 0 on its right
 unfoldable pub side_value : Ray → Pt → ℤ
 side_value ray p = ray_value ray (point_of p)
-
--- b * x - a * y at the point: how far along the ray it is
-unfoldable pub forward : Ray → Pt → ℤ
-forward ray p = along ray (point_of p)
 
 -- both numbers are above 0, or both are below
 abbrev pub AreOnOneSide : ℤ → ℤ → Type 0

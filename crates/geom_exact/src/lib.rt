@@ -7,9 +7,9 @@ pub mod line_spans;
 
 ghost use Rattle.std.specs.Prelude.{◌≡◌, ◌≢◌, ◌≤◌, ◌<◌, ◌*◌, ◌^◌, ◌-ℤ◌, ◌*ℤ◌, ◌<ℤ◌, unsigned_abs, IsTrue, ◌↔◌, ◌⊎◌, pos};
 ghost use Rattle.sight_names.specs.Ray.{IsInRange};
-ghost use Rattle.geom_exact.specs.Formulas.{turn_of, reach_of, side_value, forward, AreOnOneSide, AreOnTwoSides};
+ghost use Rattle.geom_exact.specs.Formulas.{turn_of, reach_of, side_value, AreOnOneSide, AreOnTwoSides};
 ghost use Rattle.geom_exact.specs.Common.{IsRelation, AreLaid, DoMeet};
-ghost use Rattle.geom_exact.specs.Crossings.{IsCrossed, IsCrossOrder, IsPlacedBy};
+ghost use Rattle.geom_exact.specs.Crossings.{IsCrossed, IsCrossOrder};
 
 use sight_names::{Pt, Ray};
 use std::cmp::Ordering;
@@ -197,86 +197,13 @@ pub fn side_of(ray: &Ray, p: Pt) -> i64
     scaled(ray.a, p.x) + scaled(ray.b, p.y) + ray.c
 }
 
-/// `b*x - a*y`: how far along the ray's direction.
-fn forward_of(ray: &Ray, p: Pt) -> i64
-    requires { IsInRange ray.now }
-    ensures value { result ≡ forward ray.now p }
-    ensures bound { unsigned_abs result ≤ 2 ^ 36 }
-{
-    scaled(ray.b, p.x) - scaled(ray.a, p.y)
-}
-
-/// `a * b`, of two numbers of a ray.
+/// `a * b`, of a side and a turn.
 fn long_product(a: i64, b: i64) -> i128
-    requires left { unsigned_abs a ≤ 2 ^ 40 }
-    requires right { unsigned_abs b ≤ 2 ^ 40 }
-    ensures value { result ≡ a *ℤ b }
-    ensures bound { unsigned_abs result ≤ 2 ^ 80 }
-{
-    a as i128 * b as i128
-}
-
-/// `a * d - b * c`.
-fn determinant(a: i64, b: i64, c: i64, d: i64) -> i128
-    requires a { unsigned_abs a ≤ 2 ^ 40 }
-    requires b { unsigned_abs b ≤ 2 ^ 40 }
-    requires c { unsigned_abs c ≤ 2 ^ 40 }
-    requires d { unsigned_abs d ≤ 2 ^ 40 }
-    ensures value { result ≡ a *ℤ d -ℤ b *ℤ c }
-    ensures bound { unsigned_abs result ≤ 2 ^ 82 }
-{
-    long_product(a, d) - long_product(b, c)
-}
-
-/// `a - b`.
-fn gap(a: i64, b: i64) -> i128
-    requires a { unsigned_abs a ≤ 2 ^ 38 }
-    requires b { unsigned_abs b ≤ 2 ^ 38 }
-    ensures value { result ≡ a -ℤ b }
-    ensures bound { unsigned_abs result ≤ 2 ^ 40 }
-{
-    a as i128 - b as i128
-}
-
-/// `a * b`, of a place and a weight.
-fn wide_product(a: i128, b: i128) -> i128
-    requires left { unsigned_abs a ≤ 2 ^ 82 }
-    requires right { unsigned_abs b ≤ 2 ^ 40 }
+    requires left { unsigned_abs a ≤ 2 ^ 38 }
+    requires right { unsigned_abs b < 2 ^ 33 }
     ensures { result ≡ a *ℤ b }
 {
-    a * b
-}
-
-/// A crossing of a ray: `place / weight` along its direction.
-#[derive(Clone, Copy)]
-struct Crossing {
-    place: i128,
-    weight: i128,
-}
-
-/// Where the ray's line crosses the segment.
-fn crossing_of(ray: &Ray, p: Pt, q: Pt) -> Crossing
-    requires range { IsInRange ray.now }
-    requires sides { AreOnTwoSides (side_value ray.now p) (side_value ray.now q) }
-    ensures place { unsigned_abs result.place ≤ 2 ^ 82 }
-    ensures weight { unsigned_abs result.weight ≤ 2 ^ 40 }
-    ensures value { IsPlacedBy ray.now p q result.place result.weight }
-{
-    let from = side_of(ray, p);
-    let to = side_of(ray, q);
-    let start = forward_of(ray, p);
-    let end = forward_of(ray, q);
-    if from > 0 {
-        Crossing {
-            place: determinant(from, to, start, end),
-            weight: gap(from, to),
-        }
-    } else {
-        Crossing {
-            place: determinant(to, from, end, start),
-            weight: gap(to, from),
-        }
-    }
+    a as i128 * b as i128
 }
 
 /// Which crossing comes first along the ray: `Less` where its line crosses the segment from `l1` to `l2` before it
@@ -289,9 +216,15 @@ pub fn cross_order(ray: &Ray, l1: Pt, l2: Pt, m1: Pt, m2: Pt) -> Ordering
     ensures second_there { IsCrossed ray.now m1 m2 }
     ensures order { IsCrossOrder ray.now l1 l2 m1 m2 result }
 {
-    let l = crossing_of(ray, l1, l2);
-    let m = crossing_of(ray, m1, m2);
-    wide_product(l.place, m.weight).cmp(&wide_product(m.place, l.weight))
+    let from = side_of(ray, l1);
+    let to = side_of(ray, l2);
+    let near = long_product(to, turn(m1, m2, l1));
+    let far = long_product(from, turn(m1, m2, l2));
+    if same_side(from, side_of(ray, m1)) {
+        far.cmp(&near)
+    } else {
+        near.cmp(&far)
+    }
 }
 
 /// Whether `p` is strictly inside the counterclockwise triangle `a`, `b`, `c`; a point of an edge is not.
