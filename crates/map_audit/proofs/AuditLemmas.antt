@@ -45,8 +45,6 @@ pub ends_differ : (p : PlanParts) → IsPlan p → (read : List Pt) → read ≡
 ends_differ p h read e l f = subst (λ (xs : List Pt). slice_index_or xs l.a origin ≢ slice_index_or xs l.b origin) (sym e) (points_differ p h l.a l.b f.first f.second f.differ)
 
 -- ---- lines of the plan and of its map
-pub record_below : (p : PlanParts) (i : ℕ) (l : Line) → option_and_then (λ k. k) (slice_get p.lines i) ≡ Some l → i < length p.lines
-record_below p i l e = line_below p i (looked_up p.points l) (line_there p i l (sym e))
 
 -- ---- fine pairs
 fine_of : (m : Map) (i j : ℕ) (a b : MapLine) → line_at m i ≡ Some a → line_at m j ≡ Some b → AreFine a b → FineAt m i j
@@ -105,9 +103,7 @@ found m (Touch i j) h = record { i = i; j = j; relation = Touching; first = h; n
 found m (Overlap i j) h = record { i = i; j = j; relation = Overlapping; first = h; named = refl }
 
 not_fine : (m : Map) (f : LineFault) (h : Found m f) → ¬ FineAt m h.i h.j
-not_fine m f h fine =
-    let q = h.first.pair in
-    unfair h.i h.j q.one q.other h.relation f h.named q.related (fine q.one q.other q.is_one q.is_other)
+not_fine m f h fine = search unfair
 
 not_earlier : (m : Map) (f g : LineFault) (h : Found m f) (k : Found m g) → ¬ (h.i < k.i)
 not_earlier m f g h k lt = not_fine m f h (k.first.earlier h.i lt h.j h.first.ordered)
@@ -150,13 +146,7 @@ not_sound m f hf s =
 
 -- the clauses of the audit
 pub refused_fault : (m : Map) (fault f : LineFault) → IsLineFault m fault → (◌≡◌ {A = Result (Unit {0}) LineFault} (Err fault) (Err f)) ↔ IsLineFault m f
-refused_fault m fault f h = ((λ e. subst (IsLineFault m) (injective e) h), (λ k. ap (λ (x : LineFault). let r : Result (Unit {0}) LineFault = Err x in r) (one_fault m fault f h k)))
-  where
-    injective : ◌≡◌ {A = Result (Unit {0}) LineFault} (Err fault) (Err f) → fault ≡ f
-    injective e = cc
+refused_fault m fault f h = grind (arith, one_fault)
 
 pub accepted_fault : (m : Map) (f : LineFault) → LinesMeetAtEnds m → (◌≡◌ {A = Result (Unit {0}) LineFault} (Ok tt) (Err f)) ↔ IsLineFault m f
-accepted_fault m f h = ((λ e. absurd (no e)), (λ k. absurd (not_sound m f k h)))
-  where
-    no : ◌≡◌ {A = Result (Unit {0}) LineFault} (Ok tt) (Err f) → ⊥
-    no g = cc
+accepted_fault m f h = grind (arith, not_sound)

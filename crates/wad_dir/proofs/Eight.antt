@@ -1,15 +1,15 @@
 -- The names of a WAD that was read have eight bytes, and so have those of the WAD with another REJECT.
-use Rattle.std.proofs.Common.{◌≡◌, ℕ, zero, suc, ◌+◌, ◌*◌, ◌^◌, ◌<◌, ◌≤◌, ◌==◌, List, [], ◌∷◌, ◌++◌, length, drop, take, map, Bool, true, false, not, ◌&&◌, ◌||◌, if◌then◌else◌, nat_lt, nat_le, Option, Some, None, Ok, Result, refl, subst, arith}
-use Rattle.std.specs.Prelude.{is_none, slice_set}
+use Rattle.std.proofs.Common.{◌≡◌, ℕ, zero, suc, ◌+◌, ◌*◌, ◌^◌, ◌≤◌, List, [], ◌∷◌, ◌++◌, length, drop, take, map, Bool, true, false, if◌then◌else◌, nat_lt, nat_le, Option, Some, None, Ok, Result, refl, subst, arith}
+use Rattle.std.specs.Prelude.{is_none}
 use Rattle.std.specs.List.{AllByRecursion, insert}
 use Rattle.std.proofs.Math.ListN.{get_or, set}
-use Rattle.std.proofs.lemmas.Bool.Decides.{Decides-eqb, Decides-ltb, not_from_Decides}
+use Rattle.std.proofs.lemmas.Bool.Decides.{not_from_Decides}
 use Rattle.std.proofs.lemmas.List.{length-drop, length-take}
 use Rattle.sight_names.specs.declared.limits.TheConstants.{MOST_LUMPS}
 use Rattle.sight_names.specs.declared.faults.WadFault.{WadFault}
 use Rattle.wad_dir.specs.declared.parts.MapSpot.{MapSpot}
-use Rattle.wad_dir.specs.Print.{reject_lump, with_bytes, with_reject}
-use Rattle.wad_dir.specs.Wad.{Slot, WadFile, WadLump, count_of, directory_place, is_directory_outside, kind_of, kind_said, lump_of, slot_at, slots_at, slots_of, unless, wad_fault, wad_of}
+use Rattle.wad_dir.specs.Print.{with_bytes, with_reject}
+use Rattle.wad_dir.specs.Wad.{Slot, WadFile, WadLump, count_of, is_directory_outside, kind_of, kind_said, lump_of, slot_at, slots_at, slots_of, unless, wad_fault, wad_of}
 
 -- each name has eight bytes
 abbrev pub HasNames : List WadLump → Type 0
@@ -47,19 +47,7 @@ unfolding wad_fault
 inside bytes h = fifth (nat_lt (length bytes) 12) (is_none (kind_of bytes)) (nat_le (2 ^ 31) (count_of bytes)) (nat_lt MOST_LUMPS (count_of bytes)) (is_directory_outside bytes) _ _ _ _ _ _ h
 
 within : (bytes : List ℕ) → is_directory_outside bytes ≡ false → HasSlots (slots_of bytes)
-within bytes h = by (count_of bytes == 0) (nat_le (2 ^ 31) (directory_place bytes)) (nat_lt (length bytes) (directory_place bytes + 16 * count_of bytes)) refl refl h
-  where
-    empty : (n : ℕ) → n ≡ 0 → HasSlots (slots_at bytes (directory_place bytes) n)
-    empty zero e = tt
-    empty (suc n) e = absurd (omega (arith, e))
-
-    by : (a b c : Bool) → (count_of bytes == 0) ≡ a → nat_lt (length bytes) (directory_place bytes + 16 * count_of bytes) ≡ c → (not a && (b || c)) ≡ false → HasSlots (slots_of bytes)
-    by true b c p q e = empty (count_of bytes) ((Decides-eqb (count_of bytes) 0).0 p)
-    by false true c p q e = absurd cc
-    by false false true p q e = absurd cc
-    by false false false p q e =
-        let no : ¬ (length bytes < directory_place bytes + 16 * count_of bytes) = not_from_Decides _ (Decides-ltb (length bytes) (directory_place bytes + 16 * count_of bytes)) q in
-        slots_named bytes (directory_place bytes) (count_of bytes) (omega (arith, no))
+within bytes h = grind (arith, not_from_Decides, slots_named)
 
 -- of a WAD that was read
 pub names_read : (bytes : List ℕ) (w : WadFile) → wad_of bytes ≡ Ok w → HasNames w.lumps
@@ -86,8 +74,4 @@ set_named (x ∷ lumps) zero d bytes h = h
 set_named (x ∷ lumps) (suc i) d bytes h = (h.0, set_named lumps i d bytes h.1)
 
 pub names_rewritten : (w : WadFile) (spot : MapSpot) (table : List ℕ) → HasNames w.lumps → HasNames (with_reject w spot table).lumps
-names_rewritten w spot table h = by spot.reject
-  where
-    by : (o : Option ℕ) → HasNames (elim o [ Some k ↦ slice_set w.lumps k (with_bytes (get_or w.lumps k (reject_lump table)) table) | None ↦ insert w.lumps (spot.sectors + 1) (reject_lump table) ])
-    by (Some k) = set_named w.lumps k (reject_lump table) table h
-    by None = insert_named w.lumps (spot.sectors + 1) (reject_lump table) h refl
+names_rewritten w spot table h = grind (arith, get_or, insert_named, set_named)

@@ -56,11 +56,7 @@ last_kept ns zero name x k found m other lt h = step (same_name x name) other
     step : (c : Bool) → c ≡ false → last_from ns name (k + 1) (if c then Some k else found) ≡ Some m
     step true e = absurd cc
     step false e = last_same ns name k found m (omega (arith, lt)) h (k + 1)
-last_kept [] (suc i) name x k found m other lt h = step (same_name x name) other
-  where
-    step : (c : Bool) → c ≡ false → (if c then Some k else found) ≡ Some m
-    step true e = absurd cc
-    step false e = h
+last_kept [] (suc i) name x k found m other lt h = search
 last_kept (n ∷ ns) (suc i) name x k found m other lt h = last_kept ns i name x (k + 1) (if same_name n name then Some k else found) m other (omega (arith, lt)) h
 
 -- the last of a name is among them
@@ -149,11 +145,7 @@ shuffled false false true = refl
 shuffled false false false = refl
 
 also_pushed : (before after : List (List ℕ)) (x : List ℕ) → HasAlso before after → HasAlso (before ++ x ∷ []) (after ++ x ∷ [])
-also_pushed before after x h n =
-    list_any-append (λ y. same_name y n) after (x ∷ [])
-    ∙ ap (λ (b : Bool). b || (same_name x n || false)) (h n)
-    ∙ shuffled (has_name n before) (same_name padded n) (same_name x n)
-    ∙ ap (λ (b : Bool). b || same_name padded n) (sym (list_any-append (λ y. same_name y n) before (x ∷ [])))
+also_pushed before after x h n = grind (arith, list_any-append, padded, shuffled)
 
 -- a name that is the padded one is that of a REJECT
 is_reject : (n : List ℕ) → same_name padded n ≡ true → same_name n word ≡ true

@@ -32,5 +32,4 @@ behind_is marker r format es run rest spot len names run-is e b is =
 -- the marker is found
 pub found_is : (marker : ℕ) (es after : List Entry) (name : List ℕ) (spot : Result MapSpot MapFault) → last_from (entry_names es) name 0 None ≡ Some marker → after ≡ drop (marker + 1) es → spot ≡ spot_behind marker (entry_names after) → spot ≡ spot_of (entry_names es) name
 unfolding spot_of
-found_is marker es after name spot last e is =
-    rw (last, spot_of) (is ∙ ap (λ (ns : List (List ℕ)). spot_behind marker ns) (ap (λ (x : List Entry). entry_names x) e ∙ names_drop (marker + 1) es))
+found_is marker es after name spot last e is = grind (arith, names_drop)

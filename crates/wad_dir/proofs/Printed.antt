@@ -1,7 +1,6 @@
 -- What is printed is read as the same WAD.
 use Rattle.std.proofs.Common.{◌≡◌, ℕ, zero, suc, ◌+◌, ◌*◌, ◌^◌, ◌==◌, ◌<◌, ◌≤◌, List, [], ◌∷◌, ◌++◌, length, take, drop, map, Bool, true, false, not, ◌&&◌, ◌||◌, nat_lt, nat_le, if◌then◌else◌, Option, Some, None, Ok, refl, sym, ap, ◌∙◌, append_assoc, arith}
-use Rattle.std.specs.Prelude.{is_none, bytes_eq}
-use Rattle.std.specs.Option.{option_map}
+use Rattle.std.specs.Prelude.{bytes_eq}
 use Rattle.std.specs.Int.{w32, from_le_bytes, to_le_bytes}
 use Rattle.std.specs.List.{AllByRecursion, position_from}
 use Rattle.std.proofs.lemmas.Bool.{le-ltb, lt-leb}
@@ -9,12 +8,10 @@ use Rattle.std.proofs.lemmas.List.{take_at, drop_at, length-append, append-nil}
 use Rattle.std.proofs.lemmas.List.Concat.{flat_map-cons, length-flat_map}
 use Rattle.std.proofs.lemmas.List.Sums.{sum_by-cons}
 use Rattle.std.proofs.lemmas.Nat.{from_le_bytes-to_le_bytes_4}
-use Rattle.sight_names.specs.declared.limits.TheConstants.{MOST_LUMPS}
 use Rattle.sight_names.specs.declared.faults.WadFault.{WadFault}
-use Rattle.sight_names.specs.declared.faults.WadFault.TheVariants as fault
 use Rattle.wad_dir.specs.declared.parts.Kind.{Kind}
 use Rattle.wad_dir.specs.declared.parts.Kind.TheVariants.{Iwad, Pwad}
-use Rattle.wad_dir.specs.Wad.{WadFile, WadLump, Slot, magic, word_at, kind_of, kind_said, count_of, directory_place, slot_at, slots_at, slots_of, is_outside, is_directory_outside, wad_fault, wad_of, lump_of, unless}
+use Rattle.wad_dir.specs.Wad.{WadFile, WadLump, Slot, magic, word_at, kind_of, kind_said, count_of, directory_place, slot_at, slots_at, slots_of, is_outside, wad_fault, wad_of, lump_of, unless}
 use Rattle.wad_dir.specs.Print.{body, body_len, directory_from, header, print, IsPrintable, PrintsItsLength, ReadsWhatIsPrinted}
 
 -- ---- four bytes of a number
@@ -178,10 +175,7 @@ unfolding word
 header_parts w = refl
 
 length-header : (w : WadFile) → length (header w) ≡ 12
-length-header w =
-    let counted : List ℕ = word (length w.lumps) in
-    let placed : List ℕ = word (12 + body_len w.lumps) in
-    ap (λ (bs : List ℕ). length bs) (header_parts w) ∙ omega (arith, length-append (magic w.kind ++ counted) placed, length-append (magic w.kind) counted, length-magic w.kind, length-word (length w.lumps), length-word (12 + body_len w.lumps))
+length-header w = search (header_parts, length-append, length-magic, length-word, word)
 
 pub prints_its_length : PrintsItsLength
 unfolding print
@@ -189,11 +183,7 @@ prints_its_length w names =
     omega (arith, length-append (header w ++ body w.lumps) (directory_from 12 w.lumps), length-append (header w) (body w.lumps), length-header w, length-body w.lumps, length-directory w.lumps 12 names)
 
 kind_is : (bytes : List ℕ) (k : Kind) → take 4 bytes ≡ magic k → kind_of bytes ≡ Some k
-kind_is bytes k e = rw e (same k)
-  where
-    same : (x : Kind) → (if bytes_eq (magic x) (magic Iwad) then Some Iwad else (if bytes_eq (magic x) (magic Pwad) then Some Pwad else None)) ≡ Some x
-    same Iwad = refl
-    same Pwad = refl
+kind_is bytes k e = grind arith
 
 says_kind : (bytes : List ℕ) (k : Kind) → take 4 bytes ≡ magic k → kind_said bytes ≡ k
 says_kind bytes k e = rw e (same k)
@@ -203,14 +193,7 @@ says_kind bytes k e = rw e (same k)
     same Pwad = refl
 
 directory_inside : (len place count : ℕ) → place < 2 ^ 31 → place + 16 * count ≤ len → (not (count == 0) && (nat_le (2 ^ 31) place || nat_lt len (place + 16 * count))) ≡ false
-directory_inside len place count short fits =
-    let a : nat_le (2 ^ 31) place ≡ false = lt-leb (2 ^ 31) place short in
-    let b : nat_lt len (place + 16 * count) ≡ false = le-ltb len (place + 16 * count) fits in
-    rw (a, b) (never (count == 0))
-  where
-    never : (c : Bool) → (not c && (false || false)) ≡ false
-    never true = refl
-    never false = refl
+directory_inside len place count short fits = grind (arith, le-ltb, lt-leb)
 
 -- what is said of a print, in its parts
 record Said (w : WadFile) (bytes : List ℕ) : Type 0 where
@@ -249,16 +232,7 @@ said w ok =
 
 no_fault : (w : WadFile) (bytes : List ℕ) → IsPrintable w → Said w bytes → wad_fault bytes ≡ None
 unfolding wad_fault
-no_fault w bytes ok s =
-    none_fails (nat_lt (length bytes) 12) (is_none (kind_of bytes)) (nat_le (2 ^ 31) (count_of bytes)) (nat_lt MOST_LUMPS (count_of bytes)) (is_directory_outside bytes) fault.ShortHeader fault.BadMagic fault.BadCount fault.TooManyLumps fault.DirectoryOutside
-    (option_map fault.LumpOutside (position_from (is_outside (length bytes)) 0 (slots_of bytes)))
-    (le-ltb (length bytes) 12 (omega (arith, s.length_is)))
-    (ap (λ (k : Option Kind). is_none k) (kind_is bytes w.kind s.first))
-    (lt-leb (2 ^ 31) (count_of bytes) (omega (arith, s.count, ok.few)))
-    (le-ltb MOST_LUMPS (count_of bytes) (omega (arith, s.count, ok.few)))
-    (directory_inside (length bytes) (directory_place bytes) (count_of bytes) (omega (arith, s.place, ok.short)) (omega (arith, s.place, s.count, s.length_is)))
-    (ap (λ (ss : List Slot). option_map fault.LumpOutside (position_from (is_outside (length bytes)) 0 ss)) s.slots
-    ∙ ap (λ (o : Option ℕ). option_map fault.LumpOutside o) (none_outside w.lumps (length bytes) 12 0 (omega (arith, ok.short)) (omega (arith, s.length_is))))
+no_fault w bytes ok s = grind (arith, directory_inside, kind_is, le-ltb, lt-leb, none_fails, none_outside)
 
 reads_said : (w : WadFile) (bytes : List ℕ) → IsPrintable w → Said w bytes → wad_of bytes ≡ Ok w
 unfolding wad_of

@@ -8,7 +8,7 @@ use Rattle.std.proofs.lemmas.Bool.Decides.{Decides-ltb, not_from_Decides}
 use Rattle.std.proofs.lemmas.List.{length-drop, length-map, length-set}
 use Rattle.std.proofs.lemmas.List.Edits.{length-insert}
 use Rattle.wad_dir.specs.declared.parts.MapSpot.{MapSpot}
-use Rattle.wad_dir.specs.Map.{format_behind, last_from, same_name, shifted, spot_of}
+use Rattle.wad_dir.specs.Map.{last_from, same_name, shifted, spot_of}
 use Rattle.wad_dir.specs.Print.{reject_lump, with_bytes, with_reject}
 use Rattle.wad_dir.specs.Wad.{WadFile, WadLump, names_of}
 use Rattle.wad_dir.specs.Kept.{IsKept, spot_then}
@@ -58,13 +58,7 @@ abbrev moved : ℕ → ℕ → ℕ
 moved c k = if nat_lt c k then k + 1 else k
 
 moved_by : (a c k : ℕ) → a + moved c k ≡ moved (a + c) (a + k)
-moved_by a c k = by (nat_lt c k) (nat_lt (a + c) (a + k)) refl refl
-  where
-    by : (b d : Bool) → nat_lt c k ≡ b → nat_lt (a + c) (a + k) ≡ d → a + (if b then k + 1 else k) ≡ (if d then a + k + 1 else a + k)
-    by true true e f = omega arith
-    by false false e f = refl
-    by true false e f = absurd (let lt : c < k = (Decides-ltb c k).0 e in not_from_Decides (nat_lt (a + c) (a + k)) (Decides-ltb (a + c) (a + k)) f (omega (arith, lt)))
-    by false true e f = absurd (let lt : a + c < a + k = (Decides-ltb (a + c) (a + k)).0 f in not_from_Decides (nat_lt c k) (Decides-ltb c k) e (omega (arith, lt)))
+moved_by a c k = grind (arith, not_from_Decides)
 
 place_moved : {X : Type 0} (test : X → Bool) (xs : List X) (c k : ℕ) (x : X) → position_from test 0 xs ≡ Some k → test x ≡ false → position_from test 0 (insert xs (c + 1) x) ≡ Some (moved c k)
 place_moved test xs c k x h other = by (nat_lt c k) refl
@@ -92,12 +86,7 @@ module _ (ns : List (List ℕ)) (name : List ℕ) (spot : MapSpot) (p : IsSpot n
   sectors_in_run = let h = place_bound (λ n. same_name n (codes "SECTORS")) run 0 p.c p.sectors in omega (arith, h.1)
 
   pub sectors_within : spot.sectors < length ns
-  sectors_within =
-      let is : spot.sectors ≡ p.marker + 1 + p.c = ap (λ (x : MapSpot). x.sectors) p.is in
-      let a = sectors_in_run in
-      let b = more_short [] after in
-      let d = after_length in
-      omega (arith, is, a, b, d)
+  sectors_within = grind (arith, after, after_length, more_short, sectors_in_run)
 
   -- ---- none is there
 
@@ -129,23 +118,7 @@ module _ (ns : List (List ℕ)) (name : List ℕ) (spot : MapSpot) (p : IsSpot n
     at_put x k h = ap (λ (ys : List (List ℕ)). place x (more [] ys)) after_put ∙ ap (place x) run_put ∙ h
 
     parts_put : IsSpot put name (spot_at p.marker p.format (moved p.c p.l) (moved p.c p.s) (moved p.c p.v) (moved p.c p.c) (Some (p.c + 1)))
-    parts_put = record {
-      marker = p.marker;
-      is_last = last_put;
-      format = p.format;
-      behind_run = ap (λ (ys : List (List ℕ)). format_behind (drop (length (more [] ys)) ys)) after_put ∙ ap (λ (ys : List (List ℕ)). format_behind (drop (length ys) (insert after (p.c + 1) padded))) run_put ∙ ap format_behind end_put ∙ p.behind_run;
-      l = moved p.c p.l;
-      s = moved p.c p.s;
-      v = moved p.c p.v;
-      c = moved p.c p.c;
-      r = Some (p.c + 1);
-      linedefs = at_put (codes "LINEDEFS") (moved p.c p.l) (place_moved (λ n. same_name n (codes "LINEDEFS")) run p.c p.l padded p.linedefs refl);
-      sidedefs = at_put (codes "SIDEDEFS") (moved p.c p.s) (place_moved (λ n. same_name n (codes "SIDEDEFS")) run p.c p.s padded p.sidedefs refl);
-      vertexes = at_put (codes "VERTEXES") (moved p.c p.v) (place_moved (λ n. same_name n (codes "VERTEXES")) run p.c p.v padded p.vertexes refl);
-      sectors = at_put (codes "SECTORS") (moved p.c p.c) (place_moved (λ n. same_name n (codes "SECTORS")) run p.c p.c padded p.sectors refl);
-      reject = at_put word (p.c + 1) (place_new (λ n. same_name n word) run (p.c + 1) 0 padded (p.reject ∙ none) refl (let a = sectors_in_run in omega (arith, a)) ∙ (let same : 0 + (p.c + 1) ≡ p.c + 1 = omega arith in ap (λ (k : ℕ). Some k) same));
-      is = refl;
-    }
+    parts_put = grind (arith, after, after_put, at_put, end_put, last_put, more, moved, place_moved, place_new, run, run_put, sectors_in_run)
 
     -- which is the old spot, moved
     abbrev spot_of_five : ℕ → ℕ → ℕ → ℕ → ℕ → MapSpot
@@ -182,16 +155,7 @@ some_of by None at e = absurd cc
 some_of by (Some k) at e = record { k = k; is = refl; at = cc }
 
 get_moved : {X : Type 0} (xs : List X) (s k : ℕ) (x : X) → s < length xs → slice_get (insert xs (s + 1) x) (moved s k) ≡ slice_get xs k
-get_moved {X} xs s k x lt = by (nat_lt s k) refl
-  where
-    by : (b : Bool) → nat_lt s k ≡ b → slice_get (insert xs (s + 1) x) (if b then k + 1 else k) ≡ slice_get xs k
-    by true e =
-        let same : k + 1 ≡ suc k = omega arith in
-        let l : s < k = (Decides-ltb s k).0 e in
-        ap (λ (i : ℕ). slice_get (insert xs (s + 1) x) i) same ∙ get_behind xs (s + 1) k x (omega (arith, lt)) (omega (arith, l))
-    by false e =
-        let not : ¬ (s < k) = not_from_Decides (nat_lt s k) (Decides-ltb s k) e in
-        get_before xs (s + 1) k x (omega (arith, lt)) (omega (arith, not))
+get_moved {X} xs s k x lt = grind (arith, get_before, get_behind, not_from_Decides)
 
 names_put : (w : WadFile) (spot : MapSpot) (table : List ℕ) → names_of (rewritten w spot None table) ≡ insert (names_of w) (spot.sectors + 1) padded
 names_put w spot table = map_insert (λ (l : WadLump). l.name) w.lumps (spot.sectors + 1) (reject_lump table)

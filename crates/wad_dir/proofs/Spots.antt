@@ -1,5 +1,5 @@
 -- Where a map is, in its parts: the marker, the run behind it, and the places in the run.
-use Rattle.std.proofs.Common.{◌≡◌, ℕ, ◌+◌, List, [], length, drop, Option, Some, None, Result, Ok, Err, refl, sym, ap, ◌∙◌}
+use Rattle.std.proofs.Common.{◌≡◌, ℕ, ◌+◌, List, [], length, drop, Option, Some, None, Result, Ok, Err, refl, sym, ap, ◌∙◌, arith}
 use Rattle.std.specs.Prelude.{codes}
 use Rattle.std.specs.List.{position_from}
 use Rattle.std.proofs.lemmas.Iterator.Adapters.{position_from-zero}
@@ -56,10 +56,7 @@ record HasPlaces (marker : ℕ) (format : MapFormat) (a b c d r : Option ℕ) (s
 
 places_of : (marker : ℕ) (format : MapFormat) (a b c d r : Option ℕ) (spot : MapSpot) → spot_by marker format a b c d r ≡ Ok spot → HasPlaces marker format a b c d r spot
 unfolding spot_by needed_at
-places_of marker format (Some l) (Some s) (Some v) (Some k) r spot h = record { l = l; s = s; v = v; k = k; linedefs = refl; sidedefs = refl; vertexes = refl; sectors = refl; is = same (spot_at marker format l s v k r) spot h }
-  where
-    same : (x y : MapSpot) → ◌≡◌ {A = Result MapSpot MapFault} (Ok x) (Ok y) → y ≡ x
-    same x y e = cc
+places_of marker format (Some l) (Some s) (Some v) (Some k) r spot h = grind (arith, spot_at)
 places_of marker format (Some l) (Some s) (Some v) None r spot h = absurd cc
 places_of marker format (Some l) (Some s) None d r spot h = absurd cc
 places_of marker format (Some l) None c d r spot h = absurd cc
@@ -120,10 +117,4 @@ spot_parts ns name spot h = by (last_from ns name 0 None) refl (sym (spot_of_by 
 -- a spot from its parts
 pub spot_from : (ns : List (List ℕ)) (name : List ℕ) (spot : MapSpot) → IsSpot ns name spot → spot_of ns name ≡ Ok spot
 unfolding of_by spot_by needed_at
-spot_from ns name spot h =
-    let after : List (List ℕ) = drop (h.marker + 1) ns in
-    spot_of_by ns name ∙ ap (λ o. of_by o ns) h.is_last ∙ behind_by h.marker after
-    ∙ ap (λ (f : MapFormat). spot_in h.marker f (more [] after)) h.behind_run
-    ∙ in_places h.marker h.format (more [] after)
-    ∙ (λ i. spot_by h.marker h.format (h.linedefs i) (h.sidedefs i) (h.vertexes i) (h.sectors i) (h.reject i))
-    ∙ ap (λ (x : MapSpot). Ok x) (sym h.is)
+spot_from ns name spot h = grind (arith, behind_by, in_places, more, of_by, spot_by, spot_of_by)

@@ -15,8 +15,5 @@ returns-in-None-clause-sound c = ((λ e. sound_of c.args.plan.now c.in-None.ensu
 pub returns-in-None-clause-fault : goal.returns-in-None-clause-fault
 returns-in-None-clause-fault c f = accepted_fault (map_of c.args.plan.now) f (sound_of c.args.plan.now c.in-None.ensures)
 
-pub returns-then-is_swept_clean-clause-sound : goal.returns-then-is_swept_clean-clause-sound
-returns-then-is_swept_clean-clause-sound c = ((λ e. c.is_swept_clean.ensures c.if-is_swept_clean.true), (λ s. refl))
-
 pub returns-then-is_swept_clean-clause-fault : goal.returns-then-is_swept_clean-clause-fault
 returns-then-is_swept_clean-clause-fault c f = accepted_fault (map_of c.args.plan.now) f (c.is_swept_clean.ensures c.if-is_swept_clean.true)

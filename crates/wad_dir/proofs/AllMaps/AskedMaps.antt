@@ -1,10 +1,9 @@
 -- The maps that are asked for by their names: some of all maps, in their order, and none of the names is lost.
-use Rattle.std.proofs.Common.{◌≡◌, ℕ, ◌+◌, ◌⊎◌, inl, inr, ⊎_elim, List, [], ◌∷◌, filter, Contains, Bool, true, false, cond, not, ◌||◌, if◌then◌else◌, Option, Some, None, Result, Ok, Err, refl, sym, ap, ◌∙◌, subst}
+use Rattle.std.proofs.Common.{◌≡◌, ℕ, ◌+◌, ◌⊎◌, inl, inr, ⊎_elim, List, [], ◌∷◌, filter, Contains, Bool, true, false, cond, not, ◌||◌, if◌then◌else◌, Option, Some, None, Result, Ok, Err, refl, sym, ap, ◌∙◌, subst, arith}
 use Rattle.std.specs.Prelude.{bytes_eq}
 use Rattle.std.specs.List.{AllByRecursion, list_any}
 use Rattle.std.proofs.lemmas.Slice.Eq.{bytes_eq-Decides}
 use Rattle.sight_names.specs.declared.faults.MapFault.{MapFault}
-use Rattle.sight_names.specs.declared.faults.MapFault.TheVariants as fault
 use Rattle.wad_dir.specs.declared.parts.MapSpot.{MapSpot}
 use Rattle.wad_dir.specs.Map.{has_name, key_of, last_from, same_name, spot_of}
 use Rattle.wad_dir.proofs.Moved.{spot_alike}
@@ -34,11 +33,7 @@ same_maps xs ys e = cc
 
 pub asked_in_order : (names : List (List ℕ)) (only : Option (List (List ℕ))) (maps : List (List ℕ)) → asked_maps_of names only ≡ Ok maps → HasInOrder (maps_of names) maps
 asked_in_order names None maps h = subst (HasInOrder (maps_of names)) (same_maps (maps_of names) maps h) (all_in_order (maps_of names))
-asked_in_order names (Some only) maps h = by (first_fault names only) h
-  where
-    by : (o : Option MapFault) → by_fault o (asked_among only (maps_of names)) ≡ Ok maps → HasInOrder (maps_of names) maps
-    by None q = subst (HasInOrder (maps_of names)) (same_maps (asked_among only (maps_of names)) maps q) (kept_in_order (λ (name : List ℕ). has_name name only) (maps_of names))
-    by (Some why) q = absurd cc
+asked_in_order names (Some only) maps h = grind (arith, asked_among, by_fault, kept_in_order, same_maps)
 
 -- ---- a name that finds a map
 
@@ -75,15 +70,7 @@ module _ (all only : List (List ℕ)) (name : List ℕ) (spot : MapSpot) (named 
   by_name maps n t = cond t (n ∷ asked_among only maps) (asked_among only maps)
 
   passes : (n : List ℕ) (ns : List (List ℕ)) → has_name name (asked_among only (maps_among all ns)) ≡ true → has_name name (asked_among only (maps_among all (n ∷ ns))) ≡ true
-  passes n ns h = by (is_map all n ns)
-    where
-      on : (t : Bool) → has_name name (by_name (maps_among all ns) (told n) t) ≡ true
-      on true = true_by_second (same_name (told n) name) (has_name name (asked_among only (maps_among all ns))) h
-      on false = h
-
-      by : (t : Bool) → has_name name (asked_among only (by_test (maps_among all ns) n t)) ≡ true
-      by true = on (has_name (told n) only)
-      by false = h
+  passes n ns h = grind (arith, asked_among, by_name, by_test, true_by_second)
 
   begins : (n : List ℕ) (ns : List (List ℕ)) → same_name n name ≡ true → has_name name ns ≡ false → has_name name (asked_among only (maps_among all (n ∷ ns))) ≡ true
   begins n ns e none =
@@ -117,12 +104,7 @@ no_fault names (n ∷ ns) name e c = by (fault_of names n) refl e (contains_cons
     by (Some why) f q d later = absurd cc
 
 found_by : (names : List (List ℕ)) (name : List ℕ) → fault_of names name ≡ None → (is_map_name name ≡ true) × ((spot : MapSpot) × (spot_of names name ≡ Ok spot))
-found_by names name e = by (spot_of names name) (is_map_name name) refl refl e
-  where
-    by : (r : Result MapSpot MapFault) (t : Bool) → spot_of names name ≡ r → is_map_name name ≡ t → ◌≡◌ {A = Option MapFault} (elim r [ Ok spot ↦ if t then None else Some fault.NoMarker | Err why ↦ Some why ]) None → (is_map_name name ≡ true) × ((spot : MapSpot) × (spot_of names name ≡ Ok spot))
-    by (Ok spot) true f g q = (g, (spot, f))
-    by (Ok spot) false f g q = absurd cc
-    by (Err why) t f g q = absurd cc
+found_by names name e = grind arith
 
 is_there : (names only : List (List ℕ)) (name : List ℕ) → first_fault names only ≡ None → Contains only name → has_name name (asked_among only (maps_of names)) ≡ true
 is_there names only name e c =

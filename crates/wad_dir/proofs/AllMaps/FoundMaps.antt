@@ -33,12 +33,7 @@ last_after (n ∷ ns) name j i m lt h = by (same_name n name) (λ g. last_after 
 
 last_here : (ns : List (List ℕ)) (name : List ℕ) (k j : ℕ) (found : Option ℕ) (m : ℕ) → slice_get ns k ≡ Some name → last_from ns name j found ≡ Some m → (m == j + k) ≡ not (has_name name (drop (suc k) ns))
 last_here [] name k j found m there h = absurd (none_is_not_some name there)
-last_here (n ∷ ns) name zero j found m there h =
-    let same : n ≡ name = some_is_same n name there in
-    let told_so : same_name n name ≡ true = ap (λ (x : List ℕ). same_name x name) same ∙ self_same name in
-    let is : last_from ns name (j + 1) (Some j) ≡ Some m = ap (λ (t : Bool). last_from ns name (j + 1) (if t then Some j else found)) (sym told_so) ∙ h in
-    let none_more : j + 0 ≡ j = omega arith in
-    ap (λ (i : ℕ). m == i) none_more ∙ last_after ns name (j + 1) j m (omega arith) is
+last_here (n ∷ ns) name zero j found m there h = grind (arith, last_after, self_same, some_is_same)
 last_here (n ∷ ns) name (suc k) j found m there h =
     let one_more : j + suc k ≡ j + 1 + k = omega arith in
     ap (λ (i : ℕ). m == i) one_more ∙ last_here ns name k (j + 1) (if same_name n name then Some j else found) m there h
@@ -60,9 +55,7 @@ still_found (n ∷ ns) name j i h = by (same_name n name) (λ k g. still_found n
 
 pub has_last : (ns : List (List ℕ)) (name : List ℕ) (k j : ℕ) (found : Option ℕ) → slice_get ns k ≡ Some name → last_from ns name j found ≡ None → ⊥
 has_last [] name k j found there h = none_is_not_some name there
-has_last (n ∷ ns) name zero j found there h =
-    let told_so : same_name n name ≡ true = ap (λ (x : List ℕ). same_name x name) (some_is_same n name there) ∙ self_same name in
-    still_found ns name (j + 1) j (ap (λ (t : Bool). last_from ns name (j + 1) (if t then Some j else found)) (sym told_so) ∙ h)
+has_last (n ∷ ns) name zero j found there h = grind (arith, self_same, some_is_same, still_found)
 has_last (n ∷ ns) name (suc k) j found there h = has_last ns name k (j + 1) (if same_name n name then Some j else found) there h
 
 -- a map that is found begins at an entry of its name just where no later one has the name
@@ -84,8 +77,7 @@ by_marker a false c t e f g = (λ i. e i && false && f i) ∙ sym g
 
 pub map_found : (all : List (List ℕ)) (name : List ℕ) (behind : List (List ℕ)) (spot : MapSpot) (t : Bool) → is_map_name name ≡ true → spot_of all name ≡ Ok spot → t ≡ not (has_name name behind) → is_map all name behind ≡ t
 unfolding is_map
-map_found all name behind spot t named found marks =
-    by_marker (is_map_name name) (not (has_name name behind)) (is_ok (spot_of all name)) t named (ap (λ (r : Result MapSpot MapFault). is_ok r) found) marks
+map_found all name behind spot t named found marks = grind (arith, by_marker)
 
 never : (a b c : Bool) → c ≡ false → (a && b && c) ≡ false
 never true true c e = e

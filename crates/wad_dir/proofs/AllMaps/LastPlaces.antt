@@ -1,5 +1,5 @@
 -- The places of the last entries of names, one entry more.
-use Rattle.std.proofs.Common.{◌≡◌, ℕ, ◌+◌, ◌<◌, List, [], ◌∷◌, ◌++◌, length, get_or, take, Bool, cond, if◌then◌else◌, Option, Some, None, is_eq, nat_cmp, sym, ap, ◌∙◌, arith}
+use Rattle.std.proofs.Common.{◌≡◌, ℕ, ◌+◌, ◌<◌, List, [], ◌∷◌, ◌++◌, length, get_or, take, cond, if◌then◌else◌, Option, Some, None, is_eq, nat_cmp, sym, ap, ◌∙◌, arith}
 use Rattle.std.specs.Cmp.Lexicographic.{slice_cmp}
 use Rattle.std.proofs.lemmas.List.{take_more}
 use Rattle.wad_dir.specs.declared.parts.Entry.{Entry}
@@ -15,12 +15,7 @@ last_pushed (n ∷ ns) x name j found m e = last_pushed ns x name (j + 1) (if sa
 
 -- one more name
 pub last_more : (ns : List (List ℕ)) (x key : List ℕ) (old new : List ℕ → Option ℕ) (k : ℕ) → AreLast ns old → length ns ≡ k → key ≡ told x → ((q : List ℕ) → new q ≡ cond (is_eq (slice_cmp nat_cmp key q)) (Some k) (old q)) → AreLast (ns ++ x ∷ []) new
-last_more ns x key old new k h len is update = λ name.
-    update (told name)
-    ∙ ap (λ (ys : List ℕ). cond (is_eq (slice_cmp nat_cmp ys (told name))) (Some k) (old (told name))) is
-    ∙ ap (λ (t : Bool). cond t (Some k) (old (told name))) (compares_equal (told x) (told name) ∙ told_same x name)
-    ∙ ap (λ (o : Option ℕ). cond (same_name x name) (Some k) o) (h name)
-    ∙ sym (last_pushed ns x name 0 None k (let zero_more : 0 + length ns ≡ length ns = omega arith in zero_more ∙ len))
+last_more ns x key old new k h len is update = grind (arith, compares_equal, last_pushed, told_same)
 
 -- the names of the first entries, one more
 pub names_more : (es : List Entry) (k : ℕ) (d : Entry) → k < length es → entry_names (take (k + 1) es) ≡ entry_names (take k es) ++ (get_or es k d).name ∷ []

@@ -62,11 +62,7 @@ module _ (w : WadFile) (a : Change) (bound : ℕ) (name : List ℕ) (spot : MapS
 -- ---- where the next one is
 
 then_before : (k : ℕ) (spot : MapSpot) → reject_then (further k spot) < shift_of spot.reject k + place_behind spot
-then_before k spot = by spot.reject
-  where
-    by : (o : Option ℕ) → elim (shifted k o) [ Some r ↦ r | None ↦ k + spot.sectors + 1 ] < shift_of o k + elim o [ Some r ↦ r + 1 | None ↦ spot.sectors + 1 ]
-    by (Some r) = omega arith
-    by None = omega arith
+then_before k spot = grind arith
 
 inside_then : (k : ℕ) (spot : MapSpot) → spot.marker < reject_then spot → k + spot.marker < reject_then (further k spot)
 inside_then k spot = by spot.reject

@@ -26,9 +26,7 @@ shifted_sum k None = refl
 shifted_sum k (Some r) = let same : 1 + (k + r) ≡ 1 + k + r = omega arith in ap (λ (i : ℕ). Some i) same
 
 further_sum : (k : ℕ) (spot : MapSpot) → further 1 (further k spot) ≡ further (1 + k) spot
-further_sum k spot =
-    let sum : (x : ℕ) → 1 + (k + x) ≡ 1 + k + x = (λ x. omega arith) in
-    (λ i. spot_by_parts (sum spot.marker i) (sum spot.linedefs i) (sum spot.sidedefs i) (sum spot.vertexes i) (sum spot.sectors i) (shifted_sum k spot.reject i) spot.format)
+further_sum k spot = grind (arith, shifted_sum)
 
 shifted_none : (o : Option ℕ) → o ≡ shifted 0 o
 shifted_none None = refl

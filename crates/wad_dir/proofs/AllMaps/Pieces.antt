@@ -1,5 +1,5 @@
 -- One change made in lumps of which the first were changed before.
-use Rattle.std.proofs.Common.{◌≡◌, ℕ, ◌+◌, ◌-◌, ◌<◌, ◌≤◌, List, [], ◌∷◌, ◌++◌, length, get_or, set, drop, map, Option, Some, None, Result, Ok, Err, refl, sym, ap, ◌∙◌, append_assoc, arith}
+use Rattle.std.proofs.Common.{◌≡◌, ℕ, ◌+◌, ◌-◌, ◌<◌, ◌≤◌, List, [], ◌∷◌, ◌++◌, length, get_or, set, drop, map, Option, Some, None, Result, Ok, Err, sym, ap, ◌∙◌, append_assoc, arith}
 use Rattle.std.specs.Prelude.{slice_index_or, slice_range, slice_set}
 use Rattle.std.specs.List.{insert}
 use Rattle.std.proofs.Math.Seq.{map-set_same}
@@ -108,15 +108,7 @@ abbrev pub names_then : List (List ℕ) → ℕ → Option ℕ → ℕ → List 
 names_then names c o k = elim o [ Some r ↦ names | None ↦ insert names (k + c + 1) padded ]
 
 pub change_names : (lumps : List WadLump) (k : ℕ) (spot : MapSpot) (table : List ℕ) → map (λ (l : WadLump). l.name) (lumps_with_reject lumps (further k spot) table) ≡ names_then (map (λ (l : WadLump). l.name) lumps) spot.sectors spot.reject k
-change_names lumps k spot table = by spot.reject
-  where
-    by : (o : Option ℕ) → map (λ (l : WadLump). l.name) (elim (shifted k o) [
-      | Some q ↦ slice_set lumps q (with_bytes (slice_index_or lumps q (reject_lump table)) table)
-      | None ↦ insert lumps (k + spot.sectors + 1) (reject_lump table)
-    ])
-        ≡ elim o [ Some r ↦ map (λ (l : WadLump). l.name) lumps | None ↦ insert (map (λ (l : WadLump). l.name) lumps) (k + spot.sectors + 1) padded ]
-    by (Some r) = map-set_same (λ (l : WadLump). l.name) lumps (k + r) (with_bytes (get_or lumps (k + r) (reject_lump table)) table) (reject_lump table) refl
-    by None = map_insert (λ (l : WadLump). l.name) lumps (k + spot.sectors + 1) (reject_lump table)
+change_names lumps k spot table = grind (arith, map-set_same, map_insert)
 
 -- one pass, one change more
 pub spliced_more : (names : List (List ℕ)) (lumps : List WadLump) (done : ℕ) (c : Change) (cs : List Change) (spot : MapSpot) → spot_of names c.name ≡ Ok spot → spliced names lumps done (c ∷ cs) ≡ piece lumps done spot c.table ++ spliced names lumps (place_behind spot) cs

@@ -35,11 +35,7 @@ ends_at m l s v c len (Some k) format lt within = let b : k < len = within k ref
 
 -- the REJECT lies behind the marker and in the run, and so does the place behind SECTORS
 pub spot_ends : (ns : List (List ℕ)) (name : List ℕ) (spot : MapSpot) (p : IsSpot ns name spot) → (spot.marker < reject_then spot) × (place_behind spot ≤ p.marker + 1 + length (run_of ns p.marker))
-spot_ends ns name spot p =
-    let run : List (List ℕ) = run_of ns p.marker in
-    let sectors : p.c < length run = (let h = place_bound (λ n. same_name n (codes "SECTORS")) run 0 p.c p.sectors in omega (arith, h.1)) in
-    let reject : (k : ℕ) → p.r ≡ Some k → k < length run = (λ k e. let h = place_bound (λ n. same_name n (codes "REJECT")) run 0 k (p.reject ∙ e) in omega (arith, h.1)) in
-    subst (λ (y : MapSpot). (y.marker < reject_then y) × (place_behind y ≤ p.marker + 1 + length run)) (sym p.is) (ends_at p.marker p.l p.s p.v p.c (length run) p.r p.format sectors reject)
+spot_ends ns name spot p = grind (arith, ends_at, place_bound, run_of)
 
 run_fits : (ns : List (List ℕ)) (m : ℕ) → m < length ns → m + 1 + length (run_of ns m) ≤ length ns
 run_fits ns m lt = let a = more_short [] (drop (m + 1) ns) in let b = length-drop (m + 1) ns in omega (arith, a, b, lt)

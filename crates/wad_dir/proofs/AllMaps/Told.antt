@@ -48,10 +48,7 @@ told_back : (a b : List ℕ) → told a ≡ told b → key_of a ≡ key_of b
 told_back a b e = sym (key_told a) ∙ ap key_of e ∙ key_told b
 
 pub told_same : (a b : List ℕ) → bytes_eq (told a) (told b) ≡ same_name a b
-told_same a b =
-    same_from_decides {P = key_of a ≡ key_of b} (bytes_eq (told a) (told b)) (same_name a b)
-    (λ e. told_back a b ((bytes_eq-Decides (told a) (told b)).0 e), λ e. (bytes_eq-Decides (told a) (told b)).1 (told_alike a b e))
-    (bytes_eq-Decides (key_of a) (key_of b))
+told_same a b = grind (arith, bytes_eq-Decides, same_from_decides, told_alike, told_back)
 
 -- ---- lists that compare as equal
 
@@ -80,8 +77,7 @@ upper_more front k c len lt =
 
 pub told_is : (name front upper : List ℕ) (k : ℕ) → key_of name ≡ front → length front ≡ k → upper ≡ front ++ replicate (8 - k) 0 → upper ≡ told name
 unfolding told
-told_is name front upper k key len e =
-    e ∙ ap (λ (n : ℕ). front ++ replicate (8 - n) 0) (sym len) ∙ ap (λ (ks : List ℕ). ks ++ replicate (8 - length ks) 0) (sym key)
+told_is name front upper k key len e = search
 
 -- the first bytes of a name in upper case, one more
 front_more : (name : List ℕ) (k : ℕ) → k < length name → map to_ascii_uppercase (take (k + 1) name) ≡ map to_ascii_uppercase (take k name) ++ to_ascii_uppercase (get_or name k 0) ∷ []

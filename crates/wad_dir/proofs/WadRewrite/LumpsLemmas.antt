@@ -25,5 +25,4 @@ views-set lumps k lump changed default bytes lt e v =
 
 -- a lump is put between others
 pub views-insert : (lumps : List OutputLump) (k : ℕ) (lump : OutputLump) → views (insert lumps k lump) ≡ take k (views lumps) ++ view lump ∷ drop k (views lumps)
-views-insert lumps k lump =
-    map-append view (take k lumps) (lump ∷ drop k lumps) ∙ ap (λ (items : List WadLump). items ++ view lump ∷ map view (drop k lumps)) (take-views k lumps) ∙ ap (λ (items : List WadLump). take k (views lumps) ++ view lump ∷ items) (sym (drop-map view k lumps))
+views-insert lumps k lump = search (drop-map, map-append, take-views)

@@ -1,4 +1,4 @@
-use Rattle.std.proofs.Common.{◌≡◌, ℕ, ◌+◌, List, true, false, not, drop, Some, None, nat_cmp, refl, sym, ap, ◌∙◌, arith}
+use Rattle.std.proofs.Common.{◌≡◌, ℕ, ◌+◌, List, true, false, drop, Some, None, nat_cmp, refl, sym, ap, ◌∙◌, arith}
 use Rattle.std.specs.BTreeMap.{get}
 use Rattle.std.specs.Cmp.Lexicographic.{slice_cmp}
 use Rattle.std.proofs.lemmas.Option.{slice_get_within}
@@ -10,10 +10,6 @@ use Rattle.wad_dir.specs.AllMaps.Maps.{begins_with_textmap}
 use Rattle.wad_dir.proofs.AllMaps.FoundMaps.{has_last, is_last, udmf_is}
 use Rattle.wad_dir.proofs.AllMaps.LastPlaces.{looked_up}
 use Rattle.wad_dir.proofs.all_maps.markers.is_udmf.Goals as goal
-
-pub returns-then-not-is_map_name : goal.returns-then-not-is_map_name
-returns-then-not-is_map_name c =
-    sym (udmf_is c.args.name.now (drop (c.args.place + 1) (entry_names c.args.entries.now)) false _ _ (sym c.is_map_name.ensures ∙ c.if-not-is_map_name.true) refl refl)
 
 pub returns-in_default : goal.returns-in_default
 returns-in_default c =

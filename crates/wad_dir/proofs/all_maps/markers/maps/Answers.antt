@@ -24,10 +24,7 @@ loop-k-preserved c =
     ]
 
 pub returns-clause-named : goal.returns-clause-named
-returns-clause-named c =
-    let names : List (List ℕ) = entry_names c.as_slice-entries.result.now in
-    let le : length names ≤ c.loop-k.k = omega (arith, c.loop-k-test.false, names_length c.as_slice-entries.result.now) in
-    all_named names c.loop-k.k c.loop-k.maps.items le c.loop-k.invariant
+returns-clause-named c = search (all_named, names_length)
 
 pub returns-clause-found : goal.returns-clause-found
 returns-clause-found c =

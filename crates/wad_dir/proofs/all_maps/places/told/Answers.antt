@@ -1,4 +1,4 @@
-use Rattle.std.proofs.Common.{ℕ, ◌<◌, ◌≤◌, length, set, ap, ◌∙◌, arith}
+use Rattle.std.proofs.Common.{◌<◌, ◌≤◌, length, arith}
 use Rattle.wad_dir.proofs.AllMaps.Told.{front_key, front_upper, told_at_end, told_at_nul}
 use Rattle.wad_dir.proofs.all_maps.places.told.Goals as goal
 
@@ -8,12 +8,7 @@ returns-then-c-eq0 c =
     told_at_nul c.args.name.now c.loop-k.upper c.loop-k.k lt c.if-c-eq0.true c.loop-k.invariant.upper c.loop-k.invariant.key
 
 pub loop-k-preserved : goal.loop-k-preserved
-loop-k-preserved c =
-    let lt : c.loop-k.k < length c.args.name.now = (let a = c.loop-k-test.true in let b = c.told-name in omega (arith, a, b)) in
-    record {
-      upper = ap (λ (x : ℕ). set c.loop-k.upper c.loop-k.k x) c.to_ascii_uppercase.ensures.value ∙ front_upper c.args.name.now c.loop-k.upper c.loop-k.k c.told-name lt c.loop-k.invariant.upper;
-      key = front_key c.args.name.now c.loop-k.k lt c.if-c-eq0.false c.loop-k.invariant.key;
-    }
+loop-k-preserved c = grind (arith, front_key, front_upper)
 
 pub returns : goal.returns
 returns c =

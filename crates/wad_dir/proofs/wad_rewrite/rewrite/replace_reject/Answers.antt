@@ -1,4 +1,4 @@
-use Rattle.std.proofs.Common.{rules, refl, ap, ◌∙◌, ◌<◌, ◌+◌, length}
+use Rattle.std.proofs.Common.{ap, ◌∙◌, ◌+◌, arith}
 use Rattle.std.specs.List.{insert}
 use Rattle.wad_dir.specs.Print.{reject_lump}
 use Rattle.wad_dir.specs.Wad.{WadLump}
@@ -7,9 +7,7 @@ use Rattle.wad_dir.proofs.WadRewrite.LumpsLemmas.{views-set, views-insert}
 use Rattle.wad_dir.proofs.wad_rewrite.rewrite.replace_reject.Goals as goal
 
 pub returns-in-Some : goal.returns-in-Some
-returns-in-Some c =
-    let lt : c.in-Some.place < length c.args.lumps.now.items = search rules in
-    rw c.in-Some.is (views-set c.args.lumps.now.items c.in-Some.place c.index_mut.result.now _ (reject_lump c.args.table.now) c.args.table.now lt c.index_mut.ensures.value refl)
+returns-in-Some c = grind (arith, views-set)
 
 pub returns-in_ok-insert-in-None : goal.returns-in_ok-insert-in-None
 returns-in_ok-insert-in-None c =

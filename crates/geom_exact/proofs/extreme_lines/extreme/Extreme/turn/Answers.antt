@@ -8,3 +8,15 @@ pub returns-clause-value : goal.returns-clause-value
 returns-clause-value c =
     let e = cross_by (difference c.args.self.now.left.at c.args.self.now.right.at) (arrow c.args.left) (arrow c.args.right) (arrow c.args.self.now.right.at) in
     omega (arith, ints)
+
+pub value-requires : goal.value-requires
+value-requires c = omega (arith, ints)
+
+pub value-requires-2 : goal.value-requires-2
+value-requires-2 c = omega (arith, ints)
+
+pub overflow_sub-result : goal.overflow_sub-result
+overflow_sub-result c = omega (arith, ints)
+
+pub returns-clause-bound : goal.returns-clause-bound
+returns-clause-bound c = omega (arith, ints)

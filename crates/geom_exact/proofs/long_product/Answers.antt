@@ -1,0 +1,9 @@
+use Rattle.std.proofs.lemmas.Int.{ints}
+use Rattle.std.proofs.Common.{arith}
+use Rattle.geom_exact.proofs.long_product.Goals as goal
+
+pub overflow_cast-result : goal.overflow_cast-result
+overflow_cast-result c = omega (arith, ints)
+
+pub overflow_cast-result-2 : goal.overflow_cast-result-2
+overflow_cast-result-2 c = omega (arith, ints)
