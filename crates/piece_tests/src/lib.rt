@@ -5,6 +5,8 @@
 #[cfg(test)]
 mod certs;
 #[cfg(test)]
+mod exact_rows;
+#[cfg(test)]
 mod groups;
 #[cfg(test)]
 mod verdicts;

@@ -6,6 +6,7 @@ ghost use Rattle.sight_names.specs.Map.{map_of};
 ghost use Rattle.sight_names.specs.Sound.{LinesMeetAtEnds};
 ghost use Rattle.cert_format.specs.CertGroups.Grammar.{IsAnyInOrder, sizes_of};
 
+use crate::exact_rows::{JUDGED, UNREAD, WHOLE};
 use any_judge::Judge;
 use cert_format::cert_groups::{AnyCert, print_any};
 use cert_format::{Sizes, print};
@@ -15,10 +16,11 @@ use group_checker::check_workers::check_any_par;
 use map_answers::find_in;
 use map_audit::audit_lines;
 use reject_bits::Table;
-use sight_names::{Memory, Plan, TableFault};
+use sight_names::{CertFault, Memory, Plan, TableFault};
 use std::alloc::Global;
 use std::test::Fail;
 use std::thread::Threads;
+use worked_maps::certs::digits_named;
 use worked_maps::files::{bytes_of, bytes_of_digits};
 use worked_maps::rows::part;
 
@@ -250,6 +252,30 @@ fn table_of(alloc: Global, sectors: u16, digits: &str) -> Result<Table, TableFau
     Table::of_bytes(alloc, sectors, &bytes)
 }
 
+// What a judge says of bytes that it is fed at once.
+fn judged_at_once(alloc: Global, plan: &Plan, table: &Table, bytes: &[u8]) -> Result<Judged, Memory>
+    requires table { table.now.n ≡ plan.now.sectors }
+{
+    let (front, back) = bytes.split_at(bytes.len());
+    judged_cut(alloc, plan, table, front, back)
+}
+
+// What is said of the bytes. Those of version 3 are read in pieces alone.
+fn answer_of<R: Threads + Sync>(
+    rt: &R,
+    alloc: Global,
+    plan: &Plan,
+    table: &Table,
+    bytes: &[u8],
+) -> Result<Judged, Fail>
+    requires { table.now.n ≡ plan.now.sectors }
+{
+    if bytes.get(4) == Some(&3) {
+        return Ok(judged_at_once(alloc, plan, table, bytes)?);
+    }
+    judged_audited(rt, alloc, plan, table, bytes)
+}
+
 // Whether the row's table and certificate are judged as it says, in threads and in pieces.
 fn is_row<R: Threads + Sync>(rt: &R, alloc: Global, row: &str) -> Result<bool, Fail> {
     let found = find_in(alloc, bytes_of(alloc, part(row, 0))?, false, "MAP01")?;
@@ -259,7 +285,7 @@ fn is_row<R: Threads + Sync>(rt: &R, alloc: Global, row: &str) -> Result<bool, F
     if table.sectors() != plan.sectors {
         return Ok(false);
     }
-    let answer = judged_audited(rt, alloc, plan, &table, &bytes)?;
+    let answer = answer_of(rt, alloc, plan, &table, &bytes)?;
     let told = format!(in alloc; "{answer:?}")?;
     if told.as_str() != part(row, 3) {
         return Ok(false);
@@ -271,10 +297,71 @@ fn is_row<R: Threads + Sync>(rt: &R, alloc: Global, row: &str) -> Result<bool, F
 fn certificates_are_judged_as_their_rows_say_in_threads_and_in_pieces(
     rt: HostRuntime,
 ) -> Result<(), Fail> {
-    for row in ROWS.lines() {
+    for row in [ROWS, JUDGED, UNREAD].iter().flat_map(|rows| rows.lines()) {
         if !row.starts_with('#') {
             assert!(rt; is_row(&rt, rt.alloc(), row)?, "{row}");
         }
+    }
+    Ok(())
+}
+
+// Whether the bytes at once and one by one are short at this byte.
+fn is_short(
+    alloc: Global,
+    plan: &Plan,
+    table: &Table,
+    bytes: &[u8],
+    at: usize,
+) -> Result<bool, Memory>
+    requires table { table.now.n ≡ plan.now.sectors }
+{
+    let short = Judged::Unread(CertFault::Short { at: at as u64 });
+    Ok(
+        judged_at_once(alloc, plan, table, bytes)? == short
+            && judged_singly(alloc, plan, table, bytes)? == short,
+    )
+}
+
+// Whether each front of the bytes is short at the field in which it is cut off.
+fn are_fronts_short(
+    alloc: Global,
+    plan: &Plan,
+    table: &Table,
+    bytes: &[u8],
+    fields: &str,
+) -> Result<bool, Memory>
+    requires table { table.now.n ≡ plan.now.sectors }
+{
+    let mut at = 0usize;
+    for field in fields.split_whitespace() {
+        let end = at.wrapping_add(field.len() / 2);
+        for len in at..end {
+            let front = bytes.get(..len).unwrap_or(&[]);
+            if !is_short(alloc, plan, table, front, at)? {
+                return Ok(false);
+            }
+        }
+        at = end;
+    }
+    Ok(at == bytes.len())
+}
+
+// Whether this holds of the row's certificate.
+fn is_whole_row(alloc: Global, row: &str) -> Result<bool, Fail> {
+    let found = find_in(alloc, bytes_of(alloc, part(row, 0))?, false, "MAP01")?;
+    let table = table_of(alloc, found.plan.sectors, part(row, 1))?;
+    let fields = digits_named(part(row, 2));
+    let bytes = bytes_of_digits(alloc, fields)?;
+    if table.sectors() != found.plan.sectors {
+        return Ok(false);
+    }
+    Ok(are_fronts_short(alloc, &found.plan, &table, &bytes, fields)?)
+}
+
+#[test]
+fn each_front_of_a_certificate_is_short_at_its_field(rt: HostRuntime) -> Result<(), Fail> {
+    for row in WHOLE.lines() {
+        assert!(rt; is_whole_row(rt.alloc(), row)?, "{row}");
     }
     Ok(())
 }

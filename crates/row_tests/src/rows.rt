@@ -170,6 +170,26 @@ a=SQUARE =00, c=#SQUARE-CERT @30:1:01 | check a MAP01 c | 1 | no mesh: flat 0
 a=SQUARE =00 @64:2:ffff, c=#SQUARE-CERT | check a MAP01 c | 1 | no mesh: side 3R
 a=DIAGONAL =00, c=#SQUARE-CERT @10:1:05 | check a MAP01 c | 1 | no mesh: meets 0 4
 a=SPLINTER =00, c=#SQUARE-CERT @8:1:06 @10:1:05 @30:3:040005 @38:1:05 | check a MAP01 c | 1 | no mesh: inside 0 2
+# certificates of version 3: what they are judged by, in this order
+a=U =4400, c=#U-EXACT | check a MAP01 c | 0 | yes sectors 3 set 1 clear 5 listed 0 | a=U =4400, c=#U-EXACT
+a=U =4400 .1 hexen +6:BEHAVIOR, c=#U-EXACT | check a MAP01 c | 0 | yes sectors 3 set 1 clear 5 listed 0
+a=DOORS =0810, c=#DOORS-EXACT | check a MAP01 c | 0 | yes sectors 4 set 1 clear 9 listed 0
+a=ISLAND =00, c=#ISLAND-EXACT | check a MAP01 c | 0 | yes sectors 2 set 0 clear 3 listed 0
+a=U, c=#U-EXACT | check a MAP01 c | 1 | no table: 0 bytes, 2 expected
+a=U =4400, c=#U-EXACT @4:1:04 | check a MAP01 c | 1 | no cert: version
+a=U =4400, c=#U-EXACT @14:4:01200000 | check a MAP01 c | 1 | no cert: range 14
+a=ISLAND =00, c=#ISLAND-EXACT @26:1:00 | check a MAP01 c | 1 | no cert: order 26
+a=U =4400, c=#U-EXACT @146:1:01 | check a MAP01 c | 1 | no cert: short 170
+a=DOORS =0810, c=#DOORS-EXACT @270:1:0c | check a MAP01 c | 1 | no cert: short 313
+a=U =4400, c=#U-EXACT @170:0:00 | check a MAP01 c | 1 | no cert: trailing 170
+a=U =4400, c=#U-EXACT @14:1:07 @90:8: | check a MAP01 c | 1 | no mesh: mate 4
+a=ISLAND =00, c=#ISLAND-EXACT @22:1:01 @26:2: | check a MAP01 c | 1 | no face 0
+a=ISLAND =00, c=#ISLAND-EXACT @12:1:02 @28:0:01000100 @104:0:0000000000000000 | check a MAP01 c | 1 | no group 1
+a=U =4400, c=#U-EXACT @138:8:38ffffffffffffff | check a MAP01 c | 1 | no ray 1 2: not split 3
+a=U =4400, c=#U-EXACT @102:20:03000380010000000000000060ffffffffffffff | check a MAP01 c | 1 | no ray 0 1: other sectors
+a=DOORS =0810, c=#DOORS-EXACT @313:2:0180 | check a MAP01 c | 1 | no tree 0 node 6
+a=U =4600, c=#U-EXACT | check a MAP01 c | 1 | no unproved 0 1
+a=U =0000, c=#U-EXACT | check a MAP01 c | 1 | no uncovered 0 2
 # bytes that spell no certificate, at each field
 a=U =4400, c=#U-CERT @0:1:45 | check a MAP01 c | 1 | no cert: magic
 a=U =4400, c=#U-CERT @4:1:09 | check a MAP01 c | 1 | no cert: version

@@ -21,7 +21,7 @@ build a MAP01 b --cert c --budget 7 --workers 2
 build a MAP01 b --cert c
 ";
 
-const FULL: &str = "build a MAP01 full --cert c --budget full --workers 4";
+const FULL: &str = "build a MAP01 full --cert k --budget full --workers 4";
 
 /// Builds that decide every pair, by some numbers of workers.
 const EXACT: &str = "\
@@ -29,12 +29,13 @@ build a MAP01 e --cert d --exact --workers 1
 build a MAP01 e --cert d --exact --workers 5
 ";
 
-/// What was tried: clear segments between two sectors, listed pairs, and changed certificates.
+/// What was tried: clear segments between two sectors, listed pairs, and changed certificates, those of version 3 apart.
 #[derive(Clone, Copy)]
 struct Tally {
     sights: usize,
     listed: usize,
     changed: usize,
+    exact: usize,
 }
 
 fn is_done<R: Threads + Sync>(
@@ -138,14 +139,14 @@ fn tried_exact<R: Threads + Sync>(
     Ok("")
 }
 
-// Tries a table with a pair too many, by certificates with a changed byte.
+// Tries a wrong table by a certificate of which one byte is changed, and counts those that spell a certificate.
 fn tried_changes<R: Threads + Sync>(
     rt: &R,
     alloc: Global,
     stage: &mut Stage,
     cert: &[u8],
     dice: &mut Dice,
-    tally: &mut Tally,
+    spelled: &mut usize,
 ) -> Result<&'static str, AllocError> {
     for _ in 0..40 {
         let other = changed(alloc, cert, dice)?;
@@ -155,11 +156,34 @@ fn tried_changes<R: Threads + Sync>(
         if is_done(rt, alloc, stage, "check b MAP01 c")? {
             return Ok("fooled");
         }
-        tally.changed = tally
-            .changed
-            .wrapping_add(!stage.text.starts_with(b"no cert") as usize);
+        *spelled = spelled.wrapping_add(!stage.text.starts_with(b"no cert") as usize);
     }
     Ok("")
+}
+
+// Tries the full table with a pair too many, by the changed certificates of version 2 and of version 3 that were built for it.
+fn tried_wrong<R: Threads + Sync>(
+    rt: &R,
+    alloc: Global,
+    stage: &mut Stage,
+    sectors: usize,
+    dice: &mut Dice,
+    tally: &mut Tally,
+) -> Result<&'static str, AllocError> {
+    let full = file_of(alloc, stage, "full")?;
+    let Some(wrong) = overset(alloc, &full, sectors)? else {
+        return Ok("");
+    };
+    if store(&mut stage.shelf, "b", &wrong).is_err() {
+        return Ok("no memory");
+    }
+    let cert = file_of(alloc, stage, "k")?;
+    let told = tried_changes(rt, alloc, stage, &cert, dice, &mut tally.changed)?;
+    if !told.is_empty() {
+        return Ok(told);
+    }
+    let exact = file_of(alloc, stage, "d")?;
+    tried_changes(rt, alloc, stage, &exact, dice, &mut tally.exact)
 }
 
 // Tries the made map of one seed, and says what doesn't hold; nothing where all does.
@@ -176,13 +200,10 @@ fn tried<R: Threads + Sync>(
     if !is_done(rt, alloc, &mut stage, FULL)? {
         return Ok("unsound");
     }
-    if !is_done(rt, alloc, &mut stage, "check full MAP01 c")? {
+    if !is_done(rt, alloc, &mut stage, "check full MAP01 k")? {
         return Ok("refused");
     }
-    let (full, cert) = (
-        file_of(alloc, &stage, "full")?,
-        file_of(alloc, &stage, "c")?,
-    );
+    let full = file_of(alloc, &stage, "full")?;
     if !spares_sight(&made, &full, &mut dice, tally) {
         return Ok("blind");
     }
@@ -194,13 +215,7 @@ fn tried<R: Threads + Sync>(
     if !wrong.is_empty() {
         return Ok(wrong);
     }
-    let Some(wrong) = overset(alloc, &full, sectors)? else {
-        return Ok("");
-    };
-    if store(&mut stage.shelf, "b", &wrong).is_err() {
-        return Ok("no memory");
-    }
-    tried_changes(rt, alloc, &mut stage, &cert, &mut dice, tally)
+    tried_wrong(rt, alloc, &mut stage, sectors, &mut dice, tally)
 }
 
 #[test]
@@ -209,10 +224,12 @@ fn built_tables_are_accepted_and_wrong_ones_never(rt: HostRuntime) -> Result<(),
         sights: 0,
         listed: 0,
         changed: 0,
+        exact: 0,
     };
     for seed in 0..24u64 {
         assert_eq!(rt; tried(&rt, rt.alloc(), seed, &mut tally)?, "", "at {seed}");
     }
-    assert!(rt; tally.sights > 200 && tally.listed > 200 && tally.changed > 200);
+    assert!(rt; tally.sights > 200 && tally.listed > 200);
+    assert!(rt; tally.changed > 200 && tally.exact > 200);
     Ok(())
 }

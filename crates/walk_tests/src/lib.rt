@@ -1,10 +1,13 @@
-//! Calls of the crates below the top call that no row of a run reaches: walks and tables of worked maps, boards, and workers in threads.
+//! Calls of the crates below the top call that no row of a run reaches: walks and tables of worked maps, boards, workers in threads, and tasks
+//! that they share.
 #![tactic(auto)]
 
 #[cfg(test)]
 mod boards;
 #[cfg(test)]
 mod calls;
+#[cfg(test)]
+mod crews;
 pub mod meeting;
 #[cfg(test)]
 mod threads;
