@@ -1,2 +1,3 @@
 pub mod OnWay
 pub mod Promises
+pub mod Whole

@@ -2,13 +2,12 @@
 use Rattle.std.proofs.Common.{◌≡◌, ℕ, ◌+◌, ◌<◌, ◌≤◌, List, [], ◌++◌, length, take, Option, Some, Ok, refl, arith}
 use Rattle.std.proofs.lemmas.List.{length-append}
 use Rattle.sight_names.specs.Plan.{PlanParts}
-use Rattle.shelf_io.specs.Shelf.{Files, ReadsFile, content_of}
+use Rattle.shelf_io.specs.Shelf.{Files, ReadsFile}
 use Rattle.shelf_io.proofs.FetchLemmas.{ReadSoFar, end_is, goes_on, starts}
 use Rattle.reject_bits.specs.Parts.{TableParts}
 use Rattle.any_judge.specs.declared.judge.Judge.{Judge}
-use Rattle.any_judge.specs.Judge.{HasBeenFed, IsFed, MayBeFed}
-use Rattle.cert_judge.specs.declared.judged.Judged.{Judged}
-use Rattle.any_judge.specs.CertFile.Judgement.{IsJudgement, JudgesContent}
+use Rattle.any_judge.specs.Judge.{HasBeenFed, MayBeFed}
+use Rattle.any_judge.specs.CertFile.Fed.{HoldsFile}
 
 -- the judge was fed so many bytes, and where the files are told these are the first of the file
 pub record IsUnderWay (p : PlanParts) (t : TableParts) (files : Option Files) (name : List ℕ) (at : ℕ) (j : Judge) : Type 0 where
@@ -25,9 +24,6 @@ module _ (p : PlanParts) (t : TableParts) (files : Option Files) (name : List �
     pub may_be_fed : (piece : List ℕ) → at + length piece ≤ 9223372036854775807 → MayBeFed piece j
     may_be_fed piece few = record { plan = p; table = t; bytes = way.bytes; fed = way.fed; few = omega (arith, few, way.count) }
 
-    pub is_fed : t.n ≡ p.sectors → IsFed j
-    is_fed fits = record { plan = p; table = t; bytes = way.bytes; fed = way.fed; fits = fits }
-
     -- one more piece
     pub fed_on : (k : Judge) (n : ℕ) (before after : List ℕ) → ((bytes : List ℕ) → HasBeenFed p t bytes j → HasBeenFed p t (bytes ++ take n after) k) → length (take n after) ≡ n
         → ((fs : Files) → files ≡ Some fs → ReadsFile (fs name) at before after (Ok n)) → IsUnderWay p t files name (at + n) k
@@ -39,10 +35,9 @@ module _ (p : PlanParts) (t : TableParts) (files : Option Files) (name : List �
     }
 
     -- nothing is left
-    pub all_judged : (given : Judged) (n : ℕ) (before after : List ℕ) → n ≡ 0 → 0 < length before → at ≤ 9223372036854775807 → ((bytes : List ℕ) → HasBeenFed p t bytes j → IsJudgement p t bytes given)
-        → (fs : Files) → files ≡ Some fs → ReadsFile (fs name) at before after (Ok n) → JudgesContent p t given (content_of (fs name) 9223372036854775807)
-    all_judged given n before after none room few judged fs e read = record {
+    pub whole_held : (n : ℕ) (before after : List ℕ) → n ≡ 0 → 0 < length before → at ≤ 9223372036854775807 → ((fs : Files) → files ≡ Some fs → ReadsFile (fs name) at before after (Ok n)) → HoldsFile p t files name j
+    whole_held n before after none room few read = record {
       bytes = way.bytes;
-      whole = end_is (λ (b : List ℕ). b) way.bytes 9223372036854775807 at n before after way.count none room few (fs name) (way.told fs e) read;
-      judged = judged way.bytes way.fed;
+      fed = way.fed;
+      whole = λ fs e. end_is (λ (b : List ℕ). b) way.bytes 9223372036854775807 at n before after way.count none room few (fs name) (way.told fs e) (read fs e);
     }
