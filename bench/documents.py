@@ -10,7 +10,8 @@ to end with 0. In a table whose head begins with `Call` and `Line`, each row's c
 
 Each document has a folder of its own with u.wad, the WADs of Debian's packages freedoom and freedm, and map01.wad, the
 first map of freedoom2.wad alone. A block goes on until it needs a file or a command that isn't there; then the rest of
-it is left out, and counted. The status is 1 where anything differs.
+it is left out, and counted. Without --only the lists in PROVED of what a reader has to read are tried too
+(bench/reading.py). The status is 1 where anything differs.
 """
 import argparse
 import os
@@ -20,6 +21,7 @@ import subprocess
 import sys
 import tempfile
 
+import reading
 from wads import FREEDOOM, maps, wad
 
 ROOT = os.path.dirname(os.path.dirname(os.path.abspath(__file__)))
@@ -160,6 +162,7 @@ def main():
             counts = [sum(column) for column in zip([0, 0, 0], *(try_block(name, steps, folder) for steps in blocks))]
         print("%s: %d commands agree, %d differ, %d left out" % (name, *counts))
         bad += counts[1]
+    bad += not (words.only or reading.is_right())
     sys.exit(1 if bad else 0)
 
 
