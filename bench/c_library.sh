@@ -99,7 +99,7 @@ try_layout() {
 try_example() {
     told=0
     for map in $maps; do
-        line=$(by_program "${wads[0]}" "$map")
+        line=$(by_program "${wads[0]}" "$map" --exact --large)
         case $? in
         0)
             [ $told = 1 ] || [ $told = 3 ] || ./example "${wads[0]}" "$map" out.wad || fail "the example's table of $map"
