@@ -27,10 +27,10 @@ from wads import FREEDOOM, maps, wad
 ROOT = os.path.dirname(os.path.dirname(os.path.abspath(__file__)))
 DOCUMENTS = (
     "README.md", "docs/GUIDE.md", "docs/TOOLCHAIN.md", "docs/FREEDOOM.md", "docs/FORMATS.md", "docs/pictures/README.md",
-    "man/doomsight.1",
+    "release/README.md", "man/doomsight.1",
 )
 RUN = ("doomsight", "rt", "glbsp", "zdbsp", "grep", "cat", "cmp", "python3")
-LEFT_OUT = ("cd", "release/make.sh")
+LEFT_OUT = ("cd", "release/make.sh", "release/provenance.sh")
 SCRIPT = "#!/bin/sh"
 # `rt` as the documents use it: a run of the program, or nothing.
 SHIM = '#!/bin/sh\ncase $1 in try | run) while [ "$1" != -- ]; do shift; done; shift; exec doomsight "$@" ;; esac\n'
@@ -94,12 +94,13 @@ def furnish(folder, program, wads):
     """Puts into the folder what the commands of a document name."""
     os.makedirs(os.path.join(folder, "bin"))
     os.makedirs(os.path.join(folder, "data"))
+    os.makedirs(os.path.join(folder, "examples"))
     os.symlink(program, os.path.join(folder, "bin", "doomsight"))
     with open(os.path.join(folder, "bin", "rt"), "w", encoding="utf8") as shim:
         shim.write(SHIM)
     os.chmod(shim.name, 0o755)
     os.symlink(os.path.join(ROOT, "bench"), os.path.join(folder, "bench"))
-    for place in ("u.wad", "data/u.wad"):
+    for place in ("u.wad", "data/u.wad", "examples/u.wad"):
         shutil.copyfile(os.path.join(ROOT, "crates/doomsight/data/u.wad"), os.path.join(folder, place))
     for name in FREEDOOM:
         if os.path.exists(os.path.join(wads, name)):

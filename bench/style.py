@@ -3,8 +3,8 @@
 
     bench/style.py [FILE ..]
 
-With no files: README.md, CHANGELOG.md and all of docs/. Tables, blocks of code and headings are passed over; a span of
-code counts as one word. The status is 1 where there is any.
+With no files: README.md, CHANGELOG.md, release/README.md and all of docs/. Tables, blocks of code and headings are
+passed over; a span of code counts as one word. The status is 1 where there is any.
 """
 import glob
 import os
@@ -30,7 +30,7 @@ def paragraphs(lines):
 
 
 def main():
-    pages = ["README.md", "CHANGELOG.md"] + sorted(glob.glob("docs/*.md", root_dir=ROOT))
+    pages = ["README.md", "CHANGELOG.md", "release/README.md"] + sorted(glob.glob("docs/*.md", root_dir=ROOT))
     names = sys.argv[1:] or [os.path.join(ROOT, page) for page in pages]
     bad = 0
     for name in names:

@@ -22,6 +22,9 @@ case $1 in
 /*) prefix=${1%/} ;;
 *) prefix=$(pwd)/${1%/} ;;
 esac
+if printf '%s' "$prefix" | tr '\n' '#' | grep -q '["#$\'"'"']'; then
+    fail "pkg-config can't be told of a prefix with a quote, \$, \\, # or newline"
+fi
 archive=${2:-$top/crates/doomsight_c/out/libdoomsight_c.a}
 to=${DESTDIR:-}$prefix
 version=$(grep -m 1 '^## \[[0-9]' "$top/CHANGELOG.md" | sed 's/^## \[\(.*\)\].*/\1/')
@@ -34,7 +37,8 @@ work=$(mktemp -d)
 trap 'rm -rf "$work"' EXIT
 ${CC:-cc} -std=c99 -O2 -fPIC -c "$top/include/doomsight_heap.c" -o "$work/doomsight_heap.o"
 ${AR:-ar} rcsD "$work/libdoomsight_heap.a" "$work/doomsight_heap.o"
-sed -e "s|@PREFIX@|$prefix|" -e "s|@VERSION@|$version|" "$top/release/doomsight.pc.in" >"$work/doomsight.pc"
+quoted=$(echo "$prefix" | sed 's/[&|]/\\&/g')
+sed -e "s|@PREFIX@|$quoted|" -e "s|@VERSION@|$version|" "$top/release/doomsight.pc.in" >"$work/doomsight.pc"
 
 # Puts files into a folder below PREFIX: put FOLDER FILE..
 put() {

@@ -1,0 +1,37 @@
+#!/bin/sh
+# Writes PROVENANCE beside a program: which commit, kit and gate it comes from. release/make.sh packs no program without it.
+#
+#     release/provenance.sh LOG [PROGRAM]
+#
+# LOG is what `rt ci`, with no names, printed at the top of this checkout: its last line has to say that nothing failed, and
+# the day on which it was written is the gate's. PROGRAM is crates/doomsight/out/doomsight where none is given. The checkout
+# has to be that of the commit, with nothing changed.
+set -eu
+umask 022
+top=$(cd "$(dirname "$0")/.." && pwd)
+[ $# -ge 1 ] || {
+    sed -n '2,8s/^# \{0,1\}//p' "$0" >&2
+    exit 2
+}
+fail() {
+    echo "provenance.sh: $1" >&2
+    exit 1
+}
+log=$1
+program=${2:-$top/crates/doomsight/out/doomsight}
+
+[ -f "$log" ] || fail "there is no log at $log"
+[ -x "$program" ] || fail "there is no program at $program"
+last=$(grep -v '^[[:space:]]*$' "$log" | tail -n 1)
+echo "$last" | grep -Eq '^[0-9]+ passed, 0 failed' || fail "the log's last line isn't that of a gate that passed: $last"
+changed=$(git -C "$top" status --porcelain)
+[ -z "$changed" ] || fail "the checkout has changes:
+$changed"
+{
+    echo "Commit: $(git -C "$top" rev-parse HEAD)"
+    echo "Kit: $(rt version)"
+    echo "Gate: $last"
+    echo "Day: $(TZ=UTC date -r "$log" +%Y-%m-%d)"
+    echo "Program: sha256 $(sha256sum <"$program" | cut -d ' ' -f 1)"
+} >"$(dirname "$program")/PROVENANCE"
+cat "$(dirname "$program")/PROVENANCE"
