@@ -1,3 +1,4 @@
 pub mod FilesLemmas
 pub mod FetchLemmas
 pub mod FakesLemmas
+pub mod BegunLemmas

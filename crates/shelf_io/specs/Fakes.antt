@@ -43,9 +43,9 @@ pub record Calls : Type 0 where
 abbrev pub files_in : MemShelf → Files
 files_in m = files_of m.files.items
 
--- what it shows
+-- what it shows: each file is in its place at once
 abbrev pub shelf_of : MemShelf → ShelfState
-shelf_of m = record { files = Some (files_in m); read_faults = m.read_faults; write_faults = m.write_faults; absents = m.absents }
+shelf_of m = record { files = Some (files_in m); begun = []; read_faults = m.read_faults; write_faults = m.write_faults; absents = m.absents }
 
 -- which of its calls are to fail
 abbrev pub fails_of : MemShelf → Fails

@@ -1,11 +1,13 @@
 -- What a shelf shows, and what one call on it does.
-use Rattle.std.specs.Prelude.{◌≡◌, ◌⊎◌, ◌↔◌, ℕ, ◌-◌, ◌^◌, ◌<◌, ◌≤◌, nat_lt, List, [], ◌++◌, length, take, drop, Option, Some, None, Result, Ok, Err, if◌then◌else◌, ⊤, unwrap_or}
+use Rattle.std.specs.Prelude.{◌≡◌, ◌⊎◌, ◌↔◌, ℕ, ◌-◌, ◌^◌, ◌<◌, ◌≤◌, nat_lt, Bool, true, false, List, [], ◌∷◌, ◌++◌, length, take, drop, Option, Some, None, Result, Ok, Err, if◌then◌else◌, ⊤, unwrap_or}
 use Rattle.std.specs.Str.{bytes_eq}
 use Rattle.std.specs.Option.{option_map}
 use Rattle.sight_names.specs.declared.faults.ShelfFault.{ShelfFault}
 use Rattle.sight_names.specs.declared.faults.ShelfFault.TheVariants as shelf
 use Rattle.sight_names.specs.declared.faults.FetchFault.{FetchFault}
 use Rattle.sight_names.specs.declared.faults.FetchFault.TheVariants as fetch
+use Rattle.shelf_io.specs.declared.shelf.SameFault.{SameFault}
+use Rattle.shelf_io.specs.declared.shelf.SameFault.TheVariants as same
 
 -- the bytes that stand under each name
 abbrev pub Files : Type 0
@@ -23,12 +25,32 @@ bytes_under files name = unwrap_or (files name) []
 abbrev pub append_to : Files → List ℕ → List ℕ → Files
 append_to files name bytes = put files name (bytes_under files name ++ bytes)
 
--- What a shelf shows: its files, where it tells them, and how often reads failed, creates and appends failed, and names were missing.
+-- What a shelf shows: its files, where it tells them, the names that were created and haven't their places yet, and how often reads
+-- failed, creates and appends failed, and names were missing.
 pub record ShelfState : Type 0 where
   pub files : Option Files
+  pub begun : List (List ℕ)
   pub read_faults : ℕ
   pub write_faults : ℕ
   pub absents : ℕ
+
+-- the name is one of these
+abbrev pub IsAmong : List ℕ → List (List ℕ) → Type 0
+IsAmong name [] = ⊥
+IsAmong name (first ∷ names) = (first ≡ name) ⊎ IsAmong name names
+
+-- whether one of these has the name
+abbrev pub is_named : {X : Type 0} → (X → List ℕ) → List X → List ℕ → Bool
+is_named name_of [] name = false
+is_named name_of (x ∷ xs) name = if bytes_eq (name_of x) name then true else is_named name_of xs name
+
+-- each name that is begun now was begun before, or is one of these
+pub record BeginsAmong (old new names : List (List ℕ)) : Type 0 where
+  pub each : (n : List ℕ) → IsAmong n new → IsAmong n old ⊎ IsAmong n names
+
+-- none of these names is begun now
+pub record NoneBegun (new names : List (List ℕ)) : Type 0 where
+  pub none : (n : List ℕ) → IsAmong n new → IsAmong n names → ⊥
 
 -- A count rose when it is greater than before. The last value of a counter passes for risen.
 abbrev pub Rose : ℕ → ℕ → Type 0
@@ -76,6 +98,12 @@ abbrev pub ReadCause : ShelfState → ShelfState → Result ℕ ShelfFault → T
 ReadCause old new (Ok k) = SameCounts old new
 ReadCause old new (Err shelf.Absent) = NoFault old new × Rose old.absents new.absents
 ReadCause old new (Err shelf.Failed) = Rose old.read_faults new.read_faults
+
+-- no answer about two names has its cause
+abbrev pub SameCause : ShelfState → ShelfState → Result Bool SameFault → Type 0
+SameCause old new (Ok is_one) = SameCounts old new
+SameCause old new (Err same.Failed) = Rose old.read_faults new.read_faults
+SameCause old new (Err same.Memory) = SameCounts old new
 
 -- The file as it is fetched, or why not, by the files alone.
 abbrev pub content_of : Option (List ℕ) → ℕ → Result (List ℕ) FetchFault

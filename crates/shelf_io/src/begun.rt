@@ -1,7 +1,8 @@
 //! Files that are begun. Their bytes stand beside their places until they are settled, so that a place holds the old
 //! file or the whole new one.
 
-ghost use Rattle.std.specs.Prelude.{◌≤◌, ◌<◌, length, IfOk, IfSome};
+ghost use Rattle.std.specs.Prelude.{◌≡◌, ◌≤◌, ◌<◌, ◌∷◌, [], length, map, string_bytes, IfOk, IfSome, OnOk, is_some};
+ghost use Rattle.shelf_io.specs.Shelf.{BeginsAmong, NoneBegun, is_named};
 
 use crate::place::{Place, folder_of, name_beside, place_of};
 use std::alloc::Global;
@@ -32,7 +33,8 @@ struct Way {
 
 // The file that is begun under a name.
 fn index_of<F: Drop>(begun: &[Begun<F>], name: &str) -> Option<usize>
-    ensures { IfSome result (λ i. i < length begun.now) }
+    ensures within { IfSome result (λ i. i < length begun.now) }
+    ensures none { is_some result ≡ is_named (λ b. string_bytes b.name) begun.now name.now }
 {
     for (i, one) in begun.iter().enumerate() {
         if one.name.as_str() == name {
@@ -42,27 +44,41 @@ fn index_of<F: Drop>(begun: &[Begun<F>], name: &str) -> Option<usize>
     None
 }
 
+// Takes what is begun under a name out of the list.
+fn take_out<R: Files>(rt: &R, begun: &mut Vec<Begun<R::File>>, name: &str) -> Option<Begun<R::File>>
+    ensures begun { BeginsAmong (map (λ b. string_bytes b.name) begun.old.items) (map (λ b. string_bytes b.name) begun.new.items) [] }
+    ensures none { NoneBegun (map (λ b. string_bytes b.name) begun.new.items) (name.now ∷ []) }
+{
+    let mut taken: Option<Begun<R::File>> = None;
+    // A name is begun once at most, so this is done once at most.
+    while let Some(i) = index_of(begun, name) {
+        if let Some(other) = taken.replace(begun.remove(i)) {
+            remove(rt, &other);
+        }
+    }
+    taken
+}
+
+// What goes straight to its place is closed: who reads two pipes may wait for the end of the first.
+fn close_straight<F: Drop>(begun: &mut Vec<Begun<F>>)
+    ensures { BeginsAmong (map (λ b. string_bytes b.name) begun.old.items) (map (λ b. string_bytes b.name) begun.new.items) [] }
+{
+    begun.retain(|one| one.way.is_some());
+}
+
 /// Begins the file of this name, with no byte, also where it is begun already.
 pub fn begin<R: Files + AllocGlobal>(
     rt: &R,
     begun: &mut Vec<Begun<R::File>>,
     name: &str,
-) -> io::Result<()> {
-    if let Some(i) = index_of(begun, name) {
-        let before = begun.remove(i);
+) -> io::Result<()>
+    ensures { BeginsAmong (map (λ b. string_bytes b.name) begun.old.items) (map (λ b. string_bytes b.name) begun.new.items) (name.now ∷ []) }
+{
+    if let Some(before) = take_out(rt, begun, name) {
         remove(rt, &before);
     }
-    // What goes straight to its place is closed: who reads two pipes may wait for the end of the first.
-    begun.retain(|one| one.way.is_some());
-    let made = match place_of(rt, name)? {
-        Place::File { name: to, old } => begin_beside(rt, name, to, old)?,
-        Place::Other => Begun {
-            name: String::from_str(rt.alloc(), name)?,
-            file: fs::create(rt, name)?,
-            way: None,
-            is_flushed: false,
-        },
-    };
+    close_straight(begun);
+    let made = begin_at(rt, begun, name)?;
     if let Err(full) = begun.push(made) {
         remove(rt, &full.value);
         return Err(io::Error::from(ErrorKind::OutOfMemory));
@@ -70,18 +86,48 @@ pub fn begin<R: Files + AllocGlobal>(
     Ok(())
 }
 
+fn begin_at<R: Files + AllocGlobal>(
+    rt: &R,
+    begun: &[Begun<R::File>],
+    name: &str,
+) -> io::Result<Begun<R::File>>
+    ensures { IfOk result (λ made. string_bytes made.name ≡ name.now) }
+{
+    match place_of(rt, name)? {
+        Place::File { name: to, old } => begin_beside(rt, begun, name, to, old),
+        Place::Other => begin_straight(rt, name),
+    }
+}
+
+fn begin_straight<R: Files + AllocGlobal>(rt: &R, name: &str) -> io::Result<Begun<R::File>>
+    ensures { IfOk result (λ made. string_bytes made.name ≡ name.now) }
+{
+    Ok(Begun {
+        name: String::from_str(rt.alloc(), name)?,
+        file: fs::create(rt, name)?,
+        way: None,
+        is_flushed: false,
+    })
+}
+
 fn begin_beside<R: Files + AllocGlobal>(
     rt: &R,
+    begun: &[Begun<R::File>],
     name: &str,
     to: String,
     old: Option<Permissions>,
-) -> io::Result<Begun<R::File>> {
+) -> io::Result<Begun<R::File>>
+    ensures { IfOk result (λ made. string_bytes made.name ≡ name.now) }
+{
     let name = String::from_str(rt.alloc(), name)?;
+    if is_beside(begun, &to) {
+        return Err(io::Error::from(ErrorKind::AlreadyExists));
+    }
     if old.is_some() {
         // A file that may not be written isn't replaced either.
         let _ = OpenOptions::new().write(true).open(rt, to.as_str())?;
     }
-    let (from, file) = new_beside(rt, &to)?;
+    let (from, file) = new_beside(rt, begun, &to)?;
     let made = Begun {
         name,
         file,
@@ -95,10 +141,42 @@ fn begin_beside<R: Files + AllocGlobal>(
     Ok(made)
 }
 
-// A new file beside a place, and its name. A file that is there already isn't opened.
-fn new_beside<R: Files + AllocGlobal>(rt: &R, place: &str) -> io::Result<(String, R::File)> {
+// Whether a file that is begun is to have this name.
+fn is_place<F: Drop>(begun: &[Begun<F>], name: &str) -> bool {
+    for one in begun {
+        if let Some(way) = &one.way {
+            if way.to.as_str() == name {
+                return true;
+            }
+        }
+    }
+    false
+}
+
+// Whether a file that is begun stands under this name until it is settled.
+fn is_beside<F: Drop>(begun: &[Begun<F>], name: &str) -> bool {
+    for one in begun {
+        if let Some(way) = &one.way {
+            if way.from.as_str() == name {
+                return true;
+            }
+        }
+    }
+    false
+}
+
+// A new file beside a place, and its name. A file that is there already isn't opened, nor is one made where a file that
+// is begun is to stand.
+fn new_beside<R: Files + AllocGlobal>(
+    rt: &R,
+    begun: &[Begun<R::File>],
+    place: &str,
+) -> io::Result<(String, R::File)> {
     for number in 0..MOST_TRIES {
         let name = name_beside(rt.alloc(), place, number)?;
+        if is_place(begun, &name) {
+            continue;
+        }
         match OpenOptions::new()
             .read(true)
             .append(true)
@@ -131,7 +209,9 @@ pub fn append<R: Files>(
     begun: &mut [Begun<R::File>],
     name: &str,
     bytes: &[u8],
-) -> io::Result<()> {
+) -> io::Result<()>
+    ensures { map (λ b. string_bytes b.name) begun.new ≡ map (λ b. string_bytes b.name) begun.old }
+{
     if let Some(i) = index_of(begun, name) {
         return add(&mut begun[i], bytes);
     }
@@ -139,7 +219,9 @@ pub fn append<R: Files>(
     file.write_all(bytes)
 }
 
-fn add<F: Write + Drop>(one: &mut Begun<F>, bytes: &[u8]) -> io::Result<()> {
+fn add<F: Write + Drop>(one: &mut Begun<F>, bytes: &[u8]) -> io::Result<()>
+    ensures { one.new.name ≡ one.old.name }
+{
     one.is_flushed = false;
     one.file.write_all(bytes)
 }
@@ -151,7 +233,8 @@ pub fn read_begun<F: Read + Seek + Drop>(
     at: u64,
     buf: &mut [u8],
 ) -> Option<io::Result<usize>>
-    ensures { IfSome result (λ read. IfOk read (λ k. k ≤ length buf.old)) }
+    ensures within { IfSome result (λ read. IfOk read (λ k. k ≤ length buf.old)) }
+    ensures begun { map (λ b. string_bytes b.name) begun.new ≡ map (λ b. string_bytes b.name) begun.old }
 {
     let i = index_of(begun, name)?;
     read_one(&mut begun[i], at, buf)
@@ -162,7 +245,8 @@ fn read_one<F: Read + Seek + Drop>(
     at: u64,
     buf: &mut [u8],
 ) -> Option<io::Result<usize>>
-    ensures { IfSome result (λ read. IfOk read (λ k. k ≤ length buf.old)) }
+    ensures within { IfSome result (λ read. IfOk read (λ k. k ≤ length buf.old)) }
+    ensures name { one.new.name ≡ one.old.name }
 {
     if one.way.is_none() {
         return None;
@@ -179,13 +263,15 @@ fn read_from<F: Read + Seek>(file: &mut F, at: u64, buf: &mut [u8]) -> io::Resul
 
 /// Puts the file of this name in its place, where it is begun. After a fault the place is as before, and what was begun
 /// is gone.
-pub fn settle<R: Files>(rt: &R, begun: &mut Vec<Begun<R::File>>, name: &str) -> io::Result<()> {
+pub fn settle<R: Files>(rt: &R, begun: &mut Vec<Begun<R::File>>, name: &str) -> io::Result<()>
+    ensures begun { BeginsAmong (map (λ b. string_bytes b.name) begun.old.items) (map (λ b. string_bytes b.name) begun.new.items) [] }
+    ensures none { NoneBegun (map (λ b. string_bytes b.name) begun.new.items) (name.now ∷ []) }
+{
     // All are flushed before the first gets its name, so that only a renaming can fail between two of them.
     let flushed = flush_all(begun.as_mut_slice());
-    let Some(i) = index_of(begun, name) else {
+    let Some(one) = take_out(rt, begun, name) else {
         return Ok(());
     };
-    let one = begun.remove(i);
     if flushed.is_err() {
         remove(rt, &one);
         return flushed;
@@ -193,12 +279,21 @@ pub fn settle<R: Files>(rt: &R, begun: &mut Vec<Begun<R::File>>, name: &str) -> 
     rename(rt, &one)
 }
 
-fn flush_all<F: OpenFile + Drop>(begun: &mut [Begun<F>]) -> io::Result<()> {
-    for one in begun.iter_mut() {
-        if one.way.is_some() && !one.is_flushed {
-            one.file.sync_all()?;
-            one.is_flushed = true;
-        }
+fn flush_all<F: OpenFile + Drop>(begun: &mut [Begun<F>]) -> io::Result<()>
+    ensures { map (λ b. string_bytes b.name) begun.new ≡ map (λ b. string_bytes b.name) begun.old }
+{
+    for i in 0..begun.len() {
+        flush(&mut begun[i])?;
+    }
+    Ok(())
+}
+
+fn flush<F: OpenFile + Drop>(one: &mut Begun<F>) -> io::Result<()>
+    ensures { one.new.name ≡ one.old.name }
+{
+    if one.way.is_some() && !one.is_flushed {
+        one.file.sync_all()?;
+        one.is_flushed = true;
     }
     Ok(())
 }
@@ -219,7 +314,9 @@ fn rename<R: Files>(rt: &R, one: &Begun<R::File>) -> io::Result<()> {
 }
 
 /// Removes all that is begun.
-pub fn discard<R: Files>(rt: &R, begun: &mut Vec<Begun<R::File>>) {
+pub fn discard<R: Files>(rt: &R, begun: &mut Vec<Begun<R::File>>)
+    ensures { begun.new.items ≡ [] }
+{
     for one in begun.iter() {
         remove(rt, one);
     }

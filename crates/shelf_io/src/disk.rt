@@ -1,11 +1,13 @@
-//! Real files and the standard output. Both count what fails, and tell nothing of what they hold.
+//! Real files and the standard output. Both count what fails, and tell nothing of what they hold. The
+//! files tell which of them are begun.
 
-ghost use Rattle.std.specs.Prelude.{◌≡◌, ◌≤◌, length, IfOk, OnErr, OnOk};
+ghost use Rattle.std.specs.Prelude.{◌≡◌, ◌≤◌, [], length, map, string_bytes, IfOk, OnErr, OnOk};
 ghost use Rattle.shelf_io.specs.Shelf.{Rose, ShelfState};
 ghost use Rattle.shelf_io.specs.Sink.{SinkState};
 
 use crate::begun::{Begun, append, begin, discard, read_begun, settle};
-use crate::shelf::{Shelf, Sink};
+use crate::place::names_one_file;
+use crate::shelf::{SameFault, Shelf, Sink};
 use sight_names::{Failed, ShelfFault};
 use std::alloc::Global;
 use std::io::{ErrorKind, Read, Seek, SeekFrom, Write};
@@ -40,7 +42,7 @@ struct Reading<F: Drop> {
 impl<R: Files + AllocGlobal> DiskShelf<R> {
     /// The files of this runtime, with nothing counted.
     pub fn new(rt: R) -> DiskShelf<R>
-        ensures { ⟦<DiskShelf<R> as Shelf>⟧.state result ≡ record { files = None; read_faults = 0; write_faults = 0; absents = 0 } }
+        ensures { ⟦<DiskShelf<R> as Shelf>⟧.state result ≡ record { files = None; begun = []; read_faults = 0; write_faults = 0; absents = 0 } }
     {
         let begun = Vec::new(rt.alloc());
         DiskShelf {
@@ -55,7 +57,7 @@ impl<R: Files + AllocGlobal> DiskShelf<R> {
 
     /// Removes what was created and isn't settled. A new file that can't be removed stays.
     pub fn discard(&mut self)
-        ensures { ⟦<DiskShelf<R> as Shelf>⟧.state self.new ≡ ⟦<DiskShelf<R> as Shelf>⟧.state self.old }
+        ensures { ⟦<DiskShelf<R> as Shelf>⟧.state self.new ≡ record (⟦<DiskShelf<R> as Shelf>⟧.state self.old) { begun = [] } }
     {
         discard(&self.rt, &mut self.begun);
     }
@@ -113,7 +115,8 @@ fn read_any<R: Files + AllocGlobal>(
     at: u64,
     buf: &mut [u8],
 ) -> io::Result<usize>
-    ensures { IfOk result (λ k. k ≤ length buf.old) }
+    ensures within { IfOk result (λ k. k ≤ length buf.old) }
+    ensures begun { map (λ b. string_bytes b.name) begun.new ≡ map (λ b. string_bytes b.name) begun.old }
 {
     match read_begun(begun, name, at, buf) {
         Some(read) => read,
@@ -135,10 +138,10 @@ fn counted(faults: &mut u64, written: io::Result<()>) -> Result<(), Failed>
 }
 
 impl<R: Files + AllocGlobal> Shelf for DiskShelf<R> {
-    ghost use Rattle.std.specs.Prelude.{None};
+    ghost use Rattle.std.specs.Prelude.{None, map, string_bytes};
     ghost use Rattle.shelf_io.specs.Shelf.{ShelfState};
 
-    ghost state = { λ d. record { files = None; read_faults = d.read_faults; write_faults = d.write_faults; absents = d.absents } };
+    ghost state = { λ d. record { files = None; begun = map (λ b. string_bytes b.name) d.begun.items; read_faults = d.read_faults; write_faults = d.write_faults; absents = d.absents } };
 
     fn read(&mut self, name: &str, at: u64, buf: &mut [u8]) -> Result<usize, ShelfFault> {
         match read_any(&self.rt, &mut self.begun, &mut self.reading, name, at, buf) {
@@ -169,6 +172,17 @@ impl<R: Files + AllocGlobal> Shelf for DiskShelf<R> {
         self.reading = None;
         let settled = settle(&self.rt, &mut self.begun, name);
         counted(&mut self.write_faults, settled)
+    }
+
+    fn is_one_file(&mut self, one: &str, other: &str) -> Result<bool, SameFault> {
+        match names_one_file(&self.rt, one, other) {
+            Ok(is_one) => Ok(is_one),
+            Err(e) if e.kind() == ErrorKind::OutOfMemory => Err(SameFault::Memory),
+            Err(_) => {
+                self.read_faults = self.read_faults.saturating_add(1);
+                Err(SameFault::Failed)
+            }
+        }
     }
 }
 

@@ -11,8 +11,7 @@ mod transfer;
 
 pub use disk::{DiskShelf, StdSink};
 pub use memory::{Fails, File, MemShelf, MemSink};
-pub use place::names_one_file;
-pub use shelf::{Shelf, Sink};
+pub use shelf::{SameFault, Shelf, Sink};
 pub use transfer::{fetch, store};
 
 /// The most bytes that one read or one append moves.

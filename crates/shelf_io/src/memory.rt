@@ -1,12 +1,13 @@
 //! A shelf and a sink in memory, whose calls fail where a test says so.
 
-ghost use Rattle.std.specs.Prelude.{◌≡◌, ◌≤◌, ◌<◌, ◌-◌, ◌++◌, ◌/◌, take, if◌then◌else◌, min, [], OnOk, OnErr, IfOk, IfSome, length, Some, None};
+ghost use Rattle.std.specs.Prelude.{◌≡◌, ◌≤◌, ◌<◌, ◌-◌, ◌∷◌, ◌++◌, ◌/◌, take, if◌then◌else◌, min, [], OnOk, OnErr, IfOk, IfSome, IsTrue, length, Ok, Some};
 ghost use Rattle.std.specs.Option.{option_map, option_copied};
-ghost use Rattle.shelf_io.specs.Shelf.{Files, IsReadAt, put, append_to, ReadsFile, ReadCause, Rose, NoneFell, SameCounts, MayBeEmpty, MayHaveFront};
+ghost use Rattle.std.specs.Str.{bytes_eq};
+ghost use Rattle.shelf_io.specs.Shelf.{Files, IsReadAt, put, append_to, ReadsFile, ReadCause, SameCause, Rose, NoneFell, SameCounts, MayBeEmpty, MayHaveFront, BeginsAmong, NoneBegun};
 ghost use Rattle.shelf_io.specs.Sink.{HasFront};
 ghost use Rattle.shelf_io.specs.Fakes.{files_of, place_in, files_in, shelf_of, fails_of, calls_of, starved_of, is_listed, next, read_answer, CreatesIn, AppendsIn, held_in, sink_of, failing_puts, puts_of, sink_starved, PutsIn};
 
-use crate::shelf::{Shelf, Sink};
+use crate::shelf::{SameFault, Shelf, Sink};
 use sight_names::{Failed, ShelfFault};
 use std::alloc::{AllocError, Global};
 
@@ -123,7 +124,7 @@ fn piece_taken(bytes: &[u8], fails: bool) -> &[u8]
 impl MemShelf {
     /// A shelf with these files, of whose calls the listed ones fail.
     pub fn new(alloc: Global, files: Vec<File>, fails: Fails) -> MemShelf
-        ensures shows { shelf_of result ≡ record { files = Some (files_of files.items); read_faults = 0; write_faults = 0; absents = 0 } }
+        ensures shows { shelf_of result ≡ record { files = Some (files_of files.items); begun = []; read_faults = 0; write_faults = 0; absents = 0 } }
         ensures fails { fails_of result ≡ fails }
         ensures calls { calls_of result ≡ record { reads = 0; creates = 0; appends = 0 } }
         ensures starved { starved_of result ≡ 0 }
@@ -159,6 +160,7 @@ impl Shelf for MemShelf {
         ensures within { IfOk result (λ k. k ≤ length buf.old) }
         ensures told { (files : Files) → (shelf_of self.old).files ≡ Some files → ReadsFile (files name.now) at buf.old buf.new result }
         ensures files { (shelf_of self.new).files ≡ (shelf_of self.old).files }
+        ensures begun { (shelf_of self.new).begun ≡ (shelf_of self.old).begun }
         ensures counts { NoneFell (shelf_of self.old) (shelf_of self.new) }
         ensures cause { ReadCause (shelf_of self.old) (shelf_of self.new) result }
         // Beyond what any shelf does: which reads fail, and how much the others read.
@@ -183,6 +185,7 @@ impl Shelf for MemShelf {
     fn create(&mut self, name: &str) -> Result<(), Failed>
         ensures made { OnOk result ((shelf_of self.new).files ≡ option_map (λ files. put files name.now []) (shelf_of self.old).files) }
         ensures failed { OnErr result (MayBeEmpty (shelf_of self.old).files (shelf_of self.new).files name.now) }
+        ensures begun { BeginsAmong (shelf_of self.old).begun (shelf_of self.new).begun (name.now ∷ []) }
         ensures counts { NoneFell (shelf_of self.old) (shelf_of self.new) }
         ensures quiet { OnOk result (SameCounts (shelf_of self.old) (shelf_of self.new)) }
         ensures cause { OnErr result (Rose (shelf_of self.old).write_faults (shelf_of self.new).write_faults) }
@@ -208,6 +211,7 @@ impl Shelf for MemShelf {
     fn append(&mut self, name: &str, bytes: &[u8]) -> Result<(), Failed>
         ensures added { OnOk result ((shelf_of self.new).files ≡ option_map (λ files. append_to files name.now bytes.now) (shelf_of self.old).files) }
         ensures failed { OnErr result (MayHaveFront (shelf_of self.old).files (shelf_of self.new).files name.now bytes.now) }
+        ensures begun { BeginsAmong (shelf_of self.old).begun (shelf_of self.new).begun (name.now ∷ []) }
         ensures counts { NoneFell (shelf_of self.old) (shelf_of self.new) }
         ensures quiet { OnOk result (SameCounts (shelf_of self.old) (shelf_of self.new)) }
         ensures cause { OnErr result (Rose (shelf_of self.old).write_faults (shelf_of self.new).write_faults) }
@@ -231,9 +235,10 @@ impl Shelf for MemShelf {
         Ok(())
     }
 
-    fn settle(&mut self, _name: &str) -> Result<(), Failed>
+    fn settle(&mut self, name: &str) -> Result<(), Failed>
         ensures files { (shelf_of self.new).files ≡ (shelf_of self.old).files }
-        ensures told { OnErr result ((shelf_of self.old).files ≡ None) }
+        ensures begun { BeginsAmong (shelf_of self.old).begun (shelf_of self.new).begun [] }
+        ensures settled { OnOk result (NoneBegun (shelf_of self.new).begun (name.now ∷ [])) }
         ensures counts { NoneFell (shelf_of self.old) (shelf_of self.new) }
         ensures quiet { OnOk result (SameCounts (shelf_of self.old) (shelf_of self.new)) }
         ensures cause { OnErr result (Rose (shelf_of self.old).write_faults (shelf_of self.new).write_faults) }
@@ -241,6 +246,20 @@ impl Shelf for MemShelf {
         ensures stays { self.new ≡ self.old }
     {
         Ok(())
+    }
+
+    fn is_one_file(&mut self, one: &str, other: &str) -> Result<bool, SameFault>
+        ensures told { (files : Files) → (shelf_of self.old).files ≡ Some files → IfOk result (λ is_one. is_one ≡ bytes_eq one.now other.now) }
+        ensures equal { IfOk result (λ is_one. IsTrue (bytes_eq one.now other.now) → IsTrue is_one) }
+        ensures files { (shelf_of self.new).files ≡ (shelf_of self.old).files }
+        ensures begun { (shelf_of self.new).begun ≡ (shelf_of self.old).begun }
+        ensures counts { NoneFell (shelf_of self.old) (shelf_of self.new) }
+        ensures cause { SameCause (shelf_of self.old) (shelf_of self.new) result }
+        // Beyond what any shelf does: there is always an answer, and nothing changes.
+        ensures answer { result ≡ Ok (bytes_eq one.now other.now) }
+        ensures stays { self.new ≡ self.old }
+    {
+        Ok(one == other)
     }
 }
 

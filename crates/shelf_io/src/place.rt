@@ -1,7 +1,10 @@
 //! Where the bytes under a name go, and whether two names mean one place.
 
+ghost use Rattle.std.specs.Prelude.{IfOk, IsTrue};
+ghost use Rattle.std.specs.Str.{bytes_eq};
+
 use std::alloc::{AllocError, Global};
-use std::fs::Permissions;
+use std::fs::{Metadata, Permissions};
 use std::io::ErrorKind;
 use std::os::unix::fs::MetadataExt;
 use std::rt::Files;
@@ -41,15 +44,14 @@ enum Link {
 
 /// What a name is to one who writes under it. An error where that can't be found out, or memory is wanting.
 pub fn place_of<R: Files + AllocGlobal>(rt: &R, name: &str) -> io::Result<Place> {
-    let old = match fs::metadata(rt, name) {
-        Ok(found) => {
+    let old = match if_there(fs::metadata(rt, name))? {
+        Some(found) => {
             if !found.is_file() {
                 return Ok(Place::Other);
             }
             Some(found.permissions())
         }
-        Err(e) if e.kind() == ErrorKind::NotFound => None,
-        Err(e) => return Err(e),
+        None => None,
     };
     let Some(name) = behind_links(rt, name)? else {
         return Ok(Place::Other);
@@ -61,29 +63,50 @@ pub fn place_of<R: Files + AllocGlobal>(rt: &R, name: &str) -> io::Result<Place>
 }
 
 /// Whether two names mean one file: the one that stands under both, or, where neither has one, the one that
-/// could be made. Links are followed. False where that can't be found out, or memory is wanting.
-pub fn names_one_file(rt: &(impl Files + AllocGlobal), one: &str, other: &str) -> bool {
-    match (fs::metadata(rt, one), fs::metadata(rt, other)) {
-        (Ok(one), Ok(other)) => one.dev() == other.dev() && one.ino() == other.ino(),
-        (Err(_), Err(_)) => names_one_place(rt, one, other),
-        _ => false,
+/// could be made. Links are followed. An error where that can't be found out, or memory is wanting.
+pub fn names_one_file<R: Files + AllocGlobal>(rt: &R, one: &str, other: &str) -> io::Result<bool>
+    ensures { IfOk result (λ is_one. IsTrue (bytes_eq one.now other.now) → IsTrue is_one) }
+{
+    if one == other {
+        return Ok(true);
+    }
+    match (
+        if_there(fs::metadata(rt, one))?,
+        if_there(fs::metadata(rt, other))?,
+    ) {
+        (Some(one), Some(other)) => Ok(is_same(&one, &other)),
+        (None, None) => names_one_place(rt, one, other),
+        _ => Ok(false),
     }
 }
 
 // Whether the names behind the links have one folder and one last part.
-fn names_one_place(rt: &(impl Files + AllocGlobal), one: &str, other: &str) -> bool {
-    let (Ok(Some(one)), Ok(Some(other))) = (behind_links(rt, one), behind_links(rt, other)) else {
-        return false;
+fn names_one_place<R: Files + AllocGlobal>(rt: &R, one: &str, other: &str) -> io::Result<bool> {
+    let (Some(one), Some(other)) = (behind_links(rt, one)?, behind_links(rt, other)?) else {
+        return Ok(false);
     };
     if last_of(&one) != last_of(&other) {
-        return false;
+        return Ok(false);
     }
     match (
-        fs::metadata(rt, folder_of(&one)),
-        fs::metadata(rt, folder_of(&other)),
+        if_there(fs::metadata(rt, folder_of(&one)))?,
+        if_there(fs::metadata(rt, folder_of(&other)))?,
     ) {
-        (Ok(one), Ok(other)) => one.dev() == other.dev() && one.ino() == other.ino(),
-        _ => false,
+        (Some(one), Some(other)) => Ok(is_same(&one, &other)),
+        _ => Ok(false),
+    }
+}
+
+fn is_same(one: &Metadata, other: &Metadata) -> bool {
+    one.dev() == other.dev() && one.ino() == other.ino()
+}
+
+// That nothing stands under a name is no error.
+fn if_there(found: io::Result<Metadata>) -> io::Result<Option<Metadata>> {
+    match found {
+        Ok(found) => Ok(Some(found)),
+        Err(e) if matches!(e.kind(), ErrorKind::NotFound | ErrorKind::NotADirectory) => Ok(None),
+        Err(e) => Err(e),
     }
 }
 
@@ -142,15 +165,13 @@ fn behind_links<R: Files + AllocGlobal>(rt: &R, name: &str) -> io::Result<Option
 }
 
 fn link_at<R: Files + AllocGlobal>(rt: &R, name: &str) -> io::Result<Link> {
-    let found = match fs::symlink_metadata(rt, name) {
-        Ok(found) => found,
-        Err(e) if e.kind() == ErrorKind::NotFound => return Ok(Link::No),
-        Err(e) => return Err(e),
+    let Some(found) = if_there(fs::symlink_metadata(rt, name))? else {
+        return Ok(Link::No);
     };
     if !found.is_symlink() {
         return Ok(Link::No);
     }
-    if let Ok(system) = fs::metadata(rt, "/proc") {
+    if let Some(system) = if_there(fs::metadata(rt, "/proc"))? {
         // The text of such a link is no name: what is open may have none by now.
         if system.dev() == found.dev() {
             return Ok(Link::Open);

@@ -1,8 +1,8 @@
 //! Whole files, in pieces.
 
-ghost use Rattle.std.specs.Prelude.{◌≡◌, ◌≤◌, length, IfOk, OnOk, OnErr, Some};
+ghost use Rattle.std.specs.Prelude.{◌≡◌, ◌≤◌, ◌∷◌, [], length, IfOk, OnOk, OnErr, Some};
 ghost use Rattle.std.specs.Option.{option_map};
-ghost use Rattle.shelf_io.specs.Shelf.{Files, Rose, NoneFell, SameCounts, Fetches, FetchCause, content_of, MayHoldFront, put};
+ghost use Rattle.shelf_io.specs.Shelf.{Files, Rose, NoneFell, SameCounts, Fetches, FetchCause, content_of, BeginsAmong, MayHoldFront, put};
 
 use crate::PIECE;
 use crate::shelf::Shelf;
@@ -25,6 +25,7 @@ pub fn fetch<S: Shelf>(
     ensures within { IfOk result (λ bytes. length bytes.items ≤ limit) }
     ensures told { (files : Files) → (S.state shelf.old).files ≡ Some files → Fetches (λ bytes. bytes.items) result (content_of (files name.now) limit) }
     ensures files { (S.state shelf.new).files ≡ (S.state shelf.old).files }
+    ensures begun { (S.state shelf.new).begun ≡ (S.state shelf.old).begun }
     ensures counts { NoneFell (S.state shelf.old) (S.state shelf.new) }
     ensures cause { FetchCause (S.state shelf.old) (S.state shelf.new) result }
 {
@@ -52,6 +53,7 @@ pub fn fetch<S: Shelf>(
 pub fn store<S: Shelf>(shelf: &mut S, name: &str, bytes: &[u8]) -> Result<(), Failed>
     ensures stored { OnOk result ((S.state shelf.new).files ≡ option_map (λ files. put files name.now bytes.now) (S.state shelf.old).files) }
     ensures failed { OnErr result (MayHoldFront (S.state shelf.old).files (S.state shelf.new).files name.now bytes.now) }
+    ensures begun { BeginsAmong (S.state shelf.old).begun (S.state shelf.new).begun (name.now ∷ []) }
     ensures counts { NoneFell (S.state shelf.old) (S.state shelf.new) }
     ensures quiet { OnOk result (SameCounts (S.state shelf.old) (S.state shelf.new)) }
     ensures cause { OnErr result (Rose (S.state shelf.old).write_faults (S.state shelf.new).write_faults) }

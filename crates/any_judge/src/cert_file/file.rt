@@ -36,6 +36,7 @@ fn feed_all<S: Shelf>(shelf: &mut S, name: &str, judge: &mut Judge<'_>) -> Resul
     ensures fed { (p : PlanParts) (t : TableParts) → HasBeenFed p t [] judge.old → IfOk result (λ _. HoldsFile p t (S.state shelf.old).files name.now judge.new) }
     ensures told { (files : Files) → (S.state shelf.old).files ≡ Some files → IfErr result (λ fault. RefusesAs fault (content_of (files name.now) 9223372036854775807)) }
     ensures files { (S.state shelf.new).files ≡ (S.state shelf.old).files }
+    ensures begun { (S.state shelf.new).begun ≡ (S.state shelf.old).begun }
     ensures counts { NoneFell (S.state shelf.old) (S.state shelf.new) }
     ensures cause { FetchCause (S.state shelf.old) (S.state shelf.new) result }
 {
@@ -72,6 +73,7 @@ pub fn judge_file<S: Shelf>(
     requires table { table.now.n ≡ plan.now.sectors }
     ensures told { (files : Files) → (S.state shelf.old).files ≡ Some files → JudgesFile plan.now table.now result (content_of (files name.now) 9223372036854775807) }
     ensures files { (S.state shelf.new).files ≡ (S.state shelf.old).files }
+    ensures begun { (S.state shelf.new).begun ≡ (S.state shelf.old).begun }
     ensures counts { NoneFell (S.state shelf.old) (S.state shelf.new) }
     ensures cause { FetchCause (S.state shelf.old) (S.state shelf.new) result }
 {

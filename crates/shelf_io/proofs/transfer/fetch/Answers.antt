@@ -18,6 +18,7 @@ loop-taken-preserved g c =
       within = search rules;
       room = search rules;
       files = search rules;
+      begun = search rules;
       counts = search rules;
       quiet = search rules;
     }
@@ -28,6 +29,7 @@ loop-taken-init g c = record {
   within = search rules;
   room = search rules;
   files = refl;
+  begun = refl;
   counts = search rules;
   quiet = search rules;
 }

@@ -11,6 +11,7 @@ invariant-loop-taken g l =
       within : vec_len l.bytes ≤ l.limit;
       room : length l.buf ≡ 65536;
       files : (state l.shelf).files ≡ (state l.fn.shelf).files;
+      begun : (state l.shelf).begun ≡ (state l.fn.shelf).begun;
       counts : NoneFell (state l.fn.shelf) (state l.shelf);
       quiet : SameCounts (state l.fn.shelf) (state l.shelf);
     }

@@ -1,6 +1,6 @@
-use Rattle.std.proofs.Common.{◌≡◌, ◌-◌, ◌≤◌, length, take}
+use Rattle.std.proofs.Common.{◌≡◌, ◌-◌, ◌≤◌, ◌∷◌, [], length, take}
 use Rattle.std.specs.Option.{option_map}
-use Rattle.shelf_io.specs.Shelf.{NoneFell, SameCounts, put}
+use Rattle.shelf_io.specs.Shelf.{BeginsAmong, NoneFell, SameCounts, put}
 use Rattle.shelf_io.proofs.transfer.store.Given as goal
 
 -- a front of the bytes stands there, and no count rose
@@ -10,6 +10,7 @@ invariant-loop-at g l =
     record {
       within : l.at ≤ length l.bytes;
       stored : (state l.shelf).files ≡ option_map (λ files. put files l.name (take l.at l.bytes)) (state l.fn.shelf).files;
+      begun : BeginsAmong (state l.fn.shelf).begun (state l.shelf).begun (l.name ∷ []);
       counts : NoneFell (state l.fn.shelf) (state l.shelf);
       quiet : SameCounts (state l.fn.shelf) (state l.shelf);
     }

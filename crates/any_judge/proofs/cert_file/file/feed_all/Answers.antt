@@ -10,6 +10,7 @@ loop-taken-init g c = record {
   within = search rules;
   room = search rules;
   files = refl;
+  begun = refl;
   counts = search rules;
   quiet = search rules;
 }
@@ -46,6 +47,7 @@ loop-taken-preserved g c =
       within = omega (arith, c.loop-taken.invariant.within, c.if-taken-at.false);
       room = room;
       files = search rules;
+      begun = search rules;
       counts = search rules;
       quiet = search rules;
     }

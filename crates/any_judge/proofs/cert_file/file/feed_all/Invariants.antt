@@ -15,6 +15,7 @@ invariant-loop-taken g l =
       within : l.at ≤ 9223372036854775807;
       room : length l.piece ≡ 65536;
       files : (state l.shelf).files ≡ (state l.fn.shelf).files;
+      begun : (state l.shelf).begun ≡ (state l.fn.shelf).begun;
       counts : NoneFell (state l.fn.shelf) (state l.shelf);
       quiet : SameCounts (state l.fn.shelf) (state l.shelf);
     }
