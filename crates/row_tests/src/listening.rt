@@ -5,9 +5,32 @@ use listeners::{Finding, FirstSet, Keep, Lines, Listener, Totals, pieces, words_
 use shelf_io::MemSink;
 use sight_names::Memory;
 use sight_run::{NoNotice, Notice, Status};
+use std::alloc::{AllocError, Global};
 use std::cell::RefCell;
 use std::test::Fail;
-use worked_maps::stages::stage_of;
+use std::thread::Threads;
+use worked_maps::stages::{Stage, stage_of};
+
+// Runs the words of a line on the stage.
+fn run_heard<R: Threads + Sync, N: Notice>(
+    rt: &R,
+    alloc: Global,
+    stage: &mut Stage,
+    line: &str,
+    listeners: &mut Vec<Box<dyn Listener>>,
+    notice: &N,
+) -> Result<Status, AllocError> {
+    let mut out = MemSink::new(alloc, Vec::new(alloc));
+    ran(
+        rt,
+        alloc,
+        line,
+        &mut stage.shelf,
+        &mut out,
+        listeners,
+        notice,
+    )
+}
 
 /// Hears two findings, and finds no memory for a third.
 #[derive(Drop)]
@@ -34,6 +57,14 @@ impl Listener for Forgetful {
     }
 }
 
+// Totals, the first set pair, and lines.
+fn push_three(alloc: Global, listeners: &mut Vec<Box<dyn Listener>>) -> Result<(), AllocError> {
+    listeners.push(Box::new(alloc, Totals::new(alloc))?)?;
+    listeners.push(Box::new(alloc, FirstSet::new(alloc, 1))?)?;
+    listeners.push(Box::new(alloc, Lines::new(alloc))?)?;
+    Ok(())
+}
+
 #[test]
 fn a_listener_that_has_heard_enough_goes_and_its_text_begins_the_report(
     rt: HostRuntime,
@@ -41,19 +72,9 @@ fn a_listener_that_has_heard_enough_goes_and_its_text_begins_the_report(
     let alloc = rt.alloc();
     let mut stage = stage_of(alloc, "a=U")?;
     let mut listeners: Vec<Box<dyn Listener>> = Vec::new(alloc);
-    listeners.push(Box::new(alloc, Totals::new(alloc))?)?;
-    listeners.push(Box::new(alloc, FirstSet::new(alloc, 1))?)?;
-    listeners.push(Box::new(alloc, Lines::new(alloc))?)?;
-    let mut out = MemSink::new(alloc, Vec::new(alloc));
-    let status = ran(
-        &rt,
-        alloc,
-        "build a MAP01 b --report r",
-        &mut stage.shelf,
-        &mut out,
-        &mut listeners,
-        &NoNotice,
-    )?;
+    push_three(alloc, &mut listeners)?;
+    let line = "build a MAP01 b --report r";
+    let status = run_heard(&rt, alloc, &mut stage, line, &mut listeners, &NoNotice)?;
     assert!(rt; status == Status::Done && listeners.len() == 2);
     let report = stage.shelf.bytes("r").unwrap_or(b"");
     let left = b"total set 1 clear 5 listed 0\nset 0 2\n".as_slice();
@@ -70,28 +91,22 @@ fn a_listener_that_has_heard_enough_goes_and_its_text_begins_the_report(
     Ok(())
 }
 
+// Lines, and one that finds no memory for the third finding.
+fn push_two(alloc: Global, listeners: &mut Vec<Box<dyn Listener>>) -> Result<(), AllocError> {
+    listeners.push(Box::new(alloc, Lines::new(alloc))?)?;
+    let heard = Vec::new(alloc);
+    listeners.push(Box::new(alloc, Forgetful { heard })?)?;
+    Ok(())
+}
+
 #[test]
 fn no_file_is_made_where_a_listener_finds_no_memory(rt: HostRuntime) -> Result<(), Fail> {
     let alloc = rt.alloc();
     let mut stage = stage_of(alloc, "a=U")?;
     let mut listeners: Vec<Box<dyn Listener>> = Vec::new(alloc);
-    listeners.push(Box::new(alloc, Lines::new(alloc))?)?;
-    listeners.push(Box::new(
-        alloc,
-        Forgetful {
-            heard: Vec::new(alloc),
-        },
-    )?)?;
-    let mut out = MemSink::new(alloc, Vec::new(alloc));
-    let status = ran(
-        &rt,
-        alloc,
-        "build a MAP01 b --cert c --report r",
-        &mut stage.shelf,
-        &mut out,
-        &mut listeners,
-        &NoNotice,
-    )?;
+    push_two(alloc, &mut listeners)?;
+    let line = "build a MAP01 b --cert c --report r";
+    let status = run_heard(&rt, alloc, &mut stage, line, &mut listeners, &NoNotice)?;
     assert!(rt; status == Status::Memory && listeners.len() == 2);
     assert!(rt; stage.shelf.bytes("b").is_none() && stage.shelf.bytes("c").is_none());
     // the first one heard the third finding, which is that 0 and 2 don't see each other
@@ -133,19 +148,10 @@ fn a_notice_is_told_of_maps_of_udmf_before_the_lines(rt: HostRuntime) -> Result<
     let given = "a=PAIR +6:map02 +7:TEXTMAP U .8 - +8:MAP03 +14:E1M9 +15:textmap";
     let mut stage = stage_of(alloc, given)?;
     let mut none: Vec<Box<dyn Listener>> = Vec::new(alloc);
-    let mut out = MemSink::new(alloc, Vec::new(alloc));
     let told = Told {
         text: RefCell::new(String::new(alloc)),
     };
-    let status = ran(
-        &rt,
-        alloc,
-        "all a b",
-        &mut stage.shelf,
-        &mut out,
-        &mut none,
-        &told,
-    )?;
+    let status = run_heard(&rt, alloc, &mut stage, "all a b", &mut none, &told)?;
     assert!(rt; status == Status::Done);
     assert_eq!(rt;
         told.text.into_inner().as_str(),

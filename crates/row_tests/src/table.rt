@@ -105,34 +105,91 @@ fn tells(text: &[u8], words: &str) -> bool {
     said.ends_with(words.as_bytes()) || told.starts_with(words.as_bytes())
 }
 
-// Whether what stands under the names is what a row says. `b=` and words is the file of these words, and without words
-// there is none; `b<=` and words is how the file begins, `b>=` and words how it ends.
+// Whether what stands under the name is the file of these words, and without words whether there is none. Behind the name `<` says how
+// the file begins, `>` how it ends.
+fn is_file(alloc: Global, stage: &Stage, name: &str, words: &str) -> Result<bool, AllocError> {
+    let file = bytes_of(alloc, words)?;
+    let is_right = if let Some(name) = name.strip_suffix('<') {
+        stage
+            .shelf
+            .bytes(name)
+            .is_some_and(|bytes| bytes.starts_with(&file))
+    } else if let Some(name) = name.strip_suffix('>') {
+        stage
+            .shelf
+            .bytes(name)
+            .is_some_and(|bytes| bytes.ends_with(&file))
+    } else if words.is_empty() {
+        stage.shelf.bytes(name).is_none()
+    } else {
+        stage.shelf.bytes(name) == Some(file.as_slice())
+    };
+    Ok(is_right)
+}
+
+// Whether what stands under the names is what a row says, each name before `=` and words.
 fn has_files(alloc: Global, stage: &Stage, wanted: &str) -> Result<bool, AllocError> {
     for part in wanted.split(',') {
-        let Some((name, words)) = part.trim().split_once('=') else {
-            continue;
-        };
-        let file = bytes_of(alloc, words)?;
-        let is_right = if let Some(name) = name.strip_suffix('<') {
-            stage
-                .shelf
-                .bytes(name)
-                .is_some_and(|bytes| bytes.starts_with(&file))
-        } else if let Some(name) = name.strip_suffix('>') {
-            stage
-                .shelf
-                .bytes(name)
-                .is_some_and(|bytes| bytes.ends_with(&file))
-        } else if words.is_empty() {
-            stage.shelf.bytes(name).is_none()
-        } else {
-            stage.shelf.bytes(name) == Some(file.as_slice())
-        };
-        if !is_right {
-            return Ok(false);
+        if let Some((name, words)) = part.trim().split_once('=') {
+            if !is_file(alloc, stage, name, words)? {
+                return Ok(false);
+            }
         }
     }
     Ok(true)
+}
+
+// Lines and totals, who have heard nothing.
+fn push_listeners(alloc: Global, listeners: &mut Vec<Box<dyn Listener>>) -> Result<(), AllocError> {
+    listeners.push(Box::new(alloc, Lines::new(alloc))?)?;
+    listeners.push(Box::new(alloc, Totals::new(alloc))?)?;
+    Ok(())
+}
+
+// Runs the words of a line on the stage, with the listeners of a report.
+fn run_line<R: Threads + Sync>(
+    rt: &R,
+    alloc: Global,
+    stage: &mut Stage,
+    line: &str,
+) -> Result<Status, AllocError> {
+    let mut listeners: Vec<Box<dyn Listener>> = Vec::new(alloc);
+    push_listeners(alloc, &mut listeners)?;
+    let mut out = MemSink::new(alloc, stage.puts.clone()?);
+    let status = ran(
+        rt,
+        alloc,
+        line,
+        &mut stage.shelf,
+        &mut out,
+        &mut listeners,
+        &NoNotice,
+    )?;
+    stage.text = out.held().to_vec(alloc)?;
+    Ok(status)
+}
+
+// What of a run isn't as the row says; nothing where all is.
+fn wrong_of(
+    alloc: Global,
+    stage: &Stage,
+    before: &[u8],
+    row: &str,
+    status: &Status,
+) -> Result<&'static str, AllocError> {
+    if part(row, 2).parse::<u8>() != Ok(code(status)) {
+        return Ok("code");
+    }
+    if !is_line(&stage.text, before, part(row, 3)) {
+        return Ok("line");
+    }
+    if !tells(&stage.text, &words_of(alloc, status)?) {
+        return Ok("words of the fault");
+    }
+    if !has_files(alloc, stage, part(row, 4))? {
+        return Ok("files");
+    }
+    Ok("")
 }
 
 // Runs a row on the stage, and says what isn't as it has to be; nothing where all is.
@@ -146,33 +203,28 @@ fn wrong_part<R: Threads + Sync>(
         *stage = stage_of(alloc, part(row, 0))?;
     }
     let before = stage.text.clone()?;
-    let mut out = MemSink::new(alloc, stage.puts.clone()?);
-    let mut listeners: Vec<Box<dyn Listener>> = Vec::new(alloc);
-    listeners.push(Box::new(alloc, Lines::new(alloc))?)?;
-    listeners.push(Box::new(alloc, Totals::new(alloc))?)?;
-    let status = ran(
-        rt,
-        alloc,
-        part(row, 1),
-        &mut stage.shelf,
-        &mut out,
-        &mut listeners,
-        &NoNotice,
-    )?;
-    stage.text = out.held().to_vec(alloc)?;
-    if part(row, 2).parse::<u8>() != Ok(code(&status)) {
-        return Ok("code");
+    let status = run_line(rt, alloc, stage, part(row, 1))?;
+    wrong_of(alloc, stage, &before, row, &status)
+}
+
+// The same of the first row that doesn't come out as it says, with that row and the text.
+fn first_wrong_on<R: Threads + Sync>(
+    rt: &R,
+    alloc: Global,
+    stage: &mut Stage,
+    rows: &str,
+) -> Result<String, AllocError> {
+    for row in rows.lines() {
+        if row.is_empty() || row.starts_with('#') {
+            continue;
+        }
+        let wrong = wrong_part(rt, alloc, stage, row)?;
+        if !wrong.is_empty() {
+            let text = str::from_utf8(&stage.text).unwrap_or("no text");
+            return format!(in alloc; "{wrong} of: {row}: {text}");
+        }
     }
-    if !is_line(&stage.text, &before, part(row, 3)) {
-        return Ok("line");
-    }
-    if !tells(&stage.text, &words_of(alloc, &status)?) {
-        return Ok("words of the fault");
-    }
-    if !has_files(alloc, stage, part(row, 4))? {
-        return Ok("files");
-    }
-    Ok("")
+    Ok(String::new(alloc))
 }
 
 /// What is wrong with the first row that doesn't come out as it says, empty where all do. Lines that begin with `#` and
@@ -183,15 +235,5 @@ pub fn first_wrong<R: Threads + Sync>(
     rows: &str,
 ) -> Result<String, AllocError> {
     let mut stage = stage_of(alloc, "")?;
-    for row in rows.lines() {
-        if row.is_empty() || row.starts_with('#') {
-            continue;
-        }
-        let wrong = wrong_part(rt, alloc, &mut stage, row)?;
-        if !wrong.is_empty() {
-            let text = str::from_utf8(&stage.text).unwrap_or("no text");
-            return format!(in alloc; "{wrong} of: {row}: {text}");
-        }
-    }
-    Ok(String::new(alloc))
+    first_wrong_on(rt, alloc, &mut stage, rows)
 }

@@ -69,6 +69,18 @@ struct Ran {
     status: Status,
 }
 
+// What a row says that there is, twice, where these calls are to fail; nothing has run yet.
+fn set_up(alloc: Global, row: &str, fails: &str) -> Result<Ran, AllocError> {
+    let given = format!(in alloc; "{}, {fails}", part(row, 0))?;
+    let before = stage_of(alloc, &given)?;
+    let after = stage_of(alloc, &given)?;
+    Ok(Ran {
+        before,
+        after,
+        status: Status::Done,
+    })
+}
+
 // Runs the words of a row on what there is, where these calls fail.
 fn run_with<R: Threads + Sync>(
     rt: &R,
@@ -76,15 +88,9 @@ fn run_with<R: Threads + Sync>(
     row: &str,
     fails: &str,
 ) -> Result<Ran, AllocError> {
-    let given = format!(in alloc; "{}, {fails}", part(row, 0))?;
-    let before = stage_of(alloc, &given)?;
-    let mut after = stage_of(alloc, &given)?;
-    let status = run_on(rt, alloc, &mut after, part(row, 1), &OpenGate)?;
-    Ok(Ran {
-        before,
-        after,
-        status,
-    })
+    let mut ran = set_up(alloc, row, fails)?;
+    ran.status = run_on(rt, alloc, &mut ran.after, part(row, 1), &OpenGate)?;
+    Ok(ran)
 }
 
 // What has to stand after a run: the stored files up to the broken one are whole, so many bytes of that one are there, or else what was
@@ -180,40 +186,73 @@ struct Wanted<'a> {
     left: Left<'a>,
 }
 
-// What isn't as it has to be after a run where these calls fail; nothing where all is.
-fn wrong_part<R: Threads + Sync>(
-    rt: &R,
-    alloc: Global,
-    row: &str,
-    fails: &str,
-    whole: &Ran,
-    wanted: Wanted<'_>,
-) -> Result<&'static str, AllocError> {
-    let found = run_with(rt, alloc, row, fails)?;
+// What of a run isn't as it has to be; nothing where all is.
+fn wrong_part(found: &Ran, whole: &Ran, wanted: Wanted<'_>) -> &'static str {
     if found.status != wanted.status {
-        return Ok("status");
+        return "status";
     }
     if found.after.text.as_slice() != wanted.text {
-        return Ok("text");
+        return "text";
     }
     for name in ["a", "b", "c", "r"] {
         if found.after.shelf.bytes(name) != wanted_under(name, wanted.left, whole) {
-            return Ok("files");
+            return "files";
         }
     }
-    Ok("")
+    ""
 }
 
-// Fails the call of this kind and number, which is about this file, or which the run doesn't make: once where the line can be put, which the run
-// does but once, and once where it can't, so that half of it is there.
+// A row, and the call of a kind and a number that is to fail.
+#[derive(Clone, Copy)]
+struct Failing<'a> {
+    row: &'a str,
+    kind: &'a str,
+    call: usize,
+}
+
+// Runs a row where a call fails, and this put; says what isn't as it has to be.
+fn wrong_with<R: Threads + Sync>(
+    rt: &R,
+    alloc: Global,
+    failing: Failing<'_>,
+    put: u8,
+    whole: &Ran,
+    wanted: Wanted<'_>,
+) -> Result<&'static str, AllocError> {
+    let Failing { row, kind, call } = failing;
+    let fails = format!(in alloc; "{kind}={call}, puts={put}")?;
+    let found = run_with(rt, alloc, row, &fails)?;
+    Ok(wrong_part(&found, whole, wanted))
+}
+
+// The same where the line can be put, which a run does but once, and then where it can't, so that half of it is there.
+fn wrong_by_put<R: Threads + Sync>(
+    rt: &R,
+    alloc: Global,
+    failing: Failing<'_>,
+    whole: &Ran,
+    told: Wanted<'_>,
+) -> Result<&'static str, AllocError> {
+    let wrong = wrong_with(rt, alloc, failing, 1, whole, told)?;
+    if !wrong.is_empty() {
+        return Ok(wrong);
+    }
+    let untold = Wanted {
+        status: Status::WriteFault(Role::Text),
+        text: told.text.get(..told.text.len() / 2).unwrap_or(&[]),
+        left: told.left,
+    };
+    wrong_with(rt, alloc, failing, 0, whole, untold)
+}
+
+// Fails a call, which is about some file, or which the run doesn't make.
 fn wrong_at<R: Threads + Sync>(
     rt: &R,
     alloc: Global,
-    row: &str,
-    kind: &str,
-    call: usize,
+    failing: Failing<'_>,
     whole: &Ran,
 ) -> Result<&'static str, AllocError> {
+    let Failing { row, kind, call } = failing;
     let name = match kind {
         "reads" => part(row, 3).split_whitespace().nth(call),
         "creates" => part(row, 4).split_whitespace().nth(call),
@@ -223,41 +262,38 @@ fn wrong_at<R: Threads + Sync>(
         Some(name) => end_of(alloc, kind, name)?,
         None => (whole.status, whole.after.text.clone()?),
     };
-    let left = left_by(row, kind, call, name, whole);
     let told = Wanted {
         status,
         text: line.as_slice(),
-        left,
+        left: left_by(row, kind, call, name, whole),
     };
-    let fails = format!(in alloc; "{kind}={call}, puts=1")?;
-    let wrong = wrong_part(rt, alloc, row, &fails, whole, told)?;
-    if !wrong.is_empty() {
-        return Ok(wrong);
-    }
-    let untold = Wanted {
-        status: Status::WriteFault(Role::Text),
-        text: line.get(..line.len() / 2).unwrap_or(&[]),
-        left,
-    };
-    let fails = format!(in alloc; "{kind}={call}, puts=0")?;
-    wrong_part(rt, alloc, row, &fails, whole, untold)
+    wrong_by_put(rt, alloc, failing, whole, told)
 }
 
 // Fails each call of a row in turn, and the one behind the last; says what is wrong first.
-fn wrong_in<R: Threads + Sync>(rt: &R, alloc: Global, row: &str) -> Result<String, AllocError> {
-    let whole = run_with(rt, alloc, row, "")?;
-    if part(row, 2).parse::<u8>() != Ok(code(&whole.status)) {
-        return format!(in alloc; "code of: {row}");
-    }
+fn wrong_call<R: Threads + Sync>(
+    rt: &R,
+    alloc: Global,
+    row: &str,
+    whole: &Ran,
+) -> Result<String, AllocError> {
     for (kind, k) in [("reads", 3), ("creates", 4), ("appends", 5)] {
         for call in 0..=part(row, k).split_whitespace().count() {
-            let wrong = wrong_at(rt, alloc, row, kind, call, &whole)?;
+            let wrong = wrong_at(rt, alloc, Failing { row, kind, call }, whole)?;
             if !wrong.is_empty() {
                 return format!(in alloc; "{wrong} where {kind}={call} of: {row}");
             }
         }
     }
     Ok(String::new(alloc))
+}
+
+fn wrong_in<R: Threads + Sync>(rt: &R, alloc: Global, row: &str) -> Result<String, AllocError> {
+    let whole = run_with(rt, alloc, row, "")?;
+    if part(row, 2).parse::<u8>() != Ok(code(&whole.status)) {
+        return format!(in alloc; "code of: {row}");
+    }
+    wrong_call(rt, alloc, row, &whole)
 }
 
 #[test]

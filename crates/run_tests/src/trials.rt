@@ -23,11 +23,17 @@ build a MAP01 b --cert c
 
 const FULL: &str = "build a MAP01 full --cert k --budget full --workers 4";
 
-/// Builds that decide every pair, by some numbers of workers.
-const EXACT: &str = "\
-build a MAP01 e --cert d --exact --workers 1
-build a MAP01 e --cert d --exact --workers 5
-";
+/// Builds that decide every pair, by some numbers of workers, and the checks of what they make.
+const EXACT: [(&str, &str); 2] = [
+    (
+        "build a MAP01 e --cert d --exact --workers 1",
+        "check e MAP01 d",
+    ),
+    (
+        "build a MAP01 f --cert g --exact --workers 5",
+        "check f MAP01 g",
+    ),
+];
 
 /// What was tried: clear segments between two sectors, listed pairs, and changed certificates, those of version 3 apart.
 #[derive(Clone, Copy)]
@@ -47,8 +53,19 @@ fn is_done<R: Threads + Sync>(
     Ok(run_on(rt, alloc, stage, words, &OpenGate)? == Status::Done)
 }
 
-fn file_of(alloc: Global, stage: &Stage, name: &str) -> Result<Vec<u8>, AllocError> {
-    stage.shelf.bytes(name).unwrap_or(&[]).to_vec(alloc)
+// Whether a build is done, and the check of what it made.
+fn is_accepted<R: Threads + Sync>(
+    rt: &R,
+    alloc: Global,
+    stage: &mut Stage,
+    build: &str,
+    check: &str,
+) -> Result<bool, AllocError> {
+    Ok(is_done(rt, alloc, stage, build)? && is_done(rt, alloc, stage, check)?)
+}
+
+fn bytes_under<'a>(stage: &'a Stage, name: &str) -> &'a [u8] {
+    stage.shelf.bytes(name).unwrap_or(&[])
 }
 
 // Whether a table is the full one, but that its listed pairs are clear.
@@ -91,23 +108,44 @@ fn overset(alloc: Global, full: &[u8], sectors: usize) -> Result<Option<Vec<u8>>
     Ok(None)
 }
 
+// Puts the full table with a pair too many under `b`, unless each pair of different sectors is set.
+fn put_overset(alloc: Global, stage: &mut Stage, sectors: usize) -> Result<bool, AllocError> {
+    match overset(alloc, bytes_under(stage, "full"), sectors)? {
+        Some(wrong) => {
+            store(&mut stage.shelf, "b", &wrong).map_err(|_| AllocError)?;
+            Ok(true)
+        }
+        None => Ok(false),
+    }
+}
+
+// Puts the certificate under this name under `c`, with one of its bytes changed.
+fn put_changed(
+    alloc: Global,
+    stage: &mut Stage,
+    name: &str,
+    dice: &mut Dice,
+) -> Result<(), AllocError> {
+    let other = changed(alloc, bytes_under(stage, name), dice)?;
+    store(&mut stage.shelf, "c", &other).map_err(|_| AllocError)?;
+    Ok(())
+}
+
 // Tries small budgets: the checker accepts, and the table is the full one but for listed pairs.
 fn tried_budgets<R: Threads + Sync>(
     rt: &R,
     alloc: Global,
     stage: &mut Stage,
-    full: &[u8],
     sectors: usize,
     tally: &mut Tally,
 ) -> Result<&'static str, AllocError> {
     for words in BUILDS.lines() {
-        let built = is_done(rt, alloc, stage, words)?;
-        if !built || !is_done(rt, alloc, stage, "check b MAP01 c")? {
+        if !is_accepted(rt, alloc, stage, words, "check b MAP01 c")? {
             return Ok("refused");
         }
-        let (file, cert) = (file_of(alloc, stage, "b")?, file_of(alloc, stage, "c")?);
-        tally.listed = tally.listed.wrapping_add(listed_count(&cert));
-        if !agrees(&file, &cert, full, sectors) {
+        let (file, cert) = (bytes_under(stage, "b"), bytes_under(stage, "c"));
+        tally.listed = tally.listed.wrapping_add(listed_count(cert));
+        if !agrees(file, cert, bytes_under(stage, "full"), sectors) {
             return Ok("another table");
         }
     }
@@ -119,40 +157,33 @@ fn tried_exact<R: Threads + Sync>(
     rt: &R,
     alloc: Global,
     stage: &mut Stage,
-    full: &[u8],
 ) -> Result<&'static str, AllocError> {
-    let mut before: Option<Vec<u8>> = None;
-    for words in EXACT.lines() {
-        let built = is_done(rt, alloc, stage, words)?;
-        if !built || !is_done(rt, alloc, stage, "check e MAP01 d")? {
+    for (build, check) in EXACT {
+        if !is_accepted(rt, alloc, stage, build, check)? {
             return Ok("refused");
         }
-        if file_of(alloc, stage, "e")?.as_slice() != full {
-            return Ok("another exact table");
-        }
-        let cert = file_of(alloc, stage, "d")?;
-        if before.is_some_and(|other| other.as_slice() != cert.as_slice()) {
-            return Ok("another exact certificate");
-        }
-        before = Some(cert);
+    }
+    let full = bytes_under(stage, "full");
+    if bytes_under(stage, "e") != full || bytes_under(stage, "f") != full {
+        return Ok("another exact table");
+    }
+    if bytes_under(stage, "d") != bytes_under(stage, "g") {
+        return Ok("another exact certificate");
     }
     Ok("")
 }
 
-// Tries a wrong table by a certificate of which one byte is changed, and counts those that spell a certificate.
+// Tries a wrong table by the certificate under this name of which one byte is changed, and counts those that spell a certificate.
 fn tried_changes<R: Threads + Sync>(
     rt: &R,
     alloc: Global,
     stage: &mut Stage,
-    cert: &[u8],
+    name: &str,
     dice: &mut Dice,
     spelled: &mut usize,
 ) -> Result<&'static str, AllocError> {
     for _ in 0..40 {
-        let other = changed(alloc, cert, dice)?;
-        if store(&mut stage.shelf, "c", &other).is_err() {
-            return Ok("no memory");
-        }
+        put_changed(alloc, stage, name, dice)?;
         if is_done(rt, alloc, stage, "check b MAP01 c")? {
             return Ok("fooled");
         }
@@ -170,23 +201,47 @@ fn tried_wrong<R: Threads + Sync>(
     dice: &mut Dice,
     tally: &mut Tally,
 ) -> Result<&'static str, AllocError> {
-    let full = file_of(alloc, stage, "full")?;
-    let Some(wrong) = overset(alloc, &full, sectors)? else {
+    if !put_overset(alloc, stage, sectors)? {
         return Ok("");
-    };
-    if store(&mut stage.shelf, "b", &wrong).is_err() {
-        return Ok("no memory");
     }
-    let cert = file_of(alloc, stage, "k")?;
-    let told = tried_changes(rt, alloc, stage, &cert, dice, &mut tally.changed)?;
+    let told = tried_changes(rt, alloc, stage, "k", dice, &mut tally.changed)?;
     if !told.is_empty() {
         return Ok(told);
     }
-    let exact = file_of(alloc, stage, "d")?;
-    tried_changes(rt, alloc, stage, &exact, dice, &mut tally.exact)
+    tried_changes(rt, alloc, stage, "d", dice, &mut tally.exact)
 }
 
-// Tries the made map of one seed, and says what doesn't hold; nothing where all does.
+// Tries a made map on its stage, and says what doesn't hold; nothing where all does.
+fn tried_on<R: Threads + Sync>(
+    rt: &R,
+    alloc: Global,
+    made: &Rooms,
+    stage: &mut Stage,
+    dice: &mut Dice,
+    tally: &mut Tally,
+) -> Result<&'static str, AllocError> {
+    let sectors = made.sectors as usize;
+    if !is_done(rt, alloc, stage, FULL)? {
+        return Ok("unsound");
+    }
+    if !is_done(rt, alloc, stage, "check full MAP01 k")? {
+        return Ok("refused");
+    }
+    if !spares_sight(made, bytes_under(stage, "full"), dice, tally) {
+        return Ok("blind");
+    }
+    let wrong = tried_budgets(rt, alloc, stage, sectors, tally)?;
+    if !wrong.is_empty() {
+        return Ok(wrong);
+    }
+    let wrong = tried_exact(rt, alloc, stage)?;
+    if !wrong.is_empty() {
+        return Ok(wrong);
+    }
+    tried_wrong(rt, alloc, stage, sectors, dice, tally)
+}
+
+// Tries the made map of one seed.
 fn tried<R: Threads + Sync>(
     rt: &R,
     alloc: Global,
@@ -194,28 +249,9 @@ fn tried<R: Threads + Sync>(
     tally: &mut Tally,
 ) -> Result<&'static str, AllocError> {
     let made = made_rooms(alloc, seed)?;
-    let sectors = made.sectors as usize;
-    let mut dice = Dice::new(seed);
     let mut stage = stage_of(alloc, &format!(in alloc; "a=rooms:{seed}")?)?;
-    if !is_done(rt, alloc, &mut stage, FULL)? {
-        return Ok("unsound");
-    }
-    if !is_done(rt, alloc, &mut stage, "check full MAP01 k")? {
-        return Ok("refused");
-    }
-    let full = file_of(alloc, &stage, "full")?;
-    if !spares_sight(&made, &full, &mut dice, tally) {
-        return Ok("blind");
-    }
-    let wrong = tried_budgets(rt, alloc, &mut stage, &full, sectors, tally)?;
-    if !wrong.is_empty() {
-        return Ok(wrong);
-    }
-    let wrong = tried_exact(rt, alloc, &mut stage, &full)?;
-    if !wrong.is_empty() {
-        return Ok(wrong);
-    }
-    tried_wrong(rt, alloc, &mut stage, sectors, &mut dice, tally)
+    let mut dice = Dice::new(seed);
+    tried_on(rt, alloc, &made, &mut stage, &mut dice, tally)
 }
 
 #[test]
