@@ -5,11 +5,12 @@ ghost use Rattle.wad_dir.specs.Print.{print};
 ghost use Rattle.wad_dir.specs.declared.parts.Kind.TheVariants.{Pwad};
 ghost use Rattle.wad_dir.specs.WadRewrite.Lumps.{views};
 ghost use Rattle.map_maker.specs.Lines.{lines_of, sector_count};
-ghost use Rattle.map_maker.specs.Lumps.{doom_file, grid_file, hexen_file, linedefs_in, lumps_with, named, points_in, sidedefs_of, vertexes_of};
+ghost use Rattle.map_maker.specs.Lumps.{doom_file, grid_file, hexen_file, linedefs_from, linedefs_in, lumps_with, named, points_in, sidedefs_of, vertexes_of};
 
-use crate::lines::lines;
+use crate::lines::{Line, Spot, lines};
 use crate::lumps::{linedefs, sidedefs, vertexes, zeros};
 use crate::points::points;
+use indexmap::IndexSet;
 use map_lumps::hexen_lumps::to_hexen;
 use sight_names::{MapFormat, Memory};
 use std::alloc::{AllocError, Global};
@@ -108,6 +109,27 @@ fn sectors(n: usize) -> usize
     n * n + 2 * (n * (n - 1))
 }
 
+/// The lumps of these lines and of their points, and of so many sectors.
+fn parts_from(
+    alloc: Global,
+    points: &IndexSet<Spot>,
+    lines: &[Line],
+    sectors: usize,
+) -> Result<Parts, AllocError>
+    requires { sectors ≤ 972 }
+    ensures linedefs { IfOk result (λ parts. parts.linedefs.items ≡ linedefs_from points.now.keys 0 lines.now) }
+    ensures sidedefs { IfOk result (λ parts. parts.sidedefs.items ≡ sidedefs_of lines.now) }
+    ensures vertexes { IfOk result (λ parts. parts.vertexes.items ≡ vertexes_of points.now.keys) }
+    ensures sectors { IfOk result (λ parts. parts.sectors.items ≡ replicate (26 * sectors) 0) }
+{
+    Ok(Parts {
+        linedefs: linedefs(alloc, points, lines)?,
+        sidedefs: sidedefs(alloc, lines)?,
+        vertexes: vertexes(alloc, points.as_slice())?,
+        sectors: zeros(alloc, 26 * sectors)?,
+    })
+}
+
 #[tactic(auto, unfolding(crate::specs::Lumps::points_in, crate::specs::Lumps::linedefs_in))]
 fn parts_of(alloc: Global, n: usize) -> Result<Parts, AllocError>
     requires some { 1 ≤ n }
@@ -119,12 +141,7 @@ fn parts_of(alloc: Global, n: usize) -> Result<Parts, AllocError>
 {
     let lines = lines(alloc, n)?;
     let points = points(alloc, &lines)?;
-    Ok(Parts {
-        linedefs: linedefs(alloc, &points, &lines)?,
-        sidedefs: sidedefs(alloc, &lines)?,
-        vertexes: vertexes(alloc, points.as_slice())?,
-        sectors: zeros(alloc, 26 * sectors(n))?,
-    })
+    parts_from(alloc, &points, &lines, sectors(n))
 }
 
 /// The WAD of the map in Doom's format.
