@@ -21,7 +21,7 @@ use Rattle.sight_run.specs.Obeys.{AnswersAsked}
 use Rattle.sight_run.specs.Reading.{found_of}
 use Rattle.sight_run.specs.Run.{put_all}
 use Rattle.sight_run.specs.Words.{asked_of}
-use Rattle.sight_run.proofs.RunLaws.Stood.{asked_is, under_report}
+use Rattle.sight_run.proofs.Stood.{asked_is, under_report}
 use Rattle.program.specs.Words.{HoldsReport, LeavesReport, Reports, RunsWords, is_reported, listeners_where}
 
 module _ (words : List (List ℕ)) (files : Files) (before after : ShelfState) (old new : SinkState) (wad : Source) (name out report : List ℕ) (cert : Option (List ℕ)) (workers : ℕ) (method : Method)

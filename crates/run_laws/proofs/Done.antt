@@ -1,0 +1,79 @@
+-- How `build` and `all` end where no count of faults rose.
+use Rattle.std.proofs.Common.{◌≡◌, ◌⊎◌, inl, inr, ℕ, Bool, List, Option, Result, Err, refl, sym, subst}
+use Rattle.sight_names.specs.declared.names.Method.{Method}
+use Rattle.sight_names.specs.Groups.{HasClosedFaces}
+use Rattle.map_audit.proofs.AuditLemmas.{not_sound}
+use Rattle.shelf_io.specs.Shelf.{Files, ShelfState}
+use Rattle.shelf_io.specs.Sink.{SinkState}
+use Rattle.wad_dir.specs.Wad.{WadFile}
+use Rattle.map_answers.specs.declared.sight_status.status.Bound.TheVariants as bound
+use Rattle.map_answers.specs.declared.sight_status.status.Flaw.TheVariants as flaw
+use Rattle.map_answers.specs.declared.sight_status.status.Role.TheVariants as role
+use Rattle.map_answers.specs.declared.sight_status.status.Status.{Status}
+use Rattle.map_answers.specs.declared.sight_status.status.Status.TheVariants as status
+use Rattle.map_answers.specs.Input.{LocatedMap, OnFound}
+use Rattle.sight_run.specs.All.{AllCalls, MapsCall, OnRead}
+use Rattle.sight_run.specs.Build.{BuildCalls}
+use Rattle.sight_run.specs.Heard.{Heard}
+use Rattle.run_laws.specs.Laws.{AllIsDone, BuildIsDone, EndsAll, EndsBuild}
+use Rattle.sight_run.specs.Obeys.{AnswersAsked, IsAnswer}
+use Rattle.sight_run.specs.Run.{NothingRose, RunEnds, StatusCause}
+
+-- each status but Done and Memory is then a refusal that is called for
+Refuses : (List (List ℕ)) → Files → Heard → Status → Type 0
+Refuses words files heard s = (s ≡ status.Done) ⊎ ((s ≡ status.Memory) ⊎ IsAnswer words files heard (Err s))
+
+refuses : (words : List (List ℕ)) (files : Files) (heard : Heard) (before after : ShelfState) (o n : SinkState) (s : Status) → NothingRose before after o n → RunEnds words files heard before after o n s → StatusCause before after o n s → Refuses words files heard s
+unfolding Refuses
+refuses words files heard before after o n status.Done quiet ends cause = inl refl
+refuses words files heard before after o n status.Memory quiet ends cause = inr (inl refl)
+refuses words files heard before after o n (status.ReadFault k) quiet ends cause = absurd (quiet.shelf.reads cause.0)
+refuses words files heard before after o n (status.WriteFault role.Text) quiet ends cause = absurd (quiet.puts cause)
+refuses words files heard before after o n (status.WriteFault role.Wad) quiet ends cause = absurd (quiet.shelf.writes cause.0)
+refuses words files heard before after o n (status.WriteFault role.Cert) quiet ends cause = absurd (quiet.shelf.writes cause.0)
+refuses words files heard before after o n (status.WriteFault role.Report) quiet ends cause = absurd (quiet.shelf.writes cause.0)
+refuses words files heard before after o n (status.WriteFault role.Picture) quiet ends cause = absurd (quiet.shelf.writes cause.0)
+refuses words files heard before after o n (status.No k) quiet ends cause = inr (inr ends.ends.0.called)
+refuses words files heard before after o n status.Usage quiet ends cause = inr (inr ends.ends.0.called)
+refuses words files heard before after o n (status.NoFile k) quiet ends cause = inr (inr ends.ends.0.called)
+refuses words files heard before after o n (status.NotWad k) quiet ends cause = inr (inr ends.ends.0.called)
+refuses words files heard before after o n (status.NoMap k) quiet ends cause = inr (inr ends.ends.0.called)
+refuses words files heard before after o n (status.BadLump k) quiet ends cause = inr (inr ends.ends.0.called)
+refuses words files heard before after o n (status.Limit k) quiet ends cause = inr (inr ends.ends.0.called)
+refuses words files heard before after o n (status.BadMap k) quiet ends cause = inr (inr ends.ends.0.called)
+refuses words files heard before after o n status.SameName quiet ends cause = inr (inr ends.ends.0.called)
+
+-- ---- build
+
+module _ (name out : List ℕ) (asked report : Option (List ℕ)) (method : Method) (heard : Heard) (found : LocatedMap) where
+  of_sound : HasClosedFaces found.map → (s : Status) → BuildCalls name out asked report method heard found (Err s) → EndsBuild method found s
+  of_sound sound (status.BadMap (flaw.Line fault)) q = absurd (not_sound found.map fault q sound.ends)
+  of_sound sound (status.BadMap (flaw.Open side)) q = absurd (q.1.against (sound.closed side))
+  of_sound sound (status.Limit k) q = q
+  of_sound sound s q = absurd q
+
+pub build_is_done : BuildIsDone
+unfolding Refuses
+build_is_done words wad name out asked report workers method went found is_asked is_found sound well = elim (refuses words went.files went.heard went.before went.after went.sink.old went.sink.new went.status well.quiet well.ends well.cause) as (λ _. EndsBuild method found went.status) [
+  | inl e ↦ subst (EndsBuild method found) (sym e) tt
+  | inr (inl e) ↦ subst (EndsBuild method found) (sym e) tt
+  | inr (inr q) ↦ of_sound name out asked report method went.heard found sound went.status
+      (subst (λ (r : Result LocatedMap Status). OnFound r (BuildCalls name out asked report method went.heard) (Err went.status)) is_found (subst (λ r. AnswersAsked r went.files went.heard (Err went.status)) is_asked q))
+]
+
+-- ---- all
+
+of_wad : (out : List ℕ) (report : Option (List ℕ)) (large : Bool) (maps : List (List ℕ)) (method : Method) (w : WadFile) (s : Status) → MapsCall out report large maps method w (Err s) → EndsAll large maps method w s
+of_wad out report large maps method w (status.Limit bound.Lumps) q = q
+of_wad out report large maps method w (status.Limit bound.OutputBytes) q = q
+of_wad out report large maps method w s q = absurd q
+
+pub all_is_done : AllIsDone
+unfolding Refuses
+all_is_done words wad out only report workers method went w maps is_asked is_wad is_found well = elim (refuses words went.files went.heard went.before went.after went.sink.old went.sink.new went.status well.quiet well.ends well.cause) as (λ _. EndsAll wad.large maps method w went.status) [
+  | inl e ↦ subst (EndsAll wad.large maps method w) (sym e) tt
+  | inr (inl e) ↦ subst (EndsAll wad.large maps method w) (sym e) tt
+  | inr (inr q) ↦ of_wad out report wad.large maps method w went.status
+      (subst (λ (r : Result (List (List ℕ)) Status). OnRead r (λ ms. MapsCall out report wad.large ms method w) (Err went.status)) is_found
+      (subst (λ (r : Result WadFile Status). OnRead r (AllCalls out wad.large only report method) (Err went.status)) is_wad (subst (λ r. AnswersAsked r went.files went.heard (Err went.status)) is_asked q)))
+]

@@ -1,0 +1,145 @@
+-- The headline, over words and files alone: what the REJECT that `check` accepts, and the one that `build` writes, tell of sight.
+use Rattle.std.specs.Prelude.{◌≡◌, ◌⊎◌, ◌↔◌, ◌<◌, ℕ, List, [], ◌++◌, false, Option, Some, Ok, codes}
+use Rattle.std.specs.Option.{option_map}
+use Rattle.sight_names.specs.declared.names.Ask.TheVariants.{Enough, Full}
+use Rattle.sight_names.specs.declared.names.Budget.{Budget}
+use Rattle.sight_names.specs.declared.names.Method.{Method}
+use Rattle.sight_names.specs.declared.names.Method.TheVariants as how
+use Rattle.sight_names.specs.declared.names.Pair.{Pair}
+use Rattle.sight_names.specs.Enough.{IsBudgetOf}
+use Rattle.sight_names.specs.Groups.{IsListedByGroups}
+use Rattle.sight_names.specs.Map.{Map}
+use Rattle.sight_names.specs.Sees.{Sees}
+use Rattle.sight_names.specs.Table.{IsTable, Rejected}
+use Rattle.shelf_io.specs.Shelf.{Files, ShelfState}
+use Rattle.wad_dir.specs.Map.{same_name}
+use Rattle.cert_format.specs.declared.cert_groups.cert.AnyCert.TheVariants.{One, Two}
+use Rattle.certificates.specs.declared.certificate.Certificate.{Certificate}
+use Rattle.certificates.specs.declared.certificate.Certificate.TheVariants.{Listing, Exact}
+use Rattle.certificates.specs.Reading.{certificate_at}
+use Rattle.group_job.specs.Sectors.{AreListed}
+use Rattle.order_words.specs.declared.order.Order.TheVariants as order
+use Rattle.order_words.specs.declared.order.Source.{Source}
+use Rattle.order_words.specs.Words.{source_of}
+use Rattle.map_answers.specs.declared.sight_status.status.Status.TheVariants as status
+use Rattle.map_answers.specs.declared.counts.Counts.{Counts}
+use Rattle.map_answers.specs.Input.{LocatedMap}
+use Rattle.whole_wad.specs.Built.{ask_of}
+use Rattle.whole_wad.specs.Sizes.{sizes_of_map}
+use Rattle.sight_run.specs.Build.{build_line}
+use Rattle.sight_run.specs.Check.{reject_of}
+use Rattle.sight_run.specs.Heard.{Heard}
+use Rattle.run_laws.specs.Laws.{HasTableLength, KeepsLumps, Sinks}
+use Rattle.sight_run.specs.Reading.{found_of}
+use Rattle.sight_run.specs.Run.{RunEnds}
+use Rattle.sight_run.specs.Words.{asked_of}
+
+-- ---- what is said of a table
+
+-- The bytes are a table of the map's sectors. Two sectors whose bit is set don't see each other, and two whose bit is clear do, unless
+-- they are listed.
+pub record IsRightTable (m : Map) (table : List ℕ) (IsListed : ℕ → ℕ → Type 0) : Type 0 where
+  pub long : IsTable m.sectors table
+  pub blind : (a b : ℕ) → a < m.sectors → b < m.sectors → Rejected m.sectors table a b → ¬ Sees m a b
+  pub seen : (a b : ℕ) → a < m.sectors → b < m.sectors → ¬ Rejected m.sectors table a b → ¬ IsListed a b → Sees m a b
+
+-- ---- of which runs
+
+-- A run of these words over these files ended with Done, as `run` promises of it, and left those files.
+pub record WasDone (words : List (List ℕ)) (files stand : Files) : Type 0 where
+  pub heard : Heard
+  pub before : ShelfState
+  pub after : ShelfState
+  pub sink : Sinks
+  pub ends : RunEnds words files heard before after sink.old sink.new status.Done
+  pub left : after.files ≡ Some stand
+
+-- ---- `check`
+
+-- the pairs that a certificate lists: one of version 3 lists none
+abbrev pub listed_of : Certificate → List Pair
+listed_of (Listing (One c)) = c.listed
+listed_of (Listing (Two c sizes)) = c.listed
+listed_of (Exact c) = []
+
+-- The name finds a map in the WAD, and FILE spells a certificate of that map. The map's REJECT is right, but for the pairs that the
+-- certificate lists.
+pub record HasRightReject (wad : Source) (name cert : List ℕ) (files : Files) : Type 0 where
+  pub found : LocatedMap
+  pub is_found : found_of wad name files ≡ Ok found
+  pub bytes : List ℕ
+  pub stands : files cert ≡ Some bytes
+  pub given : Certificate
+  pub spelled : certificate_at (sizes_of_map found.map) bytes ≡ Ok given
+  pub right : IsRightTable found.map (reject_of found) (AreListed (listed_of given))
+
+-- so it is where a `check` was done
+abbrev pub CheckedIsRight : Type 0
+CheckedIsRight = (words : List (List ℕ)) (wad : Source) (name cert : List ℕ) (files stand : Files)
+    → asked_of words ≡ Ok (order.Check wad name cert) → WasDone words files stand → HasRightReject wad name cert files
+
+-- ---- `build`
+
+-- The name finds a map in the WAD, and by the same limits the same map in the WAD that stands under OUT. There its REJECT
+-- is right, but for the pairs whose groups are listed by this method: within its budget, or none where every pair is decided.
+pub record LeavesRightReject (wad : Source) (name out : List ℕ) (method : Method) (files stand : Files) : Type 0 where
+  pub found : LocatedMap
+  pub is_found : found_of wad name files ≡ Ok found
+  pub new : LocatedMap
+  pub is_new : found_of (source_of wad.large out) name stand ≡ Ok new
+  pub same : new.map ≡ found.map
+  pub allowed : Budget
+  pub is_allowed : IsBudgetOf found.map (ask_of method) allowed
+  pub right : IsRightTable found.map (reject_of new) (IsListedByGroups found.map allowed)
+  -- the bit of a listed pair is clear
+  pub clear : (a b : ℕ) → a < found.map.sectors → b < found.map.sectors → IsListedByGroups found.map allowed a b → ¬ Rejected found.map.sectors (reject_of new) a b
+  -- where every pair is decided, with a budget that is enough, and without any, no pair is listed: a bit is set exactly where the two
+  -- don't see each other
+  pub exact : (ask_of method ≡ Enough) ⊎ (ask_of method ≡ Full) → (a b : ℕ) → ¬ IsListedByGroups found.map allowed a b
+
+-- so it is where a `build` was done, by how many workers ever. The map isn't called REJECT
+abbrev pub BuiltIsRight : Type 0
+BuiltIsRight = (words : List (List ℕ)) (wad : Source) (name out : List ℕ) (cert report : Option (List ℕ)) (workers : ℕ) (method : Method) (files stand : Files)
+    → asked_of words ≡ Ok (order.Build wad name out cert report workers method) → same_name (codes "REJECT") name ≡ false
+    → WasDone words files stand → LeavesRightReject wad name out method files stand
+
+-- The name finds a map in the WAD, and by the same limits the same map in the WAD that stands under OUT. There a bit of its REJECT is set
+-- exactly where the two sectors don't see each other, and the line of the build counts no listed pair.
+pub record LeavesExactReject (wad : Source) (name out : List ℕ) (files stand : Files) (sink : Sinks) : Type 0 where
+  pub found : LocatedMap
+  pub is_found : found_of wad name files ≡ Ok found
+  pub new : LocatedMap
+  pub is_new : found_of (source_of wad.large out) name stand ≡ Ok new
+  pub same : new.map ≡ found.map
+  pub long : IsTable found.map.sectors (reject_of new)
+  pub bits : (a b : ℕ) → a < found.map.sectors → b < found.map.sectors → Rejected found.map.sectors (reject_of new) a b ↔ ¬ Sees found.map a b
+  pub seen : (a b : ℕ) → a < found.map.sectors → b < found.map.sectors → ¬ Rejected found.map.sectors (reject_of new) a b → Sees found.map a b
+  pub counts : Counts
+  pub none_listed : counts.listed ≡ 0
+  pub said : sink.new.held ≡ option_map (λ held. held ++ build_line name counts) sink.old.held
+
+-- So it is where a `build` that decides every pair was done. That a `check` of its certificate then says yes, with the same counts, is told
+-- of the builds by each method
+abbrev pub ExactIsRight : Type 0
+ExactIsRight = (words : List (List ℕ)) (wad : Source) (name out : List ℕ) (cert report : Option (List ℕ)) (workers : ℕ) (files stand : Files)
+    → asked_of words ≡ Ok (order.Build wad name out cert report workers how.Exact) → same_name (codes "REJECT") name ≡ false
+    → (done : WasDone words files stand) → LeavesExactReject wad name out files stand done.sink
+
+-- .. and all other lumps of the WAD under OUT are as they were
+abbrev pub BuildLeavesLumps : Type 0
+BuildLeavesLumps = (words : List (List ℕ)) (wad : Source) (name out : List ℕ) (cert report : Option (List ℕ)) (workers : ℕ) (method : Method) (files stand : Files)
+    → asked_of words ≡ Ok (order.Build wad name out cert report workers method) → same_name (codes "REJECT") name ≡ false
+    → WasDone words files stand → KeepsLumps wad name out files stand HasTableLength
+
+-- ---- two builds
+
+-- the two sinks got one line
+abbrev pub GotOneLine : Sinks → Sinks → Type 0
+GotOneLine one other = (line : List ℕ) × (one.new.held ≡ option_map (λ held. held ++ line) one.old.held) × (other.new.held ≡ option_map (λ held. held ++ line) other.old.held)
+
+-- Two builds of one map by one method, by how many workers ever, leave the same bytes under OUT and put the same line. Certificates
+-- and reports may be asked for or not.
+abbrev pub BuildsLeaveOneWad : Type 0
+BuildsLeaveOneWad = (words others : List (List ℕ)) (wad : Source) (name out : List ℕ) (cert report other_cert other_report : Option (List ℕ)) (workers other_workers : ℕ) (method : Method) (files stand other_stand : Files)
+    → asked_of words ≡ Ok (order.Build wad name out cert report workers method) → asked_of others ≡ Ok (order.Build wad name out other_cert other_report other_workers method)
+    → (one : WasDone words files stand) (other : WasDone others files other_stand) → (stand out ≡ other_stand out) × GotOneLine one.sink other.sink

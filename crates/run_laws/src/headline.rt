@@ -1,0 +1,32 @@
+//! The headline: what the REJECT that `check` accepts, and the one that `build` writes, tell of sight.
+
+ghost use Rattle.run_laws.specs.Headline.{BuildLeavesLumps, BuildsLeaveOneWad, BuiltIsRight, CheckedIsRight, ExactIsRight};
+
+/// Where a `check` ended with Done, two sectors whose bit is set in the map's REJECT don't see each other, and two whose bit
+/// is clear do, unless the certificate in FILE lists their pair.
+pub fn checked_is_right()
+    ensures { CheckedIsRight }
+{}
+
+/// Where a `build` ended with Done, the map's name finds the same map in the WAD under OUT. In its REJECT there a bit is set
+/// where the two sectors don't see each other, and clear where they do or where both budgets ran out.
+pub fn built_is_right()
+    ensures { BuiltIsRight }
+{}
+
+/// Where a `build` that decides every pair ended with Done, a bit is set in the REJECT under OUT exactly where the two sectors
+/// don't see each other, and its line counts no listed pair.
+pub fn exact_is_right()
+    ensures { ExactIsRight }
+{}
+
+/// And every other lump of the WAD under OUT has its name and its bytes, in order.
+pub fn build_leaves_lumps()
+    ensures { BuildLeavesLumps }
+{}
+
+/// Where two builds of one map by one method ended with Done, by how many workers ever, they left the same bytes under
+/// OUT and put the same line.
+pub fn builds_leave_one_wad()
+    ensures { BuildsLeaveOneWad }
+{}

@@ -1,9 +1,0 @@
-pub mod Totals
-pub mod Stood
-pub mod Keeping
-pub mod Drawing
-pub mod Checked
-pub mod AllWritten
-pub mod Done
-pub mod Room
-pub mod RightTables
