@@ -1,5 +1,5 @@
 -- What `all` makes of a map is what `build` makes of it, and what the WAD that it wrote keeps of the one that was read.
-use Rattle.std.proofs.Common.{◌≡◌, ◌*◌, ℕ, Bool, List, [], ◌∷◌, Contains, Some, None, Result, Ok, Err, refl, sym, ap, ◌∙◌, subst}
+use Rattle.std.proofs.Common.{◌≡◌, ◌*◌, ◌^◌, ◌<◌, ℕ, Bool, List, [], ◌∷◌, length, Contains, Option, Some, None, Result, Ok, Err, refl, sym, ap, ◌∙◌, subst}
 use Rattle.std.specs.Int.{div_ceil}
 use Rattle.std.specs.List.{AllByRecursion}
 use Rattle.std.proofs.lemmas.Option.{slice_get-get_or}
@@ -15,12 +15,13 @@ use Rattle.wad_dir.specs.Wad.{WadFile, names_of, wad_of}
 use Rattle.wad_dir.proofs.Eight.{HasNames, names_read, names_rewritten}
 use Rattle.wad_dir.proofs.WadRewrite.Reading.{printed_reads}
 use Rattle.wad_dir.specs.declared.all_maps.parts.Change.{Change}
-use Rattle.wad_dir.specs.AllMaps.All.{HasInOrder, IsAll, names_changed, with_all}
+use Rattle.wad_dir.specs.AllMaps.All.{HasInOrder, HasReject, IsAll, names_changed, with_all}
 use Rattle.wad_dir.proofs.AllMaps.InOrder.{in_order_through}
 use Rattle.wad_dir.specs.AllMaps.Maps.{maps_of}
 use Rattle.wad_dir.specs.AllMaps.Names.{word_of}
 use Rattle.wad_dir.proofs.AllMaps.Lasting.{each_table_is_there}
 use Rattle.wad_dir.proofs.AllMaps.Merging.{all_spliced, each_change_is_made}
+use Rattle.wad_dir.specs.AllMaps.Spliced.{spliced}
 use Rattle.order_words.specs.declared.order.Order.TheVariants as order
 use Rattle.order_words.specs.declared.order.Source.{Source}
 use Rattle.map_answers.specs.declared.sight_status.status.Status.{Status}
@@ -33,26 +34,28 @@ use Rattle.whole_wad.specs.Report.{report_of}
 use Rattle.whole_wad.specs.Tables.{Gets}
 use Rattle.whole_wad.proofs.Changing.{changed_in_order}
 use Rattle.whole_wad.proofs.OneOutcome.{one_got}
-use Rattle.sight_run.specs.All.{AllCalls, MapsCall, OnRead, maps_in, wad_in}
+use Rattle.sight_run.specs.All.{AllCalls, MapsCall, OnRead, ShowsAll, maps_in, wad_in}
 use Rattle.sight_run.specs.Build.{wad_output}
 use Rattle.run_laws.specs.Laws.{AllIsAsBuild, AllKeepsLumps, HasLengthOf, KeepsAllLumps, table_built}
 use Rattle.sight_run.specs.Obeys.{AnswersAsked}
 use Rattle.sight_run.specs.Reading.{found_of, of_fetch}
 use Rattle.sight_run.specs.Run.{put_all}
+use Rattle.sight_run.specs.Words.{asked_of}
 use Rattle.run_laws.proofs.Keeping.{stored}
 use Rattle.sight_run.proofs.Round.{passes, same_ok, was_found, was_wad}
 use Rattle.sight_run.proofs.Stood.{before_report, of_words, out_apart}
 use Rattle.sight_run.proofs.Whole.{asked_are_maps}
+use Rattle.run_laws.proofs.SameMaps.{HasSameMap, each_map_is_there}
 
 -- ---- one WAD, and one map of a name
 
 -- the bytes that were fetched, and the WAD that they are
-record IsFetched (wad : List ℕ) (files : Files) (w : WadFile) : Type 0 where
-  bytes : List ℕ
-  fetched : of_fetch (content_of (files wad) MOST_BYTES) ≡ Ok bytes
-  read : wad_of bytes ≡ Ok w
+pub record IsFetched (wad : List ℕ) (files : Files) (w : WadFile) : Type 0 where
+  pub bytes : List ℕ
+  pub fetched : of_fetch (content_of (files wad) MOST_BYTES) ≡ Ok bytes
+  pub read : wad_of bytes ≡ Ok w
 
-fetched_wad : (wad : List ℕ) (files : Files) (w : WadFile) → wad_in wad files ≡ Ok w → IsFetched wad files w
+pub fetched_wad : (wad : List ℕ) (files : Files) (w : WadFile) → wad_in wad files ≡ Ok w → IsFetched wad files w
 unfolding wad_in
 fetched_wad wad files w h = let p = passes (of_fetch (content_of (files wad) MOST_BYTES)) (λ (b : List ℕ). of_wad (wad_of b)) w h in record { bytes = p.x; fetched = p.step; read = was_wad (wad_of p.x) w p.rest }
 
@@ -60,7 +63,7 @@ named_by : Bool → WadFile → Result MapSpot MapFault → Result Map Status
 named_by large w r = of_spot r >>= (λ s. map_at large w s)
 
 -- the map that was found is the one of its name in the WAD
-named_there : (wad : Source) (name : List ℕ) (files : Files) (w : WadFile) (found : LocatedMap) → wad_in wad.file files ≡ Ok w → found_of wad name files ≡ Ok found → map_named wad.large w name ≡ Ok found.map
+pub named_there : (wad : Source) (name : List ℕ) (files : Files) (w : WadFile) (found : LocatedMap) → wad_in wad.file files ≡ Ok w → found_of wad name files ≡ Ok found → map_named wad.large w name ≡ Ok found.map
 unfolding found_of map_named named_by
 named_there wad name files w found is_wad is_found =
     let a = fetched_wad wad.file files w is_wad in
@@ -102,19 +105,48 @@ has_length (Ok m) method (Ok made) h = h.is_built.table_is_whole.len ∙ ap (λ 
 has_length (Ok m) method (Err s) h = tt
 has_length (Err s) method made h = tt
 
+-- the WAD that stands under OUT: each table is the REJECT of its map, whose four lumps are as they were
+pub record WasWritten (out : List ℕ) (w : WadFile) (outcomes : List MapOutcome) (stand : Files) : Type 0 where
+  pub bytes : List ℕ
+  pub stands : stand out ≡ Some bytes
+  pub short : length bytes < 2 ^ 31
+  pub new : WadFile
+  pub read : wad_of bytes ≡ Ok new
+  pub made : IsAll w (changes_of outcomes) new
+  pub tables : AllByRecursion (λ (c : Change). HasReject new c.name c.table) (changes_of outcomes)
+  pub same : AllByRecursion (λ (c : Change). HasSameMap w new c.name) (changes_of outcomes)
+  pub lumps : new.lumps ≡ spliced (names_of w) w.lumps 0 (changes_of outcomes)
+
+pub was_written : (words : List (List ℕ)) (wad : Source) (out : List ℕ) (only : Option (List (List ℕ))) (report : Option (List ℕ)) (workers : ℕ) (method : Method) (files : Files) (answer : Answer) (w : WadFile) (maps : List (List ℕ))
+    → asked_of words ≡ Ok (order.All wad out only report workers method) → wad_in wad.file files ≡ Ok w → maps_in (names_of w) only ≡ Ok maps
+    → (q : ShowsAll out report wad.large maps method w answer) → WasWritten out w q.outcomes (put_all files answer.writes)
+was_written words wad out only report workers method files answer w maps is_asked e f q =
+    let cs = changes_of q.outcomes in
+    let among : HasInOrder (maps_of (names_of w)) (names_changed cs) =
+    in_order_through (maps_of (names_of w)) maps (names_changed cs) (asked_are_maps (names_of w) only maps f)
+    (subst (λ (ms : List (List ℕ)). HasInOrder ms (names_changed cs)) q.are.each (changed_in_order q.outcomes)) in
+    let made : IsAll w cs (with_all w cs) = each_change_is_made w cs among in
+    let old = fetched_wad wad.file files w e in
+    let printed = printed_reads (with_all w cs) q.bytes (names_all w (with_all w cs) cs made (names_read old.bytes w old.read)) q.made in
+    record {
+      bytes = q.bytes;
+      stands = ap (λ (a : Answer). put_all files a.writes out) q.is ∙ before_report files (wad_output out q.bytes ∷ []) report (report_of q.outcomes) out (out_apart wad.file out None report (of_words words (order.All wad out only report workers method) is_asked)).1 ∙ stored files out q.bytes;
+      short = printed.short;
+      new = with_all w cs;
+      read = printed.read;
+      made = made;
+      tables = each_table_is_there w cs among;
+      same = each_map_is_there w cs among;
+      lumps = ap (λ (x : WadFile). x.lumps) (all_spliced w cs among);
+    }
+
 pub all_keeps_lumps : AllKeepsLumps
 all_keeps_lumps words wad out only report workers method files heard answer is_asked h = on (wad_in wad.file files) refl (subst (λ r. AnswersAsked r files heard (Ok answer)) is_asked h)
   where
     of_maps : (w : WadFile) (r : Result (List (List ℕ)) Status) → wad_in wad.file files ≡ Ok w → maps_in (names_of w) only ≡ r → OnRead r (λ maps. MapsCall out report wad.large maps method w) (Ok answer) → KeepsAllLumps wad out only method files (put_all files answer.writes)
     of_maps w (Err s) e f q = absurd cc
     of_maps w (Ok maps) e f q =
-        let cs = changes_of q.outcomes in
-        let among : HasInOrder (maps_of (names_of w)) (names_changed cs) =
-        in_order_through (maps_of (names_of w)) maps (names_changed cs) (asked_are_maps (names_of w) only maps f)
-        (subst (λ (ms : List (List ℕ)). HasInOrder ms (names_changed cs)) q.are.each (changed_in_order q.outcomes)) in
-        let made : IsAll w cs (with_all w cs) = each_change_is_made w cs among in
-        let old = fetched_wad wad.file files w e in
-        let printed = printed_reads (with_all w cs) q.bytes (names_all w (with_all w cs) cs made (names_read old.bytes w old.read)) q.made in
+        let x = was_written words wad out only report workers method files answer w maps is_asked e f q in
         record {
           w = w;
           was = e;
@@ -123,14 +155,14 @@ all_keeps_lumps words wad out only report workers method files heard answer is_a
           outcomes = q.outcomes;
           are = q.are;
           lengths = all_so (ComesOf w wad.large method) (λ (o : MapOutcome). HasLengthOf (map_named wad.large w (word_of o.name)) o.made) q.outcomes (λ o k. has_length (map_named wad.large w (word_of o.name)) method o.made k) q.are.comes;
-          bytes = q.bytes;
-          stands = ap (λ (a : Answer). put_all files a.writes out) q.is ∙ before_report files (wad_output out q.bytes ∷ []) report (report_of q.outcomes) out (out_apart wad.file out None report (of_words words (order.All wad out only report workers method) is_asked)).1 ∙ stored files out q.bytes;
-          short = printed.short;
-          new = with_all w cs;
-          read = printed.read;
-          made = made;
-          tables = each_table_is_there w cs among;
-          lumps = ap (λ (x : WadFile). x.lumps) (all_spliced w cs among);
+          bytes = x.bytes;
+          stands = x.stands;
+          short = x.short;
+          new = x.new;
+          read = x.read;
+          made = x.made;
+          tables = x.tables;
+          lumps = x.lumps;
         }
 
     on : (r : Result WadFile Status) → wad_in wad.file files ≡ r → OnRead r (AllCalls out wad.large only report method) (Ok answer) → KeepsAllLumps wad out only method files (put_all files answer.writes)

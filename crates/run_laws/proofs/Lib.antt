@@ -6,3 +6,5 @@ pub mod AllWritten
 pub mod Done
 pub mod Room
 pub mod RightTables
+pub mod AllRight
+pub mod SameMaps

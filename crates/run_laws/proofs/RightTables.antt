@@ -49,7 +49,7 @@ use Rattle.whole_wad.specs.Built.{IsBuiltOf, ask_of}
 use Rattle.whole_wad.specs.Sizes.{sizes_of_map}
 use Rattle.sight_run.specs.Build.{BuildCalls, ShowsBuild}
 use Rattle.sight_run.specs.Check.{CheckCalls, CheckInput, IsTableOf, IsVerdictOn, OnCheckInput, cert_in, check_input, of_cert_fetch, of_length, of_reading, reject_of}
-use Rattle.run_laws.specs.Headline.{BuildLeavesLumps, BuildsLeaveOneWad, BuiltIsRight, CheckedIsRight, ExactIsRight, HasRightReject, IsRightTable, LeavesExactReject, LeavesRightReject, WasDone, listed_of}
+use Rattle.run_laws.specs.Headline.{BuildLeavesLumps, BuildsLeaveOneWad, BuiltIsRight, CheckedIsRight, ExactIsRight, HasRightReject, IsRightTable, LeavesExactReject, LeavesExactTable, LeavesRightReject, WasDone, listed_of}
 use Rattle.sight_run.specs.Heard.{Heard}
 use Rattle.run_laws.specs.Laws.{HasTableLength, KeepsLumps, Sinks}
 use Rattle.sight_run.specs.Obeys.{AnswersAsked}
@@ -66,7 +66,7 @@ use Rattle.sight_run.proofs.Stood.{bytes_of, of_words}
 
 -- ---- what a run that was done answered
 
-was_answered : (words : List (List ℕ)) (files stand : Files) (done : WasDone words files stand) → EndsDone words files stand done.heard done.sink
+pub was_answered : (words : List (List ℕ)) (files stand : Files) (done : WasDone words files stand) → EndsDone words files stand done.heard done.sink
 was_answered words files stand done = ends_done words files stand done.heard done.before done.after done.sink done.ends done.left
 
 -- ---- what `check` read
@@ -231,7 +231,47 @@ module _ (m : Map) (method : Method) (built : Built) (is : IsBuiltOf m method bu
 
 -- ---- what a build left
 
-found_there : (large : Bool) (name out bytes : List ℕ) (stand : Files) (found : LocatedMap) → stand out ≡ Some bytes → length bytes < 2 ^ 31 → found_in large name bytes ≡ Ok found → found_of (source_of large out) name stand ≡ Ok found
+-- what a table that was built tells where it is the REJECT of the same map under OUT
+pub leaves_right : (wad : Source) (name out : List ℕ) (method : Method) (files stand : Files) (found new : LocatedMap) → found_of wad name files ≡ Ok found → found_of (source_of wad.large out) name stand ≡ Ok new → new.map ≡ found.map
+    → (built : Built) → IsBuiltOf found.map method built → reject_of new ≡ built.table.bytes → LeavesRightReject wad name out method files stand
+leaves_right wad name out method files stand found new is is_new same built is_built reads =
+    let allowed : Budget = is_built.decided.budget in
+    record {
+      found = found;
+      is_found = is;
+      new = new;
+      is_new = is_new;
+      same = same;
+      allowed = allowed;
+      is_allowed = is_built.decided.is_budget;
+      right = subst (λ (bs : List ℕ). IsRightTable found.map bs (IsListedByGroups found.map allowed)) (sym reads) (right_built found.map method built is_built);
+      clear = λ a b la lb l. subst (λ (bs : List ℕ). ¬ Rejected found.map.sectors bs a b) (sym reads) (clear_built found.map method built is_built a b la lb l);
+      exact = none_built found.map method built is_built;
+    }
+
+-- where every pair is decided a bit tells of each two sectors
+pub leaves_exact : (wad : Source) (name out : List ℕ) (files stand : Files) → LeavesRightReject wad name out how.Exact files stand → LeavesExactTable wad name out files stand
+leaves_exact wad name out files stand right =
+    let none = right.exact (inr refl) in
+    record {
+      found = right.found;
+      is_found = right.is_found;
+      new = right.new;
+      is_new = right.is_new;
+      same = right.same;
+      long = right.right.long;
+      bits = λ a b la lb. (right.right.blind a b la lb, λ unseen. set_bit a b (λ clear. unseen (right.right.seen a b la lb clear (none a b))));
+      seen = λ a b la lb clear. right.right.seen a b la lb clear (none a b);
+    }
+  where
+    -- a bit that isn't clear is set
+    set_bit : (a b : ℕ) → ¬ ¬ Rejected right.found.map.sectors (reject_of right.new) a b → Rejected right.found.map.sectors (reject_of right.new) a b
+    set_bit a b h = elim (same_or_not (table_bit (reject_of right.new) (a * right.found.map.sectors + b)) 1) as (λ _. Rejected right.found.map.sectors (reject_of right.new) a b) [
+      | inl set ↦ set
+      | inr clear ↦ absurd (h clear)
+    ]
+
+pub found_there : (large : Bool) (name out bytes : List ℕ) (stand : Files) (found : LocatedMap) → stand out ≡ Some bytes → length bytes < 2 ^ 31 → found_in large name bytes ≡ Ok found → found_of (source_of large out) name stand ≡ Ok found
 unfolding found_of
 found_there large name out bytes stand found there short is = wad_fetched large (stand out) name bytes found there short is
 
@@ -245,20 +285,7 @@ module _ (wad : Source) (name out : List ℕ) (cert report : Option (List ℕ)) 
       let old = bytes_of wad name files found is in
       let table : List ℕ = shows.built.table.bytes in
       let again = found_again wad.large name old.bytes table shows.bytes found old.are other shows.made in
-      let reads : table ≡ reject_of (found_then found table) = sym again.reject in
-      let allowed : Budget = shows.is_built.decided.budget in
-      record {
-        found = found;
-        is_found = is;
-        new = found_then found table;
-        is_new = found_there wad.large name out shows.bytes stand (found_then found table) wad_stands again.short again.again;
-        same = refl;
-        allowed = allowed;
-        is_allowed = shows.is_built.decided.is_budget;
-        right = subst (λ (bs : List ℕ). IsRightTable found.map bs (IsListedByGroups found.map allowed)) reads (right_built found.map method shows.built shows.is_built);
-        clear = λ a b la lb l. subst (λ (bs : List ℕ). ¬ Rejected found.map.sectors bs a b) reads (clear_built found.map method shows.built shows.is_built a b la lb l);
-        exact = none_built found.map method shows.built shows.is_built;
-      }
+      leaves_right wad name out method files stand found (found_then found table) is (found_there wad.large name out shows.bytes stand (found_then found table) wad_stands again.short again.again) refl shows.built shows.is_built again.reject
 
 pub built_is_right : BuiltIsRight
 built_is_right words wad name out cert report workers method files stand asked other done =
@@ -275,29 +302,12 @@ built_is_right words wad name out cert report workers method files stand asked o
 -- what a build that decides every pair left
 module _ (wad : Source) (name out : List ℕ) (cert report : Option (List ℕ)) (files stand : Files) (heard : Heard) (sink : Sinks) (found : LocatedMap) (answer : Answer) (apart : has_twice (wad.file ∷ out ∷ (given cert ++ given report)) ≡ false) (shows : ShowsBuild name out cert report how.Exact found heard answer) (left : stand ≡ put_all files answer.writes) where
   exact_left : found_of wad name files ≡ Ok found → same_name (codes "REJECT") name ≡ false → sink.new.held ≡ option_map (λ held. held ++ answer.line) sink.old.held → LeavesExactReject wad name out files stand sink
-  exact_left is other said =
-      let right = right_left wad name out cert report how.Exact files stand heard found answer apart shows left is other in
-      let none = right.exact (inr refl) in
-      record {
-        found = right.found;
-        is_found = right.is_found;
-        new = right.new;
-        is_new = right.is_new;
-        same = right.same;
-        long = right.right.long;
-        bits = λ a b la lb. (right.right.blind a b la lb, λ unseen. set_bit right.found.map right.new a b (λ clear. unseen (right.right.seen a b la lb clear (none a b))));
-        seen = λ a b la lb clear. right.right.seen a b la lb clear (none a b);
-        counts = counts_with shows.built.table (length shows.built.listed);
-        none_listed = ap length shows.is_built.by_method.none_listed;
-        said = said ∙ ap (λ (l : List ℕ). option_map (λ held. held ++ l) sink.old.held) (ap (λ (a : Answer). a.line) shows.is);
-      }
-    where
-      -- a bit that isn't clear is set
-      set_bit : (m : Map) (new : LocatedMap) (a b : ℕ) → ¬ ¬ Rejected m.sectors (reject_of new) a b → Rejected m.sectors (reject_of new) a b
-      set_bit m new a b h = elim (same_or_not (table_bit (reject_of new) (a * m.sectors + b)) 1) as (λ _. Rejected m.sectors (reject_of new) a b) [
-        | inl set ↦ set
-        | inr clear ↦ absurd (h clear)
-      ]
+  exact_left is other said = record {
+    table = leaves_exact wad name out files stand (right_left wad name out cert report how.Exact files stand heard found answer apart shows left is other);
+    counts = counts_with shows.built.table (length shows.built.listed);
+    none_listed = ap length shows.is_built.by_method.none_listed;
+    said = said ∙ ap (λ (l : List ℕ). option_map (λ held. held ++ l) sink.old.held) (ap (λ (a : Answer). a.line) shows.is);
+  }
 
 pub exact_is_right : ExactIsRight
 exact_is_right words wad name out cert report workers files stand asked other done =

@@ -1,5 +1,6 @@
--- The headline, over words and files alone: what the REJECT that `check` accepts, and the one that `build` writes, tell of sight.
-use Rattle.std.specs.Prelude.{◌≡◌, ◌⊎◌, ◌↔◌, ◌<◌, ℕ, List, [], ◌++◌, false, Option, Some, Ok, codes}
+-- The headline, over words and files alone: what the REJECT that `check` accepts, and those that `build` and `all` write, tell of sight.
+use Rattle.std.specs.Prelude.{◌≡◌, ◌⊎◌, ◌↔◌, ◌<◌, ℕ, List, [], ◌++◌, length, map, false, Option, Some, Ok, IfOk, IfSome, IsOk, codes}
+use Rattle.std.specs.List.{AllByRecursion}
 use Rattle.std.specs.Option.{option_map}
 use Rattle.sight_names.specs.declared.names.Ask.TheVariants.{Enough, Full}
 use Rattle.sight_names.specs.declared.names.Budget.{Budget}
@@ -7,12 +8,14 @@ use Rattle.sight_names.specs.declared.names.Method.{Method}
 use Rattle.sight_names.specs.declared.names.Method.TheVariants as how
 use Rattle.sight_names.specs.declared.names.Pair.{Pair}
 use Rattle.sight_names.specs.Enough.{IsBudgetOf}
-use Rattle.sight_names.specs.Groups.{IsListedByGroups}
+use Rattle.sight_names.specs.Groups.{HasClosedFaces, IsListedByGroups}
 use Rattle.sight_names.specs.Map.{Map}
 use Rattle.sight_names.specs.Sees.{Sees}
 use Rattle.sight_names.specs.Table.{IsTable, Rejected}
 use Rattle.shelf_io.specs.Shelf.{Files, ShelfState}
+use Rattle.wad_dir.specs.AllMaps.Names.{word_of}
 use Rattle.wad_dir.specs.Map.{same_name}
+use Rattle.wad_dir.specs.Wad.{WadFile, names_of}
 use Rattle.cert_format.specs.declared.cert_groups.cert.AnyCert.TheVariants.{One, Two}
 use Rattle.certificates.specs.declared.certificate.Certificate.{Certificate}
 use Rattle.certificates.specs.declared.certificate.Certificate.TheVariants.{Listing, Exact}
@@ -24,8 +27,13 @@ use Rattle.order_words.specs.Words.{source_of}
 use Rattle.map_answers.specs.declared.sight_status.status.Status.TheVariants as status
 use Rattle.map_answers.specs.declared.counts.Counts.{Counts}
 use Rattle.map_answers.specs.Input.{LocatedMap}
+use Rattle.whole_wad.specs.declared.outcomes.MapOutcome.{MapOutcome}
+use Rattle.whole_wad.specs.declared.tables.MapTable.{MapTable}
 use Rattle.whole_wad.specs.Built.{ask_of}
+use Rattle.whole_wad.specs.Outcomes.{changes_of, refusals_of}
+use Rattle.whole_wad.specs.Report.{report_of}
 use Rattle.whole_wad.specs.Sizes.{sizes_of_map}
+use Rattle.sight_run.specs.All.{maps_in, tally_line, wad_in}
 use Rattle.sight_run.specs.Build.{build_line}
 use Rattle.sight_run.specs.Check.{reject_of}
 use Rattle.sight_run.specs.Heard.{Heard}
@@ -104,8 +112,8 @@ BuiltIsRight = (words : List (List ℕ)) (wad : Source) (name out : List ℕ) (c
     → WasDone words files stand → LeavesRightReject wad name out method files stand
 
 -- The name finds a map in the WAD, and by the same limits the same map in the WAD that stands under OUT. There a bit of its REJECT is set
--- exactly where the two sectors don't see each other, and the line of the build counts no listed pair.
-pub record LeavesExactReject (wad : Source) (name out : List ℕ) (files stand : Files) (sink : Sinks) : Type 0 where
+-- exactly where the two sectors don't see each other.
+pub record LeavesExactTable (wad : Source) (name out : List ℕ) (files stand : Files) : Type 0 where
   pub found : LocatedMap
   pub is_found : found_of wad name files ≡ Ok found
   pub new : LocatedMap
@@ -114,6 +122,10 @@ pub record LeavesExactReject (wad : Source) (name out : List ℕ) (files stand :
   pub long : IsTable found.map.sectors (reject_of new)
   pub bits : (a b : ℕ) → a < found.map.sectors → b < found.map.sectors → Rejected found.map.sectors (reject_of new) a b ↔ ¬ Sees found.map a b
   pub seen : (a b : ℕ) → a < found.map.sectors → b < found.map.sectors → ¬ Rejected found.map.sectors (reject_of new) a b → Sees found.map a b
+
+-- .. and the line of the build counts no listed pair
+pub record LeavesExactReject (wad : Source) (name out : List ℕ) (files stand : Files) (sink : Sinks) : Type 0 where
+  pub table : LeavesExactTable wad name out files stand
   pub counts : Counts
   pub none_listed : counts.listed ≡ 0
   pub said : sink.new.held ≡ option_map (λ held. held ++ build_line name counts) sink.old.held
@@ -143,3 +155,35 @@ abbrev pub BuildsLeaveOneWad : Type 0
 BuildsLeaveOneWad = (words others : List (List ℕ)) (wad : Source) (name out : List ℕ) (cert report other_cert other_report : Option (List ℕ)) (workers other_workers : ℕ) (method : Method) (files stand other_stand : Files)
     → asked_of words ≡ Ok (order.Build wad name out cert report workers method) → asked_of others ≡ Ok (order.Build wad name out other_cert other_report other_workers method)
     → (one : WasDone words files stand) (other : WasDone others files other_stand) → (stand out ≡ other_stand out) × GotOneLine one.sink other.sink
+
+-- ---- `all`
+
+-- the name finds a map in the WAD, and its faces are closed
+abbrev pub IsSoundIn : Source → List ℕ → Files → Type 0
+IsSoundIn wad name files = (found : LocatedMap) × (found_of wad name files ≡ Ok found) × HasClosedFaces found.map
+
+-- There is one outcome for each map that was to be built, in order: a table where its faces are closed, and else a refusal. The line counts
+-- them, the report, where it is asked for, has a line for each, and of each that has a table this holds.
+pub record LeavesRejects (wad : Source) (only : Option (List (List ℕ))) (report : Option (List ℕ)) (files stand : Files) (sink : Sinks) (IsRight : List ℕ → MapTable → Type 0) : Type 0 where
+  pub w : WadFile
+  pub was : wad_in wad.file files ≡ Ok w
+  pub maps : List (List ℕ)
+  pub asked : maps_in (names_of w) only ≡ Ok maps
+  pub outcomes : List MapOutcome
+  pub each : map (λ (o : MapOutcome). o.name) outcomes ≡ maps
+  pub said : sink.new.held ≡ option_map (λ held. held ++ tally_line (length outcomes) (length (changes_of outcomes)) (length (refusals_of outcomes))) sink.old.held
+  pub reported : IfSome report (λ name. stand name ≡ Some (report_of outcomes))
+  pub built : AllByRecursion (λ (o : MapOutcome). IsOk o.made ↔ IsSoundIn wad (word_of o.name) files) outcomes
+  pub right : AllByRecursion (λ (o : MapOutcome). IfOk o.made (IsRight (word_of o.name))) outcomes
+
+-- Where `all` was done, the REJECT under OUT of each map that was built is as a `build` of it by the same method leaves it.
+abbrev pub AllIsRight : Type 0
+AllIsRight = (words : List (List ℕ)) (wad : Source) (out : List ℕ) (only : Option (List (List ℕ))) (report : Option (List ℕ)) (workers : ℕ) (method : Method) (files stand : Files)
+    → asked_of words ≡ Ok (order.All wad out only report workers method)
+    → (done : WasDone words files stand) → LeavesRejects wad only report files stand done.sink (λ name made. LeavesRightReject wad name out method files stand)
+
+-- Where it decides every pair, a bit of each such REJECT is set exactly where the two sectors don't see each other, and none is listed.
+abbrev pub AllIsExact : Type 0
+AllIsExact = (words : List (List ℕ)) (wad : Source) (out : List ℕ) (only : Option (List (List ℕ))) (report : Option (List ℕ)) (workers : ℕ) (files stand : Files)
+    → asked_of words ≡ Ok (order.All wad out only report workers how.Exact)
+    → (done : WasDone words files stand) → LeavesRejects wad only report files stand done.sink (λ name made. LeavesExactTable wad name out files stand × (made.listed ≡ []))

@@ -1,6 +1,6 @@
-//! The headline: what the REJECT that `check` accepts, and the one that `build` writes, tell of sight.
+//! The headline: what the REJECT that `check` accepts, and those that `build` and `all` write, tell of sight.
 
-ghost use Rattle.run_laws.specs.Headline.{BuildLeavesLumps, BuildsLeaveOneWad, BuiltIsRight, CheckedIsRight, ExactIsRight};
+ghost use Rattle.run_laws.specs.Headline.{AllIsExact, AllIsRight, BuildLeavesLumps, BuildsLeaveOneWad, BuiltIsRight, CheckedIsRight, ExactIsRight};
 
 /// Where a `check` ended with Done, two sectors whose bit is set in the map's REJECT don't see each other, and two whose bit
 /// is clear do, unless the certificate in FILE lists their pair.
@@ -29,4 +29,15 @@ pub fn build_leaves_lumps()
 /// OUT and put the same line.
 pub fn builds_leave_one_wad()
     ensures { BuildsLeaveOneWad }
+{}
+
+/// Where `all` ended with Done, each map whose faces are closed was built, and no other. The name of each finds the same map in
+/// the WAD under OUT, and there its REJECT is as a `build` by the same method leaves it.
+pub fn all_is_right()
+    ensures { AllIsRight }
+{}
+
+/// And where it decides every pair, a bit of each such REJECT is set exactly where the two sectors don't see each other.
+pub fn all_is_exact()
+    ensures { AllIsExact }
 {}

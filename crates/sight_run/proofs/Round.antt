@@ -42,7 +42,7 @@ was_wad (Err wad.TooManyLumps) w h = absurd cc
 was_wad (Err wad.Memory) w h = absurd cc
 was_wad (Err fault) w h = absurd cc
 
-was_spot : (r : Result MapSpot MapFault) (s : MapSpot) → of_spot r ≡ Ok s → r ≡ Ok s
+pub was_spot : (r : Result MapSpot MapFault) (s : MapSpot) → of_spot r ≡ Ok s → r ≡ Ok s
 was_spot (Ok t) s h = ap (λ (x : MapSpot). Ok x) (same_ok t s h)
 was_spot (Err fault) s h = absurd cc
 
@@ -84,7 +84,7 @@ was_found large name bytes found h =
     let is : found_with a.x b.x c.x ≡ found = same_ok (found_with a.x b.x c.x) found c.rest in
     subst (λ (x : LocatedMap). WasFound large name bytes x) {x = found_with a.x b.x c.x} is (record { read = was_wad (wad_of bytes) a.x a.step; spot = was_spot (spot_of (names_of a.x) name) b.x b.step; map = c.step })
 
-is_found : (large : Bool) (name bytes : List ℕ) (found : LocatedMap) → WasFound large name bytes found → found_in large name bytes ≡ Ok found
+pub is_found : (large : Bool) (name bytes : List ℕ) (found : LocatedMap) → WasFound large name bytes found → found_in large name bytes ≡ Ok found
 unfolding with_map with_spot with_wad
 is_found large name bytes found h =
     found_by large name bytes
@@ -100,7 +100,7 @@ get_same xs ys i j d e = sym (unwrap_or-slice_get xs i d) ∙ ap (λ (o : Option
 abbrev nothing : WadLump
 nothing = record { name = []; bytes = [] }
 
-lump_same : (v w : WadFile) (i j : ℕ) → slice_get v.lumps i ≡ slice_get w.lumps j → lump_at v i ≡ lump_at w j
+pub lump_same : (v w : WadFile) (i j : ℕ) → slice_get v.lumps i ≡ slice_get w.lumps j → lump_at v i ≡ lump_at w j
 lump_same v w i j e = ap (λ (l : WadLump). l.bytes) (get_same v.lumps w.lumps i j nothing e)
 
 abbrev pub found_then : LocatedMap → List ℕ → LocatedMap
