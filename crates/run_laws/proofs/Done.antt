@@ -1,7 +1,10 @@
--- How `build` and `all` end where no count of faults rose.
+-- How `build`, `all`, `why` and the picture of a pair end where no count of faults rose.
 use Rattle.std.proofs.Common.{◌≡◌, ◌⊎◌, inl, inr, ℕ, Bool, List, Option, Result, Err, refl, sym, subst}
+use Rattle.sight_names.specs.declared.names.Ask.{Ask}
 use Rattle.sight_names.specs.declared.names.Method.{Method}
+use Rattle.sight_names.specs.declared.names.Pair.{Pair}
 use Rattle.sight_names.specs.Groups.{HasClosedFaces}
+use Rattle.sight_names.specs.Map.{Map}
 use Rattle.map_audit.proofs.AuditLemmas.{not_sound}
 use Rattle.shelf_io.specs.Shelf.{Files, ShelfState}
 use Rattle.shelf_io.specs.Sink.{SinkState}
@@ -11,11 +14,20 @@ use Rattle.map_answers.specs.declared.sight_status.status.Flaw.TheVariants as fl
 use Rattle.map_answers.specs.declared.sight_status.status.Role.TheVariants as role
 use Rattle.map_answers.specs.declared.sight_status.status.Status.{Status}
 use Rattle.map_answers.specs.declared.sight_status.status.Status.TheVariants as status
+use Rattle.map_answers.specs.declared.sight_status.status.Why.TheVariants as why
+use Rattle.map_answers.specs.SightStatus.Answer.{Answer}
 use Rattle.map_answers.specs.Input.{LocatedMap, OnFound}
+use Rattle.order_words.specs.declared.order.View.TheVariants as view
+use Rattle.pair_answer.specs.declared.answer.PairAnswer.{PairAnswer}
+use Rattle.pair_answer.specs.declared.answer.PairAnswer.TheVariants as answer
+use Rattle.pair_answer.specs.Answer.{IsAnswerFor}
+use Rattle.pair_answer.specs.WhyAnswers.Why.{WhyCalls, said_of}
+use Rattle.draw_answers.specs.Pair.{DrawPairCalls}
+use Rattle.sight_run.specs.Draw.{DrawCalls}
 use Rattle.sight_run.specs.All.{AllCalls, MapsCall, OnRead}
 use Rattle.sight_run.specs.Build.{BuildCalls}
 use Rattle.sight_run.specs.Heard.{Heard}
-use Rattle.run_laws.specs.Laws.{AllIsDone, BuildIsDone, EndsAll, EndsBuild}
+use Rattle.run_laws.specs.Laws.{AllIsDone, BuildIsDone, DrawnPairIsDone, EndsAll, EndsBuild, EndsPair, WhyIsDone}
 use Rattle.sight_run.specs.Obeys.{AnswersAsked, IsAnswer}
 use Rattle.sight_run.specs.Run.{NothingRose, RunEnds, StatusCause}
 
@@ -76,4 +88,46 @@ all_is_done words wad out only report workers method went w maps is_asked is_wad
   | inr (inr q) ↦ of_wad out report wad.large maps method w went.status
       (subst (λ (r : Result (List (List ℕ)) Status). OnRead r (λ ms. MapsCall out report wad.large ms method w) (Err went.status)) is_found
       (subst (λ (r : Result WadFile Status). OnRead r (AllCalls out wad.large only report method) (Err went.status)) is_wad (subst (λ r. AnswersAsked r went.files went.heard (Err went.status)) is_asked q)))
+]
+
+-- ---- two sectors
+
+module _ (m : Map) (ask : Ask) (pair : Pair) where
+  same_err : (s t : Status) → ◌≡◌ {A = Result Answer Status} (Err s) (Err t) → s ≡ t
+  same_err s t e = cc
+
+  of_answer : (s : Status) (given : PairAnswer) → IsAnswerFor m ask pair given → Err s ≡ said_of pair given → EndsPair m pair s
+  of_answer s (answer.Sight ray) h e = absurd cc
+  of_answer s answer.Blind h e = absurd cc
+  of_answer s answer.Touch h e = absurd cc
+  of_answer s answer.Listed h e = absurd cc
+  of_answer s (answer.NoSector k) h e = subst (EndsPair m pair) (sym (same_err s (status.No (why.NoSector k)) e)) h
+
+  of_why : HasClosedFaces m → (s : Status) → WhyCalls ask pair m (Err s) → EndsPair m pair s
+  of_why sound (status.BadMap (flaw.Line fault)) q = absurd (not_sound m fault q sound.ends)
+  of_why sound (status.BadMap (flaw.Open side)) q = absurd (q.1.against (sound.closed side))
+  of_why sound s q = of_answer s q.given q.is_answer q.is
+
+  of_picture : (name out : List ℕ) → HasClosedFaces m → (s : Status) → DrawPairCalls name out ask pair m (Err s) → EndsPair m pair s
+  of_picture name out sound (status.BadMap (flaw.Line fault)) q = absurd (not_sound m fault q sound.ends)
+  of_picture name out sound (status.BadMap (flaw.Open side)) q = absurd (q.1.against (sound.closed side))
+  of_picture name out sound (status.No (why.NoSector k)) q = q.1.called
+  of_picture name out sound s q = absurd q.1.called
+
+pub why_is_done : WhyIsDone
+unfolding Refuses
+why_is_done words wad name pair ask went found is_asked is_found sound well = elim (refuses words went.files went.heard went.before went.after went.sink.old went.sink.new went.status well.quiet well.ends well.cause) as (λ _. EndsPair found.map pair went.status) [
+  | inl e ↦ subst (EndsPair found.map pair) (sym e) tt
+  | inr (inl e) ↦ subst (EndsPair found.map pair) (sym e) tt
+  | inr (inr q) ↦ of_why found.map ask pair sound went.status
+      (subst (λ (r : Result LocatedMap Status). OnFound r (λ (f : LocatedMap). WhyCalls ask pair f.map) (Err went.status)) is_found (subst (λ r. AnswersAsked r went.files went.heard (Err went.status)) is_asked q))
+]
+
+pub drawn_pair_is_done : DrawnPairIsDone
+unfolding Refuses
+drawn_pair_is_done words wad name out pair ask went found is_asked is_found sound well = elim (refuses words went.files went.heard went.before went.after went.sink.old went.sink.new went.status well.quiet well.ends well.cause) as (λ _. EndsPair found.map pair went.status) [
+  | inl e ↦ subst (EndsPair found.map pair) (sym e) tt
+  | inr (inl e) ↦ subst (EndsPair found.map pair) (sym e) tt
+  | inr (inr q) ↦ of_picture found.map ask pair name out sound went.status
+      (subst (λ (r : Result LocatedMap Status). OnFound r (DrawCalls name out (view.Pair pair ask)) (Err went.status)) is_found (subst (λ r. AnswersAsked r went.files went.heard (Err went.status)) is_asked q))
 ]

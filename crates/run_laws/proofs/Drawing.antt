@@ -1,13 +1,16 @@
--- What `draw` leaves under its output's name, and that a row is of the map's own table.
-use Rattle.std.proofs.Common.{◌≡◌, ◌==◌, ℕ, List, length, Bool, true, false, if◌then◌else◌, Some, Result, Ok, Err, refl, ap, ◌∙◌, subst}
+-- What `draw` leaves under its output's name.
+use Rattle.std.proofs.Common.{◌≡◌, ◌==◌, ℕ, List, length, Bool, true, false, if◌then◌else◌, Option, Some, None, Result, Ok, Err, refl, ap, ◌∙◌, subst}
 use Rattle.shelf_io.specs.Shelf.{Files}
 use Rattle.order_words.specs.declared.order.View.{View}
 use Rattle.order_words.specs.declared.order.View.TheVariants as view
 use Rattle.sight_names.specs.Map.{Map}
+use Rattle.map_answers.specs.declared.sight_status.status.Flaw.{Flaw}
 use Rattle.map_answers.specs.declared.sight_status.status.Status.{Status}
 use Rattle.map_answers.specs.SightStatus.Answer.{Answer}
+use Rattle.map_picture.specs.Bytes.{svg_of}
+use Rattle.map_picture.specs.Picture.{marked_picture, plan_picture}
 use Rattle.draw_answers.specs.Drawn.{Drawing, one_picture}
-use Rattle.draw_answers.specs.Faults.{fault_drawing}
+use Rattle.draw_answers.specs.Faults.{fault_drawing, flaw_marks}
 use Rattle.draw_answers.specs.Plan.{plan_drawing}
 use Rattle.draw_answers.specs.Row.{row_drawing}
 use Rattle.map_answers.specs.Input.{LocatedMap, OnFound}
@@ -18,7 +21,7 @@ use Rattle.sight_run.specs.Reading.{found_of}
 use Rattle.sight_run.specs.Run.{put_all}
 use Rattle.sight_run.specs.Zero.{table_len}
 use Rattle.sight_run.proofs.Round.{same_ok}
-use Rattle.run_laws.specs.Laws.{DrawLeavesPicture, IsAnyPicture, IsRowOfReject, LeavesPicture, RowIsOfReject}
+use Rattle.run_laws.specs.Laws.{DrawLeavesPicture, IsPictureOf, LeavesPicture, ShowsView}
 use Rattle.run_laws.proofs.Keeping.{stored}
 
 leaves : (files : Files) (out : List ℕ) (answer : Answer) (d : Drawing) (IsPicture : List ℕ → Type 0) → answer ≡ one_picture out d → IsPicture d.bytes → LeavesPicture out files (put_all files answer.writes) IsPicture
@@ -37,35 +40,37 @@ on_table name out a m raw s false answer q = absurd cc
 row_in : (name out : List ℕ) (a : ℕ) (found : LocatedMap) (answer : Answer) → RowOfMap name out a found (Ok answer) → IsRowIn name out a found.map (reject_of found) (Ok answer)
 row_in name out a found answer q = on_table name out a found.map (reject_of found) _ (length (reject_of found) == table_len found.map.sectors) answer q
 
+-- the bytes that are drawn, and what they show
+record IsDrawn (name out : List ℕ) (asked : View) (found : LocatedMap) (answer : Answer) : Type 0 where
+  drawing : Drawing
+  is : answer ≡ one_picture out drawing
+  shows : ShowsView name found asked drawing.bytes
+
+of_fault : (name : List ℕ) (m : Map) (fault : Option Flaw) → (fault_drawing name m fault).bytes ≡ elim fault [ Some which ↦ svg_of m (marked_picture m (flaw_marks which)) | None ↦ svg_of m (plan_picture m) ]
+of_fault name m (Some which) = refl
+of_fault name m None = refl
+
+drawn : (name out : List ℕ) (asked : View) (found : LocatedMap) (answer : Answer) → DrawCalls name out asked found (Ok answer) → IsDrawn name out asked found answer
+drawn name out view.Plan found answer q = record { drawing = plan_drawing name found.map; is = same_ok answer (one_picture out (plan_drawing name found.map)) q.1.called; shows = refl }
+drawn name out view.Faults found answer q = record { drawing = fault_drawing name found.map q.fault; is = q.is; shows = record { fault = q.fault; first = q.first; is = of_fault name found.map q.fault } }
+drawn name out (view.Row a) found answer q =
+    let r = row_in name out a found answer q in
+    record {
+      drawing = row_drawing name found.map r.table a r.called.1.groups;
+      is = r.called.1.called.1;
+      shows = record { within = r.called.1.called.0; table = r.table; spelled = r.spelled; groups = r.called.1.groups; over = r.called.1.over; is = refl };
+    }
+drawn name out (view.Pair pair ask) found answer q =
+    let x = q.1 in
+    record {
+      drawing = x.called.shown;
+      is = x.called.is;
+      shows = record { given = x.called.given; is_answer = x.called.is_answer; groups = x.groups; over = x.over; shown = x.called.shown; shows = x.called.shows; is = refl };
+    }
+
 pub draw_leaves_picture : DrawLeavesPicture
-draw_leaves_picture words wad name out v files heard answer asked h = on (found_of wad name files) (subst (λ r. AnswersAsked r files heard (Ok answer)) asked h)
+draw_leaves_picture words wad name out asked files heard answer is_asked h = on (found_of wad name files) refl (subst (λ r. AnswersAsked r files heard (Ok answer)) is_asked h)
   where
-    by : (w : View) (found : LocatedMap) → DrawCalls name out w found (Ok answer) → (d : Drawing) × (answer ≡ one_picture out d)
-    by view.Plan found q = (plan_drawing name found.map, same_ok answer (one_picture out (plan_drawing name found.map)) q.1.called)
-    by view.Faults found q = (fault_drawing name found.map q.fault, q.is)
-    by (view.Row a) found q = let r = row_in name out a found answer q in (row_drawing name found.map r.table a r.called.1.groups, r.called.1.called.1)
-    by (view.Pair pair budget) found q = (q.1.called.shown, q.1.called.is)
-
-    on : (r : Result LocatedMap Status) → OnFound r (DrawCalls name out v) (Ok answer) → LeavesPicture out files (put_all files answer.writes) IsAnyPicture
-    on (Err s) q = absurd cc
-    on (Ok found) q = let p = by v found q in leaves files out answer p.0 IsAnyPicture p.1 tt
-
-pub row_is_of_reject : RowIsOfReject
-row_is_of_reject words wad name out a files heard answer asked h = on (found_of wad name files) refl (subst (λ r. AnswersAsked r files heard (Ok answer)) asked h)
-  where
-    row : (found : LocatedMap) → found_of wad name files ≡ Ok found → IsRowIn name out a found.map (reject_of found) (Ok answer) → LeavesPicture out files (put_all files answer.writes) (IsRowOfReject wad name files a)
-    row found e q =
-        leaves files out answer (row_drawing name found.map q.table a q.called.1.groups) (IsRowOfReject wad name files a) q.called.1.called.1 (record {
-          found = found;
-          was = e;
-          within = q.called.1.called.0;
-          table = q.table;
-          spelled = q.spelled;
-          groups = q.called.1.groups;
-          over = q.called.1.over;
-          is = refl;
-        })
-
-    on : (r : Result LocatedMap Status) → found_of wad name files ≡ r → OnFound r (DrawCalls name out (view.Row a)) (Ok answer) → LeavesPicture out files (put_all files answer.writes) (IsRowOfReject wad name files a)
+    on : (r : Result LocatedMap Status) → found_of wad name files ≡ r → OnFound r (DrawCalls name out asked) (Ok answer) → LeavesPicture out files (put_all files answer.writes) (IsPictureOf wad name asked files)
     on (Err s) e q = absurd cc
-    on (Ok found) e q = row found e (row_in name out a found answer q)
+    on (Ok found) e q = let d = drawn name out asked found answer q in leaves files out answer d.drawing (IsPictureOf wad name asked files) d.is (record { found = found; was = e; shows = d.shows })

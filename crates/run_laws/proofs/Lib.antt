@@ -7,4 +7,9 @@ pub mod Done
 pub mod Room
 pub mod RightTables
 pub mod AllRight
+pub mod Pairs
 pub mod SameMaps
+pub mod Planned
+pub mod FoundPlan
+pub mod Shown
+pub mod Deciding

@@ -1,10 +1,12 @@
 -- What holds of the orders together: the answer of `check` to what `build` wrote, what written WADs keep, and how runs end where nothing failed.
-use Rattle.std.specs.Prelude.{◌≡◌, ◌⊎◌, ◌≤◌, ◌<◌, ◌^◌, ℕ, Bool, false, List, ◌++◌, length, Contains, Option, Some, Result, Ok, Err, codes, ⊤}
+use Rattle.std.specs.Prelude.{◌≡◌, ◌⊎◌, ◌≤◌, ◌<◌, ◌^◌, ℕ, Bool, false, List, ◌++◌, length, Contains, Option, Some, None, Result, Ok, Err, codes, ⊤}
 use Rattle.std.specs.List.{AllByRecursion}
 use Rattle.std.specs.Option.{option_map}
 use Rattle.std.specs.Str.{bytes_eq}
 use Rattle.sight_names.specs.declared.faults.RewriteFault.TheVariants as rewrite
+use Rattle.sight_names.specs.declared.names.Ask.{Ask}
 use Rattle.sight_names.specs.declared.names.Method.{Method}
+use Rattle.sight_names.specs.declared.names.Pair.{Pair}
 use Rattle.sight_names.specs.Groups.{HasClosedFaces}
 use Rattle.sight_names.specs.Map.{Map}
 use Rattle.sight_names.specs.Table.{IsTable}
@@ -25,9 +27,11 @@ use Rattle.order_words.specs.Words.{source_of}
 use Rattle.cert_checker.specs.declared.verdict.Totals.{Totals}
 use Rattle.map_answers.specs.declared.counts.Counts.{Counts}
 use Rattle.map_answers.specs.declared.sight_status.status.Bound.TheVariants as bound
+use Rattle.map_answers.specs.declared.sight_status.status.Flaw.{Flaw}
 use Rattle.map_answers.specs.declared.sight_status.status.Role.TheVariants as role
 use Rattle.map_answers.specs.declared.sight_status.status.Status.{Status}
 use Rattle.map_answers.specs.declared.sight_status.status.Status.TheVariants as status
+use Rattle.map_answers.specs.declared.sight_status.status.Why.TheVariants as why
 use Rattle.map_answers.specs.SightStatus.Answer.{Answer, only_line}
 use Rattle.whole_wad.specs.declared.building.Built.{Built}
 use Rattle.whole_wad.specs.declared.outcomes.MapOutcome.{MapOutcome}
@@ -42,7 +46,12 @@ use Rattle.sight_run.specs.Check.{IsTableOf, reject_of, yes_line}
 use Rattle.map_answers.specs.Groups.{IsOverGroups, MapGroups}
 use Rattle.map_answers.specs.Input.{LocatedMap, map_named}
 use Rattle.map_picture.specs.Bytes.{svg_of}
-use Rattle.map_picture.specs.Picture.{row_picture}
+use Rattle.map_picture.specs.Picture.{marked_picture, plan_picture, row_picture}
+use Rattle.pair_answer.specs.declared.answer.PairAnswer.{PairAnswer}
+use Rattle.pair_answer.specs.Answer.{IsAnswerFor, IsMissing}
+use Rattle.draw_answers.specs.Drawn.{Drawing}
+use Rattle.draw_answers.specs.Faults.{IsFaultOf, flaw_marks}
+use Rattle.draw_answers.specs.Pair.{ShowsPair}
 use Rattle.reject_bits.specs.Parts.{TableParts}
 use Rattle.sight_run.specs.Heard.{Heard}
 use Rattle.sight_run.specs.Reading.{found_of}
@@ -153,20 +162,14 @@ pub record LeavesPicture (out : List ℕ) (files stand : Files) (IsPicture : Lis
   pub stands : stand out ≡ Some bytes
   pub others : (name : List ℕ) → bytes_eq out name ≡ false → stand name ≡ files name
 
-abbrev pub IsAnyPicture : List ℕ → Type 0
-IsAnyPicture bytes = ⊤
+-- the plan with the first fault marked, if the map has one
+pub record ShowsFaults (m : Map) (bytes : List ℕ) : Type 0 where
+  pub fault : Option Flaw
+  pub first : IsFaultOf m fault
+  pub is : bytes ≡ elim fault [ Some which ↦ svg_of m (marked_picture m (flaw_marks which)) | None ↦ svg_of m (plan_picture m) ]
 
--- Where `draw` is answered, OUT holds its picture, and all other files are as they were.
-abbrev pub DrawLeavesPicture : Type 0
-DrawLeavesPicture = (words : List (List ℕ)) (wad : Source) (name out : List ℕ) (view : View) (files : Files) (heard : Heard) (answer : Answer)
-    → asked_of words ≡ Ok (order.Draw wad name out view) → IsAnswer words files heard (Ok answer)
-    → LeavesPicture out files (put_all files answer.writes) IsAnyPicture
-
--- The map is found, its audit accepts it, and the picture paints the faces of its groups by the row of sector a in a table that the bytes of
--- its REJECT spell.
-pub record IsRowOfReject (wad : Source) (name : List ℕ) (files : Files) (a : ℕ) (bytes : List ℕ) : Type 0 where
-  pub found : LocatedMap
-  pub was : found_of wad name files ≡ Ok found
+-- the faces of the groups, by the row of sector a in a table that the bytes of the map's own REJECT spell
+pub record ShowsRow (found : LocatedMap) (a : ℕ) (bytes : List ℕ) : Type 0 where
   pub within : a < found.map.sectors
   pub table : TableParts
   pub spelled : IsTableOf found.map.sectors (reject_of found) table
@@ -174,11 +177,33 @@ pub record IsRowOfReject (wad : Source) (name : List ℕ) (files : Files) (a : �
   pub over : IsOverGroups found.map groups
   pub is : bytes ≡ svg_of found.map (row_picture found.map groups.groups groups.triangles groups.labels table a)
 
--- where `draw` is answered of a sector, that is the picture
-abbrev pub RowIsOfReject : Type 0
-RowIsOfReject = (words : List (List ℕ)) (wad : Source) (name out : List ℕ) (a : ℕ) (files : Files) (heard : Heard) (answer : Answer)
-    → asked_of words ≡ Ok (order.Draw wad name out (view.Row a)) → IsAnswer words files heard (Ok answer)
-    → LeavesPicture out files (put_all files answer.writes) (IsRowOfReject wad name files a)
+-- what an answer for the pair calls for
+pub record ShowsAnswer (name : List ℕ) (m : Map) (pair : Pair) (ask : Ask) (bytes : List ℕ) : Type 0 where
+  pub given : PairAnswer
+  pub is_answer : IsAnswerFor m ask pair given
+  pub groups : MapGroups
+  pub over : IsOverGroups m groups
+  pub shown : Drawing
+  pub shows : ShowsPair name m pair groups ask given shown
+  pub is : bytes ≡ shown.bytes
+
+abbrev pub ShowsView : List ℕ → LocatedMap → View → List ℕ → Type 0
+ShowsView name found view.Plan bytes = bytes ≡ svg_of found.map (plan_picture found.map)
+ShowsView name found view.Faults bytes = ShowsFaults found.map bytes
+ShowsView name found (view.Row a) bytes = ShowsRow found a bytes
+ShowsView name found (view.Pair pair ask) bytes = ShowsAnswer name found.map pair ask bytes
+
+-- the name finds a map in the WAD, and the bytes are those of its picture in this view
+pub record IsPictureOf (wad : Source) (name : List ℕ) (view : View) (files : Files) (bytes : List ℕ) : Type 0 where
+  pub found : LocatedMap
+  pub was : found_of wad name files ≡ Ok found
+  pub shows : ShowsView name found view bytes
+
+-- Where `draw` is answered, OUT holds the picture that it asks for, and all other files are as they were.
+abbrev pub DrawLeavesPicture : Type 0
+DrawLeavesPicture = (words : List (List ℕ)) (wad : Source) (name out : List ℕ) (asked : View) (files : Files) (heard : Heard) (answer : Answer)
+    → asked_of words ≡ Ok (order.Draw wad name out asked) → IsAnswer words files heard (Ok answer)
+    → LeavesPicture out files (put_all files answer.writes) (IsPictureOf wad name asked files)
 
 -- ---- what `all` writes
 
@@ -281,3 +306,22 @@ abbrev pub AllIsDone : Type 0
 AllIsDone = (words : List (List ℕ)) (wad : Source) (out : List ℕ) (only : Option (List (List ℕ))) (report : Option (List ℕ)) (workers : ℕ) (method : Method) (went : Went) (w : WadFile) (maps : List (List ℕ))
     → asked_of words ≡ Ok (order.All wad out only report workers method) → wad_in wad.file went.files ≡ Ok w → maps_in (names_of w) only ≡ Ok maps
     → WentWell words went → EndsAll wad.large maps method w went.status
+
+-- it is done, unless memory ran out or one of the two is no sector of the map
+abbrev pub EndsPair : Map → Pair → Status → Type 0
+EndsPair m pair status.Done = ⊤
+EndsPair m pair status.Memory = ⊤
+EndsPair m pair (status.No (why.NoSector k)) = IsMissing m pair k
+EndsPair m pair other = ⊥
+
+-- A `why` of a map that the audit accepts ends so.
+abbrev pub WhyIsDone : Type 0
+WhyIsDone = (words : List (List ℕ)) (wad : Source) (name : List ℕ) (pair : Pair) (ask : Ask) (went : Went) (found : LocatedMap)
+    → asked_of words ≡ Ok (order.Why wad name pair ask) → found_of wad name went.files ≡ Ok found → HasClosedFaces found.map
+    → WentWell words went → EndsPair found.map pair went.status
+
+-- So does a `draw` of a pair.
+abbrev pub DrawnPairIsDone : Type 0
+DrawnPairIsDone = (words : List (List ℕ)) (wad : Source) (name out : List ℕ) (pair : Pair) (ask : Ask) (went : Went) (found : LocatedMap)
+    → asked_of words ≡ Ok (order.Draw wad name out (view.Pair pair ask)) → found_of wad name went.files ≡ Ok found → HasClosedFaces found.map
+    → WentWell words went → EndsPair found.map pair went.status

@@ -1,7 +1,7 @@
 //! What holds of the orders together, and of what they write.
 
 ghost use Rattle.sight_run.specs.Build.{BuildsSayOneThing};
-ghost use Rattle.run_laws.specs.Laws.{AllIsAsBuild, AllIsDone, AllKeepsLumps, BuildIsDone, BuildKeepsLumps, BuildWithRoomIsDone, BuiltIsChecked, BuiltRunIsChecked, DrawLeavesPicture, RowIsOfReject, ZeroKeepsLumps};
+ghost use Rattle.run_laws.specs.Laws.{AllIsAsBuild, AllIsDone, AllKeepsLumps, BuildIsDone, BuildKeepsLumps, BuildWithRoomIsDone, BuiltIsChecked, BuiltRunIsChecked, DrawLeavesPicture, DrawnPairIsDone, WhyIsDone, ZeroKeepsLumps};
 
 /// Where `build` is answered, the one answer that `check` of OUT and FILE calls for is yes, with the same counts.
 pub fn built_is_checked()
@@ -31,15 +31,11 @@ pub fn build_keeps_lumps()
     ensures { BuildKeepsLumps }
 {}
 
-/// Where `draw` is answered, OUT holds its picture, and each other file what it held.
+/// Where `draw` is answered, OUT holds the picture that it asks for of the map that was found: the plan, the plan with its first
+/// fault marked, the faces by the row of a sector in the map's own REJECT, or what an answer for two sectors calls for. Each
+/// other file holds what it held.
 pub fn draw_leaves_picture()
     ensures { DrawLeavesPicture }
-{}
-
-/// Where `draw` is answered of one sector, the picture paints the faces of the map that was found by the row of the sector in the
-/// map's own REJECT.
-pub fn row_is_of_reject()
-    ensures { RowIsOfReject }
 {}
 
 /// Where `all` is answered, OUT is read as the WAD in which each map that got a table has it as its REJECT, found there by
@@ -69,4 +65,15 @@ pub fn build_with_room_is_done()
 /// tables is above the limit that is told.
 pub fn all_is_done()
     ensures { AllIsDone }
+{}
+
+/// Where no count of faults rises, a `why` of a map that the audit accepts ends with Done or for want of memory, or one of the two
+/// is no sector of the map.
+pub fn why_is_done()
+    ensures { WhyIsDone }
+{}
+
+/// So does a `draw` of two sectors.
+pub fn drawn_pair_is_done()
+    ensures { DrawnPairIsDone }
 {}

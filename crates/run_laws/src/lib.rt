@@ -3,6 +3,7 @@
 
 mod headline;
 mod laws;
+mod pairs;
 
 pub use headline::{
     all_is_exact, all_is_right, build_leaves_lumps, builds_leave_one_wad, built_is_right,
@@ -11,5 +12,6 @@ pub use headline::{
 pub use laws::{
     all_is_as_build, all_is_done, all_keeps_lumps, build_is_done, build_keeps_lumps,
     build_with_room_is_done, builds_say_one_thing, built_is_checked, built_run_is_checked,
-    draw_leaves_picture, row_is_of_reject, zero_keeps_lumps,
+    draw_leaves_picture, drawn_pair_is_done, why_is_done, zero_keeps_lumps,
 };
+pub use pairs::{drawn_pair_is_right, why_is_right};
