@@ -74,6 +74,18 @@ U | 4000 | #U-EXACT | Verdict(No(Check(Uncovered { a: 0, b: 2 })))
 DOORS | 0000 | #DOORS-EXACT | Verdict(No(Check(Uncovered { a: 0, b: 3 })))
 ";
 
+/// The same of a few that are cut at every place.
+pub const CUT: &str = "\
+U | 4400 | #U-EXACT | Verdict(Yes(Totals { set: 1, clear: 5, listed: 0 }))
+DOORS | 0810 | #DOORS-EXACT | Verdict(Yes(Totals { set: 1, clear: 9, listed: 0 }))
+ISLAND | 02 | #ISLAND-EXACT | Verdict(No(Check(Unproved { a: 0, b: 1 })))
+U | 4400 | #U-EXACT @138:8:38ffffffffffffff | Verdict(No(Check(Ray { a: 1, b: 2, why: Some(NotSplit { line: 3 }) })))
+U | e400 | #U-EXACT @18:1:01 @122:24: | Verdict(No(Check(Tree { source: 2, node: 0 })))
+DOORS | 0810 | #DOORS-EXACT @313:2:0180 | Verdict(No(Check(Tree { source: 0, node: 6 })))
+DOORS | 0810 | #DOORS-EXACT @270:1:0c | Unread(Short { at: 313 })
+ISLAND | 00 | #ISLAND-EXACT @26:1:00 | Unread(NotSorted { at: 26 })
+";
+
 /// The same of bytes that spell no certificate: the fault, and its place.
 pub const UNREAD: &str = "\
 U | 4400 | #U-EXACT @0:1:45 | Unread(BadMagic)

@@ -6,7 +6,7 @@ ghost use Rattle.sight_names.specs.Map.{map_of};
 ghost use Rattle.sight_names.specs.Sound.{LinesMeetAtEnds};
 ghost use Rattle.cert_format.specs.CertGroups.Grammar.{IsAnyInOrder, sizes_of};
 
-use crate::exact_rows::{JUDGED, UNREAD, WHOLE};
+use crate::exact_rows::{CUT, JUDGED, UNREAD, WHOLE};
 use any_judge::Judge;
 use cert_format::cert_groups::{AnyCert, print_any};
 use cert_format::{Sizes, print};
@@ -276,8 +276,13 @@ fn answer_of<R: Threads + Sync>(
     judged_audited(rt, alloc, plan, table, bytes)
 }
 
-// Whether the row's table and certificate are judged as it says, in threads and in pieces.
-fn is_row<R: Threads + Sync>(rt: &R, alloc: Global, row: &str) -> Result<bool, Fail> {
+// Whether the row's table and certificate are judged as it says, in threads and one by one, and where this is asked by every cut too.
+fn is_row<R: Threads + Sync>(
+    rt: &R,
+    alloc: Global,
+    row: &str,
+    every_cut: bool,
+) -> Result<bool, Fail> {
     let found = find_in(alloc, bytes_of(alloc, part(row, 0))?, false, "MAP01")?;
     let plan = &found.plan;
     let table = table_of(alloc, plan.sectors, part(row, 1))?;
@@ -290,16 +295,34 @@ fn is_row<R: Threads + Sync>(rt: &R, alloc: Global, row: &str) -> Result<bool, F
     if told.as_str() != part(row, 3) {
         return Ok(false);
     }
-    Ok(are_judged(alloc, plan, &table, &bytes, answer)?)
+    if every_cut {
+        return Ok(are_judged(alloc, plan, &table, &bytes, answer)?);
+    }
+    let judged = judged_singly(alloc, plan, &table, &bytes)?;
+    Ok(judged == answer)
 }
 
 #[test]
 fn certificates_are_judged_as_their_rows_say_in_threads_and_in_pieces(
     rt: HostRuntime,
 ) -> Result<(), Fail> {
-    for row in [ROWS, JUDGED, UNREAD].iter().flat_map(|rows| rows.lines()) {
-        if !row.starts_with('#') {
-            assert!(rt; is_row(&rt, rt.alloc(), row)?, "{row}");
+    for rows in [ROWS, CUT] {
+        for row in rows.lines() {
+            if !row.starts_with('#') {
+                assert!(rt; is_row(&rt, rt.alloc(), row, true)?, "{row}");
+            }
+        }
+    }
+    Ok(())
+}
+
+#[test]
+fn certificates_of_version_3_are_judged_as_their_rows_say(rt: HostRuntime) -> Result<(), Fail> {
+    for rows in [JUDGED, UNREAD] {
+        for row in rows.lines() {
+            if !row.starts_with('#') {
+                assert!(rt; is_row(&rt, rt.alloc(), row, false)?, "{row}");
+            }
         }
     }
     Ok(())
