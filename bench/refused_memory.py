@@ -16,6 +16,10 @@ its outputs, and in one of these ways:
 - read fault or write fault, where the shelf got no memory for a name, or opening a file or printing was refused: no file touched, or those
   whole that had their names before one didn't get its name.
 
+Orders in which two names mean one file are refused; there each run has to end by that, by memory, or by a read fault, with every file as
+before. So has each run in which a call of the system that asks what stands under a name fails (`strace` makes it fail, where it is there). And an
+output whose name is that under which another one is written at first is whole in the end, and so is the other.
+
 And certificates whose counts no bytes bear out: `check` asks for fewer bytes, all requests together, than for the whole certificate that
 they were made of.
 The status is 1 where anything is otherwise.
@@ -129,6 +133,26 @@ ORDERS = [
     ("paint u.wad MAP01 out.wad", ["out.wad"]),
 ]
 
+# Orders in which two names mean one file: files that hold something before, and names under which nothing stands.
+ONE_FILE = [
+    ("zero a.wad MAP01 ./a.wad", []),
+    ("check a.wad MAP01 ./a.wad", []),
+    ("draw a.wad MAP01 ./a.wad", []),
+    ("build a.wad MAP01 ./a.wad --workers 1", []),
+    ("build a.wad MAP01 out.wad --report ./a.wad --workers 1", ["out.wad"]),
+    ("build a.wad MAP01 out.wad --cert ./out.wad --workers 1", ["out.wad"]),
+    ("build a.wad MAP01 gone.wad --cert ./gone.wad --workers 1", []),
+    ("all a.wad out.wad --report ./a.wad --workers 1", ["out.wad"]),
+    ("all a.wad out.wad --report ./out.wad --workers 1", ["out.wad"]),
+]
+
+# Orders in which an output has the name that the new file of another one would have first, and what comes of them.
+BESIDE = [
+    ("build u.wad MAP01 .r.doomsight-0 --report r --workers 1", [".r.doomsight-0", "r"], 0),
+    ("build u.wad MAP01 .c.doomsight-0 --cert c --workers 1", [".c.doomsight-0", "c"], 0),
+    ("build u.wad MAP01 w --report .w.doomsight-0 --workers 1", ["w", ".w.doomsight-0"], 5),
+]
+
 # Where the worked certificate of U has a count, how many bytes of it, and where it is cut off, so that the count can't be borne out.
 COUNTS = [("rays", 16, 4, 140), ("listed pairs", 20, 4, 140), ("trees", 24, 4, 161), ("nodes", 142, 8, 161)]
 
@@ -150,6 +174,7 @@ class Folder:
         self.put("rooms.wad", wad("MAP01", row_of_rooms(128)))
         self.refused(0, [self.program, *"build rooms.wad MAP01 row.wad --cert row.cert --workers 1".split()])
         self.put("behind.cert", self.held("u.cert") + bytes(33_554_432))
+        shutil.copy(self.path("u.wad"), self.path("a.wad"))
         self.names = set(os.listdir(place))
 
     def path(self, name):
@@ -182,11 +207,33 @@ class Folder:
             self.put(name, OLD)
         return self.refused(number, [self.program, *words.split()])
 
+    def unseen(self, number, words, outputs):
+        """The same, where that call fails which asks what stands under a name. How many there were isn't known, but that none failed."""
+        trace = self.path("trace")
+        inject = ["strace", "-f", "-o", trace, "-e", "trace=statx", "-e", "inject=statx:error=EIO:when=%d" % number]
+        for name in set(os.listdir(self.place)) - self.names:
+            os.remove(self.path(name))
+        for name in outputs:
+            self.put(name, OLD)
+        run = subprocess.run(inject + [self.program, *words.split()], cwd=self.place, stdin=subprocess.DEVNULL, capture_output=True, timeout=60)
+        failed = b"INJECTED" in self.held("trace")
+        os.remove(trace)
+        return Ended(run.returncode, run.stdout, run.stderr, number if failed else 0, 0, 0, 0)
+
     def is_whole(self, words, base, name):
         """Whether an output is what the run to which nothing is refused writes; of a certificate by several workers, whether it is accepted."""
         if name == "new.cert" and "--workers 3" in words:
             return self.refused(0, [self.program, *"check built.wad MAP01 new.cert".split()]).status == 0
         return self.held(name) == base[name]
+
+    def way_of_one_file(self, outputs, base, run):
+        """The way in which a run has ended in whose words two names mean one file, None where it is none of those that may be."""
+        if set(os.listdir(self.place)) != self.names.union(outputs) or self.held("a.wad") != self.held("u.wad"):
+            return None
+        if any(self.held(name) != OLD for name in outputs):
+            return None
+        ways = {(12, b""): "memory", (4, b"refused: read fault wad\n"): "read fault", (base.status, base.line): "same name"}
+        return ways.get((run.status, run.line))
 
     def way(self, words, outputs, base, bytes_of, run):
         """The way in which a run has ended, None where it is none of those that may be."""
@@ -252,6 +299,42 @@ def orders(folder):
     return wrong
 
 
+def one_file(folder):
+    """Tries orders in which two names mean one file: each request for memory refused, and each call failed that asks what stands there."""
+    kinds, wrong = ["same name", "memory", "read fault"], False
+    print("| Words | Requests | " + " | ".join(kinds) + " |\n|" + "---|" * (2 + len(kinds)))
+    for words, outputs in ONE_FILE:
+        base = folder.ordered(0, words, outputs)
+        way = lambda run: folder.way_of_one_file(outputs, base, run)
+        tries = [("refused request", lambda number: folder.ordered(number, words, outputs))]
+        if shutil.which("strace"):
+            tries.append(("failed call", lambda number: folder.unseen(number, words, outputs)))
+        for what, run_of in tries:
+            ways, number, odd = tried(run_of, way)
+            row("`%s`, %s" % (words, what), number - 3, ways, kinds)
+            if odd or base.status != 11:
+                print("wrong: %s with %s %d: %s" % (words, what, number, odd or base))
+                wrong = True
+    return wrong
+
+
+def beside(folder):
+    """Tries outputs under the names of each other's new files, where nothing stands before."""
+    wrong = False
+    for words, outputs, status in BESIDE:
+        folder.ordered(0, words, [])
+        plain = folder.ordered(0, "build u.wad MAP01 out.wad --cert new.cert --report report --workers 1", [])
+        wanted = {"wad": folder.held("out.wad"), "--cert": folder.held("new.cert"), "--report": folder.held("report")}
+        run = folder.ordered(0, words, [])
+        held = [folder.held(name) for name in outputs]
+        whole = [wanted["wad"], wanted[words.split()[4]]] if status == 0 else [None, None]
+        print("`%s`: code %d" % (words, run.status))
+        if plain.status != 0 or run.status != status or held != whole or set(os.listdir(folder.place)) - folder.names.union(outputs):
+            print("wrong: %s: %s, %s" % (words, run, os.listdir(folder.place)))
+            wrong = True
+    return wrong
+
+
 def worked_cert():
     """The worked certificate of U, as the tests have it."""
     with open(os.path.join(CRATES, "worked_maps", "src", "certs.rt")) as held:
@@ -283,6 +366,9 @@ def main():
     with tempfile.TemporaryDirectory() as place:
         folder = Folder(place, given.program, given.cc)
         wrong = orders(folder)
+        print()
+        wrong = one_file(folder) or wrong
+        wrong = beside(folder) or wrong
         print()
         wrong = counts(folder) or wrong
     sys.exit(1 if wrong else 0)

@@ -1,6 +1,6 @@
 //! Steps on a real disk, some by the adapter and some beside it, each with what has to come of it.
 
-use shelf_io::{DiskShelf, Shelf, Sink, StdSink, fetch, names_one_file, store};
+use shelf_io::{DiskShelf, SameFault, Shelf, Sink, StdSink, fetch, store};
 use sight_names::FetchFault;
 use std::alloc::{AllocError, Global};
 use std::os::unix::fs::symlink;
@@ -33,8 +33,8 @@ fetch . 0 failed
 fails no_such_folder/file
 ";
 
-/// A created file takes its place when it is settled, also behind a link. `same` says that two names are of one file,
-/// `other` that they aren't.
+/// A created file takes its place when it is settled, also behind a link, and no other file that is begun has the place in
+/// between. `same` says that two names are of one file, `other` that they aren't, `unknown` that it can't be found out.
 const SETTLED: &str = "\
 write settled.tmp 0 3
 link settled.tmp settled.link
@@ -50,11 +50,30 @@ discard
 holds settled.link 10 14
 same settled.tmp settled.link
 gone .settled.tmp.doomsight-0
+# nothing can stand there
+other settled.tmp settled.tmp/file
 remove settled.tmp
 # nothing stands behind the link now
 same ./settled.tmp settled.link
 other .settled.tmp.doomsight-0 settled.link
 remove settled.link
+link settled.loop settled.loop
+unknown settled.loop row.tmp
+remove settled.loop
+# a place that another new file would have had, and a new file that has another's place
+store .row.tmp.doomsight-0 0 3
+store row.tmp 10 14
+holds .row.tmp.doomsight-1 10 14
+settle .row.tmp.doomsight-0
+settle row.tmp
+holds .row.tmp.doomsight-0 0 3
+holds row.tmp 10 14
+remove .row.tmp.doomsight-0
+store row.tmp 20 25
+fails .row.tmp.doomsight-0
+settle row.tmp
+holds row.tmp 20 25
+remove row.tmp
 store /dev/null 0 1
 settle /dev/null
 device /dev/null
@@ -115,6 +134,9 @@ fn is_done<S: Shelf>(alloc: Global, shelf: &mut S, text: &[u8], step: &str) -> b
         "fails" => store(shelf, name, b"x").is_err(),
         "fetch" => is_fetched(alloc, shelf, text, step),
         "read" => is_read(shelf, text, step),
+        "same" => shelf.is_one_file(name, word(step, 2)) == Ok(true),
+        "other" => shelf.is_one_file(name, word(step, 2)) == Ok(false),
+        "unknown" => shelf.is_one_file(name, word(step, 2)) == Err(SameFault::Failed),
         _ => false,
     }
 }
@@ -127,8 +149,6 @@ fn is_so<R: Files + AllocGlobal>(rt: &R, text: &[u8], step: &str) -> io::Result<
         "gone" => !fs::exists(rt, name)?,
         "points" => fs::symlink_metadata(rt, name)?.is_symlink(),
         "device" => !fs::metadata(rt, name)?.is_file(),
-        "same" => names_one_file(rt, name, word(step, 2)),
-        "other" => !names_one_file(rt, name, word(step, 2)),
         _ => return Ok(None),
     };
     Ok(Some(so))

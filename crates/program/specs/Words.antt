@@ -27,6 +27,12 @@ abbrev pub listeners_where : Bool → List ListenerState
 listeners_where true = new_reporters
 listeners_where false = []
 
+-- some listeners that were these heard what the status says of the words
+pub record HearsGiven (given : List ListenerState) (words : List (List ℕ)) (told : Option Files) (s : Status) : Type 0 where
+  pub heard : Heard
+  pub given_are : heard.before ≡ given
+  pub hears : Hears (asked_of words) told heard s
+
 -- all that `run` promises of the words, with these listeners before it
 pub record RunsHeard (given : List ListenerState) (words : List (List ℕ)) (files : Files) (before after : ShelfState) (old new : SinkState) (s : Status) : Type 0 where
   pub heard : Heard

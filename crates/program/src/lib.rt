@@ -6,7 +6,6 @@ ghost use Rattle.std.specs.Process.{exit_status};
 ghost use Rattle.map_answers.specs.SightStatus.Status.{number_of};
 
 pub mod answers;
-mod names;
 pub mod progress;
 pub mod runs;
 pub mod usage;
@@ -15,7 +14,6 @@ mod words;
 
 use answers::{answer, question_in};
 use map_answers::sight_status::put_refusal;
-use names::names_one_file_twice;
 use order_words::{Order, Source, read_words};
 use progress::Progress;
 use runs::run_words;
@@ -74,9 +72,6 @@ fn obey<R: Files + Threads + Sync + AllocGlobal, O: Sink, P: Print>(
     let mut is_all = false;
     let mut may_be_large = false;
     if let Ok(order) = read_words(alloc, words) {
-        if names_one_file_twice(rt, &order) {
-            return put_refusal(alloc, out, Status::SameName);
-        }
         is_all = matches!(&order, Order::All { .. });
         may_be_large = source_of(&order).is_some_and(|wad| !wad.large);
     }

@@ -3,9 +3,12 @@
 ghost use Rattle.std.specs.Prelude.{◌≡◌, [], IfOk, OnErr, Some, map, string_bytes};
 ghost use Rattle.listeners.specs.Reporters.{lines_state, new_reporters, totals_state};
 ghost use Rattle.order_words.specs.Words.{order_of};
-ghost use Rattle.shelf_io.specs.Shelf.{Files};
-ghost use Rattle.sight_run.specs.Run.{StatusCause};
-ghost use Rattle.program.specs.Words.{Reports, RunsHeard, RunsWords, is_reported};
+ghost use Rattle.map_answers.specs.SightStatus.Status.{IsProper};
+ghost use Rattle.shelf_io.specs.Shelf.{Files, NoneFell};
+ghost use Rattle.sight_run.specs.Made.{PutsMade};
+ghost use Rattle.sight_run.specs.Run.{AllSettled, StatusCause, TextAfter, WordsSay};
+ghost use Rattle.sight_run.specs.Words.{asked_of};
+ghost use Rattle.program.specs.Words.{HearsGiven, Reports, RunsHeard, RunsWords, is_reported, listeners_where};
 
 use group_job::sight_workers::OpenGate;
 use listeners::{Lines, Listener, Totals};
@@ -43,7 +46,14 @@ fn run_told<R: Threads + Sync, S: Shelf, O: Sink, N: Notice>(
     requires totals_new { listener_state totals ≡ totals_state [] }
     ensures ends { (files : Files) → (S.state shelf.old).files ≡ Some files →
         IfOk result (RunsHeard new_reporters (map string_bytes words.now) files (S.state shelf.old) (S.state shelf.new) (O.state out.old) (O.state out.new)) }
+    ensures listeners { IfOk result (HearsGiven new_reporters (map string_bytes words.now) (S.state shelf.old).files) }
+    ensures text { IfOk result (TextAfter (O.state out.old) (O.state out.new)) }
+    ensures made { IfOk result (PutsMade (asked_of (map string_bytes words.now)) (O.state out.old) (O.state out.new)) }
+    ensures words { IfOk result (WordsSay (asked_of (map string_bytes words.now))) }
     ensures cause { IfOk result (StatusCause (S.state shelf.old) (S.state shelf.new) (O.state out.old) (O.state out.new)) }
+    ensures counts { NoneFell (S.state shelf.old) (S.state shelf.new) }
+    ensures settled { IfOk result (AllSettled (S.state shelf.old) (S.state shelf.new)) }
+    ensures proper { IfOk result IsProper }
     ensures shelf { OnErr result (S.state shelf.new ≡ S.state shelf.old) }
     ensures sink { OnErr result (O.state out.new ≡ O.state out.old) }
 {
@@ -78,7 +88,16 @@ pub fn run_words<R: Threads + Sync, S: Shelf, O: Sink, N: Notice>(
     // What a report holds, where its build is done: a line for each set and listed pair, and the totals.
     ensures report { (files : Files) → (S.state shelf.old).files ≡ Some files →
         IfOk result (Reports (map string_bytes words.now) files (S.state shelf.new).files) }
+    // And what it promises also where the files aren't told: what the listeners heard, the text, the status and the counts, and that with
+    // Done nothing is begun that hasn't its place.
+    ensures listeners { IfOk result (HearsGiven (listeners_where (is_reported (order_of (map string_bytes words.now)))) (map string_bytes words.now) (S.state shelf.old).files) }
+    ensures text { IfOk result (TextAfter (O.state out.old) (O.state out.new)) }
+    ensures made { IfOk result (PutsMade (asked_of (map string_bytes words.now)) (O.state out.old) (O.state out.new)) }
+    ensures words { IfOk result (WordsSay (asked_of (map string_bytes words.now))) }
     ensures cause { IfOk result (StatusCause (S.state shelf.old) (S.state shelf.new) (O.state out.old) (O.state out.new)) }
+    ensures counts { NoneFell (S.state shelf.old) (S.state shelf.new) }
+    ensures settled { IfOk result (AllSettled (S.state shelf.old) (S.state shelf.new)) }
+    ensures proper { IfOk result IsProper }
     // Where there is no memory for the listeners, nothing is done.
     ensures shelf { OnErr result (S.state shelf.new ≡ S.state shelf.old) }
     ensures sink { OnErr result (O.state out.new ≡ O.state out.old) }

@@ -2,11 +2,11 @@
 #![tactic(auto)]
 
 #[cfg(test)]
-mod calls;
-#[cfg(test)]
 mod grids;
 #[cfg(test)]
 mod listening;
+#[cfg(test)]
+mod on_disk;
 #[cfg(test)]
 mod rows;
 #[cfg(test)]

@@ -139,8 +139,11 @@ fn has_files(alloc: Global, stage: &Stage, wanted: &str) -> Result<bool, AllocEr
     Ok(true)
 }
 
-// Lines and totals, who have heard nothing.
-fn push_listeners(alloc: Global, listeners: &mut Vec<Box<dyn Listener>>) -> Result<(), AllocError> {
+/// Adds lines and totals, who have heard nothing.
+pub fn push_listeners(
+    alloc: Global,
+    listeners: &mut Vec<Box<dyn Listener>>,
+) -> Result<(), AllocError> {
     listeners.push(Box::new(alloc, Lines::new(alloc))?)?;
     listeners.push(Box::new(alloc, Totals::new(alloc))?)?;
     Ok(())

@@ -66,6 +66,10 @@ abbrev pub report_roles : Option (List ℕ) → List Role
 report_roles None = []
 report_roles (Some name) = role.Report ∷ []
 
+abbrev pub report_names : Option (List ℕ) → List (List ℕ)
+report_names None = []
+report_names (Some name) = name ∷ []
+
 -- these outputs, and behind them the report where it is asked for
 abbrev pub report_behind : Option (List ℕ) → List ℕ → List Written → List Written
 report_behind None report ws = ws

@@ -122,6 +122,7 @@ pub fn do_all<R: Threads + Sync, S: Shelf, G: Gate + Sync, N: Notice>(
     requires workers { (1 ≤ workers) × (workers ≤ 64) }
     ensures told { (files : Files) → (S.state shelf.old).files ≡ Some files → Gives ⊤ (OnRead (wad_in source.now.file files) (AllCalls out.now source.now.large only.now report.now method)) (reply_seen result) }
     ensures files { (S.state shelf.new).files ≡ (S.state shelf.old).files }
+    ensures begun { (S.state shelf.new).begun ≡ (S.state shelf.old).begun }
     ensures counts { NoneFell (S.state shelf.old) (S.state shelf.new) }
     ensures cause { Cause (S.state shelf.old) (S.state shelf.new) result }
     ensures refusals { IfErr result (IsOfAll only.now) }

@@ -55,6 +55,7 @@ pub fn judged_in<S: Shelf>(
     requires table { table.now.n ≡ plan.now.sectors }
     ensures told { (files : Files) → (S.state shelf.old).files ≡ Some files → JudgesFetched (IsJudgement (map_of plan.now) table.now) result (of_cert_fetch (content_of (files name.now) 9223372036854775807)) }
     ensures files { (S.state shelf.new).files ≡ (S.state shelf.old).files }
+    ensures begun { (S.state shelf.new).begun ≡ (S.state shelf.old).begun }
     ensures counts { NoneFell (S.state shelf.old) (S.state shelf.new) }
     ensures cause { Cause (S.state shelf.old) (S.state shelf.new) result }
     ensures refusals { IfErr result IsOfCertFetch }

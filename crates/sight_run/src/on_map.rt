@@ -113,6 +113,7 @@ pub fn reply_on<R: Threads + Sync, S: Shelf, G: Gate + Sync>(
         (with_report (report_of order.now) (texts (map (λ b. listener_state b) ended.new.items) ++ texts (map (λ b. listener_state b) listeners.new.items)) (reply_seen result)) }
     ensures heard { HearsOn order.now (found input) (heard_as (map (λ b. listener_state b) listeners.old.items) (map (λ b. listener_state b) listeners.new.items)) (status_of (reply_seen result)) }
     ensures files { (S.state shelf.new).files ≡ (S.state shelf.old).files }
+    ensures begun { (S.state shelf.new).begun ≡ (S.state shelf.old).begun }
     ensures counts { NoneFell (S.state shelf.old) (S.state shelf.new) }
     ensures cause { Cause (S.state shelf.old) (S.state shelf.new) result }
     ensures refusals { IfErr result (IsOfOrder order.now) }

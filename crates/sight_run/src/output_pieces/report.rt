@@ -1,11 +1,11 @@
 //! A report stored while it is read from its listeners.
 
-ghost use Rattle.std.specs.Prelude.{◌≡◌, ◌++◌, ℕ, List, OnErr, OnOk, Option, map};
+ghost use Rattle.std.specs.Prelude.{◌≡◌, ◌∷◌, ◌++◌, [], ℕ, List, OnErr, OnOk, Option, map};
 ghost use Rattle.std.specs.Option.{option_map};
 ghost use Rattle.listeners.specs.Listening.{listener_text};
 ghost use Rattle.listeners.specs.Told.{texts};
 ghost use Rattle.sight_run.specs.OutputPieces.UnderWay.{IsUnderWay};
-ghost use Rattle.shelf_io.specs.Shelf.{Files, MayHoldFront, NoneFell, Rose, SameCounts, put};
+ghost use Rattle.shelf_io.specs.Shelf.{BeginsAmong, Files, MayHoldFront, NoneFell, Rose, SameCounts, put};
 
 use listeners::{Listener, words_of};
 use shelf_io::{PIECE, Shelf};
@@ -17,6 +17,7 @@ fn put_text<S: Shelf>(shelf: &mut S, name: &str, listener: &Box<dyn Listener>) -
         OnOk result (IsUnderWay before (S.state shelf.new).files name.now all rest) }
     ensures failed { (before : Option Files) (all rest : List ℕ) → IsUnderWay before (S.state shelf.old).files name.now all (listener_text (listener_state listener.now) ++ rest) →
         OnErr result (MayHoldFront before (S.state shelf.new).files name.now all) }
+    ensures begun { BeginsAmong (S.state shelf.old).begun (S.state shelf.new).begun (name.now ∷ []) }
     ensures counts { NoneFell (S.state shelf.old) (S.state shelf.new) }
     ensures quiet { OnOk result (SameCounts (S.state shelf.old) (S.state shelf.new)) }
     ensures cause { OnErr result (Rose (S.state shelf.old).write_faults (S.state shelf.new).write_faults) }
@@ -39,6 +40,7 @@ fn put_texts<S: Shelf>(shelf: &mut S, name: &str, list: &[Box<dyn Listener>]) ->
         OnOk result (IsUnderWay before (S.state shelf.new).files name.now all rest) }
     ensures failed { (before : Option Files) (all rest : List ℕ) → IsUnderWay before (S.state shelf.old).files name.now all (texts (map (λ b. listener_state b) list.now) ++ rest) →
         OnErr result (MayHoldFront before (S.state shelf.new).files name.now all) }
+    ensures begun { BeginsAmong (S.state shelf.old).begun (S.state shelf.new).begun (name.now ∷ []) }
     ensures counts { NoneFell (S.state shelf.old) (S.state shelf.new) }
     ensures quiet { OnOk result (SameCounts (S.state shelf.old) (S.state shelf.new)) }
     ensures cause { OnErr result (Rose (S.state shelf.old).write_faults (S.state shelf.new).write_faults) }
@@ -59,6 +61,7 @@ pub fn store_report<S: Shelf>(
 ) -> Result<(), Failed>
     ensures stored { OnOk result ((S.state shelf.new).files ≡ option_map (λ files. put files name.now (texts (map (λ b. listener_state b) ended.now) ++ texts (map (λ b. listener_state b) left.now))) (S.state shelf.old).files) }
     ensures failed { OnErr result (MayHoldFront (S.state shelf.old).files (S.state shelf.new).files name.now (texts (map (λ b. listener_state b) ended.now) ++ texts (map (λ b. listener_state b) left.now))) }
+    ensures begun { BeginsAmong (S.state shelf.old).begun (S.state shelf.new).begun (name.now ∷ []) }
     ensures counts { NoneFell (S.state shelf.old) (S.state shelf.new) }
     ensures quiet { OnOk result (SameCounts (S.state shelf.old) (S.state shelf.new)) }
     ensures cause { OnErr result (Rose (S.state shelf.old).write_faults (S.state shelf.new).write_faults) }

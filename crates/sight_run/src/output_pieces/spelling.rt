@@ -1,9 +1,9 @@
 //! A certificate stored while it is spelled.
 
-ghost use Rattle.std.specs.Prelude.{◌≡◌, OnErr, OnOk};
+ghost use Rattle.std.specs.Prelude.{◌≡◌, ◌∷◌, [], OnErr, OnOk};
 ghost use Rattle.std.specs.Option.{option_map};
 ghost use Rattle.certificates.specs.Grammar.{spelling};
-ghost use Rattle.shelf_io.specs.Shelf.{MayHoldFront, NoneFell, Rose, SameCounts, put};
+ghost use Rattle.shelf_io.specs.Shelf.{BeginsAmong, MayHoldFront, NoneFell, Rose, SameCounts, put};
 
 use crate::output_pieces::spellable::Spellable;
 use shelf_io::{PIECE, Shelf};
@@ -14,6 +14,7 @@ use sight_names::Failed;
 pub fn store_spelling<S: Shelf>(shelf: &mut S, name: &str, cert: &Spellable) -> Result<(), Failed>
     ensures stored { OnOk result ((S.state shelf.new).files ≡ option_map (λ files. put files name.now (spelling cert.now)) (S.state shelf.old).files) }
     ensures failed { OnErr result (MayHoldFront (S.state shelf.old).files (S.state shelf.new).files name.now (spelling cert.now)) }
+    ensures begun { BeginsAmong (S.state shelf.old).begun (S.state shelf.new).begun (name.now ∷ []) }
     ensures counts { NoneFell (S.state shelf.old) (S.state shelf.new) }
     ensures quiet { OnOk result (SameCounts (S.state shelf.old) (S.state shelf.new)) }
     ensures cause { OnErr result (Rose (S.state shelf.old).write_faults (S.state shelf.new).write_faults) }

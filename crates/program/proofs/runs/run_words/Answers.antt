@@ -1,5 +1,5 @@
 use Rattle.std.proofs.Common.{rules, map, string_bytes}
-use Rattle.program.proofs.Running.{runs, runs_as, runs_reported}
+use Rattle.program.proofs.Running.{hears_given, hears_reported, runs, runs_as, runs_reported}
 use Rattle.program.proofs.Reporting.{reports, reports_if_ok}
 use Rattle.program.proofs.runs.run_words.Goals as goal
 
@@ -17,3 +17,9 @@ returns-clause-ends g c = λ files e. runs_reported (map string_bytes c.args.wor
 
 pub returns-clause-report : goal.returns-clause-report
 returns-clause-report g c = λ files e. reports_if_ok (map string_bytes c.args.words.now) files _ _ _ _ c.run_told.result (returns-clause-ends g c files e)
+
+pub returns-then-not-branch-clause-listeners : goal.returns-then-not-branch-clause-listeners
+returns-then-not-branch-clause-listeners g c = hears_given (map string_bytes c.args.words.now) _ _ _ _ c.run.result c.run.ensures.listeners (search rules)
+
+pub returns-clause-listeners : goal.returns-clause-listeners
+returns-clause-listeners g c = hears_reported (map string_bytes c.args.words.now) _ c.run_told.result (search rules) c.run_told.ensures.listeners

@@ -19,6 +19,7 @@ returns-in_default g c =
       told = λ files e. gives_alone c.args.order.now _ _ _ _ alone (c.answer_on.ensures.called files _);
       heard = unheard_alone c.args.order.now (found c.args.input) _ _ alone refl;
       files = refl;
+      begun = refl;
       counts = record { read_faults = omega arith; write_faults = omega arith; absents = omega arith };
       cause = past_cause _ c.answer_on.result c.answer_on.ensures.past;
       refusals = c.answer_on.ensures.refusals;

@@ -1,5 +1,6 @@
 use Rattle.std.proofs.Common.{rules, arith, take}
 use Rattle.std.proofs.lemmas.Result.{err_from_is_err_and}
+use Rattle.shelf_io.proofs.BegunLemmas.{among_then}
 use Rattle.sight_run.proofs.OutputPieces.OnWay.{left_is, next_bytes, nothing_left, piece_failed, piece_put, words_fit}
 use Rattle.sight_run.proofs.output_pieces.report.put_text.Goals as goal
 
@@ -15,6 +16,7 @@ loop-piece-preserved g c =
           (next_bytes _ piece c.loop-piece.piece rest c.loop-piece.at n (words_fit _ _ piece c.loop-piece.at n words) words.bytes) c.in_ok-append.ensures.added;
       within = omega (arith, words.count, c.loop-piece.invariant.within);
       room = search rules;
+      begun = among_then _ _ _ _ c.loop-piece.invariant.begun c.in_ok-append.ensures.begun;
       counts = search rules;
       quiet = search rules;
     }
@@ -34,3 +36,6 @@ pub returns-then-count-eq0-clause-put : goal.returns-then-count-eq0-clause-put
 returns-then-count-eq0-clause-put g c =
     let words = c.words_of-count.ensures.words in
     λ before all rest h. left_is before _ _ all _ rest (nothing_left _ rest c.loop-piece.at (omega (arith, words.count, c.if-count-eq0.true, c.loop-piece.invariant.room))) (c.loop-piece.invariant.way before all rest h)
+
+pub returns-in_err-append-clause-begun : goal.returns-in_err-append-clause-begun
+returns-in_err-append-clause-begun g c = among_then _ _ _ _ c.loop-piece.invariant.begun c.in_err-append.ensures.begun

@@ -1,6 +1,6 @@
-use Rattle.std.proofs.Common.{◌≡◌, ◌-◌, ◌≤◌, ℕ, List, ◌++◌, Option, drop, length}
+use Rattle.std.proofs.Common.{◌≡◌, ◌-◌, ◌≤◌, ℕ, List, [], ◌∷◌, ◌++◌, Option, drop, length}
 use Rattle.listeners.specs.Listening.{listener_text}
-use Rattle.shelf_io.specs.Shelf.{Files, NoneFell, SameCounts}
+use Rattle.shelf_io.specs.Shelf.{BeginsAmong, Files, NoneFell, SameCounts}
 use Rattle.sight_run.specs.OutputPieces.UnderWay.{IsUnderWay}
 use Rattle.sight_run.proofs.output_pieces.report.put_text.Given as goal
 
@@ -13,6 +13,7 @@ invariant-loop-piece g l =
       way : (before : Option Files) (all rest : List ℕ) → IsUnderWay before (state l.fn.shelf).files l.name all (text ++ rest) → IsUnderWay before (state l.shelf).files l.name all (drop l.at text ++ rest);
       within : l.at ≤ length text;
       room : length l.piece ≡ 65536;
+      begun : BeginsAmong (state l.fn.shelf).begun (state l.shelf).begun (l.name ∷ []);
       counts : NoneFell (state l.fn.shelf) (state l.shelf);
       quiet : SameCounts (state l.fn.shelf) (state l.shelf);
     }

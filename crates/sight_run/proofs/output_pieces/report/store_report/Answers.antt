@@ -1,6 +1,7 @@
 use Rattle.std.proofs.Common.{[], sym, refl}
 use Rattle.std.proofs.lemmas.List.{append-nil}
 use Rattle.std.proofs.lemmas.Result.{err_from_is_err_and}
+use Rattle.shelf_io.proofs.BegunLemmas.{among_then}
 use Rattle.sight_run.proofs.OutputPieces.OnWay.{all_put, begun, left_is}
 use Rattle.sight_run.proofs.output_pieces.report.store_report.Goals as goal
 
@@ -19,3 +20,12 @@ pub returns-clause-stored : goal.returns-clause-stored
 returns-clause-stored g c =
     let ended = c.in_ok-put_texts.ensures.put _ _ _ (begun _ _ c.args.name.now _ c.in_ok-create.ensures.made) in
     all_put _ _ c.args.name.now _ [] (c.in_ok-put_texts-2.ensures.put _ _ [] (left_is _ _ _ _ _ _ (sym (append-nil _)) ended)) refl
+
+pub returns-in_err-put_texts-clause-begun : goal.returns-in_err-put_texts-clause-begun
+returns-in_err-put_texts-clause-begun g c = among_then _ _ _ _ c.in_ok-create.ensures.begun c.in_err-put_texts.ensures.begun
+
+pub returns-in_err-put_texts-2-clause-begun : goal.returns-in_err-put_texts-2-clause-begun
+returns-in_err-put_texts-2-clause-begun g c = among_then _ _ _ _ (among_then _ _ _ _ c.in_ok-create.ensures.begun c.in_ok-put_texts.ensures.begun) c.in_err-put_texts-2.ensures.begun
+
+pub returns-clause-begun : goal.returns-clause-begun
+returns-clause-begun g c = among_then _ _ _ _ (among_then _ _ _ _ c.in_ok-create.ensures.begun c.in_ok-put_texts.ensures.begun) c.in_ok-put_texts-2.ensures.begun

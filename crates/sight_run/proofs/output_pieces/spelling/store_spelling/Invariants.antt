@@ -1,6 +1,6 @@
-use Rattle.std.proofs.Common.{◌≡◌, length}
+use Rattle.std.proofs.Common.{◌≡◌, [], ◌∷◌, length}
 use Rattle.certificates.specs.Grammar.{spelling}
-use Rattle.shelf_io.specs.Shelf.{NoneFell, SameCounts}
+use Rattle.shelf_io.specs.Shelf.{BeginsAmong, NoneFell, SameCounts}
 use Rattle.sight_run.specs.OutputPieces.UnderWay.{IsUnderWay}
 use Rattle.sight_run.proofs.output_pieces.spelling.store_spelling.Given as goal
 
@@ -11,6 +11,7 @@ invariant-loop-printer g l =
     record {
       way : IsUnderWay (state l.fn.shelf).files (state l.shelf).files l.name (spelling l.cert) l.printer;
       room : length l.piece ≡ 65536;
+      begun : BeginsAmong (state l.fn.shelf).begun (state l.shelf).begun (l.name ∷ []);
       counts : NoneFell (state l.fn.shelf) (state l.shelf);
       quiet : SameCounts (state l.fn.shelf) (state l.shelf);
     }
