@@ -32,7 +32,7 @@ uint32_t doomsight_abi(void);
 
 /* The version of this header: 10000 times its first number, 100 times its second, and its third. doomsight_version() tells that
  * of the library. */
-#define DOOMSIGHT_VERSION 10000
+#define DOOMSIGHT_VERSION 10100
 uint32_t doomsight_version(void);
 
 /* Bytes of stack that a call has to find free, whatever the map: three times what any was seen to touch. Tried by bench/c_library.sh,

@@ -33,9 +33,9 @@ pub extern "C" fn doomsight_abi() -> u32
 /// The version of the library, as ten thousand times its first number, a hundred times its second, and its third.
 #[unsafe(no_mangle)]
 pub extern "C" fn doomsight_version() -> u32
-    ensures { result ≡ 10000 }
+    ensures { result ≡ 10100 }
 {
-    10_000
+    10_100
 }
 
 /// Writes 1, 2, 3 and so on into the fields, in their order: what a header takes for their layout is read out of them.

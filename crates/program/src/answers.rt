@@ -6,7 +6,7 @@ use sight_names::Failed;
 use sight_run::{Role, Status};
 
 /// The version of the program.
-pub const VERSION: &str = "1.0.0";
+pub const VERSION: &str = "1.1.0";
 
 /// What words ask of the program itself.
 #[derive(Clone, Copy)]

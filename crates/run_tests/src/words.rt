@@ -202,10 +202,10 @@ static SOME: [&str; 14] = [
 
 /// Words that ask of the program itself, and how the answer begins.
 const QUESTIONS: &str = "\
---version | doomsight 1.0.0
--h | doomsight 1.0.0: 
-paint --help | doomsight 1.0.0: 
-build a --version --help | doomsight 1.0.0
+--version | doomsight 1.1.0
+-h | doomsight 1.1.0: 
+paint --help | doomsight 1.1.0: 
+build a --version --help | doomsight 1.1.0
 audit a MAP01 -h | doomsight audit WAD MAP
 why --help | doomsight why WAD MAP A B [--budget N|full|enough] [--large]
 draw --help | doomsight draw WAD MAP OUT [A [B [--budget N|full|enough]] | --faults] [--large]
