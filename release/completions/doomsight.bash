@@ -3,11 +3,11 @@ _doomsight() {
     local program=${COMP_WORDS[0]} verb=${COMP_WORDS[1]} words=
     local now=${COMP_WORDS[COMP_CWORD]} before=${COMP_WORDS[COMP_CWORD - 1]}
     if [ "$COMP_CWORD" = 1 ]; then
-        words="$("$program" --help 2>/dev/null | awk '$1 == "doomsight" && $2 ~ /^[a-z]+$/ { print $2 }') --help --version"
+        words="$("$program" --help 2>/dev/null | sed -n 's/^  \([a-z][a-z]*\) .*/\1/p') help --help --version"
     elif [ "$before" = --budget ]; then
         words="full enough"
     elif [[ $now == -* ]]; then
-        words="$("$program" "$verb" --help 2>/dev/null | head -n 1 | grep -o -e '--[a-z]*') --help"
+        words="$("$program" "$verb" --help 2>/dev/null | sed -n 's/^  \(--[a-z]*\) .*/\1/p') --help"
     elif [ "$before" = --only ] || { [ "$COMP_CWORD" = 3 ] && [ "$verb" != all ]; }; then
         words=$(grep -aoE 'MAP[0-9][0-9]|E[0-9]M[0-9]' -- "${COMP_WORDS[2]}" 2>/dev/null | sort -u)
     fi

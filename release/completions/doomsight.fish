@@ -1,12 +1,12 @@
 # Completes the words of doomsight in fish. Verbs and options are those that the program's own help names.
 function __doomsight_verbs
-    doomsight --help 2>/dev/null | string match --regex --groups-only '^doomsight ([a-z]+) '
-    printf '%s\n' --help --version
+    doomsight --help 2>/dev/null | sed -n 's/^  \([a-z][a-z]*\) .*/\1/p'
+    printf '%s\n' help --help --version
 end
 
 function __doomsight_options
     set --local before (commandline --tokenize --cut-at-cursor --current-process)
-    doomsight $before[2] --help 2>/dev/null | head -n 1 | grep -o -e '--[a-z]*'
+    doomsight $before[2] --help 2>/dev/null | sed -n 's/^  \(--[a-z]*\) .*/\1/p'
     echo --help
 end
 

@@ -1,6 +1,7 @@
-//! What the program says of itself: its version, its verbs, and what one verb does.
+//! What the program says of itself: its version, its verbs and options, and what one verb does.
 
-use crate::verbs::{VERBS, Verb, verb_named};
+use crate::help::{put_options, put_parts, put_purposes, put_verb};
+use crate::verbs::{Verb, verb_named};
 use shelf_io::Sink;
 use sight_names::Failed;
 use sight_run::{Role, Status};
@@ -23,32 +24,21 @@ fn first_verb(words: &[String]) -> Option<&'static Verb> {
     }
 }
 
-/// What the first word asks that is `--help`, `-h` or `--version`, and stands before any `--`. With the first of all words a
-/// verb, help is for that verb.
+/// What the words ask: `help` as the first of them, or the first that is `--help`, `-h`, `--version` or `-V` and stands before
+/// any `--`. Where the first word, or the one behind `help`, is a verb, help is for that verb.
 pub fn question_in(words: &[String]) -> Option<Question> {
+    if words.first().is_some_and(|word| word.as_str() == "help") {
+        return Some(Question::Help(first_verb(words.get(1..).unwrap_or(&[]))));
+    }
     for word in words {
         match word.as_str() {
             "--" => return None,
             "--help" | "-h" => return Some(Question::Help(first_verb(words))),
-            "--version" => return Some(Question::Version),
+            "--version" | "-V" => return Some(Question::Version),
             _ => {}
         }
     }
     None
-}
-
-fn put_parts<O: Sink>(out: &mut O, parts: &[&str]) -> Result<(), Failed> {
-    for part in parts {
-        out.put(part.as_bytes())?;
-    }
-    Ok(())
-}
-
-fn put_synopses<O: Sink>(out: &mut O) -> Result<(), Failed> {
-    for verb in VERBS.iter() {
-        put_parts(out, &[verb.synopsis, "\n"])?;
-    }
-    Ok(())
 }
 
 fn put_help<O: Sink>(out: &mut O) -> Result<(), Failed> {
@@ -57,13 +47,15 @@ fn put_help<O: Sink>(out: &mut O) -> Result<(), Failed> {
         &[
             "doomsight ",
             VERSION,
-            ": builds and checks the REJECT table of a Doom map, with a certificate.\n\n",
+            ": builds and checks the REJECT table of a Doom map.\n\ndoomsight VERB WORDS.. [OPTIONS]\n\n",
         ],
     )?;
-    put_synopses(out)?;
+    put_purposes(out)?;
+    out.put(b"\n")?;
+    put_options(out)?;
     put_parts(
         out,
-        &["\nWith --help behind a verb it says what that verb does.\n"],
+        &["\ndoomsight VERB --help says which words and options a verb takes.\n"],
     )
 }
 
@@ -71,7 +63,7 @@ fn put_answer<O: Sink>(out: &mut O, question: &Question) -> Result<(), Failed> {
     match question {
         Question::Version => put_parts(out, &["doomsight ", VERSION, "\n"]),
         Question::Help(None) => put_help(out),
-        Question::Help(Some(verb)) => put_parts(out, &[verb.synopsis, "\n\n", verb.about, "\n"]),
+        Question::Help(Some(verb)) => put_verb(out, verb),
     }
 }
 

@@ -6,6 +6,7 @@ ghost use Rattle.std.specs.Process.{exit_status};
 ghost use Rattle.map_answers.specs.SightStatus.Status.{number_of};
 
 pub mod answers;
+mod help;
 pub mod progress;
 pub mod runs;
 pub mod usage;
@@ -104,7 +105,7 @@ pub fn run_order<R: Files + Print + Threads + Sync + AllocGlobal, E: Print + IsT
     let progress = Progress::new(err, err.is_terminal());
     let status = obey(rt, rt.alloc(), words, &mut out, &progress);
     if status == Status::Usage {
-        let _ = print_diagnosis(err, words);
+        print_diagnosis(err, words);
     }
     exit_code(&status)
 }

@@ -1,8 +1,11 @@
 //! What is wrong with words that are no order: the first word behind which no words make an order of those up to it.
 //! `order_words` has the last word on which words are an order; a test holds the two together.
 
-use crate::verbs::{Choice, Place, VERBS, Verb, verb_named};
+use crate::help::{put_synopses, put_synopsis};
+use crate::verbs::{Choice, OPTIONS, Place, VERBS, Verb, entry_of, option_named, verb_named};
 use order_words::{budget, may_name_file, may_name_map, ray, rooms, sector, workers};
+use shelf_io::StdSink;
+use sight_names::Failed;
 use std::io;
 
 /// Why a word can't stand where it does.
@@ -30,8 +33,8 @@ pub enum Why {
 pub enum Fault {
     /// The word of this number, counted from 0.
     Word { at: usize, why: Why },
-    /// No word is wrong, but one is missing behind them.
-    Missing,
+    /// No word is wrong, but one is missing behind them, which synopses call so.
+    Missing(&'static str),
 }
 
 /// What is wrong with words, nothing where they are an order, and the verb among them.
@@ -85,37 +88,10 @@ impl Given {
     }
 }
 
-const CHOICES: [Choice; 9] = [
-    Choice::Only,
-    Choice::Cert,
-    Choice::Report,
-    Choice::Budget,
-    Choice::Workers,
-    Choice::Hexen,
-    Choice::Large,
-    Choice::Faults,
-    Choice::Exact,
-];
-
-fn choice_named(name: &str) -> Option<Choice> {
-    match name {
-        "only" => Some(Choice::Only),
-        "cert" => Some(Choice::Cert),
-        "report" => Some(Choice::Report),
-        "budget" => Some(Choice::Budget),
-        "workers" => Some(Choice::Workers),
-        "hexen" => Some(Choice::Hexen),
-        "large" => Some(Choice::Large),
-        "faults" => Some(Choice::Faults),
-        "exact" => Some(Choice::Exact),
-        _ => None,
-    }
-}
-
 // A budget is for two sectors and the faults are of the map alone, so no verb takes both; nor is there a budget where every pair
 // is decided.
 fn takes_all(verb: &Verb, given: Given) -> bool {
-    CHOICES.iter().all(|choice| !given.has(*choice) || verb.choices.contains(choice))
+    OPTIONS.iter().all(|entry| !given.has(entry.choice) || verb.takes(entry.choice))
         && !(given.budget && (given.faults || given.exact))
 }
 
@@ -141,10 +117,10 @@ fn unless(fits: bool, why: Why) -> Result<(), Why> {
 
 fn fits_place(place: Place, word: &str) -> Result<(), Why> {
     match place {
-        Place::File => unless(may_name_file(word), Why::NoFile),
+        Place::Wad | Place::Out | Place::Cert => unless(may_name_file(word), Why::NoFile),
         Place::Map => unless(may_name_map(word), Why::NoMap),
         Place::Ray => unless(ray(word).is_some(), Why::NoRay),
-        Place::Sector => unless(sector(word).is_some(), Why::NoSector),
+        Place::First | Place::Second => unless(sector(word).is_some(), Why::NoSector),
         Place::Rooms => unless(rooms(word).is_some(), Why::NoRooms),
     }
 }
@@ -240,8 +216,8 @@ impl Reader {
             Some(body) => parts_of(body),
             None => return Err(Why::NoOption),
         };
-        match choice_named(name) {
-            Some(choice) => self.take_choice(choice, value),
+        match option_named(name) {
+            Some(entry) => self.take_choice(entry.choice, value),
             None => Err(Why::NoOption),
         }
     }
@@ -276,10 +252,19 @@ impl Reader {
         }
     }
 
-    fn is_complete(&self) -> bool {
+    // What synopses call the word that is missing, nothing where none is.
+    fn missing(&self) -> Option<&'static str> {
+        if let Some(choice) = self.waiting {
+            return Some(entry_of(choice).map_or("", |entry| entry.value));
+        }
         match self.verb {
-            Some(verb) => self.waiting.is_none() && may_end(verb, self.filled, self.given),
-            None => false,
+            Some(verb) if may_end(verb, self.filled, self.given) => None,
+            Some(verb) => Some(
+                verb.places
+                    .get(self.filled)
+                    .map_or("", |place| place.name()),
+            ),
+            None => Some("VERB"),
         }
     }
 }
@@ -296,11 +281,7 @@ pub fn diagnose(words: &[String]) -> Diagnosis {
         }
     }
     Diagnosis {
-        fault: if reader.is_complete() {
-            None
-        } else {
-            Some(Fault::Missing)
-        },
+        fault: reader.missing().map(Fault::Missing),
         verb: reader.verb,
     }
 }
@@ -326,15 +307,11 @@ fn reason(why: Why) -> &'static str {
 }
 
 /// Prints the synopsis of the verb, or of each verb.
-pub fn print_synopsis<P: Print>(to: &P, verb: Option<&Verb>) -> io::Result<()> {
+pub fn print_synopsis<P: Print>(to: &P, verb: Option<&Verb>) -> Result<(), Failed> {
+    let mut out = StdSink::new(to);
     match verb {
-        Some(verb) => to.println(verb.synopsis),
-        None => {
-            for verb in VERBS.iter() {
-                to.println(verb.synopsis)?;
-            }
-            Ok(())
-        }
+        Some(verb) => put_synopsis(&mut out, verb),
+        None => put_synopses(&mut out),
     }
 }
 
@@ -343,21 +320,26 @@ pub fn print_larger_limits<P: Print>(to: &P) -> io::Result<()> {
     to.println("doomsight: try --large (16,383 points, 32,768 lines, 16,384 sectors)")
 }
 
-/// Prints what is wrong with words that are no order, and a synopsis.
-pub fn print_diagnosis<P: Print>(to: &P, words: &[String]) -> io::Result<()> {
-    let found = diagnose(words);
-    match found.fault {
-        Some(Fault::Word { at, why }) => {
+fn print_fault<P: Print>(to: &P, words: &[String], fault: Fault) -> io::Result<()> {
+    match fault {
+        Fault::Word { at, why } => {
             let number = at.saturating_add(1);
             let word = match words.get(at) {
                 Some(word) => word.as_str(),
                 None => "",
             };
             let reason = reason(why);
-            println!(to; "word {number}, {word:?}: {reason}")?;
+            println!(to; "word {number}, {word:?}: {reason}")
         }
-        Some(Fault::Missing) => println!(to; "a word is missing at the end")?,
-        None => {}
+        Fault::Missing(name) => println!(to; "{name} is missing"),
     }
-    print_synopsis(to, found.verb)
+}
+
+/// Prints what is wrong with words that are no order, and a synopsis. What can't be printed is left out.
+pub fn print_diagnosis<P: Print>(to: &P, words: &[String]) {
+    let found = diagnose(words);
+    if let Some(fault) = found.fault {
+        let _ = print_fault(to, words, fault);
+    }
+    let _ = print_synopsis(to, found.verb);
 }

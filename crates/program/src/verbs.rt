@@ -3,14 +3,33 @@
 ghost use Rattle.std.specs.Prelude.{◌≡◌};
 ghost use Rattle.program.specs.Options.{takes_no_value};
 
-/// What a word behind a verb has to be.
+/// A word that stands behind a verb.
 #[derive(Clone, Copy)]
 pub enum Place {
-    File,
+    Wad,
     Map,
+    Out,
+    Cert,
     Ray,
-    Sector,
+    First,
+    Second,
     Rooms,
+}
+
+impl Place {
+    /// Its name in a synopsis.
+    pub fn name(self) -> &'static str {
+        match self {
+            Place::Wad => "WAD",
+            Place::Map => "MAP",
+            Place::Out => "OUT",
+            Place::Cert => "CERT",
+            Place::Ray => "RAY",
+            Place::First => "A",
+            Place::Second => "B",
+            Place::Rooms => "N",
+        }
+    }
 }
 
 /// An option; the last four take no value.
@@ -39,6 +58,92 @@ impl Choice {
     }
 }
 
+/// How an option is written, and what it means.
+pub struct Entry {
+    pub choice: Choice,
+    /// Its name, behind two hyphens.
+    pub name: &'static str,
+    /// Its value, as a synopsis has it; empty where it takes none.
+    pub value: &'static str,
+    /// What it does, and what is done without it.
+    pub about: &'static str,
+}
+
+impl Entry {
+    /// What stands between its name and its value.
+    pub fn gap(&self) -> &'static str {
+        if self.choice.is_flag() { "" } else { " " }
+    }
+}
+
+/// All options, in the order of the synopses.
+pub static OPTIONS: [Entry; 9] = [
+    Entry {
+        choice: Choice::Only,
+        name: "only",
+        value: "MAP,MAP",
+        about: "builds these maps; else all of the WAD",
+    },
+    Entry {
+        choice: Choice::Cert,
+        name: "cert",
+        value: "FILE",
+        about: "writes the certificate to FILE; else to none",
+    },
+    Entry {
+        choice: Choice::Report,
+        name: "report",
+        value: "FILE",
+        about: "writes what came of each map or pair to FILE",
+    },
+    Entry {
+        choice: Choice::Exact,
+        name: "exact",
+        value: "",
+        about: "decides every pair, in place of a budget",
+    },
+    Entry {
+        choice: Choice::Budget,
+        name: "budget",
+        value: "N|full|enough",
+        about: "sequences followed from a sector; else 16384",
+    },
+    Entry {
+        choice: Choice::Workers,
+        name: "workers",
+        value: "N",
+        about: "threads, 1 to 64; else 4",
+    },
+    Entry {
+        choice: Choice::Large,
+        name: "large",
+        value: "",
+        about: "maps of up to 16383 points, 32768 lines, 16384 sectors",
+    },
+    Entry {
+        choice: Choice::Hexen,
+        name: "hexen",
+        value: "",
+        about: "makes the map in Hexen's format; else in Doom's",
+    },
+    Entry {
+        choice: Choice::Faults,
+        name: "faults",
+        value: "",
+        about: "draws what audit refuses, in place of A and B",
+    },
+];
+
+/// The option of that name.
+pub fn option_named(name: &str) -> Option<&'static Entry> {
+    OPTIONS.iter().find(|entry| entry.name == name)
+}
+
+/// The option that is this choice.
+pub fn entry_of(choice: Choice) -> Option<&'static Entry> {
+    OPTIONS.iter().find(|entry| entry.choice == choice)
+}
+
 /// A verb.
 pub struct Verb {
     pub name: &'static str,
@@ -48,119 +153,127 @@ pub struct Verb {
     pub spare: &'static [usize],
     /// The options that it takes.
     pub choices: &'static [Choice],
-    pub synopsis: &'static str,
-    /// What it does, in one sentence.
+    /// What it is for, in half a line.
+    pub purpose: &'static str,
+    /// What it does, in lines.
     pub about: &'static str,
+}
+
+impl Verb {
+    /// Whether it takes this option.
+    pub fn takes(&self, choice: Choice) -> bool {
+        self.choices.contains(&choice)
+    }
 }
 
 /// All verbs.
 pub static VERBS: [Verb; 12] = [
     Verb {
         name: "all",
-        places: &[Place::File, Place::File],
+        places: &[Place::Wad, Place::Out],
         spare: &[],
         choices: &[
             Choice::Only,
             Choice::Report,
+            Choice::Exact,
             Choice::Budget,
             Choice::Workers,
             Choice::Large,
-            Choice::Exact,
         ],
-        synopsis: "doomsight all WAD OUT [--only MAP,MAP] [--report FILE] [--exact | --budget N|full|enough] [--workers N] [--large]",
-        about: "Builds every map of the WAD, or those that are named, judges each table by its own certificate, and writes the WAD with these tables to OUT.",
+        purpose: "builds every map of a WAD, and judges each table",
+        about: "Builds every map of the WAD, or those that are named, judges each table by its\nown certificate, and writes the WAD with these tables to OUT. A map that is\nrefused keeps its REJECT.",
     },
     Verb {
         name: "build",
-        places: &[Place::File, Place::Map, Place::File],
+        places: &[Place::Wad, Place::Map, Place::Out],
         spare: &[],
         choices: &[
             Choice::Cert,
             Choice::Report,
+            Choice::Exact,
             Choice::Budget,
             Choice::Workers,
             Choice::Large,
-            Choice::Exact,
         ],
-        synopsis: "doomsight build WAD MAP OUT [--cert FILE] [--report FILE] [--exact | --budget N|full|enough] [--workers N] [--large]",
-        about: "Writes the WAD with the map's REJECT to OUT, and a certificate and a report of the pairs of sectors where they are asked for.",
+        purpose: "writes a WAD with the table of one map, and a certificate",
+        about: "Writes the WAD with the map's REJECT to OUT, and a certificate and a report of\nthe pairs of sectors where they are asked for.",
     },
     Verb {
         name: "check",
-        places: &[Place::File, Place::Map, Place::File],
+        places: &[Place::Wad, Place::Map, Place::Cert],
         spare: &[],
         choices: &[Choice::Large],
-        synopsis: "doomsight check WAD MAP CERT [--large]",
-        about: "Judges the map's REJECT by a certificate; a yes means that no rejected pair can see.",
+        purpose: "judges the table of a map by a certificate",
+        about: "Judges the map's REJECT by a certificate; a yes means that no rejected pair can\nsee.",
     },
     Verb {
         name: "audit",
-        places: &[Place::File, Place::Map],
+        places: &[Place::Wad, Place::Map],
         spare: &[],
         choices: &[Choice::Large],
-        synopsis: "doomsight audit WAD MAP [--large]",
-        about: "Says whether the map is sound: lines meet at ends alone, and each face is closed.",
+        purpose: "says whether a map is sound, so that it can be built",
+        about: "Says whether the map is sound: lines meet at ends alone, and each face is\nclosed.",
     },
     Verb {
         name: "need",
-        places: &[Place::File, Place::Map],
+        places: &[Place::Wad, Place::Map],
         spare: &[],
         choices: &[Choice::Large],
-        synopsis: "doomsight need WAD MAP [--large]",
-        about: "Says how many sequences of portals the sector that needs most has, and a number that is enough for any map of this size.",
+        purpose: "says how great a budget is enough for a map",
+        about: "Says how many sequences of portals the sector that needs most has, and a number\nthat is enough for any map of this size.",
     },
     Verb {
         name: "why",
-        places: &[Place::File, Place::Map, Place::Sector, Place::Sector],
+        places: &[Place::Wad, Place::Map, Place::First, Place::Second],
         spare: &[],
         choices: &[Choice::Budget, Choice::Large],
-        synopsis: "doomsight why WAD MAP A B [--budget N|full|enough] [--large]",
-        about: "Says whether the sectors A and B see each other, and by which ray, by walks of these two alone.",
+        purpose: "says whether two sectors see each other, and by which ray",
+        about: "Says whether the sectors A and B see each other, and by which ray, by walks of\nthese two alone.",
     },
     Verb {
         name: "draw",
         places: &[
-            Place::File,
+            Place::Wad,
             Place::Map,
-            Place::File,
-            Place::Sector,
-            Place::Sector,
+            Place::Out,
+            Place::First,
+            Place::Second,
         ],
         spare: &[1, 2],
         choices: &[Choice::Budget, Choice::Large, Choice::Faults],
-        synopsis: "doomsight draw WAD MAP OUT [A [B [--budget N|full|enough]] | --faults] [--large]",
-        about: "Writes a picture (SVG) of the map to OUT: its plan, the row of sector A in its REJECT, whether A and B see each other, or what the audit refuses.",
+        purpose: "draws a map, the row of a sector, or a pair of sectors",
+        about: "Writes a picture (SVG) of the map to OUT: its plan, the row of sector A in its\nREJECT, whether A and B see each other, or what the audit refuses.",
     },
     Verb {
         name: "sound",
-        places: &[Place::File, Place::Map, Place::Sector, Place::Sector],
+        places: &[Place::Wad, Place::Map, Place::First, Place::Second],
         spare: &[2],
         choices: &[Choice::Large],
-        synopsis: "doomsight sound WAD MAP [A B] [--large]",
-        about: "Names the sides of the lines by which a noise gets from sector A to sector B; without them says how many pairs of sectors hear each other.",
+        purpose: "names the way of a noise from a sector to another",
+        about: "Names the sides of the lines by which a noise gets from sector A to sector B;\nwithout them says how many pairs of sectors hear each other.",
     },
     Verb {
         name: "ray",
-        places: &[Place::File, Place::Map, Place::Ray],
+        places: &[Place::Wad, Place::Map, Place::Ray],
         spare: &[],
         choices: &[Choice::Large],
-        synopsis: "doomsight ray WAD MAP RAY [--large]",
-        about: "Says whether a ray is a line of sight, and between which sectors, or what is wrong with it.",
+        purpose: "says whether a ray is a line of sight",
+        about: "Says whether a ray is a line of sight, and between which sectors, or what is\nwrong with it. A ray is one word, as 2R,5L,0,1,-32: the sides where it starts\nand ends, and the line a*x + b*y + c = 0 as a,b,c.",
     },
     Verb {
         name: "trace",
-        places: &[Place::File, Place::Map, Place::Ray],
+        places: &[Place::Wad, Place::Map, Place::Ray],
         spare: &[],
         choices: &[Choice::Large],
-        synopsis: "doomsight trace WAD MAP RAY [--large]",
-        about: "Names the sectors that a ray passes, or what it hits first.",
+        purpose: "names the sectors that a ray passes, or what it hits",
+        about: "Names the sectors that a ray passes, or what it hits first. A ray is one word,\nas 2R,5L,0,1,-32: the sides where it starts and ends, and the line\na*x + b*y + c = 0 as a,b,c.",
     },
     Verb {
         name: "zero",
-        places: &[Place::File, Place::Map, Place::File],
+        places: &[Place::Wad, Place::Map, Place::Out],
         spare: &[],
         choices: &[Choice::Large],
-        synopsis: "doomsight zero WAD MAP OUT [--large]",
+        purpose: "writes a WAD with an all-clear table for a map",
         about: "Writes the WAD with an all-clear REJECT for the map to OUT, without an audit.",
     },
     Verb {
@@ -168,12 +281,12 @@ pub static VERBS: [Verb; 12] = [
         places: &[Place::Rooms],
         spare: &[],
         choices: &[
+            Choice::Exact,
             Choice::Budget,
             Choice::Workers,
             Choice::Hexen,
-            Choice::Exact,
         ],
-        synopsis: "doomsight grid N [--exact | --budget N|full|enough] [--workers N] [--hexen]",
+        purpose: "makes a map of N by N rooms, and builds and checks it",
         about: "Makes a map of N by N rooms, and builds and checks it in memory.",
     },
 ];

@@ -5,6 +5,7 @@ use program::answers::{answer, question_in};
 use program::progress::Progress;
 use program::runs::run_words;
 use program::usage::{Fault, diagnose};
+use program::verbs::VERBS;
 use shelf_io::MemSink;
 use sight_names::OrderFault;
 use sight_run::{NoNotice, Notice, Status, code};
@@ -13,15 +14,15 @@ use std::test::Fail;
 use std::thread::Threads;
 use worked_maps::stages::{Stage, stage_of, words_in};
 
-/// Words, and the number of the first wrong one, `end` where one is missing, or `-` where they are an order. The word `''` is
-/// empty.
+/// Words, and the number of the first wrong one, the name of the one that is missing, or `-` where they are an order. The word `''`
+/// is empty.
 const WORDS: &str = "\
- | end
+ | VERB
 paint a MAP01 b | 1
 '' a | 1
 - a | 1
-zero | end
-zero a MAP01 | end
+zero | WAD
+zero a MAP01 | OUT
 zero a MAP01 b | -
 zero a MAP01 a | -
 zero a map01 b | -
@@ -57,7 +58,7 @@ audit a MAP01 b | 4
 audit --large a MAP01 | -
 audit a MAP01 --large b | 5
 audit a MAP01 --large --budget 1 | 5
-need a | end
+need a | MAP
 need a MAP01 --large | -
 need a MAP01 --budget enough | 4
 check a MAP01 c | -
@@ -69,9 +70,9 @@ ray a MAP01 65536R,2L,0,1,-32 | 4
 ray a MAP01 2R,2L,0,1,-32 --large | -
 trace a MAP01 2R,5L,0,1,0 | -
 trace a MAP01 2R,5L,0,1,0 --large | -
-trace a MAP01 | end
+trace a MAP01 | RAY
 sound a MAP01 | -
-sound a MAP01 0 | end
+sound a MAP01 0 | B
 sound a MAP01 0 1 | -
 sound a MAP01 --large 0 1 | -
 sound a MAP01 --large | -
@@ -80,13 +81,13 @@ sound a MAP01 000000 1 | 4
 sound a MAP01 0 1 2 | 6
 why a MAP01 0 1 | -
 why a MAP01 0 1 --budget full --large | -
-why a MAP01 0 | end
-why a MAP01 | end
+why a MAP01 0 | B
+why a MAP01 | A
 why a MAP01 0 65536 | 5
 why a MAP01 0 1 2 | 6
 why a MAP01 0 1 --workers 2 | 6
 why a MAP01 0 1 --faults | 6
-draw a MAP01 | end
+draw a MAP01 | OUT
 draw a MAP01 b | -
 draw a MAP01 b --faults --large | -
 draw --faults a MAP01 b | -
@@ -97,8 +98,8 @@ draw a MAP01 b 0 1 | -
 draw a MAP01 b 0 1 --budget full --large | -
 draw a MAP01 b 0 1 2 | 7
 draw a MAP01 b 0 1 --workers 2 | 7
-draw a MAP01 b --budget 5 | end
-draw a MAP01 b 0 --budget 5 | end
+draw a MAP01 b --budget 5 | A
+draw a MAP01 b 0 --budget 5 | B
 draw --budget 5 a MAP01 b 0 1 | -
 draw --faults a MAP01 b 0 | 6
 draw a MAP01 b 0 --faults | 6
@@ -111,7 +112,7 @@ build a MAP01 b --cert c --report r --budget full --workers 8 | -
 build a MAP01 b --cert c --report r --budget full --workers 8 --large | -
 build a MAP01 b --large c | 6
 --report r build a --cert=c MAP01 --workers=64 b --budget=enough | -
-build a MAP01 b --cert | end
+build a MAP01 b --cert | FILE
 build a MAP01 b --cert= | 5
 build a MAP01 b --cert '' | 6
 build a MAP01 b --cert --report r | 6
@@ -153,8 +154,13 @@ build a MAP01 b --hexen | 5
 --report r grid 2 | 3
 --report r all a b | -
 all a b | -
-all a | end
+all a | OUT
 all a b --cert c | 4
+all a --only | MAP,MAP
+check a MAP01 | CERT
+grid | N
+help | 1
+-V | 1
 all a b --large | -
 all a b --large --only MAP01,MAP02 --report r | -
 all a b --only map01,MAP02 | -
@@ -176,7 +182,7 @@ grid 2 --hexen=true | 3
 grid 2 --hexen= | 3
 grid 2 --hexen --hexen | 4
 grid --report r 2 | 2
-grid --budget | end
+grid --budget | N|full|enough
 grid 2 --large | 3
 --large grid 2 | 2
 --large --hexen | 2
@@ -203,15 +209,52 @@ static SOME: [&str; 14] = [
 /// Words that ask of the program itself, and how the answer begins.
 const QUESTIONS: &str = "\
 --version | doomsight 1.1.0
+-V | doomsight 1.1.0
 -h | doomsight 1.1.0: 
+help | doomsight 1.1.0: 
+help paint | doomsight 1.1.0: 
 paint --help | doomsight 1.1.0: 
 build a --version --help | doomsight 1.1.0
-audit a MAP01 -h | doomsight audit WAD MAP
+build a -h -V | doomsight build WAD MAP OUT [--cert FILE] [--report FILE]
+audit a MAP01 -h | doomsight audit WAD MAP [--large]
+help check | doomsight check WAD MAP CERT [--large]
+all --help | doomsight all WAD OUT [--only MAP,MAP] [--report FILE]
 why --help | doomsight why WAD MAP A B [--budget N|full|enough] [--large]
 draw --help | doomsight draw WAD MAP OUT [A [B [--budget N|full|enough]] | --faults] [--large]
+help sound -V | doomsight sound WAD MAP [A B] [--large]
 grid --help | doomsight grid N [--exact | --budget N|full|enough] [--workers N] [--hexen]
 sound -- --help | 
+-- help | 
+zero help MAP01 b | 
 zero a MAP01 b | 
+";
+
+/// What `build --help` says.
+const BUILD: &str = "\
+doomsight build WAD MAP OUT [--cert FILE] [--report FILE]
+    [--exact | --budget N|full|enough] [--workers N] [--large]
+
+Writes the WAD with the map's REJECT to OUT, and a certificate and a report of
+the pairs of sectors where they are asked for.
+
+  --cert FILE             writes the certificate to FILE; else to none
+  --report FILE           writes what came of each map or pair to FILE
+  --exact                 decides every pair, in place of a budget
+  --budget N|full|enough  sequences followed from a sector; else 16384
+  --workers N             threads, 1 to 64; else 4
+  --large                 maps of up to 16383 points, 32768 lines, 16384 sectors
+";
+
+/// Lines that `--help` has.
+const HELP: &str = "\
+doomsight VERB WORDS.. [OPTIONS]
+  all    builds every map of a WAD, and judges each table
+  draw   draws a map, the row of a sector, or a pair of sectors
+  grid   makes a map of N by N rooms, and builds and checks it
+  --only MAP,MAP          builds these maps; else all of the WAD
+  --faults                draws what audit refuses, in place of A and B
+  -h, --help              this help, or behind a verb that of the verb
+  -V, --version           the version
 ";
 
 /// Files, words, and the exit code.
@@ -257,7 +300,7 @@ fn said_of(alloc: Global, words: &[String]) -> Result<String, OrderFault> {
     };
     let said = match fault {
         None if is_order => String::from_str(alloc, "-")?,
-        Some(Fault::Missing) if !is_order => String::from_str(alloc, "end")?,
+        Some(Fault::Missing(name)) if !is_order => String::from_str(alloc, name)?,
         Some(Fault::Word { at, .. }) if !is_order => at.saturating_add(1).to_string(alloc)?,
         _ => String::from_str(alloc, "unlike read_words")?,
     };
@@ -317,6 +360,41 @@ fn what_is_asked_of_the_program_is_answered(rt: HostRuntime) -> Result<(), Fail>
         }
         assert!(rt; out.held().starts_with(begins.trim().as_bytes()), "{row}");
         assert_eq!(rt; out.held().is_empty(), begins.trim().is_empty(), "{row}");
+    }
+    Ok(())
+}
+
+// What the program answers to words that ask of itself.
+fn told_by(alloc: Global, line: &str) -> Result<String, AllocError> {
+    let mut out = MemSink::new(alloc, Vec::new(alloc));
+    if let Some(question) = question_in(&words_of(alloc, line)?) {
+        answer(&mut out, &question);
+    }
+    String::from_str(alloc, str::from_utf8(out.held()).unwrap_or(""))
+}
+
+#[test]
+fn help_has_a_line_for_each_option(rt: HostRuntime) -> Result<(), Fail> {
+    let alloc = rt.alloc();
+    assert_eq!(rt; told_by(alloc, "build --help")?.as_str(), BUILD);
+    let told = told_by(alloc, "--help")?;
+    for line in HELP.lines() {
+        assert!(rt; told.lines().any(|row| row == line), "{line}");
+    }
+    Ok(())
+}
+
+#[test]
+fn help_fits_into_a_terminal(rt: HostRuntime) -> Result<(), Fail> {
+    let alloc = rt.alloc();
+    assert!(rt; told_by(alloc, "--help")?.lines().all(|row| row.len() <= 80));
+    for verb in VERBS.iter() {
+        let line = format!(in alloc; "help {}", verb.name)?;
+        let told = told_by(alloc, &line)?;
+        assert!(rt;
+            told.starts_with("doomsight ") && told.lines().all(|row| row.len() <= 80),
+            "{line}"
+        );
     }
     Ok(())
 }
