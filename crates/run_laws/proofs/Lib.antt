@@ -7,7 +7,7 @@ pub mod Done
 pub mod Room
 pub mod RightTables
 pub mod AllRight
-pub mod Pairs
+pub mod PairLaws
 pub mod SameMaps
 pub mod Planned
 pub mod FoundPlan

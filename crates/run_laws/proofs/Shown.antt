@@ -1,5 +1,5 @@
 -- The picture of a pair shows the lines of the map.
-use Rattle.std.proofs.Common.{◌≡◌, inl, inr, ℕ, zero, suc, List, [], ◌∷◌, ◌++◌, map, Option, Some, None, ap, codes}
+use Rattle.std.proofs.Common.{◌≡◌, inl, inr, ℕ, zero, suc, List, [], ◌∷◌, ◌++◌, Option, Some, None, ap, codes}
 use Rattle.std.proofs.lemmas.Option.{none-some}
 use Rattle.sight_names.specs.declared.names.Ask.{Ask}
 use Rattle.sight_names.specs.declared.names.Budget.{Budget}
@@ -23,8 +23,8 @@ no_line : HasNoLine []
 no_line i l h = none-some (Line i l) h.1
 
 no_line_sight : (r : Ray) (first last : Option MapLine) → HasNoLine (sight_between r first last)
-no_line_sight r None last = no_line
-no_line_sight r (Some first) None = no_line
+no_line_sight r None last i l c = no_line i l c
+no_line_sight r (Some first) None i l c = no_line i l c
 no_line_sight r (Some first) (Some last) i l (zero, at) = cc
 no_line_sight r (Some first) (Some last) i l (suc k, at) = none-some (Line i l) at
 
@@ -37,7 +37,7 @@ no_line_entered ts i l (zero, at) = cc
 no_line_entered ts i l (suc k, at) = none-some (Line i l) at
 
 no_line_behind : (xs ys : List Element) → HasNoLine xs → HasNoLine ys → HasNoLine (xs ++ ys)
-no_line_behind [] ys h k = k
+no_line_behind [] ys h k i l c = k i l c
 no_line_behind (x ∷ xs) ys h k i l (zero, at) = h i l (zero, at)
 no_line_behind (x ∷ xs) ys h k i l (suc j, at) = no_line_behind xs ys (λ n o c. h n o (suc c.0, c.1)) k i l (j, at)
 

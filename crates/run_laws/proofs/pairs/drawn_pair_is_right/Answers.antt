@@ -1,4 +1,4 @@
-use Rattle.run_laws.proofs.Pairs.{drawn_pair_is_right}
+use Rattle.run_laws.proofs.PairLaws.{drawn_pair_is_right}
 use Rattle.run_laws.proofs.pairs.drawn_pair_is_right.Goals as goal
 
 pub returns : goal.returns
