@@ -61,7 +61,7 @@ module _ (p : PlanParts) (groups : List (List ℕ)) (ls : List Labelled) where
   grouped_fault f told t (One c) has = absurd (none-some groups has.groups_are)
   grouped_fault f told t (Two c sizes) has = told t c (has_grouping c groups ls has.triangles (same_Some c.groups groups has.groups_are))
 
--- ---- the answer, in either version
+-- ---- the answer, in version 1 or 2
 
 early_later : (f : CheckFault) → IsEarlyFault f → IsLaterVerdict (No f)
 early_later (Mesh f) k = absurd k

@@ -1,4 +1,4 @@
--- A certificate of either version whose parts all have come, and what its verdict goes by.
+-- A certificate of version 1 or 2 whose parts all have come, and what its verdict goes by.
 use Rattle.std.proofs.Common.{◌≡◌, ℕ, List, Some, None, length, refl, sym, ◌∙◌, ap}
 use Rattle.std.proofs.lemmas.Option.{none-some, same_Some}
 use Rattle.sight_names.specs.declared.names.Pair.{Pair}

@@ -1,4 +1,4 @@
--- The two versions of a certificate: one with groups is of version 2, one without of version 1.
+-- Versions 1 and 2 of a certificate: one with groups is of version 2, one without of version 1.
 use Rattle.std.specs.Prelude.{ℕ, List, Option, Some, None, length}
 use Rattle.sight_names.specs.declared.names.Pair.{Pair}
 use Rattle.sight_names.specs.Map.{Map}
@@ -27,7 +27,7 @@ abbrev pub core_of : AnyCert → CertParts
 core_of (One c) = c
 core_of (Two c sizes) = c.cert
 
--- the listed pairs, of sectors of the map in either version
+-- the listed pairs, of sectors of the map in version 1 or 2
 abbrev pub listed_in : AnyCert → List Pair
 listed_in (One c) = c.listed
 listed_in (Two c sizes) = c.listed

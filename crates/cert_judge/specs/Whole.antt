@@ -78,7 +78,7 @@ pub record IsFirstEarly (m : Map) (c : CertParts) (f : CheckFault) : Type 0 wher
   pub rays : JudgesRays m c (No f)
   pub trees : JudgesTrees m c (No f)
 
--- ---- in either version
+-- ---- in version 1 or 2
 
 -- it is a certificate of the plan and the table, and its groups and lists are these
 pub record HasLists (p : PlanParts) (t : TableParts) (c : AnyCert) (groups : Groups) (listed : List Pair) (rays : List PairRay) : Type 0 where

@@ -1,4 +1,4 @@
-//! Rays and trees judged over the plan of either version, as they come.
+//! Rays and trees judged over the plan of version 1 or 2, as they come.
 
 ghost use Rattle.std.specs.Prelude.{◌≡◌, [], ◌∷◌, ◌++◌, List, Option, Some, None, IfOk, option_map, unwrap_or};
 ghost use Rattle.std.specs.Option.{option_to_list};

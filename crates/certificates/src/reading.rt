@@ -1,4 +1,4 @@
-//! The certificate of version 1, or of either version, that bytes spell.
+//! The certificate of version 1, or of version 1 or 2, that bytes spell.
 
 ghost use Rattle.std.specs.Prelude.{Ok, IfOk};
 ghost use Rattle.cert_format.specs.Parts.{CertParts};
@@ -56,7 +56,7 @@ fn any_of(alloc: Global, sizes: Sizes, bytes: &[u8]) -> Result<AnyCert, CertFaul
     }
 }
 
-/// The certificate of either version that the bytes spell, for a map of these sizes; the first fault from left to right
+/// The certificate of version 1 or 2 that the bytes spell, for a map of these sizes; the first fault from left to right
 /// where they spell none.
 ///
 /// # Errors

@@ -36,7 +36,7 @@ totals_view t sectors size = record { sectors = sectors; set = t.set; clear = t.
 -- what is promised of a verdict on a table by a certificate of any version
 pub record IsJudged (p : PlanParts) (table : TableParts) (cert : Certificate) (v : AnyVerdict) : Type 0 where
   pub exact : Judges p table cert v
-  -- it is yes exactly where the certificate is accepted for the table, and then no rejected pair sees
+  -- it is yes exactly where the certificate is accepted for the table, and then the table tells of sight
   pub accepted : IsYesAny v ↔ IsAccepted (map_of p) table.bytes cert
   pub sight : IsYesAny v → TellsSight (map_of p) table cert
 

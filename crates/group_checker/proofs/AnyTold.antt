@@ -1,4 +1,4 @@
--- What the answer for a certificate of either version tells: yes exactly where it is accepted, and then of sight.
+-- What the answer for a certificate of version 1 or 2 tells: yes exactly where it is accepted, and then of sight.
 use Rattle.std.proofs.Common.{◌≡◌, ◌↔◌, length, sym, subst}
 use Rattle.sight_names.specs.Plan.{PlanParts, IsPlan}
 use Rattle.sight_names.specs.Map.{map_of}

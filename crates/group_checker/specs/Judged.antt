@@ -1,4 +1,4 @@
--- What the answer says of a certificate of version 2, and of one of either version.
+-- What the answer says of a certificate of version 2, and of one of version 1 or 2.
 use Rattle.std.specs.Prelude.{◌≡◌, ℕ, List, length}
 use Rattle.sight_names.specs.declared.names.Pair.{Pair}
 use Rattle.sight_names.specs.declared.names.PairRay.{PairRay}
@@ -32,7 +32,7 @@ abbrev pub IsYesAny : AnyVerdict → Type 0
 IsYesAny (Yes t) = Unit {0}
 IsYesAny (No f) = ⊥
 
--- a verdict of version 1 in the words of either version
+-- a verdict of version 1 in the words of any version
 abbrev pub any_of : Verdict → AnyVerdict
 any_of (YesOne t) = Yes t
 any_of (NoOne f) = No (Check f)

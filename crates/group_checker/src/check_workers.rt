@@ -1,4 +1,4 @@
-//! A table judged by a certificate of either version whose trees are judged in threads. The verdict is the one that
+//! A table judged by a certificate of version 1 or 2 whose trees are judged in threads. The verdict is the one that
 //! `group_checker` gives.
 
 mod check;

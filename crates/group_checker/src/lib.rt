@@ -1,4 +1,4 @@
-//! A REJECT table judged by a certificate of either version: yes only where no rejected pair sees, and each clear pair that
+//! A REJECT table judged by a certificate of version 1 or 2: yes only where no rejected pair sees, and each clear pair that
 //! isn't listed does.
 //!
 //! A certificate of version 2 is of the map of groups: the same lines, and each side names the label of its triangle. Its mesh,

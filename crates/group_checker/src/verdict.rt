@@ -1,4 +1,4 @@
-//! What the checker answers for a certificate of either version.
+//! What the checker answers for a certificate of any version.
 
 ghost use Rattle.std.specs.Prelude.{◌≡◌};
 ghost use Rattle.group_checker.specs.Judged.{any_of as either};
@@ -23,7 +23,7 @@ pub enum AnyVerdict {
     No(AnyFault),
 }
 
-/// The verdict of version 1 in the words of either version.
+/// The verdict of version 1 in the words of any version.
 pub fn any_of(verdict: Verdict) -> AnyVerdict
     ensures { result ≡ either verdict }
 {

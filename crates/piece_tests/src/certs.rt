@@ -1,4 +1,4 @@
-//! Worked certificates of both versions in pieces of every cut: the parts that they give, and the fault where they are cut off.
+//! Worked certificates of versions 1 and 2 in pieces of every cut: the parts that they give, and the fault where they are cut off.
 
 ghost use Rattle.std.specs.Prelude.{◌≤◌, length};
 
@@ -139,7 +139,7 @@ fn parts_with(alloc: Global, cert: &Cert, listed: &[Pair]) -> Result<Vec<Part>, 
     Ok(parts)
 }
 
-// The same of either version.
+// The same of version 1 or 2.
 fn parts_of(alloc: Global, cert: &AnyCert) -> Result<Vec<Part>, AllocError> {
     match cert {
         AnyCert::One(one) => parts_with(alloc, one, one.listed()),

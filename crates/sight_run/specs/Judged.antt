@@ -55,7 +55,7 @@ JudgesOf m t (Exact c) v = JudgesThreeOf m t c v
 -- what is promised of a verdict on a table by a certificate
 pub record IsJudged (m : Map) (table : TableParts) (cert : Certificate) (verdict : AnyVerdict) : Type 0 where
   pub exact : JudgesOf m table cert verdict
-  -- it is yes exactly where the certificate is accepted for the table, and then no rejected pair sees
+  -- it is yes exactly where the certificate is accepted for the table, and then the table tells of sight
   pub accepted : IsYesAny verdict ↔ IsAccepted m table.bytes cert
   pub sight : IsYesAny verdict → TellsSight m table cert
 

@@ -18,7 +18,7 @@ use Rattle.any_judge.specs.Judged.{Judges}
 -- what is promised of a verdict on a table by a certificate of any version
 pub record IsJudged (p : PlanParts) (table : TableParts) (cert : Certificate) (verdict : AnyVerdict) : Type 0 where
   pub exact : Judges p table cert verdict
-  -- it is yes exactly where the certificate is accepted for the table, and then no rejected pair sees
+  -- it is yes exactly where the certificate is accepted for the table, and then the table tells of sight
   pub accepted : IsYesAny verdict ↔ IsAccepted (map_of p) table.bytes cert
   pub sight : IsYesAny verdict → TellsSight (map_of p) table cert
 

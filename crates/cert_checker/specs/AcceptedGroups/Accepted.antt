@@ -82,7 +82,7 @@ pub record IsAcceptedOver (m : Map) (table : List ℕ) (c : CertTwo) (g : Map) :
 abbrev pub IsAcceptedTwo : Map → List ℕ → CertTwo → Type 0
 IsAcceptedTwo m table c = (g : Map) × NamesTheLabels m (triangles_of c.cert) c.groups (labels_of c.cert) g × IsAcceptedOver m table c g
 
--- accepted, in either version
+-- accepted, in version 1 or 2
 abbrev pub IsAcceptedAny : Map → List ℕ → AnyCert → Type 0
 IsAcceptedAny m table (One c) = IsAccepted m table c
 IsAcceptedAny m table (Two c sizes) = IsAcceptedTwo m table c

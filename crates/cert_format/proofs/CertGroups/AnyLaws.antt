@@ -1,4 +1,4 @@
--- The two laws of the grammar of both versions: what is read is spelled so, and what is spelled so is read.
+-- The two laws of the grammar of versions 1 and 2: what is read is spelled so, and what is spelled so is read.
 use Rattle.std.proofs.Common.{◌≡◌, ℕ, ◌<◌, ◌^◌, ◌==◌, if◌then◌else◌, inl, inr, List, ◌++◌, length, Result, Ok, Err, IfOk, refl, sym, ap, subst, ◌∙◌, arith, codes}
 use Rattle.std.specs.List.{flat_map}
 use Rattle.sight_names.specs.declared.faults.CertFault.{CertFault}

@@ -1,4 +1,4 @@
--- The grammar of version 2: ranges, orders, and the one spelling; and of either version.
+-- The grammar of version 2: ranges, orders, and the one spelling; and of version 1 or 2.
 use Rattle.std.specs.Prelude.{◌≡◌, ◌≢◌, ℕ, ◌<◌, ◌≤◌, ◌^◌, List, [], ◌++◌, length, flat_map, codes}
 use Rattle.std.specs.List.{AllByRecursion}
 use Rattle.sight_names.specs.Limits.{most_triangles}
@@ -70,7 +70,7 @@ pub record SpellsTwo (sizes : Sizes) (bytes : List ℕ) (c : CertTwo) : Type 0 w
   pub sectors : sizes.sectors < 2 ^ 16
   pub spelled : bytes ≡ spelling sizes c
 
--- the bytes spell the certificate of either version
+-- the bytes spell the certificate of version 1 or 2
 abbrev pub SpellsAny : Sizes → List ℕ → AnyCert → Type 0
 SpellsAny sizes bytes (One c) = Spells sizes bytes c
 SpellsAny sizes bytes (Two c own) = (own ≡ sizes) × SpellsTwo sizes bytes c

@@ -1,4 +1,4 @@
--- What is read of bytes in either version, field by field from left to right, and the first fault that is met.
+-- What is read of bytes in version 1 or 2, field by field from left to right, and the first fault that is met.
 use Rattle.std.specs.Prelude.{ℕ, ◌-◌, List, [], length, slice_get, Option, Some, None, Result, Ok, Bool, true, nat_lt, not, ◌==◌, ◌||◌, if◌then◌else◌}
 use Rattle.std.specs.Int.{w16}
 use Rattle.std.specs.Ordering.{nat_cmp, is_lt}
@@ -131,7 +131,7 @@ two_read sizes total rest = do
   c ← two_at sizes total rest
   Ok (Two c sizes)
 
--- the certificate of either version that all of the bytes spell, or the first fault
+-- the certificate of version 1 or 2 that all of the bytes spell, or the first fault
 unfoldable pub any_at : Sizes → List ℕ → Result AnyCert CertFault
 any_at sizes bytes = do
   version ← version_at (length bytes) bytes

@@ -1,4 +1,4 @@
-//! The certificate of either version.
+//! The certificate of version 1 or 2.
 
 use crate::{Cert, Counts, Sizes};
 use sight_names::{Items, Pair};
@@ -24,7 +24,7 @@ pub struct CertTwo {
     pub listed: Items<Pair>,
 }
 
-/// A certificate of either version; with one of version 2 the sizes of its map.
+/// A certificate of version 1 or 2; with one of version 2 the sizes of its map.
 #[derive(Drop)]
 pub enum AnyCert {
     One(Cert),

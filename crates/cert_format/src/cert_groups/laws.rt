@@ -1,4 +1,4 @@
-//! The laws of the grammar of both versions.
+//! The laws of the grammar of versions 1 and 2.
 
 ghost use Rattle.std.specs.Prelude.{◌≡◌, ℕ, List};
 ghost use Rattle.cert_format.specs.declared.cert.Sizes.{Sizes};

@@ -1,4 +1,4 @@
-//! The spelling of a certificate of either version in pieces of any size. Nothing here takes memory.
+//! The spelling of a certificate of version 1 or 2 in pieces of any size. Nothing here takes memory.
 
 ghost use Rattle.std.specs.Prelude.{◌≡◌, ◌↔◌, ◌<◌, [], ◌++◌, length, take, drop, min};
 ghost use Rattle.cert_format.specs.declared.cert_groups.cert.AnyCert.TheVariants.{One};
@@ -11,7 +11,7 @@ use crate::ranges::{see_rays, see_trees};
 use crate::{Cert, Printer, Sizes};
 use std::marker::Model;
 
-/// Gives the spelling of a certificate of either version in pieces; a contract sees the bytes that are still to come.
+/// Gives the spelling of a certificate of version 1 or 2 in pieces; a contract sees the bytes that are still to come.
 #[derive(Drop)]
 pub struct AnyPrinter<'a> {
     front: Front<'a>,

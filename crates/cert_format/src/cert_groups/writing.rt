@@ -1,4 +1,4 @@
-//! The whole spelling of a certificate of either version.
+//! The whole spelling of a certificate of version 1 or 2.
 
 ghost use Rattle.std.specs.Prelude.{◌≡◌, IfOk};
 ghost use Rattle.cert_format.specs.CertGroups.Grammar.{IsAnyInOrder, SpellsAny, sizes_of};

@@ -1,4 +1,4 @@
--- What comes before the parts of a certificate of either version, and a reader of them.
+-- What comes before the parts of a certificate of version 1 or 2, and a reader of them.
 use Rattle.std.specs.Prelude.{◌≡◌, ℕ, ◌+◌, List, ◌++◌, length, Option, IfSome, Result, Ok, Err}
 use Rattle.sight_names.specs.declared.faults.CertFault.{CertFault}
 use Rattle.sight_names.specs.declared.faults.CertFault.TheVariants as faults

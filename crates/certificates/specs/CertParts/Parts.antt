@@ -30,7 +30,7 @@ abbrev pub IsPackablePart : Part → Type 0
 IsPackablePart (parts.Node n) = IsPackable n
 IsPackablePart part = Unit {0}
 
--- ---- of either version
+-- ---- of version 1 or 2
 
 -- in version 2 triangles, rays and trees have groups in the place of sectors
 abbrev pub two_parts_of : CertTwo → List Part

@@ -1,4 +1,4 @@
-//! The beginning of a certificate of either version: what comes before its parts.
+//! The beginning of a certificate of version 1 or 2: what comes before its parts.
 
 ghost use Rattle.std.specs.Prelude.{◌≡◌, List, ℕ, ◌++◌, length, Ok, IfOk, IfErr};
 ghost use Rattle.cert_format.specs.Reading.{Fails};

@@ -40,7 +40,7 @@ impl<'a, R: Threads + Sync> TreeJudges for Judges<'a, R> {
     }
 }
 
-/// Judges the table by a certificate of either version, its trees in threads where some can be had: yes with the totals
+/// Judges the table by a certificate of version 1 or 2, its trees in threads where some can be had: yes with the totals
 /// exactly where the certificate is accepted, or the first fault in order. On yes no rejected pair sees, and each clear pair
 /// that isn't listed does.
 pub fn check_any_par<R: Threads + Sync>(
