@@ -19,8 +19,8 @@ use reject_bits::Table;
 use sight_names::{Memory, Plan};
 use std::alloc::Global;
 
-/// What has come of a certificate of version 1 or 2, judged as far as it goes. It keeps the groups, the mesh, the rays, the listed pairs, what trees
-/// keep from and one path, and never a tree.
+/// What has come of a certificate of version 1 or 2, judged as far as it goes. It keeps the groups, the mesh, the
+/// rays, the listed pairs, what trees keep from and one path, and never a tree.
 #[derive(Drop)]
 pub struct Judging<'a> {
     alloc: Global,

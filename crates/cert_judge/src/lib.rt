@@ -1,4 +1,5 @@
-//! A certificate of version 1 or 2 judged part by part, as it is read: the mesh, what is known of pairs, and one path are kept.
+//! A certificate of version 1 or 2 judged part by part, as it is read: the mesh, what is known of pairs, and one path
+//! are kept.
 #![tactic(auto)]
 
 pub mod in_order;

@@ -163,8 +163,8 @@ pub fn check_any_by<J: TreeJudges>(
     }
 }
 
-/// Judges the table by a certificate of version 1 or 2: yes with the totals exactly where the certificate is accepted, or the
-/// first fault in order. On yes no rejected pair sees, and each clear pair that isn't listed does.
+/// Judges the table by a certificate of version 1 or 2: yes with the totals exactly where the certificate is accepted,
+/// or the first fault in order. On yes no rejected pair sees, and each clear pair that isn't listed does.
 pub fn check_any(
     alloc: Global,
     plan: &Plan,

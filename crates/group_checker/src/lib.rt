@@ -1,5 +1,5 @@
-//! A REJECT table judged by a certificate of version 1 or 2: yes only where no rejected pair sees, and each clear pair that
-//! isn't listed does.
+//! A REJECT table judged by a certificate of version 1 or 2: yes only where no rejected pair sees, and each clear pair
+//! that isn't listed does.
 //!
 //! A certificate of version 2 is of the map of groups: the same lines, and each side names the label of its triangle. Its mesh,
 //! rays and trees are judged there. Two sectors see each other where some groups that contain them do.

@@ -1,4 +1,5 @@
-//! Worked certificates of versions 1 and 2 in pieces of every cut: the parts that they give, and the fault where they are cut off.
+//! Worked certificates of versions 1 and 2 in pieces of every cut: the parts that they give, and the fault where they
+//! are cut off.
 
 ghost use Rattle.std.specs.Prelude.{◌≤◌, length};
 

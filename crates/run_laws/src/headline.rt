@@ -8,8 +8,8 @@ pub fn checked_is_right()
     ensures { CheckedIsRight }
 {}
 
-/// Where a `build` ended with Done, the map's name finds the same map in the WAD under OUT. Two sectors whose bit is set in its
-/// REJECT there don't see each other, and two whose bit is clear do, unless both budgets ran out.
+/// Where a `build` ended with Done, the map's name finds the same map in the WAD under OUT. Two sectors whose bit is
+/// set in its REJECT there don't see each other, and two whose bit is clear do, unless both budgets ran out.
 pub fn built_is_right()
     ensures { BuiltIsRight }
 {}

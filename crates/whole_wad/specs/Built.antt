@@ -99,8 +99,8 @@ pub record IsBuiltOf (m : Map) (by : Method) (built : Built) : Type 0 where
   -- the certificate is for a map of these sizes
   pub sizes : sizes_of built.cert ≡ sizes_of_map m
   pub in_order : IsInOrder built.cert
-  -- The certificate is accepted for the table: its triangles are a good mesh, its rays sight rays, and its trees and each pair keep
-  -- the rules of its version. So `check` says yes to it.
+  -- The certificate is accepted for the table: its triangles are a good mesh, its rays sight rays, and its trees and
+  -- each pair keep the rules of its version. So `check` says yes to it.
   pub accepted : IsAccepted m built.table.bytes built.cert
   pub symmetric : IsSymmetric built.table
   pub decided : Decides m (ask_of by) built.table built.listed
