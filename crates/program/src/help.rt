@@ -79,17 +79,18 @@ fn put_choice<O: Sink>(
 // Whether the option is put among the words that may be left out, or with the one in whose place it stands.
 fn stands_elsewhere(verb: &Verb, choice: Choice) -> bool {
     match choice {
-        Choice::Budget => !verb.spare.is_empty() || verb.takes(Choice::Exact),
-        Choice::Faults => !verb.spare.is_empty(),
+        Choice::Budget => verb.takes(Choice::Exact),
+        Choice::Exact | Choice::Faults => !verb.spare.is_empty(),
         _ => false,
     }
 }
 
-// Puts what stands behind words that may be left out: a budget, which wants all of them, and the faults, which want none.
+// Puts what stands behind words that may be left out: how two sectors are decided, which wants all of them, and the faults,
+// which want none.
 fn put_behind_spare<O: Sink>(out: &mut O, taken: usize, verb: &Verb) -> Result<usize, Failed> {
     let mut taken = taken;
     for entry in OPTIONS.iter() {
-        if entry.choice == Choice::Budget && verb.takes(Choice::Budget) {
+        if entry.choice == Choice::Exact && verb.takes(Choice::Exact) {
             taken = put_choice(out, taken, verb, entry)?;
         }
     }

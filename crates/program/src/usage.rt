@@ -86,13 +86,19 @@ impl Given {
             Choice::Exact => self.exact = true,
         }
     }
+
+    // How pairs of sectors are decided is told.
+    fn tells_how(&self) -> bool {
+        self.budget || self.exact
+    }
 }
 
-// A budget is for two sectors and the faults are of the map alone, so no verb takes both; nor is there a budget where every pair
-// is decided.
+// How it is decided is of two sectors and the faults are of the map alone, so no verb takes both; nor is there a budget where
+// every pair is decided.
 fn takes_all(verb: &Verb, given: Given) -> bool {
     OPTIONS.iter().all(|entry| !given.has(entry.choice) || verb.takes(entry.choice))
-        && !(given.budget && (given.faults || given.exact))
+        && !(given.faults && given.tells_how())
+        && !(given.budget && given.exact)
 }
 
 // How many words may stand behind the verb: with the faults, none that may be left out.
@@ -105,10 +111,10 @@ fn most_words(verb: &Verb, given: Given) -> usize {
     verb.places.len().saturating_sub(spare)
 }
 
-// So many words stand behind the verb, which may be all: a budget wants each of them.
+// So many words stand behind the verb, which may be all: how pairs are decided wants each of them.
 fn may_end(verb: &Verb, filled: usize, given: Given) -> bool {
     let left = verb.places.len().saturating_sub(filled);
-    left == 0 || !given.budget && verb.spare.contains(&left)
+    left == 0 || !given.tells_how() && verb.spare.contains(&left)
 }
 
 fn unless(fits: bool, why: Why) -> Result<(), Why> {

@@ -290,8 +290,6 @@ a=U | build a MAP01 b --exact --exact | 2 | refused: usage | b=
 a=U | build a MAP01 b --exact=true | 2 | refused: usage | b=
 a=U | build a MAP01 b --exact --cert b | 11 | refused: same name | b=
 a=U | check a MAP01 c --exact | 2 | refused: usage
-a=U | why a MAP01 0 1 --exact | 2 | refused: usage
-a=U | draw a MAP01 b 0 1 --exact | 2 | refused: usage | b=
 a=U | zero a MAP01 b --exact | 2 | refused: usage | b=
 # a WAD as a node builder leaves it, and one without REJECT
 a=PAIR =06 .3 <40002000 +1:THINGS *20 +5:SEGS *96 +6:SSECTORS *8 +7:NODES *28 +10:BLOCKMAP *40 +11:D_RUNNIN *100 | build a MAP01 b --cert c | 0 | built MAP01 sectors 2 set 0 clear 3 listed 0 | b=PAIR =00 .3 <40002000 +1:THINGS *20 +5:SEGS *96 +6:SSECTORS *8 +7:NODES *28 +10:BLOCKMAP *40 +11:D_RUNNIN *100
@@ -387,6 +385,9 @@ a=U | why a MAP01 2 0 --budget=enough | 0 | blind 2 0
 a=U | why a MAP01 1 1 | 0 | touch 1 1
 a=U .1 hexen +6:BEHAVIOR | why a MAP01 0 2 | 0 | blind 0 2
 a=U | why a MAP01 --large 0 2 | 0 | blind 0 2
+# no bound, as without a budget
+a=U | why a MAP01 0 1 --exact | 0 | sight 0 1 by 5L,5R,-128,0,1 | a=U
+a=U | why --exact a MAP01 2 0 --large | 0 | blind 2 0
 # what a build with the same budget lists, sets and leaves clear
 a=U | why a MAP01 0 2 --budget 1 | 0 | listed 0 2
 a=U | why a MAP01 2 0 --budget 1 | 0 | listed 2 0
@@ -416,6 +417,8 @@ a=U | why a MAP01 0 1 --report c | 2 | refused: usage
 a=U | why a MAP01 0 1 --only MAP01 | 2 | refused: usage
 a=U | why a MAP01 0 1 --hexen | 2 | refused: usage
 a=U | why a MAP01 0 1 --budget 0 | 2 | refused: usage
+a=U | why a MAP01 0 1 --exact --budget full | 2 | refused: usage
+a=U | why a MAP01 0 1 --budget 5 --exact | 2 | refused: usage
 # what fails
 a=U | why b MAP01 0 1 | 3 | refused: no file wad
 a=U, reads=0 | why a MAP01 0 1 | 4 | refused: read fault wad
@@ -450,6 +453,7 @@ a=TOUCHED =00 | draw a MAP01 b 9 | 10 | refused: bad map: touch 0 4 | b=
 a=TOUCHED =0000 | draw a MAP01 b 9 | 1 | no table: 2 bytes, 1 expected | b=
 # two sectors
 a=U | draw a MAP01 b 0 1 | 0 | drawn MAP01 pair 0 1 sight | b=%U-SIGHT
+a=U | draw a MAP01 b 0 1 --exact | 0 | drawn MAP01 pair 0 1 sight | b=%U-SIGHT
 a=U | draw a MAP01 b 0 2 | 0 | drawn MAP01 pair 0 2 blind 4 stops 1 | b=%U-BLIND
 a=U | draw a MAP01 b 0 2 --budget full --large | 0 | drawn MAP01 pair 0 2 blind 4 stops 1 | b=%U-BLIND
 a=U | draw a MAP01 b 1 1 | 0 | drawn MAP01 pair 1 1 touch
@@ -468,6 +472,10 @@ a=U | draw a MAP01 b --budget 5 | 2 | refused: usage | b=
 a=U | draw a MAP01 b 0 --budget 5 | 2 | refused: usage | b=
 a=U | draw a MAP01 b 0 1 --budget 0 | 2 | refused: usage | b=
 a=U | draw a MAP01 b 0 1 --workers 2 | 2 | refused: usage | b=
+a=U | draw a MAP01 b --exact | 2 | refused: usage | b=
+a=U | draw a MAP01 b 0 --exact | 2 | refused: usage | b=
+a=U | draw a MAP01 b --faults --exact | 2 | refused: usage | b=
+a=U | draw a MAP01 b 0 1 --exact --budget 5 | 2 | refused: usage | b=
 a=U | draw a MAP01 b --cert c | 2 | refused: usage | b=, c=
 a=U | draw a MAP01 b --hexen | 2 | refused: usage | b=
 a=U | zero a MAP01 b --faults | 2 | refused: usage | b=

@@ -87,6 +87,11 @@ why a MAP01 0 65536 | 5
 why a MAP01 0 1 2 | 6
 why a MAP01 0 1 --workers 2 | 6
 why a MAP01 0 1 --faults | 6
+why a MAP01 0 1 --exact | -
+why --exact --large a MAP01 0 1 | -
+why a MAP01 0 --exact | B
+why a MAP01 0 1 --exact --budget full | 7
+why a MAP01 0 1 --budget=5 --exact | 7
 draw a MAP01 | OUT
 draw a MAP01 b | -
 draw a MAP01 b --faults --large | -
@@ -104,6 +109,14 @@ draw --budget 5 a MAP01 b 0 1 | -
 draw --faults a MAP01 b 0 | 6
 draw a MAP01 b 0 --faults | 6
 draw a MAP01 b --faults --budget 5 | 6
+draw a MAP01 b 0 1 --exact | -
+draw --exact a MAP01 b 0 1 --large | -
+draw a MAP01 b --exact | A
+draw a MAP01 b 0 --exact | B
+draw a MAP01 b --faults --exact | 6
+draw a MAP01 --exact b --faults | 6
+draw a MAP01 b 0 1 --exact --budget 5 | 8
+draw a MAP01 b 0 1 --budget 5 --exact | 9
 --faults --budget 5 | 2
 --faults zero | 2
 --faults grid | 2
@@ -135,8 +148,9 @@ build a MAP01 b --exact --exact | 6
 build a MAP01 b --exact --budget 5 | 6
 build a MAP01 b --budget 5 --exact | 7
 --exact --budget 5 | 2
---exact why | 2
---exact draw | 2
+--exact why | WAD
+--exact draw | WAD
+--exact zero | 2
 --exact --faults | 2
 check a MAP01 c --exact | 5
 all a b --exact | -
@@ -219,8 +233,8 @@ build a -h -V | doomsight build WAD MAP OUT [--cert FILE] [--report FILE]
 audit a MAP01 -h | doomsight audit WAD MAP [--large]
 help check | doomsight check WAD MAP CERT [--large]
 all --help | doomsight all WAD OUT [--only MAP,MAP] [--report FILE]
-why --help | doomsight why WAD MAP A B [--budget N|full|enough] [--large]
-draw --help | doomsight draw WAD MAP OUT [A [B [--budget N|full|enough]] | --faults] [--large]
+why --help | doomsight why WAD MAP A B [--exact | --budget N|full|enough] [--large]
+draw --help | doomsight draw WAD MAP OUT [A [B [--exact | --budget N|full|enough]] | --faults]
 help sound -V | doomsight sound WAD MAP [A B] [--large]
 grid --help | doomsight grid N [--exact | --budget N|full|enough] [--workers N] [--hexen]
 sound -- --help | 
@@ -240,7 +254,7 @@ the pairs of sectors where they are asked for.
   --cert FILE             writes the certificate to FILE; else to none
   --report FILE           writes what came of each map or pair to FILE
   --exact                 decides every pair, in place of a budget
-  --budget N|full|enough  sequences followed from a sector; else 16384
+  --budget N|full|enough  sequences from a sector; else 16384 (why, draw: full)
   --workers N             threads, 1 to 64; else 4
   --large                 maps of up to 16383 points, 32768 lines, 16384 sectors
 ";
