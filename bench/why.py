@@ -12,7 +12,8 @@ the build lists. Each pair is asked for once, in an order that is drawn too.
 Where the bit is set `why` has to say `blind`; where the build lists the pair, `listed`; where the certificate's groups
 have both sectors in one, `touch`; else `sight` by a ray. Of each such ray `ray` has to name two sectors of which the one
 shares a face with the first of the pair, or is it, and the other with the second. A budget much below that of the program
-makes long lists, all of which are asked for. The status is 1 where an answer differs.
+makes long lists, all of which are asked for; without --budget both have that of a build. The status is 1 where an answer
+differs.
 """
 import argparse
 import collections
@@ -108,13 +109,13 @@ def main():
     words.add_argument("--program", default="crates/doomsight/out/doomsight")
     words.add_argument("--wads", default="/usr/share/games/doom")
     words.add_argument("--only", default="")
-    words.add_argument("--budget", default="")
+    words.add_argument("--budget", default="16384")
     words.add_argument("--pairs", type=int, default=5000)
     words.add_argument("--seed", type=int, default=1)
     words.add_argument("--threads", type=int, default=4)
     words = words.parse_args()
     program, only = os.path.abspath(words.program), [n for n in words.only.split(",") if n]
-    budget = ["--budget", words.budget] if words.budget else []
+    budget = ["--budget", words.budget]
     asked = wrong = 0
     for file, names in MAPS.items():
         path = os.path.join(words.wads, file)
