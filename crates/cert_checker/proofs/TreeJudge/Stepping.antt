@@ -74,12 +74,12 @@ steps_more xs n steps x s are there is = record { len = let h : length (steps ++
         last : n ≡ i
         last = omega (arith, l, h)
 
-pub steps_all : (xs : List HalfEdge) (n : ℕ) (steps : List Step) → n ≡ length xs → AreStepsBelow xs n steps → AreSteps xs steps
-steps_all xs n steps e are = record { each = λ i few. by i few (cases_lt i n) }
+pub steps_all : (xs : List HalfEdge) (n : ℕ) (steps : List Step) → ((i : ℕ) → n ≤ i → i < 2 ^ 32 → length xs ≤ i) → AreStepsBelow xs n steps → AreSteps xs steps
+steps_all xs n steps past are = record { each = λ i few. by i few (cases_lt i n) }
   where
     by : (i : ℕ) → i < 2 ^ 32 → (i < n) ⊎ (n ≤ i) → IsStepAt xs (slice_get xs i) (slice_get steps i)
     by i few (inl h) = are.each i h few
-    by i few (inr h) = subst (λ (o : Option HalfEdge). IsStepAt xs o (slice_get steps i)) (sym (slice_get_past xs i (omega (arith, h, e)))) (subst (IsStepAt xs None) (sym (slice_get_past steps i (omega (arith, h, are.len)))) tt)
+    by i few (inr h) = subst (λ (o : Option HalfEdge). IsStepAt xs o (slice_get steps i)) (sym (slice_get_past xs i (past i h few))) (subst (IsStepAt xs None) (sym (slice_get_past steps i (omega (arith, h, are.len)))) tt)
 
 -- ---- what is asked, by a plain number
 

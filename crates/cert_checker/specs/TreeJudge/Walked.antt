@@ -1,5 +1,5 @@
 -- A tree as far as its nodes have come, and a walk that all of them have answered for.
-use Rattle.std.specs.Prelude.{◌≡◌, ℕ, ◌+◌, ◌-◌, ◌<◌, ◌≤◌, List, [], ◌∷◌, ◌++◌, Option, map, length, Bool, true, false}
+use Rattle.std.specs.Prelude.{◌≡◌, ℕ, ◌+◌, ◌-◌, ◌<◌, ◌≤◌, List, [], ◌∷◌, ◌++◌, Option, None, map, length, Bool, true, false}
 use Rattle.block_evidence.specs.declared.sight_tree.Node.{Node}
 use Rattle.block_evidence.specs.declared.sight_tree.Tree.{Tree}
 use Rattle.reject_bits.specs.Parts.{TableParts}
@@ -35,6 +35,10 @@ pub record IsWalkedAt (xs : List HalfEdge) (roots : List Root) (firsts : List (O
 
 abbrev pub IsWalked : List HalfEdge → List Root → List (Option ℕ) → Tree → TableParts → TableParts → TreeWalk → Type 0
 IsWalked xs roots firsts t old new w = IsWalkedAt xs roots firsts t old new w.source w.path.items w.waits.items w.follow
+
+-- nothing is asked of it
+abbrev pub AsksNothing : TreeWalk → Type 0
+AsksNothing w = w.follow.asked ≡ None
 
 -- ---- a walk that is asked for nodes one behind the other
 

@@ -4,6 +4,7 @@ ghost use Rattle.std.specs.Prelude.{◌≡◌, IfOk};
 ghost use Rattle.mesh_shape.specs.declared.half_edges.table.HalfEdge.{HalfEdge as EdgeOf};
 ghost use Rattle.cert_checker.specs.TreeJudge.Steps.{sector_code, way_by, IsBelowNone, LeadsTo, IsStep, AreSteps};
 
+use crate::tree_judge::stepping::NO_PLACE;
 use mesh_shape::half_edges::{HalfEdge, HalfEdges};
 use sight_names::{Memory, Pt};
 use std::alloc::Global;
@@ -64,18 +65,14 @@ fn step_of(edges: &HalfEdges, edge: &HalfEdge) -> Step
     }
 }
 
-/// All half-edges as steps.
+/// All half-edges as steps, as far as numbers of 32 bits reach.
 pub fn steps_of(alloc: Global, edges: &HalfEdges) -> Result<Vec<Step>, Memory>
     ensures { IfOk result (λ v. AreSteps edges.now v.items) }
 {
     let mut steps = Vec::new(alloc);
-    for number in 0..edges.len() {
-        // there is none that is out of its type's range
-        let Ok(number) = u32::try_from(number) else {
-            return Err(Memory);
-        };
-        let Some(edge) = edges.get(number) else {
-            return Err(Memory);
+    for number in 0..edges.len().min(NO_PLACE) {
+        let Some(edge) = edges.get(number as u32) else {
+            unreachable!();
         };
         steps.push(step_of(edges, edge))?;
     }

@@ -11,7 +11,7 @@ ghost use Rattle.cert_checker.specs.TreeJudge.Steps.{AreSeen, AreSteps};
 ghost use Rattle.cert_checker.specs.declared.tree_judge.stepping.TheConstants.{NO_PLACE};
 ghost use Rattle.cert_checker.specs.TreeJudge.Whole.{IsWholeFrom, IsFirstWrongFrom};
 ghost use Rattle.certificates.specs.CertParts.Nodes.{TakesNodes};
-ghost use Rattle.cert_checker.specs.TreeJudge.Walked.{begun, with_node, FollowsAt, Follows, IsWalked};
+ghost use Rattle.cert_checker.specs.TreeJudge.Walked.{begun, with_node, AsksNothing, FollowsAt, Follows, IsWalked};
 
 use crate::tree_judge::roots::Roots;
 use crate::tree_judge::stepping::{
@@ -110,7 +110,9 @@ fn follow_nodes<'a>(
 
 impl TreeWalk {
     /// A walk that asks for nothing.
-    pub fn new(alloc: Global) -> TreeWalk {
+    pub fn new(alloc: Global) -> TreeWalk
+        ensures { AsksNothing result }
+    {
         TreeWalk {
             source: 0,
             path: Vec::new(alloc),
@@ -205,6 +207,7 @@ impl TreeWalk {
 
     /// Whether nothing is asked any more.
     pub fn is_done(&self) -> bool
+        ensures idle { AsksNothing self.now → result ≡ true }
         ensures whole { (xs : List EdgeOf) (roots : List RootOf) (firsts : List (Option ℕ)) (t : WalkTree) (old new : TableParts) → IsWalked xs roots firsts t old new self.now → result ≡ true → IsWholeFrom xs roots (first_at firsts t.source) t old new }
         ensures missing { (xs : List EdgeOf) (roots : List RootOf) (firsts : List (Option ℕ)) (t : WalkTree) (old new : TableParts) → IsWalked xs roots firsts t old new self.now → result ≡ false → IsFirstWrongFrom xs roots (first_at firsts t.source) t (length t.nodes) }
     {
