@@ -194,8 +194,9 @@ fn build_with<W: Walkers>(walkers: &W, alloc: Global, plan: &Plan) -> Result<Exa
     Ok(built)
 }
 
-/// The table of a map whose lines meet at ends, by walks that so many workers share, each in a thread where one can be had. A bit
-/// is set exactly where the two sectors don't see each other, and the certificate shows it. Neither depends on how many share.
+/// The table of a map whose lines meet at ends, by walks that so many workers share, each in a thread where one can be had.
+/// A bit is set exactly where the two sectors don't see each other, so the table is one however many share. The certificate
+/// shows it.
 ///
 /// # Errors
 ///
@@ -221,7 +222,7 @@ pub fn build_exact<R: Threads + Sync>(
 }
 
 /// The table of a map whose lines meet at ends, without a thread. A bit is set exactly where the two sectors don't see each
-/// other, and the certificate shows it. Both are those that `build_exact` gives.
+/// other, so the table is that of `build_exact`. The certificate shows it.
 ///
 /// # Errors
 ///
