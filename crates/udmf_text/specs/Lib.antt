@@ -1,0 +1,2 @@
+pub mod TextTokens
+pub mod TextNumbers
