@@ -1,2 +1,3 @@
 pub mod TextTokens
 pub mod TextNumbers
+pub mod Parts

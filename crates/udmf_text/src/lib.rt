@@ -1,7 +1,10 @@
 //! What a text of UDMF spells.
 #![tactic(auto)]
 
+mod parts;
 #[cfg(test)]
 mod tests;
 pub mod text_numbers;
 pub mod text_tokens;
+
+pub use parts::{Found, Given, Part, Stage, next_part};

@@ -7,7 +7,7 @@ use crate::text_numbers::digits::{digit, digits_in};
 use crate::text_numbers::whole::{negative, positive};
 
 /// A whole number times a power of ten: that of `scale`, which may be below 0.
-#[derive(Clone, Copy, Debug, PartialEq, Eq)]
+#[derive(Clone, Copy, PartialEq, Eq)]
 pub struct Decimal {
     pub negative: bool,
     pub mantissa: u128,
@@ -15,7 +15,7 @@ pub struct Decimal {
 }
 
 /// Digits at the front: the number that they spell behind another, and what is left.
-#[derive(Clone, Copy, Debug)]
+#[derive(Clone, Copy)]
 struct Run<'a> {
     value: u128,
     rest: &'a [u8],

@@ -4,7 +4,7 @@ ghost use Rattle.std.specs.Prelude.{◌≡◌, ◌≤◌, IfOk, IfErr, length};
 ghost use Rattle.udmf_text.specs.TextTokens.Between.{step_of, is_closed as is_closed_lem, begins_with as begins_with_lem, left_behind, left_of, GivesExactly};
 
 /// Where one stands between tokens.
-#[derive(Clone, Copy, Debug, PartialEq, Eq)]
+#[derive(Clone, Copy, PartialEq, Eq)]
 pub enum Gap {
     Between,
     /// In a comment that a line feed ends.

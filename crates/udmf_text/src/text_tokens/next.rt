@@ -8,7 +8,7 @@ use crate::text_tokens::between::behind_gap;
 use crate::text_tokens::token::{Taken, take_token};
 
 /// A token, and how many bytes of the text there are from its first one on.
-#[derive(Clone, Copy, Debug)]
+#[derive(Clone, Copy)]
 pub struct Placed<'a> {
     pub left: usize,
     pub token: Taken<'a>,

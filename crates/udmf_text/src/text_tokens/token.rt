@@ -6,7 +6,7 @@ ghost use Rattle.udmf_text.specs.TextTokens.Tokens.{ends_word as ends_word_lem, 
 use crate::text_tokens::between::begins_with;
 
 /// What a token is.
-#[derive(Clone, Copy, Debug, PartialEq, Eq)]
+#[derive(Clone, Copy, PartialEq, Eq)]
 pub enum Kind {
     Open,
     Close,
@@ -17,7 +17,7 @@ pub enum Kind {
 }
 
 /// A token: its bytes, those between the quotes where it is a string, and what is left behind it.
-#[derive(Clone, Copy, Debug)]
+#[derive(Clone, Copy)]
 pub struct Taken<'a> {
     pub kind: Kind,
     pub bytes: &'a [u8],
