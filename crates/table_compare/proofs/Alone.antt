@@ -43,9 +43,11 @@ no_bit byte other e j lt told =
 
 pub least_bit : (byte other : ℕ) → 0 < alone_of byte other → alone_of byte other < 2 ^ 8 → IsFirstBelow 8 (has_alone byte other) (Some (trailing_zeros w8 (alone_of byte other)))
 least_bit byte other some fits =
-    let h = bit_at-trailing_zeros w8 (alone_of byte other) some fits in
-    (h.0, sym (tells_alone byte other (trailing_zeros w8 (alone_of byte other)) h.0) ∙ ap (λ (b : ℕ). b == 1) h.1,
-    λ j lt told. false≢true (sym (not_here (bit_at (alone_of byte other) j) (h.2 j lt)) ∙ tells_alone byte other j (below j lt h.0) ∙ told))
+    let h = bit_at-trailing_zeros w8 (alone_of byte other) some fits in (
+      h.0,
+      sym (tells_alone byte other (trailing_zeros w8 (alone_of byte other)) h.0) ∙ ap (λ (b : ℕ). b == 1) h.1,
+      λ j lt told. false≢true (sym (not_here (bit_at (alone_of byte other) j) (h.2 j lt)) ∙ tells_alone byte other j (below j lt h.0) ∙ told),
+    )
   where
     below : (j : ℕ) {n : ℕ} → j < n → n < 8 → j < 8
     below j lt le = omega arith
@@ -96,11 +98,14 @@ module _ (one other : List ℕ) where
       where_is k i lt = grind arith
 
   pub first_here : (i bit n : ℕ) → i < n → AreNone (8 * i) → IsFirstBelow 8 (has_alone (slice_index one i) (slice_index other i)) (Some bit) → IsFirstBelow (8 * n) (is_alone one other) (Some (8 * i + bit))
-  first_here i bit n lt before here =
-      (within i bit n lt here.0, of_byte i bit here.0 ∙ here.1, λ k less told. elim (where_is k i bit less) [
-        | inl low ↦ before k low told
-        | inr at ↦ here.2 (k - 8 * i) at.1 (sym (ap (is_alone one other) (beside k i at.0) ∙ of_byte i (k - 8 * i) (lower (k - 8 * i) bit at.1 here.0)) ∙ told)
-      ])
+  first_here i bit n lt before here = (
+    within i bit n lt here.0,
+    of_byte i bit here.0 ∙ here.1,
+    λ k less told. elim (where_is k i bit less) [
+      | inl low ↦ before k low told
+      | inr at ↦ here.2 (k - 8 * i) at.1 (sym (ap (is_alone one other) (beside k i at.0) ∙ of_byte i (k - 8 * i) (lower (k - 8 * i) bit at.1 here.0)) ∙ told)
+    ],
+  )
     where
       within : (i bit n : ℕ) → i < n → bit < 8 → 8 * i + bit < 8 * n
       within i bit n lt h = omega arith

@@ -15,9 +15,10 @@ use Rattle.table_compare.specs.Counts.{IsCountOf, IsFirst, IsFirstOf}
 use Rattle.table_compare.proofs.Counting.{count_none, count_parts, count_rows}
 
 bits_tell : (x y : ℕ) → x < 2 → y < 2 → IsTrue ((x == 1) && (y == 0)) ↔ ((x ≡ 1) × ¬ (y ≡ 1))
-bits_tell x y hx hy =
-    ((λ told. (is_told_same x 1 (first_true (x == 1) (y == 0) told), clear y (is_told_same y 0 (second_true (x == 1) (y == 0) told)))),
-    (λ h. both_true (x == 1) (y == 0) (tells_same x 1 h.0) (tells_same y 0 (zero_of y hy h.1))))
+bits_tell x y hx hy = (
+  (λ told. (is_told_same x 1 (first_true (x == 1) (y == 0) told), clear y (is_told_same y 0 (second_true (x == 1) (y == 0) told)))),
+  (λ h. both_true (x == 1) (y == 0) (tells_same x 1 h.0) (tells_same y 0 (zero_of y hy h.1))),
+)
   where
     clear : (y : ℕ) → y ≡ 0 → y ≡ 1 → ⊥
     clear y e f = omega arith
@@ -51,9 +52,10 @@ module _ (one other : TableParts) (same : other.n ≡ one.n) (whole : IsWhole on
   tells_place k = bits_tell (table_bit one.bytes k) (table_bit other.bytes k) (bit_at-lt _ _) (bit_at-lt _ _)
 
   pub tells_pair : (a b : ℕ) → IsTrue (is_at (a * one.n + b)) ↔ SetsAlone one other a b
-  tells_pair a b =
-      ((λ told. let h = (tells_place (a * one.n + b)).0 told in (h.0, λ set. h.1 (ap (λ (m : ℕ). table_bit other.bytes (a * m + b)) (sym same) ∙ set))),
-      (λ h. (tells_place (a * one.n + b)).1 (h.0, λ set. h.1 (ap (λ (m : ℕ). table_bit other.bytes (a * m + b)) same ∙ set))))
+  tells_pair a b = (
+    (λ told. let h = (tells_place (a * one.n + b)).0 told in (h.0, λ set. h.1 (ap (λ (m : ℕ). table_bit other.bytes (a * m + b)) (sym same) ∙ set))),
+    (λ h. (tells_place (a * one.n + b)).1 (h.0, λ set. h.1 (ap (λ (m : ℕ). table_bit other.bytes (a * m + b)) same ∙ set))),
+  )
 
   -- behind the last pair nothing is set
   spare : (k : ℕ) → one.n * one.n ≤ k → k < 8 * length one.bytes → ¬ IsTrue (is_at k)
