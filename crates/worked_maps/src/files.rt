@@ -84,39 +84,55 @@ fn push_side(sidedefs: &mut Vec<u8>, count: &mut u16, sector: u16) -> Result<u16
     Ok(number)
 }
 
-// Adds the six lumps of a map: its points in the order in which the lines first use them, a record for each side, no
-// REJECT.
-fn push_map(alloc: Global, lumps: &mut Vec<RowLump>, map: &Lines) -> Result<(), AllocError> {
-    let mut points = Vec::new(alloc);
-    let mut linedefs = lump(alloc, "LINEDEFS");
-    let mut sidedefs = lump(alloc, "SIDEDEFS");
+// A record of LINEDEFS for each line, a record of SIDEDEFS for each side, and the points in the order in which the lines
+// first use them.
+fn push_lines(
+    map: &Lines,
+    points: &mut Vec<(i16, i16)>,
+    linedefs: &mut Vec<u8>,
+    sidedefs: &mut Vec<u8>,
+) -> Result<(), AllocError> {
     let mut sides = 0u16;
     for (x, y, u, v, flags, right, left) in &map.lines {
-        let (first, second) = (
-            number_of(&mut points, *x, *y)?,
-            number_of(&mut points, *u, *v)?,
-        );
-        let right = push_side(&mut sidedefs.bytes, &mut sides, *right)?;
-        let left = push_side(&mut sidedefs.bytes, &mut sides, *left)?;
+        let (first, second) = (number_of(points, *x, *y)?, number_of(points, *u, *v)?);
+        let right = push_side(sidedefs, &mut sides, *right)?;
+        let left = push_side(sidedefs, &mut sides, *left)?;
         for field in [first, second, *flags, 0, 0, right, left] {
-            linedefs.bytes.extend_from_slice(&field.to_le_bytes())?;
+            linedefs.extend_from_slice(&field.to_le_bytes())?;
         }
     }
-    let mut vertexes = lump(alloc, "VERTEXES");
-    for (x, y) in &points {
-        vertexes.bytes.extend_from_slice(&x.to_le_bytes())?;
-        vertexes.bytes.extend_from_slice(&y.to_le_bytes())?;
+    Ok(())
+}
+
+fn push_points(vertexes: &mut Vec<u8>, points: &[(i16, i16)]) -> Result<(), AllocError> {
+    for (x, y) in points {
+        vertexes.extend_from_slice(&x.to_le_bytes())?;
+        vertexes.extend_from_slice(&y.to_le_bytes())?;
     }
-    let mut sectors = lump(alloc, "SECTORS");
-    for _ in 0..map.sectors {
-        sectors.bytes.extend_from_slice(&[0; 26])?;
+    Ok(())
+}
+
+fn push_sectors(bytes: &mut Vec<u8>, count: u16) -> Result<(), AllocError> {
+    for _ in 0..count {
+        bytes.extend_from_slice(&[0; 26])?;
     }
-    lumps.push(lump(alloc, "MAP01"))?;
-    lumps.push(linedefs)?;
-    lumps.push(sidedefs)?;
-    lumps.push(vertexes)?;
-    lumps.push(sectors)?;
-    lumps.push(lump(alloc, "REJECT"))?;
+    Ok(())
+}
+
+// Adds the six lumps of a map, REJECT empty. They are pushed empty and filled where they are, so that little is owned here
+// over the calls that may fail.
+fn push_map(alloc: Global, lumps: &mut Vec<RowLump>, map: &Lines) -> Result<(), AllocError> {
+    for name in [
+        "MAP01", "LINEDEFS", "SIDEDEFS", "VERTEXES", "SECTORS", "REJECT",
+    ] {
+        lumps.push(lump(alloc, name))?;
+    }
+    let mut points = Vec::new(alloc);
+    if let [.., linedefs, sidedefs, vertexes, sectors, _] = lumps.as_mut_slice() {
+        push_lines(map, &mut points, &mut linedefs.bytes, &mut sidedefs.bytes)?;
+        push_points(&mut vertexes.bytes, &points)?;
+        push_sectors(&mut sectors.bytes, map.sectors)?;
+    }
     Ok(())
 }
 
