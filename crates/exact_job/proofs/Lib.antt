@@ -8,5 +8,5 @@ pub mod Tables
 pub mod Accepting
 pub mod Walks
 pub mod Rounds
-pub mod Waves
 pub mod FewLines
+pub mod Judging

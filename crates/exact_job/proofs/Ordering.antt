@@ -19,7 +19,7 @@ use Rattle.exact_job.specs.Rays.{AreOneEach, IsAdded, IsBehindAll, RayBefore}
 
 -- ---- the last one
 
-ascend_more : (rays : List PairRay) (r : PairRay) → Ascends RayBefore rays → IsBehindAll rays r → Ascends RayBefore (rays ++ r ∷ [])
+pub ascend_more : (rays : List PairRay) (r : PairRay) → Ascends RayBefore rays → IsBehindAll rays r → Ascends RayBefore (rays ++ r ∷ [])
 ascend_more rays r up behind i j x y lt at_x at_y = go (pushed_at rays r x i at_x) (pushed_at rays r y j at_y)
   where
     go : (slice_get rays i ≡ Some x) ⊎ ((i ≡ length rays) × (r ≡ x)) → (slice_get rays j ≡ Some y) ⊎ ((j ≡ length rays) × (r ≡ y)) → PairBefore x.pair y.pair

@@ -4,5 +4,4 @@ pub mod Trees
 pub mod Rounds
 pub mod Table
 pub mod Built
-pub mod Waves
 pub mod Lines

@@ -38,10 +38,6 @@ pub record AreWalksOf (p : PlanParts) (xs : List HalfEdge) (ms : MaskRows) (root
 abbrev pub IsOwnedWalk : List HalfEdge → MaskRows → List Root → List (Option ℕ) → OwningParts → ℕ → Made → Type 0
 IsOwnedWalk xs ms roots firsts known f w = (g : Ground) → IsWalkable g xs roots firsts f → IsWalkOf g.plan xs ms roots firsts known f w
 
--- what may be made of the walk of this group with whatever is wanted, over whatever ground it can be walked
-abbrev pub IsWantedWalk : List HalfEdge → List Root → List (Option ℕ) → ℕ → Made → Type 0
-IsWantedWalk xs roots firsts f w = (g : Ground) → IsWalkable g xs roots firsts f → AreSeen g.plan f w.found.items
-
 -- some walk found something
 pub record HasFound (walks : List Made) : Type 0 where
   pub f : ℕ

@@ -2,17 +2,13 @@
 //!
 //! Nothing is proved of these bounds: the first walk finds rays by them, and whatever it misses the rounds behind it find.
 
-ghost use Rattle.gate_floods.specs.GateMasks.Gates.{IsIndexed};
-
 use crate::words::{
-    count_in, drop_at, has_at, join_at, meet_at, put_at, row_with, start_of, width_of, zeros,
+    count_in, drop_at, has_at, join_at, meet_at, put_at, row_with, start_of, take_group, width_of,
+    word_at, zeros,
 };
-use gate_floods::gate_masks::flood::beyond;
 use gate_floods::gate_masks::gate::Gate;
 use gate_floods::gate_masks::gates::Gates;
-use mesh_shape::Mesh;
-use mesh_shape::half_edges::HalfEdges;
-use sight_names::{Memory, Plan, Side};
+use sight_names::{Memory, Plan, Pt};
 use std::alloc::Global;
 
 /// For each group a row of those that it may see, and for each gate a row of those that may be seen behind it: a flood of gates
@@ -21,72 +17,92 @@ use std::alloc::Global;
 pub struct Bounds {
     pub width: usize,
     /// The rows of the groups, one behind the other.
-    pub may: Vec<u64>,
-    /// The rows of the gates, in their order.
-    pub words: Vec<u64>,
-    /// For each half-edge by which one comes in at a gate, where the gate's row begins.
-    pub places: Vec<Option<u32>>,
-    /// For each gate the number of the one by which one comes back.
-    pub back: Vec<Option<usize>>,
+    may: Vec<u64>,
+    /// The rows of the gates, in their order: what the flood from each came to, less what was left out since.
+    pub masks: Vec<u64>,
+    bars: Vec<Bar>,
+    /// A flood that is under way, and the groups that it has to go on from.
+    flood: Vec<u64>,
+    queue: Vec<u16>,
 }
 
-/// For each half-edge by which one comes in at a gate, where the row of that gate begins.
-fn places_of(
-    alloc: Global,
-    mesh: &Mesh,
-    edges: &HalfEdges,
-    gates: &[Gate],
-    width: usize,
-) -> Result<Vec<Option<u32>>, Memory> {
-    let mut places = vec![in alloc; None; edges.len()]?;
-    for (number, gate) in gates.iter().enumerate() {
-        let start = start_of(number, width);
-        if let Some(edge) = edges.entering(mesh, gate.left, gate.right) {
-            if (edge as usize) < places.len() && start < 4_294_967_296 {
-                places[edge as usize] = Some(start as u32);
-            }
+/// A gate as a flood needs it: its line, which is above 0 in front of it, its ends, and the group behind it.
+#[derive(Clone, Copy)]
+struct Bar {
+    a: i32,
+    b: i32,
+    c: i64,
+    left: Pt,
+    right: Pt,
+    far: u16,
+}
+
+/// The gate as a bar.
+fn bar_of(gate: &Gate) -> Bar {
+    let a = (gate.left_at.y as i32).wrapping_sub(gate.right_at.y as i32);
+    let b = (gate.right_at.x as i32).wrapping_sub(gate.left_at.x as i32);
+    let at = (a as i64)
+        .wrapping_mul(gate.left_at.x as i64)
+        .wrapping_add((b as i64).wrapping_mul(gate.left_at.y as i64));
+    Bar {
+        a,
+        b,
+        c: at,
+        left: gate.left_at,
+        right: gate.right_at,
+        far: gate.far,
+    }
+}
+
+/// The value of the bar's line at the point, to be compared with the bar's own.
+#[inline(always)]
+fn level(bar: &Bar, at: Pt) -> i64 {
+    (bar.a as i64)
+        .wrapping_mul(at.x as i64)
+        .wrapping_add((bar.b as i64).wrapping_mul(at.y as i64))
+}
+
+/// Whether an end of the next one is in front of this one, and an end of this one in the back of the next.
+#[inline(always)]
+fn may_follow(bar: &Bar, next: &Bar) -> bool {
+    (level(bar, next.left) > bar.c || level(bar, next.right) > bar.c)
+        && (level(next, bar.left) < next.c || level(next, bar.right) < next.c)
+}
+
+/// The gates as bars.
+fn bars_of(alloc: Global, gates: &[Gate]) -> Result<Vec<Bar>, Memory> {
+    let mut bars = Vec::new(alloc);
+    for gate in gates {
+        bars.push(bar_of(gate))?;
+    }
+    Ok(bars)
+}
+
+/// Goes on with a flood from one gate through these: what lies behind those that may follow it is flooded, and queued.
+#[inline(always)]
+fn flood_on(
+    own: &Bar,
+    bars: &[Bar],
+    flood: &mut [u64],
+    queue: &mut Vec<u16>,
+) -> Result<(), Memory> {
+    for next in bars {
+        let place = next.far as usize / 64;
+        let bit: u64 = 1 << (next.far % 64);
+        if place < flood.len() && flood[place] & bit == 0 && may_follow(own, next) {
+            flood[place] |= bit;
+            queue.push(next.far)?;
         }
     }
-    Ok(places)
+    Ok(())
 }
 
-/// The place of a side among two of each line.
-fn place_of(side: Side) -> usize {
-    let left = if side.left { 1 } else { 0 };
-    side.line as usize * 2 + left
-}
-
-/// Puts the number of the gate at this side.
-fn put_number(at_side: &mut [Option<usize>], side: Side, number: usize) {
-    let place = place_of(side);
-    if place < at_side.len() {
-        at_side[place] = Some(number);
-    }
-}
-
-/// The number of the gate at this side.
-fn number_at(at_side: &[Option<usize>], side: Side) -> Option<usize> {
-    match at_side.get(place_of(side)) {
-        Some(number) => *number,
-        None => None,
-    }
-}
-
-/// For each gate the number of the one by which one comes back.
-fn backs_of(alloc: Global, plan: &Plan, gates: &[Gate]) -> Result<Vec<Option<usize>>, Memory> {
-    let mut at_side = vec![in alloc; None; plan.lines().len().saturating_mul(2)]?;
-    for (number, gate) in gates.iter().enumerate() {
-        put_number(at_side.as_mut_slice(), gate.side, number);
-    }
-    let mut backs = Vec::new(alloc);
-    for gate in gates {
-        let side = Side {
-            line: gate.side.line,
-            left: !gate.side.left,
-        };
-        backs.push(number_at(at_side.as_slice(), side))?;
-    }
-    Ok(backs)
+/// The bars of the gates out of this group.
+#[inline(always)]
+fn bars_out_of<'a>(bars: &'a [Bar], gates: &Gates, group: u16) -> &'a [Bar] {
+    let to = first_of(gates, group as u32 + 1).min(bars.len());
+    let from = first_of(gates, group as u32).min(to);
+    &bars[from..to]
 }
 
 /// The number of the group's component.
@@ -118,17 +134,8 @@ fn component_rows(
     Ok(rows)
 }
 
-/// The row of these groups.
-fn row_of(alloc: Global, width: usize, groups: &[u16]) -> Result<Vec<u64>, Memory> {
-    let mut row = zeros(alloc, width)?;
-    for group in groups {
-        put_at(row.as_mut_slice(), 0, *group);
-    }
-    Ok(row)
-}
-
 /// The number of the first gate out of this group or a later one.
-fn first_of(gates: &Gates, group: u32) -> usize {
+pub fn first_of(gates: &Gates, group: u32) -> usize {
     match gates.starts.get(group as usize) {
         Some(start) => *start,
         None => gates.gates.len(),
@@ -140,58 +147,61 @@ impl Bounds {
     pub fn of(
         alloc: Global,
         plan: &Plan,
-        mesh: &Mesh,
-        edges: &HalfEdges,
         gates: &Gates,
         components: &[u16],
-    ) -> Result<Bounds, Memory>
-        requires { IsIndexed gates.now }
-    {
+    ) -> Result<Bounds, Memory> {
         let width = width_of(plan.sectors);
         let mut bounds = Bounds {
             width,
             may: component_rows(alloc, components, gates.sectors, width)?,
-            words: zeros(alloc, start_of(gates.gates.len(), width))?,
-            places: places_of(alloc, mesh, edges, gates.gates.as_slice(), width)?,
-            back: backs_of(alloc, plan, gates.gates.as_slice())?,
+            masks: zeros(alloc, start_of(gates.gates.len(), width))?,
+            bars: bars_of(alloc, gates.gates.as_slice())?,
+            flood: zeros(alloc, width)?,
+            queue: Vec::new(alloc),
         };
         for group in 0..gates.sectors {
             bounds.flood_all(alloc, gates, group)?;
         }
         bounds.see_both_ways(gates.sectors);
-        bounds.meet_all(gates.gates.as_slice());
         Ok(bounds)
     }
 
     /// Floods all gates out of the group, and leaves to it what lies beyond one of them.
-    fn flood_all(&mut self, alloc: Global, gates: &Gates, group: u16) -> Result<(), Memory>
-        requires { IsIndexed gates.now }
-    {
+    fn flood_all(&mut self, alloc: Global, gates: &Gates, group: u16) -> Result<(), Memory> {
         let mut seen = zeros(alloc, self.width)?;
         put_at(seen.as_mut_slice(), 0, group);
         for number in first_of(gates, group as u32)..first_of(gates, group as u32 + 1) {
-            let row = self.flood_of(alloc, gates, number)?;
+            self.flood_from(gates, group, number)?;
             let start = start_of(number, self.width);
-            join_at(self.words.as_mut_slice(), start, row.as_slice());
-            join_at(seen.as_mut_slice(), 0, row.as_slice());
+            join_at(self.masks.as_mut_slice(), start, self.flood.as_slice());
+            join_at(seen.as_mut_slice(), 0, self.flood.as_slice());
         }
         let start = start_of(group as usize, self.width);
         meet_at(self.may.as_mut_slice(), start, seen.as_slice());
         Ok(())
     }
 
-    /// What lies beyond the gate with this number, within what its near group may see.
-    fn flood_of(&self, alloc: Global, gates: &Gates, number: usize) -> Result<Vec<u64>, Memory>
-        requires { IsIndexed gates.now }
-    {
-        let Some(gate) = gates.gates.get(number) else {
-            return zeros(alloc, self.width);
+    /// Floods what lies beyond the gate with this number out of the group, within what the group may see.
+    fn flood_from(&mut self, gates: &Gates, group: u16, number: usize) -> Result<(), Memory> {
+        self.flood.as_mut_slice().fill(0);
+        self.queue.clear();
+        let Some(own) = self.bars.as_slice().get(number) else {
+            return Ok(());
         };
-        if gate.far >= gates.sectors {
-            return zeros(alloc, self.width);
+        put_at(self.flood.as_mut_slice(), 0, own.far);
+        self.queue.push(own.far)?;
+        let seen = row_with(self.may.as_slice(), group as usize, self.width);
+        // no group is queued twice
+        for _ in 0..65_536 {
+            let Some(next) = self.queue.pop() else {
+                return Ok(());
+            };
+            if has_at(seen, 0, next) {
+                let bars = bars_out_of(self.bars.as_slice(), gates, next);
+                flood_on(own, bars, self.flood.as_mut_slice(), &mut self.queue)?;
+            }
         }
-        let found = beyond(alloc, gates, *gate, self.row(gate.near))?;
-        row_of(alloc, self.width, found.as_slice())
+        Ok(())
     }
 
     /// What the group may see.
@@ -202,37 +212,49 @@ impl Bounds {
     /// A group may see only what may see it.
     fn see_both_ways(&mut self, count: u16) {
         for one in 0..count {
-            for other in 0..one {
-                self.agree(one, other);
+            let at = start_of(one as usize, self.width);
+            for place in 0..self.width {
+                let word = word_at(self.may.as_slice(), at.saturating_add(place));
+                self.drop_unseeing(one, place, word);
             }
         }
     }
 
-    /// Neither of the two may see the other if one may not.
-    fn agree(&mut self, one: u16, other: u16) {
-        let of_one = start_of(one as usize, self.width);
-        let of_other = start_of(other as usize, self.width);
-        if !has_at(self.may.as_slice(), of_one, other) {
-            drop_at(self.may.as_mut_slice(), of_other, one);
-        }
-        if !has_at(self.may.as_slice(), of_other, one) {
-            drop_at(self.may.as_mut_slice(), of_one, other);
+    /// The group may see those in this word of its row only where they may see it.
+    fn drop_unseeing(&mut self, one: u16, place: usize, mut word: u64) {
+        let at = start_of(one as usize, self.width);
+        for _ in 0..64 {
+            let Some(other) = take_group(&mut word, place) else {
+                return;
+            };
+            if !has_at(
+                self.may.as_slice(),
+                start_of(other as usize, self.width),
+                one,
+            ) {
+                drop_at(self.may.as_mut_slice(), at, other);
+            }
         }
     }
 
     /// Leaves to each gate what its near and its far group may see.
-    fn meet_all(&mut self, gates: &[Gate]) {
+    pub fn meet_all(&mut self, gates: &[Gate]) {
         for (number, gate) in gates.iter().enumerate() {
-            self.meet_group(number, gate.near);
-            self.meet_group(number, gate.far);
+            self.meet_gate(start_of(number, self.width), gate);
         }
     }
 
-    /// Leaves to the gate what the group may see.
-    fn meet_group(&mut self, number: usize, group: u16) {
-        let row = row_with(self.may.as_slice(), group as usize, self.width);
-        let start = start_of(number, self.width);
-        meet_at(self.words.as_mut_slice(), start, row);
+    /// The same for the gate whose row begins here.
+    fn meet_gate(&mut self, start: usize, gate: &Gate) {
+        let near = row_with(self.may.as_slice(), gate.near as usize, self.width);
+        let far = row_with(self.may.as_slice(), gate.far as usize, self.width);
+        let masks = self.masks.as_mut_slice();
+        if start > masks.len() || masks.len() - start < near.len() || far.len() < near.len() {
+            return;
+        }
+        for place in 0..near.len() {
+            masks[start + place] &= near[place] & far[place];
+        }
     }
 
     /// The groups in the order of how many they may see.
@@ -250,60 +272,32 @@ impl Bounds {
     }
 
     /// Takes it as known that the group sees what the row has, and nothing else.
-    pub fn settle(
-        &mut self,
-        alloc: Global,
-        gates: &Gates,
-        group: u16,
-        row: &[u64],
-    ) -> Result<(), Memory>
-        requires { IsIndexed gates.now }
-    {
+    pub fn settle(&mut self, gates: &Gates, group: u16, row: &[u64]) -> Result<(), Memory> {
         let at = start_of(group as usize, self.width);
-        for other in 0..gates.sectors {
-            if has_at(self.may.as_slice(), at, other) && !has_at(row, 0, other) {
-                self.part_from(gates, other, group);
-            }
+        for place in 0..self.width.min(row.len()) {
+            let word = word_at(self.may.as_slice(), at.saturating_add(place)) & !row[place];
+            self.drop_from(group, place, word);
         }
         meet_at(self.may.as_mut_slice(), at, row);
         for number in first_of(gates, group as u32)..first_of(gates, group as u32 + 1) {
-            self.meet_both(number, row);
-            let flood = self.flood_of(alloc, gates, number)?;
+            self.flood_from(gates, group, number)?;
             let start = start_of(number, self.width);
-            meet_at(self.words.as_mut_slice(), start, flood.as_slice());
+            meet_at(self.masks.as_mut_slice(), start, self.flood.as_slice());
         }
         Ok(())
     }
 
-    /// Takes it as known that the one group doesn't see the other: nor is that one seen through a gate of it.
-    fn part_from(&mut self, gates: &Gates, one: u16, other: u16) {
-        let at = start_of(one as usize, self.width);
-        drop_at(self.may.as_mut_slice(), at, other);
-        for number in first_of(gates, one as u32)..first_of(gates, one as u32 + 1) {
-            let start = start_of(number, self.width);
-            drop_at(self.words.as_mut_slice(), start, other);
-            if let Some(back) = self.gate_back(number) {
-                let start = start_of(back, self.width);
-                drop_at(self.words.as_mut_slice(), start, other);
-            }
-        }
-    }
-
-    /// Leaves to the gate, and to the one by which one comes back, what the row has.
-    fn meet_both(&mut self, number: usize, row: &[u64]) {
-        let start = start_of(number, self.width);
-        meet_at(self.words.as_mut_slice(), start, row);
-        if let Some(back) = self.gate_back(number) {
-            let start = start_of(back, self.width);
-            meet_at(self.words.as_mut_slice(), start, row);
-        }
-    }
-
-    /// The number of the gate by which one comes back through this one.
-    fn gate_back(&self, number: usize) -> Option<usize> {
-        match self.back.get(number) {
-            Some(back) => *back,
-            None => None,
+    /// None of the groups in this word, which stands at this place of a row, may see the group.
+    fn drop_from(&mut self, group: u16, place: usize, mut word: u64) {
+        for _ in 0..64 {
+            let Some(other) = take_group(&mut word, place) else {
+                return;
+            };
+            drop_at(
+                self.may.as_mut_slice(),
+                start_of(other as usize, self.width),
+                group,
+            );
         }
     }
 }

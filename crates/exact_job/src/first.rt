@@ -1,25 +1,20 @@
-//! The first walk: rays for pairs of groups, found by walks within bounds.
-
-ghost use Rattle.std.specs.Prelude.{◌≡◌, ℕ, ◌<◌, All, IfOk, OnOk, length};
-ghost use Rattle.sight_names.specs.Plan.{PlanParts as PlanOf};
-ghost use Rattle.gate_floods.specs.GateMasks.Gates.{IsIndexed};
-ghost use Rattle.row_trees.specs.Walkable.{Ground as GroundOf, IsWalkable};
-ghost use Rattle.exact_job.specs.Ground.{IsGround};
-ghost use Rattle.exact_job.specs.Rays.{IsFoundRay};
-ghost use Rattle.exact_job.specs.Waves.{AreSeenOf};
+//! The first walk: rays for pairs of groups, found by searches within bounds.
+//!
+//! Nothing is proved of what it finds: each ray is judged before it counts, and what it misses the rounds behind it find.
 
 use crate::bounds::Bounds;
-use crate::rays::note_found;
+use crate::cells::Cells;
+use crate::rays::toward;
+use crate::scout::Scene;
 use crate::walk_tasks::{Wanted, WantedWalks};
 use crate::walkers::Walkers;
 use crate::words::{drop_at, put_at, zeros};
-use cert_checker::tree_judge::{Roots, Terrain};
 use face_groups::tri_sectors::components;
 use gate_floods::gate_masks::gates::Gates;
-use gate_floods::row_judge::Masks;
+use geom_exact::in_range;
 use group_checker::GroupedMesh;
 use mesh_shape::half_edges::HalfEdges;
-use row_trees::Made;
+use pair_budget::Reached;
 use sight_names::{Memory, PairRay};
 use std::alloc::Global;
 
@@ -63,38 +58,32 @@ fn seen(
     bounds: &Bounds,
     done: &[u64],
     group: u16,
-    made: &Made,
+    found: &[Reached],
 ) -> Result<Vec<u64>, Memory> {
     let mut row = Vec::from_slice(alloc, bounds.row(group))?;
     for place in 0..row.len().min(done.len()) {
         row[place] &= done[place];
     }
     put_at(row.as_mut_slice(), 0, group);
-    for reached in made.found.as_slice() {
+    for reached in found {
         put_at(row.as_mut_slice(), 0, reached.to);
     }
     Ok(row)
 }
 
-/// What is wanted of the walks of these groups, of so many in all: of two of them only the first wants the other.
+/// What is wanted of the walks of these groups: of two of them only the first wants the other.
 fn wave_of(
     alloc: Global,
     bounds: &Bounds,
-    count: u16,
     done: &[u64],
     groups: &[u16],
-) -> Result<Vec<Wanted>, Memory>
-    ensures rows { IfOk result (λ v. All (λ x. length x.row.items ≡ bounds.now.width) v.items) }
-    ensures groups { IfOk result (λ v. All (λ x. x.group < count) v.items) }
-{
+) -> Result<Vec<Wanted>, Memory> {
     let mut left_out = Vec::from_slice(alloc, done)?;
     let mut wave = Vec::new(alloc);
     for group in groups {
         let row = wanted(alloc, bounds, left_out.as_slice(), *group)?;
         put_at(left_out.as_mut_slice(), 0, *group);
-        if row.len() == bounds.width && *group < count {
-            wave.push(Wanted { group: *group, row })?;
-        }
+        wave.push(Wanted { group: *group, row })?;
     }
     Ok(wave)
 }
@@ -106,40 +95,64 @@ fn settle_wave(
     bounds: &mut Bounds,
     done: &mut [u64],
     wave: &[Wanted],
-    made: &[Made],
-) -> Result<(), Memory>
-    requires { IsIndexed gates.now }
-{
-    for number in 0..wave.len().min(made.len()) {
+    found: &[Vec<Reached>],
+) -> Result<(), Memory> {
+    for number in 0..wave.len().min(found.len()) {
         let group = wave[number].group;
-        let row = seen(alloc, bounds, done, group, &made[number])?;
-        bounds.settle(alloc, gates, group, row.as_slice())?;
+        let row = seen(alloc, bounds, done, group, found[number].as_slice())?;
+        bounds.settle(gates, group, row.as_slice())?;
         put_at(done, 0, group);
     }
     Ok(())
 }
 
-/// Adds the rays that the walks of a wave found.
-fn note_wave(rays: &mut Vec<PairRay>, wave: &[Wanted], made: &[Made]) -> Result<(), Memory>
-    requires len { length made.now ≡ length wave.now }
-    requires seen { (p : PlanOf) × AreSeenOf p wave.now made.now }
-    ensures { (p : PlanOf) → AreSeenOf p wave.now made.now → All (IsFoundRay p) rays.old.items → OnOk result (All (IsFoundRay p) rays.new.items) }
-{
-    let count = wave.len();
-    for number in 0..count {
-        let group = wave[number].group;
-        let found = made[number].found.as_slice();
-        note_found(rays, group, found)?;
+/// Adds the rays that the group found.
+fn note(rays: &mut Vec<PairRay>, group: u16, found: &[Reached]) -> Result<(), Memory> {
+    for reached in found {
+        if in_range(&reached.ray) {
+            rays.push(toward(group, reached))?;
+        }
     }
     Ok(())
+}
+
+/// Adds the rays that the groups of a wave found.
+fn note_wave(
+    rays: &mut Vec<PairRay>,
+    wave: &[Wanted],
+    found: &[Vec<Reached>],
+) -> Result<(), Memory> {
+    for number in 0..wave.len().min(found.len()) {
+        note(rays, wave[number].group, found[number].as_slice())?;
+    }
+    Ok(())
+}
+
+/// What the searches of a wave find.
+fn walked<'a, W: Walkers>(
+    walkers: &W,
+    alloc: Global,
+    wanted: &'a [Wanted],
+    cells: &'a Cells,
+    gates: &'a Gates,
+    bounds: &'a Bounds,
+) -> Result<Vec<Vec<Reached>>, Memory>
+    requires can { W.can_walk walkers.now }
+{
+    let scene = Scene {
+        cells,
+        gates,
+        masks: bounds.masks.as_slice(),
+        width: bounds.width,
+    };
+    walkers.walk_wanted(alloc, &WantedWalks { wanted, scene })
 }
 
 /// Walks some groups, and settles what they see.
 fn walk_wave<W: Walkers>(
     walkers: &W,
     alloc: Global,
-    terrain: &Terrain<'_>,
-    count: u16,
+    cells: &Cells,
     gates: &Gates,
     bounds: &mut Bounds,
     done: &mut [u64],
@@ -147,31 +160,23 @@ fn walk_wave<W: Walkers>(
     rays: &mut Vec<PairRay>,
 ) -> Result<(), Memory>
     requires can { W.can_walk walkers.now }
-    requires gates { IsIndexed gates.now }
-    requires walkable { (g : GroundOf) × ((f : ℕ) → f < count → IsWalkable g terrain.now.edges.now terrain.now.roots.now.roots.items terrain.now.roots.now.first.items f) }
-    ensures { (g : GroundOf) → ((f : ℕ) → f < count → IsWalkable g terrain.now.edges.now terrain.now.roots.now.roots.items terrain.now.roots.now.first.items f) → All (IsFoundRay g.plan) rays.old.items → OnOk result (All (IsFoundRay g.plan) rays.new.items) }
 {
-    let wave = wave_of(alloc, bounds, count, done, groups)?;
-    let masks = Masks {
-        width: bounds.width,
-        places: bounds.places.as_slice(),
-        words: bounds.words.as_slice(),
-    };
-    let walks = WantedWalks {
-        wanted: wave.as_slice(),
-        terrain,
-        masks: &masks,
-    };
-    let made = walkers.walk_wanted(alloc, &walks)?;
-    let wanted = wave.as_slice();
-    let walked = made.as_slice();
-    note_wave(rays, wanted, walked)?;
-    settle_wave(alloc, gates, bounds, done, wanted, walked)?;
-    Ok(())
+    let wave = wave_of(alloc, bounds, done, groups)?;
+    bounds.meet_all(gates.gates.as_slice());
+    let found = walked(walkers, alloc, wave.as_slice(), cells, gates, bounds)?;
+    note_wave(rays, wave.as_slice(), found.as_slice())?;
+    settle_wave(
+        alloc,
+        gates,
+        bounds,
+        done,
+        wave.as_slice(),
+        found.as_slice(),
+    )
 }
 
-/// Rays for pairs of groups that see each other, found by walks in waves, each walk with what its group may see and isn't decided
-/// before the wave.
+/// What may be rays for pairs of groups that see each other, found by walks in waves, each walk with what its group may see and
+/// isn't decided before the wave.
 pub fn first_rays<W: Walkers>(
     walkers: &W,
     alloc: Global,
@@ -179,18 +184,12 @@ pub fn first_rays<W: Walkers>(
     edges: &HalfEdges,
 ) -> Result<Vec<PairRay>, Memory>
     requires can { W.can_walk walkers.now }
-    requires ground { IsGround over.now.plan over.now.mesh.triangles over.now.labels edges.now }
-    ensures { IfOk result (λ v. All (IsFoundRay over.now.plan) v.items) }
 {
     let plan = &over.plan;
     let classes = components(alloc, plan)?;
-    let roots = Roots::of(alloc, plan, &over.mesh, edges)?;
-    let terrain = Terrain {
-        edges,
-        roots: &roots,
-    };
     let gates = Gates::of(alloc, plan)?;
-    let mut bounds = Bounds::of(alloc, plan, &over.mesh, edges, &gates, classes.as_slice())?;
+    let cells = Cells::of(alloc, plan, &over.mesh, edges, gates.gates.as_slice())?;
+    let mut bounds = Bounds::of(alloc, plan, &gates, classes.as_slice())?;
     let order = bounds.order(alloc, gates.sectors)?;
     let order = spread(alloc, order.as_slice())?;
     let mut done = zeros(alloc, bounds.width)?;
@@ -199,8 +198,7 @@ pub fn first_rays<W: Walkers>(
         walk_wave(
             walkers,
             alloc,
-            &terrain,
-            plan.sectors,
+            &cells,
             &gates,
             &mut bounds,
             done.as_mut_slice(),

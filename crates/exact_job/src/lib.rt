@@ -1,14 +1,19 @@
 //! The build of a map with closed faces that decides every pair, and lists none.
 //!
-//! A first walk of all groups finds rays, by bounds on what each group may see. Then each group is walked with what it owns
-//! of the pairs that have no ray: where none of these walks finds anything, their nodes show that no such pair sees.
+//! A first walk of all groups finds rays, by bounds on what each group may see; each of them is judged. Then each group is
+//! walked with what it owns of the pairs that have no ray: where none of these walks finds anything, their nodes show that no
+//! such pair sees.
 #![tactic(auto)]
 
 mod bounds;
 mod build;
+mod cells;
+mod cones;
 mod first;
+mod judged;
 mod lines;
 mod rays;
+mod scout;
 mod settling;
 mod table;
 mod trees;

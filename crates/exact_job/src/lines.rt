@@ -1,14 +1,9 @@
 //! Rays of a group that share a line: whoever follows them one after another follows it once.
 
-ghost use Rattle.std.specs.Prelude.{◌≡◌, IfOk, IsTrue, length, map};
-ghost use Rattle.sight_names.specs.Map.{map_of};
+ghost use Rattle.std.specs.Prelude.{◌≡◌, IfOk, map};
 ghost use Rattle.sight_names.specs.Ray.{IsInRange};
-ghost use Rattle.cert_checker.specs.Rays.{AreSightRaysBelow};
-ghost use Rattle.exact_job.specs.Ground.{IsGround};
 ghost use Rattle.exact_job.specs.Lines.{pair_of};
-ghost use Rattle.exact_job.specs.Rays.{AreFoundInOrder};
 
-use cert_checker::ray_fault;
 use geom_exact::{in_range, side_of};
 use group_checker::GroupedMesh;
 use mesh_shape::half_edges::{HalfEdge, HalfEdges};
@@ -191,33 +186,18 @@ fn moved(alloc: Global, rays: &[PairRay], chosen: &[Option<Ray>]) -> Result<Vec<
     Ok(all)
 }
 
-/// Whether all of these are found to be sight rays of their pairs.
-fn are_sight_rays(over: &GroupedMesh, edges: &HalfEdges, rays: &[PairRay]) -> bool
-    requires { IsGround over.now.plan over.now.mesh.triangles over.now.labels edges.now }
-    ensures { IsTrue result → AreSightRaysBelow (map_of over.now.plan) rays.now (length rays.now) }
-{
-    ray_fault(&over.plan, &over.mesh, edges, rays).is_none()
-}
-
-/// Rays for the same pairs, on few lines where groups have many.
+/// Rays for the same pairs, on few lines where groups have many. Nothing else is claimed of them.
 pub fn on_few_lines(
     alloc: Global,
     over: &GroupedMesh,
     edges: &HalfEdges,
     rays: Vec<PairRay>,
 ) -> Result<Vec<PairRay>, Memory>
-    requires ground { IsGround over.now.plan over.now.mesh.triangles over.now.labels edges.now }
-    requires rays { AreFoundInOrder over.now.plan rays.items }
-    ensures { IfOk result (λ v. AreFoundInOrder over.now.plan v.items) }
+    ensures { IfOk result (λ v. map pair_of v.items ≡ map pair_of rays.items) }
 {
     if rays.len() / MANY < over.plan.sectors as usize {
         return Ok(rays);
     }
     let chosen = lines_of(alloc, over, edges, rays.as_slice())?;
-    let others = moved(alloc, rays.as_slice(), chosen.as_slice())?;
-    if are_sight_rays(over, edges, others.as_slice()) {
-        Ok(others)
-    } else {
-        Ok(rays)
-    }
+    moved(alloc, rays.as_slice(), chosen.as_slice())
 }

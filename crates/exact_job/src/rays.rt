@@ -3,11 +3,9 @@
 ghost use Rattle.std.specs.Prelude.{◌≡◌, ◌++◌, ◌↔◌, All, IsFalse, IsTrue, IfOk, OnOk, map};
 ghost use Rattle.std.specs.List.Sorted.{IsPermutation, IsSortedByKey};
 ghost use Rattle.sight_names.specs.Order.{Ascends, PairBefore};
-ghost use Rattle.sight_names.specs.Plan.{PlanParts};
 ghost use Rattle.sight_names.specs.Ray.{IsInRange};
 ghost use Rattle.pair_budget.specs.PairRays.{pair_cmp, toward as ray_toward};
-ghost use Rattle.row_trees.specs.Made.{AreSeen};
-ghost use Rattle.exact_job.specs.Rays.{AreOneEach, IsAdded, IsBehindAll, IsBehindNot, IsFoundRay, RayBefore};
+ghost use Rattle.exact_job.specs.Rays.{AreOneEach, IsAdded, IsBehindAll, IsBehindNot, RayBefore};
 
 use pair_budget::Reached;
 use sight_names::{Memory, Pair, PairRay};
@@ -15,7 +13,7 @@ use sight_ray::turn_round;
 use std::alloc::Global;
 
 /// The ray of a group that the source found, from the smaller of the two to the larger.
-fn toward(source: u16, reached: &Reached) -> PairRay
+pub fn toward(source: u16, reached: &Reached) -> PairRay
     requires { IsInRange reached.now.ray }
     ensures { result ≡ ray_toward source reached.now }
 {
@@ -40,9 +38,8 @@ fn toward(source: u16, reached: &Reached) -> PairRay
 
 /// Adds a ray for each group that the source found.
 pub fn note_found(rays: &mut Vec<PairRay>, source: u16, found: &[Reached]) -> Result<(), Memory>
-    requires range { All (λ r. IsInRange r.ray) found.now }
-    ensures rays { OnOk result (rays.new.items ≡ rays.old.items ++ map (ray_toward source) found.now) }
-    ensures found { (p : PlanParts) → AreSeen p source found.now → All (IsFoundRay p) rays.old.items → OnOk result (All (IsFoundRay p) rays.new.items) }
+    requires { All (λ r. IsInRange r.ray) found.now }
+    ensures { OnOk result (rays.new.items ≡ rays.old.items ++ map (ray_toward source) found.now) }
 {
     for reached in found {
         rays.push(toward(source, reached))?;
@@ -70,7 +67,7 @@ fn is_behind(rays: &[PairRay], ray: PairRay) -> bool
 }
 
 /// Adds the ray, if its pair comes behind those of these.
-fn add(rays: &mut Vec<PairRay>, ray: PairRay) -> Result<(), Memory>
+pub fn add(rays: &mut Vec<PairRay>, ray: PairRay) -> Result<(), Memory>
     requires { Ascends RayBefore rays.old.items }
     ensures { OnOk result (IsAdded ray rays.old.items rays.new.items) }
 {

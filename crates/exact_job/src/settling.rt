@@ -13,7 +13,7 @@ ghost use Rattle.exact_job.specs.Rounds.{AreNoted, HasMore, IsRound};
 ghost use Rattle.exact_job.specs.Trees.{HasFound, HasFoundNothing, nodes_of};
 
 use crate::first::first_rays;
-use crate::lines::on_few_lines;
+use crate::judged::judged;
 use crate::rays::{in_order, note_found};
 use crate::trees::make_trees;
 use crate::walkers::Walkers;
@@ -144,7 +144,7 @@ fn end_of(alloc: Global, sizes: Sizes, round: Round) -> Result<Settled, Memory>
     })
 }
 
-/// The round of the rays that the first walk finds.
+/// The round of the sight rays that the first walk finds.
 fn first_round<W: Walkers>(
     walkers: &W,
     alloc: Global,
@@ -157,7 +157,7 @@ fn first_round<W: Walkers>(
 {
     let found = first_rays(walkers, alloc, over, edges)?;
     let each = in_order(alloc, found)?;
-    let rays = on_few_lines(alloc, over, edges, each)?;
+    let rays = judged(alloc, over, edges, each)?;
     round_of(walkers, alloc, over, edges, rays)
 }
 

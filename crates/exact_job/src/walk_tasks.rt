@@ -1,16 +1,17 @@
 //! Walks that any worker can do, since none depends on what another one finds.
 
-ghost use Rattle.std.specs.Prelude.{◌≡◌, ◌*◌, ◌<◌, ◌≤◌, Some, All, slice_get, length};
+ghost use Rattle.std.specs.Prelude.{◌≡◌, ◌*◌, ◌<◌, ◌≤◌, length};
 ghost use Rattle.exact_checker.specs.Owning.{IsSized, owning_of};
 ghost use Rattle.gate_floods.specs.RowJudge.Masks.{rows_of};
 ghost use Rattle.row_trees.specs.Walkable.{Ground as GroundOf, IsWalkable};
-ghost use Rattle.exact_job.specs.declared.walk_tasks.Wanted.{Wanted as WantedOf};
-ghost use Rattle.exact_job.specs.Trees.{IsOwnedWalk, IsWantedWalk};
+ghost use Rattle.exact_job.specs.Trees.{IsOwnedWalk};
 
+use crate::scout::{Scene, Scout};
 use cert_checker::tree_judge::Terrain;
 use exact_checker::task_crew::Tasks;
 use exact_checker::{Owning, owned_row};
 use gate_floods::row_judge::Masks;
+use pair_budget::Reached;
 use row_trees::{Made, Walk, walk_by_row};
 use sight_names::Memory;
 use std::alloc::Global;
@@ -59,43 +60,40 @@ impl<'a> Tasks for OwnedWalks<'a> {
     }
 }
 
-/// A group, and the row of what is wanted of its walk.
+/// A group, and the row of what is wanted of its search.
 #[derive(Drop)]
 pub struct Wanted {
     pub group: u16,
     pub row: Vec<u64>,
 }
 
-/// The walks of some groups, each with its row.
+/// The searches from some groups, each with its row.
 #[derive(Drop)]
 pub struct WantedWalks<'a> {
     pub wanted: &'a [Wanted],
-    pub terrain: &'a Terrain<'a>,
-    pub masks: &'a Masks<'a>,
+    pub scene: Scene<'a>,
 }
 
 impl<'a> Tasks for WantedWalks<'a> {
-    type Tools = Walk;
+    type Tools = Scout;
 
-    type Done = Made;
+    type Done = Vec<Reached>;
 
-    ghost can_do = { λ w i. (i < length w.wanted.now) × All (λ x. length x.row.items ≡ w.masks.now.width) w.wanted.now × ((g : GroundOf) × All (λ x. IsWalkable g w.terrain.now.edges.now w.terrain.now.roots.now.roots.items w.terrain.now.roots.now.first.items x.group) w.wanted.now) };
+    ghost can_do = { λ w i. i < length w.wanted.now };
 
-    ghost is_done = { λ w i made. (x : WantedOf) → slice_get w.wanted.now i ≡ Some x → IsWantedWalk w.terrain.now.edges.now w.terrain.now.roots.now.roots.items w.terrain.now.roots.now.first.items x.group made };
+    ghost is_done = { λ w i made. Unit {0} };
 
-    fn tools(&self, alloc: Global) -> Walk {
-        Walk::new(alloc)
+    fn tools(&self, alloc: Global) -> Scout {
+        Scout::new(alloc)
     }
 
-    fn work(&self, alloc: Global, walk: &mut Walk, number: usize) -> Result<Made, Memory> {
+    fn work(
+        &self,
+        alloc: Global,
+        scout: &mut Scout,
+        number: usize,
+    ) -> Result<Vec<Reached>, Memory> {
         let wanted = &self.wanted[number];
-        walk_by_row(
-            alloc,
-            walk,
-            self.terrain,
-            self.masks,
-            wanted.group,
-            wanted.row.as_slice(),
-        )
+        scout.search(alloc, &self.scene, wanted.group, wanted.row.as_slice())
     }
 }

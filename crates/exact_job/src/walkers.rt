@@ -6,11 +6,11 @@ ghost use Rattle.exact_checker.specs.Owning.{IsSized, owning_of};
 ghost use Rattle.gate_floods.specs.RowJudge.Masks.{rows_of};
 ghost use Rattle.row_trees.specs.Walkable.{Ground as GroundOf, IsWalkable};
 ghost use Rattle.exact_checker.specs.TaskCrew.Done.{AreDone};
-ghost use Rattle.exact_job.specs.declared.walk_tasks.Wanted.{Wanted as WantedOf};
-ghost use Rattle.exact_job.specs.Trees.{IsOwnedWalk, IsWantedWalk};
+ghost use Rattle.exact_job.specs.Trees.{IsOwnedWalk};
 
 use crate::walk_tasks::{OwnedWalks, WantedWalks};
 use exact_checker::task_crew::{in_turn, shared};
+use pair_budget::Reached;
 use row_trees::Made;
 use sight_names::Memory;
 use std::alloc::Global;
@@ -29,12 +29,13 @@ pub trait Walkers {
         requires walkable { (g : GroundOf) × ((f : ℕ) → f < walks.now.known.count → IsWalkable g walks.now.terrain.now.edges.now walks.now.terrain.now.roots.now.roots.items walks.now.terrain.now.roots.now.first.items f) }
         ensures { IfOk result (λ v. AreDone (IsOwnedWalk walks.now.terrain.now.edges.now (rows_of walks.now.masks.now) walks.now.terrain.now.roots.now.roots.items walks.now.terrain.now.roots.now.first.items (owning_of walks.now.known)) walks.now.known.count v.items) };
 
-    /// What is made of each of these walks.
-    fn walk_wanted(&self, alloc: Global, walks: &WantedWalks<'_>) -> Result<Vec<Made>, Memory>
-        requires can { can_walk self.now }
-        requires rows { All (λ x. length x.row.items ≡ walks.now.masks.now.width) walks.now.wanted.now }
-        requires walkable { (g : GroundOf) × All (λ x. IsWalkable g walks.now.terrain.now.edges.now walks.now.terrain.now.roots.now.roots.items walks.now.terrain.now.roots.now.first.items x.group) walks.now.wanted.now }
-        ensures { IfOk result (λ v. AreDone (λ i made. (x : WantedOf) → slice_get walks.now.wanted.now i ≡ Some x → IsWantedWalk walks.now.terrain.now.edges.now walks.now.terrain.now.roots.now.roots.items walks.now.terrain.now.roots.now.first.items x.group made) (length walks.now.wanted.now) v.items) };
+    /// What each of these searches finds.
+    fn walk_wanted(
+        &self,
+        alloc: Global,
+        walks: &WantedWalks<'_>,
+    ) -> Result<Vec<Vec<Reached>>, Memory>
+        requires can { can_walk self.now };
 }
 
 /// One who walks in the thread that calls.
@@ -48,7 +49,11 @@ impl Walkers for Alone {
         in_turn(alloc, walks, usize::from(walks.known.count))
     }
 
-    fn walk_wanted(&self, alloc: Global, walks: &WantedWalks<'_>) -> Result<Vec<Made>, Memory> {
+    fn walk_wanted(
+        &self,
+        alloc: Global,
+        walks: &WantedWalks<'_>,
+    ) -> Result<Vec<Vec<Reached>>, Memory> {
         in_turn(alloc, walks, walks.wanted.len())
     }
 }
@@ -68,7 +73,11 @@ impl<'a, R: Threads + Sync> Walkers for InThreads<'a, R> {
         shared(self.rt, alloc, walks, count, usize::from(self.workers))
     }
 
-    fn walk_wanted(&self, alloc: Global, walks: &WantedWalks<'_>) -> Result<Vec<Made>, Memory> {
+    fn walk_wanted(
+        &self,
+        alloc: Global,
+        walks: &WantedWalks<'_>,
+    ) -> Result<Vec<Vec<Reached>>, Memory> {
         let count = walks.wanted.len();
         shared(self.rt, alloc, walks, count, usize::from(self.workers))
     }

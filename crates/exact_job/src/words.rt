@@ -71,6 +71,46 @@ pub fn join_at(words: &mut [u64], at: usize, other: &[u64]) {
     }
 }
 
+/// The word at this place.
+#[inline(always)]
+pub fn word_at(words: &[u64], place: usize) -> u64 {
+    match words.get(place) {
+        Some(word) => *word,
+        None => 0,
+    }
+}
+
+/// Takes the least group out of a word that stands at this place of a row.
+#[inline(always)]
+pub fn take_group(word: &mut u64, place: usize) -> Option<u16> {
+    if *word == 0 {
+        return None;
+    }
+    let number = place
+        .saturating_mul(64)
+        .saturating_add(word.trailing_zeros() as usize);
+    *word &= word.wrapping_sub(1);
+    match u16::try_from(number) {
+        Ok(group) => Some(group),
+        Err(_) => None,
+    }
+}
+
+/// Whether a group is in both rows. The hint is the word in which one was last, and so often is the next time.
+#[inline(always)]
+pub fn meet(row: &[u64], mask: &[u64], hint: &mut usize) -> bool {
+    if word_at(row, *hint) & word_at(mask, *hint) != 0 {
+        return true;
+    }
+    for place in 0..row.len().min(mask.len()) {
+        if row[place] & mask[place] != 0 {
+            *hint = place;
+            return true;
+        }
+    }
+    false
+}
+
 /// How many groups the row has; more than a number holds count as the most.
 pub fn count_in(words: &[u64]) -> u32 {
     let mut count: u32 = 0;

@@ -1,8 +1,8 @@
 use Rattle.std.proofs.Common.{length, not, ap, ◌∙◌}
 use Rattle.sight_names.specs.Map.{map_of}
 use Rattle.cert_checker.specs.Rays.{AreSightRaysBelow, IsFirstRayFault}
-use Rattle.exact_job.proofs.FewLines.{of_ground, where_none}
-use Rattle.exact_job.proofs.lines.are_sight_rays.Goals as goal
+use Rattle.exact_job.proofs.Judging.{of_ground, where_none}
+use Rattle.exact_job.proofs.judged.are_sight_rays.Goals as goal
 
 pub ray_fault-requires : goal.ray_fault-requires
 ray_fault-requires c = of_ground c.args.over.now.plan c.args.over.now.mesh.triangles c.args.over.now.labels c.args.edges.now c.requires

@@ -1,0 +1,184 @@
+//! The two extreme lines that part the left ends of portals from the right ends, in numbers of 64 bits. Nothing is proved of them.
+
+use sight_names::{Pt, Ray, Side};
+use sight_ray::ray_of;
+
+/// A line: its value is above 0 at points on its left.
+#[derive(Clone, Copy)]
+struct Form {
+    a: i64,
+    b: i64,
+    c: i64,
+}
+
+/// The most clockwise and the most counterclockwise line that part left ends from right ends, each with the two ends that it goes
+/// through. Of the first one's right end and of the second one's left end it is known how many ends come before the next one.
+#[derive(Clone, Copy)]
+pub struct Cone {
+    first: Form,
+    second: Form,
+    first_left: Pt,
+    first_right: Pt,
+    second_left: Pt,
+    second_right: Pt,
+    rights: u32,
+    lefts: u32,
+}
+
+/// The line's value at the point.
+#[inline(always)]
+fn value(form: &Form, at: Pt) -> i64 {
+    form.a
+        .wrapping_mul(at.x as i64)
+        .wrapping_add(form.b.wrapping_mul(at.y as i64))
+        .wrapping_add(form.c)
+}
+
+/// The line from the one point to the other.
+#[inline(always)]
+fn form_of(from: Pt, to: Pt) -> Form {
+    let a = (from.y as i64).wrapping_sub(to.y as i64);
+    let b = (to.x as i64).wrapping_sub(from.x as i64);
+    let at = a
+        .wrapping_mul(from.x as i64)
+        .wrapping_add(b.wrapping_mul(from.y as i64));
+    Form {
+        a,
+        b,
+        c: 0i64.wrapping_sub(at),
+    }
+}
+
+/// The coefficient; one that doesn't fit is none of a ray.
+fn narrow(value: i64) -> i32 {
+    match i32::try_from(value) {
+        Ok(number) => number,
+        Err(_) => 0,
+    }
+}
+
+/// The ends from this place on.
+#[inline(always)]
+fn behind(ends: &[Pt], from: u32) -> &[Pt] {
+    &ends[(from as usize).min(ends.len())..]
+}
+
+impl Cone {
+    /// The lines of one portal.
+    pub fn of(left: Pt, right: Pt) -> Cone {
+        Cone {
+            first: form_of(right, left),
+            second: form_of(left, right),
+            first_left: left,
+            first_right: right,
+            second_left: left,
+            second_right: right,
+            rights: 1,
+            lefts: 1,
+        }
+    }
+
+    /// Whether some line passes on the left of the point.
+    #[inline(always)]
+    pub fn leads_left(&self, apex: Pt) -> bool {
+        value(&self.first, apex) < 0
+    }
+
+    /// Whether some line passes on the right of the point.
+    #[inline(always)]
+    pub fn leads_right(&self, apex: Pt) -> bool {
+        value(&self.second, apex) > 0
+    }
+
+    /// Turns the second line about left ends to the new right end.
+    #[inline(always)]
+    pub fn turn_second(&mut self, lefts: &[Pt], right: Pt) {
+        let mut left = self.second_left;
+        let mut form = form_of(left, right);
+        let mut place = self.lefts;
+        let mut next = self.lefts;
+        for end in behind(lefts, self.lefts) {
+            next = next.wrapping_add(1);
+            if value(&form, *end) <= 0 {
+                left = *end;
+                form = form_of(left, right);
+                place = next;
+            }
+        }
+        self.second = form;
+        self.second_left = left;
+        self.second_right = right;
+        self.lefts = place;
+    }
+
+    /// Turns the first line about right ends to the new left end.
+    #[inline(always)]
+    pub fn turn_first(&mut self, rights: &[Pt], left: Pt) {
+        let mut right = self.first_right;
+        let mut form = form_of(right, left);
+        let mut place = self.rights;
+        let mut next = self.rights;
+        for end in behind(rights, self.rights) {
+            next = next.wrapping_add(1);
+            if value(&form, *end) >= 0 {
+                right = *end;
+                form = form_of(right, left);
+                place = next;
+            }
+        }
+        self.first = form;
+        self.first_left = left;
+        self.first_right = right;
+        self.rights = place;
+    }
+
+    /// A ray from the one side to the other, along a line between the two.
+    pub fn ray(&self, first: Side, last: Side) -> Ray {
+        let across = self
+            .first
+            .a
+            .wrapping_mul(self.second.b)
+            .wrapping_sub(self.first.b.wrapping_mul(self.second.a));
+        if across == 0 {
+            self.ray_across(first, last)
+        } else {
+            self.ray_between(first, last)
+        }
+    }
+
+    /// Where both are one line: a ray across it, between the two ends of the portal.
+    fn ray_across(&self, first: Side, last: Side) -> Ray {
+        let x = (self.first_left.x as i64).wrapping_sub(self.first_right.x as i64);
+        let y = (self.first_left.y as i64).wrapping_sub(self.first_right.y as i64);
+        let at = x
+            .wrapping_mul(self.first_left.x as i64)
+            .wrapping_add(y.wrapping_mul(self.first_left.y as i64));
+        ray_of(
+            first,
+            last,
+            narrow(x.wrapping_mul(2)),
+            narrow(y.wrapping_mul(2)),
+            1i64.wrapping_sub(at.wrapping_mul(2)),
+        )
+    }
+
+    /// A ray in the middle of the two, moved a little off the end where they meet.
+    fn ray_between(&self, first: Side, last: Side) -> Ray {
+        let shift = if self.first_right == self.second_right {
+            -1i64
+        } else {
+            1i64
+        };
+        ray_of(
+            first,
+            last,
+            narrow(self.first.a.wrapping_add(self.second.a).wrapping_mul(2)),
+            narrow(self.first.b.wrapping_add(self.second.b).wrapping_mul(2)),
+            self.first
+                .c
+                .wrapping_add(self.second.c)
+                .wrapping_mul(2)
+                .wrapping_add(shift),
+        )
+    }
+}
