@@ -112,7 +112,8 @@ def blind(sheet, proof, a, b, group):
     within = inside | {k for k, t in enumerate(proof.corners) if t[3] == group}
     stops = sorted(set(leaving(proof, solid, within)))
     shown = "".join(sheet.outline(proof.corners[k][:3]) + "z" for k in sorted(inside))
-    under = [*pair_faces(sheet, proof, a, b), '<path class="f" id="open" d="%s"/>' % shown]
+    title = "<title>sight out of sector %d</title>" % a
+    under = [*pair_faces(sheet, proof, a, b), '<path class="f" id="open" d="%s">%s</path>' % (shown, title)]
     over = ['<path class="k" id="stops" d="%s"/>' % "".join(sheet.outline(edge) for edge in stops)]
     return sheet.whole(under, over), "pair %d %d blind %d stops %d" % (a, b, len(inside), len(stops))
 

@@ -24,8 +24,9 @@ use Rattle.pair_answer.specs.declared.entered_triangles.entered.Entered.{Entered
 use Rattle.pair_answer.specs.EnteredTriangles.Answer.{IsEnteredWithin}
 use Rattle.pair_answer.proofs.EnteredTriangles.Within.{stops_from_within, stops_to_within, triangles_within}
 use Rattle.draw_answers.specs.declared.drawn.Drawn.{Drawn}
-use Rattle.draw_answers.specs.Drawn.{IsMadeOf, drawing, drawn_answer}
-use Rattle.draw_answers.specs.Pair.{DrawPairCalls, IsEnteredFrom, IsEnteredOfPair, IsEnteredOver, IsPairIfMade, ShowsBlind, ShowsPair, entered_drawing, word_drawing}
+use Rattle.draw_answers.specs.declared.entering.Area.{Area}
+use Rattle.draw_answers.specs.Drawn.{Drawing, IsMadeOf, drawing, drawn_answer}
+use Rattle.draw_answers.specs.Pair.{DrawPairCalls, IsAreaOfPair, IsEnteredFrom, IsEnteredOver, IsPairIfMade, ShowsBlind, ShowsEntered, ShowsPair, entered_drawing, word_drawing}
 
 -- ---- what is entered
 
@@ -54,20 +55,22 @@ module _ (g : MapGroups) (budget : Budget) (n : ℕ) (triangles : AreTriangles n
         to = stops_to_within g.grouped g.triangles g.labels n h.sources e triangles are;
       }
 
-  pub fits_pair : (pair : Pair) (e : Entered) → IsEnteredOfPair g budget pair (Some e) → Fits g.triangles n e
-  fits_pair pair e (inl h) = fits_over pair.a e h
-  fits_pair pair e (inr (out, h)) = fits_over pair.b e h
+  pub fits_pair : (pair : Pair) (area : Area) → IsAreaOfPair g budget pair (Some area) → Fits g.triangles n area.entered
+  fits_pair pair area h = fits_over area.sector area.entered h.1
 
 -- ---- what an answer calls for
 
 module _ (name : List ℕ) (m : Map) (pair : Pair) (g : MapGroups) (ask : Ask) where
-  pub shows_entered : (budget : Budget) (e : Entered) → IsBudgetOf g.grouped ask budget → IsEnteredOfPair g budget pair (Some e) → (r : Result Drawn Memory)
-      → IfOk r (λ d. drawing d ≡ entered_drawing name m pair g e.triangles.items e.stops.items) → IfOk r (λ d. ShowsBlind name m pair g ask (drawing d))
-  shows_entered budget e is (inl h) (Ok d) same = (budget, is, inl (record { entered = e; over = h; is = same }))
-  shows_entered budget e is (inr (out, h)) (Ok d) same = (budget, is, inr (inl (out, record { entered = e; over = h; is = same })))
-  shows_entered budget e is h (Err x) same = tt
+  shown_of : (budget : Budget) (sector s : ℕ) (e : Entered) (d : Drawing) → sector ≡ s → IsEnteredOver g budget sector e → d ≡ entered_drawing name m pair g sector e.triangles.items e.stops.items → ShowsEntered name m pair g budget s d
+  shown_of budget sector s e d of over same = subst (λ (n : ℕ). ShowsEntered name m pair g budget n d) of (record { entered = e; over = over; is = same })
 
-  pub shows_none : (budget : Budget) → IsBudgetOf g.grouped ask budget → IsEnteredOfPair g budget pair None → (r : Result Drawn Memory)
+  pub shows_entered : (budget : Budget) (area : Area) → IsBudgetOf g.grouped ask budget → IsAreaOfPair g budget pair (Some area) → (r : Result Drawn Memory)
+      → IfOk r (λ d. drawing d ≡ entered_drawing name m pair g area.sector area.entered.triangles.items area.entered.stops.items) → IfOk r (λ d. ShowsBlind name m pair g ask (drawing d))
+  shows_entered budget area is (inl of, over) (Ok d) same = (budget, is, inl (shown_of budget area.sector pair.a area.entered (drawing d) of over same))
+  shows_entered budget area is (inr (out, of), over) (Ok d) same = (budget, is, inr (inl (out, shown_of budget area.sector pair.b area.entered (drawing d) of over same)))
+  shows_entered budget area is h (Err x) same = tt
+
+  pub shows_none : (budget : Budget) → IsBudgetOf g.grouped ask budget → IsAreaOfPair g budget pair None → (r : Result Drawn Memory)
       → IfOk r (λ d. drawing d ≡ word_drawing name m pair g (codes " blind\n")) → IfOk r (λ d. ShowsBlind name m pair g ask (drawing d))
   shows_none budget is h (Ok d) same = (budget, is, inr (inr (h.0, h.1, same)))
   shows_none budget is h (Err x) same = tt

@@ -1,5 +1,5 @@
 -- The lines that tell of pictures.
-use Rattle.std.specs.Prelude.{ℕ, ◌-◌, List, ◌++◌, codes, length}
+use Rattle.std.specs.Prelude.{ℕ, ◌-◌, ◌==◌, List, [], ◌++◌, codes, length, if◌then◌else◌}
 use Rattle.std.specs.Fmt.{decimal}
 use Rattle.std.specs.List.{count_by, range_with_len}
 use Rattle.sight_names.specs.declared.names.Pair.{Pair}
@@ -35,9 +35,13 @@ pair_front name pair = codes "drawn " ++ name ++ codes " pair " ++ decimal pair.
 abbrev pub pair_line : List ℕ → Pair → List ℕ → List ℕ
 pair_line name pair word = pair_front name pair ++ word
 
--- how many triangles that sight enters are shown, and how many stops
-abbrev pub blind_line_of : List ℕ → Pair → ℕ → ℕ → List ℕ
-blind_line_of name pair entered stops = pair_front name pair ++ codes " blind " ++ decimal entered ++ codes " stops " ++ decimal stops ++ codes "\n"
+-- out of which sector of the pair is seen; the first one goes without saying
+abbrev pub of_words : Pair → ℕ → List ℕ
+of_words pair sector = if sector == pair.a then [] else codes " of " ++ decimal sector
+
+-- how many triangles that sight out of this sector enters are shown, and how many stops
+abbrev pub blind_line_of : List ℕ → Pair → ℕ → ℕ → ℕ → List ℕ
+blind_line_of name pair sector entered stops = pair_front name pair ++ codes " blind " ++ decimal entered ++ codes " stops " ++ decimal stops ++ of_words pair sector ++ codes "\n"
 
 abbrev pub faultless_line : List ℕ → List ℕ
 faultless_line name = codes "drawn " ++ name ++ codes " faults none\n"

@@ -22,6 +22,7 @@ use Rattle.pair_answer.specs.declared.entered_triangles.entered.Entered.{Entered
 use Rattle.pair_answer.specs.EnteredTriangles.Answer.{EndsWithin}
 use Rattle.pair_answer.specs.EnteredTriangles.Walks.{IsOneSpent}
 use Rattle.draw_answers.specs.declared.drawn.Drawn.{Drawn}
+use Rattle.draw_answers.specs.declared.entering.Area.{Area}
 use Rattle.draw_answers.specs.Drawn.{Drawing, drawing, one_picture}
 use Rattle.draw_answers.specs.Lines.{blind_line_of, pair_line}
 
@@ -42,10 +43,14 @@ module _ (g : MapGroups) (budget : Budget) where
   IsEnteredFrom sector (Some e) = IsEnteredOver sector e
   IsEnteredFrom sector None = RunsOut sector
 
-  -- out of the first sector of the pair; where a budget runs out, out of the second
-  abbrev pub IsEnteredOfPair : Pair → Option Entered → Type 0
-  IsEnteredOfPair pair (Some e) = IsEnteredOver pair.a e ⊎ (RunsOut pair.a × IsEnteredOver pair.b e)
-  IsEnteredOfPair pair None = RunsOut pair.a × RunsOut pair.b
+  -- this is the first sector of the pair; where a budget runs out there, the second
+  abbrev pub IsOfPair : Pair → ℕ → Type 0
+  IsOfPair pair sector = (sector ≡ pair.a) ⊎ (RunsOut pair.a × (sector ≡ pair.b))
+
+  -- what sight out of this sector enters
+  abbrev pub IsAreaOfPair : Pair → Option Area → Type 0
+  IsAreaOfPair pair (Some area) = IsOfPair pair area.sector × IsEnteredOver area.sector area.entered
+  IsAreaOfPair pair None = RunsOut pair.a × RunsOut pair.b
 
 -- ---- pictures
 
@@ -57,14 +62,15 @@ module _ (name : List ℕ) (m : Map) (pair : Pair) (g : MapGroups) where
   abbrev pub word_drawing : List ℕ → Drawing
   word_drawing word = record { bytes = svg_of m (pair_picture m g.groups g.triangles g.labels pair.a pair.b); line = pair_line name pair word }
 
-  abbrev pub entered_drawing : List ℕ → List Stop → Drawing
-  entered_drawing entered stops = record { bytes = svg_of m (blind_picture m g.groups g.triangles g.labels pair.a pair.b entered stops); line = blind_line_of name pair (length entered) (length stops) }
+  -- .. with triangles and stops as those of this sector: its number is the title of the triangles, and it is told by the line
+  abbrev pub entered_drawing : ℕ → List ℕ → List Stop → Drawing
+  entered_drawing sector entered stops = record { bytes = svg_of m (blind_picture m g.groups g.triangles g.labels pair.a pair.b sector entered stops); line = blind_line_of name pair sector (length entered) (length stops) }
 
-  -- what sight out of the sector enters, shown
+  -- what sight out of the sector enters, shown as that
   pub record ShowsEntered (budget : Budget) (sector : ℕ) (d : Drawing) : Type 0 where
     pub entered : Entered
     pub over : IsEnteredOver g budget sector entered
-    pub is : d ≡ entered_drawing entered.triangles.items entered.stops.items
+    pub is : d ≡ entered_drawing sector entered.triangles.items entered.stops.items
 
   -- out of the first sector; where a budget runs out, out of the second; where one runs out there too, nothing is shown as entered
   abbrev pub ShowsBlindOver : Budget → Drawing → Type 0

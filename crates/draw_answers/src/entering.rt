@@ -5,7 +5,7 @@ ghost use Rattle.sight_names.specs.Enough.{IsBudgetOf};
 ghost use Rattle.sight_names.specs.Map.{map_of};
 ghost use Rattle.sight_names.specs.Mesh.{IsMeshOf};
 ghost use Rattle.map_answers.specs.Groups.{AreGroupsOver, seen};
-ghost use Rattle.draw_answers.specs.Pair.{IsEnteredFrom, IsEnteredOfPair};
+ghost use Rattle.draw_answers.specs.Pair.{IsAreaOfPair, IsEnteredFrom};
 
 use crate::audited::count_of;
 use crate::places::places_of;
@@ -15,6 +15,13 @@ use pair_answer::entered_triangles::{Entered, entered_out_of};
 use portal_walk::enough_budget::enough;
 use sight_names::{Ask, Budget, Memory, Pair, Plan};
 use std::alloc::Global;
+
+/// What sight out of the groups of this sector enters.
+#[derive(Drop)]
+pub struct Area {
+    pub sector: u16,
+    pub entered: Entered,
+}
 
 /// The budget that is asked for.
 pub fn budget_for(ask: Ask, plan: &Plan, mesh: &Mesh) -> Budget
@@ -52,19 +59,24 @@ fn entered_from(
     )
 }
 
-/// The same of the first sector of a pair, or else of the second.
-pub fn entered_of_pair(
+/// The same of the first sector of a pair, or else of the second; and of which it is.
+pub fn area_of_pair(
     alloc: Global,
     plan: &Plan,
     groups: &MeshGroups,
     budget: Budget,
     pair: Pair,
-) -> Result<Option<Entered>, Memory>
+) -> Result<Option<Area>, Memory>
     requires groups { AreGroupsOver plan.now groups.now }
-    ensures { IfOk result (IsEnteredOfPair (seen groups.now) budget pair) }
+    ensures { IfOk result (IsAreaOfPair (seen groups.now) budget pair) }
 {
-    match entered_from(alloc, plan, groups, budget, pair.a)? {
-        Some(entered) => Ok(Some(entered)),
-        None => entered_from(alloc, plan, groups, budget, pair.b),
+    let sector = pair.a;
+    if let Some(entered) = entered_from(alloc, plan, groups, budget, sector)? {
+        return Ok(Some(Area { sector, entered }));
+    }
+    let sector = pair.b;
+    match entered_from(alloc, plan, groups, budget, sector)? {
+        Some(entered) => Ok(Some(Area { sector, entered })),
+        None => Ok(None),
     }
 }

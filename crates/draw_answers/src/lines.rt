@@ -3,7 +3,7 @@
 ghost use Rattle.std.specs.Prelude.{◌≡◌, ◌++◌, IfOk, OnOk, codes, string_bytes};
 ghost use Rattle.sight_names.specs.Texts.{side_text};
 ghost use Rattle.map_answers.specs.SightStatus.Texts.{clash_words, flaw_words, two};
-ghost use Rattle.draw_answers.specs.Lines.{blind_line_of as the_blind_line, faultless_line, flaw_line, pair_front, pair_line, plan_line_of as the_plan_line, row_line_of as the_row_line};
+ghost use Rattle.draw_answers.specs.Lines.{blind_line_of as the_blind_line, faultless_line, flaw_line, of_words, pair_front, pair_line, plan_line_of as the_plan_line, row_line_of as the_row_line};
 
 use map_answers::sight_status::{
     Flaw, push_count, push_count_line, push_number, push_pair_line, push_text,
@@ -61,19 +61,33 @@ pub fn word_line(alloc: Global, map: &str, pair: Pair, word: &str) -> Result<Str
     Ok(line)
 }
 
-/// The line of a pair of which so many triangles that sight enters and so many stops are shown.
+/// Adds out of which sector of the pair is seen, unless it is the first.
+fn push_of(alloc: Global, line: &mut String, pair: Pair, sector: u16) -> Result<(), AllocError>
+    ensures { OnOk result (string_bytes line.new ≡ string_bytes line.old ++ of_words pair sector) }
+{
+    if sector == pair.a {
+        Ok(())
+    } else {
+        push_count(alloc, line, " of ", u64::from(sector))
+    }
+}
+
+/// The line of a pair of which so many triangles that sight out of this sector enters and so many stops are shown.
 pub fn blind_line(
     alloc: Global,
     map: &str,
     pair: Pair,
+    sector: u16,
     entered: usize,
     stops: usize,
 ) -> Result<String, AllocError>
-    ensures { IfOk result (λ line. string_bytes line ≡ the_blind_line map.now pair entered stops) }
+    ensures { IfOk result (λ line. string_bytes line ≡ the_blind_line map.now pair sector entered stops) }
 {
     let mut line = begun(alloc, map, pair)?;
     push_count(alloc, &mut line, " blind ", entered as u64)?;
-    push_count_line(alloc, &mut line, " stops ", stops as u64)?;
+    push_count(alloc, &mut line, " stops ", stops as u64)?;
+    push_of(alloc, &mut line, pair, sector)?;
+    line.push_str("\n")?;
     Ok(line)
 }
 

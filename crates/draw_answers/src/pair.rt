@@ -12,12 +12,11 @@ ghost use Rattle.draw_answers.specs.Pair.{DrawPairCalls, IsPairIfMade, ShowsBlin
 
 use crate::audited::groups_of;
 use crate::drawn::{Drawn, made};
-use crate::entering::{budget_for, entered_of_pair};
+use crate::entering::{Area, area_of_pair, budget_for};
 use crate::lines::{blind_line, word_line};
 use map_answers::MeshGroups;
 use map_answers::sight_status::{Status, Why};
 use map_picture::{blind_picture, pair_picture, sight_picture};
-use pair_answer::entered_triangles::Entered;
 use pair_answer::{PairAnswer, pair_answer};
 use sight_names::{Ask, Memory, Pair, Plan, Ray};
 use std::alloc::Global;
@@ -76,23 +75,24 @@ fn drawn_sight(
     Ok(Drawn { picture, line })
 }
 
-/// A pair of which none sees the other, with what sight out of one of them enters.
+/// A pair of which none sees the other, with what sight out of this one of them enters.
 fn drawn_entered(
     alloc: Global,
     plan: &Plan,
     groups: &MeshGroups,
     map: &str,
     pair: Pair,
-    entered: &Entered,
+    area: &Area,
 ) -> Result<Drawn, Memory>
     requires groups { AreGroupsOver plan.now groups.now }
     requires points { groups.now.mesh.points ≡ length plan.now.points }
-    requires triangles { All (λ k. k < length groups.now.mesh.triangles) entered.now.triangles.items }
-    requires from { All (λ s. s.from < length plan.now.points) entered.now.stops.items }
-    requires to { All (λ s. s.to < length plan.now.points) entered.now.stops.items }
-    ensures { IfOk result (λ d. drawing d ≡ entered_drawing map.now (map_of plan.now) pair (seen groups.now) entered.now.triangles.items entered.now.stops.items) }
+    requires triangles { All (λ k. k < length groups.now.mesh.triangles) area.now.entered.triangles.items }
+    requires from { All (λ s. s.from < length plan.now.points) area.now.entered.stops.items }
+    requires to { All (λ s. s.to < length plan.now.points) area.now.entered.stops.items }
+    ensures { IfOk result (λ d. drawing d ≡ entered_drawing map.now (map_of plan.now) pair (seen groups.now) area.now.sector area.now.entered.triangles.items area.now.entered.stops.items) }
 {
     let grouped = &groups.grouped;
+    let entered = &area.entered;
     let picture = blind_picture(
         alloc,
         plan,
@@ -100,6 +100,7 @@ fn drawn_entered(
         &grouped.labels,
         grouped.groups.as_slice(),
         pair,
+        area.sector,
         entered.triangles.as_slice(),
         entered.stops.as_slice(),
     )?;
@@ -107,6 +108,7 @@ fn drawn_entered(
         alloc,
         map,
         pair,
+        area.sector,
         entered.triangles.len(),
         entered.stops.len(),
     )?;
@@ -127,9 +129,9 @@ fn drawn_blind(
     ensures { IfOk result (λ d. ShowsBlind map.now (map_of plan.now) pair (seen groups.now) ask (drawing d)) }
 {
     let budget = budget_for(ask, &groups.grouped.plan, &groups.mesh);
-    let shown = entered_of_pair(alloc, plan, groups, budget, pair)?;
+    let shown = area_of_pair(alloc, plan, groups, budget, pair)?;
     match shown {
-        Some(entered) => drawn_entered(alloc, plan, groups, map, pair, &entered),
+        Some(area) => drawn_entered(alloc, plan, groups, map, pair, &area),
         None => drawn_word(alloc, plan, groups, map, pair, " blind\n"),
     }
 }

@@ -53,22 +53,22 @@ module _ (ts : List Triangle) where
       let k = placed_at es h j y there in
       above n.0 k.0 x y (up i j n.0 k.0 lt n.1 k.1) n.2 k.2
 
-pub entered_shown : (m : Map) (groups : List (List ℕ)) (ts : List Triangle) (labels : List (Option ℕ)) (a b : ℕ) (entered : List ℕ) (stops : List Stop) → All (λ k. k < length ts) entered → ShowsEntered ts entered (blind_picture m groups ts labels a b entered stops)
-entered_shown m groups ts labels a b entered stops within =
+pub entered_shown : (m : Map) (groups : List (List ℕ)) (ts : List Triangle) (labels : List (Option ℕ)) (a b sector : ℕ) (entered : List ℕ) (stops : List Stop) → All (λ k. k < length ts) entered → ShowsEntered ts sector entered (blind_picture m groups ts labels a b sector entered stops)
+entered_shown m groups ts labels a b sector entered stops within =
     let h = there ts entered within in
     let faces = pair_faces groups ts labels a b in
     record {
       shown = numbered ts entered;
-      has = has_under m (faces ++ Entered (numbered ts entered) ∷ []) (Stops stops ∷ []) (Entered (numbered ts entered)) (has_behind faces (Entered (numbered ts entered) ∷ []) (Entered (numbered ts entered)) (zero, refl));
-      once = λ i j us vs at more. (blind_words m ts labels (map (pair_tint a b) groups) groups (numbered ts entered) stops).open_once i j (Entered us) (Entered vs) at more refl refl;
+      has = has_under m (faces ++ Entered sector (numbered ts entered) ∷ []) (Stops stops ∷ []) (Entered sector (numbered ts entered)) (has_behind faces (Entered sector (numbered ts entered) ∷ []) (Entered sector (numbered ts entered)) (zero, refl));
+      once = λ i j one two us vs at more. (blind_words m ts labels (map (pair_tint a b) groups) groups sector (numbered ts entered) stops).open_once i j (Entered one us) (Entered two vs) at more refl refl;
       exactly = λ u. ((λ c. from_numbers ts entered u h c), (λ r. has_numbered ts entered u r.0 r.1 r.2));
       order = in_order ts entered h;
     }
 
-pub stops_shown : (m : Map) (groups : List (List ℕ)) (ts : List Triangle) (labels : List (Option ℕ)) (a b : ℕ) (entered : List ℕ) (stops : List Stop) → ShowsStops stops (blind_picture m groups ts labels a b entered stops)
-stops_shown m groups ts labels a b entered stops =
+pub stops_shown : (m : Map) (groups : List (List ℕ)) (ts : List Triangle) (labels : List (Option ℕ)) (a b sector : ℕ) (entered : List ℕ) (stops : List Stop) → ShowsStops stops (blind_picture m groups ts labels a b sector entered stops)
+stops_shown m groups ts labels a b sector entered stops =
     let faces = pair_faces groups ts labels a b in
     record {
-      has = has_over m (faces ++ Entered (numbered ts entered) ∷ []) (Stops stops ∷ []) (Stops stops) (zero, refl);
-      once = λ i j ss us at more. (blind_words m ts labels (map (pair_tint a b) groups) groups (numbered ts entered) stops).stops_once i j (Stops ss) (Stops us) at more refl refl;
+      has = has_over m (faces ++ Entered sector (numbered ts entered) ∷ []) (Stops stops ∷ []) (Stops stops) (zero, refl);
+      once = λ i j ss us at more. (blind_words m ts labels (map (pair_tint a b) groups) groups sector (numbered ts entered) stops).stops_once i j (Stops ss) (Stops us) at more refl refl;
     }

@@ -106,21 +106,21 @@ one_over m x = record {
 }
 
 -- .. with triangles entered and stops
-pub blind_words : (m : Map) (ts : List Triangle) (labels : List (Option ℕ)) (tints : List Tint) (groups : List (List ℕ)) (us : List Triangle) (ss : List Stop) → WordsAreOnce (picture_of m (faces_from ts labels 0 tints groups ++ Entered us ∷ []) (Stops ss ∷ []))
-blind_words m ts labels tints groups us ss =
+pub blind_words : (m : Map) (ts : List Triangle) (labels : List (Option ℕ)) (tints : List Tint) (groups : List (List ℕ)) (sector : ℕ) (us : List Triangle) (ss : List Stop) → WordsAreOnce (picture_of m (faces_from ts labels 0 tints groups ++ Entered sector us ∷ []) (Stops ss ∷ []))
+blind_words m ts labels tints groups sector us ss =
     let faces = faces_from ts labels 0 tints groups in
     record {
-      open_once = word_under (codes "open") open_word m (faces ++ Entered us ∷ []) (Stops ss ∷ [])
-          (once_behind (HasId (codes "open")) faces (Entered us ∷ []) (none_in_faces (codes "open") open_word ts labels 0 tints groups) (once_alone (HasId (codes "open")) (Entered us)))
+      open_once = word_under (codes "open") open_word m (faces ++ Entered sector us ∷ []) (Stops ss ∷ [])
+          (once_behind (HasId (codes "open")) faces (Entered sector us ∷ []) (none_in_faces (codes "open") open_word ts labels 0 tints groups) (once_alone (HasId (codes "open")) (Entered sector us)))
           ((λ e. open_not_stops (sym e)), tt);
-      stops_once = word_over (codes "stops") stops_word m (faces ++ Entered us ∷ []) (Stops ss ∷ [])
-          (all_join (NotSo (HasId (codes "stops"))) faces (Entered us ∷ []) (none_in_faces (codes "stops") stops_word ts labels 0 tints groups) (open_not_stops, tt))
+      stops_once = word_over (codes "stops") stops_word m (faces ++ Entered sector us ∷ []) (Stops ss ∷ [])
+          (all_join (NotSo (HasId (codes "stops"))) faces (Entered sector us ∷ []) (none_in_faces (codes "stops") stops_word ts labels 0 tints groups) (open_not_stops, tt))
           (once_alone (HasId (codes "stops")) (Stops ss));
-      ray_once = word_over (codes "ray") ray_word m (faces ++ Entered us ∷ []) (Stops ss ∷ [])
-          (all_join (NotSo (HasId (codes "ray"))) faces (Entered us ∷ []) (none_in_faces (codes "ray") ray_word ts labels 0 tints groups) (open_not_ray, tt))
+      ray_once = word_over (codes "ray") ray_word m (faces ++ Entered sector us ∷ []) (Stops ss ∷ [])
+          (all_join (NotSo (HasId (codes "ray"))) faces (Entered sector us ∷ []) (none_in_faces (codes "ray") ray_word ts labels 0 tints groups) (open_not_ray, tt))
           (λ i j e f at there so too. once_alone (HasId (codes "ray")) (Stops ss) i j e f at there so too);
-      fault_once = word_over (codes "fault") fault_word m (faces ++ Entered us ∷ []) (Stops ss ∷ [])
-          (all_join (NotSo (HasId (codes "fault"))) faces (Entered us ∷ []) (none_in_faces (codes "fault") fault_word ts labels 0 tints groups) (open_not_fault, tt))
+      fault_once = word_over (codes "fault") fault_word m (faces ++ Entered sector us ∷ []) (Stops ss ∷ [])
+          (all_join (NotSo (HasId (codes "fault"))) faces (Entered sector us ∷ []) (none_in_faces (codes "fault") fault_word ts labels 0 tints groups) (open_not_fault, tt))
           (λ i j e f at there so too. once_alone (HasId (codes "fault")) (Stops ss) i j e f at there so too);
     }
 

@@ -275,7 +275,7 @@ sight_faces m groups ts labels a b r =
     subst (λ (under : List Element). ShowsFaces groups ts labels (TellsPair a b) (picture_of m under (sight_elements m r))) (append-nil (pair_faces groups ts labels a b))
     (faces_shown m groups ts labels (TellsPair a b) (pair_tint a b) (told_pair a b) [] (sight_elements m r) tt (sight_is_none r (line_at m r.first.line) (line_at m r.last.line)))
 
-pub blind_faces : (m : Map) (groups : List (List ℕ)) (ts : List Triangle) (labels : List (Option ℕ)) (a b : ℕ) (entered : List ℕ) (stops : List Stop) → ShowsFaces groups ts labels (TellsPair a b) (blind_picture m groups ts labels a b entered stops)
-blind_faces m groups ts labels a b entered stops =
-    faces_shown m groups ts labels (TellsPair a b) (pair_tint a b) (told_pair a b) (Entered (numbered ts entered) ∷ []) (Stops stops ∷ [])
+pub blind_faces : (m : Map) (groups : List (List ℕ)) (ts : List Triangle) (labels : List (Option ℕ)) (a b sector : ℕ) (entered : List ℕ) (stops : List Stop) → ShowsFaces groups ts labels (TellsPair a b) (blind_picture m groups ts labels a b sector entered stops)
+blind_faces m groups ts labels a b sector entered stops =
+    faces_shown m groups ts labels (TellsPair a b) (pair_tint a b) (told_pair a b) (Entered sector (numbered ts entered) ∷ []) (Stops stops ∷ [])
     ((λ k g names shown e. cc), tt) ((λ k g names shown e. cc), tt)

@@ -56,7 +56,7 @@ with_id picture words Style h = absurd (h refl)
 with_id picture words Paper h = absurd (h refl)
 with_id picture words (Face k g names shown) h = inl (record { k = k; g = g; names = names; shown = shown; is = refl })
 with_id picture words (Line i l) h = inr (inl (record { i = i; l = l; is = refl }))
-with_id picture words (Entered us) h = inr (inr (record { w = codes "open"; is = refl; once = words.open_once }))
+with_id picture words (Entered sector us) h = inr (inr (record { w = codes "open"; is = refl; once = words.open_once }))
 with_id picture words (Stops ss) h = inr (inr (record { w = codes "stops"; is = refl; once = words.stops_once }))
 with_id picture words (Sight r first last) h = inr (inr (record { w = codes "ray"; is = refl; once = words.ray_once }))
 with_id picture words (Marked marks) h = inr (inr (record { w = codes "fault"; is = refl; once = words.fault_once }))
@@ -169,16 +169,16 @@ no_line_joined [] fs h g i l at = g i l at
 no_line_joined (e ∷ es) fs h g i l (zero, at) = h i l (zero, at)
 no_line_joined (e ∷ es) fs h g i l (suc k, at) = no_line_joined es fs (λ n o has. h n o (suc has.0, has.1)) g i l (k, at)
 
-no_line_entered : (us : List Triangle) → HasNoLine (Entered us ∷ [])
-no_line_entered us i l (zero, at) = cc
-no_line_entered us i l (suc k, at) = none-some (Line i l) at
+no_line_entered : (sector : ℕ) (us : List Triangle) → HasNoLine (Entered sector us ∷ [])
+no_line_entered sector us i l (zero, at) = cc
+no_line_entered sector us i l (suc k, at) = none-some (Line i l) at
 
 no_line_stops : (ss : List Stop) → HasNoLine (Stops ss ∷ [])
 no_line_stops ss i l (zero, at) = cc
 no_line_stops ss i l (suc k, at) = none-some (Line i l) at
 
-pub blind_ids : (m : Map) (groups : List (List ℕ)) (ts : List Triangle) (labels : List (Option ℕ)) (a b : ℕ) (entered : List ℕ) (stops : List Stop) → length m.lines ≤ 2 ^ 64 → length groups ≤ 2 ^ 64 → IdsAreOnce (blind_picture m groups ts labels a b entered stops)
-blind_ids m groups ts labels a b entered stops few some =
-    ids_once m (blind_picture m groups ts labels a b entered stops)
-    (lines_shown m _ (Stops stops ∷ []) (no_line_joined (pair_faces groups ts labels a b) (Entered (numbered ts entered) ∷ []) (no_line_in_faces (pair_tint a b) ts labels 0 groups) (no_line_entered (numbered ts entered))) (no_line_stops stops)) few
-    (faces_once groups ts labels (TellsPair a b) _ some (blind_faces m groups ts labels a b entered stops)) (blind_words m ts labels (map (pair_tint a b) groups) groups (numbered ts entered) stops)
+pub blind_ids : (m : Map) (groups : List (List ℕ)) (ts : List Triangle) (labels : List (Option ℕ)) (a b sector : ℕ) (entered : List ℕ) (stops : List Stop) → length m.lines ≤ 2 ^ 64 → length groups ≤ 2 ^ 64 → IdsAreOnce (blind_picture m groups ts labels a b sector entered stops)
+blind_ids m groups ts labels a b sector entered stops few some =
+    ids_once m (blind_picture m groups ts labels a b sector entered stops)
+    (lines_shown m _ (Stops stops ∷ []) (no_line_joined (pair_faces groups ts labels a b) (Entered sector (numbered ts entered) ∷ []) (no_line_in_faces (pair_tint a b) ts labels 0 groups) (no_line_entered sector (numbered ts entered))) (no_line_stops stops)) few
+    (faces_once groups ts labels (TellsPair a b) _ some (blind_faces m groups ts labels a b sector entered stops)) (blind_words m ts labels (map (pair_tint a b) groups) groups sector (numbered ts entered) stops)

@@ -63,7 +63,7 @@ line_id i = count_text (codes "L") i
 abbrev pub id_of : Element → List ℕ
 id_of (Face t g names ts) = face_id g
 id_of (Line i l) = line_id i
-id_of (Entered us) = codes "open"
+id_of (Entered sector us) = codes "open"
 id_of (Stops ss) = codes "stops"
 id_of (Sight r first last) = codes "ray"
 id_of (Marked marks) = codes "fault"
@@ -121,8 +121,12 @@ line_text f i l = path_text (line_class l.solid) (line_id i) ++ ends_text f l.fi
 
 -- ---- a pair of sectors
 
-unfoldable pub entered_text : Frame → Map → List Triangle → List ℕ
-entered_text f m us = path_text (codes "f") (codes "open") ++ triangles_text f m us ++ codes "\"/>\n"
+-- the sector out of which is seen as a title, which ends the path
+unfoldable pub entered_title : ℕ → List ℕ
+entered_title sector = count_text (codes "\"><title>sight out of sector ") sector ++ codes "</title></path>\n"
+
+unfoldable pub entered_text : Frame → Map → ℕ → List Triangle → List ℕ
+entered_text f m sector us = path_text (codes "f") (codes "open") ++ triangles_text f m us ++ entered_title sector
 
 abbrev pub stop_text : Frame → Map → Stop → List ℕ
 stop_text f m s = ends_text f (place m s.from) (place m s.to)
@@ -189,7 +193,7 @@ bytes_of f m Style = style_text (sizes_of f).stroke
 bytes_of f m Paper = paper_text (sizes_of f)
 bytes_of f m (Face t g names ts) = face_text f m t g names ts
 bytes_of f m (Line i l) = line_text f i l
-bytes_of f m (Entered us) = entered_text f m us
+bytes_of f m (Entered sector us) = entered_text f m sector us
 bytes_of f m (Stops ss) = stops_text f m ss
 bytes_of f m (Sight r first last) = sight_text f r first last
 bytes_of f m (Marked marks) = marked_text f m marks

@@ -87,7 +87,7 @@ abbrev pub PairFacesAreShown : Type 0
 PairFacesAreShown = (m : Map) (groups : List (List ℕ)) (ts : List Triangle) (labels : List (Option ℕ)) (a b : ℕ) → ShowsFaces groups ts labels (TellsPair a b) (pair_picture m groups ts labels a b)
 
 abbrev pub BlindFacesAreShown : Type 0
-BlindFacesAreShown = (m : Map) (groups : List (List ℕ)) (ts : List Triangle) (labels : List (Option ℕ)) (a b : ℕ) (entered : List ℕ) (stops : List Stop) → ShowsFaces groups ts labels (TellsPair a b) (blind_picture m groups ts labels a b entered stops)
+BlindFacesAreShown = (m : Map) (groups : List (List ℕ)) (ts : List Triangle) (labels : List (Option ℕ)) (a b sector : ℕ) (entered : List ℕ) (stops : List Stop) → ShowsFaces groups ts labels (TellsPair a b) (blind_picture m groups ts labels a b sector entered stops)
 
 -- the ray is there once, from its first side's line to its last side's, and its two spots are where it crosses them
 pub record ShowsRay (m : Map) (r : Ray) (picture : List Element) : Type 0 where
@@ -103,11 +103,11 @@ pub record ShowsRay (m : Map) (r : Ray) (picture : List Element) : Type 0 where
 abbrev pub RayIsDrawn : Type 0
 RayIsDrawn = (m : Map) (groups : List (List ℕ)) (ts : List Triangle) (labels : List (Option ℕ)) (a b f k : ℕ) (r : Ray) → IsSightRay m r f k → ShowsRay m r (sight_picture m groups ts labels a b r)
 
--- exactly the triangles with these numbers are there as entered, in one element
-pub record ShowsEntered (ts : List Triangle) (entered : List ℕ) (picture : List Element) : Type 0 where
+-- exactly the triangles with these numbers are there as entered out of the sector, in one element
+pub record ShowsEntered (ts : List Triangle) (sector : ℕ) (entered : List ℕ) (picture : List Element) : Type 0 where
   pub shown : List Triangle
-  pub has : Has picture (Entered shown)
-  pub once : (i j : ℕ) (us vs : List Triangle) → slice_get picture i ≡ Some (Entered us) → slice_get picture j ≡ Some (Entered vs) → i ≡ j
+  pub has : Has picture (Entered sector shown)
+  pub once : (i j a b : ℕ) (us vs : List Triangle) → slice_get picture i ≡ Some (Entered a us) → slice_get picture j ≡ Some (Entered b vs) → i ≡ j
   pub exactly : (u : Triangle) → Contains shown u ↔ ((k : ℕ) × Contains entered k × (slice_get ts k ≡ Some u))
   -- .. each once, in the order of the mesh
   pub order : Ascends (λ i k. i < k) entered → Ascends IsAbove ts → Ascends IsAbove shown
@@ -118,10 +118,10 @@ pub record ShowsStops (stops : List Stop) (picture : List Element) : Type 0 wher
   pub once : (i j : ℕ) (ss us : List Stop) → slice_get picture i ≡ Some (Stops ss) → slice_get picture j ≡ Some (Stops us) → i ≡ j
 
 abbrev pub EnteredIsShown : Type 0
-EnteredIsShown = (m : Map) (groups : List (List ℕ)) (ts : List Triangle) (labels : List (Option ℕ)) (a b : ℕ) (entered : List ℕ) (stops : List Stop) → All (λ k. k < length ts) entered → ShowsEntered ts entered (blind_picture m groups ts labels a b entered stops)
+EnteredIsShown = (m : Map) (groups : List (List ℕ)) (ts : List Triangle) (labels : List (Option ℕ)) (a b sector : ℕ) (entered : List ℕ) (stops : List Stop) → All (λ k. k < length ts) entered → ShowsEntered ts sector entered (blind_picture m groups ts labels a b sector entered stops)
 
 abbrev pub StopsAreShown : Type 0
-StopsAreShown = (m : Map) (groups : List (List ℕ)) (ts : List Triangle) (labels : List (Option ℕ)) (a b : ℕ) (entered : List ℕ) (stops : List Stop) → ShowsStops stops (blind_picture m groups ts labels a b entered stops)
+StopsAreShown = (m : Map) (groups : List (List ℕ)) (ts : List Triangle) (labels : List (Option ℕ)) (a b sector : ℕ) (entered : List ℕ) (stops : List Stop) → ShowsStops stops (blind_picture m groups ts labels a b sector entered stops)
 
 -- ---- marks
 
@@ -156,7 +156,7 @@ abbrev pub MarkedIdsAreOnce : Type 0
 MarkedIdsAreOnce = (m : Map) (marks : List ℕ) → length m.lines ≤ 2 ^ 64 → IdsAreOnce (marked_picture m marks)
 
 abbrev pub BlindIdsAreOnce : Type 0
-BlindIdsAreOnce = (m : Map) (groups : List (List ℕ)) (ts : List Triangle) (labels : List (Option ℕ)) (a b : ℕ) (entered : List ℕ) (stops : List Stop) → length m.lines ≤ 2 ^ 64 → length groups ≤ 2 ^ 64 → IdsAreOnce (blind_picture m groups ts labels a b entered stops)
+BlindIdsAreOnce = (m : Map) (groups : List (List ℕ)) (ts : List Triangle) (labels : List (Option ℕ)) (a b sector : ℕ) (entered : List ℕ) (stops : List Stop) → length m.lines ≤ 2 ^ 64 → length groups ≤ 2 ^ 64 → IdsAreOnce (blind_picture m groups ts labels a b sector entered stops)
 
 -- ---- places
 

@@ -23,8 +23,8 @@ pub data Element : Type 0 where
   Face : Tint → ℕ → List ℕ → List Triangle → Element
   -- a line, with its record number
   Line : ℕ → MapLine → Element
-  -- the triangles that sight out of a source enters
-  Entered : List Triangle → Element
+  -- the triangles that sight out of this sector enters
+  Entered : ℕ → List Triangle → Element
   -- where the last ways of such sight end
   Stops : List Stop → Element
   -- a ray from the first of these lines to the second, which are those of its sides
@@ -114,9 +114,9 @@ pair_picture m groups ts labels a b = picture_of m (pair_faces groups ts labels 
 abbrev pub numbered : List Triangle → List ℕ → List Triangle
 numbered ts entered = map (λ k. slice_index_or ts k (record { p = 0; q = 0; r = 0 })) entered
 
--- two sectors of which none sees the other: the triangles that sight out of the first enters, and where it ends
-abbrev pub blind_picture : Map → List (List ℕ) → List Triangle → List (Option ℕ) → ℕ → ℕ → List ℕ → List Stop → List Element
-blind_picture m groups ts labels a b entered stops = picture_of m (pair_faces groups ts labels a b ++ Entered (numbered ts entered) ∷ []) (Stops stops ∷ [])
+-- two sectors of which none sees the other: the triangles that sight out of this sector enters, and where it ends
+abbrev pub blind_picture : Map → List (List ℕ) → List Triangle → List (Option ℕ) → ℕ → ℕ → ℕ → List ℕ → List Stop → List Element
+blind_picture m groups ts labels a b sector entered stops = picture_of m (pair_faces groups ts labels a b ++ Entered sector (numbered ts entered) ∷ []) (Stops stops ∷ [])
 
 -- the ray between two lines, if there are both
 abbrev pub sight_between : Ray → Option MapLine → Option MapLine → List Element

@@ -5,7 +5,7 @@ ghost use Rattle.sight_names.specs.Map.{looked_up, map_of};
 ghost use Rattle.sight_names.specs.Plan.{IsPlanLine};
 ghost use Rattle.sight_names.specs.Ray.{IsInRange};
 ghost use Rattle.geom_exact.specs.Formulas.{AreOnTwoSides, side_value};
-ghost use Rattle.map_picture.specs.Bytes.{coefficient_text, coefficients_text, entered_text, ray_title, side_letter, side_text, sides_text, sight_text, spelled, spot_text, stop_text, stop_texts, stops_text, thousandths_text, triangles_text};
+ghost use Rattle.map_picture.specs.Bytes.{coefficient_text, coefficients_text, entered_text, entered_title, ray_title, side_letter, side_text, sides_text, sight_text, spelled, spot_text, stop_text, stop_texts, stops_text, thousandths_text, triangles_text};
 ghost use Rattle.map_picture.specs.Crossings.{crossing_spot as the_crossing_spot};
 ghost use Rattle.map_picture.specs.Picture.{JoinsSectors, numbered, sight_elements};
 
@@ -45,22 +45,32 @@ fn push_numbered(
     Ok(())
 }
 
-/// The triangles that sight out of a source enters.
+/// The title of the triangles that sight out of this sector enters.
+#[tactic(auto, unfolding(crate::specs::Bytes::entered_title))]
+fn push_entered_title(out: &mut Vec<u8>, sector: u16) -> Result<(), AllocError>
+    ensures { OnOk result (out.new.items ≡ out.old.items ++ entered_title sector) }
+{
+    push_count(out, "\"><title>sight out of sector ", sector as u64)?;
+    push_text(out, "</title></path>\n")
+}
+
+/// The triangles that sight out of a sector enters.
 #[tactic(auto, unfolding(crate::specs::Bytes::entered_text))]
 pub fn push_entered(
     out: &mut Vec<u8>,
     frame: Frame,
     plan: &Plan,
     mesh: &Mesh,
+    sector: u16,
     entered: &[u16],
 ) -> Result<(), AllocError>
     requires points { mesh.now.points ≡ length plan.now.points }
     requires entered { All (λ k. k < length mesh.now.triangles) entered.now }
-    ensures { OnOk result (out.new.items ≡ out.old.items ++ entered_text frame (map_of plan.now) (numbered mesh.now.triangles entered.now)) }
+    ensures { OnOk result (out.new.items ≡ out.old.items ++ entered_text frame (map_of plan.now) sector (numbered mesh.now.triangles entered.now)) }
 {
     push_named_path(out, "f", "open")?;
     push_numbered(out, frame, plan, mesh, entered)?;
-    push_text(out, "\"/>\n")
+    push_entered_title(out, sector)
 }
 
 fn push_stop(out: &mut Vec<u8>, frame: Frame, plan: &Plan, stop: Stop) -> Result<(), AllocError>

@@ -188,7 +188,7 @@ pub fn sight_picture(
 }
 
 /// The plan with the faces of two sectors that don't see each other: the triangles with the numbers in `entered`, which sight out
-/// of the first sector enters, and the segments at which it ends. The caller knows which these are.
+/// of this sector enters, and the segments at which it ends. The caller knows which these are.
 pub fn blind_picture(
     alloc: Global,
     plan: &Plan,
@@ -196,6 +196,7 @@ pub fn blind_picture(
     labels: &Labels,
     groups: &[Items<u16>],
     pair: Pair,
+    sector: u16,
     entered: &[u16],
     stops: &[Stop],
 ) -> Result<Vec<u8>, Memory>
@@ -204,11 +205,11 @@ pub fn blind_picture(
     requires entered { All (λ k. k < length mesh.now.triangles) entered.now }
     requires from { All (λ s. s.from < length plan.now.points) stops.now }
     requires to { All (λ s. s.to < length plan.now.points) stops.now }
-    ensures { IfOk result (λ v. v.items ≡ svg_of (map_of plan.now) (the_blind_picture (map_of plan.now) groups.now mesh.now.triangles labels.now pair.a pair.b entered.now stops.now)) }
+    ensures { IfOk result (λ v. v.items ≡ svg_of (map_of plan.now) (the_blind_picture (map_of plan.now) groups.now mesh.now.triangles labels.now pair.a pair.b sector entered.now stops.now)) }
 {
     let frame = frame_of(plan.points());
     let mut out = pair_ground(alloc, frame, plan, mesh, labels, groups, pair)?;
-    push_entered(&mut out, frame, plan, mesh, entered)?;
+    push_entered(&mut out, frame, plan, mesh, sector, entered)?;
     push_lines(&mut out, frame, plan)?;
     push_stops(&mut out, frame, plan, stops)?;
     push_foot(&mut out)?;

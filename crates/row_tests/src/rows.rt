@@ -456,6 +456,13 @@ a=U | draw a MAP01 b 0 1 | 0 | drawn MAP01 pair 0 1 sight | b=%U-SIGHT
 a=U | draw a MAP01 b 0 1 --exact | 0 | drawn MAP01 pair 0 1 sight | b=%U-SIGHT
 a=U | draw a MAP01 b 0 2 | 0 | drawn MAP01 pair 0 2 blind 4 stops 1 | b=%U-BLIND
 a=U | draw a MAP01 b 0 2 --budget full --large | 0 | drawn MAP01 pair 0 2 blind 4 stops 1 | b=%U-BLIND
+# sight out of sector 0 enters the four triangles of sector 1 and the two of sector 3, out of sector 2 just the four;
+# so with a budget of 4 or 5 the walk of sector 2 alone ends, with 3 none
+a=PORCH | draw a MAP01 b 0 2 --budget 6 | 0 | drawn MAP01 pair 0 2 blind 6 stops 1
+a=PORCH | draw a MAP01 b 0 2 --budget 5 | 0 | drawn MAP01 pair 0 2 blind 4 stops 1 of 2
+a=PORCH | draw a MAP01 b 0 2 --budget 4 | 0 | drawn MAP01 pair 0 2 blind 4 stops 1 of 2
+a=PORCH | draw a MAP01 b 2 0 --budget 4 | 0 | drawn MAP01 pair 2 0 blind 4 stops 1
+a=PORCH | draw a MAP01 b 0 2 --budget 3 | 0 | drawn MAP01 pair 0 2 listed
 a=U | draw a MAP01 b 1 1 | 0 | drawn MAP01 pair 1 1 touch
 a=U | draw a MAP01 b 0 2 --budget 1 | 0 | drawn MAP01 pair 0 2 listed
 a=ISLAND | draw a MAP01 b 0 1 | 0 | drawn MAP01 pair 0 1 touch

@@ -32,9 +32,9 @@ no_line_stops : (stops : List Stop) → HasNoLine (Stops stops ∷ [])
 no_line_stops stops i l (zero, at) = cc
 no_line_stops stops i l (suc k, at) = none-some (Line i l) at
 
-no_line_entered : (ts : List Triangle) → HasNoLine (Entered ts ∷ [])
-no_line_entered ts i l (zero, at) = cc
-no_line_entered ts i l (suc k, at) = none-some (Line i l) at
+no_line_entered : (sector : ℕ) (ts : List Triangle) → HasNoLine (Entered sector ts ∷ [])
+no_line_entered sector ts i l (zero, at) = cc
+no_line_entered sector ts i l (suc k, at) = none-some (Line i l) at
 
 no_line_behind : (xs ys : List Element) → HasNoLine xs → HasNoLine ys → HasNoLine (xs ++ ys)
 no_line_behind [] ys h k i l c = k i l c
@@ -68,18 +68,18 @@ module _ (name : List ℕ) (m : Map) (pair : Pair) (g : MapGroups) where
     faces = pair_shown m g.groups g.triangles g.labels pair.a pair.b;
   }
 
-  of_entered : (entered : List ℕ) (stops : List Stop) (d : Drawing) → d ≡ entered_drawing name m pair g entered stops → IsShownPair m pair g d
-  of_entered entered stops d same = record {
-    picture = blind_picture m g.groups g.triangles g.labels pair.a pair.b entered stops;
+  of_entered : (sector : ℕ) (entered : List ℕ) (stops : List Stop) (d : Drawing) → d ≡ entered_drawing name m pair g sector entered stops → IsShownPair m pair g d
+  of_entered sector entered stops d same = record {
+    picture = blind_picture m g.groups g.triangles g.labels pair.a pair.b sector entered stops;
     is = ap (λ (x : Drawing). x.bytes) same;
-    lines = lines_shown m (pair_faces g.groups g.triangles g.labels pair.a pair.b ++ Entered (numbered g.triangles entered) ∷ []) (Stops stops ∷ [])
-        (no_line_behind (pair_faces g.groups g.triangles g.labels pair.a pair.b) (Entered (numbered g.triangles entered) ∷ []) faces (no_line_entered (numbered g.triangles entered))) (no_line_stops stops);
-    faces = blind_faces m g.groups g.triangles g.labels pair.a pair.b entered stops;
+    lines = lines_shown m (pair_faces g.groups g.triangles g.labels pair.a pair.b ++ Entered sector (numbered g.triangles entered) ∷ []) (Stops stops ∷ [])
+        (no_line_behind (pair_faces g.groups g.triangles g.labels pair.a pair.b) (Entered sector (numbered g.triangles entered) ∷ []) faces (no_line_entered sector (numbered g.triangles entered))) (no_line_stops stops);
+    faces = blind_faces m g.groups g.triangles g.labels pair.a pair.b sector entered stops;
   }
 
   of_blind : (budget : Budget) (d : Drawing) → ShowsBlindOver name m pair g budget d → IsShownPair m pair g d
-  of_blind budget d (inl h) = of_entered h.entered.triangles.items h.entered.stops.items d h.is
-  of_blind budget d (inr (inl h)) = of_entered h.1.entered.triangles.items h.1.entered.stops.items d h.1.is
+  of_blind budget d (inl h) = of_entered pair.a h.entered.triangles.items h.entered.stops.items d h.is
+  of_blind budget d (inr (inl h)) = of_entered pair.b h.1.entered.triangles.items h.1.entered.stops.items d h.1.is
   of_blind budget d (inr (inr h)) = of_word (codes " blind\n") d h.2
 
   pub given_shown : (ask : Ask) (given : PairAnswer) (d : Drawing) → ShowsPair name m pair g ask given d → IsShownPair m pair g d

@@ -116,6 +116,22 @@ const MAPS: &str = "\
 128 0 128 64 1 2 -
 192 64 192 0 1 2 -
 192 0 128 0 1 2 -
+# PORCH 4 U with a fourth room beside the room of sector 0.
+0 64 0 128 1 1 -
+0 128 192 128 1 1 -
+192 128 192 64 1 1 -
+192 64 128 64 4 1 2
+128 64 64 64 1 1 -
+64 64 0 64 4 1 0
+0 0 0 64 4 0 3
+64 64 64 0 1 0 -
+64 0 0 0 1 0 -
+128 0 128 64 1 2 -
+192 64 192 0 1 2 -
+192 0 128 0 1 2 -
+-64 0 -64 64 1 3 -
+-64 64 0 64 1 3 -
+0 0 -64 0 1 3 -
 # DOORS 4 Four rooms in a row, whose doors are halves of their walls; only a line that grazes them would join the first and the last.
 -64 0 -64 64 1 0 -
 -64 64 0 64 1 0 -

@@ -75,7 +75,7 @@ const U_BLIND: &str = "\
 <path class='a' id='G0' d='M0 128L64 128L64 64zM0 128L64 64L0 64z'><title>sector 0</title></path>
 <path class='s' id='G1' d='M0 64L64 64L0 0zM0 0L64 64L128 64zM0 0L128 64L192 0zM128 64L192 64L192 0z'><title>sector 1</title></path>
 <path class='b' id='G2' d='M128 128L192 128L192 64zM128 128L192 64L128 64z'><title>sector 2</title></path>
-<path class='f' id='open' d='M0 64L64 64L0 0zM0 0L64 64L128 64zM0 0L128 64L192 0zM128 64L192 64L192 0z'/>
+<path class='f' id='open' d='M0 64L64 64L0 0zM0 0L64 64L128 64zM0 0L128 64L192 0zM128 64L192 64L192 0z'><title>sight out of sector 0</title></path>
 <path class='p' id='L3' d='M192 64L128 64'><title>3 front 1 back 2</title></path>
 <path class='p' id='L5' d='M64 64L0 64'><title>5 front 1 back 0</title></path>
 <path class='w' id='L0' d='M0 64L0 0'><title>0 front 1</title></path>
