@@ -1,5 +1,5 @@
 -- What `why` and the picture of a pair that were done tell of two sectors.
-use Rattle.std.proofs.Common.{◌≡◌, ℕ, List, ◌++◌, Result, Ok, Err, refl, ap, ◌∙◌, subst}
+use Rattle.std.proofs.Common.{◌≡◌, ℕ, List, ◌++◌, Result, Ok, Err, refl, ap, ◌∙◌, subst, inr}
 use Rattle.std.specs.Option.{option_map}
 use Rattle.sight_names.specs.declared.names.Ask.{Ask}
 use Rattle.sight_names.specs.declared.names.Budget.{Budget}
@@ -9,6 +9,7 @@ use Rattle.sight_names.specs.Map.{Map}
 use Rattle.shelf_io.specs.Shelf.{Files}
 use Rattle.order_words.specs.declared.order.Source.{Source}
 use Rattle.order_words.specs.declared.order.View.TheVariants as view
+use Rattle.order_words.proofs.Deciding.{asks_without_bound}
 use Rattle.map_answers.specs.declared.sight_status.status.Status.{Status}
 use Rattle.map_answers.specs.SightStatus.Answer.{Answer, only_line}
 use Rattle.map_answers.specs.Groups.{IsOverGroups, MapGroups}
@@ -27,8 +28,8 @@ use Rattle.sight_run.specs.Obeys.{AnswersAsked}
 use Rattle.sight_run.specs.Reading.{found_of}
 use Rattle.sight_run.specs.Run.{put_all}
 use Rattle.sight_run.proofs.Round.{same_ok, was_found}
-use Rattle.sight_run.proofs.Stood.{bytes_of}
-use Rattle.run_laws.specs.Pairs.{DecidesPair, DrawnPairIsRight, DrawsOfPair, EnclosesSight, SaysOfPair, WhyIsRight}
+use Rattle.sight_run.proofs.Stood.{asked_is, bytes_of}
+use Rattle.run_laws.specs.Pairs.{DecidesPair, DrawnPairIsRight, DrawsOfPair, EnclosesSight, PairsAreDecided, SaysOfPair, WhyIsRight}
 use Rattle.run_laws.proofs.Deciding.{DecidesSectors, answers_decide}
 use Rattle.run_laws.proofs.FoundPlan.{map_at_plan, of_plan}
 use Rattle.run_laws.proofs.Keeping.{stored}
@@ -53,6 +54,9 @@ encloses m plan groups over budget a e entered =
       closed = λ q r s at clear on. blind_closed p groups budget a e q r s is of_p entered at clear on;
       unseen = λ b blind k f there has. unseen_not_shown p groups budget a b e is of_p entered blind k f there has;
     }) over
+
+pub pairs_are_decided : PairsAreDecided
+pairs_are_decided words o m ask pair given asked two none decides = decides.told (inr (asks_without_bound words o ask (asked_is words o asked) two none))
 
 -- ---- `why`
 

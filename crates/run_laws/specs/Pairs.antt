@@ -13,9 +13,11 @@ use Rattle.sight_names.specs.Path.{InSector, MissesSolid}
 use Rattle.sight_names.specs.Point.{OnSegment, Point}
 use Rattle.sight_names.specs.Sees.{Sees}
 use Rattle.shelf_io.specs.Shelf.{Files}
+use Rattle.order_words.specs.declared.order.Order.{Order}
 use Rattle.order_words.specs.declared.order.Order.TheVariants as order
 use Rattle.order_words.specs.declared.order.Source.{Source}
 use Rattle.order_words.specs.declared.order.View.TheVariants as view
+use Rattle.order_words.specs.Laws.{GivesNoBudget, bound_of}
 use Rattle.map_answers.specs.SightStatus.Answer.{only_line}
 use Rattle.map_answers.specs.Groups.{IsOverGroups, MapGroups}
 use Rattle.map_answers.specs.Input.{LocatedMap}
@@ -54,6 +56,11 @@ pub record DecidesPair (m : Map) (ask : Ask) (pair : Pair) (given : PairAnswer) 
   pub tells : TellsPair m budget pair given
   -- with a budget that is enough, and without any, the answer is never that the pair is listed
   pub told : (ask ≡ Enough) ⊎ (ask ≡ Full) → ¬ (given ≡ answer.Listed)
+
+-- .. which is never that the pair is listed where the words ask of two sectors and the command finds no budget in them
+abbrev pub PairsAreDecided : Type 0
+PairsAreDecided = (words : List (List ℕ)) (o : Order) (m : Map) (ask : Ask) (pair : Pair) (given : PairAnswer)
+    → asked_of words ≡ Ok o → bound_of o ≡ Some ask → GivesNoBudget words → DecidesPair m ask pair given → ¬ (given ≡ answer.Listed)
 
 -- ---- `why`
 

@@ -14,4 +14,4 @@ pub use laws::{
     build_with_room_is_done, builds_say_one_thing, built_is_checked, built_run_is_checked,
     draw_leaves_picture, drawn_pair_is_done, why_is_done, zero_keeps_lumps,
 };
-pub use pairs::{drawn_pair_is_right, why_is_right};
+pub use pairs::{drawn_pair_is_right, pairs_are_decided, why_is_right};

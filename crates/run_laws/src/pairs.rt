@@ -1,6 +1,6 @@
 //! What `why` and the picture of a pair tell of two sectors.
 
-ghost use Rattle.run_laws.specs.Pairs.{DrawnPairIsRight, WhyIsRight};
+ghost use Rattle.run_laws.specs.Pairs.{DrawnPairIsRight, PairsAreDecided, WhyIsRight};
 
 /// Where a `why` ended with Done, two sectors of whom its line says `sight` or `touch` see each other, and two of whom it says
 /// `blind` don't. It says `listed` just where a build within the same budget lists the pair.
@@ -12,4 +12,9 @@ pub fn why_is_right()
 /// encloses all that is seen.
 pub fn drawn_pair_is_right()
     ensures { DrawnPairIsRight }
+{}
+
+/// Where no `--budget` stands among the words, neither tells that the two sectors are listed.
+pub fn pairs_are_decided()
+    ensures { PairsAreDecided }
 {}
