@@ -8,7 +8,7 @@ ghost use Rattle.portal_walk.specs.Nodes.{IsAnswered};
 ghost use Rattle.portal_walk.specs.Walk.{ends_of};
 ghost use Rattle.stab_hull.specs.Answer.{IsBarredBy};
 ghost use Rattle.gate_floods.specs.RowJudge.Asked.{Answers, Pending};
-ghost use Rattle.gate_floods.specs.RowJudge.Judged.{StandsAt};
+ghost use Rattle.gate_floods.specs.RowJudge.Judged.{AsksNothing, StandsAt};
 ghost use Rattle.gate_floods.specs.RowJudge.Masks.{rows_of};
 ghost use Rattle.gate_floods.specs.RowJudge.Words.{is_away, row_at};
 ghost use Rattle.row_trees.specs.Going.{CanAnswer, IsAfter, IsGoing, IsTried};
@@ -71,7 +71,9 @@ fn keep(made: &mut Made, node: Node) -> Result<(), Memory>
 
 impl Walk {
     /// A walk that asks for nothing.
-    pub fn new(alloc: Global) -> Walk {
+    pub fn new(alloc: Global) -> Walk
+        ensures { AsksNothing result.judged }
+    {
         Walk {
             judged: RowWalk::new(alloc),
             ends: Path::new(alloc),

@@ -23,6 +23,10 @@ tree_of source nodes = record { source = source; nodes = nodes }
 abbrev pub StandsAt : MaskRows → List ℕ → List Root → RowWalk → List Pending → Type 0
 StandsAt ms first roots w ps = IsAt ms first roots w.path.items w.rows.items w.waits.items w.follow ps
 
+-- nothing is asked of it
+abbrev pub AsksNothing : RowWalk → Type 0
+AsksNothing w = w.follow.asked ≡ None
+
 module _ (xs : List HalfEdge) (ms : MaskRows) (first : List ℕ) (roots : List Root) (firsts : List (Option ℕ)) where
   -- all nodes that have come have answered, and the walk of these parts stands behind them
   pub record IsWalkedAt (t : Tree) (source : ℕ) (path : List Frame) (rows : List ℕ) (waits : List Wait) (f : RowFollow) : Type 0 where

@@ -6,7 +6,7 @@ ghost use Rattle.cert_checker.specs.TreeJudge.Walked.{begun, with_node};
 ghost use Rattle.gate_floods.specs.RowJudge.Masks.{rows_of};
 ghost use Rattle.gate_floods.specs.RowJudge.Asked.{Answers, Pending};
 ghost use Rattle.certificates.specs.CertParts.Nodes.{TakesNodes};
-ghost use Rattle.gate_floods.specs.RowJudge.Judged.{Follows, FollowsAt, IsFirstWrongFrom, IsWalked, IsWholeFrom, StandsAt};
+ghost use Rattle.gate_floods.specs.RowJudge.Judged.{AsksNothing, Follows, FollowsAt, IsFirstWrongFrom, IsWalked, IsWholeFrom, StandsAt};
 
 use crate::row_judge::follow::{RowFollow, Wait, answer, answer_blocked, answer_open, start};
 use crate::row_judge::masks::Masks;
@@ -101,7 +101,9 @@ fn follow_nodes<'a>(
 
 impl RowWalk {
     /// A walk that asks for nothing.
-    pub fn new(alloc: Global) -> RowWalk {
+    pub fn new(alloc: Global) -> RowWalk
+        ensures { AsksNothing result }
+    {
         RowWalk {
             source: 0,
             path: Vec::new(alloc),
@@ -191,6 +193,7 @@ impl RowWalk {
 
     /// Whether nothing is asked any more.
     pub fn is_done(&self, terrain: &Terrain<'_>, masks: &Masks<'_>) -> bool
+        ensures idle { AsksNothing self.now → result ≡ true }
         ensures whole { (row : List ℕ) (t : WalkTree) → IsWalked terrain.now.edges.now (rows_of masks.now) row terrain.now.roots.now.roots.items terrain.now.roots.now.first.items t self.now → result ≡ true → IsWholeFrom terrain.now.edges.now (rows_of masks.now) row terrain.now.roots.now.roots.items terrain.now.roots.now.first.items t }
         ensures missing { (row : List ℕ) (t : WalkTree) → IsWalked terrain.now.edges.now (rows_of masks.now) row terrain.now.roots.now.roots.items terrain.now.roots.now.first.items t self.now → result ≡ false → IsFirstWrongFrom terrain.now.edges.now (rows_of masks.now) row terrain.now.roots.now.roots.items terrain.now.roots.now.first.items t (length t.nodes) }
     {
