@@ -4,8 +4,7 @@ use Rattle.sight_names.specs.Map.{Map}
 use Rattle.reject_bits.specs.Parts.{TableParts}
 use Rattle.cert_checker.specs.AcceptedGroups.Accepted.{IsAcceptedAny}
 use Rattle.group_checker.specs.Judged.{TellsSightAny}
-use Rattle.gate_floods.specs.TurnedTrees.Exact.{TellsAll}
-use Rattle.gate_floods.specs.Exact.{IsAcceptedThree}
+use Rattle.gate_floods.specs.Exact.{IsAcceptedThree, TellsAll}
 use Rattle.certificates.specs.declared.certificate.Certificate.{Certificate}
 use Rattle.certificates.specs.declared.certificate.Certificate.TheVariants.{Listing, Exact}
 

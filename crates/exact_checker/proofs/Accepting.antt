@@ -44,9 +44,8 @@ use Rattle.group_checker.specs.Judged.{any_of, IsYesAny, JudgesTwo}
 use Rattle.group_checker.proofs.Ending.{its_own}
 use Rattle.cert_checker.proofs.Lists.{each_at}
 use Rattle.group_checker.proofs.OneMap.{one_label_each, has_label, names_grouped, one_map}
-use Rattle.gate_floods.specs.TurnedTrees.Exact.{TellsAll}
+use Rattle.gate_floods.specs.Exact.{IsAcceptedThree, IsClaimed, IsExactOver, TellsAll}
 use Rattle.gate_floods.specs.Bits.{rank_of}
-use Rattle.gate_floods.specs.Exact.{IsAcceptedThree, IsClaimed, IsExactOver}
 use Rattle.gate_floods.specs.Rows.{KeepsByRows}
 use Rattle.gate_floods.proofs.Tells.{version_three_tells, joined_back}
 use Rattle.gate_floods.specs.RowJudge.Judged.{tree_of}

@@ -10,8 +10,7 @@ ghost use Rattle.cert_checker.specs.Judged.{IsLaterVerdict, IsPairVerdict, Judge
 ghost use Rattle.certificates.specs.declared.cert_exact.cert.ExactParts.{ExactParts as PartsOf};
 ghost use Rattle.certificates.specs.CertExact.Grammar.{as_two};
 ghost use Rattle.group_checker.specs.Judged.{IsYesAny};
-ghost use Rattle.gate_floods.specs.TurnedTrees.Exact.{TellsAll};
-ghost use Rattle.gate_floods.specs.Exact.{IsAcceptedThree};
+ghost use Rattle.gate_floods.specs.Exact.{IsAcceptedThree, TellsAll};
 ghost use Rattle.exact_checker.specs.Rows.{AreJoinedRows};
 ghost use Rattle.exact_checker.specs.Pairs.{known_of};
 ghost use Rattle.exact_checker.specs.Judged.{IsAbout, IsThreeFor, IsThreeOf, JudgesThree, JudgesTrees, TellsPairs};

@@ -14,8 +14,7 @@ use Rattle.cert_checker.specs.Rays.{AreSightRaysBelow}
 use Rattle.certificates.specs.declared.cert_exact.cert.ExactParts.{ExactParts}
 use Rattle.certificates.specs.CertExact.Grammar.{as_two}
 use Rattle.cert_format.specs.Accepted.{triangles_of, labels_of}
-use Rattle.gate_floods.specs.TurnedTrees.Exact.{TellsAll}
-use Rattle.gate_floods.specs.Exact.{IsAcceptedThree, IsClaimed}
+use Rattle.gate_floods.specs.Exact.{IsAcceptedThree, IsClaimed, TellsAll}
 use Rattle.gate_floods.specs.Rows.{KeepsByRows}
 use Rattle.gate_floods.proofs.Tells.{version_three_tells}
 use Rattle.gate_floods.specs.RowJudge.Judged.{tree_of}

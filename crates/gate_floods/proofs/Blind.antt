@@ -11,8 +11,8 @@ use Rattle.math_base.proofs.Options.{none_is_not_some}
 use Rattle.math_base.proofs.Lists.{contains_left}
 use Rattle.sight_lift.proofs.LiftLaws.{sight_is_lifted}
 use Rattle.sight_lift.proofs.Sequences.{begun}
-use Rattle.gate_floods.specs.TurnedTrees.Laws.{ReachesWithin}
-use Rattle.gate_floods.proofs.TurnedTrees.Cutting.{NoWalls, cut_behind, turned_back}
+use Rattle.gate_floods.specs.Reaching.{ReachesWithin}
+use Rattle.gate_floods.proofs.Cutting.{NoWalls, cut_behind, turned_back}
 use Rattle.gate_floods.specs.Gates.{IsGate, IsBeyond}
 use Rattle.gate_floods.specs.Rows.{IsInRow, IsEmptyRow, HasRow, EntersNone, RootsAsked, KeepsByRows}
 use Rattle.gate_floods.specs.Laws.{ClaimsAreRight}

@@ -8,7 +8,7 @@ use Rattle.sight_names.specs.Sequence.{Portal, Way, LeadsOutside, Splits, way_ou
 use Rattle.sight_lift.proofs.Behind.{behind}
 use Rattle.sight_lift.proofs.Sequences.{next_portals, begun, cons_same as tail_same}
 use Rattle.sight_lift.proofs.Tails.{IsCrossed}
-use Rattle.gate_floods.proofs.TurnedTrees.Cutting.{alone}
+use Rattle.gate_floods.proofs.Cutting.{alone}
 use Rattle.gate_floods.specs.Gates.{MayFollow}
 use Rattle.gate_floods.specs.Laws.{LaterMayFollow}
 use Rattle.gate_floods.proofs.Fronts.{IsLater, IsFrom, may_follow, way_later, later_on}

@@ -15,8 +15,8 @@ use Rattle.sight_lift.proofs.Behind.{behind}
 use Rattle.sight_lift.proofs.Doors.{Door, Link, way_over, named_is}
 use Rattle.sight_lift.proofs.Sequences.{next_portals, root_is}
 use Rattle.sight_lift.proofs.Tails.{IsCrossed, root_listed, root_portal_is}
-use Rattle.gate_floods.specs.TurnedTrees.Laws.{ReachesWithin}
-use Rattle.gate_floods.proofs.TurnedTrees.Cutting.{NoWalls, cut, rooted, last_label, alone}
+use Rattle.gate_floods.specs.Reaching.{ReachesWithin}
+use Rattle.gate_floods.proofs.Cutting.{NoWalls, cut, rooted, last_label, alone}
 use Rattle.gate_floods.specs.Gates.{IsGate, IsBeyond, here, further, MayFollow}
 use Rattle.gate_floods.proofs.Fronts.{IsLater, IsFrom, may_follow, way_later, later_on}
 

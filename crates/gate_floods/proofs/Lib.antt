@@ -1,3 +1,5 @@
+pub mod Cutting
+pub mod Connected
 pub mod Fronts
 pub mod Chains
 pub mod Flooding
@@ -9,6 +11,5 @@ pub mod RowBits
 pub mod Owned
 pub mod Masks
 pub mod Once
-pub mod TurnedTrees
 pub mod GateMasks
 pub mod RowJudge

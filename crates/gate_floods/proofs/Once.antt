@@ -7,14 +7,26 @@ use Rattle.sight_names.specs.declared.names.Triangle.{Triangle}
 use Rattle.sight_names.specs.Map.{Map}
 use Rattle.sight_names.specs.Mesh.{label_of}
 use Rattle.sight_names.specs.Sequence.{Portal, Left, Right, way_out, apex, roots}
+use Rattle.block_evidence.specs.declared.Evidence.{Evidence}
 use Rattle.block_evidence.specs.declared.sight_tree.Node.{Node}
 use Rattle.block_evidence.specs.declared.sight_tree.Node.TheVariants.{Open, Blocked}
 use Rattle.block_evidence.specs.SightTree.WholeTree.{HasNoNode, HasNode}
 use Rattle.math_base.proofs.Options.{some_is_same}
-use Rattle.gate_floods.proofs.TurnedTrees.Once.{same_tail, same_head, not_blocked, both}
 use Rattle.gate_floods.specs.Rows.{AnswersAsked, no_node, skipped, blocked, open_node, RootsAsked, IsEmptyRow, HasRow, EntersNone}
 use Rattle.gate_floods.specs.Exact.{IsClaimed, IsOwned}
 use Rattle.gate_floods.specs.Laws.{TreesAreReadOnce}
+
+same_tail : (x y : Node) (xs ys : List Node) → x ∷ xs ≡ y ∷ ys → xs ≡ ys
+same_tail x y xs ys e = cc
+
+same_head : (x y : Node) (xs ys : List Node) → x ∷ xs ≡ y ∷ ys → x ≡ y
+same_head x y xs ys e = cc
+
+not_blocked : (e : Evidence) (xs ys : List Node) → Blocked e ∷ xs ≡ Open ∷ ys → ⊥
+not_blocked e xs ys h = cc
+
+both : (ns us rest ms vs more : List Node) → ns ≡ us → ms ≡ vs → ns ++ rest ≡ ms ++ more → us ++ rest ≡ vs ++ more
+both ns us rest ms vs more e f h = sym (ap (λ (xs : List Node). xs ++ rest) e) ∙ h ∙ ap (λ (xs : List Node). xs ++ more) f
 
 module _ (m : Map) (ts : List Triangle) (ls : List (Option ℕ)) (a : ℕ) (Skips Asks Enters : List Portal → Type 0) (never : (ps : List Portal) → Skips ps → Asks ps → ⊥) where
   abbrev Answered : List Portal → List Node → Type 0

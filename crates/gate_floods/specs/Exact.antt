@@ -5,7 +5,9 @@ use Rattle.sight_names.specs.Map.{Map}
 use Rattle.sight_names.specs.Found.{AreConnected}
 use Rattle.sight_names.specs.Groups.{IsInGroup}
 use Rattle.sight_names.specs.Ray.{IsSightRay}
+use Rattle.sight_names.specs.Sees.{Sees}
 use Rattle.sight_names.specs.Table.{Rejected}
+use Rattle.reject_bits.specs.Parts.{TableParts, Rejects}
 use Rattle.block_evidence.specs.declared.sight_tree.Tree.{Tree}
 use Rattle.cert_format.specs.Parts.{CertParts}
 use Rattle.cert_format.specs.Accepted.{triangles_of, labels_of}
@@ -55,3 +57,10 @@ IsAcceptedExact rank m table c = (g : Map) × NamesTheLabels m (triangles_of c.c
 -- that with the smaller number
 abbrev pub IsAcceptedThree : Map → List ℕ → ExactParts → Type 0
 IsAcceptedThree m table c = IsAcceptedExact (rank_of c.rays (length c.groups)) m table (as_two c)
+
+-- ---- what such a certificate shows
+
+-- the table tells of each two sectors, and of each one, whether they see each other
+pub record TellsAll (m : Map) (t : TableParts) : Type 0 where
+  pub blind : (a b : ℕ) → a < m.sectors → b < m.sectors → Rejects t a b → ¬ Sees m a b
+  pub seen : (a b : ℕ) → a < m.sectors → b < m.sectors → ¬ Rejects t a b → Sees m a b

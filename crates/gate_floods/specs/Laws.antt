@@ -16,9 +16,8 @@ use Rattle.cert_checker.specs.AcceptedGroups.Accepted.{AreGroupsJoined}
 use Rattle.cert_format.specs.declared.cert_groups.cert.CertTwo.{CertTwo}
 use Rattle.gate_floods.specs.Gates.{IsGate, IsBeyond, IsInMask, MayFollow}
 use Rattle.gate_floods.specs.Rows.{IsInRow, IsEmptyRow, HasRow, KeepsByRows}
-use Rattle.gate_floods.specs.TurnedTrees.Exact.{TellsAll}
 use Rattle.certificates.specs.declared.cert_exact.cert.ExactParts.{ExactParts}
-use Rattle.gate_floods.specs.Exact.{IsClaimed, IsOwned, IsAcceptedExact, IsAcceptedThree}
+use Rattle.gate_floods.specs.Exact.{IsClaimed, IsOwned, IsAcceptedExact, IsAcceptedThree, TellsAll}
 use Rattle.gate_floods.specs.Bits.{IsRowOf, both_rows, has_bit, joined_row, owned_row}
 
 -- where a line splits the portals of a sequence, each later one may follow each earlier one

@@ -3,6 +3,6 @@ pub mod Rows
 pub mod Exact
 pub mod Bits
 pub mod Laws
-pub mod TurnedTrees
+pub mod Reaching
 pub mod GateMasks
 pub mod RowJudge

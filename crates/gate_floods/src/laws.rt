@@ -1,6 +1,12 @@
 //! What floods over gates show, whatever the map.
 
 ghost use Rattle.gate_floods.specs.Laws.{LaterMayFollow, ExactTells, VersionThreeTells, RowsGoOn, RowsAreBits, JoinedRowsTell, OwnedRowsTell, FloodsAreRows, MasksAreRows, TreesAreReadOnce};
+ghost use Rattle.gate_floods.specs.Reaching.{SequencesTurn};
+
+/// A sector that is reached by a sequence reaches back by one that is no longer.
+pub fn sequences_turn()
+    ensures { SequencesTurn }
+{}
 
 /// Where a line splits the portals of a sequence, an end of each later one is in front of each earlier one, which has an
 /// end in the back of the later one.

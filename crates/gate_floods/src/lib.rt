@@ -8,4 +8,3 @@
 pub mod gate_masks;
 pub mod laws;
 pub mod row_judge;
-pub mod turned_trees;

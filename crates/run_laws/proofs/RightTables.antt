@@ -42,7 +42,7 @@ use Rattle.map_answers.specs.declared.sight_status.status.Why.TheVariants as why
 use Rattle.map_answers.specs.SightStatus.Answer.{Answer}
 use Rattle.map_answers.specs.Counts.{counts_with}
 use Rattle.map_answers.specs.Input.{LocatedMap, OnFound, found_in}
-use Rattle.gate_floods.specs.TurnedTrees.Exact.{TellsAll}
+use Rattle.gate_floods.specs.Exact.{TellsAll}
 use Rattle.any_judge.specs.Accepted.{TellsSight as TellsSightBy}
 use Rattle.whole_wad.specs.declared.building.Built.{Built}
 use Rattle.whole_wad.specs.Built.{IsBuiltOf, ask_of}

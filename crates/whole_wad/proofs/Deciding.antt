@@ -19,7 +19,7 @@ use Rattle.certificates.specs.CertExact.Grammar.{as_two}
 use Rattle.certificates.specs.Grammar.{IsThreeInOrder}
 use Rattle.group_job.specs.Built.{HasRaysOfFound, HasTreesOfUnspent, OfTwo}
 use Rattle.group_job.proofs.Following.{set_or_clear}
-use Rattle.gate_floods.specs.TurnedTrees.Exact.{TellsAll}
+use Rattle.gate_floods.specs.Exact.{TellsAll}
 use Rattle.whole_wad.specs.Built.{Decides, IsSymmetric, ListsWithin, TellsSight}
 
 -- ---- within a budget

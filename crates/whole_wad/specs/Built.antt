@@ -18,7 +18,7 @@ use Rattle.certificates.specs.declared.certificate.Certificate.{Certificate}
 use Rattle.certificates.specs.declared.certificate.Certificate.TheVariants.{Listing, Exact}
 use Rattle.certificates.specs.Grammar.{IsInOrder, sizes_of}
 use Rattle.group_job.specs.Built.{HasRaysOfFound, HasTreesOfUnspent, OfTwo}
-use Rattle.gate_floods.specs.TurnedTrees.Exact.{TellsAll}
+use Rattle.gate_floods.specs.Exact.{TellsAll}
 use Rattle.any_judge.specs.Accepted.{IsAccepted}
 use Rattle.map_answers.specs.declared.sight_status.status.Status.{Status}
 use Rattle.map_answers.specs.declared.sight_status.status.Status.TheVariants as status

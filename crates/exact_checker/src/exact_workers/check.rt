@@ -4,8 +4,7 @@ ghost use Rattle.std.specs.Prelude.{◌≡◌, ◌↔◌, IfOk};
 ghost use Rattle.sight_names.specs.Map.{map_of};
 ghost use Rattle.sight_names.specs.Sound.{LinesMeetAtEnds};
 ghost use Rattle.group_checker.specs.Judged.{IsYesAny};
-ghost use Rattle.gate_floods.specs.TurnedTrees.Exact.{TellsAll};
-ghost use Rattle.gate_floods.specs.Exact.{IsAcceptedThree};
+ghost use Rattle.gate_floods.specs.Exact.{IsAcceptedThree, TellsAll};
 ghost use Rattle.exact_checker.specs.Judged.{IsThreeFor, JudgesThree};
 
 use crate::check_exact_by;

@@ -1,18 +1,15 @@
 -- The masks by rows of what is joined are those of a certificate's claims.
 use Rattle.std.proofs.Common.{◌≡◌, ℕ, ◌<◌, ◌↔◌, List, [], ◌∷◌, ◌++◌, Option, Some, Bool, true, false, not, refl, sym, subst}
-use Rattle.std.specs.Prelude.{IfSome}
-use Rattle.sight_names.specs.Map.{Map, MapLine, IsMap, IsMapLine, sector_on}
+use Rattle.sight_names.specs.Map.{Map, IsMap}
 use Rattle.sight_names.specs.Found.{AreConnected}
 use Rattle.sight_names.specs.Sequence.{Portal}
 use Rattle.cert_format.specs.Parts.{CertParts}
 use Rattle.cert_checker.specs.AcceptedGroups.Accepted.{AreGroupsJoined}
 use Rattle.math_base.proofs.Bools.{by_value}
-use Rattle.sight_lift.proofs.Doors.{door_neighbours}
-use Rattle.gate_floods.proofs.TurnedTrees.Blind.{chain_on}
 use Rattle.gate_floods.specs.Bits.{is_joined}
 use Rattle.gate_floods.specs.Gates.{IsGate, IsBeyond, here, further, IsInMask}
 use Rattle.gate_floods.specs.Exact.{IsClaimed}
-use Rattle.gate_floods.proofs.Flooding.{door_of_gate}
+use Rattle.gate_floods.proofs.Connected.{near_below, far_below, on_through}
 use Rattle.gate_floods.proofs.RowBits.{joined_told, not_joined}
 use Rattle.gate_floods.specs.declared.gate_masks.masks.Row.{Row}
 use Rattle.gate_floods.specs.GateMasks.Masks.{IsIn, IsLeftOut}
@@ -20,22 +17,6 @@ use Rattle.gate_floods.specs.GateMasks.Laws.{MasksAreThoseOfClaims}
 use Rattle.gate_floods.proofs.GateMasks.Masking.{in_of_not_out}
 
 module _ (g : Map) (is_map : IsMap g) where
-  named_below : (n : ℕ) (o : Option ℕ) (a : ℕ) → IfSome o (λ b. b < n) → o ≡ Some a → a < n
-  named_below n o a h e = subst (λ (x : Option ℕ). IfSome x (λ b. b < n)) e h
-
-  side_below : (l : MapLine) (left : Bool) (a : ℕ) → IsMapLine g.sectors l → sector_on l left ≡ Some a → a < g.sectors
-  side_below l true a h e = named_below g.sectors l.left a h.left e
-  side_below l false a h e = named_below g.sectors l.right a h.right e
-
-  near_below : (b d : ℕ) (p : Portal) → IsGate g b d p → b < g.sectors
-  near_below b d p gate = let h = door_of_gate g b d p gate in side_below h.line h.left b (is_map h.number h.line h.is) h.from
-
-  far_below : (b d : ℕ) (p : Portal) → IsGate g b d p → d < g.sectors
-  far_below b d p gate = let h = door_of_gate g b d p gate in side_below h.line (not h.left) d (is_map h.number h.line h.is) h.to
-
-  on_through : (a b d : ℕ) (p : Portal) → AreConnected g a b → IsGate g b d p → AreConnected g a d
-  on_through a b d p c gate = (c.0 ++ d ∷ [], chain_on g a b d c.0 c.1 (door_neighbours g b d p (door_of_gate g b d p gate)))
-
   module _ (b d : ℕ) (p : Portal) (gate : IsGate g b d p) where
     -- what is connected with both sectors of the gate
     pub record IsNear (c : ℕ) : Type 0 where
@@ -44,10 +25,10 @@ module _ (g : Map) (is_map : IsMap g) where
       pub far : AreConnected g d c
 
     lies_near : (Claims : ℕ → ℕ → Type 0) (c : ℕ) → IsBeyond g Claims b d p c → IsNear c
-    lies_near Claims c (here e) = subst IsNear (sym e) (record { below = far_below b d p gate; near = on_through b b d p ([], refl) gate; far = ([], refl) })
+    lies_near Claims c (here e) = subst IsNear (sym e) (record { below = far_below g is_map b d p gate; near = on_through g b b d p ([], refl) gate; far = ([], refl) })
     lies_near Claims c (further x q h none through may) =
         let w = lies_near Claims x h in
-        record { below = far_below x c q through; near = on_through b x c q w.near through; far = on_through d x c q w.far through }
+        record { below = far_below g is_map x c q through; near = on_through g b x c q w.near through; far = on_through g d x c q w.far through }
 
     -- claims that say less of what is connected with b let a flood as far
     moved : (Claims Others : ℕ → ℕ → Type 0) → ((x : ℕ) → IsNear x → ¬ Claims b x → ¬ Others b x) → (c : ℕ) → IsBeyond g Claims b d p c → IsBeyond g Others b d p c
@@ -69,8 +50,8 @@ module _ (g : Map) (is_map : IsMap g) where
 
     of_claims : (b d : ℕ) (p : Portal) → IsGate g b d p → (c : ℕ) → IsInMask g (IsLeftOut joined) b d p c ↔ IsInMask g (IsClaimed g cert) b d p c
     of_claims b d p gate c =
-        let low = near_below b d p gate in
-        let low_far = far_below b d p gate in (
+        let low = near_below g is_map b d p gate in
+        let low_far = far_below g is_map b d p gate in (
           mask_moved b d p gate (IsLeftOut joined) (IsClaimed g cert) (λ x w. less_claimed b x low w.below) (λ x w. less_claimed d x low_far w.below) c,
           mask_moved b d p gate (IsClaimed g cert) (IsLeftOut joined) (λ x w. less_left_out b x low w.below w.near) (λ x w. less_left_out d x low_far w.below w.far) c,
         )

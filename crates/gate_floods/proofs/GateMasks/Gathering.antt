@@ -13,6 +13,7 @@ use Rattle.math_base.proofs.Numbers.{below_or_not, below_or_last}
 use Rattle.math_base.proofs.Bools.{by_value}
 use Rattle.gate_floods.specs.declared.gate_masks.gate.Gate.{Gate}
 use Rattle.gate_floods.specs.GateMasks.Gates.{AreGates, AreGatesFrom, IsAdded, IsGateOf, IsStart, portal_of}
+use Rattle.gate_floods.proofs.Connected.{far_below}
 use Rattle.gate_floods.proofs.GateMasks.AtSide.{line_of_gate}
 
 -- ---- line by line
@@ -69,18 +70,8 @@ all_gates p n es past h e = ((λ c. ((h e).0 c).1), back)
         let same : g.gate.side.line ≡ e.side.line = ap (λ (s : Side). s.line) g.side in
         (h e).1 (omega (arith, lt, past, same), g)
 
-named_below : (n : ℕ) (o : Option ℕ) (a : ℕ) → IfSome o (λ b. b < n) → o ≡ Some a → a < n
-named_below n o a h e = subst (λ (x : Option ℕ). IfSome x (λ b. b < n)) e h
-
-side_below : (n : ℕ) (l : MapLine) (left : Bool) (a : ℕ) → IsMapLine n l → sector_on l left ≡ Some a → a < n
-side_below n l true a h e = named_below n l.left a h.left e
-side_below n l false a h e = named_below n l.right a h.right e
-
-pub far_below : (m : Map) → IsMap m → (e : Gate) → IsGateOf m e → e.far < m.sectors
-far_below m is e g = let l = line_of_gate m e.near e.far (portal_of e) g.gate in side_below m.sectors l.line (not g.gate.side.left) e.far (is g.gate.side.line l.line l.is) l.to
-
 pub gates_within : (p : PlanParts) → IsPlan p → (es : List Gate) → AreGates (map_of p) es → (e : Gate) → Contains es e → e.far < p.sectors
-gates_within p is es are e c = far_below (map_of p) (plan_is_map p is) e ((are e).0 c)
+gates_within p is es are e c = far_below (map_of p) (plan_is_map p is) e.near e.far (portal_of e) ((are e).0 c).gate
 
 -- ---- the gates out of one sector
 

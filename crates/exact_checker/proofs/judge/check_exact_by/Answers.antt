@@ -1,9 +1,8 @@
 use Rattle.std.proofs.Common.{◌↔◌}
 use Rattle.std.proofs.lemmas.Result.{IfOk-weaker}
 use Rattle.sight_names.specs.Map.{map_of}
-use Rattle.gate_floods.specs.TurnedTrees.Exact.{TellsAll}
+use Rattle.gate_floods.specs.Exact.{IsAcceptedThree, TellsAll}
 use Rattle.group_checker.specs.Judged.{IsYesAny}
-use Rattle.gate_floods.specs.Exact.{IsAcceptedThree}
 use Rattle.exact_checker.specs.Judged.{JudgesThree}
 use Rattle.exact_checker.proofs.Accepting.{yes_exactly_three, yes_tells}
 use Rattle.exact_checker.proofs.judge.check_exact_by.Goals as goal

@@ -16,7 +16,7 @@ use Rattle.sight_lift.proofs.Behind.{Third, Behind, behind, behind_third, third_
 use Rattle.sight_lift.proofs.Doors.{Door, Link, way_over, other_edge, named_is}
 use Rattle.sight_lift.proofs.Sequences.{next_portals, begun, begun_door, cons_same as tail_same}
 use Rattle.sight_lift.proofs.Tails.{IsCrossed, root_listed, root_portal_is}
-use Rattle.gate_floods.specs.TurnedTrees.Laws.{ReachesWithin}
+use Rattle.gate_floods.specs.Reaching.{ReachesWithin, SequencesTurn}
 use Rattle.cert_checker.proofs.Seeing.{all_at}
 
 pub alone : (ts : List Triangle) (p : Portal) (qs : List Portal) → portals_from ts (Some p) [] ≡ Some (p ∷ qs) → [] ≡ qs
@@ -223,3 +223,6 @@ module _ (m : Map) (is_map : IsMap m) (ts : List Triangle) (ls : List (Option �
         count = refl;
       })
       (omega arith)
+
+pub sequences_turn : SequencesTurn
+sequences_turn m ts ls n a b is_map good differ r = turned_back m is_map ts ls good n a b differ r

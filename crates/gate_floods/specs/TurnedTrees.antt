@@ -1,4 +1,0 @@
-pub mod Turned
-pub mod Exact
-pub mod ExactGroups
-pub mod Laws
