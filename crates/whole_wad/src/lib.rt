@@ -14,4 +14,4 @@ pub use laws::{builds_have_one_table, outcomes_are_one};
 pub use notice::{NoNotice, Notice};
 pub use outcomes::MapOutcome;
 pub use tables::MapTable;
-pub use whole::{WholeWad, build_wad};
+pub use whole::{WholeWad, build_wad, tell_unread};

@@ -39,7 +39,7 @@ struct Told {
 }
 
 /// Tells which maps of the WAD aren't read, since they are of UDMF.
-fn tell_unread<N: Notice>(alloc: Global, wad: &Wad, notice: &N) -> Result<(), Memory> {
+pub fn tell_unread<N: Notice>(alloc: Global, wad: &Wad, notice: &N) -> Result<(), Memory> {
     let names = udmf_maps(alloc, wad)?;
     for name in &names {
         notice.pass_over(text_of(name));
