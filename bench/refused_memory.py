@@ -115,6 +115,8 @@ ORDERS = [
     ("grid 2 --workers 3", []),
     ("zero u.wad MAP01 out.wad", ["out.wad"]),
     ("check built.wad MAP01 u.cert", []),
+    ("verify built.wad --report report --workers 3", ["report"]),
+    ("verify u.wad --report report --workers 1", ["report"]),
     ("check row.wad MAP01 row.cert", []),
     ("check built.wad MAP01 behind.cert", []),
     ("audit u.wad MAP01", []),
@@ -144,6 +146,7 @@ ONE_FILE = [
     ("build a.wad MAP01 gone.wad --cert ./gone.wad --workers 1", []),
     ("all a.wad out.wad --report ./a.wad --workers 1", ["out.wad"]),
     ("all a.wad out.wad --report ./out.wad --workers 1", ["out.wad"]),
+    ("verify a.wad --report ./a.wad --workers 1", []),
 ]
 
 # Orders in which an output has the name that the new file of another one would have first, and what comes of them.

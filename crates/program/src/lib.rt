@@ -43,6 +43,7 @@ fn source_of(order: &Order) -> Option<&Source> {
         | Order::Audit { wad, .. }
         | Order::Trace { wad, .. }
         | Order::Check { wad, .. }
+        | Order::Verify { wad, .. }
         | Order::Build { wad, .. }
         | Order::Need { wad, .. }
         | Order::Sound { wad, .. }
@@ -73,7 +74,7 @@ fn obey<R: Files + Threads + Sync + AllocGlobal, O: Sink, P: Print>(
     let mut is_all = false;
     let mut may_be_large = false;
     if let Ok(order) = read_words(alloc, words) {
-        is_all = matches!(&order, Order::All { .. });
+        is_all = matches!(&order, Order::All { .. } | Order::Verify { .. });
         may_be_large = source_of(&order).is_some_and(|wad| !wad.large);
     }
     let mut shelf = DiskShelf::new(rt);

@@ -82,7 +82,7 @@ pub static OPTIONS: [Entry; 9] = [
         choice: Choice::Only,
         name: "only",
         value: "MAP,MAP",
-        about: "builds these maps; else all of the WAD",
+        about: "takes these maps; else all of the WAD",
     },
     Entry {
         choice: Choice::Cert,
@@ -167,7 +167,7 @@ impl Verb {
 }
 
 /// All verbs.
-pub static VERBS: [Verb; 12] = [
+pub static VERBS: [Verb; 13] = [
     Verb {
         name: "all",
         places: &[Place::Wad, Place::Out],
@@ -205,6 +205,19 @@ pub static VERBS: [Verb; 12] = [
         choices: &[Choice::Large],
         purpose: "judges the table of a map by a certificate",
         about: "Judges the map's REJECT by a certificate; a yes means that no rejected pair can\nsee.",
+    },
+    Verb {
+        name: "verify",
+        places: &[Place::Wad],
+        spare: &[],
+        choices: &[
+            Choice::Only,
+            Choice::Report,
+            Choice::Workers,
+            Choice::Large,
+        ],
+        purpose: "says how the tables of a WAD differ from the right ones",
+        about: "Decides every pair of sectors of each map of the WAD, or of those that are\nnamed, and says how many bits of its own REJECT are wrong, so that monsters are\nblind, and how many are missing. Writes nothing but the report.",
     },
     Verb {
         name: "audit",

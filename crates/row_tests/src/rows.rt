@@ -568,6 +568,63 @@ a=U | all a b --report a | 11 | refused: same name | a=U, b=
 a=U | all a b --report b | 11 | refused: same name | a=U, b=
 ";
 
+/// The order `verify`: what it says of a map's own REJECT, what it counts, and what it refuses.
+const VERIFY: &str = "\
+# a right table, one that could have more bits, and bits behind the last pair's
+a=U =4400 | verify a --report r | 0 | verify maps 1 right 1 wrong 0 short 0 refused 0 | a=U =4400, r=#4d415030312077726f6e672030206d697373696e6720300a
+a=U =0000 | verify a --report r | 0 | verify maps 1 right 1 wrong 0 short 0 refused 0 | a=U =0000, r=#4d415030312077726f6e672030206d697373696e6720320a
+a=U =40fe | verify a --report r | 0 | verify maps 1 right 1 wrong 0 short 0 refused 0 | a=U =40fe, r=#4d415030312077726f6e672030206d697373696e6720310a
+# wrong ones: of a pair, of a sector with itself, and all; two bits of a pair are two
+a=U =4600 | verify a --report r | 1 | verify maps 1 right 0 wrong 1 short 0 refused 0 | a=U =4600, r=#4d415030312077726f6e672031206d697373696e6720302066697273742030203120627920354c2c35522c2d3132382c302c310a
+a=U =0a00 | verify a --report r | 1 | verify maps 1 right 0 wrong 1 short 0 refused 0 | a=U =0a00, r=#4d415030312077726f6e672032206d697373696e6720322066697273742030203120627920354c2c35522c2d3132382c302c310a
+a=U =4500 | verify a --report r | 1 | verify maps 1 right 0 wrong 1 short 0 refused 0 | a=U =4500, r=#4d415030312077726f6e672031206d697373696e6720302066697273742030203020746f7563680a
+a=U =ffff | verify a --report r --workers 1 | 1 | verify maps 1 right 0 wrong 1 short 0 refused 0 | a=U =ffff, r=#4d415030312077726f6e672037206d697373696e6720302066697273742030203020746f7563680a
+a=U =4600 | verify a | 1 | verify maps 1 right 0 wrong 1 short 0 refused 0 | a=U =4600, r=
+# too few bytes, none, and too many
+a=U =44 | verify a --report r | 1 | verify maps 1 right 0 wrong 0 short 1 refused 0 | a=U =44, r=#4d415030312073686f72742031206f6620320a
+a=U = | verify a --report r | 1 | verify maps 1 right 0 wrong 0 short 1 refused 0 | a=U =, r=#4d415030312073686f72742030206f6620320a
+a=U =4400ff | verify a --report r | 0 | verify maps 1 right 1 wrong 0 short 0 refused 0 | a=U =4400ff, r=#4d415030312077726f6e672030206d697373696e6720300a
+# a map that is refused isn't judged, and doesn't count as right; the length comes first
+a=OPEN =de | verify a --report r | 0 | verify maps 1 right 0 wrong 0 short 0 refused 1 | a=OPEN =de, r=#4d41503031207265667573656420626164206d61703a206f70656e2030520a
+a=OPEN = | verify a --report r | 1 | verify maps 1 right 0 wrong 0 short 1 refused 0 | a=OPEN =, r=#4d415030312073686f72742030206f6620310a
+a=SQUARE @14:1:09 | verify a --report r | 0 | verify maps 1 right 0 wrong 0 short 0 refused 1 | r=#4d41503031207265667573656420626164206c756d703a20766572746578206f66206c696e6520300a
+a=SQUARE .1 *229390 | verify a --report r | 0 | verify maps 1 right 0 wrong 0 short 0 refused 1 | r=#4d415030312072656675736564206c696d69743a206c696e65730a
+# three maps, some of them, no map, one of UDMF, one of Hexen's format
+a=PAIR =00 U =4600 .6 - +6:MAP02 OPEN =de .12 - +12:MAP03 | verify a --report r | 1 | verify maps 3 right 1 wrong 1 short 0 refused 1 | a=PAIR =00 U =4600 .6 - +6:MAP02 OPEN =de .12 - +12:MAP03, r=#4d415030312077726f6e672030206d697373696e6720300a4d415030322077726f6e672031206d697373696e6720302066697273742030203120627920354c2c35522c2d3132382c302c310a4d41503033207265667573656420626164206d61703a206f70656e2030520a
+a=PAIR =00 U =4600 .6 - +6:MAP02 OPEN =de .12 - +12:MAP03 | verify a --workers 3 --report r --large | 1 | verify maps 3 right 1 wrong 1 short 0 refused 1 | a=PAIR =00 U =4600 .6 - +6:MAP02 OPEN =de .12 - +12:MAP03, r=#4d415030312077726f6e672030206d697373696e6720300a4d415030322077726f6e672031206d697373696e6720302066697273742030203120627920354c2c35522c2d3132382c302c310a4d41503033207265667573656420626164206d61703a206f70656e2030520a
+a=PAIR =00 U =4600 .6 - +6:MAP02 OPEN =de .12 - +12:MAP03 | verify a --only map03,MAP01 --report r | 0 | verify maps 2 right 1 wrong 0 short 0 refused 1 | a=PAIR =00 U =4600 .6 - +6:MAP02 OPEN =de .12 - +12:MAP03, r=#4d415030312077726f6e672030206d697373696e6720300a4d41503033207265667573656420626164206d61703a206f70656e2030520a
+a=PAIR =00 U =4600 .6 - +6:MAP02 OPEN =de .12 - +12:MAP03 | verify --only=MAP02 a | 1 | verify maps 1 right 0 wrong 1 short 0 refused 0 | a=PAIR =00 U =4600 .6 - +6:MAP02 OPEN =de .12 - +12:MAP03
+a=PAIR =00 U =4600 .6 - +6:MAP02 OPEN =de .12 - +12:MAP03 | verify a --only MAP01,MAP04 --report r | 7 | refused: no map: no marker | r=
+a=PAIR | verify a --only LINEDEFS,MAP04 | 7 | refused: no map: missing LINEDEFS | a=PAIR
+a=#50574144000000000c000000 | verify a --report r | 0 | verify maps 0 right 0 wrong 0 short 0 refused 0 | r=#
+a=PAIR =00 +6:MAP02 +7:TEXTMAP *20 +8:ENDMAP | verify a --report r | 0 | verify maps 1 right 1 wrong 0 short 0 refused 0 | r=#4d415030312077726f6e672030206d697373696e6720300a
+a=PAIR =06 .1 hexen +6:BEHAVIOR | verify a --only MAP01 | 1 | verify maps 1 right 0 wrong 1 short 0 refused 0 | r=
+# a face of several sectors
+a=SELFREF =00 | verify a --report r | 0 | verify maps 1 right 1 wrong 0 short 0 refused 0 | r=#4d415030312077726f6e672030206d697373696e6720300a
+# refusals of the whole run
+a=#50574158000000000c000000 | verify a --report r | 6 | refused: not a wad: bad magic | r=
+a=#50574144010001000c000000 | verify a | 9 | refused: limit: lumps | a=#50574144010001000c000000
+b=PAIR | verify a --report r | 3 | refused: no file wad | b=PAIR, r=
+a=PAIR, reads=1 | verify a --report r | 4 | refused: read fault wad | r=
+a=U =4600, creates=0 | verify a --report r | 5 | refused: write fault report | r=
+a=U =4400, appends=0 | verify a --report r | 5 | refused: write fault report | r=#4d415030312077726f6e6720
+a=U =4600, puts=0 | verify a --report r | 5 | verify maps 1 right 0 wr~ | r=#4d415030312077726f6e672031206d697373696e6720302066697273742030203120627920354c2c35522c2d3132382c302c310a
+# words and names
+a=U | verify | 2 | refused: usage | a=U, b=, c=
+a=U | verify a b | 2 | refused: usage | a=U, b=, c=
+a=U | verify a MAP01 | 2 | refused: usage | a=U, b=, c=
+a=U | verify a --exact | 2 | refused: usage | a=U, b=, c=
+a=U | verify a --budget full | 2 | refused: usage | a=U, b=, c=
+a=U | verify a --cert c | 2 | refused: usage | a=U, b=, c=
+a=U | verify a --hexen | 2 | refused: usage | a=U, b=, c=
+a=U | verify a --faults | 2 | refused: usage | a=U, b=, c=
+a=U | verify a --workers 0 | 2 | refused: usage | a=U, b=, c=
+a=U | verify a --workers 65 | 2 | refused: usage | a=U, b=, c=
+a=U | verify a --only= | 2 | refused: usage | a=U, b=, c=
+a=U | verify a --only MAP01, | 2 | refused: usage | a=U, b=, c=
+a=U | verify a --report a | 11 | refused: same name | a=U
+";
+
 /// The order `need`, and a build with a budget that is enough.
 const NEED: &str = "\
 a=LINE3 | need a MAP01 | 0 | need MAP01 most 4 enough 768 | a=LINE3
@@ -583,7 +640,7 @@ a=LINE3 | build a MAP01 b --cert c --budget enough | 0 | built MAP01 sectors 3 s
 
 #[test]
 fn each_row_comes_out_as_it_says(rt: HostRuntime) -> Result<(), Fail> {
-    for rows in [ZERO, JUDGED, CHECK, BUILD, ALL, NEED, SOUND, WHY, DRAW] {
+    for rows in [ZERO, JUDGED, CHECK, BUILD, ALL, VERIFY, NEED, SOUND, WHY, DRAW] {
         assert_eq!(rt; first_wrong(&rt, rt.alloc(), rows)?.as_str(), "");
     }
     Ok(())

@@ -153,7 +153,7 @@ not_ok : (made : Result MapTable Status) (s : Status) → made ≡ Err s → IsO
 not_ok (Ok t) s e ok = cc
 not_ok (Err t) s e ok = cc
 
-flawless : (m : Map) (s : Status) → HasClosedFaces m → IsFlawOf m s → ⊥
+pub flawless : (m : Map) (s : Status) → HasClosedFaces m → IsFlawOf m s → ⊥
 flawless m (status.BadMap (flaw.Line fault)) closed h = not_sound m fault h closed.ends
 flawless m (status.BadMap (flaw.Open side)) closed h = h.1.against (closed.closed side)
 flawless m s closed h = absurd h

@@ -299,6 +299,8 @@ ends_yes check others heard first last old new counts status.Done one h =
 ends_yes check others heard first last old new counts status.Memory one h = tt
 ends_yes check others heard first last old new counts (status.ReadFault k) one h = tt
 ends_yes check others heard first last old new counts (status.WriteFault role.Text) one h = tt
+ends_yes check others heard first last old new counts status.NotRight one h =
+    let right : true ≡ false = sym (ap (λ (a : Answer). a.right) (same_ok h.ends.answer (only_line (yes_line counts.sectors (totals_of counts))) (one (Ok h.ends.answer) h.ends.called.called))) ∙ h.ends.right_is in absurd cc
 ends_yes check others heard first last old new counts (status.WriteFault k) one h = never_broken (IsAnswer check others heard) _ k others last.files _ one h.ends.0
 ends_yes check others heard first last old new counts s one h = never_refused (IsAnswer check others heard) _ _ s one h.ends.0
 

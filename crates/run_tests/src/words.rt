@@ -172,6 +172,18 @@ all a | OUT
 all a b --cert c | 4
 all a --only | MAP,MAP
 check a MAP01 | CERT
+verify | WAD
+verify a | -
+verify a --large --only MAP01,MAP02 --report r --workers 8 | -
+--report=r verify a | -
+verify a b | 3
+verify '' | 2
+verify a --exact | 3
+verify a --budget full | 3
+verify a --cert c | 3
+verify a --only MAP01, | 4
+verify a --workers 65 | 4
+--exact verify | 2
 grid | N
 help | 1
 -V | 1
@@ -236,6 +248,7 @@ all --help | doomsight all WAD OUT [--only MAP,MAP] [--report FILE]
 why --help | doomsight why WAD MAP A B [--exact | --budget N|full|enough] [--large]
 draw --help | doomsight draw WAD MAP OUT [A [B [--exact | --budget N|full|enough]] | --faults]
 help sound -V | doomsight sound WAD MAP [A B] [--large]
+verify --help | doomsight verify WAD [--only MAP,MAP] [--report FILE] [--workers N]
 grid --help | doomsight grid N [--exact | --budget N|full|enough] [--workers N] [--hexen]
 sound -- --help | 
 -- help | 
@@ -265,7 +278,8 @@ doomsight VERB WORDS.. [OPTIONS]
   all    builds every map of a WAD, and judges each table
   draw   draws a map, the row of a sector, or a pair of sectors
   grid   makes a map of N by N rooms, and builds and checks it
-  --only MAP,MAP          builds these maps; else all of the WAD
+  verify says how the tables of a WAD differ from the right ones
+  --only MAP,MAP          takes these maps; else all of the WAD
   --faults                draws what audit refuses, in place of A and B
   -h, --help              this help, or behind a verb that of the verb
   -V, --version           the version
@@ -277,6 +291,7 @@ a=U | audit a MAP01 | 0
 a=U | draw a MAP01 b 0 1 | 0
 a=TOUCHED | draw a MAP01 b --faults | 0
 a=PAIR | ray a MAP01 2L,2R,0,1,-32 | 1
+a=U =4600 | verify a | 1
 a=U | audit a | 2
 a=U | audit b MAP01 | 3
 a=U, reads=0 | audit a MAP01 | 4

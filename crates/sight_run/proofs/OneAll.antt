@@ -1,5 +1,5 @@
 -- `all` has one answer to a WAD by a method: what comes of the maps that are to be built is one.
-use Rattle.std.proofs.Common.{◌≡◌, ℕ, Bool, List, length, Option, Result, Ok, Err, refl, sym, ap, subst, ◌∙◌}
+use Rattle.std.proofs.Common.{◌≡◌, ℕ, Bool, true, List, length, Option, Result, Ok, Err, refl, sym, ap, subst, ◌∙◌}
 use Rattle.std.specs.Prelude.{string_bytes, ⊤}
 use Rattle.sight_names.specs.declared.faults.RewriteFault.{RewriteFault}
 use Rattle.sight_names.specs.declared.faults.RewriteFault.TheVariants as rewrite
@@ -20,7 +20,7 @@ use Rattle.sight_run.proofs.Round.{same_ok}
 
 -- what is written of the maps of a WAD, and why it isn't
 answered : List ℕ → Option (List ℕ) → List ℕ → List MapOutcome → Answer
-answered out reported bytes os = record { writes = all_writes out bytes reported (report_of os); line = tally_line (length os) (length (changes_of os)) (length (refusals_of os)) }
+answered out reported bytes os = record { writes = all_writes out bytes reported (report_of os); line = tally_line (length os) (length (changes_of os)) (length (refusals_of os)); right = true }
 
 module _ (out : List ℕ) (reported : Option (List ℕ)) (large : Bool) (maps : List (List ℕ)) (method : Method) (w : WadFile) where
   -- two lists of what comes of the maps are written alike
@@ -61,13 +61,13 @@ module _ (out : List ℕ) (reported : Option (List ℕ)) (large : Bool) (maps : 
 
   -- what was made of the WAD is what is answered
   pub the_whole : (whole : WholeWad) (answer : Answer) → ShowsWhole w large maps method whole
-      → answer ≡ record { writes = all_writes out whole.bytes.items reported (string_bytes whole.report); line = tally_line whole.maps whole.built whole.refused } → IsTheAnswer ⊤ (MapsCall out reported large maps method w) (Ok answer)
+      → answer ≡ record { writes = all_writes out whole.bytes.items reported (string_bytes whole.report); line = tally_line whole.maps whole.built whole.refused; right = true } → IsTheAnswer ⊤ (MapsCall out reported large maps method w) (Ok answer)
   the_whole whole answer h is = the_answer (Ok answer) (record {
     outcomes = h.outcomes;
     are = h.are;
     bytes = whole.bytes.items;
     made = h.bytes;
-    is = is ∙ (λ i. record { writes = all_writes out whole.bytes.items reported (h.report i); line = tally_line (h.maps i) (h.built i) (h.refused i) });
+    is = is ∙ (λ i. record { writes = all_writes out whole.bytes.items reported (h.report i); line = tally_line (h.maps i) (h.built i) (h.refused i); right = true });
   })
 
   pub many_lumps : (fault : RewriteFault) → fault ≡ rewrite.TooManyLumps → MakesWhole w large maps method (Err fault) → IsTheAnswer ⊤ (MapsCall out reported large maps method w) (Err (status.Limit bound.Lumps))

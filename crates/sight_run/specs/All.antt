@@ -1,5 +1,5 @@
 -- What the order `all` makes of a WAD.
-use Rattle.std.specs.Prelude.{◌≡◌, ℕ, Bool, List, [], ◌∷◌, ◌++◌, Option, Result, Ok, Err, codes, length}
+use Rattle.std.specs.Prelude.{◌≡◌, ℕ, Bool, true, List, [], ◌∷◌, ◌++◌, Option, Result, Ok, Err, codes, length}
 use Rattle.std.specs.Fmt.{decimal}
 use Rattle.sight_names.specs.declared.limits.TheConstants.{MOST_BYTES}
 use Rattle.sight_names.specs.declared.faults.MapFault.{MapFault}
@@ -64,6 +64,7 @@ pub record ShowsAll (out : List ℕ) (reported : Option (List ℕ)) (large : Boo
   pub is : answer ≡ record {
     writes = all_writes out bytes reported (report_of outcomes);
     line = tally_line (length outcomes) (length (changes_of outcomes)) (length (refusals_of outcomes));
+    right = true;
   }
 
 -- the answer that is called for where these maps are to be built

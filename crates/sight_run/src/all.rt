@@ -1,7 +1,7 @@
 //! The order `all`: the table of each map of a WAD, or of those that are named, in the place of its REJECT, and a line on each where a
 //! report is asked for.
 
-ghost use Rattle.std.specs.Prelude.{◌≡◌, ◌+◌, ◌≤◌, IfErr, IfOk, All, Some, length, string_bytes, ⊤};
+ghost use Rattle.std.specs.Prelude.{◌≡◌, ◌+◌, ◌≤◌, IfErr, IfOk, All, Some, length, string_bytes, true, ⊤};
 ghost use Rattle.shelf_io.specs.Shelf.{Files, NoneFell};
 ghost use Rattle.wad_dir.specs.Map.{entry_names};
 ghost use Rattle.wad_dir.specs.Wad.{file_of, names_of};
@@ -44,7 +44,8 @@ fn reply_of(
     report: &Option<Text>,
     whole: WholeWad,
 ) -> Result<Reply, AllocError>
-    ensures reply { IfOk result (λ reply. replied reply ≡ record { writes = all_writes out.now whole.bytes.items report.now (string_bytes whole.report); line = tally_line whole.maps whole.built whole.refused }) }
+    ensures reply { IfOk result (λ reply. replied reply ≡ record { writes = all_writes out.now whole.bytes.items report.now (string_bytes whole.report); line = tally_line whole.maps whole.built whole.refused; right = true }) }
+    ensures right { IfOk result (λ reply. reply.right ≡ true) }
     ensures roles { IfOk result (λ reply. roles_of (writes reply) ≡ all_roles report.now) }
 {
     let line = line_of(alloc, whole.maps, whole.built, whole.refused)?;
@@ -65,7 +66,11 @@ fn reply_of(
             Bytes::Whole(whole.report.into_bytes()),
         )?;
     }
-    Ok(Reply { outputs, line })
+    Ok(Reply {
+        outputs,
+        line,
+        right: true,
+    })
 }
 
 /// What comes of the maps of these names.
@@ -90,6 +95,7 @@ fn make_reply<R: Threads + Sync, G: Gate + Sync, N: Notice>(
     ensures called { Gives ⊤ (MapsCall out.now report.now large maps.now method (file_of bytes.now wad.now)) (reply_seen result) }
     ensures refusals { IfErr result IsOfMaking }
     ensures roles { IfOk result (λ reply. roles_of (writes reply) ≡ all_roles report.now) }
+    ensures right { IfOk result (λ reply. reply.right ≡ true) }
 {
     let whole = match build_wad(
         rt, alloc, bytes, wad, large, maps, workers, method, gate, notice,
@@ -127,6 +133,7 @@ pub fn do_all<R: Threads + Sync, S: Shelf, G: Gate + Sync, N: Notice>(
     ensures cause { Cause (S.state shelf.old) (S.state shelf.new) result }
     ensures refusals { IfErr result (IsOfAll only.now) }
     ensures roles { IfOk result (λ reply. roles_of (writes reply) ≡ all_roles report.now) }
+    ensures right { IfOk result (λ reply. reply.right ≡ true) }
 {
     let bytes = fetch_wad(alloc, shelf, source.file.as_str())?;
     let wad = directory(alloc, &bytes)?;

@@ -37,5 +37,9 @@ tally_of verdicts = record {
   refused = count_of is_refused verdicts;
 }
 
+-- no table of those that were judged is wrong, and none is short
+abbrev pub all_right : Tally → Bool
+all_right t = (t.wrong == 0) && (t.short == 0)
+
 abbrev pub tally_line : Tally → List ℕ
 tally_line t = codes "verify maps " ++ decimal t.maps ++ codes " right " ++ decimal t.right ++ codes " wrong " ++ decimal t.wrong ++ codes " short " ++ decimal t.short ++ codes " refused " ++ decimal t.refused ++ codes "\n"

@@ -6,11 +6,12 @@ mod map_verdict;
 mod own;
 mod report;
 mod sight_of_pair;
+pub mod table_compare;
 mod tally;
 mod verdict;
 mod verifying;
 
 pub use own::reject_at;
-pub use tally::{Tally, line_of};
+pub use tally::{Tally, all_right, line_of};
 pub use verdict::{Findings, FirstWrong, MapVerdict, Shown, Verdict};
 pub use verifying::{WadVerdict, verify_wad};

@@ -1,7 +1,7 @@
 //! How many maps there are of each kind, and the line that tells it.
 
 ghost use Rattle.std.specs.Prelude.{◌≡◌, ◌++◌, IfOk, IsTrue, string_bytes, cond};
-ghost use Rattle.table_verdicts.specs.Tallies.{is_refused, is_right, is_short, is_wrong, tally_line, tally_of};
+ghost use Rattle.table_verdicts.specs.Tallies.{all_right, is_refused, is_right, is_short, is_wrong, tally_line, tally_of};
 
 use crate::verdict::{MapVerdict, Verdict};
 use map_answers::sight_status::{Status, push_count, push_count_line};
@@ -82,6 +82,13 @@ pub fn tally_up(verdicts: &[MapVerdict]) -> Tally
         short,
         refused,
     }
+}
+
+/// Whether no table of those that were judged is wrong, and none is short.
+pub fn all_right(tally: Tally) -> bool
+    ensures { result ≡ all_right tally }
+{
+    tally.wrong == 0 && tally.short == 0
 }
 
 /// The line of the totals.

@@ -4,7 +4,8 @@ ghost use Rattle.std.specs.Prelude.{◌≡◌, ◌+◌, ◌≤◌, length, map, 
 ghost use Rattle.std.specs.List.{AllByRecursion};
 ghost use Rattle.wad_dir.specs.Map.{entry_names};
 ghost use Rattle.wad_dir.specs.Wad.{file_of, names_of};
-ghost use Rattle.wad_dir.specs.AllMaps.Maps.{is_map_name};
+ghost use Rattle.wad_dir.specs.AllMaps.All.{HasInOrder};
+ghost use Rattle.wad_dir.specs.AllMaps.Maps.{is_map_name, maps_of};
 ghost use Rattle.table_verdicts.specs.Report.{report_of};
 ghost use Rattle.table_verdicts.specs.Verdicts.{SaysOf, ShowsVerdicts};
 
@@ -80,7 +81,8 @@ pub fn verify_wad<R: Threads + Sync, G: Gate + Sync, N: Notice>(
 ) -> Result<WadVerdict, Memory>
     requires inside { All (λ entry. entry.at + entry.size ≤ length bytes.now) wad.now.entries }
     requires names { names_of (file_of bytes.now wad.now) ≡ entry_names wad.now.entries }
-    requires named { All (λ name. IsTrue (is_map_name name)) names.now }
+    // They are some of the WAD's maps, in the order of their entries.
+    requires among { HasInOrder (maps_of (entry_names wad.now.entries)) names.now }
     requires workers { (1 ≤ workers) × (workers ≤ 64) }
     ensures { IfOk result (ShowsVerdicts (file_of bytes.now wad.now) large names.now) }
 {

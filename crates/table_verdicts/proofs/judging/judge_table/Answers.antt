@@ -6,7 +6,7 @@ use Rattle.table_verdicts.proofs.judging.judge_table.Goals as goal
 pub returns-in_err-built : goal.returns-in_err-built
 returns-in_err-built g c =
     let p = err_from_is_err_and c.from_residual.result c.from_residual.ensures.1 in
-    rw (p.1, p.2) (audit_refuses (map_of c.args.plan.now) c.args.reject.now _ ?)
+    rw (p.1, p.2) (audit_refuses (map_of c.args.plan.now) c.args.reject.now _ c.in_err-built.ensures.built)
 
 pub compare-compared-requires : goal.compare-compared-requires
 compare-compared-requires g c = same (map_of c.args.plan.now) c.args.reject.now c.args.own.now c.in_ok-built.built c.requires.own c.in_ok-built.ensures.built
