@@ -246,10 +246,12 @@ class Folder:
         whole = lambda names: all(self.is_whole(words, bytes_of, name) for name in names)
         if not base.errors.startswith(run.errors):
             return None
+        # a verdict that isn't right comes with its report
+        writes = base.status == 0 or words.startswith("verify ")
         if run.status == 12:
             return "memory" if untouched and not run.line else None
         if run.status == base.status and run.line == base.line:
-            return "done" if (whole(outputs) if base.status == 0 else untouched) else None
+            return "done" if (whole(outputs) if writes else untouched) else None
         if run.status == 4 and run.line in (b"refused: read fault wad\n", b"refused: read fault cert\n"):
             return "read fault" if untouched else None
         if run.status != 5:
@@ -260,7 +262,7 @@ class Folder:
                 renamed = whole(outputs[:at]) and all(self.held(other) == OLD for other in outputs[at:])
                 return "write fault" if untouched or renamed else None
         if base.line.startswith(run.line):
-            return "write fault" if (whole(outputs) if base.status == 0 else untouched) else None
+            return "write fault" if (whole(outputs) if writes else untouched) else None
         return None
 
 
