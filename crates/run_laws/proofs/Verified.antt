@@ -38,7 +38,7 @@ use Rattle.table_verdicts.specs.declared.verdict.Verdict.TheVariants as verdict
 use Rattle.table_verdicts.specs.Own.{reject_named}
 use Rattle.table_verdicts.specs.Tallies.{all_right, count_of, is_short, is_wrong, tally_of}
 use Rattle.table_verdicts.specs.Verdict.{AreFindings, HasFirstWrong, IsVerdictOn, answer_of}
-use Rattle.table_verdicts.proofs.TableCompare.OneKind.{none_counted}
+use Rattle.table_compare.proofs.OneKind.{none_counted}
 use Rattle.sight_run.specs.All.{OnRead}
 use Rattle.sight_run.specs.Asked.{AskedMaps, asked_in}
 use Rattle.sight_run.specs.Heard.{Heard}

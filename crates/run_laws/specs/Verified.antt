@@ -27,7 +27,7 @@ use Rattle.table_verdicts.specs.declared.verdict.Verdict.{Verdict}
 use Rattle.table_verdicts.specs.declared.verdict.Verdict.TheVariants as verdict
 use Rattle.table_verdicts.specs.Own.{IsShort, reject_named, table_len}
 use Rattle.table_verdicts.specs.Report.{report_of}
-use Rattle.table_verdicts.specs.TableCompare.Counts.{IsCountOf, IsFirst}
+use Rattle.table_compare.specs.Counts.{IsCountOf, IsFirst}
 use Rattle.table_verdicts.specs.Tallies.{all_right, tally_line, tally_of}
 use Rattle.table_verdicts.specs.Verdict.{IsMissing, IsWrong, answer_of}
 use Rattle.sight_run.specs.Asked.{AskedMaps, asked_in}

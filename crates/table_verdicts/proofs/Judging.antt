@@ -8,9 +8,9 @@ use Rattle.sight_names.specs.Map.{Map}
 use Rattle.sight_names.specs.Sees.{Sees}
 use Rattle.sight_names.specs.Table.{Rejected, table_bit}
 use Rattle.reject_bits.specs.Parts.{Rejects, TableParts}
-use Rattle.table_verdicts.specs.TableCompare.Compared.{SetsAlone}
-use Rattle.table_verdicts.specs.TableCompare.Counts.{IsCountOf, IsFirstOf}
-use Rattle.table_verdicts.proofs.TableCompare.OneKind.{count_so, first_so}
+use Rattle.table_compare.specs.Compared.{SetsAlone}
+use Rattle.table_compare.specs.Counts.{IsCountOf, IsFirstOf}
+use Rattle.table_compare.proofs.OneKind.{count_so, first_so}
 use Rattle.group_job.proofs.Following.{set_or_clear}
 use Rattle.map_answers.specs.declared.sight_status.status.Flaw.TheVariants as flaw
 use Rattle.map_answers.specs.declared.sight_status.status.Status.{Status}

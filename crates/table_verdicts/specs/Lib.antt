@@ -3,4 +3,3 @@ pub mod Verdict
 pub mod Tallies
 pub mod Report
 pub mod Verdicts
-pub mod TableCompare

@@ -6,7 +6,7 @@ use Rattle.sight_names.specs.Groups.{HasClosedFaces}
 use Rattle.sight_names.specs.Map.{Map}
 use Rattle.sight_names.specs.Sees.{Sees}
 use Rattle.sight_names.specs.Table.{Rejected}
-use Rattle.table_verdicts.specs.TableCompare.Counts.{IsCountOf, IsFirst, IsFirstOf}
+use Rattle.table_compare.specs.Counts.{IsCountOf, IsFirst, IsFirstOf}
 use Rattle.map_answers.specs.declared.sight_status.status.Status.{Status}
 use Rattle.map_answers.specs.declared.sight_status.status.Status.TheVariants as status
 use Rattle.pair_answer.specs.declared.answer.PairAnswer.{PairAnswer}

@@ -3,7 +3,7 @@
 ghost use Rattle.std.specs.Prelude.{◌≡◌, ◌≤◌, ◌<◌, IfErr, IfOk, Ok};
 ghost use Rattle.sight_names.specs.Map.{map_of};
 ghost use Rattle.map_answers.specs.Sound.{IsAuditRefusal};
-ghost use Rattle.table_verdicts.specs.TableCompare.Counts.{IsFirstOf};
+ghost use Rattle.table_compare.specs.Counts.{IsFirstOf};
 ghost use Rattle.table_verdicts.specs.Own.{IsAtFront};
 ghost use Rattle.table_verdicts.specs.Verdict.{HasFirstWrong, IsVerdictOrMemory, IsWrong, Judges};
 
@@ -16,7 +16,7 @@ use reject_bits::Table;
 use sight_names::{Method, Pair, Plan};
 use std::alloc::Global;
 use std::thread::Threads;
-use crate::table_compare::compare;
+use table_compare::compare;
 use whole_wad::build;
 
 /// The first wrong pair, with why its sectors see each other.

@@ -6,7 +6,6 @@ mod map_verdict;
 mod own;
 mod report;
 mod sight_of_pair;
-pub mod table_compare;
 mod tally;
 mod verdict;
 mod verifying;

@@ -1,5 +1,5 @@
 use Rattle.sight_names.specs.Map.{map_of}
-use Rattle.table_verdicts.specs.TableCompare.Counts.{IsFirstOf}
+use Rattle.table_compare.specs.Counts.{IsFirstOf}
 use Rattle.table_verdicts.specs.Verdict.{IsWrong}
 use Rattle.table_verdicts.proofs.judging.first_of.Goals as goal
 

@@ -1,6 +1,6 @@
 use Rattle.std.proofs.Common.{◌++◌, ℕ, List, ap, ◌∙◌, string_bytes}
 use Rattle.wad_dir.specs.Wad.{file_of}
-use Rattle.whole_wad.proofs.Telling.{comes_more, name_more, report_more}
+use Rattle.table_verdicts.proofs.Telling.{comes_more, name_more, report_more}
 use Rattle.table_verdicts.specs.declared.verdict.MapVerdict.{MapVerdict}
 use Rattle.table_verdicts.specs.Report.{verdict_line}
 use Rattle.table_verdicts.specs.Verdicts.{SaysOf}

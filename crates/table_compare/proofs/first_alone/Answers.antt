@@ -1,8 +1,8 @@
 use Rattle.std.proofs.Common.{◌<◌, ◌^◌, arith}
 use Rattle.std.proofs.lemmas.Nat.{and_le_l}
 use Rattle.std.specs.Int.RustNames.{bit_xor}
-use Rattle.table_verdicts.proofs.TableCompare.Alone.{alone_of, least_bit, no_bit}
-use Rattle.table_verdicts.proofs.table_compare.first_alone.Goals as goal
+use Rattle.table_compare.proofs.Alone.{alone_of, least_bit, no_bit}
+use Rattle.table_compare.proofs.first_alone.Goals as goal
 
 pub returns-then-alone-eq0 : goal.returns-then-alone-eq0
 returns-then-alone-eq0 c = no_bit c.args.byte c.args.other c.if-alone-eq0.true

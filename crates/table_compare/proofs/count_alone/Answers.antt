@@ -4,9 +4,9 @@ use Rattle.std.proofs.lemmas.List.FromFn.{length-range_with_len}
 use Rattle.std.proofs.lemmas.List.Sums.{count_by-le-length}
 use Rattle.std.specs.List.{range_with_len}
 use Rattle.std.specs.Int.RustNames.{bit_xor}
-use Rattle.table_verdicts.specs.TableCompare.Compared.{has_alone}
-use Rattle.table_verdicts.proofs.TableCompare.Alone.{alone_of, count_of_byte}
-use Rattle.table_verdicts.proofs.table_compare.count_alone.Goals as goal
+use Rattle.table_compare.specs.Compared.{has_alone}
+use Rattle.table_compare.proofs.Alone.{alone_of, count_of_byte}
+use Rattle.table_compare.proofs.count_alone.Goals as goal
 
 pub returns-clause-count : goal.returns-clause-count
 returns-clause-count c =

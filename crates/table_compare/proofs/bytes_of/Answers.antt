@@ -1,6 +1,6 @@
 use Rattle.std.proofs.Common.{◌<◌, ◌^◌, ℕ, List, length, subst, sym}
-use Rattle.table_verdicts.proofs.TableCompare.Places.{short}
-use Rattle.table_verdicts.proofs.table_compare.bytes_of.Goals as goal
+use Rattle.table_compare.proofs.Places.{short}
+use Rattle.table_compare.proofs.bytes_of.Goals as goal
 
 pub returns-clause-short : goal.returns-clause-short
 returns-clause-short c =

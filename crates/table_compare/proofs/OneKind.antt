@@ -5,7 +5,7 @@ use Rattle.std.specs.List.{count_by, range_with_len, sum_by}
 use Rattle.std.proofs.lemmas.List.Sums.{sum_by-cons}
 use Rattle.math_base.proofs.Numbers.{below_or_not}
 use Rattle.sight_names.specs.declared.names.Pair.{Pair}
-use Rattle.table_verdicts.specs.TableCompare.Counts.{IsCountOf, IsFirstOf}
+use Rattle.table_compare.specs.Counts.{IsCountOf, IsFirstOf}
 
 module _ (n : ℕ) (P Q : ℕ → ℕ → Type 0) (same : (a b : ℕ) → a < n → b < n → P a b ↔ Q a b) where
   pub count_so : (count : ℕ) → IsCountOf n P count → IsCountOf n Q count

@@ -1,10 +1,11 @@
 //! Two tables of one size beside each other: how many pairs only one of them has set, and the first of these.
+#![tactic(auto)]
 
 ghost use Rattle.std.specs.Prelude.{◌≡◌, ◌≤◌, ◌<◌, ◌+◌, ◌*◌, ◌^◌, length};
 ghost use Rattle.std.specs.List.{count_by, range_with_len};
 ghost use Rattle.reject_bits.specs.Parts.{IsWhole};
-ghost use Rattle.table_verdicts.specs.TableCompare.Compared.{has_alone, is_alone, IsFirstBelow, SetsAlone};
-ghost use Rattle.table_verdicts.specs.TableCompare.Counts.{IsCountOf, IsFirstOf};
+ghost use Rattle.table_compare.specs.Compared.{has_alone, is_alone, IsFirstBelow, SetsAlone};
+ghost use Rattle.table_compare.specs.Counts.{IsCountOf, IsFirstOf};
 
 use reject_bits::Table;
 use sight_names::Pair;

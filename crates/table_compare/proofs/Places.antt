@@ -10,9 +10,9 @@ use Rattle.math_base.proofs.Numbers.{below_or_not, is_told_same, place_within, r
 use Rattle.sight_names.specs.declared.names.Pair.{Pair}
 use Rattle.sight_names.specs.Table.{IsTable, table_bit}
 use Rattle.reject_bits.specs.Parts.{IsWhole, TableParts}
-use Rattle.table_verdicts.specs.TableCompare.Compared.{is_alone, IsFirstBelow, SetsAlone}
-use Rattle.table_verdicts.specs.TableCompare.Counts.{IsCountOf, IsFirst, IsFirstOf}
-use Rattle.table_verdicts.proofs.TableCompare.Counting.{count_none, count_parts, count_rows}
+use Rattle.table_compare.specs.Compared.{is_alone, IsFirstBelow, SetsAlone}
+use Rattle.table_compare.specs.Counts.{IsCountOf, IsFirst, IsFirstOf}
+use Rattle.table_compare.proofs.Counting.{count_none, count_parts, count_rows}
 
 bits_tell : (x y : ℕ) → x < 2 → y < 2 → IsTrue ((x == 1) && (y == 0)) ↔ ((x ≡ 1) × ¬ (y ≡ 1))
 bits_tell x y hx hy = (

@@ -1,8 +1,8 @@
 use Rattle.std.proofs.Common.{◌*◌, ◌∙◌, ℕ, List, length, ap, sym}
 use Rattle.std.specs.List.{count_by, range_with_len}
-use Rattle.table_verdicts.specs.TableCompare.Compared.{is_alone}
-use Rattle.table_verdicts.proofs.TableCompare.Places.{counts_pairs, same_length}
-use Rattle.table_verdicts.proofs.table_compare.count_pairs.Goals as goal
+use Rattle.table_compare.specs.Compared.{is_alone}
+use Rattle.table_compare.proofs.Places.{counts_pairs, same_length}
+use Rattle.table_compare.proofs.count_pairs.Goals as goal
 
 pub count_bits-requires-clause-same : goal.count_bits-requires-clause-same
 count_bits-requires-clause-same c = ap (λ (l : List ℕ). length l) c.bytes_of-2.ensures.bytes ∙ same_length c.args.one.now c.args.other.now c.requires c.bytes_of.ensures.whole c.bytes_of-2.ensures.whole ∙ sym (ap (λ (l : List ℕ). length l) c.bytes_of.ensures.bytes)

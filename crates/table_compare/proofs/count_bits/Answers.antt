@@ -1,6 +1,6 @@
 use Rattle.std.proofs.Common.{arith}
-use Rattle.table_verdicts.proofs.TableCompare.Alone.{count_more}
-use Rattle.table_verdicts.proofs.table_compare.count_bits.Goals as goal
+use Rattle.table_compare.proofs.Alone.{count_more}
+use Rattle.table_compare.proofs.count_bits.Goals as goal
 
 pub loop-i-preserved : goal.loop-i-preserved
 loop-i-preserved c = record {

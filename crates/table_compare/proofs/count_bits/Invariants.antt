@@ -1,7 +1,7 @@
 use Rattle.std.proofs.Common.{◌≡◌, ◌≤◌, ◌*◌}
 use Rattle.std.specs.List.{count_by, range_with_len}
-use Rattle.table_verdicts.specs.TableCompare.Compared.{is_alone}
-use Rattle.table_verdicts.proofs.table_compare.count_bits.Given as goal
+use Rattle.table_compare.specs.Compared.{is_alone}
+use Rattle.table_compare.proofs.count_bits.Given as goal
 
 abbrev pub invariant-loop-i : goal.invariant-loop-i
 invariant-loop-i l = record {

@@ -1,6 +1,6 @@
 use Rattle.std.proofs.Common.{arith}
-use Rattle.table_verdicts.proofs.TableCompare.Alone.{first_here, none_more}
-use Rattle.table_verdicts.proofs.table_compare.first_bit.Goals as goal
+use Rattle.table_compare.proofs.Alone.{first_here, none_more}
+use Rattle.table_compare.proofs.first_bit.Goals as goal
 
 pub loop-i-init : goal.loop-i-init
 loop-i-init c = λ k lt told. absurd (omega arith)

@@ -1,6 +1,6 @@
 use Rattle.std.proofs.Common.{◌*◌}
-use Rattle.table_verdicts.proofs.TableCompare.Alone.{AreNone}
-use Rattle.table_verdicts.proofs.table_compare.first_bit.Given as goal
+use Rattle.table_compare.proofs.Alone.{AreNone}
+use Rattle.table_compare.proofs.first_bit.Given as goal
 
 abbrev pub invariant-loop-i : goal.invariant-loop-i
 invariant-loop-i l = AreNone l.one l.other (8 * l.i)

@@ -7,8 +7,8 @@ use Rattle.std.specs.List.{count_by, range_with_len}
 use Rattle.std.proofs.lemmas.Bool.{false≢true}
 use Rattle.std.proofs.lemmas.Nat.Bits.{bit_at_and, bit_at-lt, bit_at-trailing_zeros, bit_at-zero}
 use Rattle.reject_bits.proofs.Bits.{turned_bit}
-use Rattle.table_verdicts.specs.TableCompare.Compared.{has_alone, is_alone, IsFirstBelow}
-use Rattle.table_verdicts.proofs.TableCompare.Counting.{count_alike, count_parts, ones_are}
+use Rattle.table_compare.specs.Compared.{has_alone, is_alone, IsFirstBelow}
+use Rattle.table_compare.proofs.Counting.{count_alike, count_parts, ones_are}
 
 abbrev pub alone_of : ℕ → ℕ → ℕ
 alone_of byte other = bit_and byte (bit_xor other 255)

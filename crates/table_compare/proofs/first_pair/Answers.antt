@@ -1,6 +1,6 @@
 use Rattle.std.proofs.Common.{◌*◌, ◌+◌, ◌<◌, ◌∙◌, ℕ, List, Some, None, length, ap, sym, subst}
-use Rattle.table_verdicts.proofs.TableCompare.Places.{by_bytes, first_is, is_pairs, none_is, same_length}
-use Rattle.table_verdicts.proofs.table_compare.first_pair.Goals as goal
+use Rattle.table_compare.proofs.Places.{by_bytes, first_is, is_pairs, none_is, same_length}
+use Rattle.table_compare.proofs.first_pair.Goals as goal
 
 pub first_bit-requires-clause-same : goal.first_bit-requires-clause-same
 first_bit-requires-clause-same c = ap (λ (l : List ℕ). length l) c.bytes_of-2.ensures.bytes ∙ same_length c.args.one.now c.args.other.now c.requires c.bytes_of.ensures.whole c.bytes_of-2.ensures.whole ∙ sym (ap (λ (l : List ℕ). length l) c.bytes_of.ensures.bytes)
