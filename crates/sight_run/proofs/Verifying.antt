@@ -25,7 +25,7 @@ use Rattle.sight_run.specs.declared.reply.Reply.{Reply}
 use Rattle.sight_run.specs.Reply.{asked_seen, roles_of, writes}
 use Rattle.sight_run.specs.Run.{EndsRight, IsOfAsked, IsOfOrder, IsOfReading, IsOfWhole}
 use Rattle.sight_run.specs.Verify.{ShowsVerify}
-use Rattle.sight_run.proofs.Whole.{gives_unread, of_whole}
+use Rattle.sight_run.proofs.Whole.{gives_unread}
 
 -- ---- the maps
 
@@ -58,12 +58,14 @@ maps_read wad only files w maps read are =
 -- ---- refusals
 
 pub unfetched_asked : (only : Option (List (List ℕ))) (s : Status) → IsOfReading s → IsOfWhole s → IsOfAsked only s
+unfetched_asked only (status.NoMap fault) of h = absurd h
 unfetched_asked only (status.Limit bound.OutputBytes) of h = absurd of
-unfetched_asked only s of h = of_whole only s h
+unfetched_asked only s of h = h
 
 pub unread_asked : (only : Option (List (List ℕ))) (s : Status) → IsOfBytes s → IsOfWhole s → IsOfAsked only s
+unread_asked only (status.NoMap fault) of h = absurd h
 unread_asked only (status.Limit bound.OutputBytes) of h = absurd of
-unread_asked only s of h = of_whole only s h
+unread_asked only s of h = h
 
 pub names_asked : (only : Option (List (List ℕ))) (s : Status) → IsOfNames only s → IsOfAsked only s
 names_asked only (status.NoMap fault) h = h
