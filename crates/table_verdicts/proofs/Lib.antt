@@ -1,3 +1,3 @@
 pub mod Shows
-pub mod Judging
+pub mod Differing
 pub mod Telling

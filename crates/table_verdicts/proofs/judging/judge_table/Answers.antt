@@ -1,6 +1,6 @@
 use Rattle.std.proofs.lemmas.Result.{err_from_is_err_and}
 use Rattle.sight_names.specs.Map.{map_of}
-use Rattle.table_verdicts.proofs.Judging.{audit_refuses, first_wrong, missing_counted, same, wrong_counted}
+use Rattle.table_verdicts.proofs.Differing.{audit_refuses, first_wrong, missing_counted, same, wrong_counted}
 use Rattle.table_verdicts.proofs.judging.judge_table.Goals as goal
 
 pub returns-in_err-built : goal.returns-in_err-built
