@@ -210,12 +210,7 @@ pub static VERBS: [Verb; 13] = [
         name: "verify",
         places: &[Place::Wad],
         spare: &[],
-        choices: &[
-            Choice::Only,
-            Choice::Report,
-            Choice::Workers,
-            Choice::Large,
-        ],
+        choices: &[Choice::Only, Choice::Report, Choice::Workers, Choice::Large],
         purpose: "says how the tables of a WAD differ from the right ones",
         about: "Decides every pair of sectors of each map of the WAD, or of those that are\nnamed, and says how many bits of its own REJECT are wrong, so that monsters are\nblind, and how many are missing. Writes nothing but the report.",
     },

@@ -640,7 +640,9 @@ a=LINE3 | build a MAP01 b --cert c --budget enough | 0 | built MAP01 sectors 3 s
 
 #[test]
 fn each_row_comes_out_as_it_says(rt: HostRuntime) -> Result<(), Fail> {
-    for rows in [ZERO, JUDGED, CHECK, BUILD, ALL, VERIFY, NEED, SOUND, WHY, DRAW] {
+    for rows in [
+        ZERO, JUDGED, CHECK, BUILD, ALL, VERIFY, NEED, SOUND, WHY, DRAW,
+    ] {
         assert_eq!(rt; first_wrong(&rt, rt.alloc(), rows)?.as_str(), "");
     }
     Ok(())

@@ -99,12 +99,12 @@ pub all_is_done : AllIsDone
 unfolding Refuses AreRight
 all_is_done words wad out only report workers method went w maps is_asked is_wad is_found well = elim (refuses words went.files went.heard went.before went.after went.sink.old went.sink.new went.status (λ answer q. all_right out report wad.large maps method w answer (subst (λ (r : Result (List (List ℕ)) Status). OnRead r (λ ms. MapsCall out report wad.large ms method w) (Ok answer)) is_found
     (subst (λ (r : Result WadFile Status). OnRead r (AllCalls out wad.large only report method) (Ok answer)) is_wad (subst (λ r. AnswersAsked r went.files went.heard (Ok answer)) is_asked q)))) well.quiet well.ends well.cause) as (λ _. EndsAll wad.large maps method w went.status) [
-  | inl e ↦ subst (EndsAll wad.large maps method w) (sym e) tt
-  | inr (inl e) ↦ subst (EndsAll wad.large maps method w) (sym e) tt
-  | inr (inr q) ↦ of_wad out report wad.large maps method w went.status
-      (subst (λ (r : Result (List (List ℕ)) Status). OnRead r (λ ms. MapsCall out report wad.large ms method w) (Err went.status)) is_found
-      (subst (λ (r : Result WadFile Status). OnRead r (AllCalls out wad.large only report method) (Err went.status)) is_wad (subst (λ r. AnswersAsked r went.files went.heard (Err went.status)) is_asked q)))
-]
+      | inl e ↦ subst (EndsAll wad.large maps method w) (sym e) tt
+      | inr (inl e) ↦ subst (EndsAll wad.large maps method w) (sym e) tt
+      | inr (inr q) ↦ of_wad out report wad.large maps method w went.status
+          (subst (λ (r : Result (List (List ℕ)) Status). OnRead r (λ ms. MapsCall out report wad.large ms method w) (Err went.status)) is_found
+          (subst (λ (r : Result WadFile Status). OnRead r (AllCalls out wad.large only report method) (Err went.status)) is_wad (subst (λ r. AnswersAsked r went.files went.heard (Err went.status)) is_asked q)))
+    ]
 
 -- ---- two sectors
 

@@ -27,11 +27,7 @@ use table_verdicts::{WadVerdict, all_right, line_of, verify_wad};
 use whole_wad::Notice;
 
 /// The reply that writes the report where it is asked for, and puts the totals.
-fn reply_of(
-    alloc: Global,
-    report: &Option<Text>,
-    verdict: WadVerdict,
-) -> Result<Reply, AllocError>
+fn reply_of(alloc: Global, report: &Option<Text>, verdict: WadVerdict) -> Result<Reply, AllocError>
     ensures reply { IfOk result (λ reply. replied reply ≡ record { writes = report_writes report.now (string_bytes verdict.report); line = tally_line verdict.tally; right = all_right verdict.tally }) }
     ensures roles { IfOk result (λ reply. roles_of (writes reply) ≡ report_roles report.now) }
 {
