@@ -1,5 +1,5 @@
 -- How many maps there are of each kind.
-use Rattle.std.specs.Prelude.{ℕ, Bool, true, false, ◌==◌, not, List, length, ◌++◌, Result, Ok, Err, codes}
+use Rattle.std.specs.Prelude.{ℕ, Bool, true, false, ◌==◌, ◌&&◌, not, List, length, ◌++◌, Result, Ok, Err, codes}
 use Rattle.std.specs.Fmt.{decimal}
 use Rattle.std.specs.List.{count_by}
 use Rattle.map_answers.specs.declared.sight_status.status.Status.{Status}

@@ -11,8 +11,8 @@ returns-in_err-built g c =
 pub compare-compared-requires : goal.compare-compared-requires
 compare-compared-requires g c = same (map_of c.args.plan.now) c.args.reject.now c.args.own.now c.in_ok-built.built c.requires.own c.in_ok-built.ensures.built
 
-pub first_of-first-requires : goal.first_of-first-requires
-first_of-first-requires g c = first_wrong (map_of c.args.plan.now) c.args.reject.now c.args.own.now c.in_ok-built.built c.requires.own c.in_ok-built.ensures.built _ c.compare-compared.ensures.first
+pub first_of-requires : goal.first_of-requires
+first_of-requires g c = first_wrong (map_of c.args.plan.now) c.args.reject.now c.args.own.now c.in_ok-built.built c.requires.own c.in_ok-built.ensures.built _ c.compare-compared.ensures.first
 
 pub returns : goal.returns
 returns g c =
