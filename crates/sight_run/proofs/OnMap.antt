@@ -33,7 +33,7 @@ pub alone_of : (asked : Order) → IsSome (map_asked asked) → ((wad : Source) 
 alone_of (order.Check wad name cert) some no_check no_build = absurd (no_check wad name cert refl)
 alone_of (order.Build wad name out cert report workers method) some no_check no_build = absurd (no_build wad name out cert report workers method refl)
 alone_of (order.Grid n workers method hexen) some no_check no_build = absurd cc
-alone_of (order.All wad out only report workers method) some no_check no_build = absurd cc
+alone_of (order.All wad out only report workers method choice) some no_check no_build = absurd cc
 alone_of asked some no_check no_build = tt
 
 unreported : (asked : Order) → IsOfMapAlone asked → report_of asked ≡ None

@@ -13,13 +13,15 @@ use sight_names::{Items, MapFault};
 use std::alloc::{AllocError, Global};
 use wad_dir::all_maps::{fault_of, maps};
 use wad_dir::{Wad, is_same_name};
+use whole_wad::Notice;
 
-/// Why the first of these names that is none of a map's isn't one.
-fn first_fault(wad: &Wad, only: &[Text]) -> Option<MapFault>
+/// Why the first of these names that is none of a map's isn't one. The notice is told the name.
+fn first_fault<N: Notice>(wad: &Wad, only: &[Text], notice: &N) -> Option<MapFault>
     ensures { result ≡ first_fault (entry_names wad.now.entries) only.now }
 {
     for name in only {
         if let Some(fault) = fault_of(wad, name.as_str()) {
+            notice.miss(name.as_str());
             return Some(fault);
         }
     }
@@ -51,10 +53,11 @@ fn asked_among(alloc: Global, maps: &[[u8; 8]], only: &[Text]) -> Result<Vec<[u8
 }
 
 /// The names of the maps that are to be built, in the order of their entries.
-pub fn asked_maps(
+pub fn asked_maps<N: Notice>(
     alloc: Global,
     wad: &Wad,
     only: &Option<Items<Text>>,
+    notice: &N,
 ) -> Result<Vec<[u8; 8]>, Status>
     ensures maps { Makes (λ maps. maps.items) result (maps_in (entry_names wad.now.entries) only.now) }
     ensures refusals { IfErr result (IsOfNames only.now) }
@@ -67,7 +70,7 @@ pub fn asked_maps(
         return Ok(all);
     };
     let only = only.as_slice();
-    if let Some(fault) = first_fault(wad, only) {
+    if let Some(fault) = first_fault(wad, only, notice) {
         return Err(Status::NoMap(fault));
     }
     match asked_among(alloc, &all, only) {
