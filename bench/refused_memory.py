@@ -106,14 +106,16 @@ __attribute__((constructor)) static void begin(void) {
 OLD = b"what was there before"
 ROLES = {"wad": "out.wad", "cert": "new.cert", "report": "report", "picture": "out.svg"}
 
-# The words of each verb, and its outputs in order. `u.wad` has no table, `built.wad` and `u.cert` are those of a build of it. The certificate of
-# a row of rooms is longer than a piece that is read; that of U with bytes behind it has more than 500 pieces.
+# The words of each verb, and its outputs in order. `u.wad` has no table, `built.wad` and `u.cert` are those of a build of it. In `open.wad` a line
+# is missing. The certificate of a row of rooms is longer than a piece that is read; that of U with bytes behind it has more than 500 pieces.
 ORDERS = [
     ("build u.wad MAP01 out.wad --cert new.cert --report report --workers 3", ["out.wad", "new.cert", "report"]),
     ("build u.wad MAP01 out.wad --cert new.cert --report report --workers 1", ["out.wad", "new.cert", "report"]),
     ("build u.wad MAP01 out.wad --budget 1", ["out.wad"]),
     ("grid 2 --workers 3", []),
     ("zero u.wad MAP01 out.wad", ["out.wad"]),
+    ("all u.wad out.wad --report report --workers 1", ["out.wad", "report"]),
+    ("all open.wad out.wad --refused clear --report report --workers 1", ["out.wad", "report"]),
     ("check built.wad MAP01 u.cert", []),
     ("verify built.wad --report report --workers 3", ["report"]),
     ("verify u.wad --report report --workers 1", ["report"]),
@@ -176,6 +178,7 @@ class Folder:
         self.refused(0, [self.program, *"build u.wad MAP01 built.wad --cert u.cert --workers 1".split()])
         self.put("rooms.wad", wad("MAP01", row_of_rooms(128)))
         self.refused(0, [self.program, *"build rooms.wad MAP01 row.wad --cert row.cert --workers 1".split()])
+        self.put("open.wad", wad("MAP01", [(lump, held[14:] if lump == b"LINEDEFS" else held) for lump, held in row_of_rooms(3)]))
         self.put("behind.cert", self.held("u.cert") + bytes(33_554_432))
         shutil.copy(self.path("u.wad"), self.path("a.wad"))
         self.names = set(os.listdir(place))

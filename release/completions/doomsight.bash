@@ -6,6 +6,8 @@ _doomsight() {
         words="$("$program" --help 2>/dev/null | sed -n 's/^  \([a-z][a-z]*\) .*/\1/p') help --help --version"
     elif [ "$before" = --budget ]; then
         words="full enough"
+    elif [ "$before" = --refused ]; then
+        words="keep clear stop"
     elif [[ $now == -* ]]; then
         words="$("$program" "$verb" --help 2>/dev/null | sed -n 's/^  \(--[a-z]*\) .*/\1/p') --help"
     elif [ "$before" = --only ] || { [ "$COMP_CWORD" = 3 ] && [ "$verb" != all ] && [ "$verb" != verify ]; }; then

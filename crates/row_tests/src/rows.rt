@@ -503,29 +503,49 @@ a=SQUARE @14:1:09 | draw a MAP01 b --faults | 8 | refused: bad lump: vertex of l
 /// The order `all`: what it writes and reports, what it refuses, and what stands where something fails.
 const ALL: &str = "\
 # two maps that are built, and one that is refused and keeps its REJECT
-a=PAIR U .6 - +6:MAP02 OPEN =de .12 - +12:MAP03 | all a b --report r | 0 | all maps 3 built 2 refused 1 | b=PAIR =00 U =4400 .6 - +6:MAP02 OPEN =de .12 - +12:MAP03, r=#4d4150303120736574203020636c6561722033206c697374656420300a4d4150303220736574203120636c6561722035206c697374656420300a4d41503033207265667573656420626164206d61703a206f70656e2030520a
+a=PAIR U .6 - +6:MAP02 OPEN =de .12 - +12:MAP03 | all a b --report r | 0 | all maps 3 built 2 refused 1 | b=PAIR =00 U =4400 .6 - +6:MAP02 OPEN =de .12 - +12:MAP03, r=#4d4150303120736574203020636c6561722033206c69737465642030207265706c6163656420302062797465730a4d4150303220736574203120636c6561722035206c69737465642030207265706c6163656420302062797465730a4d41503033207265667573656420626164206d61703a206f70656e203052206b657074207365740a
 a=PAIR U .6 - +6:MAP02 OPEN =de .12 - +12:MAP03 | all a b --workers 3 | 0 | all maps 3 built 2 refused 1 | b=PAIR =00 U =4400 .6 - +6:MAP02 OPEN =de .12 - +12:MAP03, r=
 # no map
 a=#50574144000000000c000000 | all a b --report r | 0 | all maps 0 built 0 refused 0 | b=#50574144000000000c000000, r=#
 # a budget of one sequence, and one that is enough
-a=U | all a b --report r --budget 1 | 0 | all maps 1 built 1 refused 0 | b=U =0000, r=#4d4150303120736574203020636c6561722035206c697374656420310a
+a=U | all a b --report r --budget 1 | 0 | all maps 1 built 1 refused 0 | b=U =0000, r=#4d4150303120736574203020636c6561722035206c69737465642031207265706c6163656420302062797465730a
 a=LINE3 | all a b --budget enough | 0 | all maps 1 built 1 refused 0 | b=LINE3 =0000
 # every pair decided
-a=PAIR U .6 - +6:MAP02 OPEN =de .12 - +12:MAP03 | all a b --exact --report r | 0 | all maps 3 built 2 refused 1 | b=PAIR =00 U =4400 .6 - +6:MAP02 OPEN =de .12 - +12:MAP03, r=#4d4150303120736574203020636c6561722033206c697374656420300a4d4150303220736574203120636c6561722035206c697374656420300a4d41503033207265667573656420626164206d61703a206f70656e2030520a
+a=PAIR U .6 - +6:MAP02 OPEN =de .12 - +12:MAP03 | all a b --exact --report r | 0 | all maps 3 built 2 refused 1 | b=PAIR =00 U =4400 .6 - +6:MAP02 OPEN =de .12 - +12:MAP03, r=#4d4150303120736574203020636c6561722033206c69737465642030207265706c6163656420302062797465730a4d4150303220736574203120636c6561722035206c69737465642030207265706c6163656420302062797465730a4d41503033207265667573656420626164206d61703a206f70656e203052206b657074207365740a
 a=LINE3 | all a b --exact | 0 | all maps 1 built 1 refused 0 | b=LINE3 =0000
 a=LINE3 | all a b --exact --budget enough | 2 | refused: usage | b=
 # of two maps of one name the last; a map in Hexen's format; a map without REJECT, under a name in lower case
 a=SQUARE U | all a b | 0 | all maps 1 built 1 refused 0 | b=SQUARE U =4400
-a=PAIR .1 hexen +6:BEHAVIOR *3 U - .7 - +7:map02 | all a b --report r | 0 | all maps 2 built 2 refused 0 | b=PAIR =00 .1 hexen +6:BEHAVIOR *3 U =4400 .7 - +7:map02, r=#4d4150303120736574203020636c6561722033206c697374656420300a4d4150303220736574203120636c6561722035206c697374656420300a
+a=PAIR .1 hexen +6:BEHAVIOR *3 U - .7 - +7:map02 | all a b --report r | 0 | all maps 2 built 2 refused 0 | b=PAIR =00 .1 hexen +6:BEHAVIOR *3 U =4400 .7 - +7:map02, r=#4d4150303120736574203020636c6561722033206c69737465642030207265706c6163656420302062797465730a4d4150303220736574203120636c6561722035206c69737465642030207265706c6163656420302062797465730a
 # a face of several sectors
-a=SELFREF | all a b --report r | 0 | all maps 1 built 1 refused 0 | b=SELFREF =00, r=#4d4150303120736574203020636c6561722033206c697374656420300a
+a=SELFREF | all a b --report r | 0 | all maps 1 built 1 refused 0 | b=SELFREF =00, r=#4d4150303120736574203020636c6561722033206c69737465642030207265706c6163656420302062797465730a
 # maps that can't be read
-a=SQUARE @14:1:09 | all a b --report r | 0 | all maps 1 built 0 refused 1 | b=SQUARE @14:1:09, r=#4d41503031207265667573656420626164206c756d703a20766572746578206f66206c696e6520300a
-a=SQUARE .1 *229390 | all a b --report r | 0 | all maps 1 built 0 refused 1 | b=SQUARE .1 *229390, r=#4d415030312072656675736564206c696d69743a206c696e65730a
-a=OPEN | all a b --report r | 0 | all maps 1 built 0 refused 1 | b=OPEN, r=#4d41503031207265667573656420626164206d61703a206f70656e2030520a
+a=SQUARE @14:1:09 | all a b --report r | 0 | all maps 1 built 0 refused 1 | b=SQUARE @14:1:09, r=#4d41503031207265667573656420626164206c756d703a20766572746578206f66206c696e652030206b65707420636c6561720a
+a=SQUARE .1 *229390 | all a b --report r | 0 | all maps 1 built 0 refused 1 | b=SQUARE .1 *229390, r=#4d415030312072656675736564206c696d69743a206c696e6573206b65707420636c6561720a
+a=OPEN | all a b --report r | 0 | all maps 1 built 0 refused 1 | b=OPEN, r=#4d41503031207265667573656420626164206d61703a206f70656e203052206b65707420636c6561720a
+# what is done of a refused map: a clear table in place of the one that it has, or nothing at all
+a=PAIR U .6 - +6:MAP02 OPEN =de .12 - +12:MAP03 | all a b --refused clear --report r | 0 | all maps 3 built 2 refused 1 cleared 1 | b=PAIR =00 U =4400 .6 - +6:MAP02 OPEN =00 .12 - +12:MAP03, r=#4d4150303120736574203020636c6561722033206c69737465642030207265706c6163656420302062797465730a4d4150303220736574203120636c6561722035206c69737465642030207265706c6163656420302062797465730a4d41503033207265667573656420626164206d61703a206f70656e20305220636c65617265640a
+a=PAIR U .6 - +6:MAP02 OPEN =de .12 - +12:MAP03 | all a b --refused keep --report r | 0 | all maps 3 built 2 refused 1 | b=PAIR =00 U =4400 .6 - +6:MAP02 OPEN =de .12 - +12:MAP03, r=#4d4150303120736574203020636c6561722033206c69737465642030207265706c6163656420302062797465730a4d4150303220736574203120636c6561722035206c69737465642030207265706c6163656420302062797465730a4d41503033207265667573656420626164206d61703a206f70656e203052206b657074207365740a
+a=PAIR U .6 - +6:MAP02 OPEN =de .12 - +12:MAP03 | all a b --refused stop --report r | 10 | refused: bad map: open 0R | b=, r=
+a=PAIR U .6 - +6:MAP02 | all a b --refused stop --report r | 0 | all maps 2 built 2 refused 0 | b=PAIR =00 U =4400 .6 - +6:MAP02, r=#4d4150303120736574203020636c6561722033206c69737465642030207265706c6163656420302062797465730a4d4150303220736574203120636c6561722035206c69737465642030207265706c6163656420302062797465730a
+a=PAIR U .6 - +6:MAP02 | all a b --refused clear | 0 | all maps 2 built 2 refused 0 cleared 0 | b=PAIR =00 U =4400 .6 - +6:MAP02
+# one whose sectors can't be counted keeps its table; the first that is refused stops all
+a=SQUARE =de @14:1:09 | all a b --refused clear --report r | 0 | all maps 1 built 0 refused 1 cleared 0 | b=SQUARE =de @14:1:09, r=#4d41503031207265667573656420626164206c756d703a20766572746578206f66206c696e652030206b657074207365740a
+a=SQUARE .1 *229390 | all a b --refused clear | 0 | all maps 1 built 0 refused 1 cleared 0 | b=SQUARE .1 *229390
+a=SQUARE .1 *229390 | all a b --refused=stop | 9 | refused: limit: lines | b=
+a=CROSSED OPEN .6 - +6:MAP02 | all a b --refused stop | 10 | refused: bad map: cross 3 4 | b=
+a=CROSSED OPEN .6 - +6:MAP02 | all a b --refused stop --only MAP02 | 10 | refused: bad map: open 0R | b=
+# a map without REJECT gets one, and a table of another length makes way
+a=OPEN - | all a b --refused clear | 0 | all maps 1 built 0 refused 1 cleared 1 | b=OPEN =00
+a=OPEN =dedede | all a b --refused clear | 0 | all maps 1 built 0 refused 1 cleared 1 | b=OPEN =00
+# how many bits a table changes
+a=U =0000 | all a b --report r | 0 | all maps 1 built 1 refused 0 | b=U =4400, r=#4d4150303120736574203120636c6561722035206c69737465642030206368616e67656420320a
+a=U =4400 | all a b --report r | 0 | all maps 1 built 1 refused 0 | b=U =4400, r=#4d4150303120736574203120636c6561722035206c69737465642030206368616e67656420300a
+a=U =bbff | all a b --report r | 0 | all maps 1 built 1 refused 0 | b=U =4400, r=#4d4150303120736574203120636c6561722035206c69737465642030206368616e6765642031360a
+a=U =44 | all a b --report r | 0 | all maps 1 built 1 refused 0 | b=U =4400, r=#4d4150303120736574203120636c6561722035206c69737465642030207265706c6163656420312062797465730a
 # some of the maps, each once and in the order of their entries; all others keep their REJECT
-a=PAIR U .6 - +6:MAP02 OPEN =de .12 - +12:MAP03 | all a b --only MAP02 --report r | 0 | all maps 1 built 1 refused 0 | b=PAIR U =4400 .6 - +6:MAP02 OPEN =de .12 - +12:MAP03, r=#4d4150303220736574203120636c6561722035206c697374656420300a
-a=PAIR U .6 - +6:MAP02 OPEN =de .12 - +12:MAP03 | all a b --only map03,MAP01 --report r | 0 | all maps 2 built 1 refused 1 | b=PAIR =00 U .6 - +6:MAP02 OPEN =de .12 - +12:MAP03, r=#4d4150303120736574203020636c6561722033206c697374656420300a4d41503033207265667573656420626164206d61703a206f70656e2030520a
+a=PAIR U .6 - +6:MAP02 OPEN =de .12 - +12:MAP03 | all a b --only MAP02 --report r | 0 | all maps 1 built 1 refused 0 | b=PAIR U =4400 .6 - +6:MAP02 OPEN =de .12 - +12:MAP03, r=#4d4150303220736574203120636c6561722035206c69737465642030207265706c6163656420302062797465730a
+a=PAIR U .6 - +6:MAP02 OPEN =de .12 - +12:MAP03 | all a b --only map03,MAP01 --report r | 0 | all maps 2 built 1 refused 1 | b=PAIR =00 U .6 - +6:MAP02 OPEN =de .12 - +12:MAP03, r=#4d4150303120736574203020636c6561722033206c69737465642030207265706c6163656420302062797465730a4d41503033207265667573656420626164206d61703a206f70656e203052206b657074207365740a
 a=PAIR | all a --only=MAP01,map01 b | 0 | all maps 1 built 1 refused 0 | b=PAIR =00
 # the first name that is no map's
 a=PAIR U .6 - +6:MAP02 OPEN =de .12 - +12:MAP03 | all a b --only MAP01,MAP04 --report r | 7 | refused: no map: no marker | b=, r=
@@ -534,7 +554,7 @@ a=PAIR | all a b --only MAP04,LINEDEFS | 7 | refused: no map: no marker | b=
 a=PAIR +1:THINGS | all a b --only THINGS | 7 | refused: no map: no marker | b=
 a=PAIR +1:THINGS | zero a THINGS b | 0 | zero THINGS sectors 2 bytes 1
 # a map of UDMF stays
-a=PAIR +6:MAP02 +7:TEXTMAP *20 +8:ENDMAP U .9 - +9:MAP03 | all a b --report r | 0 | all maps 2 built 2 refused 0 | b=PAIR =00 +6:MAP02 +7:TEXTMAP *20 +8:ENDMAP U =4400 .9 - +9:MAP03, r=#4d4150303120736574203020636c6561722033206c697374656420300a4d4150303320736574203120636c6561722035206c697374656420300a
+a=PAIR +6:MAP02 +7:TEXTMAP *20 +8:ENDMAP U .9 - +9:MAP03 | all a b --report r | 0 | all maps 2 built 2 refused 0 | b=PAIR =00 +6:MAP02 +7:TEXTMAP *20 +8:ENDMAP U =4400 .9 - +9:MAP03, r=#4d4150303120736574203020636c6561722033206c69737465642030207265706c6163656420302062797465730a4d4150303320736574203120636c6561722035206c69737465642030207265706c6163656420302062797465730a
 a=PAIR +6:MAP02 +7:TEXTMAP *20 +8:ENDMAP U .9 - +9:MAP03 | all a b --only MAP02 | 7 | refused: no map: missing LINEDEFS | b=
 # refusals of the whole run
 a=#50574158000000000c000000 | all a b --report r | 6 | refused: not a wad: bad magic | b=, r=
@@ -545,8 +565,8 @@ b=PAIR | all a b | 3 | refused: no file wad | b=PAIR
 a=PAIR, reads=1 | all a b --report r | 4 | refused: read fault wad | b=, r=
 a=U, creates=0 | all a b --report r | 5 | refused: write fault wad | b=, r=
 a=U, creates=1 | all a b --report r | 5 | refused: write fault report | b=U =4400, r=
-a=U, appends=1 | all a b --report r | 5 | refused: write fault report | b=U =4400, r=#4d4150303120736574203120636c
-a=U, puts=0 | all a b --report r | 5 | all maps 1 bui~ | b=U =4400, r=#4d4150303120736574203120636c6561722035206c697374656420300a
+a=U, appends=1 | all a b --report r | 5 | refused: write fault report | b=U =4400, r=#4d4150303120736574203120636c6561722035206c6973
+a=U, puts=0 | all a b --report r | 5 | all maps 1 bui~ | b=U =4400, r=#4d4150303120736574203120636c6561722035206c69737465642030207265706c6163656420302062797465730a
 # words and names
 a=U | all a | 2 | refused: usage
 a=U | all a MAP01 b | 2 | refused: usage | b=
@@ -554,6 +574,10 @@ a=U | all a b --cert c | 2 | refused: usage | b=, c=
 a=U | all a b --workers 0 | 2 | refused: usage | b=
 a=U | all a b --workers 65 | 2 | refused: usage | b=
 a=U | all a b --hexen | 2 | refused: usage | b=
+a=U | all a b --refused | 2 | refused: usage | b=
+a=U | all a b --refused never | 2 | refused: usage | b=
+a=U | build a MAP01 b --refused clear | 2 | refused: usage | b=
+a=U | zero a MAP01 b --refused clear | 2 | refused: usage | b=
 a=U | all a b --only | 2 | refused: usage | b=
 a=U | all a b --only= | 2 | refused: usage | b=
 a=U | all a b --only MAP01, | 2 | refused: usage | b=

@@ -63,7 +63,7 @@ use Rattle.sight_run.specs.Obeys.{AnswersAsked, IsAnswer}
 use Rattle.sight_run.specs.Run.{IsBrokenBy, RunEnds, StandsUpTo, put_all}
 use Rattle.whole_wad.specs.Sizes.{sizes_of_map}
 use Rattle.map_answers.specs.Sound.{OnSoundLines}
-use Rattle.sight_run.specs.Zero.{table_len}
+use Rattle.whole_wad.specs.Rejects.{table_len}
 use Rattle.run_laws.specs.Laws.{BuiltIsChecked, BuiltRunIsChecked, ChecksYes, HaveBoth, IsShort, SaysYes, Sinks, totals_of}
 use Rattle.sight_run.proofs.Round.{IsFoundAgain, found_again, found_then, same_ok}
 use Rattle.sight_run.proofs.Stood.{IsOther, before_report, bytes_of, cert_apart, of_words, out_apart, under_cert, under_out}

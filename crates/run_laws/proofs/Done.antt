@@ -28,6 +28,7 @@ use Rattle.sight_run.specs.Draw.{DrawCalls}
 use Rattle.sight_run.specs.All.{AllCalls, MapsCall, OnRead}
 use Rattle.sight_run.specs.Build.{BuildCalls}
 use Rattle.sight_run.specs.Heard.{Heard}
+use Rattle.refused_maps.specs.declared.Refused.{Refused}
 use Rattle.run_laws.specs.Laws.{AllIsDone, BuildIsDone, DrawnPairIsDone, EndsAll, EndsBuild, EndsPair, WhyIsDone}
 use Rattle.sight_run.specs.Obeys.{AnswersAsked, IsAnswer}
 use Rattle.sight_run.specs.Run.{NothingRose, RunEnds, StatusCause}
@@ -87,23 +88,23 @@ build_is_done words wad name out asked report workers method went found is_asked
 
 -- ---- all
 
-of_wad : (out : List ℕ) (report : Option (List ℕ)) (large : Bool) (maps : List (List ℕ)) (method : Method) (w : WadFile) (s : Status) → MapsCall out report large maps method w (Err s) → EndsAll large maps method w s
-of_wad out report large maps method w (status.Limit bound.Lumps) q = q
-of_wad out report large maps method w (status.Limit bound.OutputBytes) q = q
-of_wad out report large maps method w s q = absurd q
+of_wad : (out : List ℕ) (report : Option (List ℕ)) (large : Bool) (maps : List (List ℕ)) (method : Method) (choice : Refused) (w : WadFile) (s : Status) → MapsCall out report large maps method choice w (Err s) → EndsAll large maps method choice w s
+of_wad out report large maps method choice w status.Done q = tt
+of_wad out report large maps method choice w status.Memory q = tt
+of_wad out report large maps method choice w s q = q
 
-all_right : (out : List ℕ) (report : Option (List ℕ)) (large : Bool) (maps : List (List ℕ)) (method : Method) (w : WadFile) (answer : Answer) → MapsCall out report large maps method w (Ok answer) → answer.right ≡ true
-all_right out report large maps method w answer q = ap (λ (a : Answer). a.right) q.is
+all_right : (out : List ℕ) (report : Option (List ℕ)) (large : Bool) (maps : List (List ℕ)) (method : Method) (choice : Refused) (w : WadFile) (answer : Answer) → MapsCall out report large maps method choice w (Ok answer) → answer.right ≡ true
+all_right out report large maps method choice w answer q = ap (λ (a : Answer). a.right) q.is
 
 pub all_is_done : AllIsDone
 unfolding Refuses AreRight
-all_is_done words wad out only report workers method went w maps is_asked is_wad is_found well = elim (refuses words went.files went.heard went.before went.after went.sink.old went.sink.new went.status (λ answer q. all_right out report wad.large maps method w answer (subst (λ (r : Result (List (List ℕ)) Status). OnRead r (λ ms. MapsCall out report wad.large ms method w) (Ok answer)) is_found
-    (subst (λ (r : Result WadFile Status). OnRead r (AllCalls out wad.large only report method) (Ok answer)) is_wad (subst (λ r. AnswersAsked r went.files went.heard (Ok answer)) is_asked q)))) well.quiet well.ends well.cause) as (λ _. EndsAll wad.large maps method w went.status) [
-      | inl e ↦ subst (EndsAll wad.large maps method w) (sym e) tt
-      | inr (inl e) ↦ subst (EndsAll wad.large maps method w) (sym e) tt
-      | inr (inr q) ↦ of_wad out report wad.large maps method w went.status
-          (subst (λ (r : Result (List (List ℕ)) Status). OnRead r (λ ms. MapsCall out report wad.large ms method w) (Err went.status)) is_found
-          (subst (λ (r : Result WadFile Status). OnRead r (AllCalls out wad.large only report method) (Err went.status)) is_wad (subst (λ r. AnswersAsked r went.files went.heard (Err went.status)) is_asked q)))
+all_is_done words wad out only report workers method choice went w maps is_asked is_wad is_found well = elim (refuses words went.files went.heard went.before went.after went.sink.old went.sink.new went.status (λ answer q. all_right out report wad.large maps method choice w answer (subst (λ (r : Result (List (List ℕ)) Status). OnRead r (λ ms. MapsCall out report wad.large ms method choice w) (Ok answer)) is_found
+    (subst (λ (r : Result WadFile Status). OnRead r (AllCalls out wad.large only report method choice) (Ok answer)) is_wad (subst (λ r. AnswersAsked r went.files went.heard (Ok answer)) is_asked q)))) well.quiet well.ends well.cause) as (λ _. EndsAll wad.large maps method choice w went.status) [
+      | inl e ↦ subst (EndsAll wad.large maps method choice w) (sym e) tt
+      | inr (inl e) ↦ subst (EndsAll wad.large maps method choice w) (sym e) tt
+      | inr (inr q) ↦ of_wad out report wad.large maps method choice w went.status
+          (subst (λ (r : Result (List (List ℕ)) Status). OnRead r (λ ms. MapsCall out report wad.large ms method choice w) (Err went.status)) is_found
+          (subst (λ (r : Result WadFile Status). OnRead r (AllCalls out wad.large only report method choice) (Err went.status)) is_wad (subst (λ r. AnswersAsked r went.files went.heard (Err went.status)) is_asked q)))
     ]
 
 -- ---- two sectors

@@ -33,7 +33,8 @@ pub fn builds_leave_one_wad()
 {}
 
 /// Where `all` ended with Done, each map whose faces are closed was built, and no other. The name of each finds the same map in
-/// the WAD under OUT, and there its REJECT is as a `build` by the same method leaves it.
+/// the WAD under OUT, and there its REJECT is as a `build` by the same method leaves it. Where clear tables are chosen for refused
+/// maps, each of them that was read has one there; where a refusal stops all, no map was refused.
 pub fn all_is_right()
     ensures { AllIsRight }
 {}

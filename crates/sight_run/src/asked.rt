@@ -22,13 +22,15 @@ use sight_names::{Items, MapFault};
 use std::alloc::{AllocError, Global};
 use wad_dir::all_maps::{fault_of, maps};
 use wad_dir::{Wad, is_same_name};
+use whole_wad::Notice;
 
-/// Why the first of these names that is none of a map's isn't one.
-fn first_fault(wad: &Wad, only: &[Text]) -> Option<MapFault>
+/// Why the first of these names that is none of a map's isn't one. The notice is told the name.
+fn first_fault<N: Notice>(wad: &Wad, only: &[Text], notice: &N) -> Option<MapFault>
     ensures { result ≡ first_fault (entry_names wad.now.entries) only.now }
 {
     for name in only {
         if let Some(fault) = fault_of(wad, name.as_str()) {
+            notice.miss(name.as_str());
             return Some(fault);
         }
     }
@@ -60,10 +62,11 @@ fn asked_among(alloc: Global, maps: &[[u8; 8]], only: &[Text]) -> Result<Vec<[u8
 }
 
 /// The names of the maps that are to be built, in the order of their entries.
-pub fn asked_maps(
+pub fn asked_maps<N: Notice>(
     alloc: Global,
     wad: &Wad,
     only: &Option<Items<Text>>,
+    notice: &N,
 ) -> Result<Vec<[u8; 8]>, Status>
     ensures maps { Makes (λ maps. maps.items) result (maps_in (entry_names wad.now.entries) only.now) }
     ensures refusals { IfErr result (IsOfNames only.now) }
@@ -76,7 +79,7 @@ pub fn asked_maps(
         return Ok(all);
     };
     let only = only.as_slice();
-    if let Some(fault) = first_fault(wad, only) {
+    if let Some(fault) = first_fault(wad, only, notice) {
         return Err(Status::NoMap(fault));
     }
     match asked_among(alloc, &all, only) {
@@ -94,11 +97,12 @@ pub struct ReadMaps {
 }
 
 /// The maps that are asked for of the WAD in a file. All files stay.
-pub fn read_asked<S: Shelf>(
+pub fn read_asked<S: Shelf, N: Notice>(
     alloc: Global,
     shelf: &mut S,
     wad: &str,
     only: &Option<Items<Text>>,
+    notice: &N,
 ) -> Result<ReadMaps, Status>
     ensures told { (files : Files) → (S.state shelf.old).files ≡ Some files → Makes asked_seen result (asked_in wad.now only.now files) }
     ensures files { (S.state shelf.new).files ≡ (S.state shelf.old).files }
@@ -112,6 +116,6 @@ pub fn read_asked<S: Shelf>(
 {
     let bytes = fetch_wad(alloc, shelf, wad)?;
     let wad = directory(alloc, &bytes)?;
-    let maps = asked_maps(alloc, &wad, only)?;
+    let maps = asked_maps(alloc, &wad, only, notice)?;
     Ok(ReadMaps { bytes, wad, maps })
 }

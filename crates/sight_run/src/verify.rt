@@ -104,7 +104,7 @@ pub fn do_verify<R: Threads + Sync, S: Shelf, G: Gate + Sync, N: Notice>(
     ensures refusals { IfErr result (IsOfAsked only.now) }
     ensures roles { IfOk result (λ reply. roles_of (writes reply) ≡ report_roles report.now) }
 {
-    let asked = read_asked(alloc, shelf, source.file.as_str(), only)?;
+    let asked = read_asked(alloc, shelf, source.file.as_str(), only, notice)?;
     match verdict_on(
         rt,
         alloc,

@@ -93,7 +93,11 @@ pub enum Status {
 pub fn done_as(right: bool) -> Status
     ensures { result ≡ done_as right }
 {
-    if right { Status::Done } else { Status::NotRight }
+    if right {
+        Status::Done
+    } else {
+        Status::NotRight
+    }
 }
 
 /// The exit status of the program.
