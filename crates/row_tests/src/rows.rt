@@ -639,6 +639,7 @@ a=U | verify a b | 2 | refused: usage | a=U, b=, c=
 a=U | verify a MAP01 | 2 | refused: usage | a=U, b=, c=
 a=U | verify a --exact | 2 | refused: usage | a=U, b=, c=
 a=U | verify a --budget full | 2 | refused: usage | a=U, b=, c=
+a=U | verify a --refused keep | 2 | refused: usage | a=U, b=, c=
 a=U | verify a --cert c | 2 | refused: usage | a=U, b=, c=
 a=U | verify a --hexen | 2 | refused: usage | a=U, b=, c=
 a=U | verify a --faults | 2 | refused: usage | a=U, b=, c=

@@ -187,6 +187,7 @@ verify '' | 2
 verify a --exact | 3
 verify a --budget full | 3
 verify a --cert c | 3
+verify a --refused keep | 3
 verify a --only MAP01, | 4
 verify a --workers 65 | 4
 --exact verify | 2
