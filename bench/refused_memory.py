@@ -106,15 +106,19 @@ __attribute__((constructor)) static void begin(void) {
 OLD = b"what was there before"
 ROLES = {"wad": "out.wad", "cert": "new.cert", "report": "report", "picture": "out.svg"}
 
-# The words of each verb, and its outputs in order. `u.wad` has no table, `built.wad` and `u.cert` are those of a build of it. The certificate of
-# a row of rooms is longer than a piece that is read; that of U with bytes behind it has more than 500 pieces.
+# The words of each verb, and its outputs in order. `u.wad` has no table, `built.wad` and `u.cert` are those of a build of it. In `open.wad` a line
+# is missing. The certificate of a row of rooms is longer than a piece that is read; that of U with bytes behind it has more than 500 pieces.
 ORDERS = [
     ("build u.wad MAP01 out.wad --cert new.cert --report report --workers 3", ["out.wad", "new.cert", "report"]),
     ("build u.wad MAP01 out.wad --cert new.cert --report report --workers 1", ["out.wad", "new.cert", "report"]),
     ("build u.wad MAP01 out.wad --budget 1", ["out.wad"]),
     ("grid 2 --workers 3", []),
     ("zero u.wad MAP01 out.wad", ["out.wad"]),
+    ("all u.wad out.wad --report report --workers 1", ["out.wad", "report"]),
+    ("all open.wad out.wad --refused clear --report report --workers 1", ["out.wad", "report"]),
     ("check built.wad MAP01 u.cert", []),
+    ("verify built.wad --report report --workers 3", ["report"]),
+    ("verify u.wad --report report --workers 1", ["report"]),
     ("check row.wad MAP01 row.cert", []),
     ("check built.wad MAP01 behind.cert", []),
     ("audit u.wad MAP01", []),
@@ -144,6 +148,7 @@ ONE_FILE = [
     ("build a.wad MAP01 gone.wad --cert ./gone.wad --workers 1", []),
     ("all a.wad out.wad --report ./a.wad --workers 1", ["out.wad"]),
     ("all a.wad out.wad --report ./out.wad --workers 1", ["out.wad"]),
+    ("verify a.wad --report ./a.wad --workers 1", []),
 ]
 
 # Orders in which an output has the name that the new file of another one would have first, and what comes of them.
@@ -173,6 +178,7 @@ class Folder:
         self.refused(0, [self.program, *"build u.wad MAP01 built.wad --cert u.cert --workers 1".split()])
         self.put("rooms.wad", wad("MAP01", row_of_rooms(128)))
         self.refused(0, [self.program, *"build rooms.wad MAP01 row.wad --cert row.cert --workers 1".split()])
+        self.put("open.wad", wad("MAP01", [(lump, held[14:] if lump == b"LINEDEFS" else held) for lump, held in row_of_rooms(3)]))
         self.put("behind.cert", self.held("u.cert") + bytes(33_554_432))
         shutil.copy(self.path("u.wad"), self.path("a.wad"))
         self.names = set(os.listdir(place))
@@ -243,10 +249,12 @@ class Folder:
         whole = lambda names: all(self.is_whole(words, bytes_of, name) for name in names)
         if not base.errors.startswith(run.errors):
             return None
+        # a verdict that isn't right comes with its report
+        writes = base.status == 0 or words.startswith("verify ")
         if run.status == 12:
             return "memory" if untouched and not run.line else None
         if run.status == base.status and run.line == base.line:
-            return "done" if (whole(outputs) if base.status == 0 else untouched) else None
+            return "done" if (whole(outputs) if writes else untouched) else None
         if run.status == 4 and run.line in (b"refused: read fault wad\n", b"refused: read fault cert\n"):
             return "read fault" if untouched else None
         if run.status != 5:
@@ -257,7 +265,7 @@ class Folder:
                 renamed = whole(outputs[:at]) and all(self.held(other) == OLD for other in outputs[at:])
                 return "write fault" if untouched or renamed else None
         if base.line.startswith(run.line):
-            return "write fault" if (whole(outputs) if base.status == 0 else untouched) else None
+            return "write fault" if (whole(outputs) if writes else untouched) else None
         return None
 
 

@@ -6,9 +6,11 @@ _doomsight() {
         words="$("$program" --help 2>/dev/null | sed -n 's/^  \([a-z][a-z]*\) .*/\1/p') help --help --version"
     elif [ "$before" = --budget ]; then
         words="full enough"
+    elif [ "$before" = --refused ]; then
+        words="keep clear stop"
     elif [[ $now == -* ]]; then
         words="$("$program" "$verb" --help 2>/dev/null | sed -n 's/^  \(--[a-z]*\) .*/\1/p') --help"
-    elif [ "$before" = --only ] || { [ "$COMP_CWORD" = 3 ] && [ "$verb" != all ]; }; then
+    elif [ "$before" = --only ] || { [ "$COMP_CWORD" = 3 ] && [ "$verb" != all ] && [ "$verb" != verify ]; }; then
         words=$(grep -aoE 'MAP[0-9][0-9]|E[0-9]M[0-9]' -- "${COMP_WORDS[2]}" 2>/dev/null | sort -u)
     fi
     mapfile -t COMPREPLY < <(compgen -W "$words" -- "$now")

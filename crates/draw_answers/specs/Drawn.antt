@@ -1,5 +1,5 @@
 -- What is drawn, as plain data, and as the answer of an order that writes it.
-use Rattle.std.specs.Prelude.{◌≡◌, ℕ, List, [], ◌∷◌, Result, Ok, Err, string_bytes, ⊤}
+use Rattle.std.specs.Prelude.{◌≡◌, ℕ, true, List, [], ◌∷◌, Result, Ok, Err, string_bytes, ⊤}
 use Rattle.sight_names.specs.declared.names.Memory.{Memory}
 use Rattle.map_answers.specs.declared.sight_status.status.Role.TheVariants as role
 use Rattle.map_answers.specs.declared.sight_status.status.Status.{Status}
@@ -18,7 +18,7 @@ drawing d = record { bytes = d.picture.items; line = string_bytes d.line }
 
 -- the answer that writes the picture under this name
 abbrev pub one_picture : List ℕ → Drawing → Answer
-one_picture out d = record { writes = record { role = role.Picture; name = out; bytes = d.bytes } ∷ []; line = d.line }
+one_picture out d = record { writes = record { role = role.Picture; name = out; bytes = d.bytes } ∷ []; line = d.line; right = true }
 
 -- what was drawn, or the refusal, as an answer that writes the picture under this name
 abbrev pub drawn_answer : List ℕ → Result Drawn Status → Result Answer Status

@@ -3,7 +3,7 @@
 mod status;
 mod texts;
 
-pub use status::{Bound, Flaw, Role, Status, Why, code};
+pub use status::{Bound, Flaw, Role, Status, Why, code, done_as};
 pub use texts::{
     line_of, push_count, push_count_line, push_number, push_pair_line, push_reason, push_text,
     put_line, put_refusal,

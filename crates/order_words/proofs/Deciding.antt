@@ -14,7 +14,7 @@ use Rattle.order_words.specs.declared.words.BuildChoices.{BuildChoices}
 use Rattle.order_words.specs.Values.{◌>>=◌, is_file, is_map, upper, ray_of, pair_of, sector_of, rooms_of}
 use Rattle.order_words.specs.Command.{refusals_of, rows_in}
 use Rattle.order_words.specs.Laws.{AsksWithoutBound, GivesNoBudget, bound_of}
-use Rattle.order_words.specs.Words.{Said, said_with, is_given, is_plain, has_bound_alone, given_bound, given_method, given_workers, source_of, zero_of, ray_order_of, audit_of, trace_of, check_of, need_of, sound_with, sound_of, why_within, why_of, view_of, draw_with, choices_of, build_of, all_order_of, grid_of, plain_order_of, order_said, order_in_rows, unless_refused, order_of}
+use Rattle.order_words.specs.Words.{Said, said_with, is_given, is_plain, has_bound_alone, given_bound, given_method, given_workers, source_of, zero_of, ray_order_of, audit_of, trace_of, check_of, need_of, sound_with, sound_of, why_within, why_of, view_of, draw_with, choices_of, build_of, all_order_of, may_be_one, verify_with, grid_of, plain_order_of, order_said, order_in_rows, unless_refused, order_of}
 
 -- what comes of a choice, of a value that is taken on, and of one that is turned into another
 if_some : {A : Type 0} (P : A → Type 0) (b : Bool) (x y : Option A) → IfSome x P → IfSome y P → IfSome (if b then x else y) P
@@ -82,16 +82,20 @@ plain_asks s =
     (if_some Unbounded (bytes_eq s.verb (codes "sound")) _ _ (sound_asks (is_given s.large) s.rest) tt))))))
 
 build_asks : (large : Bool) (rest : List Text) (c : BuildChoices) → IfSome (build_of large rest c) Unbounded
-build_asks large (wad ∷ name ∷ out ∷ []) c = if_some Unbounded (is_none c.only && is_file wad && is_map name && is_file out) _ _ tt tt
+build_asks large (wad ∷ name ∷ out ∷ []) c = if_some Unbounded (may_be_one c && is_file wad && is_map name && is_file out) _ _ tt tt
 build_asks large rest c = tt
 
 all_asks : (large : Bool) (rest : List Text) (c : BuildChoices) → IfSome (all_order_of large rest c) Unbounded
 all_asks large (wad ∷ out ∷ []) c = if_some Unbounded (is_none c.cert && is_file wad && is_file out) _ _ tt tt
 all_asks large rest c = tt
 
+verify_asks : (large : Bool) (rest : List Text) (c : BuildChoices) → IfSome (verify_with large rest c) Unbounded
+verify_asks large (wad ∷ []) c = if_some Unbounded (is_none c.cert && is_none c.refused && is_file wad) _ _ tt tt
+verify_asks large rest c = tt
+
 grid_asks : (s : Said) (rest : List Text) → IfSome (grid_of s rest) Unbounded
 grid_asks s (word ∷ []) =
-    if_some Unbounded (is_some s.cert || is_some s.report || is_some s.only || is_given s.large || is_given s.faults) _ _ tt
+    if_some Unbounded (is_some s.cert || is_some s.report || is_some s.only || is_some s.refused || is_given s.large || is_given s.faults) _ _ tt
     (then_some Unbounded (rooms_of word) _ (λ n. then_some Unbounded (given_workers 4 s.workers) _ (λ workers. then_some Unbounded (given_method (is_given s.exact) s.budget) _ (λ method. tt))))
 grid_asks s rest = tt
 
@@ -134,7 +138,8 @@ said_asks s none =
     (if_some Unbounded (bytes_eq s.verb (codes "build")) _ _ (then_some Unbounded (choices_of s) _ (build_asks (is_given s.large) s.rest))
     (if_some Unbounded (bytes_eq s.verb (codes "all")) _ _ (then_some Unbounded (choices_of s) _ (all_asks (is_given s.large) s.rest))
     (if_some Unbounded (bytes_eq s.verb (codes "why")) _ _ (two_ask s none)
-    (if_some Unbounded (is_plain s) _ _ (plain_asks s) tt)))))))
+    (if_some Unbounded (bytes_eq s.verb (codes "verify")) _ _ (if_some Unbounded (is_none s.budget && not (is_given s.exact)) _ _ (then_some Unbounded (choices_of s) _ (verify_asks (is_given s.large) s.rest)) tt)
+    (if_some Unbounded (is_plain s) _ _ (plain_asks s) tt))))))))
 
 rows_ask : (rows : List Row) → first_of (codes "budget") rows ≡ None → IfSome (order_in_rows rows) Unbounded
 unfolding order_in_rows

@@ -4,4 +4,5 @@ pub mod laws;
 mod lines;
 mod said;
 
+pub use lines::push_ray;
 pub use said::judge_why;

@@ -16,10 +16,10 @@ mod words;
 use answers::{answer, question_in};
 use map_answers::sight_status::put_refusal;
 use order_words::{Order, Source, read_words};
-use progress::Progress;
+use progress::{Progress, refuses_size};
 use runs::run_words;
 use shelf_io::{DiskShelf, Sink, StdSink};
-use sight_run::{Bound, Status, code};
+use sight_run::{Status, code};
 use std::alloc::{AllocError, Global};
 use std::env::Env;
 use std::io::IsTerminal;
@@ -43,6 +43,7 @@ fn source_of(order: &Order) -> Option<&Source> {
         | Order::Audit { wad, .. }
         | Order::Trace { wad, .. }
         | Order::Check { wad, .. }
+        | Order::Verify { wad, .. }
         | Order::Build { wad, .. }
         | Order::Need { wad, .. }
         | Order::Sound { wad, .. }
@@ -51,14 +52,6 @@ fn source_of(order: &Order) -> Option<&Source> {
         | Order::All { wad, .. } => Some(wad),
         Order::Grid { .. } => None,
     }
-}
-
-/// Whether a limit of a map's size refused it.
-fn refuses_size(status: &Status) -> bool {
-    matches!(
-        status,
-        Status::Limit(Bound::Points | Bound::Lines | Bound::Sectors)
-    )
 }
 
 /// Does what the words ask of the files of the machine. Where a limit of a map's size refused it, standard error names the option of
@@ -73,7 +66,7 @@ fn obey<R: Files + Threads + Sync + AllocGlobal, O: Sink, P: Print>(
     let mut is_all = false;
     let mut may_be_large = false;
     if let Ok(order) = read_words(alloc, words) {
-        is_all = matches!(&order, Order::All { .. });
+        is_all = matches!(&order, Order::All { .. } | Order::Verify { .. });
         may_be_large = source_of(&order).is_some_and(|wad| !wad.large);
     }
     let mut shelf = DiskShelf::new(rt);

@@ -1,23 +1,26 @@
 //! What is told of the maps while all maps of a WAD are built, and behind a run.
 
 use crate::usage::print_larger_limits;
-use sight_run::Notice;
+use sight_run::{Bound, Fate, Notice, Status};
 use std::cell::Cell;
 
-/// Shows which maps are done, where a terminal shows it, and always which ones aren't read. What can't be shown changes nothing.
+/// Shows which maps are done, where a terminal shows it, and always which ones are refused, aren't read or aren't there. What can't
+/// be shown changes nothing.
 #[derive(Drop)]
 pub struct Progress<P: Print> {
     to: P,
     is_terminal: bool,
     has_told: Cell<bool>,
     has_refused_size: Cell<bool>,
+    has_kept: Cell<bool>,
 }
 
-// A map's line says that a limit of its size refuses it.
-fn refuses_size(line: &str) -> bool {
-    line.ends_with(" refused limit: points\n")
-        || line.ends_with(" refused limit: lines\n")
-        || line.ends_with(" refused limit: sectors\n")
+/// Whether a limit of a map's size refused it.
+pub fn refuses_size(status: &Status) -> bool {
+    matches!(
+        status,
+        Status::Limit(Bound::Points | Bound::Lines | Bound::Sectors)
+    )
 }
 
 impl<P: Print> Progress<P> {
@@ -27,13 +30,19 @@ impl<P: Print> Progress<P> {
             is_terminal,
             has_told: Cell::new(false),
             has_refused_size: Cell::new(false),
+            has_kept: Cell::new(false),
         }
     }
 
-    /// Says so where it was told of no map.
+    /// Says so where it was told of no map, and where a map that is refused keeps bits that may be wrong by now.
     pub fn end(&self) {
         if !self.has_told.get() {
             let _ = self.to.println("no map of Doom's or Hexen's format");
+        }
+        if self.has_kept.get() {
+            let _ = self.to.println(
+                "doomsight: a kept table may be wrong by now; --refused clear writes a clear one",
+            );
         }
     }
 
@@ -53,13 +62,25 @@ impl<P: Print> Notice for Progress<P> {
         let _ = println!(self.to; "{name}: a UDMF map, which isn't read");
     }
 
+    fn miss(&self, name: &str) {
+        let _ = println!(self.to; "{name}: no such map");
+    }
+
     fn tell(&self, line: &str) {
         self.has_told.set(true);
-        if refuses_size(line) {
-            self.has_refused_size.set(true);
-        }
         if self.is_terminal {
             let _ = self.to.write_all(line.as_bytes());
         }
+    }
+
+    fn refuse(&self, line: &str, refusal: Status, fate: &Fate) {
+        self.has_told.set(true);
+        if refuses_size(&refusal) {
+            self.has_refused_size.set(true);
+        }
+        if matches!(fate, Fate::KeptSet) {
+            self.has_kept.set(true);
+        }
+        let _ = self.to.write_all(line.as_bytes());
     }
 }

@@ -3,7 +3,7 @@
 
 use crate::help::{put_synopses, put_synopsis};
 use crate::verbs::{Choice, OPTIONS, Place, VERBS, Verb, entry_of, option_named, verb_named};
-use order_words::{budget, may_name_file, may_name_map, ray, rooms, sector, workers};
+use order_words::{budget, may_name_file, may_name_map, ray, refused, rooms, sector, workers};
 use shelf_io::StdSink;
 use sight_names::Failed;
 use std::io;
@@ -20,6 +20,7 @@ pub enum Why {
     NoBudget,
     NoWorkers,
     NoMaps,
+    NoRefused,
     TooMany,
     NoOption,
     NotTaken,
@@ -48,6 +49,7 @@ pub struct Diagnosis {
 #[derive(Clone, Copy)]
 struct Given {
     only: bool,
+    refused: bool,
     cert: bool,
     report: bool,
     budget: bool,
@@ -62,6 +64,7 @@ impl Given {
     fn has(&self, choice: Choice) -> bool {
         match choice {
             Choice::Only => self.only,
+            Choice::Refused => self.refused,
             Choice::Cert => self.cert,
             Choice::Report => self.report,
             Choice::Budget => self.budget,
@@ -76,6 +79,7 @@ impl Given {
     fn note(&mut self, choice: Choice) {
         match choice {
             Choice::Only => self.only = true,
+            Choice::Refused => self.refused = true,
             Choice::Cert => self.cert = true,
             Choice::Report => self.report = true,
             Choice::Budget => self.budget = true,
@@ -138,6 +142,7 @@ fn may_name_maps(word: &str) -> bool {
 fn fits_choice(choice: Choice, word: &str) -> Result<(), Why> {
     match choice {
         Choice::Only => unless(may_name_maps(word), Why::NoMaps),
+        Choice::Refused => unless(refused(word).is_some(), Why::NoRefused),
         Choice::Cert | Choice::Report => unless(may_name_file(word), Why::NoFile),
         Choice::Budget => unless(budget(word).is_some(), Why::NoBudget),
         Choice::Workers => unless(workers(word).is_some(), Why::NoWorkers),
@@ -173,6 +178,7 @@ impl Reader {
             filled: 0,
             given: Given {
                 only: false,
+                refused: false,
                 cert: false,
                 report: false,
                 budget: false,
@@ -303,6 +309,7 @@ fn reason(why: Why) -> &'static str {
         Why::NoBudget => "no budget, 1 to 4294967296, full or enough",
         Why::NoWorkers => "no number of workers, 1 to 64",
         Why::NoMaps => "no names of maps between commas, as MAP01,MAP02",
+        Why::NoRefused => "neither keep, clear nor stop",
         Why::TooMany => "one word too many",
         Why::NoOption => "no option",
         Why::NotTaken => "not with these options",

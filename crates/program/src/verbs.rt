@@ -36,6 +36,7 @@ impl Place {
 #[derive(Clone, Copy, PartialEq, Eq)]
 pub enum Choice {
     Only,
+    Refused,
     Cert,
     Report,
     Budget,
@@ -77,12 +78,18 @@ impl Entry {
 }
 
 /// All options, in the order of the synopses.
-pub static OPTIONS: [Entry; 9] = [
+pub static OPTIONS: [Entry; 10] = [
     Entry {
         choice: Choice::Only,
         name: "only",
         value: "MAP,MAP",
-        about: "builds these maps; else all of the WAD",
+        about: "takes these maps; else all of the WAD",
+    },
+    Entry {
+        choice: Choice::Refused,
+        name: "refused",
+        value: "HOW",
+        about: "keep, clear or stop where a map is refused; else keep",
     },
     Entry {
         choice: Choice::Cert,
@@ -167,13 +174,14 @@ impl Verb {
 }
 
 /// All verbs.
-pub static VERBS: [Verb; 12] = [
+pub static VERBS: [Verb; 13] = [
     Verb {
         name: "all",
         places: &[Place::Wad, Place::Out],
         spare: &[],
         choices: &[
             Choice::Only,
+            Choice::Refused,
             Choice::Report,
             Choice::Exact,
             Choice::Budget,
@@ -181,7 +189,7 @@ pub static VERBS: [Verb; 12] = [
             Choice::Large,
         ],
         purpose: "builds every map of a WAD, and judges each table",
-        about: "Builds every map of the WAD, or those that are named, judges each table by its\nown certificate, and writes the WAD with these tables to OUT. A map that is\nrefused keeps its REJECT.",
+        about: "Builds every map of the WAD, or those that are named, judges each table by its\nown certificate, and writes the WAD with these tables to OUT. A map that is\nrefused keeps its REJECT (keep), or gets an all-clear one where its sectors can\nbe counted (clear), or nothing is written (stop).",
     },
     Verb {
         name: "build",
@@ -205,6 +213,14 @@ pub static VERBS: [Verb; 12] = [
         choices: &[Choice::Large],
         purpose: "judges the table of a map by a certificate",
         about: "Judges the map's REJECT by a certificate; a yes means that no rejected pair can\nsee.",
+    },
+    Verb {
+        name: "verify",
+        places: &[Place::Wad],
+        spare: &[],
+        choices: &[Choice::Only, Choice::Report, Choice::Workers, Choice::Large],
+        purpose: "says how the tables of a WAD differ from the right ones",
+        about: "Decides every pair of sectors of each map of the WAD, or of those that are\nnamed, and says how many bits of its own REJECT are wrong, so that monsters are\nblind, and how many are missing. Writes nothing but the report.",
     },
     Verb {
         name: "audit",

@@ -57,7 +57,8 @@ a=apart:2048 .3 <0000ffff .1 <001000000100000000000000ffff | zero a MAP01 b | 9 
 | audit a MAP01 | 9 | refused: limit: points
 | audit --large a MAP01 | 10 | refused: bad map: open 0R
 | all a b | 0 | all maps 1 built 0 refused 1
-| all a b --large --report r | 0 | all maps 1 built 0 refused 1 | r=#4d41503031207265667573656420626164206d61703a206f70656e2030520a
+| all a b --large --report r | 0 | all maps 1 built 0 refused 1 | r=#4d41503031207265667573656420626164206d61703a206f70656e203052206b65707420636c6561720a
+| all a b --large --refused clear | 0 | all maps 1 built 0 refused 1 cleared 1
 # 16,383 points and 16,384
 a=apart:8191 .3 <0000ffff .1 <fe3f00000100000000000000ffff | zero a MAP01 b --large | 0 | zero MAP01 sectors 1 bytes 1
 a=apart:8192 | zero a MAP01 b --large | 9 | refused: limit: points | b=

@@ -4,7 +4,7 @@ use crate::table::ran;
 use listeners::{Finding, FirstSet, Keep, Lines, Listener, Totals, pieces, words_of};
 use shelf_io::MemSink;
 use sight_names::Memory;
-use sight_run::{NoNotice, Notice, Status};
+use sight_run::{Fate, NoNotice, Notice, Status};
 use std::alloc::{AllocError, Global};
 use std::cell::RefCell;
 use std::test::Fail;
@@ -137,7 +137,18 @@ impl Notice for Told {
         self.add("\n");
     }
 
+    fn miss(&self, name: &str) {
+        self.add("miss ");
+        self.add(name);
+        self.add("\n");
+    }
+
     fn tell(&self, line: &str) {
+        self.add(line);
+    }
+
+    fn refuse(&self, line: &str, _refusal: Status, _fate: &Fate) {
+        self.add("refused ");
         self.add(line);
     }
 }
@@ -155,7 +166,7 @@ fn a_notice_is_told_of_maps_of_udmf_before_the_lines(rt: HostRuntime) -> Result<
     assert!(rt; status == Status::Done);
     assert_eq!(rt;
         told.text.into_inner().as_str(),
-        "over MAP02\nover E1M9\nMAP01 set 0 clear 3 listed 0\nMAP03 set 1 clear 5 listed 0\n"
+        "over MAP02\nover E1M9\nMAP01 set 0 clear 3 listed 0 replaced 0 bytes\nMAP03 set 1 clear 5 listed 0 replaced 0 bytes\n"
     );
     Ok(())
 }

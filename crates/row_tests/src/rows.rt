@@ -503,29 +503,49 @@ a=SQUARE @14:1:09 | draw a MAP01 b --faults | 8 | refused: bad lump: vertex of l
 /// The order `all`: what it writes and reports, what it refuses, and what stands where something fails.
 const ALL: &str = "\
 # two maps that are built, and one that is refused and keeps its REJECT
-a=PAIR U .6 - +6:MAP02 OPEN =de .12 - +12:MAP03 | all a b --report r | 0 | all maps 3 built 2 refused 1 | b=PAIR =00 U =4400 .6 - +6:MAP02 OPEN =de .12 - +12:MAP03, r=#4d4150303120736574203020636c6561722033206c697374656420300a4d4150303220736574203120636c6561722035206c697374656420300a4d41503033207265667573656420626164206d61703a206f70656e2030520a
+a=PAIR U .6 - +6:MAP02 OPEN =de .12 - +12:MAP03 | all a b --report r | 0 | all maps 3 built 2 refused 1 | b=PAIR =00 U =4400 .6 - +6:MAP02 OPEN =de .12 - +12:MAP03, r=#4d4150303120736574203020636c6561722033206c69737465642030207265706c6163656420302062797465730a4d4150303220736574203120636c6561722035206c69737465642030207265706c6163656420302062797465730a4d41503033207265667573656420626164206d61703a206f70656e203052206b657074207365740a
 a=PAIR U .6 - +6:MAP02 OPEN =de .12 - +12:MAP03 | all a b --workers 3 | 0 | all maps 3 built 2 refused 1 | b=PAIR =00 U =4400 .6 - +6:MAP02 OPEN =de .12 - +12:MAP03, r=
 # no map
 a=#50574144000000000c000000 | all a b --report r | 0 | all maps 0 built 0 refused 0 | b=#50574144000000000c000000, r=#
 # a budget of one sequence, and one that is enough
-a=U | all a b --report r --budget 1 | 0 | all maps 1 built 1 refused 0 | b=U =0000, r=#4d4150303120736574203020636c6561722035206c697374656420310a
+a=U | all a b --report r --budget 1 | 0 | all maps 1 built 1 refused 0 | b=U =0000, r=#4d4150303120736574203020636c6561722035206c69737465642031207265706c6163656420302062797465730a
 a=LINE3 | all a b --budget enough | 0 | all maps 1 built 1 refused 0 | b=LINE3 =0000
 # every pair decided
-a=PAIR U .6 - +6:MAP02 OPEN =de .12 - +12:MAP03 | all a b --exact --report r | 0 | all maps 3 built 2 refused 1 | b=PAIR =00 U =4400 .6 - +6:MAP02 OPEN =de .12 - +12:MAP03, r=#4d4150303120736574203020636c6561722033206c697374656420300a4d4150303220736574203120636c6561722035206c697374656420300a4d41503033207265667573656420626164206d61703a206f70656e2030520a
+a=PAIR U .6 - +6:MAP02 OPEN =de .12 - +12:MAP03 | all a b --exact --report r | 0 | all maps 3 built 2 refused 1 | b=PAIR =00 U =4400 .6 - +6:MAP02 OPEN =de .12 - +12:MAP03, r=#4d4150303120736574203020636c6561722033206c69737465642030207265706c6163656420302062797465730a4d4150303220736574203120636c6561722035206c69737465642030207265706c6163656420302062797465730a4d41503033207265667573656420626164206d61703a206f70656e203052206b657074207365740a
 a=LINE3 | all a b --exact | 0 | all maps 1 built 1 refused 0 | b=LINE3 =0000
 a=LINE3 | all a b --exact --budget enough | 2 | refused: usage | b=
 # of two maps of one name the last; a map in Hexen's format; a map without REJECT, under a name in lower case
 a=SQUARE U | all a b | 0 | all maps 1 built 1 refused 0 | b=SQUARE U =4400
-a=PAIR .1 hexen +6:BEHAVIOR *3 U - .7 - +7:map02 | all a b --report r | 0 | all maps 2 built 2 refused 0 | b=PAIR =00 .1 hexen +6:BEHAVIOR *3 U =4400 .7 - +7:map02, r=#4d4150303120736574203020636c6561722033206c697374656420300a4d4150303220736574203120636c6561722035206c697374656420300a
+a=PAIR .1 hexen +6:BEHAVIOR *3 U - .7 - +7:map02 | all a b --report r | 0 | all maps 2 built 2 refused 0 | b=PAIR =00 .1 hexen +6:BEHAVIOR *3 U =4400 .7 - +7:map02, r=#4d4150303120736574203020636c6561722033206c69737465642030207265706c6163656420302062797465730a4d4150303220736574203120636c6561722035206c69737465642030207265706c6163656420302062797465730a
 # a face of several sectors
-a=SELFREF | all a b --report r | 0 | all maps 1 built 1 refused 0 | b=SELFREF =00, r=#4d4150303120736574203020636c6561722033206c697374656420300a
+a=SELFREF | all a b --report r | 0 | all maps 1 built 1 refused 0 | b=SELFREF =00, r=#4d4150303120736574203020636c6561722033206c69737465642030207265706c6163656420302062797465730a
 # maps that can't be read
-a=SQUARE @14:1:09 | all a b --report r | 0 | all maps 1 built 0 refused 1 | b=SQUARE @14:1:09, r=#4d41503031207265667573656420626164206c756d703a20766572746578206f66206c696e6520300a
-a=SQUARE .1 *229390 | all a b --report r | 0 | all maps 1 built 0 refused 1 | b=SQUARE .1 *229390, r=#4d415030312072656675736564206c696d69743a206c696e65730a
-a=OPEN | all a b --report r | 0 | all maps 1 built 0 refused 1 | b=OPEN, r=#4d41503031207265667573656420626164206d61703a206f70656e2030520a
+a=SQUARE @14:1:09 | all a b --report r | 0 | all maps 1 built 0 refused 1 | b=SQUARE @14:1:09, r=#4d41503031207265667573656420626164206c756d703a20766572746578206f66206c696e652030206b65707420636c6561720a
+a=SQUARE .1 *229390 | all a b --report r | 0 | all maps 1 built 0 refused 1 | b=SQUARE .1 *229390, r=#4d415030312072656675736564206c696d69743a206c696e6573206b65707420636c6561720a
+a=OPEN | all a b --report r | 0 | all maps 1 built 0 refused 1 | b=OPEN, r=#4d41503031207265667573656420626164206d61703a206f70656e203052206b65707420636c6561720a
+# what is done of a refused map: a clear table in place of the one that it has, or nothing at all
+a=PAIR U .6 - +6:MAP02 OPEN =de .12 - +12:MAP03 | all a b --refused clear --report r | 0 | all maps 3 built 2 refused 1 cleared 1 | b=PAIR =00 U =4400 .6 - +6:MAP02 OPEN =00 .12 - +12:MAP03, r=#4d4150303120736574203020636c6561722033206c69737465642030207265706c6163656420302062797465730a4d4150303220736574203120636c6561722035206c69737465642030207265706c6163656420302062797465730a4d41503033207265667573656420626164206d61703a206f70656e20305220636c65617265640a
+a=PAIR U .6 - +6:MAP02 OPEN =de .12 - +12:MAP03 | all a b --refused keep --report r | 0 | all maps 3 built 2 refused 1 | b=PAIR =00 U =4400 .6 - +6:MAP02 OPEN =de .12 - +12:MAP03, r=#4d4150303120736574203020636c6561722033206c69737465642030207265706c6163656420302062797465730a4d4150303220736574203120636c6561722035206c69737465642030207265706c6163656420302062797465730a4d41503033207265667573656420626164206d61703a206f70656e203052206b657074207365740a
+a=PAIR U .6 - +6:MAP02 OPEN =de .12 - +12:MAP03 | all a b --refused stop --report r | 10 | refused: bad map: open 0R | b=, r=
+a=PAIR U .6 - +6:MAP02 | all a b --refused stop --report r | 0 | all maps 2 built 2 refused 0 | b=PAIR =00 U =4400 .6 - +6:MAP02, r=#4d4150303120736574203020636c6561722033206c69737465642030207265706c6163656420302062797465730a4d4150303220736574203120636c6561722035206c69737465642030207265706c6163656420302062797465730a
+a=PAIR U .6 - +6:MAP02 | all a b --refused clear | 0 | all maps 2 built 2 refused 0 cleared 0 | b=PAIR =00 U =4400 .6 - +6:MAP02
+# one whose sectors can't be counted keeps its table; the first that is refused stops all
+a=SQUARE =de @14:1:09 | all a b --refused clear --report r | 0 | all maps 1 built 0 refused 1 cleared 0 | b=SQUARE =de @14:1:09, r=#4d41503031207265667573656420626164206c756d703a20766572746578206f66206c696e652030206b657074207365740a
+a=SQUARE .1 *229390 | all a b --refused clear | 0 | all maps 1 built 0 refused 1 cleared 0 | b=SQUARE .1 *229390
+a=SQUARE .1 *229390 | all a b --refused=stop | 9 | refused: limit: lines | b=
+a=CROSSED OPEN .6 - +6:MAP02 | all a b --refused stop | 10 | refused: bad map: cross 3 4 | b=
+a=CROSSED OPEN .6 - +6:MAP02 | all a b --refused stop --only MAP02 | 10 | refused: bad map: open 0R | b=
+# a map without REJECT gets one, and a table of another length makes way
+a=OPEN - | all a b --refused clear | 0 | all maps 1 built 0 refused 1 cleared 1 | b=OPEN =00
+a=OPEN =dedede | all a b --refused clear | 0 | all maps 1 built 0 refused 1 cleared 1 | b=OPEN =00
+# how many bits a table changes
+a=U =0000 | all a b --report r | 0 | all maps 1 built 1 refused 0 | b=U =4400, r=#4d4150303120736574203120636c6561722035206c69737465642030206368616e67656420320a
+a=U =4400 | all a b --report r | 0 | all maps 1 built 1 refused 0 | b=U =4400, r=#4d4150303120736574203120636c6561722035206c69737465642030206368616e67656420300a
+a=U =bbff | all a b --report r | 0 | all maps 1 built 1 refused 0 | b=U =4400, r=#4d4150303120736574203120636c6561722035206c69737465642030206368616e6765642031360a
+a=U =44 | all a b --report r | 0 | all maps 1 built 1 refused 0 | b=U =4400, r=#4d4150303120736574203120636c6561722035206c69737465642030207265706c6163656420312062797465730a
 # some of the maps, each once and in the order of their entries; all others keep their REJECT
-a=PAIR U .6 - +6:MAP02 OPEN =de .12 - +12:MAP03 | all a b --only MAP02 --report r | 0 | all maps 1 built 1 refused 0 | b=PAIR U =4400 .6 - +6:MAP02 OPEN =de .12 - +12:MAP03, r=#4d4150303220736574203120636c6561722035206c697374656420300a
-a=PAIR U .6 - +6:MAP02 OPEN =de .12 - +12:MAP03 | all a b --only map03,MAP01 --report r | 0 | all maps 2 built 1 refused 1 | b=PAIR =00 U .6 - +6:MAP02 OPEN =de .12 - +12:MAP03, r=#4d4150303120736574203020636c6561722033206c697374656420300a4d41503033207265667573656420626164206d61703a206f70656e2030520a
+a=PAIR U .6 - +6:MAP02 OPEN =de .12 - +12:MAP03 | all a b --only MAP02 --report r | 0 | all maps 1 built 1 refused 0 | b=PAIR U =4400 .6 - +6:MAP02 OPEN =de .12 - +12:MAP03, r=#4d4150303220736574203120636c6561722035206c69737465642030207265706c6163656420302062797465730a
+a=PAIR U .6 - +6:MAP02 OPEN =de .12 - +12:MAP03 | all a b --only map03,MAP01 --report r | 0 | all maps 2 built 1 refused 1 | b=PAIR =00 U .6 - +6:MAP02 OPEN =de .12 - +12:MAP03, r=#4d4150303120736574203020636c6561722033206c69737465642030207265706c6163656420302062797465730a4d41503033207265667573656420626164206d61703a206f70656e203052206b657074207365740a
 a=PAIR | all a --only=MAP01,map01 b | 0 | all maps 1 built 1 refused 0 | b=PAIR =00
 # the first name that is no map's
 a=PAIR U .6 - +6:MAP02 OPEN =de .12 - +12:MAP03 | all a b --only MAP01,MAP04 --report r | 7 | refused: no map: no marker | b=, r=
@@ -534,7 +554,7 @@ a=PAIR | all a b --only MAP04,LINEDEFS | 7 | refused: no map: no marker | b=
 a=PAIR +1:THINGS | all a b --only THINGS | 7 | refused: no map: no marker | b=
 a=PAIR +1:THINGS | zero a THINGS b | 0 | zero THINGS sectors 2 bytes 1
 # a map of UDMF stays
-a=PAIR +6:MAP02 +7:TEXTMAP *20 +8:ENDMAP U .9 - +9:MAP03 | all a b --report r | 0 | all maps 2 built 2 refused 0 | b=PAIR =00 +6:MAP02 +7:TEXTMAP *20 +8:ENDMAP U =4400 .9 - +9:MAP03, r=#4d4150303120736574203020636c6561722033206c697374656420300a4d4150303320736574203120636c6561722035206c697374656420300a
+a=PAIR +6:MAP02 +7:TEXTMAP *20 +8:ENDMAP U .9 - +9:MAP03 | all a b --report r | 0 | all maps 2 built 2 refused 0 | b=PAIR =00 +6:MAP02 +7:TEXTMAP *20 +8:ENDMAP U =4400 .9 - +9:MAP03, r=#4d4150303120736574203020636c6561722033206c69737465642030207265706c6163656420302062797465730a4d4150303320736574203120636c6561722035206c69737465642030207265706c6163656420302062797465730a
 a=PAIR +6:MAP02 +7:TEXTMAP *20 +8:ENDMAP U .9 - +9:MAP03 | all a b --only MAP02 | 7 | refused: no map: missing LINEDEFS | b=
 # refusals of the whole run
 a=#50574158000000000c000000 | all a b --report r | 6 | refused: not a wad: bad magic | b=, r=
@@ -545,8 +565,8 @@ b=PAIR | all a b | 3 | refused: no file wad | b=PAIR
 a=PAIR, reads=1 | all a b --report r | 4 | refused: read fault wad | b=, r=
 a=U, creates=0 | all a b --report r | 5 | refused: write fault wad | b=, r=
 a=U, creates=1 | all a b --report r | 5 | refused: write fault report | b=U =4400, r=
-a=U, appends=1 | all a b --report r | 5 | refused: write fault report | b=U =4400, r=#4d4150303120736574203120636c
-a=U, puts=0 | all a b --report r | 5 | all maps 1 bui~ | b=U =4400, r=#4d4150303120736574203120636c6561722035206c697374656420300a
+a=U, appends=1 | all a b --report r | 5 | refused: write fault report | b=U =4400, r=#4d4150303120736574203120636c6561722035206c6973
+a=U, puts=0 | all a b --report r | 5 | all maps 1 bui~ | b=U =4400, r=#4d4150303120736574203120636c6561722035206c69737465642030207265706c6163656420302062797465730a
 # words and names
 a=U | all a | 2 | refused: usage
 a=U | all a MAP01 b | 2 | refused: usage | b=
@@ -554,6 +574,10 @@ a=U | all a b --cert c | 2 | refused: usage | b=, c=
 a=U | all a b --workers 0 | 2 | refused: usage | b=
 a=U | all a b --workers 65 | 2 | refused: usage | b=
 a=U | all a b --hexen | 2 | refused: usage | b=
+a=U | all a b --refused | 2 | refused: usage | b=
+a=U | all a b --refused never | 2 | refused: usage | b=
+a=U | build a MAP01 b --refused clear | 2 | refused: usage | b=
+a=U | zero a MAP01 b --refused clear | 2 | refused: usage | b=
 a=U | all a b --only | 2 | refused: usage | b=
 a=U | all a b --only= | 2 | refused: usage | b=
 a=U | all a b --only MAP01, | 2 | refused: usage | b=
@@ -566,6 +590,64 @@ a=U | grid 2 --only MAP01 | 2 | refused: usage
 a=U | all a a | 11 | refused: same name | a=U
 a=U | all a b --report a | 11 | refused: same name | a=U, b=
 a=U | all a b --report b | 11 | refused: same name | a=U, b=
+";
+
+/// The order `verify`: what it says of a map's own REJECT, what it counts, and what it refuses.
+const VERIFY: &str = "\
+# a right table, one that could have more bits, and bits behind the last pair's
+a=U =4400 | verify a --report r | 0 | verify maps 1 right 1 wrong 0 short 0 refused 0 | a=U =4400, r=#4d415030312077726f6e672030206d697373696e6720300a
+a=U =0000 | verify a --report r | 0 | verify maps 1 right 1 wrong 0 short 0 refused 0 | a=U =0000, r=#4d415030312077726f6e672030206d697373696e6720320a
+a=U =40fe | verify a --report r | 0 | verify maps 1 right 1 wrong 0 short 0 refused 0 | a=U =40fe, r=#4d415030312077726f6e672030206d697373696e6720310a
+# wrong ones: of a pair, of a sector with itself, and all; two bits of a pair are two
+a=U =4600 | verify a --report r | 1 | verify maps 1 right 0 wrong 1 short 0 refused 0 | a=U =4600, r=#4d415030312077726f6e672031206d697373696e6720302066697273742030203120627920354c2c35522c2d3132382c302c310a
+a=U =0a00 | verify a --report r | 1 | verify maps 1 right 0 wrong 1 short 0 refused 0 | a=U =0a00, r=#4d415030312077726f6e672032206d697373696e6720322066697273742030203120627920354c2c35522c2d3132382c302c310a
+a=U =4500 | verify a --report r | 1 | verify maps 1 right 0 wrong 1 short 0 refused 0 | a=U =4500, r=#4d415030312077726f6e672031206d697373696e6720302066697273742030203020746f7563680a
+a=U =ffff | verify a --report r --workers 1 | 1 | verify maps 1 right 0 wrong 1 short 0 refused 0 | a=U =ffff, r=#4d415030312077726f6e672037206d697373696e6720302066697273742030203020746f7563680a
+a=U =4600 | verify a | 1 | verify maps 1 right 0 wrong 1 short 0 refused 0 | a=U =4600, r=
+# too few bytes, none, and too many
+a=U =44 | verify a --report r | 1 | verify maps 1 right 0 wrong 0 short 1 refused 0 | a=U =44, r=#4d415030312073686f72742031206f6620320a
+a=U = | verify a --report r | 1 | verify maps 1 right 0 wrong 0 short 1 refused 0 | a=U =, r=#4d415030312073686f72742030206f6620320a
+a=U =4400ff | verify a --report r | 0 | verify maps 1 right 1 wrong 0 short 0 refused 0 | a=U =4400ff, r=#4d415030312077726f6e672030206d697373696e6720300a
+# a map that is refused isn't judged, and doesn't count as right; the length comes first
+a=OPEN =de | verify a --report r | 0 | verify maps 1 right 0 wrong 0 short 0 refused 1 | a=OPEN =de, r=#4d41503031207265667573656420626164206d61703a206f70656e2030520a
+a=OPEN = | verify a --report r | 1 | verify maps 1 right 0 wrong 0 short 1 refused 0 | a=OPEN =, r=#4d415030312073686f72742030206f6620310a
+a=SQUARE @14:1:09 | verify a --report r | 0 | verify maps 1 right 0 wrong 0 short 0 refused 1 | r=#4d41503031207265667573656420626164206c756d703a20766572746578206f66206c696e6520300a
+a=SQUARE .1 *229390 | verify a --report r | 0 | verify maps 1 right 0 wrong 0 short 0 refused 1 | r=#4d415030312072656675736564206c696d69743a206c696e65730a
+# three maps, some of them, no map, one of UDMF, one of Hexen's format
+a=PAIR =00 U =4600 .6 - +6:MAP02 OPEN =de .12 - +12:MAP03 | verify a --report r | 1 | verify maps 3 right 1 wrong 1 short 0 refused 1 | a=PAIR =00 U =4600 .6 - +6:MAP02 OPEN =de .12 - +12:MAP03, r=#4d415030312077726f6e672030206d697373696e6720300a4d415030322077726f6e672031206d697373696e6720302066697273742030203120627920354c2c35522c2d3132382c302c310a4d41503033207265667573656420626164206d61703a206f70656e2030520a
+a=PAIR =00 U =4600 .6 - +6:MAP02 OPEN =de .12 - +12:MAP03 | verify a --workers 3 --report r --large | 1 | verify maps 3 right 1 wrong 1 short 0 refused 1 | a=PAIR =00 U =4600 .6 - +6:MAP02 OPEN =de .12 - +12:MAP03, r=#4d415030312077726f6e672030206d697373696e6720300a4d415030322077726f6e672031206d697373696e6720302066697273742030203120627920354c2c35522c2d3132382c302c310a4d41503033207265667573656420626164206d61703a206f70656e2030520a
+a=PAIR =00 U =4600 .6 - +6:MAP02 OPEN =de .12 - +12:MAP03 | verify a --only map03,MAP01 --report r | 0 | verify maps 2 right 1 wrong 0 short 0 refused 1 | a=PAIR =00 U =4600 .6 - +6:MAP02 OPEN =de .12 - +12:MAP03, r=#4d415030312077726f6e672030206d697373696e6720300a4d41503033207265667573656420626164206d61703a206f70656e2030520a
+a=PAIR =00 U =4600 .6 - +6:MAP02 OPEN =de .12 - +12:MAP03 | verify --only=MAP02 a | 1 | verify maps 1 right 0 wrong 1 short 0 refused 0 | a=PAIR =00 U =4600 .6 - +6:MAP02 OPEN =de .12 - +12:MAP03
+a=PAIR =00 U =4600 .6 - +6:MAP02 OPEN =de .12 - +12:MAP03 | verify a --only MAP01,MAP04 --report r | 7 | refused: no map: no marker | r=
+a=PAIR | verify a --only LINEDEFS,MAP04 | 7 | refused: no map: missing LINEDEFS | a=PAIR
+a=#50574144000000000c000000 | verify a --report r | 0 | verify maps 0 right 0 wrong 0 short 0 refused 0 | r=#
+a=PAIR =00 +6:MAP02 +7:TEXTMAP *20 +8:ENDMAP | verify a --report r | 0 | verify maps 1 right 1 wrong 0 short 0 refused 0 | r=#4d415030312077726f6e672030206d697373696e6720300a
+a=PAIR =06 .1 hexen +6:BEHAVIOR | verify a --only MAP01 | 1 | verify maps 1 right 0 wrong 1 short 0 refused 0 | r=
+# a face of several sectors
+a=SELFREF =00 | verify a --report r | 0 | verify maps 1 right 1 wrong 0 short 0 refused 0 | r=#4d415030312077726f6e672030206d697373696e6720300a
+# refusals of the whole run
+a=#50574158000000000c000000 | verify a --report r | 6 | refused: not a wad: bad magic | r=
+a=#50574144010001000c000000 | verify a | 9 | refused: limit: lumps | a=#50574144010001000c000000
+b=PAIR | verify a --report r | 3 | refused: no file wad | b=PAIR, r=
+a=PAIR, reads=1 | verify a --report r | 4 | refused: read fault wad | r=
+a=U =4600, creates=0 | verify a --report r | 5 | refused: write fault report | r=
+a=U =4400, appends=0 | verify a --report r | 5 | refused: write fault report | r=#4d415030312077726f6e6720
+a=U =4600, puts=0 | verify a --report r | 5 | verify maps 1 right 0 wr~ | r=#4d415030312077726f6e672031206d697373696e6720302066697273742030203120627920354c2c35522c2d3132382c302c310a
+# words and names
+a=U | verify | 2 | refused: usage | a=U, b=, c=
+a=U | verify a b | 2 | refused: usage | a=U, b=, c=
+a=U | verify a MAP01 | 2 | refused: usage | a=U, b=, c=
+a=U | verify a --exact | 2 | refused: usage | a=U, b=, c=
+a=U | verify a --budget full | 2 | refused: usage | a=U, b=, c=
+a=U | verify a --refused keep | 2 | refused: usage | a=U, b=, c=
+a=U | verify a --cert c | 2 | refused: usage | a=U, b=, c=
+a=U | verify a --hexen | 2 | refused: usage | a=U, b=, c=
+a=U | verify a --faults | 2 | refused: usage | a=U, b=, c=
+a=U | verify a --workers 0 | 2 | refused: usage | a=U, b=, c=
+a=U | verify a --workers 65 | 2 | refused: usage | a=U, b=, c=
+a=U | verify a --only= | 2 | refused: usage | a=U, b=, c=
+a=U | verify a --only MAP01, | 2 | refused: usage | a=U, b=, c=
+a=U | verify a --report a | 11 | refused: same name | a=U
 ";
 
 /// The order `need`, and a build with a budget that is enough.
@@ -583,7 +665,9 @@ a=LINE3 | build a MAP01 b --cert c --budget enough | 0 | built MAP01 sectors 3 s
 
 #[test]
 fn each_row_comes_out_as_it_says(rt: HostRuntime) -> Result<(), Fail> {
-    for rows in [ZERO, JUDGED, CHECK, BUILD, ALL, NEED, SOUND, WHY, DRAW] {
+    for rows in [
+        ZERO, JUDGED, CHECK, BUILD, ALL, VERIFY, NEED, SOUND, WHY, DRAW,
+    ] {
         assert_eq!(rt; first_wrong(&rt, rt.alloc(), rows)?.as_str(), "");
     }
     Ok(())

@@ -1,6 +1,6 @@
 -- What `all` that was done tells of sight: of each map that was built what a build of it tells.
 use Rattle.std.proofs.Common.{◌≡◌, ◌^◌, ◌<◌, ◌↔◌, ℕ, List, [], ◌∷◌, ◌++◌, length, Bool, IsOk, Option, Some, None, Result, Ok, Err, refl, sym, ap, ◌∙◌, subst}
-use Rattle.std.specs.Prelude.{IfOk, IfSome, unwrap_or}
+use Rattle.std.specs.Prelude.{IfErr, IfOk, IfSome, unwrap_or}
 use Rattle.std.specs.List.{AllByRecursion, cons_option}
 use Rattle.std.specs.Option.{option_map}
 use Rattle.std.proofs.lemmas.Option.{unwrap_or-slice_get}
@@ -18,8 +18,10 @@ use Rattle.wad_dir.specs.AllMaps.All.{HasReject}
 use Rattle.wad_dir.specs.AllMaps.Names.{word_of}
 use Rattle.wad_dir.specs.Map.{spot_of}
 use Rattle.wad_dir.specs.Wad.{WadFile, WadLump, names_of, wad_of}
-use Rattle.wad_dir.proofs.Moved.{spot_alike}
 use Rattle.certificates.specs.declared.certificate.Certificate.{Certificate}
+use Rattle.refused_maps.specs.declared.Refused.{Refused}
+use Rattle.refused_maps.specs.declared.Refused.TheVariants as refused
+use Rattle.refused_maps.specs.Stops.{Stops}
 use Rattle.order_words.specs.declared.order.Order.TheVariants as order
 use Rattle.order_words.specs.declared.order.Source.{Source}
 use Rattle.order_words.specs.Words.{source_of}
@@ -31,21 +33,25 @@ use Rattle.map_answers.specs.Input.{LocatedMap, found_in, lump_at, map_at, map_n
 use Rattle.whole_wad.specs.declared.outcomes.MapOutcome.{MapOutcome}
 use Rattle.whole_wad.specs.declared.tables.MapTable.{MapTable}
 use Rattle.whole_wad.specs.Built.{IsBuiltOf}
-use Rattle.whole_wad.specs.Outcomes.{ComesOf, change_by, changes_of}
+use Rattle.whole_wad.specs.declared.fate.Fate.{Fate}
+use Rattle.whole_wad.specs.declared.fate.Fate.TheVariants as fate
+use Rattle.whole_wad.specs.Outcomes.{ComesOf, change_by, changes_of, stop_of}
 use Rattle.whole_wad.specs.Report.{report_of}
 use Rattle.whole_wad.specs.Tables.{Gets, IsFlawOf, IsTableOf, built_with}
 use Rattle.sight_run.specs.All.{AllCalls, MapsCall, OnRead, ShowsAll, maps_in, wad_in}
 use Rattle.sight_run.specs.Build.{report_behind, wad_output}
-use Rattle.sight_run.specs.Check.{reject_at, reject_of}
+use Rattle.sight_run.specs.Check.{reject_of}
+use Rattle.whole_wad.specs.Rejects.{clear_table, fate_of, reject_at, reject_named}
+use Rattle.whole_wad.proofs.Stopping.{word_spot}
 use Rattle.sight_run.specs.Obeys.{AnswersAsked}
 use Rattle.sight_run.specs.Reading.{found_of}
 use Rattle.sight_run.specs.Run.{put_all}
 use Rattle.sight_run.specs.Words.{asked_of}
 use Rattle.sight_run.proofs.Round.{found_with, is_found, lump_same, passes, same_ok, was_spot}
 use Rattle.sight_run.proofs.Stood.{under_report}
-use Rattle.run_laws.specs.Headline.{AllIsExact, AllIsRight, IsSoundIn, LeavesExactTable, LeavesRejects, LeavesRightReject, WasDone}
+use Rattle.run_laws.specs.Headline.{AllIsExact, AllIsRight, IsSoundIn, LeavesClearReject, LeavesExactTable, LeavesRejects, LeavesRightReject, WasDone}
 use Rattle.run_laws.proofs.AllWritten.{fetched_wad, named_there, was_written}
-use Rattle.run_laws.proofs.SameMaps.{HasSameMap, key_word}
+use Rattle.run_laws.proofs.SameMaps.{HasSameMap}
 use Rattle.run_laws.proofs.RightTables.{found_there, leaves_exact, leaves_right, was_answered}
 
 -- ---- the map of a name in the WAD
@@ -75,10 +81,6 @@ named_spot large w name m spot is_map found =
     let same : b.x ≡ spot = same_ok b.x spot (sym (was_spot (spot_of (names_of w) name) b.x b.step) ∙ found) in
     subst (λ (s : MapSpot). map_at large w s ≡ Ok m) same b.rest
 
--- a name up to its first NUL finds the same
-word_spot : (ns : List (List ℕ)) (name : List ℕ) → spot_of ns (word_of name) ≡ spot_of ns name
-word_spot ns name = spot_alike ns (word_of name) name (key_word name)
-
 -- ---- the same map under OUT
 
 -- four lumps that are the same spell one map
@@ -93,6 +95,16 @@ map_alike large w new name h =
 abbrev nothing : WadLump
 nothing = record { name = []; bytes = [] }
 
+-- the map of a name as it was read, and as it is left with this REJECT
+record IsThere (wad : Source) (out : List ℕ) (files stand : Files) (name table : List ℕ) (m : Map) : Type 0 where
+  found : LocatedMap
+  is_found : found_of wad (word_of name) files ≡ Ok found
+  is_map : found.map ≡ m
+  new : LocatedMap
+  is_new : found_of (source_of wad.large out) (word_of name) stand ≡ Ok new
+  same : new.map ≡ m
+  reads : reject_of new ≡ table
+
 -- what is left of a map that was built
 record IsLeft (wad : Source) (out : List ℕ) (method : Method) (files stand : Files) (name : List ℕ) (made : MapTable) : Type 0 where
   found : LocatedMap
@@ -104,17 +116,36 @@ record IsLeft (wad : Source) (out : List ℕ) (method : Method) (files stand : F
   is_built : IsBuiltOf found.map method (built_with made cert)
   reads : reject_of new ≡ made.table.bytes
 
-module _ (wad : Source) (out : List ℕ) (method : Method) (files stand : Files) (w new : WadFile) (bytes : List ℕ) (is_wad : wad_in wad.file files ≡ Ok w) (stands : stand out ≡ Some bytes) (short : length bytes < 2 ^ 31) (read : wad_of bytes ≡ Ok new) where
-  module _ (name : List ℕ) (made : MapTable) (reject : HasReject new name made.table.bytes) (same : HasSameMap w new name) where
+-- ---- each change of what comes of maps
+
+changes_each : (P : Change → Type 0) (os : List MapOutcome) → AllByRecursion P (changes_of os) → AllByRecursion (λ (o : MapOutcome). IfSome (change_by o.name o.made o.fate) P) os
+changes_each P [] h = tt
+changes_each P (o ∷ os) h = by (change_by o.name o.made o.fate) (changes_each P os) h
+  where
+    by : (c : Option Change) → (AllByRecursion P (changes_of os) → AllByRecursion (λ (x : MapOutcome). IfSome (change_by x.name x.made x.fate) P) os) → AllByRecursion P (cons_option c (changes_of os))
+        → IfSome c P × AllByRecursion (λ (x : MapOutcome). IfSome (change_by x.name x.made x.fate) P) os
+    by None rest k = (tt, rest k)
+    by (Some c) rest k = (k.0, rest k.1)
+
+both : {A : Type 0} (P Q : A → Type 0) (xs : List A) → AllByRecursion P xs → AllByRecursion Q xs → AllByRecursion (λ x. P x × Q x) xs
+both P Q [] h k = tt
+both P Q (x ∷ xs) h k = ((h.0, k.0), both P Q xs h.1 k.1)
+
+-- the change is there at the end, and the map is as it was
+abbrev IsMade : WadFile → WadFile → Change → Type 0
+IsMade w new c = HasReject new c.name c.table × HasSameMap w new c.name
+
+module _ (wad : Source) (out : List ℕ) (method : Method) (choice : Refused) (files stand : Files) (w new : WadFile) (bytes : List ℕ) (is_wad : wad_in wad.file files ≡ Ok w) (stands : stand out ≡ Some bytes) (short : length bytes < 2 ^ 31) (read : wad_of bytes ≡ Ok new) where
+  module _ (name table : List ℕ) (reject : HasReject new name table) (same : HasSameMap w new name) where
     -- the bytes of its REJECT are the table
-    reads_table : (m : Map) → reject_of (found_with new same.spot m) ≡ made.table.bytes
+    reads_table : (m : Map) → reject_of (found_with new same.spot m) ≡ table
     reads_table m =
         let spots : same.spot ≡ reject.spot = same_ok same.spot reject.spot (sym same.found ∙ reject.found) in
-        let lump : lump_at new reject.place ≡ made.table.bytes = ap (λ (l : WadLump). l.bytes) (sym (unwrap_or-slice_get new.lumps reject.place nothing) ∙ ap (λ (o : Option WadLump). unwrap_or o nothing) reject.there) ∙ reject.bytes in
+        let lump : lump_at new reject.place ≡ table = ap (λ (l : WadLump). l.bytes) (sym (unwrap_or-slice_get new.lumps reject.place nothing) ∙ ap (λ (o : Option WadLump). unwrap_or o nothing) reject.there) ∙ reject.bytes in
         ap (λ (s : MapSpot). reject_at new s.reject) spots ∙ ap (reject_at new) reject.reject ∙ lump
 
-    left_by : (m : Map) → map_named wad.large w (word_of name) ≡ Ok m → IsTableOf m method made → IsLeft wad out method files stand name made
-    left_by m is_map h =
+    there_by : (m : Map) → map_named wad.large w (word_of name) ≡ Ok m → IsThere wad out files stand name table m
+    there_by m is_map =
         let x = found_named wad (word_of name) files w m is_wad is_map in
         let was : map_at wad.large w same.was ≡ Ok m = named_spot wad.large w (word_of name) m same.was is_map (word_spot (names_of w) name ∙ same.was_found) in
         let there : LocatedMap = found_with new same.spot m in
@@ -122,30 +153,75 @@ module _ (wad : Source) (out : List ℕ) (method : Method) (files stand : Files)
         record {
           found = x.found;
           is_found = x.is_found;
+          is_map = x.is_map;
           new = there;
           is_new = found_there wad.large (word_of name) out bytes stand there stands short again;
-          same = sym x.is_map;
-          cert = h.cert;
-          is_built = subst (λ (k : Map). IsBuiltOf k method (built_with made h.cert)) (sym x.is_map) h.is_built;
+          same = refl;
           reads = reads_table m;
         }
 
-    left : (r : Result Map Status) → map_named wad.large w (word_of name) ≡ r → Gets r method (Ok made) → IsLeft wad out method files stand name made
-    left (Ok m) is_map h = left_by m is_map h
-    left (Err s) is_map h = absurd cc
+  -- ---- built
 
-  -- of each outcome
-  all_left : (os : List MapOutcome) → AllByRecursion (ComesOf w wad.large method) os → AllByRecursion (λ (c : Change). HasReject new c.name c.table) (changes_of os) → AllByRecursion (λ (c : Change). HasSameMap w new c.name) (changes_of os)
-      → AllByRecursion (λ (o : MapOutcome). IfOk o.made (IsLeft wad out method files stand o.name)) os
-  all_left [] comes tables same = tt
-  all_left (o ∷ os) comes tables same = by o.made comes.0 tables same (λ t k. all_left os comes.1 t k)
-    where
-      by : (r : Result MapTable Status) → Gets (map_named wad.large w (word_of o.name)) method r
-          → AllByRecursion (λ (c : Change). HasReject new c.name c.table) (cons_option (change_by o.name r) (changes_of os)) → AllByRecursion (λ (c : Change). HasSameMap w new c.name) (cons_option (change_by o.name r) (changes_of os))
-          → (AllByRecursion (λ (c : Change). HasReject new c.name c.table) (changes_of os) → AllByRecursion (λ (c : Change). HasSameMap w new c.name) (changes_of os) → AllByRecursion (λ (x : MapOutcome). IfOk x.made (IsLeft wad out method files stand x.name)) os)
-          → IfOk r (IsLeft wad out method files stand o.name) × AllByRecursion (λ (x : MapOutcome). IfOk x.made (IsLeft wad out method files stand x.name)) os
-      by (Ok made) g t k rest = (left o.name made t.0 k.0 (map_named wad.large w (word_of o.name)) refl g, rest t.1 k.1)
-      by (Err s) g t k rest = (tt, rest t k)
+  left_by : (name : List ℕ) (made : MapTable) (m : Map) → IsThere wad out files stand name made.table.bytes m → IsTableOf m method made → IsLeft wad out method files stand name made
+  left_by name made m x h = record {
+    found = x.found;
+    is_found = x.is_found;
+    new = x.new;
+    is_new = x.is_new;
+    same = x.same ∙ sym x.is_map;
+    cert = h.cert;
+    is_built = subst (λ (k : Map). IsBuiltOf k method (built_with made h.cert)) (sym x.is_map) h.is_built;
+    reads = x.reads;
+  }
+
+  left : (name : List ℕ) (made : MapTable) (c : IsMade w new (record { name = name; table = made.table.bytes })) (r : Result Map Status) → map_named wad.large w (word_of name) ≡ r → Gets r method (Ok made) → IsLeft wad out method files stand name made
+  left name made c (Ok m) is_map h = left_by name made m (there_by name made.table.bytes c.0 c.1 m is_map) h
+  left name made c (Err s) is_map h = absurd cc
+
+  one_left : (name : List ℕ) (r : Result MapTable Status) (f : Fate) → Gets (map_named wad.large w (word_of name)) method r → IfSome (change_by name r f) (IsMade w new) → IfOk r (IsLeft wad out method files stand name)
+  one_left name (Ok made) f g c = left name made c (map_named wad.large w (word_of name)) refl g
+  one_left name (Err s) f g c = tt
+
+  -- ---- cleared
+
+  clear_left : (name : List ℕ) (m : Map) → IsThere wad out files stand name (clear_table m.sectors) m → LeavesClearReject wad (word_of name) out stand m
+  clear_left name m x = record { new = x.new; is_new = x.is_new; same = x.same; clear = x.reads }
+
+  cleared_fate : (s : Status) (old : List ℕ) (said : Result Map Status) (m : Map) (f : Fate) → choice ≡ refused.Clear → said ≡ Ok m → f ≡ fate_of choice said old (Err s) → f ≡ fate.Cleared (record { n = m.sectors; bytes = clear_table m.sectors })
+  cleared_fate s old said m f clear is_map e = e ∙ (λ i. fate_of (clear i) (is_map i) old (Err s))
+
+  one_cleared : choice ≡ refused.Clear → (name : List ℕ) (r : Result MapTable Status) (f : Fate) → f ≡ fate_of choice (map_named wad.large w (word_of name)) (reject_named w (word_of name)) r → IfSome (change_by name r f) (IsMade w new)
+      → IfErr r (λ refusal. (found : LocatedMap) → found_of wad (word_of name) files ≡ Ok found → LeavesClearReject wad (word_of name) out stand found.map)
+  one_cleared clear name (Ok made) f e c = tt
+  one_cleared clear name (Err s) f e c = λ found is.
+      let is_map : map_named wad.large w (word_of name) ≡ Ok found.map = named_there wad (word_of name) files w found is_wad is in
+      let k : f ≡ fate.Cleared (record { n = found.map.sectors; bytes = clear_table found.map.sectors }) = cleared_fate s (reject_named w (word_of name)) (map_named wad.large w (word_of name)) found.map f clear is_map e in
+      let d : IsMade w new (record { name = name; table = clear_table found.map.sectors }) = subst (λ (x : Fate). IfSome (change_by name (Err s) x) (IsMade w new)) k c in
+      clear_left name found.map (there_by name (clear_table found.map.sectors) d.0 d.1 found.map is_map)
+
+  -- ---- of each outcome
+
+  all_made : (os : List MapOutcome) → AllByRecursion (λ (c : Change). HasReject new c.name c.table) (changes_of os) → AllByRecursion (λ (c : Change). HasSameMap w new c.name) (changes_of os) → AllByRecursion (λ (o : MapOutcome). IfSome (change_by o.name o.made o.fate) (IsMade w new)) os
+  all_made os tables same = changes_each (IsMade w new) os (both (λ (c : Change). HasReject new c.name c.table) (λ (c : Change). HasSameMap w new c.name) (changes_of os) tables same)
+
+  abbrev IsMadeSo : MapOutcome → Type 0
+  IsMadeSo o = ComesOf w wad.large method choice o × IfSome (change_by o.name o.made o.fate) (IsMade w new)
+
+  made_so : (os : List MapOutcome) → AllByRecursion (ComesOf w wad.large method choice) os → AllByRecursion (λ (c : Change). HasReject new c.name c.table) (changes_of os) → AllByRecursion (λ (c : Change). HasSameMap w new c.name) (changes_of os) → AllByRecursion IsMadeSo os
+  made_so os comes tables same = both (ComesOf w wad.large method choice) (λ (o : MapOutcome). IfSome (change_by o.name o.made o.fate) (IsMade w new)) os comes (all_made os tables same)
+
+  all_left : (os : List MapOutcome) → AllByRecursion IsMadeSo os → AllByRecursion (λ (o : MapOutcome). IfOk o.made (IsLeft wad out method files stand o.name)) os
+  all_left os h = all_so IsMadeSo (λ (o : MapOutcome). IfOk o.made (IsLeft wad out method files stand o.name)) os (λ o x. one_left o.name o.made o.fate x.0.gets x.1) h
+
+  all_cleared : (os : List MapOutcome) → AllByRecursion IsMadeSo os → choice ≡ refused.Clear → AllByRecursion (λ (o : MapOutcome). IfErr o.made (λ refusal. (found : LocatedMap) → found_of wad (word_of o.name) files ≡ Ok found → LeavesClearReject wad (word_of o.name) out stand found.map)) os
+  all_cleared os h clear = all_so IsMadeSo (λ (o : MapOutcome). IfErr o.made (λ refusal. (found : LocatedMap) → found_of wad (word_of o.name) files ≡ Ok found → LeavesClearReject wad (word_of o.name) out stand found.map)) os
+      (λ o x. one_cleared clear o.name o.made o.fate x.0.fate x.1) h
+
+-- where a refusal stops all, what goes on is built
+goes_on : (choice : Refused) (made : Result MapTable Status) → Stops choice → stop_of choice made ≡ None → IsOk made
+goes_on refused.Stop (Ok made) stops e = refl
+goes_on refused.Stop (Err s) stops e = absurd cc
+goes_on choice made stops e = absurd stops
 
 -- ---- which maps were built
 
@@ -153,7 +229,7 @@ not_ok : (made : Result MapTable Status) (s : Status) → made ≡ Err s → IsO
 not_ok (Ok t) s e ok = cc
 not_ok (Err t) s e ok = cc
 
-flawless : (m : Map) (s : Status) → HasClosedFaces m → IsFlawOf m s → ⊥
+pub flawless : (m : Map) (s : Status) → HasClosedFaces m → IsFlawOf m s → ⊥
 flawless m (status.BadMap (flaw.Line fault)) closed h = not_sound m fault h closed.ends
 flawless m (status.BadMap (flaw.Open side)) closed h = h.1.against (closed.closed side)
 flawless m s closed h = absurd h
@@ -173,18 +249,19 @@ module _ (wad : Source) (files : Files) (w : WadFile) (method : Method) (is_wad 
 
 -- ---- all of it
 
-module _ (words : List (List ℕ)) (wad : Source) (out : List ℕ) (only : Option (List (List ℕ))) (report : Option (List ℕ)) (workers : ℕ) (method : Method) (files stand : Files) (is_asked : asked_of words ≡ Ok (order.All wad out only report workers method)) (done : WasDone words files stand)
+module _ (words : List (List ℕ)) (wad : Source) (out : List ℕ) (only : Option (List (List ℕ))) (report : Option (List ℕ)) (workers : ℕ) (method : Method) (choice : Refused) (files stand : Files) (is_asked : asked_of words ≡ Ok (order.All wad out only report workers method choice)) (done : WasDone words files stand)
     (IsRight : List ℕ → MapTable → Type 0) (right : (name : List ℕ) (made : MapTable) → IsLeft wad out method files stand name made → IsRight (word_of name) made) where
   reported_under : (asked : Option (List ℕ)) (bytes : List ℕ) (ws : List Written) → IfSome asked (λ name. put_all files (report_behind asked bytes ws) name ≡ Some bytes)
   reported_under None bytes ws = tt
   reported_under (Some name) bytes ws = under_report files ws name bytes
 
-  shown : (w : WadFile) (maps : List (List ℕ)) (answer : Answer) → wad_in wad.file files ≡ Ok w → maps_in (names_of w) only ≡ Ok maps → ShowsAll out report wad.large maps method w answer → stand ≡ put_all files answer.writes
-      → done.sink.new.held ≡ option_map (λ held. held ++ answer.line) done.sink.old.held → LeavesRejects wad only report files stand done.sink IsRight
+  shown : (w : WadFile) (maps : List (List ℕ)) (answer : Answer) → wad_in wad.file files ≡ Ok w → maps_in (names_of w) only ≡ Ok maps → ShowsAll out report wad.large maps method choice w answer → stand ≡ put_all files answer.writes
+      → done.sink.new.held ≡ option_map (λ held. held ++ answer.line) done.sink.old.held → LeavesRejects wad out only report choice files stand done.sink IsRight
   shown w maps answer e f q left said =
-      let x = was_written words wad out only report workers method files answer w maps is_asked e f q in
+      let x = was_written words wad out only report workers method choice files answer w maps is_asked e f q in
       let stands : stand out ≡ Some x.bytes = ap (λ (fs : Files). fs out) left ∙ x.stands in
-      let lefts = all_left wad out method files stand w x.new x.bytes e stands x.short x.read q.outcomes q.are.comes x.tables x.same in
+      let so = made_so wad out method choice files stand w x.new x.bytes e stands x.short x.read q.outcomes q.are.comes x.tables x.same in
+      let lefts = all_left wad out method choice files stand w x.new x.bytes e stands x.short x.read q.outcomes so in
       record {
         w = w;
         was = e;
@@ -194,23 +271,25 @@ module _ (words : List (List ℕ)) (wad : Source) (out : List ℕ) (only : Optio
         each = q.are.each;
         said = said ∙ ap (λ (a : Answer). option_map (λ held. held ++ a.line) done.sink.old.held) q.is;
         reported = subst (λ (fs : Files). IfSome report (λ name. fs name ≡ Some (report_of q.outcomes))) (sym (left ∙ ap (λ (a : Answer). put_all files a.writes) q.is)) (reported_under report (report_of q.outcomes) (wad_output out q.bytes ∷ []));
-        built = all_so (ComesOf w wad.large method) (λ (o : MapOutcome). IsOk o.made ↔ IsSoundIn wad (word_of o.name) files) q.outcomes
-            (λ o g. (sound_by wad files w method e (word_of o.name) (map_named wad.large w (word_of o.name)) o.made refl g, built_by wad files w method e (word_of o.name) o.made g)) q.are.comes;
+        built = all_so (ComesOf w wad.large method choice) (λ (o : MapOutcome). IsOk o.made ↔ IsSoundIn wad (word_of o.name) files) q.outcomes
+            (λ o g. (sound_by wad files w method e (word_of o.name) (map_named wad.large w (word_of o.name)) o.made refl g.gets, built_by wad files w method e (word_of o.name) o.made g.gets)) q.are.comes;
         right = all_so (λ (o : MapOutcome). IfOk o.made (IsLeft wad out method files stand o.name)) (λ (o : MapOutcome). IfOk o.made (IsRight (word_of o.name))) q.outcomes
             (λ o h. IfOk-weaker o.made (IsLeft wad out method files stand o.name) (IsRight (word_of o.name)) (right o.name) h) lefts;
+        cleared = all_cleared wad out method choice files stand w x.new x.bytes e stands x.short x.read q.outcomes so;
+        unstopped = λ stops. all_so (λ (o : MapOutcome). stop_of choice o.made ≡ None) (λ (o : MapOutcome). IsOk o.made) q.outcomes (λ o g. goes_on choice o.made stops g) q.are.goes_on;
       }
 
-  of_maps : (w : WadFile) (r : Result (List (List ℕ)) Status) (answer : Answer) → wad_in wad.file files ≡ Ok w → maps_in (names_of w) only ≡ r → OnRead r (λ maps. MapsCall out report wad.large maps method w) (Ok answer) → stand ≡ put_all files answer.writes
-      → done.sink.new.held ≡ option_map (λ held. held ++ answer.line) done.sink.old.held → LeavesRejects wad only report files stand done.sink IsRight
+  of_maps : (w : WadFile) (r : Result (List (List ℕ)) Status) (answer : Answer) → wad_in wad.file files ≡ Ok w → maps_in (names_of w) only ≡ r → OnRead r (λ maps. MapsCall out report wad.large maps method choice w) (Ok answer) → stand ≡ put_all files answer.writes
+      → done.sink.new.held ≡ option_map (λ held. held ++ answer.line) done.sink.old.held → LeavesRejects wad out only report choice files stand done.sink IsRight
   of_maps w (Ok maps) answer e f q left said = shown w maps answer e f q left said
   of_maps w (Err s) answer e f q left said = absurd cc
 
-  of_wad_read : (r : Result WadFile Status) (answer : Answer) → wad_in wad.file files ≡ r → OnRead r (AllCalls out wad.large only report method) (Ok answer) → stand ≡ put_all files answer.writes
-      → done.sink.new.held ≡ option_map (λ held. held ++ answer.line) done.sink.old.held → LeavesRejects wad only report files stand done.sink IsRight
+  of_wad_read : (r : Result WadFile Status) (answer : Answer) → wad_in wad.file files ≡ r → OnRead r (AllCalls out wad.large only report method choice) (Ok answer) → stand ≡ put_all files answer.writes
+      → done.sink.new.held ≡ option_map (λ held. held ++ answer.line) done.sink.old.held → LeavesRejects wad out only report choice files stand done.sink IsRight
   of_wad_read (Ok w) answer e q left said = of_maps w (maps_in (names_of w) only) answer e refl q left said
   of_wad_read (Err s) answer e q left said = absurd cc
 
-  rejects : LeavesRejects wad only report files stand done.sink IsRight
+  rejects : LeavesRejects wad out only report choice files stand done.sink IsRight
   rejects =
       let e = was_answered words files stand done in
       of_wad_read (wad_in wad.file files) e.answer refl (subst (λ r. AnswersAsked r files done.heard (Ok e.answer)) is_asked e.called) e.stands e.said
@@ -219,10 +298,10 @@ right_of : (wad : Source) (out : List ℕ) (method : Method) (files stand : File
 right_of wad out method files stand name made h = leaves_right wad (word_of name) out method files stand h.found h.new h.is_found h.is_new h.same (built_with made h.cert) h.is_built h.reads
 
 pub all_is_right : AllIsRight
-all_is_right words wad out only report workers method files stand is_asked done =
-    rejects words wad out only report workers method files stand is_asked done (λ name made. LeavesRightReject wad name out method files stand) (right_of wad out method files stand)
+all_is_right words wad out only report workers method choice files stand is_asked done =
+    rejects words wad out only report workers method choice files stand is_asked done (λ name made. LeavesRightReject wad name out method files stand) (right_of wad out method files stand)
 
 pub all_is_exact : AllIsExact
-all_is_exact words wad out only report workers files stand is_asked done =
-    rejects words wad out only report workers how.Exact files stand is_asked done (λ name made. LeavesExactTable wad name out files stand × (made.listed ≡ []))
+all_is_exact words wad out only report workers choice files stand is_asked done =
+    rejects words wad out only report workers how.Exact choice files stand is_asked done (λ name made. LeavesExactTable wad name out files stand × (made.listed ≡ []))
     (λ name made h. (leaves_exact wad (word_of name) out files stand (right_of wad out how.Exact files stand name made h), h.is_built.by_method.none_listed))

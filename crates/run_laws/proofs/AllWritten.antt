@@ -22,6 +22,7 @@ use Rattle.wad_dir.specs.AllMaps.Names.{word_of}
 use Rattle.wad_dir.proofs.AllMaps.Lasting.{each_table_is_there}
 use Rattle.wad_dir.proofs.AllMaps.Merging.{all_spliced, each_change_is_made}
 use Rattle.wad_dir.specs.AllMaps.Spliced.{spliced}
+use Rattle.refused_maps.specs.declared.Refused.{Refused}
 use Rattle.order_words.specs.declared.order.Order.TheVariants as order
 use Rattle.order_words.specs.declared.order.Source.{Source}
 use Rattle.map_answers.specs.declared.sight_status.status.Status.{Status}
@@ -78,19 +79,19 @@ named_there wad name files w found is_wad is_found =
 contained : {A : Type 0} (P : A → Type 0) (xs : List A) (x : A) → AllByRecursion P xs → Contains xs x → P x
 contained P xs x all c = all_at P xs all c.0 x (slice_get-get_or xs c.0 x c.1 ∙ ap (λ y. Some y) c.2)
 
-module _ (wad : Source) (name : List ℕ) (files : Files) (w : WadFile) (found : LocatedMap) (maps : List (List ℕ)) (method : Method) (outcomes : List MapOutcome) (is_wad : wad_in wad.file files ≡ Ok w) (is_found : found_of wad name files ≡ Ok found) (are : AreOutcomes w wad.large maps method outcomes) where
+module _ (wad : Source) (name : List ℕ) (files : Files) (w : WadFile) (found : LocatedMap) (maps : List (List ℕ)) (method : Method) (choice : Refused) (outcomes : List MapOutcome) (is_wad : wad_in wad.file files ≡ Ok w) (is_found : found_of wad name files ≡ Ok found) (are : AreOutcomes w wad.large maps method choice outcomes) where
   got : (o : MapOutcome) → Contains outcomes o → word_of o.name ≡ name → Gets (Ok found.map) method o.made
   got o c e =
       let is : map_named wad.large w (word_of o.name) ≡ Ok found.map = ap (map_named wad.large w) e ∙ named_there wad name files w found is_wad is_found in
-      subst (λ (r : Result Map Status). Gets r method o.made) is (contained (ComesOf w wad.large method) outcomes o are.comes c)
+      subst (λ (r : Result Map Status). Gets r method o.made) is (contained (ComesOf w wad.large method choice) outcomes o are.comes c).gets
 
   made_as : (o : MapOutcome) → Contains outcomes o → word_of o.name ≡ name → (made : Result MapTable Status) → Gets (Ok found.map) method made → o.made ≡ made
   made_as o c e made h = one_got (Ok found.map) method o.made made (got o c e) h
 
 pub all_is_as_build : AllIsAsBuild
-all_is_as_build wad name files w found maps method outcomes is_wad is_found are = record {
-  tables = λ o c e built h. made_as wad name files w found maps method outcomes is_wad is_found are o c e (Ok (table_built built)) (record { cert = built.cert; is_built = h });
-  flaws = λ o c e refusal h. made_as wad name files w found maps method outcomes is_wad is_found are o c e (Err refusal) h;
+all_is_as_build wad name files w found maps method choice outcomes is_wad is_found are = record {
+  tables = λ o c e built h. made_as wad name files w found maps method choice outcomes is_wad is_found are o c e (Ok (table_built built)) (record { cert = built.cert; is_built = h });
+  flaws = λ o c e refusal h. made_as wad name files w found maps method choice outcomes is_wad is_found are o c e (Err refusal) h;
 }
 
 -- ---- what is written
@@ -117,10 +118,10 @@ pub record WasWritten (out : List ℕ) (w : WadFile) (outcomes : List MapOutcome
   pub same : AllByRecursion (λ (c : Change). HasSameMap w new c.name) (changes_of outcomes)
   pub lumps : new.lumps ≡ spliced (names_of w) w.lumps 0 (changes_of outcomes)
 
-pub was_written : (words : List (List ℕ)) (wad : Source) (out : List ℕ) (only : Option (List (List ℕ))) (report : Option (List ℕ)) (workers : ℕ) (method : Method) (files : Files) (answer : Answer) (w : WadFile) (maps : List (List ℕ))
-    → asked_of words ≡ Ok (order.All wad out only report workers method) → wad_in wad.file files ≡ Ok w → maps_in (names_of w) only ≡ Ok maps
-    → (q : ShowsAll out report wad.large maps method w answer) → WasWritten out w q.outcomes (put_all files answer.writes)
-was_written words wad out only report workers method files answer w maps is_asked e f q =
+pub was_written : (words : List (List ℕ)) (wad : Source) (out : List ℕ) (only : Option (List (List ℕ))) (report : Option (List ℕ)) (workers : ℕ) (method : Method) (choice : Refused) (files : Files) (answer : Answer) (w : WadFile) (maps : List (List ℕ))
+    → asked_of words ≡ Ok (order.All wad out only report workers method choice) → wad_in wad.file files ≡ Ok w → maps_in (names_of w) only ≡ Ok maps
+    → (q : ShowsAll out report wad.large maps method choice w answer) → WasWritten out w q.outcomes (put_all files answer.writes)
+was_written words wad out only report workers method choice files answer w maps is_asked e f q =
     let cs = changes_of q.outcomes in
     let among : HasInOrder (maps_of (names_of w)) (names_changed cs) =
     in_order_through (maps_of (names_of w)) maps (names_changed cs) (asked_are_maps (names_of w) only maps f)
@@ -130,7 +131,7 @@ was_written words wad out only report workers method files answer w maps is_aske
     let printed = printed_reads (with_all w cs) q.bytes (names_all w (with_all w cs) cs made (names_read old.bytes w old.read)) q.made in
     record {
       bytes = q.bytes;
-      stands = ap (λ (a : Answer). put_all files a.writes out) q.is ∙ before_report files (wad_output out q.bytes ∷ []) report (report_of q.outcomes) out (out_apart wad.file out None report (of_words words (order.All wad out only report workers method) is_asked)).1 ∙ stored files out q.bytes;
+      stands = ap (λ (a : Answer). put_all files a.writes out) q.is ∙ before_report files (wad_output out q.bytes ∷ []) report (report_of q.outcomes) out (out_apart wad.file out None report (of_words words (order.All wad out only report workers method choice) is_asked)).1 ∙ stored files out q.bytes;
       short = printed.short;
       new = with_all w cs;
       read = printed.read;
@@ -141,12 +142,12 @@ was_written words wad out only report workers method files answer w maps is_aske
     }
 
 pub all_keeps_lumps : AllKeepsLumps
-all_keeps_lumps words wad out only report workers method files heard answer is_asked h = on (wad_in wad.file files) refl (subst (λ r. AnswersAsked r files heard (Ok answer)) is_asked h)
+all_keeps_lumps words wad out only report workers method choice files heard answer is_asked h = on (wad_in wad.file files) refl (subst (λ r. AnswersAsked r files heard (Ok answer)) is_asked h)
   where
-    of_maps : (w : WadFile) (r : Result (List (List ℕ)) Status) → wad_in wad.file files ≡ Ok w → maps_in (names_of w) only ≡ r → OnRead r (λ maps. MapsCall out report wad.large maps method w) (Ok answer) → KeepsAllLumps wad out only method files (put_all files answer.writes)
+    of_maps : (w : WadFile) (r : Result (List (List ℕ)) Status) → wad_in wad.file files ≡ Ok w → maps_in (names_of w) only ≡ r → OnRead r (λ maps. MapsCall out report wad.large maps method choice w) (Ok answer) → KeepsAllLumps wad out only method choice files (put_all files answer.writes)
     of_maps w (Err s) e f q = absurd cc
     of_maps w (Ok maps) e f q =
-        let x = was_written words wad out only report workers method files answer w maps is_asked e f q in
+        let x = was_written words wad out only report workers method choice files answer w maps is_asked e f q in
         record {
           w = w;
           was = e;
@@ -154,7 +155,7 @@ all_keeps_lumps words wad out only report workers method files heard answer is_a
           asked = f;
           outcomes = q.outcomes;
           are = q.are;
-          lengths = all_so (ComesOf w wad.large method) (λ (o : MapOutcome). HasLengthOf (map_named wad.large w (word_of o.name)) o.made) q.outcomes (λ o k. has_length (map_named wad.large w (word_of o.name)) method o.made k) q.are.comes;
+          lengths = all_so (ComesOf w wad.large method choice) (λ (o : MapOutcome). HasLengthOf (map_named wad.large w (word_of o.name)) o.made) q.outcomes (λ o k. has_length (map_named wad.large w (word_of o.name)) method o.made k.gets) q.are.comes;
           bytes = x.bytes;
           stands = x.stands;
           short = x.short;
@@ -165,6 +166,6 @@ all_keeps_lumps words wad out only report workers method files heard answer is_a
           lumps = x.lumps;
         }
 
-    on : (r : Result WadFile Status) → wad_in wad.file files ≡ r → OnRead r (AllCalls out wad.large only report method) (Ok answer) → KeepsAllLumps wad out only method files (put_all files answer.writes)
+    on : (r : Result WadFile Status) → wad_in wad.file files ≡ r → OnRead r (AllCalls out wad.large only report method choice) (Ok answer) → KeepsAllLumps wad out only method choice files (put_all files answer.writes)
     on (Err s) e q = absurd cc
     on (Ok w) e q = of_maps w (maps_in (names_of w) only) e refl q

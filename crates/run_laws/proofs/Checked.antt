@@ -63,7 +63,7 @@ use Rattle.sight_run.specs.Obeys.{AnswersAsked, IsAnswer}
 use Rattle.sight_run.specs.Run.{IsBrokenBy, RunEnds, StandsUpTo, put_all}
 use Rattle.whole_wad.specs.Sizes.{sizes_of_map}
 use Rattle.map_answers.specs.Sound.{OnSoundLines}
-use Rattle.sight_run.specs.Zero.{table_len}
+use Rattle.whole_wad.specs.Rejects.{table_len}
 use Rattle.run_laws.specs.Laws.{BuiltIsChecked, BuiltRunIsChecked, ChecksYes, HaveBoth, IsShort, SaysYes, Sinks, totals_of}
 use Rattle.sight_run.proofs.Round.{IsFoundAgain, found_again, found_then, same_ok}
 use Rattle.sight_run.proofs.Stood.{IsOther, before_report, bytes_of, cert_apart, of_words, out_apart, under_cert, under_out}
@@ -299,6 +299,8 @@ ends_yes check others heard first last old new counts status.Done one h =
 ends_yes check others heard first last old new counts status.Memory one h = tt
 ends_yes check others heard first last old new counts (status.ReadFault k) one h = tt
 ends_yes check others heard first last old new counts (status.WriteFault role.Text) one h = tt
+ends_yes check others heard first last old new counts status.NotRight one h =
+    let right : true ≡ false = sym (ap (λ (a : Answer). a.right) (same_ok h.ends.answer (only_line (yes_line counts.sectors (totals_of counts))) (one (Ok h.ends.answer) h.ends.called.called))) ∙ h.ends.right_is in absurd cc
 ends_yes check others heard first last old new counts (status.WriteFault k) one h = never_broken (IsAnswer check others heard) _ k others last.files _ one h.ends.0
 ends_yes check others heard first last old new counts s one h = never_refused (IsAnswer check others heard) _ _ s one h.ends.0
 

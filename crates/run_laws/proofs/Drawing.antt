@@ -19,7 +19,7 @@ use Rattle.sight_run.specs.Draw.{DrawCalls, IsRowIn, OnTable, RowOfMap}
 use Rattle.sight_run.specs.Obeys.{AnswersAsked}
 use Rattle.sight_run.specs.Reading.{found_of}
 use Rattle.sight_run.specs.Run.{put_all}
-use Rattle.sight_run.specs.Zero.{table_len}
+use Rattle.whole_wad.specs.Rejects.{table_len}
 use Rattle.sight_run.proofs.Round.{same_ok}
 use Rattle.run_laws.specs.Laws.{DrawLeavesPicture, IsPictureOf, LeavesPicture, ShowsView}
 use Rattle.run_laws.proofs.Keeping.{stored}

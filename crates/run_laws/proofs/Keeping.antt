@@ -14,7 +14,8 @@ use Rattle.sight_run.specs.Obeys.{AnswersAsked}
 use Rattle.sight_run.specs.Reply.{one_output}
 use Rattle.sight_run.specs.Run.{put_all}
 use Rattle.sight_run.specs.Words.{given, has_twice}
-use Rattle.sight_run.specs.Zero.{ZeroCalls, clear_table, with_table, zero_line, zeroed}
+use Rattle.sight_run.specs.Zero.{ZeroCalls, with_table, zero_line, zeroed}
+use Rattle.whole_wad.specs.Rejects.{clear_table}
 use Rattle.sight_run.proofs.Round.{passes, same_ok, written_again}
 use Rattle.sight_run.proofs.Stood.{IsOther, before_report, bytes_of, of_words, out_apart, under_out}
 use Rattle.shelf_io.proofs.FilesLemmas.{bytes_eq-refl}

@@ -13,3 +13,4 @@ pub mod Planned
 pub mod FoundPlan
 pub mod Shown
 pub mod Deciding
+pub mod Verified

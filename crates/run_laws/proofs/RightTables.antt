@@ -56,7 +56,7 @@ use Rattle.sight_run.specs.Obeys.{AnswersAsked}
 use Rattle.sight_run.specs.Reading.{found_of}
 use Rattle.sight_run.specs.Run.{put_all}
 use Rattle.sight_run.specs.Words.{given, has_twice}
-use Rattle.sight_run.specs.Zero.{table_len}
+use Rattle.whole_wad.specs.Rejects.{table_len}
 use Rattle.run_laws.proofs.Checked.{EndsDone, ends_done, wad_fetched}
 use Rattle.sight_run.proofs.CheckInputs.{input_as, input_by, with_cert, with_parts}
 use Rattle.run_laws.proofs.Keeping.{build_keeps_lumps, built_stands}

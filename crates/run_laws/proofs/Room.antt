@@ -18,7 +18,8 @@ use Rattle.map_answers.specs.declared.sight_status.status.Status.TheVariants as 
 use Rattle.map_answers.specs.Input.{LocatedMap}
 use Rattle.sight_run.specs.Build.{ShowsLimit}
 use Rattle.run_laws.specs.Laws.{BuildWithRoomIsDone, EndsBuild, HasRoom}
-use Rattle.sight_run.specs.Zero.{clear_table, of_rewrite, table_len}
+use Rattle.sight_run.specs.Zero.{of_rewrite}
+use Rattle.whole_wad.specs.Rejects.{clear_table, table_len}
 use Rattle.run_laws.proofs.Done.{build_is_done}
 use Rattle.sight_run.proofs.Round.{was_printed}
 

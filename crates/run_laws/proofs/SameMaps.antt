@@ -37,17 +37,6 @@ pub record HasSameMap (old new : WadFile) (name : List ℕ) : Type 0 where
   pub vertexes : slice_get new.lumps spot.vertexes ≡ slice_get old.lumps was.vertexes
   pub sectors : slice_get new.lumps spot.sectors ≡ slice_get old.lumps was.sectors
 
--- ---- names
-
--- a name up to its first NUL is the same name
-pub key_word : (name : List ℕ) → key_of (word_of name) ≡ key_of name
-key_word [] = refl
-key_word (c ∷ cs) = by (c == 0) refl (key_word cs)
-  where
-    by : (t : Bool) → (c == 0) ≡ t → key_of (word_of cs) ≡ key_of cs → key_of (if t then [] else c ∷ word_of cs) ≡ (if t then [] else to_ascii_uppercase c ∷ key_of cs)
-    by true e rest = refl
-    by false e rest = ap (λ (t : Bool). if t then [] else to_ascii_uppercase c ∷ key_of (word_of cs)) e ∙ ap (λ (ks : List ℕ). to_ascii_uppercase c ∷ ks) rest
-
 -- ---- where a bound stands
 
 pub then_before : (k : ℕ) (spot : MapSpot) → reject_then (further k spot) < shift_of spot.reject k + place_behind spot

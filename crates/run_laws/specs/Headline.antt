@@ -1,5 +1,5 @@
 -- The headline, over words and files alone: what the REJECT that `check` accepts, and those that `build` and `all` write, tell of sight.
-use Rattle.std.specs.Prelude.{◌≡◌, ◌⊎◌, ◌↔◌, ◌<◌, ℕ, List, [], ◌++◌, length, map, false, Option, Some, Ok, IfOk, IfSome, IsOk, codes}
+use Rattle.std.specs.Prelude.{◌≡◌, ◌⊎◌, ◌↔◌, ◌<◌, ℕ, List, [], ◌++◌, map, false, Option, Some, Ok, IfErr, IfOk, IfSome, IsOk, codes}
 use Rattle.std.specs.List.{AllByRecursion}
 use Rattle.std.specs.Option.{option_map}
 use Rattle.sight_names.specs.declared.names.Ask.TheVariants.{Enough, Full}
@@ -21,6 +21,9 @@ use Rattle.certificates.specs.declared.certificate.Certificate.{Certificate}
 use Rattle.certificates.specs.declared.certificate.Certificate.TheVariants.{Listing, Exact}
 use Rattle.certificates.specs.Reading.{certificate_at}
 use Rattle.group_job.specs.Sectors.{AreListed}
+use Rattle.refused_maps.specs.declared.Refused.{Refused}
+use Rattle.refused_maps.specs.declared.Refused.TheVariants as refused
+use Rattle.refused_maps.specs.Stops.{Stops}
 use Rattle.order_words.specs.declared.order.Order.TheVariants as order
 use Rattle.order_words.specs.declared.order.Source.{Source}
 use Rattle.order_words.specs.Words.{source_of}
@@ -30,10 +33,10 @@ use Rattle.map_answers.specs.Input.{LocatedMap}
 use Rattle.whole_wad.specs.declared.outcomes.MapOutcome.{MapOutcome}
 use Rattle.whole_wad.specs.declared.tables.MapTable.{MapTable}
 use Rattle.whole_wad.specs.Built.{ask_of}
-use Rattle.whole_wad.specs.Outcomes.{changes_of, refusals_of}
+use Rattle.whole_wad.specs.Rejects.{clear_table}
 use Rattle.whole_wad.specs.Report.{report_of}
 use Rattle.whole_wad.specs.Sizes.{sizes_of_map}
-use Rattle.sight_run.specs.All.{maps_in, tally_line, wad_in}
+use Rattle.sight_run.specs.All.{maps_in, tally_of, wad_in}
 use Rattle.sight_run.specs.Build.{build_line}
 use Rattle.sight_run.specs.Check.{reject_of}
 use Rattle.sight_run.specs.Heard.{Heard}
@@ -162,28 +165,39 @@ BuildsLeaveOneWad = (words others : List (List ℕ)) (wad : Source) (name out : 
 abbrev pub IsSoundIn : Source → List ℕ → Files → Type 0
 IsSoundIn wad name files = (found : LocatedMap) × (found_of wad name files ≡ Ok found) × HasClosedFaces found.map
 
+-- The name finds the same map in the WAD that stands under OUT, and no bit of its REJECT there is set. It has as many bytes as the map's sectors
+-- ask.
+pub record LeavesClearReject (wad : Source) (name out : List ℕ) (stand : Files) (m : Map) : Type 0 where
+  pub new : LocatedMap
+  pub is_new : found_of (source_of wad.large out) name stand ≡ Ok new
+  pub same : new.map ≡ m
+  pub clear : reject_of new ≡ clear_table m.sectors
+
 -- There is one outcome for each map that was to be built, in order: a table where its faces are closed, and else a refusal. The line counts
--- them, the report, where it is asked for, has a line for each, and of each that has a table this holds.
-pub record LeavesRejects (wad : Source) (only : Option (List (List ℕ))) (report : Option (List ℕ)) (files stand : Files) (sink : Sinks) (IsRight : List ℕ → MapTable → Type 0) : Type 0 where
+-- them, the report, where it is asked for, has a line for each, and of each that has a table this holds. Where clear tables are chosen for
+-- refused maps, each of them that its name finds in the WAD has one; where a refusal stops all, none is refused.
+pub record LeavesRejects (wad : Source) (out : List ℕ) (only : Option (List (List ℕ))) (report : Option (List ℕ)) (choice : Refused) (files stand : Files) (sink : Sinks) (IsRight : List ℕ → MapTable → Type 0) : Type 0 where
   pub w : WadFile
   pub was : wad_in wad.file files ≡ Ok w
   pub maps : List (List ℕ)
   pub asked : maps_in (names_of w) only ≡ Ok maps
   pub outcomes : List MapOutcome
   pub each : map (λ (o : MapOutcome). o.name) outcomes ≡ maps
-  pub said : sink.new.held ≡ option_map (λ held. held ++ tally_line (length outcomes) (length (changes_of outcomes)) (length (refusals_of outcomes))) sink.old.held
+  pub said : sink.new.held ≡ option_map (λ held. held ++ tally_of choice outcomes) sink.old.held
   pub reported : IfSome report (λ name. stand name ≡ Some (report_of outcomes))
   pub built : AllByRecursion (λ (o : MapOutcome). IsOk o.made ↔ IsSoundIn wad (word_of o.name) files) outcomes
   pub right : AllByRecursion (λ (o : MapOutcome). IfOk o.made (IsRight (word_of o.name))) outcomes
+  pub cleared : choice ≡ refused.Clear → AllByRecursion (λ (o : MapOutcome). IfErr o.made (λ refusal. (found : LocatedMap) → found_of wad (word_of o.name) files ≡ Ok found → LeavesClearReject wad (word_of o.name) out stand found.map)) outcomes
+  pub unstopped : Stops choice → AllByRecursion (λ (o : MapOutcome). IsOk o.made) outcomes
 
 -- Where `all` was done, the REJECT under OUT of each map that was built is as a `build` of it by the same method leaves it.
 abbrev pub AllIsRight : Type 0
-AllIsRight = (words : List (List ℕ)) (wad : Source) (out : List ℕ) (only : Option (List (List ℕ))) (report : Option (List ℕ)) (workers : ℕ) (method : Method) (files stand : Files)
-    → asked_of words ≡ Ok (order.All wad out only report workers method)
-    → (done : WasDone words files stand) → LeavesRejects wad only report files stand done.sink (λ name made. LeavesRightReject wad name out method files stand)
+AllIsRight = (words : List (List ℕ)) (wad : Source) (out : List ℕ) (only : Option (List (List ℕ))) (report : Option (List ℕ)) (workers : ℕ) (method : Method) (choice : Refused) (files stand : Files)
+    → asked_of words ≡ Ok (order.All wad out only report workers method choice)
+    → (done : WasDone words files stand) → LeavesRejects wad out only report choice files stand done.sink (λ name made. LeavesRightReject wad name out method files stand)
 
 -- Where it decides every pair, a bit of each such REJECT is set exactly where the two sectors don't see each other, and none is listed.
 abbrev pub AllIsExact : Type 0
-AllIsExact = (words : List (List ℕ)) (wad : Source) (out : List ℕ) (only : Option (List (List ℕ))) (report : Option (List ℕ)) (workers : ℕ) (files stand : Files)
-    → asked_of words ≡ Ok (order.All wad out only report workers how.Exact)
-    → (done : WasDone words files stand) → LeavesRejects wad only report files stand done.sink (λ name made. LeavesExactTable wad name out files stand × (made.listed ≡ []))
+AllIsExact = (words : List (List ℕ)) (wad : Source) (out : List ℕ) (only : Option (List (List ℕ))) (report : Option (List ℕ)) (workers : ℕ) (choice : Refused) (files stand : Files)
+    → asked_of words ≡ Ok (order.All wad out only report workers how.Exact choice)
+    → (done : WasDone words files stand) → LeavesRejects wad out only report choice files stand done.sink (λ name made. LeavesExactTable wad name out files stand × (made.listed ≡ []))

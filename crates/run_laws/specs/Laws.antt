@@ -3,7 +3,6 @@ use Rattle.std.specs.Prelude.{◌≡◌, ◌⊎◌, ◌≤◌, ◌<◌, ◌^◌,
 use Rattle.std.specs.List.{AllByRecursion}
 use Rattle.std.specs.Option.{option_map}
 use Rattle.std.specs.Str.{bytes_eq}
-use Rattle.sight_names.specs.declared.faults.RewriteFault.TheVariants as rewrite
 use Rattle.sight_names.specs.declared.names.Ask.{Ask}
 use Rattle.sight_names.specs.declared.names.Method.{Method}
 use Rattle.sight_names.specs.declared.names.Pair.{Pair}
@@ -19,6 +18,7 @@ use Rattle.wad_dir.specs.declared.all_maps.parts.Change.{Change}
 use Rattle.wad_dir.specs.AllMaps.All.{HasReject, IsAll}
 use Rattle.wad_dir.specs.AllMaps.Names.{word_of}
 use Rattle.wad_dir.specs.AllMaps.Spliced.{spliced}
+use Rattle.refused_maps.specs.declared.Refused.{Refused}
 use Rattle.order_words.specs.declared.order.Order.TheVariants as order
 use Rattle.order_words.specs.declared.order.Source.{Source}
 use Rattle.order_words.specs.declared.order.View.{View}
@@ -39,8 +39,7 @@ use Rattle.whole_wad.specs.declared.tables.MapTable.{MapTable}
 use Rattle.whole_wad.specs.Built.{IsBuiltOf}
 use Rattle.whole_wad.specs.Outcomes.{AreOutcomes, changes_of}
 use Rattle.whole_wad.specs.Tables.{IsFlawOf}
-use Rattle.whole_wad.specs.Whole.{IsAboveLimit}
-use Rattle.sight_run.specs.All.{maps_in, wad_in}
+use Rattle.sight_run.specs.All.{IsUnmade, maps_in, wad_in}
 use Rattle.sight_run.specs.Build.{ShowsLimit, build_line}
 use Rattle.sight_run.specs.Check.{IsTableOf, reject_of, yes_line}
 use Rattle.map_answers.specs.Groups.{IsOverGroups, MapGroups}
@@ -58,7 +57,8 @@ use Rattle.sight_run.specs.Reading.{found_of}
 use Rattle.sight_run.specs.Obeys.{IsAnswer}
 use Rattle.sight_run.specs.Run.{NothingRose, RunEnds, StatusCause, put_all}
 use Rattle.sight_run.specs.Words.{asked_of}
-use Rattle.sight_run.specs.Zero.{clear_table, with_table}
+use Rattle.sight_run.specs.Zero.{with_table}
+use Rattle.whole_wad.specs.Rejects.{clear_table}
 
 -- the words ask for a build of this map into OUT with its certificate in FILE, and the others for the check of just these by the same limits
 pub record AskBoth (build check : List (List ℕ)) (name out cert : List ℕ) : Type 0 where
@@ -217,23 +217,23 @@ pub record AreMadeAlike (found : LocatedMap) (name : List ℕ) (method : Method)
   pub flaws : (o : MapOutcome) → Contains outcomes o → word_of o.name ≡ name → (refusal : Status) → IsFlawOf found.map refusal → o.made ≡ Err refusal
 
 abbrev pub AllIsAsBuild : Type 0
-AllIsAsBuild = (wad : Source) (name : List ℕ) (files : Files) (w : WadFile) (found : LocatedMap) (maps : List (List ℕ)) (method : Method) (outcomes : List MapOutcome)
-    → wad_in wad.file files ≡ Ok w → found_of wad name files ≡ Ok found → AreOutcomes w wad.large maps method outcomes → AreMadeAlike found name method outcomes
+AllIsAsBuild = (wad : Source) (name : List ℕ) (files : Files) (w : WadFile) (found : LocatedMap) (maps : List (List ℕ)) (method : Method) (choice : Refused) (outcomes : List MapOutcome)
+    → wad_in wad.file files ≡ Ok w → found_of wad name files ≡ Ok found → AreOutcomes w wad.large maps method choice outcomes → AreMadeAlike found name method outcomes
 
 -- a table has the length that the sectors of its map ask
 abbrev pub HasLengthOf : Result Map Status → Result MapTable Status → Type 0
 HasLengthOf (Ok m) (Ok made) = IsTable m.sectors made.table.bytes
 HasLengthOf said other = ⊤
 
--- Under OUT stands a WAD that is read as the one of the file in which each map that was to be built and got a table has it as its REJECT,
+-- Under OUT stands a WAD that is read as the one of the file in which each map that was to be built and got a table, or a clear one, has it as its REJECT,
 -- and in which all other lumps are as they were, in order.
-pub record KeepsAllLumps (wad : Source) (out : List ℕ) (only : Option (List (List ℕ))) (method : Method) (files stand : Files) : Type 0 where
+pub record KeepsAllLumps (wad : Source) (out : List ℕ) (only : Option (List (List ℕ))) (method : Method) (choice : Refused) (files stand : Files) : Type 0 where
   pub w : WadFile
   pub was : wad_in wad.file files ≡ Ok w
   pub maps : List (List ℕ)
   pub asked : maps_in (names_of w) only ≡ Ok maps
   pub outcomes : List MapOutcome
-  pub are : AreOutcomes w wad.large maps method outcomes
+  pub are : AreOutcomes w wad.large maps method choice outcomes
   pub lengths : AllByRecursion (λ (o : MapOutcome). HasLengthOf (map_named wad.large w (word_of o.name)) o.made) outcomes
   pub bytes : List ℕ
   pub stands : stand out ≡ Some bytes
@@ -248,9 +248,9 @@ pub record KeepsAllLumps (wad : Source) (out : List ℕ) (only : Option (List (L
 
 -- Where `all` is answered, OUT holds such a WAD.
 abbrev pub AllKeepsLumps : Type 0
-AllKeepsLumps = (words : List (List ℕ)) (wad : Source) (out : List ℕ) (only : Option (List (List ℕ))) (report : Option (List ℕ)) (workers : ℕ) (method : Method) (files : Files) (heard : Heard) (answer : Answer)
-    → asked_of words ≡ Ok (order.All wad out only report workers method) → IsAnswer words files heard (Ok answer)
-    → KeepsAllLumps wad out only method files (put_all files answer.writes)
+AllKeepsLumps = (words : List (List ℕ)) (wad : Source) (out : List ℕ) (only : Option (List (List ℕ))) (report : Option (List ℕ)) (workers : ℕ) (method : Method) (choice : Refused) (files : Files) (heard : Heard) (answer : Answer)
+    → asked_of words ≡ Ok (order.All wad out only report workers method choice) → IsAnswer words files heard (Ok answer)
+    → KeepsAllLumps wad out only method choice files (put_all files answer.writes)
 
 -- ---- where nothing failed
 
@@ -293,19 +293,17 @@ BuildWithRoomIsDone = (words : List (List ℕ)) (wad : Source) (name out : List 
     → asked_of words ≡ Ok (order.Build wad name out asked report workers method) → found_of wad name went.files ≡ Ok found → HasClosedFaces found.map → HasRoom found
     → WentWell words went → (went.status ≡ status.Done) ⊎ (went.status ≡ status.Memory)
 
--- it is done, unless memory ran out, or the WAD with all tables is above that limit
-abbrev pub EndsAll : Bool → List (List ℕ) → Method → WadFile → Status → Type 0
-EndsAll large maps method w status.Done = ⊤
-EndsAll large maps method w status.Memory = ⊤
-EndsAll large maps method w (status.Limit bound.Lumps) = IsAboveLimit w large maps method rewrite.TooManyLumps
-EndsAll large maps method w (status.Limit bound.OutputBytes) = IsAboveLimit w large maps method rewrite.TooLong
-EndsAll large maps method w other = ⊥
+-- it is done, unless memory ran out, or the first refusal stops all, or the WAD with all tables is above that limit
+abbrev pub EndsAll : Bool → List (List ℕ) → Method → Refused → WadFile → Status → Type 0
+EndsAll large maps method choice w status.Done = ⊤
+EndsAll large maps method choice w status.Memory = ⊤
+EndsAll large maps method choice w refusal = IsUnmade w large maps method choice refusal
 
 -- `all` of a WAD that is read ends so, where each name that is given is that of a map. Without names there is nothing to be found.
 abbrev pub AllIsDone : Type 0
-AllIsDone = (words : List (List ℕ)) (wad : Source) (out : List ℕ) (only : Option (List (List ℕ))) (report : Option (List ℕ)) (workers : ℕ) (method : Method) (went : Went) (w : WadFile) (maps : List (List ℕ))
-    → asked_of words ≡ Ok (order.All wad out only report workers method) → wad_in wad.file went.files ≡ Ok w → maps_in (names_of w) only ≡ Ok maps
-    → WentWell words went → EndsAll wad.large maps method w went.status
+AllIsDone = (words : List (List ℕ)) (wad : Source) (out : List ℕ) (only : Option (List (List ℕ))) (report : Option (List ℕ)) (workers : ℕ) (method : Method) (choice : Refused) (went : Went) (w : WadFile) (maps : List (List ℕ))
+    → asked_of words ≡ Ok (order.All wad out only report workers method choice) → wad_in wad.file went.files ≡ Ok w → maps_in (names_of w) only ≡ Ok maps
+    → WentWell words went → EndsAll wad.large maps method choice w went.status
 
 -- it is done, unless memory ran out or one of the two is no sector of the map
 abbrev pub EndsPair : Map → Pair → Status → Type 0

@@ -1,3 +1,4 @@
 pub mod Laws
 pub mod Headline
 pub mod Pairs
+pub mod Verified

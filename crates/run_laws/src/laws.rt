@@ -38,8 +38,8 @@ pub fn draw_leaves_picture()
     ensures { DrawLeavesPicture }
 {}
 
-/// Where `all` is answered, OUT is read as the WAD in which each map that got a table has it as its REJECT, found there by
-/// the map's name, with as many bytes as the map's sectors ask. Every other lump has its name and its bytes, in order.
+/// Where `all` is answered, OUT is read as the WAD in which each map that got a table, or a clear one, has it as its REJECT, found
+/// there by the map's name, with as many bytes as the map's sectors ask. Every other lump has its name and its bytes, in order.
 pub fn all_keeps_lumps()
     ensures { AllKeepsLumps }
 {}
@@ -61,8 +61,8 @@ pub fn build_with_room_is_done()
     ensures { BuildWithRoomIsDone }
 {}
 
-/// Where no count of faults rises, `all` of a WAD that is read ends with Done or for want of memory, or the WAD with all
-/// tables is above the limit that is told.
+/// Where no count of faults rises, `all` of a WAD that is read ends with Done or for want of memory, or with the first refusal
+/// where that stops all, or the WAD with all tables is above the limit that is told.
 pub fn all_is_done()
     ensures { AllIsDone }
 {}

@@ -7,7 +7,7 @@ mod pairs;
 
 pub use headline::{
     all_is_exact, all_is_right, build_leaves_lumps, builds_leave_one_wad, built_is_right,
-    checked_is_right, exact_is_right,
+    checked_is_right, exact_is_right, verified_is_right,
 };
 pub use laws::{
     all_is_as_build, all_is_done, all_keeps_lumps, build_is_done, build_keeps_lumps,

@@ -8,7 +8,7 @@ use program::usage::{Fault, diagnose};
 use program::verbs::VERBS;
 use shelf_io::MemSink;
 use sight_names::OrderFault;
-use sight_run::{NoNotice, Notice, Status, code};
+use sight_run::{Bound, Fate, NoNotice, Notice, Status, code};
 use std::alloc::{AllocError, Global};
 use std::test::Fail;
 use std::thread::Threads;
@@ -156,6 +156,12 @@ check a MAP01 c --exact | 5
 all a b --exact | -
 all a b --only MAP01 --exact --report r | -
 all a b --exact --budget full | 5
+all a b --refused clear | -
+all a b --refused=stop --only MAP01 | -
+all a b --refused | HOW
+all a b --refused never | 5
+all a b --refused keep --refused stop | 6
+build a MAP01 b --refused clear | 5
 grid 4 --exact | -
 grid 4 --exact --hexen --workers 1 | -
 build a MAP01 b --workers 0 | 6
@@ -172,6 +178,19 @@ all a | OUT
 all a b --cert c | 4
 all a --only | MAP,MAP
 check a MAP01 | CERT
+verify | WAD
+verify a | -
+verify a --large --only MAP01,MAP02 --report r --workers 8 | -
+--report=r verify a | -
+verify a b | 3
+verify '' | 2
+verify a --exact | 3
+verify a --budget full | 3
+verify a --cert c | 3
+verify a --refused keep | 3
+verify a --only MAP01, | 4
+verify a --workers 65 | 4
+--exact verify | 2
 grid | N
 help | 1
 -V | 1
@@ -232,10 +251,11 @@ build a --version --help | doomsight 1.1.0
 build a -h -V | doomsight build WAD MAP OUT [--cert FILE] [--report FILE]
 audit a MAP01 -h | doomsight audit WAD MAP [--large]
 help check | doomsight check WAD MAP CERT [--large]
-all --help | doomsight all WAD OUT [--only MAP,MAP] [--report FILE]
+all --help | doomsight all WAD OUT [--only MAP,MAP] [--refused HOW] [--report FILE]
 why --help | doomsight why WAD MAP A B [--exact | --budget N|full|enough] [--large]
 draw --help | doomsight draw WAD MAP OUT [A [B [--exact | --budget N|full|enough]] | --faults]
 help sound -V | doomsight sound WAD MAP [A B] [--large]
+verify --help | doomsight verify WAD [--only MAP,MAP] [--report FILE] [--workers N]
 grid --help | doomsight grid N [--exact | --budget N|full|enough] [--workers N] [--hexen]
 sound -- --help | 
 -- help | 
@@ -265,7 +285,8 @@ doomsight VERB WORDS.. [OPTIONS]
   all    builds every map of a WAD, and judges each table
   draw   draws a map, the row of a sector, or a pair of sectors
   grid   makes a map of N by N rooms, and builds and checks it
-  --only MAP,MAP          builds these maps; else all of the WAD
+  verify says how the tables of a WAD differ from the right ones
+  --only MAP,MAP          takes these maps; else all of the WAD
   --faults                draws what audit refuses, in place of A and B
   -h, --help              this help, or behind a verb that of the verb
   -V, --version           the version
@@ -277,6 +298,7 @@ a=U | audit a MAP01 | 0
 a=U | draw a MAP01 b 0 1 | 0
 a=TOUCHED | draw a MAP01 b --faults | 0
 a=PAIR | ray a MAP01 2L,2R,0,1,-32 | 1
+a=U =4600 | verify a | 1
 a=U | audit a | 2
 a=U | audit b MAP01 | 3
 a=U, reads=0 | audit a MAP01 | 4
@@ -450,29 +472,21 @@ fn a_report_has_its_lines_and_totals(rt: HostRuntime) -> Result<(), Fail> {
     Ok(())
 }
 
-/// Lines of the report of `all`, and whether a limit of its size refuses the map.
-const REFUSED: &str = "\
-MAP01 refused limit: points | true
-MAP01 refused limit: lines | true
-MAP01 refused limit: sectors | true
-MAP01 refused limit: lumps | false
-MAP01 refused bad map: open 0R | false
-MAP01 set 0 clear 3 listed 0 | false
-";
+/// Refusals, and whether they are of a limit of a map's size.
+const REFUSED: [(Status, bool); 5] = [
+    (Status::Limit(Bound::Points), true),
+    (Status::Limit(Bound::Lines), true),
+    (Status::Limit(Bound::Sectors), true),
+    (Status::Limit(Bound::Lumps), false),
+    (Status::SameName, false),
+];
 
 #[test]
 fn a_map_that_is_refused_for_its_size_is_noted(rt: HostRuntime) -> Result<(), Fail> {
-    let alloc = rt.alloc();
-    for row in REFUSED.lines() {
-        let (line, wanted) = parts_of(row);
-        let line = format!(in alloc; "{}\n", line.trim())?;
+    for (refusal, wanted) in REFUSED {
         let progress = Progress::new(rt.stderr(), false);
-        progress.tell(&line);
-        assert_eq!(rt;
-            progress.has_refused_size(),
-            wanted.trim() == "true",
-            "{row}"
-        );
+        progress.refuse("", refusal, &Fate::KeptClear);
+        assert!(rt; progress.has_refused_size() == wanted);
     }
     Ok(())
 }

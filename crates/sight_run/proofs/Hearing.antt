@@ -1,5 +1,5 @@
 -- What the listeners have heard where a call ends, by how far it came.
-use Rattle.std.proofs.Common.{◌≡◌, ℕ, inl, inr, List, Option, Some, Result, Ok, Err, sym, subst}
+use Rattle.std.proofs.Common.{◌≡◌, ℕ, Bool, true, false, inl, inr, List, Option, Some, Result, Ok, Err, sym, subst}
 use Rattle.listeners.specs.declared.finding.Finding.{Finding}
 use Rattle.shelf_io.specs.Shelf.{Files, ShelfState}
 use Rattle.shelf_io.specs.Sink.{SinkState}
@@ -10,10 +10,10 @@ use Rattle.map_answers.specs.declared.sight_status.status.Role.TheVariants as ro
 use Rattle.map_answers.specs.declared.sight_status.status.Status.{Status}
 use Rattle.map_answers.specs.declared.sight_status.status.Status.TheVariants as status
 use Rattle.map_answers.specs.SightStatus.Say.{Refused, Said, SaidIfMade}
-use Rattle.map_answers.specs.SightStatus.Status.{IsOfMaking}
+use Rattle.map_answers.specs.SightStatus.Status.{IsOfMaking, done_as}
 use Rattle.map_answers.specs.SightStatus.Texts.{text_of}
 use Rattle.whole_wad.specs.Built.{IsOfBuilding}
-use Rattle.sight_run.specs.Heard.{AreFindingsIn, BuildHears, Heard, Hears, IsUnheard, OrderHears}
+use Rattle.sight_run.specs.Heard.{AllHeard, AreFindingsIn, BuildHears, Heard, Hears, IsUnheard, OrderHears}
 use Rattle.sight_run.specs.Reply.{IsFaultOf}
 use Rattle.sight_run.specs.Run.{HasLine, IsUnstored, RefusalCause}
 
@@ -26,30 +26,37 @@ building_unstored s h = absurd h
 
 pub making_unstored : (s : Status) → IsOfMaking s → IsUnstored s
 making_unstored status.Done h = absurd h
+making_unstored status.NotRight h = absurd h
 making_unstored (status.WriteFault k) h = absurd h
 making_unstored s h = tt
 
 pub build_unheard : (Are : List Finding → Type 0) (heard : Heard) (s : Status) → IsUnheard heard → IsUnstored s → BuildHears Are heard s
 build_unheard Are heard status.Done h early = absurd early
+build_unheard Are heard status.NotRight h early = absurd early
 build_unheard Are heard (status.WriteFault k) h early = absurd early
 build_unheard Are heard status.Memory h early = inl h
 build_unheard Are heard s h early = h
 
 -- ---- an output couldn't be stored
 
-fault_hears : (asked : Order) (files : Option Files) (heard : Heard) (k : Role) → OrderHears asked files heard status.Done → OrderHears asked files heard (status.WriteFault k)
-fault_hears (order.Build wad name out cert report workers method) files heard role.Text h = inr h
-fault_hears (order.Build wad name out cert report workers method) files heard k h = h
-fault_hears asked files heard k h = h
+build_faulted : (Are : List Finding → Type 0) (heard : Heard) (k : Role) → AllHeard Are heard → BuildHears Are heard (status.WriteFault k)
+build_faulted Are heard role.Text h = inr h
+build_faulted Are heard k h = h
 
-pub broken_hears : (asked : Order) (files : Option Files) (heard : Heard) (roles : List Role) (s : Status) → IsFaultOf roles s → OrderHears asked files heard status.Done → OrderHears asked files heard s
-broken_hears asked files heard roles (status.WriteFault k) fault h = fault_hears asked files heard k h
-broken_hears asked files heard roles s fault h = absurd fault
+fault_hears : (asked : Order) (files : Option Files) (heard : Heard) (right : Bool) (k : Role) → OrderHears asked files heard (done_as right) → OrderHears asked files heard (status.WriteFault k)
+fault_hears (order.Build wad name out cert report workers method) files heard true k h = build_faulted (AreFindingsIn files wad name method) heard k h
+fault_hears (order.Build wad name out cert report workers method) files heard false k h = build_faulted (AreFindingsIn files wad name method) heard k h
+fault_hears asked files heard right k h = h
+
+pub broken_hears : (asked : Order) (files : Option Files) (heard : Heard) (right : Bool) (roles : List Role) (s : Status) → IsFaultOf roles s → OrderHears asked files heard (done_as right) → OrderHears asked files heard s
+broken_hears asked files heard right roles (status.WriteFault k) fault h = fault_hears asked files heard right k h
+broken_hears asked files heard right roles s fault h = absurd fault
 
 -- ---- the line couldn't be put
 
 build_cut : (Are : List Finding → Type 0) (heard : Heard) (s : Status) → HasLine s → BuildHears Are heard s → BuildHears Are heard (status.WriteFault role.Text)
 build_cut Are heard status.Done has h = inr h
+build_cut Are heard status.NotRight has h = inr h
 build_cut Are heard (status.WriteFault role.Text) has h = h
 build_cut Are heard (status.WriteFault k) has h = inr h
 build_cut Are heard status.Memory has h = absurd has
@@ -67,6 +74,7 @@ line_cut (Err refusal) files heard s has h = h
 
 build_starved : (Are : List Finding → Type 0) (heard : Heard) (s : Status) → IsUnstored s → BuildHears Are heard s → BuildHears Are heard status.Memory
 build_starved Are heard status.Done early h = absurd early
+build_starved Are heard status.NotRight early h = absurd early
 build_starved Are heard (status.WriteFault k) early h = absurd early
 build_starved Are heard status.Memory early h = h
 build_starved Are heard s early h = inl h
@@ -82,9 +90,13 @@ line_starved (Err refusal) files heard s early h = h
 -- ---- at the end of a run
 
 module _ (asked : Result Order Status) (files : Option Files) (heard : Heard) (o n : SinkState) where
-  pub hears_said : (s r : Status) (line : List ℕ) → HasLine s → Hears asked files heard s → Said s r o n line → Hears asked files heard r
+  hears_said : (s r : Status) (line : List ℕ) → HasLine s → Hears asked files heard s → Said s r o n line → Hears asked files heard r
   hears_said s r line has h (inl put) = subst (λ (t : Status). Hears asked files heard t) (sym put.status) h
   hears_said s r line has h (inr cut) = subst (λ (t : Status). Hears asked files heard t) (sym cut.status) (line_cut asked files heard s has h)
+
+  pub hears_done : (right : Bool) (r : Status) (line : List ℕ) → Hears asked files heard (done_as right) → Said (done_as right) r o n line → Hears asked files heard r
+  hears_done true r line h said = hears_said status.Done r line tt h said
+  hears_done false r line h said = hears_said status.NotRight r line tt h said
 
   hears_made : (s r : Status) → HasLine s → IsUnstored s → Hears asked files heard s → SaidIfMade s r o n → Hears asked files heard r
   hears_made s r has early h (inl said) = hears_said s r (text_of s) has h said
@@ -92,6 +104,7 @@ module _ (asked : Result Order Status) (files : Option Files) (heard : Heard) (o
 
   pub hears_refused : (before after : ShelfState) (s r : Status) → RefusalCause before after s → Hears asked files heard s → Refused s r o n → Hears asked files heard r
   hears_refused before after status.Done r cause h said = absurd cause
+  hears_refused before after status.NotRight r cause h said = absurd cause
   hears_refused before after status.Memory r cause h said = subst (λ (t : Status). Hears asked files heard t) (sym said.status) h
   hears_refused before after (status.WriteFault role.Text) r cause h said = absurd cause
   hears_refused before after (status.WriteFault role.Wad) r cause h said = hears_said (status.WriteFault role.Wad) r _ tt h said

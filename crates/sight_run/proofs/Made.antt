@@ -1,5 +1,5 @@
 -- What `grid` answers, told on from the reply to the line that is put.
-use Rattle.std.proofs.Common.{◌≡◌, ◌⊎◌, ◌∙◌, inl, inr, ℕ, Bool, List, [], ◌++◌, Result, Ok, Err, sym, ap, subst}
+use Rattle.std.proofs.Common.{◌≡◌, ◌⊎◌, ◌∙◌, inl, inr, ℕ, Bool, true, false, List, [], ◌++◌, Result, Ok, Err, sym, ap, subst}
 use Rattle.std.specs.Prelude.{IfErr, IfOk, string_bytes, ⊤}
 use Rattle.std.specs.Option.{option_map}
 use Rattle.sight_names.specs.declared.names.Method.{Method}
@@ -11,9 +11,9 @@ use Rattle.map_answers.specs.declared.sight_status.status.Role.{Role}
 use Rattle.map_answers.specs.declared.sight_status.status.Role.TheVariants as role
 use Rattle.map_answers.specs.declared.sight_status.status.Status.{Status}
 use Rattle.map_answers.specs.declared.sight_status.status.Status.TheVariants as status
-use Rattle.map_answers.specs.SightStatus.Answer.{Gives, Makes, Written, status_of}
+use Rattle.map_answers.specs.SightStatus.Answer.{Answer, Gives, Makes, only_line, status_of}
 use Rattle.map_answers.specs.SightStatus.Say.{Refused, Said, SaidIfMade}
-use Rattle.map_answers.specs.SightStatus.Status.{IsOfWords}
+use Rattle.map_answers.specs.SightStatus.Status.{IsOfWords, done_as}
 use Rattle.map_answers.specs.SightStatus.Texts.{text_of}
 use Rattle.sight_run.specs.declared.reply.Reply.{Reply}
 use Rattle.sight_run.specs.Grid.{GridCalls, IsOfGrid}
@@ -24,13 +24,16 @@ use Rattle.sight_run.specs.Run.{RefusalCause}
 -- ---- by the order
 
 -- the reply has no output, so its line is all that is answered
-pub grid_says : (n : ℕ) (hexen : Bool) (method : Method) (r : Result Reply Status) → Gives ⊤ (GridCalls n hexen method) (reply_seen r) → IfOk r (λ reply. writes reply ≡ []) → IfErr r IsOfGrid → GridSays n hexen method (status_of (reply_seen r)) (reply_line r)
-grid_says n hexen method (Ok reply) h none of = subst (λ (ws : List Written). GridCalls n hexen method (Ok (record { writes = ws; line = string_bytes reply.line }))) none h.called
-grid_says n hexen method (Err status.Done) h none of = absurd of
-grid_says n hexen method (Err status.Memory) h none of = tt
-grid_says n hexen method (Err (status.WriteFault k)) h none of = tt
-grid_says n hexen method (Err (status.ReadFault k)) h none of = absurd of
-grid_says n hexen method (Err s) h none of = h.called
+pub grid_says : (n : ℕ) (hexen : Bool) (method : Method) (r : Result Reply Status) → Gives ⊤ (GridCalls n hexen method) (reply_seen r) → IfOk r (λ reply. writes reply ≡ []) → IfErr r IsOfGrid → IfOk r (λ reply. reply.right ≡ true) → GridSays n hexen method (status_of (reply_seen r)) (reply_line r)
+grid_says n hexen method (Ok reply) h none of right =
+    let line = string_bytes reply.line in
+    let called : GridCalls n hexen method (Ok (only_line line)) = subst (λ (a : Answer). GridCalls n hexen method (Ok a)) (λ i. record { writes = none i; line = line; right = right i }) h.called in
+    subst (λ (b : Bool). GridSays n hexen method (done_as b) line) (sym right) called
+grid_says n hexen method (Err status.Done) h none of right = absurd of
+grid_says n hexen method (Err status.Memory) h none of right = tt
+grid_says n hexen method (Err (status.WriteFault k)) h none of right = tt
+grid_says n hexen method (Err (status.ReadFault k)) h none of right = absurd of
+grid_says n hexen method (Err s) h none of right = h.called
 
 -- an order whose output can't be stored has made one
 pub broken_made : (asked : Order) (roles : List Role) (s : Status) (line : List ℕ) → IsFaultOf roles s → IsMadeBy asked s line
@@ -66,12 +69,22 @@ unput : (said : Result Order Status) (line : List ℕ) → IsMade said (status.W
 unput (Ok asked) line = unput_by asked line
 unput (Err refusal) line = tt
 
+-- with this status no line is the one called for
+lineless : (said : Result Order Status) (one other : List ℕ) → IsMade said status.NotRight one → IsMade said status.NotRight other
+lineless (Ok (order.Grid n workers method hexen)) one other h = h
+lineless (Ok asked) one other h = tt
+lineless (Err refusal) one other h = tt
+
 -- ---- at the end of a run
 
 -- the status of a run that had a line to put: that one, or the sink is at fault
-pub made_done : (said : Result Order Status) (o n : SinkState) (r : Status) (line put : List ℕ) → put ≡ line → IsMade said status.Done line → Said status.Done r o n put → PutsMade said o n r
-made_done said o n r line put same h (inl w) = subst (λ (t : Status). PutsMade said o n t) (sym w.status) (line, h, w.held ∙ ap (λ (l : List ℕ). option_map (λ held. held ++ l) o.held) same)
-made_done said o n r line put same h (inr w) = subst (λ (t : Status). PutsMade said o n t) (sym w.status) (unput said (text_of (status.WriteFault role.Text)))
+put_done : (said : Result Order Status) (o n : SinkState) (right : Bool) (line : List ℕ) → IsMade said (done_as right) line → n.held ≡ option_map (λ held. held ++ line) o.held → PutsMade said o n (done_as right)
+put_done said o n true line h held = (line, h, held)
+put_done said o n false line h held = lineless said line [] h
+
+pub made_done : (said : Result Order Status) (o n : SinkState) (right : Bool) (r : Status) (line : List ℕ) → IsMade said (done_as right) line → Said (done_as right) r o n line → PutsMade said o n r
+made_done said o n right r line h (inl w) = subst (λ (t : Status). PutsMade said o n t) (sym w.status) (put_done said o n right line h w.held)
+made_done said o n right r line h (inr w) = subst (λ (t : Status). PutsMade said o n t) (sym w.status) (unput said (text_of (status.WriteFault role.Text)))
 
 -- .. or there was no memory for the line
 abbrev EndsAs : Status → Status → Type 0

@@ -32,8 +32,9 @@ pub alone_of : (asked : Order) → IsSome (map_asked asked) → ((wad : Source) 
     → ((wad : Source) (name out : List ℕ) (cert report : Option (List ℕ)) (workers : ℕ) (method : Method) → asked ≡ order.Build wad name out cert report workers method → ⊥) → IsOfMapAlone asked
 alone_of (order.Check wad name cert) some no_check no_build = absurd (no_check wad name cert refl)
 alone_of (order.Build wad name out cert report workers method) some no_check no_build = absurd (no_build wad name out cert report workers method refl)
+alone_of (order.Verify wad only report workers) some no_check no_build = absurd cc
 alone_of (order.Grid n workers method hexen) some no_check no_build = absurd cc
-alone_of (order.All wad out only report workers method) some no_check no_build = absurd cc
+alone_of (order.All wad out only report workers method choice) some no_check no_build = absurd cc
 alone_of asked some no_check no_build = tt
 
 unreported : (asked : Order) → IsOfMapAlone asked → report_of asked ≡ None
@@ -57,6 +58,7 @@ same_counts s = record { read_faults = refl; write_faults = refl; absents = refl
 pub past_cause : {V : Type 0} (s : ShelfState) (r : Result V Status) → IfErr r IsPastReading → Cause s s r
 past_cause s (Ok v) h = same_counts s
 past_cause s (Err status.Done) h = absurd h
+past_cause s (Err status.NotRight) h = absurd h
 past_cause s (Err (status.NoFile k)) h = absurd h
 past_cause s (Err (status.ReadFault k)) h = absurd h
 past_cause s (Err (status.WriteFault k)) h = absurd h
@@ -66,5 +68,6 @@ past_cause s (Err other) h = same_counts s
 pub past_unstored : {V : Type 0} (r : Result V Status) → IfErr r IsPastReading → IfErr r IsUnstored
 past_unstored (Ok v) h = tt
 past_unstored (Err status.Done) h = absurd h
+past_unstored (Err status.NotRight) h = absurd h
 past_unstored (Err (status.WriteFault k)) h = absurd h
 past_unstored (Err other) h = tt

@@ -1,5 +1,5 @@
 -- A build that is asked for neither a certificate nor a report has one answer.
-use Rattle.std.proofs.Common.{◌≡◌, ℕ, List, [], Option, Some, None, Result, Ok, Err, sym, ap, ◌∙◌}
+use Rattle.std.proofs.Common.{◌≡◌, ℕ, true, List, [], Option, Some, None, Result, Ok, Err, sym, ap, ◌∙◌}
 use Rattle.std.specs.Prelude.{⊤}
 use Rattle.sight_names.specs.declared.faults.LineFault.{LineFault}
 use Rattle.sight_names.specs.declared.names.Method.{Method}
@@ -28,7 +28,7 @@ module _ (name out : List ℕ) (method : Method) (heard : Heard) (found : Locate
   one_shown one other p q =
       let bytes = one_wad name out None None None None method found heard heard one other p q in
       let counts = one_count found.map method p.built q.built p.is_built q.is_built in
-      q.is ∙ sym (λ i. record { writes = build_writes out (bytes i) None []; line = build_line name (counts i) }) ∙ sym p.is
+      q.is ∙ sym (λ i. record { writes = build_writes out (bytes i) None []; line = build_line name (counts i); right = true }) ∙ sym p.is
 
   shown_and_limited : (one : Answer) (bound : Bound) → ShowsBuild name out None None method found heard one → ShowsLimit method found bound → ⊥
   shown_and_limited one bound p q =

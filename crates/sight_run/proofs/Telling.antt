@@ -137,7 +137,7 @@ module _ (name out : List ℕ) (asked reported : Option (List ℕ)) (method : Me
       → Gives (¬ HasClosedFaces found.map) (BuildCalls name out asked reported method heard found) (with_report reported (texts ended ++ texts heard.after) (Ok answer))
   gives_told ended answer spells made told in_turn =
       let report = texts ended ++ texts heard.after in
-      let whole : Answer = record { writes = report_behind reported report answer.writes; line = answer.line } in
+      let whole : Answer = record { writes = report_behind reported report answer.writes; line = answer.line; right = answer.right } in
       let are_counted : AreCounted built.table built.listed =
       findings_are_counted built.table built.listed (list_rises found.map method built is) (list_fits found.map method built is) (list_clear found.map method built is) in
       let shows : ShowsBuild name out asked reported method found heard whole = record {
@@ -155,7 +155,7 @@ module _ (name out : List ℕ) (asked reported : Option (List ℕ)) (method : Me
         report = report;
         report_is = refl;
         told = told;
-        is = ap (λ (a : Answer). record { writes = report_behind reported report a.writes; line = a.line }) made.is;
+        is = ap (λ (a : Answer). record { writes = report_behind reported report a.writes; line = a.line; right = a.right }) made.is;
       } in
       record { called = shows; only = λ flawed other q. absurd (flawed is.fit) }
 

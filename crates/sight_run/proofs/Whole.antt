@@ -12,6 +12,7 @@ use Rattle.wad_dir.specs.AllMaps.All.{HasInOrder}
 use Rattle.wad_dir.specs.AllMaps.Asked.{asked_maps_of}
 use Rattle.wad_dir.specs.AllMaps.Maps.{maps_of}
 use Rattle.wad_dir.proofs.AllMaps.AskedMaps.{asked_in_order}
+use Rattle.refused_maps.specs.declared.Refused.{Refused}
 use Rattle.order_words.specs.declared.order.Order.TheVariants as order
 use Rattle.order_words.specs.declared.order.Source.{Source}
 use Rattle.map_answers.specs.declared.sight_status.status.Bound.TheVariants as bound
@@ -27,7 +28,7 @@ use Rattle.sight_run.specs.Obeys.{WritesEach}
 use Rattle.sight_run.specs.Reading.{of_fetch}
 use Rattle.sight_run.specs.declared.reply.Reply.{Reply}
 use Rattle.sight_run.specs.Reply.{roles_of, writes}
-use Rattle.sight_run.specs.Run.{IsOfAll, IsOfOrder, IsOfWhole, RefusalCause}
+use Rattle.sight_run.specs.Run.{Cause, IsOfAll, IsOfOrder, IsOfStop, IsOfWhole, RefusalCause}
 use Rattle.sight_run.proofs.Round.{same_ok}
 
 -- ---- the WAD in a file
@@ -95,15 +96,21 @@ directory_refused view said (status.ReadFault k) of made = absurd of
 directory_refused view said s of made = by_directory s of (of_directory said s made)
 
 -- one that is none of a name's
-pub of_whole : (only : Option (List (List ℕ))) (s : Status) → IsOfWhole s → IsOfAll only s
-of_whole only (status.NoMap fault) h = absurd h
-of_whole only s h = h
+pub of_whole : (only : Option (List (List ℕ))) (choice : Refused) (s : Status) → IsOfWhole s → IsOfAll only choice s
+of_whole only choice (status.NoFile role.Wad) h = tt
+of_whole only choice (status.ReadFault role.Wad) h = tt
+of_whole only choice (status.NotWad fault) h = h
+of_whole only choice (status.Limit bound.WadBytes) h = tt
+of_whole only choice (status.Limit bound.Lumps) h = tt
+of_whole only choice (status.Limit bound.OutputBytes) h = tt
+of_whole only choice status.Memory h = tt
+of_whole only choice s h = absurd h
 
 -- one of a name
-pub of_names : (only : Option (List (List ℕ))) (s : Status) → IsOfNames only s → IsOfAll only s
-of_names only (status.NoMap fault) h = h
-of_names only status.Memory h = tt
-of_names only s h = absurd h
+pub of_names : (only : Option (List (List ℕ))) (choice : Refused) (s : Status) → IsOfNames only s → IsOfAll only choice s
+of_names only choice (status.NoMap fault) h = h
+of_names only choice status.Memory h = tt
+of_names only choice s h = absurd h
 
 -- .. which the shelf doesn't explain
 pub names_cause : (only : Option (List (List ℕ))) (old new : ShelfState) (s : Status) → IsOfNames only s → SameCounts old new → RefusalCause old new s
@@ -111,26 +118,59 @@ names_cause only old new (status.NoMap fault) h same = same
 names_cause only old new status.Memory h same = tt
 names_cause only old new s h same = absurd h
 
-of_order : (wad : Source) (out : List ℕ) (only : Option (List (List ℕ))) (report : Option (List ℕ)) (workers : ℕ) (method : Method) (s : Status) → IsOfAll only s → IsOfOrder (order.All wad out only report workers method) s
-of_order wad out only report workers method (status.NoFile role.Wad) h = tt
-of_order wad out only report workers method (status.ReadFault role.Wad) h = tt
-of_order wad out only report workers method (status.NotWad fault) h = tt
-of_order wad out only report workers method (status.NoMap fault) h = h
-of_order wad out only report workers method (status.Limit bound.WadBytes) h = tt
-of_order wad out only report workers method (status.Limit bound.Lumps) h = tt
-of_order wad out only report workers method (status.Limit bound.OutputBytes) h = tt
-of_order wad out only report workers method status.Memory h = tt
-of_order wad out only report workers method s h = absurd h
+-- one that comes once the maps are known
+stop_of_all : (only : Option (List (List ℕ))) (choice : Refused) (s : Status) → IsOfStop choice s → IsOfAll only choice s
+stop_of_all only choice (status.BadLump fault) h = h
+stop_of_all only choice (status.BadMap flaw) h = h
+stop_of_all only choice (status.Limit bound.Sectors) h = h
+stop_of_all only choice (status.Limit bound.Lines) h = h
+stop_of_all only choice (status.Limit bound.Points) h = h
+stop_of_all only choice (status.Limit bound.Lumps) h = tt
+stop_of_all only choice (status.Limit bound.OutputBytes) h = tt
+stop_of_all only choice status.Memory h = tt
+stop_of_all only choice s h = absurd h
 
-pub all_refusals : {V : Type 0} (wad : Source) (out : List ℕ) (only : Option (List (List ℕ))) (report : Option (List ℕ)) (workers : ℕ) (method : Method) (r : Result V Status) → IfErr r (IsOfAll only) → IfErr r (IsOfOrder (order.All wad out only report workers method))
-all_refusals wad out only report workers method (Ok v) h = tt
-all_refusals wad out only report workers method (Err s) h = of_order wad out only report workers method s h
+pub of_stop : {V : Type 0} (only : Option (List (List ℕ))) (choice : Refused) (r : Result V Status) → IfErr r (IsOfStop choice) → IfErr r (IsOfAll only choice)
+of_stop only choice (Ok v) h = tt
+of_stop only choice (Err s) h = stop_of_all only choice s h
 
-all_written : (wad : Source) (out : List ℕ) (only : Option (List (List ℕ))) (report : Option (List ℕ)) (workers : ℕ) (method : Method) → WritesEach (order.All wad out only report workers method) (all_roles report)
-all_written wad out only None workers method = (tt, tt)
-all_written wad out only (Some name) workers method = (tt, (tt, tt))
+-- .. which the shelf doesn't explain either
+unexplained : (choice : Refused) (old new : ShelfState) (s : Status) → IsOfStop choice s → SameCounts old new → RefusalCause old new s
+unexplained choice old new (status.BadLump fault) h same = same
+unexplained choice old new (status.BadMap flaw) h same = same
+unexplained choice old new (status.Limit bound) h same = same
+unexplained choice old new status.Memory h same = tt
+unexplained choice old new s h same = absurd h
 
-pub each_written : (wad : Source) (out : List ℕ) (only : Option (List (List ℕ))) (report : Option (List ℕ)) (workers : ℕ) (method : Method) (r : Result Reply Status) → IfOk r (λ (reply : Reply). roles_of (writes reply) ≡ all_roles report)
-    → IfOk r (λ (reply : Reply). WritesEach (order.All wad out only report workers method) (roles_of (writes reply)))
-each_written wad out only report workers method (Ok reply) h = subst (WritesEach (order.All wad out only report workers method)) (sym h) (all_written wad out only report workers method)
-each_written wad out only report workers method (Err s) h = tt
+pub stop_cause : {V : Type 0} (choice : Refused) (old new : ShelfState) (r : Result V Status) → IfErr r (IsOfStop choice) → SameCounts old new → Cause old new r
+stop_cause choice old new (Ok v) h same = same
+stop_cause choice old new (Err s) h same = unexplained choice old new s h same
+
+of_order : (wad : Source) (out : List ℕ) (only : Option (List (List ℕ))) (report : Option (List ℕ)) (workers : ℕ) (method : Method) (choice : Refused) (s : Status) → IsOfAll only choice s → IsOfOrder (order.All wad out only report workers method choice) s
+of_order wad out only report workers method choice (status.NoFile role.Wad) h = tt
+of_order wad out only report workers method choice (status.ReadFault role.Wad) h = tt
+of_order wad out only report workers method choice (status.NotWad fault) h = tt
+of_order wad out only report workers method choice (status.NoMap fault) h = h
+of_order wad out only report workers method choice (status.BadLump fault) h = h.0
+of_order wad out only report workers method choice (status.BadMap flaw) h = h
+of_order wad out only report workers method choice (status.Limit bound.WadBytes) h = tt
+of_order wad out only report workers method choice (status.Limit bound.Lumps) h = tt
+of_order wad out only report workers method choice (status.Limit bound.OutputBytes) h = tt
+of_order wad out only report workers method choice (status.Limit bound.Sectors) h = h
+of_order wad out only report workers method choice (status.Limit bound.Lines) h = h
+of_order wad out only report workers method choice (status.Limit bound.Points) h = h
+of_order wad out only report workers method choice status.Memory h = tt
+of_order wad out only report workers method choice s h = absurd h
+
+pub all_refusals : {V : Type 0} (wad : Source) (out : List ℕ) (only : Option (List (List ℕ))) (report : Option (List ℕ)) (workers : ℕ) (method : Method) (choice : Refused) (r : Result V Status) → IfErr r (IsOfAll only choice) → IfErr r (IsOfOrder (order.All wad out only report workers method choice))
+all_refusals wad out only report workers method choice (Ok v) h = tt
+all_refusals wad out only report workers method choice (Err s) h = of_order wad out only report workers method choice s h
+
+all_written : (wad : Source) (out : List ℕ) (only : Option (List (List ℕ))) (report : Option (List ℕ)) (workers : ℕ) (method : Method) (choice : Refused) → WritesEach (order.All wad out only report workers method choice) (all_roles report)
+all_written wad out only None workers method choice = (tt, tt)
+all_written wad out only (Some name) workers method choice = (tt, (tt, tt))
+
+pub each_written : (wad : Source) (out : List ℕ) (only : Option (List (List ℕ))) (report : Option (List ℕ)) (workers : ℕ) (method : Method) (choice : Refused) (r : Result Reply Status) → IfOk r (λ (reply : Reply). roles_of (writes reply) ≡ all_roles report)
+    → IfOk r (λ (reply : Reply). WritesEach (order.All wad out only report workers method choice) (roles_of (writes reply)))
+each_written wad out only report workers method choice (Ok reply) h = subst (WritesEach (order.All wad out only report workers method choice)) (sym h) (all_written wad out only report workers method choice)
+each_written wad out only report workers method choice (Err s) h = tt

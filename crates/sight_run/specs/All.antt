@@ -1,10 +1,12 @@
 -- What the order `all` makes of a WAD.
-use Rattle.std.specs.Prelude.{◌≡◌, ℕ, Bool, List, [], ◌∷◌, ◌++◌, Option, Result, Ok, Err, codes, length}
+use Rattle.std.specs.Prelude.{◌≡◌, ◌⊎◌, ℕ, Bool, true, List, [], ◌∷◌, ◌++◌, Option, Result, Ok, Err, codes, length}
 use Rattle.std.specs.Fmt.{decimal}
 use Rattle.sight_names.specs.declared.limits.TheConstants.{MOST_BYTES}
 use Rattle.sight_names.specs.declared.faults.MapFault.{MapFault}
 use Rattle.sight_names.specs.declared.faults.RewriteFault.TheVariants as rewrite
 use Rattle.sight_names.specs.declared.names.Method.{Method}
+use Rattle.refused_maps.specs.declared.Refused.{Refused}
+use Rattle.refused_maps.specs.declared.Refused.TheVariants as refused
 use Rattle.shelf_io.specs.Shelf.{Files, content_of}
 use Rattle.wad_dir.specs.Wad.{WadFile, names_of, wad_of}
 use Rattle.wad_dir.specs.AllMaps.Asked.{asked_maps_of}
@@ -16,8 +18,11 @@ use Rattle.map_answers.specs.declared.sight_status.status.Status.TheVariants as 
 use Rattle.map_answers.specs.SightStatus.Answer.{Answer, Written, ◌>>=◌}
 use Rattle.map_answers.specs.Input.{of_wad}
 use Rattle.whole_wad.specs.declared.outcomes.MapOutcome.{MapOutcome}
-use Rattle.whole_wad.specs.Outcomes.{AreOutcomes, changes_of, refusals_of}
+use Rattle.whole_wad.specs.declared.whole.Unmade.{Unmade}
+use Rattle.whole_wad.specs.declared.whole.Unmade.TheVariants as unmade
+use Rattle.whole_wad.specs.Outcomes.{AreOutcomes, clears_of, refusals_of, tables_of}
 use Rattle.whole_wad.specs.Report.{report_of}
+use Rattle.whole_wad.specs.Stop.{StopsAt}
 use Rattle.whole_wad.specs.Whole.{IsAboveLimit, written_of}
 use Rattle.sight_run.specs.Build.{report_behind, report_roles, wad_output}
 use Rattle.sight_run.specs.Reading.{of_fetch}
@@ -42,9 +47,18 @@ abbrev pub OnRead : {V : Type 0} → Result V Status → (V → Result Answer St
 OnRead (Ok read) Called answer = Called read answer
 OnRead (Err refusal) Called answer = answer ≡ Err refusal
 
--- how many maps were to be built, and how many of them were built and refused
-abbrev pub tally_line : ℕ → ℕ → ℕ → List ℕ
-tally_line maps built refused = codes "all maps " ++ decimal maps ++ codes " built " ++ decimal built ++ codes " refused " ++ decimal refused ++ codes "\n"
+-- how many got a clear table, where that is asked for
+abbrev pub cleared_words : Refused → ℕ → List ℕ
+cleared_words refused.Clear cleared = codes " cleared " ++ decimal cleared
+cleared_words other cleared = []
+
+-- how many maps were to be built, how many of them were built and refused, and how many of these got a clear table
+abbrev pub tally_line : Refused → ℕ → ℕ → ℕ → ℕ → List ℕ
+tally_line choice maps built refused cleared = codes "all maps " ++ decimal maps ++ codes " built " ++ decimal built ++ codes " refused " ++ decimal refused ++ cleared_words choice cleared ++ codes "\n"
+
+-- the line of what comes of maps
+abbrev pub tally_of : Refused → List MapOutcome → List ℕ
+tally_of choice outcomes = tally_line choice (length outcomes) (length (tables_of outcomes)) (length (refusals_of outcomes)) (length (clears_of outcomes))
 
 -- the WAD is stored first, then the report where it is asked for
 abbrev pub all_writes : List ℕ → List ℕ → Option (List ℕ) → List ℕ → List Written
@@ -55,24 +69,37 @@ abbrev pub all_roles : Option (List ℕ) → List Role
 all_roles reported = role.Wad ∷ report_roles reported
 
 -- A map gets its table exactly where it is within the limits that are asked for and sound, and else is refused by the first check that fails.
--- OUT is the WAD with these tables, the report says of each map its counts or its refusal, and the line counts them.
-pub record ShowsAll (out : List ℕ) (reported : Option (List ℕ)) (large : Bool) (maps : List (List ℕ)) (method : Method) (w : WadFile) (answer : Answer) : Type 0 where
+-- OUT is the WAD with these tables, and with clear ones where those are chosen for refused maps that were read. The report says of each map its
+-- counts or its refusal, and the line counts them.
+pub record ShowsAll (out : List ℕ) (reported : Option (List ℕ)) (large : Bool) (maps : List (List ℕ)) (method : Method) (choice : Refused) (w : WadFile) (answer : Answer) : Type 0 where
   pub outcomes : List MapOutcome
-  pub are : AreOutcomes w large maps method outcomes
+  pub are : AreOutcomes w large maps method choice outcomes
   pub bytes : List ℕ
   pub made : written_of w outcomes ≡ Ok bytes
-  pub is : answer ≡ record {
-    writes = all_writes out bytes reported (report_of outcomes);
-    line = tally_line (length outcomes) (length (changes_of outcomes)) (length (refusals_of outcomes));
-  }
+  pub is : answer ≡ record { writes = all_writes out bytes reported (report_of outcomes); line = tally_of choice outcomes; right = true }
+
+-- the WAD with all tables is above a limit
+abbrev pub IsTooMuch : WadFile → Bool → List (List ℕ) → Method → Refused → Status → Type 0
+IsTooMuch w large maps method choice (status.Limit bound.Lumps) = IsAboveLimit w large maps method choice rewrite.TooManyLumps
+IsTooMuch w large maps method choice (status.Limit bound.OutputBytes) = IsAboveLimit w large maps method choice rewrite.TooLong
+IsTooMuch w large maps method choice other = ⊥
+
+-- the status of a WAD of which nothing is made
+abbrev pub of_unmade : Unmade → Status
+of_unmade (unmade.Stopped refusal) = refusal
+of_unmade (unmade.Unwritten rewrite.TooManyLumps) = status.Limit bound.Lumps
+of_unmade (unmade.Unwritten rewrite.TooLong) = status.Limit bound.OutputBytes
+of_unmade (unmade.Unwritten rewrite.Memory) = status.Memory
+
+-- the first refusal, where that stops all, or such a limit
+abbrev pub IsUnmade : WadFile → Bool → List (List ℕ) → Method → Refused → Status → Type 0
+IsUnmade w large maps method choice refusal = StopsAt w large method choice refusal maps ⊎ IsTooMuch w large maps method choice refusal
 
 -- the answer that is called for where these maps are to be built
-abbrev pub MapsCall : List ℕ → Option (List ℕ) → Bool → List (List ℕ) → Method → WadFile → Result Answer Status → Type 0
-MapsCall out reported large maps method w (Ok answer) = ShowsAll out reported large maps method w answer
-MapsCall out reported large maps method w (Err (status.Limit bound.Lumps)) = IsAboveLimit w large maps method rewrite.TooManyLumps
-MapsCall out reported large maps method w (Err (status.Limit bound.OutputBytes)) = IsAboveLimit w large maps method rewrite.TooLong
-MapsCall out reported large maps method w (Err other) = ⊥
+abbrev pub MapsCall : List ℕ → Option (List ℕ) → Bool → List (List ℕ) → Method → Refused → WadFile → Result Answer Status → Type 0
+MapsCall out reported large maps method choice w (Ok answer) = ShowsAll out reported large maps method choice w answer
+MapsCall out reported large maps method choice w (Err refusal) = IsUnmade w large maps method choice refusal
 
 -- The answer that `all` calls for. Where names are given, the maps of these names alone are built; all other lumps stay.
-abbrev pub AllCalls : List ℕ → Bool → Option (List (List ℕ)) → Option (List ℕ) → Method → WadFile → Result Answer Status → Type 0
-AllCalls out large only reported method w answer = OnRead (maps_in (names_of w) only) (λ maps. MapsCall out reported large maps method w) answer
+abbrev pub AllCalls : List ℕ → Bool → Option (List (List ℕ)) → Option (List ℕ) → Method → Refused → WadFile → Result Answer Status → Type 0
+AllCalls out large only reported method choice w answer = OnRead (maps_in (names_of w) only) (λ maps. MapsCall out reported large maps method choice w) answer

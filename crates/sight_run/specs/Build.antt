@@ -1,5 +1,5 @@
 -- What the order `build` makes of a map that was found.
-use Rattle.std.specs.Prelude.{◌≡◌, ℕ, List, [], ◌∷◌, ◌++◌, Option, Some, None, Result, Ok, Err, codes, length, slice_get, ⊤}
+use Rattle.std.specs.Prelude.{◌≡◌, ℕ, true, List, [], ◌∷◌, ◌++◌, Option, Some, None, Result, Ok, Err, codes, length, slice_get, ⊤}
 use Rattle.sight_names.specs.declared.names.Method.{Method}
 use Rattle.sight_names.specs.Groups.{HasClosedFaces}
 use Rattle.sight_names.specs.Sound.{LinesMeetAtEnds}
@@ -77,7 +77,7 @@ report_behind (Some name) report ws = ws ++ report_output name report ∷ []
 
 -- an answer, with the report where it is asked for
 abbrev pub with_report : Option (List ℕ) → List ℕ → Result Answer Status → Result Answer Status
-with_report reported report (Ok answer) = Ok (record { writes = report_behind reported report answer.writes; line = answer.line })
+with_report reported report (Ok answer) = Ok (record { writes = report_behind reported report answer.writes; line = answer.line; right = answer.right })
 with_report reported report (Err refusal) = Err refusal
 
 -- The file's WAD with the table that was built, the certificate and the report where they are asked for, and a line with the counts of
@@ -99,7 +99,7 @@ pub record ShowsBuild (name out : List ℕ) (asked reported : Option (List ℕ))
   pub report : List ℕ
   pub report_is : report ≡ texts ended ++ texts heard.after
   pub told : AreTold findings heard.before heard.after report
-  pub is : answer ≡ record { writes = report_behind reported report (build_writes out bytes asked spelled); line = build_line name (counts_with built.table (length built.listed)) }
+  pub is : answer ≡ record { writes = report_behind reported report (build_writes out bytes asked spelled); line = build_line name (counts_with built.table (length built.listed)); right = true }
 
 -- the WAD with the table that was built is above a limit
 pub record ShowsLimit (method : Method) (found : LocatedMap) (bound : Bound) : Type 0 where
@@ -134,7 +134,7 @@ BuildCalls name out asked reported method heard found (Err other) = ⊥
 pub record ShowsMade (name out : List ℕ) (asked : Option (List ℕ)) (found : LocatedMap) (table : TableParts) (listed : ℕ) (cert : Certificate) (answer : Answer) : Type 0 where
   pub bytes : List ℕ
   pub made : with_table found table.bytes ≡ Ok bytes
-  pub is : answer ≡ record { writes = build_writes out bytes asked (spelling cert); line = build_line name (counts_with table listed) }
+  pub is : answer ≡ record { writes = build_writes out bytes asked (spelling cert); line = build_line name (counts_with table listed); right = true }
 
 -- .. or why it isn't
 abbrev pub BuildMakes : List ℕ → List ℕ → Option (List ℕ) → LocatedMap → TableParts → ℕ → Certificate → Result Answer Status → Type 0

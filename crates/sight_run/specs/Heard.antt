@@ -42,6 +42,7 @@ FrontsHeard Are heard = (findings : List Finding) × Are findings × HeardFronts
 -- what a status of a build says of the listeners
 abbrev pub BuildHears : (List Finding → Type 0) → Heard → Status → Type 0
 BuildHears Are heard status.Done = AllHeard Are heard
+BuildHears Are heard status.NotRight = AllHeard Are heard
 -- the line of a refusal, or of what was done, couldn't be put
 BuildHears Are heard (status.WriteFault role.Text) = IsUnheard heard ⊎ AllHeard Are heard
 BuildHears Are heard (status.WriteFault role) = AllHeard Are heard

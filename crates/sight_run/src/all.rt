@@ -1,39 +1,56 @@
 //! The order `all`: the table of each map of a WAD, or of those that are named, in the place of its REJECT, and a line on each where a
 //! report is asked for.
 
-ghost use Rattle.std.specs.Prelude.{◌≡◌, ◌+◌, ◌≤◌, IfErr, IfOk, All, Some, length, string_bytes, ⊤};
+ghost use Rattle.std.specs.Prelude.{◌≡◌, ◌+◌, ◌++◌, ◌≤◌, IfErr, IfOk, OnOk, All, Some, length, string_bytes, true, ⊤};
 ghost use Rattle.shelf_io.specs.Shelf.{Files, NoneFell};
 ghost use Rattle.wad_dir.specs.Map.{entry_names};
 ghost use Rattle.wad_dir.specs.Wad.{file_of, names_of};
 ghost use Rattle.wad_dir.specs.AllMaps.All.{HasInOrder};
 ghost use Rattle.wad_dir.specs.AllMaps.Maps.{maps_of};
 ghost use Rattle.map_answers.specs.SightStatus.Answer.{Gives};
-ghost use Rattle.sight_run.specs.All.{AllCalls, MapsCall, OnRead, all_roles, all_writes, tally_line, wad_in};
+ghost use Rattle.sight_run.specs.All.{AllCalls, MapsCall, OnRead, all_roles, all_writes, cleared_words, of_unmade, tally_line, wad_in};
 ghost use Rattle.sight_run.specs.Reply.{replied, reply_seen, roles_of, writes};
-ghost use Rattle.sight_run.specs.Run.{Cause, IsOfAll};
-ghost use Rattle.map_answers.specs.SightStatus.Status.{IsOfMaking};
+ghost use Rattle.sight_run.specs.Run.{Cause, IsOfAll, IsOfStop};
 
 use crate::asked::asked_maps;
 use crate::input::fetch_wad;
 use crate::reply::{Bytes, Reply, push_output};
 use group_job::sight_workers::Gate;
 use map_answers::directory;
-use map_answers::sight_status::{Bound, Role, Status, push_count, push_count_line};
+use map_answers::sight_status::{Bound, Role, Status, push_count};
 use order_words::{Source, Text};
+use refused_maps::Refused;
 use shelf_io::Shelf;
 use sight_names::{Items, Method, RewriteFault};
 use std::alloc::{AllocError, Global};
 use std::thread::Threads;
 use wad_dir::Wad;
-use whole_wad::{Notice, WholeWad, build_wad};
+use whole_wad::{Notice, Unmade, WholeWad, build_wad};
 
-fn line_of(alloc: Global, maps: u64, built: u64, refused: u64) -> Result<String, AllocError>
-    ensures { IfOk result (λ line. string_bytes line ≡ tally_line maps built refused) }
+/// Adds how many maps got a clear table, where that is asked for.
+fn push_cleared(
+    alloc: Global,
+    line: &mut String,
+    refused: Refused,
+    cleared: u64,
+) -> Result<(), AllocError>
+    ensures { OnOk result (string_bytes line.new ≡ string_bytes line.old ++ cleared_words refused cleared) }
+{
+    match refused {
+        Refused::Clear => push_count(alloc, line, " cleared ", cleared),
+        _ => Ok(()),
+    }
+}
+
+fn line_of(alloc: Global, refused: Refused, whole: &WholeWad) -> Result<String, AllocError>
+    ensures { IfOk result (λ line. string_bytes line ≡ tally_line refused whole.now.maps whole.now.built whole.now.refused whole.now.cleared) }
 {
     let mut line = String::new(alloc);
-    push_count(alloc, &mut line, "all maps ", maps)?;
-    push_count(alloc, &mut line, " built ", built)?;
-    push_count_line(alloc, &mut line, " refused ", refused)?;
+    push_count(alloc, &mut line, "all maps ", whole.maps)?;
+    push_count(alloc, &mut line, " built ", whole.built)?;
+    push_count(alloc, &mut line, " refused ", whole.refused)?;
+    push_cleared(alloc, &mut line, refused, whole.cleared)?;
+    line.push_str("\n")?;
     Ok(line)
 }
 
@@ -42,12 +59,14 @@ fn reply_of(
     alloc: Global,
     out: &str,
     report: &Option<Text>,
+    refused: Refused,
     whole: WholeWad,
 ) -> Result<Reply, AllocError>
-    ensures reply { IfOk result (λ reply. replied reply ≡ record { writes = all_writes out.now whole.bytes.items report.now (string_bytes whole.report); line = tally_line whole.maps whole.built whole.refused }) }
+    ensures reply { IfOk result (λ reply. replied reply ≡ record { writes = all_writes out.now whole.bytes.items report.now (string_bytes whole.report); line = tally_line refused whole.maps whole.built whole.refused whole.cleared; right = true }) }
+    ensures right { IfOk result (λ reply. reply.right ≡ true) }
     ensures roles { IfOk result (λ reply. roles_of (writes reply) ≡ all_roles report.now) }
 {
-    let line = line_of(alloc, whole.maps, whole.built, whole.refused)?;
+    let line = line_of(alloc, refused, &whole)?;
     let mut outputs = Vec::new(alloc);
     push_output(
         alloc,
@@ -65,7 +84,23 @@ fn reply_of(
             Bytes::Whole(whole.report.into_bytes()),
         )?;
     }
-    Ok(Reply { outputs, line })
+    Ok(Reply {
+        outputs,
+        line,
+        right: true,
+    })
+}
+
+/// The status of a WAD of which nothing is made.
+fn status_of(unmade: Unmade) -> Status
+    ensures { result ≡ of_unmade unmade }
+{
+    match unmade {
+        Unmade::Stopped(refusal) => refusal,
+        Unmade::Unwritten(RewriteFault::TooManyLumps) => Status::Limit(Bound::Lumps),
+        Unmade::Unwritten(RewriteFault::TooLong) => Status::Limit(Bound::OutputBytes),
+        Unmade::Unwritten(RewriteFault::Memory) => Status::Memory,
+    }
 }
 
 /// What comes of the maps of these names.
@@ -80,6 +115,7 @@ fn make_reply<R: Threads + Sync, G: Gate + Sync, N: Notice>(
     report: &Option<Text>,
     workers: u16,
     method: Method,
+    refused: Refused,
     gate: &G,
     notice: &N,
 ) -> Result<Reply, Status>
@@ -87,19 +123,18 @@ fn make_reply<R: Threads + Sync, G: Gate + Sync, N: Notice>(
     requires names { names_of (file_of bytes.now wad.now) ≡ entry_names wad.now.entries }
     requires among { HasInOrder (maps_of (entry_names wad.now.entries)) maps.now }
     requires workers { (1 ≤ workers) × (workers ≤ 64) }
-    ensures called { Gives ⊤ (MapsCall out.now report.now large maps.now method (file_of bytes.now wad.now)) (reply_seen result) }
-    ensures refusals { IfErr result IsOfMaking }
+    ensures called { Gives ⊤ (MapsCall out.now report.now large maps.now method refused (file_of bytes.now wad.now)) (reply_seen result) }
+    ensures refusals { IfErr result (IsOfStop refused) }
     ensures roles { IfOk result (λ reply. roles_of (writes reply) ≡ all_roles report.now) }
+    ensures right { IfOk result (λ reply. reply.right ≡ true) }
 {
     let whole = match build_wad(
-        rt, alloc, bytes, wad, large, maps, workers, method, gate, notice,
+        rt, alloc, bytes, wad, large, maps, workers, method, refused, gate, notice,
     ) {
         Ok(whole) => whole,
-        Err(RewriteFault::TooManyLumps) => return Err(Status::Limit(Bound::Lumps)),
-        Err(RewriteFault::TooLong) => return Err(Status::Limit(Bound::OutputBytes)),
-        Err(RewriteFault::Memory) => return Err(Status::Memory),
+        Err(unmade) => return Err(status_of(unmade)),
     };
-    match reply_of(alloc, out, report, whole) {
+    match reply_of(alloc, out, report, refused, whole) {
         Ok(reply) => Ok(reply),
         Err(_) => Err(Status::Memory),
     }
@@ -116,21 +151,23 @@ pub fn do_all<R: Threads + Sync, S: Shelf, G: Gate + Sync, N: Notice>(
     report: &Option<Text>,
     workers: u16,
     method: Method,
+    refused: Refused,
     gate: &G,
     notice: &N,
 ) -> Result<Reply, Status>
     requires workers { (1 ≤ workers) × (workers ≤ 64) }
-    ensures told { (files : Files) → (S.state shelf.old).files ≡ Some files → Gives ⊤ (OnRead (wad_in source.now.file files) (AllCalls out.now source.now.large only.now report.now method)) (reply_seen result) }
+    ensures told { (files : Files) → (S.state shelf.old).files ≡ Some files → Gives ⊤ (OnRead (wad_in source.now.file files) (AllCalls out.now source.now.large only.now report.now method refused)) (reply_seen result) }
     ensures files { (S.state shelf.new).files ≡ (S.state shelf.old).files }
     ensures begun { (S.state shelf.new).begun ≡ (S.state shelf.old).begun }
     ensures counts { NoneFell (S.state shelf.old) (S.state shelf.new) }
     ensures cause { Cause (S.state shelf.old) (S.state shelf.new) result }
-    ensures refusals { IfErr result (IsOfAll only.now) }
+    ensures refusals { IfErr result (IsOfAll only.now refused) }
     ensures roles { IfOk result (λ reply. roles_of (writes reply) ≡ all_roles report.now) }
+    ensures right { IfOk result (λ reply. reply.right ≡ true) }
 {
     let bytes = fetch_wad(alloc, shelf, source.file.as_str())?;
     let wad = directory(alloc, &bytes)?;
-    let maps = asked_maps(alloc, &wad, only)?;
+    let maps = asked_maps(alloc, &wad, only, notice)?;
     make_reply(
         rt,
         alloc,
@@ -142,6 +179,7 @@ pub fn do_all<R: Threads + Sync, S: Shelf, G: Gate + Sync, N: Notice>(
         report,
         workers,
         method,
+        refused,
         gate,
         notice,
     )

@@ -1,6 +1,6 @@
 //! The order `draw`: a picture of a map.
 
-ghost use Rattle.std.specs.Prelude.{◌≡◌, ◌∷◌, [], IfErr, IfOk, List, Ok, ℕ, ⊤};
+ghost use Rattle.std.specs.Prelude.{◌≡◌, ◌∷◌, [], IfErr, IfOk, List, Ok, ℕ, true, ⊤};
 ghost use Rattle.draw_answers.specs.Drawn.{drawn_answer};
 ghost use Rattle.map_answers.specs.declared.sight_status.status.Role.TheVariants.{Picture};
 ghost use Rattle.map_answers.specs.Views.{IsWhole, found};
@@ -53,6 +53,7 @@ pub fn make_drawing(
     ensures called { Gives (HasOneDrawing view (Ok (found input.now))) (DrawCalls name.now out.now view (found input.now)) (reply_seen result) }
     ensures refusals { IfErr result IsOfDrawing }
     ensures roles { IfOk result (λ reply. roles_of (writes reply) ≡ Picture ∷ []) }
+    ensures right { IfOk result (λ reply. reply.right ≡ true) }
 {
     let drawn = draw_view(alloc, input, name, view)?;
     match one_output(alloc, Role::Picture, out, drawn.picture, drawn.line) {

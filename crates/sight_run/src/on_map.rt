@@ -1,6 +1,6 @@
 //! The orders that ask of one map in a file: which map that is, and what each is answered once it is found.
 
-ghost use Rattle.std.specs.Prelude.{◌≡◌, ◌++◌, [], IfErr, IfOk, IsSome, IsTrue, Ok, Some, map};
+ghost use Rattle.std.specs.Prelude.{◌≡◌, ◌++◌, [], IfErr, IfOk, IsSome, IsTrue, Ok, Some, map, true};
 ghost use Rattle.std.specs.Option.{option_map};
 ghost use Rattle.listeners.specs.Told.{texts};
 ghost use Rattle.shelf_io.specs.Shelf.{Files, NoneFell};
@@ -45,6 +45,7 @@ pub fn asked_map(order: &Order) -> Option<(&Source, &str)>
         | Order::Sound { wad, map, .. }
         | Order::Why { wad, map, .. }
         | Order::Draw { wad, map, .. } => Some((wad, map.as_str())),
+        Order::Verify { .. } => None,
         Order::Grid { .. } | Order::All { .. } => None,
     }
 }
@@ -81,6 +82,7 @@ fn answer_on(alloc: Global, order: &Order, input: &Input) -> Result<Reply, Statu
     ensures past { IfErr result IsPastReading }
     ensures proper { IfErr result IsProper }
     ensures roles { IfOk result (λ reply. WritesEach order.now (roles_of (writes reply))) }
+    ensures right { IfOk result (λ reply. reply.right ≡ true) }
 {
     match order {
         Order::Zero { map, out, .. } => make_zero(alloc, input, map.as_str(), out.as_str()),
@@ -120,6 +122,7 @@ pub fn reply_on<R: Threads + Sync, S: Shelf, G: Gate + Sync>(
     ensures early { IfErr result IsUnstored }
     ensures proper { IfErr result IsProper }
     ensures roles { IfOk result (λ reply. WritesEach order.now (roles_of (writes reply))) }
+    ensures right { IfOk result (λ reply. reply.right ≡ true) }
 {
     match order {
         Order::Check { cert, .. } => check_on(alloc, shelf, input, cert.as_str()),

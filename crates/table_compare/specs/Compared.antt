@@ -1,6 +1,7 @@
 -- Two tables beside each other.
-use Rattle.std.specs.Prelude.{ℕ, ◌<◌, ◌/◌, ◌%◌, ◌==◌, ◌&&◌, Bool, List, slice_index, Option, Some, None, IsTrue}
+use Rattle.std.specs.Prelude.{ℕ, ◌+◌, ◌*◌, ◌<◌, ◌/◌, ◌%◌, ◌==◌, ◌&&◌, Bool, List, length, slice_index, Option, Some, None, IsTrue}
 use Rattle.std.specs.Int.{bit_at}
+use Rattle.std.specs.List.{count_by, range_with_len}
 use Rattle.reject_bits.specs.Parts.{Rejects, TableParts}
 
 -- the bit of the pair is set in this table, and clear in the other
@@ -16,6 +17,13 @@ has_alone byte other i = (bit_at byte i == 1) && (bit_at other i == 0)
 -- bit k of the bytes, the least bit of each byte first
 abbrev pub is_alone : List ℕ → List ℕ → ℕ → Bool
 is_alone one other k = has_alone (slice_index one (k / 8)) (slice_index other (k / 8)) (k % 8)
+
+-- how many bits only these bytes have, and how many only one of the two has
+abbrev pub bits_alone : List ℕ → List ℕ → ℕ
+bits_alone one other = count_by (is_alone one other) (range_with_len 0 (8 * length one))
+
+abbrev pub bits_changed : List ℕ → List ℕ → ℕ
+bits_changed one other = bits_alone one other + bits_alone other one
 
 -- the first place below this one that passes the test, or none exactly where none does
 abbrev pub IsFirstBelow : ℕ → (ℕ → Bool) → Option ℕ → Type 0

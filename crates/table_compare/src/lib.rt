@@ -4,7 +4,7 @@
 ghost use Rattle.std.specs.Prelude.{◌≡◌, ◌≤◌, ◌<◌, ◌+◌, ◌*◌, ◌^◌, length};
 ghost use Rattle.std.specs.List.{count_by, range_with_len};
 ghost use Rattle.reject_bits.specs.Parts.{IsWhole};
-ghost use Rattle.table_compare.specs.Compared.{has_alone, is_alone, IsFirstBelow, SetsAlone};
+ghost use Rattle.table_compare.specs.Compared.{bits_changed, has_alone, is_alone, IsFirstBelow, SetsAlone};
 ghost use Rattle.table_compare.specs.Counts.{IsCountOf, IsFirstOf};
 
 use reject_bits::Table;
@@ -51,6 +51,15 @@ fn count_bits(one: &[u8], other: &[u8]) -> u64
         count += count_alone(one[i], other[i]);
     }
     count
+}
+
+/// How many bits differ.
+pub fn count_changed(one: &[u8], other: &[u8]) -> u64
+    requires same { length other.now ≡ length one.now }
+    requires short { length one.now < 2 ^ 32 }
+    ensures { result ≡ bits_changed one.now other.now }
+{
+    count_bits(one, other) + count_bits(other, one)
 }
 
 /// The first bit that the bytes have and the others haven't.

@@ -5,3 +5,4 @@ pub mod OneOutcome
 pub mod Refusing
 pub mod Telling
 pub mod Changing
+pub mod Stopping

@@ -1,10 +1,19 @@
--- One map more in a list of what comes of maps.
-use Rattle.std.proofs.Common.{◌≡◌, ℕ, ◌+◌, ◌<◌, List, [], ◌∷◌, ◌++◌, length, get_or, take, map, sym, ap, subst, ◌∙◌}
+-- One map more in a list of what comes of maps, and one that stops all.
+use Rattle.std.proofs.Common.{◌≡◌, ℕ, Bool, ◌+◌, ◌<◌, List, [], ◌∷◌, ◌++◌, length, drop, get_or, take, map, Option, Some, None, refl, sym, ap, subst, ◌∙◌}
 use Rattle.std.specs.List.{AllByRecursion}
-use Rattle.std.proofs.lemmas.List.{flat_map_more, take_more}
+use Rattle.std.proofs.lemmas.List.{drop_more, flat_map_more, take_more}
 use Rattle.math_base.proofs.Lists.{all_join, map_pushed}
+use Rattle.sight_names.specs.declared.names.Method.{Method}
+use Rattle.wad_dir.specs.Wad.{WadFile}
+use Rattle.wad_dir.specs.AllMaps.Names.{word_of}
+use Rattle.refused_maps.specs.declared.Refused.{Refused}
+use Rattle.map_answers.specs.declared.sight_status.status.Status.{Status}
+use Rattle.map_answers.specs.Input.{map_named}
 use Rattle.whole_wad.specs.declared.outcomes.MapOutcome.{MapOutcome}
+use Rattle.whole_wad.specs.Outcomes.{ComesOf, stop_of}
 use Rattle.whole_wad.specs.Report.{map_line, report_of}
+use Rattle.whole_wad.specs.Stop.{IsThisOr, StopsAt}
+use Rattle.whole_wad.specs.Tables.{Gets}
 
 -- the next name
 pub name_more : (names : List (List ℕ)) (k : ℕ) (d : List ℕ) (outcomes more : List MapOutcome) (o : MapOutcome) → k < length names → map (λ (x : MapOutcome). x.name) outcomes ≡ take k names → o.name ≡ get_or names k d
@@ -26,3 +35,18 @@ lines_more outcomes o = flat_map_more map_line [] outcomes o
 pub report_more : (outcomes more : List MapOutcome) (o : MapOutcome) (old line new : List ℕ) → old ≡ report_of outcomes → line ≡ map_line o → new ≡ old ++ line → more ≡ outcomes ++ o ∷ [] → new ≡ report_of more
 report_more outcomes more o old line new before is pushed e =
     pushed ∙ ap (λ (xs : List ℕ). xs ++ line) before ∙ ap (λ (xs : List ℕ). report_of outcomes ++ xs) is ∙ lines_more outcomes o ∙ ap report_of (sym e)
+
+-- ---- the first that stops all
+
+module _ (w : WadFile) (large : Bool) (by : Method) (choice : Refused) (names : List (List ℕ)) (k : ℕ) (d : List ℕ) (o : MapOutcome) (lt : k < length names) (is : o.name ≡ get_or names k d) (comes : ComesOf w large by choice o) (ahead : (s : Status) → StopsAt w large by choice s (drop k names) → StopsAt w large by choice s names) where
+  -- what this map says of the first that stops all among it and those behind it
+  among : (s : Status) → IsThisOr (stop_of choice o.made) s (StopsAt w large by choice s (drop (k + 1) names)) → StopsAt w large by choice s names
+  among s this =
+      let here : StopsAt w large by choice s (get_or names k d ∷ drop (k + 1) names) = (o.made, subst (λ (n : List ℕ). Gets (map_named large w (word_of n)) by o.made) is comes.gets, this) in
+      ahead s (subst (λ (ns : List (List ℕ)). StopsAt w large by choice s ns) (sym (drop_more names k d lt)) here)
+
+  pub stops_here : (s : Status) → Some s ≡ stop_of choice o.made → StopsAt w large by choice s names
+  stops_here s e = among s (subst (λ (r : Option Status). IsThisOr r s (StopsAt w large by choice s (drop (k + 1) names))) e refl)
+
+  pub stops_later : None ≡ stop_of choice o.made → (s : Status) → StopsAt w large by choice s (drop (k + 1) names) → StopsAt w large by choice s names
+  stops_later e s later = among s (subst (λ (r : Option Status). IsThisOr r s (StopsAt w large by choice s (drop (k + 1) names))) e later)

@@ -2,25 +2,37 @@
 use Rattle.std.specs.Prelude.{ℕ, List, ◌++◌, Result, Ok, Err, codes, length}
 use Rattle.std.specs.Fmt.{decimal}
 use Rattle.std.specs.List.{flat_map}
+use Rattle.std.specs.Str.{trim_end}
 use Rattle.map_answers.specs.declared.sight_status.status.Status.{Status}
 use Rattle.map_answers.specs.SightStatus.Texts.{reason_words}
 use Rattle.map_answers.specs.declared.counts.Counts.{Counts}
 use Rattle.map_answers.specs.Counts.{counts_with}
+use Rattle.whole_wad.specs.declared.fate.Fate.{Fate}
+use Rattle.whole_wad.specs.declared.fate.Fate.TheVariants as fate
 use Rattle.whole_wad.specs.declared.outcomes.MapOutcome.{MapOutcome}
 use Rattle.whole_wad.specs.declared.tables.MapTable.{MapTable}
 use Rattle.wad_dir.specs.AllMaps.Names.{word_of}
 
 -- how many pairs are set, clear and listed
 abbrev pub totals_words : Counts → List ℕ
-totals_words c = codes " set " ++ decimal c.set ++ codes " clear " ++ decimal c.clear ++ codes " listed " ++ decimal c.listed ++ codes "\n"
+totals_words c = codes " set " ++ decimal c.set ++ codes " clear " ++ decimal c.clear ++ codes " listed " ++ decimal c.listed
 
+-- the counts of the table, or the refusal without the end of its line
 abbrev pub made_words : Result MapTable Status → List ℕ
 made_words (Ok made) = totals_words (counts_with made.table (length made.listed))
-made_words (Err refusal) = codes " refused " ++ reason_words refusal
+made_words (Err refusal) = codes " refused " ++ trim_end (reason_words refusal)
 
--- one line: the name, and the counts of the table, or the refusal
+-- what becomes of the map's REJECT
+abbrev pub fate_words : Fate → List ℕ
+fate_words (fate.Changed bits) = codes " changed " ++ decimal bits
+fate_words (fate.Replaced len) = codes " replaced " ++ decimal len ++ codes " bytes"
+fate_words fate.KeptSet = codes " kept set"
+fate_words fate.KeptClear = codes " kept clear"
+fate_words (fate.Cleared table) = codes " cleared"
+
+-- one line: the name, the counts of the table or the refusal, and what becomes of the REJECT
 abbrev pub map_line : MapOutcome → List ℕ
-map_line outcome = word_of outcome.name ++ made_words outcome.made
+map_line outcome = word_of outcome.name ++ made_words outcome.made ++ fate_words outcome.fate ++ codes "\n"
 
 -- one line a map
 abbrev pub report_of : List MapOutcome → List ℕ

@@ -1,4 +1,4 @@
--- What a map gets: a table and the list of the pairs whose bys ran out, or the flaw for which it gets none.
+-- What a map gets: a table and the list of the pairs whose budgets ran out, or the flaw for which it gets none.
 use Rattle.std.specs.Prelude.{◌≡◌, Result, Ok, Err, ⊤}
 use Rattle.sight_names.specs.declared.names.Method.{Method}
 use Rattle.sight_names.specs.Map.{Map}

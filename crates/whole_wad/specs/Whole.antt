@@ -6,33 +6,62 @@ use Rattle.sight_names.specs.declared.names.Method.{Method}
 use Rattle.wad_dir.specs.Wad.{WadFile}
 use Rattle.wad_dir.specs.WadRewrite.Rewrite.{printed}
 use Rattle.wad_dir.specs.AllMaps.All.{with_all}
+use Rattle.refused_maps.specs.declared.Refused.{Refused}
 use Rattle.whole_wad.specs.declared.outcomes.MapOutcome.{MapOutcome}
+use Rattle.whole_wad.specs.declared.whole.Maps.{Maps}
+use Rattle.whole_wad.specs.declared.whole.Told.{Told}
+use Rattle.whole_wad.specs.declared.whole.Told.TheVariants as told
+use Rattle.whole_wad.specs.declared.whole.Unmade.{Unmade}
+use Rattle.whole_wad.specs.declared.whole.Unmade.TheVariants as unmade
 use Rattle.whole_wad.specs.declared.whole.WholeWad.{WholeWad}
-use Rattle.whole_wad.specs.Outcomes.{AreOutcomes, changes_of, refusals_of}
+use Rattle.whole_wad.specs.Outcomes.{AreOutcomes, changes_of, clears_of, refusals_of, tables_of}
 use Rattle.whole_wad.specs.Report.{report_of}
+use Rattle.whole_wad.specs.Stop.{StopsAt}
 
--- what is written of the WAD in which each map that gets a table has it as its REJECT, or why it isn't
+-- what is written of the WAD in which each map that gets a table, or a clear one, has it as its REJECT, or why it isn't
 abbrev pub written_of : WadFile → List MapOutcome → Result (List ℕ) RewriteFault
 written_of w outcomes = printed (with_all w (changes_of outcomes))
 
--- the bytes, the report and the counts are those of what comes of the maps
-pub record ShowsWhole (w : WadFile) (large : Bool) (names : List (List ℕ)) (by : Method) (whole : WholeWad) : Type 0 where
-  pub outcomes : List MapOutcome
-  pub are : AreOutcomes w large names by outcomes
+-- the bytes, the report and the counts are those of what came of some maps
+pub record ShowsOutcomes (w : WadFile) (outcomes : List MapOutcome) (report : List ℕ) (whole : WholeWad) : Type 0 where
   pub bytes : written_of w outcomes ≡ Ok whole.bytes.items
-  pub report : string_bytes whole.report ≡ report_of outcomes
+  pub report_is : string_bytes whole.report ≡ report
   pub maps : whole.maps ≡ length outcomes
-  pub built : whole.built ≡ length (changes_of outcomes)
+  pub built : whole.built ≡ length (tables_of outcomes)
   pub refused : whole.refused ≡ length (refusals_of outcomes)
+  pub cleared : whole.cleared ≡ length (clears_of outcomes)
+
+-- .. and such a WAD is written, or why it isn't, unless memory ran out
+abbrev pub WritesOutcomes : WadFile → List MapOutcome → List ℕ → Result WholeWad RewriteFault → Type 0
+WritesOutcomes w outcomes report (Ok whole) = ShowsOutcomes w outcomes report whole
+WritesOutcomes w outcomes report (Err rewrite.Memory) = ⊤
+WritesOutcomes w outcomes report (Err fault) = written_of w outcomes ≡ Err fault
+
+-- the report on what comes of the maps
+pub record TellsAll (w : WadFile) (large : Bool) (names : List (List ℕ)) (by : Method) (choice : Refused) (maps : Maps) : Type 0 where
+  pub are : AreOutcomes w large names by choice maps.outcomes.items
+  pub report : string_bytes maps.report ≡ report_of maps.outcomes.items
+
+-- .. or the first refusal, where that stops all
+abbrev pub Tells : WadFile → Bool → List (List ℕ) → Method → Refused → Told → Type 0
+Tells w large names by choice (told.All maps) = TellsAll w large names by choice maps
+Tells w large names by choice (told.Stopped refusal) = StopsAt w large by choice refusal names
+
+-- the bytes, the report and the counts are those of what comes of the maps
+pub record ShowsWhole (w : WadFile) (large : Bool) (names : List (List ℕ)) (by : Method) (choice : Refused) (whole : WholeWad) : Type 0 where
+  pub outcomes : List MapOutcome
+  pub are : AreOutcomes w large names by choice outcomes
+  pub shows : ShowsOutcomes w outcomes (report_of outcomes) whole
 
 -- the WAD with all tables is above a limit
-pub record IsAboveLimit (w : WadFile) (large : Bool) (names : List (List ℕ)) (by : Method) (fault : RewriteFault) : Type 0 where
+pub record IsAboveLimit (w : WadFile) (large : Bool) (names : List (List ℕ)) (by : Method) (choice : Refused) (fault : RewriteFault) : Type 0 where
   pub outcomes : List MapOutcome
-  pub are : AreOutcomes w large names by outcomes
+  pub are : AreOutcomes w large names by choice outcomes
   pub limit : written_of w outcomes ≡ Err fault
 
--- what is made of the WAD, unless memory ran out
-abbrev pub MakesWhole : WadFile → Bool → List (List ℕ) → Method → Result WholeWad RewriteFault → Type 0
-MakesWhole w large names by (Ok whole) = ShowsWhole w large names by whole
-MakesWhole w large names by (Err rewrite.Memory) = ⊤
-MakesWhole w large names by (Err fault) = IsAboveLimit w large names by fault
+-- what is made of the WAD, or the first refusal where that stops all, unless memory ran out
+abbrev pub MakesWhole : WadFile → Bool → List (List ℕ) → Method → Refused → Result WholeWad Unmade → Type 0
+MakesWhole w large names by choice (Ok whole) = ShowsWhole w large names by choice whole
+MakesWhole w large names by choice (Err (unmade.Stopped refusal)) = StopsAt w large by choice refusal names
+MakesWhole w large names by choice (Err (unmade.Unwritten rewrite.Memory)) = ⊤
+MakesWhole w large names by choice (Err (unmade.Unwritten fault)) = IsAboveLimit w large names by choice fault

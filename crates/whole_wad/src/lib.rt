@@ -2,6 +2,7 @@
 #![tactic(auto)]
 
 mod building;
+mod fate;
 mod laws;
 mod notice;
 mod outcomes;
@@ -10,8 +11,9 @@ mod tables;
 mod whole;
 
 pub use building::{Built, build, has_sizes_of_map};
+pub use fate::Fate;
 pub use laws::{builds_have_one_table, outcomes_are_one};
 pub use notice::{NoNotice, Notice};
 pub use outcomes::MapOutcome;
 pub use tables::MapTable;
-pub use whole::{WholeWad, build_wad};
+pub use whole::{Unmade, WholeWad, build_wad, tell_unread};

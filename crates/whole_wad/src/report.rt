@@ -1,12 +1,15 @@
 //! The report's line of one map.
 
 ghost use Rattle.std.specs.Prelude.{◌≡◌, ◌++◌, IfOk, OnOk, IsTrue, string_bytes};
+ghost use Rattle.std.specs.Str.{trim_end};
+ghost use Rattle.map_answers.specs.SightStatus.Texts.{reason_words};
 ghost use Rattle.wad_dir.specs.AllMaps.Maps.{is_map_name};
-ghost use Rattle.whole_wad.specs.Report.{made_words, map_line, totals_words};
+ghost use Rattle.whole_wad.specs.Report.{fate_words, made_words, map_line, totals_words};
 
+use crate::fate::Fate;
 use crate::outcomes::MapOutcome;
 use crate::tables::MapTable;
-use map_answers::sight_status::{Status, push_count, push_count_line, push_reason, push_text};
+use map_answers::sight_status::{Status, push_count, push_reason, push_text};
 use map_answers::{Counts, counts_of};
 use std::alloc::{AllocError, Global};
 use wad_dir::all_maps::text_of;
@@ -17,7 +20,16 @@ fn push_totals(alloc: Global, line: &mut String, counts: Counts) -> Result<(), A
 {
     push_count(alloc, line, " set ", counts.set)?;
     push_count(alloc, line, " clear ", counts.clear)?;
-    push_count_line(alloc, line, " listed ", counts.listed)
+    push_count(alloc, line, " listed ", counts.listed)
+}
+
+/// Adds why a map is refused, without the end of that line.
+fn push_cause(alloc: Global, line: &mut String, refusal: Status) -> Result<(), AllocError>
+    ensures { OnOk result (string_bytes line.new ≡ string_bytes line.old ++ trim_end (reason_words refusal)) }
+{
+    let mut cause = String::new(alloc);
+    push_reason(alloc, &mut cause, refusal)?;
+    push_text(line, cause.trim_end())
 }
 
 /// Adds what is said of a map's table, or of its refusal.
@@ -36,8 +48,24 @@ fn push_made(
         ),
         Err(refusal) => {
             push_text(line, " refused ")?;
-            push_reason(alloc, line, *refusal)
+            push_cause(alloc, line, *refusal)
         }
+    }
+}
+
+/// Adds what becomes of its REJECT.
+fn push_fate(alloc: Global, line: &mut String, fate: &Fate) -> Result<(), AllocError>
+    ensures { OnOk result (string_bytes line.new ≡ string_bytes line.old ++ fate_words fate.now) }
+{
+    match fate {
+        Fate::Changed(bits) => push_count(alloc, line, " changed ", *bits),
+        Fate::Replaced(len) => {
+            push_count(alloc, line, " replaced ", *len)?;
+            push_text(line, " bytes")
+        }
+        Fate::KeptSet => push_text(line, " kept set"),
+        Fate::KeptClear => push_text(line, " kept clear"),
+        Fate::Cleared(_) => push_text(line, " cleared"),
     }
 }
 
@@ -48,5 +76,7 @@ pub fn line_of(alloc: Global, outcome: &MapOutcome) -> Result<String, AllocError
 {
     let mut line = String::from_str(alloc, text_of(&outcome.name))?;
     push_made(alloc, &mut line, &outcome.made)?;
+    push_fate(alloc, &mut line, &outcome.fate)?;
+    push_text(&mut line, "\n")?;
     Ok(line)
 }

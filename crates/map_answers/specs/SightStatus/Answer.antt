@@ -1,9 +1,10 @@
 -- What an order calls for: outputs and a line, or a refusal.
-use Rattle.std.specs.Prelude.{◌≡◌, ℕ, List, [], Result, Ok, Err, String, string_bytes, ⊤}
+use Rattle.std.specs.Prelude.{◌≡◌, ℕ, Bool, true, List, [], Result, Ok, Err, String, string_bytes, ⊤}
 use Rattle.std.specs.declared.alloc.Global.{Global}
 use Rattle.map_answers.specs.declared.sight_status.status.Role.{Role}
 use Rattle.map_answers.specs.declared.sight_status.status.Status.{Status}
 use Rattle.map_answers.specs.declared.sight_status.status.Status.TheVariants as status
+use Rattle.map_answers.specs.SightStatus.Status.{done_as}
 
 -- an output: what it is to the order, its name and its bytes
 pub record Written : Type 0 where
@@ -11,14 +12,15 @@ pub record Written : Type 0 where
   pub name : List ℕ
   pub bytes : List ℕ
 
--- the outputs in the order in which they are stored, and the line that is put
+-- the outputs in the order in which they are stored, the line that is put, and whether all that was judged is right
 pub record Answer : Type 0 where
   pub writes : List Written
   pub line : List ℕ
+  pub right : Bool
 
 -- an answer that is a line alone
 abbrev pub only_line : List ℕ → Answer
-only_line line = record { writes = []; line = line }
+only_line line = record { writes = []; line = line; right = true }
 
 infixl 10 ◌>>=◌
 -- the first check that fails refuses
@@ -28,7 +30,7 @@ abbrev pub ◌>>=◌ : {A B : Type 0} → Result A Status → (A → Result B St
 
 -- the status of a run that gets so far
 abbrev pub status_of : Result Answer Status → Status
-status_of (Ok answer) = status.Done
+status_of (Ok answer) = done_as answer.right
 status_of (Err refusal) = refusal
 
 -- What was made is what is said, unless memory ran out or a read failed.

@@ -1,5 +1,5 @@
 -- The numbers of the statuses, and what never stands in one.
-use Rattle.std.specs.Prelude.{ℕ, ⊤}
+use Rattle.std.specs.Prelude.{ℕ, Bool, true, false, ⊤}
 use Rattle.sight_names.specs.declared.faults.WadFault.{WadFault}
 use Rattle.sight_names.specs.declared.faults.WadFault.TheVariants as wad
 use Rattle.sight_names.specs.declared.faults.LumpFault.{LumpFault}
@@ -14,9 +14,15 @@ use Rattle.map_answers.specs.declared.sight_status.status.Why.TheVariants as why
 use Rattle.map_answers.specs.declared.sight_status.status.Status.{Status}
 use Rattle.map_answers.specs.declared.sight_status.status.Status.TheVariants as status
 
+-- how a run ends that does what is asked, by whether all that it judged is right
+abbrev pub done_as : Bool → Status
+done_as true = status.Done
+done_as false = status.NotRight
+
 -- the exit status of the program
 abbrev pub number_of : Status → ℕ
 number_of status.Done = 0
+number_of status.NotRight = 1
 number_of (status.No why) = 1
 number_of status.Usage = 2
 number_of (status.NoFile role) = 3

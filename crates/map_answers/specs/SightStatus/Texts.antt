@@ -158,6 +158,7 @@ reason_words other = codes "\n"
 -- the line of a refusal; want of memory has none, and what was done has its own
 abbrev pub text_of : Status → List ℕ
 text_of status.Done = []
+text_of status.NotRight = []
 text_of (status.No why) = no_words why
 text_of status.Usage = codes "refused: usage\n"
 text_of (status.NoFile role) = codes "refused: no file " ++ role_words role

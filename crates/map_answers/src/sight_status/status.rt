@@ -1,7 +1,7 @@
 //! How a run ends.
 
 ghost use Rattle.std.specs.Prelude.{◌≡◌};
-ghost use Rattle.map_answers.specs.SightStatus.Status.{number_of};
+ghost use Rattle.map_answers.specs.SightStatus.Status.{done_as, number_of};
 
 use sight_names::{
     CertFault, CheckFault, LineFault, LumpFault, MapFault, RayFault, Side, TableFault, TraceFault,
@@ -61,6 +61,8 @@ pub enum Why {
 pub enum Status {
     /// What the words ask was done.
     Done,
+    /// It was done, and what was judged is told, but not all of it is right.
+    NotRight,
     /// What was judged isn't so.
     No(Why),
     /// The words are no order.
@@ -87,12 +89,24 @@ pub enum Status {
     Memory,
 }
 
+/// How a run ends that does what is asked, by whether all that it judged is right.
+pub fn done_as(right: bool) -> Status
+    ensures { result ≡ done_as right }
+{
+    if right {
+        Status::Done
+    } else {
+        Status::NotRight
+    }
+}
+
 /// The exit status of the program.
 pub fn code(status: &Status) -> u8
     ensures { result ≡ number_of status.now }
 {
     match status {
         Status::Done => 0,
+        Status::NotRight => 1,
         Status::No(_) => 1,
         Status::Usage => 2,
         Status::NoFile(_) => 3,

@@ -408,7 +408,7 @@ fn push_status(alloc: Global, line: &mut String, status: Status) -> Result<(), A
     ensures { OnOk result (string_bytes line.new ≡ string_bytes line.old ++ text_of status) }
 {
     match status {
-        Status::Done | Status::Memory => Ok(()),
+        Status::Done | Status::NotRight | Status::Memory => Ok(()),
         Status::Usage => line.push_str("refused: usage\n"),
         Status::SameName => line.push_str("refused: same name\n"),
         Status::No(why) => push_no(alloc, line, why),

@@ -53,7 +53,7 @@ fn push_numbers(alloc: Global, line: &mut String, ray: Ray) -> Result<(), AllocE
 }
 
 /// Adds a ray.
-fn push_ray(alloc: Global, line: &mut String, ray: Ray) -> Result<(), AllocError>
+pub fn push_ray(alloc: Global, line: &mut String, ray: Ray) -> Result<(), AllocError>
     ensures { OnOk result (string_bytes line.new ≡ string_bytes line.old ++ ray_words ray) }
 {
     push_sides(alloc, line, ray)?;

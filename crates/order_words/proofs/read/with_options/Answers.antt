@@ -16,6 +16,9 @@ third app = with_rule (second app) (option_rule (codes "workers"))
 abbrev fourth : App → App
 fourth app = with_rule (third app) (option_rule (codes "budget"))
 
+abbrev fifth : App → App
+fifth app = with_rule (fourth app) (option_rule (codes "only"))
+
 pub returns : goal.returns
 returns c =
     let app : App = app_of c.args.command in
@@ -23,4 +26,5 @@ returns c =
     let second_is : app_of c.in_ok-command-2.command ≡ second app = c.in_ok-command-2.ensures ∙ ap₂ with_rule first_is c.option-2.ensures.rule in
     let third_is : app_of c.in_ok-command-3.command ≡ third app = c.in_ok-command-3.ensures ∙ ap₂ with_rule second_is c.option-3.ensures.rule in
     let fourth_is : app_of c.in_ok-command-4.command ≡ fourth app = c.in_ok-command-4.ensures ∙ ap₂ with_rule third_is c.option-4.ensures.rule in
-    IfOk-weaker c.with_arg-5.result _ _ (λ m h. h ∙ ap₂ with_rule fourth_is c.option-5.ensures.rule) c.with_arg-5.ensures
+    let fifth_is : app_of c.in_ok-command-5.command ≡ fifth app = c.in_ok-command-5.ensures ∙ ap₂ with_rule fourth_is c.option-5.ensures.rule in
+    IfOk-weaker c.with_arg-6.result _ _ (λ m h. h ∙ ap₂ with_rule fifth_is c.option-6.ensures.rule) c.with_arg-6.ensures

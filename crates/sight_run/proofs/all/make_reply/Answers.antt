@@ -1,14 +1,22 @@
+use Rattle.std.proofs.Common.{List, ℕ, subst, sym}
 use Rattle.wad_dir.specs.Wad.{file_of}
+use Rattle.wad_dir.specs.AllMaps.All.{HasInOrder}
+use Rattle.wad_dir.specs.AllMaps.Maps.{maps_of}
+use Rattle.map_answers.specs.declared.sight_status.status.Status.{Status}
+use Rattle.map_answers.specs.SightStatus.Answer.{Gives}
 use Rattle.sight_run.specs.Reply.{replied}
-use Rattle.sight_run.proofs.OneAll.{many_lumps, the_whole, too_long}
+use Rattle.sight_run.proofs.OneAll.{the_unmade, the_whole, unmade_so}
 use Rattle.sight_run.proofs.all.make_reply.Goals as goal
 
-pub returns-in-Err-TooManyLumps-clause-called : goal.returns-in-Err-TooManyLumps-clause-called
-returns-in-Err-TooManyLumps-clause-called g c = many_lumps c.args.out.now c.args.report.now c.args.large c.args.maps.now c.args.method (file_of c.args.bytes.now c.args.wad.now) c.in-Err-TooManyLumps.field-0 c.in-Err-TooManyLumps.field-0-is c.in-Err-TooManyLumps.ensures
+pub returns-in-Err-clause-called : goal.returns-in-Err-clause-called
+returns-in-Err-clause-called g c =
+    rw c.status_of.ensures (the_unmade c.args.out.now c.args.report.now c.args.large c.args.maps.now c.args.method c.args.refused (file_of c.args.bytes.now c.args.wad.now) c.in-Err.unmade c.in-Err.ensures)
 
-pub returns-in-Err-TooLong-clause-called : goal.returns-in-Err-TooLong-clause-called
-returns-in-Err-TooLong-clause-called g c = too_long c.args.out.now c.args.report.now c.args.large c.args.maps.now c.args.method (file_of c.args.bytes.now c.args.wad.now) c.in-Err-TooLong.field-0 c.in-Err-TooLong.field-0-is c.in-Err-TooLong.ensures
+pub returns-in-Err-clause-refusals : goal.returns-in-Err-clause-refusals
+returns-in-Err-clause-refusals g c =
+    rw c.status_of.ensures (unmade_so c.args.out.now c.args.report.now c.args.large c.args.maps.now c.args.method c.args.refused (file_of c.args.bytes.now c.args.wad.now) c.in-Err.unmade
+    (subst (λ (ns : List (List ℕ)). HasInOrder (maps_of ns) c.args.maps.now) (sym c.requires.names) c.requires.among) c.in-Err.ensures)
 
 pub returns-in-Ok-reply_of-clause-called : goal.returns-in-Ok-reply_of-clause-called
 returns-in-Ok-reply_of-clause-called g c =
-    the_whole c.args.out.now c.args.report.now c.args.large c.args.maps.now c.args.method (file_of c.args.bytes.now c.args.wad.now) c.in-Ok.whole (replied c.in-Ok-reply_of.reply) c.in-Ok.ensures c.in-Ok-reply_of.ensures.reply
+    the_whole c.args.out.now c.args.report.now c.args.large c.args.maps.now c.args.method c.args.refused (file_of c.args.bytes.now c.args.wad.now) c.in-Ok.whole (replied c.in-Ok-reply_of.reply) c.in-Ok.ensures c.in-Ok-reply_of.ensures.reply

@@ -12,4 +12,4 @@ returns-in_err-drawn-clause-called c =
 
 pub returns-in-Ok-clause-called : goal.returns-in-Ok-clause-called
 returns-in-Ok-clause-called c =
-    subst (λ (answer : Answer). Gives (HasOneDrawing c.args.view (Ok (found c.args.input.now))) (DrawCalls c.args.name.now c.args.out.now c.args.view (found c.args.input.now)) (Ok answer)) (sym c.in-Ok.ensures) (c.in_ok-drawn.ensures.judged c.args.out.now)
+    subst (λ (answer : Answer). Gives (HasOneDrawing c.args.view (Ok (found c.args.input.now))) (DrawCalls c.args.name.now c.args.out.now c.args.view (found c.args.input.now)) (Ok answer)) (sym c.in-Ok.ensures.replied) (c.in_ok-drawn.ensures.judged c.args.out.now)

@@ -10,7 +10,7 @@ pub returns-in_err-line_on-in_default : goal.returns-in_err-line_on-in_default
 returns-in_err-line_on-in_default c =
     let p = err_from_is_err_and c.from_residual.result c.from_residual.ensures.1 in
     let said = c.in_err-line_on-in_default.ensures in
-    rw (p.1, p.2) (record { called = said.called; refusals = said.refusals; past = said.past; proper = said.proper; roles = tt })
+    rw (p.1, p.2) (record { called = said.called; refusals = said.refusals; past = said.past; proper = said.proper; roles = tt; right = tt })
 
 pub returns-in-Draw-clause-called : goal.returns-in-Draw-clause-called
 returns-in-Draw-clause-called c = rw c.in-Draw.is (λ files heard. rw (c.as_str-in-Draw.ensures, c.as_str-in-Draw-2.ensures) at c.make_drawing.ensures.called)
@@ -19,9 +19,10 @@ pub returns-in_ok-line_on-in_default : goal.returns-in_ok-line_on-in_default
 returns-in_ok-line_on-in_default c =
     let said = c.in_ok-line_on-in_default.ensures in
     record {
-      called = λ files heard. subst (λ (answer : Answer). IsTheAnswer (HasOneOn c.args.order.now (Ok (found c.args.input.now))) (CallsOn c.args.order.now files heard (found c.args.input.now)) (Ok answer)) (sym c.line_alone.ensures) (said.called files heard);
+      called = λ files heard. subst (λ (answer : Answer). IsTheAnswer (HasOneOn c.args.order.now (Ok (found c.args.input.now))) (CallsOn c.args.order.now files heard (found c.args.input.now)) (Ok answer)) (sym c.line_alone.ensures.replied) (said.called files heard);
       refusals = tt;
       past = tt;
       proper = tt;
-      roles = subst (λ (ws : List Written). WritesEach c.args.order.now (roles_of ws)) (sym (ap (λ (a : Answer). a.writes) c.line_alone.ensures)) tt;
+      roles = subst (λ (ws : List Written). WritesEach c.args.order.now (roles_of ws)) (sym (ap (λ (a : Answer). a.writes) c.line_alone.ensures.replied)) tt;
+      right = c.line_alone.ensures.right;
     }

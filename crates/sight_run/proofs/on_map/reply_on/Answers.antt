@@ -26,4 +26,5 @@ returns-in_default g c =
       early = past_unstored c.answer_on.result c.answer_on.ensures.past;
       proper = c.answer_on.ensures.proper;
       roles = c.answer_on.ensures.roles;
+      right = c.answer_on.ensures.right;
     }

@@ -1,0 +1,5 @@
+pub mod Own
+pub mod Verdict
+pub mod Tallies
+pub mod Report
+pub mod Verdicts

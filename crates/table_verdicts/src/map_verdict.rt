@@ -1,0 +1,82 @@
+//! What is said of the REJECT of the map of a name.
+
+ghost use Rattle.std.specs.Prelude.{◌≡◌, ◌+◌, ◌≤◌, length, All, IfOk, IsTrue};
+ghost use Rattle.wad_dir.specs.Map.{entry_names};
+ghost use Rattle.wad_dir.specs.Wad.{file_of, names_of};
+ghost use Rattle.wad_dir.specs.AllMaps.Maps.{is_map_name};
+ghost use Rattle.map_answers.specs.Input.{map_named};
+ghost use Rattle.table_verdicts.specs.Own.{reject_named};
+ghost use Rattle.table_verdicts.specs.Verdict.{IsVerdictOrMemory};
+ghost use Rattle.table_verdicts.specs.Verdicts.{SaysOf};
+
+use crate::judging::verdict_of;
+use crate::own::reject_named;
+use crate::verdict::{MapVerdict, Verdict};
+use group_job::sight_workers::Gate;
+use map_answers::plan_named;
+use map_answers::sight_status::Status;
+use sight_names::Memory;
+use std::alloc::Global;
+use std::thread::Threads;
+use wad_dir::Wad;
+use wad_dir::all_maps::text_of;
+
+/// What is said of the REJECT of the map of that name, or the first check that fails.
+fn verdict_named<R: Threads + Sync, G: Gate + Sync>(
+    rt: &R,
+    alloc: Global,
+    bytes: &[u8],
+    wad: &Wad,
+    large: bool,
+    name: &str,
+    workers: u16,
+    gate: &G,
+) -> Result<Verdict, Status>
+    requires inside { All (λ entry. entry.at + entry.size ≤ length bytes.now) wad.now.entries }
+    requires names { names_of (file_of bytes.now wad.now) ≡ entry_names wad.now.entries }
+    requires workers { (1 ≤ workers) × (workers ≤ 64) }
+    ensures { IsVerdictOrMemory (map_named large (file_of bytes.now wad.now) name.now) (reject_named (file_of bytes.now wad.now) name.now) result }
+{
+    let plan = plan_named(alloc, bytes, wad, large, name)?;
+    verdict_of(
+        rt,
+        alloc,
+        &plan,
+        reject_named(bytes, wad, name),
+        workers,
+        gate,
+    )
+}
+
+/// What is said of the map of that name.
+pub fn verdict_on<R: Threads + Sync, G: Gate + Sync>(
+    rt: &R,
+    alloc: Global,
+    bytes: &[u8],
+    wad: &Wad,
+    large: bool,
+    name: &[u8; 8],
+    workers: u16,
+    gate: &G,
+) -> Result<MapVerdict, Memory>
+    requires inside { All (λ entry. entry.at + entry.size ≤ length bytes.now) wad.now.entries }
+    requires names { names_of (file_of bytes.now wad.now) ≡ entry_names wad.now.entries }
+    requires named { IsTrue (is_map_name name.now) }
+    requires workers { (1 ≤ workers) × (workers ≤ 64) }
+    ensures name { IfOk result (λ v. v.name ≡ name.now) }
+    ensures says { IfOk result (SaysOf (file_of bytes.now wad.now) large) }
+    ensures named { IfOk result (λ v. IsTrue (is_map_name v.name)) }
+{
+    let name = *name;
+    match verdict_named(rt, alloc, bytes, wad, large, text_of(&name), workers, gate) {
+        Ok(verdict) => Ok(MapVerdict {
+            name,
+            said: Ok(verdict),
+        }),
+        Err(Status::Memory) => Err(Memory),
+        Err(refusal) => Ok(MapVerdict {
+            name,
+            said: Err(refusal),
+        }),
+    }
+}

@@ -1,0 +1,108 @@
+-- A refusal that stops all is one of a map that its name finds.
+use Rattle.std.proofs.Common.{◌≡◌, ℕ, inl, inr, Bool, true, false, ◌==◌, ◌++◌, List, [], ◌∷◌, length, if◌then◌else◌, IsOk, Option, Some, None, Result, Ok, Err, refl, sym, ap, ◌∙◌, subst, arith}
+use Rattle.std.specs.List.{AllByRecursion}
+use Rattle.std.specs.Char.{to_ascii_uppercase}
+use Rattle.std.proofs.lemmas.List.{append-nil, drop_all}
+use Rattle.std.proofs.lemmas.List.Elements.{recursion_from_All}
+use Rattle.sight_names.specs.declared.faults.LumpFault.{LumpFault}
+use Rattle.sight_names.specs.declared.faults.LumpFault.TheVariants as lump
+use Rattle.sight_names.specs.declared.faults.MapFault.{MapFault}
+use Rattle.sight_names.specs.declared.names.Method.{Method}
+use Rattle.sight_names.specs.Lumps.{lump_fault}
+use Rattle.sight_names.specs.Map.{Map}
+use Rattle.wad_dir.specs.declared.parts.MapSpot.{MapSpot}
+use Rattle.wad_dir.specs.Map.{key_of, spot_of}
+use Rattle.wad_dir.specs.Wad.{WadFile, names_of}
+use Rattle.wad_dir.specs.AllMaps.All.{HasInOrder}
+use Rattle.wad_dir.specs.AllMaps.Maps.{maps_among, maps_of}
+use Rattle.wad_dir.specs.AllMaps.Names.{word_of}
+use Rattle.wad_dir.proofs.AllMaps.Spacing.{all_found}
+use Rattle.wad_dir.proofs.Moved.{spot_alike}
+use Rattle.refused_maps.specs.declared.Refused.{Refused}
+use Rattle.refused_maps.specs.declared.Refused.TheVariants as refused
+use Rattle.refused_maps.specs.Stops.{Stops}
+use Rattle.map_answers.specs.declared.sight_status.status.Bound.TheVariants as bound
+use Rattle.map_answers.specs.declared.sight_status.status.Status.{Status}
+use Rattle.map_answers.specs.declared.sight_status.status.Status.TheVariants as status
+use Rattle.map_answers.specs.Input.{map_at, map_named, of_lumps, of_spot}
+use Rattle.map_answers.specs.SightStatus.Answer.{◌>>=◌}
+use Rattle.map_answers.specs.SightStatus.Status.{IsLumpFault}
+use Rattle.whole_wad.specs.declared.tables.MapTable.{MapTable}
+use Rattle.whole_wad.specs.Outcomes.{stop_of}
+use Rattle.whole_wad.specs.Stop.{IsThisOr, StopsAt}
+use Rattle.whole_wad.specs.Tables.{Gets}
+
+-- a refusal of a map that its name finds
+abbrev pub IsOfMap : Status → Type 0
+IsOfMap (status.BadLump fault) = IsLumpFault fault
+IsOfMap (status.Limit bound.Sectors) = Unit {0}
+IsOfMap (status.Limit bound.Lines) = Unit {0}
+IsOfMap (status.Limit bound.Points) = Unit {0}
+IsOfMap (status.BadMap flaw) = Unit {0}
+IsOfMap status.Memory = Unit {0}
+IsOfMap other = ⊥
+
+lumps_refused : (o : Option LumpFault) (m : Map) (s : Status) → of_lumps o m ≡ Err s → IsOfMap s
+lumps_refused None m s e = absurd cc
+lumps_refused (Some (lump.TooManySectors count)) m s e = let q : status.Limit bound.Sectors ≡ s = cc in subst IsOfMap q tt
+lumps_refused (Some (lump.TooManyLines count)) m s e = let q : status.Limit bound.Lines ≡ s = cc in subst IsOfMap q tt
+lumps_refused (Some (lump.TooManyPoints count)) m s e = let q : status.Limit bound.Points ≡ s = cc in subst IsOfMap q tt
+lumps_refused (Some lump.Memory) m s e = let q : status.Memory ≡ s = cc in subst IsOfMap q tt
+lumps_refused (Some fault) m s e = let q : status.BadLump fault ≡ s = cc in subst IsOfMap q tt
+
+-- ---- by its name
+
+-- a name up to its first NUL is the same name
+pub key_word : (name : List ℕ) → key_of (word_of name) ≡ key_of name
+key_word [] = refl
+key_word (c ∷ cs) = by (c == 0) refl (key_word cs)
+  where
+    by : (t : Bool) → (c == 0) ≡ t → key_of (word_of cs) ≡ key_of cs → key_of (if t then [] else c ∷ word_of cs) ≡ (if t then [] else to_ascii_uppercase c ∷ key_of cs)
+    by true e rest = refl
+    by false e rest = ap (λ (t : Bool). if t then [] else to_ascii_uppercase c ∷ key_of (word_of cs)) e ∙ ap (λ (ks : List ℕ). to_ascii_uppercase c ∷ ks) rest
+
+-- and finds the same
+pub word_spot : (ns : List (List ℕ)) (name : List ℕ) → spot_of ns (word_of name) ≡ spot_of ns name
+word_spot ns name = spot_alike ns (word_of name) name (key_word name)
+
+read_refused : (large : Bool) (w : WadFile) (r : Result MapSpot MapFault) (s : Status) → IsOk r → of_spot r >>= (λ spot. map_at large w spot) ≡ Err s → IsOfMap s
+read_refused large w (Ok spot) s found e = lumps_refused (lump_fault _ _ _ _ _) _ s e
+read_refused large w (Err fault) s found e = absurd cc
+
+named_refused : (large : Bool) (w : WadFile) (name : List ℕ) (s : Status) → IsOk (spot_of (names_of w) name) → map_named large w (word_of name) ≡ Err s → IsOfMap s
+unfolding map_named
+named_refused large w name s found e = read_refused large w (spot_of (names_of w) (word_of name)) s (subst IsOk (sym (word_spot (names_of w) name)) found) e
+
+-- ---- by what the map gets
+
+got_refused : (said : Result Map Status) (by : Method) (s : Status) → ((t : Status) → said ≡ Err t → IsOfMap t) → Gets said by (Err s) → IsOfMap s
+got_refused (Ok m) by (status.BadMap flaw) read g = tt
+got_refused (Ok m) by s read g = absurd g
+got_refused (Err t) by s read g = let e : s ≡ t = cc in subst IsOfMap (sym e) (read t refl)
+
+this : (choice : Refused) (said : Result Map Status) (by : Method) (made : Result MapTable Status) (s : Status) (Later : Type 0) → ((t : Status) → said ≡ Err t → IsOfMap t) → (Later → Stops choice × IsOfMap s) → Gets said by made → IsThisOr (stop_of choice made) s Later
+    → Stops choice × IsOfMap s
+this refused.Stop said by (Err t) s Later read later g h = (tt, subst IsOfMap (sym h) (got_refused said by t read g))
+this choice said by made s Later read later g h = later h
+
+stopped : (w : WadFile) (large : Bool) (by : Method) (choice : Refused) (s : Status) (names : List (List ℕ)) → AllByRecursion (λ (name : List ℕ). IsOk (spot_of (names_of w) name)) names → StopsAt w large by choice s names → Stops choice × IsOfMap s
+stopped w large by choice s [] found h = absurd h
+stopped w large by choice s (n ∷ ns) found h =
+    this choice (map_named large w (word_of n)) by h.0 s (StopsAt w large by choice s ns) (λ t e. named_refused large w n t found.0 e) (stopped w large by choice s ns found.1) h.1 h.2
+
+-- each map of a WAD is found
+found_maps : (ns : List (List ℕ)) → AllByRecursion (λ (name : List ℕ). IsOk (spot_of ns name)) (maps_of ns)
+found_maps ns =
+    recursion_from_All (λ (name : List ℕ). IsOk (spot_of ns name)) (maps_of ns)
+    (all_found ns (length ns) (maps_of ns) (omega arith) (ap (λ (rest : List (List ℕ)). maps_of ns ++ maps_among ns rest) (drop_all (length ns) ns (omega arith)) ∙ append-nil (maps_of ns)))
+
+-- what holds of all names holds of some
+held_by_some : (P : List ℕ → Type 0) (ms ns : List (List ℕ)) → HasInOrder ms ns → AllByRecursion P ms → AllByRecursion P ns
+held_by_some P [] [] h k = tt
+held_by_some P [] (n ∷ ns) h k = absurd h
+held_by_some P (m ∷ ms) [] h k = tt
+held_by_some P (m ∷ ms) (n ∷ ns) (inl h) k = (subst P (sym h.0) k.0, held_by_some P ms ns h.1 k.1)
+held_by_some P (m ∷ ms) (n ∷ ns) (inr h) k = held_by_some P ms (n ∷ ns) h k.1
+
+pub stop_of_map : (w : WadFile) (large : Bool) (by : Method) (choice : Refused) (s : Status) (names : List (List ℕ)) → HasInOrder (maps_of (names_of w)) names → StopsAt w large by choice s names → Stops choice × IsOfMap s
+stop_of_map w large by choice s names among h = stopped w large by choice s names (held_by_some (λ (name : List ℕ). IsOk (spot_of (names_of w) name)) (maps_of (names_of w)) names among (found_maps (names_of w))) h
