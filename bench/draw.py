@@ -4,10 +4,10 @@
     bench/draw.py [--program PATH] [--wads FOLDER] [--only E1M7,MAP22] [--rows 20] [--pairs 40] [--seed 1]
 
 Needs Debian's packages freedoom and freedm, or a folder with freedoom1.wad and freedoom2.wad. Of six maps, or of those
-that are named, it asks for the plan, the plan with --faults, the rows of some sectors in a REJECT that a build wrote,
-and some pairs of sectors. The triangles and the groups are those of the build's certificate, and so are the trees, by
-which it finds what sight out of a group enters; the ray of a pair is the one that `why`
-says. A pair is compared to its end where one of the first sector's groups has a tree and the sector has no other group.
+that are named, it asks for the plan, the plan with --faults, the rows of some sectors in a REJECT that
+a build wrote, and some pairs of sectors. The triangles and the groups are those of the build's certificate, and so are
+the trees, by which it finds what sight out of a group enters; the ray of a pair is the one that `why` says. A pair is
+compared to its end where one of the first sector's groups has a tree and the sector has no other group.
 The status is 1 where anything differs.
 """
 import argparse
@@ -22,29 +22,67 @@ from plans import Plan, Proof, crossing, entered
 from wads import maps, rejects, wad
 
 MAPS = ("E1M1", "E1M7", "E2M9", "MAP01", "MAP19", "MAP22")
-STYLE = (".w,.p,.k,.r{fill:none;stroke-linecap:round}.w{stroke:#000;stroke-width:%d}.p{stroke:#9a9a9a;stroke-width:%d}"
-         ".k{stroke:#d62728;stroke-width:%d}.r{stroke:#d62728;stroke-width:%d}.a{fill:#1f77b4}.b{fill:#ff7f0e}"
-         ".c{fill:#9ecae1}.s{fill:#f2f2f2}.l{fill:#ffdd71}.f{fill:#c7e9c0}")
+STYLE = ("path,circle{fill:none;stroke-linecap:round}.w,.u,.o{stroke:#000}.p{stroke:#9a9a9a}.k,.r{stroke:#d62728}"
+         ".i{stroke:#fff}.a{fill:#1f77b4}.b{fill:#ff7f0e}.c{fill:#9ecae1}.s{fill:#e4e4e4}"
+         ".f{fill:#a1d99b;stroke:#41ab5d}.k,.f,.u,.n{pointer-events:none}path,circle{stroke-width:%d}"
+         ".w,.o{stroke-width:%d}.r,.u{stroke-width:%d}.k{stroke-width:%d}.i{stroke-width:%d}"
+         "@supports(vector-effect:non-scaling-stroke){path,circle{vector-effect:non-scaling-stroke;stroke-width:1}"
+         ".f{stroke-width:.5}.w,.o{stroke-width:2}.r,.u{stroke-width:3}.k{stroke-width:4}.i{stroke-width:6}}"
+         ".h0{fill:#ffffcc}.h1{fill:#ffeda0}.h2{fill:#fed976}.h3{fill:#feb24c}.h4{fill:#fd8d3c}.h5{fill:#fc4e2a}"
+         ".h6{fill:#e31a1c}.h7{fill:#b10026}"
+         "text{font:bold %dpx sans-serif;fill:#000;stroke:#fff;paint-order:stroke;stroke-width:%d}"
+         "@media(prefers-color-scheme:dark){.paper{fill:#181818}.w,.u,.o{stroke:#f2f2f2}.p{stroke:#8a8a8a}"
+         ".k,.r{stroke:#ff6b6b}.a{fill:#4da3e8}.b{fill:#ff9a3c}.c{fill:#2c4f6e}.s{fill:#383838}"
+         ".f{fill:#24592b;stroke:#74c476}.i{stroke:#181818}text{fill:#f2f2f2;stroke:#181818}.h0{fill:#2a1636}"
+         ".h1{fill:#451a4a}.h2{fill:#65205a}.h3{fill:#872a5c}.h4{fill:#aa3655}.h5{fill:#cc4a49}.h6{fill:#e76a3c}"
+         ".h7{fill:#f99a3e}}")
 
 
 class Sheet:
     """The texts of a picture of a map, as docs/FORMATS.md has them."""
 
-    def __init__(self, plan):
-        self.plan = plan
+    def __init__(self, name, plan):
+        self.name, self.plan = name, plan
         xs, ys = zip(*plan.points)
         self.west, self.north = min(xs), max(ys)
         self.width, self.height = max(xs) - self.west, self.north - min(ys)
+        self.longer = max(self.width, self.height)
+        self.margin, self.stroke = self.longer // 50 + 1, self.longer // 1200 + 1
+        self.wide, self.high = self.width + 2 * self.margin, self.height + 4 * self.margin
+        self.strip = self.height + 2 * self.margin
 
-    def head(self):
-        longer = max(self.width, self.height)
-        margin, stroke = longer // 50 + 1, longer // 1200 + 1
-        wide, high = self.width + 2 * margin, self.height + 2 * margin
-        shown = tuple(1000 * side // (longer + 2 * margin) for side in (wide, high))
+    def head(self, about):
+        size, s = (self.margin, self.margin, self.wide, self.high), self.stroke
+        shown = tuple(1000 * side // (self.longer + 2 * self.margin) for side in (self.wide, self.high))
         yield ('<svg xmlns="http://www.w3.org/2000/svg" viewBox="-%d -%d %d %d" width="%d" height="%d">'
-               % ((margin, margin, wide, high) + shown))
-        yield "<style>%s</style>" % (STYLE % (2 * stroke, stroke, 4 * stroke, 3 * stroke))
-        yield ('<rect class="paper" fill="#fff" x="-%d" y="-%d" width="%d" height="%d"/>' % (margin, margin, wide, high))
+               % (size + shown))
+        yield "<title>%s%s</title>" % (self.name.replace("&", "&amp;").replace("<", "&lt;"), about)
+        yield "<style>%s</style>" % (STYLE % (s, 2 * s, 3 * s, 4 * s, 6 * s, self.margin, self.margin // 4))
+        yield '<rect class="paper" fill="#fff" x="-%d" y="-%d" width="%d" height="%d"/>' % size
+        quarter = self.width // 4
+        length = next(quarter // grain * grain for grain in (1024, 128, 16, 1) if quarter >= grain or grain == 1)
+        yield ('<path class="u" d="M0 %d' % self.strip + 'H%d"/>' % length
+               + self.text(length, self.strip, 'dx=".6em" dy=".36em" class="n"', length))
+
+    def text(self, x, y, moved, words):
+        return '<text x="%d" y="%d" %s>%s</text>' % (x, y, moved, words)
+
+    def ring(self, proof, letter, sector):
+        """A ring in the largest triangle of a sector, the first one where several are as large."""
+        best = None
+        for t in proof.corners:
+            if t[3] is not None and sector in proof.groups[t[3]]:
+                p, q, r = (self.plan.points[k] for k in t[:3])
+                area = (q[0] - p[0]) * (r[1] - p[1]) - (q[1] - p[1]) * (r[0] - p[0])
+                if best is None or area > best[0]:
+                    best = area, (p, q, r)
+        if best is None:
+            return
+        x = sum(p[0] - self.west for p in best[1]) // 3
+        y = sum(self.north - p[1] for p in best[1]) // 3
+        circles = "".join('<circle class="%s" cx="%d" cy="%d" r="%d"/>' % (kind, x, y, self.margin) for kind in "io")
+        yield ("<g><title>%s: sector %d</title>%s%s</g>"
+               % (letter, sector, circles, self.text(x, y, 'dx="1em" dy="-.5em"', letter)))
 
     def place(self, point):
         return "%d %d" % (point[0] - self.west, self.north - point[1])
@@ -57,10 +95,10 @@ class Sheet:
     def outline(self, numbers):
         return "M" + "L".join(self.place(self.plan.points[k]) for k in numbers)
 
-    def faces(self, proof, kind_of):
+    def faces(self, proof, kind_of, told=lambda names: ""):
         for group, names in enumerate(proof.groups):
             shape = "".join(self.outline(t[:3]) + "z" for t in proof.corners if t[3] == group)
-            title = "sector" + "".join(" %d" % name for name in names)
+            title = "sector" + "".join(" %d" % name for name in names) + told(names)
             yield '<path class="%s" id="G%d" d="%s"><title>%s</title></path>' % (kind_of(names), group, shape, title)
 
     def lines(self):
@@ -72,8 +110,12 @@ class Sheet:
             yield ('<path class="%s" id="L%d" d="%s"><title>%s</title></path>'
                    % ("w" if line.solid else "p", line.number, path, title))
 
-    def whole(self, under, over):
-        return "\n".join([*self.head(), *under, *self.lines(), *over, "</svg>", ""])
+    def whole(self, about, under, over):
+        return "\n".join([*self.head(about), *under, *self.lines(), *over, "</svg>", ""])
+
+
+def plain(sheet, proof):
+    return sheet.whole("", sheet.faces(proof, lambda names: "s"), [])
 
 
 def row(sheet, proof, a):
@@ -84,17 +126,22 @@ def row(sheet, proof, a):
     def kind_of(names):
         return "a" if a in names else "s" if all(bits[b] for b in names) else "c"
 
-    return sheet.whole(sheet.faces(proof, kind_of), []), "row %d set %d clear %d" % (a, sum(bits), len(bits) - sum(bits))
+    drawn = sheet.whole(" row %d" % a, sheet.faces(proof, kind_of), sheet.ring(proof, "A", a))
+    return drawn, "row %d set %d clear %d" % (a, sum(bits), len(bits) - sum(bits))
 
 
 def pair_faces(sheet, proof, a, b):
     return sheet.faces(proof, lambda names: "a" if a in names else "b" if b in names else "s")
 
 
+def rings(sheet, proof, a, b):
+    return [*sheet.ring(proof, "A", a), *sheet.ring(proof, "B", b)]
+
+
 def sight(sheet, proof, a, b, ray):
     ends = "M" + "L".join(sheet.spot(crossing(sheet.plan, ray, side)) for side in ray.split(",")[:2])
-    over = ['<path class="r" id="ray" d="%s"><title>%s</title></path>' % (ends, ray)]
-    return sheet.whole(pair_faces(sheet, proof, a, b), over), "pair %d %d sight" % (a, b)
+    over = ['<path class="r" id="ray" d="%s"><title>%s</title></path>' % (ends, ray), *rings(sheet, proof, a, b)]
+    return sheet.whole(" pair %d %d" % (a, b), pair_faces(sheet, proof, a, b), over), "pair %d %d sight" % (a, b)
 
 
 def leaving(proof, solid, within):
@@ -115,7 +162,8 @@ def blind(sheet, proof, a, b, group):
     title = "<title>sight out of sector %d</title>" % a
     under = [*pair_faces(sheet, proof, a, b), '<path class="f" id="open" d="%s">%s</path>' % (shown, title)]
     over = ['<path class="k" id="stops" d="%s"/>' % "".join(sheet.outline(edge) for edge in stops)]
-    return sheet.whole(under, over), "pair %d %d blind %d stops %d" % (a, b, len(inside), len(stops))
+    drawn = sheet.whole(" pair %d %d" % (a, b), under, over + rings(sheet, proof, a, b))
+    return drawn, "pair %d %d blind %d stops %d" % (a, b, len(inside), len(stops))
 
 
 def said(words):
@@ -147,10 +195,9 @@ class Asked:
 
 def compare_map(asked, rows, pairs):
     plan, proof = Plan(asked.built, asked.name), Proof(asked.cert)
-    sheet = Sheet(plan)
-    plain = sheet.whole([], [])
-    asked.compare([], plain, "lines %d sectors %d" % (len(plan.lines), plan.sectors))
-    asked.compare(["--faults"], plain, "faults none")
+    sheet = Sheet(asked.name, plan)
+    asked.compare([], plain(sheet, proof), "lines %d sectors %d" % (len(plan.lines), plan.sectors))
+    asked.compare(["--faults"], plain(sheet, proof), "faults none")
     for a in random.sample(range(plan.sectors), min(rows, plan.sectors)):
         asked.compare([a], *row(sheet, proof, a))
     for _ in range(pairs):

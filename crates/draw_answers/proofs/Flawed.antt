@@ -1,19 +1,22 @@
--- The first fault of a map is the only one.
+-- The first fault of a map is the only one, and so is what is drawn of it.
 use Rattle.std.proofs.Common.{◌≡◌, ℕ, List, Option, Some, None, Result, Ok, Err, refl, sym, ap, ◌∙◌, subst}
 use Rattle.std.specs.Prelude.{IfOk, ⊤}
 use Rattle.sight_names.specs.declared.names.Memory.{Memory}
 use Rattle.sight_names.specs.Groups.{HasClosedFaces}
-use Rattle.sight_names.specs.Map.{Map}
+use Rattle.sight_names.specs.Map.{Map, map_of}
+use Rattle.sight_names.specs.Plan.{IsPlan, PlanParts}
 use Rattle.map_answers.specs.declared.sight_status.status.Flaw.{Flaw}
 use Rattle.map_answers.specs.declared.sight_status.status.Flaw.TheVariants as flaw
 use Rattle.map_answers.specs.declared.sight_status.status.Status.{Status}
 use Rattle.map_answers.specs.declared.sight_status.status.Status.TheVariants as status
 use Rattle.map_answers.specs.SightStatus.Answer.{Answer, Gives}
+use Rattle.map_answers.specs.Groups.{IsOverGroups, MapGroups}
 use Rattle.map_answers.specs.Sound.{HasSoundLines, IsAuditRefusal, IsFlaw}
 use Rattle.map_answers.proofs.Flaws.{gives_refused}
+use Rattle.map_answers.proofs.OneGroups.{one_groups}
 use Rattle.draw_answers.specs.declared.drawn.Drawn.{Drawn}
 use Rattle.draw_answers.specs.Drawn.{Drawing, IsMadeOf, drawing, drawn_answer, one_picture}
-use Rattle.draw_answers.specs.Faults.{DrawFaultsCalls, IsFaultOf, IsFoundFault, fault_drawing}
+use Rattle.draw_answers.specs.Faults.{DrawFaultsCalls, DrawsFault, IsFaultOf, flaw_drawing, plain_drawing}
 
 abbrev flaw_or : Flaw → Result Answer Status → Flaw
 flaw_or f (Err (status.BadMap g)) = g
@@ -34,28 +37,35 @@ module _ (m : Map) where
   not_flawed (flaw.Line f) lines h q = lines.none f q
   not_flawed (flaw.Open side) lines h q = q.1.against (h.closed side)
 
-  found_is : (o : Option Flaw) → IsFoundFault m o → IsFaultOf m o
-  found_is (Some which) h = is_refused which h
-  found_is None h = h.1
-
-  one_fault : (o q : Option Flaw) → IsFoundFault m o → IsFaultOf m q → q ≡ o
-  one_fault (Some w) (Some v) h k = ap (λ (f : Flaw). Some f) (only_flaw w v h k)
-  one_fault (Some w) None h k = absurd (not_closed w h k)
-  one_fault None (Some v) h k = absurd (not_flawed v h.0 h.1 k)
-  one_fault None None h k = refl
-
-  module _ (name out : List ℕ) (o : Option Flaw) (found : IsFoundFault m o) where
-    only_drawn : (x : Result Answer Status) → DrawFaultsCalls name out m x → x ≡ Ok (one_picture out (fault_drawing name m o))
-    only_drawn (Ok answer) q = ap (λ (y : Answer). Ok y) (q.is ∙ ap (λ (f : Option Flaw). one_picture out (fault_drawing name m f)) (one_fault o q.fault found q.first))
-    only_drawn (Err s) q = absurd q
-
+  module _ (name out : List ℕ) where
     abbrev Given : Result Drawn Status → Type 0
     Given s = Gives ⊤ (DrawFaultsCalls name out m) (drawn_answer out s)
 
-    drawn : (e : Drawn) → drawing e ≡ fault_drawing name m o → Given (Ok e)
-    drawn e is = subst (λ (d : Drawing). Gives ⊤ (DrawFaultsCalls name out m) (Ok (one_picture out d))) (sym is)
-        (record { called = record { fault = o; first = found_is o found; is = refl }; only = λ sole. only_drawn })
+    -- one drawing is called for, and this is it
+    module _ (d : Drawing) (fault : Option Flaw) (first : IsFaultOf m fault) (draws : DrawsFault name m fault d) (one : (o : Option Flaw) (e : Drawing) → IsFaultOf m o → DrawsFault name m o e → e ≡ d) where
+      only_drawn : (x : Result Answer Status) → DrawFaultsCalls name out m x → x ≡ Ok (one_picture out d)
+      only_drawn (Ok answer) q = ap (λ (y : Answer). Ok y) (q.is ∙ ap (λ (e : Drawing). one_picture out e) (one q.fault q.shown q.first q.draws))
+      only_drawn (Err s) q = absurd q
 
-    pub gives_fault : (r : Result Drawn Memory) (s : Result Drawn Status) → IfOk r (λ e. drawing e ≡ fault_drawing name m o) → IsMadeOf r s → Given s
-    gives_fault (Ok e) s is made = subst Given (sym made) (drawn e is)
-    gives_fault (Err x) s is made = subst Given (sym made) tt
+      drawn : (e : Drawn) → drawing e ≡ d → Given (Ok e)
+      drawn e is = subst (λ (x : Drawing). Gives ⊤ (DrawFaultsCalls name out m) (Ok (one_picture out x))) (sym is)
+          (record { called = record { fault = fault; first = first; shown = d; draws = draws; is = refl }; only = λ sole. only_drawn })
+
+      gives_drawn : (r : Result Drawn Memory) (s : Result Drawn Status) → IfOk r (λ e. drawing e ≡ d) → IsMadeOf r s → Given s
+      gives_drawn (Ok e) s is made = subst Given (sym made) (drawn e is)
+      gives_drawn (Err x) s is made = subst Given (sym made) tt
+
+    one_flaw : (which : Flaw) → IsAuditRefusal m (status.BadMap which) → (o : Option Flaw) (e : Drawing) → IsFaultOf m o → DrawsFault name m o e → e ≡ flaw_drawing name m which
+    one_flaw which h (Some other) e first draws = draws ∙ ap (λ (f : Flaw). flaw_drawing name m f) (only_flaw which other h first)
+    one_flaw which h None e first draws = absurd (not_closed which h first)
+
+    pub gives_flaw : (which : Flaw) → IsAuditRefusal m (status.BadMap which) → (r : Result Drawn Memory) (s : Result Drawn Status) → IfOk r (λ e. drawing e ≡ flaw_drawing name m which) → IsMadeOf r s → Given s
+    gives_flaw which h r s is made = gives_drawn (flaw_drawing name m which) (Some which) (is_refused which h) refl (one_flaw which h) r s is made
+
+module _ (p : PlanParts) (plan : IsPlan p) (name out : List ℕ) (g : MapGroups) (lines : HasSoundLines (map_of p)) (over : IsOverGroups (map_of p) g) where
+  one_plain : (o : Option Flaw) (e : Drawing) → IsFaultOf (map_of p) o → DrawsFault name (map_of p) o e → e ≡ plain_drawing name (map_of p) g
+  one_plain (Some which) e first draws = absurd (not_flawed (map_of p) which lines over.faces first)
+  one_plain None e first draws = draws.is ∙ ap (λ (x : MapGroups). plain_drawing name (map_of p) x) (one_groups p plan g draws.groups over draws.over)
+
+  pub gives_plain : (r : Result Drawn Memory) (s : Result Drawn Status) → IfOk r (λ e. drawing e ≡ plain_drawing name (map_of p) g) → IsMadeOf r s → Given (map_of p) name out s
+  gives_plain r s is made = gives_drawn (map_of p) name out (plain_drawing name (map_of p) g) None over.faces (record { groups = g; over = over; is = refl }) one_plain r s is made

@@ -10,7 +10,8 @@ use Rattle.map_answers.specs.declared.sight_status.status.Status.TheVariants as 
 use Rattle.map_answers.specs.SightStatus.Answer.{Answer}
 use Rattle.map_picture.specs.Bytes.{svg_of}
 use Rattle.map_picture.specs.Picture.{marked_picture, plan_picture}
-use Rattle.map_answers.specs.Sound.{HasSoundLines, IsAuditRefusal, IsFlaw}
+use Rattle.map_answers.specs.Groups.{IsOverGroups, MapGroups}
+use Rattle.map_answers.specs.Sound.{IsFlaw}
 use Rattle.draw_answers.specs.Drawn.{Drawing, one_picture}
 use Rattle.draw_answers.specs.Lines.{faultless_line, flaw_line}
 
@@ -22,29 +23,33 @@ flaw_marks (flaw.Line (line.Overlap i j)) = i ∷ j ∷ []
 flaw_marks (flaw.Open side) = side.line ∷ []
 
 abbrev pub flaw_drawing : List ℕ → Map → Flaw → Drawing
-flaw_drawing name m which = record { bytes = svg_of m (marked_picture m (flaw_marks which)); line = flaw_line name which }
+flaw_drawing name m which = record { bytes = svg_of m (marked_picture name m (flaw_marks which)); line = flaw_line name which }
 
-abbrev pub plain_drawing : List ℕ → Map → Drawing
-plain_drawing name m = record { bytes = svg_of m (plan_picture m); line = faultless_line name }
+abbrev pub plain_drawing : List ℕ → Map → MapGroups → Drawing
+plain_drawing name m g = record { bytes = svg_of m (plan_picture name m g.groups g.triangles g.labels); line = faultless_line name }
 
-abbrev pub fault_drawing : List ℕ → Map → Option Flaw → Drawing
-fault_drawing name m (Some which) = flaw_drawing name m which
-fault_drawing name m None = plain_drawing name m
+-- the plan over the groups of a map without a fault
+pub record IsPlain (name : List ℕ) (m : Map) (d : Drawing) : Type 0 where
+  pub groups : MapGroups
+  pub over : IsOverGroups m groups
+  pub is : d ≡ plain_drawing name m groups
+
+-- what is drawn of a map with this fault, or with none
+abbrev pub DrawsFault : List ℕ → Map → Option Flaw → Drawing → Type 0
+DrawsFault name m (Some which) d = d ≡ flaw_drawing name m which
+DrawsFault name m None d = IsPlain name m d
 
 -- what the audit tells first, or nothing
 abbrev pub IsFaultOf : Map → Option Flaw → Type 0
 IsFaultOf m (Some which) = IsFlaw m (Err (status.BadMap which))
 IsFaultOf m None = HasClosedFaces m
 
--- .. found by an audit, which is exact
-abbrev pub IsFoundFault : Map → Option Flaw → Type 0
-IsFoundFault m (Some which) = IsAuditRefusal m (status.BadMap which)
-IsFoundFault m None = HasSoundLines m × HasClosedFaces m
-
 pub record ShowsFault (name out : List ℕ) (m : Map) (answer : Answer) : Type 0 where
   pub fault : Option Flaw
   pub first : IsFaultOf m fault
-  pub is : answer ≡ one_picture out (fault_drawing name m fault)
+  pub shown : Drawing
+  pub draws : DrawsFault name m fault shown
+  pub is : answer ≡ one_picture out shown
 
 -- the answers that it calls for; no map is refused for its faults
 abbrev pub DrawFaultsCalls : List ℕ → List ℕ → Map → Result Answer Status → Type 0

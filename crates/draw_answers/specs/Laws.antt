@@ -19,12 +19,13 @@ use Rattle.map_answers.specs.SightStatus.Answer.{Answer}
 use Rattle.group_job.specs.declared.build.GroupBuilt.{GroupBuilt}
 use Rattle.group_job.specs.Built.{DecidesByGroups}
 use Rattle.map_picture.specs.Bytes.{svg_of}
-use Rattle.map_picture.specs.Picture.{Element}
-use Rattle.map_picture.specs.Laws.{ShowsFaces, ShowsLines, ShowsMarks, TellsRow}
+use Rattle.map_picture.specs.Picture.{Element, most_of}
+use Rattle.map_picture.specs.Laws.{ShowsFaces, ShowsLines, ShowsMarks, TellsHeat, TellsRow}
 use Rattle.map_answers.specs.Groups.{IsOverGroups, MapGroups}
 use Rattle.pair_answer.specs.Laws.{IsSaidOf, TellsSight}
 use Rattle.pair_answer.specs.declared.entered_triangles.entered.Entered.{Entered}
 use Rattle.draw_answers.specs.Faults.{DrawFaultsCalls, IsFaultOf, flaw_marks}
+use Rattle.draw_answers.specs.Heat.{DrawHeatCalls, most_seen, seen_by}
 use Rattle.draw_answers.specs.Pair.{DrawPairCalls, DrawsPair, IsEnteredOver}
 use Rattle.draw_answers.specs.Plan.{DrawPlanCalls}
 use Rattle.draw_answers.specs.Row.{DrawRowCalls}
@@ -60,6 +61,17 @@ pub record TellsTable (out : List ℕ) (m : Map) (t : TableParts) (a : ℕ) (ans
 
 abbrev pub RowsTellTables : Type 0
 RowsTellTables = (name out : List ℕ) (m : Map) (t : TableParts) (a : ℕ) (answer : Answer) → DrawRowCalls name out t a m (Ok answer) → TellsTable out m t a answer
+
+-- .. and its faces are painted by the most that one of their sectors may see by the table
+pub record TellsHeatOf (out : List ℕ) (m : Map) (t : TableParts) (answer : Answer) : Type 0 where
+  pub picture : List Element
+  pub writes : WritesPicture out m answer picture
+  pub groups : MapGroups
+  pub over : IsOverGroups m groups
+  pub faces : ShowsFaces groups.groups groups.triangles groups.labels (TellsHeat (most_seen t) (most_of (seen_by t groups.groups))) picture
+
+abbrev pub HeatTellsTables : Type 0
+HeatTellsTables = (name out : List ℕ) (m : Map) (t : TableParts) (answer : Answer) → DrawHeatCalls name out t m (Ok answer) → TellsHeatOf out m t answer
 
 -- ---- pairs
 

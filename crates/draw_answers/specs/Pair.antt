@@ -56,15 +56,15 @@ module _ (g : MapGroups) (budget : Budget) where
 
 module _ (name : List ℕ) (m : Map) (pair : Pair) (g : MapGroups) where
   abbrev pub sight_drawing : Ray → Drawing
-  sight_drawing ray = record { bytes = svg_of m (sight_picture m g.groups g.triangles g.labels pair.a pair.b ray); line = pair_line name pair (codes " sight\n") }
+  sight_drawing ray = record { bytes = svg_of m (sight_picture name m g.groups g.triangles g.labels pair.a pair.b ray); line = pair_line name pair (codes " sight\n") }
 
   -- the faces alone
   abbrev pub word_drawing : List ℕ → Drawing
-  word_drawing word = record { bytes = svg_of m (pair_picture m g.groups g.triangles g.labels pair.a pair.b); line = pair_line name pair word }
+  word_drawing word = record { bytes = svg_of m (pair_picture name m g.groups g.triangles g.labels pair.a pair.b); line = pair_line name pair word }
 
   -- .. with triangles and stops as those of this sector: its number is the title of the triangles, and it is told by the line
   abbrev pub entered_drawing : ℕ → List ℕ → List Stop → Drawing
-  entered_drawing sector entered stops = record { bytes = svg_of m (blind_picture m g.groups g.triangles g.labels pair.a pair.b sector entered stops); line = blind_line_of name pair sector (length entered) (length stops) }
+  entered_drawing sector entered stops = record { bytes = svg_of m (blind_picture name m g.groups g.triangles g.labels pair.a pair.b sector entered stops); line = blind_line_of name pair sector (length entered) (length stops) }
 
   -- what sight out of the sector enters, shown as that
   pub record ShowsEntered (budget : Budget) (sector : ℕ) (d : Drawing) : Type 0 where

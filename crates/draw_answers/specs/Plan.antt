@@ -9,12 +9,12 @@ use Rattle.map_answers.specs.Groups.{MapGroups, OnAudited}
 use Rattle.draw_answers.specs.Drawn.{Drawing, one_picture}
 use Rattle.draw_answers.specs.Lines.{plan_line}
 
-abbrev pub plan_drawing : List ℕ → Map → Drawing
-plan_drawing name m = record { bytes = svg_of m (plan_picture m); line = plan_line name m }
+abbrev pub plan_drawing : List ℕ → Map → MapGroups → Drawing
+plan_drawing name m g = record { bytes = svg_of m (plan_picture name m g.groups g.triangles g.labels); line = plan_line name m }
 
--- of a map that is sound
+-- over the groups of a map that is sound
 abbrev pub PlanCall : List ℕ → List ℕ → Map → MapGroups → Result Answer Status → Type 0
-PlanCall name out m g answer = answer ≡ Ok (one_picture out (plan_drawing name m))
+PlanCall name out m g answer = answer ≡ Ok (one_picture out (plan_drawing name m g))
 
 -- the answers that it calls for
 abbrev pub DrawPlanCalls : List ℕ → List ℕ → Map → Result Answer Status → Type 0

@@ -13,7 +13,7 @@ use Rattle.draw_answers.specs.Drawn.{Drawing, one_picture}
 use Rattle.draw_answers.specs.Lines.{row_line}
 
 abbrev pub row_drawing : List ℕ → Map → TableParts → ℕ → MapGroups → Drawing
-row_drawing name m t a g = record { bytes = svg_of m (row_picture m g.groups g.triangles g.labels t a); line = row_line name t a }
+row_drawing name m t a g = record { bytes = svg_of m (row_picture name m g.groups g.triangles g.labels t a); line = row_line name t a }
 
 -- over the groups of a map; the no where there is no such sector
 abbrev pub RowCall : List ℕ → List ℕ → Map → TableParts → ℕ → MapGroups → Result Answer Status → Type 0

@@ -1,30 +1,23 @@
 //! The picture of a map's first fault.
 
-ghost use Rattle.std.specs.Prelude.{◌≡◌, IfErr, IfOk, List, ℕ, ⊤};
+ghost use Rattle.std.specs.Prelude.{◌≡◌, IfErr, IfOk, List, ℕ, length, ⊤};
 ghost use Rattle.sight_names.specs.Map.{map_of};
 ghost use Rattle.map_answers.specs.declared.sight_status.status.Status.TheVariants as status;
+ghost use Rattle.map_answers.specs.Groups.{AreGroupsOver, seen};
+ghost use Rattle.map_answers.specs.Sound.{IsAuditRefusal};
 ghost use Rattle.map_answers.specs.SightStatus.Answer.{Gives};
 ghost use Rattle.draw_answers.specs.Drawn.{drawing, drawn_answer};
-ghost use Rattle.draw_answers.specs.Faults.{DrawFaultsCalls, IsFoundFault, fault_drawing, flaw_drawing, flaw_marks, plain_drawing};
+ghost use Rattle.draw_answers.specs.Faults.{DrawFaultsCalls, flaw_drawing, flaw_marks, plain_drawing};
 
+use crate::audited::groups_of;
 use crate::drawn::{Drawn, made};
 use crate::lines::{fault_line, no_fault_line};
-use map_answers::audit_map;
+use crate::plan::faces_alone;
+use map_answers::MeshGroups;
 use map_answers::sight_status::{Flaw, Status};
-use map_picture::{marked_picture, plan_picture};
+use map_picture::marked_picture;
 use sight_names::{LineFault, Memory, Plan};
 use std::alloc::Global;
-
-/// The first fault of the map, if it has one.
-fn fault_of(alloc: Global, plan: &Plan) -> Result<Option<Flaw>, Memory>
-    ensures { IfOk result (IsFoundFault (map_of plan.now)) }
-{
-    match audit_map(alloc, plan) {
-        Ok(_) => Ok(None),
-        Err(Status::BadMap(which)) => Ok(Some(which)),
-        Err(_) => Err(Memory),
-    }
-}
 
 /// The lines that are at fault.
 fn marks_of(alloc: Global, which: Flaw) -> Result<Vec<u16>, Memory>
@@ -43,27 +36,31 @@ fn drawn_fault(alloc: Global, plan: &Plan, map: &str, which: Flaw) -> Result<Dra
     ensures { IfOk result (λ d. drawing d ≡ flaw_drawing map.now (map_of plan.now) which) }
 {
     let marks = marks_of(alloc, which)?;
-    let picture = marked_picture(alloc, plan, marks.as_slice())?;
+    let picture = marked_picture(alloc, map, plan, marks.as_slice())?;
     let line = fault_line(alloc, map, which)?;
     Ok(Drawn { picture, line })
 }
 
 /// The plan alone, and the line of a map without a fault.
-fn drawn_plain(alloc: Global, plan: &Plan, map: &str) -> Result<Drawn, Memory>
-    ensures { IfOk result (λ d. drawing d ≡ plain_drawing map.now (map_of plan.now)) }
+fn drawn_plain(alloc: Global, plan: &Plan, groups: &MeshGroups, map: &str) -> Result<Drawn, Memory>
+    requires groups { AreGroupsOver plan.now groups.now }
+    requires points { groups.now.mesh.points ≡ length plan.now.points }
+    ensures { IfOk result (λ d. drawing d ≡ plain_drawing map.now (map_of plan.now) (seen groups.now)) }
 {
-    let picture = plan_picture(alloc, plan)?;
+    let picture = faces_alone(alloc, plan, groups, map)?;
     let line = no_fault_line(alloc, map)?;
     Ok(Drawn { picture, line })
 }
 
-/// The plan with this fault marked, if there is one.
-fn drawn_of(alloc: Global, plan: &Plan, map: &str, fault: Option<Flaw>) -> Result<Drawn, Memory>
-    ensures { IfOk result (λ d. drawing d ≡ fault_drawing map.now (map_of plan.now) fault) }
+/// The plan of a map that its audit refuses so.
+fn drawn_refused(alloc: Global, plan: &Plan, map: &str, refusal: Status) -> Result<Drawn, Status>
+    requires { IsAuditRefusal (map_of plan.now) refusal }
+    ensures judged { (out : List ℕ) → Gives ⊤ (DrawFaultsCalls map.now out (map_of plan.now)) (drawn_answer out result) }
+    ensures refusals { IfErr result (λ s. s ≡ status.Memory) }
 {
-    match fault {
-        Some(which) => drawn_fault(alloc, plan, map, which),
-        None => drawn_plain(alloc, plan, map),
+    match refusal {
+        Status::BadMap(which) => made(drawn_fault(alloc, plan, map, which)),
+        _ => Err(Status::Memory),
     }
 }
 
@@ -72,8 +69,8 @@ pub fn draw_faults(alloc: Global, plan: &Plan, map: &str) -> Result<Drawn, Statu
     ensures judged { (out : List ℕ) → Gives ⊤ (DrawFaultsCalls map.now out (map_of plan.now)) (drawn_answer out result) }
     ensures refusals { IfErr result (λ s. s ≡ status.Memory) }
 {
-    match fault_of(alloc, plan) {
-        Ok(fault) => made(drawn_of(alloc, plan, map, fault)),
-        Err(_) => Err(Status::Memory),
+    match groups_of(alloc, plan) {
+        Ok(groups) => made(drawn_plain(alloc, plan, &groups, map)),
+        Err(refusal) => drawn_refused(alloc, plan, map, refusal),
     }
 }

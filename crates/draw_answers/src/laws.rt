@@ -1,6 +1,6 @@
 //! Laws of what is drawn.
 
-ghost use Rattle.draw_answers.specs.Laws.{BlindIsClosed, FaultsAreMarked, PairsAreOfBuilds, PlansShowLines, RowsTellTables, UnseenIsNotShown};
+ghost use Rattle.draw_answers.specs.Laws.{BlindIsClosed, FaultsAreMarked, HeatTellsTables, PairsAreOfBuilds, PlansShowLines, RowsTellTables, UnseenIsNotShown};
 
 /// A plan's picture shows the lines of the map, and no other.
 pub fn plans_show_lines()
@@ -15,6 +15,12 @@ pub fn faults_are_marked()
 /// A row's picture shows the lines of the map and the faces of its groups, and each face tells what the table has.
 pub fn rows_tell_tables()
     ensures { RowsTellTables }
+{}
+
+/// A picture by counts shows the lines of the map and the faces of its groups, and each face has the shade of the most that one of
+/// its sectors may see by the table.
+pub fn heat_tells_tables()
+    ensures { HeatTellsTables }
 {}
 
 /// A pair's picture is of an answer that is what a build with the same budget says of the pair, and that tells whether the two

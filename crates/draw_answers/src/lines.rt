@@ -3,6 +3,7 @@
 ghost use Rattle.std.specs.Prelude.{◌≡◌, ◌++◌, IfOk, OnOk, codes, string_bytes};
 ghost use Rattle.sight_names.specs.Texts.{side_text};
 ghost use Rattle.map_answers.specs.SightStatus.Texts.{clash_words, flaw_words, two};
+ghost use Rattle.draw_answers.specs.Heat.{heat_line_of};
 ghost use Rattle.draw_answers.specs.Lines.{blind_line_of as the_blind_line, faultless_line, flaw_line, of_words, pair_front, pair_line, plan_line_of as the_plan_line, row_line_of as the_row_line};
 
 use map_answers::sight_status::{
@@ -37,6 +38,16 @@ pub fn row_line(
     push_count(alloc, &mut line, " row ", u64::from(a))?;
     push_count(alloc, &mut line, " set ", set)?;
     push_count_line(alloc, &mut line, " clear ", clear)?;
+    Ok(line)
+}
+
+/// The line of a picture by counts of which this is the greatest.
+pub fn heat_line(alloc: Global, map: &str, most: u16) -> Result<String, AllocError>
+    ensures { IfOk result (λ line. string_bytes line ≡ heat_line_of map.now most) }
+{
+    let mut line = String::from_str(alloc, "drawn ")?;
+    line.push_str(map)?;
+    push_count_line(alloc, &mut line, " heat most ", u64::from(most))?;
     Ok(line)
 }
 

@@ -37,6 +37,7 @@ fn drawn_word(
     let grouped = &groups.grouped;
     let picture = pair_picture(
         alloc,
+        map,
         plan,
         &groups.mesh,
         &grouped.labels,
@@ -64,6 +65,7 @@ fn drawn_sight(
     let grouped = &groups.grouped;
     let picture = sight_picture(
         alloc,
+        map,
         plan,
         &groups.mesh,
         &grouped.labels,
@@ -95,6 +97,7 @@ fn drawn_entered(
     let entered = &area.entered;
     let picture = blind_picture(
         alloc,
+        map,
         plan,
         &groups.mesh,
         &grouped.labels,

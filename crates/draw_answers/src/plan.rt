@@ -3,7 +3,10 @@
 ghost use Rattle.std.specs.Prelude.{◌≡◌, IfErr, IfOk, List, ℕ, filter_map, length, ⊤};
 ghost use Rattle.sight_names.specs.Map.{map_of};
 ghost use Rattle.sight_names.specs.Points.{lines_of};
+ghost use Rattle.map_answers.specs.Groups.{AreGroupsOver, seen};
 ghost use Rattle.map_answers.specs.SightStatus.Answer.{Gives};
+ghost use Rattle.map_picture.specs.Bytes.{svg_of};
+ghost use Rattle.map_picture.specs.Picture.{plan_picture as the_plan_picture};
 ghost use Rattle.map_answers.specs.SightStatus.Status.{IsOfMapTest};
 ghost use Rattle.draw_answers.specs.Drawn.{drawing, drawn_answer};
 ghost use Rattle.draw_answers.specs.Plan.{DrawPlanCalls, plan_drawing};
@@ -11,6 +14,7 @@ ghost use Rattle.draw_answers.specs.Plan.{DrawPlanCalls, plan_drawing};
 use crate::audited::groups_of;
 use crate::drawn::{Drawn, made};
 use crate::lines::plan_line;
+use map_answers::MeshGroups;
 use map_answers::sight_status::Status;
 use map_picture::plan_picture;
 use sight_names::{Line, Memory, Plan};
@@ -36,11 +40,35 @@ fn count_lines(plan: &Plan) -> u64
     count_of(plan.lines())
 }
 
-/// The plan, and its line.
-fn drawn_plan(alloc: Global, plan: &Plan, map: &str) -> Result<Drawn, Memory>
-    ensures { IfOk result (λ d. drawing d ≡ plan_drawing map.now (map_of plan.now)) }
+/// The plan with the faces of its groups.
+pub fn faces_alone(
+    alloc: Global,
+    plan: &Plan,
+    groups: &MeshGroups,
+    map: &str,
+) -> Result<Vec<u8>, Memory>
+    requires groups { AreGroupsOver plan.now groups.now }
+    requires points { groups.now.mesh.points ≡ length plan.now.points }
+    ensures { IfOk result (λ v. v.items ≡ svg_of (map_of plan.now) (the_plan_picture map.now (map_of plan.now) groups.now.grouped.groups groups.now.mesh.triangles groups.now.grouped.labels)) }
 {
-    let picture = plan_picture(alloc, plan)?;
+    let grouped = &groups.grouped;
+    plan_picture(
+        alloc,
+        map,
+        plan,
+        &groups.mesh,
+        &grouped.labels,
+        grouped.groups.as_slice(),
+    )
+}
+
+/// The plan, and its line.
+fn drawn_plan(alloc: Global, plan: &Plan, groups: &MeshGroups, map: &str) -> Result<Drawn, Memory>
+    requires groups { AreGroupsOver plan.now groups.now }
+    requires points { groups.now.mesh.points ≡ length plan.now.points }
+    ensures { IfOk result (λ d. drawing d ≡ plan_drawing map.now (map_of plan.now) (seen groups.now)) }
+{
+    let picture = faces_alone(alloc, plan, groups, map)?;
     let line = plan_line(alloc, map, count_lines(plan), plan.sectors)?;
     Ok(Drawn { picture, line })
 }
@@ -50,6 +78,6 @@ pub fn draw_plan(alloc: Global, plan: &Plan, map: &str) -> Result<Drawn, Status>
     ensures judged { (out : List ℕ) → Gives ⊤ (DrawPlanCalls map.now out (map_of plan.now)) (drawn_answer out result) }
     ensures refusals { IfErr result IsOfMapTest }
 {
-    let _groups = groups_of(alloc, plan)?;
-    made(drawn_plan(alloc, plan, map))
+    let groups = groups_of(alloc, plan)?;
+    made(drawn_plan(alloc, plan, &groups, map))
 }

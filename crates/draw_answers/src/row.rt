@@ -19,7 +19,7 @@ use sight_names::{Memory, Plan};
 use std::alloc::Global;
 
 /// How many bits of the row are set.
-fn count_row(table: &Table, a: u16) -> u64
+pub fn count_row(table: &Table, a: u16) -> u64
     requires { a < table.now.n }
     ensures count { result ≡ set_in_row table.now a }
     ensures few { result ≤ table.now.n }
@@ -51,6 +51,7 @@ fn drawn_row(
     let grouped = &groups.grouped;
     let picture = row_picture(
         alloc,
+        map,
         plan,
         &groups.mesh,
         &grouped.labels,

@@ -7,10 +7,11 @@ use Rattle.sight_names.specs.Map.{Map}
 use Rattle.sight_names.specs.Mesh.{IsAbove}
 use Rattle.sight_names.specs.Order.{Ascends}
 use Rattle.map_picture.specs.declared.pair.Stop.{Stop}
-use Rattle.map_picture.specs.Picture.{Entered, Stops, blind_picture, numbered, pair_faces, pair_tint}
+use Rattle.map_picture.specs.declared.sheet.Subject.TheVariants as subject
+use Rattle.map_picture.specs.Picture.{Entered, Stops, blind_picture, numbered, pair_faces, pair_rings, pair_tint}
 use Rattle.map_picture.specs.Laws.{ShowsEntered, ShowsStops}
 use Rattle.map_picture.proofs.Pieces.{has_behind, has_over, has_under}
-use Rattle.map_picture.proofs.Extras.{blind_words}
+use Rattle.map_picture.proofs.Extras.{blind_words, rings_words}
 
 module _ (ts : List Triangle) where
   abbrev number : ℕ → Triangle
@@ -53,22 +54,22 @@ module _ (ts : List Triangle) where
       let k = placed_at es h j y there in
       above n.0 k.0 x y (up i j n.0 k.0 lt n.1 k.1) n.2 k.2
 
-pub entered_shown : (m : Map) (groups : List (List ℕ)) (ts : List Triangle) (labels : List (Option ℕ)) (a b sector : ℕ) (entered : List ℕ) (stops : List Stop) → All (λ k. k < length ts) entered → ShowsEntered ts sector entered (blind_picture m groups ts labels a b sector entered stops)
-entered_shown m groups ts labels a b sector entered stops within =
+pub entered_shown : (name : List ℕ) (m : Map) (groups : List (List ℕ)) (ts : List Triangle) (labels : List (Option ℕ)) (a b sector : ℕ) (entered : List ℕ) (stops : List Stop) → All (λ k. k < length ts) entered → ShowsEntered ts sector entered (blind_picture name m groups ts labels a b sector entered stops)
+entered_shown name m groups ts labels a b sector entered stops within =
     let h = there ts entered within in
     let faces = pair_faces groups ts labels a b in
     record {
       shown = numbered ts entered;
-      has = has_under m (faces ++ Entered sector (numbered ts entered) ∷ []) (Stops stops ∷ []) (Entered sector (numbered ts entered)) (has_behind faces (Entered sector (numbered ts entered) ∷ []) (Entered sector (numbered ts entered)) (zero, refl));
-      once = λ i j one two us vs at more. (blind_words m ts labels (map (pair_tint a b) groups) groups sector (numbered ts entered) stops).open_once i j (Entered one us) (Entered two vs) at more refl refl;
+      has = has_under name (subject.Pair a b) m (faces ++ Entered sector (numbered ts entered) ∷ []) (Stops stops ∷ [] ++ pair_rings m groups ts labels a b) (Entered sector (numbered ts entered)) (has_behind faces (Entered sector (numbered ts entered) ∷ []) (Entered sector (numbered ts entered)) (zero, refl));
+      once = λ i j one two us vs at more. (blind_words name (subject.Pair a b) m ts labels (map (pair_tint a b) groups) groups (pair_rings m groups ts labels a b) (rings_words m groups ts labels a b) sector (numbered ts entered) stops).open_once i j (Entered one us) (Entered two vs) at more refl refl;
       exactly = λ u. ((λ c. from_numbers ts entered u h c), (λ r. has_numbered ts entered u r.0 r.1 r.2));
       order = in_order ts entered h;
     }
 
-pub stops_shown : (m : Map) (groups : List (List ℕ)) (ts : List Triangle) (labels : List (Option ℕ)) (a b sector : ℕ) (entered : List ℕ) (stops : List Stop) → ShowsStops stops (blind_picture m groups ts labels a b sector entered stops)
-stops_shown m groups ts labels a b sector entered stops =
+pub stops_shown : (name : List ℕ) (m : Map) (groups : List (List ℕ)) (ts : List Triangle) (labels : List (Option ℕ)) (a b sector : ℕ) (entered : List ℕ) (stops : List Stop) → ShowsStops stops (blind_picture name m groups ts labels a b sector entered stops)
+stops_shown name m groups ts labels a b sector entered stops =
     let faces = pair_faces groups ts labels a b in
     record {
-      has = has_over m (faces ++ Entered sector (numbered ts entered) ∷ []) (Stops stops ∷ []) (Stops stops) (zero, refl);
-      once = λ i j ss us at more. (blind_words m ts labels (map (pair_tint a b) groups) groups sector (numbered ts entered) stops).stops_once i j (Stops ss) (Stops us) at more refl refl;
+      has = has_over name (subject.Pair a b) m (faces ++ Entered sector (numbered ts entered) ∷ []) (Stops stops ∷ [] ++ pair_rings m groups ts labels a b) (Stops stops) (zero, refl);
+      once = λ i j ss us at more. (blind_words name (subject.Pair a b) m ts labels (map (pair_tint a b) groups) groups (pair_rings m groups ts labels a b) (rings_words m groups ts labels a b) sector (numbered ts entered) stops).stops_once i j (Stops ss) (Stops us) at more refl refl;
     }

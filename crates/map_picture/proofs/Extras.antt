@@ -1,6 +1,6 @@
 -- What a pair's picture has besides faces and lines: the triangles entered, the stops and the ray, each in one element at most. They
 -- are told by their ids, which are words.
-use Rattle.std.proofs.Common.{◌≡◌, ◌≢◌, ◌∙◌, ℕ, ◌+◌, List, [], ◌∷◌, ◌++◌, Option, Some, None, codes, slice_get, refl, sym, arith}
+use Rattle.std.proofs.Common.{◌≡◌, ◌≢◌, ◌∙◌, ℕ, ◌+◌, List, [], ◌∷◌, ◌++◌, Option, Some, None, codes, refl, sym, arith}
 use Rattle.std.specs.Fmt.{decimal}
 use Rattle.std.specs.List.{AllByRecursion}
 use Rattle.math_base.proofs.Lists.{all_join}
@@ -10,8 +10,10 @@ use Rattle.sight_names.specs.Map.{Map, MapLine, line_at}
 use Rattle.map_picture.specs.declared.pair.Stop.{Stop}
 use Rattle.map_picture.specs.declared.tint.Tint.{Tint}
 use Rattle.map_picture.specs.Bytes.{count_text, face_id, id_of, line_id}
-use Rattle.map_picture.specs.Picture.{Element, Entered, Stops, Sight, faces_from, picture_of, sight_between, sight_elements}
-use Rattle.map_picture.proofs.Pieces.{AtMostOne, NotSo, once_alone, once_behind, once_over, once_under}
+use Rattle.map_picture.specs.declared.rings.Letter.{Letter}
+use Rattle.map_picture.specs.declared.sheet.Subject.{Subject}
+use Rattle.map_picture.specs.Picture.{Element, Entered, Legend, Stops, Sight, faces_from, pair_rings, picture_of, ring_of, sight_between, sight_elements}
+use Rattle.map_picture.proofs.Pieces.{AtMostOne, NotSo, all_ring, all_rings, once_alone, once_before, once_behind, once_none, once_over, once_under}
 
 abbrev pub HasId : List ℕ → Element → Type 0
 HasId w e = id_of e ≡ w
@@ -68,11 +70,11 @@ module _ (w : List ℕ) (word : IsWord w) where
   none_in_faces ts labels g (t ∷ tints) [] = tt
   none_in_faces ts labels g (t ∷ tints) (names ∷ groups) = (no_face_id w g word, none_in_faces ts labels (g + 1) tints groups)
 
-  pub word_under : (m : Map) (under over : List Element) → AtMostOne (HasId w) under → AllByRecursion (NotSo (HasId w)) over → AtMostOne (HasId w) (picture_of m under over)
-  word_under m under over once none = once_under (HasId w) m (no_empty w word) (no_empty w word) (no_empty w word) (no_empty w word) (λ i l. no_line_id w i word) under over once none
+  pub word_under : (name : List ℕ) (about : Subject) (m : Map) (under over : List Element) → AtMostOne (HasId w) under → AllByRecursion (NotSo (HasId w)) over → AtMostOne (HasId w) (picture_of name about m under over)
+  word_under name about m under over once none = once_under (HasId w) name about m (no_empty w word) (λ n s. no_empty w word) (no_empty w word) (no_empty w word) (no_empty w word) (no_empty w word) (λ i l. no_line_id w i word) under over once none
 
-  pub word_over : (m : Map) (under over : List Element) → AllByRecursion (NotSo (HasId w)) under → AtMostOne (HasId w) over → AtMostOne (HasId w) (picture_of m under over)
-  word_over m under over none once = once_over (HasId w) m (no_empty w word) (no_empty w word) (no_empty w word) (no_empty w word) (λ i l. no_line_id w i word) under over none once
+  pub word_over : (name : List ℕ) (about : Subject) (m : Map) (under over : List Element) → AllByRecursion (NotSo (HasId w)) under → AtMostOne (HasId w) over → AtMostOne (HasId w) (picture_of name about m under over)
+  word_over name about m under over none once = once_over (HasId w) name about m (no_empty w word) (λ n s. no_empty w word) (no_empty w word) (no_empty w word) (no_empty w word) (no_empty w word) (λ i l. no_line_id w i word) under over none once
 
 -- each of the four words is the id of at most one element
 pub record WordsAreOnce (picture : List Element) : Type 0 where
@@ -81,63 +83,87 @@ pub record WordsAreOnce (picture : List Element) : Type 0 where
   pub ray_once : AtMostOne (HasId (codes "ray")) picture
   pub fault_once : AtMostOne (HasId (codes "fault")) picture
 
-none_of_one : (w : List ℕ) → AtMostOne (HasId w) []
-none_of_one w = λ i j e f at there so too. absurd (gone i e at)
-  where
-    gone : (i : ℕ) (e : Element) → slice_get {X = Element} [] i ≡ Some e → ⊥
-    gone i e at = cc
+-- no word is the id of any of these
+abbrev pub HasNoWord : List Element → Type 0
+HasNoWord es = (w : List ℕ) → IsWord w → AllByRecursion (NotSo (HasId w)) es
 
--- a picture with faces alone
-pub faces_words : (m : Map) (ts : List Triangle) (labels : List (Option ℕ)) (tints : List Tint) (groups : List (List ℕ)) → WordsAreOnce (picture_of m (faces_from ts labels 0 tints groups) [])
-faces_words m ts labels tints groups = record {
-  open_once = word_over (codes "open") open_word m (faces_from ts labels 0 tints groups) [] (none_in_faces (codes "open") open_word ts labels 0 tints groups) (none_of_one (codes "open"));
-  stops_once = word_over (codes "stops") stops_word m (faces_from ts labels 0 tints groups) [] (none_in_faces (codes "stops") stops_word ts labels 0 tints groups) (none_of_one (codes "stops"));
-  ray_once = word_over (codes "ray") ray_word m (faces_from ts labels 0 tints groups) [] (none_in_faces (codes "ray") ray_word ts labels 0 tints groups) (none_of_one (codes "ray"));
-  fault_once = word_over (codes "fault") fault_word m (faces_from ts labels 0 tints groups) [] (none_in_faces (codes "fault") fault_word ts labels 0 tints groups) (none_of_one (codes "fault"));
-}
+pub ring_words : (m : Map) (groups : List (List ℕ)) (ts : List Triangle) (labels : List (Option ℕ)) (which : Letter) (sector : ℕ) → HasNoWord (ring_of m groups ts labels which sector)
+ring_words m groups ts labels which sector w word = all_ring (NotSo (HasId w)) (λ l s t. no_empty w word) m groups ts labels which sector
+
+pub rings_words : (m : Map) (groups : List (List ℕ)) (ts : List Triangle) (labels : List (Option ℕ)) (a b : ℕ) → HasNoWord (pair_rings m groups ts labels a b)
+rings_words m groups ts labels a b w word = all_rings (NotSo (HasId w)) (λ l s t. no_empty w word) m groups ts labels a b
+
+pub legend_words : (most : ℕ) → HasNoWord (Legend most ∷ [])
+legend_words most w word = (no_empty w word, tt)
+
+pub no_words : HasNoWord []
+no_words w word = tt
 
 -- a picture with one element over the lines
-pub one_over : (m : Map) (x : Element) → WordsAreOnce (picture_of m [] (x ∷ []))
-one_over m x = record {
-  open_once = word_over (codes "open") open_word m [] (x ∷ []) tt (once_alone (HasId (codes "open")) x);
-  stops_once = word_over (codes "stops") stops_word m [] (x ∷ []) tt (once_alone (HasId (codes "stops")) x);
-  ray_once = word_over (codes "ray") ray_word m [] (x ∷ []) tt (once_alone (HasId (codes "ray")) x);
-  fault_once = word_over (codes "fault") fault_word m [] (x ∷ []) tt (once_alone (HasId (codes "fault")) x);
+pub one_over : (name : List ℕ) (about : Subject) (m : Map) (x : Element) → WordsAreOnce (picture_of name about m [] (x ∷ []))
+one_over name about m x = record {
+  open_once = word_over (codes "open") open_word name about m [] (x ∷ []) tt (once_alone (HasId (codes "open")) x);
+  stops_once = word_over (codes "stops") stops_word name about m [] (x ∷ []) tt (once_alone (HasId (codes "stops")) x);
+  ray_once = word_over (codes "ray") ray_word name about m [] (x ∷ []) tt (once_alone (HasId (codes "ray")) x);
+  fault_once = word_over (codes "fault") fault_word name about m [] (x ∷ []) tt (once_alone (HasId (codes "fault")) x);
 }
 
--- .. with triangles entered and stops
-pub blind_words : (m : Map) (ts : List Triangle) (labels : List (Option ℕ)) (tints : List Tint) (groups : List (List ℕ)) (sector : ℕ) (us : List Triangle) (ss : List Stop) → WordsAreOnce (picture_of m (faces_from ts labels 0 tints groups ++ Entered sector us ∷ []) (Stops ss ∷ []))
-blind_words m ts labels tints groups sector us ss =
-    let faces = faces_from ts labels 0 tints groups in
-    record {
-      open_once = word_under (codes "open") open_word m (faces ++ Entered sector us ∷ []) (Stops ss ∷ [])
-          (once_behind (HasId (codes "open")) faces (Entered sector us ∷ []) (none_in_faces (codes "open") open_word ts labels 0 tints groups) (once_alone (HasId (codes "open")) (Entered sector us)))
-          ((λ e. open_not_stops (sym e)), tt);
-      stops_once = word_over (codes "stops") stops_word m (faces ++ Entered sector us ∷ []) (Stops ss ∷ [])
-          (all_join (NotSo (HasId (codes "stops"))) faces (Entered sector us ∷ []) (none_in_faces (codes "stops") stops_word ts labels 0 tints groups) (open_not_stops, tt))
-          (once_alone (HasId (codes "stops")) (Stops ss));
-      ray_once = word_over (codes "ray") ray_word m (faces ++ Entered sector us ∷ []) (Stops ss ∷ [])
-          (all_join (NotSo (HasId (codes "ray"))) faces (Entered sector us ∷ []) (none_in_faces (codes "ray") ray_word ts labels 0 tints groups) (open_not_ray, tt))
-          (λ i j e f at there so too. once_alone (HasId (codes "ray")) (Stops ss) i j e f at there so too);
-      fault_once = word_over (codes "fault") fault_word m (faces ++ Entered sector us ∷ []) (Stops ss ∷ [])
-          (all_join (NotSo (HasId (codes "fault"))) faces (Entered sector us ∷ []) (none_in_faces (codes "fault") fault_word ts labels 0 tints groups) (open_not_fault, tt))
-          (λ i j e f at there so too. once_alone (HasId (codes "fault")) (Stops ss) i j e f at there so too);
-    }
+none_of_one : (w : List ℕ) → AtMostOne (HasId w) []
+none_of_one w = once_none (HasId w) [] tt
 
 ray_alone : (w : List ℕ) (r : Ray) (o p : Option MapLine) → AtMostOne (HasId w) (sight_between r o p)
 ray_alone w r None p = none_of_one w
 ray_alone w r (Some first) None = none_of_one w
 ray_alone w r (Some first) (Some last) = once_alone (HasId w) (Sight r first last)
 
--- .. with a ray
-pub sight_words : (m : Map) (ts : List Triangle) (labels : List (Option ℕ)) (tints : List Tint) (groups : List (List ℕ)) (r : Ray) → WordsAreOnce (picture_of m (faces_from ts labels 0 tints groups) (sight_elements m r))
-sight_words m ts labels tints groups r =
-    let faces = faces_from ts labels 0 tints groups in
-    let first = line_at m r.first.line in
-    let last = line_at m r.last.line in
-    record {
-      open_once = word_over (codes "open") open_word m faces (sight_between r first last) (none_in_faces (codes "open") open_word ts labels 0 tints groups) (ray_alone (codes "open") r first last);
-      stops_once = word_over (codes "stops") stops_word m faces (sight_between r first last) (none_in_faces (codes "stops") stops_word ts labels 0 tints groups) (ray_alone (codes "stops") r first last);
-      ray_once = word_over (codes "ray") ray_word m faces (sight_between r first last) (none_in_faces (codes "ray") ray_word ts labels 0 tints groups) (ray_alone (codes "ray") r first last);
-      fault_once = word_over (codes "fault") fault_word m faces (sight_between r first last) (none_in_faces (codes "fault") fault_word ts labels 0 tints groups) (ray_alone (codes "fault") r first last);
+-- pictures with faces, and with further elements that have no word over the lines
+module _ (name : List ℕ) (about : Subject) (m : Map) (ts : List Triangle) (labels : List (Option ℕ)) (tints : List Tint) (groups : List (List ℕ)) (rest : List Element) (none : HasNoWord rest) where
+  abbrev faces : List Element
+  faces = faces_from ts labels 0 tints groups
+
+  -- over the faces, and before what has no word
+  over_faces : (w : List ℕ) → IsWord w → (es : List Element) → AtMostOne (HasId w) es → AtMostOne (HasId w) (picture_of name about m faces (es ++ rest))
+  over_faces w word es once = word_over w word name about m faces (es ++ rest) (none_in_faces w word ts labels 0 tints groups) (once_before (HasId w) es rest once (none w word))
+
+  -- faces alone
+  pub faces_words : WordsAreOnce (picture_of name about m faces rest)
+  faces_words = record {
+    open_once = over_faces (codes "open") open_word [] (none_of_one (codes "open"));
+    stops_once = over_faces (codes "stops") stops_word [] (none_of_one (codes "stops"));
+    ray_once = over_faces (codes "ray") ray_word [] (none_of_one (codes "ray"));
+    fault_once = over_faces (codes "fault") fault_word [] (none_of_one (codes "fault"));
+  }
+
+  -- .. with a ray
+  pub sight_words : (r : Ray) → WordsAreOnce (picture_of name about m faces (sight_elements m r ++ rest))
+  sight_words r =
+      let first = line_at m r.first.line in
+      let last = line_at m r.last.line in
+      record {
+        open_once = over_faces (codes "open") open_word (sight_between r first last) (ray_alone (codes "open") r first last);
+        stops_once = over_faces (codes "stops") stops_word (sight_between r first last) (ray_alone (codes "stops") r first last);
+        ray_once = over_faces (codes "ray") ray_word (sight_between r first last) (ray_alone (codes "ray") r first last);
+        fault_once = over_faces (codes "fault") fault_word (sight_between r first last) (ray_alone (codes "fault") r first last);
+      }
+
+  -- .. with triangles entered and stops
+  module _ (sector : ℕ) (us : List Triangle) (ss : List Stop) where
+    abbrev under : List Element
+    under = faces ++ Entered sector us ∷ []
+
+    -- .. another word than that of the triangles
+    over_entered : (w : List ℕ) → IsWord w → (codes "open" ≡ w → ⊥) → AtMostOne (HasId w) (picture_of name about m under (Stops ss ∷ [] ++ rest))
+    over_entered w word other =
+        word_over w word name about m under (Stops ss ∷ [] ++ rest)
+        (all_join (NotSo (HasId w)) faces (Entered sector us ∷ []) (none_in_faces w word ts labels 0 tints groups) (other, tt))
+        (once_before (HasId w) (Stops ss ∷ []) rest (once_alone (HasId w) (Stops ss)) (none w word))
+
+    pub blind_words : WordsAreOnce (picture_of name about m under (Stops ss ∷ [] ++ rest))
+    blind_words = record {
+      open_once = word_under (codes "open") open_word name about m under (Stops ss ∷ [] ++ rest)
+          (once_behind (HasId (codes "open")) faces (Entered sector us ∷ []) (none_in_faces (codes "open") open_word ts labels 0 tints groups) (once_alone (HasId (codes "open")) (Entered sector us)))
+          ((λ e. open_not_stops (sym e)), none (codes "open") open_word);
+      stops_once = over_entered (codes "stops") stops_word open_not_stops;
+      ray_once = over_entered (codes "ray") ray_word open_not_ray;
+      fault_once = over_entered (codes "fault") fault_word open_not_fault;
     }

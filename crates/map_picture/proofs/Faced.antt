@@ -4,7 +4,7 @@ use Rattle.std.specs.List.{AllByRecursion, list_all, list_any}
 use Rattle.std.proofs.lemmas.Bool.{true≢false, eqb-true, eqb-false}
 use Rattle.std.proofs.lemmas.Option.{none-some, same_Some}
 use Rattle.std.proofs.lemmas.List.{append-nil}
-use Rattle.math_base.proofs.Lists.{all_so, contains_here, contains_there, contains_none, contains_cons}
+use Rattle.math_base.proofs.Lists.{all_join, all_so, contains_here, contains_there, contains_none, contains_cons}
 use Rattle.sight_names.specs.declared.names.Ray.{Ray}
 use Rattle.sight_names.specs.declared.names.Triangle.{Triangle}
 use Rattle.sight_names.specs.Map.{Map, MapLine, line_at}
@@ -15,9 +15,13 @@ use Rattle.reject_bits.specs.Parts.{TableParts}
 use Rattle.map_picture.specs.declared.pair.Stop.{Stop}
 use Rattle.map_picture.specs.declared.tint.Tint.{Tint}
 use Rattle.map_picture.specs.declared.tint.Tint.TheVariants as tint
-use Rattle.map_picture.specs.Picture.{Element, Head, Style, Paper, Face, Line, Entered, Stops, Foot, blind_picture, faces_from, has_label, labelled_with, numbered, pair_faces, pair_picture, pair_tint, picture_of, row_picture, row_tint, sight_between, sight_elements, sight_picture}
-use Rattle.map_picture.specs.Laws.{Has, HasNoLine, ShowsFaces, TellsPair, TellsRow}
-use Rattle.map_picture.proofs.Pieces.{NotSo, at_under, has_under, in_front, still_there}
+use Rattle.map_picture.specs.declared.rings.Letter.{Letter}
+use Rattle.map_picture.specs.declared.rings.Letter.TheVariants as letter
+use Rattle.map_picture.specs.declared.sheet.Subject.{Subject}
+use Rattle.map_picture.specs.declared.sheet.Subject.TheVariants as subject
+use Rattle.map_picture.specs.Picture.{Element, Head, Title, Style, Paper, Scale, Face, Line, Entered, Stops, Ring, Legend, Foot, blind_picture, faces_from, has_label, heat_picture, heat_tints, labelled_with, most_of, numbered, pair_picture, pair_rings, pair_tint, picture_of, plan_picture, ring_of, row_picture, row_tint, sight_between, sight_elements, sight_picture}
+use Rattle.map_picture.specs.Laws.{Has, HasNoLine, ShowsFaces, TellsHeat, TellsNothing, TellsPair, TellsRow}
+use Rattle.map_picture.proofs.Pieces.{NotSo, all_ring, all_rings, at_under, has_under, in_front, still_there}
 
 record SameFace (k p : Tint) (g n : ℕ) (names others : List ℕ) (shown more : List Triangle) : Type 0 where
   tints : k ≡ p
@@ -39,6 +43,12 @@ line_is_none i l k g names shown e = cc
 head_is_none : NoFace Head
 head_is_none k g names shown e = cc
 
+title_is_none : (name : List ℕ) (about : Subject) → NoFace (Title name about)
+title_is_none name about k g names shown e = cc
+
+scale_is_none : NoFace Scale
+scale_is_none k g names shown e = cc
+
 style_is_none : NoFace Style
 style_is_none k g names shown e = cc
 
@@ -59,10 +69,10 @@ not_face e h (k, g, names, shown, is) = h k g names shown is
 not_faces : (es : List Element) → AllByRecursion NoFace es → AllByRecursion (NotSo IsFace) es
 not_faces es h = all_so NoFace (NotSo IsFace) es not_face h
 
--- the place of a face is three behind its place among what lies under the lines
-pub at_place : (m : Map) (under over : List Element) → AllByRecursion NoFace over → (p : ℕ) (k : Tint) (g : ℕ) (names : List ℕ) (shown : List Triangle) → slice_get (picture_of m under over) p ≡ Some (Face k g names shown) → (q : ℕ) × (p ≡ 3 + q) × (slice_get under q ≡ Some (Face k g names shown))
-at_place m under over none p k g names shown at =
-    at_under IsFace m (not_face Head head_is_none) (not_face Style style_is_none) (not_face Paper paper_is_none) (not_face Foot foot_is_none) (λ i l. not_face (Line i l) (line_is_none i l))
+-- the place of a face is five behind its place among what lies under the lines
+pub at_place : (name : List ℕ) (about : Subject) (m : Map) (under over : List Element) → AllByRecursion NoFace over → (p : ℕ) (k : Tint) (g : ℕ) (names : List ℕ) (shown : List Triangle) → slice_get (picture_of name about m under over) p ≡ Some (Face k g names shown) → (q : ℕ) × (p ≡ 5 + q) × (slice_get under q ≡ Some (Face k g names shown))
+at_place name about m under over none p k g names shown at =
+    at_under IsFace name about m (not_face Head head_is_none) (λ n s. not_face (Title n s) (title_is_none n s)) (not_face Style style_is_none) (not_face Paper paper_is_none) (not_face Scale scale_is_none) (not_face Foot foot_is_none) (λ i l. not_face (Line i l) (line_is_none i l))
     under over (not_faces over none) p (Face k g names shown) (k, g, names, shown, refl) at
 
 -- ---- which faces there are
@@ -158,7 +168,7 @@ ordered g (x ∷ ts) (l ∷ labels) h i j t u lt at there = go (has_label g l) i
 
 -- ---- what tints tell
 
-any_in : (a : ℕ) (names : List ℕ) → list_any (λ b. b == a) names ≡ true → Contains names a
+pub any_in : (a : ℕ) (names : List ℕ) → list_any (λ b. b == a) names ≡ true → Contains names a
 any_in a [] e = absurd (true≢false (sym e))
 any_in a (x ∷ xs) e = go (x == a) refl e (any_in a xs)
   where
@@ -214,20 +224,20 @@ told_pair a b names = go (list_any (λ s. s == a) names) refl
 
 -- ---- the whole
 
-module _ (m : Map) (groups : List (List ℕ)) (ts : List Triangle) (labels : List (Option ℕ)) (Tells : List ℕ → Tint → Type 0) (f : List ℕ → Tint) (tells : (names : List ℕ) → Tells names (f names))
+module _ (name : List ℕ) (about : Subject) (m : Map) (groups : List (List ℕ)) (ts : List Triangle) (labels : List (Option ℕ)) (Tells : List ℕ → Tint → Type 0) (f : List ℕ → Tint) (tells : (names : List ℕ) → Tells names (f names))
     (more over : List Element) (no_more : AllByRecursion NoFace more) (no_over : AllByRecursion NoFace over) where
   abbrev faces : List Element
   faces = faces_from ts labels 0 (map f groups) groups
 
   abbrev whole : List Element
-  whole = picture_of m (faces ++ more) over
+  whole = picture_of name about m (faces ++ more) over
 
   each : (g : ℕ) (names : List ℕ) → slice_get groups g ≡ Some names → (k : Tint) × (shown : List Triangle) × Has whole (Face k g names shown)
-  each g names at = (f names, labelled_with g ts labels, has_under m (faces ++ more) over _ (g, still_there faces more g _ (face_there f ts labels 0 groups g names g (omega arith) at)))
+  each g names at = (f names, labelled_with g ts labels, has_under name about m (faces ++ more) over _ (g, still_there faces more g _ (face_there f ts labels 0 groups g names g (omega arith) at)))
 
-  placed : (p : ℕ) (k : Tint) (g : ℕ) (names : List ℕ) (shown : List Triangle) → slice_get whole p ≡ Some (Face k g names shown) → (q : ℕ) × (p ≡ 3 + q) × IsGroupAt f ts labels 0 groups q k g names shown
+  placed : (p : ℕ) (k : Tint) (g : ℕ) (names : List ℕ) (shown : List Triangle) → slice_get whole p ≡ Some (Face k g names shown) → (q : ℕ) × (p ≡ 5 + q) × IsGroupAt f ts labels 0 groups q k g names shown
   placed p k g names shown at =
-      let h = at_place m (faces ++ more) over no_over p k g names shown at in
+      let h = at_place name about m (faces ++ more) over no_over p k g names shown at in
       (h.0, h.1, face_at f ts labels 0 groups h.0 k g names shown (in_front IsFace faces more h.0 _ (not_faces more no_more) (k, g, names, shown, refl) h.2))
 
   group : (k : Tint) (g : ℕ) (names : List ℕ) (shown : List Triangle) → Has whole (Face k g names shown) → slice_get groups g ≡ Some names
@@ -255,27 +265,61 @@ module _ (m : Map) (groups : List (List ℕ)) (ts : List Triangle) (labels : Lis
   faces_shown : ShowsFaces groups ts labels Tells whole
   faces_shown = record { each = each; group = group; told = told_by; triangles = triangles; order = order; once = once }
 
-pub row_shown : (m : Map) (groups : List (List ℕ)) (ts : List Triangle) (labels : List (Option ℕ)) (t : TableParts) (a : ℕ) → ShowsFaces groups ts labels (TellsRow t a) (row_picture m groups ts labels t a)
-row_shown m groups ts labels t a =
-    subst (λ (under : List Element). ShowsFaces groups ts labels (TellsRow t a) (picture_of m under [])) (append-nil (faces_from ts labels 0 (map (row_tint t a) groups) groups))
-    (faces_shown m groups ts labels (TellsRow t a) (row_tint t a) (told t a) [] [] tt tt)
+module _ (name : List ℕ) (about : Subject) (m : Map) (groups : List (List ℕ)) (ts : List Triangle) (labels : List (Option ℕ)) (Tells : List ℕ → Tint → Type 0) (f : List ℕ → Tint) (tells : (names : List ℕ) → Tells names (f names))
+    (over : List Element) (no_over : AllByRecursion NoFace over) where
+  faces_alone : ShowsFaces groups ts labels Tells (picture_of name about m (faces_from ts labels 0 (map f groups) groups) over)
+  faces_alone =
+      subst (λ (under : List Element). ShowsFaces groups ts labels Tells (picture_of name about m under over)) (append-nil (faces_from ts labels 0 (map f groups) groups))
+      (faces_shown name about m groups ts labels Tells f tells [] over tt no_over)
 
-pub pair_shown : (m : Map) (groups : List (List ℕ)) (ts : List Triangle) (labels : List (Option ℕ)) (a b : ℕ) → ShowsFaces groups ts labels (TellsPair a b) (pair_picture m groups ts labels a b)
-pair_shown m groups ts labels a b =
-    subst (λ (under : List Element). ShowsFaces groups ts labels (TellsPair a b) (picture_of m under [])) (append-nil (pair_faces groups ts labels a b))
-    (faces_shown m groups ts labels (TellsPair a b) (pair_tint a b) (told_pair a b) [] [] tt tt)
+-- the tints of the counts are those of the groups
+pub heat_faces : (groups : List (List ℕ)) (count : List ℕ → ℕ) → heat_tints (map count groups) (most_of (map count groups)) ≡ map (λ names. tint.Heat (count names) (most_of (map count groups))) groups
+heat_faces groups count = on (most_of (map count groups)) groups
+  where
+    on : (most : ℕ) (gs : List (List ℕ)) → heat_tints (map count gs) most ≡ map (λ names. tint.Heat (count names) most) gs
+    on most [] = refl
+    on most (x ∷ xs) = ap (λ (ts : List Tint). tint.Heat (count x) most ∷ ts) (on most xs)
 
-sight_is_none : (r : Ray) (o p : Option MapLine) → AllByRecursion NoFace (sight_between r o p)
-sight_is_none r None p = tt
-sight_is_none r (Some first) None = tt
-sight_is_none r (Some first) (Some last) = ((λ k g names shown e. cc), tt)
+no_ring : (which : Letter) (sector : ℕ) (t : Triangle) → NoFace (Ring which sector t)
+no_ring which sector t k g names shown e = cc
 
-pub sight_faces : (m : Map) (groups : List (List ℕ)) (ts : List Triangle) (labels : List (Option ℕ)) (a b : ℕ) (r : Ray) → ShowsFaces groups ts labels (TellsPair a b) (sight_picture m groups ts labels a b r)
-sight_faces m groups ts labels a b r =
-    subst (λ (under : List Element). ShowsFaces groups ts labels (TellsPair a b) (picture_of m under (sight_elements m r))) (append-nil (pair_faces groups ts labels a b))
-    (faces_shown m groups ts labels (TellsPair a b) (pair_tint a b) (told_pair a b) [] (sight_elements m r) tt (sight_is_none r (line_at m r.first.line) (line_at m r.last.line)))
+no_legend : (most : ℕ) → NoFace (Legend most)
+no_legend most k g names shown e = cc
 
-pub blind_faces : (m : Map) (groups : List (List ℕ)) (ts : List Triangle) (labels : List (Option ℕ)) (a b sector : ℕ) (entered : List ℕ) (stops : List Stop) → ShowsFaces groups ts labels (TellsPair a b) (blind_picture m groups ts labels a b sector entered stops)
-blind_faces m groups ts labels a b sector entered stops =
-    faces_shown m groups ts labels (TellsPair a b) (pair_tint a b) (told_pair a b) (Entered sector (numbered ts entered) ∷ []) (Stops stops ∷ [])
-    ((λ k g names shown e. cc), tt) ((λ k g names shown e. cc), tt)
+module _ (name : List ℕ) (m : Map) (groups : List (List ℕ)) (ts : List Triangle) (labels : List (Option ℕ)) where
+  pub plan_shown : ShowsFaces groups ts labels TellsNothing (plan_picture name m groups ts labels)
+  plan_shown = faces_alone name subject.Plan m groups ts labels TellsNothing (λ names. tint.Other) (λ names. refl) [] tt
+
+  pub row_shown : (t : TableParts) (a : ℕ) → ShowsFaces groups ts labels (TellsRow t a) (row_picture name m groups ts labels t a)
+  row_shown t a = faces_alone name (subject.Row a) m groups ts labels (TellsRow t a) (row_tint t a) (told t a) (ring_of m groups ts labels letter.A a) (all_ring NoFace no_ring m groups ts labels letter.A a)
+
+  module _ (count : List ℕ → ℕ) where
+    abbrev most : ℕ
+    most = most_of (map count groups)
+
+    pub heat_shown : ShowsFaces groups ts labels (TellsHeat count most) (heat_picture name m groups ts labels (map count groups))
+    heat_shown =
+        subst (λ (tints : List Tint). ShowsFaces groups ts labels (TellsHeat count most) (picture_of name subject.Heat m (faces_from ts labels 0 tints groups) (Legend most ∷ []))) (sym (heat_faces groups count))
+        (faces_alone name subject.Heat m groups ts labels (TellsHeat count most) (λ names. tint.Heat (count names) most) (λ names. refl) (Legend most ∷ []) (no_legend most, tt))
+
+  module _ (a b : ℕ) where
+    rings_none : AllByRecursion NoFace (pair_rings m groups ts labels a b)
+    rings_none = all_rings NoFace no_ring m groups ts labels a b
+
+    pub pair_shown : ShowsFaces groups ts labels (TellsPair a b) (pair_picture name m groups ts labels a b)
+    pair_shown = faces_alone name (subject.Pair a b) m groups ts labels (TellsPair a b) (pair_tint a b) (told_pair a b) (pair_rings m groups ts labels a b) rings_none
+
+    sight_is_none : (r : Ray) (o p : Option MapLine) → AllByRecursion NoFace (sight_between r o p)
+    sight_is_none r None p = tt
+    sight_is_none r (Some first) None = tt
+    sight_is_none r (Some first) (Some last) = ((λ k g names shown e. cc), tt)
+
+    pub sight_faces : (r : Ray) → ShowsFaces groups ts labels (TellsPair a b) (sight_picture name m groups ts labels a b r)
+    sight_faces r =
+        faces_alone name (subject.Pair a b) m groups ts labels (TellsPair a b) (pair_tint a b) (told_pair a b) (sight_elements m r ++ pair_rings m groups ts labels a b)
+        (all_join NoFace (sight_elements m r) (pair_rings m groups ts labels a b) (sight_is_none r (line_at m r.first.line) (line_at m r.last.line)) rings_none)
+
+    pub blind_faces : (sector : ℕ) (entered : List ℕ) (stops : List Stop) → ShowsFaces groups ts labels (TellsPair a b) (blind_picture name m groups ts labels a b sector entered stops)
+    blind_faces sector entered stops =
+        faces_shown name (subject.Pair a b) m groups ts labels (TellsPair a b) (pair_tint a b) (told_pair a b) (Entered sector (numbered ts entered) ∷ []) (Stops stops ∷ [] ++ pair_rings m groups ts labels a b)
+        ((λ k g names shown e. cc), tt) ((λ k g names shown e. cc), rings_none)

@@ -1,5 +1,5 @@
 -- The ids of a picture's elements.
-use Rattle.std.proofs.Common.{◌≡◌, ◌≢◌, ◌∙◌, ℕ, zero, suc, ◌^◌, ◌<◌, ◌≤◌, ◌⊎◌, inl, inr, List, [], ◌∷◌, ◌++◌, Option, Some, None, map, codes, length, slice_get, option_and_then, refl, sym, ap, arith}
+use Rattle.std.proofs.Common.{◌≡◌, ◌≢◌, ◌∙◌, ℕ, zero, suc, ◌^◌, ◌<◌, ◌≤◌, ◌⊎◌, inl, inr, List, [], ◌∷◌, ◌++◌, Option, Some, None, map, codes, length, slice_get, option_and_then, refl, sym, ap, subst, arith}
 use Rattle.std.specs.Fmt.{decimal}
 use Rattle.std.specs.List.{AllByRecursion}
 use Rattle.std.proofs.lemmas.Fmt.{decimal_injective}
@@ -11,12 +11,16 @@ use Rattle.reject_bits.specs.Parts.{TableParts}
 use Rattle.map_picture.specs.declared.pair.Stop.{Stop}
 use Rattle.map_picture.specs.declared.tint.Tint.{Tint}
 use Rattle.map_picture.specs.Bytes.{count_text, face_id, id_of, line_id}
-use Rattle.map_picture.specs.Picture.{Element, Head, Style, Paper, Face, Line, Entered, Stops, Sight, Marked, Foot, blind_picture, marked_picture, numbered, pair_faces, pair_picture, pair_tint, plan_picture, row_picture, row_tint, sight_between, sight_elements, sight_picture}
-use Rattle.map_picture.specs.Laws.{Has, HasNoLine, IdsAreOnce, ShowsFaces, ShowsLines, TellsPair, TellsRow}
-use Rattle.map_picture.proofs.Ordered.{lines_shown}
-use Rattle.map_picture.proofs.Pieces.{AtMostOne}
-use Rattle.map_picture.proofs.Extras.{HasId, WordsAreOnce, blind_words, faces_words, one_over, sight_words}
-use Rattle.map_picture.proofs.Faced.{NoFace, at_place, blind_faces, no_line_in_faces, pair_shown, row_shown, sight_faces}
+use Rattle.map_picture.specs.declared.rings.Letter.{Letter}
+use Rattle.map_picture.specs.declared.rings.Letter.TheVariants as letter
+use Rattle.map_picture.specs.declared.sheet.Subject.TheVariants as subject
+use Rattle.map_picture.specs.declared.tint.Tint.TheVariants as tint
+use Rattle.map_picture.specs.Picture.{Element, Head, Title, Style, Paper, Scale, Face, Line, Entered, Stops, Sight, Marked, Ring, Legend, Foot, blind_picture, faces_from, heat_picture, heat_tints, marked_picture, most_of, numbered, pair_faces, pair_picture, pair_rings, pair_tint, plan_faces, plan_picture, ring_of, row_picture, row_tint, sight_between, sight_elements, sight_picture}
+use Rattle.map_picture.specs.Laws.{Has, HasNoLine, IdsAreOnce, ShowsFaces, ShowsLines, TellsHeat, TellsNothing, TellsPair, TellsRow}
+use Rattle.map_picture.proofs.Ordered.{NoLine, lines_shown, no_lines}
+use Rattle.map_picture.proofs.Pieces.{AtMostOne, all_ring, all_rings}
+use Rattle.map_picture.proofs.Extras.{HasId, WordsAreOnce, blind_words, faces_words, legend_words, no_words, one_over, ring_words, rings_words, sight_words}
+use Rattle.map_picture.proofs.Faced.{NoFace, at_place, blind_faces, heat_faces, heat_shown, no_line_in_faces, pair_shown, plan_shown, row_shown, sight_faces}
 
 tails : (x y : ℕ) (xs ys : List ℕ) → ◌≡◌ {A = List ℕ} (x ∷ xs) (y ∷ ys) → xs ≡ ys
 tails x y xs ys e = cc
@@ -52,6 +56,7 @@ record IsWorded (picture : List Element) (e : Element) : Type 0 where
 
 with_id : (picture : List Element) → WordsAreOnce picture → (e : Element) → id_of e ≢ [] → IsFace e ⊎ IsLine e ⊎ IsWorded picture e
 with_id picture words Head h = absurd (h refl)
+with_id picture words (Title name about) h = absurd (h refl)
 with_id picture words Style h = absurd (h refl)
 with_id picture words Paper h = absurd (h refl)
 with_id picture words (Face k g names shown) h = inl (record { k = k; g = g; names = names; shown = shown; is = refl })
@@ -60,6 +65,9 @@ with_id picture words (Entered sector us) h = inr (inr (record { w = codes "open
 with_id picture words (Stops ss) h = inr (inr (record { w = codes "stops"; is = refl; once = words.stops_once }))
 with_id picture words (Sight r first last) h = inr (inr (record { w = codes "ray"; is = refl; once = words.ray_once }))
 with_id picture words (Marked marks) h = inr (inr (record { w = codes "fault"; is = refl; once = words.fault_once }))
+with_id picture words Scale h = absurd (h refl)
+with_id picture words (Ring which sector t) h = absurd (h refl)
+with_id picture words (Legend most) h = absurd (h refl)
 with_id picture words Foot h = absurd (h refl)
 
 record FacesAreOnce (picture : List Element) : Type 0 where
@@ -105,80 +113,123 @@ module _ (m : Map) (picture : List Element) (lines : ShowsLines m picture) (few 
       go (inl a) (inr (inr b)) = b.once j k e f at there (same ∙ b.is) b.is
       go (inr (inl a)) (inr (inr b)) = b.once j k e f at there (same ∙ b.is) b.is
 
-no_line : HasNoLine []
-no_line i l h = none-some (Line i l) h.1
-
-pub plan_ids : (m : Map) → length m.lines ≤ 2 ^ 64 → IdsAreOnce (plan_picture m)
-plan_ids m few =
-    ids_once m (plan_picture m) (lines_shown m [] [] no_line no_line) few
-    (record {
-      few = λ k g names shown h. absurd (none-some (Face k g names shown) (at_place m [] [] tt h.0 k g names shown h.1).2);
-      once = λ i j g k p names others shown more at there. absurd (none-some (Face k g names shown) (at_place m [] [] tt i k g names shown at).2);
-    })
-    (faces_words m [] [] [] [])
-
 faces_once : (groups : List (List ℕ)) (ts : List Triangle) (labels : List (Option ℕ)) (Tells : List ℕ → Tint → Type 0) (picture : List Element) → length groups ≤ 2 ^ 64 → ShowsFaces groups ts labels Tells picture → FacesAreOnce picture
 faces_once groups ts labels Tells picture some shows = record {
   few = λ k g names shown h. (let lt : g < length groups = slice_get_within groups g names (shows.group k g names shown h) in omega arith);
   once = shows.once;
 }
 
-pub row_ids : (m : Map) (groups : List (List ℕ)) (ts : List Triangle) (labels : List (Option ℕ)) (t : TableParts) (a : ℕ) → length m.lines ≤ 2 ^ 64 → length groups ≤ 2 ^ 64 → IdsAreOnce (row_picture m groups ts labels t a)
-row_ids m groups ts labels t a few some =
-    ids_once m (row_picture m groups ts labels t a) (lines_shown m _ [] (no_line_in_faces (row_tint t a) ts labels 0 groups) no_line) few
-    (faces_once groups ts labels (TellsRow t a) _ some (row_shown m groups ts labels t a)) (faces_words m ts labels (map (row_tint t a) groups) groups)
+no_ring : (which : Letter) (sector : ℕ) (t : Triangle) → NoLine (Ring which sector t)
+no_ring which sector t i l e = cc
 
-pub pair_ids : (m : Map) (groups : List (List ℕ)) (ts : List Triangle) (labels : List (Option ℕ)) (a b : ℕ) → length m.lines ≤ 2 ^ 64 → length groups ≤ 2 ^ 64 → IdsAreOnce (pair_picture m groups ts labels a b)
-pair_ids m groups ts labels a b few some =
-    ids_once m (pair_picture m groups ts labels a b) (lines_shown m _ [] (no_line_in_faces (pair_tint a b) ts labels 0 groups) no_line) few
-    (faces_once groups ts labels (TellsPair a b) _ some (pair_shown m groups ts labels a b)) (faces_words m ts labels (map (pair_tint a b) groups) groups)
+no_legend : (most : ℕ) → NoLine (Legend most)
+no_legend most i l e = cc
 
-no_line_marked : (marks : List ℕ) → HasNoLine (Marked marks ∷ [])
-no_line_marked marks i l (zero, at) = cc
-no_line_marked marks i l (suc k, at) = none-some (Line i l) at
+no_mark : (marks : List ℕ) → NoLine (Marked marks)
+no_mark marks i l e = cc
 
-pub marked_ids : (m : Map) (marks : List ℕ) → length m.lines ≤ 2 ^ 64 → IdsAreOnce (marked_picture m marks)
-marked_ids m marks few =
-    ids_once m (marked_picture m marks) (lines_shown m [] (Marked marks ∷ []) no_line (no_line_marked marks)) few
-    (record {
-      few = λ k g names shown h. absurd (none-some (Face k g names shown) (at_place m [] (Marked marks ∷ []) no_face h.0 k g names shown h.1).2);
-      once = λ i j g k p names others shown more at there. absurd (none-some (Face k g names shown) (at_place m [] (Marked marks ∷ []) no_face i k g names shown at).2);
-    })
-    (one_over m (Marked marks))
-  where
-    no_face : AllByRecursion NoFace (Marked marks ∷ [])
-    no_face = ((λ k g names shown e. cc), tt)
+no_stop : (ss : List Stop) → NoLine (Stops ss)
+no_stop ss i l e = cc
 
-no_line_between : (r : Ray) (o p : Option MapLine) → HasNoLine (sight_between r o p)
-no_line_between r None p = no_line
-no_line_between r (Some first) None = no_line
-no_line_between r (Some first) (Some last) = λ i l h. lone i l h.0 h.1
-  where
-    lone : (i : ℕ) (l : MapLine) (k : ℕ) → slice_get (Sight r first last ∷ []) k ≡ Some (Line i l) → ⊥
-    lone i l zero at = cc
-    lone i l (suc k) at = none-some (Line i l) at
+no_entered : (sector : ℕ) (us : List Triangle) → NoLine (Entered sector us)
+no_entered sector us i l e = cc
 
-pub sight_ids : (m : Map) (groups : List (List ℕ)) (ts : List Triangle) (labels : List (Option ℕ)) (a b : ℕ) (r : Ray) → length m.lines ≤ 2 ^ 64 → length groups ≤ 2 ^ 64 → IdsAreOnce (sight_picture m groups ts labels a b r)
-sight_ids m groups ts labels a b r few some =
-    ids_once m (sight_picture m groups ts labels a b r)
-    (lines_shown m _ (sight_elements m r) (no_line_in_faces (pair_tint a b) ts labels 0 groups) (no_line_between r (line_at m r.first.line) (line_at m r.last.line))) few
-    (faces_once groups ts labels (TellsPair a b) _ some (sight_faces m groups ts labels a b r)) (sight_words m ts labels (map (pair_tint a b) groups) groups r)
+no_sight : (r : Ray) (o p : Option MapLine) → AllByRecursion NoLine (sight_between r o p)
+no_sight r None p = tt
+no_sight r (Some first) None = tt
+no_sight r (Some first) (Some last) = ((λ i l e. cc), tt)
 
 no_line_joined : (es fs : List Element) → HasNoLine es → HasNoLine fs → HasNoLine (es ++ fs)
 no_line_joined [] fs h g i l at = g i l at
 no_line_joined (e ∷ es) fs h g i l (zero, at) = h i l (zero, at)
 no_line_joined (e ∷ es) fs h g i l (suc k, at) = no_line_joined es fs (λ n o has. h n o (suc has.0, has.1)) g i l (k, at)
 
-no_line_entered : (sector : ℕ) (us : List Triangle) → HasNoLine (Entered sector us ∷ [])
-no_line_entered sector us i l (zero, at) = cc
-no_line_entered sector us i l (suc k, at) = none-some (Line i l) at
+-- ---- what has no line in each kind of picture
 
-no_line_stops : (ss : List Stop) → HasNoLine (Stops ss ∷ [])
-no_line_stops ss i l (zero, at) = cc
-no_line_stops ss i l (suc k, at) = none-some (Line i l) at
+pub no_line : HasNoLine []
+no_line = no_lines [] tt
 
-pub blind_ids : (m : Map) (groups : List (List ℕ)) (ts : List Triangle) (labels : List (Option ℕ)) (a b sector : ℕ) (entered : List ℕ) (stops : List Stop) → length m.lines ≤ 2 ^ 64 → length groups ≤ 2 ^ 64 → IdsAreOnce (blind_picture m groups ts labels a b sector entered stops)
-blind_ids m groups ts labels a b sector entered stops few some =
-    ids_once m (blind_picture m groups ts labels a b sector entered stops)
-    (lines_shown m _ (Stops stops ∷ []) (no_line_joined (pair_faces groups ts labels a b) (Entered sector (numbered ts entered) ∷ []) (no_line_in_faces (pair_tint a b) ts labels 0 groups) (no_line_entered sector (numbered ts entered))) (no_line_stops stops)) few
-    (faces_once groups ts labels (TellsPair a b) _ some (blind_faces m groups ts labels a b sector entered stops)) (blind_words m ts labels (map (pair_tint a b) groups) groups sector (numbered ts entered) stops)
+pub no_line_marked : (marks : List ℕ) → HasNoLine (Marked marks ∷ [])
+no_line_marked marks = no_lines (Marked marks ∷ []) (no_mark marks, tt)
+
+pub no_line_legend : (most : ℕ) → HasNoLine (Legend most ∷ [])
+no_line_legend most = no_lines (Legend most ∷ []) (no_legend most, tt)
+
+pub no_line_ring : (m : Map) (groups : List (List ℕ)) (ts : List Triangle) (labels : List (Option ℕ)) (which : Letter) (sector : ℕ) → HasNoLine (ring_of m groups ts labels which sector)
+no_line_ring m groups ts labels which sector = no_lines (ring_of m groups ts labels which sector) (all_ring NoLine no_ring m groups ts labels which sector)
+
+pub no_line_rings : (m : Map) (groups : List (List ℕ)) (ts : List Triangle) (labels : List (Option ℕ)) (a b : ℕ) → HasNoLine (pair_rings m groups ts labels a b)
+no_line_rings m groups ts labels a b = no_lines (pair_rings m groups ts labels a b) (all_rings NoLine no_ring m groups ts labels a b)
+
+pub no_line_sight : (m : Map) (groups : List (List ℕ)) (ts : List Triangle) (labels : List (Option ℕ)) (a b : ℕ) (r : Ray) → HasNoLine (sight_elements m r ++ pair_rings m groups ts labels a b)
+no_line_sight m groups ts labels a b r = no_line_joined (sight_elements m r) (pair_rings m groups ts labels a b) (no_lines (sight_elements m r) (no_sight r (line_at m r.first.line) (line_at m r.last.line))) (no_line_rings m groups ts labels a b)
+
+pub no_line_entered : (groups : List (List ℕ)) (ts : List Triangle) (labels : List (Option ℕ)) (a b sector : ℕ) (us : List Triangle) → HasNoLine (pair_faces groups ts labels a b ++ Entered sector us ∷ [])
+no_line_entered groups ts labels a b sector us =
+    no_line_joined (pair_faces groups ts labels a b) (Entered sector us ∷ []) (no_line_in_faces (pair_tint a b) ts labels 0 groups) (no_lines (Entered sector us ∷ []) (no_entered sector us, tt))
+
+pub no_line_stops : (m : Map) (groups : List (List ℕ)) (ts : List Triangle) (labels : List (Option ℕ)) (a b : ℕ) (ss : List Stop) → HasNoLine (Stops ss ∷ [] ++ pair_rings m groups ts labels a b)
+no_line_stops m groups ts labels a b ss = no_line_joined (Stops ss ∷ []) (pair_rings m groups ts labels a b) (no_lines (Stops ss ∷ []) (no_stop ss, tt)) (no_line_rings m groups ts labels a b)
+
+pub no_line_heat : (groups : List (List ℕ)) (ts : List Triangle) (labels : List (Option ℕ)) (count : List ℕ → ℕ) → HasNoLine (faces_from ts labels 0 (heat_tints (map count groups) (most_of (map count groups))) groups)
+no_line_heat groups ts labels count =
+    subst (λ (tints : List Tint). HasNoLine (faces_from ts labels 0 tints groups)) (sym (heat_faces groups count))
+    (no_line_in_faces (λ names. tint.Heat (count names) (most_of (map count groups))) ts labels 0 groups)
+
+-- ---- ids
+
+pub marked_ids : (name : List ℕ) (m : Map) (marks : List ℕ) → length m.lines ≤ 2 ^ 64 → IdsAreOnce (marked_picture name m marks)
+marked_ids name m marks few =
+    ids_once m (marked_picture name m marks) (lines_shown name subject.Faults m [] (Marked marks ∷ []) no_line (no_line_marked marks)) few
+    (record {
+      few = λ k g names shown h. absurd (none-some (Face k g names shown) (at_place name subject.Faults m [] (Marked marks ∷ []) no_face h.0 k g names shown h.1).2);
+      once = λ i j g k p names others shown more at there. absurd (none-some (Face k g names shown) (at_place name subject.Faults m [] (Marked marks ∷ []) no_face i k g names shown at).2);
+    })
+    (one_over name subject.Faults m (Marked marks))
+  where
+    no_face : AllByRecursion NoFace (Marked marks ∷ [])
+    no_face = ((λ k g names shown e. cc), tt)
+
+module _ (name : List ℕ) (m : Map) (groups : List (List ℕ)) (ts : List Triangle) (labels : List (Option ℕ)) where
+  pub plan_ids : length m.lines ≤ 2 ^ 64 → length groups ≤ 2 ^ 64 → IdsAreOnce (plan_picture name m groups ts labels)
+  plan_ids few some =
+      ids_once m (plan_picture name m groups ts labels) (lines_shown name subject.Plan m (plan_faces groups ts labels) [] (no_line_in_faces (λ names. tint.Other) ts labels 0 groups) no_line) few
+      (faces_once groups ts labels TellsNothing _ some (plan_shown name m groups ts labels))
+      (faces_words name subject.Plan m ts labels (map (λ names. tint.Other) groups) groups [] no_words)
+
+  pub row_ids : (t : TableParts) (a : ℕ) → length m.lines ≤ 2 ^ 64 → length groups ≤ 2 ^ 64 → IdsAreOnce (row_picture name m groups ts labels t a)
+  row_ids t a few some =
+      ids_once m (row_picture name m groups ts labels t a)
+      (lines_shown name (subject.Row a) m _ (ring_of m groups ts labels letter.A a) (no_line_in_faces (row_tint t a) ts labels 0 groups) (no_line_ring m groups ts labels letter.A a)) few
+      (faces_once groups ts labels (TellsRow t a) _ some (row_shown name m groups ts labels t a))
+      (faces_words name (subject.Row a) m ts labels (map (row_tint t a) groups) groups (ring_of m groups ts labels letter.A a) (ring_words m groups ts labels letter.A a))
+
+  pub heat_ids : (count : List ℕ → ℕ) → length m.lines ≤ 2 ^ 64 → length groups ≤ 2 ^ 64 → IdsAreOnce (heat_picture name m groups ts labels (map count groups))
+  heat_ids count few some =
+      let most = most_of (map count groups) in
+      ids_once m (heat_picture name m groups ts labels (map count groups))
+      (lines_shown name subject.Heat m _ (Legend most ∷ []) (no_line_heat groups ts labels count) (no_line_legend most)) few
+      (faces_once groups ts labels (TellsHeat count most) _ some (heat_shown name m groups ts labels count))
+      (faces_words name subject.Heat m ts labels (heat_tints (map count groups) most) groups (Legend most ∷ []) (legend_words most))
+
+  module _ (a b : ℕ) where
+    pub pair_ids : length m.lines ≤ 2 ^ 64 → length groups ≤ 2 ^ 64 → IdsAreOnce (pair_picture name m groups ts labels a b)
+    pair_ids few some =
+        ids_once m (pair_picture name m groups ts labels a b)
+        (lines_shown name (subject.Pair a b) m _ (pair_rings m groups ts labels a b) (no_line_in_faces (pair_tint a b) ts labels 0 groups) (no_line_rings m groups ts labels a b)) few
+        (faces_once groups ts labels (TellsPair a b) _ some (pair_shown name m groups ts labels a b))
+        (faces_words name (subject.Pair a b) m ts labels (map (pair_tint a b) groups) groups (pair_rings m groups ts labels a b) (rings_words m groups ts labels a b))
+
+    pub sight_ids : (r : Ray) → length m.lines ≤ 2 ^ 64 → length groups ≤ 2 ^ 64 → IdsAreOnce (sight_picture name m groups ts labels a b r)
+    sight_ids r few some =
+        ids_once m (sight_picture name m groups ts labels a b r)
+        (lines_shown name (subject.Pair a b) m _ (sight_elements m r ++ pair_rings m groups ts labels a b) (no_line_in_faces (pair_tint a b) ts labels 0 groups) (no_line_sight m groups ts labels a b r)) few
+        (faces_once groups ts labels (TellsPair a b) _ some (sight_faces name m groups ts labels a b r))
+        (sight_words name (subject.Pair a b) m ts labels (map (pair_tint a b) groups) groups (pair_rings m groups ts labels a b) (rings_words m groups ts labels a b) r)
+
+    pub blind_ids : (sector : ℕ) (entered : List ℕ) (stops : List Stop) → length m.lines ≤ 2 ^ 64 → length groups ≤ 2 ^ 64 → IdsAreOnce (blind_picture name m groups ts labels a b sector entered stops)
+    blind_ids sector entered stops few some =
+        ids_once m (blind_picture name m groups ts labels a b sector entered stops)
+        (lines_shown name (subject.Pair a b) m _ (Stops stops ∷ [] ++ pair_rings m groups ts labels a b) (no_line_entered groups ts labels a b sector (numbered ts entered)) (no_line_stops m groups ts labels a b stops)) few
+        (faces_once groups ts labels (TellsPair a b) _ some (blind_faces name m groups ts labels a b sector entered stops))
+        (blind_words name (subject.Pair a b) m ts labels (map (pair_tint a b) groups) groups (pair_rings m groups ts labels a b) (rings_words m groups ts labels a b) sector (numbered ts entered) stops)

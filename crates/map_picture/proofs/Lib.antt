@@ -13,3 +13,5 @@ pub mod MapEnds
 pub mod Spots
 pub mod Sights
 pub mod Marking
+pub mod Ringed
+pub mod Ranges

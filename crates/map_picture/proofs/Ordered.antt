@@ -6,7 +6,8 @@ use Rattle.std.proofs.lemmas.Option.{none-some, same_Some}
 use Rattle.math_base.proofs.Lists.{all_join, all_so, all_at}
 use Rattle.math_base.proofs.Numbers.{below_same_or_above}
 use Rattle.sight_names.specs.Map.{Map, MapLine, line_at}
-use Rattle.map_picture.specs.Picture.{Element, Head, Style, Paper, Line, Foot, entry_if, line_elements, line_if, lines_from, picture_of}
+use Rattle.map_picture.specs.declared.sheet.Subject.{Subject}
+use Rattle.map_picture.specs.Picture.{Element, Head, Title, Style, Paper, Scale, Line, Foot, entry_if, line_elements, line_if, lines_from, picture_of, sheet_of}
 use Rattle.map_picture.specs.Laws.{Has, HasNoLine, IsLineBefore, ShowsLines}
 use Rattle.map_picture.proofs.Pieces.{has_before, has_behind}
 
@@ -33,7 +34,7 @@ IsFrom solid i e = (n : ℕ) (l : MapLine) → e ≡ Line n l → (l.solid ≡ s
 abbrev IsAt : Bool → ℕ → Element → Type 0
 IsAt solid i e = (n : ℕ) (l : MapLine) → e ≡ Line n l → (l.solid ≡ solid) × (i ≡ n)
 
-abbrev NoLine : Element → Type 0
+abbrev pub NoLine : Element → Type 0
 NoLine e = (i : ℕ) (l : MapLine) → e ≡ Line i l → ⊥
 
 abbrev InOrder : List Element → Type 0
@@ -139,11 +140,17 @@ order_elements m = order_join (lines_from false 0 m.lines) (lines_from true 0 m.
 
 -- ---- the whole
 
-none_in_sheet : AllByRecursion NoLine (Head ∷ Style ∷ Paper ∷ [])
-none_in_sheet = ((λ i l e. head i l e), ((λ i l e. style i l e), ((λ i l e. paper i l e), tt)))
+none_in_sheet : (name : List ℕ) (about : Subject) → AllByRecursion NoLine (sheet_of name about)
+none_in_sheet name about = ((λ i l e. head i l e), ((λ i l e. title i l e), ((λ i l e. style i l e), ((λ i l e. paper i l e), ((λ i l e. scale i l e), tt)))))
   where
     head : (i : ℕ) (l : MapLine) → Head ≡ Line i l → ⊥
     head i l e = cc
+
+    title : (i : ℕ) (l : MapLine) → Title name about ≡ Line i l → ⊥
+    title i l e = cc
+
+    scale : (i : ℕ) (l : MapLine) → Scale ≡ Line i l → ⊥
+    scale i l e = cc
 
     style : (i : ℕ) (l : MapLine) → Style ≡ Line i l → ⊥
     style i l e = cc
@@ -157,11 +164,11 @@ none_in_foot = ((λ i l e. foot i l e), tt)
     foot : (i : ℕ) (l : MapLine) → Foot ≡ Line i l → ⊥
     foot i l e = cc
 
-order_picture : (m : Map) (under over : List Element) → HasNoLine under → HasNoLine over → InOrder (picture_of m under over)
-order_picture m under over h k =
-    let sheet = Head ∷ Style ∷ Paper ∷ [] in
+order_picture : (name : List ℕ) (about : Subject) (m : Map) (under over : List Element) → HasNoLine under → HasNoLine over → InOrder (picture_of name about m under over)
+order_picture name about m under over h k =
+    let sheet = sheet_of name about in
     let front = sheet ++ under in
-    let none = all_join NoLine sheet under none_in_sheet (none_of under h) in
+    let none = all_join NoLine sheet under (none_in_sheet name about) (none_of under h) in
     let lines = order_join front (line_elements m) (order_none front none) (order_elements m) (none_before front (line_elements m) none) in
     let above = order_join (front ++ line_elements m) over lines (order_none over (none_of over k)) (before_none (front ++ line_elements m) over (none_of over k)) in
     order_join (front ++ line_elements m ++ over) (Foot ∷ []) above (order_none (Foot ∷ []) none_in_foot) (before_none (front ++ line_elements m ++ over) (Foot ∷ []) none_in_foot)
@@ -230,6 +237,9 @@ entry_at es i l e = go (slice_get es i) e
 drop_none : (xs : List Element) (i : ℕ) (l : MapLine) → AllByRecursion NoLine xs → Has xs (Line i l) → ⊥
 drop_none xs i l h (k, at) = all_at NoLine xs h k (Line i l) at i l refl
 
+pub no_lines : (xs : List Element) → AllByRecursion NoLine xs → HasNoLine xs
+no_lines xs h i l has = drop_none xs i l h has
+
 in_lines : (m : Map) (i : ℕ) (l : MapLine) → Has (line_elements m) (Line i l) → line_at m i ≡ Some l
 in_lines m i l h = ⊎_elim (made false) (made true) (has_either (lines_from false 0 m.lines) (lines_from true 0 m.lines) (Line i l) h)
   where
@@ -246,14 +256,14 @@ of_lines m i l e = go l.solid refl
     go true q = has_behind (lines_from false 0 m.lines) (lines_from true 0 m.lines) (Line i l) (subst (λ (b : Bool). Has (lines_from b 0 m.lines) (Line i l)) q there)
     go false q = has_before (lines_from false 0 m.lines) (lines_from true 0 m.lines) (Line i l) (subst (λ (b : Bool). Has (lines_from b 0 m.lines) (Line i l)) q there)
 
-in_picture : (m : Map) (under over : List Element) → HasNoLine under → HasNoLine over → (i : ℕ) (l : MapLine) → Has (picture_of m under over) (Line i l) → line_at m i ≡ Some l
-in_picture m under over h k i l has =
-    let sheet = Head ∷ Style ∷ Paper ∷ [] in
+in_picture : (name : List ℕ) (about : Subject) (m : Map) (under over : List Element) → HasNoLine under → HasNoLine over → (i : ℕ) (l : MapLine) → Has (picture_of name about m under over) (Line i l) → line_at m i ≡ Some l
+in_picture name about m under over h k i l has =
+    let sheet = sheet_of name about in
     let front = sheet ++ under in
     ⊎_elim
     (λ a. ⊎_elim
     (λ b. ⊎_elim
-    (λ c. absurd (drop_none front i l (all_join NoLine sheet under none_in_sheet (none_of under h)) c))
+    (λ c. absurd (drop_none front i l (all_join NoLine sheet under (none_in_sheet name about) (none_of under h)) c))
     (in_lines m i l)
     (has_either front (line_elements m) (Line i l) b))
     (λ b. absurd (k i l b))
@@ -261,9 +271,9 @@ in_picture m under over h k i l has =
     (λ a. absurd (drop_none (Foot ∷ []) i l none_in_foot a))
     (has_either (front ++ line_elements m ++ over) (Foot ∷ []) (Line i l) has)
 
-of_picture : (m : Map) (under over : List Element) (i : ℕ) (l : MapLine) → line_at m i ≡ Some l → Has (picture_of m under over) (Line i l)
-of_picture m under over i l e =
-    let front = Head ∷ Style ∷ Paper ∷ [] ++ under in
+of_picture : (name : List ℕ) (about : Subject) (m : Map) (under over : List Element) (i : ℕ) (l : MapLine) → line_at m i ≡ Some l → Has (picture_of name about m under over) (Line i l)
+of_picture name about m under over i l e =
+    let front = sheet_of name about ++ under in
     has_before (front ++ line_elements m ++ over) (Foot ∷ []) (Line i l)
     (has_before (front ++ line_elements m) over (Line i l) (has_behind front (line_elements m) (Line i l) (of_lines m i l e)))
 
@@ -271,20 +281,20 @@ never_before_itself : (i : ℕ) (l : MapLine) → IsLineBefore i l i l → ⊥
 never_before_itself i l (inl h) = true≢false (sym h.1 ∙ h.0)
 never_before_itself i l (inr h) = let lt = h.1 in omega arith
 
-pub lines_shown : (m : Map) (under over : List Element) → HasNoLine under → HasNoLine over → ShowsLines m (picture_of m under over)
-lines_shown m under over h k = record { exactly = exactly; order = order; once = once }
+pub lines_shown : (name : List ℕ) (about : Subject) (m : Map) (under over : List Element) → HasNoLine under → HasNoLine over → ShowsLines m (picture_of name about m under over)
+lines_shown name about m under over h k = record { exactly = exactly; order = order; once = once }
   where
-    exactly : (i : ℕ) (l : MapLine) → Has (picture_of m under over) (Line i l) ↔ (line_at m i ≡ Some l)
-    exactly i l = (in_picture m under over h k i l, of_picture m under over i l)
+    exactly : (i : ℕ) (l : MapLine) → Has (picture_of name about m under over) (Line i l) ↔ (line_at m i ≡ Some l)
+    exactly i l = (in_picture name about m under over h k i l, of_picture name about m under over i l)
 
-    order : (p q i n : ℕ) (l o : MapLine) → p < q → slice_get (picture_of m under over) p ≡ Some (Line i l) → slice_get (picture_of m under over) q ≡ Some (Line n o) → IsLineBefore i l n o
-    order p q i n l o lt a b = order_at (picture_of m under over) (order_picture m under over h k) p q (Line i l) (Line n o) lt a b i n l o refl refl
+    order : (p q i n : ℕ) (l o : MapLine) → p < q → slice_get (picture_of name about m under over) p ≡ Some (Line i l) → slice_get (picture_of name about m under over) q ≡ Some (Line n o) → IsLineBefore i l n o
+    order p q i n l o lt a b = order_at (picture_of name about m under over) (order_picture name about m under over h k) p q (Line i l) (Line n o) lt a b i n l o refl refl
 
-    same : (p q i : ℕ) (l o : MapLine) → slice_get (picture_of m under over) p ≡ Some (Line i l) → slice_get (picture_of m under over) q ≡ Some (Line i o) → l ≡ o
-    same p q i l o a b = same_Some l o (sym (in_picture m under over h k i l (p, a)) ∙ in_picture m under over h k i o (q, b))
+    same : (p q i : ℕ) (l o : MapLine) → slice_get (picture_of name about m under over) p ≡ Some (Line i l) → slice_get (picture_of name about m under over) q ≡ Some (Line i o) → l ≡ o
+    same p q i l o a b = same_Some l o (sym (in_picture name about m under over h k i l (p, a)) ∙ in_picture name about m under over h k i o (q, b))
 
-    never : (p q i : ℕ) (l o : MapLine) → p < q → slice_get (picture_of m under over) p ≡ Some (Line i l) → slice_get (picture_of m under over) q ≡ Some (Line i o) → ⊥
+    never : (p q i : ℕ) (l o : MapLine) → p < q → slice_get (picture_of name about m under over) p ≡ Some (Line i l) → slice_get (picture_of name about m under over) q ≡ Some (Line i o) → ⊥
     never p q i l o lt a b = never_before_itself i l (subst (λ (x : MapLine). IsLineBefore i l i x) (sym (same p q i l o a b)) (order p q i i l o lt a b))
 
-    once : (p q i : ℕ) (l o : MapLine) → slice_get (picture_of m under over) p ≡ Some (Line i l) → slice_get (picture_of m under over) q ≡ Some (Line i o) → p ≡ q
+    once : (p q i : ℕ) (l o : MapLine) → slice_get (picture_of name about m under over) p ≡ Some (Line i l) → slice_get (picture_of name about m under over) q ≡ Some (Line i o) → p ≡ q
     once p q i l o a b = elim (below_same_or_above p q) [ inl lt ↦ absurd (never p q i l o lt a b) | inr (inl e) ↦ e | inr (inr lt) ↦ absurd (never q p i o l lt b a) ]

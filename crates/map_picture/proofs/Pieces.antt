@@ -4,7 +4,11 @@ use Rattle.std.specs.List.{AllByRecursion}
 use Rattle.std.proofs.lemmas.Option.{none-some, same_Some}
 use Rattle.math_base.proofs.Lists.{all_join, all_at}
 use Rattle.sight_names.specs.Map.{Map, MapLine}
-use Rattle.map_picture.specs.Picture.{Element, Head, Style, Paper, Line, Foot, entry_if, line_elements, line_if, lines_from, picture_of}
+use Rattle.sight_names.specs.declared.names.Triangle.{Triangle}
+use Rattle.map_picture.specs.declared.rings.Letter.{Letter}
+use Rattle.map_picture.specs.declared.sheet.Subject.{Subject}
+use Rattle.map_picture.specs.declared.rings.Letter.TheVariants as letter
+use Rattle.map_picture.specs.Picture.{Element, Head, Title, Style, Paper, Scale, Line, Ring, Foot, entry_if, largest_of, line_elements, line_if, lines_from, pair_rings, picture_of, ring_at, ring_of, sheet_of}
 use Rattle.map_picture.specs.Laws.{Has}
 
 -- ---- what holds of every line
@@ -33,6 +37,20 @@ module _ (P : Element → Type 0) (line : (i : ℕ) (l : MapLine) → P (Line i 
   pub all_lines : (m : Map) → AllByRecursion P (line_elements m)
   all_lines m = all_join P (lines_from false 0 m.lines) (lines_from true 0 m.lines) (all_in_lines false 0 m.lines) (all_in_lines true 0 m.lines)
 
+-- ---- what holds of every ring
+
+module _ (P : Element → Type 0) (ring : (which : Letter) (sector : ℕ) (t : Triangle) → P (Ring which sector t)) where
+  all_at_ring : (which : Letter) (sector : ℕ) (o : Option Triangle) → AllByRecursion P (ring_at which sector o)
+  all_at_ring which sector None = tt
+  all_at_ring which sector (Some t) = (ring which sector t, tt)
+
+  module _ (m : Map) (groups : List (List ℕ)) (ts : List Triangle) (labels : List (Option ℕ)) where
+    pub all_ring : (which : Letter) (sector : ℕ) → AllByRecursion P (ring_of m groups ts labels which sector)
+    all_ring which sector = all_at_ring which sector (largest_of m groups sector None ts labels)
+
+    pub all_rings : (a b : ℕ) → AllByRecursion P (pair_rings m groups ts labels a b)
+    all_rings a b = all_join P (ring_of m groups ts labels letter.A a) (ring_of m groups ts labels letter.B b) (all_ring letter.A a) (all_ring letter.B b)
+
 -- ---- places
 
 pub still_there : (xs ys : List Element) (p : ℕ) (e : Element) → slice_get xs p ≡ Some e → slice_get (xs ++ ys) p ≡ Some e
@@ -47,14 +65,14 @@ pub has_behind : (xs ys : List Element) (e : Element) → Has ys e → Has (xs +
 has_behind [] ys e h = h
 has_behind (x ∷ xs) ys e h = let r = has_behind xs ys e h in (suc r.0, r.1)
 
-pub has_under : (m : Map) (under over : List Element) (e : Element) → Has under e → Has (picture_of m under over) e
-has_under m under over e h =
-    let sheet = Head ∷ Style ∷ Paper ∷ [] in
+pub has_under : (name : List ℕ) (about : Subject) (m : Map) (under over : List Element) (e : Element) → Has under e → Has (picture_of name about m under over) e
+has_under name about m under over e h =
+    let sheet = sheet_of name about in
     has_before (sheet ++ under ++ line_elements m ++ over) (Foot ∷ []) e (has_before (sheet ++ under ++ line_elements m) over e (has_before (sheet ++ under) (line_elements m) e (has_behind sheet under e h)))
 
-pub has_over : (m : Map) (under over : List Element) (e : Element) → Has over e → Has (picture_of m under over) e
-has_over m under over e h =
-    let sheet = Head ∷ Style ∷ Paper ∷ [] in
+pub has_over : (name : List ℕ) (about : Subject) (m : Map) (under over : List Element) (e : Element) → Has over e → Has (picture_of name about m under over) e
+has_over name about m under over e h =
+    let sheet = sheet_of name about in
     has_before (sheet ++ under ++ line_elements m ++ over) (Foot ∷ []) e (has_behind (sheet ++ under ++ line_elements m) over e h)
 
 -- ---- elements with a property
@@ -82,6 +100,10 @@ module _ (P : Element → Type 0) where
   once_alone e zero (suc j) f g at there so too = absurd (none-some g there)
   once_alone e (suc i) j f g at there so too = absurd (none-some f at)
 
+  -- none of them
+  pub once_none : (xs : List Element) → AllByRecursion NotSo xs → AtMostOne xs
+  once_none xs h i j e f at there so too = absurd (all_at NotSo xs h i e at so)
+
   pub once_before : (xs ys : List Element) → AtMostOne xs → AllByRecursion NotSo ys → AtMostOne (xs ++ ys)
   once_before xs ys once h i j e f at there so too = once i j e f (in_front xs ys i e h so at) (in_front xs ys j f h too there) so too
 
@@ -93,28 +115,28 @@ module _ (P : Element → Type 0) where
       let first = r.1 in let second = s.1 in
       omega (arith, same, first, second)
 
-  module _ (m : Map) (head : NotSo Head) (style : NotSo Style) (paper : NotSo Paper) (foot : NotSo Foot) (line : (i : ℕ) (l : MapLine) → NotSo (Line i l)) where
-    not_sheet : AllByRecursion NotSo (Head ∷ Style ∷ Paper ∷ [])
-    not_sheet = (head, (style, (paper, tt)))
+  module _ (name : List ℕ) (about : Subject) (m : Map) (head : NotSo Head) (title : (n : List ℕ) (s : Subject) → NotSo (Title n s)) (style : NotSo Style) (paper : NotSo Paper) (scale : NotSo Scale) (foot : NotSo Foot) (line : (i : ℕ) (l : MapLine) → NotSo (Line i l)) where
+    not_sheet : AllByRecursion NotSo (sheet_of name about)
+    not_sheet = (head, (title name about, (style, (paper, (scale, tt)))))
 
-    pub at_under : (under over : List Element) → AllByRecursion NotSo over → (p : ℕ) (e : Element) → P e → slice_get (picture_of m under over) p ≡ Some e → (q : ℕ) × (p ≡ 3 + q) × (slice_get under q ≡ Some e)
+    pub at_under : (under over : List Element) → AllByRecursion NotSo over → (p : ℕ) (e : Element) → P e → slice_get (picture_of name about m under over) p ≡ Some e → (q : ℕ) × (p ≡ 5 + q) × (slice_get under q ≡ Some e)
     at_under under over h p e so at =
-        let sheet = Head ∷ Style ∷ Paper ∷ [] in
+        let sheet = sheet_of name about in
         let no_foot = in_front (sheet ++ under ++ line_elements m ++ over) (Foot ∷ []) p e (foot, tt) so at in
         let no_over = in_front (sheet ++ under ++ line_elements m) over p e h so no_foot in
         behind sheet under p e not_sheet so (in_front (sheet ++ under) (line_elements m) p e (all_lines NotSo line m) so no_over)
 
-    pub once_under : (under over : List Element) → AtMostOne under → AllByRecursion NotSo over → AtMostOne (picture_of m under over)
+    pub once_under : (under over : List Element) → AtMostOne under → AllByRecursion NotSo over → AtMostOne (picture_of name about m under over)
     once_under under over once h =
-        let sheet = Head ∷ Style ∷ Paper ∷ [] in
+        let sheet = sheet_of name about in
         once_before (sheet ++ under ++ line_elements m ++ over) (Foot ∷ [])
         (once_before (sheet ++ under ++ line_elements m) over
         (once_before (sheet ++ under) (line_elements m) (once_behind sheet under not_sheet once) (all_lines NotSo line m)) h)
         (foot, tt)
 
-    pub once_over : (under over : List Element) → AllByRecursion NotSo under → AtMostOne over → AtMostOne (picture_of m under over)
+    pub once_over : (under over : List Element) → AllByRecursion NotSo under → AtMostOne over → AtMostOne (picture_of name about m under over)
     once_over under over h once =
-        let sheet = Head ∷ Style ∷ Paper ∷ [] in
+        let sheet = sheet_of name about in
         once_before (sheet ++ under ++ line_elements m ++ over) (Foot ∷ [])
         (once_behind (sheet ++ under ++ line_elements m) over
         (all_join NotSo (sheet ++ under) (line_elements m) (all_join NotSo sheet under not_sheet h) (all_lines NotSo line m)) once)

@@ -1,5 +1,5 @@
 -- Where a ray is drawn: its two spots are the exact crossings, cut down.
-use Rattle.std.proofs.Common.{◌≡◌, ◌∙◌, ℕ, zero, ◌+◌, ◌*◌, ◌/◌, ◌<◌, ◌≤◌, inl, inr, List, [], ◌∷◌, Option, Some, Bool, true, false, not, map, ℤ, pos, negsuc, ◌+ℤ◌, ◌-ℤ◌, ◌*ℤ◌, neg_ℤ, ◌≤ℤ◌, ◌<ℤ◌, refl, sym, subst, arith}
+use Rattle.std.proofs.Common.{◌≡◌, ◌∙◌, ℕ, zero, ◌+◌, ◌*◌, ◌/◌, ◌<◌, ◌≤◌, inl, inr, List, [], ◌∷◌, ◌++◌, Option, Some, Bool, true, false, not, map, ℤ, pos, negsuc, ◌+ℤ◌, ◌-ℤ◌, ◌*ℤ◌, neg_ℤ, ◌≤ℤ◌, ◌<ℤ◌, refl, sym, subst, arith}
 use Rattle.std.specs.Int.RustNames.{unsigned_abs}
 use Rattle.std.proofs.lemmas.Int.{ints}
 use Rattle.std.proofs.Math.Nat.{div-mul-le_self, lt-div-mul-add}
@@ -18,12 +18,13 @@ use Rattle.geom_exact.specs.Formulas.{AreOnTwoSides, side_value}
 use Rattle.geom_exact.proofs.SegmentLemmas.{IsWeighted, on}
 use Rattle.map_picture.specs.Frame.{across, down, frame_of}
 use Rattle.map_picture.specs.Crossings.{IsCutDown, IsSpotOf, crossing_spot}
-use Rattle.map_picture.specs.Picture.{Sight, pair_faces, pair_tint, sight_between, sight_elements, sight_picture}
+use Rattle.map_picture.specs.declared.sheet.Subject.TheVariants as subject
+use Rattle.map_picture.specs.Picture.{Sight, pair_faces, pair_rings, pair_tint, sight_between, sight_elements, sight_picture}
 use Rattle.map_picture.specs.Laws.{Has, ShowsRay}
-use Rattle.map_picture.proofs.Extras.{sight_words}
+use Rattle.map_picture.proofs.Extras.{rings_words, sight_words}
 use Rattle.map_picture.proofs.Framed.{read_back}
 use Rattle.map_picture.proofs.MapEnds.{has_ends}
-use Rattle.map_picture.proofs.Pieces.{has_over}
+use Rattle.map_picture.proofs.Pieces.{has_before, has_over}
 
 -- ---- a quotient cut down
 
@@ -158,14 +159,14 @@ module _ (m : Map) (r : Ray) where
       subst (λ (x : Option MapLine). Has (sight_between r x p) (Sight r first last)) (sym is)
       (subst (λ (x : Option MapLine). Has (sight_between r (Some first) x) (Sight r first last)) (sym is_too) (zero, refl))
 
-pub ray_drawn : (m : Map) (groups : List (List ℕ)) (ts : List Triangle) (labels : List (Option ℕ)) (a b f k : ℕ) (r : Ray) → IsSightRay m r f k → ShowsRay m r (sight_picture m groups ts labels a b r)
-ray_drawn m groups ts labels a b f k r s = record {
+pub ray_drawn : (name : List ℕ) (m : Map) (groups : List (List ℕ)) (ts : List Triangle) (labels : List (Option ℕ)) (a b f k : ℕ) (r : Ray) → IsSightRay m r f k → ShowsRay m r (sight_picture name m groups ts labels a b r)
+ray_drawn name m groups ts labels a b f k r s = record {
   first = s.first;
   last = s.last;
   is_first = s.is_first;
   is_last = s.is_last;
-  has = has_over m (pair_faces groups ts labels a b) (sight_elements m r) (Sight r s.first s.last) (has_sight m r (line_at m r.first.line) (line_at m r.last.line) s.first s.last s.is_first s.is_last);
-  once = λ i j p q k l n o at there. (sight_words m ts labels (map (pair_tint a b) groups) groups r).ray_once i j (Sight p k l) (Sight q n o) at there refl refl;
+  has = has_over name (subject.Pair a b) m (pair_faces groups ts labels a b) (sight_elements m r ++ pair_rings m groups ts labels a b) (Sight r s.first s.last) (has_before (sight_elements m r) (pair_rings m groups ts labels a b) (Sight r s.first s.last) (has_sight m r (line_at m r.first.line) (line_at m r.last.line) s.first s.last s.is_first s.is_last));
+  once = λ i j p q k l n o at there. (sight_words name (subject.Pair a b) m ts labels (map (pair_tint a b) groups) groups (pair_rings m groups ts labels a b) (rings_words m groups ts labels a b) r).ray_once i j (Sight p k l) (Sight q n o) at there refl refl;
   start = λ z c. spot_of m r r.first.line s.first s.is_first (two_sides m r s.first (not r.first.left) s.leaves) z c;
   stop = λ z c. spot_of m r r.last.line s.last s.is_last (two_sides m r s.last r.last.left s.arrives) z c;
 }

@@ -1,8 +1,8 @@
--- The bytes of a picture: SVG, one element a line. A picture has no texts to be set in a font, but each face and each line
--- has a title, which a browser shows under the pointer.
-use Rattle.std.specs.Prelude.{ℕ, ◌*◌, ◌/◌, ◌%◌, List, [], ◌++◌, Option, Some, None, Bool, true, false, ℤ, codes}
+-- The bytes of a picture: SVG, one element a line. The whole, each face and each line have a title, which a browser shows under the
+-- pointer; what has none lets the pointer through.
+use Rattle.std.specs.Prelude.{ℕ, ◌+◌, ◌*◌, ◌/◌, ◌%◌, ◌==◌, List, [], ◌∷◌, ◌++◌, Option, Some, None, Bool, true, false, ℤ, codes, if◌then◌else◌}
 use Rattle.std.specs.Fmt.{decimal, signed_decimal}
-use Rattle.std.specs.List.{flat_map}
+use Rattle.std.specs.List.{flat_map, range_with_len}
 use Rattle.sight_names.specs.declared.names.Pt.{Pt}
 use Rattle.sight_names.specs.declared.names.Ray.{Ray}
 use Rattle.sight_names.specs.declared.names.Side.{Side}
@@ -13,11 +13,15 @@ use Rattle.map_picture.specs.declared.frame.Frame.{Frame}
 use Rattle.map_picture.specs.declared.frame.Sizes.{Sizes}
 use Rattle.map_picture.specs.declared.crossings.Spot.{Spot}
 use Rattle.map_picture.specs.declared.pair.Stop.{Stop}
+use Rattle.map_picture.specs.declared.rings.Letter.{Letter}
+use Rattle.map_picture.specs.declared.rings.Letter.TheVariants as letter
+use Rattle.map_picture.specs.declared.sheet.Subject.{Subject}
+use Rattle.map_picture.specs.declared.sheet.Subject.TheVariants as subject
 use Rattle.map_picture.specs.declared.tint.Tint.{Tint}
 use Rattle.map_picture.specs.declared.tint.Tint.TheVariants as tint
 use Rattle.map_picture.specs.Frame.{across, down, frame_of, sizes_of}
 use Rattle.map_picture.specs.Crossings.{crossing_spot}
-use Rattle.map_picture.specs.Picture.{Element, Head, Style, Paper, Face, Line, Entered, Stops, Sight, Marked, Foot}
+use Rattle.map_picture.specs.Picture.{Element, Head, Title, Style, Paper, Scale, Face, Line, Entered, Stops, Sight, Marked, Ring, Legend, Foot, heat_of}
 
 -- a text, and a number behind it
 unfoldable pub count_text : List ℕ → ℕ → List ℕ
@@ -32,17 +36,64 @@ size_text s = count_text (codes " ") s.wide ++ count_text (codes " ") s.high ++ 
 unfoldable pub head_text : Sizes → List ℕ
 head_text s = count_text (codes "<svg xmlns=\"http://www.w3.org/2000/svg\" viewBox=\"-") s.margin ++ count_text (codes " -") s.margin ++ size_text s ++ codes "\">\n"
 
--- Walls are twice as thick as passable lines. The colours of faces differ in their grey values too.
-unfoldable pub style_text : ℕ → List ℕ
-style_text stroke = count_text (codes "<style>.w,.p,.k,.r{fill:none;stroke-linecap:round}.w{stroke:#000;stroke-width:") (2 * stroke)
-    ++ count_text (codes "}.p{stroke:#9a9a9a;stroke-width:") stroke
-    ++ count_text (codes "}.k{stroke:#d62728;stroke-width:") (4 * stroke)
-    ++ count_text (codes "}.r{stroke:#d62728;stroke-width:") (3 * stroke)
-    ++ codes "}.a{fill:#1f77b4}.b{fill:#ff7f0e}.c{fill:#9ecae1}.s{fill:#f2f2f2}.l{fill:#ffdd71}.f{fill:#c7e9c0}</style>\n"
+-- a character of a text, where two have a meaning of their own
+abbrev pub escaped_char : ℕ → List ℕ
+escaped_char c = if c == 38 then codes "&amp;" else if c == 60 then codes "&lt;" else c ∷ []
+
+abbrev pub escaped : List ℕ → List ℕ
+escaped text = flat_map escaped_char text
+
+-- what a picture tells of its map
+abbrev pub subject_text : Subject → List ℕ
+subject_text subject.Plan = []
+subject_text subject.Faults = codes " faults"
+subject_text (subject.Row a) = count_text (codes " row ") a
+subject_text (subject.Pair a b) = count_text (codes " pair ") a ++ count_text (codes " ") b
+subject_text subject.Heat = codes " heat"
+
+unfoldable pub title_text : List ℕ → Subject → List ℕ
+title_text name about = codes "<title>" ++ escaped name ++ subject_text about ++ codes "</title>\n"
+
+-- The colours of faces differ in their grey values too, and the triangles that sight enters have edges of their own. What has no
+-- title lets the pointer through.
+abbrev pub light_text : List ℕ
+light_text = codes "<style>path,circle{fill:none;stroke-linecap:round}.w,.u,.o{stroke:#000}.p{stroke:#9a9a9a}.k,.r{stroke:#d62728}.i{stroke:#fff}.a{fill:#1f77b4}.b{fill:#ff7f0e}.c{fill:#9ecae1}.s{fill:#e4e4e4}.f{fill:#a1d99b;stroke:#41ab5d}.k,.f,.u,.n{pointer-events:none}"
+
+-- how thick strokes are, in map units, and where that is known in pixels at any size of the picture
+unfoldable pub units_text : ℕ → List ℕ
+units_text stroke = count_text (codes "path,circle{stroke-width:") stroke ++ count_text (codes "}.w,.o{stroke-width:") (2 * stroke) ++ count_text (codes "}.r,.u{stroke-width:") (3 * stroke)
+    ++ count_text (codes "}.k{stroke-width:") (4 * stroke) ++ count_text (codes "}.i{stroke-width:") (6 * stroke)
+
+abbrev pub pixels_text : List ℕ
+pixels_text = codes "}@supports(vector-effect:non-scaling-stroke){path,circle{vector-effect:non-scaling-stroke;stroke-width:1}.f{stroke-width:.5}.w,.o{stroke-width:2}.r,.u{stroke-width:3}.k{stroke-width:4}.i{stroke-width:6}}"
+
+-- the eight shades
+abbrev pub shades_text : List ℕ
+shades_text = codes ".h0{fill:#ffffcc}.h1{fill:#ffeda0}.h2{fill:#fed976}.h3{fill:#feb24c}.h4{fill:#fd8d3c}.h5{fill:#fc4e2a}.h6{fill:#e31a1c}.h7{fill:#b10026}"
+
+-- on a dark page
+abbrev pub dark_text : List ℕ
+dark_text = codes "@media(prefers-color-scheme:dark){.paper{fill:#181818}.w,.u,.o{stroke:#f2f2f2}.p{stroke:#8a8a8a}.k,.r{stroke:#ff6b6b}.a{fill:#4da3e8}.b{fill:#ff9a3c}.c{fill:#2c4f6e}.s{fill:#383838}.f{fill:#24592b;stroke:#74c476}.i{stroke:#181818}text{fill:#f2f2f2;stroke:#181818}.h0{fill:#2a1636}.h1{fill:#451a4a}.h2{fill:#65205a}.h3{fill:#872a5c}.h4{fill:#aa3655}.h5{fill:#cc4a49}.h6{fill:#e76a3c}.h7{fill:#f99a3e}}"
+
+-- how large a text is, and how wide what sets it off
+unfoldable pub letters_text : ℕ → List ℕ
+letters_text margin = count_text (codes "text{font:bold ") margin ++ count_text (codes "px sans-serif;fill:#000;stroke:#fff;paint-order:stroke;stroke-width:") (margin / 4) ++ codes "}"
+
+unfoldable pub style_text : Sizes → List ℕ
+style_text s = light_text ++ units_text s.stroke ++ pixels_text ++ shades_text ++ letters_text s.margin ++ dark_text ++ codes "</style>\n"
 
 unfoldable pub paper_text : Sizes → List ℕ
 paper_text s = count_text (codes "<rect class=\"paper\" fill=\"#fff\" x=\"-") s.margin ++ count_text (codes "\" y=\"-") s.margin
     ++ count_text (codes "\" width=\"") s.wide ++ count_text (codes "\" height=\"") s.high ++ codes "\"/>\n"
+
+-- a text at a place of the picture, moved by some of its own size
+unfoldable pub written_text : List ℕ → ℕ → ℕ → List ℕ → List ℕ
+written_text word x y moved = word ++ count_text (codes "<text x=\"") x ++ count_text (codes "\" y=\"") y ++ moved
+
+-- a bar from below the map's left edge, and behind it how long it is
+unfoldable pub scale_text : Sizes → List ℕ
+scale_text s = count_text (codes "<path class=\"u\" d=\"M0 ") s.strip ++ count_text (codes "H") s.scale
+    ++ written_text (codes "\"/>") s.scale s.strip (codes "\" dx=\".6em\" dy=\".36em\" class=\"n\">") ++ count_text [] s.scale ++ codes "</text>\n"
 
 -- ---- points and ids
 
@@ -81,6 +132,16 @@ tint_class tint.Clear = codes "c"
 tint_class tint.Set = codes "s"
 tint_class tint.Target = codes "b"
 tint_class tint.Other = codes "s"
+tint_class (tint.Heat count most) = count_text (codes "h") (heat_of count most)
+
+-- the count, where that is told
+abbrev pub tint_words : Tint → List ℕ
+tint_words (tint.Heat count most) = count_text (codes " sees ") count
+tint_words tint.Source = []
+tint_words tint.Clear = []
+tint_words tint.Set = []
+tint_words tint.Target = []
+tint_words tint.Other = []
 
 unfoldable pub triangle_text : Frame → Map → Triangle → List ℕ
 triangle_text f m t = step_text f (codes "M") (place m t.p) ++ step_text f (codes "L") (place m t.q) ++ step_text f (codes "L") (place m t.r) ++ codes "z"
@@ -92,11 +153,11 @@ abbrev pub names_text : List ℕ → List ℕ
 names_text names = flat_map (count_text (codes " ")) names
 
 -- the sectors of a face as its title, which ends the path
-unfoldable pub face_title : List ℕ → List ℕ
-face_title names = codes "\"><title>sector" ++ names_text names ++ codes "</title></path>\n"
+unfoldable pub face_title : Tint → List ℕ → List ℕ
+face_title t names = codes "\"><title>sector" ++ names_text names ++ tint_words t ++ codes "</title></path>\n"
 
 unfoldable pub face_text : Frame → Map → Tint → ℕ → List ℕ → List Triangle → List ℕ
-face_text f m t g names ts = path_text (tint_class t) (face_id g) ++ triangles_text f m ts ++ face_title names
+face_text f m t g names ts = path_text (tint_class t) (face_id g) ++ triangles_text f m ts ++ face_title t names
 
 -- ---- the lines
 
@@ -185,18 +246,71 @@ mark_texts f m marks = flat_map (mark_text f m) marks
 unfoldable pub marked_text : Frame → Map → List ℕ → List ℕ
 marked_text f m marks = path_text (codes "k") (codes "fault") ++ mark_texts f m marks ++ codes "\"/>\n"
 
+-- ---- rings
+
+abbrev pub letter_text : Letter → List ℕ
+letter_text letter.A = codes "A"
+letter_text letter.B = codes "B"
+
+-- the middle of a triangle, cut down
+abbrev pub middle_of : ℕ → ℕ → ℕ → ℕ
+middle_of p q r = (p + q + r) / 3
+
+abbrev pub middle_across : Frame → Map → Triangle → ℕ
+middle_across f m t = middle_of (across f (place m t.p)) (across f (place m t.q)) (across f (place m t.r))
+
+abbrev pub middle_down : Frame → Map → Triangle → ℕ
+middle_down f m t = middle_of (down f (place m t.p)) (down f (place m t.q)) (down f (place m t.r))
+
+unfoldable pub circle_text : List ℕ → ℕ → ℕ → ℕ → List ℕ
+circle_text class_name x y radius = class_name ++ count_text (codes "\" cx=\"") x ++ count_text (codes "\" cy=\"") y ++ count_text (codes "\" r=\"") radius
+
+-- two circles, of which the wider one sets off the other, and the letter beside them
+unfoldable pub ring_shape : List ℕ → ℕ → ℕ → ℕ → List ℕ
+ring_shape word x y margin = circle_text (codes "<circle class=\"i") x y margin ++ circle_text (codes "\"/><circle class=\"o") x y margin
+    ++ written_text (codes "\"/>") x y (codes "\" dx=\"1em\" dy=\"-.5em\">") ++ word ++ codes "</text></g>\n"
+
+-- the letter and the sector as a title
+unfoldable pub ring_title : List ℕ → ℕ → List ℕ
+ring_title word sector = codes "<g><title>" ++ word ++ count_text (codes ": sector ") sector ++ codes "</title>"
+
+abbrev pub ring_text : Frame → Map → Letter → ℕ → Triangle → List ℕ
+ring_text f m which sector t = ring_title (letter_text which) sector ++ ring_shape (letter_text which) (middle_across f m t) (middle_down f m t) (sizes_of f).margin
+
+-- ---- the legend of shades
+
+-- the least count that may have the shade
+abbrev pub least_of : ℕ → ℕ → ℕ
+least_of most shade = (shade * (most + 1) + 7) / 8
+
+-- a rectangle of the shade in the lower strip, and the least count that has it
+unfoldable pub swatch_shown : Sizes → ℕ → ℕ → List ℕ
+swatch_shown s shade count = count_text (codes "<rect class=\"h") shade ++ count_text (codes "\" x=\"") (s.wide / 2 + s.wide / 20 * shade) ++ count_text (codes "\" y=\"") s.strip
+    ++ count_text (codes "\" width=\"") (s.wide / 20) ++ count_text (codes "\" height=\"") s.margin ++ written_text (codes "\"/>") (s.wide / 2 + s.wide / 20 * shade) s.strip (codes "\" dy=\"-.2em\">") ++ count_text [] count ++ codes "</text>"
+
+-- .. if some count has it
+abbrev pub swatch_text : Sizes → ℕ → ℕ → List ℕ
+swatch_text s most shade = if heat_of (least_of most shade) most == shade then swatch_shown s shade (least_of most shade) else []
+
+unfoldable pub legend_text : Sizes → ℕ → List ℕ
+legend_text s most = codes "<g class=\"n\">" ++ flat_map (swatch_text s most) (range_with_len 0 8) ++ codes "</g>\n"
+
 -- ---- the whole
 
 abbrev pub bytes_of : Frame → Map → Element → List ℕ
 bytes_of f m Head = head_text (sizes_of f)
-bytes_of f m Style = style_text (sizes_of f).stroke
+bytes_of f m (Title name about) = title_text name about
+bytes_of f m Style = style_text (sizes_of f)
 bytes_of f m Paper = paper_text (sizes_of f)
+bytes_of f m Scale = scale_text (sizes_of f)
 bytes_of f m (Face t g names ts) = face_text f m t g names ts
 bytes_of f m (Line i l) = line_text f i l
 bytes_of f m (Entered sector us) = entered_text f m sector us
 bytes_of f m (Stops ss) = stops_text f m ss
 bytes_of f m (Sight r first last) = sight_text f r first last
 bytes_of f m (Marked marks) = marked_text f m marks
+bytes_of f m (Ring which sector t) = ring_text f m which sector t
+bytes_of f m (Legend most) = legend_text (sizes_of f) most
 bytes_of f m Foot = codes "</svg>\n"
 
 abbrev pub spelled : Frame → Map → List Element → List ℕ

@@ -1,5 +1,5 @@
 -- What a picture shows: its lines are those of the map, its faces those of the groups, and their tints the table's row.
-use Rattle.std.specs.Prelude.{◌≡◌, ◌≢◌, ℕ, ◌^◌, ◌<◌, ◌≤◌, ◌⊎◌, ◌↔◌, List, [], Option, Some, true, false, All, Contains, length, slice_get, pos, ◌+ℤ◌, ◌-ℤ◌}
+use Rattle.std.specs.Prelude.{◌≡◌, ◌≢◌, ℕ, ◌^◌, ◌<◌, ◌≤◌, ◌⊎◌, ◌↔◌, List, [], Option, Some, true, false, All, Contains, length, map, slice_get, slice_index_or, pos, ◌+ℤ◌, ◌-ℤ◌}
 use Rattle.sight_names.specs.declared.names.Pt.{Pt}
 use Rattle.sight_names.specs.declared.names.Ray.{Ray}
 use Rattle.sight_names.specs.declared.names.Triangle.{Triangle}
@@ -12,12 +12,14 @@ use Rattle.sight_names.specs.Ray.{IsCrossing, IsSightRay}
 use Rattle.reject_bits.specs.Parts.{Rejects, TableParts}
 use Rattle.map_picture.specs.declared.frame.Frame.{Frame}
 use Rattle.map_picture.specs.declared.pair.Stop.{Stop}
+use Rattle.map_picture.specs.declared.rings.Letter.{Letter}
+use Rattle.map_picture.specs.declared.sheet.Subject.{Subject}
 use Rattle.map_picture.specs.declared.tint.Tint.{Tint}
 use Rattle.map_picture.specs.declared.tint.Tint.TheVariants as tint
 use Rattle.map_picture.specs.Bytes.{id_of}
 use Rattle.map_picture.specs.Crossings.{IsSpotOf, crossing_spot}
 use Rattle.map_picture.specs.Frame.{across, down, frame_of, height_of, width_of}
-use Rattle.map_picture.specs.Picture.{Element, Face, Line, Entered, Stops, Sight, Marked, blind_picture, marked_picture, pair_picture, picture_of, plan_picture, row_picture, sight_picture}
+use Rattle.map_picture.specs.Picture.{Element, Face, Line, Entered, Stops, Sight, Marked, Ring, blind_picture, heat_picture, marked_picture, most_of, pair_picture, picture_of, plan_picture, ring_of, row_picture, sight_picture}
 
 -- the picture has this element
 abbrev pub Has : List Element → Element → Type 0
@@ -41,7 +43,7 @@ pub record ShowsLines (m : Map) (picture : List Element) : Type 0 where
 
 -- every picture of a map shows its lines, whatever further elements it has, if none of these is a line
 abbrev pub LinesAreShown : Type 0
-LinesAreShown = (m : Map) (under over : List Element) → HasNoLine under → HasNoLine over → ShowsLines m (picture_of m under over)
+LinesAreShown = (name : List ℕ) (about : Subject) (m : Map) (under over : List Element) → HasNoLine under → HasNoLine over → ShowsLines m (picture_of name about m under over)
 
 -- ---- the row
 
@@ -52,6 +54,7 @@ TellsRow t a names tint.Set = ¬ Contains names a × ((b : ℕ) → Contains nam
 TellsRow t a names tint.Clear = ¬ Contains names a × ((b : ℕ) × Contains names b × ¬ Rejects t a b)
 TellsRow t a names tint.Target = ⊥
 TellsRow t a names tint.Other = ⊥
+TellsRow t a names (tint.Heat count most) = ⊥
 
 -- each face of the picture is a group's, with its names, and its tint tells what the group is
 pub record ShowsFaces (groups : List (List ℕ)) (ts : List Triangle) (labels : List (Option ℕ)) (Tells : List ℕ → Tint → Type 0) (picture : List Element) : Type 0 where
@@ -67,7 +70,27 @@ pub record ShowsFaces (groups : List (List ℕ)) (ts : List Triangle) (labels : 
 
 -- a row's faces tell what the table has
 abbrev pub RowIsShown : Type 0
-RowIsShown = (m : Map) (groups : List (List ℕ)) (ts : List Triangle) (labels : List (Option ℕ)) (t : TableParts) (a : ℕ) → ShowsFaces groups ts labels (TellsRow t a) (row_picture m groups ts labels t a)
+RowIsShown = (name : List ℕ) (m : Map) (groups : List (List ℕ)) (ts : List Triangle) (labels : List (Option ℕ)) (t : TableParts) (a : ℕ) → ShowsFaces groups ts labels (TellsRow t a) (row_picture name m groups ts labels t a)
+
+-- ---- the plan
+
+-- a plan tells nothing of a group but its names
+abbrev pub TellsNothing : List ℕ → Tint → Type 0
+TellsNothing names t = t ≡ tint.Other
+
+abbrev pub PlanFacesAreShown : Type 0
+PlanFacesAreShown = (name : List ℕ) (m : Map) (groups : List (List ℕ)) (ts : List Triangle) (labels : List (Option ℕ)) → ShowsFaces groups ts labels TellsNothing (plan_picture name m groups ts labels)
+
+-- ---- how much is seen
+
+-- a group's tint is that of its count, and this is the greatest one
+abbrev pub TellsHeat : (List ℕ → ℕ) → ℕ → List ℕ → Tint → Type 0
+TellsHeat count most names t = t ≡ tint.Heat (count names) most
+
+-- where each group has a count its face has that one's shade, out of those up to the greatest
+abbrev pub HeatIsShown : Type 0
+HeatIsShown = (name : List ℕ) (m : Map) (groups : List (List ℕ)) (ts : List Triangle) (labels : List (Option ℕ)) (count : List ℕ → ℕ)
+    → ShowsFaces groups ts labels (TellsHeat count (most_of (map count groups))) (heat_picture name m groups ts labels (map count groups))
 
 -- ---- a pair
 
@@ -78,16 +101,17 @@ TellsPair a b names tint.Target = ¬ Contains names a × Contains names b
 TellsPair a b names tint.Other = ¬ Contains names a × ¬ Contains names b
 TellsPair a b names tint.Set = ⊥
 TellsPair a b names tint.Clear = ⊥
+TellsPair a b names (tint.Heat count most) = ⊥
 
 -- a pair's faces tell which of the two sectors a group names
 abbrev pub SightFacesAreShown : Type 0
-SightFacesAreShown = (m : Map) (groups : List (List ℕ)) (ts : List Triangle) (labels : List (Option ℕ)) (a b : ℕ) (r : Ray) → ShowsFaces groups ts labels (TellsPair a b) (sight_picture m groups ts labels a b r)
+SightFacesAreShown = (name : List ℕ) (m : Map) (groups : List (List ℕ)) (ts : List Triangle) (labels : List (Option ℕ)) (a b : ℕ) (r : Ray) → ShowsFaces groups ts labels (TellsPair a b) (sight_picture name m groups ts labels a b r)
 
 abbrev pub PairFacesAreShown : Type 0
-PairFacesAreShown = (m : Map) (groups : List (List ℕ)) (ts : List Triangle) (labels : List (Option ℕ)) (a b : ℕ) → ShowsFaces groups ts labels (TellsPair a b) (pair_picture m groups ts labels a b)
+PairFacesAreShown = (name : List ℕ) (m : Map) (groups : List (List ℕ)) (ts : List Triangle) (labels : List (Option ℕ)) (a b : ℕ) → ShowsFaces groups ts labels (TellsPair a b) (pair_picture name m groups ts labels a b)
 
 abbrev pub BlindFacesAreShown : Type 0
-BlindFacesAreShown = (m : Map) (groups : List (List ℕ)) (ts : List Triangle) (labels : List (Option ℕ)) (a b sector : ℕ) (entered : List ℕ) (stops : List Stop) → ShowsFaces groups ts labels (TellsPair a b) (blind_picture m groups ts labels a b sector entered stops)
+BlindFacesAreShown = (name : List ℕ) (m : Map) (groups : List (List ℕ)) (ts : List Triangle) (labels : List (Option ℕ)) (a b sector : ℕ) (entered : List ℕ) (stops : List Stop) → ShowsFaces groups ts labels (TellsPair a b) (blind_picture name m groups ts labels a b sector entered stops)
 
 -- the ray is there once, from its first side's line to its last side's, and its two spots are where it crosses them
 pub record ShowsRay (m : Map) (r : Ray) (picture : List Element) : Type 0 where
@@ -101,7 +125,7 @@ pub record ShowsRay (m : Map) (r : Ray) (picture : List Element) : Type 0 where
   pub stop : (z : Point) → IsCrossing r last z → IsSpotOf (frame_of (points_of m)) z (crossing_spot (frame_of (points_of m)) r last.first last.second)
 
 abbrev pub RayIsDrawn : Type 0
-RayIsDrawn = (m : Map) (groups : List (List ℕ)) (ts : List Triangle) (labels : List (Option ℕ)) (a b f k : ℕ) (r : Ray) → IsSightRay m r f k → ShowsRay m r (sight_picture m groups ts labels a b r)
+RayIsDrawn = (name : List ℕ) (m : Map) (groups : List (List ℕ)) (ts : List Triangle) (labels : List (Option ℕ)) (a b f k : ℕ) (r : Ray) → IsSightRay m r f k → ShowsRay m r (sight_picture name m groups ts labels a b r)
 
 -- exactly the triangles with these numbers are there as entered out of the sector, in one element
 pub record ShowsEntered (ts : List Triangle) (sector : ℕ) (entered : List ℕ) (picture : List Element) : Type 0 where
@@ -118,10 +142,10 @@ pub record ShowsStops (stops : List Stop) (picture : List Element) : Type 0 wher
   pub once : (i j : ℕ) (ss us : List Stop) → slice_get picture i ≡ Some (Stops ss) → slice_get picture j ≡ Some (Stops us) → i ≡ j
 
 abbrev pub EnteredIsShown : Type 0
-EnteredIsShown = (m : Map) (groups : List (List ℕ)) (ts : List Triangle) (labels : List (Option ℕ)) (a b sector : ℕ) (entered : List ℕ) (stops : List Stop) → All (λ k. k < length ts) entered → ShowsEntered ts sector entered (blind_picture m groups ts labels a b sector entered stops)
+EnteredIsShown = (name : List ℕ) (m : Map) (groups : List (List ℕ)) (ts : List Triangle) (labels : List (Option ℕ)) (a b sector : ℕ) (entered : List ℕ) (stops : List Stop) → All (λ k. k < length ts) entered → ShowsEntered ts sector entered (blind_picture name m groups ts labels a b sector entered stops)
 
 abbrev pub StopsAreShown : Type 0
-StopsAreShown = (m : Map) (groups : List (List ℕ)) (ts : List Triangle) (labels : List (Option ℕ)) (a b sector : ℕ) (entered : List ℕ) (stops : List Stop) → ShowsStops stops (blind_picture m groups ts labels a b sector entered stops)
+StopsAreShown = (name : List ℕ) (m : Map) (groups : List (List ℕ)) (ts : List Triangle) (labels : List (Option ℕ)) (a b sector : ℕ) (entered : List ℕ) (stops : List Stop) → ShowsStops stops (blind_picture name m groups ts labels a b sector entered stops)
 
 -- ---- marks
 
@@ -131,7 +155,21 @@ pub record ShowsMarks (marks : List ℕ) (picture : List Element) : Type 0 where
   pub once : (i j : ℕ) (ms ns : List ℕ) → slice_get picture i ≡ Some (Marked ms) → slice_get picture j ≡ Some (Marked ns) → i ≡ j
 
 abbrev pub MarksAreShown : Type 0
-MarksAreShown = (m : Map) (marks : List ℕ) → ShowsMarks marks (marked_picture m marks)
+MarksAreShown = (name : List ℕ) (m : Map) (marks : List ℕ) → ShowsMarks marks (marked_picture name m marks)
+
+-- ---- rings
+
+-- a ring is in a triangle of its sector
+pub record IsRingOf (groups : List (List ℕ)) (ts : List Triangle) (labels : List (Option ℕ)) (sector : ℕ) (t : Triangle) : Type 0 where
+  pub k : ℕ
+  pub is : slice_get ts k ≡ Some t
+  pub g : ℕ
+  pub label : label_of labels k ≡ Some g
+  pub named : Contains (slice_index_or groups g []) sector
+
+abbrev pub RingsAreInside : Type 0
+RingsAreInside = (m : Map) (groups : List (List ℕ)) (ts : List Triangle) (labels : List (Option ℕ)) (which : Letter) (sector : ℕ) (e : Element) → Has (ring_of m groups ts labels which sector) e
+    → (t : Triangle) × (e ≡ Ring which sector t) × IsRingOf groups ts labels sector t
 
 -- ---- ids
 
@@ -141,22 +179,25 @@ IdsAreOnce picture = (j k : ℕ) (e f : Element) → slice_get picture j ≡ Som
 
 -- In each kind of picture; so a line's id, which is its record number, is that of no other element. A map has fewer lines and groups.
 abbrev pub PlanIdsAreOnce : Type 0
-PlanIdsAreOnce = (m : Map) → length m.lines ≤ 2 ^ 64 → IdsAreOnce (plan_picture m)
+PlanIdsAreOnce = (name : List ℕ) (m : Map) (groups : List (List ℕ)) (ts : List Triangle) (labels : List (Option ℕ)) → length m.lines ≤ 2 ^ 64 → length groups ≤ 2 ^ 64 → IdsAreOnce (plan_picture name m groups ts labels)
 
 abbrev pub RowIdsAreOnce : Type 0
-RowIdsAreOnce = (m : Map) (groups : List (List ℕ)) (ts : List Triangle) (labels : List (Option ℕ)) (t : TableParts) (a : ℕ) → length m.lines ≤ 2 ^ 64 → length groups ≤ 2 ^ 64 → IdsAreOnce (row_picture m groups ts labels t a)
+RowIdsAreOnce = (name : List ℕ) (m : Map) (groups : List (List ℕ)) (ts : List Triangle) (labels : List (Option ℕ)) (t : TableParts) (a : ℕ) → length m.lines ≤ 2 ^ 64 → length groups ≤ 2 ^ 64 → IdsAreOnce (row_picture name m groups ts labels t a)
 
 abbrev pub SightIdsAreOnce : Type 0
-SightIdsAreOnce = (m : Map) (groups : List (List ℕ)) (ts : List Triangle) (labels : List (Option ℕ)) (a b : ℕ) (r : Ray) → length m.lines ≤ 2 ^ 64 → length groups ≤ 2 ^ 64 → IdsAreOnce (sight_picture m groups ts labels a b r)
+SightIdsAreOnce = (name : List ℕ) (m : Map) (groups : List (List ℕ)) (ts : List Triangle) (labels : List (Option ℕ)) (a b : ℕ) (r : Ray) → length m.lines ≤ 2 ^ 64 → length groups ≤ 2 ^ 64 → IdsAreOnce (sight_picture name m groups ts labels a b r)
 
 abbrev pub PairIdsAreOnce : Type 0
-PairIdsAreOnce = (m : Map) (groups : List (List ℕ)) (ts : List Triangle) (labels : List (Option ℕ)) (a b : ℕ) → length m.lines ≤ 2 ^ 64 → length groups ≤ 2 ^ 64 → IdsAreOnce (pair_picture m groups ts labels a b)
+PairIdsAreOnce = (name : List ℕ) (m : Map) (groups : List (List ℕ)) (ts : List Triangle) (labels : List (Option ℕ)) (a b : ℕ) → length m.lines ≤ 2 ^ 64 → length groups ≤ 2 ^ 64 → IdsAreOnce (pair_picture name m groups ts labels a b)
 
 abbrev pub MarkedIdsAreOnce : Type 0
-MarkedIdsAreOnce = (m : Map) (marks : List ℕ) → length m.lines ≤ 2 ^ 64 → IdsAreOnce (marked_picture m marks)
+MarkedIdsAreOnce = (name : List ℕ) (m : Map) (marks : List ℕ) → length m.lines ≤ 2 ^ 64 → IdsAreOnce (marked_picture name m marks)
+
+abbrev pub HeatIdsAreOnce : Type 0
+HeatIdsAreOnce = (name : List ℕ) (m : Map) (groups : List (List ℕ)) (ts : List Triangle) (labels : List (Option ℕ)) (count : List ℕ → ℕ) → length m.lines ≤ 2 ^ 64 → length groups ≤ 2 ^ 64 → IdsAreOnce (heat_picture name m groups ts labels (map count groups))
 
 abbrev pub BlindIdsAreOnce : Type 0
-BlindIdsAreOnce = (m : Map) (groups : List (List ℕ)) (ts : List Triangle) (labels : List (Option ℕ)) (a b sector : ℕ) (entered : List ℕ) (stops : List Stop) → length m.lines ≤ 2 ^ 64 → length groups ≤ 2 ^ 64 → IdsAreOnce (blind_picture m groups ts labels a b sector entered stops)
+BlindIdsAreOnce = (name : List ℕ) (m : Map) (groups : List (List ℕ)) (ts : List Triangle) (labels : List (Option ℕ)) (a b sector : ℕ) (entered : List ℕ) (stops : List Stop) → length m.lines ≤ 2 ^ 64 → length groups ≤ 2 ^ 64 → IdsAreOnce (blind_picture name m groups ts labels a b sector entered stops)
 
 -- ---- places
 

@@ -1,24 +1,34 @@
 -- The picture of a map as a list of elements. Each kind of picture has the same paper and the same lines; what it tells
 -- besides stands in further elements, under the lines or over them.
-use Rattle.std.specs.Prelude.{ℕ, ◌+◌, ◌*◌, ◌==◌, List, [], ◌∷◌, ◌++◌, Option, Some, None, Bool, true, false, map, slice_index_or, if◌then◌else◌}
+use Rattle.std.specs.Prelude.{ℕ, ◌+◌, ◌*◌, ◌/◌, ◌==◌, ℤ, List, [], ◌∷◌, ◌++◌, Option, Some, None, Bool, true, false, int_lt, map, max, slice_index_or, if◌then◌else◌}
 use Rattle.std.specs.List.{list_all, list_any}
 use Rattle.sight_names.specs.declared.names.Ray.{Ray}
 use Rattle.sight_names.specs.declared.names.Triangle.{Triangle}
 use Rattle.sight_names.specs.Map.{Map, MapLine, line_at}
+use Rattle.sight_names.specs.Points.{place}
 use Rattle.sight_names.specs.Ray.{IsSightRay}
 use Rattle.sight_names.specs.Table.{table_bit}
+use Rattle.geom_exact.specs.Formulas.{turn_of}
 use Rattle.reject_bits.specs.Parts.{TableParts}
 use Rattle.map_picture.specs.declared.pair.Stop.{Stop}
+use Rattle.map_picture.specs.declared.rings.Letter.{Letter}
+use Rattle.map_picture.specs.declared.rings.Letter.TheVariants as letter
+use Rattle.map_picture.specs.declared.sheet.Subject.{Subject}
+use Rattle.map_picture.specs.declared.sheet.Subject.TheVariants as subject
 use Rattle.map_picture.specs.declared.tint.Tint.{Tint}
 use Rattle.map_picture.specs.declared.tint.Tint.TheVariants as tint
 
 pub data Element : Type 0 where
   -- the root, with its size
   Head : Element
+  -- the title of the whole: the name of the map, and what the picture tells of it
+  Title : List ℕ → Subject → Element
   -- how each class is painted
   Style : Element
   -- the ground
   Paper : Element
+  -- how long some units are
+  Scale : Element
   -- the triangles of a group, with its number and the sectors that it names
   Face : Tint → ℕ → List ℕ → List Triangle → Element
   -- a line, with its record number
@@ -31,6 +41,10 @@ pub data Element : Type 0 where
   Sight : Ray → MapLine → MapLine → Element
   -- the lines with these record numbers, marked
   Marked : List ℕ → Element
+  -- a ring with this letter in the middle of a triangle of this sector
+  Ring : Letter → ℕ → Triangle → Element
+  -- which counts each shade stands for, up to the greatest one
+  Legend : ℕ → Element
   -- the end
   Foot : Element
 
@@ -72,19 +86,56 @@ faces_from ts labels g [] groups = []
 faces_from ts labels g (t ∷ tints) [] = []
 faces_from ts labels g (t ∷ tints) (names ∷ groups) = Face t g names (labelled_with g ts labels) ∷ faces_from ts labels (g + 1) tints groups
 
+-- ---- rings
+
+-- a triangle with this label is one of the sector: its group names it
+abbrev pub is_of : List (List ℕ) → ℕ → Option ℕ → Bool
+is_of groups sector None = false
+is_of groups sector (Some g) = list_any (λ b. b == sector) (slice_index_or groups g [])
+
+abbrev pub doubled_area : Map → Triangle → ℤ
+doubled_area m t = turn_of (place m t.p) (place m t.q) (place m t.r)
+
+-- the larger of two triangles, the first one where they are as large
+abbrev pub larger : Map → Option Triangle → Triangle → Triangle
+larger m None t = t
+larger m (Some best) t = if int_lt (doubled_area m best) (doubled_area m t) then t else best
+
+-- the largest of a triangle, if there is one, and of those among these that are of the sector
+abbrev pub largest_of : Map → List (List ℕ) → ℕ → Option Triangle → List Triangle → List (Option ℕ) → Option Triangle
+largest_of m groups sector best [] labels = best
+largest_of m groups sector best (t ∷ ts) [] = best
+largest_of m groups sector best (t ∷ ts) (label ∷ labels) = largest_of m groups sector (if is_of groups sector label then Some (larger m best t) else best) ts labels
+
+abbrev pub ring_at : Letter → ℕ → Option Triangle → List Element
+ring_at which sector None = []
+ring_at which sector (Some t) = Ring which sector t ∷ []
+
+-- a ring in the largest triangle of a sector, if it has one
+abbrev pub ring_of : Map → List (List ℕ) → List Triangle → List (Option ℕ) → Letter → ℕ → List Element
+ring_of m groups ts labels which sector = ring_at which sector (largest_of m groups sector None ts labels)
+
 -- ---- the pictures
 
+-- what each picture begins with
+abbrev pub sheet_of : List ℕ → Subject → List Element
+sheet_of name about = Head ∷ Title name about ∷ Style ∷ Paper ∷ Scale ∷ []
+
 -- The lines of the map on paper, with further elements under them and over them.
-abbrev pub picture_of : Map → List Element → List Element → List Element
-picture_of m under over = Head ∷ Style ∷ Paper ∷ [] ++ under ++ line_elements m ++ over ++ Foot ∷ []
+abbrev pub picture_of : List ℕ → Subject → Map → List Element → List Element → List Element
+picture_of name about m under over = sheet_of name about ++ under ++ line_elements m ++ over ++ Foot ∷ []
+
+-- the faces of all groups, of which nothing is told
+abbrev pub plan_faces : List (List ℕ) → List Triangle → List (Option ℕ) → List Element
+plan_faces groups ts labels = faces_from ts labels 0 (map (λ names. tint.Other) groups) groups
 
 -- the plan alone
-abbrev pub plan_picture : Map → List Element
-plan_picture m = picture_of m [] []
+abbrev pub plan_picture : List ℕ → Map → List (List ℕ) → List Triangle → List (Option ℕ) → List Element
+plan_picture name m groups ts labels = picture_of name subject.Plan m (plan_faces groups ts labels) []
 
--- the plan, with marks over the lines with these record numbers
-abbrev pub marked_picture : Map → List ℕ → List Element
-marked_picture m marks = picture_of m [] (Marked marks ∷ [])
+-- the plan without faces, with marks over the lines with these record numbers
+abbrev pub marked_picture : List ℕ → Map → List ℕ → List Element
+marked_picture name m marks = picture_of name subject.Faults m [] (Marked marks ∷ [])
 
 -- what the table's row of sector a says of a group: set only if it is so for each sector that the group names
 abbrev pub row_tint : TableParts → ℕ → List ℕ → Tint
@@ -94,8 +145,26 @@ row_tint t a names =
     else tint.Clear
 
 -- the row of sector a in a table, over the groups of the map
-abbrev pub row_picture : Map → List (List ℕ) → List Triangle → List (Option ℕ) → TableParts → ℕ → List Element
-row_picture m groups ts labels t a = picture_of m (faces_from ts labels 0 (map (row_tint t a) groups) groups) []
+abbrev pub row_picture : List ℕ → Map → List (List ℕ) → List Triangle → List (Option ℕ) → TableParts → ℕ → List Element
+row_picture name m groups ts labels t a = picture_of name (subject.Row a) m (faces_from ts labels 0 (map (row_tint t a) groups) groups) (ring_of m groups ts labels letter.A a)
+
+-- ---- how much is seen
+
+-- which of eight shades a count has, if this is the greatest one
+abbrev pub heat_of : ℕ → ℕ → ℕ
+heat_of count most = 8 * count / (most + 1)
+
+-- the greatest of some counts
+abbrev pub most_of : List ℕ → ℕ
+most_of [] = 0
+most_of (count ∷ counts) = max count (most_of counts)
+
+abbrev pub heat_tints : List ℕ → ℕ → List Tint
+heat_tints counts most = map (λ count. tint.Heat count most) counts
+
+-- each group by a count
+abbrev pub heat_picture : List ℕ → Map → List (List ℕ) → List Triangle → List (Option ℕ) → List ℕ → List Element
+heat_picture name m groups ts labels counts = picture_of name subject.Heat m (faces_from ts labels 0 (heat_tints counts (most_of counts)) groups) (Legend (most_of counts) ∷ [])
 
 -- ---- a pair of sectors
 
@@ -106,17 +175,22 @@ pair_tint a b names = if list_any (λ s. s == a) names then tint.Source else if 
 abbrev pub pair_faces : List (List ℕ) → List Triangle → List (Option ℕ) → ℕ → ℕ → List Element
 pair_faces groups ts labels a b = faces_from ts labels 0 (map (pair_tint a b) groups) groups
 
+-- a ring for each of the two
+abbrev pub pair_rings : Map → List (List ℕ) → List Triangle → List (Option ℕ) → ℕ → ℕ → List Element
+pair_rings m groups ts labels a b = ring_of m groups ts labels letter.A a ++ ring_of m groups ts labels letter.B b
+
 -- the plan with the faces of two sectors
-abbrev pub pair_picture : Map → List (List ℕ) → List Triangle → List (Option ℕ) → ℕ → ℕ → List Element
-pair_picture m groups ts labels a b = picture_of m (pair_faces groups ts labels a b) []
+abbrev pub pair_picture : List ℕ → Map → List (List ℕ) → List Triangle → List (Option ℕ) → ℕ → ℕ → List Element
+pair_picture name m groups ts labels a b = picture_of name (subject.Pair a b) m (pair_faces groups ts labels a b) (pair_rings m groups ts labels a b)
 
 -- the triangles with these numbers
 abbrev pub numbered : List Triangle → List ℕ → List Triangle
 numbered ts entered = map (λ k. slice_index_or ts k (record { p = 0; q = 0; r = 0 })) entered
 
 -- two sectors of which none sees the other: the triangles that sight out of this sector enters, and where it ends
-abbrev pub blind_picture : Map → List (List ℕ) → List Triangle → List (Option ℕ) → ℕ → ℕ → ℕ → List ℕ → List Stop → List Element
-blind_picture m groups ts labels a b sector entered stops = picture_of m (pair_faces groups ts labels a b ++ Entered sector (numbered ts entered) ∷ []) (Stops stops ∷ [])
+abbrev pub blind_picture : List ℕ → Map → List (List ℕ) → List Triangle → List (Option ℕ) → ℕ → ℕ → ℕ → List ℕ → List Stop → List Element
+blind_picture name m groups ts labels a b sector entered stops =
+    picture_of name (subject.Pair a b) m (pair_faces groups ts labels a b ++ Entered sector (numbered ts entered) ∷ []) (Stops stops ∷ [] ++ pair_rings m groups ts labels a b)
 
 -- the ray between two lines, if there are both
 abbrev pub sight_between : Ray → Option MapLine → Option MapLine → List Element
@@ -133,5 +207,5 @@ abbrev pub JoinsSectors : Map → Ray → Type 0
 JoinsSectors m r = (f : ℕ) × (k : ℕ) × IsSightRay m r f k
 
 -- two sectors that see each other along the ray
-abbrev pub sight_picture : Map → List (List ℕ) → List Triangle → List (Option ℕ) → ℕ → ℕ → Ray → List Element
-sight_picture m groups ts labels a b r = picture_of m (pair_faces groups ts labels a b) (sight_elements m r)
+abbrev pub sight_picture : List ℕ → Map → List (List ℕ) → List Triangle → List (Option ℕ) → ℕ → ℕ → Ray → List Element
+sight_picture name m groups ts labels a b r = picture_of name (subject.Pair a b) m (pair_faces groups ts labels a b) (sight_elements m r ++ pair_rings m groups ts labels a b)

@@ -3,15 +3,15 @@
 ghost use Rattle.std.specs.Prelude.{◌≡◌, ◌<◌, ◌++◌, OnOk, length};
 ghost use Rattle.sight_names.specs.Map.{map_of};
 ghost use Rattle.sight_names.specs.Mesh.{IsTriangle};
-ghost use Rattle.map_picture.specs.Bytes.{face_title, names_text, spelled, tint_class, triangle_text, triangles_text};
+ghost use Rattle.map_picture.specs.Bytes.{face_id, face_title, names_text, path_text, spelled, tint_class, tint_words, triangle_text, triangles_text};
 ghost use Rattle.map_picture.specs.Chains.{AreChains};
 ghost use Rattle.map_picture.specs.Picture.{faces_from, labelled_with};
 
 use crate::chains::Chains;
 use crate::frame::Frame;
-use crate::lines::point_at;
+use crate::legend::heat_of;
 use crate::tint::Tint;
-use crate::words::{push_count, push_path, push_step, push_text};
+use crate::words::{push_count, push_step, push_text};
 use mesh_shape::Mesh;
 use sight_names::{Items, Plan, Triangle};
 use std::alloc::AllocError;
@@ -23,15 +23,40 @@ pub struct Faces {
     pub chains: Chains,
 }
 
-fn class_of(tint: Tint) -> &'static str
-    ensures { result.now ≡ tint_class tint }
+fn push_class(out: &mut Vec<u8>, tint: Tint) -> Result<(), AllocError>
+    ensures { OnOk result (out.new.items ≡ out.old.items ++ tint_class tint) }
 {
     match tint {
-        Tint::Source => "a",
-        Tint::Clear => "c",
-        Tint::Set => "s",
-        Tint::Target => "b",
-        Tint::Other => "s",
+        Tint::Source => push_text(out, "a"),
+        Tint::Clear => push_text(out, "c"),
+        Tint::Set => push_text(out, "s"),
+        Tint::Target => push_text(out, "b"),
+        Tint::Other => push_text(out, "s"),
+        Tint::Heat { count, most } => {
+            push_count(out, "h", heat_of(u64::from(count), u64::from(most)))
+        }
+    }
+}
+
+/// The path of a group as far as its triangles.
+#[tactic(auto, unfolding(crate::specs::Bytes::path_text))]
+fn push_begun(out: &mut Vec<u8>, tint: Tint, g: usize) -> Result<(), AllocError>
+    ensures { OnOk result (out.new.items ≡ out.old.items ++ path_text (tint_class tint) (face_id g)) }
+{
+    push_text(out, "<path class=\"")?;
+    push_class(out, tint)?;
+    push_text(out, "\" id=\"")?;
+    push_count(out, "G", g as u64)?;
+    push_text(out, "\" d=\"")
+}
+
+/// The count, where that is told.
+fn push_told(out: &mut Vec<u8>, tint: Tint) -> Result<(), AllocError>
+    ensures { OnOk result (out.new.items ≡ out.old.items ++ tint_words tint) }
+{
+    match tint {
+        Tint::Heat { count, most: _ } => push_count(out, " sees ", u64::from(count)),
+        _ => Ok(()),
     }
 }
 
@@ -86,11 +111,12 @@ fn push_names(out: &mut Vec<u8>, names: &[u16]) -> Result<(), AllocError>
 }
 
 #[tactic(auto, unfolding(crate::specs::Bytes::face_title))]
-fn push_title(out: &mut Vec<u8>, names: &[u16]) -> Result<(), AllocError>
-    ensures { OnOk result (out.new.items ≡ out.old.items ++ face_title names.now) }
+fn push_title(out: &mut Vec<u8>, tint: Tint, names: &[u16]) -> Result<(), AllocError>
+    ensures { OnOk result (out.new.items ≡ out.old.items ++ face_title tint names.now) }
 {
     push_text(out, "\"><title>sector")?;
     push_names(out, names)?;
+    push_told(out, tint)?;
     push_text(out, "</title></path>\n")
 }
 
@@ -111,9 +137,10 @@ pub fn push_faces(
     ensures { OnOk result (out.new.items ≡ out.old.items ++ spelled frame (map_of plan.now) (faces_from mesh.now.triangles labels.now 0 faces.now.tints.items groups.now)) }
 {
     for (g, group) in groups.iter().enumerate() {
-        push_path(out, class_of(faces.tints[g]), "G", g as u64)?;
+        let tint = faces.tints[g];
+        push_begun(out, tint, g)?;
         push_triangles(out, frame, plan, mesh, labels, &faces.chains, g)?;
-        push_title(out, group.as_slice())?;
+        push_title(out, tint, group.as_slice())?;
     }
     Ok(())
 }

@@ -2,7 +2,7 @@
 
 ghost use Rattle.std.specs.Prelude.{◌≡◌, ◌^◌, ◌<◌, ◌≤◌};
 ghost use Rattle.std.specs.Int.{int_max, int_min};
-ghost use Rattle.map_picture.specs.Frame.{across as the_across, down as the_down, frame_of as the_frame_of, height_of, sizes_for as the_sizes_for, sizes_of as the_sizes_of, widened as widened_of, widened_by as the_widened_by, width_of};
+ghost use Rattle.map_picture.specs.Frame.{across as the_across, down as the_down, frame_of as the_frame_of, grain_for as the_grain_for, height_of, scale_for as the_scale_for, sizes_for as the_sizes_for, sizes_of as the_sizes_of, widened as widened_of, widened_by as the_widened_by, width_of};
 
 use sight_names::Pt;
 
@@ -89,38 +89,73 @@ fn height(frame: Frame) -> u64
 /// The sizes of a picture, in map units, and its sides in pixels.
 #[derive(Clone, Copy)]
 pub struct Sizes {
+    /// What is left free on each side of the map.
     pub margin: u64,
+    /// How thick a thin line is, where strokes aren't in pixels.
     pub stroke: u64,
     pub wide: u64,
     pub high: u64,
     pub wide_pixels: u64,
     pub high_pixels: u64,
+    /// How long the scale is.
+    pub scale: u64,
+    /// How far below the upper edge the strip's middle is, in which the scale lies.
+    pub strip: u64,
+}
+
+/// What the length of a scale of about so many units is a multiple of.
+fn grain_for(length: u64) -> u64
+    ensures grain { result ≡ the_grain_for length }
+    ensures some { 0 < result }
+{
+    if length >= 1024 {
+        1024
+    } else if length >= 128 {
+        128
+    } else if length >= 16 {
+        16
+    } else {
+        1
+    }
+}
+
+/// How long the scale of a picture of this width is.
+fn scale_for(width: u64) -> u64
+    requires { width < 2 ^ 16 }
+    ensures { result ≡ the_scale_for width }
+{
+    let quarter = width / 4;
+    let grain = grain_for(quarter);
+    quarter / grain * grain
 }
 
 fn sizes_for(width: u64, height: u64) -> Sizes
     requires width { width < 2 ^ 16 }
     requires height { height < 2 ^ 16 }
     ensures sizes { result ≡ the_sizes_for width height }
+    ensures wide { result.wide < 2 ^ 20 }
     ensures thin { result.stroke ≤ 55 }
 {
     let longer = width.max(height);
-    let margin = longer / 50 + 1;
-    let wide = width + 2 * margin;
-    let high = height + 2 * margin;
-    let all = longer + 2 * margin;
+    let around = 2 * (longer / 50 + 1);
+    let wide = width + around;
+    let high = height + 2 * around;
     Sizes {
-        margin,
+        margin: longer / 50 + 1,
         stroke: longer / 1200 + 1,
         wide,
         high,
-        wide_pixels: 1000 * wide / all,
-        high_pixels: 1000 * high / all,
+        wide_pixels: 1000 * wide / (longer + around),
+        high_pixels: 1000 * high / (longer + around),
+        scale: scale_for(width),
+        strip: height + around,
     }
 }
 
 /// The sizes of a picture with this frame.
 pub fn sizes_of(frame: Frame) -> Sizes
     ensures sizes { result ≡ the_sizes_of frame }
+    ensures wide { result.wide < 2 ^ 20 }
     ensures thin { result.stroke ≤ 55 }
 {
     sizes_for(width(frame), height(frame))

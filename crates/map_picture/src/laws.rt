@@ -1,6 +1,6 @@
 //! What pictures show, by their definition. The calls do nothing: their clauses are laws.
 
-ghost use Rattle.map_picture.specs.Laws.{BlindFacesAreShown, BlindIdsAreOnce, EnteredIsShown, LinesAreShown, MarkedIdsAreOnce, MarksAreShown, PairFacesAreShown, PairIdsAreOnce, PlanIdsAreOnce, PointsAreReadBack, RayIsDrawn, RowIdsAreOnce, RowIsShown, SightFacesAreShown, SightIdsAreOnce, StopsAreShown};
+ghost use Rattle.map_picture.specs.Laws.{BlindFacesAreShown, BlindIdsAreOnce, EnteredIsShown, HeatIdsAreOnce, HeatIsShown, LinesAreShown, MarkedIdsAreOnce, MarksAreShown, PairFacesAreShown, PairIdsAreOnce, PlanFacesAreShown, PlanIdsAreOnce, PointsAreReadBack, RayIsDrawn, RingsAreInside, RowIdsAreOnce, RowIsShown, SightFacesAreShown, SightIdsAreOnce, StopsAreShown};
 
 /// Every picture of a map has its lines, each once, and no other line.
 pub fn lines_are_shown()
@@ -12,11 +12,27 @@ pub fn row_is_shown()
     ensures { RowIsShown }
 {}
 
+/// A plan has one face for each group, with the triangles that the group labels, and tells nothing of it but its names.
+pub fn plan_is_shown()
+    ensures { PlanFacesAreShown }
+{}
+
+/// A picture by counts has one face for each group, and its tint is that of the group's count.
+pub fn heat_is_shown()
+    ensures { HeatIsShown }
+{}
+
+/// A ring is in a triangle of a group that names its sector.
+pub fn rings_are_inside()
+    ensures { RingsAreInside }
+{}
+
 /// No two elements of a picture have one id.
 pub fn ids_are_once()
     ensures plan { PlanIdsAreOnce }
     ensures marked { MarkedIdsAreOnce }
     ensures row { RowIdsAreOnce }
+    ensures heat { HeatIdsAreOnce }
     ensures pair { PairIdsAreOnce }
     ensures sight { SightIdsAreOnce }
     ensures blind { BlindIdsAreOnce }

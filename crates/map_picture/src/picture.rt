@@ -1,71 +1,113 @@
 //! The pictures.
 
-ghost use Rattle.std.specs.Prelude.{◌≡◌, ◌<◌, ◌^◌, ◌∷◌, ◌++◌, [], All, IfOk, length, map};
+ghost use Rattle.std.specs.Prelude.{◌≡◌, ◌<◌, ◌++◌, All, IfOk, OnOk, length};
 ghost use Rattle.sight_names.specs.Map.{map_of};
 ghost use Rattle.map_picture.specs.Bytes.{spelled, svg_of};
-ghost use Rattle.map_picture.specs.Chains.{AreChains};
-ghost use Rattle.map_picture.specs.Picture.{Head, JoinsSectors, Paper, Style, pair_faces as the_pair_faces, pair_tint, row_tint, blind_picture as the_blind_picture, marked_picture as the_marked_picture, pair_picture as the_pair_picture, plan_picture as the_plan_picture, row_picture as the_row_picture, sight_picture as the_sight_picture};
+ghost use Rattle.map_picture.specs.declared.sheet.Subject.TheVariants as subject;
+ghost use Rattle.map_picture.specs.Picture.{JoinsSectors, faces_from, pair_faces as the_pair_faces, pair_rings, sheet_of, blind_picture as the_blind_picture, heat_picture as the_heat_picture, marked_picture as the_marked_picture, pair_picture as the_pair_picture, plan_picture as the_plan_picture, row_picture as the_row_picture, sight_picture as the_sight_picture};
 
 use crate::chains::chains_of;
 use crate::faces::{Faces, push_faces};
-use crate::frame::{Frame, frame_of};
+use crate::frame::{Frame, frame_of, sizes_of};
+use crate::legend::push_legend;
 use crate::lines::push_lines;
 use crate::marks::push_marks;
 use crate::pair::{Stop, push_entered, push_sight, push_stops};
-use crate::sheet::{push_foot, push_sheet};
-use crate::tint::{pair_tints, row_tints};
+use crate::rings::{Letter, push_ring_of};
+use crate::sheet::{Subject, push_foot, push_sheet};
+use crate::tint::{Tint, heat_tints, most_of, pair_tints, plan_tints, row_tints};
 use mesh_shape::{Labels, Mesh};
 use reject_bits::Table;
 use sight_names::{Items, Memory, Pair, Plan, Ray};
-use std::alloc::Global;
+use std::alloc::{AllocError, Global};
+
+/// A picture as far as its faces, with these tints.
+fn ground(
+    alloc: Global,
+    frame: Frame,
+    name: &str,
+    about: Subject,
+    plan: &Plan,
+    mesh: &Mesh,
+    labels: &Labels,
+    groups: &[Items<u16>],
+    tints: Vec<Tint>,
+) -> Result<Vec<u8>, Memory>
+    requires points { mesh.now.points ≡ length plan.now.points }
+    requires one_each { length labels.now ≡ length mesh.now.triangles }
+    requires tints { length tints.items ≡ length groups.now }
+    ensures { IfOk result (λ v. v.items ≡ spelled frame (map_of plan.now) (sheet_of name.now about ++ faces_from mesh.now.triangles labels.now 0 tints.items groups.now)) }
+{
+    let _ = mesh.triangles();
+    let chains = chains_of(alloc, labels.as_slice(), groups.len())?;
+    let faces = Faces { tints, chains };
+    let mut out = Vec::new(alloc);
+    push_sheet(&mut out, frame, name, about)?;
+    push_faces(
+        &mut out,
+        frame,
+        plan,
+        mesh,
+        labels.as_slice(),
+        groups,
+        &faces,
+    )?;
+    Ok(out)
+}
 
 /// The plan alone.
-pub fn plan_picture(alloc: Global, plan: &Plan) -> Result<Vec<u8>, Memory>
-    ensures { IfOk result (λ v. v.items ≡ svg_of (map_of plan.now) (the_plan_picture (map_of plan.now))) }
+pub fn plan_picture(
+    alloc: Global,
+    name: &str,
+    plan: &Plan,
+    mesh: &Mesh,
+    labels: &Labels,
+    groups: &[Items<u16>],
+) -> Result<Vec<u8>, Memory>
+    requires points { mesh.now.points ≡ length plan.now.points }
+    requires one_each { length labels.now ≡ length mesh.now.triangles }
+    ensures { IfOk result (λ v. v.items ≡ svg_of (map_of plan.now) (the_plan_picture name.now (map_of plan.now) groups.now mesh.now.triangles labels.now)) }
 {
     let frame = frame_of(plan.points());
-    let mut out = Vec::new(alloc);
-    push_sheet(&mut out, frame)?;
+    let tints = plan_tints(alloc, groups)?;
+    let mut out = ground(
+        alloc,
+        frame,
+        name,
+        Subject::Plan,
+        plan,
+        mesh,
+        labels,
+        groups,
+        tints,
+    )?;
     push_lines(&mut out, frame, plan)?;
     push_foot(&mut out)?;
     Ok(out)
 }
 
 /// The plan, with marks over the lines with these record numbers.
-pub fn marked_picture(alloc: Global, plan: &Plan, marks: &[u16]) -> Result<Vec<u8>, Memory>
-    ensures { IfOk result (λ v. v.items ≡ svg_of (map_of plan.now) (the_marked_picture (map_of plan.now) marks.now)) }
+pub fn marked_picture(
+    alloc: Global,
+    name: &str,
+    plan: &Plan,
+    marks: &[u16],
+) -> Result<Vec<u8>, Memory>
+    ensures { IfOk result (λ v. v.items ≡ svg_of (map_of plan.now) (the_marked_picture name.now (map_of plan.now) marks.now)) }
 {
     let frame = frame_of(plan.points());
     let mut out = Vec::new(alloc);
-    push_sheet(&mut out, frame)?;
+    push_sheet(&mut out, frame, name, Subject::Faults)?;
     push_lines(&mut out, frame, plan)?;
     push_marks(&mut out, frame, plan, marks)?;
     push_foot(&mut out)?;
     Ok(out)
 }
 
-/// What a row's picture paints: its tints, and the chains of the groups.
-fn row_faces(
-    alloc: Global,
-    labels: &Labels,
-    groups: &[Items<u16>],
-    table: &Table,
-    a: u16,
-) -> Result<Faces, Memory>
-    requires few { length labels.now < 2 ^ 16 }
-    requires row { a < table.now.n }
-    requires names { All (All (λ b. b < table.now.n)) groups.now }
-    ensures tints { IfOk result (λ f. f.tints.items ≡ map (row_tint table.now a) groups.now) }
-    ensures chains { IfOk result (λ f. AreChains labels.now (length groups.now) f.chains) }
-{
-    let tints = row_tints(alloc, groups, table, a)?;
-    let chains = chains_of(alloc, labels.as_slice(), groups.len())?;
-    Ok(Faces { tints, chains })
-}
-
 /// The plan, with each face painted as the table's row of sector `a` has the sectors of its group.
 pub fn row_picture(
     alloc: Global,
+    name: &str,
     plan: &Plan,
     mesh: &Mesh,
     labels: &Labels,
@@ -77,47 +119,76 @@ pub fn row_picture(
     requires one_each { length labels.now ≡ length mesh.now.triangles }
     requires row { a < table.now.n }
     requires names { All (All (λ b. b < table.now.n)) groups.now }
-    ensures { IfOk result (λ v. v.items ≡ svg_of (map_of plan.now) (the_row_picture (map_of plan.now) groups.now mesh.now.triangles labels.now table.now a)) }
+    ensures { IfOk result (λ v. v.items ≡ svg_of (map_of plan.now) (the_row_picture name.now (map_of plan.now) groups.now mesh.now.triangles labels.now table.now a)) }
 {
-    let _ = mesh.triangles();
     let frame = frame_of(plan.points());
-    let faces = row_faces(alloc, labels, groups, table, a)?;
-    let mut out = Vec::new(alloc);
-    push_sheet(&mut out, frame)?;
-    push_faces(
+    let tints = row_tints(alloc, groups, table, a)?;
+    let mut out = ground(
+        alloc,
+        frame,
+        name,
+        Subject::Row(a),
+        plan,
+        mesh,
+        labels,
+        groups,
+        tints,
+    )?;
+    push_lines(&mut out, frame, plan)?;
+    push_ring_of(
         &mut out,
         frame,
         plan,
         mesh,
         labels.as_slice(),
         groups,
-        &faces,
+        Letter::A,
+        a,
     )?;
-    push_lines(&mut out, frame, plan)?;
     push_foot(&mut out)?;
     Ok(out)
 }
 
-/// What a pair's picture paints.
-fn pair_faces(
+/// The plan, with each face painted by its group's count.
+pub fn heat_picture(
     alloc: Global,
+    name: &str,
+    plan: &Plan,
+    mesh: &Mesh,
     labels: &Labels,
     groups: &[Items<u16>],
-    pair: Pair,
-) -> Result<Faces, Memory>
-    requires few { length labels.now < 2 ^ 16 }
-    ensures tints { IfOk result (λ f. f.tints.items ≡ map (pair_tint pair.a pair.b) groups.now) }
-    ensures chains { IfOk result (λ f. AreChains labels.now (length groups.now) f.chains) }
+    counts: &[u16],
+) -> Result<Vec<u8>, Memory>
+    requires points { mesh.now.points ≡ length plan.now.points }
+    requires one_each { length labels.now ≡ length mesh.now.triangles }
+    requires counts { length counts.now ≡ length groups.now }
+    ensures { IfOk result (λ v. v.items ≡ svg_of (map_of plan.now) (the_heat_picture name.now (map_of plan.now) groups.now mesh.now.triangles labels.now counts.now)) }
 {
-    let tints = pair_tints(alloc, groups, pair.a, pair.b)?;
-    let chains = chains_of(alloc, labels.as_slice(), groups.len())?;
-    Ok(Faces { tints, chains })
+    let frame = frame_of(plan.points());
+    let most = most_of(counts);
+    let tints = heat_tints(alloc, counts, most)?;
+    let mut out = ground(
+        alloc,
+        frame,
+        name,
+        Subject::Heat,
+        plan,
+        mesh,
+        labels,
+        groups,
+        tints,
+    )?;
+    push_lines(&mut out, frame, plan)?;
+    push_legend(&mut out, sizes_of(frame), most as u64)?;
+    push_foot(&mut out)?;
+    Ok(out)
 }
 
 /// A picture of a pair as far as its faces.
 fn pair_ground(
     alloc: Global,
     frame: Frame,
+    name: &str,
     plan: &Plan,
     mesh: &Mesh,
     labels: &Labels,
@@ -126,27 +197,39 @@ fn pair_ground(
 ) -> Result<Vec<u8>, Memory>
     requires points { mesh.now.points ≡ length plan.now.points }
     requires one_each { length labels.now ≡ length mesh.now.triangles }
-    ensures { IfOk result (λ v. v.items ≡ spelled frame (map_of plan.now) (Head ∷ Style ∷ Paper ∷ [] ++ the_pair_faces groups.now mesh.now.triangles labels.now pair.a pair.b)) }
+    ensures { IfOk result (λ v. v.items ≡ spelled frame (map_of plan.now) (sheet_of name.now (subject.Pair pair.a pair.b) ++ the_pair_faces groups.now mesh.now.triangles labels.now pair.a pair.b)) }
 {
-    let _ = mesh.triangles();
-    let faces = pair_faces(alloc, labels, groups, pair)?;
-    let mut out = Vec::new(alloc);
-    push_sheet(&mut out, frame)?;
-    push_faces(
-        &mut out,
-        frame,
-        plan,
-        mesh,
-        labels.as_slice(),
-        groups,
-        &faces,
-    )?;
-    Ok(out)
+    let about = Subject::Pair {
+        a: pair.a,
+        b: pair.b,
+    };
+    let tints = pair_tints(alloc, groups, pair.a, pair.b)?;
+    ground(alloc, frame, name, about, plan, mesh, labels, groups, tints)
+}
+
+/// A ring for each of the two.
+fn push_rings(
+    out: &mut Vec<u8>,
+    frame: Frame,
+    plan: &Plan,
+    mesh: &Mesh,
+    labels: &Labels,
+    groups: &[Items<u16>],
+    pair: Pair,
+) -> Result<(), AllocError>
+    requires points { mesh.now.points ≡ length plan.now.points }
+    requires one_each { length labels.now ≡ length mesh.now.triangles }
+    ensures { OnOk result (out.new.items ≡ out.old.items ++ spelled frame (map_of plan.now) (pair_rings (map_of plan.now) groups.now mesh.now.triangles labels.now pair.a pair.b)) }
+{
+    let labels = labels.as_slice();
+    push_ring_of(out, frame, plan, mesh, labels, groups, Letter::A, pair.a)?;
+    push_ring_of(out, frame, plan, mesh, labels, groups, Letter::B, pair.b)
 }
 
 /// The plan with the faces of two sectors.
 pub fn pair_picture(
     alloc: Global,
+    name: &str,
     plan: &Plan,
     mesh: &Mesh,
     labels: &Labels,
@@ -155,11 +238,12 @@ pub fn pair_picture(
 ) -> Result<Vec<u8>, Memory>
     requires points { mesh.now.points ≡ length plan.now.points }
     requires one_each { length labels.now ≡ length mesh.now.triangles }
-    ensures { IfOk result (λ v. v.items ≡ svg_of (map_of plan.now) (the_pair_picture (map_of plan.now) groups.now mesh.now.triangles labels.now pair.a pair.b)) }
+    ensures { IfOk result (λ v. v.items ≡ svg_of (map_of plan.now) (the_pair_picture name.now (map_of plan.now) groups.now mesh.now.triangles labels.now pair.a pair.b)) }
 {
     let frame = frame_of(plan.points());
-    let mut out = pair_ground(alloc, frame, plan, mesh, labels, groups, pair)?;
+    let mut out = pair_ground(alloc, frame, name, plan, mesh, labels, groups, pair)?;
     push_lines(&mut out, frame, plan)?;
+    push_rings(&mut out, frame, plan, mesh, labels, groups, pair)?;
     push_foot(&mut out)?;
     Ok(out)
 }
@@ -167,6 +251,7 @@ pub fn pair_picture(
 /// The plan with the faces of two sectors that see each other, and with the ray along which they do.
 pub fn sight_picture(
     alloc: Global,
+    name: &str,
     plan: &Plan,
     mesh: &Mesh,
     labels: &Labels,
@@ -177,12 +262,13 @@ pub fn sight_picture(
     requires points { mesh.now.points ≡ length plan.now.points }
     requires one_each { length labels.now ≡ length mesh.now.triangles }
     requires sight { JoinsSectors (map_of plan.now) ray.now }
-    ensures { IfOk result (λ v. v.items ≡ svg_of (map_of plan.now) (the_sight_picture (map_of plan.now) groups.now mesh.now.triangles labels.now pair.a pair.b ray.now)) }
+    ensures { IfOk result (λ v. v.items ≡ svg_of (map_of plan.now) (the_sight_picture name.now (map_of plan.now) groups.now mesh.now.triangles labels.now pair.a pair.b ray.now)) }
 {
     let frame = frame_of(plan.points());
-    let mut out = pair_ground(alloc, frame, plan, mesh, labels, groups, pair)?;
+    let mut out = pair_ground(alloc, frame, name, plan, mesh, labels, groups, pair)?;
     push_lines(&mut out, frame, plan)?;
     push_sight(&mut out, frame, plan, ray)?;
+    push_rings(&mut out, frame, plan, mesh, labels, groups, pair)?;
     push_foot(&mut out)?;
     Ok(out)
 }
@@ -191,6 +277,7 @@ pub fn sight_picture(
 /// of this sector enters, and the segments at which it ends. The caller knows which these are.
 pub fn blind_picture(
     alloc: Global,
+    name: &str,
     plan: &Plan,
     mesh: &Mesh,
     labels: &Labels,
@@ -205,13 +292,14 @@ pub fn blind_picture(
     requires entered { All (λ k. k < length mesh.now.triangles) entered.now }
     requires from { All (λ s. s.from < length plan.now.points) stops.now }
     requires to { All (λ s. s.to < length plan.now.points) stops.now }
-    ensures { IfOk result (λ v. v.items ≡ svg_of (map_of plan.now) (the_blind_picture (map_of plan.now) groups.now mesh.now.triangles labels.now pair.a pair.b sector entered.now stops.now)) }
+    ensures { IfOk result (λ v. v.items ≡ svg_of (map_of plan.now) (the_blind_picture name.now (map_of plan.now) groups.now mesh.now.triangles labels.now pair.a pair.b sector entered.now stops.now)) }
 {
     let frame = frame_of(plan.points());
-    let mut out = pair_ground(alloc, frame, plan, mesh, labels, groups, pair)?;
+    let mut out = pair_ground(alloc, frame, name, plan, mesh, labels, groups, pair)?;
     push_entered(&mut out, frame, plan, mesh, sector, entered)?;
     push_lines(&mut out, frame, plan)?;
     push_stops(&mut out, frame, plan, stops)?;
+    push_rings(&mut out, frame, plan, mesh, labels, groups, pair)?;
     push_foot(&mut out)?;
     Ok(out)
 }

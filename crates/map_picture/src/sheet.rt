@@ -1,13 +1,13 @@
 //! The first elements of a picture.
 
-ghost use Rattle.std.specs.Prelude.{◌≡◌, ◌≤◌, ◌++◌, ◌∷◌, [], OnOk};
+ghost use Rattle.std.specs.Prelude.{◌≡◌, ◌≤◌, ◌++◌, ◌∷◌, [], OnOk, codes};
 ghost use Rattle.sight_names.specs.Map.{Map};
 ghost use Rattle.map_picture.specs.declared.frame.Frame.{Frame};
-ghost use Rattle.map_picture.specs.Bytes.{head_text, paper_text, size_text, spelled, style_text};
-ghost use Rattle.map_picture.specs.Picture.{Foot, Head, Paper, Style};
+ghost use Rattle.map_picture.specs.Bytes.{count_text, dark_text, head_text, letters_text, light_text, paper_text, pixels_text, scale_text, shades_text, size_text, spelled, style_text, subject_text, title_text, units_text};
+ghost use Rattle.map_picture.specs.Picture.{Foot, sheet_of};
 
 use crate::frame::{Frame, Sizes, sizes_of};
-use crate::words::{push_count, push_text};
+use crate::words::{push_count, push_escaped, push_text, push_written};
 use std::alloc::AllocError;
 
 #[tactic(auto, unfolding(crate::specs::Bytes::size_text))]
@@ -34,23 +34,123 @@ fn push_head(out: &mut Vec<u8>, sizes: Sizes) -> Result<(), AllocError>
     push_text(out, "\">\n")
 }
 
-#[tactic(auto, unfolding(crate::specs::Bytes::style_text))]
-fn push_style(out: &mut Vec<u8>, stroke: u64) -> Result<(), AllocError>
-    requires { stroke ≤ 55 }
-    ensures { OnOk result (out.new.items ≡ out.old.items ++ style_text stroke) }
+/// What a picture tells of its map.
+#[derive(Clone, Copy, Debug, PartialEq, Eq)]
+pub enum Subject {
+    /// The plan alone.
+    Plan,
+    /// What refuses the map.
+    Faults,
+    /// The row of a sector in a table.
+    Row(u16),
+    /// What two sectors see of each other.
+    Pair { a: u16, b: u16 },
+    /// How much each sector sees.
+    Heat,
+}
+
+fn push_pair(out: &mut Vec<u8>, a: u16, b: u16) -> Result<(), AllocError>
+    ensures { OnOk result (out.new.items ≡ out.old.items ++ (count_text (codes " pair ") a ++ count_text (codes " ") b)) }
 {
-    push_count(
-        out,
-        "<style>.w,.p,.k,.r{fill:none;stroke-linecap:round}.w{stroke:#000;stroke-width:",
-        2 * stroke,
-    )?;
-    push_count(out, "}.p{stroke:#9a9a9a;stroke-width:", stroke)?;
-    push_count(out, "}.k{stroke:#d62728;stroke-width:", 4 * stroke)?;
-    push_count(out, "}.r{stroke:#d62728;stroke-width:", 3 * stroke)?;
+    push_count(out, " pair ", a as u64)?;
+    push_count(out, " ", b as u64)
+}
+
+fn push_subject(out: &mut Vec<u8>, about: Subject) -> Result<(), AllocError>
+    ensures { OnOk result (out.new.items ≡ out.old.items ++ subject_text about) }
+{
+    match about {
+        Subject::Plan => Ok(()),
+        Subject::Faults => push_text(out, " faults"),
+        Subject::Row(a) => push_count(out, " row ", a as u64),
+        Subject::Pair { a, b } => push_pair(out, a, b),
+        Subject::Heat => push_text(out, " heat"),
+    }
+}
+
+#[tactic(auto, unfolding(crate::specs::Bytes::title_text))]
+fn push_title(out: &mut Vec<u8>, name: &str, about: Subject) -> Result<(), AllocError>
+    ensures { OnOk result (out.new.items ≡ out.old.items ++ title_text name.now about) }
+{
+    push_text(out, "<title>")?;
+    push_escaped(out, name.as_bytes())?;
+    push_subject(out, about)?;
+    push_text(out, "</title>\n")
+}
+
+fn push_light(out: &mut Vec<u8>) -> Result<(), AllocError>
+    ensures { OnOk result (out.new.items ≡ out.old.items ++ light_text) }
+{
     push_text(
         out,
-        "}.a{fill:#1f77b4}.b{fill:#ff7f0e}.c{fill:#9ecae1}.s{fill:#f2f2f2}.l{fill:#ffdd71}.f{fill:#c7e9c0}</style>\n",
+        "<style>path,circle{fill:none;stroke-linecap:round}.w,.u,.o{stroke:#000}.p{stroke:#9a9a9a}.k,.r{stroke:#d62728}.i{stroke:#fff}.a{fill:#1f77b4}.b{fill:#ff7f0e}.c{fill:#9ecae1}.s{fill:#e4e4e4}.f{fill:#a1d99b;stroke:#41ab5d}.k,.f,.u,.n{pointer-events:none}",
     )
+}
+
+#[tactic(auto, unfolding(crate::specs::Bytes::units_text))]
+fn push_units(out: &mut Vec<u8>, stroke: u64) -> Result<(), AllocError>
+    requires { stroke ≤ 55 }
+    ensures { OnOk result (out.new.items ≡ out.old.items ++ units_text stroke) }
+{
+    push_count(out, "path,circle{stroke-width:", stroke)?;
+    push_count(out, "}.w,.o{stroke-width:", 2 * stroke)?;
+    push_count(out, "}.r,.u{stroke-width:", 3 * stroke)?;
+    push_count(out, "}.k{stroke-width:", 4 * stroke)?;
+    push_count(out, "}.i{stroke-width:", 6 * stroke)
+}
+
+fn push_pixels(out: &mut Vec<u8>) -> Result<(), AllocError>
+    ensures { OnOk result (out.new.items ≡ out.old.items ++ pixels_text) }
+{
+    push_text(
+        out,
+        "}@supports(vector-effect:non-scaling-stroke){path,circle{vector-effect:non-scaling-stroke;stroke-width:1}.f{stroke-width:.5}.w,.o{stroke-width:2}.r,.u{stroke-width:3}.k{stroke-width:4}.i{stroke-width:6}}",
+    )
+}
+
+fn push_shades(out: &mut Vec<u8>) -> Result<(), AllocError>
+    ensures { OnOk result (out.new.items ≡ out.old.items ++ shades_text) }
+{
+    push_text(
+        out,
+        ".h0{fill:#ffffcc}.h1{fill:#ffeda0}.h2{fill:#fed976}.h3{fill:#feb24c}.h4{fill:#fd8d3c}.h5{fill:#fc4e2a}.h6{fill:#e31a1c}.h7{fill:#b10026}",
+    )
+}
+
+#[tactic(auto, unfolding(crate::specs::Bytes::letters_text))]
+fn push_letters(out: &mut Vec<u8>, margin: u64) -> Result<(), AllocError>
+    ensures { OnOk result (out.new.items ≡ out.old.items ++ letters_text margin) }
+{
+    push_count(out, "text{font:bold ", margin)?;
+    push_count(
+        out,
+        "px sans-serif;fill:#000;stroke:#fff;paint-order:stroke;stroke-width:",
+        margin / 4,
+    )?;
+    push_text(out, "}")
+}
+
+fn push_dark(out: &mut Vec<u8>) -> Result<(), AllocError>
+    ensures { OnOk result (out.new.items ≡ out.old.items ++ dark_text) }
+{
+    push_text(
+        out,
+        "@media(prefers-color-scheme:dark){.paper{fill:#181818}.w,.u,.o{stroke:#f2f2f2}.p{stroke:#8a8a8a}.k,.r{stroke:#ff6b6b}.a{fill:#4da3e8}.b{fill:#ff9a3c}.c{fill:#2c4f6e}.s{fill:#383838}.f{fill:#24592b;stroke:#74c476}.i{stroke:#181818}text{fill:#f2f2f2;stroke:#181818}.h0{fill:#2a1636}.h1{fill:#451a4a}.h2{fill:#65205a}.h3{fill:#872a5c}.h4{fill:#aa3655}.h5{fill:#cc4a49}.h6{fill:#e76a3c}.h7{fill:#f99a3e}}",
+    )
+}
+
+#[tactic(auto, unfolding(crate::specs::Bytes::style_text))]
+fn push_style(out: &mut Vec<u8>, sizes: Sizes) -> Result<(), AllocError>
+    requires { sizes.stroke ≤ 55 }
+    ensures { OnOk result (out.new.items ≡ out.old.items ++ style_text sizes) }
+{
+    push_light(out)?;
+    push_units(out, sizes.stroke)?;
+    push_pixels(out)?;
+    push_shades(out)?;
+    push_letters(out, sizes.margin)?;
+    push_dark(out)?;
+    push_text(out, "</style>\n")
 }
 
 #[tactic(auto, unfolding(crate::specs::Bytes::paper_text))]
@@ -68,14 +168,39 @@ fn push_paper(out: &mut Vec<u8>, sizes: Sizes) -> Result<(), AllocError>
     push_text(out, "\"/>\n")
 }
 
-/// The head, the style and the paper of a picture with this frame.
-pub fn push_sheet(out: &mut Vec<u8>, frame: Frame) -> Result<(), AllocError>
-    ensures { (m : Map) → OnOk result (out.new.items ≡ out.old.items ++ spelled frame m (Head ∷ Style ∷ Paper ∷ [])) }
+/// A bar from below the map's left edge, and behind it how long it is.
+#[tactic(auto, unfolding(crate::specs::Bytes::scale_text))]
+fn push_scale(out: &mut Vec<u8>, sizes: Sizes) -> Result<(), AllocError>
+    ensures { OnOk result (out.new.items ≡ out.old.items ++ scale_text sizes) }
+{
+    push_count(out, "<path class=\"u\" d=\"M0 ", sizes.strip)?;
+    push_count(out, "H", sizes.scale)?;
+    push_written(
+        out,
+        "\"/>",
+        sizes.scale,
+        sizes.strip,
+        "\" dx=\".6em\" dy=\".36em\" class=\"n\">",
+    )?;
+    push_count(out, "", sizes.scale)?;
+    push_text(out, "</text>\n")
+}
+
+/// What a picture with this frame begins with.
+pub fn push_sheet(
+    out: &mut Vec<u8>,
+    frame: Frame,
+    name: &str,
+    about: Subject,
+) -> Result<(), AllocError>
+    ensures { (m : Map) → OnOk result (out.new.items ≡ out.old.items ++ spelled frame m (sheet_of name.now about)) }
 {
     let sizes = sizes_of(frame);
     push_head(out, sizes)?;
-    push_style(out, sizes.stroke)?;
-    push_paper(out, sizes)
+    push_title(out, name, about)?;
+    push_style(out, sizes)?;
+    push_paper(out, sizes)?;
+    push_scale(out, sizes)
 }
 
 /// The end of a picture.

@@ -3,7 +3,8 @@
 ghost use Rattle.std.specs.Prelude.{◌≡◌, ◌<◌, ◌*◌, ◌+◌, ◌==◌, All, IfOk, map};
 ghost use Rattle.std.specs.List.{list_all};
 ghost use Rattle.sight_names.specs.Table.{table_bit};
-ghost use Rattle.map_picture.specs.Picture.{pair_tint as the_pair_tint, row_tint as the_row_tint};
+ghost use Rattle.map_picture.specs.Picture.{heat_tints as the_heat_tints, most_of as the_most_of, pair_tint as the_pair_tint, row_tint as the_row_tint};
+ghost use Rattle.map_picture.specs.declared.tint.Tint.TheVariants as tint;
 
 use reject_bits::Table;
 use sight_names::{Items, Memory};
@@ -20,8 +21,10 @@ pub enum Tint {
     Set,
     /// It names the second sector of a pair, and not the first, which is the source.
     Target,
-    /// It names none of a pair.
+    /// It names none of a pair, or nothing is told of it.
     Other,
+    /// A count of it, and the greatest count of all groups.
+    Heat { count: u16, most: u16 },
 }
 
 /// Whether the bit of the pair is set.
@@ -100,6 +103,42 @@ pub fn pair_tints(alloc: Global, groups: &[Items<u16>], a: u16, b: u16) -> Resul
     let mut tints = Vec::with_capacity(alloc, groups.len())?;
     for group in groups {
         tints.push(pair_tint(a, b, group.as_slice()))?;
+    }
+    Ok(tints)
+}
+
+/// What a plan says of each group.
+pub fn plan_tints(alloc: Global, groups: &[Items<u16>]) -> Result<Vec<Tint>, Memory>
+    ensures { IfOk result (λ v. v.items ≡ map (λ names. tint.Other) groups.now) }
+{
+    let mut tints = Vec::with_capacity(alloc, groups.len())?;
+    for _group in groups {
+        tints.push(Tint::Other)?;
+    }
+    Ok(tints)
+}
+
+/// The greatest of the counts.
+pub fn most_of(counts: &[u16]) -> u16
+    ensures { result ≡ the_most_of counts.now }
+{
+    let mut most = 0;
+    for count in counts {
+        most = most.max(*count);
+    }
+    most
+}
+
+/// What counts say of their groups, if this is the greatest one.
+pub fn heat_tints(alloc: Global, counts: &[u16], most: u16) -> Result<Vec<Tint>, Memory>
+    ensures { IfOk result (λ v. v.items ≡ the_heat_tints counts.now most) }
+{
+    let mut tints = Vec::with_capacity(alloc, counts.len())?;
+    for count in counts {
+        tints.push(Tint::Heat {
+            count: *count,
+            most,
+        })?;
     }
     Ok(tints)
 }

@@ -2,7 +2,7 @@
 
 ghost use Rattle.std.specs.Prelude.{◌≡◌, ◌++◌, OnOk};
 ghost use Rattle.std.specs.Fmt.{decimal};
-ghost use Rattle.map_picture.specs.Bytes.{count_text, ends_text, path_text, point_text, step_text};
+ghost use Rattle.map_picture.specs.Bytes.{count_text, ends_text, escaped, escaped_char, path_text, point_text, step_text, written_text};
 
 use crate::frame::{Frame, across, down};
 use itoa::Buffer;
@@ -54,6 +54,45 @@ pub fn push_ends(out: &mut Vec<u8>, frame: Frame, first: Pt, second: Pt) -> Resu
 {
     push_step(out, frame, "M", first)?;
     push_step(out, frame, "L", second)
+}
+
+fn push_char(out: &mut Vec<u8>, c: u8) -> Result<(), AllocError>
+    ensures { OnOk result (out.new.items ≡ out.old.items ++ escaped_char c) }
+{
+    if c == 38 {
+        push_text(out, "&amp;")
+    } else if c == 60 {
+        push_text(out, "&lt;")
+    } else {
+        out.extend_from_slice(&[c])
+    }
+}
+
+/// A text as it stands in SVG.
+pub fn push_escaped(out: &mut Vec<u8>, text: &[u8]) -> Result<(), AllocError>
+    ensures { OnOk result (out.new.items ≡ out.old.items ++ escaped text.now) }
+{
+    for c in text {
+        push_char(out, *c)?;
+    }
+    Ok(())
+}
+
+/// A word, and the beginning of a text at a place of the picture.
+#[tactic(auto, unfolding(crate::specs::Bytes::written_text))]
+pub fn push_written(
+    out: &mut Vec<u8>,
+    word: &str,
+    x: u64,
+    y: u64,
+    moved: &str,
+) -> Result<(), AllocError>
+    ensures { OnOk result (out.new.items ≡ out.old.items ++ written_text word.now x y moved.now) }
+{
+    push_text(out, word)?;
+    push_count(out, "<text x=\"", x)?;
+    push_count(out, "\" y=\"", y)?;
+    push_text(out, moved)
 }
 
 /// A path of this class and id as far as its points.

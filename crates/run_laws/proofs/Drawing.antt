@@ -4,24 +4,25 @@ use Rattle.shelf_io.specs.Shelf.{Files}
 use Rattle.order_words.specs.declared.order.View.{View}
 use Rattle.order_words.specs.declared.order.View.TheVariants as view
 use Rattle.sight_names.specs.Map.{Map}
+use Rattle.reject_bits.specs.Parts.{TableParts}
 use Rattle.map_answers.specs.declared.sight_status.status.Flaw.{Flaw}
 use Rattle.map_answers.specs.declared.sight_status.status.Status.{Status}
 use Rattle.map_answers.specs.SightStatus.Answer.{Answer}
 use Rattle.map_picture.specs.Bytes.{svg_of}
-use Rattle.map_picture.specs.Picture.{marked_picture, plan_picture}
+use Rattle.map_picture.specs.Picture.{marked_picture}
 use Rattle.draw_answers.specs.Drawn.{Drawing, one_picture}
-use Rattle.draw_answers.specs.Faults.{fault_drawing, flaw_marks}
+use Rattle.draw_answers.specs.Faults.{DrawsFault, flaw_marks}
 use Rattle.draw_answers.specs.Plan.{plan_drawing}
-use Rattle.draw_answers.specs.Row.{row_drawing}
+use Rattle.draw_answers.specs.Row.{DrawRowCalls, row_drawing}
 use Rattle.map_answers.specs.Input.{LocatedMap, OnFound}
 use Rattle.sight_run.specs.Check.{reject_of}
-use Rattle.sight_run.specs.Draw.{DrawCalls, IsRowIn, OnTable, RowOfMap}
+use Rattle.sight_run.specs.Draw.{ByOwnTable, DrawCalls, IsCallIn, OnTable}
 use Rattle.sight_run.specs.Obeys.{AnswersAsked}
 use Rattle.sight_run.specs.Reading.{found_of}
 use Rattle.sight_run.specs.Run.{put_all}
 use Rattle.whole_wad.specs.Rejects.{table_len}
 use Rattle.sight_run.proofs.Round.{same_ok}
-use Rattle.run_laws.specs.Laws.{DrawLeavesPicture, IsPictureOf, LeavesPicture, ShowsView}
+use Rattle.run_laws.specs.Laws.{DrawLeavesPicture, IsPictureOf, LeavesPicture, ShowsPlan, ShowsView}
 use Rattle.run_laws.proofs.Keeping.{stored}
 
 leaves : (files : Files) (out : List ℕ) (answer : Answer) (d : Drawing) (IsPicture : List ℕ → Type 0) → answer ≡ one_picture out d → IsPicture d.bytes → LeavesPicture out files (put_all files answer.writes) IsPicture
@@ -32,13 +33,13 @@ leaves files out answer d IsPicture e is = record {
   others = λ name apart. ap (λ (a : Answer). put_all files a.writes name) e ∙ ap (λ (b : Bool). if b then Some d.bytes else files name) apart;
 }
 
--- the bytes of the REJECT are a table, and the answer is to its row
-on_table : (name out : List ℕ) (a : ℕ) (m : Map) (raw : List ℕ) (s : Status) (b : Bool) (answer : Answer) → OnTable name out a m (if b then Ok raw else Err s) (Ok answer) → IsRowIn name out a m raw (Ok answer)
-on_table name out a m raw s true answer q = q
-on_table name out a m raw s false answer q = absurd cc
+-- the bytes of the REJECT are a table, and the answer is one that it calls for
+on_table : (Called : TableParts → Result Answer Status → Type 0) (m : Map) (raw : List ℕ) (s : Status) (b : Bool) (answer : Answer) → OnTable Called m (if b then Ok raw else Err s) (Ok answer) → IsCallIn Called m raw (Ok answer)
+on_table Called m raw s true answer q = q
+on_table Called m raw s false answer q = absurd cc
 
-row_in : (name out : List ℕ) (a : ℕ) (found : LocatedMap) (answer : Answer) → RowOfMap name out a found (Ok answer) → IsRowIn name out a found.map (reject_of found) (Ok answer)
-row_in name out a found answer q = on_table name out a found.map (reject_of found) _ (length (reject_of found) == table_len found.map.sectors) answer q
+call_in : (Called : TableParts → Result Answer Status → Type 0) (found : LocatedMap) (answer : Answer) → ByOwnTable Called found (Ok answer) → IsCallIn Called found.map (reject_of found) (Ok answer)
+call_in Called found answer q = on_table Called found.map (reject_of found) _ (length (reject_of found) == table_len found.map.sectors) answer q
 
 -- the bytes that are drawn, and what they show
 record IsDrawn (name out : List ℕ) (asked : View) (found : LocatedMap) (answer : Answer) : Type 0 where
@@ -46,15 +47,18 @@ record IsDrawn (name out : List ℕ) (asked : View) (found : LocatedMap) (answer
   is : answer ≡ one_picture out drawing
   shows : ShowsView name found asked drawing.bytes
 
-of_fault : (name : List ℕ) (m : Map) (fault : Option Flaw) → (fault_drawing name m fault).bytes ≡ elim fault [ Some which ↦ svg_of m (marked_picture m (flaw_marks which)) | None ↦ svg_of m (plan_picture m) ]
-of_fault name m (Some which) = refl
-of_fault name m None = refl
+of_fault : (name : List ℕ) (m : Map) (fault : Option Flaw) (d : Drawing) → DrawsFault name m fault d
+    → elim fault [ Some which ↦ d.bytes ≡ svg_of m (marked_picture name m (flaw_marks which)) | None ↦ ShowsPlan name m d.bytes ]
+of_fault name m (Some which) d draws = ap (λ (x : Drawing). x.bytes) draws
+of_fault name m None d draws = record { groups = draws.groups; over = draws.over; is = ap (λ (x : Drawing). x.bytes) draws.is }
 
 drawn : (name out : List ℕ) (asked : View) (found : LocatedMap) (answer : Answer) → DrawCalls name out asked found (Ok answer) → IsDrawn name out asked found answer
-drawn name out view.Plan found answer q = record { drawing = plan_drawing name found.map; is = same_ok answer (one_picture out (plan_drawing name found.map)) q.1.called; shows = refl }
-drawn name out view.Faults found answer q = record { drawing = fault_drawing name found.map q.fault; is = q.is; shows = record { fault = q.fault; first = q.first; is = of_fault name found.map q.fault } }
+drawn name out view.Plan found answer q =
+    let g = q.1.groups in
+    record { drawing = plan_drawing name found.map g; is = same_ok answer (one_picture out (plan_drawing name found.map g)) q.1.called; shows = record { groups = g; over = q.1.over; is = refl } }
+drawn name out view.Faults found answer q = record { drawing = q.shown; is = q.is; shows = record { fault = q.fault; first = q.first; is = of_fault name found.map q.fault q.shown q.draws } }
 drawn name out (view.Row a) found answer q =
-    let r = row_in name out a found answer q in
+    let r = call_in (λ t. DrawRowCalls name out t a found.map) found answer q in
     record {
       drawing = row_drawing name found.map r.table a r.called.1.groups;
       is = r.called.1.called.1;

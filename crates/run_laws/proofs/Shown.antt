@@ -1,45 +1,24 @@
 -- The picture of a pair shows the lines of the map.
-use Rattle.std.proofs.Common.{◌≡◌, inl, inr, ℕ, zero, suc, List, [], ◌∷◌, ◌++◌, Option, Some, None, ap, codes}
-use Rattle.std.proofs.lemmas.Option.{none-some}
+use Rattle.std.proofs.Common.{◌≡◌, inl, inr, ℕ, List, [], ◌∷◌, ◌++◌, ap, codes}
 use Rattle.sight_names.specs.declared.names.Ask.{Ask}
 use Rattle.sight_names.specs.declared.names.Budget.{Budget}
 use Rattle.sight_names.specs.declared.names.Pair.{Pair}
 use Rattle.sight_names.specs.declared.names.Ray.{Ray}
-use Rattle.sight_names.specs.declared.names.Triangle.{Triangle}
-use Rattle.sight_names.specs.Map.{Map, MapLine, line_at}
+use Rattle.sight_names.specs.Map.{Map}
 use Rattle.map_answers.specs.Groups.{MapGroups}
 use Rattle.map_picture.specs.declared.pair.Stop.{Stop}
 use Rattle.map_picture.specs.Bytes.{svg_of}
-use Rattle.map_picture.specs.Picture.{Element, Entered, Line, Stops, blind_picture, numbered, pair_faces, pair_picture, pair_tint, sight_between, sight_elements, sight_picture}
+use Rattle.map_picture.specs.declared.sheet.Subject.{Subject}
+use Rattle.map_picture.specs.declared.sheet.Subject.TheVariants as subject
+use Rattle.map_picture.specs.Picture.{Element, Entered, Stops, blind_picture, numbered, pair_faces, pair_picture, pair_rings, pair_tint, sight_elements, sight_picture}
 use Rattle.map_picture.specs.Laws.{HasNoLine, ShowsFaces, ShowsLines, TellsPair as TellsFaces}
 use Rattle.map_picture.proofs.Faced.{blind_faces, no_line_in_faces, pair_shown, sight_faces}
+use Rattle.map_picture.proofs.Ids.{no_line_entered, no_line_rings, no_line_sight, no_line_stops}
 use Rattle.map_picture.proofs.Ordered.{lines_shown}
 use Rattle.pair_answer.specs.declared.answer.PairAnswer.{PairAnswer}
 use Rattle.pair_answer.specs.declared.answer.PairAnswer.TheVariants as answer
 use Rattle.draw_answers.specs.Drawn.{Drawing}
 use Rattle.draw_answers.specs.Pair.{ShowsBlindOver, ShowsPair, entered_drawing, sight_drawing, word_drawing}
-
-no_line : HasNoLine []
-no_line i l h = none-some (Line i l) h.1
-
-no_line_sight : (r : Ray) (first last : Option MapLine) → HasNoLine (sight_between r first last)
-no_line_sight r None last i l c = no_line i l c
-no_line_sight r (Some first) None i l c = no_line i l c
-no_line_sight r (Some first) (Some last) i l (zero, at) = cc
-no_line_sight r (Some first) (Some last) i l (suc k, at) = none-some (Line i l) at
-
-no_line_stops : (stops : List Stop) → HasNoLine (Stops stops ∷ [])
-no_line_stops stops i l (zero, at) = cc
-no_line_stops stops i l (suc k, at) = none-some (Line i l) at
-
-no_line_entered : (sector : ℕ) (ts : List Triangle) → HasNoLine (Entered sector ts ∷ [])
-no_line_entered sector ts i l (zero, at) = cc
-no_line_entered sector ts i l (suc k, at) = none-some (Line i l) at
-
-no_line_behind : (xs ys : List Element) → HasNoLine xs → HasNoLine ys → HasNoLine (xs ++ ys)
-no_line_behind [] ys h k i l c = k i l c
-no_line_behind (x ∷ xs) ys h k i l (zero, at) = h i l (zero, at)
-no_line_behind (x ∷ xs) ys h k i l (suc j, at) = no_line_behind xs ys (λ n o c. h n o (suc c.0, c.1)) k i l (j, at)
 
 -- a picture of a pair shows the map's lines, and faces that tell which of the two sectors their groups name
 pub record IsShownPair (m : Map) (pair : Pair) (g : MapGroups) (d : Drawing) : Type 0 where
@@ -49,32 +28,41 @@ pub record IsShownPair (m : Map) (pair : Pair) (g : MapGroups) (d : Drawing) : T
   pub faces : ShowsFaces g.groups g.triangles g.labels (TellsFaces pair.a pair.b) picture
 
 module _ (name : List ℕ) (m : Map) (pair : Pair) (g : MapGroups) where
-  faces : HasNoLine (pair_faces g.groups g.triangles g.labels pair.a pair.b)
+  abbrev of_pair : Subject
+  of_pair = subject.Pair pair.a pair.b
+
+  abbrev the_faces : List Element
+  the_faces = pair_faces g.groups g.triangles g.labels pair.a pair.b
+
+  abbrev rings : List Element
+  rings = pair_rings m g.groups g.triangles g.labels pair.a pair.b
+
+  faces : HasNoLine the_faces
   faces = no_line_in_faces (pair_tint pair.a pair.b) g.triangles g.labels 0 g.groups
 
   of_sight : (ray : Ray) (d : Drawing) → d ≡ sight_drawing name m pair g ray → IsShownPair m pair g d
   of_sight ray d same = record {
-    picture = sight_picture m g.groups g.triangles g.labels pair.a pair.b ray;
+    picture = sight_picture name m g.groups g.triangles g.labels pair.a pair.b ray;
     is = ap (λ (x : Drawing). x.bytes) same;
-    lines = lines_shown m (pair_faces g.groups g.triangles g.labels pair.a pair.b) (sight_elements m ray) faces (no_line_sight ray (line_at m ray.first.line) (line_at m ray.last.line));
-    faces = sight_faces m g.groups g.triangles g.labels pair.a pair.b ray;
+    lines = lines_shown name of_pair m the_faces (sight_elements m ray ++ rings) faces (no_line_sight m g.groups g.triangles g.labels pair.a pair.b ray);
+    faces = sight_faces name m g.groups g.triangles g.labels pair.a pair.b ray;
   }
 
   of_word : (word : List ℕ) (d : Drawing) → d ≡ word_drawing name m pair g word → IsShownPair m pair g d
   of_word word d same = record {
-    picture = pair_picture m g.groups g.triangles g.labels pair.a pair.b;
+    picture = pair_picture name m g.groups g.triangles g.labels pair.a pair.b;
     is = ap (λ (x : Drawing). x.bytes) same;
-    lines = lines_shown m (pair_faces g.groups g.triangles g.labels pair.a pair.b) [] faces no_line;
-    faces = pair_shown m g.groups g.triangles g.labels pair.a pair.b;
+    lines = lines_shown name of_pair m the_faces rings faces (no_line_rings m g.groups g.triangles g.labels pair.a pair.b);
+    faces = pair_shown name m g.groups g.triangles g.labels pair.a pair.b;
   }
 
   of_entered : (sector : ℕ) (entered : List ℕ) (stops : List Stop) (d : Drawing) → d ≡ entered_drawing name m pair g sector entered stops → IsShownPair m pair g d
   of_entered sector entered stops d same = record {
-    picture = blind_picture m g.groups g.triangles g.labels pair.a pair.b sector entered stops;
+    picture = blind_picture name m g.groups g.triangles g.labels pair.a pair.b sector entered stops;
     is = ap (λ (x : Drawing). x.bytes) same;
-    lines = lines_shown m (pair_faces g.groups g.triangles g.labels pair.a pair.b ++ Entered sector (numbered g.triangles entered) ∷ []) (Stops stops ∷ [])
-        (no_line_behind (pair_faces g.groups g.triangles g.labels pair.a pair.b) (Entered sector (numbered g.triangles entered) ∷ []) faces (no_line_entered sector (numbered g.triangles entered))) (no_line_stops stops);
-    faces = blind_faces m g.groups g.triangles g.labels pair.a pair.b sector entered stops;
+    lines = lines_shown name of_pair m (the_faces ++ Entered sector (numbered g.triangles entered) ∷ []) (Stops stops ∷ [] ++ rings)
+        (no_line_entered g.groups g.triangles g.labels pair.a pair.b sector (numbered g.triangles entered)) (no_line_stops m g.groups g.triangles g.labels pair.a pair.b stops);
+    faces = blind_faces name m g.groups g.triangles g.labels pair.a pair.b sector entered stops;
   }
 
   of_blind : (budget : Budget) (d : Drawing) → ShowsBlindOver name m pair g budget d → IsShownPair m pair g d

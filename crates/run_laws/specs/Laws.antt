@@ -162,20 +162,26 @@ pub record LeavesPicture (out : List ℕ) (files stand : Files) (IsPicture : Lis
   pub stands : stand out ≡ Some bytes
   pub others : (name : List ℕ) → bytes_eq out name ≡ false → stand name ≡ files name
 
--- the plan with the first fault marked, if the map has one
-pub record ShowsFaults (m : Map) (bytes : List ℕ) : Type 0 where
+-- the plan with the faces of the groups
+pub record ShowsPlan (name : List ℕ) (m : Map) (bytes : List ℕ) : Type 0 where
+  pub groups : MapGroups
+  pub over : IsOverGroups m groups
+  pub is : bytes ≡ svg_of m (plan_picture name m groups.groups groups.triangles groups.labels)
+
+-- .. or, if the map has a fault, the plan alone with the first one marked
+pub record ShowsFaults (name : List ℕ) (m : Map) (bytes : List ℕ) : Type 0 where
   pub fault : Option Flaw
   pub first : IsFaultOf m fault
-  pub is : bytes ≡ elim fault [ Some which ↦ svg_of m (marked_picture m (flaw_marks which)) | None ↦ svg_of m (plan_picture m) ]
+  pub is : elim fault [ Some which ↦ bytes ≡ svg_of m (marked_picture name m (flaw_marks which)) | None ↦ ShowsPlan name m bytes ]
 
 -- the faces of the groups, by the row of sector a in a table that the bytes of the map's own REJECT spell
-pub record ShowsRow (found : LocatedMap) (a : ℕ) (bytes : List ℕ) : Type 0 where
+pub record ShowsRow (name : List ℕ) (found : LocatedMap) (a : ℕ) (bytes : List ℕ) : Type 0 where
   pub within : a < found.map.sectors
   pub table : TableParts
   pub spelled : IsTableOf found.map.sectors (reject_of found) table
   pub groups : MapGroups
   pub over : IsOverGroups found.map groups
-  pub is : bytes ≡ svg_of found.map (row_picture found.map groups.groups groups.triangles groups.labels table a)
+  pub is : bytes ≡ svg_of found.map (row_picture name found.map groups.groups groups.triangles groups.labels table a)
 
 -- what an answer for the pair calls for
 pub record ShowsAnswer (name : List ℕ) (m : Map) (pair : Pair) (ask : Ask) (bytes : List ℕ) : Type 0 where
@@ -188,9 +194,9 @@ pub record ShowsAnswer (name : List ℕ) (m : Map) (pair : Pair) (ask : Ask) (by
   pub is : bytes ≡ shown.bytes
 
 abbrev pub ShowsView : List ℕ → LocatedMap → View → List ℕ → Type 0
-ShowsView name found view.Plan bytes = bytes ≡ svg_of found.map (plan_picture found.map)
-ShowsView name found view.Faults bytes = ShowsFaults found.map bytes
-ShowsView name found (view.Row a) bytes = ShowsRow found a bytes
+ShowsView name found view.Plan bytes = ShowsPlan name found.map bytes
+ShowsView name found view.Faults bytes = ShowsFaults name found.map bytes
+ShowsView name found (view.Row a) bytes = ShowsRow name found a bytes
 ShowsView name found (view.Pair pair ask) bytes = ShowsAnswer name found.map pair ask bytes
 
 -- the name finds a map in the WAD, and the bytes are those of its picture in this view

@@ -18,20 +18,25 @@ use Rattle.draw_answers.specs.Row.{DrawRowCalls}
 use Rattle.sight_run.specs.Build.{IsUnbuildable}
 use Rattle.sight_run.specs.Check.{IsTableOf, of_length, reject_of}
 
--- the answer is one to a row of the table that these bytes spell
-pub record IsRowIn (name out : List ℕ) (a : ℕ) (m : Map) (bytes : List ℕ) (answer : Result Answer Status) : Type 0 where
-  pub table : TableParts
-  pub spelled : IsTableOf m.sectors bytes table
-  pub called : DrawRowCalls name out table a m answer
+module _ (Called : TableParts → Result Answer Status → Type 0) (m : Map) where
+  -- the answer is one that the table that these bytes spell calls for
+  pub record IsCallIn (bytes : List ℕ) (answer : Result Answer Status) : Type 0 where
+    pub table : TableParts
+    pub spelled : IsTableOf m.sectors bytes table
+    pub called : Called table answer
 
--- the answers to a row of a table, or the refusal where the bytes are none
-abbrev pub OnTable : List ℕ → List ℕ → ℕ → Map → Result (List ℕ) Status → Result Answer Status → Type 0
-OnTable name out a m (Ok bytes) answer = IsRowIn name out a m bytes answer
-OnTable name out a m (Err refusal) answer = answer ≡ Err refusal
+  -- .. or the refusal where the bytes are none
+  abbrev pub OnTable : Result (List ℕ) Status → Result Answer Status → Type 0
+  OnTable (Ok bytes) answer = IsCallIn bytes answer
+  OnTable (Err refusal) answer = answer ≡ Err refusal
+
+-- the answers that the map's own table calls for
+abbrev pub ByOwnTable : (TableParts → Result Answer Status → Type 0) → LocatedMap → Result Answer Status → Type 0
+ByOwnTable Called found answer = OnTable Called found.map (of_length found.map.sectors (reject_of found)) answer
 
 -- the answers to a row of the map's own table
 abbrev pub RowOfMap : List ℕ → List ℕ → ℕ → LocatedMap → Result Answer Status → Type 0
-RowOfMap name out a found answer = OnTable name out a found.map (of_length found.map.sectors (reject_of found)) answer
+RowOfMap name out a found answer = ByOwnTable (λ t. DrawRowCalls name out t a found.map) found answer
 
 -- the answers that `draw` calls for
 abbrev pub DrawCalls : List ℕ → List ℕ → View → LocatedMap → Result Answer Status → Type 0

@@ -8,14 +8,14 @@ use Rattle.draw_answers.specs.Plan.{PlanCall, plan_drawing}
 use Rattle.draw_answers.proofs.Making.{gives_made}
 use Rattle.draw_answers.proofs.plan.draw_plan.Goals as goal
 
-pub returns-in_err-_groups-clause-judged : goal.returns-in_err-_groups-clause-judged
-returns-in_err-_groups-clause-judged c = λ out.
+pub returns-in_err-groups-clause-judged : goal.returns-in_err-groups-clause-judged
+returns-in_err-groups-clause-judged c = λ out.
     let p = err_from_is_err_and c.from_residual.result c.from_residual.ensures.1 in
-    rw (p.1, p.2) (gives_flaw (map_of c.args.plan.now) ⊤ (PlanCall c.args.map.now out (map_of c.args.plan.now)) c.in_err-_groups.field-0.0 c.in_err-_groups.ensures.refusals)
+    rw (p.1, p.2) (gives_flaw (map_of c.args.plan.now) ⊤ (PlanCall c.args.map.now out (map_of c.args.plan.now)) c.in_err-groups.field-0.0 c.in_err-groups.ensures.refusals)
 
 pub returns-clause-judged : goal.returns-clause-judged
 returns-clause-judged c = λ out.
-    let e = c.in_ok-_groups.ensures in
+    let e = c.in_ok-groups.ensures in
     let p = c.args.plan.now in
-    gives_made p e.groups.plan (PlanCall c.args.map.now out (map_of p)) out (seen c.in_ok-_groups._groups) e.lines e.groups.over (plan_drawing c.args.map.now (map_of p)) refl (λ x k. k)
+    gives_made p e.groups.plan (PlanCall c.args.map.now out (map_of p)) out (seen c.in_ok-groups.groups) e.lines e.groups.over (plan_drawing c.args.map.now (map_of p) (seen c.in_ok-groups.groups)) refl (λ x k. k)
     c.drawn_plan.result c.made.result c.drawn_plan.ensures c.made.ensures.made

@@ -10,7 +10,7 @@ pub loop-g-preserved : goal.loop-g-preserved
 loop-g-preserved c =
     let in_groups : c.loop-g.g < length c.args.groups.now = c.loop-g-test.true in
     let in_tints : c.loop-g.g < length c.args.faces.now.tints.items = omega (arith, c.requires.tints, in_groups) in
-    let made = face_made c.args.frame (map_of c.args.plan.now) c.index.result.now c.loop-g.g c.index-groups-g.result _ _ _ c.loop-g.out.items _ _ _ c.class_of.ensures c.as_slice.ensures
-    c.in_ok-push_path.ensures c.in_ok-push_triangles.ensures c.in_ok-push_title.ensures in
-    let more = faces_more c.args.mesh.now.triangles c.args.labels.now c.loop-g.g c.args.faces.now.tints.items c.args.groups.now c.index.result.now c.index-groups-g.result in_tints in_groups c.index.ensures c.index-groups-g.is in
+    let made = face_made c.args.frame (map_of c.args.plan.now) c.index-tint.result.now c.loop-g.g c.index-groups-g.result _ _ c.loop-g.out.items _ _ _ c.as_slice.ensures
+    c.in_ok-push_begun.ensures c.in_ok-push_triangles.ensures c.in_ok-push_title.ensures in
+    let more = faces_more c.args.mesh.now.triangles c.args.labels.now c.loop-g.g c.args.faces.now.tints.items c.args.groups.now c.index-tint.result.now c.index-groups-g.result in_tints in_groups c.index-tint.ensures c.index-groups-g.is in
     stepped _ _ _ _ _ _ made (ap (λ (es : List Element). spelled c.args.frame (map_of c.args.plan.now) es) more) c.loop-g.invariant
