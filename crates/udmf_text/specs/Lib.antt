@@ -1,3 +1,4 @@
 pub mod TextTokens
 pub mod TextNumbers
 pub mod Parts
+pub mod Told

@@ -2,8 +2,6 @@
 #![tactic(auto)]
 
 mod parts;
-#[cfg(test)]
-mod tests;
 pub mod text_numbers;
 pub mod text_tokens;
 
