@@ -1,0 +1,5 @@
+pub mod Values
+pub mod Blocks
+pub mod Reading
+pub mod Checks
+pub mod Lumps
