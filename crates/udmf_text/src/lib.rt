@@ -1,6 +1,7 @@
 //! What a text of UDMF spells.
 #![tactic(auto)]
 
+pub mod laws;
 mod parts;
 pub mod text_numbers;
 pub mod text_tokens;
