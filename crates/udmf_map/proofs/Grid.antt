@@ -2,7 +2,6 @@
 use Rattle.std.proofs.Common.{◌≡◌, ◌≤◌, ◌<◌, ℕ, ◌*◌, ◌/◌, ◌%◌, ◌^◌, eqb, Bool, true, false, cond, Some, None, ap, ◌∙◌, arith}
 use Rattle.std.proofs.Math.Nat.{one-le-pow, pow-le-pow_right, mul-le-mul_left, mul-le-mul_right, mod-eq_of_lt}
 use Rattle.std.proofs.lemmas.Bool.{ne_eqb}
-use Rattle.udmf_map.specs.declared.values.Coordinate.{Coordinate}
 use Rattle.udmf_map.specs.declared.values.Coordinate.TheVariants.{OffGrid}
 use Rattle.udmf_map.specs.Values.{signed, divided}
 

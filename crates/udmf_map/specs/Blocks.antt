@@ -1,5 +1,5 @@
 -- What is read of the blocks of a text.
-use Rattle.std.specs.Prelude.{ℕ, Bool, true, false, List, Option, Some, None, option_map, codes, if◌then◌else◌, ℤ, pos, neg_ℤ}
+use Rattle.std.specs.Prelude.{ℕ, false, List, Option, Some, option_map, codes, if◌then◌else◌, ℤ, pos, neg_ℤ}
 use Rattle.udmf_map.specs.declared.values.Coordinate.TheVariants.{Missing}
 use Rattle.udmf_map.specs.declared.blocks.Vertex.{Vertex}
 use Rattle.udmf_map.specs.declared.blocks.Linedef.{Linedef}

@@ -3,3 +3,6 @@ pub mod Blocks
 pub mod Reading
 pub mod Checks
 pub mod Lumps
+pub mod Places
+pub mod Spelled
+pub mod Standing

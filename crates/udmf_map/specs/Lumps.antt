@@ -1,5 +1,5 @@
 -- The four lumps that a text spells, in Doom's format (the Unofficial Doom Specs on LINEDEFS, SIDEDEFS, VERTEXES, SECTORS).
-use Rattle.std.specs.Prelude.{ℕ, ◌+◌, ◌*◌, ◌==◌, nat_le, Bool, List, [], ◌∷◌, ◌++◌, flat_map, replicate, Option, Some, None, Result, Ok, Err, if◌then◌else◌, ℤ, pos, negsuc}
+use Rattle.std.specs.Prelude.{ℕ, ◌+◌, ◌*◌, ◌==◌, nat_le, List, ◌++◌, flat_map, replicate, Option, Some, None, Result, Ok, Err, if◌then◌else◌, ℤ, pos, negsuc}
 use Rattle.std.specs.Int.{to_le_bytes, cast_unsigned, w16}
 use Rattle.udmf_map.specs.declared.values.Coordinate.{Coordinate}
 use Rattle.udmf_map.specs.declared.values.Coordinate.TheVariants.{Missing, OffGrid, At}

@@ -1,5 +1,5 @@
 -- The values that keys take, and what each spells.
-use Rattle.std.specs.Prelude.{ℕ, ◌+◌, ◌-◌, ◌*◌, ◌/◌, ◌%◌, ◌^◌, ◌==◌, suc, nat_le, Bool, true, false, List, Option, Some, None, option_map, codes, if◌then◌else◌, ℤ, pos, negsuc, neg_ℤ, nat_abs, int_lt}
+use Rattle.std.specs.Prelude.{ℕ, ◌-◌, ◌*◌, ◌/◌, ◌%◌, ◌^◌, ◌==◌, suc, nat_le, Bool, true, false, List, Option, Some, None, option_map, codes, if◌then◌else◌, ℤ, pos, negsuc, neg_ℤ, nat_abs, int_lt}
 use Rattle.std.specs.Str.{str_eq_ignore_ascii_case}
 use Rattle.udmf_text.specs.declared.text_numbers.decimal.Decimal.{Decimal}
 use Rattle.udmf_map.specs.declared.values.Coordinate.{Coordinate}
