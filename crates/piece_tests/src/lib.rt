@@ -1,5 +1,5 @@
-//! Calls that the program doesn't make, or doesn't make so: certificates in pieces and in threads, faces with several names, and every map
-//! of a WAD.
+//! Calls that the program doesn't make, or doesn't make so: certificates in pieces and in threads, faces with several
+//! names, every map of a WAD, and texts of UDMF.
 #![tactic(auto)]
 
 #[cfg(test)]
@@ -8,6 +8,8 @@ mod certs;
 mod exact_rows;
 #[cfg(test)]
 mod groups;
+#[cfg(test)]
+mod texts;
 #[cfg(test)]
 mod verdicts;
 #[cfg(test)]

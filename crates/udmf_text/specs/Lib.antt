@@ -1,3 +1,5 @@
 pub mod TextTokens
 pub mod TextNumbers
 pub mod Parts
+pub mod Told
+pub mod Grammar

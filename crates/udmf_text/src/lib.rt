@@ -1,9 +1,8 @@
 //! What a text of UDMF spells.
 #![tactic(auto)]
 
+pub mod laws;
 mod parts;
-#[cfg(test)]
-mod tests;
 pub mod text_numbers;
 pub mod text_tokens;
 

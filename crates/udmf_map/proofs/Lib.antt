@@ -1,0 +1,4 @@
+pub mod Grid
+pub mod OnWay
+pub mod Spelled
+pub mod Standing

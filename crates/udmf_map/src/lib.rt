@@ -1,0 +1,18 @@
+//! The map that a text of UDMF spells: the records of its blocks, and the four lumps of the same map in Doom's format.
+#![tactic(auto)]
+
+mod blocks;
+mod checks;
+mod faults;
+pub mod laws;
+mod lumps;
+mod places;
+mod reading;
+mod values;
+
+pub use blocks::{Block, Linedef, Vertex};
+pub use faults::TextFault;
+pub use lumps::{FourLumps, lumps_of_text};
+pub use places::{Place, place_of};
+pub use reading::{Namespace, Records, read_text};
+pub use values::Coordinate;
