@@ -156,7 +156,7 @@ impl Cells {
     ) -> Result<Cells, Memory> {
         let doors = doors_of(alloc, mesh, edges, gates)?;
         let numbers = numbers_of(alloc, edges.len(), doors.as_slice())?;
-        let mut cells = Vec::new(alloc);
+        let mut cells = Vec::with_capacity(alloc, numbers.len())?;
         for number in numbers.as_slice() {
             if let Some(edge) = edges.get(short(cells.len())) {
                 cells.push(cell_of(plan, gates, numbers.as_slice(), edge, *number))?;

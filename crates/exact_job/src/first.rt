@@ -121,9 +121,10 @@ fn take_in(
 ) -> Result<(), Memory> {
     let mut number: usize = 0;
     for one in found {
-        pairs.join_all(known, &one.tracks)?;
+        let Searched { growth, tracks } = one;
+        pairs.join_all(known, &tracks)?;
         if number < sought.len() {
-            sought[number].trace.grow(&one.growth, known.changed.len())?;
+            sought[number].trace.grow(growth, known.changed.len())?;
         }
         number = number.wrapping_add(1);
     }

@@ -21,8 +21,8 @@ pub struct Marks {
     places: Vec<usize>,
     /// These words of what is wanted, at first, and then behind each gate on the way.
     rows: Vec<u64>,
-    /// How many gates are on the way.
-    depth: usize,
+    /// The gates on the way.
+    way: Vec<u32>,
 }
 
 impl Marks {
@@ -33,7 +33,7 @@ impl Marks {
             more: Vec::new(alloc),
             places: Vec::new(alloc),
             rows: Vec::new(alloc),
-            depth: 0,
+            way: Vec::new(alloc),
         }
     }
 
@@ -58,18 +58,18 @@ impl Marks {
     fn mark_all(&mut self, scene: &Scene<'_>, met: &[Met]) -> Result<bool, Memory> {
         let mut some = false;
         let mut number: u32 = 0;
-        self.depth = 0;
+        self.way.clear();
         for _ in 0..STEPS {
             let Some(one) = met.get(number as usize) else {
                 return Ok(some);
             };
             let mask = scene.mask(one.gate);
             if one.is_open() && self.leads_on(mask)? {
-                number = self.first_behind(met, one, number);
+                number = self.first_behind(met, one, number)?;
             } else {
                 if !one.is_open() && self.is_opened(mask) {
                     some = true;
-                    self.mark_up(met, number);
+                    self.mark_way(number);
                 }
                 number = self.next_of(met, number);
             }
@@ -116,7 +116,7 @@ impl Marks {
     #[inline(always)]
     fn leads_on(&mut self, mask: &[u64]) -> Result<bool, Memory> {
         let count = self.places.len();
-        let from = self.depth.saturating_mul(count);
+        let from = self.way.len().saturating_mul(count);
         let to = from.saturating_add(count);
         let end = to.saturating_add(count);
         if self.rows.len() < end {
@@ -139,7 +139,7 @@ impl Marks {
     /// Whether something that is wanted can be seen now behind a closed gate with this mask.
     #[inline(always)]
     fn is_opened(&self, mask: &[u64]) -> bool {
-        let from = self.depth.saturating_mul(self.places.len());
+        let from = self.way.len().saturating_mul(self.places.len());
         let row = part(self.rows.as_slice(), from, self.places.len());
         for number in 0..row.len().min(self.places.len()) {
             if row[number] & word_at(mask, self.places[number]) != 0 {
@@ -151,41 +151,53 @@ impl Marks {
 
     /// The first gate that was met behind this one, or else the next one.
     #[inline(always)]
-    fn first_behind(&mut self, met: &[Met], one: &Met, number: u32) -> u32 {
+    fn first_behind(&mut self, met: &[Met], one: &Met, number: u32) -> Result<u32, Memory> {
         if one.child == NONE {
-            return self.next_of(met, number);
+            return Ok(self.next_of(met, number));
         }
-        self.depth = self.depth.saturating_add(1);
-        one.child
+        self.way.push(number)?;
+        Ok(one.child)
     }
 
-    /// The next gate that was met behind the same one, or else behind one further up.
+    /// The next gate that was met behind the same one, or else behind one before that on the way.
     #[inline(always)]
     fn next_of(&mut self, met: &[Met], number: u32) -> u32 {
-        let mut up = number;
+        let mut last = number;
         for _ in 0..met.len() {
-            let Some(one) = met.get(up as usize) else {
+            let Some(one) = met.get(last as usize) else {
                 return NONE;
             };
             if one.next != NONE {
                 return one.next;
             }
-            up = one.parent;
-            self.depth = self.depth.saturating_sub(1);
+            let Some(before) = self.way.pop() else {
+                return NONE;
+            };
+            last = before;
         }
         NONE
     }
 
-    /// Marks the gate and all behind which it was met.
-    fn mark_up(&mut self, met: &[Met], number: u32) {
+    /// Marks the gate and all on the way to it. What is before a marked one is marked too.
+    fn mark_way(&mut self, number: u32) {
         let live = self.live.as_mut_slice();
-        let mut up = number as usize;
-        for _ in 0..met.len() {
-            if up >= live.len().min(met.len()) || live[up] {
+        let way = self.way.as_slice();
+        put_live(live, number);
+        for place in 0..way.len() {
+            if !put_live(live, way[way.len() - 1 - place]) {
                 return;
             }
-            live[up] = true;
-            up = met[up].parent as usize;
         }
     }
+}
+
+/// Marks the gate with this number. Whether it wasn't marked before.
+#[inline(always)]
+fn put_live(live: &mut [bool], number: u32) -> bool {
+    let place = number as usize;
+    if place >= live.len() || live[place] {
+        return false;
+    }
+    live[place] = true;
+    true
 }

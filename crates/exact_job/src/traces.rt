@@ -8,10 +8,9 @@ use std::alloc::Global;
 /// Stands for the first gate met behind one that the search didn't go through.
 const SHUT: u32 = 4_294_967_294;
 
-/// A gate that a search met: the one behind which it was met, the next one met behind that, and the first one met behind itself.
+/// A gate that a search met, the next one met behind the same one, and the first one met behind itself.
 #[derive(Clone, Copy)]
 pub struct Met {
-    pub parent: u32,
     pub next: u32,
     pub child: u32,
     pub gate: u32,
@@ -88,16 +87,25 @@ impl Trace {
     }
 
     /// Takes in what a search adds, of so many words of gates. No room is left over, since a map has many traces.
-    pub fn grow(&mut self, more: &Growth, words: usize) -> Result<(), Memory> {
-        let growth = more.met.as_slice();
-        if growth.is_empty() && more.entered.is_empty() {
+    pub fn grow(&mut self, more: Growth, words: usize) -> Result<(), Memory> {
+        let Growth { met, entered } = more;
+        if met.is_empty() && entered.is_empty() {
             return Ok(());
         }
         self.tested.resize(words, 0)?;
-        self.met.reserve_exact(growth.len())?;
-        self.met.extend_from_slice(growth)?;
-        self.note_tested(growth);
-        self.note_entered(more.entered.as_slice());
+        self.note_tested(met.as_slice());
+        self.note_entered(entered.as_slice());
+        self.add(met)
+    }
+
+    /// Adds gates that are met for the first time.
+    fn add(&mut self, met: Vec<Met>) -> Result<(), Memory> {
+        if self.met.is_empty() {
+            self.met = met;
+        } else {
+            self.met.reserve_exact(met.len())?;
+            self.met.extend_from_slice(met.as_slice())?;
+        }
         Ok(())
     }
 
@@ -153,7 +161,6 @@ impl Growth {
         let base = short(before.met.len());
         let number = base.wrapping_add(short(self.met.len()));
         self.met.push(Met {
-            parent: level.entry,
             next: NONE,
             child: if open { NONE } else { SHUT },
             gate,
