@@ -27,11 +27,12 @@ pub struct Cell {
     pub right: Way,
 }
 
-/// A cell for each half-edge, and for each gate its half-edge.
+/// A cell for each half-edge, and for each gate its half-edge and the one by which one comes back.
 #[derive(Drop)]
 pub struct Cells {
     pub cells: Vec<Cell>,
     pub doors: Vec<u32>,
+    pub backs: Vec<u32>,
 }
 
 /// The number in 32 bits; none that doesn't fit is met.
@@ -96,6 +97,14 @@ fn cell_of(plan: &Plan, gates: &[Gate], numbers: &[u32], edge: &HalfEdge, gate: 
     }
 }
 
+/// The half-edge, if it is there.
+fn number_of(edge: Option<u32>) -> u32 {
+    match edge {
+        Some(number) => number,
+        None => NONE,
+    }
+}
+
 /// For each gate the half-edge by which one comes in at it.
 fn doors_of(
     alloc: Global,
@@ -105,13 +114,23 @@ fn doors_of(
 ) -> Result<Vec<u32>, Memory> {
     let mut doors = Vec::new(alloc);
     for gate in gates {
-        let door = match edges.entering(mesh, gate.left, gate.right) {
-            Some(edge) => edge,
-            None => NONE,
-        };
-        doors.push(door)?;
+        doors.push(number_of(edges.entering(mesh, gate.left, gate.right)))?;
     }
     Ok(doors)
+}
+
+/// For each gate the half-edge by which one comes back through it.
+fn backs_of(
+    alloc: Global,
+    mesh: &Mesh,
+    edges: &HalfEdges,
+    gates: &[Gate],
+) -> Result<Vec<u32>, Memory> {
+    let mut backs = Vec::new(alloc);
+    for gate in gates {
+        backs.push(number_of(edges.entering(mesh, gate.right, gate.left)))?;
+    }
+    Ok(backs)
 }
 
 /// For each of so many half-edges the gate that it is.
@@ -137,12 +156,17 @@ impl Cells {
     ) -> Result<Cells, Memory> {
         let doors = doors_of(alloc, mesh, edges, gates)?;
         let numbers = numbers_of(alloc, edges.len(), doors.as_slice())?;
-        let mut cells = Vec::new(alloc);
+        let mut cells = Vec::with_capacity(alloc, numbers.len())?;
         for number in numbers.as_slice() {
             if let Some(edge) = edges.get(short(cells.len())) {
                 cells.push(cell_of(plan, gates, numbers.as_slice(), edge, *number))?;
             }
         }
-        Ok(Cells { cells, doors })
+        let backs = backs_of(alloc, mesh, edges, gates)?;
+        Ok(Cells {
+            cells,
+            doors,
+            backs,
+        })
     }
 }

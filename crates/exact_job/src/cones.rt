@@ -1,7 +1,14 @@
 //! The two extreme lines that part the left ends of portals from the right ends, in numbers of 64 bits. Nothing is proved of them.
 
-use sight_names::{Pt, Ray, Side};
-use sight_ray::ray_of;
+use sight_names::Pt;
+
+/// A line in the numbers of a ray: its value is above 0 at points on its left.
+#[derive(Clone, Copy)]
+pub struct Line {
+    pub a: i32,
+    pub b: i32,
+    pub c: i64,
+}
 
 /// A line: its value is above 0 at points on its left.
 #[derive(Clone, Copy)]
@@ -34,6 +41,17 @@ fn value(form: &Form, at: Pt) -> i64 {
         .wrapping_add(form.c)
 }
 
+impl Line {
+    /// The line's value at the point.
+    #[inline(always)]
+    pub fn level(&self, at: Pt) -> i64 {
+        (self.a as i64)
+            .wrapping_mul(at.x as i64)
+            .wrapping_add((self.b as i64).wrapping_mul(at.y as i64))
+            .wrapping_add(self.c)
+    }
+}
+
 /// The line from the one point to the other.
 #[inline(always)]
 fn form_of(from: Pt, to: Pt) -> Form {
@@ -50,7 +68,7 @@ fn form_of(from: Pt, to: Pt) -> Form {
 }
 
 /// The coefficient; one that doesn't fit is none of a ray.
-fn narrow(value: i64) -> i32 {
+pub fn narrow(value: i64) -> i32 {
     match i32::try_from(value) {
         Ok(number) => number,
         Err(_) => 0,
@@ -132,53 +150,50 @@ impl Cone {
         self.rights = place;
     }
 
-    /// A ray from the one side to the other, along a line between the two.
-    pub fn ray(&self, first: Side, last: Side) -> Ray {
+    /// A line between the two.
+    pub fn between(&self) -> Line {
         let across = self
             .first
             .a
             .wrapping_mul(self.second.b)
             .wrapping_sub(self.first.b.wrapping_mul(self.second.a));
         if across == 0 {
-            self.ray_across(first, last)
+            self.line_across()
         } else {
-            self.ray_between(first, last)
+            self.line_between()
         }
     }
 
-    /// Where both are one line: a ray across it, between the two ends of the portal.
-    fn ray_across(&self, first: Side, last: Side) -> Ray {
+    /// Where both are one line: a line across it, between the two ends of the portal.
+    fn line_across(&self) -> Line {
         let x = (self.first_left.x as i64).wrapping_sub(self.first_right.x as i64);
         let y = (self.first_left.y as i64).wrapping_sub(self.first_right.y as i64);
         let at = x
             .wrapping_mul(self.first_left.x as i64)
             .wrapping_add(y.wrapping_mul(self.first_left.y as i64));
-        ray_of(
-            first,
-            last,
-            narrow(x.wrapping_mul(2)),
-            narrow(y.wrapping_mul(2)),
-            1i64.wrapping_sub(at.wrapping_mul(2)),
-        )
+        Line {
+            a: narrow(x.wrapping_mul(2)),
+            b: narrow(y.wrapping_mul(2)),
+            c: 1i64.wrapping_sub(at.wrapping_mul(2)),
+        }
     }
 
-    /// A ray in the middle of the two, moved a little off the end where they meet.
-    fn ray_between(&self, first: Side, last: Side) -> Ray {
+    /// A line in the middle of the two, moved a little off the end where they meet.
+    fn line_between(&self) -> Line {
         let shift = if self.first_right == self.second_right {
             -1i64
         } else {
             1i64
         };
-        ray_of(
-            first,
-            last,
-            narrow(self.first.a.wrapping_add(self.second.a).wrapping_mul(2)),
-            narrow(self.first.b.wrapping_add(self.second.b).wrapping_mul(2)),
-            self.first
+        Line {
+            a: narrow(self.first.a.wrapping_add(self.second.a).wrapping_mul(2)),
+            b: narrow(self.first.b.wrapping_add(self.second.b).wrapping_mul(2)),
+            c: self
+                .first
                 .c
                 .wrapping_add(self.second.c)
                 .wrapping_mul(2)
                 .wrapping_add(shift),
-        )
+        }
     }
 }

@@ -1,182 +1,191 @@
-//! The first walk: rays for pairs of groups, found by searches within bounds.
+//! The first walk: rays for pairs of groups, found by searches in rounds, each within what is known so far.
 //!
 //! Nothing is proved of what it finds: each ray is judged before it counts, and what it misses the rounds behind it find.
 
-use crate::bounds::Bounds;
 use crate::cells::Cells;
-use crate::rays::toward;
-use crate::scout::Scene;
-use crate::walk_tasks::{Wanted, WantedWalks};
+use crate::known::Known;
+use crate::pairs::Pairs;
+use crate::scene::Scene;
+use crate::scout::Searched;
+use crate::seeds::try_lines;
+use crate::traces::Trace;
+use crate::walk_tasks::{Sought, WantedWalks};
 use crate::walkers::Walkers;
-use crate::words::{drop_at, put_at, zeros};
+use crate::words::{drop_at, has_any, put_at, row_with, start_of, word_at, zeros};
 use face_groups::tri_sectors::components;
 use gate_floods::gate_masks::gates::Gates;
-use geom_exact::in_range;
 use group_checker::GroupedMesh;
 use mesh_shape::half_edges::HalfEdges;
-use pair_budget::Reached;
 use sight_names::{Memory, PairRay};
 use std::alloc::Global;
 
-/// How many groups are walked within the same bounds, before those are narrowed by what the walks found. It is the same for any
-/// number of workers, so that the rays are.
-const WAVE: usize = 16;
+/// More rounds than there are: in each but the last one a pair is found.
+const ROUNDS: u64 = 1_000_000_000;
 
-/// How many waves are made of neighbours in the order in turn. Neighbours often see much the same, so that what the walk of one
-/// finds narrows that of the next one most.
-const SHARED: usize = 8;
+/// For each group those of its component, in rows of so many words that are named after its first group.
+fn component_rows(alloc: Global, components: &[u16], width: usize) -> Result<Vec<u64>, Memory> {
+    let mut rows = zeros(alloc, start_of(components.len(), width))?;
+    let mut group: u16 = 0;
+    for first in components {
+        put_at(rows.as_mut_slice(), start_of(*first as usize, width), group);
+        group = group.wrapping_add(1);
+    }
+    Ok(rows)
+}
 
-/// The groups in waves: those of a wave aren't neighbours in this order.
-fn spread(alloc: Global, order: &[u16]) -> Result<Vec<u16>, Memory> {
-    let mut all = Vec::new(alloc);
-    for part in order.chunks(WAVE * SHARED) {
-        let step = part.len().div_ceil(WAVE);
-        for first in 0..step {
-            for number in 0..WAVE {
-                if let Some(group) = part.get(first.saturating_add(number.saturating_mul(step))) {
-                    all.push(*group)?;
-                }
-            }
+/// Puts what the first row has and the second one has not there.
+fn put_less(rows: &mut [u64], at: usize, one: &[u64], other: &[u64]) {
+    for place in 0..one.len() {
+        let to = at.saturating_add(place);
+        if to < rows.len() {
+            rows[to] = one[place] & !word_at(other, place);
         }
     }
-    Ok(all)
 }
 
-/// The row of what the group may see and isn't done.
-fn wanted(alloc: Global, bounds: &Bounds, done: &[u64], group: u16) -> Result<Vec<u64>, Memory> {
-    let mut row = Vec::from_slice(alloc, bounds.row(group))?;
-    for place in 0..row.len().min(done.len()) {
-        row[place] &= !done[place];
-    }
-    drop_at(row.as_mut_slice(), 0, group);
-    Ok(row)
-}
-
-/// What the group is known to see once it is walked: itself, what it may see and was done before, and what it found.
-fn seen(
+/// For each group, in this order, those of its component that come later and that it isn't known to see.
+fn wanted_rows(
     alloc: Global,
-    bounds: &Bounds,
-    done: &[u64],
-    group: u16,
-    found: &[Reached],
+    known: &Known,
+    order: &[u16],
+    components: &[u16],
 ) -> Result<Vec<u64>, Memory> {
-    let mut row = Vec::from_slice(alloc, bounds.row(group))?;
-    for place in 0..row.len().min(done.len()) {
-        row[place] &= done[place];
-    }
-    put_at(row.as_mut_slice(), 0, group);
-    for reached in found {
-        put_at(row.as_mut_slice(), 0, reached.to);
-    }
-    Ok(row)
-}
-
-/// What is wanted of the walks of these groups: of two of them only the first wants the other.
-fn wave_of(
-    alloc: Global,
-    bounds: &Bounds,
-    done: &[u64],
-    groups: &[u16],
-) -> Result<Vec<Wanted>, Memory> {
-    let mut left_out = Vec::from_slice(alloc, done)?;
-    let mut wave = Vec::new(alloc);
-    for group in groups {
-        let row = wanted(alloc, bounds, left_out.as_slice(), *group)?;
-        put_at(left_out.as_mut_slice(), 0, *group);
-        wave.push(Wanted { group: *group, row })?;
-    }
-    Ok(wave)
-}
-
-/// Settles what the groups of a wave see, one after another.
-fn settle_wave(
-    alloc: Global,
-    gates: &Gates,
-    bounds: &mut Bounds,
-    done: &mut [u64],
-    wave: &[Wanted],
-    found: &[Vec<Reached>],
-) -> Result<(), Memory> {
-    for number in 0..wave.len().min(found.len()) {
-        let group = wave[number].group;
-        let row = seen(alloc, bounds, done, group, found[number].as_slice())?;
-        bounds.settle(gates, group, row.as_slice())?;
-        put_at(done, 0, group);
-    }
-    Ok(())
-}
-
-/// Adds the rays that the group found.
-fn note(rays: &mut Vec<PairRay>, group: u16, found: &[Reached]) -> Result<(), Memory> {
-    for reached in found {
-        if in_range(&reached.ray) {
-            rays.push(toward(group, reached))?;
+    let width = known.width;
+    let mut later = component_rows(alloc, components, width)?;
+    let mut wanted = zeros(alloc, known.seen.len())?;
+    for group in order {
+        if let Some(first) = components.get(*group as usize) {
+            let from = start_of(*first as usize, width);
+            drop_at(later.as_mut_slice(), from, *group);
+            let row = row_with(later.as_slice(), *first as usize, width);
+            let to = start_of(*group as usize, width);
+            put_less(wanted.as_mut_slice(), to, row, known.row(*group));
         }
     }
-    Ok(())
+    Ok(wanted)
 }
 
-/// Adds the rays that the groups of a wave found.
-fn note_wave(
-    rays: &mut Vec<PairRay>,
-    wave: &[Wanted],
-    found: &[Vec<Reached>],
-) -> Result<(), Memory> {
-    for number in 0..wave.len().min(found.len()) {
-        note(rays, wave[number].group, found[number].as_slice())?;
+/// Those of the groups of which something is wanted.
+fn wanting(
+    alloc: Global,
+    order: &[u16],
+    wanted: &[u64],
+    width: usize,
+) -> Result<Vec<Sought>, Memory> {
+    let mut sought = Vec::new(alloc);
+    for group in order {
+        if has_any(row_with(wanted, *group as usize, width)) {
+            sought.push(Sought {
+                group: *group,
+                trace: Trace::new(alloc),
+            })?;
+        }
     }
-    Ok(())
+    Ok(sought)
 }
 
-/// What the searches of a wave find.
-fn walked<'a, W: Walkers>(
+/// What the searches of a round come to.
+fn searched<'a, W: Walkers>(
     walkers: &W,
     alloc: Global,
-    wanted: &'a [Wanted],
     cells: &'a Cells,
     gates: &'a Gates,
-    bounds: &'a Bounds,
-) -> Result<Vec<Vec<Reached>>, Memory>
+    known: &'a Known,
+    sought: &'a [Sought],
+    wanted: &'a [u64],
+) -> Result<Vec<Searched>, Memory>
     requires can { W.can_walk walkers.now }
 {
     let scene = Scene {
         cells,
         gates,
-        masks: bounds.masks.as_slice(),
-        width: bounds.width,
+        masks: known.masks.as_slice(),
+        more: known.more.as_slice(),
+        changed: known.changed.as_slice(),
+        width: known.width,
     };
-    walkers.walk_wanted(alloc, &WantedWalks { wanted, scene })
+    let walks = WantedWalks {
+        sought,
+        wanted,
+        scene,
+    };
+    walkers.walk_wanted(alloc, &walks)
 }
 
-/// Walks some groups, and settles what they see.
-fn walk_wave<W: Walkers>(
+/// Takes in what the searches of a round came to.
+fn take_in(
+    known: &Known,
+    found: Vec<Searched>,
+    sought: &mut [Sought],
+    pairs: &mut Pairs,
+) -> Result<(), Memory> {
+    let mut number: usize = 0;
+    for one in found {
+        let Searched { growth, tracks } = one;
+        pairs.join_all(known, &tracks)?;
+        if number < sought.len() {
+            sought[number].trace.grow(growth, known.changed.len())?;
+        }
+        number = number.wrapping_add(1);
+    }
+    Ok(())
+}
+
+/// Takes out of the rows what was found.
+fn drop_found(wanted: &mut [u64], new: &[u64]) {
+    for place in 0..wanted.len().min(new.len()) {
+        wanted[place] &= !new[place];
+    }
+}
+
+/// Lets the traces go of groups of which nothing is wanted any more.
+fn let_go(alloc: Global, sought: &mut [Sought], wanted: &[u64], width: usize) {
+    for number in 0..sought.len() {
+        let group = sought[number].group as usize;
+        if !has_any(row_with(wanted, group, width)) {
+            sought[number].trace = Trace::new(alloc);
+        }
+    }
+}
+
+/// Searches in rounds for what is wanted, until one finds nothing.
+fn search_rounds<W: Walkers>(
     walkers: &W,
     alloc: Global,
     cells: &Cells,
     gates: &Gates,
-    bounds: &mut Bounds,
-    done: &mut [u64],
-    groups: &[u16],
-    rays: &mut Vec<PairRay>,
+    known: &mut Known,
+    mut sought: Vec<Sought>,
+    mut wanted: Vec<u64>,
+    pairs: &mut Pairs,
 ) -> Result<(), Memory>
     requires can { W.can_walk walkers.now }
 {
-    let wave = wave_of(alloc, bounds, done, groups)?;
-    bounds.meet_all(gates.gates.as_slice());
-    let found = walked(walkers, alloc, wave.as_slice(), cells, gates, bounds)?;
-    note_wave(rays, wave.as_slice(), found.as_slice())?;
-    settle_wave(
-        alloc,
-        gates,
-        bounds,
-        done,
-        wave.as_slice(),
-        found.as_slice(),
-    )
+    for _ in 0..ROUNDS {
+        let before = pairs.rays.len();
+        pairs.begin();
+        let found = searched(
+            walkers,
+            alloc,
+            cells,
+            gates,
+            known,
+            sought.as_slice(),
+            wanted.as_slice(),
+        )?;
+        take_in(known, found, sought.as_mut_slice(), pairs)?;
+        if pairs.rays.len() == before {
+            return Ok(());
+        }
+        drop_found(wanted.as_mut_slice(), pairs.new.as_slice());
+        let_go(alloc, sought.as_mut_slice(), wanted.as_slice(), known.width);
+        known.add(gates, pairs.new.as_slice())?;
+    }
+    Ok(())
 }
 
-/// What may be rays for pairs of groups that see each other, found by walks in waves, each walk with what its group may see and
-/// isn't decided before the wave.
+/// What may be rays for pairs of groups that see each other, found by lines through each gate, and then by searches in rounds, each
+/// of them by what was known before its round.
 pub fn first_rays<W: Walkers>(
     walkers: &W,
     alloc: Global,
@@ -189,22 +198,16 @@ pub fn first_rays<W: Walkers>(
     let classes = components(alloc, plan)?;
     let gates = Gates::of(alloc, plan)?;
     let cells = Cells::of(alloc, plan, &over.mesh, edges, gates.gates.as_slice())?;
-    let mut bounds = Bounds::of(alloc, plan, &gates, classes.as_slice())?;
-    let order = bounds.order(alloc, gates.sectors)?;
-    let order = spread(alloc, order.as_slice())?;
-    let mut done = zeros(alloc, bounds.width)?;
-    let mut rays = Vec::new(alloc);
-    for groups in order.as_slice().chunks(WAVE) {
-        walk_wave(
-            walkers,
-            alloc,
-            &cells,
-            &gates,
-            &mut bounds,
-            done.as_mut_slice(),
-            groups,
-            &mut rays,
-        )?;
-    }
-    Ok(rays)
+    let mut known = Known::of(alloc, &gates, plan.sectors)?;
+    let mut pairs = Pairs::new(alloc, &known)?;
+    try_lines(alloc, &cells, gates.gates.as_slice(), &known, &mut pairs)?;
+    known.join(pairs.new.as_slice());
+    known.begin(&gates)?;
+    let order = known.order(alloc)?;
+    let wanted = wanted_rows(alloc, &known, order.as_slice(), classes.as_slice())?;
+    let sought = wanting(alloc, order.as_slice(), wanted.as_slice(), known.width)?;
+    search_rounds(
+        walkers, alloc, &cells, &gates, &mut known, sought, wanted, &mut pairs,
+    )?;
+    Ok(pairs.rays)
 }

@@ -1,21 +1,28 @@
 //! The build of a map with closed faces that decides every pair, and lists none.
 //!
-//! A first walk of all groups finds rays, by bounds on what each group may see; each of them is judged. Then each group is
-//! walked with what it owns of the pairs that have no ray: where none of these walks finds anything, their nodes show that no
-//! such pair sees.
+//! A first walk of all groups finds rays, by what is known so far of what each group sees; each of them is judged. Then each
+//! group is walked with what it owns of the pairs that have no ray: where none of these walks finds anything, their nodes show
+//! that no such pair sees.
 #![tactic(auto)]
 
-mod bounds;
+mod bars;
 mod build;
 mod cells;
 mod cones;
 mod first;
 mod judged;
+mod known;
 mod lines;
+mod marks;
+mod pairs;
 mod rays;
+mod scene;
 mod scout;
+mod seeds;
 mod settling;
 mod table;
+mod traces;
+mod tracks;
 mod trees;
 mod walk_tasks;
 mod walkers;

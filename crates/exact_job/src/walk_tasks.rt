@@ -6,12 +6,14 @@ ghost use Rattle.gate_floods.specs.RowJudge.Masks.{rows_of};
 ghost use Rattle.row_trees.specs.Walkable.{Ground as GroundOf, IsWalkable};
 ghost use Rattle.exact_job.specs.Trees.{IsOwnedWalk};
 
-use crate::scout::{Scene, Scout};
+use crate::scene::Scene;
+use crate::scout::{Scout, Search, Searched};
+use crate::traces::Trace;
+use crate::words::row_with;
 use cert_checker::tree_judge::Terrain;
 use exact_checker::task_crew::Tasks;
 use exact_checker::{Owning, owned_row};
 use gate_floods::row_judge::Masks;
-use pair_budget::Reached;
 use row_trees::{Made, Walk, walk_by_row};
 use sight_names::Memory;
 use std::alloc::Global;
@@ -60,26 +62,27 @@ impl<'a> Tasks for OwnedWalks<'a> {
     }
 }
 
-/// A group, and the row of what is wanted of its search.
+/// A group that is searched from, and what its searches met.
 #[derive(Drop)]
-pub struct Wanted {
+pub struct Sought {
     pub group: u16,
-    pub row: Vec<u64>,
+    pub trace: Trace,
 }
 
-/// The searches from some groups, each with its row.
+/// Searches from some groups, by rows of what is wanted of each group.
 #[derive(Drop)]
 pub struct WantedWalks<'a> {
-    pub wanted: &'a [Wanted],
+    pub sought: &'a [Sought],
+    pub wanted: &'a [u64],
     pub scene: Scene<'a>,
 }
 
 impl<'a> Tasks for WantedWalks<'a> {
     type Tools = Scout;
 
-    type Done = Vec<Reached>;
+    type Done = Searched;
 
-    ghost can_do = { λ w i. i < length w.wanted.now };
+    ghost can_do = { λ w i. i < length w.sought.now };
 
     ghost is_done = { λ w i made. Unit {0} };
 
@@ -87,13 +90,14 @@ impl<'a> Tasks for WantedWalks<'a> {
         Scout::new(alloc)
     }
 
-    fn work(
-        &self,
-        alloc: Global,
-        scout: &mut Scout,
-        number: usize,
-    ) -> Result<Vec<Reached>, Memory> {
-        let wanted = &self.wanted[number];
-        scout.search(alloc, &self.scene, wanted.group, wanted.row.as_slice())
+    fn work(&self, alloc: Global, scout: &mut Scout, number: usize) -> Result<Searched, Memory> {
+        let sought = &self.sought[number];
+        let search = Search {
+            scene: &self.scene,
+            source: sought.group,
+            wanted: row_with(self.wanted, sought.group as usize, self.scene.width),
+            before: &sought.trace,
+        };
+        scout.search(alloc, &search)
     }
 }

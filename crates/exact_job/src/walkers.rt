@@ -8,9 +8,9 @@ ghost use Rattle.row_trees.specs.Walkable.{Ground as GroundOf, IsWalkable};
 ghost use Rattle.exact_checker.specs.TaskCrew.Done.{AreDone};
 ghost use Rattle.exact_job.specs.Trees.{IsOwnedWalk};
 
+use crate::scout::Searched;
 use crate::walk_tasks::{OwnedWalks, WantedWalks};
 use exact_checker::task_crew::{in_turn, shared};
-use pair_budget::Reached;
 use row_trees::Made;
 use sight_names::Memory;
 use std::alloc::Global;
@@ -30,11 +30,7 @@ pub trait Walkers {
         ensures { IfOk result (λ v. AreDone (IsOwnedWalk walks.now.terrain.now.edges.now (rows_of walks.now.masks.now) walks.now.terrain.now.roots.now.roots.items walks.now.terrain.now.roots.now.first.items (owning_of walks.now.known)) walks.now.known.count v.items) };
 
     /// What each of these searches finds.
-    fn walk_wanted(
-        &self,
-        alloc: Global,
-        walks: &WantedWalks<'_>,
-    ) -> Result<Vec<Vec<Reached>>, Memory>
+    fn walk_wanted(&self, alloc: Global, walks: &WantedWalks<'_>) -> Result<Vec<Searched>, Memory>
         requires can { can_walk self.now };
 }
 
@@ -49,12 +45,8 @@ impl Walkers for Alone {
         in_turn(alloc, walks, usize::from(walks.known.count))
     }
 
-    fn walk_wanted(
-        &self,
-        alloc: Global,
-        walks: &WantedWalks<'_>,
-    ) -> Result<Vec<Vec<Reached>>, Memory> {
-        in_turn(alloc, walks, walks.wanted.len())
+    fn walk_wanted(&self, alloc: Global, walks: &WantedWalks<'_>) -> Result<Vec<Searched>, Memory> {
+        in_turn(alloc, walks, walks.sought.len())
     }
 }
 
@@ -73,12 +65,8 @@ impl<'a, R: Threads + Sync> Walkers for InThreads<'a, R> {
         shared(self.rt, alloc, walks, count, usize::from(self.workers))
     }
 
-    fn walk_wanted(
-        &self,
-        alloc: Global,
-        walks: &WantedWalks<'_>,
-    ) -> Result<Vec<Vec<Reached>>, Memory> {
-        let count = walks.wanted.len();
+    fn walk_wanted(&self, alloc: Global, walks: &WantedWalks<'_>) -> Result<Vec<Searched>, Memory> {
+        let count = walks.sought.len();
         shared(self.rt, alloc, walks, count, usize::from(self.workers))
     }
 }

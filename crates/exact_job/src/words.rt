@@ -51,16 +51,6 @@ pub fn drop_at(words: &mut [u64], at: usize, group: u16) {
     }
 }
 
-/// Leaves in the row at this place what the other row has too.
-pub fn meet_at(words: &mut [u64], at: usize, other: &[u64]) {
-    if at > words.len() || words.len() - at < other.len() {
-        return;
-    }
-    for place in 0..other.len() {
-        words[at + place] &= other[place];
-    }
-}
-
 /// Puts all that the other row has into the row at this place.
 pub fn join_at(words: &mut [u64], at: usize, other: &[u64]) {
     if at > words.len() || words.len() - at < other.len() {
@@ -69,6 +59,38 @@ pub fn join_at(words: &mut [u64], at: usize, other: &[u64]) {
     for place in 0..other.len() {
         words[at + place] |= other[place];
     }
+}
+
+/// Whether the row has any.
+pub fn has_any(row: &[u64]) -> bool {
+    for word in row {
+        if *word != 0 {
+            return true;
+        }
+    }
+    false
+}
+
+/// Puts the number's bit.
+#[inline(always)]
+pub fn put_bit(words: &mut [u64], number: usize) {
+    let place = number / 64;
+    if place < words.len() {
+        words[place] |= 1 << (number % 64);
+    }
+}
+
+/// Takes the least number out of a word that stands at this place.
+#[inline(always)]
+pub fn take_number(word: &mut u64, place: usize) -> Option<usize> {
+    if *word == 0 {
+        return None;
+    }
+    let number = place
+        .saturating_mul(64)
+        .saturating_add(word.trailing_zeros() as usize);
+    *word &= word.wrapping_sub(1);
+    Some(number)
 }
 
 /// The word at this place.
@@ -83,14 +105,7 @@ pub fn word_at(words: &[u64], place: usize) -> u64 {
 /// Takes the least group out of a word that stands at this place of a row.
 #[inline(always)]
 pub fn take_group(word: &mut u64, place: usize) -> Option<u16> {
-    if *word == 0 {
-        return None;
-    }
-    let number = place
-        .saturating_mul(64)
-        .saturating_add(word.trailing_zeros() as usize);
-    *word &= word.wrapping_sub(1);
-    match u16::try_from(number) {
+    match u16::try_from(take_number(word, place)?) {
         Ok(group) => Some(group),
         Err(_) => None,
     }

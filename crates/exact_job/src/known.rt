@@ -1,0 +1,258 @@
+//! What is known to see each other, and what may be seen behind each gate by that alone.
+//!
+//! Nothing is proved of it: it only grows, and what a search misses by it the rounds behind the first walk find.
+
+use crate::bars::{Bar, bars_of, may_follow};
+use crate::words::{
+    count_in, has_any, has_at, join_at, put_at, put_bit, row_with, start_of, take_group, width_of,
+    word_at, zeros,
+};
+use gate_floods::gate_masks::gates::Gates;
+use sight_names::Memory;
+use std::alloc::Global;
+
+/// For each group a row of those that it is known to see, and for each gate a row of those that may be seen behind it by that: a
+/// flood of gates through what its near group is known to see, less what its far group isn't known to see.
+#[derive(Drop)]
+pub struct Known {
+    pub width: usize,
+    count: u16,
+    /// The rows of the groups, one behind the other.
+    pub seen: Vec<u64>,
+    /// The floods of the gates.
+    floods: Vec<u64>,
+    /// The rows of the gates.
+    pub masks: Vec<u64>,
+    /// What these got last.
+    pub more: Vec<u64>,
+    /// Whether that is anything, a bit for each gate.
+    pub changed: Vec<u64>,
+    bars: Vec<Bar>,
+    /// The groups from which a flood has to go on.
+    queue: Vec<u16>,
+}
+
+/// The number of the first gate out of this group or a later one.
+pub fn first_of(gates: &Gates, group: u32) -> usize {
+    match gates.starts.get(group as usize) {
+        Some(start) => *start,
+        None => gates.gates.len(),
+    }
+}
+
+/// The bars of the gates out of this group.
+#[inline(always)]
+fn bars_out_of<'a>(bars: &'a [Bar], gates: &Gates, group: u16) -> &'a [Bar] {
+    let to = first_of(gates, group as u32 + 1).min(bars.len());
+    let from = first_of(gates, group as u32).min(to);
+    &bars[from..to]
+}
+
+/// Goes on with a flood from one gate through these: what lies behind those that may follow it is flooded, and queued.
+#[inline(always)]
+fn flood_on(
+    own: &Bar,
+    bars: &[Bar],
+    flood: &mut [u64],
+    begin: usize,
+    queue: &mut Vec<u16>,
+) -> Result<(), Memory> {
+    for next in bars {
+        let place = begin.saturating_add(next.far as usize / 64);
+        let bit: u64 = 1 << (next.far % 64);
+        if place < flood.len() && flood[place] & bit == 0 && may_follow(own, next) {
+            flood[place] |= bit;
+            queue.push(next.far)?;
+        }
+    }
+    Ok(())
+}
+
+impl Known {
+    /// Each of so many groups sees itself.
+    pub fn of(alloc: Global, gates: &Gates, count: u16) -> Result<Known, Memory> {
+        let number = gates.gates.len();
+        let width = width_of(count);
+        let mut known = Known {
+            width,
+            count,
+            seen: zeros(alloc, start_of(count as usize, width))?,
+            floods: zeros(alloc, start_of(number, width))?,
+            masks: zeros(alloc, start_of(number, width))?,
+            more: zeros(alloc, start_of(number, width))?,
+            changed: zeros(alloc, number.div_ceil(64))?,
+            bars: bars_of(alloc, gates.gates.as_slice())?,
+            queue: Vec::new(alloc),
+        };
+        for group in 0..count {
+            put_at(
+                known.seen.as_mut_slice(),
+                start_of(group as usize, width),
+                group,
+            );
+        }
+        Ok(known)
+    }
+
+    /// What the group is known to see.
+    #[inline(always)]
+    pub fn row(&self, group: u16) -> &[u64] {
+        row_with(self.seen.as_slice(), group as usize, self.width)
+    }
+
+    /// The groups in the order of how many they are known to see.
+    pub fn order(&self, alloc: Global) -> Result<Vec<u16>, Memory> {
+        let mut counted = Vec::new(alloc);
+        for group in 0..self.count {
+            counted.push((count_in(self.row(group)), group))?;
+        }
+        counted.sort_by_key(|pair| pair.0)?;
+        let mut order = Vec::new(alloc);
+        for pair in counted.as_slice() {
+            order.push(pair.1)?;
+        }
+        Ok(order)
+    }
+
+    /// Takes in what the groups are newly known to see.
+    pub fn join(&mut self, new: &[u64]) {
+        join_at(self.seen.as_mut_slice(), 0, new);
+    }
+
+    /// The floods and rows of all gates by what is known.
+    pub fn begin(&mut self, gates: &Gates) -> Result<(), Memory> {
+        for number in 0..self.bars.len() {
+            let Some(bar) = self.bars.get(number) else {
+                return Ok(());
+            };
+            let bar = *bar;
+            let begin = start_of(number, self.width);
+            put_at(self.floods.as_mut_slice(), begin, bar.far);
+            self.flood_from(gates, &bar, begin, bar.far)?;
+            self.meet(&bar, number);
+        }
+        Ok(())
+    }
+
+    /// The flood that begins here has come to the group: it goes on from there through what the near group is known to see.
+    fn flood_from(
+        &mut self,
+        gates: &Gates,
+        own: &Bar,
+        begin: usize,
+        group: u16,
+    ) -> Result<(), Memory> {
+        let start = start_of(own.near as usize, self.width);
+        self.queue.clear();
+        self.queue.push(group)?;
+        // no group is queued twice
+        for _ in 0..65_536 {
+            let Some(next) = self.queue.pop() else {
+                return Ok(());
+            };
+            if has_at(self.seen.as_slice(), start, next) {
+                let bars = bars_out_of(self.bars.as_slice(), gates, next);
+                let floods = self.floods.as_mut_slice();
+                flood_on(own, bars, floods, begin, &mut self.queue)?;
+            }
+        }
+        Ok(())
+    }
+
+    /// Leaves to the gate what of its flood the far group is known to see; what is new of that is noted.
+    fn meet(&mut self, bar: &Bar, number: usize) {
+        let begin = start_of(number, self.width);
+        let seen = row_with(self.seen.as_slice(), bar.far as usize, self.width);
+        let floods = row_with(self.floods.as_slice(), number, self.width);
+        let masks = self.masks.as_mut_slice();
+        let more = self.more.as_mut_slice();
+        if begin > masks.len() || masks.len() - begin < seen.len() {
+            return;
+        }
+        if more.len() != masks.len() || floods.len() < seen.len() {
+            return;
+        }
+        let mut any = 0;
+        for place in 0..seen.len() {
+            let now = floods[place] & seen[place];
+            let new = now & !masks[begin + place];
+            masks[begin + place] = now;
+            more[begin + place] = new;
+            any |= new;
+        }
+        if any != 0 {
+            put_bit(self.changed.as_mut_slice(), number);
+        }
+    }
+
+    /// Takes in what the groups are newly known to see, and goes on with all floods.
+    pub fn add(&mut self, gates: &Gates, new: &[u64]) -> Result<(), Memory> {
+        self.join(new);
+        self.changed.as_mut_slice().fill(0);
+        for number in 0..self.bars.len() {
+            let Some(bar) = self.bars.get(number) else {
+                return Ok(());
+            };
+            let bar = *bar;
+            self.add_to(gates, &bar, number, new)?;
+        }
+        Ok(())
+    }
+
+    /// Goes on with the flood and the row of the gate, where one of its two groups is newly known to see any.
+    fn add_to(
+        &mut self,
+        gates: &Gates,
+        bar: &Bar,
+        number: usize,
+        new: &[u64],
+    ) -> Result<(), Memory> {
+        let near = has_any(row_with(new, bar.near as usize, self.width));
+        let far = has_any(row_with(new, bar.far as usize, self.width));
+        if near {
+            self.flood_more(gates, bar, number, new)?;
+        }
+        if near || far {
+            self.meet(bar, number);
+        }
+        Ok(())
+    }
+
+    /// Goes on with the flood of the gate from all groups that its near group is newly known to see.
+    fn flood_more(
+        &mut self,
+        gates: &Gates,
+        bar: &Bar,
+        number: usize,
+        new: &[u64],
+    ) -> Result<(), Memory> {
+        let begin = start_of(number, self.width);
+        let start = start_of(bar.near as usize, self.width);
+        for place in 0..self.width {
+            let word = word_at(self.floods.as_slice(), begin.saturating_add(place))
+                & word_at(new, start.saturating_add(place));
+            if word != 0 {
+                self.flood_word(gates, bar, begin, place, word)?;
+            }
+        }
+        Ok(())
+    }
+
+    /// The same from the groups in this word, which stands at this place of a row.
+    fn flood_word(
+        &mut self,
+        gates: &Gates,
+        bar: &Bar,
+        begin: usize,
+        place: usize,
+        mut word: u64,
+    ) -> Result<(), Memory> {
+        for _ in 0..64 {
+            let Some(group) = take_group(&mut word, place) else {
+                return Ok(());
+            };
+            self.flood_from(gates, bar, begin, group)?;
+        }
+        Ok(())
+    }
+}
