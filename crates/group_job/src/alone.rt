@@ -2,21 +2,26 @@
 
 ghost use Rattle.std.specs.Prelude.{◌≡◌, [], IfErr, IfOk};
 ghost use Rattle.sight_names.specs.declared.names.Ask.TheVariants.{Enough, Full};
+ghost use Rattle.sight_names.specs.declared.names.Budget.{Budget as BudgetOf};
 ghost use Rattle.sight_names.specs.Groups.{AreGroups, HasClosedFaces};
 ghost use Rattle.sight_names.specs.Map.{map_of};
+ghost use Rattle.sight_names.specs.Plan.{PlanParts};
 ghost use Rattle.sight_names.specs.Sound.{LinesMeetAtEnds};
 ghost use Rattle.cert_format.specs.Sizes.{sizes_of};
 ghost use Rattle.cert_format.specs.CertGroups.Grammar.{IsAnyInOrder};
 ghost use Rattle.cert_checker.specs.AcceptedGroups.Accepted.{IsAcceptedAny};
 ghost use Rattle.group_job.specs.Built.{IsGroupFault, IsSymmetric, TellsSectors, DecidesByGroups, IsTwoOf, OfTwo, HasRaysOfFound, HasTreesOfUnspent};
+ghost use Rattle.group_job.specs.Faces.{AreFacesOf};
+ghost use Rattle.group_job.specs.Grouped.{IsMapOfGroups};
+ghost use Rattle.group_job.specs.Walked.{AreWalkedGroups};
 
-use crate::build::{GroupBuilt, by_sectors};
-use crate::grouped::map_of_groups;
+use crate::build::{GroupBuilt, by_sectors, groups_of};
+use crate::grouped::{MapOfGroups, map_of_groups};
 use crate::sight_workers::{Gate, Job, walk_alone};
-use crate::walked::{budget_for, built_of};
+use crate::walked::{Built, budget_for, built_of};
 use face_groups::GroupFault;
 use face_groups::tri_sectors::components;
-use sight_names::{Ask, Plan};
+use sight_names::{Ask, Memory, Plan};
 use std::alloc::Global;
 
 /// The table of a map whose lines meet at ends, by the walks of all its groups within the budget that is asked for, without
@@ -49,6 +54,22 @@ pub fn build_table_alone<G: Gate>(
     ensures accepted { IfOk result (λ b. IsAcceptedAny (map_of plan.now) b.table.bytes b.cert) }
 {
     let map = map_of_groups(alloc, plan)?;
+    let built = walked_alone(alloc, &map, ask, gate)?;
+    let told = by_sectors(alloc, plan, groups_of(map), built)?;
+    Ok(told)
+}
+
+/// What the walks of all groups come to, by one worker.
+// by itself, over a map that it is lent, since each way out of a function has all that it owns to drop
+fn walked_alone<G: Gate>(
+    alloc: Global,
+    map: &MapOfGroups,
+    ask: Ask,
+    gate: &G,
+) -> Result<Built, Memory>
+    requires faces { AreFacesOf map.now.plan map.now.faces }
+    ensures { (p : PlanParts) → IsMapOfGroups p map.now → IfOk result (λ b. (budget : BudgetOf) × AreWalkedGroups p ask map.now budget b) }
+{
     let components = components(alloc, &map.plan)?;
     let job = Job {
         plan: &map.plan,
@@ -58,7 +79,5 @@ pub fn build_table_alone<G: Gate>(
         budget: budget_for(ask, &map.plan, &map.faces.mesh),
     };
     let gathered = walk_alone(alloc, job, gate)?;
-    let built = built_of(alloc, job, gathered.results.into_vec())?;
-    let told = by_sectors(alloc, plan, map, built)?;
-    Ok(told)
+    built_of(alloc, job, gathered.results.into_vec())
 }

@@ -6,11 +6,15 @@ ghost use Rattle.sight_names.specs.declared.names.Ask.TheVariants.{Enough, Full}
 ghost use Rattle.sight_names.specs.declared.names.Budget.{Budget as BudgetOf};
 ghost use Rattle.sight_names.specs.Groups.{AreGroups, HasClosedFaces};
 ghost use Rattle.sight_names.specs.Map.{map_of};
+ghost use Rattle.sight_names.specs.Plan.{PlanParts};
 ghost use Rattle.sight_names.specs.Sound.{LinesMeetAtEnds};
 ghost use Rattle.cert_format.specs.Sizes.{sizes_of};
 ghost use Rattle.cert_format.specs.CertGroups.Grammar.{IsAnyInOrder};
 ghost use Rattle.cert_checker.specs.AcceptedGroups.Accepted.{IsAcceptedAny};
 ghost use Rattle.group_job.specs.Built.{IsGroupFault, IsSymmetric, TellsSectors, DecidesByGroups, IsGroupBuild, IsTwoOf, OfTwo, HasRaysOfFound, HasTreesOfUnspent};
+ghost use Rattle.group_job.specs.declared.grouped.MapOfGroups.{MapOfGroups as MapOf};
+ghost use Rattle.group_job.specs.Faces.{AreFacesOf};
+ghost use Rattle.group_job.specs.Grouped.{IsMapOfGroups};
 ghost use Rattle.group_job.specs.Sectors.{AreClear, AreOfSectors, ArePairsBelow};
 ghost use Rattle.group_job.specs.Walked.{AreWalkedGroups};
 
@@ -19,7 +23,7 @@ use crate::grouped::{MapOfGroups, map_of_groups};
 use crate::sectors::{copied, sector_table};
 use crate::sight_workers::{Gate, Job, walk_all};
 use crate::walked::{Built, budget_for, built_of};
-use cert_format::cert_groups::{AnyCert, CertTwo};
+use cert_format::cert_groups::{AnyCert, CertTwo, Group};
 use face_groups::GroupFault;
 use face_groups::tri_sectors::components;
 use reject_bits::Table;
@@ -36,30 +40,31 @@ pub struct GroupBuilt {
     pub cert: AnyCert,
 }
 
+/// The groups alone. The map of groups and its mesh are freed here, at one way out.
+pub(crate) fn groups_of(map: MapOfGroups) -> Items<Group>
+    ensures { result ≡ map.groups }
+{
+    map.groups
+}
+
 /// The table, the list and the certificate of a map's sectors, from those of its groups.
 pub(crate) fn by_sectors(
     alloc: Global,
     plan: &Plan,
-    map: MapOfGroups,
+    groups: Items<Group>,
     built: Built,
 ) -> Result<GroupBuilt, Memory>
-    requires count { built.table.n ≡ length map.groups }
-    requires below { AreOfSectors plan.now.sectors map.groups }
+    requires count { built.table.n ≡ length groups }
+    requires below { AreOfSectors plan.now.sectors groups }
     requires pairs { ArePairsBelow built.table.n built.listed }
     requires clear { AreClear built.table built.listed }
-    ensures { (ask : AskOf) (budget : BudgetOf) → AreWalkedGroups plan.now ask map budget built → IfOk result (IsGroupBuild plan.now ask) }
+    ensures { (ask : AskOf) (map : MapOf) (budget : BudgetOf) → map.groups ≡ groups → AreWalkedGroups plan.now ask map budget built → IfOk result (IsGroupBuild plan.now ask) }
 {
     let sizes = map_sizes(plan);
-    let sectors = sector_table(
-        alloc,
-        sizes.sectors,
-        &map.groups,
-        built.table,
-        &built.listed,
-    )?;
+    let sectors = sector_table(alloc, sizes.sectors, &groups, built.table, &built.listed)?;
     let listed = copied(alloc, &sectors.listed)?;
     let two = CertTwo {
-        groups: map.groups,
+        groups,
         cert: built.cert,
         listed,
     };
@@ -103,6 +108,25 @@ pub fn build_table<R: Threads + Sync, G: Gate + Sync>(
     ensures accepted { IfOk result (λ b. IsAcceptedAny (map_of plan.now) b.table.bytes b.cert) }
 {
     let map = map_of_groups(alloc, plan)?;
+    let built = walked(rt, alloc, &map, workers, ask, gate)?;
+    let told = by_sectors(alloc, plan, groups_of(map), built)?;
+    Ok(told)
+}
+
+/// What the walks of all groups come to, by so many workers.
+// by itself, over a map that it is lent, since each way out of a function has all that it owns to drop
+fn walked<R: Threads + Sync, G: Gate + Sync>(
+    rt: &R,
+    alloc: Global,
+    map: &MapOfGroups,
+    workers: u16,
+    ask: Ask,
+    gate: &G,
+) -> Result<Built, Memory>
+    requires workers { (1 ≤ workers) × (workers ≤ 64) }
+    requires faces { AreFacesOf map.now.plan map.now.faces }
+    ensures { (p : PlanParts) → IsMapOfGroups p map.now → IfOk result (λ b. (budget : BudgetOf) × AreWalkedGroups p ask map.now budget b) }
+{
     let components = components(alloc, &map.plan)?;
     let job = Job {
         plan: &map.plan,
@@ -112,7 +136,5 @@ pub fn build_table<R: Threads + Sync, G: Gate + Sync>(
         budget: budget_for(ask, &map.plan, &map.faces.mesh),
     };
     let gathered = walk_all(rt, alloc, job, workers, gate)?;
-    let built = built_of(alloc, job, gathered.results.into_vec())?;
-    let told = by_sectors(alloc, plan, map, built)?;
-    Ok(told)
+    built_of(alloc, job, gathered.results.into_vec())
 }

@@ -5,9 +5,9 @@ ghost use Rattle.std.specs.Prelude.{◌≤◌, length};
 
 use block_evidence::sight_tree::Tree;
 use cert_format::cert_groups::AnyCert;
-use cert_format::{Cert, Sizes};
+use cert_format::{Cert, Sizes, print};
 use certificates::cert_parts::{Beginning, Part, Reader, beginning_of};
-use certificates::read_any;
+use certificates::{read, read_any};
 use sight_names::{CertFault, Pair};
 use std::alloc::{AllocError, Global};
 use std::test::Fail;
@@ -239,34 +239,86 @@ fn is_right_behind(alloc: Global, sizes: &Sizes, bytes: &[u8]) -> Result<bool, A
     is_fault(alloc, sizes, &more, fault)
 }
 
-// Whether the row's certificate has so many parts, which pieces of every cut give, and its fronts their faults.
-fn is_right(alloc: Global, row: &str) -> Result<bool, Fail> {
-    let fields = fields_named(part(row, 0));
-    let sizes = Sizes {
+// The sizes of a row's map.
+fn sizes_in(row: &str) -> Sizes {
+    Sizes {
         sectors: number_at(part(row, 1), 0),
         points: number_at(part(row, 1), 1),
         lines: number_at(part(row, 1), 2),
-    };
+    }
+}
+
+// The parts of the certificate of version 1 or 2 that the bytes spell.
+fn parts_spelled(alloc: Global, sizes: &Sizes, bytes: &[u8]) -> Result<Vec<Part>, CertFault> {
+    let cert = read_any(alloc, sizes, bytes)?;
+    Ok(parts_of(alloc, &cert)?)
+}
+
+// Whether pieces of every cut give these parts, and each front and a byte too many its fault.
+fn are_right(
+    alloc: Global,
+    sizes: &Sizes,
+    bytes: &[u8],
+    whole: &[Part],
+    fields: &str,
+) -> Result<bool, AllocError> {
+    Ok(
+        are_right_cuts(alloc, sizes, bytes, whole)?
+            && are_right_fronts(alloc, sizes, bytes, fields)?
+            && is_right_behind(alloc, sizes, bytes)?,
+    )
+}
+
+// Whether this holds of the row's certificate, which has so many parts.
+fn is_right(alloc: Global, row: &str) -> Result<bool, Fail> {
+    let fields = fields_named(part(row, 0));
+    let sizes = sizes_in(row);
     let bytes = bytes_of_digits(alloc, fields)?;
-    let whole = parts_of(alloc, &read_any(alloc, &sizes, &bytes)?)?;
-    if whole.len() != number(part(row, 2)) {
-        return Ok(false);
+    let whole = parts_spelled(alloc, &sizes, &bytes)?;
+    let is_whole = whole.len() == number(part(row, 2));
+    let told = are_right(alloc, &sizes, &bytes, &whole, fields);
+    drop(whole);
+    drop(bytes);
+    Ok(is_whole && told?)
+}
+
+// Whether the certificate is read as one of version 1 just where it is one, and is spelled by its own bytes then.
+fn is_read_as_one(alloc: Global, row: &str) -> Result<bool, Fail> {
+    let bytes = bytes_of_digits(alloc, fields_named(part(row, 0)))?;
+    let is_one = bytes.get(4) == Some(&1);
+    match read(alloc, &sizes_in(row), &bytes) {
+        Ok(cert) => Ok(is_one && print(alloc, &cert)?.as_slice() == bytes.as_slice()),
+        Err(fault) => Ok(!is_one && fault == CertFault::BadVersion),
     }
-    if !are_right_cuts(alloc, &sizes, &bytes, &whole)? {
-        return Ok(false);
+}
+
+// Whether this holds of a row, or else that its certificate is read as one of version 1 just where it is one.
+fn holds(alloc: Global, row: &str, as_one: bool) -> Result<bool, Fail> {
+    if as_one {
+        is_read_as_one(alloc, row)
+    } else {
+        is_right(alloc, row)
     }
-    if !are_right_fronts(alloc, &sizes, &bytes, fields)? {
-        return Ok(false);
+}
+
+// Whether one of the two holds of each row; else the first of which it doesn't is the fault.
+fn hold(alloc: Global, as_one: bool) -> Result<(), Fail> {
+    for row in ROWS.lines() {
+        if !holds(alloc, row, as_one)? {
+            return Err(row.into());
+        }
     }
-    Ok(is_right_behind(alloc, &sizes, &bytes)?)
+    Ok(())
 }
 
 #[test]
 fn pieces_of_every_cut_give_the_parts_and_a_front_is_short_at_its_field(
     rt: HostRuntime,
 ) -> Result<(), Fail> {
-    for row in ROWS.lines() {
-        assert!(rt; is_right(rt.alloc(), row)?, "{row}");
-    }
-    Ok(())
+    hold(rt.alloc(), false)
+}
+
+#[test]
+fn a_certificate_of_version_1_is_read_whole_and_no_other(rt: HostRuntime) -> Result<(), Fail> {
+    hold(rt.alloc(), true)
 }

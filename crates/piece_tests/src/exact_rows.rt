@@ -141,9 +141,10 @@ DOORS | 0810 | #DOORS-EXACT @315:0:00 | Unread(Trailing { at: 315 })
 DOORS | 0810 | #DOORS-EXACT @270:1:06 | Unread(Trailing { at: 308 })
 ";
 
-/// The words of a map, its table, and the name of a certificate each front of which is short at the field in which it is cut off.
+/// The words of a map, its table, the words of a certificate, and its name. Each front of it is short at the field in which it is cut
+/// off.
 pub const WHOLE: &str = "\
-U | 4400 | U-EXACT
-DOORS | 0810 | DOORS-EXACT
-ISLAND | 00 | ISLAND-EXACT
+U | 4400 | #U-EXACT | U-EXACT
+DOORS | 0810 | #DOORS-EXACT | DOORS-EXACT
+ISLAND | 00 | #ISLAND-EXACT | ISLAND-EXACT
 ";

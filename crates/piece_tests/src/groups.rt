@@ -1,19 +1,18 @@
 //! The groups of a room with a pillar inside whose sides name another sector, with and without lines whose two sides name
-//! one sector.
+//! one sector; and the labels of triangles, where each face has one name.
 
 ghost use Rattle.sight_names.specs.Map.{map_of};
 ghost use Rattle.sight_names.specs.Sound.{LinesMeetAtEnds};
 
+use crate::plans::plan_of;
+use face_groups::tri_sectors::label;
 use face_groups::{Grouped, ShortList, faces, group_map};
-use map_answers::find_in;
 use map_audit::audit_lines;
 use mesh_shape::Mesh;
-use sight_names::{Plan, Triangle};
+use sight_names::{Memory, Plan, Triangle};
 use std::alloc::{AllocError, Global};
 use std::test::Fail;
 use triangulate::{greedy, mesh_of};
-use worked_maps::files::bytes_of;
-use worked_maps::rows::part;
 
 /// The words of a map; how many triangles there are inside the pillar, and the sectors that sides name on their faces; the same of the
 /// other triangles; the groups; and the group of the right and of the left side of each line. A hyphen is no sector and no group.
@@ -36,6 +35,19 @@ ISLAND .1 <0000040004000000000008000800 .2 <000000000000000000000000000000000000
 OPEN | 0 of - | 2 of 0 | open 0R |
 ";
 
+/// The words of a map, and the label of each triangle, or why there are none. A hyphen is no sector.
+///
+/// U has ten triangles, of which eight have a sector; the sixth and the seventh lie between its legs, which no side faces.
+const LABELS: &str = "\
+SQUARE | 0 0
+PAIR | 0 0 1 1
+U | 0 0 1 1 1 - - 2 2 1
+OPEN | open 0R
+ISLAND | mixed 0R 4R
+# of the two faces at the line from corner to corner it names no sector
+DIAGONAL | mixed 0R 4R
+";
+
 // Puts the sectors of a list, or a hyphen.
 fn push_list(text: &mut String, alloc: Global, list: &[u16]) -> Result<(), AllocError> {
     let mut gap = "";
@@ -54,27 +66,28 @@ fn is_inside(triangle: &Triangle) -> bool {
     triangle.p >= 2 && triangle.q <= 5 && triangle.r <= 5
 }
 
-// How many triangles there are inside the pillar, or elsewhere, and their list; no number where they have several.
-fn told_where(
+// Adds how many triangles there are inside the pillar, or elsewhere, and their list; no number where they have several.
+fn push_where(
+    text: &mut String,
     alloc: Global,
     mesh: &Mesh,
     lists: &[ShortList],
     inside: bool,
-) -> Result<String, AllocError> {
+) -> Result<(), AllocError> {
     let mut count = 0usize;
     let mut first: &[u16] = &[];
     for (triangle, list) in mesh.triangles().iter().zip(lists.iter()) {
         if is_inside(triangle) == inside {
             if count > 0 && list.as_slice() != first {
-                return String::from_str(alloc, "several lists");
+                return text.push_str("several lists | ");
             }
             first = list.as_slice();
             count = count.wrapping_add(1);
         }
     }
-    let mut text = format!(in alloc; "{count} of ")?;
-    push_list(&mut text, alloc, first)?;
-    Ok(text)
+    text.push_str(format!(in alloc; "{count} of ")?.as_str())?;
+    push_list(text, alloc, first)?;
+    text.push_str(" | ")
 }
 
 // Whether each triangle's label is the place of its list among the groups, none where the list is empty.
@@ -102,68 +115,136 @@ fn push_side(text: &mut String, alloc: Global, side: Option<u16>) -> Result<(), 
     }
 }
 
-// The groups, and the sides of the map of groups.
-fn told_groups(alloc: Global, grouped: &Grouped) -> Result<String, AllocError> {
-    let mut text = String::new(alloc);
+// Adds the groups, and the sides of the map of groups.
+fn push_groups(text: &mut String, alloc: Global, grouped: &Grouped) -> Result<(), AllocError> {
     let mut gap = "";
     for group in grouped.groups.as_slice() {
         text.push_str(gap)?;
-        push_list(&mut text, alloc, group.as_slice())?;
+        push_list(text, alloc, group.as_slice())?;
         gap = ", ";
     }
     text.push_str(" |")?;
     for line in grouped.plan.lines() {
         if let Some(line) = line {
             text.push_str(" ")?;
-            push_side(&mut text, alloc, line.right)?;
-            push_side(&mut text, alloc, line.left)?;
+            push_side(text, alloc, line.right)?;
+            push_side(text, alloc, line.left)?;
         }
     }
-    Ok(text)
+    Ok(())
 }
 
-// What a row has to say of a map, behind its words.
-fn told(alloc: Global, plan: &Plan) -> Result<String, Fail>
+// Adds what a row has to say of a map's groups, by the lists of its faces.
+fn push_grouped(
+    text: &mut String,
+    alloc: Global,
+    plan: &Plan,
+    mesh: &Mesh,
+    lists: &[ShortList],
+) -> Result<(), AllocError> {
+    match group_map(alloc, plan, mesh) {
+        Ok(grouped) if !are_labelled(lists, &grouped) => text.push_str("other labels"),
+        Ok(grouped) => push_groups(text, alloc, &grouped),
+        Err(fault) => text.push_str(format!(in alloc; "{fault} |")?.as_str()),
+    }
+}
+
+// Adds what a row has to say of a map, by the lists of its faces.
+fn push_lists(
+    text: &mut String,
+    alloc: Global,
+    plan: &Plan,
+    mesh: &Mesh,
+    lists: &[ShortList],
+) -> Result<(), AllocError> {
+    push_where(text, alloc, mesh, lists, true)?;
+    push_where(text, alloc, mesh, lists, false)?;
+    push_grouped(text, alloc, plan, mesh, lists)
+}
+
+// Adds what a row has to say of a map, behind its words.
+fn push_told(text: &mut String, alloc: Global, plan: &Plan, mesh: &Mesh) -> Result<(), Memory> {
+    let lists = faces(alloc, plan, mesh)?;
+    let pushed = push_lists(text, alloc, plan, mesh, lists.as_slice());
+    drop(lists);
+    Ok(pushed?)
+}
+
+// Adds each label, or a hyphen where there is none.
+fn push_sides(text: &mut String, alloc: Global, labels: &[Option<u16>]) -> Result<(), AllocError> {
+    for label in labels {
+        push_side(text, alloc, *label)?;
+        text.push_str(" ")?;
+    }
+    Ok(())
+}
+
+// Adds what a row has to say of a map's labels, behind its words.
+fn push_labels(text: &mut String, alloc: Global, plan: &Plan, mesh: &Mesh) -> Result<(), Memory> {
+    let pushed = match label(alloc, plan, mesh) {
+        Ok(labels) => push_sides(text, alloc, labels.as_slice()),
+        Err(fault) => text.push_str(format!(in alloc; "{fault}")?.as_str()),
+    };
+    Ok(pushed?)
+}
+
+// The mesh of a map whose lines meet at ends.
+fn mesh_over(alloc: Global, plan: &Plan) -> Result<Mesh, Memory>
     requires { LinesMeetAtEnds (map_of plan.now) }
 {
-    let mesh = mesh_of(alloc, plan, &greedy(alloc, plan)?)?;
-    let lists = faces(alloc, plan, &mesh)?;
-    let inside = told_where(alloc, &mesh, lists.as_slice(), true)?;
-    let round = told_where(alloc, &mesh, lists.as_slice(), false)?;
-    let groups = match group_map(alloc, plan, &mesh) {
-        Ok(grouped) if !are_labelled(lists.as_slice(), &grouped) => {
-            String::from_str(alloc, "other labels")?
-        }
-        Ok(grouped) => told_groups(alloc, &grouped)?,
-        Err(fault) => format!(in alloc; "{fault} |")?,
-    };
-    Ok(format!(in alloc; "{inside} | {round} | {groups}")?)
+    let segments = greedy(alloc, plan)?;
+    mesh_of(alloc, plan, &segments)
 }
 
 // The same of any map.
-fn audited(alloc: Global, plan: &Plan) -> Result<String, Fail> {
+fn audited_mesh(alloc: Global, plan: &Plan) -> Result<Mesh, Fail> {
     let Ok(()) = audit_lines(alloc, plan) else {
         return Err("lines don't meet at ends".into());
     };
-    told(alloc, plan)
+    Ok(mesh_over(alloc, plan)?)
 }
 
-// Whether a row tells what there is to tell of its map.
-fn is_right(alloc: Global, row: &str) -> Result<bool, Fail> {
-    let found = find_in(alloc, bytes_of(alloc, part(row, 0))?, false, "MAP01")?;
-    let text = audited(alloc, &found.plan)?;
-    let (_, wanted) = row.split_once(" | ").unwrap_or(("", ""));
+// Adds what there is to tell of a map, or of its labels alone. The mesh is freed at one way out.
+fn push_of(text: &mut String, alloc: Global, plan: &Plan, labels_alone: bool) -> Result<(), Fail> {
+    let mesh = audited_mesh(alloc, plan)?;
+    let pushed = if labels_alone {
+        push_labels(text, alloc, plan, &mesh)
+    } else {
+        push_told(text, alloc, plan, &mesh)
+    };
+    drop(mesh);
+    Ok(pushed?)
+}
+
+// Whether this is what there is to tell of the map of these words.
+fn is_told(alloc: Global, words: &str, labels_alone: bool, wanted: &str) -> Result<bool, Fail> {
+    let plan = plan_of(alloc, words)?;
+    let mut text = String::new(alloc);
+    let pushed = push_of(&mut text, alloc, &plan, labels_alone);
+    drop(plan);
+    pushed?;
     Ok(text.as_str().trim() == wanted.trim())
+}
+
+// Whether each row tells of its map, or of its labels alone, what there is to tell; else the first that doesn't is the fault.
+fn hold(alloc: Global, rows: &str, labels_alone: bool) -> Result<(), Fail> {
+    for row in rows.lines() {
+        let (words, wanted) = row.split_once(" | ").unwrap_or((row, ""));
+        if !row.starts_with('#') && !is_told(alloc, words, labels_alone, wanted)? {
+            return Err(row.into());
+        }
+    }
+    Ok(())
 }
 
 #[test]
 fn faces_with_several_names_are_of_one_group_each_and_the_map_of_groups_names_it(
     rt: HostRuntime,
 ) -> Result<(), Fail> {
-    for row in ROWS.lines() {
-        if !row.starts_with('#') {
-            assert!(rt; is_right(rt.alloc(), row)?);
-        }
-    }
-    Ok(())
+    hold(rt.alloc(), ROWS, false)
+}
+
+#[test]
+fn a_triangle_has_the_sector_that_all_sides_of_its_face_name(rt: HostRuntime) -> Result<(), Fail> {
+    hold(rt.alloc(), LABELS, true)
 }

@@ -9,6 +9,8 @@ mod exact_rows;
 #[cfg(test)]
 mod groups;
 #[cfg(test)]
+mod plans;
+#[cfg(test)]
 mod texts;
 #[cfg(test)]
 mod verdicts;

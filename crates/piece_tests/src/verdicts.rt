@@ -1,23 +1,23 @@
 //! What is said of worked certificates: by a judge that is fed them in pieces of every cut, and by the check that judges their trees in
 //! threads.
 
-ghost use Rattle.std.specs.Prelude.{◌≡◌, ◌+◌, ◌<◌, ◌≤◌, ◌^◌, length, IsTrue};
+ghost use Rattle.std.specs.Prelude.{◌≡◌, ◌+◌, ◌<◌, ◌≤◌, ◌^◌, length, IfOk, IsTrue};
 ghost use Rattle.sight_names.specs.Map.{map_of};
 ghost use Rattle.sight_names.specs.Sound.{LinesMeetAtEnds};
 ghost use Rattle.cert_format.specs.CertGroups.Grammar.{IsAnyInOrder, sizes_of};
 
 use crate::exact_rows::{CUT, JUDGED, UNREAD, WHOLE};
+use crate::plans::plan_of;
 use any_judge::Judge;
 use cert_format::cert_groups::{AnyCert, print_any};
 use cert_format::{Sizes, print};
 use cert_judge::Judged;
 use certificates::read_any;
 use group_checker::check_workers::check_any_par;
-use map_answers::find_in;
 use map_audit::audit_lines;
 use reject_bits::Table;
 use sight_names::{CertFault, Memory, Plan, TableFault};
-use std::alloc::Global;
+use std::alloc::{AllocError, Global};
 use std::test::Fail;
 use std::thread::Threads;
 use worked_maps::certs::digits_named;
@@ -125,7 +125,7 @@ fn is_judged_cut(
     Ok(judged == answer)
 }
 
-// Whether the bytes one by one and each cut of them in two give this answer.
+// Whether each cut of the bytes in two gives this answer.
 fn are_judged(
     alloc: Global,
     plan: &Plan,
@@ -140,8 +140,7 @@ fn are_judged(
             return Ok(false);
         }
     }
-    let judged = judged_singly(alloc, plan, table, bytes)?;
-    Ok(judged == answer)
+    Ok(true)
 }
 
 // A number of points or lines, of which a plan has few.
@@ -276,56 +275,87 @@ fn answer_of<R: Threads + Sync>(
     judged_audited(rt, alloc, plan, table, bytes)
 }
 
-// Whether the row's table and certificate are judged as it says, in threads and one by one, and where this is asked by every cut too.
+/// A map's plan, a table of as many sectors, and the bytes of a certificate.
+#[derive(Drop)]
+struct Given {
+    plan: Plan,
+    table: Table,
+    bytes: Vec<u8>,
+}
+
+// What a row gives: the words of a map, its table, and the words of a certificate.
+fn given_in(alloc: Global, row: &str) -> Result<Given, Fail>
+    ensures { IfOk result (λ g. g.table.n ≡ g.plan.sectors) }
+{
+    let bytes = bytes_of(alloc, part(row, 2))?;
+    let plan = plan_of(alloc, part(row, 0))?;
+    let table = table_of(alloc, plan.sectors, part(row, 1))?;
+    if table.sectors() != plan.sectors {
+        return Err("a table of another size".into());
+    }
+    Ok(Given { plan, table, bytes })
+}
+
+// Whether the answer is told by these words.
+fn is_told(alloc: Global, answer: &Judged, words: &str) -> Result<bool, AllocError> {
+    let told = format!(in alloc; "{answer:?}")?;
+    Ok(told.as_str() == words)
+}
+
+// Whether what is given is judged as a row says, in threads and one by one, and where this is asked by every cut too.
+fn is_judged<R: Threads + Sync>(
+    rt: &R,
+    alloc: Global,
+    given: &Given,
+    row: &str,
+    every_cut: bool,
+) -> Result<bool, Fail>
+    requires { given.now.table.n ≡ given.now.plan.sectors }
+{
+    let (plan, table, bytes) = (&given.plan, &given.table, given.bytes.as_slice());
+    let answer = answer_of(rt, alloc, plan, table, bytes)?;
+    Ok(
+        is_told(alloc, &answer, part(row, 3))?
+            && judged_singly(alloc, plan, table, bytes)? == answer
+            && (!every_cut || are_judged(alloc, plan, table, bytes, answer)?),
+    )
+}
+
+// The same of what the row gives, which is freed at one way out.
 fn is_row<R: Threads + Sync>(
     rt: &R,
     alloc: Global,
     row: &str,
     every_cut: bool,
 ) -> Result<bool, Fail> {
-    let found = find_in(alloc, bytes_of(alloc, part(row, 0))?, false, "MAP01")?;
-    let plan = &found.plan;
-    let table = table_of(alloc, plan.sectors, part(row, 1))?;
-    let bytes = bytes_of(alloc, part(row, 2))?;
-    if table.sectors() != plan.sectors {
-        return Ok(false);
+    let given = given_in(alloc, row)?;
+    let told = is_judged(rt, alloc, &given, row, every_cut);
+    drop(given);
+    told
+}
+
+// Whether each row is so; else the first that isn't is the fault.
+fn hold<R: Threads + Sync>(rt: &R, alloc: Global, rows: &str, every_cut: bool) -> Result<(), Fail> {
+    for row in rows.lines() {
+        if !row.starts_with('#') && !is_row(rt, alloc, row, every_cut)? {
+            return Err(row.into());
+        }
     }
-    let answer = answer_of(rt, alloc, plan, &table, &bytes)?;
-    let told = format!(in alloc; "{answer:?}")?;
-    if told.as_str() != part(row, 3) {
-        return Ok(false);
-    }
-    if every_cut {
-        return Ok(are_judged(alloc, plan, &table, &bytes, answer)?);
-    }
-    let judged = judged_singly(alloc, plan, &table, &bytes)?;
-    Ok(judged == answer)
+    Ok(())
 }
 
 #[test]
 fn certificates_are_judged_as_their_rows_say_in_threads_and_in_pieces(
     rt: HostRuntime,
 ) -> Result<(), Fail> {
-    for rows in [ROWS, CUT] {
-        for row in rows.lines() {
-            if !row.starts_with('#') {
-                assert!(rt; is_row(&rt, rt.alloc(), row, true)?, "{row}");
-            }
-        }
-    }
-    Ok(())
+    hold(&rt, rt.alloc(), ROWS, true)?;
+    hold(&rt, rt.alloc(), CUT, true)
 }
 
 #[test]
 fn certificates_of_version_3_are_judged_as_their_rows_say(rt: HostRuntime) -> Result<(), Fail> {
-    for rows in [JUDGED, UNREAD] {
-        for row in rows.lines() {
-            if !row.starts_with('#') {
-                assert!(rt; is_row(&rt, rt.alloc(), row, false)?, "{row}");
-            }
-        }
-    }
-    Ok(())
+    hold(&rt, rt.alloc(), JUDGED, false)?;
+    hold(&rt, rt.alloc(), UNREAD, false)
 }
 
 // Whether the bytes at once and one by one are short at this byte.
@@ -369,22 +399,22 @@ fn are_fronts_short(
     Ok(at == bytes.len())
 }
 
-// Whether this holds of the row's certificate.
+// Whether this holds of the row's certificate, which is named there.
 fn is_whole_row(alloc: Global, row: &str) -> Result<bool, Fail> {
-    let found = find_in(alloc, bytes_of(alloc, part(row, 0))?, false, "MAP01")?;
-    let table = table_of(alloc, found.plan.sectors, part(row, 1))?;
-    let fields = digits_named(part(row, 2));
-    let bytes = bytes_of_digits(alloc, fields)?;
-    if table.sectors() != found.plan.sectors {
-        return Ok(false);
-    }
-    Ok(are_fronts_short(alloc, &found.plan, &table, &bytes, fields)?)
+    let given = given_in(alloc, row)?;
+    let (plan, table) = (&given.plan, &given.table);
+    let fields = digits_named(part(row, 3));
+    let told = are_fronts_short(alloc, plan, table, &given.bytes, fields);
+    drop(given);
+    Ok(told?)
 }
 
 #[test]
 fn each_front_of_a_certificate_is_short_at_its_field(rt: HostRuntime) -> Result<(), Fail> {
     for row in WHOLE.lines() {
-        assert!(rt; is_whole_row(rt.alloc(), row)?, "{row}");
+        if !is_whole_row(rt.alloc(), row)? {
+            return Err(row.into());
+        }
     }
     Ok(())
 }

@@ -1,6 +1,8 @@
 //! Calls that no row reaches.
 
-use block_evidence::Evidence;
+ghost use Rattle.std.specs.Prelude.{◌≡◌, ◌∷◌, []};
+ghost use Rattle.pair_budget.specs.BoardCore.Machine.{pair, start};
+
 use map_lumps::hexen_lumps::to_hexen;
 use pair_budget::board_core::{Core, Event, Reply};
 use shelf_io::fetch;
@@ -8,16 +10,15 @@ use sight_names::{
     BuildFault, FetchFault, LabelFault, Memory, Pair, Pt, RewriteFault, ShelfFault, Side, WadFault,
 };
 use stab_hull::{Passed, Sleeve};
-use std::alloc::Global;
+use std::alloc::{AllocError, Global};
+use std::fmt::Display;
 use std::test::Fail;
 use worked_maps::stages::stage_of;
 
-#[test]
-fn two_workers_draw_two_sources_and_one_sees_what_the_other_marked(
-    rt: HostRuntime,
-) -> Result<(), Fail> {
-    let findable = Vec::from_slice(rt.alloc(), &[Pair { a: 0, b: 1 }])?;
-    let mut core = Core::new(rt.alloc(), 2, 2, findable)?;
+// Two workers draw the two sources, one marks the pair, the other sees it, draws nothing and ends.
+fn are_replies(core: &mut Core) -> Result<bool, Memory>
+    requires { core.old ≡ start 2 2 (pair 0 1 ∷ []) }
+{
     let first = core.step(Event::Claim { worker: 0 })?;
     let second = core.step(Event::Claim { worker: 1 })?;
     let marked = core.step(Event::Mark {
@@ -28,68 +29,91 @@ fn two_workers_draw_two_sources_and_one_sees_what_the_other_marked(
     let seen = core.step(Event::Look { worker: 0, word: 0 })?;
     let none = core.step(Event::Claim { worker: 0 })?;
     let ended = core.step(Event::End { worker: 0 })?;
-    assert!(rt; first == Reply::Source(0) && second == Reply::Source(1) && marked == Reply::Done);
-    assert!(rt; seen == Reply::Bits(2) && none == Reply::NoSource && ended == Reply::Done);
+    Ok(
+        matches!(first, Reply::Source(0))
+            && matches!(second, Reply::Source(1))
+            && matches!(marked, Reply::Done)
+            && matches!(seen, Reply::Bits(2))
+            && matches!(none, Reply::NoSource)
+            && matches!(ended, Reply::Done),
+    )
+}
+
+#[test]
+fn two_workers_draw_two_sources_and_one_sees_what_the_other_marked(
+    rt: HostRuntime,
+) -> Result<(), Fail> {
+    let findable = Vec::from_slice(rt.alloc(), &[Pair { a: 0, b: 1 }])?;
+    let mut core = Core::new(rt.alloc(), 2, 2, findable)?;
+    assert!(rt; are_replies(&mut core)?);
     Ok(())
 }
 
 #[test]
 fn a_turned_record_has_six_zero_bytes_before_its_sides(rt: HostRuntime) -> Result<(), Fail> {
     let turned = to_hexen(rt.alloc(), &[1, 0, 2, 0, 4, 0, 97, 0, 7, 0, 3, 0, 255, 255])?;
-    assert_eq!(rt;
-        turned.as_slice(),
-        [1u8, 0, 2, 0, 4, 0, 0, 0, 0, 0, 0, 0, 3, 0, 255, 255].as_slice()
-    );
+    assert!(rt; turned.as_slice() == b"\x01\0\x02\0\x04\0\0\0\0\0\0\0\x03\0\xff\xff".as_slice());
     Ok(())
+}
+
+// How many bytes of a file of eleven are fetched within a limit.
+fn fetched_within(alloc: Global, limit: u64) -> Result<usize, FetchFault> {
+    let mut stage = stage_of(alloc, "a=#0102030405060708090a0b")?;
+    let bytes = fetch(alloc, &mut stage.shelf, "a", limit)?;
+    Ok(bytes.len())
 }
 
 #[test]
 fn a_file_longer_than_the_limit_is_not_fetched(rt: HostRuntime) -> Result<(), Fail> {
-    let alloc = rt.alloc();
-    let mut shelf = stage_of(alloc, "a=#0102030405060708090a0b")?.shelf;
-    assert!(rt; matches!(fetch(alloc, &mut shelf, "a", 10), Err(FetchFault::TooLong)));
-    assert_eq!(rt; fetch(alloc, &mut shelf, "a", 11)?.len(), 11);
+    assert!(rt; matches!(fetched_within(rt.alloc(), 10), Err(FetchFault::TooLong)));
+    assert!(rt; fetched_within(rt.alloc(), 11)? == 11);
     Ok(())
+}
+
+// Whether two faults have the same words.
+fn are_alike<A: Display, B: Display>(
+    alloc: Global,
+    one: &A,
+    other: &B,
+) -> Result<bool, AllocError> {
+    let one = one.to_string(alloc)?;
+    let other = other.to_string(alloc)?;
+    Ok(one.as_str() == other.as_str())
+}
+
+// Whether faults of a file or of a WAD that mean the same have the same words.
+fn are_alike_of_files(alloc: Global) -> Result<bool, AllocError> {
+    Ok(
+        are_alike(alloc, &ShelfFault::Absent, &FetchFault::Absent)?
+            && are_alike(alloc, &ShelfFault::Failed, &FetchFault::Failed)?
+            && are_alike(alloc, &WadFault::TooManyLumps, &RewriteFault::TooManyLumps)?,
+    )
+}
+
+// Whether faults of faces that mean the same have the same words.
+fn are_alike_of_faces(alloc: Global) -> Result<bool, AllocError> {
+    let (first, second) = (side(3, true), side(7, false));
+    Ok(
+        are_alike(
+            alloc,
+            &LabelFault::Open { side: first },
+            &BuildFault::Open { side: first },
+        )? && are_alike(
+            alloc,
+            &LabelFault::Mixed { first, second },
+            &BuildFault::Mixed { first, second },
+        )?,
+    )
+}
+
+fn side(line: u16, left: bool) -> Side {
+    Side { line, left }
 }
 
 #[test]
 fn faults_of_one_meaning_have_the_same_words(rt: HostRuntime) -> Result<(), Fail> {
     let alloc = rt.alloc();
-    let (first, second) = (
-        Side {
-            line: 3,
-            left: true,
-        },
-        Side {
-            line: 7,
-            left: false,
-        },
-    );
-    let pairs = [
-        (
-            ShelfFault::Absent.to_string(alloc)?,
-            FetchFault::Absent.to_string(alloc)?,
-        ),
-        (
-            ShelfFault::Failed.to_string(alloc)?,
-            FetchFault::Failed.to_string(alloc)?,
-        ),
-        (
-            WadFault::TooManyLumps.to_string(alloc)?,
-            RewriteFault::TooManyLumps.to_string(alloc)?,
-        ),
-        (
-            LabelFault::Open { side: first }.to_string(alloc)?,
-            BuildFault::Open { side: first }.to_string(alloc)?,
-        ),
-        (
-            LabelFault::Mixed { first, second }.to_string(alloc)?,
-            BuildFault::Mixed { first, second }.to_string(alloc)?,
-        ),
-    ];
-    for (one, other) in &pairs {
-        assert_eq!(rt; one.as_str(), other.as_str());
-    }
+    assert!(rt; are_alike_of_files(alloc)? && are_alike_of_faces(alloc)?);
     Ok(())
 }
 
@@ -113,19 +137,18 @@ fn crossed(alloc: Global) -> Result<Passed, Memory> {
     }
 }
 
+// Whether these ends, and no others, show that the portals are stuck.
+fn is_stuck_at(passed: Passed, count: u8, ends: [u16; 4]) -> bool {
+    match passed {
+        Passed::Stuck(evidence) => evidence.count == count && evidence.ends == ends,
+        Passed::Open => false,
+    }
+}
+
 #[test]
 fn a_right_end_between_two_left_ends_is_stuck(rt: HostRuntime) -> Result<(), Fail> {
-    // these three ends are all that is needed
-    let three = Evidence {
-        count: 3,
-        ends: [0, 1, 32_768, 0],
-    };
-    assert_eq!(rt; between(rt.alloc())?, Passed::Stuck(three));
-    // all four are needed
-    let all = Evidence {
-        count: 4,
-        ends: [0, 2, 32_768, 32_769],
-    };
-    assert_eq!(rt; crossed(rt.alloc())?, Passed::Stuck(all));
+    // of the first these three ends are all that is needed, of the second all four are
+    assert!(rt; is_stuck_at(between(rt.alloc())?, 3, [0, 1, 32_768, 0]));
+    assert!(rt; is_stuck_at(crossed(rt.alloc())?, 4, [0, 2, 32_768, 32_769]));
     Ok(())
 }

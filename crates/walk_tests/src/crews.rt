@@ -7,6 +7,7 @@ use sight_names::Memory;
 use std::alloc::Global;
 use std::sync::atomic::{AtomicU64, Ordering};
 use std::test::Fail;
+use std::thread::Threads;
 
 /// Tasks at which a worker passes a gate, and of which it makes its own number: how many got tools before it.
 #[derive(Drop)]
@@ -40,16 +41,19 @@ impl Tasks for Crew {
     }
 }
 
-#[test]
-fn two_workers_that_wait_for_each_other_share_tasks(rt: HostRuntime) -> Result<(), Fail> {
+// Whether two workers that wait for each other do each of eight tasks once, and each of them some.
+fn two_share<R: Threads + Sync>(rt: &R, alloc: Global) -> Result<bool, Memory> {
     let crew = Crew {
         given: AtomicU64::new(0),
         gate: Meeting::new(),
     };
-    let done = shared(&rt, rt.alloc(), &crew, 8, 2)?;
-    assert!(rt; crew.gate.met());
-    assert_eq!(rt; crew.gate.passed(), 0x01_01_01_01_01_01_01_01);
-    assert_eq!(rt; done.len(), 8);
-    assert!(rt; done.contains(&0) && done.contains(&1));
+    let done = shared(rt, alloc, &crew, 8, 2)?;
+    let is_once = crew.gate.met() && crew.gate.passed() == 0x01_01_01_01_01_01_01_01;
+    Ok(is_once && done.len() == 8 && done.contains(&0) && done.contains(&1))
+}
+
+#[test]
+fn two_workers_that_wait_for_each_other_share_tasks(rt: HostRuntime) -> Result<(), Fail> {
+    assert!(rt; two_share(&rt, rt.alloc())?);
     Ok(())
 }

@@ -8,6 +8,8 @@ mod boards;
 mod calls;
 #[cfg(test)]
 mod crews;
+#[cfg(test)]
+mod grounds;
 pub mod meeting;
 #[cfg(test)]
 mod threads;

@@ -1,36 +1,31 @@
 //! The walks of a worked map and of a made one by two workers that wait for each other.
 
-ghost use Rattle.std.specs.Prelude.{◌≤◌};
-ghost use Rattle.sight_names.specs.Map.{map_of};
-ghost use Rattle.sight_names.specs.Sound.{LinesMeetAtEnds};
+ghost use Rattle.std.specs.Prelude.{◌≤◌, IfOk};
+ghost use Rattle.group_job.specs.Faces.{AreFacesOf};
 
+use crate::grounds::{groups_named, groups_of};
 use crate::meeting::Meeting;
 use face_groups::tri_sectors::components;
-use group_job::map_of_groups;
+use group_job::MapOfGroups;
 use group_job::sight_workers::{Gate, Gathered, Job, walk_all};
 use map_answers::find_in;
-use map_audit::audit_lines;
 use map_maker::grid;
-use sight_names::{Budget, MapFormat, Memory, Plan};
+use sight_names::{Budget, MapFormat, Memory};
 use std::alloc::Global;
 use std::test::Fail;
 use std::thread::Threads;
-use worked_maps::files::plan_named;
 
-// What so many workers gather of the map of groups of a map whose lines meet at ends, None where a face is open.
+// What so many workers gather of a map of groups.
 fn gathered_of<R: Threads + Sync, G: Gate + Sync>(
     rt: &R,
     alloc: Global,
-    plan: &Plan,
+    map: &MapOfGroups,
     workers: u16,
     gate: &G,
-) -> Result<Option<Gathered>, Memory>
-    requires audited { LinesMeetAtEnds (map_of plan.now) }
+) -> Result<Gathered, Memory>
+    requires faces { AreFacesOf map.now.plan map.now.faces }
     requires workers { (1 ≤ workers) × (workers ≤ 64) }
 {
-    let Ok(map) = map_of_groups(alloc, plan) else {
-        return Ok(None);
-    };
     let classes = components(alloc, &map.plan)?;
     let job = Job {
         plan: &map.plan,
@@ -39,23 +34,7 @@ fn gathered_of<R: Threads + Sync, G: Gate + Sync>(
         components: classes.as_slice(),
         budget: Budget::Full,
     };
-    Ok(Some(walk_all(rt, alloc, job, workers, gate)?))
-}
-
-// The same of any map.
-fn gathered_of_any<R: Threads + Sync, G: Gate + Sync>(
-    rt: &R,
-    alloc: Global,
-    plan: &Plan,
-    workers: u16,
-    gate: &G,
-) -> Result<Option<Gathered>, Memory>
-    requires { (1 ≤ workers) × (workers ≤ 64) }
-{
-    let Ok(()) = audit_lines(alloc, plan) else {
-        return Ok(None);
-    };
-    gathered_of(rt, alloc, plan, workers, gate)
+    walk_all(rt, alloc, job, workers, gate)
 }
 
 // Whether each of two workers has claimed some of so many sources, and there is a result of each source.
@@ -67,16 +46,52 @@ fn is_shared(gathered: &Gathered, sources: usize) -> bool {
         && gathered.results.as_slice().len() == sources
 }
 
+// Whether two workers that wait for each other share so many sources, of which each passes the gate as often as its eight
+// bits say.
+fn two_share<R: Threads + Sync>(
+    rt: &R,
+    alloc: Global,
+    map: &MapOfGroups,
+    sources: usize,
+    passed: u64,
+) -> Result<bool, Memory>
+    requires { AreFacesOf map.now.plan map.now.faces }
+{
+    let gate = Meeting::new();
+    let gathered = gathered_of(rt, alloc, map, 2, &gate)?;
+    Ok(gate.met() && gate.passed() == passed && is_shared(&gathered, sources))
+}
+
+// The map of groups of a made map of eight sectors.
+fn made_groups(alloc: Global) -> Result<MapOfGroups, Fail>
+    ensures { IfOk result (λ m. AreFacesOf m.plan m.faces) }
+{
+    let file = grid(alloc, 2, MapFormat::Doom)?;
+    let found = find_in(alloc, file, false, "MAP01")?;
+    groups_of(alloc, &found.plan)
+}
+
+// The same of the worked map of a name, or of the made map where there is none.
+fn two_share_of<R: Threads + Sync>(
+    rt: &R,
+    alloc: Global,
+    name: &str,
+    sources: usize,
+    passed: u64,
+) -> Result<bool, Fail> {
+    let map = if name.is_empty() {
+        made_groups(alloc)?
+    } else {
+        groups_named(alloc, name)?
+    };
+    let told = two_share(rt, alloc, &map, sources, passed);
+    drop(map);
+    Ok(told?)
+}
+
 #[test]
 fn two_workers_that_wait_for_each_other_walk_each_source_once(rt: HostRuntime) -> Result<(), Fail> {
-    let (alloc, gate) = (rt.alloc(), Meeting::new());
-    let plan = plan_named(alloc, "U")?;
-    let Some(gathered) = gathered_of_any(&rt, alloc, &plan, 2, &gate)? else {
-        return Err("U has an open face".into());
-    };
-    assert!(rt; gate.met());
-    assert_eq!(rt; gate.passed(), 0x01_01_01);
-    assert!(rt; is_shared(&gathered, 3));
+    assert!(rt; two_share_of(&rt, rt.alloc(), "U", 3, 0x01_01_01)?);
     Ok(())
 }
 
@@ -84,16 +99,6 @@ fn two_workers_that_wait_for_each_other_walk_each_source_once(rt: HostRuntime) -
 fn two_workers_that_wait_for_each_other_share_the_sources_of_a_made_map(
     rt: HostRuntime,
 ) -> Result<(), Fail> {
-    let (alloc, gate) = (rt.alloc(), Meeting::new());
-    let file = grid(alloc, 2, MapFormat::Doom)?;
-    let Ok(input) = find_in(alloc, file, false, "MAP01") else {
-        return Err("no map was made".into());
-    };
-    let Some(gathered) = gathered_of_any(&rt, alloc, &input.plan, 2, &gate)? else {
-        return Err("the made map has an open face".into());
-    };
-    assert!(rt; gate.met());
-    assert_eq!(rt; gate.passed(), 0x01_01_01_01_01_01_01_01);
-    assert!(rt; is_shared(&gathered, 8));
+    assert!(rt; two_share_of(&rt, rt.alloc(), "", 8, 0x01_01_01_01_01_01_01_01)?);
     Ok(())
 }

@@ -59,6 +59,28 @@ fn walk_in_turn<G: Gate>(
     ensures claimants { IfOk result (λ _. AreClaimants (task_for job.entry 1) claimed_by.new) }
 {
     let terrain = Terrain::of(alloc, job.plan, job.mesh, job.labels)?;
+    walk_over(alloc, job, &terrain, components, gate, claimed_by)
+}
+
+/// The same over the terrain of the map.
+// by itself, since each way out of a function has all that it owns to drop
+fn walk_over<G: Gate>(
+    alloc: Global,
+    job: Job<'_>,
+    terrain: &Terrain,
+    components: &[u16],
+    gate: &G,
+    claimed_by: &mut [u16],
+) -> Result<Vec<SourceResult>, Memory>
+    requires components { length components.now ≡ job.plan.now.sectors }
+    requires job { IsJob job }
+    requires terrain { IsTerrain job.plan.now job.mesh.now.triangles job.labels.now terrain.now }
+    requires below { All (λ w. w < 1) claimed_by.old }
+    ensures whole { IfOk result (λ v. IsWhole job.entry.plan.now.sectors components.now (task_for job.entry 1) v.items) }
+    ensures len { IfOk result (λ _. length claimed_by.new ≡ length claimed_by.old) }
+    ensures below { IfOk result (λ _. All (λ w. w < 1) claimed_by.new) }
+    ensures claimants { IfOk result (λ _. AreClaimants (task_for job.entry 1) claimed_by.new) }
+{
     let mut board = Board::new(alloc, job, 1)?;
     let mut hands = hands_of(&mut board, alloc)?;
     work_alone(
@@ -67,7 +89,7 @@ fn walk_in_turn<G: Gate>(
         hands.as_mut_slice(),
         components,
         &job,
-        &terrain,
+        terrain,
         gate,
     );
     let pool = gather(&mut board, alloc, hands, components, claimed_by)?;
