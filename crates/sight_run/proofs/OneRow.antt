@@ -61,11 +61,11 @@ module _ (n : ℕ) (bytes : List ℕ) (t u : TableParts) (is : IsTableOf n bytes
     unfolding set_in_row
     one_count a = λ i. sectors i - count_by (λ b. bits (a * sectors i + b) i == 1) (range_with_len 0 (sectors i))
 
+    abbrev heat_with : MapGroups → (List ℕ → ℕ) → Drawing
+    heat_with g count = record { bytes = svg_of m (heat_picture name m g.groups g.triangles g.labels (map count g.groups)); line = heat_line_of name (most_of (map count g.groups)) }
+
     one_heat : (g : MapGroups) → heat_drawing name m t g ≡ heat_drawing name m u g
-    one_heat g = λ i. heat_drawing_of (λ names. most_of (map (λ a. one_count a i) names))
-      where
-        abbrev heat_drawing_of : (List ℕ → ℕ) → Drawing
-        heat_drawing_of seen = record { bytes = svg_of m (heat_picture name m g.groups g.triangles g.labels (map seen g.groups)); line = heat_line_of name (most_of (map seen g.groups)) }
+    one_heat g = λ i. heat_with g (λ names. most_of (map (λ a. one_count a i) names))
 
     row_too : (a : ℕ) (g : MapGroups) (r : Result Answer Status) → RowCall name out m u a g r → RowCall name out m t a g r
     row_too a g (Ok answer) q = (q.0, q.1 ∙ ap (λ (d : Drawing). one_picture out d) (sym (one_row a g)))
