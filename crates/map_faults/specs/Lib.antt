@@ -1,0 +1,6 @@
+pub mod Clashes
+pub mod Corners
+pub mod EdgeSides
+pub mod LooseEnds
+pub mod OpenSides
+pub mod Tears
