@@ -1,5 +1,5 @@
 -- The common point of two lines, by the turns of the ends of the one about the other.
-use Rattle.std.proofs.Common.{◌≡◌, ℕ, ◌+◌, ◌*◌, ◌/◌, ◌<◌, ◌≤◌, ◌⊎◌, inl, inr, [], ◌∷◌, ℤ, pos, negsuc, ◌+ℤ◌, ◌-ℤ◌, ◌*ℤ◌, neg_ℤ, ◌≤ℤ◌, ◌<ℤ◌, refl, sym, ◌∙◌, ap, ap₂, subst, arith}
+use Rattle.std.proofs.Common.{◌≡◌, ℕ, ◌+◌, ◌*◌, ◌/◌, ◌<◌, ◌≤◌, ◌⊎◌, inl, inr, [], ◌∷◌, ℤ, pos, negsuc, ◌+ℤ◌, ◌-ℤ◌, ◌*ℤ◌, neg_ℤ, ◌≤ℤ◌, ◌<ℤ◌, Option, Some, MatchOption, option_and_then, slice_get, slice_index_or, refl, sym, ◌∙◌, ap, ap₂, subst, subst₂, arith}
 use borrow.Author.Differences.{ints}
 use Rattle.math_base.proofs.Quoting.{quoting, by_ring, combine1, combine2}
 use Rattle.std.proofs.Math.Nat.{mul-le-mul_left, mul_comm, lt-mul-div-succ, div-mul-le_self}
@@ -7,6 +7,12 @@ use Rattle.math_base.proofs.IntLaws.{add-*ℤ}
 use Rattle.math_base.proofs.Numbers.{below_or_not}
 use Rattle.math_base.proofs.Signs.{mul-le, le-of-mul, mul-pos, pos-of-mul, zero-of-mul, sign_cases, le_or_lt}
 use Rattle.sight_names.specs.declared.names.Pt.{Pt}
+use Rattle.sight_names.specs.declared.plan.Line.{Line}
+use Rattle.sight_names.specs.Plan.{PlanParts}
+use Rattle.sight_names.specs.Map.{MapLine, map_of, line_at, looked_up, origin}
+use Rattle.mesh_base.proofs.SightLaws.Plans.{line_there}
+use Rattle.math_base.proofs.Options.{one_value}
+use Rattle.std.proofs.lemmas.Option.{get_or_from_slice_get}
 use Rattle.sight_names.specs.Point.{Point, point_of, OnSegment}
 use Rattle.sight_names.specs.Sound.{IsCommon}
 use Rattle.sight_names.proofs.Portals.{scale_above}
@@ -14,7 +20,7 @@ use Rattle.geom_exact.specs.Formulas.{turn_of, AreOnOneSide}
 use Rattle.geom_exact.proofs.SegmentLemmas.{on, beside, beside-mean, spread, meet_x, meet_y, same_meeting_x, same_meeting_y, four_turns}
 use Rattle.geom_exact.proofs.RelationLemmas.{apart_on_other_side}
 use Rattle.std.specs.Prelude.{nat_abs}
-use Rattle.map_faults.specs.Corners.{IsRoundedDown, IsCornerOf, IsMeanDown}
+use Rattle.map_faults.specs.Corners.{IsRoundedDown, IsCornerOf, AreCornersOf, IsMeanDown}
 
 straight : (p q : Pt) (z : Point) → OnSegment (point_of p) (point_of q) z → beside p q z ≡ pos 0
 straight p q z h = let w = on p q z h in zero-of-mul (w.0 +ℤ w.1) (beside p q z) w.2.weighted (beside-mean p q w.0 w.1 z w.2)
@@ -167,3 +173,17 @@ lowered_mean m n a b q x y c ea eb ec below above = record {
 
     sum : pos (m * a + n * b) ≡ (pos m *ℤ x +ℤ pos n *ℤ y) +ℤ pos 32768 *ℤ (pos m +ℤ pos n)
     sum = ap₂ (λ (s t : ℤ). pos m *ℤ s +ℤ pos n *ℤ t) ea eb ∙ by_ring (pos m ∷ pos n ∷ x ∷ y ∷ pos 32768 ∷ []) _ _ (search quoting depth 60 fits 200000) (search quoting depth 60 fits 200000) tt
+
+-- ---- of the lines of two records
+
+pub corner_of_lines : (p : PlanParts) (i j : ℕ) (one other : Line) (a b c d : Pt) (o : Option Pt) → option_and_then (λ l. l) (slice_get p.lines i) ≡ Some one → option_and_then (λ l. l) (slice_get p.lines j) ≡ Some other
+    → slice_get p.points one.a ≡ Some a → slice_get p.points one.b ≡ Some b → slice_get p.points other.a ≡ Some c → slice_get p.points other.b ≡ Some d
+    → MatchOption o (turn_of a b c ≡ turn_of a b d) (IsCornerOf a b c d) → AreCornersOf (map_of p) i j o
+corner_of_lines p i j one other a b c d o ei ej ea eb ec ed h k l ek el =
+    subst₂ (λ (x y : MapLine). MatchOption o (turn_of x.first x.second y.first ≡ turn_of x.first x.second y.second) (IsCornerOf x.first x.second y.first y.second))
+    (one_value (line_at (map_of p) i) (looked_up p.points one) k (line_there p i one (sym ei)) ek) (one_value (line_at (map_of p) j) (looked_up p.points other) l (line_there p j other (sym ej)) el)
+    (subst₂ (λ (u v : Pt). MatchOption o (turn_of u v (slice_index_or p.points other.a origin) ≡ turn_of u v (slice_index_or p.points other.b origin)) (IsCornerOf u v (slice_index_or p.points other.a origin) (slice_index_or p.points other.b origin))) (read one.a a ea) (read one.b b eb)
+    (subst₂ (λ (u v : Pt). MatchOption o (turn_of a b u ≡ turn_of a b v) (IsCornerOf a b u v)) (read other.a c ec) (read other.b d ed) h))
+  where
+    read : (n : ℕ) (x : Pt) → slice_get p.points n ≡ Some x → x ≡ slice_index_or p.points n origin
+    read n x e = sym (get_or_from_slice_get p.points n x origin e)

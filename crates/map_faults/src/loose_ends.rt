@@ -1,7 +1,6 @@
 //! Loose ends: the points at which just one line ends.
 
 ghost use Rattle.std.specs.Prelude.{◌≡◌, ◌<◌, ◌≢◌, IfOk, OnOk, length};
-ghost use Rattle.sight_names.specs.Plan.{IsPlan};
 ghost use Rattle.map_faults.specs.LooseEnds.{AddsLoose, AreEnds, AreLooseEnds, NotesLine, NotesRecord, noted as noted_of};
 
 use sight_names::{Line, Memory, Plan};
@@ -55,8 +54,7 @@ fn note_record(plan: &Plan, ends: &mut [Ends], number: u16)
 
 /// The lines that end at each point.
 fn ends_of(alloc: Global, plan: &Plan) -> Result<Vec<Ends>, Memory>
-    ensures plan { IsPlan plan.now }
-    ensures ends { IfOk result (λ v. AreEnds plan.now v.items) }
+    ensures { IfOk result (λ v. AreEnds plan.now v.items) }
 {
     let mut ends = vec![in alloc; Ends::Nowhere; plan.points().len()]?;
     for number in 0..plan.lines().len() {
@@ -75,14 +73,23 @@ fn add_if_loose(loose: &mut Vec<LooseEnd>, point: u16, ends: Ends) -> Result<(),
     Ok(())
 }
 
-/// The points at which just one line ends, ascending.
-pub fn loose_ends_of(alloc: Global, plan: &Plan) -> Result<Vec<LooseEnd>, Memory>
+/// The loose ends by what ends at each point.
+fn loose_by(alloc: Global, plan: &Plan, ends: &[Ends]) -> Result<Vec<LooseEnd>, Memory>
+    requires { AreEnds plan.now ends.now }
     ensures { IfOk result (λ v. AreLooseEnds plan.now v.items) }
 {
-    let ends = ends_of(alloc, plan)?;
+    let _ = plan.points();
     let mut loose = Vec::new(alloc);
     for point in 0..ends.len() {
         add_if_loose(&mut loose, point as u16, ends[point])?;
     }
     Ok(loose)
+}
+
+/// The points at which just one line ends, ascending.
+pub fn loose_ends_of(alloc: Global, plan: &Plan) -> Result<Vec<LooseEnd>, Memory>
+    ensures { IfOk result (λ v. AreLooseEnds plan.now v.items) }
+{
+    let ends = ends_of(alloc, plan)?;
+    loose_by(alloc, plan, ends.as_slice())
 }
