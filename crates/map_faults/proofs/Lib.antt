@@ -4,5 +4,6 @@ pub mod FirstClash
 pub mod Loose
 pub mod OpenOnes
 pub mod Ordered
+pub mod Outside
 pub mod SidesOfEdges
 pub mod Turning

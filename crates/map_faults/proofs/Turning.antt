@@ -1,5 +1,6 @@
 -- Turns round a point have one end, and the torn corners of one line after the other.
 use Rattle.std.proofs.Common.{◌≡◌, ◌≢◌, ℕ, zero, suc, ◌+◌, ◌<◌, ◌≤◌, ◌⊎◌, inl, inr, ◌↔◌, List, [], ◌∷◌, ◌++◌, Option, Some, None, length, Bool, true, false, IsTrue, Contains, refl, sym, ◌∙◌, ap, subst, subst₂, arith, slice_get}
+use mathlib.Core.Bool.{beq}
 use Rattle.std.proofs.lemmas.List.{length-append}
 use Rattle.std.proofs.lemmas.Option.{none-some, same_Some, slice_get_within}
 use Rattle.std.proofs.lemmas.Bool.{true≢false, false≢true}
@@ -92,6 +93,18 @@ module _ (ts : List Triangle) (ss : List (Option Side)) (point : ℕ) where
   one_turn x (y ∷ ys) (z ∷ zs) w v h g = one_turn y ys zs w v h.2 (subst (λ (u : ℕ). IsTurn ts ss point u zs v) (same_Some z y (sym g.0 ∙ h.0)) g.2)
 
 -- ---- one corner
+
+pub same_bool : (b c : Bool) → beq b c ≡ true → b ≡ c
+same_bool true true e = refl
+same_bool false false e = refl
+same_bool true false e = absurd (false≢true e)
+same_bool false true e = absurd (false≢true e)
+
+pub other_bool : (b c : Bool) → beq b c ≡ false → b ≢ c
+other_bool true true e d = true≢false e
+other_bool false false e d = true≢false e
+other_bool true false e d = true≢false d
+other_bool false true e d = false≢true d
 
 abbrev pub torn : Side → ℕ → ℕ → ℕ → Tear
 torn side from point to = record { side = side; from = from; point = point; to = to }
