@@ -1,12 +1,12 @@
 -- How a table at the front of a REJECT differs from the one that is built, in words of sight.
-use Rattle.std.proofs.Common.{◌≡◌, ℕ, ◌+◌, ◌*◌, ◌<◌, ◌≤◌, ◌↔◌, inl, inr, List, [], length, Option, Some, None, Result, Ok, Err, Contains, refl, sym, ap, ◌∙◌, subst}
+use Rattle.std.proofs.Common.{◌≡◌, ℕ, ◌+◌, ◌*◌, ◌<◌, ◌≤◌, ◌↔◌, inl, inr, List, length, Option, Ok, Err, Contains, refl, sym, ap, ◌∙◌, subst}
 use Rattle.math_base.proofs.Lists.{contains_none}
 use Rattle.math_base.proofs.Numbers.{place_within}
 use Rattle.sight_names.specs.declared.names.Method.TheVariants as method
 use Rattle.sight_names.specs.declared.names.Pair.{Pair}
 use Rattle.sight_names.specs.Map.{Map}
 use Rattle.sight_names.specs.Sees.{Sees}
-use Rattle.sight_names.specs.Table.{Rejected, table_bit}
+use Rattle.sight_names.specs.Table.{table_bit}
 use Rattle.reject_bits.specs.Parts.{Rejects, TableParts}
 use Rattle.table_compare.specs.Compared.{SetsAlone}
 use Rattle.table_compare.specs.Counts.{IsCountOf, IsFirstOf}

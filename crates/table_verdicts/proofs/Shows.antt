@@ -1,5 +1,5 @@
 -- The answer without a budget for two sectors that see each other is a ray, or that a face belongs to both.
-use Rattle.std.proofs.Common.{◌≡◌, ℕ, ◌<◌, ◌≤◌, inl, inr, subst, arith}
+use Rattle.std.proofs.Common.{ℕ, ◌<◌, inl, inr, subst, arith}
 use Rattle.sight_names.specs.declared.names.Ask.TheVariants as ask
 use Rattle.sight_names.specs.declared.names.Budget.{Budget}
 use Rattle.sight_names.specs.declared.names.Budget.TheVariants.{Full}

@@ -1,5 +1,5 @@
 -- The REJECT that a map has in its WAD.
-use Rattle.std.specs.Prelude.{◌≡◌, ℕ, ◌*◌, ◌<◌, ◌≤◌, List, [], length, Option, Some, None, Result, Ok, Err, ⊤}
+use Rattle.std.specs.Prelude.{◌≡◌, ℕ, ◌*◌, ◌<◌, ◌≤◌, List, [], length, Option, Some, None, Result, Ok, Err}
 use Rattle.std.specs.Int.{div_ceil}
 use Rattle.sight_names.specs.declared.faults.MapFault.{MapFault}
 use Rattle.wad_dir.specs.declared.parts.MapSpot.{MapSpot}

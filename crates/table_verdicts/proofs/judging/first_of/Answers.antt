@@ -1,6 +1,3 @@
-use Rattle.sight_names.specs.Map.{map_of}
-use Rattle.table_compare.specs.Counts.{IsFirstOf}
-use Rattle.table_verdicts.specs.Verdict.{IsWrong}
 use Rattle.table_verdicts.proofs.judging.first_of.Goals as goal
 
 pub sight_of_pair-requires : goal.sight_of_pair-requires
