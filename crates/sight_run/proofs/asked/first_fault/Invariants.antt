@@ -4,4 +4,4 @@ use Rattle.wad_dir.specs.AllMaps.Asked.{first_fault}
 use Rattle.sight_run.proofs.asked.first_fault.Given as goal
 
 abbrev pub invariant-loop-name : goal.invariant-loop-name
-invariant-loop-name l = first_fault (entry_names l.wad.entries) l.only ≡ first_fault (entry_names l.wad.entries) (drop l.name-index l.only)
+invariant-loop-name g l = first_fault (entry_names l.wad.entries) l.only ≡ first_fault (entry_names l.wad.entries) (drop l.name-index l.only)
