@@ -83,9 +83,12 @@ one_alone Sole Called r h = record { called = h.called; only = λ sole. h.only t
 pub verify_unread : {V : Type 0} (view : V → AskedMaps) (said : Result AskedMaps Status) (Called : AskedMaps → Result Answer Status → Type 0) (s : Status) → Makes view (Err s) said → Gives (IsErr said) (OnRead said Called) (Err s)
 verify_unread {V} view said Called s made = one_alone (IsErr said) (OnRead said Called) (Err s) (gives_unread {V = V} {D = AskedMaps} view said Called s made)
 
+no_err : (asked : AskedMaps) → IsErr {T = AskedMaps} {E = Status} (Ok asked) → ⊥
+no_err asked h = cc
+
 pub verify_read : (said : Result AskedMaps Status) (asked : AskedMaps) (Called : AskedMaps → Result Answer Status → Type 0) (answer : Answer) → said ≡ Ok asked → Called asked (Ok answer) → IsTheAnswer (IsErr said) (OnRead said Called) (Ok answer)
 verify_read said asked Called answer read called =
-    subst (λ (r : Result AskedMaps Status). IsTheAnswer (IsErr r) (OnRead r Called) (Ok answer)) (sym read) (record { called = called; only = λ err. absurd err })
+    subst (λ (r : Result AskedMaps Status). IsTheAnswer (IsErr r) (OnRead r Called) (Ok answer)) (sym read) (record { called = called; only = λ err. absurd (no_err asked err) })
 
 -- what is said of the maps is what is answered
 pub verify_shows : (reported : Option (List ℕ)) (large : Bool) (asked : AskedMaps) (given : WadVerdict) (answer : Answer) → ShowsVerdicts asked.wad large asked.maps given

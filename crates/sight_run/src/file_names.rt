@@ -96,7 +96,11 @@ pub fn refuse_one_file<S: Shelf>(shelf: &mut S, order: &Order) -> Result<(), Sta
         Order::Zero { wad, out, .. } => refuse_same(shelf, wad.file.as_str(), out.as_str()),
         Order::Draw { wad, out, .. } => refuse_same(shelf, wad.file.as_str(), out.as_str()),
         Order::Check { wad, cert, .. } => refuse_same(shelf, wad.file.as_str(), cert.as_str()),
-        Order::Verify { wad, report, .. } => refuse_given(shelf, wad.file.as_str(), report),
+        Order::Verify {
+            wad,
+            report: Some(report),
+            ..
+        } => refuse_same(shelf, wad.file.as_str(), report.as_str()),
         Order::Build {
             wad,
             out,

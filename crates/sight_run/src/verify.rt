@@ -79,7 +79,8 @@ fn verdict_on<R: Threads + Sync, G: Gate + Sync, N: Notice>(
         gate,
         notice,
     )?;
-    Ok(reply_of(alloc, report, verdict)?)
+    let reply = reply_of(alloc, report, verdict)?;
+    Ok(reply)
 }
 
 /// What the order `verify` calls for. All files stay.
