@@ -115,8 +115,11 @@ right_by m plan reject (Ok (verdict.Short found expected)) h wrong short ok = ab
 right_by m plan reject (Ok (verdict.Judged findings)) h wrong short ok = record { m = m; is_read = refl; enough = h.enough; blind = blind_where_none m plan reject findings h (none findings.wrong wrong) }
   where
     none : (n : ℕ) → not (n == 0) ≡ false → n ≡ 0
-    none zero e = refl
-    none (suc n) e = absurd cc
+    none n e = is_told_same n 0 (told (n == 0) e)
+      where
+        told : (b : Bool) → not b ≡ false → b ≡ true
+        told true h = refl
+        told false h = sym h
 right_by m plan reject (Err refusal) h wrong short ok = absurd cc
 
 right_of : (large : Bool) (w : WadFile) (name reject : List ℕ) (read : Result Map Status) (said : Result Verdict Status) → map_named large w name ≡ read → IsVerdictOn read reject said → is_wrong said ≡ false → is_short said ≡ false → IsOk said → IsRightReject read reject
@@ -174,9 +177,9 @@ ends_told words files stand heard before after sinks false h e = record {
 }
 
 module _ (wad : Source) (only : Option (List (List ℕ))) (report : Option (List ℕ)) (files stand : Files) (sink : Sinks) (right : Bool) where
-  shown : (asked : AskedMaps) (answer : Answer) → asked_in wad.file only files ≡ Ok asked → ShowsVerify report wad.large asked answer → answer.right ≡ right → stand ≡ put_all files answer.writes
+  verdicts_shown : (asked : AskedMaps) (answer : Answer) → asked_in wad.file only files ≡ Ok asked → ShowsVerify report wad.large asked answer → answer.right ≡ right → stand ≡ put_all files answer.writes
       → sink.new.held ≡ option_map (λ held. held ++ answer.line) sink.old.held → TellsRejects wad only report files stand sink right
-  shown asked answer e q is stands said =
+  verdicts_shown asked answer e q is stands said =
       let right_is : right ≡ all_right (tally_of q.verdicts) = sym is ∙ ap (λ (a : Answer). a.right) q.is in
       record {
         asked = asked;
@@ -193,7 +196,7 @@ module _ (wad : Source) (only : Option (List (List ℕ))) (report : Option (List
 
   of_asked : (r : Result AskedMaps Status) (answer : Answer) → asked_in wad.file only files ≡ r → OnRead r (MapsVerified report wad.large) (Ok answer) → answer.right ≡ right → stand ≡ put_all files answer.writes
       → sink.new.held ≡ option_map (λ held. held ++ answer.line) sink.old.held → TellsRejects wad only report files stand sink right
-  of_asked (Ok asked) answer e q is stands said = shown asked answer e q is stands said
+  of_asked (Ok asked) answer e q is stands said = verdicts_shown asked answer e q is stands said
   of_asked (Err s) answer e q is stands said = absurd cc
 
 pub verified_is_right : VerifiedIsRight
