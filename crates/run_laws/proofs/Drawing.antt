@@ -22,7 +22,7 @@ use Rattle.sight_run.specs.Reading.{found_of}
 use Rattle.sight_run.specs.Run.{put_all}
 use Rattle.whole_wad.specs.Rejects.{table_len}
 use Rattle.sight_run.proofs.Round.{same_ok}
-use Rattle.run_laws.specs.Laws.{DrawLeavesPicture, IsPictureOf, LeavesPicture, ShowsPlan, ShowsView}
+use Rattle.run_laws.specs.Laws.{DrawLeavesPicture, IsPictureOf, LeavesPicture, ShowsFault, ShowsPlan, ShowsView}
 use Rattle.run_laws.proofs.Keeping.{stored}
 
 leaves : (files : Files) (out : List ℕ) (answer : Answer) (d : Drawing) (IsPicture : List ℕ → Type 0) → answer ≡ one_picture out d → IsPicture d.bytes → LeavesPicture out files (put_all files answer.writes) IsPicture
@@ -47,8 +47,7 @@ record IsDrawn (name out : List ℕ) (asked : View) (found : LocatedMap) (answer
   is : answer ≡ one_picture out drawing
   shows : ShowsView name found asked drawing.bytes
 
-of_fault : (name : List ℕ) (m : Map) (fault : Option Flaw) (d : Drawing) → DrawsFault name m fault d
-    → elim fault [ Some which ↦ d.bytes ≡ svg_of m (marked_picture name m (flaw_marks which)) | None ↦ ShowsPlan name m d.bytes ]
+of_fault : (name : List ℕ) (m : Map) (fault : Option Flaw) (d : Drawing) → DrawsFault name m fault d → ShowsFault name m d.bytes fault
 of_fault name m (Some which) d draws = ap (λ (x : Drawing). x.bytes) draws
 of_fault name m None d draws = record { groups = draws.groups; over = draws.over; is = ap (λ (x : Drawing). x.bytes) draws.is }
 

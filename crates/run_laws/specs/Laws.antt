@@ -168,11 +168,16 @@ pub record ShowsPlan (name : List ℕ) (m : Map) (bytes : List ℕ) : Type 0 whe
   pub over : IsOverGroups m groups
   pub is : bytes ≡ svg_of m (plan_picture name m groups.groups groups.triangles groups.labels)
 
--- .. or, if the map has a fault, the plan alone with the first one marked
+-- .. or the plan alone with this fault marked
+abbrev pub ShowsFault : List ℕ → Map → List ℕ → Option Flaw → Type 0
+ShowsFault name m bytes (Some which) = bytes ≡ svg_of m (marked_picture name m (flaw_marks which))
+ShowsFault name m bytes None = ShowsPlan name m bytes
+
+-- the first fault of the map, if it has one
 pub record ShowsFaults (name : List ℕ) (m : Map) (bytes : List ℕ) : Type 0 where
   pub fault : Option Flaw
   pub first : IsFaultOf m fault
-  pub is : elim fault [ Some which ↦ bytes ≡ svg_of m (marked_picture name m (flaw_marks which)) | None ↦ ShowsPlan name m bytes ]
+  pub is : ShowsFault name m bytes fault
 
 -- the faces of the groups, by the row of sector a in a table that the bytes of the map's own REJECT spell
 pub record ShowsRow (name : List ℕ) (found : LocatedMap) (a : ℕ) (bytes : List ℕ) : Type 0 where
