@@ -2,7 +2,7 @@
 
 use crate::table::{push_listeners, ran};
 use listeners::Listener;
-use shelf_io::{DiskShelf, MemSink, Shelf};
+use shelf_io::{DiskShelf, MemShelf, MemSink, Shelf};
 use sight_run::{NoNotice, code};
 use std::alloc::{AllocError, Global};
 use std::test::Fail;
@@ -58,32 +58,48 @@ fn is_alike(rt: &HostRuntime, name: &str, wanted: Option<&[u8]>) -> io::Result<b
     if !fs::exists(rt, name)? {
         return Ok(wanted.is_none());
     }
-    let is_alike = wanted == Some(fs::read(rt, name)?.as_slice());
+    let bytes = fs::read(rt, name)?;
     fs::remove_file(rt, name)?;
-    Ok(is_alike)
+    Ok(wanted == Some(bytes.as_slice()))
+}
+
+// Whether each real file is so.
+fn are_alike(rt: &HostRuntime, shelf: &MemShelf) -> io::Result<bool> {
+    for name in NAMES {
+        if !is_alike(rt, name, shelf.bytes(name))? {
+            return Ok(false);
+        }
+    }
+    Ok(true)
+}
+
+// Whether the words end with the row's code over real files, and over files in memory too.
+fn has_code(
+    rt: &HostRuntime,
+    alloc: Global,
+    row: &str,
+    shelf: &mut MemShelf,
+) -> Result<bool, AllocError> {
+    let words = part(row, 1);
+    let found = code_of(rt, alloc, words, &mut DiskShelf::new(rt))?;
+    if part(row, 2).parse::<u8>() != Ok(found) {
+        return Ok(false);
+    }
+    Ok(found == 11 || code_of(rt, alloc, words, shelf)? == found)
+}
+
+// Whether a row's run over real files leaves what the same over files in memory does.
+fn is_right(rt: &HostRuntime, alloc: Global, row: &str) -> Result<bool, Fail> {
+    let mut stage = stage_of(alloc, &format!(in alloc; "a.tmp={}", part(row, 0))?)?;
+    fs::write(rt, "a.tmp", stage.shelf.bytes("a.tmp").unwrap_or(&[]))?;
+    Ok(has_code(rt, alloc, row, &mut stage.shelf)? && are_alike(rt, &stage.shelf)?)
 }
 
 #[test]
 fn real_files_become_what_files_in_memory_do(rt: HostRuntime) -> Result<(), Fail> {
-    let alloc = rt.alloc();
     for row in RUNS.lines() {
-        let words = part(row, 1);
-        let mut stage = stage_of(alloc, &format!(in alloc; "a.tmp={}", part(row, 0))?)?;
-        fs::write(&rt, "a.tmp", stage.shelf.bytes("a.tmp").unwrap_or(&[]))?;
-        let found = code_of(&rt, alloc, words, &mut DiskShelf::new(&rt))?;
-        if found != 11 {
-            assert_eq!(rt;
-                code_of(&rt, alloc, words, &mut stage.shelf)?,
-                found,
-                "{row}"
-            );
-        }
-        assert!(rt; part(row, 2).parse::<u8>() == Ok(found), "{row}");
-        for name in NAMES {
-            assert!(rt;
-                is_alike(&rt, name, stage.shelf.bytes(name))?,
-                "{name} of {row}"
-            );
+        if !is_right(&rt, rt.alloc(), row)? {
+            return Err(row.into());
         }
     }
     Ok(())

@@ -1,7 +1,9 @@
 //! Rows of all verbs over small maps.
 
-use crate::table::first_wrong;
+use crate::table::hold;
+use std::alloc::Global;
 use std::test::Fail;
+use std::thread::Threads;
 use worked_maps::certs::digits_named;
 
 /// The order `zero`: what it writes, what it refuses, and what stands where something fails.
@@ -668,36 +670,45 @@ fn each_row_comes_out_as_it_says(rt: HostRuntime) -> Result<(), Fail> {
     for rows in [
         ZERO, JUDGED, CHECK, BUILD, ALL, VERIFY, NEED, SOUND, WHY, DRAW,
     ] {
-        assert_eq!(rt; first_wrong(&rt, rt.alloc(), rows)?.as_str(), "");
+        hold(&rt, rt.alloc(), rows)?;
     }
     Ok(())
 }
 
+// Tries the front of a WAD of so many bytes.
+fn hold_front<R: Threads + Sync>(rt: &R, alloc: Global, len: u32) -> Result<(), Fail> {
+    let fault = if len < 12 {
+        "short header"
+    } else {
+        "directory outside"
+    };
+    let row = format!(in alloc;
+        "a=SQUARE @{len}:326: | zero a MAP01 b | 6 | refused: not a wad: {fault} | b="
+    )?;
+    hold(rt, alloc, &row)
+}
+
+// Tries the front of a certificate of so many bytes, which is short at this place.
+fn hold_short<R: Threads + Sync>(rt: &R, alloc: Global, len: usize, at: usize) -> Result<(), Fail> {
+    let row = format!(in alloc;
+        "a=U =4400, c=#U-CERT @{len}:161: | check a MAP01 c | 1 | no cert: short {at}"
+    )?;
+    hold(rt, alloc, &row)
+}
+
 #[test]
 fn each_proper_prefix_is_refused(rt: HostRuntime) -> Result<(), Fail> {
-    let alloc = rt.alloc();
     for len in 0..326u32 {
-        let fault = if len < 12 {
-            "short header"
-        } else {
-            "directory outside"
-        };
-        let row = format!(in alloc;
-            "a=SQUARE @{len}:326: | zero a MAP01 b | 6 | refused: not a wad: {fault} | b="
-        )?;
-        assert_eq!(rt; first_wrong(&rt, alloc, &row)?.as_str(), "");
+        hold_front(&rt, rt.alloc(), len)?;
     }
     let mut at = 0usize;
     for field in digits_named("U-CERT").split_whitespace() {
         let end = at.wrapping_add(field.len() / 2);
         for len in at..end {
-            let row = format!(in alloc;
-                "a=U =4400, c=#U-CERT @{len}:161: | check a MAP01 c | 1 | no cert: short {at}"
-            )?;
-            assert_eq!(rt; first_wrong(&rt, alloc, &row)?.as_str(), "");
+            hold_short(&rt, rt.alloc(), len, at)?;
         }
         at = end;
     }
-    assert_eq!(rt; at, 161);
+    assert!(rt; at == 161);
     Ok(())
 }

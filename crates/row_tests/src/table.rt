@@ -9,6 +9,7 @@ use sight_names::{
 };
 use sight_run::{Bound, Flaw, NoNotice, Notice, Status, Why, code, run};
 use std::alloc::{AllocError, Global};
+use std::test::Fail;
 use std::thread::Threads;
 use worked_maps::files::bytes_of;
 use worked_maps::rows::part;
@@ -239,4 +240,14 @@ pub fn first_wrong<R: Threads + Sync>(
 ) -> Result<String, AllocError> {
     let mut stage = stage_of(alloc, "")?;
     first_wrong_on(rt, alloc, &mut stage, rows)
+}
+
+/// Whether each row comes out as it says; else the first that doesn't is the fault, with what is wrong.
+pub fn hold<R: Threads + Sync>(rt: &R, alloc: Global, rows: &str) -> Result<(), Fail> {
+    let wrong = first_wrong(rt, alloc, rows)?;
+    if wrong.is_empty() {
+        Ok(())
+    } else {
+        Err(wrong.into())
+    }
 }

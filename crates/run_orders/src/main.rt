@@ -1,20 +1,28 @@
-//! The program on the words of each line of the standard input in turn. It ends as the last of them does.
+//! The program on each line of the standard input in turn, behind the exit code that is wanted, and then on the words behind its
+//! own name. Where all codes are as wanted, it ends as the last of these runs does.
 #![tactic(auto)]
 
-use program::run_order;
+use program::{run_order, run_program};
 use std::process::ExitCode;
 use worked_maps::stages::words_in;
 
+// Whether the words behind the first one end with the exit code that it is.
+fn ends_so(rt: &HostRuntime, line: &str) -> bool {
+    let (code, words) = line.split_once(' ').unwrap_or(("", line));
+    let (Ok(code), Ok(words)) = (code.parse::<u8>(), words_in(rt.alloc(), words)) else {
+        return false;
+    };
+    run_order(rt, &rt.stderr(), &words) == ExitCode::from(code)
+}
+
 fn main(rt: HostRuntime) -> ExitCode {
-    let mut code = ExitCode::SUCCESS;
     for line in rt.lines(rt.alloc()) {
         let Ok(line) = line else {
             return ExitCode::FAILURE;
         };
-        let Ok(words) = words_in(rt.alloc(), &line) else {
+        if !ends_so(&rt, &line) {
             return ExitCode::FAILURE;
-        };
-        code = run_order(&rt, &rt.stderr(), &words);
+        }
     }
-    code
+    run_program(&rt, &rt.stderr())
 }

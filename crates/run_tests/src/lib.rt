@@ -7,6 +7,8 @@ mod bits;
 #[cfg(test)]
 mod faults;
 #[cfg(test)]
+mod once;
+#[cfg(test)]
 mod running;
 #[cfg(test)]
 mod threads;

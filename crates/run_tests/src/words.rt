@@ -1,7 +1,7 @@
 //! What no clause says: which word is the first wrong one, what the program says of itself, and runs on files in memory.
 
 use order_words::read_words;
-use program::answers::{answer, question_in};
+use program::answers::{Question, answer, question_in};
 use program::progress::Progress;
 use program::runs::run_words;
 use program::usage::{Fault, diagnose};
@@ -343,13 +343,20 @@ fn said_of(alloc: Global, words: &[String]) -> Result<String, OrderFault> {
     Ok(said)
 }
 
+// Whether what is said of a row's words is what it has.
+fn is_said(alloc: Global, row: &str) -> Result<bool, OrderFault> {
+    let (line, wanted) = parts_of(row);
+    let words = words_of(alloc, line)?;
+    let said = said_of(alloc, &words)?;
+    Ok(said.as_str() == wanted.trim())
+}
+
 #[test]
 fn the_first_wrong_word_is_told(rt: HostRuntime) -> Result<(), Fail> {
-    let alloc = rt.alloc();
     for row in WORDS.lines() {
-        let (line, wanted) = parts_of(row);
-        let said = said_of(alloc, &words_of(alloc, line)?)?;
-        assert_eq!(rt; said.as_str(), wanted.trim(), "{row}");
+        if !is_said(rt.alloc(), row)? {
+            return Err(row.into());
+        }
     }
     Ok(())
 }
@@ -365,37 +372,62 @@ fn words_numbered(alloc: Global, count: usize, number: usize) -> Result<Vec<Stri
     Ok(words)
 }
 
+// Whether so many words, the list that has this number, are an order; nothing where what is said of them is unlike that.
+fn is_order(alloc: Global, count: usize, number: usize) -> Result<Option<bool>, OrderFault> {
+    let words = words_numbered(alloc, count, number)?;
+    let said = said_of(alloc, &words)?;
+    match said.as_str() {
+        "unlike read_words" => Ok(None),
+        said => Ok(Some(said == "-")),
+    }
+}
+
+// How many of so many lists of words are orders; the fault is the number of one of which something else is said.
+fn orders_in(alloc: Global, count: usize, lists: usize) -> Result<u32, Fail> {
+    let mut orders = 0u32;
+    for number in 0..lists {
+        match is_order(alloc, count, number)? {
+            Some(is_order) => orders = orders.saturating_add(u32::from(is_order)),
+            None => return Err(number.into()),
+        }
+    }
+    Ok(orders)
+}
+
 #[test]
 fn what_is_no_order_has_a_wrong_word(rt: HostRuntime) -> Result<(), Fail> {
     let alloc = rt.alloc();
-    let mut orders = 0u32;
-    for (count, lists) in [(1, 14), (2, 196), (3, 2_744), (4, 38_416)] {
-        for number in 0..lists {
-            let words = words_numbered(alloc, count, number)?;
-            let said = said_of(alloc, &words)?;
-            assert!(rt; said.as_str() != "unlike read_words", "{words:?}");
-            if said.as_str() == "-" {
-                orders = orders.saturating_add(1);
-            }
-        }
-    }
-    assert!(rt; orders > 0);
+    let few = orders_in(alloc, 1, 14)?.saturating_add(orders_in(alloc, 2, 196)?);
+    let more = orders_in(alloc, 3, 2_744)?.saturating_add(orders_in(alloc, 4, 38_416)?);
+    assert!(rt; few > 0 && more > 0);
     Ok(())
+}
+
+// Whether the question is answered by a text that begins so, and where its third byte can't be put by a write fault.
+fn is_answered(alloc: Global, question: &Question, begins: &str) -> Result<bool, AllocError> {
+    let mut out = MemSink::new(alloc, Vec::new(alloc));
+    let is_done = answer(&mut out, question) == Status::Done;
+    let mut broken = MemSink::new(alloc, vec![in alloc; 2]?);
+    let is_fault = code(&answer(&mut broken, question)) == 5;
+    Ok(is_done && is_fault && !begins.is_empty() && out.held().starts_with(begins.as_bytes()))
+}
+
+// Whether a row's words ask of the program just where the row has how the answer begins, and it does so.
+fn is_question(alloc: Global, row: &str) -> Result<bool, AllocError> {
+    let (line, begins) = parts_of(row);
+    let words = words_of(alloc, line)?;
+    match question_in(&words) {
+        Some(question) => is_answered(alloc, &question, begins.trim()),
+        None => Ok(begins.trim().is_empty()),
+    }
 }
 
 #[test]
 fn what_is_asked_of_the_program_is_answered(rt: HostRuntime) -> Result<(), Fail> {
-    let alloc = rt.alloc();
     for row in QUESTIONS.lines() {
-        let (line, begins) = parts_of(row);
-        let mut out = MemSink::new(alloc, Vec::new(alloc));
-        let mut broken = MemSink::new(alloc, vec![in alloc; 2]?);
-        if let Some(question) = question_in(&words_of(alloc, line)?) {
-            assert!(rt; answer(&mut out, &question) == Status::Done, "{row}");
-            assert_eq!(rt; code(&answer(&mut broken, &question)), 5, "{row}");
+        if !is_question(rt.alloc(), row)? {
+            return Err(row.into());
         }
-        assert!(rt; out.held().starts_with(begins.trim().as_bytes()), "{row}");
-        assert_eq!(rt; out.held().is_empty(), begins.trim().is_empty(), "{row}");
     }
     Ok(())
 }
@@ -409,28 +441,44 @@ fn told_by(alloc: Global, line: &str) -> Result<String, AllocError> {
     String::from_str(alloc, str::from_utf8(out.held()).unwrap_or(""))
 }
 
+// Whether what is told to a line of words has each line of these.
+fn has_lines(alloc: Global, line: &str, wanted: &str) -> Result<bool, AllocError> {
+    let told = told_by(alloc, line)?;
+    for line in wanted.lines() {
+        if !told.lines().any(|row| row == line) {
+            return Ok(false);
+        }
+    }
+    Ok(true)
+}
+
 #[test]
 fn help_has_a_line_for_each_option(rt: HostRuntime) -> Result<(), Fail> {
     let alloc = rt.alloc();
-    assert_eq!(rt; told_by(alloc, "build --help")?.as_str(), BUILD);
-    let told = told_by(alloc, "--help")?;
-    for line in HELP.lines() {
-        assert!(rt; told.lines().any(|row| row == line), "{line}");
-    }
+    assert!(rt; told_by(alloc, "build --help")?.as_str() == BUILD);
+    assert!(rt; has_lines(alloc, "--help", HELP)?);
     Ok(())
+}
+
+// Whether what is told to words begins with the program's name, and each line of it has at most 80 columns.
+fn fits(alloc: Global, words: &str) -> Result<bool, AllocError> {
+    let told = told_by(alloc, words)?;
+    Ok(told.starts_with("doomsight ") && told.lines().all(|row| row.len() <= 80))
+}
+
+// Whether this holds of the help for a verb.
+fn fits_of(alloc: Global, name: &str) -> Result<bool, AllocError> {
+    let words = format!(in alloc; "help {name}")?;
+    fits(alloc, &words)
 }
 
 #[test]
 fn help_fits_into_a_terminal(rt: HostRuntime) -> Result<(), Fail> {
-    let alloc = rt.alloc();
-    assert!(rt; told_by(alloc, "--help")?.lines().all(|row| row.len() <= 80));
+    assert!(rt; fits(rt.alloc(), "--help")?);
     for verb in VERBS.iter() {
-        let line = format!(in alloc; "help {}", verb.name)?;
-        let told = told_by(alloc, &line)?;
-        assert!(rt;
-            told.starts_with("doomsight ") && told.lines().all(|row| row.len() <= 80),
-            "{line}"
-        );
+        if !fits_of(rt.alloc(), verb.name)? {
+            return Err(verb.name.into());
+        }
     }
     Ok(())
 }
@@ -446,28 +494,32 @@ fn run_on<R: Threads + Sync>(
     run_words(rt, alloc, &words, &mut stage.shelf, &mut out, &NoNotice)
 }
 
+// Whether a run of a row ends with its exit code.
+fn has_code<R: Threads + Sync>(rt: &R, alloc: Global, row: &str) -> Result<bool, AllocError> {
+    let (given, rest) = parts_of(row);
+    let (line, wanted) = parts_of(rest);
+    let mut stage = stage_of(alloc, given)?;
+    let status = run_on(rt, alloc, &mut stage, line)?;
+    Ok(wanted.trim().parse::<u8>() == Ok(code(&status)))
+}
+
 #[test]
 fn each_run_has_its_exit_code(rt: HostRuntime) -> Result<(), Fail> {
-    let alloc = rt.alloc();
     for row in CODES.lines() {
-        let (given, rest) = parts_of(row);
-        let (line, wanted) = parts_of(rest);
-        let mut stage = stage_of(alloc, given)?;
-        let status = run_on(&rt, alloc, &mut stage, line)?;
-        assert_eq!(rt; Ok(code(&status)), wanted.trim().parse::<u8>(), "{row}");
+        if !has_code(&rt, rt.alloc(), row)? {
+            return Err(row.into());
+        }
     }
     Ok(())
 }
 
 #[test]
 fn a_report_has_its_lines_and_totals(rt: HostRuntime) -> Result<(), Fail> {
-    let alloc = rt.alloc();
-    let mut stage = stage_of(alloc, "a=U")?;
-    let status = run_on(&rt, alloc, &mut stage, "build a MAP01 b --report=r")?;
-    assert!(rt; status == Status::Done);
-    assert_eq!(rt;
-        stage.shelf.bytes("r").unwrap_or(b""),
-        b"set 0 2\ntotal set 1 clear 5 listed 0\n".as_slice()
+    let mut stage = stage_of(rt.alloc(), "a=U")?;
+    let status = run_on(&rt, rt.alloc(), &mut stage, "build a MAP01 b --report=r")?;
+    let report = stage.shelf.bytes("r").unwrap_or(b"");
+    assert!(rt;
+        status == Status::Done && report == b"set 0 2\ntotal set 1 clear 5 listed 0\n".as_slice()
     );
     Ok(())
 }
@@ -481,12 +533,17 @@ const REFUSED: [(Status, bool); 5] = [
     (Status::SameName, false),
 ];
 
+// Whether a refusal is noted as one by a map's size exactly where it is wanted.
+fn is_noted<P: Print>(err: P, refusal: Status, wanted: bool) -> bool {
+    let progress = Progress::new(err, false);
+    progress.refuse("", refusal, &Fate::KeptClear);
+    progress.has_refused_size() == wanted
+}
+
 #[test]
 fn a_map_that_is_refused_for_its_size_is_noted(rt: HostRuntime) -> Result<(), Fail> {
     for (refusal, wanted) in REFUSED {
-        let progress = Progress::new(rt.stderr(), false);
-        progress.refuse("", refusal, &Fate::KeptClear);
-        assert!(rt; progress.has_refused_size() == wanted);
+        assert!(rt; is_noted(rt.stderr(), refusal, wanted));
     }
     Ok(())
 }

@@ -229,27 +229,51 @@ fn shape(
     Ok(())
 }
 
-// A file with these lumps in order from byte 12 on, and its directory behind them.
-fn file_of(alloc: Global, lumps: &[RowLump]) -> Result<Vec<u8>, AllocError> {
-    let mut bodies = Vec::new(alloc);
-    let mut directory = Vec::new(alloc);
-    let mut at = 12u32;
-    let mut count = 0u32;
-    for lump in lumps {
-        let size = u32::try_from(lump.bytes.len()).unwrap_or(0);
-        bodies.extend_from_slice(&lump.bytes)?;
-        directory.extend_from_slice(&at.to_le_bytes())?;
-        directory.extend_from_slice(&size.to_le_bytes())?;
-        directory.extend_from_slice(&lump.name)?;
-        at = at.wrapping_add(size);
-        count = count.wrapping_add(1);
-    }
-    let mut file = b"PWAD".to_vec(alloc)?;
-    file.extend_from_slice(&count.to_le_bytes())?;
+fn size_of(lump: &RowLump) -> u32 {
+    u32::try_from(lump.bytes.len()).unwrap_or(0)
+}
+
+// Adds an entry of a directory.
+fn push_entry(file: &mut Vec<u8>, at: u32, lump: &RowLump) -> Result<(), AllocError> {
     file.extend_from_slice(&at.to_le_bytes())?;
-    file.extend_from_slice(&bodies)?;
-    file.extend_from_slice(&directory)?;
-    Ok(file)
+    file.extend_from_slice(&size_of(lump).to_le_bytes())?;
+    file.extend_from_slice(&lump.name)
+}
+
+// The place behind the lumps, of which the first stands at byte 12.
+fn end_of(lumps: &[RowLump]) -> u32 {
+    let mut at = 12u32;
+    for lump in lumps {
+        at = at.wrapping_add(size_of(lump));
+    }
+    at
+}
+
+fn push_bodies(file: &mut Vec<u8>, lumps: &[RowLump]) -> Result<(), AllocError> {
+    for lump in lumps {
+        file.extend_from_slice(&lump.bytes)?;
+    }
+    Ok(())
+}
+
+fn push_directory(file: &mut Vec<u8>, lumps: &[RowLump]) -> Result<(), AllocError> {
+    let mut at = 12u32;
+    for lump in lumps {
+        push_entry(file, at, lump)?;
+        at = at.wrapping_add(size_of(lump));
+    }
+    Ok(())
+}
+
+// Adds a file with these lumps in order from byte 12 on, and its directory behind them. It is lent the bytes, since what a function
+// owns stands in its proof at each way out.
+fn push_file(file: &mut Vec<u8>, lumps: &[RowLump]) -> Result<(), AllocError> {
+    let count = u32::try_from(lumps.len()).unwrap_or(0);
+    file.extend_from_slice(b"PWAD")?;
+    file.extend_from_slice(&count.to_le_bytes())?;
+    file.extend_from_slice(&end_of(lumps).to_le_bytes())?;
+    push_bodies(file, lumps)?;
+    push_directory(file, lumps)
 }
 
 // From a place on, so many bytes are taken out and these are put there.
@@ -279,50 +303,86 @@ fn bytes_of_picture(alloc: Global, picture: &str) -> Result<Vec<u8>, AllocError>
     Ok(bytes)
 }
 
+// The bytes that digits spell, or those of the file of this name.
+fn spelled(alloc: Global, digits: &str) -> Result<Vec<u8>, AllocError> {
+    match digits_named(digits) {
+        "" => bytes_of_digits(alloc, digits),
+        named => bytes_of_digits(alloc, named),
+    }
+}
+
+// A made map of so many rooms a side.
+fn made_grid(alloc: Global, size: &str) -> Result<Vec<u8>, AllocError> {
+    match number(size) {
+        n @ 1..=18 => grid(alloc, n as u16, MapFormat::Doom).map_err(|_| AllocError),
+        _ => Ok(Vec::new(alloc)),
+    }
+}
+
+// Repeats the last sixteen bytes so often.
+fn repeat_last(file: &mut Vec<u8>, count: usize) -> Result<(), AllocError> {
+    let Some(last) = file.last_chunk::<16>() else {
+        return Ok(());
+    };
+    let last = *last;
+    for _ in 0..count {
+        file.extend_from_slice(&last)?;
+    }
+    Ok(())
+}
+
+// The bytes with what a word, behind `@`, makes of them.
+fn changed(alloc: Global, bytes: &[u8], word: &str) -> Result<Vec<u8>, AllocError> {
+    let (at, rest) = word.split_once(':').unwrap_or((word, ""));
+    let (out, digits) = rest.split_once(':').unwrap_or((rest, ""));
+    let put = bytes_of_digits(alloc, digits)?;
+    spliced(alloc, bytes, number(at), number(out), &put)
+}
+
 // What a word makes of a file's bytes: `#` and digits are the bytes, or `#` and the name of a file; `%` and a name are a picture; `grid:` and a number
 // make a map; `@`, a place, a colon, how many bytes are taken out there, a colon and digits change them; `&` and a number
 // repeat the last sixteen.
-fn edited(alloc: Global, file: Vec<u8>, word: &str) -> Result<Vec<u8>, AllocError> {
+fn edit(alloc: Global, file: &mut Vec<u8>, word: &str) -> Result<(), AllocError> {
     if let Some(digits) = word.strip_prefix('#') {
-        return match digits_named(digits) {
-            "" => bytes_of_digits(alloc, digits),
-            named => bytes_of_digits(alloc, named),
-        };
+        *file = spelled(alloc, digits)?;
+    } else if let Some(name) = word.strip_prefix('%') {
+        *file = bytes_of_picture(alloc, picture_named(name))?;
+    } else if let Some(size) = word.strip_prefix("grid:") {
+        *file = made_grid(alloc, size)?;
+    } else if let Some(place) = word.strip_prefix('@') {
+        *file = changed(alloc, file, place)?;
+    } else if let Some(count) = word.strip_prefix('&') {
+        repeat_last(file, number(count))?;
     }
-    if let Some(name) = word.strip_prefix('%') {
-        return bytes_of_picture(alloc, picture_named(name));
+    Ok(())
+}
+
+fn push_lumps(alloc: Global, lumps: &mut Vec<RowLump>, text: &str) -> Result<(), AllocError> {
+    let mut present = 0;
+    for word in text.split_whitespace() {
+        shape(alloc, lumps, &mut present, word)?;
     }
-    if let Some(size) = word.strip_prefix("grid:") {
-        return match number(size) {
-            n @ 1..=18 => grid(alloc, n as u16, MapFormat::Doom).map_err(|_| AllocError),
-            _ => Ok(file),
-        };
+    Ok(())
+}
+
+fn edit_all(alloc: Global, file: &mut Vec<u8>, text: &str) -> Result<(), AllocError> {
+    for word in text.split_whitespace() {
+        edit(alloc, file, word)?;
     }
-    if let Some((at, rest)) = word.strip_prefix('@').and_then(|rest| rest.split_once(':')) {
-        let (out, digits) = rest.split_once(':').unwrap_or((rest, ""));
-        let put = bytes_of_digits(alloc, digits)?;
-        return spliced(alloc, &file, number(at), number(out), &put);
-    }
-    let mut file = file;
-    if let (Some(count), Some(last)) = (word.strip_prefix('&'), file.last_chunk::<16>()) {
-        let last = *last;
-        for _ in 0..number(count) {
-            file.extend_from_slice(&last)?;
-        }
-    }
-    Ok(file)
+    Ok(())
+}
+
+// Adds a file of the lumps that a line of words says.
+fn push_lumps_of(alloc: Global, file: &mut Vec<u8>, text: &str) -> Result<(), AllocError> {
+    let mut lumps = Vec::new(alloc);
+    push_lumps(alloc, &mut lumps, text)?;
+    push_file(file, &lumps)
 }
 
 /// The file that a line of words makes: the lumps that they say as a WAD, and then what they say of its bytes.
 pub fn bytes_of(alloc: Global, text: &str) -> Result<Vec<u8>, AllocError> {
-    let mut lumps = Vec::new(alloc);
-    let mut present = 0;
-    for word in text.split_whitespace() {
-        shape(alloc, &mut lumps, &mut present, word)?;
-    }
-    let mut file = file_of(alloc, &lumps)?;
-    for word in text.split_whitespace() {
-        file = edited(alloc, file, word)?;
-    }
+    let mut file = Vec::new(alloc);
+    push_lumps_of(alloc, &mut file, text)?;
+    edit_all(alloc, &mut file, text)?;
     Ok(file)
 }
