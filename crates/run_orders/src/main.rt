@@ -3,16 +3,23 @@
 #![tactic(auto)]
 
 use program::{run_order, run_program};
+use std::io::IsTerminal;
 use std::process::ExitCode;
+use std::rt::Files;
+use std::thread::Threads;
 use worked_maps::stages::words_in;
 
 // Whether the words behind the first one end with the exit code that it is.
-fn ends_so(rt: &HostRuntime, line: &str) -> bool {
+fn ends_so<R: Files + Print + Threads + Sync + AllocGlobal, E: Print + IsTerminal>(
+    rt: &R,
+    err: &E,
+    line: &str,
+) -> bool {
     let (code, words) = line.split_once(' ').unwrap_or(("", line));
     let (Ok(code), Ok(words)) = (code.parse::<u8>(), words_in(rt.alloc(), words)) else {
         return false;
     };
-    run_order(rt, &rt.stderr(), &words) == ExitCode::from(code)
+    run_order(rt, err, &words) == ExitCode::from(code)
 }
 
 fn main(rt: HostRuntime) -> ExitCode {
@@ -20,7 +27,7 @@ fn main(rt: HostRuntime) -> ExitCode {
         let Ok(line) = line else {
             return ExitCode::FAILURE;
         };
-        if !ends_so(&rt, &line) {
+        if !ends_so(&rt, &rt.stderr(), &line) {
             return ExitCode::FAILURE;
         }
     }
