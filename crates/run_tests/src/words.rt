@@ -534,7 +534,7 @@ const REFUSED: [(Status, bool); 5] = [
 ];
 
 // Whether a refusal is noted as one by a map's size exactly where it is wanted.
-fn is_noted<P: Print>(err: P, refusal: Status, wanted: bool) -> bool {
+fn is_noted<P: Print + Drop>(err: P, refusal: Status, wanted: bool) -> bool {
     let progress = Progress::new(err, false);
     progress.refuse("", refusal, &Fate::KeptClear);
     progress.has_refused_size() == wanted
