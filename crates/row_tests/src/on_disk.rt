@@ -5,6 +5,7 @@ use listeners::Listener;
 use shelf_io::{DiskShelf, MemShelf, MemSink, Shelf};
 use sight_run::{NoNotice, code};
 use std::alloc::{AllocError, Global};
+use std::rt::Files;
 use std::test::Fail;
 use std::thread::Threads;
 use std::{fs, io};
@@ -54,7 +55,7 @@ fn code_of<R: Threads + Sync, S: Shelf>(
 }
 
 // Whether a real file is as it is in memory; also where there is none. It is removed then.
-fn is_alike(rt: &HostRuntime, name: &str, wanted: Option<&[u8]>) -> io::Result<bool> {
+fn is_alike<R: Files + AllocGlobal>(rt: &R, name: &str, wanted: Option<&[u8]>) -> io::Result<bool> {
     if !fs::exists(rt, name)? {
         return Ok(wanted.is_none());
     }
@@ -64,7 +65,7 @@ fn is_alike(rt: &HostRuntime, name: &str, wanted: Option<&[u8]>) -> io::Result<b
 }
 
 // Whether each real file is so.
-fn are_alike(rt: &HostRuntime, shelf: &MemShelf) -> io::Result<bool> {
+fn are_alike<R: Files + AllocGlobal>(rt: &R, shelf: &MemShelf) -> io::Result<bool> {
     for name in NAMES {
         if !is_alike(rt, name, shelf.bytes(name))? {
             return Ok(false);
@@ -74,8 +75,8 @@ fn are_alike(rt: &HostRuntime, shelf: &MemShelf) -> io::Result<bool> {
 }
 
 // Whether the words end with the row's code over real files, and over files in memory too.
-fn has_code(
-    rt: &HostRuntime,
+fn has_code<R: Files + Threads + Sync + AllocGlobal>(
+    rt: &R,
     alloc: Global,
     row: &str,
     shelf: &mut MemShelf,
@@ -89,7 +90,11 @@ fn has_code(
 }
 
 // Whether a row's run over real files leaves what the same over files in memory does.
-fn is_right(rt: &HostRuntime, alloc: Global, row: &str) -> Result<bool, Fail> {
+fn is_right<R: Files + Threads + Sync + AllocGlobal>(
+    rt: &R,
+    alloc: Global,
+    row: &str,
+) -> Result<bool, Fail> {
     let mut stage = stage_of(alloc, &format!(in alloc; "a.tmp={}", part(row, 0))?)?;
     fs::write(rt, "a.tmp", stage.shelf.bytes("a.tmp").unwrap_or(&[]))?;
     Ok(has_code(rt, alloc, row, &mut stage.shelf)? && are_alike(rt, &stage.shelf)?)
