@@ -20,7 +20,7 @@ struct Read {
     taken: usize,
 }
 
-// Files in memory that note each read.
+// Files in memory that note each read of a file that is there.
 #[derive(Drop)]
 struct NotingShelf {
     shelf: MemShelf,
@@ -34,13 +34,15 @@ impl Shelf for NotingShelf {
 
     fn read(&mut self, name: &str, at: u64, buf: &mut [u8]) -> Result<usize, ShelfFault> {
         let answer = self.shelf.read(name, at, buf);
-        let read = Read {
-            file: name.as_bytes().first().copied().unwrap_or(0),
-            at,
-            taken: answer.unwrap_or(0),
-        };
-        // one that finds no memory is missing among them, which the test tells
-        let _ = self.reads.push(read);
+        if let Ok(taken) = answer {
+            let read = Read {
+                file: name.as_bytes().first().copied().unwrap_or(0),
+                at,
+                taken,
+            };
+            // one that finds no memory is missing among them, which the test tells
+            let _ = self.reads.push(read);
+        }
         answer
     }
 
