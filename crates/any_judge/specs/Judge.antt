@@ -1,5 +1,5 @@
 -- A judge that was fed bytes of a certificate of any version, of a plan and a table.
-use Rattle.std.specs.Prelude.{◌≡◌, ℕ, ◌+◌, ◌<◌, ◌^◌, List, length, true, false}
+use Rattle.std.specs.Prelude.{◌≡◌, ℕ, ◌+◌, ◌<◌, ◌^◌, List, length, None, Some}
 use Rattle.sight_names.specs.Plan.{PlanParts, IsPlan}
 use Rattle.reject_bits.specs.Parts.{TableParts}
 use Rattle.any_judge.specs.declared.judge.Judge.{Judge}
@@ -8,7 +8,7 @@ use Rattle.any_judge.specs.Course.{IsOnCourse}
 -- it was made for this plan and this table, and these are the bytes of all pieces; once it is spent it answers no more
 pub record HasBeenFed (p : PlanParts) (t : TableParts) (bytes : List ℕ) (j : Judge) : Type 0 where
   pub plan : IsPlan p
-  pub course : j.spent ≡ false → IsOnCourse p t bytes j.course
+  pub course : j.spent ≡ None → IsOnCourse p t bytes j.course
 
 -- with the piece there are fewer than 2^63 bytes
 pub record MayBeFed (piece : List ℕ) (j : Judge) : Type 0 where
@@ -28,4 +28,4 @@ pub record IsFed (j : Judge) : Type 0 where
 
 -- a piece found no memory
 abbrev pub IsSpent : Judge → Type 0
-IsSpent j = j.spent ≡ true
+IsSpent j = j.spent ≡ Some tt

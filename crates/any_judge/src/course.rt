@@ -38,13 +38,13 @@ impl<'a> Course<'a> {
         ensures { (p : PlanParts) (t : TableParts) (bytes : List ℕ) → IsOnCourse p t bytes self.old → IfOk result (λ _. IsOnCourse p t (bytes ++ piece.now) self.new) }
     {
         match self {
-            Course::Opening(opening) => {
-                match opening.feed(piece)? {
-                    Some(Asked::Told(versed)) => *self = Course::Told(versed),
-                    Some(Asked::Cut { .. }) | None => {}
+            Course::Opening(opening) => match opening.feed(piece)? {
+                Some(Asked::Told(versed)) => {
+                    *self = Course::Told(versed);
+                    Ok(())
                 }
-                Ok(())
-            }
+                Some(Asked::Cut { .. }) | None => Ok(()),
+            },
             Course::Told(versed) => versed.feed(piece),
         }
     }

@@ -24,8 +24,8 @@ use std::alloc::Global;
 #[derive(Drop)]
 pub struct Judge<'a> {
     course: Course<'a>,
-    /// Whether a piece found no memory.
-    spent: bool,
+    /// The refusal, where a piece found no memory.
+    spent: Option<Memory>,
 }
 
 impl<'a> Judge<'a> {
@@ -36,7 +36,7 @@ impl<'a> Judge<'a> {
     {
         Judge {
             course: Course::new(alloc, plan, table),
-            spent: false,
+            spent: None,
         }
     }
 
@@ -49,14 +49,16 @@ impl<'a> Judge<'a> {
         ensures unspent { OnOk result (¬ IsSpent self.new) }
         ensures stays { IsSpent self.old → IsErr result × IsSpent self.new }
     {
-        if self.spent {
-            return Err(Memory);
-        }
-        if let Err(memory) = self.course.feed(piece) {
-            self.spent = true;
+        if let Some(memory) = self.spent {
             return Err(memory);
         }
-        Ok(())
+        match self.course.feed(piece) {
+            Ok(()) => Ok(()),
+            Err(memory) => {
+                self.spent = Some(memory);
+                Err(memory)
+            }
+        }
     }
 
     /// What comes of all the pieces, one behind the other: the fault where they spell no certificate of the plan's map,
@@ -68,8 +70,8 @@ impl<'a> Judge<'a> {
         ensures accepted { (p : PlanParts) (t : TableParts) (bytes : List ℕ) → HasBeenFed p t bytes self.entry → IfOk result (JudgedBy (certificate_at (sizes_of p) bytes) (λ c v. IsYesAny v ↔ IsAccepted (map_of p) t.bytes c)) }
         ensures sight { (p : PlanParts) (t : TableParts) (bytes : List ℕ) → HasBeenFed p t bytes self.entry → LinesMeetAtEnds (map_of p) → IfOk result (JudgedBy (certificate_at (sizes_of p) bytes) (λ c v. IsYesAny v → TellsSight (map_of p) t c)) }
     {
-        if self.spent {
-            return Err(Memory);
+        if let Some(memory) = self.spent {
+            return Err(memory);
         }
         self.course.end()
     }

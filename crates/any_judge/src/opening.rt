@@ -79,7 +79,7 @@ fn listing<'a>(
             intake.take_all(rest)?;
             Ok(Asked::Told(Versed::Listing(intake)))
         }
-        Err(CertFault::Memory) => Err(Memory),
+        Err(CertFault::Memory(ref memory)) => Err(*memory),
         Err(fault) => Ok(Asked::Told(Versed::Refused(fault))),
     }
 }
@@ -106,7 +106,7 @@ fn exact<'a>(
             intake.take_all(rest)?;
             Ok(Asked::Told(Versed::Exact(intake)))
         }
-        Err(CertFault::Memory) => Err(Memory),
+        Err(CertFault::Memory(ref memory)) => Err(*memory),
         Err(fault) => Ok(Asked::Told(Versed::Refused(fault))),
     }
 }

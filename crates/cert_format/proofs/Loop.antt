@@ -15,7 +15,7 @@ regroup front n (Err f) = refl
 
 -- an answer that is this fault
 pub fails : {Y : Type 0} (f : CertFault) (read : Result Y CertFault) → read ≡ Err f → Fails f read
-fails faults.Memory read h = tt
+fails (faults.Memory _) read h = tt
 fails f read h = h
 
 module _ {X K : Type 0} (one : K → List ℕ → Result (X × List ℕ) CertFault) (key : X → K) where
@@ -37,7 +37,7 @@ module _ {X K : Type 0} (one : K → List ℕ → Result (X × List ℕ) CertFau
 
   pub ends : (e : CertFault) (front : List X) (last : K) (count i : ℕ) (bytes : List ℕ) (total : Result (List X × List ℕ) CertFault) → i < count → Fails e (one last bytes)
       → with_front front (records_at one key last (count - i) bytes) ≡ total → Fails e total
-  ends faults.Memory front last count i bytes total lt h so_far = tt
+  ends (faults.Memory _) front last count i bytes total lt h so_far = tt
   ends f front last count i bytes total lt h so_far = stops front last count i bytes f total lt h so_far
 
   -- the same of a record that takes no memory

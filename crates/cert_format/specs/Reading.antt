@@ -25,7 +25,7 @@ abbrev pub ◌>>=◌ : {A B : Type 0} → Result A CertFault → (A → Result B
 
 -- the answer of a call is this one, unless memory ran out
 abbrev pub Fails : {Y : Type 0} → CertFault → Result Y CertFault → Type 0
-Fails faults.Memory read = Unit {0}
+Fails (faults.Memory _) read = Unit {0}
 Fails f read = read ≡ Err f
 
 abbrev pub Gives : {X Y : Type 0} → (X → Y) → Result X CertFault → Result Y CertFault → Type 0

@@ -15,7 +15,7 @@ pub struct Sizes {
 }
 
 /// A triangle with its sector.
-#[derive(Clone, Copy, Debug, PartialEq, Eq)]
+#[derive(Clone, Copy, PartialEq, Eq)]
 pub struct Labelled {
     pub triangle: Triangle,
     pub sector: u16,

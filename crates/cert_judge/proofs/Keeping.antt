@@ -1,7 +1,12 @@
 -- From what a judging keeps to what its verdict goes by.
-use Rattle.std.proofs.Common.{◌≡◌, List, Result, Ok, Err, refl, sym, ◌∙◌, subst, false}
-use Rattle.std.specs.Prelude.{IfOk}
-use Rattle.std.specs.Result.{is_err}
+use Rattle.std.proofs.Common.{◌≡◌, ℕ, ◌<◌, ◌≤◌, List, length, refl, sym, ◌∙◌, ap, subst, None}
+use Rattle.std.proofs.lemmas.List.Elements.{All-from_recursion}
+use Rattle.sight_names.specs.Limits.{most_triangles}
+use Rattle.sight_names.specs.Mesh.{AreTriangles}
+use Rattle.cert_format.specs.Grammar.{IsInOrder}
+use Rattle.cert_format.specs.Parts.{CertParts}
+use Rattle.cert_format.specs.declared.cert.Sizes.{Sizes}
+use Rattle.cert_checker.specs.Apart.{triangles_in}
 use Rattle.sight_names.specs.declared.names.Pair.{Pair}
 use Rattle.sight_names.specs.declared.names.PairRay.{PairRay}
 use Rattle.sight_names.specs.Plan.{PlanParts}
@@ -16,19 +21,34 @@ use Rattle.group_checker.specs.Judged.{JudgesAny}
 use Rattle.cert_judge.specs.declared.judging.Judging.{Judging}
 use Rattle.cert_judge.specs.declared.kept.Kept.{Kept}
 use Rattle.cert_judge.specs.declared.on_ground.OnGround.{OnGround}
-use Rattle.cert_judge.specs.declared.stage.Stage.TheVariants.{Broken, Good}
+use Rattle.cert_judge.specs.declared.stage.Stage.TheVariants.{Gathering, Lost, Broken, Good}
 use Rattle.cert_judge.specs.Heard.{Heard, nothing, closed_at, heard_from}
 use Rattle.cert_judge.specs.Judging.{IsKept, IsKeptWhole, HasHeardAll}
 use Rattle.cert_judge.specs.OnGround.{IsOnGround}
-use Rattle.cert_judge.specs.Stage.{IsStage}
+use Rattle.cert_judge.specs.Stage.{AreFit, AreInOrder, AreLabelledBelow, IsStage}
 use Rattle.cert_judge.specs.Version.{Groups, groups_in, core_of}
-use Rattle.cert_judge.specs.Whole.{HasLists, IsJudgedOn}
+use Rattle.cert_judge.specs.Whole.{HasLists, IsCertOf, IsJudgedOn}
 use Rattle.cert_judge.proofs.AllHeard.{all_heard}
 
--- an answer that is no Err
-pub ok_then : {T E P : Type 0} (r : Result T E) → is_err r ≡ false → IfOk r (λ _. P) → P
-ok_then (Ok x) e h = h
-ok_then (Err x) e h = absurd (cc)
+-- the triangles of a certificate are in order, and each is of one of its sectors
+pub in_order_at : (points : ℕ) (c : CertParts) → IsInOrder c → c.sizes.points ≡ points → AreInOrder points c.triangles
+in_order_at points c w e = record {
+  triangles = subst (λ (n : ℕ). AreTriangles n (triangles_in c.triangles)) e w.triangles;
+  few = subst (λ (n : ℕ). length c.triangles ≤ most_triangles n) e w.few;
+}
+
+pub labelled_at : (count : ℕ) (c : CertParts) → IsInOrder c → c.sizes.sectors ≡ count → AreLabelledBelow count c.triangles
+labelled_at count c w e = subst (λ (n : ℕ). AreLabelledBelow n c.triangles) e (All-from_recursion (λ (l : Labelled). l.sector < c.sizes.sectors) c.triangles w.sectors)
+
+-- so no certificate is lost
+fits : (p : PlanParts) (t : TableParts) (c : AnyCert) → IsCertOf p t c → AreFit (length p.points) (groups_in c) (core_of c).triangles
+fits p t (One c) w = in_order_at (length p.points) c w.core (ap (λ (s : Sizes). s.points) w.sized)
+fits p t (Two c sizes) w =
+    let points : sizes.points ≡ length p.points = ap (λ (s : Sizes). s.points) w.sized in (
+      in_order_at (length p.points) c.cert w.core (ap (λ (s : Sizes). s.points) w.in_order.grouped ∙ points),
+      subst (λ (n : ℕ). length c.groups ≤ most_triangles n) points w.in_order.few,
+      labelled_at (length c.groups) c.cert w.core (ap (λ (s : Sizes). s.sectors) w.in_order.grouped),
+    )
 
 module _ (p : PlanParts) (t : TableParts) (c : AnyCert) (k closed : Kept) (w : IsKeptWhole p t c k) (closes : (groups : Groups) (h : Heard) → IsKept p groups h k → IsKept p groups (closed_at h) closed) where
   kept : IsKept p (groups_in c) (closed_at w.heard) closed
@@ -53,13 +73,19 @@ module _ (p : PlanParts) (t : TableParts) (c : AnyCert) (k closed : Kept) (w : I
   pub broken_rule : (f : AnyFault) → closed.stage ≡ Broken f → JudgesAny p t c (No f)
   broken_rule f is = (subst (IsStage p (groups_in c) (closed_at w.heard)) is kept.stage).1 t c (record { groups_are = refl; triangles = sym w.all.triangles })
 
+  pub not_gathering : closed.stage ≡ Gathering → ⊥
+  not_gathering is = let fresh = subst (IsStage p (groups_in c) (closed_at w.heard)) is kept.stage in absurd (cc fresh.closed)
+
+  pub not_lost : closed.stage ≡ Lost → ⊥
+  not_lost is = (subst (IsStage p (groups_in c) (closed_at w.heard)) is kept.stage).1 (subst (AreFit (length p.points) (groups_in c)) (sym w.all.triangles) (fits p t c w.cert))
+
 -- the groups of a certificate come with its parts
 groups_with : (c : AnyCert) → (any_parts_of c).0 ≡ groups_in c
 groups_with (One c) = refl
 groups_with (Two c sizes) = refl
 
 -- what a judging keeps that has heard all parts and isn't spent
-pub kept_whole : (p : PlanParts) (t : TableParts) (c : AnyCert) (j : Judging) → HasHeardAll p t c j → j.spent ≡ false → IsKeptWhole j.plan.now j.table.now c j.kept
+pub kept_whole : (p : PlanParts) (t : TableParts) (c : AnyCert) (j : Judging) → HasHeardAll p t c j → j.spent ≡ None → IsKeptWhole j.plan.now j.table.now c j.kept
 kept_whole p t c j w fine =
     let whole : IsKeptWhole p t c j.kept = record { cert = w.cert; heard = heard_from nothing (any_parts_of c).1; all = all_heard c; kept = subst (λ (gs : Groups). IsKept p gs (heard_from nothing (any_parts_of c).1) j.kept) (groups_with c) (w.heard.kept fine) } in
     subst (λ (q : PlanParts). IsKeptWhole q j.table.now c j.kept) (sym w.heard.plan) (subst (λ (u : TableParts). IsKeptWhole p u c j.kept) (sym w.heard.table) whole)

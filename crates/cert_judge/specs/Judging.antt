@@ -1,5 +1,5 @@
 -- A judging that has heard parts of a certificate of a plan and a table.
-use Rattle.std.specs.Prelude.{◌≡◌, List, false}
+use Rattle.std.specs.Prelude.{◌≡◌, List, None}
 use Rattle.sight_names.specs.Plan.{PlanParts}
 use Rattle.cert_format.specs.declared.cert_groups.cert.AnyCert.{AnyCert}
 use Rattle.certificates.specs.declared.cert_parts.part.Part.{Part}
@@ -31,7 +31,7 @@ pub record IsKeptWhole (p : PlanParts) (t : TableParts) (c : AnyCert) (k : Kept)
 pub record HasHeard (p : PlanParts) (t : TableParts) (groups : Groups) (parts : List Part) (j : Judging) : Type 0 where
   pub plan : j.plan.now ≡ p
   pub table : j.table.now ≡ t
-  pub kept : j.spent ≡ false → IsKept p groups (heard_from nothing parts) j.kept
+  pub kept : j.spent ≡ None → IsKept p groups (heard_from nothing parts) j.kept
 
 -- groups and parts are all those of this certificate, which is one of the plan and in order
 pub record HasHeardAll (p : PlanParts) (t : TableParts) (c : AnyCert) (j : Judging) : Type 0 where

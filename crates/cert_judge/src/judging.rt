@@ -27,8 +27,8 @@ pub struct Judging<'a> {
     plan: &'a Plan,
     table: &'a Table,
     kept: Kept,
-    /// Whether a part found no memory.
-    spent: bool,
+    /// The refusal, where a part found no memory.
+    spent: Option<Memory>,
 }
 
 impl<'a> Judging<'a> {
@@ -41,7 +41,7 @@ impl<'a> Judging<'a> {
             plan,
             table,
             kept: Kept::new(alloc, groups),
-            spent: false,
+            spent: None,
         }
     }
 
@@ -50,7 +50,7 @@ impl<'a> Judging<'a> {
     pub fn hear_nodes<'b>(&mut self, bytes: &'b [u8], count: u64) -> (&'b [u8], u64)
         ensures { TakesNodes bytes.now count result.0.now result.1 (λ nodes. (p : PlanParts) (t : TableParts) (groups : GroupsOf) (parts : List PartOf) → HasHeard p t groups parts self.old → HasHeard p t groups (parts ++ node_parts nodes) self.new) }
     {
-        if self.spent {
+        if self.spent.is_some() {
             return (bytes, count);
         }
         self.kept.hear_nodes(bytes, count)
@@ -60,12 +60,16 @@ impl<'a> Judging<'a> {
     pub fn hear(&mut self, part: Part) -> Result<(), Memory>
         ensures { (p : PlanParts) (t : TableParts) (groups : GroupsOf) (parts : List PartOf) → HasHeard p t groups parts self.old → HasHeard p t groups (parts ++ part ∷ []) self.new }
     {
-        if self.spent {
-            return Err(Memory);
+        if let Some(memory) = self.spent {
+            return Err(memory);
         }
-        let heard = self.kept.hear(self.alloc, self.plan, part);
-        self.spent = heard.is_err();
-        heard
+        match self.kept.hear(self.alloc, self.plan, part) {
+            Ok(()) => Ok(()),
+            Err(memory) => {
+                self.spent = Some(memory);
+                Err(memory)
+            }
+        }
     }
 
     /// The verdict on the certificate whose parts all have been heard: that of the check of the whole certificate.
@@ -73,8 +77,8 @@ impl<'a> Judging<'a> {
         requires { IsComplete self }
         ensures { (p : PlanParts) (t : TableParts) (c : AnyCert) → HasHeardAll p t c self.entry → IfOk result (JudgesAny p t c) }
     {
-        if self.spent {
-            return Err(Memory);
+        if let Some(memory) = self.spent {
+            return Err(memory);
         }
         self.kept.verdict(self.alloc, self.plan, self.table)
     }

@@ -173,8 +173,8 @@ impl Kept {
                 Ok(any_of(verdict))
             }
             Stage::Broken(fault) => Ok(AnyVerdict::No(fault)),
-            // No certificate comes to this.
-            Stage::Gathering | Stage::Lost => Err(Memory),
+            // the triangles of a certificate have all come, and it may have them
+            Stage::Gathering | Stage::Lost => unreachable!(),
         }
     }
 }

@@ -161,9 +161,10 @@ impl Stage {
     pub fn hear_node(&mut self, node: Node) -> Result<(), Memory>
         ensures { (p : PlanParts) (groups : GroupsOf) (h : Heard) → h.closed ≡ true → IsStage p groups h self.old → IfOk result (λ _. IsStage p groups (with_next node h) self.new) }
     {
-        if let Stage::Good(on) = self {
-            on.hear_node(node)?;
-        }
+        let Stage::Good(on) = self else {
+            return Ok(());
+        };
+        on.hear_node(node)?;
         Ok(())
     }
 }

@@ -110,7 +110,7 @@ fn is_fetched<S: Shelf>(alloc: Global, shelf: &mut S, text: &[u8], step: &str) -
         Err(FetchFault::Absent) => "absent",
         Err(FetchFault::Failed) => "failed",
         Err(FetchFault::TooLong) => "long",
-        Err(FetchFault::Memory) => "memory",
+        Err(FetchFault::Memory(_)) => "memory",
     };
     word(step, 3) == told
 }

@@ -35,7 +35,7 @@ of_lumps_is_librarys (Some (lump.BadVertex line)) m = tt
 of_lumps_is_librarys (Some (lump.BadSide line)) m = tt
 of_lumps_is_librarys (Some (lump.BadSector side)) m = tt
 of_lumps_is_librarys (Some (lump.TooManyPoints count)) m = tt
-of_lumps_is_librarys (Some lump.Memory) m = tt
+of_lumps_is_librarys (Some (lump.Memory _)) m = tt
 
 -- .. is of the library
 pub of_reading : (read : Result Map Status) → IsLibrarys read → (s : Status) → IsOfBytes s → Makes map_of (Err s) read → IsOfLibrary s
@@ -43,7 +43,7 @@ of_reading read lib (status.BadLump f) h made = subst IsLibrarys made lib
 of_reading read lib (status.Limit b) h made = subst IsLibrarys made lib
 of_reading read lib (status.NotWad f) h made = subst IsLibrarys made lib
 of_reading read lib (status.NoMap f) h made = subst IsLibrarys made lib
-of_reading read lib status.Memory h made = tt
+of_reading read lib (status.Memory _) h made = tt
 of_reading read lib other h made = absurd h
 
 -- .. and is what they call for
@@ -52,24 +52,24 @@ called_by_reading read (status.BadLump f) h made = subst (λ r. Refuses r (statu
 called_by_reading read (status.Limit b) h made = subst (λ r. Refuses r (status.Limit b)) (sym made) refl
 called_by_reading read (status.NotWad f) h made = subst (λ r. Refuses r (status.NotWad f)) (sym made) refl
 called_by_reading read (status.NoMap f) h made = subst (λ r. Refuses r (status.NoMap f)) (sym made) refl
-called_by_reading (Ok m) status.Memory h made = tt
-called_by_reading (Err r) status.Memory h made = tt
+called_by_reading (Ok m) (status.Memory _) h made = tt
+called_by_reading (Err r) (status.Memory _) h made = tt
 called_by_reading read other h made = absurd h
 
 -- no map was read, unless memory ran out
-isnt_read : (read : Result Map Status) (s : Status) → IsOfBytes s → Makes map_of (Err s) read → (m : Map) → read ≡ Ok m → s ≡ status.Memory
+isnt_read : (read : Result Map Status) (s : Status) → IsOfBytes s → Makes map_of (Err s) read → (m : Map) → read ≡ Ok m → s ≡ status.Memory tt
 isnt_read read (status.BadLump f) h made m e = cc (sym made ∙ e)
 isnt_read read (status.Limit b) h made m e = cc (sym made ∙ e)
 isnt_read read (status.NotWad f) h made m e = cc (sym made ∙ e)
 isnt_read read (status.NoMap f) h made m e = cc (sym made ∙ e)
-isnt_read read status.Memory h made m e = refl
+isnt_read read (status.Memory _) h made m e = refl
 isnt_read read other h made m e = absurd h
 
 -- what the audit of a map can end with is of the library
 pub of_audit : (m : Map) (s : Status) → IsAuditRefusal m s → IsOfLibrary s
 of_audit m (status.BadMap (flaw.Line fault)) h = tt
 of_audit m (status.BadMap (flaw.Open side)) h = tt
-of_audit m status.Memory h = tt
+of_audit m (status.Memory _) h = tt
 of_audit m other h = absurd h
 
 -- ---- why there is no table

@@ -80,7 +80,7 @@ module _ (p : PlanParts) (meet : LinesMeetAtEnds (map_of p)) (reject cert : List
   checks (Err (status.No (why.Cert (cert_fault.OutOfRange at)))) h = unread (cert_fault.OutOfRange at) h
   checks (Err (status.No (why.Cert (cert_fault.NotSorted at)))) h = unread (cert_fault.NotSorted at) h
   checks (Err (status.No (why.Cert (cert_fault.Trailing at)))) h = unread (cert_fault.Trailing at) h
-  checks (Err status.Memory) h = tt
+  checks (Err (status.Memory _)) h = tt
   checks (Err other) h = absurd h
 
 -- ---- what a check refuses with is of the library
@@ -97,7 +97,7 @@ of_check m reject cert (status.No (why.Cert (cert_fault.OutOfRange at))) h = tt
 of_check m reject cert (status.No (why.Cert (cert_fault.NotSorted at))) h = tt
 of_check m reject cert (status.No (why.Cert (cert_fault.Trailing at))) h = tt
 of_check m reject cert (status.BadMap flaw) h = tt
-of_check m reject cert status.Memory h = tt
+of_check m reject cert (status.Memory _) h = tt
 of_check m reject cert other h = absurd h
 
 denied_by_reading : (read : Result Map Status) (reject cert : List ℕ) (s : Status) → IsOfBytes s → Makes map_of (Err s) read → Denies read reject cert s
@@ -105,8 +105,8 @@ denied_by_reading read reject cert (status.BadLump f) h made = subst (λ r. Deni
 denied_by_reading read reject cert (status.Limit b) h made = subst (λ r. Denies r reject cert (status.Limit b)) (sym made) refl
 denied_by_reading read reject cert (status.NotWad f) h made = subst (λ r. Denies r reject cert (status.NotWad f)) (sym made) refl
 denied_by_reading read reject cert (status.NoMap f) h made = subst (λ r. Denies r reject cert (status.NoMap f)) (sym made) refl
-denied_by_reading (Ok m) reject cert status.Memory h made = tt
-denied_by_reading (Err r) reject cert status.Memory h made = tt
+denied_by_reading (Ok m) reject cert (status.Memory _) h made = tt
+denied_by_reading (Err r) reject cert (status.Memory _) h made = tt
 denied_by_reading read reject cert other h made = absurd h
 
 module _ (tells : (s : Status) → IsOfLibrary s → status_in (fault_view s) ≡ s) (reject cert : List ℕ) where

@@ -52,7 +52,7 @@ pub record IsGiven (read : Result Map Status) (by : Method) (reject cert_before 
 -- the lumps call for this refusal: they are no map, or the map isn't sound
 abbrev pub Refuses : Result Map Status → Status → Type 0
 Refuses (Ok m) s = IsAuditRefusal m s
-Refuses (Err r) status.Memory = ⊤
+Refuses (Err r) (status.Memory _) = ⊤
 Refuses (Err r) s = s ≡ r
 
 -- the buffer for the table has another length than the table of the map that was read
@@ -69,7 +69,7 @@ pub record IsRefused (read : Result Map Status) (size : ℕ) (fault : DoomsightF
   pub is : fault ≡ fault_view refusal
   pub told : status_in fault ≡ refusal
   pub called : Refuses read refusal
-  pub fits : (m : Map) → read ≡ Ok m → (refusal ≡ status.Memory) ⊎ (size ≡ table_size m.sectors)
+  pub fits : (m : Map) → read ≡ Ok m → (refusal ≡ status.Memory tt) ⊎ (size ≡ table_size m.sectors)
 
 -- why the lumps get no table in a buffer of this length
 abbrev pub IsNoTable : Result Map Status → ℕ → DoomsightFault → Type 0

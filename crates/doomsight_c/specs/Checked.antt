@@ -70,19 +70,19 @@ pub record IsUnread (m : Map) (cert : List ℕ) (f : CertFault) : Type 0 where
 abbrev pub ChecksMap : Map → List ℕ → List ℕ → Result Totals Status → Type 0
 ChecksMap m reject cert (Ok totals) = IsVerdictOn m reject cert (verdict.Yes totals)
 ChecksMap m reject cert (Err (status.No (why.Table (length_of.WrongLength found expected)))) = Takes m.sectors reject (Err (length_of.WrongLength found expected))
-ChecksMap m reject cert (Err (status.No (why.Cert unread.Memory))) = ⊥
+ChecksMap m reject cert (Err (status.No (why.Cert (unread.Memory _)))) = ⊥
 ChecksMap m reject cert (Err (status.No (why.Cert f))) = IsUnread m cert f
 ChecksMap m reject cert (Err (status.No (why.Check f))) = IsVerdictOn m reject cert (verdict.No (fault.Check f))
 ChecksMap m reject cert (Err (status.No (why.Group t))) = IsVerdictOn m reject cert (verdict.No (fault.Group t))
 ChecksMap m reject cert (Err (status.No (why.Unused g))) = IsVerdictOn m reject cert (verdict.No (fault.Unused g))
 ChecksMap m reject cert (Err (status.BadMap flaw)) = IsLineRefusal m (status.BadMap flaw)
-ChecksMap m reject cert (Err status.Memory) = ⊤
+ChecksMap m reject cert (Err (status.Memory _)) = ⊤
 ChecksMap m reject cert (Err other) = ⊥
 
 -- the lumps, the table and the certificate call for this refusal or this no
 abbrev pub Denies : Result Map Status → List ℕ → List ℕ → Status → Type 0
 Denies (Ok m) reject cert s = ChecksMap m reject cert (Err s)
-Denies (Err r) reject cert status.Memory = ⊤
+Denies (Err r) reject cert (status.Memory _) = ⊤
 Denies (Err r) reject cert s = s ≡ r
 
 -- yes, with these counts
@@ -111,7 +111,7 @@ IsNotProved None read reject cert fault = IsUnproved read reject cert fault
 abbrev pub TakesTable : ℕ → List ℕ → Result TableParts Status → Type 0
 TakesTable n bytes (Ok t) = IsTableOf n bytes t
 TakesTable n bytes (Err (status.No (why.Table (length_of.WrongLength found expected)))) = Takes n bytes (Err (length_of.WrongLength found expected))
-TakesTable n bytes (Err status.Memory) = ⊤
+TakesTable n bytes (Err (status.Memory _)) = ⊤
 TakesTable n bytes (Err other) = ⊥
 
 -- the status of what was judged
@@ -120,7 +120,7 @@ VerdictOf j (Ok totals) = j ≡ judged.Verdict (verdict.Yes totals)
 VerdictOf j (Err (status.No (why.Check f))) = j ≡ judged.Verdict (verdict.No (fault.Check f))
 VerdictOf j (Err (status.No (why.Group t))) = j ≡ judged.Verdict (verdict.No (fault.Group t))
 VerdictOf j (Err (status.No (why.Unused g))) = j ≡ judged.Verdict (verdict.No (fault.Unused g))
-VerdictOf j (Err (status.No (why.Cert unread.Memory))) = ⊥
+VerdictOf j (Err (status.No (why.Cert (unread.Memory _)))) = ⊥
 VerdictOf j (Err (status.No (why.Cert f))) = j ≡ judged.Unread f
-VerdictOf j (Err status.Memory) = ⊤
+VerdictOf j (Err (status.Memory _)) = ⊤
 VerdictOf j (Err other) = ⊥

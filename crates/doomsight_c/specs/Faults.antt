@@ -78,7 +78,7 @@ flaw_view (flaw.Open side) = of_side 10 11 side
 
 abbrev pub table_view : TableFault → DoomsightFault
 table_view (table.WrongLength found expected) = wide 1 20 found expected
-table_view table.Memory = two 1 0 0 0
+table_view (table.Memory _) = two 1 0 0 0
 
 abbrev pub cert_view : CertFault → DoomsightFault
 cert_view cert.BadMagic = two 1 21 0 0
@@ -87,7 +87,7 @@ cert_view (cert.Short at) = wide 1 23 at 0
 cert_view (cert.OutOfRange at) = wide 1 24 at 0
 cert_view (cert.NotSorted at) = wide 1 25 at 0
 cert_view (cert.Trailing at) = wide 1 26 at 0
-cert_view cert.Memory = two 1 0 0 0
+cert_view (cert.Memory _) = two 1 0 0 0
 
 abbrev pub mesh_view : MeshFault → DoomsightFault
 mesh_view (mesh.Flat t) = two 1 30 t 0

@@ -103,14 +103,14 @@ status_in f =
     if f.code == 8 then lumps_in f
     else if f.code == 9 then bound_in f
     else if f.code == 10 then flaw_in f
-    else if f.code == 12 then status.Memory
+    else if f.code == 12 then status.Memory tt
     else if f.code == 1 then no_in f
     else status.Usage
 
 -- a refusal that a call of the library can end with
 abbrev pub IsReasonOf : Why → Type 0
 IsReasonOf (why.Table (table.WrongLength a b)) = ⊤
-IsReasonOf (why.Cert cert.Memory) = ⊥
+IsReasonOf (why.Cert (cert.Memory _)) = ⊥
 IsReasonOf (why.Cert f) = ⊤
 IsReasonOf (why.Check f) = ⊤
 IsReasonOf (why.Group t) = ⊤
@@ -127,7 +127,7 @@ IsOfLibrary (status.Limit bound.Sectors) = ⊤
 IsOfLibrary (status.Limit bound.Lines) = ⊤
 IsOfLibrary (status.Limit bound.Points) = ⊤
 IsOfLibrary (status.BadMap f) = ⊤
-IsOfLibrary status.Memory = ⊤
+IsOfLibrary (status.Memory _) = ⊤
 IsOfLibrary status.Usage = ⊤
 IsOfLibrary other = ⊥
 

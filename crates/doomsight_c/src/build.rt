@@ -53,7 +53,7 @@ fn build_within(alloc: Global, plan: &Plan, budget: Ask) -> Result<Built, Status
             })
         }
         Err(GroupFault::Open { side }) => Err(Status::BadMap(Flaw::Open(side))),
-        Err(GroupFault::Memory) => Err(Status::Memory),
+        Err(GroupFault::Memory(ref memory)) => Err(Status::Memory(*memory)),
     }
 }
 
@@ -73,7 +73,7 @@ fn build_deciding(alloc: Global, plan: &Plan) -> Result<Built, Status>
             })
         }
         Err(GroupFault::Open { side }) => Err(Status::BadMap(Flaw::Open(side))),
-        Err(GroupFault::Memory) => Err(Status::Memory),
+        Err(GroupFault::Memory(ref memory)) => Err(Status::Memory(*memory)),
     }
 }
 

@@ -26,7 +26,7 @@ fn table_of(alloc: Global, n: u16, bytes: &[u8]) -> Result<Table, Status>
 {
     match Table::of_bytes(alloc, n, bytes) {
         Ok(table) => Ok(table),
-        Err(TableFault::Memory) => Err(Status::Memory),
+        Err(TableFault::Memory(ref memory)) => Err(Status::Memory(*memory)),
         Err(fault) => Err(Status::No(Why::Table(fault))),
     }
 }
@@ -57,7 +57,7 @@ fn totals_of(judged: Judged) -> Result<Totals, Status>
         Judged::Verdict(AnyVerdict::No(AnyFault::Unused { group })) => {
             Err(Status::No(Why::Unused(group)))
         }
-        Judged::Unread(CertFault::Memory) => Err(Status::Memory),
+        Judged::Unread(CertFault::Memory(ref memory)) => Err(Status::Memory(*memory)),
         Judged::Unread(fault) => Err(Status::No(Why::Cert(fault))),
     }
 }
@@ -69,7 +69,7 @@ fn check_sound(alloc: Global, plan: &Plan, reject: &[u8], cert: &[u8]) -> Result
     let table = table_of(alloc, plan.sectors, reject)?;
     match judge_bytes(alloc, plan, &table, cert) {
         Ok(judged) => totals_of(judged),
-        Err(_) => Err(Status::Memory),
+        Err(memory) => Err(Status::Memory(memory)),
     }
 }
 

@@ -242,7 +242,10 @@ pub extern "C" fn doomsight_line_buffer(
 ) -> usize
     ensures { TellsText (text_of (status_in fault.now)) text.old text.new result }
 {
-    match line_of(alloc, status_of(fault)) {
+    let Some(status) = status_of(fault) else {
+        return put_text(&[], text);
+    };
+    match line_of(alloc, status) {
         Ok(line) => put_text(line.as_bytes(), text),
         Err(_) => usize::MAX,
     }

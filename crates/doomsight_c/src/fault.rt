@@ -141,7 +141,7 @@ fn of_table(fault: TableFault) -> DoomsightFault
 {
     match fault {
         TableFault::WrongLength { found, expected } => wide(1, 20, found, expected),
-        TableFault::Memory => two(1, 0, 0, 0),
+        TableFault::Memory(_) => two(1, 0, 0, 0),
     }
 }
 
@@ -155,7 +155,7 @@ fn of_cert(fault: CertFault) -> DoomsightFault
         CertFault::OutOfRange { at } => wide(1, 24, at, 0),
         CertFault::NotSorted { at } => wide(1, 25, at, 0),
         CertFault::Trailing { at } => wide(1, 26, at, 0),
-        CertFault::Memory => two(1, 0, 0, 0),
+        CertFault::Memory(_) => two(1, 0, 0, 0),
     }
 }
 

@@ -27,7 +27,7 @@ fn hold(alloc: Global, built: Built) -> Result<(DoomsightKept, DoomsightCounts),
     let (kept, counts) = spell_whole(alloc, built)?;
     match Box::new(alloc, kept) {
         Ok(kept) => Ok((DoomsightKept::of(kept), counts)),
-        Err(_) => Err(Memory),
+        Err(refused) => Err(refused.into()),
     }
 }
 
@@ -44,7 +44,7 @@ fn keep_audited(
     let built = build_alone(alloc, plan, method)?;
     match hold(alloc, built) {
         Ok(held) => Ok(held),
-        Err(_) => Err(Status::Memory),
+        Err(memory) => Err(Status::Memory(memory)),
     }
 }
 

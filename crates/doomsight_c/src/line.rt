@@ -1,7 +1,8 @@
 //! The line that tells a fault.
 
-ghost use Rattle.std.specs.Prelude.{◌≡◌, ◌≢◌};
+ghost use Rattle.std.specs.Prelude.{◌≡◌, ◌≢◌, MatchOption};
 ghost use Rattle.map_answers.specs.declared.sight_status.status.Status.{Status as StatusOf};
+ghost use Rattle.map_answers.specs.declared.sight_status.status.Status.TheVariants as status;
 ghost use Rattle.doomsight_c.specs.Faults.{fault_view};
 ghost use Rattle.doomsight_c.specs.Lines.{IsOfLibrary, bound_in, cert_in, flaw_in, lump_in, lumps_in, mesh_in, no_in, pair_in, ray_in, ray_of as ray_meant, side_in, status_in};
 
@@ -235,26 +236,27 @@ fn of_no(fault: &DoomsightFault) -> Status
     of_pair(fault)
 }
 
-/// The status of the numbers of a fault; usage where they are none of the library's.
-pub fn status_of(fault: &DoomsightFault) -> Status
-    ensures { result ≡ status_in fault.now }
+/// The status of the numbers of a fault; usage where they are none of the library's. None where they tell of want of memory:
+/// that is made of a refusal alone, not of a number.
+pub fn status_of(fault: &DoomsightFault) -> Option<Status>
+    ensures { MatchOption result (status_in fault.now ≡ status.Memory tt) (λ s. s ≡ status_in fault.now) }
 {
     if fault.code == 8 {
-        return of_lumps(fault);
+        return Some(of_lumps(fault));
     }
     if fault.code == 9 {
-        return of_bound(fault);
+        return Some(of_bound(fault));
     }
     if fault.code == 10 {
-        return of_flaw(fault);
+        return Some(of_flaw(fault));
     }
     if fault.code == 12 {
-        return Status::Memory;
+        return None;
     }
     if fault.code == 1 {
-        return of_no(fault);
+        return Some(of_no(fault));
     }
-    Status::Usage
+    Some(Status::Usage)
 }
 
 /// The numbers of each refusal of the library tell it, and its code isn't 0.

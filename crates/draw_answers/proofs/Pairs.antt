@@ -85,7 +85,7 @@ module _ (name : List ℕ) (m : Map) (pair : Pair) (g : MapGroups) (ask : Ask) w
       called = (lines.meet, record { groups = g; over = over; called = record { given = given; is_answer = is_answer; shown = drawing d; shows = h; is = refl } });
       only = λ sole. absurd (sole over.faces);
     }
-    gives_pair given is_answer (Err status.Memory) h = tt
+    gives_pair given is_answer (Err (status.Memory _)) h = tt
     gives_pair given is_answer (Err (status.No (why.NoSector k))) h = record {
       called = (lines.meet, record { groups = g; over = over; called = subst (λ (x : PairAnswer). IsAnswerFor m ask pair x) h is_answer });
       only = λ sole. absurd (sole over.faces);

@@ -29,10 +29,10 @@ drawn_answer out (Err refusal) = Err refusal
 abbrev pub IsOfDrawTest : Status → Type 0
 IsOfDrawTest (status.No (why.NoSector k)) = ⊤
 IsOfDrawTest (status.BadMap flaw) = ⊤
-IsOfDrawTest status.Memory = ⊤
+IsOfDrawTest (status.Memory _) = ⊤
 IsOfDrawTest other = ⊥
 
 -- the same was drawn, or memory ran out
 abbrev pub IsMadeOf : Result Drawn Memory → Result Drawn Status → Type 0
 IsMadeOf (Ok d) r = r ≡ Ok d
-IsMadeOf (Err e) r = r ≡ Err status.Memory
+IsMadeOf (Err e) r = r ≡ Err (status.Memory tt)

@@ -91,7 +91,7 @@ module _ (name : List ℕ) (m : Map) (pair : Pair) (g : MapGroups) where
   -- .. unless memory ran out; the no where a number is of no sector
   abbrev pub IsPairIfMade : Ask → PairAnswer → Result Drawn Status → Type 0
   IsPairIfMade ask given (Ok d) = ShowsPair ask given (drawing d)
-  IsPairIfMade ask given (Err status.Memory) = ⊤
+  IsPairIfMade ask given (Err (status.Memory _)) = ⊤
   IsPairIfMade ask given (Err (status.No (why.NoSector k))) = given ≡ answer.NoSector k
   IsPairIfMade ask given (Err other) = ⊥
 

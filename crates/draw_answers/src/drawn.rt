@@ -17,10 +17,10 @@ pub struct Drawn {
 /// What was drawn, or the want of memory.
 pub fn made(drawn: Result<Drawn, Memory>) -> Result<Drawn, Status>
     ensures made { IsMadeOf drawn result }
-    ensures refusals { IfErr result (λ s. s ≡ status.Memory) }
+    ensures refusals { IfErr result (λ s. s ≡ status.Memory tt) }
 {
     match drawn {
         Ok(drawn) => Ok(drawn),
-        Err(_) => Err(Status::Memory),
+        Err(memory) => Err(Status::Memory(memory)),
     }
 }

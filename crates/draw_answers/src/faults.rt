@@ -56,18 +56,20 @@ fn drawn_plain(alloc: Global, plan: &Plan, groups: &MeshGroups, map: &str) -> Re
 fn drawn_refused(alloc: Global, plan: &Plan, map: &str, refusal: Status) -> Result<Drawn, Status>
     requires { IsAuditRefusal (map_of plan.now) refusal }
     ensures judged { (out : List ℕ) → Gives ⊤ (DrawFaultsCalls map.now out (map_of plan.now)) (drawn_answer out result) }
-    ensures refusals { IfErr result (λ s. s ≡ status.Memory) }
+    ensures refusals { IfErr result (λ s. s ≡ status.Memory tt) }
 {
     match refusal {
         Status::BadMap(which) => made(drawn_fault(alloc, plan, map, which)),
-        _ => Err(Status::Memory),
+        Status::Memory(memory) => Err(Status::Memory(memory)),
+        // an audit refuses by a fault of the map or by want of memory
+        _ => unreachable!(),
     }
 }
 
 /// The picture of any map's plan, in which the first fault that an audit tells is marked.
 pub fn draw_faults(alloc: Global, plan: &Plan, map: &str) -> Result<Drawn, Status>
     ensures judged { (out : List ℕ) → Gives ⊤ (DrawFaultsCalls map.now out (map_of plan.now)) (drawn_answer out result) }
-    ensures refusals { IfErr result (λ s. s ≡ status.Memory) }
+    ensures refusals { IfErr result (λ s. s ≡ status.Memory tt) }
 {
     match groups_of(alloc, plan) {
         Ok(groups) => made(drawn_plain(alloc, plan, &groups, map)),

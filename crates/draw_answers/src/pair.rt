@@ -193,6 +193,6 @@ pub fn draw_pair(
     let groups = groups_of(alloc, plan)?;
     match answer_over(alloc, plan, &groups, ask, pair) {
         Ok(answer) => drawn_answer_of(alloc, plan, &groups, map, ask, pair, answer),
-        Err(_) => Err(Status::Memory),
+        Err(memory) => Err(Status::Memory(memory)),
     }
 }

@@ -72,9 +72,10 @@ fn keep(
     requires kept { AreFoundInOrder over.now.plan kept.old.items }
     ensures { OnOk result (AreFoundInOrder over.now.plan kept.new.items) }
 {
-    if is_found(over, edges, one) {
-        add(kept, *one)?;
+    if !is_found(over, edges, one) {
+        return Ok(());
     }
+    add(kept, *one)?;
     Ok(())
 }
 

@@ -96,7 +96,7 @@ module _ (p : PlanParts) (is : IsPlan p) (ts : List Triangle) (fs : List ℕ) (o
 
   pub groups_answer : IsPlainMesh (map_of p) ts → FillsSides (map_of p) ts → (r : Result Grouped GroupFault) → IsFacesVerdict p ts fs os r → IsGroupsVerdict (map_of p) ts r
   groups_answer plain filled (Err (Open s)) v = open_verdict (map_of p) ts fs os (plan_facts p is) plain filled marked s v
-  groups_answer plain filled (Err Memory) v = tt
+  groups_answer plain filled (Err (Memory _)) v = tt
   groups_answer plain filled (Ok g) v =
       subst (λ (q : PlanParts). AreFoundGroups (map_of p) ts g.groups (map_of q) g.labels) (sym v.plan)
       (groups_verdict (map_of p) ts fs os (plan_facts p is) plain filled marked v.sealed g.groups g.labels (group_labels (map_of p) ts fs v.namings v.are_namings count g.groups g.labels v.labels) v.labels.ascend

@@ -26,7 +26,7 @@ AreFaceNames m ts lists = (k : ℕ) (names : List ℕ) → slice_get lists k ≡
 abbrev pub IsGroupsVerdict : Map → List Triangle → Result Grouped GroupFault → Type 0
 IsGroupsVerdict m ts (Ok g) = AreFoundGroups m ts g.groups (map_of g.plan) g.labels
 IsGroupsVerdict m ts (Err (Open s)) = IsFirstSideAgainst (IsClosedSide m) s
-IsGroupsVerdict m ts (Err Memory) = Unit {0}
+IsGroupsVerdict m ts (Err (Memory _)) = Unit {0}
 
 -- ---- where the faces are known
 
@@ -41,4 +41,4 @@ pub record AreGroupsOf (p : PlanParts) (ts : List Triangle) (fs : List ℕ) (os 
 abbrev pub IsFacesVerdict : PlanParts → List Triangle → List ℕ → List Bool → Result Grouped GroupFault → Type 0
 IsFacesVerdict p ts fs os (Ok g) = AreGroupsOf p ts fs os g
 IsFacesVerdict p ts fs os (Err (Open s)) = IsFirstSideAgainst (IsSealedAt (map_of p) ts fs os) s
-IsFacesVerdict p ts fs os (Err Memory) = Unit {0}
+IsFacesVerdict p ts fs os (Err (Memory _)) = Unit {0}

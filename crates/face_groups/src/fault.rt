@@ -12,29 +12,29 @@ pub enum GroupFault {
     #[error("open {side}")]
     Open { side: Side },
     #[error("memory")]
-    Memory,
+    Memory(Memory),
 }
 
 impl From<AllocError> for GroupFault {
-    ghost from_gives = { λ _ e. e ≡ NoRoomForGroups };
+    ghost from_gives = { λ _ e. e ≡ NoRoomForGroups tt };
 
-    fn from(_: AllocError) -> Self {
-        GroupFault::Memory
+    fn from(refused: AllocError) -> Self {
+        GroupFault::Memory(refused.into())
     }
 }
 
 impl<T: Drop> From<AllocFailed<T>> for GroupFault {
-    ghost from_gives = { λ _ e. e ≡ NoRoomForGroups };
+    ghost from_gives = { λ _ e. e ≡ NoRoomForGroups tt };
 
-    fn from(_: AllocFailed<T>) -> Self {
-        GroupFault::Memory
+    fn from(refused: AllocFailed<T>) -> Self {
+        GroupFault::Memory(refused.into())
     }
 }
 
 impl From<Memory> for GroupFault {
-    ghost from_gives = { λ _ e. e ≡ NoRoomForGroups };
+    ghost from_gives = { λ _ e. e ≡ NoRoomForGroups tt };
 
-    fn from(_: Memory) -> Self {
-        GroupFault::Memory
+    fn from(memory: Memory) -> Self {
+        GroupFault::Memory(memory)
     }
 }

@@ -31,7 +31,7 @@ use Rattle.group_job.specs.declared.build.GroupBuilt.{GroupBuilt}
 -- why a map gets no table: the least side that names a sector and whose face reaches outside
 abbrev pub IsGroupFault : Map → GroupFault → Type 0
 IsGroupFault m (fault.Open s) = IsFirstSideAgainst (IsClosedSide m) s
-IsGroupFault m fault.Memory = ⊤
+IsGroupFault m (fault.Memory _) = ⊤
 
 -- ---- the sectors
 

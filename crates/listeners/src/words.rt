@@ -115,9 +115,9 @@ pub fn note(
 {
     let before = text.len();
     text.extend_from_slice(line)?;
-    if heard.push(finding).is_err() {
+    if let Err(refused) = heard.push(finding) {
         text.truncate(before);
-        return Err(Memory);
+        return Err(refused.into());
     }
     Ok(())
 }

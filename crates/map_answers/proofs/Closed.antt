@@ -24,7 +24,7 @@ only_open m Called side lines h (Err s) q = absurd (h.against (q.1.over.faces.cl
 pub gives_flaw : (m : Map) (Sole : Type 0) (Called : MapGroups → Result Answer Status → Type 0) (s : Status) → IsAuditRefusal m s → Gives Sole (OnAudited m Called) (Err s)
 gives_flaw m Sole Called (status.BadMap (flaw.Line f)) h = gives_line_fault m Sole (OnClosed m Called) f h
 gives_flaw m Sole Called (status.BadMap (flaw.Open side)) h = record { called = (h.0.meet, h.1); only = λ sole. only_open m Called side h.0 h.1 }
-gives_flaw m Sole Called status.Memory h = tt
+gives_flaw m Sole Called (status.Memory _) h = tt
 gives_flaw m Sole Called s h = absurd h
 
 on_audited : (m : Map) (Called : MapGroups → Result Answer Status → Type 0) (r : Result Answer Status) → HasSoundLines m → HasGroups m Called r → IsPastAudit r → OnAudited m Called r
@@ -46,7 +46,7 @@ module _ (p : PlanParts) (plan : IsPlan p) (Called : MapGroups → Result Answer
 -- where the groups of a map call for one answer, it is the only one
 pub gives_called : (p : PlanParts) → IsPlan p → (Called : MapGroups → Result Answer Status → Type 0) (g : MapGroups) (r : Result Answer Status) → HasSoundLines (map_of p) → IsOverGroups (map_of p) g → Called g r
     → ((s : Result Answer Status) → Called g s → s ≡ r) → IsPastAudit r → Gives ⊤ (OnAudited (map_of p) Called) r
-gives_called p plan Called g (Err status.Memory) lines over h one past = tt
+gives_called p plan Called g (Err (status.Memory _)) lines over h one past = tt
 gives_called p plan Called g (Err (status.ReadFault k)) lines over h one past = tt
 gives_called p plan Called g r lines over h one past = record {
   called = on_audited (map_of p) Called r lines (record { groups = g; over = over; called = h }) past;

@@ -59,12 +59,12 @@ only_line m f h (Err s) q = absurd q
 pub gives_refused : (m : Map) (Sole : Type 0) (s : Status) → IsAuditRefusal m s → Gives Sole (IsFlaw m) (Err s)
 gives_refused m Sole (status.BadMap (flaw.Line f)) h = record { called = h.is; only = λ sole. only_line m f h }
 gives_refused m Sole (status.BadMap (flaw.Open side)) h = record { called = (h.0.meet, h.1); only = λ sole. only_open m side h.0 h.1 }
-gives_refused m Sole status.Memory h = tt
+gives_refused m Sole (status.Memory _) h = tt
 gives_refused m Sole s h = absurd h
 
 -- the refusal of an audit is the one answer, where each other that is called for of a map that isn't sound is one too
 pub gives_unsound : (m : Map) (Called : Result Answer Status → Type 0) → ((which : Flaw) → IsFlaw m (Err (status.BadMap which)) → Called (Err (status.BadMap which))) → (¬ HasClosedFaces m → (other : Result Answer Status) → Called other → IsFlaw m other)
     → (s : Status) → IsAuditRefusal m s → Gives (¬ HasClosedFaces m) Called (Err s)
 gives_unsound m Called called each (status.BadMap which) h = let g = gives_refused m (¬ HasClosedFaces m) (status.BadMap which) h in record { called = called which g.called; only = λ flawed other q. g.only flawed other (each flawed other q) }
-gives_unsound m Called called each status.Memory h = tt
+gives_unsound m Called called each (status.Memory _) h = tt
 gives_unsound m Called called each s h = absurd h

@@ -43,7 +43,7 @@ only_need name g ns line good h is (Ok answer) q = ap Ok (q.is ∙ ap only_line 
 only_need name g ns line good h is (Err s) q = absurd q
 
 pub gives_need : (p : PlanParts) (name : List ℕ) (g : MapGroups) (ns : List ℕ) (r : Result (String Global) Status) → IsPlan p → HasSoundLines (map_of p) → IsOverGroups (map_of p) g → IsGoodMesh g.grouped g.triangles g.labels
-    → AreNeeds g.grouped g.triangles g.labels ns → IfOk r (λ line. string_bytes line ≡ need_line name (greatest ns) (enough_of g.grouped g.triangles)) → IfErr r (λ s. s ≡ status.Memory) → Gives ⊤ (NeedCalls name (map_of p)) (line_answer r)
+    → AreNeeds g.grouped g.triangles g.labels ns → IfOk r (λ line. string_bytes line ≡ need_line name (greatest ns) (enough_of g.grouped g.triangles)) → IfErr r (λ s. s ≡ status.Memory tt) → Gives ⊤ (NeedCalls name (map_of p)) (line_answer r)
 gives_need p name g ns (Ok line) plan lines over good h is refusal =
     gives_called p plan (NeedsOf name) g (Ok (only_line (string_bytes line))) lines over (record { numbers = ns; are = h; is = ap only_line is }) (only_need name g ns (string_bytes line) good h is) tt
 gives_need p name g ns (Err s) plan lines over good h is refusal = subst (λ (t : Status). Gives ⊤ (NeedCalls name (map_of p)) (Err t)) (sym refusal) tt

@@ -26,7 +26,7 @@ abbrev Judged : Type 0
 Judged = Result (ℕ × ℕ) RayFault
 
 abbrev as_no : Judged → Result Answer Status
-as_no (Ok p) = Err status.Memory
+as_no (Ok p) = Err (status.Memory tt)
 as_no (Err fault) = Err (status.No (why.Ray fault))
 
 -- what the exact test of a ray promises

@@ -30,7 +30,7 @@ record Traced (ray : Ray) (g : MapGroups) (r : Result Answer Status) : Type 0 wh
 
 traced_of : (ray : Ray) (g : MapGroups) (r : Result Answer Status) → RayCallsFor ray g r → Traced ray g r
 traced_of ray g (Ok answer) h = record { answer = Ok h.passed; traced = h.trace; is = ap (λ (x : Answer). Ok x) h.is }
-traced_of ray g (Err (status.No (why.Trace trace.Memory))) h = absurd h
+traced_of ray g (Err (status.No (why.Trace (trace.Memory _)))) h = absurd h
 traced_of ray g (Err (status.No (why.Trace (trace.BadRay f)))) h = record { answer = Err (trace.BadRay f); traced = h; is = refl }
 traced_of ray g (Err (status.No (why.Trace (trace.HitsSolid n)))) h = record { answer = Err (trace.HitsSolid n); traced = h; is = refl }
 traced_of ray g (Err (status.No (why.Trace (trace.HitsPoint n)))) h = record { answer = Err (trace.HitsPoint n); traced = h; is = refl }
@@ -43,9 +43,9 @@ one_called ray g r h s k =
     let y = traced_of ray g s k in
     y.is ∙ ap (said g) (one_answer g.grouped g.triangles ray y.answer x.answer y.traced x.traced) ∙ sym x.is
 
-called_refusal : (ray : Ray) (g : MapGroups) (s : Status) → IsTraceRefusal g.grouped g.triangles ray s → (s ≡ status.Memory) ⊎ (RayCallsFor ray g (Err s) × IsPastAudit (Err s))
-called_refusal ray g status.Memory h = inl refl
-called_refusal ray g (status.No (why.Trace trace.Memory)) h = absurd h
+called_refusal : (ray : Ray) (g : MapGroups) (s : Status) → IsTraceRefusal g.grouped g.triangles ray s → (s ≡ status.Memory tt) ⊎ (RayCallsFor ray g (Err s) × IsPastAudit (Err s))
+called_refusal ray g (status.Memory _) h = inl refl
+called_refusal ray g (status.No (why.Trace (trace.Memory _))) h = absurd h
 called_refusal ray g (status.No (why.Trace (trace.BadRay f))) h = inr (h, tt)
 called_refusal ray g (status.No (why.Trace (trace.HitsSolid n))) h = inr (h, tt)
 called_refusal ray g (status.No (why.Trace (trace.HitsPoint n))) h = inr (h, tt)

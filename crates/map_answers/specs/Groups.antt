@@ -47,7 +47,7 @@ OnAudited m Called answer = OnSoundLines m (OnClosed m Called) answer
 -- what the test of the faces can end with
 abbrev pub IsClosedRefusal : Map → Status → Type 0
 IsClosedRefusal m (status.BadMap (flaw.Open side)) = HasOpenSide m side
-IsClosedRefusal m status.Memory = ⊤
+IsClosedRefusal m (status.Memory _) = ⊤
 IsClosedRefusal m other = ⊥
 
 -- what was made, as plain data

@@ -27,7 +27,7 @@ pub record LocatedMap : Type 0 where
 abbrev pub of_wad : Result WadFile WadFault → Result WadFile Status
 of_wad (Ok file) = Ok file
 of_wad (Err wad.TooManyLumps) = Err (status.Limit bound.Lumps)
-of_wad (Err wad.Memory) = Err status.Memory
+of_wad (Err (wad.Memory _)) = Err (status.Memory tt)
 of_wad (Err fault) = Err (status.NotWad fault)
 
 abbrev pub of_spot : Result MapSpot MapFault → Result MapSpot Status
@@ -39,7 +39,7 @@ of_lumps None map = Ok map
 of_lumps (Some (lump.TooManySectors count)) map = Err (status.Limit bound.Sectors)
 of_lumps (Some (lump.TooManyLines count)) map = Err (status.Limit bound.Lines)
 of_lumps (Some (lump.TooManyPoints count)) map = Err (status.Limit bound.Points)
-of_lumps (Some lump.Memory) map = Err status.Memory
+of_lumps (Some (lump.Memory _)) map = Err (status.Memory tt)
 of_lumps (Some fault) map = Err (status.BadLump fault)
 
 -- the bytes of a lump, none where there is no such lump

@@ -49,5 +49,5 @@ IsLineRefusal m other = ⊥
 abbrev pub IsAuditRefusal : Map → Status → Type 0
 IsAuditRefusal m (status.BadMap (flaw.Line fault)) = HasLineFault m fault
 IsAuditRefusal m (status.BadMap (flaw.Open side)) = HasSoundLines m × HasOpenSide m side
-IsAuditRefusal m status.Memory = ⊤
+IsAuditRefusal m (status.Memory _) = ⊤
 IsAuditRefusal m other = ⊥

@@ -52,15 +52,15 @@ pub record ShowsTrace (ray : Ray) (g : MapGroups) (answer : Answer) : Type 0 whe
 -- the answers that the groups of a map call for: the trace, or what the ray comes to first
 abbrev pub RayCallsFor : Ray → MapGroups → Result Answer Status → Type 0
 RayCallsFor ray g (Ok answer) = ShowsTrace ray g answer
-RayCallsFor ray g (Err (status.No (why.Trace trace.Memory))) = ⊥
+RayCallsFor ray g (Err (status.No (why.Trace (trace.Memory _)))) = ⊥
 RayCallsFor ray g (Err (status.No (why.Trace fault))) = IsTraceFault g.grouped g.triangles ray fault
 RayCallsFor ray g (Err other) = ⊥
 
 -- what the walk along the ray can end with
 abbrev pub IsTraceRefusal : Map → List Triangle → Ray → Status → Type 0
-IsTraceRefusal m ts ray (status.No (why.Trace trace.Memory)) = ⊥
+IsTraceRefusal m ts ray (status.No (why.Trace (trace.Memory _))) = ⊥
 IsTraceRefusal m ts ray (status.No (why.Trace fault)) = IsTraceFault m ts ray fault
-IsTraceRefusal m ts ray status.Memory = ⊤
+IsTraceRefusal m ts ray (status.Memory _) = ⊤
 IsTraceRefusal m ts ray other = ⊥
 
 -- the answers that `trace` calls for

@@ -88,6 +88,6 @@ pub fn judge_audit(alloc: Global, plan: &Plan) -> Result<String, Status>
     let groups = audit_map(alloc, plan)?;
     match sound_line_of(alloc, plan, &groups.grouped.labels) {
         Ok(line) => Ok(line),
-        Err(_) => Err(Status::Memory),
+        Err(refused) => Err(Status::Memory(refused.into())),
     }
 }

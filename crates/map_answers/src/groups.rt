@@ -49,7 +49,7 @@ fn groups_over(alloc: Global, plan: &Plan, mesh: Mesh) -> Result<MeshGroups, Sta
     match group_map(alloc, plan, &mesh) {
         Ok(grouped) => Ok(MeshGroups { mesh, grouped }),
         Err(GroupFault::Open { side }) => Err(Status::BadMap(Flaw::Open(side))),
-        Err(GroupFault::Memory) => Err(Status::Memory),
+        Err(GroupFault::Memory(ref memory)) => Err(Status::Memory(*memory)),
     }
 }
 
@@ -61,7 +61,7 @@ pub fn audit_groups(alloc: Global, plan: &Plan) -> Result<MeshGroups, Status>
 {
     match mesh_for(alloc, plan) {
         Ok(mesh) => groups_over(alloc, plan, mesh),
-        Err(_) => Err(Status::Memory),
+        Err(memory) => Err(Status::Memory(memory)),
     }
 }
 

@@ -35,7 +35,7 @@ pub fn directory(alloc: Global, bytes: &[u8]) -> Result<Wad, Status>
 {
     match read_wad(alloc, bytes) {
         Ok(wad) => Ok(wad),
-        Err(WadFault::Memory) => Err(Status::Memory),
+        Err(WadFault::Memory(ref memory)) => Err(Status::Memory(*memory)),
         Err(WadFault::TooManyLumps) => Err(Status::Limit(Bound::Lumps)),
         Err(fault) => Err(Status::NotWad(fault)),
     }
@@ -70,7 +70,7 @@ pub fn plan_of(
 {
     match read_lumps(alloc, reading, linedefs, sidedefs, vertexes, sectors) {
         Ok(plan) => Ok(plan),
-        Err(LumpFault::Memory) => Err(Status::Memory),
+        Err(LumpFault::Memory(ref memory)) => Err(Status::Memory(*memory)),
         Err(LumpFault::TooManySectors { .. }) => Err(Status::Limit(Bound::Sectors)),
         Err(LumpFault::TooManyLines { .. }) => Err(Status::Limit(Bound::Lines)),
         Err(LumpFault::TooManyPoints { .. }) => Err(Status::Limit(Bound::Points)),

@@ -33,12 +33,12 @@ fn count_all(alloc: Global, groups: &MeshGroups) -> Result<Vec<u64>, Status>
     requires good { IsGoodMesh (map_of groups.now.grouped.plan) groups.now.mesh.triangles groups.now.grouped.labels }
     requires points { groups.now.mesh.points ≡ length groups.now.grouped.plan.points }
     ensures numbers { IfOk result (λ ns. AreNeeds (map_of groups.now.grouped.plan) groups.now.mesh.triangles groups.now.grouped.labels ns.items) }
-    ensures refusals { IfErr result (λ s. s ≡ Memory) }
+    ensures refusals { IfErr result (λ s. s ≡ Memory tt) }
 {
     let grouped = &groups.grouped;
     match need(alloc, &grouped.plan, &groups.mesh, &grouped.labels) {
         Ok(numbers) => Ok(numbers),
-        Err(_) => Err(Status::Memory),
+        Err(memory) => Err(Status::Memory(memory)),
     }
 }
 
@@ -51,12 +51,12 @@ fn need_line_of(
 ) -> Result<String, Status>
     requires { IsMeshOf (map_of groups.now.grouped.plan) groups.now.mesh.triangles }
     ensures line { IfOk result (λ line. string_bytes line ≡ need_line name.now (greatest numbers.now) (enough_of (map_of groups.now.grouped.plan) groups.now.mesh.triangles)) }
-    ensures refusals { IfErr result (λ s. s ≡ Memory) }
+    ensures refusals { IfErr result (λ s. s ≡ Memory tt) }
 {
     let enough = enough(&groups.grouped.plan, &groups.mesh);
     match line_of(alloc, name, most(numbers), enough) {
         Ok(line) => Ok(line),
-        Err(_) => Err(Status::Memory),
+        Err(refused) => Err(Status::Memory(refused.into())),
     }
 }
 

@@ -96,12 +96,13 @@ fn judge_path(alloc: Global, plan: &Plan, dampers: &[bool], pair: Pair) -> Resul
     ensures judged { Gives ⊤ (PairCalls (map_of plan.now) dampers.now pair) (line_answer result) }
     ensures refusals { IfErr result IsOfSoundTest }
 {
-    let Ok(path) = noise(alloc, plan, dampers, pair.a, pair.b) else {
-        return Err(Status::Memory);
+    let path = match noise(alloc, plan, dampers, pair.a, pair.b) {
+        Ok(path) => path,
+        Err(memory) => return Err(Status::Memory(memory)),
     };
     match line_of_path(alloc, pair, path) {
         Ok(line) => Ok(line),
-        Err(_) => Err(Status::Memory),
+        Err(refused) => Err(Status::Memory(refused.into())),
     }
 }
 
@@ -136,12 +137,13 @@ fn judge_counts(alloc: Global, plan: &Plan, name: &str, dampers: &[bool]) -> Res
     ensures judged { Gives ⊤ (CountCalls name.now (map_of plan.now) dampers.now) (line_answer result) }
     ensures refusals { IfErr result IsOfSoundTest }
 {
-    let Ok(heard) = count_heard(alloc, plan, dampers) else {
-        return Err(Status::Memory);
+    let heard = match count_heard(alloc, plan, dampers) {
+        Ok(heard) => heard,
+        Err(memory) => return Err(Status::Memory(memory)),
     };
     match heard_line_of(alloc, name, plan.sectors, heard) {
         Ok(line) => Ok(line),
-        Err(_) => Err(Status::Memory),
+        Err(refused) => Err(Status::Memory(refused.into())),
     }
 }
 
@@ -158,8 +160,9 @@ pub fn judge_sound(
     ensures refusals { IfErr result IsOfSoundTest }
 {
     let linedefs = lump_of(&input.bytes, &input.wad, input.spot.linedefs);
-    let Ok(dampers) = dampers(alloc, linedefs, input.spot.format) else {
-        return Err(Status::Memory);
+    let dampers = match dampers(alloc, linedefs, input.spot.format) {
+        Ok(dampers) => dampers,
+        Err(memory) => return Err(Status::Memory(memory)),
     };
     match pair {
         Some(pair) => judge_pair(alloc, &input.plan, &dampers, *pair),

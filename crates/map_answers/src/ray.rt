@@ -27,7 +27,7 @@ pub fn judge_ray(alloc: Global, plan: &Plan, ray: &Ray) -> Result<String, Status
     match check_ray(plan, ray) {
         Ok((from, to)) => match make_sight_line(alloc, from, to) {
             Ok(line) => Ok(line),
-            Err(_) => Err(Status::Memory),
+            Err(refused) => Err(Status::Memory(refused.into())),
         },
         Err(fault) => Err(Status::No(Why::Ray(fault))),
     }

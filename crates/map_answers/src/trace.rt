@@ -114,7 +114,7 @@ fn trace_ray(alloc: Global, groups: &MeshGroups, ray: &Ray) -> Result<Vec<u16>, 
     let grouped = &groups.grouped;
     match trace(alloc, &grouped.plan, &groups.mesh, &grouped.labels, ray) {
         Ok(passed) => Ok(passed),
-        Err(TraceFault::Memory) => Err(Status::Memory),
+        Err(TraceFault::Memory(ref memory)) => Err(Status::Memory(*memory)),
         Err(fault) => Err(Status::No(Why::Trace(fault))),
     }
 }
@@ -126,11 +126,12 @@ pub fn judge_trace(alloc: Global, plan: &Plan, ray: &Ray) -> Result<String, Stat
 {
     let groups = audit_map(alloc, plan)?;
     let passed = trace_ray(alloc, &groups, ray)?;
-    let Ok(places) = places_along(alloc, &groups.grouped.labels, &passed) else {
-        return Err(Status::Memory);
+    let places = match places_along(alloc, &groups.grouped.labels, &passed) {
+        Ok(places) => places,
+        Err(refused) => return Err(Status::Memory(refused.into())),
     };
     match trace_line_of(alloc, groups.grouped.groups.as_slice(), &places) {
         Ok(line) => Ok(line),
-        Err(_) => Err(Status::Memory),
+        Err(refused) => Err(Status::Memory(refused.into())),
     }
 }

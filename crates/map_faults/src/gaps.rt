@@ -13,7 +13,7 @@ use sight_names::{Memory, Plan, Side, Triangle};
 use std::alloc::Global;
 
 /// A directed edge of a triangle, by its ends.
-#[derive(Clone, Copy, Debug, PartialEq, Eq)]
+#[derive(Clone, Copy, PartialEq, Eq)]
 pub struct Gap {
     pub triangle: u16,
     pub from: u16,

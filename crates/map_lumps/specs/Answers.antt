@@ -14,7 +14,7 @@ use Rattle.map_lumps.specs.Records.{AllSound}
 -- a plan comes exactly where no check fails, and a fault is that of the first check that does; want of memory is free
 abbrev pub AnswersFirstFault : Result PlanParts LumpFault → Option LumpFault → Type 0
 AnswersFirstFault (Ok plan) first = first ≡ None
-AnswersFirstFault (Err Memory) first = ⊤
+AnswersFirstFault (Err (Memory _)) first = ⊤
 AnswersFirstFault (Err fault) first = first ≡ Some fault
 
 -- the checks that need no memory have passed

@@ -5,7 +5,7 @@ use Rattle.map_maker.specs.declared.lines.Spot.{Spot}
 use Rattle.map_maker.specs.declared.lines.Line.{Line}
 use Rattle.map_maker.specs.Lumps.{linedef, linedefs_from, linedefs_in, side_count}
 
-linedef_length : (points : List Spot) (side : ℕ) (l : Line) → length (linedef points side l) ≡ 14
+pub linedef_length : (points : List Spot) (side : ℕ) (l : Line) → length (linedef points side l) ≡ 14
 unfolding linedef
 linedef_length points side l = refl
 

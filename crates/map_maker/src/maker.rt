@@ -2,8 +2,8 @@
 
 ghost use Rattle.std.specs.Prelude.{◌≡◌, ◌≤◌, ◌++◌, ◌∷◌, [], IfOk, codes, replicate, ◌*◌};
 ghost use Rattle.wad_dir.specs.Print.{print};
-ghost use Rattle.wad_dir.specs.declared.parts.Kind.TheVariants.{Pwad};
 ghost use Rattle.wad_dir.specs.WadRewrite.Lumps.{views};
+ghost use Rattle.wad_dir.specs.WadRewrite.Rewrite.{Writes, printed};
 ghost use Rattle.map_maker.specs.Lines.{lines_of, sector_count};
 ghost use Rattle.map_maker.specs.Lumps.{doom_file, grid_file, hexen_file, linedefs_from, linedefs_in, lumps_with, named, points_in, sidedefs_of, vertexes_of};
 
@@ -12,7 +12,7 @@ use crate::lumps::{linedefs, sidedefs, vertexes, zeros};
 use crate::points::points;
 use indexmap::IndexSet;
 use map_lumps::hexen_lumps::to_hexen;
-use sight_names::{MapFormat, Memory};
+use sight_names::{MapFormat, Memory, RewriteFault};
 use std::alloc::{AllocError, Global};
 use wad_dir::Kind;
 use wad_dir::wad_rewrite::{OutputLump, write_wad};
@@ -90,15 +90,6 @@ fn lumps_of<'a>(
     ]
 }
 
-fn write(alloc: Global, lumps: &[OutputLump]) -> Result<Vec<u8>, Memory>
-    ensures { IfOk result (λ v. v.items ≡ print (record { kind = Pwad; lumps = views lumps.now })) }
-{
-    match write_wad(alloc, Kind::Pwad, lumps) {
-        Ok(bytes) => Ok(bytes),
-        Err(_) => Err(Memory),
-    }
-}
-
 #[tactic(auto, using(crate::proofs::Small::products))]
 fn sectors(n: usize) -> usize
     requires some { 1 ≤ n }
@@ -146,10 +137,10 @@ fn parts_of(alloc: Global, n: usize) -> Result<Parts, AllocError>
 
 /// The WAD of the map in Doom's format.
 #[tactic(auto, unfolding(crate::specs::Lumps::doom_file, crate::specs::Lumps::grid_lumps))]
-fn doom(alloc: Global, n: u16) -> Result<Vec<u8>, Memory>
+fn doom(alloc: Global, n: u16) -> Result<Vec<u8>, RewriteFault>
     requires some { 1 ≤ n }
     requires side { n ≤ 18 }
-    ensures { IfOk result (λ v. v.items ≡ print (doom_file n)) }
+    ensures { Writes (λ v. v.items) result (printed (doom_file n)) }
 {
     let parts = parts_of(alloc, n as usize)?;
     let lumps = lumps_of(
@@ -158,20 +149,31 @@ fn doom(alloc: Global, n: u16) -> Result<Vec<u8>, Memory>
         &parts.vertexes,
         &parts.sectors,
     );
-    write(alloc, &lumps[..DOOM_LUMPS])
+    write_wad(alloc, Kind::Pwad, &lumps[..DOOM_LUMPS])
 }
 
 /// The WAD of the map in Hexen's format, with an empty BEHAVIOR behind BLOCKMAP.
 #[tactic(auto, using(crate::proofs::Whole::linedefs_whole), unfolding(crate::specs::Lumps::hexen_file, crate::specs::Lumps::grid_lumps))]
-fn hexen(alloc: Global, n: u16) -> Result<Vec<u8>, Memory>
+fn hexen(alloc: Global, n: u16) -> Result<Vec<u8>, RewriteFault>
     requires some { 1 ≤ n }
     requires side { n ≤ 18 }
-    ensures { IfOk result (λ v. v.items ≡ print (hexen_file n)) }
+    ensures { Writes (λ v. v.items) result (printed (hexen_file n)) }
 {
     let parts = parts_of(alloc, n as usize)?;
     let linedefs = to_hexen(alloc, &parts.linedefs)?;
     let lumps = lumps_of(&linedefs, &parts.sidedefs, &parts.vertexes, &parts.sectors);
-    write(alloc, &lumps)
+    write_wad(alloc, Kind::Pwad, &lumps)
+}
+
+fn written(alloc: Global, n: u16, format: MapFormat) -> Result<Vec<u8>, RewriteFault>
+    requires some { 1 ≤ n }
+    requires side { n ≤ 18 }
+    ensures { Writes (λ v. v.items) result (printed (grid_file n format)) }
+{
+    match format {
+        MapFormat::Doom => doom(alloc, n),
+        MapFormat::Hexen => hexen(alloc, n),
+    }
 }
 
 /// The WAD of a made map of `n` times `n` rooms, 1 to 18, each 128 wide and joined to its neighbours by corridors, in this
@@ -181,8 +183,11 @@ pub fn grid(alloc: Global, n: u16, format: MapFormat) -> Result<Vec<u8>, Memory>
     requires side { n ≤ 18 }
     ensures { IfOk result (λ v. v.items ≡ print (grid_file n format)) }
 {
-    match format {
-        MapFormat::Doom => doom(alloc, n),
-        MapFormat::Hexen => hexen(alloc, n),
+    match written(alloc, n, format) {
+        Ok(bytes) => Ok(bytes),
+        Err(RewriteFault::Memory(ref memory)) => Err(*memory),
+        // a made map has few lumps, and they are short
+        Err(RewriteFault::TooManyLumps) => unreachable!(),
+        Err(RewriteFault::TooLong) => unreachable!(),
     }
 }

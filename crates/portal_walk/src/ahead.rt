@@ -15,7 +15,7 @@ pub const NO_EDGE: u32 = 0xFFFF_FFFF;
 
 /// What a walk needs to know of the half-edge behind a way out of a triangle. There are two for each half-edge, so it is
 /// kept short: 12 bytes.
-#[derive(Clone, Copy, Debug)]
+#[derive(Clone, Copy)]
 pub struct Ahead {
     pub number: u32,
     /// The end at the apex of the triangle; the other one is the last end on that side.

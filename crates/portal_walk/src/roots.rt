@@ -39,9 +39,10 @@ fn put(of_sectors: &mut [Vec<Root>], sector: Option<u16>, root: Root) -> Result<
     let Some(sector) = sector else {
         return Ok(());
     };
-    if (sector as usize) < of_sectors.len() {
-        of_sectors[sector as usize].push(root)?;
+    if (sector as usize) >= of_sectors.len() {
+        return Ok(());
     }
+    of_sectors[sector as usize].push(root)?;
     Ok(())
 }
 

@@ -72,7 +72,7 @@ fn obey<R: Files + Threads + Sync + AllocGlobal, O: Sink, P: Print>(
     let mut shelf = DiskShelf::new(rt);
     let status = match run_words(rt, alloc, words, &mut shelf, out, progress) {
         Ok(status) => status,
-        Err(AllocError) => Status::Memory,
+        Err(memory) => Status::Memory(memory),
     };
     shelf.discard();
     if is_all && status == Status::Done {
@@ -110,7 +110,7 @@ pub fn run_program<R: Env + Files + Print + Threads + Sync + AllocGlobal, E: Pri
 ) -> ExitCode {
     match words_of(rt) {
         Ok(words) => run_order(rt, err, &words),
-        Err(NoWords::Memory) => exit_code(&Status::Memory),
+        Err(NoWords::Memory(ref memory)) => exit_code(&Status::Memory(*memory)),
         Err(NoWords::NotText) => {
             let status = put_refusal(rt.alloc(), &mut StdSink::new(rt), Status::Usage);
             let _ = err.println("a word isn't UTF-8");

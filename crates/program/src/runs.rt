@@ -14,20 +14,20 @@ use group_job::sight_workers::OpenGate;
 use listeners::{Lines, Listener, Totals};
 use order_words::{Order, read_words};
 use shelf_io::{Shelf, Sink};
-use sight_names::OrderFault;
+use sight_names::{Memory, OrderFault};
 use sight_run::{Notice, Status, run};
-use std::alloc::{AllocError, Global};
+use std::alloc::Global;
 use std::thread::Threads;
 
 /// Whether the words ask for a build of one map with a report.
-fn asks_for_report(alloc: Global, words: &[String]) -> Result<bool, AllocError>
+fn asks_for_report(alloc: Global, words: &[String]) -> Result<bool, Memory>
     ensures { IfOk result (λ asks. asks ≡ is_reported (order_of (map string_bytes words.now))) }
 {
     match read_words(alloc, words) {
         Ok(Order::Build { report, .. }) => Ok(report.is_some()),
         Ok(_) => Ok(false),
         Err(OrderFault::Usage) => Ok(false),
-        Err(OrderFault::Memory) => Err(AllocError),
+        Err(OrderFault::Memory(ref memory)) => Err(*memory),
     }
 }
 
@@ -41,7 +41,7 @@ fn run_told<R: Threads + Sync, S: Shelf, O: Sink, N: Notice>(
     notice: &N,
     lines: Box<dyn Listener>,
     totals: Box<dyn Listener>,
-) -> Result<Status, AllocError>
+) -> Result<Status, Memory>
     requires lines_new { listener_state lines ≡ lines_state [] }
     requires totals_new { listener_state totals ≡ totals_state [] }
     ensures ends { (files : Files) → (S.state shelf.old).files ≡ Some files →
@@ -81,7 +81,7 @@ pub fn run_words<R: Threads + Sync, S: Shelf, O: Sink, N: Notice>(
     shelf: &mut S,
     out: &mut O,
     notice: &N,
-) -> Result<Status, AllocError>
+) -> Result<Status, Memory>
     // What `run` promises, where the files are told, with the listeners that the order asks for.
     ensures ends { (files : Files) → (S.state shelf.old).files ≡ Some files →
         IfOk result (RunsWords (map string_bytes words.now) files (S.state shelf.old) (S.state shelf.new) (O.state out.old) (O.state out.new)) }

@@ -27,7 +27,7 @@ HasSameBits n s t = (k : ℕ) → k < n * n → table_bit t k ≡ table_bit s k
 abbrev pub Takes : ℕ → List ℕ → Result TableParts TableFault → Type 0
 Takes n bytes (Ok t) = (t.n ≡ n) × HasSameBits n bytes t.bytes × IsTable n bytes
 Takes n bytes (Err (WrongLength found expected)) = (found ≡ length bytes) × (expected ≡ div_ceil (n * n) 8) × (found ≢ expected)
-Takes n bytes (Err Memory) = ⊤
+Takes n bytes (Err (Memory _)) = ⊤
 
 -- the bit of the pair is set, and every other bit is as before
 pub record SetsPair (old new : TableParts) (a b : ℕ) : Type 0 where

@@ -46,7 +46,8 @@ impl Listener for Forgetful {
 
     fn hear(&mut self, finding: &Finding) -> Result<Keep, Memory> {
         if self.heard.len() == 2 {
-            return Err(Memory);
+            // so many are refused
+            self.heard.reserve(usize::MAX)?;
         }
         self.heard.push(*finding)?;
         Ok(Keep::Stay)
@@ -107,7 +108,7 @@ fn no_file_is_made_where_a_listener_finds_no_memory(rt: HostRuntime) -> Result<(
     push_two(alloc, &mut listeners)?;
     let line = "build a MAP01 b --cert c --report r";
     let status = run_heard(&rt, alloc, &mut stage, line, &mut listeners, &NoNotice)?;
-    assert!(rt; status == Status::Memory && listeners.len() == 2);
+    assert!(rt; matches!(status, Status::Memory(_)) && listeners.len() == 2);
     assert!(rt; stage.shelf.bytes("b").is_none() && stage.shelf.bytes("c").is_none());
     // the first one heard the third finding, which is that 0 and 2 don't see each other
     let mut text = [0; 16];

@@ -63,9 +63,10 @@ fn keep(made: &mut Made, node: Node) -> Result<(), Memory>
     ensures nodes { made.old.found.items ≡ [] → OnOk result (made.new.nodes ≡ made.old.nodes ++ node ∷ []) }
     ensures answered { All IsAnswered made.old.nodes → IfOk result (λ _. All IsAnswered made.new.nodes) }
 {
-    if made.found.is_empty() {
-        made.nodes.push(node)?;
+    if !made.found.is_empty() {
+        return Ok(());
     }
+    made.nodes.push(node)?;
     Ok(())
 }
 

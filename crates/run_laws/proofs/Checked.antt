@@ -296,7 +296,7 @@ ends_yes : (check : List (List ℕ)) (others : Files) (heard : Heard) (first las
     → RunEnds check others heard first last old new s → ChecksYes counts old new s
 ends_yes check others heard first last old new counts status.Done one h =
     h.said ∙ ap (λ (l : List ℕ). option_map (λ held. held ++ l) old.held) (h.ends.line_is ∙ ap (λ (a : Answer). a.line) (same_ok h.ends.answer (only_line (yes_line counts.sectors (totals_of counts))) (one (Ok h.ends.answer) h.ends.called.called)))
-ends_yes check others heard first last old new counts status.Memory one h = tt
+ends_yes check others heard first last old new counts (status.Memory _) one h = tt
 ends_yes check others heard first last old new counts (status.ReadFault k) one h = tt
 ends_yes check others heard first last old new counts (status.WriteFault role.Text) one h = tt
 ends_yes check others heard first last old new counts status.NotRight one h =

@@ -42,13 +42,13 @@ not_right b e f = cc
 
 -- each status but Done and Memory is then a refusal that is called for
 Refuses : (List (List ℕ)) → Files → Heard → Status → Type 0
-Refuses words files heard s = (s ≡ status.Done) ⊎ ((s ≡ status.Memory) ⊎ IsAnswer words files heard (Err s))
+Refuses words files heard s = (s ≡ status.Done) ⊎ ((s ≡ status.Memory tt) ⊎ IsAnswer words files heard (Err s))
 
 refuses : (words : List (List ℕ)) (files : Files) (heard : Heard) (before after : ShelfState) (o n : SinkState) (s : Status) → AreRight words files heard → NothingRose before after o n → RunEnds words files heard before after o n s → StatusCause before after o n s → Refuses words files heard s
 unfolding Refuses AreRight
 refuses words files heard before after o n status.Done are quiet ends cause = inl refl
 refuses words files heard before after o n status.NotRight are quiet ends cause = absurd (not_right ends.ends.answer.right (are ends.ends.answer ends.ends.called.called) ends.ends.right_is)
-refuses words files heard before after o n status.Memory are quiet ends cause = inr (inl refl)
+refuses words files heard before after o n (status.Memory _) are quiet ends cause = inr (inl refl)
 refuses words files heard before after o n (status.ReadFault k) are quiet ends cause = absurd (quiet.shelf.reads cause.0)
 refuses words files heard before after o n (status.WriteFault role.Text) are quiet ends cause = absurd (quiet.puts cause)
 refuses words files heard before after o n (status.WriteFault role.Wad) are quiet ends cause = absurd (quiet.shelf.writes cause.0)
@@ -90,7 +90,7 @@ build_is_done words wad name out asked report workers method went found is_asked
 
 of_wad : (out : List ℕ) (report : Option (List ℕ)) (large : Bool) (maps : List (List ℕ)) (method : Method) (choice : Refused) (w : WadFile) (s : Status) → MapsCall out report large maps method choice w (Err s) → EndsAll large maps method choice w s
 of_wad out report large maps method choice w status.Done q = tt
-of_wad out report large maps method choice w status.Memory q = tt
+of_wad out report large maps method choice w (status.Memory _) q = tt
 of_wad out report large maps method choice w s q = q
 
 all_right : (out : List ℕ) (report : Option (List ℕ)) (large : Bool) (maps : List (List ℕ)) (method : Method) (choice : Refused) (w : WadFile) (answer : Answer) → MapsCall out report large maps method choice w (Ok answer) → answer.right ≡ true

@@ -19,7 +19,7 @@ taken None given m e = (refl, same e)
 taken (Some (lump.TooManySectors n)) given m e = absurd cc
 taken (Some (lump.TooManyLines n)) given m e = absurd cc
 taken (Some (lump.TooManyPoints n)) given m e = absurd cc
-taken (Some lump.Memory) given m e = absurd cc
+taken (Some (lump.Memory _)) given m e = absurd cc
 taken (Some fault) given m e = absurd cc
 
 pub map_at_plan : (large : Bool) (w : WadFile) (spot : MapSpot) (m : Map) → map_at large w spot ≡ Ok m → HasPlan m

@@ -88,7 +88,7 @@ was_fetched (Some file) bytes h = by (nat_lt 9223372036854775807 (length file)) 
 
 was_read : (r : Result Certificate CertFault) (c : Certificate) → of_reading r ≡ Ok c → r ≡ Ok c
 was_read (Ok d) c h = ap (λ (x : Certificate). Ok x) (same_ok d c h)
-was_read (Err cert_fault.Memory) c h = absurd cc
+was_read (Err (cert_fault.Memory _)) c h = absurd cc
 was_read (Err fault) c h = absurd cc
 
 -- the table that was judged is the map's REJECT, and the certificate is the one that the file spells

@@ -95,9 +95,9 @@ no_limit method found bound room h =
     (many_same found.wad.lumps found.spot clear table) (body_same found.wad.lumps found.spot clear table len)
     (was_printed (printed (with_reject found.wad found.spot clear)) room.bytes room.clear) limited.is
 
-ends_well : (method : Method) (found : LocatedMap) (s : Status) → HasRoom found → EndsBuild method found s → (s ≡ status.Done) ⊎ (s ≡ status.Memory)
+ends_well : (method : Method) (found : LocatedMap) (s : Status) → HasRoom found → EndsBuild method found s → (s ≡ status.Done) ⊎ (s ≡ status.Memory tt)
 ends_well method found status.Done room h = inl refl
-ends_well method found status.Memory room h = inr refl
+ends_well method found (status.Memory _) room h = inr refl
 ends_well method found (status.Limit bound) room h = absurd (no_limit method found bound room h)
 ends_well method found s room h = absurd h
 

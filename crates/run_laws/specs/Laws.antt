@@ -100,7 +100,7 @@ BuiltIsChecked = (build check : List (List ℕ)) (name out cert : List ℕ) (fil
 -- The check ends with Done and the line of a yes with these counts. Want of memory and faults of reading or of the text can come too.
 abbrev pub ChecksYes : Counts → SinkState → SinkState → Status → Type 0
 ChecksYes counts old new status.Done = new.held ≡ option_map (λ held. held ++ yes_line counts.sectors (totals_of counts)) old.held
-ChecksYes counts old new status.Memory = ⊤
+ChecksYes counts old new (status.Memory _) = ⊤
 ChecksYes counts old new (status.ReadFault role) = ⊤
 ChecksYes counts old new (status.WriteFault role.Text) = ⊤
 ChecksYes counts old new other = ⊥
@@ -283,7 +283,7 @@ pub record WentWell (words : List (List ℕ)) (went : Went) : Type 0 where
 -- it is done, unless memory ran out, or the WAD with the table is above that limit
 abbrev pub EndsBuild : Method → LocatedMap → Status → Type 0
 EndsBuild method found status.Done = ⊤
-EndsBuild method found status.Memory = ⊤
+EndsBuild method found (status.Memory _) = ⊤
 EndsBuild method found (status.Limit bound) = ShowsLimit method found bound
 EndsBuild method found other = ⊥
 
@@ -302,12 +302,12 @@ pub record HasRoom (found : LocatedMap) : Type 0 where
 abbrev pub BuildWithRoomIsDone : Type 0
 BuildWithRoomIsDone = (words : List (List ℕ)) (wad : Source) (name out : List ℕ) (asked report : Option (List ℕ)) (workers : ℕ) (method : Method) (went : Went) (found : LocatedMap)
     → asked_of words ≡ Ok (order.Build wad name out asked report workers method) → found_of wad name went.files ≡ Ok found → HasClosedFaces found.map → HasRoom found
-    → WentWell words went → (went.status ≡ status.Done) ⊎ (went.status ≡ status.Memory)
+    → WentWell words went → (went.status ≡ status.Done) ⊎ (went.status ≡ status.Memory tt)
 
 -- it is done, unless memory ran out, or the first refusal stops all, or the WAD with all tables is above that limit
 abbrev pub EndsAll : Bool → List (List ℕ) → Method → Refused → WadFile → Status → Type 0
 EndsAll large maps method choice w status.Done = ⊤
-EndsAll large maps method choice w status.Memory = ⊤
+EndsAll large maps method choice w (status.Memory _) = ⊤
 EndsAll large maps method choice w refusal = IsUnmade w large maps method choice refusal
 
 -- `all` of a WAD that is read ends so, where each name that is given is that of a map. Without names there is nothing to be found.
@@ -319,7 +319,7 @@ AllIsDone = (words : List (List ℕ)) (wad : Source) (out : List ℕ) (only : Op
 -- it is done, unless memory ran out or one of the two is no sector of the map
 abbrev pub EndsPair : Map → Pair → Status → Type 0
 EndsPair m pair status.Done = ⊤
-EndsPair m pair status.Memory = ⊤
+EndsPair m pair (status.Memory _) = ⊤
 EndsPair m pair (status.No (why.NoSector k)) = IsMissing m pair k
 EndsPair m pair other = ⊥
 

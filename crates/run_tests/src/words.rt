@@ -332,7 +332,7 @@ fn said_of(alloc: Global, words: &[String]) -> Result<String, OrderFault> {
     let is_order = match read_words(alloc, words) {
         Ok(_) => true,
         Err(OrderFault::Usage) => false,
-        Err(OrderFault::Memory) => return Err(OrderFault::Memory),
+        Err(OrderFault::Memory(ref memory)) => return Err(OrderFault::Memory(*memory)),
     };
     let said = match fault {
         None if is_order => String::from_str(alloc, "-")?,

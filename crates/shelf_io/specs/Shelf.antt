@@ -103,7 +103,7 @@ ReadCause old new (Err shelf.Failed) = Rose old.read_faults new.read_faults
 abbrev pub SameCause : ShelfState → ShelfState → Result Bool SameFault → Type 0
 SameCause old new (Ok is_one) = SameCounts old new
 SameCause old new (Err same.Failed) = Rose old.read_faults new.read_faults
-SameCause old new (Err same.Memory) = SameCounts old new
+SameCause old new (Err (same.Memory _)) = SameCounts old new
 
 -- The file as it is fetched, or why not, by the files alone.
 abbrev pub content_of : Option (List ℕ) → ℕ → Result (List ℕ) FetchFault
@@ -116,7 +116,7 @@ Fetches view (Ok v) content = content ≡ Ok (view v)
 Fetches view (Err fetch.Absent) content = content ≡ Err fetch.Absent
 Fetches view (Err fetch.TooLong) content = content ≡ Err fetch.TooLong
 Fetches view (Err fetch.Failed) content = ⊤
-Fetches view (Err fetch.Memory) content = ⊤
+Fetches view (Err (fetch.Memory _)) content = ⊤
 
 -- each refusal of a fetch has its cause, and no read failed where memory ran out
 abbrev pub FetchCause : {V : Type 0} → ShelfState → ShelfState → Result V FetchFault → Type 0
@@ -124,7 +124,7 @@ FetchCause old new (Ok v) = SameCounts old new
 FetchCause old new (Err fetch.Absent) = NoFault old new × Rose old.absents new.absents
 FetchCause old new (Err fetch.Failed) = Rose old.read_faults new.read_faults
 FetchCause old new (Err fetch.TooLong) = SameCounts old new
-FetchCause old new (Err fetch.Memory) = SameCounts old new
+FetchCause old new (Err (fetch.Memory _)) = SameCounts old new
 
 -- after a create that failed: as before, or empty
 abbrev pub MayBeEmpty : Option Files → Option Files → List ℕ → Type 0

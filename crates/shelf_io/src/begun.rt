@@ -81,7 +81,7 @@ pub fn begin<R: Files + AllocGlobal>(
     let made = begin_at(rt, begun, name)?;
     if let Err(full) = begun.push(made) {
         remove(rt, &full.value);
-        return Err(io::Error::from(ErrorKind::OutOfMemory));
+        return Err(full.into());
     }
     Ok(())
 }

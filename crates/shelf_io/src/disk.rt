@@ -7,6 +7,7 @@ ghost use Rattle.shelf_io.specs.Sink.{SinkState};
 
 use crate::begun::{Begun, append, begin, discard, read_begun, settle};
 use crate::place::names_one_file;
+use crate::refused::memory_in;
 use crate::shelf::{SameFault, Shelf, Sink};
 use sight_names::{Failed, ShelfFault};
 use std::alloc::Global;
@@ -177,11 +178,13 @@ impl<R: Files + AllocGlobal> Shelf for DiskShelf<R> {
     fn is_one_file(&mut self, one: &str, other: &str) -> Result<bool, SameFault> {
         match names_one_file(&self.rt, one, other) {
             Ok(is_one) => Ok(is_one),
-            Err(e) if e.kind() == ErrorKind::OutOfMemory => Err(SameFault::Memory),
-            Err(_) => {
-                self.read_faults = self.read_faults.saturating_add(1);
-                Err(SameFault::Failed)
-            }
+            Err(error) => match memory_in(&error) {
+                Some(memory) => Err(SameFault::Memory(memory)),
+                None => {
+                    self.read_faults = self.read_faults.saturating_add(1);
+                    Err(SameFault::Failed)
+                }
+            },
         }
     }
 }

@@ -6,11 +6,13 @@ mod begun;
 mod disk;
 mod memory;
 mod place;
+mod refused;
 mod shelf;
 mod transfer;
 
 pub use disk::{DiskShelf, StdSink};
 pub use memory::{Fails, File, MemShelf, MemSink};
+pub use refused::memory_in;
 pub use shelf::{SameFault, Shelf, Sink};
 pub use transfer::{fetch, store};
 

@@ -6,14 +6,14 @@ ghost use Rattle.std.specs.Str.{bytes_eq};
 ghost use Rattle.shelf_io.specs.Shelf.{ShelfState, Files, Rose, NoneFell, SameCounts, ReadsFile, ReadCause, SameCause, MayBeEmpty, MayHaveFront, BeginsAmong, NoneBegun, put, append_to};
 ghost use Rattle.shelf_io.specs.Sink.{SinkState, HasFront};
 
-use sight_names::{Failed, ShelfFault};
+use sight_names::{Failed, Memory, ShelfFault};
 
 /// Why it isn't known whether two names mean one file.
 #[derive(Clone, Copy, Debug, PartialEq, Eq)]
 pub enum SameFault {
     /// It can't be found out.
     Failed,
-    Memory,
+    Memory(Memory),
 }
 
 /// A place for files, by name.

@@ -19,254 +19,242 @@ use crate::faults::{
 use crate::names::Memory;
 use std::alloc::{AllocError, AllocFailed};
 
-impl From<AllocError> for Memory {
-    fn from(_: AllocError) -> Self {
-        Memory
-    }
-}
-
-impl<T: Drop> From<AllocFailed<T>> for Memory {
-    fn from(_: AllocFailed<T>) -> Self {
-        Memory
-    }
-}
-
 impl From<AllocError> for BuildFault {
-    ghost from_gives = { λ _ e. e ≡ NoRoomToBuild };
+    ghost from_gives = { λ _ e. e ≡ NoRoomToBuild tt };
 
-    fn from(_: AllocError) -> Self {
-        BuildFault::Memory
+    fn from(refused: AllocError) -> Self {
+        BuildFault::Memory(refused.into())
     }
 }
 
 impl<T: Drop> From<AllocFailed<T>> for BuildFault {
-    ghost from_gives = { λ _ e. e ≡ NoRoomToBuild };
+    ghost from_gives = { λ _ e. e ≡ NoRoomToBuild tt };
 
-    fn from(_: AllocFailed<T>) -> Self {
-        BuildFault::Memory
+    fn from(refused: AllocFailed<T>) -> Self {
+        BuildFault::Memory(refused.into())
     }
 }
 
 impl From<Memory> for BuildFault {
-    ghost from_gives = { λ _ e. e ≡ NoRoomToBuild };
+    ghost from_gives = { λ _ e. e ≡ NoRoomToBuild tt };
 
-    fn from(_: Memory) -> Self {
-        BuildFault::Memory
+    fn from(memory: Memory) -> Self {
+        BuildFault::Memory(memory)
     }
 }
 
 impl From<AllocError> for CertFault {
-    ghost from_gives = { λ _ e. e ≡ NoRoomForCert };
+    ghost from_gives = { λ _ e. e ≡ NoRoomForCert tt };
 
-    fn from(_: AllocError) -> Self {
-        CertFault::Memory
+    fn from(refused: AllocError) -> Self {
+        CertFault::Memory(refused.into())
     }
 }
 
 impl<T: Drop> From<AllocFailed<T>> for CertFault {
-    ghost from_gives = { λ _ e. e ≡ NoRoomForCert };
+    ghost from_gives = { λ _ e. e ≡ NoRoomForCert tt };
 
-    fn from(_: AllocFailed<T>) -> Self {
-        CertFault::Memory
+    fn from(refused: AllocFailed<T>) -> Self {
+        CertFault::Memory(refused.into())
     }
 }
 
 impl From<Memory> for CertFault {
-    ghost from_gives = { λ _ e. e ≡ NoRoomForCert };
+    ghost from_gives = { λ _ e. e ≡ NoRoomForCert tt };
 
-    fn from(_: Memory) -> Self {
-        CertFault::Memory
+    fn from(memory: Memory) -> Self {
+        CertFault::Memory(memory)
     }
 }
 
 impl From<AllocError> for FetchFault {
-    ghost from_gives = { λ _ e. e ≡ NoRoomForFile };
+    ghost from_gives = { λ _ e. e ≡ NoRoomForFile tt };
 
-    fn from(_: AllocError) -> Self {
-        FetchFault::Memory
+    fn from(refused: AllocError) -> Self {
+        FetchFault::Memory(refused.into())
     }
 }
 
 impl<T: Drop> From<AllocFailed<T>> for FetchFault {
-    ghost from_gives = { λ _ e. e ≡ NoRoomForFile };
+    ghost from_gives = { λ _ e. e ≡ NoRoomForFile tt };
 
-    fn from(_: AllocFailed<T>) -> Self {
-        FetchFault::Memory
+    fn from(refused: AllocFailed<T>) -> Self {
+        FetchFault::Memory(refused.into())
     }
 }
 
 impl From<Memory> for FetchFault {
-    ghost from_gives = { λ _ e. e ≡ NoRoomForFile };
+    ghost from_gives = { λ _ e. e ≡ NoRoomForFile tt };
 
-    fn from(_: Memory) -> Self {
-        FetchFault::Memory
+    fn from(memory: Memory) -> Self {
+        FetchFault::Memory(memory)
     }
 }
 
 impl From<AllocError> for LabelFault {
-    ghost from_gives = { λ _ e. e ≡ NoRoomForLabels };
+    ghost from_gives = { λ _ e. e ≡ NoRoomForLabels tt };
 
-    fn from(_: AllocError) -> Self {
-        LabelFault::Memory
+    fn from(refused: AllocError) -> Self {
+        LabelFault::Memory(refused.into())
     }
 }
 
 impl<T: Drop> From<AllocFailed<T>> for LabelFault {
-    ghost from_gives = { λ _ e. e ≡ NoRoomForLabels };
+    ghost from_gives = { λ _ e. e ≡ NoRoomForLabels tt };
 
-    fn from(_: AllocFailed<T>) -> Self {
-        LabelFault::Memory
+    fn from(refused: AllocFailed<T>) -> Self {
+        LabelFault::Memory(refused.into())
     }
 }
 
 impl From<Memory> for LabelFault {
-    ghost from_gives = { λ _ e. e ≡ NoRoomForLabels };
+    ghost from_gives = { λ _ e. e ≡ NoRoomForLabels tt };
 
-    fn from(_: Memory) -> Self {
-        LabelFault::Memory
+    fn from(memory: Memory) -> Self {
+        LabelFault::Memory(memory)
     }
 }
 
 impl From<AllocError> for LumpFault {
-    ghost from_gives = { λ _ e. e ≡ NoRoomForPlan };
+    ghost from_gives = { λ _ e. e ≡ NoRoomForPlan tt };
 
-    fn from(_: AllocError) -> Self {
-        LumpFault::Memory
+    fn from(refused: AllocError) -> Self {
+        LumpFault::Memory(refused.into())
     }
 }
 
 impl<T: Drop> From<AllocFailed<T>> for LumpFault {
-    ghost from_gives = { λ _ e. e ≡ NoRoomForPlan };
+    ghost from_gives = { λ _ e. e ≡ NoRoomForPlan tt };
 
-    fn from(_: AllocFailed<T>) -> Self {
-        LumpFault::Memory
+    fn from(refused: AllocFailed<T>) -> Self {
+        LumpFault::Memory(refused.into())
     }
 }
 
 impl From<Memory> for LumpFault {
-    ghost from_gives = { λ _ e. e ≡ NoRoomForPlan };
+    ghost from_gives = { λ _ e. e ≡ NoRoomForPlan tt };
 
-    fn from(_: Memory) -> Self {
-        LumpFault::Memory
+    fn from(memory: Memory) -> Self {
+        LumpFault::Memory(memory)
     }
 }
 
 impl From<AllocError> for OrderFault {
-    ghost from_gives = { λ _ e. e ≡ NoRoomForOrder };
+    ghost from_gives = { λ _ e. e ≡ NoRoomForOrder tt };
 
-    fn from(_: AllocError) -> Self {
-        OrderFault::Memory
+    fn from(refused: AllocError) -> Self {
+        OrderFault::Memory(refused.into())
     }
 }
 
 impl<T: Drop> From<AllocFailed<T>> for OrderFault {
-    ghost from_gives = { λ _ e. e ≡ NoRoomForOrder };
+    ghost from_gives = { λ _ e. e ≡ NoRoomForOrder tt };
 
-    fn from(_: AllocFailed<T>) -> Self {
-        OrderFault::Memory
+    fn from(refused: AllocFailed<T>) -> Self {
+        OrderFault::Memory(refused.into())
     }
 }
 
 impl From<Memory> for OrderFault {
-    ghost from_gives = { λ _ e. e ≡ NoRoomForOrder };
+    ghost from_gives = { λ _ e. e ≡ NoRoomForOrder tt };
 
-    fn from(_: Memory) -> Self {
-        OrderFault::Memory
+    fn from(memory: Memory) -> Self {
+        OrderFault::Memory(memory)
     }
 }
 
 impl From<AllocError> for RewriteFault {
-    ghost from_gives = { λ _ e. e ≡ NoRoomToRewrite };
+    ghost from_gives = { λ _ e. e ≡ NoRoomToRewrite tt };
 
-    fn from(_: AllocError) -> Self {
-        RewriteFault::Memory
+    fn from(refused: AllocError) -> Self {
+        RewriteFault::Memory(refused.into())
     }
 }
 
 impl<T: Drop> From<AllocFailed<T>> for RewriteFault {
-    ghost from_gives = { λ _ e. e ≡ NoRoomToRewrite };
+    ghost from_gives = { λ _ e. e ≡ NoRoomToRewrite tt };
 
-    fn from(_: AllocFailed<T>) -> Self {
-        RewriteFault::Memory
+    fn from(refused: AllocFailed<T>) -> Self {
+        RewriteFault::Memory(refused.into())
     }
 }
 
 impl From<Memory> for RewriteFault {
-    ghost from_gives = { λ _ e. e ≡ NoRoomToRewrite };
+    ghost from_gives = { λ _ e. e ≡ NoRoomToRewrite tt };
 
-    fn from(_: Memory) -> Self {
-        RewriteFault::Memory
+    fn from(memory: Memory) -> Self {
+        RewriteFault::Memory(memory)
     }
 }
 
 impl From<AllocError> for TableFault {
-    ghost from_gives = { λ _ e. e ≡ NoRoomForTable };
+    ghost from_gives = { λ _ e. e ≡ NoRoomForTable tt };
 
-    fn from(_: AllocError) -> Self {
-        TableFault::Memory
+    fn from(refused: AllocError) -> Self {
+        TableFault::Memory(refused.into())
     }
 }
 
 impl<T: Drop> From<AllocFailed<T>> for TableFault {
-    ghost from_gives = { λ _ e. e ≡ NoRoomForTable };
+    ghost from_gives = { λ _ e. e ≡ NoRoomForTable tt };
 
-    fn from(_: AllocFailed<T>) -> Self {
-        TableFault::Memory
+    fn from(refused: AllocFailed<T>) -> Self {
+        TableFault::Memory(refused.into())
     }
 }
 
 impl From<Memory> for TableFault {
-    ghost from_gives = { λ _ e. e ≡ NoRoomForTable };
+    ghost from_gives = { λ _ e. e ≡ NoRoomForTable tt };
 
-    fn from(_: Memory) -> Self {
-        TableFault::Memory
+    fn from(memory: Memory) -> Self {
+        TableFault::Memory(memory)
     }
 }
 
 impl From<AllocError> for TraceFault {
-    ghost from_gives = { λ _ e. e ≡ NoRoomToTrace };
+    ghost from_gives = { λ _ e. e ≡ NoRoomToTrace tt };
 
-    fn from(_: AllocError) -> Self {
-        TraceFault::Memory
+    fn from(refused: AllocError) -> Self {
+        TraceFault::Memory(refused.into())
     }
 }
 
 impl<T: Drop> From<AllocFailed<T>> for TraceFault {
-    ghost from_gives = { λ _ e. e ≡ NoRoomToTrace };
+    ghost from_gives = { λ _ e. e ≡ NoRoomToTrace tt };
 
-    fn from(_: AllocFailed<T>) -> Self {
-        TraceFault::Memory
+    fn from(refused: AllocFailed<T>) -> Self {
+        TraceFault::Memory(refused.into())
     }
 }
 
 impl From<Memory> for TraceFault {
-    ghost from_gives = { λ _ e. e ≡ NoRoomToTrace };
+    ghost from_gives = { λ _ e. e ≡ NoRoomToTrace tt };
 
-    fn from(_: Memory) -> Self {
-        TraceFault::Memory
+    fn from(memory: Memory) -> Self {
+        TraceFault::Memory(memory)
     }
 }
 
 impl From<AllocError> for WadFault {
-    ghost from_gives = { λ _ e. e ≡ NoRoomForWad };
+    ghost from_gives = { λ _ e. e ≡ NoRoomForWad tt };
 
-    fn from(_: AllocError) -> Self {
-        WadFault::Memory
+    fn from(refused: AllocError) -> Self {
+        WadFault::Memory(refused.into())
     }
 }
 
 impl<T: Drop> From<AllocFailed<T>> for WadFault {
-    ghost from_gives = { λ _ e. e ≡ NoRoomForWad };
+    ghost from_gives = { λ _ e. e ≡ NoRoomForWad tt };
 
-    fn from(_: AllocFailed<T>) -> Self {
-        WadFault::Memory
+    fn from(refused: AllocFailed<T>) -> Self {
+        WadFault::Memory(refused.into())
     }
 }
 
 impl From<Memory> for WadFault {
-    ghost from_gives = { λ _ e. e ≡ NoRoomForWad };
+    ghost from_gives = { λ _ e. e ≡ NoRoomForWad tt };
 
-    fn from(_: Memory) -> Self {
-        WadFault::Memory
+    fn from(memory: Memory) -> Self {
+        WadFault::Memory(memory)
     }
 }

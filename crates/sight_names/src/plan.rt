@@ -9,7 +9,7 @@ use crate::names::{Pt, Side};
 use std::marker::Model;
 
 /// A line between two point numbers.
-#[derive(Clone, Copy, Debug, PartialEq, Eq)]
+#[derive(Clone, Copy, PartialEq, Eq)]
 pub struct Line {
     pub a: u16,
     pub b: u16,

@@ -59,8 +59,8 @@ module _ (name : List ℕ) (found : LocatedMap) (files : Files) (lines : HasSoun
 
   -- the bytes are no table
   pub table_refused : (V : Type 0) (s : Status) → IsOfTableTest s → TakesTable {V = V} n raw (Err s) → Gives ⊤ (CheckCalls name files found) (Err s)
-  table_refused V status.Memory of h = tt
-  table_refused V (status.No (why.Table table.Memory)) of h = absurd of
+  table_refused V (status.Memory _) of h = tt
+  table_refused V (status.No (why.Table (table.Memory _))) of h = absurd of
   table_refused V (status.No (why.Table (table.WrongLength a b))) of h =
       gives_unread found.map ⊤ (λ (x : CheckInput). x) (check_input name found files) (status.No (why.Table (table.WrongLength a b))) lines tt (input_from ∙ ap (with_bytes name found files) h)
   table_refused V s of h = absurd of
@@ -71,7 +71,7 @@ module _ (name : List ℕ) (found : LocatedMap) (files : Files) (lines : HasSoun
 
     -- the file isn't read to its end
     pub fetch_refused : (t : TableParts) (s : Status) → IsOfCertFetch s → JudgesFetched (IsJudgement found.map t) (Err s) (of_cert_fetch (content_of (files name) 9223372036854775807)) → Gives ⊤ (CheckCalls name files found) (Err s)
-    fetch_refused t status.Memory of h = tt
+    fetch_refused t (status.Memory _) of h = tt
     fetch_refused t (status.ReadFault k) of h = tt
     fetch_refused t (status.NoFile role.Cert) of h = gives_unread found.map ⊤ (λ (x : CheckInput). x) (check_input name found files) (status.NoFile role.Cert) lines tt (input_taken _ h)
     fetch_refused t (status.Limit bound.CertBytes) of h = gives_unread found.map ⊤ (λ (x : CheckInput). x) (check_input name found files) (status.Limit bound.CertBytes) lines tt (input_taken _ h)
@@ -79,7 +79,7 @@ module _ (name : List ℕ) (found : LocatedMap) (files : Files) (lines : HasSoun
 
     -- the bytes spell no certificate
     unread : (g : CertFault) → check_input name found files ≡ with_parts raw (of_reading (Err g)) → Gives ⊤ (CheckCalls name files found) (answer_of found.map.sectors (judged.Unread g))
-    unread cert.Memory e = tt
+    unread (cert.Memory _) e = tt
     unread g e = gives_unread found.map ⊤ (λ (x : CheckInput). x) (check_input name found files) (status.No (why.Cert g)) lines tt e
 
     by_reading : (t : TableParts) → IsTableOf found.map.sectors raw t → (r : Result Certificate CertFault) (given : Judged) → check_input name found files ≡ with_parts raw (of_reading r) → JudgedBy r (IsJudged found.map t) given → Gives ⊤ (CheckCalls name files found) (answer_of found.map.sectors given)
@@ -105,6 +105,6 @@ module _ (name : List ℕ) (found : LocatedMap) (files : Files) (lines : HasSoun
       where
         line_gives : (r : Result (String Global) Status) → Makes (λ line. only_line (string_bytes line)) r (answer_of n given) → Gives ⊤ (CheckCalls name files found) (answer_of n given) → Gives ⊤ (CheckCalls name files found) (line_answer r)
         line_gives (Ok line) e g = subst (λ (x : Result Answer Status). Gives ⊤ (CheckCalls name files found) x) e g
-        line_gives (Err status.Memory) e g = tt
+        line_gives (Err (status.Memory _)) e g = tt
         line_gives (Err (status.ReadFault k)) e g = tt
         line_gives (Err s) e g = subst (λ (x : Result Answer Status). Gives ⊤ (CheckCalls name files found) x) e g

@@ -16,7 +16,7 @@ use Rattle.sight_run.proofs.OneRow.{IsFixed}
 
 module _ (m : Map) (Called : TableParts → Result Answer Status → Type 0) (fixed : IsFixed m Called) where
   gives_called : (bytes : List ℕ) (t : TableParts) (r : Result Answer Status) → IsTableOf m.sectors bytes t → Gives ⊤ (Called t) r → Gives ⊤ (IsCallIn Called m bytes) r
-  gives_called bytes t (Err status.Memory) is h = tt
+  gives_called bytes t (Err (status.Memory _)) is h = tt
   gives_called bytes t (Err (status.ReadFault k)) is h = tt
   gives_called bytes t r is h = record {
     called = record { table = t; spelled = is; called = h.called };
@@ -37,7 +37,7 @@ module _ (found : LocatedMap) (Called : TableParts → Result Answer Status → 
 
   -- .. or they are none
   pub table_refused : (V : Type 0) (s : Status) → IsOfTableTest s → TakesTable {V = V} n raw (Err s) → Gives ⊤ (ByOwnTable Called found) (Err s)
-  table_refused V status.Memory of h = tt
-  table_refused V (status.No (why.Table table.Memory)) of h = absurd of
+  table_refused V (status.Memory _) of h = tt
+  table_refused V (status.No (why.Table (table.Memory _))) of h = absurd of
   table_refused V (status.No (why.Table (table.WrongLength x y))) of h = unspelled (status.No (why.Table (table.WrongLength x y))) h (record { called = refl; only = λ sole other q. q })
   table_refused V s of h = absurd of

@@ -21,7 +21,7 @@ use Rattle.sight_run.specs.Run.{HasLine, IsUnstored, RefusalCause}
 
 pub building_unstored : (s : Status) → IsOfBuilding s → IsUnstored s
 building_unstored (status.BadMap flaw) h = tt
-building_unstored status.Memory h = tt
+building_unstored (status.Memory _) h = tt
 building_unstored s h = absurd h
 
 pub making_unstored : (s : Status) → IsOfMaking s → IsUnstored s
@@ -34,7 +34,7 @@ pub build_unheard : (Are : List Finding → Type 0) (heard : Heard) (s : Status)
 build_unheard Are heard status.Done h early = absurd early
 build_unheard Are heard status.NotRight h early = absurd early
 build_unheard Are heard (status.WriteFault k) h early = absurd early
-build_unheard Are heard status.Memory h early = inl h
+build_unheard Are heard (status.Memory _) h early = inl h
 build_unheard Are heard s h early = h
 
 -- ---- an output couldn't be stored
@@ -59,7 +59,7 @@ build_cut Are heard status.Done has h = inr h
 build_cut Are heard status.NotRight has h = inr h
 build_cut Are heard (status.WriteFault role.Text) has h = h
 build_cut Are heard (status.WriteFault k) has h = inr h
-build_cut Are heard status.Memory has h = absurd has
+build_cut Are heard (status.Memory _) has h = absurd has
 build_cut Are heard s has h = inl h
 
 order_cut : (asked : Order) (files : Option Files) (heard : Heard) (s : Status) → HasLine s → OrderHears asked files heard s → OrderHears asked files heard (status.WriteFault role.Text)
@@ -72,18 +72,18 @@ line_cut (Err refusal) files heard s has h = h
 
 -- ---- there was no memory for the line
 
-build_starved : (Are : List Finding → Type 0) (heard : Heard) (s : Status) → IsUnstored s → BuildHears Are heard s → BuildHears Are heard status.Memory
+build_starved : (Are : List Finding → Type 0) (heard : Heard) (s : Status) → IsUnstored s → BuildHears Are heard s → BuildHears Are heard (status.Memory tt)
 build_starved Are heard status.Done early h = absurd early
 build_starved Are heard status.NotRight early h = absurd early
 build_starved Are heard (status.WriteFault k) early h = absurd early
-build_starved Are heard status.Memory early h = h
+build_starved Are heard (status.Memory _) early h = h
 build_starved Are heard s early h = inl h
 
-order_starved : (asked : Order) (files : Option Files) (heard : Heard) (s : Status) → IsUnstored s → OrderHears asked files heard s → OrderHears asked files heard status.Memory
+order_starved : (asked : Order) (files : Option Files) (heard : Heard) (s : Status) → IsUnstored s → OrderHears asked files heard s → OrderHears asked files heard (status.Memory tt)
 order_starved (order.Build wad name out cert report workers method) files heard s early h = build_starved (AreFindingsIn files wad name method) heard s early h
 order_starved asked files heard s early h = h
 
-line_starved : (asked : Result Order Status) (files : Option Files) (heard : Heard) (s : Status) → IsUnstored s → Hears asked files heard s → Hears asked files heard status.Memory
+line_starved : (asked : Result Order Status) (files : Option Files) (heard : Heard) (s : Status) → IsUnstored s → Hears asked files heard s → Hears asked files heard (status.Memory tt)
 line_starved (Ok asked) files heard s early h = order_starved asked files heard s early h
 line_starved (Err refusal) files heard s early h = h
 
@@ -105,7 +105,7 @@ module _ (asked : Result Order Status) (files : Option Files) (heard : Heard) (o
   pub hears_refused : (before after : ShelfState) (s r : Status) → RefusalCause before after s → Hears asked files heard s → Refused s r o n → Hears asked files heard r
   hears_refused before after status.Done r cause h said = absurd cause
   hears_refused before after status.NotRight r cause h said = absurd cause
-  hears_refused before after status.Memory r cause h said = subst (λ (t : Status). Hears asked files heard t) (sym said.status) h
+  hears_refused before after (status.Memory _) r cause h said = subst (λ (t : Status). Hears asked files heard t) (sym said.status) h
   hears_refused before after (status.WriteFault role.Text) r cause h said = absurd cause
   hears_refused before after (status.WriteFault role.Wad) r cause h said = hears_said (status.WriteFault role.Wad) r _ tt h said
   hears_refused before after (status.WriteFault role.Cert) r cause h said = hears_said (status.WriteFault role.Cert) r _ tt h said

@@ -30,7 +30,7 @@ grid_says n hexen method (Ok reply) h none of right =
     let called : GridCalls n hexen method (Ok (only_line line)) = subst (λ (a : Answer). GridCalls n hexen method (Ok a)) (λ i. record { writes = none i; line = line; right = right i }) h.called in
     subst (λ (b : Bool). GridSays n hexen method (done_as b) line) (sym right) called
 grid_says n hexen method (Err status.Done) h none of right = absurd of
-grid_says n hexen method (Err status.Memory) h none of right = tt
+grid_says n hexen method (Err (status.Memory _)) h none of right = tt
 grid_says n hexen method (Err (status.WriteFault k)) h none of right = tt
 grid_says n hexen method (Err (status.ReadFault k)) h none of right = absurd of
 grid_says n hexen method (Err s) h none of right = h.called
@@ -41,7 +41,7 @@ broken_made (order.Grid n workers method hexen) roles (status.WriteFault k) line
 broken_made (order.Grid n workers method hexen) roles s line h = absurd h
 broken_made asked roles s line h = tt
 
-starved_by : (asked : Order) (line : List ℕ) → IsMadeBy asked status.Memory line
+starved_by : (asked : Order) (line : List ℕ) → IsMadeBy asked (status.Memory tt) line
 starved_by (order.Grid n workers method hexen) line = tt
 starved_by asked line = tt
 
@@ -56,12 +56,12 @@ asked_made said asked s line e h = subst (λ (r : Result Order Status). IsMade r
 
 pub unasked_made : (said : Result Order Status) (s : Status) (line : List ℕ) → IsOfWords s → Makes {V = Order} (λ o. o) (Err s) said → IsMade said s line
 unasked_made (Err refusal) s line of made = tt
-unasked_made (Ok asked) status.Memory line of made = starved_by asked line
+unasked_made (Ok asked) (status.Memory _) line of made = starved_by asked line
 unasked_made (Ok asked) status.Usage line of made = absurd cc
 unasked_made (Ok asked) status.SameName line of made = absurd cc
 unasked_made (Ok asked) s line of made = absurd of
 
-starved : (said : Result Order Status) (line : List ℕ) → IsMade said status.Memory line
+starved : (said : Result Order Status) (line : List ℕ) → IsMade said (status.Memory tt) line
 starved (Ok asked) line = starved_by asked line
 starved (Err refusal) line = tt
 
@@ -88,7 +88,7 @@ made_done said o n right r line h (inr w) = subst (λ (t : Status). PutsMade sai
 
 -- .. or there was no memory for the line
 abbrev EndsAs : Status → Status → Type 0
-EndsAs s r = (r ≡ s) ⊎ ((r ≡ status.Memory) ⊎ (r ≡ status.WriteFault role.Text))
+EndsAs s r = (r ≡ s) ⊎ ((r ≡ status.Memory tt) ⊎ (r ≡ status.WriteFault role.Text))
 
 of_said : (s r : Status) (o n : SinkState) (line : List ℕ) → Said s r o n line → EndsAs s r
 of_said s r o n line (inl w) = inl w.status
@@ -99,7 +99,7 @@ of_made s r o n (inl h) = of_said s r o n (text_of s) h
 of_made s r o n (inr w) = inr (inl w.status)
 
 of_refused : (s r : Status) (o n : SinkState) → Refused s r o n → EndsAs s r
-of_refused status.Memory r o n h = inl h.status
+of_refused (status.Memory _) r o n h = inl h.status
 of_refused (status.WriteFault k) r o n h = of_said (status.WriteFault k) r o n (text_of (status.WriteFault k)) h
 of_refused s r o n h = of_made s r o n h
 
@@ -110,6 +110,6 @@ puts_refusal said before after o n s cause h = h
 pub made_refused : (said : Result Order Status) (before after : ShelfState) (o n : SinkState) (s r : Status) → RefusalCause before after s → IsMade said s (text_of s) → Refused s r o n → PutsMade said o n r
 made_refused said before after o n s r cause h put = elim (of_refused s r o n put) as (λ _. PutsMade said o n r) [
   | inl e ↦ subst (λ (t : Status). PutsMade said o n t) (sym e) (puts_refusal said before after o n s cause h)
-  | inr (inl e) ↦ subst (λ (t : Status). PutsMade said o n t) (sym e) (starved said (text_of status.Memory))
+  | inr (inl e) ↦ subst (λ (t : Status). PutsMade said o n t) (sym e) (starved said (text_of (status.Memory tt)))
   | inr (inr e) ↦ subst (λ (t : Status). PutsMade said o n t) (sym e) (unput said (text_of (status.WriteFault role.Text)))
 ]

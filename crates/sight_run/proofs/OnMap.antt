@@ -62,7 +62,7 @@ past_cause s (Err status.NotRight) h = absurd h
 past_cause s (Err (status.NoFile k)) h = absurd h
 past_cause s (Err (status.ReadFault k)) h = absurd h
 past_cause s (Err (status.WriteFault k)) h = absurd h
-past_cause s (Err status.Memory) h = tt
+past_cause s (Err (status.Memory _)) h = tt
 past_cause s (Err other) h = same_counts s
 
 pub past_unstored : {V : Type 0} (r : Result V Status) → IfErr r IsPastReading → IfErr r IsUnstored

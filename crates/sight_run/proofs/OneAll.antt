@@ -105,13 +105,13 @@ module _ (out : List ℕ) (reported : Option (List ℕ)) (large : Bool) (maps : 
   -- ---- the status where nothing is made
 
   of_call : (s : Status) → IsUnmade w large maps method choice s → Gives ⊤ (MapsCall out reported large maps method choice w) (Err s)
-  of_call status.Memory h = tt
+  of_call (status.Memory _) h = tt
   of_call (status.ReadFault k) h = tt
   of_call s h = the_answer (Err s) h
 
   pub the_unmade : (u : Unmade) → MakesWhole w large maps method choice (Err u) → Gives ⊤ (MapsCall out reported large maps method choice w) (Err (of_unmade u))
   the_unmade (unmade.Stopped refusal) h = of_call refusal (inl h)
-  the_unmade (unmade.Unwritten rewrite.Memory) h = tt
+  the_unmade (unmade.Unwritten (rewrite.Memory _)) h = tt
   the_unmade (unmade.Unwritten rewrite.TooManyLumps) h = of_call (status.Limit bound.Lumps) (inr h)
   the_unmade (unmade.Unwritten rewrite.TooLong) h = of_call (status.Limit bound.OutputBytes) (inr h)
 
@@ -121,11 +121,11 @@ module _ (out : List ℕ) (reported : Option (List ℕ)) (large : Bool) (maps : 
   stopped_so (status.Limit bound.Sectors) h stops = stops
   stopped_so (status.Limit bound.Lines) h stops = stops
   stopped_so (status.Limit bound.Points) h stops = stops
-  stopped_so status.Memory h stops = tt
+  stopped_so (status.Memory _) h stops = tt
   stopped_so s h stops = absurd h
 
   pub unmade_so : (u : Unmade) → HasInOrder (maps_of (names_of w)) maps → MakesWhole w large maps method choice (Err u) → IsOfStop choice (of_unmade u)
   unmade_so (unmade.Stopped refusal) among h = let k = stop_of_map w large method choice refusal maps among h in stopped_so refusal k.1 k.0
-  unmade_so (unmade.Unwritten rewrite.Memory) among h = tt
+  unmade_so (unmade.Unwritten (rewrite.Memory _)) among h = tt
   unmade_so (unmade.Unwritten rewrite.TooManyLumps) among h = tt
   unmade_so (unmade.Unwritten rewrite.TooLong) among h = tt

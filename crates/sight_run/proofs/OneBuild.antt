@@ -65,7 +65,7 @@ module _ (name out : List ℕ) (method : Method) (heard : Heard) (found : Locate
 
 module _ (name out : List ℕ) (method : Method) (heard : Heard) (found : LocatedMap) where
   plain_gives : (r : Result Answer Status) → Gives (IsUnbuildable (Ok found)) (BuildCalls name out None None method heard found) r → Gives ⊤ (BuildCalls name out None None method heard found) r
-  plain_gives (Err status.Memory) h = tt
+  plain_gives (Err (status.Memory _)) h = tt
   plain_gives (Err (status.ReadFault k)) h = tt
   plain_gives r h = record { called = h.called; only = λ sole other q. one_answer name out method heard found r other h.called q }
 

@@ -39,7 +39,7 @@ passes (Err s) f y h = absurd cc
 pub was_wad : (r : Result WadFile WadFault) (w : WadFile) → of_wad r ≡ Ok w → r ≡ Ok w
 was_wad (Ok v) w h = ap (λ (x : WadFile). Ok x) (same_ok v w h)
 was_wad (Err wad.TooManyLumps) w h = absurd cc
-was_wad (Err wad.Memory) w h = absurd cc
+was_wad (Err (wad.Memory _)) w h = absurd cc
 was_wad (Err fault) w h = absurd cc
 
 pub was_spot : (r : Result MapSpot MapFault) (s : MapSpot) → of_spot r ≡ Ok s → r ≡ Ok s
@@ -50,7 +50,7 @@ pub was_printed : (r : Result (List ℕ) RewriteFault) (bytes : List ℕ) → of
 was_printed (Ok b) bytes h = ap (λ (x : List ℕ). Ok x) (same_ok b bytes h)
 was_printed (Err rewrite.TooManyLumps) bytes h = absurd cc
 was_printed (Err rewrite.TooLong) bytes h = absurd cc
-was_printed (Err rewrite.Memory) bytes h = absurd cc
+was_printed (Err (rewrite.Memory _)) bytes h = absurd cc
 
 -- ---- a map that was found
 

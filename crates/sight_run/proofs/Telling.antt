@@ -162,5 +162,5 @@ module _ (name out : List ℕ) (asked reported : Option (List ℕ)) (method : Me
   -- .. and one whose WAD is above a limit too
   pub gives_unmade : (s : Status) → BuildMakes name out asked found built.table (length built.listed) built.cert (Err s) → Gives (¬ HasClosedFaces found.map) (BuildCalls name out asked reported method heard found) (Err s)
   gives_unmade (status.Limit k) h = record { called = record { built = built; is_built = is; limit = h }; only = λ flawed other q. absurd (flawed is.fit) }
-  gives_unmade status.Memory h = tt
+  gives_unmade (status.Memory _) h = tt
   gives_unmade s h = absurd h

@@ -31,7 +31,7 @@ use Rattle.sight_run.proofs.Whole.{gives_unread}
 
 -- a step is refused
 refused_on : {V W D E : Type 0} (view : V → D) (other : W → E) (said : Result D Status) (f : D → Result E Status) (s : Status) → Makes view (Err s) said → Makes other (Err s) (said >>= f)
-refused_on view other said f status.Memory made = tt
+refused_on view other said f (status.Memory _) made = tt
 refused_on view other said f (status.ReadFault k) made = tt
 refused_on {V} {W} {D} {E} view other said f s made = ap (λ (r : Result D Status). r >>= f) made
 
@@ -69,13 +69,13 @@ unread_asked only s of h = h
 
 pub names_asked : (only : Option (List (List ℕ))) (s : Status) → IsOfNames only s → IsOfAsked only s
 names_asked only (status.NoMap fault) h = h
-names_asked only status.Memory h = tt
+names_asked only (status.Memory _) h = tt
 names_asked only s h = absurd h
 
 -- ---- the answer
 
 one_alone : (Sole : Type 0) (Called : Result Answer Status → Type 0) (r : Result Answer Status) → Gives ⊤ Called r → Gives Sole Called r
-one_alone Sole Called (Err status.Memory) h = tt
+one_alone Sole Called (Err (status.Memory _)) h = tt
 one_alone Sole Called (Err (status.ReadFault k)) h = tt
 one_alone Sole Called r h = record { called = h.called; only = λ sole. h.only tt }
 
@@ -108,7 +108,7 @@ of_order wad only report workers (status.NotWad fault) h = tt
 of_order wad only report workers (status.NoMap fault) h = h
 of_order wad only report workers (status.Limit bound.WadBytes) h = tt
 of_order wad only report workers (status.Limit bound.Lumps) h = tt
-of_order wad only report workers status.Memory h = tt
+of_order wad only report workers (status.Memory _) h = tt
 of_order wad only report workers s h = absurd h
 
 pub verify_refusals : {V : Type 0} (wad : Source) (only : Option (List (List ℕ))) (report : Option (List ℕ)) (workers : ℕ) (r : Result V Status) → IfErr r (IsOfAsked only) → IfErr r (IsOfOrder (order.Verify wad only report workers))

@@ -40,7 +40,7 @@ wad_read wad files bytes w e f = ap (λ (r : Result (List ℕ) Status). r >>= (�
 -- the file can't be read
 pub wad_unfetched : {V : Type 0} (view : V → List ℕ) (wad : List ℕ) (files : Files) (s : Status) → Makes view (Err s) (of_fetch (content_of (files wad) MOST_BYTES)) → Makes {V = WadFile} (λ w. w) (Err s) (wad_in wad files)
 unfolding wad_in
-wad_unfetched view wad files status.Memory made = tt
+wad_unfetched view wad files (status.Memory _) made = tt
 wad_unfetched view wad files (status.ReadFault k) made = tt
 wad_unfetched view wad files s made = ap (λ (r : Result (List ℕ) Status). r >>= (λ (b : List ℕ). of_wad (wad_of b))) made
 
@@ -52,7 +52,7 @@ wad_refused view wad files bytes s e made = subst (λ (r : Result (List ℕ) Sta
 -- ---- an answer by what was read
 
 pub gives_unread : {V D : Type 0} (view : V → D) (said : Result D Status) (Called : D → Result Answer Status → Type 0) (s : Status) → Makes view (Err s) said → Gives ⊤ (OnRead said Called) (Err s)
-gives_unread view said Called status.Memory made = tt
+gives_unread view said Called (status.Memory _) made = tt
 gives_unread view said Called (status.ReadFault k) made = tt
 gives_unread {V} {D} view said Called s made = subst (λ (r : Result D Status). IsTheAnswer ⊤ (OnRead r Called) (Err s)) (sym made) (record { called = refl; only = λ sole other q. q })
 
@@ -75,23 +75,23 @@ asked_are_maps names only maps h = asked_in_order names only maps (was_asked (as
 abbrev IsOfDirectory : Status → Type 0
 IsOfDirectory (status.NotWad fault) = Unit {0}
 IsOfDirectory (status.Limit bound.Lumps) = Unit {0}
-IsOfDirectory status.Memory = Unit {0}
+IsOfDirectory (status.Memory _) = Unit {0}
 IsOfDirectory other = ⊥
 
 of_directory : (said : Result WadFile WadFault) (s : Status) → of_wad said ≡ Err s → IsOfDirectory s
 of_directory (Ok w) s e = absurd cc
 of_directory (Err wad.TooManyLumps) s e = let q : status.Limit bound.Lumps ≡ s = cc in subst IsOfDirectory q tt
-of_directory (Err wad.Memory) s e = let q : status.Memory ≡ s = cc in subst IsOfDirectory q tt
+of_directory (Err (wad.Memory _)) s e = let q : status.Memory tt ≡ s = cc in subst IsOfDirectory q tt
 of_directory (Err fault) s e = let q : status.NotWad fault ≡ s = cc in subst IsOfDirectory q tt
 
 by_directory : (s : Status) → IsOfBytes s → IsOfDirectory s → IsOfWhole s
 by_directory (status.NotWad fault) of h = of
 by_directory (status.Limit bound.Lumps) of h = tt
-by_directory status.Memory of h = tt
+by_directory (status.Memory _) of h = tt
 by_directory s of h = absurd h
 
 pub directory_refused : {V : Type 0} (view : V → WadFile) (said : Result WadFile WadFault) (s : Status) → IsOfBytes s → Makes view (Err s) (of_wad said) → IsOfWhole s
-directory_refused view said status.Memory of made = tt
+directory_refused view said (status.Memory _) of made = tt
 directory_refused view said (status.ReadFault k) of made = absurd of
 directory_refused view said s of made = by_directory s of (of_directory said s made)
 
@@ -103,19 +103,19 @@ of_whole only choice (status.NotWad fault) h = h
 of_whole only choice (status.Limit bound.WadBytes) h = tt
 of_whole only choice (status.Limit bound.Lumps) h = tt
 of_whole only choice (status.Limit bound.OutputBytes) h = tt
-of_whole only choice status.Memory h = tt
+of_whole only choice (status.Memory _) h = tt
 of_whole only choice s h = absurd h
 
 -- one of a name
 pub of_names : (only : Option (List (List ℕ))) (choice : Refused) (s : Status) → IsOfNames only s → IsOfAll only choice s
 of_names only choice (status.NoMap fault) h = h
-of_names only choice status.Memory h = tt
+of_names only choice (status.Memory _) h = tt
 of_names only choice s h = absurd h
 
 -- .. which the shelf doesn't explain
 pub names_cause : (only : Option (List (List ℕ))) (old new : ShelfState) (s : Status) → IsOfNames only s → SameCounts old new → RefusalCause old new s
 names_cause only old new (status.NoMap fault) h same = same
-names_cause only old new status.Memory h same = tt
+names_cause only old new (status.Memory _) h same = tt
 names_cause only old new s h same = absurd h
 
 -- one that comes once the maps are known
@@ -127,7 +127,7 @@ stop_of_all only choice (status.Limit bound.Lines) h = h
 stop_of_all only choice (status.Limit bound.Points) h = h
 stop_of_all only choice (status.Limit bound.Lumps) h = tt
 stop_of_all only choice (status.Limit bound.OutputBytes) h = tt
-stop_of_all only choice status.Memory h = tt
+stop_of_all only choice (status.Memory _) h = tt
 stop_of_all only choice s h = absurd h
 
 pub of_stop : {V : Type 0} (only : Option (List (List ℕ))) (choice : Refused) (r : Result V Status) → IfErr r (IsOfStop choice) → IfErr r (IsOfAll only choice)
@@ -139,7 +139,7 @@ unexplained : (choice : Refused) (old new : ShelfState) (s : Status) → IsOfSto
 unexplained choice old new (status.BadLump fault) h same = same
 unexplained choice old new (status.BadMap flaw) h same = same
 unexplained choice old new (status.Limit bound) h same = same
-unexplained choice old new status.Memory h same = tt
+unexplained choice old new (status.Memory _) h same = tt
 unexplained choice old new s h same = absurd h
 
 pub stop_cause : {V : Type 0} (choice : Refused) (old new : ShelfState) (r : Result V Status) → IfErr r (IsOfStop choice) → SameCounts old new → Cause old new r
@@ -159,7 +159,7 @@ of_order wad out only report workers method choice (status.Limit bound.OutputByt
 of_order wad out only report workers method choice (status.Limit bound.Sectors) h = h
 of_order wad out only report workers method choice (status.Limit bound.Lines) h = h
 of_order wad out only report workers method choice (status.Limit bound.Points) h = h
-of_order wad out only report workers method choice status.Memory h = tt
+of_order wad out only report workers method choice (status.Memory _) h = tt
 of_order wad out only report workers method choice s h = absurd h
 
 pub all_refusals : {V : Type 0} (wad : Source) (out : List ℕ) (only : Option (List (List ℕ))) (report : Option (List ℕ)) (workers : ℕ) (method : Method) (choice : Refused) (r : Result V Status) → IfErr r (IsOfAll only choice) → IfErr r (IsOfOrder (order.All wad out only report workers method choice))

@@ -89,7 +89,7 @@ abbrev pub of_unmade : Unmade → Status
 of_unmade (unmade.Stopped refusal) = refusal
 of_unmade (unmade.Unwritten rewrite.TooManyLumps) = status.Limit bound.Lumps
 of_unmade (unmade.Unwritten rewrite.TooLong) = status.Limit bound.OutputBytes
-of_unmade (unmade.Unwritten rewrite.Memory) = status.Memory
+of_unmade (unmade.Unwritten (rewrite.Memory _)) = status.Memory tt
 
 -- the first refusal, where that stops all, or such a limit
 abbrev pub IsUnmade : WadFile → Bool → List (List ℕ) → Method → Refused → Status → Type 0

@@ -22,5 +22,5 @@ asked_in wad only files = do
 -- the first name that is none of a map's, or want of memory
 abbrev pub IsOfNames : Option (List (List ℕ)) → Status → Type 0
 IsOfNames only (status.NoMap fault) = IsSome only
-IsOfNames only status.Memory = ⊤
+IsOfNames only (status.Memory _) = ⊤
 IsOfNames only other = ⊥

@@ -112,7 +112,7 @@ abbrev pub IsOfBuildReply : Status → Type 0
 IsOfBuildReply (status.BadMap flaw) = ⊤
 IsOfBuildReply (status.Limit bound.Lumps) = ⊤
 IsOfBuildReply (status.Limit bound.OutputBytes) = ⊤
-IsOfBuildReply status.Memory = ⊤
+IsOfBuildReply (status.Memory _) = ⊤
 IsOfBuildReply other = ⊥
 
 -- no map is found, or it isn't sound: a build ends before anything is built
@@ -140,7 +140,7 @@ pub record ShowsMade (name out : List ℕ) (asked : Option (List ℕ)) (found : 
 abbrev pub BuildMakes : List ℕ → List ℕ → Option (List ℕ) → LocatedMap → TableParts → ℕ → Certificate → Result Answer Status → Type 0
 BuildMakes name out asked found table listed cert (Ok answer) = ShowsMade name out asked found table listed cert answer
 BuildMakes name out asked found table listed cert (Err (status.Limit bound)) = with_table found table.bytes ≡ Err (status.Limit bound)
-BuildMakes name out asked found table listed cert (Err status.Memory) = ⊤
+BuildMakes name out asked found table listed cert (Err (status.Memory _)) = ⊤
 BuildMakes name out asked found table listed cert (Err other) = ⊥
 
 -- ---- what all builds of a map have in common

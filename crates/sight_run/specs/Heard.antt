@@ -46,7 +46,7 @@ BuildHears Are heard status.NotRight = AllHeard Are heard
 -- the line of a refusal, or of what was done, couldn't be put
 BuildHears Are heard (status.WriteFault role.Text) = IsUnheard heard ⊎ AllHeard Are heard
 BuildHears Are heard (status.WriteFault role) = AllHeard Are heard
-BuildHears Are heard status.Memory = IsUnheard heard ⊎ FrontsHeard Are heard
+BuildHears Are heard (status.Memory _) = IsUnheard heard ⊎ FrontsHeard Are heard
 BuildHears Are heard other = IsUnheard heard
 
 -- ---- which findings

@@ -14,7 +14,7 @@ use Rattle.sight_run.specs.Grid.{GridCalls}
 -- the line, or the refusal, is what the order calls for; memory may run out, and the line may not be put
 abbrev pub GridSays : ℕ → Bool → Method → Status → List ℕ → Type 0
 GridSays n hexen method status.Done line = GridCalls n hexen method (Ok (only_line line))
-GridSays n hexen method status.Memory line = ⊤
+GridSays n hexen method (status.Memory _) line = ⊤
 GridSays n hexen method (status.WriteFault role) line = ⊤
 GridSays n hexen method refusal line = GridCalls n hexen method (Err refusal)
 

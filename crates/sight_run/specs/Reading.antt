@@ -18,7 +18,7 @@ of_fetch (Ok bytes) = Ok bytes
 of_fetch (Err fetch.Absent) = Err (status.NoFile role.Wad)
 of_fetch (Err fetch.Failed) = Err (status.ReadFault role.Wad)
 of_fetch (Err fetch.TooLong) = Err (status.Limit bound.WadBytes)
-of_fetch (Err fetch.Memory) = Err status.Memory
+of_fetch (Err (fetch.Memory _)) = Err (status.Memory tt)
 
 -- the map of this name in the file that an order reads
 unfoldable pub found_of : Source → List ℕ → Files → Result LocatedMap Status

@@ -99,7 +99,7 @@ fn status_of(unmade: Unmade) -> Status
         Unmade::Stopped(refusal) => refusal,
         Unmade::Unwritten(RewriteFault::TooManyLumps) => Status::Limit(Bound::Lumps),
         Unmade::Unwritten(RewriteFault::TooLong) => Status::Limit(Bound::OutputBytes),
-        Unmade::Unwritten(RewriteFault::Memory) => Status::Memory,
+        Unmade::Unwritten(RewriteFault::Memory(ref memory)) => Status::Memory(*memory),
     }
 }
 
@@ -136,7 +136,7 @@ fn make_reply<R: Threads + Sync, G: Gate + Sync, N: Notice>(
     };
     match reply_of(alloc, out, report, refused, whole) {
         Ok(reply) => Ok(reply),
-        Err(_) => Err(Status::Memory),
+        Err(refused) => Err(Status::Memory(refused.into())),
     }
 }
 

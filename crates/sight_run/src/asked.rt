@@ -73,7 +73,7 @@ pub fn asked_maps<N: Notice>(
 {
     let all = match maps(alloc, wad) {
         Ok(all) => all,
-        Err(_) => return Err(Status::Memory),
+        Err(memory) => return Err(Status::Memory(memory)),
     };
     let Some(only) = only else {
         return Ok(all);
@@ -84,7 +84,7 @@ pub fn asked_maps<N: Notice>(
     }
     match asked_among(alloc, &all, only) {
         Ok(asked) => Ok(asked),
-        Err(_) => Err(Status::Memory),
+        Err(refused) => Err(Status::Memory(refused.into())),
     }
 }
 

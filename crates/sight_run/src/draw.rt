@@ -58,6 +58,6 @@ pub fn make_drawing(
     let drawn = draw_view(alloc, input, name, view)?;
     match one_output(alloc, Role::Picture, out, drawn.picture, drawn.line) {
         Ok(reply) => Ok(reply),
-        Err(_) => Err(Status::Memory),
+        Err(refused) => Err(Status::Memory(refused.into())),
     }
 }

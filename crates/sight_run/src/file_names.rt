@@ -24,7 +24,7 @@ fn refuse_same<S: Shelf>(shelf: &mut S, one: &str, other: &str) -> Result<(), St
         Ok(false) => Ok(()),
         Ok(true) => Err(Status::SameName),
         Err(SameFault::Failed) => Err(Status::ReadFault(Role::Wad)),
-        Err(SameFault::Memory) => Err(Status::Memory),
+        Err(SameFault::Memory(ref memory)) => Err(Status::Memory(*memory)),
     }
 }
 

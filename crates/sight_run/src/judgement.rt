@@ -39,7 +39,7 @@ pub fn verdict_of(
     let _points = plan.points();
     match check(alloc, plan, table, cert) {
         Ok(verdict) => Ok(verdict),
-        Err(_) => Err(Memory),
+        Err(memory) => Err(memory),
     }
 }
 
@@ -67,6 +67,6 @@ pub fn judged_in<S: Shelf>(
         Err(FetchFault::Absent) => Err(Status::NoFile(Role::Cert)),
         Err(FetchFault::Failed) => Err(Status::ReadFault(Role::Cert)),
         Err(FetchFault::TooLong) => Err(Status::Limit(Bound::CertBytes)),
-        Err(FetchFault::Memory) => Err(Status::Memory),
+        Err(FetchFault::Memory(ref memory)) => Err(Status::Memory(*memory)),
     }
 }

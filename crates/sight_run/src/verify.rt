@@ -117,6 +117,6 @@ pub fn do_verify<R: Threads + Sync, S: Shelf, G: Gate + Sync, N: Notice>(
         notice,
     ) {
         Ok(reply) => Ok(reply),
-        Err(_) => Err(Status::Memory),
+        Err(refused) => Err(Status::Memory(refused.into())),
     }
 }

@@ -15,7 +15,7 @@ const FEW: usize = 32;
 const LONGEST: u16 = 65_535;
 
 /// An end, and how many places a look goes back from it to the next one. All between lie between these two.
-#[derive(Clone, Copy, Debug)]
+#[derive(Clone, Copy)]
 pub struct Kept {
     pub end: EndAt,
     pub step: u16,

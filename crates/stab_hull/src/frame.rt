@@ -3,7 +3,7 @@
 use sight_names::Pt;
 
 /// The ends of a portal, and how many left ends, right ends and cones are stacked of the portals up to this one.
-#[derive(Clone, Copy, Debug)]
+#[derive(Clone, Copy)]
 pub struct Frame {
     pub left: Pt,
     pub right: Pt,

@@ -13,7 +13,7 @@ use geom_exact::extreme_lines::{Cone, Wedge, widen_first, widen_second};
 use sight_names::{EndAt, EndPair};
 
 /// What one more end does to the cone of other ends.
-#[derive(Clone, Copy, Debug)]
+#[derive(Clone, Copy)]
 pub enum Step {
     /// Nothing: the cone has its lines.
     Same,

@@ -96,10 +96,11 @@ pub fn stack_right(
     ensures top { IfOk result (λ _. (rights : List End) → IsTopCone (kept_ends lefts.now) rights cones.old.items → IsTopCone (kept_ends lefts.now) (rights ++ right ∷ []) cones.new.items) }
 {
     cones.reserve(1)?;
-    if let Cone::Open(wedge) = &cones[cones.len() - 1] {
-        let wider = second_to_right(wedge, lefts, again, right);
-        cones.push_reserved(Cone::Open(wider));
-    }
+    let Cone::Open(wedge) = &cones[cones.len() - 1] else {
+        return Ok(());
+    };
+    let wider = second_to_right(wedge, lefts, again, right);
+    cones.push_reserved(Cone::Open(wider));
     Ok(())
 }
 
@@ -120,9 +121,10 @@ pub fn stack_left(
     ensures top { IfOk result (λ _. (lefts : List End) → IsTopCone lefts (kept_ends rights.now) cones.old.items → IsTopCone (lefts ++ left ∷ []) (kept_ends rights.now) cones.new.items) }
 {
     cones.reserve(1)?;
-    if let Cone::Open(wedge) = &cones[cones.len() - 1] {
-        let wider = first_to_left(wedge, rights, again, left);
-        cones.push_reserved(Cone::Open(wider));
-    }
+    let Cone::Open(wedge) = &cones[cones.len() - 1] else {
+        return Ok(());
+    };
+    let wider = first_to_left(wedge, rights, again, left);
+    cones.push_reserved(Cone::Open(wider));
     Ok(())
 }

@@ -73,9 +73,9 @@ module _ (m : Map) (reject : List ℕ) (own : TableParts) (built : Built) (front
 pub audit_refuses : (m : Map) (reject : List ℕ) (s : Status) → IsAuditRefusal m s → Judges m reject (Err s)
 audit_refuses m reject (status.BadMap (flaw.Line fault)) h = h.is
 audit_refuses m reject (status.BadMap (flaw.Open side)) h = (h.0.meet, h.1)
-audit_refuses m reject status.Memory h = tt
+audit_refuses m reject (status.Memory _) h = tt
 audit_refuses m reject s h = absurd h
 
 pub refused_says : (m : Map) (reject : List ℕ) (s : Status) → table_len m.sectors ≤ length reject → Judges m reject (Err s) → IsVerdictOrMemory (Ok m) reject (Err s)
-refused_says m reject status.Memory enough h = tt
+refused_says m reject (status.Memory _) enough h = tt
 refused_says m reject s enough h = record { enough = enough; flaw = h }

@@ -70,7 +70,7 @@ IsVerdictOn (Err refusal) reject said = said ≡ Err refusal
 
 -- .. unless memory ran out
 abbrev pub IsVerdictOrMemory : Result Map Status → List ℕ → Result Verdict Status → Type 0
-IsVerdictOrMemory read reject (Err status.Memory) = ⊤
+IsVerdictOrMemory read reject (Err (status.Memory _)) = ⊤
 IsVerdictOrMemory read reject said = IsVerdictOn read reject said
 
 -- ---- parts of it
@@ -84,5 +84,5 @@ ShowsSight other = ⊥
 -- how a table at the front of the bytes differs, the first flaw of the map, or want of memory
 abbrev pub Judges : Map → List ℕ → Result Findings Status → Type 0
 Judges m reject (Ok findings) = AreFindings m reject findings
-Judges m reject (Err status.Memory) = ⊤
+Judges m reject (Err (status.Memory _)) = ⊤
 Judges m reject (Err refusal) = IsFlawOf m refusal

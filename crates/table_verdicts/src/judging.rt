@@ -81,6 +81,6 @@ pub fn verdict_of<R: Threads + Sync, G: Gate + Sync>(
             let findings = judge_table(rt, alloc, plan, reject, &own, workers, gate)?;
             Ok(Verdict::Judged(findings))
         }
-        Err(_) => Err(Status::Memory),
+        Err(refused) => Err(Status::Memory(refused.into())),
     }
 }

@@ -73,7 +73,7 @@ pub fn verdict_on<R: Threads + Sync, G: Gate + Sync>(
             name,
             said: Ok(verdict),
         }),
-        Err(Status::Memory) => Err(Memory),
+        Err(Status::Memory(ref memory)) => Err(*memory),
         Err(refusal) => Ok(MapVerdict {
             name,
             said: Err(refusal),

@@ -54,7 +54,7 @@ fn front(alloc: Global, n: u16, reject: &[u8], len: usize) -> Result<Table, Memo
     match Table::of_bytes(alloc, n, &reject[..len]) {
         Ok(table) => Ok(table),
         Err(TableFault::WrongLength { .. }) => unreachable!(),
-        Err(TableFault::Memory) => Err(Memory),
+        Err(TableFault::Memory(ref memory)) => Err(*memory),
     }
 }
 
@@ -71,6 +71,6 @@ pub fn own_table(alloc: Global, n: u16, reject: &[u8]) -> Result<OwnTable, Memor
             let table = front(alloc, n, reject, expected as usize)?;
             Ok(OwnTable::Whole(table))
         }
-        Err(TableFault::Memory) => Err(Memory),
+        Err(TableFault::Memory(ref memory)) => Err(*memory),
     }
 }

@@ -59,6 +59,6 @@ pub fn sight_of_pair(alloc: Global, plan: &Plan, pair: Pair) -> Result<Shown, St
     let groups = audit_map(alloc, plan)?;
     match answer_over(alloc, plan, &groups, pair) {
         Ok(answer) => Ok(shown_by(answer)),
-        Err(_) => Err(Status::Memory),
+        Err(refused) => Err(Status::Memory(refused.into())),
     }
 }

@@ -112,7 +112,7 @@ text_read text = parts_read (length text) nothing_read (told_of text).parts (tol
 
 -- the answer of a call is this one, unless memory ran out
 abbrev pub Fails : {Y : Type 0} → TextFault → Result Y TextFault → Type 0
-Fails faults.Memory told = ⊤
+Fails (faults.Memory _) told = ⊤
 Fails e told = told ≡ Err e
 
 abbrev pub Answers : {X Y : Type 0} → (X → Y) → Result X TextFault → Result Y TextFault → Type 0

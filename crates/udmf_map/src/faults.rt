@@ -3,6 +3,7 @@
 ghost use Rattle.std.specs.Prelude.{◌≡◌};
 ghost use Rattle.udmf_map.specs.declared.faults.TextFault.TheVariants.{Memory as NoRoom};
 
+use sight_names::Memory;
 use std::alloc::{AllocError, AllocFailed};
 
 /// Why a text is no map. The words are those that a refusal's line ends with; want of memory has none. A byte is counted
@@ -29,21 +30,21 @@ pub enum TextFault {
     #[error("coordinate of vertex {vertex}")]
     OffGrid { vertex: usize },
     #[error("memory")]
-    Memory,
+    Memory(Memory),
 }
 
 impl From<AllocError> for TextFault {
-    ghost from_gives = { λ _ e. e ≡ NoRoom };
+    ghost from_gives = { λ _ e. e ≡ NoRoom tt };
 
-    fn from(_: AllocError) -> Self {
-        TextFault::Memory
+    fn from(refused: AllocError) -> Self {
+        TextFault::Memory(refused.into())
     }
 }
 
 impl<T: Drop> From<AllocFailed<T>> for TextFault {
-    ghost from_gives = { λ _ e. e ≡ NoRoom };
+    ghost from_gives = { λ _ e. e ≡ NoRoom tt };
 
-    fn from(_: AllocFailed<T>) -> Self {
-        TextFault::Memory
+    fn from(refused: AllocFailed<T>) -> Self {
+        TextFault::Memory(refused.into())
     }
 }

@@ -48,7 +48,7 @@ both bytes o kind slots (Err fault.BadCount) h = same_fault o _ _ fault.BadCount
 both bytes o kind slots (Err fault.TooManyLumps) h = same_fault o _ _ fault.TooManyLumps h
 both bytes o kind slots (Err fault.DirectoryOutside) h = same_fault o _ _ fault.DirectoryOutside h
 both bytes o kind slots (Err (fault.LumpOutside k)) h = same_fault o _ _ (fault.LumpOutside k) h
-both bytes o kind slots (Err fault.Memory) h = tt
+both bytes o kind slots (Err (fault.Memory _)) h = tt
 
 pub reads_wad : (bytes : List ℕ) (r : Result Wad WadFault) → Reads parts_of r (directory_of bytes) → Reads (file_of bytes) r (wad_of bytes)
 unfolding directory_of wad_of

@@ -136,7 +136,7 @@ lies_within len e = nat_lt e.size (2 ^ 31) && nat_lt e.at (2 ^ 31) && nat_le (e.
 -- What was read is what the bytes say, unless memory ran out.
 abbrev pub Reads : {V D : Type 0} → (V → D) → Result V WadFault → Result D WadFault → Type 0
 Reads view (Ok v) said = said ≡ Ok (view v)
-Reads view (Err fault.Memory) said = ⊤
+Reads view (Err (fault.Memory _)) said = ⊤
 Reads view (Err f) said = said ≡ Err f
 
 -- the entries, or the first that lies outside

@@ -30,7 +30,7 @@ pub struct Wad {
 
 /// Where the lumps of a map stand in the directory, and the format of the map: Hexen's where the entry right behind its
 /// lumps is BEHAVIOR, else Doom's.
-#[derive(Clone, Copy, Debug, PartialEq, Eq)]
+#[derive(Clone, Copy, PartialEq, Eq)]
 pub struct MapSpot {
     pub marker: u32,
     pub linedefs: u32,

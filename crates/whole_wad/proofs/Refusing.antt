@@ -16,7 +16,7 @@ use Rattle.whole_wad.specs.Tables.{GetsOrMemory, IsTableOf, built_with}
 pub refused_build : (m : Map) (by : Method) (s : Status) → IsAuditRefusal m s → GetsOrMemory (Ok m) by (Err s)
 refused_build m by (status.BadMap (flaw.Line fault)) h = h.is
 refused_build m by (status.BadMap (flaw.Open side)) h = (h.0.meet, h.1)
-refused_build m by status.Memory h = tt
+refused_build m by (status.Memory _) h = tt
 refused_build m by s h = absurd h
 
 -- it is built, and its table is judged
@@ -24,6 +24,6 @@ table_kept : (m : Map) (by : Method) (built : Built) (made : MapTable) → IsBui
 table_kept m by built made h p q = let e : built ≡ built_with made built.cert = λ i. record { table = sym p i; listed = sym q i; cert = built.cert } in record { cert = built.cert; is_built = subst (IsBuiltOf m by) e h }
 
 pub judged_gets : (m : Map) (by : Method) (built : Built) (r : Result MapTable Status) → IsBuiltOf m by built → IfOk r (λ made. made.table ≡ built.table) → IfOk r (λ made. made.listed ≡ built.listed)
-    → IfErr r (λ s. s ≡ status.Memory) → GetsOrMemory (Ok m) by r
+    → IfErr r (λ s. s ≡ status.Memory tt) → GetsOrMemory (Ok m) by r
 judged_gets m by built (Ok made) h p q e = table_kept m by built made h p q
 judged_gets m by built (Err s) h p q e = subst (λ (t : Status). GetsOrMemory (Ok m) by (Err t)) (sym e) tt

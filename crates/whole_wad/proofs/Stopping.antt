@@ -39,7 +39,7 @@ IsOfMap (status.Limit bound.Sectors) = Unit {0}
 IsOfMap (status.Limit bound.Lines) = Unit {0}
 IsOfMap (status.Limit bound.Points) = Unit {0}
 IsOfMap (status.BadMap flaw) = Unit {0}
-IsOfMap status.Memory = Unit {0}
+IsOfMap (status.Memory _) = Unit {0}
 IsOfMap other = ⊥
 
 lumps_refused : (o : Option LumpFault) (m : Map) (s : Status) → of_lumps o m ≡ Err s → IsOfMap s
@@ -47,7 +47,7 @@ lumps_refused None m s e = absurd cc
 lumps_refused (Some (lump.TooManySectors count)) m s e = let q : status.Limit bound.Sectors ≡ s = cc in subst IsOfMap q tt
 lumps_refused (Some (lump.TooManyLines count)) m s e = let q : status.Limit bound.Lines ≡ s = cc in subst IsOfMap q tt
 lumps_refused (Some (lump.TooManyPoints count)) m s e = let q : status.Limit bound.Points ≡ s = cc in subst IsOfMap q tt
-lumps_refused (Some lump.Memory) m s e = let q : status.Memory ≡ s = cc in subst IsOfMap q tt
+lumps_refused (Some (lump.Memory _)) m s e = let q : status.Memory tt ≡ s = cc in subst IsOfMap q tt
 lumps_refused (Some fault) m s e = let q : status.BadLump fault ≡ s = cc in subst IsOfMap q tt
 
 -- ---- by its name

@@ -124,7 +124,7 @@ Builds m by (Err refusal) = IsAuditRefusal m refusal
 -- a refusal that building a table can end with
 abbrev pub IsOfBuilding : Status → Type 0
 IsOfBuilding (status.BadMap flaw) = ⊤
-IsOfBuilding status.Memory = ⊤
+IsOfBuilding (status.Memory _) = ⊤
 IsOfBuilding other = ⊥
 
 -- What is built of a map by one method has one table and one list, by how many workers ever; so two builds can differ in the rays

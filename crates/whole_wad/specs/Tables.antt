@@ -36,5 +36,5 @@ Gets (Err refusal) by made = made ≡ Err refusal
 
 -- .. unless memory ran out
 abbrev pub GetsOrMemory : Result Map Status → Method → Result MapTable Status → Type 0
-GetsOrMemory said by (Err status.Memory) = ⊤
+GetsOrMemory said by (Err (status.Memory _)) = ⊤
 GetsOrMemory said by made = Gets said by made

@@ -34,7 +34,7 @@ pub record ShowsOutcomes (w : WadFile) (outcomes : List MapOutcome) (report : Li
 -- .. and such a WAD is written, or why it isn't, unless memory ran out
 abbrev pub WritesOutcomes : WadFile → List MapOutcome → List ℕ → Result WholeWad RewriteFault → Type 0
 WritesOutcomes w outcomes report (Ok whole) = ShowsOutcomes w outcomes report whole
-WritesOutcomes w outcomes report (Err rewrite.Memory) = ⊤
+WritesOutcomes w outcomes report (Err (rewrite.Memory _)) = ⊤
 WritesOutcomes w outcomes report (Err fault) = written_of w outcomes ≡ Err fault
 
 -- the report on what comes of the maps
@@ -63,5 +63,5 @@ pub record IsAboveLimit (w : WadFile) (large : Bool) (names : List (List ℕ)) (
 abbrev pub MakesWhole : WadFile → Bool → List (List ℕ) → Method → Refused → Result WholeWad Unmade → Type 0
 MakesWhole w large names by choice (Ok whole) = ShowsWhole w large names by choice whole
 MakesWhole w large names by choice (Err (unmade.Stopped refusal)) = StopsAt w large by choice refusal names
-MakesWhole w large names by choice (Err (unmade.Unwritten rewrite.Memory)) = ⊤
+MakesWhole w large names by choice (Err (unmade.Unwritten (rewrite.Memory _))) = ⊤
 MakesWhole w large names by choice (Err (unmade.Unwritten fault)) = IsAboveLimit w large names by choice fault

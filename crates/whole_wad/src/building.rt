@@ -75,7 +75,7 @@ fn build_within<R: Threads + Sync, G: Gate + Sync>(
             })
         }
         Err(GroupFault::Open { side }) => Err(Status::BadMap(Flaw::Open(side))),
-        Err(GroupFault::Memory) => Err(Status::Memory),
+        Err(GroupFault::Memory(ref memory)) => Err(Status::Memory(*memory)),
     }
 }
 
@@ -102,7 +102,7 @@ fn build_deciding<R: Threads + Sync>(
             })
         }
         Err(GroupFault::Open { side }) => Err(Status::BadMap(Flaw::Open(side))),
-        Err(GroupFault::Memory) => Err(Status::Memory),
+        Err(GroupFault::Memory(ref memory)) => Err(Status::Memory(*memory)),
     }
 }
 

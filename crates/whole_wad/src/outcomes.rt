@@ -56,7 +56,7 @@ fn planned_outcome<R: Threads + Sync, G: Gate + Sync>(
                 fate,
             })
         }
-        Err(Status::Memory) => Err(Memory),
+        Err(Status::Memory(ref memory)) => Err(*memory),
         Err(refusal) => Ok(MapOutcome {
             name,
             made: Err(refusal),
@@ -91,7 +91,7 @@ pub fn outcome_of<R: Threads + Sync, G: Gate + Sync>(
     let old = reject_named(bytes, wad, text);
     match plan_named(alloc, bytes, wad, large, text) {
         Ok(plan) => planned_outcome(rt, alloc, &plan, old, name, workers, method, refused, gate),
-        Err(Status::Memory) => Err(Memory),
+        Err(Status::Memory(ref memory)) => Err(*memory),
         Err(refusal) => Ok(MapOutcome {
             name,
             made: Err(refusal),

@@ -40,7 +40,7 @@ fn judged<R: Threads + Sync>(
     requires accepted { IsAccepted (map_of plan.now) built.table.bytes built.cert }
     ensures table { IfOk result (λ made. made.table ≡ built.table) }
     ensures listed { IfOk result (λ made. made.listed ≡ built.listed) }
-    ensures refusals { IfErr result (λ s. s ≡ status.Memory) }
+    ensures refusals { IfErr result (λ s. s ≡ status.Memory tt) }
 {
     has_sizes_of_map(plan);
     match check_par(rt, alloc, plan, &built.table, &built.cert) {
@@ -50,7 +50,7 @@ fn judged<R: Threads + Sync>(
         }),
         // what is built is accepted
         Ok(AnyVerdict::No(_)) => unreachable!(),
-        Err(_) => Err(Status::Memory),
+        Err(memory) => Err(Status::Memory(memory)),
     }
 }
 

@@ -222,8 +222,8 @@ pub fn build_wad<R: Threads + Sync, G: Gate + Sync, N: Notice>(
     requires workers { (1 ≤ workers) × (workers ≤ 64) }
     ensures { MakesWhole (file_of bytes.now wad.now) large names.now method refused result }
 {
-    if tell_unread(alloc, wad, notice).is_err() {
-        return Err(Unmade::Unwritten(RewriteFault::Memory));
+    if let Err(memory) = tell_unread(alloc, wad, notice) {
+        return Err(Unmade::Unwritten(RewriteFault::Memory(memory)));
     }
     match tell_maps(
         rt, alloc, bytes, wad, large, names, workers, method, refused, gate, notice,
@@ -233,6 +233,6 @@ pub fn build_wad<R: Threads + Sync, G: Gate + Sync, N: Notice>(
             Ok(whole) => Ok(whole),
             Err(fault) => Err(Unmade::Unwritten(fault)),
         },
-        Err(_) => Err(Unmade::Unwritten(RewriteFault::Memory)),
+        Err(memory) => Err(Unmade::Unwritten(RewriteFault::Memory(memory))),
     }
 }

@@ -154,7 +154,8 @@ pub fn plan_named(alloc: Global, name: &str) -> Result<Plan, LumpFault> {
             &vertexes.bytes,
             &sectors.bytes,
         ),
-        _ => Err(LumpFault::Memory),
+        // no map has this name
+        _ => Err(LumpFault::TooManySectors { count: 0 }),
     }
 }
 

@@ -23,4 +23,4 @@ module _ (p : PlanParts) (t : TableParts) where
   none_judged fetch.Absent content h = h
   none_judged fetch.TooLong content h = h
   none_judged fetch.Failed content h = tt
-  none_judged fetch.Memory content h = tt
+  none_judged (fetch.Memory _) content h = tt

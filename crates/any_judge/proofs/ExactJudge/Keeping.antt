@@ -1,10 +1,16 @@
 -- From what a judging keeps to what its verdict goes by.
-use Rattle.std.proofs.Common.{◌≡◌, ◌≤◌, List, [], ◌∷◌, ◌++◌, Bool, true, false, if◌then◌else◌, length, refl, sym, ◌∙◌, ap, subst}
+use Rattle.std.proofs.Common.{◌≡◌, ℕ, ◌≤◌, List, [], ◌∷◌, ◌++◌, Bool, true, false, if◌then◌else◌, length, get_or, refl, sym, ◌∙◌, ap, subst}
+use Rattle.std.proofs.lemmas.List.Elements.{All-from_recursion}
+use Rattle.sight_names.specs.Limits.{most_triangles}
 use Rattle.sight_names.specs.declared.limits.TheConstants.{MOST_TRIANGLES}
 use Rattle.sight_names.specs.declared.names.PairRay.{PairRay}
 use Rattle.sight_names.specs.Plan.{PlanParts}
 use Rattle.reject_bits.specs.Parts.{TableParts}
 use Rattle.cert_format.specs.declared.cert.Labelled.{Labelled}
+use Rattle.cert_format.specs.Grammar.{IsRayInRange}
+use Rattle.cert_format.specs.declared.cert.Sizes.{Sizes}
+use Rattle.cert_checker.specs.Pairs.{IsWithin}
+use Rattle.cert_judge.proofs.Keeping.{in_order_at, labelled_at}
 use Rattle.cert_checker.specs.declared.verdict.Verdict.{Verdict}
 use Rattle.certificates.specs.declared.cert_exact.cert.ExactParts.{ExactParts}
 use Rattle.certificates.specs.CertExact.Grammar.{as_two}
@@ -13,14 +19,14 @@ use Rattle.group_checker.specs.declared.verdict.AnyFault.{AnyFault}
 use Rattle.group_checker.specs.declared.verdict.AnyVerdict.TheVariants.{No}
 use Rattle.group_checker.specs.Judged.{any_of}
 use Rattle.group_checker.proofs.OneMap.{few_groups}
-use Rattle.exact_checker.specs.Judged.{JudgesThree}
+use Rattle.exact_checker.specs.Judged.{IsThreeFor, JudgesThree}
 use Rattle.any_judge.specs.declared.exact_judge.judging.Judging.{Judging}
 use Rattle.any_judge.specs.declared.exact_judge.stage.Stage.{Stage}
 use Rattle.any_judge.specs.declared.exact_judge.stage.Stage.TheVariants.{Gathering, Lost, Broken, Walking}
 use Rattle.any_judge.specs.declared.exact_judge.trees.RowTrees.{RowTrees}
 use Rattle.any_judge.specs.ExactJudge.Heard.{Groups, Heard, nothing, closed_at, heard_from, with_ray, with_triangle}
 use Rattle.any_judge.specs.ExactJudge.Judging.{HasHeardAll, IsCertOf, IsKept}
-use Rattle.any_judge.specs.ExactJudge.Stage.{IsRightOver, IsStage, IsWalking}
+use Rattle.any_judge.specs.ExactJudge.Stage.{AreFit, IsRightOver, IsStage, IsWalking}
 use Rattle.any_judge.specs.ExactJudge.Trees.{Begun, HasHeardTrees, all_begun, begun_all}
 use Rattle.any_judge.proofs.ExactJudge.AllHeard.{IsAllOf, all_heard}
 
@@ -56,6 +62,19 @@ module _ (p : PlanParts) (t : TableParts) (groups : Groups) (h : Heard) (j : Jud
 
 -- ---- at the end
 
+-- a certificate of a plan may have its groups, triangles and rays
+fits : (p : PlanParts) (c : ExactParts) → IsThreeFor p c → AreFit (length p.points) c.groups c.triangles c.rays
+fits p c w =
+    let two = w.two.in_order in
+    let core = (as_two c).cert in
+    let sectors : core.sizes.sectors ≡ length c.groups = ap (λ (s : Sizes). s.sectors) two.grouped in
+    record {
+      order = in_order_at (length p.points) core two.in_order (ap (λ (s : Sizes). s.points) two.grouped ∙ w.two.points);
+      few = subst (λ (n : ℕ). length c.groups ≤ most_triangles n) w.two.points two.few;
+      labels = labelled_at (length c.groups) core two.in_order sectors;
+      rays_within = λ k d lt. subst (λ (n : ℕ). IsWithin n (get_or c.rays k d).pair) sectors (All-from_recursion (IsRayInRange core.sizes) c.rays two.in_order.rays k d lt).0;
+    }
+
 -- once all parts of a certificate were heard, and triangles and rays are judged
 module _ (p : PlanParts) (t : TableParts) (c : ExactParts) (j closed : Judging) (w : HasHeardAll p t c j) (closes : (q : PlanParts) (u : TableParts) (groups : Groups) (h : Heard) → IsKept q u groups h j → IsKept q u groups (closed_at h) closed) where
   abbrev heard : Heard
@@ -86,3 +105,12 @@ module _ (p : PlanParts) (t : TableParts) (c : ExactParts) (j closed : Judging) 
   -- where they break a rule
   pub broken_rule : (f : AnyFault) → closed.stage ≡ Broken f → JudgesThree p t c (No f)
   broken_rule f is = (subst (IsStage p c.groups (closed_at heard)) is kept.stage).1 t c (record { cert = w.cert.cert; table = w.cert.table; groups_are = refl; triangles = sym all.triangles; rays_are = sym all.rays })
+
+  -- and no certificate is lost
+  pub not_gathering : closed.stage ≡ Gathering → ⊥
+  not_gathering is = let fresh = subst (IsStage p c.groups (closed_at heard)) is kept.stage in absurd (cc fresh.closed)
+
+  pub not_lost : closed.stage ≡ Lost → ⊥
+  not_lost is = (subst (IsStage p c.groups (closed_at heard)) is kept.stage).1
+      (subst (λ (ls : List Labelled). AreFit (length p.points) c.groups ls heard.rays) (sym all.triangles)
+      (subst (AreFit (length p.points) c.groups c.triangles) (sym all.rays) (fits p c w.cert.cert)))

@@ -25,4 +25,4 @@ abbrev pub RefusesAs : FetchFault → Result (List ℕ) FetchFault → Type 0
 RefusesAs fetch.Absent content = content ≡ Err fetch.Absent
 RefusesAs fetch.TooLong content = content ≡ Err fetch.TooLong
 RefusesAs fetch.Failed content = ⊤
-RefusesAs fetch.Memory content = ⊤
+RefusesAs (fetch.Memory _) content = ⊤

@@ -38,4 +38,4 @@ JudgesFile p table (Ok given) content = JudgesContent p table given content
 JudgesFile p table (Err fetch.Absent) content = content ≡ Err fetch.Absent
 JudgesFile p table (Err fetch.TooLong) content = content ≡ Err fetch.TooLong
 JudgesFile p table (Err fetch.Failed) content = ⊤
-JudgesFile p table (Err fetch.Memory) content = ⊤
+JudgesFile p table (Err (fetch.Memory _)) content = ⊤

@@ -36,7 +36,7 @@ fn unless_memory(fault: CertFault) -> Result<CertFault, Memory>
     ensures { (read : Result (List PartOf) FaultOf) → Fails fault read → IfOk result (λ f. read ≡ Err f) }
 {
     match fault {
-        CertFault::Memory => Err(Memory),
+        CertFault::Memory(memory) => Err(memory),
         other => Ok(other),
     }
 }

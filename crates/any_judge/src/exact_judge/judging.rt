@@ -80,9 +80,10 @@ impl<'a> Judging<'a> {
     fn hear_triangle(&mut self, one: Labelled) -> Result<(), Memory>
         ensures { (p : PlanParts) (t : TableParts) (groups : GroupsOf) (h : Heard) → IsKept p t groups h self.old → IfOk result (λ _. IsKept p t groups (with_triangle one h) self.new) }
     {
-        if let Stage::Gathering = self.stage {
-            self.triangles.push(one)?;
-        }
+        let Stage::Gathering = self.stage else {
+            return Ok(());
+        };
+        self.triangles.push(one)?;
         Ok(())
     }
 
@@ -90,9 +91,10 @@ impl<'a> Judging<'a> {
     fn hear_ray(&mut self, one: PairRay) -> Result<(), Memory>
         ensures { (p : PlanParts) (t : TableParts) (groups : GroupsOf) (h : Heard) → IsKept p t groups h self.old → IfOk result (λ _. IsKept p t groups (with_ray one h) self.new) }
     {
-        if let Stage::Gathering = self.stage {
-            self.rays.push(one)?;
-        }
+        let Stage::Gathering = self.stage else {
+            return Ok(());
+        };
+        self.rays.push(one)?;
         Ok(())
     }
 
@@ -170,8 +172,8 @@ impl<'a> Judging<'a> {
                 Ok(any_of(verdict))
             }
             Stage::Broken(fault) => Ok(AnyVerdict::No(fault)),
-            // No certificate comes to this.
-            Stage::Gathering | Stage::Lost => Err(Memory),
+            // the triangles and rays of a certificate have all come, and it may have them
+            Stage::Gathering | Stage::Lost => unreachable!(),
         }
     }
 }

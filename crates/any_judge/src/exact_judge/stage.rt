@@ -118,9 +118,10 @@ impl Stage {
     ) -> Result<(), Memory>
         ensures { (h : Heard) → labelled.now ≡ h.triangles → rays.now ≡ h.rays → IsStage plan.now groups.now h self.old → IfOk result (λ _. IsStage plan.now groups.now (closed_at h) self.new) }
     {
-        if let Stage::Gathering = self {
-            self.settle(alloc, plan, groups, labelled, rays)?;
-        }
+        let Stage::Gathering = self else {
+            return Ok(());
+        };
+        self.settle(alloc, plan, groups, labelled, rays)?;
         Ok(())
     }
 
@@ -144,9 +145,10 @@ impl Stage {
     pub fn hear_node(&mut self, alloc: Global, source: usize, node: Node) -> Result<(), Memory>
         ensures { (p : PlanParts) (groups : GroupsOf) (h : Heard) → h.closed ≡ true → IsStage p groups h self.old → IfOk result (λ _. IsStage p groups (with_node source node h) self.new) }
     {
-        if let Stage::Walking(trees) = self {
-            trees.hear(alloc, source, node)?;
-        }
+        let Stage::Walking(trees) = self else {
+            return Ok(());
+        };
+        trees.hear(alloc, source, node)?;
         Ok(())
     }
 }

@@ -135,9 +135,9 @@ impl RowTrees {
         let masks = ground.mask_rows();
         if self.walk.step(&terrain, &masks, node)? {
             self.nodes = self.nodes.saturating_add(1);
-        } else {
-            self.stop(self.nodes);
+            return Ok(());
         }
+        self.stop(self.nodes);
         Ok(())
     }
 

@@ -153,10 +153,10 @@ impl TreeJudge {
         };
         if self.walk.step(&terrain, &mut self.reached, node)? {
             self.number = self.number.saturating_add(1);
-        } else {
-            self.under_way = false;
-            self.wrong = Some((source, self.number));
+            return Ok(());
         }
+        self.under_way = false;
+        self.wrong = Some((source, self.number));
         Ok(())
     }
 

@@ -45,7 +45,7 @@ cut_is f k e = absurd cc
 -- of memory nothing is told; of another fault all that is told is told of what is read
 by_fault : {A B : Type 0} (f g : CertFault) (read : Result A CertFault) (again : Result A CertFault) (made : Result B CertFault) → Err g ≡ cut_at f → Fails f read → ((h : CertFault) → read ≡ Err h → IsToldAgain h again) → ((h : CertFault) → again ≡ Err h → made ≡ Err h) → Fails g made
 by_fault (faults.Short at) g read again made e h stays tells = absurd cc
-by_fault faults.Memory g read again made e h stays tells = let same : faults.Memory ≡ g = cc in subst (λ (k : CertFault). Fails k made) same tt
+by_fault (faults.Memory u) g read again made e h stays tells = let same : faults.Memory u ≡ g = cc in subst (λ (k : CertFault). Fails k made) same tt
 by_fault f g read again made e h stays tells = fails g made (tells g (told_again f g again e (stays f h)))
 
 -- what stays is told again

@@ -120,12 +120,12 @@ module _ (g : GatheredParts) (s t : ReaderState) (rest : List ℕ) where
 
 -- a fault of what is made of what is read is one of the reading
 pub fault_of : {A B : Type 0} (view : A → B) (r : Result A CertFault) (f : CertFault) → Fails f (r >>= λ x. Ok (view x)) → Fails f r
-fault_of view r faults.Memory h = tt
+fault_of view r (faults.Memory _) h = tt
 fault_of view (Ok x) f h = absurd cc
 fault_of view (Err e) f h = cc
 
 fault_on : {A B : Type 0} (view : A → B) (r : Result A CertFault) (f : CertFault) → Fails f r → Fails f (r >>= λ x. Ok (view x))
-fault_on view r faults.Memory h = tt
+fault_on view r (faults.Memory _) h = tt
 fault_on view (Ok x) f h = absurd cc
 fault_on view (Err e) f h = cc
 

@@ -168,7 +168,7 @@ module _ (sizes : Sizes) (bytes more : List ℕ) where
 
   pub fault_again : (f g : CertFault) → Err g ≡ cut_at f → Fails f (front_at sizes (length bytes) bytes) → Fails g (reading_three_parts sizes (bytes ++ more))
   fault_again (faults.Short at) g cut h = absurd cc
-  fault_again faults.Memory g cut h = let same : faults.Memory ≡ g = cc in subst (λ (k : CertFault). Fails k (reading_three_parts sizes (bytes ++ more))) same tt
+  fault_again (faults.Memory u) g cut h = let same : faults.Memory u ≡ g = cc in subst (λ (k : CertFault). Fails k (reading_three_parts sizes (bytes ++ more))) same tt
   fault_again f g cut h =
       let same : f ≡ g = cc in
       let again = still_faulty (front_at sizes (length bytes) bytes) (front_at sizes (length (bytes ++ more)) (bytes ++ more)) f front_again h in

@@ -89,7 +89,7 @@ module _ (s new : ReaderState) (front : List ℕ) (total : ℕ) (settled : IsSet
     not_taken f (Err g) e = cc
 
     by_fault : (f : CertFault) (more : List ℕ) → Fails f (without_rest (first_at s.awaited s.trees total (s.kept ++ front))) → Fails f (parts_left s (front ++ more))
-    by_fault faults.Memory more h = tt
+    by_fault (faults.Memory _) more h = tt
     by_fault f more h = fails f (parts_left s (front ++ more)) (fault_told s front settled wide more f (subst (λ (n : ℕ). first_at s.awaited s.trees n (s.kept ++ front) ≡ Err f) at (not_taken f (first_at s.awaited s.trees total (s.kept ++ front)) h)))
 
     pub taken_fault : (r : Result Part CertFault) → Answer r → IfErr r (λ f. (more : List ℕ) → Fails f (parts_left s (front ++ more)))
@@ -123,7 +123,7 @@ done_told s h is none =
     rw (n, append-nil s.kept) (done_left s.awaited s.trees s.given s.kept h is none)
 
 pub end_fails : (s : ReaderState) (f : CertFault) → (is_done s.awaited s.trees ≡ false) ⊎ (0 < length s.kept) → length s.kept < width_at s.awaited s.trees s.kept → Fails f (first_at s.awaited s.trees s.given s.kept) → Fails f (parts_left s [])
-end_fails s faults.Memory owed cut h = tt
+end_fails s (faults.Memory _) owed cut h = tt
 end_fails s f owed cut h = fails f (parts_left s []) (end_told s f owed cut h)
 
 -- a record that is cut is not read

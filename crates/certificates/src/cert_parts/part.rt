@@ -5,7 +5,7 @@ use cert_format::Labelled;
 use sight_names::{Pair, PairRay};
 
 /// A part of a certificate, as a reader meets it: behind the head of a tree come so many nodes of it.
-#[derive(Clone, Copy, Debug, PartialEq, Eq)]
+#[derive(Clone, Copy, PartialEq, Eq)]
 pub enum Part {
     Triangle(Labelled),
     Ray(PairRay),

@@ -92,9 +92,9 @@ impl Reader {
                 self.given = self.given.saturating_add(piece.len());
                 Ok(())
             }
-            Err(_) => {
+            Err(refused) => {
                 self.kept.clear();
-                Err(CertFault::Memory)
+                Err(CertFault::Memory(refused.into()))
             }
         }
     }

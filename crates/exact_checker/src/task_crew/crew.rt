@@ -80,8 +80,8 @@ fn gather<T: Tasks>(
 {
     let mut slots = empty(alloc, tasks, count)?;
     'hands: while let Some(hand) = hands.pop() {
-        if hand.starved {
-            return Err(Memory);
+        if let Some(memory) = hand.starved {
+            return Err(memory);
         }
         put_all(tasks, slots.as_mut_slice(), hand.done);
     }

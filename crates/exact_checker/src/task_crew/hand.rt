@@ -3,6 +3,7 @@
 ghost use Rattle.std.specs.Prelude.{ℕ, ◌<◌, All, [], ◌≡◌};
 
 use crate::task_crew::tasks::Tasks;
+use sight_names::Memory;
 use std::alloc::Global;
 use std::sync::atomic::{AtomicUsize, Ordering};
 
@@ -13,12 +14,12 @@ pub struct Numbered<D> {
     pub done: D,
 }
 
-/// A worker with its tools, what it has done, and whether memory ran out.
+/// A worker with its tools, what it has done, and the refusal where memory ran out.
 #[derive(Drop)]
 pub struct Hand<S, D> {
     pub tools: S,
     pub done: Vec<Numbered<D>>,
-    pub starved: bool,
+    pub starved: Option<Memory>,
 }
 
 /// A worker that has done nothing yet.
@@ -28,8 +29,24 @@ pub fn new_hand<T: Tasks>(alloc: Global, tasks: &T) -> Hand<T::Tools, T::Done>
     Hand {
         tools: tasks.tools(alloc),
         done: Vec::new(alloc),
-        starved: false,
+        starved: None,
     }
+}
+
+/// Does the task with this number.
+fn do_task<T: Tasks>(
+    alloc: Global,
+    tasks: &T,
+    number: usize,
+    hand: &mut Hand<T::Tools, T::Done>,
+) -> Result<(), Memory>
+    requires can { T.can_do tasks.now number }
+    requires done { All (λ n. T.is_done tasks.now n.number n.done) hand.old.done.items }
+    ensures { All (λ n. T.is_done tasks.now n.number n.done) hand.new.done.items }
+{
+    let done = tasks.work(alloc, &mut hand.tools, number)?;
+    hand.done.push(Numbered { number, done })?;
+    Ok(())
 }
 
 /// Does a task that nobody has drawn. False where none is left, or memory ran out.
@@ -48,15 +65,13 @@ fn turn<T: Tasks>(
     if number >= count {
         return false;
     }
-    let Ok(done) = tasks.work(alloc, &mut hand.tools, number) else {
-        hand.starved = true;
-        return false;
-    };
-    let Ok(()) = hand.done.push(Numbered { number, done }) else {
-        hand.starved = true;
-        return false;
-    };
-    true
+    match do_task(alloc, tasks, number, hand) {
+        Ok(()) => true,
+        Err(memory) => {
+            hand.starved = Some(memory);
+            false
+        }
+    }
 }
 
 /// Draws tasks and does them until none is left, or memory runs out.

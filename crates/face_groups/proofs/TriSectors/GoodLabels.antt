@@ -174,7 +174,7 @@ faces_answer m ts fs os ss seen r same each faced v = go r (subst (λ (xs : List
     go (Ok ls) h = (ss, record { each = each; faced = faced }, h)
     go (Err (Open s)) h = absurd h
     go (Err (Mixed a b)) h = (ss, record { each = each; faced = faced }, h)
-    go (Err Memory) h = tt
+    go (Err (Memory _)) h = tt
 
 pub range_answer : (p : PlanParts) → IsPlan p → (ts : List Triangle) (fs : List ℕ) (os : List Bool) (r : Result (List (Option ℕ)) LabelFault) → IsFacesVerdict (map_of p) ts fs os r → IfOk r (λ l. (k a : ℕ) → label_of l k ≡ Some a → a < p.sectors)
 range_answer p is ts fs os (Ok ls) v = λ k a label. labels_in_range (map_of p) ts fs v.0 ls (plan_is_map p is) v.1.faced v.2 k a label

@@ -225,4 +225,4 @@ module _ (m : Map) (ts : List Triangle) (fs : List ℕ) (os : List Bool) (facts 
   verdict (Ok ls) v = found_labels v.0 v.1 ls v.2
   verdict (Err (Open s)) v = first_open_side s v
   verdict (Err (Mixed x y)) v = (closed_map v.1.each, mixed_pair v.0 v.1 x y v.2)
-  verdict (Err Memory) v = tt
+  verdict (Err (Memory _)) v = tt

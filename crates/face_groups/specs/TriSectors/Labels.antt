@@ -28,7 +28,7 @@ abbrev pub IsSidesVerdict : List ℕ → List FacedSide → Result (List (Option
 IsSidesVerdict fs ss (Ok ls) = AreFaceLabels fs ss ls
 IsSidesVerdict fs ss (Err (Open s)) = ⊥
 IsSidesVerdict fs ss (Err (Mixed a b)) = IsMixedPair ss a b
-IsSidesVerdict fs ss (Err Memory) = Unit {0}
+IsSidesVerdict fs ss (Err (Memory _)) = Unit {0}
 
 -- no side is open, and these are the sides that have triangles
 pub record AreSealed (m : Map) (ts : List Triangle) (fs : List ℕ) (os : List Bool) (ss : List FacedSide) : Type 0 where
@@ -39,4 +39,4 @@ abbrev pub IsFacesVerdict : Map → List Triangle → List ℕ → List Bool →
 IsFacesVerdict m ts fs os (Ok ls) = (ss : List FacedSide) × AreSealed m ts fs os ss × AreFaceLabels fs ss ls
 IsFacesVerdict m ts fs os (Err (Open s)) = IsFirstSideAgainst (IsSealedAt m ts fs os) s
 IsFacesVerdict m ts fs os (Err (Mixed a b)) = (ss : List FacedSide) × AreSealed m ts fs os ss × IsMixedPair ss a b
-IsFacesVerdict m ts fs os (Err Memory) = Unit {0}
+IsFacesVerdict m ts fs os (Err (Memory _)) = Unit {0}

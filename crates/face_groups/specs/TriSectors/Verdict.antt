@@ -37,4 +37,4 @@ abbrev pub IsLabelVerdict : Map → List Triangle → Result (List (Option ℕ))
 IsLabelVerdict m ts (Ok ls) = AreFoundLabels m ts ls
 IsLabelVerdict m ts (Err (Open s)) = IsFirstSideAgainst (IsClosedSide m) s
 IsLabelVerdict m ts (Err (Mixed s t)) = IsClosed m × IsFirstSidePairAgainst (AgreeAt m) s t
-IsLabelVerdict m ts (Err Memory) = Unit {0}
+IsLabelVerdict m ts (Err (Memory _)) = Unit {0}

@@ -13,7 +13,7 @@ use crate::extreme_lines::widen::{widen_first, widen_second};
 use sight_names::{EndAt, EndPair, Pt};
 
 /// The extreme ones of some lines from right ends to left ends, of equal directions the shortest.
-#[derive(Clone, Copy, Debug)]
+#[derive(Clone, Copy)]
 pub enum Cone {
     /// All have one direction.
     Ray(Extreme),

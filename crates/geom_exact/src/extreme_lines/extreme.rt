@@ -8,7 +8,7 @@ use crate::extreme_lines::arith::{less, level, minus, times};
 use sight_names::{EndAt, Pt};
 
 /// The line from a right end to a left end at another point: `a * x + b * y - c` is above 0 on its left.
-#[derive(Clone, Copy, Debug)]
+#[derive(Clone, Copy)]
 pub struct Extreme {
     pub left: EndAt,
     pub right: EndAt,

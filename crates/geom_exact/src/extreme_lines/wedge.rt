@@ -9,7 +9,7 @@ use crate::extreme_lines::extreme::Extreme;
 use sight_names::Pt;
 
 /// Two lines, of which the second is counterclockwise of the first by less than half a turn.
-#[derive(Clone, Copy, Debug)]
+#[derive(Clone, Copy)]
 pub struct Wedge {
     pub first: Extreme,
     pub second: Extreme,

@@ -1,5 +1,5 @@
 -- The hands of all workers.
-use Rattle.std.specs.Prelude.{◌≡◌, ℕ, ◌<◌, true, false, cond, eqb, List, [], length, slice_index_or, slice_get, Some}
+use Rattle.std.specs.Prelude.{◌≡◌, ℕ, ◌<◌, true, cond, eqb, List, [], length, slice_index_or, slice_get, None, Some}
 use Rattle.std.specs.List.{Contains}
 use Rattle.atomic_table.specs.Seated.{TableId}
 use Rattle.group_job.specs.declared.sight_workers.view.Task.{Task}
@@ -18,12 +18,12 @@ pub record IsFresh (id : TableId) (t : Task) (h : Hand) : Type 0 where
   pub seat : IsSeatOf id t h.seat.seat
   pub view : h.seat.seat.me.0 ≡ worker_of t h.seat.worker
   pub results : h.results.items ≡ []
-  pub ample : h.starved ≡ false
+  pub ample : h.starved ≡ None
 
 -- the hand has done all its work, unless memory ran out
 pub record IsDone (id : TableId) (t : Task) (components : List ℕ) (h : Hand) : Type 0 where
   pub seat : IsSeatOf id t h.seat.seat
-  pub worked : h.starved ≡ false → IsAllWorked t.plan.sectors components t h.seat.seat.me.0 h.results.items × (has_over h.seat.seat.me.0 ≡ true)
+  pub worked : h.starved ≡ None → IsAllWorked t.plan.sectors components t h.seat.seat.me.0 h.results.items × (has_over h.seat.seat.me.0 ≡ true)
 
 -- the hands of the workers, the one at place w being worker w's, which have done nothing
 abbrev pub AreFresh : TableId → Task → ℕ → List Hand → Type 0

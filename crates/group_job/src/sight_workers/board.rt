@@ -169,7 +169,7 @@ impl<'a> Board<'a> {
         let desk = &self.desk;
         match Terrain::of(alloc, job.plan, job.mesh, job.labels) {
             Ok(terrain) => serve(desk, alloc, seat, job.components, job, &terrain, gate),
-            Err(_) => starve(desk, seat, gate),
+            Err(memory) => starve(desk, seat, gate, memory),
         }
     }
 

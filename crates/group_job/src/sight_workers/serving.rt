@@ -163,6 +163,7 @@ pub fn starve<G: Gate>(
     desk: &Desk<'_>,
     seat: &mut BoardSeat,
     gate: &G,
+    memory: Memory,
 ) -> Result<Option<SourceResult>, Memory>
     requires seat { IsSeatOfDesk desk.now seat.old }
     ensures seat { IsSeatOfDesk desk.now seat.new × (worker_of_seat seat.new ≡ worker_of_seat seat.old) }
@@ -173,5 +174,5 @@ pub fn starve<G: Gate>(
         return Ok(None);
     };
     gate.pass(seat.worker, source);
-    Err(Memory)
+    Err(memory)
 }

@@ -45,12 +45,12 @@ pub(crate) fn hands_of(board: &mut Board<'_>, alloc: Global) -> Result<Vec<Hand>
 }
 
 fn new_hand(alloc: Global, seat: BoardSeat) -> Hand
-    ensures { (result.seat ≡ seat) × (result.results.items ≡ []) × (result.starved ≡ false) }
+    ensures { (result.seat ≡ seat) × (result.results.items ≡ []) × (result.starved ≡ None) }
 {
     Hand {
         seat,
         results: Vec::new(alloc),
-        starved: false,
+        starved: None,
     }
 }
 
@@ -145,8 +145,8 @@ pub(crate) fn gather(
 {
     let mut pool = Vec::new(alloc);
     'hands: while let Some(hand) = hands.pop() {
-        if hand.starved {
-            return Err(Memory);
+        if let Some(memory) = hand.starved {
+            return Err(memory);
         }
         note_claims(claimed_by, hand.seat.worker, hand.results.as_slice());
         take_in(board, hand, &mut pool)?;

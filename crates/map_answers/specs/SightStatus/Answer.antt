@@ -36,7 +36,7 @@ status_of (Err refusal) = refusal
 -- What was made is what is said, unless memory ran out or a read failed.
 abbrev pub Makes : {V D : Type 0} → (V → D) → Result V Status → Result D Status → Type 0
 Makes view (Ok v) said = said ≡ Ok (view v)
-Makes view (Err status.Memory) said = ⊤
+Makes view (Err (status.Memory _)) said = ⊤
 Makes view (Err (status.ReadFault role)) said = ⊤
 Makes view (Err refusal) said = said ≡ Err refusal
 
@@ -47,7 +47,7 @@ pub record IsTheAnswer (Sole : Type 0) (Called : Result Answer Status → Type 0
 
 -- What was given is the answer called for, unless memory ran out or a read failed.
 abbrev pub Gives : Type 0 → (Result Answer Status → Type 0) → Result Answer Status → Type 0
-Gives Sole Called (Err status.Memory) = ⊤
+Gives Sole Called (Err (status.Memory _)) = ⊤
 Gives Sole Called (Err (status.ReadFault role)) = ⊤
 Gives Sole Called given = IsTheAnswer Sole Called given
 

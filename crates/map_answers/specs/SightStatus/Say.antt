@@ -22,7 +22,7 @@ pub record WasCut (result : Status) (old new : SinkState) (line : List ℕ) : Ty
 
 -- nothing was put, for want of memory
 pub record WasDropped (result : Status) (old new : SinkState) : Type 0 where
-  pub status : result ≡ status.Memory
+  pub status : result ≡ status.Memory tt
   pub same : new ≡ old
 
 abbrev pub Said : Status → Status → SinkState → SinkState → List ℕ → Type 0
@@ -33,6 +33,6 @@ SaidIfMade told result old new = Said told result old new (text_of told) ⊎ Was
 
 -- want of memory puts nothing, and the line of a write fault wants no memory
 abbrev pub Refused : Status → Status → SinkState → SinkState → Type 0
-Refused status.Memory result old new = WasDropped result old new
+Refused (status.Memory _) result old new = WasDropped result old new
 Refused (status.WriteFault role) result old new = Said (status.WriteFault role) result old new (text_of (status.WriteFault role))
 Refused other result old new = SaidIfMade other result old new

@@ -34,12 +34,12 @@ number_of (status.BadLump fault) = 8
 number_of (status.Limit bound) = 9
 number_of (status.BadMap flaw) = 10
 number_of status.SameName = 11
-number_of status.Memory = 12
+number_of (status.Memory _) = 12
 
 -- too many lumps are a limit, and want of memory is a status of its own
 abbrev pub IsWadFault : WadFault → Type 0
 IsWadFault wad.TooManyLumps = ⊥
-IsWadFault wad.Memory = ⊥
+IsWadFault (wad.Memory _) = ⊥
 IsWadFault fault = ⊤
 
 -- too many lines, points or sectors are limits
@@ -47,14 +47,14 @@ abbrev pub IsLumpFault : LumpFault → Type 0
 IsLumpFault (lump.TooManySectors count) = ⊥
 IsLumpFault (lump.TooManyLines count) = ⊥
 IsLumpFault (lump.TooManyPoints count) = ⊥
-IsLumpFault lump.Memory = ⊥
+IsLumpFault (lump.Memory _) = ⊥
 IsLumpFault fault = ⊤
 
 -- want of memory is no reason for a no
 abbrev pub IsReason : Why → Type 0
-IsReason (why.Trace trace.Memory) = ⊥
-IsReason (why.Table table.Memory) = ⊥
-IsReason (why.Cert cert.Memory) = ⊥
+IsReason (why.Trace (trace.Memory _)) = ⊥
+IsReason (why.Table (table.Memory _)) = ⊥
+IsReason (why.Cert (cert.Memory _)) = ⊥
 IsReason reason = ⊤
 
 -- no fault stands in a status where there is another status for it
@@ -73,33 +73,33 @@ IsOfBytes (status.Limit bound.WadBytes) = ⊥
 IsOfBytes (status.Limit bound.CertBytes) = ⊥
 IsOfBytes (status.Limit bound.OutputBytes) = ⊥
 IsOfBytes (status.Limit bound) = ⊤
-IsOfBytes status.Memory = ⊤
+IsOfBytes (status.Memory _) = ⊤
 IsOfBytes other = ⊥
 
 -- a refusal that making an output can call for
 abbrev pub IsOfMaking : Status → Type 0
 IsOfMaking (status.Limit bound.Lumps) = ⊤
 IsOfMaking (status.Limit bound.OutputBytes) = ⊤
-IsOfMaking status.Memory = ⊤
+IsOfMaking (status.Memory _) = ⊤
 IsOfMaking other = ⊥
 
 -- what the test of a ray can end with
 abbrev pub IsOfRayTest : Status → Type 0
 IsOfRayTest (status.No (why.Ray fault)) = ⊤
-IsOfRayTest status.Memory = ⊤
+IsOfRayTest (status.Memory _) = ⊤
 IsOfRayTest other = ⊥
 
 -- what a question on a noise can end with
 abbrev pub IsOfSoundTest : Status → Type 0
 IsOfSoundTest (status.No (why.NoSector a)) = ⊤
-IsOfSoundTest status.Memory = ⊤
+IsOfSoundTest (status.Memory _) = ⊤
 IsOfSoundTest other = ⊥
 
 -- what taking bytes as a table can end with
 abbrev pub IsOfTableTest : Status → Type 0
-IsOfTableTest (status.No (why.Table table.Memory)) = ⊥
+IsOfTableTest (status.No (why.Table (table.Memory _))) = ⊥
 IsOfTableTest (status.No (why.Table fault)) = ⊤
-IsOfTableTest status.Memory = ⊤
+IsOfTableTest (status.Memory _) = ⊤
 IsOfTableTest other = ⊥
 
 -- what the fetch of a certificate can end with
@@ -107,21 +107,21 @@ abbrev pub IsOfCertFetch : Status → Type 0
 IsOfCertFetch (status.NoFile role.Cert) = ⊤
 IsOfCertFetch (status.ReadFault role.Cert) = ⊤
 IsOfCertFetch (status.Limit bound.CertBytes) = ⊤
-IsOfCertFetch status.Memory = ⊤
+IsOfCertFetch (status.Memory _) = ⊤
 IsOfCertFetch other = ⊥
 
 -- what the reading of a certificate can end with
 abbrev pub IsOfCertTest : Status → Type 0
-IsOfCertTest (status.No (why.Cert cert.Memory)) = ⊥
+IsOfCertTest (status.No (why.Cert (cert.Memory _))) = ⊥
 IsOfCertTest (status.No (why.Cert fault)) = ⊤
-IsOfCertTest status.Memory = ⊤
+IsOfCertTest (status.Memory _) = ⊤
 IsOfCertTest other = ⊥
 
 -- what reading a table and a certificate can end with
 abbrev pub IsOfCheckInput : Status → Type 0
-IsOfCheckInput (status.No (why.Table table.Memory)) = ⊥
+IsOfCheckInput (status.No (why.Table (table.Memory _))) = ⊥
 IsOfCheckInput (status.No (why.Table fault)) = ⊤
-IsOfCheckInput (status.No (why.Cert cert.Memory)) = ⊥
+IsOfCheckInput (status.No (why.Cert (cert.Memory _))) = ⊥
 IsOfCheckInput (status.No (why.Cert fault)) = ⊤
 IsOfCheckInput other = IsOfCertFetch other
 
@@ -130,18 +130,18 @@ abbrev pub IsOfVerdict : Status → Type 0
 IsOfVerdict (status.No (why.Check fault)) = ⊤
 IsOfVerdict (status.No (why.Group triangle)) = ⊤
 IsOfVerdict (status.No (why.Unused group)) = ⊤
-IsOfVerdict status.Memory = ⊤
+IsOfVerdict (status.Memory _) = ⊤
 IsOfVerdict other = ⊥
 
 -- what the audit of a map can end with
 abbrev pub IsOfMapTest : Status → Type 0
 IsOfMapTest (status.BadMap flaw) = ⊤
-IsOfMapTest status.Memory = ⊤
+IsOfMapTest (status.Memory _) = ⊤
 IsOfMapTest other = ⊥
 
 -- what the audit and the walk along a ray can end with
 abbrev pub IsOfTraceTest : Status → Type 0
-IsOfTraceTest (status.No (why.Trace trace.Memory)) = ⊥
+IsOfTraceTest (status.No (why.Trace (trace.Memory _))) = ⊥
 IsOfTraceTest (status.No (why.Trace fault)) = ⊤
 IsOfTraceTest other = IsOfMapTest other
 
@@ -149,5 +149,5 @@ IsOfTraceTest other = IsOfMapTest other
 abbrev pub IsOfWords : Status → Type 0
 IsOfWords status.Usage = ⊤
 IsOfWords status.SameName = ⊤
-IsOfWords status.Memory = ⊤
+IsOfWords (status.Memory _) = ⊤
 IsOfWords other = ⊥

@@ -64,7 +64,7 @@ wad_words wad.BadCount = codes "bad count\n"
 wad_words wad.TooManyLumps = codes "lumps\n"
 wad_words wad.DirectoryOutside = codes "directory outside\n"
 wad_words (wad.LumpOutside entry) = codes "lump outside " ++ decimal entry ++ codes "\n"
-wad_words wad.Memory = codes "memory\n"
+wad_words (wad.Memory _) = codes "memory\n"
 
 abbrev pub map_words : MapFault → List ℕ
 map_words map.NoMarker = codes "no marker\n"
@@ -78,7 +78,7 @@ lumps_words (lump.BadVertex line) = codes "vertex of line " ++ decimal line ++ c
 lumps_words (lump.BadSide line) = codes "side of line " ++ decimal line ++ codes "\n"
 lumps_words (lump.BadSector side) = codes "sector of side " ++ decimal side ++ codes "\n"
 lumps_words (lump.TooManyPoints count) = codes "points\n"
-lumps_words lump.Memory = codes "memory\n"
+lumps_words (lump.Memory _) = codes "memory\n"
 
 abbrev pub clash_words : LineFault → List ℕ
 clash_words (line.Cross i j) = codes "cross " ++ two i j ++ codes "\n"
@@ -101,11 +101,11 @@ abbrev pub trace_words : TraceFault → List ℕ
 trace_words (trace.BadRay fault) = codes "no ray: " ++ ray_words fault
 trace_words (trace.HitsSolid line) = codes "no trace: solid " ++ decimal line ++ codes "\n"
 trace_words (trace.HitsPoint point) = codes "no trace: point " ++ decimal point ++ codes "\n"
-trace_words trace.Memory = codes "no trace: memory\n"
+trace_words (trace.Memory _) = codes "no trace: memory\n"
 
 abbrev pub table_words : TableFault → List ℕ
 table_words (table.WrongLength found expected) = codes "no table: " ++ decimal found ++ codes " bytes, " ++ decimal expected ++ codes " expected\n"
-table_words table.Memory = codes "no table: memory\n"
+table_words (table.Memory _) = codes "no table: memory\n"
 
 abbrev pub cert_words : CertFault → List ℕ
 cert_words cert.BadMagic = codes "magic\n"
@@ -114,7 +114,7 @@ cert_words (cert.Short at) = codes "short " ++ decimal at ++ codes "\n"
 cert_words (cert.OutOfRange at) = codes "range " ++ decimal at ++ codes "\n"
 cert_words (cert.NotSorted at) = codes "order " ++ decimal at ++ codes "\n"
 cert_words (cert.Trailing at) = codes "trailing " ++ decimal at ++ codes "\n"
-cert_words cert.Memory = codes "memory\n"
+cert_words (cert.Memory _) = codes "memory\n"
 
 abbrev pub mesh_words : MeshFault → List ℕ
 mesh_words (mesh.Flat triangle) = codes "flat " ++ decimal triangle ++ codes "\n"
@@ -170,4 +170,4 @@ text_of (status.BadLump fault) = codes "refused: bad lump: " ++ lumps_words faul
 text_of (status.Limit bound) = codes "refused: limit: " ++ bound_words bound
 text_of (status.BadMap flaw) = codes "refused: bad map: " ++ flaw_words flaw
 text_of status.SameName = codes "refused: same name\n"
-text_of status.Memory = []
+text_of (status.Memory _) = []

@@ -4,8 +4,8 @@ ghost use Rattle.std.specs.Prelude.{◌≡◌};
 ghost use Rattle.map_answers.specs.SightStatus.Status.{done_as, number_of};
 
 use sight_names::{
-    CertFault, CheckFault, LineFault, LumpFault, MapFault, RayFault, Side, TableFault, TraceFault,
-    WadFault,
+    CertFault, CheckFault, LineFault, LumpFault, MapFault, Memory, RayFault, Side, TableFault,
+    TraceFault, WadFault,
 };
 
 /// What a file is to an order, or the text that is put.
@@ -86,7 +86,7 @@ pub enum Status {
     /// Two file names of the order are equal.
     SameName,
     /// A request for memory was refused.
-    Memory,
+    Memory(Memory),
 }
 
 /// How a run ends that does what is asked, by whether all that it judged is right.
@@ -118,6 +118,6 @@ pub fn code(status: &Status) -> u8
         Status::Limit(_) => 9,
         Status::BadMap(_) => 10,
         Status::SameName => 11,
-        Status::Memory => 12,
+        Status::Memory(_) => 12,
     }
 }

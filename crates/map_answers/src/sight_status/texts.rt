@@ -164,7 +164,7 @@ fn push_wad(alloc: Global, line: &mut String, fault: WadFault) -> Result<(), All
             "lump outside ",
             u64::from(entry),
         ),
-        WadFault::Memory => line.push_str("memory\n"),
+        WadFault::Memory(_) => line.push_str("memory\n"),
     }
 }
 
@@ -203,7 +203,7 @@ fn push_lumps(alloc: Global, line: &mut String, fault: LumpFault) -> Result<(), 
             u64::from(side),
         ),
         LumpFault::TooManyPoints { .. } => line.push_str("points\n"),
-        LumpFault::Memory => line.push_str("memory\n"),
+        LumpFault::Memory(_) => line.push_str("memory\n"),
     }
 }
 
@@ -259,7 +259,7 @@ fn push_trace(alloc: Global, line: &mut String, fault: TraceFault) -> Result<(),
             "no trace: point ",
             u64::from(point),
         ),
-        TraceFault::Memory => push_text(line, "no trace: memory\n"),
+        TraceFault::Memory(_) => push_text(line, "no trace: memory\n"),
     }
 }
 
@@ -274,7 +274,7 @@ fn push_table(alloc: Global, line: &mut String, fault: TableFault) -> Result<(),
             push_number(alloc, line, expected)?;
             line.push_str(" expected\n")
         }
-        TableFault::Memory => line.push_str("no table: memory\n"),
+        TableFault::Memory(_) => line.push_str("no table: memory\n"),
     }
 }
 
@@ -288,7 +288,7 @@ fn push_cert(alloc: Global, line: &mut String, fault: CertFault) -> Result<(), A
         CertFault::OutOfRange { at } => push_count_line(alloc, line, "range ", at),
         CertFault::NotSorted { at } => push_count_line(alloc, line, "order ", at),
         CertFault::Trailing { at } => push_count_line(alloc, line, "trailing ", at),
-        CertFault::Memory => line.push_str("memory\n"),
+        CertFault::Memory(_) => line.push_str("memory\n"),
     }
 }
 
@@ -408,7 +408,7 @@ fn push_status(alloc: Global, line: &mut String, status: Status) -> Result<(), A
     ensures { OnOk result (string_bytes line.new ≡ string_bytes line.old ++ text_of status) }
 {
     match status {
-        Status::Done | Status::NotRight | Status::Memory => Ok(()),
+        Status::Done | Status::NotRight | Status::Memory(_) => Ok(()),
         Status::Usage => line.push_str("refused: usage\n"),
         Status::SameName => line.push_str("refused: same name\n"),
         Status::No(why) => push_no(alloc, line, why),
@@ -453,7 +453,7 @@ fn make_and_put<O: Sink>(alloc: Global, out: &mut O, status: Status) -> Status
 {
     match line_of(alloc, status) {
         Ok(line) => put_line(out, line.as_bytes(), status),
-        Err(_) => Status::Memory,
+        Err(refused) => Status::Memory(refused.into()),
     }
 }
 
@@ -462,7 +462,7 @@ pub fn put_refusal<O: Sink>(alloc: Global, out: &mut O, status: Status) -> Statu
     ensures { Refused status result (O.state out.old) (O.state out.new) }
 {
     match status {
-        Status::Memory => Status::Memory,
+        Status::Memory(_) => status,
         Status::WriteFault(role) => put_line(out, write_line(role).as_bytes(), status),
         _ => make_and_put(alloc, out, status),
     }

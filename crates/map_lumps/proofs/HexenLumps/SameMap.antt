@@ -132,9 +132,9 @@ whole_of large linedefs sidedefs vertexes sectors e = zero_of (length linedefs %
     zero_of : (n : ℕ) → (n == 0) ≡ true → n ≡ 0
     zero_of n h = grind arith
 
-same_answer : (plan : PlanParts) (m : Map) (answer : Result PlanParts LumpFault) → map_of plan ≡ m → IsPlan plan → IfOk answer (λ p. map_of p ≡ m) → IfOk answer IsPlan → AnswersFirstFault answer None → (answer ≡ Ok plan) ⊎ (answer ≡ Err Memory)
+same_answer : (plan : PlanParts) (m : Map) (answer : Result PlanParts LumpFault) → map_of plan ≡ m → IsPlan plan → IfOk answer (λ p. map_of p ≡ m) → IfOk answer IsPlan → AnswersFirstFault answer None → (answer ≡ Ok plan) ⊎ (answer ≡ Err (Memory tt))
 same_answer plan m (Ok p) is h same h' fault = inl (ap (λ (x : PlanParts). Ok x) (one_plan p plan h' h (same ∙ sym is)))
-same_answer plan m (Err Memory) is h same h' fault = inr refl
+same_answer plan m (Err (Memory _)) is h same h' fault = inr refl
 same_answer plan m (Err (BadSize lump)) is h same h' fault = absurd cc
 same_answer plan m (Err (TooManySectors n)) is h same h' fault = absurd cc
 same_answer plan m (Err (TooManyLines n)) is h same h' fault = absurd cc

@@ -30,4 +30,4 @@ pub record IsReadOf (reading : Reading) (linedefs sidedefs vertexes sectors : Li
 
 abbrev pub IsReadTheSame : Type 0
 IsReadTheSame = (large : Bool) (linedefs sidedefs vertexes sectors : List ℕ) (plan : PlanParts) (answer : Result PlanParts LumpFault)
-    → IsReadOf (as_doom large) linedefs sidedefs vertexes sectors (Ok plan) → IsReadOf (as_hexen large) (hexen_of linedefs) sidedefs vertexes sectors answer → (answer ≡ Ok plan) ⊎ (answer ≡ Err Memory)
+    → IsReadOf (as_doom large) linedefs sidedefs vertexes sectors (Ok plan) → IsReadOf (as_hexen large) (hexen_of linedefs) sidedefs vertexes sectors answer → (answer ≡ Ok plan) ⊎ (answer ≡ Err (Memory tt))

@@ -18,7 +18,7 @@ const ORIGIN: Pt = Pt { x: 0, y: 0 };
 
 /// A directed edge of a triangle, entered from outside: the numbers of its left and its right end and of the triangle's
 /// third point, the ends, the triangle and its sector, what lies on the edge, and the half-edges behind the two ways out.
-#[derive(Clone, Copy, Debug)]
+#[derive(Clone, Copy)]
 pub struct HalfEdge {
     pub left: u16,
     pub right: u16,
@@ -54,7 +54,7 @@ impl Model for HalfEdges {
 }
 
 /// A corner of a triangle: its point, what lies on the edge that begins here, and the way out through that edge.
-#[derive(Clone, Copy, Debug)]
+#[derive(Clone, Copy)]
 struct Corner {
     point: u16,
     at: Pt,

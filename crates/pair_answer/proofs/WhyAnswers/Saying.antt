@@ -43,7 +43,7 @@ module _ (m : Map) (ask : Ask) (pair : Pair) where
 
   pub gives_said : (given : PairAnswer) (r : Result Answer Status) → HasClosedFaces m → IsAnswerFor m ask pair given → IsSaidIfMade pair given r → Gives (¬ HasClosedFaces m) (WhyCalls ask pair m) r
   gives_said given (Ok line) faces h is = record { called = says given faces h (Ok line) is; only = λ sole. absurd (sole faces) }
-  gives_said given (Err status.Memory) faces h is = tt
+  gives_said given (Err (status.Memory _)) faces h is = tt
   gives_said given (Err (status.ReadFault k)) faces h is = tt
   gives_said given (Err (status.BadMap f)) faces h is = absurd (not_bad pair given f is)
   gives_said given (Err s) faces h is = record { called = says given faces h (Err s) is; only = λ sole. absurd (sole faces) }

@@ -44,16 +44,16 @@ WhyCalls ask pair m said = SaysWhy m ask pair said
 -- this line was made, or memory ran out
 abbrev pub SaysLine : List ℕ → Result (String Global) Status → Type 0
 SaysLine text (Ok line) = string_bytes line ≡ text
-SaysLine text (Err refusal) = refusal ≡ status.Memory
+SaysLine text (Err refusal) = refusal ≡ status.Memory tt
 
 -- what is said of an answer, unless memory ran out
 abbrev pub IsSaidIfMade : Pair → PairAnswer → Result Answer Status → Type 0
-IsSaidIfMade pair given (Err status.Memory) = ⊤
+IsSaidIfMade pair given (Err (status.Memory _)) = ⊤
 IsSaidIfMade pair given said = said ≡ said_of pair given
 
 -- what a question on two sectors can end with
 abbrev pub IsOfWhyTest : Status → Type 0
 IsOfWhyTest (status.No (why.NoSector k)) = ⊤
 IsOfWhyTest (status.BadMap flaw) = ⊤
-IsOfWhyTest status.Memory = ⊤
+IsOfWhyTest (status.Memory _) = ⊤
 IsOfWhyTest other = ⊥

@@ -21,7 +21,7 @@ fn made(line: Result<String, AllocError>) -> Result<String, Status>
 {
     match line {
         Ok(line) => Ok(line),
-        Err(_) => Err(Status::Memory),
+        Err(refused) => Err(Status::Memory(refused.into())),
     }
 }
 
@@ -61,6 +61,6 @@ pub fn judge_why(alloc: Global, plan: &Plan, ask: Ask, pair: Pair) -> Result<Str
     let groups = audit_map(alloc, plan)?;
     match answer_over(alloc, plan, &groups, ask, pair) {
         Ok(answer) => said(alloc, pair, answer),
-        Err(_) => Err(Status::Memory),
+        Err(memory) => Err(Status::Memory(memory)),
     }
 }

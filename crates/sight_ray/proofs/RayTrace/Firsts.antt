@@ -221,4 +221,4 @@ first_of_answer items m ts ls r is_map good (Ok x) h = traced_is_clear m ts ls r
 first_of_answer items m ts ls r is_map good (Err (BadRay f)) h = h
 first_of_answer items m ts ls r is_map good (Err (HitsSolid n)) h = wall_comes_first m ts ls r n is_map good h
 first_of_answer items m ts ls r is_map good (Err (HitsPoint k)) h = point_comes_first m ts ls r k is_map good h
-first_of_answer items m ts ls r is_map good (Err Memory) h = tt
+first_of_answer items m ts ls r is_map good (Err (Memory _)) h = tt

@@ -24,7 +24,7 @@ use Rattle.math_base.proofs.Numbers.{below_above_or_same}
 -- what a trace can answer but for want of memory
 abbrev pub IsTraced : Map → List Triangle → Ray → Result (List ℕ) TraceFault → Type 0
 IsTraced m ts r (Ok ks) = IsTrace m ts r ks
-IsTraced m ts r (Err Memory) = ⊥
+IsTraced m ts r (Err (Memory _)) = ⊥
 IsTraced m ts r (Err fault) = IsTraceFault m ts r fault
 
 -- ---- one way out
@@ -200,5 +200,5 @@ one_answer m ts r (Err (HitsPoint k)) (Ok ks) h g = absurd (trace_or_point m ts 
 one_answer m ts r (Err (HitsPoint k)) (Err (BadRay f)) h g = absurd (bad_or_walked m r f g (traceable_of m ts r h.portal h.before h.walked))
 one_answer m ts r (Err (HitsPoint k)) (Err (HitsSolid i)) h g = absurd (wall_or_point m ts r i k g h)
 one_answer m ts r (Err (HitsPoint k)) (Err (HitsPoint j)) h g = ap (λ (x : ℕ). Err (HitsPoint x)) (one_point m ts r k j h g)
-one_answer m ts r (Err Memory) y h g = absurd h
-one_answer m ts r x (Err Memory) h g = absurd g
+one_answer m ts r (Err (Memory _)) y h g = absurd h
+one_answer m ts r x (Err (Memory _)) h g = absurd g

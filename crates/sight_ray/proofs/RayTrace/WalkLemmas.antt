@@ -169,13 +169,13 @@ pub meets_wall : (m : Map) (ts : List Triangle) (r : Ray) (p : Portal) (ks : Lis
 meets_wall m ts r p ks (BadRay x) w h = absurd h
 meets_wall m ts r p ks (HitsSolid n) w h = record { portal = p; before = ks; walked = w; wall = h.0; least = h.1 }
 meets_wall m ts r p ks (HitsPoint n) w h = absurd h
-meets_wall m ts r p ks Memory w h = absurd h
+meets_wall m ts r p ks (Memory _) w h = absurd h
 
 pub meets_tip : (m : Map) (ts : List Triangle) (r : Ray) (p : Portal) (ks : List ℕ) (f : TraceFault) → Walked m ts r p ks → ¬ IsLastPortal m r p → IsOpen m p → IsTipFault m ts r p f → IsTraceFault m ts r f
 meets_tip m ts r p ks (BadRay x) w n o h = absurd h
 meets_tip m ts r p ks (HitsSolid x) w n o h = absurd h
 meets_tip m ts r p ks (HitsPoint x) w n o h = record { portal = p; before = ks; walked = w; passable = o; goes_on = n; third = h.0; straight = h.1 }
-meets_tip m ts r p ks Memory w n o h = absurd h
+meets_tip m ts r p ks (Memory _) w n o h = absurd h
 
 -- another crossed edge isn't the last one
 pub not_last : (m : Map) (r : Ray) (g last : CrossedEdge) → IsLastPortal m r (portal_of last) → ¬ (g ≡ last) → ¬ IsLastPortal m r (portal_of g)

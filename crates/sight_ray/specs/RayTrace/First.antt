@@ -42,7 +42,7 @@ abbrev pub IsFirstFault : Map → Ray → TraceFault → Type 0
 IsFirstFault m r (BadRay fault) = IsBadRay m r fault
 IsFirstFault m r (HitsSolid number) = IsFirstWall m r number
 IsFirstFault m r (HitsPoint k) = ComesFirst m r (point_of (place m k))
-IsFirstFault m r Memory = Unit {0}
+IsFirstFault m r (Memory _) = Unit {0}
 
 -- a ray that is traced to its end is clear
 abbrev pub TracedIsClear : Type 0

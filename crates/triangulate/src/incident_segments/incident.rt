@@ -60,9 +60,9 @@ impl IncidentSegments {
             to: self.last[to as usize],
         };
         self.segments.push(Segment { from, to })?;
-        if self.links.push(links).is_err() {
+        if let Err(refused) = self.links.push(links) {
             let _ = self.segments.pop();
-            return Err(Memory);
+            return Err(refused.into());
         }
         let count = self.segments.len();
         self.last[from as usize] = count;

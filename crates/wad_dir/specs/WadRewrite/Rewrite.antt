@@ -15,5 +15,5 @@ printed w =
 -- What was written is that, unless memory ran out.
 abbrev pub Writes : {V : Type 0} → (V → List ℕ) → Result V RewriteFault → Result (List ℕ) RewriteFault → Type 0
 Writes view (Ok v) said = said ≡ Ok (view v)
-Writes view (Err fault.Memory) said = ⊤
+Writes view (Err (fault.Memory _)) said = ⊤
 Writes view (Err f) said = said ≡ Err f

@@ -20,8 +20,8 @@ first_to_left-wider-requires-clause-beyond c =
     let k : c.len.result ≡ length c.reserve.new.self.items = (let e = c.len.ensures in grind (arith, common_steps)) in
     subst (λ (v : Wedge). form_at v.second c.args.left.at <ℤ pos 0) (same_wedge c.requires.moves.wedge c.in-Open.wedge (open_top c.args.cones.now.items c.reserve.new.self.items c.len.result c.index.result.now c.requires.moves.wedge c.reserve.ensures.items k c.index.ensures c.requires.moves.last ∙ c.in-Open.is)) c.requires.moves.beyond
 
-pub returns-in-Open-clause-top : goal.returns-in-Open-clause-top
-returns-in-Open-clause-top c = λ xs h.
+pub returns-clause-top : goal.returns-clause-top
+returns-clause-top c = λ xs h.
     let k : c.len.result ≡ length c.reserve.new.self.items = (let e = c.len.ensures in grind (arith, common_steps)) in
     top_next (xs ++ c.args.left ∷ []) (kept_ends c.args.rights.now) c.reserve.new.self.items c.push_reserved.new.self.items (Open c.first_to_left-wider.result) c.push_reserved.ensures.items (c.first_to_left-wider.ensures xs (subst (λ (d : Cone). IsConeOfEnds xs (kept_ends c.args.rights.now) d) c.in-Open.is (top_cone xs (kept_ends c.args.rights.now) c.reserve.new.self.items c.len.result c.index.result.now k c.index.ensures (subst (λ (cs : List Cone). IsTopCone xs (kept_ends c.args.rights.now) cs) (sym c.reserve.ensures.items) h))))
 

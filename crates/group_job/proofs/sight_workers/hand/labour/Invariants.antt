@@ -1,4 +1,4 @@
-use Rattle.std.proofs.Common.{◌≡◌, ◌-◌, false}
+use Rattle.std.proofs.Common.{◌≡◌, ◌-◌, None}
 use Rattle.group_job.specs.SightWorkers.Board.{task_of}
 use Rattle.group_job.specs.SightWorkers.Seats.{IsSeatOf}
 use Rattle.group_job.specs.SightWorkers.Hands.{IsAllWorked}
@@ -13,5 +13,5 @@ invariant-turns g l = record {
   seat : IsSeatOf l.desk.table.shared.table_id (task_of l.desk.table.shared.key) l.hand.seat.seat;
   worker : l.hand.seat.worker ≡ l.initial.hand.seat.worker;
   worked : IsAllWorked l.desk.sectors l.components (task_of l.desk.table.shared.key) l.hand.seat.seat.me.0 l.hand.results.items;
-  ample : l.hand.starved ≡ false;
+  ample : l.hand.starved ≡ None;
 }

@@ -32,8 +32,8 @@ returns-then-branch-clause-heard c = λ b w. record {
       (omega (arith, c.saturating_add-self.ensures, o.followed.number, few b j.wrong j o (n ∷ []) counted)) after;
 }
 
-pub returns-else-branch-clause-heard : goal.returns-else-branch-clause-heard
-returns-else-branch-clause-heard c = λ b w. record {
+pub returns-clause-heard : goal.returns-clause-heard
+returns-clause-heard c = λ b w. record {
   sized = subst IsSizedGround (sym c.stop.ensures.ground) w.sized;
   judged = λ enough.
       let j = c.args.self.now in

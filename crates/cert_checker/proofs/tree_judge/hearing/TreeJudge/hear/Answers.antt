@@ -12,8 +12,8 @@ pub returns-then-branch : goal.returns-then-branch
 returns-then-branch c = λ m ts front tree h. hear_right m ts c.args.edges.now front tree (c.args.node ∷ []) c.args.self.now _ h c.if-not-self.false
     (λ t old w. c.in_ok-step.ensures.answered t old w c.if-branch.true) (λ n e few. omega (arith, c.saturating_add-self.ensures, e, few)) refl refl refl c.if-not-self.false refl
 
-pub returns-else-branch : goal.returns-else-branch
-returns-else-branch c = λ m ts front tree h.
+pub returns : goal.returns
+returns c = λ m ts front tree h.
     let roots = c.args.self.now.roots in
     hear_wrong m ts c.args.edges.now front tree (c.args.node ∷ []) c.args.self.now _ c.source-source.result c.args.self.now.number h c.if-not-self.false (omega arith)
     (λ t old w. let k : length t.nodes ≡ length t.nodes + 1 - 1 = omega arith in
