@@ -4,7 +4,7 @@
     bench/draw.py [--program PATH] [--wads FOLDER] [--only E1M7,MAP22] [--rows 20] [--pairs 40] [--seed 1]
 
 Needs Debian's packages freedoom and freedm, or a folder with freedoom1.wad and freedoom2.wad. Of six maps, or of those
-that are named, it asks for the plan, the plan with --faults, the rows of some sectors in a REJECT that
+that are named, it asks for the plan, the plan with --faults and with --heat, the rows of some sectors in a REJECT that
 a build wrote, and some pairs of sectors. The triangles and the groups are those of the build's certificate, and so are
 the trees, by which it finds what sight out of a group enters; the ray of a pair is the one that `why` says. A pair is
 compared to its end where one of the first sector's groups has a tree and the sector has no other group.
@@ -84,6 +84,17 @@ class Sheet:
         yield ("<g><title>%s: sector %d</title>%s%s</g>"
                % (letter, sector, circles, self.text(x, y, 'dx="1em" dy="-.5em"', letter)))
 
+    def legend(self, most):
+        """Of each shade that some count has the least such count."""
+        shown = ""
+        for shade in range(8):
+            least = next((c for c in range(most + 1) if 8 * c // (most + 1) == shade), None)
+            if least is not None:
+                x, width = self.wide // 2 + self.wide // 20 * shade, self.wide // 20
+                shown += ('<rect class="h%d" x="%d" y="%d" width="%d" height="%d"/>%s'
+                          % (shade, x, self.strip, width, self.margin, self.text(x, self.strip, 'dy="-.2em"', least)))
+        yield '<g class="n">%s</g>' % shown
+
     def place(self, point):
         return "%d %d" % (point[0] - self.west, self.north - point[1])
 
@@ -116,6 +127,20 @@ class Sheet:
 
 def plain(sheet, proof):
     return sheet.whole("", sheet.faces(proof, lambda names: "s"), [])
+
+
+def heat(sheet, proof):
+    """The picture of how much each sector may see, and its line without the map's name."""
+    plan = sheet.plan
+    seen = [sum(not rejects(plan.table, plan.sectors, a, b) for b in range(plan.sectors)) for a in range(plan.sectors)]
+
+    def count(names):
+        return max((seen[a] for a in names), default=0)
+
+    most = max(map(count, proof.groups), default=0)
+    faces = sheet.faces(proof, lambda names: "h%d" % (8 * count(names) // (most + 1)),
+                        lambda names: " sees %d" % count(names))
+    return sheet.whole(" heat", faces, sheet.legend(most)), "heat most %d" % most
 
 
 def row(sheet, proof, a):
@@ -198,6 +223,7 @@ def compare_map(asked, rows, pairs):
     sheet = Sheet(asked.name, plan)
     asked.compare([], plain(sheet, proof), "lines %d sectors %d" % (len(plan.lines), plan.sectors))
     asked.compare(["--faults"], plain(sheet, proof), "faults none")
+    asked.compare(["--heat"], *heat(sheet, proof))
     for a in random.sample(range(plan.sectors), min(rows, plan.sectors)):
         asked.compare([a], *row(sheet, proof, a))
     for _ in range(pairs):

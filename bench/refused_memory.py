@@ -132,6 +132,8 @@ ORDERS = [
     ("draw u.wad MAP01 out.svg", ["out.svg"]),
     ("draw u.wad MAP01 out.svg --faults", ["out.svg"]),
     ("draw built.wad MAP01 out.svg 0", ["out.svg"]),
+    ("draw built.wad MAP01 out.svg --heat", ["out.svg"]),
+    ("draw built.wad MAP01 out.svg --heat", ["out.svg"]),
     ("draw u.wad MAP01 out.svg 0 1", ["out.svg"]),
     ("draw u.wad MAP01 out.svg 0 2", ["out.svg"]),
     ("paint u.wad MAP01 out.wad", ["out.wad"]),

@@ -14,7 +14,7 @@ use Rattle.order_words.specs.declared.words.BuildChoices.{BuildChoices}
 use Rattle.order_words.specs.Values.{◌>>=◌, is_file, is_map, upper, ray_of, pair_of, sector_of, rooms_of}
 use Rattle.order_words.specs.Command.{refusals_of, rows_in}
 use Rattle.order_words.specs.Laws.{AsksWithoutBound, GivesNoBudget, bound_of}
-use Rattle.order_words.specs.Words.{Said, said_with, is_given, is_plain, has_bound_alone, given_bound, given_method, given_workers, source_of, zero_of, ray_order_of, audit_of, trace_of, check_of, need_of, sound_with, sound_of, why_within, why_of, view_of, draw_with, choices_of, build_of, all_order_of, may_be_one, verify_with, grid_of, plain_order_of, order_said, order_in_rows, unless_refused, order_of}
+use Rattle.order_words.specs.Words.{is_drawing, whole_view, Said, said_with, is_given, is_plain, has_bound_alone, given_bound, given_method, given_workers, source_of, zero_of, ray_order_of, audit_of, trace_of, check_of, need_of, sound_with, sound_of, why_within, why_of, view_of, draw_with, choices_of, build_of, all_order_of, may_be_one, verify_with, grid_of, plain_order_of, order_said, order_in_rows, unless_refused, order_of}
 
 -- what comes of a choice, of a value that is taken on, and of one that is turned into another
 if_some : {A : Type 0} (P : A → Type 0) (b : Bool) (x y : Option A) → IfSome x P → IfSome y P → IfSome (if b then x else y) P
@@ -95,7 +95,7 @@ verify_asks large rest c = tt
 
 grid_asks : (s : Said) (rest : List Text) → IfSome (grid_of s rest) Unbounded
 grid_asks s (word ∷ []) =
-    if_some Unbounded (is_some s.cert || is_some s.report || is_some s.only || is_some s.refused || is_given s.large || is_given s.faults) _ _ tt
+    if_some Unbounded (is_some s.cert || is_some s.report || is_some s.only || is_some s.refused || is_given s.large || is_drawing s) _ _ tt
     (then_some Unbounded (rooms_of word) _ (λ n. then_some Unbounded (given_workers 4 s.workers) _ (λ workers. then_some Unbounded (given_method (is_given s.exact) s.budget) _ (λ method. tt))))
 grid_asks s rest = tt
 
@@ -104,15 +104,17 @@ why_asks : (large : Bool) (rest : List Text) → IfSome (why_within large rest F
 why_asks large (wad ∷ name ∷ first ∷ second ∷ []) = if_some Unbounded (is_file wad && is_map name) _ _ (map_some Unbounded (pair_of first second) _ (any_some _ (pair_of first second) (λ pair. refl))) tt
 why_asks large rest = tt
 
-plan_asks : (P : View → Type 0) → P view.Plan → P view.Faults → (faults : Bool) → P (if faults then view.Faults else view.Plan)
-plan_asks P plan faulty true = faulty
-plan_asks P plan faulty false = plan
+plan_asks : (P : View → Type 0) → P view.Plan → P view.Faults → P view.Heat → (faults heat : Bool) → IfSome (whole_view faults heat) P
+plan_asks P plan faulty hot true true = tt
+plan_asks P plan faulty hot true false = faulty
+plan_asks P plan faulty hot false true = hot
+plan_asks P plan faulty hot false false = plan
 
-view_asks : (P : View → Type 0) → P view.Plan → P view.Faults → ((k : ℕ) → P (view.Row k)) → ((pair : Pair) → P (view.Pair pair Full)) → (faults exact : Bool) (sectors : List Text) → IfSome (view_of faults exact None sectors) P
-view_asks P plan faulty row two faults exact [] = if_some P (not exact && true) _ _ (plan_asks P plan faulty faults) tt
-view_asks P plan faulty row two faults exact (first ∷ []) = if_some P (not faults && not exact && true) _ _ (map_some P (sector_of first) _ (any_some _ (sector_of first) row)) tt
-view_asks P plan faulty row two faults exact (first ∷ second ∷ []) = if_some P (not faults) _ _ (then_some P (pair_of first second) _ two) tt
-view_asks P plan faulty row two faults exact sectors = tt
+view_asks : (P : View → Type 0) → P view.Plan → P view.Faults → P view.Heat → ((k : ℕ) → P (view.Row k)) → ((pair : Pair) → P (view.Pair pair Full)) → (faults heat exact : Bool) (sectors : List Text) → IfSome (view_of faults heat exact None sectors) P
+view_asks P plan faulty hot row two faults heat exact [] = if_some P (not exact && true) _ _ (plan_asks P plan faulty hot faults heat) tt
+view_asks P plan faulty hot row two faults heat exact (first ∷ []) = if_some P (not faults && not heat && not exact && true) _ _ (map_some P (sector_of first) _ (any_some _ (sector_of first) row)) tt
+view_asks P plan faulty hot row two faults heat exact (first ∷ second ∷ []) = if_some P (not faults && not heat) _ _ (then_some P (pair_of first second) _ two) tt
+view_asks P plan faulty hot row two faults heat exact sectors = tt
 
 two_ask : (s : Said) → s.budget ≡ None → IfSome (why_of s) Unbounded
 two_ask s none =
@@ -123,9 +125,9 @@ draw_asks : (s : Said) → s.budget ≡ None → (rest : List Text) → IfSome (
 draw_asks s none (wad ∷ name ∷ out ∷ sectors) =
     let P : View → Type 0 = λ view. Unbounded (order.Draw (source_of (is_given s.large) wad) (upper name) out view) in
     if_some Unbounded (is_file wad && is_map name && is_file out) _ _
-    (map_some Unbounded (view_of (is_given s.faults) (is_given s.exact) s.budget sectors) _
-    (subst (λ (budget : Option Text). IfSome (view_of (is_given s.faults) (is_given s.exact) budget sectors) P) (sym none)
-    (view_asks P tt tt (λ k. tt) (λ pair. refl) (is_given s.faults) (is_given s.exact) sectors))) tt
+    (map_some Unbounded (view_of (is_given s.faults) (is_given s.heat) (is_given s.exact) s.budget sectors) _
+    (subst (λ (budget : Option Text). IfSome (view_of (is_given s.faults) (is_given s.heat) (is_given s.exact) budget sectors) P) (sym none)
+    (view_asks P tt tt tt (λ k. tt) (λ pair. refl) (is_given s.faults) (is_given s.heat) (is_given s.exact) sectors))) tt
 draw_asks s none rest = tt
 
 said_asks : (s : Said) → s.budget ≡ None → IfSome (order_said s) Unbounded
@@ -134,7 +136,7 @@ said_asks s none =
     if_some Unbounded (bytes_eq s.verb (codes "grid")) _ _ (grid_asks s s.rest)
     (if_some Unbounded (is_given s.hexen) _ _ tt
     (if_some Unbounded (bytes_eq s.verb (codes "draw")) _ _ (if_some Unbounded (has_bound_alone s) _ _ (draw_asks s none s.rest) tt)
-    (if_some Unbounded (is_given s.faults) _ _ tt
+    (if_some Unbounded (is_drawing s) _ _ tt
     (if_some Unbounded (bytes_eq s.verb (codes "build")) _ _ (then_some Unbounded (choices_of s) _ (build_asks (is_given s.large) s.rest))
     (if_some Unbounded (bytes_eq s.verb (codes "all")) _ _ (then_some Unbounded (choices_of s) _ (all_asks (is_given s.large) s.rest))
     (if_some Unbounded (bytes_eq s.verb (codes "why")) _ _ (two_ask s none)

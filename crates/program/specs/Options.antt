@@ -8,5 +8,6 @@ abbrev pub takes_no_value : Choice → Bool
 takes_no_value choice.Hexen = true
 takes_no_value choice.Large = true
 takes_no_value choice.Faults = true
+takes_no_value choice.Heat = true
 takes_no_value choice.Exact = true
 takes_no_value other = false

@@ -80,13 +80,13 @@ fn put_choice<O: Sink>(
 fn stands_elsewhere(verb: &Verb, choice: Choice) -> bool {
     match choice {
         Choice::Budget => verb.takes(Choice::Exact),
-        Choice::Exact | Choice::Faults => !verb.spare.is_empty(),
+        Choice::Exact | Choice::Faults | Choice::Heat => !verb.spare.is_empty(),
         _ => false,
     }
 }
 
-// Puts what stands behind words that may be left out: how two sectors are decided, which wants all of them, and the faults,
-// which want none.
+// Puts what stands behind words that may be left out: how two sectors are decided, which wants all of them, and
+// faults and heat, which want none.
 fn put_behind_spare<O: Sink>(out: &mut O, taken: usize, verb: &Verb) -> Result<usize, Failed> {
     let mut taken = taken;
     for entry in OPTIONS.iter() {
@@ -100,6 +100,9 @@ fn put_behind_spare<O: Sink>(out: &mut O, taken: usize, verb: &Verb) -> Result<u
     }
     if verb.takes(Choice::Faults) {
         taken = put_piece(out, taken, &["| --faults"])?;
+    }
+    if verb.takes(Choice::Heat) {
+        taken = put_piece(out, taken, &["| --heat"])?;
     }
     out.put(b"]")?;
     Ok(taken.saturating_add(1))

@@ -57,6 +57,7 @@ struct Given {
     hexen: bool,
     large: bool,
     faults: bool,
+    heat: bool,
     exact: bool,
 }
 
@@ -72,6 +73,7 @@ impl Given {
             Choice::Hexen => self.hexen,
             Choice::Large => self.large,
             Choice::Faults => self.faults,
+            Choice::Heat => self.heat,
             Choice::Exact => self.exact,
         }
     }
@@ -87,8 +89,14 @@ impl Given {
             Choice::Hexen => self.hexen = true,
             Choice::Large => self.large = true,
             Choice::Faults => self.faults = true,
+            Choice::Heat => self.heat = true,
             Choice::Exact => self.exact = true,
         }
+    }
+
+    // What is drawn is of the map alone.
+    fn is_of_map(&self) -> bool {
+        self.faults || self.heat
     }
 
     // How pairs of sectors are decided is told.
@@ -97,17 +105,18 @@ impl Given {
     }
 }
 
-// How it is decided is of two sectors and the faults are of the map alone, so no verb takes both; nor is there a budget where
-// every pair is decided.
+// How it is decided is of two sectors, and faults or heat are of the map alone, so no verb takes two of these; nor is there a
+// budget where every pair is decided.
 fn takes_all(verb: &Verb, given: Given) -> bool {
     OPTIONS.iter().all(|entry| !given.has(entry.choice) || verb.takes(entry.choice))
-        && !(given.faults && given.tells_how())
+        && !(given.is_of_map() && given.tells_how())
+        && !(given.faults && given.heat)
         && !(given.budget && given.exact)
 }
 
-// How many words may stand behind the verb: with the faults, none that may be left out.
+// How many words may stand behind the verb: with faults or heat, none that may be left out.
 fn most_words(verb: &Verb, given: Given) -> usize {
-    let spare = if given.faults {
+    let spare = if given.is_of_map() {
         verb.spare.iter().copied().max().unwrap_or(0)
     } else {
         0
@@ -146,7 +155,9 @@ fn fits_choice(choice: Choice, word: &str) -> Result<(), Why> {
         Choice::Cert | Choice::Report => unless(may_name_file(word), Why::NoFile),
         Choice::Budget => unless(budget(word).is_some(), Why::NoBudget),
         Choice::Workers => unless(workers(word).is_some(), Why::NoWorkers),
-        Choice::Hexen | Choice::Large | Choice::Faults | Choice::Exact => { Err(Why::TakesNone) },
+        Choice::Hexen | Choice::Large | Choice::Faults | Choice::Heat | Choice::Exact => {
+            Err(Why::TakesNone)
+        },
     }
 }
 
@@ -186,6 +197,7 @@ impl Reader {
                 hexen: false,
                 large: false,
                 faults: false,
+                heat: false,
                 exact: false,
             },
             waiting: None,

@@ -44,6 +44,7 @@ pub enum Choice {
     Hexen,
     Large,
     Faults,
+    Heat,
     Exact,
 }
 
@@ -54,7 +55,7 @@ impl Choice {
     {
         matches!(
             self,
-            Choice::Hexen | Choice::Large | Choice::Faults | Choice::Exact
+            Choice::Hexen | Choice::Large | Choice::Faults | Choice::Heat | Choice::Exact
         )
     }
 }
@@ -78,7 +79,7 @@ impl Entry {
 }
 
 /// All options, in the order of the synopses.
-pub static OPTIONS: [Entry; 10] = [
+pub static OPTIONS: [Entry; 11] = [
     Entry {
         choice: Choice::Only,
         name: "only",
@@ -138,6 +139,12 @@ pub static OPTIONS: [Entry; 10] = [
         name: "faults",
         value: "",
         about: "draws what audit refuses, in place of A and B",
+    },
+    Entry {
+        choice: Choice::Heat,
+        name: "heat",
+        value: "",
+        about: "draws how much each sector sees, in place of A and B",
     },
 ];
 
@@ -256,9 +263,15 @@ pub static VERBS: [Verb; 13] = [
             Place::Second,
         ],
         spare: &[1, 2],
-        choices: &[Choice::Exact, Choice::Budget, Choice::Large, Choice::Faults],
+        choices: &[
+            Choice::Exact,
+            Choice::Budget,
+            Choice::Large,
+            Choice::Faults,
+            Choice::Heat,
+        ],
         purpose: "draws a map, the row of a sector, or a pair of sectors",
-        about: "Writes a picture (SVG) of the map to OUT: its plan, the row of sector A in its\nREJECT, whether A and B see each other, or what the audit refuses.",
+        about: "Writes a picture (SVG) of the map to OUT: its plan, the row of sector A in its\nREJECT, how much each sector sees by it, whether A and B see each other, or what\nthe audit refuses.",
     },
     Verb {
         name: "sound",

@@ -453,6 +453,13 @@ a=U | draw a MAP01 b 0 | 1 | no table: 0 bytes, 2 expected | b=
 a=U =440000 | draw a MAP01 b 9 | 1 | no table: 3 bytes, 2 expected | b=
 a=TOUCHED =00 | draw a MAP01 b 9 | 10 | refused: bad map: touch 0 4 | b=
 a=TOUCHED =0000 | draw a MAP01 b 9 | 1 | no table: 2 bytes, 1 expected | b=
+# how much each sector may see
+a=U =4400 | draw a MAP01 b --heat | 0 | drawn MAP01 heat most 3 | b=%U-HEAT
+a=U =44fe | draw --heat a MAP01 b | 0 | drawn MAP01 heat most 3 | b=%U-HEAT
+a=U =ffff | draw a MAP01 b --heat | 0 | drawn MAP01 heat most 0
+a=U | draw a MAP01 b --heat | 1 | no table: 0 bytes, 2 expected | b=
+a=TOUCHED =00 | draw a MAP01 b --heat | 10 | refused: bad map: touch 0 4 | b=
+a=TOUCHED =0000 | draw a MAP01 b --heat | 1 | no table: 2 bytes, 1 expected | b=
 # two sectors
 a=U | draw a MAP01 b 0 1 | 0 | drawn MAP01 pair 0 1 sight | b=%U-SIGHT
 a=U | draw a MAP01 b 0 1 --exact | 0 | drawn MAP01 pair 0 1 sight | b=%U-SIGHT
@@ -476,6 +483,8 @@ a=U | draw a MAP01 | 2 | refused: usage
 a=U | draw a MAP01 b 0 1 2 | 2 | refused: usage | b=
 a=U | draw a MAP01 b 65536 | 2 | refused: usage | b=
 a=U | draw a MAP01 b 0 --faults | 2 | refused: usage | b=
+a=U | draw a MAP01 b 0 --heat | 2 | refused: usage | b=
+a=U | draw a MAP01 b --heat --faults | 2 | refused: usage | b=
 a=U | draw a MAP01 b 0 1 --faults | 2 | refused: usage | b=
 a=U | draw a MAP01 b --budget 5 | 2 | refused: usage | b=
 a=U | draw a MAP01 b 0 --budget 5 | 2 | refused: usage | b=

@@ -12,6 +12,7 @@ use Rattle.map_picture.specs.Bytes.{svg_of}
 use Rattle.map_picture.specs.Picture.{marked_picture}
 use Rattle.draw_answers.specs.Drawn.{Drawing, one_picture}
 use Rattle.draw_answers.specs.Faults.{DrawsFault, flaw_marks}
+use Rattle.draw_answers.specs.Heat.{DrawHeatCalls, heat_drawing}
 use Rattle.draw_answers.specs.Plan.{plan_drawing}
 use Rattle.draw_answers.specs.Row.{DrawRowCalls, row_drawing}
 use Rattle.map_answers.specs.Input.{LocatedMap, OnFound}
@@ -62,6 +63,14 @@ drawn name out (view.Row a) found answer q =
       drawing = row_drawing name found.map r.table a r.called.1.groups;
       is = r.called.1.called.1;
       shows = record { within = r.called.1.called.0; table = r.table; spelled = r.spelled; groups = r.called.1.groups; over = r.called.1.over; is = refl };
+    }
+drawn name out view.Heat found answer q =
+    let r = call_in (λ t. DrawHeatCalls name out t found.map) found answer q in
+    let d = heat_drawing name found.map r.table r.called.1.groups in
+    record {
+      drawing = d;
+      is = same_ok answer (one_picture out d) r.called.1.called;
+      shows = record { table = r.table; spelled = r.spelled; groups = r.called.1.groups; over = r.called.1.over; is = refl };
     }
 drawn name out (view.Pair pair ask) found answer q =
     let x = q.1 in

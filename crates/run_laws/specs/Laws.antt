@@ -45,11 +45,12 @@ use Rattle.sight_run.specs.Check.{IsTableOf, reject_of, yes_line}
 use Rattle.map_answers.specs.Groups.{IsOverGroups, MapGroups}
 use Rattle.map_answers.specs.Input.{LocatedMap, map_named}
 use Rattle.map_picture.specs.Bytes.{svg_of}
-use Rattle.map_picture.specs.Picture.{marked_picture, plan_picture, row_picture}
+use Rattle.map_picture.specs.Picture.{heat_picture, marked_picture, plan_picture, row_picture}
 use Rattle.pair_answer.specs.declared.answer.PairAnswer.{PairAnswer}
 use Rattle.pair_answer.specs.Answer.{IsAnswerFor, IsMissing}
 use Rattle.draw_answers.specs.Drawn.{Drawing}
 use Rattle.draw_answers.specs.Faults.{IsFaultOf, flaw_marks}
+use Rattle.draw_answers.specs.Heat.{seen_by}
 use Rattle.draw_answers.specs.Pair.{ShowsPair}
 use Rattle.reject_bits.specs.Parts.{TableParts}
 use Rattle.sight_run.specs.Heard.{Heard}
@@ -188,6 +189,14 @@ pub record ShowsRow (name : List ℕ) (found : LocatedMap) (a : ℕ) (bytes : Li
   pub over : IsOverGroups found.map groups
   pub is : bytes ≡ svg_of found.map (row_picture name found.map groups.groups groups.triangles groups.labels table a)
 
+-- .. by how much each sector may see by such a table
+pub record ShowsHeat (name : List ℕ) (found : LocatedMap) (bytes : List ℕ) : Type 0 where
+  pub table : TableParts
+  pub spelled : IsTableOf found.map.sectors (reject_of found) table
+  pub groups : MapGroups
+  pub over : IsOverGroups found.map groups
+  pub is : bytes ≡ svg_of found.map (heat_picture name found.map groups.groups groups.triangles groups.labels (seen_by table groups.groups))
+
 -- what an answer for the pair calls for
 pub record ShowsAnswer (name : List ℕ) (m : Map) (pair : Pair) (ask : Ask) (bytes : List ℕ) : Type 0 where
   pub given : PairAnswer
@@ -202,6 +211,7 @@ abbrev pub ShowsView : List ℕ → LocatedMap → View → List ℕ → Type 0
 ShowsView name found view.Plan bytes = ShowsPlan name found.map bytes
 ShowsView name found view.Faults bytes = ShowsFaults name found.map bytes
 ShowsView name found (view.Row a) bytes = ShowsRow name found a bytes
+ShowsView name found view.Heat bytes = ShowsHeat name found bytes
 ShowsView name found (view.Pair pair ask) bytes = ShowsAnswer name found.map pair ask bytes
 
 -- the name finds a map in the WAD, and the bytes are those of its picture in this view

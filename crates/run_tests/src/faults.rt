@@ -27,6 +27,7 @@ a=U | why a MAP01 0 1 | 0 | a a
 a=U | draw a MAP01 p | 0 | a a | p | p
 a=TOUCHED, p=PAIR | draw a MAP01 p --faults | 0 | a a | p | p
 a=U =4400, p=PAIR | draw a MAP01 p 0 | 0 | a a | p | p
+a=U =4400, p=PAIR | draw a MAP01 p --heat | 0 | a a | p | p
 a=U, p=PAIR | draw a MAP01 p 0 1 | 0 | a a | p | p
 a=U, p=PAIR | draw a MAP01 p 0 2 | 0 | a a | p | p
 a=U =4400, c=#U-CERT | check a MAP01 c | 0 | a a c c

@@ -12,6 +12,7 @@ use Rattle.map_answers.specs.SightStatus.Status.{IsOfTableTest}
 use Rattle.map_answers.specs.Input.{LocatedMap}
 use Rattle.draw_answers.specs.Drawn.{IsOfDrawTest}
 use Rattle.draw_answers.specs.Faults.{DrawFaultsCalls}
+use Rattle.draw_answers.specs.Heat.{DrawHeatCalls}
 use Rattle.draw_answers.specs.Pair.{DrawPairCalls}
 use Rattle.draw_answers.specs.Plan.{DrawPlanCalls}
 use Rattle.draw_answers.specs.Row.{DrawRowCalls}
@@ -38,11 +39,16 @@ ByOwnTable Called found answer = OnTable Called found.map (of_length found.map.s
 abbrev pub RowOfMap : List ℕ → List ℕ → ℕ → LocatedMap → Result Answer Status → Type 0
 RowOfMap name out a found answer = ByOwnTable (λ t. DrawRowCalls name out t a found.map) found answer
 
+-- .. and to how much each sector may see by it
+abbrev pub HeatOfMap : List ℕ → List ℕ → LocatedMap → Result Answer Status → Type 0
+HeatOfMap name out found answer = ByOwnTable (λ t. DrawHeatCalls name out t found.map) found answer
+
 -- the answers that `draw` calls for
 abbrev pub DrawCalls : List ℕ → List ℕ → View → LocatedMap → Result Answer Status → Type 0
 DrawCalls name out view.Plan found answer = DrawPlanCalls name out found.map answer
 DrawCalls name out view.Faults found answer = DrawFaultsCalls name out found.map answer
 DrawCalls name out (view.Row a) found answer = RowOfMap name out a found answer
+DrawCalls name out view.Heat found answer = HeatOfMap name out found answer
 DrawCalls name out (view.Pair pair budget) found answer = DrawPairCalls name out budget pair found.map answer
 
 -- what drawing can end with once a map is found
@@ -56,4 +62,5 @@ abbrev pub HasOneDrawing : View → Result LocatedMap Status → Type 0
 HasOneDrawing view.Plan said = ⊤
 HasOneDrawing view.Faults said = ⊤
 HasOneDrawing (view.Row a) said = ⊤
+HasOneDrawing view.Heat said = ⊤
 HasOneDrawing (view.Pair pair budget) said = IsUnbuildable said
