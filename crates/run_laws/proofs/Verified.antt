@@ -1,6 +1,5 @@
 -- What `verify` that ended tells of the REJECT of each map.
 use Rattle.std.proofs.Common.{◌≡◌, ℕ, zero, suc, ◌+◌, ◌<◌, ◌==◌, ◌&&◌, not, cond, Bool, true, false, List, [], ◌∷◌, ◌++◌, Option, Some, None, Result, Ok, Err, IsOk, refl, sym, ap, subst, ◌∙◌, arith}
-use Rattle.std.specs.Prelude.{IfSome}
 use Rattle.std.specs.List.{AllByRecursion, count_by}
 use Rattle.std.specs.Option.{option_map}
 use Rattle.std.proofs.lemmas.List.Sums.{sum_by-cons}
@@ -35,7 +34,7 @@ use Rattle.table_verdicts.specs.declared.verdict.Shown.{Shown}
 use Rattle.table_verdicts.specs.declared.verdict.Shown.TheVariants as shown
 use Rattle.table_verdicts.specs.declared.verdict.Verdict.{Verdict}
 use Rattle.table_verdicts.specs.declared.verdict.Verdict.TheVariants as verdict
-use Rattle.table_verdicts.specs.Own.{reject_named}
+use Rattle.whole_wad.specs.Rejects.{reject_named}
 use Rattle.table_verdicts.specs.Tallies.{all_right, count_of, is_short, is_wrong, tally_of}
 use Rattle.table_verdicts.specs.Verdict.{AreFindings, HasFirstWrong, IsVerdictOn, answer_of}
 use Rattle.table_compare.proofs.OneKind.{none_counted}
@@ -48,7 +47,7 @@ use Rattle.sight_run.specs.Verify.{MapsVerified, ShowsVerify}
 use Rattle.sight_run.specs.Words.{asked_of}
 use Rattle.sight_run.proofs.Round.{passes}
 use Rattle.run_laws.specs.Laws.{Sinks}
-use Rattle.run_laws.specs.Verified.{IsBlindWhereSet, IsRightReject, TellsBits, TellsFirst, TellsReject, TellsRejects, VerifiedIsRight}
+use Rattle.run_laws.specs.Verified.{IsBlindWhereSet, IsRightReject, TellsBits, TellsFirst, TellsFirstOf, TellsReject, TellsRejects, VerifiedIsRight}
 use Rattle.run_laws.proofs.AllRight.{flawless}
 use Rattle.run_laws.proofs.FoundPlan.{map_at_plan, of_plan}
 use Rattle.run_laws.proofs.Planned.{HasPlan}
@@ -65,9 +64,9 @@ module _ (m : Map) (plan : HasPlan m) (reject : List ℕ) where
       of_plan (λ (k : Map). IsSound k → IsAnswerFor k Full first.pair (answer.Sight ray) → IsSightRay k ray first.pair.a first.pair.b) m plan
       (λ p is_plan s a. ray_of_sectors p Full first.pair ray is_plan s a) sound (subst (λ (by : Shown). IsAnswerFor m Full first.pair (answer_of by)) is sight)
 
-  tells_first : (first : Option FirstWrong) → HasFirstWrong m reject first → IfSome first (TellsFirst m reject)
+  tells_first : (first : Option FirstWrong) → HasFirstWrong m reject first → TellsFirstOf m reject first
   tells_first (Some first) h = record { is_first = h.is_first; sight = h.sight; ray = first_ray first h.sight }
-  tells_first None h = tt
+  tells_first None h = λ a b la lb set sees. h a b la lb (set, sees)
 
   blind_where_none : (findings : Findings) → AreFindings m reject findings → findings.wrong ≡ 0 → IsBlindWhereSet m reject
   blind_where_none findings h none a b la lb set sees = none_counted m.sectors _ findings.wrong h.wrong none a b la lb (set, sees)

@@ -1,5 +1,5 @@
 -- What `verify` that ended tells of the REJECT of each map, over words and files alone.
-use Rattle.std.specs.Prelude.{◌≡◌, ℕ, ◌<◌, ◌≤◌, Bool, true, List, ◌++◌, length, map, Option, Result, Ok, Err, Some, IfSome, IsOk}
+use Rattle.std.specs.Prelude.{◌≡◌, ℕ, ◌<◌, ◌≤◌, Bool, true, List, ◌++◌, length, map, Option, None, Result, Ok, Err, Some, IsOk}
 use Rattle.std.specs.List.{AllByRecursion}
 use Rattle.std.specs.Option.{option_map}
 use Rattle.sight_names.specs.declared.names.Ask.TheVariants.{Full}
@@ -25,7 +25,8 @@ use Rattle.table_verdicts.specs.declared.verdict.MapVerdict.{MapVerdict}
 use Rattle.table_verdicts.specs.declared.verdict.Shown.TheVariants as shown
 use Rattle.table_verdicts.specs.declared.verdict.Verdict.{Verdict}
 use Rattle.table_verdicts.specs.declared.verdict.Verdict.TheVariants as verdict
-use Rattle.table_verdicts.specs.Own.{IsShort, reject_named, table_len}
+use Rattle.whole_wad.specs.Rejects.{reject_named, table_len}
+use Rattle.table_verdicts.specs.Own.{IsShort}
 use Rattle.table_verdicts.specs.Report.{report_of}
 use Rattle.table_compare.specs.Counts.{IsCountOf, IsFirst}
 use Rattle.table_verdicts.specs.Tallies.{all_right, tally_line, tally_of}
@@ -59,6 +60,11 @@ pub record TellsFirst (m : Map) (reject : List ℕ) (first : FirstWrong) : Type 
   pub sight : IsAnswerFor m Full first.pair (answer_of first.by)
   pub ray : (ray : Ray) → first.by ≡ shown.Ray ray → IsSound m → IsSightRay m ray first.pair.a first.pair.b
 
+-- Where no pair is named, none that is set sees.
+abbrev pub TellsFirstOf : Map → List ℕ → Option FirstWrong → Type 0
+TellsFirstOf m reject (Some first) = TellsFirst m reject first
+TellsFirstOf m reject None = IsBlindWhereSet m reject
+
 -- So many of its bits are wrong, and so many are missing; where none is wrong, none that is set sees. Bytes behind those of a table of the
 -- map's sectors aren't looked at.
 pub record TellsBits (m : Map) (reject : List ℕ) (findings : Findings) : Type 0 where
@@ -67,7 +73,7 @@ pub record TellsBits (m : Map) (reject : List ℕ) (findings : Findings) : Type 
   pub wrong : IsCountOf m.sectors (IsWrong m reject) findings.wrong
   pub missing : IsCountOf m.sectors (IsMissing m reject) findings.missing
   pub blind : findings.wrong ≡ 0 → IsBlindWhereSet m reject
-  pub first : IfSome findings.first (TellsFirst m reject)
+  pub first : TellsFirstOf m reject findings.first
 
 -- Of a map that was read: its REJECT is short, or its bits are counted, or a face isn't closed and it isn't judged. Of one that wasn't it
 -- tells why.

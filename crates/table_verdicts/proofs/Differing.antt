@@ -18,7 +18,8 @@ use Rattle.map_answers.specs.declared.sight_status.status.Status.TheVariants as 
 use Rattle.map_answers.specs.Sound.{IsAuditRefusal}
 use Rattle.whole_wad.specs.declared.building.Built.{Built}
 use Rattle.whole_wad.specs.Built.{IsBuiltOf}
-use Rattle.table_verdicts.specs.Own.{IsAtFront, table_len}
+use Rattle.whole_wad.specs.Rejects.{table_len}
+use Rattle.table_verdicts.specs.Own.{IsAtFront}
 use Rattle.table_verdicts.specs.Verdict.{IsMissing, IsVerdictOrMemory, IsWrong, Judges}
 
 module _ (m : Map) (reject : List ℕ) (own : TableParts) (built : Built) (front : IsAtFront m.sectors reject own) (is : IsBuiltOf m method.Exact built) where

@@ -19,7 +19,8 @@ use Rattle.table_verdicts.specs.declared.verdict.Shown.{Shown}
 use Rattle.table_verdicts.specs.declared.verdict.Shown.TheVariants as shown
 use Rattle.table_verdicts.specs.declared.verdict.Verdict.{Verdict}
 use Rattle.table_verdicts.specs.declared.verdict.Verdict.TheVariants as verdict
-use Rattle.table_verdicts.specs.Own.{IsShort, table_len}
+use Rattle.whole_wad.specs.Rejects.{table_len}
+use Rattle.table_verdicts.specs.Own.{IsShort}
 
 -- its bit is set, though the two sectors see each other
 abbrev pub IsWrong : Map → List ℕ → ℕ → ℕ → Type 0

@@ -6,7 +6,7 @@ use Rattle.wad_dir.specs.Wad.{WadFile}
 use Rattle.map_answers.specs.Input.{map_named}
 use Rattle.table_verdicts.specs.declared.verdict.MapVerdict.{MapVerdict}
 use Rattle.table_verdicts.specs.declared.verifying.WadVerdict.{WadVerdict}
-use Rattle.table_verdicts.specs.Own.{reject_named}
+use Rattle.whole_wad.specs.Rejects.{reject_named}
 use Rattle.table_verdicts.specs.Report.{report_of}
 use Rattle.table_verdicts.specs.Tallies.{tally_of}
 use Rattle.table_verdicts.specs.Verdict.{IsVerdictOn}

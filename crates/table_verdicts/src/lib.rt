@@ -10,7 +10,6 @@ mod tally;
 mod verdict;
 mod verifying;
 
-pub use own::reject_at;
 pub use tally::{Tally, all_right, line_of};
 pub use verdict::{Findings, FirstWrong, MapVerdict, Shown, Verdict};
 pub use verifying::{WadVerdict, verify_wad};

@@ -5,12 +5,11 @@ ghost use Rattle.wad_dir.specs.Map.{entry_names};
 ghost use Rattle.wad_dir.specs.Wad.{file_of, names_of};
 ghost use Rattle.wad_dir.specs.AllMaps.Maps.{is_map_name};
 ghost use Rattle.map_answers.specs.Input.{map_named};
-ghost use Rattle.table_verdicts.specs.Own.{reject_named};
+ghost use Rattle.whole_wad.specs.Rejects.{reject_named};
 ghost use Rattle.table_verdicts.specs.Verdict.{IsVerdictOrMemory};
 ghost use Rattle.table_verdicts.specs.Verdicts.{SaysOf};
 
 use crate::judging::verdict_of;
-use crate::own::reject_named;
 use crate::verdict::{MapVerdict, Verdict};
 use group_job::sight_workers::Gate;
 use map_answers::plan_named;
@@ -20,6 +19,7 @@ use std::alloc::Global;
 use std::thread::Threads;
 use wad_dir::Wad;
 use wad_dir::all_maps::text_of;
+use whole_wad::reject_named;
 
 /// What is said of the REJECT of the map of that name, or the first check that fails.
 fn verdict_named<R: Threads + Sync, G: Gate + Sync>(

@@ -1,16 +1,12 @@
 //! The REJECT that a map has in its WAD, as a table.
 
-ghost use Rattle.std.specs.Prelude.{◌≡◌, ◌+◌, ◌≤◌, ◌<◌, IfOk, length, All};
-ghost use Rattle.std.specs.Option.{ForSome};
-ghost use Rattle.wad_dir.specs.Map.{entry_names};
-ghost use Rattle.wad_dir.specs.Wad.{file_of, names_of};
-ghost use Rattle.table_verdicts.specs.Own.{IsAtFront, IsOwn, reject_at, reject_named, table_len};
+ghost use Rattle.std.specs.Prelude.{◌≡◌, ◌≤◌, IfOk, length};
+ghost use Rattle.whole_wad.specs.Rejects.{table_len};
+ghost use Rattle.table_verdicts.specs.Own.{IsAtFront, IsOwn};
 
-use map_answers::lump_of;
 use reject_bits::Table;
 use sight_names::{Memory, TableFault};
 use std::alloc::Global;
-use wad_dir::{Wad, find_map};
 
 /// The table that a REJECT holds.
 #[derive(Drop)]
@@ -18,31 +14,6 @@ pub enum OwnTable {
     Whole(Table),
     /// It has fewer bytes than a table of so many sectors.
     Short { found: u64, expected: u64 },
-}
-
-/// The bytes of this lump, none where there is none.
-pub fn reject_at<'a>(bytes: &'a [u8], wad: &Wad, reject: Option<u32>) -> &'a [u8]
-    requires inside { All (λ entry. entry.at + entry.size ≤ length bytes.now) wad.now.entries }
-    requires place { ForSome reject (λ k. k < length wad.now.entries) }
-    ensures { result.now ≡ reject_at (file_of bytes.now wad.now) reject }
-{
-    match reject {
-        Some(k) => lump_of(bytes, wad, k),
-        None => &[],
-    }
-}
-
-/// The bytes of the REJECT of the map of that name, none where it has none.
-#[tactic(auto, unfolding(crate::specs::Own::reject_named))]
-pub fn reject_named<'a>(bytes: &'a [u8], wad: &Wad, name: &str) -> &'a [u8]
-    requires inside { All (λ entry. entry.at + entry.size ≤ length bytes.now) wad.now.entries }
-    requires names { names_of (file_of bytes.now wad.now) ≡ entry_names wad.now.entries }
-    ensures { result.now ≡ reject_named (file_of bytes.now wad.now) name.now }
-{
-    match find_map(wad, name) {
-        Ok(spot) => reject_at(bytes, wad, spot.reject),
-        Err(_) => &[],
-    }
 }
 
 /// The table at the front of bytes that are more than it has. The game reads no others.

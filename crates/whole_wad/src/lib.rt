@@ -11,7 +11,7 @@ mod tables;
 mod whole;
 
 pub use building::{Built, build, has_sizes_of_map};
-pub use fate::Fate;
+pub use fate::{Fate, reject_named};
 pub use laws::{builds_have_one_table, outcomes_are_one};
 pub use notice::{NoNotice, Notice};
 pub use outcomes::MapOutcome;
