@@ -167,7 +167,7 @@ fn is_beside<R: Files + AllocGlobal>(rt: &R, text: &[u8], step: &str) -> io::Res
 }
 
 // Takes a step; answers whether it came out as it has to.
-fn is_right<R: Files + AllocGlobal>(
+fn is_right<R: Files + Print + AllocGlobal>(
     rt: &R,
     alloc: Global,
     shelf: &mut DiskShelf<R>,

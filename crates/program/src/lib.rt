@@ -15,10 +15,10 @@ mod words;
 
 use answers::{answer, question_in};
 use map_answers::sight_status::put_refusal;
-use order_words::{Order, Source, read_words};
+use order_words::{Order, Source, Text, read_words};
 use progress::{Progress, refuses_size};
 use runs::run_words;
-use shelf_io::{DiskShelf, Sink, StdSink};
+use shelf_io::{DiskShelf, Sink, StdSink, is_standard_output};
 use sight_run::{Status, code};
 use std::alloc::{AllocError, Global};
 use std::env::Env;
@@ -54,9 +54,38 @@ fn source_of(order: &Order) -> Option<&Source> {
     }
 }
 
+fn is_given_standard_output(file: &Option<Text>) -> bool {
+    match file {
+        Some(file) => is_standard_output(file.as_str()),
+        None => false,
+    }
+}
+
+/// Whether some file that the order writes is the standard output.
+fn writes_to_standard_output(order: &Order) -> bool {
+    match order {
+        Order::Zero { out, .. } | Order::Draw { out, .. } => is_standard_output(out.as_str()),
+        Order::Verify { report, .. } => is_given_standard_output(report),
+        Order::Build {
+            out,
+            cert,
+            report,
+            ..
+        } => {
+            is_standard_output(out.as_str())
+                || is_given_standard_output(cert)
+                || is_given_standard_output(report)
+        }
+        Order::All { out, report, .. } => {
+            is_standard_output(out.as_str()) || is_given_standard_output(report)
+        }
+        _ => false,
+    }
+}
+
 /// Does what the words ask of the files of the machine. Where a limit of a map's size refused it, standard error names the option of
 /// the larger ones, unless it was given.
-fn obey<R: Files + Threads + Sync + AllocGlobal, O: Sink, P: Print>(
+fn obey<R: Files + Print + Threads + Sync + AllocGlobal, O: Sink, P: Print>(
     rt: &R,
     alloc: Global,
     words: &[String],
@@ -75,6 +104,9 @@ fn obey<R: Files + Threads + Sync + AllocGlobal, O: Sink, P: Print>(
         Err(memory) => Status::Memory(memory),
     };
     shelf.discard();
+    if let (true, Some(refusal)) = (is_of_file(&status), shelf.last_refusal()) {
+        progress.name_refusal(&refusal.name, &refusal.error);
+    }
     if is_all && status == Status::Done {
         progress.end();
     }
@@ -82,6 +114,22 @@ fn obey<R: Files + Threads + Sync + AllocGlobal, O: Sink, P: Print>(
         progress.name_larger_limits();
     }
     status
+}
+
+/// Whether the status is of a file that isn't there or that the system refused.
+fn is_of_file(status: &Status) -> bool {
+    matches!(
+        status,
+        Status::NoFile(_) | Status::ReadFault(_) | Status::WriteFault(_)
+    )
+}
+
+/// Whether a file that the words name for writing is the standard output. Its line goes to standard error then.
+fn has_standard_output(alloc: Global, words: &[String]) -> bool {
+    match read_words(alloc, words) {
+        Ok(order) => writes_to_standard_output(&order),
+        Err(_) => false,
+    }
 }
 
 /// Does what the words ask of the program itself or of files, and gives the exit code. It says the same as what is said of wrong
@@ -96,7 +144,11 @@ pub fn run_order<R: Files + Print + Threads + Sync + AllocGlobal, E: Print + IsT
         return exit_code(&answer(&mut out, &question));
     }
     let progress = Progress::new(err, err.is_terminal());
-    let status = obey(rt, rt.alloc(), words, &mut out, &progress);
+    let status = if has_standard_output(rt.alloc(), words) {
+        obey(rt, rt.alloc(), words, &mut StdSink::new(err), &progress)
+    } else {
+        obey(rt, rt.alloc(), words, &mut out, &progress)
+    };
     if status == Status::Usage {
         print_diagnosis(err, words);
     }

@@ -3,6 +3,7 @@
 use crate::usage::print_larger_limits;
 use sight_run::{Bound, Fate, Notice, Status};
 use std::cell::Cell;
+use std::io;
 
 /// Shows which maps are done, where a terminal shows it, and always which ones are refused, aren't read or aren't there. What can't
 /// be shown changes nothing.
@@ -49,6 +50,11 @@ impl<P: Print> Progress<P> {
     /// Whether it was told of a map that a limit of its size refuses.
     pub fn has_refused_size(&self) -> bool {
         self.has_refused_size.get()
+    }
+
+    /// Names a file that the system refused, with the system's words.
+    pub fn name_refusal(&self, name: &str, error: &io::Error) {
+        let _ = println!(self.to; "{name}: {error}");
     }
 
     /// Names the option of the larger limits.

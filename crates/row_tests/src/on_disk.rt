@@ -75,7 +75,7 @@ fn are_alike<R: Files + AllocGlobal>(rt: &R, shelf: &MemShelf) -> io::Result<boo
 }
 
 // Whether the words end with the row's code over real files, and over files in memory too.
-fn has_code<R: Files + Threads + Sync + AllocGlobal>(
+fn has_code<R: Files + Print + Threads + Sync + AllocGlobal>(
     rt: &R,
     alloc: Global,
     row: &str,
@@ -90,7 +90,7 @@ fn has_code<R: Files + Threads + Sync + AllocGlobal>(
 }
 
 // Whether a row's run over real files leaves what the same over files in memory does.
-fn is_right<R: Files + Threads + Sync + AllocGlobal>(
+fn is_right<R: Files + Print + Threads + Sync + AllocGlobal>(
     rt: &R,
     alloc: Global,
     row: &str,

@@ -17,7 +17,8 @@ use std::{fs, io};
 
 /// The files of the machine. What is created is written to a new file beside its place, which takes the place when it is
 /// settled: the name then has the whole new file, and up to then the old one. Links to the place stay. A device, a
-/// pipe, or an open file by the system's own name for it is written as it stands.
+/// pipe, or an open file by the system's own name for it is written as it stands. What is created under `-` or under
+/// `/dev/stdout` goes to the standard output, behind what was put there.
 ///
 /// The folder of what is created has to be writable. A name of a new file is `.NAME.doomsight-K`; where the program is
 /// killed one may be left. Names are kept in memory: where there is none for them, the call ends by its fault of reading
@@ -27,9 +28,17 @@ pub struct DiskShelf<R: Files> {
     rt: R,
     begun: Vec<Begun<R::File>>,
     reading: Option<Reading<R::File>>,
+    refusal: Option<DiskRefusal>,
     read_faults: u64,
     write_faults: u64,
     absents: u64,
+}
+
+/// A file that the system refused to read or to write, and why.
+#[derive(Drop)]
+pub struct DiskRefusal {
+    pub name: String,
+    pub error: io::Error,
 }
 
 // The file that was read last, and up to where.
@@ -40,7 +49,20 @@ struct Reading<F: Drop> {
     at: u64,
 }
 
-impl<R: Files + AllocGlobal> DiskShelf<R> {
+/// Whether what is written under a name goes to the standard output.
+pub fn is_standard_output(name: &str) -> bool {
+    name == "-" || name == "/dev/stdout"
+}
+
+// A file that is opened under the name of the standard output would have a place of its own in a log that is written there,
+// and cut off or write over what the log holds.
+fn print<R: Print>(rt: &R, bytes: &[u8]) -> io::Result<()> {
+    let mut out = io::writer(rt);
+    out.write_all(bytes)?;
+    out.flush()
+}
+
+impl<R: Files + Print + AllocGlobal> DiskShelf<R> {
     /// The files of this runtime, with nothing counted.
     pub fn new(rt: R) -> DiskShelf<R>
         ensures { ⟦<DiskShelf<R> as Shelf>⟧.state result ≡ record { files = None; begun = []; read_faults = 0; write_faults = 0; absents = 0 } }
@@ -50,6 +72,7 @@ impl<R: Files + AllocGlobal> DiskShelf<R> {
             rt,
             begun,
             reading: None,
+            refusal: None,
             read_faults: 0,
             write_faults: 0,
             absents: 0,
@@ -61,6 +84,18 @@ impl<R: Files + AllocGlobal> DiskShelf<R> {
         ensures { ⟦<DiskShelf<R> as Shelf>⟧.state self.new ≡ record (⟦<DiskShelf<R> as Shelf>⟧.state self.old) { begun = [] } }
     {
         discard(&self.rt, &mut self.begun);
+    }
+
+    /// The last refusal of a file by its name; none too where there was no memory for its name.
+    pub fn last_refusal(&self) -> &Option<DiskRefusal> {
+        &self.refusal
+    }
+}
+
+fn refusal_of(alloc: Global, name: &str, error: io::Error) -> Option<DiskRefusal> {
+    match String::from_str(alloc, name) {
+        Ok(name) => Some(DiskRefusal { name, error }),
+        Err(_) => None,
     }
 }
 
@@ -125,20 +160,27 @@ fn read_any<R: Files + AllocGlobal>(
     }
 }
 
-// What a call that writes answers, with its fault counted.
-fn counted(faults: &mut u64, written: io::Result<()>) -> Result<(), Failed>
+// What a call that writes under the name answers, with its fault counted and kept.
+fn counted(
+    alloc: Global,
+    faults: &mut u64,
+    refusal: &mut Option<DiskRefusal>,
+    name: &str,
+    written: io::Result<()>,
+) -> Result<(), Failed>
     ensures counts { faults.old ≤ faults.new }
     ensures quiet { OnOk result (faults.new ≡ faults.old) }
     ensures cause { OnErr result (Rose faults.old faults.new) }
 {
-    if written.is_err() {
-        *faults = faults.saturating_add(1);
-        return Err(Failed);
-    }
-    Ok(())
+    let Err(error) = written else {
+        return Ok(());
+    };
+    *faults = faults.saturating_add(1);
+    *refusal = refusal_of(alloc, name, error);
+    Err(Failed)
 }
 
-impl<R: Files + AllocGlobal> Shelf for DiskShelf<R> {
+impl<R: Files + Print + AllocGlobal> Shelf for DiskShelf<R> {
     ghost use Rattle.std.specs.Prelude.{None, map, string_bytes};
     ghost use Rattle.shelf_io.specs.Shelf.{ShelfState};
 
@@ -147,11 +189,12 @@ impl<R: Files + AllocGlobal> Shelf for DiskShelf<R> {
     fn read(&mut self, name: &str, at: u64, buf: &mut [u8]) -> Result<usize, ShelfFault> {
         match read_any(&self.rt, &mut self.begun, &mut self.reading, name, at, buf) {
             Ok(taken) => Ok(taken),
-            Err(e) if e.kind() == ErrorKind::NotFound => {
-                self.absents = self.absents.saturating_add(1);
-                Err(ShelfFault::Absent)
-            }
-            Err(_) => {
+            Err(error) => {
+                self.refusal = refusal_of(self.rt.alloc(), name, error);
+                if error.kind() == ErrorKind::NotFound {
+                    self.absents = self.absents.saturating_add(1);
+                    return Err(ShelfFault::Absent);
+                }
                 self.read_faults = self.read_faults.saturating_add(1);
                 Err(ShelfFault::Failed)
             }
@@ -160,27 +203,56 @@ impl<R: Files + AllocGlobal> Shelf for DiskShelf<R> {
 
     fn create(&mut self, name: &str) -> Result<(), Failed> {
         self.reading = None;
+        if is_standard_output(name) {
+            return Ok(());
+        }
         let begun = begin(&self.rt, &mut self.begun, name);
-        counted(&mut self.write_faults, begun)
+        counted(
+            self.rt.alloc(),
+            &mut self.write_faults,
+            &mut self.refusal,
+            name,
+            begun,
+        )
     }
 
     fn append(&mut self, name: &str, bytes: &[u8]) -> Result<(), Failed> {
-        let added = append(&self.rt, &mut self.begun, name, bytes);
-        counted(&mut self.write_faults, added)
+        let added = if is_standard_output(name) {
+            print(&self.rt, bytes)
+        } else {
+            append(&self.rt, &mut self.begun, name, bytes)
+        };
+        counted(
+            self.rt.alloc(),
+            &mut self.write_faults,
+            &mut self.refusal,
+            name,
+            added,
+        )
     }
 
     fn settle(&mut self, name: &str) -> Result<(), Failed> {
         self.reading = None;
         let settled = settle(&self.rt, &mut self.begun, name);
-        counted(&mut self.write_faults, settled)
+        counted(
+            self.rt.alloc(),
+            &mut self.write_faults,
+            &mut self.refusal,
+            name,
+            settled,
+        )
     }
 
     fn is_one_file(&mut self, one: &str, other: &str) -> Result<bool, SameFault> {
+        if is_standard_output(one) && is_standard_output(other) {
+            return Ok(true);
+        }
         match names_one_file(&self.rt, one, other) {
             Ok(is_one) => Ok(is_one),
             Err(error) => match memory_in(&error) {
                 Some(memory) => Err(SameFault::Memory(memory)),
                 None => {
+                    self.refusal = refusal_of(self.rt.alloc(), other, error);
                     self.read_faults = self.read_faults.saturating_add(1);
                     Err(SameFault::Failed)
                 }

@@ -10,7 +10,7 @@ mod refused;
 mod shelf;
 mod transfer;
 
-pub use disk::{DiskShelf, StdSink};
+pub use disk::{DiskRefusal, DiskShelf, StdSink, is_standard_output};
 pub use memory::{Fails, File, MemShelf, MemSink};
 pub use refused::memory_in;
 pub use shelf::{SameFault, Shelf, Sink};
