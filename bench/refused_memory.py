@@ -119,6 +119,7 @@ ORDERS = [
     ("check built.wad MAP01 u.cert", []),
     ("verify built.wad --report report --workers 3", ["report"]),
     ("verify u.wad --report report --workers 1", ["report"]),
+    ("maps built.wad --report report", ["report"]),
     ("check row.wad MAP01 row.cert", []),
     ("check built.wad MAP01 behind.cert", []),
     ("audit u.wad MAP01", []),
@@ -151,6 +152,7 @@ ONE_FILE = [
     ("all a.wad out.wad --report ./a.wad --workers 1", ["out.wad"]),
     ("all a.wad out.wad --report ./out.wad --workers 1", ["out.wad"]),
     ("verify a.wad --report ./a.wad --workers 1", []),
+    ("maps a.wad --report ./a.wad", []),
 ]
 
 # Orders in which an output has the name that the new file of another one would have first, and what comes of them.

@@ -10,7 +10,7 @@ _doomsight() {
         words="keep clear stop"
     elif [[ $now == -* ]]; then
         words="$("$program" "$verb" --help 2>/dev/null | sed -n 's/^  \(--[a-z]*\) .*/\1/p') --help"
-    elif [ "$before" = --only ] || { [ "$COMP_CWORD" = 3 ] && [ "$verb" != all ] && [ "$verb" != verify ]; }; then
+    elif [ "$before" = --only ] || { [ "$COMP_CWORD" = 3 ] && [ "$verb" != all ] && [ "$verb" != verify ] && [ "$verb" != maps ]; }; then
         words=$(grep -aoE 'MAP[0-9][0-9]|E[0-9]M[0-9]' -- "${COMP_WORDS[2]}" 2>/dev/null | sort -u)
     fi
     mapfile -t COMPREPLY < <(compgen -W "$words" -- "$now")

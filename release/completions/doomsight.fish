@@ -25,6 +25,6 @@ complete --command doomsight --no-files --condition '__doomsight_at 1' --argumen
 complete --command doomsight --no-files --condition '__doomsight_at --budget' --arguments 'full enough'
 complete --command doomsight --no-files --condition '__doomsight_at --refused' --arguments 'keep clear stop'
 complete --command doomsight --no-files --condition '__doomsight_at --only' --arguments '(__doomsight_maps)'
-complete --command doomsight --condition '__doomsight_at 3; and not __fish_seen_subcommand_from all verify' --arguments '(__doomsight_maps)'
+complete --command doomsight --condition '__doomsight_at 3; and not __fish_seen_subcommand_from all verify maps' --arguments '(__doomsight_maps)'
 complete --command doomsight --condition 'not __doomsight_at 1; and string match --quiet -- "-*" (commandline --current-token)' \
     --arguments '(__doomsight_options)'

@@ -14,7 +14,7 @@ use Rattle.order_words.specs.declared.words.BuildChoices.{BuildChoices}
 use Rattle.order_words.specs.Values.{◌>>=◌, is_file, is_map, upper, ray_of, pair_of, sector_of, rooms_of}
 use Rattle.order_words.specs.Command.{refusals_of, rows_in}
 use Rattle.order_words.specs.Laws.{AsksWithoutBound, GivesNoBudget, bound_of}
-use Rattle.order_words.specs.Words.{is_drawing, whole_view, Said, said_with, is_given, is_plain, has_bound_alone, given_bound, given_method, given_workers, source_of, zero_of, ray_order_of, audit_of, trace_of, check_of, need_of, sound_with, sound_of, why_within, why_of, view_of, draw_with, choices_of, build_of, all_order_of, may_be_one, verify_with, grid_of, plain_order_of, order_said, order_in_rows, unless_refused, order_of}
+use Rattle.order_words.specs.Words.{is_drawing, whole_view, Said, said_with, is_given, is_plain, has_bound_alone, given_bound, given_method, given_workers, source_of, zero_of, ray_order_of, audit_of, trace_of, check_of, need_of, sound_with, sound_of, why_within, why_of, view_of, draw_with, choices_of, build_of, all_order_of, may_be_one, verify_with, given_file, given_names, has_names_alone, maps_with, maps_of, grid_of, plain_order_of, order_said, order_in_rows, unless_refused, order_of}
 
 -- what comes of a choice, of a value that is taken on, and of one that is turned into another
 if_some : {A : Type 0} (P : A → Type 0) (b : Bool) (x y : Option A) → IfSome x P → IfSome y P → IfSome (if b then x else y) P
@@ -93,6 +93,10 @@ verify_asks : (large : Bool) (rest : List Text) (c : BuildChoices) → IfSome (v
 verify_asks large (wad ∷ []) c = if_some Unbounded (is_none c.cert && is_none c.refused && is_file wad) _ _ tt tt
 verify_asks large rest c = tt
 
+maps_ask : (large : Bool) (rest : List Text) (only : Option (List Text)) (report : Option Text) → IfSome (maps_with large rest only report) Unbounded
+maps_ask large (wad ∷ []) only report = if_some Unbounded (is_file wad) _ _ tt tt
+maps_ask large rest only report = tt
+
 grid_asks : (s : Said) (rest : List Text) → IfSome (grid_of s rest) Unbounded
 grid_asks s (word ∷ []) =
     if_some Unbounded (is_some s.cert || is_some s.report || is_some s.only || is_some s.refused || is_given s.large || is_drawing s) _ _ tt
@@ -141,7 +145,9 @@ said_asks s none =
     (if_some Unbounded (bytes_eq s.verb (codes "all")) _ _ (then_some Unbounded (choices_of s) _ (all_asks (is_given s.large) s.rest))
     (if_some Unbounded (bytes_eq s.verb (codes "why")) _ _ (two_ask s none)
     (if_some Unbounded (bytes_eq s.verb (codes "verify")) _ _ (if_some Unbounded (is_none s.budget && not (is_given s.exact)) _ _ (then_some Unbounded (choices_of s) _ (verify_asks (is_given s.large) s.rest)) tt)
-    (if_some Unbounded (is_plain s) _ _ (plain_asks s) tt))))))))
+    (if_some Unbounded (bytes_eq s.verb (codes "maps")) _ _
+    (if_some Unbounded (not (has_names_alone s)) _ _ tt (then_some Unbounded (given_file s.report) _ (λ report. then_some Unbounded (given_names s.only) _ (λ only. maps_ask (is_given s.large) s.rest only report))))
+    (if_some Unbounded (is_plain s) _ _ (plain_asks s) tt)))))))))
 
 rows_ask : (rows : List Row) → first_of (codes "budget") rows ≡ None → IfSome (order_in_rows rows) Unbounded
 unfolding order_in_rows

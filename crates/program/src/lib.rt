@@ -49,7 +49,8 @@ fn source_of(order: &Order) -> Option<&Source> {
         | Order::Sound { wad, .. }
         | Order::Why { wad, .. }
         | Order::Draw { wad, .. }
-        | Order::All { wad, .. } => Some(wad),
+        | Order::All { wad, .. }
+        | Order::Maps { wad, .. } => Some(wad),
         Order::Grid { .. } => None,
     }
 }
@@ -95,7 +96,10 @@ fn obey<R: Files + Print + Threads + Sync + AllocGlobal, O: Sink, P: Print>(
     let mut is_all = false;
     let mut may_be_large = false;
     if let Ok(order) = read_words(alloc, words) {
-        is_all = matches!(&order, Order::All { .. } | Order::Verify { .. });
+        is_all = matches!(
+            &order,
+            Order::All { .. } | Order::Verify { .. } | Order::Maps { .. }
+        );
         may_be_large = source_of(&order).is_some_and(|wad| !wad.large);
     }
     let mut shelf = DiskShelf::new(rt);

@@ -181,7 +181,7 @@ impl Verb {
 }
 
 /// All verbs.
-pub static VERBS: [Verb; 13] = [
+pub static VERBS: [Verb; 14] = [
     Verb {
         name: "all",
         places: &[Place::Wad, Place::Out],
@@ -228,6 +228,14 @@ pub static VERBS: [Verb; 13] = [
         choices: &[Choice::Only, Choice::Report, Choice::Workers, Choice::Large],
         purpose: "says how the tables of a WAD differ from the right ones",
         about: "Decides every pair of sectors of each map of the WAD, or of those that are\nnamed, and says how many bits of its own REJECT are wrong, so that monsters are\nblind, and how many are missing. Writes nothing but the report.",
+    },
+    Verb {
+        name: "maps",
+        places: &[Place::Wad],
+        spare: &[],
+        choices: &[Choice::Only, Choice::Report, Choice::Large],
+        purpose: "lists the maps of a WAD, and what their tables hold",
+        about: "Lists the maps of the WAD, or those that are named: of each its format, how many\nlines, points and sectors it has, how many bytes its REJECT has of those that it\nhas to have, and how many bits of it are set. Writes nothing but the report.",
     },
     Verb {
         name: "audit",

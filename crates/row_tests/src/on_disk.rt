@@ -21,6 +21,8 @@ U | build a.tmp MAP01 b.tmp --exact --report r.tmp --cert c.tmp --workers 1 | 0
 PAIR U .6 - +6:MAP02 | all a.tmp b.tmp --report r.tmp --workers 1 | 0
 U =4600 | verify a.tmp --report r.tmp --workers 1 | 1
 U | verify a.tmp --report ./a.tmp | 11
+U =4400 | maps a.tmp --report r.tmp | 0
+U | maps a.tmp --report ./a.tmp | 11
 U | draw a.tmp MAP01 p.tmp | 0
 U =4400 | draw a.tmp MAP01 p.tmp 0 | 0
 OPEN | build a.tmp MAP01 b.tmp --cert c.tmp --report r.tmp | 10

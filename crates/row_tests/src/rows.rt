@@ -661,6 +661,64 @@ a=U | verify a --only MAP01, | 2 | refused: usage | a=U, b=, c=
 a=U | verify a --report a | 11 | refused: same name | a=U
 ";
 
+/// The order `maps`: what it lists of each map, what it counts, and what it refuses.
+const MAPS: &str = "\
+# how many bits are set, those of the pairs alone; a REJECT of another length
+a=U =4400 | maps a --report r | 0 | maps 1 whole 1 short 0 refused 0 udmf 0 | a=U =4400, r=#4d4150303120646f6f6d206c696e657320313220706f696e747320313020736563746f727320332072656a6563742032206f6620322073657420320a
+a=U =0000 | maps a --report r | 0 | maps 1 whole 1 short 0 refused 0 udmf 0 | a=U =0000, r=#4d4150303120646f6f6d206c696e657320313220706f696e747320313020736563746f727320332072656a6563742032206f6620322073657420300a
+a=U =40fe | maps a --report r | 0 | maps 1 whole 1 short 0 refused 0 udmf 0 | a=U =40fe, r=#4d4150303120646f6f6d206c696e657320313220706f696e747320313020736563746f727320332072656a6563742032206f6620322073657420310a
+a=U =ffff | maps a --report r | 0 | maps 1 whole 1 short 0 refused 0 udmf 0 | a=U =ffff, r=#4d4150303120646f6f6d206c696e657320313220706f696e747320313020736563746f727320332072656a6563742032206f6620322073657420390a
+a=U =4400ff | maps a --report r | 0 | maps 1 whole 1 short 0 refused 0 udmf 0 | a=U =4400ff, r=#4d4150303120646f6f6d206c696e657320313220706f696e747320313020736563746f727320332072656a6563742033206f6620322073657420320a
+a=U =44 | maps a --report r | 0 | maps 1 whole 0 short 1 refused 0 udmf 0 | a=U =44, r=#4d4150303120646f6f6d206c696e657320313220706f696e747320313020736563746f727320332072656a6563742031206f6620320a
+a=U = | maps a --report r | 0 | maps 1 whole 0 short 1 refused 0 udmf 0 | a=U =, r=#4d4150303120646f6f6d206c696e657320313220706f696e747320313020736563746f727320332072656a6563742030206f6620320a
+a=U - | maps a --report r | 0 | maps 1 whole 0 short 1 refused 0 udmf 0 | a=U -, r=#4d4150303120646f6f6d206c696e657320313220706f696e747320313020736563746f727320332072656a6563742030206f6620320a
+a=U =4400 | maps a | 0 | maps 1 whole 1 short 0 refused 0 udmf 0 | a=U =4400, r=
+# records that are passed over aren't counted, sectors that no side names are; nothing is audited
+a=FLAT =01 | maps a --report r | 0 | maps 1 whole 1 short 0 refused 0 udmf 0 | r=#4d4150303120646f6f6d206c696e6573203420706f696e7473203420736563746f727320312072656a6563742031206f6620312073657420310a
+a=LONE =08 | maps a --report r | 0 | maps 1 whole 1 short 0 refused 0 udmf 0 | r=#4d4150303120646f6f6d206c696e6573203420706f696e7473203420736563746f727320322072656a6563742031206f6620312073657420310a
+a=OPEN =de | maps a --report r | 0 | maps 1 whole 1 short 0 refused 0 udmf 0 | r=#4d4150303120646f6f6d206c696e6573203320706f696e7473203420736563746f727320312072656a6563742031206f6620312073657420300a
+# maps that can't be read, the larger limits
+a=SQUARE @14:1:09 | maps a --report r | 0 | maps 1 whole 0 short 0 refused 1 udmf 0 | r=#4d41503031207265667573656420626164206c756d703a20766572746578206f66206c696e6520300a
+a=SQUARE .1 *229390 | maps a --report r | 0 | maps 1 whole 0 short 0 refused 1 udmf 0 | r=#4d415030312072656675736564206c696d69743a206c696e65730a
+a=SQUARE =00 .4 *106522 | maps a --report r | 0 | maps 1 whole 0 short 0 refused 1 udmf 0 | r=#4d415030312072656675736564206c696d69743a20736563746f72730a
+a=SQUARE =00 .4 *106522 | maps a --large --report r | 0 | maps 1 whole 0 short 1 refused 0 udmf 0 | r=#4d4150303120646f6f6d206c696e6573203420706f696e7473203420736563746f727320343039372072656a6563742031206f6620323039383137370a
+# three maps, some of them, no map, one of UDMF behind those that are read, one of Hexen's format
+a=PAIR =00 U =4600 .6 - +6:MAP02 OPEN =de .12 - +12:MAP03 | maps a --report r | 0 | maps 3 whole 3 short 0 refused 0 udmf 0 | a=PAIR =00 U =4600 .6 - +6:MAP02 OPEN =de .12 - +12:MAP03, r=#4d4150303120646f6f6d206c696e6573203720706f696e7473203620736563746f727320322072656a6563742031206f6620312073657420300a4d4150303220646f6f6d206c696e657320313220706f696e747320313020736563746f727320332072656a6563742032206f6620322073657420330a4d4150303320646f6f6d206c696e6573203320706f696e7473203420736563746f727320312072656a6563742031206f6620312073657420300a
+a=PAIR =00 U =4600 .6 - +6:MAP02 OPEN =de .12 - +12:MAP03 | maps a --only map03,MAP01 --report r | 0 | maps 2 whole 2 short 0 refused 0 udmf 0 | a=PAIR =00 U =4600 .6 - +6:MAP02 OPEN =de .12 - +12:MAP03, r=#4d4150303120646f6f6d206c696e6573203720706f696e7473203620736563746f727320322072656a6563742031206f6620312073657420300a4d4150303320646f6f6d206c696e6573203320706f696e7473203420736563746f727320312072656a6563742031206f6620312073657420300a
+a=PAIR =00 U =4600 .6 - +6:MAP02 OPEN =de .12 - +12:MAP03 | maps --only=MAP02 a --large | 0 | maps 1 whole 1 short 0 refused 0 udmf 0 | a=PAIR =00 U =4600 .6 - +6:MAP02 OPEN =de .12 - +12:MAP03
+a=PAIR =00 U =4600 .6 - +6:MAP02 OPEN =de .12 - +12:MAP03 | maps a --only MAP01,MAP04 --report r | 7 | refused: no map: no marker | r=
+a=PAIR | maps a --only LINEDEFS,MAP04 | 7 | refused: no map: missing LINEDEFS | a=PAIR
+a=#50574144000000000c000000 | maps a --report r | 0 | maps 0 whole 0 short 0 refused 0 udmf 0 | r=#
+a=PAIR =00 +6:MAP02 +7:TEXTMAP *20 +8:ENDMAP | maps a --report r | 0 | maps 2 whole 1 short 0 refused 0 udmf 1 | r=#4d4150303120646f6f6d206c696e6573203720706f696e7473203620736563746f727320322072656a6563742031206f6620312073657420300a4d415030322075646d660a
+a=PAIR =00 +6:MAP02 +7:TEXTMAP *20 +8:ENDMAP | maps a --only MAP01 --report r | 0 | maps 1 whole 1 short 0 refused 0 udmf 0 | r=#4d4150303120646f6f6d206c696e6573203720706f696e7473203620736563746f727320322072656a6563742031206f6620312073657420300a
+a=PAIR =00 +6:MAP02 +7:TEXTMAP *20 +8:ENDMAP | maps a --only MAP02 --report r | 7 | refused: no map: missing LINEDEFS | r=
+a=PAIR =06 .1 hexen +6:BEHAVIOR | maps a --report r | 0 | maps 1 whole 1 short 0 refused 0 udmf 0 | r=#4d4150303120686578656e206c696e6573203720706f696e7473203620736563746f727320322072656a6563742031206f6620312073657420320a
+# refusals of the whole run
+a=#50574158000000000c000000 | maps a --report r | 6 | refused: not a wad: bad magic | r=
+a=#50574144010001000c000000 | maps a | 9 | refused: limit: lumps | a=#50574144010001000c000000
+b=PAIR | maps a --report r | 3 | refused: no file wad | b=PAIR, r=
+a=PAIR, reads=1 | maps a --report r | 4 | refused: read fault wad | r=
+a=U =4400, creates=0 | maps a --report r | 5 | refused: write fault report | r=
+a=U =4400, appends=0 | maps a --report r | 5 | refused: write fault report | r=#4d4150303120646f6f6d206c696e657320313220706f696e747320313020
+a=U =4400, puts=0 | maps a --report r | 5 | maps 1 whole 1 short~ | r=#4d4150303120646f6f6d206c696e657320313220706f696e747320313020736563746f727320332072656a6563742032206f6620322073657420320a
+# words and names
+a=U | maps | 2 | refused: usage | a=U, b=, c=
+a=U | maps a b | 2 | refused: usage | a=U, b=, c=
+a=U | maps a MAP01 | 2 | refused: usage | a=U, b=, c=
+a=U | maps a --exact | 2 | refused: usage | a=U, b=, c=
+a=U | maps a --budget full | 2 | refused: usage | a=U, b=, c=
+a=U | maps a --workers 4 | 2 | refused: usage | a=U, b=, c=
+a=U | maps a --refused keep | 2 | refused: usage | a=U, b=, c=
+a=U | maps a --cert c | 2 | refused: usage | a=U, b=, c=
+a=U | maps a --hexen | 2 | refused: usage | a=U, b=, c=
+a=U | maps a --faults | 2 | refused: usage | a=U, b=, c=
+a=U | maps a --heat | 2 | refused: usage | a=U, b=, c=
+a=U | maps a --only= | 2 | refused: usage | a=U, b=, c=
+a=U | maps a --only MAP01, | 2 | refused: usage | a=U, b=, c=
+a=U | maps a --report= | 2 | refused: usage | a=U, b=, c=
+a=U | maps a --report a | 11 | refused: same name | a=U
+";
+
 /// The order `need`, and a build with a budget that is enough.
 const NEED: &str = "\
 a=LINE3 | need a MAP01 | 0 | need MAP01 most 4 enough 768 | a=LINE3
@@ -677,7 +735,7 @@ a=LINE3 | build a MAP01 b --cert c --budget enough | 0 | built MAP01 sectors 3 s
 #[test]
 fn each_row_comes_out_as_it_says(rt: HostRuntime) -> Result<(), Fail> {
     for rows in [
-        ZERO, JUDGED, CHECK, BUILD, ALL, VERIFY, NEED, SOUND, WHY, DRAW,
+        ZERO, JUDGED, CHECK, BUILD, ALL, VERIFY, MAPS, NEED, SOUND, WHY, DRAW,
     ] {
         hold(&rt, rt.alloc(), rows)?;
     }

@@ -40,6 +40,8 @@ a=PAIR U .6 - +6:MAP02, b=PAIR | all a b --workers 1 | 0 | a a | b | b
 a=PAIR U .6 - +6:MAP02, b=PAIR | all a b --only MAP02 --workers 1 | 0 | a a | b | b
 a=U =4600, r=PAIR | verify a --report r --workers 1 | 1 | a a | r | r
 a=U =4400 | verify a --workers 1 | 0 | a a
+a=U =4400, r=PAIR | maps a --report r | 0 | a a | r | r
+a=U =4400 | maps a | 0 | a a
 a=SQUARE | grid 2 --workers 1 | 0
 # runs that are refused, and answers that are no
 b=PAIR | zero a MAP01 b | 3

@@ -191,6 +191,19 @@ verify a --refused keep | 3
 verify a --only MAP01, | 4
 verify a --workers 65 | 4
 --exact verify | 2
+maps | WAD
+maps a | -
+maps a --large --only MAP01,MAP02 --report r | -
+--report=r maps a | -
+maps a b | 3
+maps '' | 2
+maps a --exact | 3
+maps a --budget full | 3
+maps a --cert c | 3
+maps a --refused keep | 3
+maps a --workers 4 | 3
+maps a --only MAP01, | 4
+--exact maps | 2
 grid | N
 help | 1
 -V | 1
@@ -256,6 +269,7 @@ why --help | doomsight why WAD MAP A B [--exact | --budget N|full|enough] [--lar
 draw --help | doomsight draw WAD MAP OUT [A [B [--exact | --budget N|full|enough]] | --faults | --heat]
 help sound -V | doomsight sound WAD MAP [A B] [--large]
 verify --help | doomsight verify WAD [--only MAP,MAP] [--report FILE] [--workers N]
+help maps | doomsight maps WAD [--only MAP,MAP] [--report FILE] [--large]
 grid --help | doomsight grid N [--exact | --budget N|full|enough] [--workers N] [--hexen]
 sound -- --help | 
 -- help | 
@@ -286,6 +300,7 @@ doomsight VERB WORDS.. [OPTIONS]
   draw   draws a map, the row of a sector, or a pair of sectors
   grid   makes a map of N by N rooms, and builds and checks it
   verify says how the tables of a WAD differ from the right ones
+  maps   lists the maps of a WAD, and what their tables hold
   --only MAP,MAP          takes these maps; else all of the WAD
   --faults                draws what audit refuses, in place of A and B
   -h, --help              this help, or behind a verb that of the verb
@@ -299,6 +314,7 @@ a=U | draw a MAP01 b 0 1 | 0
 a=TOUCHED | draw a MAP01 b --faults | 0
 a=PAIR | ray a MAP01 2L,2R,0,1,-32 | 1
 a=U =4600 | verify a | 1
+a=U =4600 | maps a | 0
 a=U | audit a | 2
 a=U | audit b MAP01 | 3
 a=U, reads=0 | audit a MAP01 | 4

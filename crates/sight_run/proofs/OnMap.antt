@@ -35,6 +35,7 @@ alone_of (order.Build wad name out cert report workers method) some no_check no_
 alone_of (order.Verify wad only report workers) some no_check no_build = absurd cc
 alone_of (order.Grid n workers method hexen) some no_check no_build = absurd cc
 alone_of (order.All wad out only report workers method choice) some no_check no_build = absurd cc
+alone_of (order.Maps wad only report) some no_check no_build = absurd cc
 alone_of asked some no_check no_build = tt
 
 unreported : (asked : Order) → IsOfMapAlone asked → report_of asked ≡ None

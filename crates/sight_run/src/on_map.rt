@@ -46,7 +46,7 @@ pub fn asked_map(order: &Order) -> Option<(&Source, &str)>
         | Order::Why { wad, map, .. }
         | Order::Draw { wad, map, .. } => Some((wad, map.as_str())),
         Order::Verify { .. } => None,
-        Order::Grid { .. } | Order::All { .. } => None,
+        Order::Grid { .. } | Order::All { .. } | Order::Maps { .. } => None,
     }
 }
 

@@ -15,9 +15,9 @@ ghost use Rattle.sight_run.specs.Run.{Cause, IsOfAsked};
 ghost use Rattle.sight_run.specs.Verify.{ShowsVerify, VerifyCalls};
 
 use crate::asked::{ReadMaps, read_asked};
-use crate::reply::{Bytes, Reply, push_output};
+use crate::reply::{Reply, report_alone};
 use group_job::sight_workers::Gate;
-use map_answers::sight_status::{Role, Status};
+use map_answers::sight_status::Status;
 use order_words::{Source, Text};
 use shelf_io::Shelf;
 use sight_names::{Items, Memory};
@@ -33,21 +33,7 @@ fn reply_of(alloc: Global, report: &Option<Text>, verdict: WadVerdict) -> Result
 {
     let line = line_of(alloc, verdict.tally)?;
     let right = all_right(verdict.tally);
-    let mut outputs = Vec::new(alloc);
-    if let Some(name) = report {
-        push_output(
-            alloc,
-            &mut outputs,
-            Role::Report,
-            name.as_str(),
-            Bytes::Whole(verdict.report.into_bytes()),
-        )?;
-    }
-    Ok(Reply {
-        outputs,
-        line,
-        right,
-    })
+    report_alone(alloc, report, verdict.report, line, right)
 }
 
 /// What is said of the maps that were read.

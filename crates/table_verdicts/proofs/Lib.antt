@@ -1,3 +1,4 @@
 pub mod Shows
 pub mod Differing
 pub mod Telling
+pub mod MapList

@@ -3,3 +3,4 @@ pub mod Verdict
 pub mod Tallies
 pub mod Report
 pub mod Verdicts
+pub mod MapList

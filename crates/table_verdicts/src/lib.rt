@@ -2,6 +2,7 @@
 #![tactic(auto)]
 
 mod judging;
+pub mod map_list;
 mod map_verdict;
 mod own;
 mod report;

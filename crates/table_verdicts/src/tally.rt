@@ -22,7 +22,7 @@ pub struct Tally {
 }
 
 /// One where it is so, else none.
-fn one_if(so: bool) -> u64
+pub fn one_if(so: bool) -> u64
     ensures { result ≡ cond so 1 0 }
 {
     if so { 1 } else { 0 }

@@ -1,0 +1,4 @@
+pub mod Entry
+pub mod Lines
+pub mod Totals
+pub mod Listing

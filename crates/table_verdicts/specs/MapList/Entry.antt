@@ -1,0 +1,57 @@
+-- What is listed of a map: its format, how great it is, and what its REJECT holds.
+use Rattle.std.specs.Prelude.{ℕ, ◌+◌, ◌*◌, ◌==◌, Bool, nat_lt, List, length, map, Option, Some, None, Result, Ok, Err, if◌then◌else◌}
+use Rattle.sight_names.specs.declared.names.MapFormat.{MapFormat}
+use Rattle.sight_names.specs.declared.names.MapFormat.TheVariants.{Doom}
+use Rattle.sight_names.specs.Map.{Map}
+use Rattle.sight_names.specs.Points.{lines_of, points_of}
+use Rattle.sight_names.specs.Table.{table_bit}
+use Rattle.table_compare.specs.Counts.{pairs_by}
+use Rattle.wad_dir.specs.AllMaps.Names.{word_of}
+use Rattle.wad_dir.specs.Map.{spot_of}
+use Rattle.wad_dir.specs.Wad.{WadFile, names_of}
+use Rattle.map_answers.specs.declared.sight_status.status.Status.{Status}
+use Rattle.map_answers.specs.declared.sight_status.status.Status.TheVariants as status
+use Rattle.map_answers.specs.Input.{map_named}
+use Rattle.whole_wad.specs.Rejects.{reject_named, table_len}
+use Rattle.table_verdicts.specs.declared.map_list.entry.MapSizes.{MapSizes}
+use Rattle.table_verdicts.specs.declared.map_list.entry.Said.{Said}
+use Rattle.table_verdicts.specs.declared.map_list.entry.Said.TheVariants as said
+use Rattle.table_verdicts.specs.declared.map_list.entry.MapEntry.{MapEntry}
+
+-- the format of the map of a name, Doom's where there is none
+abbrev pub format_named : List (List ℕ) → List ℕ → MapFormat
+format_named names name = elim (spot_of names name) [ Ok spot ↦ spot.format | Err fault ↦ Doom ]
+
+-- the bit of the pair is set in the bytes
+abbrev pub is_set : ℕ → List ℕ → ℕ → ℕ → Bool
+is_set n reject a b = table_bit reject (a * n + b) == 1
+
+-- how many pairs of so many sectors have their bit set in the bytes; none are counted where these are too few for a table
+abbrev pub set_bits : ℕ → List ℕ → Option ℕ
+set_bits n reject = if nat_lt (length reject) (table_len n) then None else Some (pairs_by (is_set n reject) n)
+
+-- how great a map of this format is, and what a REJECT of these bytes has of it
+abbrev pub sizes_of : Map → MapFormat → List ℕ → MapSizes
+sizes_of m format reject = record {
+  format = format;
+  lines = length (lines_of m);
+  points = length (points_of m);
+  sectors = m.sectors;
+  found = length reject;
+  expected = table_len m.sectors;
+  set = set_bits m.sectors reject;
+}
+
+-- what is said of a map that was read, or why none was; where its name finds none, it is of UDMF
+abbrev pub said_of : Result Map Status → MapFormat → List ℕ → Said
+said_of (Ok m) format reject = said.Read (sizes_of m format reject)
+said_of (Err (status.NoMap fault)) format reject = said.Udmf
+said_of (Err refusal) format reject = said.Refused refusal
+
+-- .. of the map of a name, by the usual limits or the larger ones, and its own REJECT
+abbrev pub entry_named : WadFile → Bool → List ℕ → MapEntry
+entry_named w large name = record { name = name; said = said_of (map_named large w (word_of name)) (format_named (names_of w) (word_of name)) (reject_named w (word_of name)) }
+
+-- .. of each map of these names
+abbrev pub entries_of : WadFile → Bool → List (List ℕ) → List MapEntry
+entries_of w large names = map (entry_named w large) names

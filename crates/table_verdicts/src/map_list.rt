@@ -1,0 +1,12 @@
+//! What maps of a WAD hold: of each its format, how great it is, and what its REJECT has. No map is audited or built.
+
+mod entry;
+mod line;
+mod listing;
+mod named;
+mod sizes;
+mod tally;
+
+pub use entry::{MapEntry, MapSizes, Said};
+pub use listing::{MapList, list_maps, listed_names};
+pub use tally::{ListTally, tally_line};

@@ -1,0 +1,64 @@
+//! What is listed of the map of a name.
+
+ghost use Rattle.std.specs.Prelude.{◌≡◌, ◌+◌, ◌≤◌, length, All, IfOk, IsTrue};
+ghost use Rattle.wad_dir.specs.Map.{entry_names};
+ghost use Rattle.wad_dir.specs.Wad.{file_of, names_of};
+ghost use Rattle.wad_dir.specs.AllMaps.Maps.{is_map_name};
+ghost use Rattle.table_verdicts.specs.MapList.Entry.{entry_named, format_named};
+
+use crate::map_list::entry::{MapEntry, Said};
+use crate::map_list::sizes::sizes_of;
+use map_answers::plan_named;
+use map_answers::sight_status::Status;
+use sight_names::{MapFormat, Memory};
+use std::alloc::Global;
+use wad_dir::all_maps::text_of;
+use wad_dir::{Wad, find_map};
+use whole_wad::reject_named;
+
+/// The format of the map of that name, Doom's where there is none.
+fn format_named(wad: &Wad, name: &str) -> MapFormat
+    ensures { result ≡ format_named (entry_names wad.now.entries) name.now }
+{
+    match find_map(wad, name) {
+        Ok(spot) => spot.format,
+        Err(_) => MapFormat::Doom,
+    }
+}
+
+/// What is listed of the map of that name.
+pub fn entry_of(
+    alloc: Global,
+    bytes: &[u8],
+    wad: &Wad,
+    large: bool,
+    name: &[u8; 8],
+) -> Result<MapEntry, Memory>
+    requires inside { All (λ entry. entry.at + entry.size ≤ length bytes.now) wad.now.entries }
+    requires names { names_of (file_of bytes.now wad.now) ≡ entry_names wad.now.entries }
+    requires named { IsTrue (is_map_name name.now) }
+    ensures is { IfOk result (λ e. e ≡ entry_named (file_of bytes.now wad.now) large name.now) }
+    ensures named { IfOk result (λ e. IsTrue (is_map_name e.name)) }
+{
+    let name = *name;
+    let text = text_of(&name);
+    match plan_named(alloc, bytes, wad, large, text) {
+        Ok(plan) => {
+            let reject = reject_named(bytes, wad, text);
+            let sizes = sizes_of(alloc, &plan, format_named(wad, text), reject)?;
+            Ok(MapEntry {
+                name,
+                said: Said::Read(sizes),
+            })
+        }
+        Err(Status::Memory(ref memory)) => Err(*memory),
+        Err(Status::NoMap(_)) => Ok(MapEntry {
+            name,
+            said: Said::Udmf,
+        }),
+        Err(refusal) => Ok(MapEntry {
+            name,
+            said: Said::Refused(refusal),
+        }),
+    }
+}
