@@ -342,7 +342,8 @@ def main():
     parser.add_argument("--bulk", type=int, default=24_000_000, help="bytes beside the maps of the WAD whose runs get signals")
     parser.add_argument("--moments", type=int, default=50)
     given = parser.parse_args()
-    with tempfile.TemporaryDirectory(dir=given.folder) as place:
+    # Runs have folders of their own for their place, so a name that is told from here would lead nowhere there.
+    with tempfile.TemporaryDirectory(dir=given.folder and os.path.abspath(given.folder)) as place:
         os.chmod(place, 0o755)
         if os.getuid() == 0:
             small_disk(given.program, place, given.rooms)

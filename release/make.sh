@@ -5,10 +5,12 @@
 #
 # FOLDER is release/out where none is given, PROGRAM crates/doomsight/out/doomsight, and ARCHIVE
 # crates/doomsight_c/out/libdoomsight_c.a; where that isn't there, no library is packed. The version and the day are those
-# at the head of CHANGELOG.md. All files get the time of SOURCE_DATE_EPOCH, or of that day, and stand in the order of
-# their names: two runs over one program make the same bytes. The program must say that it is of this version, and hold
-# no path of this checkout or of the kit. Beside it stands PROVENANCE, which release/provenance.sh wrote from the log of
-# a gate that passed: it has to tell of just this program and archive, and of the sources that stand here.
+# at the head of CHANGELOG.md. Where something stands under Unreleased there, what is packed is no release: behind the
+# version come the day of the gate and the commit then. All files get the time of SOURCE_DATE_EPOCH, or of that day, and
+# stand in the order of their names: two runs over one program make the same bytes. The program must say that it is of
+# this version, and hold no path of this checkout or of the kit. Beside it stands PROVENANCE, which release/provenance.sh
+# wrote from the log of a gate that passed: it has to tell of just this program and archive, and of the sources that
+# stand here.
 #
 # Documents are packed as release/render.sh has them: they speak of the package, and each of their links leads somewhere.
 set -eu
@@ -25,8 +27,6 @@ pages="C-LIBRARY.md DEFINITIONS.md FORMATS.md FREEDOOM.md GUIDE.md PROVED.md TOO
 head=$(grep -m 1 '^## \[[0-9]' "$top/CHANGELOG.md")
 version=$(echo "$head" | sed 's/^## \[\(.*\)\].*/\1/')
 day=$(echo "$head" | sed 's/.* - //')
-SOURCE_DATE_EPOCH=${SOURCE_DATE_EPOCH:-$(date -d "$day" +%s)}
-export SOURCE_DATE_EPOCH
 
 fail() {
     echo "make.sh: $1" >&2
@@ -65,6 +65,15 @@ if [ -e "$top/.git" ]; then
     git -C "$top" diff --quiet "$(told Commit)" -- crates crates.txt HANDLES ||
         fail "the sources here aren't those of the commit that PROVENANCE names"
 fi
+
+is="Release $version"
+if sed -n '/^## \[Unreleased\]/,/^## \[[0-9]/p' "$top/CHANGELOG.md" | grep -q '^- '; then
+    is="Commit $(told Commit | cut -c 1-8), after release $version"
+    day=$(told Day)
+    version=$version+git$(echo "$day" | tr -d -).$(told Commit | cut -c 1-8)
+fi
+SOURCE_DATE_EPOCH=${SOURCE_DATE_EPOCH:-$(date -d "$day" +%s)}
+export SOURCE_DATE_EPOCH
 
 work=$(mktemp -d)
 trap 'rm -rf "$work"' EXIT
@@ -125,7 +134,7 @@ debian() {
     {
         echo "doomsight ($version-1) unstable; urgency=medium"
         echo
-        echo "  * Release $version; changelog.gz says what is new."
+        echo "  * $is; changelog.gz says what is new."
         echo
         echo " -- $(sed -n 's/^Maintainer: //p' "$3")  $(date -R -d "$day")"
     } | gzip -9n >"$1/$4/changelog.Debian.gz"
