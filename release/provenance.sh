@@ -4,9 +4,9 @@
 #     release/provenance.sh LOG [PROGRAM [ARCHIVE]]
 #
 # LOG is what `rt ci`, with no names, printed at the top of this checkout: its last line has to say that nothing failed, and
-# the day on which it was written is the gate's. PROGRAM is crates/doomsight/out/doomsight where none is given, ARCHIVE, the
-# library for C programs, crates/doomsight_c/out/libdoomsight_c.a (rt lib makes it). Where that isn't there, nothing is said of
-# it. The checkout has to be that of the commit, with nothing changed.
+# the day on which it was written is the gate's. PROGRAM, crates/doomsight/out/doomsight where none is given, has to be older
+# than it. ARCHIVE is the library for C programs, crates/doomsight_c/out/libdoomsight_c.a (rt lib makes it); where that isn't
+# there, nothing is said of it. The checkout has to be that of the commit, with nothing changed.
 set -eu
 umask 022
 top=$(cd "$(dirname "$0")/.." && pwd)
@@ -26,6 +26,7 @@ archive=${3:-$top/crates/doomsight_c/out/libdoomsight_c.a}
 [ -x "$program" ] || fail "there is no program at $program"
 last=$(grep -v '^[[:space:]]*$' "$log" | tail -n 1)
 echo "$last" | grep -Eq '^[0-9]+ passed, 0 failed' || fail "the log's last line isn't that of a gate that passed: $last"
+if [ "$program" -nt "$log" ]; then fail "the program was made after the gate's log was written"; fi
 changed=$(git -C "$top" status --porcelain)
 [ -z "$changed" ] || fail "the checkout has changes:
 $changed"
