@@ -30,7 +30,7 @@ from html import escape
 MARK = '<meta name="generator" content="doomsight page">'
 RUN = b"THINGS LINEDEFS SIDEDEFS VERTEXES SEGS SSECTORS NODES SECTORS REJECT BLOCKMAP".split()
 SECTOR = 26
-UNREAD, UNSOUND = (8, 9), 10
+USAGE, UNREAD, UNSOUND = 2, (8, 9), 10
 
 STYLE = """
 :root { color-scheme: light dark; --ink: #1b1b1b; --paper: #fff; --soft: #5a5a5a; --edge: #d4d4d4; --band: #f4f4f2;
@@ -126,14 +126,17 @@ class Program:
         status, line, said = self.run(verb, "--large", *options, "--", *values)  # a value may begin with a hyphen
         if status in good:
             return line, said
-        if status == 2:
+        if status == USAGE:
             raise Refused(1, "%s is of another version, and doesn't take `%s`: %s" % (self.path, verb, said.partition("\n")[0]))
         raise Refused(status, "doomsight %s: %s" % (verb, line or "memory ran out"))
 
     def report(self, name):
-        """The lines of a report: the name of a map, and what is said of it."""
-        with open(os.path.join(self.folder, name), encoding="ascii") as file:
-            return [line.rstrip("\n").split(" ", 1) for line in file]
+        """The lines of a report; none where there is none."""
+        path = os.path.join(self.folder, name)
+        if not os.path.exists(path):
+            return []
+        with open(path, encoding="ascii") as file:
+            return file.read().splitlines()
 
 
 def tables(path):
@@ -178,11 +181,16 @@ class Map:
         self.pair = counts.group(3, 4) if counts and counts[3] else None
         self.ray = counts[5] if counts else None
         self.lines = self.sectors = self.before = self.after = ""
-        self.audit, self.pictures = "", []
+        self.audit, self.faults, self.pictures = "", [], []
 
     def look(self, program, folder):
         """Asks the program of this map, and has its pictures drawn into a folder."""
-        self.audit, _ = program.whole("audit", "in.wad", self.name, good=(0, *UNREAD, UNSOUND))
+        good, report = (0, *UNREAD, UNSOUND), self.stem + ".txt"
+        # A program of before `audit --report` refuses these words, and tells one fault alone.
+        status, self.audit, _ = program.run("audit", "--large", "--report", report, "--", "in.wad", self.name)
+        if status not in good:
+            self.audit, _ = program.whole("audit", "in.wad", self.name, good=good)
+        self.faults = [line for line in program.report(report) if line != "sound"]
         counts = re.match(r"sound lines (\d+) points \d+ sectors (\d+)", self.audit)
         if not counts:
             self.draw(program, folder, "faults", "in.wad", "what is at fault (red)", options=["--faults"], good=(0, *UNREAD))
@@ -251,6 +259,9 @@ def section(of):
     elif of.pair:
         told += "<br>A face belongs to both sectors of the first wrong pair."
     yield "<p>%s</p>" % told
+    if of.faults:
+        yield "<details%s><summary>What <code>audit</code> reports: %d lines</summary>" % (" open" * (len(of.faults) <= 20), len(of.faults))
+        yield "<ul>%s</ul></details>" % "".join("<li><code>%s</code></li>" % escape(fault) for fault in of.faults)
     yield '<div class="pictures">'
     for file, caption, size in of.pictures:
         alt = escape("%s, %s" % (of.name, caption))
@@ -318,7 +329,8 @@ def asked(program, folder):
     line, said = program.whole("verify", "in.wad", options=["--report", "verify.txt"], good=(0, 1))
     tell("all")
     program.whole("all", "in.wad", "new.wad", options=["--exact", "--report", "all.txt"])
-    maps = [Map(name, place, found) for place, (name, found) in enumerate(program.report("verify.txt"), 1)]
+    told = [line.split(" ", 1) for line in program.report("verify.txt")]
+    maps = [Map(name, place, found) for place, (name, found) in enumerate(told, 1)]
     old, new = (tables(os.path.join(program.folder, name)) for name in ("in.wad", "new.wad"))
     for of in maps:
         none = 0, b""
