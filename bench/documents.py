@@ -99,7 +99,8 @@ def furnish(folder, program, wads):
     with open(os.path.join(folder, "bin", "rt"), "w", encoding="utf8") as shim:
         shim.write(SHIM)
     os.chmod(shim.name, 0o755)
-    os.symlink(os.path.join(ROOT, "bench"), os.path.join(folder, "bench"))
+    for name in ("bench", "release"):
+        os.symlink(os.path.join(ROOT, name), os.path.join(folder, name))
     for place in ("u.wad", "data/u.wad", "examples/u.wad"):
         shutil.copyfile(os.path.join(ROOT, "crates/doomsight/data/u.wad"), os.path.join(folder, place))
     for name in FREEDOOM:

@@ -1,10 +1,11 @@
 #!/usr/bin/env python3
 """What a reader of the headline laws has to read: the definitions of specs/ that they reach, and how many there are.
 
-    bench/reading.py [--write]
+    bench/reading.py [--write | --lists]
 
-docs/PROVED.md lists these definitions, and says how many they are and how many lines they take. Here they are found
-anew, and the status is 1 where the page says otherwise; with --write that part of the page is written anew.
+docs/PROVED.md says in which files these definitions stand, how many they are and how many lines they take; of the first
+list it has the names too, and with --lists all names are printed. Here they are found anew, and the status is 1 where
+the page says otherwise; with --write that part of the page is written anew.
 
 A headline law is a statement of run_laws that has the premise `WasDone`. It reaches what the text of its definition
 names, what the text of that names, and so on, as each file's `use` lines tell the names. `WasDone` itself is a premise
@@ -167,18 +168,21 @@ def wrapped(first, rest, text):
     return lines + [line]
 
 
-def listed(number, head, found):
-    """An item of the page: which definitions, file by file, in the order in which they stand."""
+def listed(number, head, found, with_names):
+    """An item of the page: which definitions, file by file, in the order in which they stand; or the files alone."""
     many = "%d definition%s, %d lines" % (len(found), "s" if len(found) > 1 else "", lines_of(found))
+    files = in_order({definition.file for definition in found})
+    if not with_names:
+        return wrapped("%d. " % number, "   ", "%s (%s): %s." % (head, many, ", ".join(file.label for file in files)))
     lines = wrapped("%d. " % number, "   ", "%s (%s):" % (head, many))
-    for file in in_order({definition.file for definition in found}):
+    for file in files:
         names = ["`%s`" % d.name for d in file.definitions.values() if d in found]
         lines += wrapped("   - ", "     ", "%s: %s." % (file.label, ", ".join(names)))
     return lines
 
 
-def page():
-    """What the page has to say, line by line."""
+def page(with_names=False):
+    """What the page has to say, line by line; of each list the names, or of the first one alone."""
     specs = Specs()
     premise, words = specs.at("run_laws/Headline.WasDone"), specs.reached([specs.at(WORDS[1][0])])
     laws = specs.laws(premise)
@@ -192,7 +196,7 @@ def page():
         said |= found
         if new:
             places.append(new)
-            lines += listed(len(places), head, new)
+            lines += listed(len(places), head, new, with_names or len(places) == 1)
     first = places[0] | places[1]
     lines += ["", "| What | Lists | Definitions | Lines |", "|---|---|---|---|"]
     rows = [("that set bits are right, of each law that says it", first)]
@@ -223,4 +227,7 @@ def is_right(write=False):
 
 
 if __name__ == "__main__":
+    if "--lists" in sys.argv[1:]:
+        print("\n".join(page(with_names=True)))
+        sys.exit(0)
     sys.exit(0 if is_right("--write" in sys.argv[1:]) else 1)

@@ -4,14 +4,15 @@
 #     release/install_library.sh PREFIX [ARCHIVE]
 #
 # ARCHIVE is crates/doomsight_c/out/libdoomsight_c.a where none is given; `rt lib` makes it in crates/doomsight_c. DESTDIR is
-# put before PREFIX, CC compiles the heap, and AR packs it. Afterwards a program is compiled by
+# put before PREFIX, CC compiles the heap, and AR packs it. LIBDIR and DOCDIR are the folders below PREFIX of archives and
+# documents, `lib` and `share/doc/doomsight` where they aren't set. Afterwards a program is compiled by
 #
 #     cc client.c $(pkg-config --cflags --libs doomsight)
 set -eu
 umask 022
 top=$(cd "$(dirname "$0")/.." && pwd)
 [ $# -ge 1 ] || {
-    sed -n '2,9s/^# \{0,1\}//p' "$0" >&2
+    sed -n '2,10s/^# \{0,1\}//p' "$0" >&2
     exit 2
 }
 fail() {
@@ -27,6 +28,7 @@ if printf '%s' "$prefix" | tr '\n' '#' | grep -q '["#$\'"'"']'; then
 fi
 archive=${2:-$top/crates/doomsight_c/out/libdoomsight_c.a}
 to=${DESTDIR:-}$prefix
+lib=${LIBDIR:-lib}
 version=$(grep -m 1 '^## \[[0-9]' "$top/CHANGELOG.md" | sed 's/^## \[\(.*\)\].*/\1/')
 number=$(echo "$version" | awk -F. '{ print 10000 * $1 + 100 * $2 + $3 }')
 
@@ -38,7 +40,7 @@ trap 'rm -rf "$work"' EXIT
 ${CC:-cc} -std=c99 -O2 -fPIC -c "$top/include/doomsight_heap.c" -o "$work/doomsight_heap.o"
 ${AR:-ar} rcsD "$work/libdoomsight_heap.a" "$work/doomsight_heap.o"
 quoted=$(echo "$prefix" | sed 's/[&|]/\\&/g')
-sed -e "s|@PREFIX@|$quoted|" -e "s|@VERSION@|$version|" "$top/release/doomsight.pc.in" >"$work/doomsight.pc"
+sed -e "s|@PREFIX@|$quoted|" -e "s|@LIBDIR@|$lib|" -e "s|@VERSION@|$version|" "$top/release/doomsight.pc.in" >"$work/doomsight.pc"
 
 # Puts files into a folder below PREFIX: put FOLDER FILE..
 put() {
@@ -49,6 +51,7 @@ put() {
 }
 put include "$top/include/doomsight.h"
 cp "$archive" "$work/libdoomsight_c.a"
-put lib "$work/libdoomsight_c.a" "$work/libdoomsight_heap.a"
-put lib/pkgconfig "$work/doomsight.pc"
-put share/doc/doomsight "$top/docs/C-LIBRARY.md" "$top/LICENSE" "$top/LICENSE-MIT" "$top/LICENSE-APACHE" "$top/release/NOTICES"
+put "$lib" "$work/libdoomsight_c.a" "$work/libdoomsight_heap.a"
+put "$lib/pkgconfig" "$work/doomsight.pc"
+"$top/release/render.sh" "$top/docs/C-LIBRARY.md" >"$work/C-LIBRARY.md"
+put "${DOCDIR:-share/doc/doomsight}" "$work/C-LIBRARY.md" "$top/LICENSE" "$top/LICENSE-MIT" "$top/LICENSE-APACHE" "$top/release/NOTICES"
