@@ -139,16 +139,21 @@ impl<'a> Intake<'a> {
         requires { IsTaken self }
         ensures { (p : PlanParts) (t : TableParts) (bytes : List ℕ) → HasTaken p t bytes self.entry → IfOk result (JudgedBy (exact_at (sizes_of p) bytes) (IsVerdictOf p t)) }
     {
-        if let Some(fault) = self.fault {
+        let Intake {
+            reader,
+            judging,
+            fault,
+        } = self;
+        if let Some(fault) = fault {
             return Ok(Judged::Unread(fault));
         }
-        match self.reader.end() {
+        match reader.end() {
             Err(fault) => {
                 let told = unless_memory(fault)?;
                 Ok(Judged::Unread(told))
             }
             Ok(()) => {
-                let verdict = self.judging.verdict()?;
+                let verdict = judging.verdict()?;
                 Ok(Judged::Verdict(verdict))
             }
         }
