@@ -2,6 +2,7 @@
 use Rattle.std.proofs.Common.{◌≡◌, ℕ, zero, suc, ◌+◌, ◌*◌, ◌<◌, ◌≤◌, ◌↔◌, Bool, true, false, List, length, Option, Some, None, refl, sym, ap, ◌∙◌, subst, arith}
 use Rattle.std.specs.Prelude.{IsTrue, if◌then◌else◌, nat_lt, replicate}
 use Rattle.std.specs.List.{count_by, range_with_len, sum_by}
+use Rattle.std.proofs.lemmas.Bool.Decides.{nat_tests}
 use Rattle.std.proofs.lemmas.List.Sums.{sum_by-cons}
 use Rattle.math_base.proofs.Numbers.{is_told_same, place_within, tells_same}
 use Rattle.sight_names.specs.Table.{table_bit}
@@ -52,7 +53,7 @@ is_less : (l len : ℕ) → l < len → nat_lt l len ≡ true
 is_less l len lt = grind (arith, nat_tests)
 
 module _ (n : ℕ) (reject : List ℕ) where
-  counted_where : (b : Bool) → Option ℕ
+  abbrev counted_where : (b : Bool) → Option ℕ
   counted_where b = if b then None else Some (pairs_by (is_set n reject) n)
 
   module _ (own : TableParts) (front : IsAtFront n reject own) where
