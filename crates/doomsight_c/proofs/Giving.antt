@@ -40,6 +40,7 @@ of_lumps_is_librarys (Some (lump.Memory _)) m = tt
 -- .. is of the library
 pub of_reading : (read : Result Map Status) → IsLibrarys read → (s : Status) → IsOfBytes s → Makes map_of (Err s) read → IsOfLibrary s
 of_reading read lib (status.BadLump f) h made = subst IsLibrarys made lib
+of_reading read lib (status.BadText f) h made = subst IsLibrarys made lib
 of_reading read lib (status.Limit b) h made = subst IsLibrarys made lib
 of_reading read lib (status.NotWad f) h made = subst IsLibrarys made lib
 of_reading read lib (status.NoMap f) h made = subst IsLibrarys made lib
@@ -49,6 +50,7 @@ of_reading read lib other h made = absurd h
 -- .. and is what they call for
 pub called_by_reading : (read : Result Map Status) (s : Status) → IsOfBytes s → Makes map_of (Err s) read → Refuses read s
 called_by_reading read (status.BadLump f) h made = subst (λ r. Refuses r (status.BadLump f)) (sym made) refl
+called_by_reading read (status.BadText f) h made = subst (λ r. Refuses r (status.BadText f)) (sym made) refl
 called_by_reading read (status.Limit b) h made = subst (λ r. Refuses r (status.Limit b)) (sym made) refl
 called_by_reading read (status.NotWad f) h made = subst (λ r. Refuses r (status.NotWad f)) (sym made) refl
 called_by_reading read (status.NoMap f) h made = subst (λ r. Refuses r (status.NoMap f)) (sym made) refl
@@ -59,6 +61,7 @@ called_by_reading read other h made = absurd h
 -- no map was read, unless memory ran out
 isnt_read : (read : Result Map Status) (s : Status) → IsOfBytes s → Makes map_of (Err s) read → (m : Map) → read ≡ Ok m → s ≡ status.Memory tt
 isnt_read read (status.BadLump f) h made m e = cc (sym made ∙ e)
+isnt_read read (status.BadText f) h made m e = cc (sym made ∙ e)
 isnt_read read (status.Limit b) h made m e = cc (sym made ∙ e)
 isnt_read read (status.NotWad f) h made m e = cc (sym made ∙ e)
 isnt_read read (status.NoMap f) h made m e = cc (sym made ∙ e)

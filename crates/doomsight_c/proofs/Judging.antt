@@ -102,6 +102,7 @@ of_check m reject cert other h = absurd h
 
 denied_by_reading : (read : Result Map Status) (reject cert : List ℕ) (s : Status) → IsOfBytes s → Makes map_of (Err s) read → Denies read reject cert s
 denied_by_reading read reject cert (status.BadLump f) h made = subst (λ r. Denies r reject cert (status.BadLump f)) (sym made) refl
+denied_by_reading read reject cert (status.BadText f) h made = subst (λ r. Denies r reject cert (status.BadText f)) (sym made) refl
 denied_by_reading read reject cert (status.Limit b) h made = subst (λ r. Denies r reject cert (status.Limit b)) (sym made) refl
 denied_by_reading read reject cert (status.NotWad f) h made = subst (λ r. Denies r reject cert (status.NotWad f)) (sym made) refl
 denied_by_reading read reject cert (status.NoMap f) h made = subst (λ r. Denies r reject cert (status.NoMap f)) (sym made) refl

@@ -1,5 +1,5 @@
 -- The WAD in the bytes of a file, and the map of a name in it.
-use Rattle.std.specs.Prelude.{◌≡◌, ℕ, Bool, List, [], Option, Some, None, Result, Ok, Err, slice_index_or}
+use Rattle.std.specs.Prelude.{◌≡◌, ℕ, Bool, true, false, List, [], Option, Some, None, Result, Ok, Err, slice_index_or}
 use Rattle.sight_names.specs.declared.faults.WadFault.{WadFault}
 use Rattle.sight_names.specs.declared.faults.WadFault.TheVariants as wad
 use Rattle.sight_names.specs.declared.faults.MapFault.{MapFault}
@@ -7,6 +7,9 @@ use Rattle.sight_names.specs.declared.faults.LumpFault.{LumpFault}
 use Rattle.sight_names.specs.declared.faults.LumpFault.TheVariants as lump
 use Rattle.sight_names.specs.declared.names.Reading.{Reading}
 use Rattle.sight_names.specs.Map.{Map}
+use Rattle.udmf_map.specs.declared.faults.TextFault.{TextFault}
+use Rattle.udmf_map.specs.declared.faults.TextFault.TheVariants as text
+use Rattle.udmf_map.specs.Lumps.{LumpBytes, lumps_of_text}
 use Rattle.sight_names.specs.Lumps.{map_of_lumps, lump_fault}
 use Rattle.wad_dir.specs.declared.parts.MapSpot.{MapSpot}
 use Rattle.wad_dir.specs.Wad.{WadFile, names_of, wad_of}
@@ -51,6 +54,24 @@ abbrev pub of_four_lumps : Reading → List ℕ → List ℕ → List ℕ → Li
 of_four_lumps reading linedefs sidedefs vertexes sectors =
     of_lumps (lump_fault reading linedefs sidedefs vertexes sectors) (map_of_lumps reading.format linedefs sidedefs vertexes sectors)
 
+abbrev pub of_text : Result LumpBytes TextFault → Result LumpBytes Status
+of_text (Ok lumps) = Ok lumps
+of_text (Err (text.TooManyVertices count)) = Err (status.Limit bound.Vertices)
+of_text (Err (text.TooManySides count)) = Err (status.Limit bound.Sides)
+of_text (Err (text.Memory _)) = Err (status.Memory tt)
+of_text (Err fault) = Err (status.BadText fault)
+
+-- the map that a text of UDMF spells, by the four lumps that it stands for, or its first fault, or the first check of these that fails
+abbrev pub of_text_lump : Reading → List ℕ → Result Map Status
+of_text_lump reading bytes = do
+  lumps ← of_text (lumps_of_text bytes)
+  of_four_lumps reading lumps.linedefs lumps.sidedefs lumps.vertexes lumps.sectors
+
+-- the map that a text spells, which stands for all four, or that four lumps spell
+abbrev pub spelled : Bool → Reading → List ℕ → List ℕ → List ℕ → List ℕ → Result Map Status
+spelled true reading linedefs sidedefs vertexes sectors = of_text_lump reading linedefs
+spelled false reading linedefs sidedefs vertexes sectors = of_four_lumps reading linedefs sidedefs vertexes sectors
+
 -- how the map at this spot is read by these limits: in the format that the spot tells
 abbrev pub reading_at : Bool → MapSpot → Reading
 reading_at large spot = record { format = spot.format; large = large }
@@ -58,7 +79,7 @@ reading_at large spot = record { format = spot.format; large = large }
 -- the map at this spot, by the larger limits or by the usual ones
 abbrev pub map_at : Bool → WadFile → MapSpot → Result Map Status
 map_at large file spot =
-    of_four_lumps (reading_at large spot) (lump_at file spot.linedefs) (lump_at file spot.sidedefs) (lump_at file spot.vertexes) (lump_at file spot.sectors)
+    spelled spot.text (reading_at large spot) (lump_at file spot.linedefs) (lump_at file spot.sidedefs) (lump_at file spot.vertexes) (lump_at file spot.sectors)
 
 -- the map of this name in a WAD, or the first check that fails
 unfoldable pub map_named : Bool → WadFile → List ℕ → Result Map Status

@@ -1,14 +1,15 @@
 -- What the order `sound` says of a map that was found. It writes nothing, and audits nothing.
-use Rattle.std.specs.Prelude.{◌≡◌, ℕ, ◌/◌, ◌%◌, ◌<◌, ◌≤◌, ◌⊎◌, nat_lt, if◌then◌else◌, List, [], ◌++◌, Bool, Option, Some, None, Result, Ok, Err, codes, length}
+use Rattle.std.specs.Prelude.{◌≡◌, ℕ, ◌<◌, ◌≤◌, ◌⊎◌, nat_lt, if◌then◌else◌, List, [], ◌++◌, Bool, true, false, Option, Some, None, Result, Ok, Err, codes, length}
 use Rattle.std.specs.Fmt.{decimal}
 use Rattle.std.specs.List.{flat_map}
 use Rattle.sight_names.specs.declared.names.Pair.{Pair}
 use Rattle.sight_names.specs.declared.names.Side.{Side}
-use Rattle.sight_names.specs.Lumps.{linedef_len}
 use Rattle.sight_names.specs.Map.{Map}
 use Rattle.sight_names.specs.Noise.{AreHeardCounts, Heard, IsFirstNoisePath}
 use Rattle.sight_names.specs.Texts.{side_text}
 use Rattle.sound_reach.specs.Dampers.{dampers_of}
+use Rattle.udmf_map.specs.declared.faults.TextFault.{TextFault}
+use Rattle.udmf_map.specs.Lumps.{LumpBytes, lumps_of_text}
 use Rattle.wad_dir.specs.Wad.{WadFile, file_of}
 use Rattle.wad_dir.specs.declared.parts.MapSpot.{MapSpot}
 use Rattle.map_answers.specs.declared.sight_status.status.Why.TheVariants as why
@@ -19,15 +20,23 @@ use Rattle.map_answers.specs.SightStatus.Texts.{two}
 use Rattle.map_answers.specs.declared.input.Input.{Input}
 use Rattle.map_answers.specs.Input.{LocatedMap, lump_at}
 
--- for each line record whether the line blocks sound
-abbrev pub dampers_at : WadFile → MapSpot → List Bool
-dampers_at file spot = dampers_of spot.format (lump_at file spot.linedefs)
+-- the LINEDEFS that a text stands for
+abbrev pub linedefs_in : Result LumpBytes TextFault → List ℕ
+linedefs_in (Ok lumps) = lumps.linedefs
+linedefs_in (Err fault) = []
 
--- LINEDEFS is there and has whole records, as many as the map has lines
-pub record HasLinedefs (input : Input) : Type 0 where
-  pub place : input.spot.linedefs < length input.wad.entries
-  pub whole : length (lump_at (file_of input.bytes.items input.wad) input.spot.linedefs) % linedef_len input.spot.format ≡ 0
-  pub each : length input.plan.lines ≡ length (lump_at (file_of input.bytes.items input.wad) input.spot.linedefs) / linedef_len input.spot.format
+abbrev pub linedefs_by : Bool → List ℕ → List ℕ
+linedefs_by true bytes = linedefs_in (lumps_of_text bytes)
+linedefs_by false bytes = bytes
+
+-- for each line record whether the line blocks sound; those of a text are the ones of the LINEDEFS that it stands for
+abbrev pub dampers_at : WadFile → MapSpot → List Bool
+dampers_at file spot = dampers_of spot.format (linedefs_by spot.text (lump_at file spot.linedefs))
+
+-- the lines that block sound were read, and there are as many as the map has lines
+pub record HasDampers (input : Input) : Type 0 where
+  pub are : input.dampers ≡ dampers_at (file_of input.bytes.items input.wad) input.spot
+  pub each : length input.dampers ≡ length input.plan.lines
 
 -- ---- the lines
 

@@ -6,24 +6,30 @@ ghost use Rattle.sight_names.specs.Map.{map_of};
 ghost use Rattle.wad_dir.specs.Map.{entry_names, spot_of};
 ghost use Rattle.wad_dir.specs.Wad.{file_of, names_of, wad_of};
 ghost use Rattle.map_answers.specs.SightStatus.Answer.{Makes};
-ghost use Rattle.map_answers.specs.Input.{of_wad, of_spot, of_four_lumps, lump_at, map_at, map_named, found_in};
+ghost use Rattle.map_answers.specs.Input.{of_wad, of_spot, of_text, of_text_lump, of_four_lumps, lump_at, map_at, map_named, found_in};
 ghost use Rattle.map_answers.specs.SightStatus.Status.{IsOfBytes};
-ghost use Rattle.map_answers.specs.Noise.{HasLinedefs};
+ghost use Rattle.map_answers.specs.Noise.{HasDampers, linedefs_by, linedefs_in};
+ghost use Rattle.sound_reach.specs.Dampers.{dampers_of};
+ghost use Rattle.udmf_map.specs.Lumps.{lump_bytes, lumps_of_text as lumps_of_text_lem};
 ghost use Rattle.map_answers.specs.Views.{found, IsWhole};
 
 use crate::sight_status::{Bound, Status};
 use map_lumps::read_lumps;
-use sight_names::{LumpFault, Plan, Reading, WadFault};
+use sight_names::{Items, LumpFault, Plan, Reading, WadFault};
+use sound_reach::dampers;
 use std::alloc::Global;
+use udmf_map::{FourLumps, TextFault, lumps_of_text};
 use wad_dir::{MapSpot, Wad, find_map, lump, read_wad};
 
-/// What an order reads: the bytes of a file, its directory, where the map's lumps stand in it, and the map.
+/// What an order reads: the bytes of a file, its directory, where the map's lumps stand in it, the map, and for each of its
+/// lines whether the line blocks sound.
 #[derive(Drop)]
 pub struct Input {
     pub bytes: Vec<u8>,
     pub wad: Wad,
     pub spot: MapSpot,
     pub plan: Plan,
+    pub dampers: Items<bool>,
 }
 
 /// The directory of the bytes of a file, or why they are no WAD.
@@ -87,28 +93,88 @@ pub fn lump_of<'a>(bytes: &'a [u8], wad: &Wad, k: u32) -> &'a [u8]
     lump(bytes, &wad.entries.as_slice()[k as usize])
 }
 
-fn plan_at(
+/// The map that four lumps spell, and the lines that block sound; or the first check that fails.
+fn read_four(
+    alloc: Global,
+    reading: Reading,
+    linedefs: &[u8],
+    sidedefs: &[u8],
+    vertexes: &[u8],
+    sectors: &[u8],
+) -> Result<(Plan, Items<bool>), Status>
+    ensures refusals { IfErr result IsOfBytes }
+    ensures map { Makes (λ r. map_of r.0) result (of_four_lumps reading linedefs.now sidedefs.now vertexes.now sectors.now) }
+    ensures dampers { IfOk result (λ r. r.1 ≡ dampers_of reading.format linedefs.now) }
+    ensures each { IfOk result (λ r. length r.1 ≡ length r.0.lines) }
+{
+    let plan = plan_of(alloc, reading, linedefs, sidedefs, vertexes, sectors)?;
+    match dampers(alloc, linedefs, reading.format) {
+        Ok(dampers) => Ok((plan, Items::of(dampers))),
+        Err(memory) => Err(Status::Memory(memory)),
+    }
+}
+
+/// The four lumps that a text of UDMF stands for, or its first fault.
+fn text_lumps(alloc: Global, text: &[u8]) -> Result<FourLumps, Status>
+    ensures refusals { IfErr result IsOfBytes }
+    ensures lumps { Makes lump_bytes result (of_text (lumps_of_text_lem text.now)) }
+{
+    match lumps_of_text(alloc, text) {
+        Ok(lumps) => Ok(lumps),
+        Err(TextFault::Memory(ref memory)) => Err(Status::Memory(*memory)),
+        Err(TextFault::TooManyVertices { .. }) => Err(Status::Limit(Bound::Vertices)),
+        Err(TextFault::TooManySides { .. }) => Err(Status::Limit(Bound::Sides)),
+        Err(fault) => Err(Status::BadText(fault)),
+    }
+}
+
+/// The map that a text of UDMF spells, and the lines that block sound; or the first check that fails.
+fn read_text(alloc: Global, reading: Reading, text: &[u8]) -> Result<(Plan, Items<bool>), Status>
+    ensures refusals { IfErr result IsOfBytes }
+    ensures map { Makes (λ r. map_of r.0) result (of_text_lump reading text.now) }
+    ensures dampers { IfOk result (λ r. r.1 ≡ dampers_of reading.format (linedefs_in (lumps_of_text_lem text.now))) }
+    ensures each { IfOk result (λ r. length r.1 ≡ length r.0.lines) }
+{
+    let lumps = text_lumps(alloc, text)?;
+    read_four(
+        alloc,
+        reading,
+        &lumps.linedefs,
+        &lumps.sidedefs,
+        &lumps.vertexes,
+        &lumps.sectors,
+    )
+}
+
+fn read_at(
     alloc: Global,
     bytes: &[u8],
     wad: &Wad,
     large: bool,
     spot: &MapSpot,
-) -> Result<Plan, Status>
+) -> Result<(Plan, Items<bool>), Status>
     requires inside { All (λ entry. entry.at + entry.size ≤ length bytes.now) wad.now.entries }
     requires linedefs { spot.now.linedefs < length wad.now.entries }
     requires sidedefs { spot.now.sidedefs < length wad.now.entries }
     requires vertexes { spot.now.vertexes < length wad.now.entries }
     requires sectors { spot.now.sectors < length wad.now.entries }
     ensures refusals { IfErr result IsOfBytes }
-    ensures map { Makes map_of result (map_at large (file_of bytes.now wad.now) spot.now) }
+    ensures map { Makes (λ r. map_of r.0) result (map_at large (file_of bytes.now wad.now) spot.now) }
+    ensures dampers { IfOk result (λ r. r.1 ≡ dampers_of spot.now.format (linedefs_by spot.now.text (lump_at (file_of bytes.now wad.now) spot.now.linedefs))) }
+    ensures each { IfOk result (λ r. length r.1 ≡ length r.0.lines) }
 {
-    plan_of(
+    let reading = Reading {
+        format: spot.format,
+        large,
+    };
+    let linedefs = lump_of(bytes, wad, spot.linedefs);
+    if spot.text {
+        return read_text(alloc, reading, linedefs);
+    }
+    read_four(
         alloc,
-        Reading {
-            format: spot.format,
-            large,
-        },
-        lump_of(bytes, wad, spot.linedefs),
+        reading,
+        linedefs,
         lump_of(bytes, wad, spot.sidedefs),
         lump_of(bytes, wad, spot.vertexes),
         lump_of(bytes, wad, spot.sectors),
@@ -130,7 +196,8 @@ pub fn plan_named(
     ensures refusals { IfErr result IsOfBytes }
 {
     let spot = spot(wad, name)?;
-    plan_at(alloc, bytes, wad, large, &spot)
+    let (plan, _) = read_at(alloc, bytes, wad, large, &spot)?;
+    Ok(plan)
 }
 
 /// The map of this name in the bytes of a file, by the usual limits or by the larger ones, or the first check that fails.
@@ -139,15 +206,16 @@ pub fn find_in(alloc: Global, bytes: Vec<u8>, large: bool, name: &str) -> Result
     ensures found { Makes found result (found_in large name.now bytes.items) }
     ensures refusals { IfErr result IsOfBytes }
     ensures whole { IfOk result IsWhole }
-    ensures linedefs { IfOk result HasLinedefs }
+    ensures dampers { IfOk result HasDampers }
 {
     let wad = directory(alloc, &bytes)?;
     let spot = spot(&wad, name)?;
-    let plan = plan_at(alloc, &bytes, &wad, large, &spot)?;
+    let (plan, dampers) = read_at(alloc, &bytes, &wad, large, &spot)?;
     Ok(Input {
         bytes,
         wad,
         spot,
         plan,
+        dampers,
     })
 }

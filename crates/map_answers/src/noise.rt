@@ -5,15 +5,15 @@ ghost use Rattle.std.specs.List.{flat_map};
 ghost use Rattle.sight_names.specs.Map.{map_of};
 ghost use Rattle.map_answers.specs.SightStatus.Answer.{Gives, line_answer};
 ghost use Rattle.map_answers.specs.SightStatus.Status.{IsOfSoundTest};
-ghost use Rattle.map_answers.specs.Noise.{CountCalls, HasLinedefs, IsMissing, PairCalls, SoundCalls, heard_line, no_noise_line, noise_line, path_line, path_words, side_word};
-ghost use Rattle.map_answers.specs.Views.{found, IsWhole};
+ghost use Rattle.map_answers.specs.Noise.{CountCalls, HasDampers, IsMissing, PairCalls, SoundCalls, heard_line, no_noise_line, noise_line, path_line, path_words, side_word};
+ghost use Rattle.map_answers.specs.Views.{found};
 
-use crate::input::{Input, lump_of};
+use crate::input::Input;
 use crate::sight_status::{
     Status, Why, push_count, push_count_line, push_number, push_pair_line, push_text,
 };
 use sight_names::{Pair, Plan, Side};
-use sound_reach::{Heard, count_heard, dampers, noise};
+use sound_reach::{Heard, count_heard, noise};
 use std::alloc::{AllocError, Global};
 
 fn heard_line_of(
@@ -154,18 +154,13 @@ pub fn judge_sound(
     name: &str,
     pair: &Option<Pair>,
 ) -> Result<String, Status>
-    requires whole { IsWhole input.now }
-    requires linedefs { HasLinedefs input.now }
+    requires dampers { HasDampers input.now }
     ensures judged { Gives ⊤ (SoundCalls name.now pair.now (found input.now)) (line_answer result) }
     ensures refusals { IfErr result IsOfSoundTest }
 {
-    let linedefs = lump_of(&input.bytes, &input.wad, input.spot.linedefs);
-    let dampers = match dampers(alloc, linedefs, input.spot.format) {
-        Ok(dampers) => dampers,
-        Err(memory) => return Err(Status::Memory(memory)),
-    };
+    let dampers = input.dampers.as_slice();
     match pair {
-        Some(pair) => judge_pair(alloc, &input.plan, &dampers, *pair),
-        None => judge_counts(alloc, &input.plan, name, &dampers),
+        Some(pair) => judge_pair(alloc, &input.plan, dampers, *pair),
+        None => judge_counts(alloc, &input.plan, name, dampers),
     }
 }

@@ -65,7 +65,7 @@ impl<P: Print> Progress<P> {
 
 impl<P: Print> Notice for Progress<P> {
     fn pass_over(&self, name: &str) {
-        let _ = println!(self.to; "{name}: a UDMF map, which isn't read");
+        let _ = println!(self.to; "{name}: a UDMF map without ENDMAP, which isn't read");
     }
 
     fn miss(&self, name: &str) {

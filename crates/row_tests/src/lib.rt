@@ -11,3 +11,5 @@ mod on_disk;
 mod rows;
 #[cfg(test)]
 mod table;
+#[cfg(test)]
+mod texts;

@@ -564,9 +564,10 @@ a=PAIR | all a b --only LINEDEFS,MAP04 | 7 | refused: no map: missing LINEDEFS |
 a=PAIR | all a b --only MAP04,LINEDEFS | 7 | refused: no map: no marker | b=
 a=PAIR +1:THINGS | all a b --only THINGS | 7 | refused: no map: no marker | b=
 a=PAIR +1:THINGS | zero a THINGS b | 0 | zero THINGS sectors 2 bytes 1
-# a map of UDMF stays
-a=PAIR +6:MAP02 +7:TEXTMAP *20 +8:ENDMAP U .9 - +9:MAP03 | all a b --report r | 0 | all maps 2 built 2 refused 0 | b=PAIR =00 +6:MAP02 +7:TEXTMAP *20 +8:ENDMAP U =4400 .9 - +9:MAP03, r=#4d4150303120736574203020636c6561722033206c69737465642030207265706c6163656420302062797465730a4d4150303320736574203120636c6561722035206c69737465642030207265706c6163656420302062797465730a
-a=PAIR +6:MAP02 +7:TEXTMAP *20 +8:ENDMAP U .9 - +9:MAP03 | all a b --only MAP02 | 7 | refused: no map: missing LINEDEFS | b=
+# a map of UDMF that is refused stays, and one without ENDMAP is none
+a=PAIR +6:MAP02 +7:TEXTMAP *20 +8:ENDMAP U .9 - +9:MAP03 | all a b --report r | 0 | all maps 3 built 2 refused 1 | b=PAIR =00 +6:MAP02 +7:TEXTMAP *20 +8:ENDMAP U =4400 .9 - +9:MAP03, r=#4d4150303120736574203020636c6561722033206c69737465642030207265706c6163656420302062797465730a4d41503032207265667573656420626164206c756d703a206e616d6573706163652030206b65707420636c6561720a4d4150303320736574203120636c6561722035206c69737465642030207265706c6163656420302062797465730a
+a=PAIR +6:MAP02 +7:TEXTMAP *20 U .8 - +8:MAP03 | all a b --report r | 0 | all maps 2 built 2 refused 0 | b=PAIR =00 +6:MAP02 +7:TEXTMAP *20 U =4400 .8 - +8:MAP03, r=#4d4150303120736574203020636c6561722033206c69737465642030207265706c6163656420302062797465730a4d4150303320736574203120636c6561722035206c69737465642030207265706c6163656420302062797465730a
+a=PAIR +6:MAP02 +7:TEXTMAP *20 U .8 - +8:MAP03 | all a b --only MAP02 | 7 | refused: no map: missing LINEDEFS | b=
 # refusals of the whole run
 a=#50574158000000000c000000 | all a b --report r | 6 | refused: not a wad: bad magic | b=, r=
 a=#50574144010001000c000000 | all a b | 9 | refused: limit: lumps | b=
@@ -632,7 +633,8 @@ a=PAIR =00 U =4600 .6 - +6:MAP02 OPEN =de .12 - +12:MAP03 | verify --only=MAP02 
 a=PAIR =00 U =4600 .6 - +6:MAP02 OPEN =de .12 - +12:MAP03 | verify a --only MAP01,MAP04 --report r | 7 | refused: no map: no marker | r=
 a=PAIR | verify a --only LINEDEFS,MAP04 | 7 | refused: no map: missing LINEDEFS | a=PAIR
 a=#50574144000000000c000000 | verify a --report r | 0 | verify maps 0 right 0 wrong 0 short 0 refused 0 | r=#
-a=PAIR =00 +6:MAP02 +7:TEXTMAP *20 +8:ENDMAP | verify a --report r | 0 | verify maps 1 right 1 wrong 0 short 0 refused 0 | r=#4d415030312077726f6e672030206d697373696e6720300a
+a=PAIR =00 +6:MAP02 +7:TEXTMAP *20 +8:ENDMAP | verify a --report r | 0 | verify maps 2 right 1 wrong 0 short 0 refused 1 | r=#4d415030312077726f6e672030206d697373696e6720300a4d41503032207265667573656420626164206c756d703a206e616d65737061636520300a
+a=PAIR =00 +6:MAP02 +7:TEXTMAP *20 | verify a --report r | 0 | verify maps 1 right 1 wrong 0 short 0 refused 0 | r=#4d415030312077726f6e672030206d697373696e6720300a
 a=PAIR =06 .1 hexen +6:BEHAVIOR | verify a --only MAP01 | 1 | verify maps 1 right 0 wrong 1 short 0 refused 0 | r=
 # a face of several sectors
 a=SELFREF =00 | verify a --report r | 0 | verify maps 1 right 1 wrong 0 short 0 refused 0 | r=#4d415030312077726f6e672030206d697373696e6720300a

@@ -11,6 +11,7 @@ use sight_run::{Bound, Flaw, NoNotice, Notice, Status, Why, code, run};
 use std::alloc::{AllocError, Global};
 use std::test::Fail;
 use std::thread::Threads;
+use udmf_map::TextFault;
 use worked_maps::files::bytes_of;
 use worked_maps::rows::part;
 use worked_maps::stages::{Stage, stage_of, words_in};
@@ -56,6 +57,8 @@ fn words_of_bound(alloc: Global, bound: Bound) -> Result<String, AllocError> {
         Bound::Lines => LumpFault::TooManyLines { count: 0 }.to_string(alloc),
         Bound::Points => LumpFault::TooManyPoints { count: 0 }.to_string(alloc),
         Bound::Sectors => LumpFault::TooManySectors { count: 0 }.to_string(alloc),
+        Bound::Vertices => TextFault::TooManyVertices { count: 0 }.to_string(alloc),
+        Bound::Sides => TextFault::TooManySides { count: 0 }.to_string(alloc),
         Bound::OutputBytes => RewriteFault::TooLong.to_string(alloc),
         Bound::WadBytes | Bound::CertBytes => Ok(String::new(alloc)),
     }
@@ -77,6 +80,7 @@ fn words_of(alloc: Global, status: &Status) -> Result<String, AllocError> {
         Status::NotWad(fault) => fault.to_string(alloc),
         Status::NoMap(fault) => fault.to_string(alloc),
         Status::BadLump(fault) => fault.to_string(alloc),
+        Status::BadText(fault) => fault.to_string(alloc),
         Status::Limit(bound) => words_of_bound(alloc, bound),
         Status::BadMap(flaw) => words_of_flaw(alloc, flaw),
         Status::No(Why::Ray(fault)) => fault.to_string(alloc),

@@ -29,7 +29,7 @@ use Rattle.map_answers.specs.declared.sight_status.status.Flaw.TheVariants as fl
 use Rattle.map_answers.specs.declared.sight_status.status.Status.{Status}
 use Rattle.map_answers.specs.declared.sight_status.status.Status.TheVariants as status
 use Rattle.map_answers.specs.SightStatus.Answer.{Answer, Written, ◌>>=◌}
-use Rattle.map_answers.specs.Input.{LocatedMap, found_in, lump_at, map_at, map_named, of_four_lumps, of_spot}
+use Rattle.map_answers.specs.Input.{LocatedMap, found_in, lump_at, map_at, map_named, of_spot, spelled}
 use Rattle.whole_wad.specs.declared.outcomes.MapOutcome.{MapOutcome}
 use Rattle.whole_wad.specs.declared.tables.MapTable.{MapTable}
 use Rattle.whole_wad.specs.Built.{IsBuiltOf}
@@ -90,7 +90,7 @@ map_alike large w new name h =
     let b = lump_same new w h.spot.sidedefs h.was.sidedefs h.sidedefs in
     let c = lump_same new w h.spot.vertexes h.was.vertexes h.vertexes in
     let d = lump_same new w h.spot.sectors h.was.sectors h.sectors in
-    (λ i. of_four_lumps (record { format = h.format i; large = large }) (a i) (b i) (c i) (d i))
+    (λ i. spelled (h.text i) (record { format = h.format i; large = large }) (a i) (b i) (c i) (d i))
 
 abbrev nothing : WadLump
 nothing = record { name = []; bytes = [] }

@@ -61,6 +61,7 @@ refuses words files heard before after o n (status.NoFile k) are quiet ends caus
 refuses words files heard before after o n (status.NotWad k) are quiet ends cause = inr (inr ends.ends.0.called)
 refuses words files heard before after o n (status.NoMap k) are quiet ends cause = inr (inr ends.ends.0.called)
 refuses words files heard before after o n (status.BadLump k) are quiet ends cause = inr (inr ends.ends.0.called)
+refuses words files heard before after o n (status.BadText k) are quiet ends cause = inr (inr ends.ends.0.called)
 refuses words files heard before after o n (status.Limit k) are quiet ends cause = inr (inr ends.ends.0.called)
 refuses words files heard before after o n (status.BadMap k) are quiet ends cause = inr (inr ends.ends.0.called)
 refuses words files heard before after o n status.SameName are quiet ends cause = inr (inr ends.ends.0.called)

@@ -1,15 +1,20 @@
 -- A map that was found is that of a plan.
-use Rattle.std.proofs.Common.{◌≡◌, Bool, Option, Some, None, Result, Ok, refl, subst}
+use Rattle.std.proofs.Common.{◌≡◌, ℕ, List, Bool, true, false, Err, Option, Some, None, Result, Ok, refl, subst}
 use Rattle.sight_names.specs.declared.faults.LumpFault.{LumpFault}
 use Rattle.sight_names.specs.declared.faults.LumpFault.TheVariants as lump
+use Rattle.sight_names.specs.declared.names.Reading.{Reading}
 use Rattle.sight_names.specs.Lumps.{lump_fault, map_of_lumps}
+use Rattle.udmf_map.specs.declared.faults.TextFault.{TextFault}
+use Rattle.udmf_map.specs.declared.faults.TextFault.TheVariants as text
+use Rattle.udmf_map.specs.Lumps.{LumpBytes, lumps_of_text}
 use Rattle.sight_names.specs.Map.{Map, map_of}
 use Rattle.sight_names.specs.Plan.{IsPlan, PlanParts}
 use Rattle.wad_dir.specs.declared.parts.MapSpot.{MapSpot}
 use Rattle.wad_dir.specs.Wad.{WadFile}
 use Rattle.run_laws.proofs.Planned.{HasPlan, lumps_have_plan}
 use Rattle.map_answers.specs.declared.sight_status.status.Status.{Status}
-use Rattle.map_answers.specs.Input.{lump_at, map_at, of_lumps, reading_at}
+use Rattle.map_answers.specs.Input.{lump_at, map_at, of_four_lumps, of_lumps, of_text, reading_at, spelled}
+use Rattle.map_answers.specs.SightStatus.Answer.{◌>>=◌}
 
 taken : (fault : Option LumpFault) (given m : Map) → of_lumps fault given ≡ Ok m → (fault ≡ None) × (given ≡ m)
 taken None given m e = (refl, same e)
@@ -22,10 +27,24 @@ taken (Some (lump.TooManyPoints n)) given m e = absurd cc
 taken (Some (lump.Memory _)) given m e = absurd cc
 taken (Some fault) given m e = absurd cc
 
+four_plan : (reading : Reading) (linedefs sidedefs vertexes sectors : List ℕ) (m : Map) → of_four_lumps reading linedefs sidedefs vertexes sectors ≡ Ok m → HasPlan m
+four_plan reading linedefs sidedefs vertexes sectors m e =
+    let t = taken (lump_fault reading linedefs sidedefs vertexes sectors) (map_of_lumps reading.format linedefs sidedefs vertexes sectors) m e in
+    subst HasPlan t.1 (lumps_have_plan reading linedefs sidedefs vertexes sectors t.0)
+
+text_plan : (reading : Reading) (r : Result LumpBytes TextFault) (m : Map) → of_text r >>= (λ (l : LumpBytes). of_four_lumps reading l.linedefs l.sidedefs l.vertexes l.sectors) ≡ Ok m → HasPlan m
+text_plan reading (Ok l) m e = four_plan reading l.linedefs l.sidedefs l.vertexes l.sectors m e
+text_plan reading (Err (text.TooManyVertices count)) m e = absurd cc
+text_plan reading (Err (text.TooManySides count)) m e = absurd cc
+text_plan reading (Err (text.Memory _)) m e = absurd cc
+text_plan reading (Err fault) m e = absurd cc
+
+spelled_plan : (t : Bool) (reading : Reading) (linedefs sidedefs vertexes sectors : List ℕ) (m : Map) → spelled t reading linedefs sidedefs vertexes sectors ≡ Ok m → HasPlan m
+spelled_plan true reading linedefs sidedefs vertexes sectors m e = text_plan reading (lumps_of_text linedefs) m e
+spelled_plan false reading linedefs sidedefs vertexes sectors m e = four_plan reading linedefs sidedefs vertexes sectors m e
+
 pub map_at_plan : (large : Bool) (w : WadFile) (spot : MapSpot) (m : Map) → map_at large w spot ≡ Ok m → HasPlan m
-map_at_plan large w spot m e =
-    let t = taken (lump_fault (reading_at large spot) (lump_at w spot.linedefs) (lump_at w spot.sidedefs) (lump_at w spot.vertexes) (lump_at w spot.sectors)) (map_of_lumps spot.format (lump_at w spot.linedefs) (lump_at w spot.sidedefs) (lump_at w spot.vertexes) (lump_at w spot.sectors)) m e in
-    subst HasPlan t.1 (lumps_have_plan (reading_at large spot) (lump_at w spot.linedefs) (lump_at w spot.sidedefs) (lump_at w spot.vertexes) (lump_at w spot.sectors) t.0)
+map_at_plan large w spot m e = spelled_plan spot.text (reading_at large spot) (lump_at w spot.linedefs) (lump_at w spot.sidedefs) (lump_at w spot.vertexes) (lump_at w spot.sectors) m e
 
 -- what holds of the map of each plan holds of a map that has one
 pub of_plan : (P : Map → Type 0) (m : Map) → HasPlan m → ((p : PlanParts) → IsPlan p → P (map_of p)) → P m

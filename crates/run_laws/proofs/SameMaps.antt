@@ -1,19 +1,20 @@
 -- The map of a change keeps its four lumps when all changes are made.
 use Rattle.std.proofs.Common.{◌≡◌, ℕ, zero, suc, ◌+◌, ◌-◌, ◌<◌, ◌≤◌, List, [], ◌∷◌, ◌++◌, length, drop, map, get_or, Bool, true, false, ◌==◌, if◌then◌else◌, Option, Some, None, Ok, refl, sym, ap, ◌∙◌, subst, arith}
-use Rattle.std.specs.Prelude.{codes, slice_get}
+use Rattle.std.specs.Prelude.{slice_get}
 use Rattle.std.specs.Char.{to_ascii_uppercase}
 use Rattle.std.specs.List.{AllByRecursion, insert}
 use Rattle.std.proofs.Math.ListN.{set}
 use Rattle.std.proofs.Math.Seq.{map-set_same}
 use Rattle.std.proofs.lemmas.List.{length-map}
+use Rattle.sight_names.specs.declared.faults.Lump.TheVariants.{Linedefs, Sidedefs, Vertexes, Sectors}
 use Rattle.wad_dir.specs.declared.parts.Kind.{Kind}
 use Rattle.wad_dir.specs.declared.parts.MapSpot.{MapSpot}
 use Rattle.wad_dir.specs.Kept.{IsKept, reject_then, spot_then}
-use Rattle.wad_dir.specs.Map.{is_run_name, key_of, same_name, shifted, spot_of}
+use Rattle.wad_dir.specs.Map.{begins_with_textmap, is_run_name, key_of, name_of, same_name, shifted, spot_of}
 use Rattle.wad_dir.specs.Print.{reject_lump, with_bytes, with_reject}
 use Rattle.wad_dir.specs.Wad.{WadFile, WadLump, names_of}
 use Rattle.wad_dir.proofs.Inserted.{padded, place_bound}
-use Rattle.wad_dir.proofs.Moved.{further, marker_named, spot_stays}
+use Rattle.wad_dir.proofs.Moved.{further, spot_stays}
 use Rattle.wad_dir.proofs.Rewritten.{get_before, get_other, kept, map_insert, sectors_within}
 use Rattle.wad_dir.proofs.Spots.{place, spot_parts}
 use Rattle.wad_dir.specs.declared.all_maps.parts.Change.{Change}
@@ -23,15 +24,16 @@ use Rattle.wad_dir.specs.AllMaps.Names.{word_of}
 use Rattle.wad_dir.specs.AllMaps.Spliced.{AreSpaced, piece, place_behind}
 use Rattle.wad_dir.proofs.AllMaps.Merging.{AreFurther, IsStep, changed_at, file, further_start, lump_names, spaced_lumps, step_of}
 use Rattle.wad_dir.proofs.AllMaps.Pieces.{shift_of, then_behind}
-use Rattle.wad_dir.proofs.AllMaps.Spacing.{lump_alike, no_reject, run_before, run_of}
+use Rattle.wad_dir.proofs.AllMaps.Spacing.{no_reject, run_before, run_of}
 
--- the name finds a map in both WADs, of one format, and its four lumps have the same names and bytes in both
+-- the name finds a map in both WADs, of one format, a text in both or in none, and its four lumps have the same names and bytes in both
 pub record HasSameMap (old new : WadFile) (name : List ℕ) : Type 0 where
   pub was : MapSpot
   pub was_found : spot_of (names_of old) name ≡ Ok was
   pub spot : MapSpot
   pub found : spot_of (names_of new) name ≡ Ok spot
   pub format : spot.format ≡ was.format
+  pub text : spot.text ≡ was.text
   pub linedefs : slice_get new.lumps spot.linedefs ≡ slice_get old.lumps was.linedefs
   pub sidedefs : slice_get new.lumps spot.sidedefs ≡ slice_get old.lumps was.sidedefs
   pub vertexes : slice_get new.lumps spot.vertexes ≡ slice_get old.lumps was.vertexes
@@ -97,12 +99,13 @@ in_run : (ns : List (List ℕ)) (name : List ℕ) (spot : MapSpot) → spot_of n
 in_run ns name spot found =
     let p = spot_parts ns name spot found in
     let run : List (List ℕ) = run_of ns p.marker in
+    let text : Bool = begins_with_textmap (drop (p.marker + 1) ns) in
     let below : (x : List ℕ) (k : ℕ) → place x run ≡ Some k → k < length run = (λ x k e. let h = place_bound (λ n. same_name n x) run 0 k e in omega (arith, h.1)) in
     subst (λ (y : MapSpot). InRun ns y) (sym p.is) (record {
-      linedefs = among p.marker (length run) p.l (below (codes "LINEDEFS") p.l p.linedefs);
-      sidedefs = among p.marker (length run) p.s (below (codes "SIDEDEFS") p.s p.sidedefs);
-      vertexes = among p.marker (length run) p.v (below (codes "VERTEXES") p.v p.vertexes);
-      sectors = among p.marker (length run) p.c (below (codes "SECTORS") p.c p.sectors);
+      linedefs = among p.marker (length run) p.l (below (name_of text Linedefs) p.l p.linedefs);
+      sidedefs = among p.marker (length run) p.s (below (name_of text Sidedefs) p.s p.sidedefs);
+      vertexes = among p.marker (length run) p.v (below (name_of text Vertexes) p.v p.vertexes);
+      sectors = among p.marker (length run) p.c (below (name_of text Sectors) p.c p.sectors);
     })
 
 -- ---- a map behind it gets another REJECT
@@ -121,8 +124,7 @@ module _ (first w : WadFile) (a : List ℕ) (bound : ℕ) (name : List ℕ) (spo
   run_ends : at.marker + 1 + length (run_of (names_of w) at.marker) ≤ spot.marker
   run_ends =
       let marker : at.marker < bound = s.marker in
-      let n = marker_named (names_of w) name spot found in
-      run_before (names_of w) at.marker spot.marker n.0 (omega (arith, marker, behind)) n.1 (lump_alike n.0 name n.2 ∙ other)
+      run_before (names_of w) a name at spot s.same.found found other (omega (arith, marker, behind))
 
   before : (k : ℕ) → IsAmong at.marker (length (run_of (names_of w) at.marker)) k → k < spot.marker
   before k h = let run = run_ends in let lt = h.1 in omega (arith, run, lt)
@@ -139,6 +141,7 @@ module _ (first w : WadFile) (a : List ℕ) (bound : ℕ) (name : List ℕ) (spo
       spot = at;
       found = there;
       format = s.same.format;
+      text = s.same.text;
       linedefs = as_before at.linedefs (before at.linedefs places.linedefs) ∙ s.same.linedefs;
       sidedefs = as_before at.sidedefs (before at.sidedefs places.sidedefs) ∙ s.same.sidedefs;
       vertexes = as_before at.vertexes (before at.vertexes places.vertexes) ∙ s.same.vertexes;
@@ -216,6 +219,7 @@ module _ (kind : Kind) (lumps front : List WadLump) (k done : ℕ) (c : Change) 
           spot = spot_then there;
           found = h.found;
           format = refl;
+          text = refl;
           linedefs = h.linedefs ∙ in_first s.spot.linedefs run.linedefs;
           sidedefs = h.sidedefs ∙ in_first s.spot.sidedefs run.sidedefs;
           vertexes = h.vertexes ∙ in_first s.spot.vertexes run.vertexes;

@@ -118,6 +118,7 @@ module _ (asked : Result Order Status) (files : Option Files) (heard : Heard) (o
   hears_refused before after (status.NotWad k) r cause h said = hears_made (status.NotWad k) r tt tt h said
   hears_refused before after (status.NoMap k) r cause h said = hears_made (status.NoMap k) r tt tt h said
   hears_refused before after (status.BadLump k) r cause h said = hears_made (status.BadLump k) r tt tt h said
+  hears_refused before after (status.BadText k) r cause h said = hears_made (status.BadText k) r tt tt h said
   hears_refused before after (status.Limit k) r cause h said = hears_made (status.Limit k) r tt tt h said
   hears_refused before after (status.BadMap k) r cause h said = hears_made (status.BadMap k) r tt tt h said
   hears_refused before after status.SameName r cause h said = hears_made status.SameName r tt tt h said

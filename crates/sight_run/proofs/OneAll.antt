@@ -117,10 +117,13 @@ module _ (out : List ℕ) (reported : Option (List ℕ)) (large : Bool) (maps : 
 
   stopped_so : (s : Status) → IsOfMap s → Stops choice → IsOfStop choice s
   stopped_so (status.BadLump fault) h stops = (stops, h)
+  stopped_so (status.BadText fault) h stops = (stops, h)
   stopped_so (status.BadMap flaw) h stops = stops
   stopped_so (status.Limit bound.Sectors) h stops = stops
   stopped_so (status.Limit bound.Lines) h stops = stops
   stopped_so (status.Limit bound.Points) h stops = stops
+  stopped_so (status.Limit bound.Vertices) h stops = stops
+  stopped_so (status.Limit bound.Sides) h stops = stops
   stopped_so (status.Memory _) h stops = tt
   stopped_so s h stops = absurd h
 

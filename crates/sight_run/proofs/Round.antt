@@ -18,7 +18,7 @@ use Rattle.wad_dir.specs.WadRewrite.Rewrite.{printed}
 use Rattle.wad_dir.proofs.WadRewrite.Reading.{rewritten_is_read}
 use Rattle.map_answers.specs.declared.sight_status.status.Status.{Status}
 use Rattle.map_answers.specs.SightStatus.Answer.{◌>>=◌}
-use Rattle.map_answers.specs.Input.{LocatedMap, found_in, lump_at, map_at, of_four_lumps, of_spot, of_wad, reading_at}
+use Rattle.map_answers.specs.Input.{LocatedMap, found_in, lump_at, map_at, of_spot, of_wad, reading_at, spelled}
 use Rattle.sight_run.specs.Zero.{of_rewrite, with_table}
 
 -- ---- steps that pass
@@ -143,4 +143,4 @@ found_again large name old table bytes found h other made =
         → lump_at (with_reject found.wad found.spot table) (spot_then found.spot).vertexes ≡ lump_at found.wad found.spot.vertexes
         → lump_at (with_reject found.wad found.spot table) (spot_then found.spot).sectors ≡ lump_at found.wad found.spot.sectors
         → map_at large (with_reject found.wad found.spot table) (spot_then found.spot) ≡ map_at large found.wad found.spot
-    four a b c d = λ i. of_four_lumps (reading_at large found.spot) (a i) (b i) (c i) (d i)
+    four a b c d = λ i. spelled found.spot.text (reading_at large found.spot) (a i) (b i) (c i) (d i)

@@ -121,10 +121,13 @@ names_cause only old new s h same = absurd h
 -- one that comes once the maps are known
 stop_of_all : (only : Option (List (List ℕ))) (choice : Refused) (s : Status) → IsOfStop choice s → IsOfAll only choice s
 stop_of_all only choice (status.BadLump fault) h = h
+stop_of_all only choice (status.BadText fault) h = h
 stop_of_all only choice (status.BadMap flaw) h = h
 stop_of_all only choice (status.Limit bound.Sectors) h = h
 stop_of_all only choice (status.Limit bound.Lines) h = h
 stop_of_all only choice (status.Limit bound.Points) h = h
+stop_of_all only choice (status.Limit bound.Vertices) h = h
+stop_of_all only choice (status.Limit bound.Sides) h = h
 stop_of_all only choice (status.Limit bound.Lumps) h = tt
 stop_of_all only choice (status.Limit bound.OutputBytes) h = tt
 stop_of_all only choice (status.Memory _) h = tt
@@ -137,6 +140,7 @@ of_stop only choice (Err s) h = stop_of_all only choice s h
 -- .. which the shelf doesn't explain either
 unexplained : (choice : Refused) (old new : ShelfState) (s : Status) → IsOfStop choice s → SameCounts old new → RefusalCause old new s
 unexplained choice old new (status.BadLump fault) h same = same
+unexplained choice old new (status.BadText fault) h same = same
 unexplained choice old new (status.BadMap flaw) h same = same
 unexplained choice old new (status.Limit bound) h same = same
 unexplained choice old new (status.Memory _) h same = tt
@@ -152,6 +156,7 @@ of_order wad out only report workers method choice (status.ReadFault role.Wad) h
 of_order wad out only report workers method choice (status.NotWad fault) h = tt
 of_order wad out only report workers method choice (status.NoMap fault) h = h
 of_order wad out only report workers method choice (status.BadLump fault) h = h.0
+of_order wad out only report workers method choice (status.BadText fault) h = h.0
 of_order wad out only report workers method choice (status.BadMap flaw) h = h
 of_order wad out only report workers method choice (status.Limit bound.WadBytes) h = tt
 of_order wad out only report workers method choice (status.Limit bound.Lumps) h = tt
@@ -159,6 +164,8 @@ of_order wad out only report workers method choice (status.Limit bound.OutputByt
 of_order wad out only report workers method choice (status.Limit bound.Sectors) h = h
 of_order wad out only report workers method choice (status.Limit bound.Lines) h = h
 of_order wad out only report workers method choice (status.Limit bound.Points) h = h
+of_order wad out only report workers method choice (status.Limit bound.Vertices) h = h
+of_order wad out only report workers method choice (status.Limit bound.Sides) h = h
 of_order wad out only report workers method choice (status.Memory _) h = tt
 of_order wad out only report workers method choice s h = absurd h
 

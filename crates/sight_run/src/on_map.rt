@@ -4,7 +4,7 @@ ghost use Rattle.std.specs.Prelude.{◌≡◌, ◌++◌, [], IfErr, IfOk, IsSome
 ghost use Rattle.std.specs.Option.{option_map};
 ghost use Rattle.listeners.specs.Told.{texts};
 ghost use Rattle.shelf_io.specs.Shelf.{Files, NoneFell};
-ghost use Rattle.map_answers.specs.Noise.{HasLinedefs};
+ghost use Rattle.map_answers.specs.Noise.{HasDampers};
 ghost use Rattle.map_answers.specs.SightStatus.Answer.{Gives, line_answer, status_of};
 ghost use Rattle.map_answers.specs.SightStatus.Status.{IsProper};
 ghost use Rattle.map_answers.specs.Views.{IsWhole, found};
@@ -53,7 +53,7 @@ pub fn asked_map(order: &Order) -> Option<(&Source, &str)>
 /// The line that an order calls for which asks for a line alone.
 fn line_on(alloc: Global, order: &Order, input: &Input) -> Result<String, Status>
     requires whole { IsWhole input.now }
-    requires linedefs { HasLinedefs input.now }
+    requires dampers { HasDampers input.now }
     requires line { IsOfLine order.now }
     ensures called { (files : Files) (heard : Heard) → Gives (HasOneOn order.now (Ok (found input.now))) (CallsOn order.now files heard (found input.now)) (line_answer result) }
     ensures refusals { IfErr result (IsOfOrder order.now) }
@@ -75,7 +75,7 @@ fn line_on(alloc: Global, order: &Order, input: &Input) -> Result<String, Status
 /// What an order calls for that is answered from its map alone.
 fn answer_on(alloc: Global, order: &Order, input: &Input) -> Result<Reply, Status>
     requires whole { IsWhole input.now }
-    requires linedefs { HasLinedefs input.now }
+    requires dampers { HasDampers input.now }
     requires alone { IsOfMapAlone order.now }
     ensures called { (files : Files) (heard : Heard) → Gives (HasOneOn order.now (Ok (found input.now))) (CallsOn order.now files heard (found input.now)) (reply_seen result) }
     ensures refusals { IfErr result (IsOfOrder order.now) }
@@ -108,7 +108,7 @@ pub fn reply_on<R: Threads + Sync, S: Shelf, G: Gate + Sync>(
     requires built { IsTrue (is_built order.now) }
     requires asks { IsSome (map_asked order.now) }
     requires whole { IsWhole input }
-    requires linedefs { HasLinedefs input }
+    requires dampers { HasDampers input }
     requires none { ended.old.items ≡ [] }
     ensures told { (files : Files) → (S.state shelf.old).files ≡ Some files →
         Gives (HasOneOn order.now (Ok (found input))) (CallsOn order.now files (heard_as (map (λ b. listener_state b) listeners.old.items) (map (λ b. listener_state b) listeners.new.items)) (found input))

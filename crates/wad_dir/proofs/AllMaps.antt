@@ -1,6 +1,7 @@
 pub mod Told
 pub mod LastPlaces
 pub mod FoundMaps
+pub mod TextRuns
 pub mod Spacing
 pub mod Pieces
 pub mod Merging

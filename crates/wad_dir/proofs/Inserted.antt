@@ -5,8 +5,8 @@ use Rattle.std.specs.List.{insert, list_any, position_from}
 use Rattle.std.proofs.lemmas.List.{append-nil}
 use Rattle.std.proofs.lemmas.List.Folds.{list_any-append}
 use Rattle.std.proofs.lemmas.Slice.Eq.{bytes_eq-Decides}
-use Rattle.wad_dir.specs.Map.{has_name, is_run_name, key_of, last_from, run_from, same_name}
-use Rattle.math_base.proofs.Bools.{second_false, first_false}
+use Rattle.wad_dir.specs.Map.{belongs, ends_text, has_name, is_run_name, key_of, last_from, run_from, same_name, stands_once}
+use Rattle.math_base.proofs.Bools.{first_false, first_true, second_false}
 
 -- ---- an element put into a list
 
@@ -78,51 +78,58 @@ last_within ns name k m h = by (among ns k None h)
 
 -- ---- the run
 
--- what the names behind those before them add to a run
-pub more : List (List ℕ) → List (List ℕ) → List (List ℕ)
-more before [] = []
-more before (n ∷ ns) = if is_run_name n && not (has_name n before) then n ∷ more (before ++ n ∷ []) ns else []
+-- what the names behind those before them add to a run, which is of UDMF or not
+unfoldable pub more : Bool → List (List ℕ) → List (List ℕ) → List (List ℕ)
+more text before [] = []
+more text before (n ∷ ns) = if belongs text n before then n ∷ more text (before ++ n ∷ []) ns else []
 
-pub run_is : (before ns : List (List ℕ)) → run_from before ns ≡ before ++ more before ns
+pub run_is : (text : Bool) (before ns : List (List ℕ)) → run_from text before ns ≡ before ++ more text before ns
 unfolding more
-run_is before [] = sym (append-nil before)
-run_is before (n ∷ ns) = by (is_run_name n && not (has_name n before)) (run_is (before ++ n ∷ []) ns)
+run_is text before [] = sym (append-nil before)
+run_is text before (n ∷ ns) = by (belongs text n before) (run_is text (before ++ n ∷ []) ns)
   where
-    by : (c : Bool) → run_from (before ++ n ∷ []) ns ≡ (before ++ n ∷ []) ++ more (before ++ n ∷ []) ns → (if c then run_from (before ++ n ∷ []) ns else before) ≡ before ++ (if c then n ∷ more (before ++ n ∷ []) ns else [])
-    by true rest = rest ∙ append_assoc before (n ∷ []) (more (before ++ n ∷ []) ns)
+    by : (c : Bool) → run_from text (before ++ n ∷ []) ns ≡ (before ++ n ∷ []) ++ more text (before ++ n ∷ []) ns → (if c then run_from text (before ++ n ∷ []) ns else before) ≡ before ++ (if c then n ∷ more text (before ++ n ∷ []) ns else [])
+    by true rest = rest ∙ append_assoc before (n ∷ []) (more text (before ++ n ∷ []) ns)
     by false rest = sym (append-nil before)
 
 -- a run is no longer than the names
-pub more_short : (before ns : List (List ℕ)) → length (more before ns) ≤ length ns
+pub more_short : (text : Bool) (before ns : List (List ℕ)) → length (more text before ns) ≤ length ns
 unfolding more
-more_short before [] = omega arith
-more_short before (n ∷ ns) = by (is_run_name n && not (has_name n before)) (more_short (before ++ n ∷ []) ns)
+more_short text before [] = omega arith
+more_short text before (n ∷ ns) = by (belongs text n before) (more_short text (before ++ n ∷ []) ns)
   where
-    by : (c : Bool) → length (more (before ++ n ∷ []) ns) ≤ length ns → length (if c then n ∷ more (before ++ n ∷ []) ns else []) ≤ length (n ∷ ns)
+    by : (c : Bool) → length (more text (before ++ n ∷ []) ns) ≤ length ns → length (if c then n ∷ more text (before ++ n ∷ []) ns else []) ≤ length (n ∷ ns)
     by true rest = omega (arith, rest)
     by false rest = omega arith
 
--- each of the names that are added is that of a map's lump
-pub more_named : (before ns : List (List ℕ)) (j : ℕ) (d : List ℕ) → j < length (more before ns) → is_run_name (get_or ns j d) ≡ true
+-- what holds of each name that belongs to a run holds of all that are added
+more_each : (text : Bool) (P : List ℕ → Type 0) → ((n : List ℕ) (seen : List (List ℕ)) → belongs text n seen ≡ true → P n) → (before ns : List (List ℕ)) (j : ℕ) (d : List ℕ) → j < length (more text before ns) → P (get_or ns j d)
 unfolding more
-more_named before [] j d lt = absurd (omega (arith, lt))
-more_named before (n ∷ ns) j d lt = by (is_run_name n) (has_name n before) refl (λ k l. more_named (before ++ n ∷ []) ns k d l) j lt
+more_each text P named before [] j d lt = absurd (omega (arith, lt))
+more_each text P named before (n ∷ ns) j d lt = by (belongs text n before) refl (λ k l. more_each text P named (before ++ n ∷ []) ns k d l) j lt
   where
-    by : (r b : Bool) → is_run_name n ≡ r → ((k : ℕ) → k < length (more (before ++ n ∷ []) ns) → is_run_name (get_or ns k d) ≡ true) → (i : ℕ) → i < length (if r && not b then n ∷ more (before ++ n ∷ []) ns else []) → is_run_name (get_or (n ∷ ns) i d) ≡ true
-    by true false e rest zero l = e
-    by true false e rest (suc i) l = rest i (omega (arith, l))
-    by true true e rest i l = absurd (omega (arith, l))
-    by false b e rest i l = absurd (omega (arith, l))
+    by : (c : Bool) → belongs text n before ≡ c → ((k : ℕ) → k < length (more text (before ++ n ∷ []) ns) → P (get_or ns k d)) → (i : ℕ) → i < length (if c then n ∷ more text (before ++ n ∷ []) ns else []) → P (get_or (n ∷ ns) i d)
+    by true e rest zero l = named n before e
+    by true e rest (suc i) l = rest i (omega (arith, l))
+    by false e rest i l = absurd (omega (arith, l))
+
+-- each of the names that are added is that of a map's lump
+pub more_named : (before ns : List (List ℕ)) (j : ℕ) (d : List ℕ) → j < length (more false before ns) → is_run_name (get_or ns j d) ≡ true
+more_named before ns j d lt = more_each false (λ (n : List ℕ). is_run_name n ≡ true) (λ n seen e. first_true (is_run_name n) (not (has_name n seen)) e) before ns j d lt
+
+-- .. and in a map of UDMF none that ends it
+pub more_goes_on : (before ns : List (List ℕ)) (j : ℕ) (d : List ℕ) → j < length (more true before ns) → not (ends_text (get_or ns j d)) ≡ true
+more_goes_on before ns j d lt = more_each true (λ (n : List ℕ). not (ends_text n) ≡ true) (λ n seen e. first_true (not (ends_text n)) (not (stands_once n && has_name n seen)) e) before ns j d lt
 
 -- a name that is put in behind what ends a run leaves the run as it is
-pub more_stays : (p : ℕ) (before ns : List (List ℕ)) (x : List ℕ) → length (more before ns) < p → p ≤ length ns → more before (insert ns p x) ≡ more before ns
+pub more_stays : (text : Bool) (p : ℕ) (before ns : List (List ℕ)) (x : List ℕ) → length (more text before ns) < p → p ≤ length ns → more text before (insert ns p x) ≡ more text before ns
 unfolding more
-more_stays zero before ns x lt le = absurd (omega (arith, lt))
-more_stays (suc p) before [] x lt le = absurd (omega (arith, le))
-more_stays (suc p) before (n ∷ ns) x lt le = by (is_run_name n && not (has_name n before)) (λ l. more_stays p (before ++ n ∷ []) ns x l (omega (arith, le))) lt
+more_stays text zero before ns x lt le = absurd (omega (arith, lt))
+more_stays text (suc p) before [] x lt le = absurd (omega (arith, le))
+more_stays text (suc p) before (n ∷ ns) x lt le = by (belongs text n before) (λ l. more_stays text p (before ++ n ∷ []) ns x l (omega (arith, le))) lt
   where
-    by : (c : Bool) → (length (more (before ++ n ∷ []) ns) < p → more (before ++ n ∷ []) (insert ns p x) ≡ more (before ++ n ∷ []) ns) → length (if c then n ∷ more (before ++ n ∷ []) ns else []) < suc p
-        → (if c then n ∷ more (before ++ n ∷ []) (insert ns p x) else []) ≡ (if c then n ∷ more (before ++ n ∷ []) ns else [])
+    by : (c : Bool) → (length (more text (before ++ n ∷ []) ns) < p → more text (before ++ n ∷ []) (insert ns p x) ≡ more text (before ++ n ∷ []) ns) → length (if c then n ∷ more text (before ++ n ∷ []) ns else []) < suc p
+        → (if c then n ∷ more text (before ++ n ∷ []) (insert ns p x) else []) ≡ (if c then n ∷ more text (before ++ n ∷ []) ns else [])
     by true rest l = ap (λ (ms : List (List ℕ)). n ∷ ms) (rest (omega (arith, l)))
     by false rest l = refl
 
@@ -136,6 +143,10 @@ padded = codes "REJECT" ++ 0 ∷ 0 ∷ []
 -- the one list has the names of the other, and a REJECT
 abbrev HasAlso : List (List ℕ) → List (List ℕ) → Type 0
 HasAlso before after = (n : List ℕ) → has_name n after ≡ (has_name n before || same_name padded n)
+
+or_false : (b : Bool) → (b || false) ≡ b
+or_false true = refl
+or_false false = refl
 
 shuffled : (a b c : Bool) → ((a || b) || (c || false)) ≡ ((a || (c || false)) || b)
 shuffled true b c = refl
@@ -151,54 +162,78 @@ also_pushed before after x h n = grind (arith, list_any-append, padded, shuffled
 is_reject : (n : List ℕ) → same_name padded n ≡ true → same_name n word ≡ true
 is_reject n h = subst (λ (k : List ℕ). bytes_eq k word ≡ true) ((bytes_eq-Decides word (key_of n)).0 h) refl
 
+-- what belongs to a run behind names, and a REJECT or not
+belongs_by : (text r e o b s : Bool) → Bool
+belongs_by true r e o b s = not e && not (o && (b || s))
+belongs_by false r e o b s = r && not (b || s)
+
+also_belongs : (text : Bool) (before after : List (List ℕ)) (n : List ℕ) → HasAlso before after → belongs text n after ≡ belongs_by text (is_run_name n) (ends_text n) (stands_once n) (has_name n before) (same_name padded n)
+unfolding belongs_by
+also_belongs true before after n also = ap (λ (b : Bool). not (ends_text n) && not (stands_once n && b)) (also n)
+also_belongs false before after n also = ap (λ (b : Bool). is_run_name n && not b) (also n)
+
+as_before : (text : Bool) (before : List (List ℕ)) (n : List ℕ) → belongs text n before ≡ belongs_by text (is_run_name n) (ends_text n) (stands_once n) (has_name n before) false
+unfolding belongs_by
+as_before true before n = ap (λ (b : Bool). not (ends_text n) && not (stands_once n && b)) (sym (or_false (has_name n before)))
+as_before false before n = ap (λ (b : Bool). is_run_name n && not b) (sym (or_false (has_name n before)))
+
+-- a name that doesn't belong doesn't belong behind more names
+no_more : (text r e o b s : Bool) → belongs_by text r e o b false ≡ false → belongs_by text r e o b s ≡ false
+unfolding belongs_by
+no_more true r true o b s h = refl
+no_more true r false false b s h = absurd cc
+no_more true r false true true s h = refl
+no_more true r false true false s h = absurd cc
+no_more false false e o b s h = refl
+no_more false true e o true s h = refl
+no_more false true e o false s h = absurd cc
+
 -- a REJECT before the names changes nothing, where there is none among what they add
-more_same : (before after ns : List (List ℕ)) → HasAlso before after → has_name word (more before ns) ≡ false → more after ns ≡ more before ns
+more_same : (text : Bool) (before after ns : List (List ℕ)) → HasAlso before after → has_name word (more text before ns) ≡ false → more text after ns ≡ more text before ns
 unfolding more
-more_same before after [] also none = refl
-more_same before after (n ∷ ns) also none = by (is_run_name n) (has_name n before) (same_name padded n) (has_name n after) refl (also n) none (λ q. more_same (before ++ n ∷ []) (after ++ n ∷ []) ns (also_pushed before after n also) q)
+more_same text before after [] also none = refl
+more_same text before after (n ∷ ns) also none = by (belongs text n before) (same_name padded n) (belongs text n after) refl (as_before text before n) (also_belongs text before after n also) none (λ q. more_same text (before ++ n ∷ []) (after ++ n ∷ []) ns (also_pushed before after n also) q)
   where
-    named : same_name padded n ≡ true → has_name word (n ∷ more (before ++ n ∷ []) ns) ≡ false → ⊥
+    named : same_name padded n ≡ true → has_name word (n ∷ more text (before ++ n ∷ []) ns) ≡ false → ⊥
     named s e = by_name (same_name n word) (is_reject n s) e
       where
-        by_name : (b : Bool) → b ≡ true → (b || has_name word (more (before ++ n ∷ []) ns)) ≡ false → ⊥
+        by_name : (b : Bool) → b ≡ true → (b || has_name word (more text (before ++ n ∷ []) ns)) ≡ false → ⊥
         by_name true p q = absurd cc
         by_name false p q = absurd cc
 
-    by : (r b s a : Bool) → same_name padded n ≡ s → a ≡ (b || s) → has_name word (if r && not b then n ∷ more (before ++ n ∷ []) ns else []) ≡ false
-        → (has_name word (more (before ++ n ∷ []) ns) ≡ false → more (after ++ n ∷ []) ns ≡ more (before ++ n ∷ []) ns)
-        → (if r && not a then n ∷ more (after ++ n ∷ []) ns else []) ≡ (if r && not b then n ∷ more (before ++ n ∷ []) ns else [])
-    by false b s a is e q rest = refl
-    by true true s true is e q rest = refl
-    by true true s false is e q rest = absurd cc
-    by true false true a is e q rest = absurd (named is q)
-    by true false false true is e q rest = absurd cc
-    by true false false false is e q rest = ap (λ (ms : List (List ℕ)). n ∷ ms) (rest (second_false (same_name n word) (has_name word (more (before ++ n ∷ []) ns)) q))
+    tests : Bool → Bool
+    tests s = belongs_by text (is_run_name n) (ends_text n) (stands_once n) (has_name n before) s
+
+    by : (c s a : Bool) → same_name padded n ≡ s → c ≡ tests false → a ≡ tests s → has_name word (if c then n ∷ more text (before ++ n ∷ []) ns else []) ≡ false
+        → (has_name word (more text (before ++ n ∷ []) ns) ≡ false → more text (after ++ n ∷ []) ns ≡ more text (before ++ n ∷ []) ns)
+        → (if a then n ∷ more text (after ++ n ∷ []) ns else []) ≡ (if c then n ∷ more text (before ++ n ∷ []) ns else [])
+    by true true a is e f q rest = absurd (named is q)
+    by true false true is e f q rest = ap (λ (ms : List (List ℕ)). n ∷ ms) (rest (second_false (same_name n word) (has_name word (more text (before ++ n ∷ []) ns)) q))
+    by true false false is e f q rest = absurd (let both : true ≡ false = e ∙ sym f in cc)
+    by false s true is e f q rest = absurd (let both : true ≡ false = f ∙ no_more text (is_run_name n) (ends_text n) (stands_once n) (has_name n before) s (sym e) in cc)
+    by false s false is e f q rest = refl
 
 -- a REJECT that is put into what is added, where there is none yet, is added
-pub more_insert : (p : ℕ) (before ns : List (List ℕ)) → p ≤ length (more before ns) → has_name word before ≡ false → has_name word (more before ns) ≡ false → more before (insert ns p padded) ≡ insert (more before ns) p padded
+pub more_insert : (text : Bool) (p : ℕ) (before ns : List (List ℕ)) → p ≤ length (more text before ns) → has_name word before ≡ false → has_name word (more text before ns) ≡ false → more text before (insert ns p padded) ≡ insert (more text before ns) p padded
 unfolding more
-more_insert zero before ns le none fresh = by (has_name word before) none
+more_insert text zero before ns le none fresh = ap (λ (c : Bool). if c then padded ∷ more text (before ++ padded ∷ []) ns else []) (fits text) ∙ ap (λ (ms : List (List ℕ)). padded ∷ ms) (more_same text before (before ++ padded ∷ []) ns also fresh)
   where
     also : HasAlso before (before ++ padded ∷ [])
-    also n = list_any-append (λ y. same_name y n) before (padded ∷ []) ∙ ap (λ (b : Bool). has_name n before || b) (last (same_name padded n))
-      where
-        last : (b : Bool) → (b || false) ≡ b
-        last true = refl
-        last false = refl
+    also n = list_any-append (λ y. same_name y n) before (padded ∷ []) ∙ ap (λ (b : Bool). has_name n before || b) (or_false (same_name padded n))
 
-    by : (b : Bool) → b ≡ false → (if not b then padded ∷ more (before ++ padded ∷ []) ns else []) ≡ padded ∷ more before ns
-    by true e = absurd cc
-    by false e = ap (λ (ms : List (List ℕ)). padded ∷ ms) (more_same before (before ++ padded ∷ []) ns also fresh)
-more_insert (suc p) before [] le none fresh = absurd (omega (arith, le))
-more_insert (suc p) before (n ∷ ns) le none fresh = by (is_run_name n && not (has_name n before)) (λ l a b. more_insert p (before ++ n ∷ []) ns l a b) le fresh
+    fits : (t : Bool) → belongs t padded before ≡ true
+    fits true = ap not none
+    fits false = ap not none
+more_insert text (suc p) before [] le none fresh = absurd (omega (arith, le))
+more_insert text (suc p) before (n ∷ ns) le none fresh = by (belongs text n before) (λ l a b. more_insert text p (before ++ n ∷ []) ns l a b) le fresh
   where
     behind : same_name n word ≡ false → has_name word (before ++ n ∷ []) ≡ false
     behind e = list_any-append (λ y. same_name y word) before (n ∷ []) ∙ ap (λ (b : Bool). b || (same_name n word || false)) none ∙ ap (λ (b : Bool). b || false) e
 
-    by : (c : Bool) → (p ≤ length (more (before ++ n ∷ []) ns) → has_name word (before ++ n ∷ []) ≡ false → has_name word (more (before ++ n ∷ []) ns) ≡ false → more (before ++ n ∷ []) (insert ns p padded) ≡ insert (more (before ++ n ∷ []) ns) p padded)
-        → suc p ≤ length (if c then n ∷ more (before ++ n ∷ []) ns else []) → has_name word (if c then n ∷ more (before ++ n ∷ []) ns else []) ≡ false
-        → (if c then n ∷ more (before ++ n ∷ []) (insert ns p padded) else []) ≡ insert (if c then n ∷ more (before ++ n ∷ []) ns else []) (suc p) padded
-    by true rest l q = ap (λ (ms : List (List ℕ)). n ∷ ms) (rest (omega (arith, l)) (behind (first_false (same_name n word) (has_name word (more (before ++ n ∷ []) ns)) q)) (second_false (same_name n word) (has_name word (more (before ++ n ∷ []) ns)) q))
+    by : (c : Bool) → (p ≤ length (more text (before ++ n ∷ []) ns) → has_name word (before ++ n ∷ []) ≡ false → has_name word (more text (before ++ n ∷ []) ns) ≡ false → more text (before ++ n ∷ []) (insert ns p padded) ≡ insert (more text (before ++ n ∷ []) ns) p padded)
+        → suc p ≤ length (if c then n ∷ more text (before ++ n ∷ []) ns else []) → has_name word (if c then n ∷ more text (before ++ n ∷ []) ns else []) ≡ false
+        → (if c then n ∷ more text (before ++ n ∷ []) (insert ns p padded) else []) ≡ insert (if c then n ∷ more text (before ++ n ∷ []) ns else []) (suc p) padded
+    by true rest l q = ap (λ (ms : List (List ℕ)). n ∷ ms) (rest (omega (arith, l)) (behind (first_false (same_name n word) (has_name word (more text (before ++ n ∷ []) ns)) q)) (second_false (same_name n word) (has_name word (more text (before ++ n ∷ []) ns)) q))
     by false rest l q = absurd (omega (arith, l))
 
 -- ---- places

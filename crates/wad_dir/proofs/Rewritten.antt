@@ -1,5 +1,5 @@
 -- A WAD with another REJECT for a map has the map at its place, and all its other lumps.
-use Rattle.std.proofs.Common.{◌≡◌, ◌≢◌, ℕ, zero, suc, ◌+◌, ◌<◌, ◌≤◌, List, [], ◌∷◌, length, drop, map, Bool, true, false, if◌then◌else◌, nat_lt, Option, Some, None, Ok, refl, sym, ap, ◌∙◌, arith}
+use Rattle.std.proofs.Common.{◌≡◌, ◌≢◌, ℕ, zero, suc, ◌+◌, ◌<◌, ◌≤◌, List, [], ◌∷◌, length, drop, map, Bool, true, false, not, ◌&&◌, if◌then◌else◌, nat_lt, Option, Some, None, Ok, refl, sym, ap, ◌∙◌, arith}
 use Rattle.std.specs.Prelude.{codes, slice_get}
 use Rattle.std.specs.List.{insert, position_from}
 use Rattle.std.proofs.Math.ListN.{get_or, set}
@@ -7,13 +7,16 @@ use Rattle.std.proofs.Math.Seq.{map-set_same}
 use Rattle.std.proofs.lemmas.Bool.Decides.{Decides-ltb, not_from_Decides}
 use Rattle.std.proofs.lemmas.List.{length-drop, length-map, length-set}
 use Rattle.std.proofs.lemmas.List.Edits.{length-insert}
+use Rattle.sight_names.specs.declared.faults.Lump.{Lump}
+use Rattle.sight_names.specs.declared.faults.Lump.TheVariants.{Linedefs, Sidedefs, Vertexes, Sectors}
 use Rattle.wad_dir.specs.declared.parts.MapSpot.{MapSpot}
-use Rattle.wad_dir.specs.Map.{last_from, same_name, shifted, spot_of}
+use Rattle.wad_dir.specs.Map.{begins_with, begins_with_textmap, format_behind, last_from, name_of, same_name, shifted, spot_of}
 use Rattle.wad_dir.specs.Print.{reject_lump, with_bytes, with_reject}
 use Rattle.wad_dir.specs.Wad.{WadFile, WadLump, names_of}
 use Rattle.wad_dir.specs.Kept.{IsKept, spot_then}
 use Rattle.wad_dir.proofs.Inserted.{apart, drop_behind, drop_insert, last_kept, last_within, more, more_insert, more_short, none_there, padded, place_before, place_behind, place_bound, place_new, word}
-use Rattle.wad_dir.proofs.Spots.{IsSpot, place, spot_at, spot_from, spot_parts}
+use Rattle.wad_dir.proofs.Spots.{IsSpot, end_at, is_cut, lump_place, place, run_at, spot_at, spot_from, spot_parts}
+use Rattle.wad_dir.proofs.Moved.{head_stays}
 
 -- ---- lists
 
@@ -67,14 +70,32 @@ place_moved test xs c k x h other = by (nat_lt c k) refl
     by true e = place_behind test xs (c + 1) 0 k x h (let lt : c < k = (Decides-ltb c k).0 e in omega (arith, lt)) other
     by false e = place_before test xs (c + 1) 0 k x h (let not : ¬ (c < k) = not_from_Decides (nat_lt c k) (Decides-ltb c k) e in omega (arith, not))
 
+-- the name of a REJECT is none of the four
+no_reject : (text : Bool) (lump : Lump) → same_name padded (name_of text lump) ≡ false
+no_reject true lump = refl
+no_reject false Linedefs = refl
+no_reject false Sidedefs = refl
+no_reject false Vertexes = refl
+no_reject false Sectors = refl
+
+none_of_reject : (text : Bool) (lump : Lump) → same_name (name_of text lump) word ≡ false
+none_of_reject true lump = refl
+none_of_reject false Linedefs = refl
+none_of_reject false Sidedefs = refl
+none_of_reject false Vertexes = refl
+none_of_reject false Sectors = refl
+
 -- ---- the REJECT is put in
 
 module _ (ns : List (List ℕ)) (name : List ℕ) (spot : MapSpot) (p : IsSpot ns name spot) where
   abbrev after : List (List ℕ)
   after = drop (p.marker + 1) ns
 
+  abbrev text : Bool
+  text = begins_with_textmap after
+
   abbrev run : List (List ℕ)
-  run = more [] after
+  run = run_at after
 
   marker_within : p.marker < length ns
   marker_within = let h = last_within ns name 0 p.marker p.is_last in omega (arith, h)
@@ -83,10 +104,15 @@ module _ (ns : List (List ℕ)) (name : List ℕ) (spot : MapSpot) (p : IsSpot n
   after_length = let h = length-drop (p.marker + 1) ns in let w = marker_within in omega (arith, h, w)
 
   sectors_in_run : p.c < length run
-  sectors_in_run = let h = place_bound (λ n. same_name n (codes "SECTORS")) run 0 p.c p.sectors in omega (arith, h.1)
+  sectors_in_run = let h = place_bound (λ n. same_name n (name_of text Sectors)) run 0 p.c p.sectors in omega (arith, h.1)
 
   pub sectors_within : spot.sectors < length ns
-  sectors_within = grind (arith, after, after_length, more_short, sectors_in_run)
+  sectors_within =
+      let a = after_length in
+      let b = sectors_in_run in
+      let d = more_short text [] after in
+      let is : spot.sectors ≡ p.marker + 1 + p.c = ap (λ (x : MapSpot). x.sectors) p.is in
+      omega (arith, a, b, d, is)
 
   -- ---- none is there
 
@@ -103,40 +129,66 @@ module _ (ns : List (List ℕ)) (name : List ℕ) (spot : MapSpot) (p : IsSpot n
     after_put : drop (p.marker + 1) put ≡ insert after (p.c + 1) padded
     after_put = ap (λ (k : ℕ). drop (p.marker + 1) (insert ns k padded)) place_put ∙ drop_insert ns (p.marker + 1) (p.c + 1) padded (let w = marker_within in omega (arith, w))
 
-    run_put : more [] (insert after (p.c + 1) padded) ≡ insert run (p.c + 1) padded
-    run_put = more_insert (p.c + 1) [] after (let a = sectors_in_run in omega (arith, a)) refl (none_there (λ n. same_name n word) run 0 (p.reject ∙ none))
+    text_put : begins_with_textmap (insert after (p.c + 1) padded) ≡ text
+    text_put = let a = sectors_in_run in let b = more_short text [] after in head_stays (codes "TEXTMAP") after 0 (p.c + 1) padded (omega arith) (omega (arith, a, b))
 
-    end_put : drop (length (insert run (p.c + 1) padded)) (insert after (p.c + 1) padded) ≡ drop (length run) after
+    run_put : run_at (insert after (p.c + 1) padded) ≡ insert run (p.c + 1) padded
+    run_put = ap (λ (t : Bool). more t [] (insert after (p.c + 1) padded)) text_put ∙ more_insert text (p.c + 1) [] after (let a = sectors_in_run in omega (arith, a)) refl (none_there (λ n. same_name n word) run 0 (p.reject ∙ none))
+
+    end_put : end_at (insert after (p.c + 1) padded) ≡ end_at after
     end_put =
         let a = sectors_in_run in
-        let b = more_short [] after in
+        let b = more_short text [] after in
         let long : length (insert run (p.c + 1) padded) ≡ suc (length run) = (let h = length-insert run (p.c + 1) padded (omega (arith, a)) in omega (arith, h)) in
-        ap (λ (k : ℕ). drop k (insert after (p.c + 1) padded)) long ∙ drop_behind after (p.c + 1) (length run) padded (omega (arith, a)) (omega (arith, a, b))
+        ap (λ (ys : List (List ℕ)). drop (length ys) (insert after (p.c + 1) padded)) run_put ∙ ap (λ (k : ℕ). drop k (insert after (p.c + 1) padded)) long ∙ drop_behind after (p.c + 1) (length run) padded (omega (arith, a)) (omega (arith, a, b))
 
     -- a place in the new run
-    at_put : (x : List ℕ) (k : ℕ) → place x (insert run (p.c + 1) padded) ≡ Some k → place x (more [] (drop (p.marker + 1) put)) ≡ Some k
-    at_put x k h = ap (λ (ys : List (List ℕ)). place x (more [] ys)) after_put ∙ ap (place x) run_put ∙ h
+    at_put : (lump : Lump) (k : ℕ) → lump_place lump after ≡ Some k → lump_place lump (drop (p.marker + 1) put) ≡ Some (moved p.c k)
+    at_put lump k h =
+        ap (λ (ys : List (List ℕ)). lump_place lump ys) after_put ∙ (λ i. place (name_of (text_put i) lump) (run_put i))
+        ∙ place_moved (λ n. same_name n (name_of text lump)) run p.c k padded h (no_reject text lump)
 
-    parts_put : IsSpot put name (spot_at p.marker p.format (moved p.c p.l) (moved p.c p.s) (moved p.c p.v) (moved p.c p.c) (Some (p.c + 1)))
-    parts_put = grind (arith, after, after_put, at_put, end_put, last_put, more, moved, place_moved, place_new, run, run_put, sectors_in_run)
+    parts_put : IsSpot put name (spot_at p.marker p.text p.format (moved p.c p.l) (moved p.c p.s) (moved p.c p.v) (moved p.c p.c) (Some (p.c + 1)))
+    parts_put =
+        let a = sectors_in_run in
+        let none_more : 0 + (p.c + 1) ≡ p.c + 1 = omega arith in record {
+          marker = p.marker;
+          is_last = last_put;
+          text = p.text;
+          is_text = ap (λ (ys : List (List ℕ)). begins_with_textmap ys) after_put ∙ text_put ∙ p.is_text;
+          whole = ap (λ (ys : List (List ℕ)). is_cut ys) after_put ∙ (λ i. text_put i && not (begins_with (codes "ENDMAP") (end_put i))) ∙ p.whole;
+          format = p.format;
+          behind_run = ap (λ (ys : List (List ℕ)). format_behind (end_at ys)) after_put ∙ ap (λ (ys : List (List ℕ)). format_behind ys) end_put ∙ p.behind_run;
+          l = moved p.c p.l;
+          s = moved p.c p.s;
+          v = moved p.c p.v;
+          c = moved p.c p.c;
+          r = Some (p.c + 1);
+          linedefs = at_put Linedefs p.l p.linedefs;
+          sidedefs = at_put Sidedefs p.s p.sidedefs;
+          vertexes = at_put Vertexes p.v p.vertexes;
+          sectors = at_put Sectors p.c p.sectors;
+          reject = ap (λ (ys : List (List ℕ)). place (codes "REJECT") (run_at ys)) after_put ∙ ap (λ (ys : List (List ℕ)). place (codes "REJECT") ys) run_put ∙ place_new (λ n. same_name n word) run (p.c + 1) 0 padded (p.reject ∙ none) refl (omega (arith, a)) ∙ ap (λ (k : ℕ). Some k) none_more;
+          is = refl;
+        }
 
     -- which is the old spot, moved
     abbrev spot_of_five : ℕ → ℕ → ℕ → ℕ → ℕ → MapSpot
-    spot_of_five l s v c r = record { marker = p.marker; linedefs = l; sidedefs = s; vertexes = v; sectors = c; reject = Some r; format = p.format }
+    spot_of_five l s v c r = record { marker = p.marker; linedefs = l; sidedefs = s; vertexes = v; sectors = c; reject = Some r; format = p.format; text = p.text }
 
-    is_then : spot_at p.marker p.format (moved p.c p.l) (moved p.c p.s) (moved p.c p.v) (moved p.c p.c) (Some (p.c + 1)) ≡ spot_then (spot_at p.marker p.format p.l p.s p.v p.c None)
+    is_then : spot_at p.marker p.text p.format (moved p.c p.l) (moved p.c p.s) (moved p.c p.v) (moved p.c p.c) (Some (p.c + 1)) ≡ spot_then (spot_at p.marker p.text p.format p.l p.s p.v p.c None)
     is_then =
         let r : p.marker + 1 + (p.c + 1) ≡ p.marker + 1 + p.c + 1 = omega arith in
         (λ i. spot_of_five (moved_by (p.marker + 1) p.c p.l i) (moved_by (p.marker + 1) p.c p.s i) (moved_by (p.marker + 1) p.c p.v i) (moved_by (p.marker + 1) p.c p.c i) (r i))
 
     pub spot_put : spot_of put name ≡ Ok (spot_then spot)
-    spot_put = spot_from put name _ parts_put ∙ ap (λ (x : MapSpot). Ok x) (is_then ∙ ap spot_then (ap (spot_at p.marker p.format p.l p.s p.v p.c) (sym none) ∙ sym p.is))
+    spot_put = spot_from put name _ parts_put ∙ ap (λ (x : MapSpot). Ok x) (is_then ∙ ap spot_then (ap (spot_at p.marker p.text p.format p.l p.s p.v p.c) (sym none) ∙ sym p.is))
 
 -- ---- one is there, or none
 
 -- the spot with another REJECT
 abbrev with_place : MapSpot → Option ℕ → MapSpot
-with_place spot o = record { marker = spot.marker; linedefs = spot.linedefs; sidedefs = spot.sidedefs; vertexes = spot.vertexes; sectors = spot.sectors; reject = o; format = spot.format }
+with_place spot o = record { marker = spot.marker; linedefs = spot.linedefs; sidedefs = spot.sidedefs; vertexes = spot.vertexes; sectors = spot.sectors; reject = o; format = spot.format; text = spot.text }
 
 abbrev rewritten : WadFile → MapSpot → Option ℕ → List ℕ → WadFile
 rewritten w spot o table = with_reject w (with_place spot o) table
@@ -183,26 +235,28 @@ kept_none w name spot table found other =
 kept_some : (w : WadFile) (name : List ℕ) (spot : MapSpot) (r : ℕ) (table : List ℕ) → spot_of (names_of w) name ≡ Ok (with_place spot (Some r)) → IsKept name (with_place spot (Some r)) table w (rewritten w spot (Some r) table)
 kept_some w name spot r table found =
     let p = spot_parts (names_of w) name (with_place spot (Some r)) found in
-    let run : List (List ℕ) = more [] (drop (p.marker + 1) (names_of w)) in
+    let after : List (List ℕ) = drop (p.marker + 1) (names_of w) in
+    let text : Bool = begins_with_textmap after in
+    let run : List (List ℕ) = run_at after in
     let at = some_of (p.marker + 1) p.r r (ap (λ (x : MapSpot). x.reject) p.is) in
     let there : place word run ≡ Some at.k = p.reject ∙ at.is in
     let within : r < length w.lumps = (
     let a = place_bound (λ n. same_name n word) run 0 at.k there in
-    let b = more_short [] (drop (p.marker + 1) (names_of w)) in
+    let b = more_short text [] after in
     let d = after_length (names_of w) name (with_place spot (Some r)) p in
     let e = length-map w.lumps (λ (l : WadLump). l.name) in
     let f = at.at in
     omega (arith, a.1, b, d, e, f)) in
     let lump : WadLump = with_bytes (get_or w.lumps r (reject_lump table)) table in
     let stays : (k : ℕ) → k ≢ r → slice_get (set w.lumps r lump) k ≡ slice_get w.lumps k = (λ k not. get_other w.lumps r k lump not) in
-    let clash : (x : List ℕ) (k j : ℕ) → j ≡ p.marker + 1 + k → place x run ≡ Some k → ((n : ℕ) → place x run ≡ Some n → place word run ≡ Some n → ⊥) → j ≢ r =
-    (λ x k j is here never same. let e : at.k ≡ k = (let f = at.at in omega (arith, is, same, f)) in never k here (there ∙ ap (λ (n : ℕ). Some n) e)) in
+    let clash : (lump : Lump) (k j : ℕ) → j ≡ p.marker + 1 + k → lump_place lump after ≡ Some k → j ≢ r =
+    (λ lump k j is here same. let e : at.k ≡ k = (let f = at.at in omega (arith, is, same, f)) in apart (name_of text lump) word run 0 k (none_of_reject text lump) here (there ∙ ap (λ (n : ℕ). Some n) e)) in
     record {
       found = ap (λ (ns : List (List ℕ)). spot_of ns name) (names_stay w spot r table) ∙ found;
-      linedefs = stays spot.linedefs (clash (codes "LINEDEFS") p.l spot.linedefs (ap (λ (x : MapSpot). x.linedefs) p.is) p.linedefs (λ n. apart (codes "LINEDEFS") word run 0 n refl));
-      sidedefs = stays spot.sidedefs (clash (codes "SIDEDEFS") p.s spot.sidedefs (ap (λ (x : MapSpot). x.sidedefs) p.is) p.sidedefs (λ n. apart (codes "SIDEDEFS") word run 0 n refl));
-      vertexes = stays spot.vertexes (clash (codes "VERTEXES") p.v spot.vertexes (ap (λ (x : MapSpot). x.vertexes) p.is) p.vertexes (λ n. apart (codes "VERTEXES") word run 0 n refl));
-      sectors = stays spot.sectors (clash (codes "SECTORS") p.c spot.sectors (ap (λ (x : MapSpot). x.sectors) p.is) p.sectors (λ n. apart (codes "SECTORS") word run 0 n refl));
+      linedefs = stays spot.linedefs (clash Linedefs p.l spot.linedefs (ap (λ (x : MapSpot). x.linedefs) p.is) p.linedefs);
+      sidedefs = stays spot.sidedefs (clash Sidedefs p.s spot.sidedefs (ap (λ (x : MapSpot). x.sidedefs) p.is) p.sidedefs);
+      vertexes = stays spot.vertexes (clash Vertexes p.v spot.vertexes (ap (λ (x : MapSpot). x.vertexes) p.is) p.vertexes);
+      sectors = stays spot.sectors (clash Sectors p.c spot.sectors (ap (λ (x : MapSpot). x.sectors) p.is) p.sectors);
       reject = (lump, get_set w.lumps r lump within, refl);
       others = λ k not. stays k (λ e. not (ap (λ (n : ℕ). Some n) (sym e)));
       count = length-set w.lumps r lump;

@@ -1,4 +1,4 @@
--- What stands where in a WAD in which the REJECT of a map was replaced, or put right behind its SECTORS.
+-- What stands where in a WAD in which the REJECT of a map was replaced, or put right behind its SECTORS or TEXTMAP.
 use Rattle.std.specs.Prelude.{◌≡◌, ◌≢◌, ℕ, ◌+◌, nat_lt, List, length, slice_get, Some, None, Ok, if◌then◌else◌}
 use Rattle.wad_dir.specs.declared.parts.MapSpot.{MapSpot}
 use Rattle.wad_dir.specs.Map.{spot_of}
@@ -14,7 +14,7 @@ reject_then spot = elim spot.reject [ Some r ↦ r | None ↦ spot.sectors + 1 ]
 
 -- where the map stands then
 abbrev pub spot_then : MapSpot → MapSpot
-spot_then spot = record { marker = spot.marker; linedefs = place_then spot spot.linedefs; sidedefs = place_then spot spot.sidedefs; vertexes = place_then spot spot.vertexes; sectors = place_then spot spot.sectors; reject = Some (reject_then spot); format = spot.format }
+spot_then spot = record { marker = spot.marker; linedefs = place_then spot spot.linedefs; sidedefs = place_then spot spot.sidedefs; vertexes = place_then spot spot.vertexes; sectors = place_then spot spot.sectors; reject = Some (reject_then spot); format = spot.format; text = spot.text }
 
 -- how many lumps there are then
 abbrev pub count_then : MapSpot → ℕ → ℕ

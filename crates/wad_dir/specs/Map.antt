@@ -1,5 +1,5 @@
--- Where a map lies in a directory (the Unofficial Doom Specs on the lumps of a map).
-use Rattle.std.specs.Prelude.{ℕ, ◌+◌, ◌==◌, Bool, not, ◌&&◌, List, [], ◌∷◌, ◌++◌, length, drop, Option, Some, None, Result, Ok, Err, if◌then◌else◌, position, codes, map}
+-- Where a map lies in a directory (the Unofficial Doom Specs on the lumps of a map, the UDMF specification on TEXTMAP).
+use Rattle.std.specs.Prelude.{ℕ, ◌+◌, ◌==◌, Bool, true, false, not, ◌&&◌, ◌||◌, List, [], ◌∷◌, ◌++◌, length, drop, Option, Some, None, Result, Ok, Err, if◌then◌else◌, position, codes, map}
 use Rattle.std.specs.List.{list_any}
 use Rattle.std.specs.Char.{to_ascii_uppercase}
 use Rattle.std.specs.Str.{bytes_eq}
@@ -40,52 +40,82 @@ is_run_name name = list_any (λ n. same_name name n) run_names
 abbrev pub has_name : List ℕ → List (List ℕ) → Bool
 has_name name names = list_any (λ n. same_name n name) names
 
--- the longest stretch of such names, none twice, behind those before it
-abbrev pub run_from : List (List ℕ) → List (List ℕ) → List (List ℕ)
-run_from before [] = before
-run_from before (n ∷ ns) = if is_run_name n && not (has_name n before) then run_from (before ++ n ∷ []) ns else before
+-- the names at which the lumps of a map of UDMF end, beside a second TEXTMAP or REJECT
+abbrev pub text_ends : List (List ℕ)
+text_ends = codes "ENDMAP" ∷ codes "THINGS" ∷ codes "LINEDEFS" ∷ codes "SIDEDEFS" ∷ codes "VERTEXES" ∷ codes "SEGS" ∷ codes "SSECTORS" ∷ codes "NODES" ∷ codes "SECTORS" ∷ []
+
+abbrev pub ends_text : List ℕ → Bool
+ends_text name = list_any (λ n. same_name name n) text_ends
+
+-- such a lump stands only once in a map of UDMF
+abbrev pub stands_once : List ℕ → Bool
+stands_once name = same_name name (codes "TEXTMAP") || same_name name (codes "REJECT")
+
+-- a name belongs to a run, which is of UDMF or not, behind those before it
+abbrev pub belongs : Bool → List ℕ → List (List ℕ) → Bool
+belongs true name before = not (ends_text name) && not (stands_once name && has_name name before)
+belongs false name before = is_run_name name && not (has_name name before)
+
+-- the longest stretch of such names behind those before it
+abbrev pub run_from : Bool → List (List ℕ) → List (List ℕ) → List (List ℕ)
+run_from text before [] = before
+run_from text before (n ∷ ns) = if belongs text n before then run_from text (before ++ n ∷ []) ns else before
+
+-- the first of the names is this one
+abbrev pub begins_with : List ℕ → List (List ℕ) → Bool
+begins_with name [] = false
+begins_with name (n ∷ ns) = same_name n name
+
+-- a map behind whose marker these names follow is of UDMF
+abbrev pub begins_with_textmap : List (List ℕ) → Bool
+begins_with_textmap after = begins_with (codes "TEXTMAP") after
 
 -- the place of a lump in the run
 abbrev pub place_in : List ℕ → List (List ℕ) → Option ℕ
 place_in name run = position (λ n. same_name n name) run
 
-abbrev pub name_of : Lump → List ℕ
-name_of Linedefs = codes "LINEDEFS"
-name_of Sidedefs = codes "SIDEDEFS"
-name_of Vertexes = codes "VERTEXES"
-name_of Sectors = codes "SECTORS"
+-- the name of the lump, which in a map of UDMF is TEXTMAP for all four
+abbrev pub name_of : Bool → Lump → List ℕ
+name_of true lump = codes "TEXTMAP"
+name_of false Linedefs = codes "LINEDEFS"
+name_of false Sidedefs = codes "SIDEDEFS"
+name_of false Vertexes = codes "VERTEXES"
+name_of false Sectors = codes "SECTORS"
 
 infixl 10 ◌>>=◌
 abbrev pub ◌>>=◌ : {A B : Type 0} → Result A MapFault → (A → Result B MapFault) → Result B MapFault
 (Ok x) >>= f = f x
 (Err e) >>= f = Err e
 
-abbrev pub needed_in : List (List ℕ) → Lump → Result ℕ MapFault
-needed_in run lump = elim (place_in (name_of lump) run) [ Some k ↦ Ok k | None ↦ Err (fault.Missing lump) ]
+abbrev pub needed_in : Bool → List (List ℕ) → Lump → Result ℕ MapFault
+needed_in text run lump = elim (place_in (name_of text lump) run) [ Some k ↦ Ok k | None ↦ Err (fault.Missing lump) ]
 
 abbrev pub shifted : ℕ → Option ℕ → Option ℕ
 shifted by None = None
 shifted by (Some k) = Some (by + k)
 
 -- the spot of a map of this format whose run stands right behind its marker
-unfoldable pub spot_in : ℕ → MapFormat → List (List ℕ) → Result MapSpot MapFault
-spot_in marker format run = do
-  linedefs ← needed_in run Linedefs
-  sidedefs ← needed_in run Sidedefs
-  vertexes ← needed_in run Vertexes
-  sectors ← needed_in run Sectors
-  Ok (record { marker = marker; linedefs = marker + 1 + linedefs; sidedefs = marker + 1 + sidedefs; vertexes = marker + 1 + vertexes; sectors = marker + 1 + sectors; reject = shifted (marker + 1) (place_in (codes "REJECT") run); format = format })
+unfoldable pub spot_in : ℕ → Bool → MapFormat → List (List ℕ) → Result MapSpot MapFault
+spot_in marker text format run = do
+  linedefs ← needed_in text run Linedefs
+  sidedefs ← needed_in text run Sidedefs
+  vertexes ← needed_in text run Vertexes
+  sectors ← needed_in text run Sectors
+  Ok (record { marker = marker; linedefs = marker + 1 + linedefs; sidedefs = marker + 1 + sidedefs; vertexes = marker + 1 + vertexes; sectors = marker + 1 + sectors; reject = shifted (marker + 1) (place_in (codes "REJECT") run); format = format; text = text })
 
 -- the format of a map behind whose run these names follow: BEHAVIOR right behind it means Hexen's
 abbrev pub format_behind : List (List ℕ) → MapFormat
 format_behind [] = Doom
 format_behind (n ∷ ns) = if same_name n (codes "BEHAVIOR") then Hexen else Doom
 
--- the spot of a map behind whose marker these names follow
+-- the spot of a map behind whose marker these names follow; a map of UDMF without ENDMAP right behind its run is none, and has
+-- no LINEDEFS
 unfoldable pub spot_behind : ℕ → List (List ℕ) → Result MapSpot MapFault
 spot_behind marker after =
-    let run : List (List ℕ) = run_from [] after in
-    spot_in marker (format_behind (drop (length run) after)) run
+    let text : Bool = begins_with_textmap after in
+    let run : List (List ℕ) = run_from text [] after in
+    let rest : List (List ℕ) = drop (length run) after in
+    if text && not (begins_with (codes "ENDMAP") rest) then Err (fault.Missing Linedefs) else spot_in marker text (format_behind rest) run
 
 -- the spot, among these names, of the map whose marker is the last of that name, or the first check that fails
 unfoldable pub spot_of : List (List ℕ) → List ℕ → Result MapSpot MapFault

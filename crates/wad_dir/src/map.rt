@@ -1,7 +1,7 @@
 //! The place of a map in a directory.
 
-ghost use Rattle.std.specs.Prelude.{◌≡◌, ◌+◌, ◌≤◌, ◌<◌, [], length, take, IfOk, IfSome, None};
-ghost use Rattle.wad_dir.specs.Map.{same_name, last_from, run_from, is_run_name, has_name, place_in, needed_in, format_behind, spot_in, spot_behind, spot_of, name_of, entry_names};
+ghost use Rattle.std.specs.Prelude.{◌≡◌, ◌+◌, ◌≤◌, ◌<◌, [], length, take, IfOk, IfSome, None, not, ◌&&◌, codes};
+ghost use Rattle.wad_dir.specs.Map.{begins_with, belongs, ends_text, same_name, stands_once, last_from, run_from, is_run_name, has_name, place_in, needed_in, format_behind, spot_in, spot_behind, spot_of, name_of, entry_names};
 
 use crate::parts::{Entry, MapSpot, Wad};
 use sight_names::{Lump, MOST_LUMPS, MapFault, MapFormat};
@@ -74,18 +74,59 @@ fn has_named(entries: &[Entry], name: &[u8]) -> bool
     false
 }
 
+/// Whether the lumps of a map of UDMF end before an entry of this name.
+fn ends_text(name: &[u8]) -> bool
+    ensures { result ≡ ends_text name.now }
+{
+    is_same_name(name, b"ENDMAP")
+        || is_same_name(name, b"THINGS")
+        || is_same_name(name, b"LINEDEFS")
+        || is_same_name(name, b"SIDEDEFS")
+        || is_same_name(name, b"VERTEXES")
+        || is_same_name(name, b"SEGS")
+        || is_same_name(name, b"SSECTORS")
+        || is_same_name(name, b"NODES")
+        || is_same_name(name, b"SECTORS")
+}
+
+fn stands_once(name: &[u8]) -> bool
+    ensures { result ≡ stands_once name.now }
+{
+    is_same_name(name, b"TEXTMAP") || is_same_name(name, b"REJECT")
+}
+
+/// Whether an entry of this name behind those before it belongs to the run of a map, which is of UDMF or not.
+fn belongs(text: bool, name: &[u8], before: &[Entry]) -> bool
+    ensures { result ≡ belongs text name.now (entry_names before.now) }
+{
+    if text {
+        return !ends_text(name) && !(stands_once(name) && has_named(before, name));
+    }
+    is_map_lump(name) && !has_named(before, name)
+}
+
 #[tactic(auto, using(crate::proofs::Names::names))]
-fn run_at_front(entries: &[Entry]) -> usize
-    ensures run { entry_names (take result entries.now) ≡ run_from [] (entry_names entries.now) }
-    ensures len { result ≡ length (run_from [] (entry_names entries.now)) }
+fn run_at_front(text: bool, entries: &[Entry]) -> usize
+    ensures run { entry_names (take result entries.now) ≡ run_from text [] (entry_names entries.now) }
+    ensures len { result ≡ length (run_from text [] (entry_names entries.now)) }
     ensures within { result ≤ length entries.now }
 {
     for (k, entry) in entries.iter().enumerate() {
-        if !is_map_lump(&entry.name) || has_named(&entries[..k], &entry.name) {
+        if !belongs(text, &entry.name, &entries[..k]) {
             return k;
         }
     }
     entries.len()
+}
+
+/// Whether the first of these entries has this name.
+fn begins_with(name: &[u8], entries: &[Entry]) -> bool
+    ensures { result ≡ begins_with name.now (entry_names entries.now) }
+{
+    match entries {
+        [] => false,
+        [entry, ..] => is_same_name(&entry.name, name),
+    }
 }
 
 fn place_of(run: &[Entry], name: &[u8]) -> Option<usize>
@@ -100,9 +141,12 @@ fn place_of(run: &[Entry], name: &[u8]) -> Option<usize>
     None
 }
 
-fn bytes_of_name(lump: Lump) -> &'static [u8]
-    ensures { result.now ≡ name_of lump }
+fn bytes_of_name(text: bool, lump: Lump) -> &'static [u8]
+    ensures { result.now ≡ name_of text lump }
 {
+    if text {
+        return b"TEXTMAP";
+    }
     match lump {
         Lump::Linedefs => b"LINEDEFS",
         Lump::Sidedefs => b"SIDEDEFS",
@@ -111,11 +155,11 @@ fn bytes_of_name(lump: Lump) -> &'static [u8]
     }
 }
 
-fn needed(run: &[Entry], lump: Lump) -> Result<usize, MapFault>
-    ensures place { result ≡ needed_in (entry_names run.now) lump }
+fn needed(text: bool, run: &[Entry], lump: Lump) -> Result<usize, MapFault>
+    ensures place { result ≡ needed_in text (entry_names run.now) lump }
     ensures within { IfOk result (λ k. k < length run.now) }
 {
-    match place_of(run, bytes_of_name(lump)) {
+    match place_of(run, bytes_of_name(text, lump)) {
         Some(place) => Ok(place),
         None => Err(MapFault::Missing { lump }),
     }
@@ -132,19 +176,19 @@ fn format_by(rest: &[Entry]) -> MapFormat
 }
 
 #[tactic(auto, unfolding(crate::specs::Map::spot_in))]
-fn spot(marker: usize, format: MapFormat, run: &[Entry]) -> Result<MapSpot, MapFault>
+fn spot(marker: usize, text: bool, format: MapFormat, run: &[Entry]) -> Result<MapSpot, MapFault>
     requires { marker + 1 + length run.now ≤ MOST_LUMPS }
-    ensures spot { result ≡ spot_in marker format (entry_names run.now) }
+    ensures spot { result ≡ spot_in marker text format (entry_names run.now) }
     ensures linedefs { IfOk result (λ spot. spot.linedefs ≤ marker + length run.now) }
     ensures sidedefs { IfOk result (λ spot. spot.sidedefs ≤ marker + length run.now) }
     ensures vertexes { IfOk result (λ spot. spot.vertexes ≤ marker + length run.now) }
     ensures sectors { IfOk result (λ spot. spot.sectors ≤ marker + length run.now) }
     ensures reject { IfOk result (λ spot. IfSome spot.reject (λ k. k ≤ marker + length run.now)) }
 {
-    let linedefs = needed(run, Lump::Linedefs)?;
-    let sidedefs = needed(run, Lump::Sidedefs)?;
-    let vertexes = needed(run, Lump::Vertexes)?;
-    let sectors = needed(run, Lump::Sectors)?;
+    let linedefs = needed(text, run, Lump::Linedefs)?;
+    let sidedefs = needed(text, run, Lump::Sidedefs)?;
+    let vertexes = needed(text, run, Lump::Vertexes)?;
+    let sectors = needed(text, run, Lump::Sectors)?;
     let first = marker + 1;
     let reject = match place_of(run, b"REJECT") {
         Some(place) => Some((first + place) as u32),
@@ -158,10 +202,19 @@ fn spot(marker: usize, format: MapFormat, run: &[Entry]) -> Result<MapSpot, MapF
         sectors: (first + sectors) as u32,
         reject,
         format,
+        text,
     })
 }
 
-/// Where the lumps of a map stand behind whose marker these entries follow, or the first that is missing.
+/// Whether a map behind whose lumps these entries follow is of UDMF, and ENDMAP doesn't stand there.
+fn lacks_end(text: bool, rest: &[Entry]) -> bool
+    ensures { result ≡ (text && not (begins_with (codes "ENDMAP") (entry_names rest.now))) }
+{
+    text && !begins_with(b"ENDMAP", rest)
+}
+
+/// Where the lumps of a map stand behind whose marker these entries follow, or the first that is missing. A map of UDMF has
+/// none where ENDMAP doesn't stand right behind its lumps.
 pub fn spot_after(marker: usize, after: &[Entry]) -> Result<MapSpot, MapFault>
     requires { marker + 1 + length after.now ≤ MOST_LUMPS }
     ensures spot { result ≡ spot_behind marker (entry_names after.now) }
@@ -171,8 +224,14 @@ pub fn spot_after(marker: usize, after: &[Entry]) -> Result<MapSpot, MapFault>
     ensures sectors { IfOk result (λ spot. spot.sectors ≤ marker + length after.now) }
     ensures reject { IfOk result (λ spot. IfSome spot.reject (λ k. k ≤ marker + length after.now)) }
 {
-    let (run, rest) = after.split_at(run_at_front(after));
-    spot(marker, format_by(rest), run)
+    let text = begins_with(b"TEXTMAP", after);
+    let (run, rest) = after.split_at(run_at_front(text, after));
+    if lacks_end(text, rest) {
+        return Err(MapFault::Missing {
+            lump: Lump::Linedefs,
+        });
+    }
+    spot(marker, text, format_by(rest), run)
 }
 
 /// Where the lumps of the last map of that name stand, or the first check that fails.

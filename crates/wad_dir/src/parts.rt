@@ -29,7 +29,8 @@ pub struct Wad {
 }
 
 /// Where the lumps of a map stand in the directory, and the format of the map: Hexen's where the entry right behind its
-/// lumps is BEHAVIOR, else Doom's.
+/// lumps is BEHAVIOR, else Doom's. A map of UDMF is a text, which spells the four lumps in Doom's format; it has the place
+/// of TEXTMAP for all four.
 #[derive(Clone, Copy, PartialEq, Eq)]
 pub struct MapSpot {
     pub marker: u32,
@@ -39,4 +40,5 @@ pub struct MapSpot {
     pub sectors: u32,
     pub reject: Option<u32>,
     pub format: MapFormat,
+    pub text: bool,
 }

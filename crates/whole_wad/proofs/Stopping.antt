@@ -8,8 +8,12 @@ use Rattle.sight_names.specs.declared.faults.LumpFault.{LumpFault}
 use Rattle.sight_names.specs.declared.faults.LumpFault.TheVariants as lump
 use Rattle.sight_names.specs.declared.faults.MapFault.{MapFault}
 use Rattle.sight_names.specs.declared.names.Method.{Method}
+use Rattle.sight_names.specs.declared.names.Reading.{Reading}
 use Rattle.sight_names.specs.Lumps.{lump_fault}
 use Rattle.sight_names.specs.Map.{Map}
+use Rattle.udmf_map.specs.declared.faults.TextFault.{TextFault}
+use Rattle.udmf_map.specs.declared.faults.TextFault.TheVariants as text
+use Rattle.udmf_map.specs.Lumps.{LumpBytes, lumps_of_text}
 use Rattle.wad_dir.specs.declared.parts.MapSpot.{MapSpot}
 use Rattle.wad_dir.specs.Map.{key_of, spot_of}
 use Rattle.wad_dir.specs.Wad.{WadFile, names_of}
@@ -24,9 +28,9 @@ use Rattle.refused_maps.specs.Stops.{Stops}
 use Rattle.map_answers.specs.declared.sight_status.status.Bound.TheVariants as bound
 use Rattle.map_answers.specs.declared.sight_status.status.Status.{Status}
 use Rattle.map_answers.specs.declared.sight_status.status.Status.TheVariants as status
-use Rattle.map_answers.specs.Input.{map_at, map_named, of_lumps, of_spot}
+use Rattle.map_answers.specs.Input.{map_at, map_named, of_four_lumps, of_lumps, of_spot, of_text, spelled}
 use Rattle.map_answers.specs.SightStatus.Answer.{◌>>=◌}
-use Rattle.map_answers.specs.SightStatus.Status.{IsLumpFault}
+use Rattle.map_answers.specs.SightStatus.Status.{IsLumpFault, IsTextFault}
 use Rattle.whole_wad.specs.declared.tables.MapTable.{MapTable}
 use Rattle.whole_wad.specs.Outcomes.{stop_of}
 use Rattle.whole_wad.specs.Stop.{IsThisOr, StopsAt}
@@ -35,9 +39,12 @@ use Rattle.whole_wad.specs.Tables.{Gets}
 -- a refusal of a map that its name finds
 abbrev pub IsOfMap : Status → Type 0
 IsOfMap (status.BadLump fault) = IsLumpFault fault
+IsOfMap (status.BadText fault) = IsTextFault fault
 IsOfMap (status.Limit bound.Sectors) = Unit {0}
 IsOfMap (status.Limit bound.Lines) = Unit {0}
 IsOfMap (status.Limit bound.Points) = Unit {0}
+IsOfMap (status.Limit bound.Vertices) = Unit {0}
+IsOfMap (status.Limit bound.Sides) = Unit {0}
 IsOfMap (status.BadMap flaw) = Unit {0}
 IsOfMap (status.Memory _) = Unit {0}
 IsOfMap other = ⊥
@@ -49,6 +56,21 @@ lumps_refused (Some (lump.TooManyLines count)) m s e = let q : status.Limit boun
 lumps_refused (Some (lump.TooManyPoints count)) m s e = let q : status.Limit bound.Points ≡ s = cc in subst IsOfMap q tt
 lumps_refused (Some (lump.Memory _)) m s e = let q : status.Memory tt ≡ s = cc in subst IsOfMap q tt
 lumps_refused (Some fault) m s e = let q : status.BadLump fault ≡ s = cc in subst IsOfMap q tt
+
+text_refused : (reading : Reading) (r : Result LumpBytes TextFault) (s : Status) → of_text r >>= (λ (l : LumpBytes). of_four_lumps reading l.linedefs l.sidedefs l.vertexes l.sectors) ≡ Err s → IsOfMap s
+text_refused reading (Ok l) s e = lumps_refused (lump_fault _ _ _ _ _) _ s e
+text_refused reading (Err (text.TooManyVertices count)) s e = let q : status.Limit bound.Vertices ≡ s = cc in subst IsOfMap q tt
+text_refused reading (Err (text.TooManySides count)) s e = let q : status.Limit bound.Sides ≡ s = cc in subst IsOfMap q tt
+text_refused reading (Err (text.Memory _)) s e = let q : status.Memory tt ≡ s = cc in subst IsOfMap q tt
+text_refused reading (Err (text.Text at)) s e = let q : status.BadText (text.Text at) ≡ s = cc in subst IsOfMap q tt
+text_refused reading (Err (text.Namespace at)) s e = let q : status.BadText (text.Namespace at) ≡ s = cc in subst IsOfMap q tt
+text_refused reading (Err (text.Value at)) s e = let q : status.BadText (text.Value at) ≡ s = cc in subst IsOfMap q tt
+text_refused reading (Err (text.Portal line)) s e = let q : status.BadText (text.Portal line) ≡ s = cc in subst IsOfMap q tt
+text_refused reading (Err (text.OffGrid vertex)) s e = let q : status.BadText (text.OffGrid vertex) ≡ s = cc in subst IsOfMap q tt
+
+spelled_refused : (t : Bool) (reading : Reading) (linedefs sidedefs vertexes sectors : List ℕ) (s : Status) → spelled t reading linedefs sidedefs vertexes sectors ≡ Err s → IsOfMap s
+spelled_refused true reading linedefs sidedefs vertexes sectors s e = text_refused reading (lumps_of_text linedefs) s e
+spelled_refused false reading linedefs sidedefs vertexes sectors s e = lumps_refused (lump_fault _ _ _ _ _) _ s e
 
 -- ---- by its name
 
@@ -66,7 +88,7 @@ pub word_spot : (ns : List (List ℕ)) (name : List ℕ) → spot_of ns (word_of
 word_spot ns name = spot_alike ns (word_of name) name (key_word name)
 
 read_refused : (large : Bool) (w : WadFile) (r : Result MapSpot MapFault) (s : Status) → IsOk r → of_spot r >>= (λ spot. map_at large w spot) ≡ Err s → IsOfMap s
-read_refused large w (Ok spot) s found e = lumps_refused (lump_fault _ _ _ _ _) _ s e
+read_refused large w (Ok spot) s found e = spelled_refused spot.text _ _ _ _ _ s e
 read_refused large w (Err fault) s found e = absurd cc
 
 named_refused : (large : Bool) (w : WadFile) (name : List ℕ) (s : Status) → IsOk (spot_of (names_of w) name) → map_named large w (word_of name) ≡ Err s → IsOfMap s

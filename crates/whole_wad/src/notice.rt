@@ -6,7 +6,7 @@ use map_answers::sight_status::Status;
 /// It is told of each map that isn't read or isn't there, and then the report's line of each other map as the map is done. It
 /// returns, and changes no answer.
 pub trait Notice {
-    /// The map of this name is of UDMF, which isn't read. Each one is told before the first line, in the order of their entries.
+    /// The map of this name is of UDMF and has no ENDMAP, so it isn't read. Each one is told before the first line, in the order of their entries.
     fn pass_over(&self, name: &str);
 
     /// A map of this name is asked for, and there is none.

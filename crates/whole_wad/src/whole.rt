@@ -20,7 +20,7 @@ use sight_names::{Items, Memory, Method, RewriteFault};
 use std::alloc::{AllocError, Global};
 use std::thread::Threads;
 use wad_dir::Wad;
-use wad_dir::all_maps::{Change, text_of, udmf_maps, with_rejects};
+use wad_dir::all_maps::{Change, fault_of, text_of, udmf_maps, with_rejects};
 
 /// A WAD with the tables of maps: its bytes, one line of text a map, and how many maps were asked for, have been built, are
 /// refused, and of these got a clear table.
@@ -57,11 +57,14 @@ enum Told {
     Stopped(Status),
 }
 
-/// Tells which maps of the WAD aren't read, since they are of UDMF.
+/// Tells which maps of UDMF aren't read, since they have no ENDMAP.
 pub fn tell_unread<N: Notice>(alloc: Global, wad: &Wad, notice: &N) -> Result<(), Memory> {
     let names = udmf_maps(alloc, wad)?;
     for name in &names {
-        notice.pass_over(text_of(name));
+        let name = text_of(name);
+        if fault_of(wad, name).is_some() {
+            notice.pass_over(name);
+        }
     }
     Ok(())
 }
@@ -195,7 +198,7 @@ fn written(alloc: Global, bytes: &[u8], wad: &Wad, maps: Maps) -> Result<WholeWa
 
 /// The WAD in which each map of these names has its table by this method as its REJECT, all other lumps as they were. A map that is
 /// above a limit, of the usual ones or of the larger ones, or isn't sound is refused, and the report says why. By what is chosen for
-/// refused maps it keeps its REJECT, or gets a clear one where it was read, or nothing is made. The maps of UDMF are told first, and
+/// refused maps it keeps its REJECT, or gets a clear one where it was read, or nothing is made. The maps of UDMF without ENDMAP are told first, and
 /// then each line of the report as its map is done.
 ///
 /// # Errors

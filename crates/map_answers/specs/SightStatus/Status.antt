@@ -4,6 +4,8 @@ use Rattle.sight_names.specs.declared.faults.WadFault.{WadFault}
 use Rattle.sight_names.specs.declared.faults.WadFault.TheVariants as wad
 use Rattle.sight_names.specs.declared.faults.LumpFault.{LumpFault}
 use Rattle.sight_names.specs.declared.faults.LumpFault.TheVariants as lump
+use Rattle.udmf_map.specs.declared.faults.TextFault.{TextFault}
+use Rattle.udmf_map.specs.declared.faults.TextFault.TheVariants as text
 use Rattle.sight_names.specs.declared.faults.TraceFault.TheVariants as trace
 use Rattle.sight_names.specs.declared.faults.TableFault.TheVariants as table
 use Rattle.sight_names.specs.declared.faults.CertFault.TheVariants as cert
@@ -31,6 +33,7 @@ number_of (status.WriteFault role) = 5
 number_of (status.NotWad fault) = 6
 number_of (status.NoMap fault) = 7
 number_of (status.BadLump fault) = 8
+number_of (status.BadText fault) = 8
 number_of (status.Limit bound) = 9
 number_of (status.BadMap flaw) = 10
 number_of status.SameName = 11
@@ -50,6 +53,13 @@ IsLumpFault (lump.TooManyPoints count) = ⊥
 IsLumpFault (lump.Memory _) = ⊥
 IsLumpFault fault = ⊤
 
+-- too many vertices or sides are limits
+abbrev pub IsTextFault : TextFault → Type 0
+IsTextFault (text.TooManyVertices count) = ⊥
+IsTextFault (text.TooManySides count) = ⊥
+IsTextFault (text.Memory _) = ⊥
+IsTextFault fault = ⊤
+
 -- want of memory is no reason for a no
 abbrev pub IsReason : Why → Type 0
 IsReason (why.Trace (trace.Memory _)) = ⊥
@@ -61,6 +71,7 @@ IsReason reason = ⊤
 abbrev pub IsProper : Status → Type 0
 IsProper (status.NotWad fault) = IsWadFault fault
 IsProper (status.BadLump fault) = IsLumpFault fault
+IsProper (status.BadText fault) = IsTextFault fault
 IsProper (status.No reason) = IsReason reason
 IsProper other = ⊤
 
@@ -69,6 +80,7 @@ abbrev pub IsOfBytes : Status → Type 0
 IsOfBytes (status.NotWad fault) = IsWadFault fault
 IsOfBytes (status.NoMap fault) = ⊤
 IsOfBytes (status.BadLump fault) = IsLumpFault fault
+IsOfBytes (status.BadText fault) = IsTextFault fault
 IsOfBytes (status.Limit bound.WadBytes) = ⊥
 IsOfBytes (status.Limit bound.CertBytes) = ⊥
 IsOfBytes (status.Limit bound.OutputBytes) = ⊥

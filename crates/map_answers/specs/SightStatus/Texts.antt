@@ -25,6 +25,8 @@ use Rattle.sight_names.specs.declared.faults.CheckFault.TheVariants as check
 use Rattle.sight_names.specs.Texts.{lump_text, side_text}
 use Rattle.map_answers.specs.declared.sight_status.status.Role.{Role}
 use Rattle.map_answers.specs.declared.sight_status.status.Role.TheVariants as role
+use Rattle.udmf_map.specs.declared.faults.TextFault.{TextFault}
+use Rattle.udmf_map.specs.declared.faults.TextFault.TheVariants as text
 use Rattle.map_answers.specs.declared.sight_status.status.Bound.{Bound}
 use Rattle.map_answers.specs.declared.sight_status.status.Bound.TheVariants as bound
 use Rattle.map_answers.specs.declared.sight_status.status.Flaw.{Flaw}
@@ -55,6 +57,8 @@ bound_words bound.Lumps = codes "lumps\n"
 bound_words bound.Lines = codes "lines\n"
 bound_words bound.Points = codes "points\n"
 bound_words bound.Sectors = codes "sectors\n"
+bound_words bound.Vertices = codes "vertices\n"
+bound_words bound.Sides = codes "sides\n"
 bound_words bound.OutputBytes = codes "output bytes\n"
 
 abbrev pub wad_words : WadFault → List ℕ
@@ -79,6 +83,16 @@ lumps_words (lump.BadSide line) = codes "side of line " ++ decimal line ++ codes
 lumps_words (lump.BadSector side) = codes "sector of side " ++ decimal side ++ codes "\n"
 lumps_words (lump.TooManyPoints count) = codes "points\n"
 lumps_words (lump.Memory _) = codes "memory\n"
+
+abbrev pub texts_words : TextFault → List ℕ
+texts_words (text.Text at) = codes "text " ++ decimal at ++ codes "\n"
+texts_words (text.Namespace at) = codes "namespace " ++ decimal at ++ codes "\n"
+texts_words (text.Value at) = codes "value " ++ decimal at ++ codes "\n"
+texts_words (text.TooManyVertices count) = codes "vertices\n"
+texts_words (text.TooManySides count) = codes "sides\n"
+texts_words (text.Portal line) = codes "portal of line " ++ decimal line ++ codes "\n"
+texts_words (text.OffGrid vertex) = codes "coordinate of vertex " ++ decimal vertex ++ codes "\n"
+texts_words (text.Memory _) = codes "memory\n"
 
 abbrev pub clash_words : LineFault → List ℕ
 clash_words (line.Cross i j) = codes "cross " ++ two i j ++ codes "\n"
@@ -151,6 +165,7 @@ no_words (why.NoSector a) = codes "no sector " ++ decimal a ++ codes "\n"
 -- what the line of a map's refusal says behind `refused: `: why it gets no table, whatever WAD it stands in
 abbrev pub reason_words : Status → List ℕ
 reason_words (status.BadLump fault) = codes "bad lump: " ++ lumps_words fault
+reason_words (status.BadText fault) = codes "bad lump: " ++ texts_words fault
 reason_words (status.Limit bound) = codes "limit: " ++ bound_words bound
 reason_words (status.BadMap flaw) = codes "bad map: " ++ flaw_words flaw
 reason_words other = codes "\n"
@@ -167,6 +182,7 @@ text_of (status.WriteFault role) = codes "refused: write fault " ++ role_words r
 text_of (status.NotWad fault) = codes "refused: not a wad: " ++ wad_words fault
 text_of (status.NoMap fault) = codes "refused: no map: " ++ map_words fault
 text_of (status.BadLump fault) = codes "refused: bad lump: " ++ lumps_words fault
+text_of (status.BadText fault) = codes "refused: bad lump: " ++ texts_words fault
 text_of (status.Limit bound) = codes "refused: limit: " ++ bound_words bound
 text_of (status.BadMap flaw) = codes "refused: bad map: " ++ flaw_words flaw
 text_of status.SameName = codes "refused: same name\n"

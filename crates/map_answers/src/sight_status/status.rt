@@ -7,6 +7,7 @@ use sight_names::{
     CertFault, CheckFault, LineFault, LumpFault, MapFault, Memory, RayFault, Side, TableFault,
     TraceFault, WadFault,
 };
+use udmf_map::TextFault;
 
 /// What a file is to an order, or the text that is put.
 #[derive(Clone, Copy, Debug, PartialEq, Eq)]
@@ -27,6 +28,10 @@ pub enum Bound {
     Lines,
     Points,
     Sectors,
+    /// Blocks of vertices in a text of UDMF.
+    Vertices,
+    /// .. and of sides.
+    Sides,
     OutputBytes,
 }
 
@@ -56,7 +61,7 @@ pub enum Why {
 }
 
 /// How a run ends. A fault for which there is another status, such as want of memory, never stands in `NotWad`,
-/// `BadLump` or `No`.
+/// `BadLump`, `BadText` or `No`.
 #[derive(Clone, Copy, Debug, PartialEq, Eq)]
 pub enum Status {
     /// What the words ask was done.
@@ -79,6 +84,8 @@ pub enum Status {
     NoMap(MapFault),
     /// The lumps are no map.
     BadLump(LumpFault),
+    /// The text of UDMF is no map.
+    BadText(TextFault),
     /// Something is above its limit.
     Limit(Bound),
     /// The map isn't sound.
@@ -115,6 +122,7 @@ pub fn code(status: &Status) -> u8
         Status::NotWad(_) => 6,
         Status::NoMap(_) => 7,
         Status::BadLump(_) => 8,
+        Status::BadText(_) => 8,
         Status::Limit(_) => 9,
         Status::BadMap(_) => 10,
         Status::SameName => 11,

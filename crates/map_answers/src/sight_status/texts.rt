@@ -3,7 +3,7 @@
 ghost use Rattle.std.specs.Prelude.{◌≡◌, ◌++◌, string_bytes, codes, OnOk, IfOk};
 ghost use Rattle.std.specs.Fmt.{decimal};
 ghost use Rattle.sight_names.specs.Texts.{side_text};
-ghost use Rattle.map_answers.specs.SightStatus.Texts.{bound_words, cert_words, check_words, clash_words, flaw_words, lump_words, lumps_words, map_words, mesh_words, no_words, ray_words, reason_words, role_words, table_words, text_of, trace_words, two, wad_words, why_words};
+ghost use Rattle.map_answers.specs.SightStatus.Texts.{bound_words, cert_words, check_words, clash_words, flaw_words, lump_words, lumps_words, map_words, mesh_words, no_words, ray_words, reason_words, role_words, table_words, text_of, texts_words, trace_words, two, wad_words, why_words};
 ghost use Rattle.map_answers.specs.SightStatus.Say.{Refused, Said, SaidIfMade};
 
 use crate::sight_status::status::{Bound, Flaw, Role, Status, Why};
@@ -13,6 +13,7 @@ use sight_names::{
     TableFault, TraceFault, WadFault,
 };
 use std::alloc::{AllocError, Global};
+use udmf_map::TextFault;
 
 /// Puts a line, and gives the status that it tells, or the fault of the sink.
 pub fn put_line<O: Sink>(out: &mut O, line: &[u8], status: Status) -> Status
@@ -58,6 +59,8 @@ fn bound_name(bound: Bound) -> &'static str
         Bound::Lines => "lines\n",
         Bound::Points => "points\n",
         Bound::Sectors => "sectors\n",
+        Bound::Vertices => "vertices\n",
+        Bound::Sides => "sides\n",
         Bound::OutputBytes => "output bytes\n",
     }
 }
@@ -204,6 +207,23 @@ fn push_lumps(alloc: Global, line: &mut String, fault: LumpFault) -> Result<(), 
         ),
         LumpFault::TooManyPoints { .. } => line.push_str("points\n"),
         LumpFault::Memory(_) => line.push_str("memory\n"),
+    }
+}
+
+fn push_texts(alloc: Global, line: &mut String, fault: TextFault) -> Result<(), AllocError>
+    ensures { OnOk result (string_bytes line.new ≡ string_bytes line.old ++ texts_words fault) }
+{
+    match fault {
+        TextFault::Text { at } => push_count_line(alloc, line, "text ", at as u64),
+        TextFault::Namespace { at } => push_count_line(alloc, line, "namespace ", at as u64),
+        TextFault::Value { at } => push_count_line(alloc, line, "value ", at as u64),
+        TextFault::TooManyVertices { .. } => line.push_str("vertices\n"),
+        TextFault::TooManySides { .. } => line.push_str("sides\n"),
+        TextFault::Portal { line: k } => push_count_line(alloc, line, "portal of line ", k as u64),
+        TextFault::OffGrid { vertex } => {
+            push_count_line(alloc, line, "coordinate of vertex ", vertex as u64)
+        }
+        TextFault::Memory(_) => line.push_str("memory\n"),
     }
 }
 
@@ -385,6 +405,10 @@ pub fn push_reason(alloc: Global, line: &mut String, status: Status) -> Result<(
             push_text(line, "bad lump: ")?;
             push_lumps(alloc, line, fault)
         }
+        Status::BadText(fault) => {
+            push_text(line, "bad lump: ")?;
+            push_texts(alloc, line, fault)
+        }
         Status::Limit(bound) => {
             push_text(line, "limit: ")?;
             push_text(line, bound_name(bound))
@@ -433,6 +457,7 @@ fn push_status(alloc: Global, line: &mut String, status: Status) -> Result<(), A
             push_map(alloc, line, fault)
         }
         Status::BadLump(_) => push_refused(alloc, line, status),
+        Status::BadText(_) => push_refused(alloc, line, status),
         Status::Limit(_) => push_refused(alloc, line, status),
         Status::BadMap(_) => push_refused(alloc, line, status),
     }

@@ -6,10 +6,10 @@ use Rattle.std.proofs.lemmas.Slice.Eq.{bytes_eq-Decides}
 use Rattle.sight_names.specs.declared.faults.MapFault.{MapFault}
 use Rattle.wad_dir.specs.declared.parts.Entry.{Entry}
 use Rattle.wad_dir.specs.declared.parts.MapSpot.{MapSpot}
-use Rattle.wad_dir.specs.Map.{entry_names, has_name, key_of, last_from, same_name, spot_of}
+use Rattle.wad_dir.specs.Map.{begins_with_textmap, entry_names, has_name, key_of, last_from, same_name, spot_of}
 use Rattle.wad_dir.proofs.Inserted.{last_bound}
 use Rattle.wad_dir.proofs.Spots.{spot_parts}
-use Rattle.wad_dir.specs.AllMaps.Maps.{begins_with_textmap, is_map, is_map_name, is_udmf, markers_among, told}
+use Rattle.wad_dir.specs.AllMaps.Maps.{is_map, is_map_name, is_udmf, markers_among, told}
 use Rattle.math_base.proofs.Numbers.{next_is, tells_other, tells_same}
 use Rattle.math_base.proofs.Options.{none_is_not_some, some_is_not_none, some_is_same}
 

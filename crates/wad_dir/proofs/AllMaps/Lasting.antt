@@ -11,7 +11,7 @@ use Rattle.wad_dir.specs.Map.{is_run_name, shifted, spot_of}
 use Rattle.wad_dir.specs.Print.{reject_lump, with_bytes, with_reject}
 use Rattle.wad_dir.specs.Wad.{WadFile, WadLump, names_of}
 use Rattle.wad_dir.proofs.Inserted.{padded}
-use Rattle.wad_dir.proofs.Moved.{further, marker_named, spot_stays}
+use Rattle.wad_dir.proofs.Moved.{further, spot_stays}
 use Rattle.wad_dir.proofs.Rewritten.{get_before, get_other, kept, map_insert, sectors_within}
 use Rattle.wad_dir.proofs.Spots.{spot_parts}
 use Rattle.wad_dir.specs.declared.all_maps.parts.Change.{Change}
@@ -19,7 +19,7 @@ use Rattle.wad_dir.specs.AllMaps.All.{EachTableIsThere, HasReject, with_all}
 use Rattle.wad_dir.specs.AllMaps.Spliced.{AreSpaced, piece, place_behind}
 use Rattle.wad_dir.proofs.AllMaps.Merging.{AreFurther, IsStep, changed_at, file, further_start, lump_names, spaced_lumps, step_of}
 use Rattle.wad_dir.proofs.AllMaps.Pieces.{shift_of, then_behind}
-use Rattle.wad_dir.proofs.AllMaps.Spacing.{lump_alike, no_reject, run_before, run_of}
+use Rattle.wad_dir.proofs.AllMaps.Spacing.{no_reject, run_before, run_of}
 
 -- the map's REJECT is in place, and all of it lies before a bound
 record IsSettled (w : WadFile) (a : Change) (bound : ℕ) : Type 0 where
@@ -47,8 +47,7 @@ module _ (w : WadFile) (a : Change) (bound : ℕ) (name : List ℕ) (spot : MapS
       let long : length (names_of w) ≡ length w.lumps = length-map w.lumps (λ (l : WadLump). l.name) in
       let within : spot.sectors < length (names_of w) = sectors_within (names_of w) name spot (spot_parts (names_of w) name spot found) in
       let names : map (λ (l : WadLump). l.name) (insert w.lumps (spot.sectors + 1) (reject_lump table)) ≡ insert (names_of w) (spot.sectors + 1) padded = map_insert (λ (l : WadLump). l.name) w.lumps (spot.sectors + 1) (reject_lump table) in
-      let n = marker_named (names_of w) name spot found in
-      let run : has.spot.marker + 1 + length (run_of (names_of w) has.spot.marker) ≤ spot.marker = run_before (names_of w) has.spot.marker spot.marker n.0 (omega (arith, marker, behind)) n.1 (lump_alike n.0 name n.2 ∙ other) in
+      let run : has.spot.marker + 1 + length (run_of (names_of w) has.spot.marker) ≤ spot.marker = run_before (names_of w) a.name name has.spot spot has.found found other (omega (arith, marker, behind)) in
       let stays : spot_of (insert (names_of w) (spot.sectors + 1) padded) a.name ≡ Ok has.spot = spot_stays (names_of w) (spot.sectors + 1) a.name padded has.spot (no_reject a.name s.other) has.found (omega (arith, run, lt)) (omega (arith, within)) in
       record { has = record { spot = has.spot; found = ap (λ (ns : List (List ℕ)). spot_of ns a.name) names ∙ stays; place = has.place; reject = has.reject; lump = has.lump; there = get_before w.lumps (spot.sectors + 1) has.place (reject_lump table) (omega (arith, within, long)) (omega (arith, before, behind, lt)) ∙ has.there; bytes = has.bytes }; marker = marker; place = before; other = s.other }
 

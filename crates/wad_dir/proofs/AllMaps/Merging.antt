@@ -35,7 +35,7 @@ shifted_none (Some r) = let same : r ≡ 0 + r = omega arith in ap (λ (i : ℕ)
 further_none : (spot : MapSpot) → spot ≡ further 0 spot
 further_none spot =
     let none : (x : ℕ) → x ≡ 0 + x = (λ x. omega arith) in
-    (λ i. spot_by_parts (none spot.marker i) (none spot.linedefs i) (none spot.sidedefs i) (none spot.vertexes i) (none spot.sectors i) (shifted_none spot.reject i) spot.format)
+    (λ i. spot_by_parts (none spot.marker i) (none spot.linedefs i) (none spot.sidedefs i) (none spot.vertexes i) (none spot.sectors i) (shifted_none spot.reject i) spot.format spot.text)
 
 ok_is_same : (a b : MapSpot) → ◌≡◌ {A = Result MapSpot MapFault} (Ok a) (Ok b) → a ≡ b
 ok_is_same a b e = cc

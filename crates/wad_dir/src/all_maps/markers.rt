@@ -5,8 +5,8 @@ ghost use Rattle.std.specs.BTreeMap.{get};
 ghost use Rattle.std.specs.Cmp.Lexicographic.{slice_cmp};
 ghost use Rattle.std.specs.List.{list_all};
 ghost use Rattle.std.specs.Ordering.{nat_cmp};
-ghost use Rattle.wad_dir.specs.Map.{entry_names, key_of, spot_of};
-ghost use Rattle.wad_dir.specs.AllMaps.Maps.{begins_with_textmap, is_map, is_map_name, is_udmf, is_visible, maps_of, udmf_maps_of};
+ghost use Rattle.wad_dir.specs.Map.{begins_with_textmap, entry_names, key_of, spot_of};
+ghost use Rattle.wad_dir.specs.AllMaps.Maps.{is_map, is_map_name, is_udmf, is_visible, maps_of, udmf_maps_of};
 ghost use Rattle.wad_dir.specs.AllMaps.Places.{AreLast};
 
 use crate::all_maps::places::{find_at, last_places, told};
@@ -37,6 +37,8 @@ pub fn is_map_name(name: &[u8]) -> bool
     !is_same_name(name, b"")
         && are_visible(name)
         && !is_same_name(name, b"BEHAVIOR")
+        && !is_same_name(name, b"TEXTMAP")
+        && !is_same_name(name, b"ENDMAP")
         && !is_map_lump(name)
 }
 
@@ -113,7 +115,7 @@ fn is_udmf(
     is_textmap_next(behind)
 }
 
-/// The names of the maps of UDMF, which aren't read, in the order of their entries: of each entry that is the last of its
+/// The names of the maps of UDMF, whether they are read or have no ENDMAP, in the order of their entries: of each entry that is the last of its
 /// name, whose name a map can have, and right behind which TEXTMAP stands. Names are in upper case, padded with NUL.
 pub fn udmf_maps(alloc: Global, wad: &Wad) -> Result<Vec<[u8; 8]>, Memory>
     ensures maps { IfOk result (λ maps. maps.items ≡ udmf_maps_of (entry_names wad.now.entries)) }

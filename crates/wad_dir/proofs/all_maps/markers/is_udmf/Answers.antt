@@ -3,10 +3,9 @@ use Rattle.std.specs.BTreeMap.{get}
 use Rattle.std.specs.Cmp.Lexicographic.{slice_cmp}
 use Rattle.std.proofs.lemmas.Option.{slice_get_within}
 use Rattle.wad_dir.specs.declared.parts.Entry.{Entry}
-use Rattle.wad_dir.specs.Map.{entry_names}
+use Rattle.wad_dir.specs.Map.{begins_with_textmap, entry_names}
 use Rattle.wad_dir.proofs.Names.{names_drop, names_length}
 use Rattle.math_base.proofs.Numbers.{tells_other, tells_same}
-use Rattle.wad_dir.specs.AllMaps.Maps.{begins_with_textmap}
 use Rattle.wad_dir.proofs.AllMaps.FoundMaps.{has_last, is_last, udmf_is}
 use Rattle.wad_dir.proofs.AllMaps.LastPlaces.{looked_up}
 use Rattle.wad_dir.proofs.all_maps.markers.is_udmf.Goals as goal

@@ -1,4 +1,4 @@
-use Rattle.std.proofs.Common.{ℕ, ◌+◌, List, [], ◌≤◌, length, arith}
+use Rattle.std.proofs.Common.{ℕ, List, ◌≤◌, length, arith}
 use Rattle.wad_dir.specs.Map.{entry_names}
 use Rattle.wad_dir.proofs.Names.{names_length}
 use Rattle.wad_dir.proofs.AllMaps.FoundMaps.{map_more, name_there, other_more}

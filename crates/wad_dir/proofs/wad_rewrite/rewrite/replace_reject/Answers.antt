@@ -1,6 +1,5 @@
 use Rattle.std.proofs.Common.{ap, ◌∙◌, ◌+◌, arith}
 use Rattle.std.specs.List.{insert}
-use Rattle.wad_dir.specs.Print.{reject_lump}
 use Rattle.wad_dir.specs.Wad.{WadLump}
 use Rattle.wad_dir.specs.WadRewrite.Lumps.{views}
 use Rattle.wad_dir.proofs.WadRewrite.LumpsLemmas.{views-set, views-insert}

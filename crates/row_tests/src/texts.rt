@@ -1,0 +1,159 @@
+//! Rows of verbs over maps of UDMF, whose texts stand here as they are read.
+
+use crate::table::hold;
+use std::alloc::{AllocError, Global};
+use std::test::Fail;
+use std::thread::Threads;
+
+// Two rooms with an open line between them, the same map as PAIR.
+const PAIR: &str = "namespace=\"doom\";\
+vertex{x=0;y=0;}vertex{x=0;y=64;}vertex{x=64;y=64;}vertex{x=64;y=0;}vertex{x=128;y=64;}vertex{x=128;y=0;}\
+linedef{v1=0;v2=1;sidefront=0;}linedef{v1=1;v2=2;sidefront=1;}\
+linedef{v1=2;v2=3;sidefront=2;sideback=3;twosided=true;}linedef{v1=3;v2=0;sidefront=4;}\
+linedef{v1=2;v2=4;sidefront=5;}linedef{v1=4;v2=5;sidefront=6;}linedef{v1=5;v2=3;sidefront=7;}\
+sidedef{sector=0;}sidedef{sector=0;}sidedef{sector=0;}sidedef{sector=1;}\
+sidedef{sector=0;}sidedef{sector=1;}sidedef{sector=1;}sidedef{sector=1;}sector{}sector{}\n";
+
+// One room in any order and spelling.
+const SQUARE: &str = "namespace = \"ZDoom\" ;
+LineDef{V1=0x0;V2=01;SideFront=0;user_note=\"a \\\" ; } // b\";}linedef{v1=+1;v2=2;sidefront=1;}
+sector{}
+linedef { v1 = 9; v1 = 2; v2 = 3; sidefront = 2; sideback = -1; twosided = FALSE; }
+linedef{v1=3;v2=0;sidefront=3;special=1;arg0=4;}
+sidedef{sector=0;}sidedef{sector=0;}sidedef{sector=0;}sidedef{sector=00;}
+vertex{x=0;y=-0.0;}vertex{x=0e5;y=6.4e1;zfloor=1.5;}vertex{x=64000.E-3;y=64.;}vertex{x=.64e2;y=0;}
+vertex{x=0.5;}
+thing { x = 1.5; type = 1; }
+";
+
+// A line between two sectors that sound passes once.
+const DAMPER: &str = "namespace=\"doom\";vertex{x=0;y=0;}vertex{x=0;y=64;}\
+linedef{v1=0;v2=1;sidefront=0;sideback=1;twosided=true;blocksound=true;}\
+sidedef{sector=0;}sidedef{sector=1;}sector{}sector{}\n";
+
+// What is said of texts that are no map, each with its line.
+const FAULTS: &[(&str, &str)] = &[
+    ("", "8 | refused: bad lump: namespace 0"),
+    ("vertex{x=0;y=0;}", "8 | refused: bad lump: namespace 0"),
+    (
+        "namespace=\"eternity\";",
+        "8 | refused: bad lump: namespace 10",
+    ),
+    (
+        "namespace=\"doom\";vertex{a{}}",
+        "8 | refused: bad lump: text 25",
+    ),
+    (
+        "namespace=\"doom\";author=\"a",
+        "8 | refused: bad lump: text 24",
+    ),
+    (
+        "namespace=\"doom\";linedef{v1=0.0;}",
+        "8 | refused: bad lump: value 28",
+    ),
+    (
+        "namespace=\"zdoom\";linedef{}linedef{special=156;}",
+        "8 | refused: bad lump: portal of line 1",
+    ),
+    (
+        "namespace=\"doom\";vertex{x=0;y=0;}vertex{x=0.5;y=0;}linedef{v1=0;v2=1;}",
+        "8 | refused: bad lump: coordinate of vertex 1",
+    ),
+    (
+        "namespace=\"doom\";vertex{x=0;y=0;}vertex{x=0;y=64;}linedef{v1=0;v2=1;sidefront=0;sideback=1;}sidedef{sector=0;}sector{}",
+        "8 | refused: bad lump: side of line 0",
+    ),
+    (
+        "namespace=\"doom\";vertex{x=0;y=0;}vertex{x=0;y=64;}linedef{v1=0;v2=2;}",
+        "8 | refused: bad lump: vertex of line 0",
+    ),
+];
+
+const DIGITS: &[u8; 16] = b"0123456789abcdef";
+
+// The bytes of a text as hexadecimal digits.
+fn digits_of(alloc: Global, text: &str) -> Result<String, AllocError> {
+    let mut digits = String::new(alloc);
+    for byte in text.as_bytes() {
+        digits.push(char::from(DIGITS[(*byte >> 4) as usize]))?;
+        digits.push(char::from(DIGITS[(*byte & 15) as usize]))?;
+    }
+    Ok(digits)
+}
+
+// Tries a row whose words `UDMF` stand for the lumps of a map of this text, and `TEXT` for the text's digits.
+fn hold_text<R: Threads + Sync>(rt: &R, alloc: Global, text: &str, row: &str) -> Result<(), Fail> {
+    let digits = digits_of(alloc, text)?;
+    let mut said = String::new(alloc);
+    for (k, part) in row.split("TEXT").enumerate() {
+        if k > 0 {
+            said.push_str(digits.as_str())?;
+        }
+        said.push_str(part)?;
+    }
+    hold(rt, alloc, said.as_str())
+}
+
+// A WAD of one map of UDMF, its text, and another lump of it.
+const ONE: &str = "a=#50574144000000000c000000 +0:MAP01 +1:TEXTMAP =TEXT +2:ZNODES *3 +3:ENDMAP";
+
+fn hold_one<R: Threads + Sync>(rt: &R, alloc: Global, text: &str, rest: &str) -> Result<(), Fail> {
+    let row = format!(in alloc; "{ONE} | {rest}")?;
+    hold_text(rt, alloc, text, &row)
+}
+
+#[test]
+fn a_text_is_read_as_the_map_that_it_spells(rt: HostRuntime) -> Result<(), Fail> {
+    let alloc = rt.alloc();
+    for rest in [
+        "zero a MAP01 b | 0 | zero MAP01 sectors 2 bytes 1 | b=#50574144000000000c000000 +0:MAP01 +1:TEXTMAP =TEXT +2:REJECT =00 +3:ZNODES *3 +4:ENDMAP",
+        "audit a MAP01 | 0 | sound lines 7 points 6 sectors 2 triangles 4",
+        "build a MAP01 b --cert c | 0 | built MAP01 sectors 2 set 0 clear 3 listed 0 | b=#50574144000000000c000000 +0:MAP01 +1:TEXTMAP =TEXT +2:REJECT =00 +3:ZNODES *3 +4:ENDMAP\n| check b MAP01 c | 0 | yes sectors 2 set 0 clear 3 listed 0",
+        "all a b --report r | 0 | all maps 1 built 1 refused 0 | b=#50574144000000000c000000 +0:MAP01 +1:TEXTMAP =TEXT +2:REJECT =00 +3:ZNODES *3 +4:ENDMAP",
+        "verify a | 0 | verify maps 1 right 0 wrong 0 short 1 refused 0",
+        "zero a TEXTMAP b | 7 | refused: no map: missing LINEDEFS | b=",
+        "all a b --only ENDMAP | 7 | refused: no map: missing LINEDEFS | b=",
+    ] {
+        hold_one(&rt, alloc, PAIR, rest)?;
+    }
+    hold_one(
+        &rt,
+        alloc,
+        SQUARE,
+        "audit a MAP01 | 0 | sound lines 4 points 4 sectors 1 triangles 2",
+    )?;
+    hold_one(
+        &rt,
+        alloc,
+        DAMPER,
+        "sound a MAP01 0 1 | 0 | noise 0 1 by 0R",
+    )
+}
+
+#[test]
+fn a_text_that_is_no_map_is_refused(rt: HostRuntime) -> Result<(), Fail> {
+    for (text, said) in FAULTS {
+        let row = format!(in rt.alloc(); "zero a MAP01 b | {said} | b=")?;
+        hold_one(&rt, rt.alloc(), text, &row)?;
+    }
+    Ok(())
+}
+
+#[test]
+fn the_lumps_of_a_text_end_before_another_map(rt: HostRuntime) -> Result<(), Fail> {
+    let alloc = rt.alloc();
+    for row in [
+        // the REJECT of the run is replaced; BEHAVIOR and lumps of a user stand in it
+        "a=PAIR +6:MAP02 +7:TEXTMAP =TEXT +8:BEHAVIOR *2 +9:REJECT =ff +10:OWN +11:ENDMAP | all a b | 0 | all maps 2 built 2 refused 0 | b=PAIR =00 +6:MAP02 +7:TEXTMAP =TEXT +8:BEHAVIOR *2 +9:REJECT =00 +10:OWN +11:ENDMAP",
+        // two REJECTs, none of the lumps that end a map, and a lump of another format
+        "a=PAIR +6:MAP02 +7:TEXTMAP =TEXT +8:REJECT +9:REJECT +10:ENDMAP | zero a MAP02 b | 7 | refused: no map: missing LINEDEFS | b=",
+        "a=PAIR +6:MAP02 +7:TEXTMAP =TEXT +8:ZNODES | zero a MAP02 b | 7 | refused: no map: missing LINEDEFS | b=",
+        "a=PAIR +6:MAP02 +7:TEXTMAP =TEXT +8:NODES +9:ENDMAP | zero a MAP02 b | 7 | refused: no map: missing LINEDEFS | b=",
+        "a=PAIR +6:MAP02 +7:TEXTMAP =TEXT +8:TEXTMAP +9:ENDMAP | zero a MAP02 b | 7 | refused: no map: missing LINEDEFS | b=",
+        // the last map of a name
+        "a=PAIR +6:MAP01 +7:TEXTMAP =TEXT +8:ENDMAP | zero a MAP01 b | 0 | zero MAP01 sectors 2 bytes 1 | b=PAIR +6:MAP01 +7:TEXTMAP =TEXT +8:REJECT =00 +9:ENDMAP",
+    ] {
+        hold_text(&rt, alloc, PAIR, row)?;
+    }
+    Ok(())
+}
