@@ -1,7 +1,6 @@
 -- What is listed of the maps that are asked for, and what the order `maps` can end with.
 use Rattle.std.proofs.Common.{◌≡◌, ℕ, Bool, true, List, Option, Some, None, Result, Ok, Err, refl, sym, ap, subst, ◌∙◌}
-use Rattle.std.specs.Prelude.{IfErr, IfOk, ⊤, is_none, string_bytes}
-use Rattle.wad_dir.specs.Wad.{names_of}
+use Rattle.std.specs.Prelude.{IfErr, IfOk, ⊤, string_bytes}
 use Rattle.order_words.specs.declared.order.Order.TheVariants as order
 use Rattle.order_words.specs.declared.order.Source.{Source}
 use Rattle.map_answers.specs.declared.sight_status.status.Bound.TheVariants as bound
@@ -10,28 +9,27 @@ use Rattle.map_answers.specs.declared.sight_status.status.Status.{Status}
 use Rattle.map_answers.specs.declared.sight_status.status.Status.TheVariants as status
 use Rattle.map_answers.specs.SightStatus.Answer.{Answer, IsTheAnswer}
 use Rattle.table_verdicts.specs.declared.map_list.listing.MapList.{MapList}
-use Rattle.table_verdicts.specs.MapList.Listing.{ShowsList, listed_of}
+use Rattle.table_verdicts.specs.MapList.Listing.{ShowsList}
 use Rattle.table_verdicts.specs.MapList.Totals.{list_line}
 use Rattle.sight_run.specs.Asked.{AskedMaps}
 use Rattle.sight_run.specs.Build.{report_roles, report_writes}
-use Rattle.sight_run.specs.Maps.{MapsListed, asked_answer, list_answer}
+use Rattle.sight_run.specs.Maps.{MapsListed, asked_answer}
 use Rattle.sight_run.specs.Obeys.{WritesEach}
 use Rattle.sight_run.specs.declared.reply.Reply.{Reply}
 use Rattle.sight_run.specs.Reply.{roles_of, writes}
 use Rattle.sight_run.specs.Run.{IsOfAsked, IsOfOrder}
 
--- what is listed of the names is what is answered
-pub list_shows : (reported : Option (List ℕ)) (large : Bool) (only : Option (List (List ℕ))) (asked : AskedMaps) (entries names : List (List ℕ)) (list : MapList) (line : List ℕ) (answer : Answer) → names_of asked.wad ≡ entries
-    → names ≡ listed_of entries asked.maps (is_none only) → ShowsList asked.wad large names list → line ≡ list_line list.tally → answer ≡ record { writes = report_writes reported (string_bytes list.report); line = line; right = true }
-    → answer ≡ asked_answer reported large only asked
-list_shows reported large only asked entries names list line answer same are shows told is =
-    let listed : names ≡ listed_of (names_of asked.wad) asked.maps (is_none only) = are ∙ ap (λ (ns : List (List ℕ)). listed_of ns asked.maps (is_none only)) (sym same) in
+-- what is listed of the maps is what is answered
+pub list_shows : (reported : Option (List ℕ)) (large : Bool) (asked : AskedMaps) (list : MapList) (line : List ℕ) (answer : Answer)
+    → ShowsList asked.wad large asked.maps list → line ≡ list_line list.tally → answer ≡ record { writes = report_writes reported (string_bytes list.report); line = line; right = true }
+    → answer ≡ asked_answer reported large asked
+list_shows reported large asked list line answer shows told is =
     let put = told ∙ ap list_line shows.tally in
-    is ∙ (λ i. record { writes = report_writes reported (shows.report i); line = put i; right = true }) ∙ ap (list_answer reported large asked.wad) listed
+    is ∙ (λ i. record { writes = report_writes reported (shows.report i); line = put i; right = true })
 
 -- and no other answer is called for
-pub list_answers : (reported : Option (List ℕ)) (large : Bool) (only : Option (List (List ℕ))) (asked : AskedMaps) (answer : Answer) → answer ≡ asked_answer reported large only asked → IsTheAnswer ⊤ (MapsListed reported large only asked) (Ok answer)
-list_answers reported large only asked answer is = record { called = ap (λ (a : Answer). Ok a) is; only = λ sole other called. called ∙ sym (ap (λ (a : Answer). Ok a) is) }
+pub list_answers : (reported : Option (List ℕ)) (large : Bool) (asked : AskedMaps) (answer : Answer) → answer ≡ asked_answer reported large asked → IsTheAnswer ⊤ (MapsListed reported large asked) (Ok answer)
+list_answers reported large asked answer is = record { called = ap (λ (a : Answer). Ok a) is; only = λ sole other called. called ∙ sym (ap (λ (a : Answer). Ok a) is) }
 
 -- ---- by the order
 

@@ -1,12 +1,11 @@
 -- What the order `maps` lists of the maps of a WAD.
-use Rattle.std.specs.Prelude.{◌≡◌, true, ℕ, Bool, List, Option, Result, Ok, is_none}
+use Rattle.std.specs.Prelude.{◌≡◌, true, ℕ, Bool, List, Option, Result, Ok}
 use Rattle.shelf_io.specs.Shelf.{Files}
-use Rattle.wad_dir.specs.Wad.{WadFile, names_of}
+use Rattle.wad_dir.specs.Wad.{WadFile}
 use Rattle.map_answers.specs.declared.sight_status.status.Status.{Status}
 use Rattle.map_answers.specs.SightStatus.Answer.{Answer}
 use Rattle.table_verdicts.specs.MapList.Entry.{entries_of}
 use Rattle.table_verdicts.specs.MapList.Lines.{lines_of_maps}
-use Rattle.table_verdicts.specs.MapList.Listing.{listed_of}
 use Rattle.table_verdicts.specs.MapList.Totals.{list_line, list_tally_of}
 use Rattle.sight_run.specs.All.{OnRead}
 use Rattle.sight_run.specs.Asked.{AskedMaps, asked_in}
@@ -20,13 +19,13 @@ list_answer reported large w names = record {
   right = true;
 }
 
--- .. for the maps that are asked for, and behind them for those of UDMF, where no names are given
-abbrev pub asked_answer : Option (List ℕ) → Bool → Option (List (List ℕ)) → AskedMaps → Answer
-asked_answer reported large only asked = list_answer reported large asked.wad (listed_of (names_of asked.wad) asked.maps (is_none only))
+-- .. for the maps that are asked for
+abbrev pub asked_answer : Option (List ℕ) → Bool → AskedMaps → Answer
+asked_answer reported large asked = list_answer reported large asked.wad asked.maps
 
-abbrev pub MapsListed : Option (List ℕ) → Bool → Option (List (List ℕ)) → AskedMaps → Result Answer Status → Type 0
-MapsListed reported large only asked answer = answer ≡ Ok (asked_answer reported large only asked)
+abbrev pub MapsListed : Option (List ℕ) → Bool → AskedMaps → Result Answer Status → Type 0
+MapsListed reported large asked answer = answer ≡ Ok (asked_answer reported large asked)
 
 -- The answer that `maps` calls for. Where names are given, the maps of these names alone are listed.
 abbrev pub MapsCalls : List ℕ → Bool → Option (List (List ℕ)) → Option (List ℕ) → Files → Result Answer Status → Type 0
-MapsCalls wad large only reported files answer = OnRead (asked_in wad only files) (MapsListed reported large only) answer
+MapsCalls wad large only reported files answer = OnRead (asked_in wad only files) (MapsListed reported large) answer

@@ -20,7 +20,7 @@ use order_words::{Source, Text};
 use shelf_io::Shelf;
 use sight_names::{Items, Memory};
 use std::alloc::Global;
-use table_verdicts::map_list::{list_maps, listed_names, tally_line};
+use table_verdicts::map_list::{list_maps, tally_line};
 use whole_wad::Notice;
 
 /// What is listed of the maps that were read.
@@ -28,18 +28,16 @@ fn list_on<N: Notice>(
     alloc: Global,
     asked: &ReadMaps,
     large: bool,
-    only: &Option<Items<Text>>,
     report: &Option<Text>,
     notice: &N,
 ) -> Result<Reply, Memory>
     requires inside { All (λ entry. entry.at + entry.size ≤ length asked.now.bytes.items) asked.now.wad.entries }
     requires names { names_of (file_of asked.now.bytes.items asked.now.wad) ≡ entry_names asked.now.wad.entries }
     requires among { HasInOrder (maps_of (entry_names asked.now.wad.entries)) asked.now.maps.items }
-    ensures shows { IfOk result (λ reply. replied reply ≡ asked_answer report.now large only.now (asked_seen asked.now)) }
+    ensures shows { IfOk result (λ reply. replied reply ≡ asked_answer report.now large (asked_seen asked.now)) }
     ensures roles { IfOk result (λ reply. roles_of (writes reply) ≡ report_roles report.now) }
 {
-    let names = listed_names(alloc, &asked.wad, &asked.maps, only.is_none())?;
-    let list = list_maps(alloc, &asked.bytes, &asked.wad, large, &names, notice)?;
+    let list = list_maps(alloc, &asked.bytes, &asked.wad, large, &asked.maps, notice)?;
     let line = tally_line(alloc, list.tally)?;
     let reply = report_alone(alloc, report, list.report, line, true)?;
     Ok(reply)
@@ -65,7 +63,7 @@ pub fn do_maps<S: Shelf, N: Notice>(
     ensures right { IfOk result (λ reply. reply.right ≡ true) }
 {
     let asked = read_asked(alloc, shelf, source.file.as_str(), only, notice)?;
-    match list_on(alloc, &asked, source.large, only, report, notice) {
+    match list_on(alloc, &asked, source.large, report, notice) {
         Ok(reply) => Ok(reply),
         Err(refused) => Err(Status::Memory(refused.into())),
     }

@@ -7,6 +7,6 @@ mod named;
 mod sizes;
 mod tally;
 
-pub use entry::{MapEntry, MapSizes, Said};
-pub use listing::{MapList, list_maps, listed_names};
+pub use entry::{ListedFormat, MapEntry, MapSizes, Said};
+pub use listing::{MapList, list_maps};
 pub use tally::{ListTally, tally_line};

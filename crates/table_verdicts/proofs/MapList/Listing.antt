@@ -1,14 +1,8 @@
--- One more in the list of what maps of a WAD hold, and its line; the names that are listed.
-use Rattle.std.proofs.Common.{◌≡◌, ℕ, Bool, true, false, ◌+◌, ◌<◌, List, [], ◌∷◌, ◌++◌, length, get_or, take, map, sym, ap, subst, ◌∙◌}
-use Rattle.std.specs.Prelude.{IsTrue, if◌then◌else◌}
-use Rattle.std.specs.List.{All, flat_map}
+-- One more in the list of what maps of a WAD hold, and its line.
+use Rattle.std.proofs.Common.{◌≡◌, ℕ, ◌+◌, ◌<◌, List, [], ◌∷◌, ◌++◌, length, get_or, take, map, sym, ap, ◌∙◌}
+use Rattle.std.specs.List.{flat_map}
 use Rattle.std.proofs.lemmas.List.{flat_map_more, take_more}
-use Rattle.std.proofs.lemmas.List.Elements.{All-from_recursion, recursion_from_All}
-use Rattle.math_base.proofs.Lists.{all_join, map_pushed}
-
--- both hold of each
-pub named_join : {X : Type 0} (P : X → Type 0) (xs ys zs : List X) → zs ≡ xs ++ ys → All P xs → All P ys → All P zs
-named_join P xs ys zs e hx hy = subst (All P) (sym e) (All-from_recursion P (xs ++ ys) (all_join P xs ys (recursion_from_All P xs hx) (recursion_from_All P ys hy)))
+use Rattle.math_base.proofs.Lists.{map_pushed}
 
 module _ {X Y : Type 0} (f : X → Y) (xs : List X) (k : ℕ) (d : X) (lt : k < length xs) where
   next_of : map f (take k xs) ++ f (get_or xs k d) ∷ [] ≡ map f (take (k + 1) xs)

@@ -1,7 +1,7 @@
 -- What is listed of a map: its format, how great it is, and what its REJECT holds.
-use Rattle.std.specs.Prelude.{ℕ, ◌+◌, ◌*◌, ◌==◌, Bool, nat_lt, List, length, map, Option, Some, None, Result, Ok, Err, if◌then◌else◌}
+use Rattle.std.specs.Prelude.{ℕ, ◌+◌, ◌*◌, ◌==◌, Bool, true, false, nat_lt, List, length, map, Option, Some, None, Result, Ok, Err, if◌then◌else◌}
 use Rattle.sight_names.specs.declared.names.MapFormat.{MapFormat}
-use Rattle.sight_names.specs.declared.names.MapFormat.TheVariants.{Doom}
+use Rattle.sight_names.specs.declared.names.MapFormat.TheVariants as linedefs
 use Rattle.sight_names.specs.Map.{Map}
 use Rattle.sight_names.specs.Points.{lines_of, points_of}
 use Rattle.sight_names.specs.Table.{table_bit}
@@ -10,17 +10,24 @@ use Rattle.wad_dir.specs.AllMaps.Names.{word_of}
 use Rattle.wad_dir.specs.Map.{spot_of}
 use Rattle.wad_dir.specs.Wad.{WadFile, names_of}
 use Rattle.map_answers.specs.declared.sight_status.status.Status.{Status}
-use Rattle.map_answers.specs.declared.sight_status.status.Status.TheVariants as status
 use Rattle.map_answers.specs.Input.{map_named}
 use Rattle.whole_wad.specs.Rejects.{reject_named, table_len}
+use Rattle.table_verdicts.specs.declared.map_list.entry.ListedFormat.{ListedFormat}
+use Rattle.table_verdicts.specs.declared.map_list.entry.ListedFormat.TheVariants.{Doom, Hexen, Udmf}
 use Rattle.table_verdicts.specs.declared.map_list.entry.MapSizes.{MapSizes}
 use Rattle.table_verdicts.specs.declared.map_list.entry.Said.{Said}
 use Rattle.table_verdicts.specs.declared.map_list.entry.Said.TheVariants as said
 use Rattle.table_verdicts.specs.declared.map_list.entry.MapEntry.{MapEntry}
 
+-- the format of a map that is a text or isn't, and whose LINEDEFS are of this one
+abbrev pub listed_format : Bool → MapFormat → ListedFormat
+listed_format true format = Udmf
+listed_format false linedefs.Doom = Doom
+listed_format false linedefs.Hexen = Hexen
+
 -- the format of the map of a name, Doom's where there is none
-abbrev pub format_named : List (List ℕ) → List ℕ → MapFormat
-format_named names name = elim (spot_of names name) [ Ok spot ↦ spot.format | Err fault ↦ Doom ]
+abbrev pub format_named : List (List ℕ) → List ℕ → ListedFormat
+format_named names name = elim (spot_of names name) [ Ok spot ↦ listed_format spot.text spot.format | Err fault ↦ Doom ]
 
 -- the bit of the pair is set in the bytes
 abbrev pub is_set : ℕ → List ℕ → ℕ → ℕ → Bool
@@ -31,7 +38,7 @@ abbrev pub set_bits : ℕ → List ℕ → Option ℕ
 set_bits n reject = if nat_lt (length reject) (table_len n) then None else Some (pairs_by (is_set n reject) n)
 
 -- how great a map of this format is, and what a REJECT of these bytes has of it
-abbrev pub sizes_of : Map → MapFormat → List ℕ → MapSizes
+abbrev pub sizes_of : Map → ListedFormat → List ℕ → MapSizes
 sizes_of m format reject = record {
   format = format;
   lines = length (lines_of m);
@@ -42,10 +49,9 @@ sizes_of m format reject = record {
   set = set_bits m.sectors reject;
 }
 
--- what is said of a map that was read, or why none was; where its name finds none, it is of UDMF
-abbrev pub said_of : Result Map Status → MapFormat → List ℕ → Said
+-- what is said of a map that was read, or why none was
+abbrev pub said_of : Result Map Status → ListedFormat → List ℕ → Said
 said_of (Ok m) format reject = said.Read (sizes_of m format reject)
-said_of (Err (status.NoMap fault)) format reject = said.Udmf
 said_of (Err refusal) format reject = said.Refused refusal
 
 -- .. of the map of a name, by the usual limits or the larger ones, and its own REJECT

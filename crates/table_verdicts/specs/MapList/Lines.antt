@@ -2,18 +2,19 @@
 use Rattle.std.specs.Prelude.{ℕ, List, ◌++◌, Option, Some, None, codes}
 use Rattle.std.specs.Fmt.{decimal}
 use Rattle.std.specs.List.{flat_map}
-use Rattle.sight_names.specs.declared.names.MapFormat.{MapFormat}
-use Rattle.sight_names.specs.declared.names.MapFormat.TheVariants.{Doom, Hexen}
 use Rattle.wad_dir.specs.AllMaps.Names.{word_of}
 use Rattle.map_answers.specs.SightStatus.Texts.{reason_words}
+use Rattle.table_verdicts.specs.declared.map_list.entry.ListedFormat.{ListedFormat}
+use Rattle.table_verdicts.specs.declared.map_list.entry.ListedFormat.TheVariants.{Doom, Hexen, Udmf}
 use Rattle.table_verdicts.specs.declared.map_list.entry.MapSizes.{MapSizes}
 use Rattle.table_verdicts.specs.declared.map_list.entry.Said.{Said}
 use Rattle.table_verdicts.specs.declared.map_list.entry.Said.TheVariants as said
 use Rattle.table_verdicts.specs.declared.map_list.entry.MapEntry.{MapEntry}
 
-abbrev pub format_words : MapFormat → List ℕ
+abbrev pub format_words : ListedFormat → List ℕ
 format_words Doom = codes " doom"
 format_words Hexen = codes " hexen"
+format_words Udmf = codes " udmf"
 
 -- how great it is
 abbrev pub size_words : MapSizes → List ℕ
@@ -30,7 +31,6 @@ reject_words s = codes " reject " ++ decimal s.found ++ codes " of " ++ decimal 
 abbrev pub said_words : Said → List ℕ
 said_words (said.Read sizes) = format_words sizes.format ++ size_words sizes ++ reject_words sizes ++ codes "\n"
 said_words (said.Refused refusal) = codes " refused " ++ reason_words refusal
-said_words said.Udmf = codes " udmf\n"
 
 abbrev pub entry_line : MapEntry → List ℕ
 entry_line e = word_of e.name ++ said_words e.said

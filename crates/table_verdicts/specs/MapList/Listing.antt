@@ -1,15 +1,10 @@
 -- What is listed of maps of a WAD.
-use Rattle.std.specs.Prelude.{◌≡◌, ℕ, Bool, List, [], ◌++◌, string_bytes, if◌then◌else◌}
-use Rattle.wad_dir.specs.AllMaps.Maps.{udmf_maps_of}
+use Rattle.std.specs.Prelude.{◌≡◌, ℕ, Bool, List, string_bytes}
 use Rattle.wad_dir.specs.Wad.{WadFile}
 use Rattle.table_verdicts.specs.declared.map_list.listing.MapList.{MapList}
 use Rattle.table_verdicts.specs.MapList.Entry.{entries_of}
 use Rattle.table_verdicts.specs.MapList.Lines.{lines_of_maps}
 use Rattle.table_verdicts.specs.MapList.Totals.{list_tally_of}
-
--- these maps, and behind them those of UDMF where all are asked for
-abbrev pub listed_of : List (List ℕ) → List (List ℕ) → Bool → List (List ℕ)
-listed_of names maps all = maps ++ (if all then udmf_maps_of names else [])
 
 -- the report and the counts are those of the maps of these names
 pub record ShowsList (w : WadFile) (large : Bool) (names : List (List ℕ)) (given : MapList) : Type 0 where

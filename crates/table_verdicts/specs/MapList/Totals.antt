@@ -21,10 +21,6 @@ abbrev pub is_refused : Said → Bool
 is_refused (said.Refused refusal) = true
 is_refused other = false
 
-abbrev pub is_udmf : Said → Bool
-is_udmf said.Udmf = true
-is_udmf other = false
-
 abbrev pub count_of : (Said → Bool) → List MapEntry → ℕ
 count_of test entries = count_by (λ (e : MapEntry). test e.said) entries
 
@@ -34,8 +30,7 @@ list_tally_of entries = record {
   whole = count_of is_whole entries;
   short = count_of is_short entries;
   refused = count_of is_refused entries;
-  udmf = count_of is_udmf entries;
 }
 
 abbrev pub list_line : ListTally → List ℕ
-list_line t = codes "maps " ++ decimal t.maps ++ codes " whole " ++ decimal t.whole ++ codes " short " ++ decimal t.short ++ codes " refused " ++ decimal t.refused ++ codes " udmf " ++ decimal t.udmf ++ codes "\n"
+list_line t = codes "maps " ++ decimal t.maps ++ codes " whole " ++ decimal t.whole ++ codes " short " ++ decimal t.short ++ codes " refused " ++ decimal t.refused ++ codes "\n"

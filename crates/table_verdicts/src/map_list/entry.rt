@@ -1,12 +1,19 @@
 //! What is listed of a map.
 
 use map_answers::sight_status::Status;
-use sight_names::MapFormat;
+
+/// The format of a map.
+#[derive(Clone, Copy)]
+pub enum ListedFormat {
+    Doom,
+    Hexen,
+    Udmf,
+}
 
 /// How great a map is, and what its REJECT holds.
 #[derive(Clone, Copy)]
 pub struct MapSizes {
-    pub format: MapFormat,
+    pub format: ListedFormat,
     /// How many lines it has, without the records that are passed over.
     pub lines: u64,
     pub points: u64,
@@ -24,8 +31,6 @@ pub struct MapSizes {
 pub enum Said {
     Read(MapSizes),
     Refused(Status),
-    /// It is of UDMF, which isn't read.
-    Udmf,
 }
 
 /// What is listed of one map. The name is in upper case, padded with NUL.

@@ -4,18 +4,18 @@ ghost use Rattle.std.specs.Prelude.{◌≡◌, ◌++◌, IfOk, OnOk, IsTrue, str
 ghost use Rattle.wad_dir.specs.AllMaps.Maps.{is_map_name};
 ghost use Rattle.table_verdicts.specs.MapList.Lines.{entry_line, format_words, reject_words, said_words, set_words, size_words};
 
-use crate::map_list::entry::{MapEntry, MapSizes, Said};
+use crate::map_list::entry::{ListedFormat, MapEntry, MapSizes, Said};
 use map_answers::sight_status::{push_count, push_reason, push_text};
-use sight_names::MapFormat;
 use std::alloc::{AllocError, Global};
 use wad_dir::all_maps::text_of;
 
-fn format_name(format: MapFormat) -> &'static str
+fn format_name(format: ListedFormat) -> &'static str
     ensures { result.now ≡ format_words format }
 {
     match format {
-        MapFormat::Doom => " doom",
-        MapFormat::Hexen => " hexen",
+        ListedFormat::Doom => " doom",
+        ListedFormat::Hexen => " hexen",
+        ListedFormat::Udmf => " udmf",
     }
 }
 
@@ -62,7 +62,6 @@ fn push_said(alloc: Global, line: &mut String, said: &Said) -> Result<(), AllocE
             push_text(line, " refused ")?;
             push_reason(alloc, line, *refusal)
         }
-        Said::Udmf => push_text(line, " udmf\n"),
     }
 }
 

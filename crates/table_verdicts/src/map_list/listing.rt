@@ -3,11 +3,10 @@
 ghost use Rattle.std.specs.Prelude.{◌≡◌, ◌+◌, ◌≤◌, length, All, IfOk, IsTrue, string_bytes};
 ghost use Rattle.wad_dir.specs.Map.{entry_names};
 ghost use Rattle.wad_dir.specs.Wad.{file_of, names_of};
-ghost use Rattle.wad_dir.specs.AllMaps.All.{HasInOrder};
-ghost use Rattle.wad_dir.specs.AllMaps.Maps.{is_map_name, maps_of};
+ghost use Rattle.wad_dir.specs.AllMaps.Maps.{is_map_name};
 ghost use Rattle.table_verdicts.specs.MapList.Entry.{entries_of};
 ghost use Rattle.table_verdicts.specs.MapList.Lines.{lines_of_maps};
-ghost use Rattle.table_verdicts.specs.MapList.Listing.{ShowsList, listed_of};
+ghost use Rattle.table_verdicts.specs.MapList.Listing.{ShowsList};
 
 use crate::map_list::entry::MapEntry;
 use crate::map_list::line::line_of;
@@ -16,8 +15,7 @@ use crate::map_list::tally::{ListTally, tally_up};
 use sight_names::Memory;
 use std::alloc::Global;
 use wad_dir::Wad;
-use wad_dir::all_maps::udmf_maps;
-use whole_wad::Notice;
+use whole_wad::{Notice, tell_unread};
 
 /// What is listed of maps of a WAD: a line of text a map, and how many there are of each kind.
 #[derive(Drop)]
@@ -31,26 +29,6 @@ pub struct MapList {
 struct Listed {
     entries: Vec<MapEntry>,
     report: String,
-}
-
-/// The names that are listed: these, and behind them those of the maps of UDMF, where all are asked for.
-pub fn listed_names(
-    alloc: Global,
-    wad: &Wad,
-    names: &[[u8; 8]],
-    all: bool,
-) -> Result<Vec<[u8; 8]>, Memory>
-    // They are some of the WAD's maps, in the order of their entries.
-    requires among { HasInOrder (maps_of (entry_names wad.now.entries)) names.now }
-    ensures names { IfOk result (λ listed. listed.items ≡ listed_of (entry_names wad.now.entries) names.now all) }
-    ensures named { IfOk result (λ listed. All (λ name. IsTrue (is_map_name name)) listed.items) }
-{
-    let mut listed = Vec::from_slice(alloc, names)?;
-    if all {
-        let udmf = udmf_maps(alloc, wad)?;
-        listed.extend_from_slice(&udmf)?;
-    }
-    Ok(listed)
 }
 
 /// What is listed of the maps of these names, each told as it is done.
@@ -80,7 +58,8 @@ fn list_each<N: Notice>(
     Ok(Listed { entries, report })
 }
 
-/// What is listed of the maps of these names. The notice is told each line as its map is done.
+/// What is listed of the maps of these names. The maps of UDMF that aren't read are told first, and then each line as its map is
+/// done.
 pub fn list_maps<N: Notice>(
     alloc: Global,
     bytes: &[u8],
@@ -94,6 +73,7 @@ pub fn list_maps<N: Notice>(
     requires named { All (λ name. IsTrue (is_map_name name)) names.now }
     ensures { IfOk result (ShowsList (file_of bytes.now wad.now) large names.now) }
 {
+    tell_unread(alloc, wad, notice)?;
     let listed = list_each(alloc, bytes, wad, large, names, notice)?;
     Ok(MapList {
         tally: tally_up(&listed.entries),

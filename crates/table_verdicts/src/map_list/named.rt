@@ -4,9 +4,9 @@ ghost use Rattle.std.specs.Prelude.{◌≡◌, ◌+◌, ◌≤◌, length, All, 
 ghost use Rattle.wad_dir.specs.Map.{entry_names};
 ghost use Rattle.wad_dir.specs.Wad.{file_of, names_of};
 ghost use Rattle.wad_dir.specs.AllMaps.Maps.{is_map_name};
-ghost use Rattle.table_verdicts.specs.MapList.Entry.{entry_named, format_named};
+ghost use Rattle.table_verdicts.specs.MapList.Entry.{entry_named, format_named, listed_format};
 
-use crate::map_list::entry::{MapEntry, Said};
+use crate::map_list::entry::{ListedFormat, MapEntry, Said};
 use crate::map_list::sizes::sizes_of;
 use map_answers::plan_named;
 use map_answers::sight_status::Status;
@@ -16,13 +16,24 @@ use wad_dir::all_maps::text_of;
 use wad_dir::{Wad, find_map};
 use whole_wad::reject_named;
 
+/// The format of a map that is a text or isn't, and whose LINEDEFS are of this one.
+fn listed_format(text: bool, linedefs: MapFormat) -> ListedFormat
+    ensures { result ≡ listed_format text linedefs }
+{
+    match (text, linedefs) {
+        (true, _) => ListedFormat::Udmf,
+        (false, MapFormat::Doom) => ListedFormat::Doom,
+        (false, MapFormat::Hexen) => ListedFormat::Hexen,
+    }
+}
+
 /// The format of the map of that name, Doom's where there is none.
-fn format_named(wad: &Wad, name: &str) -> MapFormat
+fn format_named(wad: &Wad, name: &str) -> ListedFormat
     ensures { result ≡ format_named (entry_names wad.now.entries) name.now }
 {
     match find_map(wad, name) {
-        Ok(spot) => spot.format,
-        Err(_) => MapFormat::Doom,
+        Ok(spot) => listed_format(spot.text, spot.format),
+        Err(_) => ListedFormat::Doom,
     }
 }
 
@@ -52,10 +63,6 @@ pub fn entry_of(
             })
         }
         Err(Status::Memory(ref memory)) => Err(*memory),
-        Err(Status::NoMap(_)) => Ok(MapEntry {
-            name,
-            said: Said::Udmf,
-        }),
         Err(refusal) => Ok(MapEntry {
             name,
             said: Said::Refused(refusal),

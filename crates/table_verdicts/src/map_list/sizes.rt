@@ -8,10 +8,10 @@ ghost use Rattle.reject_bits.specs.Parts.{Rejects};
 ghost use Rattle.whole_wad.specs.Rejects.{table_len};
 ghost use Rattle.table_verdicts.specs.MapList.Entry.{set_bits, sizes_of};
 
-use crate::map_list::entry::MapSizes;
+use crate::map_list::entry::{ListedFormat, MapSizes};
 use crate::own::{OwnTable, own_table};
 use reject_bits::Table;
-use sight_names::{Line, MapFormat, Memory, Plan};
+use sight_names::{Line, Memory, Plan};
 use std::alloc::Global;
 use table_compare::compare;
 
@@ -71,7 +71,7 @@ fn set_bits(alloc: Global, n: u16, reject: &[u8]) -> Result<Option<u64>, Memory>
 pub fn sizes_of(
     alloc: Global,
     plan: &Plan,
-    format: MapFormat,
+    format: ListedFormat,
     reject: &[u8],
 ) -> Result<MapSizes, Memory>
     ensures { IfOk result (λ sizes. sizes ≡ sizes_of (map_of plan.now) format reject.now) }

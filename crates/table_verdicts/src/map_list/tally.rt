@@ -1,7 +1,7 @@
 //! How many maps there are of each kind, and the line that tells it.
 
 ghost use Rattle.std.specs.Prelude.{◌≡◌, IfOk, string_bytes, cond};
-ghost use Rattle.table_verdicts.specs.MapList.Totals.{is_refused, is_short, is_udmf, is_whole, list_line, list_tally_of};
+ghost use Rattle.table_verdicts.specs.MapList.Totals.{is_refused, is_short, is_whole, list_line, list_tally_of};
 
 use crate::map_list::entry::{MapEntry, Said};
 use crate::tally::one_if;
@@ -18,8 +18,6 @@ pub struct ListTally {
     pub short: u64,
     /// They can't be read.
     pub refused: u64,
-    /// They are of UDMF, which isn't read.
-    pub udmf: u64,
 }
 
 fn is_whole(said: &Said) -> bool
@@ -49,15 +47,6 @@ fn is_refused(said: &Said) -> bool
     }
 }
 
-fn is_udmf(said: &Said) -> bool
-    ensures { result ≡ is_udmf said.now }
-{
-    match said {
-        Said::Udmf => true,
-        _ => false,
-    }
-}
-
 /// How many maps there are of each kind.
 pub fn tally_up(entries: &[MapEntry]) -> ListTally
     ensures { result ≡ list_tally_of entries.now }
@@ -65,19 +54,16 @@ pub fn tally_up(entries: &[MapEntry]) -> ListTally
     let mut whole = 0;
     let mut short = 0;
     let mut refused = 0;
-    let mut udmf = 0;
     for entry in entries {
         whole += one_if(is_whole(&entry.said));
         short += one_if(is_short(&entry.said));
         refused += one_if(is_refused(&entry.said));
-        udmf += one_if(is_udmf(&entry.said));
     }
     ListTally {
         maps: entries.len() as u64,
         whole,
         short,
         refused,
-        udmf,
     }
 }
 
@@ -89,7 +75,6 @@ pub fn tally_line(alloc: Global, tally: ListTally) -> Result<String, AllocError>
     push_count(alloc, &mut line, "maps ", tally.maps)?;
     push_count(alloc, &mut line, " whole ", tally.whole)?;
     push_count(alloc, &mut line, " short ", tally.short)?;
-    push_count(alloc, &mut line, " refused ", tally.refused)?;
-    push_count_line(alloc, &mut line, " udmf ", tally.udmf)?;
+    push_count_line(alloc, &mut line, " refused ", tally.refused)?;
     Ok(line)
 }

@@ -11,10 +11,10 @@ pub returns-in_err-asked-clause-told : goal.returns-in_err-asked-clause-told
 returns-in_err-asked-clause-told g c =
     let p = err_from_is_err_and c.from_residual.result c.from_residual.ensures.1 in
     let source = c.args.source.now in
-    λ files e. rw (p.1, p.2) (gives_unread {V = ReadMaps} {D = AskedMaps} asked_seen (asked_in source.file c.args.only.now files) (MapsListed c.args.report.now source.large c.args.only.now) c.in_err-asked.field-0.0 ((rw c.as_str.ensures at c.in_err-asked.ensures.told) files e))
+    λ files e. rw (p.1, p.2) (gives_unread {V = ReadMaps} {D = AskedMaps} asked_seen (asked_in source.file c.args.only.now files) (MapsListed c.args.report.now source.large) c.in_err-asked.field-0.0 ((rw c.as_str.ensures at c.in_err-asked.ensures.told) files e))
 
 pub returns-in-Ok-clause-told : goal.returns-in-Ok-clause-told
 returns-in-Ok-clause-told g c =
     let source = c.args.source.now in
-    λ files e. gives_read {D = AskedMaps} (asked_in source.file c.args.only.now files) (asked_seen c.in_ok-asked.asked) (MapsListed c.args.report.now source.large c.args.only.now) _ ((rw c.as_str.ensures at c.in_ok-asked.ensures.told) files e)
-    (list_answers c.args.report.now source.large c.args.only.now (asked_seen c.in_ok-asked.asked) (replied c.in-Ok.reply) c.in-Ok.ensures.shows)
+    λ files e. gives_read {D = AskedMaps} (asked_in source.file c.args.only.now files) (asked_seen c.in_ok-asked.asked) (MapsListed c.args.report.now source.large) _ ((rw c.as_str.ensures at c.in_ok-asked.ensures.told) files e)
+    (list_answers c.args.report.now source.large (asked_seen c.in_ok-asked.asked) (replied c.in-Ok.reply) c.in-Ok.ensures.shows)

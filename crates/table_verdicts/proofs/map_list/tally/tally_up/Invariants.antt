@@ -1,5 +1,5 @@
 use Rattle.std.proofs.Common.{◌≡◌, ◌≤◌, take}
-use Rattle.table_verdicts.specs.MapList.Totals.{count_of, is_refused, is_short, is_udmf, is_whole}
+use Rattle.table_verdicts.specs.MapList.Totals.{count_of, is_refused, is_short, is_whole}
 use Rattle.table_verdicts.proofs.map_list.tally.tally_up.Given as goal
 
 abbrev pub invariant-loop-entry : goal.invariant-loop-entry
@@ -7,9 +7,7 @@ invariant-loop-entry l = record {
   whole : l.whole ≡ count_of is_whole (take l.entry-index l.entries);
   short : l.short ≡ count_of is_short (take l.entry-index l.entries);
   refused : l.refused ≡ count_of is_refused (take l.entry-index l.entries);
-  udmf : l.udmf ≡ count_of is_udmf (take l.entry-index l.entries);
   few_whole : l.whole ≤ l.entry-index;
   few_short : l.short ≤ l.entry-index;
   few_refused : l.refused ≤ l.entry-index;
-  few_udmf : l.udmf ≤ l.entry-index;
 }
