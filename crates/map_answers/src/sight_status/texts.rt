@@ -476,8 +476,10 @@ pub fn line_of(alloc: Global, status: Status) -> Result<String, AllocError>
 fn make_and_put<O: Sink>(alloc: Global, out: &mut O, status: Status) -> Status
     ensures { SaidIfMade status result (O.state out.old) (O.state out.new) }
 {
+    // the line is made of a status that is lent
+    let told = status;
     match line_of(alloc, status) {
-        Ok(line) => put_line(out, line.as_bytes(), status),
+        Ok(line) => put_line(out, line.as_bytes(), told),
         Err(refused) => Status::Memory(refused.into()),
     }
 }
