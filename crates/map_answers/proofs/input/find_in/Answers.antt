@@ -5,4 +5,4 @@ use Rattle.map_answers.proofs.input.find_in.Goals as goal
 
 pub returns-clause-dampers : goal.returns-clause-dampers
 returns-clause-dampers c =
-    record { are = subst (λ (bytes : List ℕ). c.in_ok-read_at.dampers ≡ dampers_at (file_of bytes c.in_ok-wad.wad) c.in_ok-spot.spot) c.deref-2.ensures.value c.in_ok-read_at.ensures.dampers; each = c.in_ok-read_at.ensures.each }
+    record { are = subst (λ (bytes : List ℕ). c.in_ok-plan.dampers ≡ dampers_at (file_of bytes c.in_ok-wad.wad) c.in_ok-spot.spot) c.deref-2.ensures.value c.in_ok-plan.ensures.dampers; each = c.in_ok-plan.ensures.each }
