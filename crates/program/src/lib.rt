@@ -4,6 +4,7 @@
 ghost use Rattle.std.specs.Prelude.{◌≡◌};
 ghost use Rattle.std.specs.Process.{exit_status};
 ghost use Rattle.map_answers.specs.SightStatus.Status.{number_of};
+ghost use Rattle.program.specs.Words.{ended_number};
 
 pub mod answers;
 mod help;
@@ -29,10 +30,29 @@ use std::thread::Threads;
 use usage::{print_diagnosis, print_synopsis};
 use words::{NoWords, words_of};
 
+/// The exit code of an audit that reports faults, which is that of one that refuses their map.
+const REPORTED: u8 = 10;
+
 fn exit_code(status: &Status) -> ExitCode
     ensures { exit_status result ≡ number_of status.now }
 {
     ExitCode::from(code(status))
+}
+
+/// How a run of words ended, and whether their order was an audit.
+#[derive(Drop)]
+struct Ended {
+    status: Status,
+    audits: bool,
+}
+
+fn code_of(ended: &Ended) -> ExitCode
+    ensures { exit_status result ≡ ended_number ended.now.audits ended.now.status }
+{
+    match ended.status {
+        Status::NotRight if ended.audits => ExitCode::from(REPORTED),
+        _ => exit_code(&ended.status),
+    }
 }
 
 /// The WAD that the order reads, nothing where it makes one.
@@ -62,10 +82,12 @@ fn obey<R: Files + Threads + Sync + AllocGlobal, O: Sink, P: Print>(
     words: &[String],
     out: &mut O,
     progress: &Progress<P>,
-) -> Status {
+) -> Ended {
+    let mut audits = false;
     let mut is_all = false;
     let mut may_be_large = false;
     if let Ok(order) = read_words(alloc, words) {
+        audits = matches!(&order, Order::Audit { .. });
         is_all = matches!(&order, Order::All { .. } | Order::Verify { .. });
         may_be_large = source_of(&order).is_some_and(|wad| !wad.large);
     }
@@ -81,7 +103,7 @@ fn obey<R: Files + Threads + Sync + AllocGlobal, O: Sink, P: Print>(
     if may_be_large && (refuses_size(&status) || progress.has_refused_size()) {
         progress.name_larger_limits();
     }
-    status
+    Ended { status, audits }
 }
 
 /// Does what the words ask of the program itself or of files, and gives the exit code. It says the same as what is said of wrong
@@ -96,11 +118,11 @@ pub fn run_order<R: Files + Print + Threads + Sync + AllocGlobal, E: Print + IsT
         return exit_code(&answer(&mut out, &question));
     }
     let progress = Progress::new(err, err.is_terminal());
-    let status = obey(rt, rt.alloc(), words, &mut out, &progress);
-    if status == Status::Usage {
+    let ended = obey(rt, rt.alloc(), words, &mut out, &progress);
+    if ended.status == Status::Usage {
         print_diagnosis(err, words);
     }
-    exit_code(&status)
+    code_of(&ended)
 }
 
 /// Does what the words behind the program's name ask, and gives the exit code.
