@@ -128,6 +128,8 @@ ORDERS = [
     ("check row.wad MAP01 row.cert", []),
     ("check built.wad MAP01 behind.cert", []),
     ("audit u.wad MAP01", []),
+    ("audit u.wad MAP01 --report report", ["report"]),
+    ("audit open.wad MAP01 --report report", ["report"]),
     ("need u.wad MAP01", []),
     ("trace u.wad MAP01 5L,5R,-1,0,32", []),
     ("ray u.wad MAP01 5L,5R,-1,0,32", []),
@@ -268,8 +270,8 @@ class Folder:
         whole = lambda names: all(self.is_whole(words, bytes_of, name) for name in names)
         if not base.errors.startswith(run.errors):
             return None
-        # a verdict that isn't right comes with its report
-        writes = base.status == 0 or words.startswith("verify ")
+        # a verdict that isn't right comes with its report, and so do the faults of a map
+        writes = base.status == 0 or words.startswith(("verify ", "audit ")) and "--report" in words
         if run.status == 12:
             return "memory" if untouched and not run.line else None
         if run.status == base.status and run.line == base.line:

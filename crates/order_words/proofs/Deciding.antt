@@ -14,7 +14,7 @@ use Rattle.order_words.specs.declared.words.BuildChoices.{BuildChoices}
 use Rattle.order_words.specs.Values.{◌>>=◌, is_file, is_map, upper, ray_of, pair_of, sector_of, rooms_of}
 use Rattle.order_words.specs.Command.{refusals_of, rows_in}
 use Rattle.order_words.specs.Laws.{AsksWithoutBound, GivesNoBudget, bound_of}
-use Rattle.order_words.specs.Words.{is_drawing, whole_view, Said, said_with, is_given, is_plain, has_bound_alone, given_bound, given_method, given_workers, source_of, zero_of, ray_order_of, audit_of, trace_of, check_of, need_of, sound_with, sound_of, why_within, why_of, view_of, draw_with, choices_of, build_of, all_order_of, may_be_one, verify_with, given_file, given_names, has_names_alone, maps_with, maps_of, grid_of, plain_order_of, order_said, order_in_rows, unless_refused, order_of}
+use Rattle.order_words.specs.Words.{is_drawing, whole_view, Said, said_with, is_given, is_plain, has_bound_alone, given_bound, given_method, given_workers, source_of, zero_of, ray_order_of, audit_of, trace_of, check_of, need_of, sound_with, sound_of, why_within, why_of, view_of, draw_with, choices_of, build_of, all_order_of, may_be_one, verify_with, given_file, given_names, has_names_alone, maps_with, maps_of, grid_of, plain_order_of, order_said, order_in_rows, unless_refused, order_of, has_report_alone, audit_with}
 
 -- what comes of a choice, of a value that is taken on, and of one that is turned into another
 if_some : {A : Type 0} (P : A → Type 0) (b : Bool) (x y : Option A) → IfSome x P → IfSome y P → IfSome (if b then x else y) P
@@ -46,9 +46,9 @@ ray_asks : (large : Bool) (rest : List Text) → IfSome (ray_order_of large rest
 ray_asks large (wad ∷ name ∷ word ∷ []) = if_some Unbounded (is_file wad && is_map name) _ _ (map_some Unbounded (ray_of word) _ (any_some _ (ray_of word) (λ ray. tt))) tt
 ray_asks large rest = tt
 
-audit_asks : (large : Bool) (rest : List Text) → IfSome (audit_of large rest) Unbounded
-audit_asks large (wad ∷ name ∷ []) = if_some Unbounded (is_file wad && is_map name) _ _ tt tt
-audit_asks large rest = tt
+audit_asks : (large : Bool) (rest : List Text) (report : Option Text) → IfSome (audit_with large rest report) Unbounded
+audit_asks large (wad ∷ name ∷ []) report = if_some Unbounded (is_file wad && is_map name) _ _ tt tt
+audit_asks large rest report = tt
 
 trace_asks : (large : Bool) (rest : List Text) → IfSome (trace_of large rest) Unbounded
 trace_asks large (wad ∷ name ∷ word ∷ []) = if_some Unbounded (is_file wad && is_map name) _ _ (map_some Unbounded (ray_of word) _ (any_some _ (ray_of word) (λ ray. tt))) tt
@@ -75,11 +75,10 @@ plain_asks : (s : Said) → IfSome (plain_order_of s) Unbounded
 plain_asks s =
     if_some Unbounded (bytes_eq s.verb (codes "zero")) _ _ (zero_asks (is_given s.large) s.rest)
     (if_some Unbounded (bytes_eq s.verb (codes "ray")) _ _ (ray_asks (is_given s.large) s.rest)
-    (if_some Unbounded (bytes_eq s.verb (codes "audit")) _ _ (audit_asks (is_given s.large) s.rest)
     (if_some Unbounded (bytes_eq s.verb (codes "trace")) _ _ (trace_asks (is_given s.large) s.rest)
     (if_some Unbounded (bytes_eq s.verb (codes "check")) _ _ (check_asks (is_given s.large) s.rest)
     (if_some Unbounded (bytes_eq s.verb (codes "need")) _ _ (need_asks (is_given s.large) s.rest)
-    (if_some Unbounded (bytes_eq s.verb (codes "sound")) _ _ (sound_asks (is_given s.large) s.rest) tt))))))
+    (if_some Unbounded (bytes_eq s.verb (codes "sound")) _ _ (sound_asks (is_given s.large) s.rest) tt)))))
 
 build_asks : (large : Bool) (rest : List Text) (c : BuildChoices) → IfSome (build_of large rest c) Unbounded
 build_asks large (wad ∷ name ∷ out ∷ []) c = if_some Unbounded (may_be_one c && is_file wad && is_map name && is_file out) _ _ tt tt
@@ -147,7 +146,8 @@ said_asks s none =
     (if_some Unbounded (bytes_eq s.verb (codes "verify")) _ _ (if_some Unbounded (is_none s.budget && not (is_given s.exact)) _ _ (then_some Unbounded (choices_of s) _ (verify_asks (is_given s.large) s.rest)) tt)
     (if_some Unbounded (bytes_eq s.verb (codes "maps")) _ _
     (if_some Unbounded (not (has_names_alone s)) _ _ tt (then_some Unbounded (given_file s.report) _ (λ report. then_some Unbounded (given_names s.only) _ (λ only. maps_ask (is_given s.large) s.rest only report))))
-    (if_some Unbounded (is_plain s) _ _ (plain_asks s) tt)))))))))
+    (if_some Unbounded (bytes_eq s.verb (codes "audit")) _ _ (if_some Unbounded (has_report_alone s) _ _ (then_some Unbounded (given_file s.report) _ (audit_asks (is_given s.large) s.rest)) tt)
+    (if_some Unbounded (is_plain s) _ _ (plain_asks s) tt))))))))))
 
 rows_ask : (rows : List Row) → first_of (codes "budget") rows ≡ None → IfSome (order_in_rows rows) Unbounded
 unfolding order_in_rows

@@ -13,9 +13,15 @@ use Rattle.shelf_io.specs.Sink.{SinkState}
 use Rattle.sight_names.specs.declared.names.Method.{Method}
 use Rattle.map_answers.specs.declared.sight_status.status.Status.{Status}
 use Rattle.map_answers.specs.declared.sight_status.status.Status.TheVariants as status
+use Rattle.map_answers.specs.SightStatus.Status.{number_of}
 use Rattle.sight_run.specs.Heard.{AreFindingsIn, Heard, Hears}
 use Rattle.sight_run.specs.Run.{RunEnds}
 use Rattle.sight_run.specs.Words.{asked_of}
+
+-- the exit code of a run of words that ended so; an audit that reports faults ends as one that refuses their map
+abbrev pub ended_number : Bool → Status → ℕ
+ended_number true status.NotRight = 10
+ended_number audits s = number_of s
 
 -- the order is a build of one map with a report
 abbrev pub is_reported : Option Order → Bool

@@ -4,6 +4,7 @@
 ghost use Rattle.std.specs.Prelude.{◌≡◌};
 ghost use Rattle.std.specs.Process.{exit_status};
 ghost use Rattle.map_answers.specs.SightStatus.Status.{number_of};
+ghost use Rattle.program.specs.Words.{ended_number};
 
 pub mod answers;
 mod help;
@@ -29,10 +30,29 @@ use std::thread::Threads;
 use usage::{print_diagnosis, print_synopsis};
 use words::{NoWords, words_of};
 
+/// The exit code of an audit that reports faults, which is that of one that refuses their map.
+const REPORTED: u8 = 10;
+
 fn exit_code(status: &Status) -> ExitCode
     ensures { exit_status result ≡ number_of status.now }
 {
     ExitCode::from(code(status))
+}
+
+/// How a run of words ended, and whether their order was an audit.
+#[derive(Drop)]
+struct Ended {
+    status: Status,
+    audits: bool,
+}
+
+fn code_of(ended: &Ended) -> ExitCode
+    ensures { exit_status result ≡ ended_number ended.now.audits ended.now.status }
+{
+    match ended.status {
+        Status::NotRight if ended.audits => ExitCode::from(REPORTED),
+        _ => exit_code(&ended.status),
+    }
 }
 
 /// The WAD that the order reads, nothing where it makes one.
@@ -94,10 +114,12 @@ fn obey<R: Files + Print + Threads + Sync + AllocGlobal, O: Sink, P: Print>(
     words: &[String],
     out: &mut O,
     progress: &Progress<P>,
-) -> Status {
+) -> Ended {
+    let mut audits = false;
     let mut is_all = false;
     let mut may_be_large = false;
     if let Ok(order) = read_words(alloc, words) {
+        audits = matches!(&order, Order::Audit { .. });
         is_all = matches!(
             &order,
             Order::All { .. } | Order::Verify { .. } | Order::Maps { .. }
@@ -119,7 +141,7 @@ fn obey<R: Files + Print + Threads + Sync + AllocGlobal, O: Sink, P: Print>(
     if may_be_large && (refuses_size(&status) || progress.has_refused_size()) {
         progress.name_larger_limits();
     }
-    status
+    Ended { status, audits }
 }
 
 /// Whether the status is of a file that isn't there or that the system refused.
@@ -150,15 +172,15 @@ pub fn run_order<R: Files + Print + Threads + Sync + AllocGlobal, E: Print + IsT
         return exit_code(&answer(&mut out, &question));
     }
     let progress = Progress::new(err, err.is_terminal());
-    let status = if has_standard_output(rt.alloc(), words) {
+    let ended = if has_standard_output(rt.alloc(), words) {
         obey(rt, rt.alloc(), words, &mut StdSink::new(err), &progress)
     } else {
         obey(rt, rt.alloc(), words, &mut out, &progress)
     };
-    if status == Status::Usage {
+    if ended.status == Status::Usage {
         print_diagnosis(err, words);
     }
-    exit_code(&status)
+    code_of(&ended)
 }
 
 /// Does what the words behind the program's name ask, and gives the exit code.

@@ -102,7 +102,7 @@ pub static OPTIONS: [Entry; 11] = [
         choice: Choice::Report,
         name: "report",
         value: "FILE",
-        about: "writes what came of each map or pair to FILE",
+        about: "writes what came of each map, pair or fault to FILE",
     },
     Entry {
         choice: Choice::Exact,
@@ -241,9 +241,9 @@ pub static VERBS: [Verb; 14] = [
         name: "audit",
         places: &[Place::Wad, Place::Map],
         spare: &[],
-        choices: &[Choice::Large],
+        choices: &[Choice::Report, Choice::Large],
         purpose: "says whether a map is sound, so that it can be built",
-        about: "Says whether the map is sound: lines meet at ends alone, and each face is\nclosed.",
+        about: "Says whether the map is sound: lines meet at ends alone, and each face is\nclosed. The report names every fault at its place.",
     },
     Verb {
         name: "need",

@@ -111,6 +111,22 @@ a=CROSSED | audit a MAP01 | 10 | refused: bad map: cross 3 4
 a=OVERLAPPED | audit a MAP01 | 10 | refused: bad map: overlap 0 4
 a=OPEN | audit a MAP01 | 10 | refused: bad map: open 0R
 a=ROD | audit a MAP01 | 10 | refused: bad map: open 0R
+# reports of every fault: `touch 0 4 at 0 32` and two loose ends; `cross 3 4 at 32 0`; `overlap 0 4 from 0 0 to 0 64`; three open sides, a
+# torn corner, a gap and two loose ends. The program's exit code is 10 where `run` says that not all is right
+a=TOUCHED | audit a MAP01 --report r | 1 | refused: bad map: touch 0 4 | a=TOUCHED, r=#746f7563682030203420617420302033320a6c6f6f736520656e642061742030203332206f66206c696e6520340a6c6f6f736520656e64206174203332203332206f66206c696e6520340a
+a=CROSSED | audit a MAP01 --report r | 1 | refused: bad map: cross 3 4 | r=#63726f73732033203420617420333220300a6c6f6f736520656e64206174203332202d3332206f66206c696e6520340a6c6f6f736520656e64206174203332203332206f66206c696e6520340a
+a=OVERLAPPED | audit a MAP01 --report r | 1 | refused: bad map: overlap 0 4 | r=#6f7665726c6170203020342066726f6d2030203020746f20302036340a
+a=OPEN | audit a MAP01 --report r | 1 | refused: bad map: open 0R | r=#6f70656e203052206f6620736563746f7220302066726f6d2030203020746f20302036340a6f70656e203152206f6620736563746f7220302066726f6d203020363420746f2036342036340a6f70656e203252206f6620736563746f7220302066726f6d20363420363420746f20363420300a746f726e20636f726e6572206174203020302062792030520a6761702066726f6d2030203020746f20363420300a6c6f6f736520656e6420617420302030206f66206c696e6520300a6c6f6f736520656e642061742036342030206f66206c696e6520320a
+# `sound`; then a sector that no side names, and a line that names none
+a=SQUARE, r=PAIR | audit a MAP01 --report=r | 0 | sound lines 4 points 4 sectors 1 triangles 2 | a=SQUARE, r=#736f756e640a
+a=LONE | audit a MAP01 --report r | 0 | sound lines 4 points 4 sectors 2 triangles 2 | r=#736f756e640a736c69703a20736563746f72203120686173206e6f20736964650a
+a=SPLINTER | audit a MAP01 --report r | 0 | sound lines 5 points 6 sectors 1 triangles .. | r=#736f756e640a6c6f6f736520656e64206174203438203136206f66206c696e6520340a6c6f6f736520656e64206174203532203138206f66206c696e6520340a736c69703a206c696e65203420686173206e6f20736964652066726f6d20343820313620746f2035322031380a
+# names, faults and words
+a=OPEN | audit a MAP01 --report a | 11 | refused: same name | a=OPEN
+a=OPEN, creates=0 | audit a MAP01 --report r | 5 | refused: write fault report | r=
+a=OPEN, puts=0 | audit a MAP01 --report r | 5 | refused: bad ~ | r=#6f70656e203052206f6620736563746f7220302066726f6d2030203020746f20302036340a6f70656e203152206f6620736563746f7220302066726f6d203020363420746f2036342036340a6f70656e203252206f6620736563746f7220302066726f6d20363420363420746f20363420300a746f726e20636f726e6572206174203020302062792030520a6761702066726f6d2030203020746f20363420300a6c6f6f736520656e6420617420302030206f66206c696e6520300a6c6f6f736520656e642061742036342030206f66206c696e6520320a
+a=OPEN | audit a MAP02 --report r | 7 | refused: no map: no marker | r=
+a=OPEN | audit a MAP01 --report r --workers 1 | 2 | refused: usage | r=
 # a face whose sides name two sectors belongs to both
 a=ISLAND | audit a MAP01 | 0 | sound lines 8 points 8 sectors 2 triangles 8
 a=SELFREF | audit a MAP01 | 0 | sound lines 8 points 8 sectors 2 triangles 10

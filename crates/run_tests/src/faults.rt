@@ -39,6 +39,7 @@ a=grid:7 | build a MAP01 b --cert c --workers 1 | 0 | a a | b c | b c c
 a=PAIR U .6 - +6:MAP02, b=PAIR | all a b --workers 1 | 0 | a a | b | b
 a=PAIR U .6 - +6:MAP02, b=PAIR | all a b --only MAP02 --workers 1 | 0 | a a | b | b
 a=U =4600, r=PAIR | verify a --report r --workers 1 | 1 | a a | r | r
+a=OPEN, r=PAIR | audit a MAP01 --report r | 1 | a a | r | r
 a=U =4400 | verify a --workers 1 | 0 | a a
 a=U =4400, r=PAIR | maps a --report r | 0 | a a | r | r
 a=U =4400 | maps a | 0 | a a

@@ -57,6 +57,11 @@ audit a MAP01 | -
 audit a MAP01 b | 4
 audit --large a MAP01 | -
 audit a MAP01 --large b | 5
+audit a MAP01 --report r --large | -
+--report=r audit a MAP01 | -
+audit a MAP01 --report r --report c | 6
+audit a MAP01 --report '' | 5
+audit a MAP01 --cert c | 4
 audit a MAP01 --large --budget 1 | 5
 need a | MAP
 need a MAP01 --large | -
@@ -262,7 +267,7 @@ help paint | doomsight 1.1.0:
 paint --help | doomsight 1.1.0: 
 build a --version --help | doomsight 1.1.0
 build a -h -V | doomsight build WAD MAP OUT [--cert FILE] [--report FILE]
-audit a MAP01 -h | doomsight audit WAD MAP [--large]
+audit a MAP01 -h | doomsight audit WAD MAP [--report FILE] [--large]
 help check | doomsight check WAD MAP CERT [--large]
 all --help | doomsight all WAD OUT [--only MAP,MAP] [--refused HOW] [--report FILE]
 why --help | doomsight why WAD MAP A B [--exact | --budget N|full|enough] [--large]
@@ -286,7 +291,7 @@ Writes the WAD with the map's REJECT to OUT, and a certificate and a report of
 the pairs of sectors where they are asked for.
 
   --cert FILE             writes the certificate to FILE; else to none
-  --report FILE           writes what came of each map or pair to FILE
+  --report FILE           writes what came of each map, pair or fault to FILE
   --exact                 decides every pair, in place of a budget
   --budget N|full|enough  sequences from a sector; else 16384 (why, draw: full)
   --workers N             threads, 1 to 64; else 4
@@ -325,6 +330,7 @@ a=SQUARE @14:1:09 | zero a MAP01 b | 8
 a=SQUARE .1 *229390 | zero a MAP01 b | 9
 a=SQUARE .4 *106522 | zero a MAP01 b --large | 0
 a=TOUCHED | audit a MAP01 | 10
+a=SQUARE | audit a MAP01 --report r | 0
 a=U | zero a MAP01 a | 11
 ";
 

@@ -128,4 +128,5 @@ verify_written wad only report workers (Err s) h = tt
 pub ends_right : (asked : Order) (r : Result Reply Status) → IfOk r (λ (reply : Reply). reply.right ≡ true) → IfOk r (λ (reply : Reply). EndsRight asked reply.right)
 ends_right asked (Err s) h = tt
 ends_right (order.Verify wad only report workers) (Ok reply) h = tt
+ends_right (order.Audit wad name (Some report)) (Ok reply) h = tt
 ends_right asked (Ok reply) h = h

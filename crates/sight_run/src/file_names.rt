@@ -106,6 +106,11 @@ pub fn refuse_one_file<S: Shelf>(shelf: &mut S, order: &Order) -> Result<(), Sta
             report: Some(report),
             ..
         } => refuse_same(shelf, wad.file.as_str(), report.as_str()),
+        Order::Audit {
+            wad,
+            report: Some(report),
+            ..
+        } => refuse_same(shelf, wad.file.as_str(), report.as_str()),
         Order::Build {
             wad,
             out,

@@ -1,6 +1,6 @@
 //! The orders that ask of one map in a file: which map that is, and what each is answered once it is found.
 
-ghost use Rattle.std.specs.Prelude.{◌≡◌, ◌++◌, [], IfErr, IfOk, IsSome, IsTrue, Ok, Some, map, true};
+ghost use Rattle.std.specs.Prelude.{◌≡◌, ◌++◌, [], IfErr, IfOk, IsSome, IsTrue, Ok, Some, map};
 ghost use Rattle.std.specs.Option.{option_map};
 ghost use Rattle.listeners.specs.Told.{texts};
 ghost use Rattle.shelf_io.specs.Shelf.{Files, NoneFell};
@@ -12,9 +12,10 @@ ghost use Rattle.sight_run.specs.Build.{with_report};
 ghost use Rattle.sight_run.specs.Heard.{Heard, HearsOn, heard_as};
 ghost use Rattle.sight_run.specs.Obeys.{CallsOn, HasOneOn, IsOfLine, IsOfMapAlone, WritesEach, map_asked, report_of};
 ghost use Rattle.sight_run.specs.Reply.{reply_seen, roles_of, writes};
-ghost use Rattle.sight_run.specs.Run.{Cause, IsOfOrder, IsPastReading, IsUnstored};
+ghost use Rattle.sight_run.specs.Run.{Cause, EndsRight, IsOfOrder, IsPastReading, IsUnstored};
 ghost use Rattle.sight_run.specs.Words.{is_built};
 
+use crate::audit::report_audit;
 use crate::build::build_on;
 use crate::check::check_on;
 use crate::draw::make_drawing;
@@ -37,7 +38,7 @@ pub fn asked_map(order: &Order) -> Option<(&Source, &str)>
     match order {
         Order::Zero { wad, map, .. }
         | Order::Ray { wad, map, .. }
-        | Order::Audit { wad, map }
+        | Order::Audit { wad, map, .. }
         | Order::Trace { wad, map, .. }
         | Order::Check { wad, map, .. }
         | Order::Build { wad, map, .. }
@@ -63,7 +64,7 @@ fn line_on(alloc: Global, order: &Order, input: &Input) -> Result<String, Status
     let plan = &input.plan;
     match order {
         Order::Ray { ray, .. } => judge_ray(alloc, plan, ray),
-        Order::Audit { .. } => judge_audit(alloc, plan),
+        Order::Audit { report: None, .. } => judge_audit(alloc, plan),
         Order::Trace { ray, .. } => judge_trace(alloc, plan, ray),
         Order::Need { map, .. } => judge_need(alloc, plan, map.as_str()),
         Order::Sound { map, pair, .. } => judge_sound(alloc, input, map.as_str(), pair),
@@ -82,13 +83,17 @@ fn answer_on(alloc: Global, order: &Order, input: &Input) -> Result<Reply, Statu
     ensures past { IfErr result IsPastReading }
     ensures proper { IfErr result IsProper }
     ensures roles { IfOk result (λ reply. WritesEach order.now (roles_of (writes reply))) }
-    ensures right { IfOk result (λ reply. reply.right ≡ true) }
+    ensures right { IfOk result (λ reply. EndsRight order.now reply.right) }
 {
     match order {
         Order::Zero { map, out, .. } => make_zero(alloc, input, map.as_str(), out.as_str()),
         Order::Draw { map, out, view, .. } => {
             make_drawing(alloc, input, map.as_str(), out.as_str(), *view)
         }
+        Order::Audit {
+            report: Some(report),
+            ..
+        } => report_audit(alloc, &input.plan, report.as_str()),
         _ => Ok(line_alone(alloc, line_on(alloc, order, input)?)),
     }
 }
@@ -122,7 +127,7 @@ pub fn reply_on<R: Threads + Sync, S: Shelf, G: Gate + Sync>(
     ensures early { IfErr result IsUnstored }
     ensures proper { IfErr result IsProper }
     ensures roles { IfOk result (λ reply. WritesEach order.now (roles_of (writes reply))) }
-    ensures right { IfOk result (λ reply. reply.right ≡ true) }
+    ensures right { IfOk result (λ reply. EndsRight order.now reply.right) }
 {
     match order {
         Order::Check { cert, .. } => check_on(alloc, shelf, input, cert.as_str()),

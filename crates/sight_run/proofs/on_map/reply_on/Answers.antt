@@ -4,7 +4,14 @@ use Rattle.map_answers.specs.Views.{found}
 use Rattle.sight_run.proofs.Building.{gives_plain}
 use Rattle.sight_run.proofs.OnMap.{alone_of, gives_alone, past_cause, past_unstored, unheard_alone}
 use Rattle.sight_run.proofs.OneBuild.{gives_build}
+use Rattle.sight_run.proofs.Verifying.{ends_right}
 use Rattle.sight_run.proofs.on_map.reply_on.Goals as goal
+
+pub returns-in-Check-clause-right : goal.returns-in-Check-clause-right
+returns-in-Check-clause-right g c = ends_right c.args.order.now c.check_on.result c.check_on.ensures.right
+
+pub returns-in-Build-clause-right : goal.returns-in-Build-clause-right
+returns-in-Build-clause-right g c = ends_right c.args.order.now c.build_on.result c.build_on.ensures.right
 
 pub returns-in-Check-clause-told : goal.returns-in-Check-clause-told
 returns-in-Check-clause-told g c = rw c.in-Check.is (λ files e. gives_plain _ _ [] _ ((rw c.as_str.ensures at c.check_on.ensures.told) files e))

@@ -1,0 +1,2 @@
+pub mod Slipping
+pub mod Telling

@@ -1,0 +1,4 @@
+pub mod Clashes
+pub mod Lines
+pub mod Report
+pub mod Slips

@@ -1,0 +1,103 @@
+//! The lines of a map whose lines meet at ends alone: of its open sides, its torn corners and the gaps in its hull.
+
+ghost use Rattle.std.specs.Prelude.{◌≡◌, ◌++◌, OnOk, IfOk, string_bytes};
+ghost use Rattle.sight_names.specs.Map.{map_of};
+ghost use Rattle.sight_names.specs.Mesh.{IsMeshOf, IsPlainMesh};
+ghost use Rattle.sight_names.specs.Sound.{LinesMeetAtEnds};
+ghost use Rattle.mesh_shape.specs.Fills.{FillsSides};
+ghost use Rattle.fault_report.specs.Report.{AreFacesTold, face_lines, open_lines, sound_lines};
+
+use crate::kinds::push_kind;
+use map_faults::{Gap, Tear, gaps_of, open_sides_of, tears_of};
+use mesh_shape::Mesh;
+use sight_names::{Memory, Plan, Side};
+use std::alloc::{AllocError, Global};
+use triangulate::{greedy, mesh_of};
+
+/// The empty triangles of the greedy segments.
+fn mesh_for(alloc: Global, plan: &Plan) -> Result<Mesh, Memory>
+    requires { LinesMeetAtEnds (map_of plan.now) }
+    ensures mesh { IfOk result (λ mesh. IsMeshOf (map_of plan.now) mesh.triangles) }
+    ensures plain { IfOk result (λ mesh. IsPlainMesh (map_of plan.now) mesh.triangles) }
+    ensures fills { IfOk result (λ mesh. FillsSides (map_of plan.now) mesh.triangles) }
+{
+    let segments = greedy(alloc, plan)?;
+    mesh_of(alloc, plan, &segments)
+}
+
+/// Adds what is told of a map without an open side.
+fn push_sound(
+    alloc: Global,
+    plan: &Plan,
+    text: &mut String,
+    tears: &[Tear],
+) -> Result<(), AllocError>
+    ensures { OnOk result (string_bytes text.new ≡ string_bytes text.old ++ sound_lines plan.now tears.now) }
+{
+    text.push_str("sound\n")?;
+    push_kind(alloc, plan, text, tears, "torn corners")
+}
+
+/// Adds what is told of another map.
+fn push_open(
+    alloc: Global,
+    plan: &Plan,
+    text: &mut String,
+    sides: &[Side],
+    tears: &[Tear],
+    gaps: &[Gap],
+) -> Result<(), AllocError>
+    ensures { OnOk result (string_bytes text.new ≡ string_bytes text.old ++ open_lines plan.now sides.now tears.now gaps.now) }
+{
+    push_kind(alloc, plan, text, sides, "open sides")?;
+    push_kind(alloc, plan, text, tears, "torn corners")?;
+    push_kind(alloc, plan, text, gaps, "gaps")
+}
+
+/// Adds the lines of open sides, torn corners and gaps.
+fn push_faces(
+    alloc: Global,
+    plan: &Plan,
+    text: &mut String,
+    sides: &[Side],
+    tears: &[Tear],
+    gaps: &[Gap],
+) -> Result<(), AllocError>
+    ensures { OnOk result (string_bytes text.new ≡ string_bytes text.old ++ face_lines plan.now sides.now tears.now gaps.now) }
+{
+    if sides.len() == 0 {
+        return push_sound(alloc, plan, text, tears);
+    }
+    push_open(alloc, plan, text, sides, tears, gaps)
+}
+
+/// The same over this mesh of the map.
+fn told_over(alloc: Global, plan: &Plan, mesh: &Mesh) -> Result<String, Memory>
+    requires mesh { IsMeshOf (map_of plan.now) mesh.now.triangles }
+    requires plain { IsPlainMesh (map_of plan.now) mesh.now.triangles }
+    requires fills { FillsSides (map_of plan.now) mesh.now.triangles }
+    ensures { IfOk result (λ text. AreFacesTold plan.now (string_bytes text)) }
+{
+    let sides = open_sides_of(alloc, plan, mesh)?;
+    let tears = tears_of(alloc, plan, mesh)?;
+    let gaps = gaps_of(alloc, plan, mesh)?;
+    let mut text = String::new(alloc);
+    push_faces(
+        alloc,
+        plan,
+        &mut text,
+        sides.as_slice(),
+        tears.as_slice(),
+        gaps.as_slice(),
+    )?;
+    Ok(text)
+}
+
+/// What is told of the faces of a map whose lines meet at ends alone.
+pub fn told_faces(alloc: Global, plan: &Plan) -> Result<String, Memory>
+    requires { LinesMeetAtEnds (map_of plan.now) }
+    ensures { IfOk result (λ text. AreFacesTold plan.now (string_bytes text)) }
+{
+    let mesh = mesh_for(alloc, plan)?;
+    told_over(alloc, plan, &mesh)
+}

@@ -1,0 +1,51 @@
+-- What an audit with a report ends with.
+use Rattle.std.proofs.Common.{◌≡◌, ℕ, Bool, true, false, List, [], ◌∷◌, Some, Result, Ok, Err, refl, sym, subst}
+use Rattle.std.specs.Prelude.{IfErr, IfOk, ⊤}
+use Rattle.std.specs.Result.{IsErr}
+use Rattle.order_words.specs.declared.order.Order.{Order}
+use Rattle.order_words.specs.declared.order.Order.TheVariants as order
+use Rattle.order_words.specs.declared.order.Source.{Source}
+use Rattle.sight_names.specs.Map.{Map}
+use Rattle.map_answers.specs.declared.sight_status.status.Flaw.{Flaw}
+use Rattle.map_answers.specs.declared.sight_status.status.Role.TheVariants as role
+use Rattle.map_answers.specs.declared.sight_status.status.Status.{Status}
+use Rattle.map_answers.specs.declared.sight_status.status.Status.TheVariants as status
+use Rattle.map_answers.specs.Audit.{AuditCalls}
+use Rattle.map_answers.specs.Input.{LocatedMap}
+use Rattle.map_answers.specs.SightStatus.Answer.{Answer, Gives, only_line}
+use Rattle.map_answers.specs.SightStatus.Texts.{text_of}
+use Rattle.sight_run.specs.Audit.{ReportCalls, ShowsAudit, TellsAudit}
+use Rattle.sight_run.specs.Obeys.{WritesEach}
+use Rattle.sight_run.specs.declared.reply.Reply.{Reply}
+use Rattle.sight_run.specs.Reply.{replied, reply_seen, roles_of, writes}
+use Rattle.sight_run.specs.Run.{EndsRight}
+
+-- the line of an audit that accepts the map, and of one that refuses it
+pub tells_sound : (m : Map) (line said : List ℕ) → line ≡ said → Gives ⊤ (AuditCalls m) (Ok (only_line said)) → TellsAudit m line true
+tells_sound m line said e h = record { said = Ok (only_line said); called = h.called; line_is = e; right_is = refl }
+
+pub tells_flaw : (m : Map) (which : Flaw) (line : List ℕ) (right : Bool) → Gives ⊤ (AuditCalls m) (Err (status.BadMap which)) → line ≡ text_of (status.BadMap which) → right ≡ false → TellsAudit m line right
+tells_flaw m which line right h is not_right = record { said = Err (status.BadMap which); called = h.called; line_is = is; right_is = not_right }
+
+-- nothing but want of memory refuses
+pub only_memory : {V : Type 0} (P : Status → Type 0) (r : Result V Status) → P (status.Memory tt) → IfErr r (λ (s : Status). s ≡ status.Memory tt) → IfErr r P
+only_memory P (Ok v) p h = tt
+only_memory P (Err s) p h = subst P (sym h) p
+
+found_is_ok : (found : LocatedMap) → IsErr {T = LocatedMap} {E = Status} (Ok found) → ⊥
+found_is_ok found h = cc
+
+pub gives_reported : (out : List ℕ) (found : LocatedMap) (r : Result Reply Status) → IfOk r (λ (reply : Reply). ShowsAudit out found.map (replied reply)) → IfErr r (λ (s : Status). s ≡ status.Memory tt)
+    → Gives (IsErr {T = LocatedMap} {E = Status} (Ok found)) (ReportCalls out found.map) (reply_seen r)
+gives_reported out found (Ok reply) shows e = record { called = shows; only = λ err. absurd (found_is_ok found err) }
+gives_reported out found (Err s) shows e = subst (λ (x : Status). Gives (IsErr {T = LocatedMap} {E = Status} (Ok found)) (ReportCalls out found.map) (Err x)) (sym e) tt
+
+pub report_written : (wad : Source) (name report : List ℕ) (r : Result Reply Status) → IfOk r (λ (reply : Reply). roles_of (writes reply) ≡ role.Report ∷ [])
+    → IfOk r (λ (reply : Reply). WritesEach (order.Audit wad name (Some report)) (roles_of (writes reply)))
+report_written wad name report (Ok reply) h = subst (WritesEach (order.Audit wad name (Some report))) (sym h) (tt, tt)
+report_written wad name report (Err s) h = tt
+
+-- the report tells more than whether all is right
+pub any_right : (wad : Source) (name report : List ℕ) (r : Result Reply Status) → IfOk r (λ (reply : Reply). EndsRight (order.Audit wad name (Some report)) reply.right)
+any_right wad name report (Ok reply) = tt
+any_right wad name report (Err s) = tt
