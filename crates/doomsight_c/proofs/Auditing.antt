@@ -1,5 +1,5 @@
 -- What an audit tells is all that was found, and a map without clashes and open sides is sound.
-use Rattle.std.proofs.Common.{◌≡◌, ◌≢◌, ◌∙◌, ◌×◌, ◌⊎◌, ◌↔◌, ◌<◌, ◌≤◌, ◌+◌, inl, inr, ℕ, List, [], ◌∷◌, ◌++◌, Result, Ok, Err, Contains, Some, length, map, get_or, take, drop, slice_get, refl, sym, ap, subst, arith}
+use Rattle.std.proofs.Common.{◌≡◌, ◌≢◌, ◌∙◌, ◌⊎◌, ◌↔◌, ◌<◌, ◌≤◌, ◌+◌, inl, inr, ℕ, List, [], ◌∷◌, ◌++◌, Result, Ok, Err, Contains, Some, length, map, get_or, take, drop, slice_get, refl, sym, ap, subst, arith}
 use Rattle.std.proofs.lemmas.List.{append-nil, append_assoc, take-append-drop, take_all, take_more}
 use Rattle.math_base.proofs.Lists.{contains_here, contains_left, contains_none, map_pushed}
 use Rattle.sight_names.specs.declared.names.Side.{Side}

@@ -1,5 +1,5 @@
 -- What the audit of a map that four lumps spell tells C.
-use Rattle.std.specs.Prelude.{◌≡◌, ◌↔◌, ◌⊎◌, ◌×◌, ℕ, List, [], ◌++◌, Option, Some, None, Result, Ok, Err, Contains, length, map, ⊤}
+use Rattle.std.specs.Prelude.{◌≡◌, ◌↔◌, ◌⊎◌, ℕ, List, [], ◌++◌, Option, Some, None, Result, Ok, Err, Contains, length, map, ⊤}
 use Rattle.sight_names.specs.declared.names.Side.{Side}
 use Rattle.sight_names.specs.declared.names.Triangle.{Triangle}
 use Rattle.sight_names.specs.Groups.{HasClosedFaces}

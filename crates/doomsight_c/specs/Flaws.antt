@@ -1,13 +1,12 @@
 -- The faults of a map as C reads them.
-use Rattle.std.specs.Prelude.{◌≡◌, ℕ, ◌×◌, List, [], ◌∷◌, Option, Some, None, slice_get, option_and_then, min, length, take, drop, ⊤}
+use Rattle.std.specs.Prelude.{◌≡◌, ℕ, List, [], ◌∷◌, Option, Some, None, slice_get, slice_index_or, option_and_then, min, length, take, drop, ⊤}
 use Rattle.sight_names.specs.declared.faults.LineFault.{LineFault}
 use Rattle.sight_names.specs.declared.faults.LineFault.TheVariants as clash
 use Rattle.sight_names.specs.declared.names.Pt.{Pt}
 use Rattle.sight_names.specs.declared.names.Side.{Side}
 use Rattle.sight_names.specs.declared.plan.Line.{Line}
-use Rattle.sight_names.specs.Map.{Map, map_of}
 use Rattle.sight_names.specs.Plan.{PlanParts}
-use Rattle.sight_names.specs.Points.{origin, place}
+use Rattle.sight_names.specs.Map.{map_of, origin}
 use Rattle.map_audit.specs.Audit.{IsFaultOf}
 use Rattle.map_faults.specs.declared.clashes.LinePair.{LinePair}
 use Rattle.map_faults.specs.declared.gaps.Gap.{Gap}
@@ -21,19 +20,23 @@ use Rattle.doomsight_c.specs.Faults.{bit_of}
 abbrev pub flaw_of : ℕ → ℕ → ℕ → ℕ → Pt → Pt → DoomsightFlaw
 flaw_of kind i j left from to = record { kind = kind; i = i; j = j; left = left; x = from.x; y = from.y; to_x = to.x; to_y = to.y }
 
--- the end with this number of the record's line; the origin where it has no line
-abbrev pub end_in : Map → (Line → ℕ) → Option Line → Pt
-end_in m end None = origin
-end_in m end (Some line) = place m (end line)
+-- the point with this number; the origin where there is none
+abbrev pub point_at : PlanParts → ℕ → Pt
+point_at p k = slice_index_or p.points k origin
+
+-- an end of the record's line; the origin where it has no line
+abbrev pub end_in : PlanParts → (Line → ℕ) → Option Line → Pt
+end_in p end None = origin
+end_in p end (Some line) = point_at p (end line)
 
 abbrev pub line_in : PlanParts → ℕ → Option Line
 line_in p i = option_and_then (λ l. l) (slice_get p.lines i)
 
 abbrev pub start_of : PlanParts → ℕ → Pt
-start_of p i = end_in (map_of p) (λ l. l.a) (line_in p i)
+start_of p i = end_in p (λ l. l.a) (line_in p i)
 
 abbrev pub stop_of : PlanParts → ℕ → Pt
-stop_of p i = end_in (map_of p) (λ l. l.b) (line_in p i)
+stop_of p i = end_in p (λ l. l.b) (line_in p i)
 
 -- ---- one flaw of each kind
 
@@ -56,7 +59,7 @@ pub record TellsClash (p : PlanParts) (pair : LinePair) (f : DoomsightFlaw) : Ty
 
 -- the point at which just this line ends
 abbrev pub loose_view : PlanParts → LooseEnd → DoomsightFlaw
-loose_view p e = flaw_of 60 e.line 0 0 (place (map_of p) e.point) (place (map_of p) e.point)
+loose_view p e = flaw_of 60 e.line 0 0 (point_at p e.point) (point_at p e.point)
 
 -- an open side, along its line
 abbrev pub side_view : PlanParts → Side → DoomsightFlaw
@@ -64,11 +67,11 @@ side_view p s = flaw_of 11 s.line 0 (bit_of s.left) (start_of p s.line) (stop_of
 
 -- a torn corner: its side and its point, and where the edge goes to which one turns there
 abbrev pub tear_view : PlanParts → Tear → DoomsightFlaw
-tear_view p t = flaw_of 61 t.side.line 0 (bit_of t.side.left) (place (map_of p) t.point) (place (map_of p) t.to)
+tear_view p t = flaw_of 61 t.side.line 0 (bit_of t.side.left) (point_at p t.point) (point_at p t.to)
 
 -- a gap, from one end to the other
 abbrev pub gap_view : PlanParts → Gap → DoomsightFlaw
-gap_view p g = flaw_of 62 0 0 0 (place (map_of p) g.from) (place (map_of p) g.to)
+gap_view p g = flaw_of 62 0 0 0 (point_at p g.from) (point_at p g.to)
 
 -- ---- lists of them
 
