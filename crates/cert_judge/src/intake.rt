@@ -129,12 +129,17 @@ impl<'a> Intake<'a> {
         requires { IsTaken self }
         ensures { (p : PlanParts) (t : TableParts) (bytes : List ℕ) → HasTaken p t bytes self.entry → IfOk result (JudgedBy (any_at (sizes_of p) bytes) (IsVerdictOf p t)) }
     {
-        if let Some(fault) = self.fault {
+        let Intake {
+            reader,
+            judging,
+            fault,
+        } = self;
+        if let Some(fault) = fault {
             return Ok(Judged::Unread(fault));
         }
-        match self.reader.end() {
+        match reader.end() {
             Err(fault) => Ok(Judged::Unread(fault)),
-            Ok(()) => Ok(Judged::Verdict(verdict_of(self.judging)?)),
+            Ok(()) => Ok(Judged::Verdict(verdict_of(judging)?)),
         }
     }
 }

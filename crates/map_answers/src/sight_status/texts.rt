@@ -439,11 +439,11 @@ fn push_status(alloc: Global, line: &mut String, status: Status) -> Result<(), A
 }
 
 /// The line of a refusal.
-pub fn line_of(alloc: Global, status: Status) -> Result<String, AllocError>
-    ensures { IfOk result (λ line. string_bytes line ≡ text_of status) }
+pub fn line_of(alloc: Global, status: &Status) -> Result<String, AllocError>
+    ensures { IfOk result (λ line. string_bytes line ≡ text_of status.now) }
 {
     let mut line = String::new(alloc);
-    push_status(alloc, &mut line, status)?;
+    push_status(alloc, &mut line, *status)?;
     Ok(line)
 }
 
@@ -451,7 +451,7 @@ pub fn line_of(alloc: Global, status: Status) -> Result<String, AllocError>
 fn make_and_put<O: Sink>(alloc: Global, out: &mut O, status: Status) -> Status
     ensures { SaidIfMade status result (O.state out.old) (O.state out.new) }
 {
-    match line_of(alloc, status) {
+    match line_of(alloc, &status) {
         Ok(line) => put_line(out, line.as_bytes(), status),
         Err(refused) => Status::Memory(refused.into()),
     }

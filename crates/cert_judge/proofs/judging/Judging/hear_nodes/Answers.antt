@@ -7,8 +7,8 @@ use Rattle.cert_judge.specs.Judging.{IsKept, HasHeard}
 use Rattle.cert_judge.proofs.AllHeard.{heard_both}
 use Rattle.cert_judge.proofs.judging.Judging.hear_nodes.Goals as goal
 
-pub returns-then-self : goal.returns-then-self
-returns-then-self c = takes_none c.args.bytes.now c.args.count _ (λ p t groups parts w. subst (λ (ps : List Part). HasHeard p t groups ps c.args.self.now) (sym (append-nil parts)) w)
+pub returns-then-is_some : goal.returns-then-is_some
+returns-then-is_some c = takes_none c.args.bytes.now c.args.count _ (λ p t groups parts w. subst (λ (ps : List Part). HasHeard p t groups ps c.args.self.now) (sym (append-nil parts)) w)
 
 pub returns : goal.returns
 returns c = takes_weaker c.args.bytes.now c.args.count _ _ _ _ (λ ns heard p t groups parts w. record {

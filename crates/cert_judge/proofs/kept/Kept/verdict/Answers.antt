@@ -1,6 +1,6 @@
 use Rattle.std.proofs.Common.{refl, sym, subst}
 use Rattle.group_checker.specs.Judged.{JudgesAny}
-use Rattle.cert_judge.proofs.Keeping.{judged_on, broken_rule}
+use Rattle.cert_judge.proofs.Keeping.{judged_on, broken_rule, not_gathering, not_lost}
 use Rattle.cert_judge.proofs.kept.Kept.verdict.Goals as goal
 
 pub verdict-requires : goal.verdict-requires
@@ -12,3 +12,6 @@ returns-in-Good c = λ cert w. subst (JudgesAny c.args.plan.now c.args.table.now
 
 pub returns-in-Broken : goal.returns-in-Broken
 returns-in-Broken c = λ cert w. broken_rule c.args.plan.now c.args.table.now cert c.args.self c.close.new.self w c.in_ok-close.ensures c.in-Broken.fault c.in-Broken.is
+
+pub unreachable-requires : goal.unreachable-requires
+unreachable-requires c = ?
