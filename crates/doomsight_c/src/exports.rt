@@ -245,7 +245,7 @@ pub extern "C" fn doomsight_line_buffer(
     let Some(status) = status_of(fault) else {
         return put_text(&[], text);
     };
-    match line_of(alloc, status) {
+    match line_of(alloc, &status) {
         Ok(line) => put_text(line.as_bytes(), text),
         Err(_) => usize::MAX,
     }
