@@ -4,6 +4,7 @@ use Rattle.std.proofs.lemmas.List.{append-nil, append_assoc, take-append-drop, t
 use Rattle.math_base.proofs.Lists.{contains_here, contains_left, contains_none, map_pushed}
 use Rattle.sight_names.specs.declared.names.Side.{Side}
 use Rattle.sight_names.specs.Groups.{HasClosedFaces}
+use Rattle.face_groups.specs.TriSectors.Verdict.{IsClosedSide}
 use Rattle.sight_names.specs.Map.{Map, map_of}
 use Rattle.sight_names.specs.Plan.{IsPlan, PlanParts}
 use Rattle.sight_names.specs.Sound.{LinesMeetAtEnds}
@@ -11,7 +12,6 @@ use Rattle.map_answers.specs.declared.sight_status.status.Status.{Status}
 use Rattle.map_answers.specs.declared.sight_status.status.Status.TheVariants as status
 use Rattle.map_answers.specs.SightStatus.Answer.{Makes}
 use Rattle.map_answers.specs.SightStatus.Status.{IsOfBytes}
-use Rattle.map_audit.specs.Audit.{FineAt}
 use Rattle.map_faults.specs.declared.clashes.LinePair.{LinePair}
 use Rattle.map_faults.specs.declared.clashes.TheConstants.{MOST_CLASHES}
 use Rattle.map_faults.specs.declared.gaps.Gap.{Gap}
@@ -86,16 +86,31 @@ module _ (p : PlanParts) (count : ℕ) (none : (count ≡ 0) ↔ LinesMeetAtEnds
   closed_without h z ends = without sides h z
     where
       without : (ss : List Side) → AreOpenSides (map_of p) ss → length ss ≡ 0 → HasClosedFaces (map_of p)
-      without [] h z = record { ends = ends; closed = λ s. elim (h.rest s tt) as (λ _. (a : ℕ) → _) [ inl c ↦ c | inr c ↦ absurd (contains_none s c) ] }
+      without [] h z = record { ends = ends; closed = λ s. elim (h.rest s tt) as (λ _. IsClosedSide (map_of p) s) [ inl c ↦ c | inr c ↦ absurd (contains_none s c) ] }
       without (s ∷ ss) h z = absurd (let a : length (s ∷ ss) ≡ 0 = z in omega arith)
 
   pub sound_of : ((count ≡ 0) × (length sides ≡ 0)) ↔ HasClosedFaces (map_of p)
   sound_of = (
     λ z. elim b as (λ _. HasClosedFaces (map_of p)) [ inl w ↦ closed_without w.1.are_open z.1 w.0 | inr w ↦ absurd (w.0 (none.0 z.0)) ],
-    λ c. (none.1 c.ends, elim b as (λ _. length sides ≡ 0) [ inl w ↦ no_sides sides w.1.are_open c | inr w ↦ nothing w.1.0 ]),
+    λ c. (none.1 c.ends, elim b as (λ _. length sides ≡ 0) [ inl w ↦ no_sides sides w.1.are_open c | inr w ↦ nothing w.1 ]),
   )
 
 -- ---- the whole
+
+-- what was told of lists is told of the same lists
+pub told_of : (p : PlanParts) (a first : List LinePair) (b loose : List LooseEnd) (d sides : List Side) (e tears : List Tear) (f gaps : List Gap) (all : List DoomsightFlaw)
+    → a ≡ first → b ≡ loose → d ≡ sides → e ≡ tears → f ≡ gaps → TellsAll p a b d e f all → TellsAll p first loose sides tears gaps all
+told_of p a first b loose d sides e tears f gaps all ha hb hd he hf h =
+    subst (λ (x : List LinePair). TellsAll p x loose sides tears gaps all) ha
+    (subst (λ (x : List LooseEnd). TellsAll p a x sides tears gaps all) hb
+    (subst (λ (x : List Side). TellsAll p a b x tears gaps all) hd
+    (subst (λ (x : List Tear). TellsAll p a b d x gaps all) he
+    (subst (λ (x : List Gap). TellsAll p a b d e x all) hf h))))
+
+pub same_counts : (n a b d e f v w x y z : ℕ) → a ≡ v → b ≡ w → d ≡ x → e ≡ y → f ≡ z → counts_of n a b d e f ≡ counts_of n v w x y z
+same_counts n a b d e f v w x y z ha hb hd he hf =
+    ap (λ (i : ℕ). counts_of n i b d e f) ha ∙ ap (λ (i : ℕ). counts_of n v i d e f) hb ∙ ap (λ (i : ℕ). counts_of n v w i e f) hd
+    ∙ ap (λ (i : ℕ). counts_of n v w x i f) he ∙ ap (λ (i : ℕ). counts_of n v w x y i) hf
 
 pub audit_made : (p : PlanParts) (first : List LinePair) (count : ℕ) → AreFirstClashes (map_of p) first count → (count ≡ 0) ↔ LinesMeetAtEnds (map_of p)
     → (loose : List LooseEnd) → AreLooseEnds p loose → (sides : List Side) (tears : List Tear) (gaps : List Gap) → AreBetween p sides tears gaps

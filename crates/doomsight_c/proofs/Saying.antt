@@ -35,7 +35,7 @@ module _ (m : Map) (ask : Ask) (pair : Pair) where
   never_listed h e =
       let w = h.walked in
       let full : w.budget ≡ Full = subst (λ (a : Ask). IsBudgetOf w.g a w.budget) e w.is_budget in
-      let over = h.is.some.3.3 in
+      let over = h.is.some.4 in
       let cut : Spent h.is.grouped h.is.triangles h.is.labels h.is.some.0 w.budget = over.spent in
       subst (λ (b : Budget). Spent h.is.grouped h.is.triangles h.is.labels h.is.some.0 b) full cut
 

@@ -59,7 +59,7 @@ fn faces_of(alloc: Global, plan: &Plan) -> Result<Between, Memory>
 }
 
 /// The same of any map; nothing where so many lines clash.
-fn between(alloc: Global, plan: &Plan, clashes: u64) -> Result<Between, Memory>
+fn faults_between(alloc: Global, plan: &Plan, clashes: u64) -> Result<Between, Memory>
     requires { (clashes ≡ 0) ↔ LinesMeetAtEnds (map_of plan.now) }
     ensures { IfOk result (λ b. AreBetween plan.now b.sides.items b.tears.items b.gaps.items) }
 {
@@ -99,7 +99,7 @@ fn audit_of(alloc: Global, plan: &Plan) -> Result<Audit, Memory>
 {
     let clashes = clashes_of(alloc, plan)?;
     let loose = loose_ends_of(alloc, plan)?;
-    let faces = between(alloc, plan, clashes.count)?;
+    let faces = faults_between(alloc, plan, clashes.count)?;
     let all = tell_all(
         alloc,
         plan,
