@@ -1,4 +1,4 @@
-use Rattle.std.proofs.Common.{refl, sym, subst}
+use Rattle.std.proofs.Common.{inl, inr, refl, sym, subst}
 use Rattle.group_checker.specs.Judged.{JudgesAny}
 use Rattle.cert_judge.proofs.Keeping.{judged_on, broken_rule, not_gathering, not_lost}
 use Rattle.cert_judge.proofs.kept.Kept.verdict.Goals as goal
@@ -14,4 +14,8 @@ pub returns-in-Broken : goal.returns-in-Broken
 returns-in-Broken c = λ cert w. broken_rule c.args.plan.now c.args.table.now cert c.args.self c.close.new.self w c.in_ok-close.ensures c.in-Broken.fault c.in-Broken.is
 
 pub unreachable-requires : goal.unreachable-requires
-unreachable-requires c = ?
+unreachable-requires c =
+    elim c.in-Gathering.is as (λ _. ⊥) [
+      | inl gathering ↦ not_gathering c.args.plan.now c.args.table.now c.requires.0 c.args.self c.close.new.self c.requires.1 c.in_ok-close.ensures gathering
+      | inr lost ↦ not_lost c.args.plan.now c.args.table.now c.requires.0 c.args.self c.close.new.self c.requires.1 c.in_ok-close.ensures lost
+    ]
