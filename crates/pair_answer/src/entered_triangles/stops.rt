@@ -65,9 +65,10 @@ fn put_stop(
     requires each { length marks.now ≡ length mesh.now.triangles }
     ensures { OnOk result (IsPut (map_of plan.now) mesh.now.triangles (IsMarked marks.now) from to stops.old.items stops.new.items) }
 {
-    if leaves_at(plan, mesh, labels, edges, marks, to, from) {
-        stops.push(segment_between(from, to))?;
+    if !leaves_at(plan, mesh, labels, edges, marks, to, from) {
+        return Ok(());
     }
+    stops.push(segment_between(from, to))?;
     Ok(())
 }
 
