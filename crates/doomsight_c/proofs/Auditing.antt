@@ -1,5 +1,5 @@
 -- What an audit tells is all that was found, and a map without clashes and open sides is sound.
-use Rattle.std.proofs.Common.{◌≡◌, ◌≢◌, ◌∙◌, ◌⊎◌, ◌↔◌, ◌<◌, ◌≤◌, ◌+◌, inl, inr, ℕ, List, [], ◌∷◌, ◌++◌, Result, Ok, Err, Contains, Some, length, map, get_or, take, drop, slice_get, refl, sym, ap, subst, arith}
+use Rattle.std.proofs.Common.{◌≡◌, ◌∙◌, ◌↔◌, ◌<◌, ◌≤◌, ◌+◌, inl, inr, ℕ, List, [], ◌∷◌, ◌++◌, Result, Ok, Err, Contains, length, map, get_or, take, drop, refl, sym, ap, subst, arith}
 use Rattle.std.proofs.lemmas.List.{append-nil, append_assoc, take-append-drop, take_all, take_more}
 use Rattle.math_base.proofs.Lists.{contains_here, contains_left, contains_none, map_pushed}
 use Rattle.sight_names.specs.declared.names.Side.{Side}
@@ -17,7 +17,7 @@ use Rattle.map_faults.specs.declared.clashes.TheConstants.{MOST_CLASHES}
 use Rattle.map_faults.specs.declared.gaps.Gap.{Gap}
 use Rattle.map_faults.specs.declared.loose_ends.LooseEnd.{LooseEnd}
 use Rattle.map_faults.specs.declared.tears.Tear.{Tear}
-use Rattle.map_faults.specs.Clashes.{AreFirstClashes, IsClash}
+use Rattle.map_faults.specs.Clashes.{AreFirstClashes}
 use Rattle.map_faults.specs.LooseEnds.{AreLooseEnds}
 use Rattle.map_faults.specs.OpenSides.{AreOpenSides}
 use Rattle.doomsight_c.specs.declared.fault.DoomsightFault.{DoomsightFault}

@@ -1,5 +1,5 @@
 -- What is answered for two sectors of the map that four lumps spell.
-use Rattle.std.specs.Prelude.{◌≡◌, ◌≢◌, ℕ, ℤ, pos, Option, Some, None, Result, Ok, Err, if◌then◌else◌, nat_lt, ⊤}
+use Rattle.std.specs.Prelude.{◌≡◌, ◌≢◌, ℕ, pos, Option, Some, None, Result, Ok, Err, if◌then◌else◌, nat_lt, ⊤}
 use Rattle.sight_names.specs.declared.names.Ask.{Ask}
 use Rattle.sight_names.specs.declared.names.Ask.TheVariants.{Full}
 use Rattle.sight_names.specs.declared.names.Method.{Method}

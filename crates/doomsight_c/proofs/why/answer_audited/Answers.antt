@@ -1,6 +1,5 @@
 use Rattle.std.proofs.lemmas.Result.{err_from_is_err_and}
 use Rattle.sight_names.specs.Map.{map_of}
-use Rattle.pair_answer.specs.declared.answer.PairAnswer.{PairAnswer}
 use Rattle.doomsight_c.proofs.Saying.{answered, denied, denied_audit}
 use Rattle.doomsight_c.proofs.why.answer_audited.Goals as goal
 
