@@ -8,10 +8,11 @@
 # which of the allocations are refused. It ends with 1 where anything differs.
 #
 #     header     the header and the clients by each compiler, and what the archive asks for
-#     layout     the structs and the versions of the header and the library
+#     layout     the structs and the versions of the header and the library, and a header of another interface
 #     install    a new prefix, pkg-config, and the example of docs/C-LIBRARY.md as it stands there
 #     maps       every map by both, within the default budget, within others, and with the larger limits, with 128 KiB of stack
 #     exact      every map by both, with every pair decided, with 128 KiB of stack
+#     ears       every map's faults, with a second count of clashes and loose ends, and what is answered for pairs of sectors
 #     stack      how much of it a call needs, over all maps
 #     memory     memcheck
 #     threads    eight threads at once, with the stack that the header names, and helgrind
@@ -19,7 +20,7 @@
 set -u
 top=$(cd "$(dirname "$0")/.." && pwd)
 [ $# -ge 3 ] || {
-    sed -n '2,18s/^# \{0,1\}//p' "$0"
+    sed -n '2,19s/^# \{0,1\}//p' "$0"
     exit 2
 }
 archive=$(realpath "$1")
@@ -27,7 +28,7 @@ program=$(realpath "$2")
 shift 2
 wads=()
 for wad in "$@"; do wads+=("$(realpath "$wad")"); done
-stages=${STAGES:-header layout install maps exact stack memory threads refused}
+stages=${STAGES:-header layout install maps exact ears stack memory threads refused}
 maps=${MAPS:-$(echo E{1,2,3,4}M{1,2,3,4,5,6,7,8,9} MAP{01..32})}
 work=$(mktemp -d)
 trap 'rm -rf "$work"' EXIT
@@ -91,6 +92,10 @@ try_layout() {
         $compiler $strict -c "$top/bench/c/layout.c" -o layout.o && gcc layout.o "$archive" heap.o -o layout &&
             ./layout || fail "layout by $compiler"
     done
+    mkdir -p later
+    sed 's/^#define DOOMSIGHT_ABI .*/#define DOOMSIGHT_ABI 9/' "$top/include/doomsight.h" >later/doomsight.h
+    gcc -std=c99 -Wall -Wextra -Werror -pedantic -Ilater "$top/bench/c/later.c" "$archive" heap.o -o later/later && later/later ||
+        fail "a header of another interface"
     number=$("$program" --version | sed 's/^doomsight //' | awk -F. '{ print 10000 * $1 + 100 * $2 + $3 }')
     grep -qx "#define DOOMSIGHT_VERSION $number" "$top/include/doomsight.h" || fail "the header's version isn't the program's"
 }
@@ -199,6 +204,56 @@ try_exact() {
     echo "every pair decided: $built built and $refused refused as by the program"
 }
 
+# Two sectors of a map by both: pair WAD MAP A B [OPTION..]; the budget and the flags of the library are in BUDGET and FLAGS
+pair() {
+    line=$("$program" why "$1" "$2" "$3" "$4" "${@:5}" 2>/dev/null)
+    status=$?
+    said=$(with_stack 128 ./ears "$1" "$2" why "$3" "$4" ${BUDGET:-} ${FLAGS:-})
+    [ $? = $status ] || fail "$1 $2 why $3 $4: another code than $status"
+    [ "$said" = "$line" ] || fail "$1 $2 why $3 $4: $said and $line"
+    asked=$((asked + 1))
+}
+
+# The faults of a map by the library, as the program's audit says whether there are any, and which is the first.
+heard() {
+    line=$("$program" audit "$1" "$2" 2>/dev/null)
+    status=$?
+    [ $status = 7 ] && return
+    with_stack 128 ./ears "$1" "$2" audit >said
+    got=$?
+    case $status in
+    0 | 10)
+        [ $got = 0 ] || fail "$1 $2 audit: $(head -3 said)"
+        [ $status = 0 ] && [ "$(tail -1 said)" != sound ] && fail "$1 $2 audit: not sound"
+        [ $status = 10 ] && [ "$(tail -1 said)" != "$line" ] && fail "$1 $2 audit: another fault first"
+        clashes=$((clashes + $(sed -n 's/^clashes \([0-9]*\) .*/\1/p' said)))
+        open=$((open + $(sed -n 's/.* open \([0-9]*\) .*/\1/p' said)))
+        ;;
+    *) [ $got = $status ] && [ "$(tail -1 said)" = "$line" ] || fail "$1 $2 audit: $got, another refusal" ;;
+    esac
+    audited=$((audited + 1))
+}
+
+try_ears() {
+    client ears heap.o
+    audited=0 asked=0 clashes=0 open=0
+    for wad in "${wads[@]}"; do
+        for map in $maps; do
+            heard "$wad" "$map"
+            [ $status = 7 ] && continue
+            pair "$wad" "$map" 0 1
+            pair "$wad" "$map" 3 20
+            pair "$wad" "$map" 0 65535
+        done
+    done
+    map=${maps%% *}
+    BUDGET=1 pair "${wads[0]}" "$map" 0 9 --budget 1
+    BUDGET=0 pair "${wads[0]}" "$map" 0 9 --budget enough
+    BUDGET=exact pair "${wads[0]}" "$map" 0 9 --exact
+    BUDGET=exact FLAGS=1 pair "${wads[0]}" "$map" 0 9 --exact --large
+    echo "ears: $audited maps audited, with $clashes clashes and $open open sides; $asked pairs as the program says"
+}
+
 # The first map of the first WAD that is built, and is small enough for valgrind.
 small() {
     for map in $maps; do
@@ -218,8 +273,8 @@ try_stack() {
             for budget in 16384 exact; do ./stack "$wad" "$map" "$budget" 1 || fail "stack of $map"; done
         done
     done >stacks
-    most=$(awk '{ for (k = 5; k <= 9; k += 2) if ($k > most) { most = $k; of = $0 } } END { print of }' stacks)
-    need=$(echo "$most" | awk '{ for (k = 5; k <= 9; k += 2) if ($k > most) most = $k; print most }')
+    most=$(awk '{ for (k = 5; k <= 11; k += 2) if ($k > most) { most = $k; of = $0 } } END { print of }' stacks)
+    need=$(echo "$most" | awk '{ for (k = 5; k <= 11; k += 2) if ($k > most) most = $k; print most }')
     said=$(sed -n 's/^#define DOOMSIGHT_STACK (\([0-9]*\)u \* 1024u)/\1/p' "$top/include/doomsight.h")
     echo "stack: a call touches at most $need bytes ($most), the header says $said KiB"
     [ "$need" -le $((said * 1024 / 2)) ] || fail "stack"
@@ -233,6 +288,10 @@ try_memory() {
         by_program "${wads[0]}" "$map" $option >/dev/null || fail "$map by $option"
         valgrind -q --leak-check=full --error-exitcode=9 --main-stacksize=8388608 ./client "${wads[0]}" "$map" $method 0 \
             out.wad out.cert >said || fail "memcheck of $map by $option"
+    done
+    [ -x ears ] || client ears heap.o
+    for asks in audit "why 0 1"; do
+        valgrind -q --leak-check=full --error-exitcode=9 ./ears "${wads[0]}" "$map" $asks >said || fail "memcheck of $map, $asks"
     done
     echo "memcheck of $map: no error, nothing left"
 }

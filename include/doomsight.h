@@ -1,4 +1,5 @@
-/* doomsight.h: REJECT tables of Doom maps, built and checked in the process of the caller.
+/* doomsight.h: REJECT tables of Doom maps, built and checked in the process of the caller; all faults of a map at their places, and
+ * whether two sectors see each other.
  *
  * Link with libdoomsight_c.a and doomsight_heap.o (or the kit's liblibc_c.a), in this order; nothing else but the C library is
  * needed: the archive asks for rattle_alloc, rattle_realloc and rattle_dealloc, memcpy, memmove and memset alone.
@@ -26,7 +27,8 @@
 extern "C" {
 #endif
 
-/* The interface of this header; doomsight_abi() tells that of the library. They differ where one of them is to be replaced. */
+/* The interface of this header; doomsight_abi() tells that of the library. They differ where one of them is to be replaced: then
+ * each call that has a fault to tell ends at once, with DOOMSIGHT_USAGE and DOOMSIGHT_OTHER_ABI, and wrote nothing else. */
 #define DOOMSIGHT_ABI 1
 uint32_t doomsight_abi(void);
 
@@ -73,6 +75,8 @@ enum doomsight_kind {
     DOOMSIGHT_BAD_FLAGS = 13,        /* at: the flags */
     DOOMSIGHT_BAD_BUDGET = 14,       /* at: the budget */
     DOOMSIGHT_BAD_TABLE_SIZE = 15,   /* at: the size that the table of this map has */
+    DOOMSIGHT_BAD_SECTOR = 16,       /* at: a sector's number above 65535, which no map has */
+    DOOMSIGHT_OTHER_ABI = 17,        /* at: the library's interface, more: the header's */
     /* NO */
     DOOMSIGHT_TABLE_LENGTH = 20,     /* at: bytes found, more: bytes expected */
     DOOMSIGHT_CERT_MAGIC = 21,
@@ -99,7 +103,8 @@ enum doomsight_kind {
     DOOMSIGHT_UNPROVED = 52,
     DOOMSIGHT_UNCOVERED = 53,
     DOOMSIGHT_GROUP = 54,            /* a: the triangle */
-    DOOMSIGHT_UNUSED = 55            /* a: the group */
+    DOOMSIGHT_UNUSED = 55,           /* a: the group */
+    DOOMSIGHT_NO_SECTOR = 56         /* a: the number; the map has no such sector */
 };
 
 /* After DOOMSIGHT_OK all of its numbers are 0. */
@@ -120,6 +125,55 @@ typedef struct doomsight_counts {
     uint64_t cert_size; /* bytes of the whole certificate, whatever room the buffer has */
 } doomsight_counts;
 
+/* What is answered for two sectors. */
+enum doomsight_answer_kind {
+    DOOMSIGHT_ANSWER_SIGHT = 1, /* they see each other along the ray */
+    DOOMSIGHT_ANSWER_TOUCH = 2, /* they see each other: a face belongs to both, so nothing lies between them */
+    DOOMSIGHT_ANSWER_BLIND = 3, /* they don't see each other */
+    DOOMSIGHT_ANSWER_LISTED = 4 /* left open, since the budget ran out; never without a bound */
+};
+
+/* The ray lies on the line of the points with a * x + b * y + c = 0, in map units, and goes in direction (b, -a). It begins on a side
+ * of one line, at a face of the first sector, and ends on one of another line, at a face of the second. All its numbers are 0 where
+ * the answer isn't DOOMSIGHT_ANSWER_SIGHT. */
+typedef struct doomsight_answer {
+    uint16_t answer; /* an enum doomsight_answer_kind */
+    uint16_t first_line, first_left; /* a side: its LINEDEFS record, and 1 where it is the left one */
+    uint16_t last_line, last_left;
+    int32_t a, b;
+    int64_t c;
+} doomsight_answer;
+
+/* What is at fault in a map. `i` and `j` are LINEDEFS records, (x, y) and (to_x, to_y) places in map units; what isn't named is 0. */
+enum doomsight_flaw_kind {
+    DOOMSIGHT_FLAW_CROSS = 8,      /* lines i and j cross; (x, y), and (to_x, to_y) too: where, rounded down */
+    DOOMSIGHT_FLAW_TOUCH = 9,      /* an end of one lies within the other, at (x, y), and (to_x, to_y) too */
+    DOOMSIGHT_FLAW_OVERLAP = 10,   /* they have a stretch in common; line i goes from (x, y) to (to_x, to_y) */
+    DOOMSIGHT_FLAW_OPEN = 11,      /* the face of this side of line i, `left` or not, leads out of the map; the line as above */
+    DOOMSIGHT_FLAW_LOOSE_END = 60, /* no other line ends where line i does, at (x, y), and (to_x, to_y) too */
+    DOOMSIGHT_FLAW_TEAR = 61,      /* at (x, y), an end of this side of line i, there is a hole: the next edge, of which and of the
+                                    * side just one names a sector, goes from there to (to_x, to_y) */
+    DOOMSIGHT_FLAW_GAP = 62        /* from (x, y) to (to_x, to_y) no line closes the hull of the map */
+};
+
+typedef struct doomsight_flaw {
+    uint16_t kind; /* an enum doomsight_flaw_kind */
+    uint16_t i, j;
+    uint16_t left; /* 1 for the left side of line i */
+    int16_t x, y, to_x, to_y;
+} doomsight_flaw;
+
+/* How many there are of each. A map has a table exactly where it has no clashes (which cross, touch or overlap) and no open sides.
+ * The others say where to look: most maps have gaps, and a loose end may be meant. */
+typedef struct doomsight_flaw_counts {
+    uint64_t clashes;
+    uint64_t loose_ends;
+    uint64_t open_sides; /* where lines clash, none of these three is looked for */
+    uint64_t tears;
+    uint64_t gaps;
+    uint64_t listed;     /* all of them, but of the clashes at most the first 1000 */
+} doomsight_flaw_counts;
+
 #if defined(__cplusplus) && __cplusplus >= 201103L
 #define DOOMSIGHT_HOLDS(fact) static_assert(fact, #fact)
 #elif defined(__STDC_VERSION__) && __STDC_VERSION__ >= 201112L
@@ -127,7 +181,8 @@ typedef struct doomsight_counts {
 #else
 #define DOOMSIGHT_HOLDS(fact) typedef char doomsight_holds[(fact) ? 1 : -1]
 #endif
-DOOMSIGHT_HOLDS(sizeof(doomsight_fault) == 32 && sizeof(doomsight_counts) == 40 && sizeof(void *) == 8);
+DOOMSIGHT_HOLDS(sizeof(doomsight_fault) == 32 && sizeof(doomsight_counts) == 40 && sizeof(doomsight_answer) == 32
+    && sizeof(doomsight_flaw) == 16 && sizeof(doomsight_flaw_counts) == 48 && sizeof(void *) == 8);
 #undef DOOMSIGHT_HOLDS
 
 /* Budgets: 1 to 4294967296, or one of these. The program's default is 16384. */
@@ -155,7 +210,7 @@ typedef struct doomsight_map {
 } doomsight_map;
 
 typedef struct doomsight_options {
-    uint64_t budget; /* of a build, or DOOMSIGHT_EXACT; a check doesn't look at it */
+    uint64_t budget; /* of a build or of two sectors, or DOOMSIGHT_EXACT; a check and an audit don't look at it */
     uint32_t flags;  /* 0, or DOOMSIGHT_LARGE */
 } doomsight_options;
 
@@ -197,9 +252,18 @@ size_t doomsight_kept_cert_buffer(doomsight_kept *kept, size_t offset, uint8_t *
 
 size_t doomsight_line_buffer(const doomsight_fault *fault, uint8_t *text, size_t room);
 
+int32_t doomsight_why_buffers(const uint8_t *linedefs, size_t linedefs_size, const uint8_t *sidedefs, size_t sidedefs_size,
+    const uint8_t *vertexes, size_t vertexes_size, const uint8_t *sectors, size_t sectors_size, uint32_t format, uint32_t flags,
+    uint64_t budget, uint32_t a, uint32_t b, doomsight_answer *answer, doomsight_fault *fault);
+
+int32_t doomsight_audit_buffers(const uint8_t *linedefs, size_t linedefs_size, const uint8_t *sidedefs, size_t sidedefs_size,
+    const uint8_t *vertexes, size_t vertexes_size, const uint8_t *sectors, size_t sectors_size, uint32_t format, uint32_t flags,
+    doomsight_flaw *flaws, size_t room, doomsight_flaw_counts *counts, doomsight_fault *fault);
+
 /* Writes 1, 2, 3 and so on into the fields, in the order in which they stand above. Where they read otherwise, this header isn't
  * that of the library, or the compiler lays out structs in another way. */
 void doomsight_layout(doomsight_fault *fault, doomsight_counts *counts);
+void doomsight_layout_of_answers(doomsight_answer *answer, doomsight_flaw *flaw, doomsight_flaw_counts *counts);
 
 /* ---- What programs call. */
 
@@ -209,6 +273,19 @@ static inline const uint8_t *doomsight_some(const void *bytes)
 {
     static const uint8_t none[1] = {0};
     return bytes ? (const uint8_t *)bytes : none;
+}
+
+/* Whether the library has another interface than this header; then the fault says so. */
+static inline int doomsight_is_other(doomsight_fault *fault)
+{
+    const uint32_t abi = doomsight_abi();
+    if (abi == DOOMSIGHT_ABI) return 0;
+    fault->code = DOOMSIGHT_USAGE;
+    fault->kind = DOOMSIGHT_OTHER_ABI;
+    fault->a = fault->b = fault->line = fault->left = 0;
+    fault->at = abi;
+    fault->more = DOOMSIGHT_ABI;
+    return 1;
 }
 
 /* Builds the table of the map into `reject`, whose size is to be doomsight_table_size(map->sectors.size). Where `options` is
@@ -223,6 +300,7 @@ static inline int32_t doomsight_build(const doomsight_map *map, const doomsight_
     void *cert, size_t cert_room, doomsight_counts *counts, doomsight_fault *fault)
 {
     uint8_t nothing[1];
+    if (doomsight_is_other(fault)) return DOOMSIGHT_USAGE;
     return doomsight_build_buffers(doomsight_some(map->linedefs.bytes), map->linedefs.size, doomsight_some(map->sidedefs.bytes),
         map->sidedefs.size, doomsight_some(map->vertexes.bytes), map->vertexes.size, doomsight_some(map->sectors.bytes),
         map->sectors.size, map->format, options ? options->flags : 0, options ? options->budget : 16384,
@@ -245,6 +323,7 @@ static inline int32_t doomsight_build(const doomsight_map *map, const doomsight_
 static inline int32_t doomsight_keep(const doomsight_map *map, const doomsight_options *options, doomsight_kept *kept,
     doomsight_counts *counts, doomsight_fault *fault)
 {
+    if (doomsight_is_other(fault)) return DOOMSIGHT_USAGE;
     return doomsight_keep_buffers(doomsight_some(map->linedefs.bytes), map->linedefs.size, doomsight_some(map->sidedefs.bytes),
         map->sidedefs.size, doomsight_some(map->vertexes.bytes), map->vertexes.size, doomsight_some(map->sectors.bytes),
         map->sectors.size, map->format, options ? options->flags : 0, options ? options->budget : 16384, kept, counts, fault);
@@ -279,10 +358,37 @@ void doomsight_free(doomsight_kept *kept);
 static inline int32_t doomsight_check(const doomsight_map *map, const doomsight_options *options, const void *reject,
     size_t reject_size, const void *cert, size_t cert_size, doomsight_counts *counts, doomsight_fault *fault)
 {
+    if (doomsight_is_other(fault)) return DOOMSIGHT_USAGE;
     return doomsight_check_buffers(doomsight_some(map->linedefs.bytes), map->linedefs.size, doomsight_some(map->sidedefs.bytes),
         map->sidedefs.size, doomsight_some(map->vertexes.bytes), map->vertexes.size, doomsight_some(map->sectors.bytes),
         map->sectors.size, map->format, options ? options->flags : 0, doomsight_some(reject), reject ? reject_size : 0,
         doomsight_some(cert), cert ? cert_size : 0, counts, fault);
+}
+
+/* Whether the sectors `a` and `b` of the map see each other, and along which ray: the answer of the program's `why`. Where `options`
+ * is NULL nothing bounds the search, and no flag is set. An answer is DOOMSIGHT_OK, also where they are blind; else the code of the
+ * fault, as the map isn't sound, or has no such sector (DOOMSIGHT_NO); then nothing but *fault was written. */
+static inline int32_t doomsight_why(const doomsight_map *map, const doomsight_options *options, uint32_t a, uint32_t b,
+    doomsight_answer *answer, doomsight_fault *fault)
+{
+    if (doomsight_is_other(fault)) return DOOMSIGHT_USAGE;
+    return doomsight_why_buffers(doomsight_some(map->linedefs.bytes), map->linedefs.size, doomsight_some(map->sidedefs.bytes),
+        map->sidedefs.size, doomsight_some(map->vertexes.bytes), map->vertexes.size, doomsight_some(map->sectors.bytes),
+        map->sectors.size, map->format, options ? options->flags : 0, options ? options->budget : DOOMSIGHT_FULL, a, b, answer, fault);
+}
+
+/* All faults of the map, each at its place: clashes, by their records; loose ends; and where no lines clash open sides, tears and
+ * gaps. The first of them stand in `flaws`, which has room for `room` of them (NULL and 0 where none is wanted): as many as there are
+ * of the counts->listed. The answer is DOOMSIGHT_OK, whatever was found; else the code of the fault, where the lumps are no map; then
+ * nothing but *fault was written. `options` may be NULL. */
+static inline int32_t doomsight_audit(const doomsight_map *map, const doomsight_options *options, doomsight_flaw *flaws, size_t room,
+    doomsight_flaw_counts *counts, doomsight_fault *fault)
+{
+    doomsight_flaw nothing[1];
+    if (doomsight_is_other(fault)) return DOOMSIGHT_USAGE;
+    return doomsight_audit_buffers(doomsight_some(map->linedefs.bytes), map->linedefs.size, doomsight_some(map->sidedefs.bytes),
+        map->sidedefs.size, doomsight_some(map->vertexes.bytes), map->vertexes.size, doomsight_some(map->sectors.bytes),
+        map->sectors.size, map->format, options ? options->flags : 0, flaws ? flaws : nothing, flaws ? room : 0, counts, fault);
 }
 
 /* What doomsight_line answers where malloc refuses. */
@@ -296,6 +402,87 @@ static inline size_t doomsight_line(const doomsight_fault *fault, char *text, si
 {
     uint8_t nothing[1];
     return doomsight_line_buffer(fault, text ? (uint8_t *)text : nothing, text ? room : 0);
+}
+
+/* ---- Texts that are always there: constant, without an end of line, and nobody frees them. */
+
+/* What the number of a code means; of a number that is none it says so. */
+static inline const char *doomsight_code_text(int32_t code)
+{
+    switch (code) {
+    case DOOMSIGHT_OK: return "done";
+    case DOOMSIGHT_NO: return "no";
+    case DOOMSIGHT_USAGE: return "a number of the call is out of order";
+    case DOOMSIGHT_BAD_LUMP: return "the lumps are no map";
+    case DOOMSIGHT_LIMIT: return "the map is above a limit";
+    case DOOMSIGHT_BAD_MAP: return "lines of the map clash, or a side is open";
+    case DOOMSIGHT_MEMORY: return "out of memory";
+    }
+    return "no code of this library";
+}
+
+/* What the kind of a fault means, in words; its numbers tell which. */
+static inline const char *doomsight_kind_text(uint32_t kind)
+{
+    switch (kind) {
+    case DOOMSIGHT_NONE: return "nothing more to tell";
+    case DOOMSIGHT_LUMP_SIZE: return "a lump isn't a whole number of records";
+    case DOOMSIGHT_LUMP_VERTEX: return "a line names a vertex that isn't there";
+    case DOOMSIGHT_LUMP_SIDE: return "a line names a side that isn't there";
+    case DOOMSIGHT_LUMP_SECTOR: return "a side names a sector that isn't there";
+    case DOOMSIGHT_SECTORS: return "too many sectors";
+    case DOOMSIGHT_LINES: return "too many lines";
+    case DOOMSIGHT_POINTS: return "too many points";
+    case DOOMSIGHT_CROSS: return "two lines cross";
+    case DOOMSIGHT_TOUCH: return "an end of a line lies within another line";
+    case DOOMSIGHT_OVERLAP: return "two lines have a stretch in common";
+    case DOOMSIGHT_OPEN: return "the face of a side leads out of the map";
+    case DOOMSIGHT_BAD_FORMAT: return "no such format";
+    case DOOMSIGHT_BAD_FLAGS: return "no such flag";
+    case DOOMSIGHT_BAD_BUDGET: return "no such budget";
+    case DOOMSIGHT_BAD_TABLE_SIZE: return "the buffer hasn't the size of the table";
+    case DOOMSIGHT_BAD_SECTOR: return "no sector has a number above 65535";
+    case DOOMSIGHT_OTHER_ABI: return "the library has another interface than the header";
+    case DOOMSIGHT_TABLE_LENGTH: return "the table has another length";
+    case DOOMSIGHT_CERT_MAGIC: return "the bytes are no certificate";
+    case DOOMSIGHT_CERT_VERSION: return "the certificate has an unknown version";
+    case DOOMSIGHT_CERT_SHORT: return "the certificate is cut short";
+    case DOOMSIGHT_CERT_RANGE: return "a number of the certificate is out of range";
+    case DOOMSIGHT_CERT_ORDER: return "the certificate isn't in order";
+    case DOOMSIGHT_CERT_TRAILING: return "bytes stand behind the certificate";
+    case DOOMSIGHT_MESH_FLAT: return "a triangle of the certificate doesn't turn left";
+    case DOOMSIGHT_MESH_TWICE: return "two triangles of the certificate have one edge";
+    case DOOMSIGHT_MESH_MATE: return "a triangle of the certificate has no neighbour where it needs one";
+    case DOOMSIGHT_MESH_SIDE: return "a side has no triangle of its sector";
+    case DOOMSIGHT_MESH_MEETS: return "an edge of a triangle meets a line";
+    case DOOMSIGHT_MESH_INSIDE: return "a point lies in a triangle";
+    case DOOMSIGHT_RAY_ELSEWHERE: return "a ray joins other sectors";
+    case DOOMSIGHT_RAY_RANGE: return "a number of a ray is out of range";
+    case DOOMSIGHT_RAY_SIDE: return "a ray begins or ends on no side";
+    case DOOMSIGHT_RAY_NOT_SPLIT: return "a ray doesn't pass between the ends of a line";
+    case DOOMSIGHT_RAY_WRONG_WAY: return "a ray passes a line the wrong way";
+    case DOOMSIGHT_RAY_BACKWARDS: return "a ray goes backwards";
+    case DOOMSIGHT_RAY_BLOCKED: return "a line blocks a ray";
+    case DOOMSIGHT_TREE: return "a node of a tree is wrong";
+    case DOOMSIGHT_LISTED_SET: return "the bit of a listed pair is set";
+    case DOOMSIGHT_UNPROVED: return "nothing proves that a pair sees";
+    case DOOMSIGHT_UNCOVERED: return "nothing proves that a pair is blind";
+    case DOOMSIGHT_GROUP: return "a triangle has another group";
+    case DOOMSIGHT_UNUSED: return "a group has no triangle";
+    case DOOMSIGHT_NO_SECTOR: return "the map has no such sector";
+    }
+    return "no kind of this header";
+}
+
+/* What is at fault, in words. */
+static inline const char *doomsight_flaw_text(uint32_t kind)
+{
+    switch (kind) {
+    case DOOMSIGHT_FLAW_LOOSE_END: return "just one line ends here";
+    case DOOMSIGHT_FLAW_TEAR: return "there is a hole at the end of this side";
+    case DOOMSIGHT_FLAW_GAP: return "no line closes the hull here";
+    }
+    return doomsight_kind_text(kind);
 }
 
 #ifdef __cplusplus

@@ -1,5 +1,5 @@
-/* refused WAD MAP [STEP [BUDGET]]: every STEP-th allocation of a build, of a kept one and of a check refused, each in a call of
- * its own. BUDGET is a number, or `exact`. Linked with this heap in the place of doomsight_heap.c: each such call has to answer
+/* refused WAD MAP [STEP [BUDGET]]: every STEP-th allocation of a build, of a kept one, of a check, of an audit and of an answer for
+ * two sectors refused, each in a call of its own. BUDGET is a number, or `exact`. Linked with this heap in the place of doomsight_heap.c: each such call has to answer
  * MEMORY, give all back and leave the table and the certificate alone, or what the handle keeps. */
 #include "doomsight.h"
 #include "wadio.h"
@@ -80,6 +80,36 @@ static long refuse_kept(const doomsight_map *map, size_t cert_size, long step, l
     return keeps;
 }
 
+/* Refuses every STEP-th allocation of an audit, and of an answer for two sectors. */
+static long refuse_heard(const doomsight_map *map, long step, long *tried, long *bad)
+{
+    doomsight_flaw flaws[2], other[2];
+    doomsight_flaw_counts found, again;
+    doomsight_answer answer, same;
+    doomsight_fault f;
+    uint32_t last = (uint32_t)(map->sectors.size / 26) - 1;
+    long audits, answers, i;
+    left = MANY;
+    if (doomsight_audit(map, &options, flaws, 2, &found, &f)) ++*bad;
+    audits = MANY - left;
+    left = MANY;
+    if (doomsight_why(map, &options, 0, last, &answer, &f)) ++*bad;
+    answers = MANY - left;
+    memset(&again, 0xAA, sizeof again);
+    memset(other, 0xAA, sizeof other);
+    for (i = 0; i < audits; i += step, ++*tried) {
+        left = i;
+        if (doomsight_audit(map, &options, other, 2, &again, &f) != DOOMSIGHT_MEMORY || live != 0) ++*bad;
+        if (again.listed != UINT64_C(0xAAAAAAAAAAAAAAAA) || other[0].kind != 0xAAAA || other[1].to_y != (int16_t)0xAAAA) ++*bad;
+    }
+    memset(&same, 0xAA, sizeof same);
+    for (i = 0; i < answers; i += step, ++*tried) {
+        left = i;
+        if (doomsight_why(map, &options, 0, last, &same, &f) != DOOMSIGHT_MEMORY || live != 0 || same.answer != 0xAAAA) ++*bad;
+    }
+    return audits + answers;
+}
+
 int main(int argc, char **argv)
 {
     if (argc < 3) return 64;
@@ -87,7 +117,7 @@ int main(int argc, char **argv)
     doomsight_map map = map_of(wad, argv[2]);
     size_t size = doomsight_table_size(map.sectors.size), room = (size_t)64 << 20, cert_size;
     uint8_t *table = (uint8_t *)malloc(size), *other = (uint8_t *)malloc(size), *cert = (uint8_t *)malloc(room), front[64];
-    long step = argc > 3 ? atol(argv[3]) : 1, builds, keeps, checks, i, bad = 0, tried = 0;
+    long step = argc > 3 ? atol(argv[3]) : 1, builds, keeps, checks, hears, i, bad = 0, tried = 0;
     doomsight_counts c;
     doomsight_fault f;
     char text[DOOMSIGHT_LINE_ROOM];
@@ -112,6 +142,7 @@ int main(int argc, char **argv)
         left = i;
         if (doomsight_check(&map, &options, table, size, cert, cert_size, &c, &f) != DOOMSIGHT_MEMORY || live != 0) bad++;
     }
+    hears = refuse_heard(&map, step, &tried, &bad);
     f.code = DOOMSIGHT_BAD_LUMP;
     f.kind = DOOMSIGHT_LUMP_VERTEX;
     f.a = 7;
@@ -119,7 +150,8 @@ int main(int argc, char **argv)
     if (doomsight_line(&f, text, sizeof text) != DOOMSIGHT_NO_LINE || live != 0) bad++;
     left = -1;
     if (doomsight_line(&f, text, sizeof text) != strlen(text)) bad++;
-    printf("allocations: build %ld keep %ld check %ld, refused %ld, wrong %ld, line %s", builds, keeps, checks, tried, bad, text);
+    printf("allocations: build %ld keep %ld check %ld hear %ld, refused %ld, wrong %ld, line %s", builds, keeps, checks, hears, tried,
+        bad, text);
     free(table);
     free(other);
     free(cert);

@@ -1,5 +1,5 @@
-/* stack WAD MAP [BUDGET [FLAGS]]: how many bytes of stack a build, a kept build with its copies, and a check with its line
- * touch, each in a thread whose stack was painted before. What a thread that does nothing touches is taken off. BUDGET is a
+/* stack WAD MAP [BUDGET [FLAGS]]: how many bytes of stack a build, a kept build with its copies, a check with its line, and an
+ * audit with the answer for two sectors touch, each in a thread whose stack was painted before. What a thread that does nothing touches is taken off. BUDGET is a
  * number, or `exact`. A map that is refused touches what its refusal does. */
 #define _POSIX_C_SOURCE 200809L
 #include "doomsight.h"
@@ -49,6 +49,18 @@ static void *check(void *arg)
     return arg;
 }
 
+static void *hear(void *arg)
+{
+    doomsight_flaw flaws[4];
+    doomsight_flaw_counts found;
+    doomsight_answer answer;
+    doomsight_fault fault;
+    uint32_t last = (uint32_t)(map.sectors.size / 26);
+    doomsight_audit(&map, &options, flaws, 4, &found, &fault);
+    doomsight_why(&map, &options, 0, last ? last - 1 : 0, &answer, &fault);
+    return arg;
+}
+
 /* How many bytes of its stack a thread touches. */
 static size_t touched(void *(*run)(void *))
 {
@@ -69,7 +81,7 @@ static size_t touched(void *(*run)(void *))
 int main(int argc, char **argv)
 {
     struct bytes wad;
-    size_t least, built, kept, checked;
+    size_t least, built, kept, checked, heard;
     if (argc < 3) return 64;
     wad = slurp(argv[1]);
     map = map_of(wad, argv[2]);
@@ -83,8 +95,9 @@ int main(int argc, char **argv)
     built = touched(build) - least;
     kept = touched(keep) - least;
     checked = touched(check) - least;
-    printf("%s stack of build %lu keep %lu check %lu\n", argv[2], (unsigned long)built, (unsigned long)kept,
-        (unsigned long)checked);
+    heard = touched(hear) - least;
+    printf("%s stack of build %lu keep %lu check %lu hear %lu\n", argv[2], (unsigned long)built, (unsigned long)kept,
+        (unsigned long)checked, (unsigned long)heard);
     free(table);
     free(cert);
     free(wad.at);

@@ -2,3 +2,5 @@ pub mod Giving
 pub mod Judging
 pub mod Handles
 pub mod KeptBuilds
+pub mod Saying
+pub mod Auditing

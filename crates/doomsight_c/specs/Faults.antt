@@ -120,6 +120,7 @@ no_view (why.Cert f) = cert_view f
 no_view (why.Check f) = check_view f
 no_view (why.Group t) = two 1 54 t 0
 no_view (why.Unused g) = two 1 55 g 0
+no_view (why.NoSector k) = two 1 56 k 0
 no_view other = two 1 0 0 0
 
 -- the numbers of a refusal of the library

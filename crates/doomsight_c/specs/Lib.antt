@@ -7,3 +7,6 @@ pub mod Handle
 pub mod Piece
 pub mod Whole
 pub mod Keeping
+pub mod Said
+pub mod Flaws
+pub mod Audited

@@ -95,6 +95,7 @@ no_in f =
     else if f.kind == 50 then status.No (why.Check (check.Tree f.a f.at))
     else if f.kind == 54 then status.No (why.Group f.a)
     else if f.kind == 55 then status.No (why.Unused f.a)
+    else if f.kind == 56 then status.No (why.NoSector f.a)
     else pair_in f
 
 -- the status of the numbers of a fault; usage where they are none of the library's
@@ -115,6 +116,7 @@ IsReasonOf (why.Cert f) = ⊤
 IsReasonOf (why.Check f) = ⊤
 IsReasonOf (why.Group t) = ⊤
 IsReasonOf (why.Unused g) = ⊤
+IsReasonOf (why.NoSector k) = ⊤
 IsReasonOf other = ⊥
 
 abbrev pub IsOfLibrary : Status → Type 0

@@ -39,7 +39,8 @@ pub fn two(code: u16, kind: u16, a: u16, b: u16) -> DoomsightFault
     }
 }
 
-fn left_of(side: Side) -> u16
+/// 1 for the left side of a line.
+pub fn left_of(side: Side) -> u16
     ensures { result ≡ bit_of side.left }
 {
     if side.left { 1 } else { 0 }
@@ -217,6 +218,7 @@ fn of_no(why: Why) -> DoomsightFault
         Why::Check(fault) => of_check(fault),
         Why::Group(triangle) => two(1, 54, triangle, 0),
         Why::Unused(group) => two(1, 55, group, 0),
+        Why::NoSector(sector) => two(1, 56, sector, 0),
         _ => two(1, 0, 0, 0),
     }
 }

@@ -2,12 +2,16 @@
 //! keeps anything but the build that a handle of the caller's owns.
 #![tactic(auto)]
 
+mod answer;
 mod asked;
+mod audit;
 mod build;
 mod check;
 mod counts;
+mod ears;
 mod exports;
 mod fault;
+mod flaw;
 mod handle;
 mod keep;
 mod keeping;
@@ -16,9 +20,13 @@ mod line;
 mod loose;
 mod piece;
 mod spell;
+mod tell;
+mod why;
 
+pub use answer::DoomsightAnswer;
 pub use counts::DoomsightCounts;
 pub use fault::DoomsightFault;
+pub use flaw::{DoomsightFlaw, DoomsightFlawCounts};
 pub use handle::DoomsightKept;
 pub use keep::kept_is_given;
 pub use line::faults_tell_statuses;

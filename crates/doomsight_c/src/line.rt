@@ -233,6 +233,9 @@ fn of_no(fault: &DoomsightFault) -> Status
     if fault.kind == 55 {
         return Status::No(Why::Unused(fault.a));
     }
+    if fault.kind == 56 {
+        return Status::No(Why::NoSector(fault.a));
+    }
     of_pair(fault)
 }
 
