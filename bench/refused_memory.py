@@ -20,6 +20,9 @@ Orders in which two names mean one file are refused; there each run has to end b
 before. So has each run in which a call of the system that asks what stands under a name fails (`strace` makes it fail, where it is there). And an
 output whose name is that under which another one is written at first is whole in the end, and so is the other.
 
+Of some orders it is told how many threads they start: builds by three workers, exact ones too, and the judges of `all`, by certificates of
+versions 2 and 3. Builds by one worker start none.
+
 And certificates whose counts no bytes bear out: `check` asks for fewer bytes, all requests together, than for the whole certificate that
 they were made of.
 The status is 1 where anything is otherwise.
@@ -112,10 +115,12 @@ ORDERS = [
     ("build u.wad MAP01 out.wad --cert new.cert --report report --workers 3", ["out.wad", "new.cert", "report"]),
     ("build u.wad MAP01 out.wad --cert new.cert --report report --workers 1", ["out.wad", "new.cert", "report"]),
     ("build u.wad MAP01 out.wad --budget 1", ["out.wad"]),
+    ("build u.wad MAP01 out.wad --exact --cert new.cert --workers 3", ["out.wad", "new.cert"]),
     ("grid 2 --workers 3", []),
     ("zero u.wad MAP01 out.wad", ["out.wad"]),
     ("all u.wad out.wad --report report --workers 1", ["out.wad", "report"]),
     ("all open.wad out.wad --refused clear --report report --workers 1", ["out.wad", "report"]),
+    ("all u.wad out.wad --exact --workers 3", ["out.wad"]),
     ("check built.wad MAP01 u.cert", []),
     ("verify built.wad --report report --workers 3", ["report"]),
     ("verify u.wad --report report --workers 1", ["report"]),
@@ -132,7 +137,6 @@ ORDERS = [
     ("draw u.wad MAP01 out.svg", ["out.svg"]),
     ("draw u.wad MAP01 out.svg --faults", ["out.svg"]),
     ("draw built.wad MAP01 out.svg 0", ["out.svg"]),
-    ("draw built.wad MAP01 out.svg --heat", ["out.svg"]),
     ("draw built.wad MAP01 out.svg --heat", ["out.svg"]),
     ("draw u.wad MAP01 out.svg 0 1", ["out.svg"]),
     ("draw u.wad MAP01 out.svg 0 2", ["out.svg"]),
@@ -158,6 +162,17 @@ BESIDE = [
     ("build u.wad MAP01 .r.doomsight-0 --report r --workers 1", [".r.doomsight-0", "r"], 0),
     ("build u.wad MAP01 .c.doomsight-0 --cert c --workers 1", [".c.doomsight-0", "c"], 0),
     ("build u.wad MAP01 w --report .w.doomsight-0 --workers 1", ["w", ".w.doomsight-0"], 5),
+]
+
+# Orders, and how many threads they start at least. The judges of `all` are as many as there are processors, whatever the workers.
+THREADS = [
+    ("build u.wad MAP01 out.wad --workers 3", 2),
+    ("build u.wad MAP01 out.wad --exact --workers 3", 2),
+    ("verify built.wad --workers 3", 2),
+    ("all u.wad out.wad --workers 1", 1),
+    ("all u.wad out.wad --exact --workers 1", 1),
+    ("build u.wad MAP01 out.wad --workers 1", 0),
+    ("build u.wad MAP01 out.wad --exact --workers 1", 0),
 ]
 
 # Where the worked certificate of U has a count, how many bytes of it, and where it is cut off, so that the count can't be borne out.
@@ -345,6 +360,19 @@ def beside(folder):
     return wrong
 
 
+def threads(folder):
+    """Tries whether those who share work are set to it: how many threads an order starts, and none where one worker builds."""
+    wrong, processors = False, len(os.sched_getaffinity(0))
+    for words, least in THREADS:
+        run = folder.ordered(0, words, [])
+        judges_alone = processors == 1 and words.startswith("all ")
+        print("`%s`: %d threads" % (words, run.started))
+        if run.status != 0 or (run.started < least and not judges_alone) or (least == 0 and run.started):
+            print("wrong: %s: %s" % (words, run))
+            wrong = True
+    return wrong
+
+
 def worked_cert():
     """The worked certificate of U, as the tests have it."""
     with open(os.path.join(CRATES, "worked_maps", "src", "certs.rt")) as held:
@@ -379,6 +407,8 @@ def main():
         print()
         wrong = one_file(folder) or wrong
         wrong = beside(folder) or wrong
+        print()
+        wrong = threads(folder) or wrong
         print()
         wrong = counts(folder) or wrong
     sys.exit(1 if wrong else 0)
