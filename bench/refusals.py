@@ -4,9 +4,10 @@
     bench/refusals.py
 
 `Memory` has a private field, an `AllocError`: who answers want of memory was handed one. But `AllocError` itself is a public
-name of the library, and a word of a fault can be made too. So here the sources are read, but for those of tests: the name
-may stand as a type, in an import, as `AllocError::from` and in a pattern, and the kinds of faults that tell want of memory
-nowhere but at the edge. The three lines of EDGE are all that may make one. The status is 1 where another line does.
+name of the library. So are `AllocFailed` and `SpawnError`, which turn into one, and have a public field and no other. And a
+word of a fault can be made too, or of the system's number for it. So here the sources are read, but for those of tests. The
+names may stand as types, in an import, as `AllocError::from` and in a pattern, and the kinds of faults that tell want of
+memory nowhere but at the edge. The three lines of EDGE are all that may make one. The status is 1 where another line does.
 """
 import glob
 import os
@@ -21,8 +22,12 @@ EDGE = {
     ("shelf_io/src/refused.rt", "ErrorKind::OutOfMemory => Some(AllocError.into()),"),
     ("order_words/src/wanting.rt", "ErrorKind::OutOfMemory => Some(AllocError.into()),"),
 }
-# `Result<(), AllocError>`, `From<AllocError>`, `(refused: AllocError)`, `AllocError::from`, `Err(AllocError) =>`
-HARMLESS = re.compile(r"(?<=<)AllocError\b(?=>)|(?<=, )AllocError\b(?=>)|(?<=: )AllocError\b(?=\))|AllocError::from\b|Err\(AllocError\) =>")
+# `Result<(), AllocError>`, `From<AllocError>`, `(refused: AllocError)`, `AllocError::from`, `Err(AllocError) =>`; `From<AllocFailed<T>>`
+HARMLESS = re.compile(
+    r"(?<=<)AllocError\b(?=>)|(?<=, )AllocError\b(?=>)|(?<=: )AllocError\b(?=\))|AllocError::from\b|Err\(AllocError\) =>"
+    r"|(?<=From<)AllocFailed<\w+>(?=>)|(?<=: )AllocFailed<\w+>(?=\))")
+# What can be written without a refusal, and is one or is turned into one.
+MAKES = re.compile(r"AllocError|AllocFailed|SpawnError|OutOfMemory|from_raw_os_error")
 
 
 def code(text):
@@ -45,7 +50,7 @@ def main():
                 continue
             if (name, line.strip()) in EDGE:
                 edge.add((name, line.strip()))
-            elif "AllocError" in HARMLESS.sub("", line) or "OutOfMemory" in line:
+            elif MAKES.search(HARMLESS.sub("", line)):
                 found.append(f"crates/{name}:{number}: {line.strip()}")
     for line in found:
         print(f"makes want of memory: {line}")
