@@ -86,9 +86,8 @@ fn is_given_standard_output(file: &Option<Text>) -> bool {
 fn writes_to_standard_output(order: &Order) -> bool {
     match order {
         Order::Zero { out, .. } | Order::Draw { out, .. } => is_standard_output(out.as_str()),
-        Order::Verify { report, .. } | Order::Maps { report, .. } => {
-            is_given_standard_output(report)
-        }
+        Order::Audit { report, .. } | Order::Verify { report, .. } | Order::Maps { report, .. } =>
+            is_given_standard_output(report),
         Order::Build {
             out,
             cert,
