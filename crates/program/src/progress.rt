@@ -38,7 +38,9 @@ impl<P: Print> Progress<P> {
     /// Says so where it was told of no map, and where a map that is refused keeps bits that may be wrong by now.
     pub fn end(&self) {
         if !self.has_told.get() {
-            let _ = self.to.println("no map of Doom's or Hexen's format");
+            let _ = self
+                .to
+                .println("no map of Doom's, Hexen's or UDMF's format");
         }
         if self.has_kept.get() {
             let _ = self.to.println(
