@@ -30,12 +30,12 @@ fn first_of(
     ensures first { IfOk result (HasFirstWrong (map_of plan.now) reject.now) }
     ensures refusals { IfErr result (IsAuditRefusal (map_of plan.now)) }
 {
-    match first {
-        Some(pair) => {
-            let by = sight_of_pair(alloc, plan, pair)?;
-            Ok(Some(FirstWrong { pair, by }))
-        }
-        None => Ok(None),
+    let Some(pair) = first else {
+        return Ok(None);
+    };
+    match sight_of_pair(alloc, plan, pair) {
+        Ok(by) => Ok(Some(FirstWrong { pair, by })),
+        Err(refusal) => Err(refusal),
     }
 }
 
