@@ -76,6 +76,7 @@ module _ (m : Map) (pair : Pair) where
 
 denied_by_reading : (read : Result Map Status) (pair : Pair) (s : Status) → IsOfBytes s → Makes map_of (Err s) read → DeniesRead read pair s
 denied_by_reading read pair (status.BadLump f) h made = subst (λ r. DeniesRead r pair (status.BadLump f)) (sym made) refl
+denied_by_reading read pair (status.BadText f) h made = subst (λ r. DeniesRead r pair (status.BadText f)) (sym made) refl
 denied_by_reading read pair (status.Limit b) h made = subst (λ r. DeniesRead r pair (status.Limit b)) (sym made) refl
 denied_by_reading read pair (status.NotWad f) h made = subst (λ r. DeniesRead r pair (status.NotWad f)) (sym made) refl
 denied_by_reading read pair (status.NoMap f) h made = subst (λ r. DeniesRead r pair (status.NoMap f)) (sym made) refl

@@ -76,8 +76,10 @@ fn check_sound(alloc: Global, plan: &Plan, reject: &[u8], cert: &[u8]) -> Result
 fn check_plan(alloc: Global, plan: &Plan, reject: &[u8], cert: &[u8]) -> Result<Totals, Status>
     ensures { ChecksMap (map_of plan.now) reject.now cert.now result }
 {
-    audit_lines_of(alloc, plan)?;
-    check_sound(alloc, plan, reject, cert)
+    match audit_lines_of(alloc, plan) {
+        Ok(()) => check_sound(alloc, plan, reject, cert),
+        Err(refusal) => Err(refusal),
+    }
 }
 
 /// The counts of a yes, or the numbers of why it is none.
