@@ -138,6 +138,7 @@ audit_for p plan all counts h = record { plan = p; is_plan = plan; is_read = ref
 
 refused_by_reading : (read : Result Map Status) (s : Status) → IsOfBytes s → Makes map_of (Err s) read → RefusesReading read s
 refused_by_reading read (status.BadLump f) h made = subst (λ r. RefusesReading r (status.BadLump f)) (sym made) refl
+refused_by_reading read (status.BadText f) h made = subst (λ r. RefusesReading r (status.BadText f)) (sym made) refl
 refused_by_reading read (status.Limit b) h made = subst (λ r. RefusesReading r (status.Limit b)) (sym made) refl
 refused_by_reading read (status.NotWad f) h made = subst (λ r. RefusesReading r (status.NotWad f)) (sym made) refl
 refused_by_reading read (status.NoMap f) h made = subst (λ r. RefusesReading r (status.NoMap f)) (sym made) refl
