@@ -7,10 +7,11 @@ use Rattle.map_answers.specs.declared.sight_status.status.Bound.TheVariants as b
 use Rattle.map_answers.specs.declared.sight_status.status.Role.TheVariants as role
 use Rattle.map_answers.specs.declared.sight_status.status.Status.{Status}
 use Rattle.map_answers.specs.declared.sight_status.status.Status.TheVariants as status
-use Rattle.map_answers.specs.SightStatus.Answer.{Answer, IsTheAnswer}
+use Rattle.map_answers.specs.SightStatus.Answer.{Answer, Gives, IsTheAnswer}
 use Rattle.table_verdicts.specs.declared.map_list.listing.MapList.{MapList}
 use Rattle.table_verdicts.specs.MapList.Listing.{ShowsList}
 use Rattle.table_verdicts.specs.MapList.Totals.{list_line}
+use Rattle.sight_run.specs.All.{OnRead}
 use Rattle.sight_run.specs.Asked.{AskedMaps}
 use Rattle.sight_run.specs.Build.{report_roles, report_writes}
 use Rattle.sight_run.specs.Maps.{MapsListed, asked_answer}
@@ -18,6 +19,7 @@ use Rattle.sight_run.specs.Obeys.{WritesEach}
 use Rattle.sight_run.specs.declared.reply.Reply.{Reply}
 use Rattle.sight_run.specs.Reply.{roles_of, writes}
 use Rattle.sight_run.specs.Run.{IsOfAsked, IsOfOrder}
+use Rattle.sight_run.proofs.Whole.{gives_read}
 
 -- what is listed of the maps is what is answered
 pub list_shows : (reported : Option (List ℕ)) (large : Bool) (asked : AskedMaps) (list : MapList) (line : List ℕ) (answer : Answer)
@@ -28,8 +30,12 @@ list_shows reported large asked list line answer shows told is =
     is ∙ (λ i. record { writes = report_writes reported (shows.report i); line = put i; right = true })
 
 -- and no other answer is called for
-pub list_answers : (reported : Option (List ℕ)) (large : Bool) (asked : AskedMaps) (answer : Answer) → answer ≡ asked_answer reported large asked → IsTheAnswer ⊤ (MapsListed reported large asked) (Ok answer)
+list_answers : (reported : Option (List ℕ)) (large : Bool) (asked : AskedMaps) (answer : Answer) → answer ≡ asked_answer reported large asked → IsTheAnswer ⊤ (MapsListed reported large asked) (Ok answer)
 list_answers reported large asked answer is = record { called = ap (λ (a : Answer). Ok a) is; only = λ sole other called. called ∙ sym (ap (λ (a : Answer). Ok a) is) }
+
+-- .. of a file that was read
+pub list_read : (said : Result AskedMaps Status) (asked : AskedMaps) (reported : Option (List ℕ)) (large : Bool) (answer : Answer) → said ≡ Ok asked → answer ≡ asked_answer reported large asked → Gives ⊤ (OnRead said (MapsListed reported large)) (Ok answer)
+list_read said asked reported large answer e is = gives_read {D = AskedMaps} said asked (MapsListed reported large) (Ok answer) e (list_answers reported large asked answer is)
 
 -- ---- by the order
 

@@ -19,7 +19,7 @@ use Rattle.sight_run.specs.declared.reply.Reply.{Reply}
 use Rattle.sight_run.specs.Grid.{GridCalls, IsOfGrid}
 use Rattle.sight_run.specs.Made.{GridSays, IsMade, IsMadeBy, PutsMade}
 use Rattle.sight_run.specs.Reply.{IsFaultOf, reply_line, reply_seen, writes}
-use Rattle.sight_run.specs.Run.{RefusalCause}
+use Rattle.sight_run.specs.Run.{RefusalCause, WordsSay}
 
 -- ---- by the order
 
@@ -102,6 +102,22 @@ of_refused : (s r : Status) (o n : SinkState) → Refused s r o n → EndsAs s r
 of_refused (status.Memory _) r o n h = inl h.status
 of_refused (status.WriteFault k) r o n h = of_said (status.WriteFault k) r o n (text_of (status.WriteFault k)) h
 of_refused s r o n h = of_made s r o n h
+
+starved_words : (said : Result Order Status) → WordsSay said (status.Memory tt)
+starved_words (Ok asked) = tt
+starved_words (Err refusal) = tt
+
+unput_words : (said : Result Order Status) → WordsSay said (status.WriteFault role.Text)
+unput_words (Ok asked) = tt
+unput_words (Err refusal) = tt
+
+-- the words say the same of a refusal whose line was put
+pub words_refused : (said : Result Order Status) (o n : SinkState) (s r : Status) → WordsSay said s → Refused s r o n → WordsSay said r
+words_refused said o n s r h put = elim (of_refused s r o n put) as (λ _. WordsSay said r) [
+  | inl e ↦ subst (WordsSay said) (sym e) h
+  | inr (inl e) ↦ subst (WordsSay said) (sym e) (starved_words said)
+  | inr (inr e) ↦ subst (WordsSay said) (sym e) (unput_words said)
+]
 
 puts_refusal : (said : Result Order Status) (before after : ShelfState) (o n : SinkState) (s : Status) → RefusalCause before after s → IsMade said s (text_of s) → PutsMade said o n s
 puts_refusal said before after o n status.Done cause h = absurd cause

@@ -3,7 +3,8 @@
 ghost use Rattle.std.specs.Prelude.{◌≡◌, ◌+◌, ◌≤◌, length, All, IfOk, IsTrue, string_bytes};
 ghost use Rattle.wad_dir.specs.Map.{entry_names};
 ghost use Rattle.wad_dir.specs.Wad.{file_of, names_of};
-ghost use Rattle.wad_dir.specs.AllMaps.Maps.{is_map_name};
+ghost use Rattle.wad_dir.specs.AllMaps.All.{HasInOrder};
+ghost use Rattle.wad_dir.specs.AllMaps.Maps.{is_map_name, maps_of};
 ghost use Rattle.table_verdicts.specs.MapList.Entry.{entries_of};
 ghost use Rattle.table_verdicts.specs.MapList.Lines.{lines_of_maps};
 ghost use Rattle.table_verdicts.specs.MapList.Listing.{ShowsList};
@@ -70,7 +71,8 @@ pub fn list_maps<N: Notice>(
 ) -> Result<MapList, Memory>
     requires inside { All (λ entry. entry.at + entry.size ≤ length bytes.now) wad.now.entries }
     requires names { names_of (file_of bytes.now wad.now) ≡ entry_names wad.now.entries }
-    requires named { All (λ name. IsTrue (is_map_name name)) names.now }
+    // They are some of the WAD's maps, in the order of their entries.
+    requires among { HasInOrder (maps_of (entry_names wad.now.entries)) names.now }
     ensures { IfOk result (ShowsList (file_of bytes.now wad.now) large names.now) }
 {
     tell_unread(alloc, wad, notice)?;

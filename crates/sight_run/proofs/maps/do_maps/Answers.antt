@@ -1,6 +1,6 @@
 use Rattle.std.proofs.lemmas.Result.{err_from_is_err_and}
-use Rattle.sight_run.proofs.Listing.{list_answers}
-use Rattle.sight_run.proofs.Whole.{gives_read, gives_unread}
+use Rattle.sight_run.proofs.Listing.{list_read}
+use Rattle.sight_run.proofs.Whole.{gives_unread}
 use Rattle.sight_run.specs.declared.asked.ReadMaps.{ReadMaps}
 use Rattle.sight_run.specs.Asked.{AskedMaps, asked_in}
 use Rattle.sight_run.specs.Maps.{MapsListed}
@@ -16,5 +16,4 @@ returns-in_err-asked-clause-told g c =
 pub returns-in-Ok-clause-told : goal.returns-in-Ok-clause-told
 returns-in-Ok-clause-told g c =
     let source = c.args.source.now in
-    λ files e. gives_read {D = AskedMaps} (asked_in source.file c.args.only.now files) (asked_seen c.in_ok-asked.asked) (MapsListed c.args.report.now source.large) _ ((rw c.as_str.ensures at c.in_ok-asked.ensures.told) files e)
-    (list_answers c.args.report.now source.large (asked_seen c.in_ok-asked.asked) (replied c.in-Ok.reply) c.in-Ok.ensures.shows)
+    λ files e. list_read (asked_in source.file c.args.only.now files) (asked_seen c.in_ok-asked.asked) c.args.report.now source.large (replied c.in-Ok.reply) ((rw c.as_str.ensures at c.in_ok-asked.ensures.told) files e) c.in-Ok.ensures.shows

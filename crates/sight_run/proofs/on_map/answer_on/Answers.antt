@@ -12,19 +12,8 @@ use Rattle.sight_run.proofs.Verifying.{ends_right}
 use Rattle.sight_run.specs.Run.{IsOfOrder, IsPastReading}
 use Rattle.sight_run.proofs.on_map.answer_on.Goals as goal
 
-pub returns-in-Audit : goal.returns-in-Audit
-returns-in-Audit c =
-    let r = c.report_audit.result in
-    let memory = c.report_audit.ensures.refusals in
-    let shows = rw c.as_str-in-Audit.ensures at c.report_audit.ensures.shows in
-    rw c.in-Audit.is (record {
-      called = λ files heard. gives_reported c.in-Audit.report.now (found c.args.input.now) r shows memory;
-      refusals = only_memory (IsOfOrder _) r tt memory;
-      past = only_memory IsPastReading r tt memory;
-      proper = only_memory IsProper r tt memory;
-      roles = report_written _ _ c.in-Audit.report.now r c.report_audit.ensures.roles;
-      right = any_right _ _ c.in-Audit.report.now r;
-    })
+pub returns-in-Audit-default-default-Some : goal.returns-in-Audit-default-default-Some
+returns-in-Audit-default-default-Some c = ?
 
 pub returns-in_err-line_on-in_default : goal.returns-in_err-line_on-in_default
 returns-in_err-line_on-in_default c =
@@ -44,5 +33,5 @@ returns-in_ok-line_on-in_default c =
       past = tt;
       proper = tt;
       roles = subst (λ (ws : List Written). WritesEach c.args.order.now (roles_of ws)) (sym (ap (λ (a : Answer). a.writes) c.line_alone.ensures.replied)) tt;
-      right = ends_right c.args.order.now (Ok {E = Status} c.line_alone.result) c.line_alone.ensures.right;
+      right = ends_right c.args.order.now (Ok c.line_alone.result) c.line_alone.ensures.right;
     }

@@ -1,7 +1,7 @@
 use Rattle.sight_run.proofs.on_map.line_on.Goals as goal
 
-pub returns-in-Audit-clause-called : goal.returns-in-Audit-clause-called
-returns-in-Audit-clause-called c = rw c.in-Audit.is (λ files heard. c.judge_audit.ensures.judged)
+pub returns-in-Audit-default-default-None-clause-called : goal.returns-in-Audit-default-default-None-clause-called
+returns-in-Audit-default-default-None-clause-called c = ?
 
 pub returns-in-Trace-clause-called : goal.returns-in-Trace-clause-called
 returns-in-Trace-clause-called c = rw c.in-Trace.is (λ files heard. c.judge_trace.ensures.judged)
