@@ -1,4 +1,4 @@
-use Rattle.std.proofs.Common.{List, Ok, sym, ap, subst}
+use Rattle.std.proofs.Common.{ℕ, List, Option, Ok, sym, ap, subst}
 use Rattle.std.proofs.lemmas.Result.{err_from_is_err_and}
 use Rattle.map_answers.specs.SightStatus.Answer.{Answer, IsTheAnswer, Written}
 use Rattle.map_answers.specs.Views.{found}
@@ -7,13 +7,18 @@ use Rattle.sight_run.specs.Reply.{roles_of}
 use Rattle.map_answers.specs.declared.sight_status.status.Status.{Status}
 use Rattle.map_answers.specs.declared.sight_status.status.Status.TheVariants as status
 use Rattle.map_answers.specs.SightStatus.Status.{IsProper}
-use Rattle.sight_run.proofs.Reporting.{any_right, gives_reported, only_memory, report_written}
+use Rattle.sight_run.proofs.Reporting.{IsReported, reported}
 use Rattle.sight_run.proofs.Verifying.{ends_right}
 use Rattle.sight_run.specs.Run.{IsOfOrder, IsPastReading}
 use Rattle.sight_run.proofs.on_map.answer_on.Goals as goal
 
 pub returns-in-Audit-default-default-Some : goal.returns-in-Audit-default-default-Some
-returns-in-Audit-default-default-Some c = ?
+returns-in-Audit-default-default-Some c =
+    let x = c.in-Audit-default-default-Some in
+    let r = c.report_audit.result in
+    let memory = c.report_audit.ensures.refusals in
+    let shows = rw c.as_str-in-Audit-default-default-Some.ensures at c.report_audit.ensures.shows in
+    rw x.is (subst (λ (report : Option (List ℕ)). IsReported x.wad x.map report (found c.args.input.now) r) (sym x.report-is) (reported x.wad x.map x.report (found c.args.input.now) r shows memory c.report_audit.ensures.roles))
 
 pub returns-in_err-line_on-in_default : goal.returns-in_err-line_on-in_default
 returns-in_err-line_on-in_default c =
