@@ -167,10 +167,10 @@ fn gives(alloc: Global, sizes: &Sizes, pieces: &[&[u8]], whole: &[Part]) -> bool
 
 // Whether pieces have this fault.
 fn fails(alloc: Global, sizes: &Sizes, pieces: &[&[u8]], fault: CertFault) -> bool {
-    match parts_in(alloc, sizes, pieces) {
-        Ok(_) => false,
-        Err(other) => other == fault,
-    }
+    let Err(other) = parts_in(alloc, sizes, pieces) else {
+        return false;
+    };
+    other == fault
 }
 
 // Whether the bytes cut in two here give these parts.

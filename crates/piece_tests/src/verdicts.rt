@@ -121,8 +121,10 @@ fn is_judged_cut(
     requires at { at ≤ length bytes.now }
 {
     let (front, back) = bytes.split_at(at);
-    let judged = judged_cut(alloc, plan, table, front, back)?;
-    Ok(judged == answer)
+    match judged_cut(alloc, plan, table, front, back) {
+        Ok(judged) => Ok(judged == answer),
+        Err(memory) => Err(memory),
+    }
 }
 
 // Whether each cut of the bytes in two gives this answer.
