@@ -1,5 +1,5 @@
 -- What an audit with a report ends with.
-use Rattle.std.proofs.Common.{◌≡◌, ℕ, Bool, true, false, List, [], ◌∷◌, Option, Some, Result, Ok, Err, refl, sym, subst}
+use Rattle.std.proofs.Common.{◌≡◌, ℕ, Bool, true, false, List, [], ◌∷◌, Option, None, Some, Result, Ok, Err, refl, sym, subst}
 use Rattle.std.specs.Prelude.{IfErr, IfOk, ⊤, string_bytes}
 use Rattle.std.specs.Result.{IsErr}
 use Rattle.order_words.specs.declared.order.Order.{Order}
@@ -18,7 +18,7 @@ use Rattle.sight_run.specs.Audit.{ReportCalls, ShowsAudit, TellsAudit}
 use Rattle.shelf_io.specs.Shelf.{Files}
 use Rattle.map_answers.specs.SightStatus.Status.{IsProper}
 use Rattle.sight_run.specs.Heard.{Heard}
-use Rattle.sight_run.specs.Obeys.{CallsOn, HasOneOn, WritesEach}
+use Rattle.sight_run.specs.Obeys.{CallsOn, HasOneOn, IsOfLine, WritesEach}
 use Rattle.sight_run.specs.declared.reply.Reply.{Reply}
 use Rattle.sight_run.specs.declared.reply.Told.{Told}
 use Rattle.sight_run.specs.Reply.{replied, reply_seen, roles_of, writes}
@@ -80,3 +80,9 @@ reported wad name report found r shows memory roles = record {
   roles = report_written wad name report r roles;
   right = any_right wad name report r;
 }
+
+-- .. and of its line, where no report is asked for
+pub line_audit : (wad : Source) (name : List ℕ) (report : Option (List ℕ)) (found : LocatedMap) (said : Result Answer Status) → IsOfLine (order.Audit wad name report) → Gives ⊤ (AuditCalls found.map) said
+    → (files : Files) (heard : Heard) → Gives (HasOneOn (order.Audit wad name report) (Ok found)) (CallsOn (order.Audit wad name report) files heard found) said
+line_audit wad name None found said line h files heard = h
+line_audit wad name (Some report) found said line h files heard = absurd line

@@ -64,13 +64,28 @@ fn line_on(alloc: Global, order: &Order, input: &Input) -> Result<String, Status
     let plan = &input.plan;
     match order {
         Order::Ray { ray, .. } => judge_ray(alloc, plan, ray),
-        Order::Audit { report: None, .. } => judge_audit(alloc, plan),
+        Order::Audit { .. } => judge_audit(alloc, plan),
         Order::Trace { ray, .. } => judge_trace(alloc, plan, ray),
         Order::Need { map, .. } => judge_need(alloc, plan, map.as_str()),
         Order::Sound { map, pair, .. } => judge_sound(alloc, input, map.as_str(), pair),
         Order::Why { pair, budget, .. } => judge_why(alloc, plan, *budget, *pair),
         _ => unreachable!(),
     }
+}
+
+/// The same, as a reply.
+fn line_reply(alloc: Global, order: &Order, input: &Input) -> Result<Reply, Status>
+    requires whole { IsWhole input.now }
+    requires dampers { HasDampers input.now }
+    requires line { IsOfLine order.now }
+    ensures called { (files : Files) (heard : Heard) → Gives (HasOneOn order.now (Ok (found input.now))) (CallsOn order.now files heard (found input.now)) (reply_seen result) }
+    ensures refusals { IfErr result (IsOfOrder order.now) }
+    ensures past { IfErr result IsPastReading }
+    ensures proper { IfErr result IsProper }
+    ensures roles { IfOk result (λ reply. WritesEach order.now (roles_of (writes reply))) }
+    ensures right { IfOk result (λ reply. EndsRight order.now reply.right) }
+{
+    Ok(line_alone(alloc, line_on(alloc, order, input)?))
 }
 
 /// What an order calls for that is answered from its map alone.
@@ -90,11 +105,11 @@ fn answer_on(alloc: Global, order: &Order, input: &Input) -> Result<Reply, Statu
         Order::Draw { map, out, view, .. } => {
             make_drawing(alloc, input, map.as_str(), out.as_str(), *view)
         }
-        Order::Audit {
-            report: Some(report),
-            ..
-        } => report_audit(alloc, &input.plan, report.as_str()),
-        _ => Ok(line_alone(alloc, line_on(alloc, order, input)?)),
+        Order::Audit { report, .. } => match report {
+            Some(out) => report_audit(alloc, &input.plan, out.as_str()),
+            None => line_reply(alloc, order, input),
+        },
+        _ => line_reply(alloc, order, input),
     }
 }
 
