@@ -13,8 +13,8 @@ returns-in_err-line_on c =
     let said = c.in_err-line_on.ensures in
     rw (p.1, p.2) (record { called = said.called; refusals = said.refusals; past = said.past; proper = said.proper; roles = tt; right = tt })
 
-pub returns-in_ok-line_on : goal.returns-in_ok-line_on
-returns-in_ok-line_on c =
+pub returns : goal.returns
+returns c =
     let said = c.in_ok-line_on.ensures in
     record {
       called = λ files heard. subst (λ (answer : Answer). IsTheAnswer (HasOneOn c.args.order.now (Ok (found c.args.input.now))) (CallsOn c.args.order.now files heard (found c.args.input.now)) (Ok answer)) (sym c.line_alone.ensures.replied) (said.called files heard);
