@@ -19,13 +19,22 @@ use sight_run::{Notice, Status, run};
 use std::alloc::Global;
 use std::thread::Threads;
 
+/// Whether the order is a build of one map with a report.
+fn is_reported(order: &Order) -> bool
+    ensures { result ≡ is_reported (Some order.now) }
+{
+    match order {
+        Order::Build { report, .. } => report.is_some(),
+        _ => false,
+    }
+}
+
 /// Whether the words ask for a build of one map with a report.
 fn asks_for_report(alloc: Global, words: &[String]) -> Result<bool, Memory>
     ensures { IfOk result (λ asks. asks ≡ is_reported (order_of (map string_bytes words.now))) }
 {
     match read_words(alloc, words) {
-        Ok(Order::Build { report, .. }) => Ok(report.is_some()),
-        Ok(_) => Ok(false),
+        Ok(order) => Ok(is_reported(&order)),
         Err(OrderFault::Usage) => Ok(false),
         Err(OrderFault::Memory(ref memory)) => Err(*memory),
     }
