@@ -4,14 +4,14 @@ use crate::table::ran;
 use listeners::{Finding, FirstSet, Keep, Lines, Listener, Totals, pieces, words_of};
 use shelf_io::MemSink;
 use sight_names::Memory;
-use sight_run::{Fate, NoNotice, Notice, Status};
+use sight_run::{Fate, NoNotice, Notice, Status, code};
 use std::alloc::{AllocError, Global};
 use std::cell::RefCell;
 use std::test::Fail;
 use std::thread::Threads;
 use worked_maps::stages::{Stage, stage_of};
 
-// Runs the words of a line on the stage.
+// The exit code of a run of the words of a line on the stage.
 fn run_heard<R: Threads + Sync, N: Notice>(
     rt: &R,
     alloc: Global,
@@ -19,9 +19,9 @@ fn run_heard<R: Threads + Sync, N: Notice>(
     line: &str,
     listeners: &mut Vec<Box<dyn Listener>>,
     notice: &N,
-) -> Result<Status, AllocError> {
+) -> Result<u8, AllocError> {
     let mut out = MemSink::new(alloc, Vec::new(alloc));
-    ran(
+    match ran(
         rt,
         alloc,
         line,
@@ -29,7 +29,10 @@ fn run_heard<R: Threads + Sync, N: Notice>(
         &mut out,
         listeners,
         notice,
-    )
+    ) {
+        Ok(status) => Ok(code(&status)),
+        Err(refused) => Err(refused),
+    }
 }
 
 /// Hears two findings, and finds no memory for a third.
@@ -75,8 +78,8 @@ fn a_listener_that_has_heard_enough_goes_and_its_text_begins_the_report(
     let mut listeners: Vec<Box<dyn Listener>> = Vec::new(alloc);
     push_three(alloc, &mut listeners)?;
     let line = "build a MAP01 b --report r";
-    let status = run_heard(&rt, alloc, &mut stage, line, &mut listeners, &NoNotice)?;
-    assert!(rt; status == Status::Done && listeners.len() == 2);
+    let found = run_heard(&rt, alloc, &mut stage, line, &mut listeners, &NoNotice)?;
+    assert!(rt; found == 0 && listeners.len() == 2);
     let report = stage.shelf.bytes("r").unwrap_or(b"");
     let left = b"total set 1 clear 5 listed 0\nset 0 2\n".as_slice();
     assert_eq!(rt; report.strip_prefix(b"set 0 2\n"), Some(left));
@@ -107,8 +110,8 @@ fn no_file_is_made_where_a_listener_finds_no_memory(rt: HostRuntime) -> Result<(
     let mut listeners: Vec<Box<dyn Listener>> = Vec::new(alloc);
     push_two(alloc, &mut listeners)?;
     let line = "build a MAP01 b --cert c --report r";
-    let status = run_heard(&rt, alloc, &mut stage, line, &mut listeners, &NoNotice)?;
-    assert!(rt; matches!(status, Status::Memory(_)) && listeners.len() == 2);
+    let found = run_heard(&rt, alloc, &mut stage, line, &mut listeners, &NoNotice)?;
+    assert!(rt; found == 12 && listeners.len() == 2);
     assert!(rt; stage.shelf.bytes("b").is_none() && stage.shelf.bytes("c").is_none());
     // the first one heard the third finding, which is that 0 and 2 don't see each other
     let mut text = [0; 16];
@@ -163,8 +166,8 @@ fn a_notice_is_told_of_maps_of_udmf_before_the_lines(rt: HostRuntime) -> Result<
     let told = Told {
         text: RefCell::new(String::new(alloc)),
     };
-    let status = run_heard(&rt, alloc, &mut stage, "all a b", &mut none, &told)?;
-    assert!(rt; status == Status::Done);
+    let found = run_heard(&rt, alloc, &mut stage, "all a b", &mut none, &told)?;
+    assert_eq!(rt; found, 0);
     assert_eq!(rt;
         told.text.into_inner().as_str(),
         "over MAP02\nover E1M9\nMAP01 set 0 clear 3 listed 0 replaced 0 bytes\nMAP03 set 1 clear 5 listed 0 replaced 0 bytes\n"
