@@ -3,7 +3,6 @@
 
 use crate::running::run_on;
 use group_job::sight_workers::OpenGate;
-use sight_run::{Role, Status, code};
 use std::alloc::{AllocError, Global};
 use std::test::Fail;
 use std::thread::Threads;
@@ -72,7 +71,7 @@ const PIECE: usize = 65_536;
 struct Ran {
     before: Stage,
     after: Stage,
-    status: Status,
+    status: u8,
 }
 
 // What a row says that there is, twice, where these calls are to fail; nothing has run yet.
@@ -83,7 +82,7 @@ fn set_up(alloc: Global, row: &str, fails: &str) -> Result<Ran, AllocError> {
     Ok(Ran {
         before,
         after,
-        status: Status::Done,
+        status: 0,
     })
 }
 
@@ -169,16 +168,16 @@ fn left_by<'a>(
 }
 
 // How a run ends of which a call about this file fails, and the line that it puts.
-fn end_of(alloc: Global, kind: &str, name: &str) -> Result<(Status, Vec<u8>), AllocError> {
-    let (role, word) = match name {
-        "c" => (Role::Cert, "cert"),
-        "r" => (Role::Report, "report"),
-        "p" => (Role::Picture, "picture"),
-        _ => (Role::Wad, "wad"),
+fn end_of(alloc: Global, kind: &str, name: &str) -> Result<(u8, Vec<u8>), AllocError> {
+    let word = match name {
+        "c" => "cert",
+        "r" => "report",
+        "p" => "picture",
+        _ => "wad",
     };
     let (status, deed) = match kind {
-        "reads" => (Status::ReadFault(role), "read"),
-        _ => (Status::WriteFault(role), "write"),
+        "reads" => (4, "read"),
+        _ => (5, "write"),
     };
     let line = format!(in alloc; "refused: {deed} fault {word}\n")?;
     Ok((status, line.as_bytes().to_vec(alloc)?))
@@ -187,7 +186,7 @@ fn end_of(alloc: Global, kind: &str, name: &str) -> Result<(Status, Vec<u8>), Al
 // What has to come of a run: how it ends, what it puts, and what it leaves.
 #[derive(Clone, Copy)]
 struct Wanted<'a> {
-    status: Status,
+    status: u8,
     text: &'a [u8],
     left: Left<'a>,
 }
@@ -244,7 +243,7 @@ fn wrong_by_put<R: Threads + Sync>(
         return Ok(wrong);
     }
     let untold = Wanted {
-        status: Status::WriteFault(Role::Text),
+        status: 5,
         text: told.text.get(..told.text.len() / 2).unwrap_or(&[]),
         left: told.left,
     };
@@ -296,7 +295,7 @@ fn wrong_call<R: Threads + Sync>(
 
 fn wrong_in<R: Threads + Sync>(rt: &R, alloc: Global, row: &str) -> Result<String, AllocError> {
     let whole = run_with(rt, alloc, row, "")?;
-    if part(row, 2).parse::<u8>() != Ok(code(&whole.status)) {
+    if part(row, 2).parse::<u8>() != Ok(whole.status) {
         return format!(in alloc; "code of: {row}");
     }
     wrong_call(rt, alloc, row, &whole)

@@ -3,12 +3,12 @@
 use group_job::sight_workers::Gate;
 use listeners::Listener;
 use shelf_io::MemSink;
-use sight_run::{NoNotice, Status, run};
+use sight_run::{NoNotice, code, run};
 use std::alloc::{AllocError, Global};
 use std::thread::Threads;
 use worked_maps::stages::{Stage, words_in};
 
-/// Runs the words of the line on the stage, with no listeners. It says nothing of what `run` promises, so that the proof of no
+/// Runs the words of the line on the stage, with no listeners, and gives the exit code. It says nothing of what `run` promises, so that the proof of no
 /// test carries that along.
 pub fn run_on<R: Threads + Sync, G: Gate + Sync>(
     rt: &R,
@@ -16,7 +16,7 @@ pub fn run_on<R: Threads + Sync, G: Gate + Sync>(
     stage: &mut Stage,
     line: &str,
     gate: &G,
-) -> Result<Status, AllocError> {
+) -> Result<u8, AllocError> {
     let words = words_in(alloc, line)?;
     let mut out = MemSink::new(alloc, stage.puts.clone()?);
     let mut none: Vec<Box<dyn Listener>> = Vec::new(alloc);
@@ -31,5 +31,5 @@ pub fn run_on<R: Threads + Sync, G: Gate + Sync>(
         &NoNotice,
     );
     stage.text = out.held().to_vec(alloc)?;
-    Ok(status)
+    Ok(code(&status))
 }

@@ -4,7 +4,6 @@ use crate::bits::{changed, is_listed, is_set, listed_count, set};
 use crate::running::run_on;
 use group_job::sight_workers::OpenGate;
 use shelf_io::{Shelf, store};
-use sight_run::Status;
 use std::alloc::{AllocError, Global};
 use std::test::Fail;
 use std::thread::Threads;
@@ -50,7 +49,7 @@ fn is_done<R: Threads + Sync>(
     stage: &mut Stage,
     words: &str,
 ) -> Result<bool, AllocError> {
-    Ok(run_on(rt, alloc, stage, words, &OpenGate)? == Status::Done)
+    Ok(run_on(rt, alloc, stage, words, &OpenGate)? == 0)
 }
 
 // Whether a build is done, and the check of what it made.

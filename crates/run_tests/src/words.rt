@@ -428,7 +428,7 @@ fn what_is_no_order_has_a_wrong_word(rt: HostRuntime) -> Result<(), Fail> {
 // Whether the question is answered by a text that begins so, and where its third byte can't be put by a write fault.
 fn is_answered(alloc: Global, question: &Question, begins: &str) -> Result<bool, AllocError> {
     let mut out = MemSink::new(alloc, Vec::new(alloc));
-    let is_done = answer(&mut out, question) == Status::Done;
+    let is_done = code(&answer(&mut out, question)) == 0;
     let mut broken = MemSink::new(alloc, vec![in alloc; 2]?);
     let is_fault = code(&answer(&mut broken, question)) == 5;
     Ok(is_done && is_fault && !begins.is_empty() && out.held().starts_with(begins.as_bytes()))
@@ -505,15 +505,19 @@ fn help_fits_into_a_terminal(rt: HostRuntime) -> Result<(), Fail> {
     Ok(())
 }
 
+// The exit code of a run of the words of a line.
 fn run_on<R: Threads + Sync>(
     rt: &R,
     alloc: Global,
     stage: &mut Stage,
     line: &str,
-) -> Result<Status, AllocError> {
+) -> Result<u8, AllocError> {
     let words = words_in(alloc, line)?;
     let mut out = MemSink::new(alloc, stage.puts.clone()?);
-    run_words(rt, alloc, &words, &mut stage.shelf, &mut out, &NoNotice)
+    match run_words(rt, alloc, &words, &mut stage.shelf, &mut out, &NoNotice) {
+        Ok(status) => Ok(code(&status)),
+        Err(_) => Err(AllocError),
+    }
 }
 
 // Whether a run of a row ends with its exit code.
@@ -521,8 +525,8 @@ fn has_code<R: Threads + Sync>(rt: &R, alloc: Global, row: &str) -> Result<bool,
     let (given, rest) = parts_of(row);
     let (line, wanted) = parts_of(rest);
     let mut stage = stage_of(alloc, given)?;
-    let status = run_on(rt, alloc, &mut stage, line)?;
-    Ok(wanted.trim().parse::<u8>() == Ok(code(&status)))
+    let found = run_on(rt, alloc, &mut stage, line)?;
+    Ok(wanted.trim().parse::<u8>() == Ok(found))
 }
 
 #[test]
@@ -538,22 +542,11 @@ fn each_run_has_its_exit_code(rt: HostRuntime) -> Result<(), Fail> {
 #[test]
 fn a_report_has_its_lines_and_totals(rt: HostRuntime) -> Result<(), Fail> {
     let mut stage = stage_of(rt.alloc(), "a=U")?;
-    let status = run_on(&rt, rt.alloc(), &mut stage, "build a MAP01 b --report=r")?;
+    let found = run_on(&rt, rt.alloc(), &mut stage, "build a MAP01 b --report=r")?;
     let report = stage.shelf.bytes("r").unwrap_or(b"");
-    assert!(rt;
-        status == Status::Done && report == b"set 0 2\ntotal set 1 clear 5 listed 0\n".as_slice()
-    );
+    assert!(rt; found == 0 && report == b"set 0 2\ntotal set 1 clear 5 listed 0\n".as_slice());
     Ok(())
 }
-
-/// Refusals, and whether they are of a limit of a map's size.
-const REFUSED: [(Status, bool); 5] = [
-    (Status::Limit(Bound::Points), true),
-    (Status::Limit(Bound::Lines), true),
-    (Status::Limit(Bound::Sectors), true),
-    (Status::Limit(Bound::Lumps), false),
-    (Status::SameName, false),
-];
 
 // Whether a refusal is noted as one by a map's size exactly where it is wanted.
 fn is_noted<P: Print + Drop>(err: P, refusal: Status, wanted: bool) -> bool {
@@ -564,8 +557,10 @@ fn is_noted<P: Print + Drop>(err: P, refusal: Status, wanted: bool) -> bool {
 
 #[test]
 fn a_map_that_is_refused_for_its_size_is_noted(rt: HostRuntime) -> Result<(), Fail> {
-    for (refusal, wanted) in REFUSED {
-        assert!(rt; is_noted(rt.stderr(), refusal, wanted));
-    }
+    assert!(rt; is_noted(rt.stderr(), Status::Limit(Bound::Points), true));
+    assert!(rt; is_noted(rt.stderr(), Status::Limit(Bound::Lines), true));
+    assert!(rt; is_noted(rt.stderr(), Status::Limit(Bound::Sectors), true));
+    assert!(rt; is_noted(rt.stderr(), Status::Limit(Bound::Lumps), false));
+    assert!(rt; is_noted(rt.stderr(), Status::SameName, false));
     Ok(())
 }
