@@ -719,7 +719,7 @@ b=PAIR | maps a --report r | 3 | refused: no file wad | b=PAIR, r=
 a=PAIR, reads=1 | maps a --report r | 4 | refused: read fault wad | r=
 a=U =4400, creates=0 | maps a --report r | 5 | refused: write fault report | r=
 a=U =4400, appends=0 | maps a --report r | 5 | refused: write fault report | r=#4d4150303120646f6f6d206c696e657320313220706f696e747320313020
-a=U =4400, puts=0 | maps a --report r | 5 | maps 1 whole 1 short~ | r=#4d4150303120646f6f6d206c696e657320313220706f696e747320313020736563746f727320332072656a6563742032206f6620322073657420320a
+a=U =4400, puts=0 | maps a --report r | 5 | maps 1 whole 1 s~ | r=#4d4150303120646f6f6d206c696e657320313220706f696e747320313020736563746f727320332072656a6563742032206f6620322073657420320a
 # words and names
 a=U | maps | 2 | refused: usage | a=U, b=, c=
 a=U | maps a b | 2 | refused: usage | a=U, b=, c=

@@ -81,12 +81,13 @@ fn digits_of(alloc: Global, text: &str) -> Result<String, AllocError> {
     Ok(digits)
 }
 
-// Tries a row whose words `UDMF` stand for the lumps of a map of this text, and `TEXT` for the text's digits.
+// Tries a row in which `=TEXT` gives a lump the bytes of this text.
 fn hold_text<R: Threads + Sync>(rt: &R, alloc: Global, text: &str, row: &str) -> Result<(), Fail> {
     let digits = digits_of(alloc, text)?;
     let mut said = String::new(alloc);
-    for (k, part) in row.split("TEXT").enumerate() {
+    for (k, part) in row.split("=TEXT").enumerate() {
         if k > 0 {
+            said.push('=')?;
             said.push_str(digits.as_str())?;
         }
         said.push_str(part)?;
