@@ -111,7 +111,7 @@ fn a_text_is_read_as_the_map_that_it_spells(rt: HostRuntime) -> Result<(), Fail>
         "audit a MAP01 | 0 | sound lines 7 points 6 sectors 2 triangles 4",
         "build a MAP01 b --cert c | 0 | built MAP01 sectors 2 set 0 clear 3 listed 0 | b=#50574144000000000c000000 +0:MAP01 +1:TEXTMAP =TEXT +2:REJECT =00 +3:ZNODES *3 +4:ENDMAP\n| check b MAP01 c | 0 | yes sectors 2 set 0 clear 3 listed 0",
         "all a b --report r | 0 | all maps 1 built 1 refused 0 | b=#50574144000000000c000000 +0:MAP01 +1:TEXTMAP =TEXT +2:REJECT =00 +3:ZNODES *3 +4:ENDMAP",
-        "verify a | 0 | verify maps 1 right 0 wrong 0 short 1 refused 0",
+        "verify a | 1 | verify maps 1 right 0 wrong 0 short 1 refused 0",
         "maps a --report r | 0 | maps 1 whole 0 short 1 refused 0 | r=#4d415030312075646d66206c696e6573203720706f696e7473203620736563746f727320322072656a6563742030206f6620310a",
         "zero a TEXTMAP b | 7 | refused: no map: missing LINEDEFS | b=",
         "all a b --only ENDMAP | 7 | refused: no map: missing LINEDEFS | b=",
