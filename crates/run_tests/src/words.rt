@@ -271,7 +271,7 @@ audit a MAP01 -h | doomsight audit WAD MAP [--report FILE] [--large]
 help check | doomsight check WAD MAP CERT [--large]
 all --help | doomsight all WAD OUT [--only MAP,MAP] [--refused HOW] [--report FILE]
 why --help | doomsight why WAD MAP A B [--exact | --budget N|full|enough] [--large]
-draw --help | doomsight draw WAD MAP OUT [A [B [--exact | --budget N|full|enough]] | --faults | --heat]
+draw --help | doomsight draw WAD MAP OUT [A [B [--exact | --budget N|full|enough]] | --faults
 help sound -V | doomsight sound WAD MAP [A B] [--large]
 verify --help | doomsight verify WAD [--only MAP,MAP] [--report FILE] [--workers N]
 help maps | doomsight maps WAD [--only MAP,MAP] [--report FILE] [--large]
