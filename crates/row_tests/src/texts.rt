@@ -95,8 +95,8 @@ fn hold_text<R: Threads + Sync>(rt: &R, alloc: Global, text: &str, row: &str) ->
     hold(rt, alloc, said.as_str())
 }
 
-// A WAD of one map of UDMF, its text, and another lump of it.
-const ONE: &str = "a=#50574144000000000c000000 +0:MAP01 +1:TEXTMAP =TEXT +2:ZNODES *3 +3:ENDMAP";
+// A WAD whose last map is of UDMF, with its text and another lump of it.
+const ONE: &str = "a=PAIR +6:MAP02 +7:TEXTMAP =TEXT +8:ZNODES *3 +9:ENDMAP";
 
 fn hold_one<R: Threads + Sync>(rt: &R, alloc: Global, text: &str, rest: &str) -> Result<(), Fail> {
     let row = format!(in alloc; "{ONE} | {rest}")?;
@@ -107,12 +107,12 @@ fn hold_one<R: Threads + Sync>(rt: &R, alloc: Global, text: &str, rest: &str) ->
 fn a_text_is_read_as_the_map_that_it_spells(rt: HostRuntime) -> Result<(), Fail> {
     let alloc = rt.alloc();
     for rest in [
-        "zero a MAP01 b | 0 | zero MAP01 sectors 2 bytes 1 | b=#50574144000000000c000000 +0:MAP01 +1:TEXTMAP =TEXT +2:REJECT =00 +3:ZNODES *3 +4:ENDMAP",
-        "audit a MAP01 | 0 | sound lines 7 points 6 sectors 2 triangles 4",
-        "build a MAP01 b --cert c | 0 | built MAP01 sectors 2 set 0 clear 3 listed 0 | b=#50574144000000000c000000 +0:MAP01 +1:TEXTMAP =TEXT +2:REJECT =00 +3:ZNODES *3 +4:ENDMAP\n| check b MAP01 c | 0 | yes sectors 2 set 0 clear 3 listed 0",
-        "all a b --report r | 0 | all maps 1 built 1 refused 0 | b=#50574144000000000c000000 +0:MAP01 +1:TEXTMAP =TEXT +2:REJECT =00 +3:ZNODES *3 +4:ENDMAP",
-        "verify a | 1 | verify maps 1 right 0 wrong 0 short 1 refused 0",
-        "maps a --report r | 0 | maps 1 whole 0 short 1 refused 0 | r=#4d415030312075646d66206c696e6573203720706f696e7473203620736563746f727320322072656a6563742030206f6620310a",
+        "zero a MAP02 b | 0 | zero MAP02 sectors 2 bytes 1 | b=PAIR +6:MAP02 +7:TEXTMAP =TEXT +8:REJECT =00 +9:ZNODES *3 +10:ENDMAP",
+        "audit a MAP02 | 0 | sound lines 7 points 6 sectors 2 triangles 4",
+        "build a MAP02 b --cert c | 0 | built MAP02 sectors 2 set 0 clear 3 listed 0 | b=PAIR +6:MAP02 +7:TEXTMAP =TEXT +8:REJECT =00 +9:ZNODES *3 +10:ENDMAP\n| check b MAP02 c | 0 | yes sectors 2 set 0 clear 3 listed 0",
+        "all a b --only MAP02 --report r | 0 | all maps 1 built 1 refused 0 | b=PAIR +6:MAP02 +7:TEXTMAP =TEXT +8:REJECT =00 +9:ZNODES *3 +10:ENDMAP",
+        "verify a --only MAP02 | 1 | verify maps 1 right 0 wrong 0 short 1 refused 0",
+        "maps a --only MAP02 --report r | 0 | maps 1 whole 0 short 1 refused 0 | r=#4d415030322075646d66206c696e6573203720706f696e7473203620736563746f727320322072656a6563742030206f6620310a",
         "zero a TEXTMAP b | 7 | refused: no map: missing LINEDEFS | b=",
         "all a b --only ENDMAP | 7 | refused: no map: missing LINEDEFS | b=",
     ] {
@@ -122,20 +122,20 @@ fn a_text_is_read_as_the_map_that_it_spells(rt: HostRuntime) -> Result<(), Fail>
         &rt,
         alloc,
         SQUARE,
-        "audit a MAP01 | 0 | sound lines 4 points 4 sectors 1 triangles 2",
+        "audit a MAP02 | 0 | sound lines 4 points 4 sectors 1 triangles 2",
     )?;
     hold_one(
         &rt,
         alloc,
         DAMPER,
-        "sound a MAP01 0 1 | 0 | noise 0 1 by 0R",
+        "sound a MAP02 0 1 | 0 | noise 0 1 by 0R",
     )
 }
 
 #[test]
 fn a_text_that_is_no_map_is_refused(rt: HostRuntime) -> Result<(), Fail> {
     for (text, said) in FAULTS {
-        let row = format!(in rt.alloc(); "zero a MAP01 b | {said} | b=")?;
+        let row = format!(in rt.alloc(); "zero a MAP02 b | {said} | b=")?;
         hold_one(&rt, rt.alloc(), text, &row)?;
     }
     Ok(())
