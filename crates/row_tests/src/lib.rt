@@ -8,8 +8,12 @@ mod listening;
 #[cfg(test)]
 mod on_disk;
 #[cfg(test)]
+mod pair_rows;
+#[cfg(test)]
 mod rows;
 #[cfg(test)]
 mod table;
+#[cfg(test)]
+mod table_rows;
 #[cfg(test)]
 mod texts;
