@@ -157,20 +157,50 @@ impl Notice for Told {
     }
 }
 
-#[test]
-fn a_notice_is_told_of_maps_of_udmf_before_the_lines(rt: HostRuntime) -> Result<(), Fail> {
-    let alloc = rt.alloc();
-    let given = "a=PAIR +6:map02 +7:TEXTMAP U .8 - +8:MAP03 +14:E1M9 +15:textmap";
+// What a notice is told of a run of the words of a line over what is given.
+fn told_of<R: Threads + Sync>(
+    rt: &R,
+    alloc: Global,
+    given: &str,
+    line: &str,
+) -> Result<String, AllocError> {
     let mut stage = stage_of(alloc, given)?;
     let mut none: Vec<Box<dyn Listener>> = Vec::new(alloc);
     let told = Told {
         text: RefCell::new(String::new(alloc)),
     };
-    let found = run_heard(&rt, alloc, &mut stage, "all a b", &mut none, &told)?;
-    assert_eq!(rt; found, 0);
+    run_heard(rt, alloc, &mut stage, line, &mut none, &told)?;
+    Ok(told.text.into_inner())
+}
+
+#[test]
+fn a_notice_is_told_of_maps_of_udmf_before_the_lines(rt: HostRuntime) -> Result<(), Fail> {
+    let given = "a=PAIR +6:map02 +7:TEXTMAP U .8 - +8:MAP03 +14:E1M9 +15:textmap";
     assert_eq!(rt;
-        told.text.into_inner().as_str(),
+        told_of(&rt, rt.alloc(), given, "all a b")?.as_str(),
         "over MAP02\nover E1M9\nMAP01 set 0 clear 3 listed 0 replaced 0 bytes\nMAP03 set 1 clear 5 listed 0 replaced 0 bytes\n"
     );
+    Ok(())
+}
+
+#[test]
+fn a_notice_is_told_which_maps_are_refused(rt: HostRuntime) -> Result<(), Fail> {
+    let given = "a=PAIR =00 +6:MAP02 +7:TEXTMAP *20 +8:ENDMAP";
+    for (line, wanted) in [
+        (
+            "all a b",
+            "MAP01 set 0 clear 3 listed 0 changed 0\nrefused MAP02 refused bad lump: namespace 0 kept clear\n",
+        ),
+        (
+            "verify a",
+            "MAP01 wrong 0 missing 0\nrefused MAP02 refused bad lump: namespace 0\n",
+        ),
+        (
+            "maps a",
+            "MAP01 doom lines 7 points 6 sectors 2 reject 1 of 1 set 0\nrefused MAP02 refused bad lump: namespace 0\n",
+        ),
+    ] {
+        assert_eq!(rt; told_of(&rt, rt.alloc(), given, line)?.as_str(), wanted);
+    }
     Ok(())
 }

@@ -18,7 +18,7 @@ use sight_names::Memory;
 use std::alloc::Global;
 use std::thread::Threads;
 use wad_dir::Wad;
-use whole_wad::{Notice, tell_unread};
+use whole_wad::{Fate, Notice, tell_unread};
 
 /// What is said of maps of a WAD: a line of text a map, and how many there are of each kind.
 #[derive(Drop)]
@@ -32,6 +32,14 @@ pub struct WadVerdict {
 struct Said {
     verdicts: Vec<MapVerdict>,
     report: String,
+}
+
+/// Nothing is written, so no REJECT is kept that may be wrong by now.
+fn tell<N: Notice>(notice: &N, verdict: &MapVerdict, line: &str) {
+    match &verdict.said {
+        Ok(_) => notice.tell(line),
+        Err(refusal) => notice.refuse(line, *refusal, &Fate::KeptClear),
+    }
 }
 
 /// What is said of the maps of these names, each told as it is done.
@@ -59,7 +67,7 @@ fn verify_maps<R: Threads + Sync, G: Gate + Sync, N: Notice>(
     for name in names {
         let verdict = verdict_on(rt, alloc, bytes, wad, large, name, workers, gate)?;
         let line = line_of(alloc, &verdict)?;
-        notice.tell(&line);
+        tell(notice, &verdict, &line);
         report.push_str(&line)?;
         verdicts.push(verdict)?;
     }

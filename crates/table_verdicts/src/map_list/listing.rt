@@ -9,14 +9,14 @@ ghost use Rattle.table_verdicts.specs.MapList.Entry.{entries_of};
 ghost use Rattle.table_verdicts.specs.MapList.Lines.{lines_of_maps};
 ghost use Rattle.table_verdicts.specs.MapList.Listing.{ShowsList};
 
-use crate::map_list::entry::MapEntry;
+use crate::map_list::entry::{MapEntry, Said};
 use crate::map_list::line::line_of;
 use crate::map_list::named::entry_of;
 use crate::map_list::tally::{ListTally, tally_up};
 use sight_names::Memory;
 use std::alloc::Global;
 use wad_dir::Wad;
-use whole_wad::{Notice, tell_unread};
+use whole_wad::{Fate, Notice, tell_unread};
 
 /// What is listed of maps of a WAD: a line of text a map, and how many there are of each kind.
 #[derive(Drop)]
@@ -30,6 +30,14 @@ pub struct MapList {
 struct Listed {
     entries: Vec<MapEntry>,
     report: String,
+}
+
+/// Nothing is written, so no REJECT is kept that may be wrong by now.
+fn tell<N: Notice>(notice: &N, entry: &MapEntry, line: &str) {
+    match &entry.said {
+        Said::Read(_) => notice.tell(line),
+        Said::Refused(refusal) => notice.refuse(line, *refusal, &Fate::KeptClear),
+    }
 }
 
 /// What is listed of the maps of these names, each told as it is done.
@@ -52,7 +60,7 @@ fn list_each<N: Notice>(
     for name in names {
         let entry = entry_of(alloc, bytes, wad, large, name)?;
         let line = line_of(alloc, &entry)?;
-        notice.tell(&line);
+        tell(notice, &entry, &line);
         report.push_str(&line)?;
         entries.push(entry)?;
     }
