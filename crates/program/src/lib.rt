@@ -8,6 +8,7 @@ ghost use Rattle.program.specs.Words.{ended_number};
 
 pub mod answers;
 mod help;
+pub mod places;
 pub mod progress;
 pub mod runs;
 pub mod usage;
@@ -17,12 +18,15 @@ mod words;
 use answers::{answer, question_in};
 use map_answers::sight_status::put_refusal;
 use order_words::{Order, Source, Text, read_words};
+use places::{WadAgain, byte_of, map_of};
 use progress::{Progress, refuses_size};
 use runs::run_words;
 use shelf_io::{DiskShelf, Sink, StdSink, is_standard_output};
-use sight_run::{Status, code};
+use sight_names::MapFault;
+use sight_run::{Notice, Status, code};
 use std::alloc::{AllocError, Global};
 use std::env::Env;
+use std::fs;
 use std::io::IsTerminal;
 use std::process::ExitCode;
 use std::rt::Files;
@@ -117,13 +121,14 @@ fn obey<R: Files + Print + Threads + Sync + AllocGlobal, O: Sink, P: Print>(
     let mut audits = false;
     let mut is_all = false;
     let mut may_be_large = false;
-    if let Ok(order) = read_words(alloc, words) {
-        audits = matches!(&order, Order::Audit { .. });
+    let order = read_words(alloc, words);
+    if let Ok(order) = &order {
+        audits = matches!(order, Order::Audit { .. });
         is_all = matches!(
-            &order,
+            order,
             Order::All { .. } | Order::Verify { .. } | Order::Maps { .. }
         );
-        may_be_large = source_of(&order).is_some_and(|wad| !wad.large);
+        may_be_large = source_of(order).is_some_and(|wad| !wad.large);
     }
     let mut shelf = DiskShelf::new(rt);
     let status = match run_words(rt, alloc, words, &mut shelf, out, progress) {
@@ -140,7 +145,57 @@ fn obey<R: Files + Print + Threads + Sync + AllocGlobal, O: Sink, P: Print>(
     if may_be_large && (refuses_size(&status) || progress.has_refused_size()) {
         progress.name_larger_limits();
     }
+    if let Ok(order) = &order {
+        explain(rt, order, &status, progress);
+    }
     Ended { status, audits }
+}
+
+/// Says more of maps of UDMF that are refused, where the WAD's file can be read once more: a pipe can't, and might wait for ever.
+fn explain<R: Files + Print + AllocGlobal, P: Print>(
+    rt: &R,
+    order: &Order,
+    status: &Status,
+    progress: &Progress<P>,
+) {
+    let asks_for_end = matches!(status, Status::NoMap(MapFault::Missing { .. }));
+    let at = byte_of(status);
+    if at.is_none() && !asks_for_end && !progress.has_bad_bytes() {
+        return;
+    }
+    let Some(source) = source_of(order) else {
+        return;
+    };
+    let file = source.file.as_str();
+    if !fs::metadata(rt, file).is_ok_and(|found| found.is_file()) {
+        return;
+    }
+    if let Some(wad) = WadAgain::read(rt.alloc(), &mut DiskShelf::new(rt), file) {
+        explain_by(rt.alloc(), &wad, order, at, asks_for_end, progress);
+    }
+}
+
+fn explain_by<P: Print>(
+    alloc: Global,
+    wad: &WadAgain,
+    order: &Order,
+    at: Option<usize>,
+    asks_for_end: bool,
+    progress: &Progress<P>,
+) {
+    progress.name_bad_bytes(wad);
+    if let (Some(map), Some(at)) = (map_of(order), at) {
+        if let Some(place) = wad.place(map.as_str(), at) {
+            progress.name_place(place);
+        }
+    }
+    if asks_for_end {
+        if let Ok(names) = wad.without_end(alloc, order) {
+            for name in &names {
+                progress.pass_over(name);
+            }
+        }
+    }
 }
 
 /// Whether the status is of a file that isn't there or that the system refused.
@@ -170,7 +225,7 @@ pub fn run_order<R: Files + Print + Threads + Sync + AllocGlobal, E: Print + IsT
     if let Some(question) = question_in(words) {
         return exit_code(&answer(&mut out, &question));
     }
-    let progress = Progress::new(err, err.is_terminal());
+    let progress = Progress::new(err, rt.alloc(), err.is_terminal());
     let ended = if has_standard_output(rt.alloc(), words) {
         obey(rt, rt.alloc(), words, &mut StdSink::new(err), &progress)
     } else {

@@ -1,19 +1,23 @@
-//! What is told of the maps while all maps of a WAD are built, and behind a run.
+//! What is told of the maps while maps of a WAD are built, judged or listed, and behind a run.
 
+use crate::places::{BadByte, TextPlace, WadAgain, byte_of};
 use crate::usage::print_larger_limits;
 use sight_run::{Bound, Fate, Notice, Status};
-use std::cell::Cell;
+use std::alloc::{AllocError, Global};
+use std::cell::{Cell, RefCell};
 use std::io;
 
 /// Shows which maps are done, where a terminal shows it, and always which ones are refused, aren't read or aren't there. What can't
-/// be shown changes nothing.
+/// be shown, or finds no memory, changes nothing.
 #[derive(Drop)]
 pub struct Progress<P: Print> {
     to: P,
+    alloc: Global,
     is_terminal: bool,
     has_told: Cell<bool>,
     has_refused_size: Cell<bool>,
     has_kept: Cell<bool>,
+    bad_bytes: RefCell<Vec<BadByte>>,
 }
 
 /// Whether a limit of a map's size refused it.
@@ -25,13 +29,15 @@ pub fn refuses_size(status: &Status) -> bool {
 }
 
 impl<P: Print> Progress<P> {
-    pub fn new(to: P, is_terminal: bool) -> Progress<P> {
+    pub fn new(to: P, alloc: Global, is_terminal: bool) -> Progress<P> {
         Progress {
             to,
+            alloc,
             is_terminal,
             has_told: Cell::new(false),
             has_refused_size: Cell::new(false),
             has_kept: Cell::new(false),
+            bad_bytes: RefCell::new(Vec::new(alloc)),
         }
     }
 
@@ -63,6 +69,42 @@ impl<P: Print> Progress<P> {
     pub fn name_larger_limits(&self) {
         let _ = print_larger_limits(&self.to);
     }
+
+    /// Whether it was told of a map that is refused for a byte of its text.
+    pub fn has_bad_bytes(&self) -> bool {
+        match self.bad_bytes.try_borrow() {
+            Ok(bad) => !bad.is_empty(),
+            Err(_) => false,
+        }
+    }
+
+    /// Says where these bytes stand, map by map.
+    pub fn name_bad_bytes(&self, wad: &WadAgain) {
+        if let Ok(bad) = self.bad_bytes.try_borrow() {
+            for one in bad.iter() {
+                let map = one.map.as_str();
+                if let Some(TextPlace { row, column }) = wad.place(map, one.at) {
+                    let _ = println!(self.to; "{map} TEXTMAP: row {row}, column {column}");
+                }
+            }
+        }
+    }
+
+    /// Says where the byte of a text stands for which the map of the order is refused.
+    pub fn name_place(&self, place: TextPlace) {
+        let TextPlace { row, column } = place;
+        let _ = println!(self.to; "TEXTMAP: row {row}, column {column}");
+    }
+
+    // Keeps the byte for which the map is refused whose name stands at the front of its line.
+    fn keep_bad_byte(&self, line: &str, at: usize) -> Result<(), AllocError> {
+        let (map, _) = line.split_once(' ').unwrap_or((line, ""));
+        let map = String::from_str(self.alloc, map)?;
+        match self.bad_bytes.try_borrow_mut() {
+            Ok(mut bad) => bad.push(BadByte { map, at }),
+            Err(_) => Ok(()),
+        }
+    }
 }
 
 impl<P: Print> Notice for Progress<P> {
@@ -88,6 +130,9 @@ impl<P: Print> Notice for Progress<P> {
         }
         if matches!(fate, Fate::KeptSet) {
             self.has_kept.set(true);
+        }
+        if let Some(at) = byte_of(&refusal) {
+            let _ = self.keep_bad_byte(line, at);
         }
         let _ = self.to.write_all(line.as_bytes());
     }

@@ -2,6 +2,7 @@
 
 use order_words::read_words;
 use program::answers::{Question, answer, question_in};
+use program::places::{TextPlace, WadAgain, place_in};
 use program::progress::Progress;
 use program::runs::run_words;
 use program::usage::{Fault, diagnose};
@@ -549,18 +550,78 @@ fn a_report_has_its_lines_and_totals(rt: HostRuntime) -> Result<(), Fail> {
 }
 
 // Whether a refusal is noted as one by a map's size exactly where it is wanted.
-fn is_noted<P: Print + Drop>(err: P, refusal: Status, wanted: bool) -> bool {
-    let progress = Progress::new(err, false);
+fn is_noted<P: Print + Drop>(err: P, alloc: Global, refusal: Status, wanted: bool) -> bool {
+    let progress = Progress::new(err, alloc, false);
     progress.refuse("", refusal, &Fate::KeptClear);
     progress.has_refused_size() == wanted
 }
 
 #[test]
 fn a_map_that_is_refused_for_its_size_is_noted(rt: HostRuntime) -> Result<(), Fail> {
-    assert!(rt; is_noted(rt.stderr(), Status::Limit(Bound::Points), true));
-    assert!(rt; is_noted(rt.stderr(), Status::Limit(Bound::Lines), true));
-    assert!(rt; is_noted(rt.stderr(), Status::Limit(Bound::Sectors), true));
-    assert!(rt; is_noted(rt.stderr(), Status::Limit(Bound::Lumps), false));
-    assert!(rt; is_noted(rt.stderr(), Status::SameName, false));
+    assert!(rt; is_noted(rt.stderr(), rt.alloc(), Status::Limit(Bound::Points), true));
+    assert!(rt; is_noted(rt.stderr(), rt.alloc(), Status::Limit(Bound::Lines), true));
+    assert!(rt; is_noted(rt.stderr(), rt.alloc(), Status::Limit(Bound::Sectors), true));
+    assert!(rt; is_noted(rt.stderr(), rt.alloc(), Status::Limit(Bound::Lumps), false));
+    assert!(rt; is_noted(rt.stderr(), rt.alloc(), Status::SameName, false));
+    Ok(())
+}
+
+#[test]
+fn a_byte_of_a_text_has_a_row_and_a_column(rt: HostRuntime) -> Result<(), Fail> {
+    for (at, row, column) in [
+        (0, 1, 1),
+        (2, 1, 3),
+        (3, 2, 1),
+        (4, 3, 1),
+        (6, 3, 3),
+        (9, 3, 3),
+    ] {
+        assert!(rt; place_in(b"ab\n\ncd", at) == TextPlace { row, column });
+    }
+    Ok(())
+}
+
+// The map in this row of a WAD that is read once more, whose ENDMAP is said to be missing; `-` for none.
+fn without_end(alloc: Global, line: &str) -> Result<String, AllocError> {
+    let mut stage = stage_of(alloc, "a=PAIR +6:MAP02 +7:TEXTMAP *2 +8:MAP03")?;
+    let words = words_of(alloc, line)?;
+    if let (Some(wad), Ok(order)) = (
+        WadAgain::read(alloc, &mut stage.shelf, "a"),
+        read_words(alloc, &words),
+    ) {
+        for name in &wad.without_end(alloc, &order)? {
+            return String::from_str(alloc, name);
+        }
+    }
+    String::from_str(alloc, "-")
+}
+
+#[test]
+fn a_map_of_udmf_without_its_end_is_named(rt: HostRuntime) -> Result<(), Fail> {
+    for (line, wanted) in [
+        ("audit a MAP02", "MAP02"),
+        ("maps a --only map01,map02", "MAP02"),
+        ("maps a", "-"),
+        ("audit a MAP01", "-"),
+        ("audit a MAP03", "-"),
+    ] {
+        assert!(rt; without_end(rt.alloc(), line)?.as_str() == wanted);
+    }
+    Ok(())
+}
+
+#[test]
+fn a_byte_is_found_in_the_text_of_its_map(rt: HostRuntime) -> Result<(), Fail> {
+    let mut stage = stage_of(rt.alloc(), "a=PAIR +6:MAP02 +7:TEXTMAP =0a0a62 +8:ENDMAP")?;
+    let wad = WadAgain::read(rt.alloc(), &mut stage.shelf, "a");
+    let place = TextPlace { row: 3, column: 1 };
+    assert!(rt;
+        wad.as_ref()
+            .is_some_and(|wad| wad.place("map02", 2) == Some(place))
+    );
+    assert!(rt;
+        wad.as_ref()
+            .is_some_and(|wad| wad.place("MAP01", 2).is_none())
+    );
     Ok(())
 }
