@@ -100,10 +100,10 @@ impl<P: Print> Progress<P> {
     fn keep_bad_byte(&self, line: &str, at: usize) -> Result<(), AllocError> {
         let (map, _) = line.split_once(' ').unwrap_or((line, ""));
         let map = String::from_str(self.alloc, map)?;
-        match self.bad_bytes.try_borrow_mut() {
-            Ok(mut bad) => bad.push(BadByte { map, at }),
-            Err(_) => Ok(()),
+        if let Ok(mut bad) = self.bad_bytes.try_borrow_mut() {
+            bad.push(BadByte { map, at })?;
         }
+        Ok(())
     }
 }
 
