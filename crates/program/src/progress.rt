@@ -112,6 +112,10 @@ impl<P: Print> Notice for Progress<P> {
         let _ = println!(self.to; "{name}: a UDMF map without ENDMAP, which isn't read");
     }
 
+    fn take_last(&self, name: &str) {
+        let _ = println!(self.to; "{name}: stands several times, and the last one is taken");
+    }
+
     fn miss(&self, name: &str) {
         let _ = println!(self.to; "{name}: no such map");
     }

@@ -141,6 +141,12 @@ impl Notice for Told {
         self.add("\n");
     }
 
+    fn take_last(&self, name: &str) {
+        self.add("last ");
+        self.add(name);
+        self.add("\n");
+    }
+
     fn miss(&self, name: &str) {
         self.add("miss ");
         self.add(name);
@@ -174,12 +180,22 @@ fn told_of<R: Threads + Sync>(
 }
 
 #[test]
-fn a_notice_is_told_of_maps_of_udmf_before_the_lines(rt: HostRuntime) -> Result<(), Fail> {
-    let given = "a=PAIR +6:map02 +7:TEXTMAP U .8 - +8:MAP03 +14:E1M9 +15:textmap";
-    assert_eq!(rt;
-        told_of(&rt, rt.alloc(), given, "all a b")?.as_str(),
-        "over MAP02\nover E1M9\nMAP01 set 0 clear 3 listed 0 replaced 0 bytes\nMAP03 set 1 clear 5 listed 0 replaced 0 bytes\n"
-    );
+fn a_notice_is_told_what_is_not_read_before_the_lines(rt: HostRuntime) -> Result<(), Fail> {
+    for (given, wanted) in [
+        (
+            "a=PAIR +6:map02 +7:TEXTMAP U .8 - +8:MAP03 +14:E1M9 +15:textmap",
+            "over MAP02\nover E1M9\nMAP01 set 0 clear 3 listed 0 replaced 0 bytes\nMAP03 set 1 clear 5 listed 0 replaced 0 bytes\n",
+        ),
+        (
+            "a=PAIR +0:map01 U",
+            "last MAP01\nMAP01 set 1 clear 5 listed 0 replaced 0 bytes\n",
+        ),
+    ] {
+        assert_eq!(rt;
+            told_of(&rt, rt.alloc(), given, "all a b")?.as_str(),
+            wanted
+        );
+    }
     Ok(())
 }
 

@@ -9,6 +9,9 @@ pub trait Notice {
     /// The map of this name is of UDMF and has no ENDMAP, so it isn't read. Each one is told before the first line, in the order of their entries.
     fn pass_over(&self, name: &str);
 
+    /// The WAD has several entries of the name of this map, and the last one is taken. It is told before the first line too.
+    fn take_last(&self, name: &str);
+
     /// A map of this name is asked for, and there is none.
     fn miss(&self, name: &str);
 
@@ -25,6 +28,8 @@ pub struct NoNotice;
 
 impl Notice for NoNotice {
     fn pass_over(&self, _name: &str) {}
+
+    fn take_last(&self, _name: &str) {}
 
     fn miss(&self, _name: &str) {}
 

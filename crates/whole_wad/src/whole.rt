@@ -18,9 +18,10 @@ use refused_maps::Refused;
 use reject_bits::Table;
 use sight_names::{Items, Memory, Method, RewriteFault};
 use std::alloc::{AllocError, Global};
+use std::collections::BTreeMap;
 use std::thread::Threads;
 use wad_dir::Wad;
-use wad_dir::all_maps::{Change, fault_of, text_of, udmf_maps, with_rejects};
+use wad_dir::all_maps::{Change, fault_of, maps, text_of, udmf_maps, with_rejects};
 
 /// A WAD with the tables of maps: its bytes, one line of text a map, and how many maps were asked for, have been built, are
 /// refused, and of these got a clear table.
@@ -57,7 +58,34 @@ enum Told {
     Stopped(Status),
 }
 
-/// Tells which maps of UDMF aren't read, since they have no ENDMAP.
+/// How many entries have each name, in upper case.
+fn count_names(alloc: Global, wad: &Wad) -> Result<BTreeMap<[u8; 8], u32>, Memory> {
+    let mut counts = BTreeMap::new(alloc);
+    for entry in wad.entries.as_slice() {
+        let mut name = entry.name;
+        name.make_ascii_uppercase();
+        let before: u32 = match counts.get(&name) {
+            Some(count) => *count,
+            None => 0,
+        };
+        counts.insert(name, before.saturating_add(1))?;
+    }
+    Ok(counts)
+}
+
+/// Tells of which maps the name stands at several entries.
+fn tell_repeated<N: Notice>(alloc: Global, wad: &Wad, notice: &N) -> Result<(), Memory> {
+    let counts = count_names(alloc, wad)?;
+    let names = maps(alloc, wad)?;
+    for name in &names {
+        if counts.get(name).is_some_and(|count| *count > 1) {
+            notice.take_last(text_of(name));
+        }
+    }
+    Ok(())
+}
+
+/// Tells which maps of UDMF aren't read, since they have no ENDMAP, and then of which maps the last of a name is taken.
 pub fn tell_unread<N: Notice>(alloc: Global, wad: &Wad, notice: &N) -> Result<(), Memory> {
     let names = udmf_maps(alloc, wad)?;
     for name in &names {
@@ -66,7 +94,7 @@ pub fn tell_unread<N: Notice>(alloc: Global, wad: &Wad, notice: &N) -> Result<()
             notice.pass_over(name);
         }
     }
-    Ok(())
+    tell_repeated(alloc, wad, notice)
 }
 
 fn tell<N: Notice>(notice: &N, outcome: &MapOutcome, line: &str) {
