@@ -58,12 +58,23 @@ enum Told {
     Stopped(Status),
 }
 
+/// A name in upper case, padded with NUL.
+fn upper_of(name: &[u8; 8]) -> [u8; 8] {
+    let mut upper = [0; 8];
+    for (slot, c) in upper.iter_mut().zip(name.iter()) {
+        if *c == 0 {
+            break;
+        }
+        *slot = c.to_ascii_uppercase();
+    }
+    upper
+}
+
 /// How many entries have each name, in upper case.
 fn count_names(alloc: Global, wad: &Wad) -> Result<BTreeMap<[u8; 8], u32>, Memory> {
     let mut counts = BTreeMap::new(alloc);
     for entry in wad.entries.as_slice() {
-        let mut name = entry.name;
-        name.make_ascii_uppercase();
+        let name = upper_of(&entry.name);
         let before: u32 = match counts.get(&name) {
             Some(count) => *count,
             None => 0,
