@@ -5,7 +5,8 @@
 
 Needs Debian's packages freedoom and freedm, or a folder with freedoom1.wad and freedoom2.wad. Of six maps, or of those
 that are named, it asks for the plan, the plan with --faults and with --heat, the rows of some sectors in a REJECT that
-a build wrote, and some pairs of sectors. The triangles and the groups are those of the build's certificate, and so are
+a build wrote, and some pairs of sectors. With four random lines laid over the map it asks for --faults again; the pairs
+that clash are found here by fractions. The triangles and the groups are those of the build's certificate, and so are
 the trees, by which it finds what sight out of a group enters; the ray of a pair is the one that `why` says. A pair is
 compared to its end where one of the first sector's groups has a tree and the sector has no other group.
 The status is 1 where anything differs.
@@ -13,10 +14,12 @@ The status is 1 where anything differs.
 import argparse
 import os
 import random
+import struct
 import subprocess
 import sys
 import tempfile
 from fractions import Fraction
+from math import floor
 
 from plans import Plan, Proof, crossing, entered
 from wads import maps, rejects, wad
@@ -84,6 +87,12 @@ class Sheet:
         yield ("<g><title>%s: sector %d</title>%s%s</g>"
                % (letter, sector, circles, self.text(x, y, 'dx="1em" dy="-.5em"', letter)))
 
+    def round(self, title, point):
+        """A ring round a point at fault."""
+        x, y = point[0] - self.west, self.north - point[1]
+        circles = "".join('<circle class="%s" cx="%d" cy="%d" r="%d"/>' % (kind, x, y, self.margin) for kind in "ir")
+        return "<g><title>%s</title>%s</g>" % (title, circles)
+
     def legend(self, most):
         """Of each shade that some count has the least such count."""
         shown = ""
@@ -141,6 +150,40 @@ def heat(sheet, proof):
     faces = sheet.faces(proof, lambda names: "h%d" % (8 * count(names) // (most + 1)),
                         lambda names: " sees %d" % count(names))
     return sheet.whole(" heat", faces, sheet.legend(most)), "heat most %d" % most
+
+
+def turn(p, q, r):
+    return (q[0] - p[0]) * (r[1] - p[1]) - (q[1] - p[1]) * (r[0] - p[0])
+
+
+def clash(one, other):
+    """What two lines have in common besides an end of both, and where that is, if they aren't parallel."""
+    p, q, r, s = *one.ends, *other.ends
+    along, across = turn(p, q, r) - turn(p, q, s), turn(r, s, p) - turn(r, s, q)
+    if along == 0:
+        low, high = max(min(p, q), min(r, s)), min(max(p, q), max(r, s))
+        return ("overlap", None) if turn(p, q, r) == 0 and low < high else None
+    first, second = Fraction(turn(r, s, p), across), Fraction(turn(p, q, r), along)
+    if not (0 <= first <= 1 and 0 <= second <= 1):
+        return None
+    ends = [share in (0, 1) for share in (first, second)]
+    place = tuple(floor(a + first * (b - a)) for a, b in zip(p, q))
+    return None if all(ends) else ("touch" if any(ends) else "cross", place)
+
+
+def crossed(sheet):
+    """The picture of a map whose lines clash, and its line without the map's name."""
+    lines = sheet.plan.lines
+    found = [(i, j, told) for k, i in enumerate(lines) for j in lines[k + 1:] for told in [clash(i, j)] if told]
+    kept, left_out = found[:1000], max(0, len(found) - 1000)
+    marked = {line.number: line for i, j, _ in kept for line in (i, j)}
+    shape = "".join("M" + "L".join(sheet.place(p) for p in marked[number].ends) for number in sorted(marked))
+    over = ['<path class="k" id="fault" d="%s"/>' % shape]
+    for i, j, (word, place) in kept:
+        if place:
+            over.append(sheet.round("lines %d and %d %s at %d, %d" % (i.number, j.number, word, *place), place))
+    about = " faults" + (", %d clashes left out" % left_out if left_out else "")
+    return sheet.whole(about, [], over), "faults %s %d %d" % (found[0][2][0], found[0][0].number, found[0][1].number)
 
 
 def row(sheet, proof, a):
@@ -205,9 +248,9 @@ class Asked:
         open(self.source, "wb").write(held)
         print(said([program, "build", self.source, name, self.built, "--cert", self.cert]), flush=True)
 
-    def compare(self, words, wanted, line):
+    def compare(self, words, wanted, line, source=None):
         """Whether `draw` with these words writes this picture and says this line."""
-        got = said([self.program, "draw", self.built, self.name, self.out, *map(str, words)])
+        got = said([self.program, "draw", source or self.built, self.name, self.out, *map(str, words)])
         drawn = open(self.out, encoding="ascii", newline="").read()
         self.count += 1
         if got != "drawn %s %s" % (self.name, line) or drawn != wanted:
@@ -216,6 +259,19 @@ class Asked:
 
     def why(self, a, b):
         return said([self.program, "why", self.built, self.name, str(a), str(b)])
+
+
+def laid(lumps, count):
+    """The map with so many lines more, between random vertexes, that name no sector."""
+    vertexes = len(dict(lumps)[b"VERTEXES"]) // 4
+    more = b"".join(struct.pack("<7H", *random.sample(range(vertexes), 2), 1, 0, 0, 0xFFFF, 0xFFFF) for _ in range(count))
+    return [(lump, content + more if lump == b"LINEDEFS" else content) for lump, content in lumps]
+
+
+def compare_crossed(asked, lumps):
+    with open(asked.source, "wb") as it:
+        it.write(wad(asked.name, laid(lumps, 4)))
+    asked.compare(["--faults"], *crossed(Sheet(asked.name, Plan(asked.source, asked.name))), source=asked.source)
 
 
 def compare_map(asked, rows, pairs):
@@ -258,6 +314,7 @@ def main():
                 with tempfile.TemporaryDirectory() as folder:
                     asked = Asked(program, folder, name, wad(name, lumps))
                     compare_map(asked, words.rows, words.pairs)
+                    compare_crossed(asked, lumps)
                     print("%s: %d pictures, %d differ" % (name, asked.count, asked.wrong), flush=True)
                     wrong += asked.wrong
     return 1 if wrong else 0

@@ -16,7 +16,9 @@ use Rattle.map_answers.proofs.Flaws.{gives_refused}
 use Rattle.map_answers.proofs.OneGroups.{one_groups}
 use Rattle.draw_answers.specs.declared.drawn.Drawn.{Drawn}
 use Rattle.draw_answers.specs.Drawn.{Drawing, IsMadeOf, drawing, drawn_answer, one_picture}
-use Rattle.draw_answers.specs.Faults.{DrawFaultsCalls, DrawsFault, IsFaultOf, flaw_drawing, plain_drawing}
+use Rattle.draw_answers.specs.Faults.{AreMarksOf, DrawFaultsCalls, DrawsFault, IsFaultOf, ShowsFlaw, flaw_drawing, plain_drawing}
+use Rattle.fault_marks.specs.declared.marks.FaultMarks.{FaultMarks}
+use Rattle.fault_marks.proofs.OneMarks.{one_of_clashes, one_of_open_faces}
 
 abbrev flaw_or : Flaw → Result Answer Status → Flaw
 flaw_or f (Err (status.BadMap g)) = g
@@ -37,6 +39,10 @@ module _ (m : Map) where
   not_flawed (flaw.Line f) lines h q = lines.none f q
   not_flawed (flaw.Open side) lines h q = q.1.against (h.closed side)
 
+  one_marks : (which : Flaw) (x y : FaultMarks) → IsAuditRefusal m (status.BadMap which) → AreMarksOf m which x → AreMarksOf m which y → x ≡ y
+  one_marks (flaw.Line fault) x y refused h k = one_of_clashes m x y h k
+  one_marks (flaw.Open side) x y refused h k = one_of_open_faces m x y refused.0.meet h k
+
   module _ (name out : List ℕ) where
     abbrev Given : Result Drawn Status → Type 0
     Given s = Gives ⊤ (DrawFaultsCalls name out m) (drawn_answer out s)
@@ -55,12 +61,15 @@ module _ (m : Map) where
       gives_drawn (Ok e) s is made = subst Given (sym made) (drawn e is)
       gives_drawn (Err x) s is made = subst Given (sym made) tt
 
-    one_flaw : (which : Flaw) → IsAuditRefusal m (status.BadMap which) → (o : Option Flaw) (e : Drawing) → IsFaultOf m o → DrawsFault name m o e → e ≡ flaw_drawing name m which
-    one_flaw which h (Some other) e first draws = draws ∙ ap (λ (f : Flaw). flaw_drawing name m f) (only_flaw which other h first)
-    one_flaw which h None e first draws = absurd (not_closed which h first)
+    one_flaw : (which : Flaw) → IsAuditRefusal m (status.BadMap which) → (d : Drawing) → ShowsFlaw name m which d → (o : Option Flaw) (e : Drawing) → IsFaultOf m o → DrawsFault name m o e → e ≡ d
+    one_flaw which h d shown (Some other) e first draws =
+        let x : ShowsFlaw name m which e = subst (λ (f : Flaw). ShowsFlaw name m f e) (only_flaw which other h first) draws in
+        x.is ∙ ap (λ (y : FaultMarks). flaw_drawing name m which y) (one_marks which x.marks shown.marks h x.are shown.are) ∙ sym shown.is
+    one_flaw which h d shown None e first draws = absurd (not_closed which h first)
 
-    pub gives_flaw : (which : Flaw) → IsAuditRefusal m (status.BadMap which) → (r : Result Drawn Memory) (s : Result Drawn Status) → IfOk r (λ e. drawing e ≡ flaw_drawing name m which) → IsMadeOf r s → Given s
-    gives_flaw which h r s is made = gives_drawn (flaw_drawing name m which) (Some which) (is_refused which h) refl (one_flaw which h) r s is made
+    pub gives_flaw : (which : Flaw) → IsAuditRefusal m (status.BadMap which) → (r : Result Drawn Memory) (s : Result Drawn Status) → IfOk r (λ e. ShowsFlaw name m which (drawing e)) → IsMadeOf r s → Given s
+    gives_flaw which h (Ok e) s shown made = gives_drawn (drawing e) (Some which) (is_refused which h) shown (one_flaw which h (drawing e) shown) (Ok e) s refl made
+    gives_flaw which h (Err x) s shown made = subst Given (sym made) tt
 
 module _ (p : PlanParts) (plan : IsPlan p) (name out : List ℕ) (g : MapGroups) (lines : HasSoundLines (map_of p)) (over : IsOverGroups (map_of p) g) where
   one_plain : (o : Option Flaw) (e : Drawing) → IsFaultOf (map_of p) o → DrawsFault name (map_of p) o e → e ≡ plain_drawing name (map_of p) g

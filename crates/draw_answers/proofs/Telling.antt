@@ -6,14 +6,14 @@ use Rattle.map_answers.specs.SightStatus.Answer.{Answer}
 use Rattle.map_picture.specs.declared.rings.Letter.TheVariants as letter
 use Rattle.map_picture.specs.declared.sheet.Subject.TheVariants as subject
 use Rattle.map_picture.specs.declared.tint.Tint.TheVariants as tint
-use Rattle.map_picture.specs.Picture.{Legend, Marked, faces_from, heat_picture, heat_tints, marked_picture, most_of, plan_faces, plan_picture, ring_of, row_picture, row_tint}
+use Rattle.map_picture.specs.Picture.{Legend, Marked, faces_from, faults_from, heat_picture, heat_tints, marked_picture, most_of, plan_faces, plan_picture, ring_of, row_picture, row_tint}
 use Rattle.map_picture.proofs.Faced.{heat_shown, no_line_in_faces, row_shown}
 use Rattle.map_picture.proofs.Ids.{no_line, no_line_heat, no_line_legend, no_line_marked, no_line_ring}
-use Rattle.map_picture.proofs.Marking.{marks_shown}
+use Rattle.map_picture.proofs.Marking.{faults_shown, marks_shown}
 use Rattle.map_picture.proofs.Ordered.{lines_shown}
 use Rattle.pair_answer.proofs.Sectors.{answers_said, answers_tell}
 use Rattle.draw_answers.specs.Drawn.{Drawing, one_picture}
-use Rattle.draw_answers.specs.Faults.{DrawsFault, IsFaultOf, flaw_marks}
+use Rattle.draw_answers.specs.Faults.{DrawsFault, IsFaultOf}
 use Rattle.draw_answers.specs.Heat.{most_seen, seen_by}
 use Rattle.draw_answers.specs.Laws.{FaultsAreMarked, HeatTellsTables, MarksFault, PairsAreOfBuilds, PlansShowLines, RowsTellTables}
 
@@ -38,16 +38,18 @@ pub faults_marked : FaultsAreMarked
 faults_marked name out m answer h = go h.fault h.first h.shown h.draws h.is
   where
     go : (o : Option Flaw) → IsFaultOf m o → (d : Drawing) → DrawsFault name m o d → answer ≡ one_picture out d → MarksFault out m answer
-    go (Some which) first d draws is = record {
-      fault = Some which;
-      first = first;
-      picture = marked_picture name m (flaw_marks which);
-      writes = record {
-        writes = writes_of answer _ (is ∙ ap (λ (x : Drawing). one_picture out x) draws);
-        lines = lines_shown name subject.Faults m [] (Marked (flaw_marks which) ∷ []) no_line (no_line_marked (flaw_marks which));
-      };
-      marks = marks_shown name m (flaw_marks which);
-    }
+    go (Some which) first d draws is =
+        let x = draws.marks in
+        record {
+          fault = Some which;
+          first = first;
+          picture = marked_picture name m x.left_out x.lines x.faults;
+          writes = record {
+            writes = writes_of answer _ (is ∙ ap (λ (y : Drawing). one_picture out y) draws.is);
+            lines = lines_shown name (subject.Faults x.left_out) m [] (Marked x.lines ∷ faults_from x.faults) no_line (no_line_marked x.lines x.faults);
+          };
+          marks = record { marks = x; are = draws.are; lines = marks_shown name m x.left_out x.lines x.faults; rings = faults_shown name m x.left_out x.lines x.faults };
+        }
     go None first d draws is = let g = draws.groups in record {
       fault = None;
       first = first;

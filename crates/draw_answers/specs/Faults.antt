@@ -1,12 +1,13 @@
--- What a picture of a map's first fault calls for.
-use Rattle.std.specs.Prelude.{◌≡◌, ℕ, List, [], ◌∷◌, Option, Some, None, Result, Ok, Err}
-use Rattle.sight_names.specs.declared.faults.LineFault.TheVariants as line
+-- What a picture of a map's faults calls for.
+use Rattle.std.specs.Prelude.{◌≡◌, ℕ, List, Option, Some, None, Result, Ok, Err}
 use Rattle.sight_names.specs.Groups.{HasClosedFaces}
 use Rattle.sight_names.specs.Map.{Map}
 use Rattle.map_answers.specs.declared.sight_status.status.Flaw.{Flaw}
-use Rattle.map_answers.specs.declared.sight_status.status.Flaw.TheVariants as flaw
 use Rattle.map_answers.specs.declared.sight_status.status.Status.{Status}
 use Rattle.map_answers.specs.declared.sight_status.status.Status.TheVariants as status
+use Rattle.fault_marks.specs.declared.marks.FaultMarks.{FaultMarks}
+use Rattle.fault_marks.specs.Marks.{AreOfClashes, AreOfOpenFaces}
+use Rattle.map_answers.specs.declared.sight_status.status.Flaw.TheVariants as flaw
 use Rattle.map_answers.specs.SightStatus.Answer.{Answer}
 use Rattle.map_picture.specs.Bytes.{svg_of}
 use Rattle.map_picture.specs.Picture.{marked_picture, plan_picture}
@@ -15,15 +16,20 @@ use Rattle.map_answers.specs.Sound.{IsFlaw}
 use Rattle.draw_answers.specs.Drawn.{Drawing, one_picture}
 use Rattle.draw_answers.specs.Lines.{faultless_line, flaw_line}
 
--- the lines at fault: two that share more than an end of both, or that of the open side
-abbrev pub flaw_marks : Flaw → List ℕ
-flaw_marks (flaw.Line (line.Cross i j)) = i ∷ j ∷ []
-flaw_marks (flaw.Line (line.Touch i j)) = i ∷ j ∷ []
-flaw_marks (flaw.Line (line.Overlap i j)) = i ∷ j ∷ []
-flaw_marks (flaw.Open side) = side.line ∷ []
+-- the marks that a flaw calls for: where it is of two lines all clashes, else all that is open
+abbrev pub AreMarksOf : Map → Flaw → FaultMarks → Type 0
+AreMarksOf m (flaw.Line fault) x = AreOfClashes m x
+AreMarksOf m (flaw.Open side) x = AreOfOpenFaces m x
 
-abbrev pub flaw_drawing : List ℕ → Map → Flaw → Drawing
-flaw_drawing name m which = record { bytes = svg_of m (marked_picture name m (flaw_marks which)); line = flaw_line name which }
+-- the plan with these marks; the line tells the flaw that is first
+abbrev pub flaw_drawing : List ℕ → Map → Flaw → FaultMarks → Drawing
+flaw_drawing name m which x = record { bytes = svg_of m (marked_picture name m x.left_out x.lines x.faults); line = flaw_line name which }
+
+-- with those that the flaw calls for
+pub record ShowsFlaw (name : List ℕ) (m : Map) (which : Flaw) (d : Drawing) : Type 0 where
+  pub marks : FaultMarks
+  pub are : AreMarksOf m which marks
+  pub is : d ≡ flaw_drawing name m which marks
 
 abbrev pub plain_drawing : List ℕ → Map → MapGroups → Drawing
 plain_drawing name m g = record { bytes = svg_of m (plan_picture name m g.groups g.triangles g.labels); line = faultless_line name }
@@ -34,9 +40,9 @@ pub record IsPlain (name : List ℕ) (m : Map) (d : Drawing) : Type 0 where
   pub over : IsOverGroups m groups
   pub is : d ≡ plain_drawing name m groups
 
--- what is drawn of a map with this fault, or with none
+-- what is drawn of a map of which this fault is told first, or none
 abbrev pub DrawsFault : List ℕ → Map → Option Flaw → Drawing → Type 0
-DrawsFault name m (Some which) d = d ≡ flaw_drawing name m which
+DrawsFault name m (Some which) d = ShowsFlaw name m which d
 DrawsFault name m None d = IsPlain name m d
 
 -- what the audit tells first, or nothing

@@ -20,11 +20,12 @@ use Rattle.group_job.specs.declared.build.GroupBuilt.{GroupBuilt}
 use Rattle.group_job.specs.Built.{DecidesByGroups}
 use Rattle.map_picture.specs.Bytes.{svg_of}
 use Rattle.map_picture.specs.Picture.{Element, most_of}
-use Rattle.map_picture.specs.Laws.{ShowsFaces, ShowsLines, ShowsMarks, TellsHeat, TellsRow}
+use Rattle.map_picture.specs.Laws.{ShowsFaces, ShowsFaults, ShowsLines, ShowsMarks, TellsHeat, TellsRow}
 use Rattle.map_answers.specs.Groups.{IsOverGroups, MapGroups}
 use Rattle.pair_answer.specs.Laws.{IsSaidOf, TellsSight}
 use Rattle.pair_answer.specs.declared.entered_triangles.entered.Entered.{Entered}
-use Rattle.draw_answers.specs.Faults.{DrawFaultsCalls, IsFaultOf, flaw_marks}
+use Rattle.fault_marks.specs.declared.marks.FaultMarks.{FaultMarks}
+use Rattle.draw_answers.specs.Faults.{AreMarksOf, DrawFaultsCalls, IsFaultOf}
 use Rattle.draw_answers.specs.Heat.{DrawHeatCalls, most_seen, seen_by}
 use Rattle.draw_answers.specs.Pair.{DrawPairCalls, DrawsPair, IsEnteredOver}
 use Rattle.draw_answers.specs.Plan.{DrawPlanCalls}
@@ -40,13 +41,20 @@ pub record WritesPicture (out : List ℕ) (m : Map) (answer : Answer) (picture :
 abbrev pub PlansShowLines : Type 0
 PlansShowLines = (name out : List ℕ) (m : Map) (answer : Answer) → DrawPlanCalls name out m (Ok answer) → (picture : List Element) × WritesPicture out m answer picture
 
--- .. and, if the map has a fault, marks over the lines of the first one and over no other
+-- the lines and the points that the flaw calls for are marked, and no other
+pub record TellsMarks (m : Map) (which : Flaw) (picture : List Element) : Type 0 where
+  pub marks : FaultMarks
+  pub are : AreMarksOf m which marks
+  pub lines : ShowsMarks marks.lines picture
+  pub rings : ShowsFaults marks.faults picture
+
+-- .. and, if the map has a fault, those that the first one calls for
 pub record MarksFault (out : List ℕ) (m : Map) (answer : Answer) : Type 0 where
   pub fault : Option Flaw
   pub first : IsFaultOf m fault
   pub picture : List Element
   pub writes : WritesPicture out m answer picture
-  pub marks : IfSome fault (λ which. ShowsMarks (flaw_marks which) picture)
+  pub marks : IfSome fault (λ which. TellsMarks m which picture)
 
 abbrev pub FaultsAreMarked : Type 0
 FaultsAreMarked = (name out : List ℕ) (m : Map) (answer : Answer) → DrawFaultsCalls name out m (Ok answer) → MarksFault out m answer

@@ -1,4 +1,4 @@
-//! The picture of a map's first fault.
+//! The picture of a map's faults.
 
 ghost use Rattle.std.specs.Prelude.{◌≡◌, IfErr, IfOk, List, ℕ, length, ⊤};
 ghost use Rattle.sight_names.specs.Map.{map_of};
@@ -7,38 +7,54 @@ ghost use Rattle.map_answers.specs.Groups.{AreGroupsOver, seen};
 ghost use Rattle.map_answers.specs.Sound.{IsAuditRefusal};
 ghost use Rattle.map_answers.specs.SightStatus.Answer.{Gives};
 ghost use Rattle.draw_answers.specs.Drawn.{drawing, drawn_answer};
-ghost use Rattle.draw_answers.specs.Faults.{DrawFaultsCalls, flaw_drawing, flaw_marks, plain_drawing};
+ghost use Rattle.draw_answers.specs.Faults.{AreMarksOf, DrawFaultsCalls, ShowsFlaw, flaw_drawing, plain_drawing};
 
 use crate::audited::groups_of;
 use crate::drawn::{Drawn, made};
 use crate::lines::{fault_line, no_fault_line};
 use crate::plan::faces_alone;
+use fault_marks::{FaultMarks, marks_of_clashes, marks_of_open_faces};
 use map_answers::MeshGroups;
 use map_answers::sight_status::{Flaw, Status};
 use map_picture::marked_picture;
-use sight_names::{LineFault, Memory, Plan};
+use sight_names::{Memory, Plan};
 use std::alloc::Global;
 
-/// The lines that are at fault.
-fn marks_of(alloc: Global, which: Flaw) -> Result<Vec<u16>, Memory>
-    ensures { IfOk result (λ v. v.items ≡ flaw_marks which) }
+/// What is marked of a map that its audit refuses by this flaw.
+fn marks_of(alloc: Global, plan: &Plan, which: Flaw) -> Result<FaultMarks, Memory>
+    requires { IsAuditRefusal (map_of plan.now) (status.BadMap which) }
+    ensures { IfOk result (AreMarksOf (map_of plan.now) which) }
 {
     match which {
-        Flaw::Line(LineFault::Cross { i, j }) => Ok(vec![in alloc; i, j]?),
-        Flaw::Line(LineFault::Touch { i, j }) => Ok(vec![in alloc; i, j]?),
-        Flaw::Line(LineFault::Overlap { i, j }) => Ok(vec![in alloc; i, j]?),
-        Flaw::Open(side) => Ok(vec![in alloc; side.line]?),
+        Flaw::Line(_) => marks_of_clashes(alloc, plan),
+        Flaw::Open(_) => marks_of_open_faces(alloc, plan),
     }
 }
 
-/// The plan with its fault marked, and the line of the fault.
-fn drawn_fault(alloc: Global, plan: &Plan, map: &str, which: Flaw) -> Result<Drawn, Memory>
-    ensures { IfOk result (λ d. drawing d ≡ flaw_drawing map.now (map_of plan.now) which) }
+/// The plan with these marks, and the line of the fault.
+fn drawn_marks(
+    alloc: Global,
+    plan: &Plan,
+    map: &str,
+    which: Flaw,
+    marks: &FaultMarks,
+) -> Result<Drawn, Memory>
+    ensures { IfOk result (λ d. drawing d ≡ flaw_drawing map.now (map_of plan.now) which marks.now) }
 {
-    let marks = marks_of(alloc, which)?;
-    let picture = marked_picture(alloc, map, plan, marks.as_slice())?;
+    let lines = marks.lines.as_slice();
+    let faults = marks.faults.as_slice();
+    let picture = marked_picture(alloc, map, plan, marks.left_out, lines, faults)?;
     let line = fault_line(alloc, map, which)?;
     Ok(Drawn { picture, line })
+}
+
+/// The plan with its faults marked, and the line of the first one.
+fn drawn_fault(alloc: Global, plan: &Plan, map: &str, which: Flaw) -> Result<Drawn, Memory>
+    requires { IsAuditRefusal (map_of plan.now) (status.BadMap which) }
+    ensures { IfOk result (λ d. ShowsFlaw map.now (map_of plan.now) which (drawing d)) }
+{
+    let marks = marks_of(alloc, plan, which)?;
+    drawn_marks(alloc, plan, map, which, &marks)
 }
 
 /// The plan alone, and the line of a map without a fault.
@@ -66,7 +82,8 @@ fn drawn_refused(alloc: Global, plan: &Plan, map: &str, refusal: Status) -> Resu
     }
 }
 
-/// The picture of any map's plan, in which the first fault that an audit tells is marked.
+/// The picture of any map's plan, in which its faults are marked: the first thousand pairs of lines that clash, or where none do the
+/// open sides, the torn corners and the loose ends. The line is of the fault that an audit tells.
 pub fn draw_faults(alloc: Global, plan: &Plan, map: &str) -> Result<Drawn, Status>
     ensures judged { (out : List ℕ) → Gives ⊤ (DrawFaultsCalls map.now out (map_of plan.now)) (drawn_answer out result) }
     ensures refusals { IfErr result (λ s. s ≡ status.Memory tt) }

@@ -7,7 +7,8 @@ pub fn plans_show_lines()
     ensures { PlansShowLines }
 {}
 
-/// A picture of a map's first fault marks its lines, and no other; where the map has none, nothing is marked.
+/// A picture of a map's faults marks the lines and the points that the fault calls for that is told first, and no other; where the
+/// map has none, nothing is marked.
 pub fn faults_are_marked()
     ensures { FaultsAreMarked }
 {}

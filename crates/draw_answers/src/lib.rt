@@ -1,5 +1,5 @@
 //! Pictures of a map that was read: the plan, the row of a table, how much each sector sees by it, what a pair of sectors sees, or
-//! the first fault of the map; each with the line that tells of it.
+//! the faults of the map; each with the line that tells of it.
 #![tactic(auto)]
 
 mod audited;

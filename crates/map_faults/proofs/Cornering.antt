@@ -20,7 +20,7 @@ use Rattle.geom_exact.specs.Formulas.{turn_of, AreOnOneSide}
 use Rattle.geom_exact.proofs.SegmentLemmas.{on, beside, beside-mean, spread, meet_x, meet_y, same_meeting_x, same_meeting_y, four_turns}
 use Rattle.geom_exact.proofs.RelationLemmas.{apart_on_other_side}
 use Rattle.std.specs.Prelude.{nat_abs}
-use Rattle.map_faults.specs.Corners.{IsRoundedDown, IsCornerOf, AreCornersOf, IsMeanDown}
+use Rattle.map_faults.specs.Corners.{IsRoundedDown, IsCornerOf, IsOneCornerOf, AreCornersOf, IsMeanDown}
 
 straight : (p q : Pt) (z : Point) → OnSegment (point_of p) (point_of q) z → beside p q z ≡ pos 0
 straight p q z h = let w = on p q z h in zero-of-mul (w.0 +ℤ w.1) (beside p q z) w.2.weighted (beside-mean p q w.0 w.1 z w.2)
@@ -98,24 +98,27 @@ some_weight p q r s n = elim (le_or_lt_nat 0 (nat_abs (turn_of r s q) + nat_abs 
     same : (a b c d : ℤ) → nat_abs a + nat_abs b ≤ 0 → a -ℤ b ≡ c -ℤ d → c ≡ d
     same a b c d h e = omega (arith, ints)
 
-pub corner_is : (p q r s c : Pt) → ¬ (turn_of p q r ≡ turn_of p q s) → IsMeanDown (nat_abs (turn_of r s q)) (nat_abs (turn_of r s p)) p.x q.x c.x → IsMeanDown (nat_abs (turn_of r s q)) (nat_abs (turn_of r s p)) p.y q.y c.y → IsCornerOf p q r s c
-corner_is p q r s c n hx hy z common =
-    let a = turn_of r s q in
-    let b = turn_of r s p in
-    let m = nat_abs a in
-    let k = nat_abs b in
-    let on_pq = straight p q z common.0 in
-    let on_rs = straight r s z common.1 in
-    let apart : ¬ AreOnOneSide b a = (λ one. apart_on_other_side p q r s one z common) in
-    let x = weighed a b p.x q.x z.x (pos z.d) apart (ap (λ (t : ℤ). t *ℤ z.x) (four_turns p q r s) ∙ meet_x p q r s z on_pq on_rs ∙ ap (λ (t : ℤ). pos z.d *ℤ t) (same_meeting_x p q r s)) in
-    let y = weighed a b p.y q.y z.y (pos z.d) apart (ap (λ (t : ℤ). t *ℤ z.y) (four_turns p q r s) ∙ meet_y p q r s z on_pq on_rs ∙ ap (λ (t : ℤ). pos z.d *ℤ t) (same_meeting_y p q r s)) in
-    let some = positive m k (some_weight p q r s n) in
-    let dx = down (pos m +ℤ pos k) z.x (pos z.d) c.x (pos m *ℤ p.x +ℤ pos k *ℤ q.x) some (scale_above z) x hx.from hx.to in
-    let dy = down (pos m +ℤ pos k) z.y (pos z.d) c.y (pos m *ℤ p.y +ℤ pos k *ℤ q.y) some (scale_above z) y hy.from hy.to in
-    record { x_from = dx.0; x_to = dx.1; y_from = dy.0; y_to = dy.1 }
+pub corner_is : (p q r s c : Pt) → ¬ (turn_of p q r ≡ turn_of p q s) → IsMeanDown (nat_abs (turn_of r s q)) (nat_abs (turn_of r s p)) p.x q.x c.x → IsMeanDown (nat_abs (turn_of r s q)) (nat_abs (turn_of r s p)) p.y q.y c.y → IsOneCornerOf p q r s c
+corner_is p q r s c n hx hy = (n, rounded)
   where
     positive : (m k : ℕ) → 0 < m + k → pos 0 <ℤ (pos m +ℤ pos k)
     positive m k h = omega (arith, ints)
+
+    rounded : IsCornerOf p q r s c
+    rounded z common =
+        let a = turn_of r s q in
+        let b = turn_of r s p in
+        let m = nat_abs a in
+        let k = nat_abs b in
+        let on_pq = straight p q z common.0 in
+        let on_rs = straight r s z common.1 in
+        let apart : ¬ AreOnOneSide b a = (λ one. apart_on_other_side p q r s one z common) in
+        let x = weighed a b p.x q.x z.x (pos z.d) apart (ap (λ (t : ℤ). t *ℤ z.x) (four_turns p q r s) ∙ meet_x p q r s z on_pq on_rs ∙ ap (λ (t : ℤ). pos z.d *ℤ t) (same_meeting_x p q r s)) in
+        let y = weighed a b p.y q.y z.y (pos z.d) apart (ap (λ (t : ℤ). t *ℤ z.y) (four_turns p q r s) ∙ meet_y p q r s z on_pq on_rs ∙ ap (λ (t : ℤ). pos z.d *ℤ t) (same_meeting_y p q r s)) in
+        let some = positive m k (some_weight p q r s n) in
+        let dx = down (pos m +ℤ pos k) z.x (pos z.d) c.x (pos m *ℤ p.x +ℤ pos k *ℤ q.x) some (scale_above z) x hx.from hx.to in
+        let dy = down (pos m +ℤ pos k) z.y (pos z.d) c.y (pos m *ℤ p.y +ℤ pos k *ℤ q.y) some (scale_above z) y hy.from hy.to in
+        record { x_from = dx.0; x_to = dx.1; y_from = dy.0; y_to = dy.1 }
 
 -- ---- the mean by division
 
@@ -178,12 +181,12 @@ lowered_mean m n a b q x y c ea eb ec below above = record {
 
 pub corner_of_lines : (p : PlanParts) (i j : ℕ) (one other : Line) (a b c d : Pt) (o : Option Pt) → option_and_then (λ l. l) (slice_get p.lines i) ≡ Some one → option_and_then (λ l. l) (slice_get p.lines j) ≡ Some other
     → slice_get p.points one.a ≡ Some a → slice_get p.points one.b ≡ Some b → slice_get p.points other.a ≡ Some c → slice_get p.points other.b ≡ Some d
-    → MatchOption o (turn_of a b c ≡ turn_of a b d) (IsCornerOf a b c d) → AreCornersOf (map_of p) i j o
+    → MatchOption o (turn_of a b c ≡ turn_of a b d) (IsOneCornerOf a b c d) → AreCornersOf (map_of p) i j o
 corner_of_lines p i j one other a b c d o ei ej ea eb ec ed h k l ek el =
-    subst₂ (λ (x y : MapLine). MatchOption o (turn_of x.first x.second y.first ≡ turn_of x.first x.second y.second) (IsCornerOf x.first x.second y.first y.second))
+    subst₂ (λ (x y : MapLine). MatchOption o (turn_of x.first x.second y.first ≡ turn_of x.first x.second y.second) (IsOneCornerOf x.first x.second y.first y.second))
     (one_value (line_at (map_of p) i) (looked_up p.points one) k (line_there p i one (sym ei)) ek) (one_value (line_at (map_of p) j) (looked_up p.points other) l (line_there p j other (sym ej)) el)
-    (subst₂ (λ (u v : Pt). MatchOption o (turn_of u v (slice_index_or p.points other.a origin) ≡ turn_of u v (slice_index_or p.points other.b origin)) (IsCornerOf u v (slice_index_or p.points other.a origin) (slice_index_or p.points other.b origin))) (read one.a a ea) (read one.b b eb)
-    (subst₂ (λ (u v : Pt). MatchOption o (turn_of a b u ≡ turn_of a b v) (IsCornerOf a b u v)) (read other.a c ec) (read other.b d ed) h))
+    (subst₂ (λ (u v : Pt). MatchOption o (turn_of u v (slice_index_or p.points other.a origin) ≡ turn_of u v (slice_index_or p.points other.b origin)) (IsOneCornerOf u v (slice_index_or p.points other.a origin) (slice_index_or p.points other.b origin))) (read one.a a ea) (read one.b b eb)
+    (subst₂ (λ (u v : Pt). MatchOption o (turn_of a b u ≡ turn_of a b v) (IsOneCornerOf a b u v)) (read other.a c ec) (read other.b d ed) h))
   where
     read : (n : ℕ) (x : Pt) → slice_get p.points n ≡ Some x → x ≡ slice_index_or p.points n origin
     read n x e = sym (get_or_from_slice_get p.points n x origin e)

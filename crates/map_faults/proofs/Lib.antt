@@ -3,6 +3,7 @@ pub mod Cornering
 pub mod FirstClash
 pub mod Loose
 pub mod OpenOnes
+pub mod OneOfEach
 pub mod Ordered
 pub mod Outside
 pub mod SidesOfEdges

@@ -17,10 +17,14 @@ pub record IsRoundedDown (z : Point) (c : Pt) : Type 0 where
 abbrev pub IsCornerOf : Pt → Pt → Pt → Pt → Pt → Type 0
 IsCornerOf p q r s c = (z : Point) → IsCommon p q r s z → IsRoundedDown z c
 
+-- .. of segments that aren't parallel
+abbrev pub IsOneCornerOf : Pt → Pt → Pt → Pt → Pt → Type 0
+IsOneCornerOf p q r s c = (¬ (turn_of p q r ≡ turn_of p q s)) × IsCornerOf p q r s c
+
 -- so for the lines of these two records; none is told where they are parallel
 abbrev pub AreCornersOf : Map → ℕ → ℕ → Option Pt → Type 0
 AreCornersOf m i j o = (k l : MapLine) → line_at m i ≡ Some k → line_at m j ≡ Some l
-    → MatchOption o (turn_of k.first k.second l.first ≡ turn_of k.first k.second l.second) (IsCornerOf k.first k.second l.first l.second)
+    → MatchOption o (turn_of k.first k.second l.first ≡ turn_of k.first k.second l.second) (IsOneCornerOf k.first k.second l.first l.second)
 
 -- the mean of a and b with these weights, rounded down
 pub record IsMeanDown (m n : ℕ) (a b c : ℤ) : Type 0 where

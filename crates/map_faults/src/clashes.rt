@@ -229,7 +229,7 @@ fn fault_named(i: u16, j: u16, relation: Relation) -> Option<LineFault>
 }
 
 /// The numbers in order, each once.
-fn in_order(all: Vec<u16>) -> Vec<u16>
+pub fn in_order(all: Vec<u16>) -> Vec<u16>
     ensures order { AreInOrder all.items result.items }
     ensures few { length result.items ≤ length all.items }
 {

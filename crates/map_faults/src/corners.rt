@@ -3,7 +3,7 @@
 ghost use Rattle.std.specs.Prelude.{◌≡◌, ◌≢◌, ◌<◌, ◌≤◌, ◌+◌, ◌*◌, ◌+ℤ◌, ◌-ℤ◌, MatchOption, Some, pos, option_and_then, slice_get};
 ghost use Rattle.sight_names.specs.Map.{map_of};
 ghost use Rattle.geom_exact.specs.Formulas.{turn_of};
-ghost use Rattle.map_faults.specs.Corners.{AreCornersOf, IsCornerOf, IsMeanDown};
+ghost use Rattle.map_faults.specs.Corners.{AreCornersOf, IsMeanDown, IsOneCornerOf};
 
 use geom_exact::turn;
 use sight_names::{Plan, Pt};
@@ -50,7 +50,7 @@ fn mean_down(m: u64, n: u64, a: i16, b: i16) -> i16
 
 /// The common point of the segment from `p` to `q` and the one from `r` to `s`, rounded down; None where they are parallel.
 fn corner_of(p: Pt, q: Pt, r: Pt, s: Pt) -> Option<Pt>
-    ensures { MatchOption result (turn_of p q r ≡ turn_of p q s) (IsCornerOf p q r s) }
+    ensures { MatchOption result (turn_of p q r ≡ turn_of p q s) (IsOneCornerOf p q r s) }
 {
     if turn(p, q, r) == turn(p, q, s) {
         return None;

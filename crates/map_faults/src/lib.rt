@@ -10,7 +10,7 @@ mod loose_ends;
 mod open_sides;
 mod tears;
 
-pub use clashes::{Clashes, LinePair, MOST_CLASHES, clashes_of, fault_of};
+pub use clashes::{Clashes, LinePair, MOST_CLASHES, clashes_of, fault_of, in_order};
 pub use corners::meeting_of;
 pub use gaps::{Gap, gaps_of};
 pub use loose_ends::{LooseEnd, loose_ends_of};

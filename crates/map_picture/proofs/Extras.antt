@@ -7,13 +7,14 @@ use Rattle.math_base.proofs.Lists.{all_join}
 use Rattle.sight_names.specs.declared.names.Ray.{Ray}
 use Rattle.sight_names.specs.declared.names.Triangle.{Triangle}
 use Rattle.sight_names.specs.Map.{Map, MapLine, line_at}
+use Rattle.map_picture.specs.declared.faults.FaultAt.{FaultAt}
 use Rattle.map_picture.specs.declared.pair.Stop.{Stop}
 use Rattle.map_picture.specs.declared.tint.Tint.{Tint}
 use Rattle.map_picture.specs.Bytes.{count_text, face_id, id_of, line_id}
 use Rattle.map_picture.specs.declared.rings.Letter.{Letter}
 use Rattle.map_picture.specs.declared.sheet.Subject.{Subject}
-use Rattle.map_picture.specs.Picture.{Element, Entered, Legend, Stops, Sight, faces_from, pair_rings, picture_of, ring_of, sight_between, sight_elements}
-use Rattle.map_picture.proofs.Pieces.{AtMostOne, NotSo, all_ring, all_rings, once_alone, once_before, once_behind, once_none, once_over, once_under}
+use Rattle.map_picture.specs.Picture.{Element, Entered, Legend, Stops, Sight, faces_from, faults_from, pair_rings, picture_of, ring_of, sight_between, sight_elements}
+use Rattle.map_picture.proofs.Pieces.{AtMostOne, NotSo, all_faults, all_ring, all_rings, once_alone, once_before, once_behind, once_none, once_over, once_under}
 
 abbrev pub HasId : List ℕ → Element → Type 0
 HasId w e = id_of e ≡ w
@@ -96,17 +97,24 @@ rings_words m groups ts labels a b w word = all_rings (NotSo (HasId w)) (λ l s 
 pub legend_words : (most : ℕ) → HasNoWord (Legend most ∷ [])
 legend_words most w word = (no_empty w word, tt)
 
+pub faults_words : (faults : List FaultAt) → HasNoWord (faults_from faults)
+faults_words faults w word = all_faults (NotSo (HasId w)) (λ what c. no_empty w word) faults
+
 pub no_words : HasNoWord []
 no_words w word = tt
 
--- a picture with one element over the lines
-pub one_over : (name : List ℕ) (about : Subject) (m : Map) (x : Element) → WordsAreOnce (picture_of name about m [] (x ∷ []))
-one_over name about m x = record {
-  open_once = word_over (codes "open") open_word name about m [] (x ∷ []) tt (once_alone (HasId (codes "open")) x);
-  stops_once = word_over (codes "stops") stops_word name about m [] (x ∷ []) tt (once_alone (HasId (codes "stops")) x);
-  ray_once = word_over (codes "ray") ray_word name about m [] (x ∷ []) tt (once_alone (HasId (codes "ray")) x);
-  fault_once = word_over (codes "fault") fault_word name about m [] (x ∷ []) tt (once_alone (HasId (codes "fault")) x);
-}
+-- a picture with one element over the lines, before what has no word
+module _ (name : List ℕ) (about : Subject) (m : Map) (x : Element) (rest : List Element) (none : HasNoWord rest) where
+  one_word : (w : List ℕ) → IsWord w → AtMostOne (HasId w) (picture_of name about m [] (x ∷ rest))
+  one_word w word = word_over w word name about m [] (x ∷ rest) tt (once_before (HasId w) (x ∷ []) rest (once_alone (HasId w) x) (none w word))
+
+  pub one_over : WordsAreOnce (picture_of name about m [] (x ∷ rest))
+  one_over = record {
+    open_once = one_word (codes "open") open_word;
+    stops_once = one_word (codes "stops") stops_word;
+    ray_once = one_word (codes "ray") ray_word;
+    fault_once = one_word (codes "fault") fault_word;
+  }
 
 none_of_one : (w : List ℕ) → AtMostOne (HasId w) []
 none_of_one w = once_none (HasId w) [] tt

@@ -1,14 +1,125 @@
--- The marks of a picture.
-use Rattle.std.proofs.Common.{ℕ, zero, List, [], ◌∷◌, refl}
-use Rattle.sight_names.specs.Map.{Map}
+-- The marks of a picture, and the rings round points at fault.
+use Rattle.std.proofs.Common.{◌≡◌, ◌∙◌, ℕ, zero, suc, inl, inr, List, [], ◌∷◌, ◌++◌, Option, Some, None, Contains, slice_get, refl, sym, ap, subst}
+use Rattle.std.specs.List.{AllByRecursion}
+use Rattle.std.proofs.lemmas.List.{append-nil}
+use Rattle.std.proofs.lemmas.List.Concat.{flat_map-append}
+use Rattle.std.proofs.lemmas.Option.{none-some, same_Some}
+use Rattle.math_base.proofs.Lists.{contains_cons, contains_here, contains_none, contains_there}
+use Rattle.sight_names.specs.declared.names.Pt.{Pt}
+use Rattle.sight_names.specs.Map.{Map, MapLine}
+use Rattle.map_picture.specs.declared.faults.FaultAt.{FaultAt}
+use Rattle.map_picture.specs.declared.faults.PointFault.{PointFault}
+use Rattle.map_picture.specs.declared.frame.Frame.{Frame}
+use Rattle.map_picture.specs.declared.sheet.Subject.{Subject}
 use Rattle.map_picture.specs.declared.sheet.Subject.TheVariants as subject
-use Rattle.map_picture.specs.Picture.{Marked, marked_picture}
-use Rattle.map_picture.specs.Laws.{ShowsMarks}
-use Rattle.map_picture.proofs.Pieces.{has_over}
-use Rattle.map_picture.proofs.Extras.{one_over}
+use Rattle.map_picture.specs.Bytes.{bytes_of, fault_place_text, fault_text, fault_texts, spelled}
+use Rattle.map_picture.specs.Picture.{Element, Head, Title, Style, Paper, Scale, Line, Marked, Fault, Foot, fault_if, faults_from, marked_picture}
+use Rattle.map_picture.specs.Laws.{Has, ShowsFaults, ShowsMarks}
+use Rattle.map_picture.proofs.Pieces.{at_over, has_before, has_behind, has_over}
+use Rattle.map_picture.proofs.Extras.{faults_words, one_over}
 
-pub marks_shown : (name : List ℕ) (m : Map) (marks : List ℕ) → ShowsMarks marks (marked_picture name m marks)
-marks_shown name m marks = record {
-  has = has_over name subject.Faults m [] (Marked marks ∷ []) (Marked marks) (zero, refl);
-  once = λ i j ms ns at more. (one_over name subject.Faults m (Marked marks)).fault_once i j (Marked ms) (Marked ns) at more refl refl;
+pub marks_shown : (name : List ℕ) (m : Map) (left_out : ℕ) (marks : List ℕ) (faults : List FaultAt) → ShowsMarks marks (marked_picture name m left_out marks faults)
+marks_shown name m left_out marks faults = record {
+  has = has_over name (subject.Faults left_out) m [] (Marked marks ∷ faults_from faults) (Marked marks) (zero, refl);
+  once = λ i j ms ns at more. (one_over name (subject.Faults left_out) m (Marked marks) (faults_from faults) (faults_words faults)).fault_once i j (Marked ms) (Marked ns) at more refl refl;
 }
+
+-- ---- the rings
+
+has_fault : (a : FaultAt) (faults : List FaultAt) (c : Pt) → Contains faults a → a.at ≡ Some c → Has (faults_from faults) (Fault a.fault c)
+has_fault a [] c h at = absurd (contains_none a h)
+has_fault a (b ∷ faults) c h at = elim (contains_cons a b faults h) as (λ _. Has (fault_if b.fault b.at ++ faults_from faults) (Fault a.fault c)) [
+  | inl same ↦ has_before (fault_if b.fault b.at) (faults_from faults) (Fault a.fault c)
+      (subst (λ (x : FaultAt). Has (fault_if x.fault x.at) (Fault a.fault c)) (sym same) (subst (λ (o : Option Pt). Has (fault_if a.fault o) (Fault a.fault c)) (sym at) (zero, refl)))
+  | inr later ↦ has_behind (fault_if b.fault b.at) (faults_from faults) (Fault a.fault c) (has_fault a faults c later at)
+]
+
+abbrev at_point : PointFault → Pt → FaultAt
+at_point what c = record { fault = what; at = Some c }
+
+same_fault : (u v : PointFault) (d c : Pt) → ◌≡◌ {A = Element} (Fault u d) (Fault v c) → u ≡ v
+same_fault u v d c e = cc
+
+same_place : (u v : PointFault) (d c : Pt) → ◌≡◌ {A = Element} (Fault u d) (Fault v c) → d ≡ c
+same_place u v d c e = cc
+
+one_point : (a : FaultAt) (what : PointFault) (d c : Pt) → a.at ≡ Some d → ◌≡◌ {A = Element} (Fault a.fault d) (Fault what c) → a ≡ at_point what c
+one_point a what d c at e = λ i. record { fault = same_fault a.fault what d c e i; at = second i }
+  where
+    second : a.at ≡ Some c
+    second = at ∙ ap (λ (p : Pt). Some p) (same_place a.fault what d c e)
+
+-- among the rings of the first one and those of the others
+of_first : (a : FaultAt) (faults : List FaultAt) (what : PointFault) (c : Pt) → ((k : ℕ) → slice_get (faults_from faults) k ≡ Some (Fault what c) → Contains faults (at_point what c))
+    → (o : Option Pt) → a.at ≡ o → (k : ℕ) → slice_get (fault_if a.fault o ++ faults_from faults) k ≡ Some (Fault what c) → Contains (a ∷ faults) (at_point what c)
+of_first a faults what c rest None e k at = contains_there (at_point what c) a faults (rest k at)
+of_first a faults what c rest (Some d) e zero at = subst (λ (x : FaultAt). Contains (a ∷ faults) x) (one_point a what d c e (same_Some (Fault a.fault d) (Fault what c) at)) (contains_here a faults)
+of_first a faults what c rest (Some d) e (suc k) at = contains_there (at_point what c) a faults (rest k at)
+
+of_faults : (faults : List FaultAt) (k : ℕ) (what : PointFault) (c : Pt) → slice_get (faults_from faults) k ≡ Some (Fault what c) → Contains faults (at_point what c)
+of_faults [] k what c at = absurd (none-some (Fault what c) at)
+of_faults (a ∷ faults) k what c at = of_first a faults what c (λ n h. of_faults faults n what c h) a.at refl k at
+
+abbrev IsFault : Element → Type 0
+IsFault e = (what : PointFault) × (c : Pt) × (e ≡ Fault what c)
+
+no_head : (what : PointFault) (c : Pt) → ◌≡◌ {A = Element} Head (Fault what c) → ⊥
+no_head what c e = cc
+
+no_title : (n : List ℕ) (s : Subject) (what : PointFault) (c : Pt) → ◌≡◌ {A = Element} (Title n s) (Fault what c) → ⊥
+no_title n s what c e = cc
+
+no_style : (what : PointFault) (c : Pt) → ◌≡◌ {A = Element} Style (Fault what c) → ⊥
+no_style what c e = cc
+
+no_paper : (what : PointFault) (c : Pt) → ◌≡◌ {A = Element} Paper (Fault what c) → ⊥
+no_paper what c e = cc
+
+no_scale : (what : PointFault) (c : Pt) → ◌≡◌ {A = Element} Scale (Fault what c) → ⊥
+no_scale what c e = cc
+
+no_foot : (what : PointFault) (c : Pt) → ◌≡◌ {A = Element} Foot (Fault what c) → ⊥
+no_foot what c e = cc
+
+no_line : (i : ℕ) (l : MapLine) (what : PointFault) (c : Pt) → ◌≡◌ {A = Element} (Line i l) (Fault what c) → ⊥
+no_line i l what c e = cc
+
+no_marked : (marks : List ℕ) (what : PointFault) (c : Pt) → ◌≡◌ {A = Element} (Marked marks) (Fault what c) → ⊥
+no_marked marks what c e = cc
+
+module _ (name : List ℕ) (m : Map) (left_out : ℕ) (marks : List ℕ) (faults : List FaultAt) where
+  abbrev about : Subject
+  about = subject.Faults left_out
+
+  abbrev over : List Element
+  over = Marked marks ∷ faults_from faults
+
+  over_all : (what : PointFault) (c : Pt) → Has (marked_picture name m left_out marks faults) (Fault what c) → Has over (Fault what c)
+  over_all what c (p, at) =
+      at_over IsFault name about m (λ h. no_head h.0 h.1 h.2) (λ n s h. no_title n s h.0 h.1 h.2) (λ h. no_style h.0 h.1 h.2) (λ h. no_paper h.0 h.1 h.2) (λ h. no_scale h.0 h.1 h.2) (λ h. no_foot h.0 h.1 h.2)
+      (λ i l h. no_line i l h.0 h.1 h.2) [] over tt p (Fault what c) (what, c, refl) at
+
+  only_these : (what : PointFault) (c : Pt) → Has over (Fault what c) → Contains faults (at_point what c)
+  only_these what c (zero, at) = absurd (no_marked marks what c (same_Some (Marked marks) (Fault what c) at))
+  only_these what c (suc k, at) = of_faults faults k what c at
+
+  pub faults_shown : ShowsFaults faults (marked_picture name m left_out marks faults)
+  faults_shown = record {
+    has = λ a c h at. (let r = has_fault a faults c h at in has_over name about m [] over (Fault a.fault c) (suc r.0, r.1));
+    only = λ what c h. only_these what c (over_all what c h);
+  }
+
+-- ---- their bytes
+
+if_spelled : (f : Frame) (m : Map) (what : PointFault) (o : Option Pt) → spelled f m (fault_if what o) ≡ fault_place_text f what o
+if_spelled f m what None = refl
+if_spelled f m what (Some c) = append-nil (fault_text f what c)
+
+pub faults_spelled : (f : Frame) (m : Map) (faults : List FaultAt) → spelled f m (faults_from faults) ≡ fault_texts f faults
+faults_spelled f m [] = refl
+faults_spelled f m (a ∷ faults) =
+    flat_map-append (bytes_of f m) (fault_if a.fault a.at) (faults_from faults) ∙ ap (λ (l : List ℕ). l ++ spelled f m (faults_from faults)) (if_spelled f m a.fault a.at)
+    ∙ ap (λ (l : List ℕ). fault_place_text f a.fault a.at ++ l) (faults_spelled f m faults)
+
+pub rings_on : (f : Frame) (m : Map) (faults : List FaultAt) (a b : List ℕ) → b ≡ a ++ fault_texts f faults → b ≡ a ++ spelled f m (faults_from faults)
+rings_on f m faults a b made = made ∙ ap (λ (l : List ℕ). a ++ l) (sym (faults_spelled f m faults))

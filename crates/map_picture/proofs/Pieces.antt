@@ -4,11 +4,14 @@ use Rattle.std.specs.List.{AllByRecursion}
 use Rattle.std.proofs.lemmas.Option.{none-some, same_Some}
 use Rattle.math_base.proofs.Lists.{all_join, all_at}
 use Rattle.sight_names.specs.Map.{Map, MapLine}
+use Rattle.sight_names.specs.declared.names.Pt.{Pt}
 use Rattle.sight_names.specs.declared.names.Triangle.{Triangle}
+use Rattle.map_picture.specs.declared.faults.FaultAt.{FaultAt}
+use Rattle.map_picture.specs.declared.faults.PointFault.{PointFault}
 use Rattle.map_picture.specs.declared.rings.Letter.{Letter}
 use Rattle.map_picture.specs.declared.sheet.Subject.{Subject}
 use Rattle.map_picture.specs.declared.rings.Letter.TheVariants as letter
-use Rattle.map_picture.specs.Picture.{Element, Head, Title, Style, Paper, Scale, Line, Ring, Foot, entry_if, largest_of, line_elements, line_if, lines_from, pair_rings, picture_of, ring_at, ring_of, sheet_of}
+use Rattle.map_picture.specs.Picture.{Element, Head, Title, Style, Paper, Scale, Line, Fault, Ring, Foot, entry_if, fault_if, faults_from, largest_of, line_elements, line_if, lines_from, pair_rings, picture_of, ring_at, ring_of, sheet_of}
 use Rattle.map_picture.specs.Laws.{Has}
 
 -- ---- what holds of every line
@@ -50,6 +53,17 @@ module _ (P : Element → Type 0) (ring : (which : Letter) (sector : ℕ) (t : T
 
     pub all_rings : (a b : ℕ) → AllByRecursion P (pair_rings m groups ts labels a b)
     all_rings a b = all_join P (ring_of m groups ts labels letter.A a) (ring_of m groups ts labels letter.B b) (all_ring letter.A a) (all_ring letter.B b)
+
+-- ---- what holds of every ring round a point at fault
+
+module _ (P : Element → Type 0) (fault : (what : PointFault) (c : Pt) → P (Fault what c)) where
+  all_if_fault : (what : PointFault) (o : Option Pt) → AllByRecursion P (fault_if what o)
+  all_if_fault what None = tt
+  all_if_fault what (Some c) = (fault what c, tt)
+
+  pub all_faults : (faults : List FaultAt) → AllByRecursion P (faults_from faults)
+  all_faults [] = tt
+  all_faults (a ∷ faults) = all_join P (fault_if a.fault a.at) (faults_from faults) (all_if_fault a.fault a.at) (all_faults faults)
 
 -- ---- places
 
@@ -125,6 +139,13 @@ module _ (P : Element → Type 0) where
         let no_foot = in_front (sheet ++ under ++ line_elements m ++ over) (Foot ∷ []) p e (foot, tt) so at in
         let no_over = in_front (sheet ++ under ++ line_elements m) over p e h so no_foot in
         behind sheet under p e not_sheet so (in_front (sheet ++ under) (line_elements m) p e (all_lines NotSo line m) so no_over)
+
+    pub at_over : (under over : List Element) → AllByRecursion NotSo under → (p : ℕ) (e : Element) → P e → slice_get (picture_of name about m under over) p ≡ Some e → Has over e
+    at_over under over h p e so at =
+        let sheet = sheet_of name about in
+        let no_foot = in_front (sheet ++ under ++ line_elements m ++ over) (Foot ∷ []) p e (foot, tt) so at in
+        let r = behind (sheet ++ under ++ line_elements m) over p e (all_join NotSo (sheet ++ under) (line_elements m) (all_join NotSo sheet under not_sheet h) (all_lines NotSo line m)) so no_foot in
+        (r.0, r.2)
 
     pub once_under : (under over : List Element) → AtMostOne under → AllByRecursion NotSo over → AtMostOne (picture_of name about m under over)
     once_under under over once h =

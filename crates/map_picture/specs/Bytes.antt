@@ -3,6 +3,7 @@
 use Rattle.std.specs.Prelude.{ℕ, ◌+◌, ◌*◌, ◌/◌, ◌%◌, ◌==◌, List, [], ◌∷◌, ◌++◌, Option, Some, None, Bool, true, false, ℤ, codes, if◌then◌else◌}
 use Rattle.std.specs.Fmt.{decimal, signed_decimal}
 use Rattle.std.specs.List.{flat_map, range_with_len}
+use Rattle.sight_names.specs.declared.faults.LineFault.TheVariants as clash
 use Rattle.sight_names.specs.declared.names.Pt.{Pt}
 use Rattle.sight_names.specs.declared.names.Ray.{Ray}
 use Rattle.sight_names.specs.declared.names.Side.{Side}
@@ -12,6 +13,9 @@ use Rattle.sight_names.specs.Points.{place, points_of}
 use Rattle.map_picture.specs.declared.frame.Frame.{Frame}
 use Rattle.map_picture.specs.declared.frame.Sizes.{Sizes}
 use Rattle.map_picture.specs.declared.crossings.Spot.{Spot}
+use Rattle.map_picture.specs.declared.faults.FaultAt.{FaultAt}
+use Rattle.map_picture.specs.declared.faults.PointFault.{PointFault}
+use Rattle.map_picture.specs.declared.faults.PointFault.TheVariants as point
 use Rattle.map_picture.specs.declared.pair.Stop.{Stop}
 use Rattle.map_picture.specs.declared.rings.Letter.{Letter}
 use Rattle.map_picture.specs.declared.rings.Letter.TheVariants as letter
@@ -21,7 +25,7 @@ use Rattle.map_picture.specs.declared.tint.Tint.{Tint}
 use Rattle.map_picture.specs.declared.tint.Tint.TheVariants as tint
 use Rattle.map_picture.specs.Frame.{across, down, frame_of, sizes_of}
 use Rattle.map_picture.specs.Crossings.{crossing_spot}
-use Rattle.map_picture.specs.Picture.{Element, Head, Title, Style, Paper, Scale, Face, Line, Entered, Stops, Sight, Marked, Ring, Legend, Foot, heat_of}
+use Rattle.map_picture.specs.Picture.{Element, Head, Title, Style, Paper, Scale, Face, Line, Entered, Stops, Sight, Marked, Fault, Ring, Legend, Foot, heat_of}
 
 -- a text, and a number behind it
 unfoldable pub count_text : List ℕ → ℕ → List ℕ
@@ -43,10 +47,17 @@ escaped_char c = if c == 38 then codes "&amp;" else if c == 60 then codes "&lt;"
 abbrev pub escaped : List ℕ → List ℕ
 escaped text = flat_map escaped_char text
 
+unfoldable pub left_out_text : ℕ → List ℕ
+left_out_text left_out = count_text (codes ", ") left_out ++ codes " clashes left out"
+
+-- how many clashes are left out, if any
+abbrev pub left_out_words : ℕ → List ℕ
+left_out_words left_out = if left_out == 0 then [] else left_out_text left_out
+
 -- what a picture tells of its map
 abbrev pub subject_text : Subject → List ℕ
 subject_text subject.Plan = []
-subject_text subject.Faults = codes " faults"
+subject_text (subject.Faults left_out) = codes " faults" ++ left_out_words left_out
 subject_text (subject.Row a) = count_text (codes " row ") a
 subject_text (subject.Pair a b) = count_text (codes " pair ") a ++ count_text (codes " ") b
 subject_text subject.Heat = codes " heat"
@@ -277,6 +288,52 @@ ring_title word sector = codes "<g><title>" ++ word ++ count_text (codes ": sect
 abbrev pub ring_text : Frame → Map → Letter → ℕ → Triangle → List ℕ
 ring_text f m which sector t = ring_title (letter_text which) sector ++ ring_shape (letter_text which) (middle_across f m t) (middle_down f m t) (sizes_of f).margin
 
+-- ---- rings round points at fault
+
+unfoldable pub clash_text : ℕ → ℕ → List ℕ → List ℕ
+clash_text i j word = count_text (codes "lines ") i ++ count_text (codes " and ") j ++ word
+
+abbrev pub fault_words : PointFault → List ℕ
+fault_words (point.Clash (clash.Cross i j)) = clash_text i j (codes " cross")
+fault_words (point.Clash (clash.Touch i j)) = clash_text i j (codes " touch")
+fault_words (point.Clash (clash.Overlap i j)) = clash_text i j (codes " overlap")
+fault_words point.Torn = codes "torn corner"
+fault_words (point.Loose i) = count_text (codes "loose end of line ") i
+
+unfoldable pub coordinate_text : List ℕ → ℤ → List ℕ
+coordinate_text word n = word ++ signed_decimal n
+
+-- the coordinates as the map has them
+unfoldable pub place_text : Pt → List ℕ
+place_text c = coordinate_text (codes " at ") c.x ++ coordinate_text (codes ", ") c.y
+
+unfoldable pub fault_title : PointFault → Pt → List ℕ
+fault_title what c = codes "<g><title>" ++ fault_words what ++ place_text c ++ codes "</title>"
+
+-- two circles, of which the wider one sets off the other
+unfoldable pub fault_shape : ℕ → ℕ → ℕ → List ℕ
+fault_shape x y radius = circle_text (codes "<circle class=\"i") x y radius ++ circle_text (codes "\"/><circle class=\"r") x y radius ++ codes "\"/></g>\n"
+
+-- that of a loose end is about half as wide as the others
+abbrev pub fault_radius : ℕ → PointFault → ℕ
+fault_radius margin (point.Clash which) = margin
+fault_radius margin point.Torn = margin
+fault_radius margin (point.Loose i) = margin / 2 + 1
+
+abbrev pub fault_text : Frame → PointFault → Pt → List ℕ
+fault_text f what c = fault_title what c ++ fault_shape (across f c) (down f c) (fault_radius (sizes_of f).margin what)
+
+-- .. if there is such a point
+abbrev pub fault_place_text : Frame → PointFault → Option Pt → List ℕ
+fault_place_text f what None = []
+fault_place_text f what (Some c) = fault_text f what c
+
+abbrev pub fault_at_text : Frame → FaultAt → List ℕ
+fault_at_text f a = fault_place_text f a.fault a.at
+
+abbrev pub fault_texts : Frame → List FaultAt → List ℕ
+fault_texts f faults = flat_map (fault_at_text f) faults
+
 -- ---- the legend of shades
 
 -- the least count that may have the shade
@@ -309,6 +366,7 @@ bytes_of f m (Entered sector us) = entered_text f m sector us
 bytes_of f m (Stops ss) = stops_text f m ss
 bytes_of f m (Sight r first last) = sight_text f r first last
 bytes_of f m (Marked marks) = marked_text f m marks
+bytes_of f m (Fault what c) = fault_text f what c
 bytes_of f m (Ring which sector t) = ring_text f m which sector t
 bytes_of f m (Legend most) = legend_text (sizes_of f) most
 bytes_of f m Foot = codes "</svg>\n"

@@ -1,7 +1,8 @@
 -- The picture of a map as a list of elements. Each kind of picture has the same paper and the same lines; what it tells
 -- besides stands in further elements, under the lines or over them.
 use Rattle.std.specs.Prelude.{ℕ, ◌+◌, ◌*◌, ◌/◌, ◌==◌, ℤ, List, [], ◌∷◌, ◌++◌, Option, Some, None, Bool, true, false, int_lt, map, max, slice_index_or, if◌then◌else◌}
-use Rattle.std.specs.List.{list_all, list_any}
+use Rattle.std.specs.List.{flat_map, list_all, list_any}
+use Rattle.sight_names.specs.declared.names.Pt.{Pt}
 use Rattle.sight_names.specs.declared.names.Ray.{Ray}
 use Rattle.sight_names.specs.declared.names.Triangle.{Triangle}
 use Rattle.sight_names.specs.Map.{Map, MapLine, line_at}
@@ -10,6 +11,8 @@ use Rattle.sight_names.specs.Ray.{IsSightRay}
 use Rattle.sight_names.specs.Table.{table_bit}
 use Rattle.geom_exact.specs.Formulas.{turn_of}
 use Rattle.reject_bits.specs.Parts.{TableParts}
+use Rattle.map_picture.specs.declared.faults.FaultAt.{FaultAt}
+use Rattle.map_picture.specs.declared.faults.PointFault.{PointFault}
 use Rattle.map_picture.specs.declared.pair.Stop.{Stop}
 use Rattle.map_picture.specs.declared.rings.Letter.{Letter}
 use Rattle.map_picture.specs.declared.rings.Letter.TheVariants as letter
@@ -41,6 +44,8 @@ pub data Element : Type 0 where
   Sight : Ray → MapLine → MapLine → Element
   -- the lines with these record numbers, marked
   Marked : List ℕ → Element
+  -- a ring round a point at which this is at fault
+  Fault : PointFault → Pt → Element
   -- a ring with this letter in the middle of a triangle of this sector
   Ring : Letter → ℕ → Triangle → Element
   -- which counts each shade stands for, up to the greatest one
@@ -133,9 +138,18 @@ plan_faces groups ts labels = faces_from ts labels 0 (map (λ names. tint.Other)
 abbrev pub plan_picture : List ℕ → Map → List (List ℕ) → List Triangle → List (Option ℕ) → List Element
 plan_picture name m groups ts labels = picture_of name subject.Plan m (plan_faces groups ts labels) []
 
--- the plan without faces, with marks over the lines with these record numbers
-abbrev pub marked_picture : List ℕ → Map → List ℕ → List Element
-marked_picture name m marks = picture_of name subject.Faults m [] (Marked marks ∷ [])
+-- what is at fault, if it is at one point
+abbrev pub fault_if : PointFault → Option Pt → List Element
+fault_if what None = []
+fault_if what (Some c) = Fault what c ∷ []
+
+abbrev pub faults_from : List FaultAt → List Element
+faults_from faults = flat_map (λ (a : FaultAt). fault_if a.fault a.at) faults
+
+-- the plan without faces, with marks over the lines with these record numbers and rings round points at fault; so many clashes are
+-- left out
+abbrev pub marked_picture : List ℕ → Map → ℕ → List ℕ → List FaultAt → List Element
+marked_picture name m left_out marks faults = picture_of name (subject.Faults left_out) m [] (Marked marks ∷ faults_from faults)
 
 -- what the table's row of sector a says of a group: set only if it is so for each sector that the group names
 abbrev pub row_tint : TableParts → ℕ → List ℕ → Tint

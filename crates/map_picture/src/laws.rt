@@ -1,6 +1,6 @@
 //! What pictures show, by their definition. The calls do nothing: their clauses are laws.
 
-ghost use Rattle.map_picture.specs.Laws.{BlindFacesAreShown, BlindIdsAreOnce, EnteredIsShown, HeatIdsAreOnce, HeatIsShown, LinesAreShown, MarkedIdsAreOnce, MarksAreShown, PairFacesAreShown, PairIdsAreOnce, PlanFacesAreShown, PlanIdsAreOnce, PointsAreReadBack, RayIsDrawn, RingsAreInside, RowIdsAreOnce, RowIsShown, SightFacesAreShown, SightIdsAreOnce, StopsAreShown};
+ghost use Rattle.map_picture.specs.Laws.{BlindFacesAreShown, BlindIdsAreOnce, EnteredIsShown, FaultsAreShown, HeatIdsAreOnce, HeatIsShown, LinesAreShown, MarkedIdsAreOnce, MarksAreShown, PairFacesAreShown, PairIdsAreOnce, PlanFacesAreShown, PlanIdsAreOnce, PointsAreReadBack, RayIsDrawn, RingsAreInside, RowIdsAreOnce, RowIsShown, SightFacesAreShown, SightIdsAreOnce, StopsAreShown};
 
 /// Every picture of a map has its lines, each once, and no other line.
 pub fn lines_are_shown()
@@ -63,6 +63,11 @@ pub fn entered_is_shown()
 /// A picture with marks has them over the lines that it was given, and over no other.
 pub fn marks_are_shown()
     ensures { MarksAreShown }
+{}
+
+/// .. and a ring round each point at fault that it was given, and round no other.
+pub fn faults_are_shown()
+    ensures { FaultsAreShown }
 {}
 
 /// The coordinates of each point of a map can be read back from a picture.

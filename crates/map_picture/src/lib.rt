@@ -5,6 +5,7 @@
 mod chains;
 mod crossings;
 mod faces;
+mod faults;
 mod frame;
 mod laws;
 mod legend;
@@ -17,9 +18,11 @@ mod sheet;
 mod tint;
 mod words;
 
+pub use faults::{FaultAt, PointFault};
 pub use laws::{
-    entered_is_shown, heat_is_shown, ids_are_once, lines_are_shown, marks_are_shown, pair_is_shown,
-    plan_is_shown, points_are_read_back, ray_is_drawn, rings_are_inside, row_is_shown,
+    entered_is_shown, faults_are_shown, heat_is_shown, ids_are_once, lines_are_shown,
+    marks_are_shown, pair_is_shown, plan_is_shown, points_are_read_back, ray_is_drawn,
+    rings_are_inside, row_is_shown,
 };
 pub use pair::Stop;
 pub use picture::{

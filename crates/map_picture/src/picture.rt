@@ -8,6 +8,7 @@ ghost use Rattle.map_picture.specs.Picture.{JoinsSectors, faces_from, pair_faces
 
 use crate::chains::chains_of;
 use crate::faces::{Faces, push_faces};
+use crate::faults::{FaultAt, push_faults};
 use crate::frame::{Frame, frame_of, sizes_of};
 use crate::legend::push_legend;
 use crate::lines::push_lines;
@@ -86,20 +87,23 @@ pub fn plan_picture(
     Ok(out)
 }
 
-/// The plan, with marks over the lines with these record numbers.
+/// The plan, with marks over the lines with these record numbers, and rings round points at fault. So many clashes are left out.
 pub fn marked_picture(
     alloc: Global,
     name: &str,
     plan: &Plan,
+    left_out: u64,
     marks: &[u16],
+    faults: &[FaultAt],
 ) -> Result<Vec<u8>, Memory>
-    ensures { IfOk result (λ v. v.items ≡ svg_of (map_of plan.now) (the_marked_picture name.now (map_of plan.now) marks.now)) }
+    ensures { IfOk result (λ v. v.items ≡ svg_of (map_of plan.now) (the_marked_picture name.now (map_of plan.now) left_out marks.now faults.now)) }
 {
     let frame = frame_of(plan.points());
     let mut out = Vec::new(alloc);
-    push_sheet(&mut out, frame, name, Subject::Faults)?;
+    push_sheet(&mut out, frame, name, Subject::Faults(left_out))?;
     push_lines(&mut out, frame, plan)?;
     push_marks(&mut out, frame, plan, marks)?;
+    push_faults(&mut out, frame, faults)?;
     push_foot(&mut out)?;
     Ok(out)
 }

@@ -147,7 +147,8 @@ fn middle_down(frame: Frame, plan: &Plan, t: Triangle) -> u64
 }
 
 #[tactic(auto, unfolding(crate::specs::Bytes::circle_text))]
-fn push_circle(
+/// A circle, and what stands before it, as far as the end of its radius.
+pub fn push_circle(
     out: &mut Vec<u8>,
     class: &str,
     x: u64,

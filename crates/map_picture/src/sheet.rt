@@ -3,7 +3,7 @@
 ghost use Rattle.std.specs.Prelude.{◌≡◌, ◌≤◌, ◌++◌, ◌∷◌, [], OnOk, codes};
 ghost use Rattle.sight_names.specs.Map.{Map};
 ghost use Rattle.map_picture.specs.declared.frame.Frame.{Frame};
-ghost use Rattle.map_picture.specs.Bytes.{count_text, dark_text, head_text, letters_text, light_text, paper_text, pixels_text, scale_text, shades_text, size_text, spelled, style_text, subject_text, title_text, units_text};
+ghost use Rattle.map_picture.specs.Bytes.{count_text, dark_text, head_text, left_out_text, left_out_words, letters_text, light_text, paper_text, pixels_text, scale_text, shades_text, size_text, spelled, style_text, subject_text, title_text, units_text};
 ghost use Rattle.map_picture.specs.Picture.{Foot, sheet_of};
 
 use crate::frame::{Frame, Sizes, sizes_of};
@@ -39,8 +39,8 @@ fn push_head(out: &mut Vec<u8>, sizes: Sizes) -> Result<(), AllocError>
 pub enum Subject {
     /// The plan alone.
     Plan,
-    /// What refuses the map.
-    Faults,
+    /// What refuses the map; so many clashes are left out.
+    Faults(u64),
     /// The row of a sector in a table.
     Row(u16),
     /// What two sectors see of each other.
@@ -56,12 +56,38 @@ fn push_pair(out: &mut Vec<u8>, a: u16, b: u16) -> Result<(), AllocError>
     push_count(out, " ", b as u64)
 }
 
+#[tactic(auto, unfolding(crate::specs::Bytes::left_out_text))]
+fn push_some_left(out: &mut Vec<u8>, left_out: u64) -> Result<(), AllocError>
+    ensures { OnOk result (out.new.items ≡ out.old.items ++ left_out_text left_out) }
+{
+    push_count(out, ", ", left_out)?;
+    push_text(out, " clashes left out")
+}
+
+/// How many clashes are left out, if any.
+fn push_left_out(out: &mut Vec<u8>, left_out: u64) -> Result<(), AllocError>
+    ensures { OnOk result (out.new.items ≡ out.old.items ++ left_out_words left_out) }
+{
+    if left_out == 0 {
+        Ok(())
+    } else {
+        push_some_left(out, left_out)
+    }
+}
+
+fn push_about_faults(out: &mut Vec<u8>, left_out: u64) -> Result<(), AllocError>
+    ensures { OnOk result (out.new.items ≡ out.old.items ++ (codes " faults" ++ left_out_words left_out)) }
+{
+    push_text(out, " faults")?;
+    push_left_out(out, left_out)
+}
+
 fn push_subject(out: &mut Vec<u8>, about: Subject) -> Result<(), AllocError>
     ensures { OnOk result (out.new.items ≡ out.old.items ++ subject_text about) }
 {
     match about {
         Subject::Plan => Ok(()),
-        Subject::Faults => push_text(out, " faults"),
+        Subject::Faults(left_out) => push_about_faults(out, left_out),
         Subject::Row(a) => push_count(out, " row ", a as u64),
         Subject::Pair { a, b } => push_pair(out, a, b),
         Subject::Heat => push_text(out, " heat"),

@@ -193,9 +193,9 @@ a=OPEN | draw a MAP01 b | 10 | refused: bad map: open 0R | b=
 # the plan with what refuses the map
 a=U | draw a MAP01 b --faults | 0 | drawn MAP01 faults none | b=%U-PLAN
 a=TOUCHED | draw a MAP01 b --faults | 0 | drawn MAP01 faults touch 0 4 | b=%TOUCHED-FAULTS
-a=CROSSED | draw --faults a MAP01 b | 0 | drawn MAP01 faults cross 3 4
+a=CROSSED | draw --faults a MAP01 b | 0 | drawn MAP01 faults cross 3 4 | b=%CROSSED-FAULTS
 a=OVERLAPPED | draw a MAP01 --faults b | 0 | drawn MAP01 faults overlap 0 4
-a=OPEN | draw a MAP01 b --faults | 0 | drawn MAP01 faults open 0R
+a=OPEN | draw a MAP01 b --faults | 0 | drawn MAP01 faults open 0R | b=%OPEN-FAULTS
 # the row of a sector, in whatever table the map has; a bit alone is no pair
 a=U =4400 | draw a MAP01 b 0 | 0 | drawn MAP01 row 0 set 1 clear 2 | b=%U-ROW
 a=U =44fe | draw a MAP01 b 0 | 0 | drawn MAP01 row 0 set 1 clear 2 | b=%U-ROW

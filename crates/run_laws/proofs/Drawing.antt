@@ -9,9 +9,8 @@ use Rattle.map_answers.specs.declared.sight_status.status.Flaw.{Flaw}
 use Rattle.map_answers.specs.declared.sight_status.status.Status.{Status}
 use Rattle.map_answers.specs.SightStatus.Answer.{Answer}
 use Rattle.map_picture.specs.Bytes.{svg_of}
-use Rattle.map_picture.specs.Picture.{marked_picture}
 use Rattle.draw_answers.specs.Drawn.{Drawing, one_picture}
-use Rattle.draw_answers.specs.Faults.{DrawsFault, flaw_marks}
+use Rattle.draw_answers.specs.Faults.{DrawsFault}
 use Rattle.draw_answers.specs.Heat.{DrawHeatCalls, heat_drawing}
 use Rattle.draw_answers.specs.Plan.{plan_drawing}
 use Rattle.draw_answers.specs.Row.{DrawRowCalls, row_drawing}
@@ -49,7 +48,7 @@ record IsDrawn (name out : List ℕ) (asked : View) (found : LocatedMap) (answer
   shows : ShowsView name found asked drawing.bytes
 
 of_fault : (name : List ℕ) (m : Map) (fault : Option Flaw) (d : Drawing) → DrawsFault name m fault d → ShowsFault name m d.bytes fault
-of_fault name m (Some which) d draws = ap (λ (x : Drawing). x.bytes) draws
+of_fault name m (Some which) d draws = record { marks = draws.marks; are = draws.are; is = ap (λ (x : Drawing). x.bytes) draws.is }
 of_fault name m None d draws = record { groups = draws.groups; over = draws.over; is = ap (λ (x : Drawing). x.bytes) draws.is }
 
 drawn : (name out : List ℕ) (asked : View) (found : LocatedMap) (answer : Answer) → DrawCalls name out asked found (Ok answer) → IsDrawn name out asked found answer

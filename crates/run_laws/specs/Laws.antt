@@ -49,7 +49,8 @@ use Rattle.map_picture.specs.Picture.{heat_picture, marked_picture, plan_picture
 use Rattle.pair_answer.specs.declared.answer.PairAnswer.{PairAnswer}
 use Rattle.pair_answer.specs.Answer.{IsAnswerFor, IsMissing}
 use Rattle.draw_answers.specs.Drawn.{Drawing}
-use Rattle.draw_answers.specs.Faults.{IsFaultOf, flaw_marks}
+use Rattle.fault_marks.specs.declared.marks.FaultMarks.{FaultMarks}
+use Rattle.draw_answers.specs.Faults.{AreMarksOf, IsFaultOf}
 use Rattle.draw_answers.specs.Heat.{seen_by}
 use Rattle.draw_answers.specs.Pair.{ShowsPair}
 use Rattle.reject_bits.specs.Parts.{TableParts}
@@ -169,9 +170,14 @@ pub record ShowsPlan (name : List ℕ) (m : Map) (bytes : List ℕ) : Type 0 whe
   pub over : IsOverGroups m groups
   pub is : bytes ≡ svg_of m (plan_picture name m groups.groups groups.triangles groups.labels)
 
--- .. or the plan alone with this fault marked
+-- the plan alone, with what this flaw calls for marked
+pub record ShowsMarked (name : List ℕ) (m : Map) (which : Flaw) (bytes : List ℕ) : Type 0 where
+  pub marks : FaultMarks
+  pub are : AreMarksOf m which marks
+  pub is : bytes ≡ svg_of m (marked_picture name m marks.left_out marks.lines marks.faults)
+
 abbrev pub ShowsFault : List ℕ → Map → List ℕ → Option Flaw → Type 0
-ShowsFault name m bytes (Some which) = bytes ≡ svg_of m (marked_picture name m (flaw_marks which))
+ShowsFault name m bytes (Some which) = ShowsMarked name m which bytes
 ShowsFault name m bytes None = ShowsPlan name m bytes
 
 -- the first fault of the map, if it has one

@@ -134,7 +134,7 @@ const U_BLIND: &str = "\
 </svg>
 ";
 
-/// TOUCHED, where line 4 ends inside line 0.
+/// TOUCHED, where line 4 ends inside line 0: a ring round that end.
 const TOUCHED_FAULTS: &str = "\
 <svg xmlns='http://www.w3.org/2000/svg' viewBox='-2 -2 68 72' width='1000' height='1058'>
 <title>MAP01 faults</title>
@@ -147,6 +147,41 @@ const TOUCHED_FAULTS: &str = "\
 <path class='w' id='L2' d='M64 0L64 64'><title>2 front 0</title></path>
 <path class='w' id='L3' d='M64 64L0 64'><title>3 front 0</title></path>
 <path class='k' id='fault' d='M0 64L0 0M0 32L32 32'/>
+<g><title>lines 0 and 4 touch at 0, 32</title><circle class='i' cx='0' cy='32' r='2'/><circle class='r' cx='0' cy='32' r='2'/></g>
+</svg>
+";
+
+/// CROSSED, where line 4 crosses line 3: a ring round the crossing.
+const CROSSED_FAULTS: &str = "\
+<svg xmlns='http://www.w3.org/2000/svg' viewBox='-2 -2 68 104' width='680' height='1040'>
+<title>MAP01 faults</title>
+<style>path,circle{fill:none;stroke-linecap:round}.w,.u,.o{stroke:#000}.p{stroke:#9a9a9a}.k,.r{stroke:#d62728}.i{stroke:#fff}.a{fill:#1f77b4}.b{fill:#ff7f0e}.c{fill:#9ecae1}.s{fill:#e4e4e4}.f{fill:#a1d99b;stroke:#41ab5d}.k,.f,.u,.n{pointer-events:none}path,circle{stroke-width:1}.w,.o{stroke-width:2}.r,.u{stroke-width:3}.k{stroke-width:4}.i{stroke-width:6}@supports(vector-effect:non-scaling-stroke){path,circle{vector-effect:non-scaling-stroke;stroke-width:1}.f{stroke-width:.5}.w,.o{stroke-width:2}.r,.u{stroke-width:3}.k{stroke-width:4}.i{stroke-width:6}}.h0{fill:#ffffcc}.h1{fill:#ffeda0}.h2{fill:#fed976}.h3{fill:#feb24c}.h4{fill:#fd8d3c}.h5{fill:#fc4e2a}.h6{fill:#e31a1c}.h7{fill:#b10026}text{font:bold 2px sans-serif;fill:#000;stroke:#fff;paint-order:stroke;stroke-width:0}@media(prefers-color-scheme:dark){.paper{fill:#181818}.w,.u,.o{stroke:#f2f2f2}.p{stroke:#8a8a8a}.k,.r{stroke:#ff6b6b}.a{fill:#4da3e8}.b{fill:#ff9a3c}.c{fill:#2c4f6e}.s{fill:#383838}.f{fill:#24592b;stroke:#74c476}.i{stroke:#181818}text{fill:#f2f2f2;stroke:#181818}.h0{fill:#2a1636}.h1{fill:#451a4a}.h2{fill:#65205a}.h3{fill:#872a5c}.h4{fill:#aa3655}.h5{fill:#cc4a49}.h6{fill:#e76a3c}.h7{fill:#f99a3e}}</style>
+<rect class='paper' fill='#fff' x='-2' y='-2' width='68' height='104'/>
+<path class='u' d='M0 100H16'/><text x='16' y='100' dx='.6em' dy='.36em' class='n'>16</text>
+<path class='p' id='L4' d='M32 96L32 32'><title>4 front 0 back 0</title></path>
+<path class='w' id='L0' d='M0 64L0 0'><title>0 front 0</title></path>
+<path class='w' id='L1' d='M0 0L64 0'><title>1 front 0</title></path>
+<path class='w' id='L2' d='M64 0L64 64'><title>2 front 0</title></path>
+<path class='w' id='L3' d='M64 64L0 64'><title>3 front 0</title></path>
+<path class='k' id='fault' d='M64 64L0 64M32 96L32 32'/>
+<g><title>lines 3 and 4 cross at 32, 0</title><circle class='i' cx='32' cy='64' r='2'/><circle class='r' cx='32' cy='64' r='2'/></g>
+</svg>
+";
+
+/// OPEN, a square without its last line: three open sides, a torn corner, and two loose ends.
+const OPEN_FAULTS: &str = "\
+<svg xmlns='http://www.w3.org/2000/svg' viewBox='-2 -2 68 72' width='1000' height='1058'>
+<title>MAP01 faults</title>
+<style>path,circle{fill:none;stroke-linecap:round}.w,.u,.o{stroke:#000}.p{stroke:#9a9a9a}.k,.r{stroke:#d62728}.i{stroke:#fff}.a{fill:#1f77b4}.b{fill:#ff7f0e}.c{fill:#9ecae1}.s{fill:#e4e4e4}.f{fill:#a1d99b;stroke:#41ab5d}.k,.f,.u,.n{pointer-events:none}path,circle{stroke-width:1}.w,.o{stroke-width:2}.r,.u{stroke-width:3}.k{stroke-width:4}.i{stroke-width:6}@supports(vector-effect:non-scaling-stroke){path,circle{vector-effect:non-scaling-stroke;stroke-width:1}.f{stroke-width:.5}.w,.o{stroke-width:2}.r,.u{stroke-width:3}.k{stroke-width:4}.i{stroke-width:6}}.h0{fill:#ffffcc}.h1{fill:#ffeda0}.h2{fill:#fed976}.h3{fill:#feb24c}.h4{fill:#fd8d3c}.h5{fill:#fc4e2a}.h6{fill:#e31a1c}.h7{fill:#b10026}text{font:bold 2px sans-serif;fill:#000;stroke:#fff;paint-order:stroke;stroke-width:0}@media(prefers-color-scheme:dark){.paper{fill:#181818}.w,.u,.o{stroke:#f2f2f2}.p{stroke:#8a8a8a}.k,.r{stroke:#ff6b6b}.a{fill:#4da3e8}.b{fill:#ff9a3c}.c{fill:#2c4f6e}.s{fill:#383838}.f{fill:#24592b;stroke:#74c476}.i{stroke:#181818}text{fill:#f2f2f2;stroke:#181818}.h0{fill:#2a1636}.h1{fill:#451a4a}.h2{fill:#65205a}.h3{fill:#872a5c}.h4{fill:#aa3655}.h5{fill:#cc4a49}.h6{fill:#e76a3c}.h7{fill:#f99a3e}}</style>
+<rect class='paper' fill='#fff' x='-2' y='-2' width='68' height='72'/>
+<path class='u' d='M0 68H16'/><text x='16' y='68' dx='.6em' dy='.36em' class='n'>16</text>
+<path class='w' id='L0' d='M0 64L0 0'><title>0 front 0</title></path>
+<path class='w' id='L1' d='M0 0L64 0'><title>1 front 0</title></path>
+<path class='w' id='L2' d='M64 0L64 64'><title>2 front 0</title></path>
+<path class='k' id='fault' d='M0 64L0 0M0 0L64 0M64 0L64 64'/>
+<g><title>torn corner at 0, 0</title><circle class='i' cx='0' cy='64' r='2'/><circle class='r' cx='0' cy='64' r='2'/></g>
+<g><title>loose end of line 0 at 0, 0</title><circle class='i' cx='0' cy='64' r='2'/><circle class='r' cx='0' cy='64' r='2'/></g>
+<g><title>loose end of line 2 at 64, 0</title><circle class='i' cx='64' cy='64' r='2'/><circle class='r' cx='64' cy='64' r='2'/></g>
 </svg>
 ";
 
@@ -159,6 +194,8 @@ pub fn picture_named(name: &str) -> &'static str {
         "U-SIGHT" => U_SIGHT,
         "U-BLIND" => U_BLIND,
         "TOUCHED-FAULTS" => TOUCHED_FAULTS,
+        "CROSSED-FAULTS" => CROSSED_FAULTS,
+        "OPEN-FAULTS" => OPEN_FAULTS,
         _ => "",
     }
 }

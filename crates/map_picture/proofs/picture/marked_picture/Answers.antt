@@ -2,15 +2,19 @@ use Rattle.std.proofs.Common.{[], ◌∷◌, sym}
 use Rattle.std.proofs.lemmas.List.{append-nil}
 use Rattle.sight_names.specs.Map.{map_of}
 use Rattle.map_picture.specs.declared.sheet.Subject.TheVariants as subject
-use Rattle.map_picture.specs.Picture.{Marked, marked_picture}
-use Rattle.map_picture.proofs.Drawn.{alone, drawn, framed}
+use Rattle.map_picture.specs.Picture.{Marked, faults_from, marked_picture}
+use Rattle.map_picture.proofs.Drawn.{alone, drawn, framed, two_over}
+use Rattle.map_picture.proofs.Marking.{rings_on}
 use Rattle.map_picture.proofs.picture.marked_picture.Goals as goal
 
 pub returns : goal.returns
 returns c =
     let m = map_of c.args.plan.now in
     let f = c.frame_of-frame.result in
+    let about = subject.Faults c.args.left_out in
     let marks = alone f m (Marked c.args.marks.now) _ _ c.in_ok-push_marks.ensures in
-    let made = drawn f c.args.name.now subject.Faults m [] (Marked c.args.marks.now ∷ []) _ _ _ _ _ _ c.new-out.ensures.items (c.in_ok-push_sheet.ensures m) (sym (append-nil c.push_sheet.new.out.items))
-    c.in_ok-push_lines.ensures marks (c.in_ok-push_foot.ensures f m) in
-    framed c.args.plan.now f _ (marked_picture c.args.name.now m c.args.marks.now) _ c.points.ensures.plan c.frame_of-frame.ensures c.points.ensures.list made
+    let rings = rings_on f m c.args.faults.now _ _ c.in_ok-push_faults.ensures in
+    let over = two_over f m (Marked c.args.marks.now ∷ []) (faults_from c.args.faults.now) _ _ _ marks rings in
+    let made = drawn f c.args.name.now about m [] (Marked c.args.marks.now ∷ faults_from c.args.faults.now) _ _ _ _ _ _ c.new-out.ensures.items (c.in_ok-push_sheet.ensures m) (sym (append-nil c.push_sheet.new.out.items))
+    c.in_ok-push_lines.ensures over (c.in_ok-push_foot.ensures f m) in
+    framed c.args.plan.now f _ (marked_picture c.args.name.now m c.args.left_out c.args.marks.now c.args.faults.now) _ c.points.ensures.plan c.frame_of-frame.ensures c.points.ensures.list made
