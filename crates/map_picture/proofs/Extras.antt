@@ -7,14 +7,15 @@ use Rattle.math_base.proofs.Lists.{all_join}
 use Rattle.sight_names.specs.declared.names.Ray.{Ray}
 use Rattle.sight_names.specs.declared.names.Triangle.{Triangle}
 use Rattle.sight_names.specs.Map.{Map, MapLine, line_at}
+use Rattle.map_picture.specs.declared.arrows.Arrow.{Arrow}
 use Rattle.map_picture.specs.declared.faults.FaultAt.{FaultAt}
 use Rattle.map_picture.specs.declared.pair.Stop.{Stop}
 use Rattle.map_picture.specs.declared.tint.Tint.{Tint}
 use Rattle.map_picture.specs.Bytes.{count_text, face_id, id_of, line_id}
 use Rattle.map_picture.specs.declared.rings.Letter.{Letter}
 use Rattle.map_picture.specs.declared.sheet.Subject.{Subject}
-use Rattle.map_picture.specs.Picture.{Element, Entered, Legend, Stops, Sight, faces_from, faults_from, pair_rings, picture_of, ring_of, sight_between, sight_elements}
-use Rattle.map_picture.proofs.Pieces.{AtMostOne, NotSo, all_faults, all_ring, all_rings, once_alone, once_before, once_behind, once_none, once_over, once_under}
+use Rattle.map_picture.specs.Picture.{Element, Entered, Legend, Stops, Sight, arrows_from, faces_from, faults_from, pair_rings, picture_of, ring_of, sight_between, sight_elements}
+use Rattle.map_picture.proofs.Pieces.{AtMostOne, NotSo, all_arrows, all_faults, all_ring, all_rings, once_alone, once_before, once_behind, once_none, once_over, once_under}
 
 abbrev pub HasId : List ℕ → Element → Type 0
 HasId w e = id_of e ≡ w
@@ -97,8 +98,9 @@ rings_words m groups ts labels a b w word = all_rings (NotSo (HasId w)) (λ l s 
 pub legend_words : (most : ℕ) → HasNoWord (Legend most ∷ [])
 legend_words most w word = (no_empty w word, tt)
 
-pub faults_words : (faults : List FaultAt) → HasNoWord (faults_from faults)
-faults_words faults w word = all_faults (NotSo (HasId w)) (λ what c. no_empty w word) faults
+pub faults_words : (faults : List FaultAt) (arrows : List Arrow) → HasNoWord (faults_from faults ++ arrows_from arrows)
+faults_words faults arrows w word =
+    all_join (NotSo (HasId w)) (faults_from faults) (arrows_from arrows) (all_faults (NotSo (HasId w)) (λ what c. no_empty w word) faults) (all_arrows (NotSo (HasId w)) (λ a. no_empty w word) arrows)
 
 pub no_words : HasNoWord []
 no_words w word = tt

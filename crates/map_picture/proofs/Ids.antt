@@ -4,11 +4,13 @@ use Rattle.std.specs.Fmt.{decimal}
 use Rattle.std.specs.List.{AllByRecursion}
 use Rattle.std.proofs.lemmas.Fmt.{decimal_injective}
 use Rattle.std.proofs.lemmas.Option.{none-some, slice_get_within}
+use Rattle.math_base.proofs.Lists.{all_join}
 use Rattle.sight_names.specs.declared.names.Pt.{Pt}
 use Rattle.sight_names.specs.declared.names.Ray.{Ray}
 use Rattle.sight_names.specs.declared.names.Triangle.{Triangle}
 use Rattle.sight_names.specs.Map.{Map, MapLine, line_at}
 use Rattle.reject_bits.specs.Parts.{TableParts}
+use Rattle.map_picture.specs.declared.arrows.Arrow.{Arrow}
 use Rattle.map_picture.specs.declared.faults.FaultAt.{FaultAt}
 use Rattle.map_picture.specs.declared.faults.PointFault.{PointFault}
 use Rattle.map_picture.specs.declared.pair.Stop.{Stop}
@@ -18,10 +20,10 @@ use Rattle.map_picture.specs.declared.rings.Letter.{Letter}
 use Rattle.map_picture.specs.declared.rings.Letter.TheVariants as letter
 use Rattle.map_picture.specs.declared.sheet.Subject.TheVariants as subject
 use Rattle.map_picture.specs.declared.tint.Tint.TheVariants as tint
-use Rattle.map_picture.specs.Picture.{Element, Head, Title, Style, Paper, Scale, Face, Line, Entered, Stops, Sight, Marked, Fault, Ring, Legend, Foot, blind_picture, faces_from, faults_from, heat_picture, heat_tints, marked_picture, most_of, numbered, pair_faces, pair_picture, pair_rings, pair_tint, plan_faces, plan_picture, ring_of, row_picture, row_tint, sight_between, sight_elements, sight_picture}
+use Rattle.map_picture.specs.Picture.{Element, Head, Title, Style, Paper, Scale, Face, Line, Entered, Stops, Sight, Marked, Fault, Out, Ring, Legend, Foot, arrows_from, blind_picture, faces_from, faults_from, heat_picture, heat_tints, marked_picture, most_of, numbered, pair_faces, pair_picture, pair_rings, pair_tint, plan_faces, plan_picture, ring_of, row_picture, row_tint, sight_between, sight_elements, sight_picture}
 use Rattle.map_picture.specs.Laws.{Has, HasNoLine, IdsAreOnce, ShowsFaces, ShowsLines, TellsHeat, TellsNothing, TellsPair, TellsRow}
 use Rattle.map_picture.proofs.Ordered.{NoLine, lines_shown, no_lines}
-use Rattle.map_picture.proofs.Pieces.{AtMostOne, all_faults, all_ring, all_rings}
+use Rattle.map_picture.proofs.Pieces.{AtMostOne, all_arrows, all_faults, all_ring, all_rings}
 use Rattle.map_picture.proofs.Extras.{HasId, WordsAreOnce, blind_words, faces_words, faults_words, legend_words, no_words, one_over, ring_words, rings_words, sight_words}
 use Rattle.map_picture.proofs.Faced.{NoFace, at_place, blind_faces, heat_faces, heat_shown, no_line_in_faces, pair_shown, plan_shown, row_shown, sight_faces}
 
@@ -70,6 +72,7 @@ with_id picture words (Sight r first last) h = inr (inr (record { w = codes "ray
 with_id picture words (Marked marks) h = inr (inr (record { w = codes "fault"; is = refl; once = words.fault_once }))
 with_id picture words Scale h = absurd (h refl)
 with_id picture words (Fault what c) h = absurd (h refl)
+with_id picture words (Out w) h = absurd (h refl)
 with_id picture words (Ring which sector t) h = absurd (h refl)
 with_id picture words (Legend most) h = absurd (h refl)
 with_id picture words Foot h = absurd (h refl)
@@ -129,6 +132,9 @@ no_ring which sector t i l e = cc
 no_fault : (what : PointFault) (c : Pt) → NoLine (Fault what c)
 no_fault what c i l e = cc
 
+no_out : (w : Arrow) → NoLine (Out w)
+no_out w i l e = cc
+
 no_legend : (most : ℕ) → NoLine (Legend most)
 no_legend most i l e = cc
 
@@ -156,8 +162,9 @@ no_line_joined (e ∷ es) fs h g i l (suc k, at) = no_line_joined es fs (λ n o 
 pub no_line : HasNoLine []
 no_line = no_lines [] tt
 
-pub no_line_marked : (marks : List ℕ) (faults : List FaultAt) → HasNoLine (Marked marks ∷ faults_from faults)
-no_line_marked marks faults = no_lines (Marked marks ∷ faults_from faults) (no_mark marks, all_faults NoLine no_fault faults)
+pub no_line_marked : (marks : List ℕ) (faults : List FaultAt) (arrows : List Arrow) → HasNoLine (Marked marks ∷ faults_from faults ++ arrows_from arrows)
+no_line_marked marks faults arrows =
+    no_lines (Marked marks ∷ faults_from faults ++ arrows_from arrows) (all_join NoLine (Marked marks ∷ faults_from faults) (arrows_from arrows) (no_mark marks, all_faults NoLine no_fault faults) (all_arrows NoLine no_out arrows))
 
 pub no_line_legend : (most : ℕ) → HasNoLine (Legend most ∷ [])
 no_line_legend most = no_lines (Legend most ∷ []) (no_legend most, tt)
@@ -185,18 +192,19 @@ no_line_heat groups ts labels count =
 
 -- ---- ids
 
-no_face_marked : (marks : List ℕ) (faults : List FaultAt) → AllByRecursion NoFace (Marked marks ∷ faults_from faults)
-no_face_marked marks faults = ((λ k g names shown e. cc), all_faults NoFace (λ what c k g names shown e. cc) faults)
+no_face_marked : (marks : List ℕ) (faults : List FaultAt) (arrows : List Arrow) → AllByRecursion NoFace (Marked marks ∷ faults_from faults ++ arrows_from arrows)
+no_face_marked marks faults arrows =
+    all_join NoFace (Marked marks ∷ faults_from faults) (arrows_from arrows) ((λ k g names shown e. cc), all_faults NoFace (λ what c k g names shown e. cc) faults) (all_arrows NoFace (λ w k g names shown e. cc) arrows)
 
-pub marked_ids : (name : List ℕ) (m : Map) (left_out : ℕ) (marks : List ℕ) (faults : List FaultAt) → length m.lines ≤ 2 ^ 64 → IdsAreOnce (marked_picture name m left_out marks faults)
-marked_ids name m left_out marks faults few =
-    let over = Marked marks ∷ faults_from faults in
-    ids_once m (marked_picture name m left_out marks faults) (lines_shown name (subject.Faults left_out) m [] over no_line (no_line_marked marks faults)) few
+pub marked_ids : (name : List ℕ) (m : Map) (left_out : ℕ) (marks : List ℕ) (faults : List FaultAt) (arrows : List Arrow) → length m.lines ≤ 2 ^ 64 → IdsAreOnce (marked_picture name m left_out marks faults arrows)
+marked_ids name m left_out marks faults arrows few =
+    let over = Marked marks ∷ faults_from faults ++ arrows_from arrows in
+    ids_once m (marked_picture name m left_out marks faults arrows) (lines_shown name (subject.Faults left_out) m [] over no_line (no_line_marked marks faults arrows)) few
     (record {
-      few = λ k g names shown h. absurd (none-some (Face k g names shown) (at_place name (subject.Faults left_out) m [] over (no_face_marked marks faults) h.0 k g names shown h.1).2);
-      once = λ i j g k p names others shown more at there. absurd (none-some (Face k g names shown) (at_place name (subject.Faults left_out) m [] over (no_face_marked marks faults) i k g names shown at).2);
+      few = λ k g names shown h. absurd (none-some (Face k g names shown) (at_place name (subject.Faults left_out) m [] over (no_face_marked marks faults arrows) h.0 k g names shown h.1).2);
+      once = λ i j g k p names others shown more at there. absurd (none-some (Face k g names shown) (at_place name (subject.Faults left_out) m [] over (no_face_marked marks faults arrows) i k g names shown at).2);
     })
-    (one_over name (subject.Faults left_out) m (Marked marks) (faults_from faults) (faults_words faults))
+    (one_over name (subject.Faults left_out) m (Marked marks) (faults_from faults ++ arrows_from arrows) (faults_words faults arrows))
 
 module _ (name : List ℕ) (m : Map) (groups : List (List ℕ)) (ts : List Triangle) (labels : List (Option ℕ)) where
   pub plan_ids : length m.lines ≤ 2 ^ 64 → length groups ≤ 2 ^ 64 → IdsAreOnce (plan_picture name m groups ts labels)

@@ -1,27 +1,32 @@
--- The marks of a picture, and the rings round points at fault.
-use Rattle.std.proofs.Common.{◌≡◌, ◌∙◌, ℕ, zero, suc, inl, inr, List, [], ◌∷◌, ◌++◌, Option, Some, None, Contains, slice_get, refl, sym, ap, subst}
-use Rattle.std.specs.List.{AllByRecursion}
+-- The marks of a picture, the rings round points at fault, and the arrows.
+use Rattle.std.proofs.Common.{◌≡◌, ◌∙◌, ℕ, zero, suc, inl, inr, List, [], ◌∷◌, ◌++◌, Option, Some, None, Contains, map, slice_get, refl, sym, ap, subst}
+use Rattle.std.specs.List.{AllByRecursion, flat_map}
 use Rattle.std.proofs.lemmas.List.{append-nil}
 use Rattle.std.proofs.lemmas.List.Concat.{flat_map-append}
+use Rattle.std.proofs.lemmas.List.Folds.{flat_map-map}
 use Rattle.std.proofs.lemmas.Option.{none-some, same_Some}
-use Rattle.math_base.proofs.Lists.{contains_cons, contains_here, contains_none, contains_there}
+use Rattle.math_base.proofs.Lists.{contains_cons, contains_here, contains_map, contains_none, contains_there}
 use Rattle.sight_names.specs.declared.names.Pt.{Pt}
-use Rattle.sight_names.specs.Map.{Map, MapLine}
+use Rattle.sight_names.specs.Map.{Map, MapLine, map_of}
+use Rattle.sight_names.specs.Plan.{IsPlan, PlanParts}
+use Rattle.sight_names.proofs.Lists.{get_of_contains}
+use Rattle.sight_names.proofs.PlanPoints.{plan_points}
+use Rattle.map_picture.specs.declared.arrows.Arrow.{Arrow}
 use Rattle.map_picture.specs.declared.faults.FaultAt.{FaultAt}
 use Rattle.map_picture.specs.declared.faults.PointFault.{PointFault}
 use Rattle.map_picture.specs.declared.frame.Frame.{Frame}
 use Rattle.map_picture.specs.declared.sheet.Subject.{Subject}
 use Rattle.map_picture.specs.declared.sheet.Subject.TheVariants as subject
-use Rattle.map_picture.specs.Bytes.{bytes_of, fault_place_text, fault_text, fault_texts, spelled}
-use Rattle.map_picture.specs.Picture.{Element, Head, Title, Style, Paper, Scale, Line, Marked, Fault, Foot, fault_if, faults_from, marked_picture}
-use Rattle.map_picture.specs.Laws.{Has, ShowsFaults, ShowsMarks}
-use Rattle.map_picture.proofs.Pieces.{at_over, has_before, has_behind, has_over}
+use Rattle.map_picture.specs.Bytes.{arrow_text, arrow_texts, bytes_of, corners_in, fault_place_text, fault_text, fault_texts, spelled}
+use Rattle.map_picture.specs.Picture.{Element, Head, Title, Style, Paper, Scale, Line, Marked, Fault, Out, Foot, arrows_from, fault_if, faults_from, marked_picture}
+use Rattle.map_picture.specs.Laws.{Has, ShowsArrows, ShowsFaults, ShowsMarks}
+use Rattle.map_picture.proofs.Pieces.{NotSo, all_arrows, all_faults, at_over, behind, has_before, has_behind, has_over, in_front}
 use Rattle.map_picture.proofs.Extras.{faults_words, one_over}
 
-pub marks_shown : (name : List ℕ) (m : Map) (left_out : ℕ) (marks : List ℕ) (faults : List FaultAt) → ShowsMarks marks (marked_picture name m left_out marks faults)
-marks_shown name m left_out marks faults = record {
-  has = has_over name (subject.Faults left_out) m [] (Marked marks ∷ faults_from faults) (Marked marks) (zero, refl);
-  once = λ i j ms ns at more. (one_over name (subject.Faults left_out) m (Marked marks) (faults_from faults) (faults_words faults)).fault_once i j (Marked ms) (Marked ns) at more refl refl;
+pub marks_shown : (name : List ℕ) (m : Map) (left_out : ℕ) (marks : List ℕ) (faults : List FaultAt) (arrows : List Arrow) → ShowsMarks marks (marked_picture name m left_out marks faults arrows)
+marks_shown name m left_out marks faults arrows = record {
+  has = has_over name (subject.Faults left_out) m [] (Marked marks ∷ faults_from faults ++ arrows_from arrows) (Marked marks) (zero, refl);
+  once = λ i j ms ns at more. (one_over name (subject.Faults left_out) m (Marked marks) (faults_from faults ++ arrows_from arrows) (faults_words faults arrows)).fault_once i j (Marked ms) (Marked ns) at more refl refl;
 }
 
 -- ---- the rings
@@ -87,26 +92,96 @@ no_line i l what c e = cc
 no_marked : (marks : List ℕ) (what : PointFault) (c : Pt) → ◌≡◌ {A = Element} (Marked marks) (Fault what c) → ⊥
 no_marked marks what c e = cc
 
-module _ (name : List ℕ) (m : Map) (left_out : ℕ) (marks : List ℕ) (faults : List FaultAt) where
+no_out : (w : Arrow) (what : PointFault) (c : Pt) → ◌≡◌ {A = Element} (Out w) (Fault what c) → ⊥
+no_out w what c e = cc
+
+module _ (name : List ℕ) (m : Map) (left_out : ℕ) (marks : List ℕ) (faults : List FaultAt) (arrows : List Arrow) where
   abbrev about : Subject
   about = subject.Faults left_out
 
-  abbrev over : List Element
-  over = Marked marks ∷ faults_from faults
+  abbrev marked : List Element
+  marked = Marked marks ∷ faults_from faults
 
-  over_all : (what : PointFault) (c : Pt) → Has (marked_picture name m left_out marks faults) (Fault what c) → Has over (Fault what c)
+  over_all : (what : PointFault) (c : Pt) → Has (marked_picture name m left_out marks faults arrows) (Fault what c) → Has marked (Fault what c)
   over_all what c (p, at) =
-      at_over IsFault name about m (λ h. no_head h.0 h.1 h.2) (λ n s h. no_title n s h.0 h.1 h.2) (λ h. no_style h.0 h.1 h.2) (λ h. no_paper h.0 h.1 h.2) (λ h. no_scale h.0 h.1 h.2) (λ h. no_foot h.0 h.1 h.2)
-      (λ i l h. no_line i l h.0 h.1 h.2) [] over tt p (Fault what c) (what, c, refl) at
+      let r = at_over IsFault name about m (λ h. no_head h.0 h.1 h.2) (λ n s h. no_title n s h.0 h.1 h.2) (λ h. no_style h.0 h.1 h.2) (λ h. no_paper h.0 h.1 h.2) (λ h. no_scale h.0 h.1 h.2) (λ h. no_foot h.0 h.1 h.2)
+          (λ i l h. no_line i l h.0 h.1 h.2) [] (marked ++ arrows_from arrows) tt p (Fault what c) (what, c, refl) at in
+      (r.0, in_front IsFault marked (arrows_from arrows) r.0 (Fault what c) (all_arrows (NotSo IsFault) (λ w h. no_out w h.0 h.1 h.2) arrows) (what, c, refl) r.1)
 
-  only_these : (what : PointFault) (c : Pt) → Has over (Fault what c) → Contains faults (at_point what c)
+  only_these : (what : PointFault) (c : Pt) → Has marked (Fault what c) → Contains faults (at_point what c)
   only_these what c (zero, at) = absurd (no_marked marks what c (same_Some (Marked marks) (Fault what c) at))
   only_these what c (suc k, at) = of_faults faults k what c at
 
-  pub faults_shown : ShowsFaults faults (marked_picture name m left_out marks faults)
+  pub faults_shown : ShowsFaults faults (marked_picture name m left_out marks faults arrows)
   faults_shown = record {
-    has = λ a c h at. (let r = has_fault a faults c h at in has_over name about m [] over (Fault a.fault c) (suc r.0, r.1));
+    has = λ a c h at. has_over name about m [] (marked ++ arrows_from arrows) (Fault a.fault c) (has_before marked (arrows_from arrows) (Fault a.fault c) (let r = has_fault a faults c h at in (suc r.0, r.1)));
     only = λ what c h. only_these what c (over_all what c h);
+  }
+
+-- ---- the arrows
+
+abbrev IsOut : Element → Type 0
+IsOut e = (w : Arrow) × (e ≡ Out w)
+
+out_head : (w : Arrow) → ◌≡◌ {A = Element} Head (Out w) → ⊥
+out_head w e = cc
+
+out_title : (n : List ℕ) (s : Subject) (w : Arrow) → ◌≡◌ {A = Element} (Title n s) (Out w) → ⊥
+out_title n s w e = cc
+
+out_style : (w : Arrow) → ◌≡◌ {A = Element} Style (Out w) → ⊥
+out_style w e = cc
+
+out_paper : (w : Arrow) → ◌≡◌ {A = Element} Paper (Out w) → ⊥
+out_paper w e = cc
+
+out_scale : (w : Arrow) → ◌≡◌ {A = Element} Scale (Out w) → ⊥
+out_scale w e = cc
+
+out_foot : (w : Arrow) → ◌≡◌ {A = Element} Foot (Out w) → ⊥
+out_foot w e = cc
+
+out_line : (i : ℕ) (l : MapLine) (w : Arrow) → ◌≡◌ {A = Element} (Line i l) (Out w) → ⊥
+out_line i l w e = cc
+
+out_marked : (marks : List ℕ) (w : Arrow) → ◌≡◌ {A = Element} (Marked marks) (Out w) → ⊥
+out_marked marks w e = cc
+
+out_fault : (what : PointFault) (c : Pt) (w : Arrow) → ◌≡◌ {A = Element} (Fault what c) (Out w) → ⊥
+out_fault what c w e = cc
+
+same_arrow : (v w : Arrow) → ◌≡◌ {A = Element} (Out v) (Out w) → v ≡ w
+same_arrow v w e = cc
+
+arrow_there : (arrows : List Arrow) (k : ℕ) (w : Arrow) → slice_get (arrows_from arrows) k ≡ Some (Out w) → Contains arrows w
+arrow_there [] k w at = absurd (none-some (Out w) at)
+arrow_there (v ∷ arrows) zero w at = subst (λ (x : Arrow). Contains (v ∷ arrows) x) (same_arrow v w (same_Some (Out v) (Out w) at)) (contains_here v arrows)
+arrow_there (v ∷ arrows) (suc k) w at = contains_there w v arrows (arrow_there arrows k w at)
+
+has_arrow : (arrows : List Arrow) (w : Arrow) → Contains arrows w → Has (arrows_from arrows) (Out w)
+has_arrow arrows w c = let d = contains_map (λ (x : Arrow). Out x) arrows w c in (d.0, get_of_contains (arrows_from arrows) (Out w) d.0 d.1 d.2)
+
+module _ (name : List ℕ) (m : Map) (left_out : ℕ) (marks : List ℕ) (faults : List FaultAt) (arrows : List Arrow) where
+  abbrev told : Subject
+  told = subject.Faults left_out
+
+  abbrev others : List Element
+  others = Marked marks ∷ faults_from faults
+
+  arrow_among : (w : Arrow) → Has (others ++ arrows_from arrows) (Out w) → Contains arrows w
+  arrow_among w (p, at) =
+      let r = behind IsOut others (arrows_from arrows) p (Out w) ((λ h. out_marked marks h.0 h.1), all_faults (NotSo IsOut) (λ what c h. out_fault what c h.0 h.1) faults) (w, refl) at in
+      arrow_there arrows r.0 w r.2
+
+  only_arrows : (w : Arrow) → Has (marked_picture name m left_out marks faults arrows) (Out w) → Contains arrows w
+  only_arrows w (p, at) =
+      arrow_among w (at_over IsOut name told m (λ h. out_head h.0 h.1) (λ n s h. out_title n s h.0 h.1) (λ h. out_style h.0 h.1) (λ h. out_paper h.0 h.1) (λ h. out_scale h.0 h.1) (λ h. out_foot h.0 h.1)
+      (λ i l h. out_line i l h.0 h.1) [] (others ++ arrows_from arrows) tt p (Out w) (w, refl) at)
+
+  pub arrows_shown : ShowsArrows arrows (marked_picture name m left_out marks faults arrows)
+  arrows_shown = record {
+    has = λ w c. has_over name told m [] (others ++ arrows_from arrows) (Out w) (has_behind others (arrows_from arrows) (Out w) (has_arrow arrows w c));
+    only = only_arrows;
   }
 
 -- ---- their bytes
@@ -123,3 +198,10 @@ faults_spelled f m (a ∷ faults) =
 
 pub rings_on : (f : Frame) (m : Map) (faults : List FaultAt) (a b : List ℕ) → b ≡ a ++ fault_texts f faults → b ≡ a ++ spelled f m (faults_from faults)
 rings_on f m faults a b made = made ∙ ap (λ (l : List ℕ). a ++ l) (sym (faults_spelled f m faults))
+
+arrows_spelled : (f : Frame) (p : PlanParts) → IsPlan p → (arrows : List Arrow) → spelled f (map_of p) (arrows_from arrows) ≡ arrow_texts f p.points arrows
+arrows_spelled f p plan arrows =
+    flat_map-map (bytes_of f (map_of p)) (λ (w : Arrow). Out w) arrows ∙ ap (λ (points : List Pt). flat_map (λ (w : Arrow). arrow_text f (corners_in points w)) arrows) (plan_points p plan)
+
+pub arrows_on : (f : Frame) (p : PlanParts) (arrows : List Arrow) (a b : List ℕ) → IsPlan p → b ≡ a ++ arrow_texts f p.points arrows → b ≡ a ++ spelled f (map_of p) (arrows_from arrows)
+arrows_on f p arrows a b plan made = made ∙ ap (λ (l : List ℕ). a ++ l) (sym (arrows_spelled f p plan arrows))

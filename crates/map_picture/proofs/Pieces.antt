@@ -6,12 +6,13 @@ use Rattle.math_base.proofs.Lists.{all_join, all_at}
 use Rattle.sight_names.specs.Map.{Map, MapLine}
 use Rattle.sight_names.specs.declared.names.Pt.{Pt}
 use Rattle.sight_names.specs.declared.names.Triangle.{Triangle}
+use Rattle.map_picture.specs.declared.arrows.Arrow.{Arrow}
 use Rattle.map_picture.specs.declared.faults.FaultAt.{FaultAt}
 use Rattle.map_picture.specs.declared.faults.PointFault.{PointFault}
 use Rattle.map_picture.specs.declared.rings.Letter.{Letter}
 use Rattle.map_picture.specs.declared.sheet.Subject.{Subject}
 use Rattle.map_picture.specs.declared.rings.Letter.TheVariants as letter
-use Rattle.map_picture.specs.Picture.{Element, Head, Title, Style, Paper, Scale, Line, Fault, Ring, Foot, entry_if, fault_if, faults_from, largest_of, line_elements, line_if, lines_from, pair_rings, picture_of, ring_at, ring_of, sheet_of}
+use Rattle.map_picture.specs.Picture.{Element, Head, Title, Style, Paper, Scale, Line, Fault, Out, Ring, Foot, arrows_from, entry_if, fault_if, faults_from, largest_of, line_elements, line_if, lines_from, pair_rings, picture_of, ring_at, ring_of, sheet_of}
 use Rattle.map_picture.specs.Laws.{Has}
 
 -- ---- what holds of every line
@@ -64,6 +65,13 @@ module _ (P : Element → Type 0) (fault : (what : PointFault) (c : Pt) → P (F
   pub all_faults : (faults : List FaultAt) → AllByRecursion P (faults_from faults)
   all_faults [] = tt
   all_faults (a ∷ faults) = all_join P (fault_if a.fault a.at) (faults_from faults) (all_if_fault a.fault a.at) (all_faults faults)
+
+-- ---- what holds of every arrow
+
+module _ (P : Element → Type 0) (out : (w : Arrow) → P (Out w)) where
+  pub all_arrows : (arrows : List Arrow) → AllByRecursion P (arrows_from arrows)
+  all_arrows [] = tt
+  all_arrows (w ∷ arrows) = (out w, all_arrows arrows)
 
 -- ---- places
 

@@ -1,6 +1,6 @@
 -- The bytes of a picture: SVG, one element a line. The whole, each face and each line have a title, which a browser shows under the
 -- pointer; what has none lets the pointer through.
-use Rattle.std.specs.Prelude.{ℕ, ◌+◌, ◌*◌, ◌/◌, ◌%◌, ◌==◌, List, [], ◌∷◌, ◌++◌, Option, Some, None, Bool, true, false, ℤ, codes, if◌then◌else◌}
+use Rattle.std.specs.Prelude.{ℕ, ◌+◌, ◌*◌, ◌/◌, ◌%◌, ◌==◌, List, [], ◌∷◌, ◌++◌, Option, Some, None, Bool, true, false, ℤ, codes, slice_index_or, if◌then◌else◌}
 use Rattle.std.specs.Fmt.{decimal, signed_decimal}
 use Rattle.std.specs.List.{flat_map, range_with_len}
 use Rattle.sight_names.specs.declared.faults.LineFault.TheVariants as clash
@@ -8,11 +8,13 @@ use Rattle.sight_names.specs.declared.names.Pt.{Pt}
 use Rattle.sight_names.specs.declared.names.Ray.{Ray}
 use Rattle.sight_names.specs.declared.names.Side.{Side}
 use Rattle.sight_names.specs.declared.names.Triangle.{Triangle}
-use Rattle.sight_names.specs.Map.{Map, MapLine, line_at}
+use Rattle.sight_names.specs.Map.{Map, MapLine, line_at, origin}
 use Rattle.sight_names.specs.Points.{place, points_of}
 use Rattle.map_picture.specs.declared.frame.Frame.{Frame}
 use Rattle.map_picture.specs.declared.frame.Sizes.{Sizes}
 use Rattle.map_picture.specs.declared.crossings.Spot.{Spot}
+use Rattle.map_picture.specs.declared.arrows.Arrow.{Arrow}
+use Rattle.map_picture.specs.declared.arrows.Corners.{Corners}
 use Rattle.map_picture.specs.declared.faults.FaultAt.{FaultAt}
 use Rattle.map_picture.specs.declared.faults.PointFault.{PointFault}
 use Rattle.map_picture.specs.declared.faults.PointFault.TheVariants as point
@@ -25,7 +27,7 @@ use Rattle.map_picture.specs.declared.tint.Tint.{Tint}
 use Rattle.map_picture.specs.declared.tint.Tint.TheVariants as tint
 use Rattle.map_picture.specs.Frame.{across, down, frame_of, sizes_of}
 use Rattle.map_picture.specs.Crossings.{crossing_spot}
-use Rattle.map_picture.specs.Picture.{Element, Head, Title, Style, Paper, Scale, Face, Line, Entered, Stops, Sight, Marked, Fault, Ring, Legend, Foot, heat_of}
+use Rattle.map_picture.specs.Picture.{Element, Head, Title, Style, Paper, Scale, Face, Line, Entered, Stops, Sight, Marked, Fault, Out, Ring, Legend, Foot, heat_of}
 
 -- a text, and a number behind it
 unfoldable pub count_text : List ℕ → ℕ → List ℕ
@@ -334,6 +336,43 @@ fault_at_text f a = fault_place_text f a.fault a.at
 abbrev pub fault_texts : Frame → List FaultAt → List ℕ
 fault_texts f faults = flat_map (fault_at_text f) faults
 
+-- ---- arrows round torn corners
+
+-- half of the way from one place to another, and five eighths of it, cut down
+abbrev pub half_way : ℕ → ℕ → ℕ
+half_way x y = (x + y) / 2
+
+abbrev pub past_half : ℕ → ℕ → ℕ
+past_half x y = (3 * x + 5 * y) / 8
+
+-- a place in whole units, and a word before it
+unfoldable pub whole_text : List ℕ → ℕ → ℕ → List ℕ
+whole_text word x y = count_text word x ++ count_text (codes " ") y
+
+abbrev pub base_text : Frame → List ℕ → Pt → Pt → List ℕ
+base_text f word p q = whole_text word (past_half (across f p) (across f q)) (past_half (down f p) (down f q))
+
+abbrev pub tip_text : Frame → Pt → Pt → List ℕ
+tip_text f p q = whole_text (codes "L") (half_way (across f p) (across f q)) (half_way (down f p) (down f q))
+
+-- the base is the middle quarter of the edge that is crossed, the tip the middle of the next one
+unfoldable pub arrow_shape : Frame → Corners → List ℕ
+arrow_shape f c = base_text f (codes "<path class=\"r\" d=\"M") c.from c.point ++ base_text f (codes "L") c.point c.from ++ tip_text f c.point c.to
+
+-- the torn corner as a title, which ends the path
+unfoldable pub arrow_title : Pt → List ℕ
+arrow_title c = codes "z\"><title>out round the torn corner" ++ place_text c ++ codes "</title></path>\n"
+
+unfoldable pub arrow_text : Frame → Corners → List ℕ
+arrow_text f c = arrow_shape f c ++ arrow_title c.point
+
+-- the points with the three numbers
+abbrev pub corners_in : List Pt → Arrow → Corners
+corners_in points w = record { from = slice_index_or points w.from origin; point = slice_index_or points w.point origin; to = slice_index_or points w.to origin }
+
+abbrev pub arrow_texts : Frame → List Pt → List Arrow → List ℕ
+arrow_texts f points arrows = flat_map (λ (w : Arrow). arrow_text f (corners_in points w)) arrows
+
 -- ---- the legend of shades
 
 -- the least count that may have the shade
@@ -367,6 +406,7 @@ bytes_of f m (Stops ss) = stops_text f m ss
 bytes_of f m (Sight r first last) = sight_text f r first last
 bytes_of f m (Marked marks) = marked_text f m marks
 bytes_of f m (Fault what c) = fault_text f what c
+bytes_of f m (Out w) = arrow_text f (corners_in (points_of m) w)
 bytes_of f m (Ring which sector t) = ring_text f m which sector t
 bytes_of f m (Legend most) = legend_text (sizes_of f) most
 bytes_of f m Foot = codes "</svg>\n"

@@ -11,6 +11,7 @@ use Rattle.sight_names.specs.Points.{points_of}
 use Rattle.sight_names.specs.Ray.{IsCrossing, IsSightRay}
 use Rattle.reject_bits.specs.Parts.{Rejects, TableParts}
 use Rattle.map_picture.specs.declared.frame.Frame.{Frame}
+use Rattle.map_picture.specs.declared.arrows.Arrow.{Arrow}
 use Rattle.map_picture.specs.declared.faults.FaultAt.{FaultAt}
 use Rattle.map_picture.specs.declared.faults.PointFault.{PointFault}
 use Rattle.map_picture.specs.declared.pair.Stop.{Stop}
@@ -21,7 +22,7 @@ use Rattle.map_picture.specs.declared.tint.Tint.TheVariants as tint
 use Rattle.map_picture.specs.Bytes.{id_of}
 use Rattle.map_picture.specs.Crossings.{IsSpotOf, crossing_spot}
 use Rattle.map_picture.specs.Frame.{across, down, frame_of, height_of, width_of}
-use Rattle.map_picture.specs.Picture.{Element, Face, Line, Entered, Stops, Sight, Marked, Fault, Ring, blind_picture, heat_picture, marked_picture, most_of, pair_picture, picture_of, plan_picture, ring_of, row_picture, sight_picture}
+use Rattle.map_picture.specs.Picture.{Element, Face, Line, Entered, Stops, Sight, Marked, Fault, Out, Ring, blind_picture, heat_picture, marked_picture, most_of, pair_picture, picture_of, plan_picture, ring_of, row_picture, sight_picture}
 
 -- the picture has this element
 abbrev pub Has : List Element → Element → Type 0
@@ -157,7 +158,7 @@ pub record ShowsMarks (marks : List ℕ) (picture : List Element) : Type 0 where
   pub once : (i j : ℕ) (ms ns : List ℕ) → slice_get picture i ≡ Some (Marked ms) → slice_get picture j ≡ Some (Marked ns) → i ≡ j
 
 abbrev pub MarksAreShown : Type 0
-MarksAreShown = (name : List ℕ) (m : Map) (left_out : ℕ) (marks : List ℕ) (faults : List FaultAt) → ShowsMarks marks (marked_picture name m left_out marks faults)
+MarksAreShown = (name : List ℕ) (m : Map) (left_out : ℕ) (marks : List ℕ) (faults : List FaultAt) (arrows : List Arrow) → ShowsMarks marks (marked_picture name m left_out marks faults arrows)
 
 -- a ring round each of these that is at one point, and no other
 pub record ShowsFaults (faults : List FaultAt) (picture : List Element) : Type 0 where
@@ -165,7 +166,15 @@ pub record ShowsFaults (faults : List FaultAt) (picture : List Element) : Type 0
   pub only : (what : PointFault) (c : Pt) → Has picture (Fault what c) → Contains faults (record { fault = what; at = Some c })
 
 abbrev pub FaultsAreShown : Type 0
-FaultsAreShown = (name : List ℕ) (m : Map) (left_out : ℕ) (marks : List ℕ) (faults : List FaultAt) → ShowsFaults faults (marked_picture name m left_out marks faults)
+FaultsAreShown = (name : List ℕ) (m : Map) (left_out : ℕ) (marks : List ℕ) (faults : List FaultAt) (arrows : List Arrow) → ShowsFaults faults (marked_picture name m left_out marks faults arrows)
+
+-- each of these arrows, and no other
+pub record ShowsArrows (arrows : List Arrow) (picture : List Element) : Type 0 where
+  pub has : (w : Arrow) → Contains arrows w → Has picture (Out w)
+  pub only : (w : Arrow) → Has picture (Out w) → Contains arrows w
+
+abbrev pub ArrowsAreShown : Type 0
+ArrowsAreShown = (name : List ℕ) (m : Map) (left_out : ℕ) (marks : List ℕ) (faults : List FaultAt) (arrows : List Arrow) → ShowsArrows arrows (marked_picture name m left_out marks faults arrows)
 
 -- ---- rings
 
@@ -201,7 +210,7 @@ abbrev pub PairIdsAreOnce : Type 0
 PairIdsAreOnce = (name : List ℕ) (m : Map) (groups : List (List ℕ)) (ts : List Triangle) (labels : List (Option ℕ)) (a b : ℕ) → length m.lines ≤ 2 ^ 64 → length groups ≤ 2 ^ 64 → IdsAreOnce (pair_picture name m groups ts labels a b)
 
 abbrev pub MarkedIdsAreOnce : Type 0
-MarkedIdsAreOnce = (name : List ℕ) (m : Map) (left_out : ℕ) (marks : List ℕ) (faults : List FaultAt) → length m.lines ≤ 2 ^ 64 → IdsAreOnce (marked_picture name m left_out marks faults)
+MarkedIdsAreOnce = (name : List ℕ) (m : Map) (left_out : ℕ) (marks : List ℕ) (faults : List FaultAt) (arrows : List Arrow) → length m.lines ≤ 2 ^ 64 → IdsAreOnce (marked_picture name m left_out marks faults arrows)
 
 abbrev pub HeatIdsAreOnce : Type 0
 HeatIdsAreOnce = (name : List ℕ) (m : Map) (groups : List (List ℕ)) (ts : List Triangle) (labels : List (Option ℕ)) (count : List ℕ → ℕ) → length m.lines ≤ 2 ^ 64 → length groups ≤ 2 ^ 64 → IdsAreOnce (heat_picture name m groups ts labels (map count groups))

@@ -11,6 +11,7 @@ use Rattle.sight_names.specs.Ray.{IsSightRay}
 use Rattle.sight_names.specs.Table.{table_bit}
 use Rattle.geom_exact.specs.Formulas.{turn_of}
 use Rattle.reject_bits.specs.Parts.{TableParts}
+use Rattle.map_picture.specs.declared.arrows.Arrow.{Arrow}
 use Rattle.map_picture.specs.declared.faults.FaultAt.{FaultAt}
 use Rattle.map_picture.specs.declared.faults.PointFault.{PointFault}
 use Rattle.map_picture.specs.declared.pair.Stop.{Stop}
@@ -46,6 +47,8 @@ pub data Element : Type 0 where
   Marked : List ℕ → Element
   -- a ring round a point at which this is at fault
   Fault : PointFault → Pt → Element
+  -- an arrow through a triangle at a torn corner
+  Out : Arrow → Element
   -- a ring with this letter in the middle of a triangle of this sector
   Ring : Letter → ℕ → Triangle → Element
   -- which counts each shade stands for, up to the greatest one
@@ -146,10 +149,13 @@ fault_if what (Some c) = Fault what c ∷ []
 abbrev pub faults_from : List FaultAt → List Element
 faults_from faults = flat_map (λ (a : FaultAt). fault_if a.fault a.at) faults
 
--- the plan without faces, with marks over the lines with these record numbers and rings round points at fault; so many clashes are
--- left out
-abbrev pub marked_picture : List ℕ → Map → ℕ → List ℕ → List FaultAt → List Element
-marked_picture name m left_out marks faults = picture_of name (subject.Faults left_out) m [] (Marked marks ∷ faults_from faults)
+abbrev pub arrows_from : List Arrow → List Element
+arrows_from arrows = map (λ (w : Arrow). Out w) arrows
+
+-- the plan without faces, with marks over the lines with these record numbers, rings round points at fault, and arrows; so many
+-- clashes are left out
+abbrev pub marked_picture : List ℕ → Map → ℕ → List ℕ → List FaultAt → List Arrow → List Element
+marked_picture name m left_out marks faults arrows = picture_of name (subject.Faults left_out) m [] (Marked marks ∷ faults_from faults ++ arrows_from arrows)
 
 -- what the table's row of sector a says of a group: set only if it is so for each sector that the group names
 abbrev pub row_tint : TableParts → ℕ → List ℕ → Tint

@@ -57,8 +57,9 @@ fn push_coordinate(out: &mut Vec<u8>, word: &str, n: i16) -> Result<(), AllocErr
     push_integer(out, n as i64)
 }
 
+/// Where it is, by the coordinates that the map has.
 #[tactic(auto, unfolding(crate::specs::Bytes::place_text))]
-fn push_place(out: &mut Vec<u8>, at: Pt) -> Result<(), AllocError>
+pub fn push_place(out: &mut Vec<u8>, at: Pt) -> Result<(), AllocError>
     ensures { OnOk result (out.new.items ≡ out.old.items ++ place_text at) }
 {
     push_coordinate(out, " at ", at.x)?;

@@ -1,6 +1,6 @@
 //! What pictures show, by their definition. The calls do nothing: their clauses are laws.
 
-ghost use Rattle.map_picture.specs.Laws.{BlindFacesAreShown, BlindIdsAreOnce, EnteredIsShown, FaultsAreShown, HeatIdsAreOnce, HeatIsShown, LinesAreShown, MarkedIdsAreOnce, MarksAreShown, PairFacesAreShown, PairIdsAreOnce, PlanFacesAreShown, PlanIdsAreOnce, PointsAreReadBack, RayIsDrawn, RingsAreInside, RowIdsAreOnce, RowIsShown, SightFacesAreShown, SightIdsAreOnce, StopsAreShown};
+ghost use Rattle.map_picture.specs.Laws.{ArrowsAreShown, BlindFacesAreShown, BlindIdsAreOnce, EnteredIsShown, FaultsAreShown, HeatIdsAreOnce, HeatIsShown, LinesAreShown, MarkedIdsAreOnce, MarksAreShown, PairFacesAreShown, PairIdsAreOnce, PlanFacesAreShown, PlanIdsAreOnce, PointsAreReadBack, RayIsDrawn, RingsAreInside, RowIdsAreOnce, RowIsShown, SightFacesAreShown, SightIdsAreOnce, StopsAreShown};
 
 /// Every picture of a map has its lines, each once, and no other line.
 pub fn lines_are_shown()
@@ -68,6 +68,11 @@ pub fn marks_are_shown()
 /// .. and a ring round each point at fault that it was given, and round no other.
 pub fn faults_are_shown()
     ensures { FaultsAreShown }
+{}
+
+/// .. and just the arrows that it was given.
+pub fn arrows_are_shown()
+    ensures { ArrowsAreShown }
 {}
 
 /// The coordinates of each point of a map can be read back from a picture.

@@ -2,6 +2,7 @@
 //! what there is to see of a pair of sectors, or with marks over some lines.
 #![tactic(auto)]
 
+mod arrows;
 mod chains;
 mod crossings;
 mod faces;
@@ -18,9 +19,10 @@ mod sheet;
 mod tint;
 mod words;
 
+pub use arrows::Arrow;
 pub use faults::{FaultAt, PointFault};
 pub use laws::{
-    entered_is_shown, faults_are_shown, heat_is_shown, ids_are_once, lines_are_shown,
+    arrows_are_shown, entered_is_shown, faults_are_shown, heat_is_shown, ids_are_once, lines_are_shown,
     marks_are_shown, pair_is_shown, plan_is_shown, points_are_read_back, ray_is_drawn,
     rings_are_inside, row_is_shown,
 };

@@ -6,6 +6,7 @@ ghost use Rattle.map_picture.specs.Bytes.{spelled, svg_of};
 ghost use Rattle.map_picture.specs.declared.sheet.Subject.TheVariants as subject;
 ghost use Rattle.map_picture.specs.Picture.{JoinsSectors, faces_from, pair_faces as the_pair_faces, pair_rings, sheet_of, blind_picture as the_blind_picture, heat_picture as the_heat_picture, marked_picture as the_marked_picture, pair_picture as the_pair_picture, plan_picture as the_plan_picture, row_picture as the_row_picture, sight_picture as the_sight_picture};
 
+use crate::arrows::{Arrow, push_arrows};
 use crate::chains::chains_of;
 use crate::faces::{Faces, push_faces};
 use crate::faults::{FaultAt, push_faults};
@@ -87,7 +88,8 @@ pub fn plan_picture(
     Ok(out)
 }
 
-/// The plan, with marks over the lines with these record numbers, and rings round points at fault. So many clashes are left out.
+/// The plan, with marks over the lines with these record numbers, rings round points at fault, and arrows. So many clashes are left
+/// out.
 pub fn marked_picture(
     alloc: Global,
     name: &str,
@@ -95,8 +97,9 @@ pub fn marked_picture(
     left_out: u64,
     marks: &[u16],
     faults: &[FaultAt],
+    arrows: &[Arrow],
 ) -> Result<Vec<u8>, Memory>
-    ensures { IfOk result (λ v. v.items ≡ svg_of (map_of plan.now) (the_marked_picture name.now (map_of plan.now) left_out marks.now faults.now)) }
+    ensures { IfOk result (λ v. v.items ≡ svg_of (map_of plan.now) (the_marked_picture name.now (map_of plan.now) left_out marks.now faults.now arrows.now)) }
 {
     let frame = frame_of(plan.points());
     let mut out = Vec::new(alloc);
@@ -104,6 +107,7 @@ pub fn marked_picture(
     push_lines(&mut out, frame, plan)?;
     push_marks(&mut out, frame, plan, marks)?;
     push_faults(&mut out, frame, faults)?;
+    push_arrows(&mut out, frame, plan, arrows)?;
     push_foot(&mut out)?;
     Ok(out)
 }
