@@ -1,15 +1,15 @@
 -- What plans, faults, rows, counts and pairs tell.
-use Rattle.std.proofs.Common.{◌≡◌, ◌∙◌, ℕ, List, [], ◌∷◌, map, Option, Some, None, Result, Ok, Err, ap}
+use Rattle.std.proofs.Common.{◌≡◌, ◌∙◌, ℕ, List, [], ◌∷◌, ◌++◌, map, Option, Some, None, Result, Ok, Err, ap}
 use Rattle.map_answers.specs.declared.sight_status.status.Flaw.{Flaw}
 use Rattle.map_answers.specs.declared.sight_status.status.Status.{Status}
 use Rattle.map_answers.specs.SightStatus.Answer.{Answer}
 use Rattle.map_picture.specs.declared.rings.Letter.TheVariants as letter
 use Rattle.map_picture.specs.declared.sheet.Subject.TheVariants as subject
 use Rattle.map_picture.specs.declared.tint.Tint.TheVariants as tint
-use Rattle.map_picture.specs.Picture.{Legend, Marked, faces_from, faults_from, heat_picture, heat_tints, marked_picture, most_of, plan_faces, plan_picture, ring_of, row_picture, row_tint}
+use Rattle.map_picture.specs.Picture.{Legend, Marked, arrows_from, faces_from, faults_from, heat_picture, heat_tints, marked_picture, most_of, plan_faces, plan_picture, ring_of, row_picture, row_tint}
 use Rattle.map_picture.proofs.Faced.{heat_shown, no_line_in_faces, row_shown}
 use Rattle.map_picture.proofs.Ids.{no_line, no_line_heat, no_line_legend, no_line_marked, no_line_ring}
-use Rattle.map_picture.proofs.Marking.{faults_shown, marks_shown}
+use Rattle.map_picture.proofs.Marking.{arrows_shown, faults_shown, marks_shown}
 use Rattle.map_picture.proofs.Ordered.{lines_shown}
 use Rattle.pair_answer.proofs.Sectors.{answers_said, answers_tell}
 use Rattle.draw_answers.specs.Drawn.{Drawing, one_picture}
@@ -43,12 +43,18 @@ faults_marked name out m answer h = go h.fault h.first h.shown h.draws h.is
         record {
           fault = Some which;
           first = first;
-          picture = marked_picture name m x.left_out x.lines x.faults;
+          picture = marked_picture name m x.left_out x.lines x.faults x.arrows;
           writes = record {
             writes = writes_of answer _ (is ∙ ap (λ (y : Drawing). one_picture out y) draws.is);
-            lines = lines_shown name (subject.Faults x.left_out) m [] (Marked x.lines ∷ faults_from x.faults) no_line (no_line_marked x.lines x.faults);
+            lines = lines_shown name (subject.Faults x.left_out) m [] (Marked x.lines ∷ faults_from x.faults ++ arrows_from x.arrows) no_line (no_line_marked x.lines x.faults x.arrows);
           };
-          marks = record { marks = x; are = draws.are; lines = marks_shown name m x.left_out x.lines x.faults; rings = faults_shown name m x.left_out x.lines x.faults };
+          marks = record {
+            marks = x;
+            are = draws.are;
+            lines = marks_shown name m x.left_out x.lines x.faults x.arrows;
+            rings = faults_shown name m x.left_out x.lines x.faults x.arrows;
+            arrows = arrows_shown name m x.left_out x.lines x.faults x.arrows;
+          };
         }
     go None first d draws is = let g = draws.groups in record {
       fault = None;

@@ -23,7 +23,7 @@ AreMarksOf m (flaw.Open side) x = AreOfOpenFaces m x
 
 -- the plan with these marks; the line tells the flaw that is first
 abbrev pub flaw_drawing : List ℕ → Map → Flaw → FaultMarks → Drawing
-flaw_drawing name m which x = record { bytes = svg_of m (marked_picture name m x.left_out x.lines x.faults); line = flaw_line name which }
+flaw_drawing name m which x = record { bytes = svg_of m (marked_picture name m x.left_out x.lines x.faults x.arrows); line = flaw_line name which }
 
 -- with those that the flaw calls for
 pub record ShowsFlaw (name : List ℕ) (m : Map) (which : Flaw) (d : Drawing) : Type 0 where

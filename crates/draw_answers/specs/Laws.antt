@@ -20,7 +20,7 @@ use Rattle.group_job.specs.declared.build.GroupBuilt.{GroupBuilt}
 use Rattle.group_job.specs.Built.{DecidesByGroups}
 use Rattle.map_picture.specs.Bytes.{svg_of}
 use Rattle.map_picture.specs.Picture.{Element, most_of}
-use Rattle.map_picture.specs.Laws.{ShowsFaces, ShowsFaults, ShowsLines, ShowsMarks, TellsHeat, TellsRow}
+use Rattle.map_picture.specs.Laws.{ShowsArrows, ShowsFaces, ShowsFaults, ShowsLines, ShowsMarks, TellsHeat, TellsRow}
 use Rattle.map_answers.specs.Groups.{IsOverGroups, MapGroups}
 use Rattle.pair_answer.specs.Laws.{IsSaidOf, TellsSight}
 use Rattle.pair_answer.specs.declared.entered_triangles.entered.Entered.{Entered}
@@ -41,12 +41,13 @@ pub record WritesPicture (out : List ℕ) (m : Map) (answer : Answer) (picture :
 abbrev pub PlansShowLines : Type 0
 PlansShowLines = (name out : List ℕ) (m : Map) (answer : Answer) → DrawPlanCalls name out m (Ok answer) → (picture : List Element) × WritesPicture out m answer picture
 
--- the lines and the points that the flaw calls for are marked, and no other
+-- the lines and the points that the flaw calls for are marked, and no other, and arrows lead just where it calls for them
 pub record TellsMarks (m : Map) (which : Flaw) (picture : List Element) : Type 0 where
   pub marks : FaultMarks
   pub are : AreMarksOf m which marks
   pub lines : ShowsMarks marks.lines picture
   pub rings : ShowsFaults marks.faults picture
+  pub arrows : ShowsArrows marks.arrows picture
 
 -- .. and, if the map has a fault, those that the first one calls for
 pub record MarksFault (out : List ℕ) (m : Map) (answer : Answer) : Type 0 where

@@ -43,7 +43,8 @@ fn drawn_marks(
 {
     let lines = marks.lines.as_slice();
     let faults = marks.faults.as_slice();
-    let picture = marked_picture(alloc, map, plan, marks.left_out, lines, faults)?;
+    let arrows = marks.arrows.as_slice();
+    let picture = marked_picture(alloc, map, plan, marks.left_out, lines, faults, arrows)?;
     let line = fault_line(alloc, map, which)?;
     Ok(Drawn { picture, line })
 }
@@ -83,7 +84,7 @@ fn drawn_refused(alloc: Global, plan: &Plan, map: &str, refusal: Status) -> Resu
 }
 
 /// The picture of any map's plan, in which its faults are marked: the first thousand pairs of lines that clash, or where none do the
-/// open sides, the torn corners and the loose ends. The line is of the fault that an audit tells.
+/// open sides, the torn corners with the ways round them, and the loose ends. The line is of the fault that an audit tells.
 pub fn draw_faults(alloc: Global, plan: &Plan, map: &str) -> Result<Drawn, Status>
     ensures judged { (out : List ℕ) → Gives ⊤ (DrawFaultsCalls map.now out (map_of plan.now)) (drawn_answer out result) }
     ensures refusals { IfErr result (λ s. s ≡ status.Memory tt) }

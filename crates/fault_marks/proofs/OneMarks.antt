@@ -22,11 +22,13 @@ use Rattle.map_faults.specs.declared.loose_ends.LooseEnd.{LooseEnd}
 use Rattle.map_faults.specs.declared.tears.Tear.{Tear}
 use Rattle.map_faults.specs.EdgeSides.{AreEdgeSides, IsSideOfEdge, side_by}
 use Rattle.map_faults.specs.LooseEnds.{AreLooseEnds}
-use Rattle.map_faults.specs.Tears.{AreTears}
-use Rattle.map_faults.proofs.OneOfEach.{one_corner, one_fault_of, one_first, one_loose, one_open, one_order, points_too}
+use Rattle.map_faults.proofs.OneOfEach.{one_corner, one_fault_of, one_first, one_loose, one_open, one_order, one_tears}
+use Rattle.map_picture.specs.declared.arrows.Arrow.{Arrow}
 use Rattle.map_picture.specs.declared.faults.FaultAt.{FaultAt}
 use Rattle.map_picture.specs.declared.faults.PointFault.TheVariants as point
 use Rattle.fault_marks.specs.declared.marks.FaultMarks.{FaultMarks}
+use Rattle.fault_marks.specs.Arrows.{AreArrowsOf, AreTornWith}
+use Rattle.fault_marks.proofs.Around.{one_arrows}
 use Rattle.fault_marks.specs.Marks.{AreClashesAt, AreOfClashes, AreOfOpenFaces, IsClashAt, faults_of, lines_of_pairs}
 
 -- ---- clashes
@@ -49,7 +51,7 @@ one_faults m (p ∷ ps) (x ∷ xs) [] h k = absurd k
 one_faults m (p ∷ ps) (x ∷ xs) (y ∷ ys) h k = ap₂ (λ (a : FaultAt) (rest : List FaultAt). a ∷ rest) (one_at m p x y h.0 k.0) (one_faults m ps xs ys h.1 k.1)
 
 pub one_of_clashes : (m : Map) (x y : FaultMarks) → AreOfClashes m x → AreOfClashes m y → x ≡ y
-one_of_clashes m x y h k = λ i. record { left_out = left i; lines = lines i; faults = faults i }
+one_of_clashes m x y h k = λ i. record { left_out = left i; lines = lines i; faults = faults i; arrows = arrows i }
   where
     both : (h.first ≡ k.first) × (h.count ≡ k.count)
     both = one_first m h.first k.first h.count k.count h.are k.are
@@ -60,6 +62,9 @@ one_of_clashes m x y h k = λ i. record { left_out = left i; lines = lines i; fa
     lines : x.lines ≡ y.lines
     lines = one_order (lines_of_pairs h.first) (lines_of_pairs k.first) x.lines y.lines h.lines k.lines
         (λ n c. subst (λ (ps : List LinePair). Contains (lines_of_pairs ps) n) both.0 c) (λ n c. subst (λ (ps : List LinePair). Contains (lines_of_pairs ps) n) (sym both.0) c)
+
+    arrows : x.arrows ≡ y.arrows
+    arrows = h.arrows ∙ sym k.arrows
 
     faults : x.faults ≡ y.faults
     faults = one_faults m k.first x.faults y.faults (subst (λ (ps : List LinePair). AreClashesAt m ps x.faults) both.0 h.faults) k.faults
@@ -110,13 +115,16 @@ module _ (p : PlanParts) (plan : IsPlan p) (ends : LinesMeetAtEnds (map_of p)) w
           let b = k.each e i q in
           ap (at_number ss) q ∙ ap (option_and_then (λ (o : Option Side). o)) a.1 ∙ one_side e a.0 b.0 a.2 b.2 ∙ sym (ap (at_number us) q ∙ ap (option_and_then (λ (o : Option Side). o)) b.1)
 
-  same_points : (ts : List Triangle) (tears more : List Tear) → AreTears p ts tears → AreTears p ts more → (n : ℕ) → Contains (map (λ (t : Tear). t.point) tears) n → Contains (map (λ (t : Tear). t.point) more) n
-  same_points ts tears more h k = points_too ts h.0 k.0 (same_sides ts h.0 k.0 h.1 k.1) p tears more h.2 k.2
+  one_torn : (ts : List Triangle) (tears more : List Tear) (vs ws : List Arrow) → AreTornWith p ts tears vs → AreTornWith p ts more ws → (tears ≡ more) × (vs ≡ ws)
+  one_torn ts tears more vs ws h k =
+      let same : (e : Edge) → side_by ts h.0 e ≡ side_by ts k.0 e = same_sides ts h.0 k.0 h.1 k.1 in
+      let torn : tears ≡ more = one_tears p ts h.0 k.0 same tears more h.2 k.2 in
+      (torn, one_arrows (map_of p) ts h.0 k.0 same more vs ws (subst (λ (us : List Tear). AreArrowsOf (map_of p) ts h.0 us vs) torn h.3) k.3)
 
 -- ---- open faces
 
 pub one_of_open_faces : (m : Map) (x y : FaultMarks) → LinesMeetAtEnds m → AreOfOpenFaces m x → AreOfOpenFaces m y → x ≡ y
-one_of_open_faces m x y meet h k = λ i. record { left_out = left i; lines = lines i; faults = faults i }
+one_of_open_faces m x y meet h k = λ i. record { left_out = left i; lines = lines i; faults = faults i; arrows = arrows i }
   where
     left : x.left_out ≡ y.left_out
     left = h.left_out ∙ sym k.left_out
@@ -131,15 +139,18 @@ one_of_open_faces m x y meet h k = λ i. record { left_out = left i; lines = lin
     same : h.p ≡ k.p
     same = one_plan h.p k.p h.plan k.plan (h.stands ∙ sym k.stands)
 
-    torn : AreTears k.p k.triangles h.tears
-    torn = subst₂ (λ (q : PlanParts) (ts : List Triangle). AreTears q ts h.tears) same (one_mesh m h.triangles k.triangles h.mesh k.mesh) h.torn
-
     meet_too : LinesMeetAtEnds (map_of k.p)
     meet_too = subst (λ (n : Map). LinesMeetAtEnds n) (sym k.stands) meet
 
+    torn : (h.tears ≡ k.tears) × (x.arrows ≡ y.arrows)
+    torn = one_torn k.p k.plan meet_too k.triangles h.tears k.tears x.arrows y.arrows (subst₂ (λ (q : PlanParts) (ts : List Triangle). AreTornWith q ts h.tears x.arrows) same (one_mesh m h.triangles k.triangles h.mesh k.mesh) h.torn) k.torn
+
+    arrows : x.arrows ≡ y.arrows
+    arrows = torn.1
+
     corners : h.corners ≡ k.corners
     corners = one_order (map (λ (t : Tear). t.point) h.tears) (map (λ (t : Tear). t.point) k.tears) h.corners k.corners h.points k.points
-        (same_points k.p k.plan meet_too k.triangles h.tears k.tears torn k.torn) (same_points k.p k.plan meet_too k.triangles k.tears h.tears k.torn torn)
+        (λ n c. subst (λ (ts : List Tear). Contains (map (λ (t : Tear). t.point) ts) n) torn.0 c) (λ n c. subst (λ (ts : List Tear). Contains (map (λ (t : Tear). t.point) ts) n) (sym torn.0) c)
 
     loose : h.ends ≡ k.ends
     loose = one_loose k.p h.ends k.ends (subst (λ (q : PlanParts). AreLooseEnds q h.ends) same h.loose) k.loose

@@ -14,10 +14,10 @@ use Rattle.map_faults.specs.Clashes.{AreFirstClashes, AreInOrder}
 use Rattle.map_faults.specs.Corners.{AreCornersOf}
 use Rattle.map_faults.specs.LooseEnds.{AreLooseEnds}
 use Rattle.map_faults.specs.OpenSides.{AreOpenSides}
-use Rattle.map_faults.specs.Tears.{AreTears}
 use Rattle.map_picture.specs.declared.faults.FaultAt.{FaultAt}
 use Rattle.map_picture.specs.declared.faults.PointFault.TheVariants as point
 use Rattle.fault_marks.specs.declared.marks.FaultMarks.{FaultMarks}
+use Rattle.fault_marks.specs.Arrows.{AreTornWith}
 
 -- ---- lines that clash
 
@@ -47,6 +47,7 @@ pub record AreOfClashes (m : Map) (x : FaultMarks) : Type 0 where
   pub left_out : x.left_out ≡ count - length first
   pub lines : AreInOrder (lines_of_pairs first) x.lines
   pub faults : AreClashesAt m first x.faults
+  pub arrows : x.arrows ≡ []
 
 -- ---- open faces
 
@@ -61,7 +62,7 @@ abbrev pub faults_of : PlanParts → List ℕ → List LooseEnd → List FaultAt
 faults_of p corners ends = map (torn_at p) corners ++ map (loose_at p) ends
 
 -- The lines of the open sides are marked, in order and each once. Rings are round the points of torn corners over the mesh of the map,
--- and round all points at which just one line ends.
+-- and round all points at which just one line ends. Arrows lead round the torn corners from sides that name a sector.
 pub record AreOfOpenFaces (m : Map) (x : FaultMarks) : Type 0 where
   pub p : PlanParts
   pub plan : IsPlan p
@@ -72,7 +73,7 @@ pub record AreOfOpenFaces (m : Map) (x : FaultMarks) : Type 0 where
   pub triangles : List Triangle
   pub mesh : IsMeshOf m triangles
   pub tears : List Tear
-  pub torn : AreTears p triangles tears
+  pub torn : AreTornWith p triangles tears x.arrows
   pub corners : List ℕ
   pub points : AreInOrder (map (λ (t : Tear). t.point) tears) corners
   pub ends : List LooseEnd

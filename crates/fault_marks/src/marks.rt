@@ -8,22 +8,24 @@ ghost use Rattle.mesh_shape.specs.Fills.{FillsSides};
 ghost use Rattle.map_faults.specs.Clashes.{IsClash};
 ghost use Rattle.fault_marks.specs.Marks.{AreClashesAt, AreOfClashes, AreOfOpenFaces, IsClashAt, faults_of as the_faults_of, lines_of_pairs as the_lines_of_pairs, loose_at as the_loose_at, torn_at as the_torn_at};
 
+use crate::arrows::arrows_of;
 use map_faults::{
     LinePair, LooseEnd, Tear, clashes_of, fault_of, in_order, loose_ends_of, meeting_of,
     open_sides_of, tears_of,
 };
-use map_picture::{FaultAt, PointFault};
+use map_picture::{Arrow, FaultAt, PointFault};
 use mesh_shape::Mesh;
 use sight_names::{Items, Memory, Plan, Pt, Side};
 use std::alloc::{AllocError, Global};
 use triangulate::{greedy, mesh_of};
 
-/// How many clashes are left out, the lines that are marked, and the points round which there are rings.
+/// How many clashes are left out, the lines that are marked, the points round which there are rings, and the arrows.
 #[derive(Drop)]
 pub struct FaultMarks {
     pub left_out: u64,
     pub lines: Items<u16>,
     pub faults: Items<FaultAt>,
+    pub arrows: Items<Arrow>,
 }
 
 // ---- lines that clash
@@ -84,6 +86,7 @@ pub fn marks_of_clashes(alloc: Global, plan: &Plan) -> Result<FaultMarks, Memory
         left_out: clashes.count - pairs.len() as u64,
         lines: Items::of(in_order(lines)),
         faults: Items::of(faults),
+        arrows: Items::of(Vec::new(alloc)),
     })
 }
 
@@ -190,6 +193,7 @@ pub fn marks_of_open_faces(alloc: Global, plan: &Plan) -> Result<FaultMarks, Mem
     let sides = open_sides_of(alloc, plan, &mesh)?;
     let lines = lines_of_sides(alloc, sides.as_slice())?;
     let tears = tears_of(alloc, plan, &mesh)?;
+    let arrows = arrows_of(alloc, plan, &mesh, tears.as_slice())?;
     let points = points_of_tears(alloc, tears.as_slice())?;
     let corners = in_order(points);
     let ends = loose_ends_of(alloc, plan)?;
@@ -198,5 +202,6 @@ pub fn marks_of_open_faces(alloc: Global, plan: &Plan) -> Result<FaultMarks, Mem
         left_out: 0,
         lines: Items::of(in_order(lines)),
         faults: Items::of(faults),
+        arrows: Items::of(arrows),
     })
 }

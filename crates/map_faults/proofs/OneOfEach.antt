@@ -3,7 +3,7 @@ use Rattle.std.proofs.Common.{◌≡◌, ℕ, ◌<◌, ◌-◌, ◌⊎◌, inl, 
 use borrow.Author.Differences.{ints}
 use Rattle.std.proofs.Math.IntN.{*ℤ_comm}
 use Rattle.std.proofs.lemmas.Bool.{false≢true}
-use Rattle.std.proofs.lemmas.Option.{none-some}
+use Rattle.std.proofs.lemmas.Option.{none-some, same_Some}
 use Rattle.math_base.proofs.Lists.{contains_cons, contains_none, contains_there, contains_here, contains_map}
 use Rattle.math_base.proofs.Options.{one_value}
 use Rattle.math_base.proofs.Signs.{le_or_lt, mul-le}
@@ -34,7 +34,7 @@ use Rattle.map_faults.specs.Corners.{AreCornersOf, IsOneCornerOf, IsRoundedDown}
 use Rattle.map_faults.specs.EdgeSides.{side_by}
 use Rattle.map_faults.specs.LooseEnds.{AreLooseEnds}
 use Rattle.map_faults.specs.OpenSides.{AreOpenSides}
-use Rattle.map_faults.specs.Tears.{AreTearsBy, DoDiffer, IsBorder, IsTear, IsTurn}
+use Rattle.map_faults.specs.Tears.{AreTearsBy, DoDiffer, IsBorder, IsTear, IsTearBefore, IsTurn}
 
 -- ---- numbers in order
 
@@ -186,13 +186,6 @@ one_loose p es fs h k = same_ascending LooseBefore (λ e. not_itself e.point) (�
 
 -- ---- torn corners, by the sides that the edges are
 
-contains_of_map : {A : Type 0} (f : A → ℕ) (xs : List A) (n : ℕ) → Contains (map f xs) n → (x : A) × Contains xs x × (f x ≡ n)
-contains_of_map {A} f [] n c = absurd (contains_none n c)
-contains_of_map {A} f (x ∷ xs) n c = elim (contains_cons n (f x) (map f xs) c) as (λ _. (y : A) × Contains (x ∷ xs) y × (f y ≡ n)) [
-  | inl here ↦ (x, contains_here x xs, here)
-  | inr later ↦ (let r = contains_of_map f xs n later in (r.0, contains_there r.0 x xs r.1, r.2))
-]
-
 module _ (ts : List Triangle) (ss us : List (Option Side)) (same : (e : Edge) → side_by ts ss e ≡ side_by ts us e) where
   border_too : (e : Edge) → IsBorder ts ss e → IsBorder ts us e
   border_too e (inl h) = inl (h.0, sym (same e) ∙ h.1)
@@ -202,7 +195,7 @@ module _ (ts : List Triangle) (ss us : List (Option Side)) (same : (e : Edge) �
   border_back e (inl h) = inl (h.0, same e ∙ h.1)
   border_back e (inr h) = inr h
 
-  turn_too : (point x : ℕ) (ys : List ℕ) (w : ℕ) → IsTurn ts ss point x ys w → IsTurn ts us point x ys w
+  pub turn_too : (point x : ℕ) (ys : List ℕ) (w : ℕ) → IsTurn ts ss point x ys w → IsTurn ts us point x ys w
   turn_too point x [] w h = (h.0, border_too (edge point w) h.1)
   turn_too point x (y ∷ ys) w h = (h.0, (λ b. h.1 (border_back (edge point y) b)), turn_too point y ys w h.2)
 
@@ -218,8 +211,19 @@ module _ (ts : List Triangle) (ss us : List (Option Side)) (same : (e : Edge) �
     };
   }
 
-  -- the points of the one list are those of the other
-  pub points_too : (p : PlanParts) (tears more : List Tear) → AreTearsBy p ts ss tears → AreTearsBy p ts us more → (n : ℕ) → Contains (map (λ (t : Tear). t.point) tears) n → Contains (map (λ (t : Tear). t.point) more) n
-  points_too p tears more h k n c =
-      let r = contains_of_map (λ (t : Tear). t.point) tears n c in
-      subst (λ (x : ℕ). Contains (map (λ (t : Tear). t.point) more) x) r.2 (contains_map (λ (t : Tear). t.point) more r.0 (k.all r.0 tt (tear_too p r.0 (h.each r.0 r.1))))
+  corners_too : (p : PlanParts) (tears more : List Tear) → AreTearsBy p ts ss tears → AreTearsBy p ts us more → (t : Tear) → Contains tears t → Contains more t
+  corners_too p tears more h k t c = k.all t tt (tear_too p t (h.each t c))
+
+pub one_tears : (p : PlanParts) (ts : List Triangle) (ss us : List (Option Side)) → ((e : Edge) → side_by ts ss e ≡ side_by ts us e) → (tears more : List Tear) → AreTearsBy p ts ss tears → AreTearsBy p ts us more → tears ≡ more
+one_tears p ts ss us same tears more h k =
+    same_ascending IsTearBefore (λ t. side_itself t.side) (λ t u. side_turned t.side u.side) tears more h.ascend k.ascend
+    (corners_too ts ss us same p tears more h k) (corners_too ts us ss (λ e. sym (same e)) p more tears k h)
+
+-- the way of a turn
+pub one_way : (ts : List Triangle) (ss : List (Option Side)) (point x : ℕ) (ys zs : List ℕ) (w : ℕ) → IsTurn ts ss point x ys w → IsTurn ts ss point x zs w → ys ≡ zs
+one_way ts ss point x [] [] w h k = refl
+one_way ts ss point x [] (z ∷ zs) w h k = absurd (k.1 (subst (λ (u : ℕ). IsBorder ts ss (edge point u)) (same_Some w z (sym h.0 ∙ k.0)) h.1))
+one_way ts ss point x (y ∷ ys) [] w h k = absurd (h.1 (subst (λ (u : ℕ). IsBorder ts ss (edge point u)) (same_Some w y (sym k.0 ∙ h.0)) k.1))
+one_way ts ss point x (y ∷ ys) (z ∷ zs) w h k =
+    let e = same_Some z y (sym k.0 ∙ h.0) in
+    ap₂ (λ (u : ℕ) (us : List ℕ). u ∷ us) (sym e) (one_way ts ss point y ys zs w h.2 (subst (λ (u : ℕ). IsTurn ts ss point u zs w) e k.2))

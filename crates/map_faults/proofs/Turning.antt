@@ -4,20 +4,23 @@ use mathlib.Core.Bool.{beq}
 use Rattle.std.proofs.lemmas.List.{length-append}
 use Rattle.std.proofs.lemmas.Option.{none-some, same_Some, slice_get_within}
 use Rattle.std.proofs.lemmas.Bool.{true≢false, false≢true}
-use Rattle.math_base.proofs.Lists.{contains_none, contains_append, contains_left, contains_right, contains_one, contains_here, length_pushed}
+use Rattle.math_base.proofs.Lists.{contains_none, contains_append, contains_left, contains_right, contains_one, contains_here, length_pushed, pushed_at}
 use Rattle.math_base.proofs.Numbers.{below_or_last, below_differs}
 use Rattle.sight_names.specs.declared.names.Side.{Side}
 use Rattle.sight_names.specs.declared.names.Triangle.{Triangle}
 use Rattle.sight_names.specs.declared.plan.Line.{Line}
 use Rattle.sight_names.specs.Plan.{PlanParts}
 use Rattle.sight_names.specs.Map.{Map, map_of}
+use Rattle.sight_names.specs.Order.{Ascends}
 use Rattle.sight_names.specs.Points.{Edge}
 use Rattle.sight_names.specs.Sequence.{apex}
+use Rattle.sight_names.proofs.Lists.{contains_of_get}
+use Rattle.mesh_shape.specs.Faults.{IsSideBefore}
 use Rattle.mesh_shape.specs.HalfEdges.Numbers.{edge}
 use Rattle.mesh_shape.specs.HalfEdges.Kinds.{edge_at, portal_on}
 use Rattle.map_faults.specs.declared.tears.Tear.{Tear}
 use Rattle.map_faults.specs.EdgeSides.{side_by}
-use Rattle.map_faults.specs.Tears.{IsBorder, IsTurn, IsTurnWithin, DoesName, DoDiffer, IsTorn, IsTear, AreTearsOf, AreTearsBy, AddsTear, AddsTears}
+use Rattle.map_faults.specs.Tears.{IsBorder, IsTurn, IsTurnWithin, DoesName, DoDiffer, IsTorn, IsTear, IsTearBefore, AreTearsOf, AreTearsBy, AddsTear, AddsTears}
 
 -- ---- the turn, edge by edge
 
@@ -137,15 +140,34 @@ abbrev side_of : ℕ → Bool → Side
 side_of i left = record { line = i; left = left }
 
 pub no_tears : (p : PlanParts) (ts : List Triangle) (ss : List (Option Side)) → AreTearsOf (λ s. s.line < 0) p ts ss []
-no_tears p ts ss = record { each = λ t c. absurd (contains_none t c); all = λ t lt. absurd (let h : t.side.line < 0 = lt in omega arith) }
+no_tears p ts ss = record {
+  each = λ t c. absurd (contains_none t c);
+  all = λ t lt. absurd (let h : t.side.line < 0 = lt in omega arith);
+  among = λ t c. absurd (contains_none t c);
+  ascend = λ i j x y lt a b. absurd (none-some x a);
+}
 
-tears_so : (D E : Side → Type 0) (p : PlanParts) (ts : List Triangle) (ss : List (Option Side)) (tears : List Tear) → ((t : Tear) → E t.side → IsTear p ts ss t → D t.side) → AreTearsOf D p ts ss tears → AreTearsOf E p ts ss tears
-tears_so D E p ts ss tears back h = record { each = h.each; all = λ t e is. h.all t (back t e is) is }
+tears_so : (D E : Side → Type 0) (p : PlanParts) (ts : List Triangle) (ss : List (Option Side)) (tears : List Tear) → ((s : Side) → D s → E s) → ((t : Tear) → E t.side → IsTear p ts ss t → D t.side) → AreTearsOf D p ts ss tears → AreTearsOf E p ts ss tears
+tears_so D E p ts ss tears wider back h = record { each = h.each; all = λ t e is. h.all t (back t e is) is; among = λ t c. wider t.side (h.among t c); ascend = h.ascend }
+
+-- one behind the others
+one_behind : (old : List Tear) (new : Tear) → Ascends IsTearBefore old → ((t : Tear) → Contains old t → IsTearBefore t new) → Ascends IsTearBefore (old ++ new ∷ [])
+one_behind old new up before i j x y lt a b = elim (pushed_at old new y j b) as (λ _. IsTearBefore x y) [
+  | inl there ↦ elim (pushed_at old new x i a) as (λ _. IsTearBefore x y) [
+    | inl first ↦ up i j x y lt first there
+    | inr last ↦ absurd (let w = slice_get_within old j y there in let s = last.0 in omega arith)
+  ]
+  | inr last ↦ elim (pushed_at old new x i a) as (λ _. IsTearBefore x y) [
+    | inl first ↦ subst (λ (u : Tear). IsTearBefore x u) last.1 (before x (contains_of_get old x i first))
+    | inr both ↦ absurd (let s = last.0 in let t = both.0 in omega arith)
+  ]
+]
 
 -- one side more
 side_added : (D E : Side → Type 0) (p : PlanParts) (ts : List Triangle) (ss : List (Option Side)) (i : ℕ) (l : Line) (left : Bool) (from point : ℕ) (old new : List Tear) → slice_get p.lines i ≡ Some (Some l) → edge_at l left ≡ edge from point
-    → ((s : Side) → E s → D s ⊎ (s ≡ side_of i left)) → AddsTear (map_of p) ts ss (record { line = i; left = left }) from point old new → AreTearsOf D p ts ss old → AreTearsOf E p ts ss new
-side_added D E p ts ss i l left from point old new is along next adds h = go adds
+    → ((s : Side) → D s → E s) → ((s : Side) → E s → D s ⊎ (s ≡ side_of i left)) → E (side_of i left) → ((s : Side) → D s → IsSideBefore s (side_of i left))
+    → AddsTear (map_of p) ts ss (record { line = i; left = left }) from point old new → AreTearsOf D p ts ss old → AreTearsOf E p ts ss new
+side_added D E p ts ss i l left from point old new is along wider next here before adds h = go adds
   where
     side : Side
     side = record { line = i; left = left }
@@ -169,6 +191,8 @@ side_added D E p ts ss i l left from point old new is along next adds h = go add
         | inl d ↦ h.all t d w
         | inr s ↦ absurd (g.0 t.to (subst (IsTorn (map_of p) ts ss) (as_torn t s (same_from t w.line s w.is w.along)) w.torn))
       ];
+      among = λ t c. wider t.side (h.among t c);
+      ascend = h.ascend;
     })
     go (inl g) = let new_one = torn side from point g.0 in subst (AreTearsOf E p ts ss) (sym g.2) (record {
       each = λ t c. elim (contains_append t old (new_one ∷ []) c) as (λ _. IsTear p ts ss t) [
@@ -183,13 +207,26 @@ side_added D E p ts ss i l left from point old new is along next adds h = go add
             let to = one_turn ts ss point from again.way g.1.way t.to g.0 again.turn.0 g.1.turn.0 in
             contains_right t old (new_one ∷ []) (subst (λ (x : Tear). Contains (new_one ∷ []) x) (sym (same ∙ ap (torn side from point) to)) (contains_here new_one []))
       ];
+      among = λ t c. elim (contains_append t old (new_one ∷ []) c) as (λ _. E t.side) [
+        | inl before_it ↦ wider t.side (h.among t before_it)
+        | inr one ↦ subst (λ (x : Tear). E x.side) (contains_one t new_one one) here
+      ];
+      ascend = one_behind old new_one h.ascend (λ t c. before t.side (h.among t c));
     })
 
 pub line_added : (p : PlanParts) (ts : List Triangle) (ss : List (Option Side)) (i : ℕ) (l : Line) (old new : List Tear) → slice_get p.lines i ≡ Some (Some l) → AddsTears (map_of p) ts ss i l old new → AreTearsOf (λ s. s.line < i) p ts ss old → AreTearsOf (λ s. s.line < i + 1) p ts ss new
 line_added p ts ss i l old new is adds h =
-    let one = side_added (λ s. s.line < i) (λ s. (s.line < i) ⊎ (s ≡ side_of i false)) p ts ss i l false l.b l.a old adds.middle is refl (λ s e. e) adds.right h in
-    side_added (λ s. (s.line < i) ⊎ (s ≡ side_of i false)) (λ s. s.line < i + 1) p ts ss i l true l.a l.b adds.middle new is refl last adds.left one
+    let one = side_added (λ s. s.line < i) (λ s. (s.line < i) ⊎ (s ≡ side_of i false)) p ts ss i l false l.b l.a old adds.middle is refl (λ s lt. inl lt) (λ s e. e) (inr refl) (λ s lt. inl lt) adds.right h in
+    side_added (λ s. (s.line < i) ⊎ (s ≡ side_of i false)) (λ s. s.line < i + 1) p ts ss i l true l.a l.b adds.middle new is refl wider last (let g : i < i + 1 = omega arith in g) before adds.left one
   where
+    wider : (s : Side) → (s.line < i) ⊎ (s ≡ side_of i false) → s.line < i + 1
+    wider s (inl lt) = omega arith
+    wider s (inr e) = let g = ap (λ (x : Side). x.line) e in omega arith
+
+    before : (s : Side) → (s.line < i) ⊎ (s ≡ side_of i false) → IsSideBefore s (side_of i true)
+    before s (inl lt) = inl lt
+    before s (inr e) = inr (ap (λ (x : Side). x.line) e, ap (λ (x : Side). x.left) e, refl)
+
     last : (s : Side) → s.line < i + 1 → ((s.line < i) ⊎ (s ≡ side_of i false)) ⊎ (s ≡ side_of i true)
     last s lt = elim (below_or_last s.line i lt) as (λ _. ((s.line < i) ⊎ (s ≡ side_of i false)) ⊎ (s ≡ side_of i true)) [ inl below ↦ inl (inl below) | inr same ↦ which s.line s.left same ]
       where
@@ -198,13 +235,13 @@ line_added p ts ss i l old new is adds h =
         which k false e = inl (inr (ap (λ (n : ℕ). side_of n false) e))
 
 pub no_line_added : (p : PlanParts) (ts : List Triangle) (ss : List (Option Side)) (i : ℕ) (tears : List Tear) → slice_get p.lines i ≡ Some None → AreTearsOf (λ s. s.line < i) p ts ss tears → AreTearsOf (λ s. s.line < i + 1) p ts ss tears
-no_line_added p ts ss i tears none h = tears_so (λ s. s.line < i) (λ s. s.line < i + 1) p ts ss tears (λ t lt w. elim (below_or_last t.side.line i lt) as (λ _. t.side.line < i) [
+no_line_added p ts ss i tears none h = tears_so (λ s. s.line < i) (λ s. s.line < i + 1) p ts ss tears (λ s lt. let g : s.line < i + 1 = omega arith in g) (λ t lt w. elim (below_or_last t.side.line i lt) as (λ _. t.side.line < i) [
   | inl below ↦ below
   | inr same ↦ absurd (none-some w.line (same_Some None (Some w.line) (sym none ∙ ap (slice_get p.lines) (sym same) ∙ w.is)))
 ]) h
 
 pub all_added : (p : PlanParts) (ts : List Triangle) (ss : List (Option Side)) (n : ℕ) (tears : List Tear) → length p.lines ≤ n → AreTearsOf (λ s. s.line < n) p ts ss tears → AreTearsBy p ts ss tears
-all_added p ts ss n tears past h = tears_so (λ s. s.line < n) (λ s. Unit {0}) p ts ss tears (λ t e w. let lt = within p.lines t.side.line (Some w.line) w.is in let g : t.side.line < n = omega arith in g) h
+all_added p ts ss n tears past h = tears_so (λ s. s.line < n) (λ s. Unit {0}) p ts ss tears (λ s lt. tt) (λ t e w. let lt = within p.lines t.side.line (Some w.line) w.is in let g : t.side.line < n = omega arith in g) h
   where
     within : (ls : List (Option Line)) (k : ℕ) (o : Option Line) → slice_get ls k ≡ Some o → k < length ls
     within ls k o e = slice_get_within ls k o e

@@ -5,9 +5,11 @@ use Rattle.sight_names.specs.declared.names.Triangle.{Triangle}
 use Rattle.sight_names.specs.declared.plan.Line.{Line}
 use Rattle.sight_names.specs.Plan.{PlanParts}
 use Rattle.sight_names.specs.Map.{Map, map_of, Names}
+use Rattle.sight_names.specs.Order.{Ascends}
 use Rattle.sight_names.specs.Points.{Edge, reverse_of}
 use Rattle.sight_names.specs.Mesh.{triangle_at}
 use Rattle.sight_names.specs.Sequence.{apex}
+use Rattle.mesh_shape.specs.Faults.{IsSideBefore}
 use Rattle.mesh_shape.specs.HalfEdges.Numbers.{edge}
 use Rattle.mesh_shape.specs.HalfEdges.Kinds.{edge_at, portal_on}
 use Rattle.map_faults.specs.declared.tears.Tear.{Tear}
@@ -49,12 +51,17 @@ pub record IsTear (p : PlanParts) (ts : List Triangle) (ss : List (Option Side))
   pub along : edge_at line t.side.left ≡ edge t.from t.point
   pub torn : IsTorn (map_of p) ts ss t
 
--- just the torn corners at sides of which D holds
+abbrev pub IsTearBefore : Tear → Tear → Type 0
+IsTearBefore t u = IsSideBefore t.side u.side
+
+-- just the torn corners at sides of which D holds, in the order of these
 pub record AreTearsOf (D : Side → Type 0) (p : PlanParts) (ts : List Triangle) (ss : List (Option Side)) (tears : List Tear) : Type 0 where
   pub each : (t : Tear) → Contains tears t → IsTear p ts ss t
   pub all : (t : Tear) → D t.side → IsTear p ts ss t → Contains tears t
+  pub among : (t : Tear) → Contains tears t → D t.side
+  pub ascend : Ascends IsTearBefore tears
 
--- just all
+-- just all, in order
 abbrev pub AreTearsBy : PlanParts → List Triangle → List (Option Side) → List Tear → Type 0
 AreTearsBy p ts ss tears = AreTearsOf (λ s. Unit {0}) p ts ss tears
 

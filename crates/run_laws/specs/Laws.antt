@@ -174,7 +174,7 @@ pub record ShowsPlan (name : List ℕ) (m : Map) (bytes : List ℕ) : Type 0 whe
 pub record ShowsMarked (name : List ℕ) (m : Map) (which : Flaw) (bytes : List ℕ) : Type 0 where
   pub marks : FaultMarks
   pub are : AreMarksOf m which marks
-  pub is : bytes ≡ svg_of m (marked_picture name m marks.left_out marks.lines marks.faults)
+  pub is : bytes ≡ svg_of m (marked_picture name m marks.left_out marks.lines marks.faults marks.arrows)
 
 abbrev pub ShowsFault : List ℕ → Map → List ℕ → Option Flaw → Type 0
 ShowsFault name m bytes (Some which) = ShowsMarked name m which bytes
