@@ -73,16 +73,16 @@ module _ (p : PlanParts) (ts : List Triangle) (ss : List (Option Side)) where
   m = map_of p
 
   pub with_name : (t : Tear) (a : ℕ) (old new : List Arrow) → named m t.side ≡ Some a → (h : IsTear p ts ss t) → new ≡ old ++ arrows_round t.point t.from h.torn.way t.to → AddsArrows m ts ss t old new
-  with_name t a old new names h made = (arrows_round t.point t.from h.torn.way t.to, (inl ((a, names), (h.torn.way, h.torn.turn.0, refl)), made))
+  with_name t a old new names h made = (arrows_round t.point t.from h.torn.way t.to, inl ((a, names), (h.torn.way, h.torn.turn.0, refl)), made)
 
   pub without_name : (t : Tear) (old : List Arrow) → named m t.side ≡ None → AddsArrows m ts ss t old old
-  without_name t old none = ([], (inr ((λ (d : DoesName m (Some t.side)). none-some d.0 (sym none ∙ d.1)), refl), sym (append-nil old)))
+  without_name t old none = ([], inr ((λ (d : DoesName m (Some t.side)). none-some d.0 (sym none ∙ d.1)), refl), sym (append-nil old))
 
   joined_behind : (tears : List Tear) (t : Tear) (ws first : List Arrow) → AreArrowsOf m ts ss tears ws → AreArrowsAt m ts ss t first → AreArrowsOf m ts ss (tears ++ t ∷ []) (ws ++ first)
-  joined_behind [] t ws first h k = (first, [], (k, (refl, ap (λ (l : List Arrow). l ++ first) h ∙ sym (append-nil first))))
+  joined_behind [] t ws first h k = (first, [], k, refl, ap (λ (l : List Arrow). l ++ first) h ∙ sym (append-nil first))
   joined_behind (u ∷ tears) t ws first h k =
       let r = joined_behind tears t h.1 first h.3 k in
-      (h.0, h.1 ++ first, (h.2, (r, ap (λ (l : List Arrow). l ++ first) h.4 ∙ append_assoc h.0 h.1 first)))
+      (h.0, h.1 ++ first, h.2, r, ap (λ (l : List Arrow). l ++ first) h.4 ∙ append_assoc h.0 h.1 first)
 
   pub one_corner_more : (tears : List Tear) (n : ℕ) (d : Tear) (old new : List Arrow) → n < length tears → AreArrowsOf m ts ss (take n tears) old → AddsArrows m ts ss (get_or tears n d) old new → AreArrowsOf m ts ss (take (n + 1) tears) new
   one_corner_more tears n d old new lt h k =

@@ -6,17 +6,11 @@ use Rattle.math_base.proofs.Lists.{all_of, get_take}
 use Rattle.sight_names.proofs.Lists.{contains_of_get, get_of_contains}
 use Rattle.sight_names.specs.declared.faults.LineFault.{LineFault}
 use Rattle.sight_names.specs.Map.{Map}
-use Rattle.map_audit.specs.Audit.{FineAt, IsFaultOf}
 use Rattle.map_faults.specs.declared.clashes.LinePair.{LinePair}
 use Rattle.map_faults.specs.declared.clashes.TheConstants.{MOST_CLASHES}
 use Rattle.map_faults.specs.Clashes.{AreFirstClashes, IsClash}
-use Rattle.map_faults.proofs.OneOfEach.{not_fine}
 use Rattle.map_picture.specs.declared.faults.FaultAt.{FaultAt}
 use Rattle.fault_marks.specs.Marks.{AreClashesAt, IsClashAt}
-
--- lines that clash aren't fine
-pub clash_not_fine : (m : Map) (p : LinePair) → IsClash m p → FineAt m p.i p.j → ⊥
-clash_not_fine m p h fine = not_fine m p.i p.j h.fault h.is fine
 
 -- ---- one pair after the other
 
@@ -50,3 +44,9 @@ module _ (m : Map) (first : List LinePair) (count : ℕ) (h : AreFirstClashes m 
 
   pub each_clashes : All (IsClash m) first
   each_clashes = All-from_recursion (IsClash m) first (all_of (IsClash m) first (λ p c. h.are.each p (in_all p c)))
+
+pub each_at : (m : Map) (first seen : List LinePair) (count : ℕ) → seen ≡ first → AreFirstClashes m first count → All (IsClash m) seen
+each_at m first seen count e h = subst (λ (ps : List LinePair). All (IsClash m) ps) (sym e) (each_clashes m first count h)
+
+pub few_at : (m : Map) (first seen : List LinePair) (count : ℕ) → seen ≡ first → AreFirstClashes m first count → length seen ≤ count
+few_at m first seen count e h = subst (λ (ps : List LinePair). length ps ≤ count) (sym e) (few m first count h)

@@ -184,16 +184,18 @@ fn faults_of(
     Ok(faults)
 }
 
-/// What is open of a map whose lines meet at ends.
-pub fn marks_of_open_faces(alloc: Global, plan: &Plan) -> Result<FaultMarks, Memory>
-    requires { LinesMeetAtEnds (map_of plan.now) }
+/// What is open, over this mesh of the map.
+fn marks_over(alloc: Global, plan: &Plan, mesh: &Mesh) -> Result<FaultMarks, Memory>
+    requires mesh { IsMeshOf (map_of plan.now) mesh.now.triangles }
+    requires plain { IsPlainMesh (map_of plan.now) mesh.now.triangles }
+    requires fills { FillsSides (map_of plan.now) mesh.now.triangles }
     ensures { IfOk result (AreOfOpenFaces (map_of plan.now)) }
 {
-    let mesh = mesh_for(alloc, plan)?;
-    let sides = open_sides_of(alloc, plan, &mesh)?;
+    let _ = plan.points();
+    let sides = open_sides_of(alloc, plan, mesh)?;
     let lines = lines_of_sides(alloc, sides.as_slice())?;
-    let tears = tears_of(alloc, plan, &mesh)?;
-    let arrows = arrows_of(alloc, plan, &mesh, tears.as_slice())?;
+    let tears = tears_of(alloc, plan, mesh)?;
+    let arrows = arrows_of(alloc, plan, mesh, tears.as_slice())?;
     let points = points_of_tears(alloc, tears.as_slice())?;
     let corners = in_order(points);
     let ends = loose_ends_of(alloc, plan)?;
@@ -204,4 +206,13 @@ pub fn marks_of_open_faces(alloc: Global, plan: &Plan) -> Result<FaultMarks, Mem
         faults: Items::of(faults),
         arrows: Items::of(arrows),
     })
+}
+
+/// What is open of a map whose lines meet at ends.
+pub fn marks_of_open_faces(alloc: Global, plan: &Plan) -> Result<FaultMarks, Memory>
+    requires { LinesMeetAtEnds (map_of plan.now) }
+    ensures { IfOk result (AreOfOpenFaces (map_of plan.now)) }
+{
+    let mesh = mesh_for(alloc, plan)?;
+    marks_over(alloc, plan, &mesh)
 }

@@ -10,4 +10,4 @@ loop-tear-preserved c = λ ss are. one_corner_more c.args.plan.now c.args.mesh.n
 pub returns : goal.returns
 returns c =
     let h = c.requires in
-    (h.0, (h.1, (h.2, all_corners c.args.plan.now c.args.mesh.now.triangles h.0 c.args.tears.now c.loop-tear.tear-index c.loop-tear.arrows.items c.loop-tear-test.false (c.loop-tear.invariant h.0 h.2))))
+    (h.0, h.1, h.2, all_corners c.args.plan.now c.args.mesh.now.triangles h.0 c.args.tears.now c.loop-tear.tear-index c.loop-tear.arrows.items c.loop-tear-test.false (c.loop-tear.invariant h.0 h.2))
