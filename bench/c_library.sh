@@ -17,10 +17,11 @@
 #     memory     memcheck
 #     threads    eight threads at once, with the stack that the header names, and helgrind
 #     refused    one allocation refused in each call
+#     hook       a hook that only counts, one that stops calls, one of another thread, and memcheck of a stopped call
 set -u
 top=$(cd "$(dirname "$0")/.." && pwd)
 [ $# -ge 3 ] || {
-    sed -n '2,19s/^# \{0,1\}//p' "$0"
+    sed -n '2,20s/^# \{0,1\}//p' "$0"
     exit 2
 }
 archive=$(realpath "$1")
@@ -28,7 +29,7 @@ program=$(realpath "$2")
 shift 2
 wads=()
 for wad in "$@"; do wads+=("$(realpath "$wad")"); done
-stages=${STAGES:-header layout install maps exact ears stack memory threads refused}
+stages=${STAGES:-header layout install maps exact ears stack memory threads refused hook}
 maps=${MAPS:-$(echo E{1,2,3,4}M{1,2,3,4,5,6,7,8,9} MAP{01..32})}
 work=$(mktemp -d)
 trap 'rm -rf "$work"' EXIT
@@ -81,8 +82,10 @@ int main(void) { return 0; }' >header.c
     [ -z "$others" ] || fail "the archive asks for$others"
     shown=$(nm --defined-only --extern-only "$archive" 2>/dev/null | awk 'NF == 3 { print $3 }' | grep -v '^doomsight_' | tr '\n' ' ')
     [ -z "$shown" ] || fail "the archive shows $shown"
-    for name in $(grep -o '^[a-z].* \**doomsight_[a-z_]*(' "$top/include/doomsight.h" | grep -v 'static inline' | grep -o 'doomsight_[a-z_]*(' | tr -d '('); do
-        echo "$defined" | grep -qx "$name" || fail "the archive has no $name"
+    defined="$defined
+$(nm --defined-only heap.o | awk '{ print $3 }')"
+    for name in $(grep -o '^[a-z].* \**doomsight_[a-z_]*(' "$top/include/doomsight.h" | grep -v 'static inline\|^typedef' | grep -o 'doomsight_[a-z_]*(' | tr -d '('); do
+        echo "$defined" | grep -qx "$name" || fail "the archive and its heap have no $name"
     done
     echo "archive $(stat -c %s "$archive") bytes, text $(size -t "$archive" | tail -1 | awk '{ print $1 }')"
 }
@@ -309,6 +312,24 @@ try_refused() {
     gcc -std=c99 -O2 -g $strict "$top/bench/c/refused.c" "$archive" -o refused || fail "compile refused"
     for method in 16384 exact; do
         ./refused "${wads[0]}" "$map" "${STEP:-7}" $method || fail "refused allocations, $method"
+    done
+}
+
+# Of how many blocks the hook is asked in each call, and the longest time between two of them, over all maps; then a stop of
+# each call at blocks of it.
+try_hook() {
+    client hook heap.o -pthread
+    for wad in "${wads[@]}"; do
+        for map in $maps; do
+            by_program "$wad" "$map" --exact >/dev/null || continue
+            ./hook "$wad" "$map" exact || fail "hook of $map"
+        done
+    done >asked
+    grep -v '^hook' asked
+    awk '/^hook/ { n++; if ($6 > most) { most = $6; of = $2 } } END { print "hook: " n " maps, at most " most " ms between two blocks (" of ")" }' asked
+    small
+    for method in 16384 exact; do
+        valgrind -q --leak-check=full --error-exitcode=9 ./hook "${wads[0]}" "$map" $method >said || fail "memcheck of stopped calls, $method"
     done
 }
 

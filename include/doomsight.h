@@ -6,13 +6,14 @@
  *
  * docs/C-LIBRARY.md says what is proved of these calls, and what the caller owes.
  *
- * - All outputs are buffers of the caller. There is no global state, and one thing to free: what doomsight_keep leaves behind a
- *   handle is freed by doomsight_free.
+ * - All outputs are buffers of the caller. There is no global state but the hook of a thread, and one thing to free: what
+ *   doomsight_keep leaves behind a handle is freed by doomsight_free.
  * - Calls may run in several threads at once, on buffers and handles that they don't share (inputs may be shared, if nobody writes
  *   them).
- * - No call starts a thread, reads or writes a file, prints, or calls back. Each takes its memory by malloc and, but for what
- *   doomsight_keep keeps, gives all of it back by free before it returns. Don't call from a signal handler, or in the child of a
- *   fork of a process with threads.
+ * - No call starts a thread, reads or writes a file, or prints, or calls anything back but the hook. Each takes its memory by malloc
+ *   and, but for what doomsight_keep keeps, gives all of it back by free before it returns. Don't call from a signal handler, or in
+ *   the child of a fork of a process with threads.
+ * - A call is stopped by a hook: see doomsight_set_hook.
  *   For a build in several threads run the program (doomsight build --workers N), and check what it made by doomsight_check.
  * - A call needs some stack: see DOOMSIGHT_STACK.
  * - Buffers of one call must not overlap one another, but inputs may.
@@ -49,7 +50,7 @@ enum doomsight_code {
     DOOMSIGHT_BAD_LUMP = 8,  /* the lumps are no map */
     DOOMSIGHT_LIMIT = 9,     /* more than 4096 sectors, 16384 lines or 4096 points; see DOOMSIGHT_LARGE */
     DOOMSIGHT_BAD_MAP = 10,  /* lines cross, touch or overlap, or a face is open */
-    DOOMSIGHT_MEMORY = 12    /* malloc refused */
+    DOOMSIGHT_MEMORY = 12    /* malloc refused, or the hook stopped the call */
 };
 
 /* What exactly, and which numbers of a fault tell more. Each kind has one code; kind 0 is that of DOOMSIGHT_OK and of
@@ -390,6 +391,21 @@ static inline int32_t doomsight_audit(const doomsight_map *map, const doomsight_
         map->sidedefs.size, doomsight_some(map->vertexes.bytes), map->vertexes.size, doomsight_some(map->sectors.bytes),
         map->sectors.size, map->format, options ? options->flags : 0, flaws ? flaws : nothing, flaws ? room : 0, counts, fault);
 }
+
+/* ---- A hook, by which a long call shows that it goes on, and is stopped. It is asked before each block of memory that a call takes
+ * or grows, in the thread of the call: thousands of times in a build, most of all between the walks of two groups. `blocks` counts
+ * them, from 1 since the hook was set: it only grows, and doesn't tell how many there will be.
+ *
+ * 0 lets the call go on. Any other answer stops it: the block is refused, as malloc might have refused it, and the call ends as it
+ * does then. Its answer is DOOMSIGHT_MEMORY, it gave back all of its memory, and wrote nothing but *fault: buffers, counts and what a
+ * handle keeps are as they were before the call. That is proved of each block, whoever refuses it. Whether it was the hook the
+ * hook knows.
+ *
+ * The hook is that of the thread that sets it, for all of its calls, doomsight_line too, until it sets another, or NULL for none. It
+ * may read and write whatever isn't handed to the running call, as a flag that another thread sets. It calls no function of the
+ * library, and comes back: no longjmp, no exception. It stands in doomsight_heap.c, and not in the kit's liblibc_c.a. */
+typedef int (*doomsight_hook)(void *data, uint64_t blocks);
+void doomsight_set_hook(doomsight_hook hook, void *data);
 
 /* What doomsight_line answers where malloc refuses. */
 #define DOOMSIGHT_NO_LINE SIZE_MAX
