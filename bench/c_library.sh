@@ -13,6 +13,7 @@
 #     maps       every map by both, within the default budget, within others, and with the larger limits, with 128 KiB of stack
 #     exact      every map by both, with every pair decided, with 128 KiB of stack
 #     ears       every map's faults, with a second count of clashes and loose ends, and what is answered for pairs of sectors
+#     udmf       every map turned to UDMF (bench/udmf.py), with every pair decided, and the refusals of texts
 #     stack      how much of it a call needs, over all maps
 #     memory     memcheck
 #     threads    eight threads at once, with the stack that the header names, and helgrind
@@ -21,7 +22,7 @@
 set -u
 top=$(cd "$(dirname "$0")/.." && pwd)
 [ $# -ge 3 ] || {
-    sed -n '2,20s/^# \{0,1\}//p' "$0"
+    sed -n '2,21s/^# \{0,1\}//p' "$0"
     exit 2
 }
 archive=$(realpath "$1")
@@ -29,7 +30,7 @@ program=$(realpath "$2")
 shift 2
 wads=()
 for wad in "$@"; do wads+=("$(realpath "$wad")"); done
-stages=${STAGES:-header layout install maps exact ears stack memory threads refused hook}
+stages=${STAGES:-header layout install maps exact ears udmf stack memory threads refused hook}
 maps=${MAPS:-$(echo E{1,2,3,4}M{1,2,3,4,5,6,7,8,9} MAP{01..32})}
 work=$(mktemp -d)
 trap 'rm -rf "$work"' EXIT
@@ -255,6 +256,31 @@ try_ears() {
     BUDGET=exact pair "${wads[0]}" "$map" 0 9 --exact
     BUDGET=exact FLAGS=1 pair "${wads[0]}" "$map" 0 9 --exact --large
     echo "ears: $audited maps audited, with $clashes clashes and $open open sides; $asked pairs as the program says"
+}
+
+# Each map turned to UDMF: by the library out of its text as by the program; and with coordinates off the grid.
+try_udmf() {
+    client udmf heap.o
+    built=0 refused=0
+    for wad in "${wads[@]}"; do
+        for times in 1 1/2; do
+            python3 "$top/bench/udmf.py" "$wad" text.wad --times $times || fail "udmf.py of $wad"
+            for map in $maps; do
+                line=$(by_program text.wad "$map" --exact)
+                status=$?
+                [ $status = 7 ] && continue
+                if [ $status = 0 ]; then
+                    with_stack 128 ./udmf text.wad "$map" out.wad out.cert >said || fail "$map of UDMF: $(head -3 said)"
+                    built=$((built + 1))
+                else
+                    with_stack 128 ./udmf text.wad "$map" >said
+                    [ $? = $status ] && [ "$(cat said)" = "$line" ] || fail "$map of UDMF: another refusal than $line"
+                    refused=$((refused + 1))
+                fi
+            done
+        done
+    done
+    echo "texts of UDMF: $built built and $refused refused as by the program"
 }
 
 # The first map of the first WAD that is built, and is small enough for valgrind.

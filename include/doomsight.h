@@ -105,7 +105,16 @@ enum doomsight_kind {
     DOOMSIGHT_UNCOVERED = 53,
     DOOMSIGHT_GROUP = 54,            /* a: the triangle */
     DOOMSIGHT_UNUSED = 55,           /* a: the group */
-    DOOMSIGHT_NO_SECTOR = 56         /* a: the number; the map has no such sector */
+    DOOMSIGHT_NO_SECTOR = 56,        /* a: the number; the map has no such sector */
+    /* BAD_LUMP, of a text of UDMF */
+    DOOMSIGHT_TEXT = 70,             /* at: the byte where the text is no UDMF, here and in the next two */
+    DOOMSIGHT_TEXT_NAMESPACE = 71,
+    DOOMSIGHT_TEXT_VALUE = 72,
+    DOOMSIGHT_TEXT_PORTAL = 73,      /* at: the block of the line, counted from 0 */
+    DOOMSIGHT_TEXT_OFF_GRID = 74,    /* at: the block of the vertex, counted from 0 */
+    /* LIMIT, of a text of UDMF */
+    DOOMSIGHT_TEXT_VERTICES = 75,
+    DOOMSIGHT_TEXT_SIDES = 76
 };
 
 /* After DOOMSIGHT_OK all of its numbers are 0. */
@@ -175,6 +184,11 @@ typedef struct doomsight_flaw_counts {
     uint64_t listed;     /* all of them, but of the clashes at most the first 1000 */
 } doomsight_flaw_counts;
 
+/* How many bytes each of the four lumps has. */
+typedef struct doomsight_lump_sizes {
+    uint64_t linedefs, sidedefs, vertexes, sectors;
+} doomsight_lump_sizes;
+
 #if defined(__cplusplus) && __cplusplus >= 201103L
 #define DOOMSIGHT_HOLDS(fact) static_assert(fact, #fact)
 #elif defined(__STDC_VERSION__) && __STDC_VERSION__ >= 201112L
@@ -183,7 +197,8 @@ typedef struct doomsight_flaw_counts {
 #define DOOMSIGHT_HOLDS(fact) typedef char doomsight_holds[(fact) ? 1 : -1]
 #endif
 DOOMSIGHT_HOLDS(sizeof(doomsight_fault) == 32 && sizeof(doomsight_counts) == 40 && sizeof(doomsight_answer) == 32
-    && sizeof(doomsight_flaw) == 16 && sizeof(doomsight_flaw_counts) == 48 && sizeof(void *) == 8);
+    && sizeof(doomsight_flaw) == 16 && sizeof(doomsight_flaw_counts) == 48 && sizeof(doomsight_lump_sizes) == 32
+    && sizeof(void *) == 8);
 #undef DOOMSIGHT_HOLDS
 
 /* Budgets: 1 to 4294967296, or one of these. The program's default is 16384. */
@@ -261,10 +276,15 @@ int32_t doomsight_audit_buffers(const uint8_t *linedefs, size_t linedefs_size, c
     const uint8_t *vertexes, size_t vertexes_size, const uint8_t *sectors, size_t sectors_size, uint32_t format, uint32_t flags,
     doomsight_flaw *flaws, size_t room, doomsight_flaw_counts *counts, doomsight_fault *fault);
 
+int32_t doomsight_udmf_buffers(const uint8_t *text, size_t text_size, uint8_t *linedefs, size_t linedefs_room, uint8_t *sidedefs,
+    size_t sidedefs_room, uint8_t *vertexes, size_t vertexes_room, uint8_t *sectors, size_t sectors_room, doomsight_lump_sizes *sizes,
+    doomsight_fault *fault);
+
 /* Writes 1, 2, 3 and so on into the fields, in the order in which they stand above. Where they read otherwise, this header isn't
  * that of the library, or the compiler lays out structs in another way. */
 void doomsight_layout(doomsight_fault *fault, doomsight_counts *counts);
 void doomsight_layout_of_answers(doomsight_answer *answer, doomsight_flaw *flaw, doomsight_flaw_counts *counts);
+void doomsight_layout_of_lumps(doomsight_lump_sizes *sizes);
 
 /* ---- What programs call. */
 
@@ -392,6 +412,57 @@ static inline int32_t doomsight_audit(const doomsight_map *map, const doomsight_
         map->sectors.size, map->format, options ? options->flags : 0, flaws ? flaws : nothing, flaws ? room : 0, counts, fault);
 }
 
+/* ---- A text of UDMF, the bytes of a TEXTMAP, becomes the four lumps of the same map in Doom's format, which every call takes:
+ *
+ *     doomsight_lump_sizes sizes;
+ *     doomsight_map map;
+ *     if (!doomsight_udmf_sizes(text, size, &sizes, &fault)) {
+ *         block = malloc(doomsight_udmf_room(&sizes));
+ *         if (block && !doomsight_udmf_map(text, size, &sizes, block, &map, &fault)) .. doomsight_build(&map, ..) ..
+ *     }
+ *
+ * Records stand in the order of their blocks. The map points into the block, which the caller frees behind it. The answers are
+ * DOOMSIGHT_OK, or the code of the fault; then nothing but *fault was written. */
+static inline int32_t doomsight_udmf_sizes(const void *text, size_t size, doomsight_lump_sizes *sizes, doomsight_fault *fault)
+{
+    uint8_t nothing[4];
+    if (doomsight_is_other(fault)) return DOOMSIGHT_USAGE;
+    return doomsight_udmf_buffers(doomsight_some(text), text ? size : 0, nothing, 0, nothing + 1, 0, nothing + 2, 0, nothing + 3, 0,
+        sizes, fault);
+}
+
+/* How many bytes the block for lumps of these sizes has; at least 1. */
+static inline size_t doomsight_udmf_room(const doomsight_lump_sizes *sizes)
+{
+    return (size_t)(sizes->linedefs + sizes->sidedefs + sizes->vertexes + sizes->sectors) + 1;
+}
+
+/* Writes the lumps of the text, whose sizes these are, into a block of so many bytes, and their places into the map. */
+static inline int32_t doomsight_udmf_map(const void *text, size_t size, const doomsight_lump_sizes *sizes, void *block,
+    doomsight_map *map, doomsight_fault *fault)
+{
+    uint8_t *linedefs = (uint8_t *)block;
+    uint8_t *sidedefs = linedefs + (size_t)sizes->linedefs;
+    uint8_t *vertexes = sidedefs + (size_t)sizes->sidedefs;
+    uint8_t *sectors = vertexes + (size_t)sizes->vertexes;
+    doomsight_lump_sizes found;
+    int32_t code;
+    if (doomsight_is_other(fault)) return DOOMSIGHT_USAGE;
+    code = doomsight_udmf_buffers(doomsight_some(text), text ? size : 0, linedefs, (size_t)sizes->linedefs, sidedefs,
+        (size_t)sizes->sidedefs, vertexes, (size_t)sizes->vertexes, sectors, (size_t)sizes->sectors, &found, fault);
+    if (code != DOOMSIGHT_OK) return code;
+    map->linedefs.bytes = linedefs;
+    map->linedefs.size = (size_t)sizes->linedefs;
+    map->sidedefs.bytes = sidedefs;
+    map->sidedefs.size = (size_t)sizes->sidedefs;
+    map->vertexes.bytes = vertexes;
+    map->vertexes.size = (size_t)sizes->vertexes;
+    map->sectors.bytes = sectors;
+    map->sectors.size = (size_t)sizes->sectors;
+    map->format = DOOMSIGHT_DOOM;
+    return code;
+}
+
 /* ---- A hook, by which a long call shows that it goes on, and is stopped. It is asked before each block of memory that a call takes
  * or grows, in the thread of the call: thousands of times in a build, most of all between the walks of two groups. `blocks` counts
  * them, from 1 since the hook was set: it only grows, and doesn't tell how many there will be.
@@ -486,6 +557,13 @@ static inline const char *doomsight_kind_text(uint32_t kind)
     case DOOMSIGHT_GROUP: return "a triangle has another group";
     case DOOMSIGHT_UNUSED: return "a group has no triangle";
     case DOOMSIGHT_NO_SECTOR: return "the map has no such sector";
+    case DOOMSIGHT_TEXT: return "the text is no UDMF";
+    case DOOMSIGHT_TEXT_NAMESPACE: return "the text has no namespace that is read";
+    case DOOMSIGHT_TEXT_VALUE: return "a value in the text isn't of the kind that its key takes";
+    case DOOMSIGHT_TEXT_PORTAL: return "a line of the text may show a far place";
+    case DOOMSIGHT_TEXT_OFF_GRID: return "a vertex of a line isn't on whole coordinates";
+    case DOOMSIGHT_TEXT_VERTICES: return "too many vertices in the text";
+    case DOOMSIGHT_TEXT_SIDES: return "too many sides in the text";
     }
     return "no kind of this header";
 }

@@ -18,6 +18,7 @@ int main(void)
     doomsight_kept kept = DOOMSIGHT_NOTHING_KEPT;
     doomsight_counts counts, same;
     doomsight_flaw_counts flaws;
+    doomsight_lump_sizes sizes;
     doomsight_answer answer;
     doomsight_fault f;
     if (doomsight_abi() == DOOMSIGHT_ABI) return 2;
@@ -28,6 +29,7 @@ int main(void)
     expect(doomsight_check(&map, NULL, NULL, 0, NULL, 0, &counts, &f), &f);
     expect(doomsight_audit(&map, NULL, NULL, 0, &flaws, &f), &f);
     expect(doomsight_why(&map, NULL, 0, 0, &answer, &f), &f);
+    expect(doomsight_udmf_sizes(NULL, 0, &sizes, &f), &f);
     if (memcmp(&counts, &same, sizeof same) || kept.at != NULL) wrong = 1;
     return wrong;
 }

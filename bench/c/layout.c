@@ -29,7 +29,9 @@ HOLDS(IS(doomsight_fault, code, 0, 2) && IS(doomsight_fault, kind, 2, 2) && IS(d
     && IS(doomsight_flaw, to_x, 12, 2) && IS(doomsight_flaw, to_y, 14, 2) && sizeof(doomsight_flaw) == 16
     && IS(doomsight_flaw_counts, clashes, 0, 8) && IS(doomsight_flaw_counts, loose_ends, 8, 8)
     && IS(doomsight_flaw_counts, open_sides, 16, 8) && IS(doomsight_flaw_counts, tears, 24, 8)
-    && IS(doomsight_flaw_counts, gaps, 32, 8) && IS(doomsight_flaw_counts, listed, 40, 8) && sizeof(doomsight_flaw_counts) == 48);
+    && IS(doomsight_flaw_counts, gaps, 32, 8) && IS(doomsight_flaw_counts, listed, 40, 8) && sizeof(doomsight_flaw_counts) == 48
+    && IS(doomsight_lump_sizes, linedefs, 0, 8) && IS(doomsight_lump_sizes, sidedefs, 8, 8) && IS(doomsight_lump_sizes, vertexes, 16, 8)
+    && IS(doomsight_lump_sizes, sectors, 24, 8) && sizeof(doomsight_lump_sizes) == 32);
 
 struct guarded {
     doomsight_fault fault;
@@ -44,6 +46,8 @@ struct guarded {
     unsigned char behind_flaw[64];
     doomsight_flaw_counts flaws;
     unsigned char behind_flaws[64];
+    doomsight_lump_sizes lumps;
+    unsigned char behind_lumps[64];
 };
 
 /* Whether the fields of the answers read as the library wrote them. */
@@ -53,7 +57,7 @@ static int are_answers(const struct guarded *g)
         && g->answer.last_left == 5 && g->answer.a == 6 && g->answer.b == 7 && g->answer.c == 8 && g->flaw.kind == 1 && g->flaw.i == 2
         && g->flaw.j == 3 && g->flaw.left == 4 && g->flaw.x == 5 && g->flaw.y == 6 && g->flaw.to_x == 7 && g->flaw.to_y == 8
         && g->flaws.clashes == 1 && g->flaws.loose_ends == 2 && g->flaws.open_sides == 3 && g->flaws.tears == 4 && g->flaws.gaps == 5
-        && g->flaws.listed == 6;
+        && g->flaws.listed == 6 && g->lumps.linedefs == 1 && g->lumps.sidedefs == 2 && g->lumps.vertexes == 3 && g->lumps.sectors == 4;
 }
 
 int main(void)
@@ -63,6 +67,7 @@ int main(void)
     memset(&g, 0xEE, sizeof g);
     doomsight_layout(&g.fault, &g.counts);
     doomsight_layout_of_answers(&g.answer, &g.flaw, &g.flaws);
+    doomsight_layout_of_lumps(&g.lumps);
     memset(&g.kept, 0, sizeof g.kept);
     if (doomsight_kept_table_size(&g.kept) != 0 || doomsight_kept_cert_size(&g.kept) != 0 || g.kept.at != NULL) return 1;
     if (doomsight_kept_table(&g.kept, 0, &i, sizeof i) != 0 || doomsight_kept_cert(&g.kept, 0, &i, sizeof i) != 0) return 1;
@@ -70,7 +75,7 @@ int main(void)
     if (g.kept.at != NULL) return 1;
     for (i = 0; i < 64; i++)
         if (g.behind_fault[i] != 0xEE || g.behind_counts[i] != 0xEE || g.behind_kept[i] != 0xEE || g.behind_answer[i] != 0xEE
-            || g.behind_flaw[i] != 0xEE || g.behind_flaws[i] != 0xEE)
+            || g.behind_flaw[i] != 0xEE || g.behind_flaws[i] != 0xEE || g.behind_lumps[i] != 0xEE)
             return 1;
     if (!are_answers(&g)) return 1;
     if (g.fault.code != 1 || g.fault.kind != 2 || g.fault.a != 3 || g.fault.b != 4 || g.fault.line != 5) return 1;

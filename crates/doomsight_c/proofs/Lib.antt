@@ -4,3 +4,4 @@ pub mod Handles
 pub mod KeptBuilds
 pub mod Saying
 pub mod Auditing
+pub mod Texts

@@ -16,6 +16,8 @@ use Rattle.sight_names.specs.declared.faults.RayFault.{RayFault}
 use Rattle.sight_names.specs.declared.faults.RayFault.TheVariants as ray
 use Rattle.sight_names.specs.declared.faults.CheckFault.{CheckFault}
 use Rattle.sight_names.specs.declared.faults.CheckFault.TheVariants as check
+use Rattle.udmf_map.specs.declared.faults.TextFault.{TextFault}
+use Rattle.udmf_map.specs.declared.faults.TextFault.TheVariants as text
 use Rattle.map_answers.specs.declared.sight_status.status.Bound.{Bound}
 use Rattle.map_answers.specs.declared.sight_status.status.Bound.TheVariants as bound
 use Rattle.map_answers.specs.declared.sight_status.status.Flaw.{Flaw}
@@ -64,10 +66,20 @@ lumps_view (lumps.BadSide k) = two 8 3 k 0
 lumps_view (lumps.BadSector k) = two 8 4 k 0
 lumps_view other = two 8 0 0 0
 
+abbrev pub text_view : TextFault → DoomsightFault
+text_view (text.Text at) = wide 8 70 at 0
+text_view (text.Namespace at) = wide 8 71 at 0
+text_view (text.Value at) = wide 8 72 at 0
+text_view (text.Portal line) = wide 8 73 line 0
+text_view (text.OffGrid vertex) = wide 8 74 vertex 0
+text_view other = two 8 0 0 0
+
 abbrev pub bound_view : Bound → DoomsightFault
 bound_view bound.Sectors = two 9 5 0 0
 bound_view bound.Lines = two 9 6 0 0
 bound_view bound.Points = two 9 7 0 0
+bound_view bound.Vertices = two 9 75 0 0
+bound_view bound.Sides = two 9 76 0 0
 bound_view other = two 9 0 0 0
 
 abbrev pub flaw_view : Flaw → DoomsightFault
@@ -127,6 +139,7 @@ no_view other = two 1 0 0 0
 abbrev pub fault_view : Status → DoomsightFault
 fault_view (status.No w) = no_view w
 fault_view (status.BadLump f) = lumps_view f
+fault_view (status.BadText f) = text_view f
 fault_view (status.Limit b) = bound_view b
 fault_view (status.BadMap f) = flaw_view f
 fault_view other = two (number_of other) 0 0 0

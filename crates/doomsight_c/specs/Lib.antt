@@ -10,3 +10,4 @@ pub mod Keeping
 pub mod Said
 pub mod Flaws
 pub mod Audited
+pub mod Texts

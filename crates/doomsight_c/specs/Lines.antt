@@ -11,6 +11,7 @@ use Rattle.sight_names.specs.declared.faults.MeshFault.TheVariants as mesh
 use Rattle.sight_names.specs.declared.faults.RayFault.{RayFault}
 use Rattle.sight_names.specs.declared.faults.RayFault.TheVariants as ray
 use Rattle.sight_names.specs.declared.faults.CheckFault.TheVariants as check
+use Rattle.udmf_map.specs.declared.faults.TextFault.TheVariants as text
 use Rattle.map_answers.specs.declared.sight_status.status.Bound.TheVariants as bound
 use Rattle.map_answers.specs.declared.sight_status.status.Flaw.TheVariants as flaw
 use Rattle.map_answers.specs.declared.sight_status.status.Why.{Why}
@@ -25,19 +26,30 @@ side_in f = record { line = f.line; left = f.left == 1 }
 abbrev pub lump_in : ℕ → Lump
 lump_in n = if n == 0 then lump.Linedefs else if n == 1 then lump.Sidedefs else if n == 2 then lump.Vertexes else lump.Sectors
 
+abbrev pub text_in : DoomsightFault → Status
+text_in f =
+    if f.kind == 70 then status.BadText (text.Text f.at)
+    else if f.kind == 71 then status.BadText (text.Namespace f.at)
+    else if f.kind == 72 then status.BadText (text.Value f.at)
+    else if f.kind == 73 then status.BadText (text.Portal f.at)
+    else if f.kind == 74 then status.BadText (text.OffGrid f.at)
+    else status.Usage
+
 abbrev pub lumps_in : DoomsightFault → Status
 lumps_in f =
     if f.kind == 1 then status.BadLump (lumps.BadSize (lump_in f.a))
     else if f.kind == 2 then status.BadLump (lumps.BadVertex f.a)
     else if f.kind == 3 then status.BadLump (lumps.BadSide f.a)
     else if f.kind == 4 then status.BadLump (lumps.BadSector f.a)
-    else status.Usage
+    else text_in f
 
 abbrev pub bound_in : DoomsightFault → Status
 bound_in f =
     if f.kind == 5 then status.Limit bound.Sectors
     else if f.kind == 6 then status.Limit bound.Lines
     else if f.kind == 7 then status.Limit bound.Points
+    else if f.kind == 75 then status.Limit bound.Vertices
+    else if f.kind == 76 then status.Limit bound.Sides
     else status.Usage
 
 abbrev pub flaw_in : DoomsightFault → Status
@@ -127,7 +139,14 @@ IsOfLibrary (status.BadLump (lumps.BadSide k)) = ⊤
 IsOfLibrary (status.BadLump (lumps.BadSector k)) = ⊤
 IsOfLibrary (status.Limit bound.Sectors) = ⊤
 IsOfLibrary (status.Limit bound.Lines) = ⊤
+IsOfLibrary (status.BadText (text.Text at)) = ⊤
+IsOfLibrary (status.BadText (text.Namespace at)) = ⊤
+IsOfLibrary (status.BadText (text.Value at)) = ⊤
+IsOfLibrary (status.BadText (text.Portal line)) = ⊤
+IsOfLibrary (status.BadText (text.OffGrid vertex)) = ⊤
 IsOfLibrary (status.Limit bound.Points) = ⊤
+IsOfLibrary (status.Limit bound.Vertices) = ⊤
+IsOfLibrary (status.Limit bound.Sides) = ⊤
 IsOfLibrary (status.BadMap f) = ⊤
 IsOfLibrary (status.Memory _) = ⊤
 IsOfLibrary status.Usage = ⊤

@@ -1,12 +1,13 @@
 //! A refusal as the numbers that C reads.
 
 ghost use Rattle.std.specs.Prelude.{◌≡◌};
-ghost use Rattle.doomsight_c.specs.Faults.{bit_of, bound_view, cert_view, check_view, fault_view, flaw_view, lump_number, lumps_view, mesh_view, no_view, of_ray as of_ray_lem, of_side as of_side_lem, ray_view, table_view, two as two_lem, wide as wide_lem};
+ghost use Rattle.doomsight_c.specs.Faults.{bit_of, bound_view, cert_view, check_view, fault_view, flaw_view, lump_number, lumps_view, mesh_view, no_view, of_ray as of_ray_lem, of_side as of_side_lem, ray_view, table_view, text_view, two as two_lem, wide as wide_lem};
 
 use map_answers::sight_status::{Bound, Flaw, Status, Why, code};
 use sight_names::{
     CertFault, CheckFault, LineFault, Lump, LumpFault, MeshFault, RayFault, Side, TableFault,
 };
+use udmf_map::TextFault;
 
 /// Why a call refused. `code` is the exit status of the program; what the other numbers tell stands in the header. To C the
 /// fields are at the bytes 0, 2, 4, 6, 8, 10, 16 and 24 of 32.
@@ -115,6 +116,19 @@ fn of_lumps(fault: LumpFault) -> DoomsightFault
     }
 }
 
+fn of_text(fault: TextFault) -> DoomsightFault
+    ensures { result ≡ text_view fault }
+{
+    match fault {
+        TextFault::Text { at } => wide(8, 70, at as u64, 0),
+        TextFault::Namespace { at } => wide(8, 71, at as u64, 0),
+        TextFault::Value { at } => wide(8, 72, at as u64, 0),
+        TextFault::Portal { line } => wide(8, 73, line as u64, 0),
+        TextFault::OffGrid { vertex } => wide(8, 74, vertex as u64, 0),
+        _ => two(8, 0, 0, 0),
+    }
+}
+
 fn of_bound(bound: Bound) -> DoomsightFault
     ensures { result ≡ bound_view bound }
 {
@@ -122,6 +136,8 @@ fn of_bound(bound: Bound) -> DoomsightFault
         Bound::Sectors => two(9, 5, 0, 0),
         Bound::Lines => two(9, 6, 0, 0),
         Bound::Points => two(9, 7, 0, 0),
+        Bound::Vertices => two(9, 75, 0, 0),
+        Bound::Sides => two(9, 76, 0, 0),
         _ => two(9, 0, 0, 0),
     }
 }
@@ -230,6 +246,7 @@ pub fn fault_of(status: &Status) -> DoomsightFault
     match *status {
         Status::No(why) => of_no(why),
         Status::BadLump(fault) => of_lumps(fault),
+        Status::BadText(fault) => of_text(fault),
         Status::Limit(bound) => of_bound(bound),
         Status::BadMap(flaw) => of_flaw(flaw),
         _ => two(u16::from(code(status)), 0, 0, 0),

@@ -21,6 +21,7 @@ mod loose;
 mod piece;
 mod spell;
 mod tell;
+mod udmf;
 mod why;
 
 pub use answer::DoomsightAnswer;
@@ -30,3 +31,4 @@ pub use flaw::{DoomsightFlaw, DoomsightFlawCounts};
 pub use handle::DoomsightKept;
 pub use keep::kept_is_given;
 pub use line::faults_tell_statuses;
+pub use udmf::DoomsightLumpSizes;

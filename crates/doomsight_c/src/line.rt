@@ -4,13 +4,14 @@ ghost use Rattle.std.specs.Prelude.{◌≡◌, ◌≢◌, MatchOption};
 ghost use Rattle.map_answers.specs.declared.sight_status.status.Status.{Status as StatusOf};
 ghost use Rattle.map_answers.specs.declared.sight_status.status.Status.TheVariants as status;
 ghost use Rattle.doomsight_c.specs.Faults.{fault_view};
-ghost use Rattle.doomsight_c.specs.Lines.{IsOfLibrary, bound_in, cert_in, flaw_in, lump_in, lumps_in, mesh_in, no_in, pair_in, ray_in, ray_of as ray_meant, side_in, status_in};
+ghost use Rattle.doomsight_c.specs.Lines.{IsOfLibrary, bound_in, cert_in, flaw_in, lump_in, lumps_in, mesh_in, no_in, pair_in, ray_in, ray_of as ray_meant, side_in, status_in, text_in};
 
 use crate::fault::DoomsightFault;
 use map_answers::sight_status::{Bound, Flaw, Status, Why};
 use sight_names::{
     CertFault, CheckFault, LineFault, Lump, LumpFault, MeshFault, RayFault, Side, TableFault,
 };
+use udmf_map::TextFault;
 
 fn side_of(fault: &DoomsightFault) -> Side
     ensures { result ≡ side_in fault.now }
@@ -36,6 +37,28 @@ fn lump_of(number: u16) -> Lump
     Lump::Sectors
 }
 
+fn of_text(fault: &DoomsightFault) -> Status
+    ensures { result ≡ text_in fault.now }
+{
+    let at = fault.at as usize;
+    if fault.kind == 70 {
+        return Status::BadText(TextFault::Text { at });
+    }
+    if fault.kind == 71 {
+        return Status::BadText(TextFault::Namespace { at });
+    }
+    if fault.kind == 72 {
+        return Status::BadText(TextFault::Value { at });
+    }
+    if fault.kind == 73 {
+        return Status::BadText(TextFault::Portal { line: at });
+    }
+    if fault.kind == 74 {
+        return Status::BadText(TextFault::OffGrid { vertex: at });
+    }
+    Status::Usage
+}
+
 fn of_lumps(fault: &DoomsightFault) -> Status
     ensures { result ≡ lumps_in fault.now }
 {
@@ -53,7 +76,7 @@ fn of_lumps(fault: &DoomsightFault) -> Status
     if fault.kind == 4 {
         return Status::BadLump(LumpFault::BadSector { side: fault.a });
     }
-    Status::Usage
+    of_text(fault)
 }
 
 fn of_bound(fault: &DoomsightFault) -> Status
@@ -67,6 +90,12 @@ fn of_bound(fault: &DoomsightFault) -> Status
     }
     if fault.kind == 7 {
         return Status::Limit(Bound::Points);
+    }
+    if fault.kind == 75 {
+        return Status::Limit(Bound::Vertices);
+    }
+    if fault.kind == 76 {
+        return Status::Limit(Bound::Sides);
     }
     Status::Usage
 }
