@@ -8,7 +8,8 @@ use Rattle.map_faults.specs.Clashes.{AreFirstClashes}
 use Rattle.map_faults.specs.Corners.{AreCornersOf}
 use Rattle.map_faults.specs.declared.clashes.LinePair.{LinePair}
 use Rattle.fault_report.specs.declared.clashes.Clash.{Clash}
-use Rattle.fault_report.specs.Lines.{clash_line, rest_text}
+use Rattle.row_spelling.specs.declared.Spelling.{Spelling}
+use Rattle.fault_report.specs.Rows.{clash_row, rest_row}
 
 -- this is what the lines of the pair share, and where they meet
 pub record IsToldClash (m : Map) (c : Clash) : Type 0 where
@@ -21,9 +22,9 @@ pub record AreToldClashes (m : Map) (ps : List LinePair) (cs : List Clash) : Typ
   pub each : AllByRecursion (IsToldClash m) cs
 
 -- the text has the first of all clashing pairs, of which there are so many, and the number of the others
-pub record AreClashesTold (p : PlanParts) (count : ℕ) (text : List ℕ) : Type 0 where
+pub record AreClashesTold (spelled : Spelling) (p : PlanParts) (count : ℕ) (text : List ℕ) : Type 0 where
   pub first : List LinePair
   pub are : AreFirstClashes (map_of p) first count
   pub clashes : List Clash
   pub told : AreToldClashes (map_of p) first clashes
-  pub is : text ≡ flat_map (clash_line p) clashes ++ rest_text (count - length clashes) (codes "clashes")
+  pub is : text ≡ flat_map (clash_row spelled p) clashes ++ rest_row spelled (count - length clashes) (codes "clashes")

@@ -1,7 +1,6 @@
--- The lines of the report, one for each fault.
-use Rattle.std.specs.Prelude.{ℕ, ◌-◌, nat_eq, List, ◌++◌, Option, Some, None, codes, length, take, option_and_then, slice_get, slice_index_or, if◌then◌else◌}
+-- The lines of the report, one for each fault, in words.
+use Rattle.std.specs.Prelude.{ℕ, nat_eq, List, ◌++◌, Option, Some, None, codes, option_and_then, slice_get, slice_index_or, if◌then◌else◌}
 use Rattle.std.specs.Fmt.{decimal, signed_decimal}
-use Rattle.std.specs.List.{flat_map}
 use Rattle.sight_names.specs.declared.names.Pt.{Pt}
 use Rattle.sight_names.specs.declared.names.Side.{Side}
 use Rattle.sight_names.specs.declared.plan.Line.{Line}
@@ -15,7 +14,6 @@ use Rattle.map_faults.specs.declared.gaps.Gap.{Gap}
 use Rattle.map_faults.specs.declared.loose_ends.LooseEnd.{LooseEnd}
 use Rattle.map_faults.specs.declared.tears.Tear.{Tear}
 use Rattle.fault_report.specs.declared.clashes.Clash.{Clash}
-use Rattle.fault_report.specs.declared.kinds.TheConstants.{MOST_LINES}
 use Rattle.fault_report.specs.declared.slips.Nameless.{Nameless}
 use Rattle.fault_report.specs.declared.slips.Sideless.{Sideless}
 
@@ -79,12 +77,6 @@ sideless_line p s = codes "slip: line " ++ decimal s.line ++ codes " has no side
 abbrev pub nameless_line : PlanParts → Nameless → List ℕ
 nameless_line p s = codes "slip: sector " ++ decimal s.sector ++ codes " has no side\n"
 
--- ---- the lines of one kind
-
 -- how many more there are, where there are more
 abbrev pub rest_text : ℕ → List ℕ → List ℕ
 rest_text n more = if nat_eq n 0 then codes "" else codes "and " ++ decimal n ++ codes " more " ++ more ++ codes "\n"
-
--- the lines of the first ones, and how many more there are
-abbrev pub kind_text : {X : Type 0} → (X → List ℕ) → List ℕ → List X → List ℕ
-kind_text line more xs = flat_map line (take MOST_LINES xs) ++ rest_text (length xs - MOST_LINES) more

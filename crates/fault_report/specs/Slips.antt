@@ -7,7 +7,8 @@ use Rattle.sight_names.specs.Order.{Ascends}
 use Rattle.sight_names.specs.Plan.{PlanParts}
 use Rattle.fault_report.specs.declared.slips.Nameless.{Nameless}
 use Rattle.fault_report.specs.declared.slips.Sideless.{Sideless}
-use Rattle.fault_report.specs.Lines.{kind_text, nameless_line, sideless_line}
+use Rattle.row_spelling.specs.declared.Spelling.{Spelling}
+use Rattle.fault_report.specs.Rows.{kind_text, nameless_row, sideless_row}
 
 -- just the numbers below n of which Q holds, ascending
 pub record AreJust (Q : ℕ → Type 0) (n : ℕ) (ks : List ℕ) : Type 0 where
@@ -26,15 +27,15 @@ pub record IsSideless (p : PlanParts) (i : ℕ) : Type 0 where
 abbrev pub IsNameless : Map → ℕ → Type 0
 IsNameless m a = (s : Side) → ¬ Names m s a
 
-pub record AreSidelessTold (p : PlanParts) (text : List ℕ) : Type 0 where
+pub record AreSidelessTold (spelled : Spelling) (p : PlanParts) (text : List ℕ) : Type 0 where
   pub lines : List Sideless
   pub are : AreJust (IsSideless p) (length p.lines) (map (λ (s : Sideless). s.line) lines)
-  pub is : text ≡ kind_text (sideless_line p) (codes "lines without a side") lines
+  pub is : text ≡ kind_text spelled (sideless_row spelled p) (codes "lines without a side") lines
 
-pub record AreNamelessTold (p : PlanParts) (text : List ℕ) : Type 0 where
+pub record AreNamelessTold (spelled : Spelling) (p : PlanParts) (text : List ℕ) : Type 0 where
   pub sectors : List Nameless
   pub are : AreJust (IsNameless (map_of p)) p.sectors (map (λ (s : Nameless). s.sector) sectors)
-  pub is : text ≡ kind_text (nameless_line p) (codes "sectors without a side") sectors
+  pub is : text ≡ kind_text spelled (nameless_row spelled p) (codes "sectors without a side") sectors
 
 -- ---- one after the other
 

@@ -1,16 +1,13 @@
-//! The lines of pairs of lines that clash.
+//! What is told of pairs of lines that clash.
 
-ghost use Rattle.std.specs.Prelude.{◌≡◌, ◌++◌, All, IfOk, OnOk, string_bytes};
+ghost use Rattle.std.specs.Prelude.{◌≡◌, All, IfOk};
 ghost use Rattle.sight_names.specs.Map.{map_of};
 ghost use Rattle.map_faults.specs.Clashes.{IsClash};
 ghost use Rattle.fault_report.specs.Clashes.{AreToldClashes, IsToldClash};
-ghost use Rattle.fault_report.specs.Lines.{clash_words, place_text, two};
 
-use crate::kinds::Fault;
-use crate::words::{push_ends, push_index, push_point};
 use map_faults::{LinePair, fault_of, meeting_of};
 use sight_names::{LineFault, Memory, Plan, Pt};
-use std::alloc::{AllocError, Global};
+use std::alloc::Global;
 
 /// A pair of lines that share more than an end of both: what they share, and where they meet, rounded down to whole units;
 /// nowhere where they are parallel.
@@ -44,50 +41,4 @@ pub fn told_clashes(alloc: Global, plan: &Plan, pairs: &[LinePair]) -> Result<Ve
         told.push(told_of(plan, *pair))?;
     }
     Ok(told)
-}
-
-/// Adds what two lines share.
-fn push_fault(alloc: Global, text: &mut String, fault: LineFault) -> Result<(), AllocError>
-    ensures { OnOk result (string_bytes text.new ≡ string_bytes text.old ++ clash_words fault) }
-{
-    match fault {
-        LineFault::Cross { i, j } => push_two(alloc, text, "cross ", i, j),
-        LineFault::Touch { i, j } => push_two(alloc, text, "touch ", i, j),
-        LineFault::Overlap { i, j } => push_two(alloc, text, "overlap ", i, j),
-    }
-}
-
-/// Adds a text and two numbers with a blank between them.
-fn push_two(alloc: Global, text: &mut String, word: &str, i: u16, j: u16) -> Result<(), AllocError>
-    ensures { OnOk result (string_bytes text.new ≡ string_bytes text.old ++ (word.now ++ two i j)) }
-{
-    push_index(alloc, text, word, i)?;
-    push_index(alloc, text, " ", j)
-}
-
-/// Adds where a pair meets: the point, or where the first line goes.
-fn push_place(
-    alloc: Global,
-    plan: &Plan,
-    text: &mut String,
-    clash: &Clash,
-) -> Result<(), AllocError>
-    ensures { OnOk result (string_bytes text.new ≡ string_bytes text.old ++ place_text plan.now clash.now.pair clash.now.at) }
-{
-    match clash.at {
-        Some(at) => push_point(alloc, text, " at ", at),
-        None => push_ends(alloc, plan, text, clash.pair.i),
-    }
-}
-
-impl Fault for Clash {
-    ghost use Rattle.fault_report.specs.Lines.{clash_line};
-
-    ghost line = { clash_line };
-
-    fn push_line(&self, alloc: Global, plan: &Plan, text: &mut String) -> Result<(), AllocError> {
-        push_fault(alloc, text, self.fault)?;
-        push_place(alloc, plan, text, self)?;
-        text.push_str("\n")
-    }
 }

@@ -2,10 +2,15 @@
 
 ghost use Rattle.std.specs.Prelude.{◌≡◌, ◌++◌, OnOk, string_bytes, take};
 ghost use Rattle.std.specs.List.{flat_map};
-ghost use Rattle.fault_report.specs.Lines.{kind_text, sector_text};
+ghost use Rattle.fault_report.specs.Rows.{kind_text, rest_row};
 
-use crate::words::{push_ends, push_index, push_rest, push_side, push_spot, push_text, push_way};
+use crate::clashes::Clash;
+use crate::lines;
+use crate::objects;
+use crate::slips::{Nameless, Sideless};
+use crate::words;
 use map_faults::{Gap, LooseEnd, Tear};
+use row_spelling::Spelling;
 use sight_names::{Plan, Side};
 use std::alloc::{AllocError, Global};
 
@@ -15,27 +20,35 @@ pub const MOST_LINES: usize = 1_000;
 /// A fault of a map, which the report has a line of.
 pub trait Fault {
     ghost use Rattle.std.specs.Prelude.{ℕ, List};
+    ghost use Rattle.row_spelling.specs.declared.Spelling.{Spelling as TheSpelling};
     ghost use Rattle.sight_names.specs.Plan.{PlanParts};
 
     /// The line.
-    ghost line: { PlanParts → Self → List ℕ };
+    ghost line: { TheSpelling → PlanParts → Self → List ℕ };
 
     /// Adds the line.
-    fn push_line(&self, alloc: Global, plan: &Plan, text: &mut String) -> Result<(), AllocError>
-        ensures { OnOk result (string_bytes text.new ≡ string_bytes text.old ++ line plan.now self.now) };
+    fn push_line(
+        &self,
+        alloc: Global,
+        plan: &Plan,
+        spelling: Spelling,
+        text: &mut String,
+    ) -> Result<(), AllocError>
+        ensures { OnOk result (string_bytes text.new ≡ string_bytes text.old ++ line spelling plan.now self.now) };
 }
 
 /// Adds the lines of these faults.
 pub fn push_each<F: Fault>(
     alloc: Global,
     plan: &Plan,
+    spelling: Spelling,
     text: &mut String,
     faults: &[F],
 ) -> Result<(), AllocError>
-    ensures { OnOk result (string_bytes text.new ≡ string_bytes text.old ++ flat_map (F.line plan.now) faults.now) }
+    ensures { OnOk result (string_bytes text.new ≡ string_bytes text.old ++ flat_map (F.line spelling plan.now) faults.now) }
 {
     for fault in faults {
-        fault.push_line(alloc, plan, text)?;
+        fault.push_line(alloc, plan, spelling, text)?;
     }
     Ok(())
 }
@@ -50,81 +63,173 @@ fn first_of<F: Fault>(faults: &[F]) -> &[F]
     faults.split_at(MOST_LINES).0
 }
 
+/// Adds how many more there are, where there are more.
+pub fn push_rest(
+    alloc: Global,
+    spelling: Spelling,
+    text: &mut String,
+    n: u64,
+    more: &str,
+) -> Result<(), AllocError>
+    ensures { OnOk result (string_bytes text.new ≡ string_bytes text.old ++ rest_row spelling n more.now) }
+{
+    match spelling {
+        Spelling::Text => words::push_rest(alloc, text, n, more),
+        Spelling::Json => objects::push_rest(alloc, text, n, more),
+    }
+}
+
 /// Adds the lines of the first of these, and how many more there are.
 pub fn push_kind<F: Fault>(
     alloc: Global,
     plan: &Plan,
+    spelling: Spelling,
     text: &mut String,
     faults: &[F],
     more: &str,
 ) -> Result<(), AllocError>
-    ensures { OnOk result (string_bytes text.new ≡ string_bytes text.old ++ kind_text (F.line plan.now) more.now faults.now) }
+    ensures { OnOk result (string_bytes text.new ≡ string_bytes text.old ++ kind_text spelling (F.line spelling plan.now) more.now faults.now) }
 {
-    push_each(alloc, plan, text, first_of(faults))?;
+    push_each(alloc, plan, spelling, text, first_of(faults))?;
     push_rest(
         alloc,
+        spelling,
         text,
         (faults.len() as u64).saturating_sub(MOST_LINES as u64),
         more,
     )
 }
 
+impl Fault for Clash {
+    ghost use Rattle.fault_report.specs.Rows.{clash_row};
+
+    ghost line = { clash_row };
+
+    fn push_line(
+        &self,
+        alloc: Global,
+        plan: &Plan,
+        spelling: Spelling,
+        text: &mut String,
+    ) -> Result<(), AllocError> {
+        match spelling {
+            Spelling::Text => lines::push_clash(alloc, plan, text, self),
+            Spelling::Json => objects::push_clash(alloc, plan, text, self),
+        }
+    }
+}
+
 /// An open side.
 impl Fault for Side {
-    ghost use Rattle.fault_report.specs.Lines.{open_line};
+    ghost use Rattle.fault_report.specs.Rows.{open_row};
 
-    ghost line = { open_line };
+    ghost line = { open_row };
 
-    fn push_line(&self, alloc: Global, plan: &Plan, text: &mut String) -> Result<(), AllocError> {
-        push_side(alloc, text, "open ", *self)?;
-        push_sector(alloc, text, plan.sector_at(*self))?;
-        push_ends(alloc, plan, text, self.line)?;
-        text.push_str("\n")
+    fn push_line(
+        &self,
+        alloc: Global,
+        plan: &Plan,
+        spelling: Spelling,
+        text: &mut String,
+    ) -> Result<(), AllocError> {
+        match spelling {
+            Spelling::Text => lines::push_open(alloc, plan, text, *self),
+            Spelling::Json => objects::push_open(alloc, plan, text, *self),
+        }
     }
 }
 
 impl Fault for Tear {
-    ghost use Rattle.fault_report.specs.Lines.{tear_line};
+    ghost use Rattle.fault_report.specs.Rows.{tear_row};
 
-    ghost line = { tear_line };
+    ghost line = { tear_row };
 
-    fn push_line(&self, alloc: Global, plan: &Plan, text: &mut String) -> Result<(), AllocError> {
-        push_spot(alloc, plan, text, "torn corner at ", self.point)?;
-        push_side(alloc, text, " by ", self.side)?;
-        push_text(text, "\n")
+    fn push_line(
+        &self,
+        alloc: Global,
+        plan: &Plan,
+        spelling: Spelling,
+        text: &mut String,
+    ) -> Result<(), AllocError> {
+        match spelling {
+            Spelling::Text => lines::push_tear(alloc, plan, text, self),
+            Spelling::Json => objects::push_tear(alloc, plan, text, self),
+        }
     }
 }
 
 impl Fault for Gap {
-    ghost use Rattle.fault_report.specs.Lines.{gap_line};
+    ghost use Rattle.fault_report.specs.Rows.{gap_row};
 
-    ghost line = { gap_line };
+    ghost line = { gap_row };
 
-    fn push_line(&self, alloc: Global, plan: &Plan, text: &mut String) -> Result<(), AllocError> {
-        text.push_str("gap")?;
-        push_way(alloc, plan, text, self.from, self.to)?;
-        text.push_str("\n")
+    fn push_line(
+        &self,
+        alloc: Global,
+        plan: &Plan,
+        spelling: Spelling,
+        text: &mut String,
+    ) -> Result<(), AllocError> {
+        match spelling {
+            Spelling::Text => lines::push_gap(alloc, plan, text, self),
+            Spelling::Json => objects::push_gap(alloc, plan, text, self),
+        }
     }
 }
 
 impl Fault for LooseEnd {
-    ghost use Rattle.fault_report.specs.Lines.{loose_line};
+    ghost use Rattle.fault_report.specs.Rows.{loose_row};
 
-    ghost line = { loose_line };
+    ghost line = { loose_row };
 
-    fn push_line(&self, alloc: Global, plan: &Plan, text: &mut String) -> Result<(), AllocError> {
-        push_spot(alloc, plan, text, "loose end at ", self.point)?;
-        push_index(alloc, text, " of line ", self.line)?;
-        push_text(text, "\n")
+    fn push_line(
+        &self,
+        alloc: Global,
+        plan: &Plan,
+        spelling: Spelling,
+        text: &mut String,
+    ) -> Result<(), AllocError> {
+        match spelling {
+            Spelling::Text => lines::push_loose(alloc, plan, text, self),
+            Spelling::Json => objects::push_loose(alloc, plan, text, self),
+        }
     }
 }
 
-/// Adds the sector that a side names.
-fn push_sector(alloc: Global, text: &mut String, sector: Option<u16>) -> Result<(), AllocError>
-    ensures { OnOk result (string_bytes text.new ≡ string_bytes text.old ++ sector_text sector) }
-{
-    match sector {
-        Some(a) => push_index(alloc, text, " of sector ", a),
-        None => text.push_str(""),
+impl Fault for Sideless {
+    ghost use Rattle.fault_report.specs.Rows.{sideless_row};
+
+    ghost line = { sideless_row };
+
+    fn push_line(
+        &self,
+        alloc: Global,
+        plan: &Plan,
+        spelling: Spelling,
+        text: &mut String,
+    ) -> Result<(), AllocError> {
+        match spelling {
+            Spelling::Text => lines::push_sideless(alloc, plan, text, self),
+            Spelling::Json => objects::push_sideless(alloc, plan, text, self),
+        }
+    }
+}
+
+impl Fault for Nameless {
+    ghost use Rattle.fault_report.specs.Rows.{nameless_row};
+
+    ghost line = { nameless_row };
+
+    fn push_line(
+        &self,
+        alloc: Global,
+        plan: &Plan,
+        spelling: Spelling,
+        text: &mut String,
+    ) -> Result<(), AllocError> {
+        match spelling {
+            Spelling::Text => lines::push_nameless(alloc, plan, text, self),
+            Spelling::Json => objects::push_nameless(alloc, plan, text, self),
+        }
     }
 }

@@ -4,6 +4,8 @@
 mod clashes;
 mod faces;
 mod kinds;
+mod lines;
+mod objects;
 mod report;
 mod slips;
 mod words;

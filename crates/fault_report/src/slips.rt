@@ -4,10 +4,8 @@ ghost use Rattle.std.specs.Prelude.{◌≡◌, ◌↔◌, IfOk, IsTrue, OnOk, fa
 ghost use Rattle.sight_names.specs.Map.{map_of};
 ghost use Rattle.fault_report.specs.Slips.{AddsIf, AreJust, AreMarks, IsNameless, IsSideless, Marks, MarksBoth};
 
-use crate::kinds::Fault;
-use crate::words::{push_ends, push_index, push_text};
 use sight_names::{Memory, Plan, Side};
-use std::alloc::{AllocError, Global};
+use std::alloc::Global;
 
 /// A line of which no side names a sector, by its record number.
 #[derive(Clone, Copy)]
@@ -19,30 +17,6 @@ pub struct Sideless {
 #[derive(Clone, Copy)]
 pub struct Nameless {
     pub sector: u16,
-}
-
-impl Fault for Sideless {
-    ghost use Rattle.fault_report.specs.Lines.{sideless_line};
-
-    ghost line = { sideless_line };
-
-    fn push_line(&self, alloc: Global, plan: &Plan, text: &mut String) -> Result<(), AllocError> {
-        push_index(alloc, text, "slip: line ", self.line)?;
-        text.push_str(" has no side")?;
-        push_ends(alloc, plan, text, self.line)?;
-        text.push_str("\n")
-    }
-}
-
-impl Fault for Nameless {
-    ghost use Rattle.fault_report.specs.Lines.{nameless_line};
-
-    ghost line = { nameless_line };
-
-    fn push_line(&self, alloc: Global, plan: &Plan, text: &mut String) -> Result<(), AllocError> {
-        push_index(alloc, text, "slip: sector ", self.sector)?;
-        push_text(text, " has no side\n")
-    }
 }
 
 /// Whether the record has a line of which no side names a sector.

@@ -16,7 +16,7 @@ pub fn push_text(text: &mut String, word: &str) -> Result<(), AllocError>
 }
 
 /// Adds a text and a number.
-fn push_count(alloc: Global, text: &mut String, word: &str, n: u64) -> Result<(), AllocError>
+pub fn push_count(alloc: Global, text: &mut String, word: &str, n: u64) -> Result<(), AllocError>
     ensures { OnOk result (string_bytes text.new ≡ string_bytes text.old ++ (word.now ++ decimal n)) }
 {
     text.push_str(word)?;
@@ -32,7 +32,7 @@ pub fn push_index(alloc: Global, text: &mut String, word: &str, n: u16) -> Resul
 }
 
 /// Adds a text and a coordinate.
-fn push_signed(alloc: Global, text: &mut String, word: &str, n: i16) -> Result<(), AllocError>
+pub fn push_signed(alloc: Global, text: &mut String, word: &str, n: i16) -> Result<(), AllocError>
     ensures { OnOk result (string_bytes text.new ≡ string_bytes text.old ++ (word.now ++ signed_decimal n)) }
 {
     text.push_str(word)?;
@@ -56,7 +56,7 @@ pub fn push_side(alloc: Global, text: &mut String, word: &str, side: Side) -> Re
 }
 
 /// The point with this number; the origin where there is none.
-fn spot_of(plan: &Plan, k: u16) -> Pt
+pub fn spot_of(plan: &Plan, k: u16) -> Pt
     ensures { result ≡ spot plan.now k }
 {
     match plan.points().get(k as usize) {

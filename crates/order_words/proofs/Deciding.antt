@@ -6,6 +6,7 @@ use Rattle.clap.specs.Words.{Kinds, Row, Text, first_of, all_of}
 use Rattle.sight_names.specs.declared.names.Ask.{Ask}
 use Rattle.sight_names.specs.declared.names.Pair.{Pair}
 use Rattle.sight_names.specs.declared.names.Ask.TheVariants.{Full}
+use Rattle.row_spelling.specs.declared.Spelling.{Spelling}
 use Rattle.order_words.specs.declared.order.Order.{Order}
 use Rattle.order_words.specs.declared.order.Order.TheVariants as order
 use Rattle.order_words.specs.declared.order.View.{View}
@@ -14,7 +15,7 @@ use Rattle.order_words.specs.declared.words.BuildChoices.{BuildChoices}
 use Rattle.order_words.specs.Values.{◌>>=◌, is_file, is_map, upper, ray_of, pair_of, sector_of, rooms_of}
 use Rattle.order_words.specs.Command.{refusals_of, rows_in}
 use Rattle.order_words.specs.Laws.{AsksWithoutBound, GivesNoBudget, bound_of}
-use Rattle.order_words.specs.Words.{is_drawing, whole_view, Said, said_with, is_given, is_plain, has_bound_alone, given_bound, given_method, given_workers, source_of, zero_of, ray_order_of, audit_of, trace_of, check_of, need_of, sound_with, sound_of, why_within, why_of, view_of, draw_with, choices_of, build_of, all_order_of, may_be_one, verify_with, given_file, given_names, has_names_alone, maps_with, maps_of, grid_of, plain_order_of, order_said, order_in_rows, unless_refused, order_of, has_report_alone, audit_with}
+use Rattle.order_words.specs.Words.{is_drawing, order_of_verb, spelled_as, takes_json, whole_view, Said, said_with, is_given, is_plain, has_bound_alone, given_bound, given_method, given_workers, source_of, zero_of, ray_order_of, audit_of, trace_of, check_of, need_of, sound_with, sound_of, why_within, why_of, view_of, draw_with, choices_of, build_of, all_order_of, may_be_one, verify_with, given_file, given_names, has_names_alone, maps_with, maps_of, grid_of, plain_order_of, order_said, order_in_rows, unless_refused, order_of, has_report_alone, audit_with}
 
 -- what comes of a choice, of a value that is taken on, and of one that is turned into another
 if_some : {A : Type 0} (P : A → Type 0) (b : Bool) (x y : Option A) → IfSome x P → IfSome y P → IfSome (if b then x else y) P
@@ -46,9 +47,9 @@ ray_asks : (large : Bool) (rest : List Text) → IfSome (ray_order_of large rest
 ray_asks large (wad ∷ name ∷ word ∷ []) = if_some Unbounded (is_file wad && is_map name) _ _ (map_some Unbounded (ray_of word) _ (any_some _ (ray_of word) (λ ray. tt))) tt
 ray_asks large rest = tt
 
-audit_asks : (large : Bool) (rest : List Text) (report : Option Text) → IfSome (audit_with large rest report) Unbounded
-audit_asks large (wad ∷ name ∷ []) report = if_some Unbounded (is_file wad && is_map name) _ _ tt tt
-audit_asks large rest report = tt
+audit_asks : (large : Bool) (spelled : Spelling) (rest : List Text) (report : Option Text) → IfSome (audit_with large spelled rest report) Unbounded
+audit_asks large spelled (wad ∷ name ∷ []) report = if_some Unbounded (is_file wad && is_map name) _ _ tt tt
+audit_asks large spelled rest report = tt
 
 trace_asks : (large : Bool) (rest : List Text) → IfSome (trace_of large rest) Unbounded
 trace_asks large (wad ∷ name ∷ word ∷ []) = if_some Unbounded (is_file wad && is_map name) _ _ (map_some Unbounded (ray_of word) _ (any_some _ (ray_of word) (λ ray. tt))) tt
@@ -84,17 +85,17 @@ build_asks : (large : Bool) (rest : List Text) (c : BuildChoices) → IfSome (bu
 build_asks large (wad ∷ name ∷ out ∷ []) c = if_some Unbounded (may_be_one c && is_file wad && is_map name && is_file out) _ _ tt tt
 build_asks large rest c = tt
 
-all_asks : (large : Bool) (rest : List Text) (c : BuildChoices) → IfSome (all_order_of large rest c) Unbounded
-all_asks large (wad ∷ out ∷ []) c = if_some Unbounded (is_none c.cert && is_file wad && is_file out) _ _ tt tt
-all_asks large rest c = tt
+all_asks : (large : Bool) (spelled : Spelling) (rest : List Text) (c : BuildChoices) → IfSome (all_order_of large spelled rest c) Unbounded
+all_asks large spelled (wad ∷ out ∷ []) c = if_some Unbounded (is_none c.cert && is_file wad && is_file out) _ _ tt tt
+all_asks large spelled rest c = tt
 
-verify_asks : (large : Bool) (rest : List Text) (c : BuildChoices) → IfSome (verify_with large rest c) Unbounded
-verify_asks large (wad ∷ []) c = if_some Unbounded (is_none c.cert && is_none c.refused && is_file wad) _ _ tt tt
-verify_asks large rest c = tt
+verify_asks : (large : Bool) (spelled : Spelling) (rest : List Text) (c : BuildChoices) → IfSome (verify_with large spelled rest c) Unbounded
+verify_asks large spelled (wad ∷ []) c = if_some Unbounded (is_none c.cert && is_none c.refused && is_file wad) _ _ tt tt
+verify_asks large spelled rest c = tt
 
-maps_ask : (large : Bool) (rest : List Text) (only : Option (List Text)) (report : Option Text) → IfSome (maps_with large rest only report) Unbounded
-maps_ask large (wad ∷ []) only report = if_some Unbounded (is_file wad) _ _ tt tt
-maps_ask large rest only report = tt
+maps_ask : (large : Bool) (spelled : Spelling) (rest : List Text) (only : Option (List Text)) (report : Option Text) → IfSome (maps_with large spelled rest only report) Unbounded
+maps_ask large spelled (wad ∷ []) only report = if_some Unbounded (is_file wad) _ _ tt tt
+maps_ask large spelled rest only report = tt
 
 grid_asks : (s : Said) (rest : List Text) → IfSome (grid_of s rest) Unbounded
 grid_asks s (word ∷ []) =
@@ -133,21 +134,25 @@ draw_asks s none (wad ∷ name ∷ out ∷ sectors) =
     (view_asks P tt tt tt (λ k. tt) (λ pair. refl) (is_given s.faults) (is_given s.heat) (is_given s.exact) sectors))) tt
 draw_asks s none rest = tt
 
-said_asks : (s : Said) → s.budget ≡ None → IfSome (order_said s) Unbounded
-unfolding order_said
-said_asks s none =
+verb_asks : (s : Said) → s.budget ≡ None → IfSome (order_of_verb s) Unbounded
+unfolding order_of_verb
+verb_asks s none =
     if_some Unbounded (bytes_eq s.verb (codes "grid")) _ _ (grid_asks s s.rest)
     (if_some Unbounded (is_given s.hexen) _ _ tt
     (if_some Unbounded (bytes_eq s.verb (codes "draw")) _ _ (if_some Unbounded (has_bound_alone s) _ _ (draw_asks s none s.rest) tt)
     (if_some Unbounded (is_drawing s) _ _ tt
     (if_some Unbounded (bytes_eq s.verb (codes "build")) _ _ (then_some Unbounded (choices_of s) _ (build_asks (is_given s.large) s.rest))
-    (if_some Unbounded (bytes_eq s.verb (codes "all")) _ _ (then_some Unbounded (choices_of s) _ (all_asks (is_given s.large) s.rest))
+    (if_some Unbounded (bytes_eq s.verb (codes "all")) _ _ (then_some Unbounded (choices_of s) _ (all_asks (is_given s.large) (spelled_as (is_given s.json)) s.rest))
     (if_some Unbounded (bytes_eq s.verb (codes "why")) _ _ (two_ask s none)
-    (if_some Unbounded (bytes_eq s.verb (codes "verify")) _ _ (if_some Unbounded (is_none s.budget && not (is_given s.exact)) _ _ (then_some Unbounded (choices_of s) _ (verify_asks (is_given s.large) s.rest)) tt)
+    (if_some Unbounded (bytes_eq s.verb (codes "verify")) _ _ (if_some Unbounded (is_none s.budget && not (is_given s.exact)) _ _ (then_some Unbounded (choices_of s) _ (verify_asks (is_given s.large) (spelled_as (is_given s.json)) s.rest)) tt)
     (if_some Unbounded (bytes_eq s.verb (codes "maps")) _ _
-    (if_some Unbounded (not (has_names_alone s)) _ _ tt (then_some Unbounded (given_file s.report) _ (λ report. then_some Unbounded (given_names s.only) _ (λ only. maps_ask (is_given s.large) s.rest only report))))
-    (if_some Unbounded (bytes_eq s.verb (codes "audit")) _ _ (if_some Unbounded (has_report_alone s) _ _ (then_some Unbounded (given_file s.report) _ (audit_asks (is_given s.large) s.rest)) tt)
+    (if_some Unbounded (not (has_names_alone s)) _ _ tt (then_some Unbounded (given_file s.report) _ (λ report. then_some Unbounded (given_names s.only) _ (λ only. maps_ask (is_given s.large) (spelled_as (is_given s.json)) s.rest only report))))
+    (if_some Unbounded (bytes_eq s.verb (codes "audit")) _ _ (if_some Unbounded (has_report_alone s) _ _ (then_some Unbounded (given_file s.report) _ (audit_asks (is_given s.large) (spelled_as (is_given s.json)) s.rest)) tt)
     (if_some Unbounded (is_plain s) _ _ (plain_asks s) tt))))))))))
+
+said_asks : (s : Said) → s.budget ≡ None → IfSome (order_said s) Unbounded
+unfolding order_said
+said_asks s none = if_some Unbounded (is_given s.json && not (takes_json s)) _ _ tt (verb_asks s none)
 
 rows_ask : (rows : List Row) → first_of (codes "budget") rows ≡ None → IfSome (order_in_rows rows) Unbounded
 unfolding order_in_rows

@@ -4,6 +4,7 @@ use Rattle.std.specs.List.{AllByRecursion}
 use Rattle.wad_dir.specs.AllMaps.Names.{word_of}
 use Rattle.wad_dir.specs.Wad.{WadFile}
 use Rattle.map_answers.specs.Input.{map_named}
+use Rattle.row_spelling.specs.declared.Spelling.{Spelling}
 use Rattle.table_verdicts.specs.declared.verdict.MapVerdict.{MapVerdict}
 use Rattle.table_verdicts.specs.declared.verifying.WadVerdict.{WadVerdict}
 use Rattle.whole_wad.specs.Rejects.{reject_named}
@@ -21,8 +22,8 @@ pub record AreVerdicts (w : WadFile) (large : Bool) (names : List (List ℕ)) (v
   pub says : AllByRecursion (SaysOf w large) verdicts
 
 -- the report and the counts are those of what is said of the maps
-pub record ShowsVerdicts (w : WadFile) (large : Bool) (names : List (List ℕ)) (given : WadVerdict) : Type 0 where
+pub record ShowsVerdicts (w : WadFile) (large : Bool) (names : List (List ℕ)) (spelled : Spelling) (given : WadVerdict) : Type 0 where
   pub verdicts : List MapVerdict
   pub are : AreVerdicts w large names verdicts
-  pub report : string_bytes given.report ≡ report_of verdicts
+  pub report : string_bytes given.report ≡ report_of spelled verdicts
   pub tally : given.tally ≡ tally_of verdicts

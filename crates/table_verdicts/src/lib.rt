@@ -1,6 +1,7 @@
 //! The REJECT that each map of a WAD has, beside the table in which a bit is set exactly where two sectors don't see each other.
 #![tactic(auto)]
 
+mod json;
 mod judging;
 pub mod map_list;
 mod map_verdict;

@@ -1,6 +1,7 @@
 //! What maps of a WAD hold: of each its format, how great it is, and what its REJECT has. No map is audited or built.
 
 mod entry;
+mod json;
 mod line;
 mod listing;
 mod named;

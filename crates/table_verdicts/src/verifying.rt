@@ -9,11 +9,13 @@ ghost use Rattle.wad_dir.specs.AllMaps.Maps.{is_map_name, maps_of};
 ghost use Rattle.table_verdicts.specs.Report.{report_of};
 ghost use Rattle.table_verdicts.specs.Verdicts.{SaysOf, ShowsVerdicts};
 
+use crate::json::row_of;
 use crate::map_verdict::verdict_on;
 use crate::report::line_of;
 use crate::tally::{Tally, tally_up};
 use crate::verdict::MapVerdict;
 use group_job::sight_workers::Gate;
+use row_spelling::Spelling;
 use sight_names::Memory;
 use std::alloc::Global;
 use std::thread::Threads;
@@ -51,6 +53,7 @@ fn verify_maps<R: Threads + Sync, G: Gate + Sync, N: Notice>(
     large: bool,
     names: &[[u8; 8]],
     workers: u16,
+    spelling: Spelling,
     gate: &G,
     notice: &N,
 ) -> Result<Said, Memory>
@@ -60,7 +63,7 @@ fn verify_maps<R: Threads + Sync, G: Gate + Sync, N: Notice>(
     requires workers { (1 ≤ workers) × (workers ≤ 64) }
     ensures each { IfOk result (λ said. map (λ (v : MapVerdict). v.name) said.verdicts.items ≡ names.now) }
     ensures says { IfOk result (λ said. AllByRecursion (SaysOf (file_of bytes.now wad.now) large) said.verdicts.items) }
-    ensures report { IfOk result (λ said. string_bytes said.report ≡ report_of said.verdicts.items) }
+    ensures report { IfOk result (λ said. string_bytes said.report ≡ report_of spelling said.verdicts.items) }
 {
     let mut verdicts = Vec::with_capacity(alloc, names.len())?;
     let mut report = String::new(alloc);
@@ -68,14 +71,15 @@ fn verify_maps<R: Threads + Sync, G: Gate + Sync, N: Notice>(
         let verdict = verdict_on(rt, alloc, bytes, wad, large, name, workers, gate)?;
         let line = line_of(alloc, &verdict)?;
         tell(notice, &verdict, &line);
-        report.push_str(&line)?;
+        let row = row_of(alloc, spelling, &verdict)?;
+        report.push_str(&row)?;
         verdicts.push(verdict)?;
     }
     Ok(Said { verdicts, report })
 }
 
-/// What is said of the REJECT of each map of these names. The maps of UDMF are told first, and then each line of the report as its
-/// map is done.
+/// What is said of the REJECT of each map of these names. The maps of UDMF are told first, and then the line of words of each as it
+/// is done.
 pub fn verify_wad<R: Threads + Sync, G: Gate + Sync, N: Notice>(
     rt: &R,
     alloc: Global,
@@ -84,6 +88,7 @@ pub fn verify_wad<R: Threads + Sync, G: Gate + Sync, N: Notice>(
     large: bool,
     names: &[[u8; 8]],
     workers: u16,
+    spelling: Spelling,
     gate: &G,
     notice: &N,
 ) -> Result<WadVerdict, Memory>
@@ -92,10 +97,12 @@ pub fn verify_wad<R: Threads + Sync, G: Gate + Sync, N: Notice>(
     // They are some of the WAD's maps, in the order of their entries.
     requires among { HasInOrder (maps_of (entry_names wad.now.entries)) names.now }
     requires workers { (1 ≤ workers) × (workers ≤ 64) }
-    ensures { IfOk result (ShowsVerdicts (file_of bytes.now wad.now) large names.now) }
+    ensures { IfOk result (ShowsVerdicts (file_of bytes.now wad.now) large names.now spelling) }
 {
     tell_unread(alloc, wad, notice)?;
-    let said = verify_maps(rt, alloc, bytes, wad, large, names, workers, gate, notice)?;
+    let said = verify_maps(
+        rt, alloc, bytes, wad, large, names, workers, spelling, gate, notice,
+    )?;
     Ok(WadVerdict {
         tally: tally_up(&said.verdicts),
         report: said.report,

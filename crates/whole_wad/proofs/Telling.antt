@@ -7,11 +7,12 @@ use Rattle.sight_names.specs.declared.names.Method.{Method}
 use Rattle.wad_dir.specs.Wad.{WadFile}
 use Rattle.wad_dir.specs.AllMaps.Names.{word_of}
 use Rattle.refused_maps.specs.declared.Refused.{Refused}
+use Rattle.row_spelling.specs.declared.Spelling.{Spelling}
 use Rattle.map_answers.specs.declared.sight_status.status.Status.{Status}
 use Rattle.map_answers.specs.Input.{map_named}
 use Rattle.whole_wad.specs.declared.outcomes.MapOutcome.{MapOutcome}
 use Rattle.whole_wad.specs.Outcomes.{ComesOf, stop_of}
-use Rattle.whole_wad.specs.Report.{map_line, report_of}
+use Rattle.whole_wad.specs.Report.{map_row, report_of}
 use Rattle.whole_wad.specs.Stop.{IsThisOr, StopsAt}
 use Rattle.whole_wad.specs.Tables.{Gets}
 
@@ -28,13 +29,13 @@ name_more names k d outcomes more o lt e is pushed =
 pub comes_more : (P : MapOutcome → Type 0) (outcomes more : List MapOutcome) (o : MapOutcome) → AllByRecursion P outcomes → P o → more ≡ outcomes ++ o ∷ [] → AllByRecursion P more
 comes_more P outcomes more o all h pushed = subst (AllByRecursion P) (sym pushed) (all_join P outcomes (o ∷ []) all (h, tt))
 
-lines_more : (outcomes : List MapOutcome) (o : MapOutcome) → report_of outcomes ++ map_line o ≡ report_of (outcomes ++ o ∷ [])
-lines_more outcomes o = flat_map_more map_line [] outcomes o
+lines_more : (spelled : Spelling) (outcomes : List MapOutcome) (o : MapOutcome) → report_of spelled outcomes ++ map_row spelled o ≡ report_of spelled (outcomes ++ o ∷ [])
+lines_more spelled outcomes o = flat_map_more (map_row spelled) [] outcomes o
 
 -- the next line
-pub report_more : (outcomes more : List MapOutcome) (o : MapOutcome) (old line new : List ℕ) → old ≡ report_of outcomes → line ≡ map_line o → new ≡ old ++ line → more ≡ outcomes ++ o ∷ [] → new ≡ report_of more
-report_more outcomes more o old line new before is pushed e =
-    pushed ∙ ap (λ (xs : List ℕ). xs ++ line) before ∙ ap (λ (xs : List ℕ). report_of outcomes ++ xs) is ∙ lines_more outcomes o ∙ ap report_of (sym e)
+pub report_more : (spelled : Spelling) (outcomes more : List MapOutcome) (o : MapOutcome) (old line new : List ℕ) → old ≡ report_of spelled outcomes → line ≡ map_row spelled o → new ≡ old ++ line → more ≡ outcomes ++ o ∷ [] → new ≡ report_of spelled more
+report_more spelled outcomes more o old line new before is pushed e =
+    pushed ∙ ap (λ (xs : List ℕ). xs ++ line) before ∙ ap (λ (xs : List ℕ). report_of spelled outcomes ++ xs) is ∙ lines_more spelled outcomes o ∙ ap (report_of spelled) (sym e)
 
 -- ---- the first that stops all
 

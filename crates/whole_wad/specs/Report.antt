@@ -12,6 +12,9 @@ use Rattle.whole_wad.specs.declared.fate.Fate.TheVariants as fate
 use Rattle.whole_wad.specs.declared.outcomes.MapOutcome.{MapOutcome}
 use Rattle.whole_wad.specs.declared.tables.MapTable.{MapTable}
 use Rattle.wad_dir.specs.AllMaps.Names.{word_of}
+use Rattle.row_spelling.specs.declared.Spelling.{Spelling}
+use Rattle.row_spelling.specs.declared.Spelling.TheVariants as spelling
+use Rattle.row_spelling.specs.Quoted.{quoted}
 
 -- how many pairs are set, clear and listed
 abbrev pub totals_words : Counts → List ℕ
@@ -34,6 +37,32 @@ fate_words (fate.Cleared table) = codes " cleared"
 abbrev pub map_line : MapOutcome → List ℕ
 map_line outcome = word_of outcome.name ++ made_words outcome.made ++ fate_words outcome.fate ++ codes "\n"
 
+-- ---- the same as a JSON object, whose members are named by the words of the line
+
+abbrev pub totals_json : Counts → List ℕ
+totals_json c = codes ",\"set\":" ++ decimal c.set ++ codes ",\"clear\":" ++ decimal c.clear ++ codes ",\"listed\":" ++ decimal c.listed
+
+abbrev pub made_json : Result MapTable Status → List ℕ
+made_json (Ok made) = totals_json (counts_with made.table (length made.listed))
+made_json (Err refusal) = codes ",\"refused\":" ++ quoted (trim_end (reason_words refusal))
+
+abbrev pub fate_json : Fate → List ℕ
+fate_json (fate.Changed bits) = codes ",\"changed\":" ++ decimal bits
+fate_json (fate.Replaced len) = codes ",\"replaced\":" ++ decimal len
+fate_json fate.KeptSet = codes ",\"kept\":\"set\""
+fate_json fate.KeptClear = codes ",\"kept\":\"clear\""
+fate_json (fate.Cleared table) = codes ",\"cleared\":true"
+
+abbrev pub map_json : MapOutcome → List ℕ
+map_json outcome = codes "{\"map\":" ++ quoted (word_of outcome.name) ++ made_json outcome.made ++ fate_json outcome.fate ++ codes "}\n"
+
+-- ---- the report
+
+-- one line in this spelling
+abbrev pub map_row : Spelling → MapOutcome → List ℕ
+map_row spelling.Text outcome = map_line outcome
+map_row spelling.Json outcome = map_json outcome
+
 -- one line a map
-abbrev pub report_of : List MapOutcome → List ℕ
-report_of outcomes = flat_map map_line outcomes
+abbrev pub report_of : Spelling → List MapOutcome → List ℕ
+report_of spelled outcomes = flat_map (map_row spelled) outcomes

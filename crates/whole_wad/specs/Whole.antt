@@ -7,6 +7,7 @@ use Rattle.wad_dir.specs.Wad.{WadFile}
 use Rattle.wad_dir.specs.WadRewrite.Rewrite.{printed}
 use Rattle.wad_dir.specs.AllMaps.All.{with_all}
 use Rattle.refused_maps.specs.declared.Refused.{Refused}
+use Rattle.row_spelling.specs.declared.Spelling.{Spelling}
 use Rattle.whole_wad.specs.declared.outcomes.MapOutcome.{MapOutcome}
 use Rattle.whole_wad.specs.declared.whole.Maps.{Maps}
 use Rattle.whole_wad.specs.declared.whole.Told.{Told}
@@ -38,20 +39,20 @@ WritesOutcomes w outcomes report (Err (rewrite.Memory _)) = ⊤
 WritesOutcomes w outcomes report (Err fault) = written_of w outcomes ≡ Err fault
 
 -- the report on what comes of the maps
-pub record TellsAll (w : WadFile) (large : Bool) (names : List (List ℕ)) (by : Method) (choice : Refused) (maps : Maps) : Type 0 where
+pub record TellsAll (w : WadFile) (large : Bool) (names : List (List ℕ)) (by : Method) (choice : Refused) (spelled : Spelling) (maps : Maps) : Type 0 where
   pub are : AreOutcomes w large names by choice maps.outcomes.items
-  pub report : string_bytes maps.report ≡ report_of maps.outcomes.items
+  pub report : string_bytes maps.report ≡ report_of spelled maps.outcomes.items
 
 -- .. or the first refusal, where that stops all
-abbrev pub Tells : WadFile → Bool → List (List ℕ) → Method → Refused → Told → Type 0
-Tells w large names by choice (told.All maps) = TellsAll w large names by choice maps
-Tells w large names by choice (told.Stopped refusal) = StopsAt w large by choice refusal names
+abbrev pub Tells : WadFile → Bool → List (List ℕ) → Method → Refused → Spelling → Told → Type 0
+Tells w large names by choice spelled (told.All maps) = TellsAll w large names by choice spelled maps
+Tells w large names by choice spelled (told.Stopped refusal) = StopsAt w large by choice refusal names
 
 -- the bytes, the report and the counts are those of what comes of the maps
-pub record ShowsWhole (w : WadFile) (large : Bool) (names : List (List ℕ)) (by : Method) (choice : Refused) (whole : WholeWad) : Type 0 where
+pub record ShowsWhole (w : WadFile) (large : Bool) (names : List (List ℕ)) (by : Method) (choice : Refused) (spelled : Spelling) (whole : WholeWad) : Type 0 where
   pub outcomes : List MapOutcome
   pub are : AreOutcomes w large names by choice outcomes
-  pub shows : ShowsOutcomes w outcomes (report_of outcomes) whole
+  pub shows : ShowsOutcomes w outcomes (report_of spelled outcomes) whole
 
 -- the WAD with all tables is above a limit
 pub record IsAboveLimit (w : WadFile) (large : Bool) (names : List (List ℕ)) (by : Method) (choice : Refused) (fault : RewriteFault) : Type 0 where
@@ -60,8 +61,8 @@ pub record IsAboveLimit (w : WadFile) (large : Bool) (names : List (List ℕ)) (
   pub limit : written_of w outcomes ≡ Err fault
 
 -- what is made of the WAD, or the first refusal where that stops all, unless memory ran out
-abbrev pub MakesWhole : WadFile → Bool → List (List ℕ) → Method → Refused → Result WholeWad Unmade → Type 0
-MakesWhole w large names by choice (Ok whole) = ShowsWhole w large names by choice whole
-MakesWhole w large names by choice (Err (unmade.Stopped refusal)) = StopsAt w large by choice refusal names
-MakesWhole w large names by choice (Err (unmade.Unwritten (rewrite.Memory _))) = ⊤
-MakesWhole w large names by choice (Err (unmade.Unwritten fault)) = IsAboveLimit w large names by choice fault
+abbrev pub MakesWhole : WadFile → Bool → List (List ℕ) → Method → Refused → Spelling → Result WholeWad Unmade → Type 0
+MakesWhole w large names by choice spelled (Ok whole) = ShowsWhole w large names by choice spelled whole
+MakesWhole w large names by choice spelled (Err (unmade.Stopped refusal)) = StopsAt w large by choice refusal names
+MakesWhole w large names by choice spelled (Err (unmade.Unwritten (rewrite.Memory _))) = ⊤
+MakesWhole w large names by choice spelled (Err (unmade.Unwritten fault)) = IsAboveLimit w large names by choice fault

@@ -3,6 +3,7 @@
 
 mod building;
 mod fate;
+mod json;
 mod laws;
 mod notice;
 mod outcomes;

@@ -1,4 +1,4 @@
-//! The report's line of one map.
+//! The report's line of one map, in words.
 
 ghost use Rattle.std.specs.Prelude.{◌≡◌, ◌++◌, IfOk, OnOk, IsTrue, string_bytes};
 ghost use Rattle.std.specs.Str.{trim_end};

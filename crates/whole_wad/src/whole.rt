@@ -9,6 +9,7 @@ ghost use Rattle.whole_wad.specs.Outcomes.{changes_of, tables_of};
 ghost use Rattle.whole_wad.specs.Whole.{MakesWhole, Tells, WritesOutcomes};
 
 use crate::fate::Fate;
+use crate::json::row_of;
 use crate::notice::Notice;
 use crate::outcomes::{MapOutcome, outcome_of, stop_of};
 use crate::report::line_of;
@@ -16,6 +17,7 @@ use group_job::sight_workers::Gate;
 use map_answers::sight_status::Status;
 use refused_maps::Refused;
 use reject_bits::Table;
+use row_spelling::Spelling;
 use sight_names::{Items, Memory, Method, RewriteFault};
 use std::alloc::{AllocError, Global};
 use std::collections::BTreeMap;
@@ -126,6 +128,7 @@ fn tell_maps<R: Threads + Sync, G: Gate + Sync, N: Notice>(
     workers: u16,
     method: Method,
     refused: Refused,
+    spelling: Spelling,
     gate: &G,
     notice: &N,
 ) -> Result<Told, Memory>
@@ -133,7 +136,7 @@ fn tell_maps<R: Threads + Sync, G: Gate + Sync, N: Notice>(
     requires names { names_of (file_of bytes.now wad.now) ≡ entry_names wad.now.entries }
     requires named { All (λ name. IsTrue (is_map_name name)) names.now }
     requires workers { (1 ≤ workers) × (workers ≤ 64) }
-    ensures { IfOk result (Tells (file_of bytes.now wad.now) large names.now method refused) }
+    ensures { IfOk result (Tells (file_of bytes.now wad.now) large names.now method refused spelling) }
 {
     let mut outcomes = Vec::with_capacity(alloc, names.len())?;
     let mut report = String::new(alloc);
@@ -146,7 +149,8 @@ fn tell_maps<R: Threads + Sync, G: Gate + Sync, N: Notice>(
         if let Some(refusal) = stop_of(refused, &outcome.made) {
             return Ok(Told::Stopped(refusal));
         }
-        report.push_str(&line)?;
+        let row = row_of(alloc, spelling, &outcome)?;
+        report.push_str(&row)?;
         outcomes.push(outcome)?;
     }
     Ok(Told::All(Maps { outcomes, report }))
@@ -238,7 +242,7 @@ fn written(alloc: Global, bytes: &[u8], wad: &Wad, maps: Maps) -> Result<WholeWa
 /// The WAD in which each map of these names has its table by this method as its REJECT, all other lumps as they were. A map that is
 /// above a limit, of the usual ones or of the larger ones, or isn't sound is refused, and the report says why. By what is chosen for
 /// refused maps it keeps its REJECT, or gets a clear one where it was read, or nothing is made. The maps of UDMF without ENDMAP are told first, and
-/// then each line of the report as its map is done.
+/// then the line of words of each map as it is done.
 ///
 /// # Errors
 ///
@@ -254,6 +258,7 @@ pub fn build_wad<R: Threads + Sync, G: Gate + Sync, N: Notice>(
     workers: u16,
     method: Method,
     refused: Refused,
+    spelling: Spelling,
     gate: &G,
     notice: &N,
 ) -> Result<WholeWad, Unmade>
@@ -262,13 +267,13 @@ pub fn build_wad<R: Threads + Sync, G: Gate + Sync, N: Notice>(
     // They are some of the WAD's maps, in the order of their entries.
     requires among { HasInOrder (maps_of (entry_names wad.now.entries)) names.now }
     requires workers { (1 ≤ workers) × (workers ≤ 64) }
-    ensures { MakesWhole (file_of bytes.now wad.now) large names.now method refused result }
+    ensures { MakesWhole (file_of bytes.now wad.now) large names.now method refused spelling result }
 {
     if let Err(memory) = tell_unread(alloc, wad, notice) {
         return Err(Unmade::Unwritten(RewriteFault::Memory(memory)));
     }
     match tell_maps(
-        rt, alloc, bytes, wad, large, names, workers, method, refused, gate, notice,
+        rt, alloc, bytes, wad, large, names, workers, method, refused, spelling, gate, notice,
     ) {
         Ok(Told::Stopped(refusal)) => Err(Unmade::Stopped(refusal)),
         Ok(Told::All(maps)) => match written(alloc, bytes, wad, maps) {

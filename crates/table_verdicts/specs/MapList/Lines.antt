@@ -4,6 +4,10 @@ use Rattle.std.specs.Fmt.{decimal}
 use Rattle.std.specs.List.{flat_map}
 use Rattle.wad_dir.specs.AllMaps.Names.{word_of}
 use Rattle.map_answers.specs.SightStatus.Texts.{reason_words}
+use Rattle.row_spelling.specs.declared.Spelling.{Spelling}
+use Rattle.row_spelling.specs.declared.Spelling.TheVariants as spelling
+use Rattle.row_spelling.specs.Quoted.{quoted}
+use Rattle.table_verdicts.specs.Report.{refused_json}
 use Rattle.table_verdicts.specs.declared.map_list.entry.ListedFormat.{ListedFormat}
 use Rattle.table_verdicts.specs.declared.map_list.entry.ListedFormat.TheVariants.{Doom, Hexen, Udmf}
 use Rattle.table_verdicts.specs.declared.map_list.entry.MapSizes.{MapSizes}
@@ -35,6 +39,37 @@ said_words (said.Refused refusal) = codes " refused " ++ reason_words refusal
 abbrev pub entry_line : MapEntry → List ℕ
 entry_line e = word_of e.name ++ said_words e.said
 
+-- ---- the same as a JSON object, whose members are named by the words of the line
+
+abbrev pub format_json : ListedFormat → List ℕ
+format_json Doom = codes ",\"format\":\"doom\""
+format_json Hexen = codes ",\"format\":\"hexen\""
+format_json Udmf = codes ",\"format\":\"udmf\""
+
+abbrev pub size_json : MapSizes → List ℕ
+size_json s = codes ",\"lines\":" ++ decimal s.lines ++ codes ",\"points\":" ++ decimal s.points ++ codes ",\"sectors\":" ++ decimal s.sectors
+
+abbrev pub set_json : Option ℕ → List ℕ
+set_json (Some set) = codes ",\"set\":" ++ decimal set
+set_json None = codes ""
+
+abbrev pub reject_json : MapSizes → List ℕ
+reject_json s = codes ",\"reject\":" ++ decimal s.found ++ codes ",\"of\":" ++ decimal s.expected ++ set_json s.set
+
+abbrev pub said_json : Said → List ℕ
+said_json (said.Read sizes) = format_json sizes.format ++ size_json sizes ++ reject_json sizes
+said_json (said.Refused refusal) = refused_json refusal
+
+abbrev pub entry_json : MapEntry → List ℕ
+entry_json e = codes "{\"map\":" ++ quoted (word_of e.name) ++ said_json e.said ++ codes "}\n"
+
+-- ---- the list
+
+-- one line in this spelling
+abbrev pub entry_row : Spelling → MapEntry → List ℕ
+entry_row spelling.Text e = entry_line e
+entry_row spelling.Json e = entry_json e
+
 -- one line a map
-abbrev pub lines_of_maps : List MapEntry → List ℕ
-lines_of_maps entries = flat_map entry_line entries
+abbrev pub lines_of_maps : Spelling → List MapEntry → List ℕ
+lines_of_maps spelled entries = flat_map (entry_row spelled) entries

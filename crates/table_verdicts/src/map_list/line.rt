@@ -1,4 +1,4 @@
-//! The line of one map.
+//! The line of one map, in words.
 
 ghost use Rattle.std.specs.Prelude.{◌≡◌, ◌++◌, IfOk, OnOk, IsTrue, string_bytes};
 ghost use Rattle.wad_dir.specs.AllMaps.Maps.{is_map_name};

@@ -10,9 +10,11 @@ ghost use Rattle.table_verdicts.specs.MapList.Lines.{lines_of_maps};
 ghost use Rattle.table_verdicts.specs.MapList.Listing.{ShowsList};
 
 use crate::map_list::entry::{MapEntry, Said};
+use crate::map_list::json::row_of;
 use crate::map_list::line::line_of;
 use crate::map_list::named::entry_of;
 use crate::map_list::tally::{ListTally, tally_up};
+use row_spelling::Spelling;
 use sight_names::Memory;
 use std::alloc::Global;
 use wad_dir::Wad;
@@ -47,13 +49,14 @@ fn list_each<N: Notice>(
     wad: &Wad,
     large: bool,
     names: &[[u8; 8]],
+    spelling: Spelling,
     notice: &N,
 ) -> Result<Listed, Memory>
     requires inside { All (λ entry. entry.at + entry.size ≤ length bytes.now) wad.now.entries }
     requires names { names_of (file_of bytes.now wad.now) ≡ entry_names wad.now.entries }
     requires named { All (λ name. IsTrue (is_map_name name)) names.now }
     ensures entries { IfOk result (λ listed. listed.entries.items ≡ entries_of (file_of bytes.now wad.now) large names.now) }
-    ensures report { IfOk result (λ listed. string_bytes listed.report ≡ lines_of_maps (entries_of (file_of bytes.now wad.now) large names.now)) }
+    ensures report { IfOk result (λ listed. string_bytes listed.report ≡ lines_of_maps spelling (entries_of (file_of bytes.now wad.now) large names.now)) }
 {
     let mut entries = Vec::with_capacity(alloc, names.len())?;
     let mut report = String::new(alloc);
@@ -61,30 +64,32 @@ fn list_each<N: Notice>(
         let entry = entry_of(alloc, bytes, wad, large, name)?;
         let line = line_of(alloc, &entry)?;
         tell(notice, &entry, &line);
-        report.push_str(&line)?;
+        let row = row_of(alloc, spelling, &entry)?;
+        report.push_str(&row)?;
         entries.push(entry)?;
     }
     Ok(Listed { entries, report })
 }
 
-/// What is listed of the maps of these names. The maps of UDMF that aren't read are told first, and then each line as its map is
-/// done.
+/// What is listed of the maps of these names. The maps of UDMF that aren't read are told first, and then the line of words of each
+/// as it is done.
 pub fn list_maps<N: Notice>(
     alloc: Global,
     bytes: &[u8],
     wad: &Wad,
     large: bool,
     names: &[[u8; 8]],
+    spelling: Spelling,
     notice: &N,
 ) -> Result<MapList, Memory>
     requires inside { All (λ entry. entry.at + entry.size ≤ length bytes.now) wad.now.entries }
     requires names { names_of (file_of bytes.now wad.now) ≡ entry_names wad.now.entries }
     // They are some of the WAD's maps, in the order of their entries.
     requires among { HasInOrder (maps_of (entry_names wad.now.entries)) names.now }
-    ensures { IfOk result (ShowsList (file_of bytes.now wad.now) large names.now) }
+    ensures { IfOk result (ShowsList (file_of bytes.now wad.now) large names.now spelling) }
 {
     tell_unread(alloc, wad, notice)?;
-    let listed = list_each(alloc, bytes, wad, large, names, notice)?;
+    let listed = list_each(alloc, bytes, wad, large, names, spelling, notice)?;
     Ok(MapList {
         tally: tally_up(&listed.entries),
         report: listed.report,

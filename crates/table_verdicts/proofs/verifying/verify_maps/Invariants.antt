@@ -10,5 +10,5 @@ abbrev pub invariant-loop-name : goal.invariant-loop-name
 invariant-loop-name g l = record {
   each : map (λ (v : MapVerdict). v.name) l.verdicts.items ≡ take l.name-index l.names;
   says : AllByRecursion (SaysOf (file_of l.bytes l.wad) l.large) l.verdicts.items;
-  report : string_bytes l.report ≡ report_of l.verdicts.items;
+  report : string_bytes l.report ≡ report_of l.spelling l.verdicts.items;
 }

@@ -21,5 +21,5 @@ loop-name-preserved g c =
       comes = comes_more (ComesOf w c.args.large c.args.method c.args.refused) c.loop-name.outcomes.items c.push.new.self.items o c.loop-name.invariant.comes c.in_ok-outcome.ensures.comes pushed;
       goes_on = comes_more (λ (x : MapOutcome). stop_of c.args.refused x.made ≡ None) c.loop-name.outcomes.items c.push.new.self.items o c.loop-name.invariant.goes_on (sym c.in_default.ensures) pushed;
       ahead = stops_later w c.args.large c.args.method c.args.refused c.args.names.now c.loop-name.name-index _ o c.loop-name-test.true c.in_ok-outcome.ensures.name c.in_ok-outcome.ensures.comes c.loop-name.invariant.ahead c.in_default.ensures;
-      report = report_more c.loop-name.outcomes.items c.push.new.self.items o (string_bytes c.loop-name.report) (string_bytes c.in_ok-line.line) (string_bytes c.push_str.new.self) c.loop-name.invariant.report c.in_ok-line.ensures written pushed;
+      report = report_more c.args.spelling c.loop-name.outcomes.items c.push.new.self.items o (string_bytes c.loop-name.report) (string_bytes c.in_ok-row.row) (string_bytes c.push_str.new.self) c.loop-name.invariant.report c.in_ok-row.ensures written pushed;
     }

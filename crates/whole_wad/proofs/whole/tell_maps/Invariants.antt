@@ -14,5 +14,5 @@ invariant-loop-name g l = record {
   comes : AllByRecursion (ComesOf (file_of l.bytes l.wad) l.large l.method l.refused) l.outcomes.items;
   goes_on : AllByRecursion (λ (o : MapOutcome). stop_of l.refused o.made ≡ None) l.outcomes.items;
   ahead : (s : Status) → StopsAt (file_of l.bytes l.wad) l.large l.method l.refused s (drop l.name-index l.names) → StopsAt (file_of l.bytes l.wad) l.large l.method l.refused s l.names;
-  report : string_bytes l.report ≡ report_of l.outcomes.items;
+  report : string_bytes l.report ≡ report_of l.spelling l.outcomes.items;
 }

@@ -7,5 +7,5 @@ use Rattle.table_verdicts.proofs.map_list.listing.list_each.Given as goal
 abbrev pub invariant-loop-name : goal.invariant-loop-name
 invariant-loop-name g l = record {
   entries : l.entries.items ≡ entries_of (file_of l.bytes l.wad) l.large (take l.name-index l.names);
-  report : string_bytes l.report ≡ lines_of_maps (entries_of (file_of l.bytes l.wad) l.large (take l.name-index l.names));
+  report : string_bytes l.report ≡ lines_of_maps l.spelling (entries_of (file_of l.bytes l.wad) l.large (take l.name-index l.names));
 }

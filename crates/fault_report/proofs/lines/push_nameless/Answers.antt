@@ -1,6 +1,6 @@
 use Rattle.std.proofs.lemmas.Result.{IfOk-weaker}
 use Rattle.fault_report.proofs.Telling.{then_text}
-use Rattle.fault_report.proofs.slips.NamelessFault.push_line.Goals as goal
+use Rattle.fault_report.proofs.lines.push_nameless.Goals as goal
 
 pub returns : goal.returns
 returns c = IfOk-weaker c.push_text.result _ _ (λ u h. then_text _ _ _ _ _ h c.in_ok-push_index.ensures) c.push_text.ensures

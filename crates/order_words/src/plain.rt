@@ -1,0 +1,194 @@
+//! Orders of words alone: verbs that take no option.
+
+ghost use Rattle.std.specs.Prelude.{◌≡◌, map, IfOk};
+ghost use Rattle.order_words.specs.Words.{Makes, check_of, need_of, ray_named, ray_order_of, sound_named, sound_of, sound_with, source_of, trace_named, trace_of, zero_of};
+ghost use Rattle.order_words.specs.Values.{upper};
+
+use crate::order::{Order, Source, Text};
+use crate::values::{may_name_file, may_name_map, pair, ray};
+use sight_names::OrderFault;
+use std::alloc::{AllocError, Global};
+
+/// This word.
+pub fn text(alloc: Global, word: &str) -> Result<Text, AllocError>
+    ensures { IfOk result (λ t. t ≡ word.now) }
+{
+    Ok(Text::of(String::from_str(alloc, word)?))
+}
+
+/// This word in upper case.
+pub fn upper_text(alloc: Global, word: &str) -> Result<Text, AllocError>
+    ensures { IfOk result (λ t. t ≡ upper word.now) }
+{
+    Ok(Text::of(word.to_ascii_uppercase(alloc)?))
+}
+
+/// The WAD of that name, read by the larger limits or by the usual ones.
+pub fn source(alloc: Global, large: bool, wad: &str) -> Result<Source, AllocError>
+    ensures { IfOk result (λ s. s ≡ source_of large wad.now) }
+{
+    Ok(Source {
+        file: text(alloc, wad)?,
+        large,
+    })
+}
+
+/// A table with every bit clear, of a map into a file.
+pub fn zero(alloc: Global, large: bool, rest: &[&str]) -> Result<Order, OrderFault>
+    ensures { Makes (zero_of large (map (λ s. s.now) rest.now)) result }
+{
+    match rest {
+        [wad, name, out] if may_name_file(wad) && may_name_map(name) && may_name_file(out) => {
+            Ok(Order::Zero {
+                wad: source(alloc, large, wad)?,
+                map: upper_text(alloc, name)?,
+                out: text(alloc, out)?,
+            })
+        }
+        _ => Err(OrderFault::Usage),
+    }
+}
+
+fn sight_named(
+    alloc: Global,
+    large: bool,
+    wad: &str,
+    name: &str,
+    word: &str,
+) -> Result<Order, OrderFault>
+    ensures { Makes (ray_named large wad.now name.now word.now) result }
+{
+    match ray(word) {
+        Some(ray) => Ok(Order::Ray {
+            wad: source(alloc, large, wad)?,
+            map: upper_text(alloc, name)?,
+            ray,
+        }),
+        None => Err(OrderFault::Usage),
+    }
+}
+
+/// A ray of a map.
+pub fn sight(alloc: Global, large: bool, rest: &[&str]) -> Result<Order, OrderFault>
+    ensures { Makes (ray_order_of large (map (λ s. s.now) rest.now)) result }
+{
+    match rest {
+        [wad, name, word] if may_name_file(wad) && may_name_map(name) => {
+            sight_named(alloc, large, wad, name, word)
+        }
+        _ => Err(OrderFault::Usage),
+    }
+}
+
+fn trace_named(
+    alloc: Global,
+    large: bool,
+    wad: &str,
+    name: &str,
+    word: &str,
+) -> Result<Order, OrderFault>
+    ensures { Makes (trace_named large wad.now name.now word.now) result }
+{
+    match ray(word) {
+        Some(ray) => Ok(Order::Trace {
+            wad: source(alloc, large, wad)?,
+            map: upper_text(alloc, name)?,
+            ray,
+        }),
+        None => Err(OrderFault::Usage),
+    }
+}
+
+/// The way along a ray of a map.
+pub fn trace(alloc: Global, large: bool, rest: &[&str]) -> Result<Order, OrderFault>
+    ensures { Makes (trace_of large (map (λ s. s.now) rest.now)) result }
+{
+    match rest {
+        [wad, name, word] if may_name_file(wad) && may_name_map(name) => {
+            trace_named(alloc, large, wad, name, word)
+        }
+        _ => Err(OrderFault::Usage),
+    }
+}
+
+/// A map judged by a certificate.
+pub fn check(alloc: Global, large: bool, rest: &[&str]) -> Result<Order, OrderFault>
+    ensures { Makes (check_of large (map (λ s. s.now) rest.now)) result }
+{
+    match rest {
+        [wad, name, cert] if may_name_file(wad) && may_name_map(name) && may_name_file(cert) => {
+            Ok(Order::Check {
+                wad: source(alloc, large, wad)?,
+                map: upper_text(alloc, name)?,
+                cert: text(alloc, cert)?,
+            })
+        }
+        _ => Err(OrderFault::Usage),
+    }
+}
+
+/// The budget that a map needs.
+pub fn need(alloc: Global, large: bool, rest: &[&str]) -> Result<Order, OrderFault>
+    ensures { Makes (need_of large (map (λ s. s.now) rest.now)) result }
+{
+    match rest {
+        [wad, name] if may_name_file(wad) && may_name_map(name) => Ok(Order::Need {
+            wad: source(alloc, large, wad)?,
+            map: upper_text(alloc, name)?,
+        }),
+        _ => Err(OrderFault::Usage),
+    }
+}
+
+fn sound_named(
+    alloc: Global,
+    large: bool,
+    wad: &str,
+    name: &str,
+    first: &str,
+    second: &str,
+) -> Result<Order, OrderFault>
+    ensures { Makes (sound_named large wad.now name.now first.now second.now) result }
+{
+    match pair(first, second) {
+        Some(pair) => Ok(Order::Sound {
+            wad: source(alloc, large, wad)?,
+            map: upper_text(alloc, name)?,
+            pair: Some(pair),
+        }),
+        None => Err(OrderFault::Usage),
+    }
+}
+
+/// With no sectors, or with two.
+fn sound_with(
+    alloc: Global,
+    large: bool,
+    wad: &str,
+    name: &str,
+    sectors: &[&str],
+) -> Result<Order, OrderFault>
+    ensures { Makes (sound_with large wad.now name.now (map (λ s. s.now) sectors.now)) result }
+{
+    match sectors {
+        [] => Ok(Order::Sound {
+            wad: source(alloc, large, wad)?,
+            map: upper_text(alloc, name)?,
+            pair: None,
+        }),
+        [first, second] => sound_named(alloc, large, wad, name, first, second),
+        _ => Err(OrderFault::Usage),
+    }
+}
+
+/// The noise of a map, with no sectors or with two.
+pub fn sound(alloc: Global, large: bool, rest: &[&str]) -> Result<Order, OrderFault>
+    ensures { Makes (sound_of large (map (λ s. s.now) rest.now)) result }
+{
+    match rest {
+        [wad, name, sectors @ ..] if may_name_file(wad) && may_name_map(name) => {
+            sound_with(alloc, large, wad, name, sectors)
+        }
+        _ => Err(OrderFault::Usage),
+    }
+}

@@ -1,0 +1,13 @@
+-- One byte more of a string, and the last one.
+use Rattle.std.proofs.Common.{◌≡◌, ℕ, ◌+◌, ◌<◌, ◌≤◌, List, ◌++◌, length, get_or, take, sym, ap, ◌∙◌}
+use Rattle.std.specs.List.{flat_map}
+use Rattle.std.proofs.lemmas.List.{flat_map_more, take_all, take_more}
+
+-- the next byte
+pub bytes_more : (f : ℕ → List ℕ) (xs : List ℕ) (k d : ℕ) (begun old new : List ℕ) → k < length xs → old ≡ begun ++ flat_map f (take k xs) → new ≡ old ++ f (get_or xs k d) → new ≡ begun ++ flat_map f (take (k + 1) xs)
+bytes_more f xs k d begun old new lt before is =
+    is ∙ ap (λ (ys : List ℕ). ys ++ f (get_or xs k d)) before ∙ flat_map_more f begun (take k xs) (get_or xs k d) ∙ ap (λ ys. begun ++ flat_map f ys) (sym (take_more xs k d lt))
+
+-- behind the last one
+pub bytes_all : (f : ℕ → List ℕ) (xs : List ℕ) (k : ℕ) (begun new : List ℕ) → length xs ≤ k → new ≡ begun ++ flat_map f (take k xs) → new ≡ begun ++ flat_map f xs
+bytes_all f xs k begun new past is = is ∙ ap (λ ys. begun ++ flat_map f ys) (take_all k xs past)
