@@ -10,4 +10,5 @@ takes_no_value choice.Large = true
 takes_no_value choice.Faults = true
 takes_no_value choice.Heat = true
 takes_no_value choice.Exact = true
+takes_no_value choice.Json = true
 takes_no_value other = false

@@ -17,7 +17,7 @@ mod words;
 
 use answers::{answer, question_in};
 use map_answers::sight_status::put_refusal;
-use order_words::{Order, Source, Text, read_words};
+use order_words::{Order, ReportFile, Source, Text, read_words};
 use places::{WadAgain, byte_of, map_of};
 use progress::{Progress, refuses_size};
 use runs::run_words;
@@ -86,12 +86,19 @@ fn is_given_standard_output(file: &Option<Text>) -> bool {
     }
 }
 
+fn is_report_standard_output(report: &Option<ReportFile>) -> bool {
+    match report {
+        Some(report) => is_standard_output(report.file.as_str()),
+        None => false,
+    }
+}
+
 /// Whether some file that the order writes is the standard output.
 fn writes_to_standard_output(order: &Order) -> bool {
     match order {
         Order::Zero { out, .. } | Order::Draw { out, .. } => is_standard_output(out.as_str()),
         Order::Audit { report, .. } | Order::Verify { report, .. } | Order::Maps { report, .. } =>
-            is_given_standard_output(report),
+            is_report_standard_output(report),
         Order::Build {
             out,
             cert,
@@ -103,7 +110,7 @@ fn writes_to_standard_output(order: &Order) -> bool {
                 || is_given_standard_output(report)
         }
         Order::All { out, report, .. } => {
-            is_standard_output(out.as_str()) || is_given_standard_output(report)
+            is_standard_output(out.as_str()) || is_report_standard_output(report)
         }
         _ => false,
     }

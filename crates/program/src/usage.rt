@@ -59,6 +59,7 @@ struct Given {
     faults: bool,
     heat: bool,
     exact: bool,
+    json: bool,
 }
 
 impl Given {
@@ -75,6 +76,7 @@ impl Given {
             Choice::Faults => self.faults,
             Choice::Heat => self.heat,
             Choice::Exact => self.exact,
+            Choice::Json => self.json,
         }
     }
 
@@ -91,12 +93,18 @@ impl Given {
             Choice::Faults => self.faults = true,
             Choice::Heat => self.heat = true,
             Choice::Exact => self.exact = true,
+            Choice::Json => self.json = true,
         }
     }
 
     // What is drawn is of the map alone.
     fn is_of_map(&self) -> bool {
         self.faults || self.heat
+    }
+
+    // How a report is spelled is told, but no report is asked for yet.
+    fn wants_report(&self) -> bool {
+        self.json && !self.report
     }
 
     // How pairs of sectors are decided is told.
@@ -155,9 +163,12 @@ fn fits_choice(choice: Choice, word: &str) -> Result<(), Why> {
         Choice::Cert | Choice::Report => unless(may_name_file(word), Why::NoFile),
         Choice::Budget => unless(budget(word).is_some(), Why::NoBudget),
         Choice::Workers => unless(workers(word).is_some(), Why::NoWorkers),
-        Choice::Hexen | Choice::Large | Choice::Faults | Choice::Heat | Choice::Exact => {
-            Err(Why::TakesNone)
-        },
+        Choice::Hexen
+        | Choice::Large
+        | Choice::Faults
+        | Choice::Heat
+        | Choice::Exact
+        | Choice::Json => Err(Why::TakesNone),
     }
 }
 
@@ -199,6 +210,7 @@ impl Reader {
                 faults: false,
                 heat: false,
                 exact: false,
+                json: false,
             },
             waiting: None,
             is_closed: false,
@@ -282,7 +294,9 @@ impl Reader {
             return Some(entry_of(choice).map_or("", |entry| entry.value));
         }
         match self.verb {
-            Some(verb) if may_end(verb, self.filled, self.given) => None,
+            Some(verb) if may_end(verb, self.filled, self.given) => {
+                if self.given.wants_report() { Some("--report") } else { None }
+            }
             Some(verb) => Some(
                 verb.places
                     .get(self.filled)

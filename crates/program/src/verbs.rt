@@ -32,7 +32,7 @@ impl Place {
     }
 }
 
-/// An option; the last four take no value.
+/// An option; the last six take no value.
 #[derive(Clone, Copy, PartialEq, Eq)]
 pub enum Choice {
     Only,
@@ -46,6 +46,7 @@ pub enum Choice {
     Faults,
     Heat,
     Exact,
+    Json,
 }
 
 impl Choice {
@@ -55,7 +56,12 @@ impl Choice {
     {
         matches!(
             self,
-            Choice::Hexen | Choice::Large | Choice::Faults | Choice::Heat | Choice::Exact
+            Choice::Hexen
+                | Choice::Large
+                | Choice::Faults
+                | Choice::Heat
+                | Choice::Exact
+                | Choice::Json
         )
     }
 }
@@ -79,7 +85,7 @@ impl Entry {
 }
 
 /// All options, in the order of the synopses.
-pub static OPTIONS: [Entry; 11] = [
+pub static OPTIONS: [Entry; 12] = [
     Entry {
         choice: Choice::Only,
         name: "only",
@@ -103,6 +109,12 @@ pub static OPTIONS: [Entry; 11] = [
         name: "report",
         value: "FILE",
         about: "writes what came of each map, pair or fault to FILE",
+    },
+    Entry {
+        choice: Choice::Json,
+        name: "json",
+        value: "",
+        about: "writes each line of the report as a JSON object",
     },
     Entry {
         choice: Choice::Exact,
@@ -190,6 +202,7 @@ pub static VERBS: [Verb; 14] = [
             Choice::Only,
             Choice::Refused,
             Choice::Report,
+            Choice::Json,
             Choice::Exact,
             Choice::Budget,
             Choice::Workers,
@@ -225,7 +238,13 @@ pub static VERBS: [Verb; 14] = [
         name: "verify",
         places: &[Place::Wad],
         spare: &[],
-        choices: &[Choice::Only, Choice::Report, Choice::Workers, Choice::Large],
+        choices: &[
+            Choice::Only,
+            Choice::Report,
+            Choice::Json,
+            Choice::Workers,
+            Choice::Large,
+        ],
         purpose: "says how the tables of a WAD differ from the right ones",
         about: "Decides every pair of sectors of each map of the WAD, or of those that are\nnamed, and says how many bits of its own REJECT are wrong, so that monsters are\nblind, and how many are missing. Writes nothing but the report.",
     },
@@ -233,7 +252,7 @@ pub static VERBS: [Verb; 14] = [
         name: "maps",
         places: &[Place::Wad],
         spare: &[],
-        choices: &[Choice::Only, Choice::Report, Choice::Large],
+        choices: &[Choice::Only, Choice::Report, Choice::Json, Choice::Large],
         purpose: "lists the maps of a WAD, and what their tables hold",
         about: "Lists the maps of the WAD, or those that are named: of each its format, how many\nlines, points and sectors it has, how many bytes its REJECT has of those that it\nhas to have, and how many bits of it are set. Writes nothing but the report.",
     },
@@ -241,7 +260,7 @@ pub static VERBS: [Verb; 14] = [
         name: "audit",
         places: &[Place::Wad, Place::Map],
         spare: &[],
-        choices: &[Choice::Report, Choice::Large],
+        choices: &[Choice::Report, Choice::Json, Choice::Large],
         purpose: "says whether a map is sound, so that it can be built",
         about: "Says whether the map is sound: lines meet at ends alone, and each face is\nclosed. The report names every fault at its place.",
     },

@@ -4,6 +4,8 @@
 #[cfg(test)]
 mod grids;
 #[cfg(test)]
+mod json;
+#[cfg(test)]
 mod listening;
 #[cfg(test)]
 mod on_disk;

@@ -23,6 +23,7 @@ use Rattle.refused_maps.specs.declared.Refused.{Refused}
 use Rattle.refused_maps.specs.declared.Refused.TheVariants as refused
 use Rattle.refused_maps.specs.Stops.{Stops}
 use Rattle.order_words.specs.declared.order.Order.TheVariants as order
+use Rattle.order_words.specs.declared.order.ReportFile.{ReportFile}
 use Rattle.order_words.specs.declared.order.Source.{Source}
 use Rattle.order_words.specs.Words.{source_of}
 use Rattle.map_answers.specs.declared.sight_status.status.Flaw.TheVariants as flaw
@@ -46,7 +47,7 @@ use Rattle.whole_wad.proofs.Stopping.{word_spot}
 use Rattle.sight_run.specs.Obeys.{AnswersAsked}
 use Rattle.sight_run.specs.Reading.{found_of}
 use Rattle.sight_run.specs.Run.{put_all}
-use Rattle.sight_run.specs.Words.{asked_of}
+use Rattle.sight_run.specs.Words.{asked_of, file_in, spelling_in}
 use Rattle.sight_run.proofs.Round.{found_with, is_found, lump_same, passes, same_ok, was_spot}
 use Rattle.sight_run.proofs.Stood.{under_report}
 use Rattle.run_laws.specs.Headline.{AllIsExact, AllIsRight, IsSoundIn, LeavesClearReject, LeavesExactTable, LeavesRejects, LeavesRightReject, WasDone}
@@ -249,11 +250,11 @@ module _ (wad : Source) (files : Files) (w : WadFile) (method : Method) (is_wad 
 
 -- ---- all of it
 
-module _ (words : List (List ℕ)) (wad : Source) (out : List ℕ) (only : Option (List (List ℕ))) (report : Option (List ℕ)) (workers : ℕ) (method : Method) (choice : Refused) (files stand : Files) (is_asked : asked_of words ≡ Ok (order.All wad out only report workers method choice)) (done : WasDone words files stand)
+module _ (words : List (List ℕ)) (wad : Source) (out : List ℕ) (only : Option (List (List ℕ))) (report : Option ReportFile) (workers : ℕ) (method : Method) (choice : Refused) (files stand : Files) (is_asked : asked_of words ≡ Ok (order.All wad out only report workers method choice)) (done : WasDone words files stand)
     (IsRight : List ℕ → MapTable → Type 0) (right : (name : List ℕ) (made : MapTable) → IsLeft wad out method files stand name made → IsRight (word_of name) made) where
-  reported_under : (asked : Option (List ℕ)) (bytes : List ℕ) (ws : List Written) → IfSome asked (λ name. put_all files (report_behind asked bytes ws) name ≡ Some bytes)
-  reported_under None bytes ws = tt
-  reported_under (Some name) bytes ws = under_report files ws name bytes
+  reported_under : (asked : Option ReportFile) (os : List MapOutcome) (ws : List Written) → IfSome asked (λ (r : ReportFile). put_all files (report_behind (file_in asked) (report_of (spelling_in asked) os) ws) r.file ≡ Some (report_of r.spelling os))
+  reported_under None os ws = tt
+  reported_under (Some r) os ws = under_report files ws r.file (report_of r.spelling os)
 
   shown : (w : WadFile) (maps : List (List ℕ)) (answer : Answer) → wad_in wad.file files ≡ Ok w → maps_in (names_of w) only ≡ Ok maps → ShowsAll out report wad.large maps method choice w answer → stand ≡ put_all files answer.writes
       → done.sink.new.held ≡ option_map (λ held. held ++ answer.line) done.sink.old.held → LeavesRejects wad out only report choice files stand done.sink IsRight
@@ -270,7 +271,7 @@ module _ (words : List (List ℕ)) (wad : Source) (out : List ℕ) (only : Optio
         outcomes = q.outcomes;
         each = q.are.each;
         said = said ∙ ap (λ (a : Answer). option_map (λ held. held ++ a.line) done.sink.old.held) q.is;
-        reported = subst (λ (fs : Files). IfSome report (λ name. fs name ≡ Some (report_of q.outcomes))) (sym (left ∙ ap (λ (a : Answer). put_all files a.writes) q.is)) (reported_under report (report_of q.outcomes) (wad_output out q.bytes ∷ []));
+        reported = subst (λ (fs : Files). IfSome report (λ (r : ReportFile). fs r.file ≡ Some (report_of r.spelling q.outcomes))) (sym (left ∙ ap (λ (a : Answer). put_all files a.writes) q.is)) (reported_under report q.outcomes (wad_output out q.bytes ∷ []));
         built = all_so (ComesOf w wad.large method choice) (λ (o : MapOutcome). IsOk o.made ↔ IsSoundIn wad (word_of o.name) files) q.outcomes
             (λ o g. (sound_by wad files w method e (word_of o.name) (map_named wad.large w (word_of o.name)) o.made refl g.gets, built_by wad files w method e (word_of o.name) o.made g.gets)) q.are.comes;
         right = all_so (λ (o : MapOutcome). IfOk o.made (IsLeft wad out method files stand o.name)) (λ (o : MapOutcome). IfOk o.made (IsRight (word_of o.name))) q.outcomes

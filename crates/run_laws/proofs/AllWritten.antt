@@ -24,6 +24,7 @@ use Rattle.wad_dir.proofs.AllMaps.Merging.{all_spliced, each_change_is_made}
 use Rattle.wad_dir.specs.AllMaps.Spliced.{spliced}
 use Rattle.refused_maps.specs.declared.Refused.{Refused}
 use Rattle.order_words.specs.declared.order.Order.TheVariants as order
+use Rattle.order_words.specs.declared.order.ReportFile.{ReportFile}
 use Rattle.order_words.specs.declared.order.Source.{Source}
 use Rattle.map_answers.specs.declared.sight_status.status.Status.{Status}
 use Rattle.map_answers.specs.SightStatus.Answer.{Answer, ◌>>=◌}
@@ -41,7 +42,7 @@ use Rattle.run_laws.specs.Laws.{AllIsAsBuild, AllKeepsLumps, HasLengthOf, KeepsA
 use Rattle.sight_run.specs.Obeys.{AnswersAsked}
 use Rattle.sight_run.specs.Reading.{found_of, of_fetch}
 use Rattle.sight_run.specs.Run.{put_all}
-use Rattle.sight_run.specs.Words.{asked_of}
+use Rattle.sight_run.specs.Words.{asked_of, file_in, spelling_in}
 use Rattle.run_laws.proofs.Keeping.{stored}
 use Rattle.sight_run.proofs.Round.{passes, same_ok, was_found, was_wad}
 use Rattle.sight_run.proofs.Stood.{before_report, of_words, out_apart}
@@ -118,7 +119,7 @@ pub record WasWritten (out : List ℕ) (w : WadFile) (outcomes : List MapOutcome
   pub same : AllByRecursion (λ (c : Change). HasSameMap w new c.name) (changes_of outcomes)
   pub lumps : new.lumps ≡ spliced (names_of w) w.lumps 0 (changes_of outcomes)
 
-pub was_written : (words : List (List ℕ)) (wad : Source) (out : List ℕ) (only : Option (List (List ℕ))) (report : Option (List ℕ)) (workers : ℕ) (method : Method) (choice : Refused) (files : Files) (answer : Answer) (w : WadFile) (maps : List (List ℕ))
+pub was_written : (words : List (List ℕ)) (wad : Source) (out : List ℕ) (only : Option (List (List ℕ))) (report : Option ReportFile) (workers : ℕ) (method : Method) (choice : Refused) (files : Files) (answer : Answer) (w : WadFile) (maps : List (List ℕ))
     → asked_of words ≡ Ok (order.All wad out only report workers method choice) → wad_in wad.file files ≡ Ok w → maps_in (names_of w) only ≡ Ok maps
     → (q : ShowsAll out report wad.large maps method choice w answer) → WasWritten out w q.outcomes (put_all files answer.writes)
 was_written words wad out only report workers method choice files answer w maps is_asked e f q =
@@ -131,7 +132,7 @@ was_written words wad out only report workers method choice files answer w maps 
     let printed = printed_reads (with_all w cs) q.bytes (names_all w (with_all w cs) cs made (names_read old.bytes w old.read)) q.made in
     record {
       bytes = q.bytes;
-      stands = ap (λ (a : Answer). put_all files a.writes out) q.is ∙ before_report files (wad_output out q.bytes ∷ []) report (report_of q.outcomes) out (out_apart wad.file out None report (of_words words (order.All wad out only report workers method choice) is_asked)).1 ∙ stored files out q.bytes;
+      stands = ap (λ (a : Answer). put_all files a.writes out) q.is ∙ before_report files (wad_output out q.bytes ∷ []) (file_in report) (report_of (spelling_in report) q.outcomes) out (out_apart wad.file out None (file_in report) (of_words words (order.All wad out only report workers method choice) is_asked)).1 ∙ stored files out q.bytes;
       short = printed.short;
       new = with_all w cs;
       read = printed.read;

@@ -28,6 +28,7 @@ use Rattle.sight_run.specs.Draw.{DrawCalls}
 use Rattle.sight_run.specs.All.{AllCalls, MapsCall, OnRead}
 use Rattle.sight_run.specs.Build.{BuildCalls}
 use Rattle.sight_run.specs.Heard.{Heard}
+use Rattle.order_words.specs.declared.order.ReportFile.{ReportFile}
 use Rattle.refused_maps.specs.declared.Refused.{Refused}
 use Rattle.run_laws.specs.Laws.{AllIsDone, BuildIsDone, DrawnPairIsDone, EndsAll, EndsBuild, EndsPair, WhyIsDone}
 use Rattle.sight_run.specs.Obeys.{AnswersAsked, IsAnswer}
@@ -89,12 +90,12 @@ build_is_done words wad name out asked report workers method went found is_asked
 
 -- ---- all
 
-of_wad : (out : List ℕ) (report : Option (List ℕ)) (large : Bool) (maps : List (List ℕ)) (method : Method) (choice : Refused) (w : WadFile) (s : Status) → MapsCall out report large maps method choice w (Err s) → EndsAll large maps method choice w s
+of_wad : (out : List ℕ) (report : Option ReportFile) (large : Bool) (maps : List (List ℕ)) (method : Method) (choice : Refused) (w : WadFile) (s : Status) → MapsCall out report large maps method choice w (Err s) → EndsAll large maps method choice w s
 of_wad out report large maps method choice w status.Done q = tt
 of_wad out report large maps method choice w (status.Memory _) q = tt
 of_wad out report large maps method choice w s q = q
 
-all_right : (out : List ℕ) (report : Option (List ℕ)) (large : Bool) (maps : List (List ℕ)) (method : Method) (choice : Refused) (w : WadFile) (answer : Answer) → MapsCall out report large maps method choice w (Ok answer) → answer.right ≡ true
+all_right : (out : List ℕ) (report : Option ReportFile) (large : Bool) (maps : List (List ℕ)) (method : Method) (choice : Refused) (w : WadFile) (answer : Answer) → MapsCall out report large maps method choice w (Ok answer) → answer.right ≡ true
 all_right out report large maps method choice w answer q = ap (λ (a : Answer). a.right) q.is
 
 pub all_is_done : AllIsDone

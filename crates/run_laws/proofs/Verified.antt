@@ -18,6 +18,7 @@ use Rattle.wad_dir.specs.AllMaps.Names.{word_of}
 use Rattle.wad_dir.specs.Map.{spot_of}
 use Rattle.wad_dir.specs.Wad.{WadFile, names_of}
 use Rattle.order_words.specs.declared.order.Order.TheVariants as order
+use Rattle.order_words.specs.declared.order.ReportFile.{ReportFile}
 use Rattle.order_words.specs.declared.order.Source.{Source}
 use Rattle.map_answers.specs.declared.sight_status.status.Status.{Status}
 use Rattle.map_answers.specs.declared.sight_status.status.Status.TheVariants as status
@@ -175,7 +176,7 @@ ends_told words files stand heard before after sinks false h e = record {
   said = h.said ∙ ap (λ (l : List ℕ). option_map (λ held. held ++ l) sinks.old.held) h.ends.line_is;
 }
 
-module _ (wad : Source) (only : Option (List (List ℕ))) (report : Option (List ℕ)) (files stand : Files) (sink : Sinks) (right : Bool) where
+module _ (wad : Source) (only : Option (List (List ℕ))) (report : Option ReportFile) (files stand : Files) (sink : Sinks) (right : Bool) where
   verdicts_shown : (asked : AskedMaps) (answer : Answer) → asked_in wad.file only files ≡ Ok asked → ShowsVerify report wad.large asked answer → answer.right ≡ right → stand ≡ put_all files answer.writes
       → sink.new.held ≡ option_map (λ held. held ++ answer.line) sink.old.held → TellsRejects wad only report files stand sink right
   verdicts_shown asked answer e q is stands said =

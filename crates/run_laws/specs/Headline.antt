@@ -25,6 +25,7 @@ use Rattle.refused_maps.specs.declared.Refused.{Refused}
 use Rattle.refused_maps.specs.declared.Refused.TheVariants as refused
 use Rattle.refused_maps.specs.Stops.{Stops}
 use Rattle.order_words.specs.declared.order.Order.TheVariants as order
+use Rattle.order_words.specs.declared.order.ReportFile.{ReportFile}
 use Rattle.order_words.specs.declared.order.Source.{Source}
 use Rattle.order_words.specs.Words.{source_of}
 use Rattle.map_answers.specs.declared.sight_status.status.Status.TheVariants as status
@@ -176,7 +177,7 @@ pub record LeavesClearReject (wad : Source) (name out : List ℕ) (stand : Files
 -- There is one outcome for each map that was to be built, in order: a table where its faces are closed, and else a refusal. The line counts
 -- them, the report, where it is asked for, has a line for each, and of each that has a table this holds. Where clear tables are chosen for
 -- refused maps, each of them that its name finds in the WAD has one; where a refusal stops all, none is refused.
-pub record LeavesRejects (wad : Source) (out : List ℕ) (only : Option (List (List ℕ))) (report : Option (List ℕ)) (choice : Refused) (files stand : Files) (sink : Sinks) (IsRight : List ℕ → MapTable → Type 0) : Type 0 where
+pub record LeavesRejects (wad : Source) (out : List ℕ) (only : Option (List (List ℕ))) (report : Option ReportFile) (choice : Refused) (files stand : Files) (sink : Sinks) (IsRight : List ℕ → MapTable → Type 0) : Type 0 where
   pub w : WadFile
   pub was : wad_in wad.file files ≡ Ok w
   pub maps : List (List ℕ)
@@ -184,7 +185,7 @@ pub record LeavesRejects (wad : Source) (out : List ℕ) (only : Option (List (L
   pub outcomes : List MapOutcome
   pub each : map (λ (o : MapOutcome). o.name) outcomes ≡ maps
   pub said : sink.new.held ≡ option_map (λ held. held ++ tally_of choice outcomes) sink.old.held
-  pub reported : IfSome report (λ name. stand name ≡ Some (report_of outcomes))
+  pub reported : IfSome report (λ r. stand r.file ≡ Some (report_of r.spelling outcomes))
   pub built : AllByRecursion (λ (o : MapOutcome). IsOk o.made ↔ IsSoundIn wad (word_of o.name) files) outcomes
   pub right : AllByRecursion (λ (o : MapOutcome). IfOk o.made (IsRight (word_of o.name))) outcomes
   pub cleared : choice ≡ refused.Clear → AllByRecursion (λ (o : MapOutcome). IfErr o.made (λ refusal. (found : LocatedMap) → found_of wad (word_of o.name) files ≡ Ok found → LeavesClearReject wad (word_of o.name) out stand found.map)) outcomes
@@ -192,12 +193,12 @@ pub record LeavesRejects (wad : Source) (out : List ℕ) (only : Option (List (L
 
 -- Where `all` was done, the REJECT under OUT of each map that was built is as a `build` of it by the same method leaves it.
 abbrev pub AllIsRight : Type 0
-AllIsRight = (words : List (List ℕ)) (wad : Source) (out : List ℕ) (only : Option (List (List ℕ))) (report : Option (List ℕ)) (workers : ℕ) (method : Method) (choice : Refused) (files stand : Files)
+AllIsRight = (words : List (List ℕ)) (wad : Source) (out : List ℕ) (only : Option (List (List ℕ))) (report : Option ReportFile) (workers : ℕ) (method : Method) (choice : Refused) (files stand : Files)
     → asked_of words ≡ Ok (order.All wad out only report workers method choice)
     → (done : WasDone words files stand) → LeavesRejects wad out only report choice files stand done.sink (λ name made. LeavesRightReject wad name out method files stand)
 
 -- Where it decides every pair, a bit of each such REJECT is set exactly where the two sectors don't see each other, and none is listed.
 abbrev pub AllIsExact : Type 0
-AllIsExact = (words : List (List ℕ)) (wad : Source) (out : List ℕ) (only : Option (List (List ℕ))) (report : Option (List ℕ)) (workers : ℕ) (choice : Refused) (files stand : Files)
+AllIsExact = (words : List (List ℕ)) (wad : Source) (out : List ℕ) (only : Option (List (List ℕ))) (report : Option ReportFile) (workers : ℕ) (choice : Refused) (files stand : Files)
     → asked_of words ≡ Ok (order.All wad out only report workers how.Exact choice)
     → (done : WasDone words files stand) → LeavesRejects wad out only report choice files stand done.sink (λ name made. LeavesExactTable wad name out files stand × (made.listed ≡ []))

@@ -20,6 +20,7 @@ use Rattle.wad_dir.specs.AllMaps.Names.{word_of}
 use Rattle.wad_dir.specs.AllMaps.Spliced.{spliced}
 use Rattle.refused_maps.specs.declared.Refused.{Refused}
 use Rattle.order_words.specs.declared.order.Order.TheVariants as order
+use Rattle.order_words.specs.declared.order.ReportFile.{ReportFile}
 use Rattle.order_words.specs.declared.order.Source.{Source}
 use Rattle.order_words.specs.declared.order.View.{View}
 use Rattle.order_words.specs.declared.order.View.TheVariants as view
@@ -275,7 +276,7 @@ pub record KeepsAllLumps (wad : Source) (out : List ℕ) (only : Option (List (L
 
 -- Where `all` is answered, OUT holds such a WAD.
 abbrev pub AllKeepsLumps : Type 0
-AllKeepsLumps = (words : List (List ℕ)) (wad : Source) (out : List ℕ) (only : Option (List (List ℕ))) (report : Option (List ℕ)) (workers : ℕ) (method : Method) (choice : Refused) (files : Files) (heard : Heard) (answer : Answer)
+AllKeepsLumps = (words : List (List ℕ)) (wad : Source) (out : List ℕ) (only : Option (List (List ℕ))) (report : Option ReportFile) (workers : ℕ) (method : Method) (choice : Refused) (files : Files) (heard : Heard) (answer : Answer)
     → asked_of words ≡ Ok (order.All wad out only report workers method choice) → IsAnswer words files heard (Ok answer)
     → KeepsAllLumps wad out only method choice files (put_all files answer.writes)
 
@@ -328,7 +329,7 @@ EndsAll large maps method choice w refusal = IsUnmade w large maps method choice
 
 -- `all` of a WAD that is read ends so, where each name that is given is that of a map. Without names there is nothing to be found.
 abbrev pub AllIsDone : Type 0
-AllIsDone = (words : List (List ℕ)) (wad : Source) (out : List ℕ) (only : Option (List (List ℕ))) (report : Option (List ℕ)) (workers : ℕ) (method : Method) (choice : Refused) (went : Went) (w : WadFile) (maps : List (List ℕ))
+AllIsDone = (words : List (List ℕ)) (wad : Source) (out : List ℕ) (only : Option (List (List ℕ))) (report : Option ReportFile) (workers : ℕ) (method : Method) (choice : Refused) (went : Went) (w : WadFile) (maps : List (List ℕ))
     → asked_of words ≡ Ok (order.All wad out only report workers method choice) → wad_in wad.file went.files ≡ Ok w → maps_in (names_of w) only ≡ Ok maps
     → WentWell words went → EndsAll wad.large maps method choice w went.status
 

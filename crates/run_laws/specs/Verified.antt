@@ -14,6 +14,7 @@ use Rattle.shelf_io.specs.Shelf.{Files, ShelfState}
 use Rattle.wad_dir.specs.AllMaps.Names.{word_of}
 use Rattle.wad_dir.specs.Wad.{WadFile}
 use Rattle.order_words.specs.declared.order.Order.TheVariants as order
+use Rattle.order_words.specs.declared.order.ReportFile.{ReportFile}
 use Rattle.order_words.specs.declared.order.Source.{Source}
 use Rattle.map_answers.specs.declared.sight_status.status.Status.{Status}
 use Rattle.map_answers.specs.Input.{map_named}
@@ -35,7 +36,7 @@ use Rattle.sight_run.specs.Asked.{AskedMaps, asked_in}
 use Rattle.sight_run.specs.Build.{report_writes}
 use Rattle.sight_run.specs.Heard.{Heard}
 use Rattle.sight_run.specs.Run.{RunEnds, put_all}
-use Rattle.sight_run.specs.Words.{asked_of}
+use Rattle.sight_run.specs.Words.{asked_of, file_in, spelling_in}
 use Rattle.run_laws.specs.Laws.{Sinks}
 
 -- A run of these words over these files did what they ask, as `run` promises of it, and left those files: with Done, or with NotRight.
@@ -94,18 +95,18 @@ pub record IsRightReject (read : Result Map Status) (reject : List ℕ) : Type 0
 
 -- There is one verdict for each map that was asked for, in order. Nothing is written but the report, which has a line for each, and the
 -- line counts them. With Done each REJECT is right but those of maps that are told as refused.
-pub record TellsRejects (wad : Source) (only : Option (List (List ℕ))) (report : Option (List ℕ)) (files stand : Files) (sink : Sinks) (right : Bool) : Type 0 where
+pub record TellsRejects (wad : Source) (only : Option (List (List ℕ))) (report : Option ReportFile) (files stand : Files) (sink : Sinks) (right : Bool) : Type 0 where
   pub asked : AskedMaps
   pub are_asked : asked_in wad.file only files ≡ Ok asked
   pub verdicts : List MapVerdict
   pub each : map (λ (v : MapVerdict). v.name) verdicts ≡ asked.maps
   pub tells : AllByRecursion (λ (v : MapVerdict). TellsReject (map_named wad.large asked.wad (word_of v.name)) (reject_named asked.wad (word_of v.name)) v.said) verdicts
   pub said : sink.new.held ≡ option_map (λ held. held ++ tally_line (tally_of verdicts)) sink.old.held
-  pub stands : stand ≡ put_all files (report_writes report (report_of verdicts))
+  pub stands : stand ≡ put_all files (report_writes (file_in report) (report_of (spelling_in report) verdicts))
   pub right_is : right ≡ all_right (tally_of verdicts)
   pub blind : right ≡ true → AllByRecursion (λ (v : MapVerdict). IsOk v.said → IsRightReject (map_named wad.large asked.wad (word_of v.name)) (reject_named asked.wad (word_of v.name))) verdicts
 
 -- so it is where a `verify` did what it is asked
 abbrev pub VerifiedIsRight : Type 0
-VerifiedIsRight = (words : List (List ℕ)) (wad : Source) (only : Option (List (List ℕ))) (report : Option (List ℕ)) (workers : ℕ) (files stand : Files) (right : Bool)
+VerifiedIsRight = (words : List (List ℕ)) (wad : Source) (only : Option (List (List ℕ))) (report : Option ReportFile) (workers : ℕ) (files stand : Files) (right : Bool)
     → asked_of words ≡ Ok (order.Verify wad only report workers) → (ended : WasEnded words files stand right) → TellsRejects wad only report files stand ended.sink right

@@ -59,6 +59,9 @@ audit a MAP01 b | 4
 audit --large a MAP01 | -
 audit a MAP01 --large b | 5
 audit a MAP01 --report r --large | -
+audit a MAP01 --report r --json | -
+audit --json a MAP01 | --report
+audit --json a | MAP
 --report=r audit a MAP01 | -
 audit a MAP01 --report r --report c | 6
 audit a MAP01 --report '' | 5
@@ -187,6 +190,10 @@ check a MAP01 | CERT
 verify | WAD
 verify a | -
 verify a --large --only MAP01,MAP02 --report r --workers 8 | -
+--json verify a --report r | -
+verify a --json | --report
+verify a --json=true --report r | 3
+verify a --json --report r --json | 6
 --report=r verify a | -
 verify a b | 3
 verify '' | 2
@@ -200,6 +207,9 @@ verify a --workers 65 | 4
 maps | WAD
 maps a | -
 maps a --large --only MAP01,MAP02 --report r | -
+maps a --json --report=r | -
+maps a --report r --json --workers 4 | 6
+maps a --json --report | FILE
 --report=r maps a | -
 maps a b | 3
 maps '' | 2
@@ -215,6 +225,16 @@ help | 1
 -V | 1
 all a b --large | -
 all a b --large --only MAP01,MAP02 --report r | -
+all a b --report r --json --exact | -
+all a b --json --only MAP01 | --report
+build a MAP01 b --report r --json | 7
+--json build a MAP01 b | 2
+--json --cert c | 2
+check a MAP01 c --json | 5
+zero a MAP01 b --json | 5
+draw a MAP01 b --json | 5
+grid 2 --json | 3
+--json | VERB
 all a b --only map01,MAP02 | -
 all a b --only=MAP01 | -
 all a b --only MAP01, | 5
@@ -268,14 +288,14 @@ help paint | doomsight 1.1.0:
 paint --help | doomsight 1.1.0: 
 build a --version --help | doomsight 1.1.0
 build a -h -V | doomsight build WAD MAP OUT [--cert FILE] [--report FILE]
-audit a MAP01 -h | doomsight audit WAD MAP [--report FILE] [--large]
+audit a MAP01 -h | doomsight audit WAD MAP [--report FILE] [--json] [--large]
 help check | doomsight check WAD MAP CERT [--large]
-all --help | doomsight all WAD OUT [--only MAP,MAP] [--refused HOW] [--report FILE]
+all --help | doomsight all WAD OUT [--only MAP,MAP] [--refused HOW] [--report FILE] [--json]
 why --help | doomsight why WAD MAP A B [--exact | --budget N|full|enough] [--large]
 draw --help | doomsight draw WAD MAP OUT [A [B [--exact | --budget N|full|enough]] | --faults
 help sound -V | doomsight sound WAD MAP [A B] [--large]
-verify --help | doomsight verify WAD [--only MAP,MAP] [--report FILE] [--workers N]
-help maps | doomsight maps WAD [--only MAP,MAP] [--report FILE] [--large]
+verify --help | doomsight verify WAD [--only MAP,MAP] [--report FILE] [--json] [--workers N]
+help maps | doomsight maps WAD [--only MAP,MAP] [--report FILE] [--json] [--large]
 grid --help | doomsight grid N [--exact | --budget N|full|enough] [--workers N] [--hexen]
 sound -- --help | 
 -- help | 
@@ -309,6 +329,7 @@ doomsight VERB WORDS.. [OPTIONS]
   maps   lists the maps of a WAD, and what their tables hold
   --only MAP,MAP          takes these maps; else all of the WAD
   --faults                draws what audit refuses, in place of A and B
+  --json                  writes each line of the report as a JSON object
   -h, --help              this help, or behind a verb that of the verb
   -V, --version           the version
 ";

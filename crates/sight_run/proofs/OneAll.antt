@@ -7,6 +7,7 @@ use Rattle.sight_names.specs.declared.names.Method.{Method}
 use Rattle.wad_dir.specs.Wad.{WadFile, names_of}
 use Rattle.wad_dir.specs.AllMaps.All.{HasInOrder}
 use Rattle.wad_dir.specs.AllMaps.Maps.{maps_of}
+use Rattle.order_words.specs.declared.order.ReportFile.{ReportFile}
 use Rattle.refused_maps.specs.declared.Refused.{Refused}
 use Rattle.refused_maps.specs.Stops.{Stops}
 use Rattle.map_answers.specs.declared.sight_status.status.Bound.TheVariants as bound
@@ -24,14 +25,15 @@ use Rattle.whole_wad.specs.Whole.{IsAboveLimit, MakesWhole, ShowsWhole, written_
 use Rattle.whole_wad.proofs.OneOutcome.{none_stops, one_stop, outcomes_are_one}
 use Rattle.sight_run.specs.All.{IsTooMuch, IsUnmade, MapsCall, ShowsAll, all_writes, of_unmade, tally_line, tally_of}
 use Rattle.sight_run.specs.Run.{IsOfStop}
+use Rattle.sight_run.specs.Words.{file_in, spelling_in}
 use Rattle.sight_run.proofs.Round.{same_ok}
 use Rattle.whole_wad.proofs.Stopping.{IsOfMap, stop_of_map}
 
 -- what is written of the maps of a WAD, and why it isn't
-answered : List ℕ → Option (List ℕ) → Refused → List ℕ → List MapOutcome → Answer
-answered out reported choice bytes os = record { writes = all_writes out bytes reported (report_of os); line = tally_of choice os; right = true }
+answered : List ℕ → Option ReportFile → Refused → List ℕ → List MapOutcome → Answer
+answered out reported choice bytes os = record { writes = all_writes out bytes (file_in reported) (report_of (spelling_in reported) os); line = tally_of choice os; right = true }
 
-module _ (out : List ℕ) (reported : Option (List ℕ)) (large : Bool) (maps : List (List ℕ)) (method : Method) (choice : Refused) (w : WadFile) where
+module _ (out : List ℕ) (reported : Option ReportFile) (large : Bool) (maps : List (List ℕ)) (method : Method) (choice : Refused) (w : WadFile) where
   -- two lists of what comes of the maps are written alike
   alike : (ones others : List MapOutcome) → AreOutcomes w large maps method choice ones → AreOutcomes w large maps method choice others → (r s : Result (List ℕ) RewriteFault) → written_of w ones ≡ r → written_of w others ≡ s → r ≡ s
   alike ones others h k r s e f = sym e ∙ ap (written_of w) (outcomes_are_one w large maps method choice ones others h k) ∙ f
@@ -92,14 +94,14 @@ module _ (out : List ℕ) (reported : Option (List ℕ)) (large : Bool) (maps : 
   the_answer r called = record { called = called; only = λ sole other q. one_answer r other called q }
 
   -- what was made of the WAD is what is answered
-  pub the_whole : (whole : WholeWad) (answer : Answer) → ShowsWhole w large maps method choice whole
-      → answer ≡ record { writes = all_writes out whole.bytes.items reported (string_bytes whole.report); line = tally_line choice whole.maps whole.built whole.refused whole.cleared; right = true } → IsTheAnswer ⊤ (MapsCall out reported large maps method choice w) (Ok answer)
+  pub the_whole : (whole : WholeWad) (answer : Answer) → ShowsWhole w large maps method choice (spelling_in reported) whole
+      → answer ≡ record { writes = all_writes out whole.bytes.items (file_in reported) (string_bytes whole.report); line = tally_line choice whole.maps whole.built whole.refused whole.cleared; right = true } → IsTheAnswer ⊤ (MapsCall out reported large maps method choice w) (Ok answer)
   the_whole whole answer h is = the_answer (Ok answer) (record {
     outcomes = h.outcomes;
     are = h.are;
     bytes = whole.bytes.items;
     made = h.shows.bytes;
-    is = is ∙ (λ i. record { writes = all_writes out whole.bytes.items reported (h.shows.report_is i); line = tally_line choice (h.shows.maps i) (h.shows.built i) (h.shows.refused i) (h.shows.cleared i); right = true });
+    is = is ∙ (λ i. record { writes = all_writes out whole.bytes.items (file_in reported) (h.shows.report_is i); line = tally_line choice (h.shows.maps i) (h.shows.built i) (h.shows.refused i) (h.shows.cleared i); right = true });
   })
 
   -- ---- the status where nothing is made
@@ -109,7 +111,7 @@ module _ (out : List ℕ) (reported : Option (List ℕ)) (large : Bool) (maps : 
   of_call (status.ReadFault k) h = tt
   of_call s h = the_answer (Err s) h
 
-  pub the_unmade : (u : Unmade) → MakesWhole w large maps method choice (Err u) → Gives ⊤ (MapsCall out reported large maps method choice w) (Err (of_unmade u))
+  pub the_unmade : (u : Unmade) → MakesWhole w large maps method choice (spelling_in reported) (Err u) → Gives ⊤ (MapsCall out reported large maps method choice w) (Err (of_unmade u))
   the_unmade (unmade.Stopped refusal) h = of_call refusal (inl h)
   the_unmade (unmade.Unwritten (rewrite.Memory _)) h = tt
   the_unmade (unmade.Unwritten rewrite.TooManyLumps) h = of_call (status.Limit bound.Lumps) (inr h)
@@ -127,7 +129,7 @@ module _ (out : List ℕ) (reported : Option (List ℕ)) (large : Bool) (maps : 
   stopped_so (status.Memory _) h stops = tt
   stopped_so s h stops = absurd h
 
-  pub unmade_so : (u : Unmade) → HasInOrder (maps_of (names_of w)) maps → MakesWhole w large maps method choice (Err u) → IsOfStop choice (of_unmade u)
+  pub unmade_so : (u : Unmade) → HasInOrder (maps_of (names_of w)) maps → MakesWhole w large maps method choice (spelling_in reported) (Err u) → IsOfStop choice (of_unmade u)
   unmade_so (unmade.Stopped refusal) among h = let k = stop_of_map w large method choice refusal maps among h in stopped_so refusal k.1 k.0
   unmade_so (unmade.Unwritten (rewrite.Memory _)) among h = tt
   unmade_so (unmade.Unwritten rewrite.TooManyLumps) among h = tt

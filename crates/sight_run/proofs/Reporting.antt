@@ -4,6 +4,7 @@ use Rattle.std.specs.Prelude.{IfErr, IfOk, ⊤, string_bytes}
 use Rattle.std.specs.Result.{IsErr}
 use Rattle.order_words.specs.declared.order.Order.{Order}
 use Rattle.order_words.specs.declared.order.Order.TheVariants as order
+use Rattle.order_words.specs.declared.order.ReportFile.{ReportFile}
 use Rattle.order_words.specs.declared.order.Source.{Source}
 use Rattle.sight_names.specs.Map.{Map}
 use Rattle.map_answers.specs.declared.sight_status.status.Flaw.{Flaw}
@@ -44,23 +45,23 @@ only_memory P (Err s) p h = subst P (sym h) p
 found_is_ok : (found : LocatedMap) → IsErr {T = LocatedMap} {E = Status} (Ok found) → ⊥
 found_is_ok found h = cc
 
-gives_reported : (out : List ℕ) (found : LocatedMap) (r : Result Reply Status) → IfOk r (λ (reply : Reply). ShowsAudit out found.map (replied reply)) → IfErr r (λ (s : Status). s ≡ status.Memory tt)
+gives_reported : (out : ReportFile) (found : LocatedMap) (r : Result Reply Status) → IfOk r (λ (reply : Reply). ShowsAudit out found.map (replied reply)) → IfErr r (λ (s : Status). s ≡ status.Memory tt)
     → Gives (IsErr {T = LocatedMap} {E = Status} (Ok found)) (ReportCalls out found.map) (reply_seen r)
 gives_reported out found (Ok reply) shows e = record { called = shows; only = λ err. absurd (found_is_ok found err) }
 gives_reported out found (Err s) shows e = subst (λ (x : Status). Gives (IsErr {T = LocatedMap} {E = Status} (Ok found)) (ReportCalls out found.map) (Err x)) (sym e) tt
 
-report_written : (wad : Source) (name report : List ℕ) (r : Result Reply Status) → IfOk r (λ (reply : Reply). roles_of (writes reply) ≡ role.Report ∷ [])
+report_written : (wad : Source) (name : List ℕ) (report : ReportFile) (r : Result Reply Status) → IfOk r (λ (reply : Reply). roles_of (writes reply) ≡ role.Report ∷ [])
     → IfOk r (λ (reply : Reply). WritesEach (order.Audit wad name (Some report)) (roles_of (writes reply)))
 report_written wad name report (Ok reply) h = subst (WritesEach (order.Audit wad name (Some report))) (sym h) (tt, tt)
 report_written wad name report (Err s) h = tt
 
 -- the report tells more than whether all is right
-any_right : (wad : Source) (name report : List ℕ) (r : Result Reply Status) → IfOk r (λ (reply : Reply). EndsRight (order.Audit wad name (Some report)) reply.right)
+any_right : (wad : Source) (name : List ℕ) (report : ReportFile) (r : Result Reply Status) → IfOk r (λ (reply : Reply). EndsRight (order.Audit wad name (Some report)) reply.right)
 any_right wad name report (Ok reply) = tt
 any_right wad name report (Err s) = tt
 
 -- all that is owed of an audit of a map that was found
-abbrev pub IsReported : Source → List ℕ → Option (List ℕ) → LocatedMap → Result Reply Status → Type 0
+abbrev pub IsReported : Source → List ℕ → Option ReportFile → LocatedMap → Result Reply Status → Type 0
 IsReported wad name report found r = record {
   called : (files : Files) (heard : Heard) → Gives (HasOneOn (order.Audit wad name report) (Ok found)) (CallsOn (order.Audit wad name report) files heard found) (reply_seen r);
   refusals : IfErr r (IsOfOrder (order.Audit wad name report));
@@ -70,7 +71,7 @@ IsReported wad name report found r = record {
   right : IfOk r (λ (reply : Reply). EndsRight (order.Audit wad name report) reply.right);
 }
 
-pub reported : (wad : Source) (name report : List ℕ) (found : LocatedMap) (r : Result Reply Status) → IfOk r (λ (reply : Reply). ShowsAudit report found.map (replied reply)) → IfErr r (λ (s : Status). s ≡ status.Memory tt)
+pub reported : (wad : Source) (name : List ℕ) (report : ReportFile) (found : LocatedMap) (r : Result Reply Status) → IfOk r (λ (reply : Reply). ShowsAudit report found.map (replied reply)) → IfErr r (λ (s : Status). s ≡ status.Memory tt)
     → IfOk r (λ (reply : Reply). roles_of (writes reply) ≡ role.Report ∷ []) → IsReported wad name (Some report) found r
 reported wad name report found r shows memory roles = record {
   called = λ files heard. gives_reported report found r shows memory;
@@ -82,7 +83,7 @@ reported wad name report found r shows memory roles = record {
 }
 
 -- .. and of its line, where no report is asked for
-pub line_audit : (wad : Source) (name : List ℕ) (report : Option (List ℕ)) (found : LocatedMap) (said : Result Answer Status) → IsOfLine (order.Audit wad name report) → Gives ⊤ (AuditCalls found.map) said
+pub line_audit : (wad : Source) (name : List ℕ) (report : Option ReportFile) (found : LocatedMap) (said : Result Answer Status) → IsOfLine (order.Audit wad name report) → Gives ⊤ (AuditCalls found.map) said
     → (files : Files) (heard : Heard) → Gives (HasOneOn (order.Audit wad name report) (Ok found)) (CallsOn (order.Audit wad name report) files heard found) said
 line_audit wad name None found said line h files heard = h
 line_audit wad name (Some report) found said line h files heard = absurd line

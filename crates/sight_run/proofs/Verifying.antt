@@ -6,6 +6,7 @@ use Rattle.shelf_io.specs.Shelf.{Files}
 use Rattle.wad_dir.specs.Wad.{WadFile, names_of}
 use Rattle.order_words.specs.declared.order.Order.{Order}
 use Rattle.order_words.specs.declared.order.Order.TheVariants as order
+use Rattle.order_words.specs.declared.order.ReportFile.{ReportFile}
 use Rattle.order_words.specs.declared.order.Source.{Source}
 use Rattle.map_answers.specs.declared.sight_status.status.Bound.TheVariants as bound
 use Rattle.map_answers.specs.declared.sight_status.status.Role.TheVariants as role
@@ -25,6 +26,7 @@ use Rattle.sight_run.specs.declared.reply.Reply.{Reply}
 use Rattle.sight_run.specs.Reply.{asked_seen, roles_of, writes}
 use Rattle.sight_run.specs.Run.{EndsRight, IsOfAsked, IsOfOrder, IsOfReading, IsOfWhole}
 use Rattle.sight_run.specs.Verify.{ShowsVerify}
+use Rattle.sight_run.specs.Words.{file_in, spelling_in}
 use Rattle.sight_run.proofs.Whole.{gives_unread}
 
 -- ---- the maps
@@ -91,17 +93,17 @@ verify_read said asked Called answer read called =
     subst (λ (r : Result AskedMaps Status). IsTheAnswer (IsErr r) (OnRead r Called) (Ok answer)) (sym read) (record { called = called; only = λ err. absurd (no_err asked err) })
 
 -- what is said of the maps is what is answered
-pub verify_shows : (reported : Option (List ℕ)) (large : Bool) (asked : AskedMaps) (given : WadVerdict) (answer : Answer) → ShowsVerdicts asked.wad large asked.maps given
-    → answer ≡ record { writes = report_writes reported (string_bytes given.report); line = tally_line given.tally; right = all_right given.tally } → ShowsVerify reported large asked answer
+pub verify_shows : (reported : Option ReportFile) (large : Bool) (asked : AskedMaps) (given : WadVerdict) (answer : Answer) → ShowsVerdicts asked.wad large asked.maps (spelling_in reported) given
+    → answer ≡ record { writes = report_writes (file_in reported) (string_bytes given.report); line = tally_line given.tally; right = all_right given.tally } → ShowsVerify reported large asked answer
 verify_shows reported large asked given answer h is = record {
   verdicts = h.verdicts;
   are = h.are;
-  is = is ∙ (λ i. record { writes = report_writes reported (h.report i); line = tally_line (h.tally i); right = all_right (h.tally i) });
+  is = is ∙ (λ i. record { writes = report_writes (file_in reported) (h.report i); line = tally_line (h.tally i); right = all_right (h.tally i) });
 }
 
 -- ---- by the order
 
-of_order : (wad : Source) (only : Option (List (List ℕ))) (report : Option (List ℕ)) (workers : ℕ) (s : Status) → IsOfAsked only s → IsOfOrder (order.Verify wad only report workers) s
+of_order : (wad : Source) (only : Option (List (List ℕ))) (report : Option ReportFile) (workers : ℕ) (s : Status) → IsOfAsked only s → IsOfOrder (order.Verify wad only report workers) s
 of_order wad only report workers (status.NoFile role.Wad) h = tt
 of_order wad only report workers (status.ReadFault role.Wad) h = tt
 of_order wad only report workers (status.NotWad fault) h = tt
@@ -111,15 +113,15 @@ of_order wad only report workers (status.Limit bound.Lumps) h = tt
 of_order wad only report workers (status.Memory _) h = tt
 of_order wad only report workers s h = absurd h
 
-pub verify_refusals : {V : Type 0} (wad : Source) (only : Option (List (List ℕ))) (report : Option (List ℕ)) (workers : ℕ) (r : Result V Status) → IfErr r (IsOfAsked only) → IfErr r (IsOfOrder (order.Verify wad only report workers))
+pub verify_refusals : {V : Type 0} (wad : Source) (only : Option (List (List ℕ))) (report : Option ReportFile) (workers : ℕ) (r : Result V Status) → IfErr r (IsOfAsked only) → IfErr r (IsOfOrder (order.Verify wad only report workers))
 verify_refusals wad only report workers (Ok v) h = tt
 verify_refusals wad only report workers (Err s) h = of_order wad only report workers s h
 
-report_written : (wad : Source) (only : Option (List (List ℕ))) (report : Option (List ℕ)) (workers : ℕ) → WritesEach (order.Verify wad only report workers) (report_roles report)
+report_written : (wad : Source) (only : Option (List (List ℕ))) (report : Option ReportFile) (workers : ℕ) → WritesEach (order.Verify wad only report workers) (report_roles (file_in report))
 report_written wad only None workers = tt
 report_written wad only (Some name) workers = (tt, tt)
 
-pub verify_written : (wad : Source) (only : Option (List (List ℕ))) (report : Option (List ℕ)) (workers : ℕ) (r : Result Reply Status) → IfOk r (λ (reply : Reply). roles_of (writes reply) ≡ report_roles report)
+pub verify_written : (wad : Source) (only : Option (List (List ℕ))) (report : Option ReportFile) (workers : ℕ) (r : Result Reply Status) → IfOk r (λ (reply : Reply). roles_of (writes reply) ≡ report_roles (file_in report))
     → IfOk r (λ (reply : Reply). WritesEach (order.Verify wad only report workers) (roles_of (writes reply)))
 verify_written wad only report workers (Ok reply) h = subst (WritesEach (order.Verify wad only report workers)) (sym h) (report_written wad only report workers)
 verify_written wad only report workers (Err s) h = tt

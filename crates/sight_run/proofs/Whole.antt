@@ -14,6 +14,7 @@ use Rattle.wad_dir.specs.AllMaps.Maps.{maps_of}
 use Rattle.wad_dir.proofs.AllMaps.AskedMaps.{asked_in_order}
 use Rattle.refused_maps.specs.declared.Refused.{Refused}
 use Rattle.order_words.specs.declared.order.Order.TheVariants as order
+use Rattle.order_words.specs.declared.order.ReportFile.{ReportFile}
 use Rattle.order_words.specs.declared.order.Source.{Source}
 use Rattle.map_answers.specs.declared.sight_status.status.Bound.TheVariants as bound
 use Rattle.map_answers.specs.declared.sight_status.status.Role.TheVariants as role
@@ -29,6 +30,7 @@ use Rattle.sight_run.specs.Reading.{of_fetch}
 use Rattle.sight_run.specs.declared.reply.Reply.{Reply}
 use Rattle.sight_run.specs.Reply.{roles_of, writes}
 use Rattle.sight_run.specs.Run.{Cause, IsOfAll, IsOfOrder, IsOfStop, IsOfWhole, RefusalCause}
+use Rattle.sight_run.specs.Words.{file_in}
 use Rattle.sight_run.proofs.Round.{same_ok}
 
 -- ---- the WAD in a file
@@ -150,7 +152,7 @@ pub stop_cause : {V : Type 0} (choice : Refused) (old new : ShelfState) (r : Res
 stop_cause choice old new (Ok v) h same = same
 stop_cause choice old new (Err s) h same = unexplained choice old new s h same
 
-of_order : (wad : Source) (out : List ℕ) (only : Option (List (List ℕ))) (report : Option (List ℕ)) (workers : ℕ) (method : Method) (choice : Refused) (s : Status) → IsOfAll only choice s → IsOfOrder (order.All wad out only report workers method choice) s
+of_order : (wad : Source) (out : List ℕ) (only : Option (List (List ℕ))) (report : Option ReportFile) (workers : ℕ) (method : Method) (choice : Refused) (s : Status) → IsOfAll only choice s → IsOfOrder (order.All wad out only report workers method choice) s
 of_order wad out only report workers method choice (status.NoFile role.Wad) h = tt
 of_order wad out only report workers method choice (status.ReadFault role.Wad) h = tt
 of_order wad out only report workers method choice (status.NotWad fault) h = tt
@@ -169,15 +171,15 @@ of_order wad out only report workers method choice (status.Limit bound.Sides) h 
 of_order wad out only report workers method choice (status.Memory _) h = tt
 of_order wad out only report workers method choice s h = absurd h
 
-pub all_refusals : {V : Type 0} (wad : Source) (out : List ℕ) (only : Option (List (List ℕ))) (report : Option (List ℕ)) (workers : ℕ) (method : Method) (choice : Refused) (r : Result V Status) → IfErr r (IsOfAll only choice) → IfErr r (IsOfOrder (order.All wad out only report workers method choice))
+pub all_refusals : {V : Type 0} (wad : Source) (out : List ℕ) (only : Option (List (List ℕ))) (report : Option ReportFile) (workers : ℕ) (method : Method) (choice : Refused) (r : Result V Status) → IfErr r (IsOfAll only choice) → IfErr r (IsOfOrder (order.All wad out only report workers method choice))
 all_refusals wad out only report workers method choice (Ok v) h = tt
 all_refusals wad out only report workers method choice (Err s) h = of_order wad out only report workers method choice s h
 
-all_written : (wad : Source) (out : List ℕ) (only : Option (List (List ℕ))) (report : Option (List ℕ)) (workers : ℕ) (method : Method) (choice : Refused) → WritesEach (order.All wad out only report workers method choice) (all_roles report)
+all_written : (wad : Source) (out : List ℕ) (only : Option (List (List ℕ))) (report : Option ReportFile) (workers : ℕ) (method : Method) (choice : Refused) → WritesEach (order.All wad out only report workers method choice) (all_roles (file_in report))
 all_written wad out only None workers method choice = (tt, tt)
 all_written wad out only (Some name) workers method choice = (tt, (tt, tt))
 
-pub each_written : (wad : Source) (out : List ℕ) (only : Option (List (List ℕ))) (report : Option (List ℕ)) (workers : ℕ) (method : Method) (choice : Refused) (r : Result Reply Status) → IfOk r (λ (reply : Reply). roles_of (writes reply) ≡ all_roles report)
+pub each_written : (wad : Source) (out : List ℕ) (only : Option (List (List ℕ))) (report : Option ReportFile) (workers : ℕ) (method : Method) (choice : Refused) (r : Result Reply Status) → IfOk r (λ (reply : Reply). roles_of (writes reply) ≡ all_roles (file_in report))
     → IfOk r (λ (reply : Reply). WritesEach (order.All wad out only report workers method choice) (roles_of (writes reply)))
 each_written wad out only report workers method choice (Ok reply) h = subst (WritesEach (order.All wad out only report workers method choice)) (sym h) (all_written wad out only report workers method choice)
 each_written wad out only report workers method choice (Err s) h = tt

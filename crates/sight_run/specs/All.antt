@@ -5,6 +5,7 @@ use Rattle.sight_names.specs.declared.limits.TheConstants.{MOST_BYTES}
 use Rattle.sight_names.specs.declared.faults.MapFault.{MapFault}
 use Rattle.sight_names.specs.declared.faults.RewriteFault.TheVariants as rewrite
 use Rattle.sight_names.specs.declared.names.Method.{Method}
+use Rattle.order_words.specs.declared.order.ReportFile.{ReportFile}
 use Rattle.refused_maps.specs.declared.Refused.{Refused}
 use Rattle.refused_maps.specs.declared.Refused.TheVariants as refused
 use Rattle.shelf_io.specs.Shelf.{Files, content_of}
@@ -26,6 +27,7 @@ use Rattle.whole_wad.specs.Stop.{StopsAt}
 use Rattle.whole_wad.specs.Whole.{IsAboveLimit, written_of}
 use Rattle.sight_run.specs.Build.{report_behind, report_roles, wad_output}
 use Rattle.sight_run.specs.Reading.{of_fetch}
+use Rattle.sight_run.specs.Words.{file_in, spelling_in}
 
 -- the WAD in the file of this name, or the first check that fails
 unfoldable pub wad_in : List ℕ → Files → Result WadFile Status
@@ -71,12 +73,12 @@ all_roles reported = role.Wad ∷ report_roles reported
 -- A map gets its table exactly where it is within the limits that are asked for and sound, and else is refused by the first check that fails.
 -- OUT is the WAD with these tables, and with clear ones where those are chosen for refused maps that were read. The report says of each map its
 -- counts or its refusal, and the line counts them.
-pub record ShowsAll (out : List ℕ) (reported : Option (List ℕ)) (large : Bool) (maps : List (List ℕ)) (method : Method) (choice : Refused) (w : WadFile) (answer : Answer) : Type 0 where
+pub record ShowsAll (out : List ℕ) (reported : Option ReportFile) (large : Bool) (maps : List (List ℕ)) (method : Method) (choice : Refused) (w : WadFile) (answer : Answer) : Type 0 where
   pub outcomes : List MapOutcome
   pub are : AreOutcomes w large maps method choice outcomes
   pub bytes : List ℕ
   pub made : written_of w outcomes ≡ Ok bytes
-  pub is : answer ≡ record { writes = all_writes out bytes reported (report_of outcomes); line = tally_of choice outcomes; right = true }
+  pub is : answer ≡ record { writes = all_writes out bytes (file_in reported) (report_of (spelling_in reported) outcomes); line = tally_of choice outcomes; right = true }
 
 -- the WAD with all tables is above a limit
 abbrev pub IsTooMuch : WadFile → Bool → List (List ℕ) → Method → Refused → Status → Type 0
@@ -96,10 +98,10 @@ abbrev pub IsUnmade : WadFile → Bool → List (List ℕ) → Method → Refuse
 IsUnmade w large maps method choice refusal = StopsAt w large method choice refusal maps ⊎ IsTooMuch w large maps method choice refusal
 
 -- the answer that is called for where these maps are to be built
-abbrev pub MapsCall : List ℕ → Option (List ℕ) → Bool → List (List ℕ) → Method → Refused → WadFile → Result Answer Status → Type 0
+abbrev pub MapsCall : List ℕ → Option ReportFile → Bool → List (List ℕ) → Method → Refused → WadFile → Result Answer Status → Type 0
 MapsCall out reported large maps method choice w (Ok answer) = ShowsAll out reported large maps method choice w answer
 MapsCall out reported large maps method choice w (Err refusal) = IsUnmade w large maps method choice refusal
 
 -- The answer that `all` calls for. Where names are given, the maps of these names alone are built; all other lumps stay.
-abbrev pub AllCalls : List ℕ → Bool → Option (List (List ℕ)) → Option (List ℕ) → Method → Refused → WadFile → Result Answer Status → Type 0
+abbrev pub AllCalls : List ℕ → Bool → Option (List (List ℕ)) → Option ReportFile → Method → Refused → WadFile → Result Answer Status → Type 0
 AllCalls out large only reported method choice w answer = OnRead (maps_in (names_of w) only) (λ maps. MapsCall out reported large maps method choice w) answer

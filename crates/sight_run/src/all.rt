@@ -11,14 +11,15 @@ ghost use Rattle.map_answers.specs.SightStatus.Answer.{Gives};
 ghost use Rattle.sight_run.specs.All.{AllCalls, MapsCall, OnRead, all_roles, all_writes, cleared_words, of_unmade, tally_line, wad_in};
 ghost use Rattle.sight_run.specs.Reply.{replied, reply_seen, roles_of, writes};
 ghost use Rattle.sight_run.specs.Run.{Cause, IsOfAll, IsOfStop};
+ghost use Rattle.sight_run.specs.Words.{file_in};
 
 use crate::asked::asked_maps;
 use crate::input::fetch_wad;
-use crate::reply::{Bytes, Reply, push_output};
+use crate::reply::{Bytes, Reply, push_output, spelling_in};
 use group_job::sight_workers::Gate;
 use map_answers::directory;
 use map_answers::sight_status::{Bound, Role, Status, push_count};
-use order_words::{Source, Text};
+use order_words::{ReportFile, Source, Text};
 use refused_maps::Refused;
 use shelf_io::Shelf;
 use sight_names::{Items, Method, RewriteFault};
@@ -58,13 +59,13 @@ fn line_of(alloc: Global, refused: Refused, whole: &WholeWad) -> Result<String, 
 fn reply_of(
     alloc: Global,
     out: &str,
-    report: &Option<Text>,
+    report: &Option<ReportFile>,
     refused: Refused,
     whole: WholeWad,
 ) -> Result<Reply, AllocError>
-    ensures reply { IfOk result (λ reply. replied reply ≡ record { writes = all_writes out.now whole.bytes.items report.now (string_bytes whole.report); line = tally_line refused whole.maps whole.built whole.refused whole.cleared; right = true }) }
+    ensures reply { IfOk result (λ reply. replied reply ≡ record { writes = all_writes out.now whole.bytes.items (file_in report.now) (string_bytes whole.report); line = tally_line refused whole.maps whole.built whole.refused whole.cleared; right = true }) }
     ensures right { IfOk result (λ reply. reply.right ≡ true) }
-    ensures roles { IfOk result (λ reply. roles_of (writes reply) ≡ all_roles report.now) }
+    ensures roles { IfOk result (λ reply. roles_of (writes reply) ≡ all_roles (file_in report.now)) }
 {
     let line = line_of(alloc, refused, &whole)?;
     let mut outputs = Vec::new(alloc);
@@ -75,12 +76,12 @@ fn reply_of(
         out,
         Bytes::Whole(whole.bytes),
     )?;
-    if let Some(name) = report {
+    if let Some(report) = report {
         push_output(
             alloc,
             &mut outputs,
             Role::Report,
-            name.as_str(),
+            report.file.as_str(),
             Bytes::Whole(whole.report.into_bytes()),
         )?;
     }
@@ -112,7 +113,7 @@ fn make_reply<R: Threads + Sync, G: Gate + Sync, N: Notice>(
     large: bool,
     maps: &[[u8; 8]],
     out: &str,
-    report: &Option<Text>,
+    report: &Option<ReportFile>,
     workers: u16,
     method: Method,
     refused: Refused,
@@ -125,11 +126,12 @@ fn make_reply<R: Threads + Sync, G: Gate + Sync, N: Notice>(
     requires workers { (1 ≤ workers) × (workers ≤ 64) }
     ensures called { Gives ⊤ (MapsCall out.now report.now large maps.now method refused (file_of bytes.now wad.now)) (reply_seen result) }
     ensures refusals { IfErr result (IsOfStop refused) }
-    ensures roles { IfOk result (λ reply. roles_of (writes reply) ≡ all_roles report.now) }
+    ensures roles { IfOk result (λ reply. roles_of (writes reply) ≡ all_roles (file_in report.now)) }
     ensures right { IfOk result (λ reply. reply.right ≡ true) }
 {
+    let spelling = spelling_in(report);
     let whole = match build_wad(
-        rt, alloc, bytes, wad, large, maps, workers, method, refused, gate, notice,
+        rt, alloc, bytes, wad, large, maps, workers, method, refused, spelling, gate, notice,
     ) {
         Ok(whole) => whole,
         Err(unmade) => return Err(status_of(unmade)),
@@ -148,7 +150,7 @@ pub fn do_all<R: Threads + Sync, S: Shelf, G: Gate + Sync, N: Notice>(
     source: &Source,
     out: &str,
     only: &Option<Items<Text>>,
-    report: &Option<Text>,
+    report: &Option<ReportFile>,
     workers: u16,
     method: Method,
     refused: Refused,
@@ -162,7 +164,7 @@ pub fn do_all<R: Threads + Sync, S: Shelf, G: Gate + Sync, N: Notice>(
     ensures counts { NoneFell (S.state shelf.old) (S.state shelf.new) }
     ensures cause { Cause (S.state shelf.old) (S.state shelf.new) result }
     ensures refusals { IfErr result (IsOfAll only.now refused) }
-    ensures roles { IfOk result (λ reply. roles_of (writes reply) ≡ all_roles report.now) }
+    ensures roles { IfOk result (λ reply. roles_of (writes reply) ≡ all_roles (file_in report.now)) }
     ensures right { IfOk result (λ reply. reply.right ≡ true) }
 {
     let bytes = fetch_wad(alloc, shelf, source.file.as_str())?;

@@ -6,10 +6,10 @@ ghost use Rattle.std.specs.Str.{bytes_eq};
 ghost use Rattle.map_answers.specs.SightStatus.Status.{IsProper};
 ghost use Rattle.shelf_io.specs.Shelf.{NoneFell};
 ghost use Rattle.sight_run.specs.Run.{Cause, IsOfFileNames, IsOfOrder};
-ghost use Rattle.sight_run.specs.Words.{file_names, given, has_twice};
+ghost use Rattle.sight_run.specs.Words.{file_in, file_names, given, has_twice};
 
 use map_answers::sight_status::{Role, Status};
-use order_words::{Order, Text};
+use order_words::{Order, ReportFile, Text};
 use shelf_io::{SameFault, Shelf};
 
 /// Refuses these two names where they mean one file. Where that can't be found out, nothing is known of the WAD either.
@@ -59,7 +59,7 @@ fn refuse_among<S: Shelf>(
     refuse_given(shelf, name, report)
 }
 
-/// Refuses two of the files of a build, of one map or of all.
+/// Refuses two of the files of a build of one map.
 fn refuse_outputs<S: Shelf>(
     shelf: &mut S,
     wad: &str,
@@ -82,6 +82,42 @@ fn refuse_outputs<S: Shelf>(
     }
 }
 
+/// Refuses the name and that of a report that may be asked for.
+fn refuse_report<S: Shelf>(
+    shelf: &mut S,
+    name: &str,
+    report: &Option<ReportFile>,
+) -> Result<(), Status>
+    ensures files { (S.state shelf.new).files ≡ (S.state shelf.old).files }
+    ensures begun { (S.state shelf.new).begun ≡ (S.state shelf.old).begun }
+    ensures counts { NoneFell (S.state shelf.old) (S.state shelf.new) }
+    ensures cause { Cause (S.state shelf.old) (S.state shelf.new) result }
+    ensures names { IfErr result (IsOfFileNames (S.state shelf.old).files (list_any (bytes_eq name.now) (given (file_in report.now)))) }
+{
+    match report {
+        Some(report) => refuse_same(shelf, name, report.file.as_str()),
+        None => Ok(()),
+    }
+}
+
+/// Refuses two of the files of a build of all maps.
+fn refuse_of_all<S: Shelf>(
+    shelf: &mut S,
+    wad: &str,
+    out: &str,
+    report: &Option<ReportFile>,
+) -> Result<(), Status>
+    ensures files { (S.state shelf.new).files ≡ (S.state shelf.old).files }
+    ensures begun { (S.state shelf.new).begun ≡ (S.state shelf.old).begun }
+    ensures counts { NoneFell (S.state shelf.old) (S.state shelf.new) }
+    ensures cause { Cause (S.state shelf.old) (S.state shelf.new) result }
+    ensures names { IfErr result (IsOfFileNames (S.state shelf.old).files (has_twice (wad.now ∷ out.now ∷ given (file_in report.now)))) }
+{
+    refuse_same(shelf, wad, out)?;
+    refuse_report(shelf, wad, report)?;
+    refuse_report(shelf, out, report)
+}
+
 /// Refuses an order two of whose files are one.
 pub fn refuse_one_file<S: Shelf>(shelf: &mut S, order: &Order) -> Result<(), Status>
     ensures files { (S.state shelf.new).files ≡ (S.state shelf.old).files }
@@ -100,17 +136,17 @@ pub fn refuse_one_file<S: Shelf>(shelf: &mut S, order: &Order) -> Result<(), Sta
             wad,
             report: Some(report),
             ..
-        } => refuse_same(shelf, wad.file.as_str(), report.as_str()),
+        } => refuse_same(shelf, wad.file.as_str(), report.file.as_str()),
         Order::Maps {
             wad,
             report: Some(report),
             ..
-        } => refuse_same(shelf, wad.file.as_str(), report.as_str()),
+        } => refuse_same(shelf, wad.file.as_str(), report.file.as_str()),
         Order::Audit {
             wad,
             report: Some(report),
             ..
-        } => refuse_same(shelf, wad.file.as_str(), report.as_str()),
+        } => refuse_same(shelf, wad.file.as_str(), report.file.as_str()),
         Order::Build {
             wad,
             out,
@@ -123,7 +159,7 @@ pub fn refuse_one_file<S: Shelf>(shelf: &mut S, order: &Order) -> Result<(), Sta
             out,
             report,
             ..
-        } => refuse_outputs(shelf, wad.file.as_str(), out.as_str(), &None, report),
+        } => refuse_of_all(shelf, wad.file.as_str(), out.as_str(), report),
         _ => Ok(()),
     }
 }

@@ -12,11 +12,12 @@ ghost use Rattle.sight_run.specs.Build.{report_roles, report_writes};
 ghost use Rattle.sight_run.specs.Maps.{MapsCalls, asked_answer};
 ghost use Rattle.sight_run.specs.Reply.{asked_seen, replied, reply_seen, roles_of, writes};
 ghost use Rattle.sight_run.specs.Run.{Cause, IsOfAsked};
+ghost use Rattle.sight_run.specs.Words.{file_in};
 
 use crate::asked::{ReadMaps, read_asked};
-use crate::reply::{Reply, report_alone};
+use crate::reply::{Reply, report_alone, spelling_in};
 use map_answers::sight_status::Status;
-use order_words::{Source, Text};
+use order_words::{ReportFile, Source, Text};
 use shelf_io::Shelf;
 use sight_names::{Items, Memory};
 use std::alloc::Global;
@@ -28,16 +29,24 @@ fn list_on<N: Notice>(
     alloc: Global,
     asked: &ReadMaps,
     large: bool,
-    report: &Option<Text>,
+    report: &Option<ReportFile>,
     notice: &N,
 ) -> Result<Reply, Memory>
     requires inside { All (λ entry. entry.at + entry.size ≤ length asked.now.bytes.items) asked.now.wad.entries }
     requires names { names_of (file_of asked.now.bytes.items asked.now.wad) ≡ entry_names asked.now.wad.entries }
     requires among { HasInOrder (maps_of (entry_names asked.now.wad.entries)) asked.now.maps.items }
     ensures shows { IfOk result (λ reply. replied reply ≡ asked_answer report.now large (asked_seen asked.now)) }
-    ensures roles { IfOk result (λ reply. roles_of (writes reply) ≡ report_roles report.now) }
+    ensures roles { IfOk result (λ reply. roles_of (writes reply) ≡ report_roles (file_in report.now)) }
 {
-    let list = list_maps(alloc, &asked.bytes, &asked.wad, large, &asked.maps, notice)?;
+    let list = list_maps(
+        alloc,
+        &asked.bytes,
+        &asked.wad,
+        large,
+        &asked.maps,
+        spelling_in(report),
+        notice,
+    )?;
     let line = tally_line(alloc, list.tally)?;
     let reply = report_alone(alloc, report, list.report, line, true)?;
     Ok(reply)
@@ -49,7 +58,7 @@ pub fn do_maps<S: Shelf, N: Notice>(
     shelf: &mut S,
     source: &Source,
     only: &Option<Items<Text>>,
-    report: &Option<Text>,
+    report: &Option<ReportFile>,
     notice: &N,
 ) -> Result<Reply, Status>
     ensures told { (files : Files) → (S.state shelf.old).files ≡ Some files →
@@ -59,7 +68,7 @@ pub fn do_maps<S: Shelf, N: Notice>(
     ensures counts { NoneFell (S.state shelf.old) (S.state shelf.new) }
     ensures cause { Cause (S.state shelf.old) (S.state shelf.new) result }
     ensures refusals { IfErr result (IsOfAsked only.now) }
-    ensures roles { IfOk result (λ reply. roles_of (writes reply) ≡ report_roles report.now) }
+    ensures roles { IfOk result (λ reply. roles_of (writes reply) ≡ report_roles (file_in report.now)) }
     ensures right { IfOk result (λ reply. reply.right ≡ true) }
 {
     let asked = read_asked(alloc, shelf, source.file.as_str(), only, notice)?;

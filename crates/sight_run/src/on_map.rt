@@ -106,7 +106,7 @@ fn answer_on(alloc: Global, order: &Order, input: &Input) -> Result<Reply, Statu
             make_drawing(alloc, input, map.as_str(), out.as_str(), *view)
         }
         Order::Audit { report, .. } => match report {
-            Some(out) => report_audit(alloc, &input.plan, out.as_str()),
+            Some(out) => report_audit(alloc, &input.plan, out),
             None => line_reply(alloc, order, input),
         },
         _ => line_reply(alloc, order, input),

@@ -13,12 +13,13 @@ ghost use Rattle.sight_run.specs.Build.{report_roles, report_writes};
 ghost use Rattle.sight_run.specs.Reply.{asked_seen, replied, reply_seen, roles_of, writes};
 ghost use Rattle.sight_run.specs.Run.{Cause, IsOfAsked};
 ghost use Rattle.sight_run.specs.Verify.{ShowsVerify, VerifyCalls};
+ghost use Rattle.sight_run.specs.Words.{file_in};
 
 use crate::asked::{ReadMaps, read_asked};
-use crate::reply::{Reply, report_alone};
+use crate::reply::{Reply, report_alone, spelling_in};
 use group_job::sight_workers::Gate;
 use map_answers::sight_status::Status;
-use order_words::{Source, Text};
+use order_words::{ReportFile, Source, Text};
 use shelf_io::Shelf;
 use sight_names::{Items, Memory};
 use std::alloc::{AllocError, Global};
@@ -27,9 +28,13 @@ use table_verdicts::{WadVerdict, all_right, line_of, verify_wad};
 use whole_wad::Notice;
 
 /// The reply that writes the report where it is asked for, and puts the totals.
-fn reply_of(alloc: Global, report: &Option<Text>, verdict: WadVerdict) -> Result<Reply, AllocError>
-    ensures reply { IfOk result (λ reply. replied reply ≡ record { writes = report_writes report.now (string_bytes verdict.report); line = tally_line verdict.tally; right = all_right verdict.tally }) }
-    ensures roles { IfOk result (λ reply. roles_of (writes reply) ≡ report_roles report.now) }
+fn reply_of(
+    alloc: Global,
+    report: &Option<ReportFile>,
+    verdict: WadVerdict,
+) -> Result<Reply, AllocError>
+    ensures reply { IfOk result (λ reply. replied reply ≡ record { writes = report_writes (file_in report.now) (string_bytes verdict.report); line = tally_line verdict.tally; right = all_right verdict.tally }) }
+    ensures roles { IfOk result (λ reply. roles_of (writes reply) ≡ report_roles (file_in report.now)) }
 {
     let line = line_of(alloc, verdict.tally)?;
     let right = all_right(verdict.tally);
@@ -42,7 +47,7 @@ fn verdict_on<R: Threads + Sync, G: Gate + Sync, N: Notice>(
     alloc: Global,
     asked: &ReadMaps,
     large: bool,
-    report: &Option<Text>,
+    report: &Option<ReportFile>,
     workers: u16,
     gate: &G,
     notice: &N,
@@ -52,7 +57,7 @@ fn verdict_on<R: Threads + Sync, G: Gate + Sync, N: Notice>(
     requires among { HasInOrder (maps_of (entry_names asked.now.wad.entries)) asked.now.maps.items }
     requires workers { (1 ≤ workers) × (workers ≤ 64) }
     ensures shows { IfOk result (λ reply. ShowsVerify report.now large (asked_seen asked.now) (replied reply)) }
-    ensures roles { IfOk result (λ reply. roles_of (writes reply) ≡ report_roles report.now) }
+    ensures roles { IfOk result (λ reply. roles_of (writes reply) ≡ report_roles (file_in report.now)) }
 {
     let verdict = verify_wad(
         rt,
@@ -62,6 +67,7 @@ fn verdict_on<R: Threads + Sync, G: Gate + Sync, N: Notice>(
         large,
         &asked.maps,
         workers,
+        spelling_in(report),
         gate,
         notice,
     )?;
@@ -76,7 +82,7 @@ pub fn do_verify<R: Threads + Sync, S: Shelf, G: Gate + Sync, N: Notice>(
     shelf: &mut S,
     source: &Source,
     only: &Option<Items<Text>>,
-    report: &Option<Text>,
+    report: &Option<ReportFile>,
     workers: u16,
     gate: &G,
     notice: &N,
@@ -89,7 +95,7 @@ pub fn do_verify<R: Threads + Sync, S: Shelf, G: Gate + Sync, N: Notice>(
     ensures counts { NoneFell (S.state shelf.old) (S.state shelf.new) }
     ensures cause { Cause (S.state shelf.old) (S.state shelf.new) result }
     ensures refusals { IfErr result (IsOfAsked only.now) }
-    ensures roles { IfOk result (λ reply. roles_of (writes reply) ≡ report_roles report.now) }
+    ensures roles { IfOk result (λ reply. roles_of (writes reply) ≡ report_roles (file_in report.now)) }
 {
     let asked = read_asked(alloc, shelf, source.file.as_str(), only, notice)?;
     match verdict_on(
