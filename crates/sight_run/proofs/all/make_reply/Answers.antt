@@ -10,13 +10,13 @@ use Rattle.sight_run.proofs.all.make_reply.Goals as goal
 
 pub returns-in-Err-clause-called : goal.returns-in-Err-clause-called
 returns-in-Err-clause-called g c =
-    rw c.status_of.ensures (the_unmade c.args.out.now c.args.report.now c.args.large c.args.maps.now c.args.method c.args.refused (file_of c.args.bytes.now c.args.wad.now) c.in-Err.unmade c.in-Err.ensures)
+    rw c.status_of.ensures (the_unmade c.args.out.now c.args.report.now c.args.large c.args.maps.now c.args.method c.args.refused (file_of c.args.bytes.now c.args.wad.now) c.in-Err.unmade (rw c.spelling_in-spelling.ensures at c.in-Err.ensures))
 
 pub returns-in-Err-clause-refusals : goal.returns-in-Err-clause-refusals
 returns-in-Err-clause-refusals g c =
     rw c.status_of.ensures (unmade_so c.args.out.now c.args.report.now c.args.large c.args.maps.now c.args.method c.args.refused (file_of c.args.bytes.now c.args.wad.now) c.in-Err.unmade
-    (subst (λ (ns : List (List ℕ)). HasInOrder (maps_of ns) c.args.maps.now) (sym c.requires.names) c.requires.among) c.in-Err.ensures)
+    (subst (λ (ns : List (List ℕ)). HasInOrder (maps_of ns) c.args.maps.now) (sym c.requires.names) c.requires.among) (rw c.spelling_in-spelling.ensures at c.in-Err.ensures))
 
 pub returns-in-Ok-reply_of-clause-called : goal.returns-in-Ok-reply_of-clause-called
 returns-in-Ok-reply_of-clause-called g c =
-    the_whole c.args.out.now c.args.report.now c.args.large c.args.maps.now c.args.method c.args.refused (file_of c.args.bytes.now c.args.wad.now) c.in-Ok.whole (replied c.in-Ok-reply_of.reply) c.in-Ok.ensures c.in-Ok-reply_of.ensures.reply
+    the_whole c.args.out.now c.args.report.now c.args.large c.args.maps.now c.args.method c.args.refused (file_of c.args.bytes.now c.args.wad.now) c.in-Ok.whole (replied c.in-Ok-reply_of.reply) (rw c.spelling_in-spelling.ensures at c.in-Ok.ensures) c.in-Ok-reply_of.ensures.reply

@@ -5,4 +5,4 @@ use Rattle.sight_run.proofs.maps.list_on.Goals as goal
 pub returns-clause-shows : goal.returns-clause-shows
 returns-clause-shows g c =
     list_shows c.args.report.now c.args.large (asked_seen c.args.asked.now) c.in_ok-list.list _ (replied c.in_ok-reply.reply)
-    (rw (c.deref.ensures.value, c.deref-2.ensures.value) at c.in_ok-list.ensures) c.in_ok-line.ensures c.in_ok-reply.ensures.reply
+    (rw (c.deref.ensures.value, c.deref-2.ensures.value, c.spelling_in.ensures) at c.in_ok-list.ensures) c.in_ok-line.ensures c.in_ok-reply.ensures.reply
