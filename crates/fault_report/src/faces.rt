@@ -87,12 +87,7 @@ fn push_faces(
 }
 
 /// The same over this mesh of the map.
-fn told_over(
-    alloc: Global,
-    plan: &Plan,
-    spelling: Spelling,
-    mesh: &Mesh,
-) -> Result<String, Memory>
+fn told_over(alloc: Global, plan: &Plan, spelling: Spelling, mesh: &Mesh) -> Result<String, Memory>
     requires mesh { IsMeshOf (map_of plan.now) mesh.now.triangles }
     requires plain { IsPlainMesh (map_of plan.now) mesh.now.triangles }
     requires fills { FillsSides (map_of plan.now) mesh.now.triangles }

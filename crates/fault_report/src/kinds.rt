@@ -5,10 +5,8 @@ ghost use Rattle.std.specs.List.{flat_map};
 ghost use Rattle.fault_report.specs.Rows.{kind_text, rest_row};
 
 use crate::clashes::Clash;
-use crate::lines;
-use crate::objects;
 use crate::slips::{Nameless, Sideless};
-use crate::words;
+use crate::{lines, objects, words};
 use map_faults::{Gap, LooseEnd, Tear};
 use row_spelling::Spelling;
 use sight_names::{Plan, Side};

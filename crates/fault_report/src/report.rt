@@ -36,12 +36,7 @@ fn clash_text(
 }
 
 /// What is told of faces where so many pairs of lines clash: nothing where some do.
-fn face_text(
-    alloc: Global,
-    plan: &Plan,
-    spelling: Spelling,
-    count: u64,
-) -> Result<String, Memory>
+fn face_text(alloc: Global, plan: &Plan, spelling: Spelling, count: u64) -> Result<String, Memory>
     requires { count ≡ 0 → LinesMeetAtEnds (map_of plan.now) }
     ensures { IfOk result (λ text. FacesTold spelling plan.now count (string_bytes text)) }
 {

@@ -295,7 +295,11 @@ impl Reader {
         }
         match self.verb {
             Some(verb) if may_end(verb, self.filled, self.given) => {
-                if self.given.wants_report() { Some("--report") } else { None }
+                if self.given.wants_report() {
+                    Some("--report")
+                } else {
+                    None
+                }
             }
             Some(verb) => Some(
                 verb.places

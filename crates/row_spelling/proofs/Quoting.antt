@@ -1,5 +1,5 @@
--- One byte more of a string, and the last one.
-use Rattle.std.proofs.Common.{◌≡◌, ℕ, ◌+◌, ◌<◌, ◌≤◌, List, ◌++◌, length, get_or, take, sym, ap, ◌∙◌}
+-- One byte more of a string, and the last one; texts behind each other.
+use Rattle.std.proofs.Common.{◌≡◌, ℕ, ◌+◌, ◌<◌, ◌≤◌, List, ◌++◌, length, get_or, take, append_assoc, sym, ap, ◌∙◌}
 use Rattle.std.specs.List.{flat_map}
 use Rattle.std.proofs.lemmas.List.{flat_map_more, take_all, take_more}
 
@@ -11,3 +11,7 @@ bytes_more f xs k d begun old new lt before is =
 -- behind the last one
 pub bytes_all : (f : ℕ → List ℕ) (xs : List ℕ) (k : ℕ) (begun new : List ℕ) → length xs ≤ k → new ≡ begun ++ flat_map f (take k xs) → new ≡ begun ++ flat_map f xs
 bytes_all f xs k begun new past is = is ∙ ap (λ ys. begun ++ flat_map f ys) (take_all k xs past)
+
+-- a text behind a text behind a text
+pub then_text : (old b c one two : List ℕ) → two ≡ one ++ c → one ≡ old ++ b → two ≡ old ++ (b ++ c)
+then_text old b c one two h g = h ∙ ap (λ (ys : List ℕ). ys ++ c) g ∙ append_assoc old b c

@@ -15,5 +15,5 @@ abbrev pub escaped : ℕ → List ℕ
 escaped c = if c == 34 then codes "\\\"" else (if c == 92 then codes "\\\\" else (if nat_le 32 c && nat_le c 126 then c ∷ [] else code_of c))
 
 -- .. between quotation marks
-abbrev pub quoted : List ℕ → List ℕ
+unfoldable pub quoted : List ℕ → List ℕ
 quoted text = codes "\"" ++ flat_map escaped text ++ codes "\""

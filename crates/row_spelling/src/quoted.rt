@@ -62,6 +62,7 @@ fn push_each(line: &mut String, text: &[u8]) -> Result<(), AllocError>
 }
 
 /// Adds a text as a string of JSON, in which each byte that isn't a printing one of ASCII stands as its code.
+#[tactic(auto, unfolding(crate::specs::Quoted::quoted))]
 pub fn push_quoted(line: &mut String, text: &str) -> Result<(), AllocError>
     ensures { OnOk result (string_bytes line.new ≡ string_bytes line.old ++ quoted text.now) }
 {

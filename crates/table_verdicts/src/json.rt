@@ -115,11 +115,7 @@ fn object_of(alloc: Global, verdict: &MapVerdict) -> Result<String, AllocError>
 }
 
 /// The report's line of a map.
-pub fn row_of(
-    alloc: Global,
-    spelling: Spelling,
-    verdict: &MapVerdict,
-) -> Result<String, AllocError>
+pub fn row_of(alloc: Global, spelling: Spelling, verdict: &MapVerdict) -> Result<String, AllocError>
     requires { IsTrue (is_map_name verdict.now.name) }
     ensures { IfOk result (λ line. string_bytes line ≡ verdict_row spelling verdict.now) }
 {

@@ -83,11 +83,7 @@ fn object_of(alloc: Global, outcome: &MapOutcome) -> Result<String, AllocError>
 }
 
 /// The report's line of what comes of a map.
-pub fn row_of(
-    alloc: Global,
-    spelling: Spelling,
-    outcome: &MapOutcome,
-) -> Result<String, AllocError>
+pub fn row_of(alloc: Global, spelling: Spelling, outcome: &MapOutcome) -> Result<String, AllocError>
     requires { IsTrue (is_map_name outcome.now.name) }
     ensures { IfOk result (λ line. string_bytes line ≡ map_row spelling outcome.now) }
 {

@@ -1,4 +1,4 @@
-use Rattle.std.proofs.Common.{◌++◌, ◌∙◌, ap, string_bytes}
+use Rattle.std.proofs.Common.{string_bytes}
 use Rattle.row_spelling.specs.Quoted.{escaped}
 use Rattle.row_spelling.proofs.Quoting.{bytes_all, bytes_more}
 use Rattle.row_spelling.proofs.quoted.push_each.Goals as goal
