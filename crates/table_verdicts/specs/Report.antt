@@ -3,6 +3,7 @@ use Rattle.std.specs.Prelude.{ℕ, List, ◌++◌, Option, Some, None, Result, O
 use Rattle.std.specs.Fmt.{decimal}
 use Rattle.std.specs.List.{flat_map}
 use Rattle.std.specs.Str.{trim_end}
+use Rattle.sight_names.specs.declared.names.Ray.{Ray}
 use Rattle.wad_dir.specs.AllMaps.Names.{word_of}
 use Rattle.map_answers.specs.declared.sight_status.status.Status.{Status}
 use Rattle.map_answers.specs.SightStatus.Texts.{reason_words}
@@ -45,8 +46,11 @@ verdict_line v = word_of v.name ++ said_words v.said
 
 -- ---- the same as a JSON object, whose members are named by the words of the line
 
+abbrev pub ray_json : Ray → List ℕ
+ray_json ray = codes "\"" ++ ray_words ray ++ codes "\""
+
 abbrev pub shown_json : Shown → List ℕ
-shown_json (shown.Ray ray) = codes "\"" ++ ray_words ray ++ codes "\""
+shown_json (shown.Ray ray) = ray_json ray
 shown_json shown.Touch = codes "\"touch\""
 
 abbrev pub pair_json : FirstWrong → List ℕ

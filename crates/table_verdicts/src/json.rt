@@ -5,26 +5,32 @@ ghost use Rattle.std.specs.Str.{trim_end};
 ghost use Rattle.map_answers.specs.SightStatus.Texts.{reason_words};
 ghost use Rattle.row_spelling.specs.Quoted.{quoted};
 ghost use Rattle.wad_dir.specs.AllMaps.Maps.{is_map_name};
-ghost use Rattle.table_verdicts.specs.Report.{counts_json, first_json, pair_json, refused_json, said_json, short_json, shown_json, verdict_json, verdict_row};
+ghost use Rattle.table_verdicts.specs.Report.{counts_json, first_json, pair_json, ray_json, refused_json, said_json, short_json, shown_json, verdict_json, verdict_row};
 
 use crate::report::line_of;
 use crate::verdict::{FirstWrong, MapVerdict, Shown, Verdict};
 use map_answers::sight_status::{Status, push_count, push_reason, push_text};
 use pair_answer::why_answers::push_ray;
 use row_spelling::{Spelling, push_quoted};
+use sight_names::Ray;
 use std::alloc::{AllocError, Global};
 use wad_dir::all_maps::text_of;
+
+/// Adds a ray as a string.
+fn push_ray_text(alloc: Global, line: &mut String, ray: Ray) -> Result<(), AllocError>
+    ensures { OnOk result (string_bytes line.new ≡ string_bytes line.old ++ ray_json ray) }
+{
+    push_text(line, "\"")?;
+    push_ray(alloc, line, ray)?;
+    push_text(line, "\"")
+}
 
 /// Adds a ray, or that a face belongs to both.
 fn push_shown(alloc: Global, line: &mut String, by: Shown) -> Result<(), AllocError>
     ensures { OnOk result (string_bytes line.new ≡ string_bytes line.old ++ shown_json by) }
 {
     match by {
-        Shown::Ray(ray) => {
-            push_text(line, "\"")?;
-            push_ray(alloc, line, ray)?;
-            push_text(line, "\"")
-        }
+        Shown::Ray(ray) => push_ray_text(alloc, line, ray),
         Shown::Touch => push_text(line, "\"touch\""),
     }
 }
