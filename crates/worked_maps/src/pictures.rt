@@ -168,7 +168,8 @@ const CROSSED_FAULTS: &str = "\
 </svg>
 ";
 
-/// OPEN, a square without its last line: three open sides, a torn corner, and two loose ends.
+/// OPEN, a square without its last line: three open sides, a torn corner, two loose ends, and the way round the corner, through two
+/// triangles and out where the line is missing.
 const OPEN_FAULTS: &str = "\
 <svg xmlns='http://www.w3.org/2000/svg' viewBox='-2 -2 68 72' width='1000' height='1058'>
 <title>MAP01 faults</title>
@@ -182,6 +183,8 @@ const OPEN_FAULTS: &str = "\
 <g><title>torn corner at 0, 0</title><circle class='i' cx='0' cy='64' r='2'/><circle class='r' cx='0' cy='64' r='2'/></g>
 <g><title>loose end of line 0 at 0, 0</title><circle class='i' cx='0' cy='64' r='2'/><circle class='r' cx='0' cy='64' r='2'/></g>
 <g><title>loose end of line 2 at 64, 0</title><circle class='i' cx='64' cy='64' r='2'/><circle class='r' cx='64' cy='64' r='2'/></g>
+<path class='r' d='M0 40L0 24L32 32z'><title>out round the torn corner at 0, 0</title></path>
+<path class='r' d='M24 40L40 24L32 64z'><title>out round the torn corner at 0, 0</title></path>
 </svg>
 ";
 
