@@ -35,12 +35,7 @@ fn add_turn(mesh: &Mesh, arrows: &mut Vec<Arrow>, tear: Tear) -> Result<(), Memo
 }
 
 /// The same where the corner is at a side that names a sector.
-fn add_arrows(
-    plan: &Plan,
-    mesh: &Mesh,
-    arrows: &mut Vec<Arrow>,
-    tear: Tear,
-) -> Result<(), Memory>
+fn add_arrows(plan: &Plan, mesh: &Mesh, arrows: &mut Vec<Arrow>, tear: Tear) -> Result<(), Memory>
     ensures { (ss : List (Option Side)) → IsTear plan.now mesh.now.triangles ss tear → OnOk result (AddsArrows (map_of plan.now) mesh.now.triangles ss tear arrows.old.items arrows.new.items) }
 {
     match plan.sector_at(tear.side) {

@@ -105,7 +105,7 @@ module _ (name : List ℕ) (m : Map) (left_out : ℕ) (marks : List ℕ) (faults
   over_all : (what : PointFault) (c : Pt) → Has (marked_picture name m left_out marks faults arrows) (Fault what c) → Has marked (Fault what c)
   over_all what c (p, at) =
       let r = at_over IsFault name about m (λ h. no_head h.0 h.1 h.2) (λ n s h. no_title n s h.0 h.1 h.2) (λ h. no_style h.0 h.1 h.2) (λ h. no_paper h.0 h.1 h.2) (λ h. no_scale h.0 h.1 h.2) (λ h. no_foot h.0 h.1 h.2)
-          (λ i l h. no_line i l h.0 h.1 h.2) [] (marked ++ arrows_from arrows) tt p (Fault what c) (what, c, refl) at in
+      (λ i l h. no_line i l h.0 h.1 h.2) [] (marked ++ arrows_from arrows) tt p (Fault what c) (what, c, refl) at in
       (r.0, in_front IsFault marked (arrows_from arrows) r.0 (Fault what c) (all_arrows (NotSo IsFault) (λ w h. no_out w h.0 h.1 h.2) arrows) (what, c, refl) r.1)
 
   only_these : (what : PointFault) (c : Pt) → Has marked (Fault what c) → Contains faults (at_point what c)

@@ -73,13 +73,7 @@ fn push_whole(out: &mut Vec<u8>, word: &str, x: u64, y: u64) -> Result<(), Alloc
 }
 
 /// A word, and the place behind the middle of the way from one point to the other.
-fn push_base(
-    out: &mut Vec<u8>,
-    frame: Frame,
-    word: &str,
-    p: Pt,
-    q: Pt,
-) -> Result<(), AllocError>
+fn push_base(out: &mut Vec<u8>, frame: Frame, word: &str, p: Pt, q: Pt) -> Result<(), AllocError>
     ensures { OnOk result (out.new.items ≡ out.old.items ++ base_text frame word.now p q) }
 {
     let x = past_half(across(frame, p), across(frame, q));

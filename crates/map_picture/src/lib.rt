@@ -22,9 +22,9 @@ mod words;
 pub use arrows::Arrow;
 pub use faults::{FaultAt, PointFault};
 pub use laws::{
-    arrows_are_shown, entered_is_shown, faults_are_shown, heat_is_shown, ids_are_once, lines_are_shown,
-    marks_are_shown, pair_is_shown, plan_is_shown, points_are_read_back, ray_is_drawn,
-    rings_are_inside, row_is_shown,
+    arrows_are_shown, entered_is_shown, faults_are_shown, heat_is_shown, ids_are_once,
+    lines_are_shown, marks_are_shown, pair_is_shown, plan_is_shown, points_are_read_back,
+    ray_is_drawn, rings_are_inside, row_is_shown,
 };
 pub use pair::Stop;
 pub use picture::{
