@@ -1,19 +1,22 @@
 #!/usr/bin/env python3
 """Compares the pictures of the verb draw, byte for byte, with those that are put together here.
 
-    bench/draw.py [--program PATH] [--wads FOLDER] [--only E1M7,MAP22] [--rows 20] [--pairs 40] [--seed 1]
+    bench/draw.py [--program PATH] [--wads FOLDER] [--only E1M7,MAP22] [--rows 20] [--pairs 40] [--leaks 3] [--seed 1]
 
 Needs Debian's packages freedoom and freedm, or a folder with freedoom1.wad and freedoom2.wad. Of six maps, or of those
 that are named, it asks for the plan, the plan with --faults and with --heat, the rows of some sectors in a REJECT that
 a build wrote, and some pairs of sectors. With four random lines laid over the map it asks for --faults again; the pairs
-that clash are found here by fractions. The triangles and the groups are those of the build's certificate, and so are
-the trees, by which it finds what sight out of a group enters; the ray of a pair is the one that `why` says. A pair is
-compared to its end where one of the first sector's groups has a tree and the sector has no other group.
+that clash are found here by fractions. Of every third one-sided line (--leaks) it asks for --faults of the map without
+that line: an arrow has to lead through the hole, and none may cross a line. The triangles and the groups are those of
+the build's certificate, and so are the trees, by which it finds what sight out of a group enters; the ray of a pair is
+the one that `why` says. A pair is compared to its end where one of the first sector's groups has a tree and the sector
+has no other group.
 The status is 1 where anything differs.
 """
 import argparse
 import os
 import random
+import re
 import struct
 import subprocess
 import sys
@@ -274,6 +277,62 @@ def compare_crossed(asked, lumps):
     asked.compare(["--faults"], *crossed(Sheet(asked.name, Plan(asked.source, asked.name))), source=asked.source)
 
 
+def distance(p, a, b):
+    """How far the point is from the segment."""
+    wide, high = b[0] - a[0], b[1] - a[1]
+    share = max(0, min(1, ((p[0] - a[0]) * wide + (p[1] - a[1]) * high) / (wide * wide + high * high)))
+    return ((p[0] - a[0] - share * wide) ** 2 + (p[1] - a[1] - share * high) ** 2) ** 0.5
+
+
+def across(p, q, r, s):
+    """Whether two segments cross at an inner point of both."""
+    return turn(p, q, r) * turn(p, q, s) < 0 and turn(r, s, p) * turn(r, s, q) < 0
+
+
+def through(arrow, ends):
+    """Whether an arrow crosses the segment, or comes to it but for what is cut down to whole units."""
+    first, second, tip = arrow
+    middle = tuple((u + v) / 2 for u, v in zip(first, second))
+    return across(middle, tip, *ends) or distance(tip, *ends) < 1.5
+
+
+def arrows_of(sheet, drawn):
+    """The arrows of a picture, in the map's coordinates: two points of the base, and the tip."""
+    for found in re.findall(r'<path class="r" d="M(\d+) (\d+)L(\d+) (\d+)L(\d+) (\d+)z">', drawn):
+        n = [int(v) for v in found]
+        yield [(n[k] + sheet.west, sheet.north - n[k + 1]) for k in (0, 2, 4)]
+
+
+def leak(asked, lumps, number):
+    """Whether an arrow leads through the hole that is there without this line, and none of them over another line."""
+    records = dict(lumps)[b"LINEDEFS"]
+    less = records[:number * 14] + records[number * 14 + 14:]
+    with open(asked.source, "wb") as it:
+        it.write(wad(asked.name, [(lump, less if lump == b"LINEDEFS" else content) for lump, content in lumps]))
+    said([asked.program, "draw", asked.source, asked.name, asked.out, "--faults"])
+    sheet = Sheet(asked.name, Plan(asked.source, asked.name))
+    arrows = list(arrows_of(sheet, open(asked.out, encoding="ascii", newline="").read()))
+    hole = next(line for line in Plan(asked.built, asked.name).lines if line.number == number).ends
+    over = [a for a in arrows for line in sheet.plan.lines if far_over(a, line.ends)]
+    return any(through(a, hole) for a in arrows) and not over
+
+
+def far_over(arrow, ends):
+    """Whether the arrow crosses the line with more than what is cut down on either side of it."""
+    first, second, tip = arrow
+    middle = tuple((u + v) / 2 for u, v in zip(first, second))
+    return across(middle, tip, *ends) and min(distance(middle, *ends), distance(tip, *ends)) > 1.5
+
+
+def compare_leaks(asked, lumps, step):
+    one_sided = [line for line in Plan(asked.built, asked.name).lines if (line.right is None) != (line.left is None)]
+    lines = one_sided[::step]
+    through_all = [leak(asked, lumps, line.number) for line in lines]
+    asked.count += len(lines)
+    asked.wrong += through_all.count(False)
+    print("%s: %d leaks, %d without an arrow" % (asked.name, len(lines), through_all.count(False)), flush=True)
+
+
 def compare_map(asked, rows, pairs):
     plan, proof = Plan(asked.built, asked.name), Proof(asked.cert)
     sheet = Sheet(asked.name, plan)
@@ -298,6 +357,7 @@ def main():
     words.add_argument("--only", default=",".join(MAPS))
     words.add_argument("--rows", type=int, default=20)
     words.add_argument("--pairs", type=int, default=40)
+    words.add_argument("--leaks", type=int, default=3)
     words.add_argument("--seed", type=int, default=1)
     words = words.parse_args()
     random.seed(words.seed)
@@ -315,6 +375,7 @@ def main():
                     asked = Asked(program, folder, name, wad(name, lumps))
                     compare_map(asked, words.rows, words.pairs)
                     compare_crossed(asked, lumps)
+                    compare_leaks(asked, lumps, words.leaks)
                     print("%s: %d pictures, %d differ" % (name, asked.count, asked.wrong), flush=True)
                     wrong += asked.wrong
     return 1 if wrong else 0

@@ -31,8 +31,8 @@ pub fn build_keeps_lumps()
     ensures { BuildKeepsLumps }
 {}
 
-/// Where `draw` is answered, OUT holds the picture that it asks for of the map that was found: the plan, the plan with its first
-/// fault marked, the faces by the row of a sector in the map's own REJECT, or what an answer for two sectors calls for. Each
+/// Where `draw` is answered, OUT holds the picture that it asks for of the map that was found: the plan, the plan with its
+/// faults marked, the faces by the row of a sector in the map's own REJECT, or what an answer for two sectors calls for. Each
 /// other file holds what it held.
 pub fn draw_leaves_picture()
     ensures { DrawLeavesPicture }
