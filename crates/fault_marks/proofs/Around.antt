@@ -1,5 +1,5 @@
 -- Arrows round torn corners: how a turn is followed, corner after corner, and that there is one list of them.
-use Rattle.std.proofs.Common.{◌≡◌, ◌≢◌, ℕ, zero, suc, ◌+◌, ◌<◌, ◌≤◌, ◌⊎◌, inl, inr, List, [], ◌∷◌, ◌++◌, length, take, get_or, Contains, Option, Some, None, refl, sym, ap, ap₂, ◌∙◌, subst, arith}
+use Rattle.std.proofs.Common.{◌≡◌, ◌≢◌, ℕ, ◌+◌, ◌<◌, ◌≤◌, inl, inr, List, [], ◌∷◌, ◌++◌, length, take, get_or, Option, Some, None, refl, sym, ap, ap₂, ◌∙◌, subst, arith}
 use Rattle.std.proofs.lemmas.List.{append-nil, append_assoc, take_all, take_more}
 use Rattle.std.proofs.lemmas.Option.{none-some, same_Some}
 use Rattle.sight_names.specs.declared.names.Side.{Side}
@@ -12,7 +12,7 @@ use Rattle.mesh_shape.specs.HalfEdges.Numbers.{edge}
 use Rattle.mesh_shape.specs.HalfEdges.Kinds.{portal_on}
 use Rattle.map_faults.specs.declared.tears.Tear.{Tear}
 use Rattle.map_faults.specs.EdgeSides.{side_by}
-use Rattle.map_faults.specs.Tears.{AreTearsBy, DoesName, IsBorder, IsTear, IsTurn, IsTurnWithin}
+use Rattle.map_faults.specs.Tears.{DoesName, IsBorder, IsTear, IsTurn, IsTurnWithin}
 use Rattle.map_faults.proofs.OneOfEach.{one_way, turn_too}
 use Rattle.map_picture.specs.declared.arrows.Arrow.{Arrow}
 use Rattle.fault_marks.specs.Arrows.{AddsArrows, AreArrowsAt, AreArrowsOf, arrow, arrows_round}

@@ -1,5 +1,5 @@
 -- A map that is refused has one list of marks.
-use Rattle.std.proofs.Common.{◌≡◌, ◌≢◌, ℕ, ◌-◌, ◌⊎◌, inl, inr, List, [], ◌∷◌, length, map, slice_get, Contains, Option, Some, None, Bool, true, false, option_and_then, refl, sym, ap, ap₂, ◌∙◌, subst, subst₂}
+use Rattle.std.proofs.Common.{◌≡◌, ◌≢◌, ℕ, ◌-◌, List, [], ◌∷◌, length, map, slice_get, Contains, Option, Some, None, Bool, true, false, option_and_then, refl, sym, ap, ap₂, ◌∙◌, subst, subst₂}
 use Rattle.std.proofs.lemmas.Option.{same_Some}
 use Rattle.sight_names.specs.declared.faults.LineFault.{LineFault}
 use Rattle.sight_names.specs.declared.names.Side.{Side}

@@ -1,10 +1,9 @@
 -- What is told of a map's faults is told in one way: lists in order that have the same members are one list.
-use Rattle.std.proofs.Common.{◌≡◌, ℕ, ◌<◌, ◌-◌, ◌⊎◌, inl, inr, List, [], ◌∷◌, length, map, slice_get, take, Contains, Option, Some, None, MatchOption, Bool, true, false, ℤ, pos, ◌+ℤ◌, ◌*ℤ◌, ◌≤ℤ◌, ◌<ℤ◌, refl, sym, ap, ap₂, ◌∙◌, subst, subst₂, arith}
+use Rattle.std.proofs.Common.{◌≡◌, ℕ, ◌<◌, ◌-◌, ◌⊎◌, inl, inr, List, [], ◌∷◌, length, map, take, Contains, Option, Some, None, MatchOption, true, false, ℤ, pos, ◌+ℤ◌, ◌*ℤ◌, ◌≤ℤ◌, ◌<ℤ◌, refl, sym, ap, ap₂, ◌∙◌, subst, subst₂, arith}
 use borrow.Author.Differences.{ints}
 use Rattle.std.proofs.Math.IntN.{*ℤ_comm}
 use Rattle.std.proofs.lemmas.Bool.{false≢true}
 use Rattle.std.proofs.lemmas.Option.{none-some, same_Some}
-use Rattle.math_base.proofs.Lists.{contains_cons, contains_none, contains_there, contains_here, contains_map}
 use Rattle.math_base.proofs.Options.{one_value}
 use Rattle.math_base.proofs.Signs.{le_or_lt, mul-le}
 use Rattle.sight_names.specs.declared.faults.LineFault.{LineFault}

@@ -8,7 +8,6 @@ use Rattle.reject_bits.specs.Parts.{TableParts}
 use Rattle.map_answers.specs.declared.sight_status.status.Flaw.{Flaw}
 use Rattle.map_answers.specs.declared.sight_status.status.Status.{Status}
 use Rattle.map_answers.specs.SightStatus.Answer.{Answer}
-use Rattle.map_picture.specs.Bytes.{svg_of}
 use Rattle.draw_answers.specs.Drawn.{Drawing, one_picture}
 use Rattle.draw_answers.specs.Faults.{DrawsFault}
 use Rattle.draw_answers.specs.Heat.{DrawHeatCalls, heat_drawing}

@@ -1,4 +1,3 @@
-use Rattle.std.proofs.Common.{◌<◌}
 use Rattle.std.proofs.lemmas.List.Elements.{Contains-get_or}
 use Rattle.fault_marks.proofs.Around.{all_corners, one_corner_more}
 use Rattle.fault_marks.proofs.arrows.arrows_of.Goals as goal

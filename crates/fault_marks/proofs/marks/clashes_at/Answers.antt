@@ -1,4 +1,4 @@
-use Rattle.std.proofs.Common.{◌+◌, ◌<◌, List, sym, subst, take}
+use Rattle.std.proofs.Common.{◌+◌, List, sym, subst, take}
 use Rattle.sight_names.specs.Map.{map_of}
 use Rattle.map_picture.specs.declared.faults.FaultAt.{FaultAt}
 use Rattle.fault_marks.specs.Marks.{AreClashesAt}
