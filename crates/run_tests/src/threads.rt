@@ -1,7 +1,5 @@
 //! Runs by two workers that wait for each other, and threads that stand beside runs whose calls pass no gate.
 
-ghost use denote.Param.Send.{IsSync};
-
 use crate::running::run_on;
 use group_job::sight_workers::OpenGate;
 use std::alloc::{AllocError, Global};
@@ -28,7 +26,7 @@ a=grid:6 | all a b --workers 1 | judges
 const TRIES: usize = 500;
 
 /// More looks than any run leaves time for.
-const LOOKS: u64 = 1 << 28;
+const LOOKS: u64 = 1 << 20;
 
 #[test]
 fn two_workers_that_wait_for_each_other_build_a_made_map(rt: HostRuntime) -> Result<(), Fail> {
@@ -82,34 +80,29 @@ fn run_row<R: Threads + Sync>(
     status
 }
 
-// The exit code of a row's run, and the most threads that were seen during it: the one that runs it, the one that looks, and
-// others.
-fn seen<R: Threads + Sync + Files + AllocGlobal>(
+// The exit code of a row's run, and the most threads that were seen during it: the one that runs it, this one, and others.
+fn seen<R: Threads + Sync, W: Files + AllocGlobal>(
     rt: &R,
-    alloc: Global,
+    system: &W,
     row: &str,
 ) -> (Result<u8, AllocError>, u64) {
-    let over = AtomicU64::new(0);
-    let (most, status) = join(
+    let (alloc, over) = (system.alloc(), AtomicU64::new(0));
+    join(
         rt,
-        || -> u64
-            requires { IsSync R.row }
-        { most_threads(rt, &over) },
-        || -> Result<u8, AllocError>
-            requires { IsSync R.row }
-        { run_row(rt, alloc, row, &over) },
-    );
-    (status, most)
+        || run_row(rt, alloc, row, &over),
+        || most_threads(system, &over),
+    )
 }
 
 // Whether another thread stands beside a row's run sometime. None where a run isn't done.
-fn has_others<R: Threads + Sync + Files + AllocGlobal>(
+fn has_others<R: Threads + Sync, W: Files + AllocGlobal>(
     rt: &R,
+    system: &W,
     row: &str,
     tries: usize,
 ) -> Result<Option<bool>, AllocError> {
     for _ in 0..tries {
-        let (status, most) = seen(rt, rt.alloc(), row);
+        let (status, most) = seen(rt, system, row);
         if status? != 0 {
             return Ok(None);
         }
@@ -133,7 +126,7 @@ fn workers_of_exact_builds_and_judges_of_all_have_threads(rt: HostRuntime) -> Re
             _ => false,
         };
         let tries = if wanted { TRIES } else { 3 };
-        assert!(rt; has_others(&rt, row, tries)? == Some(wanted), "{row}");
+        assert!(rt; has_others(&rt, &rt, row, tries)? == Some(wanted), "{row}");
     }
     Ok(())
 }
