@@ -1,19 +1,17 @@
-//! What no clause says: which word is the first wrong one, what the program says of itself, and runs on files in memory.
+//! What no clause says: which word is the first wrong one, what comes of an answer that can't be put, and what is told of a WAD that is read
+//! once more. What the program answers, and its exit codes, are stored beside `run_orders`.
 
 use order_words::read_words;
-use program::answers::{Question, answer, question_in};
+use program::answers::{Question, answer};
 use program::places::{TextPlace, WadAgain, place_in};
 use program::progress::Progress;
-use program::runs::run_words;
 use program::usage::{Fault, diagnose};
-use program::verbs::VERBS;
 use shelf_io::MemSink;
 use sight_names::OrderFault;
-use sight_run::{Bound, Fate, NoNotice, Notice, Status, code};
+use sight_run::{Bound, Fate, Notice, Status, code};
 use std::alloc::{AllocError, Global};
 use std::test::Fail;
-use std::thread::Threads;
-use worked_maps::stages::{Stage, stage_of, words_in};
+use worked_maps::stages::{stage_of, words_in};
 
 /// Words, and the number of the first wrong one, the name of the one that is missing, or `-` where they are an order. The word `''`
 /// is empty.
@@ -278,84 +276,6 @@ static SOME: [&str; 14] = [
     "-x",
 ];
 
-/// Words that ask of the program itself, and how the answer begins.
-const QUESTIONS: &str = "\
---version | doomsight 1.1.0
--V | doomsight 1.1.0
--h | doomsight 1.1.0: 
-help | doomsight 1.1.0: 
-help paint | doomsight 1.1.0: 
-paint --help | doomsight 1.1.0: 
-build a --version --help | doomsight 1.1.0
-build a -h -V | doomsight build WAD MAP OUT [--cert FILE] [--report FILE]
-audit a MAP01 -h | doomsight audit WAD MAP [--report FILE] [--json] [--large]
-help check | doomsight check WAD MAP CERT [--large]
-all --help | doomsight all WAD OUT [--only MAP,MAP] [--refused HOW] [--report FILE] [--json]
-why --help | doomsight why WAD MAP A B [--exact | --budget N|full|enough] [--large]
-draw --help | doomsight draw WAD MAP OUT [A [B [--exact | --budget N|full|enough]] | --faults
-help sound -V | doomsight sound WAD MAP [A B] [--large]
-verify --help | doomsight verify WAD [--only MAP,MAP] [--report FILE] [--json] [--workers N]
-help maps | doomsight maps WAD [--only MAP,MAP] [--report FILE] [--json] [--large]
-grid --help | doomsight grid N [--exact | --budget N|full|enough] [--workers N] [--hexen]
-sound -- --help | 
--- help | 
-zero help MAP01 b | 
-zero a MAP01 b | 
-";
-
-/// What `build --help` says.
-const BUILD: &str = "\
-doomsight build WAD MAP OUT [--cert FILE] [--report FILE]
-    [--exact | --budget N|full|enough] [--workers N] [--large]
-
-Writes the WAD with the map's REJECT to OUT, and a certificate and a report of
-the pairs of sectors where they are asked for.
-
-  --cert FILE             writes the certificate to FILE; else to none
-  --report FILE           writes what came of each map, pair or fault to FILE
-  --exact                 decides every pair, in place of a budget
-  --budget N|full|enough  sequences from a sector; else 16384 (why, draw: full)
-  --workers N             threads, 1 to 64; else 4
-  --large                 maps of up to 16383 points, 32768 lines, 16384 sectors
-";
-
-/// Lines that `--help` has.
-const HELP: &str = "\
-doomsight VERB WORDS.. [OPTIONS]
-  all    builds every map of a WAD, and judges each table
-  draw   draws a map, the row of a sector, or a pair of sectors
-  grid   makes a map of N by N rooms, and builds and checks it
-  verify says how the tables of a WAD differ from the right ones
-  maps   lists the maps of a WAD, and what their tables hold
-  --only MAP,MAP          takes these maps; else all of the WAD
-  --faults                draws what audit refuses, in place of A and B
-  --json                  writes each line of the report as a JSON object
-  -h, --help              this help, or behind a verb that of the verb
-  -V, --version           the version
-";
-
-/// Files, words, and the exit code.
-const CODES: &str = "\
-a=U | audit a MAP01 | 0
-a=U | draw a MAP01 b 0 1 | 0
-a=TOUCHED | draw a MAP01 b --faults | 0
-a=PAIR | ray a MAP01 2L,2R,0,1,-32 | 1
-a=U =4600 | verify a | 1
-a=U =4600 | maps a | 0
-a=U | audit a | 2
-a=U | audit b MAP01 | 3
-a=U, reads=0 | audit a MAP01 | 4
-a=U, puts=0 | audit a MAP01 | 5
-a=#50574158000000000c000000 | zero a MAP01 b | 6
-a=SQUARE @250:1:37 | zero a MAP02 b | 7
-a=SQUARE @14:1:09 | zero a MAP01 b | 8
-a=SQUARE .1 *229390 | zero a MAP01 b | 9
-a=SQUARE .4 *106522 | zero a MAP01 b --large | 0
-a=TOUCHED | audit a MAP01 | 10
-a=SQUARE | audit a MAP01 --report r | 0
-a=U | zero a MAP01 a | 11
-";
-
 fn parts_of(row: &str) -> (&str, &str) {
     row.split_once('|').unwrap_or((row, ""))
 }
@@ -370,29 +290,48 @@ fn words_of(alloc: Global, line: &str) -> Result<Vec<String>, AllocError> {
     Ok(words)
 }
 
-// What is said of the words, as the rows have it. Whether that is that they are an order is what `read_words` says.
-fn said_of(alloc: Global, words: &[String]) -> Result<String, OrderFault> {
-    let fault = diagnose(words).fault;
+// What is said of words: that they are an order, which is missing behind them, or which is the first wrong one.
+#[derive(Clone, Copy)]
+enum Said {
+    Order,
+    Missing(&'static str),
+    Word(usize),
+    /// It isn't what `read_words` says.
+    Unlike,
+}
+
+// Whether it is what a row has.
+fn is_told(said: Said, wanted: &str) -> bool {
+    match said {
+        Said::Order => wanted == "-",
+        Said::Missing(name) => wanted == name,
+        Said::Word(number) => wanted.parse::<usize>() == Ok(number),
+        Said::Unlike => false,
+    }
+}
+
+// What is said of the words. Whether that is that they are an order is what `read_words` says.
+fn said_of(alloc: Global, words: &[String]) -> Result<Said, OrderFault> {
     let is_order = match read_words(alloc, words) {
         Ok(_) => true,
         Err(OrderFault::Usage) => false,
         Err(OrderFault::Memory(ref memory)) => return Err(OrderFault::Memory(*memory)),
     };
-    let said = match fault {
-        None if is_order => String::from_str(alloc, "-")?,
-        Some(Fault::Missing(name)) if !is_order => String::from_str(alloc, name)?,
-        Some(Fault::Word { at, .. }) if !is_order => at.saturating_add(1).to_string(alloc)?,
-        _ => String::from_str(alloc, "unlike read_words")?,
-    };
-    Ok(said)
+    Ok(match diagnose(words).fault {
+        None if is_order => Said::Order,
+        Some(Fault::Missing(name)) if !is_order => Said::Missing(name),
+        Some(Fault::Word { at, .. }) if !is_order => Said::Word(at.saturating_add(1)),
+        _ => Said::Unlike,
+    })
 }
 
 // Whether what is said of a row's words is what it has.
 fn is_said(alloc: Global, row: &str) -> Result<bool, OrderFault> {
     let (line, wanted) = parts_of(row);
     let words = words_of(alloc, line)?;
-    let said = said_of(alloc, &words)?;
-    Ok(said.as_str() == wanted.trim())
+    let said = said_of(alloc, &words);
+    drop(words);
+    Ok(is_told(said?, wanted.trim()))
 }
 
 #[test]
@@ -416,23 +355,22 @@ fn words_numbered(alloc: Global, count: usize, number: usize) -> Result<Vec<Stri
     Ok(words)
 }
 
-// Whether so many words, the list that has this number, are an order; nothing where what is said of them is unlike that.
-fn is_order(alloc: Global, count: usize, number: usize) -> Result<Option<bool>, OrderFault> {
+// What is said of so many words, the list that has this number.
+fn said_numbered(alloc: Global, count: usize, number: usize) -> Result<Said, OrderFault> {
     let words = words_numbered(alloc, count, number)?;
-    let said = said_of(alloc, &words)?;
-    match said.as_str() {
-        "unlike read_words" => Ok(None),
-        said => Ok(Some(said == "-")),
-    }
+    let said = said_of(alloc, &words);
+    drop(words);
+    said
 }
 
 // How many of so many lists of words are orders; the fault is the number of one of which something else is said.
 fn orders_in(alloc: Global, count: usize, lists: usize) -> Result<u32, Fail> {
     let mut orders = 0u32;
     for number in 0..lists {
-        match is_order(alloc, count, number)? {
-            Some(is_order) => orders = orders.saturating_add(u32::from(is_order)),
-            None => return Err(number.into()),
+        match said_numbered(alloc, count, number)? {
+            Said::Unlike => return Err(number.into()),
+            Said::Order => orders = orders.saturating_add(1),
+            _ => {}
         }
     }
     Ok(orders)
@@ -447,126 +385,16 @@ fn what_is_no_order_has_a_wrong_word(rt: HostRuntime) -> Result<(), Fail> {
     Ok(())
 }
 
-// Whether the question is answered by a text that begins so, and where its third byte can't be put by a write fault.
-fn is_answered(alloc: Global, question: &Question, begins: &str) -> Result<bool, AllocError> {
-    let mut out = MemSink::new(alloc, Vec::new(alloc));
-    let is_done = code(&answer(&mut out, question)) == 0;
+// Whether the answer ends with a write fault where its third piece can't be put.
+fn is_fault(alloc: Global, question: &Question) -> Result<bool, AllocError> {
     let mut broken = MemSink::new(alloc, vec![in alloc; 2]?);
-    let is_fault = code(&answer(&mut broken, question)) == 5;
-    Ok(is_done && is_fault && !begins.is_empty() && out.held().starts_with(begins.as_bytes()))
-}
-
-// Whether a row's words ask of the program just where the row has how the answer begins, and it does so.
-fn is_question(alloc: Global, row: &str) -> Result<bool, AllocError> {
-    let (line, begins) = parts_of(row);
-    let words = words_of(alloc, line)?;
-    match question_in(&words) {
-        Some(question) => is_answered(alloc, &question, begins.trim()),
-        None => Ok(begins.trim().is_empty()),
-    }
+    Ok(code(&answer(&mut broken, question)) == 5)
 }
 
 #[test]
-fn what_is_asked_of_the_program_is_answered(rt: HostRuntime) -> Result<(), Fail> {
-    for row in QUESTIONS.lines() {
-        if !is_question(rt.alloc(), row)? {
-            return Err(row.into());
-        }
-    }
-    Ok(())
-}
-
-// What the program answers to words that ask of itself.
-fn told_by(alloc: Global, line: &str) -> Result<String, AllocError> {
-    let mut out = MemSink::new(alloc, Vec::new(alloc));
-    if let Some(question) = question_in(&words_of(alloc, line)?) {
-        answer(&mut out, &question);
-    }
-    String::from_str(alloc, str::from_utf8(out.held()).unwrap_or(""))
-}
-
-// Whether what is told to a line of words has each line of these.
-fn has_lines(alloc: Global, line: &str, wanted: &str) -> Result<bool, AllocError> {
-    let told = told_by(alloc, line)?;
-    for line in wanted.lines() {
-        if !told.lines().any(|row| row == line) {
-            return Ok(false);
-        }
-    }
-    Ok(true)
-}
-
-#[test]
-fn help_has_a_line_for_each_option(rt: HostRuntime) -> Result<(), Fail> {
+fn an_answer_that_cannot_be_put_is_a_write_fault(rt: HostRuntime) -> Result<(), Fail> {
     let alloc = rt.alloc();
-    assert!(rt; told_by(alloc, "build --help")?.as_str() == BUILD);
-    assert!(rt; has_lines(alloc, "--help", HELP)?);
-    Ok(())
-}
-
-// Whether what is told to words begins with the program's name, and each line of it has at most 80 columns.
-fn fits(alloc: Global, words: &str) -> Result<bool, AllocError> {
-    let told = told_by(alloc, words)?;
-    Ok(told.starts_with("doomsight ") && told.lines().all(|row| row.len() <= 80))
-}
-
-// Whether this holds of the help for a verb.
-fn fits_of(alloc: Global, name: &str) -> Result<bool, AllocError> {
-    let words = format!(in alloc; "help {name}")?;
-    fits(alloc, &words)
-}
-
-#[test]
-fn help_fits_into_a_terminal(rt: HostRuntime) -> Result<(), Fail> {
-    assert!(rt; fits(rt.alloc(), "--help")?);
-    for verb in VERBS.iter() {
-        if !fits_of(rt.alloc(), verb.name)? {
-            return Err(verb.name.into());
-        }
-    }
-    Ok(())
-}
-
-// The exit code of a run of the words of a line.
-fn run_on<R: Threads + Sync>(
-    rt: &R,
-    alloc: Global,
-    stage: &mut Stage,
-    line: &str,
-) -> Result<u8, AllocError> {
-    let words = words_in(alloc, line)?;
-    let mut out = MemSink::new(alloc, stage.puts.clone()?);
-    match run_words(rt, alloc, &words, &mut stage.shelf, &mut out, &NoNotice) {
-        Ok(status) => Ok(code(&status)),
-        Err(_) => Err(AllocError),
-    }
-}
-
-// Whether a run of a row ends with its exit code.
-fn has_code<R: Threads + Sync>(rt: &R, alloc: Global, row: &str) -> Result<bool, AllocError> {
-    let (given, rest) = parts_of(row);
-    let (line, wanted) = parts_of(rest);
-    let mut stage = stage_of(alloc, given)?;
-    let found = run_on(rt, alloc, &mut stage, line)?;
-    Ok(wanted.trim().parse::<u8>() == Ok(found))
-}
-
-#[test]
-fn each_run_has_its_exit_code(rt: HostRuntime) -> Result<(), Fail> {
-    for row in CODES.lines() {
-        if !has_code(&rt, rt.alloc(), row)? {
-            return Err(row.into());
-        }
-    }
-    Ok(())
-}
-
-#[test]
-fn a_report_has_its_lines_and_totals(rt: HostRuntime) -> Result<(), Fail> {
-    let mut stage = stage_of(rt.alloc(), "a=U")?;
-    let found = run_on(&rt, rt.alloc(), &mut stage, "build a MAP01 b --report=r")?;
-    let report = stage.shelf.bytes("r").unwrap_or(b"");
-    assert!(rt; found == 0 && report == b"set 0 2\ntotal set 1 clear 5 listed 0\n".as_slice());
+    assert!(rt; is_fault(alloc, &Question::Version)? && is_fault(alloc, &Question::Help(None))?);
     Ok(())
 }
 
@@ -579,11 +407,13 @@ fn is_noted<P: Print + Drop>(err: P, alloc: Global, refusal: Status, wanted: boo
 
 #[test]
 fn a_map_that_is_refused_for_its_size_is_noted(rt: HostRuntime) -> Result<(), Fail> {
-    assert!(rt; is_noted(rt.stderr(), rt.alloc(), Status::Limit(Bound::Points), true));
-    assert!(rt; is_noted(rt.stderr(), rt.alloc(), Status::Limit(Bound::Lines), true));
-    assert!(rt; is_noted(rt.stderr(), rt.alloc(), Status::Limit(Bound::Sectors), true));
-    assert!(rt; is_noted(rt.stderr(), rt.alloc(), Status::Limit(Bound::Lumps), false));
-    assert!(rt; is_noted(rt.stderr(), rt.alloc(), Status::SameName, false));
+    assert!(rt;
+        is_noted(rt.stderr(), rt.alloc(), Status::Limit(Bound::Points), true)
+            && is_noted(rt.stderr(), rt.alloc(), Status::Limit(Bound::Lines), true)
+            && is_noted(rt.stderr(), rt.alloc(), Status::Limit(Bound::Sectors), true)
+            && is_noted(rt.stderr(), rt.alloc(), Status::Limit(Bound::Lumps), false)
+            && is_noted(rt.stderr(), rt.alloc(), Status::SameName, false)
+    );
     Ok(())
 }
 
