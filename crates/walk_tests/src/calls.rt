@@ -5,7 +5,6 @@ ghost use Rattle.pair_budget.specs.BoardCore.Machine.{pair, start};
 
 use map_lumps::hexen_lumps::to_hexen;
 use pair_budget::board_core::{Core, Event, Reply};
-use shelf_io::fetch;
 use sight_names::{
     BuildFault, FetchFault, LabelFault, Memory, Pair, Pt, RewriteFault, ShelfFault, Side, WadFault,
 };
@@ -13,7 +12,6 @@ use stab_hull::{Passed, Sleeve};
 use std::alloc::{AllocError, Global};
 use std::fmt::Display;
 use std::test::Fail;
-use worked_maps::stages::stage_of;
 
 // Two workers draw the two sources, one marks the pair, the other sees it, draws nothing and ends.
 fn are_replies(core: &mut Core) -> Result<bool, Memory>
@@ -53,20 +51,6 @@ fn two_workers_draw_two_sources_and_one_sees_what_the_other_marked(
 fn a_turned_record_has_six_zero_bytes_before_its_sides(rt: HostRuntime) -> Result<(), Fail> {
     let turned = to_hexen(rt.alloc(), &[1, 0, 2, 0, 4, 0, 97, 0, 7, 0, 3, 0, 255, 255])?;
     assert!(rt; turned.as_slice() == b"\x01\0\x02\0\x04\0\0\0\0\0\0\0\x03\0\xff\xff".as_slice());
-    Ok(())
-}
-
-// How many bytes of a file of eleven are fetched within a limit.
-fn fetched_within(alloc: Global, limit: u64) -> Result<usize, FetchFault> {
-    let mut stage = stage_of(alloc, "a=#0102030405060708090a0b")?;
-    let bytes = fetch(alloc, &mut stage.shelf, "a", limit)?;
-    Ok(bytes.len())
-}
-
-#[test]
-fn a_file_longer_than_the_limit_is_not_fetched(rt: HostRuntime) -> Result<(), Fail> {
-    assert!(rt; matches!(fetched_within(rt.alloc(), 10), Err(FetchFault::TooLong)));
-    assert!(rt; fetched_within(rt.alloc(), 11)? == 11);
     Ok(())
 }
 
