@@ -470,7 +470,7 @@ static inline int32_t doomsight_udmf_map(const void *text, size_t size, const do
  * 0 lets the call go on. Any other answer stops it: the block is refused, as malloc might have refused it, and the call ends as it
  * does then. Its answer is DOOMSIGHT_MEMORY, it gave back all of its memory, and wrote nothing but *fault: buffers, counts and what a
  * handle keeps are as they were before the call. That is proved of each block, whoever refuses it. Whether it was the hook the
- * hook knows.
+ * hook knows. (At the very end a call may have its answer and need the block no more: then it gives the answer.)
  *
  * The hook is that of the thread that sets it, for all of its calls, doomsight_line too, until it sets another, or NULL for none. It
  * may read and write whatever isn't handed to the running call, as a flag that another thread sets. It calls no function of the

@@ -102,10 +102,14 @@ static long refuse_heard(const doomsight_map *map, long step, long *tried, long 
         if (doomsight_audit(map, &options, other, 2, &again, &f) != DOOMSIGHT_MEMORY || live != 0) ++*bad;
         if (again.listed != UINT64_C(0xAAAAAAAAAAAAAAAA) || other[0].kind != 0xAAAA || other[1].to_y != (int16_t)0xAAAA) ++*bad;
     }
-    memset(&same, 0xAA, sizeof same);
     for (i = 0; i < answers; i += step, ++*tried) {
+        int32_t code;
         left = i;
-        if (doomsight_why(map, &options, 0, last, &same, &f) != DOOMSIGHT_MEMORY || live != 0 || same.answer != 0xAAAA) ++*bad;
+        memset(&same, 0xAA, sizeof same);
+        code = doomsight_why(map, &options, 0, last, &same, &f);
+        /* a walk that has found its ray answers, also where the node behind it finds no room */
+        if (live != 0 || (code == DOOMSIGHT_OK ? memcmp(&same, &answer, sizeof same) != 0 : code != DOOMSIGHT_MEMORY || same.answer != 0xAAAA))
+            ++*bad;
     }
     return audits + answers;
 }
