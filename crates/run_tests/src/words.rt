@@ -290,48 +290,29 @@ fn words_of(alloc: Global, line: &str) -> Result<Vec<String>, AllocError> {
     Ok(words)
 }
 
-// What is said of words: that they are an order, which is missing behind them, or which is the first wrong one.
-#[derive(Clone, Copy)]
-enum Said {
-    Order,
-    Missing(&'static str),
-    Word(usize),
-    /// It isn't what `read_words` says.
-    Unlike,
-}
-
-// Whether it is what a row has.
-fn is_told(said: Said, wanted: &str) -> bool {
-    match said {
-        Said::Order => wanted == "-",
-        Said::Missing(name) => wanted == name,
-        Said::Word(number) => wanted.parse::<usize>() == Ok(number),
-        Said::Unlike => false,
-    }
-}
-
-// What is said of the words. Whether that is that they are an order is what `read_words` says.
-fn said_of(alloc: Global, words: &[String]) -> Result<Said, OrderFault> {
+// What is said of the words, as the rows have it. Whether that is that they are an order is what `read_words` says.
+fn said_of(alloc: Global, words: &[String]) -> Result<String, OrderFault> {
+    let fault = diagnose(words).fault;
     let is_order = match read_words(alloc, words) {
         Ok(_) => true,
         Err(OrderFault::Usage) => false,
         Err(OrderFault::Memory(ref memory)) => return Err(OrderFault::Memory(*memory)),
     };
-    Ok(match diagnose(words).fault {
-        None if is_order => Said::Order,
-        Some(Fault::Missing(name)) if !is_order => Said::Missing(name),
-        Some(Fault::Word { at, .. }) if !is_order => Said::Word(at.saturating_add(1)),
-        _ => Said::Unlike,
-    })
+    let said = match fault {
+        None if is_order => String::from_str(alloc, "-")?,
+        Some(Fault::Missing(name)) if !is_order => String::from_str(alloc, name)?,
+        Some(Fault::Word { at, .. }) if !is_order => at.saturating_add(1).to_string(alloc)?,
+        _ => String::from_str(alloc, "unlike read_words")?,
+    };
+    Ok(said)
 }
 
 // Whether what is said of a row's words is what it has.
 fn is_said(alloc: Global, row: &str) -> Result<bool, OrderFault> {
     let (line, wanted) = parts_of(row);
     let words = words_of(alloc, line)?;
-    let said = said_of(alloc, &words);
-    drop(words);
-    Ok(is_told(said?, wanted.trim()))
+    let said = said_of(alloc, &words)?;
+    Ok(said.as_str() == wanted.trim())
 }
 
 #[test]
@@ -355,22 +336,23 @@ fn words_numbered(alloc: Global, count: usize, number: usize) -> Result<Vec<Stri
     Ok(words)
 }
 
-// What is said of so many words, the list that has this number.
-fn said_numbered(alloc: Global, count: usize, number: usize) -> Result<Said, OrderFault> {
+// Whether so many words, the list that has this number, are an order; nothing where what is said of them is unlike that.
+fn is_order(alloc: Global, count: usize, number: usize) -> Result<Option<bool>, OrderFault> {
     let words = words_numbered(alloc, count, number)?;
-    let said = said_of(alloc, &words);
-    drop(words);
-    said
+    let said = said_of(alloc, &words)?;
+    match said.as_str() {
+        "unlike read_words" => Ok(None),
+        said => Ok(Some(said == "-")),
+    }
 }
 
 // How many of so many lists of words are orders; the fault is the number of one of which something else is said.
 fn orders_in(alloc: Global, count: usize, lists: usize) -> Result<u32, Fail> {
     let mut orders = 0u32;
     for number in 0..lists {
-        match said_numbered(alloc, count, number)? {
-            Said::Unlike => return Err(number.into()),
-            Said::Order => orders = orders.saturating_add(1),
-            _ => {}
+        match is_order(alloc, count, number)? {
+            Some(is_order) => orders = orders.saturating_add(u32::from(is_order)),
+            None => return Err(number.into()),
         }
     }
     Ok(orders)
