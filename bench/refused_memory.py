@@ -16,6 +16,8 @@ its outputs, and in one of these ways:
 - read fault or write fault, where the shelf got no memory for a name, or opening a file or printing was refused: no file touched, or those
   whole that had their names before one didn't get its name.
 
+An output that is the standard output stands there whole, with no line behind it, or not at all.
+
 Orders in which two names mean one file are refused; there each run has to end by that, by memory, or by a read fault, with every file as
 before. So has each run in which a call of the system that asks what stands under a name fails (`strace` makes it fail, where it is there). And an
 output whose name is that under which another one is written at first is whole in the end, and so is the other.
@@ -170,6 +172,9 @@ BESIDE = [
     ("build u.wad MAP01 w --report .w.doomsight-0 --workers 1", ["w", ".w.doomsight-0"], 5),
 ]
 
+# Orders whose output is the standard output; the line stands on standard error then.
+PRINTED = ["zero u.wad MAP01 -", "draw u.wad MAP01 /dev/stdout"]
+
 # Orders, and how many threads they start at least. The judges of `all` are as many as there are processors, whatever the workers.
 THREADS = [
     ("build u.wad MAP01 out.wad --workers 3", 2),
@@ -311,6 +316,22 @@ def tried(run_of, way_of):
     return ways, number, None
 
 
+def printed(folder):
+    """Tries orders that write to the standard output: it holds the whole output, or nothing."""
+    kinds, wrong = ["memory", "done", "read fault"], False
+    for words in PRINTED:
+        base = folder.ordered(0, words, [])
+        ends = {(12, b"", b""): "memory", (4, b"", b"refused: read fault wad\n"): "read fault", (0, base.line, base.errors): "done"}
+        ways, number, odd = tried(
+            lambda number: folder.ordered(number, words, []), lambda run: ends.get((run.status, run.line, run.errors))
+        )
+        row("`%s`" % words, base.count, ways, kinds)
+        if odd:
+            print("wrong: %s with request %d refused: %s" % (words, number, odd))
+            wrong = True
+    return wrong
+
+
 def row(title, count, ways, kinds):
     print("| " + " | ".join(map(str, [title, count] + [ways[kind] for kind in kinds])) + " |", flush=True)
 
@@ -410,6 +431,7 @@ def main():
     with tempfile.TemporaryDirectory() as place:
         folder = Folder(place, given.program, given.cc)
         wrong = orders(folder)
+        wrong = printed(folder) or wrong
         print()
         wrong = one_file(folder) or wrong
         wrong = beside(folder) or wrong

@@ -22,7 +22,7 @@ use places::{WadAgain, byte_of, map_of};
 use progress::{Progress, refuses_size};
 use runs::run_words;
 use shelf_io::{DiskShelf, Sink, StdSink, is_standard_output};
-use sight_names::MapFault;
+use sight_names::{MapFault, OrderFault};
 use sight_run::{Notice, Status, code};
 use std::alloc::{AllocError, Global};
 use std::env::Env;
@@ -117,19 +117,19 @@ fn writes_to_standard_output(order: &Order) -> bool {
 }
 
 /// Does what the words ask of the files of the machine. Where a limit of a map's size refused it, standard error names the option of
-/// the larger ones, unless it was given.
+/// the larger ones, unless it was given. The words are read once more, so the order is theirs.
 fn obey<R: Files + Print + Threads + Sync + AllocGlobal, O: Sink, P: Print>(
     rt: &R,
     alloc: Global,
     words: &[String],
+    order: &Option<Order>,
     out: &mut O,
     progress: &Progress<P>,
 ) -> Ended {
     let mut audits = false;
     let mut is_all = false;
     let mut may_be_large = false;
-    let order = read_words(alloc, words);
-    if let Ok(order) = &order {
+    if let Some(order) = order {
         audits = matches!(order, Order::Audit { .. });
         is_all = matches!(
             order,
@@ -152,7 +152,7 @@ fn obey<R: Files + Print + Threads + Sync + AllocGlobal, O: Sink, P: Print>(
     if may_be_large && (refuses_size(&status) || progress.has_refused_size()) {
         progress.name_larger_limits();
     }
-    if let Ok(order) = &order {
+    if let Some(order) = order {
         explain(rt, order, &status, progress);
     }
     Ended { status, audits }
@@ -213,11 +213,11 @@ fn is_of_file(status: &Status) -> bool {
     )
 }
 
-/// Whether a file that the words name for writing is the standard output. Its line goes to standard error then.
-fn has_standard_output(alloc: Global, words: &[String]) -> bool {
-    match read_words(alloc, words) {
-        Ok(order) => writes_to_standard_output(&order),
-        Err(_) => false,
+/// Whether a file that the order writes is the standard output. Its line goes to standard error then.
+fn has_standard_output(order: &Option<Order>) -> bool {
+    match order {
+        Some(order) => writes_to_standard_output(order),
+        None => false,
     }
 }
 
@@ -232,11 +232,19 @@ pub fn run_order<R: Files + Print + Threads + Sync + AllocGlobal, E: Print + IsT
     if let Some(question) = question_in(words) {
         return exit_code(&answer(&mut out, &question));
     }
-    let progress = Progress::new(err, rt.alloc(), err.is_terminal());
-    let ended = if has_standard_output(rt.alloc(), words) {
-        obey(rt, rt.alloc(), words, &mut StdSink::new(err), &progress)
+    let alloc = rt.alloc();
+    // where the order isn't known, the line of a run could end up behind the bytes of its file
+    let order = match read_words(alloc, words) {
+        Ok(order) => Some(order),
+        Err(OrderFault::Usage) => None,
+        Err(OrderFault::Memory(ref memory)) => return exit_code(&Status::Memory(*memory)),
+    };
+    let progress = Progress::new(err, alloc, err.is_terminal());
+    let ended = if has_standard_output(&order) {
+        let mut line = StdSink::new(err);
+        obey(rt, alloc, words, &order, &mut line, &progress)
     } else {
-        obey(rt, rt.alloc(), words, &mut out, &progress)
+        obey(rt, alloc, words, &order, &mut out, &progress)
     };
     if ended.status == Status::Usage {
         print_diagnosis(err, words);
