@@ -2,7 +2,8 @@
  * whether two sectors see each other.
  *
  * Link with libdoomsight_c.a and doomsight_heap.o (or the kit's liblibc_c.a), in this order; nothing else but the C library is
- * needed: the archive asks for rattle_alloc, rattle_realloc and rattle_dealloc, memcpy, memmove and memset alone.
+ * needed: the archive asks for rattle_alloc, rattle_realloc and rattle_dealloc, memcpy, memmove and memset, and for __udivti3 of the
+ * library that each compiler links by itself (texts of UDMF divide numbers of 128 bits).
  *
  * docs/C-LIBRARY.md says what is proved of these calls, and what the caller owes.
  *
