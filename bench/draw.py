@@ -304,12 +304,14 @@ def arrows_of(sheet, drawn):
 
 
 def leak(asked, lumps, number):
-    """Whether an arrow leads through the hole that is there without this line, and none of them over another line."""
+    """Whether an arrow leads through the hole that is there without this line, and none of them over another line.
+    None where the map is closed without it, as at a pillar."""
     records = dict(lumps)[b"LINEDEFS"]
     less = records[:number * 14] + records[number * 14 + 14:]
     with open(asked.source, "wb") as it:
         it.write(wad(asked.name, [(lump, less if lump == b"LINEDEFS" else content) for lump, content in lumps]))
-    said([asked.program, "draw", asked.source, asked.name, asked.out, "--faults"])
+    if " faults open " not in said([asked.program, "draw", asked.source, asked.name, asked.out, "--faults"]):
+        return None
     sheet = Sheet(asked.name, Plan(asked.source, asked.name))
     arrows = list(arrows_of(sheet, open(asked.out, encoding="ascii", newline="").read()))
     hole = next(line for line in Plan(asked.built, asked.name).lines if line.number == number).ends
@@ -327,10 +329,11 @@ def far_over(arrow, ends):
 def compare_leaks(asked, lumps, step):
     one_sided = [line for line in Plan(asked.built, asked.name).lines if (line.right is None) != (line.left is None)]
     lines = one_sided[::step]
-    through_all = [leak(asked, lumps, line.number) for line in lines]
-    asked.count += len(lines)
-    asked.wrong += through_all.count(False)
-    print("%s: %d leaks, %d without an arrow" % (asked.name, len(lines), through_all.count(False)), flush=True)
+    led = [leak(asked, lumps, line.number) for line in lines]
+    leaks = len(led) - led.count(None)
+    asked.count += leaks
+    asked.wrong += led.count(False)
+    print("%s: %d leaks, %d without an arrow" % (asked.name, leaks, led.count(False)), flush=True)
 
 
 def compare_map(asked, rows, pairs):
