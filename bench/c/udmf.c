@@ -57,15 +57,17 @@ static void try_halves(doomsight_lump text, const doomsight_map *map, const doom
     }
 }
 
-/* A text that is cut off: a refusal, which writes nothing else. */
+/* A text that is cut off in a block: a refusal, which writes nothing else. Behind a block it may be the text of another map. */
 static void try_cut(doomsight_lump text)
 {
     doomsight_lump_sizes sizes, same;
     doomsight_fault fault;
+    size_t half = text.size / 2;
+    while (half > 0 && ((const uint8_t *)text.bytes)[half - 1] != '{') half--;
     memset(&sizes, 0xEE, sizeof sizes);
     same = sizes;
-    expect("a text that is cut off", doomsight_udmf_sizes(text.bytes, text.size / 2, &sizes, &fault) == DOOMSIGHT_BAD_LUMP &&
-        (fault.kind == DOOMSIGHT_TEXT || fault.kind == DOOMSIGHT_TEXT_VALUE) && fault.at <= text.size / 2);
+    expect("a text that is cut off", doomsight_udmf_sizes(text.bytes, half, &sizes, &fault) == DOOMSIGHT_BAD_LUMP && fault.kind == DOOMSIGHT_TEXT &&
+        fault.at <= half);
     expect("a text that is none", doomsight_udmf_sizes(NULL, 0, &sizes, &fault) == DOOMSIGHT_BAD_LUMP && fault.code == DOOMSIGHT_BAD_LUMP);
     expect("sizes of nothing", !memcmp(&sizes, &same, sizeof same));
 }
