@@ -171,7 +171,7 @@ typedef struct doomsight_flaw {
     uint16_t kind; /* an enum doomsight_flaw_kind */
     uint16_t i, j;
     uint16_t left; /* 1 for the left side of line i */
-    int16_t x, y, to_x, to_y;
+    int32_t x, y, to_x, to_y;
 } doomsight_flaw;
 
 /* How many there are of each. A map has a table exactly where it has no clashes (which cross, touch or overlap) and no open sides.
@@ -198,7 +198,7 @@ typedef struct doomsight_lump_sizes {
 #define DOOMSIGHT_HOLDS(fact) typedef char doomsight_holds[(fact) ? 1 : -1]
 #endif
 DOOMSIGHT_HOLDS(sizeof(doomsight_fault) == 32 && sizeof(doomsight_counts) == 40 && sizeof(doomsight_answer) == 32
-    && sizeof(doomsight_flaw) == 16 && sizeof(doomsight_flaw_counts) == 48 && sizeof(doomsight_lump_sizes) == 32
+    && sizeof(doomsight_flaw) == 24 && sizeof(doomsight_flaw_counts) == 48 && sizeof(doomsight_lump_sizes) == 32
     && sizeof(void *) == 8);
 #undef DOOMSIGHT_HOLDS
 

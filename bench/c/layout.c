@@ -25,8 +25,8 @@ HOLDS(IS(doomsight_fault, code, 0, 2) && IS(doomsight_fault, kind, 2, 2) && IS(d
     && IS(doomsight_answer, first_line, 2, 2) && IS(doomsight_answer, first_left, 4, 2) && IS(doomsight_answer, last_line, 6, 2)
     && IS(doomsight_answer, last_left, 8, 2) && IS(doomsight_answer, a, 12, 4) && IS(doomsight_answer, b, 16, 4)
     && IS(doomsight_answer, c, 24, 8) && sizeof(doomsight_answer) == 32 && IS(doomsight_flaw, kind, 0, 2) && IS(doomsight_flaw, i, 2, 2)
-    && IS(doomsight_flaw, j, 4, 2) && IS(doomsight_flaw, left, 6, 2) && IS(doomsight_flaw, x, 8, 2) && IS(doomsight_flaw, y, 10, 2)
-    && IS(doomsight_flaw, to_x, 12, 2) && IS(doomsight_flaw, to_y, 14, 2) && sizeof(doomsight_flaw) == 16
+    && IS(doomsight_flaw, j, 4, 2) && IS(doomsight_flaw, left, 6, 2) && IS(doomsight_flaw, x, 8, 4) && IS(doomsight_flaw, y, 12, 4)
+    && IS(doomsight_flaw, to_x, 16, 4) && IS(doomsight_flaw, to_y, 20, 4) && sizeof(doomsight_flaw) == 24
     && IS(doomsight_flaw_counts, clashes, 0, 8) && IS(doomsight_flaw_counts, loose_ends, 8, 8)
     && IS(doomsight_flaw_counts, open_sides, 16, 8) && IS(doomsight_flaw_counts, tears, 24, 8)
     && IS(doomsight_flaw_counts, gaps, 32, 8) && IS(doomsight_flaw_counts, listed, 40, 8) && sizeof(doomsight_flaw_counts) == 48

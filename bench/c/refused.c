@@ -100,7 +100,7 @@ static long refuse_heard(const doomsight_map *map, long step, long *tried, long 
     for (i = 0; i < audits; i += step, ++*tried) {
         left = i;
         if (doomsight_audit(map, &options, other, 2, &again, &f) != DOOMSIGHT_MEMORY || live != 0) ++*bad;
-        if (again.listed != UINT64_C(0xAAAAAAAAAAAAAAAA) || other[0].kind != 0xAAAA || other[1].to_y != (int16_t)0xAAAA) ++*bad;
+        if (again.listed != UINT64_C(0xAAAAAAAAAAAAAAAA) || other[0].kind != 0xAAAA || other[1].to_y != (int32_t)0xAAAAAAAA) ++*bad;
     }
     for (i = 0; i < answers; i += step, ++*tried) {
         int32_t code;

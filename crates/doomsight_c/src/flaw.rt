@@ -11,7 +11,7 @@ use map_faults::{Gap, LinePair, LooseEnd, Tear, fault_of, meeting_of};
 use sight_names::{LineFault, Plan, Pt, Side};
 
 /// A fault of a map at its place; what the numbers of each kind tell stands in the header. To C the fields are at the bytes 0,
-/// 2, 4 and so on of 16.
+/// 2, 4, 6, 8, 12, 16 and 20 of 24.
 #[repr(C)]
 #[derive(Clone, Copy)]
 pub struct DoomsightFlaw {
@@ -19,10 +19,10 @@ pub struct DoomsightFlaw {
     pub i: u16,
     pub j: u16,
     pub left: u16,
-    pub x: i16,
-    pub y: i16,
-    pub to_x: i16,
-    pub to_y: i16,
+    pub x: i32,
+    pub y: i32,
+    pub to_x: i32,
+    pub to_y: i32,
 }
 
 /// How many faults of each kind a map has, and how many of all are listed.
@@ -45,10 +45,10 @@ fn flaw_of(kind: u16, i: u16, j: u16, left: u16, from: Pt, to: Pt) -> DoomsightF
         i,
         j,
         left,
-        x: from.x,
-        y: from.y,
-        to_x: to.x,
-        to_y: to.y,
+        x: i32::from(from.x),
+        y: i32::from(from.y),
+        to_x: i32::from(to.x),
+        to_y: i32::from(to.y),
     }
 }
 
