@@ -414,35 +414,6 @@ fn a_byte_of_a_text_has_a_row_and_a_column(rt: HostRuntime) -> Result<(), Fail> 
     Ok(())
 }
 
-// The map in this row of a WAD that is read once more, whose ENDMAP is said to be missing; `-` for none.
-fn without_end(alloc: Global, line: &str) -> Result<String, AllocError> {
-    let mut stage = stage_of(alloc, "a=PAIR +6:MAP02 +7:TEXTMAP *2 +8:MAP03")?;
-    let words = words_of(alloc, line)?;
-    if let (Some(wad), Ok(order)) = (
-        WadAgain::read(alloc, &mut stage.shelf, "a"),
-        read_words(alloc, &words),
-    ) {
-        for name in &wad.without_end(alloc, &order)? {
-            return String::from_str(alloc, name);
-        }
-    }
-    String::from_str(alloc, "-")
-}
-
-#[test]
-fn a_map_of_udmf_without_its_end_is_named(rt: HostRuntime) -> Result<(), Fail> {
-    for (line, wanted) in [
-        ("audit a MAP02", "MAP02"),
-        ("maps a --only map01,map02", "MAP02"),
-        ("maps a", "-"),
-        ("audit a MAP01", "-"),
-        ("audit a MAP03", "-"),
-    ] {
-        assert!(rt; without_end(rt.alloc(), line)?.as_str() == wanted);
-    }
-    Ok(())
-}
-
 #[test]
 fn a_byte_is_found_in_the_text_of_its_map(rt: HostRuntime) -> Result<(), Fail> {
     let mut stage = stage_of(rt.alloc(), "a=PAIR +6:MAP02 +7:TEXTMAP =0a0a62 +8:ENDMAP")?;
