@@ -40,6 +40,7 @@ many bytes as for whole ones.
 import argparse
 import collections
 import os
+import re
 import shutil
 import struct
 import subprocess
@@ -189,6 +190,8 @@ THREADS = [
 # Where the worked certificate of U has a count, how many bytes of it, and where it is cut off, so that the count can't be borne out.
 COUNTS = [("rays", 16, 4, 140), ("listed pairs", 20, 4, 140), ("trees", 24, 4, 161), ("nodes", 142, 8, 161)]
 
+# What standard error says of a file that couldn't be read or written.
+NAMED = re.compile(rb"(?:[a-z]+(?:\.[a-z]+)?|standard output): (?:out of memory|[^\n]* \(os error [0-9]+\))\n")
 Ended = collections.namedtuple("Ended", "status line errors count asked started joined")
 
 
@@ -275,7 +278,9 @@ class Folder:
             return None
         untouched = all(self.held(name) == OLD for name in outputs)
         whole = lambda names: all(self.is_whole(words, bytes_of, name) for name in names)
-        if not base.errors.startswith(run.errors):
+        # a file that couldn't be read or written is named, with the system's words
+        named = run.status in (4, 5) and NAMED.fullmatch(run.errors)
+        if not named and not base.errors.startswith(run.errors):
             return None
         # a verdict that isn't right comes with its report, and so do the faults of a map
         writes = base.status == 0 or words.startswith(("verify ", "audit ")) and "--report" in words
@@ -323,7 +328,7 @@ def printed(folder):
         base = folder.ordered(0, words, [])
         ends = {(12, b"", b""): "memory", (4, b"", b"refused: read fault wad\n"): "read fault", (0, base.line, base.errors): "done"}
         ways, number, odd = tried(
-            lambda number: folder.ordered(number, words, []), lambda run: ends.get((run.status, run.line, run.errors))
+            lambda number: folder.ordered(number, words, []), lambda run: ends.get((run.status, run.line, NAMED.sub(b"", run.errors)))
         )
         row("`%s`" % words, base.count, ways, kinds)
         if odd:
