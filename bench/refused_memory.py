@@ -191,7 +191,7 @@ THREADS = [
 COUNTS = [("rays", 16, 4, 140), ("listed pairs", 20, 4, 140), ("trees", 24, 4, 161), ("nodes", 142, 8, 161)]
 
 # What standard error says of a file that couldn't be read or written.
-NAMED = re.compile(rb"(?:[a-z]+(?:\.[a-z]+)?|standard output): (?:out of memory|[^\n]* \(os error [0-9]+\))\n")
+NAMED = re.compile(rb"(?m)^(?:[a-z]+(?:\.[a-z]+)?|standard output): (?:out of memory|[^\n]* \(os error [0-9]+\))\n")
 Ended = collections.namedtuple("Ended", "status line errors count asked started joined")
 
 
@@ -279,8 +279,7 @@ class Folder:
         untouched = all(self.held(name) == OLD for name in outputs)
         whole = lambda names: all(self.is_whole(words, bytes_of, name) for name in names)
         # a file that couldn't be read or written is named, with the system's words
-        named = run.status in (4, 5) and NAMED.fullmatch(run.errors)
-        if not named and not base.errors.startswith(run.errors):
+        if not base.errors.startswith(NAMED.sub(b"", run.errors) if run.status in (4, 5) else run.errors):
             return None
         # a verdict that isn't right comes with its report, and so do the faults of a map
         writes = base.status == 0 or words.startswith(("verify ", "audit ")) and "--report" in words
