@@ -88,11 +88,11 @@ impl WadAgain {
         behind.get(..entry.size as usize).unwrap_or(&[])
     }
 
-    /// Those of the maps that are asked for that are of UDMF and have no ENDMAP.
+    /// Those of the maps that are asked for that are of UDMF and have no ENDMAP; none where there is no memory to look for them.
     pub fn without_end(&self, alloc: Global, order: &Order) -> Result<Vec<String>, AllocError> {
         let mut found = Vec::new(alloc);
         let Ok(names) = udmf_maps(alloc, &self.wad) else {
-            return Err(AllocError);
+            return Ok(found);
         };
         for name in &names {
             let name = text_of(name);
