@@ -1,7 +1,6 @@
--- The lines of a list, one after the other; and what is told of pairs that clash.
+-- What is told of pairs that clash, and texts behind each other.
 use Rattle.std.proofs.Common.{◌≡◌, ℕ, ◌+◌, ◌<◌, ◌≤◌, List, [], ◌∷◌, ◌++◌, length, get_or, take, All, append_assoc, sym, ap, subst, ◌∙◌}
-use Rattle.std.specs.List.{flat_map}
-use Rattle.std.proofs.lemmas.List.{flat_map_more, take_all, take_more}
+use Rattle.std.proofs.lemmas.List.{take_all, take_more}
 use Rattle.std.proofs.lemmas.List.Elements.{All-from_recursion}
 use Rattle.math_base.proofs.Lists.{all_join, all_of, get_take, map_pushed}
 use Rattle.sight_names.specs.Map.{Map}
@@ -11,15 +10,6 @@ use Rattle.map_faults.specs.declared.clashes.LinePair.{LinePair}
 use Rattle.map_faults.specs.declared.clashes.TheConstants.{MOST_CLASHES}
 use Rattle.fault_report.specs.declared.clashes.Clash.{Clash}
 use Rattle.fault_report.specs.Clashes.{AreToldClashes, IsToldClash}
-
--- the next line
-pub lines_more : {X : Type 0} (line : X → List ℕ) (xs : List X) (k : ℕ) (d : X) (begun old new : List ℕ) → k < length xs → old ≡ begun ++ flat_map line (take k xs) → new ≡ old ++ line (get_or xs k d) → new ≡ begun ++ flat_map line (take (k + 1) xs)
-lines_more line xs k d begun old new lt before is =
-    is ∙ ap (λ (ys : List ℕ). ys ++ line (get_or xs k d)) before ∙ flat_map_more line begun (take k xs) (get_or xs k d) ∙ ap (λ ys. begun ++ flat_map line ys) (sym (take_more xs k d lt))
-
--- the last one
-pub lines_all : {X : Type 0} (line : X → List ℕ) (xs : List X) (k : ℕ) (begun new : List ℕ) → length xs ≤ k → new ≡ begun ++ flat_map line (take k xs) → new ≡ begun ++ flat_map line xs
-lines_all line xs k begun new past is = is ∙ ap (λ ys. begun ++ flat_map line ys) (take_all k xs past)
 
 -- the next pair
 pub told_more : (m : Map) (ps : List LinePair) (k : ℕ) (d : LinePair) (old new : List Clash) (c : Clash) → k < length ps → AreToldClashes m (take k ps) old → c.pair ≡ get_or ps k d → IsToldClash m c → new ≡ old ++ c ∷ [] → AreToldClashes m (take (k + 1) ps) new
@@ -40,11 +30,7 @@ few_taken n xs few = sym (take_all n xs few)
 pub first_clash : (m : Map) (xs first : List LinePair) (count : ℕ) → xs ≡ first → AreFirstClashes m first count → All (IsClash m) xs
 first_clash m xs first count same h = subst (All (IsClash m)) (sym (same ∙ h.first_of_all)) (All-from_recursion (IsClash m) (take MOST_CLASHES h.all) (all_of (IsClash m) (take MOST_CLASHES h.all) (λ x c. h.are.each x (contains_of_get h.all x c.0 (get_take MOST_CLASHES h.all c.0 x (get_of_contains (take MOST_CLASHES h.all) x c.0 c.1 c.2)).1))))
 
--- a text behind a text behind a text
-pub then_text : (old b c one two : List ℕ) → two ≡ one ++ c → one ≡ old ++ b → two ≡ old ++ (b ++ c)
-then_text old b c one two h g = h ∙ ap (λ (ys : List ℕ). ys ++ c) g ∙ append_assoc old b c
-
--- .. and of two parts
+-- a text of two parts behind two others, and a text behind these
 pub two_then : (old b w x c one two three : List ℕ) → three ≡ two ++ c → two ≡ one ++ (w ++ x) → one ≡ old ++ b → three ≡ old ++ (((b ++ w) ++ x) ++ c)
 two_then old b w x c one two three h g f =
     h ∙ ap (λ (ys : List ℕ). ys ++ c) (g ∙ ap (λ (ys : List ℕ). ys ++ (w ++ x)) f ∙ append_assoc old b (w ++ x) ∙ ap (λ (ys : List ℕ). old ++ ys) (sym (append_assoc b w x))) ∙ append_assoc old ((b ++ w) ++ x) c

@@ -1,5 +1,5 @@
 use Rattle.std.proofs.lemmas.Result.{IfOk-weaker}
-use Rattle.fault_report.proofs.Telling.{then_text}
+use Rattle.row_spelling.proofs.Quoting.{then_text}
 use Rattle.fault_report.proofs.lines.push_nameless.Goals as goal
 
 pub returns : goal.returns

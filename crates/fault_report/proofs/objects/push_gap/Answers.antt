@@ -1,7 +1,7 @@
 use Rattle.std.proofs.Common.{◌++◌, ℕ, List, codes, string_bytes}
 use Rattle.std.proofs.lemmas.Result.{IfOk-weaker}
 use Rattle.fault_report.specs.Json.{way_json}
-use Rattle.fault_report.proofs.Telling.{then_text}
+use Rattle.row_spelling.proofs.Quoting.{then_text}
 use Rattle.fault_report.proofs.objects.push_gap.Goals as goal
 
 pub returns : goal.returns

@@ -1,7 +1,7 @@
 use Rattle.std.proofs.Common.{◌++◌, codes, string_bytes}
 use Rattle.std.specs.Fmt.{decimal}
 use Rattle.std.proofs.lemmas.Result.{IfOk-weaker}
-use Rattle.fault_report.proofs.Telling.{then_text}
+use Rattle.row_spelling.proofs.Quoting.{then_text}
 use Rattle.fault_report.proofs.objects.push_nameless.Goals as goal
 
 pub returns : goal.returns

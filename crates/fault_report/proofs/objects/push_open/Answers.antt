@@ -2,7 +2,7 @@ use Rattle.std.proofs.Common.{◌++◌, ℕ, List, codes, string_bytes}
 use Rattle.std.proofs.lemmas.Result.{IfOk-weaker}
 use Rattle.sight_names.specs.Map.{map_of, named}
 use Rattle.fault_report.specs.Json.{ends_json, sector_json, side_json}
-use Rattle.fault_report.proofs.Telling.{then_text}
+use Rattle.row_spelling.proofs.Quoting.{then_text}
 use Rattle.fault_report.proofs.objects.push_open.Goals as goal
 
 pub returns : goal.returns
