@@ -1,5 +1,5 @@
 -- Steps of the search for clashing lines, and that the first clash is the fault that an audit tells.
-use Rattle.std.proofs.Common.{◌≡◌, ℕ, ◌+◌, ◌-◌, ◌*◌, ◌<◌, ◌≤◌, ◌⊎◌, inl, inr, List, [], ◌∷◌, ◌++◌, length, take, map, get_or, slice_get, option_and_then, Option, Some, None, Contains, MatchOption, refl, sym, ◌∙◌, ap, subst, subst₂, arith, min, ℤ, ◌<ℤ◌}
+use Rattle.std.proofs.Common.{◌≡◌, ℕ, ◌+◌, ◌-◌, ◌*◌, ◌<◌, ◌≤◌, ◌⊎◌, inl, inr, List, [], ◌∷◌, ◌++◌, length, take, map, get_or, slice_get, option_and_then, Option, Some, None, Contains, refl, sym, ◌∙◌, ap, subst, subst₂, arith, min}
 use Rattle.std.proofs.lemmas.List.{get_or_default, length-append, length-map, length-take}
 use Rattle.std.proofs.lemmas.List.Elements.{All-get_or}
 use Rattle.std.proofs.lemmas.Bool.{cases_lt}
@@ -8,23 +8,21 @@ use Rattle.std.proofs.lemmas.Option.{none-some}
 use Rattle.math_base.proofs.Lists.{contains_none, contains_cons, contains_there, contains_append, contains_left, contains_right, contains_one, contains_here, contains_map, length_pushed}
 use Rattle.math_base.proofs.Numbers.{below_or_not, below_or_last}
 use Rattle.sight_names.specs.declared.plan.Line.{Line}
-use Rattle.sight_names.specs.declared.faults.LineFault.{LineFault}
 use Rattle.sight_names.specs.Plan.{PlanParts, IsPlan}
-use Rattle.sight_names.specs.Map.{Map, MapLine, map_of, line_at, looked_up}
+use Rattle.sight_names.specs.Map.{Map, map_of}
 use Rattle.sight_names.specs.Order.{Ascends}
 use Rattle.sight_names.proofs.PlanMap.{line_of_plan}
-use Rattle.sight_names.proofs.Lists.{contains_of_get}
 use Rattle.mesh_base.proofs.SightLaws.Plans.{line_below}
 use Rattle.geom_exact.specs.declared.line_spans.Span.{Span}
 use Rattle.geom_exact.specs.LineSpans.Spans.{span_of, span_of_entry, span_at, IsSpanIn, AreSpans, IsSkip}
 use Rattle.geom_exact.proofs.LineSpans.Sweep.{ends_within, of_each}
 use Rattle.geom_exact.proofs.Meeting.{apart_meet}
-use Rattle.map_audit.specs.Audit.{AreFine, FineAt, IsFaultOf}
+use Rattle.map_audit.specs.Audit.{AreFine, FineAt}
 use Rattle.map_audit.proofs.AuditLemmas.{lines_before, fine_without_first}
 use Rattle.map_audit.proofs.SweepLemmas.{swapped}
 use Rattle.map_faults.specs.declared.clashes.LinePair.{LinePair}
 use Rattle.map_faults.specs.declared.clashes.TheConstants.{MOST_CLASHES}
-use Rattle.map_faults.specs.Clashes.{numbered, IsClash, IsEarlier, AreClashes, AreFirstClashes, AreLaterClashes, AreClashesOf, AddsIfClash, AreInOrder}
+use Rattle.map_faults.specs.Clashes.{numbered, IsClash, IsEarlier, AreFirstClashes, AreLaterClashes, AreClashesOf, AddsIfClash, AreInOrder}
 use Rattle.map_faults.proofs.Ordered.{ascends_join, ascends_map, take_joined}
 
 -- ---- the sweep of one line, from the last place back

@@ -1,11 +1,11 @@
 -- The common point of two lines, by the turns of the ends of the one about the other.
-use Rattle.std.proofs.Common.{◌≡◌, ℕ, ◌+◌, ◌*◌, ◌/◌, ◌<◌, ◌≤◌, ◌⊎◌, inl, inr, [], ◌∷◌, ℤ, pos, negsuc, ◌+ℤ◌, ◌-ℤ◌, ◌*ℤ◌, neg_ℤ, ◌≤ℤ◌, ◌<ℤ◌, Option, Some, MatchOption, option_and_then, slice_get, slice_index_or, refl, sym, ◌∙◌, ap, ap₂, subst, subst₂, arith}
+use Rattle.std.proofs.Common.{◌≡◌, ℕ, ◌+◌, ◌*◌, ◌/◌, ◌<◌, ◌≤◌, ◌⊎◌, inl, inr, [], ◌∷◌, ℤ, pos, negsuc, ◌+ℤ◌, ◌-ℤ◌, ◌*ℤ◌, neg_ℤ, ◌≤ℤ◌, ◌<ℤ◌, Option, Some, MatchOption, option_and_then, slice_get, slice_index_or, sym, ◌∙◌, ap, ap₂, subst, subst₂, arith}
 use borrow.Author.Differences.{ints}
-use Rattle.math_base.proofs.Quoting.{quoting, by_ring, combine1, combine2}
+use Rattle.math_base.proofs.Quoting.{quoting, by_ring, combine1}
 use Rattle.std.proofs.Math.Nat.{mul-le-mul_left, mul_comm, lt-mul-div-succ, div-mul-le_self}
 use Rattle.math_base.proofs.IntLaws.{add-*ℤ}
 use Rattle.math_base.proofs.Numbers.{below_or_not}
-use Rattle.math_base.proofs.Signs.{mul-le, le-of-mul, mul-pos, pos-of-mul, zero-of-mul, sign_cases, le_or_lt}
+use Rattle.math_base.proofs.Signs.{mul-le, le-of-mul, mul-pos, pos-of-mul, zero-of-mul, le_or_lt}
 use Rattle.sight_names.specs.declared.names.Pt.{Pt}
 use Rattle.sight_names.specs.declared.plan.Line.{Line}
 use Rattle.sight_names.specs.Plan.{PlanParts}
@@ -14,13 +14,12 @@ use Rattle.mesh_base.proofs.SightLaws.Plans.{line_there}
 use Rattle.math_base.proofs.Options.{one_value}
 use Rattle.std.proofs.lemmas.Option.{get_or_from_slice_get}
 use Rattle.sight_names.specs.Point.{Point, point_of, OnSegment}
-use Rattle.sight_names.specs.Sound.{IsCommon}
 use Rattle.sight_names.proofs.Portals.{scale_above}
 use Rattle.geom_exact.specs.Formulas.{turn_of, AreOnOneSide}
-use Rattle.geom_exact.proofs.SegmentLemmas.{on, beside, beside-mean, spread, meet_x, meet_y, same_meeting_x, same_meeting_y, four_turns}
+use Rattle.geom_exact.proofs.SegmentLemmas.{on, beside, beside-mean, meet_x, meet_y, same_meeting_x, same_meeting_y, four_turns}
 use Rattle.geom_exact.proofs.RelationLemmas.{apart_on_other_side}
 use Rattle.std.specs.Prelude.{nat_abs}
-use Rattle.map_faults.specs.Corners.{IsRoundedDown, IsCornerOf, IsOneCornerOf, AreCornersOf, IsMeanDown}
+use Rattle.map_faults.specs.Corners.{IsCornerOf, IsOneCornerOf, AreCornersOf, IsMeanDown}
 
 straight : (p q : Pt) (z : Point) → OnSegment (point_of p) (point_of q) z → beside p q z ≡ pos 0
 straight p q z h = let w = on p q z h in zero-of-mul (w.0 +ℤ w.1) (beside p q z) w.2.weighted (beside-mean p q w.0 w.1 z w.2)

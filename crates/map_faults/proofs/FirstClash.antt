@@ -1,16 +1,16 @@
 -- The first clash is the fault that an audit tells, and there is none exactly where the lines meet at ends alone.
-use Rattle.std.proofs.Common.{◌≡◌, ◌≢◌, ℕ, ◌<◌, ◌≤◌, ◌⊎◌, inl, inr, ◌↔◌, List, [], ◌∷◌, length, take, slice_get, Option, Some, None, Contains, refl, sym, ◌∙◌, ap, subst, arith}
+use Rattle.std.proofs.Common.{◌≡◌, ℕ, ◌<◌, ◌≤◌, ◌⊎◌, inl, inr, ◌↔◌, List, [], ◌∷◌, length, slice_get, Some, Contains, refl, sym, ◌∙◌, ap, subst, arith}
 use Rattle.std.proofs.lemmas.Option.{none-some, same_Some}
 use Rattle.math_base.proofs.Lists.{contains_none, contains_here, get_take}
 use Rattle.math_base.proofs.Numbers.{below_or_above, below_or_not, below_differs}
 use Rattle.sight_names.specs.declared.faults.LineFault.{LineFault}
-use Rattle.sight_names.specs.Map.{Map, MapLine, line_at}
-use Rattle.sight_names.specs.Sound.{LinesMeetAtEnds, MeetAtEnds}
+use Rattle.sight_names.specs.Map.{Map, MapLine}
+use Rattle.sight_names.specs.Sound.{LinesMeetAtEnds}
 use Rattle.sight_names.proofs.Lists.{get_of_contains}
 use Rattle.geom_exact.specs.declared.Relation.{Relation}
 use Rattle.geom_exact.specs.declared.Relation.TheVariants.{Apart, Ends, Cross as Crossing, Touch as Touching, Overlap as Overlapping}
 use Rattle.geom_exact.proofs.Meeting.{meet_swapped, no_meet_overlap, no_meet_touch, no_meet_cross}
-use Rattle.map_audit.specs.Audit.{AreFine, FineAt, FineBelow, FineBefore, AreRelated, IsFirstPair, IsLineFault, IsFaultOf, fault_by}
+use Rattle.map_audit.specs.Audit.{AreFine, FineAt, AreRelated, IsFirstPair, IsLineFault, IsFaultOf, fault_by}
 use Rattle.map_faults.specs.declared.clashes.LinePair.{LinePair}
 use Rattle.map_faults.specs.declared.clashes.TheConstants.{MOST_CLASHES}
 use Rattle.map_faults.specs.Clashes.{numbered, IsClash, IsEarlier, AreClashes, AreFirstClashes}

@@ -3,16 +3,16 @@ use Rattle.std.proofs.Common.{◌≡◌, ◌≢◌, ℕ, ◌+◌, ◌<◌, ◌�
 use Rattle.std.proofs.Math.Seq.{take-append_seam}
 use Rattle.std.proofs.lemmas.List.{get_or-set_same, get_or-set_other, length-set, get_or_default}
 use Rattle.std.proofs.lemmas.Option.{none-some, same_Some, slice_get_within}
-use Rattle.math_base.proofs.Lists.{contains_none, contains_append, contains_left, contains_right, contains_one, contains_here, pushed_at}
-use Rattle.math_base.proofs.Numbers.{below_or_last, below_or_not, same_or_not}
+use Rattle.math_base.proofs.Lists.{contains_none, contains_append, contains_left, contains_right, contains_one, contains_here}
+use Rattle.math_base.proofs.Numbers.{below_or_last, same_or_not}
 use Rattle.sight_names.specs.declared.plan.Line.{Line}
-use Rattle.sight_names.specs.Plan.{PlanParts, IsPlan, IsPlanLine}
+use Rattle.sight_names.specs.Plan.{PlanParts, IsPlan}
 use Rattle.sight_names.specs.Order.{Ascends}
-use Rattle.sight_names.proofs.Lists.{contains_of_get}
 use Rattle.map_faults.specs.declared.loose_ends.Ends.{Ends}
 use Rattle.map_faults.specs.declared.loose_ends.Ends.TheVariants.{Nowhere, One, More}
 use Rattle.map_faults.specs.declared.loose_ends.LooseEnd.{LooseEnd}
 use Rattle.map_faults.specs.LooseEnds.{EndsAt, IsLooseEnd, AreLooseEnds, IsEnds, AreEndsBelow, AreEnds, noted, NotesLine, NotesEntry, NotesRecord, AddsLoose}
+use Rattle.map_faults.proofs.Ordered.{one_behind}
 
 -- ---- one line noted
 
@@ -124,7 +124,7 @@ at_point p n old new (One i) is e h = subst (AreLooseBelow p (n + 1)) (sym e) (r
     | inl below ↦ contains_left x old (one ∷ []) (h.all x below w)
     | inr same ↦ contains_right x old (one ∷ []) (subst (Contains (one ∷ [])) (joined n x.point i x.line (sym same) (w.only i (subst (EndsAt p i) (sym same) is.1))) (contains_here one []))
   ];
-  ascend = up;
+  ascend = one_behind (λ (e f : LooseEnd). e.point < f.point) old one h.ascend (λ x c. (h.each x c).1);
 })
   where
     one : LooseEnd
@@ -135,18 +135,6 @@ at_point p n old new (One i) is e h = subst (AreLooseBelow p (n + 1)) (sym e) (r
 
     joined : (a b c d : ℕ) → a ≡ b → c ≡ d → ◌≡◌ {A = LooseEnd} (record { point = a; line = c }) (record { point = b; line = d })
     joined a b c d x y = cc
-
-    up : Ascends (λ (e f : LooseEnd). e.point < f.point) (old ++ one ∷ [])
-    up i j x y lt a b = elim (pushed_at old one y j b) as (λ _. x.point < y.point) [
-      | inl there ↦ elim (pushed_at old one x i a) as (λ _. x.point < y.point) [
-        | inl here ↦ h.ascend i j x y lt here there
-        | inr last ↦ absurd (let w = slice_get_within old j y there in let s = last.0 in omega arith)
-      ]
-      | inr last ↦ elim (pushed_at old one x i a) as (λ _. x.point < y.point) [
-        | inl here ↦ subst (λ (z : LooseEnd). x.point < z.point) last.1 (h.each x (contains_of_get old x i here)).1
-        | inr both ↦ absurd (let s = last.0 in let t = both.0 in omega arith)
-      ]
-    ]
 
 pub loose_more : (p : PlanParts) (n : ℕ) (es : List Ends) (d : Ends) (old new : List LooseEnd) → AreEnds p es → n < length es → AddsLoose n (get_or es n d) old new → AreLooseBelow p n old → AreLooseBelow p (n + 1) new
 loose_more p n es d old new h lt adds w = at_point p n old new (get_or es n d) (h.each n d (let a = h.len in omega arith)) adds w

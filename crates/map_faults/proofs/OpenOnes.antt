@@ -1,8 +1,8 @@
 -- The open sides, line after line; in the words of the map; and that the first of them is the one that an audit tells.
 use Rattle.std.proofs.Common.{◌≡◌, ℕ, ◌+◌, ◌<◌, ◌≤◌, ◌⊎◌, inl, inr, List, [], ◌∷◌, ◌++◌, length, slice_get, slice_index_or, Bool, true, false, Option, Some, None, Contains, refl, sym, ap, ◌∙◌, subst, arith}
 use Rattle.std.proofs.lemmas.Bool.{false≢true}
-use Rattle.std.proofs.lemmas.Option.{slice_get_within, same_Some, none-some}
-use Rattle.math_base.proofs.Lists.{contains_none, contains_append, contains_left, contains_right, contains_one, contains_here, pushed_at}
+use Rattle.std.proofs.lemmas.Option.{same_Some, none-some}
+use Rattle.math_base.proofs.Lists.{contains_none, contains_append, contains_left, contains_right, contains_one, contains_here}
 use Rattle.math_base.proofs.Numbers.{below_or_last, below_or_not}
 use Rattle.sight_names.specs.declared.names.Side.{Side}
 use Rattle.sight_names.specs.declared.names.Triangle.{Triangle}
@@ -10,7 +10,6 @@ use Rattle.sight_names.specs.declared.plan.Line.{Line}
 use Rattle.sight_names.specs.Plan.{PlanParts, IsPlan}
 use Rattle.sight_names.specs.Map.{Map, MapLine, map_of, looked_up, line_at, named, Names}
 use Rattle.sight_names.specs.Point.{Point}
-use Rattle.sight_names.specs.Order.{Ascends}
 use Rattle.sight_names.specs.Path.{Touches}
 use Rattle.sight_names.specs.Mesh.{IsPlainMesh, side_edge, triangle_at}
 use Rattle.sight_names.proofs.Lists.{contains_of_get, get_of_contains}
@@ -29,6 +28,7 @@ use Rattle.face_groups.proofs.TriSectors.SideLemmas.{side_is, name_is, edge_of_s
 use Rattle.face_groups.proofs.TriSectors.FaceRegion.{Ground, GapOn, face_list, region_of, not_above, touched}
 use Rattle.face_groups.proofs.TriSectors.FaceTouches.{LeadsOut, out_of_side, out_of_face}
 use Rattle.map_faults.specs.OpenSides.{AreSidesAgainst, AreOpenSides, AreOpenBy, AddsOpen, AddsSides}
+use Rattle.map_faults.proofs.Ordered.{one_behind}
 
 -- ---- line after line
 
@@ -49,20 +49,8 @@ against_more D E P side old new wider next here before (inr g) h = subst (AreSid
     | inl d ↦ elim (h.rest s d) as (λ _. P s ⊎ Contains (old ++ side ∷ []) s) [ inl p ↦ inl p | inr c ↦ inr (contains_left s old (side ∷ []) c) ]
     | inr same ↦ inr (contains_right s old (side ∷ []) (subst (Contains (side ∷ [])) (sym same) (contains_here side [])))
   ];
-  ascend = up;
+  ascend = one_behind IsSideBefore old side h.ascend (λ s c. before s (h.each s c).0);
 })
-  where
-    up : Ascends IsSideBefore (old ++ side ∷ [])
-    up i j x y lt a b = elim (pushed_at old side y j b) as (λ _. IsSideBefore x y) [
-      | inl there ↦ elim (pushed_at old side x i a) as (λ _. IsSideBefore x y) [
-        | inl first ↦ h.ascend i j x y lt first there
-        | inr last ↦ absurd (let w = slice_get_within old j y there in let s = last.0 in omega arith)
-      ]
-      | inr last ↦ elim (pushed_at old side x i a) as (λ _. IsSideBefore x y) [
-        | inl first ↦ subst (IsSideBefore x) last.1 (before x (h.each x (contains_of_get old x i first)).0)
-        | inr both ↦ absurd (let s = last.0 in let t = both.0 in omega arith)
-      ]
-    ]
 
 abbrev side_of : ℕ → Bool → Side
 side_of i left = record { line = i; left = left }

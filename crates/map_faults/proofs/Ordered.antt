@@ -1,7 +1,6 @@
 -- Lists in order: sorted and without repeats, one behind another, and the first of them.
-use Rattle.std.proofs.Common.{◌≡◌, ℕ, zero, suc, ◌+◌, ◌<◌, ◌≤◌, ◌⊎◌, ◌==◌, inl, inr, List, [], ◌∷◌, ◌++◌, length, take, drop, map, slice_get, get_or, Contains, Some, Bool, true, false, refl, sym, ap, ◌∙◌, subst, arith, IsPermutation, Less, zero-lt-suc, suc-le-suc}
+use Rattle.std.proofs.Common.{◌≡◌, ℕ, zero, suc, ◌+◌, ◌<◌, ◌≤◌, ◌==◌, inl, inr, List, [], ◌∷◌, ◌++◌, length, take, drop, map, slice_get, get_or, Contains, Some, true, refl, sym, ap, ◌∙◌, subst, arith, IsPermutation, Less}
 use Rattle.std.specs.Ordering.{nat_cmp, is_eq}
-use Rattle.std.specs.Cmp.{IsTotalOrder, IsEquivalence}
 use Rattle.std.specs.List.{dedup}
 use Rattle.std.specs.List.Retain.{IsFiltered, DiffersFromLast}
 use Rattle.std.specs.List.Sorted.{IsSorted, IsStrictlySortedBy}
@@ -11,7 +10,7 @@ use Rattle.std.proofs.lemmas.List.Filters.{dedup_is}
 use Rattle.std.proofs.lemmas.List.Kept.{Contains-dedup, Contains-from_dedup, IsStrictlySortedBy-dedup}
 use Rattle.std.proofs.lemmas.List.Sorted.{Contains-permutation, IsPermutation-sym}
 use Rattle.std.proofs.lemmas.Option.{same_Some, none-some}
-use Rattle.math_base.proofs.Lists.{all_at, map_pushed, contains_none, contains_cons, contains_here, contains_there, contains_append}
+use Rattle.math_base.proofs.Lists.{all_at, map_pushed, contains_none, contains_cons, contains_here, contains_one, contains_there, contains_append}
 use Rattle.sight_names.specs.Order.{Ascends}
 use Rattle.sight_names.proofs.Lists.{contains_of_get, ascends_tail, ascends_head}
 use Rattle.map_faults.specs.declared.clashes.LinePair.{LinePair}
@@ -61,6 +60,12 @@ ascends_join {X} R (x ∷ xs) ys up later between = ascends_cons R x (xs ++ ys) 
   where
     first : (y : X) → Contains (xs ++ ys) y → R x y
     first y c = elim (contains_append y xs ys c) as (λ _. R x y) [ inl here ↦ ascends_head R x y xs up here | inr there ↦ between x y (contains_here x xs) there ]
+
+-- one behind the others
+pub one_behind : {X : Type 0} (R : X → X → Type 0) (old : List X) (new : X) → Ascends R old → ((x : X) → Contains old x → R x new) → Ascends R (old ++ new ∷ [])
+one_behind {X} R old new up before =
+    ascends_join R old (new ∷ []) up (ascends_cons R new [] (λ y c. absurd (contains_none y c)) (λ i j x y lt a b. absurd (none-some x a)))
+    (λ x y c d. subst (R x) (contains_one y new d) (before x c))
 
 -- the pairs of one number
 pub ascends_map : (n : ℕ) (js : List ℕ) → Ascends (λ x y. x < y) js → Ascends IsEarlier (map (numbered n) js)

@@ -1,23 +1,24 @@
 -- Gaps, triangle after triangle, and that they are segments of the hull.
-use Rattle.std.proofs.Common.{◌≡◌, ℕ, ◌+◌, ◌<◌, ◌≤◌, ◌⊎◌, inl, inr, List, [], ◌∷◌, ◌++◌, length, slice_get, option_and_then, Option, Some, None, Contains, Bool, true, false, IsTrue, ◌==◌, ◌&&◌, ◌||◌, refl, sym, ◌∙◌, ap, subst, arith}
+use Rattle.std.proofs.Common.{◌≡◌, ℕ, ◌+◌, ◌<◌, ◌≤◌, ◌⊎◌, inl, inr, List, [], ◌∷◌, ◌++◌, length, slice_get, option_and_then, Option, Some, None, Contains, Bool, true, false, ◌==◌, ◌&&◌, ◌||◌, refl, sym, ◌∙◌, ap, subst, arith}
 use Rattle.std.proofs.lemmas.Bool.{false≢true}
 use Rattle.std.proofs.lemmas.Option.{none-some, same_Some, slice_get_within}
 use Rattle.math_base.proofs.Lists.{contains_none, contains_append, contains_left, contains_right, contains_one, contains_here}
-use Rattle.math_base.proofs.Numbers.{below_or_last, tells_same}
+use Rattle.math_base.proofs.Numbers.{below_or_last}
 use Rattle.sight_names.specs.declared.names.Side.{Side}
 use Rattle.sight_names.specs.declared.names.Triangle.{Triangle}
 use Rattle.sight_names.specs.Map.{Map}
-use Rattle.sight_names.specs.Points.{Edge, reverse_of}
-use Rattle.sight_names.specs.Mesh.{HasEdge, IsLineEdge, IsPlainMesh, has_edge, triangle_at}
-use Rattle.mesh_shape.specs.Fills.{FillsSides, HasLeft}
+use Rattle.sight_names.specs.Points.{Edge}
+use Rattle.sight_names.specs.Mesh.{HasEdge, IsLineEdge, IsPlainMesh, triangle_at}
+use Rattle.sight_names.specs.Order.{Ascends}
+use Rattle.mesh_shape.specs.Fills.{FillsSides}
 use Rattle.mesh_shape.specs.HalfEdges.Numbers.{edge, number_of}
 use Rattle.mesh_shape.proofs.HalfEdges.Numbers.{number_at}
 use Rattle.mesh_shape.proofs.RuleLemmas.{edge_cases}
-use Rattle.mesh_base.proofs.GoodMesh.{found_at}
 use Rattle.face_groups.proofs.TriSectors.FaceRegion.{only_one}
 use Rattle.map_faults.specs.declared.gaps.Gap.{Gap}
 use Rattle.map_faults.specs.EdgeSides.{IsSideOfEdge, AreEdgeSides, side_by}
-use Rattle.map_faults.specs.Gaps.{gap_at, IsGap, AreHullGaps, IsFreeOut, IsGapBy, AreJust, AreGapsBy, AddsGap, AddsGaps}
+use Rattle.map_faults.specs.Gaps.{gap_at, IsGap, IsGapBefore, AreHullGaps, IsFreeOut, IsGapBy, AreJust, AreGapsBy, AddsGaps}
+use Rattle.map_faults.proofs.Ordered.{one_behind}
 
 -- ---- one more
 
@@ -30,6 +31,11 @@ added Q P g old new h (inr a) = subst (AreJust (λ x. Q x ⊎ (P × (x ≡ g))))
   each = λ x c. inl (h.each x c);
   all = λ x w. elim w as (λ _. Contains old x) [ inl q ↦ h.all x q | inr e ↦ absurd (a.0 e.0) ];
 })
+
+-- what is added stands behind all others
+in_order : (R : Gap → Gap → Type 0) (P : Type 0) (g : Gap) (old new : List Gap) → Ascends R old → ((x : Gap) → Contains old x → P → R x g) → (P × (new ≡ old ++ g ∷ [])) ⊎ ((¬ P) × (new ≡ old)) → Ascends R new
+in_order R P g old new up before (inl a) = subst (Ascends R) (sym a.1) (one_behind R old g up (λ x c. before x c a.0))
+in_order R P g old new up before (inr a) = subst (Ascends R) (sym a.1) up
 
 just_so : (Q R : Gap → Type 0) (gs : List Gap) → ((g : Gap) → Q g → R g) → ((g : Gap) → R g → Q g) → AreJust Q gs → AreJust R gs
 just_so Q R gs f b h = record { each = λ g c. f g (h.each g c); all = λ g r. h.all g (b g r) }
@@ -110,16 +116,39 @@ module _ (ts : List Triangle) (ss : List (Option Side)) where
             (subst (λ (x : Triangle). HasEdge x (edge g.from g.to)) (same_Some w.0.t t (sym w.0.at ∙ ap (slice_get ts) same ∙ at)) w.0.has) w.0.out)
       ]
 
-  pub all_before : (n : ℕ) (gs : List Gap) → length ts ≤ n → AreJust (Before n) gs → AreGapsBy ts ss gs
+  pub triangle_ordered : (n : ℕ) (t : Triangle) (old new : List Gap) → slice_get ts n ≡ Some t → AddsGaps ts ss n t old new → AreJust (Before n) old → Ascends (IsGapBefore ts) old → Ascends (IsGapBefore ts) new
+  triangle_ordered n t old new at adds h up =
+      let one = added (Before n) (IsFreeOut ts ss (edge t.p t.q)) (gap_at n (edge t.p t.q)) old adds.first h adds.pq in
+      let two = added (One n t) (IsFreeOut ts ss (edge t.q t.r)) (gap_at n (edge t.q t.r)) adds.first adds.second one adds.qr in
+      in_order R (IsFreeOut ts ss (edge t.r t.p)) (gap_at n (edge t.r t.p)) adds.second new
+      (in_order R (IsFreeOut ts ss (edge t.q t.r)) (gap_at n (edge t.q t.r)) adds.first adds.second
+      (in_order R (IsFreeOut ts ss (edge t.p t.q)) (gap_at n (edge t.p t.q)) old adds.first up (λ x c out. inl (h.each x c).1) adds.pq)
+      (λ x c out. behind_first x (one.each x c)) adds.qr)
+      (λ x c out. behind_second x (two.each x c)) adds.rp
+    where
+      R : Gap → Gap → Type 0
+      R = IsGapBefore ts
+
+      behind_first : (x : Gap) → One n t x → R x (gap_at n (edge t.q t.r))
+      behind_first x (inl w) = inl w.1
+      behind_first x (inr w) = subst (λ (g : Gap). R g (gap_at n (edge t.q t.r))) (sym w.1) (inr (refl, t, at, inl (refl, inl refl)))
+
+      behind_second : (x : Gap) → Two n t x → R x (gap_at n (edge t.r t.p))
+      behind_second x (inl (inl w)) = inl w.1
+      behind_second x (inl (inr w)) = subst (λ (g : Gap). R g (gap_at n (edge t.r t.p))) (sym w.1) (inr (refl, t, at, inl (refl, inr refl)))
+      behind_second x (inr w) = subst (λ (g : Gap). R g (gap_at n (edge t.r t.p))) (sym w.1) (inr (refl, t, at, inr (refl, refl)))
+
+  pub all_before : (n : ℕ) (gs : List Gap) → length ts ≤ n → AreJust (Before n) gs → AreJust (IsGapBy ts ss) gs
   all_before n gs past h = just_so (Before n) (IsGapBy ts ss) gs (λ g w. w.0) (λ g w. (w, let lt = slice_get_within ts g.triangle w.t w.at in omega arith)) h
 
 -- ---- as the map has it
 
 pub hull_gaps : (m : Map) (ts : List Triangle) (ss : List (Option Side)) (gs : List Gap) → AreEdgeSides m ts ss → IsPlainMesh m ts → FillsSides m ts → AreGapsBy ts ss gs → AreHullGaps m ts gs
 hull_gaps m ts ss gs sides plain filled h = record {
-  each = λ g c. of_map g (h.each g c);
-  hull = λ g c left. let w = h.each g c in none_there g w (filled.beyond g.triangle w.t (edge g.from g.to) w.at w.has left);
-  all = λ g w. h.all g (of_code g w);
+  each = λ g c. of_map g (h.0.each g c);
+  ascend = h.1;
+  hull = λ g c left. let w = h.0.each g c in none_there g w (filled.beyond g.triangle w.t (edge g.from g.to) w.at w.has left);
+  all = λ g w. h.0.all g (of_code g w);
 }
   where
     its_triangle : (g : Gap) (t : Triangle) → slice_get ts g.triangle ≡ Some t → HasEdge t (edge g.from g.to) → triangle_at ts (edge g.from g.to) ≡ Some g.triangle

@@ -1,5 +1,5 @@
 -- Which side each edge is, line after line.
-use Rattle.std.proofs.Common.{◌≡◌, ◌≢◌, ℕ, ◌+◌, ◌*◌, ◌<◌, ◌≤◌, ◌⊎◌, inl, inr, List, ◌++◌, Option, Some, None, length, take, Bool, true, false, refl, sym, ◌∙◌, ap, subst, arith, option_map, option_and_then, slice_get, get_or}
+use Rattle.std.proofs.Common.{◌≡◌, ◌≢◌, ℕ, ◌+◌, ◌*◌, ◌<◌, ◌≤◌, ◌⊎◌, inl, inr, List, ◌++◌, Option, Some, None, length, take, Bool, true, false, refl, sym, ◌∙◌, ap, subst, arith, option_map, slice_get, get_or}
 use Rattle.std.proofs.Math.Seq.{take-append_seam}
 use Rattle.std.proofs.lemmas.Option.{none-some, same_Some, slice_get_within, slice_get-get_or}
 use Rattle.math_base.proofs.Numbers.{below_or_last}
@@ -7,17 +7,17 @@ use Rattle.sight_names.specs.declared.names.Side.{Side}
 use Rattle.sight_names.specs.declared.names.Triangle.{Triangle}
 use Rattle.sight_names.specs.declared.plan.Line.{Line}
 use Rattle.sight_names.specs.Plan.{PlanParts, IsPlan}
-use Rattle.sight_names.specs.Map.{MapLine, map_of, looked_up, line_at}
+use Rattle.sight_names.specs.Map.{MapLine, map_of, looked_up}
 use Rattle.sight_names.specs.Points.{Edge, reverse_of}
-use Rattle.sight_names.specs.Mesh.{AreTriangles, IsLineEdge, side_edge}
+use Rattle.sight_names.specs.Mesh.{AreTriangles, side_edge}
 use Rattle.sight_names.proofs.PlanMap.{line_of_plan}
 use Rattle.sight_names.proofs.PlanNumbers.{line_edge_of_plan}
 use Rattle.mesh_shape.proofs.RuleLemmas.{plan_line_at}
 use Rattle.mesh_shape.specs.HalfEdges.Numbers.{number_of}
 use Rattle.mesh_shape.specs.HalfEdges.Kinds.{edge_at}
 use Rattle.mesh_shape.proofs.HalfEdges.EachLine.{IsSideOn, same_or_not}
-use Rattle.mesh_shape.proofs.HalfEdges.Numbers.{one_edge, number_is}
-use Rattle.map_faults.specs.EdgeSides.{IsSideOfEdge, AreEdgeSides, side_by, PutsSide, PutsRecord}
+use Rattle.mesh_shape.proofs.HalfEdges.Numbers.{one_edge}
+use Rattle.map_faults.specs.EdgeSides.{IsSideOfEdge, AreEdgeSides, PutsSide, PutsRecord}
 
 -- what is known of an edge when the sides of which D holds were seen
 abbrev IsKnown : (ℕ → Bool → Type 0) → PlanParts → Edge → Option Side → Type 0

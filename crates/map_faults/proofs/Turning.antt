@@ -1,26 +1,25 @@
 -- Turns round a point have one end, and the torn corners of one line after the other.
-use Rattle.std.proofs.Common.{◌≡◌, ◌≢◌, ℕ, zero, suc, ◌+◌, ◌<◌, ◌≤◌, ◌⊎◌, inl, inr, ◌↔◌, List, [], ◌∷◌, ◌++◌, Option, Some, None, length, Bool, true, false, IsTrue, Contains, refl, sym, ◌∙◌, ap, subst, subst₂, arith, slice_get}
+use Rattle.std.proofs.Common.{◌≡◌, ◌≢◌, ℕ, ◌+◌, ◌<◌, ◌≤◌, ◌⊎◌, inl, inr, ◌↔◌, List, [], ◌∷◌, ◌++◌, Option, Some, None, length, Bool, true, false, IsTrue, Contains, refl, sym, ◌∙◌, ap, subst, arith, slice_get}
 use mathlib.Core.Bool.{beq}
 use Rattle.std.proofs.lemmas.List.{length-append}
 use Rattle.std.proofs.lemmas.Option.{none-some, same_Some, slice_get_within}
 use Rattle.std.proofs.lemmas.Bool.{true≢false, false≢true}
-use Rattle.math_base.proofs.Lists.{contains_none, contains_append, contains_left, contains_right, contains_one, contains_here, length_pushed, pushed_at}
-use Rattle.math_base.proofs.Numbers.{below_or_last, below_differs}
+use Rattle.math_base.proofs.Lists.{contains_none, contains_append, contains_left, contains_right, contains_one, contains_here, length_pushed}
+use Rattle.math_base.proofs.Numbers.{below_or_last}
 use Rattle.sight_names.specs.declared.names.Side.{Side}
 use Rattle.sight_names.specs.declared.names.Triangle.{Triangle}
 use Rattle.sight_names.specs.declared.plan.Line.{Line}
 use Rattle.sight_names.specs.Plan.{PlanParts}
 use Rattle.sight_names.specs.Map.{Map, map_of}
-use Rattle.sight_names.specs.Order.{Ascends}
 use Rattle.sight_names.specs.Points.{Edge}
 use Rattle.sight_names.specs.Sequence.{apex}
-use Rattle.sight_names.proofs.Lists.{contains_of_get}
 use Rattle.mesh_shape.specs.Faults.{IsSideBefore}
 use Rattle.mesh_shape.specs.HalfEdges.Numbers.{edge}
 use Rattle.mesh_shape.specs.HalfEdges.Kinds.{edge_at, portal_on}
 use Rattle.map_faults.specs.declared.tears.Tear.{Tear}
 use Rattle.map_faults.specs.EdgeSides.{side_by}
 use Rattle.map_faults.specs.Tears.{IsBorder, IsTurn, IsTurnWithin, DoesName, DoDiffer, IsTorn, IsTear, IsTearBefore, AreTearsOf, AreTearsBy, AddsTear, AddsTears}
+use Rattle.map_faults.proofs.Ordered.{one_behind}
 
 -- ---- the turn, edge by edge
 
@@ -150,19 +149,6 @@ no_tears p ts ss = record {
 tears_so : (D E : Side → Type 0) (p : PlanParts) (ts : List Triangle) (ss : List (Option Side)) (tears : List Tear) → ((s : Side) → D s → E s) → ((t : Tear) → E t.side → IsTear p ts ss t → D t.side) → AreTearsOf D p ts ss tears → AreTearsOf E p ts ss tears
 tears_so D E p ts ss tears wider back h = record { each = h.each; all = λ t e is. h.all t (back t e is) is; among = λ t c. wider t.side (h.among t c); ascend = h.ascend }
 
--- one behind the others
-one_behind : (old : List Tear) (new : Tear) → Ascends IsTearBefore old → ((t : Tear) → Contains old t → IsTearBefore t new) → Ascends IsTearBefore (old ++ new ∷ [])
-one_behind old new up before i j x y lt a b = elim (pushed_at old new y j b) as (λ _. IsTearBefore x y) [
-  | inl there ↦ elim (pushed_at old new x i a) as (λ _. IsTearBefore x y) [
-    | inl first ↦ up i j x y lt first there
-    | inr last ↦ absurd (let w = slice_get_within old j y there in let s = last.0 in omega arith)
-  ]
-  | inr last ↦ elim (pushed_at old new x i a) as (λ _. IsTearBefore x y) [
-    | inl first ↦ subst (λ (u : Tear). IsTearBefore x u) last.1 (before x (contains_of_get old x i first))
-    | inr both ↦ absurd (let s = last.0 in let t = both.0 in omega arith)
-  ]
-]
-
 -- one side more
 side_added : (D E : Side → Type 0) (p : PlanParts) (ts : List Triangle) (ss : List (Option Side)) (i : ℕ) (l : Line) (left : Bool) (from point : ℕ) (old new : List Tear) → slice_get p.lines i ≡ Some (Some l) → edge_at l left ≡ edge from point
     → ((s : Side) → D s → E s) → ((s : Side) → E s → D s ⊎ (s ≡ side_of i left)) → E (side_of i left) → ((s : Side) → D s → IsSideBefore s (side_of i left))
@@ -211,7 +197,7 @@ side_added D E p ts ss i l left from point old new is along wider next here befo
         | inl before_it ↦ wider t.side (h.among t before_it)
         | inr one ↦ subst (λ (x : Tear). E x.side) (contains_one t new_one one) here
       ];
-      ascend = one_behind old new_one h.ascend (λ t c. before t.side (h.among t c));
+      ascend = one_behind IsTearBefore old new_one h.ascend (λ t c. before t.side (h.among t c));
     })
 
 pub line_added : (p : PlanParts) (ts : List Triangle) (ss : List (Option Side)) (i : ℕ) (l : Line) (old new : List Tear) → slice_get p.lines i ≡ Some (Some l) → AddsTears (map_of p) ts ss i l old new → AreTearsOf (λ s. s.line < i) p ts ss old → AreTearsOf (λ s. s.line < i + 1) p ts ss new

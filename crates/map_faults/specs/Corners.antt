@@ -1,5 +1,5 @@
 -- Where two lines meet, rounded down to whole units.
-use Rattle.std.specs.Prelude.{◌≡◌, ℕ, ◌+◌, ℤ, pos, ◌+ℤ◌, ◌-ℤ◌, ◌*ℤ◌, ◌≤ℤ◌, ◌<ℤ◌, Option, Some, None, MatchOption}
+use Rattle.std.specs.Prelude.{◌≡◌, ℕ, ℤ, pos, ◌+ℤ◌, ◌*ℤ◌, ◌≤ℤ◌, ◌<ℤ◌, Option, Some, MatchOption}
 use Rattle.sight_names.specs.declared.names.Pt.{Pt}
 use Rattle.sight_names.specs.Point.{Point}
 use Rattle.sight_names.specs.Map.{Map, MapLine, line_at}

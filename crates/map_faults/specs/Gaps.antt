@@ -1,10 +1,11 @@
 -- Gaps: the segments of the hull that no line covers, each with the triangle at it.
-use Rattle.std.specs.Prelude.{◌≡◌, ℕ, ◌⊎◌, List, [], ◌∷◌, ◌++◌, Option, Some, None, slice_get, Contains}
+use Rattle.std.specs.Prelude.{◌≡◌, ℕ, ◌<◌, ◌⊎◌, List, [], ◌∷◌, ◌++◌, Option, Some, None, slice_get, Contains}
 use Rattle.sight_names.specs.declared.names.Side.{Side}
 use Rattle.sight_names.specs.declared.names.Triangle.{Triangle}
 use Rattle.sight_names.specs.Map.{Map}
 use Rattle.sight_names.specs.Points.{Edge, reverse_of}
 use Rattle.sight_names.specs.Mesh.{HasEdge, IsLineEdge, triangle_at}
+use Rattle.sight_names.specs.Order.{Ascends}
 use Rattle.mesh_shape.specs.Fills.{HasLeft}
 use Rattle.mesh_shape.specs.HalfEdges.Numbers.{edge}
 use Rattle.map_faults.specs.declared.gaps.Gap.{Gap}
@@ -21,9 +22,18 @@ pub record IsGap (m : Map) (ts : List Triangle) (g : Gap) : Type 0 where
   pub free : ¬ IsLineEdge m (edge g.from g.to)
   pub behind : triangle_at ts (edge g.to g.from) ≡ None
 
--- just the gaps, and no point of the map lies beyond one
+-- the first edge of a triangle stands before the second one, and both before the third
+abbrev pub IsEdgeBefore : Triangle → Edge → Edge → Type 0
+IsEdgeBefore t e f = ((e ≡ edge t.p t.q) × ((f ≡ edge t.q t.r) ⊎ (f ≡ edge t.r t.p))) ⊎ ((e ≡ edge t.q t.r) × (f ≡ edge t.r t.p))
+
+-- at an earlier triangle, or at an earlier edge of the same
+abbrev pub IsGapBefore : List Triangle → Gap → Gap → Type 0
+IsGapBefore ts g h = (g.triangle < h.triangle) ⊎ ((g.triangle ≡ h.triangle) × (t : Triangle) × (slice_get ts g.triangle ≡ Some t) × IsEdgeBefore t (edge g.from g.to) (edge h.from h.to))
+
+-- just the gaps, in the order of the triangles and their edges, and no point of the map lies beyond one
 pub record AreHullGaps (m : Map) (ts : List Triangle) (gs : List Gap) : Type 0 where
   pub each : (g : Gap) → Contains gs g → IsGap m ts g
+  pub ascend : Ascends (IsGapBefore ts) gs
   pub hull : (g : Gap) → Contains gs g → ¬ HasLeft m (edge g.to g.from)
   pub all : (g : Gap) → IsGap m ts g → Contains gs g
 
@@ -45,7 +55,7 @@ pub record AreJust (Q : Gap → Type 0) (gs : List Gap) : Type 0 where
   pub all : (g : Gap) → Q g → Contains gs g
 
 abbrev pub AreGapsBy : List Triangle → List (Option Side) → List Gap → Type 0
-AreGapsBy ts ss gs = AreJust (IsGapBy ts ss) gs
+AreGapsBy ts ss gs = AreJust (IsGapBy ts ss) gs × Ascends (IsGapBefore ts) gs
 
 -- the edge is added behind the others, if it is a gap
 abbrev pub AddsGap : List Triangle → List (Option Side) → ℕ → Edge → List Gap → List Gap → Type 0

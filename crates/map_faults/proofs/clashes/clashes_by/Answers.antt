@@ -1,4 +1,4 @@
-use Rattle.std.proofs.Common.{◌+◌, ◌++◌, ◌≡◌, ◌∙◌, List, ℕ, length, map, take, sym, ap, subst, arith}
+use Rattle.std.proofs.Common.{◌+◌, ◌++◌, ◌∙◌, List, ℕ, length, map, take, sym, ap, subst, arith}
 use Rattle.sight_names.specs.Map.{map_of}
 use Rattle.map_faults.specs.declared.clashes.LinePair.{LinePair}
 use Rattle.map_faults.specs.declared.clashes.TheConstants.{MOST_CLASHES}

@@ -1,6 +1,6 @@
 use Rattle.std.proofs.Common.{arith}
 use Rattle.map_faults.specs.declared.clashes.TheConstants.{MOST_CLASHES}
-use Rattle.map_faults.proofs.Ordered.{none_kept, kept_more, kept_enough, kept_all}
+use Rattle.map_faults.proofs.Ordered.{none_kept, kept_enough, kept_all}
 use Rattle.map_faults.proofs.clashes.keep_first.Goals as goal
 
 pub loop-j-init : goal.loop-j-init

@@ -1,7 +1,6 @@
-use Rattle.std.proofs.Common.{◌≡◌, ◌∙◌, List, length, ap, sym, subst, arith}
-use Rattle.map_faults.specs.declared.loose_ends.Ends.{Ends}
+use Rattle.std.proofs.Common.{◌≡◌, ◌∙◌, length, sym, subst}
 use Rattle.map_faults.specs.LooseEnds.{AreEndsBelow}
-use Rattle.map_faults.proofs.Loose.{record_noted, ends_all, put_back}
+use Rattle.map_faults.proofs.Loose.{record_noted, put_back}
 use Rattle.map_faults.proofs.loose_ends.ends_of.Goals as goal
 
 pub loop-number-preserved : goal.loop-number-preserved

@@ -1,4 +1,3 @@
-use Rattle.std.proofs.Common.{arith}
 use Rattle.map_faults.proofs.Loose.{loose_more, loose_all}
 use Rattle.map_faults.proofs.loose_ends.loose_by.Goals as goal
 
