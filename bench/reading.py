@@ -168,12 +168,23 @@ def wrapped(first, rest, text):
     return lines + [line]
 
 
+def by_room(files):
+    """The labels of the files in their order, a room that several in a row are of named once."""
+    rooms = []
+    for room, name in (file.label.split("/") for file in files):
+        if rooms and rooms[-1][0] == room:
+            rooms[-1][1].append(name)
+        else:
+            rooms.append((room, [name]))
+    return "; ".join("%s/%s" % (room, ", ".join(names)) for room, names in rooms)
+
+
 def listed(number, head, found, with_names):
     """An item of the page: which definitions, file by file, in the order in which they stand; or the files alone."""
     many = "%d definition%s, %d lines" % (len(found), "s" if len(found) > 1 else "", lines_of(found))
     files = in_order({definition.file for definition in found})
     if not with_names:
-        return wrapped("%d. " % number, "   ", "%s (%s): %s." % (head, many, ", ".join(file.label for file in files)))
+        return wrapped("%d. " % number, "   ", "%s (%s): %s." % (head, many, by_room(files)))
     lines = wrapped("%d. " % number, "   ", "%s (%s):" % (head, many))
     for file in files:
         names = ["`%s`" % d.name for d in file.definitions.values() if d in found]
