@@ -55,9 +55,9 @@ trace_asks : (large : Bool) (rest : List Text) → IfSome (trace_of large rest) 
 trace_asks large (wad ∷ name ∷ word ∷ []) = if_some Unbounded (is_file wad && is_map name) _ _ (map_some Unbounded (ray_of word) _ (any_some _ (ray_of word) (λ ray. tt))) tt
 trace_asks large rest = tt
 
-check_asks : (large : Bool) (rest : List Text) → IfSome (check_of large rest) Unbounded
-check_asks large (wad ∷ name ∷ cert ∷ []) = if_some Unbounded (is_file wad && is_map name && is_file cert) _ _ tt tt
-check_asks large rest = tt
+check_asks : (large : Bool) (spelled : Spelling) (rest : List Text) → IfSome (check_of large spelled rest) Unbounded
+check_asks large spelled (wad ∷ name ∷ cert ∷ []) = if_some Unbounded (is_file wad && is_map name && is_file cert) _ _ tt tt
+check_asks large spelled rest = tt
 
 need_asks : (large : Bool) (rest : List Text) → IfSome (need_of large rest) Unbounded
 need_asks large (wad ∷ name ∷ []) = if_some Unbounded (is_file wad && is_map name) _ _ tt tt
@@ -77,7 +77,7 @@ plain_asks s =
     if_some Unbounded (bytes_eq s.verb (codes "zero")) _ _ (zero_asks (is_given s.large) s.rest)
     (if_some Unbounded (bytes_eq s.verb (codes "ray")) _ _ (ray_asks (is_given s.large) s.rest)
     (if_some Unbounded (bytes_eq s.verb (codes "trace")) _ _ (trace_asks (is_given s.large) s.rest)
-    (if_some Unbounded (bytes_eq s.verb (codes "check")) _ _ (check_asks (is_given s.large) s.rest)
+    (if_some Unbounded (bytes_eq s.verb (codes "check")) _ _ (check_asks (is_given s.large) (spelled_as (is_given s.json)) s.rest)
     (if_some Unbounded (bytes_eq s.verb (codes "need")) _ _ (need_asks (is_given s.large) s.rest)
     (if_some Unbounded (bytes_eq s.verb (codes "sound")) _ _ (sound_asks (is_given s.large) s.rest) tt)))))
 

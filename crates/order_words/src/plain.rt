@@ -1,4 +1,4 @@
-//! Orders of words alone: verbs that take no option.
+//! Orders of words alone: verbs that take no option with a value.
 
 ghost use Rattle.std.specs.Prelude.{◌≡◌, map, IfOk};
 ghost use Rattle.order_words.specs.Words.{Makes, check_of, need_of, ray_named, ray_order_of, sound_named, sound_of, sound_with, source_of, trace_named, trace_of, zero_of};
@@ -6,6 +6,7 @@ ghost use Rattle.order_words.specs.Values.{upper};
 
 use crate::order::{Order, Source, Text};
 use crate::values::{may_name_file, may_name_map, pair, ray};
+use row_spelling::Spelling;
 use sight_names::OrderFault;
 use std::alloc::{AllocError, Global};
 
@@ -111,9 +112,14 @@ pub fn trace(alloc: Global, large: bool, rest: &[&str]) -> Result<Order, OrderFa
     }
 }
 
-/// A map judged by a certificate.
-pub fn check(alloc: Global, large: bool, rest: &[&str]) -> Result<Order, OrderFault>
-    ensures { Makes (check_of large (map (λ s. s.now) rest.now)) result }
+/// A map judged by a certificate, with a verdict in this spelling.
+pub fn check(
+    alloc: Global,
+    large: bool,
+    spelling: Spelling,
+    rest: &[&str],
+) -> Result<Order, OrderFault>
+    ensures { Makes (check_of large spelling (map (λ s. s.now) rest.now)) result }
 {
     match rest {
         [wad, name, cert] if may_name_file(wad) && may_name_map(name) && may_name_file(cert) => {
@@ -121,6 +127,7 @@ pub fn check(alloc: Global, large: bool, rest: &[&str]) -> Result<Order, OrderFa
                 wad: source(alloc, large, wad)?,
                 map: upper_text(alloc, name)?,
                 cert: text(alloc, cert)?,
+                spelling,
             })
         }
         _ => Err(OrderFault::Usage),
