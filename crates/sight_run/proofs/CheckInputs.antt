@@ -1,7 +1,6 @@
 -- What the order `check` reads, step by step, and the answers to what it judges.
 use Rattle.std.proofs.Common.{◌≡◌, ℕ, List, Result, Ok, Err, refl, sym, ap, ◌∙◌, subst}
-use Rattle.std.specs.Prelude.{⊤, String, string_bytes}
-use Rattle.std.specs.declared.alloc.Global.{Global}
+use Rattle.std.specs.Prelude.{⊤}
 use Rattle.sight_names.specs.declared.faults.CertFault.{CertFault}
 use Rattle.sight_names.specs.declared.faults.CertFault.TheVariants as cert
 use Rattle.sight_names.specs.declared.faults.TableFault.TheVariants as table
@@ -10,8 +9,6 @@ use Rattle.shelf_io.specs.Shelf.{Files, content_of}
 use Rattle.reject_bits.specs.Parts.{TableParts}
 use Rattle.certificates.specs.declared.certificate.Certificate.{Certificate}
 use Rattle.certificates.specs.Reading.{certificate_at}
-use Rattle.group_checker.specs.declared.verdict.AnyFault.TheVariants as fault
-use Rattle.group_checker.specs.declared.verdict.AnyVerdict.TheVariants as verdict
 use Rattle.cert_judge.specs.declared.judged.Judged.{Judged}
 use Rattle.cert_judge.specs.declared.judged.Judged.TheVariants as judged
 use Rattle.cert_judge.specs.Judged.{JudgedBy}
@@ -20,12 +17,13 @@ use Rattle.map_answers.specs.declared.sight_status.status.Role.TheVariants as ro
 use Rattle.map_answers.specs.declared.sight_status.status.Why.TheVariants as why
 use Rattle.map_answers.specs.declared.sight_status.status.Status.{Status}
 use Rattle.map_answers.specs.declared.sight_status.status.Status.TheVariants as status
-use Rattle.map_answers.specs.SightStatus.Answer.{Answer, Gives, Makes, ◌>>=◌, line_answer, only_line}
+use Rattle.map_answers.specs.SightStatus.Answer.{Gives, ◌>>=◌}
+use Rattle.row_spelling.specs.declared.Spelling.{Spelling}
 use Rattle.map_answers.specs.SightStatus.Status.{IsOfCertFetch, IsOfTableTest}
 use Rattle.map_answers.specs.Input.{LocatedMap}
 use Rattle.map_answers.specs.Sound.{HasSoundLines}
 use Rattle.sight_run.specs.Judged.{IsJudged, IsJudgement}
-use Rattle.sight_run.specs.Check.{CheckCalls, CheckInput, IsTableOf, JudgesFetched, TakesTable, answer_of, cert_in, check_input, of_cert_fetch, of_length, of_reading, reject_of, yes_line}
+use Rattle.sight_run.specs.Check.{CheckCalls, CheckInput, IsTableOf, JudgesFetched, TakesTable, cert_in, check_input, found_by, of_cert_fetch, of_length, of_reading, refused_as, reject_of, told_as}
 use Rattle.whole_wad.specs.Sizes.{sizes_of_map}
 use Rattle.sight_run.proofs.Checks.{gives_unread, gives_verdict}
 
@@ -58,53 +56,39 @@ module _ (name : List ℕ) (found : LocatedMap) (files : Files) (lines : HasSoun
   input_from = input_by name found files ∙ sym (λ i. with_bytes name found files (of_length (size i) (same i)))
 
   -- the bytes are no table
-  pub table_refused : (V : Type 0) (s : Status) → IsOfTableTest s → TakesTable {V = V} n raw (Err s) → Gives ⊤ (CheckCalls name files found) (Err s)
-  table_refused V (status.Memory _) of h = tt
-  table_refused V (status.No (why.Table (table.Memory _))) of h = absurd of
-  table_refused V (status.No (why.Table (table.WrongLength a b))) of h =
-      gives_unread found.map ⊤ (λ (x : CheckInput). x) (check_input name found files) (status.No (why.Table (table.WrongLength a b))) lines tt (input_from ∙ ap (with_bytes name found files) h)
-  table_refused V s of h = absurd of
+  pub table_refused : (V : Type 0) (spelled : Spelling) (s : Status) → IsOfTableTest s → TakesTable {V = V} n raw (Err s) → Gives ⊤ (CheckCalls spelled name files found) (refused_as spelled s)
+  table_refused V spelled (status.Memory _) of h = tt
+  table_refused V spelled (status.No (why.Table (table.Memory _))) of h = absurd of
+  table_refused V spelled (status.No (why.Table (table.WrongLength a b))) of h =
+      gives_unread spelled found.map (check_input name found files) (status.No (why.Table (table.WrongLength a b))) lines tt (input_from ∙ ap (with_bytes name found files) h)
+  table_refused V spelled s of h = absurd of
 
   module _ (taken : of_length n raw ≡ Ok raw) where
     input_taken : (r : Result (List ℕ) Status) → of_cert_fetch (content_of (files name) 9223372036854775807) ≡ r → check_input name found files ≡ with_cert found.map raw r
     input_taken r e = input_from ∙ ap (with_bytes name found files) taken ∙ ap (with_cert found.map raw) e
 
     -- the file isn't read to its end
-    pub fetch_refused : (t : TableParts) (s : Status) → IsOfCertFetch s → JudgesFetched (IsJudgement found.map t) (Err s) (of_cert_fetch (content_of (files name) 9223372036854775807)) → Gives ⊤ (CheckCalls name files found) (Err s)
-    fetch_refused t (status.Memory _) of h = tt
-    fetch_refused t (status.ReadFault k) of h = tt
-    fetch_refused t (status.NoFile role.Cert) of h = gives_unread found.map ⊤ (λ (x : CheckInput). x) (check_input name found files) (status.NoFile role.Cert) lines tt (input_taken _ h)
-    fetch_refused t (status.Limit bound.CertBytes) of h = gives_unread found.map ⊤ (λ (x : CheckInput). x) (check_input name found files) (status.Limit bound.CertBytes) lines tt (input_taken _ h)
-    fetch_refused t s of h = absurd of
+    pub fetch_refused : (t : TableParts) (spelled : Spelling) (s : Status) → IsOfCertFetch s → JudgesFetched (IsJudgement found.map t) (Err s) (of_cert_fetch (content_of (files name) 9223372036854775807)) → Gives ⊤ (CheckCalls spelled name files found) (refused_as spelled s)
+    fetch_refused t spelled (status.Memory _) of h = tt
+    fetch_refused t spelled (status.ReadFault k) of h = tt
+    fetch_refused t spelled (status.NoFile role.Cert) of h = gives_unread spelled found.map (check_input name found files) (status.NoFile role.Cert) lines tt (input_taken _ h)
+    fetch_refused t spelled (status.Limit bound.CertBytes) of h = gives_unread spelled found.map (check_input name found files) (status.Limit bound.CertBytes) lines tt (input_taken _ h)
+    fetch_refused t spelled s of h = absurd of
 
     -- the bytes spell no certificate
-    unread : (g : CertFault) → check_input name found files ≡ with_parts raw (of_reading (Err g)) → Gives ⊤ (CheckCalls name files found) (answer_of found.map.sectors (judged.Unread g))
-    unread (cert.Memory _) e = tt
-    unread g e = gives_unread found.map ⊤ (λ (x : CheckInput). x) (check_input name found files) (status.No (why.Cert g)) lines tt e
+    unread : (spelled : Spelling) (g : CertFault) → check_input name found files ≡ with_parts raw (of_reading (Err g)) → Gives ⊤ (CheckCalls spelled name files found) (told_as spelled found.map.sectors (found_by (judged.Unread g)))
+    unread spelled (cert.Memory _) e = tt
+    unread spelled g e = gives_unread spelled found.map (check_input name found files) (status.No (why.Cert g)) lines tt e
 
-    by_reading : (t : TableParts) → IsTableOf found.map.sectors raw t → (r : Result Certificate CertFault) (given : Judged) → check_input name found files ≡ with_parts raw (of_reading r) → JudgedBy r (IsJudged found.map t) given → Gives ⊤ (CheckCalls name files found) (answer_of found.map.sectors given)
-    by_reading t is (Ok c) (judged.Verdict (verdict.Yes totals)) e h =
-        gives_verdict found.map (check_input name found files) (input_as raw c) t (Ok (only_line (yes_line found.map.sectors totals))) e is lines tt
-        (record { called = record { totals = totals; judged = h; is = refl }; only = λ sole. absurd sole })
-    by_reading t is (Ok c) (judged.Verdict (verdict.No (fault.Check f))) e h =
-        gives_verdict found.map (check_input name found files) (input_as raw c) t (Err (status.No (why.Check f))) e is lines tt (record { called = h; only = λ sole. absurd sole })
-    by_reading t is (Ok c) (judged.Verdict (verdict.No (fault.Group k))) e h =
-        gives_verdict found.map (check_input name found files) (input_as raw c) t (Err (status.No (why.Group k))) e is lines tt (record { called = h; only = λ sole. absurd sole })
-    by_reading t is (Ok c) (judged.Verdict (verdict.No (fault.Unused f))) e h =
-        gives_verdict found.map (check_input name found files) (input_as raw c) t (Err (status.No (why.Unused f))) e is lines tt (record { called = h; only = λ sole. absurd sole })
-    by_reading t is (Ok c) (judged.Unread g) e h = absurd h
-    by_reading t is (Err f) (judged.Verdict v) e h = absurd h
-    by_reading t is (Err f) (judged.Unread g) e h = unread g (e ∙ ap (λ (x : CertFault). with_parts raw (of_reading (Err x))) h)
+    by_reading : (t : TableParts) → IsTableOf found.map.sectors raw t → (spelled : Spelling) (r : Result Certificate CertFault) (given : Judged) → check_input name found files ≡ with_parts raw (of_reading r) → JudgedBy r (IsJudged found.map t) given
+        → Gives ⊤ (CheckCalls spelled name files found) (told_as spelled found.map.sectors (found_by given))
+    by_reading t is spelled (Ok c) (judged.Verdict v) e h = gives_verdict spelled found.map (check_input name found files) (input_as raw c) t v e is lines h
+    by_reading t is spelled (Ok c) (judged.Unread g) e h = absurd h
+    by_reading t is spelled (Err f) (judged.Verdict v) e h = absurd h
+    by_reading t is spelled (Err f) (judged.Unread g) e h = unread spelled g (e ∙ ap (λ (x : CertFault). with_parts raw (of_reading (Err x))) h)
 
     -- what was judged is told
-    pub judged_gives : (t : TableParts) (bytes : List ℕ) (given : Judged) (r : Result (String Global) Status) → IsTableOf n raw t → of_cert_fetch (content_of (files name) 9223372036854775807) ≡ Ok bytes
-        → IsJudgement found.map t bytes given → Makes (λ line. only_line (string_bytes line)) r (answer_of n given) → Gives ⊤ (CheckCalls name files found) (line_answer r)
-    judged_gives t bytes given r is whole h made = line_gives r made
-        (subst (λ (k : ℕ). Gives ⊤ (CheckCalls name files found) (answer_of k given)) (sym size)
-        (by_reading t (subst (λ (k : ℕ). IsTableOf k raw t) size is) (certificate_at (sizes_of_map found.map) bytes) given (input_taken (Ok bytes) whole) h))
-      where
-        line_gives : (r : Result (String Global) Status) → Makes (λ line. only_line (string_bytes line)) r (answer_of n given) → Gives ⊤ (CheckCalls name files found) (answer_of n given) → Gives ⊤ (CheckCalls name files found) (line_answer r)
-        line_gives (Ok line) e g = subst (λ (x : Result Answer Status). Gives ⊤ (CheckCalls name files found) x) e g
-        line_gives (Err (status.Memory _)) e g = tt
-        line_gives (Err (status.ReadFault k)) e g = tt
-        line_gives (Err s) e g = subst (λ (x : Result Answer Status). Gives ⊤ (CheckCalls name files found) x) e g
+    pub judged_gives : (t : TableParts) (spelled : Spelling) (bytes : List ℕ) (given : Judged) → IsTableOf n raw t → of_cert_fetch (content_of (files name) 9223372036854775807) ≡ Ok bytes → IsJudgement found.map t bytes given
+        → Gives ⊤ (CheckCalls spelled name files found) (told_as spelled found.map.sectors (found_by given))
+    judged_gives t spelled bytes given is whole h =
+        by_reading t (subst (λ (k : ℕ). IsTableOf k raw t) size is) spelled (certificate_at (sizes_of_map found.map) bytes) given (input_taken (Ok bytes) whole) h

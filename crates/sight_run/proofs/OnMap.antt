@@ -5,6 +5,7 @@ use Rattle.shelf_io.specs.Shelf.{Files, SameCounts, ShelfState}
 use Rattle.order_words.specs.declared.order.Order.{Order}
 use Rattle.order_words.specs.declared.order.Order.TheVariants as order
 use Rattle.order_words.specs.declared.order.Source.{Source}
+use Rattle.row_spelling.specs.declared.Spelling.{Spelling}
 use Rattle.sight_names.specs.declared.names.Method.{Method}
 use Rattle.map_answers.specs.declared.sight_status.status.Status.{Status}
 use Rattle.map_answers.specs.declared.sight_status.status.Status.TheVariants as status
@@ -28,9 +29,9 @@ gives_obeyed asked at files heard found r is e h =
 
 -- ---- by the map alone
 
-pub alone_of : (asked : Order) → IsSome (map_asked asked) → ((wad : Source) (name cert : List ℕ) → asked ≡ order.Check wad name cert → ⊥)
+pub alone_of : (asked : Order) → IsSome (map_asked asked) → ((wad : Source) (name cert : List ℕ) (spelled : Spelling) → asked ≡ order.Check wad name cert spelled → ⊥)
     → ((wad : Source) (name out : List ℕ) (cert report : Option (List ℕ)) (workers : ℕ) (method : Method) → asked ≡ order.Build wad name out cert report workers method → ⊥) → IsOfMapAlone asked
-alone_of (order.Check wad name cert) some no_check no_build = absurd (no_check wad name cert refl)
+alone_of (order.Check wad name cert spelled) some no_check no_build = absurd (no_check wad name cert spelled refl)
 alone_of (order.Build wad name out cert report workers method) some no_check no_build = absurd (no_build wad name out cert report workers method refl)
 alone_of (order.Verify wad only report workers) some no_check no_build = absurd cc
 alone_of (order.Grid n workers method hexen) some no_check no_build = absurd cc

@@ -8,6 +8,7 @@ use Rattle.order_words.specs.declared.order.Order.{Order}
 use Rattle.order_words.specs.declared.order.Order.TheVariants as order
 use Rattle.order_words.specs.declared.order.ReportFile.{ReportFile}
 use Rattle.order_words.specs.declared.order.Source.{Source}
+use Rattle.row_spelling.specs.declared.Spelling.TheVariants as spelling
 use Rattle.map_answers.specs.declared.sight_status.status.Bound.TheVariants as bound
 use Rattle.map_answers.specs.declared.sight_status.status.Role.TheVariants as role
 use Rattle.map_answers.specs.declared.sight_status.status.Status.{Status}
@@ -131,4 +132,6 @@ pub ends_right : (asked : Order) (r : Result Reply Status) → IfOk r (λ (reply
 ends_right asked (Err s) h = tt
 ends_right (order.Verify wad only report workers) (Ok reply) h = tt
 ends_right (order.Audit wad name (Some report)) (Ok reply) h = tt
+ends_right (order.Check wad name cert spelling.Text) (Ok reply) h = h
+ends_right (order.Check wad name cert spelling.Json) (Ok reply) h = tt
 ends_right asked (Ok reply) h = h

@@ -145,7 +145,9 @@ pub fn reply_on<R: Threads + Sync, S: Shelf, G: Gate + Sync>(
     ensures right { IfOk result (λ reply. EndsRight order.now reply.right) }
 {
     match order {
-        Order::Check { cert, .. } => check_on(alloc, shelf, input, cert.as_str()),
+        Order::Check { cert, spelling, .. } => {
+            check_on(alloc, shelf, input, cert.as_str(), *spelling)
+        }
         Order::Build {
             map,
             out,
