@@ -36,7 +36,7 @@ use Rattle.cert_checker.specs.declared.verdict.Totals.{Totals}
 use Rattle.cert_checker.specs.Pairs.{AreTotals}
 use Rattle.cert_checker.proofs.SameBits.{HaveOneBits}
 use Rattle.group_checker.specs.declared.verdict.AnyFault.{AnyFault}
-use Rattle.group_checker.specs.declared.verdict.AnyFault.TheVariants as fault
+use Rattle.group_checker.specs.declared.verdict.AnyVerdict.{AnyVerdict}
 use Rattle.group_checker.specs.declared.verdict.AnyVerdict.TheVariants as verdict
 use Rattle.group_checker.proofs.SameAnyBits.{told_same}
 use Rattle.whole_wad.specs.declared.building.Built.{Built}
@@ -50,12 +50,13 @@ use Rattle.map_answers.specs.declared.sight_status.status.Role.{Role}
 use Rattle.map_answers.specs.declared.sight_status.status.Role.TheVariants as role
 use Rattle.map_answers.specs.declared.sight_status.status.Status.{Status}
 use Rattle.map_answers.specs.declared.sight_status.status.Status.TheVariants as status
+use Rattle.row_spelling.specs.declared.Spelling.{Spelling}
 use Rattle.map_answers.specs.declared.sight_status.status.Why.TheVariants as why
 use Rattle.map_answers.specs.SightStatus.Answer.{Answer, ◌>>=◌, IsTheAnswer, Written, only_line}
 use Rattle.sight_run.specs.Build.{BuildCalls, ShowsBuild, build_writes, report_behind}
 use Rattle.sight_run.proofs.CheckInputs.{input_as, is_input}
 use Rattle.sight_run.specs.Judged.{IsJudged, JudgesOf, JudgesThreeOf, JudgesTwoOf}
-use Rattle.sight_run.specs.Check.{CheckInput, CheckCalls, IsVerdictOn, OnCheckInput, VerdictCalls, check_input, cert_in, of_cert_fetch, of_length, of_reading, reject_of, yes_line}
+use Rattle.sight_run.specs.Check.{CheckInput, CheckCalls, IsVerdictOn, OnCheckInput, check_input, cert_in, finding_of, of_cert_fetch, of_length, of_reading, reject_of, told_as, yes_row}
 use Rattle.map_answers.specs.Input.{LocatedMap, OnFound, found_in}
 use Rattle.sight_run.specs.Heard.{Heard}
 use Rattle.sight_run.specs.Reading.{found_of, of_fetch}
@@ -143,10 +144,10 @@ spelled_reads m c bytes h = ap of_reading (certificate_again (sizes_of_map m) by
 
 -- ---- the verdict
 
-record IsYesFor (m : Map) (t : TableParts) (listed : List Pair) (given : Result Answer Status) : Type 0 where
+record IsYesFor (m : Map) (t : TableParts) (listed : List Pair) (spelled : Spelling) (given : Result Answer Status) : Type 0 where
   totals : Totals
   are : AreTotals t listed m.sectors totals
-  is : given ≡ Ok (only_line (yes_line m.sectors totals))
+  is : given ≡ Ok (only_line (yes_row spelled m.sectors totals))
 
 -- the totals of a yes are those of the table and the list
 totals_of_two : (m : Map) (t other : TableParts) (c : CertTwo) (listed : List Pair) (totals : Totals) → HaveOneBits m other t → c.listed ≡ listed → JudgesTwoOf m other c (verdict.Yes totals) → AreTotals t listed m.sectors totals
@@ -184,26 +185,24 @@ totals_of_any m t other (Listing (Two c sizes)) listed totals same e h = totals_
 totals_of_any m t other (Exact c) listed totals same e h = totals_of_three m t other c listed totals same e h
 
 -- the bytes are those of a table whose certificate is accepted
-verdict_yes : (m : Map) (t : TableParts) (c : Certificate) (listed : List Pair) (given : Result Answer Status) → t.n ≡ m.sectors → HasList c listed → IsAcceptedBy m t.bytes c → IsVerdictOn m (input_as t.bytes c) given → IsYesFor m t listed given
-verdict_yes m t c listed given n e h v = by given v.called
+verdict_yes : (m : Map) (t : TableParts) (c : Certificate) (listed : List Pair) (spelled : Spelling) (given : Result Answer Status) → t.n ≡ m.sectors → HasList c listed → IsAcceptedBy m t.bytes c → IsVerdictOn spelled m (input_as t.bytes c) given
+    → IsYesFor m t listed spelled given
+verdict_yes m t c listed spelled given n e h v = by v.verdict v.judged v.told
   where
     same : HaveOneBits m v.table t
-    same = record { first = v.spelled.sectors; second = n; bits = v.spelled.bits }
+    same = record { first = v.is_table.sectors; second = n; bits = v.is_table.bits }
 
     not_no : (f : AnyFault) → IsJudged m v.table c (verdict.No f) → ⊥
-    not_no f k = k.accepted.1 (accepted_same m t.bytes v.table.bytes v.spelled.bits c h)
+    not_no f k = k.accepted.1 (accepted_same m t.bytes v.table.bytes v.is_table.bits c h)
 
-    by : (r : Result Answer Status) → VerdictCalls m v.table c r → IsYesFor m t listed r
-    by (Ok answer) k = record { totals = k.totals; are = totals_of_any m t v.table c listed k.totals same e k.judged.exact; is = ap (λ (x : Answer). Ok x) k.is }
-    by (Err (status.No (why.Check f))) k = absurd (not_no (fault.Check f) k)
-    by (Err (status.No (why.Group f))) k = absurd (not_no (fault.Group f) k)
-    by (Err (status.No (why.Unused f))) k = absurd (not_no (fault.Unused f) k)
-    by (Err s) k = absurd k
+    by : (w : AnyVerdict) → IsJudged m v.table c w → given ≡ told_as spelled m.sectors (finding_of w) → IsYesFor m t listed spelled given
+    by (verdict.Yes totals) k told = record { totals = totals; are = totals_of_any m t v.table c listed totals same e k.exact; is = told }
+    by (verdict.No f) k told = absurd (not_no f k)
 
-past_lines : (m : Map) (b : CheckInput) (given : Result Answer Status) → LinesMeetAtEnds m → OnSoundLines m (OnCheckInput m (Ok b)) given → IsVerdictOn m b given
-past_lines m b (Ok answer) meet q = q.1
-past_lines m b (Err (status.BadMap (flaw.Line f))) meet q = absurd (not_sound m f q meet)
-past_lines m b (Err s) meet q = q.1
+past_lines : (spelled : Spelling) (m : Map) (b : CheckInput) (given : Result Answer Status) → LinesMeetAtEnds m → OnSoundLines m (OnCheckInput spelled m (Ok b)) given → IsVerdictOn spelled m b given
+past_lines spelled m b (Ok answer) meet q = q.1
+past_lines spelled m b (Err (status.BadMap (flaw.Line f))) meet q = absurd (not_sound m f q meet)
+past_lines spelled m b (Err s) meet q = q.1
 
 -- ---- the build, then the check
 
@@ -216,11 +215,11 @@ wad_fetched large o name bytes found e lt h =
     by false q = refl
 
 -- the map was found in these bytes, and what was built of it is in these files
-module _ (large : Bool) (name out cert : List ℕ) (reported : Option (List ℕ)) (method : Method) (files others : Files) (heard : Heard) (found : LocatedMap) (answer : Answer) (given : Result Answer Status) where
+module _ (large : Bool) (name out cert : List ℕ) (spelled_as : Spelling) (reported : Option (List ℕ)) (method : Method) (files others : Files) (heard : Heard) (found : LocatedMap) (answer : Answer) (given : Result Answer Status) where
   checked : (old : List ℕ) → found_in large name old ≡ Ok found → same_name (codes "REJECT") name ≡ false → IsOther out (Some cert) × IsOther out reported → IsOther cert reported
       → (shows : ShowsBuild name out (Some cert) reported method found heard answer)
       → HaveBoth (put_all files answer.writes) others out cert → IsShort others cert
-      → OnFound (found_of (source_of large out) name others) (CheckCalls cert others) given → IsYesFor found.map shows.built.table shows.built.listed given
+      → OnFound (found_of (source_of large out) name others) (CheckCalls spelled_as cert others) given → IsYesFor found.map shows.built.table shows.built.listed spelled_as given
   unfolding found_of
   checked old h other apart other_report shows have short q =
       let spelled : List ℕ = shows.spelled in
@@ -232,16 +231,16 @@ module _ (large : Bool) (name out cert : List ℕ) (reported : Option (List ℕ)
       let at_out : others out ≡ Some shows.bytes = have.at_out ∙ ap (λ (f : Files). f out) all ∙ before_report files both reported shows.report out apart.1 ∙ under_out files out cert shows.bytes spelled apart.0 in
       let at_cert : others cert ≡ Some spelled = have.at_cert ∙ ap (λ (f : Files). f cert) all ∙ before_report files both reported shows.report cert other_report ∙ under_cert files out cert shows.bytes spelled in
       let there : found_of (source_of large out) name others ≡ Ok (found_then found table) = wad_fetched large (others out) name shows.bytes (found_then found table) at_out again.short again.again in
-      let asked : CheckCalls cert others (found_then found table) given = subst (λ (r : Result LocatedMap Status). OnFound r (CheckCalls cert others) given) there q in
+      let asked : CheckCalls spelled_as cert others (found_then found table) given = subst (λ (r : Result LocatedMap Status). OnFound r (CheckCalls spelled_as cert others) given) there q in
       let len : length table ≡ table_len found.map.sectors = shows.is_built.table_is_whole.len ∙ ap table_len shows.is_built.sectors in
       let reads : check_input cert (found_then found table) others ≡ Ok (input_as table c) =
       is_input cert (found_then found table) others table spelled c (right_length found.map.sectors (reject_of (found_then found table)) table again.reject len)
       (cert_fetched (others cert) spelled at_cert (short spelled at_cert)) (spelled_reads found.map c spelled shows.spells) in
-      verdict_yes found.map shows.built.table c shows.built.listed given shows.is_built.sectors (list_of_build found.map method shows.built shows.is_built) shows.is_built.accepted
-      (past_lines found.map (input_as table c) given shows.is_built.fit.ends (subst (λ (r : Result CheckInput Status). OnSoundLines found.map (OnCheckInput found.map r) given) reads asked))
+      verdict_yes found.map shows.built.table c shows.built.listed spelled_as given shows.is_built.sectors (list_of_build found.map method shows.built shows.is_built) shows.is_built.accepted
+      (past_lines spelled_as found.map (input_as table c) given shows.is_built.fit.ends (subst (λ (r : Result CheckInput Status). OnSoundLines found.map (OnCheckInput spelled_as found.map r) given) reads asked))
 
 pub built_is_checked : BuiltIsChecked
-built_is_checked build check name out cert files others heard answer ask h have short =
+built_is_checked build check name out cert spelled files others heard answer ask h have short =
     on (found_of ask.wad name files) refl (subst (λ r. AnswersAsked r files heard (Ok answer)) ask.built h)
   where
     apart : IsOther out (Some cert) × IsOther out ask.report
@@ -250,7 +249,7 @@ built_is_checked build check name out cert files others heard answer ask h have 
     other_report : IsOther cert ask.report
     other_report = cert_apart ask.wad.file out cert ask.report (of_words build _ ask.built)
 
-    on : (r : Result LocatedMap Status) → found_of ask.wad name files ≡ r → OnFound r (BuildCalls name out (Some cert) ask.report ask.method heard) (Ok answer) → SaysYes check name others answer
+    on : (r : Result LocatedMap Status) → found_of ask.wad name files ≡ r → OnFound r (BuildCalls name out (Some cert) ask.report ask.method heard) (Ok answer) → SaysYes check name spelled others answer
     on (Err s) e shows = absurd cc
     on (Ok found) e shows =
         let old = bytes_of ask.wad name files found e in
@@ -260,9 +259,9 @@ built_is_checked build check name out cert files others heard answer ask h have 
           built = ap (λ (x : Answer). x.line) shows.is;
           only = λ unheard given q.
               let asked = subst (λ r. AnswersAsked r others unheard given) ask.checked q in
-              let yes = checked ask.wad.large name out cert ask.report ask.method files others heard found answer given old.bytes old.are ask.other apart other_report shows have short asked in
+              let yes = checked ask.wad.large name out cert spelled ask.report ask.method files others heard found answer given old.bytes old.are ask.other apart other_report shows have short asked in
               let same = same_counts shows.built.table shows.built.listed found.map.sectors yes.totals shows.is_built.symmetric shows.is_built.sectors yes.are in
-              yes.is ∙ ap (λ (k : Counts). Ok (only_line (yes_line k.sectors (totals_of k)))) same;
+              yes.is ∙ ap (λ (k : Counts). Ok (only_line (yes_row spelled k.sectors (totals_of k)))) same;
         }
 
 -- ---- the runs
@@ -271,6 +270,7 @@ built_is_checked build check name out cert files others heard answer ask h have 
 pub record EndsDone (build : List (List ℕ)) (files stand : Files) (heard : Heard) (sinks : Sinks) : Type 0 where
   pub answer : Answer
   pub called : IsAnswer build files heard (Ok answer)
+  pub right : answer.right ≡ true
   pub stands : stand ≡ put_all files answer.writes
   pub said : sinks.new.held ≡ option_map (λ held. held ++ answer.line) sinks.old.held
 
@@ -279,6 +279,7 @@ pub ends_done : (build : List (List ℕ)) (files stand : Files) (heard : Heard) 
 ends_done build files stand heard before after sinks h e = record {
   answer = h.ends.answer;
   called = h.ends.called.called;
+  right = h.ends.right_is;
   stands = some_is_same stand (put_all files h.ends.answer.writes) (sym e ∙ h.ends.stands);
   said = h.said ∙ ap (λ (l : List ℕ). option_map (λ held. held ++ l) sinks.old.held) h.ends.line_is;
 }
@@ -291,26 +292,26 @@ never_broken called Sole which files after line one h =
 never_refused : (called : Result Answer Status → Type 0) (Sole : Type 0) (line : List ℕ) (s : Status) → ((given : Result Answer Status) → called given → given ≡ Ok (only_line line)) → IsTheAnswer Sole called (Err s) → ⊥
 never_refused called Sole line s one h = let e = one (Err s) h.called in absurd cc
 
-ends_yes : (check : List (List ℕ)) (others : Files) (heard : Heard) (first last : ShelfState) (old new : SinkState) (counts : Counts) (s : Status)
-    → ((given : Result Answer Status) → IsAnswer check others heard given → given ≡ Ok (only_line (yes_line counts.sectors (totals_of counts))))
-    → RunEnds check others heard first last old new s → ChecksYes counts old new s
-ends_yes check others heard first last old new counts status.Done one h =
-    h.said ∙ ap (λ (l : List ℕ). option_map (λ held. held ++ l) old.held) (h.ends.line_is ∙ ap (λ (a : Answer). a.line) (same_ok h.ends.answer (only_line (yes_line counts.sectors (totals_of counts))) (one (Ok h.ends.answer) h.ends.called.called)))
-ends_yes check others heard first last old new counts (status.Memory _) one h = tt
-ends_yes check others heard first last old new counts (status.ReadFault k) one h = tt
-ends_yes check others heard first last old new counts (status.WriteFault role.Text) one h = tt
-ends_yes check others heard first last old new counts status.NotRight one h =
-    let right : true ≡ false = sym (ap (λ (a : Answer). a.right) (same_ok h.ends.answer (only_line (yes_line counts.sectors (totals_of counts))) (one (Ok h.ends.answer) h.ends.called.called))) ∙ h.ends.right_is in absurd cc
-ends_yes check others heard first last old new counts (status.WriteFault k) one h = never_broken (IsAnswer check others heard) _ k others last.files _ one h.ends.0
-ends_yes check others heard first last old new counts s one h = never_refused (IsAnswer check others heard) _ _ s one h.ends.0
+ends_yes : (check : List (List ℕ)) (others : Files) (heard : Heard) (first last : ShelfState) (old new : SinkState) (spelled : Spelling) (counts : Counts) (s : Status)
+    → ((given : Result Answer Status) → IsAnswer check others heard given → given ≡ Ok (only_line (yes_row spelled counts.sectors (totals_of counts))))
+    → RunEnds check others heard first last old new s → ChecksYes spelled counts old new s
+ends_yes check others heard first last old new spelled counts status.Done one h =
+    h.said ∙ ap (λ (l : List ℕ). option_map (λ held. held ++ l) old.held) (h.ends.line_is ∙ ap (λ (a : Answer). a.line) (same_ok h.ends.answer (only_line (yes_row spelled counts.sectors (totals_of counts))) (one (Ok h.ends.answer) h.ends.called.called)))
+ends_yes check others heard first last old new spelled counts (status.Memory _) one h = tt
+ends_yes check others heard first last old new spelled counts (status.ReadFault k) one h = tt
+ends_yes check others heard first last old new spelled counts (status.WriteFault role.Text) one h = tt
+ends_yes check others heard first last old new spelled counts status.NotRight one h =
+    let right : true ≡ false = sym (ap (λ (a : Answer). a.right) (same_ok h.ends.answer (only_line (yes_row spelled counts.sectors (totals_of counts))) (one (Ok h.ends.answer) h.ends.called.called))) ∙ h.ends.right_is in absurd cc
+ends_yes check others heard first last old new spelled counts (status.WriteFault k) one h = never_broken (IsAnswer check others heard) _ k others last.files _ one h.ends.0
+ends_yes check others heard first last old new spelled counts s one h = never_refused (IsAnswer check others heard) _ _ s one h.ends.0
 
 pub built_run_is_checked : BuiltRunIsChecked
-built_run_is_checked build check name out cert files stand others heard unheard before after first last building checking s ask ran e have short h =
+built_run_is_checked build check name out cert spelled files stand others heard unheard before after first last building checking s ask ran e have short h =
     let done = ends_done build files stand heard before after building ran e in
     let both : HaveBoth (put_all files done.answer.writes) others out cert = record { at_out = have.at_out ∙ ap (λ (f : Files). f out) done.stands; at_cert = have.at_cert ∙ ap (λ (f : Files). f cert) done.stands } in
-    let yes = built_is_checked build check name out cert files others heard done.answer ask done.called both short in
+    let yes = built_is_checked build check name out cert spelled files others heard done.answer ask done.called both short in
     record {
       counts = yes.counts;
       built = done.said ∙ ap (λ (l : List ℕ). option_map (λ held. held ++ l) building.old.held) yes.built;
-      checked = ends_yes check others unheard first last checking.old checking.new yes.counts s (yes.only unheard) h;
+      checked = ends_yes check others unheard first last checking.old checking.new spelled yes.counts s (yes.only unheard) h;
     }

@@ -31,7 +31,11 @@ use Rattle.certificates.specs.declared.certificate.Certificate.{Certificate}
 use Rattle.certificates.specs.declared.certificate.Certificate.TheVariants.{Listing, Exact}
 use Rattle.certificates.specs.Reading.{certificate_at}
 use Rattle.cert_checker.specs.Sight.{TellsSight}
-use Rattle.group_checker.specs.Judged.{with_list}
+use Rattle.group_checker.specs.declared.verdict.AnyVerdict.{AnyVerdict}
+use Rattle.group_checker.specs.declared.verdict.AnyVerdict.TheVariants as verdict
+use Rattle.group_checker.specs.Judged.{IsYesAny, with_list}
+use Rattle.row_spelling.specs.declared.Spelling.{Spelling}
+use Rattle.row_spelling.specs.declared.Spelling.TheVariants as spelling
 use Rattle.group_job.specs.Sectors.{AreListed}
 use Rattle.order_words.specs.declared.order.Order.TheVariants as order
 use Rattle.order_words.specs.declared.order.Source.{Source}
@@ -48,7 +52,7 @@ use Rattle.whole_wad.specs.declared.building.Built.{Built}
 use Rattle.whole_wad.specs.Built.{IsBuiltOf, ask_of}
 use Rattle.whole_wad.specs.Sizes.{sizes_of_map}
 use Rattle.sight_run.specs.Build.{BuildCalls, ShowsBuild}
-use Rattle.sight_run.specs.Check.{CheckCalls, CheckInput, IsTableOf, IsVerdictOn, OnCheckInput, cert_in, check_input, of_cert_fetch, of_length, of_reading, reject_of}
+use Rattle.sight_run.specs.Check.{CheckCalls, CheckInput, IsTableOf, IsVerdictOn, OnCheckInput, cert_in, check_input, finding_of, no_object, of_cert_fetch, of_length, of_reading, refused_as, reject_of, told_as, why_of}
 use Rattle.run_laws.specs.Headline.{BuildLeavesLumps, BuildsLeaveOneWad, BuiltIsRight, CheckedIsRight, ExactIsRight, HasRightReject, IsRightTable, LeavesExactReject, LeavesExactTable, LeavesRightReject, WasDone, listed_of}
 use Rattle.sight_run.specs.Heard.{Heard}
 use Rattle.run_laws.specs.Laws.{HasTableLength, KeepsLumps, Sinks}
@@ -147,11 +151,24 @@ module _ (m : Map) (bytes : List ℕ) (t : TableParts) (spelled : IsTableOf m.se
   right_by_any (Listing (Two c sizes)) h = right_by (with_list c) h
   right_by_any (Exact c) h = right_by_all h
 
-module _ (wad : Source) (name cert : List ℕ) (files : Files) (answer : Answer) where
-  right_verdict : (found : LocatedMap) (input : CheckInput) → found_of wad name files ≡ Ok found → check_input cert found files ≡ Ok input → IsVerdictOn found.map input (Ok answer) → HasRightReject wad name cert files
+-- an answer with which all is right tells a yes
+yes_told : (spelled : Spelling) (n : ℕ) (v : AnyVerdict) (answer : Answer) → answer.right ≡ true → Ok answer ≡ told_as spelled n (finding_of v) → IsYesAny v
+yes_told spelled n (verdict.Yes totals) answer right e = tt
+yes_told spelling.Text n (verdict.No f) answer right e = absurd cc
+yes_told spelling.Json n (verdict.No f) answer right e =
+    let wrong : true ≡ false = sym right ∙ ap (λ (a : Answer). a.right) (same_ok answer (no_object (why_of f)) e) in absurd cc
+
+-- .. and no refusal
+right_unrefused : (spelled : Spelling) (s : Status) (answer : Answer) → answer.right ≡ true → Ok answer ≡ refused_as spelled s → ⊥
+right_unrefused spelling.Text (status.No which) answer right e = cc
+right_unrefused spelling.Json (status.No which) answer right e = let wrong : true ≡ false = sym right ∙ ap (λ (a : Answer). a.right) (same_ok answer (no_object which) e) in cc
+right_unrefused spelled s answer right e = cc
+
+module _ (wad : Source) (name cert : List ℕ) (spelled_as : Spelling) (files : Files) (answer : Answer) (all_right : answer.right ≡ true) where
+  right_verdict : (found : LocatedMap) (input : CheckInput) → found_of wad name files ≡ Ok found → check_input cert found files ≡ Ok input → IsVerdictOn spelled_as found.map input (Ok answer) → HasRightReject wad name cert files
   right_verdict found input is read v =
       let w = was_input cert found files input read in
-      let spelled : IsTableOf found.map.sectors (reject_of found) v.table = subst (λ (bs : List ℕ). IsTableOf found.map.sectors bs v.table) (sym w.table) v.spelled in
+      let spelled : IsTableOf found.map.sectors (reject_of found) v.table = subst (λ (bs : List ℕ). IsTableOf found.map.sectors bs v.table) (sym w.table) v.is_table in
       record {
         found = found;
         is_found = is;
@@ -159,21 +176,21 @@ module _ (wad : Source) (name cert : List ℕ) (files : Files) (answer : Answer)
         stands = w.stands;
         given = input.cert;
         spelled = w.spelled;
-        right = right_by_any found.map (reject_of found) v.table spelled w.long input.cert (v.called.judged.sight tt);
+        right = right_by_any found.map (reject_of found) v.table spelled w.long input.cert (v.judged.sight (yes_told spelled_as found.map.sectors v.verdict answer all_right v.told));
       }
 
-  right_input : (found : LocatedMap) (r : Result CheckInput Status) → found_of wad name files ≡ Ok found → check_input cert found files ≡ r → OnCheckInput found.map r (Ok answer) → HasRightReject wad name cert files
+  right_input : (found : LocatedMap) (r : Result CheckInput Status) → found_of wad name files ≡ Ok found → check_input cert found files ≡ r → OnCheckInput spelled_as found.map r (Ok answer) → HasRightReject wad name cert files
   right_input found (Ok input) is read h = right_verdict found input is read h
-  right_input found (Err s) is read h = absurd cc
+  right_input found (Err s) is read h = absurd (right_unrefused spelled_as s answer all_right h)
 
-  right_check : (r : Result LocatedMap Status) → found_of wad name files ≡ r → OnFound r (CheckCalls cert files) (Ok answer) → HasRightReject wad name cert files
+  right_check : (r : Result LocatedMap Status) → found_of wad name files ≡ r → OnFound r (CheckCalls spelled_as cert files) (Ok answer) → HasRightReject wad name cert files
   right_check (Ok found) is h = right_input found (check_input cert found files) is refl h.1
   right_check (Err s) is h = absurd cc
 
 pub checked_is_right : CheckedIsRight
-checked_is_right words wad name cert files stand asked done =
+checked_is_right words wad name cert spelled files stand asked done =
     let e = was_answered words files stand done in
-    right_check wad name cert files e.answer (found_of wad name files) refl (subst (λ r. AnswersAsked r files done.heard (Ok e.answer)) asked e.called)
+    right_check wad name cert spelled files e.answer e.right (found_of wad name files) refl (subst (λ r. AnswersAsked r files done.heard (Ok e.answer)) asked e.called)
 
 -- ---- what a build tells of its table
 

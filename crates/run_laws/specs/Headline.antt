@@ -24,6 +24,7 @@ use Rattle.group_job.specs.Sectors.{AreListed}
 use Rattle.refused_maps.specs.declared.Refused.{Refused}
 use Rattle.refused_maps.specs.declared.Refused.TheVariants as refused
 use Rattle.refused_maps.specs.Stops.{Stops}
+use Rattle.row_spelling.specs.declared.Spelling.{Spelling}
 use Rattle.order_words.specs.declared.order.Order.TheVariants as order
 use Rattle.order_words.specs.declared.order.ReportFile.{ReportFile}
 use Rattle.order_words.specs.declared.order.Source.{Source}
@@ -85,10 +86,10 @@ pub record HasRightReject (wad : Source) (name cert : List ℕ) (files : Files) 
   pub spelled : certificate_at (sizes_of_map found.map) bytes ≡ Ok given
   pub right : IsRightTable found.map (reject_of found) (AreListed (listed_of given))
 
--- so it is where a `check` was done
+-- so it is where a `check` was done, in either spelling
 abbrev pub CheckedIsRight : Type 0
-CheckedIsRight = (words : List (List ℕ)) (wad : Source) (name cert : List ℕ) (files stand : Files)
-    → asked_of words ≡ Ok (order.Check wad name cert) → WasDone words files stand → HasRightReject wad name cert files
+CheckedIsRight = (words : List (List ℕ)) (wad : Source) (name cert : List ℕ) (spelled : Spelling) (files stand : Files)
+    → asked_of words ≡ Ok (order.Check wad name cert spelled) → WasDone words files stand → HasRightReject wad name cert files
 
 -- ---- `build`
 

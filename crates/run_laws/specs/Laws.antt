@@ -42,7 +42,8 @@ use Rattle.whole_wad.specs.Outcomes.{AreOutcomes, changes_of}
 use Rattle.whole_wad.specs.Tables.{IsFlawOf}
 use Rattle.sight_run.specs.All.{IsUnmade, maps_in, wad_in}
 use Rattle.sight_run.specs.Build.{ShowsLimit, build_line}
-use Rattle.sight_run.specs.Check.{IsTableOf, reject_of, yes_line}
+use Rattle.row_spelling.specs.declared.Spelling.{Spelling}
+use Rattle.sight_run.specs.Check.{IsTableOf, reject_of, yes_row}
 use Rattle.map_answers.specs.Groups.{IsOverGroups, MapGroups}
 use Rattle.map_answers.specs.Input.{LocatedMap, map_named}
 use Rattle.map_picture.specs.Bytes.{svg_of}
@@ -63,14 +64,14 @@ use Rattle.sight_run.specs.Words.{asked_of}
 use Rattle.sight_run.specs.Zero.{with_table}
 use Rattle.whole_wad.specs.Rejects.{clear_table}
 
--- the words ask for a build of this map into OUT with its certificate in FILE, and the others for the check of just these by the same limits
-pub record AskBoth (build check : List (List ℕ)) (name out cert : List ℕ) : Type 0 where
+-- the words ask for a build of this map into OUT with its certificate in FILE, and the others for the check of just these by the same limits, told in this spelling
+pub record AskBoth (build check : List (List ℕ)) (name out cert : List ℕ) (spelled : Spelling) : Type 0 where
   pub wad : Source
   pub report : Option (List ℕ)
   pub workers : ℕ
   pub method : Method
   pub built : asked_of build ≡ Ok (order.Build wad name out (Some cert) report workers method)
-  pub checked : asked_of check ≡ Ok (order.Check (source_of wad.large out) name cert)
+  pub checked : asked_of check ≡ Ok (order.Check (source_of wad.large out) name cert spelled)
   -- the map isn't called REJECT
   pub other : same_name (codes "REJECT") name ≡ false
 
@@ -87,26 +88,26 @@ IsShort files name = (bytes : List ℕ) → files name ≡ Some bytes → length
 abbrev pub totals_of : Counts → Totals
 totals_of counts = record { set = counts.set; clear = counts.clear; listed = counts.listed }
 
--- the one answer to the check is yes, with the counts of the build's line
-pub record SaysYes (check : List (List ℕ)) (name : List ℕ) (others : Files) (answer : Answer) : Type 0 where
+-- the one answer to the check is yes in this spelling, with the counts of the build's line
+pub record SaysYes (check : List (List ℕ)) (name : List ℕ) (spelled : Spelling) (others : Files) (answer : Answer) : Type 0 where
   pub counts : Counts
   pub built : answer.line ≡ build_line name counts
-  pub only : (heard : Heard) (given : Result Answer Status) → IsAnswer check others heard given → given ≡ Ok (only_line (yes_line counts.sectors (totals_of counts)))
+  pub only : (heard : Heard) (given : Result Answer Status) → IsAnswer check others heard given → given ≡ Ok (only_line (yes_row spelled counts.sectors (totals_of counts)))
 
 -- Where a build is answered, the one answer to the check of what it wrote is yes, with the same counts.
 abbrev pub BuiltIsChecked : Type 0
-BuiltIsChecked = (build check : List (List ℕ)) (name out cert : List ℕ) (files others : Files) (heard : Heard) (answer : Answer)
-    → AskBoth build check name out cert → IsAnswer build files heard (Ok answer)
+BuiltIsChecked = (build check : List (List ℕ)) (name out cert : List ℕ) (spelled : Spelling) (files others : Files) (heard : Heard) (answer : Answer)
+    → AskBoth build check name out cert spelled → IsAnswer build files heard (Ok answer)
     → HaveBoth (put_all files answer.writes) others out cert → IsShort others cert
-    → SaysYes check name others answer
+    → SaysYes check name spelled others answer
 
 -- The check ends with Done and the line of a yes with these counts. Want of memory and faults of reading or of the text can come too.
-abbrev pub ChecksYes : Counts → SinkState → SinkState → Status → Type 0
-ChecksYes counts old new status.Done = new.held ≡ option_map (λ held. held ++ yes_line counts.sectors (totals_of counts)) old.held
-ChecksYes counts old new (status.Memory _) = ⊤
-ChecksYes counts old new (status.ReadFault role) = ⊤
-ChecksYes counts old new (status.WriteFault role.Text) = ⊤
-ChecksYes counts old new other = ⊥
+abbrev pub ChecksYes : Spelling → Counts → SinkState → SinkState → Status → Type 0
+ChecksYes spelled counts old new status.Done = new.held ≡ option_map (λ held. held ++ yes_row spelled counts.sectors (totals_of counts)) old.held
+ChecksYes spelled counts old new (status.Memory _) = ⊤
+ChecksYes spelled counts old new (status.ReadFault role) = ⊤
+ChecksYes spelled counts old new (status.WriteFault role.Text) = ⊤
+ChecksYes spelled counts old new other = ⊥
 
 -- what a sink held and holds
 pub record Sinks : Type 0 where
@@ -114,17 +115,17 @@ pub record Sinks : Type 0 where
   pub new : SinkState
 
 -- the line of the build has these counts, and so has that of the check
-pub record EndWithYes (name : List ℕ) (building checking : Sinks) (s : Status) : Type 0 where
+pub record EndWithYes (name : List ℕ) (spelled : Spelling) (building checking : Sinks) (s : Status) : Type 0 where
   pub counts : Counts
   pub built : building.new.held ≡ option_map (λ held. held ++ build_line name counts) building.old.held
-  pub checked : ChecksYes counts checking.old checking.new s
+  pub checked : ChecksYes spelled counts checking.old checking.new s
 
 -- Where a run of `build` ends with Done, a run of `check` on what stands in its two files then ends with Done.
 abbrev pub BuiltRunIsChecked : Type 0
-BuiltRunIsChecked = (build check : List (List ℕ)) (name out cert : List ℕ) (files stand others : Files) (heard unheard : Heard) (before after first last : ShelfState) (building checking : Sinks) (s : Status)
-    → AskBoth build check name out cert → RunEnds build files heard before after building.old building.new status.Done
+BuiltRunIsChecked = (build check : List (List ℕ)) (name out cert : List ℕ) (spelled : Spelling) (files stand others : Files) (heard unheard : Heard) (before after first last : ShelfState) (building checking : Sinks) (s : Status)
+    → AskBoth build check name out cert spelled → RunEnds build files heard before after building.old building.new status.Done
     → after.files ≡ Some stand → HaveBoth stand others out cert → IsShort others cert
-    → RunEnds check others unheard first last checking.old checking.new s → EndWithYes name building checking s
+    → RunEnds check others unheard first last checking.old checking.new s → EndWithYes name spelled building checking s
 
 -- ---- what a written WAD keeps
 
