@@ -102,9 +102,9 @@ impl Given {
         self.faults || self.heat
     }
 
-    // How a report is spelled is told, but no report is asked for yet.
-    fn wants_report(&self) -> bool {
-        self.json && !self.report
+    // How a report is spelled is told, but no report is asked for yet. A verb that writes none spells its line so.
+    fn wants_report(&self, verb: &Verb) -> bool {
+        self.json && !self.report && verb.takes(Choice::Report)
     }
 
     // How pairs of sectors are decided is told.
@@ -295,7 +295,7 @@ impl Reader {
         }
         match self.verb {
             Some(verb) if may_end(verb, self.filled, self.given) => {
-                if self.given.wants_report() {
+                if self.given.wants_report(verb) {
                     Some("--report")
                 } else {
                     None

@@ -114,7 +114,7 @@ pub static OPTIONS: [Entry; 12] = [
         choice: Choice::Json,
         name: "json",
         value: "",
-        about: "writes each line of the report as a JSON object",
+        about: "writes each line of the report, or of check, as JSON",
     },
     Entry {
         choice: Choice::Exact,
@@ -230,7 +230,7 @@ pub static VERBS: [Verb; 14] = [
         name: "check",
         places: &[Place::Wad, Place::Map, Place::Cert],
         spare: &[],
-        choices: &[Choice::Large],
+        choices: &[Choice::Json, Choice::Large],
         purpose: "judges the table of a map by a certificate",
         about: "Judges the map's REJECT by a certificate; a yes means that no rejected pair can\nsee.",
     },
