@@ -1,4 +1,4 @@
-//! Rows of reports as JSON.
+//! Rows of reports and verdicts as JSON.
 
 use crate::table::hold;
 use std::test::Fail;
@@ -40,7 +40,9 @@ a=U | verify a --json | 2 | refused: usage | a=U, b=, r=
 a=U | maps a --json | 2 | refused: usage | a=U, b=, r=
 a=U | audit a MAP01 --json | 2 | refused: usage | a=U, b=, r=
 a=U | build a MAP01 b --report r --json | 2 | refused: usage | a=U, b=, r=
-a=U | check a MAP01 c --json | 2 | refused: usage | a=U, b=, r=
+a=U | check a MAP01 c --json --report r | 2 | refused: usage | a=U, b=, r=
+a=U | check a MAP01 c --json --json | 2 | refused: usage | a=U, b=, r=
+a=U | need a MAP01 --json | 2 | refused: usage | a=U, b=, r=
 a=U | zero a MAP01 b --json | 2 | refused: usage | a=U, b=, r=
 a=U | grid 2 --json | 2 | refused: usage | a=U, b=, r=
 a=U | verify a --report r --json --json | 2 | refused: usage | a=U, b=, r=
@@ -52,4 +54,43 @@ a=U =4400, creates=0 | verify a --report r --json | 5 | refused: write fault rep
 #[test]
 fn each_line_of_a_report_is_an_object(rt: HostRuntime) -> Result<(), Fail> {
     hold(&rt, rt.alloc(), JSON)
+}
+
+/// The verdicts of `check`. Each is that of a row in words: the reason of a no is what these say behind `no`.
+const VERDICTS: &str = "\
+a=U =4400, c=#U-CERT | check a MAP01 c --json | 0 | {\"verdict\":\"yes\",\"sectors\":3,\"set\":1,\"clear\":5,\"listed\":0} | a=U =4400, c=#U-CERT
+a=U =4400, c=#U-GROUPS | --json check a MAP01 c | 0 | {\"verdict\":\"yes\",\"sectors\":3,\"set\":1,\"clear\":5,\"listed\":0}
+a=DOORS =0810, c=#DOORS-EXACT | check a MAP01 --json c --large | 0 | {\"verdict\":\"yes\",\"sectors\":4,\"set\":1,\"clear\":9,\"listed\":0}
+a=U | build a MAP01 b --cert c --budget 1 | 0 | ..
+| check b MAP01 c --json | 0 | {\"verdict\":\"yes\",\"sectors\":3,\"set\":0,\"clear\":5,\"listed\":1}
+# each kind of no
+a=U, c=#U-CERT | check a MAP01 c --json | 1 | {\"verdict\":\"no\",\"reason\":\"table: 0 bytes, 2 expected\"}
+a=U =4400, c=#U-CERT @0:1:45 | check a MAP01 c --json | 1 | {\"verdict\":\"no\",\"reason\":\"cert: magic\"}
+a=U =4400, c=#U-CERT @4:1:09 | check a MAP01 c --json | 1 | {\"verdict\":\"no\",\"reason\":\"cert: version\"}
+a=U =4400, c=#U-CERT @4:157: | check a MAP01 c --json | 1 | {\"verdict\":\"no\",\"reason\":\"cert: short 4\"}
+a=U =4400, c=#U-CERT @10:1:0d | check a MAP01 c --json | 1 | {\"verdict\":\"no\",\"reason\":\"cert: range 10\"}
+a=U =4400, c=#U-CERT @92:1:01 | check a MAP01 c --json | 1 | {\"verdict\":\"no\",\"reason\":\"cert: order 92\"}
+a=U =4400, c=#U-CERT @161:0:00 | check a MAP01 c --json | 1 | {\"verdict\":\"no\",\"reason\":\"cert: trailing 161\"}
+a=U =4400, c=#U-CERT @12:1:07 @84:8: | check a MAP01 c --json | 1 | {\"verdict\":\"no\",\"reason\":\"mesh: mate 4\"}
+a=SQUARE =00 @64:2:ffff, c=#SQUARE-CERT | check a MAP01 c --json | 1 | {\"verdict\":\"no\",\"reason\":\"mesh: side 3R\"}
+a=ISLAND =00, c=#ISLAND-CERT @30:1:01 @34:2: | check a MAP01 c --json | 1 | {\"verdict\":\"no\",\"reason\":\"face 0\"}
+a=ISLAND =00, c=#ISLAND-CERT @12:1:02 @36:0:01000100 | check a MAP01 c --json | 1 | {\"verdict\":\"no\",\"reason\":\"group 1\"}
+a=U =4400, c=#U-CERT @132:8:38ffffffffffffff | check a MAP01 c --json | 1 | {\"verdict\":\"no\",\"reason\":\"ray 1 2: not split 3\"}
+a=U =4400, c=#U-CERT @96:20:03000380010000000000000060ffffffffffffff | check a MAP01 c --json | 1 | {\"verdict\":\"no\",\"reason\":\"ray 0 1: other sectors\"}
+a=U =4400, c=#U-CERT @157:1:03 | check a MAP01 c --json | 1 | {\"verdict\":\"no\",\"reason\":\"tree 0 node 4\"}
+a=U =4400, c=#U-CERT @20:1:01 @140:0:00000200 | check a MAP01 c --json | 1 | {\"verdict\":\"no\",\"reason\":\"listed 0 2\"}
+a=U =4600, c=#U-EXACT | check a MAP01 c --json | 1 | {\"verdict\":\"no\",\"reason\":\"unproved 0 1\"} | a=U =4600, c=#U-EXACT
+a=U =0000, c=#U-CERT | check a MAP01 c --json | 1 | {\"verdict\":\"no\",\"reason\":\"uncovered 0 2\"}
+# what is no verdict is told in words
+a=U =4400 | check a MAP01 c --json | 3 | refused: no file cert
+c=#U-CERT | check a MAP01 c --json | 3 | refused: no file wad
+a=U =4400, c=#U-CERT | check a MAP02 c --json | 7 | refused: no map: no marker
+a=CROSSED, c=#U-CERT | check a MAP01 c --json | 10 | refused: bad map: cross 3 4
+a=U =4400, c=#U-CERT, reads=2 | check a MAP01 c --json | 4 | refused: read fault cert
+a=U =4400 | check a MAP01 a --json | 11 | refused: same name
+";
+
+#[test]
+fn each_verdict_is_an_object(rt: HostRuntime) -> Result<(), Fail> {
+    hold(&rt, rt.alloc(), VERDICTS)
 }

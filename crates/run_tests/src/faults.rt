@@ -59,6 +59,7 @@ a=U, p=PAIR | draw a MAP01 p 0 | 1 | a a
 a=U =4400 | check a MAP01 c | 3 | a a
 a=U, c=#U-CERT | check a MAP01 c | 1 | a a
 a=U =4600, c=#U-CERT | check a MAP01 c | 1 | a a c c
+a=U =4600, c=#U-CERT | check a MAP01 c --json | 1 | a a c c
 a=OPEN, b=PAIR, c=PAIR | build a MAP01 b --cert c | 10 | a a
 a=PAIR, b=PAIR | all a b --only MAP02 | 7 | a a
 ";

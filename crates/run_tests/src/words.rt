@@ -228,7 +228,11 @@ all a b --json --only MAP01 | --report
 build a MAP01 b --report r --json | 7
 --json build a MAP01 b | 2
 --json --cert c | 2
-check a MAP01 c --json | 5
+check a MAP01 c --json | -
+--json check a MAP01 | CERT
+check a MAP01 c --json --report r | 6
+check a MAP01 c --json --large --json | 7
+check a MAP01 c --json=true | 5
 zero a MAP01 b --json | 5
 draw a MAP01 b --json | 5
 grid 2 --json | 3
