@@ -125,6 +125,8 @@ ORDERS = [
     ("all open.wad out.wad --refused clear --report report --workers 1", ["out.wad", "report"]),
     ("all u.wad out.wad --exact --workers 3", ["out.wad"]),
     ("check built.wad MAP01 u.cert", []),
+    ("check built.wad MAP01 u.cert --json", []),
+    ("check built.wad MAP01 row.cert --json", []),
     ("verify built.wad --report report --workers 3", ["report"]),
     ("verify u.wad --report report --workers 1", ["report"]),
     ("verify u.wad --report report --json --workers 1", ["report"]),
