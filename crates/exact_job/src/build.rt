@@ -18,6 +18,7 @@ ghost use Rattle.exact_checker.specs.Judged.{IsThreeFor, TellsTrees};
 ghost use Rattle.exact_job.specs.Built.{AreInOrder, IsOverGroups};
 
 use crate::settling::settle;
+use crate::steps::{Watcher, tell_end};
 use crate::table::table_of;
 use crate::walkers::{Alone, InThreads, Walkers};
 use block_evidence::sight_tree::Nodes;
@@ -195,7 +196,7 @@ fn build_with<W: Walkers>(walkers: &W, alloc: Global, plan: &Plan) -> Result<Exa
 
 /// The table of a map whose lines meet at ends, by walks that so many workers share, each in a thread where one can be had.
 /// A bit is set exactly where the two sectors don't see each other, so the table is one however many share. The certificate
-/// shows it.
+/// shows it. Who watches is told of each walk, and when none is left.
 ///
 /// # Errors
 ///
@@ -205,6 +206,7 @@ pub fn build_exact<R: Threads + Sync>(
     alloc: Global,
     plan: &Plan,
     workers: u16,
+    watcher: Option<&Watcher>,
 ) -> Result<ExactBuilt, GroupFault>
     requires audited { LinesMeetAtEnds (map_of plan.now) }
     ensures fault { IfErr result (IsGroupFault (map_of plan.now)) }
@@ -217,7 +219,14 @@ pub fn build_exact<R: Threads + Sync>(
     ensures accepted { IfOk result (λ b. IsAcceptedThree (map_of plan.now) b.table.bytes b.cert) }
     ensures sight { IfOk result (λ b. TellsAll (map_of plan.now) b.table) }
 {
-    build_with(&InThreads { rt, workers }, alloc, plan)
+    let walkers = InThreads {
+        rt,
+        workers,
+        watcher,
+    };
+    let built = build_with(&walkers, alloc, plan);
+    tell_end(watcher);
+    built
 }
 
 /// The table of a map whose lines meet at ends, without a thread. A bit is set exactly where the two sectors don't see each

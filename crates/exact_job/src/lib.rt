@@ -20,7 +20,9 @@ mod scene;
 mod scout;
 mod seeds;
 mod settling;
+mod steps;
 mod table;
+mod told;
 mod traces;
 mod tracks;
 mod trees;
@@ -29,3 +31,4 @@ mod walkers;
 mod words;
 
 pub use build::{ExactBuilt, build_exact, build_exact_alone};
+pub use steps::{Stage, Steps, Watcher};

@@ -9,8 +9,10 @@ ghost use Rattle.exact_checker.specs.TaskCrew.Done.{AreDone};
 ghost use Rattle.exact_job.specs.Trees.{IsOwnedWalk};
 
 use crate::scout::Searched;
+use crate::steps::{Stage, Watcher};
+use crate::told::shared_told;
 use crate::walk_tasks::{OwnedWalks, WantedWalks};
-use exact_checker::task_crew::{in_turn, shared};
+use exact_checker::task_crew::in_turn;
 use row_trees::Made;
 use sight_names::Memory;
 use std::alloc::Global;
@@ -50,11 +52,12 @@ impl Walkers for Alone {
     }
 }
 
-/// So many workers, each in a thread where one can be had.
+/// So many workers, each in a thread where one can be had, and who watches them.
 #[derive(Drop)]
 pub struct InThreads<'a, R> {
     pub rt: &'a R,
     pub workers: u16,
+    pub watcher: Option<&'a Watcher>,
 }
 
 impl<'a, R: Threads + Sync> Walkers for InThreads<'a, R> {
@@ -62,11 +65,27 @@ impl<'a, R: Threads + Sync> Walkers for InThreads<'a, R> {
 
     fn walk_owned(&self, alloc: Global, walks: &OwnedWalks<'_>) -> Result<Vec<Made>, Memory> {
         let count = usize::from(walks.known.count);
-        shared(self.rt, alloc, walks, count, usize::from(self.workers))
+        shared_told(
+            self.rt,
+            alloc,
+            walks,
+            count,
+            self.workers,
+            self.watcher,
+            Stage::Trees,
+        )
     }
 
     fn walk_wanted(&self, alloc: Global, walks: &WantedWalks<'_>) -> Result<Vec<Searched>, Memory> {
         let count = walks.sought.len();
-        shared(self.rt, alloc, walks, count, usize::from(self.workers))
+        shared_told(
+            self.rt,
+            alloc,
+            walks,
+            count,
+            self.workers,
+            self.watcher,
+            Stage::Searches,
+        )
     }
 }
