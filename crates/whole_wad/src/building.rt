@@ -9,8 +9,9 @@ ghost use Rattle.reject_bits.specs.Parts.{IsWhole};
 ghost use Rattle.whole_wad.specs.Built.{AreBytes, Builds, IsOfBuilding};
 ghost use Rattle.whole_wad.specs.Sizes.{sizes_of_map};
 
+use crate::hooks::Hooks;
 use certificates::Certificate;
-use exact_job::build_exact;
+use exact_job::{Watcher, build_exact};
 use face_groups::GroupFault;
 use group_job::build_table;
 use group_job::sight_workers::Gate;
@@ -85,6 +86,7 @@ fn build_deciding<R: Threads + Sync>(
     alloc: Global,
     plan: &Plan,
     workers: u16,
+    watcher: Option<&Watcher>,
 ) -> Result<Built, Status>
     requires audited { HasSoundLines (map_of plan.now) }
     requires workers { (1 ≤ workers) × (workers ≤ 64) }
@@ -92,7 +94,7 @@ fn build_deciding<R: Threads + Sync>(
     ensures refusals { IfErr result IsOfBuilding }
 {
     has_sizes_of_map(plan);
-    match build_exact(rt, alloc, plan, workers) {
+    match build_exact(rt, alloc, plan, workers, watcher) {
         Ok(built) => {
             is_whole(&built.table);
             Ok(Built {
@@ -112,7 +114,7 @@ fn build_sound<R: Threads + Sync, G: Gate + Sync>(
     plan: &Plan,
     workers: u16,
     method: Method,
-    gate: &G,
+    hooks: &Hooks<'_, G>,
 ) -> Result<Built, Status>
     requires audited { HasSoundLines (map_of plan.now) }
     requires workers { (1 ≤ workers) × (workers ≤ 64) }
@@ -120,25 +122,25 @@ fn build_sound<R: Threads + Sync, G: Gate + Sync>(
     ensures refusals { IfErr result IsOfBuilding }
 {
     match method {
-        Method::Within(budget) => build_within(rt, alloc, plan, workers, budget, gate),
-        Method::Exact => build_deciding(rt, alloc, plan, workers),
+        Method::Within(budget) => build_within(rt, alloc, plan, workers, budget, hooks.gate),
+        Method::Exact => build_deciding(rt, alloc, plan, workers, hooks.watcher),
     }
 }
 
-/// The table and the certificate of a map, audited wholly, by so many workers. The workers of a build within a budget pass the
-/// gate. How maps are built is said here alone.
+/// The table and the certificate of a map, audited wholly, by so many workers. The workers meet the
+/// hooks. How maps are built is said here alone.
 pub fn build<R: Threads + Sync, G: Gate + Sync>(
     rt: &R,
     alloc: Global,
     plan: &Plan,
     workers: u16,
     method: Method,
-    gate: &G,
+    hooks: &Hooks<'_, G>,
 ) -> Result<Built, Status>
     requires workers { (1 ≤ workers) × (workers ≤ 64) }
     ensures built { Builds (map_of plan.now) method result }
     ensures refusals { IfErr result IsOfBuilding }
 {
     audit_lines_of(alloc, plan)?;
-    build_sound(rt, alloc, plan, workers, method, gate)
+    build_sound(rt, alloc, plan, workers, method, hooks)
 }

@@ -3,6 +3,7 @@
 
 mod building;
 mod fate;
+mod hooks;
 mod json;
 mod laws;
 mod notice;
@@ -12,7 +13,9 @@ mod tables;
 mod whole;
 
 pub use building::{Built, build, has_sizes_of_map};
+pub use exact_job::{Stage, Steps, Watcher};
 pub use fate::{Fate, reject_named};
+pub use hooks::Hooks;
 pub use laws::{builds_have_one_table, outcomes_are_one};
 pub use notice::{NoNotice, Notice};
 pub use outcomes::MapOutcome;

@@ -10,6 +10,7 @@ ghost use Rattle.whole_wad.specs.Rejects.{fate_of};
 ghost use Rattle.whole_wad.specs.Tables.{Gets};
 
 use crate::fate::{Fate, fate_built, fate_kept, fate_refused, reject_named};
+use crate::hooks::Hooks;
 use crate::tables::{MapTable, table_of};
 use group_job::sight_workers::Gate;
 use map_answers::plan_named;
@@ -40,14 +41,14 @@ fn planned_outcome<R: Threads + Sync, G: Gate + Sync>(
     workers: u16,
     method: Method,
     refused: Refused,
-    gate: &G,
+    hooks: &Hooks<'_, G>,
 ) -> Result<MapOutcome, Memory>
     requires workers { (1 ≤ workers) × (workers ≤ 64) }
     ensures name { IfOk result (λ outcome. outcome.name ≡ name) }
     ensures gets { IfOk result (λ outcome. Gets (Ok (map_of plan.now)) method outcome.made) }
     ensures fate { IfOk result (λ outcome. outcome.fate ≡ fate_of refused (Ok (map_of plan.now)) old.now outcome.made) }
 {
-    match table_of(rt, alloc, plan, workers, method, gate) {
+    match table_of(rt, alloc, plan, workers, method, hooks) {
         Ok(made) => {
             let fate = fate_built(old, &made.table);
             Ok(MapOutcome {
@@ -65,7 +66,7 @@ fn planned_outcome<R: Threads + Sync, G: Gate + Sync>(
     }
 }
 
-/// What comes of the map of that name.
+/// What comes of the map of that name, which is told to whoever watches.
 pub fn outcome_of<R: Threads + Sync, G: Gate + Sync>(
     rt: &R,
     alloc: Global,
@@ -76,7 +77,7 @@ pub fn outcome_of<R: Threads + Sync, G: Gate + Sync>(
     workers: u16,
     method: Method,
     refused: Refused,
-    gate: &G,
+    hooks: &Hooks<'_, G>,
 ) -> Result<MapOutcome, Memory>
     requires inside { All (λ entry. entry.at + entry.size ≤ length bytes.now) wad.now.entries }
     requires names { names_of (file_of bytes.now wad.now) ≡ entry_names wad.now.entries }
@@ -88,9 +89,10 @@ pub fn outcome_of<R: Threads + Sync, G: Gate + Sync>(
 {
     let name = *name;
     let text = text_of(&name);
+    hooks.begin(text);
     let old = reject_named(bytes, wad, text);
     match plan_named(alloc, bytes, wad, large, text) {
-        Ok(plan) => planned_outcome(rt, alloc, &plan, old, name, workers, method, refused, gate),
+        Ok(plan) => planned_outcome(rt, alloc, &plan, old, name, workers, method, refused, hooks),
         Err(Status::Memory(ref memory)) => Err(*memory),
         Err(refusal) => Ok(MapOutcome {
             name,

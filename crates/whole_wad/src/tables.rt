@@ -10,6 +10,7 @@ ghost use Rattle.whole_wad.specs.Sizes.{sizes_of_map};
 ghost use Rattle.whole_wad.specs.Tables.{GetsOrMemory};
 
 use crate::building::{Built, build, has_sizes_of_map};
+use crate::hooks::Hooks;
 use any_judge::check_par;
 use group_checker::AnyVerdict;
 use group_job::sight_workers::Gate;
@@ -61,11 +62,11 @@ pub fn table_of<R: Threads + Sync, G: Gate + Sync>(
     plan: &Plan,
     workers: u16,
     method: Method,
-    gate: &G,
+    hooks: &Hooks<'_, G>,
 ) -> Result<MapTable, Status>
     requires workers { (1 ≤ workers) × (workers ≤ 64) }
     ensures { GetsOrMemory (Ok (map_of plan.now)) method result }
 {
-    let built = build(rt, alloc, plan, workers, method, gate)?;
+    let built = build(rt, alloc, plan, workers, method, hooks)?;
     judged(rt, alloc, plan, built)
 }

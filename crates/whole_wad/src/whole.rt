@@ -9,6 +9,7 @@ ghost use Rattle.whole_wad.specs.Outcomes.{changes_of, tables_of};
 ghost use Rattle.whole_wad.specs.Whole.{MakesWhole, Tells, WritesOutcomes};
 
 use crate::fate::Fate;
+use crate::hooks::Hooks;
 use crate::json::row_of;
 use crate::notice::Notice;
 use crate::outcomes::{MapOutcome, outcome_of, stop_of};
@@ -129,7 +130,7 @@ fn tell_maps<R: Threads + Sync, G: Gate + Sync, N: Notice>(
     method: Method,
     refused: Refused,
     spelling: Spelling,
-    gate: &G,
+    hooks: &Hooks<'_, G>,
     notice: &N,
 ) -> Result<Told, Memory>
     requires inside { All (λ entry. entry.at + entry.size ≤ length bytes.now) wad.now.entries }
@@ -142,7 +143,7 @@ fn tell_maps<R: Threads + Sync, G: Gate + Sync, N: Notice>(
     let mut report = String::new(alloc);
     for name in names {
         let outcome = outcome_of(
-            rt, alloc, bytes, wad, large, name, workers, method, refused, gate,
+            rt, alloc, bytes, wad, large, name, workers, method, refused, hooks,
         )?;
         let line = line_of(alloc, &outcome)?;
         tell(notice, &outcome, &line);
@@ -259,7 +260,7 @@ pub fn build_wad<R: Threads + Sync, G: Gate + Sync, N: Notice>(
     method: Method,
     refused: Refused,
     spelling: Spelling,
-    gate: &G,
+    hooks: &Hooks<'_, G>,
     notice: &N,
 ) -> Result<WholeWad, Unmade>
     requires inside { All (λ entry. entry.at + entry.size ≤ length bytes.now) wad.now.entries }
@@ -273,7 +274,7 @@ pub fn build_wad<R: Threads + Sync, G: Gate + Sync, N: Notice>(
         return Err(Unmade::Unwritten(RewriteFault::Memory(memory)));
     }
     match tell_maps(
-        rt, alloc, bytes, wad, large, names, workers, method, refused, spelling, gate, notice,
+        rt, alloc, bytes, wad, large, names, workers, method, refused, spelling, hooks, notice,
     ) {
         Ok(Told::Stopped(refusal)) => Err(Unmade::Stopped(refusal)),
         Ok(Told::All(maps)) => match written(alloc, bytes, wad, maps) {
