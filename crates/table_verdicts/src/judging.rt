@@ -17,7 +17,7 @@ use sight_names::{Method, Pair, Plan};
 use std::alloc::Global;
 use std::thread::Threads;
 use table_compare::compare;
-use whole_wad::build;
+use whole_wad::{Hooks, build};
 
 /// The first wrong pair, with why its sectors see each other.
 fn first_of(
@@ -47,13 +47,13 @@ fn judge_table<R: Threads + Sync, G: Gate + Sync>(
     reject: &[u8],
     own: &Table,
     workers: u16,
-    gate: &G,
+    hooks: &Hooks<'_, G>,
 ) -> Result<Findings, Status>
     requires own { IsAtFront plan.now.sectors reject.now own.now }
     requires workers { (1 ≤ workers) × (workers ≤ 64) }
     ensures { Judges (map_of plan.now) reject.now result }
 {
-    let built = build(rt, alloc, plan, workers, Method::Exact, gate)?;
+    let built = build(rt, alloc, plan, workers, Method::Exact, hooks)?;
     let compared = compare(own, &built.table);
     let first = first_of(alloc, plan, reject, compared.first)?;
     Ok(Findings {
@@ -70,7 +70,7 @@ pub fn verdict_of<R: Threads + Sync, G: Gate + Sync>(
     plan: &Plan,
     reject: &[u8],
     workers: u16,
-    gate: &G,
+    hooks: &Hooks<'_, G>,
 ) -> Result<Verdict, Status>
     requires workers { (1 ≤ workers) × (workers ≤ 64) }
     ensures { IsVerdictOrMemory (Ok (map_of plan.now)) reject.now result }
@@ -78,7 +78,7 @@ pub fn verdict_of<R: Threads + Sync, G: Gate + Sync>(
     match own_table(alloc, plan.sectors, reject) {
         Ok(OwnTable::Short { found, expected }) => Ok(Verdict::Short { found, expected }),
         Ok(OwnTable::Whole(own)) => {
-            let findings = judge_table(rt, alloc, plan, reject, &own, workers, gate)?;
+            let findings = judge_table(rt, alloc, plan, reject, &own, workers, hooks)?;
             Ok(Verdict::Judged(findings))
         }
         Err(refused) => Err(Status::Memory(refused.into())),

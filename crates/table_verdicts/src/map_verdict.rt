@@ -19,7 +19,7 @@ use std::alloc::Global;
 use std::thread::Threads;
 use wad_dir::Wad;
 use wad_dir::all_maps::text_of;
-use whole_wad::reject_named;
+use whole_wad::{Hooks, reject_named};
 
 /// What is said of the REJECT of the map of that name, or the first check that fails.
 fn verdict_named<R: Threads + Sync, G: Gate + Sync>(
@@ -30,7 +30,7 @@ fn verdict_named<R: Threads + Sync, G: Gate + Sync>(
     large: bool,
     name: &str,
     workers: u16,
-    gate: &G,
+    hooks: &Hooks<'_, G>,
 ) -> Result<Verdict, Status>
     requires inside { All (λ entry. entry.at + entry.size ≤ length bytes.now) wad.now.entries }
     requires names { names_of (file_of bytes.now wad.now) ≡ entry_names wad.now.entries }
@@ -44,11 +44,11 @@ fn verdict_named<R: Threads + Sync, G: Gate + Sync>(
         &plan,
         reject_named(bytes, wad, name),
         workers,
-        gate,
+        hooks,
     )
 }
 
-/// What is said of the map of that name.
+/// What is said of the map of that name, which is told to whoever watches.
 pub fn verdict_on<R: Threads + Sync, G: Gate + Sync>(
     rt: &R,
     alloc: Global,
@@ -57,7 +57,7 @@ pub fn verdict_on<R: Threads + Sync, G: Gate + Sync>(
     large: bool,
     name: &[u8; 8],
     workers: u16,
-    gate: &G,
+    hooks: &Hooks<'_, G>,
 ) -> Result<MapVerdict, Memory>
     requires inside { All (λ entry. entry.at + entry.size ≤ length bytes.now) wad.now.entries }
     requires names { names_of (file_of bytes.now wad.now) ≡ entry_names wad.now.entries }
@@ -68,7 +68,9 @@ pub fn verdict_on<R: Threads + Sync, G: Gate + Sync>(
     ensures named { IfOk result (λ v. IsTrue (is_map_name v.name)) }
 {
     let name = *name;
-    match verdict_named(rt, alloc, bytes, wad, large, text_of(&name), workers, gate) {
+    let text = text_of(&name);
+    hooks.begin(text);
+    match verdict_named(rt, alloc, bytes, wad, large, text, workers, hooks) {
         Ok(verdict) => Ok(MapVerdict {
             name,
             said: Ok(verdict),

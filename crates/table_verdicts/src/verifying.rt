@@ -20,7 +20,7 @@ use sight_names::Memory;
 use std::alloc::Global;
 use std::thread::Threads;
 use wad_dir::Wad;
-use whole_wad::{Fate, Notice, tell_unread};
+use whole_wad::{Fate, Hooks, Notice, tell_unread};
 
 /// What is said of maps of a WAD: a line of text a map, and how many there are of each kind.
 #[derive(Drop)]
@@ -54,7 +54,7 @@ fn verify_maps<R: Threads + Sync, G: Gate + Sync, N: Notice>(
     names: &[[u8; 8]],
     workers: u16,
     spelling: Spelling,
-    gate: &G,
+    hooks: &Hooks<'_, G>,
     notice: &N,
 ) -> Result<Said, Memory>
     requires inside { All (λ entry. entry.at + entry.size ≤ length bytes.now) wad.now.entries }
@@ -68,7 +68,7 @@ fn verify_maps<R: Threads + Sync, G: Gate + Sync, N: Notice>(
     let mut verdicts = Vec::with_capacity(alloc, names.len())?;
     let mut report = String::new(alloc);
     for name in names {
-        let verdict = verdict_on(rt, alloc, bytes, wad, large, name, workers, gate)?;
+        let verdict = verdict_on(rt, alloc, bytes, wad, large, name, workers, hooks)?;
         let line = line_of(alloc, &verdict)?;
         tell(notice, &verdict, &line);
         let row = row_of(alloc, spelling, &verdict)?;
@@ -89,7 +89,7 @@ pub fn verify_wad<R: Threads + Sync, G: Gate + Sync, N: Notice>(
     names: &[[u8; 8]],
     workers: u16,
     spelling: Spelling,
-    gate: &G,
+    hooks: &Hooks<'_, G>,
     notice: &N,
 ) -> Result<WadVerdict, Memory>
     requires inside { All (λ entry. entry.at + entry.size ≤ length bytes.now) wad.now.entries }
@@ -101,7 +101,7 @@ pub fn verify_wad<R: Threads + Sync, G: Gate + Sync, N: Notice>(
 {
     tell_unread(alloc, wad, notice)?;
     let said = verify_maps(
-        rt, alloc, bytes, wad, large, names, workers, spelling, gate, notice,
+        rt, alloc, bytes, wad, large, names, workers, spelling, hooks, notice,
     )?;
     Ok(WadVerdict {
         tally: tally_up(&said.verdicts),
