@@ -26,7 +26,7 @@ use sight_names::{Items, Method, RewriteFault};
 use std::alloc::{AllocError, Global};
 use std::thread::Threads;
 use wad_dir::Wad;
-use whole_wad::{Notice, Unmade, WholeWad, build_wad};
+use whole_wad::{Hooks, Notice, Unmade, WholeWad, build_wad};
 
 /// Adds how many maps got a clear table, where that is asked for.
 fn push_cleared(
@@ -117,7 +117,7 @@ fn make_reply<R: Threads + Sync, G: Gate + Sync, N: Notice>(
     workers: u16,
     method: Method,
     refused: Refused,
-    gate: &G,
+    hooks: &Hooks<'_, G>,
     notice: &N,
 ) -> Result<Reply, Status>
     requires inside { All (λ entry. entry.at + entry.size ≤ length bytes.now) wad.now.entries }
@@ -131,7 +131,7 @@ fn make_reply<R: Threads + Sync, G: Gate + Sync, N: Notice>(
 {
     let spelling = spelling_in(report);
     let whole = match build_wad(
-        rt, alloc, bytes, wad, large, maps, workers, method, refused, spelling, gate, notice,
+        rt, alloc, bytes, wad, large, maps, workers, method, refused, spelling, hooks, notice,
     ) {
         Ok(whole) => whole,
         Err(unmade) => return Err(status_of(unmade)),
@@ -154,7 +154,7 @@ pub fn do_all<R: Threads + Sync, S: Shelf, G: Gate + Sync, N: Notice>(
     workers: u16,
     method: Method,
     refused: Refused,
-    gate: &G,
+    hooks: &Hooks<'_, G>,
     notice: &N,
 ) -> Result<Reply, Status>
     requires workers { (1 ≤ workers) × (workers ≤ 64) }
@@ -182,7 +182,7 @@ pub fn do_all<R: Threads + Sync, S: Shelf, G: Gate + Sync, N: Notice>(
         workers,
         method,
         refused,
-        gate,
+        hooks,
         notice,
     )
 }

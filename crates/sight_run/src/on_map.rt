@@ -30,6 +30,7 @@ use pair_answer::why_answers::judge_why;
 use shelf_io::Shelf;
 use std::alloc::Global;
 use std::thread::Threads;
+use whole_wad::Hooks;
 
 /// The file that an order reads and the name of the map in it; none where it makes its map, or takes each map of the file.
 pub fn asked_map(order: &Order) -> Option<(&Source, &str)>
@@ -123,7 +124,7 @@ pub fn reply_on<R: Threads + Sync, S: Shelf, G: Gate + Sync>(
     input: Input,
     listeners: &mut Vec<Box<dyn Listener>>,
     ended: &mut Vec<Box<dyn Listener>>,
-    gate: &G,
+    hooks: &Hooks<'_, G>,
 ) -> Result<Reply, Status>
     requires built { IsTrue (is_built order.now) }
     requires asks { IsSome (map_asked order.now) }
@@ -166,7 +167,7 @@ pub fn reply_on<R: Threads + Sync, S: Shelf, G: Gate + Sync>(
             *method,
             listeners,
             ended,
-            gate,
+            hooks,
         ),
         _ => answer_on(alloc, order, &input),
     }

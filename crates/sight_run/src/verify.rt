@@ -25,7 +25,7 @@ use sight_names::{Items, Memory};
 use std::alloc::{AllocError, Global};
 use std::thread::Threads;
 use table_verdicts::{WadVerdict, all_right, line_of, verify_wad};
-use whole_wad::Notice;
+use whole_wad::{Hooks, Notice};
 
 /// The reply that writes the report where it is asked for, and puts the totals.
 fn reply_of(
@@ -49,7 +49,7 @@ fn verdict_on<R: Threads + Sync, G: Gate + Sync, N: Notice>(
     large: bool,
     report: &Option<ReportFile>,
     workers: u16,
-    gate: &G,
+    hooks: &Hooks<'_, G>,
     notice: &N,
 ) -> Result<Reply, Memory>
     requires inside { All (λ entry. entry.at + entry.size ≤ length asked.now.bytes.items) asked.now.wad.entries }
@@ -68,7 +68,7 @@ fn verdict_on<R: Threads + Sync, G: Gate + Sync, N: Notice>(
         &asked.maps,
         workers,
         spelling_in(report),
-        gate,
+        hooks,
         notice,
     )?;
     let reply = reply_of(alloc, report, verdict)?;
@@ -84,7 +84,7 @@ pub fn do_verify<R: Threads + Sync, S: Shelf, G: Gate + Sync, N: Notice>(
     only: &Option<Items<Text>>,
     report: &Option<ReportFile>,
     workers: u16,
-    gate: &G,
+    hooks: &Hooks<'_, G>,
     notice: &N,
 ) -> Result<Reply, Status>
     requires workers { (1 ≤ workers) × (workers ≤ 64) }
@@ -105,7 +105,7 @@ pub fn do_verify<R: Threads + Sync, S: Shelf, G: Gate + Sync, N: Notice>(
         source.large,
         report,
         workers,
-        gate,
+        hooks,
         notice,
     ) {
         Ok(reply) => Ok(reply),
