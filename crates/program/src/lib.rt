@@ -11,6 +11,7 @@ mod help;
 pub mod places;
 pub mod progress;
 pub mod runs;
+pub mod step_line;
 pub mod usage;
 pub mod verbs;
 mod words;
@@ -23,6 +24,7 @@ use progress::{Progress, refuses_size};
 use runs::run_words;
 use shelf_io::{DiskShelf, Sink, StdSink, is_standard_output};
 use sight_names::{MapFault, OrderFault};
+pub use sight_run::{Steps, Watcher};
 use sight_run::{Notice, Status, code};
 use std::alloc::{AllocError, Global};
 use std::env::Env;
@@ -125,6 +127,7 @@ fn obey<R: Files + Print + Threads + Sync + AllocGlobal, O: Sink, P: Print>(
     order: &Option<Order>,
     out: &mut O,
     progress: &Progress<P>,
+    watcher: Option<&Watcher>,
 ) -> Ended {
     let mut audits = false;
     let mut is_all = false;
@@ -138,7 +141,7 @@ fn obey<R: Files + Print + Threads + Sync + AllocGlobal, O: Sink, P: Print>(
         may_be_large = source_of(order).is_some_and(|wad| !wad.large);
     }
     let mut shelf = DiskShelf::new(rt);
-    let status = match run_words(rt, alloc, words, &mut shelf, out, progress) {
+    let status = match run_words(rt, alloc, words, &mut shelf, out, progress, watcher) {
         Ok(status) => status,
         Err(memory) => Status::Memory(memory),
     };
@@ -222,11 +225,12 @@ fn has_standard_output(order: &Option<Order>) -> bool {
 }
 
 /// Does what the words ask of the program itself or of files, and gives the exit code. It says the same as what is said of wrong
-/// words to `err`, so a fault of standard error changes nothing.
+/// words to `err`, so a fault of standard error changes nothing. Who watches is told how far each build is.
 pub fn run_order<R: Files + Print + Threads + Sync + AllocGlobal, E: Print + IsTerminal>(
     rt: &R,
     err: &E,
     words: &[String],
+    watcher: Option<&Watcher>,
 ) -> ExitCode {
     let mut out = StdSink::new(rt);
     if let Some(question) = question_in(words) {
@@ -242,9 +246,9 @@ pub fn run_order<R: Files + Print + Threads + Sync + AllocGlobal, E: Print + IsT
     let progress = Progress::new(err, alloc, err.is_terminal());
     let ended = if has_standard_output(&order) {
         let mut line = StdSink::new(err);
-        obey(rt, alloc, words, &order, &mut line, &progress)
+        obey(rt, alloc, words, &order, &mut line, &progress, watcher)
     } else {
-        obey(rt, alloc, words, &order, &mut out, &progress)
+        obey(rt, alloc, words, &order, &mut out, &progress, watcher)
     };
     if ended.status == Status::Usage {
         print_diagnosis(err, words);
@@ -252,13 +256,14 @@ pub fn run_order<R: Files + Print + Threads + Sync + AllocGlobal, E: Print + IsT
     code_of(&ended)
 }
 
-/// Does what the words behind the program's name ask, and gives the exit code.
+/// Does what the words behind the program's name ask, and gives the exit code. Who watches is told how far each build is.
 pub fn run_program<R: Env + Files + Print + Threads + Sync + AllocGlobal, E: Print + IsTerminal>(
     rt: &R,
     err: &E,
+    watcher: Option<&Watcher>,
 ) -> ExitCode {
     match words_of(rt) {
-        Ok(words) => run_order(rt, err, &words),
+        Ok(words) => run_order(rt, err, &words, watcher),
         Err(NoWords::Memory(ref memory)) => exit_code(&Status::Memory(*memory)),
         Err(NoWords::NotText) => {
             let status = put_refusal(rt.alloc(), &mut StdSink::new(rt), Status::Usage);

@@ -15,7 +15,7 @@ use listeners::{Lines, Listener, Totals};
 use order_words::{Order, read_words};
 use shelf_io::{Shelf, Sink};
 use sight_names::{Memory, OrderFault};
-use sight_run::{Notice, Status, run};
+use sight_run::{Hooks, Notice, Status, Watcher, run};
 use std::alloc::Global;
 use std::thread::Threads;
 
@@ -48,6 +48,7 @@ fn run_told<R: Threads + Sync, S: Shelf, O: Sink, N: Notice>(
     shelf: &mut S,
     out: &mut O,
     notice: &N,
+    watcher: Option<&Watcher>,
     lines: Box<dyn Listener>,
     totals: Box<dyn Listener>,
 ) -> Result<Status, Memory>
@@ -69,20 +70,15 @@ fn run_told<R: Threads + Sync, S: Shelf, O: Sink, N: Notice>(
     let mut listeners: Vec<Box<dyn Listener>> = Vec::new(alloc);
     listeners.push(lines)?;
     listeners.push(totals)?;
-    Ok(run(
-        rt,
-        alloc,
-        words,
-        shelf,
-        out,
-        &mut listeners,
-        &OpenGate,
-        notice,
-    ))
+    let hooks = Hooks {
+        gate: &OpenGate,
+        watcher,
+    };
+    Ok(run(rt, alloc, words, shelf, out, &mut listeners, &hooks, notice))
 }
 
 /// Does what the words ask. A build of one map with a report is told to the lines and the totals of that report; with no
-/// report nobody would read what listeners hear, so there are none then.
+/// report nobody would read what listeners hear, so there are none then. Who watches is told how far each build is.
 pub fn run_words<R: Threads + Sync, S: Shelf, O: Sink, N: Notice>(
     rt: &R,
     alloc: Global,
@@ -90,6 +86,7 @@ pub fn run_words<R: Threads + Sync, S: Shelf, O: Sink, N: Notice>(
     shelf: &mut S,
     out: &mut O,
     notice: &N,
+    watcher: Option<&Watcher>,
 ) -> Result<Status, Memory>
     // What `run` promises, where the files are told, with the listeners that the order asks for.
     ensures ends { (files : Files) → (S.state shelf.old).files ≡ Some files →
@@ -113,9 +110,13 @@ pub fn run_words<R: Threads + Sync, S: Shelf, O: Sink, N: Notice>(
 {
     if !asks_for_report(alloc, words)? {
         let mut none: Vec<Box<dyn Listener>> = Vec::new(alloc);
-        return Ok(run(rt, alloc, words, shelf, out, &mut none, &OpenGate, notice));
+        let hooks = Hooks {
+            gate: &OpenGate,
+            watcher,
+        };
+        return Ok(run(rt, alloc, words, shelf, out, &mut none, &hooks, notice));
     }
     let lines: Box<dyn Listener> = Box::new(alloc, Lines::new(alloc))?;
     let totals: Box<dyn Listener> = Box::new(alloc, Totals::new(alloc))?;
-    run_told(rt, alloc, words, shelf, out, notice, lines, totals)
+    run_told(rt, alloc, words, shelf, out, notice, watcher, lines, totals)
 }

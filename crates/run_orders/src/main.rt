@@ -19,7 +19,7 @@ fn ends_so<R: Files + Print + Threads + Sync + AllocGlobal, E: Print + IsTermina
     let (Ok(code), Ok(words)) = (code.parse::<u8>(), words_in(rt.alloc(), words)) else {
         return false;
     };
-    run_order(rt, err, &words) == ExitCode::from(code)
+    run_order(rt, err, &words, None) == ExitCode::from(code)
 }
 
 fn main(rt: HostRuntime) -> ExitCode {
@@ -31,5 +31,5 @@ fn main(rt: HostRuntime) -> ExitCode {
             return ExitCode::FAILURE;
         }
     }
-    run_program(&rt, &rt.stderr())
+    run_program(&rt, &rt.stderr(), None)
 }
