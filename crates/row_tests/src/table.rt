@@ -7,7 +7,7 @@ use shelf_io::{MemSink, Shelf};
 use sight_names::{
     CheckFault, FetchFault, LabelFault, LumpFault, OrderFault, RewriteFault, WadFault,
 };
-use sight_run::{Bound, Flaw, NoNotice, Notice, Status, Why, code, run};
+use sight_run::{Bound, Flaw, Hooks, NoNotice, Notice, Status, Why, code, run};
 use std::alloc::{AllocError, Global};
 use std::test::Fail;
 use std::thread::Threads;
@@ -27,7 +27,11 @@ pub fn ran<R: Threads + Sync, S: Shelf, N: Notice>(
     notice: &N,
 ) -> Result<Status, AllocError> {
     let words = words_in(alloc, line)?;
-    Ok(run(rt, alloc, &words, shelf, out, listeners, &OpenGate, notice))
+    let hooks = Hooks {
+        gate: &OpenGate,
+        watcher: None,
+    };
+    Ok(run(rt, alloc, &words, shelf, out, listeners, &hooks, notice))
 }
 
 // Whether a line was put. `=` is the line that was put before; two dots stand for anything; a line that ends in `~` isn't

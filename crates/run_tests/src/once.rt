@@ -5,7 +5,7 @@ use group_job::sight_workers::OpenGate;
 use listeners::Listener;
 use shelf_io::{MemShelf, MemSink, SameFault, Shelf};
 use sight_names::{Failed, ShelfFault};
-use sight_run::{NoNotice, run};
+use sight_run::{Hooks, NoNotice, run};
 use std::alloc::{AllocError, Global};
 use std::test::Fail;
 use std::thread::Threads;
@@ -73,8 +73,12 @@ fn reads_of<R: Threads + Sync>(rt: &R, alloc: Global, row: &str) -> Result<Vec<R
     };
     let mut out = MemSink::new(alloc, Vec::new(alloc));
     let mut none: Vec<Box<dyn Listener>> = Vec::new(alloc);
+    let hooks = Hooks {
+        gate: &OpenGate,
+        watcher: None,
+    };
     let _ = run(
-        rt, alloc, &words, &mut shelf, &mut out, &mut none, &OpenGate, &NoNotice,
+        rt, alloc, &words, &mut shelf, &mut out, &mut none, &hooks, &NoNotice,
     );
     Ok(shelf.reads)
 }

@@ -3,7 +3,7 @@
 use group_job::sight_workers::Gate;
 use listeners::Listener;
 use shelf_io::MemSink;
-use sight_run::{NoNotice, code, run};
+use sight_run::{Hooks, NoNotice, code, run};
 use std::alloc::{AllocError, Global};
 use std::thread::Threads;
 use worked_maps::stages::{Stage, words_in};
@@ -20,6 +20,10 @@ pub fn run_on<R: Threads + Sync, G: Gate + Sync>(
     let words = words_in(alloc, line)?;
     let mut out = MemSink::new(alloc, stage.puts.clone()?);
     let mut none: Vec<Box<dyn Listener>> = Vec::new(alloc);
+    let hooks = Hooks {
+        gate,
+        watcher: None,
+    };
     let status = run(
         rt,
         alloc,
@@ -27,7 +31,7 @@ pub fn run_on<R: Threads + Sync, G: Gate + Sync>(
         &mut stage.shelf,
         &mut out,
         &mut none,
-        gate,
+        &hooks,
         &NoNotice,
     );
     stage.text = out.held().to_vec(alloc)?;
