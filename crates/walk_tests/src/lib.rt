@@ -15,3 +15,5 @@ pub mod meeting;
 mod threads;
 #[cfg(test)]
 mod walks;
+#[cfg(test)]
+mod watched;
