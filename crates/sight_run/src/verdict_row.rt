@@ -82,7 +82,7 @@ fn push_reason(alloc: Global, line: &mut String, which: Why) -> Result<(), Alloc
     ensures { OnOk result (string_bytes line.new ≡ string_bytes line.old ++ quoted (reason_of which)) }
 {
     let words = line_of(alloc, &Status::No(which))?;
-    push_quoted(line, behind_no(&words))
+    push_quoted(line, behind_no(words.as_str()))
 }
 
 fn no_json_of(alloc: Global, which: Why) -> Result<String, AllocError>
