@@ -44,6 +44,14 @@ impl Steps for Notes {
     }
 }
 
+// Whether a map of which no lines clash is built, watched so.
+fn is_built<R: Threads + Sync>(rt: &R, alloc: Global, plan: &Plan, watcher: &Watcher) -> bool {
+    let Ok(()) = audit_lines(alloc, plan) else {
+        return false;
+    };
+    build_exact(rt, alloc, plan, 1, Some(watcher)).is_ok()
+}
+
 // Whether each step of so many walks for trees, or some times as many, is told in its turn, and the end once.
 fn is_told_of<R: Threads + Sync>(
     rt: &R,
@@ -51,9 +59,6 @@ fn is_told_of<R: Threads + Sync>(
     plan: &Plan,
     count: usize,
 ) -> Result<bool, AllocError> {
-    let Ok(()) = audit_lines(alloc, plan) else {
-        return Ok(false);
-    };
     let tally = Arc::new(
         alloc,
         Tally {
@@ -67,12 +72,12 @@ fn is_told_of<R: Threads + Sync>(
         tally: Arc::try_clone(&tally)?,
     };
     let steps: Box<dyn Steps + Send + Sync + Drop> = Box::new(alloc, notes)?;
-    let is_built = build_exact(rt, alloc, plan, 1, Some(&Watcher { steps })).is_ok();
+    let is_built = is_built(rt, alloc, plan, &Watcher { steps });
     let trees = tally.trees.load(Ordering::SeqCst);
     Ok(
         is_built
             && trees > 0
-            && trees % count == 0
+            && trees.checked_rem(count) == Some(0)
             && tally.last.load(Ordering::SeqCst) == 0
             && tally.torn.load(Ordering::SeqCst) == 0
             && tally.ends.load(Ordering::SeqCst) == 1,
