@@ -3,11 +3,12 @@
 
     bench/refusals.py
 
-`Memory` has a private field, an `AllocError`: who answers want of memory was handed one. But `AllocError` itself is a public
-name of the library. So are `AllocFailed` and `SpawnError`, which turn into one, and have a public field and no other. And a
-word of a fault can be made too, or of the system's number for it. So here the sources are read, but for those of tests. The
-names may stand as types, in an import, as `AllocError::from` and in a pattern, and the kinds of faults that tell want of
-memory nowhere but at the edge. The three lines of EDGE are all that may make one. The status is 1 where another line does.
+`Memory` has a private field, an `AllocError`: who answers want of memory was handed one. But `AllocError` itself is a
+public name of the library. So are `AllocFailed` and `SpawnError`, which turn into one, and have a public field and no
+other. And a word of a fault can be made too, or of the system's number for it; and the library for C tells it by a
+number, its code 12. So here the sources are read, but for those of tests. The names may stand as types, in an import,
+as `AllocError::from` and in a pattern, and the kinds of faults that tell want of memory nowhere but at the edge. The
+three lines of EDGE are all that may make one. The status is 1 where another line does.
 """
 import glob
 import os
@@ -27,7 +28,7 @@ HARMLESS = re.compile(
     r"(?<=<)AllocError\b(?=>)|(?<=, )AllocError\b(?=>)|(?<=: )AllocError\b(?=\))|AllocError::from\b|Err\(AllocError\) =>"
     r"|(?<=From<)AllocFailed<\w+>(?=>)|(?<=: )AllocFailed<\w+>(?=\))")
 # What can be written without a refusal, and is one or is turned into one.
-MAKES = re.compile(r"AllocError|AllocFailed|SpawnError|OutOfMemory|from_raw_os_error")
+MAKES = re.compile(r"AllocError|AllocFailed|SpawnError|OutOfMemory|from_raw_os_error|\b(?:two|wide)\(12\b|\bcode: 12\b")
 
 
 def code(text):
