@@ -14,10 +14,11 @@ use worked_maps::stages::stage_of;
 
 /// What there is, the words, and who has threads of their own beside the one that runs: workers, or judges where the machine
 /// has a second processor. A build by one worker has none. The handle by which threads are started has no calls that another
-/// one in its place could count, and these calls pass no gate: so the system is asked.
+/// one in its place could count, and these calls pass no gate: so the system is asked. It may still count a thread that was joined a
+/// moment before: so the row with nobody comes first, and is run once.
 const BESIDE: &str = "\
-a=grid:6 | build a MAP01 b --exact --workers 3 | workers
 a=grid:6 | build a MAP01 b --exact --workers 1 | nobody
+a=grid:6 | build a MAP01 b --exact --workers 3 | workers
 a=grid:6 | all a b --exact --workers 1 | judges
 a=grid:6 | all a b --workers 1 | judges
 ";
@@ -125,7 +126,7 @@ fn workers_of_exact_builds_and_judges_of_all_have_threads(rt: HostRuntime) -> Re
             "judges" => has_judges,
             _ => false,
         };
-        let tries = if wanted { TRIES } else { 3 };
+        let tries = if wanted { TRIES } else { 1 };
         assert!(rt; has_others(&rt, &rt, row, tries)? == Some(wanted), "{row}");
     }
     Ok(())
