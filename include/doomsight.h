@@ -209,7 +209,8 @@ DOOMSIGHT_HOLDS(sizeof(doomsight_fault) == 32 && sizeof(doomsight_counts) == 40 
  * 3. A library that doesn't know it refuses it with DOOMSIGHT_BAD_BUDGET. */
 #define DOOMSIGHT_EXACT (UINT64_MAX - 1)
 
-enum doomsight_format { DOOMSIGHT_DOOM = 0, DOOMSIGHT_HEXEN = 1 };
+/* UDMF is the format of the lumps that doomsight_udmf_map writes: Doom's, but that the coordinates in VERTEXES have 32 bits. */
+enum doomsight_format { DOOMSIGHT_DOOM = 0, DOOMSIGHT_HEXEN = 1, DOOMSIGHT_UDMF = 2 };
 
 /* Flags. LARGE is the program's --large: at most 16384 sectors, 32768 lines and 16383 points. */
 enum doomsight_flag { DOOMSIGHT_LARGE = 1 };
@@ -413,7 +414,7 @@ static inline int32_t doomsight_audit(const doomsight_map *map, const doomsight_
         map->sectors.size, map->format, options ? options->flags : 0, flaws ? flaws : nothing, flaws ? room : 0, counts, fault);
 }
 
-/* ---- A text of UDMF, the bytes of a TEXTMAP, becomes the four lumps of the same map in Doom's format, which every call takes:
+/* ---- A text of UDMF, the bytes of a TEXTMAP, becomes the four lumps of the same map, which every call takes:
  *
  *     doomsight_lump_sizes sizes;
  *     doomsight_map map;
@@ -422,7 +423,8 @@ static inline int32_t doomsight_audit(const doomsight_map *map, const doomsight_
  *         if (block && !doomsight_udmf_map(text, size, &sizes, block, &map, &fault)) .. doomsight_build(&map, ..) ..
  *     }
  *
- * Records stand in the order of their blocks. The map points into the block, which the caller frees behind it. The answers are
+ * Records stand in the order of their blocks. Coordinates are in the map's unit: the most decimal places that a vertex of a line has
+ * tell it. The map points into the block, which the caller frees behind it. The answers are
  * DOOMSIGHT_OK, or the code of the fault; then nothing but *fault was written. */
 static inline int32_t doomsight_udmf_sizes(const void *text, size_t size, doomsight_lump_sizes *sizes, doomsight_fault *fault)
 {
@@ -460,7 +462,7 @@ static inline int32_t doomsight_udmf_map(const void *text, size_t size, const do
     map->vertexes.size = (size_t)sizes->vertexes;
     map->sectors.bytes = sectors;
     map->sectors.size = (size_t)sizes->sectors;
-    map->format = DOOMSIGHT_DOOM;
+    map->format = DOOMSIGHT_UDMF;
     return code;
 }
 

@@ -55,7 +55,7 @@ static void provoke(doomsight_map map, const doomsight_options *options, uint8_t
     other = *options;
     other.flags = 2;
     expect("build, flags", doomsight_build(&map, &other, table, size, NULL, 0, &c, &f), &f, 2, 13);
-    cut.format = 2;
+    cut.format = 3;
     expect("check, format", doomsight_check(&cut, options, table, size, cert, room, &c, &f), &f, 2, 12);
     cut = map;
     cut.linedefs.size -= 1;

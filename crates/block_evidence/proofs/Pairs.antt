@@ -2,7 +2,7 @@
 use Rattle.std.proofs.Common.{◌≡◌, ℕ, suc, ◌<◌, ◌≤◌, List, [], ◌∷◌, length, Option, Some, None, get_or, refl, sym, ap, ◌∙◌, arith, ◌⊎◌, inl, inr, subst, ℤ, pos, negsuc, ◌+ℤ◌, ◌-ℤ◌, ◌*ℤ◌}
 use Rattle.std.specs.Prelude.{slice_get, MatchOption}
 use Rattle.std.proofs.lemmas.Int.{ints}
-use Rattle.std.proofs.lemmas.Option.{slice_get-get_or, slice_get_within}
+use Rattle.std.proofs.lemmas.Option.{slice_get_read, slice_get_within}
 use Rattle.sight_names.specs.declared.limits.TheConstants.{RIGHT_END}
 use Rattle.sight_names.specs.declared.names.Pt.{Pt}
 use Rattle.sight_names.specs.declared.names.EndAt.{EndAt}
@@ -53,8 +53,8 @@ end_result ends c l r j None h i k e w = meeting ends c l r h i k w
 end_result ends c l r j (Some d) h i k e w = (cone_widened ends c d l r h i k w, w.keeps, λ e' g n. subst (λ (u : EndAt). Spans d (difference l.at u.at)) (some_is_same r e' (sym e ∙ g)) w.has)
 
 -- the end at a place
-pub end_at_place : (ends : List EndAt) (k : ℕ) (d : EndAt) → k < length ends → slice_get ends k ≡ Some (get_or ends k d)
-end_at_place ends k d h = slice_get-get_or ends k d h
+pub end_at_place : (ends : List EndAt) (k : ℕ) (e : EndAt) → k < length ends → e ≡ get_or ends k e → slice_get ends k ≡ Some e
+end_at_place ends k e h is = slice_get_read ends (length ends) k e refl h is
 
 -- ---- the line of a whole cone
 each_parted : (a b c : ℤ) (ends : List EndAt) → ((k : ℕ) (e : EndAt) → slice_get ends k ≡ Some e → PartsEnd a b c e) → PartsEnds ends a b c

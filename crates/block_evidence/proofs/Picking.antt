@@ -1,5 +1,5 @@
 -- Evidence that names some of given ends.
-use Rattle.std.proofs.Common.{◌≡◌, ◌<◌, ◌≤◌, List, [], ◌∷◌, length, get_or, pos, refl, arith, ◌⊎◌, inl, inr, All, Contains, Option, Some, None}
+use Rattle.std.proofs.Common.{◌≡◌, ◌<◌, ◌≤◌, List, [], ◌∷◌, length, get_or, refl, arith, ◌⊎◌, inl, inr, All, Contains, Option, Some, None}
 use Rattle.std.specs.Prelude.{IfSome}
 use Rattle.std.specs.List.{AllByRecursion}
 use Rattle.std.proofs.lemmas.List.Elements.{All-contains_itself, recursion_from_All}
@@ -50,26 +50,19 @@ of_five p q t a b c d e i j k m h = picks_more (a ∷ b ∷ c ∷ d ∷ []) (fiv
 pub some_of_five : (p q : EndPair) (t a b c d : EndAt) (o : Option Evidence) → IsIn a (five p q t) → IsIn b (five p q t) → IsIn c (five p q t) → IsIn d (five p q t) → IfSome o (λ e. Picks (a ∷ b ∷ c ∷ d ∷ []) e) → IfSome o (λ e. Picks (five p q t) e)
 some_of_five p q t a b c d o i j k m h = some_more (a ∷ b ∷ c ∷ d ∷ []) (five p q t) o (i, (j, (k, (m, tt)))) h
 
--- the ends of the first two of three pairs, and one of the third
-pub five_among : (pairs : List EndPair) (d : EndPair) (t : EndAt) → length pairs ≡ 3 → ((get_or pairs 2 d).left ≡ t) ⊎ ((get_or pairs 2 d).right ≡ t) → AreAmong (both_ends pairs) (five (get_or pairs 0 d) (get_or pairs 1 d) t)
-five_among [] d t h i = absurd (omega (arith, h))
-five_among (p ∷ []) d t h i = absurd (omega (arith, h))
-five_among (p ∷ q ∷ []) d t h i = absurd (omega (arith, h))
-five_among (p ∷ q ∷ r ∷ []) d t h (inl e) = (inl refl, (inr (inl refl), (inr (inr (inl refl)), (inr (inr (inr (inl refl))), (inr (inr (inr (inr (inl e)))), tt)))))
-five_among (p ∷ q ∷ r ∷ []) d t h (inr e) = (inl refl, (inr (inl refl), (inr (inr (inl refl)), (inr (inr (inr (inl refl))), (inr (inr (inr (inr (inr (inl e))))), tt)))))
-five_among (p ∷ q ∷ r ∷ s ∷ ps) d t h i = absurd (omega (arith, h))
+-- the ends of the first two of three pairs, and one of the third, each read with an answer of its own for one that isn't there
+pub five_among : (pairs : List EndPair) (d e f : EndPair) (t : EndAt) → length pairs ≡ 3 → ((get_or pairs 2 f).left ≡ t) ⊎ ((get_or pairs 2 f).right ≡ t) → AreAmong (both_ends pairs) (five (get_or pairs 0 d) (get_or pairs 1 e) t)
+five_among [] d e f t h i = absurd (omega (arith, h))
+five_among (p ∷ []) d e f t h i = absurd (omega (arith, h))
+five_among (p ∷ q ∷ []) d e f t h i = absurd (omega (arith, h))
+five_among (p ∷ q ∷ r ∷ []) d e f t h (inl k) = (inl refl, (inr (inl refl), (inr (inr (inl refl)), (inr (inr (inr (inl refl))), (inr (inr (inr (inr (inl k)))), tt)))))
+five_among (p ∷ q ∷ r ∷ []) d e f t h (inr k) = (inl refl, (inr (inl refl), (inr (inr (inl refl)), (inr (inr (inr (inl refl))), (inr (inr (inr (inr (inr (inl k))))), tt)))))
+five_among (p ∷ q ∷ r ∷ s ∷ ps) d e f t h i = absurd (omega (arith, h))
 
-pub four_are : (ends : List EndAt) (d : EndAt) → 4 ≤ length ends → length ends < 5 → get_or ends 0 d ∷ get_or ends 1 d ∷ get_or ends 2 d ∷ get_or ends 3 d ∷ [] ≡ ends
-four_are [] d h k = absurd (omega (arith, h))
-four_are (a ∷ []) d h k = absurd (omega (arith, h))
-four_are (a ∷ b ∷ []) d h k = absurd (omega (arith, h))
-four_are (a ∷ b ∷ c ∷ []) d h k = absurd (omega (arith, h))
-four_are (a ∷ b ∷ c ∷ e ∷ []) d h k = refl
-four_are (a ∷ b ∷ c ∷ e ∷ f ∷ es) d h k = absurd (omega (arith, k))
-
--- what is read past the end of a list
-abbrev pub no_end : EndAt
-no_end = record { code = 0; at = record { x = pos 0; y = pos 0 } }
-
-abbrev pub no_pair : EndPair
-no_pair = record { left = no_end; right = no_end }
+pub four_are : (ends : List EndAt) (a b c d : EndAt) → 4 ≤ length ends → length ends < 5 → a ≡ get_or ends 0 a → b ≡ get_or ends 1 b → c ≡ get_or ends 2 c → d ≡ get_or ends 3 d → a ∷ b ∷ c ∷ d ∷ [] ≡ ends
+four_are [] a b c d h k e f g i = absurd (omega (arith, h))
+four_are (v ∷ []) a b c d h k e f g i = absurd (omega (arith, h))
+four_are (v ∷ w ∷ []) a b c d h k e f g i = absurd (omega (arith, h))
+four_are (v ∷ w ∷ x ∷ []) a b c d h k e f g i = absurd (omega (arith, h))
+four_are (v ∷ w ∷ x ∷ y ∷ []) a b c d h k e f g i = λ u. e u ∷ f u ∷ g u ∷ i u ∷ []
+four_are (v ∷ w ∷ x ∷ y ∷ z ∷ zs) a b c d h k e f g i = absurd (omega (arith, k))

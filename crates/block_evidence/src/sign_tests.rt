@@ -1,7 +1,7 @@
 //! A quick test that shows four ends stuck: two segments share a point where the ends of each aren't on one side of the
 //! other, and a triangle has a point that is on one side of all three edges. The turns are the weights of that point.
 
-ghost use Rattle.std.specs.Prelude.{◌≡◌, ◌<◌, ◌^◌, ◌+ℤ◌, ◌-ℤ◌, ◌∷◌, [], unsigned_abs, IsTrue};
+ghost use Rattle.std.specs.Prelude.{◌≡◌, ◌≤◌, ◌<◌, ◌^◌, ◌+ℤ◌, ◌-ℤ◌, ◌∷◌, [], unsigned_abs, IsTrue};
 ghost use Rattle.block_evidence.specs.Stuck.{AreStuck, HullsMeet};
 ghost use Rattle.block_evidence.specs.SignTests.{AreWeights, AreOpposite, IsBetween};
 
@@ -32,11 +32,11 @@ fn are_opposite(l: i64, m: i64, n: i64) -> bool
 /// The turn of `q` at the segment from `r` to `s`, by those of `p` at it and of `r` and `s` at the segment from `p` to `q`.
 #[inline(always)]
 fn fourth_turn(of_p: i64, of_r: i64, of_s: i64) -> i64
-    requires first { unsigned_abs of_p < 2 ^ 33 }
-    requires second { unsigned_abs of_r < 2 ^ 33 }
-    requires third { unsigned_abs of_s < 2 ^ 33 }
+    requires first { unsigned_abs of_p ≤ 2 ^ 53 }
+    requires second { unsigned_abs of_r ≤ 2 ^ 53 }
+    requires third { unsigned_abs of_s ≤ 2 ^ 53 }
     ensures value { result ≡ of_p +ℤ (of_r -ℤ of_s) }
-    ensures bound { unsigned_abs result < 2 ^ 35 }
+    ensures bound { unsigned_abs result < 2 ^ 55 }
 {
     of_p + (of_r - of_s)
 }

@@ -12,10 +12,11 @@ const EXACT: u64 = u64::MAX - 1;
 fn format_of(format: u32) -> MapFormat
     ensures { result ≡ format_meant format }
 {
-    if format == 1 {
-        return MapFormat::Hexen;
+    match format {
+        1 => MapFormat::Hexen,
+        2 => MapFormat::Text,
+        _ => MapFormat::Doom,
     }
-    MapFormat::Doom
 }
 
 /// How the lumps are read.
@@ -49,7 +50,7 @@ pub fn reading_fault(format: u32, flags: u32) -> Option<DoomsightFault>
     ensures is { result ≡ reading_wrong format flags }
     ensures code { IfSome result (λ f. f.code ≢ 0) }
 {
-    if format > 1 {
+    if format > 2 {
         return Some(wide(2, 12, u64::from(format), 0));
     }
     if flags > 1 {
@@ -76,7 +77,7 @@ pub fn call_fault(format: u32, flags: u32, budget: u64) -> Option<DoomsightFault
     ensures is { result ≡ call_wrong format flags budget }
     ensures code { IfSome result (λ f. f.code ≢ 0) }
 {
-    if format > 1 {
+    if format > 2 {
         return Some(wide(2, 12, u64::from(format), 0));
     }
     if flags > 1 {

@@ -45,10 +45,10 @@ fn flaw_of(kind: u16, i: u16, j: u16, left: u16, from: Pt, to: Pt) -> DoomsightF
         i,
         j,
         left,
-        x: i32::from(from.x),
-        y: i32::from(from.y),
-        to_x: i32::from(to.x),
-        to_y: i32::from(to.y),
+        x: from.x,
+        y: from.y,
+        to_x: to.x,
+        to_y: to.y,
     }
 }
 

@@ -108,7 +108,7 @@ fn try_udmf(
     Ok(())
 }
 
-/// The four lumps, in Doom's format, of the map that a text of UDMF spells, each as far as there is room for it, and how many
+/// The four lumps, of format 2, of the map that a text of UDMF spells, each as far as there is room for it, and how many
 /// bytes each has. The answer is 0, or the code of why there are none; then nothing but the fault is written.
 #[unsafe(no_mangle)]
 pub extern "C" fn doomsight_udmf_buffers(

@@ -18,8 +18,8 @@ pub struct Bar {
 
 /// The gate as a bar.
 fn bar_of(gate: &Gate) -> Bar {
-    let a = (gate.left_at.y as i32).wrapping_sub(gate.right_at.y as i32);
-    let b = (gate.right_at.x as i32).wrapping_sub(gate.left_at.x as i32);
+    let a = gate.left_at.y.wrapping_sub(gate.right_at.y);
+    let b = gate.right_at.x.wrapping_sub(gate.left_at.x);
     let at = (a as i64)
         .wrapping_mul(gate.left_at.x as i64)
         .wrapping_add((b as i64).wrapping_mul(gate.left_at.y as i64));

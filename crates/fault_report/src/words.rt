@@ -32,7 +32,7 @@ pub fn push_index(alloc: Global, text: &mut String, word: &str, n: u16) -> Resul
 }
 
 /// Adds a text and a coordinate.
-pub fn push_signed(alloc: Global, text: &mut String, word: &str, n: i16) -> Result<(), AllocError>
+pub fn push_signed(alloc: Global, text: &mut String, word: &str, n: i32) -> Result<(), AllocError>
     ensures { OnOk result (string_bytes text.new ≡ string_bytes text.old ++ (word.now ++ signed_decimal n)) }
 {
     text.push_str(word)?;

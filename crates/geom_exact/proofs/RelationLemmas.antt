@@ -16,6 +16,7 @@ use Rattle.math_base.proofs.MoreSigns.{sum-pos}
 use Rattle.sight_names.proofs.Meets.{end_flip}
 use Rattle.sight_names.proofs.Laws.{same_point_refl}
 use Rattle.sight_names.proofs.Portals.{scale_above}
+use Rattle.sight_names.proofs.Records.{same_pt}
 
 pub common_swapped : (p q r s : Pt) (z : Point) → IsCommon p q r s z → IsCommon p q s r z
 common_swapped p q r s z h = (h.0, other_way r s z h.1)
@@ -433,7 +434,7 @@ relation_swapped p q r s Cross h = (h.0, only_swapped p q r s h.0 h.1, h.2, λ e
 pub reach_apart : (p q r s : Pt) → pos 0 <ℤ square_of p q → turn_of p q r ≡ pos 0 → turn_of p q s ≡ pos 0 → reach_of p q r ≡ reach_of p q s → r ≡ s
 reach_apart p q r s l e f g =
     let h = same_points p q r s l e f g in
-    ap₂ (λ (x y : ℤ). let v : Pt = record { x = x; y = y } in v) (same_without_one r.x s.x h.x) (same_without_one r.y s.y h.y)
+    same_pt r s (same_without_one r.x s.x h.x) (same_without_one r.y s.y h.y)
 
 -- ---- for the answers of functions
 pub laid : (p q r s : Pt) → ¬ (p ≡ q) → ¬ (r ≡ s) → turn_of p q r ≡ pos 0 → turn_of p q s ≡ pos 0 → reach_of p q r <ℤ reach_of p q s → AreLaid p q r s

@@ -30,29 +30,31 @@ pub enum Relation {
 }
 
 /// The way from `a` to `b`.
-fn difference(a: i16, b: i16) -> i64
+fn difference(a: i32, b: i32) -> i64
+    requires from { unsigned_abs a ≤ 2 ^ 25 }
+    requires to { unsigned_abs b ≤ 2 ^ 25 }
     ensures value { result ≡ b -ℤ a }
-    ensures bound { unsigned_abs result ≤ 65535 }
+    ensures bound { unsigned_abs result ≤ 2 ^ 26 }
 {
     b as i64 - a as i64
 }
 
 /// `a * b`, of two differences of coordinates.
 fn product(a: i64, b: i64) -> i64
-    requires left { unsigned_abs a ≤ 65535 }
-    requires right { unsigned_abs b ≤ 65535 }
+    requires left { unsigned_abs a ≤ 2 ^ 26 }
+    requires right { unsigned_abs b ≤ 2 ^ 26 }
     ensures value { result ≡ a *ℤ b }
-    ensures bound { unsigned_abs result ≤ 4294836225 }
+    ensures bound { unsigned_abs result ≤ 2 ^ 52 }
 {
     a * b
 }
 
 /// `a - b`, of two such products.
 fn minus(a: i64, b: i64) -> i64
-    requires left { unsigned_abs a ≤ 4294836225 }
-    requires right { unsigned_abs b ≤ 4294836225 }
+    requires left { unsigned_abs a ≤ 2 ^ 52 }
+    requires right { unsigned_abs b ≤ 2 ^ 52 }
     ensures value { result ≡ a -ℤ b }
-    ensures bound { unsigned_abs result < 2 ^ 33 }
+    ensures bound { unsigned_abs result ≤ 2 ^ 53 }
 {
     a - b
 }
@@ -61,7 +63,7 @@ fn minus(a: i64, b: i64) -> i64
 /// stand on one straight line.
 pub fn turn(a: Pt, b: Pt, c: Pt) -> i64
     ensures value { result ≡ turn_of a b c }
-    ensures bound { unsigned_abs result < 2 ^ 33 }
+    ensures bound { unsigned_abs result ≤ 2 ^ 53 }
 {
     let along = difference(a.x, b.x);
     let rise = difference(a.y, b.y);
@@ -169,21 +171,22 @@ fn relation_of_meeting(p: Pt, q: Pt, r: Pt, s: Pt, first: bool, second: bool) ->
     }
 }
 
-/// Whether `a` and `b` are at most 2^20 and `c` at most 2^37 in absolute value, so that all work with the ray is
+/// Whether `a` and `b` are at most 2^30 and `c` at most 2^57 in absolute value, so that all work with the ray is
 /// exact.
 pub fn in_range(ray: &Ray) -> bool
     ensures { IsTrue result ↔ IsInRange ray.now }
 {
-    ray.a.unsigned_abs() <= 1 << 20
-        && ray.b.unsigned_abs() <= 1 << 20
-        && ray.c.unsigned_abs() <= 1 << 37
+    ray.a.unsigned_abs() <= 1 << 30
+        && ray.b.unsigned_abs() <= 1 << 30
+        && ray.c.unsigned_abs() <= 1 << 57
 }
 
 /// A ray's coefficient times a coordinate.
-fn scaled(a: i32, x: i16) -> i64
-    requires { unsigned_abs a ≤ 2 ^ 20 }
+fn scaled(a: i32, x: i32) -> i64
+    requires of_ray { unsigned_abs a ≤ 2 ^ 30 }
+    requires near { unsigned_abs x ≤ 2 ^ 25 }
     ensures value { result ≡ a *ℤ x }
-    ensures bound { unsigned_abs result ≤ 2 ^ 35 }
+    ensures bound { unsigned_abs result ≤ 2 ^ 55 }
 {
     a as i64 * x as i64
 }
@@ -192,15 +195,15 @@ fn scaled(a: i32, x: i16) -> i64
 pub fn side_of(ray: &Ray, p: Pt) -> i64
     requires { IsInRange ray.now }
     ensures value { result ≡ side_value ray.now p }
-    ensures bound { unsigned_abs result ≤ 2 ^ 38 }
+    ensures bound { unsigned_abs result ≤ 2 ^ 58 }
 {
     scaled(ray.a, p.x) + scaled(ray.b, p.y) + ray.c
 }
 
 /// `a * b`, of a side and a turn.
 fn long_product(a: i64, b: i64) -> i128
-    requires left { unsigned_abs a ≤ 2 ^ 38 }
-    requires right { unsigned_abs b < 2 ^ 33 }
+    requires left { unsigned_abs a ≤ 2 ^ 58 }
+    requires right { unsigned_abs b ≤ 2 ^ 53 }
     ensures { result ≡ a *ℤ b }
 {
     a as i128 * b as i128

@@ -13,8 +13,8 @@ use sight_names::{LARGE_LINES, Line, Plan};
 pub struct Span {
     pub least: u16,
     pub greatest: u16,
-    pub low: i16,
-    pub high: i16,
+    pub low: i32,
+    pub high: i32,
     pub line: u16,
 }
 

@@ -1,6 +1,6 @@
 -- Steps of the search for the first fault, and that there is one at most.
 use Rattle.std.proofs.Common.{◌≡◌, ◌≢◌, ℕ, ◌<◌, ◌≤◌, inl, inr, List, length, slice_get, slice_index_or, Option, Some, None, refl, sym, ◌∙◌, ap, subst, subst₂, arith, option_and_then, ◌<ℤ◌, MatchOption, Result, Ok, Err, ◌↔◌}
-use Rattle.std.proofs.lemmas.Option.{slice_get-get_or, none-some}
+use Rattle.std.proofs.lemmas.Option.{get_or_from_slice_get, none-some, slice_get-get_or, slice_get_read}
 use Rattle.sight_names.specs.declared.names.Pt.{Pt}
 use Rattle.sight_names.specs.declared.plan.Line.{Line}
 use Rattle.sight_names.specs.declared.faults.LineFault.{LineFault}
@@ -12,6 +12,7 @@ use Rattle.sight_names.proofs.PlanMap.{points_differ}
 use Rattle.geom_exact.specs.declared.Relation.{Relation}
 use Rattle.geom_exact.specs.declared.Relation.TheVariants.{Apart, Ends, Cross as Crossing, Touch as Touching, Overlap as Overlapping}
 use Rattle.mesh_base.proofs.SightLaws.Plans.{line_there, no_line_there, line_below}
+use Rattle.geom_exact.specs.Common.{IsRelation}
 use Rattle.geom_exact.proofs.Uniqueness.{one_relation}
 use Rattle.geom_exact.proofs.Meeting.{apart_meet, ends_meet, no_meet_overlap, no_meet_touch, no_meet_cross, meet_swapped, apart_swapped}
 use Rattle.geom_exact.proofs.Filters.{apart_below, apart_before_all}
@@ -22,27 +23,38 @@ use Rattle.math_base.proofs.Options.{one_value}
 -- ---- the two filters, and the ends of a line
 pub lines_before : (p : PlanParts) → IsPlan p → (one other : Line) → IsPlanLine p.sectors (length p.points) one → IsPlanLine p.sectors (length p.points) other
     → (one.a < other.a) × (one.a < other.b) × (one.b < other.a) × (one.b < other.b) → AreRelated (looked_up p.points one) (looked_up p.points other) Apart
-lines_before p h one other f g lt = apart_before_all _ _ _ _ (before one.a other.a lt.0 g.first, before one.a other.b lt.1 g.second, before one.b other.a lt.2 g.first, before one.b other.b lt.3 g.second)
+lines_before p h one other f g lt = apart_before_all (looked_up p.points one).first (looked_up p.points one).second (looked_up p.points other).first (looked_up p.points other).second (before one.a other.a lt.0 g.first, before one.a other.b lt.1 g.second, before one.b other.a lt.2 g.first, before one.b other.b lt.3 g.second)
   where
     before : (i j : ℕ) → i < j → j < length p.points → IsBefore (slice_index_or p.points i origin) (slice_index_or p.points j origin)
     before i j lt hj = h.ascend i j _ _ lt (slice_get-get_or p.points i origin (omega arith)) (slice_get-get_or p.points j origin hj)
 
 pub lines_after : (p : PlanParts) → IsPlan p → (one other : Line) → IsPlanLine p.sectors (length p.points) one → IsPlanLine p.sectors (length p.points) other
     → (other.a < one.a) × (other.a < one.b) × (other.b < one.a) × (other.b < one.b) → AreRelated (looked_up p.points one) (looked_up p.points other) Apart
-lines_after p h one other f g lt = apart_swapped _ _ _ _ (lines_before p h other one g f lt)
+lines_after p h one other f g lt = apart_swapped (looked_up p.points other).first (looked_up p.points other).second (looked_up p.points one).first (looked_up p.points one).second (lines_before p h other one g f lt)
 
-pub lines_below : (read points : List Pt) → read ≡ points → (one other : Line)
-    → (let p = slice_index_or read one.a origin in let q = slice_index_or read one.b origin in let r = slice_index_or read other.a origin in let s = slice_index_or read other.b origin in (p.y <ℤ r.y) × (p.y <ℤ s.y) × (q.y <ℤ r.y) × (q.y <ℤ s.y))
-    → AreRelated (looked_up points one) (looked_up points other) Apart
-lines_below read points e one other h = subst (λ (xs : List Pt). AreRelated (looked_up xs one) (looked_up xs other) Apart) e (apart_below _ _ _ _ h)
+-- the ends of a line, read from a list that is the points
+pub ends_read : (read points : List Pt) → read ≡ points → (sectors : ℕ) (l : Line) → IsPlanLine sectors (length points) l → (u v : Pt) → u ≡ slice_index_or read l.a u → v ≡ slice_index_or read l.b v
+    → (slice_index_or points l.a origin ≡ u) × (slice_index_or points l.b origin ≡ v)
+ends_read read points e sectors l f u v is_u is_v = (place_read l.a u f.first is_u, place_read l.b v f.second is_v)
+  where
+    place_read : (k : ℕ) (p : Pt) → k < length points → p ≡ slice_index_or read k p → slice_index_or points k origin ≡ p
+    place_read k p within is = get_or_from_slice_get points k p origin (subst (λ (xs : List Pt). slice_get xs k ≡ Some p) e (slice_get_read read (length points) k p (sym (ap (λ (xs : List Pt). length xs) e)) within is))
 
-pub lines_above : (read points : List Pt) → read ≡ points → (one other : Line)
-    → (let p = slice_index_or read one.a origin in let q = slice_index_or read one.b origin in let r = slice_index_or read other.a origin in let s = slice_index_or read other.b origin in (r.y <ℤ p.y) × (r.y <ℤ q.y) × (s.y <ℤ p.y) × (s.y <ℤ q.y))
-    → AreRelated (looked_up points one) (looked_up points other) Apart
-lines_above read points e one other h = apart_swapped _ _ _ _ (lines_below read points e other one h)
+pub ends_differ : (p : PlanParts) → IsPlan p → (l : Line) → IsPlanLine p.sectors (length p.points) l → (u v : Pt) → (slice_index_or p.points l.a origin ≡ u) × (slice_index_or p.points l.b origin ≡ v) → u ≢ v
+ends_differ p h l f u v is = subst₂ (λ (x y : Pt). x ≢ y) is.0 is.1 (points_differ p h l.a l.b f.first f.second f.differ)
 
-pub ends_differ : (p : PlanParts) → IsPlan p → (read : List Pt) → read ≡ p.points → (l : Line) → IsPlanLine p.sectors (length p.points) l → slice_index_or read l.a origin ≢ slice_index_or read l.b origin
-ends_differ p h read e l f = subst (λ (xs : List Pt). slice_index_or xs l.a origin ≢ slice_index_or xs l.b origin) (sym e) (points_differ p h l.a l.b f.first f.second f.differ)
+module _ (points : List Pt) (one other : Line) (p q r s : Pt) (is_one : (slice_index_or points one.a origin ≡ p) × (slice_index_or points one.b origin ≡ q)) (is_other : (slice_index_or points other.a origin ≡ r) × (slice_index_or points other.b origin ≡ s)) where
+  -- what the points have in common the lines have
+  pub lines_related : (relation : Relation) → IsRelation p q r s relation → AreRelated (looked_up points one) (looked_up points other) relation
+  lines_related relation h =
+      subst₂ (λ (x y : Pt). IsRelation x y (slice_index_or points other.a origin) (slice_index_or points other.b origin) relation) (sym is_one.0) (sym is_one.1)
+      (subst₂ (λ (x y : Pt). IsRelation p q x y relation) (sym is_other.0) (sym is_other.1) h)
+
+  pub lines_below : (p.y <ℤ r.y) × (p.y <ℤ s.y) × (q.y <ℤ r.y) × (q.y <ℤ s.y) → AreRelated (looked_up points one) (looked_up points other) Apart
+  lines_below h = lines_related Apart (apart_below p q r s h)
+
+  pub lines_above : (r.y <ℤ p.y) × (r.y <ℤ q.y) × (s.y <ℤ p.y) × (s.y <ℤ q.y) → AreRelated (looked_up points one) (looked_up points other) Apart
+  lines_above h = lines_related Apart (apart_swapped r s p q (apart_below r s p q h))
 
 -- ---- lines of the plan and of its map
 
@@ -54,8 +66,8 @@ pub fine_without_first : (p : PlanParts) (i j : ℕ) → option_and_then (λ l. 
 fine_without_first p i j e k l ek el = absurd (none-some k (sym (no_line_there p i (sym e)) ∙ ek))
 
 fair : (i j : ℕ) (k l : MapLine) (relation : Relation) → fault_by i j relation ≡ None → AreRelated k l relation → AreFine k l
-fair i j k l Apart e h = apart_meet _ _ _ _ h
-fair i j k l Ends e h = ends_meet _ _ _ _ h
+fair i j k l Apart e h = apart_meet k.first k.second l.first l.second h
+fair i j k l Ends e h = ends_meet k.first k.second l.first l.second h
 fair i j k l Touching e h = absurd (none-some _ (sym e))
 fair i j k l Crossing e h = absurd (none-some _ (sym e))
 fair i j k l Overlapping e h = absurd (none-some _ (sym e))
@@ -63,9 +75,9 @@ fair i j k l Overlapping e h = absurd (none-some _ (sym e))
 unfair : (i j : ℕ) (k l : MapLine) (relation : Relation) (f : LineFault) → fault_by i j relation ≡ Some f → AreRelated k l relation → ¬ AreFine k l
 unfair i j k l Apart f e h = absurd (none-some f e)
 unfair i j k l Ends f e h = absurd (none-some f e)
-unfair i j k l Touching f e h = no_meet_touch _ _ _ _ h
-unfair i j k l Crossing f e h = no_meet_cross _ _ _ _ h
-unfair i j k l Overlapping f e h = no_meet_overlap _ _ _ _ h
+unfair i j k l Touching f e h = no_meet_touch k.first k.second l.first l.second h
+unfair i j k l Crossing f e h = no_meet_cross k.first k.second l.first l.second h
+unfair i j k l Overlapping f e h = no_meet_overlap k.first k.second l.first l.second h
 
 pair_of : (p : PlanParts) (i j : ℕ) (one other : Line) (relation : Relation) → option_and_then (λ l. l) (slice_get p.lines i) ≡ Some one → option_and_then (λ l. l) (slice_get p.lines j) ≡ Some other
     → AreRelated (looked_up p.points one) (looked_up p.points other) relation → IsPair (map_of p) i j relation

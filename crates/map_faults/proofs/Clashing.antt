@@ -34,7 +34,7 @@ numbered_fine p h s t hs ht lt k l ek el =
     let other = line_of_plan p.points p.lines t.line l el in
     let a = ends_within p s one.0 hs one.1 in
     let b = ends_within p t other.0 ht other.1 in
-    subst₂ AreFine one.2 other.2 (apart_meet _ _ _ _ (lines_before p h one.0 other.0 (h.each s.line one.0 one.1) (h.each t.line other.0 other.1)
+    subst₂ AreFine one.2 other.2 (apart_meet (looked_up p.points one.0).first (looked_up p.points one.0).second (looked_up p.points other.0).first (looked_up p.points other.0).second (lines_before p h one.0 other.0 (h.each s.line one.0 one.1) (h.each t.line other.0 other.1)
     (below one.0.a other.0.a a.first_to b.first_from, below one.0.a other.0.b a.first_to b.second_from, below one.0.b other.0.a a.second_to b.first_from, below one.0.b other.0.b a.second_to b.second_from)))
   where
     below : (x y : ℕ) → x ≤ s.greatest → t.least ≤ y → x < y

@@ -121,16 +121,16 @@ corner_is p q r s c n hx hy = (n, rounded)
 
 -- ---- the mean by division
 
-pub mean_bound : (m n a b q : ℕ) → 0 < m + n → a ≤ 65535 → b ≤ 65535 → q * (m + n) ≤ m * a + n * b → q ≤ 65535
-mean_bound m n a b q some ha hb h = elim (below_or_not 65535 q) as (λ _. q ≤ 65535) [
-  | inl lt ↦ absurd (too_much (mul-le-mul_left m ha) (mul-le-mul_left n hb) (mul-le-mul_left (m + n) (let g : 65536 ≤ q = omega arith in g)))
+pub mean_bound : (m n a b q : ℕ) → 0 < m + n → a ≤ 67108864 → b ≤ 67108864 → q * (m + n) ≤ m * a + n * b → q ≤ 67108864
+mean_bound m n a b q some ha hb h = elim (below_or_not 67108864 q) as (λ _. q ≤ 67108864) [
+  | inl lt ↦ absurd (too_much (mul-le-mul_left m ha) (mul-le-mul_left n hb) (mul-le-mul_left (m + n) (let g : 67108865 ≤ q = omega arith in g)))
   | inr le ↦ le
 ]
   where
     swapped : q * (m + n) ≡ (m + n) * q
     swapped = mul_comm q (m + n)
 
-    too_much : m * a ≤ m * 65535 → n * b ≤ n * 65535 → (m + n) * 65536 ≤ (m + n) * q → ⊥
+    too_much : m * a ≤ m * 67108864 → n * b ≤ n * 67108864 → (m + n) * 67108865 ≤ (m + n) * q → ⊥
     too_much x y z = let e = swapped in omega arith
 
 pub mean_above : (m n a b q : ℕ) → 0 < m + n → q ≡ (m * a + n * b) / (m + n) → m * a + n * b < (q + 1) * (m + n)
@@ -140,10 +140,10 @@ pub mean_below : (m n a b q : ℕ) → q ≡ (m * a + n * b) / (m + n) → q * (
 mean_below m n a b q e = subst (λ (k : ℕ). k * (m + n) ≤ m * a + n * b) (sym e) (div-mul-le_self (m * a + n * b) (m + n))
 
 -- raised and lowered again
-pub lowered_mean : (m n a b q : ℕ) (x y c : ℤ) → pos a ≡ x +ℤ pos 32768 → pos b ≡ y +ℤ pos 32768 → c ≡ pos q -ℤ pos 32768 → q * (m + n) ≤ m * a + n * b → m * a + n * b < (q + 1) * (m + n) → IsMeanDown m n x y c
+pub lowered_mean : (m n a b q : ℕ) (x y c : ℤ) → pos a ≡ x +ℤ pos 33554432 → pos b ≡ y +ℤ pos 33554432 → c ≡ pos q -ℤ pos 33554432 → q * (m + n) ≤ m * a + n * b → m * a + n * b < (q + 1) * (m + n) → IsMeanDown m n x y c
 lowered_mean m n a b q x y c ea eb ec below above = record {
-  from = shifted_le (c *ℤ (pos m +ℤ pos n)) (pos m *ℤ x +ℤ pos n *ℤ y) (pos (q * (m + n))) (pos (m * a + n * b)) (pos 32768 *ℤ (pos m +ℤ pos n)) (le_pos _ _ below) product sum;
-  to = shifted_lt (pos m *ℤ x +ℤ pos n *ℤ y) ((c +ℤ pos 1) *ℤ (pos m +ℤ pos n)) (pos (m * a + n * b)) (pos ((q + 1) * (m + n))) (pos 32768 *ℤ (pos m +ℤ pos n)) (lt_pos _ _ above) sum next;
+  from = shifted_le (c *ℤ (pos m +ℤ pos n)) (pos m *ℤ x +ℤ pos n *ℤ y) (pos (q * (m + n))) (pos (m * a + n * b)) (pos 33554432 *ℤ (pos m +ℤ pos n)) (le_pos _ _ below) product sum;
+  to = shifted_lt (pos m *ℤ x +ℤ pos n *ℤ y) ((c +ℤ pos 1) *ℤ (pos m +ℤ pos n)) (pos (m * a + n * b)) (pos ((q + 1) * (m + n))) (pos 33554432 *ℤ (pos m +ℤ pos n)) (lt_pos _ _ above) sum next;
 }
   where
     le_pos : (i j : ℕ) → i ≤ j → pos i ≤ℤ pos j
@@ -158,23 +158,23 @@ lowered_mean m n a b q x y c ea eb ec below above = record {
     shifted_lt : (s t u v w : ℤ) → u <ℤ v → u ≡ s +ℤ w → v ≡ t +ℤ w → s <ℤ t
     shifted_lt s t u v w h e f = omega (arith, ints)
 
-    lift : (c q : ℤ) → c ≡ q -ℤ pos 32768 → q ≡ c +ℤ pos 32768
+    lift : (c q : ℤ) → c ≡ q -ℤ pos 33554432 → q ≡ c +ℤ pos 33554432
     lift c q e = omega (arith, ints)
 
-    up : pos q ≡ c +ℤ pos 32768
+    up : pos q ≡ c +ℤ pos 33554432
     up = lift c (pos q) ec
 
-    product : pos (q * (m + n)) ≡ c *ℤ (pos m +ℤ pos n) +ℤ pos 32768 *ℤ (pos m +ℤ pos n)
-    product = ap (λ (t : ℤ). t *ℤ (pos m +ℤ pos n)) up ∙ add-*ℤ c (pos 32768) (pos m +ℤ pos n)
+    product : pos (q * (m + n)) ≡ c *ℤ (pos m +ℤ pos n) +ℤ pos 33554432 *ℤ (pos m +ℤ pos n)
+    product = ap (λ (t : ℤ). t *ℤ (pos m +ℤ pos n)) up ∙ add-*ℤ c (pos 33554432) (pos m +ℤ pos n)
 
-    next : pos ((q + 1) * (m + n)) ≡ (c +ℤ pos 1) *ℤ (pos m +ℤ pos n) +ℤ pos 32768 *ℤ (pos m +ℤ pos n)
-    next = ap (λ (t : ℤ). t *ℤ (pos m +ℤ pos n)) (one_more (pos q) c up) ∙ add-*ℤ (c +ℤ pos 1) (pos 32768) (pos m +ℤ pos n)
+    next : pos ((q + 1) * (m + n)) ≡ (c +ℤ pos 1) *ℤ (pos m +ℤ pos n) +ℤ pos 33554432 *ℤ (pos m +ℤ pos n)
+    next = ap (λ (t : ℤ). t *ℤ (pos m +ℤ pos n)) (one_more (pos q) c up) ∙ add-*ℤ (c +ℤ pos 1) (pos 33554432) (pos m +ℤ pos n)
       where
-        one_more : (q c : ℤ) → q ≡ c +ℤ pos 32768 → q +ℤ pos 1 ≡ (c +ℤ pos 1) +ℤ pos 32768
+        one_more : (q c : ℤ) → q ≡ c +ℤ pos 33554432 → q +ℤ pos 1 ≡ (c +ℤ pos 1) +ℤ pos 33554432
         one_more q c e = omega (arith, ints)
 
-    sum : pos (m * a + n * b) ≡ (pos m *ℤ x +ℤ pos n *ℤ y) +ℤ pos 32768 *ℤ (pos m +ℤ pos n)
-    sum = ap₂ (λ (s t : ℤ). pos m *ℤ s +ℤ pos n *ℤ t) ea eb ∙ by_ring (pos m ∷ pos n ∷ x ∷ y ∷ pos 32768 ∷ []) _ _ (search quoting depth 60 fits 200000) (search quoting depth 60 fits 200000) tt
+    sum : pos (m * a + n * b) ≡ (pos m *ℤ x +ℤ pos n *ℤ y) +ℤ pos 33554432 *ℤ (pos m +ℤ pos n)
+    sum = ap₂ (λ (s t : ℤ). pos m *ℤ s +ℤ pos n *ℤ t) ea eb ∙ by_ring (pos m ∷ pos n ∷ x ∷ y ∷ pos 33554432 ∷ []) _ _ (search quoting depth 60 fits 200000) (search quoting depth 60 fits 200000) tt
 
 -- ---- of the lines of two records
 

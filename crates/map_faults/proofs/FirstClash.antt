@@ -18,9 +18,9 @@ use Rattle.map_faults.specs.Clashes.{numbered, IsClash, IsEarlier, AreClashes, A
 unfair : (i j : ℕ) (k l : MapLine) (relation : Relation) (f : LineFault) → fault_by i j relation ≡ Some f → AreRelated k l relation → ¬ AreFine k l
 unfair i j k l Apart f e h = absurd (none-some f e)
 unfair i j k l Ends f e h = absurd (none-some f e)
-unfair i j k l Touching f e h = no_meet_touch _ _ _ _ h
-unfair i j k l Crossing f e h = no_meet_cross _ _ _ _ h
-unfair i j k l Overlapping f e h = no_meet_overlap _ _ _ _ h
+unfair i j k l Touching f e h = no_meet_touch k.first k.second l.first l.second h
+unfair i j k l Crossing f e h = no_meet_cross k.first k.second l.first l.second h
+unfair i j k l Overlapping f e h = no_meet_overlap k.first k.second l.first l.second h
 
 pub clash_not_fine : (m : Map) (p : LinePair) → IsClash m p → ¬ FineAt m p.i p.j
 clash_not_fine m p c fine = let w = c.is in unfair p.i p.j w.pair.one w.pair.other w.relation c.fault w.named w.pair.related (fine w.pair.one w.pair.other w.pair.is_one w.pair.is_other)

@@ -16,6 +16,7 @@ use Rattle.sight_names.specs.Point.{Point}
 use Rattle.sight_names.specs.Points.{Edge}
 use Rattle.sight_names.specs.Sound.{IsCommon, MeetAtEnds}
 use Rattle.sight_names.proofs.Lists.{same_ascending}
+use Rattle.sight_names.proofs.Records.{same_pt}
 use Rattle.geom_exact.specs.declared.Relation.{Relation}
 use Rattle.geom_exact.specs.declared.Relation.TheVariants.{Apart, Ends, Cross, Touch, Overlap}
 use Rattle.geom_exact.specs.Formulas.{turn_of}
@@ -110,7 +111,7 @@ one_down d a b z from to from_too to_too = elim (le_or_lt a b) as (λ _. a ≡ b
     equal a b h k = omega (arith, ints)
 
 one_rounded : (z : Point) (c e : Pt) → IsRoundedDown z c → IsRoundedDown z e → c ≡ e
-one_rounded z c e h k = λ i. record { x = across i; y = up i }
+one_rounded z c e h k = same_pt c e across up
   where
     across : c.x ≡ e.x
     across = one_down z.d c.x e.x z.x h.x_from h.x_to k.x_from k.x_to

@@ -1,6 +1,6 @@
 //! Where two lines meet, rounded down to whole units.
 
-ghost use Rattle.std.specs.Prelude.{◌≡◌, ◌≢◌, ◌<◌, ◌≤◌, ◌+◌, ◌*◌, ◌+ℤ◌, ◌-ℤ◌, MatchOption, Some, pos, option_and_then, slice_get};
+ghost use Rattle.std.specs.Prelude.{◌≡◌, ◌≢◌, ◌<◌, ◌≤◌, ◌+◌, ◌*◌, ◌^◌, ◌+ℤ◌, ◌-ℤ◌, MatchOption, Some, nat_abs, pos, option_and_then, slice_get};
 ghost use Rattle.sight_names.specs.Map.{map_of};
 ghost use Rattle.geom_exact.specs.Formulas.{turn_of};
 ghost use Rattle.map_faults.specs.Corners.{AreCornersOf, IsMeanDown, IsOneCornerOf};
@@ -9,41 +9,57 @@ use geom_exact::turn;
 use sight_names::{Plan, Pt};
 
 /// How far the coordinate is above the least one.
-fn raised(a: i16) -> u64
-    ensures value { pos result ≡ a +ℤ pos 32768 }
-    ensures bound { result ≤ 65535 }
+fn raised(a: i32) -> u64
+    requires { nat_abs a ≤ 2 ^ 25 }
+    ensures value { pos result ≡ a +ℤ pos 33554432 }
+    ensures bound { result ≤ 2 ^ 26 }
 {
-    (a as i64 + 32768) as u64
+    (a as i64 + 33_554_432) as u64
 }
 
 /// The coordinate that is so far above the least one.
-fn lowered(a: u64) -> i16
-    requires { a ≤ 65535 }
-    ensures { result ≡ pos a -ℤ pos 32768 }
+fn lowered(a: u64) -> i32
+    requires { a ≤ 2 ^ 26 }
+    ensures value { result ≡ pos a -ℤ pos 33554432 }
+    ensures near { nat_abs result ≤ 2 ^ 25 }
 {
-    (a as i64 - 32768) as i16
+    (a as i64 - 33_554_432) as i32
+}
+
+/// `m * a`, of a weight and a raised coordinate.
+fn weighed(m: u64, a: u64) -> u128
+    requires weight { m ≤ 2 ^ 53 }
+    requires coordinate { a ≤ 2 ^ 26 }
+    ensures value { result ≡ m * a }
+    ensures bound { result ≤ 2 ^ 79 }
+{
+    m as u128 * a as u128
 }
 
 /// The mean of `a` and `b` with these weights, rounded down.
 fn mean(m: u64, n: u64, a: u64, b: u64) -> u64
     requires some { 0 < m + n }
-    requires first { m ≤ 8589934592 }
-    requires second { n ≤ 8589934592 }
-    requires from { a ≤ 65535 }
-    requires to { b ≤ 65535 }
+    requires first { m ≤ 2 ^ 53 }
+    requires second { n ≤ 2 ^ 53 }
+    requires from { a ≤ 2 ^ 26 }
+    requires to { b ≤ 2 ^ 26 }
     ensures below { result * (m + n) ≤ m * a + n * b }
     ensures above { m * a + n * b < (result + 1) * (m + n) }
-    ensures bound { result ≤ 65535 }
+    ensures bound { result ≤ 2 ^ 26 }
 {
-    (m * a + n * b) / (m + n)
+    let sum = weighed(m, a) + weighed(n, b);
+    (sum / (m + n) as u128) as u64
 }
 
 /// The same of two coordinates.
-fn mean_down(m: u64, n: u64, a: i16, b: i16) -> i16
+fn mean_down(m: u64, n: u64, a: i32, b: i32) -> i32
     requires some { 0 < m + n }
-    requires first { m ≤ 8589934592 }
-    requires second { n ≤ 8589934592 }
-    ensures { IsMeanDown m n a b result }
+    requires first { m ≤ 2 ^ 53 }
+    requires second { n ≤ 2 ^ 53 }
+    requires from { nat_abs a ≤ 2 ^ 25 }
+    requires to { nat_abs b ≤ 2 ^ 25 }
+    ensures mean { IsMeanDown m n a b result }
+    ensures near { nat_abs result ≤ 2 ^ 25 }
 {
     lowered(mean(m, n, raised(a), raised(b)))
 }

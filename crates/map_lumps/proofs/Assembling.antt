@@ -39,12 +39,12 @@ contains_front [] ys e c = absurd (contains_none e c)
 contains_front (x ∷ xs) ys e c = elim (contains_cases x e xs c) [ inl q ↦ subst (λ z. Contains (x ∷ (xs ++ ys)) z) q (contains_here x (xs ++ ys)) | inr k ↦ contains_tail x e (xs ++ ys) (contains_front xs ys e k) ]
 
 -- the ends of one line are ends of the lines
-pub ends_of_entry : (lines : List (Option PlacedLine)) (i : ℕ) (p : Pt) → i < length lines → Contains (placed_ends (slice_index_or lines i None ∷ [])) p → Contains (placed_ends lines) p
-ends_of_entry [] i p l c = absurd (omega arith)
-ends_of_entry (None ∷ lines) zero p l c = absurd (contains_none p c)
-ends_of_entry (Some m ∷ lines) zero p l c = contains_front (m.first ∷ m.second ∷ []) (placed_ends lines) p c
-ends_of_entry (None ∷ lines) (suc i) p l c = ends_of_entry lines i p (omega arith) c
-ends_of_entry (Some m ∷ lines) (suc i) p l c = contains_tail m.first p (m.second ∷ placed_ends lines) (contains_tail m.second p (placed_ends lines) (ends_of_entry lines i p (omega arith) c))
+pub ends_of_entry : (lines : List (Option PlacedLine)) (i : ℕ) (o : Option PlacedLine) (p : Pt) → i < length lines → Contains (placed_ends (slice_index_or lines i o ∷ [])) p → Contains (placed_ends lines) p
+ends_of_entry [] i o p l c = absurd (omega arith)
+ends_of_entry (None ∷ lines) zero o p l c = absurd (contains_none p c)
+ends_of_entry (Some m ∷ lines) zero o p l c = contains_front (m.first ∷ m.second ∷ []) (placed_ends lines) p c
+ends_of_entry (None ∷ lines) (suc i) o p l c = ends_of_entry lines i o p (omega arith) c
+ends_of_entry (Some m ∷ lines) (suc i) o p l c = contains_tail m.first p (m.second ∷ placed_ends lines) (contains_tail m.second p (placed_ends lines) (ends_of_entry lines i o p (omega arith) c))
 
 -- ---- the invariant of the plan
 
@@ -61,8 +61,8 @@ same_place : (points : List Pt) → IsInOrder points → (i j : ℕ) → i < len
 same_place points h i j hi hj e = elim (same_below_or_above i j) [
   | inl same ↦ same
   | inr differ ↦ elim differ [
-    | inl lt ↦ absurd (before_irreflexive _ (subst (λ (z : Pt). IsBefore z (at points j)) e (h.ascend i j _ _ lt (get_at points i hi) (get_at points j hj))))
-    | inr lt ↦ absurd (before_irreflexive _ (subst (λ (z : Pt). IsBefore (at points j) z) e (h.ascend j i _ _ lt (get_at points j hj) (get_at points i hi))))
+    | inl lt ↦ absurd (before_irreflexive (at points j) (subst (λ (z : Pt). IsBefore z (at points j)) e (h.ascend i j _ _ lt (get_at points i hi) (get_at points j hj))))
+    | inr lt ↦ absurd (before_irreflexive (at points j) (subst (λ (z : Pt). IsBefore (at points j) z) e (h.ascend j i _ _ lt (get_at points j hj) (get_at points i hi))))
   ]
 ]
 

@@ -7,7 +7,7 @@ use Rattle.sight_names.specs.declared.faults.Lump.TheVariants.{Linedefs, Sidedef
 use Rattle.sight_names.specs.Points.{points_of}
 use Rattle.sight_names.specs.declared.names.Reading.{Reading}
 use Rattle.sight_names.specs.Limits.{most_lines, most_points, most_sectors}
-use Rattle.sight_names.specs.Lumps.{linedef_len, count_linedefs, numbers_below, lines_fault, line_fault, lump_fault, fault_if, map_of_lumps}
+use Rattle.sight_names.specs.Lumps.{linedef_len, vertex_len, count_linedefs, numbers_below, lines_fault, line_fault, lump_fault, fault_if, map_of_lumps}
 use Rattle.map_lumps.specs.Answers.{cut_lump, Passes}
 use Rattle.map_lumps.proofs.Reading.{stands, none_found}
 
@@ -46,7 +46,7 @@ module _ (reading : Reading) (linedefs sidedefs vertexes sectors : List ℕ) whe
       lump_fault reading linedefs sidedefs vertexes sectors ≡ lines_fault (line_fault reading.format linedefs sidedefs vertexes sectors) (numbers_below (count_linedefs reading.format linedefs)) points_fault
   unfolding lump_fault
   lines_left cut few_sectors few_lines =
-      let sizes = uncut (not (length linedefs % linedef_len reading.format == 0)) (not (length sidedefs % 30 == 0)) (not (length vertexes % 4 == 0)) (not (length sectors % 26 == 0)) Linedefs Sidedefs Vertexes Sectors cut in
+      let sizes = uncut (not (length linedefs % linedef_len reading.format == 0)) (not (length sidedefs % 30 == 0)) (not (length vertexes % vertex_len reading.format == 0)) (not (length sectors % 26 == 0)) Linedefs Sidedefs Vertexes Sectors cut in
       after_six _ _ _ _ _ _ (BadSize Linedefs) (BadSize Sidedefs) (BadSize Vertexes) (BadSize Sectors) (TooManySectors (length sectors / 26)) (TooManyLines (count_linedefs reading.format linedefs)) _ sizes.0 sizes.1 sizes.2 sizes.3 (not_above (most_sectors reading.large) (length sectors / 26) few_sectors) (not_above (most_lines reading.large) (count_linedefs reading.format linedefs) few_lines)
 
   pub line_fault_first : (o : Option LumpFault) → cut_lump reading.format linedefs sidedefs vertexes sectors ≡ None → length sectors / 26 ≤ most_sectors reading.large → count_linedefs reading.format linedefs ≤ most_lines reading.large →

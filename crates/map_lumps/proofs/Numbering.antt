@@ -1,5 +1,5 @@
 -- Points in order: what sorting leaves, and what a search finds.
-use Rattle.std.proofs.Common.{◌≡◌, ℕ, zero, suc, ◌+◌, ◌<◌, ◌⊎◌, inl, inr, List, [], ◌∷◌, length, slice_get, slice_index_or, Contains, Some, Err, true, false, ◌&&◌, ℤ, ◌<ℤ◌, refl, sym, ap₂, ◌∙◌, subst, arith, IsPermutation, Ordering, Less, Equal, Greater}
+use Rattle.std.proofs.Common.{◌≡◌, ℕ, zero, suc, ◌+◌, ◌<◌, ◌⊎◌, inl, inr, List, [], ◌∷◌, length, slice_get, slice_index_or, Contains, Some, Err, true, false, ◌&&◌, ℤ, ◌<ℤ◌, refl, sym, ◌∙◌, subst, arith, IsPermutation, Ordering, Less, Equal, Greater}
 use Rattle.std.specs.Ordering.{int_cmp, int_eq, ordering_then, is_lt, is_eq}
 use Rattle.std.specs.Cmp.{IsTotalOrder, IsEquivalence}
 use Rattle.std.specs.List.{AllByRecursion, HoldsAt, dedup}
@@ -15,6 +15,7 @@ use Rattle.sight_names.specs.Plan.{IsBefore}
 use Rattle.sight_names.specs.Points.{in_order, pt_eq}
 use Rattle.sight_names.proofs.Lists.{same_ascending, get_of_contains, contains_cases}
 use Rattle.sight_names.proofs.PlanPoints.{before_irreflexive, before_asymmetric, IsAscending, as_indices, in_order_ascends, in_order_from, in_order_has}
+use Rattle.sight_names.proofs.Records.{same_pt}
 use Rattle.map_lumps.specs.Records.{IsInOrder}
 use Rattle.math_base.proofs.Numbers.{below_or_not}
 use Rattle.math_base.proofs.Lists.{contains_none}
@@ -42,7 +43,7 @@ pub less_is_before : (p q : Pt) → pt_cmp p q ≡ Less → IsBefore p q
 less_is_before p q h = less_lex p.x q.x p.y q.y h
 
 pt_same : (p q : Pt) → (p.x ≡ q.x) × (p.y ≡ q.y) → p ≡ q
-pt_same p q h = ap₂ (λ (x y : ℤ). record { x = x; y = y }) h.0 h.1
+pt_same p q h = same_pt p q h.0 h.1
 
 pub equal_is_same : (p q : Pt) → pt_cmp p q ≡ Equal → p ≡ q
 equal_is_same p q h = pt_same p q (equal_lex p.x q.x p.y q.y h)
@@ -88,7 +89,7 @@ not_less Greater h = refl
 
 sorted_of_order : (points : List Pt) → IsInOrder points → IsSorted pt_cmp points
 sorted_of_order points h k d low high =
-    not_less _ (λ less. before_asymmetric _ _ (less_is_before _ _ less) (h.ascend k (k + 1) _ _ (omega arith) (get_at points k d (omega arith)) (get_at points (k + 1) d high)))
+    not_less _ (λ less. before_asymmetric (slice_index_or points (k + 1) d) (slice_index_or points k d) (less_is_before (slice_index_or points (k + 1) d) (slice_index_or points k d) less) (h.ascend k (k + 1) _ _ (omega arith) (get_at points k d (omega arith)) (get_at points (k + 1) d high)))
 
 -- a point that is there is found
 pub search_finds : (points : List Pt) (p : Pt) (i : ℕ) → IsInOrder points → Contains points p → IsBinarySearchResult (λ y. pt_cmp y p) points (Err i) → ⊥

@@ -84,8 +84,8 @@ differ_of p q h e = not_both_values _ (pt_eq_equiv.refl p) (subst (λ (z : Pt). 
 module _ (reading : Reading) (linedefs sidedefs vertexes sectors : List ℕ) where
   sound_line : (k : ℕ) (l : MapLine) → line_fault reading.format linedefs sidedefs vertexes sectors k ≡ None → linedef reading.format linedefs sidedefs vertexes k ≡ Some l → IsMapLine (length sectors / 26) l
   sound_line k l pass e =
-      let first = vertex vertexes (u16_at linedefs (linedef_len reading.format * k)) in
-      let second = vertex vertexes (u16_at linedefs (linedef_len reading.format * k + 2)) in
+      let first = vertex reading.format vertexes (u16_at linedefs (linedef_len reading.format * k)) in
+      let second = vertex reading.format vertexes (u16_at linedefs (linedef_len reading.format * k + 2)) in
       let r = u16_at linedefs (linedef_len reading.format * k + right_at reading.format) in
       let s = u16_at linedefs (linedef_len reading.format * k + left_at reading.format) in
       let passed = four_pass _ _ (is_bad_sector sidedefs sectors r) (is_bad_sector sidedefs sectors s) (BadVertex k) (BadSide k) (BadSector r) (BadSector s) pass in

@@ -8,7 +8,7 @@ ghost use Rattle.map_lumps.specs.Answers.{Passes, cut_lump as cut_lump_lem};
 
 use crate::limits::{most_lines, most_sectors};
 use crate::records::{
-    NO_SIDE, SECTOR_LEN, SIDEDEF_LEN, VERTEX_LEN, count_linedefs, linedef_len, number, read_linedef,
+    NO_SIDE, SECTOR_LEN, SIDEDEF_LEN, count_linedefs, linedef_len, number, read_linedef, vertex_len,
 };
 use sight_names::{Lump, LumpFault, MapFormat, Reading};
 
@@ -59,7 +59,7 @@ fn cut_lump(
     if sidedefs.len() % SIDEDEF_LEN != 0 {
         return Some(Lump::Sidedefs);
     }
-    if vertexes.len() % VERTEX_LEN != 0 {
+    if vertexes.len() % vertex_len(format) != 0 {
         return Some(Lump::Vertexes);
     }
     if sectors.len() % SECTOR_LEN != 0 {
@@ -102,7 +102,7 @@ fn line_fault(
     ensures { result ≡ line_fault_lem format linedefs.now sidedefs.now vertexes.now sectors.now k }
 {
     let record = read_linedef(format, linedefs, k);
-    let vertices = vertexes.len() / VERTEX_LEN;
+    let vertices = vertexes.len() / vertex_len(format);
     if vertices <= record.first as usize || vertices <= record.second as usize {
         return Some(LumpFault::BadVertex { line: k });
     }

@@ -1,12 +1,14 @@
 //! The records of the lumps, little-endian.
 
-ghost use Rattle.std.specs.Prelude.{◌≡◌, ◌≢◌, ◌+◌, ◌*◌, ◌/◌, ◌<◌, ◌≤◌, ◌==◌, ◌||◌, not, is_none, None, Some, IfOk, length, map, option_map};
+ghost use Rattle.std.specs.Prelude.{◌≡◌, ◌≢◌, ◌+◌, ◌*◌, ◌/◌, ◌^◌, ◌<◌, ◌≤◌, nat_abs, ◌==◌, ◌||◌, not, is_none, None, Some, IfOk, length, map, option_map};
 ghost use Rattle.std.specs.Int.{bit_at};
 ghost use Rattle.sight_names.specs.declared.limits.TheConstants.{LARGE_LINES};
-ghost use Rattle.sight_names.specs.Lumps.{u16_at, i16_at, vertex as vertex_lem, side_sector as side_sector_lem, linedef, linedef_len as linedef_len_lem, count_linedefs as count_linedefs_lem, line_fault, numbers_below};
+ghost use Rattle.sight_names.specs.Lumps.{u16_at, i16_at, i32_at, vertex as vertex_lem, vertex_len as vertex_len_lem, side_sector as side_sector_lem, linedef, linedef_len as linedef_len_lem, count_linedefs as count_linedefs_lem, line_fault, numbers_below};
+ghost use Rattle.sight_names.specs.declared.names.MapFormat.TheVariants.{Doom, Text};
+ghost use Rattle.sight_names.specs.Near.{near};
 ghost use Rattle.map_lumps.specs.Records.{linedef_at, linedef_from as linedef_from_lem, as_map_line, AllSound};
 
-use sight_names::{MapFormat, Pt};
+use sight_names::{FARTHEST, MapFormat, Pt};
 use std::alloc::{AllocError, Global};
 
 /// Bytes of a record of each lump, and of LINEDEFS in each format.
@@ -16,7 +18,10 @@ const HEXEN_LINEDEF_LEN: usize = 16;
 
 pub const SIDEDEF_LEN: usize = 30;
 
-pub const VERTEX_LEN: usize = 4;
+/// Bytes of a VERTEXES record, in the formats of a game and of what a text spells.
+const GAME_VERTEX_LEN: usize = 4;
+
+const TEXT_VERTEX_LEN: usize = 8;
 
 pub const SECTOR_LEN: usize = 26;
 
@@ -56,22 +61,72 @@ pub fn number(bytes: &[u8], at: usize) -> u16
 }
 
 /// The signed number at this byte.
-fn coordinate(bytes: &[u8], at: usize) -> i16
+fn coordinate(bytes: &[u8], at: usize) -> i32
     requires { at + 2 ≤ length bytes.now }
-    ensures { result ≡ i16_at bytes.now at }
+    ensures value { result ≡ i16_at bytes.now at }
+    ensures near { nat_abs result ≤ 2 ^ 25 }
 {
-    number(bytes, at).cast_signed()
+    number(bytes, at).cast_signed() as i32
 }
 
-/// The coordinates of a vertex.
-fn vertex(vertexes: &[u8], k: u16) -> Pt
-    requires { k < length vertexes.now / 4 }
-    ensures { result ≡ vertex_lem vertexes.now k }
+/// The signed number of 32 bits at this byte, 0 in place of one that is farther from 0 than a coordinate may be.
+// the reader of a text spells no other
+fn wide_coordinate(bytes: &[u8], at: usize) -> i32
+    requires { at + 4 ≤ length bytes.now }
+    ensures value { result ≡ near (i32_at bytes.now at) }
+    ensures near { nat_abs result ≤ 2 ^ 25 }
 {
-    let at = VERTEX_LEN * k as usize;
+    let four = &bytes[at..at + 4];
+    let number = i32::from_le_bytes([four[0], four[1], four[2], four[3]]);
+    if number.unsigned_abs() > FARTHEST {
+        return 0;
+    }
+    number
+}
+
+/// How many bytes a VERTEXES record has.
+pub fn vertex_len(format: MapFormat) -> usize
+    ensures len { result ≡ vertex_len_lem format }
+    ensures some { 1 ≤ result }
+{
+    match format {
+        MapFormat::Doom | MapFormat::Hexen => GAME_VERTEX_LEN,
+        MapFormat::Text => TEXT_VERTEX_LEN,
+    }
+}
+
+/// The coordinates of a vertex of a game's formats.
+fn game_vertex(vertexes: &[u8], k: u16) -> Pt
+    requires { k < length vertexes.now / 4 }
+    ensures { result ≡ vertex_lem Doom vertexes.now k }
+{
+    let at = GAME_VERTEX_LEN * k as usize;
     Pt {
         x: coordinate(vertexes, at),
         y: coordinate(vertexes, at + 2),
+    }
+}
+
+/// The coordinates of a vertex that a text spells.
+fn text_vertex(vertexes: &[u8], k: u16) -> Pt
+    requires { k < length vertexes.now / 8 }
+    ensures { result ≡ vertex_lem Text vertexes.now k }
+{
+    let at = TEXT_VERTEX_LEN * k as usize;
+    Pt {
+        x: wide_coordinate(vertexes, at),
+        y: wide_coordinate(vertexes, at + 4),
+    }
+}
+
+/// The coordinates of a vertex.
+fn vertex(format: MapFormat, vertexes: &[u8], k: u16) -> Pt
+    requires { k < length vertexes.now / vertex_len_lem format }
+    ensures { result ≡ vertex_lem format vertexes.now k }
+{
+    match format {
+        MapFormat::Doom | MapFormat::Hexen => game_vertex(vertexes, k),
+        MapFormat::Text => text_vertex(vertexes, k),
     }
 }
 
@@ -92,7 +147,7 @@ pub fn linedef_len(format: MapFormat) -> usize
     ensures some { 1 ≤ result }
 {
     match format {
-        MapFormat::Doom => DOOM_LINEDEF_LEN,
+        MapFormat::Doom | MapFormat::Text => DOOM_LINEDEF_LEN,
         MapFormat::Hexen => HEXEN_LINEDEF_LEN,
     }
 }
@@ -125,7 +180,9 @@ pub fn read_linedef(format: MapFormat, linedefs: &[u8], k: u16) -> Linedef
     ensures { result ≡ linedef_at format linedefs.now k }
 {
     match format {
-        MapFormat::Doom => linedef_from(linedefs, DOOM_LINEDEF_LEN * k as usize, 10),
+        MapFormat::Doom | MapFormat::Text => {
+            linedef_from(linedefs, DOOM_LINEDEF_LEN * k as usize, 10)
+        }
         MapFormat::Hexen => linedef_from(linedefs, HEXEN_LINEDEF_LEN * k as usize, 12),
     }
 }
@@ -158,8 +215,8 @@ fn placed_line(
     ensures { option_map as_map_line result ≡ linedef format linedefs.now sidedefs.now vertexes.now k }
 {
     let record = read_linedef(format, linedefs, k);
-    let first = vertex(vertexes, record.first);
-    let second = vertex(vertexes, record.second);
+    let first = vertex(format, vertexes, record.first);
+    let second = vertex(format, vertexes, record.second);
     if first == second {
         return None;
     }

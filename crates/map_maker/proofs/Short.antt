@@ -6,7 +6,7 @@ use Rattle.std.proofs.lemmas.Bool.{ltb-true, leb-true}
 use Rattle.map_lumps.specs.HexenLumps.Turned.{hexen_of}
 use Rattle.map_lumps.proofs.HexenLumps.Records.{first_length}
 use Rattle.sight_names.specs.declared.names.MapFormat.{MapFormat}
-use Rattle.sight_names.specs.declared.names.MapFormat.TheVariants.{Doom, Hexen}
+use Rattle.sight_names.specs.declared.names.MapFormat.TheVariants.{Doom, Hexen, Text}
 use Rattle.sight_names.specs.declared.faults.RewriteFault.{RewriteFault}
 use Rattle.sight_names.specs.declared.faults.RewriteFault.TheVariants as fault
 use Rattle.wad_dir.specs.Print.{print, printed_len}
@@ -182,6 +182,7 @@ module _ (n : ℕ) (small : n ≤ 18) where
 pub fits : (n : ℕ) (f : MapFormat) → n ≤ 18 → printed (grid_file n f) ≡ Ok (print (grid_file n f))
 fits n Doom small = printed_whole (doom_file n) (doom_few n small) (doom_short n small)
 fits n Hexen small = printed_whole (hexen_file n) (hexen_few n small) (hexens_short n small)
+fits n Text small = printed_whole (doom_file n) (doom_few n small) (doom_short n small)
 
 -- .. and no limit refuses it
 pub refused : {A : Type 0} (view : A → List ℕ) (n : ℕ) (f : MapFormat) (r : Result A RewriteFault) (g : RewriteFault) → n ≤ 18 → Writes view r (printed (grid_file n f)) → r ≡ Err g → (g ≡ fault.TooManyLumps) ⊎ (g ≡ fault.TooLong) → ⊥

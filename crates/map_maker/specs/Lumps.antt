@@ -3,7 +3,7 @@ use Rattle.std.specs.Prelude.{ℕ, ◌+◌, ◌*◌, ◌==◌, ◌&&◌, Bool, L
 use Rattle.std.specs.List.{list_any}
 use Rattle.std.specs.Int.{w16, to_le_bytes}
 use Rattle.sight_names.specs.declared.names.MapFormat.{MapFormat}
-use Rattle.sight_names.specs.declared.names.MapFormat.TheVariants.{Doom, Hexen}
+use Rattle.sight_names.specs.declared.names.MapFormat.TheVariants.{Doom, Hexen, Text}
 use Rattle.wad_dir.specs.declared.parts.Kind.TheVariants.{Pwad}
 use Rattle.wad_dir.specs.Wad.{WadFile, WadLump}
 use Rattle.map_lumps.specs.HexenLumps.Turned.{hexen_of}
@@ -107,3 +107,4 @@ hexen_file n = record { kind = Pwad; lumps = grid_lumps n (hexen_of (linedefs_in
 abbrev pub grid_file : ℕ → MapFormat → WadFile
 grid_file n Doom = doom_file n
 grid_file n Hexen = hexen_file n
+grid_file n Text = doom_file n

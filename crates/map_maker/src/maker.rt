@@ -171,7 +171,8 @@ fn written(alloc: Global, n: u16, format: MapFormat) -> Result<Vec<u8>, RewriteF
     ensures { Writes (λ v. v.items) result (printed (grid_file n format)) }
 {
     match format {
-        MapFormat::Doom => doom(alloc, n),
+        // the lumps that a text spells aren't made
+        MapFormat::Doom | MapFormat::Text => doom(alloc, n),
         MapFormat::Hexen => hexen(alloc, n),
     }
 }

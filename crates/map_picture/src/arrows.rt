@@ -48,8 +48,8 @@ fn corners_of(plan: &Plan, arrow: Arrow) -> Corners
 }
 
 fn half_way(x: u64, y: u64) -> u64
-    requires from { x < 2 ^ 16 }
-    requires to { y < 2 ^ 16 }
+    requires from { x < 2 ^ 32 }
+    requires to { y < 2 ^ 32 }
     ensures { result ≡ the_half_way x y }
 {
     (x + y) / 2
@@ -57,8 +57,8 @@ fn half_way(x: u64, y: u64) -> u64
 
 /// Five eighths of the way.
 fn past_half(x: u64, y: u64) -> u64
-    requires from { x < 2 ^ 16 }
-    requires to { y < 2 ^ 16 }
+    requires from { x < 2 ^ 32 }
+    requires to { y < 2 ^ 32 }
     ensures { result ≡ the_past_half x y }
 {
     (3 * x + 5 * y) / 8

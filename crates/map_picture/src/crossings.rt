@@ -17,21 +17,21 @@ pub struct Spot {
 }
 
 fn product(a: u64, b: u64) -> u128
-    requires left { a ≤ 2 ^ 38 }
-    requires right { b < 2 ^ 16 }
+    requires left { a ≤ 2 ^ 58 }
+    requires right { b < 2 ^ 32 }
     ensures value { result ≡ a * b }
-    ensures bound { result ≤ 2 ^ 54 }
+    ensures bound { result ≤ 2 ^ 90 }
 {
     a as u128 * b as u128
 }
 
 /// 1,000 times the mean of `p` with weight `g` and `q` with weight `f`, cut down.
 fn thousandths_between(f: u64, g: u64, p: u64, q: u64) -> u128
-    requires first { f ≤ 2 ^ 38 }
-    requires second { g ≤ 2 ^ 38 }
+    requires first { f ≤ 2 ^ 58 }
+    requires second { g ≤ 2 ^ 58 }
     requires weighed { 0 < f + g }
-    requires p { p < 2 ^ 16 }
-    requires q { q < 2 ^ 16 }
+    requires p { p < 2 ^ 32 }
+    requires q { q < 2 ^ 32 }
     ensures { result ≡ the_thousandths_between f g p q }
 {
     let sum = product(g, p) + product(f, q);
@@ -42,7 +42,7 @@ fn thousandths_between(f: u64, g: u64, p: u64, q: u64) -> u128
 fn distance(ray: &Ray, p: Pt) -> u64
     requires { IsInRange ray.now }
     ensures value { result ≡ unsigned_abs (side_value ray.now p) }
-    ensures bound { result ≤ 2 ^ 38 }
+    ensures bound { result ≤ 2 ^ 58 }
 {
     side_of(ray, p).unsigned_abs()
 }

@@ -50,7 +50,7 @@ fn push_words(out: &mut Vec<u8>, fault: PointFault) -> Result<(), AllocError>
 }
 
 #[tactic(auto, unfolding(crate::specs::Bytes::coordinate_text))]
-fn push_coordinate(out: &mut Vec<u8>, word: &str, n: i16) -> Result<(), AllocError>
+fn push_coordinate(out: &mut Vec<u8>, word: &str, n: i32) -> Result<(), AllocError>
     ensures { OnOk result (out.new.items ≡ out.old.items ++ coordinate_text word.now n) }
 {
     push_text(out, word)?;

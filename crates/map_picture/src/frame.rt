@@ -9,19 +9,19 @@ use sight_names::Pt;
 /// The least and greatest coordinates of the points, in map units.
 #[derive(Clone, Copy, Debug, PartialEq, Eq)]
 pub struct Frame {
-    pub left: i16,
-    pub right: i16,
-    pub bottom: i16,
-    pub top: i16,
+    pub left: i32,
+    pub right: i32,
+    pub bottom: i32,
+    pub top: i32,
 }
 
-fn lesser(a: i16, b: i16) -> i16
+fn lesser(a: i32, b: i32) -> i32
     ensures { result ≡ int_min a b }
 {
     a.min(b)
 }
 
-fn greater(a: i16, b: i16) -> i16
+fn greater(a: i32, b: i32) -> i32
     ensures { result ≡ int_max a b }
 {
     a.max(b)
@@ -73,7 +73,7 @@ pub fn frame_of(points: &[Pt]) -> Frame
 /// From the left to the right.
 fn width(frame: Frame) -> u64
     ensures width { result ≡ width_of frame }
-    ensures short { result < 2 ^ 16 }
+    ensures short { result < 2 ^ 32 }
 {
     u64::from(frame.right.abs_diff(frame.left))
 }
@@ -81,7 +81,7 @@ fn width(frame: Frame) -> u64
 /// From the bottom to the top.
 fn height(frame: Frame) -> u64
     ensures height { result ≡ height_of frame }
-    ensures short { result < 2 ^ 16 }
+    ensures short { result < 2 ^ 32 }
 {
     u64::from(frame.top.abs_diff(frame.bottom))
 }
@@ -121,7 +121,7 @@ fn grain_for(length: u64) -> u64
 
 /// How long the scale of a picture of this width is.
 fn scale_for(width: u64) -> u64
-    requires { width < 2 ^ 16 }
+    requires { width < 2 ^ 32 }
     ensures { result ≡ the_scale_for width }
 {
     let quarter = width / 4;
@@ -130,11 +130,11 @@ fn scale_for(width: u64) -> u64
 }
 
 fn sizes_for(width: u64, height: u64) -> Sizes
-    requires width { width < 2 ^ 16 }
-    requires height { height < 2 ^ 16 }
+    requires width { width < 2 ^ 32 }
+    requires height { height < 2 ^ 32 }
     ensures sizes { result ≡ the_sizes_for width height }
-    ensures wide { result.wide < 2 ^ 20 }
-    ensures thin { result.stroke ≤ 55 }
+    ensures wide { result.wide < 2 ^ 33 }
+    ensures thin { result.stroke < 2 ^ 22 }
 {
     let longer = width.max(height);
     let around = 2 * (longer / 50 + 1);
@@ -155,8 +155,8 @@ fn sizes_for(width: u64, height: u64) -> Sizes
 /// The sizes of a picture with this frame.
 pub fn sizes_of(frame: Frame) -> Sizes
     ensures sizes { result ≡ the_sizes_of frame }
-    ensures wide { result.wide < 2 ^ 20 }
-    ensures thin { result.stroke ≤ 55 }
+    ensures wide { result.wide < 2 ^ 33 }
+    ensures thin { result.stroke < 2 ^ 22 }
 {
     sizes_for(width(frame), height(frame))
 }
@@ -164,7 +164,7 @@ pub fn sizes_of(frame: Frame) -> Sizes
 /// How far the point is from the left edge.
 pub fn across(frame: Frame, p: Pt) -> u64
     ensures place { result ≡ the_across frame p }
-    ensures short { result < 2 ^ 16 }
+    ensures short { result < 2 ^ 32 }
 {
     u64::from(p.x.abs_diff(frame.left))
 }
@@ -172,7 +172,7 @@ pub fn across(frame: Frame, p: Pt) -> u64
 /// How far the point is below the upper edge.
 pub fn down(frame: Frame, p: Pt) -> u64
     ensures place { result ≡ the_down frame p }
-    ensures short { result < 2 ^ 16 }
+    ensures short { result < 2 ^ 32 }
 {
     u64::from(frame.top.abs_diff(p.y))
 }

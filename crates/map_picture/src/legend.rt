@@ -31,7 +31,7 @@ fn least_of(most: u64, shade: u64) -> u64
 /// A rectangle of the shade, and the least count that has it.
 #[tactic(auto, unfolding(crate::specs::Bytes::swatch_shown))]
 fn push_shown(out: &mut Vec<u8>, sizes: Sizes, shade: u64, count: u64) -> Result<(), AllocError>
-    requires wide { sizes.wide < 2 ^ 20 }
+    requires wide { sizes.wide < 2 ^ 33 }
     requires shade { shade < 8 }
     ensures { OnOk result (out.new.items ≡ out.old.items ++ swatch_shown sizes shade count) }
 {
@@ -48,7 +48,7 @@ fn push_shown(out: &mut Vec<u8>, sizes: Sizes, shade: u64, count: u64) -> Result
 
 /// .. if some count has it.
 fn push_swatch(out: &mut Vec<u8>, sizes: Sizes, most: u64, shade: u64) -> Result<(), AllocError>
-    requires wide { sizes.wide < 2 ^ 20 }
+    requires wide { sizes.wide < 2 ^ 33 }
     requires most { most < 2 ^ 16 }
     requires shade { shade < 8 }
     ensures { OnOk result (out.new.items ≡ out.old.items ++ swatch_text sizes most shade) }
@@ -63,7 +63,7 @@ fn push_swatch(out: &mut Vec<u8>, sizes: Sizes, most: u64, shade: u64) -> Result
 
 /// The first so many shades.
 fn push_swatches(out: &mut Vec<u8>, sizes: Sizes, most: u64, shades: u64) -> Result<(), AllocError>
-    requires wide { sizes.wide < 2 ^ 20 }
+    requires wide { sizes.wide < 2 ^ 33 }
     requires most { most < 2 ^ 16 }
     requires shades { shades ≤ 8 }
     ensures { OnOk result (out.new.items ≡ out.old.items ++ flat_map (swatch_text sizes most) (range_with_len 0 shades)) }
@@ -77,7 +77,7 @@ fn push_swatches(out: &mut Vec<u8>, sizes: Sizes, most: u64, shades: u64) -> Res
 /// Which counts each shade stands for.
 #[tactic(auto, unfolding(crate::specs::Bytes::legend_text))]
 pub fn push_legend(out: &mut Vec<u8>, sizes: Sizes, most: u64) -> Result<(), AllocError>
-    requires wide { sizes.wide < 2 ^ 20 }
+    requires wide { sizes.wide < 2 ^ 33 }
     requires most { most < 2 ^ 16 }
     ensures { OnOk result (out.new.items ≡ out.old.items ++ legend_text sizes most) }
 {

@@ -114,9 +114,9 @@ fn largest_of(
 }
 
 fn middle_of(p: u64, q: u64, r: u64) -> u64
-    requires p { p < 2 ^ 16 }
-    requires q { q < 2 ^ 16 }
-    requires r { r < 2 ^ 16 }
+    requires p { p < 2 ^ 32 }
+    requires q { q < 2 ^ 32 }
+    requires r { r < 2 ^ 32 }
     ensures { result ≡ the_middle_of p q r }
 {
     (p + q + r) / 3

@@ -1,6 +1,6 @@
 //! The first elements of a picture.
 
-ghost use Rattle.std.specs.Prelude.{◌≡◌, ◌≤◌, ◌++◌, ◌∷◌, [], OnOk, codes};
+ghost use Rattle.std.specs.Prelude.{◌≡◌, ◌≤◌, ◌<◌, ◌^◌, ◌++◌, ◌∷◌, [], OnOk, codes};
 ghost use Rattle.sight_names.specs.Map.{Map};
 ghost use Rattle.map_picture.specs.declared.frame.Frame.{Frame};
 ghost use Rattle.map_picture.specs.Bytes.{count_text, dark_text, head_text, left_out_text, left_out_words, letters_text, light_text, paper_text, pixels_text, scale_text, shades_text, size_text, spelled, style_text, subject_text, title_text, units_text};
@@ -115,7 +115,7 @@ fn push_light(out: &mut Vec<u8>) -> Result<(), AllocError>
 
 #[tactic(auto, unfolding(crate::specs::Bytes::units_text))]
 fn push_units(out: &mut Vec<u8>, stroke: u64) -> Result<(), AllocError>
-    requires { stroke ≤ 55 }
+    requires { stroke < 2 ^ 22 }
     ensures { OnOk result (out.new.items ≡ out.old.items ++ units_text stroke) }
 {
     push_count(out, "path,circle{stroke-width:", stroke)?;
@@ -167,7 +167,7 @@ fn push_dark(out: &mut Vec<u8>) -> Result<(), AllocError>
 
 #[tactic(auto, unfolding(crate::specs::Bytes::style_text))]
 fn push_style(out: &mut Vec<u8>, sizes: Sizes) -> Result<(), AllocError>
-    requires { sizes.stroke ≤ 55 }
+    requires { sizes.stroke < 2 ^ 22 }
     ensures { OnOk result (out.new.items ≡ out.old.items ++ style_text sizes) }
 {
     push_light(out)?;

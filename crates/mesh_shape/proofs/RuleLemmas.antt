@@ -285,9 +285,9 @@ pub numbered_apart : (p : PlanParts) → IsPlan p → (t : Triangle) (l : Line) 
 numbered_apart p is t l tri line (inl h) =
     let pq : t.p < t.q = tri.least in let pr : t.p < t.r = tri.least_too in let q : t.q < length p.points = tri.second in let r : t.r < length p.points = tri.third in
     all_apart p is t l (λ e edge. edge_cases t e (λ (f : Edge). (z : Point) → IsCommon (place (map_of p) f.from) (place (map_of p) f.to) (place (map_of p) l.a) (place (map_of p) l.b) z → ⊥)
-    (λ z c. numbers_apart p is l.a l.b t.p t.q (omega arith) q h.0 (omega (arith, h.0)) h.1 (omega (arith, h.1)) z (common_swapped _ _ _ _ z c))
-    (λ z c. numbers_apart p is l.a l.b t.q t.r q r (omega (arith, h.0)) (omega (arith, h.0)) (omega (arith, h.1)) (omega (arith, h.1)) z (common_swapped _ _ _ _ z c))
-    (λ z c. numbers_apart p is l.a l.b t.r t.p r (omega arith) (omega (arith, h.0)) h.0 (omega (arith, h.1)) h.1 z (common_swapped _ _ _ _ z c)) edge)
+    (λ z c. numbers_apart p is l.a l.b t.p t.q (omega arith) q h.0 (omega (arith, h.0)) h.1 (omega (arith, h.1)) z (common_swapped (place (map_of p) t.p) (place (map_of p) t.q) (place (map_of p) l.a) (place (map_of p) l.b) z c))
+    (λ z c. numbers_apart p is l.a l.b t.q t.r q r (omega (arith, h.0)) (omega (arith, h.0)) (omega (arith, h.1)) (omega (arith, h.1)) z (common_swapped (place (map_of p) t.q) (place (map_of p) t.r) (place (map_of p) l.a) (place (map_of p) l.b) z c))
+    (λ z c. numbers_apart p is l.a l.b t.r t.p r (omega arith) (omega (arith, h.0)) h.0 (omega (arith, h.1)) h.1 z (common_swapped (place (map_of p) t.r) (place (map_of p) t.p) (place (map_of p) l.a) (place (map_of p) l.b) z c)) edge)
 numbered_apart p is t l tri line (inr h) =
     all_apart p is t l (λ e edge. edge_cases t e (λ (f : Edge). (z : Point) → IsCommon (place (map_of p) f.from) (place (map_of p) f.to) (place (map_of p) l.a) (place (map_of p) l.b) z → ⊥)
     (λ z c. numbers_apart p is t.p t.q l.a l.b line.first line.second h.0 h.3 h.1 h.4 z c)
@@ -306,9 +306,9 @@ IsOver p k t = (height p t.p <ℤ height p k) × (height p t.q <ℤ height p k) 
 pub under_apart : (p : PlanParts) → IsPlan p → (t : Triangle) (l : Line) → IsUnder p l.a t → IsUnder p l.b t → IsMetFairly (map_of p) t (looked_up p.points l)
 under_apart p is t l a b =
     all_apart p is t l (λ e edge. edge_cases t e (λ (f : Edge). (z : Point) → IsCommon (place (map_of p) f.from) (place (map_of p) f.to) (place (map_of p) l.a) (place (map_of p) l.b) z → ⊥)
-    (λ z c. below_apart (place (map_of p) l.a) (place (map_of p) l.b) (place (map_of p) t.p) (place (map_of p) t.q) a.0 a.1 b.0 b.1 z (common_swapped _ _ _ _ z c))
-    (λ z c. below_apart (place (map_of p) l.a) (place (map_of p) l.b) (place (map_of p) t.q) (place (map_of p) t.r) a.1 a.2 b.1 b.2 z (common_swapped _ _ _ _ z c))
-    (λ z c. below_apart (place (map_of p) l.a) (place (map_of p) l.b) (place (map_of p) t.r) (place (map_of p) t.p) a.2 a.0 b.2 b.0 z (common_swapped _ _ _ _ z c)) edge)
+    (λ z c. below_apart (place (map_of p) l.a) (place (map_of p) l.b) (place (map_of p) t.p) (place (map_of p) t.q) a.0 a.1 b.0 b.1 z (common_swapped (place (map_of p) t.p) (place (map_of p) t.q) (place (map_of p) l.a) (place (map_of p) l.b) z c))
+    (λ z c. below_apart (place (map_of p) l.a) (place (map_of p) l.b) (place (map_of p) t.q) (place (map_of p) t.r) a.1 a.2 b.1 b.2 z (common_swapped (place (map_of p) t.q) (place (map_of p) t.r) (place (map_of p) l.a) (place (map_of p) l.b) z c))
+    (λ z c. below_apart (place (map_of p) l.a) (place (map_of p) l.b) (place (map_of p) t.r) (place (map_of p) t.p) a.2 a.0 b.2 b.0 z (common_swapped (place (map_of p) t.r) (place (map_of p) t.p) (place (map_of p) l.a) (place (map_of p) l.b) z c)) edge)
 
 pub over_apart : (p : PlanParts) → IsPlan p → (t : Triangle) (l : Line) → IsOver p l.a t → IsOver p l.b t → IsMetFairly (map_of p) t (looked_up p.points l)
 over_apart p is t l a b =

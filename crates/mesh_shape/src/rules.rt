@@ -414,14 +414,14 @@ fn first_met(plan: &Plan, t: Triangle) -> Option<u16>
 }
 
 /// The least y of three points.
-fn lowest(a: Pt, b: Pt, c: Pt) -> i16
+fn lowest(a: Pt, b: Pt, c: Pt) -> i32
     ensures { result ≡ int_min (int_min a.y b.y) c.y }
 {
     a.y.min(b.y).min(c.y)
 }
 
 /// The greatest y of three points.
-fn highest(a: Pt, b: Pt, c: Pt) -> i16
+fn highest(a: Pt, b: Pt, c: Pt) -> i32
     ensures { result ≡ int_max (int_max a.y b.y) c.y }
 {
     a.y.max(b.y).max(c.y)

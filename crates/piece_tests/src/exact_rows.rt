@@ -22,7 +22,7 @@ SPLINTER | 00 | #SQUARE-EXACT @8:1:06 @10:1:05 @28:3:040005 @36:1:05 | Verdict(N
 ISLAND | 00 | #ISLAND-EXACT @22:1:01 @26:2: | Verdict(No(Group { triangle: 0 }))
 ISLAND | 00 | #ISLAND-EXACT @12:1:02 @28:0:01000100 @104:0:0000000000000000 | Verdict(No(Unused { group: 1 }))
 # the second ray: beyond its range, from a side without a sector, past its line, and the wrong way
-U | 4400 | #U-EXACT @130:4:01001000 | Verdict(No(Check(Ray { a: 1, b: 2, why: Some(Range) })))
+U | 4400 | #U-EXACT @130:4:01000040 | Verdict(No(Check(Ray { a: 1, b: 2, why: Some(Range) })))
 U | 4400 | #U-EXACT @126:2:0080 | Verdict(No(Check(Ray { a: 1, b: 2, why: Some(BadSide { side: Side { line: 0, left: true } }) })))
 U | 4400 | #U-EXACT @138:8:38ffffffffffffff | Verdict(No(Check(Ray { a: 1, b: 2, why: Some(NotSplit { line: 3 }) })))
 U | 4400 | #U-EXACT @130:4:ffffffff @138:8:a000000000000000 | Verdict(No(Check(Ray { a: 1, b: 2, why: Some(WrongWay { line: 3 }) })))

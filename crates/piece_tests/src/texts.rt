@@ -64,7 +64,7 @@ const TEXTS: &str = "\
 # nobody wrote twosided
 = SHUT-PAIR | namespace=\"doom\";vertex{x=0;y=0;}vertex{x=0;y=64;}vertex{x=64;y=64;}vertex{x=64;y=0;}vertex{x=128;y=64;}vertex{x=128;y=0;}linedef{v1=0;v2=1;sidefront=0;}linedef{v1=1;v2=2;sidefront=1;}linedef{v1=2;v2=3;sidefront=2;sideback=3;}linedef{v1=3;v2=0;sidefront=4;}linedef{v1=2;v2=4;sidefront=5;}linedef{v1=4;v2=5;sidefront=6;}linedef{v1=5;v2=3;sidefront=7;}sidedef{sector=0;}sidedef{sector=0;}sidedef{sector=0;}sidedef{sector=1;}sidedef{sector=0;}sidedef{sector=1;}sidedef{sector=1;}sidedef{sector=1;}sector{}sector{}
 # each field of the lumps, in their order; numbers out of range stay so
-0000 0100 4400 00000000 0000 ffff 00000000000000000000000000000000000000000000000000000000 0500 0080 ff7f ffff 0000 0000000000000000000000000000000000000000000000000000 | namespace=\"hexen\";linedef{v2=1;v1=0;twosided=True;blocksound=true;sidefront=0;}vertex{x=-32768;y=32767;}vertex{y=0.0;x=-1;}sidedef{sector=5;}Sector{x=\"\";}
+0000 0100 4400 00000000 0000 ffff 00000000000000000000000000000000000000000000000000000000 0500 0080ffff ff7f0000 ffffffff 00000000 0000000000000000000000000000000000000000000000000000 | namespace=\"hexen\";linedef{v2=1;v1=0;twosided=True;blocksound=true;sidefront=0;}vertex{x=-32768;y=32767;}vertex{y=0.0;x=-1;}sidedef{sector=5;}Sector{x=\"\";}
 ffff ffff 0000 00000000 feff feff 00000000000000000000000000000000000000000000000000000000 ffff | namespace=\"doom\";linedef{v1=-1;v2=0xFFFFFFFFFF;sidefront=-2;sideback=65534;}sidedef{sector=-5;}
 fdff fffe 0000 00000000 fdff ffff 00000000000000000000000000000000000000000000000000000000 ffff | namespace=\"doom\";linedef{v1=65533;v2=65279;sidefront=65533;}sidedef{}
 # portals, only where lines may show far places
@@ -72,10 +72,14 @@ portal of line 1 | namespace=\"zdoom\";vertex{x=0;y=0;}vertex{x=0;y=64;}linedef{
 portal of line 0 | namespace=\"dsda\";linedef{special=57;}
 portal of line 0 | namespace=\"hexen\";linedef{special=57;}
 ffff ffff 0000 00000000 ffff ffff | namespace=\"heretic\";linedef{special=156;}
+# coordinates in hundredths, and the farthest ones
+0000 0100 0000 00000000 0000 ffff 00000000000000000000000000000000000000000000000000000000 ffff ceffffff c9040000 2c010000 e8030000 00000000 64000000 | namespace=\"doom\";linedef{v1=0;v2=1;sidefront=0;}sidedef{}vertex{x=-0.5;y=12.250;}vertex{x=3;y=1e1;}vertex{x=0.125;y=1;}
+0000 0000 0000 00000000 ffff ffff 00000002 000000fe | namespace=\"doom\";linedef{v1=0;v2=0;}vertex{x=33554432;y=-33554432.0;}
 # the grid
-coordinate of vertex 1 | namespace=\"doom\";vertex{x=0;y=0;}vertex{x=0;y=64.125;}linedef{v1=0;v2=1;}
+coordinate of vertex 1 | namespace=\"doom\";vertex{x=0;y=0;}vertex{x=0;y=0.00000001;}linedef{v1=0;v2=1;}
+coordinate of vertex 0 | namespace=\"doom\";vertex{x=4194304;y=0;}vertex{x=0.125;}vertex{x=0.125;y=0;}linedef{v1=2;v2=0;}linedef{v1=1;v2=0;}
 coordinate of vertex 0 | namespace=\"doom\";vertex{x=0;}linedef{v1=9;v2=0;}
-coordinate of vertex 1 | namespace=\"doom\";vertex{x=0;y=0;}vertex{x=32768;y=0;}vertex{}linedef{v1=0;v2=1;}linedef{v1=2;v2=0;}
+coordinate of vertex 1 | namespace=\"doom\";vertex{x=0;y=0;}vertex{x=33554433;y=0;}vertex{}linedef{v1=0;v2=1;}linedef{v1=2;v2=0;}
 # the first fault of a text
 namespace 12 | namespace = \"eternity\";^vertex { x = 0.0; y = 0.0; }^
 namespace 0 | vertex { x = 0.0; y = 0.0; }^
@@ -187,7 +191,7 @@ fn is_plan(a: &Plan, b: &Plan) -> bool {
 // Whether the lumps spell the worked map of this name.
 fn spell_map(alloc: Global, lumps: &FourLumps, name: &str) -> bool {
     let reading = Reading {
-        format: MapFormat::Doom,
+        format: MapFormat::Text,
         large: false,
     };
     let read = read_lumps(

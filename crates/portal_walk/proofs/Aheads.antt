@@ -45,17 +45,13 @@ ahead_some xs way (Some n) a h = go (slice_get xs n) refl
 
 -- ---- what is kept of it
 
--- what is read past the end
-abbrev pub no_ahead : Ahead
-no_ahead = record { number = 0; apex_at = record { x = pos 0; y = pos 0 }; sector = 0; has_sector = false; is_line = false }
-
 pub ahead_within : (s : SceneParts) → IsScene s → (from : ℕ) (way : WayOut) (found : List Ahead) → AreAhead s.edges way found → IsNumber s.mesh.triangles from → from < length found
 ahead_within s i from way found are number =
     let there = numbered s i from number in
     slice_get_within found from (kept_as (ahead_by s.edges way (behind there.0 way))) (are from there.0 there.1)
 
-pub ahead_read : (xs : List HalfEdge) (way : WayOut) (found : List Ahead) → AreAhead xs way found → (from : ℕ) (x : HalfEdge) → slice_get xs from ≡ Some x → slice_index_or found from no_ahead ≡ kept_as (ahead_by xs way (behind x way))
-ahead_read xs way found are from x at = get_or_from_slice_get found from (kept_as (ahead_by xs way (behind x way))) no_ahead (are from x at)
+pub ahead_read : (xs : List HalfEdge) (way : WayOut) (found : List Ahead) → AreAhead xs way found → (from : ℕ) (d : Ahead) (x : HalfEdge) → slice_get xs from ≡ Some x → slice_index_or found from d ≡ kept_as (ahead_by xs way (behind x way))
+ahead_read xs way found are from d x at = get_or_from_slice_get found from (kept_as (ahead_by xs way (behind x way))) d (are from x at)
 
 -- half-edges have smaller numbers
 other_number : (n many : ℕ) → n < many → many ≤ MOST_TRIANGLES * 3 → n ≢ NO_EDGE

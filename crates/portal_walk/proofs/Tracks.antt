@@ -1,17 +1,20 @@
 -- The path of a walk as a track of portals, each with its frame for a note.
-use Rattle.std.proofs.Common.{◌≡◌, ℕ, ◌-◌, ◌<◌, List, length, take, slice_get, slice_set, get_or, Some, refl, sym, ap, ◌∙◌}
+use Rattle.std.proofs.Common.{◌≡◌, ℕ, ◌-◌, ◌<◌, List, [], ◌∷◌, ◌++◌, Result, Ok, Err, length, take, slice_get, slice_set, get_or, Some, refl, sym, ap, ◌∙◌}
 use Rattle.std.specs.Prelude.{map, option_map}
 use Rattle.std.proofs.lemmas.List.{length-map, map-set}
 use Rattle.std.proofs.Math.Seq.{map-set_same}
 use Rattle.std.proofs.lemmas.Option.{slice_get-map, slice_get-get_or, same_Some}
+use Rattle.sight_names.specs.declared.names.Memory.{Memory}
 use Rattle.sight_names.specs.Splitting.{EndPoints}
+use Rattle.stab_hull.specs.declared.onward.Told.{Told}
+use Rattle.stab_hull.specs.declared.onward.Told.TheVariants as told
 use Rattle.stab_hull.specs.declared.frame.Noted.{Noted}
 use Rattle.stab_hull.specs.Portals.{portal_of, portals_of}
-use Rattle.stab_hull.specs.Sleeves.{HasLastLeft, HasLastRight, frame_of, frames_of, note_of}
+use Rattle.stab_hull.specs.Sleeves.{HasLastLeft, HasLastRight, IsNotedOn, IsTold, frame_of, frames_of, note_of}
 use Rattle.stab_hull.proofs.Sleeves.{fewer_ends, fewer_notes, last_ends}
 use Rattle.portal_walk.specs.declared.path.Frame.{Frame}
 use Rattle.portal_walk.specs.declared.path.Ways.{Ways}
-use Rattle.portal_walk.specs.Frames.{PathParts, HasWays, first_portals, with_ways}
+use Rattle.portal_walk.specs.Frames.{PathParts, HasWays, Tells, first_portals, with_ways}
 
 abbrev pub parts_of : List (Noted Frame) → PathParts
 parts_of xs = record { frames = map note_of xs; ends = portals_of (frames_of xs) }
@@ -22,6 +25,13 @@ joined fs gs es hs e h = cc
 -- fewer portals
 pub path_cut : (xs ys : List (Noted Frame)) (n : ℕ) → ys ≡ take n xs → parts_of ys ≡ first_portals n (parts_of xs)
 path_cut xs ys n e = joined (map note_of ys) (take n (map note_of xs)) (portals_of (frames_of ys)) (take n (portals_of (frames_of xs))) (fewer_notes xs ys n e) (fewer_ends xs ys n e)
+
+-- what is told of one more portal of a track is told of the path
+pub told_on : (old new : List (Noted Frame)) (f : Frame) (e : EndPoints) (r : Result Told Memory) → IsTold (portals_of (frames_of old)) e (portals_of (frames_of new)) r → IsNotedOn (map note_of old) f (map note_of new) r → Tells (parts_of old) (parts_of new) f e r
+told_on old new f e (Ok told.Open) t n = (joined (map note_of new) (map note_of old ++ f ∷ []) (portals_of (frames_of new)) (portals_of (frames_of old) ++ e ∷ []) n t.0, t.1)
+told_on old new f e (Ok (told.Stuck v)) t n = (joined (map note_of new) (map note_of old) (portals_of (frames_of new)) (portals_of (frames_of old)) n t.0, t.1)
+told_on old new f e (Ok told.Unseen) t n = joined (map note_of new) (map note_of old) (portals_of (frames_of new)) (portals_of (frames_of old)) n t
+told_on old new f e (Err m) t n = joined (map note_of new) (map note_of old) (portals_of (frames_of new)) (portals_of (frames_of old)) n t
 
 -- as many notes as portals
 pub as_many_notes : (xs : List (Noted Frame)) → length (map note_of xs) ≡ length xs

@@ -1,6 +1,7 @@
 -- What is ahead by the ways out of the triangles of half-edges, so that a walk reads it in one place.
 use Rattle.std.specs.Prelude.{◌≡◌, ℕ, Bool, true, false, List, Option, Some, None, IfSome, is_some, pos, slice_get}
 use Rattle.sight_names.specs.declared.names.Pt.{Pt}
+use Rattle.sight_names.specs.Map.{origin}
 use Rattle.mesh_shape.specs.declared.half_edges.table.HalfEdge.{HalfEdge}
 use Rattle.portal_walk.specs.declared.ahead.TheConstants.{NO_EDGE}
 use Rattle.portal_walk.specs.declared.ahead.Ahead.{Ahead}
@@ -40,7 +41,7 @@ ahead_by xs way (Some n) = ahead_at way n (slice_get xs n)
 
 -- what is kept of it: no half-edge, where nothing is ahead
 abbrev pub kept_as : Option Ahead → Ahead
-kept_as None = record { number = NO_EDGE; apex_at = record { x = pos 0; y = pos 0 }; sector = 0; has_sector = false; is_line = false }
+kept_as None = record { number = NO_EDGE; apex_at = origin; sector = 0; has_sector = false; is_line = false }
 kept_as (Some a) = a
 
 -- of each half-edge by this way out of its triangle

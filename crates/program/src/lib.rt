@@ -168,7 +168,7 @@ fn explain<R: Files + Print + AllocGlobal, P: Print>(
     status: &Status,
     progress: &Progress<P>,
 ) {
-    let asks_for_end = matches!(status, Status::NoMap(MapFault::Missing { .. }));
+    let asks_for_end = matches!(status, Status::NoMap(MapFault::NoEnd));
     let at = byte_of(status);
     if at.is_none() && !asks_for_end && !progress.has_bad_bytes() {
         return;

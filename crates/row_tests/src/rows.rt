@@ -18,8 +18,8 @@ a=PAIR | ray a MAP01 2R,9L,0,1,-32 | 1 | no ray: side 9L
 a=LINE3 | ray a MAP01 2R,5L,0,1,-32 | 0 | sight 0 2
 a=LINE3 | ray a MAP01 2R,05L,0,1,-32 | 0 | sight 0 2
 a=LINE3 | ray a MAP01 5R,2L,0,1,-32 | 1 | no ray: backwards
-a=WIDE | ray a MAP01 2R,2L,0,1048576,0 | 0 | sight 0 1
-a=WIDE | ray a MAP01 2R,2L,0,1048577,0 | 1 | no ray: range
+a=WIDE | ray a MAP01 2R,2L,0,1073741824,0 | 0 | sight 0 1
+a=WIDE | ray a MAP01 2R,2L,0,1073741825,0 | 1 | no ray: range
 a=DOORS33 | ray a MAP01 3R,11L,-1,128,-4064 | 0 | sight 0 3
 a=DOORS33 | ray a MAP01 3R,11L,-1,128,-4032 | 1 | no ray: blocked 7
 a=SHUT-PAIR | ray a MAP01 2R,2L,0,1,-32 | 1 | no ray: blocked 2
@@ -320,7 +320,7 @@ a=PAIR +1:THINGS | zero a THINGS b | 0 | zero THINGS sectors 2 bytes 1
 # a map of UDMF that is refused stays, and one without ENDMAP is none
 a=PAIR +6:MAP02 +7:TEXTMAP *20 +8:ENDMAP U .9 - +9:MAP03 | all a b --report r | 0 | all maps 3 built 2 refused 1 | b=PAIR =00 +6:MAP02 +7:TEXTMAP *20 +8:ENDMAP U =4400 .9 - +9:MAP03, r=#4d4150303120736574203020636c6561722033206c69737465642030207265706c6163656420302062797465730a4d41503032207265667573656420626164206c756d703a206e616d6573706163652030206b65707420636c6561720a4d4150303320736574203120636c6561722035206c69737465642030207265706c6163656420302062797465730a
 a=PAIR +6:MAP02 +7:TEXTMAP *20 U .8 - +8:MAP03 | all a b --report r | 0 | all maps 2 built 2 refused 0 | b=PAIR =00 +6:MAP02 +7:TEXTMAP *20 U =4400 .8 - +8:MAP03, r=#4d4150303120736574203020636c6561722033206c69737465642030207265706c6163656420302062797465730a4d4150303320736574203120636c6561722035206c69737465642030207265706c6163656420302062797465730a
-a=PAIR +6:MAP02 +7:TEXTMAP *20 U .8 - +8:MAP03 | all a b --only MAP02 | 7 | refused: no map: missing LINEDEFS | b=
+a=PAIR +6:MAP02 +7:TEXTMAP *20 U .8 - +8:MAP03 | all a b --only MAP02 | 7 | refused: no map: missing ENDMAP | b=
 # refusals of the whole run
 a=#50574158000000000c000000 | all a b --report r | 6 | refused: not a wad: bad magic | b=, r=
 a=#50574144010001000c000000 | all a b | 9 | refused: limit: lumps | b=

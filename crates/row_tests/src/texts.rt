@@ -26,6 +26,16 @@ vertex{x=0.5;}
 thing { x = 1.5; type = 1; }
 ";
 
+// The points of PAIR in tenths. A vertex of no line has hundredths, and one is far away.
+const TENTHS: &str = "namespace=\"doom\";\
+vertex{x=0;y=0;}vertex{x=0;y=6.4;}vertex{x=6.40;y=64e-1;}vertex{x=6.4;y=.0;}vertex{x=12.8;y=6.4;}vertex{x=1.28e1;y=0;}\
+vertex{x=0.01;y=0;}vertex{x=33554432;y=0;}\
+linedef{v1=0;v2=1;sidefront=0;}linedef{v1=1;v2=2;sidefront=1;}\
+linedef{v1=2;v2=3;sidefront=2;sideback=3;twosided=true;}linedef{v1=3;v2=0;sidefront=4;}\
+linedef{v1=2;v2=4;sidefront=5;}linedef{v1=4;v2=5;sidefront=6;}linedef{v1=5;v2=3;sidefront=7;}\
+sidedef{sector=0;}sidedef{sector=0;}sidedef{sector=0;}sidedef{sector=1;}\
+sidedef{sector=0;}sidedef{sector=1;}sidedef{sector=1;}sidedef{sector=1;}sector{}sector{}\n";
+
 // A line between two sectors that sound passes once.
 const DAMPER: &str = "namespace=\"doom\";vertex{x=0;y=0;}vertex{x=0;y=64;}\
 linedef{v1=0;v2=1;sidefront=0;sideback=1;twosided=true;blocksound=true;}\
@@ -55,8 +65,34 @@ const FAULTS: &[(&str, &str)] = &[
         "namespace=\"zdoom\";linedef{}linedef{special=156;}",
         "8 | refused: bad lump: portal of line 1",
     ),
+    // seven places, and 2^25 units, are the most
     (
-        "namespace=\"doom\";vertex{x=0;y=0;}vertex{x=0.5;y=0;}linedef{v1=0;v2=1;}",
+        "namespace=\"doom\";vertex{x=0;y=0;}vertex{x=0.00000001;y=0;}linedef{v1=0;v2=1;}",
+        "8 | refused: bad lump: coordinate of vertex 1",
+    ),
+    (
+        "namespace=\"doom\";vertex{x=0;y=0;}vertex{x=0.0000001;y=0;}linedef{v1=0;v2=1;sidefront=0;}",
+        "8 | refused: bad lump: side of line 0",
+    ),
+    (
+        "namespace=\"doom\";vertex{x=0;y=0;}vertex{x=33554433;y=0;}linedef{v1=0;v2=1;}",
+        "8 | refused: bad lump: coordinate of vertex 1",
+    ),
+    (
+        "namespace=\"doom\";vertex{x=0;y=0;}vertex{x=-33554432;y=0;}linedef{v1=0;v2=1;sidefront=0;}",
+        "8 | refused: bad lump: side of line 0",
+    ),
+    (
+        "namespace=\"doom\";vertex{x=33554.433;y=0;}vertex{x=0;y=0;}linedef{v1=0;v2=1;}",
+        "8 | refused: bad lump: coordinate of vertex 0",
+    ),
+    // the unit is that of another vertex
+    (
+        "namespace=\"doom\";vertex{x=0.001;y=0;}vertex{x=0;y=33555.0;}linedef{v1=0;v2=1;}",
+        "8 | refused: bad lump: coordinate of vertex 1",
+    ),
+    (
+        "namespace=\"doom\";vertex{x=0;y=0;}vertex{x=0;}linedef{v1=0;v2=1;}",
         "8 | refused: bad lump: coordinate of vertex 1",
     ),
     (
@@ -133,6 +169,18 @@ fn a_text_is_read_as_the_map_that_it_spells(rt: HostRuntime) -> Result<(), Fail>
 }
 
 #[test]
+fn a_text_with_decimals_is_the_map_in_their_unit(rt: HostRuntime) -> Result<(), Fail> {
+    // its certificate is one of PAIR, and a ray of PAIR is one of it
+    for row in [
+        "a=PAIR =00 +6:MAP02 +7:TEXTMAP =TEXT +8:ENDMAP | build a MAP02 b --cert c | 0 | built MAP02 sectors 2 set 0 clear 3 listed 0 | b=PAIR =00 +6:MAP02 +7:TEXTMAP =TEXT +8:REJECT =00 +9:ENDMAP\n| check b MAP01 c | 0 | yes sectors 2 set 0 clear 3 listed 0\n| check b MAP02 c | 0 | yes sectors 2 set 0 clear 3 listed 0",
+        "a=PAIR +6:MAP02 +7:TEXTMAP =TEXT +8:ENDMAP | ray a MAP02 2R,2L,0,1,-32 | 0 | sight 0 1",
+    ] {
+        hold_text(&rt, rt.alloc(), TENTHS, row)?;
+    }
+    Ok(())
+}
+
+#[test]
 fn a_text_that_is_no_map_is_refused(rt: HostRuntime) -> Result<(), Fail> {
     for (text, said) in FAULTS {
         let row = format!(in rt.alloc(); "zero a MAP02 b | {said} | b=")?;
@@ -148,10 +196,10 @@ fn the_lumps_of_a_text_end_before_another_map(rt: HostRuntime) -> Result<(), Fai
         // the REJECT of the run is replaced; BEHAVIOR and lumps of a user stand in it
         "a=PAIR +6:MAP02 +7:TEXTMAP =TEXT +8:BEHAVIOR *2 +9:REJECT =ff +10:OWN +11:ENDMAP | all a b | 0 | all maps 2 built 2 refused 0 | b=PAIR =00 +6:MAP02 +7:TEXTMAP =TEXT +8:BEHAVIOR *2 +9:REJECT =00 +10:OWN +11:ENDMAP",
         // two REJECTs, none of the lumps that end a map, and a lump of another format
-        "a=PAIR +6:MAP02 +7:TEXTMAP =TEXT +8:REJECT +9:REJECT +10:ENDMAP | zero a MAP02 b | 7 | refused: no map: missing LINEDEFS | b=",
-        "a=PAIR +6:MAP02 +7:TEXTMAP =TEXT +8:ZNODES | zero a MAP02 b | 7 | refused: no map: missing LINEDEFS | b=",
-        "a=PAIR +6:MAP02 +7:TEXTMAP =TEXT +8:NODES +9:ENDMAP | zero a MAP02 b | 7 | refused: no map: missing LINEDEFS | b=",
-        "a=PAIR +6:MAP02 +7:TEXTMAP =TEXT +8:TEXTMAP +9:ENDMAP | zero a MAP02 b | 7 | refused: no map: missing LINEDEFS | b=",
+        "a=PAIR +6:MAP02 +7:TEXTMAP =TEXT +8:REJECT +9:REJECT +10:ENDMAP | zero a MAP02 b | 7 | refused: no map: missing ENDMAP | b=",
+        "a=PAIR +6:MAP02 +7:TEXTMAP =TEXT +8:ZNODES | zero a MAP02 b | 7 | refused: no map: missing ENDMAP | b=",
+        "a=PAIR +6:MAP02 +7:TEXTMAP =TEXT +8:NODES +9:ENDMAP | zero a MAP02 b | 7 | refused: no map: missing ENDMAP | b=",
+        "a=PAIR +6:MAP02 +7:TEXTMAP =TEXT +8:TEXTMAP +9:ENDMAP | zero a MAP02 b | 7 | refused: no map: missing ENDMAP | b=",
         // the last map of a name
         "a=PAIR +6:MAP01 +7:TEXTMAP =TEXT +8:ENDMAP | zero a MAP01 b | 0 | zero MAP01 sectors 2 bytes 1 | b=PAIR +6:MAP01 +7:TEXTMAP =TEXT +8:REJECT =00 +9:ENDMAP",
     ] {

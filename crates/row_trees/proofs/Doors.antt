@@ -1,5 +1,5 @@
 -- A portal that has an end of the last one.
-use Rattle.std.proofs.Common.{◌≡◌, ◌≢◌, ◌-◌, ◌⊎◌, ◌&&◌, Bool, true, false, ℤ, ap₂, inl, inr, List, [], ◌∷◌, ◌++◌, Option, Some, None, length, map, option_map, slice_get, refl, sym, ap, ◌∙◌, subst, arith, ℕ}
+use Rattle.std.proofs.Common.{◌≡◌, ◌≢◌, ◌-◌, ◌⊎◌, ◌&&◌, Bool, true, false, ℤ, inl, inr, List, [], ◌∷◌, ◌++◌, Option, Some, None, length, map, option_map, slice_get, refl, sym, ap, ◌∙◌, subst, arith, ℕ}
 use Rattle.std.specs.Ordering.{int_eq}
 use borrow.Author.Differences.{ints}
 use Rattle.std.proofs.lemmas.List.{length-map, map_push}
@@ -7,6 +7,7 @@ use Rattle.std.proofs.lemmas.Option.{slice_get-get_or, slice_get-map}
 use Rattle.math_base.proofs.Options.{none_is_not_some, some_is_not_none, some_is_same}
 use Rattle.sight_names.specs.declared.names.Pt.{Pt}
 use Rattle.sight_names.specs.Splitting.{EndPoints, IsSplittable}
+use Rattle.sight_names.proofs.Records.{same_pt}
 use Rattle.stab_hull.specs.Sleeves.{HasLastLeft, HasLastRight}
 use Rattle.portal_walk.proofs.OnePortal.{one_splittable}
 use Rattle.row_trees.specs.declared.path.Door.{Door}
@@ -42,7 +43,7 @@ not_both : (a b c d : ℤ) → false ≡ (int_eq a b && int_eq c d) → a ≡ b 
 not_both a b c d h e f = grind (arith, ints)
 
 pub same_point : (p q : Pt) → true ≡ (int_eq p.x q.x && int_eq p.y q.y) → p ≡ q
-same_point p q h = let e = both_same p.x q.x p.y q.y h in ap₂ (λ (x y : ℤ). let r : Pt = record { x = x; y = y } in r) e.0 e.1
+same_point p q h = let e = both_same p.x q.x p.y q.y h in same_pt p q e.0 e.1
 
 pub other_point : (p q : Pt) → false ≡ (int_eq p.x q.x && int_eq p.y q.y) → p ≢ q
 other_point p q h = λ e. not_both p.x q.x p.y q.y h (ap (λ (r : Pt). r.x) e) (ap (λ (r : Pt). r.y) e)

@@ -9,7 +9,7 @@ use Rattle.sight_names.specs.declared.plan.Line.{Line}
 use Rattle.sight_names.specs.declared.faults.LumpFault.{LumpFault}
 use Rattle.sight_names.specs.declared.limits.TheConstants.{LARGE_LINES, LARGE_POINTS}
 use Rattle.sight_names.specs.Limits.{most_lines, most_points, most_sectors}
-use Rattle.sight_names.specs.Lumps.{count_linedefs, fault_if, first_of, line_fault, linedef, linedef_len, lines_fault, lump_fault, map_of_lumps, numbers_below, numbers_from}
+use Rattle.sight_names.specs.Lumps.{count_linedefs, fault_if, first_of, line_fault, linedef, linedef_len, lines_fault, lump_fault, map_of_lumps, numbers_below, numbers_from, vertex_len}
 use Rattle.sight_names.specs.Map.{IsMap, Map, MapLine, looked_up, map_of, origin}
 use Rattle.sight_names.specs.Plan.{IsPlan, PlanParts}
 use Rattle.sight_names.specs.Points.{ends_of, points_of, pt_eq}
@@ -159,7 +159,7 @@ module _ (reading : Reading) (linedefs sidedefs vertexes sectors : List ℕ) whe
   passed e =
       let a = passes_if (not (length linedefs % linedef_len reading.format == 0)) _ _ e in
       let b = passes_if (not (length sidedefs % 30 == 0)) _ _ a.1 in
-      let c = passes_if (not (length vertexes % 4 == 0)) _ _ b.1 in
+      let c = passes_if (not (length vertexes % vertex_len reading.format == 0)) _ _ b.1 in
       let d = passes_if (not (length sectors % 26 == 0)) _ _ c.1 in
       let s = passes_if (nat_lt (most_sectors reading.large) (length sectors / 26)) _ _ d.1 in
       let l = passes_if (nat_lt (most_lines reading.large) (count_linedefs reading.format linedefs)) _ _ s.1 in
@@ -169,7 +169,7 @@ module _ (reading : Reading) (linedefs sidedefs vertexes sectors : List ℕ) whe
         passes = record {
           whole_linedefs = no_rest (length linedefs % linedef_len reading.format) a.0;
           whole_sidedefs = no_rest (length sidedefs % 30) b.0;
-          whole_vertexes = no_rest (length vertexes % 4) c.0;
+          whole_vertexes = no_rest (length vertexes % vertex_len reading.format) c.0;
           whole_sectors = no_rest (length sectors % 26) d.0;
           few_sectors = not_more (most_sectors reading.large) (length sectors / 26) s.0;
           few_lines = not_more (most_lines reading.large) (count_linedefs reading.format linedefs) l.0;

@@ -12,7 +12,7 @@ use Rattle.sight_names.specs.Map.{map_of, looked_up, origin}
 use Rattle.sight_names.specs.Points.{pt_eq, points_of, place, number_of, line_edge}
 use Rattle.sight_names.proofs.PlanPoints.{plan_points, index_any}
 use Rattle.sight_names.proofs.PlanMap.{points_differ}
-use Rattle.sight_names.proofs.Records.{same_edge, pt_of_numbers}
+use Rattle.sight_names.proofs.Records.{same_edge, same_pt}
 
 pub eq_refl : (a b : ℤ) → (int_eq a a && int_eq b b) ≡ true
 eq_refl a b = grind (arith, ints)
@@ -21,7 +21,7 @@ eq_true : (a b c d : ℤ) → (int_eq a c && int_eq b d) ≡ true → (a ≡ c) 
 eq_true a b c d h = grind (arith, ints)
 
 pub same_pt_true : (p q : Pt) → pt_eq p q ≡ true → p ≡ q
-same_pt_true p q h = let e = eq_true p.x p.y q.x q.y h in pt_of_numbers p.x p.y q.x q.y e.0 e.1
+same_pt_true p q h = let e = eq_true p.x p.y q.x q.y h in same_pt p q e.0 e.1
 
 pub pt_false : (p q : Pt) → p ≢ q → pt_eq p q ≡ false
 pt_false p q h = go (pt_eq p q) (same_pt_true p q)

@@ -24,6 +24,9 @@ pub const USUAL_TRIANGLES: usize = 8_192;
 /// What the code of a right end is more than its portal's place.
 pub const RIGHT_END: u16 = 32_768;
 
+/// How far from 0 a coordinate of a point is, at most, in its map's unit: 2^25.
+pub const FARTHEST: u32 = 33_554_432;
+
 /// The lumps of a WAD, at most.
 pub const MOST_LUMPS: u32 = 65_536;
 

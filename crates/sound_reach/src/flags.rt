@@ -8,10 +8,10 @@ ghost use Rattle.sound_reach.specs.Dampers.{dampers_of};
 use sight_names::{MapFormat, Memory};
 use std::alloc::Global;
 
-/// Bytes of a LINEDEFS record of a Doom map.
+/// Bytes of a LINEDEFS record of a Doom map, and of what a text spells.
 const DOOM_LEN: usize = 14;
 
-/// .. and of a Hexen-format map. In both the flags are the third number.
+/// .. and of a Hexen-format map. In each the flags are the third number.
 const HEXEN_LEN: usize = 16;
 
 /// The flag of a line that blocks sound.
@@ -38,7 +38,7 @@ fn linedef_len(format: MapFormat) -> usize
     ensures { result ≡ linedef_len_lem format }
 {
     match format {
-        MapFormat::Doom => DOOM_LEN,
+        MapFormat::Doom | MapFormat::Text => DOOM_LEN,
         MapFormat::Hexen => HEXEN_LEN,
     }
 }

@@ -16,7 +16,7 @@ use Rattle.geom_exact.proofs.ExtremeLines.Widening.{wedge_meets}
 use Rattle.block_evidence.specs.declared.Evidence.{Evidence}
 use Rattle.block_evidence.specs.OneTurn.{AreLines, BarsRight, BarsLeft}
 use Rattle.block_evidence.specs.Picked.{Picks, both_ends}
-use Rattle.block_evidence.proofs.Picking.{some_more, five_among, picks_evidence, picks_block, no_pair}
+use Rattle.block_evidence.proofs.Picking.{some_more, five_among, picks_evidence, picks_block}
 use Rattle.stab_hull.specs.Answer.{IsBarredBy}
 use Rattle.stab_hull.specs.Barred.{ends_and}
 use Rattle.stab_hull.specs.Portals.{IsConeOf}
@@ -76,7 +76,7 @@ module _ (es : List EndPoints) (w : Wedge) (h : IsConeOf es (Open w)) where
   }) (wedge_meets w w.first.left new
       (let t = turn_is w.first w.first.left.at new.at in let z = form_left w.first in let k = b.beyond_first in omega (arith, ints))
       (let t = turn_is w.second w.first.left.at new.at in let k = b.far in omega (arith, ints)))
-      (some_more (ends_and w new) (both_ends (pair_of w.first ∷ pair_of w.second ∷ record { left = w.first.left; right = new } ∷ [])) (Some e) (five_among (pair_of w.first ∷ pair_of w.second ∷ record { left = w.first.left; right = new } ∷ []) no_pair new refl (inr refl)) p)
+      (some_more (ends_and w new) (both_ends (pair_of w.first ∷ pair_of w.second ∷ record { left = w.first.left; right = new } ∷ [])) (Some e) (five_among (pair_of w.first ∷ pair_of w.second ∷ record { left = w.first.left; right = new } ∷ []) (pair_of w.first) (pair_of w.first) (pair_of w.first) new refl (inr refl)) p)
     where
       there : end_of (es ++ q ∷ []) new.code ≡ Some new
       there = subst (λ (d : EndAt). end_of (es ++ q ∷ []) d.code ≡ Some d) (sym n) (subst (λ (k : ℕ). end_of (es ++ q ∷ []) k ≡ Some (record { code = k; at = q.right })) (omega arith) (right_end (es ++ q ∷ []) (length es) q (get_pushed es q)))
@@ -90,4 +90,4 @@ module _ (es : List EndPoints) (w : Wedge) (h : IsConeOf es (Open w)) where
   }) (wedge_meets w new w.second.right
       (let t = turn_is w.first new.at w.second.right.at in let k = b.far in omega (arith, ints))
       (let t = turn_is w.second new.at w.second.right.at in let z = form_right w.second in let k = b.beyond_second in omega (arith, ints)))
-      (some_more (ends_and w new) (both_ends (pair_of w.first ∷ pair_of w.second ∷ record { left = new; right = w.second.right } ∷ [])) (Some e) (five_among (pair_of w.first ∷ pair_of w.second ∷ record { left = new; right = w.second.right } ∷ []) no_pair new refl (inl refl)) p)
+      (some_more (ends_and w new) (both_ends (pair_of w.first ∷ pair_of w.second ∷ record { left = new; right = w.second.right } ∷ [])) (Some e) (five_among (pair_of w.first ∷ pair_of w.second ∷ record { left = new; right = w.second.right } ∷ []) (pair_of w.first) (pair_of w.first) (pair_of w.first) new refl (inl refl)) p)

@@ -30,10 +30,10 @@ is_zero (pos zero) = inl refl
 is_zero (pos (suc n)) = inr (λ e. omega (arith, ints))
 is_zero (negsuc n) = inr (λ e. omega (arith, ints))
 
-twice_small : (x y : ℤ) → nat_abs x ≤ 65535 → nat_abs y ≤ 65535 → nat_abs (pos 2 *ℤ (x -ℤ y)) ≤ 2 ^ 20
+twice_small : (x y : ℤ) → nat_abs x ≤ 2 ^ 26 → nat_abs y ≤ 2 ^ 26 → nat_abs (pos 2 *ℤ (x -ℤ y)) ≤ 2 ^ 30
 twice_small x y h k = omega (arith, ints)
 
-shifted_small : (x y s : ℤ) → nat_abs x ≤ 2 * (65535 * 32768) → nat_abs y ≤ 2 * (65535 * 32768) → nat_abs s ≤ 1 → nat_abs (pos 2 *ℤ (x -ℤ y) +ℤ s) ≤ 2 ^ 37
+shifted_small : (x y s : ℤ) → nat_abs x ≤ 2 ^ 52 → nat_abs y ≤ 2 ^ 52 → nat_abs s ≤ 1 → nat_abs (pos 2 *ℤ (x -ℤ y) +ℤ s) ≤ 2 ^ 57
 shifted_small x y s h k l = omega (arith, ints)
 
 form_is : (e : Extreme) (p : Pt) → (e.a *ℤ p.x +ℤ e.b *ℤ p.y) -ℤ e.c ≡ form_at e p

@@ -11,6 +11,7 @@ use Rattle.plane_base.specs.Arrows.{Arrow, cross, dot, IsBetween}
 use Rattle.plane_base.proofs.Middle.{cross_by, dot_by}
 use Rattle.plane_base.proofs.Turns.{turned, split_by, split_along, dot_nonneg}
 use Rattle.sight_names.specs.declared.names.Pt.{Pt}
+use Rattle.sight_names.proofs.Records.{same_pt}
 use Rattle.geom_exact.specs.declared.extreme_lines.cone.Cone.{Cone}
 use Rattle.geom_exact.specs.declared.extreme_lines.cone.Cone.TheVariants.{Ray, Open}
 use Rattle.geom_exact.specs.ExtremeLines.Differences.{arrow, difference}
@@ -105,7 +106,7 @@ wider_angle (Open w) (Ray e) x s t h =
     absurd (omega (arith, ints, k, p, q, m))
 
 same_point : (p q : Pt) → p.x -ℤ q.x ≡ pos 0 → p.y -ℤ q.y ≡ pos 0 → p ≡ q
-same_point p q hx hy = ap₂ (λ (x y : ℤ). let r : Pt = record { x = x; y = y } in r) (same_of_difference p.x q.x hx) (same_of_difference p.y q.y hy)
+same_point p q hx hy = same_pt p q (same_of_difference p.x q.x hx) (same_of_difference p.y q.y hy)
 
 -- from p over s to q, by what a functional says of each part
 cross_sum : (b : Arrow) (p s q : Pt) → cross b (difference p q) ≡ cross b (difference s q) +ℤ cross b (difference p s)

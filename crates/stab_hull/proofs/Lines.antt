@@ -58,10 +58,10 @@ hull_splits es ls rs cs h =
     (t.0, t.1, t.2, cuts_split es h.cone.0 t.0 t.1 t.2 k t.3)
 
 -- ---- the numbers of a line
-pub fits_a : (a : ℤ) → nat_abs a ≤ 2 ^ 20 → FitsSigned w32 a
+pub fits_a : (a : ℤ) → nat_abs a ≤ 2 ^ 30 → FitsSigned w32 a
 fits_a a h = omega (arith, ints)
 
-pub fits_c : (c : ℤ) → nat_abs c ≤ 2 ^ 37 → FitsSigned w64 c
+pub fits_c : (c : ℤ) → nat_abs c ≤ 2 ^ 57 → FitsSigned w64 c
 fits_c c h = omega (arith, ints)
 
 pub line_is : (es : List EndPoints) (a b c a' b' c' : ℤ) → a ≡ a' → b ≡ b' → c ≡ c' → SplitsEnds es a b c × IsLineInRange a b c → SplitsEnds es a' b' c' × IsLineInRange a' b' c'

@@ -4,7 +4,7 @@ use Rattle.std.specs.Prelude.{slice_get}
 use Rattle.std.proofs.lemmas.Bool.{cases_lt}
 use Rattle.std.proofs.Math.Nat.{eq-or-lt_of_le}
 use Rattle.std.proofs.lemmas.List.{length-map}
-use Rattle.std.proofs.lemmas.Option.{slice_get-get_or, slice_get-map}
+use Rattle.std.proofs.lemmas.Option.{slice_get-get_or, slice_get_read, slice_get-map}
 use Rattle.math_base.proofs.Options.{none_is_not_some, some_is_same}
 use Rattle.sight_names.specs.declared.names.EndAt.{EndAt}
 use Rattle.geom_exact.specs.declared.extreme_lines.cone.Cone.{Cone}
@@ -15,7 +15,7 @@ use Rattle.geom_exact.specs.ExtremeLines.Spans.{Spans, IsWidened}
 use Rattle.stab_hull.specs.declared.chain.Kept.{Kept}
 use Rattle.stab_hull.specs.Chains.{HasSteps, LiesBetween, kept_ends}
 use Rattle.stab_hull.proofs.Between.{spans_left, spans_right}
-use Rattle.stab_hull.proofs.StepLemmas.{Before, From, no_kept, IsLeftPart, IsRightPart, left_more, right_more}
+use Rattle.stab_hull.proofs.StepLemmas.{Before, From, IsLeftPart, IsRightPart, left_more, right_more}
 
 -- ---- the ends of what is kept
 kept_length : (ks : List Kept) → length (kept_ends ks) ≡ length ks
@@ -57,43 +57,54 @@ look_start ks = record {
 }
 
 -- the next end
-abbrev pub next_of : List Kept → ℕ → Kept
-next_of ks rest = get_or ks (rest - 1) no_kept
+abbrev pub IsNext : List Kept → ℕ → Kept → Type 0
+IsNext ks rest k = k ≡ get_or ks (rest - 1) k
 
-next_kept : (ks : List Kept) (rest top : ℕ) → LooksBack (kept_ends ks) rest top → 0 < rest → slice_get ks (rest - 1) ≡ Some (next_of ks rest)
-next_kept ks rest top h some =
-    let e = kept_length ks in
-    let below = h.below in
-    let within = h.within in
-    slice_get-get_or ks (rest - 1) no_kept (omega (arith, e, below, within, some))
+-- as it is read
+abbrev pub next_of : List Kept → ℕ → Kept → Kept
+next_of ks rest d = get_or ks (rest - 1) d
 
-pub next_at : (ks : List Kept) (rest top : ℕ) → LooksBack (kept_ends ks) rest top → 0 < rest → slice_get (kept_ends ks) (rest - 1) ≡ Some (next_of ks rest).end
-next_at ks rest top h some = end_at ks (rest - 1) (next_of ks rest) (next_kept ks rest top h some)
+pub next_is : (ks : List Kept) (rest : ℕ) (k : Kept) → IsNext ks rest k → IsNext ks rest (next_of ks rest k)
+next_is ks rest k is = ap (λ (d : Kept). get_or ks (rest - 1) d) is
 
-pub step_fits : (ks : List Kept) (rest top : ℕ) → HasSteps ks → LooksBack (kept_ends ks) rest top → 0 < rest → (next_of ks rest).step ≤ rest
-step_fits ks rest top steps h some = let f = (steps.within (rest - 1) (next_of ks rest) (next_kept ks rest top h some)).1 in omega (arith, f, some)
+module _ (ks : List Kept) (rest top : ℕ) (k : Kept) where
+  next_kept : LooksBack (kept_ends ks) rest top → 0 < rest → IsNext ks rest k → slice_get ks (rest - 1) ≡ Some k
+  next_kept h some is =
+      let e = kept_length ks in
+      let below = h.below in
+      let within = h.within in
+      slice_get_read ks (length ks) (rest - 1) k refl (omega (arith, e, below, within, some)) is
 
-pub step_falls : (ks : List Kept) (rest top : ℕ) → HasSteps ks → LooksBack (kept_ends ks) rest top → 0 < rest → rest - (next_of ks rest).step < rest
-step_falls ks rest top steps h some = let f = (steps.within (rest - 1) (next_of ks rest) (next_kept ks rest top h some)).0 in omega (arith, f, some)
+  pub next_at : LooksBack (kept_ends ks) rest top → 0 < rest → IsNext ks rest k → slice_get (kept_ends ks) (rest - 1) ≡ Some k.end
+  next_at h some is = end_at ks (rest - 1) k (next_kept h some is)
 
-pub look_on : (ks : List Kept) (rest top : ℕ) → HasSteps ks → LooksBack (kept_ends ks) rest top → 0 < rest → LooksBack (kept_ends ks) (rest - (next_of ks rest).step) (rest - 1)
-look_on ks rest top steps h some =
-    let k = next_of ks rest in
-    let e = next_kept ks rest top h some in
-    let size = steps.within (rest - 1) k e in
-    let longer = size.0 in
-    let fits = size.1 in
-    let below = h.below in
-    let within = h.within in
-    record {
-      below = omega (arith, longer);
-      within = omega (arith, below, within);
-      done = λ z. steps.first (rest - 1) k e (omega (arith, z, fits, some));
-      between = λ m i a b r l u am bi.
-          let ka = kept_of ks m a am in
-          let kb = kept_of ks i b bi in
-          (k.end, end_at ks (rest - 1) k e, subst₂ (λ (x y : EndAt). LiesBetween x.at y.at k.end.at) ka.2 kb.2 (steps.between m i (rest - 1) ka.0 kb.0 k ka.1 kb.1 e (omega (arith, r, fits, some)) l u));
-    }
+  pub step_fits : HasSteps ks → LooksBack (kept_ends ks) rest top → 0 < rest → IsNext ks rest k → k.step ≤ rest
+  step_fits steps h some is = let f = (steps.within (rest - 1) k (next_kept h some is)).1 in omega (arith, f, some)
+
+  pub step_falls : HasSteps ks → LooksBack (kept_ends ks) rest top → 0 < rest → IsNext ks rest k → rest - k.step < rest
+  step_falls steps h some is = let f = (steps.within (rest - 1) k (next_kept h some is)).0 in omega (arith, f, some)
+
+  pub look_on : HasSteps ks → LooksBack (kept_ends ks) rest top → 0 < rest → IsNext ks rest k → LooksBack (kept_ends ks) (rest - k.step) (rest - 1)
+  look_on steps h some is =
+      let e = next_kept h some is in
+      let size = steps.within (rest - 1) k e in
+      let longer = size.0 in
+      let fits = size.1 in
+      let below = h.below in
+      let within = h.within in
+      record {
+        below = omega (arith, longer);
+        within = omega (arith, below, within);
+        done = λ z. steps.first (rest - 1) k e (omega (arith, z, fits, some));
+        between = λ m i a b r l u am bi.
+            let ka = kept_of ks m a am in
+            let kb = kept_of ks i b bi in
+            (k.end, end_at ks (rest - 1) k e, subst₂ (λ (x y : EndAt). LiesBetween x.at y.at k.end.at) ka.2 kb.2 (steps.between m i (rest - 1) ka.0 kb.0 k ka.1 kb.1 e (omega (arith, r, fits, some)) l u));
+      }
+
+-- there is one
+pub one_next : (ks : List Kept) (rest top : ℕ) (k o : Kept) → LooksBack (kept_ends ks) rest top → 0 < rest → IsNext ks rest k → IsNext ks rest o → k ≡ o
+one_next ks rest top k o h some is so = some_is_same k o (sym (next_kept ks rest top k h some is) ∙ next_kept ks rest top o h some so)
 
 -- a place from n on is n, behind it and before the top, or from the top on
 places : (n top k : ℕ) → From n k → (k ≡ n) ⊎ ((n < k) × (k < top)) ⊎ From top k

@@ -1,5 +1,5 @@
 -- One extreme line alone can change by an end that lies beyond the other one.
-use Rattle.std.proofs.Common.{◌≡◌, ℕ, ◌≤◌, ◌*◌, List, Some, ℤ, nat_abs, pos, ◌-ℤ◌, ◌≤ℤ◌, ◌<ℤ◌, sym, arith, subst, FitsSigned, w64, to_z, of_z, to_z-of_z}
+use Rattle.std.proofs.Common.{◌≡◌, ℕ, ◌≤◌, ◌^◌, List, Some, ℤ, nat_abs, pos, ◌-ℤ◌, ◌≤ℤ◌, ◌<ℤ◌, sym, ap₂, ◌∙◌, arith, subst, FitsSigned, w64, to_z, of_z, to_z-of_z}
 use Rattle.std.specs.Prelude.{slice_get}
 use Rattle.std.proofs.lemmas.Int.{ints}
 use Rattle.sight_names.specs.declared.names.Pt.{Pt}
@@ -26,14 +26,28 @@ pub form_right : (e : Extreme) → form_at e e.right.at ≡ pos 0
 form_right e = let t = cross_by (arrow_of e) (arrow e.right.at) (arrow e.right.at) (arrow e.right.at) in omega (arith, ints)
 
 -- a value that was kept in a variable
-pub held : (v : ℤ) → nat_abs v ≤ 4 * (65535 * 32768) → to_z w64 (of_z w64 v) ≡ v
+pub held : (v : ℤ) → nat_abs v ≤ 2 ^ 53 → to_z w64 (of_z w64 v) ≡ v
 held v h = to_z-of_z (fits v h)
   where
-    fits : (v : ℤ) → nat_abs v ≤ 4 * (65535 * 32768) → FitsSigned w64 v
+    fits : (v : ℤ) → nat_abs v ≤ 2 ^ 53 → FitsSigned w64 v
     fits v h = omega (arith, ints)
 
-pub held_small : (v : ℤ) → nat_abs v ≤ 4 * (65535 * 32768) → nat_abs (to_z w64 (of_z w64 v)) ≤ 4 * (65535 * 32768)
-held_small v h = subst (λ (z : ℤ). nat_abs z ≤ 4 * (65535 * 32768)) (sym (held v h)) h
+-- the turn of two ends by values that were kept
+module _ (e : Extreme) (l r : Pt) (u v : ℤ) (h : u ≡ form_at e l) (k : v ≡ form_at e r) (low : nat_abs u ≤ 2 ^ 53) (few : nat_abs v ≤ 2 ^ 53) where
+  apart : to_z w64 (of_z w64 (u -ℤ v)) ≡ cross (arrow_of e) (difference l r)
+  apart = to_z-of_z (fits u v low few) ∙ ap₂ (λ (x y : ℤ). x -ℤ y) h k ∙ sym (turn_is e l r)
+    where
+      fits : (u v : ℤ) → nat_abs u ≤ 2 ^ 53 → nat_abs v ≤ 2 ^ 53 → FitsSigned w64 (u -ℤ v)
+      fits u v a b = omega (arith, ints)
+
+  pub turn_of_first : to_z w64 (of_z w64 (u -ℤ to_z w64 (of_z w64 v))) ≡ cross (arrow_of e) (difference l r)
+  turn_of_first = subst (λ (z : ℤ). to_z w64 (of_z w64 (u -ℤ z)) ≡ cross (arrow_of e) (difference l r)) (sym (held v few)) apart
+
+  pub turn_of_second : to_z w64 (of_z w64 (to_z w64 (of_z w64 u) -ℤ v)) ≡ cross (arrow_of e) (difference l r)
+  turn_of_second = subst (λ (z : ℤ). to_z w64 (of_z w64 (z -ℤ v)) ≡ cross (arrow_of e) (difference l r)) (sym (held u low)) apart
+
+pub held_small : (v : ℤ) → nat_abs v ≤ 2 ^ 53 → nat_abs (to_z w64 (of_z w64 v)) ≤ 2 ^ 53
+held_small v h = subst (λ (z : ℤ). nat_abs z ≤ 2 ^ 53) (sym (held v h)) h
 
 -- ---- where the first line stays
 pub right_of_first : (w : Wedge) (r : Pt) → Spans (Open w) (difference w.first.left.at r) → form_at w.first r ≤ℤ pos 0
@@ -54,14 +68,14 @@ left_of_second w l h = let a = h.before in let b = turned (difference l w.second
 pub record SecondToLeft (R : List EndAt) (left : EndAt) (w : Wedge) (n : ℕ) (wide : Wedge) (value : ℤ) : Type 0 where
   pub first : wide.first ≡ w.first
   pub level : value ≡ form_at wide.second left.at
-  pub small : nat_abs value ≤ 4 * (65535 * 32768)
+  pub small : nat_abs value ≤ 2 ^ 53
   pub part : (L : List EndAt) → IsConeOfEnds L R (Open w) → IsLeftPart L R left (Before n) (Open wide)
 
 -- the first line, on its way to take in a right end that is left of the second line
 pub record FirstToRight (L : List EndAt) (right : EndAt) (w : Wedge) (n : ℕ) (wide : Wedge) (value : ℤ) : Type 0 where
   pub second : wide.second ≡ w.second
   pub level : value ≡ form_at wide.first right.at
-  pub small : nat_abs value ≤ 4 * (65535 * 32768)
+  pub small : nat_abs value ≤ 2 ^ 53
   pub part : (R : List EndAt) → IsConeOfEnds L R (Open w) → IsRightPart L R right (Before n) (Open wide)
 
 pub beyond_first_left : (L R : List EndAt) (left r : EndAt) (w wide : Wedge) (n : ℕ) → IsConeOfEnds L R (Open w) → slice_get R n ≡ Some r → pos 0 <ℤ form_at w.first left.at → wide.first ≡ w.first → pos 0 <ℤ cross (arrow_of wide.first) (difference left.at r.at)

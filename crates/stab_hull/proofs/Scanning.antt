@@ -1,5 +1,5 @@
 -- The search over all ends for those that a line may move to: what it says of each is told by one value, without its constant.
-use Rattle.std.proofs.Common.{◌≡◌, ℕ, ◌-◌, ◌<◌, ◌≤◌, ◌*◌, List, ◌∷◌, [], ◌++◌, Some, ℤ, nat_abs, pos, ◌+ℤ◌, ◌-ℤ◌, ◌*ℤ◌, ◌<ℤ◌, ap₂, sym, ◌∙◌, subst, arith, w64, to_z, of_z}
+use Rattle.std.proofs.Common.{◌≡◌, ℕ, ◌-◌, ◌<◌, ◌≤◌, ◌^◌, List, ◌∷◌, [], ◌++◌, Some, ℤ, nat_abs, pos, ◌+ℤ◌, ◌-ℤ◌, ◌*ℤ◌, ◌<ℤ◌, ap₂, sym, ◌∙◌, subst, arith, FitsSigned, w64, to_z, of_z}
 use Rattle.std.specs.Prelude.{slice_get}
 use Rattle.std.proofs.lemmas.Int.{ints}
 use Rattle.sight_names.specs.declared.names.Pt.{Pt}
@@ -18,7 +18,7 @@ use Rattle.stab_hull.specs.Chains.{HasSteps, kept_ends}
 use Rattle.stab_hull.specs.Stacks.{IsConeOfEnds}
 use Rattle.stab_hull.proofs.OneLine.{held, turn_is, beyond_first_right, beyond_second_left}
 use Rattle.stab_hull.proofs.StepLemmas.{From, IsLeftPart, IsRightPart, left_whole, right_whole}
-use Rattle.stab_hull.proofs.Looking.{LooksBack, next_of, next_at, look_on, left_back, right_back}
+use Rattle.stab_hull.proofs.Looking.{LooksBack, IsNext, next_at, look_on, left_back, right_back}
 
 -- the factors are those of the line
 pub record IsSlopeOf (e : Extreme) (s : Slope) : Type 0 where
@@ -28,12 +28,12 @@ pub record IsSlopeOf (e : Extreme) (s : Slope) : Type 0 where
 -- the value is that of the line at the point, and its constant
 pub record IsLevelAt (e : Extreme) (p : Pt) (v : ℤ) : Type 0 where
   pub level : v ≡ form_at e p +ℤ e.c
-  pub small : nat_abs v ≤ 2 * (65535 * 32768)
+  pub small : nat_abs v ≤ 2 ^ 52
 
 moved : (v t c u : ℤ) → v ≡ t → t -ℤ c ≡ u → v ≡ u +ℤ c
 moved v t c u h k = omega (arith, ints)
 
-pub level_at : (e : Extreme) (s : Slope) (p : Pt) (v : ℤ) → IsSlopeOf e s → v ≡ s.a *ℤ p.x +ℤ s.b *ℤ p.y → nat_abs v ≤ 2 * (65535 * 32768) → IsLevelAt e p v
+pub level_at : (e : Extreme) (s : Slope) (p : Pt) (v : ℤ) → IsSlopeOf e s → v ≡ s.a *ℤ p.x +ℤ s.b *ℤ p.y → nat_abs v ≤ 2 ^ 52 → IsLevelAt e p v
 level_at e s p v h is small = record {
   level = moved v (e.a *ℤ p.x +ℤ e.b *ℤ p.y) e.c (form_at e p) (is ∙ ap₂ (λ (x y : ℤ). x *ℤ p.x +ℤ y *ℤ p.y) h.a h.b) (value_is e.left.at e.right.at p e.a e.b e.c e.a_is e.b_is e.c_is);
   small = small;
@@ -43,7 +43,7 @@ level_at e s p v h is small = record {
 pub kept_level : (e : Extreme) (p : Pt) (v : ℤ) → IsLevelAt e p v → IsLevelAt e p (to_z w64 (of_z w64 v))
 kept_level e p v h = subst (IsLevelAt e p) (sym (held v (wider v h.small))) h
   where
-    wider : (v : ℤ) → nat_abs v ≤ 2 * (65535 * 32768) → nat_abs v ≤ 4 * (65535 * 32768)
+    wider : (v : ℤ) → nat_abs v ≤ 2 ^ 52 → nat_abs v ≤ 2 ^ 53
     wider v h = omega arith
 
 -- an end of the line itself has the constant alone
@@ -57,10 +57,17 @@ turned : (u v c x y t : ℤ) → u ≡ x +ℤ c → v ≡ y +ℤ c → t ≡ x -
 turned u v c x y t h k l = omega (arith, ints)
 
 -- the difference of two is the line's turn
+-- the difference of two fits
+pub apart_fits : (e : Extreme) (l r : Pt) (u v : ℤ) → IsLevelAt e l u → IsLevelAt e r v → FitsSigned w64 (u -ℤ v)
+apart_fits e l r u v h k = fits u v h.small k.small
+  where
+    fits : (u v : ℤ) → nat_abs u ≤ 2 ^ 52 → nat_abs v ≤ 2 ^ 52 → FitsSigned w64 (u -ℤ v)
+    fits u v a b = omega (arith, ints)
+
 pub turn_by : (e : Extreme) (l r : Pt) (u v : ℤ) → IsLevelAt e l u → IsLevelAt e r v → to_z w64 (of_z w64 (u -ℤ v)) ≡ cross (arrow_of e) (difference l r)
 turn_by e l r u v h k = held (u -ℤ v) (apart u v h.small k.small) ∙ turned u v e.c (form_at e l) (form_at e r) (cross (arrow_of e) (difference l r)) h.level k.level (turn_is e l r)
   where
-    apart : (u v : ℤ) → nat_abs u ≤ 2 * (65535 * 32768) → nat_abs v ≤ 2 * (65535 * 32768) → nat_abs (u -ℤ v) ≤ 4 * (65535 * 32768)
+    apart : (u v : ℤ) → nat_abs u ≤ 2 ^ 52 → nat_abs v ≤ 2 ^ 52 → nat_abs (u -ℤ v) ≤ 2 ^ 53
     apart u v h k = omega (arith, ints)
 
 lower : (u v c x y t : ℤ) → u ≡ x +ℤ c → v ≡ y +ℤ c → t ≡ x -ℤ y → u <ℤ v → t <ℤ pos 0
@@ -98,25 +105,25 @@ left_passed L R left r w wide n u v cone beyond same at h k less = stays (Open w
     (beyond_second_left L R left r w wide n cone at beyond same))
 
 -- the look goes on from an end
-module _ (ks : List Kept) (new : EndAt) (w wide wider : Wedge) (rest : ℕ) (s s' : Slope) (bound bound' : ℤ) where
-  pub right_looks : HasSteps ks → 0 < rest → SecondToRight ks new w rest wide s bound → IsWidened (Open wide) (next_of ks rest).end new (Open wider) → wider.first ≡ wide.first → IsSlopeOf wider.second s' → IsLevelAt wider.second new.at bound' → SecondToRight ks new w (rest - (next_of ks rest).step) wider s' bound'
-  right_looks steps some h more same slope level = record {
+module _ (ks : List Kept) (new : EndAt) (k : Kept) (w wide wider : Wedge) (rest : ℕ) (s s' : Slope) (bound bound' : ℤ) where
+  pub right_looks : HasSteps ks → 0 < rest → IsNext ks rest k → SecondToRight ks new w rest wide s bound → IsWidened (Open wide) k.end new (Open wider) → wider.first ≡ wide.first → IsSlopeOf wider.second s' → IsLevelAt wider.second new.at bound' → SecondToRight ks new w (rest - k.step) wider s' bound'
+  right_looks steps some is h more same slope level = record {
     first = same ∙ h.first;
     slope = slope;
     level = level;
     top = rest - 1;
-    look = look_on ks rest h.top steps h.look some;
-    part = λ R c. right_back (kept_ends ks) R rest h.top (Open wide) wider new (next_of ks rest).end h.look some (next_at ks rest h.top h.look some) more (h.part R c);
+    look = look_on ks rest h.top k steps h.look some is;
+    part = λ R c. right_back (kept_ends ks) R rest h.top (Open wide) wider new k.end h.look some (next_at ks rest h.top k h.look some is) more (h.part R c);
   }
 
-  pub left_looks : HasSteps ks → 0 < rest → FirstToLeft ks new w rest wide s bound → IsWidened (Open wide) new (next_of ks rest).end (Open wider) → wider.second ≡ wide.second → IsSlopeOf wider.first s' → IsLevelAt wider.first new.at bound' → FirstToLeft ks new w (rest - (next_of ks rest).step) wider s' bound'
-  left_looks steps some h more same slope level = record {
+  pub left_looks : HasSteps ks → 0 < rest → IsNext ks rest k → FirstToLeft ks new w rest wide s bound → IsWidened (Open wide) new k.end (Open wider) → wider.second ≡ wide.second → IsSlopeOf wider.first s' → IsLevelAt wider.first new.at bound' → FirstToLeft ks new w (rest - k.step) wider s' bound'
+  left_looks steps some is h more same slope level = record {
     second = same ∙ h.second;
     slope = slope;
     level = level;
     top = rest - 1;
-    look = look_on ks rest h.top steps h.look some;
-    part = λ L c. left_back L (kept_ends ks) rest h.top (Open wide) wider new (next_of ks rest).end h.look some (next_at ks rest h.top h.look some) more (h.part L c);
+    look = look_on ks rest h.top k steps h.look some is;
+    part = λ L c. left_back L (kept_ends ks) rest h.top (Open wide) wider new k.end h.look some (next_at ks rest h.top k h.look some is) more (h.part L c);
   }
 
 -- nothing is left

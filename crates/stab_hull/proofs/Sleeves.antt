@@ -1,5 +1,5 @@
 -- Portals that a line passes, with what is of them on the stacks: one more of them, and fewer.
-use Rattle.std.proofs.Common.{◌≡◌, ℕ, ◌+◌, ◌-◌, ◌<◌, ◌≤◌, List, [], ◌∷◌, ◌++◌, length, take, Some, None, Ok, Err, get_or, refl, sym, ap, ◌∙◌, arith, inl, inr, subst, length-take-le}
+use Rattle.std.proofs.Common.{◌≡◌, ℕ, ◌+◌, ◌-◌, ◌<◌, ◌≤◌, List, [], ◌∷◌, ◌++◌, length, take, Some, None, Result, Ok, Err, get_or, refl, sym, ap, ◌∙◌, arith, inl, inr, subst, length-take-le}
 use Rattle.std.specs.Prelude.{map, option_map, slice_get}
 use Rattle.std.proofs.lemmas.Int.{ints}
 use Rattle.std.proofs.lemmas.List.{length-map, take-map, take_all, take-take, take-append-le}
@@ -21,10 +21,12 @@ use Rattle.stab_hull.specs.declared.turning.Turn.{Turn}
 use Rattle.stab_hull.specs.declared.turning.Turn.TheVariants.{Covered, Same, Moves, Stuck, Unseen}
 use Rattle.stab_hull.specs.declared.frame.Noted.{Noted}
 use Rattle.stab_hull.specs.declared.onward.Told.TheVariants as told
-use Rattle.stab_hull.specs.Answer.{IsBarredBy}
+use Rattle.stab_hull.specs.declared.Passed.{Passed}
+use Rattle.stab_hull.specs.declared.Passed.TheVariants as passed
+use Rattle.stab_hull.specs.Answer.{IsPassed, IsBarredBy}
 use Rattle.stab_hull.specs.History.{Counts, IsHistory}
 use Rattle.stab_hull.specs.Portals.{portal_of, portals_of, with_ends, IsConeOf}
-use Rattle.stab_hull.specs.Sleeves.{IsSleeve, IsCoveredLeft, IsCoveredRight, HasLastLeft, HasLastRight, TellsRight, TellsLeft, GoesBy, GoesOn, frame_of, note_of, frames_of, tells_of}
+use Rattle.stab_hull.specs.Sleeves.{IsSleeve, IsCoveredLeft, IsCoveredRight, HasLastLeft, HasLastRight, TellsRight, TellsLeft, GoesBy, GoesOn, IsTold, told_of, frame_of, note_of, frames_of, tells_of}
 use Rattle.stab_hull.specs.Stacks.{CoversLeft, CoversRight, KeepsFirst, IsConeOfEnds, IsTopCone, IsHullOf}
 use Rattle.stab_hull.specs.Turning.{IsRightTurn, IsLeftTurn}
 use Rattle.stab_hull.proofs.Barring.{right_barred, left_barred}
@@ -277,6 +279,12 @@ fewer_ends xs ys n e = ap (λ zs. portals_of (frames_of zs)) e ∙ ap portals_of
 
 pub fewer_notes : {N : Type 0} (xs ys : List (Noted N)) (n : ℕ) → ys ≡ take n xs → map note_of ys ≡ take n (map note_of xs)
 fewer_notes xs ys n e = ap (map note_of) e ∙ sym (take-map note_of n xs)
+
+-- what a search tells, where nothing was told before it
+pub searched : (old mid new : List EndPoints) (e : EndPoints) (r : Result Passed Memory) → mid ≡ old → IsTold mid e new (told_of r) → IsPassed old e new r
+searched old mid new e (Ok passed.Open) m h = subst (λ (es : List EndPoints). IsPassed es e new (Ok passed.Open)) m h
+searched old mid new e (Ok (passed.Stuck v)) m h = subst (λ (es : List EndPoints). IsPassed es e new (Ok (passed.Stuck v))) m h
+searched old mid new e (Err f) m h = h ∙ m
 
 -- the note stands with the portal
 pub goes_noted : {N : Type 0} (old new : List (Noted N)) (x : Noted N) (p : EndPoints) (ls rs : List EndAt) (cs : List Cone) → new ≡ old ++ x ∷ [] → GoesBy (portals_of (frames_of old)) p (frames_of new) ls rs cs (Ok told.Open) → GoesOn old x.note p new ls rs cs (Ok told.Open)

@@ -17,17 +17,9 @@ use Rattle.geom_exact.specs.ExtremeLines.Differences.{difference}
 use Rattle.geom_exact.specs.ExtremeLines.Spans.{arrow_of, Spans, first_of, second_of, pair_of, IsWidened, three_pairs}
 use Rattle.geom_exact.proofs.ExtremeLines.Widening.{made_arrow}
 use Rattle.geom_exact.proofs.ExtremeLines.EndsLemmas.{get_append, get_cases}
-use Rattle.stab_hull.specs.declared.chain.Kept.{Kept}
 use Rattle.stab_hull.specs.Stacks.{IsAmong, IsPairAmong, SpansEnds, IsOfEnds, IsConeOfEnds, AreStuckAmong, IsTopCone, IsAdded}
 use Rattle.math_base.proofs.Lists.{get_pushed}
 use Rattle.math_base.proofs.Options.{some_is_same, none_is_not_some, some_is_not_none}
-
--- what stands for an end where there is none
-abbrev pub no_end : EndAt
-no_end = record { code = 0; at = record { x = pos 0; y = pos 0 } }
-
-abbrev pub no_kept : Kept
-no_kept = record { end = no_end; step = 0 }
 
 -- the places of the first n ends
 abbrev pub Before : ℕ → ℕ → Type 0

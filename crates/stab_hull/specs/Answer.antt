@@ -10,9 +10,9 @@ use Rattle.stab_hull.specs.declared.Passed.TheVariants.{Open, Stuck}
 
 -- the line has the range of rays
 pub record IsLineInRange (a b c : ℤ) : Type 0 where
-  pub a_in : nat_abs a ≤ 2 ^ 20
-  pub b_in : nat_abs b ≤ 2 ^ 20
-  pub c_in : nat_abs c ≤ 2 ^ 37
+  pub a_in : nat_abs a ≤ 2 ^ 30
+  pub b_in : nat_abs b ≤ 2 ^ 30
+  pub c_in : nat_abs c ≤ 2 ^ 57
 
 -- no line splits the ends, as two to four of them show
 pub record IsBarredBy (es : List EndPoints) (e : Evidence) : Type 0 where

@@ -1,7 +1,7 @@
 //! Ends of one side, in order, with how a look at all of them goes back from each to the next: ends between two others on one
 //! line needn't be looked at, so that a straight row of many portals has few ends to look at.
 
-ghost use Rattle.std.specs.Prelude.{◌≡◌, ◌≤◌, ◌<◌, ◌++◌, ◌∷◌, [], ◌-ℤ◌, ◌*ℤ◌, take, length, unsigned_abs, OnOk, OnErr, IsTrue};
+ghost use Rattle.std.specs.Prelude.{◌≡◌, ◌≤◌, ◌<◌, ◌^◌, ◌++◌, ◌∷◌, [], ◌-ℤ◌, ◌*ℤ◌, take, length, unsigned_abs, OnOk, OnErr, IsTrue};
 ghost use Rattle.stab_hull.specs.Chains.{HasSteps, LiesBetween, kept_ends};
 
 use sight_names::{EndAt, Memory, Pt};
@@ -41,19 +41,21 @@ impl Model for Chain {
 }
 
 /// The way from `a` to `b`.
-fn difference(a: i16, b: i16) -> i64
+fn difference(a: i32, b: i32) -> i64
+    requires from { unsigned_abs a ≤ 2 ^ 25 }
+    requires to { unsigned_abs b ≤ 2 ^ 25 }
     ensures value { result ≡ b -ℤ a }
-    ensures bound { unsigned_abs result ≤ 65535 }
+    ensures bound { unsigned_abs result ≤ 2 ^ 26 }
 {
     b as i64 - a as i64
 }
 
 /// `a * b`, of two such ways.
 fn product(a: i64, b: i64) -> i64
-    requires left { unsigned_abs a ≤ 65535 }
-    requires right { unsigned_abs b ≤ 65535 }
+    requires left { unsigned_abs a ≤ 2 ^ 26 }
+    requires right { unsigned_abs b ≤ 2 ^ 26 }
     ensures value { result ≡ a *ℤ b }
-    ensures bound { unsigned_abs result ≤ 4294836225 }
+    ensures bound { unsigned_abs result ≤ 2 ^ 52 }
 {
     a * b
 }

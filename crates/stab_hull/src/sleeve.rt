@@ -99,7 +99,7 @@ impl Sleeve {
         self.track.cut(count);
     }
 
-    /// A line that splits the ends. |a| and |b| are at most 2^20, |c| is at most 2^37.
+    /// A line that splits the ends. |a| and |b| are at most 2^30, |c| is at most 2^57.
     pub fn line(&self) -> (i32, i32, i64)
         requires there { 0 < length self.now }
         ensures splits { SplitsEnds self.now result.0 result.1 result.2 }

@@ -1,6 +1,6 @@
 //! What an extreme line says of many points, one after the other: its values but for its constant.
 
-ghost use Rattle.std.specs.Prelude.{◌≡◌, ◌+ℤ◌, ◌*ℤ◌, ◌≤◌, ◌*◌, nat_abs};
+ghost use Rattle.std.specs.Prelude.{◌≡◌, ◌+ℤ◌, ◌*ℤ◌, ◌≤◌, ◌^◌, nat_abs};
 
 use geom_exact::extreme_lines::Extreme;
 use sight_names::Pt;
@@ -10,8 +10,8 @@ use sight_names::Pt;
 pub struct Slope {
     pub a: i64,
     pub b: i64,
-    pub ghost a_small: { nat_abs a ≤ 65535 },
-    pub ghost b_small: { nat_abs b ≤ 65535 },
+    pub ghost a_small: { nat_abs a ≤ 2 ^ 26 },
+    pub ghost b_small: { nat_abs b ≤ 2 ^ 26 },
 }
 
 impl Slope {
@@ -32,17 +32,18 @@ impl Slope {
     #[inline(always)]
     pub fn level(&self, p: &Pt) -> i64
         ensures value { result ≡ self.now.a *ℤ p.now.x +ℤ self.now.b *ℤ p.now.y }
-        ensures bound { nat_abs result ≤ 2 * (65535 * 32768) }
+        ensures bound { nat_abs result ≤ 2 ^ 52 }
     {
         scaled(self.a, p.x) + scaled(self.b, p.y)
     }
 }
 
 /// `a * x`, for a difference of coordinates and a coordinate.
-fn scaled(a: i64, x: i16) -> i64
-    requires { nat_abs a ≤ 65535 }
+fn scaled(a: i64, x: i32) -> i64
+    requires left { nat_abs a ≤ 2 ^ 26 }
+    requires right { nat_abs x ≤ 2 ^ 25 }
     ensures value { result ≡ a *ℤ x }
-    ensures bound { nat_abs result ≤ 65535 * 32768 }
+    ensures bound { nat_abs result ≤ 2 ^ 51 }
 {
     a * x as i64
 }

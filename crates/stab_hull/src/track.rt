@@ -125,7 +125,7 @@ impl<N: Copy> Track<N> {
         }
     }
 
-    /// A line that splits the ends. |a| and |b| are at most 2^20, |c| is at most 2^37.
+    /// A line that splits the ends. |a| and |b| are at most 2^30, |c| is at most 2^57.
     pub fn line(&self) -> (i32, i32, i64)
         requires track { IsTrack self.now }
         requires there { 0 < length self.now.portals.items }

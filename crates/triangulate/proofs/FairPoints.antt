@@ -19,7 +19,7 @@ use Rattle.geom_exact.proofs.Uniqueness.{same_trans}
 use Rattle.math_base.proofs.Small.{same_where_no_difference, some_square}
 use Rattle.mesh_base.proofs.MakeNet.{crossing, apart_of}
 use Rattle.sight_names.proofs.Meets.{same_whole}
-use Rattle.sight_names.proofs.Records.{pt_of_numbers, whole_same}
+use Rattle.sight_names.proofs.Records.{same_pt, whole_same}
 use Rattle.sight_names.proofs.Laws.{same_point_sym}
 use Rattle.mesh_base.proofs.MapFacts.{far_is}
 
@@ -66,7 +66,7 @@ pub differ_of : (p q : Pt) → p ≢ q → Differ (at_pt p) (at_pt q)
 differ_of p q n = record {
   first = refl;
   second = refl;
-  far = subst (λ (k : ℤ). pos 0 <ℤ k) (sym (far_is p.x p.y q.x q.y)) (some_square (q.x -ℤ p.x) (q.y -ℤ p.y) (λ h. n (pt_of_numbers p.x p.y q.x q.y (same_where_no_difference p.x q.x h.0) (same_where_no_difference p.y q.y h.1))));
+  far = subst (λ (k : ℤ). pos 0 <ℤ k) (sym (far_is p.x p.y q.x q.y)) (some_square (q.x -ℤ p.x) (q.y -ℤ p.y) (λ h. n (same_pt p q (same_where_no_difference p.x q.x h.0) (same_where_no_difference p.y q.y h.1))));
 }
 
 -- ---- from points to vectors
@@ -148,20 +148,17 @@ pub data HowMet (p q s t : Pt) : Type 0 where
   met_at_ends : MeetAtEnds p q s t → HowMet p q s t
   met_within : ¬ MeetsFairly (at_pt p) (at_pt q) (at_pt s) (at_pt t) → HowMet p q s t
 
-same_pt : (p q : Pt) → (p ≡ q) ⊎ (p ≢ q)
-same_pt p q = go p.x p.y q.x q.y
+same_or_other : (p q : Pt) → (p ≡ q) ⊎ (p ≢ q)
+same_or_other p q = elim (same_whole p.x q.x) [
+  | inl e ↦ elim (same_whole p.y q.y) [ inl f ↦ inl (same_pt p q e f) | inr n ↦ inr (λ h. n (ap (λ (r : Pt). r.y) h)) ]
+  | inr n ↦ inr (λ h. n (ap (λ (r : Pt). r.x) h))
+]
   where
-    go : (a b c d : ℤ) → (◌≡◌ {A = Pt} (record { x = a; y = b }) (record { x = c; y = d })) ⊎ ¬ (◌≡◌ {A = Pt} (record { x = a; y = b }) (record { x = c; y = d }))
-    go a b c d = elim (same_whole a c) [
-      | inl e ↦ elim (same_whole b d) [ inl f ↦ inl (λ i. record { x = e i; y = f i }) | inr n ↦ inr (λ h. n (ap (λ (r : Pt). r.y) h)) ]
-      | inr n ↦ inr (λ h. n (ap (λ (r : Pt). r.x) h))
+    same_whole : (a b : ℤ) → (a ≡ b) ⊎ ¬ (a ≡ b)
+    same_whole a b = elim (le_or_lt a b) [
+      | inl h ↦ elim (le_or_lt b a) [ inl k ↦ inl (omega (arith, ints)) | inr k ↦ inr (λ e. omega (arith, ints)) ]
+      | inr h ↦ inr (λ e. omega (arith, ints))
     ]
-      where
-        same_whole : (a b : ℤ) → (a ≡ b) ⊎ ¬ (a ≡ b)
-        same_whole a b = elim (le_or_lt a b) [
-          | inl h ↦ elim (le_or_lt b a) [ inl k ↦ inl (omega (arith, ints)) | inr k ↦ inr (λ e. omega (arith, ints)) ]
-          | inr h ↦ inr (λ e. omega (arith, ints))
-        ]
 
 same_ends_or_not : (p q s t : Pt) → SameEnds p q s t ⊎ ¬ SameEnds p q s t
 same_ends_or_not p q s t = elim (both p s q t) [
@@ -170,8 +167,8 @@ same_ends_or_not p q s t = elim (both p s q t) [
 ]
   where
     both : (a b c d : Pt) → ((a ≡ b) × (c ≡ d)) ⊎ ¬ ((a ≡ b) × (c ≡ d))
-    both a b c d = elim (same_pt a b) [
-      | inl e ↦ elim (same_pt c d) [ inl f ↦ inl (e, f) | inr n ↦ inr (λ h. n h.1) ]
+    both a b c d = elim (same_or_other a b) [
+      | inl e ↦ elim (same_or_other c d) [ inl f ↦ inl (e, f) | inr n ↦ inr (λ h. n h.1) ]
       | inr n ↦ inr (λ h. n h.0)
     ]
 

@@ -1,4 +1,6 @@
-pub mod Grid
+pub mod Exact
+pub mod FarNumbers
 pub mod OnWay
 pub mod Spelled
 pub mod Standing
+pub mod Units

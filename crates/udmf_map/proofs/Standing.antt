@@ -1,18 +1,22 @@
 -- That the records of a text stand in its lumps.
-use Rattle.std.proofs.Common.{◌≡◌, ◌<◌, ℕ, zero, suc, ◌+◌, ◌-◌, ◌*◌, ◌^◌, leb, eqb, Bool, true, false, cond, List, [], ◌∷◌, ◌++◌, length, take, drop, slice_range, slice_get, Some, refl, ap, ◌∙◌, arith, length-append, FitsSigned, ℤ, pos, negsuc}
+use Rattle.std.proofs.Common.{◌≡◌, ◌<◌, ℕ, zero, suc, ◌+◌, ◌-◌, ◌*◌, ◌^◌, leb, eqb, Bool, true, false, cond, List, [], ◌∷◌, ◌++◌, length, take, drop, slice_range, slice_get, Some, None, refl, ap, ◌∙◌, arith, length-append, ℤ, pos, negsuc, nat_abs, ◌*ℤ◌, min, unwrap_or, ◌≤◌}
 use Rattle.std.proofs.lemmas.Int.{ints}
 use Rattle.std.proofs.lemmas.List.{length-replicate}
 use Rattle.std.specs.List.{flat_map}
-use Rattle.std.specs.Int.{from_le_bytes, cast_unsigned, cast_signed, w16}
+use Rattle.std.specs.Int.{from_le_bytes, cast_unsigned, cast_signed, w16, w32}
 use Rattle.std.proofs.Math.Seq.{drop-append-add}
 use Rattle.std.proofs.lemmas.Bool.{leb-true}
-use Rattle.std.proofs.lemmas.Nat.{from_le_bytes-to_le_bytes_2}
+use Rattle.std.proofs.lemmas.Nat.{from_le_bytes-to_le_bytes_2, from_le_bytes-to_le_bytes_4}
 use Rattle.math_base.proofs.Lists.{drop_more}
-use Rattle.sight_names.specs.Lumps.{u16_at}
+use Rattle.sight_names.specs.Lumps.{u16_at, i32_at}
+use Rattle.sight_names.specs.declared.limits.TheConstants.{FARTHEST}
+use Rattle.udmf_map.specs.declared.values.Coordinate.{Coordinate}
+use Rattle.udmf_map.specs.declared.values.Coordinate.TheVariants.{Missing, OffGrid, At}
 use Rattle.udmf_map.specs.declared.blocks.Vertex.{Vertex}
 use Rattle.udmf_map.specs.declared.blocks.Linedef.{Linedef}
 use Rattle.udmf_map.specs.Reading.{Read}
-use Rattle.udmf_map.specs.Lumps.{u16, number, side_number, flags, linedef_bytes, sidedef_bytes, units, vertex_bytes, lumps_of}
+use Rattle.udmf_map.specs.Grid.{places_of, on_grid}
+use Rattle.udmf_map.specs.Lumps.{u16, number, side_number, flags, linedef_bytes, sidedef_bytes, i32, placed, vertex_bytes, lumps_of}
 use Rattle.udmf_map.specs.Standing.{HasLine, HasVertex, RecordsStand}
 
 -- ---- records of one length, one behind the other
@@ -82,9 +86,6 @@ linedef_wide l = refl
 sidedef_wide : (s : ℤ) → length (sidedef_bytes s) ≡ 30
 sidedef_wide s = refl
 
-vertex_wide : (v : Vertex) → length (vertex_bytes v) ≡ 4
-vertex_wide v = refl
-
 has_line : (r : Read) (k : ℕ) (l : Linedef) → slice_get r.lines k ≡ Some l → HasLine (lumps_of r) k l
 unfolding linedef_bytes
 has_line r k l e =
@@ -104,27 +105,56 @@ has_side r k sector e =
     let s = stands sidedef_bytes 30 sidedef_wide r.sides k sector e in
     number_at (flat_map sidedef_bytes r.sides) (sidedef_bytes sector ++ s.more) (30 * k) 28 (number sector) s.is refl (number_small sector)
 
-signed_small : (z : ℤ) → FitsSigned w16 z → cast_unsigned w16 z < 2 ^ 16
-signed_small z fits = omega (arith, ints, fits)
+four_at : (xs ys : List ℕ) (a b : ℕ) → drop a xs ≡ ys → slice_range xs (a + b) (a + b + 4) ≡ take 4 (drop b ys)
+four_at xs ys a b e =
+    let four : a + b + 4 - (a + b) ≡ 4 = omega arith in
+    ap (λ (n : ℕ). take n (drop (a + b) xs)) four ∙ ap (take 4) (drop_more a b xs ∙ ap (drop b) e)
 
-signed_back : (z : ℤ) → FitsSigned w16 z → cast_signed w16 (cast_unsigned w16 z) ≡ z
-signed_back z fits = omega (arith, ints, fits)
+placed_near : (places : ℕ) (c : Coordinate) → nat_abs (placed places c) ≤ FARTHEST
+placed_near places Missing = omega arith
+placed_near places OffGrid = omega arith
+placed_near places (At n own) = by_grid (leb own places)
+  where
+    z : ℤ
+    z = n *ℤ pos (10 ^ min (places - own) 7)
 
-has_vertex : (r : Read) (k : ℕ) (v : Vertex) → slice_get r.vertices k ≡ Some v → FitsSigned w16 (units v.x) → FitsSigned w16 (units v.y) → HasVertex (lumps_of r) k v
-has_vertex r k v e x y =
-    let s = stands vertex_bytes 4 vertex_wide r.vertices k v e in
-    let xs : List ℕ = flat_map vertex_bytes r.vertices in
-    let ys : List ℕ = vertex_bytes v ++ s.more in
+    by_near : (b : Bool) → leb (nat_abs z) FARTHEST ≡ b → nat_abs (unwrap_or (cond b (Some z) None) (pos 0)) ≤ FARTHEST
+    by_near true e = leb-true (nat_abs z) FARTHEST e
+    by_near false e = omega arith
+
+    by_grid : (b : Bool) → nat_abs (unwrap_or (cond b (on_grid z) None) (pos 0)) ≤ FARTHEST
+    by_grid true = by_near (leb (nat_abs z) FARTHEST) refl
+    by_grid false = omega arith
+
+near_small : (z : ℤ) → nat_abs z ≤ FARTHEST → cast_unsigned w32 z < 2 ^ 32
+near_small z near = omega (arith, ints, near)
+
+near_back : (z : ℤ) → nat_abs z ≤ FARTHEST → cast_signed w32 (cast_unsigned w32 z) ≡ z
+near_back z near = omega (arith, ints, near)
+
+coordinate_at : (xs ys : List ℕ) (a b : ℕ) (z : ℤ) → drop a xs ≡ ys → take 4 (drop b ys) ≡ i32 z → nat_abs z ≤ FARTHEST → i32_at xs (a + b) ≡ z
+coordinate_at xs ys a b z e four near = ap (λ (n : List ℕ). cast_signed w32 (from_le_bytes w32 n)) (four_at xs ys a b e ∙ four) ∙ (ap (cast_signed w32) (from_le_bytes-to_le_bytes_4 (cast_unsigned w32 z) (near_small z near)) ∙ near_back z near)
+
+vertex_wide : (places : ℕ) (v : Vertex) → length (vertex_bytes places v) ≡ 8
+vertex_wide places v = refl
+
+has_vertex : (r : Read) (k : ℕ) (v : Vertex) → slice_get r.vertices k ≡ Some v → HasVertex (lumps_of r) (places_of r.vertices r.lines) k v
+has_vertex r k v e =
+    let places : ℕ = places_of r.vertices r.lines in
+    let s = stands (vertex_bytes places) 8 (vertex_wide places) r.vertices k v e in
+    let xs : List ℕ = flat_map (vertex_bytes places) r.vertices in
+    let ys : List ℕ = vertex_bytes places v ++ s.more in
+    let here : 8 * k ≡ 8 * k + 0 = omega arith in
     record {
-      x = ap (cast_signed w16) (first_at xs ys (4 * k) (cast_unsigned w16 (units v.x)) s.is refl (signed_small (units v.x) x)) ∙ signed_back (units v.x) x;
-      y = ap (cast_signed w16) (number_at xs ys (4 * k) 2 (cast_unsigned w16 (units v.y)) s.is refl (signed_small (units v.y) y)) ∙ signed_back (units v.y) y;
+      x = ap (i32_at xs) here ∙ coordinate_at xs ys (8 * k) 0 (placed places v.x) s.is refl (placed_near places v.x);
+      y = coordinate_at xs ys (8 * k) 4 (placed places v.y) s.is refl (placed_near places v.y);
     }
 
 pub records_stand : RecordsStand
 records_stand r = record {
   linedefs = all_length linedef_bytes 14 linedef_wide r.lines;
   sidedefs = all_length sidedef_bytes 30 sidedef_wide r.sides;
-  vertexes = all_length vertex_bytes 4 vertex_wide r.vertices;
+  vertexes = all_length (vertex_bytes (places_of r.vertices r.lines)) 8 (vertex_wide (places_of r.vertices r.lines)) r.vertices;
   sectors = length-replicate {A = ℕ} (26 * r.sectors) 0;
   line = has_line r;
   side = has_side r;

@@ -1,6 +1,8 @@
 pub mod Values
+pub mod Exact
 pub mod Blocks
 pub mod Reading
+pub mod Grid
 pub mod Checks
 pub mod Lumps
 pub mod Places

@@ -1,13 +1,14 @@
--- The four lumps that a text spells, in Doom's format (the Unofficial Doom Specs on LINEDEFS, SIDEDEFS, VERTEXES, SECTORS).
-use Rattle.std.specs.Prelude.{ℕ, ◌+◌, ◌*◌, ◌==◌, nat_le, List, ◌++◌, flat_map, replicate, Option, Some, None, Result, Ok, Err, if◌then◌else◌, ℤ, pos, negsuc}
-use Rattle.std.specs.Int.{to_le_bytes, cast_unsigned, w16}
+-- The four lumps that a text spells, in Doom's format but for VERTEXES, whose coordinates have 32 bits (the Unofficial Doom
+-- Specs on LINEDEFS, SIDEDEFS, VERTEXES, SECTORS).
+use Rattle.std.specs.Prelude.{ℕ, ◌+◌, ◌*◌, ◌==◌, nat_le, List, ◌++◌, flat_map, replicate, Option, Some, None, unwrap_or, Result, Ok, Err, if◌then◌else◌, ℤ, pos, negsuc}
+use Rattle.std.specs.Int.{to_le_bytes, cast_unsigned, w16, w32}
 use Rattle.udmf_map.specs.declared.values.Coordinate.{Coordinate}
-use Rattle.udmf_map.specs.declared.values.Coordinate.TheVariants.{Missing, OffGrid, At}
 use Rattle.udmf_map.specs.declared.blocks.Vertex.{Vertex}
 use Rattle.udmf_map.specs.declared.blocks.Linedef.{Linedef}
 use Rattle.udmf_map.specs.declared.lumps.FourLumps.{FourLumps}
 use Rattle.udmf_map.specs.declared.faults.TextFault.{TextFault}
 use Rattle.udmf_map.specs.Reading.{Read, text_read}
+use Rattle.udmf_map.specs.Grid.{places_of, units}
 use Rattle.udmf_map.specs.Checks.{records_fault}
 
 pub record LumpBytes : Type 0 where
@@ -42,17 +43,18 @@ linedef_bytes l = u16 (number l.first) ++ u16 (number l.second) ++ u16 (flags l)
 abbrev pub sidedef_bytes : ℤ → List ℕ
 sidedef_bytes sector = replicate 28 0 ++ u16 (number sector)
 
--- a coordinate that no line needs may be missing
-abbrev pub units : Coordinate → ℤ
-units Missing = pos 0
-units OffGrid = pos 0
-units (At n) = n
+-- a coordinate in the map's unit. One that no line needs may be off the grid
+abbrev pub placed : ℕ → Coordinate → ℤ
+placed places c = unwrap_or (units places c) (pos 0)
 
-abbrev pub vertex_bytes : Vertex → List ℕ
-vertex_bytes v = u16 (cast_unsigned w16 (units v.x)) ++ u16 (cast_unsigned w16 (units v.y))
+abbrev pub i32 : ℤ → List ℕ
+i32 z = to_le_bytes w32 (cast_unsigned w32 z)
+
+abbrev pub vertex_bytes : ℕ → Vertex → List ℕ
+vertex_bytes places v = i32 (placed places v.x) ++ i32 (placed places v.y)
 
 abbrev pub lumps_of : Read → LumpBytes
-lumps_of r = record { linedefs = flat_map linedef_bytes r.lines; sidedefs = flat_map sidedef_bytes r.sides; vertexes = flat_map vertex_bytes r.vertices; sectors = replicate (26 * r.sectors) 0 }
+lumps_of r = record { linedefs = flat_map linedef_bytes r.lines; sidedefs = flat_map sidedef_bytes r.sides; vertexes = flat_map (vertex_bytes (places_of r.vertices r.lines)) r.vertices; sectors = replicate (26 * r.sectors) 0 }
 
 abbrev pub lumps_or : Option TextFault → LumpBytes → Result LumpBytes TextFault
 lumps_or (Some fault) lumps = Err fault

@@ -1,9 +1,10 @@
 -- The values that keys take, and what each spells.
-use Rattle.std.specs.Prelude.{ℕ, ◌-◌, ◌*◌, ◌/◌, ◌%◌, ◌^◌, ◌==◌, suc, nat_le, Bool, true, false, List, Option, Some, None, option_map, codes, if◌then◌else◌, ℤ, pos, negsuc, neg_ℤ, nat_abs, int_lt}
+use Rattle.std.specs.Prelude.{ℕ, zero, suc, ◌-◌, ◌*◌, ◌/◌, ◌%◌, ◌^◌, ◌==◌, nat_le, Bool, true, false, ◌&&◌, List, Option, Some, None, option_map, codes, if◌then◌else◌, ℤ, pos, negsuc, neg_ℤ, nat_abs, int_lt}
 use Rattle.std.specs.Str.{str_eq_ignore_ascii_case}
 use Rattle.udmf_text.specs.declared.text_numbers.decimal.Decimal.{Decimal}
 use Rattle.udmf_map.specs.declared.values.Coordinate.{Coordinate}
 use Rattle.udmf_map.specs.declared.values.Coordinate.TheVariants.{OffGrid, At}
+use Rattle.sight_names.specs.declared.limits.TheConstants.{FARTHEST}
 use Rattle.udmf_text.specs.TextNumbers.Whole.{whole_of}
 use Rattle.udmf_text.specs.TextNumbers.Decimal.{decimal_of}
 use Rattle.udmf_text.specs.Parts.{GivenBytes}
@@ -50,27 +51,23 @@ number_of word = elim (whole_of word) [
   | None ↦ decimal_of word
 ]
 
--- a number divided by another, where nothing is left over
-abbrev pub divided : ℕ → ℕ → Option ℕ
-divided m n = if m % n == 0 then Some (m / n) else None
+-- the coordinate with this absolute value in the unit of so many decimal places, on one side of 0. It has seven places at most:
+-- by the unit of an eighth one a point's coordinates would end before 1
+abbrev pub signed : Bool → ℕ → ℕ → Coordinate
+signed negative n places = if nat_le n FARTHEST && nat_le places 7 then At (if negative then neg_ℤ (pos n) else pos n) places else OffGrid
 
--- a mantissa times a power of ten, where that is whole
-abbrev pub whole_part : ℕ → ℤ → Option ℕ
-whole_part m (pos k) = Some (m * 10 ^ k)
-whole_part m (negsuc k) = divided m (10 ^ suc k)
+-- a number divided by a power of ten. Zeros at the end of its decimal places go, so that it has as few as it can
+abbrev pub lowered : Bool → ℕ → ℕ → Coordinate
+lowered negative m zero = signed negative m 0
+lowered negative m (suc k) = if m % 10 == 0 then lowered negative (m / 10) k else signed negative m (suc k)
 
--- the coordinate with this absolute value, on one side of 0: from -32,768 to 32,767
-abbrev pub signed : Bool → ℕ → Coordinate
-signed true n = if nat_le n 32768 then At (neg_ℤ (pos n)) else OffGrid
-signed false n = if nat_le n 32767 then At (pos n) else OffGrid
+-- a number times a power of ten
+abbrev pub scaled : Bool → ℕ → ℤ → Coordinate
+scaled negative m (pos k) = signed negative (m * 10 ^ k) 0
+scaled negative m (negsuc k) = lowered negative m (suc k)
 
-abbrev pub on_grid : Bool → Option ℕ → Coordinate
-on_grid negative (Some n) = signed negative n
-on_grid negative None = OffGrid
-
--- where a number is on the grid
 abbrev pub coordinate_of : Decimal → Coordinate
-coordinate_of d = on_grid d.negative (whole_part d.mantissa d.scale)
+coordinate_of d = scaled d.negative d.mantissa d.scale
 
 abbrev pub coordinate_given : GivenBytes → Option Coordinate
 coordinate_given g = option_then (word_given g) (λ word. option_map coordinate_of (number_of word))

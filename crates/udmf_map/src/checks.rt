@@ -2,12 +2,12 @@
 
 ghost use Rattle.std.specs.Prelude.{◌≡◌};
 ghost use Rattle.udmf_map.specs.Reading.{read_of};
-ghost use Rattle.udmf_map.specs.Checks.{has_portals as has_portals_lem, is_portal as is_portal_lem, first_from, portal_of as portal_of_lem, is_placed as is_placed_lem, end_off_grid as end_off_grid_lem, line_off_grid as line_off_grid_lem, lines_off_grid, records_fault as records_fault_lem};
+ghost use Rattle.udmf_map.specs.Checks.{has_portals as has_portals_lem, is_portal as is_portal_lem, first_from, portal_of as portal_of_lem, records_fault as records_fault_lem};
 
-use crate::blocks::{Linedef, Vertex};
+use crate::blocks::Linedef;
 use crate::faults::TextFault;
+use crate::grid::{first_off_grid, places_of};
 use crate::reading::{Namespace, Records};
-use crate::values::Coordinate;
 
 /// The most blocks of vertices, and of sides: LINEDEFS has 16 bits for their numbers, of which one side is none.
 const MOST_VERTICES: usize = 65_535;
@@ -59,50 +59,6 @@ fn portal_of(namespace: Option<Namespace>, lines: &[Linedef]) -> Option<usize>
     first_portal(lines)
 }
 
-fn is_placed(vertex: &Vertex) -> bool
-    ensures { result ≡ is_placed_lem vertex.now }
-{
-    matches!(vertex.x, Coordinate::At(_)) && matches!(vertex.y, Coordinate::At(_))
-}
-
-/// The number of a vertex that isn't on the grid; None for one that is, or isn't there.
-fn end_off_grid(vertices: &[Vertex], number: i32) -> Option<usize>
-    ensures { result ≡ end_off_grid_lem vertices.now number }
-{
-    if number < 0 {
-        return None;
-    }
-    let vertex = vertices.get(number as usize)?;
-    if is_placed(vertex) {
-        return None;
-    }
-    Some(number as usize)
-}
-
-/// The first vertex of a line that isn't on the grid.
-fn line_off_grid(vertices: &[Vertex], line: &Linedef) -> Option<usize>
-    ensures { result ≡ line_off_grid_lem vertices.now line.now }
-{
-    match end_off_grid(vertices, line.first) {
-        Some(vertex) => Some(vertex),
-        None => end_off_grid(vertices, line.second),
-    }
-}
-
-/// The first vertex of lines that isn't on the grid.
-fn first_off_grid(vertices: &[Vertex], lines: &[Linedef]) -> Option<usize>
-    ensures { result ≡ lines_off_grid vertices.now lines.now }
-{
-    let mut rest = lines;
-    while let [line, more @ ..] = rest {
-        if let Some(vertex) = line_off_grid(vertices, line) {
-            return Some(vertex);
-        }
-        rest = more;
-    }
-    None
-}
-
 /// The first check of the records that fails.
 pub fn records_fault(read: &Records) -> Option<TextFault>
     ensures { result ≡ records_fault_lem (read_of read.now) }
@@ -118,7 +74,9 @@ pub fn records_fault(read: &Records) -> Option<TextFault>
     if let Some(line) = portal_of(read.namespace, read.lines.as_slice()) {
         return Some(TextFault::Portal { line });
     }
-    if let Some(vertex) = first_off_grid(read.vertices.as_slice(), read.lines.as_slice()) {
+    let vertices = read.vertices.as_slice();
+    let lines = read.lines.as_slice();
+    if let Some(vertex) = first_off_grid(places_of(vertices, lines), vertices, lines) {
         return Some(TextFault::OffGrid { vertex });
     }
     None

@@ -1,9 +1,10 @@
-//! The map that a text of UDMF spells: the records of its blocks, and the four lumps of the same map in Doom's format.
+//! The map that a text of UDMF spells: the records of its blocks, and the four lumps of the same map.
 #![tactic(auto)]
 
 mod blocks;
 mod checks;
 mod faults;
+mod grid;
 pub mod laws;
 mod lumps;
 mod places;

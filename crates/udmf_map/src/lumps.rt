@@ -1,12 +1,13 @@
-//! The four lumps of the map that a text spells, in Doom's format.
+//! The four lumps of the map that a text spells, in Doom's format but for VERTEXES, whose coordinates have 32 bits.
 
 ghost use Rattle.std.specs.Prelude.{◌≡◌, ◌*◌, IfOk, flat_map, replicate};
 ghost use Rattle.udmf_map.specs.Reading.{Answers, read_of};
-ghost use Rattle.udmf_map.specs.Lumps.{number as number_lem, side_number as side_number_lem, flags as flags_lem, linedef_bytes, sidedef_bytes, units as units_lem, vertex_bytes, lump_bytes, lumps_of as lumps_of_lem, lumps_of_text as lumps_of_text_lem};
+ghost use Rattle.udmf_map.specs.Lumps.{number as number_lem, side_number as side_number_lem, flags as flags_lem, linedef_bytes, sidedef_bytes, placed as placed_lem, vertex_bytes, lump_bytes, lumps_of as lumps_of_lem, lumps_of_text as lumps_of_text_lem};
 
 use crate::blocks::{Linedef, Vertex};
 use crate::checks::records_fault;
 use crate::faults::TextFault;
+use crate::grid::{places_of, units};
 use crate::reading::{Records, read_text};
 use crate::values::Coordinate;
 use std::alloc::{AllocError, Global};
@@ -114,30 +115,28 @@ fn sidedefs_of(alloc: Global, sides: &[i32]) -> Result<Vec<u8>, AllocError>
     Ok(bytes)
 }
 
-fn units(coordinate: Coordinate) -> i16
-    ensures { result ≡ units_lem coordinate }
+/// The coordinate in the map's unit; 0 for one that isn't on the grid, which no line needs.
+fn placed(places: u8, coordinate: Coordinate) -> i32
+    ensures { result ≡ placed_lem places coordinate }
 {
-    match coordinate {
-        Coordinate::Missing | Coordinate::OffGrid => 0,
-        Coordinate::At(n) => n,
-    }
+    units(places, coordinate).unwrap_or(0)
 }
 
-fn vertex_record(vertex: &Vertex) -> [u8; 4]
-    ensures { result ≡ vertex_bytes vertex.now }
+fn vertex_record(places: u8, vertex: &Vertex) -> [u8; 8]
+    ensures { result ≡ vertex_bytes places vertex.now }
 {
-    let [x, x_high] = units(vertex.x).to_le_bytes();
-    let [y, y_high] = units(vertex.y).to_le_bytes();
-    [x, x_high, y, y_high]
+    let [x0, x1, x2, x3] = placed(places, vertex.x).to_le_bytes();
+    let [y0, y1, y2, y3] = placed(places, vertex.y).to_le_bytes();
+    [x0, x1, x2, x3, y0, y1, y2, y3]
 }
 
-fn vertexes_of(alloc: Global, vertices: &[Vertex]) -> Result<Vec<u8>, AllocError>
-    ensures { IfOk result (λ v. v.items ≡ flat_map vertex_bytes vertices.now) }
+fn vertexes_of(alloc: Global, places: u8, vertices: &[Vertex]) -> Result<Vec<u8>, AllocError>
+    ensures { IfOk result (λ v. v.items ≡ flat_map (vertex_bytes places) vertices.now) }
 {
     let mut bytes = Vec::new(alloc);
     let mut rest = vertices;
     while let [vertex, more @ ..] = rest {
-        bytes.extend_from_slice(&vertex_record(vertex))?;
+        bytes.extend_from_slice(&vertex_record(places, vertex))?;
         rest = more;
     }
     Ok(bytes)
@@ -153,10 +152,12 @@ fn sectors_of(alloc: Global, sectors: u32) -> Result<Vec<u8>, AllocError>
 fn lumps_of(alloc: Global, read: &Records) -> Result<FourLumps, AllocError>
     ensures { IfOk result (λ lumps. lump_bytes lumps ≡ lumps_of_lem (read_of read.now)) }
 {
+    let lines = read.lines.as_slice();
+    let vertices = read.vertices.as_slice();
     Ok(FourLumps {
-        linedefs: linedefs_of(alloc, read.lines.as_slice())?,
+        linedefs: linedefs_of(alloc, lines)?,
         sidedefs: sidedefs_of(alloc, read.sides.as_slice())?,
-        vertexes: vertexes_of(alloc, read.vertices.as_slice())?,
+        vertexes: vertexes_of(alloc, places_of(vertices, lines), vertices)?,
         sectors: sectors_of(alloc, read.sectors)?,
     })
 }

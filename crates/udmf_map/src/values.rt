@@ -2,19 +2,24 @@
 
 ghost use Rattle.std.specs.Prelude.{◌≡◌, ◌≤◌, ◌*◌, ◌^◌, option_map};
 ghost use Rattle.udmf_text.specs.Parts.{given_bytes};
-ghost use Rattle.udmf_map.specs.Values.{is_word as is_word_lem, word_given, saturated as saturated_lem, whole_given, truth_given, of_whole as of_whole_lem, number_of, divided, signed as signed_lem, on_grid, coordinate_of, coordinate_given};
+ghost use Rattle.udmf_map.specs.Values.{is_word as is_word_lem, word_given, saturated as saturated_lem, whole_given, truth_given, of_whole as of_whole_lem, number_of, signed as signed_lem, lowered as lowered_lem, coordinate_of, coordinate_given};
 
+use sight_names::FARTHEST;
 use udmf_text::Given;
 use udmf_text::text_numbers::{Decimal, decimal_number, whole_number};
 
-/// A coordinate of a vertex, in map units.
+/// The most decimal places of a coordinate.
+pub const MOST_PLACES: u8 = 7;
+
+/// A coordinate of a vertex.
 #[derive(Clone, Copy, PartialEq, Eq)]
 pub enum Coordinate {
     /// It isn't given.
     Missing,
-    /// It isn't a whole number from -32,768 to 32,767.
+    /// It has more than seven decimal places, or is farther from 0 than 2^25 units of its last one.
     OffGrid,
-    At(i16),
+    /// So many units of its last decimal place, of which it has as few as it can.
+    At { units: i32, places: u8 },
 }
 
 /// Whether the word is this one, in upper or in lower case.
@@ -87,56 +92,57 @@ fn number(word: &[u8]) -> Option<Decimal>
     }
 }
 
-/// The coordinate with this absolute value, on one side of 0.
-fn signed(negative: bool, n: u128) -> Coordinate
-    ensures { result ≡ signed_lem negative n }
+/// The coordinate with this absolute value in the unit of so many decimal places, on one side of 0.
+fn signed(negative: bool, n: u128, places: u128) -> Coordinate
+    ensures { result ≡ signed_lem negative n places }
 {
-    if negative {
-        if n > 32_768 {
-            return Coordinate::OffGrid;
-        }
-        return Coordinate::At((-(n as i32)) as i16);
-    }
-    if n > 32_767 {
+    if n > FARTHEST as u128 || places > MOST_PLACES as u128 {
         return Coordinate::OffGrid;
     }
-    Coordinate::At(n as i16)
+    let units = n as i32;
+    Coordinate::At {
+        units: if negative { -units } else { units },
+        places: places as u8,
+    }
 }
 
 /// The coordinate of a number times a power of ten.
 fn raised(negative: bool, mantissa: u128, power: u128) -> Coordinate
     requires { 1 ≤ mantissa }
-    ensures { result ≡ signed_lem negative (mantissa * 10 ^ power) }
+    ensures { result ≡ signed_lem negative (mantissa * 10 ^ power) 0 }
 {
-    if mantissa > 32_768 {
+    if mantissa > FARTHEST as u128 {
         return Coordinate::OffGrid;
     }
-    if power > 4 {
+    if power > MOST_PLACES as u128 {
         return Coordinate::OffGrid;
     }
-    signed(negative, mantissa * 10u128.pow(power as u32))
+    signed(negative, mantissa * 10u128.pow(power as u32), 0)
 }
 
 /// The coordinate of a number divided by a power of ten.
 fn lowered(negative: bool, mantissa: u128, power: u128) -> Coordinate
-    requires { 1 ≤ mantissa }
-    ensures { result ≡ on_grid negative (divided mantissa (10 ^ power)) }
+    ensures { result ≡ lowered_lem negative mantissa power }
 {
-    if power > 38 {
-        return Coordinate::OffGrid;
+    let mut left = mantissa;
+    let mut places = power;
+    while places > 0 && left % 10 == 0 {
+        left /= 10;
+        places -= 1;
     }
-    let divisor = 10u128.pow(power as u32);
-    if mantissa % divisor != 0 {
-        return Coordinate::OffGrid;
-    }
-    signed(negative, mantissa / divisor)
+    signed(negative, left, places)
 }
 
+#[tactic(auto, using(crate::proofs::FarNumbers::zero_scaled, crate::proofs::FarNumbers::lowered_scaled, crate::proofs::FarNumbers::raised_scaled))]
 fn coordinate_at(d: Decimal) -> Coordinate
     ensures { result ≡ coordinate_of d }
 {
+    // 0 has as many zeros at its end as one likes
     if d.mantissa == 0 {
-        return Coordinate::At(0);
+        return Coordinate::At {
+            units: 0,
+            places: 0,
+        };
     }
     let power = d.scale.unsigned_abs();
     if d.scale < 0 {

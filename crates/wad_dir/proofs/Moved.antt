@@ -7,7 +7,7 @@ use Rattle.wad_dir.specs.declared.parts.MapSpot.{MapSpot}
 use Rattle.sight_names.specs.declared.faults.Lump.{Lump}
 use Rattle.sight_names.specs.declared.faults.Lump.TheVariants.{Linedefs, Sidedefs, Vertexes, Sectors}
 use Rattle.sight_names.specs.declared.names.MapFormat.{MapFormat}
-use Rattle.wad_dir.specs.Map.{begins_with, begins_with_textmap, format_behind, key_of, last_from, name_of, same_name, shifted, spot_of}
+use Rattle.wad_dir.specs.Map.{begins_with, begins_with_textmap, format_behind, format_told, key_of, last_from, name_of, same_name, shifted, spot_of}
 use Rattle.wad_dir.proofs.Inserted.{drop_behind, drop_insert, last_kept, last_within, more, more_stays}
 use Rattle.wad_dir.proofs.Spots.{IsSpot, end_at, is_cut, lump_place, of_by, place, run_at, spot_at, spot_from, spot_of_by, spot_parts}
 use Rattle.std.proofs.lemmas.List.{length-drop}
@@ -88,7 +88,7 @@ at_further m l s v c r format text =
     let es : m + 1 + 1 + s ≡ 1 + (m + 1 + s) = omega arith in
     let ev : m + 1 + 1 + v ≡ 1 + (m + 1 + v) = omega arith in
     let ec : m + 1 + 1 + c ≡ 1 + (m + 1 + c) = omega arith in
-    (λ i. spot_by_parts (em i) (el i) (es i) (ev i) (ec i) (shifted_more m r i) format text)
+    (λ i. spot_by_parts (em i) (el i) (es i) (ev i) (ec i) (shifted_more m r i) (format_told text format) text)
 
 -- a map behind a name that is put in stands one further on
 pub spot_moved : (ns : List (List ℕ)) (i : ℕ) (name x : List ℕ) (spot : MapSpot) → same_name x name ≡ false → i ≤ spot.marker → spot_of ns name ≡ Ok spot → spot_of (insert ns i x) name ≡ Ok (further 1 spot)

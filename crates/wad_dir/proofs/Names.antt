@@ -2,7 +2,6 @@
 use Rattle.std.proofs.Common.{◌≡◌, ℕ, ◌+◌, ◌≤◌, List, [], length, take, drop, Bool, true, false, not, ◌&&◌, if◌then◌else◌, Some, None, Result, Err, sym, ap, ◌∙◌, arith}
 use Rattle.std.specs.Prelude.{codes}
 use Rattle.std.proofs.lemmas.List.{drop-map, length-map, length-take}
-use Rattle.sight_names.specs.declared.faults.Lump.TheVariants.{Linedefs}
 use Rattle.sight_names.specs.declared.faults.MapFault.{MapFault}
 use Rattle.sight_names.specs.declared.faults.MapFault.TheVariants as fault
 use Rattle.sight_names.specs.declared.names.MapFormat.{MapFormat}
@@ -33,7 +32,7 @@ module _ (text : Bool) (marker r : ℕ) (es run rest : List Entry) (is_text : te
   run_names_are = ap (λ (x : List Entry). entry_names x) is_run ∙ names
 
   abbrev spot_by_run : Bool → List (List ℕ) → List (List ℕ) → Result MapSpot MapFault
-  spot_by_run t behind ns = if t && not (begins_with (codes "ENDMAP") behind) then Err (fault.Missing Linedefs) else spot_in marker t (format_behind behind) ns
+  spot_by_run t behind ns = if t && not (begins_with (codes "ENDMAP") behind) then Err fault.NoEnd else spot_in marker t (format_behind behind) ns
 
   behind_is : spot_by_run text (entry_names rest) (entry_names run) ≡ spot_behind marker (entry_names es)
   unfolding spot_behind
@@ -45,9 +44,9 @@ module _ (text : Bool) (marker r : ℕ) (es run rest : List Entry) (is_text : te
   lacks_end = text && not (begins_with (codes "ENDMAP") (entry_names rest))
 
   abbrev spot_if : Bool → MapFormat → Result MapSpot MapFault
-  spot_if cut format = if cut then Err (fault.Missing Linedefs) else spot_in marker text format (entry_names run)
+  spot_if cut format = if cut then Err fault.NoEnd else spot_in marker text format (entry_names run)
 
-  pub cut_is : lacks_end ≡ true → ◌≡◌ {A = Result MapSpot MapFault} (Err (fault.Missing Linedefs)) (spot_behind marker (entry_names es))
+  pub cut_is : lacks_end ≡ true → ◌≡◌ {A = Result MapSpot MapFault} (Err fault.NoEnd) (spot_behind marker (entry_names es))
   cut_is e = sym (ap (λ (b : Bool). spot_if b (format_behind (entry_names rest))) e) ∙ behind_is
 
   pub whole_is : (format : MapFormat) (spot : Result MapSpot MapFault) → lacks_end ≡ false → format ≡ format_behind (entry_names rest) → spot ≡ spot_in marker text format (entry_names run) → spot ≡ spot_behind marker (entry_names es)

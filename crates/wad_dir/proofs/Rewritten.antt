@@ -10,7 +10,7 @@ use Rattle.std.proofs.lemmas.List.Edits.{length-insert}
 use Rattle.sight_names.specs.declared.faults.Lump.{Lump}
 use Rattle.sight_names.specs.declared.faults.Lump.TheVariants.{Linedefs, Sidedefs, Vertexes, Sectors}
 use Rattle.wad_dir.specs.declared.parts.MapSpot.{MapSpot}
-use Rattle.wad_dir.specs.Map.{begins_with, begins_with_textmap, format_behind, last_from, name_of, same_name, shifted, spot_of}
+use Rattle.wad_dir.specs.Map.{begins_with, begins_with_textmap, format_behind, format_told, last_from, name_of, same_name, shifted, spot_of}
 use Rattle.wad_dir.specs.Print.{reject_lump, with_bytes, with_reject}
 use Rattle.wad_dir.specs.Wad.{WadFile, WadLump, names_of}
 use Rattle.wad_dir.specs.Kept.{IsKept, spot_then}
@@ -174,7 +174,7 @@ module _ (ns : List (List ℕ)) (name : List ℕ) (spot : MapSpot) (p : IsSpot n
 
     -- which is the old spot, moved
     abbrev spot_of_five : ℕ → ℕ → ℕ → ℕ → ℕ → MapSpot
-    spot_of_five l s v c r = record { marker = p.marker; linedefs = l; sidedefs = s; vertexes = v; sectors = c; reject = Some r; format = p.format; text = p.text }
+    spot_of_five l s v c r = record { marker = p.marker; linedefs = l; sidedefs = s; vertexes = v; sectors = c; reject = Some r; format = format_told p.text p.format; text = p.text }
 
     is_then : spot_at p.marker p.text p.format (moved p.c p.l) (moved p.c p.s) (moved p.c p.v) (moved p.c p.c) (Some (p.c + 1)) ≡ spot_then (spot_at p.marker p.text p.format p.l p.s p.v p.c None)
     is_then =

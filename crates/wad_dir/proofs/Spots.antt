@@ -9,7 +9,7 @@ use Rattle.sight_names.specs.declared.faults.MapFault.{MapFault}
 use Rattle.sight_names.specs.declared.faults.MapFault.TheVariants as fault
 use Rattle.sight_names.specs.declared.names.MapFormat.{MapFormat}
 use Rattle.wad_dir.specs.declared.parts.MapSpot.{MapSpot}
-use Rattle.wad_dir.specs.Map.{◌>>=◌, begins_with, begins_with_textmap, format_behind, last_from, name_of, place_in, same_name, shifted, spot_behind, spot_in, spot_of}
+use Rattle.wad_dir.specs.Map.{◌>>=◌, begins_with, begins_with_textmap, format_behind, format_told, last_from, name_of, place_in, same_name, shifted, spot_behind, spot_in, spot_of}
 use Rattle.wad_dir.proofs.Inserted.{more, run_is}
 
 -- the first of the names that is this one
@@ -21,7 +21,7 @@ place_is name run = position_from-zero (λ n. same_name n name) run
 
 -- the spot with these places in the run
 abbrev pub spot_at : ℕ → Bool → MapFormat → ℕ → ℕ → ℕ → ℕ → Option ℕ → MapSpot
-spot_at marker text format l s v c r = record { marker = marker; linedefs = marker + 1 + l; sidedefs = marker + 1 + s; vertexes = marker + 1 + v; sectors = marker + 1 + c; reject = shifted (marker + 1) r; format = format; text = text }
+spot_at marker text format l s v c r = record { marker = marker; linedefs = marker + 1 + l; sidedefs = marker + 1 + s; vertexes = marker + 1 + v; sectors = marker + 1 + c; reject = shifted (marker + 1) r; format = format_told text format; text = text }
 
 needed_at : Option ℕ → Lump → Result ℕ MapFault
 needed_at o lump = elim o [ Some k ↦ Ok k | None ↦ Err (fault.Missing lump) ]
@@ -102,7 +102,7 @@ pub record IsSpot (ns : List (List ℕ)) (name : List ℕ) (spot : MapSpot) : Ty
 
 -- a spot where the map isn't cut
 whole_or : Bool → Result MapSpot MapFault → Result MapSpot MapFault
-whole_or cut spot = if cut then Err (fault.Missing Linedefs) else spot
+whole_or cut spot = if cut then Err fault.NoEnd else spot
 
 whole_spot : (cut : Bool) (r : Result MapSpot MapFault) (spot : MapSpot) → whole_or cut r ≡ Ok spot → (cut ≡ false) × (r ≡ Ok spot)
 unfolding whole_or
@@ -112,7 +112,7 @@ whole_spot false r spot h = (refl, h)
 behind_by : (marker : ℕ) (after : List (List ℕ)) → spot_behind marker after ≡ whole_or (is_cut after) (spot_in marker (begins_with_textmap after) (format_behind (end_at after)) (run_at after))
 unfolding spot_behind whole_or
 behind_by marker after =
-    ap (λ (run : List (List ℕ)). if begins_with_textmap after && not (begins_with (codes "ENDMAP") (drop (length run) after)) then Err (fault.Missing Linedefs) else spot_in marker (begins_with_textmap after) (format_behind (drop (length run) after)) run)
+    ap (λ (run : List (List ℕ)). if begins_with_textmap after && not (begins_with (codes "ENDMAP") (drop (length run) after)) then Err fault.NoEnd else spot_in marker (begins_with_textmap after) (format_behind (drop (length run) after)) run)
     (run_is (begins_with_textmap after) [] after)
 
 -- the spot of a map whose marker is the last of its name

@@ -8,7 +8,7 @@ use Rattle.sight_names.specs.declared.faults.Lump.TheVariants.{Linedefs, Sidedef
 use Rattle.sight_names.specs.declared.faults.MapFault.{MapFault}
 use Rattle.sight_names.specs.declared.faults.MapFault.TheVariants as fault
 use Rattle.sight_names.specs.declared.names.MapFormat.{MapFormat}
-use Rattle.sight_names.specs.declared.names.MapFormat.TheVariants.{Doom, Hexen}
+use Rattle.sight_names.specs.declared.names.MapFormat.TheVariants.{Doom, Hexen, Text}
 use Rattle.wad_dir.specs.declared.parts.Entry.{Entry}
 use Rattle.wad_dir.specs.declared.parts.MapSpot.{MapSpot}
 
@@ -94,28 +94,31 @@ abbrev pub shifted : ℕ → Option ℕ → Option ℕ
 shifted by None = None
 shifted by (Some k) = Some (by + k)
 
--- the spot of a map of this format whose run stands right behind its marker
+-- the format of a map that is of UDMF, or else of this one
+abbrev pub format_told : Bool → MapFormat → MapFormat
+format_told text format = if text then Text else format
+
+-- the spot of such a map whose run stands right behind its marker
 unfoldable pub spot_in : ℕ → Bool → MapFormat → List (List ℕ) → Result MapSpot MapFault
 spot_in marker text format run = do
   linedefs ← needed_in text run Linedefs
   sidedefs ← needed_in text run Sidedefs
   vertexes ← needed_in text run Vertexes
   sectors ← needed_in text run Sectors
-  Ok (record { marker = marker; linedefs = marker + 1 + linedefs; sidedefs = marker + 1 + sidedefs; vertexes = marker + 1 + vertexes; sectors = marker + 1 + sectors; reject = shifted (marker + 1) (place_in (codes "REJECT") run); format = format; text = text })
+  Ok (record { marker = marker; linedefs = marker + 1 + linedefs; sidedefs = marker + 1 + sidedefs; vertexes = marker + 1 + vertexes; sectors = marker + 1 + sectors; reject = shifted (marker + 1) (place_in (codes "REJECT") run); format = format_told text format; text = text })
 
 -- the format of a map behind whose run these names follow: BEHAVIOR right behind it means Hexen's
 abbrev pub format_behind : List (List ℕ) → MapFormat
 format_behind [] = Doom
 format_behind (n ∷ ns) = if same_name n (codes "BEHAVIOR") then Hexen else Doom
 
--- the spot of a map behind whose marker these names follow; a map of UDMF without ENDMAP right behind its run is none, and has
--- no LINEDEFS
+-- the spot of a map behind whose marker these names follow; a map of UDMF without ENDMAP right behind its run is none
 unfoldable pub spot_behind : ℕ → List (List ℕ) → Result MapSpot MapFault
 spot_behind marker after =
     let text : Bool = begins_with_textmap after in
     let run : List (List ℕ) = run_from text [] after in
     let rest : List (List ℕ) = drop (length run) after in
-    if text && not (begins_with (codes "ENDMAP") rest) then Err (fault.Missing Linedefs) else spot_in marker text (format_behind rest) run
+    if text && not (begins_with (codes "ENDMAP") rest) then Err fault.NoEnd else spot_in marker text (format_behind rest) run
 
 -- the spot, among these names, of the map whose marker is the last of that name, or the first check that fails
 unfoldable pub spot_of : List (List ℕ) → List ℕ → Result MapSpot MapFault

@@ -201,7 +201,7 @@ fn spot(marker: usize, text: bool, format: MapFormat, run: &[Entry]) -> Result<M
         vertexes: (first + vertexes) as u32,
         sectors: (first + sectors) as u32,
         reject,
-        format,
+        format: if text { MapFormat::Text } else { format },
         text,
     })
 }
@@ -213,8 +213,8 @@ fn lacks_end(text: bool, rest: &[Entry]) -> bool
     text && !begins_with(b"ENDMAP", rest)
 }
 
-/// Where the lumps of a map stand behind whose marker these entries follow, or the first that is missing. A map of UDMF has
-/// none where ENDMAP doesn't stand right behind its lumps.
+/// Where the lumps of a map stand behind whose marker these entries follow, or the first that is missing. A map of UDMF needs
+/// ENDMAP right behind them.
 pub fn spot_after(marker: usize, after: &[Entry]) -> Result<MapSpot, MapFault>
     requires { marker + 1 + length after.now ≤ MOST_LUMPS }
     ensures spot { result ≡ spot_behind marker (entry_names after.now) }
@@ -227,9 +227,7 @@ pub fn spot_after(marker: usize, after: &[Entry]) -> Result<MapSpot, MapFault>
     let text = begins_with(b"TEXTMAP", after);
     let (run, rest) = after.split_at(run_at_front(text, after));
     if lacks_end(text, rest) {
-        return Err(MapFault::Missing {
-            lump: Lump::Linedefs,
-        });
+        return Err(MapFault::NoEnd);
     }
     spot(marker, text, format_by(rest), run)
 }

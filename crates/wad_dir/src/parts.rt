@@ -29,8 +29,8 @@ pub struct Wad {
 }
 
 /// Where the lumps of a map stand in the directory, and the format of the map: Hexen's where the entry right behind its
-/// lumps is BEHAVIOR, else Doom's. A map of UDMF is a text, which spells the four lumps in Doom's format; it has the place
-/// of TEXTMAP for all four.
+/// lumps is BEHAVIOR, else Doom's. A map of UDMF is a text, which spells the four lumps; it has the place of TEXTMAP for all
+/// four.
 #[derive(Clone, Copy, PartialEq, Eq)]
 pub struct MapSpot {
     pub marker: u32,

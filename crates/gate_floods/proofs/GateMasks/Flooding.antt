@@ -49,10 +49,6 @@ marked_within [] k e = absurd (not_both_values false e refl)
 marked_within (m ∷ ms) zero e = omega arith
 marked_within (m ∷ ms) (suc k) e = let w = marked_within ms k e in omega (arith, w)
 
--- what a place past the end reads as
-abbrev pub any_gate : Gate
-any_gate = record { near = 0; far = 0; side = record { line = 0; left = false }; left = 0; right = 0; left_at = record { x = pos 0; y = pos 0 }; right_at = record { x = pos 0; y = pos 0 } }
-
 -- ---- a flood
 
 module _ (es : List Gate) (Seen : ℕ → Type 0) (gate : Gate) where

@@ -25,7 +25,7 @@ below_more v m e h = omega (arith, ints)
 
 module _ (w : Wedge) (a b c : ℤ) where
   pub cut_near : cross (arrow_of w.second) (difference w.first.right.at w.second.right.at) ≡ pos 0 → ((p : Pt) → value_at a b c (point_of p) ≡ pos 2 *ℤ middle_at w p +ℤ negsuc 0)
-      → nat_abs a ≤ 2 ^ 20 → nat_abs b ≤ 2 ^ 20 → nat_abs c ≤ 2 ^ 37 → IsCutOf (Open w) a b c
+      → nat_abs a ≤ 2 ^ 30 → nat_abs b ≤ 2 ^ 30 → nat_abs c ≤ 2 ^ 57 → IsCutOf (Open w) a b c
   cut_near z e ha hb hc = record {
     left = λ p h k. above_less (value_at a b c (point_of p)) (middle_at w p) (e p) (left_near (arrow w.first.left.at) (arrow w.first.right.at) (arrow w.second.left.at) (arrow w.second.right.at) (arrow p) w.first.long w.spread z h);
     right = λ p h k. below_less (value_at a b c (point_of p)) (middle_at w p) (e p) (right_any (arrow w.first.left.at) (arrow w.first.right.at) (arrow w.second.left.at) (arrow w.second.right.at) (arrow p) h k);
@@ -35,7 +35,7 @@ module _ (w : Wedge) (a b c : ℤ) where
   }
 
   pub cut_away : ¬ (cross (arrow_of w.second) (difference w.first.right.at w.second.right.at) ≡ pos 0) → Spans (Open w) (difference w.second.left.at w.first.right.at) → ((p : Pt) → value_at a b c (point_of p) ≡ pos 2 *ℤ middle_at w p +ℤ pos 1)
-      → nat_abs a ≤ 2 ^ 20 → nat_abs b ≤ 2 ^ 20 → nat_abs c ≤ 2 ^ 37 → IsCutOf (Open w) a b c
+      → nat_abs a ≤ 2 ^ 30 → nat_abs b ≤ 2 ^ 30 → nat_abs c ≤ 2 ^ 57 → IsCutOf (Open w) a b c
   cut_away n s e ha hb hc = record {
     left = λ p h k. above_more (value_at a b c (point_of p)) (middle_at w p) (e p) (left_any (arrow w.first.left.at) (arrow w.first.right.at) (arrow w.second.left.at) (arrow w.second.right.at) (arrow p) h k);
     right = λ p h k. below_more (value_at a b c (point_of p)) (middle_at w p) (e p) (right_below (arrow w.first.left.at) (arrow w.first.right.at) (arrow w.second.left.at) (arrow w.second.right.at) (arrow p) w.first.long w.spread n s h k);
@@ -44,7 +44,7 @@ module _ (w : Wedge) (a b c : ℤ) where
     c_in = hc;
   }
 
-pub cut_ray : (r : Extreme) (a b c : ℤ) → ((p : Pt) → value_at a b c (point_of p) ≡ pos 2 *ℤ dot (arrow_of r) (difference p r.left.at) +ℤ pos 1) → nat_abs a ≤ 2 ^ 20 → nat_abs b ≤ 2 ^ 20 → nat_abs c ≤ 2 ^ 37 → IsCutOf (Ray r) a b c
+pub cut_ray : (r : Extreme) (a b c : ℤ) → ((p : Pt) → value_at a b c (point_of p) ≡ pos 2 *ℤ dot (arrow_of r) (difference p r.left.at) +ℤ pos 1) → nat_abs a ≤ 2 ^ 30 → nat_abs b ≤ 2 ^ 30 → nat_abs c ≤ 2 ^ 57 → IsCutOf (Ray r) a b c
 cut_ray r a b c e ha hb hc = record {
   left = λ p h k. above_more (value_at a b c (point_of p)) (dot (arrow_of r) (difference p r.left.at)) (e p) (ray_left (arrow r.left.at) (arrow r.right.at) (arrow p) h);
   right = λ p h k. below_more (value_at a b c (point_of p)) (dot (arrow_of r) (difference p r.left.at)) (e p) (ray_right (arrow r.left.at) (arrow r.right.at) (arrow p) r.long h);

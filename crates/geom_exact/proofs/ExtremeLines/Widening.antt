@@ -6,6 +6,7 @@ use Rattle.sight_names.specs.declared.names.Pt.{Pt}
 use Rattle.sight_names.specs.declared.names.EndAt.{EndAt}
 use Rattle.sight_names.specs.declared.names.EndPair.{EndPair}
 use Rattle.sight_names.specs.Splitting.{AreBalanced, across, up}
+use Rattle.sight_names.proofs.Records.{same_pt}
 use Rattle.plane_base.specs.Arrows.{Arrow, cross, dot, IsOnRay, IsBetween}
 use Rattle.plane_base.proofs.Turns.{no_length, turned, long_of_cross, long_of_dot, ray_to_left, ray_to_right, ray_to_nearer, ray_before, wider_first, wider_second, nearer_first, nearer_second, at_first, at_second, at_ray, around_x, around_y, opposite_x, opposite_y}
 use Rattle.geom_exact.specs.ExtremeLines.Differences.{difference}
@@ -176,6 +177,6 @@ made_before e f l r p q h = subst (λ (u : Arrow). pos 0 <ℤ cross u (arrow_of 
 
 pub long_of_different : (l r : Pt) → ¬ (l ≡ r) → pos 0 <ℤ dot (difference l r) (difference l r)
 long_of_different l r n = elim (le_or_lt (dot (difference l r) (difference l r)) (pos 0)) as (λ _. pos 0 <ℤ dot (difference l r) (difference l r)) [
-  | inl h ↦ let z = no_length (difference l r) h in absurd (n (ap₂ (λ (x y : ℤ). let p : Pt = record { x = x; y = y } in p) (same_of_difference l.x r.x z.0) (same_of_difference l.y r.y z.1)))
+  | inl h ↦ let z = no_length (difference l r) h in absurd (n (same_pt l r (same_of_difference l.x r.x z.0) (same_of_difference l.y r.y z.1)))
   | inr h ↦ h
 ]

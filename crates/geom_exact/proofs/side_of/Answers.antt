@@ -12,11 +12,11 @@ overflow_add-result-2 c = omega (arith, ints)
 pub returns-clause-bound : goal.returns-clause-bound
 returns-clause-bound c = omega (arith, ints)
 
-pub scaled-requires : goal.scaled-requires
-scaled-requires c = omega (arith, ints)
+pub scaled-requires-clause-of_ray : goal.scaled-requires-clause-of_ray
+scaled-requires-clause-of_ray c = omega (arith, ints)
 
-pub scaled-requires-2 : goal.scaled-requires-2
-scaled-requires-2 c = omega (arith, ints)
+pub scaled-requires-2-clause-of_ray : goal.scaled-requires-2-clause-of_ray
+scaled-requires-2-clause-of_ray c = omega (arith, ints)
 
 pub overflow_add-result : goal.overflow_add-result
 overflow_add-result c = omega (arith, ints)

@@ -57,6 +57,6 @@ middle_at w p = cross (arrow_of w.first) (difference p w.first.right.at) -ℤ cr
 pub record IsCutOf (cone : Cone) (a b c : ℤ) : Type 0 where
   pub left : (p : Pt) → Spans cone (difference p (first_of cone).right.at) → Spans cone (difference p (second_of cone).right.at) → pos 0 <ℤ value_at a b c (point_of p)
   pub right : (p : Pt) → Spans cone (difference (first_of cone).left.at p) → Spans cone (difference (second_of cone).left.at p) → value_at a b c (point_of p) <ℤ pos 0
-  pub a_in : nat_abs a ≤ 2 ^ 20
-  pub b_in : nat_abs b ≤ 2 ^ 20
-  pub c_in : nat_abs c ≤ 2 ^ 37
+  pub a_in : nat_abs a ≤ 2 ^ 30
+  pub b_in : nat_abs b ≤ 2 ^ 30
+  pub c_in : nat_abs c ≤ 2 ^ 57

@@ -1,6 +1,6 @@
 //! The line between the ends.
 
-ghost use Rattle.std.specs.Prelude.{◌≡◌, pos, ◌+ℤ◌, ◌*ℤ◌, ◌≤◌, ◌*◌, ◌+◌, nat_abs};
+ghost use Rattle.std.specs.Prelude.{◌≡◌, pos, ◌+ℤ◌, ◌*ℤ◌, ◌≤◌, ◌+◌, ◌^◌, nat_abs};
 ghost use Rattle.sight_names.specs.declared.names.Pt.{Pt as Place};
 ghost use Rattle.sight_names.specs.Point.{point_of, value_at};
 ghost use Rattle.plane_base.specs.Arrows.{dot};
@@ -23,9 +23,9 @@ pub struct Cut {
 pub fn middle_cut(wedge: &Wedge, shift: i64) -> Cut
     requires { nat_abs shift ≤ 1 }
     ensures value { (p : Place) → value_at result.a result.b result.c (point_of p) ≡ pos 2 *ℤ middle_at wedge.now p +ℤ shift }
-    ensures a_bound { nat_abs result.a ≤ 4 * 65535 }
-    ensures b_bound { nat_abs result.b ≤ 4 * 65535 }
-    ensures c_bound { nat_abs result.c ≤ 8 * (65535 * 32768) + 1 }
+    ensures a_bound { nat_abs result.a ≤ 2 ^ 28 }
+    ensures b_bound { nat_abs result.b ≤ 2 ^ 28 }
+    ensures c_bound { nat_abs result.c ≤ 2 ^ 54 + 1 }
 {
     let a = doubled(wedge.first.a, wedge.second.a);
     let b = doubled(wedge.first.b, wedge.second.b);
@@ -36,9 +36,9 @@ pub fn middle_cut(wedge: &Wedge, shift: i64) -> Cut
 /// The line across the ray a little before its left end.
 pub fn ray_cut(ray: &Extreme) -> Cut
     ensures value { (p : Place) → value_at result.a result.b result.c (point_of p) ≡ pos 2 *ℤ dot (arrow_of ray.now) (difference p ray.now.left.at) +ℤ pos 1 }
-    ensures a_bound { nat_abs result.a ≤ 4 * 65535 }
-    ensures b_bound { nat_abs result.b ≤ 4 * 65535 }
-    ensures c_bound { nat_abs result.c ≤ 8 * (65535 * 32768) + 1 }
+    ensures a_bound { nat_abs result.a ≤ 2 ^ 28 }
+    ensures b_bound { nat_abs result.b ≤ 2 ^ 28 }
+    ensures c_bound { nat_abs result.c ≤ 2 ^ 54 + 1 }
 {
     let a = doubled(ray.b, 0);
     let b = doubled(0, ray.a);

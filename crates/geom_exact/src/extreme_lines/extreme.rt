@@ -1,6 +1,6 @@
 //! The line from a right end to a left end.
 
-ghost use Rattle.std.specs.Prelude.{◌≡◌, ◌-ℤ◌, ◌+ℤ◌, ◌*ℤ◌, ◌<ℤ◌, pos, ◌≤◌, ◌*◌, nat_abs};
+ghost use Rattle.std.specs.Prelude.{◌≡◌, ◌-ℤ◌, ◌+ℤ◌, ◌*ℤ◌, ◌<ℤ◌, pos, ◌≤◌, ◌^◌, nat_abs};
 ghost use Rattle.plane_base.specs.Arrows.{cross, dot};
 ghost use Rattle.geom_exact.specs.ExtremeLines.Differences.{difference};
 
@@ -19,9 +19,9 @@ pub struct Extreme {
     pub ghost a_is: { a ≡ right.at.y -ℤ left.at.y },
     pub ghost b_is: { b ≡ left.at.x -ℤ right.at.x },
     pub ghost c_is: { c ≡ a *ℤ right.at.x +ℤ b *ℤ right.at.y },
-    pub ghost a_small: { nat_abs a ≤ 65535 },
-    pub ghost b_small: { nat_abs b ≤ 65535 },
-    pub ghost c_small: { nat_abs c ≤ 2 * (65535 * 32768) },
+    pub ghost a_small: { nat_abs a ≤ 2 ^ 26 },
+    pub ghost b_small: { nat_abs b ≤ 2 ^ 26 },
+    pub ghost c_small: { nat_abs c ≤ 2 ^ 52 },
 }
 
 impl Extreme {
@@ -46,7 +46,7 @@ impl Extreme {
     /// Twice the signed area of the triangle of the right end, the left end and the point.
     pub fn value(&self, p: Pt) -> i64
         ensures value { result ≡ cross (difference self.now.left.at self.now.right.at) (difference p self.now.right.at) }
-        ensures bound { nat_abs result ≤ 4 * (65535 * 32768) }
+        ensures bound { nat_abs result ≤ 2 ^ 53 }
     {
         level(self.a, self.b, p) - self.c
     }
@@ -54,7 +54,7 @@ impl Extreme {
     /// The product of its own difference with the difference of two ends.
     pub fn product(&self, left: Pt, right: Pt) -> i64
         ensures value { result ≡ dot (difference self.now.left.at self.now.right.at) (difference left right) }
-        ensures bound { nat_abs result ≤ 2 * (65535 * 65535) }
+        ensures bound { nat_abs result ≤ 2 ^ 53 }
     {
         let across = times(self.b, minus(left.x, right.x));
         let up = times(self.a, minus(left.y, right.y));
@@ -64,7 +64,7 @@ impl Extreme {
     /// Above 0 where the difference of the two ends is counterclockwise of its own.
     pub fn turn(&self, left: Pt, right: Pt) -> i64
         ensures value { result ≡ cross (difference self.now.left.at self.now.right.at) (difference left right) }
-        ensures bound { nat_abs result ≤ 8 * (65535 * 32768) }
+        ensures bound { nat_abs result ≤ 2 ^ 54 }
     {
         self.value(left) - self.value(right)
     }
@@ -72,7 +72,7 @@ impl Extreme {
     /// Its own length, squared.
     pub fn squared(&self) -> i64
         ensures value { result ≡ dot (difference self.now.left.at self.now.right.at) (difference self.now.left.at self.now.right.at) }
-        ensures bound { nat_abs result ≤ 2 * (65535 * 65535) }
+        ensures bound { nat_abs result ≤ 2 ^ 53 }
     {
         self.product(self.left.at, self.right.at)
     }

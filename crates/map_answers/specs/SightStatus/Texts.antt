@@ -73,6 +73,7 @@ wad_words (wad.Memory _) = codes "memory\n"
 abbrev pub map_words : MapFault → List ℕ
 map_words map.NoMarker = codes "no marker\n"
 map_words (map.Missing lump) = codes "missing " ++ lump_words lump
+map_words map.NoEnd = codes "missing ENDMAP\n"
 
 abbrev pub lumps_words : LumpFault → List ℕ
 lumps_words (lump.BadSize lump) = codes "size " ++ lump_words lump

@@ -177,6 +177,7 @@ fn push_map(alloc: Global, line: &mut String, fault: MapFault) -> Result<(), All
     match fault {
         MapFault::NoMarker => line.push_str("no marker\n"),
         MapFault::Missing { lump } => push_lump_line(alloc, line, "missing ", lump),
+        MapFault::NoEnd => line.push_str("missing ENDMAP\n"),
     }
 }
 

@@ -21,10 +21,10 @@ use Rattle.map_lumps.proofs.HexenLumps.Records.{HasSameNumbers, first_length, sa
 -- the line of a record with these numbers, and the first check of it that fails
 abbrev line_of : List ℕ → List ℕ → ℕ → ℕ → ℕ → ℕ → ℕ → Option MapLine
 line_of sidedefs vertexes first second flags right left =
-    if pt_eq (vertex vertexes first) (vertex vertexes second) then None
+    if pt_eq (vertex Doom vertexes first) (vertex Doom vertexes second) then None
     else Some (record {
-      first = vertex vertexes first;
-      second = vertex vertexes second;
+      first = vertex Doom vertexes first;
+      second = vertex Doom vertexes second;
       solid = not (bit_at flags 2 == 1) || is_none (side_sector sidedefs right) || is_none (side_sector sidedefs left);
       right = side_sector sidedefs right;
       left = side_sector sidedefs left;

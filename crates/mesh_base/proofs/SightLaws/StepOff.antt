@@ -1,5 +1,5 @@
 -- A little before its crossing with a line a ray is on no line, and touches the side of that line from which it comes.
-use Rattle.std.proofs.Common.{◌≡◌, ◌≢◌, ℕ, zero, suc, ◌+◌, ◌*◌, ◌<◌, ◌≤◌, ℤ, pos, ◌+ℤ◌, ◌*ℤ◌, ◌-ℤ◌, ◌≤ℤ◌, ◌<ℤ◌, neg_ℤ, nat_abs, arith, refl, sym, ap, ap₂, subst, ◌∙◌, inl, inr, List, [], ◌∷◌, Option, Some, None, Bool, true, false, not, option_and_then, slice_get}
+use Rattle.std.proofs.Common.{◌≡◌, ◌≢◌, ℕ, zero, suc, ◌+◌, ◌*◌, ◌<◌, ◌≤◌, ℤ, pos, ◌+ℤ◌, ◌*ℤ◌, ◌-ℤ◌, ◌≤ℤ◌, ◌<ℤ◌, neg_ℤ, nat_abs, arith, refl, sym, ap, subst, ◌∙◌, inl, inr, List, [], ◌∷◌, Option, Some, None, Bool, true, false, not, option_and_then, slice_get}
 use borrow.Author.Differences.{ints}
 use lib.IntN.{*ℤ-zero, *ℤ_comm}
 use Rattle.math_base.proofs.Quoting.{quoting, by_ring}
@@ -20,6 +20,7 @@ use Rattle.math_base.proofs.Options.{none_is_not_some}
 use Rattle.math_base.proofs.Small.{times_one, pos_of_negated_neg, nonpos_of_zero, negated_sum, pos_not_zero, neg_not_zero}
 use Rattle.math_base.proofs.Ring.{same_of_difference}
 use Rattle.sight_names.proofs.Portals.{scale_above}
+use Rattle.sight_names.proofs.Records.{same_pt}
 
 -- ---- a point that isn't on a line is parted from it
 -- the value is above 0 at the point, and not at the line's ends
@@ -60,7 +61,7 @@ distance_pos u v n = elim (sign_cases (u.x -ℤ v.x)) as (λ _. pos 0 <ℤ dista
       | inl h ↦ high (u.x -ℤ v.x) (u.y -ℤ v.y) (λ e. neg_not_zero _ h e)
       | inr j ↦ elim j as (λ _. pos 0 <ℤ distance u v) [
         | inr h ↦ high (u.x -ℤ v.x) (u.y -ℤ v.y) (λ e. pos_not_zero _ h e)
-        | inl ey ↦ absurd (n (ap₂ (λ (x y : ℤ). let p : Pt = record { x = x; y = y } in p) (same_of_difference _ _ ex) (same_of_difference _ _ ey)))
+        | inl ey ↦ absurd (n (same_pt u v (same_of_difference _ _ ex) (same_of_difference _ _ ey)))
       ]
     ]
   ]

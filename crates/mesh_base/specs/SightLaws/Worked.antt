@@ -4,6 +4,7 @@ use Rattle.sight_names.specs.declared.names.Pt.{Pt}
 use Rattle.sight_names.specs.declared.names.Side.{Side}
 use Rattle.sight_names.specs.declared.names.Triangle.{Triangle}
 use Rattle.sight_names.specs.Map.{Map, MapLine}
+use Rattle.sight_names.specs.Near.{point_at}
 use Rattle.sight_names.specs.Sound.{IsClosed, NamesAgree}
 use Rattle.sight_names.specs.Sees.{Sees}
 use Rattle.sight_names.specs.Ray.{IsSightRay}
@@ -14,7 +15,7 @@ use Rattle.sight_names.specs.Greedy.{IsGreedy}
 use Rattle.sight_names.specs.Sequence.{roots, Portal, Way, Left, Right, Sequence, portals, IsStabbable, reached}
 
 abbrev pub pt : ℕ → ℕ → Pt
-pt x y = record { x = pos x; y = pos y }
+pt x y = point_at (pos x) (pos y)
 
 -- a line that isn't marked solid: solid where a side is missing
 abbrev pub line : ℕ → ℕ → ℕ → ℕ → Option ℕ → Option ℕ → Option MapLine

@@ -69,7 +69,7 @@ module _ (a b c : ℤ) where
   -- ---- the two ways out of a triangle
 
   pub crossed_left : (u v w : Pt) → pos 0 <ℤ turn_at u v (point_of w) → IsParted a b c (record { left = u; right = v }) → Later (record { left = u; right = v }) (record { left = u; right = w })
-  crossed_left u v w t h = later_left line (whole u) (whole v) (whole w) (direction _ h) (subst (λ (k : ℤ). pos 0 <ℤ k) (turn_at_is u v (point_of w)) t) (left_value _ h)
+  crossed_left u v w t h = later_left line (whole u) (whole v) (whole w) (direction (record { left = u; right = v }) h) (subst (λ (k : ℤ). pos 0 <ℤ k) (turn_at_is u v (point_of w)) t) (left_value (record { left = u; right = v }) h)
 
   pub crossed_right : (u v w : Pt) → pos 0 <ℤ turn_at u v (point_of w) → IsParted a b c (record { left = u; right = v }) → Later (record { left = u; right = v }) (record { left = w; right = v })
-  crossed_right u v w t h = later_right line (whole u) (whole v) (whole w) (direction _ h) (subst (λ (k : ℤ). pos 0 <ℤ k) (turn_at_is u v (point_of w)) t) (right_value _ h)
+  crossed_right u v w t h = later_right line (whole u) (whole v) (whole w) (direction (record { left = u; right = v }) h) (subst (λ (k : ℤ). pos 0 <ℤ k) (turn_at_is u v (point_of w)) t) (right_value (record { left = u; right = v }) h)

@@ -1,7 +1,7 @@
 -- What is listed of a map: its format, how great it is, and what its REJECT holds.
-use Rattle.std.specs.Prelude.{ℕ, ◌+◌, ◌*◌, ◌==◌, Bool, true, false, nat_lt, List, length, map, Option, Some, None, Result, Ok, Err, if◌then◌else◌}
+use Rattle.std.specs.Prelude.{ℕ, ◌+◌, ◌*◌, ◌==◌, Bool, nat_lt, List, length, map, Option, Some, None, Result, Ok, Err, if◌then◌else◌}
 use Rattle.sight_names.specs.declared.names.MapFormat.{MapFormat}
-use Rattle.sight_names.specs.declared.names.MapFormat.TheVariants as linedefs
+use Rattle.sight_names.specs.declared.names.MapFormat.TheVariants as formats
 use Rattle.sight_names.specs.Map.{Map}
 use Rattle.sight_names.specs.Points.{lines_of, points_of}
 use Rattle.sight_names.specs.Table.{table_bit}
@@ -19,15 +19,15 @@ use Rattle.table_verdicts.specs.declared.map_list.entry.Said.{Said}
 use Rattle.table_verdicts.specs.declared.map_list.entry.Said.TheVariants as said
 use Rattle.table_verdicts.specs.declared.map_list.entry.MapEntry.{MapEntry}
 
--- the format of a map that is a text or isn't, and whose LINEDEFS are of this one
-abbrev pub listed_format : Bool → MapFormat → ListedFormat
-listed_format true format = Udmf
-listed_format false linedefs.Doom = Doom
-listed_format false linedefs.Hexen = Hexen
+-- how the format of a map is listed
+abbrev pub listed_format : MapFormat → ListedFormat
+listed_format formats.Doom = Doom
+listed_format formats.Hexen = Hexen
+listed_format formats.Text = Udmf
 
 -- the format of the map of a name, Doom's where there is none
 abbrev pub format_named : List (List ℕ) → List ℕ → ListedFormat
-format_named names name = elim (spot_of names name) [ Ok spot ↦ listed_format spot.text spot.format | Err fault ↦ Doom ]
+format_named names name = elim (spot_of names name) [ Ok spot ↦ listed_format spot.format | Err fault ↦ Doom ]
 
 -- the bit of the pair is set in the bytes
 abbrev pub is_set : ℕ → List ℕ → ℕ → ℕ → Bool

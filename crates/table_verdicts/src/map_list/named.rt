@@ -16,14 +16,14 @@ use wad_dir::all_maps::text_of;
 use wad_dir::{Wad, find_map};
 use whole_wad::reject_named;
 
-/// The format of a map that is a text or isn't, and whose LINEDEFS are of this one.
-fn listed_format(text: bool, linedefs: MapFormat) -> ListedFormat
-    ensures { result ≡ listed_format text linedefs }
+/// How the format of a map is listed.
+fn listed_format(format: MapFormat) -> ListedFormat
+    ensures { result ≡ listed_format format }
 {
-    match (text, linedefs) {
-        (true, _) => ListedFormat::Udmf,
-        (false, MapFormat::Doom) => ListedFormat::Doom,
-        (false, MapFormat::Hexen) => ListedFormat::Hexen,
+    match format {
+        MapFormat::Doom => ListedFormat::Doom,
+        MapFormat::Hexen => ListedFormat::Hexen,
+        MapFormat::Text => ListedFormat::Udmf,
     }
 }
 
@@ -32,7 +32,7 @@ fn format_named(wad: &Wad, name: &str) -> ListedFormat
     ensures { result ≡ format_named (entry_names wad.now.entries) name.now }
 {
     match find_map(wad, name) {
-        Ok(spot) => listed_format(spot.text, spot.format),
+        Ok(spot) => listed_format(spot.format),
         Err(_) => ListedFormat::Doom,
     }
 }

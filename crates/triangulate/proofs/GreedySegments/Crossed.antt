@@ -112,7 +112,7 @@ free_of_neighbours p is segs i j ij wj each visited f c =
       | inr (inr (inl h)) ↦ visited f.from h.2 (inr (f.to, neighbours.0, h.1)) f.to neighbours.0
       | inr (inr (inr (inl h))) ↦ turned (map_of p) (edge i j) f.from f.to (visited f.to h.2 (inr (f.from, neighbours.1, h.1)) f.from neighbours.1)
       | inr (inr (inr (inr (inl h)))) ↦ apart (λ z k. numbers_apart p is i j f.from f.to range.0 range.1 (omega arith) (omega arith) h.0 h.1 z k)
-      | inr (inr (inr (inr (inr h)))) ↦ apart (λ z k. numbers_apart p is f.from f.to i j (omega arith) wj h.0 (omega arith) h.1 (omega arith) z (common_swapped _ _ _ _ z k))
+      | inr (inr (inr (inr (inr h)))) ↦ apart (λ z k. numbers_apart p is f.from f.to i j (omega arith) wj h.0 (omega arith) h.1 (omega arith) z (common_swapped (place (map_of p) i) (place (map_of p) j) (place (map_of p) f.from) (place (map_of p) f.to) z k))
     ]
   where
     cases : (a b : ℕ) → ((i ≤ a) × (a ≤ j)) ⊎ ((i ≤ b) × (b ≤ j)) ⊎ ((a < i) × (j < b) × (a ≤ j)) ⊎ ((b < i) × (j < a) × (b ≤ j)) ⊎ ((j < a) × (j < b)) ⊎ ((a < i) × (b < i))

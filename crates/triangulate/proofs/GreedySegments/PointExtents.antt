@@ -124,7 +124,7 @@ passed_meets m segs extents i j t pair_extent are w lt passed reach v neighbour 
     | inl le ↦ (let e = pair_extent.from in let g = h.0 in omega arith)
     | inr (x, at, beyond) ↦ (let e = pair_extent.to in let g = h.1 in let k = (are.ends w x any_extent lt at).1 in omega arith)
   ])
-  | inr (inl below) ↦ apart_at_ends (place m i) (place m j) (place m w) (place m v) (λ z k. below_apart (place m w) (place m v) (place m i) (place m j) (hub_below below (place m i).y pair_extent.first.0) (hub_below below (place m j).y pair_extent.second.0) (end_below below (place m i).y pair_extent.first.0) (end_below below (place m j).y pair_extent.second.0) z (common_swapped _ _ _ _ z k))
+  | inr (inl below) ↦ apart_at_ends (place m i) (place m j) (place m w) (place m v) (λ z k. below_apart (place m w) (place m v) (place m i) (place m j) (hub_below below (place m i).y pair_extent.first.0) (hub_below below (place m j).y pair_extent.second.0) (end_below below (place m i).y pair_extent.first.0) (end_below below (place m j).y pair_extent.second.0) z (common_swapped (place m i) (place m j) (place m w) (place m v) z k))
   | inr (inr above) ↦ apart_at_ends (place m i) (place m j) (place m w) (place m v) (λ z k. below_apart (place m i) (place m j) (place m w) (place m v) (hub_above above (place m i).y pair_extent.first.1) (end_above above (place m i).y pair_extent.first.1) (hub_above above (place m j).y pair_extent.second.1) (end_above above (place m j).y pair_extent.second.1) z k)
 ]
   where

@@ -19,8 +19,8 @@ const BLOCK: usize = 32;
 /// ends.
 #[derive(Clone, Copy)]
 pub struct Extent {
-    low: i16,
-    high: i16,
+    low: i32,
+    high: i32,
     last_neighbour: u16,
 }
 
@@ -29,8 +29,8 @@ pub struct Extent {
 pub struct PairExtent {
     from: u16,
     to: u16,
-    low: i16,
-    high: i16,
+    low: i32,
+    high: i32,
 }
 
 /// The extent of a pair of points.

@@ -100,7 +100,7 @@ fn extents_of(alloc: Global, plan: &Plan, incident: &IncidentSegments) -> Result
 
 /// The greatest absolute value of a coordinate. No segment is three times as long.
 fn reach_of(plan: &Plan) -> u32
-    ensures bound { result ≤ 32768 }
+    ensures bound { result ≤ 2 ^ 25 }
     ensures all { IsReach (map_of plan.now) result }
 {
     let mut most = 0u32;
@@ -112,12 +112,12 @@ fn reach_of(plan: &Plan) -> u32
 
 /// The greater absolute value of the two coordinates.
 fn reach_of_point(p: Pt) -> u32
-    ensures bound { result ≤ 32768 }
+    ensures bound { result ≤ 2 ^ 25 }
     ensures all { IsWithin result p }
 {
     let across = p.x.unsigned_abs();
     let up = p.y.unsigned_abs();
-    across.max(up) as u32
+    across.max(up)
 }
 
 /// All point numbers.
@@ -178,7 +178,7 @@ fn push_if_unsaturated(
 /// The square of the distance between two points.
 fn square_of(p: Pt, q: Pt) -> u64
     ensures value { result ≡ square_length p q }
-    ensures bound { result < 2 ^ 34 }
+    ensures bound { result ≤ 2 ^ 53 }
 {
     let across = difference(p.x, q.x);
     let up = difference(p.y, q.y);
@@ -186,9 +186,11 @@ fn square_of(p: Pt, q: Pt) -> u64
 }
 
 /// How far `b` is from `a`.
-fn difference(a: i16, b: i16) -> u64
+fn difference(a: i32, b: i32) -> u64
+    requires from { nat_abs a ≤ 2 ^ 25 }
+    requires to { nat_abs b ≤ 2 ^ 25 }
     ensures value { result ≡ nat_abs (b -ℤ a) }
-    ensures bound { result ≤ 65535 }
+    ensures bound { result ≤ 2 ^ 26 }
 {
     b.abs_diff(a) as u64
 }
@@ -202,8 +204,8 @@ fn pairs_between(
     high: u32,
 ) -> Result<Vec<PointPair>, Memory>
     requires unsaturated { AreNumbers (length plan.now.points) unsaturated.now }
-    requires low { low ≤ 2 ^ 17 }
-    requires high { high ≤ 2 ^ 18 }
+    requires low { low ≤ 2 ^ 27 }
+    requires high { high ≤ 2 ^ 28 }
     ensures { IfOk result (λ v. ArePairsBetween (map_of plan.now) unsaturated.now low high v.items) }
 {
     let mut pairs = Vec::new(alloc);
@@ -226,8 +228,8 @@ fn add_pairs(
     requires from { from < length plan.now.points }
     requires later { AreNumbers (length plan.now.points) later.now }
     requires behind { (k : ℕ) → Contains later.now k → from < k }
-    requires low { low ≤ 2 ^ 17 }
-    requires high { high ≤ 2 ^ 18 }
+    requires low { low ≤ 2 ^ 27 }
+    requires high { high ≤ 2 ^ 28 }
     ensures { OnOk result (AddsPairs (map_of plan.now) from later.now low high pairs.old.items pairs.new.items) }
 {
     let start = plan.place(from);
@@ -252,8 +254,8 @@ fn add_near(
     low: u32,
     high: u32,
 ) -> Result<(), Memory>
-    requires low { low ≤ 2 ^ 17 }
-    requires high { high ≤ 2 ^ 18 }
+    requires low { low ≤ 2 ^ 27 }
+    requires high { high ≤ 2 ^ 28 }
     ensures { OnOk result (AddsIfBetween low high (record { square = square_length start end; from = from; to = to }) pairs.old.items pairs.new.items) }
 {
     if difference(start.y, end.y) >= high as u64 {
@@ -265,8 +267,8 @@ fn add_near(
 
 /// Adds the pair, unless its length isn't in the range.
 fn add_pair(pairs: &mut Vec<PointPair>, pair: PointPair, low: u32, high: u32) -> Result<(), Memory>
-    requires low { low ≤ 2 ^ 17 }
-    requires high { high ≤ 2 ^ 18 }
+    requires low { low ≤ 2 ^ 27 }
+    requires high { high ≤ 2 ^ 28 }
     ensures { OnOk result (AddsIfBetween low high pair pairs.old.items pairs.new.items) }
 {
     if !is_between(pair.square, low, high) {
@@ -278,8 +280,8 @@ fn add_pair(pairs: &mut Vec<PointPair>, pair: PointPair, low: u32, high: u32) ->
 
 /// Whether the square is at least that of `low` and less than that of `high`.
 fn is_between(square: u64, low: u32, high: u32) -> bool
-    requires low { low ≤ 2 ^ 17 }
-    requires high { high ≤ 2 ^ 18 }
+    requires low { low ≤ 2 ^ 27 }
+    requires high { high ≤ 2 ^ 28 }
     ensures { IsTrue result ↔ IsSquareBetween low high square }
 {
     low as u64 * low as u64 <= square && square < high as u64 * high as u64

@@ -35,8 +35,8 @@ fn has_left(plan: &Plan, a: u16, b: u16) -> bool
 /// A range of y.
 #[derive(Clone, Copy)]
 struct Heights {
-    low: i16,
-    high: i16,
+    low: i32,
+    high: i32,
 }
 
 /// The range of y that the corners span.

@@ -1,4 +1,5 @@
-use Rattle.std.proofs.Common.{rules}
+use Rattle.std.proofs.Common.{rules, sym, ◌∙◌}
+use Rattle.sight_names.proofs.PlanNumbers.{same_pt_true}
 use Rattle.geom_exact.proofs.ExtremeLines.Widening.{long_of_different}
 use Rattle.block_evidence.proofs.Pairs.{whole_parted, whole_corner, no_left, no_right, same_point, ray_in}
 use Rattle.block_evidence.proofs.hulls.parting.Goals as goal
@@ -10,7 +11,7 @@ pub returns-in_default-first_right : goal.returns-in_default-first_right
 returns-in_default-first_right c = no_right c.args.ends.now c.in_default-first_right.ensures.none
 
 pub returns-then-eq : goal.returns-then-eq
-returns-then-eq c = same_point c.args.ends.now c.in-Some.left c.in-Some-first_right.right c.in-Some.ensures.some c.in-Some-first_right.ensures.some (search rules)
+returns-then-eq c = same_point c.args.ends.now c.in-Some.left c.in-Some-first_right.right c.in-Some.ensures.some c.in-Some-first_right.ensures.some (same_pt_true c.in-Some.left.at c.in-Some-first_right.right.at (sym c.eq.ensures ∙ c.if-eq.true))
 
 pub through-ray-requires : goal.through-ray-requires
 through-ray-requires c = long_of_different c.in-Some.left.at c.in-Some-first_right.right.at (search rules)

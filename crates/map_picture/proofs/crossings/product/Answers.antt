@@ -1,10 +1,10 @@
 use Rattle.std.proofs.Common.{◌≤◌, ◌*◌, ◌^◌, mul-le-mul, arith}
 use Rattle.map_picture.proofs.crossings.product.Goals as goal
 
-bounded : (c : goal.Start) → c.args.a * c.args.b ≤ 2 ^ 38 * 65535
+bounded : (c : goal.Start) → c.args.a * c.args.b ≤ 2 ^ 58 * 4294967295
 bounded c =
     let r = c.requires.right in
-    let h : c.args.b ≤ 65535 = omega (arith, r) in
+    let h : c.args.b ≤ 4294967295 = omega (arith, r) in
     mul-le-mul c.requires.left h
 
 pub overflow_mul-result : goal.overflow_mul-result

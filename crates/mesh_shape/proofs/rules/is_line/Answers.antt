@@ -1,9 +1,12 @@
-use Rattle.std.proofs.Common.{ℕ, length, sym, ap, ◌∙◌, arith, below_more}
+use Rattle.std.proofs.Common.{ℕ, length, refl, sym, ap, ◌∙◌, arith, below_more}
 use Rattle.std.proofs.lemmas.Bool.{false≢true}
 use Rattle.sight_names.specs.Map.{map_of}
 use Rattle.mesh_shape.proofs.RuleLemmas.{everywhere, no_line_behind, no_edge_of}
 use Rattle.mesh_shape.specs.Search.{IsEdgeOf}
 use Rattle.mesh_shape.proofs.rules.is_line.Goals as goal
+
+pub returns-then-is_line_at : goal.returns-then-is_line_at
+returns-then-is_line_at c = (λ h. let e = c.is_line_at.ensures.0 c.if-is_line_at.true in (c.loop-i.i, e.0, e.1, e.2, e.3), λ h. refl)
 
 pub loop-i-preserved : goal.loop-i-preserved
 loop-i-preserved c = below_more _ _ c.loop-i.invariant (λ h. false≢true (sym c.if-is_line_at.false ∙ c.is_line_at.ensures.1 h))

@@ -5,10 +5,10 @@ use Rattle.sight_ray.proofs.CrossedLineLemmas.{crossed_line_forward, crossed_lin
 use Rattle.sight_ray.proofs.crossed_line.crossed_line_between.Goals as goal
 
 pub returns-then-are_parted : goal.returns-then-are_parted
-returns-then-are_parted c = crossed_line_forward _ _ _ (grind (arith, to_z-of_z))
+returns-then-are_parted c = crossed_line_forward c.args.ray.now c.args.first c.args.second (grind (arith, to_z-of_z))
 
 pub returns-then-are_parted-2 : goal.returns-then-are_parted-2
-returns-then-are_parted-2 c = crossed_line_back _ _ _ (grind (arith, to_z-of_z))
+returns-then-are_parted-2 c = crossed_line_back c.args.ray.now c.args.first c.args.second (grind (arith, to_z-of_z))
 
 pub returns : goal.returns
 returns c =

@@ -1,20 +1,20 @@
-use Rattle.std.proofs.Common.{arith, ℤ, pos, ◌≡◌, ◌≤◌, ◌≤ℤ◌, ◌+ℤ◌, ◌-ℤ◌, ◌*ℤ◌, unsigned_abs, int_le, IsTrue, FitsSigned, w64, to_z, of_z, to_z-of_z, ℕ, sym, ap, ap₂, ◌∙◌, subst, rules}
+use Rattle.std.proofs.Common.{arith, ℤ, pos, ◌≡◌, ◌≤◌, ◌^◌, ◌≤ℤ◌, ◌+ℤ◌, ◌-ℤ◌, ◌*ℤ◌, unsigned_abs, int_le, IsTrue, FitsSigned, w64, to_z, of_z, to_z-of_z, ℕ, sym, ap, ap₂, ◌∙◌, subst, rules}
 use Rattle.std.proofs.lemmas.Int.{ints}
-use mir.Syntax.{w16}
+use mir.Syntax.{w32}
 use Rattle.stab_hull.proofs.Chains.{between_by}
 use Rattle.stab_hull.proofs.chain.is_between.Goals as goal
 
 -- what the numbers say that were passed
-passed_difference : (r a b : ℤ) → FitsSigned w16 a → FitsSigned w16 b → r ≡ to_z w16 (of_z w16 b) -ℤ to_z w16 (of_z w16 a) → r ≡ b -ℤ a
+passed_difference : (r a b : ℤ) → FitsSigned w32 a → FitsSigned w32 b → r ≡ to_z w32 (of_z w32 b) -ℤ to_z w32 (of_z w32 a) → r ≡ b -ℤ a
 passed_difference r a b f g e = e ∙ ap₂ (λ (v w : ℤ). v -ℤ w) (to_z-of_z g) (to_z-of_z f)
 
-passed_product : (r x y : ℤ) → unsigned_abs x ≤ 65535 → unsigned_abs y ≤ 65535 → r ≡ to_z w64 (of_z w64 x) *ℤ to_z w64 (of_z w64 y) → r ≡ x *ℤ y
+passed_product : (r x y : ℤ) → unsigned_abs x ≤ 2 ^ 26 → unsigned_abs y ≤ 2 ^ 26 → r ≡ to_z w64 (of_z w64 x) *ℤ to_z w64 (of_z w64 y) → r ≡ x *ℤ y
 passed_product r x y f g e =
     let fits : FitsSigned w64 x = omega (arith, ints) in
     let fit : FitsSigned w64 y = omega (arith, ints) in
     e ∙ ap₂ (λ (v w : ℤ). v *ℤ w) (to_z-of_z fits) (to_z-of_z fit)
 
-same_product : (u v : ℤ) → unsigned_abs u ≤ 4294836225 → unsigned_abs v ≤ 4294836225 → of_z w64 u ≡ of_z w64 v → u ≡ v
+same_product : (u v : ℤ) → unsigned_abs u ≤ 2 ^ 52 → unsigned_abs v ≤ 2 ^ 52 → of_z w64 u ≡ of_z w64 v → u ≡ v
 same_product u v a b e =
     let fits : FitsSigned w64 u = omega (arith, ints) in
     let fit : FitsSigned w64 v = omega (arith, ints) in
@@ -23,7 +23,7 @@ same_product u v a b e =
 nonneg : (z : ℤ) → IsTrue (int_le (pos 0) z) → pos 0 ≤ℤ z
 nonneg z h = grind (arith, ints)
 
-sum_nonneg : (u v : ℤ) → unsigned_abs u ≤ 4294836225 → unsigned_abs v ≤ 4294836225 → IsTrue (int_le (pos 0) (to_z w64 (of_z w64 (to_z w64 (of_z w64 u) +ℤ to_z w64 (of_z w64 v))))) → pos 0 ≤ℤ (u +ℤ v)
+sum_nonneg : (u v : ℤ) → unsigned_abs u ≤ 2 ^ 52 → unsigned_abs v ≤ 2 ^ 52 → IsTrue (int_le (pos 0) (to_z w64 (of_z w64 (to_z w64 (of_z w64 u) +ℤ to_z w64 (of_z w64 v))))) → pos 0 ≤ℤ (u +ℤ v)
 sum_nonneg u v a b h =
     let fits : FitsSigned w64 u = omega (arith, ints) in
     let fit : FitsSigned w64 v = omega (arith, ints) in

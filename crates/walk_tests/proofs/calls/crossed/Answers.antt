@@ -1,13 +1,15 @@
 -- Each portal has an end of the one before it, as they are written.
 use Rattle.std.proofs.Common.{◌++◌, ◌∷◌, [], List, Ok, pos, refl, sym, ap, ◌∙◌, subst}
 use Rattle.sight_names.specs.Splitting.{EndPoints}
+use Rattle.sight_names.specs.Map.{origin}
+use Rattle.sight_names.specs.Near.{point_at}
 use Rattle.stab_hull.specs.declared.Passed.{Passed}
 use Rattle.stab_hull.specs.Answer.{IsPassed}
 use Rattle.stab_hull.specs.Sleeves.{HasLastLeft, HasLastRight}
 use Rattle.walk_tests.proofs.calls.crossed.Goals as goal
 
 abbrev second : EndPoints
-second = record { left = record { x = pos 0; y = pos 0 }; right = record { x = pos 2; y = pos 0 } }
+second = record { left = origin; right = point_at (pos 2) (pos 0) }
 
 pub by_left-requires-clause-last : goal.by_left-requires-clause-last
 by_left-requires-clause-last c = subst (λ (es : List EndPoints). HasLastLeft es _) (sym c.in_ok-begin.ensures.ok) (_, refl, refl)

@@ -5,11 +5,11 @@ use Rattle.geom_exact.proofs.extreme_lines.arith.level.Goals as goal
 pub returns-clause-value : goal.returns-clause-value
 returns-clause-value c = grind (arith, to_z-of_z)
 
-pub scaled-requires : goal.scaled-requires
-scaled-requires c = omega (arith, ints)
+pub scaled-requires-clause-left : goal.scaled-requires-clause-left
+scaled-requires-clause-left c = omega (arith, ints)
 
-pub scaled-requires-2 : goal.scaled-requires-2
-scaled-requires-2 c = omega (arith, ints)
+pub scaled-requires-2-clause-left : goal.scaled-requires-2-clause-left
+scaled-requires-2-clause-left c = omega (arith, ints)
 
 pub overflow_add-result : goal.overflow_add-result
 overflow_add-result c = omega (arith, ints)

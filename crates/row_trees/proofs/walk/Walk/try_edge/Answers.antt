@@ -25,6 +25,23 @@ returns-in-Open-clause-after c = λ s n t.
     let o = subst (λ (p : Passed). IsPassed c.args.self.now.ends (ends_of c.args.edge.now) c.pass.new.self (Ok p)) c.in-Open.is c.in_ok-pass.ensures in
     c.go_through.ensures.after s n c.args.self.now.ends o.0 t
 
+pub turn_back-requires : goal.turn_back-requires
+turn_back-requires c =
+    let w = c.args.self.now in
+    let x = c.args.edge.now in
+    let r = c.requires.tried in
+    let k = scene_of c.args.terrain.now c.args.masks.now in
+    let o = subst (λ (p : Passed). IsPassed w.ends (ends_of x) c.pass.new.self (Ok p)) c.in-Stuck.is c.in_ok-pass.ensures in
+    record {
+      tried = (
+        r.0,
+        r.1,
+        x,
+        subst (λ (es : List EndPoints). IsBarredBy (es ++ ends_of x ∷ []) c.in-Stuck.evidence) (sym o.0) o.1,
+        subst (λ (es : List EndPoints). IsTried k r.0 w.root es w.judged c.args.made.now.found.items x r.1) (sym o.0) r.2,
+      );
+    }
+
 pub returns-in-Stuck-clause-after : goal.returns-in-Stuck-clause-after
 returns-in-Stuck-clause-after c = λ s n t.
     let w = c.args.self.now in

@@ -13,10 +13,10 @@ invariant-loop-low l = record {
   extents : AreExtents (map_of l.plan) l.incident.segments l.extents.extents.items;
   searched : AreSearched (map_of l.plan) l.searched.triangles.items;
   numbers : AreNumbers (length l.plan.points) l.unsaturated.items;
-  bounds : ((l.low ≡ 0) × (l.high ≡ 64)) ⊎ ((l.high ≡ 2 * l.low) × (1 ≤ l.low) × (l.low ≤ 196610));
+  bounds : ((l.low ≡ 0) × (l.high ≡ 64)) ⊎ ((l.high ≡ 2 * l.low) × (1 ≤ l.low) × (l.low ≤ 201326594));
   so_far : IsGreedySoFar (map_of l.plan) (IsShorter (map_of l.plan) l.low) (edges_of l.incident.segments);
   closed : (k : ℕ) → k < length l.plan.points → Contains l.unsaturated.items k ⊎ IsSaturated (map_of l.plan) (edges_of l.incident.segments) k;
 }
 
 abbrev pub decreases-loop-low : goal.decreases-loop-low
-decreases-loop-low l = (196611 - l.low)
+decreases-loop-low l = (201326595 - l.low)

@@ -1,9 +1,9 @@
-use Rattle.std.proofs.Common.{◌≡◌, ◌<◌, get_or, slice_get, Some, sym, ap, ◌∙◌, arith}
-use Rattle.std.proofs.lemmas.Option.{slice_get-get_or}
+use Rattle.std.proofs.Common.{◌≡◌, ◌<◌, length, slice_get, Some, refl, sym, ap, ◌∙◌, arith}
+use Rattle.std.proofs.lemmas.Option.{slice_get-get_or, slice_get_read}
 use Rattle.sight_names.proofs.Lists.{contains_of_get}
 use Rattle.gate_floods.specs.declared.gate_masks.gate.Gate.{Gate}
 use Rattle.gate_floods.specs.GateMasks.Words.{HasBit}
-use Rattle.gate_floods.proofs.GateMasks.Flooding.{all_settled, any_gate, marked_within, settling_begun, settling_step}
+use Rattle.gate_floods.proofs.GateMasks.Flooding.{all_settled, marked_within, settling_begun, settling_step}
 use Rattle.gate_floods.proofs.gate_masks.flood.Flood.settle.Goals as goal
 
 pub ways_on-next-items-requires-clause-within : goal.ways_on-next-items-requires-clause-within
@@ -20,8 +20,8 @@ loop-next-init c =
 
 pub step-requires : goal.step-requires
 step-requires c =
-    let e : Gate = get_or c.ways_on-next-items.result.now c.loop-next.next-index any_gate in
-    let got = slice_get-get_or c.ways_on-next-items.result.now c.loop-next.next-index any_gate c.loop-next-test.true in
+    let e : Gate = c.next-item.result in
+    let got = slice_get_read c.ways_on-next-items.result.now (length c.ways_on-next-items.result.now) c.loop-next.next-index c.next-item.result refl c.loop-next-test.true c.next-item.is in
     let own = (c.ways_on-next-items.ensures e).0 (contains_of_get c.ways_on-next-items.result.now e c.loop-next.next-index got) in
     let lt : e.far < c.args.gates.now.sectors = c.requires.indexed.within e own.0 in
     let len = c.requires.len in
@@ -30,8 +30,8 @@ step-requires c =
 
 pub loop-next-preserved : goal.loop-next-preserved
 loop-next-preserved c =
-    let e : Gate = get_or c.ways_on-next-items.result.now c.loop-next.next-index any_gate in
-    let got = slice_get-get_or c.ways_on-next-items.result.now c.loop-next.next-index any_gate c.loop-next-test.true in
+    let e : Gate = c.next-item.result in
+    let got = slice_get_read c.ways_on-next-items.result.now (length c.ways_on-next-items.result.now) c.loop-next.next-index c.next-item.result refl c.loop-next-test.true c.next-item.is in
     let own = (c.ways_on-next-items.ensures e).0 (contains_of_get c.ways_on-next-items.result.now e c.loop-next.next-index got) in
     let lt : e.far < c.args.gates.now.sectors = c.requires.indexed.within e own.0 in
     let len = c.requires.len in
