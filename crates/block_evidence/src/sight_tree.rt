@@ -6,7 +6,7 @@ use crate::Evidence;
 pub use nodes::{Nodes, NodesIter};
 
 /// What a walk found of one sequence.
-#[derive(Clone, Copy, Debug, PartialEq, Eq)]
+#[derive(Clone, Copy, PartialEq, Eq)]
 pub enum Node {
     Open,
     Blocked(Evidence),

@@ -18,7 +18,7 @@ use map_faults::{Gap, Tear, clashes_of, gaps_of, loose_ends_of, open_sides_of, t
 use mesh_shape::Mesh;
 use sight_names::{Memory, Plan, Reading, Side};
 use std::alloc::Global;
-use triangulate::{greedy, mesh_of};
+use triangulate::greedy_mesh;
 
 /// What is at fault between the lines.
 #[derive(Drop)]
@@ -53,8 +53,7 @@ fn faces_of(alloc: Global, plan: &Plan) -> Result<Between, Memory>
     requires { LinesMeetAtEnds (map_of plan.now) }
     ensures { IfOk result (λ b. AreOfFaces plan.now b.sides.items b.tears.items b.gaps.items) }
 {
-    let segments = greedy(alloc, plan)?;
-    let mesh = mesh_of(alloc, plan, &segments)?;
+    let mesh = greedy_mesh(alloc, plan)?;
     faces_over(alloc, plan, &mesh)
 }
 

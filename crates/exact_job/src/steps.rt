@@ -1,7 +1,7 @@
 //! Who is told how far a build is.
 
 /// What the walks of a round are made for.
-#[derive(Clone, Copy, Debug, PartialEq, Eq)]
+#[derive(Clone, Copy, PartialEq, Eq)]
 pub enum Stage {
     /// Rays, which the first walk searches for.
     Searches,

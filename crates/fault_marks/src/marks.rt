@@ -17,7 +17,7 @@ use map_picture::{Arrow, FaultAt, PointFault};
 use mesh_shape::Mesh;
 use sight_names::{Items, Memory, Plan, Pt, Side};
 use std::alloc::{AllocError, Global};
-use triangulate::{greedy, mesh_of};
+use triangulate::greedy_mesh;
 
 /// How many clashes are left out, the lines that are marked, the points round which there are rings, and the arrows.
 #[derive(Drop)]
@@ -91,17 +91,6 @@ pub fn marks_of_clashes(alloc: Global, plan: &Plan) -> Result<FaultMarks, Memory
 }
 
 // ---- open faces
-
-/// The empty triangles of the greedy segments.
-fn mesh_for(alloc: Global, plan: &Plan) -> Result<Mesh, Memory>
-    requires { LinesMeetAtEnds (map_of plan.now) }
-    ensures mesh { IfOk result (λ mesh. IsMeshOf (map_of plan.now) mesh.triangles) }
-    ensures plain { IfOk result (λ mesh. IsPlainMesh (map_of plan.now) mesh.triangles) }
-    ensures fills { IfOk result (λ mesh. FillsSides (map_of plan.now) mesh.triangles) }
-{
-    let segments = greedy(alloc, plan)?;
-    mesh_of(alloc, plan, &segments)
-}
 
 fn lines_of_sides(alloc: Global, sides: &[Side]) -> Result<Vec<u16>, Memory>
     ensures { IfOk result (λ v. v.items ≡ map (λ s. s.line) sides.now) }
@@ -213,6 +202,6 @@ pub fn marks_of_open_faces(alloc: Global, plan: &Plan) -> Result<FaultMarks, Mem
     requires { LinesMeetAtEnds (map_of plan.now) }
     ensures { IfOk result (AreOfOpenFaces (map_of plan.now)) }
 {
-    let mesh = mesh_for(alloc, plan)?;
+    let mesh = greedy_mesh(alloc, plan)?;
     marks_over(alloc, plan, &mesh)
 }

@@ -14,18 +14,7 @@ use mesh_shape::Mesh;
 use row_spelling::Spelling;
 use sight_names::{Memory, Plan, Side};
 use std::alloc::{AllocError, Global};
-use triangulate::{greedy, mesh_of};
-
-/// The empty triangles of the greedy segments.
-fn mesh_for(alloc: Global, plan: &Plan) -> Result<Mesh, Memory>
-    requires { LinesMeetAtEnds (map_of plan.now) }
-    ensures mesh { IfOk result (λ mesh. IsMeshOf (map_of plan.now) mesh.triangles) }
-    ensures plain { IfOk result (λ mesh. IsPlainMesh (map_of plan.now) mesh.triangles) }
-    ensures fills { IfOk result (λ mesh. FillsSides (map_of plan.now) mesh.triangles) }
-{
-    let segments = greedy(alloc, plan)?;
-    mesh_of(alloc, plan, &segments)
-}
+use triangulate::greedy_mesh;
 
 /// That the map is sound.
 fn sound_word(spelling: Spelling) -> &'static str
@@ -114,6 +103,6 @@ pub fn told_faces(alloc: Global, plan: &Plan, spelling: Spelling) -> Result<Stri
     requires { LinesMeetAtEnds (map_of plan.now) }
     ensures { IfOk result (λ text. AreFacesTold spelling plan.now (string_bytes text)) }
 {
-    let mesh = mesh_for(alloc, plan)?;
+    let mesh = greedy_mesh(alloc, plan)?;
     told_over(alloc, plan, spelling, &mesh)
 }

@@ -6,11 +6,12 @@ ghost use Rattle.sight_names.specs.Sound.{LinesMeetAtEnds};
 ghost use Rattle.group_job.specs.Built.{IsGroupFault};
 ghost use Rattle.group_job.specs.Grouped.{IsMapOfGroups};
 
-use crate::faces::{Faces, triangles_of};
+use crate::faces::Faces;
 use cert_format::cert_groups::Group;
 use face_groups::{GroupFault, Grouped, group_map};
 use sight_names::{Items, Plan};
 use std::alloc::Global;
+use triangulate::greedy_mesh;
 
 /// The groups of a map, its map of groups, and the mesh of that with its labels.
 #[derive(Drop)]
@@ -31,7 +32,7 @@ pub fn map_of_groups(alloc: Global, plan: &Plan) -> Result<MapOfGroups, GroupFau
     ensures fault { IfErr result (IsGroupFault (map_of plan.now)) }
 {
     let _ = plan.lines();
-    let mesh = triangles_of(alloc, plan)?;
+    let mesh = greedy_mesh(alloc, plan)?;
     let Grouped {
         groups,
         plan: grouped,

@@ -20,7 +20,7 @@ pub struct Finding {
 }
 
 /// Whether a listener hears on.
-#[derive(Clone, Copy, Debug, PartialEq, Eq)]
+#[derive(Clone, Copy, PartialEq, Eq)]
 pub enum Keep {
     Stay,
     Done,

@@ -10,7 +10,7 @@ use std::alloc::Global;
 use std::marker::Model;
 
 /// Writes a line for each set pair, as `set 0 2`, and is done after so many of them.
-#[derive(Debug, Drop)]
+#[derive(Drop)]
 pub struct FirstSet {
     heard: Vec<Finding>,
     text: Vec<u8>,

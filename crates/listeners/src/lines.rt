@@ -10,7 +10,7 @@ use std::alloc::Global;
 use std::marker::Model;
 
 /// Writes a line for each set or listed pair, as `set 0 2` or `listed 0 2`, and hears to the end. A contract sees it as what it heard.
-#[derive(Debug, Drop)]
+#[derive(Drop)]
 pub struct Lines {
     heard: Vec<Finding>,
     text: Vec<u8>,

@@ -14,25 +14,13 @@ use face_groups::{GroupFault, Grouped, group_map};
 use mesh_shape::Mesh;
 use sight_names::{Memory, Plan};
 use std::alloc::Global;
-use triangulate::{greedy, mesh_of};
+use triangulate::greedy_mesh;
 
 /// The mesh of a map, and the groups of sectors to which its faces belong, with the map of groups.
 #[derive(Drop)]
 pub struct MeshGroups {
     pub mesh: Mesh,
     pub grouped: Grouped,
-}
-
-/// The empty triangles of the greedy segments.
-fn mesh_for(alloc: Global, plan: &Plan) -> Result<Mesh, Memory>
-    requires audited { LinesMeetAtEnds (map_of plan.now) }
-    ensures points { IfOk result (λ mesh. mesh.points ≡ length plan.now.points) }
-    ensures mesh { IfOk result (λ mesh. IsMeshOf (map_of plan.now) mesh.triangles) }
-    ensures plain { IfOk result (λ mesh. IsPlainMesh (map_of plan.now) mesh.triangles) }
-    ensures fills { IfOk result (λ mesh. FillsSides (map_of plan.now) mesh.triangles) }
-{
-    let segments = greedy(alloc, plan)?;
-    mesh_of(alloc, plan, &segments)
 }
 
 /// The groups of a map whose lines meet at ends, over this mesh of it.
@@ -59,7 +47,7 @@ pub fn audit_groups(alloc: Global, plan: &Plan) -> Result<MeshGroups, Status>
     ensures groups { IfOk result (AreGroupsOver plan.now) }
     ensures refusals { IfErr result (IsClosedRefusal (map_of plan.now)) }
 {
-    match mesh_for(alloc, plan) {
+    match greedy_mesh(alloc, plan) {
         Ok(mesh) => groups_over(alloc, plan, mesh),
         Err(memory) => Err(Status::Memory(memory)),
     }

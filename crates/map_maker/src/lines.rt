@@ -6,14 +6,14 @@ ghost use Rattle.map_maker.specs.Lines.{at_place, line, wall_lines, room_sector,
 use std::alloc::{AllocError, Global};
 
 /// A point of the map.
-#[derive(Clone, Copy, Debug, PartialEq, Eq, Hash)]
+#[derive(Clone, Copy, PartialEq, Eq, Hash)]
 pub struct Spot {
     pub x: usize,
     pub y: usize,
 }
 
 /// A line with the sector on its right, and the one on its left where there is one.
-#[derive(Clone, Copy, Debug)]
+#[derive(Clone, Copy)]
 pub struct Line {
     pub from: Spot,
     pub to: Spot,
@@ -22,7 +22,7 @@ pub struct Line {
 }
 
 // What the lines belong to: rooms, corridors that run east, corridors that run north.
-#[derive(Clone, Copy, Debug)]
+#[derive(Clone, Copy)]
 enum Part {
     Room,
     East,

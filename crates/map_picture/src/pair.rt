@@ -20,7 +20,7 @@ use sight_names::{Line, Plan, Ray, Side};
 use std::alloc::AllocError;
 
 /// A segment at which sight ends, by the numbers of its points.
-#[derive(Clone, Copy, Debug, PartialEq, Eq, PartialOrd, Ord)]
+#[derive(Clone, Copy, PartialEq, Eq, PartialOrd, Ord)]
 pub struct Stop {
     pub from: u16,
     pub to: u16,

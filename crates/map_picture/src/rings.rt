@@ -15,7 +15,7 @@ use sight_names::{Items, Plan, Triangle};
 use std::alloc::AllocError;
 
 /// What a ring is called.
-#[derive(Clone, Copy, Debug, PartialEq, Eq)]
+#[derive(Clone, Copy, PartialEq, Eq)]
 pub enum Letter {
     /// The sector from which is looked.
     A,

@@ -35,7 +35,7 @@ fn push_head(out: &mut Vec<u8>, sizes: Sizes) -> Result<(), AllocError>
 }
 
 /// What a picture tells of its map.
-#[derive(Clone, Copy, Debug, PartialEq, Eq)]
+#[derive(Clone, Copy, PartialEq, Eq)]
 pub enum Subject {
     /// The plan alone.
     Plan,

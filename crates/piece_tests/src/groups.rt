@@ -1,9 +1,6 @@
 //! The groups of a room with a pillar inside whose sides name another sector, with and without lines whose two sides name
 //! one sector; and the labels of triangles, where each face has one name.
 
-ghost use Rattle.sight_names.specs.Map.{map_of};
-ghost use Rattle.sight_names.specs.Sound.{LinesMeetAtEnds};
-
 use crate::plans::plan_of;
 use face_groups::tri_sectors::label;
 use face_groups::{Grouped, ShortList, faces, group_map};
@@ -12,7 +9,7 @@ use mesh_shape::Mesh;
 use sight_names::{Memory, Plan, Triangle};
 use std::alloc::{AllocError, Global};
 use std::test::Fail;
-use triangulate::{greedy, mesh_of};
+use triangulate::greedy_mesh;
 
 /// The words of a map; how many triangles there are inside the pillar, and the sectors that sides name on their faces; the same of the
 /// other triangles; the groups; and the group of the right and of the left side of each line. A hyphen is no sector and no group.
@@ -188,20 +185,12 @@ fn push_labels(text: &mut String, alloc: Global, plan: &Plan, mesh: &Mesh) -> Re
     Ok(pushed?)
 }
 
-// The mesh of a map whose lines meet at ends.
-fn mesh_over(alloc: Global, plan: &Plan) -> Result<Mesh, Memory>
-    requires { LinesMeetAtEnds (map_of plan.now) }
-{
-    let segments = greedy(alloc, plan)?;
-    mesh_of(alloc, plan, &segments)
-}
-
 // The same of any map.
 fn audited_mesh(alloc: Global, plan: &Plan) -> Result<Mesh, Fail> {
     let Ok(()) = audit_lines(alloc, plan) else {
         return Err("lines don't meet at ends".into());
     };
-    Ok(mesh_over(alloc, plan)?)
+    Ok(greedy_mesh(alloc, plan)?)
 }
 
 // Adds what there is to tell of a map, or of its labels alone. The mesh is freed at one way out.

@@ -12,7 +12,7 @@ use std::alloc::Global;
 use std::marker::Model;
 
 /// The ways out of a triangle that are still to be tried.
-#[derive(Clone, Copy, Debug, PartialEq, Eq)]
+#[derive(Clone, Copy, PartialEq, Eq)]
 pub enum Ways {
     Both,
     RightOnly,
@@ -20,7 +20,7 @@ pub enum Ways {
 }
 
 /// A portal that was entered, by the number of its half-edge.
-#[derive(Clone, Copy, Debug)]
+#[derive(Clone, Copy)]
 pub struct Frame {
     pub edge: u32,
     pub ways: Ways,

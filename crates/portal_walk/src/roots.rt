@@ -10,7 +10,7 @@ use std::marker::Model;
 
 /// A side that names the source, of a passable line whose other side doesn't, and the line's portal, walked out of the
 /// source.
-#[derive(Clone, Copy, Debug)]
+#[derive(Clone, Copy)]
 pub struct Root {
     pub side: Side,
     pub left: u16,

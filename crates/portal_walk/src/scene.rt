@@ -17,7 +17,7 @@ use sight_names::Plan;
 use std::marker::Model;
 
 /// The one or the other way out of a triangle that was entered.
-#[derive(Clone, Copy, Debug)]
+#[derive(Clone, Copy)]
 pub enum Way {
     Left,
     Right,

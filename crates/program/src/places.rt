@@ -19,7 +19,7 @@ pub struct BadByte {
 }
 
 /// A place in a text. Rows and columns are counted from 1; a row ends with a line feed, a column is a byte.
-#[derive(Clone, Copy, Debug, PartialEq, Eq)]
+#[derive(Clone, Copy, PartialEq, Eq)]
 pub struct TextPlace {
     pub row: usize,
     pub column: usize,

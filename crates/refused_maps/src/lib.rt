@@ -2,7 +2,7 @@
 #![tactic(auto)]
 
 /// What is done where a map gets no table.
-#[derive(Clone, Copy, Debug, PartialEq, Eq)]
+#[derive(Clone, Copy, PartialEq, Eq)]
 pub enum Refused {
     /// It keeps its REJECT.
     Keep,

@@ -6,7 +6,7 @@ mod quoted;
 pub use quoted::push_quoted;
 
 /// How each row of a report is spelled.
-#[derive(Clone, Copy, Debug, PartialEq, Eq)]
+#[derive(Clone, Copy, PartialEq, Eq)]
 pub enum Spelling {
     /// As a line of words.
     Text,

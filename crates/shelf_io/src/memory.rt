@@ -12,14 +12,14 @@ use sight_names::{Failed, ShelfFault};
 use std::alloc::{AllocError, Global};
 
 /// A name and what stands under it.
-#[derive(Debug, Drop)]
+#[derive(Drop)]
 pub struct File {
     pub name: String,
     pub bytes: Vec<u8>,
 }
 
 /// Which calls are to fail, each kind numbered from 0.
-#[derive(Debug, Drop)]
+#[derive(Drop)]
 pub struct Fails {
     pub reads: Vec<u64>,
     pub creates: Vec<u64>,
@@ -27,7 +27,7 @@ pub struct Fails {
 }
 
 /// Files in memory.
-#[derive(Debug, Drop)]
+#[derive(Drop)]
 pub struct MemShelf {
     alloc: Global,
     files: Vec<File>,
@@ -264,7 +264,7 @@ impl Shelf for MemShelf {
 }
 
 /// Text in memory.
-#[derive(Debug, Drop)]
+#[derive(Drop)]
 pub struct MemSink {
     held: Vec<u8>,
     fails: Vec<u64>,

@@ -9,7 +9,7 @@ ghost use Rattle.shelf_io.specs.Sink.{SinkState, HasFront};
 use sight_names::{Failed, Memory, ShelfFault};
 
 /// Why it isn't known whether two names mean one file.
-#[derive(Clone, Copy, Debug, PartialEq, Eq)]
+#[derive(Clone, Copy, PartialEq, Eq)]
 pub enum SameFault {
     /// It can't be found out.
     Failed,

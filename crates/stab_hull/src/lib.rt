@@ -18,7 +18,7 @@ pub use sleeve::Sleeve;
 pub use track::Track;
 
 /// Whether a line splits the ends and those of one more portal.
-#[derive(Clone, Copy, Debug, PartialEq, Eq)]
+#[derive(Clone, Copy, PartialEq, Eq)]
 pub enum Passed {
     /// One does.
     Open,

@@ -13,7 +13,7 @@ use geom_exact::extreme_lines::Cone;
 use sight_names::{EndAt, Memory, Pt, RIGHT_END};
 
 /// What comes of one more portal.
-#[derive(Clone, Copy, Debug)]
+#[derive(Clone, Copy)]
 pub enum Told {
     /// It is stacked: a line passes it and all before.
     Open,
@@ -24,7 +24,7 @@ pub enum Told {
 }
 
 /// What one more end does to the stacks.
-#[derive(Clone, Copy, Debug)]
+#[derive(Clone, Copy)]
 enum Tells {
     /// The portal is stacked and the end isn't kept, since another one covers it.
     Covered,

@@ -6,7 +6,7 @@ use geom_exact::extreme_lines::Extreme;
 use sight_names::Pt;
 
 /// The factors of a line's form, in the width of its values.
-#[derive(Clone, Copy, Debug)]
+#[derive(Clone, Copy)]
 pub struct Slope {
     pub a: i64,
     pub b: i64,

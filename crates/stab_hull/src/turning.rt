@@ -16,7 +16,7 @@ use geom_exact::extreme_lines::{Cone, Wedge};
 use sight_names::{EndAt, Memory, RIGHT_END};
 
 /// What one more end does to the two extreme lines.
-#[derive(Clone, Copy, Debug)]
+#[derive(Clone, Copy)]
 pub enum Turn {
     /// Both stay, and none will come to it, since an end of its side covers it.
     Covered,

@@ -10,4 +10,4 @@ mod triangles;
 pub use crate::greedy_segments::greedy;
 pub use crate::incident_segments::{Segment, Segments};
 pub use laws::mesh_laws;
-pub use triangles::mesh_of;
+pub use triangles::greedy_mesh;

@@ -10,6 +10,7 @@ ghost use Rattle.triangulate.specs.IncidentSegments.Kept.{AreEdges, edge_of};
 ghost use Rattle.triangulate.specs.Left.{AreLeftTriangles, IsInOrder, IsLeftAdded};
 ghost use Rattle.mesh_shape.specs.Fills.{FillsHull, FillsSides};
 
+use crate::greedy_segments::greedy;
 use crate::incident_segments::{IncidentSegments, Segments, next_left};
 use mesh_shape::Mesh;
 use sight_names::{Memory, Plan, Triangle};
@@ -17,7 +18,7 @@ use std::alloc::Global;
 
 /// All empty triangles of the greedy segments, in order: on the left of each segment the one to the first neighbour. There
 /// are at most twice as many as points.
-pub fn mesh_of(alloc: Global, plan: &Plan, segments: &Segments) -> Result<Mesh, Memory>
+fn mesh_of(alloc: Global, plan: &Plan, segments: &Segments) -> Result<Mesh, Memory>
     requires audited { LinesMeetAtEnds (map_of plan.now) }
     requires greedy { IsGreedy (map_of plan.now) segments.now }
     ensures points { IfOk result (λ mesh. mesh.points ≡ length plan.now.points) }
@@ -31,6 +32,19 @@ pub fn mesh_of(alloc: Global, plan: &Plan, segments: &Segments) -> Result<Mesh, 
     let incident = incident_of(alloc, count, segments)?;
     let found = triangles_of(alloc, plan, &incident)?;
     Mesh::of(alloc, count, in_order(found))
+}
+
+/// The mesh of a map whose lines meet at ends: the empty triangles of its greedy segments, at most twice as many as points.
+pub fn greedy_mesh(alloc: Global, plan: &Plan) -> Result<Mesh, Memory>
+    requires audited { LinesMeetAtEnds (map_of plan.now) }
+    ensures points { IfOk result (λ mesh. mesh.points ≡ length plan.now.points) }
+    ensures mesh { IfOk result (λ mesh. IsMeshOf (map_of plan.now) mesh.triangles) }
+    ensures plain { IfOk result (λ mesh. IsPlainMesh (map_of plan.now) mesh.triangles) }
+    ensures fills { IfOk result (λ mesh. FillsSides (map_of plan.now) mesh.triangles) }
+    ensures few { IfOk result (λ mesh. length mesh.triangles ≤ 2 * length plan.now.points) }
+{
+    let segments = greedy(alloc, plan)?;
+    mesh_of(alloc, plan, &segments)
 }
 
 /// The triangles in ascending order, each once.

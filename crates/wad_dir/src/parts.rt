@@ -13,7 +13,7 @@ pub enum Kind {
 }
 
 /// The name of a lump, padded with NUL, and where its bytes lie. One of no bytes stands at 0.
-#[derive(Clone, Copy, Debug, PartialEq, Eq)]
+#[derive(Clone, Copy, PartialEq, Eq)]
 pub struct Entry {
     pub name: [u8; 8],
     pub at: u32,

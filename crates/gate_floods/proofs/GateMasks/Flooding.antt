@@ -1,5 +1,5 @@
 -- A flood over gates comes to all that lies beyond a gate, and to nothing else.
-use Rattle.std.proofs.Common.{◌≡◌, ℕ, zero, suc, ◌+◌, ◌<◌, ◌≤◌, ◌⊎◌, ◌↔◌, inl, inr, List, [], ◌∷◌, ◌++◌, length, slice_get, slice_index_or, Some, Bool, true, false, not, cond, refl, sym, ap, ◌∙◌, subst, arith, set, length-set, length-append, get_or-set_same, get_or-set_other, replicate, Contains, pos}
+use Rattle.std.proofs.Common.{◌≡◌, ℕ, zero, suc, ◌+◌, ◌<◌, ◌≤◌, ◌⊎◌, ◌↔◌, inl, inr, List, [], ◌∷◌, ◌++◌, length, slice_get, slice_index_or, Some, Bool, true, false, not, cond, refl, sym, ap, ◌∙◌, subst, arith, set, length-set, length-append, get_or-set_same, get_or-set_other, replicate, Contains}
 use Rattle.std.specs.List.{count_by}
 use Rattle.std.proofs.lemmas.List.{length-replicate}
 use Rattle.std.proofs.lemmas.List.Sums.{sum_by-set, sum_by-cons}

@@ -9,7 +9,7 @@ use sight_names::{Line, Memory, Plan, Side, Triangle};
 use std::alloc::Global;
 
 /// What lies on a directed edge for one who enters by it.
-#[derive(Clone, Copy, Debug)]
+#[derive(Clone, Copy)]
 pub enum EdgeKind {
     /// No line.
     Free,
