@@ -15,11 +15,11 @@ use certificates::Certificate;
 use exact_job::build_exact_alone;
 use face_groups::GroupFault;
 use group_job::build_table_alone;
-use group_job::sight_workers::OpenGate;
 use map_answers::sight_status::{Flaw, Status};
 use map_answers::{audit_lines_of, plan_of};
 use reject_bits::Table;
 use sight_names::{Ask, Items, Method, Plan, Reading};
+use sight_workers::OpenGate;
 use std::alloc::Global;
 use whole_wad::{Built, has_sizes_of_map};
 

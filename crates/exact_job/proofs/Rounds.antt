@@ -45,7 +45,7 @@ use Rattle.exact_job.specs.Rounds.{AreNoted, HasMore, IsRound}
 use Rattle.exact_job.specs.Trees.{AreTreesFor, AreWalks, HasFound, HasFoundNothing, nodes_of}
 use Rattle.exact_job.proofs.Walks.{nodes_at}
 use Rattle.exact_job.proofs.Counting.{Rise, HasKey, few, less}
-use Rattle.group_job.proofs.SightWorkers.Walks.{from_map}
+use Rattle.sight_workers.proofs.Walks.{from_map}
 
 -- ---- what one walk found
 

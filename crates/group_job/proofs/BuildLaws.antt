@@ -35,8 +35,8 @@ use Rattle.sight_names.specs.Map.{map_of}
 use Rattle.block_evidence.specs.SightTree.WholeTree.{IsWholeTree}
 use Rattle.pair_budget.specs.Decided.{AreExact}
 use Rattle.pair_budget.specs.Whole.{IsShown}
-use Rattle.group_job.specs.declared.sight_workers.view.Task.{Task}
-use Rattle.group_job.specs.SightWorkers.Teams.{AreWalked}
+use Rattle.sight_workers.specs.declared.view.Task.{Task}
+use Rattle.sight_workers.specs.Teams.{AreWalked}
 use Rattle.cert_format.specs.declared.cert.Sizes.{Sizes}
 use Rattle.cert_format.specs.Sizes.{sizes_of}
 use Rattle.group_job.specs.Results.{AreWalks, AreVerdicts, AreShown, AreWholeTrees}

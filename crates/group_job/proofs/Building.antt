@@ -14,9 +14,9 @@ use Rattle.pair_budget.specs.declared.results.SourceResult.{SourceResult}
 use Rattle.pair_budget.specs.declared.results.Verdicts.{Verdicts}
 use Rattle.pair_budget.specs.Decide.{DecidesTable, DecidesList, DecidesRays, trees_of}
 use Rattle.pair_budget.specs.Decided.{AreExact, DecidesOver, TellsConnected}
-use Rattle.group_job.specs.declared.sight_workers.job.Job.{Job}
-use Rattle.group_job.specs.declared.sight_workers.view.Task.{Task}
-use Rattle.group_job.specs.SightWorkers.Board.{task_for}
+use Rattle.sight_workers.specs.declared.job.Job.{Job}
+use Rattle.sight_workers.specs.declared.view.Task.{Task}
+use Rattle.sight_workers.specs.Board.{task_for}
 use Rattle.group_job.specs.Results.{AreResultsOf, AreSetApart, AreShown, AreTreesOfUnspent, AreVerdicts, AreWholeTrees, IsBuiltOver}
 use Rattle.group_job.specs.Faces.{AreFacesOf, faces_of_job}
 use Rattle.group_job.specs.Labelled.{labelled_of}

@@ -19,4 +19,3 @@ pub mod BudgetLaws
 pub mod Certifying
 pub mod Walking
 pub mod TwoSizes
-pub mod SightWorkers

@@ -34,8 +34,8 @@ use Rattle.pair_budget.specs.Decide.{AreResults, IsFoundBy, IsRayOf, turned}
 use Rattle.pair_budget.specs.Decided.{DecidesOver, IsUnseen}
 use Rattle.pair_budget.specs.Through.{IsRayThrough}
 use Rattle.pair_budget.proofs.FoundSectorsLaws.{reached_by}
-use Rattle.group_job.specs.declared.sight_workers.view.Task.{Task}
-use Rattle.group_job.specs.SightWorkers.Teams.{AreWalked}
+use Rattle.sight_workers.specs.declared.view.Task.{Task}
+use Rattle.sight_workers.specs.Teams.{AreWalked}
 use Rattle.group_job.specs.Results.{AreVerdicts}
 use Rattle.group_job.specs.Sight.{AreAllThrough, IsFoundAlong, IsRayAlong, AreRaysAlong, HasSightRays, TellsWhoSees}
 use Rattle.group_job.proofs.VerdictLaws.{cert_rays, both_bits_of}

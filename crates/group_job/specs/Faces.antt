@@ -4,7 +4,7 @@ use Rattle.sight_names.specs.Map.{map_of}
 use Rattle.sight_names.specs.Mesh.{AreLabelsOf, IsGoodMesh, IsMeshOf, label_of}
 use Rattle.sight_names.specs.Plan.{PlanParts}
 use Rattle.sight_names.specs.Sound.{IsSound}
-use Rattle.group_job.specs.declared.sight_workers.job.Job.{Job}
+use Rattle.sight_workers.specs.declared.job.Job.{Job}
 use Rattle.group_job.specs.declared.faces.Faces.{Faces}
 
 -- the map is sound, the triangles are its mesh, the labels are the sectors in which their insides lie, and so the mesh is

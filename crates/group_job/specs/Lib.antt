@@ -8,4 +8,3 @@ pub mod Rows
 pub mod Sectors
 pub mod Sight
 pub mod Walked
-pub mod SightWorkers

@@ -22,9 +22,9 @@ use Rattle.pair_budget.specs.Decide.{AreResults, IsSettled, DecidesTable, Decide
 use Rattle.pair_budget.specs.Decided.{DecidesOver}
 use Rattle.pair_budget.specs.Walked.{IsOutcome}
 use Rattle.pair_budget.specs.Whole.{IsShown}
-use Rattle.group_job.specs.declared.sight_workers.job.Job.{Job}
-use Rattle.group_job.specs.SightWorkers.Board.{task_for}
-use Rattle.group_job.specs.SightWorkers.Teams.{AreWalked}
+use Rattle.sight_workers.specs.declared.job.Job.{Job}
+use Rattle.sight_workers.specs.Board.{task_for}
+use Rattle.sight_workers.specs.Teams.{AreWalked}
 use Rattle.group_job.specs.declared.walked.Built.{Built}
 use Rattle.group_job.specs.declared.faces.Faces.{Faces}
 use Rattle.group_job.specs.Labelled.{labelled_of}

@@ -17,11 +17,11 @@ ghost use Rattle.group_job.specs.Walked.{AreWalkedGroups};
 
 use crate::build::{GroupBuilt, by_sectors, groups_of};
 use crate::grouped::{MapOfGroups, map_of_groups};
-use crate::sight_workers::{Gate, Job, walk_alone};
 use crate::walked::{Built, budget_for, built_of};
 use face_groups::GroupFault;
 use face_groups::tri_sectors::components;
 use sight_names::{Ask, Memory, Plan};
+use sight_workers::{Gate, Job, walk_alone};
 use std::alloc::Global;
 
 /// The table of a map whose lines meet at ends, by the walks of all its groups within the budget that is asked for, without

@@ -21,13 +21,13 @@ ghost use Rattle.group_job.specs.Walked.{AreWalkedGroups};
 use crate::certificate::map_sizes;
 use crate::grouped::{MapOfGroups, map_of_groups};
 use crate::sectors::{copied, sector_table};
-use crate::sight_workers::{Gate, Job, walk_all};
 use crate::walked::{Built, budget_for, built_of};
 use cert_format::cert_groups::{AnyCert, CertTwo, Group};
 use face_groups::GroupFault;
 use face_groups::tri_sectors::components;
 use reject_bits::Table;
 use sight_names::{Ask, Items, Memory, Pair, Plan};
+use sight_workers::{Gate, Job, walk_all};
 use std::alloc::Global;
 use std::thread::Threads;
 

@@ -10,7 +10,6 @@ mod certificate;
 mod faces;
 mod grouped;
 mod sectors;
-pub mod sight_workers;
 mod walked;
 
 pub use alone::build_table_alone;

@@ -9,13 +9,13 @@ ghost use Rattle.group_job.specs.Faces.{AreFacesOf, faces_of_job};
 ghost use Rattle.group_job.specs.Results.{AreResultsOf, IsBuiltOver};
 
 use crate::certificate::{cert_of, labelled, map_sizes};
-use crate::sight_workers::Job;
 use cert_format::Cert;
 use mesh_shape::Mesh;
 use pair_budget::{SourceResult, decide};
 use portal_walk::enough_budget::enough;
 use reject_bits::Table;
 use sight_names::{Ask, Budget, Items, Memory, Pair, Plan};
+use sight_workers::Job;
 use std::alloc::Global;
 
 /// A map's table, the pairs whose budgets ran out, and a certificate of the others, which lists no pair.

@@ -9,7 +9,7 @@ use Rattle.math_base.proofs.Lists.{contains_none, contains_cons, contains_there,
 use Rattle.math_base.proofs.Numbers.{below_or_not, below_or_last}
 use Rattle.sight_names.specs.declared.plan.Line.{Line}
 use Rattle.sight_names.specs.Plan.{PlanParts, IsPlan}
-use Rattle.sight_names.specs.Map.{Map, map_of}
+use Rattle.sight_names.specs.Map.{Map, looked_up, map_of}
 use Rattle.sight_names.specs.Order.{Ascends}
 use Rattle.sight_names.proofs.PlanMap.{line_of_plan}
 use Rattle.mesh_base.proofs.SightLaws.Plans.{line_below}

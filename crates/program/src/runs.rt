@@ -10,12 +10,12 @@ ghost use Rattle.sight_run.specs.Run.{AllSettled, StatusCause, TextAfter, WordsS
 ghost use Rattle.sight_run.specs.Words.{asked_of};
 ghost use Rattle.program.specs.Words.{HearsGiven, Reports, RunsHeard, RunsWords, is_reported, listeners_where};
 
-use group_job::sight_workers::OpenGate;
 use listeners::{Lines, Listener, Totals};
 use order_words::{Order, read_words};
 use shelf_io::{Shelf, Sink};
 use sight_names::{Memory, OrderFault};
 use sight_run::{Hooks, Notice, Status, Watcher, run};
+use sight_workers::OpenGate;
 use std::alloc::Global;
 use std::thread::Threads;
 

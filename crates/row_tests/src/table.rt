@@ -1,13 +1,13 @@
 //! How a row is run. A row has up to five parts between bars: what there is, the words, the exit code, the line, and what
 //! stands under some names after it. Where the first part is empty, the run goes on with what the row before left.
 
-use group_job::sight_workers::OpenGate;
 use listeners::{Lines, Listener, Totals};
 use shelf_io::{MemSink, Shelf};
 use sight_names::{
     CheckFault, FetchFault, LabelFault, LumpFault, OrderFault, RewriteFault, WadFault,
 };
 use sight_run::{Bound, Flaw, Hooks, NoNotice, Notice, Status, Why, code, run};
+use sight_workers::OpenGate;
 use std::alloc::{AllocError, Global};
 use std::test::Fail;
 use std::thread::Threads;

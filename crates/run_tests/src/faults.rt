@@ -2,7 +2,7 @@
 //! after it.
 
 use crate::running::run_on;
-use group_job::sight_workers::OpenGate;
+use sight_workers::OpenGate;
 use std::alloc::{AllocError, Global};
 use std::test::Fail;
 use std::thread::Threads;

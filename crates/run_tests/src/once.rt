@@ -1,11 +1,11 @@
 //! How runs read their files: each from its front to its end, and once, so that a pipe will do.
 
 use crate::faults::RUNS;
-use group_job::sight_workers::OpenGate;
 use listeners::Listener;
 use shelf_io::{MemShelf, MemSink, SameFault, Shelf};
 use sight_names::{Failed, ShelfFault};
 use sight_run::{Hooks, NoNotice, run};
+use sight_workers::OpenGate;
 use std::alloc::{AllocError, Global};
 use std::test::Fail;
 use std::thread::Threads;

@@ -1,9 +1,9 @@
 //! Runs of the top call over files in memory.
 
-use group_job::sight_workers::Gate;
 use listeners::Listener;
 use shelf_io::MemSink;
 use sight_run::{Hooks, NoNotice, code, run};
+use sight_workers::Gate;
 use std::alloc::{AllocError, Global};
 use std::thread::Threads;
 use worked_maps::stages::{Stage, words_in};

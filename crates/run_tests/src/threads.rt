@@ -1,7 +1,7 @@
 //! Runs by two workers that wait for each other, and threads that stand beside runs whose calls pass no gate.
 
 use crate::running::run_on;
-use group_job::sight_workers::OpenGate;
+use sight_workers::OpenGate;
 use std::alloc::{AllocError, Global};
 use std::fs;
 use std::rt::Files;

@@ -2,8 +2,8 @@
 
 use crate::bits::{changed, is_listed, is_set, listed_count, set};
 use crate::running::run_on;
-use group_job::sight_workers::OpenGate;
 use shelf_io::{Shelf, store};
+use sight_workers::OpenGate;
 use std::alloc::{AllocError, Global};
 use std::test::Fail;
 use std::thread::Threads;

@@ -17,11 +17,11 @@ ghost use Rattle.sight_run.specs.Words.{file_in};
 
 use crate::asked::{ReadMaps, read_asked};
 use crate::reply::{Reply, report_alone, spelling_in};
-use group_job::sight_workers::Gate;
 use map_answers::sight_status::Status;
 use order_words::{ReportFile, Source, Text};
 use shelf_io::Shelf;
 use sight_names::{Items, Memory};
+use sight_workers::Gate;
 use std::alloc::{AllocError, Global};
 use std::thread::Threads;
 use table_verdicts::{WadVerdict, all_right, line_of, verify_wad};

@@ -10,10 +10,10 @@ ghost use Rattle.table_verdicts.specs.Verdict.{HasFirstWrong, IsVerdictOrMemory,
 use crate::own::{OwnTable, own_table};
 use crate::sight_of_pair::sight_of_pair;
 use crate::verdict::{Findings, FirstWrong, Verdict};
-use group_job::sight_workers::Gate;
 use map_answers::sight_status::Status;
 use reject_bits::Table;
 use sight_names::{Method, Pair, Plan};
+use sight_workers::Gate;
 use std::alloc::Global;
 use std::thread::Threads;
 use table_compare::compare;

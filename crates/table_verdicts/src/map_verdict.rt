@@ -11,10 +11,10 @@ ghost use Rattle.table_verdicts.specs.Verdicts.{SaysOf};
 
 use crate::judging::verdict_of;
 use crate::verdict::{MapVerdict, Verdict};
-use group_job::sight_workers::Gate;
 use map_answers::plan_named;
 use map_answers::sight_status::Status;
 use sight_names::Memory;
+use sight_workers::Gate;
 use std::alloc::Global;
 use std::thread::Threads;
 use wad_dir::Wad;

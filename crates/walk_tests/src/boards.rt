@@ -4,16 +4,16 @@ ghost use Rattle.std.specs.Prelude.{◌≡◌, ◌≤◌, false, IfOk, IfSome, I
 ghost use Rattle.sight_names.specs.Found.{Found};
 ghost use Rattle.sight_names.specs.Map.{map_of};
 ghost use Rattle.group_job.specs.Faces.{AreFacesOf};
-ghost use Rattle.group_job.specs.SightWorkers.Board.{IsFindable};
-ghost use Rattle.group_job.specs.SightWorkers.Boards.{IsSameBoard, IsSeatOfBoard, has_given, job_of_board, sectors_of_board, task_of_board, workers_of_board};
-ghost use Rattle.group_job.specs.SightWorkers.Jobs.{IsJob};
+ghost use Rattle.sight_workers.specs.Board.{IsFindable};
+ghost use Rattle.sight_workers.specs.Boards.{IsSameBoard, IsSeatOfBoard, has_given, job_of_board, sectors_of_board, task_of_board, workers_of_board};
+ghost use Rattle.sight_workers.specs.Jobs.{IsJob};
 
 use crate::grounds::groups_named;
 use face_groups::tri_sectors::components;
 use group_job::MapOfGroups;
-use group_job::sight_workers::{Board, BoardSeat, Job, OpenGate};
 use pair_budget::{Alone, Outcome, walk_source};
 use sight_names::{Budget, Memory};
+use sight_workers::{Board, BoardSeat, Job, OpenGate};
 use std::alloc::Global;
 use std::test::Fail;
 

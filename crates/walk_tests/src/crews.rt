@@ -2,8 +2,8 @@
 
 use crate::meeting::Meeting;
 use exact_checker::task_crew::{Tasks, shared};
-use group_job::sight_workers::Gate;
 use sight_names::Memory;
+use sight_workers::Gate;
 use std::alloc::Global;
 use std::sync::atomic::{AtomicU64, Ordering};
 use std::test::Fail;

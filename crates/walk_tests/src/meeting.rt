@@ -1,6 +1,6 @@
 //! A gate at which two workers wait for each other. For the tests of the crates beside it.
 
-use group_job::sight_workers::Gate;
+use sight_workers::Gate;
 use std::sync::atomic::{AtomicU64, Ordering};
 
 /// Each of two workers waits at its first source until the other has one; `late` counts those that waited in vain.

@@ -14,11 +14,11 @@ use certificates::Certificate;
 use exact_job::{Watcher, build_exact};
 use face_groups::GroupFault;
 use group_job::build_table;
-use group_job::sight_workers::Gate;
 use map_answers::audit_lines_of;
 use map_answers::sight_status::{Flaw, Status};
 use reject_bits::Table;
 use sight_names::{Ask, Items, Method, Pair, Plan};
+use sight_workers::Gate;
 use std::alloc::Global;
 use std::thread::Threads;
 

@@ -13,10 +13,10 @@ use crate::building::{Built, build, has_sizes_of_map};
 use crate::hooks::Hooks;
 use any_judge::check_par;
 use group_checker::AnyVerdict;
-use group_job::sight_workers::Gate;
 use map_answers::sight_status::Status;
 use reject_bits::Table;
 use sight_names::{Items, Method, Pair, Plan};
+use sight_workers::Gate;
 use std::alloc::Global;
 use std::thread::Threads;
 

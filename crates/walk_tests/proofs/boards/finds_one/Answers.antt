@@ -3,8 +3,8 @@ use Rattle.std.specs.List.{Contains}
 use Rattle.sight_names.specs.Found.{Found}
 use Rattle.sight_names.specs.Map.{map_of}
 use Rattle.pair_budget.specs.declared.results.Reached.{Reached}
-use Rattle.group_job.proofs.SightWorkers.Lists.{contains_at}
-use Rattle.group_job.proofs.SightWorkers.Walks.{spare}
+use Rattle.sight_workers.proofs.Lists.{contains_at}
+use Rattle.sight_workers.proofs.Walks.{spare}
 use Rattle.walk_tests.proofs.boards.finds_one.Goals as goal
 
 pub returns : goal.returns

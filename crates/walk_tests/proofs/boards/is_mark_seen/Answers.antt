@@ -1,7 +1,7 @@
 use Rattle.std.proofs.Common.{rules, IsTrue, inl, sym, ap, ◌∙◌, subst}
-use Rattle.group_job.specs.declared.sight_workers.desk.Desk.{Desk}
-use Rattle.group_job.specs.declared.sight_workers.job.Terms.{Terms}
-use Rattle.group_job.specs.SightWorkers.Board.{task_of, IsFindable}
+use Rattle.sight_workers.specs.declared.desk.Desk.{Desk}
+use Rattle.sight_workers.specs.declared.job.Terms.{Terms}
+use Rattle.sight_workers.specs.Board.{task_of, IsFindable}
 use Rattle.walk_tests.proofs.boards.is_mark_seen.Goals as goal
 
 pub is_seen-requires-clause-findable : goal.is_seen-requires-clause-findable
