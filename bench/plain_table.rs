@@ -3,6 +3,9 @@
 //! every face, and at each step the differences of all left and right ends. It knows no budget, writes no certificate, audits
 //! nothing and proves nothing. `bench/independent.py` compiles it and compares tables.
 //!
+//! A lump VERTEX32 in place of VERTEXES has int32 x and y, for maps whose coordinates need more than 16 bits; `FARTHEST` says
+//! how far they may be.
+//!
 //! plain_table WAD MAP OUT [THREADS]: writes the table's bytes and says how many bits are set.
 
 use std::collections::{BTreeSet, HashMap};
@@ -10,6 +13,10 @@ use std::sync::Mutex;
 use std::sync::atomic::{AtomicUsize, Ordering::Relaxed};
 
 type P = (i64, i64);
+
+/// No coordinate is farther from 0. Those of the great triangle around all are below 2^29, so their differences are below
+/// 2^30: a turn has 61 bits, and what `in_circle` adds up 124.
+const FARTHEST: i64 = 1 << 25;
 
 fn turn(a: P, b: P, c: P) -> i64 {
     (b.0 - a.0) * (c.1 - a.1) - (b.1 - a.1) * (c.0 - a.0)
@@ -53,7 +60,7 @@ pub fn read(wad: &[u8], name: &str) -> Map {
         (text, &wad[u32_at(at)..][..u32_at(at + 4)])
     };
     let marker = (0..count).rev().find(|k| entry(*k).0 == name).expect("no such map");
-    let known = ["THINGS", "LINEDEFS", "SIDEDEFS", "VERTEXES", "SEGS", "SSECTORS", "NODES", "SECTORS", "REJECT", "BLOCKMAP", "BEHAVIOR", "SCRIPTS"];
+    let known = ["THINGS", "LINEDEFS", "SIDEDEFS", "VERTEXES", "SEGS", "SSECTORS", "NODES", "SECTORS", "REJECT", "BLOCKMAP", "BEHAVIOR", "SCRIPTS", "VERTEX32"];
     let mut lumps: HashMap<String, &[u8]> = HashMap::new();
     for k in marker + 1..count {
         let (text, bytes) = entry(k);
@@ -63,9 +70,19 @@ pub fn read(wad: &[u8], name: &str) -> Map {
         lumps.entry(text).or_insert(bytes);
     }
     let size = if lumps.contains_key("BEHAVIOR") { 16 } else { 14 };
-    let (linedefs, sidedefs, vertexes) = (lumps["LINEDEFS"], lumps["SIDEDEFS"], lumps["VERTEXES"]);
+    let (linedefs, sidedefs) = (lumps["LINEDEFS"], lumps["SIDEDEFS"]);
     let sectors = lumps["SECTORS"].len() / 26;
-    let place = |v: usize| (u16_at(vertexes, 4 * v) as i16 as i64, u16_at(vertexes, 4 * v + 2) as i16 as i64);
+    let place = |v: usize| {
+        let p = if let Some(wide) = lumps.get("VERTEX32") {
+            let i32_at = |at: usize| (u16_at(wide, at) | u16_at(wide, at + 2) << 16) as u32 as i32 as i64;
+            (i32_at(8 * v), i32_at(8 * v + 4))
+        } else {
+            let i16_at = |at: usize| u16_at(lumps["VERTEXES"], at) as i16 as i64;
+            (i16_at(4 * v), i16_at(4 * v + 2))
+        };
+        assert!(p.0.abs() <= FARTHEST && p.1.abs() <= FARTHEST, "vertex {} is too far away", v);
+        p
+    };
     let mut numbers: HashMap<P, usize> = HashMap::new();
     let (mut points, mut lines) = (Vec::new(), Vec::new());
     for k in 0..linedefs.len() / size {
@@ -272,13 +289,16 @@ impl Mesh {
 fn triangulate(map: &Map) -> Mesh {
     let n = map.points.len();
     let mut points = map.points.clone();
-    points.extend([(-400_000, -300_000), (400_000, -300_000), (0, 500_000)]);
+    // far around all, as far for their own size as it is for a map of 16 bits
+    let size = points.iter().map(|p| p.0.abs().max(p.1.abs())).max().unwrap_or(0) / 32768 + 1;
+    points.extend([(-400_000 * size, -300_000 * size), (400_000 * size, -300_000 * size), (0, 500_000 * size)]);
     let mut mesh = Mesh { points, corners: vec![[n, n + 1, n + 2]], next: vec![[NONE; 3]], at: vec![0; n + 3] };
     // in strips up and down, so that each point lies near the one before
+    let wide = map.points.iter().map(|p| p.0).max().unwrap_or(0) - map.points.iter().map(|p| p.0).min().unwrap_or(0);
     let mut order: Vec<usize> = (0..n).collect();
     order.sort_by_key(|p| {
         let (x, y) = map.points[*p];
-        let strip = x.div_euclid(512);
+        let strip = x.div_euclid(wide / 32 + 1);
         (strip, if strip % 2 == 0 { y } else { -y }, x)
     });
     let mut from = 0;

@@ -1,14 +1,17 @@
 #!/usr/bin/env python3
 """Turns the maps of a WAD, in Doom's or Hexen's format, to UDMF.
 
-    bench/udmf.py WAD OUT [--odd SEED] [--times FACTOR]
+    bench/udmf.py WAD OUT [--odd SEED] [--times FACTOR] [--turn A/B] [--noise SEED]
 
 Each map's lumps become one TEXTMAP, as editors write it, and its REJECT stays; behind it stands ENDMAP. All other
 entries are copied. With --odd the text is spelled in any way that the format allows, by the seed: kinds of blocks
 shuffled, comments, hexadecimal and octal numbers, odd case, blanks or none, keys twice. With --times the coordinates
-are multiplied by a whole number or a fraction like 1/8. Only what says where lines and sectors are is turned, and the
-flag that blocks sound; what a map has beside it is left out. For comparisons of tables and certificates of a map in
-both spellings.
+are multiplied by a whole number or a fraction like 1/8. With --turn the map is rotated about the origin, exactly, by the
+angle whose half has the tangent A/B: 1/2 has the cosine 0.6 and the sine 0.8, and 3/4 has 0.28 and 0.96. An angle whose
+cosine has no end in decimals is refused. With --noise each point is moved at last by some thousandths, less than a half
+along x and along y, by the seed. Only what says where lines and sectors are is written, and the flag that blocks
+sound; what a map has beside it is left out. For comparisons of tables and certificates of a map in both spellings: but
+for the noise, all these maps have the table of the binary one.
 """
 import argparse
 import fractions
@@ -27,9 +30,25 @@ def entries_of(data):
     return entries
 
 
-def number(n, factor):
-    """A coordinate in decimals, exactly; None where it has no end in decimals."""
-    value = fractions.Fraction(n) * factor
+class Moved:
+    """Where points come to lie: rotated and scaled, and then moved a little where there are dice. All vertices at one place
+    stay at one place."""
+
+    def __init__(self, factor, tangent, dice):
+        square = tangent * tangent
+        self.across, self.along = factor * (1 - square) / (1 + square), factor * 2 * tangent / (1 + square)
+        self.dice, self.places = dice, {}
+
+    def __call__(self, x, y):
+        if (x, y) not in self.places:
+            place = x * self.across - y * self.along, x * self.along + y * self.across
+            by = (0, 0) if self.dice is None else (self.dice.randint(-499, 499), self.dice.randint(-499, 499))
+            self.places[x, y] = [value + fractions.Fraction(n, 1000) for value, n in zip(place, by)]
+        return self.places[x, y]
+
+
+def number(value):
+    """A coordinate in decimals, exactly."""
     for digits in range(28):
         scaled = value * 10**digits
         if scaled.denominator == 1:
@@ -39,8 +58,9 @@ def number(n, factor):
     raise SystemExit("a coordinate has no end in decimals")
 
 
-def blocks_of(lumps, hexen, factor):
-    """Vertices, lines, sides and sectors, each as a list of keys with their values."""
+def blocks_of(lumps, hexen, moved):
+    """Vertices, lines, sides and sectors, each as a list of keys with their values; `moved` says where a point comes to
+    lie."""
     lines, record = [], 16 if hexen else 14
     for at in range(0, len(lumps["LINEDEFS"]), record):
         v1, v2, flags = struct.unpack_from("<HHH", lumps["LINEDEFS"], at)
@@ -52,7 +72,7 @@ def blocks_of(lumps, hexen, factor):
         pairs += [("blocksound", True)] if flags & 64 else []
         lines.append(pairs)
     ends = struct.iter_unpack("<hh", lumps["VERTEXES"])
-    vertices = [[("x", number(x, factor)), ("y", number(y, factor))] for x, y in ends]
+    vertices = [[(key, number(value)) for key, value in zip("xy", moved(*point))] for point in ends]
     at_sides = range(0, len(lumps["SIDEDEFS"]), 30)
     sides = [[("sector", struct.unpack_from("<H", lumps["SIDEDEFS"], at + 28)[0])] for at in at_sides]
     sectors = [[("heightfloor", 0), ("texturefloor", '"FLAT1"')] for _ in range(len(lumps["SECTORS"]) // 26)]
@@ -123,8 +143,11 @@ def main():
     parser.add_argument("out")
     parser.add_argument("--odd", type=int)
     parser.add_argument("--times", type=fractions.Fraction, default=fractions.Fraction(1))
+    parser.add_argument("--turn", type=fractions.Fraction, default=fractions.Fraction(0))
+    parser.add_argument("--noise", type=int)
     words = parser.parse_args()
     dice = random.Random(words.odd)
+    noise = None if words.noise is None else random.Random(words.noise)
     data = open(words.wad, "rb").read()
     entries, made, k = entries_of(data), [], 0
     while k < len(entries):
@@ -134,7 +157,7 @@ def main():
             made.append((entries[k][2], entries[k][1]))
             k += 1
             continue
-        blocks = blocks_of(lumps, "BEHAVIOR" in lumps, words.times)
+        blocks = blocks_of(lumps, "BEHAVIOR" in lumps, Moved(words.times, words.turn, noise))
         text = plain(blocks) if words.odd is None else odd(blocks, dice)
         made += [(entries[k][2], entries[k][1]), (b"TEXTMAP\0", text.encode())]
         made += [(b"REJECT\0\0", lumps["REJECT"])] if "REJECT" in lumps else []

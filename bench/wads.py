@@ -31,6 +31,14 @@ def maps(held):
             yield name.decode(), run
 
 
+def texts(held):
+    """The name and the text of each map of UDMF, in order."""
+    entries = list(directory(held))
+    for (name, _), (behind, text) in zip(entries, entries[1:]):
+        if behind == b"TEXTMAP":
+            yield name.decode(), text
+
+
 def wad(name, run):
     """A WAD with this one map."""
     body, entries, at = b"", b"", 12
