@@ -102,6 +102,35 @@ text 28 | namespace=\"doom\";vertex{x=0;
 text 36 | namespace=\"doom\";^sector { moreinfo { a = 1; } }^
 text 29 | namespace=\"doom\";^sector { a=\"b\\\";}^
 text 17 | namespace=\"doom\";}
+# no tokens; a comment and a string that don't end
+text 17 | namespace=\"doom\";(x=1;)
+text 19 | namespace=\"doom\";a='b';
+text 18 | namespace=\"doom\"; /*/^x=1;
+text 19 | namespace=\"doom\";a=\";^
+# a value of another kind, of each key, also where a right one follows; numbers of 31 bytes
+value 26 | namespace=\"doom\";vertex{x=\"0\";}
+value 26 | namespace=\"doom\";vertex{y=nan;}
+value 26 | namespace=\"doom\";vertex{x=true;x=0;}
+value 26 | namespace=\"doom\";vertex{y=0.00000000000000000000000000000;}
+value 28 | namespace=\"doom\";linedef{v1=08;}
+value 28 | namespace=\"doom\";linedef{v2=1e0;}
+value 35 | namespace=\"doom\";linedef{sidefront=0.0;}
+value 34 | namespace=\"doom\";linedef{sideback=-;}
+value 34 | namespace=\"doom\";linedef{twosided=\"true\";}
+value 36 | namespace=\"doom\";linedef{blocksound=0;}
+value 33 | namespace=\"doom\";linedef{special=\"57\";}
+value 32 | namespace=\"doom\";sidedef{sector=0x;}
+# the first fault by its byte, before any of the blocks
+value 35 | namespace=\"zdoom\";vertex{}vertex{x=-0x;}linedef{special=57;}(
+portal of line 1 | namespace=\"zdoom\";linedef{v1=0;v2=0;}linedef{special=0x39;}vertex{}
+";
+
+/// Texts with an empty line between their items: as editors write them, in any spelling, and with decimals. A front that
+/// ends with an item has no fault of the text; each other one has its first fault in the item that is cut.
+const CUTS: &str = "\
+namespace = \"doom\";^^vertex // 0^{^x = 0.000;^y = 0.000;^}^^vertex // 1^{^x = 0.000;^y = 64.000;^}^^vertex // 2^{^x = 64.000;^y = 0.000;^}^^linedef // 0^{^v1 = 0;^v2 = 1;^sidefront = 0;^blocking = true;^}^^linedef // 1^{^v1 = 1;^v2 = 2;^sidefront = 0;^}^^linedef // 2^{^v1 = 2;^v2 = 0;^sidefront = 0;^}^^sidedef // 0^{^sector = 0;^texturemiddle = \"STARTAN3\";^}^^sector // 0^{^heightfloor = 0;^}
+NameSpace /* = */ = \"ZDoom\" ;^^LineDef{V1=0x0;V2=01;SideFront=0;user_note=\"a \\\" ; } // b\";}^^linedef{v1=+1;v2=2;sidefront=0;}^^sector{}^^linedef { v1 = 9; v1 = 2; v2 = 0; sidefront = 0; sideback = -1; twosided = FALSE; }^^sidedef{sector=00;}^^vertex{x=0;y=-0.0;}^^author=/**/\"\";^^vertex{x=0e5;y=6.4e1;zfloor=1.5;}^^vertex{x=64000.E-3;y=.0;}^^linedef{special=156;}
+namespace=\"doom\";^^vertex{x=-0.5;y=12.250;}^^vertex{x=3;y=1e1;}^^vertex{x=+.125;y=-64000.5E-3;}^^vertex{x=33554432;y=1e-7;}^^linedef{v1=0;v2=1;sidefront=0;sideback=1;twosided=true;blocksound=true;}^^linedef{v1=2;v2=1;sidefront=1;}^^sidedef{sector=0;}^^sidedef{sector=1;}^^sector{}^^sector{}
 ";
 
 fn kind_name(kind: Kind) -> &'static str {
@@ -241,6 +270,64 @@ fn texts_spell_maps_or_have_a_first_fault(rt: HostRuntime) -> Result<(), Fail> {
             if !is_right(rt.alloc(), &text, part(row, 0))? {
                 assert_eq!(rt; row, "");
             }
+        }
+    }
+    Ok(())
+}
+
+// At which byte the first fault of a text is; None where it has none, or one of its records.
+fn fault_byte(alloc: Global, text: &[u8]) -> Option<usize> {
+    let Err(fault) = lumps_of_text(alloc, text) else {
+        return None;
+    };
+    match fault {
+        TextFault::Text { at } => Some(at),
+        TextFault::Namespace { at } => Some(at),
+        TextFault::Value { at } => Some(at),
+        _ => None,
+    }
+}
+
+// Whether the front of so many bytes has its first fault from this byte on.
+fn is_cut_behind(alloc: Global, text: &[u8], at: usize, len: usize) -> bool {
+    match fault_byte(alloc, text.get(..len).unwrap_or(&[])) {
+        Some(byte) => at <= byte && byte <= len,
+        None => false,
+    }
+}
+
+// Whether each front that cuts the item between these bytes has its first fault in it, and the one that ends with it none.
+fn is_right_item(alloc: Global, text: &[u8], at: usize, end: usize) -> bool {
+    for len in at.wrapping_add(1)..end {
+        if !is_cut_behind(alloc, text, at, len) {
+            return false;
+        }
+    }
+    match text.get(..end) {
+        Some(front) => fault_byte(alloc, front).is_none(),
+        None => false,
+    }
+}
+
+// Whether this holds of each item of a row's text.
+fn are_right_items(alloc: Global, row: &str) -> Result<bool, AllocError> {
+    let text = text_of(alloc, row)?;
+    let mut at = 0usize;
+    for item in row.split("^^") {
+        let end = at.wrapping_add(item.len());
+        if !is_right_item(alloc, &text, at, end) {
+            return Ok(false);
+        }
+        at = end.wrapping_add(2);
+    }
+    Ok(true)
+}
+
+#[test]
+fn a_text_that_is_cut_has_its_first_fault_in_the_item_there(rt: HostRuntime) -> Result<(), Fail> {
+    for row in CUTS.lines() {
+        if !are_right_items(rt.alloc(), row)? {
+            return Err(row.into());
         }
     }
     Ok(())
