@@ -184,7 +184,7 @@ def listed(number, head, found, with_names):
     many = "%d definition%s, %d lines" % (len(found), "s" if len(found) > 1 else "", lines_of(found))
     files = in_order({definition.file for definition in found})
     if not with_names:
-        return wrapped("%d. " % number, "   ", "%s (%s): %s." % (head, many, by_room(files)))
+        return wrapped("%d. " % number, "   ", "%s (%s). In %s." % (head, many, by_room(files)))
     lines = wrapped("%d. " % number, "   ", "%s (%s):" % (head, many))
     for file in files:
         names = ["`%s`" % d.name for d in file.definitions.values() if d in found]
