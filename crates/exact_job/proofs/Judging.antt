@@ -1,5 +1,5 @@
 -- What is judged to be a sight ray of its pair is a found ray; those that are kept are in order.
-use Rattle.std.proofs.Common.{◌≡◌, ℕ, ◌<◌, inl, inr, List, [], ◌∷◌, ◌++◌, Option, None, Some, false, length, Contains, sym, subst}
+use Rattle.std.proofs.Common.{◌≡◌, ℕ, ◌<◌, inl, inr, List, Option, None, Some, false, length, sym, subst}
 use Rattle.std.specs.Option.{is_some}
 use Rattle.std.specs.Prelude.{All, MatchOption}
 use Rattle.std.proofs.lemmas.List.Elements.{All-contains, All-from_recursion}

@@ -1,5 +1,5 @@
 -- From walks with what groups own to the certificate: what is found wasn't joined, and where nothing is found the nodes are trees.
-use Rattle.std.proofs.Common.{◌≡◌, ℕ, ◌*◌, ◌<◌, ◌≤◌, List, Option, None, Some, length, map, refl, sym, ◌∙◌, ap, subst, arith}
+use Rattle.std.proofs.Common.{◌≡◌, ℕ, ◌*◌, ◌<◌, ◌≤◌, List, Option, None, Some, length, refl, sym, ◌∙◌, ap, subst, arith}
 use Rattle.std.specs.Prelude.{option_map}
 use Rattle.std.specs.List.{slice_get}
 use Rattle.std.proofs.lemmas.List.{length-map}
@@ -20,7 +20,7 @@ use Rattle.gate_floods.specs.declared.gate_masks.masks.Row.{Row}
 use Rattle.gate_floods.specs.RowJudge.Masks.{MaskRows}
 use Rattle.gate_floods.specs.RowJudge.Laws.{AreMasks}
 use Rattle.row_trees.specs.declared.made.Made.{Made}
-use Rattle.row_trees.specs.Walkable.{Ground, IsWalkable}
+use Rattle.row_trees.specs.Walkable.{IsWalkable}
 use Rattle.exact_checker.specs.Owning.{AreRanks, KnowsOwning, OwningParts}
 use Rattle.exact_checker.specs.Rows.{AreJoinedRows}
 use Rattle.exact_checker.specs.Judged.{AnswersFor, AreTreesOf}

@@ -1,7 +1,7 @@
 -- Whether one could pass into an unmarked triangle by a directed edge, from the half-edge there.
-use Rattle.std.proofs.Common.{◌≡◌, ℕ, ◌<◌, ◌↔◌, List, Bool, true, false, not, IsTrue, Option, Some, slice_get, length, refl, sym, ◌∙◌, subst}
+use Rattle.std.proofs.Common.{◌≡◌, ℕ, ◌<◌, ◌⊎◌, ◌↔◌, inl, inr, List, Bool, true, false, not, IsTrue, Option, Some, None, slice_get, length, refl, sym, ◌∙◌, subst}
 use Rattle.std.proofs.lemmas.Bool.{true≢false}
-use Rattle.std.proofs.lemmas.Option.{same_Some}
+use Rattle.std.proofs.lemmas.Option.{none-some, same_Some}
 use Rattle.sight_names.specs.declared.names.Triangle.{Triangle}
 use Rattle.sight_names.specs.Map.{map_of}
 use Rattle.sight_names.specs.Mesh.{triangle_at}
@@ -9,8 +9,9 @@ use Rattle.sight_names.specs.Plan.{PlanParts}
 use Rattle.sight_names.specs.Points.{Edge}
 use Rattle.sight_names.specs.Sequence.{Portal, IsSolidLine}
 use Rattle.mesh_shape.specs.declared.half_edges.table.HalfEdge.{HalfEdge}
+use Rattle.mesh_shape.specs.HalfEdges.Kinds.{portal_on}
 use Rattle.mesh_shape.specs.HalfEdges.HalfEdges.{AreHalfEdges, entering}
-use Rattle.mesh_shape.proofs.HalfEdges.Reached.{reached}
+use Rattle.mesh_shape.proofs.HalfEdges.Reached.{not_reached, reached}
 use Rattle.pair_answer.specs.EnteredTriangles.Marks.{IsMarked}
 use Rattle.pair_answer.specs.EnteredTriangles.Stops.{LeavesAt}
 
@@ -20,6 +21,13 @@ module _ (p : PlanParts) (ts : List Triangle) (labels : List (Option ℕ)) (xs :
   behind_within e i x h at =
       let r = reached p ts labels xs are e i h in
       subst (λ (y : HalfEdge). y.triangle < length ts) (same_Some r.x x (sym r.at ∙ at)) r.is.within
+
+  pub none_leaves : (e : Edge) → entering ts xs e ≡ None → ¬ LeavesAt (map_of p) ts (IsMarked marks) e
+  none_leaves e h l = by (not_reached p ts labels xs are e h)
+    where
+      by : (triangle_at ts e ≡ None) ⊎ IsSolidLine (map_of p) (portal_on e) → ⊥
+      by (inl n) = none-some l.beyond (sym n ∙ l.is)
+      by (inr w) = l.free w
 
   pub some_leaves : (e : Edge) (i : ℕ) (x : HalfEdge) → entering ts xs e ≡ Some i → slice_get xs i ≡ Some x → (b : Bool) → slice_get marks x.triangle ≡ Some b → IsTrue (not b) ↔ LeavesAt (map_of p) ts (IsMarked marks) e
   some_leaves e i x h at b mark = by b mark

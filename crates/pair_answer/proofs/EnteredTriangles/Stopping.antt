@@ -1,6 +1,7 @@
 -- The segments through which one could pass out of marked triangles, gathered triangle by triangle.
-use Rattle.std.proofs.Common.{◌≡◌, ℕ, ◌+◌, ◌<◌, ◌≤◌, ◌⊎◌, ◌↔◌, inl, inr, List, Option, Some, slice_get, length, Contains, sym, ap, ◌∙◌, subst, arith}
+use Rattle.std.proofs.Common.{◌≡◌, ℕ, ◌+◌, ◌<◌, ◌≤◌, ◌⊎◌, ◌↔◌, inl, inr, List, [], ◌∷◌, ◌++◌, Option, Some, slice_get, length, Contains, sym, ap, ◌∙◌, subst, arith}
 use Rattle.std.specs.Prelude.{Result, Ok, Err, OnOk}
+use Rattle.std.proofs.lemmas.List.Elements.{Contains-append_left, Contains-push, Contains-push_cases}
 use Rattle.std.proofs.lemmas.Option.{same_Some, slice_get_within}
 use Rattle.math_base.proofs.Numbers.{below_or_last}
 use Rattle.sight_names.specs.declared.names.Triangle.{Triangle}
@@ -17,6 +18,17 @@ use Rattle.pair_answer.specs.EnteredTriangles.Stops.{AreInOrder, ArePut, AreStop
 
 module _ (m : Map) (ts : List Triangle) (Inside : ℕ → Type 0) where
   -- ---- one segment more
+
+  pub one_put : (from to : ℕ) (old new : List Stop) (v : Stop) → new ≡ old ++ v ∷ [] → v ≡ segment from to → LeavesAt m ts Inside (edge to from) → IsPut m ts Inside from to old new
+  one_put from to old new v pushed is leaves s = (λ c. held (Contains-push_cases old v s (subst (λ (ss : List Stop). Contains ss s) pushed c)), λ h. subst (λ (ss : List Stop). Contains ss s) (sym pushed) (back h))
+    where
+      held : Contains old s ⊎ (v ≡ s) → Contains old s ⊎ ((s ≡ segment from to) × LeavesAt m ts Inside (edge to from))
+      held (inl h) = inl h
+      held (inr h) = inr (sym h ∙ is, leaves)
+
+      back : Contains old s ⊎ ((s ≡ segment from to) × LeavesAt m ts Inside (edge to from)) → Contains (old ++ v ∷ []) s
+      back (inl h) = Contains-append_left old (v ∷ []) s h
+      back (inr h) = subst (Contains (old ++ v ∷ [])) (is ∙ sym h.0) (Contains-push old v)
 
   -- ---- those of one triangle
 

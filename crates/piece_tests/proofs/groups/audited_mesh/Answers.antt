@@ -1,5 +1,5 @@
 use Rattle.std.proofs.Common.{refl}
 use Rattle.piece_tests.proofs.groups.audited_mesh.Goals as goal
 
-pub mesh_over-requires : goal.mesh_over-requires
-mesh_over-requires c = c.in-Ok.ensures.sound.0 refl
+pub greedy_mesh-requires : goal.greedy_mesh-requires
+greedy_mesh-requires c = c.in-Ok.ensures.sound.0 refl

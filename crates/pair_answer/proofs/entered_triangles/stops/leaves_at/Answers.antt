@@ -1,8 +1,12 @@
 use Rattle.std.proofs.Common.{ℕ, ◌<◌, false, get_or, sym, subst}
+use Rattle.std.proofs.lemmas.Bool.{true≢false}
 use Rattle.std.proofs.lemmas.Option.{slice_get-get_or}
 use Rattle.mesh_shape.specs.HalfEdges.Numbers.{edge}
-use Rattle.pair_answer.proofs.EnteredTriangles.Leaving.{behind_within, some_leaves}
+use Rattle.pair_answer.proofs.EnteredTriangles.Leaving.{behind_within, none_leaves, some_leaves}
 use Rattle.pair_answer.proofs.entered_triangles.stops.leaves_at.Goals as goal
+
+pub returns-in_default : goal.returns-in_default
+returns-in_default c = (λ t. absurd (true≢false (sym t)), λ l. absurd (none_leaves c.args.plan.now c.args.mesh.now.triangles c.args.labels.now c.args.edges.now c.requires.edges c.args.marks.now (edge c.args.left c.args.right) (sym c.in_default.ensures) l))
 
 pub returns-in-Some-get : goal.returns-in-Some-get
 returns-in-Some-get c =

@@ -25,6 +25,11 @@ loop-walker-preserved-in-Blocked c =
       marked = marks_blocked c.loop-walker.walker c.go.new.self c.args.budget c.loop-walker.left c.args.marks.now c.loop-walker.marks i.marked c.go.ensures.walk b.0 b.1;
     }
 
+pub here-requires : goal.here-requires
+here-requires c =
+    let opens : OpensTo c.loop-walker.walker c.go.new.self = (subst (Goes c.loop-walker.walker c.go.new.self) c.in-Open.is c.in_ok-go.ensures.went).0 in
+    (opens.opened.edge, opens.opened.top)
+
 pub returns-in_default-clause-walked : goal.returns-in_default-clause-walked
 returns-in_default-clause-walked c =
     let i = c.loop-walker.invariant in
