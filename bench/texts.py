@@ -1,13 +1,13 @@
 #!/usr/bin/env python3
 """Changes texts of UDMF, and looks at what the program says of them.
 
-    bench/texts.py PROGRAM [--changes N] [--seed S]
+    bench/texts.py PROGRAM [--changes N] [--seed S] [--at-once K]
 
-Three worked texts are cut at every byte, and N times (10,000) one of them is changed at random in one to four places: a
-byte replaced, put in or taken away, a stretch repeated or taken away, a number or a word exchanged. Of each the program
-is asked for a clear table (`zero`) and for an audit. It has to end by itself with a code and a line of those that
-docs/FORMATS.md has for a map of UDMF, the same fault of the text by both verbs, and to leave OUT alone unless it ends
-with 0. Told are how many texts came to which words. The status is 1 where anything is otherwise.
+Four worked texts, one of them with decimals, are cut at every byte, and N times (10,000) one of them is changed at random
+in one to four places: a byte replaced, put in or taken away, a stretch repeated or taken away, a number or a word
+exchanged. Of each the program is asked for a clear table (`zero`) and for an audit. It has to end by itself with a code
+and a line of those that docs/FORMATS.md has for a map of UDMF, the same fault of the text by both verbs, and to leave OUT
+alone unless it ends with 0. Told are how many texts came to which words. The status is 1 where anything is otherwise.
 """
 import argparse
 import collections
@@ -40,8 +40,13 @@ PLAIN = "namespace = \"hexen\";\n\n" + "".join(
 ) + "".join(
     f"linedef // {k}\n{{\nv1 = {k};\nv2 = {(k + 1) % 4};\nsidefront = {k};\nspecial = 0;\nblocking = true;\n}}\n\n" for k in range(4)
 ) + "".join(f"sidedef // {k}\n{{\nsector = 0;\ntexturemiddle = \"STONE2\";\n}}\n\n" for k in range(4)) + "sector // 0\n{\nheightfloor = 0;\n}\n"
-TEXTS = [text.encode() for text in (PAIR, SQUARE, PLAIN)]
-WORDS = b"vertex linedef sidedef sector namespace x y v1 v2 sidefront sideback twosided special true false -1 0 65535 0x7fffffff 1e9 .5 { } = ; \"".split()
+# the points of PAIR, some of them with up to seven decimals
+DECIMALS = PAIR
+for given, made in (("y=64;", "y=.64;"), ("x=64;", "x=+.00640e2;"), ("x=128;", "x=1.2800000;"), ("x=0;y=0;", "x=-0.0000001;y=1e-7;")):
+    DECIMALS = DECIMALS.replace(given, made)
+TEXTS = [text.encode() for text in (PAIR, SQUARE, PLAIN, DECIMALS)]
+WORDS = b"""vertex linedef sidedef sector namespace x y v1 v2 sidefront sideback twosided special true false -1 0 65535 0x7fffffff 1e9
+.5 6.41 -.0000001 .00000001 3.3554432 3.3554433 33554432 -33554433 33554.433 1e-30 { } = ; \"""".split()
 
 # what may be said: code, and the line
 TEXT = r"refused: bad lump: (?:text|namespace|value|portal of line|coordinate of vertex) \d+"
@@ -113,12 +118,13 @@ def main():
     words.add_argument("program")
     words.add_argument("--changes", type=int, default=10_000)
     words.add_argument("--seed", type=int, default=1)
+    words.add_argument("--at-once", type=int, default=2)
     given = words.parse_args()
     program, dice = os.path.abspath(given.program), random.Random(given.seed)
     texts = [text[:end] for text in TEXTS for end in range(len(text))]
     texts += [changed(dice.choice(TEXTS), dice) for _ in range(given.changes)]
     kinds, wrong = collections.Counter(), 0
-    with tempfile.TemporaryDirectory() as folder, concurrent.futures.ThreadPoolExecutor(2) as pool:
+    with tempfile.TemporaryDirectory() as folder, concurrent.futures.ThreadPoolExecutor(given.at_once) as pool:
         for text, (kind, fault) in zip(texts, pool.map(lambda text: said(program, folder, text), texts)):
             kinds[kind] += 1
             if fault:
